@@ -1,0 +1,12 @@
+pub mod Lists
+pub mod Plain
+pub mod Jumps
+pub mod Steps
+pub mod Recursion_runs
+pub mod Determined
+pub mod Next
+pub mod Whole
+pub mod Run_values
+pub mod Held
+pub mod Stands
+pub mod Turns

@@ -1,0 +1,98 @@
+// The cells of a system while it is iterated, one for each element, and how often each element was run.
+
+ghost use Rattle.std.specs.Prelude.{◌≡◌, ℕ, ◌+◌, ◌-◌, ◌^◌, ◌<◌, List, map, IfOk, OnOk, length, All, slice_get, slice_set, slice_index};
+ghost use Rattle.std.specs.Arc.{arc_value};
+ghost use Rattle.std.specs.List.{filter_map, range_with_len};
+ghost use Rattle.pk_iterate.specs.Behaviour.{HoldEach, inputs_in, cell_made, goes_back};
+
+use crate::systems::{Decision, System};
+use pk_plan::{Place, Role};
+use std::alloc::{AllocError, Global};
+use std::sync::Arc;
+
+/// The cells and the numbers of runs, by element.
+#[derive(Drop)]
+pub struct Front<C> {
+    pub cells: Vec<Arc<C>>,
+    pub runs: Vec<u64>,
+}
+
+/// The first cells, with no run.
+pub fn first_front<Y: System>(
+    alloc: Global,
+    system: &Y,
+    elements: u32,
+) -> Result<Front<Y::Cell>, AllocError>
+    ensures cells { IfOk result (λ it. map arc_value it.cells.items ≡ map (Y.meaning system.now).first (range_with_len 0 elements)) }
+    ensures runs { IfOk result (λ it. it.runs.items ≡ map (λ _. 0) (range_with_len 0 elements)) }
+{
+    let mut cells = Vec::new(alloc);
+    let mut runs = Vec::new(alloc);
+    for e in 0..elements {
+        let cell = system.first(alloc, e)?;
+        cells.push(Arc::new(alloc, cell)?)?;
+        runs.push(0)?;
+    }
+    Ok(Front { cells, runs })
+}
+
+/// Runs the element of a place once, and says whether its component is gone through again.
+pub fn run_place<Y: System>(
+    alloc: Global,
+    system: &Y,
+    front: &mut Front<Y::Cell>,
+    place: Place,
+) -> Result<bool, AllocError>
+    requires element { place.element < length front.old.cells.items }
+    requires counted { length front.old.runs.items ≡ length front.old.cells.items }
+    requires reads { All (λ u. u < length front.old.cells.items) ((Y.meaning system.now).reads place.element) }
+    requires held { HoldEach (Y.may_hold system.now) ((Y.meaning system.now).reads place.element) (inputs_in (Y.meaning system.now) (map arc_value front.old.cells.items) place.element) }
+    requires room { slice_index front.old.runs.items place.element < 2 ^ 64 - 1 }
+    ensures cells { OnOk result (map arc_value front.new.cells.items ≡ slice_set (map arc_value front.old.cells.items) place.element (cell_made (Y.meaning system.now) place (inputs_in (Y.meaning system.now) (map arc_value front.old.cells.items) place.element))) }
+    ensures runs { OnOk result (front.new.runs.items ≡ slice_set front.old.runs.items place.element (slice_index front.old.runs.items place.element + 1)) }
+    ensures again { IfOk result (λ again. again ≡ goes_back (Y.meaning system.now) place (inputs_in (Y.meaning system.now) (map arc_value front.old.cells.items) place.element)) }
+{
+    let e = place.element as usize;
+    let inputs = shared(alloc, &front.cells, system.reads(place.element))?;
+    let (cell, again) = new_cell(alloc, system, place, &inputs)?;
+    front.cells[e] = Arc::new(alloc, cell)?;
+    front.runs[e] += 1;
+    Ok(again)
+}
+
+/// The cell that a place's element gets from these inputs, and whether its component is gone through again.
+fn new_cell<Y: System>(
+    alloc: Global,
+    system: &Y,
+    place: Place,
+    inputs: &[Arc<Y::Cell>],
+) -> Result<(Y::Cell, bool), AllocError>
+    requires { HoldEach (Y.may_hold system.now) ((Y.meaning system.now).reads place.element) (map arc_value inputs.now) }
+    ensures cell { IfOk result (λ it. it.0 ≡ cell_made (Y.meaning system.now) place (map arc_value inputs.now)) }
+    ensures again { IfOk result (λ it. it.1 ≡ goes_back (Y.meaning system.now) place (map arc_value inputs.now)) }
+{
+    match place.role {
+        Role::Vertex | Role::Head => Ok((system.apply(alloc, place.element, inputs)?, false)),
+        Role::Exit { .. } => match system.decide(alloc, place.element, inputs)? {
+            Decision::Stable(cell) => Ok((cell, false)),
+            Decision::Again(cell) => Ok((cell, true)),
+        },
+    }
+}
+
+/// The cells of these elements, each shared once more.
+fn shared<C: Drop>(
+    alloc: Global,
+    cells: &[Arc<C>],
+    elements: &[u32],
+) -> Result<Vec<Arc<C>>, AllocError>
+    requires { All (λ u. u < length cells.now) elements.now }
+    ensures { IfOk result (λ v. map arc_value v.items ≡ filter_map (slice_get (map arc_value cells.now)) elements.now) }
+{
+    let mut out = Vec::new(alloc);
+    for u in elements {
+        let cell = &cells[*u as usize];
+        out.push(cell.clone()?)?;
+    }
+    Ok(out)
+}

@@ -1,0 +1,30 @@
+// Laws of the definitions, each over whatever system there is.
+
+ghost use Rattle.pk_iterate.specs.Laws.{WithinIsWhole, CountsBeyondAreOver, RecursionIsDetermined, RunValuesAgree, CellsAreHeld};
+
+use crate::systems::System;
+
+/// Where no element is run too often, no run is left.
+pub fn within_is_whole<Y: System>(system: &Y)
+    ensures { WithinIsWhole (Y.meaning system.now) }
+{}
+
+/// A count above the limit, however late, means that the limit is exceeded.
+pub fn counts_beyond_are_over<Y: System>(system: &Y)
+    ensures { CountsBeyondAreOver (Y.meaning system.now) }
+{}
+
+/// The rules determine their runs, which are those of the iteration run by run.
+pub fn recursion_is_determined<Y: System>(system: &Y)
+    ensures { RecursionIsDetermined (Y.meaning system.now) }
+{}
+
+/// What each run reads and gives, by the numbers of the runs.
+pub fn run_values_agree<Y: System>(system: &Y)
+    ensures { RunValuesAgree (Y.meaning system.now) }
+{}
+
+/// Each cell, and whatever is read, is one that its element may hold.
+pub fn cells_are_held<Y: System>(system: &Y)
+    ensures { CellsAreHeld (Y.meaning system.now) (Y.may_hold system.now) }
+{}

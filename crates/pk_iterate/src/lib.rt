@@ -1,0 +1,20 @@
+// The recursive iteration of a system over a plan, on one thread.
+#![tactic(auto)]
+
+mod failure;
+mod front;
+mod laws;
+mod outcome;
+mod systems;
+#[cfg(test)]
+mod tests;
+mod walk;
+
+pub use failure::Solve;
+pub use laws::{
+    cells_are_held, counts_beyond_are_over, recursion_is_determined, run_values_agree,
+    within_is_whole,
+};
+pub use outcome::Cells;
+pub use systems::{Decision, System};
+pub use walk::iterate;
