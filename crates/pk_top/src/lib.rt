@@ -1,0 +1,26 @@
+//! The analyser, from its words and a source of text to a sink.
+#![tactic(auto)]
+
+mod analysis;
+mod ast;
+mod graph;
+mod interval;
+mod lex;
+mod lower;
+mod names;
+mod order;
+mod parse;
+mod report;
+mod state;
+mod status;
+#[cfg(test)]
+mod tests;
+mod text;
+mod thresholds;
+mod top;
+mod transfer;
+mod verdict;
+
+pub use status::{Construct, Quantity, Refusal, Status};
+pub use text::Pos;
+pub use top::{answer_law, pikos};

@@ -1,0 +1,140 @@
+// How a run of the command ends.
+use crate::text::Pos;
+use std::alloc::{AllocError, AllocFailed};
+use std::fmt;
+
+/// What is not analysed.
+#[derive(Clone, Copy, Debug, PartialEq, Eq)]
+pub enum Construct {
+    Later,
+}
+
+impl fmt::Display for Construct {
+    ghost use Rattle.std.specs.declared.option.Option.TheVariants.{Some};
+    ghost use Rattle.pk_top.specs.Statuses.{construct_text};
+
+    ghost output = { λ c. Some (construct_text c) };
+
+    fn fmt<W: fmt::Write>(&self, f: &mut fmt::Formatter<W>) -> fmt::Result {
+        match self {
+            Construct::Later => write!(f, "later"),
+        }
+    }
+}
+
+/// What there is too much of.
+#[derive(Clone, Copy, Debug, PartialEq, Eq)]
+pub enum Quantity {
+    Text,
+}
+
+impl fmt::Display for Quantity {
+    ghost use Rattle.std.specs.declared.option.Option.TheVariants.{Some};
+    ghost use Rattle.pk_top.specs.Statuses.{quantity_text};
+
+    ghost output = { λ q. Some (quantity_text q) };
+
+    fn fmt<W: fmt::Write>(&self, f: &mut fmt::Formatter<W>) -> fmt::Result {
+        match self {
+            Quantity::Text => write!(f, "text"),
+        }
+    }
+}
+
+/// Why a text is not analysed.
+#[derive(Clone, Copy, Debug, PartialEq, Eq)]
+pub enum Refusal {
+    Unsupported { construct: Construct, at: Pos },
+}
+
+impl fmt::Display for Refusal {
+    ghost use Rattle.std.specs.declared.option.Option.TheVariants.{Some};
+    ghost use Rattle.pk_top.specs.Statuses.{refusal_text};
+
+    ghost output = { λ r. Some (refusal_text r) };
+
+    fn fmt<W: fmt::Write>(&self, f: &mut fmt::Formatter<W>) -> fmt::Result {
+        match self {
+            Refusal::Unsupported { construct, at } => {
+                write!(f, "unsupported {construct} at {at}")
+            }
+        }
+    }
+}
+
+/// How a run ends.
+#[derive(Clone, Copy, Debug, PartialEq, Eq)]
+pub enum Status {
+    Ok { unknown: u64 },
+    Usage,
+    Refused(Refusal),
+    Limit { what: Quantity, number: u64 },
+    RunLimit { max_runs: u64 },
+    ReadFault,
+    WriteFault { sent: usize },
+    Memory,
+}
+
+impl Status {
+    ghost use Rattle.std.specs.Prelude.{◌≡◌};
+    ghost use Rattle.pk_top.specs.Statuses.{status_code};
+
+    /// The exit code of the program.
+    pub fn code(&self) -> u8
+        ensures { result ≡ status_code self.now }
+    {
+        match self {
+            Status::Ok { unknown } => { if *unknown == 0 { 0 } else { 1 } }
+            Status::Usage => 2,
+            Status::Refused(_) => 3,
+            Status::Limit { .. } => 4,
+            Status::RunLimit { .. } => 4,
+            Status::ReadFault => 5,
+            Status::WriteFault { .. } => 6,
+            Status::Memory => 7,
+        }
+    }
+}
+
+impl From<AllocError> for Status {
+    ghost use Rattle.std.specs.Prelude.{◌≡◌};
+    ghost use Rattle.pk_top.specs.declared.status.Status.TheVariants.{Memory};
+
+    ghost from_gives = { λ _ s. s ≡ Memory };
+
+    fn from(_: AllocError) -> Self {
+        Status::Memory
+    }
+}
+
+impl<T: Drop> From<AllocFailed<T>> for Status {
+    ghost use Rattle.std.specs.Prelude.{◌≡◌};
+    ghost use Rattle.pk_top.specs.declared.status.Status.TheVariants.{Memory};
+
+    ghost from_gives = { λ _ s. s ≡ Memory };
+
+    fn from(_: AllocFailed<T>) -> Self {
+        Status::Memory
+    }
+}
+
+/// The line on standard error, without its end; `Ok` has none.
+impl fmt::Display for Status {
+    ghost use Rattle.std.specs.declared.option.Option.TheVariants.{Some};
+    ghost use Rattle.pk_top.specs.Statuses.{status_text};
+
+    ghost output = { λ s. Some (status_text s) };
+
+    fn fmt<W: fmt::Write>(&self, f: &mut fmt::Formatter<W>) -> fmt::Result {
+        match self {
+            Status::Ok { .. } => Ok(()),
+            Status::Usage => write!(f, "pikos: usage"),
+            Status::Refused(refusal) => write!(f, "pikos: refused: {refusal}"),
+            Status::Limit { what, number } => write!(f, "pikos: limit {what} {number}"),
+            Status::RunLimit { max_runs } => write!(f, "pikos: run limit {max_runs}"),
+            Status::ReadFault => write!(f, "pikos: read fault"),
+            Status::WriteFault { sent } => write!(f, "pikos: write fault after {sent} bytes"),
+            Status::Memory => write!(f, "pikos: memory"),
+        }
+    }
+}

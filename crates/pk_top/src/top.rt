@@ -1,0 +1,166 @@
+// The command.
+
+ghost use Rattle.std.specs.Prelude.{◌≡◌, ◌≢◌, ◌⊎◌, ◌↔◌, ◌≤◌, ◌<◌, ◌^◌, ℕ, List, map, length, string_bytes, IfOk, IfErr, IfSome, OnOk, MatchOption, false, IsTrue};
+ghost use Rattle.std.specs.Io.KnownBytes.{Keeps, IsAtEnd};
+ghost use Rattle.pk_io.specs.Causes.{Rose};
+ghost use Rattle.pk_top.specs.declared.ast.Unit.{Unit as Unit'};
+ghost use Rattle.pk_top.specs.FlowGraph.{elements, IsWithin};
+ghost use Rattle.pk_top.specs.Lowering.{graph_of};
+ghost use Rattle.pk_top.specs.Answers.{IsAccepted, IsReport, IsAnswer, OneAnswer, asked_text, is_command, text_limit};
+ghost use Rattle.pk_top.specs.Headline.{Answers, Gives, IsStop, IsStopped, IsSuccess, EndsAnalysis, IsRefusal};
+
+use crate::analysis::{Analysis, brackets};
+use crate::graph::Graph;
+use crate::lex::lex;
+use crate::lower::lower;
+use crate::order::plan;
+use crate::parse::parse;
+use crate::report::report;
+use crate::status::{Construct, Quantity, Refusal, Status};
+use crate::text::Pos;
+use pk_io::{ReadError, Sink, Source, read_all, write_all};
+use pk_iterate::{Solve, iterate};
+use std::alloc::{AllocError, Global};
+
+/// The greatest number of bytes of a text.
+pub const TEXT_LIMIT: usize = 4194304;
+
+/// How often an element may be run.
+pub const RUN_LIMIT: u64 = 1000000;
+
+// Whether the words are the command's.
+fn takes(words: &[String]) -> bool
+    ensures { result ≡ is_command (map string_bytes words.now) }
+{
+    match words {
+        [word] => word.as_str() == "run",
+        _ => false,
+    }
+}
+
+/// The graph of a text; none where the text is not accepted.
+pub fn graph_of_text(alloc: Global, text: &[u8]) -> Result<Option<Graph>, AllocError>
+    requires { length text.now ≤ text_limit }
+    ensures accepted { IfOk result (λ o. MatchOption o ((u : Unit') → IsAccepted text.now u → ⊥) (λ g. (u : Unit') × (IsAccepted text.now u × (g ≡ graph_of text.now u)))) }
+    ensures within { IfOk result (λ o. IfSome o IsWithin) }
+    ensures small { IfOk result (λ o. IfSome o (λ g. elements g < 2 ^ 32)) }
+    ensures edges { IfOk result (λ o. IfSome o (λ g. length g.edges < 2 ^ 32)) }
+{
+    let Some(tokens) = lex(alloc, text)? else {
+        return Ok(None);
+    };
+    let Some(unit) = parse(alloc, text, &tokens)? else {
+        return Ok(None);
+    };
+    lower(alloc, text, &unit)
+}
+
+// The report on a graph, and its number of unknown verdicts.
+fn analyse(alloc: Global, graph: &Graph) -> Result<(Vec<u8>, u64), Status>
+    requires within { IsWithin graph.now }
+    requires small { elements graph.now < 2 ^ 32 }
+    requires edges { length graph.now.edges < 2 ^ 32 }
+    ensures report { IfOk result (λ made. IsReport graph.now made.1 made.0.items) }
+    ensures end { IfErr result (EndsAnalysis graph.now) }
+{
+    let analysis = Analysis::new(alloc, graph)?;
+    let brackets = brackets(alloc, graph)?;
+    let plan = plan(alloc, graph, &brackets)?;
+    match iterate(alloc, &analysis, &plan, RUN_LIMIT) {
+        Ok(cells) => Ok(report(alloc, graph, &brackets, &cells)?),
+        Err(Solve::RunLimit { .. }) => Err(Status::RunLimit {
+            max_runs: RUN_LIMIT,
+        }),
+        Err(Solve::Memory) => Err(Status::Memory),
+    }
+}
+
+// The bytes to write and the number of unknown verdicts, or the status in their place.
+fn answer(alloc: Global, text: &[u8]) -> Result<(Vec<u8>, u64), Status>
+    requires { length text.now ≤ text_limit }
+    ensures made { IfOk result (λ made. (words : List (List ℕ)) → IsTrue (is_command words) → IsAnswer words text.now (Status.Ok made.1) made.0.items) }
+    ensures stopped { IfErr result (λ status. (words : List (List ℕ)) → IsTrue (is_command words) → IsStopped words text.now status) }
+    ensures refused { IfErr result IsRefusal }
+{
+    match graph_of_text(alloc, text)? {
+        Some(graph) => analyse(alloc, &graph),
+        None => Err(Status::Refused(Refusal::Unsupported {
+            construct: Construct::Later,
+            at: Pos { line: 1, column: 1 },
+        })),
+    }
+}
+
+// What `answer` gives for the source's text. It has no sink, so it writes nothing.
+fn make<S: Source>(alloc: Global, words: &[String], src: &mut S) -> Result<(Vec<u8>, u64), Status>
+    ensures made { IfSome (asked_text (map string_bytes words.now) (S.left src.old)) (λ text. IfOk result (λ made.
+        IsAnswer (map string_bytes words.now) text (Status.Ok made.1) made.0.items)) }
+    ensures stopped { IfSome (asked_text (map string_bytes words.now) (S.left src.old)) (λ text. IfErr result (λ status.
+        IsStopped (map string_bytes words.now) text status)) }
+    ensures stop { IfErr result IsStop }
+    ensures usage { is_command (map string_bytes words.now) ≡ false ↔ (result ≡ Err Status.Usage) }
+    ensures unread { is_command (map string_bytes words.now) ≡ false → src.new ≡ src.old }
+    ensures whole { OnOk result (IsAtEnd (S.left src.new)) }
+    ensures fault { result ≡ Err Status.ReadFault → Rose (S.faults src.old) (S.faults src.new) }
+{
+    if !takes(words) {
+        return Err(Status::Usage);
+    }
+    let text = match read_all(alloc, src, TEXT_LIMIT) {
+        Ok(text) => text,
+        Err(ReadError::ReadFault) => return Err(Status::ReadFault),
+        Err(ReadError::Memory) => return Err(Status::Memory),
+        Err(ReadError::TooLong) => {
+            return Err(Status::Limit {
+                what: Quantity::Text,
+                number: TEXT_LIMIT as u64,
+            });
+        }
+    };
+    answer(alloc, &text)
+}
+
+/// Answers the words, which are those after the program's name, and the text of `src`, and writes the answer to `out`.
+pub fn pikos<S: Source, K: Sink>(
+    alloc: Global,
+    words: &[String],
+    src: &mut S,
+    out: &mut K,
+) -> Status
+    // Where the source tells its text, the status and the bytes are the answer's, unless a device or the memory failed.
+    ensures answer { IfSome (asked_text (map string_bytes words.now) (S.left src.old)) (λ text.
+        Answers (map string_bytes words.now) text result (K.written out.old) (K.written out.new)) }
+
+    // A fault of reading or writing is told only where the device has counted one in this call.
+    ensures read_fault { result ≡ Status.ReadFault → Rose (S.faults src.old) (S.faults src.new) }
+    ensures write_fault { (sent : ℕ) → result ≡ Status.WriteFault sent → Rose (K.faults out.old) (K.faults out.new) }
+
+    // With no fault and enough memory the status and the bytes are the answer's.
+    ensures complete { (Rose (S.faults src.old) (S.faults src.new) → ⊥) → (Rose (K.faults out.old) (K.faults out.new) → ⊥) →
+        result ≢ Status.Memory → IfSome (asked_text (map string_bytes words.now) (S.left src.old)) (λ text.
+        Gives (map string_bytes words.now) text result (K.written out.old) (K.written out.new)) }
+
+    // Other words are refused, whatever the devices do, and leave the source as it was.
+    ensures usage { is_command (map string_bytes words.now) ≡ false ↔ (result ≡ Status.Usage) }
+    ensures unread { is_command (map string_bytes words.now) ≡ false → src.new ≡ src.old }
+
+    // Whether or not the source tells its text, nothing is written at a fault of reading or without memory.
+    ensures nothing { (result ≡ Status.ReadFault) ⊎ (result ≡ Status.Memory) → Keeps (K.written out.old) (K.written out.new) }
+
+    // At a success the source was read to its end.
+    ensures whole { IsSuccess result → IsAtEnd (S.left src.new) }
+{
+    let (bytes, unknown) = match make(alloc, words, src) {
+        Ok(made) => made,
+        Err(status) => return status,
+    };
+    match write_all(out, &bytes) {
+        Ok(()) => Status::Ok { unknown },
+        Err(fault) => Status::WriteFault { sent: fault.sent },
+    }
+}
+
+/// Words and a text have at most one answer.
+pub fn answer_law()
+    ensures { OneAnswer }
+{}
