@@ -26,3 +26,4 @@ pub mod Answering
 pub mod OrderLemmas
 pub mod IndexLemmas
 pub mod AnalysisLemmas
+pub mod Reduced

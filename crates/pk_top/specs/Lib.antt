@@ -19,6 +19,7 @@ pub mod Held
 pub mod Orders
 pub mod Verdicts
 pub mod Reports
+pub mod Congruences
 pub mod Entries
 pub mod Statuses
 pub mod Answers

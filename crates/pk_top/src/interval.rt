@@ -2,6 +2,7 @@
 
 ghost use Rattle.std.specs.Prelude.{◌≡◌, ℤ, ◌≤ℤ◌, pos, negsuc, Some, None, if◌then◌else◌};
 ghost use Rattle.pk_top.specs.Ranges.{IsIntRange, single, joined, met, is_within, range_sum, clamped, whole};
+ghost use Rattle.pk_top.specs.Congruences.{NothingToReduce};
 
 use crate::ast::Sign;
 use std::marker::Model;
@@ -93,3 +94,8 @@ impl Interval {
         self.meet(LEAST, GREATEST)
     }
 }
+
+/// Tightening a range to the congruence that is printed with it changes nothing.
+pub fn reduction_law()
+    ensures { NothingToReduce }
+{}

@@ -21,6 +21,9 @@ mod top;
 mod transfer;
 mod verdict;
 
+pub use interval::reduction_law;
+pub use lex::tokens_are_determined;
+pub use parse::tree_is_determined;
 pub use status::{Construct, Quantity, Refusal, Status};
 pub use text::Pos;
 pub use top::{answer_law, pikos};
