@@ -1,0 +1,6 @@
+pub mod Types
+pub mod Conversions
+pub mod Operators
+pub mod Laws
+pub mod Places
+pub mod Words

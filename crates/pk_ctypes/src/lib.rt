@@ -1,0 +1,25 @@
+//! The integer types of C, its operators on numbers, and small values that many crates speak of.
+#![tactic(auto)]
+
+mod conversions;
+mod faults;
+mod laws;
+mod names;
+mod operators;
+mod places;
+#[cfg(test)]
+mod tests;
+mod types;
+mod words;
+
+pub use conversions::{convert, promote, range, usual};
+pub use faults::Fault;
+pub use laws::{
+    bits_law, comparison_law, conversion_law, division_law, fault_law, promotion_law, usual_law,
+    value_law,
+};
+pub use names::{Name, Names};
+pub use operators::apply;
+pub use places::Pos;
+pub use types::{IntType, Op};
+pub use words::{Construct, Quantity};
