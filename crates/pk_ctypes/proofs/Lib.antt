@@ -1,2 +1,9 @@
 pub mod Whole
 pub mod Wrapped
+pub mod Values
+pub mod Bits
+pub mod Back
+pub mod Shifts
+pub mod Quotients
+pub mod Faulting
+pub mod Common

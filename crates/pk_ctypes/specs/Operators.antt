@@ -1,5 +1,5 @@
 -- What an operator gives at numbers, or the fault at which the run stops (C99 6.5).
-use Rattle.std.specs.Prelude.{ℕ, suc, ◌-◌, ◌*◌, ◌^◌, Bool, true, false, not, ◌&&◌, if◌then◌else◌, nat_lt, ℤ, pos, negsuc, ◌+ℤ◌, ◌-ℤ◌, ◌*ℤ◌, neg_ℤ, int_lt, int_le, int_div, int_rem, unsigned_abs, bit_and, bit_or, bit_xor, Result, Ok, Err}
+use Rattle.std.specs.Prelude.{ℕ, ◌-◌, ◌^◌, Bool, not, ◌&&◌, if◌then◌else◌, ℤ, pos, ◌+ℤ◌, ◌-ℤ◌, ◌*ℤ◌, neg_ℤ, int_lt, int_le, int_div, int_rem, unsigned_abs, bit_and, bit_or, bit_xor, Result, Ok, Err}
 use Rattle.std.specs.Ordering.{int_eq}
 use Rattle.std.specs.Int.{int_rem_euclid, int_shr}
 use Rattle.pk_ctypes.specs.declared.types.IntType.{IntType}
@@ -22,14 +22,19 @@ divided b r = if int_eq b (pos 0) then Err DivZero else r
 abbrev pub rest_of : IntType → ℤ → ℤ → Result ℤ Fault
 rest_of t a b = if is_in_type t (int_div a b) then Ok (int_rem a b) else Err Overflow
 
--- a count of bits is one of 0 to the width less 1 (C99 6.5.7)
+-- a shift's count is one of 0 to the width less 1 (C99 6.5.7)
+abbrev pub is_count : IntType → ℤ → Bool
+is_count t b = int_le (pos 0) b && int_lt b (pos (width_of t))
+
 abbrev pub counted : IntType → ℤ → (ℕ → Result ℤ Fault) → Result ℤ Fault
-counted t (pos n) f = if nat_lt n (width_of t) then f n else Err Shift
-counted t (negsuc n) f = Err Shift
+counted t b f = if is_count t b then f (unsigned_abs b) else Err Shift
 
 -- a signed number that is shifted to the left is not negative (C99 6.5.7)
+abbrev pub is_below_zero : IntType → ℤ → Bool
+is_below_zero t a = is_signed_of t && int_lt a (pos 0)
+
 abbrev pub doubled : IntType → ℤ → ℕ → Result ℤ Fault
-doubled t a n = if is_signed_of t && int_lt a (pos 0) then Err Shift else Ok (a *ℤ pos (2 ^ n))
+doubled t a n = if is_below_zero t a then Err Shift else Ok (a *ℤ pos (2 ^ n))
 
 -- the bits of a number in two's complement, as many as the type has
 abbrev pub bits_of : IntType → ℤ → ℕ

@@ -1,7 +1,7 @@
 // Ranges of the types, and conversion between them.
 
 ghost use Rattle.std.specs.Prelude.{◌≡◌, pos};
-ghost use Rattle.pk_ctypes.specs.Types.{width_of, is_signed_of, rank_of, size_of, low_of, high_of, is_in_type, wrapped};
+ghost use Rattle.pk_ctypes.specs.Types.{width_of, is_signed_of, rank_of, size_of, low_of, high_of, is_in_type, represents, wrapped};
 ghost use Rattle.pk_ctypes.specs.Conversions.{promoted, unsigned_of, mixed_of, common_of, usual_of};
 
 use crate::types::IntType;
@@ -114,15 +114,22 @@ fn unsigned(t: IntType) -> IntType
     }
 }
 
+// Whether a type has each number of another.
+fn holds(t: IntType, other: IntType) -> bool
+    ensures { result ≡ represents t other }
+{
+    let (low, high) = range(t);
+    let (least, greatest) = range(other);
+    low <= least && greatest <= high
+}
+
 // The common type of a signed and an unsigned type, both promoted.
 fn mixed(signed: IntType, unsigned_type: IntType) -> IntType
     ensures { result ≡ mixed_of signed unsigned_type }
 {
-    let (low, high) = range(signed);
-    let (least, greatest) = range(unsigned_type);
-    if rank(unsigned_type) >= rank(signed) {
+    if rank(signed) <= rank(unsigned_type) {
         unsigned_type
-    } else if low <= least && greatest <= high {
+    } else if holds(signed, unsigned_type) {
         signed
     } else {
         unsigned(signed)

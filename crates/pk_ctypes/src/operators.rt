@@ -2,7 +2,7 @@
 
 ghost use Rattle.std.specs.Prelude.{◌≡◌, ℤ, ◌+ℤ◌, ◌-ℤ◌, ◌*ℤ◌, neg_ℤ, bit_and, bit_or, bit_xor};
 ghost use Rattle.pk_ctypes.specs.Types.{InType};
-ghost use Rattle.pk_ctypes.specs.Operators.{HasRight, bitwise, complement, truth, fitted, value_of};
+ghost use Rattle.pk_ctypes.specs.Operators.{HasRight, is_count, is_below_zero, bitwise, complement, truth, fitted, value_of};
 
 use crate::conversions::{convert, fits, is_signed, width};
 use crate::faults::Fault;
@@ -76,13 +76,27 @@ fn rest(t: IntType, a: i128, b: i128) -> Result<i128, Fault>
     }
 }
 
+// Whether a number is a count of bits that are fewer than the type has.
+fn counts(t: IntType, b: i128) -> bool
+    ensures { result ≡ is_count t b }
+{
+    0 <= b && b < width(t)
+}
+
+// Whether a number has to stay where it is, since it is signed and negative.
+fn below_zero(t: IntType, a: i128) -> bool
+    ensures { result ≡ is_below_zero t a }
+{
+    is_signed(t) && a < 0
+}
+
 fn shifted_left(t: IntType, a: i128, b: i128) -> Result<i128, Fault>
     requires { InType t a }
     ensures { result ≡ value_of Op.Shl t a b }
 {
-    if b < 0 || width(t) <= b {
+    if !counts(t, b) {
         Err(Fault::Shift)
-    } else if is_signed(t) && a < 0 {
+    } else if below_zero(t, a) {
         Err(Fault::Shift)
     } else {
         fit(Fault::Shift, t, a << b)
@@ -93,40 +107,40 @@ fn shifted_right(t: IntType, a: i128, b: i128) -> Result<i128, Fault>
     requires { InType t a }
     ensures { result ≡ value_of Op.Shr t a b }
 {
-    if b < 0 || width(t) <= b {
-        Err(Fault::Shift)
-    } else {
+    if counts(t, b) {
         Ok(a >> b)
+    } else {
+        Err(Fault::Shift)
     }
 }
 
 fn and(t: IntType, a: i128, b: i128) -> Result<i128, Fault>
-    ensures { result ≡ value_of Op.And t a b }
+    ensures { result ≡ fitted Fault.Overflow t (bitwise bit_and t a b) }
 {
     Ok(convert(t, a & b))
 }
 
 fn or(t: IntType, a: i128, b: i128) -> Result<i128, Fault>
-    ensures { result ≡ value_of Op.Or t a b }
+    ensures { result ≡ fitted Fault.Overflow t (bitwise bit_or t a b) }
 {
     Ok(convert(t, a | b))
 }
 
 fn xor(t: IntType, a: i128, b: i128) -> Result<i128, Fault>
-    ensures { result ≡ value_of Op.Xor t a b }
+    ensures { result ≡ fitted Fault.Overflow t (bitwise bit_xor t a b) }
 {
     Ok(convert(t, a ^ b))
 }
 
 fn bit_not(t: IntType, a: i128) -> Result<i128, Fault>
-    ensures { (b : ℤ) → result ≡ value_of Op.BitNot t a b }
+    ensures { result ≡ fitted Fault.Overflow t (complement t a) }
 {
     Ok(convert(t, -1 - a))
 }
 
 fn negated(t: IntType, a: i128) -> Result<i128, Fault>
     requires { InType t a }
-    ensures { (b : ℤ) → result ≡ value_of Op.Neg t a b }
+    ensures { result ≡ fitted Fault.Overflow t (neg_ℤ a) }
 {
     fit(Fault::Overflow, t, -a)
 }
