@@ -1,9 +1,8 @@
 -- What the code's 128 bits hold is the number itself, where it fits.
-use Rattle.std.specs.Prelude.{◌≡◌, ℕ, zero, suc, ◌≤◌, ◌<◌, ◌^◌, ◌*◌, ℤ, pos, negsuc, ◌*ℤ◌, ◌≤ℤ◌, int_div, int_rem, unsigned_abs, FitsSigned, Ok, true, false}
-use Rattle.std.specs.Int.{w128, Width, int_shl, cast_signed, cast_unsigned}
-use Rattle.std.specs.Ordering.{int_eq}
-use Rattle.std.proofs.Common.{arith, refl, to_z, of_z, ◌∙◌, ap, sym}
-use Rattle.std.proofs.lemmas.Int.{ints, to_z-of_z, quot_is, rem_is, fits_signed_from_abs, to_z_pos}
+use Rattle.std.specs.Prelude.{◌≡◌, suc, ◌≤◌, ℤ, pos, negsuc, ◌*ℤ◌, int_div, int_rem, unsigned_abs, FitsSigned}
+use Rattle.std.specs.Int.{w128, Width}
+use Rattle.std.proofs.Common.{arith, to_z, of_z}
+use Rattle.std.proofs.lemmas.Int.{ints, to_z-of_z, quot_is, rem_is, fits_signed_from_abs}
 use native.Mathlib.Nat.{div-le_self}
 use Rattle.pk_ctypes.specs.declared.types.IntType.{IntType}
 use Rattle.pk_ctypes.specs.Types.{InType}

@@ -7,7 +7,7 @@ use Rattle.std.proofs.lemmas.Nat.{pow_pos, div-add-mod', and_le_l, or_lt, xor_lt
 use Rattle.std.proofs.Math.Nat.{mod-eq_of_lt}
 use Rattle.pk_ctypes.specs.declared.types.IntType.{IntType}
 use Rattle.pk_ctypes.specs.declared.types.IntType.TheVariants.{Char, SChar, UChar, Short, UShort, Int, UInt, Long, ULong, LLong, ULLong}
-use Rattle.pk_ctypes.specs.Types.{is_signed_of, low_of, high_of, InType, IsEqualModulo, size_of, width_of, wrapped}
+use Rattle.pk_ctypes.specs.Types.{is_signed_of, high_of, InType, IsEqualModulo, size_of, width_of, wrapped}
 use Rattle.pk_ctypes.specs.Operators.{bits_of, bitwise, complement}
 use Rattle.pk_ctypes.specs.Laws.{BitsAreMade}
 use Rattle.pk_ctypes.proofs.Values.{wrapped_inside}

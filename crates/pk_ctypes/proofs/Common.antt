@@ -1,11 +1,11 @@
 -- The common type of two types is the one that the standard says.
-use Rattle.std.specs.Prelude.{◌≡◌, ◌<◌, ◌≤◌, nat_lt, nat_le, Bool, true, false, ◌&&◌, ℤ, ◌≤ℤ◌, int_le}
+use Rattle.std.specs.Prelude.{◌≡◌, ◌<◌, ◌≤◌, nat_lt, nat_le, Bool, true, false, ◌&&◌, ◌≤ℤ◌, int_le}
 use Rattle.std.proofs.Common.{◌∙◌, ap, sym, refl, arith}
 use Rattle.std.proofs.lemmas.Int.{ints}
 use Rattle.std.proofs.lemmas.Bool.Decides.{nat_tests}
 use Rattle.pk_ctypes.specs.declared.types.IntType.{IntType}
 use Rattle.pk_ctypes.specs.declared.types.IntType.TheVariants.{Char, SChar, UChar, Short, UShort, Int, UInt, Long, ULong, LLong, ULLong}
-use Rattle.pk_ctypes.specs.Types.{is_signed_of, rank_of, low_of, high_of, InType, Represents, represents}
+use Rattle.pk_ctypes.specs.Types.{is_signed_of, rank_of, low_of, high_of, Represents, represents}
 use Rattle.pk_ctypes.specs.Conversions.{promoted, unsigned_of, mixed_of, same_sign, common_of, usual_of, IsPromoted, AreUsualConversions}
 use Rattle.pk_ctypes.proofs.Values.{le_test, test_le}
 use Rattle.pk_ctypes.proofs.Wrapped.{zero_in}
@@ -84,6 +84,7 @@ test-Represents t u e z h =
     first : (a b : Bool) → (a && b) ≡ true → a ≡ true
     first true b e = refl
     first false b e = e
+
     second : (a b : Bool) → (a && b) ≡ true → b ≡ true
     second true b e = e
     second false b e = absurd (cc)

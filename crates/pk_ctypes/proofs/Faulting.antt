@@ -1,5 +1,5 @@
 -- An operation faults exactly where the table has it.
-use Rattle.std.specs.Prelude.{◌≡◌, ◌⊎◌, ℕ, ◌^◌, Bool, true, false, not, ℤ, pos, negsuc, ◌+ℤ◌, ◌-ℤ◌, ◌*ℤ◌, ◌<ℤ◌, neg_ℤ, int_lt, int_le, int_div, int_rem, unsigned_abs, bit_and, bit_or, bit_xor, Result, Ok, Err}
+use Rattle.std.specs.Prelude.{◌≡◌, ◌⊎◌, ℕ, ◌^◌, Bool, true, false, not, ℤ, pos, negsuc, ◌+ℤ◌, ◌-ℤ◌, ◌*ℤ◌, ◌<ℤ◌, neg_ℤ, int_lt, int_le, int_div, unsigned_abs, bit_and, bit_or, bit_xor, Result, Err}
 use Rattle.std.specs.Ordering.{int_eq}
 use Rattle.std.specs.Int.{int_shr}
 use Rattle.std.proofs.Common.{◌∙◌, ap, sym, refl, inl, inr, arith, subst}
@@ -112,9 +112,11 @@ told_rest t a b f h k e = by (zero_or_not b)
     past : (b ≡ pos 0 → ⊥) → (InType t (int_div a b) → ⊥) → (s : Bool) → is_signed_of t ≡ s → FaultsWith t a b Rem Overflow
     past n out true s = let least = quotients.quotient_past t a b s h n out in rest_past s least.0 least.1
     past n out false s = absurd (out (quotients.unsigned_quotient_in t a b s h k))
+
     inside : (b ≡ pos 0 → ⊥) → InType t (int_div a b) ⊎ ((is_in_type t (int_div a b) ≡ false) × (InType t (int_div a b) → ⊥)) → FaultsWith t a b Rem f
     inside n (inl i) = absurd (cc (values.rest_value t a b h n (values.in_type_test t (int_div a b) i)))
     inside n (inr o) = subst (FaultsWith t a b Rem) (err_is Overflow f (value_of Rem t a b) (values.rest_past t a b n o.0) e) (past n o.1 (is_signed_of t) refl)
+
     by : (b ≡ pos 0) ⊎ (b ≡ pos 0 → ⊥) → FaultsWith t a b Rem f
     by (inl z) = subst (FaultsWith t a b Rem) (err_is DivZero f (value_of Rem t a b) (values.rest_by_zero t a b z) e) (rest_by_zero z)
     by (inr n) = inside n (values.cases_of_type t (int_div a b))
@@ -125,6 +127,7 @@ told_left t a b f e = by (is_count t b) (is_below_zero t a) refl refl
     count_at : (z : ℤ) → z ≡ b → IsCount t z → b ≡ pos (unsigned_abs b)
     count_at (pos n) same is = sym same ∙ ap (λ x. pos (unsigned_abs x)) same
     count_at (negsuc n) same is = absurd (omega (arith, ints, is.from))
+
     by : (test negative : Bool) → is_count t b ≡ test → is_below_zero t a ≡ negative → FaultsWith t a b Shl f
     by true true k l =
         let stopped : value_of Shl t a b ≡ Err Shift = rw (k, l) refl in

@@ -1,6 +1,6 @@
 -- Quotients that are rounded toward zero, and their rests.
-use Rattle.std.specs.Prelude.{◌≡◌, ℕ, zero, suc, ◌+◌, ◌*◌, ◌/◌, ◌%◌, ◌<◌, ◌≤◌, true, false, ℤ, pos, negsuc, ◌+ℤ◌, ◌-ℤ◌, ◌*ℤ◌, ◌≤ℤ◌, ◌<ℤ◌, neg_ℤ, int_div, int_rem, unsigned_abs, Result, Ok, Err}
-use Rattle.std.proofs.Common.{arith, ◌∙◌, ap, refl, sym}
+use Rattle.std.specs.Prelude.{◌≡◌, ℕ, zero, suc, ◌*◌, ◌/◌, ◌<◌, ◌≤◌, true, false, ℤ, pos, negsuc, ◌+ℤ◌, ◌*ℤ◌, ◌≤ℤ◌, neg_ℤ, int_div, int_rem, unsigned_abs}
+use Rattle.std.proofs.Common.{arith, ap, refl}
 use Rattle.std.proofs.lemmas.Int.{ints, by_lt_z, quot-rem, rem_below, unsigned_abs-mul}
 use Rattle.std.proofs.Math.Nat.{mul-le-mul_left}
 use native.Mathlib.Nat.{div-le_self, mod-le, div-mul-le_self}
@@ -128,13 +128,15 @@ quotient_past t a (pos zero) s h n out = absurd (n refl)
 quotient_past t (pos a) (pos (suc b)) s h n out = absurd (out (positive_in t (a / suc b) (pos a) h (div-le_self a (suc b)) (omega (arith, ints))))
 quotient_past t (pos a) (negsuc b) s h n out = absurd (out (signed_negative_in t (a / suc b) a s h (div-le_self a (suc b))))
 quotient_past t (negsuc a) (pos (suc b)) s h n out = absurd (out (negative_in t (suc a / suc b) a h (div-le_self (suc a) (suc b))))
-quotient_past t (negsuc a) (negsuc zero) s h n out =
-    (by_lt_z (low_of t) (negsuc a)
-    (λ l. absurd (out (
-    let zero = zero_in t in
-    let low = signed_low t s in
-    record { from = omega (arith, ints, zero.0); to = omega (arith, ints, low, l) })))
-    (λ l. omega (arith, ints, h.from, l)), refl)
+quotient_past t (negsuc a) (negsuc zero) s h n out = (
+  by_lt_z (low_of t) (negsuc a)
+      (λ l. absurd (out (
+      let zero = zero_in t in
+      let low = signed_low t s in
+      record { from = omega (arith, ints, zero.0); to = omega (arith, ints, low, l) })))
+      (λ l. omega (arith, ints, h.from, l)),
+  refl,
+)
 quotient_past t (negsuc a) (negsuc (suc b)) s h n out = absurd (out (halved_in t a b s h))
 
 -- an unsigned quotient is never past its type

@@ -1,5 +1,5 @@
 -- Shifts: what the code's 128 bits hold is the number itself, and a shift to the right stays in its type.
-use Rattle.std.specs.Prelude.{◌≡◌, ℕ, suc, ◌*◌, ◌%◌, ◌/◌, ◌^◌, ◌<◌, ◌≤◌, ◌-◌, Bool, true, false, ◌&&◌, ℤ, pos, negsuc, ◌*ℤ◌, ◌≤ℤ◌, ◌<ℤ◌, int_le, int_lt, unsigned_abs}
+use Rattle.std.specs.Prelude.{◌≡◌, ℕ, ◌*◌, ◌%◌, ◌^◌, ◌<◌, ◌≤◌, ◌-◌, Bool, true, false, ◌&&◌, ℤ, pos, negsuc, ◌*ℤ◌, ◌≤ℤ◌, ◌<ℤ◌, int_lt, unsigned_abs}
 use Rattle.std.specs.Int.{w128, int_shr}
 use Rattle.std.proofs.Common.{arith, ◌∙◌, ap, refl, sym, to_z, of_z}
 use Rattle.std.proofs.lemmas.Int.{ints, to_z_pos}
@@ -10,7 +10,7 @@ use Rattle.pk_ctypes.specs.declared.types.IntType.{IntType}
 use Rattle.pk_ctypes.specs.declared.types.IntType.TheVariants.{Char, SChar, UChar, Short, UShort, Int, UInt, Long, ULong, LLong, ULLong}
 use Rattle.pk_ctypes.specs.declared.types.Op.TheVariants.{Shl}
 use Rattle.pk_ctypes.specs.declared.faults.Fault.TheVariants.{Shift}
-use Rattle.pk_ctypes.specs.Types.{width_of, is_signed_of, low_of, high_of, InType}
+use Rattle.pk_ctypes.specs.Types.{width_of, is_signed_of, InType}
 use Rattle.pk_ctypes.specs.Laws.{IsCount}
 use Rattle.pk_ctypes.specs.Operators.{is_count, is_below_zero, fitted, value_of}
 use Rattle.pk_ctypes.proofs.Wrapped.{sized, zero_in}

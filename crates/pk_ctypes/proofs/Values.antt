@@ -1,7 +1,7 @@
 -- The tests for a number of a type, and what fits as it is.
 use Rattle.std.specs.Ordering.{int_eq}
-use Rattle.std.specs.Prelude.{Result, zero, suc, negsuc, if◌then◌else◌, ◌≡◌, true, false, ◌⊎◌, ℤ, pos, ◌≤ℤ◌, ◌<ℤ◌, int_le, ◌+ℤ◌, ◌*ℤ◌, Ok, Err}
-use Rattle.std.specs.Prelude.{Bool, ℕ, FitsSigned, int_div, int_rem, unsigned_abs}
+use Rattle.std.specs.Prelude.{Result, suc, negsuc, if◌then◌else◌, ◌≡◌, true, false, ◌⊎◌, ℤ, pos, ◌≤ℤ◌, ◌<ℤ◌, int_le, Ok, Err}
+use Rattle.std.specs.Prelude.{Bool, FitsSigned, int_div, int_rem, unsigned_abs}
 use Rattle.std.specs.Int.{w128}
 use Rattle.std.specs.Cmp.{unsigned_Decides}
 use Rattle.std.proofs.Common.{ap, arith, sym, ◌∙◌, refl, inl, inr, subst, eqb, of_z, to_z}
@@ -12,7 +12,7 @@ use Rattle.pk_ctypes.specs.declared.types.Op.TheVariants.{Div, Rem}
 use Rattle.pk_ctypes.specs.declared.faults.Fault.TheVariants.{DivZero, Overflow}
 use Rattle.pk_ctypes.specs.declared.types.IntType.{IntType}
 use Rattle.pk_ctypes.specs.declared.faults.Fault.{Fault}
-use Rattle.pk_ctypes.specs.Types.{is_signed_of, low_of, high_of, InType, is_in_type, IsEqualModulo, size_of, wrapped}
+use Rattle.pk_ctypes.specs.Types.{is_signed_of, low_of, high_of, InType, is_in_type, wrapped}
 use Rattle.pk_ctypes.specs.Operators.{truth, fitted, fitted_if, divided, value_of}
 use Rattle.pk_ctypes.proofs.Wrapped.{wrapped_is, wrapped_in, zero_in, one_most}
 
@@ -110,6 +110,7 @@ fitted_in fault t x z e = signed (is_signed_of t) refl
     inside : InType t x ⊎ ((is_in_type t x ≡ false) × (InType t x → ⊥)) → is_signed_of t ≡ true → InType t z
     inside (inl h) s = let same : x ≡ z = cc (fitted_inside fault t x h) in subst (InType t) same h
     inside (inr out) s = absurd (cc (ap (λ b. if b then (if is_in_type t x then Ok x else Err fault) else Ok (wrapped t x)) s, ap (λ b. if b then Ok x else Err fault) out.0))
+
     signed : (s : Bool) → is_signed_of t ≡ s → InType t z
     signed true s = inside (cases_of_type t x) s
     signed false s = let same : wrapped t x ≡ z = cc (ap (λ b. if b then (if is_in_type t x then Ok x else Err fault) else Ok (wrapped t x)) s) in subst (InType t) same (wrapped_in t x)
@@ -137,6 +138,7 @@ fitted_err fault t x f e = signed (is_signed_of t) refl
     inside : InType t x ⊎ ((is_in_type t x ≡ false) × (InType t x → ⊥)) → is_signed_of t ≡ true → IsPast fault t x f
     inside (inl h) s = absurd (cc (fitted_inside fault t x h))
     inside (inr o) s = record { signed = s; outside = o.1; same = cc (fitted_past fault t x s o.1) }
+
     signed : (s : Bool) → is_signed_of t ≡ s → IsPast fault t x f
     signed true s = inside (cases_of_type t x) s
     signed false s = absurd (cc (ap (λ b. if b then (if is_in_type t x then Ok x else Err fault) else Ok (wrapped t x)) s))

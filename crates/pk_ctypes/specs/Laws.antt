@@ -1,11 +1,11 @@
 -- What the standard says of the operators, over their definition.
-use Rattle.std.specs.Prelude.{◌≡◌, ◌<◌, ◌≤◌, ◌-◌, ◌+◌, ◌^◌, ◌↔◌, ◌⊎◌, ℕ, Bool, true, false, if◌then◌else◌, ℤ, pos, negsuc, ◌+ℤ◌, ◌-ℤ◌, ◌*ℤ◌, ◌≤ℤ◌, ◌<ℤ◌, neg_ℤ, int_div, int_rem, unsigned_abs, bit_and, bit_or, bit_xor, Ok, Err}
+use Rattle.std.specs.Prelude.{◌≡◌, ◌<◌, ◌≤◌, ◌-◌, ◌+◌, ◌^◌, ◌↔◌, ◌⊎◌, ℕ, true, false, ℤ, pos, negsuc, ◌+ℤ◌, ◌-ℤ◌, ◌*ℤ◌, ◌≤ℤ◌, ◌<ℤ◌, neg_ℤ, unsigned_abs, bit_and, bit_or, bit_xor, Ok, Err}
 use Rattle.pk_ctypes.specs.declared.types.IntType.{IntType}
 use Rattle.pk_ctypes.specs.declared.types.Op.{Op}
 use Rattle.pk_ctypes.specs.declared.types.Op.TheVariants.{Add, Sub, Mul, Div, Rem, Shl, Shr, Lt, Gt, Le, Ge, Eq, Ne, Neg, Not}
 use Rattle.pk_ctypes.specs.declared.faults.Fault.{Fault}
 use Rattle.pk_ctypes.specs.declared.faults.Fault.TheVariants.{DivZero, Overflow, Shift}
-use Rattle.pk_ctypes.specs.Types.{width_of, is_signed_of, size_of, low_of, high_of, InType, wrapped}
+use Rattle.pk_ctypes.specs.Types.{width_of, is_signed_of, size_of, low_of, high_of, InType}
 use Rattle.pk_ctypes.specs.Operators.{HasRight, bits_of, bitwise, complement, value_of, result_type}
 
 -- An operator gives a number of its type.
@@ -68,7 +68,6 @@ pub record BitsAreMade : Type 0 where
   pub either : (t : IntType) (a b : ℤ) → bits_of t (bitwise bit_or t a b) ≡ bit_or (bits_of t a) (bits_of t b)
   pub one : (t : IntType) (a b : ℤ) → bits_of t (bitwise bit_xor t a b) ≡ bit_xor (bits_of t a) (bits_of t b)
   pub other : (t : IntType) (a : ℤ) → bits_of t (complement t a) + bits_of t a ≡ size_of t - 1
-
   -- in numbers: the greatest less a where the type is unsigned
   pub signed : (t : IntType) (a : ℤ) → is_signed_of t ≡ true → InType t a → complement t a ≡ negsuc 0 -ℤ a
   pub unsigned : (t : IntType) (a : ℤ) → is_signed_of t ≡ false → InType t a → complement t a ≡ high_of t -ℤ a

@@ -2,6 +2,7 @@
 
 ghost use Rattle.std.specs.Prelude.{◌≡◌, IfOk};
 ghost use Rattle.std.specs.Str.{IsUtf8};
+ghost use Rattle.std.specs.Str.Lossy.{utf8_lossy};
 
 use std::alloc::{AllocError, Global};
 use std::fmt;
@@ -22,10 +23,10 @@ impl Model for Name {
 }
 
 impl Name {
-    /// The name of these bytes.
+    /// The name of these bytes. What is no UTF-8 in them becomes U+FFFD, as by `String::from_utf8_lossy`: names are printed as text.
     pub fn new(alloc: Global, bytes: &[u8]) -> Result<Name, AllocError>
-        requires { IsUtf8 bytes.now }
-        ensures { IfOk result (λ name. name ≡ bytes.now) }
+        ensures exact { IfOk result (λ name. IsUtf8 bytes.now → name ≡ bytes.now) }
+        ensures lossy { IfOk result (λ name. name ≡ utf8_lossy bytes.now) }
     {
         let text = String::from_utf8_lossy(alloc, bytes)?;
         Ok(Name { text })
@@ -82,10 +83,10 @@ impl Names {
         Ok(Names { names })
     }
 
-    pub fn copy(&self, alloc: Global) -> Result<Names, AllocError>
+    pub fn copy(&self) -> Result<Names, AllocError>
         ensures { IfOk result (λ names. names ≡ self.now) }
     {
-        Names::new(alloc, self.names.as_slice())
+        Names::new(*self.names.allocator(), self.names.as_slice())
     }
 
     pub fn as_slice(&self) -> &[Name]

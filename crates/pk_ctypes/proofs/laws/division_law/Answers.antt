@@ -1,10 +1,7 @@
-use Rattle.std.specs.Prelude.{◌≡◌, ℤ, pos, Bool, true, false, ◌⊎◌, int_div, int_rem, Ok}
-use Rattle.std.specs.Ordering.{int_eq}
+use Rattle.std.specs.Prelude.{◌≡◌, ℤ, pos, false, ◌⊎◌, int_div, int_rem, Ok}
 use Rattle.std.proofs.Common.{subst, inl, inr}
-use Rattle.std.proofs.lemmas.Bool.Decides.{Decides-int_eq}
 use Rattle.pk_ctypes.specs.declared.types.IntType.{IntType}
 use Rattle.pk_ctypes.specs.declared.types.Op.TheVariants.{Div, Rem}
-use Rattle.pk_ctypes.specs.declared.faults.Fault.TheVariants.{Overflow}
 use Rattle.pk_ctypes.specs.Types.{InType, is_in_type}
 use Rattle.pk_ctypes.specs.Operators.{value_of}
 use Rattle.pk_ctypes.specs.Laws.{IsTruncatedDivision}
@@ -17,6 +14,7 @@ holds t a b q r h k e f = inside (cases_of_type t (int_div a b))
   where
     some : b ≡ pos 0 → ⊥
     some z = absurd (cc (by_zero t a b z))
+
     inside : InType t (int_div a b) ⊎ ((is_in_type t (int_div a b) ≡ false) × (InType t (int_div a b) → ⊥)) → IsTruncatedDivision a b q r
     inside (inr out) = absurd (cc (rest_past t a b some out.0))
     inside (inl h') =

@@ -7,7 +7,7 @@ use Rattle.pk_ctypes.specs.declared.types.Op.{Op}
 use Rattle.pk_ctypes.specs.declared.types.Op.TheVariants.{Add, Sub, Mul, Div, Rem, Shl, Shr, And, Or, Xor, Lt, Gt, Le, Ge, Eq, Ne, Neg, BitNot, Not}
 use Rattle.pk_ctypes.specs.declared.faults.Fault.TheVariants.{Overflow, Shift}
 use Rattle.pk_ctypes.specs.Types.{InType}
-use Rattle.pk_ctypes.specs.Operators.{HasRight, truth, exact, fitted, value_of, result_type}
+use Rattle.pk_ctypes.specs.Operators.{truth, exact, fitted, value_of, result_type}
 use Rattle.pk_ctypes.proofs.Values.{fitted_if_in, fitted_inside, truth_in}
 use Rattle.pk_ctypes.proofs.laws.value_law.Goals as goal
 

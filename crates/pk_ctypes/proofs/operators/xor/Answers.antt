@@ -1,4 +1,4 @@
-use Rattle.std.proofs.Common.{arith, ◌∙◌, ap, sym, bit_xor, of_z, FitsSigned, Ok}
+use Rattle.std.proofs.Common.{◌∙◌, ap, sym, bit_xor, FitsSigned, Ok}
 use Rattle.std.specs.Int.{w128}
 use Rattle.std.proofs.lemmas.Int.{to_z-of_z}
 use Rattle.std.proofs.lemmas.Nat.{xor_mod, xor_lt}
