@@ -3,7 +3,7 @@ use Rattle.std.proofs.Common.{◌≡◌, ℕ, ◌^◌, ◌<◌, ◌≤◌, lengt
 use Rattle.std.specs.declared.result.Result.{Result}
 use Rattle.pk_top.specs.declared.lex.Token.{Token}
 use Rattle.pk_top.specs.declared.ast.Unit.{Unit as Unit'}
-use Rattle.pk_top.specs.Places.{start_of_text}
+use Rattle.pk_ctypes.specs.Places.{start_of_text}
 use Rattle.pk_top.specs.Tokens.{IsLexed}
 use Rattle.pk_top.specs.Grammar.{Derives}
 use Rattle.pk_top.specs.Scopes.{is_scoped}

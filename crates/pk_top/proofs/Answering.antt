@@ -5,7 +5,7 @@ use Rattle.pk_top.specs.declared.ast.Unit.{Unit as Unit'}
 use Rattle.pk_top.specs.declared.analysis.Cell.{Cell}
 use Rattle.pk_top.specs.declared.status.Status.{Status}
 use Rattle.pk_top.specs.declared.status.Status.TheVariants as status
-use Rattle.pk_top.specs.declared.status.Quantity.{Quantity}
+use Rattle.pk_ctypes.specs.declared.words.Quantity.{Quantity}
 use Rattle.pk_top.specs.Grammar.{Derives}
 use Rattle.pk_top.specs.FlowGraph.{FlowGraph}
 use Rattle.pk_top.specs.Lowering.{graph_of}

@@ -2,7 +2,7 @@
 use Rattle.std.proofs.Common.{◌≡◌, ℕ, ◌+◌, ◌≤◌, List, [], ◌∷◌, ◌++◌, length, Option, Some, None, Bool, true, false, ◌&&◌, ◌==◌, pos, nat_le, codes, refl, ap, subst, ◌∙◌, arith, length-append, IfSome, if◌then◌else◌}
 use Rattle.std.specs.List.{list_all}
 use Rattle.std.proofs.lemmas.Bool.{and_from}
-use Rattle.pk_top.specs.declared.text.Pos.{Pos}
+use Rattle.pk_ctypes.specs.declared.places.Pos.{Pos}
 use Rattle.pk_top.specs.declared.lex.Token.{Token}
 use Rattle.pk_top.specs.declared.lex.Word.{Word}
 use Rattle.pk_top.specs.declared.lex.Word.TheVariants as word
@@ -19,7 +19,7 @@ use Rattle.pk_top.specs.declared.ast.Unit.{Unit as Unit'}
 use Rattle.pk_top.specs.Characters.{is_letter, is_digit}
 use Rattle.pk_top.specs.Words.{same, is_empty, is_keyword, sign_word, name_word, constant_word, number_word, word_of, value_of}
 use Rattle.pk_top.specs.Tokens.{IsLexed}
-use Rattle.pk_top.specs.Places.{after_bytes}
+use Rattle.pk_ctypes.specs.Places.{after_bytes}
 use Rattle.pk_top.specs.Grammar.{Language, token, AnyToken, ◌⊙◌, primary_word, addend_list, a_sum, an_assignment, a_loop, an_item, item_list, maybe_return, Derives}
 use Rattle.pk_top.specs.Ranges.{is_int}
 use Rattle.pk_top.specs.Constants.{primary_is_int, sum_is_int, item_is_int, result_is_int, constants_are_ints}

@@ -22,7 +22,7 @@ use Rattle.pk_top.specs.declared.report.Entry.{Entry}
 use Rattle.pk_top.specs.States.{AbstractState}
 use Rattle.pk_top.specs.declared.graph.Bracket.{Bracket}
 use Rattle.pk_top.specs.declared.graph.Point.{Point}
-use Rattle.pk_top.specs.Places.{pos_text}
+use Rattle.pk_ctypes.specs.Places.{pos_text}
 use Rattle.pk_top.specs.Reports.{value_lines, head_lines}
 use Rattle.pk_top.specs.FlowGraph.{FlowGraph, IsWithin, EdgeWithin, brackets}
 use Rattle.pk_top.specs.Analyses.{state_of}

@@ -5,12 +5,12 @@ use Rattle.std.proofs.lemmas.Bool.{and_parts, both_ways}
 use Rattle.std.proofs.lemmas.Bool.Decides.{nat_tests}
 use Rattle.std.proofs.lemmas.List.{take_at, drop_at, take-append-drop, append-nil, append_assoc, nil_from_length, length-take-le}
 use Rattle.std.proofs.lemmas.List.Folds.{length-prefix_len, list_all-append}
-use Rattle.pk_top.specs.declared.text.Pos.{Pos}
+use Rattle.pk_ctypes.specs.declared.places.Pos.{Pos}
 use Rattle.pk_top.specs.declared.lex.Token.{Token}
 use Rattle.pk_top.specs.declared.lex.Word.{Word}
 use Rattle.pk_top.specs.Characters.{is_white, is_letter, is_digit}
 use Rattle.pk_top.specs.Words.{is_word, word_of, sign_word}
-use Rattle.pk_top.specs.Places.{after_byte, after_bytes, start_of_text}
+use Rattle.pk_ctypes.specs.Places.{after_byte, after_bytes, start_of_text}
 use Rattle.pk_top.specs.Tokens.{NoWord, IsLongest, IsNext, IsLexed, TokensAreDetermined}
 use Rattle.pk_top.proofs.LongestWord.{kind_of_word, run_passes}
 

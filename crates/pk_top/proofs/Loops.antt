@@ -3,7 +3,7 @@ use Rattle.std.proofs.Common.{◌≡◌, ℕ, ◌+◌, ◌<◌, ◌≤◌, true,
 use Rattle.std.proofs.lemmas.List.{map-append}
 use Rattle.std.proofs.lemmas.List.Elements.{filter-append}
 use Rattle.std.proofs.lemmas.Bool.Decides.{nat_tests}
-use Rattle.pk_top.specs.declared.text.Pos.{Pos}
+use Rattle.pk_ctypes.specs.declared.places.Pos.{Pos}
 use Rattle.pk_top.specs.declared.ast.Item.{Item}
 use Rattle.pk_top.specs.declared.ast.Item.TheVariants.{Declare, Assign, Repeat}
 use Rattle.pk_top.specs.declared.ast.Return.{Return}

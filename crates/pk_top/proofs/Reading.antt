@@ -1,6 +1,6 @@
 -- Phrases one after another, and what two readings at one place have in common.
 use Rattle.std.proofs.Common.{◌≡◌, List, [], ◌∷◌, ◌++◌, refl, sym, ap, subst, ◌∙◌, append_assoc}
-use Rattle.pk_top.specs.declared.text.Pos.{Pos}
+use Rattle.pk_ctypes.specs.declared.places.Pos.{Pos}
 use Rattle.pk_top.specs.declared.lex.Token.{Token}
 use Rattle.pk_top.specs.declared.lex.Word.{Word}
 use Rattle.pk_top.specs.Grammar.{Language, token, AnyToken, Empty, ◌⊙◌}

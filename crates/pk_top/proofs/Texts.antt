@@ -1,6 +1,6 @@
 -- What the parser of a text owes: the tree that it reads, and where nothing can be read.
 use Rattle.std.proofs.Common.{◌≡◌, ℕ, ◌+◌, List, [], length, drop, Option, Some, None, MatchOption, codes, sym, ap, subst, ◌∙◌, arith, length-drop}
-use Rattle.pk_top.specs.declared.text.Pos.{Pos}
+use Rattle.pk_ctypes.specs.declared.places.Pos.{Pos}
 use Rattle.pk_top.specs.declared.lex.Name.{Name}
 use Rattle.pk_top.specs.declared.lex.Token.{Token}
 use Rattle.pk_top.specs.declared.lex.Word.{Word}

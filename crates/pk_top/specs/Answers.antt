@@ -8,9 +8,9 @@ use Rattle.pk_top.specs.declared.analysis.Cell.{Cell}
 use Rattle.pk_top.specs.declared.status.Status.{Status}
 use Rattle.pk_top.specs.declared.status.Status.TheVariants.{Ok, Usage, Refused, Limit, RunLimit, ReadFault, WriteFault, Memory}
 use Rattle.pk_top.specs.declared.status.Refusal.TheVariants.{Unsupported}
-use Rattle.pk_top.specs.declared.status.Construct.TheVariants.{Later}
-use Rattle.pk_top.specs.declared.status.Quantity.TheVariants.{Text}
-use Rattle.pk_top.specs.Places.{start_of_text}
+use Rattle.pk_ctypes.specs.declared.words.Construct.TheVariants.{Later}
+use Rattle.pk_ctypes.specs.declared.words.Quantity.TheVariants.{Text}
+use Rattle.pk_ctypes.specs.Places.{start_of_text}
 use Rattle.pk_top.specs.Words.{same}
 use Rattle.pk_top.specs.Tokens.{IsLexed}
 use Rattle.pk_top.specs.Grammar.{Derives}

@@ -2,7 +2,7 @@
 use Rattle.std.specs.Prelude.{ℕ, List, ◌++◌, codes}
 use Rattle.std.specs.Fmt.{signed_decimal}
 use Rattle.pk_top.specs.declared.report.Entry.{Entry}
-use Rattle.pk_top.specs.Places.{pos_text}
+use Rattle.pk_ctypes.specs.Places.{pos_text}
 use Rattle.pk_top.specs.Ranges.{Range}
 use Rattle.pk_top.specs.States.{AbstractState}
 use Rattle.pk_top.specs.Verdicts.{Access, verdict_in, verdict_of}

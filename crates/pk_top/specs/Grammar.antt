@@ -1,6 +1,6 @@
 -- The grammar, as a relation between trees and whole lists of tokens (C99 6.5.6, 6.7, 6.8 and 6.9, cut to the language of the first path).
 use Rattle.std.specs.Prelude.{◌≡◌, ℕ, List, [], ◌∷◌, ◌++◌, codes, Option, Some, None}
-use Rattle.pk_top.specs.declared.text.Pos.{Pos}
+use Rattle.pk_ctypes.specs.declared.places.Pos.{Pos}
 use Rattle.pk_top.specs.declared.lex.Name.{Name}
 use Rattle.pk_top.specs.declared.lex.Token.{Token}
 use Rattle.pk_top.specs.declared.lex.Word.{Word}

@@ -1,4 +1,3 @@
-pub mod Places
 pub mod Characters
 pub mod Words
 pub mod Tokens

@@ -1,7 +1,7 @@
 -- The control-flow graph of a text.
 use Rattle.std.specs.Prelude.{ℕ, ℤ, pos, ◌+◌, ◌+ℤ◌, ◌-ℤ◌, List, [], ◌∷◌, ◌++◌, length, map, true, false, int_lt, Option, Some, None, unwrap_or, option_map, if◌then◌else◌}
 use Rattle.std.specs.List.{position_or_len}
-use Rattle.pk_top.specs.declared.text.Pos.{Pos}
+use Rattle.pk_ctypes.specs.declared.places.Pos.{Pos}
 use Rattle.pk_top.specs.declared.lex.Name.{Name}
 use Rattle.pk_top.specs.declared.ast.Sign.{Sign}
 use Rattle.pk_top.specs.declared.ast.Sign.TheVariants.{Plus, Minus}

@@ -1,6 +1,6 @@
 -- What is read of a list of tokens, from a place on.
 use Rattle.std.specs.Prelude.{◌≡◌, ℕ, ◌+◌, List, ◌∷◌, ◌++◌, codes, drop, Option, Some, None, MatchOption, ◌⊎◌}
-use Rattle.pk_top.specs.declared.text.Pos.{Pos}
+use Rattle.pk_ctypes.specs.declared.places.Pos.{Pos}
 use Rattle.pk_top.specs.declared.lex.Name.{Name}
 use Rattle.pk_top.specs.declared.lex.Token.{Token}
 use Rattle.pk_top.specs.declared.lex.Word.{Word}

@@ -1,15 +1,17 @@
 -- Ranges of whole numbers, and the operations on them.
-use Rattle.std.specs.Prelude.{Bool, ◌&&◌, if◌then◌else◌, ℤ, pos, negsuc, ◌+ℤ◌, ◌-ℤ◌, ◌≤ℤ◌, int_le, int_lt, List, filter, fold, Option, Some, None}
+use Rattle.std.specs.Prelude.{Bool, ◌&&◌, if◌then◌else◌, ℤ, pos, ◌+ℤ◌, ◌-ℤ◌, ◌≤ℤ◌, int_le, int_lt, List, filter, fold, Option, Some, None}
 use Rattle.std.specs.Int.{int_min, int_max}
+use Rattle.pk_ctypes.specs.declared.types.IntType.TheVariants.{Int}
+use Rattle.pk_ctypes.specs.Types.{low_of, high_of}
 use Rattle.pk_top.specs.declared.ast.Sign.{Sign}
 use Rattle.pk_top.specs.declared.ast.Sign.TheVariants.{Plus, Minus}
 
--- the least and the greatest number of type int (C99 6.2.5, with 32 bits)
+-- the least and the greatest number of type int
 abbrev pub least_int : ℤ
-least_int = negsuc 2147483647
+least_int = low_of Int
 
 abbrev pub greatest_int : ℤ
-greatest_int = pos 2147483647
+greatest_int = high_of Int
 
 abbrev pub is_int : ℤ → Bool
 is_int x = int_le least_int x && int_le x greatest_int

@@ -6,7 +6,7 @@ use Rattle.std.specs.Ordering.{int_eq}
 use Rattle.pk_top.specs.declared.graph.Bracket.{Bracket}
 use Rattle.pk_top.specs.declared.verdict.Verdict.{Verdict}
 use Rattle.pk_top.specs.declared.verdict.Verdict.TheVariants.{Safe, Unknown, Unreachable}
-use Rattle.pk_top.specs.Places.{pos_text}
+use Rattle.pk_ctypes.specs.Places.{pos_text}
 use Rattle.pk_top.specs.Ranges.{Range}
 use Rattle.pk_top.specs.States.{AbstractState}
 use Rattle.pk_top.specs.FlowGraph.{FlowGraph, brackets, elements}

@@ -5,17 +5,8 @@ use Rattle.pk_top.specs.declared.status.Status.{Status}
 use Rattle.pk_top.specs.declared.status.Status.TheVariants.{Ok, Usage, Refused, Limit, RunLimit, ReadFault, WriteFault, Memory}
 use Rattle.pk_top.specs.declared.status.Refusal.{Refusal}
 use Rattle.pk_top.specs.declared.status.Refusal.TheVariants.{Unsupported}
-use Rattle.pk_top.specs.declared.status.Construct.{Construct}
-use Rattle.pk_top.specs.declared.status.Construct.TheVariants.{Later}
-use Rattle.pk_top.specs.declared.status.Quantity.{Quantity}
-use Rattle.pk_top.specs.declared.status.Quantity.TheVariants.{Text}
-use Rattle.pk_top.specs.Places.{pos_text}
-
-abbrev pub construct_text : Construct → List ℕ
-construct_text Later = codes "later"
-
-abbrev pub quantity_text : Quantity → List ℕ
-quantity_text Text = codes "text"
+use Rattle.pk_ctypes.specs.Places.{pos_text}
+use Rattle.pk_ctypes.specs.Words.{construct_text, quantity_text}
 
 abbrev pub refusal_text : Refusal → List ℕ
 refusal_text (Unsupported construct at) = codes "unsupported " ++ construct_text construct ++ codes " at " ++ pos_text at

@@ -1,9 +1,9 @@
 -- The tokens of a text: each the longest word at its place, with white space between them (C99 6.4).
 use Rattle.std.specs.Prelude.{◌≡◌, ℕ, ◌+◌, ◌≤◌, List, [], ◌∷◌, ◌++◌, length, take, Some, IsTrue}
 use Rattle.std.specs.List.{list_all}
-use Rattle.pk_top.specs.declared.text.Pos.{Pos}
+use Rattle.pk_ctypes.specs.declared.places.Pos.{Pos}
 use Rattle.pk_top.specs.declared.lex.Token.{Token}
-use Rattle.pk_top.specs.Places.{after_bytes, start_of_text}
+use Rattle.pk_ctypes.specs.Places.{after_bytes, start_of_text}
 use Rattle.pk_top.specs.Characters.{is_white}
 use Rattle.pk_top.specs.Words.{is_word, word_of}
 

@@ -4,7 +4,7 @@
 ghost use Rattle.std.specs.Prelude.{◌≡◌, List};
 
 use crate::lex::Name;
-use crate::text::Pos;
+use pk_ctypes::Pos;
 use std::marker::Model;
 
 #[derive(Clone, Copy, Debug, PartialEq, Eq)]

@@ -4,7 +4,7 @@ ghost use Rattle.std.specs.Prelude.{◌≡◌, List};
 
 use crate::ast::Sign;
 use crate::names::Names;
-use crate::text::Pos;
+use pk_ctypes::Pos;
 use std::marker::Model;
 
 /// A variable by its number, or a constant of type int.

@@ -3,12 +3,12 @@
 ghost use Rattle.std.specs.Prelude.{◌≡◌, ℕ, ◌+◌, ◌^◌, ◌<◌, ◌≤◌, List, length, take, IfOk, MatchOption, Some, None, IsTrue};
 ghost use Rattle.std.specs.List.{take_while, list_all};
 ghost use Rattle.pk_top.specs.declared.lex.Token.{Token};
-ghost use Rattle.pk_top.specs.Places.{after_bytes, start_of_text};
+ghost use Rattle.pk_ctypes.specs.Places.{after_bytes, start_of_text};
 ghost use Rattle.pk_top.specs.Characters.{is_white, is_letter, is_digit, is_part};
 ghost use Rattle.pk_top.specs.Words.{is_word, is_keyword, spelling, value_of, constant_word, number_word, same, sign_word, name_word, word_of};
 ghost use Rattle.pk_top.specs.Tokens.{IsLexed, IsLongest, NoWord, TokensAreDetermined};
 
-use crate::text::Pos;
+use pk_ctypes::Pos;
 use std::alloc::{AllocError, Global};
 
 /// A name: where it begins and ends in the text, counted in bytes from 0.
@@ -258,8 +258,8 @@ fn word_count(text: &[u8]) -> Option<usize>
 
 // The place after some bytes.
 fn after(at: Pos, bytes: &[u8]) -> Pos
-    requires line { at.line + length bytes.now < 2 ^ 32 }
-    requires column { at.column + length bytes.now < 2 ^ 32 }
+    requires line { at.line + length bytes.now < 2 ^ 64 }
+    requires column { at.column + length bytes.now < 2 ^ 64 }
     ensures place { result ≡ after_bytes at bytes.now }
     ensures line_bound { result.line ≤ at.line + length bytes.now }
     ensures column_bound { result.column ≤ at.column + length bytes.now }

@@ -15,7 +15,6 @@ mod state;
 mod status;
 #[cfg(test)]
 mod tests;
-mod text;
 mod thresholds;
 mod top;
 mod transfer;
@@ -24,6 +23,5 @@ mod verdict;
 pub use interval::reduction_law;
 pub use lex::tokens_are_determined;
 pub use parse::tree_is_determined;
-pub use status::{Construct, Quantity, Refusal, Status};
-pub use text::Pos;
+pub use status::{Refusal, Status};
 pub use top::{answer_law, pikos};

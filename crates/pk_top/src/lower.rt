@@ -10,7 +10,7 @@ use crate::ast::{Assignment, Item, Loop, Primary, Return, Sign, Sum, Unit};
 use crate::graph::{Condition, Edge, Graph, Instr, Operand, Point, Term, Terms, Tree};
 use crate::lex::{Name, bytes_of};
 use crate::names::Names;
-use crate::text::Pos;
+use pk_ctypes::Pos;
 use std::alloc::{AllocError, Global};
 
 // The variable of a declared name.

@@ -33,7 +33,7 @@ use crate::ast::{
     Addend, Addends, Assignment, Item, Items, Loop, Primary, Return, Sign, Sum, Unit,
 };
 use crate::lex::{Name, Token, Word, bytes_of};
-use crate::text::Pos;
+use pk_ctypes::Pos;
 use std::alloc::{AllocError, Global};
 
 // The place in the text of the token at `i`, where it is this word.

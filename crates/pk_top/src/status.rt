@@ -1,45 +1,7 @@
 // How a run of the command ends.
-use crate::text::Pos;
+use pk_ctypes::{Construct, Pos, Quantity};
 use std::alloc::{AllocError, AllocFailed};
 use std::fmt;
-
-/// What is not analysed.
-#[derive(Clone, Copy, Debug, PartialEq, Eq)]
-pub enum Construct {
-    Later,
-}
-
-impl fmt::Display for Construct {
-    ghost use Rattle.std.specs.declared.option.Option.TheVariants.{Some};
-    ghost use Rattle.pk_top.specs.Statuses.{construct_text};
-
-    ghost output = { λ c. Some (construct_text c) };
-
-    fn fmt<W: fmt::Write>(&self, f: &mut fmt::Formatter<W>) -> fmt::Result {
-        match self {
-            Construct::Later => write!(f, "later"),
-        }
-    }
-}
-
-/// What there is too much of.
-#[derive(Clone, Copy, Debug, PartialEq, Eq)]
-pub enum Quantity {
-    Text,
-}
-
-impl fmt::Display for Quantity {
-    ghost use Rattle.std.specs.declared.option.Option.TheVariants.{Some};
-    ghost use Rattle.pk_top.specs.Statuses.{quantity_text};
-
-    ghost output = { λ q. Some (quantity_text q) };
-
-    fn fmt<W: fmt::Write>(&self, f: &mut fmt::Formatter<W>) -> fmt::Result {
-        match self {
-            Quantity::Text => write!(f, "text"),
-        }
-    }
-}
 
 /// Why a text is not analysed.
 #[derive(Clone, Copy, Debug, PartialEq, Eq)]

@@ -1,5 +1,5 @@
 use Rattle.std.proofs.Common.{◌≡◌, ◌+◌, ◌≤◌, drop}
-use Rattle.pk_top.specs.Places.{after_bytes}
+use Rattle.pk_ctypes.specs.Places.{after_bytes}
 use Rattle.pk_top.proofs.lex.after.Given as goal
 
 abbrev pub invariant-loop-b : goal.invariant-loop-b

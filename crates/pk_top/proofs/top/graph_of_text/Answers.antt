@@ -1,4 +1,4 @@
-use Rattle.pk_top.specs.Places.{start_of_text}
+use Rattle.pk_ctypes.specs.Places.{start_of_text}
 use Rattle.pk_top.proofs.Derived.{constants_ints}
 use Rattle.pk_top.proofs.Accepting.{not_derived, graph_so, items_fit}
 use Rattle.pk_top.proofs.top.graph_of_text.Goals as goal
