@@ -62,14 +62,14 @@ pub below_zero_test : (t : IntType) (a : ℤ) → is_signed_of t ≡ true → a 
 below_zero_test t a s h = let test : int_lt a (pos 0) ≡ true = grind (arith, ints) in rw (s, test) refl
 
 -- a number shifted to the left, as a product
-shifted_small : (m n : ℕ) → m < 2 ^ 64 → n < 64 → m * 2 ^ n < 2 ^ 127
+pub shifted_small : (m n : ℕ) → m < 2 ^ 64 → n < 64 → m * 2 ^ n < 2 ^ 127
 shifted_small m n h k =
     let power : 2 ^ n ≤ 2 ^ 63 = pow_mono {i = n} {j = 63} (omega arith) in
     let most : m ≤ 2 ^ 64 - 1 = omega arith in
     let product : m * 2 ^ n ≤ (2 ^ 64 - 1) * 2 ^ 63 = mul-le-mul most power in
     omega arith
 
-shifted_back : (m n : ℕ) → m < 2 ^ 64 → n < 64 → to_z w128 ((m * 2 ^ n) % 2 ^ 128) ≡ pos (m * 2 ^ n)
+pub shifted_back : (m n : ℕ) → m < 2 ^ 64 → n < 64 → to_z w128 ((m * 2 ^ n) % 2 ^ 128) ≡ pos (m * 2 ^ n)
 shifted_back m n h k =
     let small = shifted_small m n h k in
     ap (to_z w128) (mod-eq_of_lt (omega arith)) ∙ to_z_pos w128 (m * 2 ^ n) small

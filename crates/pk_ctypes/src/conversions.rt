@@ -23,9 +23,9 @@ pub fn range(t: IntType) -> (i128, i128)
     }
 }
 
-// How many bits a type has.
-pub(crate) fn width(t: IntType) -> i128
-    ensures { result ≡ pos (width_of t) }
+/// How many bits a type has.
+pub fn width(t: IntType) -> u32
+    ensures { result ≡ width_of t }
 {
     match t {
         IntType::Char | IntType::SChar | IntType::UChar => 8,
@@ -35,8 +35,8 @@ pub(crate) fn width(t: IntType) -> i128
     }
 }
 
-// Whether a type has negative numbers.
-pub(crate) fn is_signed(t: IntType) -> bool
+/// Whether a type has negative numbers.
+pub fn is_signed(t: IntType) -> bool
     ensures { result ≡ is_signed_of t }
 {
     match t {
@@ -47,8 +47,8 @@ pub(crate) fn is_signed(t: IntType) -> bool
     }
 }
 
-// Whether a number lies in a type.
-pub(crate) fn fits(t: IntType, value: i128) -> bool
+/// Whether a number lies in a type.
+pub fn fits(t: IntType, value: i128) -> bool
     ensures { result ≡ is_in_type t value }
 {
     let (low, high) = range(t);

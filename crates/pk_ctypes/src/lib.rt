@@ -12,7 +12,7 @@ mod tests;
 mod types;
 mod words;
 
-pub use conversions::{convert, promote, range, usual};
+pub use conversions::{convert, fits, is_signed, promote, range, usual, width};
 pub use faults::Fault;
 pub use laws::{
     bits_law, comparison_law, conversion_law, division_law, fault_law, promotion_law, usual_law,

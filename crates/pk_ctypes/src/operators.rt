@@ -80,7 +80,7 @@ fn rest(t: IntType, a: i128, b: i128) -> Result<i128, Fault>
 fn counts(t: IntType, b: i128) -> bool
     ensures { result ≡ is_count t b }
 {
-    0 <= b && b < width(t)
+    0 <= b && b < i128::from(width(t))
 }
 
 // Whether a number has to stay where it is, since it is signed and negative.

@@ -6,7 +6,7 @@ ghost use Rattle.pk_ctypes.specs.Operators.{HasRight};
 
 use crate::{
     Construct, Fault, IntType, Name, Names, Op, Pos, Quantity, apply, convert, promote, range,
-    usual,
+    usual, width,
 };
 use std::alloc::{AllocError, Global};
 use std::test::Fail;
@@ -265,12 +265,7 @@ fn edge(t: IntType, k: u32) -> i128
 
 // Counts of bits, of which the first and the last are none of the type.
 fn count(t: IntType, k: u32) -> i128 {
-    let width: i128 = match t {
-        IntType::Char | IntType::SChar | IntType::UChar => 8,
-        IntType::Short | IntType::UShort => 16,
-        IntType::Int | IntType::UInt => 32,
-        IntType::Long | IntType::ULong | IntType::LLong | IntType::ULLong => 64,
-    };
+    let width = i128::from(width(t));
     match k {
         0 => -1,
         1 => 0,
