@@ -20,12 +20,14 @@ use Rattle.std.specs.List.{list_any}
 use Rattle.clap.specs.Kinds.{Kinds, check_kinds, values_kinds}
 use Rattle.clap.specs.Walk.{Row, Rule, Text, answers_to, arg_by_id, finished, first_of, nothing_held, one_of, reading_by, row_text, rows_after, rows_of, walk}
 use Rattle.clap.specs.Simple.{App, Shape, built, entered, label_of, names_of, rows_at}
-use Rattle.clap.specs.Faults.{check_fault, entered_fault, level_fault, values_fault}
+use Rattle.clap.specs.Faults.{check_fault, entered_fault, fault_of, level_fault, values_fault}
 use Rattle.clap.specs.declared.builder.value_parser.ValueParser.{ValueParser}
 use Rattle.clap.specs.declared.error.kind.ErrorKind.{ErrorKind}
 use Rattle.clap.proofs.ValueTestLemmas.{accepts-Accepts}
-use Rattle.pk_command.specs.CommandLine.{IsTaken, number_option, pikos_app}
-use Rattle.pk_command.specs.Given.{IsInRange, given_by, is_set, number_in, number_of, run_options}
+use Rattle.pk_command.specs.CommandLine.{is_empty, number_option, pikos_app}
+use Rattle.pk_command.specs.Given.{Gives, IsInRange, given_by, is_set, number_in, number_of, run_options}
+use Rattle.pk_command.specs.Laws.{OneCommand}
+use Rattle.pk_command.specs.declared.asked.RunOptions.{RunOptions}
 use Rattle.pk_command.specs.declared.asked.Command.TheVariants.{Run}
 use Rattle.pk_command.specs.Found.{IsFlagFound, IsNumberFound, IsRunFound}
 use Rattle.pk_command.proofs.Rows.{Each, IsKeyed, Passes, below_passes, check_passes, each_found, each_row}
@@ -34,6 +36,14 @@ use Rattle.pk_command.proofs.Rows.{Each, IsKeyed, Passes, below_passes, check_pa
 
 no_kind : (k : ErrorKind) (ks : Kinds) → k ∷ ks ≡ [] → ⊥
 no_kind k ks e = cc
+
+pub no_fault : (faults : Kinds) → is_empty faults ≡ true → faults ≡ []
+no_fault [] e = refl
+no_fault (k ∷ ks) e = cc
+
+pub a_fault : (faults : Kinds) → (faults ≡ [] → ⊥) → is_empty faults ≡ false
+a_fault [] some = absurd (some refl)
+a_fault (k ∷ ks) some = refl
 
 wants_command : (help argument : Bool) → check_kinds help true argument ≡ [] → ⊥
 wants_command true argument e = no_kind _ _ e
@@ -86,7 +96,7 @@ pub record NamesRun (words : List Text) : Type 0 where
 run_keyed : IsKeyed run_shape.rules
 run_keyed = (refl, (refl, (refl, tt)))
 
-pub taken_names_run : (words : List Text) → IsTaken words → NamesRun words
+pub taken_names_run : (words : List Text) → fault_of pikos_app words ≡ [] → NamesRun words
 taken_names_run words taken =
     let a = built pikos_app in
     let stop = (walk a.top.rules (names_of a) nothing_held words).stopped in
@@ -289,9 +299,27 @@ pair_rows o rows given name left right = some_rows rows given (sym left ∙ ap (
     some_rows : (a b : List Row) → Some a ≡ Some b → a ≡ b
     some_rows a b e = cc
 
--- what is found under `run`, where the words are taken
-pub found_of_taken : (words : List Text) (o : Option (Text × List Row)) (rows : List Row) → IsTaken words → o ≡ given_by words → option_map (λ p. p.1) o ≡ Some rows → IsRunFound rows
+-- what is found under `run` is what the words that are taken give
+pub given_of_taken : (words : List Text) (o : Option (Text × List Row)) (rows : List Row) → fault_of pikos_app words ≡ [] → o ≡ given_by words → option_map (λ p. p.1) o ≡ Some rows
+    → given_by words ≡ Some (codes "run", rows)
+given_of_taken words o rows taken given is =
+    let names = taken_names_run words taken in
+    let same : rows ≡ names.rows = pair_rows o rows names.rows (codes "run") is (given ∙ names.given) in
+    names.given ∙ ap (λ r. Some (codes "run", r)) (sym same)
+
+pub found_of_taken : (words : List Text) (o : Option (Text × List Row)) (rows : List Row) → fault_of pikos_app words ≡ [] → o ≡ given_by words → option_map (λ p. p.1) o ≡ Some rows → IsRunFound rows
 found_of_taken words o rows taken given is =
     let names = taken_names_run words taken in
     let same : rows ≡ names.rows = pair_rows o rows names.rows (codes "run") is (given ∙ names.given) in
     subst IsRunFound (sym same) (run_found names.rows names.pass)
+
+-- ---- one command
+
+run_same : (words : List Text) (a b : RunOptions) → Gives words (Run a) → Gives words (Run b) → Run a ≡ Run b
+unfolding Gives
+run_same words a b left right =
+    let rows : left.0 ≡ right.0 = pair_rows (given_by words) left.0 right.0 (codes "run") (ap (option_map (λ p. p.1)) left.1) right.1 in
+    ap Run (left.2 ∙ ap run_options rows ∙ sym right.2)
+
+pub one_given : OneCommand
+one_given words (Run a) (Run b) left right = run_same words a b left right

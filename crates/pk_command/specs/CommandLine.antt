@@ -1,6 +1,7 @@
 -- The command line, as a value of clap's: the commands, their options, and which words are taken.
-use Rattle.std.specs.Prelude.{◌≡◌, ℕ, pos, true, List, [], codes, Some}
+use Rattle.std.specs.Prelude.{ℕ, Bool, true, false, pos, List, [], ◌∷◌, codes, Some}
 use Rattle.clap.specs.Words.{App, Rule, Shape, Text, fault_of, new_app, new_rule, with_rule, with_subcommand}
+use Rattle.clap.specs.Kinds.{Kinds}
 use Rattle.clap.specs.declared.builder.ArgAction.TheVariants.{Set, SetTrue}
 use Rattle.clap.specs.declared.builder.value_parser.ValueParser.TheVariants as parser
 
@@ -30,6 +31,10 @@ program_shape = record (new_app (codes "pikos")).top {
 abbrev pub pikos_app : App
 pikos_app = with_subcommand (record { top = program_shape; subs = [] }) run_app.top
 
--- the definition takes the words
-abbrev pub IsTaken : List Text → Type 0
-IsTaken words = fault_of pikos_app words ≡ []
+abbrev pub is_empty : Kinds → Bool
+is_empty [] = true
+is_empty (fault ∷ faults) = false
+
+-- the words are taken: clap's definition finds no fault in them
+unfoldable pub is_taken : List Text → Bool
+is_taken words = is_empty (fault_of pikos_app words)

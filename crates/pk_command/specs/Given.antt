@@ -33,7 +33,7 @@ run_options rows = record {
 }
 
 -- the words give the command
-abbrev pub Gives : List Text → Command → Type 0
+unfoldable pub Gives : List Text → Command → Type 0
 Gives words (Run options) = (rows : List Row) × (given_by words ≡ Some (codes "run", rows)) × (options ≡ run_options rows)
 
 -- each number lies in its option's range

@@ -1,8 +1,8 @@
 // The words that the definition takes, and what they give.
 
-ghost use Rattle.std.specs.Prelude.{◌≡◌, IfOk, OnOk, codes, map, string_bytes};
-ghost use Rattle.clap.specs.Words.{found_of, rows_of, subcommand_rows_of};
-ghost use Rattle.pk_command.specs.CommandLine.{IsTaken};
+ghost use Rattle.std.specs.Prelude.{◌≡◌, [], IfOk, OnOk, IsTrue, false, codes, map, string_bytes};
+ghost use Rattle.clap.specs.Words.{fault_of, found_of, rows_of, subcommand_rows_of};
+ghost use Rattle.pk_command.specs.CommandLine.{is_taken, pikos_app};
 ghost use Rattle.pk_command.specs.Given.{Gives, IsInRange, given_by, is_set, number_of, run_options as options_of};
 ghost use Rattle.pk_command.specs.Found.{IsFlagFound, IsNumberFound, IsRunFound};
 
@@ -14,9 +14,9 @@ use std::alloc::Global;
 
 // What clap finds in the words.
 fn matches_in<'a>(alloc: Global, words: &'a [String]) -> Result<ArgMatches<'a>, WordsError>
-    ensures taken { OnOk result (IsTaken (map string_bytes words.entry.now)) }
+    ensures taken { OnOk result (fault_of pikos_app (map string_bytes words.entry.now) ≡ []) }
     ensures given { IfOk result (λ m. subcommand_rows_of m ≡ given_by (map string_bytes words.entry.now)) }
-    ensures usage { result ≡ Err WordsError.Usage → ¬ IsTaken (map string_bytes words.entry.now) }
+    ensures usage { result ≡ Err WordsError.Usage → is_taken (map string_bytes words.entry.now) ≡ false }
 {
     match command_line(alloc)?.try_get_matches_from(words) {
         Ok(matches) => Ok(matches),
@@ -61,12 +61,12 @@ fn run_options(found: &ArgMatches<'_>) -> RunOptions
 /// Reads the words after the program's name. With no memory for it, words that aren't taken may give `Memory` too.
 pub fn read_words(alloc: Global, words: &[String]) -> Result<Command, WordsError>
     // Only words that the definition takes give a command, and it is the one with the options that they give.
-    ensures taken { OnOk result (IsTaken (map string_bytes words.now)) }
+    ensures taken { OnOk result (IsTrue (is_taken (map string_bytes words.now))) }
     ensures command { IfOk result (Gives (map string_bytes words.now)) }
     ensures range { IfOk result IsInRange }
 
     // Usage is told only of words that the definition doesn't take.
-    ensures usage { result ≡ Err WordsError.Usage → ¬ IsTaken (map string_bytes words.now) }
+    ensures usage { result ≡ Err WordsError.Usage → is_taken (map string_bytes words.now) ≡ false }
 {
     let matches = matches_in(alloc, words)?;
     match matches.subcommand_matches("run") {

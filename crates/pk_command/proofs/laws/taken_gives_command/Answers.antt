@@ -1,8 +1,11 @@
 use Rattle.std.proofs.Common.{refl}
 use Rattle.pk_command.specs.declared.asked.Command.TheVariants.{Run}
-use Rattle.pk_command.specs.Given.{run_options}
-use Rattle.pk_command.proofs.Taken.{taken_names_run}
+use Rattle.pk_command.specs.CommandLine.{is_taken, pikos_app}
+use Rattle.pk_command.specs.Given.{Gives, run_options}
+use Rattle.clap.specs.Faults.{fault_of}
+use Rattle.pk_command.proofs.Taken.{no_fault, taken_names_run}
 use Rattle.pk_command.proofs.laws.taken_gives_command.Goals as goal
 
 pub returns : goal.returns
-returns c = λ words taken. let names = taken_names_run words taken in (Run (run_options names.rows), (names.rows, names.given, refl))
+unfolding is_taken Gives
+returns c = λ words taken. let names = taken_names_run words (no_fault (fault_of pikos_app words) taken) in (Run (run_options names.rows), (names.rows, names.given, refl))
