@@ -1,2 +1,3 @@
 mod Rows
 mod Taken
+pub mod Asking

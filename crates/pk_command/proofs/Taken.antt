@@ -25,9 +25,7 @@ use Rattle.clap.specs.declared.builder.value_parser.ValueParser.{ValueParser}
 use Rattle.clap.specs.declared.error.kind.ErrorKind.{ErrorKind}
 use Rattle.clap.proofs.ValueTestLemmas.{accepts-Accepts}
 use Rattle.pk_command.specs.CommandLine.{is_empty, number_option, pikos_app}
-use Rattle.pk_command.specs.Given.{Gives, IsInRange, given_by, is_set, number_in, number_of, run_options}
-use Rattle.pk_command.specs.Laws.{OneCommand}
-use Rattle.pk_command.specs.declared.asked.RunOptions.{RunOptions}
+use Rattle.pk_command.specs.Given.{IsInRange, given_by, is_set, number_in, number_of, run_options}
 use Rattle.pk_command.specs.declared.asked.Command.TheVariants.{Run}
 use Rattle.pk_command.specs.Found.{IsFlagFound, IsNumberFound, IsRunFound}
 use Rattle.pk_command.proofs.Rows.{Each, IsKeyed, Passes, below_passes, check_passes, each_found, each_row}
@@ -293,7 +291,7 @@ run_in_range rows found =
     let max_runs = number_in_range (codes "max-runs") 1 549755813888 1000000 rows (lit≤ tt) (lit≤ tt) found.max_runs in
     (workers.0, workers.1, max_runs.0, max_runs.1)
 
-pair_rows : (o : Option (Text × List Row)) (rows given : List Row) (name : Text) → option_map (λ p. p.1) o ≡ Some rows → o ≡ Some (name, given) → rows ≡ given
+pub pair_rows : (o : Option (Text × List Row)) (rows given : List Row) (name : Text) → option_map (λ p. p.1) o ≡ Some rows → o ≡ Some (name, given) → rows ≡ given
 pair_rows o rows given name left right = some_rows rows given (sym left ∙ ap (option_map (λ p. p.1)) right)
   where
     some_rows : (a b : List Row) → Some a ≡ Some b → a ≡ b
@@ -312,14 +310,3 @@ found_of_taken words o rows taken given is =
     let names = taken_names_run words taken in
     let same : rows ≡ names.rows = pair_rows o rows names.rows (codes "run") is (given ∙ names.given) in
     subst IsRunFound (sym same) (run_found names.rows names.pass)
-
--- ---- one command
-
-run_same : (words : List Text) (a b : RunOptions) → Gives words (Run a) → Gives words (Run b) → Run a ≡ Run b
-unfolding Gives
-run_same words a b left right =
-    let rows : left.0 ≡ right.0 = pair_rows (given_by words) left.0 right.0 (codes "run") (ap (option_map (λ p. p.1)) left.1) right.1 in
-    ap Run (left.2 ∙ ap run_options rows ∙ sym right.2)
-
-pub one_given : OneCommand
-one_given words (Run a) (Run b) left right = run_same words a b left right

@@ -1,5 +1,5 @@
 -- The command that words give, with its options.
-use Rattle.std.specs.Prelude.{◌≡◌, ◌≤◌, ℕ, Bool, false, List, codes, Option, Some}
+use Rattle.std.specs.Prelude.{◌≡◌, ◌≤◌, ℕ, Bool, false, IsTrue, List, codes, Option, Some}
 use Rattle.std.specs.Option.{option_map_or}
 use Rattle.std.specs.Str.{bytes_eq}
 use Rattle.std.specs.Str.Parse.{digits_value, without_leading_sign}
@@ -7,7 +7,7 @@ use Rattle.clap.specs.Words.{Row, Text, first_of, subcommand_of}
 use Rattle.pk_command.specs.declared.asked.Command.{Command}
 use Rattle.pk_command.specs.declared.asked.Command.TheVariants.{Run}
 use Rattle.pk_command.specs.declared.asked.RunOptions.{RunOptions}
-use Rattle.pk_command.specs.CommandLine.{pikos_app}
+use Rattle.pk_command.specs.CommandLine.{is_taken, pikos_app}
 
 -- the command that the words name, and what they give of its options
 abbrev pub given_by : List Text → Option (Text × List Row)
@@ -32,9 +32,9 @@ run_options rows = record {
   points = is_set (codes "points") rows;
 }
 
--- the words give the command
-unfoldable pub Gives : List Text → Command → Type 0
-Gives words (Run options) = (rows : List Row) × (given_by words ≡ Some (codes "run", rows)) × (options ≡ run_options rows)
+-- the words are taken, and ask for the command
+unfoldable pub AsksFor : List Text → Command → Type 0
+AsksFor words (Run options) = IsTrue (is_taken words) × ((rows : List Row) × ((given_by words ≡ Some (codes "run", rows)) × (options ≡ run_options rows)))
 
 -- each number lies in its option's range
 abbrev pub IsInRange : Command → Type 0

@@ -1,18 +1,18 @@
 // Laws of the command line.
 
-ghost use Rattle.pk_command.specs.Laws.{OneCommand, RunIsTaken, TakenGivesCommand};
+ghost use Rattle.pk_command.specs.Laws.{OneCommand, RunIsTaken, TakenAsks};
 
-/// The word `run` alone is taken, and gives every default.
+/// The word `run` alone asks for a run with every default.
 pub fn run_is_taken()
     ensures { RunIsTaken }
 {}
 
-/// Words that are taken give a command.
-pub fn taken_gives_command()
-    ensures { TakenGivesCommand }
+/// Words that are taken ask for a command.
+pub fn taken_asks()
+    ensures { TakenAsks }
 {}
 
-/// Words give at most one command.
+/// Words ask for at most one command.
 pub fn one_command()
     ensures { OneCommand }
 {}

@@ -9,5 +9,5 @@ mod reading;
 mod tests;
 
 pub use asked::{Command, RunOptions, WordsError};
-pub use laws::{one_command, run_is_taken, taken_gives_command};
+pub use laws::{one_command, run_is_taken, taken_asks};
 pub use reading::read_words;

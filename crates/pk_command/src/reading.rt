@@ -1,9 +1,9 @@
 // The words that the definition takes, and what they give.
 
-ghost use Rattle.std.specs.Prelude.{◌≡◌, [], IfOk, OnOk, IsTrue, false, codes, map, string_bytes};
+ghost use Rattle.std.specs.Prelude.{◌≡◌, [], IfOk, OnOk, false, codes, map, string_bytes};
 ghost use Rattle.clap.specs.Words.{fault_of, found_of, rows_of, subcommand_rows_of};
 ghost use Rattle.pk_command.specs.CommandLine.{is_taken, pikos_app};
-ghost use Rattle.pk_command.specs.Given.{Gives, IsInRange, given_by, is_set, number_of, run_options as options_of};
+ghost use Rattle.pk_command.specs.Given.{AsksFor, IsInRange, given_by, is_set, number_of, run_options as options_of};
 ghost use Rattle.pk_command.specs.Found.{IsFlagFound, IsNumberFound, IsRunFound};
 
 use crate::asked::{Command, RunOptions, WordsError};
@@ -58,14 +58,13 @@ fn run_options(found: &ArgMatches<'_>) -> RunOptions
     }
 }
 
-/// Reads the words after the program's name. With no memory for it, words that aren't taken may give `Memory` too.
+/// Reads the words after the program's name. Without memory for it, words that aren't taken too may give `Memory`.
 pub fn read_words(alloc: Global, words: &[String]) -> Result<Command, WordsError>
-    // Only words that the definition takes give a command, and it is the one with the options that they give.
-    ensures taken { OnOk result (IsTrue (is_taken (map string_bytes words.now))) }
-    ensures command { IfOk result (Gives (map string_bytes words.now)) }
+    // Only words that are taken give a command, the one that they ask for.
+    ensures command { IfOk result (AsksFor (map string_bytes words.now)) }
     ensures range { IfOk result IsInRange }
 
-    // Usage is told only of words that the definition doesn't take.
+    // Usage is told only of words that aren't taken.
     ensures usage { result ≡ Err WordsError.Usage → is_taken (map string_bytes words.now) ≡ false }
 {
     let matches = matches_in(alloc, words)?;
