@@ -1,6 +1,6 @@
 // The command.
 
-ghost use Rattle.std.specs.Prelude.{◌≡◌, ◌≢◌, ◌⊎◌, ◌≤◌, ◌<◌, ◌^◌, ℕ, List, map, length, string_bytes, IfOk, IfErr, IfSome, OnOk, MatchOption, false};
+ghost use Rattle.std.specs.Prelude.{◌≡◌, ◌≢◌, ◌⊎◌, ◌≤◌, ◌<◌, ◌^◌, ℕ, List, map, length, string_bytes, IfOk, IfErr, IfSome, OnOk, MatchOption, true, false};
 ghost use Rattle.std.specs.Io.KnownBytes.{Keeps, IsAtEnd};
 ghost use Rattle.pk_command.specs.CommandLine.{is_taken};
 ghost use Rattle.pk_command.specs.Given.{AsksFor};
@@ -83,6 +83,19 @@ fn answer(alloc: Global, options: RunOptions, text: &[u8]) -> Result<(Vec<u8>, u
     }
 }
 
+// The options that the words ask for.
+fn run_options(alloc: Global, words: &[String]) -> Result<RunOptions, WordsError>
+    ensures taken { OnOk result (is_taken (map string_bytes words.now) ≡ true) }
+    ensures asked { IfOk result (λ options. AsksFor (map string_bytes words.now) (Command.Run options)) }
+    ensures range { IfOk result (λ options. options.max_runs ≤ 549755813888) }
+    ensures usage { result ≡ Err WordsError.Usage → is_taken (map string_bytes words.now) ≡ false }
+{
+    match read_words(alloc, words) {
+        Ok(Command::Run(options)) => Ok(options),
+        Err(error) => Err(error),
+    }
+}
+
 // What `answer` gives for the source's text. It has no sink, so it writes nothing.
 fn make<S: Source>(alloc: Global, words: &[String], src: &mut S) -> Result<(Vec<u8>, u64), Status>
     ensures made { IfSome (asked_text (map string_bytes words.now) (S.left src.old)) (λ text. IfOk result (λ made.
@@ -96,8 +109,8 @@ fn make<S: Source>(alloc: Global, words: &[String], src: &mut S) -> Result<(Vec<
     ensures whole { OnOk result (IsAtEnd (S.left src.new)) }
     ensures fault { result ≡ Err Status.ReadFault → Rose (S.faults src.old) (S.faults src.new) }
 {
-    let options = match read_words(alloc, words) {
-        Ok(Command::Run(options)) => options,
+    let options = match run_options(alloc, words) {
+        Ok(options) => options,
         Err(WordsError::Usage) => return Err(Status::Usage),
         Err(WordsError::Memory) => return Err(Status::Memory),
     };
