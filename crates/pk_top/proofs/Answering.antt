@@ -37,7 +37,7 @@ one_report {g} {options} p q =
     )
 
 not_taken : (words : List (List ℕ)) (options : RunOptions) → AsksFor words (Run options) → is_taken words ≡ false → ⊥
-not_taken words options asks no = let taken = asked_taken words (Run options) asks in cc
+not_taken words options asks refused = let taken = asked_taken words (Run options) asks in cc
 
 too_long : {words : List (List ℕ)} {text : List ℕ} {options : RunOptions} → IsAsked words text options → text_limit < length text → ⊥
 too_long asked long = omega (arith, asked.short, long)

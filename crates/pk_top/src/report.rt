@@ -500,6 +500,8 @@ pub fn report(
     let unreachable = unreachable_count(&entries);
     let first = first_line(alloc, graph.points().len(), brackets.len())?;
     let last = last_line(alloc, safe, unknown, unreachable)?;
-    let bytes = report_lines(alloc, graph, brackets, cells, points, &entries, first, &last)?;
+    let bytes = report_lines(
+        alloc, graph, brackets, cells, points, &entries, first, &last,
+    )?;
     Ok((bytes, unknown as u64))
 }

@@ -276,9 +276,11 @@ fn other_words_are_usage(rt: HostRuntime) -> Result<(), Fail> {
     Ok(())
 }
 
-const REPORT: &str = "pikos 1 entry main points 8 elements 10\nhead 2 main 1:24\n  i [0,10] 1Z+0\naccess main 1:38 overflow safe\nresult safe 1 unknown 0 unreachable 0\n";
+const REPORT: &str =
+    "pikos 1 entry main points 8 elements 10\nhead 2 main 1:24\n  i [0,10] 1Z+0\naccess main 1:38 overflow safe\nresult safe 1 unknown 0 unreachable 0\n";
 
-const EVERY_POINT: &str = "pikos 1 entry main points 8 elements 10\npoint 0 main 1:15\npoint 1 main 1:20\n  i [0,0] 0Z+0\nhead 2 main 1:24\n  i [0,10] 1Z+0\npoint 3 main 1:24\n  i [0,9] 1Z+0\npoint 4 main 1:35\n  i [1,10] 1Z+0\npoint 5 main 1:24\n  i [10,10] 0Z+10\npoint 6 main 1:41\n  i [10,10] 0Z+10\npoint 7 main 1:15\naccess main 1:38 overflow safe\nresult safe 1 unknown 0 unreachable 0\n";
+const EVERY_POINT: &str =
+    "pikos 1 entry main points 8 elements 10\npoint 0 main 1:15\npoint 1 main 1:20\n  i [0,0] 0Z+0\nhead 2 main 1:24\n  i [0,10] 1Z+0\npoint 3 main 1:24\n  i [0,9] 1Z+0\npoint 4 main 1:35\n  i [1,10] 1Z+0\npoint 5 main 1:24\n  i [10,10] 0Z+10\npoint 6 main 1:41\n  i [10,10] 0Z+10\npoint 7 main 1:15\naccess main 1:38 overflow safe\nresult safe 1 unknown 0 unreachable 0\n";
 
 // The upper bounds of the head are 0, 1, 2, 9 and 10: five runs are enough.
 #[test]
