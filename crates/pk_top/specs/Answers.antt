@@ -1,5 +1,9 @@
 -- What is answered to the words and a text.
-use Rattle.std.specs.Prelude.{◌≡◌, ℕ, ◌<◌, ◌≤◌, List, [], ◌∷◌, codes, length, map, take, Bool, false, Option, Some, IsTrue, if◌then◌else◌}
+use Rattle.std.specs.Prelude.{◌≡◌, ℕ, ◌<◌, ◌≤◌, List, [], length, map, take, false, Option, Some, IsTrue, if◌then◌else◌}
+use Rattle.pk_command.specs.declared.asked.RunOptions.{RunOptions}
+use Rattle.pk_command.specs.declared.asked.Command.TheVariants.{Run}
+use Rattle.pk_command.specs.CommandLine.{is_taken}
+use Rattle.pk_command.specs.Given.{AsksFor}
 use Rattle.pk_iterate.specs.Answer.{Over, IsResult}
 use Rattle.pk_iterate.specs.Outcome.{Outcome}
 use Rattle.pk_top.specs.declared.lex.Token.{Token}
@@ -11,7 +15,6 @@ use Rattle.pk_top.specs.declared.status.Refusal.TheVariants.{Unsupported}
 use Rattle.pk_ctypes.specs.declared.words.Construct.TheVariants.{Later}
 use Rattle.pk_ctypes.specs.declared.words.Quantity.TheVariants.{Text}
 use Rattle.pk_ctypes.specs.Places.{start_of_text}
-use Rattle.pk_top.specs.Words.{same}
 use Rattle.pk_top.specs.Tokens.{IsLexed}
 use Rattle.pk_top.specs.Grammar.{Derives}
 use Rattle.pk_top.specs.Scopes.{is_scoped}
@@ -26,16 +29,6 @@ use Rattle.pk_top.specs.Reports.{report_text, unknown_count}
 abbrev pub text_limit : ℕ
 text_limit = 4194304
 
--- how often an element may be run
-abbrev pub run_limit : ℕ
-run_limit = 1000000
-
--- the command is the one word `run`
-abbrev pub is_command : List (List ℕ) → Bool
-is_command [] = false
-is_command (word ∷ []) = same word (codes "run")
-is_command (word ∷ (other ∷ words)) = false
-
 -- the text has this tree: its tokens derive it, and each name is declared before it is used
 pub record IsAccepted (text : List ℕ) (u : Unit') : Type 0 where
   pub tokens : List Token
@@ -44,43 +37,43 @@ pub record IsAccepted (text : List ℕ) (u : Unit') : Type 0 where
   pub scoped : IsTrue (is_scoped text u)
 
 -- some element of the graph is run more often than the limit
-abbrev pub IsOver : FlowGraph → Type 0
-IsOver g = Over (behaviour_of g) (order_of g) (elements g) run_limit
+abbrev pub IsOver : FlowGraph → (max_runs : ℕ) → Type 0
+IsOver g max_runs = Over (behaviour_of g) (order_of g) (elements g) max_runs
 
 -- the states of the points, of an outcome
 abbrev pub states_of : FlowGraph → Outcome Cell → List AbstractState
 states_of g it = map state_of (take (length g.points) it.cells)
 
 -- the report on the result of the recursive iteration over the graph's order, and its number of unknown verdicts
-pub record IsReport (g : FlowGraph) (unknown : ℕ) (bytes : List ℕ) : Type 0 where
+pub record IsReport (g : FlowGraph) (options : RunOptions) (unknown : ℕ) (bytes : List ℕ) : Type 0 where
   pub outcome : Outcome Cell
-  pub result : IsResult (behaviour_of g) (order_of g) (elements g) run_limit outcome
+  pub result : IsResult (behaviour_of g) (order_of g) (elements g) options.max_runs outcome
   pub counted : unknown ≡ unknown_count g (states_of g outcome)
-  pub told : bytes ≡ report_text g (states_of g outcome)
+  pub told : bytes ≡ report_text options.points g (states_of g outcome)
 
--- the words are the command, and the text is not too long
-pub record IsAsked (words : List (List ℕ)) (text : List ℕ) : Type 0 where
-  pub command : IsTrue (is_command words)
+-- the words ask for a run with these options, and the text is not too long
+pub record IsAsked (words : List (List ℕ)) (text : List ℕ) (options : RunOptions) : Type 0 where
+  pub command : AsksFor words (Run options)
   pub short : length text ≤ text_limit
 
 -- The answer to the words and a text, status by status. Nothing is written but a report.
 abbrev pub IsAnswer : List (List ℕ) → List ℕ → Status → List ℕ → Type 0
 IsAnswer words text (Ok unknown) bytes =
-    IsAsked words text × ((u : Unit') × (IsAccepted text u × IsReport (graph_of text u) unknown bytes))
-IsAnswer words text Usage bytes = (is_command words ≡ false) × (bytes ≡ [])
+    (options : RunOptions) × (IsAsked words text options × ((u : Unit') × (IsAccepted text u × IsReport (graph_of text u) options unknown bytes)))
+IsAnswer words text Usage bytes = (is_taken words ≡ false) × (bytes ≡ [])
 IsAnswer words text (Refused refusal) bytes =
-    IsAsked words text × ((u : Unit') → IsAccepted text u → ⊥) × (refusal ≡ Unsupported Later start_of_text) × (bytes ≡ [])
+    ((options : RunOptions) × IsAsked words text options) × ((u : Unit') → IsAccepted text u → ⊥) × (refusal ≡ Unsupported Later start_of_text) × (bytes ≡ [])
 IsAnswer words text (Limit what number) bytes =
-    IsTrue (is_command words) × (text_limit < length text) × (what ≡ Text) × (number ≡ text_limit) × (bytes ≡ [])
+    ((options : RunOptions) × AsksFor words (Run options)) × (text_limit < length text) × (what ≡ Text) × (number ≡ text_limit) × (bytes ≡ [])
 IsAnswer words text (RunLimit max_runs) bytes =
-    IsAsked words text × ((u : Unit') × (IsAccepted text u × IsOver (graph_of text u))) × (max_runs ≡ run_limit) × (bytes ≡ [])
+    ((options : RunOptions) × (IsAsked words text options × ((u : Unit') × (IsAccepted text u × IsOver (graph_of text u) options.max_runs)) × (max_runs ≡ options.max_runs))) × (bytes ≡ [])
 IsAnswer words text ReadFault bytes = ⊥
 IsAnswer words text (WriteFault sent) bytes = ⊥
 IsAnswer words text Memory bytes = ⊥
 
--- the text that the words ask about: the source's, where it tells its bytes; words that are no command ask about none
+-- the text that the words ask about: the source's, where it tells its bytes; words that aren't taken ask about none
 abbrev pub asked_text : List (List ℕ) → Option (List ℕ) → Option (List ℕ)
-asked_text words left = if is_command words then left else Some []
+asked_text words left = if is_taken words then left else Some []
 
 -- there is at most one answer
 abbrev pub OneAnswer : Type 0

@@ -5,7 +5,7 @@ use Rattle.std.specs.Io.KnownBytes.{Appends, Keeps}
 use Rattle.pk_top.specs.declared.status.Status.{Status}
 use Rattle.pk_top.specs.declared.status.Status.TheVariants.{Ok, Usage, Refused, Limit, RunLimit, ReadFault, WriteFault, Memory}
 use Rattle.pk_top.specs.FlowGraph.{FlowGraph}
-use Rattle.pk_top.specs.Answers.{IsAnswer, IsOver, run_limit}
+use Rattle.pk_top.specs.Answers.{IsAnswer, IsOver}
 
 abbrev pub IsSuccess : Status → Type 0
 IsSuccess (Ok unknown) = Unit {0}
@@ -65,15 +65,15 @@ IsStopped words text (Limit what number) = IsAnswer words text (Limit what numbe
 IsStopped words text (RunLimit max_runs) = IsAnswer words text (RunLimit max_runs) []
 
 -- the analysis of a graph ends without a report only at the run limit, or for want of memory
-abbrev pub EndsAnalysis : FlowGraph → Status → Type 0
-EndsAnalysis g (RunLimit max_runs) = (max_runs ≡ run_limit) × IsOver g
-EndsAnalysis g Memory = Unit {0}
-EndsAnalysis g (Ok unknown) = ⊥
-EndsAnalysis g Usage = ⊥
-EndsAnalysis g (Refused refusal) = ⊥
-EndsAnalysis g (Limit what number) = ⊥
-EndsAnalysis g ReadFault = ⊥
-EndsAnalysis g (WriteFault sent) = ⊥
+abbrev pub EndsAnalysis : FlowGraph → (most : ℕ) → Status → Type 0
+EndsAnalysis g most (RunLimit max_runs) = IsOver g most × (max_runs ≡ most)
+EndsAnalysis g most Memory = Unit {0}
+EndsAnalysis g most (Ok unknown) = ⊥
+EndsAnalysis g most Usage = ⊥
+EndsAnalysis g most (Refused refusal) = ⊥
+EndsAnalysis g most (Limit what number) = ⊥
+EndsAnalysis g most ReadFault = ⊥
+EndsAnalysis g most (WriteFault sent) = ⊥
 
 -- a status that a text alone can have, without a report
 abbrev pub IsRefusal : Status → Type 0

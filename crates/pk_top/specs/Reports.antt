@@ -1,15 +1,14 @@
 -- The text of a report.
 use Rattle.std.specs.Prelude.{ℕ, Bool, true, false, List, [], ◌++◌, codes, length, map, take, drop, count_by, Some, None, slice_get, option_map, unwrap_or, if◌then◌else◌}
 use Rattle.std.specs.Fmt.{decimal, signed_decimal}
-use Rattle.std.specs.List.{flat_map, zip}
+use Rattle.std.specs.List.{flat_map, range_with_len, zip}
 use Rattle.std.specs.Ordering.{int_eq}
-use Rattle.pk_top.specs.declared.graph.Bracket.{Bracket}
 use Rattle.pk_top.specs.declared.verdict.Verdict.{Verdict}
 use Rattle.pk_top.specs.declared.verdict.Verdict.TheVariants.{Safe, Unknown, Unreachable}
 use Rattle.pk_ctypes.specs.Places.{pos_text}
 use Rattle.pk_top.specs.Ranges.{Range}
 use Rattle.pk_top.specs.States.{AbstractState}
-use Rattle.pk_top.specs.FlowGraph.{FlowGraph, brackets, elements}
+use Rattle.pk_top.specs.FlowGraph.{FlowGraph, brackets, elements, is_head}
 use Rattle.pk_top.specs.Verdicts.{Access, accesses_of, state_at, verdict_of}
 
 -- `mZ+r`: the constant where there is one number, and else every number
@@ -25,11 +24,20 @@ abbrev pub value_lines : List (List ℕ) → ℕ → AbstractState → List ℕ
 value_lines names visible None = codes "  unreachable\n"
 value_lines names visible (Some values) = flat_map value_line (zip (take visible names) (drop 1 values))
 
--- `head N main L:C`, and the values there
-abbrev pub head_lines : FlowGraph → List AbstractState → Bracket → List ℕ
-head_lines g states l = unwrap_or (option_map (λ p.
-    codes "head " ++ decimal l.head ++ codes " main " ++ pos_text p.at ++ codes "\n" ++ value_lines g.names p.visible (state_at states l.head))
-    (slice_get g.points l.head)) []
+abbrev pub point_word : (head : Bool) → List ℕ
+point_word true = codes "head "
+point_word false = codes "point "
+
+-- `head N main L:C`, or `point N main L:C` where the point is no head, and the values there
+abbrev pub point_lines : FlowGraph → List AbstractState → ℕ → List ℕ
+point_lines g states v = unwrap_or (option_map (λ p.
+    point_word (is_head g v) ++ decimal v ++ codes " main " ++ pos_text p.at ++ codes "\n" ++ value_lines g.names p.visible (state_at states v))
+    (slice_get g.points v)) []
+
+-- the lines of the heads, or of every point
+abbrev pub told_lines : (points : Bool) → FlowGraph → List AbstractState → List ℕ
+told_lines true g states = flat_map (point_lines g states) (range_with_len 0 (length g.points))
+told_lines false g states = flat_map (λ l. point_lines g states l.head) (brackets g)
 
 abbrev pub verdict_text : Verdict → List ℕ
 verdict_text Safe = codes "safe"
@@ -69,5 +77,5 @@ last_line verdicts = codes "result safe " ++ decimal (count_by is_safe verdicts)
     ++ codes " unreachable " ++ decimal (count_by is_unreachable verdicts) ++ codes "\n"
 
 -- the report on a graph, given the state of each point
-abbrev pub report_text : FlowGraph → List AbstractState → List ℕ
-report_text g states = first_line g ++ flat_map (head_lines g states) (brackets g) ++ flat_map (access_line states) (accesses_of g) ++ last_line (verdicts_of g states)
+abbrev pub report_text : (points : Bool) → FlowGraph → List AbstractState → List ℕ
+report_text points g states = first_line g ++ told_lines points g states ++ flat_map (access_line states) (accesses_of g) ++ last_line (verdicts_of g states)

@@ -71,8 +71,8 @@ fn incoming(alloc: Global, graph: &Graph) -> Result<Vec<Vec<u32>>, AllocError>
     Ok(lists)
 }
 
-// For each point, whether it is a head.
-fn heads(alloc: Global, graph: &Graph, brackets: &[Bracket]) -> Result<Vec<bool>, AllocError>
+/// For each point, whether it is a head.
+pub fn heads(alloc: Global, graph: &Graph, brackets: &[Bracket]) -> Result<Vec<bool>, AllocError>
     requires within { IsWithin graph.now }
     requires brackets { brackets.now ≡ brackets_of graph.now }
     ensures { IfOk result (λ heads. heads.items ≡ heads_of graph.now) }

@@ -1,20 +1,21 @@
 // The text of a report.
 
-ghost use Rattle.std.specs.Prelude.{◌≡◌, ◌<◌, ◌≤◌, ◌^◌, ◌+◌, ◌++◌, ℕ, OnOk, IfOk, IfSome, All, Some, None, length, map, take, drop, codes, string_bytes, option_map, count_by};
+ghost use Rattle.std.specs.Prelude.{◌≡◌, true, false, ◌<◌, ◌≤◌, ◌^◌, ◌+◌, ◌++◌, ℕ, OnOk, IfOk, IfSome, All, Some, None, length, map, take, drop, codes, string_bytes, option_map, count_by};
 ghost use Rattle.std.specs.List.{flat_map, zip};
 ghost use Rattle.std.specs.Fmt.{decimal, signed_decimal};
 ghost use Rattle.std.specs.Ordering.{int_eq};
-ghost use Rattle.pk_top.specs.FlowGraph.{brackets as brackets_of, elements, IsWithin, InstrWithin, ConditionWithin, TreeWithin, OperandWithin};
+ghost use Rattle.pk_top.specs.FlowGraph.{brackets as brackets_of, elements, is_head, IsWithin, InstrWithin, ConditionWithin, TreeWithin, OperandWithin};
 ghost use Rattle.pk_top.specs.Ranges.{IsIntRange};
 ghost use Rattle.pk_ctypes.specs.Places.{pos_text};
 ghost use Rattle.pk_top.specs.Transfers.{raw_sum as raw_sum_of, clamped_sum};
 ghost use Rattle.pk_top.specs.Analyses.{state_of as state_of_cell};
 ghost use Rattle.pk_top.specs.Verdicts.{overflow_if, state_at, tree_accesses, condition_accesses, instr_accesses, accesses_of};
-ghost use Rattle.pk_top.specs.Reports.{value_line, head_lines, report_text, unknown_count as unknown_count_of, is_safe as is_safe_verdict, is_unknown as is_unknown_verdict, is_unreachable as is_unreachable_verdict};
+ghost use Rattle.pk_top.specs.Reports.{value_line, point_word, point_lines, told_lines, report_text, unknown_count as unknown_count_of, is_safe as is_safe_verdict, is_unknown as is_unknown_verdict, is_unreachable as is_unreachable_verdict};
+ghost use Rattle.pk_top.specs.Indexes.{heads_of};
 ghost use Rattle.pk_top.specs.Answers.{states_of};
 ghost use Rattle.pk_top.specs.Entries.{bounds_text_of, entry_in, entry_of, entry_line};
 
-use crate::analysis::Cell;
+use crate::analysis::{Cell, heads};
 use crate::graph::{Bracket, Condition, Graph, Instr, Term, Tree};
 use crate::interval::Interval;
 use crate::names::Names;
@@ -118,10 +119,26 @@ fn values_at(cells: &Cells<Cell>, point: u32) -> Option<&[Interval]>
     state_of(cell)
 }
 
-fn head_text(alloc: Global, head: u32) -> Result<String, AllocError>
-    ensures { IfOk result (λ text. string_bytes text ≡ codes "head " ++ decimal head ++ codes " main ") }
+fn head_text(alloc: Global, point: u32) -> Result<String, AllocError>
+    ensures { IfOk result (λ text. string_bytes text ≡ codes "head " ++ decimal point ++ codes " main ") }
 {
-    format!(in alloc; "head {head} main ")
+    format!(in alloc; "head {point} main ")
+}
+
+fn plain_text(alloc: Global, point: u32) -> Result<String, AllocError>
+    ensures { IfOk result (λ text. string_bytes text ≡ codes "point " ++ decimal point ++ codes " main ") }
+{
+    format!(in alloc; "point {point} main ")
+}
+
+fn point_text(alloc: Global, point: u32, head: bool) -> Result<String, AllocError>
+    ensures { IfOk result (λ text. string_bytes text ≡ point_word head ++ decimal point ++ codes " main ") }
+{
+    if head {
+        head_text(alloc, point)
+    } else {
+        plain_text(alloc, point)
+    }
 }
 
 fn place_text(alloc: Global, at: Pos) -> Result<String, AllocError>
@@ -130,30 +147,39 @@ fn place_text(alloc: Global, at: Pos) -> Result<String, AllocError>
     format!(in alloc; "{at}\n")
 }
 
-// Writes the line of a head at a place.
-fn write_heading(alloc: Global, bytes: &mut Vec<u8>, head: u32, at: Pos) -> Result<(), AllocError>
-    ensures { OnOk result (bytes.new.items ≡ bytes.old.items ++ (codes "head " ++ decimal head ++ codes " main " ++ pos_text at ++ codes "\n")) }
+// Writes the line of a point at a place.
+fn write_heading(
+    alloc: Global,
+    bytes: &mut Vec<u8>,
+    point: u32,
+    head: bool,
+    at: Pos,
+) -> Result<(), AllocError>
+    ensures { OnOk result (bytes.new.items ≡ bytes.old.items ++ (point_word head ++ decimal point ++ codes " main " ++ pos_text at ++ codes "\n")) }
 {
-    let text = head_text(alloc, head)?;
+    let text = point_text(alloc, point, head)?;
     write_text(bytes, &text)?;
     let text = place_text(alloc, at)?;
     write_text(bytes, &text)
 }
 
-fn write_head(
+// Writes what is known at a point.
+fn write_point(
     alloc: Global,
     bytes: &mut Vec<u8>,
     graph: &Graph,
     cells: &Cells<Cell>,
-    it: Bracket,
+    number: u32,
+    head: bool,
 ) -> Result<(), AllocError>
-    requires head { it.head < length graph.now.points }
+    requires point { number < length graph.now.points }
+    requires head { is_head graph.now number ≡ head }
     requires cells { length graph.now.points ≤ length cells.now.cells }
-    ensures { OnOk result (bytes.new.items ≡ bytes.old.items ++ head_lines graph.now (states_of graph.now cells.now) it) }
+    ensures { OnOk result (bytes.new.items ≡ bytes.old.items ++ point_lines graph.now (states_of graph.now cells.now) number) }
 {
-    let point = graph.points()[it.head as usize];
-    write_heading(alloc, bytes, it.head, point.at)?;
-    match values_at(cells, it.head) {
+    let point = graph.points()[number as usize];
+    write_heading(alloc, bytes, number, head, point.at)?;
+    match values_at(cells, number) {
         Some(values) => write_values(alloc, bytes, graph.names(), point.visible as usize, values),
         None => write_text(bytes, "  unreachable\n"),
     }
@@ -288,14 +314,56 @@ fn write_heads(
     cells: &Cells<Cell>,
     brackets: &[Bracket],
 ) -> Result<(), AllocError>
-    requires heads { All (λ l. l.head < length graph.now.points) brackets.now }
+    requires within { IsWithin graph.now }
+    requires brackets { brackets.now ≡ brackets_of graph.now }
     requires cells { length graph.now.points ≤ length cells.now.cells }
-    ensures { OnOk result (bytes.new.items ≡ bytes.old.items ++ flat_map (head_lines graph.now (states_of graph.now cells.now)) brackets.now) }
+    ensures { OnOk result (bytes.new.items ≡ bytes.old.items ++ told_lines false graph.now (states_of graph.now cells.now)) }
 {
     for it in brackets {
-        write_head(alloc, bytes, graph, cells, *it)?;
+        write_point(alloc, bytes, graph, cells, it.head, true)?;
     }
     Ok(())
+}
+
+fn write_all_points(
+    alloc: Global,
+    bytes: &mut Vec<u8>,
+    graph: &Graph,
+    cells: &Cells<Cell>,
+    heads: &[bool],
+) -> Result<(), AllocError>
+    requires small { elements graph.now < 2 ^ 32 }
+    requires heads { heads.now ≡ heads_of graph.now }
+    requires cells { length graph.now.points ≤ length cells.now.cells }
+    ensures { OnOk result (bytes.new.items ≡ bytes.old.items ++ told_lines true graph.now (states_of graph.now cells.now)) }
+{
+    for (number, head) in heads.iter().enumerate() {
+        write_point(alloc, bytes, graph, cells, number as u32, *head)?;
+    }
+    Ok(())
+}
+
+// Writes what is known at the heads, or at every point.
+fn write_points(
+    alloc: Global,
+    bytes: &mut Vec<u8>,
+    graph: &Graph,
+    cells: &Cells<Cell>,
+    brackets: &[Bracket],
+    points: bool,
+) -> Result<(), AllocError>
+    requires within { IsWithin graph.now }
+    requires small { elements graph.now < 2 ^ 32 }
+    requires brackets { brackets.now ≡ brackets_of graph.now }
+    requires cells { length graph.now.points ≤ length cells.now.cells }
+    ensures { OnOk result (bytes.new.items ≡ bytes.old.items ++ told_lines points graph.now (states_of graph.now cells.now)) }
+{
+    if points {
+        let heads = heads(alloc, graph, brackets)?;
+        write_all_points(alloc, bytes, graph, cells, &heads)
+    } else {
+        write_heads(alloc, bytes, graph, cells, brackets)
+    }
 }
 
 fn entry_text(alloc: Global, at: Pos, verdict: Verdict) -> Result<String, AllocError>
@@ -393,33 +461,37 @@ fn report_lines(
     graph: &Graph,
     brackets: &[Bracket],
     cells: &Cells<Cell>,
+    points: bool,
     entries: &[Entry],
     first: String,
     last: &str,
 ) -> Result<Vec<u8>, AllocError>
-    requires heads { All (λ l. l.head < length graph.now.points) brackets.now }
+    requires within { IsWithin graph.now }
+    requires small { elements graph.now < 2 ^ 32 }
+    requires brackets { brackets.now ≡ brackets_of graph.now }
     requires cells { length graph.now.points ≤ length cells.now.cells }
-    ensures { IfOk result (λ bytes. bytes.items ≡ string_bytes first ++ flat_map (head_lines graph.now (states_of graph.now cells.now)) brackets.now ++ flat_map entry_line entries.now ++ last.now) }
+    ensures { IfOk result (λ bytes. bytes.items ≡ string_bytes first ++ told_lines points graph.now (states_of graph.now cells.now) ++ flat_map entry_line entries.now ++ last.now) }
 {
     let mut bytes = first.into_bytes();
-    write_heads(alloc, &mut bytes, graph, cells, brackets)?;
+    write_points(alloc, &mut bytes, graph, cells, brackets, points)?;
     write_entries(alloc, &mut bytes, entries)?;
     write_text(&mut bytes, last)?;
     Ok(bytes)
 }
 
-/// The report's bytes, and its number of unknown verdicts.
+/// The report's bytes, and its number of unknown verdicts. With `points` it tells every point, and else the heads alone.
 pub fn report(
     alloc: Global,
     graph: &Graph,
     brackets: &[Bracket],
     cells: &Cells<Cell>,
+    points: bool,
 ) -> Result<(Vec<u8>, u64), AllocError>
     requires within { IsWithin graph.now }
     requires small { elements graph.now < 2 ^ 32 }
     requires brackets { brackets.now ≡ brackets_of graph.now }
     requires cells { length graph.now.points ≤ length cells.now.cells }
-    ensures bytes { IfOk result (λ it. it.0.items ≡ report_text graph.now (states_of graph.now cells.now)) }
+    ensures bytes { IfOk result (λ it. it.0.items ≡ report_text points graph.now (states_of graph.now cells.now)) }
     ensures unknown { IfOk result (λ it. it.1 ≡ unknown_count_of graph.now (states_of graph.now cells.now)) }
 {
     let entries = entries(alloc, graph, cells)?;
@@ -428,6 +500,8 @@ pub fn report(
     let unreachable = unreachable_count(&entries);
     let first = first_line(alloc, graph.points().len(), brackets.len())?;
     let last = last_line(alloc, safe, unknown, unreachable)?;
-    let bytes = report_lines(alloc, graph, brackets, cells, &entries, first, &last)?;
+    let bytes = report_lines(
+        alloc, graph, brackets, cells, points, &entries, first, &last,
+    )?;
     Ok((bytes, unknown as u64))
 }

@@ -1,14 +1,10 @@
 // Tests over memory devices: texts with their reports, refusals, limits, and devices that fail.
 // The expected reports are those of an analyser written apart from this one.
 
-ghost use Rattle.std.specs.Prelude.{◌<◌, ◌≤◌};
+ghost use Rattle.std.specs.Prelude.{◌<◌};
 
-use crate::analysis::{Analysis, brackets};
-use crate::order::plan;
-use crate::top::graph_of_text;
 use crate::{Status, pikos};
 use pk_io::{MemSink, MemSource};
-use pk_iterate::{Solve, iterate};
 use std::alloc::Global;
 use std::test::Fail;
 
@@ -261,10 +257,8 @@ fn is_usage(alloc: Global, words: &str) -> Result<bool, Fail> {
 fn other_words_are_usage(rt: HostRuntime) -> Result<(), Fail> {
     for words in [
         "",
-        "run run",
-        "Run",
-        "runs",
         "order",
+        "run run",
         "run --workers 0",
         "run --workers 65",
         "gen --seed 1",
@@ -278,6 +272,39 @@ fn other_words_are_usage(rt: HostRuntime) -> Result<(), Fail> {
             &mut MemSource::new(Vec::new(rt.alloc()), 1, Vec::new(rt.alloc())),
             &mut MemSink::new(rt.alloc(), 1, Vec::new(rt.alloc()))
         ) == Status::Usage
+    );
+    Ok(())
+}
+
+const REPORT: &str =
+    "pikos 1 entry main points 8 elements 10\nhead 2 main 1:24\n  i [0,10] 1Z+0\naccess main 1:38 overflow safe\nresult safe 1 unknown 0 unreachable 0\n";
+
+const EVERY_POINT: &str =
+    "pikos 1 entry main points 8 elements 10\npoint 0 main 1:15\npoint 1 main 1:20\n  i [0,0] 0Z+0\nhead 2 main 1:24\n  i [0,10] 1Z+0\npoint 3 main 1:24\n  i [0,9] 1Z+0\npoint 4 main 1:35\n  i [1,10] 1Z+0\npoint 5 main 1:24\n  i [10,10] 0Z+10\npoint 6 main 1:41\n  i [10,10] 0Z+10\npoint 7 main 1:15\naccess main 1:38 overflow safe\nresult safe 1 unknown 0 unreachable 0\n";
+
+// The upper bounds of the head are 0, 1, 2, 9 and 10: five runs are enough.
+#[test]
+fn options_are_followed(rt: HostRuntime) -> Result<(), Fail> {
+    for (words, report, code, told) in [
+        ("run --workers 1", REPORT, 0, ""),
+        ("run --workers 2", REPORT, 0, ""),
+        ("run --workers=64", REPORT, 0, ""),
+        ("run --max-runs 5", REPORT, 0, ""),
+        ("run --max-runs 4", "", 4, "pikos: run limit 4"),
+        ("run --points --max-runs=1", "", 4, "pikos: run limit 1"),
+        ("run --points", EVERY_POINT, 0, ""),
+        ("run --max-runs 5 --points", EVERY_POINT, 0, ""),
+    ] {
+        let (got, bytes, line) = outcome(rt.alloc(), words, WORKED.as_bytes(), 9, NEVER, NEVER)?;
+        assert!(rt; got == code, "{words}: {got}");
+        assert!(rt; bytes.as_str() == report, "{words}: {bytes}");
+        assert!(rt; line.as_str() == told, "{words}: {line}");
+    }
+    let text = "int main(void){int i=5;while(i<5)i=i+1;return i;}";
+    let (_, bytes, _) = outcome(rt.alloc(), "run --points", text.as_bytes(), 9, NEVER, NEVER)?;
+    assert!(rt;
+        bytes.as_str()
+            == "pikos 1 entry main points 8 elements 10\npoint 0 main 1:15\npoint 1 main 1:20\n  i [5,5] 0Z+5\nhead 2 main 1:24\n  i [5,5] 0Z+5\npoint 3 main 1:24\n  unreachable\npoint 4 main 1:34\n  unreachable\npoint 5 main 1:24\n  i [5,5] 0Z+5\npoint 6 main 1:40\n  i [5,5] 0Z+5\npoint 7 main 1:15\naccess main 1:37 overflow unreachable\nresult safe 0 unknown 0 unreachable 1\n"
     );
     Ok(())
 }
@@ -307,28 +334,5 @@ fn a_text_may_have_so_many_bytes(rt: HostRuntime) -> Result<(), Fail> {
     text.push(b' ')?;
     let (code, bytes, line) = outcome(alloc, "run", &text, 9, NEVER, NEVER)?;
     assert!(rt; code == 4 && bytes.is_empty() && line.as_str() == "pikos: limit text 4194304");
-    Ok(())
-}
-
-// How the iteration over the worked text's graph fails with so many runs, if it does.
-fn failure(alloc: Global, most: u64) -> Result<Option<Solve>, Fail>
-    requires { most ≤ 100 }
-{
-    let graph = graph_of_text(alloc, WORKED.as_bytes())?.ok_or("refused")?;
-    let analysis = Analysis::new(alloc, &graph)?;
-    let loops = brackets(alloc, &graph)?;
-    let plan = plan(alloc, &graph, &loops)?;
-    match iterate(alloc, &analysis, &plan, most) {
-        Ok(_) => Ok(None),
-        Err(failure) => Ok(Some(failure)),
-    }
-}
-
-// The upper bounds of the head are 0, 1, 2, 9 and 10.
-#[test]
-fn five_runs_are_enough(rt: HostRuntime) -> Result<(), Fail> {
-    assert!(rt; failure(rt.alloc(), 5)?.is_none());
-    let limit = Some(Solve::RunLimit { element: 2, run: 5 });
-    assert!(rt; failure(rt.alloc(), 4)? == limit);
     Ok(())
 }

@@ -1,12 +1,14 @@
 // The command.
 
-ghost use Rattle.std.specs.Prelude.{◌≡◌, ◌≢◌, ◌⊎◌, ◌↔◌, ◌≤◌, ◌<◌, ◌^◌, ℕ, List, map, length, string_bytes, IfOk, IfErr, IfSome, OnOk, MatchOption, false, IsTrue};
+ghost use Rattle.std.specs.Prelude.{◌≡◌, ◌≢◌, ◌⊎◌, ◌≤◌, ◌<◌, ◌^◌, ℕ, List, map, length, string_bytes, IfOk, IfErr, IfSome, OnOk, MatchOption, true, false};
 ghost use Rattle.std.specs.Io.KnownBytes.{Keeps, IsAtEnd};
+ghost use Rattle.pk_command.specs.CommandLine.{is_taken};
+ghost use Rattle.pk_command.specs.Given.{AsksFor};
 ghost use Rattle.pk_io.specs.Causes.{Rose};
 ghost use Rattle.pk_top.specs.declared.ast.Unit.{Unit as Unit'};
 ghost use Rattle.pk_top.specs.FlowGraph.{elements, IsWithin};
 ghost use Rattle.pk_top.specs.Lowering.{graph_of};
-ghost use Rattle.pk_top.specs.Answers.{IsAccepted, IsReport, IsAnswer, OneAnswer, asked_text, is_command, text_limit};
+ghost use Rattle.pk_top.specs.Answers.{IsAccepted, IsReport, IsAnswer, OneAnswer, asked_text, text_limit};
 ghost use Rattle.pk_top.specs.Headline.{Answers, Gives, IsStop, IsStopped, IsSuccess, EndsAnalysis, IsRefusal};
 
 use crate::analysis::{Analysis, brackets};
@@ -17,6 +19,7 @@ use crate::order::plan;
 use crate::parse::parse;
 use crate::report::report;
 use crate::status::{Refusal, Status};
+use pk_command::{Command, RunOptions, WordsError, read_words};
 use pk_ctypes::{Construct, Pos, Quantity};
 use pk_io::{ReadError, Sink, Source, read_all, write_all};
 use pk_iterate::{Solve, iterate};
@@ -25,21 +28,8 @@ use std::alloc::{AllocError, Global};
 /// The greatest number of bytes of a text.
 pub const TEXT_LIMIT: usize = 4194304;
 
-/// How often an element may be run.
-pub const RUN_LIMIT: u64 = 1000000;
-
-// Whether the words are the command's.
-fn takes(words: &[String]) -> bool
-    ensures { result ≡ is_command (map string_bytes words.now) }
-{
-    match words {
-        [word] => word.as_str() == "run",
-        _ => false,
-    }
-}
-
-/// The graph of a text; none where the text is not accepted.
-pub fn graph_of_text(alloc: Global, text: &[u8]) -> Result<Option<Graph>, AllocError>
+// The graph of a text; none where the text is not accepted.
+fn graph_of_text(alloc: Global, text: &[u8]) -> Result<Option<Graph>, AllocError>
     requires { length text.now ≤ text_limit }
     ensures accepted { IfOk result (λ o. MatchOption o ((u : Unit') → IsAccepted text.now u → ⊥) (λ g. (u : Unit') × (IsAccepted text.now u × (g ≡ graph_of text.now u)))) }
     ensures within { IfOk result (λ o. IfSome o IsWithin) }
@@ -56,38 +46,53 @@ pub fn graph_of_text(alloc: Global, text: &[u8]) -> Result<Option<Graph>, AllocE
 }
 
 // The report on a graph, and its number of unknown verdicts.
-fn analyse(alloc: Global, graph: &Graph) -> Result<(Vec<u8>, u64), Status>
+fn analyse(alloc: Global, graph: &Graph, options: RunOptions) -> Result<(Vec<u8>, u64), Status>
     requires within { IsWithin graph.now }
     requires small { elements graph.now < 2 ^ 32 }
     requires edges { length graph.now.edges < 2 ^ 32 }
-    ensures report { IfOk result (λ made. IsReport graph.now made.1 made.0.items) }
-    ensures end { IfErr result (EndsAnalysis graph.now) }
+    requires runs { options.max_runs ≤ 549755813888 }
+    ensures report { IfOk result (λ made. IsReport graph.now options made.1 made.0.items) }
+    ensures end { IfErr result (EndsAnalysis graph.now options.max_runs) }
 {
     let analysis = Analysis::new(alloc, graph)?;
     let brackets = brackets(alloc, graph)?;
     let plan = plan(alloc, graph, &brackets)?;
-    match iterate(alloc, &analysis, &plan, RUN_LIMIT) {
-        Ok(cells) => Ok(report(alloc, graph, &brackets, &cells)?),
+    match iterate(alloc, &analysis, &plan, options.max_runs) {
+        Ok(cells) => Ok(report(alloc, graph, &brackets, &cells, options.points)?),
         Err(Solve::RunLimit { .. }) => Err(Status::RunLimit {
-            max_runs: RUN_LIMIT,
+            max_runs: options.max_runs,
         }),
         Err(Solve::Memory) => Err(Status::Memory),
     }
 }
 
 // The bytes to write and the number of unknown verdicts, or the status in their place.
-fn answer(alloc: Global, text: &[u8]) -> Result<(Vec<u8>, u64), Status>
-    requires { length text.now ≤ text_limit }
-    ensures made { IfOk result (λ made. (words : List (List ℕ)) → IsTrue (is_command words) → IsAnswer words text.now (Status.Ok made.1) made.0.items) }
-    ensures stopped { IfErr result (λ status. (words : List (List ℕ)) → IsTrue (is_command words) → IsStopped words text.now status) }
+fn answer(alloc: Global, options: RunOptions, text: &[u8]) -> Result<(Vec<u8>, u64), Status>
+    requires short { length text.now ≤ text_limit }
+    requires runs { options.max_runs ≤ 549755813888 }
+    ensures made { IfOk result (λ made. (words : List (List ℕ)) → AsksFor words (Command.Run options) → IsAnswer words text.now (Status.Ok made.1) made.0.items) }
+    ensures stopped { IfErr result (λ status. (words : List (List ℕ)) → AsksFor words (Command.Run options) → IsStopped words text.now status) }
     ensures refused { IfErr result IsRefusal }
 {
     match graph_of_text(alloc, text)? {
-        Some(graph) => analyse(alloc, &graph),
+        Some(graph) => analyse(alloc, &graph, options),
         None => Err(Status::Refused(Refusal::Unsupported {
             construct: Construct::Later,
             at: Pos { line: 1, column: 1 },
         })),
+    }
+}
+
+// The options that the words ask for.
+fn run_options(alloc: Global, words: &[String]) -> Result<RunOptions, WordsError>
+    ensures taken { OnOk result (is_taken (map string_bytes words.now) ≡ true) }
+    ensures asked { IfOk result (λ options. AsksFor (map string_bytes words.now) (Command.Run options)) }
+    ensures range { IfOk result (λ options. options.max_runs ≤ 549755813888) }
+    ensures usage { result ≡ Err WordsError.Usage → is_taken (map string_bytes words.now) ≡ false }
+{
+    match read_words(alloc, words) {
+        Ok(Command::Run(options)) => Ok(options),
+        Err(error) => Err(error),
     }
 }
 
@@ -98,14 +103,17 @@ fn make<S: Source>(alloc: Global, words: &[String], src: &mut S) -> Result<(Vec<
     ensures stopped { IfSome (asked_text (map string_bytes words.now) (S.left src.old)) (λ text. IfErr result (λ status.
         IsStopped (map string_bytes words.now) text status)) }
     ensures stop { IfErr result IsStop }
-    ensures usage { is_command (map string_bytes words.now) ≡ false ↔ (result ≡ Err Status.Usage) }
-    ensures unread { is_command (map string_bytes words.now) ≡ false → src.new ≡ src.old }
+    ensures usage { result ≡ Err Status.Usage → is_taken (map string_bytes words.now) ≡ false }
+    ensures refused { is_taken (map string_bytes words.now) ≡ false → (result ≡ Err Status.Usage) ⊎ (result ≡ Err Status.Memory) }
+    ensures unread { is_taken (map string_bytes words.now) ≡ false → src.new ≡ src.old }
     ensures whole { OnOk result (IsAtEnd (S.left src.new)) }
     ensures fault { result ≡ Err Status.ReadFault → Rose (S.faults src.old) (S.faults src.new) }
 {
-    if !takes(words) {
-        return Err(Status::Usage);
-    }
+    let options = match run_options(alloc, words) {
+        Ok(options) => options,
+        Err(WordsError::Usage) => return Err(Status::Usage),
+        Err(WordsError::Memory) => return Err(Status::Memory),
+    };
     let text = match read_all(alloc, src, TEXT_LIMIT) {
         Ok(text) => text,
         Err(ReadError::ReadFault) => return Err(Status::ReadFault),
@@ -117,7 +125,7 @@ fn make<S: Source>(alloc: Global, words: &[String], src: &mut S) -> Result<(Vec<
             });
         }
     };
-    answer(alloc, &text)
+    answer(alloc, options, &text)
 }
 
 /// Answers the words, which are those after the program's name, and the text of `src`, and writes the answer to `out`.
@@ -140,9 +148,10 @@ pub fn pikos<S: Source, K: Sink>(
         result ≢ Status.Memory → IfSome (asked_text (map string_bytes words.now) (S.left src.old)) (λ text.
         Gives (map string_bytes words.now) text result (K.written out.old) (K.written out.new)) }
 
-    // Other words are refused, whatever the devices do, and leave the source as it was.
-    ensures usage { is_command (map string_bytes words.now) ≡ false ↔ (result ≡ Status.Usage) }
-    ensures unread { is_command (map string_bytes words.now) ≡ false → src.new ≡ src.old }
+    // Only words that aren't taken are told as usage. They are refused, whatever the devices do, and leave the source as it was.
+    ensures usage { result ≡ Status.Usage → is_taken (map string_bytes words.now) ≡ false }
+    ensures refused { is_taken (map string_bytes words.now) ≡ false → (result ≡ Status.Usage) ⊎ (result ≡ Status.Memory) }
+    ensures unread { is_taken (map string_bytes words.now) ≡ false → src.new ≡ src.old }
 
     // Whether or not the source tells its text, nothing is written at a fault of reading or without memory.
     ensures nothing { (result ≡ Status.ReadFault) ⊎ (result ≡ Status.Memory) → Keeps (K.written out.old) (K.written out.new) }

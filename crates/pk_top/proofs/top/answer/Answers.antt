@@ -4,4 +4,4 @@ use Rattle.pk_top.proofs.top.answer.Goals as goal
 pub returns-in-Some-clause-stopped : goal.returns-in-Some-clause-stopped
 returns-in-Some-clause-stopped c =
     let accepted = rw c.in-Some.is at c.in_ok-graph.ensures.accepted in
-    all_stopped_so c.requires accepted.1.0 accepted.1.1 _ c.analyse.ensures.end
+    all_stopped_so c.args.options c.requires.short accepted.1.0 accepted.1.1 _ c.analyse.ensures.end

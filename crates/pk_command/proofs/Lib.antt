@@ -1,0 +1,3 @@
+mod Rows
+mod Taken
+pub mod Asking

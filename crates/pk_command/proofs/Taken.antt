@@ -1,0 +1,312 @@
+-- What words that are taken name and give.
+use Rattle.std.proofs.Common.{◌≡◌, ◌∙◌, ◌&&◌, ◌||◌, ◌^◌, ◌≤◌, ◌<◌, arith, refl, sym, ap, subst, ℕ, Bool, true, false, not, cond, List, [], ◌∷◌, Option, Some, None, is_some, codes, lit<, lit≤, drop, Result, Ok, Err}
+use Rattle.std.proofs.lemmas.Int.{ints}
+use Rattle.std.proofs.lemmas.Bool.{ne_eqb}
+use Rattle.std.proofs.lemmas.Str.Parse.{digit_from_value}
+use Rattle.std.proofs.lemmas.Slice.Eq.{bytes_eq-Decides}
+use Rattle.std.specs.Prelude.{find, option_and_then, option_map, slice_get, pos, unwrap_or, ◌==◌, IfSome}
+use Rattle.std.specs.Option.{option_map_or}
+use Rattle.std.specs.Str.{bytes_eq}
+use Rattle.std.specs.Str.Parse.{IsNumeral, ParsesUnsigned, digits_value, starts_with_minus, without_leading_plus}
+use Rattle.clap.specs.Lexer.{without_minus}
+use Rattle.clap.specs.Values.{Accepts, IsSignedIn, read_as}
+use Rattle.clap.specs.ValueTests.{accepts}
+use Rattle.clap.specs.Matches.{ReadsOne, one_text}
+use Rattle.clap.specs.declared.parser.matches.Found.{Found}
+use Rattle.clap.proofs.WalkLemmas.{one_text-rows}
+use Rattle.clap.specs.Facts.{explicit_source, parser_of_value}
+use Rattle.clap.specs.Takes.{is_given}
+use Rattle.std.specs.List.{list_any}
+use Rattle.clap.specs.Kinds.{Kinds, check_kinds, values_kinds}
+use Rattle.clap.specs.Walk.{Row, Rule, Text, answers_to, arg_by_id, finished, first_of, nothing_held, one_of, reading_by, row_text, rows_after, rows_of, walk}
+use Rattle.clap.specs.Simple.{App, Shape, built, entered, label_of, names_of, rows_at}
+use Rattle.clap.specs.Faults.{check_fault, entered_fault, fault_of, level_fault, values_fault}
+use Rattle.clap.specs.declared.builder.value_parser.ValueParser.{ValueParser}
+use Rattle.clap.specs.declared.error.kind.ErrorKind.{ErrorKind}
+use Rattle.clap.proofs.ValueTestLemmas.{accepts-Accepts}
+use Rattle.pk_command.specs.CommandLine.{is_empty, number_option, pikos_app}
+use Rattle.pk_command.specs.Given.{IsInRange, given_by, is_set, number_in, number_of, run_options}
+use Rattle.pk_command.specs.declared.asked.Command.TheVariants.{Run}
+use Rattle.pk_command.specs.Found.{IsFlagFound, IsNumberFound, IsRunFound}
+use Rattle.pk_command.proofs.Rows.{Each, IsKeyed, Passes, below_passes, check_passes, each_found, each_row}
+
+-- ---- the subcommand
+
+no_kind : (k : ErrorKind) (ks : Kinds) → k ∷ ks ≡ [] → ⊥
+no_kind k ks e = cc
+
+pub no_fault : (faults : Kinds) → is_empty faults ≡ true → faults ≡ []
+no_fault [] e = refl
+no_fault (k ∷ ks) e = cc
+
+pub a_fault : (faults : Kinds) → (faults ≡ [] → ⊥) → is_empty faults ≡ false
+a_fault [] some = absurd (some refl)
+a_fault (k ∷ ks) some = refl
+
+wants_command : (help argument : Bool) → check_kinds help true argument ≡ [] → ⊥
+wants_command true argument e = no_kind _ _ e
+wants_command false argument e = no_kind _ _ e
+
+missing_command : (s : Shape) (rows : List Row) → s.subcommand_required ≡ true → check_fault s rows false ≡ [] → ⊥
+missing_command s rows required e =
+    let help = s.arg_required_else_help && not (list_any (λ r. explicit_source r.source) rows) in
+    let argument = not (s.subcommand_negates_reqs && false) && list_any (λ a. a.required && not (is_given a.id rows)) s.rules in
+    wants_command help argument (subst (λ (b : Bool). check_kinds help b argument ≡ []) required e)
+
+-- a subcommand that was entered, where it fails nowhere
+pub record Enters (P : Shape → Type 0) (a : App) (stop : Option (Text × List Text)) : Type 0 where
+  pub shape : Shape
+  pub words : List Text
+  pub one : P shape
+  pub rows : entered a stop ≡ Some (rows_at shape words)
+  pub pass : level_fault shape [] nothing_held words false [] ≡ []
+
+enters_found : (P : Shape → Type 0) (a : App) (p : Text × List Text) (rows : List Row) (found : Option Shape) → find (λ s. answers_to p.0 (label_of s)) a.subs ≡ found
+    → ((s : Shape) → found ≡ Some s → P s) → a.top.subcommand_required ≡ true
+    → check_fault a.top rows (is_some (option_map (λ s. rows_at s p.1) found)) ≡ []
+    → option_map_or (λ s. level_fault s [] nothing_held p.1 false []) found [] ≡ [] → Enters P a (Some p)
+enters_found P a p rows None is one required check below = absurd (missing_command a.top rows required check)
+enters_found P a p rows (Some s) is one required check below = record {
+  shape = s;
+  words = p.1;
+  one = one s refl;
+  rows = ap (option_map (λ s. rows_at s p.1)) is;
+  pass = below;
+}
+
+enters : (P : Shape → Type 0) (a : App) (stop : Option (Text × List Text)) (rows : List Row) → Each P a.subs → a.top.subcommand_required ≡ true
+    → check_fault a.top rows (is_some (entered a stop)) ≡ [] → entered_fault a stop ≡ [] → Enters P a stop
+enters P a None rows each required check below = absurd (missing_command a.top rows required check)
+enters P a (Some p) rows each required check below =
+    enters_found P a p rows (find (λ s. answers_to p.0 (label_of s)) a.subs) refl
+    (λ s found. (each_found P (λ s. answers_to p.0 (label_of s)) a.subs s each found).0) required check below
+
+-- the built shape of `run`
+abbrev pub run_shape : Shape
+run_shape = unwrap_or (slice_get (built pikos_app).subs 0) (built pikos_app).top
+
+-- the words name `run`, and each value that they give passes the parser of its option
+pub record NamesRun (words : List Text) : Type 0 where
+  pub rows : List Row
+  pub given : given_by words ≡ Some (codes "run", rows)
+  pub pass : Each (Passes run_shape.rules) rows
+
+run_keyed : IsKeyed run_shape.rules
+run_keyed = (refl, (refl, (refl, tt)))
+
+pub taken_names_run : (words : List Text) → fault_of pikos_app words ≡ [] → NamesRun words
+taken_names_run words taken =
+    let a = built pikos_app in
+    let stop = (walk a.top.rules (names_of a) nothing_held words).stopped in
+    let below = below_passes a.top (names_of a) nothing_held words (is_some (entered a stop)) (entered_fault a stop) taken in
+    let check = check_passes a.top (names_of a) nothing_held words (is_some (entered a stop)) (entered_fault a stop) taken in
+    let met = enters (λ s. s ≡ run_shape) a stop (finished a.top.rules (walk a.top.rules (names_of a) nothing_held words).held) (refl, tt) refl check below in
+    let keyed : IsKeyed met.shape.rules = subst (λ (s : Shape). IsKeyed s.rules) (sym met.one) run_keyed in
+    record {
+      rows = rows_after met.shape.rules [] met.words;
+      given = met.rows ∙ ap (λ (s : Shape). Some (s.name, rows_after met.shape.rules [] met.words)) met.one;
+      pass = subst (λ (s : Shape). Each (Passes s.rules) (rows_after met.shape.rules [] met.words)) met.one
+          (each_row met.shape [] met.words false [] keyed met.pass);
+    }
+
+-- ---- the values
+
+none_row : {X : Type 0} (x : X) → None ≡ Some x → ⊥
+none_row x e = cc
+
+first_accepted : (ignore_case : Bool) (parser : ValueParser) (v : Text) (vs : List Text) (b : Bool) → accepts ignore_case parser v ≡ b → values_kinds ignore_case parser (v ∷ vs) ≡ []
+    → accepts ignore_case parser v ≡ true
+first_accepted ignore_case parser v vs true is pass = is
+first_accepted ignore_case parser v vs false is pass = let bad = rw is at pass in absurd (no_kind _ _ bad)
+
+-- the first value of an argument, where it has one, passed its parser, and is read as that says
+pub record IsGiven (a : Rule) (first one : Option Text) : Type 0 where
+  pub passed : IfSome first (Accepts a.ignore_case (parser_of_value a.parser))
+  pub read : one ≡ option_map (read_as (reading_by a)) first
+
+given_values : (a : Rule) (r : Row) (values : List Text) → r.reading ≡ reading_by a → values_fault a values ≡ []
+    → IsGiven a (slice_get values 0) (option_map (read_as r.reading) (slice_get values 0))
+given_values a r [] reading pass = record { passed = tt; read = refl }
+given_values a r (v ∷ vs) reading pass = record {
+  passed = accepts-Accepts a.ignore_case (parser_of_value a.parser) v (first_accepted a.ignore_case (parser_of_value a.parser) v vs (accepts a.ignore_case (parser_of_value a.parser) v) refl pass);
+  read = ap (λ how. Some (read_as how v)) reading;
+}
+
+given_row : (c : List Rule) (a : Rule) (name : Text) (found : Option Row) → arg_by_id c name ≡ Some a → ((r : Row) → found ≡ Some r → Passes c r × (bytes_eq r.id name ≡ true))
+    → IsGiven a (option_and_then (λ r. slice_get r.values 0) found) (option_and_then row_text found)
+given_row c a name None first each = record { passed = tt; read = refl }
+given_row c a name (Some r) first each =
+    let at = each r refl in
+    let same : r.id ≡ name = (bytes_eq-Decides r.id name).0 at.1 in
+    let pass = at.0 a (ap (arg_by_id c) same ∙ first) in
+    given_values a r r.values pass.1 pass.0
+
+-- what is given for an argument of a level that fails nowhere
+pub given_of : (c : List Rule) (a : Rule) (name : Text) (rows : List Row) → arg_by_id c name ≡ Some a → Each (Passes c) rows → IsGiven a (first_of name rows) (one_of name rows)
+given_of c a name rows first each =
+    given_row c a name (find (λ r. bytes_eq r.id name) rows) first (λ r found. each_found (Passes c) (λ q. bytes_eq q.id name) rows r each found)
+
+-- ---- numbers
+
+without_minus-cond : (t : Text) → without_minus t ≡ cond (starts_with_minus t) (drop 1 t) t
+without_minus-cond [] = refl
+without_minus-cond (x ∷ xs) = go (x == 45)
+  where
+    go : (b : Bool) → unwrap_or (cond b (Some xs) None) (x ∷ xs) ≡ cond b xs (x ∷ xs)
+    go true = refl
+    go false = refl
+
+no_plus : (ds : Text) → IsNumeral 10 ds → without_leading_plus ds ≡ ds
+no_plus [] h = refl
+no_plus (d ∷ ds) h =
+    let plus : (d == 43) ≡ false = ne_eqb _ _ (λ e. omega (arith, digit_from_value d h.1.0)) in
+    ap (λ (b : Bool). drop (cond b 1 0) (d ∷ ds)) plus
+
+-- a text that passed a range of numbers from 0 up is read as the number that it writes
+pub number_reads : (E : Type 0) (G : Text → Result ℕ E → Type 0) (k low high : ℕ) (t : Text) (r : Option ℕ)
+    → ReadsOne G (without_minus t) r → ((u : Text) (x : Result ℕ E) → G u x → ParsesUnsigned k 10 u x) → high < 2 ^ k
+    → IsSignedIn (pos low) (pos high) t
+    → r ≡ Some (number_in t)
+number_reads E G k low high t r read only fits passed =
+    go (starts_with_minus t) refl r (subst (λ (u : Text). ReadsOne G u r) (without_minus-cond t) read)
+  where
+    go : (b : Bool) → starts_with_minus t ≡ b → (o : Option ℕ) → ReadsOne G (cond (starts_with_minus t) (drop 1 t) t) o → o ≡ Some (number_in t)
+    go true minus (Some v) h =
+        let numeral : IsNumeral 10 (drop 1 t) = rw minus at passed.0 in
+        let parsed = only (drop 1 t) (Ok v) (rw minus at h) in
+        let is : v ≡ digits_value 10 (drop 1 t) = parsed.1 ∙ ap (digits_value 10) (no_plus (drop 1 t) numeral) in
+        rw minus (ap Some is)
+    go true minus None h =
+        let low_ok = rw minus at passed.2 in
+        let numeral : IsNumeral 10 (drop 1 t) = rw minus at passed.0 in
+        let same = no_plus (drop 1 t) numeral in
+        let small : digits_value 10 (drop 1 t) < 2 ^ k = omega (arith, ints) in
+        absurd (only (drop 1 t) (Err h.0) (rw minus at h.1) (rw same numeral, rw same small))
+    go false minus (Some v) h =
+        let parsed = only t (Ok v) (rw minus at h) in
+        rw minus (ap Some parsed.1)
+    go false minus None h =
+        let low_ok = rw minus at passed.2 in
+        let high_ok = rw minus at passed.3 in
+        let numeral = rw minus at passed.0 in
+        absurd (only t (Err h.0) (rw minus at h.1) (numeral, omega (arith, ints)))
+
+signed_within : (low high : ℕ) (t : Text) → IsSignedIn (pos low) (pos high) t → (low ≤ number_in t) × (number_in t ≤ high)
+signed_within low high t passed = go (starts_with_minus t) refl
+  where
+    go : (b : Bool) → starts_with_minus t ≡ b → (low ≤ number_in t) × (number_in t ≤ high)
+    go true minus =
+        let low_ok = rw minus at passed.2 in
+        let high_ok = rw minus at passed.3 in
+        rw minus (omega (arith, ints), omega (arith, ints))
+    go false minus =
+        let low_ok = rw minus at passed.2 in
+        let high_ok = rw minus at passed.3 in
+        rw minus (omega (arith, ints), omega (arith, ints))
+
+number_within : (low high default : ℕ) (o : Option Text) → low ≤ default → default ≤ high → IfSome o (IsSignedIn (pos low) (pos high))
+    → (low ≤ option_map_or number_in o default) × (option_map_or number_in o default ≤ high)
+number_within low high default None least most passed = (least, most)
+number_within low high default (Some t) least most passed = signed_within low high t passed
+
+-- an option's number lies in its range, as its default does
+pub number_in_range : (name : Text) (low high default : ℕ) (rows : List Row) → low ≤ default → default ≤ high → IsNumberFound name low high rows
+    → (low ≤ number_of name default rows) × (number_of name default rows ≤ high)
+number_in_range name low high default rows least most found = number_within low high default (first_of name rows) least most found.within
+
+number_got : (E : Type 0) (G : Text → Result ℕ E → Type 0) (default : ℕ) (first one : Option Text) (r : Option ℕ)
+    → ((u : Text) (x : Result ℕ E) → G u x → ParsesUnsigned 64 10 u x) → IfSome first (IsSignedIn (pos 1) (pos 549755813888))
+    → one ≡ option_map without_minus first → (one ≡ None → r ≡ None) → ((t : Text) → one ≡ Some t → ReadsOne G t r)
+    → unwrap_or r default ≡ option_map_or number_in first default
+number_got E G default None one r only passed read none value = rw (none read) refl
+number_got E G default (Some t) one r only passed read none value =
+    rw (number_reads E G 64 1 549755813888 t r (value (without_minus t) read) only (lit< tt) passed) refl
+
+-- what `get_one` gives for an option, or the default
+pub number_read : (E : Type 0) (G : Text → Result ℕ E → Type 0) (name : Text) (default : ℕ) (f : Found) (r : Option ℕ)
+    → ((u : Text) (x : Result ℕ E) → G u x → ParsesUnsigned 64 10 u x) → IsNumberFound name 1 549755813888 (rows_of f)
+    → (one_text f name ≡ None → r ≡ None) → ((t : Text) → one_text f name ≡ Some t → ReadsOne G t r)
+    → unwrap_or r default ≡ number_of name default (rows_of f)
+number_read E G name default f r only found none value =
+    number_got E G default (first_of name (rows_of f)) (one_text f name) r only found.within (one_text-rows f name ∙ found.read) none value
+
+flag_word : (text : Text) (r b : Bool) → bytes_eq text (codes "true") ≡ b → (bytes_eq text (codes "true") || bytes_eq text (codes "false")) ≡ true
+    → (text ≡ codes "true" → r ≡ true) → (text ≡ codes "false" → r ≡ false) → r ≡ b
+flag_word text r true is word when_true when_false = when_true ((bytes_eq-Decides text (codes "true")).0 is)
+flag_word text r false is word when_true when_false = let other = rw is at word in when_false ((bytes_eq-Decides text (codes "false")).0 other)
+
+flag_got : (first one : Option Text) (r : Bool) → IfSome first (λ text. (bytes_eq text (codes "true") || bytes_eq text (codes "false")) ≡ true) → one ≡ first
+    → (one ≡ None → r ≡ false) → (one ≡ Some (codes "true") → r ≡ true) → (one ≡ Some (codes "false") → r ≡ false)
+    → r ≡ option_map_or (λ text. bytes_eq text (codes "true")) first false
+flag_got None one r word read none when_true when_false = none read
+flag_got (Some text) one r word read none when_true when_false =
+    flag_word text r (bytes_eq text (codes "true")) refl word (λ e. when_true (read ∙ ap Some e)) (λ e. when_false (read ∙ ap Some e))
+
+-- what `get_flag` gives
+pub flag_read : (name : Text) (f : Found) (r : Bool) → IsFlagFound name (rows_of f)
+    → (one_text f name ≡ None → r ≡ false) → (one_text f name ≡ Some (codes "true") → r ≡ true) → (one_text f name ≡ Some (codes "false") → r ≡ false)
+    → r ≡ is_set name (rows_of f)
+flag_read name f r found none when_true when_false = flag_got (first_of name (rows_of f)) (one_text f name) r found.word (one_text-rows f name ∙ found.read) none when_true when_false
+
+-- ---- the options of `run`
+
+abbrev workers_rule : Rule
+workers_rule = unwrap_or (slice_get run_shape.rules 0) (number_option [] 0 0)
+
+abbrev max_runs_rule : Rule
+max_runs_rule = unwrap_or (slice_get run_shape.rules 1) (number_option [] 0 0)
+
+abbrev points_rule : Rule
+points_rule = unwrap_or (slice_get run_shape.rules 2) (number_option [] 0 0)
+
+copied : (o : Option Text) → option_map (λ t. t) o ≡ o
+copied None = refl
+copied (Some t) = refl
+
+pub run_found : (rows : List Row) → Each (Passes run_shape.rules) rows → IsRunFound rows
+run_found rows pass =
+    let workers = given_of run_shape.rules workers_rule (codes "workers") rows refl pass in
+    let max_runs = given_of run_shape.rules max_runs_rule (codes "max-runs") rows refl pass in
+    let points = given_of run_shape.rules points_rule (codes "points") rows refl pass in
+    record {
+      workers = record { within = workers.passed; read = workers.read };
+      max_runs = record { within = max_runs.passed; read = max_runs.read };
+      points = record { word = points.passed; read = points.read ∙ copied (first_of (codes "points") rows) };
+    }
+
+signed_wider : (low most high : ℕ) (t : Text) → most ≤ high → IsSignedIn (pos low) (pos most) t → IsSignedIn (pos low) (pos high) t
+signed_wider low most high t wide passed = (passed.0, passed.1, passed.2, omega (arith, ints, passed.3))
+
+number_wider : (low most high : ℕ) (o : Option Text) → most ≤ high → IfSome o (IsSignedIn (pos low) (pos most)) → IfSome o (IsSignedIn (pos low) (pos high))
+number_wider low most high None wide passed = passed
+number_wider low most high (Some t) wide passed = signed_wider low most high t wide passed
+
+-- a number of a narrow range is one of a wide range
+pub found_wider : (name : Text) (low most high : ℕ) (rows : List Row) → most ≤ high → IsNumberFound name low most rows → IsNumberFound name low high rows
+found_wider name low most high rows wide found = record { within = number_wider low most high (first_of name rows) wide found.within; read = found.read }
+
+pub run_in_range : (rows : List Row) → IsRunFound rows → IsInRange (Run (run_options rows))
+run_in_range rows found =
+    let workers = number_in_range (codes "workers") 1 64 4 rows (lit≤ tt) (lit≤ tt) found.workers in
+    let max_runs = number_in_range (codes "max-runs") 1 549755813888 1000000 rows (lit≤ tt) (lit≤ tt) found.max_runs in
+    (workers.0, workers.1, max_runs.0, max_runs.1)
+
+pub pair_rows : (o : Option (Text × List Row)) (rows given : List Row) (name : Text) → option_map (λ p. p.1) o ≡ Some rows → o ≡ Some (name, given) → rows ≡ given
+pair_rows o rows given name left right = some_rows rows given (sym left ∙ ap (option_map (λ p. p.1)) right)
+  where
+    some_rows : (a b : List Row) → Some a ≡ Some b → a ≡ b
+    some_rows a b e = cc
+
+-- what is found under `run` is what the words that are taken give
+pub given_of_taken : (words : List Text) (o : Option (Text × List Row)) (rows : List Row) → fault_of pikos_app words ≡ [] → o ≡ given_by words → option_map (λ p. p.1) o ≡ Some rows
+    → given_by words ≡ Some (codes "run", rows)
+given_of_taken words o rows taken given is =
+    let names = taken_names_run words taken in
+    let same : rows ≡ names.rows = pair_rows o rows names.rows (codes "run") is (given ∙ names.given) in
+    names.given ∙ ap (λ r. Some (codes "run", r)) (sym same)
+
+pub found_of_taken : (words : List Text) (o : Option (Text × List Row)) (rows : List Row) → fault_of pikos_app words ≡ [] → o ≡ given_by words → option_map (λ p. p.1) o ≡ Some rows → IsRunFound rows
+found_of_taken words o rows taken given is =
+    let names = taken_names_run words taken in
+    let same : rows ≡ names.rows = pair_rows o rows names.rows (codes "run") is (given ∙ names.given) in
+    subst IsRunFound (sym same) (run_found names.rows names.pass)

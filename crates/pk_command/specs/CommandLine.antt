@@ -1,0 +1,40 @@
+-- The command line, as a value of clap's: the commands, their options, and which words are taken.
+use Rattle.std.specs.Prelude.{ℕ, Bool, true, false, pos, List, [], ◌∷◌, codes, Some}
+use Rattle.clap.specs.Words.{App, Rule, Shape, Text, fault_of, new_app, new_rule, with_rule, with_subcommand}
+use Rattle.clap.specs.Kinds.{Kinds}
+use Rattle.clap.specs.declared.builder.ArgAction.TheVariants.{Set, SetTrue}
+use Rattle.clap.specs.declared.builder.value_parser.ValueParser.TheVariants as parser
+
+-- `--NAME N`, a number from `least` to `most`
+abbrev pub number_option : Text → ℕ → ℕ → Rule
+number_option name least most = record (new_rule name) { long = Some name; action = Some Set; parser = Some (parser.Signed (pos least) (pos most)) }
+
+-- `--NAME`
+abbrev pub flag : Text → Rule
+flag name = record (new_rule name) { long = Some name; action = Some SetTrue }
+
+-- `run [--workers N] [--max-runs N] [--points]`
+abbrev pub run_app : App
+run_app = with_rule (with_rule (with_rule (new_app (codes "run"))
+    (number_option (codes "workers") 1 64)) (number_option (codes "max-runs") 1 549755813888)) (flag (codes "points"))
+
+-- a command is required; the words leave out the program's name, and nothing asks for help or a version
+abbrev pub program_shape : Shape
+program_shape = record (new_app (codes "pikos")).top {
+  no_binary_name = true;
+  disable_help_flag = true;
+  disable_version_flag = true;
+  disable_help_subcommand = true;
+  subcommand_required = true;
+}
+
+abbrev pub pikos_app : App
+pikos_app = with_subcommand (record { top = program_shape; subs = [] }) run_app.top
+
+abbrev pub is_empty : Kinds → Bool
+is_empty [] = true
+is_empty (fault ∷ faults) = false
+
+-- the words are taken: clap's definition finds no fault in them
+unfoldable pub is_taken : List Text → Bool
+is_taken words = is_empty (fault_of pikos_app words)

@@ -1,0 +1,13 @@
+//! The command line: which words are taken, and the command with its options that they give.
+#![tactic(auto)]
+
+mod asked;
+mod definition;
+mod laws;
+mod reading;
+#[cfg(test)]
+mod tests;
+
+pub use asked::{Command, RunOptions, WordsError};
+pub use laws::{one_command, run_is_taken, taken_asks};
+pub use reading::read_words;
