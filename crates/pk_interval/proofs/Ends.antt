@@ -6,7 +6,6 @@ use Rattle.std.proofs.Common.{arith, refl, ap, sym, ◌∙◌, inl, inr}
 use Rattle.std.proofs.lemmas.Int.{ints}
 use Rattle.pk_ctypes.specs.declared.types.IntType.{IntType}
 use Rattle.pk_ctypes.specs.Types.{low_of, high_of, is_in_type, InType}
-use Rattle.pk_ctypes.proofs.Wrapped.{zero_in}
 use Rattle.pk_interval.specs.Ranges.{Range, Holds, IsIn, is_within}
 use Rattle.pk_interval.specs.Widening.{next_up, next_down, widened, IsChain, Widens}
 use Rattle.pk_interval.proofs.NextThresholds.{up_in, down_in}

@@ -1,7 +1,7 @@
 -- The order of ranges is inclusion.
-use Rattle.std.specs.Prelude.{◌≡◌, ◌↔◌, ◌&&◌, Bool, true, false, if◌then◌else◌, ℤ, ◌≤ℤ◌, ◌<ℤ◌, int_le, Option, Some, None}
+use Rattle.std.specs.Prelude.{◌≡◌, ◌↔◌, ◌&&◌, Bool, true, false, if◌then◌else◌, ℤ, ◌≤ℤ◌, int_le, Some, None}
 use Rattle.std.specs.Int.{int_min, int_max}
-use Rattle.std.proofs.Common.{arith, refl, ap, sym}
+use Rattle.std.proofs.Common.{arith, refl}
 use Rattle.std.proofs.lemmas.Int.{ints, clamps}
 use Rattle.pk_ctypes.proofs.Values.{le_test, test_le}
 use Rattle.pk_interval.specs.Ranges.{Range, Holds, HeldBy, range_from, joined, met, is_within}

@@ -1,11 +1,10 @@
 -- What an operator stands for at members is held by what it gives on the ranges.
-use Rattle.std.specs.Prelude.{◌≡◌, ℕ, zero, suc, ◌+◌, ◌-◌, ◌*◌, ◌/◌, ◌<◌, ◌≤◌, ◌^◌, ◌&&◌, ◌||◌, ◌==◌, ◌⊎◌, Bool, true, false, not, if◌then◌else◌, nat_lt, max, ℤ, pos, negsuc, ◌+ℤ◌, ◌-ℤ◌, ◌*ℤ◌, ◌≤ℤ◌, ◌<ℤ◌, neg_ℤ, int_le, int_lt, int_div, int_rem, unsigned_abs, bit_and, bit_or, bit_xor, Option, Some, None, Result, Ok, Err}
+use Rattle.std.specs.Prelude.{◌≡◌, ℕ, zero, suc, ◌-◌, ◌<◌, ◌≤◌, ◌^◌, ◌&&◌, ◌||◌, ◌==◌, ◌⊎◌, Bool, true, false, not, if◌then◌else◌, nat_lt, max, ℤ, pos, negsuc, ◌+ℤ◌, ◌-ℤ◌, ◌*ℤ◌, ◌≤ℤ◌, ◌<ℤ◌, neg_ℤ, int_le, int_lt, int_div, int_rem, unsigned_abs, bit_and, bit_or, bit_xor, Option, Some, None, Result, Ok, Err}
 use Rattle.std.specs.Ordering.{int_eq}
 use Rattle.std.specs.Int.{int_min, int_max, int_shr}
 use Rattle.std.proofs.Common.{arith, refl, ap, sym, subst, inl, inr, ◌∙◌}
 use Rattle.std.proofs.lemmas.Int.{ints, clamps, by_lt_z, rem_below}
 use Rattle.std.proofs.lemmas.Nat.{and_le_l, and_comm, or_lt, xor_lt}
-use Rattle.std.proofs.lemmas.Bool.{cases_lt}
 use Rattle.std.proofs.lemmas.Bool.Decides.{Decides-int_eq, nat_tests}
 use Rattle.std.proofs.Math.Nat.{mod-eq_of_lt}
 use Rattle.std.proofs.Math.Pow.{pow_mono, pow_pos}
@@ -16,20 +15,19 @@ use Rattle.pk_ctypes.specs.declared.types.Op.{Op}
 use Rattle.pk_ctypes.specs.declared.types.Op.TheVariants.{Add, Sub, Mul, Div, Rem, Shl, Shr, And, Or, Xor, Lt, Gt, Le, Ge, Eq, Ne, Neg, BitNot, Not}
 use Rattle.pk_ctypes.specs.declared.faults.Fault.{Fault}
 use Rattle.pk_ctypes.specs.declared.faults.Fault.TheVariants.{DivZero, Overflow, Shift}
-use Rattle.pk_ctypes.specs.Types.{width_of, size_of, is_signed_of, low_of, high_of, InType, is_in_type, wrapped}
-use Rattle.pk_ctypes.specs.Operators.{exact, divided, rest_of, counted, doubled, is_count, is_below_zero, bits_of, bitwise, complement, truth, fitted_if, fault_past, value_of, HasRight}
+use Rattle.pk_ctypes.specs.Types.{width_of, size_of, is_signed_of, high_of, InType, is_in_type, wrapped}
+use Rattle.pk_ctypes.specs.Operators.{exact, divided, rest_of, counted, doubled, is_count, is_below_zero, bits_of, bitwise, complement, truth, fitted_if, fault_past}
 use Rattle.pk_ctypes.proofs.Wrapped.{sized, zero_in}
-use Rattle.pk_ctypes.proofs.Values.{not_zero_test, zero_test, wrapped_inside}
-use Rattle.pk_ctypes.proofs.Shifts.{count_is, not_below_zero, width_most}
+use Rattle.pk_ctypes.proofs.Values.{zero_test, wrapped_inside}
+use Rattle.pk_ctypes.proofs.Shifts.{count_is, not_below_zero}
 use Rattle.pk_ctypes.proofs.Bits.{bitwise_in, made}
 use Rattle.pk_interval.specs.declared.outcome.Outcome.{Outcome}
-use Rattle.pk_interval.specs.declared.outcome.Outcome.TheVariants.{Empty, Within, TooLarge}
 use Rattle.pk_interval.specs.Ranges.{Range, Holds, HeldBy, IsIn, single, whole, range_from, joined}
 use Rattle.pk_interval.specs.Operators.{within_if, range_sum, range_difference, range_negative, hull_of, product_of, hull_if, range_product, above_zero, below_zero, HasOneSign, both_parts, range_quotient, greatest_of, rest_low, rest_high, rests_within, range_rest, counts_of, shiftable, shifted_left, shifted_right, left_by, right_by, digits_of, is_natural, range_and, range_or, complement_of, range_complement, truths, is_below, is_at_most, is_one, are_apart, range_of, HasRightIn}
 use Rattle.pk_interval.specs.Fitting.{finished}
 use Rattle.pk_interval.specs.Laws.{KnownBy, IsSound}
 use Rattle.pk_interval.proofs.Numbers.{below_digits, left_rises}
-use Rattle.pk_interval.proofs.Order.{held_from, from_held}
+use Rattle.pk_interval.proofs.Order.{held_from}
 use Rattle.pk_interval.proofs.Sums.{Between, between_hull, parts_le, parts_ge, sum_sound, difference_sound, product_sound, corners_sound}
 use Rattle.pk_interval.proofs.Fits.{finished_sound}
 

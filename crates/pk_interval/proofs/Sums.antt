@@ -1,5 +1,5 @@
 -- Sums, products and quotients of members lie between those of the bounds.
-use Rattle.std.specs.Prelude.{◌≡◌, ℕ, suc, ℤ, pos, negsuc, ◌+ℤ◌, ◌-ℤ◌, ◌*ℤ◌, neg_ℤ, int_div, ◌<◌, ◌≤◌, ◌/◌, ◌≤ℤ◌, ◌⊎◌, int_lt}
+use Rattle.std.specs.Prelude.{◌≡◌, ℕ, suc, ℤ, pos, negsuc, ◌+ℤ◌, ◌-ℤ◌, ◌*ℤ◌, neg_ℤ, int_div, ◌<◌, ◌≤◌, ◌/◌, ◌≤ℤ◌, ◌⊎◌}
 use Rattle.std.specs.Int.{int_min, int_max}
 use Rattle.std.proofs.Common.{arith, refl, sym, inl, inr}
 use Rattle.std.proofs.lemmas.Int.{ints, clamps}

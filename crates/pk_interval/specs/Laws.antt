@@ -1,10 +1,9 @@
 -- The order of ranges, and what it means that the operations on them are sound.
-use Rattle.std.specs.Prelude.{◌≡◌, ◌↔◌, true, false, ℤ, pos, ◌+ℤ◌, Option, Some, None, Ok}
+use Rattle.std.specs.Prelude.{◌≡◌, ◌↔◌, true, false, ℤ, ◌+ℤ◌, Some, Ok}
 use Rattle.pk_ctypes.specs.declared.types.IntType.{IntType}
 use Rattle.pk_ctypes.specs.declared.types.Op.{Op}
-use Rattle.pk_ctypes.specs.declared.faults.Fault.{Fault}
-use Rattle.pk_ctypes.specs.Types.{is_signed_of, InType, wrapped}
-use Rattle.pk_ctypes.specs.Operators.{HasRight, exact, value_of}
+use Rattle.pk_ctypes.specs.Types.{InType, wrapped}
+use Rattle.pk_ctypes.specs.Operators.{exact, value_of}
 use Rattle.pk_interval.specs.declared.outcome.Outcome.{Outcome}
 use Rattle.pk_interval.specs.declared.outcome.Outcome.TheVariants.{Empty, Within, TooLarge}
 use Rattle.pk_interval.specs.Ranges.{Range, Holds, HeldBy, IsIn, joined, met, is_within}

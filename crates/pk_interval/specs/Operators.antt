@@ -4,7 +4,7 @@ use Rattle.std.specs.Int.{int_min, int_max, int_shr}
 use Rattle.pk_ctypes.specs.declared.types.IntType.{IntType}
 use Rattle.pk_ctypes.specs.declared.types.Op.{Op}
 use Rattle.pk_ctypes.specs.declared.types.Op.TheVariants.{Add, Sub, Mul, Div, Rem, Shl, Shr, And, Or, Xor, Lt, Gt, Le, Ge, Eq, Ne, Neg, BitNot, Not}
-use Rattle.pk_ctypes.specs.Types.{width_of, is_signed_of, high_of, InType}
+use Rattle.pk_ctypes.specs.Types.{width_of, is_signed_of, high_of}
 use Rattle.pk_interval.specs.declared.outcome.Outcome.{Outcome}
 use Rattle.pk_interval.specs.declared.outcome.Outcome.TheVariants.{Empty, Within, TooLarge}
 use Rattle.pk_interval.specs.Ranges.{Range, IsIn, single, whole, range_from, joined}

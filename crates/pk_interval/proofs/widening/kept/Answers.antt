@@ -1,4 +1,4 @@
-use Rattle.std.proofs.Common.{FitsSigned, sym}
+use Rattle.std.proofs.Common.{FitsSigned}
 use Rattle.std.specs.Int.{w128}
 use Rattle.std.proofs.lemmas.Int.{to_z-of_z}
 use Rattle.pk_interval.proofs.Numbers.{found_from}

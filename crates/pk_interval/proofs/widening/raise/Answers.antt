@@ -1,4 +1,4 @@
-use Rattle.std.proofs.Common.{arith, FitsSigned, rules, ◌≡◌}
+use Rattle.std.proofs.Common.{arith, FitsSigned, ◌≡◌}
 use Rattle.std.specs.Int.{w128}
 use Rattle.std.proofs.lemmas.Int.{ints, to_z-of_z}
 use Rattle.pk_interval.specs.Widening.{next_up}
