@@ -1,0 +1,29 @@
+// Laws over the definitions.
+
+ghost use Rattle.pk_interval.specs.Widening.{Widens, Narrows};
+ghost use Rattle.pk_interval.specs.Laws.{IsLattice, IsSound, Converts};
+
+/// The order of intervals is inclusion, the join is the least upper bound and the meet the intersection.
+pub fn lattice_law()
+    ensures { IsLattice }
+{}
+
+/// What an operator stands for at members is a member of what it gives on the intervals, and its value in the type of what that becomes there.
+pub fn operator_law()
+    ensures { IsSound }
+{}
+
+/// The conversion of a member is a member of the wrapped interval, and the number plus what was added.
+pub fn conversion_law()
+    ensures { Converts }
+{}
+
+/// A widening step holds both intervals; one that isn't below rises, and no chain of them is longer than twice the thresholds and one.
+pub fn widening_law()
+    ensures { Widens }
+{}
+
+/// A narrowing step holds what both intervals hold.
+pub fn narrowing_law()
+    ensures { Narrows }
+{}

@@ -1,0 +1,22 @@
+//! Intervals of whole numbers, and what the operators of C give on them (Cousot and Cousot 1977).
+#![tactic(auto)]
+
+mod bits;
+mod comparisons;
+mod fitting;
+mod interval;
+mod laws;
+mod operators;
+mod outcome;
+mod products;
+mod scalars;
+mod shifts;
+#[cfg(test)]
+mod tests;
+mod widening;
+
+pub use fitting::{clamp, wrap};
+pub use interval::Interval;
+pub use laws::{conversion_law, lattice_law, narrowing_law, operator_law, widening_law};
+pub use operators::{binary, unary};
+pub use outcome::Outcome;
