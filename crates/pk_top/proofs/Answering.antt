@@ -1,5 +1,5 @@
 -- Words and a text have at most one answer.
-use Rattle.std.proofs.Common.{◌≡◌, ℕ, ◌<◌, List, [], length, map, take, Bool, false, IsTrue, refl, sym, ◌∙◌, ap, subst, arith}
+use Rattle.std.proofs.Common.{◌≡◌, ℕ, ◌<◌, List, [], length, map, take, false, refl, sym, ◌∙◌, ap, subst, arith}
 use Rattle.pk_top.specs.declared.lex.Token.{Token}
 use Rattle.pk_top.specs.declared.ast.Unit.{Unit as Unit'}
 use Rattle.pk_top.specs.declared.analysis.Cell.{Cell}

@@ -1,5 +1,5 @@
 -- Ranges of whole numbers, and the operations on them.
-use Rattle.std.specs.Prelude.{Bool, ◌&&◌, if◌then◌else◌, ℤ, pos, ◌+ℤ◌, ◌-ℤ◌, ◌≤ℤ◌, int_le, int_lt, List, filter, fold, Option, Some, None}
+use Rattle.std.specs.Prelude.{Bool, ◌&&◌, if◌then◌else◌, ℤ, ◌+ℤ◌, ◌-ℤ◌, ◌≤ℤ◌, int_le, int_lt, List, filter, fold, Option, Some, None}
 use Rattle.std.specs.Int.{int_min, int_max}
 use Rattle.pk_ctypes.specs.declared.types.IntType.TheVariants.{Int}
 use Rattle.pk_ctypes.specs.Types.{low_of, high_of}
