@@ -1,0 +1,4 @@
+pub mod Multiples
+pub mod Gcd
+pub mod Numbers
+pub mod Order
