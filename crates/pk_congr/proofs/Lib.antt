@@ -2,3 +2,5 @@ pub mod Multiples
 pub mod Gcd
 pub mod Numbers
 pub mod Order
+pub mod Meets
+pub mod Sound
