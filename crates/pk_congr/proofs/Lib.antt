@@ -3,4 +3,5 @@ pub mod Gcd
 pub mod Numbers
 pub mod Order
 pub mod Meets
+pub mod Widening
 pub mod Sound

@@ -83,21 +83,24 @@ lcm_least a b z h p q = least (unsigned_abs a) (unsigned_abs b) (some_abs a h) (
 none : (r m : ℤ) → r +ℤ pos 0 *ℤ m ≡ r
 none r m = omega (arith, ints, zero-*ℤ m)
 
+one_more : (r m : ℤ) (t : ℕ) → r +ℤ pos (suc t) *ℤ m ≡ (r +ℤ m) +ℤ pos t *ℤ m
+one_more r m t =
+    let next : pos (suc t) ≡ pos t +ℤ pos 1 = omega (arith, ints) in
+    omega (arith, ints, sum_times (pos t) (pos 1) m, ap (λ v. v *ℤ m) next)
+
 found : (b : Class) (m : ℤ) (n : ℕ) (r : ℤ) (t : ℕ) → t ≤ n → IsMember b (r +ℤ pos t *ℤ m) → IsMember b (first_in b m n r) × Multiple m (first_in b m n r -ℤ r)
 unfolding first_in
 found b m zero r zero h k = let z = zero_multiple m in (subst (IsMember b) (none r m) k, (z.0, omega (arith, ints, z.1)))
 found b m zero r (suc t) h k = absurd (omega arith)
-found b m (suc n) r t h k = by (has_member b r) refl t h k
+found b m (suc n) r t h k = by (found b m n (r +ℤ m)) (has_member b r) refl t h k
   where
-    by : (w : Bool) → has_member b r ≡ w → (t : ℕ) → t ≤ suc n → IsMember b (r +ℤ pos t *ℤ m) → IsMember b (if w then r else first_in b m n (r +ℤ m)) × Multiple m ((if w then r else first_in b m n (r +ℤ m)) -ℤ r)
-    by true e t h k = ((member b r).0 e, (let z = zero_multiple m in (z.0, omega (arith, ints, z.1))))
-    by false e zero h k = let yes = (member b r).1 (subst (IsMember b) (none r m) k) in absurd (cc)
-    by false e (suc t) h k =
-        let rest = found b m n (r +ℤ m) t (omega arith) (subst (IsMember b) (one_more t) k) in
+    by : ((t : ℕ) → t ≤ n → IsMember b ((r +ℤ m) +ℤ pos t *ℤ m) → IsMember b (first_in b m n (r +ℤ m)) × Multiple m (first_in b m n (r +ℤ m) -ℤ (r +ℤ m))) → (w : Bool) → has_member b r ≡ w → (t : ℕ) → t ≤ suc n → IsMember b (r +ℤ pos t *ℤ m) → IsMember b (if w then r else first_in b m n (r +ℤ m)) × Multiple m ((if w then r else first_in b m n (r +ℤ m)) -ℤ r)
+    by again true e t h k = ((member b r).0 e, (let z = zero_multiple m in (z.0, omega (arith, ints, z.1))))
+    by again false e zero h k = let yes = (member b r).1 (subst (IsMember b) (none r m) k) in absurd (cc)
+    by again false e (suc t) h k =
+        let rest = again t (omega arith) (subst (IsMember b) (one_more r m t) k) in
         let s = sum_multiple m (first_in b m n (r +ℤ m) -ℤ (r +ℤ m)) m rest.1 (self_multiple m) in
         (rest.0, (s.0, omega (arith, ints, s.1)))
-    one_more : (t : ℕ) → r +ℤ pos (suc t) *ℤ m ≡ (r +ℤ m) +ℤ pos t *ℤ m
-    one_more t = omega (arith, ints, sum_times (pos t) (pos 1) m)
 
 pub common_found : (a b : Class) → are_apart a b ≡ false → (b.m ≡ pos 0 → ⊥) → IsMember a (first_in b a.m (unsigned_abs b.m) a.r) × IsMember b (first_in b a.m (unsigned_abs b.m) a.r)
 common_found a b e h =

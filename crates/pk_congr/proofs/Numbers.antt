@@ -1,5 +1,5 @@
 -- Members of classes, as numbers that differ by a multiple.
-use Rattle.std.specs.Prelude.{◌≡◌, ◌⊎◌, ℕ, zero, suc, ◌<◌, ◌^◌, ◌&&◌, nat_lt, Bool, true, false, not, if◌then◌else◌, ℤ, pos, negsuc, ◌+ℤ◌, ◌-ℤ◌, ◌*ℤ◌, neg_ℤ, unsigned_abs}
+use Rattle.std.specs.Prelude.{◌≡◌, ◌⊎◌, ℕ, zero, suc, ◌<◌, ◌^◌, ◌&&◌, nat_lt, Bool, true, false, not, if◌then◌else◌, ℤ, pos, negsuc, ◌+ℤ◌, ◌-ℤ◌, ◌*ℤ◌, ◌≤ℤ◌, ◌<ℤ◌, neg_ℤ, unsigned_abs}
 use Rattle.std.specs.Int.{int_rem_euclid}
 use Rattle.std.specs.Ordering.{int_eq}
 use Rattle.std.proofs.Common.{arith, ◌∙◌, ap, refl, sym, subst, inl, inr}
@@ -7,7 +7,7 @@ use Rattle.std.proofs.lemmas.Int.{ints}
 use Rattle.std.proofs.lemmas.Bool.Decides.{Decides-int_eq, nat_tests}
 use Rattle.pk_ctypes.proofs.Whole.{rest_split, rest_from, rest_below}
 use Rattle.pk_ctypes.proofs.Values.{zero_test, not_zero_test}
-use Rattle.pk_congr.specs.Classes.{Class, IsMember, is_held, every, rest_modulo, class_of, class_if, has_member}
+use Rattle.pk_congr.specs.Classes.{Class, IsMember, IsReduced, is_held, every, rest_modulo, class_of, class_if, has_member}
 use Rattle.pk_congr.proofs.Multiples.{Multiple, zero_multiple, self_multiple, sum_multiple, difference_multiple, negative_multiple, multiple_test, test_multiple, neg_product}
 
 pub apart_by : (c : Class) (x : ℤ) → IsMember c x → Multiple c.m (x -ℤ c.r)
@@ -106,3 +106,17 @@ pub class_if_is : (m r : ℤ) → unsigned_abs m < 2 ^ 127 → unsigned_abs r < 
 class_if_is m r h k =
     let both = and_true (is_held m) (is_held r) (held_test m h) (held_test r k) in
     ap (λ b. if b then class_of m r else every) both
+
+pub rest_of_zero : (r m : ℤ) → m ≡ pos 0 → rest_modulo r m ≡ r
+rest_of_zero r m e = let test = zero_test m e in ap (λ b. if b then r else int_rem_euclid r m) test
+
+pub rest_of_some : (r m : ℤ) → (m ≡ pos 0 → ⊥) → rest_modulo r m ≡ int_rem_euclid r m
+rest_of_some r m h = let test = not_zero_test m h in ap (λ b. if b then r else int_rem_euclid r m) test
+
+pub class_reduced : (m r : ℤ) → pos 0 ≤ℤ m → unsigned_abs m < 2 ^ 127 → unsigned_abs r < 2 ^ 127 → IsReduced m (rest_modulo r m)
+class_reduced (pos zero) r h k l = subst (IsReduced (pos 0)) (sym (rest_of_zero r (pos 0) refl)) (record { from = h; rest = inl refl; modulus_held = k; rest_held = l })
+class_reduced (negsuc n) r h k l = absurd (omega (arith, ints))
+class_reduced (pos (suc n)) r h k l =
+    let from = rest_from r (suc n) (omega arith) in
+    let below = rest_below r (suc n) (omega arith) in
+    subst (IsReduced (pos (suc n))) (sym (rest_of_some r (pos (suc n)) (λ e. absurd (omega (arith, ints))))) (record { from = h; rest = inr (from, below); modulus_held = k; rest_held = omega (arith, ints) })
