@@ -4,4 +4,5 @@ pub mod Numbers
 pub mod Order
 pub mod Meets
 pub mod Widening
+pub mod Next
 pub mod Sound

@@ -141,7 +141,7 @@ meet_row a b = by (are_apart a b) (int_eq a.m (pos 0)) (int_eq b.m (pos 0)) refl
     by false false true e f g = right e (tested_zero b.m g)
     by false false false e f g = both e (tested_some a.m f) (tested_some b.m g)
 
-same_constant : (c : Class) (x y : ℤ) → c.m ≡ pos 0 → IsMember c x → IsMember c y → x ≡ y
+pub same_constant : (c : Class) (x y : ℤ) → c.m ≡ pos 0 → IsMember c x → IsMember c y → x ≡ y
 same_constant c x y e h k =
     let d = two_members c x y h k in
     let gone : d.0 *ℤ c.m ≡ pos 0 = ap (λ v. d.0 *ℤ v) e ∙ *ℤ-zero d.0 in

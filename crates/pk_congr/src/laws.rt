@@ -8,7 +8,9 @@ use crate::congr::Congr;
 /// A congruence's modulus is 0, or its rest is one of 0 to the modulus less 1, and both are below 2^127 in absolute value.
 pub fn reduced_law(a: &Congr)
     ensures { IsReduced a.now.m a.now.r }
-{}
+{
+    let _opened = a.m;
+}
 
 /// The greatest common divisor is that.
 pub fn euclid_law()
