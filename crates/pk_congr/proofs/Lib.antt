@@ -5,4 +5,5 @@ pub mod Order
 pub mod Meets
 pub mod Widening
 pub mod Next
+pub mod Held
 pub mod Sound

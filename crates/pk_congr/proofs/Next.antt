@@ -21,7 +21,7 @@ not_less m (pos n) f h k =
     let least = le_of_dvd some (dvd_from_multiple m (pos n) h) in
     omega (arith, ints)
 
-rest_bounds : (z m : ℤ) → pos 0 ≤ℤ m → (m ≡ pos 0 → ⊥) → (pos 0 ≤ℤ int_rem_euclid z m) × (int_rem_euclid z m <ℤ m)
+pub rest_bounds : (z m : ℤ) → pos 0 ≤ℤ m → (m ≡ pos 0 → ⊥) → (pos 0 ≤ℤ int_rem_euclid z m) × (int_rem_euclid z m <ℤ m)
 rest_bounds z (pos zero) f h = absurd (h refl)
 rest_bounds z (pos (suc n)) f h = (rest_from z (suc n) (omega arith), rest_below z (suc n) (omega arith))
 rest_bounds z (negsuc n) f h = absurd (omega (arith, ints))

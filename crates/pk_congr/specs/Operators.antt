@@ -31,6 +31,20 @@ class_product a b =
 abbrev pub product_of : ℤ → ℤ → Option ℤ
 product_of x y = if is_held (x *ℤ y) then Some (x *ℤ y) else None
 
+-- the class of a product, if the four products of its parts are there
+abbrev pub class_of_products : (moduli left right rests : Option ℤ) → Class
+class_of_products None q s r = every
+class_of_products (Some p) None s r = every
+class_of_products (Some p) (Some q) None r = every
+class_of_products (Some p) (Some q) (Some s) None = every
+class_of_products (Some p) (Some q) (Some s) (Some r) = class_if (int_gcd (int_gcd p q) s) r
+
+-- the class of a modulus and a rest, if they are there
+abbrev pub class_of_both : Option ℤ → Option ℤ → Class
+class_of_both None r = every
+class_of_both (Some m) None = every
+class_of_both (Some m) (Some r) = class_if (pos (unsigned_abs m)) r
+
 -- the divisor is a constant other than 0, and divides the modulus and the rest
 abbrev pub is_divided : Class → Class → Bool
 is_divided a b = int_eq b.m (pos 0) && not (int_eq b.r (pos 0)) && divides b.r a.m && divides b.r a.r

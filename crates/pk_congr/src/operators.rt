@@ -1,10 +1,10 @@
 // What the operators give, before a result is clamped to its type or wrapped, and wrapping.
 
-ghost use Rattle.std.specs.Prelude.{◌≡◌, ◌^◌, pos, ◌*ℤ◌, unsigned_abs};
+ghost use Rattle.std.specs.Prelude.{◌≡◌, ◌^◌, pos, unsigned_abs, true};
 ghost use Rattle.pk_ctypes.specs.Types.{width_of, size_of};
 ghost use Rattle.pk_ctypes.specs.Operators.{is_count};
-ghost use Rattle.pk_congr.specs.Classes.{every, class_if};
-ghost use Rattle.pk_congr.specs.Operators.{class_if_some, product_of, class_sum, class_difference, class_product, is_divided, class_quotient, class_rest, class_doubled, class_negative, complement_total, class_complement, result_of, wrapped_class};
+ghost use Rattle.pk_congr.specs.Classes.{every};
+ghost use Rattle.pk_congr.specs.Operators.{class_if_some, product_of, class_of_products, class_of_both, class_sum, class_difference, class_product, is_divided, class_quotient, class_rest, class_doubled, class_negative, complement_total, class_complement, result_of, wrapped_class};
 
 use crate::congr::{Congr, class};
 use crate::divisors::{gcd, is_divisor};
@@ -40,13 +40,15 @@ fn times(x: i128, y: i128) -> Option<i128>
     held(x.checked_mul(y))
 }
 
-fn product(a: &Congr, b: &Congr) -> Congr
-    ensures { result ≡ class_product a.now b.now }
+// The congruence of a product, if the four products of its parts are there.
+fn product_class(
+    moduli: Option<i128>,
+    left: Option<i128>,
+    right: Option<i128>,
+    rests: Option<i128>,
+) -> Congr
+    ensures { result ≡ class_of_products moduli left right rests }
 {
-    let moduli = times(a.m, b.m);
-    let left = times(a.m, b.r);
-    let right = times(b.m, a.r);
-    let rests = times(a.r, b.r);
     match (moduli, left, right, rests) {
         (Some(p), Some(q), Some(s), Some(r)) => {
             let first = gcd(p.unsigned_abs(), q.unsigned_abs());
@@ -56,12 +58,29 @@ fn product(a: &Congr, b: &Congr) -> Congr
     }
 }
 
+fn product(a: &Congr, b: &Congr) -> Congr
+    ensures { result ≡ class_product a.now b.now }
+{
+    product_class(
+        times(a.m, b.m),
+        times(a.m, b.r),
+        times(b.m, a.r),
+        times(a.r, b.r),
+    )
+}
+
 // Whether the divisor is a constant other than 0 that divides the modulus and the rest.
 fn divides_all(a: &Congr, b: &Congr) -> bool
     ensures { result ≡ is_divided a.now b.now }
 {
-    let d = b.r.unsigned_abs();
-    b.m == 0 && b.r != 0 && is_divisor(d, a.m.unsigned_abs()) && is_divisor(d, a.r.unsigned_abs())
+    if b.m != 0 {
+        false
+    } else if b.r == 0 {
+        false
+    } else {
+        let d = b.r.unsigned_abs();
+        is_divisor(d, a.m.unsigned_abs()) && is_divisor(d, a.r.unsigned_abs())
+    }
 }
 
 fn quotient(a: &Congr, b: &Congr) -> Congr
@@ -100,15 +119,31 @@ fn counts(t: IntType, b: i128) -> bool
     0 <= b && b < width(t)
 }
 
+// The congruence of a modulus and a rest, if they are there.
+fn doubled_class(m: Option<i128>, r: Option<i128>) -> Congr
+    ensures { result ≡ class_of_both m r }
+{
+    match (m, r) {
+        (Some(m), Some(r)) => class(m.unsigned_abs(), r),
+        _ => Congr::every(),
+    }
+}
+
+// The power of two that a shift by a count multiplies with.
+fn power(t: IntType, b: i128) -> i128
+    requires { is_count t b ≡ true }
+    ensures { result ≡ pos (2 ^ unsigned_abs b) }
+{
+    let _ = t;
+    1 << b
+}
+
 fn doubled(t: IntType, a: &Congr, b: &Congr) -> Congr
     ensures { result ≡ class_doubled t a.now b.now }
 {
     if b.m == 0 && counts(t, b.r) {
-        let power = 1 << b.r;
-        match (times(a.m, power), times(a.r, power)) {
-            (Some(m), Some(r)) => class(m.unsigned_abs(), r),
-            _ => Congr::every(),
-        }
+        let power = power(t, b.r);
+        doubled_class(times(a.m, power), times(a.r, power))
     } else {
         Congr::every()
     }
