@@ -6,4 +6,5 @@ pub mod Meets
 pub mod Widening
 pub mod Next
 pub mod Held
+pub mod Solutions
 pub mod Sound

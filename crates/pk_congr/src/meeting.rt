@@ -1,12 +1,13 @@
 // Meets, by linear congruences.
 
-ghost use Rattle.std.specs.Prelude.{◌≡◌, ◌≢◌, ◌+◌, ◌*◌, ◌/◌, ◌^◌, ◌<◌, ℕ, pos, ◌≤ℤ◌, ◌<ℤ◌, ◌-ℤ◌, unsigned_abs, false};
-ghost use Rattle.pk_congr.specs.Classes.{IsMember, gcd, are_apart, met, met_of};
+ghost use Rattle.std.specs.Prelude.{◌≡◌, ◌+◌, ◌*◌, ◌/◌, ◌^◌, ◌<◌, ℕ, pos, ◌<ℤ◌, unsigned_abs, false};
+ghost use Rattle.pk_ctypes.specs.Types.{IsEqualModulo};
+ghost use Rattle.pk_congr.specs.Classes.{gcd, are_apart, met, met_of};
 
 use crate::congr::{Congr, LIMIT, class};
 use crate::divisors::{gcd, is_divisor};
 
-// The number t below n for which mt - d is a multiple of n.
+// A number t below n for which mt - d is a multiple of n.
 fn solution(m: u128, n: u128, d: u128) -> u128
     requires apart { gcd m n ≡ 1 }
     requires product { m * n < 2 ^ 127 }
@@ -23,25 +24,23 @@ fn solution(m: u128, n: u128, d: u128) -> u128
     }
 }
 
-// A number that is in two congruences of moduli above 0, which differ by a multiple of the moduli's greatest common divisor `g`.
-fn common(a: &Congr, b: &Congr, g: u128) -> i128
-    requires left { pos 0 <ℤ a.now.m }
-    requires right { pos 0 <ℤ b.now.m }
-    requires divisor { g ≡ gcd (unsigned_abs a.now.m) (unsigned_abs b.now.m) }
-    requires meets { are_apart a.now b.now ≡ false }
-    requires room { unsigned_abs a.now.m / g * unsigned_abs b.now.m < 2 ^ 127 }
-    ensures in_left { IsMember a.now result }
-    ensures in_right { IsMember b.now result }
-    ensures held { unsigned_abs result < 2 ^ 127 }
+// A number that is equal to r modulo m, and to s modulo n.
+fn common(m: u128, r: u128, n: u128, s: u128, g: u128) -> u128
+    requires left { r < m }
+    requires right { s < n }
+    requires held { n < 2 ^ 127 }
+    requires divisor { g ≡ gcd m n }
+    requires meets { IsEqualModulo g (pos r) (pos s) }
+    requires room { m / g * n < 2 ^ 127 }
+    ensures left { IsEqualModulo m (pos r) (pos result) }
+    ensures right { IsEqualModulo n (pos s) (pos result) }
+    ensures held { result < 2 ^ 127 }
 {
-    let m = a.m.unsigned_abs() / g;
-    let n = b.m.unsigned_abs() / g;
-    let apart = (b.r - a.r) / g as i128;
-    let t = solution(m, n, apart.rem_euclid(n as i128).unsigned_abs());
-    a.r + a.m * t as i128
+    let apart = (s + (n - r % n)) % n;
+    r + m * solution(m / g, n / g, apart / g)
 }
 
-// The common numbers of two congruences of moduli above 0 that have some.
+// The common numbers of two congruences that are not apart, and of moduli above 0.
 fn both(a: &Congr, b: &Congr, g: u128) -> Congr
     requires left { pos 0 <ℤ a.now.m }
     requires right { pos 0 <ℤ b.now.m }
@@ -49,11 +48,16 @@ fn both(a: &Congr, b: &Congr, g: u128) -> Congr
     requires meets { are_apart a.now b.now ≡ false }
     ensures { result ≡ met_of a.now b.now }
 {
-    let multiple = (a.m.unsigned_abs() / g).checked_mul(b.m.unsigned_abs());
+    let m = a.m.unsigned_abs();
+    let n = b.m.unsigned_abs();
+    let multiple = (m / g).checked_mul(n);
     match multiple {
         Some(multiple) => {
             if multiple < LIMIT {
-                class(multiple, common(a, b, g))
+                class(
+                    multiple,
+                    common(m, a.r.unsigned_abs(), n, b.r.unsigned_abs(), g) as i128,
+                )
             } else {
                 *a
             }
