@@ -7,6 +7,7 @@ use Rattle.std.proofs.Math.Nat.{mul-div_cancel, zero-div}
 use Rattle.std.proofs.Math.IntN.{*ℤ_comm, zero-*ℤ, *ℤ-zero}
 use Rattle.std.proofs.lemmas.Int.{ints}
 use Rattle.pk_ctypes.proofs.Whole.{sum_times, times_sum, same_multiple}
+use Rattle.pk_ctypes.proofs.Values.{not_zero_test}
 use Rattle.pk_congr.specs.Classes.{Class, IsMember, gcd, int_gcd, int_lcm, is_held, has_member, class_of, are_apart, first_in, met_of, met}
 use Rattle.pk_congr.specs.Laws.{MeetIsBoth}
 use Rattle.pk_congr.proofs.Multiples.{Multiple, assoc, difference_times, zero_multiple, self_multiple, sum_multiple, difference_multiple, negative_multiple, times_multiple, multiple_trans, mod_from_multiple}
@@ -194,7 +195,7 @@ only_of a b o (right e g) c f l x h =
     (subst (IsMember a) (same_constant b y.0 x g y.2 in_b) y.1, in_b)
 only_of a b o (both e g i) c f l x h = let is : c ≡ met_of a b = cc in met_of_only a b e g i l x (subst (λ (v : Class). IsMember v x) is h)
 
-met_of_first : (a b : Class) → 2 ^ 127 ≤ unsigned_abs (int_lcm a.m b.m) → met_of a b ≡ a
+pub met_of_first : (a b : Class) → 2 ^ 127 ≤ unsigned_abs (int_lcm a.m b.m) → met_of a b ≡ a
 met_of_first a b l = by (is_held (int_lcm a.m b.m)) refl
   where
     by : (w : Bool) → is_held (int_lcm a.m b.m) ≡ w → (if w then class_of (int_lcm a.m b.m) (first_in b a.m (unsigned_abs b.m) a.r) else a) ≡ a
@@ -220,3 +221,11 @@ meet_is_both = record {
   only = λ a b c. only_of a b (met a b) (meet_row a b) c;
   first = λ a b c. first_of a b (met a b) (meet_row a b) c;
 }
+
+pub meet_both : (a b : Class) → are_apart a b ≡ false → (a.m ≡ pos 0 → ⊥) → (b.m ≡ pos 0 → ⊥) → met a b ≡ Some (met_of a b)
+meet_both a b e f g =
+    let first = not_zero_test a.m f in
+    let second = not_zero_test b.m g in
+    ap (λ w. if w then None else (if int_eq a.m (pos 0) then Some a else (if int_eq b.m (pos 0) then Some b else Some (met_of a b)))) e
+    ∙ ap (λ w. if w then Some a else (if int_eq b.m (pos 0) then Some b else Some (met_of a b))) first
+    ∙ ap (λ w. if w then Some b else Some (met_of a b)) second

@@ -69,7 +69,7 @@ multiple_of_abs (negsuc n) z h =
     let s = negative_multiple (pos (suc n)) (pos (suc n)) (self_multiple (pos (suc n))) in
     multiple_trans (pos (suc n)) (negsuc n) z (s.0, omega (arith, ints, s.1)) h
 
-test_apart : (a b : Class) → are_apart a b ≡ false → divides (int_gcd a.m b.m) (a.r -ℤ b.r) ≡ true
+pub test_apart : (a b : Class) → are_apart a b ≡ false → divides (int_gcd a.m b.m) (a.r -ℤ b.r) ≡ true
 test_apart a b e = by (divides (int_gcd a.m b.m) (a.r -ℤ b.r)) e
   where
     by : (t : Bool) → not t ≡ false → t ≡ true

@@ -1,5 +1,6 @@
 -- Linear congruences.
-use Rattle.std.specs.Prelude.{◌≡◌, ◌⊎◌, ℕ, zero, suc, ◌+◌, ◌-◌, ◌*◌, ◌/◌, ◌%◌, ◌<◌, ◌≤◌, ◌^◌, Bool, true, false, if◌then◌else◌, ℤ, pos, negsuc, ◌+ℤ◌, ◌-ℤ◌, ◌*ℤ◌, ◌≤ℤ◌, ◌<ℤ◌, neg_ℤ, unsigned_abs}
+use Rattle.std.specs.Prelude.{◌≡◌, ◌⊎◌, ℕ, zero, suc, ◌+◌, ◌-◌, ◌*◌, ◌/◌, ◌%◌, ◌<◌, ◌≤◌, ◌^◌, Bool, true, false, if◌then◌else◌, ℤ, pos, negsuc, ◌+ℤ◌, ◌-ℤ◌, ◌*ℤ◌, ◌≤ℤ◌, ◌<ℤ◌, neg_ℤ, unsigned_abs, Option, Some, None}
+use Rattle.std.specs.Option.{SomeIff}
 use Rattle.std.proofs.Common.{arith, ◌∙◌, ap, refl, sym, subst, inl, inr}
 use Rattle.std.proofs.Math.Nat.{mul-div_cancel, mul-le-mul_left, mul-le-mul_right, div-le_self, mod-le, mod-eq_of_lt}
 use Rattle.std.proofs.Math.IntN.{*ℤ-zero}
@@ -8,11 +9,12 @@ use Rattle.std.proofs.lemmas.Nat.Gcd.{le_of_dvd}
 use Rattle.std.proofs.lemmas.Nat.{mod_below, div_below}
 use Rattle.pk_ctypes.specs.Types.{IsEqualModulo}
 use Rattle.pk_ctypes.proofs.Whole.{sum_times, times_sum}
-use Rattle.pk_congr.specs.Classes.{Class, IsMember, gcd, int_gcd, int_lcm, are_apart, class_of, first_in, met_of, rest_modulo}
-use Rattle.pk_congr.proofs.Multiples.{Multiple, assoc, self_multiple, sum_multiple, difference_multiple, times_multiple, multiple_trans, difference_times, dvd_from_multiple, mod_from_multiple}
+use Rattle.pk_congr.specs.Classes.{Class, IsMember, gcd, int_gcd, int_lcm, are_apart, class_of, class_if, first_in, met_of, rest_modulo}
+use Rattle.pk_congr.proofs.Multiples.{Multiple, assoc, self_multiple, sum_multiple, difference_multiple, negative_multiple, test_multiple, times_multiple, multiple_trans, difference_times, dvd_from_multiple, mod_from_multiple}
 use Rattle.pk_congr.proofs.Gcd.{gcd_left, gcd_right, gcd_greatest, gcd_step, gcd_zero, gcd_some}
-use Rattle.pk_congr.proofs.Meets.{whole_part, common_found, common_apart, lcm_by_left}
-use Rattle.pk_congr.proofs.Numbers.{is_member, held_test, not_held, rest_of_zero, rest_of_some}
+use Rattle.pk_congr.proofs.Meets.{whole_part, common_found, common_apart, lcm_by_left, met_of_first}
+use Rattle.pk_congr.proofs.Order.{test_apart}
+use Rattle.pk_congr.proofs.Numbers.{is_member, held_test, not_held, class_if_is, rest_of_zero, rest_of_some}
 use Rattle.pk_congr.proofs.Held.{same_rest}
 
 pub one_modulus : (m n : ℕ) → gcd m n ≡ 1 → m % n ≡ 0 → n ≡ 1
@@ -160,3 +162,38 @@ met_same a b x f g h l p q =
     let test = held_test (int_lcm a.m b.m) l in
     ap (λ (r : ℤ). class_at (int_lcm a.m b.m) r) (rest_same (int_lcm a.m b.m) x s (omega (arith, ints)) apart)
     ∙ sym (ap (λ w. if w then class_of (int_lcm a.m b.m) s else a) test)
+
+-- what the code finds is the meet
+pub meets_by : (a b : Class) (r s g : ℕ) → a.r ≡ pos r → b.r ≡ pos s → g ≡ gcd (unsigned_abs a.m) (unsigned_abs b.m) → are_apart a b ≡ false → IsEqualModulo g (pos r) (pos s)
+meets_by a b r s g e f h k =
+    let d = test_multiple (int_gcd a.m b.m) (a.r -ℤ b.r) (test_apart a b k) in
+    let n = negative_multiple (int_gcd a.m b.m) (a.r -ℤ b.r) d in
+    (n.0, omega (arith, ints, n.1, ap (λ v. n.0 *ℤ pos v) h))
+
+pub both_same : (a b : Class) (m r n s g l x : ℕ) → a.m ≡ pos m → a.r ≡ pos r → b.m ≡ pos n → b.r ≡ pos s → 0 < m → 0 < n → g ≡ gcd m n → are_apart a b ≡ false → m / g * n < 2 ^ 127 → l ≡ m / g * n → x < 2 ^ 127 → IsEqualModulo m (pos r) (pos x) → IsEqualModulo n (pos s) (pos x) → class_if (pos l) (pos x) ≡ met_of a b
+both_same a b m r n s g l x am ar bm bs p q h k room is held left right =
+    let parts = part_some m n g p h in
+    let divisor = subst (λ (v : ℕ). Multiple (pos v) (pos m)) (sym h) (gcd_left (pos m) (pos n)) in
+    let lcm : int_lcm a.m b.m ≡ pos l =
+        ap (λ v. int_lcm v b.m) am ∙ ap (int_lcm (pos m)) bm ∙ ap (λ v. pos (m * n / v)) (sym h) ∙ ap pos (lcm_by_left m n g parts.0 divisor) ∙ ap pos (sym is) in
+    let in_a : IsMember a (pos x) = (left.0, left.1 ∙ ap (λ v. v +ℤ left.0 *ℤ pos m) (sym ar) ∙ ap (λ v. a.r +ℤ left.0 *ℤ v) (sym am)) in
+    let in_b : IsMember b (pos x) = (right.0, right.1 ∙ ap (λ v. v +ℤ right.0 *ℤ pos n) (sym bs) ∙ ap (λ v. b.r +ℤ right.0 *ℤ v) (sym bm)) in
+    let small : unsigned_abs (int_lcm a.m b.m) < 2 ^ 127 = omega (arith, ap unsigned_abs lcm) in
+    class_if_is (pos l) (pos x) (omega arith) held ∙ ap (λ v. class_of v (pos x)) (sym lcm)
+    ∙ met_same a b (pos x) (omega (arith, ints)) (omega (arith, ints)) k small in_a in_b
+
+pub both_first : (a b : Class) (m n g : ℕ) → a.m ≡ pos m → b.m ≡ pos n → 0 < m → g ≡ gcd m n → (m / g * n < 2 ^ 127 → ⊥) → a ≡ met_of a b
+both_first a b m n g am bm p h large =
+    let parts = part_some m n g p h in
+    let divisor = subst (λ (v : ℕ). Multiple (pos v) (pos m)) (sym h) (gcd_left (pos m) (pos n)) in
+    let lcm : int_lcm a.m b.m ≡ pos (m / g * n) =
+        ap (λ v. int_lcm v b.m) am ∙ ap (int_lcm (pos m)) bm ∙ ap (λ v. pos (m * n / v)) (sym h) ∙ ap pos (lcm_by_left m n g parts.0 divisor) in
+    sym (met_of_first a b (omega (arith, ap unsigned_abs lcm, large)))
+
+pub there_is : (P : Type 0) (v : ℕ) (o : Option ℕ) (l : ℕ) → SomeIff o P v → o ≡ Some l → P × (l ≡ v)
+there_is P v None l k e = absurd (cc)
+there_is P v (Some w) l k e = let same : w ≡ l = cc in (k.0, sym same ∙ k.1)
+
+pub there_is_none : (P : Type 0) (v : ℕ) (o : Option ℕ) → SomeIff o P v → o ≡ None → P → ⊥
+there_is_none P v None k e = k
+there_is_none P v (Some w) k e = absurd (cc)

@@ -1,6 +1,7 @@
 // Meets, by linear congruences.
 
 ghost use Rattle.std.specs.Prelude.{◌≡◌, ◌+◌, ◌*◌, ◌/◌, ◌^◌, ◌<◌, ℕ, pos, ◌<ℤ◌, unsigned_abs, false};
+ghost use Rattle.std.specs.Option.{SomeIff};
 ghost use Rattle.pk_ctypes.specs.Types.{IsEqualModulo};
 ghost use Rattle.pk_congr.specs.Classes.{gcd, are_apart, met, met_of};
 
@@ -40,6 +41,23 @@ fn common(m: u128, r: u128, n: u128, s: u128, g: u128) -> u128
     r + m * solution(m / g, n / g, apart / g)
 }
 
+// The least common multiple of two numbers by their greatest common divisor, if it is below 2^127.
+fn multiple(m: u128, n: u128, g: u128) -> Option<u128>
+    requires { 0 < g }
+    ensures { SomeIff result (m / g * n < 2 ^ 127) (m / g * n) }
+{
+    match (m / g).checked_mul(n) {
+        Some(l) => {
+            if l < LIMIT {
+                Some(l)
+            } else {
+                None
+            }
+        }
+        None => None,
+    }
+}
+
 // The common numbers of two congruences that are not apart, and of moduli above 0.
 fn both(a: &Congr, b: &Congr, g: u128) -> Congr
     requires left { pos 0 <ℤ a.now.m }
@@ -50,20 +68,21 @@ fn both(a: &Congr, b: &Congr, g: u128) -> Congr
 {
     let m = a.m.unsigned_abs();
     let n = b.m.unsigned_abs();
-    let multiple = (m / g).checked_mul(n);
-    match multiple {
-        Some(multiple) => {
-            if multiple < LIMIT {
-                class(
-                    multiple,
-                    common(m, a.r.unsigned_abs(), n, b.r.unsigned_abs(), g) as i128,
-                )
-            } else {
-                *a
-            }
-        }
+    match multiple(m, n, g) {
+        Some(l) => class(
+            l,
+            common(m, a.r.unsigned_abs(), n, b.r.unsigned_abs(), g) as i128,
+        ),
         None => *a,
     }
+}
+
+// Whether no number is in both, by the greatest common divisor of the moduli.
+fn apart(a: &Congr, b: &Congr, g: u128) -> bool
+    requires { g ≡ gcd (unsigned_abs a.now.m) (unsigned_abs b.now.m) }
+    ensures { result ≡ are_apart a.now b.now }
+{
+    !is_divisor(g, a.r.abs_diff(b.r))
 }
 
 impl Congr {
@@ -72,7 +91,7 @@ impl Congr {
         ensures { result ≡ met self.now other.now }
     {
         let g = gcd(self.m.unsigned_abs(), other.m.unsigned_abs());
-        if !is_divisor(g, self.r.abs_diff(other.r)) {
+        if apart(self, other, g) {
             None
         } else if self.m == 0 {
             Some(*self)
@@ -88,6 +107,6 @@ impl Congr {
         ensures { result ≡ are_apart self.now other.now }
     {
         let g = gcd(self.m.unsigned_abs(), other.m.unsigned_abs());
-        !is_divisor(g, self.r.abs_diff(other.r))
+        apart(self, other, g)
     }
 }
