@@ -71,6 +71,7 @@ both_are m r h = by (is_held m) (is_held r) refl refl
   where
     whole : pos (unsigned_abs m) ≡ m
     whole = omega (arith, ints)
+
     by : (p q : Bool) → is_held m ≡ p → is_held r ≡ q → class_of_both (if p then Some m else None) (if q then Some r else None) ≡ (if p && q then class_of m r else every)
     by true true e f = ap (λ v. class_if v r) whole ∙ ap (λ b. if b then class_of m r else every) (and_true (is_held m) (is_held r) e f)
     by true false e f = refl

@@ -71,9 +71,9 @@ lcm_least a b z h p q = least (unsigned_abs a) (unsigned_abs b) (some_abs a h) (
         let again = ap (λ v. v * g) is in
         let product : l' * g ≡ m * n = omega arith in
         let first : z *ℤ (c.0 *ℤ pos m) ≡ (l.0 *ℤ c.0) *ℤ (pos m *ℤ pos n) =
-            ap (λ v. v *ℤ (c.0 *ℤ pos m)) l.1 ∙ swap_middle l.0 (pos n) c.0 (pos m) ∙ ap (λ v. (l.0 *ℤ c.0) *ℤ v) (*ℤ_comm (pos n) (pos m)) in
+        ap (λ v. v *ℤ (c.0 *ℤ pos m)) l.1 ∙ swap_middle l.0 (pos n) c.0 (pos m) ∙ ap (λ v. (l.0 *ℤ c.0) *ℤ v) (*ℤ_comm (pos n) (pos m)) in
         let second : z *ℤ (c.1 *ℤ pos n) ≡ (k.0 *ℤ c.1) *ℤ (pos m *ℤ pos n) =
-            ap (λ v. v *ℤ (c.1 *ℤ pos n)) k.1 ∙ swap_middle k.0 (pos m) c.1 (pos n) in
+        ap (λ v. v *ℤ (c.1 *ℤ pos n)) k.1 ∙ swap_middle k.0 (pos m) c.1 (pos n) in
         let both = times_sum (c.0 *ℤ pos m) (c.1 *ℤ pos n) z in
         let sums = sum_times (l.0 *ℤ c.0) (k.0 *ℤ c.1) (pos m *ℤ pos n) in
         let all : z *ℤ pos g ≡ w *ℤ (pos m *ℤ pos n) = ap (λ v. z *ℤ v) c.2 ∙ omega (arith, ints) in
@@ -109,10 +109,10 @@ common_found a b e h =
     let t = int_rem_euclid c.1.0 b.m in
     let d = euclid_differs b.m c.1.0 h in
     let split : c.0 ≡ (a.r +ℤ t *ℤ a.m) +ℤ (d.0 *ℤ b.m) *ℤ a.m =
-        c.1.1 ∙ omega (arith, ints, ap (λ v. v *ℤ a.m) d.1, difference_times c.1.0 t a.m) in
+    c.1.1 ∙ omega (arith, ints, ap (λ v. v *ℤ a.m) d.1, difference_times c.1.0 t a.m) in
     let turned : (d.0 *ℤ b.m) *ℤ a.m ≡ (d.0 *ℤ a.m) *ℤ b.m = assoc d.0 b.m a.m ∙ ap (λ v. d.0 *ℤ v) (*ℤ_comm b.m a.m) ∙ sym (assoc d.0 a.m b.m) in
     let m : Multiple b.m ((a.r +ℤ t *ℤ a.m) -ℤ c.0) =
-        let n = negative_multiple b.m ((d.0 *ℤ a.m) *ℤ b.m) (d.0 *ℤ a.m, refl) in (n.0, omega (arith, ints, n.1)) in
+    let n = negative_multiple b.m ((d.0 *ℤ a.m) *ℤ b.m) (d.0 *ℤ a.m, refl) in (n.0, omega (arith, ints, n.1)) in
     let in_b = next_member b c.0 (a.r +ℤ t *ℤ a.m) c.2 m in
     let least = some_rest c.1.0 b.m h in
     let f = found b a.m (unsigned_abs b.m) a.r least.0 (omega arith) (subst (λ (v : ℤ). IsMember b (a.r +ℤ v *ℤ a.m)) least.1 in_b) in

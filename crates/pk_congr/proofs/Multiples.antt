@@ -18,9 +18,19 @@ pub assoc : (a b c : ℤ) → (a *ℤ b) *ℤ c ≡ a *ℤ (b *ℤ c)
 assoc a b c =
     let left = product_is a b in
     let right = product_is b c in
-    omega (arith, ints, product_is,
-    ap (λ k. k * up c) left.0, ap (λ k. k * down c) left.0, ap (λ k. k * up c) left.1, ap (λ k. k * down c) left.1,
-    ap (λ k. up a * k) right.0, ap (λ k. down a * k) right.0, ap (λ k. up a * k) right.1, ap (λ k. down a * k) right.1)
+    omega (
+      arith,
+      ints,
+      product_is,
+      ap (λ k. k * up c) left.0,
+      ap (λ k. k * down c) left.0,
+      ap (λ k. k * up c) left.1,
+      ap (λ k. k * down c) left.1,
+      ap (λ k. up a * k) right.0,
+      ap (λ k. down a * k) right.0,
+      ap (λ k. up a * k) right.1,
+      ap (λ k. down a * k) right.1,
+    )
 
 pub neg_product : (a b : ℤ) → neg_ℤ a *ℤ b ≡ neg_ℤ (a *ℤ b)
 neg_product a b =

@@ -39,11 +39,15 @@ not_within a b e = first (by_test (divides b.m (a.r -ℤ b.r)))
   where
     first : (divides b.m (a.r -ℤ b.r) ≡ true) ⊎ (divides b.m (a.r -ℤ b.r) ≡ false) → (x : ℤ) × IsMember a x × (IsMember b x → ⊥)
     first (inr f) = (a.r, rest_member a, λ h. let test = multiple_test b.m (a.r -ℤ b.r) (apart_by b a.r h) in absurd (cc))
-    first (inl f) = (a.r +ℤ a.m, modulus_member a, λ h.
-        let d = two_members b (a.r +ℤ a.m) a.r h (is_member b a.r (test_multiple b.m (a.r -ℤ b.r) f)) in
-        let test = multiple_test b.m a.m (d.0, omega (arith, ints, d.1)) in
-        let yes = and_true (divides b.m a.m) (divides b.m (a.r -ℤ b.r)) test f in
-        absurd (cc))
+    first (inl f) = (
+      a.r +ℤ a.m,
+      modulus_member a,
+      λ h.
+          let d = two_members b (a.r +ℤ a.m) a.r h (is_member b a.r (test_multiple b.m (a.r -ℤ b.r) f)) in
+          let test = multiple_test b.m a.m (d.0, omega (arith, ints, d.1)) in
+          let yes = and_true (divides b.m a.m) (divides b.m (a.r -ℤ b.r)) test f in
+          absurd (cc),
+    )
 
 common_divisor : (a b : Class) (x : ℤ) → IsMember a x → IsMember b x → Multiple (int_gcd a.m b.m) (a.r -ℤ b.r)
 common_divisor a b x h k =

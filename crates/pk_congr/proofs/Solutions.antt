@@ -29,6 +29,7 @@ to_next d a h = by (d % a) refl
   where
     small : d % a < a
     small = mod_below d a h
+
     by : (r : ℕ) → d % a ≡ r → (j : ℕ) × (d + (a - d % a) % a ≡ j * a)
     by zero e = (d / a, (let gone : (a - d % a) % a ≡ 0 = ap (λ v. (a - v) % a) e ∙ self a h in omega arith))
       where
@@ -58,12 +59,16 @@ coprime m n g h e = one (gcd (m / g) (n / g)) refl
   where
     some : 0 < g
     some = let s = gcd_some m n h in omega arith
+
     left : m / g * g ≡ m
     left = whole_part m g some (subst (λ (v : ℕ). Multiple (pos v) (pos m)) (sym e) (gcd_left (pos m) (pos n)))
+
     right : n / g * g ≡ n
     right = whole_part n g some (subst (λ (v : ℕ). Multiple (pos v) (pos n)) (sym e) (gcd_right (pos m) (pos n)))
+
     part : (x k : ℕ) → Multiple (pos k) (pos x) → Multiple (pos (k * g)) (pos (x * g))
     part x k d = (d.0, ap (λ v. v *ℤ pos g) d.1 ∙ assoc d.0 (pos k) (pos g))
+
     one : (k : ℕ) → gcd (m / g) (n / g) ≡ k → k ≡ 1
     one zero f =
         let d = gcd_left (pos (m / g)) (pos (n / g)) in
@@ -118,11 +123,13 @@ distance_is r s n h =
     let q = r / n in
     let p = (s + (n - r % n)) / n in
     let back : s + (n - r % n) + r ≡ s + n + q * n = omega arith in
-    let split : s + (n - r % n) ≡ p * n + (s + (n - r % n)) % n = omega arith in
-    (pos 1 +ℤ pos q -ℤ pos p, (
-    let turned = difference_times (pos 1 +ℤ pos q) (pos p) (pos n) in
-    let sums = sum_times (pos 1) (pos q) (pos n) in
-    omega (arith, ints)))
+    let split : s + (n - r % n) ≡ p * n + (s + (n - r % n)) % n = omega arith in (
+      pos 1 +ℤ pos q -ℤ pos p,
+      (
+          let turned = difference_times (pos 1 +ℤ pos q) (pos p) (pos n) in
+          let sums = sum_times (pos 1) (pos q) (pos n) in
+          omega (arith, ints)),
+    )
 
 -- r + m t, where m / g t - d / g is a multiple of n / g, is equal to s modulo n
 pub common_right : (m n g r s d t : ℕ) → 0 < g → m / g * g ≡ m → n / g * g ≡ n → d / g * g ≡ d → (u : ℕ) × (m / g * t ≡ d / g + n / g * u) → (k : ℤ) × (pos d ≡ (pos s -ℤ pos r) +ℤ k *ℤ pos n) → IsEqualModulo n (pos s) (pos (r + m * t))
@@ -175,7 +182,7 @@ both_same a b m r n s g l x am ar bm bs p q h k room is held left right =
     let parts = part_some m n g p h in
     let divisor = subst (λ (v : ℕ). Multiple (pos v) (pos m)) (sym h) (gcd_left (pos m) (pos n)) in
     let lcm : int_lcm a.m b.m ≡ pos l =
-        ap (λ v. int_lcm v b.m) am ∙ ap (int_lcm (pos m)) bm ∙ ap (λ v. pos (m * n / v)) (sym h) ∙ ap pos (lcm_by_left m n g parts.0 divisor) ∙ ap pos (sym is) in
+    ap (λ v. int_lcm v b.m) am ∙ ap (int_lcm (pos m)) bm ∙ ap (λ v. pos (m * n / v)) (sym h) ∙ ap pos (lcm_by_left m n g parts.0 divisor) ∙ ap pos (sym is) in
     let in_a : IsMember a (pos x) = (left.0, left.1 ∙ ap (λ v. v +ℤ left.0 *ℤ pos m) (sym ar) ∙ ap (λ v. a.r +ℤ left.0 *ℤ v) (sym am)) in
     let in_b : IsMember b (pos x) = (right.0, right.1 ∙ ap (λ v. v +ℤ right.0 *ℤ pos n) (sym bs) ∙ ap (λ v. b.r +ℤ right.0 *ℤ v) (sym bm)) in
     let small : unsigned_abs (int_lcm a.m b.m) < 2 ^ 127 = omega (arith, ap unsigned_abs lcm) in
@@ -187,7 +194,7 @@ both_first a b m n g am bm p h large =
     let parts = part_some m n g p h in
     let divisor = subst (λ (v : ℕ). Multiple (pos v) (pos m)) (sym h) (gcd_left (pos m) (pos n)) in
     let lcm : int_lcm a.m b.m ≡ pos (m / g * n) =
-        ap (λ v. int_lcm v b.m) am ∙ ap (int_lcm (pos m)) bm ∙ ap (λ v. pos (m * n / v)) (sym h) ∙ ap pos (lcm_by_left m n g parts.0 divisor) in
+    ap (λ v. int_lcm v b.m) am ∙ ap (int_lcm (pos m)) bm ∙ ap (λ v. pos (m * n / v)) (sym h) ∙ ap pos (lcm_by_left m n g parts.0 divisor) in
     sym (met_of_first a b (omega (arith, ap unsigned_abs lcm, large)))
 
 pub there_is : (P : Type 0) (v : ℕ) (o : Option ℕ) (l : ℕ) → SomeIff o P v → o ≡ Some l → P × (l ≡ v)

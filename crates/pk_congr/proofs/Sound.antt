@@ -55,7 +55,7 @@ product_differs m r n s k l =
     let second = times_sum s (l *ℤ n) (k *ℤ m) in
     let turned : r *ℤ (l *ℤ n) ≡ l *ℤ (n *ℤ r) = *ℤ_comm r (l *ℤ n) ∙ assoc l n r in
     let middle : (k *ℤ m) *ℤ (l *ℤ n) ≡ (k *ℤ l) *ℤ (m *ℤ n) =
-        assoc k m (l *ℤ n) ∙ ap (λ v. k *ℤ v) (sym (assoc m l n) ∙ ap (λ v. v *ℤ n) (*ℤ_comm m l) ∙ assoc l m n) ∙ sym (assoc k l (m *ℤ n)) in
+    assoc k m (l *ℤ n) ∙ ap (λ v. k *ℤ v) (sym (assoc m l n) ∙ ap (λ v. v *ℤ n) (*ℤ_comm m l) ∙ assoc l m n) ∙ sym (assoc k l (m *ℤ n)) in
     let last = assoc k m s in
     omega (arith, ints)
 
@@ -67,8 +67,8 @@ product_multiple a b x y h k =
     let second = multiple_trans g d (a.m *ℤ b.r) (gcd_left d (b.m *ℤ a.r)) (gcd_right (a.m *ℤ b.m) (a.m *ℤ b.r)) in
     let third = gcd_right d (b.m *ℤ a.r) in
     let s = sum_multiple g ((h.0 *ℤ k.0) *ℤ (a.m *ℤ b.m) +ℤ h.0 *ℤ (a.m *ℤ b.r)) (k.0 *ℤ (b.m *ℤ a.r))
-        (sum_multiple g ((h.0 *ℤ k.0) *ℤ (a.m *ℤ b.m)) (h.0 *ℤ (a.m *ℤ b.r)) (times_multiple g (a.m *ℤ b.m) (h.0 *ℤ k.0) first) (times_multiple g (a.m *ℤ b.r) h.0 second))
-        (times_multiple g (b.m *ℤ a.r) k.0 third) in
+    (sum_multiple g ((h.0 *ℤ k.0) *ℤ (a.m *ℤ b.m)) (h.0 *ℤ (a.m *ℤ b.r)) (times_multiple g (a.m *ℤ b.m) (h.0 *ℤ k.0) first) (times_multiple g (a.m *ℤ b.r) h.0 second))
+    (times_multiple g (b.m *ℤ a.r) k.0 third) in
     (s.0, ap (λ v. v *ℤ y -ℤ a.r *ℤ b.r) h.1 ∙ ap (λ v. (a.r +ℤ h.0 *ℤ a.m) *ℤ v -ℤ a.r *ℤ b.r) k.1 ∙ product_differs a.m a.r b.m b.r h.0 k.0 ∙ s.1)
 
 product_sound : (a b : Class) (x y : ℤ) → IsMember a x → IsMember b y → IsMember (class_product a b) (x *ℤ y)
@@ -98,7 +98,7 @@ exact_quotient q c h =
 quotient_differs : (m r c x : ℤ) → (c ≡ pos 0 → ⊥) → Multiple c m → Multiple c r → Multiple m (x -ℤ r) → Multiple (pos (unsigned_abs m / unsigned_abs c)) (int_div x c -ℤ int_div r c)
 quotient_differs m r c x h p q k =
     let size : unsigned_abs m / unsigned_abs c ≡ unsigned_abs p.0 =
-        ap (λ n. n / unsigned_abs c) (ap unsigned_abs p.1 ∙ unsigned_abs-mul p.0 c) ∙ mul-div_cancel (unsigned_abs p.0) (some_size c h) in
+    ap (λ n. n / unsigned_abs c) (ap unsigned_abs p.1 ∙ unsigned_abs-mul p.0 c) ∙ mul-div_cancel (unsigned_abs p.0) (some_size c h) in
     let below : int_div r c ≡ q.0 = ap (λ v. int_div v c) q.1 ∙ exact_quotient q.0 c h in
     let product : k.0 *ℤ m ≡ (k.0 *ℤ p.0) *ℤ c = ap (λ v. k.0 *ℤ v) p.1 ∙ sym (assoc k.0 p.0 c) in
     let all : x ≡ (q.0 +ℤ k.0 *ℤ p.0) *ℤ c = omega (arith, ints, k.1, q.1, product, sum_times q.0 (k.0 *ℤ p.0) c) in

@@ -74,7 +74,7 @@ module _ (t : IntType) (h n : Class) (f : IsOf t h) (g : IsOf t n) where
       by zero zero e e' =
           let apart = distance t h.r n.r (f.constant (omega (arith, ints))) (g.constant (omega (arith, ints))) in
           let small = gcd_below (gcd (unsigned_abs h.m) (unsigned_abs n.m)) (unsigned_abs (h.r -ℤ n.r)) (2 ^ 64)
-              (gcd_below (unsigned_abs h.m) (unsigned_abs n.m) (2 ^ 64) (omega arith) (omega arith)) apart in
+          (gcd_below (unsigned_abs h.m) (unsigned_abs n.m) (2 ^ 64) (omega arith) (omega arith)) apart in
           omega arith
 
   widened_is : widened h n ≡ class_of (pos (modulus_of h n)) h.r
@@ -101,6 +101,7 @@ module _ (t : IntType) (h n : Class) (f : IsOf t h) (g : IsOf t n) where
           by_zero (suc k) e' =
               let some = gcd_some (gcd (unsigned_abs h.m) (unsigned_abs n.m)) (unsigned_abs (h.r -ℤ n.r)) (gcd_some (unsigned_abs h.m) (unsigned_abs n.m) (omega arith)) in
               absurd (omega (arith, ints))
+
           by : h.m ≡ pos 0 → InType t (rest_modulo h.r (pos (modulus_of h n)))
           by none = subst (InType t) (sym (rest_of_zero h.r (pos (modulus_of h n)) e)) (f.constant none)
 
@@ -127,6 +128,7 @@ module _ (t : IntType) (h n : Class) (f : IsOf t h) (g : IsOf t n) where
         divisor =
             let d = int_gcd h.m n.m in
             multiple_trans (pos (modulus_of h n)) d (pos (unsigned_abs h.m)) (gcd_left d (h.r -ℤ n.r)) (gcd_left (pos (unsigned_abs h.m)) n.m)
+
         by : (q : ℕ) → q * modulus_of h n ≡ unsigned_abs h.m → 2 * modulus_of h n ≤ unsigned_abs h.m
         by zero is = absurd (omega arith)
         by (suc (suc q)) is = omega arith

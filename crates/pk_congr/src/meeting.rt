@@ -47,13 +47,7 @@ fn multiple(m: u128, n: u128, g: u128) -> Option<u128>
     ensures { SomeIff result (m / g * n < 2 ^ 127) (m / g * n) }
 {
     match (m / g).checked_mul(n) {
-        Some(l) => {
-            if l < LIMIT {
-                Some(l)
-            } else {
-                None
-            }
-        }
+        Some(l) => { if l < LIMIT { Some(l) } else { None } }
         None => None,
     }
 }

@@ -11,13 +11,7 @@ pub(crate) fn held(z: Option<i128>) -> Option<i128>
     ensures { result ≡ held_number z }
 {
     match z {
-        Some(z) => {
-            if z == i128::MIN {
-                None
-            } else {
-                Some(z)
-            }
-        }
+        Some(z) => { if z == i128::MIN { None } else { Some(z) } }
         None => None,
     }
 }

@@ -1,7 +1,7 @@
 // What the operators give, before a result is clamped to its type or wrapped, and wrapping.
 
 ghost use Rattle.std.specs.Prelude.{◌≡◌, ◌^◌, pos, unsigned_abs, true};
-ghost use Rattle.pk_ctypes.specs.Types.{width_of, size_of};
+ghost use Rattle.pk_ctypes.specs.Types.{size_of};
 ghost use Rattle.pk_ctypes.specs.Operators.{is_count};
 ghost use Rattle.pk_congr.specs.Classes.{every};
 ghost use Rattle.pk_congr.specs.Operators.{class_if_some, product_of, class_of_products, class_of_both, class_sum, class_difference, class_product, is_divided, class_quotient, class_rest, class_doubled, class_negative, complement_total, class_complement, result_of, wrapped_class};
@@ -9,7 +9,7 @@ ghost use Rattle.pk_congr.specs.Operators.{class_if_some, product_of, class_of_p
 use crate::congr::{Congr, class};
 use crate::divisors::{gcd, is_divisor};
 use crate::members::held;
-use pk_ctypes::{IntType, Op, range};
+use pk_ctypes::{IntType, Op, is_signed, range, width};
 
 // The congruence of a modulus and any number of it, if there is such a number of 128 bits.
 fn class_or(m: u128, r: Option<i128>) -> Congr
@@ -24,13 +24,19 @@ fn class_or(m: u128, r: Option<i128>) -> Congr
 fn sum(a: &Congr, b: &Congr) -> Congr
     ensures { result ≡ class_sum a.now b.now }
 {
-    class_or(gcd(a.m.unsigned_abs(), b.m.unsigned_abs()), a.r.checked_add(b.r))
+    class_or(
+        gcd(a.m.unsigned_abs(), b.m.unsigned_abs()),
+        a.r.checked_add(b.r),
+    )
 }
 
 fn difference(a: &Congr, b: &Congr) -> Congr
     ensures { result ≡ class_difference a.now b.now }
 {
-    class_or(gcd(a.m.unsigned_abs(), b.m.unsigned_abs()), a.r.checked_sub(b.r))
+    class_or(
+        gcd(a.m.unsigned_abs(), b.m.unsigned_abs()),
+        a.r.checked_sub(b.r),
+    )
 }
 
 // A product, unless it is 2^127 or more in absolute value.
@@ -100,23 +106,11 @@ fn rest(a: &Congr, b: &Congr) -> Congr
     class(gcd(moduli, b.r.unsigned_abs()), a.r)
 }
 
-// How many bits a type has.
-fn width(t: IntType) -> i128
-    ensures { result ≡ pos (width_of t) }
-{
-    match t {
-        IntType::Char | IntType::SChar | IntType::UChar => 8,
-        IntType::Short | IntType::UShort => 16,
-        IntType::Int | IntType::UInt => 32,
-        IntType::Long | IntType::ULong | IntType::LLong | IntType::ULLong => 64,
-    }
-}
-
 // Whether a number is a count of bits that are fewer than the type has.
 fn counts(t: IntType, b: i128) -> bool
     ensures { result ≡ is_count t b }
 {
-    0 <= b && b < width(t)
+    0 <= b && b < i128::from(width(t))
 }
 
 // The congruence of a modulus and a rest, if they are there.
@@ -159,8 +153,8 @@ fn negative(a: &Congr) -> Congr
 fn total(t: IntType) -> i128
     ensures { result ≡ complement_total t }
 {
-    let (low, high) = range(t);
-    if low < 0 { -1 } else { high }
+    let (_, high) = range(t);
+    if is_signed(t) { -1 } else { high }
 }
 
 fn complement(t: IntType, a: &Congr) -> Congr

@@ -5,11 +5,16 @@ use Rattle.pk_congr.proofs.Solutions.{one_modulus, smaller_product, solved}
 use Rattle.pk_congr.proofs.meeting.«+solution».Goals as goal
 
 pub solution-u-requires : goal.solution-u-requires
-solution-u-requires t c =
-    (omega arith,
-    (sym (gcd_step c.args.m c.args.n) ∙ c.requires.apart,
-    (smaller_product c.args.m c.args.n _ c.requires.product,
-    mod_below _ _ (omega arith))))
+solution-u-requires t c = (
+  omega arith,
+  (
+    sym (gcd_step c.args.m c.args.n) ∙ c.requires.apart,
+    (
+      smaller_product c.args.m c.args.n _ c.requires.product,
+      mod_below _ _ (omega arith),
+    ),
+  ),
+)
 
 pub returns-then-a-eq0-clause-solves : goal.returns-then-a-eq0-clause-solves
 returns-then-a-eq0-clause-solves t c =

@@ -13,7 +13,7 @@ multiple-requires c =
     let left : 0 < c.unsigned_abs-m.result = omega (arith, ints, c.requires.left, am) in
     let right : 0 < c.unsigned_abs-n.result = omega (arith, ints, c.requires.right, bm) in
     let divisor : c.args.g ≡ gcd c.unsigned_abs-m.result c.unsigned_abs-n.result =
-        c.requires.divisor ∙ ap (λ v. gcd (unsigned_abs v) (unsigned_abs c.args.b.now.m)) am ∙ ap (λ v. gcd c.unsigned_abs-m.result (unsigned_abs v)) bm in
+    c.requires.divisor ∙ ap (λ v. gcd (unsigned_abs v) (unsigned_abs c.args.b.now.m)) am ∙ ap (λ v. gcd c.unsigned_abs-m.result (unsigned_abs v)) bm in
     (part_some c.unsigned_abs-m.result c.unsigned_abs-n.result c.args.g left divisor).0
 
 pub common-requires-clause-left : goal.common-requires-clause-left
@@ -23,7 +23,7 @@ common-requires-clause-left c =
     let left : 0 < c.unsigned_abs-m.result = omega (arith, ints, c.requires.left, am) in
     let right : 0 < c.unsigned_abs-n.result = omega (arith, ints, c.requires.right, bm) in
     let divisor : c.args.g ≡ gcd c.unsigned_abs-m.result c.unsigned_abs-n.result =
-        c.requires.divisor ∙ ap (λ v. gcd (unsigned_abs v) (unsigned_abs c.args.b.now.m)) am ∙ ap (λ v. gcd c.unsigned_abs-m.result (unsigned_abs v)) bm in
+    c.requires.divisor ∙ ap (λ v. gcd (unsigned_abs v) (unsigned_abs c.args.b.now.m)) am ∙ ap (λ v. gcd c.unsigned_abs-m.result (unsigned_abs v)) bm in
     let ar : c.args.a.now.r ≡ pos c.unsigned_abs.result = sym (ap (λ (v : Class). v.r) c.a.view_is) ∙ omega (arith, ints, c.a.invariant.rest, c.a.invariant.rest_held, c.unsigned_abs.ensures.value, left, am, ap (λ (v : Class). v.m) c.a.view_is) in
     let bs : c.args.b.now.r ≡ pos c.unsigned_abs-in-Some.result = sym (ap (λ (v : Class). v.r) c.b.view_is) ∙ omega (arith, ints, c.b.invariant.rest, c.b.invariant.rest_held, c.unsigned_abs-in-Some.ensures.value, right, bm, ap (λ (v : Class). v.m) c.b.view_is) in
     omega (arith, ints, c.a.invariant.rest)
@@ -35,7 +35,7 @@ common-requires-clause-right c =
     let left : 0 < c.unsigned_abs-m.result = omega (arith, ints, c.requires.left, am) in
     let right : 0 < c.unsigned_abs-n.result = omega (arith, ints, c.requires.right, bm) in
     let divisor : c.args.g ≡ gcd c.unsigned_abs-m.result c.unsigned_abs-n.result =
-        c.requires.divisor ∙ ap (λ v. gcd (unsigned_abs v) (unsigned_abs c.args.b.now.m)) am ∙ ap (λ v. gcd c.unsigned_abs-m.result (unsigned_abs v)) bm in
+    c.requires.divisor ∙ ap (λ v. gcd (unsigned_abs v) (unsigned_abs c.args.b.now.m)) am ∙ ap (λ v. gcd c.unsigned_abs-m.result (unsigned_abs v)) bm in
     let ar : c.args.a.now.r ≡ pos c.unsigned_abs.result = sym (ap (λ (v : Class). v.r) c.a.view_is) ∙ omega (arith, ints, c.a.invariant.rest, c.a.invariant.rest_held, c.unsigned_abs.ensures.value, left, am, ap (λ (v : Class). v.m) c.a.view_is) in
     let bs : c.args.b.now.r ≡ pos c.unsigned_abs-in-Some.result = sym (ap (λ (v : Class). v.r) c.b.view_is) ∙ omega (arith, ints, c.b.invariant.rest, c.b.invariant.rest_held, c.unsigned_abs-in-Some.ensures.value, right, bm, ap (λ (v : Class). v.m) c.b.view_is) in
     omega (arith, ints, c.b.invariant.rest)
@@ -47,7 +47,7 @@ common-requires-clause-meets c =
     let left : 0 < c.unsigned_abs-m.result = omega (arith, ints, c.requires.left, am) in
     let right : 0 < c.unsigned_abs-n.result = omega (arith, ints, c.requires.right, bm) in
     let divisor : c.args.g ≡ gcd c.unsigned_abs-m.result c.unsigned_abs-n.result =
-        c.requires.divisor ∙ ap (λ v. gcd (unsigned_abs v) (unsigned_abs c.args.b.now.m)) am ∙ ap (λ v. gcd c.unsigned_abs-m.result (unsigned_abs v)) bm in
+    c.requires.divisor ∙ ap (λ v. gcd (unsigned_abs v) (unsigned_abs c.args.b.now.m)) am ∙ ap (λ v. gcd c.unsigned_abs-m.result (unsigned_abs v)) bm in
     let ar : c.args.a.now.r ≡ pos c.unsigned_abs.result = sym (ap (λ (v : Class). v.r) c.a.view_is) ∙ omega (arith, ints, c.a.invariant.rest, c.a.invariant.rest_held, c.unsigned_abs.ensures.value, left, am, ap (λ (v : Class). v.m) c.a.view_is) in
     let bs : c.args.b.now.r ≡ pos c.unsigned_abs-in-Some.result = sym (ap (λ (v : Class). v.r) c.b.view_is) ∙ omega (arith, ints, c.b.invariant.rest, c.b.invariant.rest_held, c.unsigned_abs-in-Some.ensures.value, right, bm, ap (λ (v : Class). v.m) c.b.view_is) in
     meets_by c.args.a.now c.args.b.now c.unsigned_abs.result c.unsigned_abs-in-Some.result c.args.g ar bs c.requires.divisor c.requires.meets
@@ -59,14 +59,14 @@ returns-in-Some c =
     let left : 0 < c.unsigned_abs-m.result = omega (arith, ints, c.requires.left, am) in
     let right : 0 < c.unsigned_abs-n.result = omega (arith, ints, c.requires.right, bm) in
     let divisor : c.args.g ≡ gcd c.unsigned_abs-m.result c.unsigned_abs-n.result =
-        c.requires.divisor ∙ ap (λ v. gcd (unsigned_abs v) (unsigned_abs c.args.b.now.m)) am ∙ ap (λ v. gcd c.unsigned_abs-m.result (unsigned_abs v)) bm in
+    c.requires.divisor ∙ ap (λ v. gcd (unsigned_abs v) (unsigned_abs c.args.b.now.m)) am ∙ ap (λ v. gcd c.unsigned_abs-m.result (unsigned_abs v)) bm in
     let ar : c.args.a.now.r ≡ pos c.unsigned_abs.result = sym (ap (λ (v : Class). v.r) c.a.view_is) ∙ omega (arith, ints, c.a.invariant.rest, c.a.invariant.rest_held, c.unsigned_abs.ensures.value, left, am, ap (λ (v : Class). v.m) c.a.view_is) in
     let bs : c.args.b.now.r ≡ pos c.unsigned_abs-in-Some.result = sym (ap (λ (v : Class). v.r) c.b.view_is) ∙ omega (arith, ints, c.b.invariant.rest, c.b.invariant.rest_held, c.unsigned_abs-in-Some.ensures.value, right, bm, ap (λ (v : Class). v.m) c.b.view_is) in
     let held = there_is (c.unsigned_abs-m.result / c.args.g * c.unsigned_abs-n.result < 2 ^ 127) (c.unsigned_abs-m.result / c.args.g * c.unsigned_abs-n.result) c.multiple.result c.in-Some.l c.multiple.ensures c.in-Some.is in
     let found : to_z w128 c.common.result ≡ pos c.common.result = omega (arith, ints, c.common.ensures.held) in
     c.class.ensures ∙ ap (class_if (pos c.in-Some.l)) found
     ∙ both_same c.args.a.now c.args.b.now c.unsigned_abs-m.result c.unsigned_abs.result c.unsigned_abs-n.result c.unsigned_abs-in-Some.result c.args.g c.in-Some.l c.common.result
-        am ar bm bs left right divisor c.requires.meets held.0 held.1 c.common.ensures.held c.common.ensures.left c.common.ensures.right
+    am ar bm bs left right divisor c.requires.meets held.0 held.1 c.common.ensures.held c.common.ensures.left c.common.ensures.right
 
 pub returns-in-None : goal.returns-in-None
 returns-in-None c =
@@ -75,6 +75,6 @@ returns-in-None c =
     let left : 0 < c.unsigned_abs-m.result = omega (arith, ints, c.requires.left, am) in
     let right : 0 < c.unsigned_abs-n.result = omega (arith, ints, c.requires.right, bm) in
     let divisor : c.args.g ≡ gcd c.unsigned_abs-m.result c.unsigned_abs-n.result =
-        c.requires.divisor ∙ ap (λ v. gcd (unsigned_abs v) (unsigned_abs c.args.b.now.m)) am ∙ ap (λ v. gcd c.unsigned_abs-m.result (unsigned_abs v)) bm in
+    c.requires.divisor ∙ ap (λ v. gcd (unsigned_abs v) (unsigned_abs c.args.b.now.m)) am ∙ ap (λ v. gcd c.unsigned_abs-m.result (unsigned_abs v)) bm in
     let large = there_is_none (c.unsigned_abs-m.result / c.args.g * c.unsigned_abs-n.result < 2 ^ 127) (c.unsigned_abs-m.result / c.args.g * c.unsigned_abs-n.result) c.multiple.result c.multiple.ensures c.in-None.is in
     c.a.view_is ∙ both_first c.args.a.now c.args.b.now c.unsigned_abs-m.result c.unsigned_abs-n.result c.args.g am bm left divisor large

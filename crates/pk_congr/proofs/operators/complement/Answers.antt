@@ -1,5 +1,3 @@
-
-
 use Rattle.std.specs.Prelude.{◌-ℤ◌, pos}
 use Rattle.std.proofs.Common.{◌∙◌, ap, arith}
 use Rattle.std.proofs.lemmas.Int.{ints}

@@ -14,7 +14,7 @@ returns c =
     let br : to_z w128 (of_z w128 c.b.inside.r) ≡ c.args.b.now.r = omega (arith, ints, ap (λ (v : Class). v.r) c.b.view_is) in
     c.product_class.ensures
     ∙ products_same c.args.a.now c.args.b.now c.times.result c.times-2.result c.times-3.result c.times-4.result
-        (same_products (to_z w128 (of_z w128 c.a.inside.m)) (to_z w128 (of_z w128 c.b.inside.m)) c.args.a.now.m c.args.b.now.m c.times.result c.times.ensures am bm)
-        (same_products (to_z w128 (of_z w128 c.a.inside.m)) (to_z w128 (of_z w128 c.b.inside.r)) c.args.a.now.m c.args.b.now.r c.times-2.result c.times-2.ensures am br)
-        (same_products (to_z w128 (of_z w128 c.b.inside.m)) (to_z w128 (of_z w128 c.a.inside.r)) c.args.b.now.m c.args.a.now.r c.times-3.result c.times-3.ensures bm ar)
-        (same_products (to_z w128 (of_z w128 c.a.inside.r)) (to_z w128 (of_z w128 c.b.inside.r)) c.args.a.now.r c.args.b.now.r c.times-4.result c.times-4.ensures ar br)
+    (same_products (to_z w128 (of_z w128 c.a.inside.m)) (to_z w128 (of_z w128 c.b.inside.m)) c.args.a.now.m c.args.b.now.m c.times.result c.times.ensures am bm)
+    (same_products (to_z w128 (of_z w128 c.a.inside.m)) (to_z w128 (of_z w128 c.b.inside.r)) c.args.a.now.m c.args.b.now.r c.times-2.result c.times-2.ensures am br)
+    (same_products (to_z w128 (of_z w128 c.b.inside.m)) (to_z w128 (of_z w128 c.a.inside.r)) c.args.b.now.m c.args.a.now.r c.times-3.result c.times-3.ensures bm ar)
+    (same_products (to_z w128 (of_z w128 c.a.inside.r)) (to_z w128 (of_z w128 c.b.inside.r)) c.args.a.now.r c.args.b.now.r c.times-4.result c.times-4.ensures ar br)

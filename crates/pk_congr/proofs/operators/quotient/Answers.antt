@@ -20,4 +20,4 @@ returns-then-divides_all c =
     let divisor : c.unsigned_abs-then-divides_all.result ≡ unsigned_abs c.args.b.now.r = (simp to_z-of_z at c.unsigned_abs-then-divides_all.ensures.value) ∙ ap unsigned_abs br in
     c.class.ensures
     ∙ quotient_same c.args.a.now c.args.b.now c.unsigned_abs.result c.unsigned_abs-then-divides_all.result yes size divisor _
-        (quot_is w128 c.a.inside.r c.b.inside.r top bottom (quotient_fits c.a.inside.r c.b.inside.r c.a.invariant.rest_held) ∙ ap (λ v. int_div v c.b.inside.r) ar ∙ ap (int_div c.args.a.now.r) br)
+    (quot_is w128 c.a.inside.r c.b.inside.r top bottom (quotient_fits c.a.inside.r c.b.inside.r c.a.invariant.rest_held) ∙ ap (λ v. int_div v c.b.inside.r) ar ∙ ap (int_div c.args.a.now.r) br)

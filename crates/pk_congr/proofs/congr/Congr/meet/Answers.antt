@@ -9,5 +9,5 @@ pub returns-else-other-eq0 : goal.returns-else-other-eq0
 returns-else-other-eq0 c =
     ap Some c.both.ensures
     ∙ sym (meet_both c.args.self.now c.args.other.now (sym c.apart.ensures ∙ c.if-apart.false)
-        (λ e. c.if-self-eq0.false (ap (of_z w128) (ap (λ (v : Class). v.m) c.self.view_is ∙ e)))
-        (λ e. c.if-other-eq0.false (ap (of_z w128) (ap (λ (v : Class). v.m) c.other.view_is ∙ e))))
+    (λ e. c.if-self-eq0.false (ap (of_z w128) (ap (λ (v : Class). v.m) c.self.view_is ∙ e)))
+    (λ e. c.if-other-eq0.false (ap (of_z w128) (ap (λ (v : Class). v.m) c.other.view_is ∙ e))))

@@ -16,13 +16,13 @@ returns-else-self-eq0 c =
     let modulus : to_z w128 (of_z w128 c.self.inside.m) ≡ c.args.self.now.m = omega (arith, ints, c.self.invariant.modulus_held) in
     let x : to_z w128 (of_z w128 c.args.x) ≡ c.args.x = to_z-of_z w128 c.args.x c.ranges.x in
     let first : c.rem_euclid.result ≡ int_rem_euclid c.args.x c.args.self.now.m =
-        c.rem_euclid.ensures.value ∙ ap (λ v. int_rem_euclid v (to_z w128 (of_z w128 c.self.inside.m))) x ∙ ap (int_rem_euclid c.args.x) modulus in
+    c.rem_euclid.ensures.value ∙ ap (λ v. int_rem_euclid v (to_z w128 (of_z w128 c.self.inside.m))) x ∙ ap (int_rem_euclid c.args.x) modulus in
     let bounds = rest_bounds c.args.x c.args.self.now.m (omega (arith, ints)) (λ e. some (m ∙ e)) in
     let inner : to_z w128 (of_z w128 (to_z w128 (of_z w128 c.self.inside.r) -ℤ to_z w128 (of_z w128 c.rem_euclid.result))) ≡ c.args.self.now.r -ℤ int_rem_euclid c.args.x c.args.self.now.m =
-        omega (arith, ints, c.self.invariant.rest, c.self.invariant.modulus_held, c.self.invariant.rest_held) in
+    omega (arith, ints, c.self.invariant.rest, c.self.invariant.modulus_held, c.self.invariant.rest_held) in
     let second : c.rem_euclid-above.result ≡ int_rem_euclid (c.args.self.now.r -ℤ int_rem_euclid c.args.x c.args.self.now.m) c.args.self.now.m =
-        c.rem_euclid-above.ensures.value ∙ ap (λ v. int_rem_euclid v (to_z w128 (of_z w128 c.self.inside.m))) inner
-        ∙ ap (int_rem_euclid (c.args.self.now.r -ℤ int_rem_euclid c.args.x c.args.self.now.m)) modulus in
+    c.rem_euclid-above.ensures.value ∙ ap (λ v. int_rem_euclid v (to_z w128 (of_z w128 c.self.inside.m))) inner
+    ∙ ap (int_rem_euclid (c.args.self.now.r -ℤ int_rem_euclid c.args.x c.args.self.now.m)) modulus in
     let fits : FitsSigned w128 c.rem_euclid-above.result = record { sfits = c.rem_euclid-above.type_inv } in
     c.held.ensures
     ∙ up_same c.args.self.now c.args.x c.rem_euclid-above.result _ c.checked_add.result positive c.checked_add.ensures (omega (arith, ints)) second
