@@ -1,12 +1,12 @@
 -- Greatest common divisors and least common multiples.
-use Rattle.std.specs.Prelude.{◌≡◌, ℕ, zero, suc, ◌+◌, ◌*◌, ◌/◌, ◌%◌, ◌<◌, ◌≤◌, ℤ, pos, negsuc, ◌+ℤ◌, ◌-ℤ◌, ◌*ℤ◌, neg_ℤ, unsigned_abs}
+use Rattle.std.specs.Prelude.{◌≡◌, ℕ, zero, suc, ◌+◌, ◌/◌, ◌%◌, ◌<◌, ℤ, pos, ◌+ℤ◌, ◌-ℤ◌, ◌*ℤ◌, unsigned_abs}
 use Rattle.std.specs.Int.{IsGcd}
-use Rattle.std.proofs.Common.{arith, ◌∙◌, ap, refl, sym}
+use Rattle.std.proofs.Common.{arith, ◌∙◌, ap, refl}
 use Rattle.std.proofs.lemmas.Int.{ints}
-use Rattle.std.proofs.lemmas.Nat.Gcd.{IsGcd-from_zero, IsGcd-from_mod, same_from_IsGcd, le_of_dvd, dvd_refl}
+use Rattle.std.proofs.lemmas.Nat.Gcd.{IsGcd-from_zero, IsGcd-from_mod, same_from_IsGcd}
 use Rattle.std.proofs.Math.IntN.{*ℤ-zero}
-use Rattle.pk_congr.specs.Classes.{gcd_in, gcd, int_gcd, int_lcm}
-use Rattle.pk_congr.proofs.Multiples.{Multiple, assoc, times_difference, difference_times, sum_multiple, times_multiple, dvd_from_multiple, multiple_from_dvd}
+use Rattle.pk_congr.specs.Classes.{gcd_in, gcd, int_gcd}
+use Rattle.pk_congr.proofs.Multiples.{Multiple, assoc, times_difference, difference_times, dvd_from_multiple, multiple_from_dvd}
 
 euclid_in : (n a b : ℕ) → b < n → IsGcd a b (gcd_in n a b)
 unfolding gcd_in

@@ -1,20 +1,20 @@
 -- What the code's 128 bits hold.
-use Rattle.std.specs.Prelude.{◌≡◌, ℕ, suc, zero, ◌+◌, ◌*◌, ◌/◌, ◌%◌, ◌^◌, ◌<◌, ◌≤◌, ◌&&◌, Bool, true, false, not, if◌then◌else◌, ℤ, pos, negsuc, ◌+ℤ◌, ◌-ℤ◌, ◌*ℤ◌, ◌≤ℤ◌, ◌<ℤ◌, int_le, int_div, unsigned_abs, FitsSigned, Option, Some, None}
+use Rattle.std.specs.Prelude.{◌≡◌, ℕ, suc, zero, ◌*◌, ◌/◌, ◌%◌, ◌^◌, ◌<◌, ◌&&◌, Bool, true, false, not, if◌then◌else◌, ℤ, pos, negsuc, ◌+ℤ◌, ◌-ℤ◌, ◌*ℤ◌, ◌≤ℤ◌, ◌<ℤ◌, int_le, int_div, unsigned_abs, FitsSigned, Option, Some, None}
 use Rattle.std.specs.Option.{SomeIff}
 use Rattle.std.specs.Int.{w128, int_rem_euclid}
 use native.Mathlib.Nat.{div-le_self}
 use Rattle.pk_ctypes.specs.declared.types.IntType.{IntType}
 use Rattle.pk_ctypes.specs.Types.{InType, is_signed_of}
-use Rattle.pk_ctypes.specs.Operators.{is_count, is_below_zero}
+use Rattle.pk_ctypes.specs.Operators.{is_count}
 use Rattle.pk_ctypes.proofs.Whole.{rest_split, rest_from, rest_below, sum_times, same_multiple}
 use Rattle.pk_ctypes.proofs.Wrapped.{zero_in, one_most}
 use Rattle.pk_ctypes.proofs.Shifts.{left_back}
 use Rattle.std.specs.Ordering.{int_eq}
-use Rattle.std.proofs.Common.{arith, ◌∙◌, ap, refl, sym, subst, to_z, of_z}
-use Rattle.std.proofs.lemmas.Int.{ints, to_z-of_z, fits_signed_from_abs}
+use Rattle.std.proofs.Common.{arith, ◌∙◌, ap, refl, sym, to_z, of_z}
+use Rattle.std.proofs.lemmas.Int.{ints, fits_signed_from_abs}
 use Rattle.pk_ctypes.proofs.Values.{zero_test, not_zero_test}
 use Rattle.pk_congr.specs.Classes.{Class, int_gcd, divides, is_held, every, class_of, class_if, held_number, next_up_of, next_down_of}
-use Rattle.pk_congr.specs.Operators.{class_if_some, product_of, class_of_products, class_of_both, are_products_held, class_product, is_divided, class_quotient, is_counted, class_doubled}
+use Rattle.pk_congr.specs.Operators.{class_if_some, product_of, class_of_products, class_of_both, class_product, is_divided, class_quotient, class_doubled}
 use Rattle.pk_congr.proofs.Multiples.{Multiple, negative_multiple}
 use Rattle.pk_congr.proofs.Numbers.{and_true, test_held, euclid_differs}
 

@@ -1,18 +1,18 @@
 -- Least common multiples, and the meet of classes.
-use Rattle.std.specs.Prelude.{◌≡◌, ◌⊎◌, ℕ, zero, suc, ◌+◌, ◌-◌, ◌*◌, ◌/◌, ◌%◌, ◌<◌, ◌≤◌, ◌^◌, Bool, true, false, if◌then◌else◌, ℤ, pos, negsuc, ◌+ℤ◌, ◌-ℤ◌, ◌*ℤ◌, ◌≤ℤ◌, ◌<ℤ◌, neg_ℤ, unsigned_abs, Option, Some, None}
+use Rattle.std.specs.Prelude.{◌≡◌, ℕ, zero, suc, ◌-◌, ◌*◌, ◌/◌, ◌%◌, ◌<◌, ◌≤◌, ◌^◌, Bool, true, false, if◌then◌else◌, ℤ, pos, negsuc, ◌+ℤ◌, ◌-ℤ◌, ◌*ℤ◌, unsigned_abs, Option, Some, None}
 use Rattle.std.specs.Int.{int_rem_euclid}
 use Rattle.std.specs.Ordering.{int_eq}
-use Rattle.std.proofs.Common.{arith, ◌∙◌, ap, refl, sym, subst, inl, inr}
+use Rattle.std.proofs.Common.{arith, ◌∙◌, ap, refl, sym, subst}
 use Rattle.std.proofs.Math.Nat.{mul-div_cancel, zero-div}
 use Rattle.std.proofs.Math.IntN.{*ℤ_comm, zero-*ℤ, *ℤ-zero}
 use Rattle.std.proofs.lemmas.Int.{ints}
 use Rattle.pk_ctypes.proofs.Whole.{sum_times, times_sum, same_multiple}
 use Rattle.pk_ctypes.proofs.Values.{not_zero_test}
-use Rattle.pk_congr.specs.Classes.{Class, IsMember, gcd, int_gcd, int_lcm, is_held, has_member, class_of, are_apart, first_in, met_of, met}
+use Rattle.pk_congr.specs.Classes.{Class, IsMember, gcd, int_lcm, is_held, has_member, class_of, are_apart, first_in, met_of, met}
 use Rattle.pk_congr.specs.Laws.{MeetIsBoth}
-use Rattle.pk_congr.proofs.Multiples.{Multiple, assoc, difference_times, zero_multiple, self_multiple, sum_multiple, difference_multiple, negative_multiple, times_multiple, multiple_trans, mod_from_multiple}
+use Rattle.pk_congr.proofs.Multiples.{Multiple, assoc, difference_times, zero_multiple, self_multiple, sum_multiple, negative_multiple, multiple_trans, mod_from_multiple}
 use Rattle.pk_congr.proofs.Gcd.{gcd_left, gcd_right, combined, gcd_some}
-use Rattle.pk_congr.proofs.Numbers.{apart_by, is_member, rest_member, two_members, next_member, by_test, tested_zero, tested_some, euclid_differs, class_has, class_only, held_test, test_held, not_held}
+use Rattle.pk_congr.proofs.Numbers.{rest_member, two_members, next_member, tested_zero, tested_some, euclid_differs, class_has, class_only, test_held, not_held}
 use Rattle.pk_congr.proofs.Order.{member, apart, not_apart, abs_multiple, multiple_of_abs}
 
 pub cancel : (x y : ℤ) (n : ℕ) → 0 < n → x *ℤ pos n ≡ y *ℤ pos n → x ≡ y

@@ -1,13 +1,13 @@
 -- The members next to a number.
-use Rattle.std.specs.Prelude.{◌≡◌, ◌⊎◌, ℕ, zero, suc, ◌<◌, ◌≤◌, Bool, true, false, if◌then◌else◌, ℤ, pos, negsuc, ◌+ℤ◌, ◌-ℤ◌, ◌*ℤ◌, ◌≤ℤ◌, ◌<ℤ◌, int_le, unsigned_abs, Option, Some, None}
+use Rattle.std.specs.Prelude.{◌≡◌, zero, suc, ◌<◌, Bool, true, false, if◌then◌else◌, ℤ, pos, negsuc, ◌+ℤ◌, ◌-ℤ◌, ◌≤ℤ◌, ◌<ℤ◌, int_le, Option, Some, None}
 use Rattle.std.specs.Int.{int_rem_euclid}
 use Rattle.std.specs.Ordering.{int_eq}
-use Rattle.std.proofs.Common.{arith, ◌∙◌, ap, refl, sym, subst, inl, inr}
+use Rattle.std.proofs.Common.{arith, refl, subst}
 use Rattle.std.proofs.lemmas.Int.{ints, by_lt_z}
 use Rattle.std.proofs.lemmas.Nat.Gcd.{le_of_dvd}
 use Rattle.pk_ctypes.proofs.Whole.{rest_from, rest_below}
 use Rattle.pk_ctypes.proofs.Values.{le_test, test_le}
-use Rattle.pk_congr.specs.Classes.{Class, IsMember, next_up_of, next_down_of, narrowed}
+use Rattle.pk_congr.specs.Classes.{Class, IsMember, next_up_of, next_down_of}
 use Rattle.pk_congr.specs.Laws.{IsNextUp, IsNextDown, NextMembersAreRight, NarrowingKeeps}
 use Rattle.pk_congr.proofs.Multiples.{Multiple, negative_multiple, dvd_from_multiple}
 use Rattle.pk_congr.proofs.Numbers.{is_member, rest_member, two_members, tested_zero, tested_some, euclid_differs}

@@ -1,14 +1,14 @@
 -- Members of classes, as numbers that differ by a multiple.
-use Rattle.std.specs.Prelude.{◌≡◌, ◌⊎◌, ℕ, zero, suc, ◌<◌, ◌^◌, ◌&&◌, nat_lt, Bool, true, false, not, if◌then◌else◌, ℤ, pos, negsuc, ◌+ℤ◌, ◌-ℤ◌, ◌*ℤ◌, ◌≤ℤ◌, ◌<ℤ◌, neg_ℤ, unsigned_abs}
+use Rattle.std.specs.Prelude.{◌≡◌, ◌⊎◌, zero, suc, ◌<◌, ◌^◌, ◌&&◌, Bool, true, false, if◌then◌else◌, ℤ, pos, negsuc, ◌+ℤ◌, ◌-ℤ◌, ◌*ℤ◌, ◌≤ℤ◌, neg_ℤ, unsigned_abs}
 use Rattle.std.specs.Int.{int_rem_euclid}
 use Rattle.std.specs.Ordering.{int_eq}
-use Rattle.std.proofs.Common.{arith, ◌∙◌, ap, refl, sym, subst, inl, inr}
+use Rattle.std.proofs.Common.{arith, ap, refl, sym, subst, inl, inr}
 use Rattle.std.proofs.lemmas.Int.{ints}
 use Rattle.std.proofs.lemmas.Bool.Decides.{Decides-int_eq, nat_tests}
 use Rattle.pk_ctypes.proofs.Whole.{rest_split, rest_from, rest_below}
 use Rattle.pk_ctypes.proofs.Values.{zero_test, not_zero_test}
-use Rattle.pk_congr.specs.Classes.{Class, IsMember, IsReduced, is_held, every, rest_modulo, class_of, class_if, has_member}
-use Rattle.pk_congr.proofs.Multiples.{Multiple, zero_multiple, self_multiple, sum_multiple, difference_multiple, negative_multiple, multiple_test, test_multiple, neg_product}
+use Rattle.pk_congr.specs.Classes.{Class, IsMember, IsReduced, is_held, every, rest_modulo, class_of, class_if}
+use Rattle.pk_congr.proofs.Multiples.{Multiple, zero_multiple, sum_multiple, difference_multiple, neg_product}
 
 pub apart_by : (c : Class) (x : ℤ) → IsMember c x → Multiple c.m (x -ℤ c.r)
 apart_by c x h = (h.0, omega (arith, ints, h.1))

@@ -1,11 +1,11 @@
 -- The order of classes, and joins.
-use Rattle.std.specs.Prelude.{◌≡◌, ◌⊎◌, ◌↔◌, ℕ, zero, suc, ◌+◌, ◌<◌, ◌≤◌, ◌^◌, ◌&&◌, Bool, true, false, not, ℤ, pos, negsuc, ◌+ℤ◌, ◌-ℤ◌, ◌*ℤ◌, ◌≤ℤ◌, ◌<ℤ◌, neg_ℤ, unsigned_abs}
-use Rattle.std.proofs.Common.{arith, ◌∙◌, ap, refl, sym, subst, inl, inr}
-use Rattle.std.proofs.lemmas.Int.{ints, by_lt_z}
+use Rattle.std.specs.Prelude.{◌≡◌, ◌⊎◌, ◌↔◌, ℕ, zero, suc, ◌<◌, ◌≤◌, ◌^◌, Bool, true, false, not, ℤ, pos, negsuc, ◌+ℤ◌, ◌-ℤ◌, ◌*ℤ◌, unsigned_abs}
+use Rattle.std.proofs.Common.{arith, ◌∙◌, ap, refl, subst, inl, inr}
+use Rattle.std.proofs.lemmas.Int.{ints}
 use Rattle.std.proofs.lemmas.Nat.Gcd.{le_of_dvd}
-use Rattle.pk_congr.specs.Classes.{Class, IsMember, IsReduced, gcd, int_gcd, divides, class_of, has_member, is_within, are_apart, joined}
+use Rattle.pk_congr.specs.Classes.{Class, IsMember, IsReduced, gcd, int_gcd, divides, has_member, is_within, are_apart, joined}
 use Rattle.pk_congr.specs.Laws.{Within, TestsAreRight, AreNear, JoinIsLeast}
-use Rattle.pk_congr.proofs.Multiples.{Multiple, assoc, self_multiple, sum_multiple, difference_multiple, negative_multiple, times_multiple, multiple_trans, multiple_test, test_multiple}
+use Rattle.pk_congr.proofs.Multiples.{Multiple, self_multiple, difference_multiple, negative_multiple, times_multiple, multiple_trans, multiple_test, test_multiple}
 use Rattle.pk_ctypes.proofs.Whole.{times_sum}
 use Rattle.pk_congr.proofs.Gcd.{euclid, gcd_left, gcd_right, gcd_greatest, combined, gcd_zero, gcd_some, gcd_some_right}
 use Rattle.pk_congr.proofs.Numbers.{apart_by, is_member, rest_member, two_members, next_member, both_true, and_true, by_test, class_only, class_if_has, class_if_is}

@@ -1,20 +1,20 @@
 -- Linear congruences.
-use Rattle.std.specs.Prelude.{◌≡◌, ◌⊎◌, ℕ, zero, suc, ◌+◌, ◌-◌, ◌*◌, ◌/◌, ◌%◌, ◌<◌, ◌≤◌, ◌^◌, Bool, true, false, if◌then◌else◌, ℤ, pos, negsuc, ◌+ℤ◌, ◌-ℤ◌, ◌*ℤ◌, ◌≤ℤ◌, ◌<ℤ◌, neg_ℤ, unsigned_abs, Option, Some, None}
+use Rattle.std.specs.Prelude.{◌≡◌, ℕ, zero, suc, ◌+◌, ◌-◌, ◌*◌, ◌/◌, ◌%◌, ◌<◌, ◌≤◌, ◌^◌, false, if◌then◌else◌, ℤ, pos, negsuc, ◌+ℤ◌, ◌-ℤ◌, ◌*ℤ◌, ◌≤ℤ◌, ◌<ℤ◌, unsigned_abs, Option, Some, None}
 use Rattle.std.specs.Option.{SomeIff}
-use Rattle.std.proofs.Common.{arith, ◌∙◌, ap, refl, sym, subst, inl, inr}
-use Rattle.std.proofs.Math.Nat.{mul-div_cancel, mul-le-mul_left, mul-le-mul_right, div-le_self, mod-le, mod-eq_of_lt}
+use Rattle.std.proofs.Common.{arith, ◌∙◌, ap, refl, sym, subst}
+use Rattle.std.proofs.Math.Nat.{mul-div_cancel, mul-le-mul_left, div-le_self, mod-le, mod-eq_of_lt}
 use Rattle.std.proofs.Math.IntN.{*ℤ-zero}
 use Rattle.std.proofs.lemmas.Int.{ints}
 use Rattle.std.proofs.lemmas.Nat.Gcd.{le_of_dvd}
 use Rattle.std.proofs.lemmas.Nat.{mod_below, div_below}
 use Rattle.pk_ctypes.specs.Types.{IsEqualModulo}
-use Rattle.pk_ctypes.proofs.Whole.{sum_times, times_sum}
+use Rattle.pk_ctypes.proofs.Whole.{sum_times}
 use Rattle.pk_congr.specs.Classes.{Class, IsMember, gcd, int_gcd, int_lcm, are_apart, class_of, class_if, first_in, met_of, rest_modulo}
-use Rattle.pk_congr.proofs.Multiples.{Multiple, assoc, self_multiple, sum_multiple, difference_multiple, negative_multiple, test_multiple, times_multiple, multiple_trans, difference_times, dvd_from_multiple, mod_from_multiple}
+use Rattle.pk_congr.proofs.Multiples.{Multiple, assoc, self_multiple, sum_multiple, negative_multiple, test_multiple, times_multiple, difference_times, dvd_from_multiple, mod_from_multiple}
 use Rattle.pk_congr.proofs.Gcd.{gcd_left, gcd_right, gcd_greatest, gcd_step, gcd_zero, gcd_some}
 use Rattle.pk_congr.proofs.Meets.{whole_part, common_found, common_apart, lcm_by_left, met_of_first}
 use Rattle.pk_congr.proofs.Order.{test_apart}
-use Rattle.pk_congr.proofs.Numbers.{is_member, held_test, not_held, class_if_is, rest_of_zero, rest_of_some}
+use Rattle.pk_congr.proofs.Numbers.{held_test, class_if_is, rest_of_zero, rest_of_some}
 use Rattle.pk_congr.proofs.Held.{same_rest}
 
 pub one_modulus : (m n : ℕ) → gcd m n ≡ 1 → m % n ≡ 0 → n ≡ 1

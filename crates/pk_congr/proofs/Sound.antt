@@ -1,28 +1,27 @@
 -- The operators on classes are sound, and so is wrapping.
-use Rattle.std.specs.Prelude.{◌≡◌, ◌⊎◌, ℕ, zero, suc, ◌*◌, ◌/◌, ◌<◌, ◌^◌, ◌&&◌, Bool, true, false, not, if◌then◌else◌, ℤ, pos, negsuc, ◌+ℤ◌, ◌-ℤ◌, ◌*ℤ◌, neg_ℤ, int_div, int_rem, unsigned_abs, Option, Some, None, Result, Ok, Err}
+use Rattle.std.specs.Prelude.{◌≡◌, ℕ, zero, suc, ◌/◌, ◌<◌, ◌^◌, ◌&&◌, Bool, true, false, not, if◌then◌else◌, ℤ, pos, negsuc, ◌+ℤ◌, ◌-ℤ◌, ◌*ℤ◌, neg_ℤ, int_div, int_rem, unsigned_abs, Some, None, Result, Ok, Err}
 use Rattle.std.specs.Ordering.{int_eq}
-use Rattle.std.proofs.Common.{arith, ◌∙◌, ap, refl, sym, subst, inl, inr}
+use Rattle.std.proofs.Common.{arith, ◌∙◌, ap, refl, sym, subst}
 use Rattle.std.proofs.Math.Nat.{mul-div_cancel}
 use Rattle.std.proofs.Math.IntN.{*ℤ_comm}
 use Rattle.std.proofs.lemmas.Int.{ints, quot-rem, unsigned_abs-mul}
 use Rattle.pk_ctypes.specs.declared.types.IntType.{IntType}
-use Rattle.pk_ctypes.specs.declared.types.Op.{Op}
 use Rattle.pk_ctypes.specs.declared.types.Op.TheVariants.{Add, Sub, Mul, Div, Rem, Shl, Shr, And, Or, Xor, Lt, Gt, Le, Ge, Eq, Ne, Neg, BitNot, Not}
 use Rattle.pk_ctypes.specs.declared.faults.Fault.{Fault}
 use Rattle.pk_ctypes.specs.declared.faults.Fault.TheVariants.{DivZero, Overflow, Shift}
 use Rattle.pk_ctypes.specs.Types.{InType, is_signed_of, is_in_type, high_of, size_of, wrapped}
-use Rattle.pk_ctypes.specs.Operators.{exact, divided, rest_of, counted, doubled, is_count, is_below_zero, complement}
+use Rattle.pk_ctypes.specs.Operators.{divided, rest_of, counted, doubled, is_count, is_below_zero, complement}
 use Rattle.pk_ctypes.specs.Laws.{IsTruncatedDivision}
 use Rattle.pk_ctypes.proofs.Whole.{sum_times, times_sum}
 use Rattle.pk_ctypes.proofs.Wrapped.{wrapped_same}
 use Rattle.pk_ctypes.proofs.Bits.{made}
 use Rattle.pk_ctypes.proofs.Quotients.{truncated, only_division}
-use Rattle.pk_congr.specs.Classes.{Class, IsMember, int_gcd, divides, is_held, every, class_if}
-use Rattle.pk_congr.specs.Operators.{are_products_held, class_product, is_divided, class_quotient, class_rest, is_counted, class_doubled, class_complement, complement_total, result_of, wrapped_class}
-use Rattle.pk_congr.specs.Laws.{OperatorsAreSound, WrappingIsSound, TookIn}
-use Rattle.pk_congr.proofs.Multiples.{Multiple, assoc, difference_times, times_difference, self_multiple, sum_multiple, difference_multiple, negative_multiple, times_multiple, multiple_trans, test_multiple}
+use Rattle.pk_congr.specs.Classes.{Class, IsMember, int_gcd, divides, every, class_if}
+use Rattle.pk_congr.specs.Operators.{are_products_held, class_product, is_divided, class_quotient, class_rest, is_counted, class_doubled, class_complement, complement_total, result_of}
+use Rattle.pk_congr.specs.Laws.{OperatorsAreSound, WrappingIsSound}
+use Rattle.pk_congr.proofs.Multiples.{Multiple, assoc, self_multiple, sum_multiple, difference_multiple, negative_multiple, times_multiple, multiple_trans, test_multiple}
 use Rattle.pk_congr.proofs.Gcd.{gcd_left, gcd_right}
-use Rattle.pk_congr.proofs.Numbers.{apart_by, is_member, every_member, both_true, by_test, tested_zero, tested_some, class_if_has}
+use Rattle.pk_congr.proofs.Numbers.{apart_by, every_member, both_true, tested_zero, tested_some, class_if_has}
 use Rattle.pk_congr.proofs.Order.{multiple_of_abs}
 
 abbrev good : ℤ → Result ℤ Fault

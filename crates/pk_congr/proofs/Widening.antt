@@ -1,15 +1,15 @@
 -- Widening ends: each step that is not below divides the modulus.
-use Rattle.std.specs.Prelude.{◌≡◌, ◌⊎◌, ℕ, zero, suc, ◌+◌, ◌*◌, ◌/◌, ◌<◌, ◌≤◌, ◌^◌, Bool, true, false, ℤ, pos, negsuc, ◌+ℤ◌, ◌-ℤ◌, ◌*ℤ◌, ◌≤ℤ◌, ◌<ℤ◌, unsigned_abs, List, [], ◌∷◌, length}
+use Rattle.std.specs.Prelude.{◌≡◌, ◌⊎◌, ℕ, zero, suc, ◌*◌, ◌/◌, ◌<◌, ◌≤◌, ◌^◌, true, false, ℤ, pos, ◌-ℤ◌, ◌*ℤ◌, unsigned_abs, List, [], ◌∷◌, length}
 use Rattle.std.proofs.Common.{arith, ◌∙◌, ap, refl, sym, subst, inl, inr}
 use Rattle.std.proofs.Math.Nat.{pow-suc}
 use Rattle.std.proofs.Math.IntN.{*ℤ-zero}
 use Rattle.std.proofs.lemmas.Int.{ints}
 use Rattle.pk_ctypes.specs.declared.types.IntType.{IntType}
 use Rattle.pk_ctypes.specs.declared.types.IntType.TheVariants.{Char, SChar, UChar, Short, UShort, Int, UInt, Long, ULong, LLong, ULLong}
-use Rattle.pk_ctypes.specs.Types.{InType, size_of, low_of, high_of}
+use Rattle.pk_ctypes.specs.Types.{InType, size_of}
 use Rattle.pk_ctypes.proofs.Wrapped.{high_is}
-use Rattle.pk_congr.specs.Classes.{Class, IsMember, IsReduced, gcd, int_gcd, class_of, class_if, rest_modulo, is_within, joined, widened}
-use Rattle.pk_congr.specs.Laws.{Within, IsOf, IsChain, WideningEnds}
+use Rattle.pk_congr.specs.Classes.{Class, IsMember, gcd, int_gcd, class_of, rest_modulo, is_within, widened}
+use Rattle.pk_congr.specs.Laws.{IsOf, IsChain, WideningEnds}
 use Rattle.pk_congr.proofs.Multiples.{Multiple, multiple_trans}
 use Rattle.pk_congr.proofs.Gcd.{gcd_left, gcd_some, gcd_some_right}
 use Rattle.pk_congr.proofs.Numbers.{by_test, is_member, class_if_is, class_only, rest_member, rest_of_zero, class_reduced}

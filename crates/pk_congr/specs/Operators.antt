@@ -6,7 +6,7 @@ use Rattle.pk_ctypes.specs.declared.types.Op.{Op}
 use Rattle.pk_ctypes.specs.declared.types.Op.TheVariants.{Add, Sub, Mul, Div, Rem, Shl, Shr, And, Or, Xor, Lt, Gt, Le, Ge, Eq, Ne, Neg, BitNot, Not}
 use Rattle.pk_ctypes.specs.Types.{is_signed_of, size_of, high_of}
 use Rattle.pk_ctypes.specs.Operators.{is_count}
-use Rattle.pk_congr.specs.Classes.{Class, int_gcd, divides, is_held, every, class_of, class_if}
+use Rattle.pk_congr.specs.Classes.{Class, int_gcd, divides, is_held, every, class_if}
 
 -- the class of a modulus and any number of it, if there is such a number
 abbrev pub class_if_some : ℤ → Option ℤ → Class

@@ -1,5 +1,4 @@
-use Rattle.std.proofs.Common.{◌∙◌, ap, sym, arith}
-use Rattle.pk_congr.specs.Classes.{gcd}
+use Rattle.std.proofs.Common.{◌∙◌, sym, arith}
 use Rattle.pk_congr.proofs.Gcd.{gcd_step, gcd_zero}
 use Rattle.pk_congr.proofs.divisors.gcd.Goals as goal
 

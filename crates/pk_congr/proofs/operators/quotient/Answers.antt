@@ -3,7 +3,6 @@ use Rattle.std.specs.Int.{w128}
 use Rattle.std.proofs.Common.{◌∙◌, ap, arith, sym}
 use Rattle.std.proofs.lemmas.Int.{ints, quot_is, to_z-of_z}
 use Rattle.pk_congr.specs.Classes.{Class}
-use Rattle.pk_congr.specs.Operators.{class_quotient}
 use Rattle.pk_congr.proofs.Held.{quotient_same, quotient_fits}
 use Rattle.pk_congr.proofs.operators.quotient.Goals as goal
 
