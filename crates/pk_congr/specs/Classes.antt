@@ -78,16 +78,17 @@ joined a b = class_if (int_gcd (int_gcd a.m b.m) (a.r -ℤ b.r)) a.r
 abbrev pub are_apart : Class → Class → Bool
 are_apart a b = not (divides (int_gcd a.m b.m) (a.r -ℤ b.r))
 
--- the first of r, r + m, r + 2m and so on that is in b; after n that are not the next
+-- the first of the n numbers r, r + m, r + 2m, .. that is in b; the number after them where none is
 unfoldable pub first_in : Class → ℤ → ℕ → ℤ → ℤ
 first_in b m zero r = r
 first_in b m (suc n) r = if has_member b r then r else first_in b m n (r +ℤ m)
 
--- the numbers that are in two classes which are not apart, and not constants; the first class where the least common multiple is 2 ^ 127 or more
+-- The numbers that are in two classes that are not apart, neither of them a constant: the least common multiple, and the first common number from the
+-- first class's rest up. The first class where that multiple is 2 ^ 127 or more.
 abbrev pub met_of : Class → Class → Class
 met_of a b = if is_held (int_lcm a.m b.m) then class_of (int_lcm a.m b.m) (first_in b a.m (unsigned_abs b.m) a.r) else a
 
--- the numbers that are in both
+-- the numbers that are in both: none, a constant that both have, or those
 abbrev pub met : Class → Class → Option Class
 met a b =
     if are_apart a b then None
