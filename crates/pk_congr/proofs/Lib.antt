@@ -1,0 +1,10 @@
+pub mod Multiples
+pub mod Gcd
+pub mod Numbers
+pub mod Order
+pub mod Meets
+pub mod Widening
+pub mod Next
+pub mod Held
+pub mod Solutions
+pub mod Sound
