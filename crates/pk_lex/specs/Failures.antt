@@ -1,17 +1,17 @@
 -- Where a text has no tokens, and why.
-use Rattle.std.specs.Prelude.{◌≡◌, ℕ, ◌<◌, List, [], ◌∷◌, ◌++◌, codes, length, take, Bool, ◌||◌, if◌then◌else◌}
+use Rattle.std.specs.Prelude.{◌≡◌, ℕ, ◌<◌, List, [], codes, length, take, Bool, ◌||◌, if◌then◌else◌}
 use Rattle.pk_ctypes.specs.declared.places.Pos.{Pos}
 use Rattle.pk_ctypes.specs.Places.{start_of_text, after_bytes}
-use Rattle.pk_lex.specs.declared.token.Kind.{Kind}
 use Rattle.pk_lex.specs.declared.token.Token.{Token}
 use Rattle.pk_lex.specs.declared.token.LexicalKind.{LexicalKind}
 use Rattle.pk_lex.specs.declared.token.LexicalKind.TheVariants.{Byte, Constant, Char, String, Comment}
 use Rattle.pk_lex.specs.declared.token.LexError.{LexError}
 use Rattle.pk_lex.specs.declared.token.LexError.TheVariants.{Lexical, Memory}
 use Rattle.pk_lex.specs.Bytes.{begins_with}
-use Rattle.pk_lex.specs.WhiteSpace.{opens_block, IsWhite}
+use Rattle.pk_lex.specs.WhiteSpace.{opens_block}
 use Rattle.pk_lex.specs.Numbers.{is_number}
-use Rattle.pk_lex.specs.Tokens.{IsToken, Reads}
+use Rattle.pk_lex.specs.Tokens.{Reads}
+use Rattle.pk_lex.specs.Steps.{NoWhite, NoToken}
 
 -- the word for it in a refusal
 abbrev pub lexical_word : LexicalKind → List ℕ
@@ -32,8 +32,8 @@ lexical_kind text =
 -- Something is left there, and neither white space nor a token begins.
 pub record IsStuck (front rest : List ℕ) : Type 0 where
   pub more : 0 < length rest
-  pub no_white : (piece after : List ℕ) → rest ≡ piece ++ after → IsWhite front piece after → ⊥
-  pub no_token : (word after : List ℕ) (k : Kind) → rest ≡ word ++ after → IsToken front word after k → ⊥
+  pub no_white : NoWhite front rest
+  pub no_token : NoToken front rest
 
 -- the text is tokens up to a place, and there no token begins
 pub record FailsAt (text : List ℕ) (wrong : LexicalKind) (at : Pos) : Type 0 where

@@ -7,5 +7,6 @@ pub mod Characters
 pub mod Words
 pub mod Kinds
 pub mod Tokens
+pub mod Steps
 pub mod Failures
 pub mod Laws

@@ -5,6 +5,7 @@ use Rattle.std.specs.Option.{option_map}
 use Rattle.pk_ctypes.specs.declared.types.IntType.{IntType}
 use Rattle.pk_ctypes.specs.declared.types.IntType.TheVariants.{Char, SChar, UChar, Short, UShort, Int, UInt, Long, ULong, LLong, ULLong}
 use Rattle.pk_ctypes.specs.Types.{is_signed_of, is_in_type}
+use Rattle.pk_lex.specs.declared.numbers.Suffix.{Suffix}
 use Rattle.pk_lex.specs.declared.token.Constant.{Constant}
 use Rattle.pk_lex.specs.Bytes.{is_digit, is_part, is_digit_of, value_in, begins_with}
 use Rattle.pk_lex.specs.Tables.{lookup}
@@ -45,11 +46,7 @@ unmarked number = if is_hexadecimal number then drop 2 number else number
 abbrev pub digits_of : List ℕ → List ℕ
 digits_of number = take_while (is_digit_of (base_of number)) (unmarked number)
 
--- what a suffix says: whether there is a `u`, and how often `long`
-pub record Suffix : Type 0 where
-  pub unsigned : Bool
-  pub longs : ℕ
-
+-- whether there is a `u`, and how often `long`
 abbrev pub suffix : Bool → ℕ → Suffix
 suffix u l = record { unsigned = u; longs = l }
 

@@ -1,6 +1,17 @@
 //! The tokens of a C text, between white space, comments and skipped lines.
 #![tactic(auto)]
 
+mod bytes;
+mod characters;
+mod lex;
+mod lines;
+mod numbers;
+mod tables;
+#[cfg(test)]
+mod tests;
 mod token;
+mod white;
+mod words;
 
+pub use lex::{lex, tokens_are_determined};
 pub use token::{Constant, Keyword, Kind, LexError, LexicalKind, Punctuator, Token};

@@ -1,0 +1,158 @@
+// Character constants and strings.
+
+ghost use Rattle.std.specs.Prelude.{◌≡◌, false, pos, MatchOption};
+ghost use Rattle.pk_ctypes.specs.declared.types.IntType.TheVariants.{Char};
+ghost use Rattle.pk_ctypes.specs.Types.{wrapped};
+ghost use Rattle.pk_lex.specs.Words.{IsLongest, BeginsNone};
+ghost use Rattle.pk_lex.specs.Characters.{octal_code, hexadecimal_code, escape_code, code_of, between_quotes, is_character, character_of, is_rest_of_string, is_string};
+
+use crate::bytes::{digit_of, hexadecimal_digit, split, value_of_digit};
+use crate::lines::begins;
+use crate::numbers::value;
+use crate::tables::look_up;
+
+const SIMPLE_ESCAPES: [(&[u8], u8); 11] = [
+    (b"'", 39),
+    (b"\"", 34),
+    (b"?", 63),
+    (b"\\", 92),
+    (b"a", 7),
+    (b"b", 8),
+    (b"f", 12),
+    (b"n", 10),
+    (b"r", 13),
+    (b"t", 9),
+    (b"v", 11),
+];
+
+fn code_of_octal(digits: &[u8]) -> Option<u8>
+    ensures { result ≡ octal_code digits.now }
+{
+    if 3 < digits.len() || !digits.iter().all(|b| digit_of(8, *b)) {
+        return None;
+    }
+    match value(8, digits) {
+        Some(code) if code <= 255 => Some(code as u8),
+        _ => None,
+    }
+}
+
+fn code_of_hexadecimal(digits: &[u8]) -> Option<u8>
+    ensures { result ≡ hexadecimal_code digits.now }
+{
+    match digits {
+        [a] if hexadecimal_digit(*a) => Some(value_of_digit(*a) as u8),
+        [a, b] if hexadecimal_digit(*a) && hexadecimal_digit(*b) => {
+            Some((value_of_digit(*a) * 16 + value_of_digit(*b)) as u8)
+        }
+        _ => None,
+    }
+}
+
+// The code that a backslash and these bytes stand for.
+fn code_of_escape(bytes: &[u8]) -> Option<u8>
+    ensures { result ≡ escape_code bytes.now }
+{
+    let (b, rest) = split(bytes)?;
+    if digit_of(8, b) {
+        code_of_octal(bytes)
+    } else if b == b'x' {
+        code_of_hexadecimal(rest)
+    } else {
+        look_up(&SIMPLE_ESCAPES, bytes)
+    }
+}
+
+// The code of what stands between quotes.
+fn code(inside: &[u8]) -> Option<u8>
+    ensures { result ≡ code_of inside.now }
+{
+    let (b, rest) = split(inside)?;
+    if b == b'\\' {
+        code_of_escape(rest)
+    } else if 32 <= b && b <= 126 && b != b'\'' && rest.is_empty() {
+        Some(b)
+    } else {
+        None
+    }
+}
+
+fn inside(word: &[u8]) -> &[u8]
+    ensures { result.now ≡ between_quotes word.now }
+{
+    match word {
+        [_, rest @ .., _] => rest,
+        _ => &word[..0],
+    }
+}
+
+// A code converted to char.
+fn char_of(code: u8) -> i8
+    ensures { result ≡ wrapped Char (pos code) }
+{
+    if code < 128 {
+        code as i8
+    } else {
+        (code as i16 - 256) as i8
+    }
+}
+
+// The value of a character constant.
+pub(crate) fn character(word: &[u8]) -> Option<i8>
+    ensures { result ≡ character_of word.now }
+{
+    let code = code(inside(word))?;
+    Some(char_of(code))
+}
+
+// How many bytes there are up to a quote that may close a character constant.
+fn inside_count(text: &[u8]) -> usize {
+    let escaped = if begins(text, b'\\') { 2 } else { 0 };
+    let from = escaped.min(text.len());
+    from + text[from..].iter().take_while(|b| **b != b'\'').count()
+}
+
+// How many bytes the character constant has that begins a text.
+pub(crate) fn character_count(text: &[u8]) -> Option<usize>
+    ensures { MatchOption result (BeginsNone is_character text.now) (λ n. IsLongest is_character text.now n) }
+{
+    let (_, rest) = split(text)?;
+    let count = inside_count(rest);
+    if count < rest.len() && code(&rest[..count]).is_some() {
+        Some(count + 2)
+    } else {
+        None
+    }
+}
+
+// How many bytes there are up to the quote that closes a string, with it.
+fn close_count(text: &[u8]) -> Option<usize>
+    ensures { MatchOption result (BeginsNone (is_rest_of_string false) text.now) (λ n. IsLongest (is_rest_of_string false) text.now n) }
+{
+    let mut escaped = false;
+    for (i, b) in text.iter().enumerate() {
+        if *b == b'\n' {
+            return None;
+        }
+        if escaped {
+            escaped = false;
+        } else if *b == b'"' {
+            return Some(i + 1);
+        } else {
+            escaped = *b == b'\\';
+        }
+    }
+    None
+}
+
+// How many bytes the string has that begins a text.
+pub(crate) fn string_count(text: &[u8]) -> Option<usize>
+    ensures { MatchOption result (BeginsNone is_string text.now) (λ n. IsLongest is_string text.now n) }
+{
+    let (b, rest) = split(text)?;
+    if b != b'"' {
+        return None;
+    }
+    let count = close_count(rest)?;
+    Some(count + 1)
+}

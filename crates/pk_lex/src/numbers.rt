@@ -1,0 +1,254 @@
+// Numbers and integer constants.
+
+ghost use Rattle.std.specs.Prelude.{◌≡◌, ◌≤◌, ◌^◌, ◌||◌, pos, length, take, IsTrue, MatchOption};
+ghost use Rattle.std.specs.List.{list_all, take_while};
+ghost use Rattle.pk_ctypes.specs.Types.{is_signed_of, is_in_type};
+ghost use Rattle.pk_lex.specs.Bytes.{is_digit_of, value_in};
+ghost use Rattle.pk_lex.specs.Words.{IsLongest};
+ghost use Rattle.pk_lex.specs.Numbers.{goes_on, is_rest_of_number, is_number, is_hexadecimal, base_of, unmarked, suffix_of, longs_of, allows, type_of, typed, constant_of, is_floating};
+
+use crate::bytes::{digit, digit_of, part, split, value_of_digit};
+use crate::lines::begins;
+use crate::tables::look_up;
+use crate::token::Constant;
+use pk_ctypes::IntType;
+
+// Whether a number goes on with b after another byte.
+fn continues(before: u8, b: u8) -> bool
+    ensures { result ≡ goes_on before b }
+{
+    part(b)
+        || b == b'.'
+        || ((b == b'+' || b == b'-')
+            && (before == b'e' || before == b'E' || before == b'p' || before == b'P'))
+}
+
+// How many bytes a number goes on with.
+fn rest_count(before: u8, text: &[u8]) -> usize
+    ensures { IsLongest (is_rest_of_number before) text.now result }
+{
+    let mut last = before;
+    for (i, b) in text.iter().enumerate() {
+        if !continues(last, *b) {
+            return i;
+        }
+        last = *b;
+    }
+    text.len()
+}
+
+// Whether a number begins a text, by its first two bytes.
+pub(crate) fn at_number(text: &[u8]) -> bool
+    ensures { result ≡ (is_number (take 1 text.now) || is_number (take 2 text.now)) }
+{
+    match text {
+        [] => false,
+        [a] => digit(*a),
+        [a, b, ..] => digit(*a) || (*a == b'.' && digit(*b)),
+    }
+}
+
+// How many bytes the number has that begins a text.
+pub(crate) fn number_count(text: &[u8]) -> usize
+    requires { IsTrue (is_number (take 1 text.now) || is_number (take 2 text.now)) }
+    ensures { IsLongest is_number text.now result }
+{
+    match split(text) {
+        None => 0,
+        Some((a, rest)) => {
+            if digit(a) {
+                1 + rest_count(a, rest)
+            } else {
+                match split(rest) {
+                    None => 0,
+                    Some((b, more)) => 2 + rest_count(b, more),
+                }
+            }
+        }
+    }
+}
+
+// What a suffix says.
+#[derive(Clone, Copy, Debug, PartialEq, Eq)]
+pub(crate) struct Suffix {
+    pub(crate) unsigned: bool,
+    pub(crate) longs: u8,
+}
+
+
+const SUFFIXES: [(&[u8], Suffix); 23] = [
+    (b"", Suffix { unsigned: false, longs: 0 }),
+    (b"l", Suffix { unsigned: false, longs: 1 }),
+    (b"L", Suffix { unsigned: false, longs: 1 }),
+    (b"ll", Suffix { unsigned: false, longs: 2 }),
+    (b"LL", Suffix { unsigned: false, longs: 2 }),
+    (b"u", Suffix { unsigned: true, longs: 0 }),
+    (b"U", Suffix { unsigned: true, longs: 0 }),
+    (b"ul", Suffix { unsigned: true, longs: 1 }),
+    (b"uL", Suffix { unsigned: true, longs: 1 }),
+    (b"Ul", Suffix { unsigned: true, longs: 1 }),
+    (b"UL", Suffix { unsigned: true, longs: 1 }),
+    (b"lu", Suffix { unsigned: true, longs: 1 }),
+    (b"lU", Suffix { unsigned: true, longs: 1 }),
+    (b"Lu", Suffix { unsigned: true, longs: 1 }),
+    (b"LU", Suffix { unsigned: true, longs: 1 }),
+    (b"ull", Suffix { unsigned: true, longs: 2 }),
+    (b"uLL", Suffix { unsigned: true, longs: 2 }),
+    (b"Ull", Suffix { unsigned: true, longs: 2 }),
+    (b"ULL", Suffix { unsigned: true, longs: 2 }),
+    (b"llu", Suffix { unsigned: true, longs: 2 }),
+    (b"llU", Suffix { unsigned: true, longs: 2 }),
+    (b"LLu", Suffix { unsigned: true, longs: 2 }),
+    (b"LLU", Suffix { unsigned: true, longs: 2 }),
+];
+
+#[tactic(auto, unfolding(crate::specs::Numbers::suffix_of))]
+fn suffix_of_bytes(bytes: &[u8]) -> Option<Suffix>
+    ensures { result ≡ suffix_of bytes.now }
+{
+    look_up(&SUFFIXES, bytes)
+}
+
+// Whether a number begins with `0x`.
+fn hexadecimal(number: &[u8]) -> bool
+    ensures { result ≡ is_hexadecimal number.now }
+{
+    match split(number) {
+        None => false,
+        Some((b, rest)) => b == b'0' && (begins(rest, b'x') || begins(rest, b'X')),
+    }
+}
+
+// The base in which a number is written.
+fn base(number: &[u8]) -> u64
+    ensures { result ≡ base_of number.now }
+{
+    if hexadecimal(number) {
+        16
+    } else if begins(number, b'0') {
+        8
+    } else {
+        10
+    }
+}
+
+// A number without the mark of base 16.
+fn without_mark(number: &[u8]) -> &[u8]
+    ensures { result.now ≡ unmarked number.now }
+{
+    if hexadecimal(number) {
+        &number[2..]
+    } else {
+        number
+    }
+}
+
+fn digit_count(base: u64, text: &[u8]) -> usize
+    ensures { result ≡ length (take_while (is_digit_of base) text.now) }
+{
+    text.iter().take_while(|b| digit_of(base, **b)).count()
+}
+
+// The number that some digits write, where 64 bits hold it.
+pub(crate) fn value(base: u64, digits: &[u8]) -> Option<u64>
+    requires base { base ≤ 16 }
+    requires digits { IsTrue (list_all (is_digit_of base) digits.now) }
+    ensures { MatchOption result (2 ^ 64 ≤ value_in base digits.now) (λ n. n ≡ value_in base digits.now) }
+{
+    let mut value = 0u64;
+    for b in digits {
+        let next = value as u128 * base as u128 + value_of_digit(*b) as u128;
+        if next > u64::MAX as u128 {
+            return None;
+        }
+        value = next as u64;
+    }
+    Some(value)
+}
+
+fn holds(t: IntType, value: u64) -> bool
+    ensures { result ≡ is_in_type t (pos value) }
+{
+    match t {
+        IntType::Char | IntType::SChar => value <= 127,
+        IntType::UChar => value <= 255,
+        IntType::Short => value <= 32_767,
+        IntType::UShort => value <= 65_535,
+        IntType::Int => value <= 2_147_483_647,
+        IntType::UInt => value <= 4_294_967_295,
+        IntType::Long | IntType::LLong => value <= 9_223_372_036_854_775_807,
+        IntType::ULong | IntType::ULLong => true,
+    }
+}
+
+fn signed(t: IntType) -> bool
+    ensures { result ≡ is_signed_of t }
+{
+    match t {
+        IntType::Char | IntType::SChar => true,
+        IntType::Short | IntType::Int | IntType::Long | IntType::LLong => true,
+        IntType::UChar | IntType::UShort => false,
+        IntType::UInt | IntType::ULong | IntType::ULLong => false,
+    }
+}
+
+fn longs(t: IntType) -> u8
+    ensures { result ≡ longs_of t }
+{
+    match t {
+        IntType::Char | IntType::SChar | IntType::UChar => 0,
+        IntType::Short | IntType::UShort | IntType::Int | IntType::UInt => 0,
+        IntType::Long | IntType::ULong => 1,
+        IntType::LLong | IntType::ULLong => 2,
+    }
+}
+
+fn allowed(is_decimal: bool, suffix: Suffix, t: IntType) -> bool
+    ensures { result ≡ allows is_decimal suffix t }
+{
+    suffix.longs <= longs(t)
+        && (if suffix.unsigned { !signed(t) } else { signed(t) || !is_decimal })
+}
+
+// The first type that a constant may have and that holds it.
+fn constant_type(is_decimal: bool, suffix: Suffix, value: u64) -> Option<IntType>
+    ensures { result ≡ type_of is_decimal suffix value }
+{
+    let types = [
+        IntType::Int,
+        IntType::UInt,
+        IntType::Long,
+        IntType::ULong,
+        IntType::LLong,
+        IntType::ULLong,
+    ];
+    types
+        .iter()
+        .find(|t| allowed(is_decimal, suffix, **t) && holds(**t, value))
+        .copied()
+}
+
+// The value and type of an integer constant.
+pub(crate) fn constant(number: &[u8]) -> Option<Constant>
+    ensures { result ≡ constant_of number.now }
+{
+    let base = base(number);
+    let text = without_mark(number);
+    let (digits, rest) = text.split_at(digit_count(base, text));
+    if digits.is_empty() {
+        return None;
+    }
+    let suffix = suffix_of_bytes(rest)?;
+    let value = value(base, digits)?;
+    let ty = constant_type(base == 10, suffix, value)?;
+    Some(Constant { value, ty })
+}
+
+// Whether a number has a point, or an exponent that isn't a digit.
+#[tactic(auto, unfolding(crate::specs::Numbers::is_floating))]
+pub(crate) fn floating(number: &[u8]) -> bool
+    ensures { result ≡ is_floating number.now }
+{
+    number.iter().any(|b| *b == b'.')
+        || (number.iter().any(|b| *b == b'e' || *b == b'E') && !hexadecimal(number))
+}

@@ -1,0 +1,68 @@
+// White space.
+
+ghost use Rattle.std.specs.Prelude.{◌≡◌, length, MatchOption};
+ghost use Rattle.pk_lex.specs.WhiteSpace.{opens_block, opens_line, has_close, begins_with_both};
+ghost use Rattle.pk_lex.specs.Steps.{IsFirstClose, NoWhite, IsFirstWhite};
+
+use crate::bytes::{split, white};
+use crate::lines::{at_directive, begins, line_count, skipped};
+
+// Whether these are the first two bytes.
+fn begins_both(text: &[u8], c: u8, d: u8) -> bool
+    ensures { result ≡ begins_with_both c d text.now }
+{
+    match split(text) {
+        None => false,
+        Some((b, rest)) => b == c && begins(rest, d),
+    }
+}
+
+// Whether `/*` are the first two bytes.
+pub(crate) fn at_block(text: &[u8]) -> bool
+    ensures { result ≡ opens_block text.now }
+{
+    begins_both(text, b'/', b'*')
+}
+
+// Whether `//` are the first two bytes.
+pub(crate) fn at_line_comment(text: &[u8]) -> bool
+    ensures { result ≡ opens_line text.now }
+{
+    begins_both(text, b'/', b'/')
+}
+
+// How many bytes stand before the first `*/`.
+fn close_count(text: &[u8]) -> Option<usize>
+    ensures { MatchOption result (has_close text.now ≡ false) (λ n. IsFirstClose text.now n) }
+{
+    let mut i = 0;
+    while i + 1 < text.len() {
+        if text[i] == b'*' && text[i + 1] == b'/' {
+            return Some(i);
+        }
+        i += 1;
+    }
+    None
+}
+
+// How many bytes the piece of white space has that begins at a place.
+pub(crate) fn white_count(front: &[u8], text: &[u8]) -> Option<usize>
+    ensures { MatchOption result (NoWhite front.now text.now) (λ n. IsFirstWhite front.now text.now n) }
+{
+    let (b, _) = split(text)?;
+    if white(b) {
+        return Some(1);
+    }
+    if at_block(text) {
+        let n = close_count(&text[2..])?;
+        return Some(n + 4);
+    }
+    let count = line_count(text);
+    if at_line_comment(text) {
+        return Some(count);
+    }
+    if at_directive(front, text) && skipped(text.split_at(count).0) {
+        return Some(count);
+    }
+    None
+}
