@@ -1,2 +1,9 @@
 mod Examples
 pub mod TableLemmas
+pub mod Longest
+pub mod NumberLemmas
+pub mod StringLemmas
+pub mod DigitLemmas
+pub mod CommentLemmas
+pub mod PunctuatorLemmas
+pub mod ConstantLemmas

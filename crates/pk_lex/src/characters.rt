@@ -1,8 +1,10 @@
 // Character constants and strings.
 
 ghost use Rattle.std.specs.Prelude.{◌≡◌, false, pos, MatchOption};
+ghost use Rattle.std.specs.List.{list_all};
 ghost use Rattle.pk_ctypes.specs.declared.types.IntType.TheVariants.{Char};
 ghost use Rattle.pk_ctypes.specs.Types.{wrapped};
+ghost use Rattle.pk_lex.specs.Bytes.{is_digit_of};
 ghost use Rattle.pk_lex.specs.Words.{IsLongest, BeginsNone};
 ghost use Rattle.pk_lex.specs.Characters.{octal_code, hexadecimal_code, escape_code, code_of, between_quotes, is_character, character_of, is_rest_of_string, is_string};
 
@@ -25,10 +27,16 @@ const SIMPLE_ESCAPES: [(&[u8], u8); 11] = [
     (b"v", 11),
 ];
 
+fn are_octal_digits(bytes: &[u8]) -> bool
+    ensures { result ≡ list_all (is_digit_of 8) bytes.now }
+{
+    bytes.iter().all(|b| digit_of(8, *b))
+}
+
 fn code_of_octal(digits: &[u8]) -> Option<u8>
     ensures { result ≡ octal_code digits.now }
 {
-    if 3 < digits.len() || !digits.iter().all(|b| digit_of(8, *b)) {
+    if 3 < digits.len() || !are_octal_digits(digits) {
         return None;
     }
     match value(8, digits) {
@@ -98,10 +106,13 @@ fn char_of(code: u8) -> i8
 }
 
 // The value of a character constant.
+#[tactic(auto, unfolding(crate::specs::Characters::character_of))]
 pub(crate) fn character(word: &[u8]) -> Option<i8>
     ensures { result ≡ character_of word.now }
 {
-    let code = code(inside(word))?;
+    let Some(code) = code(inside(word)) else {
+        return None;
+    };
     Some(char_of(code))
 }
 
@@ -116,7 +127,9 @@ fn inside_count(text: &[u8]) -> usize {
 pub(crate) fn character_count(text: &[u8]) -> Option<usize>
     ensures { MatchOption result (BeginsNone is_character text.now) (λ n. IsLongest is_character text.now n) }
 {
-    let (_, rest) = split(text)?;
+    let Some((_, rest)) = split(text) else {
+        return None;
+    };
     let count = inside_count(rest);
     if count < rest.len() && code(&rest[..count]).is_some() {
         Some(count + 2)
@@ -149,10 +162,14 @@ fn close_count(text: &[u8]) -> Option<usize>
 pub(crate) fn string_count(text: &[u8]) -> Option<usize>
     ensures { MatchOption result (BeginsNone is_string text.now) (λ n. IsLongest is_string text.now n) }
 {
-    let (b, rest) = split(text)?;
+    let Some((b, rest)) = split(text) else {
+        return None;
+    };
     if b != b'"' {
         return None;
     }
-    let count = close_count(rest)?;
+    let Some(count) = close_count(rest) else {
+        return None;
+    };
     Some(count + 1)
 }

@@ -3,7 +3,7 @@
 
 mod bytes;
 mod characters;
-mod lex;
+mod lexer;
 mod lines;
 mod numbers;
 mod tables;
@@ -13,5 +13,5 @@ mod token;
 mod white;
 mod words;
 
-pub use lex::{lex, tokens_are_determined};
+pub use lexer::{lex, tokens_are_determined};
 pub use token::{Constant, Keyword, Kind, LexError, LexicalKind, Punctuator, Token};

@@ -1,7 +1,7 @@
 // Numbers and integer constants.
 
-ghost use Rattle.std.specs.Prelude.{◌≡◌, ◌≤◌, ◌^◌, ◌||◌, pos, length, take, IsTrue, MatchOption};
-ghost use Rattle.std.specs.List.{list_all, take_while};
+ghost use Rattle.std.specs.Prelude.{◌≡◌, ◌≤◌, ◌^◌, ◌==◌, ◌||◌, pos, length, take, IsTrue, MatchOption};
+ghost use Rattle.std.specs.List.{list_all, list_any, take_while};
 ghost use Rattle.pk_ctypes.specs.Types.{is_signed_of, is_in_type};
 ghost use Rattle.pk_lex.specs.Bytes.{is_digit_of, value_in};
 ghost use Rattle.pk_lex.specs.Words.{IsLongest};
@@ -121,7 +121,9 @@ fn hexadecimal(number: &[u8]) -> bool
 
 // The base in which a number is written.
 fn base(number: &[u8]) -> u64
-    ensures { result ≡ base_of number.now }
+    ensures base { result ≡ base_of number.now }
+    ensures from { 8 ≤ result }
+    ensures to { result ≤ 16 }
 {
     if hexadecimal(number) {
         16
@@ -151,7 +153,8 @@ fn digit_count(base: u64, text: &[u8]) -> usize
 
 // The number that some digits write, where 64 bits hold it.
 pub(crate) fn value(base: u64, digits: &[u8]) -> Option<u64>
-    requires base { base ≤ 16 }
+    requires from { 8 ≤ base }
+    requires to { base ≤ 16 }
     requires digits { IsTrue (list_all (is_digit_of base) digits.now) }
     ensures { MatchOption result (2 ^ 64 ≤ value_in base digits.now) (λ n. n ≡ value_in base digits.now) }
 {
@@ -238,10 +241,30 @@ pub(crate) fn constant(number: &[u8]) -> Option<Constant>
     if digits.is_empty() {
         return None;
     }
-    let suffix = suffix_of_bytes(rest)?;
-    let value = value(base, digits)?;
-    let ty = constant_type(base == 10, suffix, value)?;
+    let Some(suffix) = suffix_of_bytes(rest) else {
+        return None;
+    };
+    let Some(value) = value(base, digits) else {
+        return None;
+    };
+    let Some(ty) = constant_type(base == 10, suffix, value) else {
+        return None;
+    };
     Some(Constant { value, ty })
+}
+
+// Whether a number has a point.
+fn has_point(number: &[u8]) -> bool
+    ensures { result ≡ list_any (λ b. b == 46) number.now }
+{
+    number.iter().any(|b| *b == b'.')
+}
+
+// Whether a number has an `e` or an `E`.
+fn has_exponent(number: &[u8]) -> bool
+    ensures { result ≡ list_any (λ b. b == 101 || b == 69) number.now }
+{
+    number.iter().any(|b| *b == b'e' || *b == b'E')
 }
 
 // Whether a number has a point, or an exponent that isn't a digit.
@@ -249,6 +272,5 @@ pub(crate) fn constant(number: &[u8]) -> Option<Constant>
 pub(crate) fn floating(number: &[u8]) -> bool
     ensures { result ≡ is_floating number.now }
 {
-    number.iter().any(|b| *b == b'.')
-        || (number.iter().any(|b| *b == b'e' || *b == b'E') && !hexadecimal(number))
+    has_point(number) || (has_exponent(number) && !hexadecimal(number))
 }

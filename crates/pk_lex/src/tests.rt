@@ -1,6 +1,6 @@
 // A table over the forms of tokens and the refusals.
 
-use crate::lex::lex;
+use crate::lexer::lex;
 use crate::token::{Constant, Keyword, Kind, LexError, LexicalKind, Punctuator};
 use pk_ctypes::{IntType, Pos};
 use std::test::Fail;

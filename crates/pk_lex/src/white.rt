@@ -1,6 +1,6 @@
 // White space.
 
-ghost use Rattle.std.specs.Prelude.{◌≡◌, length, MatchOption};
+ghost use Rattle.std.specs.Prelude.{◌≡◌, false, length, MatchOption};
 ghost use Rattle.pk_lex.specs.WhiteSpace.{opens_block, opens_line, has_close, begins_with_both};
 ghost use Rattle.pk_lex.specs.Steps.{IsFirstClose, NoWhite, IsFirstWhite};
 
@@ -49,12 +49,16 @@ fn close_count(text: &[u8]) -> Option<usize>
 pub(crate) fn white_count(front: &[u8], text: &[u8]) -> Option<usize>
     ensures { MatchOption result (NoWhite front.now text.now) (λ n. IsFirstWhite front.now text.now n) }
 {
-    let (b, _) = split(text)?;
+    let Some((b, _)) = split(text) else {
+        return None;
+    };
     if white(b) {
         return Some(1);
     }
     if at_block(text) {
-        let n = close_count(&text[2..])?;
+        let Some(n) = close_count(text.split_at(2).1) else {
+            return None;
+        };
         return Some(n + 4);
     }
     let count = line_count(text);

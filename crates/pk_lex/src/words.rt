@@ -39,7 +39,9 @@ fn punctuator_count(text: &[u8]) -> Option<usize>
 pub(crate) fn word_count(text: &[u8]) -> Option<usize>
     ensures { MatchOption result (BeginsNone is_word text.now) (λ n. IsLongest is_word text.now n) }
 {
-    let (b, rest) = split(text)?;
+    let Some((b, rest)) = split(text) else {
+        return None;
+    };
     if letter(b) {
         Some(1 + part_count(rest))
     } else if at_number(text) {
@@ -74,7 +76,9 @@ pub(crate) fn kind(word: &[u8]) -> Option<Kind>
     requires { IsTrue (is_word word.now) }
     ensures { result ≡ kind_of word.now }
 {
-    let (b, _) = split(word)?;
+    let Some((b, _)) = split(word) else {
+        return None;
+    };
     if letter(b) {
         match keyword(word) {
             Some(k) => Some(Kind::Keyword(k)),
@@ -83,10 +87,16 @@ pub(crate) fn kind(word: &[u8]) -> Option<Kind>
     } else if at_number(word) {
         kind_of_number(word)
     } else if b == b'\'' {
-        character(word).map(|value| Kind::Character(value))
+        match character(word) {
+            Some(value) => Some(Kind::Character(value)),
+            None => None,
+        }
     } else if b == b'"' {
         Some(Kind::StringLiteral)
     } else {
-        punctuator(word).map(|p| Kind::Punctuator(p))
+        match punctuator(word) {
+            Some(p) => Some(Kind::Punctuator(p)),
+            None => None,
+        }
     }
 }
