@@ -7,3 +7,6 @@ pub mod DigitLemmas
 pub mod CommentLemmas
 pub mod PunctuatorLemmas
 pub mod ConstantLemmas
+pub mod CharacterLemmas
+pub mod WordLemmas
+pub mod ReadLemmas

@@ -1,10 +1,10 @@
 -- Punctuators are short, and have no byte of another word.
-use Rattle.std.proofs.Common.{◌≡◌, ℕ, zero, suc, ◌<◌, ◌≤◌, ◌==◌, Bool, true, false, cond, not, ◌&&◌, is_some, Option, Some, None, List, [], ◌∷◌, ◌++◌, length, take, refl, sym, ap, ◌∙◌, subst, arith, inl, inr, length-take}
+use Rattle.std.proofs.Common.{◌≡◌, ℕ, zero, suc, ◌<◌, ◌≤◌, ◌==◌, Bool, true, false, cond, not, ◌&&◌, ◌||◌, is_some, Option, Some, None, List, [], ◌∷◌, ◌++◌, length, take, refl, sym, ap, ◌∙◌, subst, arith, inl, inr, length-take}
 use Rattle.std.specs.Prelude.{nat_le}
 use Rattle.std.specs.List.{list_all}
 use Rattle.std.specs.Cmp.Lexicographic.{same_text}
 use Rattle.std.proofs.lemmas.Bool.{and_parts, cases_lt, leb-true, both_ways}
-use Rattle.pk_lex.specs.Bytes.{is_part, same}
+use Rattle.pk_lex.specs.Bytes.{is_part, is_white, same}
 use Rattle.pk_lex.specs.Tables.{lookup, punctuators_of_one, punctuators_of_two, punctuators_of_three, punctuator_of}
 use Rattle.pk_lex.specs.Words.{IsLongest, BeginsNone}
 
@@ -20,8 +20,11 @@ module _ (A : Type 0) (p : List ℕ → Bool) where
       by_test true f g s more = subst (λ w. p w ≡ true) (same_text row.0 word (sym f)) g
       by_test false f g s more = more s
 
+abbrev pub is_other_byte : ℕ → Bool
+is_other_byte b = is_part b || (b == 39 || (b == 34 || (b == 35 || is_white b)))
+
 abbrev pub is_sign_byte : ℕ → Bool
-is_sign_byte b = not (is_part b) && (not (b == 39) && not (b == 34))
+is_sign_byte b = not (is_other_byte b)
 
 abbrev pub is_sign : List ℕ → Bool
 is_sign word = list_all is_sign_byte word && (nat_le 1 (length word) && nat_le (length word) 3)

@@ -1,8 +1,21 @@
 -- What stands at the beginning of the rest of a text, by how many bytes it has.
-use Rattle.std.specs.Prelude.{◌≡◌, ℕ, ◌+◌, ◌≤◌, List, [], ◌∷◌, ◌++◌, length, take, drop, codes, IsFalse}
+use Rattle.std.specs.Prelude.{◌≡◌, ℕ, ◌+◌, ◌≤◌, List, [], ◌∷◌, ◌++◌, length, take, drop, codes, Bool, not, ◌==◌, if◌then◌else◌, IsFalse}
+use Rattle.std.specs.List.{take_while}
 use Rattle.pk_lex.specs.declared.token.Kind.{Kind}
 use Rattle.pk_lex.specs.WhiteSpace.{has_close, IsWhite}
 use Rattle.pk_lex.specs.Tokens.{IsToken}
+
+abbrev pub is_unquoted : ℕ → Bool
+is_unquoted b = not (b == 39)
+
+abbrev pub quote_after_escape : List ℕ → ℕ
+quote_after_escape [] = 0
+quote_after_escape (b ∷ bytes) = 1 + length (take_while is_unquoted bytes)
+
+-- how many bytes stand before the first `'`, or before the first that isn't right behind a backslash at the beginning
+abbrev pub quote_at : List ℕ → ℕ
+quote_at [] = 0
+quote_at (b ∷ bytes) = if b == 92 then 1 + quote_after_escape bytes else length (take_while is_unquoted (b ∷ bytes))
 
 -- n bytes stand before the first `*/`
 pub record IsFirstClose (text : List ℕ) (n : ℕ) : Type 0 where

@@ -24,10 +24,10 @@ token_of front word k = record { kind = k; start = length front; end = length fr
 
 -- Read on from one place of a text, these tokens come, and then another place. A place is what stands before it and after it.
 pub data Reads : List ℕ → List ℕ → List Token → List ℕ → List ℕ → Type 0 where
-  nothing : (front rest : List ℕ) → Reads front rest [] front rest
-  past_white : (front rest piece after : List ℕ) (tokens : List Token) (end back : List ℕ) → rest ≡ piece ++ after → IsWhite front piece after →
+  nothing : {front rest : List ℕ} → Reads front rest [] front rest
+  past_white : {front rest piece after end back : List ℕ} {tokens : List Token} → rest ≡ piece ++ after → IsWhite front piece after →
       Reads (front ++ piece) after tokens end back → Reads front rest tokens end back
-  past_token : (front rest word after : List ℕ) (k : Kind) (tokens : List Token) (end back : List ℕ) → rest ≡ word ++ after → IsToken front word after k →
+  past_token : {front rest word after end back : List ℕ} {k : Kind} {tokens : List Token} → rest ≡ word ++ after → IsToken front word after k →
       Reads (front ++ word) after tokens end back → Reads front rest (token_of front word k ∷ tokens) end back
 
 -- a text is these tokens, and an empty one at its end

@@ -1,15 +1,16 @@
 // Character constants and strings.
 
-ghost use Rattle.std.specs.Prelude.{◌≡◌, false, pos, MatchOption};
-ghost use Rattle.std.specs.List.{list_all};
+ghost use Rattle.std.specs.Prelude.{◌≡◌, false, pos, length, MatchOption, IfSome, FitsSigned};
+ghost use Rattle.std.specs.Int.{w8};
+ghost use Rattle.std.specs.List.{list_all, take_while};
 ghost use Rattle.pk_ctypes.specs.declared.types.IntType.TheVariants.{Char};
 ghost use Rattle.pk_ctypes.specs.Types.{wrapped};
 ghost use Rattle.pk_lex.specs.Bytes.{is_digit_of};
 ghost use Rattle.pk_lex.specs.Words.{IsLongest, BeginsNone};
+ghost use Rattle.pk_lex.specs.Steps.{is_unquoted, quote_after_escape, quote_at};
 ghost use Rattle.pk_lex.specs.Characters.{octal_code, hexadecimal_code, escape_code, code_of, between_quotes, is_character, character_of, is_rest_of_string, is_string};
 
 use crate::bytes::{digit_of, hexadecimal_digit, split, value_of_digit};
-use crate::lines::begins;
 use crate::numbers::value;
 use crate::tables::look_up;
 
@@ -108,7 +109,8 @@ fn char_of(code: u8) -> i8
 // The value of a character constant.
 #[tactic(auto, unfolding(crate::specs::Characters::character_of))]
 pub(crate) fn character(word: &[u8]) -> Option<i8>
-    ensures { result ≡ character_of word.now }
+    ensures value { result ≡ character_of word.now }
+    ensures fits { IfSome result (λ value. FitsSigned w8 value) }
 {
     let Some(code) = code(inside(word)) else {
         return None;
@@ -116,22 +118,55 @@ pub(crate) fn character(word: &[u8]) -> Option<i8>
     Some(char_of(code))
 }
 
-// How many bytes there are up to a quote that may close a character constant.
-fn inside_count(text: &[u8]) -> usize {
-    let escaped = if begins(text, b'\\') { 2 } else { 0 };
-    let from = escaped.min(text.len());
-    from + text[from..].iter().take_while(|b| **b != b'\'').count()
+fn unquoted_count(text: &[u8]) -> usize
+    ensures { result ≡ length (take_while is_unquoted text.now) }
+{
+    text.iter().take_while(|b| **b != b'\'').count()
+}
+
+fn after_escape(text: &[u8]) -> usize
+    ensures { result ≡ quote_after_escape text.now }
+{
+    match split(text) {
+        None => 0,
+        Some((_, rest)) => 1 + unquoted_count(rest),
+    }
+}
+
+// How many bytes there are up to the quote that may close a character constant.
+fn quote_count(text: &[u8]) -> usize
+    ensures { result ≡ quote_at text.now }
+{
+    match split(text) {
+        None => 0,
+        Some((b, rest)) => {
+            if b == b'\\' {
+                1 + after_escape(rest)
+            } else {
+                unquoted_count(text)
+            }
+        }
+    }
 }
 
 // How many bytes the character constant has that begins a text.
 pub(crate) fn character_count(text: &[u8]) -> Option<usize>
     ensures { MatchOption result (BeginsNone is_character text.now) (λ n. IsLongest is_character text.now n) }
 {
-    let Some((_, rest)) = split(text) else {
+    let Some((b, rest)) = split(text) else {
         return None;
     };
-    let count = inside_count(rest);
-    if count < rest.len() && code(&rest[..count]).is_some() {
+    if b != b'\'' {
+        return None;
+    }
+    let count = quote_count(rest);
+    if rest.len() <= count {
+        return None;
+    }
+    if rest[count] != b'\'' {
+        return None;
+    }
+    if code(rest.split_at(count).0).is_some() {
         Some(count + 2)
     } else {
         None
