@@ -9,4 +9,5 @@ pub mod PunctuatorLemmas
 pub mod ConstantLemmas
 pub mod CharacterLemmas
 pub mod WordLemmas
+pub mod WhiteLemmas
 pub mod ReadLemmas
