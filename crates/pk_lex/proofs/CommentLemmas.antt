@@ -22,6 +22,7 @@ no_close_at_all text i le h = no_close text (λ k l. rw (← add-one k) (h k (om
 pub first_close : (text : List ℕ) (i : ℕ) → i + 1 < length text → get_or text i 0 ≡ 42 → get_or text (i + 1) 0 ≡ 47 →
     ((k : ℕ) → k < i → (get_or text k 0 == 42 && get_or text (k + 1) 0 == 47) ≡ false) → IsFirstClose text i
 first_close text i lt star slash h = record {
+  fits = omega (arith, lt);
   before = no_close (take i text) before_it;
   cut = sym (take-append-drop i text) ∙ ap (λ l. take i text ++ l) from_it ∙ sym (append_assoc (take i text) (42 ∷ 47 ∷ []) (drop (i + 2) text));
 }

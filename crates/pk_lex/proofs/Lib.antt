@@ -11,3 +11,5 @@ pub mod CharacterLemmas
 pub mod WordLemmas
 pub mod WhiteLemmas
 pub mod ReadLemmas
+pub mod StepLemmas
+pub mod LexLemmas

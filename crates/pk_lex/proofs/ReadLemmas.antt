@@ -20,7 +20,7 @@ use Rattle.pk_lex.specs.Failures.{lexical_kind, IsStuck, FailsAt}
 use Rattle.pk_lex.proofs.WordLemmas.{empty_is_no_word, word_not_white, word_not_hash}
 use Rattle.pk_lex.proofs.WhiteLemmas.{same_cut, one_white, Opens, white_first, block_first, line_first, hash_first, opens}
 
-word_is_first : (word after : List ℕ) → IsLongest is_word (word ++ after) (length word) → is_word word ≡ true
+pub word_is_first : (word after : List ℕ) → IsLongest is_word (word ++ after) (length word) → is_word word ≡ true
 word_is_first word after l = ap is_word (sym (take_at word after (length word) refl)) ∙ l.is
 
 -- a word has a first byte, which is neither white nor a `#`
@@ -78,7 +78,7 @@ no_both {front} {rest} {p} {a} {w} {b} e v f (longest k o l s) =
 no_both {front} {rest} {p} {a} {w} {b} e v f (directive d l n) =
     white_no_directive front (p ++ a) p w (ap (opens_directive front) (sym e ∙ f) ∙ d) (l ∙ ap line_of (sym f ∙ e)) n (opens v)
 
-longest_is_one : (text : List ℕ) (m n : ℕ) → IsLongest is_word text m → IsLongest is_word text n → m ≡ n
+pub longest_is_one : (text : List ℕ) (m n : ℕ) → IsLongest is_word text m → IsLongest is_word text n → m ≡ n
 longest_is_one text m n l k =
     let a = k.most m l.fits l.is in
     let b = l.most n k.fits k.is in
@@ -147,7 +147,7 @@ no_bytes : (piece after : List ℕ) → [] ≡ piece ++ after → (piece ≡ [])
 no_bytes [] after e = (refl, sym e)
 no_bytes (b ∷ piece) after e = cc
 
-opens_nothing : {front piece : List ℕ} → Opens front [] piece → ⊥
+pub opens_nothing : {front piece : List ℕ} → Opens front [] piece → ⊥
 opens_nothing (white_first b bytes e h) = cc
 opens_nothing (block_first e h) = cc
 opens_nothing (line_first e) = cc

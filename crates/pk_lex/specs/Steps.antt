@@ -19,6 +19,7 @@ quote_at (b ∷ bytes) = if b == 92 then 1 + quote_after_escape bytes else lengt
 
 -- n bytes stand before the first `*/`
 pub record IsFirstClose (text : List ℕ) (n : ℕ) : Type 0 where
+  pub fits : n + 2 ≤ length text
   pub before : IsFalse (has_close (take n text))
   pub cut : text ≡ take n text ++ codes "*/" ++ drop (n + 2) text
 

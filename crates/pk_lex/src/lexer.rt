@@ -81,34 +81,29 @@ pub fn lex(alloc: Global, text: &[u8]) -> Result<Vec<Token>, LexError>
     let mut tokens = Vec::new(alloc);
     let mut at = Pos { line: 1, column: 1 };
     let mut start = 0;
-    loop {
+    while start < text.len() {
         let (front, rest) = text.split_at(start);
-        if rest.is_empty() {
-            break;
-        }
         if let Some(count) = white_count(front, rest) {
             at = after(at, rest.split_at(count).0);
             start += count;
             continue;
         }
-        match token_at(front, rest) {
-            Ok((count, kind)) => {
-                let end = start + count;
-                let token = Token { kind, start, end, at };
-                if tokens.push(token).is_err() {
-                    return Err(LexError::Memory);
-                }
-                at = after(at, rest.split_at(count).0);
-                start = end;
-            }
+        let (count, kind) = match token_at(front, rest) {
+            Ok(found) => found,
             Err(kind) => return Err(LexError::Lexical { kind, at }),
+        };
+        let end = start + count;
+        if tokens.push(Token { kind, start, end, at }).is_err() {
+            return Err(LexError::Memory);
         }
+        at = after(at, rest.split_at(count).0);
+        start = end;
     }
     let end = Token { kind: Kind::End, start, end: start, at };
-    match tokens.push(end) {
-        Ok(()) => Ok(tokens),
-        Err(_) => Err(LexError::Memory),
+    if tokens.push(end).is_err() {
+        return Err(LexError::Memory);
     }
+    Ok(tokens)
 }
 
 /// A text is at most one list of tokens, or fails at most at one place, and not both.

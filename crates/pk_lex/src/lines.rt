@@ -14,6 +14,13 @@ pub(crate) fn line_count(text: &[u8]) -> usize
     text.iter().take_while(|b| **b != b'\n').count()
 }
 
+// The bytes up to the end of the line.
+pub(crate) fn line(text: &[u8]) -> &[u8]
+    ensures { result.now ≡ line_of text.now }
+{
+    text.split_at(line_count(text)).0
+}
+
 // Whether there are only blanks before a place on its line.
 fn at_line_begin(front: &[u8]) -> bool
     ensures { result ≡ begins_line front.now }

@@ -1,11 +1,12 @@
 // White space.
 
-ghost use Rattle.std.specs.Prelude.{◌≡◌, false, length, MatchOption};
+ghost use Rattle.std.specs.Prelude.{◌≡◌, ◌&&◌, false, MatchOption};
+ghost use Rattle.pk_lex.specs.Lines.{line_of, opens_directive, is_skipped};
 ghost use Rattle.pk_lex.specs.WhiteSpace.{opens_block, opens_line, has_close, begins_with_both};
 ghost use Rattle.pk_lex.specs.Steps.{IsFirstClose, NoWhite, IsFirstWhite};
 
 use crate::bytes::{split, white};
-use crate::lines::{at_directive, begins, line_count, skipped};
+use crate::lines::{at_directive, begins, line, line_count, skipped};
 
 // Whether these are the first two bytes.
 fn begins_both(text: &[u8], c: u8, d: u8) -> bool
@@ -45,6 +46,13 @@ fn close_count(text: &[u8]) -> Option<usize>
     None
 }
 
+// Whether a line that is skipped begins at a place.
+fn at_skipped(front: &[u8], text: &[u8]) -> bool
+    ensures { result ≡ (opens_directive front.now text.now && is_skipped (line_of text.now)) }
+{
+    at_directive(front, text) && skipped(line(text))
+}
+
 // How many bytes the piece of white space has that begins at a place.
 pub(crate) fn white_count(front: &[u8], text: &[u8]) -> Option<usize>
     ensures { MatchOption result (NoWhite front.now text.now) (λ n. IsFirstWhite front.now text.now n) }
@@ -65,7 +73,7 @@ pub(crate) fn white_count(front: &[u8], text: &[u8]) -> Option<usize>
     if at_line_comment(text) {
         return Some(count);
     }
-    if at_directive(front, text) && skipped(text.split_at(count).0) {
+    if at_skipped(front, text) {
         return Some(count);
     }
     None
