@@ -134,8 +134,7 @@ module _ (text : List ℕ) (b : ℕ) (rest : List ℕ) (cut : text ≡ b ∷ res
       let inside = between_quotes (take m text) in
       let e : rest ≡ inside ++ 39 ∷ drop m text = tail_is b rest (inside ++ 39 ∷ drop m text) (sym cut ∙ s.cut) in
       let q : quote_at rest ≡ length inside = ap quote_at e ∙ quote_after inside (drop m text) s.code in
-      let l = ap length e ∙ length-append inside (39 ∷ drop m text) in
-      (
+      let l = ap length e ∙ length-append inside (39 ∷ drop m text) in (
         omega (arith, s.size, q),
         ap (λ w. is_some (code_of w)) (ap (λ n. take n rest) q ∙ ap (take (length inside)) e ∙ take_at inside (39 ∷ drop m text) (length inside) refl) ∙ s.code,
         omega (arith, l, q),

@@ -21,7 +21,7 @@ after_bytes-append at (x ∷ a) b = after_bytes-append (after_byte at x) a b
 take_on : (text : List ℕ) (start n : ℕ) → start + n ≤ length text → take start text ++ take n (drop start text) ≡ take (start + n) text
 take_on text start n le =
     let whole : text ≡ take start text ++ take n (drop start text) ++ drop n (drop start text) =
-        sym (take-append-drop start text) ∙ ap (λ r. take start text ++ r) (sym (take-append-drop n (drop start text))) ∙ sym (append_assoc (take start text) (take n (drop start text)) (drop n (drop start text))) in
+    sym (take-append-drop start text) ∙ ap (λ r. take start text ++ r) (sym (take-append-drop n (drop start text))) ∙ sym (append_assoc (take start text) (take n (drop start text)) (drop n (drop start text))) in
     let low : start ≤ length text = omega arith in
     let rest : n ≤ length (drop start text) = let l = length-drop start text in omega (arith, l) in
     let size : length (take start text ++ take n (drop start text)) ≡ start + n = two_sizes (take start text) (take n (drop start text)) (length-take-le start text low) (length-take-le n (drop start text) rest) in
@@ -36,7 +36,7 @@ pub record IsReached (text : List ℕ) (tokens : List Token) (start : ℕ) (at :
   pub place : at ≡ after_bytes start_of_text (take start text)
 
 pub reached_start : (text : List ℕ) → IsReached text [] 0 start_of_text
-reached_start text = record { reads = nothing; place = refl; }
+reached_start text = record { reads = nothing; place = refl }
 
 module _ (text front rest : List ℕ) (tokens : List Token) (start : ℕ) (at : Pos) (low : start ≤ length text) (is_front : front ≡ take start text) (is_rest : rest ≡ drop start text) (r : IsReached text tokens start at) where
   fits : (n : ℕ) → n ≤ length rest → start + n ≤ length text
@@ -90,7 +90,7 @@ module _ (text front rest : List ℕ) (tokens : List Token) (start : ℕ) (at : 
     front = front;
     back = rest;
     read = so_far;
-    stuck = record { more = let l = length-drop start text in let m = ap length is_rest in omega (arith, lt, l, m); no_white = white; no_token = token; };
+    stuck = record { more = let l = length-drop start text in let m = ap length is_rest in omega (arith, lt, l, m); no_white = white; no_token = token };
     is = e;
     place = r.place ∙ ap (after_bytes start_of_text) (sym is_front);
   }
@@ -101,12 +101,11 @@ all_read text tokens start at le ge r =
     let size : start ≡ length text = omega (arith, le, ge) in
     let whole : take start text ≡ text = take_all start text ge in
     let made : ℕ → ℕ → Pos → Token = λ s e p. record { kind = kind.End; start = s; end = e; at = p } in
-    let end : length text + 0 ≡ start = omega (arith, size) in
-    (
+    let end : length text + 0 ≡ start = omega (arith, size) in (
       tokens,
       (
         ap (λ t. tokens ++ t ∷ [])
-        (ap (λ s. made s start at) size ∙ ap (λ e. made (length text) e at) (sym end) ∙ ap (made (length text) (length text + 0)) (r.place ∙ ap (after_bytes start_of_text) whole)),
+            (ap (λ s. made s start at) size ∙ ap (λ e. made (length text) e at) (sym end) ∙ ap (made (length text) (length text + 0)) (r.place ∙ ap (after_bytes start_of_text) whole)),
         subst (λ x. Reads [] text tokens x []) whole (subst (λ x. Reads [] text tokens (take start text) x) (drop_all start text ge) r.reads),
       ),
     )

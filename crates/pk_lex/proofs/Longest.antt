@@ -30,7 +30,7 @@ module _ (p q : List ℕ → Bool) (b : ℕ) (same : (w : List ℕ) → p (b ∷
 
 -- none but the empty one
 pub stays : (p : List ℕ → Bool) (b : ℕ) (bytes : List ℕ) → p [] ≡ true → ((w : List ℕ) → p (b ∷ w) ≡ false) → IsLongest p (b ∷ bytes) 0
-stays p b bytes e fails = record { fits = omega arith; is = e; most = by_len; }
+stays p b bytes e fails = record { fits = omega arith; is = e; most = by_len }
   where
     by_len : (m : ℕ) → m ≤ length (b ∷ bytes) → p (take m (b ∷ bytes)) ≡ true → m ≤ 0
     by_len zero le h = omega arith
@@ -47,7 +47,7 @@ nothing_begins p e (suc m) le h = omega (arith, le)
 
 -- the end of a text
 pub ends : (p : List ℕ → Bool) → p [] ≡ true → IsLongest p [] 0
-ends p e = record { fits = omega arith; is = e; most = λ m le h. le; }
+ends p e = record { fits = omega arith; is = e; most = λ m le h. le }
 
 -- all bytes of a class
 pub run_longest : (p : ℕ → Bool) (bytes : List ℕ) → IsLongest (list_all p) bytes (prefix_len p bytes)

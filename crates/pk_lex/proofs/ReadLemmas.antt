@@ -33,7 +33,7 @@ record Starts (t : List ℕ) : Type 0 where
 
 starts : (word after : List ℕ) → is_word word ≡ true → Starts (word ++ after)
 starts [] after h = absurd (both_ways (is_word []) empty_is_no_word h)
-starts (b ∷ word) after h = record { first = b; others = word ++ after; is = refl; not_white = word_not_white b word h; not_hash = word_not_hash b word h; }
+starts (b ∷ word) after h = record { first = b; others = word ++ after; is = refl; not_white = word_not_white b word h; not_hash = word_not_hash b word h }
 
 same_first : (b c : ℕ) (bytes others : List ℕ) → b ∷ bytes ≡ c ∷ others → b ≡ c
 same_first b c bytes others e = cc

@@ -18,7 +18,7 @@ abbrev Answers : Bool → List ℕ → Option ℕ → Type 0
 Answers escaped bytes o = MatchOption o (BeginsNone (is_rest_of_string escaped) bytes) (λ n. IsLongest (is_rest_of_string escaped) bytes n)
 
 closing : (b : ℕ) (bytes : List ℕ) → is_newline b ≡ false → (b == 34) ≡ true → IsLongest (is_rest_of_string false) (b ∷ bytes) 1
-closing b bytes n q = record { fits = omega arith; is = by_tests (take 0 bytes) (is_newline b) (b == 34) n q refl; most = by_len; }
+closing b bytes n q = record { fits = omega arith; is = by_tests (take 0 bytes) (is_newline b) (b == 34) n q refl; most = by_len }
   where
     by_tests : (w : List ℕ) (s t : Bool) → s ≡ false → t ≡ true → same w [] ≡ true → cond s false (cond t (same w []) (is_rest_of_string (b == 92) w)) ≡ true
     by_tests w true t e f h = cc
@@ -87,8 +87,8 @@ pub string_stops : (text : List ℕ) (i : ℕ) (escaped : Bool) → i < length t
     option_map (λ n. i + n) (string_run escaped (drop i text)) ≡ string_run false text → BeginsNone (is_rest_of_string false) text
 string_stops text i escaped l n h =
     let none : string_run escaped (drop i text) ≡ None =
-        rw (drop_more text i 0 l)
-        (ap (λ s. cond s None (cond escaped (option_map suc (string_run false (drop (i + 1) text))) (cond (get_or text i 0 == 34) (Some 1) (option_map suc (string_run (get_or text i 0 == 92) (drop (i + 1) text)))))) n)
+    rw (drop_more text i 0 l)
+    (ap (λ s. cond s None (cond escaped (option_map suc (string_run false (drop (i + 1) text))) (cond (get_or text i 0 == 34) (Some 1) (option_map suc (string_run (get_or text i 0 == 92) (drop (i + 1) text)))))) n)
     in
     answer_none text (string_run false text) (none_after i (string_run escaped (drop i text)) (string_run false text) none h) (string_answer false text)
 
@@ -102,8 +102,8 @@ pub string_closes : (text : List ℕ) (i : ℕ) → i < length text → is_newli
     option_map (λ n. i + n) (string_run false (drop i text)) ≡ string_run false text → IsLongest (is_rest_of_string false) text (i + 1)
 string_closes text i l n q h =
     let one : string_run false (drop i text) ≡ Some 1 =
-        rw (drop_more text i 0 l)
-        (ap (λ s. cond s None (cond (get_or text i 0 == 34) (Some 1) (option_map suc (string_run (get_or text i 0 == 92) (drop (i + 1) text))))) n
-        ∙ ap (λ s. cond s (Some 1) (option_map suc (string_run (get_or text i 0 == 92) (drop (i + 1) text)))) q)
+    rw (drop_more text i 0 l)
+    (ap (λ s. cond s None (cond (get_or text i 0 == 34) (Some 1) (option_map suc (string_run (get_or text i 0 == 92) (drop (i + 1) text))))) n
+    ∙ ap (λ s. cond s (Some 1) (option_map suc (string_run (get_or text i 0 == 92) (drop (i + 1) text)))) q)
     in
     answer_some text (i + 1) (string_run false text) (some_after i 1 (string_run false (drop i text)) (string_run false text) one h) (string_answer false text)

@@ -14,7 +14,6 @@ pub data IsToken (front word after : List ℕ) : Kind → Type 0 where
   -- the longest word, where no comment begins
   longest : (k : Kind) → IsFalse (opens_block (word ++ after) || opens_line (word ++ after)) → IsLongest is_word (word ++ after) (length word) →
       kind_of word ≡ Some k → IsToken front word after k
-
   -- a line with a `#` that isn't skipped, from the `#` to the end of the line
   directive : IsTrue (opens_directive front (word ++ after)) → word ≡ line_of (word ++ after) → IsFalse (is_skipped word) → IsToken front word after kind.Directive
 

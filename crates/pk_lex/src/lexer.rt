@@ -93,13 +93,26 @@ pub fn lex(alloc: Global, text: &[u8]) -> Result<Vec<Token>, LexError>
             Err(kind) => return Err(LexError::Lexical { kind, at }),
         };
         let end = start + count;
-        if tokens.push(Token { kind, start, end, at }).is_err() {
+        if tokens
+            .push(Token {
+                kind,
+                start,
+                end,
+                at,
+            })
+            .is_err()
+        {
             return Err(LexError::Memory);
         }
         at = after(at, rest.split_at(count).0);
         start = end;
     }
-    let end = Token { kind: Kind::End, start, end: start, at };
+    let end = Token {
+        kind: Kind::End,
+        start,
+        end: start,
+        at,
+    };
     if tokens.push(end).is_err() {
         return Err(LexError::Memory);
     }

@@ -2,7 +2,6 @@
 
 ghost use Rattle.std.specs.Prelude.{◌≡◌, ◌≤◌, ◌^◌, ◌==◌, ◌||◌, pos, length, take, IsTrue, MatchOption};
 ghost use Rattle.std.specs.List.{list_all, list_any, take_while};
-ghost use Rattle.pk_ctypes.specs.Types.{is_signed_of, is_in_type};
 ghost use Rattle.pk_lex.specs.Bytes.{is_digit_of, value_in};
 ghost use Rattle.pk_lex.specs.Words.{IsLongest};
 ghost use Rattle.pk_lex.specs.Numbers.{goes_on, is_rest_of_number, is_number, is_hexadecimal, base_of, unmarked, suffix_of, longs_of, allows, type_of, typed, constant_of, is_floating};
@@ -11,7 +10,7 @@ use crate::bytes::{digit, digit_of, part, split, value_of_digit};
 use crate::lines::begins;
 use crate::tables::look_up;
 use crate::token::Constant;
-use pk_ctypes::IntType;
+use pk_ctypes::{IntType, fits, is_signed};
 
 // Whether a number goes on with b after another byte.
 fn continues(before: u8, b: u8) -> bool
@@ -75,31 +74,168 @@ pub(crate) struct Suffix {
     pub(crate) longs: u8,
 }
 
-
 const SUFFIXES: [(&[u8], Suffix); 23] = [
-    (b"", Suffix { unsigned: false, longs: 0 }),
-    (b"l", Suffix { unsigned: false, longs: 1 }),
-    (b"L", Suffix { unsigned: false, longs: 1 }),
-    (b"ll", Suffix { unsigned: false, longs: 2 }),
-    (b"LL", Suffix { unsigned: false, longs: 2 }),
-    (b"u", Suffix { unsigned: true, longs: 0 }),
-    (b"U", Suffix { unsigned: true, longs: 0 }),
-    (b"ul", Suffix { unsigned: true, longs: 1 }),
-    (b"uL", Suffix { unsigned: true, longs: 1 }),
-    (b"Ul", Suffix { unsigned: true, longs: 1 }),
-    (b"UL", Suffix { unsigned: true, longs: 1 }),
-    (b"lu", Suffix { unsigned: true, longs: 1 }),
-    (b"lU", Suffix { unsigned: true, longs: 1 }),
-    (b"Lu", Suffix { unsigned: true, longs: 1 }),
-    (b"LU", Suffix { unsigned: true, longs: 1 }),
-    (b"ull", Suffix { unsigned: true, longs: 2 }),
-    (b"uLL", Suffix { unsigned: true, longs: 2 }),
-    (b"Ull", Suffix { unsigned: true, longs: 2 }),
-    (b"ULL", Suffix { unsigned: true, longs: 2 }),
-    (b"llu", Suffix { unsigned: true, longs: 2 }),
-    (b"llU", Suffix { unsigned: true, longs: 2 }),
-    (b"LLu", Suffix { unsigned: true, longs: 2 }),
-    (b"LLU", Suffix { unsigned: true, longs: 2 }),
+    (
+        b"",
+        Suffix {
+            unsigned: false,
+            longs: 0,
+        },
+    ),
+    (
+        b"l",
+        Suffix {
+            unsigned: false,
+            longs: 1,
+        },
+    ),
+    (
+        b"L",
+        Suffix {
+            unsigned: false,
+            longs: 1,
+        },
+    ),
+    (
+        b"ll",
+        Suffix {
+            unsigned: false,
+            longs: 2,
+        },
+    ),
+    (
+        b"LL",
+        Suffix {
+            unsigned: false,
+            longs: 2,
+        },
+    ),
+    (
+        b"u",
+        Suffix {
+            unsigned: true,
+            longs: 0,
+        },
+    ),
+    (
+        b"U",
+        Suffix {
+            unsigned: true,
+            longs: 0,
+        },
+    ),
+    (
+        b"ul",
+        Suffix {
+            unsigned: true,
+            longs: 1,
+        },
+    ),
+    (
+        b"uL",
+        Suffix {
+            unsigned: true,
+            longs: 1,
+        },
+    ),
+    (
+        b"Ul",
+        Suffix {
+            unsigned: true,
+            longs: 1,
+        },
+    ),
+    (
+        b"UL",
+        Suffix {
+            unsigned: true,
+            longs: 1,
+        },
+    ),
+    (
+        b"lu",
+        Suffix {
+            unsigned: true,
+            longs: 1,
+        },
+    ),
+    (
+        b"lU",
+        Suffix {
+            unsigned: true,
+            longs: 1,
+        },
+    ),
+    (
+        b"Lu",
+        Suffix {
+            unsigned: true,
+            longs: 1,
+        },
+    ),
+    (
+        b"LU",
+        Suffix {
+            unsigned: true,
+            longs: 1,
+        },
+    ),
+    (
+        b"ull",
+        Suffix {
+            unsigned: true,
+            longs: 2,
+        },
+    ),
+    (
+        b"uLL",
+        Suffix {
+            unsigned: true,
+            longs: 2,
+        },
+    ),
+    (
+        b"Ull",
+        Suffix {
+            unsigned: true,
+            longs: 2,
+        },
+    ),
+    (
+        b"ULL",
+        Suffix {
+            unsigned: true,
+            longs: 2,
+        },
+    ),
+    (
+        b"llu",
+        Suffix {
+            unsigned: true,
+            longs: 2,
+        },
+    ),
+    (
+        b"llU",
+        Suffix {
+            unsigned: true,
+            longs: 2,
+        },
+    ),
+    (
+        b"LLu",
+        Suffix {
+            unsigned: true,
+            longs: 2,
+        },
+    ),
+    (
+        b"LLU",
+        Suffix {
+            unsigned: true,
+            longs: 2,
+        },
+    ),
 ];
 
 #[tactic(auto, unfolding(crate::specs::Numbers::suffix_of))]
@@ -169,32 +305,6 @@ pub(crate) fn value(base: u64, digits: &[u8]) -> Option<u64>
     Some(value)
 }
 
-fn holds(t: IntType, value: u64) -> bool
-    ensures { result ≡ is_in_type t (pos value) }
-{
-    match t {
-        IntType::Char | IntType::SChar => value <= 127,
-        IntType::UChar => value <= 255,
-        IntType::Short => value <= 32_767,
-        IntType::UShort => value <= 65_535,
-        IntType::Int => value <= 2_147_483_647,
-        IntType::UInt => value <= 4_294_967_295,
-        IntType::Long | IntType::LLong => value <= 9_223_372_036_854_775_807,
-        IntType::ULong | IntType::ULLong => true,
-    }
-}
-
-fn signed(t: IntType) -> bool
-    ensures { result ≡ is_signed_of t }
-{
-    match t {
-        IntType::Char | IntType::SChar => true,
-        IntType::Short | IntType::Int | IntType::Long | IntType::LLong => true,
-        IntType::UChar | IntType::UShort => false,
-        IntType::UInt | IntType::ULong | IntType::ULLong => false,
-    }
-}
-
 fn longs(t: IntType) -> u8
     ensures { result ≡ longs_of t }
 {
@@ -210,7 +320,11 @@ fn allowed(is_decimal: bool, suffix: Suffix, t: IntType) -> bool
     ensures { result ≡ allows is_decimal suffix t }
 {
     suffix.longs <= longs(t)
-        && (if suffix.unsigned { !signed(t) } else { signed(t) || !is_decimal })
+        && (if suffix.unsigned {
+            !is_signed(t)
+        } else {
+            is_signed(t) || !is_decimal
+        })
 }
 
 // The first type that a constant may have and that holds it.
@@ -227,7 +341,7 @@ fn constant_type(is_decimal: bool, suffix: Suffix, value: u64) -> Option<IntType
     ];
     types
         .iter()
-        .find(|t| allowed(is_decimal, suffix, **t) && holds(**t, value))
+        .find(|t| allowed(is_decimal, suffix, **t) && fits(**t, value as i128))
         .copied()
 }
 

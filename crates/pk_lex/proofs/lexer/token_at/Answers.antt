@@ -16,6 +16,8 @@ returns-in-Some-kind c =
     c.in-Some.ensures c.split_at.ensures.front (sym c.kind.ensures ∙ c.in-Some-kind.is)
 
 pub returns-in-None : goal.returns-in-None
-returns-in-None c =
-    (no_token_without_kind c.args.front.now c.args.text.now c.split_at.result.0.now c.in-Some.count (sym c.at_directive.ensures ∙ c.if-at_directive.false)
-    c.in-Some.ensures c.split_at.ensures.front (sym c.kind.ensures ∙ c.in-None.is), c.wrong-in-None.ensures)
+returns-in-None c = (
+  no_token_without_kind c.args.front.now c.args.text.now c.split_at.result.0.now c.in-Some.count (sym c.at_directive.ensures ∙ c.if-at_directive.false)
+      c.in-Some.ensures c.split_at.ensures.front (sym c.kind.ensures ∙ c.in-None.is),
+  c.wrong-in-None.ensures,
+)
