@@ -74,168 +74,60 @@ pub(crate) struct Suffix {
     pub(crate) longs: u8,
 }
 
+const PLAIN: Suffix = Suffix {
+    unsigned: false,
+    longs: 0,
+};
+
+const LONG: Suffix = Suffix {
+    unsigned: false,
+    longs: 1,
+};
+
+const LONG_LONG: Suffix = Suffix {
+    unsigned: false,
+    longs: 2,
+};
+
+const UNSIGNED: Suffix = Suffix {
+    unsigned: true,
+    longs: 0,
+};
+
+const UNSIGNED_LONG: Suffix = Suffix {
+    unsigned: true,
+    longs: 1,
+};
+
+const UNSIGNED_LONG_LONG: Suffix = Suffix {
+    unsigned: true,
+    longs: 2,
+};
+
 const SUFFIXES: [(&[u8], Suffix); 23] = [
-    (
-        b"",
-        Suffix {
-            unsigned: false,
-            longs: 0,
-        },
-    ),
-    (
-        b"l",
-        Suffix {
-            unsigned: false,
-            longs: 1,
-        },
-    ),
-    (
-        b"L",
-        Suffix {
-            unsigned: false,
-            longs: 1,
-        },
-    ),
-    (
-        b"ll",
-        Suffix {
-            unsigned: false,
-            longs: 2,
-        },
-    ),
-    (
-        b"LL",
-        Suffix {
-            unsigned: false,
-            longs: 2,
-        },
-    ),
-    (
-        b"u",
-        Suffix {
-            unsigned: true,
-            longs: 0,
-        },
-    ),
-    (
-        b"U",
-        Suffix {
-            unsigned: true,
-            longs: 0,
-        },
-    ),
-    (
-        b"ul",
-        Suffix {
-            unsigned: true,
-            longs: 1,
-        },
-    ),
-    (
-        b"uL",
-        Suffix {
-            unsigned: true,
-            longs: 1,
-        },
-    ),
-    (
-        b"Ul",
-        Suffix {
-            unsigned: true,
-            longs: 1,
-        },
-    ),
-    (
-        b"UL",
-        Suffix {
-            unsigned: true,
-            longs: 1,
-        },
-    ),
-    (
-        b"lu",
-        Suffix {
-            unsigned: true,
-            longs: 1,
-        },
-    ),
-    (
-        b"lU",
-        Suffix {
-            unsigned: true,
-            longs: 1,
-        },
-    ),
-    (
-        b"Lu",
-        Suffix {
-            unsigned: true,
-            longs: 1,
-        },
-    ),
-    (
-        b"LU",
-        Suffix {
-            unsigned: true,
-            longs: 1,
-        },
-    ),
-    (
-        b"ull",
-        Suffix {
-            unsigned: true,
-            longs: 2,
-        },
-    ),
-    (
-        b"uLL",
-        Suffix {
-            unsigned: true,
-            longs: 2,
-        },
-    ),
-    (
-        b"Ull",
-        Suffix {
-            unsigned: true,
-            longs: 2,
-        },
-    ),
-    (
-        b"ULL",
-        Suffix {
-            unsigned: true,
-            longs: 2,
-        },
-    ),
-    (
-        b"llu",
-        Suffix {
-            unsigned: true,
-            longs: 2,
-        },
-    ),
-    (
-        b"llU",
-        Suffix {
-            unsigned: true,
-            longs: 2,
-        },
-    ),
-    (
-        b"LLu",
-        Suffix {
-            unsigned: true,
-            longs: 2,
-        },
-    ),
-    (
-        b"LLU",
-        Suffix {
-            unsigned: true,
-            longs: 2,
-        },
-    ),
+    (b"", PLAIN),
+    (b"l", LONG),
+    (b"L", LONG),
+    (b"ll", LONG_LONG),
+    (b"LL", LONG_LONG),
+    (b"u", UNSIGNED),
+    (b"U", UNSIGNED),
+    (b"ul", UNSIGNED_LONG),
+    (b"uL", UNSIGNED_LONG),
+    (b"Ul", UNSIGNED_LONG),
+    (b"UL", UNSIGNED_LONG),
+    (b"lu", UNSIGNED_LONG),
+    (b"lU", UNSIGNED_LONG),
+    (b"Lu", UNSIGNED_LONG),
+    (b"LU", UNSIGNED_LONG),
+    (b"ull", UNSIGNED_LONG_LONG),
+    (b"uLL", UNSIGNED_LONG_LONG),
+    (b"Ull", UNSIGNED_LONG_LONG),
+    (b"ULL", UNSIGNED_LONG_LONG),
+    (b"llu", UNSIGNED_LONG_LONG),
+    (b"llU", UNSIGNED_LONG_LONG),
+    (b"LLu", UNSIGNED_LONG_LONG),
+    (b"LLU", UNSIGNED_LONG_LONG),
 ];
 
 #[tactic(auto, unfolding(crate::specs::Numbers::suffix_of))]
