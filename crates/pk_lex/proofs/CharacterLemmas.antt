@@ -1,13 +1,13 @@
 -- Where a character constant ends.
-use Rattle.std.proofs.Common.{◌≡◌, ℕ, zero, suc, ◌+◌, ◌-◌, ◌<◌, ◌≤◌, ◌==◌, Bool, true, false, cond, not, ◌&&◌, is_some, Option, Some, None, List, [], ◌∷◌, ◌++◌, length, take, drop, get_or, refl, sym, ap, ◌∙◌, subst, arith, length-append, take-append-drop}
+use Rattle.std.proofs.Common.{◌≡◌, ℕ, suc, ◌+◌, ◌-◌, ◌<◌, ◌≤◌, ◌==◌, Bool, true, false, cond, not, ◌&&◌, is_some, Some, None, List, [], ◌∷◌, ◌++◌, length, take, drop, get_or, refl, sym, ap, ◌∙◌, arith, length-append, take-append-drop}
 use Rattle.std.specs.Prelude.{nat_le, nat_eq}
 use Rattle.std.specs.List.{list_all, take_while, prefix_len}
-use Rattle.std.specs.Cmp.Lexicographic.{pointwise, same_text}
-use Rattle.std.proofs.lemmas.Bool.{and_parts, and_from, both_ways, eqb-true, eq-eqb}
+use Rattle.std.specs.Cmp.Lexicographic.{same_text}
+use Rattle.std.proofs.lemmas.Bool.{and_parts, and_from, eqb-true, eq-eqb}
 use Rattle.std.proofs.lemmas.Bool.Decides.{nat_tests}
 use Rattle.std.proofs.lemmas.List.{take_more, take_at, append_assoc, length-take-le, get_or_at}
 use Rattle.std.proofs.lemmas.List.Folds.{length-prefix_len}
-use Rattle.pk_lex.specs.Bytes.{is_digit_of, is_hexadecimal_digit, digit_value, value_in, same}
+use Rattle.pk_lex.specs.Bytes.{is_digit_of, is_hexadecimal_digit, value_in, same}
 use Rattle.pk_lex.specs.Tables.{lookup}
 use Rattle.pk_lex.specs.Words.{IsLongest, BeginsNone}
 use Rattle.pk_lex.specs.Steps.{is_unquoted, quote_after_escape, quote_at}

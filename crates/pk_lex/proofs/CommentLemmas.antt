@@ -1,8 +1,8 @@
 -- Where a comment ends.
-use Rattle.std.proofs.Common.{◌≡◌, ℕ, zero, suc, ◌+◌, ◌<◌, ◌≤◌, ◌==◌, Bool, true, false, ◌&&◌, ◌||◌, List, [], ◌∷◌, ◌++◌, length, take, drop, get_or, refl, sym, ap, ◌∙◌, add-one, arith, length-take, take-append-drop}
-use Rattle.std.proofs.lemmas.Bool.{or_from, or_parts, and_from, and_right}
+use Rattle.std.proofs.Common.{◌≡◌, ℕ, suc, ◌+◌, ◌<◌, ◌≤◌, ◌==◌, false, ◌&&◌, List, [], ◌∷◌, ◌++◌, length, take, drop, get_or, refl, sym, ap, ◌∙◌, add-one, arith, length-take, take-append-drop}
+use Rattle.std.proofs.lemmas.Bool.{or_from, and_right}
 use Rattle.std.proofs.lemmas.List.{drop_more, get_or-take, append_assoc}
-use Rattle.pk_lex.specs.WhiteSpace.{has_close, begins_with_both}
+use Rattle.pk_lex.specs.WhiteSpace.{has_close}
 use Rattle.pk_lex.specs.Steps.{IsFirstClose}
 
 -- no `*/` stands at any place

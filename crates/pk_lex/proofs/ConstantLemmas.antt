@@ -1,9 +1,9 @@
 -- Integer constants, from their digits and their suffix.
-use Rattle.std.proofs.Common.{◌≡◌, ℕ, ◌^◌, ◌<◌, ◌≤◌, ◌==◌, Bool, true, false, cond, ◌&&◌, Option, Some, None, List, [], ◌∷◌, length, take, drop, refl, sym, ap, ◌∙◌, arith}
+use Rattle.std.proofs.Common.{◌≡◌, ℕ, ◌^◌, ◌≤◌, ◌==◌, Bool, true, false, cond, ◌&&◌, Option, Some, None, List, [], ◌∷◌, length, take, drop, refl, sym, ap, ◌∙◌, arith}
 use Rattle.std.specs.Prelude.{pos, nat_le, int_le}
-use Rattle.std.specs.List.{list_all, find, take_while, prefix_len}
+use Rattle.std.specs.List.{list_all, find, take_while}
 use Rattle.std.specs.Option.{option_map}
-use Rattle.std.proofs.lemmas.Bool.{and_right, lt-leb, le-leb, eqb-false}
+use Rattle.std.proofs.lemmas.Bool.{and_right, lt-leb, le-leb}
 use Rattle.std.proofs.lemmas.List.Folds.{length-prefix_len}
 use Rattle.pk_ctypes.specs.declared.types.IntType.{IntType}
 use Rattle.pk_ctypes.specs.declared.types.IntType.TheVariants.{Char, SChar, UChar, Short, UShort, Int, UInt, Long, ULong, LLong, ULLong}
@@ -11,7 +11,7 @@ use Rattle.pk_ctypes.specs.Types.{low_of, is_in_type}
 use Rattle.pk_lex.specs.declared.numbers.Suffix.{Suffix}
 use Rattle.pk_lex.specs.declared.token.Constant.{Constant}
 use Rattle.pk_lex.specs.Bytes.{is_digit_of, value_in}
-use Rattle.pk_lex.specs.Numbers.{base_of, unmarked, digits_of, suffix_of, allows, type_of, constant, typed, constant_of}
+use Rattle.pk_lex.specs.Numbers.{base_of, unmarked, digits_of, suffix_of, allows, constant, typed, constant_of}
 use Rattle.pk_lex.proofs.Longest.{run_longest}
 
 -- a number cut into digits and a suffix

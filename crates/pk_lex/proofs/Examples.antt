@@ -1,12 +1,11 @@
 -- The definitions at worked values.
-use Rattle.std.proofs.Common.{◌≡◌, ℕ, List, [], ◌∷◌, ◌++◌, Bool, true, false, Some, None, refl}
-use Rattle.std.specs.Prelude.{codes, pos, negsuc, Option}
+use Rattle.std.proofs.Common.{◌≡◌, ℕ, List, [], ◌∷◌, ◌++◌, true, false, Some, None, refl}
+use Rattle.std.specs.Prelude.{codes, negsuc, Option}
 use Rattle.pk_ctypes.specs.declared.types.IntType.TheVariants as ctype
 use Rattle.pk_lex.specs.declared.token.Keyword.TheVariants as keyword
 use Rattle.pk_lex.specs.declared.token.Punctuator.TheVariants as punctuator
 use Rattle.pk_lex.specs.declared.token.Kind.{Kind}
 use Rattle.pk_lex.specs.declared.token.Kind.TheVariants as kind
-use Rattle.pk_lex.specs.declared.token.LexicalKind.{LexicalKind}
 use Rattle.pk_lex.specs.declared.token.LexicalKind.TheVariants as lexical
 use Rattle.pk_lex.specs.Tables.{keyword_of, punctuator_of}
 use Rattle.pk_lex.specs.Numbers.{constant, suffix_of, constant_of, is_floating}

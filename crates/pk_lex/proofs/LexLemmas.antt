@@ -7,10 +7,9 @@ use Rattle.pk_lex.specs.declared.token.Kind.{Kind}
 use Rattle.pk_lex.specs.declared.token.Kind.TheVariants as kind
 use Rattle.pk_lex.specs.declared.token.Token.{Token}
 use Rattle.pk_lex.specs.declared.token.LexicalKind.{LexicalKind}
-use Rattle.pk_lex.specs.WhiteSpace.{IsWhite}
-use Rattle.pk_lex.specs.Tokens.{IsToken, token_of, Reads, nothing, past_white, past_token, IsLexed}
+use Rattle.pk_lex.specs.Tokens.{token_of, Reads, nothing, past_white, past_token, IsLexed}
 use Rattle.pk_lex.specs.Steps.{NoWhite, NoToken, IsFirstWhite, IsFirstToken}
-use Rattle.pk_lex.specs.Failures.{lexical_kind, IsStuck, FailsAt}
+use Rattle.pk_lex.specs.Failures.{lexical_kind, FailsAt}
 use Rattle.pk_lex.proofs.ReadLemmas.{reads_then}
 
 after_bytes-append : (at : Pos) (a b : List ℕ) → after_bytes at (a ++ b) ≡ after_bytes (after_bytes at a) b

@@ -1,9 +1,8 @@
 -- The most first bytes of a text that are such.
 use Rattle.std.proofs.Common.{◌≡◌, ℕ, zero, suc, ◌+◌, ◌≤◌, Bool, true, false, cond, ◌&&◌, Option, Some, None, MatchOption, List, [], ◌∷◌, length, take, refl, sym, ap, ◌∙◌, arith}
-use Rattle.std.specs.List.{list_all, take_while, prefix_len}
+use Rattle.std.specs.List.{list_all, prefix_len}
 use Rattle.std.specs.Option.{option_map}
 use Rattle.std.proofs.lemmas.Bool.{both_ways}
-use Rattle.std.proofs.lemmas.List.Folds.{length-prefix_len}
 use Rattle.pk_lex.specs.Words.{IsLongest, BeginsNone}
 
 -- the longest such from one byte on, and from the next byte on

@@ -1,9 +1,9 @@
 -- Punctuators are short, and have no byte of another word.
-use Rattle.std.proofs.Common.{◌≡◌, ℕ, zero, suc, ◌<◌, ◌≤◌, ◌==◌, Bool, true, false, cond, not, ◌&&◌, ◌||◌, is_some, Option, Some, None, List, [], ◌∷◌, ◌++◌, length, take, refl, sym, ap, ◌∙◌, subst, arith, inl, inr, length-take}
+use Rattle.std.proofs.Common.{◌≡◌, ℕ, ◌<◌, ◌≤◌, ◌==◌, Bool, true, false, cond, not, ◌&&◌, ◌||◌, is_some, Some, List, [], ◌∷◌, ◌++◌, length, take, refl, sym, subst, arith, inl, inr, length-take}
 use Rattle.std.specs.Prelude.{nat_le}
 use Rattle.std.specs.List.{list_all}
 use Rattle.std.specs.Cmp.Lexicographic.{same_text}
-use Rattle.std.proofs.lemmas.Bool.{and_parts, cases_lt, leb-true, both_ways}
+use Rattle.std.proofs.lemmas.Bool.{and_parts, cases_lt, leb-true}
 use Rattle.pk_lex.specs.Bytes.{is_part, is_white, same}
 use Rattle.pk_lex.specs.Tables.{lookup, punctuators_of_one, punctuators_of_two, punctuators_of_three, punctuator_of}
 use Rattle.pk_lex.specs.Words.{IsLongest, BeginsNone}

@@ -1,15 +1,15 @@
 -- What begins at a place.
-use Rattle.std.proofs.Common.{◌≡◌, ℕ, zero, suc, ◌+◌, ◌<◌, ◌≤◌, ◌==◌, Bool, true, false, cond, not, ◌&&◌, ◌||◌, Option, Some, None, List, [], ◌∷◌, ◌++◌, length, take, drop, refl, sym, ap, ◌∙◌, subst, arith, length-append, append_assoc, take-append-drop, length-take}
-use Rattle.std.specs.List.{take_while, prefix_len}
+use Rattle.std.proofs.Common.{◌≡◌, ℕ, zero, suc, ◌+◌, ◌≤◌, ◌==◌, true, false, cond, not, ◌&&◌, ◌||◌, Some, None, List, [], ◌∷◌, ◌++◌, length, take, drop, refl, sym, ap, ◌∙◌, subst, arith, length-append, take-append-drop}
+use Rattle.std.specs.List.{take_while}
 use Rattle.std.proofs.lemmas.Bool.{or_parts, or_from, and_parts, and_from, both_ways, eqb-true, false_from_ne_true}
-use Rattle.std.proofs.lemmas.List.{take_at, drop_at, length-take-le}
+use Rattle.std.proofs.lemmas.List.{take_at, length-take-le}
 use Rattle.std.proofs.lemmas.List.Folds.{length-prefix_len}
 use Rattle.std.proofs.lemmas.List.Sums.{prefix_len-le-length, take_while-cons}
 use Rattle.pk_lex.specs.declared.token.Kind.{Kind}
 use Rattle.pk_lex.specs.declared.token.Kind.TheVariants as kind
 use Rattle.pk_lex.specs.Bytes.{is_white, is_newline, begins_with}
 use Rattle.pk_lex.specs.Lines.{line_of, begins_line, opens_directive, is_skipped}
-use Rattle.pk_lex.specs.WhiteSpace.{opens_block, opens_line, begins_with_both, has_close, IsWhite, white_byte, block_comment, line_comment, skipped_line}
+use Rattle.pk_lex.specs.WhiteSpace.{opens_block, opens_line, has_close, white_byte, block_comment, line_comment, skipped_line}
 use Rattle.pk_lex.specs.Words.{is_word, IsLongest, BeginsNone}
 use Rattle.pk_lex.specs.Kinds.{kind_of}
 use Rattle.pk_lex.specs.Tokens.{IsToken, longest, directive}

@@ -1,20 +1,20 @@
 -- Which words begin with which bytes.
-use Rattle.std.proofs.Common.{◌≡◌, ℕ, zero, suc, ◌+◌, ◌≤◌, ◌==◌, ◌⊎◌, inl, inr, Bool, true, false, cond, not, ◌&&◌, ◌||◌, is_some, Option, Some, None, MatchOption, List, [], ◌∷◌, length, take, refl, sym, ap, ◌∙◌, subst, arith, take_all}
+use Rattle.std.proofs.Common.{◌≡◌, ℕ, zero, suc, ◌+◌, ◌≤◌, ◌==◌, ◌⊎◌, inl, inr, Bool, true, false, cond, ◌&&◌, ◌||◌, is_some, Option, Some, None, MatchOption, List, [], ◌∷◌, length, take, refl, sym, ap, ◌∙◌, subst, arith, take_all}
 use Rattle.std.specs.List.{list_all, take_while, prefix_len}
 use Rattle.std.proofs.lemmas.List.Folds.{length-prefix_len}
-use Rattle.std.proofs.lemmas.Bool.{or_cases, or_left, or_right, and_parts, both_ways, eqb-true, cases_lt, false_from_ne_true, not-true}
+use Rattle.std.proofs.lemmas.Bool.{or_cases, or_left, or_right, and_parts, both_ways, eqb-true, false_from_ne_true, not-true}
 use Rattle.std.proofs.lemmas.Bool.Decides.{nat_tests}
 use Rattle.std.specs.Option.{option_map}
 use Rattle.pk_lex.specs.declared.token.Kind.{Kind}
 use Rattle.pk_lex.specs.declared.token.Kind.TheVariants as kind
 use Rattle.pk_lex.specs.Bytes.{is_white, is_letter, is_digit, is_part}
 use Rattle.pk_lex.specs.Tables.{keyword_of, punctuator_of}
-use Rattle.pk_lex.specs.Numbers.{goes_on, is_rest_of_number, is_fraction, is_number, constant_of}
+use Rattle.pk_lex.specs.Numbers.{is_rest_of_number, is_fraction, is_number, constant_of}
 use Rattle.pk_lex.specs.Characters.{between_quotes, code_of, is_character, character_of, is_rest_of_string, is_string}
 use Rattle.pk_lex.specs.Words.{is_name, is_word, IsLongest, BeginsNone}
 use Rattle.pk_lex.specs.Kinds.{keyword_or_name, number_kind, kind_of}
 use Rattle.pk_lex.proofs.Longest.{longer, run_longest, nothing_begins}
-use Rattle.pk_lex.proofs.PunctuatorLemmas.{is_other_byte, is_sign_byte, is_sign, punctuator_is_sign}
+use Rattle.pk_lex.proofs.PunctuatorLemmas.{is_other_byte, is_sign_byte, punctuator_is_sign}
 
 -- the forms of a word
 data Form (w : List ℕ) : Type 0 where

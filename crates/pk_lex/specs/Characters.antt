@@ -1,10 +1,10 @@
 -- Character constants (C99 6.4.4.4) and strings (C99 6.4.5).
-use Rattle.std.specs.Prelude.{ℕ, ◌==◌, ◌-◌, ℤ, pos, List, [], ◌∷◌, ◌++◌, length, take, drop, codes, Bool, true, false, not, ◌&&◌, ◌||◌, nat_le, is_some, Option, Some, None, if◌then◌else◌}
+use Rattle.std.specs.Prelude.{ℕ, ◌==◌, ◌-◌, ℤ, pos, List, [], ◌∷◌, ◌++◌, length, take, drop, codes, Bool, false, not, ◌&&◌, nat_le, is_some, Option, Some, None, if◌then◌else◌}
 use Rattle.std.specs.List.{list_all}
 use Rattle.std.specs.Option.{option_map}
 use Rattle.pk_ctypes.specs.declared.types.IntType.TheVariants.{Char}
 use Rattle.pk_ctypes.specs.Types.{wrapped}
-use Rattle.pk_lex.specs.Bytes.{is_digit_of, is_hexadecimal_digit, value_in, is_newline, begins_with, same}
+use Rattle.pk_lex.specs.Bytes.{is_digit_of, is_hexadecimal_digit, value_in, is_newline, same}
 use Rattle.pk_lex.specs.Tables.{lookup}
 
 -- the code that a backslash and one byte after it stand for

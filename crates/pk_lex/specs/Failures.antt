@@ -1,5 +1,5 @@
 -- Where a text has no tokens, and why.
-use Rattle.std.specs.Prelude.{◌≡◌, ℕ, ◌<◌, List, [], codes, length, take, Bool, ◌||◌, if◌then◌else◌}
+use Rattle.std.specs.Prelude.{◌≡◌, ℕ, ◌<◌, List, [], codes, length, take, ◌||◌, if◌then◌else◌}
 use Rattle.pk_ctypes.specs.declared.places.Pos.{Pos}
 use Rattle.pk_ctypes.specs.Places.{start_of_text, after_bytes}
 use Rattle.pk_lex.specs.declared.token.Token.{Token}

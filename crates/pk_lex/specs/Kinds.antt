@@ -1,5 +1,5 @@
 -- What a word is.
-use Rattle.std.specs.Prelude.{ℕ, List, Option, Some, None, is_some, if◌then◌else◌}
+use Rattle.std.specs.Prelude.{ℕ, List, Option, Some, None, if◌then◌else◌}
 use Rattle.std.specs.Option.{option_map}
 use Rattle.pk_lex.specs.declared.token.Constant.{Constant}
 use Rattle.pk_lex.specs.declared.token.Keyword.{Keyword}

@@ -1,5 +1,5 @@
 -- Lines, and those that a compiler's preprocessor leaves or would have read (C99 6.10).
-use Rattle.std.specs.Prelude.{ℕ, ◌==◌, List, [], ◌∷◌, reverse, length, drop, codes, Bool, false, not, ◌&&◌, ◌||◌}
+use Rattle.std.specs.Prelude.{ℕ, List, [], ◌∷◌, reverse, length, drop, codes, Bool, false, not, ◌&&◌, ◌||◌}
 use Rattle.std.specs.List.{list_all, take_while}
 use Rattle.pk_lex.specs.Bytes.{is_blank, is_newline, is_digit, is_part, begins_with, same}
 

@@ -1,5 +1,5 @@
 -- The words of a text (C99 6.4): names, numbers, character constants, strings and punctuators; and the longest at a place.
-use Rattle.std.specs.Prelude.{◌≡◌, ℕ, ◌≤◌, List, [], ◌∷◌, length, take, Bool, false, ◌&&◌, ◌||◌, is_some, IsTrue}
+use Rattle.std.specs.Prelude.{ℕ, ◌≤◌, List, [], ◌∷◌, length, take, Bool, false, ◌&&◌, ◌||◌, is_some, IsTrue}
 use Rattle.std.specs.List.{list_all}
 use Rattle.pk_lex.specs.Bytes.{is_letter, is_part}
 use Rattle.pk_lex.specs.Tables.{punctuator_of}

@@ -1,4 +1,4 @@
-use Rattle.std.proofs.Common.{◌≡◌, ◌+◌, ℕ, false, drop, ap}
+use Rattle.std.proofs.Common.{◌≡◌, ◌+◌, false, drop}
 use Rattle.std.specs.Option.{option_map}
 use Rattle.pk_lex.proofs.StringLemmas.{string_run}
 use Rattle.pk_lex.proofs.characters.close_count.Given as goal

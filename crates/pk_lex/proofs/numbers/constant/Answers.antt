@@ -1,10 +1,8 @@
-use Rattle.std.proofs.Common.{◌≡◌, ℕ, ◌≤◌, ◌==◌, Bool, false, sym, ap, ◌∙◌, List, length, Option, Some, None, arith}
+use Rattle.std.proofs.Common.{◌≡◌, ℕ, ◌≤◌, ◌==◌, Bool, false, sym, ap, ◌∙◌, Some, arith}
 use Rattle.std.specs.Option.{option_map}
 use Rattle.std.proofs.lemmas.Bool.{eqb-true, eqb-false}
-use Rattle.pk_lex.specs.declared.numbers.Suffix.{Suffix}
-use Rattle.pk_lex.specs.declared.token.Constant.{Constant}
 use Rattle.pk_lex.specs.Bytes.{value_in}
-use Rattle.pk_lex.specs.Numbers.{typed, type_of, constant}
+use Rattle.pk_lex.specs.Numbers.{typed, constant}
 use Rattle.pk_lex.proofs.ConstantLemmas.{IsCut, cut_digits, no_digits, some_digits, too_large}
 use Rattle.pk_lex.proofs.numbers.constant.Goals as goal
 use Rattle.pk_lex.proofs.numbers.constant.Goals.{After-is_empty}

@@ -1,4 +1,4 @@
-use Rattle.std.proofs.Common.{◌≡◌, ◌+◌, sym, ◌∙◌, ap, subst, arith, drop, length}
+use Rattle.std.proofs.Common.{◌≡◌, sym, ◌∙◌, subst, arith, length}
 use Rattle.pk_lex.specs.Numbers.{is_rest_of_number}
 use Rattle.pk_lex.specs.Words.{IsLongest}
 use Rattle.pk_lex.proofs.NumberLemmas.{number_run, number_longest, run_stops, run_goes, run_ends}

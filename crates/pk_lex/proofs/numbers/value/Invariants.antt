@@ -1,4 +1,4 @@
-use Rattle.std.proofs.Common.{◌≡◌, ◌<◌, ◌^◌, take}
+use Rattle.std.proofs.Common.{◌≡◌, take}
 use Rattle.pk_lex.specs.Bytes.{value_in}
 use Rattle.pk_lex.proofs.numbers.value.Given as goal
 

@@ -1,4 +1,3 @@
-use Rattle.std.proofs.Common.{arith}
 use Rattle.pk_lex.proofs.CommentLemmas.{first_close, no_close_at_all}
 use Rattle.pk_lex.proofs.white.close_count.Goals as goal
 
