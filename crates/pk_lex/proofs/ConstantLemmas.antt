@@ -9,7 +9,7 @@ use Rattle.pk_ctypes.specs.declared.types.IntType.{IntType}
 use Rattle.pk_ctypes.specs.declared.types.IntType.TheVariants.{Char, SChar, UChar, Short, UShort, Int, UInt, Long, ULong, LLong, ULLong}
 use Rattle.pk_ctypes.specs.Types.{low_of, is_in_type}
 use Rattle.pk_lex.specs.declared.numbers.Suffix.{Suffix}
-use Rattle.pk_lex.specs.declared.token.Constant.{Constant}
+use Rattle.pk_lex.specs.declared.numbers.Constant.{Constant}
 use Rattle.pk_lex.specs.Bytes.{is_digit_of, value_in}
 use Rattle.pk_lex.specs.Numbers.{base_of, unmarked, digits_of, suffix_of, allows, constant, typed, constant_of}
 use Rattle.pk_lex.proofs.Longest.{run_longest}

@@ -1,7 +1,7 @@
 -- What a word is.
 use Rattle.std.specs.Prelude.{ℕ, List, Option, Some, None, if◌then◌else◌}
 use Rattle.std.specs.Option.{option_map}
-use Rattle.pk_lex.specs.declared.token.Constant.{Constant}
+use Rattle.pk_lex.specs.declared.numbers.Constant.{Constant}
 use Rattle.pk_lex.specs.declared.token.Keyword.{Keyword}
 use Rattle.pk_lex.specs.declared.token.Kind.{Kind}
 use Rattle.pk_lex.specs.declared.token.Kind.TheVariants as kind
@@ -21,7 +21,7 @@ floating_if number = if is_floating number then Some kind.Floating else None
 -- an integer constant, else a floating one, else neither
 abbrev pub number_kind : List ℕ → Option Constant → Option Kind
 number_kind number None = floating_if number
-number_kind number (Some c) = Some (kind.Constant c)
+number_kind number (Some c) = Some (kind.Constant c.value c.ty)
 
 -- the kind of a word, which only a number may lack
 unfoldable pub kind_of : List ℕ → Option Kind

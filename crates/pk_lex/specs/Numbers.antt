@@ -6,7 +6,7 @@ use Rattle.pk_ctypes.specs.declared.types.IntType.{IntType}
 use Rattle.pk_ctypes.specs.declared.types.IntType.TheVariants.{Char, SChar, UChar, Short, UShort, Int, UInt, Long, ULong, LLong, ULLong}
 use Rattle.pk_ctypes.specs.Types.{is_signed_of, is_in_type}
 use Rattle.pk_lex.specs.declared.numbers.Suffix.{Suffix}
-use Rattle.pk_lex.specs.declared.token.Constant.{Constant}
+use Rattle.pk_lex.specs.declared.numbers.Constant.{Constant}
 use Rattle.pk_lex.specs.Bytes.{is_digit, is_part, is_digit_of, value_in, begins_with}
 use Rattle.pk_lex.specs.Tables.{lookup}
 

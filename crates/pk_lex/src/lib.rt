@@ -14,4 +14,4 @@ mod white;
 mod words;
 
 pub use lexer::{lex, tokens_are_determined};
-pub use token::{Constant, Keyword, Kind, LexError, LexicalKind, Punctuator, Token};
+pub use token::{Keyword, Kind, LexError, LexicalKind, Punctuator, Token};

@@ -9,7 +9,6 @@ ghost use Rattle.pk_lex.specs.Numbers.{goes_on, is_rest_of_number, is_number, is
 use crate::bytes::{digit, digit_of, part, split, value_of_digit};
 use crate::lines::begins;
 use crate::tables::look_up;
-use crate::token::Constant;
 use pk_ctypes::{IntType, fits, is_signed};
 
 // Whether a number goes on with b after another byte.
@@ -237,8 +236,15 @@ fn constant_type(is_decimal: bool, suffix: Suffix, value: u64) -> Option<IntType
         .copied()
 }
 
+// An integer constant.
+#[derive(Clone, Copy, Debug, PartialEq, Eq)]
+pub(crate) struct Constant {
+    pub(crate) value: u64,
+    pub(crate) ty: IntType,
+}
+
 // The value and type of an integer constant.
-pub(crate) fn constant(number: &[u8]) -> Option<Constant>
+pub(crate) fn integer(number: &[u8]) -> Option<Constant>
     ensures { result ≡ constant_of number.now }
 {
     let base = base(number);

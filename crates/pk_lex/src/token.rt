@@ -102,19 +102,13 @@ pub enum Punctuator {
     Arrow,
 }
 
-/// The value and the type of an integer constant (C99 6.4.4.1).
-#[derive(Clone, Copy, Debug, PartialEq, Eq)]
-pub struct Constant {
-    pub value: u64,
-    pub ty: IntType,
-}
-
 /// What a token is.
 #[derive(Clone, Copy, Debug, PartialEq, Eq)]
 pub enum Kind {
     Keyword(Keyword),
     Name,
-    Constant(Constant),
+    /// An integer constant, with its value and type (C99 6.4.4.1).
+    Constant { value: u64, ty: IntType },
     /// A character constant of type int, with its value (C99 6.4.4.4).
     Character(i8),
     StringLiteral,

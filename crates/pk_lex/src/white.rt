@@ -69,12 +69,11 @@ pub(crate) fn white_count(front: &[u8], text: &[u8]) -> Option<usize>
         };
         return Some(n + 4);
     }
-    let count = line_count(text);
     if at_line_comment(text) {
-        return Some(count);
+        return Some(line_count(text));
     }
     if at_skipped(front, text) {
-        return Some(count);
+        return Some(line_count(text));
     }
     None
 }

@@ -9,7 +9,7 @@ ghost use Rattle.pk_lex.specs.Kinds.{number_kind, kind_of};
 use crate::bytes::{letter, split};
 use crate::characters::{character, character_count, string_count};
 use crate::lines::part_count;
-use crate::numbers::{at_number, constant, floating, number_count};
+use crate::numbers::{Constant, at_number, floating, integer, number_count};
 use crate::tables::{keyword, punctuator};
 use crate::token::Kind;
 
@@ -59,8 +59,8 @@ pub(crate) fn word_count(text: &[u8]) -> Option<usize>
 fn kind_of_number(number: &[u8]) -> Option<Kind>
     ensures { result ≡ number_kind number.now (constant_of number.now) }
 {
-    match constant(number) {
-        Some(c) => Some(Kind::Constant(c)),
+    match integer(number) {
+        Some(Constant { value, ty }) => Some(Kind::Constant { value, ty }),
         None => {
             if floating(number) {
                 Some(Kind::Floating)

@@ -18,4 +18,4 @@ returns-then-at_block c =
 
 pub returns-then-at_skipped : goal.returns-then-at_skipped
 returns-then-at_skipped c =
-    first_skipped c.args.front.now c.args.text.now c.line_count-count.result c.line_count-count.ensures (sym c.at_skipped.ensures ∙ c.if-at_skipped.true)
+    first_skipped c.args.front.now c.args.text.now c.line_count-then-at_skipped.result c.line_count-then-at_skipped.ensures (sym c.at_skipped.ensures ∙ c.if-at_skipped.true)

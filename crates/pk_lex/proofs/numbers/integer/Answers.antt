@@ -4,8 +4,8 @@ use Rattle.std.proofs.lemmas.Bool.{eqb-true, eqb-false}
 use Rattle.pk_lex.specs.Bytes.{value_in}
 use Rattle.pk_lex.specs.Numbers.{typed, constant}
 use Rattle.pk_lex.proofs.ConstantLemmas.{IsCut, cut_digits, no_digits, some_digits, too_large}
-use Rattle.pk_lex.proofs.numbers.constant.Goals as goal
-use Rattle.pk_lex.proofs.numbers.constant.Goals.{After-is_empty}
+use Rattle.pk_lex.proofs.numbers.integer.Goals as goal
+use Rattle.pk_lex.proofs.numbers.integer.Goals.{After-is_empty}
 
 cut : (c : After-is_empty) → IsCut c.args.number.now c.without_mark-text.result.now c.split_at.result.0.now c.split_at.result.1.now c.base-base.result c.digit_count.result
 cut c = record {
