@@ -23,11 +23,11 @@ octal_digits : Gives (codes "08") None
 unfolding kind_of keyword_of punctuator_of suffix_of constant_of is_floating is_character character_of
 octal_digits = refl
 
-unsigned_hexadecimal : Gives (codes "0x80000000") (Some (kind.Constant 2147483648 ctype.UInt))
+unsigned_hexadecimal : Gives (codes "0x80000000") (Some (kind.Constant ctype.UInt 2147483648))
 unfolding kind_of keyword_of punctuator_of suffix_of constant_of is_floating is_character character_of
 unsigned_hexadecimal = refl
 
-long_decimal : Gives (codes "2147483648") (Some (kind.Constant 2147483648 ctype.Long))
+long_decimal : Gives (codes "2147483648") (Some (kind.Constant ctype.Long 2147483648))
 unfolding kind_of keyword_of punctuator_of suffix_of constant_of is_floating is_character character_of
 long_decimal = refl
 
@@ -39,7 +39,7 @@ no_type : Gives (codes "9223372036854775808") None
 unfolding kind_of keyword_of punctuator_of suffix_of constant_of is_floating is_character character_of
 no_type = refl
 
-largest : Gives (codes "18446744073709551615LLu") (Some (kind.Constant 18446744073709551615 ctype.ULLong))
+largest : Gives (codes "18446744073709551615LLu") (Some (kind.Constant ctype.ULLong 18446744073709551615))
 unfolding kind_of keyword_of punctuator_of suffix_of constant_of is_floating is_character character_of
 largest = refl
 

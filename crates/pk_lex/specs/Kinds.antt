@@ -21,7 +21,7 @@ floating_if number = if is_floating number then Some kind.Floating else None
 -- an integer constant, else a floating one, else neither
 abbrev pub number_kind : List ℕ → Option Constant → Option Kind
 number_kind number None = floating_if number
-number_kind number (Some c) = Some (kind.Constant c.value c.ty)
+number_kind number (Some c) = Some (kind.Constant c.ty c.value)
 
 -- the kind of a word, which only a number may lack
 unfoldable pub kind_of : List ℕ → Option Kind

@@ -201,7 +201,7 @@ fn shown(alloc: Global, text: &[u8]) -> Result<String, Fail> {
         match token.kind {
             Kind::Keyword(k) => write!(out, "{at} {k:?}")?,
             Kind::Punctuator(p) => write!(out, "{at} {p:?}")?,
-            Kind::Constant { value, ty } => write!(out, "{at} {value} {ty:?}")?,
+            Kind::Constant { ty, value } => write!(out, "{at} {value} {ty:?}")?,
             Kind::Character(value) => write!(out, "{at} Character {value}")?,
             kind => write!(out, "{at} {kind:?}")?,
         }

@@ -107,8 +107,8 @@ pub enum Punctuator {
 pub enum Kind {
     Keyword(Keyword),
     Name,
-    /// An integer constant, with its value and type (C99 6.4.4.1).
-    Constant { value: u64, ty: IntType },
+    /// An integer constant, with its type and value (C99 6.4.4.1).
+    Constant { ty: IntType, value: u64 },
     /// A character constant of type int, with its value (C99 6.4.4.4).
     Character(i8),
     StringLiteral,

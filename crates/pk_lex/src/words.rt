@@ -60,7 +60,7 @@ fn kind_of_number(number: &[u8]) -> Option<Kind>
     ensures { result ≡ number_kind number.now (constant_of number.now) }
 {
     match integer(number) {
-        Some(Constant { value, ty }) => Some(Kind::Constant { value, ty }),
+        Some(Constant { value, ty }) => Some(Kind::Constant { ty, value }),
         None => {
             if floating(number) {
                 Some(Kind::Floating)
