@@ -8,7 +8,7 @@ use Rattle.pk_lex.specs.declared.token.Kind.{Kind}
 use Rattle.pk_lex.specs.declared.token.Kind.TheVariants as kind
 use Rattle.pk_lex.specs.declared.token.LexicalKind.TheVariants as lexical
 use Rattle.pk_lex.specs.Tables.{keyword_of, punctuator_of}
-use Rattle.pk_lex.specs.Numbers.{constant, suffix_of, constant_of, is_floating}
+use Rattle.pk_lex.specs.Numbers.{suffix_of, constant_of, is_floating}
 use Rattle.pk_lex.specs.Characters.{is_character, character_of}
 use Rattle.pk_lex.specs.Words.{is_word}
 use Rattle.pk_lex.specs.Kinds.{kind_of}

@@ -13,3 +13,4 @@ pub mod WhiteLemmas
 pub mod ReadLemmas
 pub mod StepLemmas
 pub mod LexLemmas
+pub mod SpanLemmas

@@ -5,7 +5,7 @@ ghost use Rattle.pk_ctypes.specs.Places.{after_bytes};
 ghost use Rattle.pk_lex.specs.Steps.{NoWhite, NoToken, IsFirstToken};
 ghost use Rattle.pk_lex.specs.Tokens.{IsLexed};
 ghost use Rattle.pk_lex.specs.Failures.{lexical_kind, IsRefused};
-ghost use Rattle.pk_lex.specs.Laws.{TokensAreDetermined};
+ghost use Rattle.pk_lex.specs.Laws.{TokensAreDetermined, SpansAreInOrder};
 
 use crate::lines::{at_directive, begins, line_count};
 use crate::numbers::at_number;
@@ -122,4 +122,9 @@ pub fn lex(alloc: Global, text: &[u8]) -> Result<Vec<Token>, LexError>
 /// A text is at most one list of tokens, or fails at most at one place, and not both.
 pub fn tokens_are_determined()
     ensures { TokensAreDetermined }
+{}
+
+/// The span of each token lies in the text, and begins where the one before it ends or later.
+pub fn spans_are_in_order()
+    ensures { SpansAreInOrder }
 {}

@@ -13,5 +13,5 @@ mod token;
 mod white;
 mod words;
 
-pub use lexer::{lex, tokens_are_determined};
+pub use lexer::{lex, spans_are_in_order, tokens_are_determined};
 pub use token::{Keyword, Kind, LexError, LexicalKind, Punctuator, Token};
