@@ -1,0 +1,12 @@
+pub mod Bytes
+pub mod Lines
+pub mod WhiteSpace
+pub mod Tables
+pub mod Numbers
+pub mod Characters
+pub mod Words
+pub mod Kinds
+pub mod Tokens
+pub mod Steps
+pub mod Failures
+pub mod Laws
