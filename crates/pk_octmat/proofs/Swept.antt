@@ -1,9 +1,9 @@
 -- A matrix whose cells are rewritten one after another, row by row.
-use Rattle.std.specs.Prelude.{◌≡◌, ◌≢◌, ℕ, ◌<◌, ◌≤◌, ◌+◌, ◌*◌, ℤ, Option, None, List, ◌⊎◌, length}
-use Rattle.std.proofs.Common.{◌∙◌, refl, sym, arith, inl, inr, set, get_or, length-set}
+use Rattle.std.specs.Prelude.{◌≡◌, ◌≢◌, ℕ, ◌<◌, ◌≤◌, ◌+◌, ◌*◌, ℤ, Option, List, ◌⊎◌, length}
+use Rattle.std.proofs.Common.{◌∙◌, refl, sym, arith, inl, inr, set, length-set}
 use Rattle.std.proofs.lemmas.Bool.{cases_eq, cases_lt}
 use Rattle.pk_octmat.specs.Octagon.{cell_at}
-use Rattle.pk_octmat.proofs.Cells.{cell_in, cell_set_same, cell_set_other}
+use Rattle.pk_octmat.proofs.Cells.{cell_set_same, cell_set_other}
 
 -- the place (a, b) stands before (i, j)
 abbrev pub IsBefore : ℕ → ℕ → ℕ → ℕ → Type 0
@@ -35,16 +35,16 @@ before_or_from a b i j = by (cases_lt a i) (cases_eq a i) (cases_lt b j)
     by (inr g) (inr n) r = inr (inl (omega arith))
 
 -- a cell that the sweep doesn't change
-pub swept_read : (d i j a b : ℕ) (e f : ℕ → ℕ → Option ℤ) (cells : List (Option ℤ)) → Swept d i j e f cells → a < d → b < d → f a b ≡ e a b → get_or cells (a * d + b) None ≡ e a b
-swept_read d i j a b e f cells s ad bd same = sym (cell_in d cells a b ad bd) ∙ by (before_or_from a b i j)
+pub swept_read : (d i j a b : ℕ) (e f : ℕ → ℕ → Option ℤ) (cells : List (Option ℤ)) → Swept d i j e f cells → a < d → b < d → f a b ≡ e a b → cell_at d cells a b ≡ e a b
+swept_read d i j a b e f cells s ad bd same = by (before_or_from a b i j)
   where
     by : IsBefore a b i j ⊎ IsFrom a b i j → cell_at d cells a b ≡ e a b
     by (inl h) = s.done a b ad bd h ∙ same
     by (inr h) = s.rest a b ad bd h
 
 -- the cell that comes next
-pub swept_next : (d i j : ℕ) (e f : ℕ → ℕ → Option ℤ) (cells : List (Option ℤ)) → Swept d i j e f cells → i < d → j < d → get_or cells (i * d + j) None ≡ e i j
-swept_next d i j e f cells s id jd = sym (cell_in d cells i j id jd) ∙ s.rest i j id jd (inr (refl, omega arith))
+pub swept_next : (d i j : ℕ) (e f : ℕ → ℕ → Option ℤ) (cells : List (Option ℤ)) → Swept d i j e f cells → i < d → j < d → cell_at d cells i j ≡ e i j
+swept_next d i j e f cells s id jd = s.rest i j id jd (inr (refl, omega arith))
 
 pub swept_more : (d i j : ℕ) (e f : ℕ → ℕ → Option ℤ) (cells : List (Option ℤ)) (x : Option ℤ) → Swept d i j e f cells → i < d → j < d → x ≡ f i j → Swept d i (j + 1) e f (set cells (i * d + j) x)
 swept_more d i j e f cells x s id jd is = record {
