@@ -1,5 +1,5 @@
 -- Closings are determined, and closed.
-use Rattle.std.specs.Prelude.{◌≡◌, ◌≢◌, ℕ, zero, suc, ◌<◌, ◌≤◌, ◌-◌, ◌*◌, ◌^◌, ◌==◌, if◌then◌else◌, ℤ, pos, negsuc, int_lt, Option, Some, None, Bool, true, false, List, [], ◌∷◌, ◌⊎◌}
+use Rattle.std.specs.Prelude.{◌≡◌, ◌≢◌, ℕ, zero, suc, ◌<◌, ◌≤◌, ◌*◌, ◌^◌, ◌==◌, if◌then◌else◌, ℤ, pos, Option, Some, None, Bool, true, false, List, [], ◌∷◌, ◌⊎◌}
 use Rattle.std.proofs.Common.{◌∙◌, ap, refl, sym, subst, arith, inl, inr}
 use Rattle.std.proofs.lemmas.Bool.{cases_eq, cases_lt}
 use Rattle.std.proofs.lemmas.Int.{ints}
@@ -13,7 +13,7 @@ use Rattle.pk_octclose.proofs.Walks.{Below, EachIn, IsWith, Through, each_in_mor
 use Rattle.pk_octclose.specs.Closing.{IsClosing, IsEmpty, evened, there_and_back, tight}
 use Rattle.pk_octclose.specs.Walks.{HasLeastSums, relaxed, walk_sum}
 use Rattle.pk_octmat.proofs.Cells.{cell_column_out, cell_row_out}
-use Rattle.pk_octmat.proofs.Points.{at_most_capped, capped_near, capped_same}
+use Rattle.pk_octmat.proofs.Points.{at_most_capped, capped_le, capped_near, capped_same}
 use Rattle.pk_octmat.proofs.Tropical.{at_most_both, at_most_none, at_most_trans, lesser_above, lesser_left, lesser_right, plus_le}
 use Rattle.pk_octmat.specs.Bounds.{AtMost, IsNear, capped, even_down, halved, is_negative, plus}
 use Rattle.pk_octmat.specs.Octagon.{IsMatrix, bar, cell_at}
@@ -102,20 +102,6 @@ half_le : (a b : Option ℤ) → AtMost a b → AtMost (halved a) (halved b)
 half_le a None h = at_most_none (halved a)
 half_le None (Some b) h = absurd h
 half_le (Some a) (Some b) h = omega (arith, ints, h, half_low a, half_high a, half_low b, half_high b)
-
-capped_le : (a b : Option ℤ) → AtMost a b → AtMost (capped a) (capped b)
-capped_le a None h = at_most_none (capped a)
-capped_le None (Some b) h = absurd h
-capped_le (Some a) (Some b) h = by (int_lt (pos (2 ^ 66)) a) refl (int_lt a (negsuc (2 ^ 66 - 1))) refl (int_lt (pos (2 ^ 66)) b) refl (int_lt b (negsuc (2 ^ 66 - 1))) refl
-  where
-    by : (p : Bool) → int_lt (pos (2 ^ 66)) a ≡ p → (q : Bool) → int_lt a (negsuc (2 ^ 66 - 1)) ≡ q → (r : Bool) → int_lt (pos (2 ^ 66)) b ≡ r → (s : Bool) → int_lt b (negsuc (2 ^ 66 - 1)) ≡ s
-        → AtMost (if p then None else (if q then Some (negsuc (2 ^ 66 - 1)) else Some a)) (if r then None else (if s then Some (negsuc (2 ^ 66 - 1)) else Some b))
-    by p pe q qe true re s se = at_most_none (if p then None else (if q then Some (negsuc (2 ^ 66 - 1)) else Some a))
-    by true pe q qe false re s se = absurd (omega (arith, ints, h))
-    by false pe true qe false re true se = omega (arith, ints)
-    by false pe true qe false re false se = omega (arith, ints)
-    by false pe false qe false re true se = absurd (omega (arith, ints, h))
-    by false pe false qe false re false se = h
 
 -- what lies between tight bounds and their caps has the same closing
 even_between : (p f : ℕ → ℕ → Option ℤ) (i j : ℕ) → AtMost (tight (evened p) i j) (f i j) → AtMost (tight (evened p) i j) (evened f i j)

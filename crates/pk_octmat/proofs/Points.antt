@@ -50,6 +50,21 @@ capped_same (Some z) n = by (int_lt (pos (2 ^ 66)) z) refl (int_lt z (negsuc (2 
     by false e true f = absurd (omega (arith, ints, n.0))
     by false e false f = refl
 
+-- a cap keeps the order
+pub capped_le : (a b : Option ℤ) → AtMost a b → AtMost (capped a) (capped b)
+capped_le a None h = at_most_none (capped a)
+capped_le None (Some b) h = absurd h
+capped_le (Some a) (Some b) h = by (int_lt (pos (2 ^ 66)) a) refl (int_lt a (negsuc (2 ^ 66 - 1))) refl (int_lt (pos (2 ^ 66)) b) refl (int_lt b (negsuc (2 ^ 66 - 1))) refl
+  where
+    by : (p : Bool) → int_lt (pos (2 ^ 66)) a ≡ p → (q : Bool) → int_lt a (negsuc (2 ^ 66 - 1)) ≡ q → (r : Bool) → int_lt (pos (2 ^ 66)) b ≡ r → (s : Bool) → int_lt b (negsuc (2 ^ 66 - 1)) ≡ s
+        → AtMost (if p then None else (if q then Some (negsuc (2 ^ 66 - 1)) else Some a)) (if r then None else (if s then Some (negsuc (2 ^ 66 - 1)) else Some b))
+    by p pe q qe true re s se = at_most_none (if p then None else (if q then Some (negsuc (2 ^ 66 - 1)) else Some a))
+    by true pe q qe false re s se = absurd (omega (arith, ints, h))
+    by false pe true qe false re true se = omega (arith, ints)
+    by false pe true qe false re false se = omega (arith, ints)
+    by false pe false qe false re true se = absurd (omega (arith, ints, h))
+    by false pe false qe false re false se = h
+
 turned_back : (a b : ℤ) → (neg_ℤ a -ℤ neg_ℤ b) ≡ (b -ℤ a)
 turned_back a b = omega (arith, ints)
 

@@ -42,6 +42,11 @@ pub record IsMatrix (d : ℕ) (cells : List (Option ℤ)) : Type 0 where
   pub coherent : IsCoherent d (cell_at d cells)
   pub near : (i j : ℕ) → IsNear (2 ^ 66) (cell_at d cells i j)
 
+-- the places of a matrix can be counted in 32 bits
+pub record IsOctagon (m : Octagon) : Type 0 where
+  pub few : m.vars < 2 ^ 31
+  pub whole : IsMatrix (2 * m.vars) m.cells
+
 -- a bound at a place and its coherent one
 abbrev pub written : (ℕ → ℕ → Option ℤ) → ℕ → ℕ → Option ℤ → ℕ → ℕ → Option ℤ
 written e i j b a c = if ((a == i) && (c == j)) || ((a == bar j) && (c == bar i)) then b else e a c

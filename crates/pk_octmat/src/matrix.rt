@@ -2,7 +2,7 @@
 
 ghost use Rattle.std.specs.Prelude.{◌≡◌, ◌≢◌, ℕ, ℤ, ◌<◌, ◌*◌, ◌/◌, ◌^◌, ◌==◌, ◌||◌, if◌then◌else◌, length, IfOk};
 ghost use Rattle.pk_octmat.specs.Bounds.{capped, IsNear};
-ghost use Rattle.pk_octmat.specs.Octagon.{entry, cell_at, bar as other, written, top_bound, forgotten, HasEntries, IsMatrix, Meets, with_number};
+ghost use Rattle.pk_octmat.specs.Octagon.{entry, cell_at, bar as other, written, top_bound, forgotten, HasEntries, IsMatrix, IsOctagon, Meets, with_number};
 
 use crate::bound::Bound;
 use std::alloc::{AllocError, Global};
@@ -18,14 +18,13 @@ pub struct Matrix {
 }
 
 impl Model for Matrix {
-    ghost use Rattle.std.specs.Prelude.{◌*◌};
-    ghost use Rattle.pk_octmat.specs.Octagon.{Octagon, IsMatrix};
+    ghost use Rattle.pk_octmat.specs.Octagon.{Octagon, IsOctagon};
 
     ghost Value = { Octagon };
 
     ghost view = { λ m. record { vars = m.vars; cells = m.cells.items } };
 
-    ghost invariant = { λ m. IsMatrix (2 * m.vars) m.cells.items };
+    ghost invariant = { λ m. IsOctagon (record { vars = m.vars; cells = m.cells.items }) };
 }
 
 /// The place of the negative.
@@ -109,16 +108,20 @@ fn forget_cells(cells: &mut [Bound], d: usize, n: usize, k: usize)
 }
 
 impl Matrix {
-    /// No bounds on n variables.
+    /// No bounds on n variables. There is no memory for 2^31 variables or more.
     pub fn top(alloc: Global, n: u32) -> Result<Matrix, AllocError>
         ensures { IfOk result (HasEntries n top_bound) }
     {
         let d = 2 * n as usize;
         match d.checked_mul(d) {
             Some(size) => {
-                let mut cells = vec![in alloc; Bound::none(); size]?;
-                blank(&mut cells, d, n as usize);
-                Ok(Matrix { vars: n, cells })
+                if n < 1 << 31 {
+                    let mut cells = vec![in alloc; Bound::none(); size]?;
+                    blank(&mut cells, d, n as usize);
+                    Ok(Matrix { vars: n, cells })
+                } else {
+                    Err(AllocError)
+                }
             }
             None => Err(AllocError),
         }
@@ -135,9 +138,9 @@ impl Matrix {
         })
     }
 
-    /// What every matrix is: coherent, its diagonal 0, each bound none or within 2^66 of 0.
-    pub fn is_matrix(&self)
-        ensures { IsMatrix (2 * self.now.vars) self.now.cells }
+    /// What every matrix is: coherent, its diagonal 0, each bound none or within 2^66 of 0, and its places counted in 32 bits.
+    pub fn is_octagon(&self)
+        ensures { IsOctagon self.now }
     {
         let _ = &self.cells;
     }
