@@ -4,6 +4,8 @@
 mod closing;
 mod laws;
 mod paths;
+#[cfg(test)]
+mod tests;
 mod tight;
 
 pub use closing::{Shape, close};

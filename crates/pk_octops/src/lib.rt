@@ -5,6 +5,8 @@ mod assigns;
 mod chains;
 mod guards;
 mod tables;
+#[cfg(test)]
+mod tests;
 mod values;
 
 pub use assigns::assign;

@@ -9,6 +9,14 @@ ghost use Rattle.pk_octops.specs.Chains.{IsWidening};
 use pk_octmat::{Bound, Matrix};
 use std::alloc::AllocError;
 
+/// The greater of two bounds.
+#[inline]
+fn greater(a: Bound, b: Bound) -> Bound
+    ensures { result ≡ greater_of a b }
+{
+    a.greater(b)
+}
+
 /// The first bound if the second is at most it, else none.
 #[inline]
 fn widened(h: Bound, n: Bound) -> Bound
@@ -36,7 +44,7 @@ fn join_cells(cells: &mut [Bound], other: &[Bound], d: usize, n: usize)
     let _ = n;
     for i in 0..d {
         for j in 0..d {
-            cells[i * d + j] = cells[i * d + j].greater(other[i * d + j]);
+            cells[i * d + j] = greater(cells[i * d + j], other[i * d + j]);
         }
     }
 }
