@@ -56,6 +56,21 @@ fn is_nonnegative(cells: &[Bound], d: usize) -> bool
     true
 }
 
+/// Lowers all bounds to what leads through place k. False where a number of the diagonal is negative then.
+fn pivot(cells: &mut [Bound], d: usize, k: usize) -> bool
+    requires size { length cells.old ≡ d * d }
+    requires place { k < d }
+    requires zero { cell_at d cells.old k k ≡ Some (pos 0) }
+    requires near { (a b : ℕ) → a < d → b < d → IsNear (2 ^ 100) (cell_at d cells.old a b) }
+    ensures kept { length cells.new ≡ d * d }
+    ensures lowered { (a b : ℕ) → a < d → b < d → cell_at d cells.new a b ≡ relaxed (cell_at d cells.old) k a b }
+    ensures yes { result ≡ true → (i : ℕ) → i < d → AtMost (Some (pos 0)) (cell_at d cells.new i i) }
+    ensures no { result ≡ false → IsNegativeAt d (cell_at d cells.new) }
+{
+    relax(cells, d, k);
+    is_nonnegative(cells, d)
+}
+
 /// Lowers all bounds to the least sums of walks. False where a walk that leads back has a negative sum.
 pub fn paths(cells: &mut [Bound], d: usize) -> bool
     requires size { length cells.old ≡ d * d }
@@ -68,8 +83,7 @@ pub fn paths(cells: &mut [Bound], d: usize) -> bool
     ensures cycle { result ≡ false → HasNegativeCycle (cell_at d cells.old) }
 {
     for k in 0..d {
-        relax(cells, d, k);
-        if !is_nonnegative(cells, d) {
+        if !pivot(cells, d, k) {
             return false;
         }
     }

@@ -7,17 +7,17 @@ use Rattle.pk_octclose.proofs.paths.paths.Goals as goal
 pub loop-k-init : goal.loop-k-init
 loop-k-init c = record { size = c.requires.size; through = through_none c.args.d (cell_at c.args.d c.args.cells.now) (Below 0) (λ p h. omega arith) c.requires.zero }
 
-pub relax-requires-clause-near : goal.relax-requires-clause-near
-relax-requires-clause-near c = room_near _ _ _ _ c.loop-k.invariant.through (omega arith) c.requires.room c.requires.near
+pub pivot-requires-clause-near : goal.pivot-requires-clause-near
+pivot-requires-clause-near c = room_near _ _ _ _ c.loop-k.invariant.through (omega arith) c.requires.room c.requires.near
 
-pub returns-then-not-is_nonnegative-clause-cycle :
-    goal.returns-then-not-is_nonnegative-clause-cycle
-returns-then-not-is_nonnegative-clause-cycle c = λ e. cycle_from _ _ _ _ _ c.loop-k.invariant.through c.loop-k-test.true c.relax.ensures.lowered (c.if-not-is_nonnegative.ensures.no refl)
+pub returns-then-not-pivot-clause-cycle :
+    goal.returns-then-not-pivot-clause-cycle
+returns-then-not-pivot-clause-cycle c = λ e. cycle_from _ _ _ _ _ c.loop-k.invariant.through c.loop-k-test.true c.pivot.ensures.lowered (c.if-not-pivot.ensures.no refl)
 
 pub loop-k-preserved : goal.loop-k-preserved
 loop-k-preserved c = record {
-  size = c.relax.ensures.kept;
-  through = through_more _ _ _ _ _ _ _ c.loop-k.invariant.through (below_with c.loop-k.k) c.loop-k-test.true c.relax.ensures.lowered (c.if-not-is_nonnegative.ensures.yes refl);
+  size = c.pivot.ensures.kept;
+  through = through_more _ _ _ _ _ _ _ c.loop-k.invariant.through (below_with c.loop-k.k) c.loop-k-test.true c.pivot.ensures.lowered (c.if-not-pivot.ensures.yes refl);
 }
 
 pub returns-clause-least : goal.returns-clause-least
