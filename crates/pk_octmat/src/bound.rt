@@ -28,6 +28,8 @@ impl Model for Bound {
     ghost inverse_ok = { packed_unpacked };
 }
 
+const _: () = prove!(size_of::<Bound>() == 16);
+
 impl Bound {
     /// No bound.
     #[inline]
