@@ -1,7 +1,7 @@
 // Closing.
 
 ghost use Rattle.std.specs.Prelude.{◌≡◌, ◌↔◌, ℕ, ℤ, ◌*◌, ◌<◌, ◌^◌};
-ghost use Rattle.pk_octmat.specs.Octagon.{entry, cell_at, Meets, IsMatrix};
+ghost use Rattle.pk_octmat.specs.Octagon.{entry, cell_at, top_bound, Meets, IsMatrix};
 ghost use Rattle.pk_octclose.specs.Closing.{IsClosing, IsEmpty, IsClosed, KeepsPoints};
 ghost use Rattle.pk_octclose.specs.declared.closing.Shape.TheVariants.{Kept, Empty};
 
@@ -26,6 +26,7 @@ fn close_cells(cells: &mut [Bound], d: usize, n: usize) -> Shape
     ensures whole { IsMatrix d cells.new }
     ensures kept { result ≡ Kept → IsClosing d (cell_at d cells.old) (cell_at d cells.new) }
     ensures empty { (result ≡ Empty) ↔ IsEmpty d (cell_at d cells.old) }
+    ensures cleared { result ≡ Empty → (i j : ℕ) → i < d → j < d → cell_at d cells.new i j ≡ top_bound i j }
     ensures points { result ≡ Kept → KeepsPoints (cell_at d cells.old) (cell_at d cells.new) }
     ensures none { result ≡ Empty → (x : ℕ → ℤ) → Meets (cell_at d cells.old) x → ⊥ }
     ensures again { IsClosed d (cell_at d cells.old) → (result ≡ Kept) × ((i j : ℕ) → cell_at d cells.new i j ≡ cell_at d cells.old i j) }
@@ -44,6 +45,7 @@ pub fn close(m: &mut Matrix) -> Shape
     ensures vars { m.new.vars ≡ m.old.vars }
     ensures kept { result ≡ Kept → IsClosing (2 * m.old.vars) (entry m.old) (entry m.new) }
     ensures empty { (result ≡ Empty) ↔ IsEmpty (2 * m.old.vars) (entry m.old) }
+    ensures cleared { result ≡ Empty → (i j : ℕ) → i < 2 * m.old.vars → j < 2 * m.old.vars → entry m.new i j ≡ top_bound i j }
     ensures points { result ≡ Kept → KeepsPoints (entry m.old) (entry m.new) }
     ensures none { result ≡ Empty → (x : ℕ → ℤ) → Meets (entry m.old) x → ⊥ }
     ensures again { IsClosed (2 * m.old.vars) (entry m.old) → (result ≡ Kept) × ((i j : ℕ) → entry m.new i j ≡ entry m.old i j) }
