@@ -1,0 +1,10 @@
+pub mod Walks
+pub mod Lengths
+pub mod Rows
+pub mod Sums
+pub mod Halves
+pub mod Turned
+pub mod Members
+pub mod Closed
+pub mod Triangle
+pub mod Again

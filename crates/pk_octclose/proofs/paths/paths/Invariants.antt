@@ -1,0 +1,10 @@
+use Rattle.std.proofs.Common.{◌≡◌, ◌*◌, length}
+use Rattle.pk_octclose.proofs.Walks.{Below, Through}
+use Rattle.pk_octmat.specs.Octagon.{cell_at}
+use Rattle.pk_octclose.proofs.paths.paths.Given as goal
+
+abbrev pub invariant-loop-k : goal.invariant-loop-k
+invariant-loop-k l = record {
+  size : length l.cells ≡ l.d * l.d;
+  through : Through l.d (cell_at l.d l.fn.cells) (cell_at l.d l.cells) (Below l.k);
+}

@@ -1,0 +1,55 @@
+// Closing.
+
+ghost use Rattle.std.specs.Prelude.{◌≡◌, ◌↔◌, ℕ, ℤ, ◌*◌, ◌<◌, ◌^◌};
+ghost use Rattle.pk_octmat.specs.Octagon.{entry, cell_at, top_bound, Meets, IsMatrix};
+ghost use Rattle.pk_octclose.specs.Closing.{IsClosing, IsEmpty, IsClosed, KeepsPoints};
+ghost use Rattle.pk_octclose.specs.declared.closing.Shape.TheVariants.{Kept, Empty};
+
+use crate::paths::paths;
+use crate::tight::tighten;
+use pk_octmat::{Bound, Matrix, blank};
+
+/// What is left of a matrix.
+#[derive(Clone, Copy, PartialEq, Eq, Debug)]
+pub enum Shape {
+    /// Its bounds.
+    Kept,
+    /// Nothing: no integers meet the bounds.
+    Empty,
+}
+
+/// Closes the cells of a matrix in place, or finds that no integers meet them.
+fn close_cells(cells: &mut [Bound], d: usize, n: usize) -> Shape
+    requires whole { IsMatrix d cells.old }
+    requires pairs { d ≡ 2 * n }
+    requires room { d < 2 ^ 33 }
+    ensures whole { IsMatrix d cells.new }
+    ensures kept { result ≡ Kept → IsClosing d (cell_at d cells.old) (cell_at d cells.new) }
+    ensures empty { (result ≡ Empty) ↔ IsEmpty d (cell_at d cells.old) }
+    ensures cleared { result ≡ Empty → (i j : ℕ) → i < d → j < d → cell_at d cells.new i j ≡ top_bound i j }
+    ensures points { result ≡ Kept → KeepsPoints (cell_at d cells.old) (cell_at d cells.new) }
+    ensures none { result ≡ Empty → (x : ℕ → ℤ) → Meets (cell_at d cells.old) x → ⊥ }
+    ensures again { IsClosed d (cell_at d cells.old) → (result ≡ Kept) × ((i j : ℕ) → cell_at d cells.new i j ≡ cell_at d cells.old i j) }
+{
+    if paths(cells, d) && tighten(cells, d, n) {
+        return Shape::Kept;
+    }
+    blank(cells, d, n);
+    Shape::Empty
+}
+
+/// Closes a matrix in place, or finds that no integers meet it. What is left of an empty one is no bounds at all.
+///
+/// A closing keeps exactly the integers that meet the matrix, and closing it again changes nothing.
+pub fn close(m: &mut Matrix) -> Shape
+    ensures vars { m.new.vars ≡ m.old.vars }
+    ensures kept { result ≡ Kept → IsClosing (2 * m.old.vars) (entry m.old) (entry m.new) }
+    ensures empty { (result ≡ Empty) ↔ IsEmpty (2 * m.old.vars) (entry m.old) }
+    ensures cleared { result ≡ Empty → (i j : ℕ) → i < 2 * m.old.vars → j < 2 * m.old.vars → entry m.new i j ≡ top_bound i j }
+    ensures points { result ≡ Kept → KeepsPoints (entry m.old) (entry m.new) }
+    ensures none { result ≡ Empty → (x : ℕ → ℤ) → Meets (entry m.old) x → ⊥ }
+    ensures again { IsClosed (2 * m.old.vars) (entry m.old) → (result ≡ Kept) × ((i j : ℕ) → entry m.new i j ≡ entry m.old i j) }
+{
+    let n = m.vars as usize;
+    close_cells(&mut m.cells, 2 * n, n)
+}

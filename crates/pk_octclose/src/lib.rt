@@ -1,0 +1,12 @@
+// Closing octagons over integers, in place (Miné 2006, section 3; the tightening after Bagnara, Hill and Zaffanella, "An improved tight closure algorithm for integer octagonal constraints", 2008).
+#![tactic(auto)]
+
+mod closing;
+mod laws;
+mod paths;
+#[cfg(test)]
+mod tests;
+mod tight;
+
+pub use closing::{Shape, close};
+pub use laws::{closing_is_closed, closing_is_determined};

@@ -1,0 +1,10 @@
+// Octagons: matrices of bounds on the differences of numbers and their negatives (Miné, "The octagon abstract domain", 2006).
+#![tactic(auto)]
+
+mod bound;
+mod matrix;
+#[cfg(test)]
+mod tests;
+
+pub use bound::Bound;
+pub use matrix::{Matrix, bar, blank};

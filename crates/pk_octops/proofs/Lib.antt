@@ -1,0 +1,4 @@
+pub mod Pointwise
+pub mod Counting
+pub mod Sound
+pub mod Along

@@ -1,0 +1,5 @@
+pub mod Tables
+pub mod Guards
+pub mod Assigns
+pub mod Values
+pub mod Chains

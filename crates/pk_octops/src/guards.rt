@@ -1,0 +1,75 @@
+// Guards on one or two places.
+
+ghost use Rattle.std.specs.Prelude.{◌≡◌, ◌≢◌, ◌↔◌, ℕ, ℤ, pos, ◌≤ℤ◌, ◌<ℤ◌, ◌+ℤ◌, ◌-ℤ◌, ◌<◌, ◌*◌, ◌^◌, Option, Some, None};
+ghost use Rattle.pk_octmat.specs.Bounds.{AtMost, IsNear, capped, lesser as lesser_of};
+ghost use Rattle.pk_octmat.specs.Octagon.{entry, written, side, bar as other, Meets};
+ghost use Rattle.pk_octops.specs.Guards.{IsGuard, Obeys, guarded, lowered};
+ghost use Rattle.pk_octclose.specs.declared.closing.Shape.TheVariants.{Kept, Empty};
+
+use pk_octclose::Shape;
+use pk_octmat::Matrix;
+
+/// The lesser of a bound, if there is one, and a number.
+fn least(held: Option<i128>, number: Option<i128>) -> Option<i128>
+    ensures { result ≡ lesser_of held number }
+{
+    match (held, number) {
+        (None, number) => number,
+        (Some(held), None) => Some(held),
+        (Some(held), Some(number)) => {
+            if number < held {
+                Some(number)
+            } else {
+                Some(held)
+            }
+        }
+    }
+}
+
+/// The place of the negative.
+fn opposite(i: u32) -> u32
+    ensures { result ≡ other i }
+{
+    if i % 2 == 0 { i + 1 } else { i - 1 }
+}
+
+/// Twice a number, or one past the cap on its side.
+fn twice(c: i128) -> i128
+    ensures { capped (Some result) ≡ capped (Some (c +ℤ c)) }
+{
+    c.saturating_add(c)
+}
+
+/// Lowers the bound on V(j) - V(i), and its coherent one.
+fn lower(m: &mut Matrix, i: u32, j: u32, c: i128)
+    requires row { i < 2 * m.old.vars }
+    requires column { j < 2 * m.old.vars }
+    requires apart { i ≢ j }
+    ensures vars { m.new.vars ≡ m.old.vars }
+    ensures value { (a b : ℕ) → entry m.new a b ≡ lowered (entry m.old) i j c a b }
+    ensures sound { (x : ℕ → ℤ) → Meets (entry m.old) x → AtMost (Some (side x j -ℤ side x i)) (capped (Some c)) → Meets (entry m.new) x }
+{
+    let held = m.get(i, j);
+    m.set(i, j, least(held, Some(c)));
+}
+
+/// Keeps the integers with V(a) + V(b) <= c, where terms that are none are left out. Empty where no term is left and c is negative.
+pub fn guard(m: &mut Matrix, a: Option<u32>, b: Option<u32>, c: i128) -> Shape
+    requires { IsGuard m.old.vars a b }
+    ensures vars { m.new.vars ≡ m.old.vars }
+    ensures empty { (result ≡ Empty) ↔ ((a ≡ None) × (c <ℤ pos 0)) }
+    ensures value { (i j : ℕ) → entry m.new i j ≡ guarded (entry m.old) a b c i j }
+    ensures sound { (x : ℕ → ℤ) → Meets (entry m.old) x → Obeys x a b c → (result ≡ Kept) × Meets (entry m.new) x }
+{
+    match (a, b) {
+        (None, _) => { if c < 0 { Shape::Empty } else { Shape::Kept } }
+        (Some(a), None) => {
+            lower(m, opposite(a), a, twice(c));
+            Shape::Kept
+        }
+        (Some(a), Some(b)) => {
+            lower(m, opposite(b), a, c);
+            Shape::Kept
+        }
+    }
+}

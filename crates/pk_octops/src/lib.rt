@@ -1,0 +1,17 @@
+// What is done with octagons over integers: closing, guards, assignments, join, order, widening and narrowing (Miné 2006).
+#![tactic(auto)]
+
+mod assigns;
+mod chains;
+mod guards;
+mod tables;
+#[cfg(test)]
+mod tests;
+mod values;
+
+pub use assigns::assign;
+pub use chains::{widening_chains_end, widening_loses_numbers};
+pub use guards::guard;
+pub use pk_octclose::{Shape, close};
+pub use tables::{join, leq, narrow, widen};
+pub use values::bounds;

@@ -1,0 +1,163 @@
+// Order, join, widening and narrowing.
+
+ghost use Rattle.std.specs.Prelude.{◌≡◌, ℕ, ℤ, ◌<◌, ◌*◌, ◌^◌, ◌⊎◌, ◌↔◌, IfOk, length, Bool, true, false};
+ghost use Rattle.pk_octmat.specs.Bounds.{AtMost, greater as greater_of};
+ghost use Rattle.pk_octmat.specs.Octagon.{entry, cell_at, HasEntries, IsMatrix, Meets};
+ghost use Rattle.pk_octops.specs.Tables.{IsBelow, widened as widened_of, narrowed as narrowed_of};
+ghost use Rattle.pk_octops.specs.Chains.{IsWidening};
+
+use pk_octmat::{Bound, Matrix};
+use std::alloc::AllocError;
+
+/// The greater of two bounds.
+#[inline]
+fn greater(a: Bound, b: Bound) -> Bound
+    ensures { result ≡ greater_of a b }
+{
+    a.greater(b)
+}
+
+/// The first bound if the second is at most it, else none.
+#[inline]
+fn widened(h: Bound, n: Bound) -> Bound
+    ensures { result ≡ widened_of h n }
+{
+    if n.is_at_most(h) { h } else { Bound::none() }
+}
+
+/// The first bound, or the second where the first is none.
+#[inline]
+fn narrowed(h: Bound, n: Bound) -> Bound
+    ensures { result ≡ narrowed_of h n }
+{
+    if h.is_none() { n } else { h }
+}
+
+/// Raises each bound to that of another matrix, if it is less.
+fn join_cells(cells: &mut [Bound], other: &[Bound], d: usize, n: usize)
+    requires whole { IsMatrix d cells.old }
+    requires other { IsMatrix d other.now }
+    requires pairs { d ≡ 2 * n }
+    ensures value { (i j : ℕ) → i < d → j < d → cell_at d cells.new i j ≡ greater_of (cell_at d cells.old i j) (cell_at d other.now i j) }
+    ensures whole { IsMatrix d cells.new }
+{
+    let _ = n;
+    for i in 0..d {
+        for j in 0..d {
+            cells[i * d + j] = greater(cells[i * d + j], other[i * d + j]);
+        }
+    }
+}
+
+/// Makes each bound none that another matrix exceeds.
+fn widen_cells(cells: &mut [Bound], other: &[Bound], d: usize, n: usize)
+    requires whole { IsMatrix d cells.old }
+    requires other { IsMatrix d other.now }
+    requires pairs { d ≡ 2 * n }
+    ensures value { (i j : ℕ) → i < d → j < d → cell_at d cells.new i j ≡ widened_of (cell_at d cells.old i j) (cell_at d other.now i j) }
+    ensures whole { IsMatrix d cells.new }
+{
+    let _ = n;
+    for i in 0..d {
+        for j in 0..d {
+            cells[i * d + j] = widened(cells[i * d + j], other[i * d + j]);
+        }
+    }
+}
+
+/// Takes the bounds of another matrix where there are none.
+fn narrow_cells(cells: &mut [Bound], other: &[Bound], d: usize, n: usize)
+    requires whole { IsMatrix d cells.old }
+    requires other { IsMatrix d other.now }
+    requires pairs { d ≡ 2 * n }
+    ensures value { (i j : ℕ) → i < d → j < d → cell_at d cells.new i j ≡ narrowed_of (cell_at d cells.old i j) (cell_at d other.now i j) }
+    ensures whole { IsMatrix d cells.new }
+{
+    let _ = n;
+    for i in 0..d {
+        for j in 0..d {
+            cells[i * d + j] = narrowed(cells[i * d + j], other[i * d + j]);
+        }
+    }
+}
+
+fn joined(a: &Matrix, b: &Matrix) -> Result<Matrix, AllocError>
+    requires { a.now.vars ≡ b.now.vars }
+    ensures { IfOk result (HasEntries a.now.vars (λ i j. greater_of (entry a.now i j) (entry b.now i j))) }
+{
+    let mut m = a.copy()?;
+    let n = b.vars as usize;
+    join_cells(&mut m.cells, &b.cells, 2 * n, n);
+    Ok(m)
+}
+
+fn loosened(h: &Matrix, n: &Matrix) -> Result<Matrix, AllocError>
+    requires { h.now.vars ≡ n.now.vars }
+    ensures { IfOk result (HasEntries h.now.vars (λ i j. widened_of (entry h.now i j) (entry n.now i j))) }
+{
+    let mut m = h.copy()?;
+    let vars = n.vars as usize;
+    widen_cells(&mut m.cells, &n.cells, 2 * vars, vars);
+    Ok(m)
+}
+
+fn filled(h: &Matrix, n: &Matrix) -> Result<Matrix, AllocError>
+    requires { h.now.vars ≡ n.now.vars }
+    ensures { IfOk result (HasEntries h.now.vars (λ i j. narrowed_of (entry h.now i j) (entry n.now i j))) }
+{
+    let mut m = h.copy()?;
+    let vars = n.vars as usize;
+    narrow_cells(&mut m.cells, &n.cells, 2 * vars, vars);
+    Ok(m)
+}
+
+/// The greater of each two bounds: a matrix that the integers of both meet.
+pub fn join(a: &Matrix, b: &Matrix) -> Result<Matrix, AllocError>
+    requires { a.now.vars ≡ b.now.vars }
+    ensures value { IfOk result (HasEntries a.now.vars (λ i j. greater_of (entry a.now i j) (entry b.now i j))) }
+    ensures sound { IfOk result (λ m. (x : ℕ → ℤ) → Meets (entry a.now) x ⊎ Meets (entry b.now) x → Meets (entry m) x) }
+{
+    joined(a, b)
+}
+
+/// Each bound of `h` if that of `n` is at most it, else none: a matrix that the integers of both meet.
+pub fn widen(h: &Matrix, n: &Matrix) -> Result<Matrix, AllocError>
+    requires { h.now.vars ≡ n.now.vars }
+    ensures value { IfOk result (IsWidening h.now n.now) }
+    ensures sound { IfOk result (λ m. (x : ℕ → ℤ) → Meets (entry h.now) x ⊎ Meets (entry n.now) x → Meets (entry m) x) }
+{
+    loosened(h, n)
+}
+
+/// Each bound of `h`, or that of `n` where it is none: a matrix that the integers meet which meet both.
+pub fn narrow(h: &Matrix, n: &Matrix) -> Result<Matrix, AllocError>
+    requires { h.now.vars ≡ n.now.vars }
+    ensures value { IfOk result (HasEntries h.now.vars (λ i j. narrowed_of (entry h.now i j) (entry n.now i j))) }
+    ensures sound { IfOk result (λ m. (x : ℕ → ℤ) → Meets (entry h.now) x → Meets (entry n.now) x → Meets (entry m) x) }
+{
+    filled(h, n)
+}
+
+/// Whether each bound is at most that of another matrix.
+fn leq_cells(cells: &[Bound], other: &[Bound], d: usize) -> bool
+    requires size { length cells.now ≡ d * d }
+    requires other { length other.now ≡ d * d }
+    ensures { result ≡ true ↔ ((i j : ℕ) → AtMost (cell_at d cells.now i j) (cell_at d other.now i j)) }
+{
+    let _ = d;
+    for k in 0..cells.len() {
+        if !cells[k].is_at_most(other[k]) {
+            return false;
+        }
+    }
+    true
+}
+
+/// Whether each bound is at most that of another matrix, so that the integers which meet `a` meet `b`.
+pub fn leq(a: &Matrix, b: &Matrix) -> bool
+    requires { a.now.vars ≡ b.now.vars }
+    ensures value { result ≡ true ↔ IsBelow a.now b.now }
+    ensures sound { result ≡ true → (x : ℕ → ℤ) → Meets (entry a.now) x → Meets (entry b.now) x }
+{
+    leq_cells(&a.cells, &b.cells, 2 * a.vars as usize)
+}
