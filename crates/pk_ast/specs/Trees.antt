@@ -1,0 +1,101 @@
+-- Trees without where they lie in memory.
+use Rattle.std.specs.Prelude.{ℕ, ℤ, List, Option}
+use Rattle.pk_ctypes.specs.declared.places.Pos.{Pos}
+use Rattle.pk_ctypes.specs.declared.types.IntType.{IntType}
+use Rattle.pk_ast.specs.declared.declarations.Specifier.{Specifier}
+use Rattle.pk_ast.specs.declared.expressions.Identifier.{Identifier}
+use Rattle.pk_ast.specs.declared.expressions.BinaryOperator.{BinaryOperator}
+use Rattle.pk_ast.specs.declared.expressions.UnaryOperator.{UnaryOperator}
+use Rattle.pk_ast.specs.declared.expressions.StepOperator.{StepOperator}
+use Rattle.pk_ast.specs.declared.expressions.AssignmentOperator.{AssignmentOperator}
+use Rattle.pk_ast.specs.declared.units.Storage.{Storage}
+
+mutual
+  -- expressions (C99 6.5)
+  pub data ExpressionTree : Type 0 where
+    name : Identifier → ExpressionTree
+    call : Identifier → ExpressionTrees → ExpressionTree
+    index : Identifier → Pos → ExpressionTree → ExpressionTree
+    constant : Pos → IntType → ℕ → ExpressionTree
+    character : Pos → ℤ → ExpressionTree
+    parenthesized : Pos → ExpressionTree → ExpressionTree
+    postfix : StepOperator → Pos → ExpressionTree → ExpressionTree
+    prefix : StepOperator → Pos → ExpressionTree → ExpressionTree
+    unary : UnaryOperator → Pos → ExpressionTree → ExpressionTree
+    cast : Pos → List Specifier → ExpressionTree → ExpressionTree
+    binary : BinaryOperator → Pos → ExpressionTree → ExpressionTree → ExpressionTree
+    conditional : Pos → ExpressionTree → ExpressionTree → ExpressionTree → ExpressionTree
+    assignment : AssignmentOperator → Pos → ExpressionTree → ExpressionTree → ExpressionTree
+    comma : Pos → ExpressionTree → ExpressionTree → ExpressionTree
+
+  -- expressions in order
+  pub data ExpressionTrees : Type 0 where
+    no_expressions : ExpressionTrees
+    expression_then : ExpressionTree → ExpressionTrees → ExpressionTrees
+
+-- what a declared object begins with (C99 6.7.8)
+pub data InitializerTree : Type 0 where
+  single : ExpressionTree → InitializerTree
+  braced : Pos → ExpressionTrees → InitializerTree
+
+pub record DeclaratorTree : Type 0 where
+  pub name : Identifier
+  pub length : Option ExpressionTree
+  pub initializer : Option InitializerTree
+
+pub record DeclarationTree : Type 0 where
+  pub specifiers : List Specifier
+  pub declarators : List DeclaratorTree
+
+-- what the parentheses of a `for` begin with
+pub data ForStartTree : Type 0 where
+  declaration : DeclarationTree → ForStartTree
+  expression : Option ExpressionTree → ForStartTree
+
+mutual
+  -- statements (C99 6.8)
+  pub data StatementTree : Type 0 where
+    block : Pos → ItemTrees → Pos → StatementTree
+    empty : Pos → StatementTree
+    expression_statement : ExpressionTree → StatementTree
+    label : Identifier → StatementTree → StatementTree
+    case : Pos → ExpressionTree → StatementTree → StatementTree
+    default : Pos → StatementTree → StatementTree
+    if_then : Pos → ExpressionTree → StatementTree → StatementTree
+    if_else : Pos → ExpressionTree → StatementTree → StatementTree → StatementTree
+    switch : Pos → ExpressionTree → StatementTree → StatementTree
+    while : Pos → ExpressionTree → StatementTree → StatementTree
+    do_while : Pos → StatementTree → ExpressionTree → StatementTree
+    for_loop : Pos → ForStartTree → Option ExpressionTree → Option ExpressionTree → StatementTree → StatementTree
+    goto : Pos → Identifier → StatementTree
+    continue : Pos → StatementTree
+    break : Pos → StatementTree
+    return : Pos → Option ExpressionTree → StatementTree
+
+  -- the declarations and statements of a block, in order
+  pub data ItemTrees : Type 0 where
+    no_items : ItemTrees
+    declaration_then : DeclarationTree → ItemTrees → ItemTrees
+    statement_then : StatementTree → ItemTrees → ItemTrees
+
+-- a block, with the places of its braces
+pub record BlockTree : Type 0 where
+  pub opened : Pos
+  pub items : ItemTrees
+  pub closed : Pos
+
+pub record ParameterTree : Type 0 where
+  pub specifiers : List Specifier
+  pub name : Option Identifier
+
+pub record FunctionTree : Type 0 where
+  pub storage : Option Storage
+  pub specifiers : List Specifier
+  pub name : Identifier
+  pub parameters : List ParameterTree
+  pub body : Option BlockTree
+
+-- external definitions (C99 6.9)
+pub data ExternalTree : Type 0 where
+  function : FunctionTree → ExternalTree
+  objects : Option Storage → DeclarationTree → ExternalTree

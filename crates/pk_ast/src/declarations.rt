@@ -1,0 +1,108 @@
+// Declarations (C99 6.7).
+
+ghost use Rattle.std.specs.Prelude.{◌≡◌, option_map};
+ghost use Rattle.pk_ast.specs.Trees as tree;
+ghost use Rattle.pk_ast.specs.Views.{
+  expression_tree,
+  expression_trees,
+  initializer_tree,
+  declarator_tree,
+  declarator_trees,
+  declaration_tree,
+};
+
+use crate::expressions::{Expression, Identifier};
+use pk_ctypes::Pos;
+
+/// A word of a type's name (C99 6.7.2, 6.7.3).
+#[derive(Clone, Copy, Debug, PartialEq, Eq)]
+pub enum SpecifierWord {
+    Void,
+    Char,
+    Short,
+    Int,
+    Long,
+    Signed,
+    Unsigned,
+    Const,
+}
+
+/// A word of a type's name at its place.
+#[derive(Clone, Copy, Debug, PartialEq, Eq)]
+pub struct Specifier {
+    pub word: SpecifierWord,
+    pub at: Pos,
+}
+
+/// What a declared object begins with: a value, or a list of them in braces, with the place of the `{`.
+#[derive(Drop)]
+pub enum Initializer {
+    Single(Expression),
+    Braced(Pos, Vec<Expression>),
+}
+
+/// A declared name, with the length of an array and what it begins with, where these are given.
+#[derive(Drop)]
+pub struct Declarator {
+    pub name: Identifier,
+    pub length: Option<Expression>,
+    pub initializer: Option<Initializer>,
+}
+
+/// The words of a type, and the names that are declared with it. Both lists have an element.
+#[derive(Drop)]
+pub struct Declaration {
+    pub specifiers: Vec<Specifier>,
+    pub declarators: Vec<Declarator>,
+}
+
+#[tactic(auto, unfolding(crate::specs::Views::initializer_tree))]
+impl Initializer {
+    pub fn single(value: Expression) -> Initializer
+        ensures { initializer_tree result ≡ tree.single (expression_tree value) }
+    {
+        Initializer::Single(value)
+    }
+
+    pub fn braced(at: Pos, values: Vec<Expression>) -> Initializer
+        ensures { initializer_tree result ≡ tree.braced at (expression_trees values.items) }
+    {
+        Initializer::Braced(at, values)
+    }
+}
+
+#[tactic(auto, unfolding(crate::specs::Views::declarator_tree))]
+impl Declarator {
+    pub fn new(
+        name: Identifier,
+        length: Option<Expression>,
+        initializer: Option<Initializer>,
+    ) -> Declarator
+        ensures { declarator_tree result ≡ record {
+          name = name;
+          length = option_map expression_tree length;
+          initializer = option_map initializer_tree initializer;
+        } }
+    {
+        Declarator {
+            name,
+            length,
+            initializer,
+        }
+    }
+}
+
+#[tactic(auto, unfolding(crate::specs::Views::declaration_tree))]
+impl Declaration {
+    pub fn new(specifiers: Vec<Specifier>, declarators: Vec<Declarator>) -> Declaration
+        ensures { declaration_tree result ≡ record {
+          specifiers = specifiers.items;
+          declarators = declarator_trees declarators.items;
+        } }
+    {
+        Declaration {
+            specifiers,
+            declarators,
+        }
+    }
+}

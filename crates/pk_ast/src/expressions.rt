@@ -1,0 +1,280 @@
+// Expressions (C99 6.5).
+
+ghost use Rattle.std.specs.Prelude.{◌≡◌, IfOk};
+ghost use Rattle.pk_ast.specs.Places.{first_place_of};
+ghost use Rattle.pk_ast.specs.Trees as tree;
+ghost use Rattle.pk_ast.specs.Views.{expression_tree, expression_trees};
+
+use crate::declarations::Specifier;
+use pk_ctypes::{IntType, Pos};
+use std::alloc::{AllocError, Global};
+
+/// A name in a text: its bytes from `start` up to `end`, counted from 0, and the place of the first one.
+#[derive(Clone, Copy, Debug, PartialEq, Eq)]
+pub struct Identifier {
+    pub start: usize,
+    pub end: usize,
+    pub at: Pos,
+}
+
+/// An operator that joins two operands from left to right, weakest first (C99 6.5.5 to 6.5.14).
+#[derive(Clone, Copy, Debug, PartialEq, Eq)]
+pub enum BinaryOperator {
+    LogicalOr,
+    LogicalAnd,
+    Or,
+    ExclusiveOr,
+    And,
+    Equal,
+    NotEqual,
+    Less,
+    Greater,
+    LessOrEqual,
+    GreaterOrEqual,
+    ShiftLeft,
+    ShiftRight,
+    Add,
+    Subtract,
+    Multiply,
+    Divide,
+    Remainder,
+}
+
+/// A prefix operator on a value (C99 6.5.3.3).
+#[derive(Clone, Copy, Debug, PartialEq, Eq)]
+pub enum UnaryOperator {
+    Plus,
+    Minus,
+    Complement,
+    Not,
+}
+
+/// `++` or `--`, before or after its operand (C99 6.5.2.4, 6.5.3.1).
+#[derive(Clone, Copy, Debug, PartialEq, Eq)]
+pub enum StepOperator {
+    Increment,
+    Decrement,
+}
+
+/// `=`, or an operator that reads the left side too (C99 6.5.16).
+#[derive(Clone, Copy, Debug, PartialEq, Eq)]
+pub enum AssignmentOperator {
+    Assign,
+    Multiply,
+    Divide,
+    Remainder,
+    Add,
+    Subtract,
+    ShiftLeft,
+    ShiftRight,
+    And,
+    ExclusiveOr,
+    Or,
+}
+
+/// An expression. Operators stand with their places; parentheses are kept.
+#[derive(Drop)]
+pub enum Expression {
+    Name(Identifier),
+    /// A call, by the name of what is called.
+    Call(Identifier, Vec<Expression>),
+    /// An element of an array, by its name and the place of the `[`.
+    Index(Identifier, Pos, Box<Expression>),
+    /// An integer constant with its type and value.
+    Constant(Pos, IntType, u64),
+    /// A character constant, of type int.
+    Character(Pos, i8),
+    Parenthesized(Pos, Box<Expression>),
+    Postfix(StepOperator, Pos, Box<Expression>),
+    Prefix(StepOperator, Pos, Box<Expression>),
+    Unary(UnaryOperator, Pos, Box<Expression>),
+    /// A conversion to the type that the specifiers name, at its `(`.
+    Cast(Pos, Vec<Specifier>, Box<Expression>),
+    Binary(BinaryOperator, Pos, Box<Expression>, Box<Expression>),
+    /// `a ? b : c`, at its `?`.
+    Conditional(Pos, Box<Expression>, Box<Expression>, Box<Expression>),
+    Assignment(AssignmentOperator, Pos, Box<Expression>, Box<Expression>),
+    Comma(Pos, Box<Expression>, Box<Expression>),
+}
+
+// Each ensures which tree it makes.
+#[tactic(auto, unfolding(crate::specs::Views::expression_tree))]
+impl Expression {
+    pub fn name(name: Identifier) -> Expression
+        ensures { expression_tree result ≡ tree.name name }
+    {
+        Expression::Name(name)
+    }
+
+    /// A call, by the name of what is called.
+    #[tactic(auto, using(crate::proofs::ViewLemmas::tree_of_call))]
+    pub fn call(name: Identifier, arguments: Vec<Expression>) -> Expression
+        ensures { expression_tree result ≡ tree.call name (expression_trees arguments.items) }
+    {
+        Expression::Call(name, arguments)
+    }
+
+    /// An element of an array, by its name and the place of the `[`.
+    pub fn index(
+        alloc: Global,
+        name: Identifier,
+        at: Pos,
+        index: Expression,
+    ) -> Result<Expression, AllocError>
+        ensures { IfOk result (λ e. expression_tree e ≡ tree.index name at (expression_tree index)) }
+    {
+        Ok(Expression::Index(name, at, Box::new(alloc, index)?))
+    }
+
+    pub fn constant(at: Pos, int_type: IntType, value: u64) -> Expression
+        ensures { expression_tree result ≡ tree.constant at int_type value }
+    {
+        Expression::Constant(at, int_type, value)
+    }
+
+    pub fn character(at: Pos, value: i8) -> Expression
+        ensures { expression_tree result ≡ tree.character at value }
+    {
+        Expression::Character(at, value)
+    }
+
+    /// An expression in parentheses, at the `(`.
+    pub fn parenthesized(
+        alloc: Global,
+        at: Pos,
+        inner: Expression,
+    ) -> Result<Expression, AllocError>
+        ensures { IfOk result (λ e. expression_tree e ≡ tree.parenthesized at (expression_tree inner)) }
+    {
+        Ok(Expression::Parenthesized(at, Box::new(alloc, inner)?))
+    }
+
+    pub fn postfix(
+        alloc: Global,
+        op: StepOperator,
+        at: Pos,
+        operand: Expression,
+    ) -> Result<Expression, AllocError>
+        ensures { IfOk result (λ e. expression_tree e ≡ tree.postfix op at (expression_tree operand)) }
+    {
+        Ok(Expression::Postfix(op, at, Box::new(alloc, operand)?))
+    }
+
+    pub fn prefix(
+        alloc: Global,
+        op: StepOperator,
+        at: Pos,
+        operand: Expression,
+    ) -> Result<Expression, AllocError>
+        ensures { IfOk result (λ e. expression_tree e ≡ tree.prefix op at (expression_tree operand)) }
+    {
+        Ok(Expression::Prefix(op, at, Box::new(alloc, operand)?))
+    }
+
+    pub fn unary(
+        alloc: Global,
+        op: UnaryOperator,
+        at: Pos,
+        operand: Expression,
+    ) -> Result<Expression, AllocError>
+        ensures { IfOk result (λ e. expression_tree e ≡ tree.unary op at (expression_tree operand)) }
+    {
+        Ok(Expression::Unary(op, at, Box::new(alloc, operand)?))
+    }
+
+    /// A conversion, at its `(`.
+    pub fn cast(
+        alloc: Global,
+        at: Pos,
+        specifiers: Vec<Specifier>,
+        operand: Expression,
+    ) -> Result<Expression, AllocError>
+        ensures { IfOk result (λ e. expression_tree e
+            ≡ tree.cast at specifiers.items (expression_tree operand)) }
+    {
+        Ok(Expression::Cast(at, specifiers, Box::new(alloc, operand)?))
+    }
+
+    pub fn binary(
+        alloc: Global,
+        op: BinaryOperator,
+        at: Pos,
+        left: Expression,
+        right: Expression,
+    ) -> Result<Expression, AllocError>
+        ensures { IfOk result (λ e. expression_tree e
+            ≡ tree.binary op at (expression_tree left) (expression_tree right)) }
+    {
+        Ok(Expression::Binary(op, at, Box::new(alloc, left)?, Box::new(alloc, right)?))
+    }
+
+    pub fn assignment(
+        alloc: Global,
+        op: AssignmentOperator,
+        at: Pos,
+        left: Expression,
+        right: Expression,
+    ) -> Result<Expression, AllocError>
+        ensures { IfOk result (λ e. expression_tree e
+            ≡ tree.assignment op at (expression_tree left) (expression_tree right)) }
+    {
+        Ok(Expression::Assignment(op, at, Box::new(alloc, left)?, Box::new(alloc, right)?))
+    }
+
+    pub fn comma(
+        alloc: Global,
+        at: Pos,
+        left: Expression,
+        right: Expression,
+    ) -> Result<Expression, AllocError>
+        ensures { IfOk result (λ e. expression_tree e
+            ≡ tree.comma at (expression_tree left) (expression_tree right)) }
+    {
+        Ok(Expression::Comma(at, Box::new(alloc, left)?, Box::new(alloc, right)?))
+    }
+
+    /// At its `?`.
+    pub fn conditional(
+        alloc: Global,
+        at: Pos,
+        condition: Expression,
+        if_true: Expression,
+        if_false: Expression,
+    ) -> Result<Expression, AllocError>
+        ensures { IfOk result (λ e. expression_tree e
+            ≡ tree.conditional at (expression_tree condition) (expression_tree if_true) (expression_tree if_false)) }
+    {
+        Ok(Expression::Conditional(
+            at,
+            Box::new(alloc, condition)?,
+            Box::new(alloc, if_true)?,
+            Box::new(alloc, if_false)?,
+        ))
+    }
+
+    /// The place of the first token.
+    #[tactic(auto, unfolding(crate::specs::Views::expression_tree, crate::specs::Places::first_place_of))]
+    pub fn first_place(&self) -> Pos
+        ensures { result ≡ first_place_of (expression_tree self.now) }
+    {
+        let mut e = self;
+        loop {
+            match e {
+                Expression::Name(name) => return name.at,
+                Expression::Call(name, _) => return name.at,
+                Expression::Index(name, _, _) => return name.at,
+                Expression::Constant(at, _, _) => return *at,
+                Expression::Character(at, _) => return *at,
+                Expression::Parenthesized(at, _) => return *at,
+                Expression::Prefix(_, at, _) => return *at,
+                Expression::Unary(_, at, _) => return *at,
+                Expression::Cast(at, _, _) => return *at,
+                Expression::Postfix(_, _, operand) => e = operand,
+                Expression::Binary(_, _, left, _) => e = left,
+                Expression::Conditional(_, condition, _, _) => e = condition,
+                Expression::Assignment(_, _, left, _) => e = left,
+                Expression::Comma(_, left, _) => e = left,
+            }
+        }
+    }
+}

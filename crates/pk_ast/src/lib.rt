@@ -1,0 +1,19 @@
+//! Syntax trees of C texts, as the grammar derives them, before typing.
+//!
+//! Arguments, declared names, values in braces, parameters, the items of a block and external definitions are lists, of any length.
+//! Every other tree inside a tree is one level of nesting, which the parser limits. So dropping a tree, or walking it, recurses no deeper than that limit.
+#![tactic(auto)]
+
+mod declarations;
+mod expressions;
+mod statements;
+#[cfg(test)]
+mod tests;
+mod units;
+
+pub use declarations::{Declaration, Declarator, Initializer, Specifier, SpecifierWord};
+pub use expressions::{
+    AssignmentOperator, BinaryOperator, Expression, Identifier, StepOperator, UnaryOperator,
+};
+pub use statements::{Block, BlockItem, ForStart, Statement};
+pub use units::{External, Function, Parameter, Storage, StorageWord, Unit};

@@ -1,0 +1,123 @@
+// External definitions (C99 6.9).
+
+ghost use Rattle.std.specs.Prelude.{◌≡◌, option_map};
+ghost use Rattle.pk_ast.specs.Trees as tree;
+ghost use Rattle.pk_ast.specs.Views.{
+  declaration_tree,
+  block_tree,
+  parameter_tree,
+  parameter_trees,
+  function_tree,
+  external_tree,
+  external_trees,
+  unit_tree,
+};
+
+use crate::declarations::{Declaration, Specifier};
+use crate::expressions::Identifier;
+use crate::statements::Block;
+use pk_ctypes::Pos;
+
+/// `static` or `extern`.
+#[derive(Clone, Copy, Debug, PartialEq, Eq)]
+pub enum StorageWord {
+    Static,
+    Extern,
+}
+
+/// `static` or `extern` at its place.
+#[derive(Clone, Copy, Debug, PartialEq, Eq)]
+pub struct Storage {
+    pub word: StorageWord,
+    pub at: Pos,
+}
+
+/// A parameter: the words of its type, and its name where it has one.
+#[derive(Drop)]
+pub struct Parameter {
+    pub specifiers: Vec<Specifier>,
+    pub name: Option<Identifier>,
+}
+
+/// A function, declared or, where it has a body, defined. A parameter list that is empty or `void` alone has no parameter.
+#[derive(Drop)]
+pub struct Function {
+    pub storage: Option<Storage>,
+    pub specifiers: Vec<Specifier>,
+    pub name: Identifier,
+    pub parameters: Vec<Parameter>,
+    pub body: Option<Block>,
+}
+
+/// A function, or a declaration of objects.
+#[derive(Drop)]
+pub enum External {
+    Function(Function),
+    Declaration(Option<Storage>, Declaration),
+}
+
+/// A text, by its external definitions in order.
+#[derive(Drop)]
+pub struct Unit {
+    pub externals: Vec<External>,
+}
+
+#[tactic(auto, unfolding(crate::specs::Views::parameter_tree))]
+impl Parameter {
+    pub fn new(specifiers: Vec<Specifier>, name: Option<Identifier>) -> Parameter
+        ensures { parameter_tree result ≡ record { specifiers = specifiers.items; name = name } }
+    {
+        Parameter { specifiers, name }
+    }
+}
+
+#[tactic(auto, unfolding(crate::specs::Views::function_tree))]
+impl Function {
+    pub fn new(
+        storage: Option<Storage>,
+        specifiers: Vec<Specifier>,
+        name: Identifier,
+        parameters: Vec<Parameter>,
+        body: Option<Block>,
+    ) -> Function
+        ensures { function_tree result ≡ record {
+          storage = storage;
+          specifiers = specifiers.items;
+          name = name;
+          parameters = parameter_trees parameters.items;
+          body = option_map block_tree body;
+        } }
+    {
+        Function {
+            storage,
+            specifiers,
+            name,
+            parameters,
+            body,
+        }
+    }
+}
+
+#[tactic(auto, unfolding(crate::specs::Views::external_tree))]
+impl External {
+    pub fn function(function: Function) -> External
+        ensures { external_tree result ≡ tree.function (function_tree function) }
+    {
+        External::Function(function)
+    }
+
+    pub fn declaration(storage: Option<Storage>, declaration: Declaration) -> External
+        ensures { external_tree result ≡ tree.objects storage (declaration_tree declaration) }
+    {
+        External::Declaration(storage, declaration)
+    }
+}
+
+#[tactic(auto, unfolding(crate::specs::Views::unit_tree))]
+impl Unit {
+    pub fn new(externals: Vec<External>) -> Unit
+        ensures { unit_tree result ≡ external_trees externals.items }
+    {
+        Unit { externals }
+    }
+}
