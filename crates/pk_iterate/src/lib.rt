@@ -1,4 +1,4 @@
-// The recursive iteration of a system over a plan, on one thread.
+// The recursive iteration of a system over an order, on one thread.
 #![tactic(auto)]
 
 mod failure;

@@ -13,7 +13,7 @@ pub enum Decision<C> {
     Again(C),
 }
 
-/// A system of cells, one for each element of a plan.
+/// A system of cells, one for each element of an order.
 pub trait System {
     ghost use Rattle.pk_iterate.specs.Behaviour.{Behaviour, HoldEach, decided_cell};
 

@@ -3,7 +3,7 @@
 ghost use Rattle.std.specs.Prelude.{◌≡◌, ◌<◌, IfOk, length};
 
 use crate::{Cells, Decision, Solve, System, iterate};
-use pk_plan::{Place, Plan, Role};
+use pk_plan::{Order, Place, Role};
 use std::alloc::{AllocError, Global};
 use std::marker::Model;
 use std::sync::Arc;
@@ -133,7 +133,7 @@ impl System for Rows {
 }
 
 // The entry, the loop of a head and a body with its exit, and the end.
-fn plan(alloc: Global) -> Result<Plan, AllocError>
+fn order(alloc: Global) -> Result<Order, AllocError>
     ensures { IfOk result (λ p. p.elements ≡ 5) }
 {
     let places = vec![in alloc;
@@ -158,7 +158,7 @@ fn plan(alloc: Global) -> Result<Plan, AllocError>
             role: Role::Vertex
         },
     ]?;
-    Ok(Plan::new(5, places))
+    Ok(Order::new(5, places))
 }
 
 fn count(alloc: Global, most: u64) -> Result<Cells<u64>, Solve>
@@ -166,14 +166,14 @@ fn count(alloc: Global, most: u64) -> Result<Cells<u64>, Solve>
     ensures cells { IfOk result (λ it. length it.cells ≡ 5) }
     ensures runs { IfOk result (λ it. length it.runs ≡ 5) }
 {
-    iterate(alloc, &Counting, &plan(alloc)?, most)
+    iterate(alloc, &Counting, &order(alloc)?, most)
 }
 
 fn fill(alloc: Global) -> Result<Cells<Row>, Solve>
     ensures cells { IfOk result (λ it. length it.cells ≡ 5) }
     ensures runs { IfOk result (λ it. length it.runs ≡ 5) }
 {
-    iterate(alloc, &Rows, &plan(alloc)?, 1)
+    iterate(alloc, &Rows, &order(alloc)?, 1)
 }
 
 #[test]

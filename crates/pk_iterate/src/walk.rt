@@ -8,23 +8,23 @@ use crate::failure::Solve;
 use crate::front::{first_front, run_place};
 use crate::outcome::Cells;
 use crate::systems::System;
-use pk_plan::{Plan, Role};
+use pk_plan::{Order, Role};
 use std::alloc::Global;
 
-/// Goes through the places of the plan from the first, and back where an exit decides so, until none is left.
+/// Goes through the places of the order from the first, and back where an exit decides so, until none is left.
 pub fn iterate<Y: System>(
     alloc: Global,
     system: &Y,
-    plan: &Plan,
+    order: &Order,
     max_runs: u64,
 ) -> Result<Cells<Y::Cell>, Solve>
-    requires reads { ReadsWithin (Y.meaning system.now) plan.now.elements }
+    requires reads { ReadsWithin (Y.meaning system.now) order.now.elements }
     requires most { max_runs ≤ 549755813888 }
-    ensures ok { IfOk result (λ it. IsResult (Y.meaning system.now) plan.now.order plan.now.elements max_runs it) }
-    ensures err { IfErr result (IsCause (Y.meaning system.now) plan.now.order plan.now.elements max_runs) }
+    ensures ok { IfOk result (λ it. IsResult (Y.meaning system.now) order.now.order order.now.elements max_runs it) }
+    ensures err { IfErr result (IsCause (Y.meaning system.now) order.now.order order.now.elements max_runs) }
 {
-    let places = plan.places();
-    let mut front = first_front(alloc, system, plan.elements())?;
+    let places = order.places();
+    let mut front = first_front(alloc, system, order.elements())?;
     let mut at = 0usize;
     while at < places.len() {
         let place = places[at];

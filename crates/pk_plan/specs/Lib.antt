@@ -1,3 +1,9 @@
 pub mod Order
-pub mod PlanView
+pub mod OrderView
+pub mod Plans
+pub mod Axioms
 pub mod Nested
+pub mod Digraphs
+pub mod Nests
+pub mod NestPlaces
+pub mod NestCode

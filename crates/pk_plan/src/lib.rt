@@ -1,10 +1,18 @@
-// The order in which elements are run: vertices, and components in brackets.
+// Digraphs, their nests, plans, and the orders in which elements are run.
 #![tactic(auto)]
 
+mod components;
+mod digraphs;
+mod nests;
+mod orders;
 mod places;
 mod plans;
 #[cfg(test)]
 mod tests;
 
+pub use components::Component;
+pub use digraphs::Digraph;
+pub use nests::{Nest, NestPlace};
+pub use orders::Order;
 pub use places::{Place, Role};
 pub use plans::Plan;

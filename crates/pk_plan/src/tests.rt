@@ -1,10 +1,10 @@
-// Plans of flat and of deep orders.
+// Flat and deep orders.
 
 ghost use Rattle.std.specs.Prelude.{◌≡◌, ◌*◌, ◌^◌, ◌<◌, IfOk};
 ghost use Rattle.pk_plan.specs.Order.{places_of};
 ghost use Rattle.pk_plan.specs.Nested.{nest};
 
-use crate::{Place, Plan, Role};
+use crate::{Order, Place, Role};
 use std::alloc::{AllocError, Global};
 use std::test::Fail;
 
@@ -29,11 +29,11 @@ fn nested_places(alloc: Global, depth: usize) -> Result<Vec<Place>, AllocError>
     Ok(places)
 }
 
-fn nested_plan(alloc: Global, depth: usize) -> Result<Plan, AllocError>
+fn nested_order(alloc: Global, depth: usize) -> Result<Order, AllocError>
     requires { depth < 2 ^ 32 }
-    ensures { IfOk result (λ p. p.order ≡ nest depth) }
+    ensures { IfOk result (λ o. o.order ≡ nest depth) }
 {
-    Ok(Plan::new(2, nested_places(alloc, depth)?))
+    Ok(Order::new(2, nested_places(alloc, depth)?))
 }
 
 #[test]
@@ -56,15 +56,15 @@ fn a_component_among_vertices(rt: HostRuntime) -> Result<(), Fail> {
             role: Role::Exit { back: 2 }
         },
     ]?;
-    let plan = Plan::new(4, places);
-    assert_eq!(rt; plan.elements(), 4);
-    assert_eq!(rt; plan.places().len(), 4);
+    let order = Order::new(4, places);
+    assert_eq!(rt; order.elements(), 4);
+    assert_eq!(rt; order.places().len(), 4);
     Ok(())
 }
 
 #[test]
 fn deep_brackets(rt: HostRuntime) -> Result<(), Fail> {
-    let plan = nested_plan(rt.alloc(), 100_000)?;
-    assert_eq!(rt; plan.places().len(), 200_000);
+    let order = nested_order(rt.alloc(), 100_000)?;
+    assert_eq!(rt; order.places().len(), 200_000);
     Ok(())
 }

@@ -16,19 +16,19 @@ d = record { element = 0; role = Vertex }
 
 pub loop-at-init : goal.loop-at-init
 loop-at-init g c =
-    stands_first (g.Y.System.meaning c.args.system.now) c.args.plan.now.order c.args.plan.now.elements c.args.max_runs (map arc_value c.in_ok-front.front.cells.items) c.in_ok-front.front.runs.items
+    stands_first (g.Y.System.meaning c.args.system.now) c.args.order.now.order c.args.order.now.elements c.args.max_runs (map arc_value c.in_ok-front.front.cells.items) c.in_ok-front.front.runs.items
     (c.in_ok-front.ensures.cells ∙ ap (λ (n : ℕ). map (g.Y.System.meaning c.args.system.now).first (range_with_len 0 n)) c.elements.ensures)
     (c.in_ok-front.ensures.runs ∙ ap (λ (n : ℕ). map (λ (u : ℕ). let none : ℕ = 0 in none) (range_with_len 0 n)) c.elements.ensures)
 
 pub index-requires : goal.index-requires
 index-requires g c =
-    let w = turn c.args.plan.now.order c.args.plan.now.elements c.loop-at.at c.places-places.result.now d c.places-places.ensures.places c.places-places.ensures.within c.loop-at-test.true in
+    let w = turn c.args.order.now.order c.args.order.now.elements c.loop-at.at c.places-places.result.now d c.places-places.ensures.places c.places-places.ensures.within c.loop-at-test.true in
     let long = runs_long c.loop-at.invariant in
     omega (arith, w.below, long)
 
 pub returns-then-index-max_runs-clause-err : goal.returns-then-index-max_runs-clause-err
 returns-then-index-max_runs-clause-err g c =
-    let w = turn c.args.plan.now.order c.args.plan.now.elements c.loop-at.at c.places-places.result.now d c.places-places.ensures.places c.places-places.ensures.within c.loop-at-test.true in
+    let w = turn c.args.order.now.order c.args.order.now.elements c.loop-at.at c.places-places.result.now d c.places-places.ensures.places c.places-places.ensures.within c.loop-at-test.true in
     let e : ℕ = (get_or c.places-places.result.now c.loop-at.at d).element in
     let below : e < length c.loop-at.front.runs.items = omega (arith, w.below, runs_long c.loop-at.invariant) in
     let read = get_or_default c.loop-at.front.runs.items e 0 c.index.result.now below in
@@ -36,7 +36,7 @@ returns-then-index-max_runs-clause-err g c =
 
 pub run_place-requires-clause-element : goal.run_place-requires-clause-element
 run_place-requires-clause-element g c κs within =
-    let w = turn c.args.plan.now.order c.args.plan.now.elements c.loop-at.at c.places-places.result.now d c.places-places.ensures.places c.places-places.ensures.within c.loop-at-test.true in
+    let w = turn c.args.order.now.order c.args.order.now.elements c.loop-at.at c.places-places.result.now d c.places-places.ensures.places c.places-places.ensures.within c.loop-at-test.true in
     let long = cells_long c.loop-at.invariant in
     omega (arith, w.below, long, length-map c.loop-at.front.cells.items arc_value)
 
@@ -46,24 +46,24 @@ run_place-requires-clause-counted g c κs within =
 
 pub run_place-requires-clause-reads : goal.run_place-requires-clause-reads
 run_place-requires-clause-reads g c κs within =
-    let w = turn c.args.plan.now.order c.args.plan.now.elements c.loop-at.at c.places-places.result.now d c.places-places.ensures.places c.places-places.ensures.within c.loop-at-test.true in
-    let long : length c.loop-at.front.cells.items ≡ c.args.plan.now.elements = sym (length-map c.loop-at.front.cells.items arc_value) ∙ cells_long c.loop-at.invariant in
+    let w = turn c.args.order.now.order c.args.order.now.elements c.loop-at.at c.places-places.result.now d c.places-places.ensures.places c.places-places.ensures.within c.loop-at-test.true in
+    let long : length c.loop-at.front.cells.items ≡ c.args.order.now.elements = sym (length-map c.loop-at.front.cells.items arc_value) ∙ cells_long c.loop-at.invariant in
     rw long (c.requires.reads _ w.below)
 
 pub run_place-requires-clause-held : goal.run_place-requires-clause-held
 run_place-requires-clause-held g c κs within =
-    let w = turn c.args.plan.now.order c.args.plan.now.elements c.loop-at.at c.places-places.result.now d c.places-places.ensures.places c.places-places.ensures.within c.loop-at-test.true in
+    let w = turn c.args.order.now.order c.args.order.now.elements c.loop-at.at c.places-places.result.now d c.places-places.ensures.places c.places-places.ensures.within c.loop-at-test.true in
     let laws : MayHold (g.Y.System.meaning c.args.system.now) (g.Y.System.may_hold c.args.system.now) = record { first = g.met.Y.System.first_held c.args.system.now; apply = g.met.Y.System.apply_held c.args.system.now; decide = g.met.Y.System.decide_held c.args.system.now } in
     inputs_held (g.Y.System.meaning c.args.system.now) (g.Y.System.may_hold c.args.system.now) laws c.requires.reads c.loop-at.invariant _ w.below
 
 pub next_place-at-requires-clause-back : goal.next_place-at-requires-clause-back
 next_place-at-requires-clause-back g c =
-    let w = turn c.args.plan.now.order c.args.plan.now.elements c.loop-at.at c.places-places.result.now d c.places-places.ensures.places c.places-places.ensures.within c.loop-at-test.true in
+    let w = turn c.args.order.now.order c.args.order.now.elements c.loop-at.at c.places-places.result.now d c.places-places.ensures.places c.places-places.ensures.within c.loop-at-test.true in
     turn_back w
 
 pub loop-at-preserved : goal.loop-at-preserved
 loop-at-preserved g c =
-    let w = turn c.args.plan.now.order c.args.plan.now.elements c.loop-at.at c.places-places.result.now d c.places-places.ensures.places c.places-places.ensures.within c.loop-at-test.true in
+    let w = turn c.args.order.now.order c.args.order.now.elements c.loop-at.at c.places-places.result.now d c.places-places.ensures.places c.places-places.ensures.within c.loop-at-test.true in
     let e : ℕ = (get_or c.places-places.result.now c.loop-at.at d).element in
     let below : e < length c.loop-at.front.runs.items = omega (arith, w.below, runs_long c.loop-at.invariant) in
     let most : get_or c.loop-at.front.runs.items e 0 ≤ c.args.max_runs = c.loop-at.invariant.within e 0 below in
@@ -74,7 +74,7 @@ loop-at-preserved g c =
 
 pub loop-at-smaller : goal.loop-at-smaller
 loop-at-smaller g c =
-    let w = turn c.args.plan.now.order c.args.plan.now.elements c.loop-at.at c.places-places.result.now d c.places-places.ensures.places c.places-places.ensures.within c.loop-at-test.true in
+    let w = turn c.args.order.now.order c.args.order.now.elements c.loop-at.at c.places-places.result.now d c.places-places.ensures.places c.places-places.ensures.within c.loop-at-test.true in
     smaller (get_or c.places-places.result.now c.loop-at.at d).element c.loop-at.invariant (loop-at-preserved g c) w.below c.in_ok-again.ensures.runs
 
 pub returns-clause-ok : goal.returns-clause-ok

@@ -4,7 +4,7 @@ use Rattle.pk_iterate.proofs.Stands.{Stands}
 use Rattle.pk_iterate.proofs.walk.iterate.Given as goal
 
 abbrev pub invariant-loop-at : goal.invariant-loop-at
-invariant-loop-at g l = Stands (g.Y.System.meaning l.system) l.plan.order l.plan.elements l.max_runs (map arc_value l.front.cells.items) l.front.runs.items l.at
+invariant-loop-at g l = Stands (g.Y.System.meaning l.system) l.order.order l.order.elements l.max_runs (map arc_value l.front.cells.items) l.front.runs.items l.at
 
 abbrev pub decreases-loop-at : goal.decreases-loop-at
-decreases-loop-at g l = l.plan.elements * l.max_runs - sum l.front.runs.items
+decreases-loop-at g l = l.order.elements * l.max_runs - sum l.front.runs.items

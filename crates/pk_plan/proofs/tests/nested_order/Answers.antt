@@ -2,7 +2,7 @@ use Rattle.std.proofs.Common.{◌∙◌}
 use Rattle.pk_plan.specs.Nested.{nest}
 use Rattle.pk_plan.proofs.Levels.{IsBracketed-from_level, level_of-from_level}
 use Rattle.pk_plan.proofs.NestedLemmas.{nest_within}
-use Rattle.pk_plan.proofs.tests.nested_plan.Goals as goal
+use Rattle.pk_plan.proofs.tests.nested_order.Goals as goal
 
 pub new-requires-clause-bracketed : goal.new-requires-clause-bracketed
 new-requires-clause-bracketed c = IsBracketed-from_level (nest c.args.depth) c.in_ok-nested_places.ensures
