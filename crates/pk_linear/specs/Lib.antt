@@ -1,0 +1,6 @@
+pub mod Linear
+pub mod Waits
+pub mod Steps
+pub mod Progress
+pub mod Texts
+pub mod Written

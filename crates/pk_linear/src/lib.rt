@@ -1,0 +1,14 @@
+// The linear order of a plan, and its text.
+#![tactic(auto)]
+
+mod laws;
+mod orders;
+mod progress;
+#[cfg(test)]
+mod tests;
+mod texts;
+mod waits;
+
+pub use laws::linear_is_determined;
+pub use orders::linear;
+pub use texts::line;
