@@ -1,0 +1,9 @@
+//! The plan of a digraph and its linear order.
+#![tactic(auto)]
+
+mod orders;
+#[cfg(test)]
+mod tests;
+
+pub use orders::{order_is_determined, ordered};
+pub use pk_linear::line;
