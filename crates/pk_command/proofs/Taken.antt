@@ -1,31 +1,36 @@
 -- What words that are taken name and give.
-use Rattle.std.proofs.Common.{◌≡◌, ◌∙◌, ◌&&◌, ◌||◌, ◌^◌, ◌≤◌, ◌<◌, arith, refl, sym, ap, subst, ℕ, Bool, true, false, not, cond, List, [], ◌∷◌, Option, Some, None, is_some, codes, lit<, lit≤, drop, Result, Ok, Err}
+use Rattle.std.proofs.Common.{◌≡◌, ◌∙◌, ◌&&◌, ◌||◌, ◌^◌, ◌≤◌, ◌<◌, arith, refl, sym, ap, subst, ℕ, Bool, true, false, not, cond, List, [], ◌∷◌, Option, Some, None, is_some, codes, lit<, lit≤, drop, Result, Ok, Err, ◌⊎◌, inl, inr}
 use Rattle.std.proofs.lemmas.Int.{ints}
 use Rattle.std.proofs.lemmas.Bool.{ne_eqb}
 use Rattle.std.proofs.lemmas.Str.Parse.{digit_from_value}
 use Rattle.std.proofs.lemmas.Slice.Eq.{bytes_eq-Decides}
-use Rattle.std.specs.Prelude.{find, option_and_then, option_map, slice_get, pos, unwrap_or, ◌==◌, IfSome}
+use Rattle.std.specs.Prelude.{Box, find, option_and_then, option_map, slice_get, pos, unwrap_or, ◌==◌, IfSome}
+use Rattle.std.specs.Borrow.{Bor}
+use Rattle.std.specs.Box.{box_value}
 use Rattle.std.specs.Option.{option_map_or}
 use Rattle.std.specs.Str.{bytes_eq}
 use Rattle.std.specs.Str.Parse.{IsNumeral, ParsesUnsigned, digits_value, starts_with_minus, without_leading_plus}
 use Rattle.clap.specs.Lexer.{without_minus}
 use Rattle.clap.specs.Values.{Accepts, IsSignedIn, read_as}
 use Rattle.clap.specs.ValueTests.{accepts}
-use Rattle.clap.specs.Matches.{ReadsOne, one_text}
+use Rattle.clap.specs.Matches.{ReadsOne, first_value, one_text, subcommand_name_of}
+use Rattle.clap.specs.declared.parser.matches.ArgMatches.{ArgMatches}
+use Rattle.clap.specs.declared.parser.matches.ArgMatches.TheViews.{out-ArgMatches, out-SubCommand}
+use Rattle.clap.specs.declared.parser.matches.SubCommand.{SubCommand}
 use Rattle.clap.specs.declared.parser.matches.Found.{Found}
-use Rattle.clap.proofs.WalkLemmas.{one_text-rows}
+use Rattle.clap.proofs.WalkLemmas.{first_value-rows, one_text-rows}
 use Rattle.clap.specs.Facts.{explicit_source, parser_of_value}
 use Rattle.clap.specs.Takes.{is_given}
 use Rattle.std.specs.List.{list_any}
 use Rattle.clap.specs.Kinds.{Kinds, check_kinds, values_kinds}
 use Rattle.clap.specs.Walk.{Row, Rule, Text, answers_to, arg_by_id, finished, first_of, nothing_held, one_of, reading_by, row_text, rows_after, rows_of, walk}
-use Rattle.clap.specs.Simple.{App, Shape, built, entered, label_of, names_of, rows_at}
+use Rattle.clap.specs.Simple.{App, Shape, built, entered, label_of, names_of, rows_at, subcommand_rows, subcommand_rows_of}
 use Rattle.clap.specs.Faults.{check_fault, entered_fault, fault_of, level_fault, values_fault}
 use Rattle.clap.specs.declared.builder.value_parser.ValueParser.{ValueParser}
 use Rattle.clap.specs.declared.error.kind.ErrorKind.{ErrorKind}
 use Rattle.clap.proofs.ValueTestLemmas.{accepts-Accepts}
 use Rattle.pk_command.specs.CommandLine.{is_empty, number_option, pikos_app}
-use Rattle.pk_command.specs.Given.{IsInRange, given_by, is_set, number_in, number_of, run_options}
+use Rattle.pk_command.specs.Given.{IsInRange, given_by, is_set, number_in, number_of, run_options, text_of}
 use Rattle.pk_command.specs.declared.asked.Command.TheVariants.{Run}
 use Rattle.pk_command.specs.Found.{IsFlagFound, IsNumberFound, IsRunFound}
 use Rattle.pk_command.proofs.Rows.{Each, IsKeyed, Passes, below_passes, check_passes, each_found, each_row}
@@ -81,33 +86,50 @@ enters P a (Some p) rows each required check below =
     enters_found P a p rows (find (λ s. answers_to p.0 (label_of s)) a.subs) refl
     (λ s found. (each_found P (λ s. answers_to p.0 (label_of s)) a.subs s each found).0) required check below
 
--- the built shape of `run`
+-- the built shapes of the commands
 abbrev pub run_shape : Shape
 run_shape = unwrap_or (slice_get (built pikos_app).subs 0) (built pikos_app).top
 
--- the words name `run`, and each value that they give passes the parser of its option
-pub record NamesRun (words : List Text) : Type 0 where
+abbrev pub order_shape : Shape
+order_shape = unwrap_or (slice_get (built pikos_app).subs 1) (built pikos_app).top
+
+-- the words name the command of this shape, and each value that they give passes the parser of its option
+pub record NamesCommand (shape : Shape) (words : List Text) : Type 0 where
   pub rows : List Row
-  pub given : given_by words ≡ Some (codes "run", rows)
-  pub pass : Each (Passes run_shape.rules) rows
+  pub given : given_by words ≡ Some (shape.name, rows)
+  pub pass : Each (Passes shape.rules) rows
 
 run_keyed : IsKeyed run_shape.rules
 run_keyed = (refl, (refl, (refl, tt)))
 
-pub taken_names_run : (words : List Text) → fault_of pikos_app words ≡ [] → NamesRun words
-taken_names_run words taken =
-    let a = built pikos_app in
-    let stop = (walk a.top.rules (names_of a) nothing_held words).stopped in
-    let below = below_passes a.top (names_of a) nothing_held words (is_some (entered a stop)) (entered_fault a stop) taken in
-    let check = check_passes a.top (names_of a) nothing_held words (is_some (entered a stop)) (entered_fault a stop) taken in
-    let met = enters (λ s. s ≡ run_shape) a stop (finished a.top.rules (walk a.top.rules (names_of a) nothing_held words).held) (refl, tt) refl check below in
-    let keyed : IsKeyed met.shape.rules = subst (λ (s : Shape). IsKeyed s.rules) (sym met.one) run_keyed in
+order_keyed : IsKeyed order_shape.rules
+order_keyed = (refl, tt)
+
+-- where the walk over the words stops
+abbrev stop_at : List Text → Option (Text × List Text)
+stop_at words = (walk (built pikos_app).top.rules (names_of (built pikos_app)) nothing_held words).stopped
+
+names_shape : (P : Shape → Type 0) (shape : Shape) (words : List Text) (met : Enters P (built pikos_app) (stop_at words)) → met.shape ≡ shape → IsKeyed shape.rules → NamesCommand shape words
+names_shape P shape words met is keyed =
+    let own : IsKeyed met.shape.rules = subst (λ (s : Shape). IsKeyed s.rules) (sym is) keyed in
     record {
       rows = rows_after met.shape.rules [] met.words;
-      given = met.rows ∙ ap (λ (s : Shape). Some (s.name, rows_after met.shape.rules [] met.words)) met.one;
-      pass = subst (λ (s : Shape). Each (Passes s.rules) (rows_after met.shape.rules [] met.words)) met.one
-          (each_row met.shape [] met.words false [] keyed met.pass);
+      given = met.rows ∙ ap (λ (s : Shape). Some (s.name, rows_after met.shape.rules [] met.words)) is;
+      pass = subst (λ (s : Shape). Each (Passes s.rules) (rows_after met.shape.rules [] met.words)) is
+          (each_row met.shape [] met.words false [] own met.pass);
     }
+
+pub taken_names : (words : List Text) → fault_of pikos_app words ≡ [] → NamesCommand run_shape words ⊎ NamesCommand order_shape words
+taken_names words taken =
+    let a = built pikos_app in
+    let stop = stop_at words in
+    let below = below_passes a.top (names_of a) nothing_held words (is_some (entered a stop)) (entered_fault a stop) taken in
+    let check = check_passes a.top (names_of a) nothing_held words (is_some (entered a stop)) (entered_fault a stop) taken in
+    let met = enters (λ s. (s ≡ run_shape) ⊎ (s ≡ order_shape)) a stop (finished a.top.rules (walk a.top.rules (names_of a) nothing_held words).held) (inl refl, (inr refl, tt)) refl check below in
+    elim met.one [
+      | inl is ↦ inl (names_shape (λ s. (s ≡ run_shape) ⊎ (s ≡ order_shape)) run_shape words met is run_keyed)
+      | inr is ↦ inr (names_shape (λ s. (s ≡ run_shape) ⊎ (s ≡ order_shape)) order_shape words met is order_keyed)
+    ]
 
 -- ---- the values
 
@@ -291,22 +313,61 @@ run_in_range rows found =
     let max_runs = number_in_range (codes "max-runs") 1 549755813888 1000000 rows (lit≤ tt) (lit≤ tt) found.max_runs in
     (workers.0, workers.1, max_runs.0, max_runs.1)
 
+-- ---- the option of `order`
+
+-- what `get_str` gives for an option, or the default
+pub text_read : (name default : Text) (f : Found) (r : Option (Bor Text)) → option_map (λ s. s.now) r ≡ first_value f name
+    → option_map_or (λ s. s.now) r default ≡ text_of name default (rows_of f)
+text_read name default f r is = go r ∙ ap (λ o. unwrap_or o default) (is ∙ first_value-rows f name)
+  where
+    go : (o : Option (Bor Text)) → option_map_or (λ s. s.now) o default ≡ unwrap_or (option_map (λ s. s.now) o) default
+    go None = refl
+    go (Some s) = refl
+
+-- ---- the command that is found
+
 pub pair_rows : (o : Option (Text × List Row)) (rows given : List Row) (name : Text) → option_map (λ p. p.1) o ≡ Some rows → o ≡ Some (name, given) → rows ≡ given
 pair_rows o rows given name left right = some_rows rows given (sym left ∙ ap (option_map (λ p. p.1)) right)
   where
     some_rows : (a b : List Row) → Some a ≡ Some b → a ≡ b
     some_rows a b e = cc
 
--- what is found under `run` is what the words that are taken give
-pub given_of_taken : (words : List Text) (o : Option (Text × List Row)) (rows : List Row) → fault_of pikos_app words ≡ [] → o ≡ given_by words → option_map (λ p. p.1) o ≡ Some rows
-    → given_by words ≡ Some (codes "run", rows)
-given_of_taken words o rows taken given is =
-    let names = taken_names_run words taken in
-    let same : rows ≡ names.rows = pair_rows o rows names.rows (codes "run") is (given ∙ names.given) in
-    names.given ∙ ap (λ r. Some (codes "run", r)) (sym same)
+-- no command is `run` and `order`
+pub other_names : (o : Option (Text × List Row)) (rows given : List Row) → o ≡ Some (codes "run", rows) → o ≡ Some (codes "order", given) → ⊥
+other_names o rows given left right =
+    let bad : true ≡ false = ap (λ p. option_map_or (λ q. bytes_eq q.0 (codes "run")) p false) (sym left ∙ right) in
+    cc
 
-pub found_of_taken : (words : List Text) (o : Option (Text × List Row)) (rows : List Row) → fault_of pikos_app words ≡ [] → o ≡ given_by words → option_map (λ p. p.1) o ≡ Some rows → IsRunFound rows
-found_of_taken words o rows taken given is =
-    let names = taken_names_run words taken in
-    let same : rows ≡ names.rows = pair_rows o rows names.rows (codes "run") is (given ∙ names.given) in
-    subst IsRunFound (sym same) (run_found names.rows names.pass)
+pair_of : (o : Option (Text × List Row)) (name : Text) (rows : List Row) → option_map (λ p. p.0) o ≡ Some name → option_map (λ p. p.1) o ≡ Some rows → o ≡ Some (name, rows)
+pair_of None name rows left right = absurd (none_row rows right)
+pair_of (Some p) name rows left right =
+    let first : p.0 ≡ name = cc in
+    let second : p.1 ≡ rows = cc in
+    ap (λ n. Some (n, p.1)) first ∙ ap (λ r. Some (name, r)) second
+
+name_of_rows : (m : ArgMatches) → subcommand_name_of m ≡ option_map (λ p. p.0) (subcommand_rows_of m)
+name_of_rows m = go (out-ArgMatches m).subcommand
+  where
+    go : {Z : Type 0} (o : Option (Box SubCommand Z)) → option_map (λ b. (out-SubCommand (box_value b)).name.now) o ≡ option_map (λ p. p.0) (subcommand_rows o)
+    go None = refl
+    go (Some b) = refl
+
+-- what is found under a name is what the words give
+pub given_of_found : (words : List Text) (m : ArgMatches) (name : Text) (rows : List Row) → subcommand_rows_of m ≡ given_by words
+    → subcommand_name_of m ≡ Some name → option_map (λ p. p.1) (subcommand_rows_of m) ≡ Some rows → given_by words ≡ Some (name, rows)
+given_of_found words m name rows given named is = sym given ∙ pair_of (subcommand_rows_of m) name rows (sym (name_of_rows m) ∙ named) is
+
+-- the rows of `run` are as its options say
+pub run_of_taken : (words : List Text) (rows : List Row) → fault_of pikos_app words ≡ [] → given_by words ≡ Some (codes "run", rows) → IsRunFound rows
+run_of_taken words rows taken given = elim (taken_names words taken) [
+  | inl names ↦ subst IsRunFound (sym (pair_rows (given_by words) rows names.rows (codes "run") (ap (option_map (λ p. p.1)) given) names.given)) (run_found names.rows names.pass)
+  | inr names ↦ absurd (other_names (given_by words) rows names.rows given names.given)
+]
+
+-- words that are taken name one of the commands
+pub one_is_named : (words : List Text) (m : ArgMatches) → fault_of pikos_app words ≡ [] → subcommand_rows_of m ≡ given_by words
+    → (subcommand_name_of m ≡ Some (codes "run")) ⊎ (subcommand_name_of m ≡ Some (codes "order"))
+one_is_named words m taken given = elim (taken_names words taken) [
+  | inl names ↦ inl (name_of_rows m ∙ ap (option_map (λ p. p.0)) (given ∙ names.given))
+  | inr names ↦ inr (name_of_rows m ∙ ap (option_map (λ p. p.0)) (given ∙ names.given))
+]

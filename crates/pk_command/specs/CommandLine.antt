@@ -9,6 +9,10 @@ use Rattle.clap.specs.declared.builder.value_parser.ValueParser.TheVariants as p
 abbrev pub number_option : Text → ℕ → ℕ → Rule
 number_option name least most = record (new_rule name) { long = Some name; action = Some Set; parser = Some (parser.Signed (pos least) (pos most)) }
 
+-- `--NAME TEXT`, any text
+abbrev pub text_option : Text → Rule
+text_option name = record (new_rule name) { long = Some name; action = Some Set; parser = Some parser.String }
+
 -- `--NAME`
 abbrev pub flag : Text → Rule
 flag name = record (new_rule name) { long = Some name; action = Some SetTrue }
@@ -17,6 +21,10 @@ flag name = record (new_rule name) { long = Some name; action = Some SetTrue }
 abbrev pub run_app : App
 run_app = with_rule (with_rule (with_rule (new_app (codes "run"))
     (number_option (codes "workers") 1 64)) (number_option (codes "max-runs") 1 549755813888)) (flag (codes "points"))
+
+-- `order [--entry NAME]`
+abbrev pub order_app : App
+order_app = with_rule (new_app (codes "order")) (text_option (codes "entry"))
 
 -- a command is required; the words leave out the program's name, and nothing asks for help or a version
 abbrev pub program_shape : Shape
@@ -29,7 +37,7 @@ program_shape = record (new_app (codes "pikos")).top {
 }
 
 abbrev pub pikos_app : App
-pikos_app = with_subcommand (record { top = program_shape; subs = [] }) run_app.top
+pikos_app = with_subcommand (with_subcommand (record { top = program_shape; subs = [] }) run_app.top) order_app.top
 
 abbrev pub is_empty : Kinds → Bool
 is_empty [] = true

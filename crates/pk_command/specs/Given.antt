@@ -1,12 +1,13 @@
 -- The command that words give, with its options.
-use Rattle.std.specs.Prelude.{◌≡◌, ◌≤◌, ℕ, Bool, false, IsTrue, List, codes, Option, Some}
+use Rattle.std.specs.Prelude.{◌≡◌, ◌≤◌, ℕ, Bool, false, ⊤, IsTrue, List, codes, unwrap_or, Option, Some}
 use Rattle.std.specs.Option.{option_map_or}
 use Rattle.std.specs.Str.{bytes_eq}
 use Rattle.std.specs.Str.Parse.{digits_value, without_leading_sign}
 use Rattle.clap.specs.Words.{Row, Text, first_of, subcommand_of}
 use Rattle.pk_command.specs.declared.asked.Command.{Command}
-use Rattle.pk_command.specs.declared.asked.Command.TheVariants.{Run}
+use Rattle.pk_command.specs.declared.asked.Command.TheVariants.{Run, Order}
 use Rattle.pk_command.specs.declared.asked.RunOptions.{RunOptions}
+use Rattle.pk_command.specs.declared.asked.OrderOptions.{OrderOptions}
 use Rattle.pk_command.specs.CommandLine.{is_taken, pikos_app}
 
 -- the command that the words name, and what they give of its options
@@ -21,6 +22,10 @@ number_in text = digits_value 10 (without_leading_sign text)
 abbrev pub number_of : Text → ℕ → List Row → ℕ
 number_of name default rows = option_map_or number_in (first_of name rows) default
 
+-- an option's text, or its default where it isn't given
+abbrev pub text_of : Text → Text → List Row → Text
+text_of name default rows = unwrap_or (first_of name rows) default
+
 -- whether a flag is given
 abbrev pub is_set : Text → List Row → Bool
 is_set name rows = option_map_or (λ text. bytes_eq text (codes "true")) (first_of name rows) false
@@ -32,10 +37,15 @@ run_options rows = record {
   points = is_set (codes "points") rows;
 }
 
+abbrev pub order_options : List Row → OrderOptions
+order_options rows = record { entry = text_of (codes "entry") (codes "main") rows }
+
 -- the words are taken, and ask for the command
 unfoldable pub AsksFor : List Text → Command → Type 0
 AsksFor words (Run options) = IsTrue (is_taken words) × ((rows : List Row) × ((given_by words ≡ Some (codes "run", rows)) × (options ≡ run_options rows)))
+AsksFor words (Order options) = IsTrue (is_taken words) × ((rows : List Row) × ((given_by words ≡ Some (codes "order", rows)) × (options ≡ order_options rows)))
 
 -- each number lies in its option's range
 abbrev pub IsInRange : Command → Type 0
 IsInRange (Run options) = (1 ≤ options.workers) × (options.workers ≤ 64) × (1 ≤ options.max_runs) × (options.max_runs ≤ 549755813888)
+IsInRange (Order options) = ⊤

@@ -1,4 +1,5 @@
 // What words ask for.
+use pk_ctypes::Name;
 use std::alloc::AllocError;
 
 /// The options of `run`.
@@ -12,10 +13,18 @@ pub struct RunOptions {
     pub points: bool,
 }
 
+/// The options of `order`.
+#[derive(Drop)]
+pub struct OrderOptions {
+    /// The name of the function that a run of the text begins with. It may be any text, the empty one too.
+    pub entry: Name,
+}
+
 /// A command, with its options.
-#[derive(Clone, Copy, Debug, PartialEq, Eq)]
+#[derive(Drop)]
 pub enum Command {
     Run(RunOptions),
+    Order(OrderOptions),
 }
 
 /// Why words give no command.

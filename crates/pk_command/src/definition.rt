@@ -3,7 +3,7 @@
 ghost use Rattle.std.specs.Prelude.{◌≡◌, IfOk, codes, false};
 ghost use Rattle.clap.specs.Words.{app_of, rule_of};
 ghost use Rattle.clap.specs.declared.Command.TheViews.{out-Command as fields_of};
-ghost use Rattle.pk_command.specs.CommandLine.{number_option, flag, run_app, pikos_app};
+ghost use Rattle.pk_command.specs.CommandLine.{number_option, text_option, flag, run_app, order_app, pikos_app};
 
 use clap::{Arg, ArgAction, Command};
 use std::alloc::{AllocError, Global};
@@ -47,6 +47,23 @@ fn run_command<'a>(alloc: Global) -> Result<Command<'a>, AllocError>
         .arg(points(alloc))
 }
 
+fn entry<'a>(alloc: Global) -> Arg<'a>
+    ensures rule { rule_of result ≡ text_option (codes "entry") }
+    ensures local { result.global ≡ false }
+{
+    Arg::new(alloc, "entry")
+        .long("entry")
+        .action(ArgAction::Set)
+        .value_parser(clap::value_parser!(String))
+}
+
+fn order_command<'a>(alloc: Global) -> Result<Command<'a>, AllocError>
+    ensures app { IfOk result (λ c. app_of c ≡ order_app) }
+    ensures local { IfOk result (λ c. (fields_of c).has_globals ≡ false) }
+{
+    Command::new(alloc, "order").arg(entry(alloc))
+}
+
 /// The program's command line.
 pub fn command_line<'a>(alloc: Global) -> Result<Command<'a>, AllocError>
     ensures { IfOk result (λ c. app_of c ≡ pikos_app) }
@@ -57,5 +74,6 @@ pub fn command_line<'a>(alloc: Global) -> Result<Command<'a>, AllocError>
         .disable_version_flag(true)
         .disable_help_subcommand(true)
         .subcommand_required(true)
-        .subcommand(run_command(alloc)?)
+        .subcommand(run_command(alloc)?)?
+        .subcommand(order_command(alloc)?)
 }

@@ -8,6 +8,6 @@ mod reading;
 #[cfg(test)]
 mod tests;
 
-pub use asked::{Command, RunOptions, WordsError};
-pub use laws::{one_command, run_is_taken, taken_asks};
+pub use asked::{Command, OrderOptions, RunOptions, WordsError};
+pub use laws::{one_command, order_is_taken, run_is_taken, taken_asks};
 pub use reading::read_words;

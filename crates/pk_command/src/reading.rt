@@ -3,14 +3,15 @@
 ghost use Rattle.std.specs.Prelude.{◌≡◌, [], IfOk, OnOk, false, codes, map, string_bytes};
 ghost use Rattle.clap.specs.Words.{fault_of, found_of, rows_of, subcommand_rows_of};
 ghost use Rattle.pk_command.specs.CommandLine.{is_taken, pikos_app};
-ghost use Rattle.pk_command.specs.Given.{AsksFor, IsInRange, given_by, is_set, number_of, run_options as options_of};
+ghost use Rattle.pk_command.specs.Given.{AsksFor, IsInRange, given_by, is_set, number_of, order_options as order_options_of, run_options as run_options_of, text_of};
 ghost use Rattle.pk_command.specs.Found.{IsFlagFound, IsNumberFound, IsRunFound};
 
-use crate::asked::{Command, RunOptions, WordsError};
+use crate::asked::{Command, OrderOptions, RunOptions, WordsError};
 use crate::definition::command_line;
 use clap::ArgMatches;
 use clap::error::ErrorKind;
-use std::alloc::Global;
+use pk_ctypes::Name;
+use std::alloc::{AllocError, Global};
 
 // What clap finds in the words.
 fn matches_in<'a>(alloc: Global, words: &'a [String]) -> Result<ArgMatches<'a>, WordsError>
@@ -49,13 +50,31 @@ fn is_given(found: &ArgMatches<'_>, name: &str) -> bool
 
 fn run_options(found: &ArgMatches<'_>) -> RunOptions
     requires { IsRunFound (rows_of (found_of found.now)) }
-    ensures { result ≡ options_of (rows_of (found_of found.now)) }
+    ensures { result ≡ run_options_of (rows_of (found_of found.now)) }
 {
     RunOptions {
         workers: number(found, "workers", 4) as u32,
         max_runs: number(found, "max-runs", 1000000),
         points: is_given(found, "points"),
     }
+}
+
+fn text<'a>(found: &ArgMatches<'a>, name: &str, default: &'a str) -> &'a str
+    ensures { result.now ≡ text_of name.now default.now (rows_of (found_of found.now)) }
+{
+    match found.get_str(name) {
+        Some(text) => text,
+        None => default,
+    }
+}
+
+fn order_options(alloc: Global, found: &ArgMatches<'_>) -> Result<OrderOptions, AllocError>
+    ensures { IfOk result (λ options. options ≡ order_options_of (rows_of (found_of found.now))) }
+{
+    let entry = text(found, "entry", "main");
+    Ok(OrderOptions {
+        entry: Name::new(alloc, entry.as_bytes())?,
+    })
 }
 
 /// Reads the words after the program's name. Without memory for it, words that aren't taken too may give `Memory`.
@@ -70,6 +89,9 @@ pub fn read_words(alloc: Global, words: &[String]) -> Result<Command, WordsError
     let matches = matches_in(alloc, words)?;
     match matches.subcommand_matches("run") {
         Some(found) => Ok(Command::Run(run_options(found))),
-        None => unreachable!(),
+        None => match matches.subcommand_matches("order") {
+            Some(found) => Ok(Command::Order(order_options(alloc, found)?)),
+            None => unreachable!(),
+        },
     }
 }

@@ -12,8 +12,29 @@ fn answer(alloc: Global, words: &str) -> Result<Result<Command, WordsError>, Fai
     Ok(read_words(alloc, &list))
 }
 
+fn asks_for_run(alloc: Global, words: &str, wanted: RunOptions) -> Result<bool, Fail> {
+    match answer(alloc, words)? {
+        Ok(Command::Run(options)) => Ok(options == wanted),
+        _ => Ok(false),
+    }
+}
+
+fn asks_for_order(alloc: Global, words: &str, entry: &str) -> Result<bool, Fail> {
+    match answer(alloc, words)? {
+        Ok(Command::Order(options)) => Ok(options.entry.as_str() == entry),
+        _ => Ok(false),
+    }
+}
+
+fn is_usage(answer: Result<Command, WordsError>) -> bool {
+    match answer {
+        Err(error) => error == WordsError::Usage,
+        Ok(_) => false,
+    }
+}
+
 #[test]
-fn these_words_are_taken(rt: HostRuntime) -> Result<(), Fail> {
+fn these_words_ask_for_a_run(rt: HostRuntime) -> Result<(), Fail> {
     for (words, workers, max_runs, points) in [
         ("run", 4, 1000000, false),
         ("run --", 4, 1000000, false),
@@ -34,17 +55,38 @@ fn these_words_are_taken(rt: HostRuntime) -> Result<(), Fail> {
             max_runs,
             points,
         };
-        assert!(rt;
-            answer(rt.alloc(), words)? == Ok(Command::Run(options)),
-            "{words}"
-        );
+        assert!(rt; asks_for_run(rt.alloc(), words, options)?, "{words}");
+    }
+    Ok(())
+}
+
+#[test]
+fn these_words_ask_for_the_order(rt: HostRuntime) -> Result<(), Fail> {
+    for (words, entry) in [
+        ("order", "main"),
+        ("order --", "main"),
+        ("order --entry f", "f"),
+        ("order --entry=f", "f"),
+        ("order --entry f --", "f"),
+        ("order --entry order", "order"),
+        ("order --entry entrée", "entrée"),
+        ("order --entry a=b", "a=b"),
+        ("order --entry=a=b", "a=b"),
+        ("order --entry=", ""),
+        ("order --entry ", ""),
+        ("order --entry -", "-"),
+        ("order --entry=-x", "-x"),
+        ("order --entry=--", "--"),
+        ("order --entry=--entry", "--entry"),
+    ] {
+        assert!(rt; asks_for_order(rt.alloc(), words, entry)?, "{words}");
     }
     Ok(())
 }
 
 #[test]
 fn other_words_are_usage(rt: HostRuntime) -> Result<(), Fail> {
-    assert!(rt; read_words(rt.alloc(), &[]) == Err(WordsError::Usage));
+    assert!(rt; is_usage(read_words(rt.alloc(), &[])));
     for words in [
         "",
         "Run",
@@ -93,11 +135,42 @@ fn other_words_are_usage(rt: HostRuntime) -> Result<(), Fail> {
         "run help",
         "--version",
         "run -V",
+        "run --entry f",
+        "run --order",
+        "Order",
+        "ord",
+        "orders",
+        "order order",
+        "order run",
+        "order main",
+        "order ",
+        "order -",
+        "order -- --",
+        "order -- main",
+        "-- order",
+        "order --entry",
+        "order --entry --",
+        "order --entry -- f",
+        "order --entry -x",
+        "order --entry --x",
+        "order --entry a b",
+        "order --entry a --entry b",
+        "order --entry a --entry a",
+        "order --entry=a --entry=a",
+        "order --ent a",
+        "order --ENTRY a",
+        "order -entry a",
+        "order -e a",
+        "--entry a order",
+        "order --points",
+        "order --workers 2",
+        "order --max-runs 5",
+        "order --help",
+        "order -h",
+        "order --version",
+        "help order",
     ] {
-        assert!(rt;
-            answer(rt.alloc(), words)? == Err(WordsError::Usage),
-            "{words}"
-        );
+        assert!(rt; is_usage(answer(rt.alloc(), words)?), "{words}");
     }
     Ok(())
 }
