@@ -46,6 +46,6 @@ graph_so text tokens u lexed derived (Ok o) is = by_scope text tokens u o lexed 
 graph_so text tokens u lexed derived (Err e) is = tt
 
 -- an accepted length of the text bounds the items
-pub items_fit : (text : List ℕ) (tokens : List Token) (u : Unit') → IsLexed 0 start_of_text text tokens → Derives text tokens u → length text ≤ text_limit → length u.items < 2 ^ 29
+pub items_fit : (text : List ℕ) (tokens : List Token) (u : Unit') → IsLexed 0 start_of_text text tokens → Derives text tokens u → length text ≤ text_limit → length u.items < 2 ^ 28
 items_fit text tokens u lexed derived short =
     omega (arith, items_count text tokens u derived, tokens_count tokens 0 start_of_text text lexed, short)

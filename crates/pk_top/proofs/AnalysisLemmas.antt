@@ -13,16 +13,14 @@ use Rattle.pk_iterate.specs.declared.systems.Decision.TheVariants.{Stable, Again
 use Rattle.pk_iterate.specs.Behaviour.{ReadsWithin}
 use Rattle.pk_top.specs.declared.analysis.Cell.{Cell}
 use Rattle.pk_top.specs.declared.analysis.Cell.TheVariants.{Point, Up}
-use Rattle.pk_top.specs.declared.graph.Bracket.{Bracket}
 use Rattle.pk_top.specs.declared.graph.Edge.{Edge}
-use Rattle.pk_top.specs.FlowGraph.{FlowGraph, variables, brackets, incoming, is_head, elements, IsWithin, EdgeWithin, InstrWithin}
+use Rattle.pk_top.specs.FlowGraph.{FlowGraph, variables, incoming, IsWithin, EdgeWithin, InstrWithin}
 use Rattle.pk_top.specs.States.{AbstractState, state_join, state_within, state_widened}
 use Rattle.pk_top.specs.Transfers.{transferred}
 use Rattle.pk_top.specs.Thresholds.{thresholds_of}
-use Rattle.pk_top.specs.Analyses.{sources, point_reads, exit_reads, bracket_of, state_of, first_cell, start_at, equation, head_value, point_value, cell_of, decided_by, decision_at, decision_of, behaviour_of}
+use Rattle.pk_top.specs.Analyses.{is_head, sources, point_reads, exit_reads, head_of, state_of, first_cell, start_at, equation, head_value, point_value, cell_of, decided_by, decision_at, decision_of, behaviour_of}
 use Rattle.pk_top.specs.Indexes.{edges_at, AreIncoming}
 use Rattle.pk_top.proofs.NextThresholds.{state_widened-permutation}
-use Rattle.pk_top.proofs.OrderLemmas.{loop_at}
 use Rattle.pk_top.proofs.IndexLemmas.{incoming_at, numbers_within}
 
 -- ---- the point equation
@@ -92,36 +90,35 @@ first_point g e h = ap (λ (b : Bool). cond b (Point None) Up) (lt-ltb e (length
 pub first_up : (g : FlowGraph) (e : ℕ) → length g.points ≤ e → first_cell g e ≡ Up
 first_up g e h = ap (λ (b : Bool). cond b (Point None) Up) (le-ltb e (length g.points) h)
 
-pub cell_up : (g : FlowGraph) (e : ℕ) (cells : List Cell) → length g.points ≤ e → cell_of g e cells ≡ Up
-cell_up g e cells h = ap (λ (b : Bool). cond b (Point (point_value g e cells)) Up) (le-ltb e (length g.points) h)
+pub cell_up : (g : FlowGraph) (heads : List ℕ) (e : ℕ) (cells : List Cell) → length g.points ≤ e → cell_of g heads e cells ≡ Up
+cell_up g heads e cells h = ap (λ (b : Bool). cond b (Point (point_value g heads e cells)) Up) (le-ltb e (length g.points) h)
 
-cell_point : (g : FlowGraph) (e : ℕ) (cells : List Cell) → e < length g.points → cell_of g e cells ≡ Point (point_value g e cells)
-cell_point g e cells h = ap (λ (b : Bool). cond b (Point (point_value g e cells)) Up) (lt-ltb e (length g.points) h)
+cell_point : (g : FlowGraph) (heads : List ℕ) (e : ℕ) (cells : List Cell) → e < length g.points → cell_of g heads e cells ≡ Point (point_value g heads e cells)
+cell_point g heads e cells h = ap (λ (b : Bool). cond b (Point (point_value g heads e cells)) Up) (lt-ltb e (length g.points) h)
 
-pub cell_plain : (g : FlowGraph) (e : ℕ) (cells : List Cell) → e < length g.points → is_head g e ≡ false → cell_of g e cells ≡ Point (equation g e cells)
-cell_plain g e cells h is =
-    cell_point g e cells h ∙ ap (λ (b : Bool). Point (cond b (head_value g e cells) (equation g e cells))) is
+pub cell_plain : (g : FlowGraph) (heads : List ℕ) (e : ℕ) (cells : List Cell) → e < length g.points → is_head heads e ≡ false → cell_of g heads e cells ≡ Point (equation g e cells)
+cell_plain g heads e cells h is =
+    cell_point g heads e cells h ∙ ap (λ (b : Bool). Point (cond b (head_value g e cells) (equation g e cells))) is
 
-pub cell_head : (g : FlowGraph) (e : ℕ) (cells : List Cell) → e < length g.points → is_head g e ≡ true → cell_of g e cells ≡ Point (head_value g e cells)
-cell_head g e cells h is =
-    cell_point g e cells h ∙ ap (λ (b : Bool). Point (cond b (head_value g e cells) (equation g e cells))) is
+pub cell_head : (g : FlowGraph) (heads : List ℕ) (e : ℕ) (cells : List Cell) → e < length g.points → is_head heads e ≡ true → cell_of g heads e cells ≡ Point (head_value g e cells)
+cell_head g heads e cells h is =
+    cell_point g heads e cells h ∙ ap (λ (b : Bool). Point (cond b (head_value g e cells) (equation g e cells))) is
 
-pub decision_point : (g : FlowGraph) (x : ℕ) (cells : List Cell) → x < length g.points → decision_of g x cells ≡ Stable (Point None)
-decision_point g x cells h = ap (λ (b : Bool). cond b (Stable (Point None)) (decision_at g (bracket_of g x) cells)) (lt-ltb x (length g.points) h)
+pub decision_point : (g : FlowGraph) (heads : List ℕ) (x : ℕ) (cells : List Cell) → x < length g.points → decision_of g heads x cells ≡ Stable (Point None)
+decision_point g heads x cells h = ap (λ (b : Bool). cond b (Stable (Point None)) (decision_at g (head_of g heads x) cells)) (lt-ltb x (length g.points) h)
 
-decision_exit : (g : FlowGraph) (x : ℕ) (cells : List Cell) → length g.points ≤ x → decision_of g x cells ≡ decision_at g (bracket_of g x) cells
-decision_exit g x cells h = ap (λ (b : Bool). cond b (Stable (Point None)) (decision_at g (bracket_of g x) cells)) (le-ltb x (length g.points) h)
+decision_exit : (g : FlowGraph) (heads : List ℕ) (x : ℕ) (cells : List Cell) → length g.points ≤ x → decision_of g heads x cells ≡ decision_at g (head_of g heads x) cells
+decision_exit g heads x cells h = ap (λ (b : Bool). cond b (Stable (Point None)) (decision_at g (head_of g heads x) cells)) (le-ltb x (length g.points) h)
 
-pub decision_none : (g : FlowGraph) (x : ℕ) (cells : List Cell) → length g.points ≤ x → length (brackets g) ≤ x - length g.points → decision_of g x cells ≡ Stable Up
-decision_none g x cells h k =
-    decision_exit g x cells h ∙ ap (λ (o : Option Bracket). decision_at g o cells) (slice_get_past (brackets g) (x - length g.points) k)
+pub decision_none : (g : FlowGraph) (heads : List ℕ) (x : ℕ) (cells : List Cell) → length g.points ≤ x → length heads ≤ x - length g.points → decision_of g heads x cells ≡ Stable Up
+decision_none g heads x cells h k =
+    decision_exit g heads x cells h ∙ ap (λ (o : Option ℕ). decision_at g o cells) (slice_get_past heads (x - length g.points) k)
 
-pub decision_some : (g : FlowGraph) (loops : List Bracket) (x : ℕ) (l : Bracket) (cells : List Cell) → loops ≡ brackets g → length g.points ≤ x → x - length g.points < length loops →
-    l ≡ get_or loops (x - length g.points) l → decision_of g x cells ≡ decided_by g l.head cells
-decision_some g loops x l cells is h k at =
-    let found : bracket_of g x ≡ Some l =
-    ap (λ (ls : List Bracket). slice_get ls (x - length g.points)) (sym is) ∙ slice_get-get_or loops (x - length g.points) l k ∙ ap Some (sym at) in
-    decision_exit g x cells h ∙ ap (λ (o : Option Bracket). decision_at g o cells) found
+pub decision_some : (g : FlowGraph) (heads : List ℕ) (x head : ℕ) (cells : List Cell) → length g.points ≤ x → x - length g.points < length heads →
+    head ≡ get_or heads (x - length g.points) head → decision_of g heads x cells ≡ decided_by g head cells
+decision_some g heads x head cells h k at =
+    let found : head_of g heads x ≡ Some head = slice_get-get_or heads (x - length g.points) head k ∙ ap Some (sym at) in
+    decision_exit g heads x cells h ∙ ap (λ (o : Option ℕ). decision_at g o cells) found
 
 -- the cells behind the inputs: the first, and those of the others
 pub cells_split : (inputs : List (Arc Cell Global)) (h : Arc Cell Global) → 0 < length inputs → h ≡ get_or inputs 0 h → map arc_value inputs ≡ arc_value h ∷ map arc_value (take (length inputs - 1) (drop 1 inputs))
@@ -150,30 +147,26 @@ decided_is g head cells rest c held next b split held_is next_is is =
     ∙ ap (λ (x : Bool). cond x (Stable Up) (Again Up)) (sym is)
 
 -- ---- elements read elements
-sources_within : (g : FlowGraph) (v : ℕ) → IsWithin g → All (λ u. u < elements g) (sources g v)
-sources_within g v h =
+sources_within : (g : FlowGraph) (n v : ℕ) → IsWithin g → length g.points ≤ n → All (λ u. u < n) (sources g v)
+sources_within g n v h m =
     let edges : All (EdgeWithin g) (incoming g v) = All-filter (λ e. eqb e.to v) (EdgeWithin g) g.edges h.edges in
-    All-map (λ u. u < elements g) (λ (e : Edge). e.from) (incoming g v) (λ k d l. let e = edges k d l in omega (arith, e.from))
+    All-map (λ u. u < n) (λ (e : Edge). e.from) (incoming g v) (λ k d l. let e = edges k d l in omega (arith, e.from))
 
-reads_within_if : (g : FlowGraph) (v : ℕ) (b : Bool) → IsWithin g → v < elements g → All (λ u. u < elements g) (cond b (v ∷ sources g v) (sources g v))
-reads_within_if g v true h l = All-cons (λ u. u < elements g) v (sources g v) l (sources_within g v h)
-reads_within_if g v false h l = sources_within g v h
+reads_within_if : (g : FlowGraph) (n v : ℕ) (b : Bool) → IsWithin g → length g.points ≤ n → v < n → All (λ u. u < n) (cond b (v ∷ sources g v) (sources g v))
+reads_within_if g n v true h m l = All-cons (λ u. u < n) v (sources g v) l (sources_within g n v h m)
+reads_within_if g n v false h m l = sources_within g n v h m
 
-exit_reads_within : (g : FlowGraph) (o : Option Bracket) (k : ℕ) → IsWithin g → slice_get (brackets g) k ≡ o → All (λ u. u < elements g) (exit_reads g o)
-exit_reads_within g None k h is = All-nil (λ u. u < elements g)
-exit_reads_within g (Some l) k h is =
-    let at = slice_get_within (brackets g) k l is in
-    let within = loop_at g (brackets g) k l h refl at in
-    let same = get_or_from_slice_get (brackets g) k l l is in
-    let head_is = ap (λ (b : Bracket). b.head) same in
-    All-cons (λ u. u < elements g) l.head (sources g l.head) (omega (arith, within, head_is)) (sources_within g l.head h)
+exit_reads_within : (g : FlowGraph) (n : ℕ) (heads : List ℕ) (o : Option ℕ) (k : ℕ) → IsWithin g → length g.points ≤ n → All (λ h. h < length g.points) heads → slice_get heads k ≡ o → All (λ u. u < n) (exit_reads g o)
+exit_reads_within g n heads None k h m below is = All-nil (λ u. u < n)
+exit_reads_within g n heads (Some head) k h m below is =
+    let at = slice_get_within heads k head is in
+    let within = below k head at in
+    let same = get_or_from_slice_get heads k head head is in
+    All-cons (λ u. u < n) head (sources g head) (omega (arith, within, same)) (sources_within g n head h m)
 
-reads_within_of : (g : FlowGraph) (e : ℕ) (b : Bool) → IsWithin g → e < elements g → All (λ u. u < elements g) (cond b (point_reads g e) (exit_reads g (bracket_of g e)))
-reads_within_of g e true h l = reads_within_if g e (is_head g e) h l
-reads_within_of g e false h l = exit_reads_within g (bracket_of g e) (e - length g.points) h refl
+reads_within_of : (g : FlowGraph) (n : ℕ) (heads : List ℕ) (e : ℕ) (b : Bool) → IsWithin g → length g.points ≤ n → All (λ h. h < length g.points) heads → e < n → All (λ u. u < n) (cond b (point_reads g heads e) (exit_reads g (head_of g heads e)))
+reads_within_of g n heads e true h m below l = reads_within_if g n e (is_head heads e) h m l
+reads_within_of g n heads e false h m below l = exit_reads_within g n heads (head_of g heads e) (e - length g.points) h m below refl
 
-pub reads_within : (g : FlowGraph) → IsWithin g → ReadsWithin (behaviour_of g) (elements g)
-reads_within g h = λ e l. reads_within_of g e (ltb e (length g.points)) h l
-
-pub points_below_elements : (g : FlowGraph) → length g.points < elements g
-points_below_elements g = omega arith
+pub reads_within : (g : FlowGraph) (heads : List ℕ) (n : ℕ) → IsWithin g → length g.points ≤ n → All (λ h. h < length g.points) heads → ReadsWithin (behaviour_of g heads) n
+reads_within g heads n h m below = λ e l. reads_within_of g n heads e (ltb e (length g.points)) h m below l

@@ -20,11 +20,10 @@ use Rattle.pk_top.specs.declared.graph.Instr.TheVariants.{Skip, Set, Guard}
 use Rattle.pk_top.specs.declared.graph.Edge.{Edge}
 use Rattle.pk_top.specs.declared.report.Entry.{Entry}
 use Rattle.pk_top.specs.States.{AbstractState}
-use Rattle.pk_top.specs.declared.graph.Bracket.{Bracket}
 use Rattle.pk_top.specs.declared.graph.Point.{Point}
 use Rattle.pk_ctypes.specs.Places.{pos_text}
 use Rattle.pk_top.specs.Reports.{value_lines, point_word, point_lines}
-use Rattle.pk_top.specs.FlowGraph.{FlowGraph, IsWithin, EdgeWithin, brackets, is_head}
+use Rattle.pk_top.specs.FlowGraph.{FlowGraph, IsWithin, EdgeWithin}
 use Rattle.pk_top.specs.Analyses.{state_of}
 use Rattle.pk_top.specs.Verdicts.{Access, accesses_from, tree_accesses, condition_accesses, instr_accesses, state_at}
 use Rattle.pk_top.specs.Answers.{states_of}
@@ -90,28 +89,21 @@ entries_step g it i e s old new below is from s_is new_is so_far =
     ∙ sym (map-append (entry_of states) front (edge_accesses e))
     ∙ ap (map (entry_of states)) (sym all)
 
--- the heads are points
-pub heads_within : (g : FlowGraph) → IsWithin g → All (λ l. l.head < length g.points) (brackets g)
-heads_within g within =
-    All-map (λ (l : Bracket). l.head < length g.points) (λ (e : Edge). record { head = e.to; last = e.from }) (filter (λ (e : Edge). nat_le e.to e.from) g.edges)
-    (All-filter (λ (e : Edge). nat_le e.to e.from) (λ (e : Edge). e.to < length g.points) g.edges (λ k d below. (within.edges k d below).to))
-
 abbrev heading : Bool → ℕ → Point → List ℕ
 heading head v p = point_word head ++ decimal v ++ codes " main " ++ pos_text p.at ++ codes "\n"
 
 -- a point's line, and the lines of its values
 pub point_written : {T E : Type 0} (g : FlowGraph) (it : Outcome Cell) (v : ℕ) (head : Bool) (d : Point) (s : AbstractState) (old middle new : List ℕ) (r : Result T E) → v < length g.points →
-    is_head g v ≡ head → s ≡ state_at (map state_of it.cells) v → middle ≡ old ++ (point_word head ++ decimal v ++ codes " main " ++ pos_text (get_or g.points v d).at ++ codes "\n") →
-    OnOk r (new ≡ middle ++ value_lines g.names (get_or g.points v d).visible s) → OnOk r (new ≡ old ++ point_lines g (states_of g it) v)
-point_written g it v head d s old middle new (Ok ok) below head_is s_is middle_is new_is =
+    s ≡ state_at (map state_of it.cells) v → middle ≡ old ++ (point_word head ++ decimal v ++ codes " main " ++ pos_text (get_or g.points v d).at ++ codes "\n") →
+    OnOk r (new ≡ middle ++ value_lines g.names (get_or g.points v d).visible s) → OnOk r (new ≡ old ++ point_lines g (states_of g it) head v)
+point_written g it v head d s old middle new (Ok ok) below s_is middle_is new_is =
     let p : Point = get_or g.points v d in
     let state : s ≡ state_at (states_of g it) v = s_is ∙ sym (state_at_point g it v below) in
-    let lines : point_lines g (states_of g it) v ≡ heading (is_head g v) v p ++ value_lines g.names p.visible (state_at (states_of g it) v) =
-    ap (λ (o : Option Point). unwrap_or (option_map (λ (q : Point). heading (is_head g v) v q ++ value_lines g.names q.visible (state_at (states_of g it) v)) o) []) (slice_get-get_or g.points v d below) in
+    let lines : point_lines g (states_of g it) head v ≡ heading head v p ++ value_lines g.names p.visible (state_at (states_of g it) v) =
+    ap (λ (o : Option Point). unwrap_or (option_map (λ (q : Point). heading head v q ++ value_lines g.names q.visible (state_at (states_of g it) v)) o) []) (slice_get-get_or g.points v d below) in
     new_is
     ∙ ap (λ (bytes : List ℕ). bytes ++ value_lines g.names p.visible s) middle_is
     ∙ append_assoc old (heading head v p) (value_lines g.names p.visible s)
     ∙ ap (λ (x : AbstractState). old ++ (heading head v p ++ value_lines g.names p.visible x)) state
-    ∙ ap (λ (b : Bool). old ++ (heading b v p ++ value_lines g.names p.visible (state_at (states_of g it) v))) (sym head_is)
     ∙ ap (λ (bytes : List ℕ). old ++ bytes) (sym lines)
-point_written g it v head d s old middle new (Err e) below head_is s_is middle_is new_is = tt
+point_written g it v head d s old middle new (Err e) below s_is middle_is new_is = tt

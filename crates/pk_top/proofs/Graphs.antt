@@ -23,13 +23,12 @@ use Rattle.pk_top.specs.declared.graph.Edge.{Edge}
 use Rattle.pk_top.specs.declared.graph.Point.{Point}
 use Rattle.pk_top.specs.Words.{same, spelling}
 use Rattle.pk_top.specs.Ranges.{is_int}
-use Rattle.pk_top.specs.FlowGraph.{FlowGraph, elements, OperandWithin, TreeWithin, ConditionWithin, InstrWithin, EdgeWithin, IsWithin}
+use Rattle.pk_top.specs.FlowGraph.{FlowGraph, OperandWithin, TreeWithin, ConditionWithin, InstrWithin, EdgeWithin, IsWithin}
 use Rattle.pk_top.specs.Scopes.{is_declared, primary_is_scoped, sum_is_scoped, assignment_is_scoped, item_is_scoped, items_are_scoped, result_is_scoped, is_scoped, names_after, names_after_all}
 use Rattle.pk_top.specs.Constants.{primary_is_int, sum_is_int, item_is_int, result_is_int, constants_are_ints}
 use Rattle.pk_top.specs.Lowering.{Piece, variable_of, operand_of, term_of, signed_sum, fitting, constant_sum, folded, tree_of, constant_tree, comparison, piece_of, pieces_of, ending_of, graph_of}
 use Rattle.pk_top.proofs.NameLists.{position_below}
 use Rattle.pk_top.proofs.Sizes.{names_kept, names_size, points_size, edges_size}
-use Rattle.pk_top.proofs.Loops.{ending_points, loops_count}
 
 variable_within : (text : List ℕ) (names : List (List ℕ)) (x : Name) (n : ℕ) → is_declared text names x ≡ true → length names < n → variable_of text names x < n
 variable_within text names x n d h =
@@ -198,6 +197,10 @@ ending_edges : (text : List ℕ) (names : List (List ℕ)) (p : ℕ) (opening cl
 ending_edges text names p opening closing None = refl
 ending_edges text names p opening closing (Some r) = refl
 
+pub ending_points : (text : List ℕ) (names : List (List ℕ)) (p : ℕ) (opening closing : Pos) (result : Option Return) → length (ending_of text names p opening closing result).points ≡ 2
+ending_points text names p opening closing None = refl
+ending_points text names p opening closing (Some r) = refl
+
 module _ (text : List ℕ) (u : Unit') where
   abbrev the_names : List (List ℕ)
   the_names = names_after_all text [] u.items
@@ -247,9 +250,6 @@ module _ (text : List ℕ) (u : Unit') where
             (pieces_show text [] 0 u.items (length the_names) (omega arith))
             (ending_shows text the_names (length the_body.points) u.opening u.closing u.result));
       }
-
-  pub elements_count : elements (graph_of text u) ≤ 5 * length u.items + 4
-  elements_count = let l = loops_count text u in let p = points_count in omega (arith, l, p)
 
 -- what is known of a graph that is there is known of it behind a result
 pub graph_result : (P : FlowGraph → Type 0) (text : List ℕ) (u : Unit') (r : Result (Option FlowGraph) AllocError)

@@ -8,15 +8,10 @@ use Rattle.std.proofs.lemmas.List.Elements.{All-nil, All-get_or, All-push, All-s
 use Rattle.std.proofs.lemmas.List.Folds.{list_any_more}
 use Rattle.std.proofs.lemmas.List.FromFn.{length-map-range_with_len, get_or-map-range_with_len, map-range_with_len_more, fill_by_all}
 use Rattle.std.proofs.lemmas.Option.{slice_get-get_or, slice_get_past}
-use Rattle.pk_top.specs.declared.graph.Bracket.{Bracket}
 use Rattle.pk_top.specs.declared.graph.Edge.{Edge}
-use Rattle.pk_top.specs.FlowGraph.{FlowGraph, brackets, incoming, is_head, elements, IsWithin, EdgeWithin}
-use Rattle.pk_top.specs.Analyses.{sources, point_reads, exit_reads, bracket_of, reads_of}
-use Rattle.pk_top.specs.Indexes.{edges_at, AreIncoming, heads_of, all_reads}
-
--- ---- loops
-abbrev pub loops_of : List Edge → List Bracket
-loops_of edges = map (λ e. record { head = e.to; last = e.from }) (filter (λ e. leb e.to e.from) edges)
+use Rattle.pk_top.specs.FlowGraph.{FlowGraph, incoming, IsWithin, EdgeWithin}
+use Rattle.pk_top.specs.Analyses.{is_head, sources, point_reads, exit_reads, head_of, reads_of}
+use Rattle.pk_top.specs.Indexes.{edges_at, AreIncoming, head_tests, all_reads}
 
 -- ---- edges by their numbers
 edges_at-one : (g : FlowGraph) (n : ℕ) (e : Edge) → n < length g.edges → edges_at g (n ∷ []) ≡ get_or g.edges n e ∷ []
@@ -152,13 +147,13 @@ items_push vs more v is =
     let items : Vec ℕ Global → List ℕ = λ w. w.items in
     ap (map items) is ∙ map_push items vs v
 
--- ---- the heads of the first i loops
-pub record HeadsSoFar (points : ℕ) (loops : List Bracket) (i : ℕ) (heads : List Bool) : Type 0 where
-  pub long : length heads ≡ points
-  pub marks : (v : ℕ) → v < points → get_or heads v false ≡ list_any (λ l. eqb l.head v) (take i loops)
+-- ---- the tests of the first i heads
+pub record TestsSoFar (points : ℕ) (heads : List ℕ) (i : ℕ) (tests : List Bool) : Type 0 where
+  pub long : length tests ≡ points
+  pub marks : (v : ℕ) → v < points → get_or tests v false ≡ list_any (λ h. eqb h v) (take i heads)
 
-pub heads_none : (points : ℕ) (loops : List Bracket) (heads : List Bool) → heads ≡ replicate points false → HeadsSoFar points loops 0 heads
-heads_none points loops heads is = record {
+pub tests_none : (points : ℕ) (heads : List ℕ) (tests : List Bool) → tests ≡ replicate points false → TestsSoFar points heads 0 tests
+tests_none points heads tests is = record {
   long = ap length is ∙ length-replicate points false;
   marks = λ v h. ap (λ (bs : List Bool). get_or bs v false) is ∙ get_or-replicate points v false false h;
 }
@@ -171,55 +166,55 @@ or_false : (b : Bool) → (b || false) ≡ b
 or_false true = refl
 or_false false = refl
 
-pub heads_more : (points : ℕ) (loops : List Bracket) (i : ℕ) (heads more : List Bool) (d : Bracket) → HeadsSoFar points loops i heads → i < length loops → (get_or loops i d).head < points →
-    more ≡ set heads (get_or loops i d).head true → HeadsSoFar points loops (i + 1) more
-heads_more points loops i heads more d h k within is = record {
-  long = ap length is ∙ length-set heads first true ∙ h.long;
+pub tests_more : (points : ℕ) (heads : List ℕ) (i : ℕ) (tests more : List Bool) (d : ℕ) → TestsSoFar points heads i tests → i < length heads → get_or heads i d < points →
+    more ≡ set tests (get_or heads i d) true → TestsSoFar points heads (i + 1) more
+tests_more points heads i tests more d h k within is = record {
+  long = ap length is ∙ length-set tests first true ∙ h.long;
   marks = λ v l. ap (λ (bs : List Bool). get_or bs v false) is ∙ at v l (cases_eq v first);
 }
   where
     first : ℕ
-    first = (get_or loops i d).head
+    first = get_or heads i d
 
-    so_far : (v : ℕ) (b : Bool) → eqb first v ≡ b → list_any (λ l. eqb l.head v) (take (i + 1) loops) ≡ (list_any (λ l. eqb l.head v) (take i loops) || b)
-    so_far v b e = list_any_more (λ l. eqb l.head v) loops i d k ∙ ap (λ (c : Bool). list_any (λ l. eqb l.head v) (take i loops) || c) e
+    so_far : (v : ℕ) (b : Bool) → eqb first v ≡ b → list_any (λ l. eqb l v) (take (i + 1) heads) ≡ (list_any (λ l. eqb l v) (take i heads) || b)
+    so_far v b e = list_any_more (λ l. eqb l v) heads i d k ∙ ap (λ (c : Bool). list_any (λ l. eqb l v) (take i heads) || c) e
 
-    at : (v : ℕ) → v < points → (v ≡ first) ⊎ (v ≡ first → ⊥) → get_or (set heads first true) v false ≡ list_any (λ l. eqb l.head v) (take (i + 1) loops)
+    at : (v : ℕ) → v < points → (v ≡ first) ⊎ (v ≡ first → ⊥) → get_or (set tests first true) v false ≡ list_any (λ l. eqb l v) (take (i + 1) heads)
     at v l (inl e) =
-        ap (λ (w : ℕ). get_or (set heads first true) w false) e
-        ∙ get_or-set_same heads first true false (omega (arith, h.long))
-        ∙ sym (or_true (list_any (λ l. eqb l.head v) (take i loops)))
+        ap (λ (w : ℕ). get_or (set tests first true) w false) e
+        ∙ get_or-set_same tests first true false (omega (arith, h.long))
+        ∙ sym (or_true (list_any (λ l. eqb l v) (take i heads)))
         ∙ sym (so_far v true (eq-eqb first v (sym e)))
     at v l (inr e) =
-        get_or-set_other heads first v true false e
+        get_or-set_other tests first v true false e
         ∙ h.marks v l
-        ∙ sym (or_false (list_any (λ l. eqb l.head v) (take i loops)))
+        ∙ sym (or_false (list_any (λ l. eqb l v) (take i heads)))
         ∙ sym (so_far v false (ne_eqb first v (λ f. e (sym f))))
 
-pub heads_all : (g : FlowGraph) (loops : List Bracket) (i : ℕ) (heads : List Bool) → loops ≡ brackets g → HeadsSoFar (length g.points) loops i heads → length loops ≤ i → heads ≡ heads_of g
-heads_all g loops i heads e h k =
-    fill_by_all (is_head g) heads (length g.points) false h.long
-    (λ v l. h.marks v l ∙ ap (list_any (λ b. eqb b.head v)) (take_all i loops k ∙ e))
+pub tests_all : (g : FlowGraph) (heads : List ℕ) (i : ℕ) (tests : List Bool) → TestsSoFar (length g.points) heads i tests → length heads ≤ i → tests ≡ head_tests g heads
+tests_all g heads i tests h k =
+    fill_by_all (is_head heads) tests (length g.points) false h.long
+    (λ v l. h.marks v l ∙ ap (list_any (λ b. eqb b v)) (take_all i heads k))
 
-pub head_at : (g : FlowGraph) (heads : List Bool) (v : ℕ) → heads ≡ heads_of g → v < length g.points → get_or heads v false ≡ is_head g v
-head_at g heads v is l =
-    ap (λ (bs : List Bool). get_or bs v false) is ∙ get_or-map-range_with_len (is_head g) 0 (length g.points) v v false l (omega arith)
+pub test_at : (g : FlowGraph) (heads : List ℕ) (tests : List Bool) (v : ℕ) → tests ≡ head_tests g heads → v < length g.points → get_or tests v false ≡ is_head heads v
+test_at g heads tests v is l =
+    ap (λ (bs : List Bool). get_or bs v false) is ∙ get_or-map-range_with_len (is_head heads) 0 (length g.points) v v false l (omega arith)
 
-pub head_is : (g : FlowGraph) (heads : List Bool) (v : ℕ) (b : Bool) → heads ≡ heads_of g → v < length g.points → b ≡ get_or heads v b → is_head g v ≡ b
-head_is g heads v b is l at =
-    let long = ap length is ∙ length-map-range_with_len (is_head g) 0 (length g.points) in
-    sym (head_at g heads v is l) ∙ get_or_default heads v false b (omega arith) ∙ sym at
+pub test_is : (g : FlowGraph) (heads : List ℕ) (tests : List Bool) (v : ℕ) (b : Bool) → tests ≡ head_tests g heads → v < length g.points → b ≡ get_or tests v b → is_head heads v ≡ b
+test_is g heads tests v b is l at =
+    let long = ap length is ∙ length-map-range_with_len (is_head heads) 0 (length g.points) in
+    sym (test_at g heads tests v is l) ∙ get_or_default tests v false b (omega arith) ∙ sym at
 
 -- ---- what the elements read
-reads_of-point : (g : FlowGraph) (v : ℕ) → v < length g.points → reads_of g v ≡ point_reads g v
-reads_of-point g v l = ap (λ (b : Bool). cond b (point_reads g v) (exit_reads g (bracket_of g v))) (lt-ltb v (length g.points) l)
+reads_of-point : (g : FlowGraph) (heads : List ℕ) (v : ℕ) → v < length g.points → reads_of g heads v ≡ point_reads g heads v
+reads_of-point g heads v l = ap (λ (b : Bool). cond b (point_reads g heads v) (exit_reads g (head_of g heads v))) (lt-ltb v (length g.points) l)
 
-reads_of-exit : (g : FlowGraph) (e : ℕ) → length g.points ≤ e → reads_of g e ≡ exit_reads g (bracket_of g e)
-reads_of-exit g e l = ap (λ (b : Bool). cond b (point_reads g e) (exit_reads g (bracket_of g e))) (le-ltb e (length g.points) l)
+reads_of-exit : (g : FlowGraph) (heads : List ℕ) (e : ℕ) → length g.points ≤ e → reads_of g heads e ≡ exit_reads g (head_of g heads e)
+reads_of-exit g heads e l = ap (λ (b : Bool). cond b (point_reads g heads e) (exit_reads g (head_of g heads e))) (le-ltb e (length g.points) l)
 
-pub reads_of-past : (g : FlowGraph) (e : ℕ) → length g.points + length (brackets g) ≤ e → reads_of g e ≡ []
-reads_of-past g e l =
-    reads_of-exit g e (omega arith) ∙ ap (exit_reads g) (slice_get_past (brackets g) (e - length g.points) (omega arith))
+pub reads_of-past : (g : FlowGraph) (heads : List ℕ) (e : ℕ) → length g.points + length heads ≤ e → reads_of g heads e ≡ []
+reads_of-past g heads e l =
+    reads_of-exit g heads e (omega arith) ∙ ap (exit_reads g) (slice_get_past heads (e - length g.points) (omega arith))
 
 -- the element that a point reads beside its sources: itself, where it is a head
 abbrev pub own_read : ℕ → Bool → Option ℕ
@@ -230,54 +225,53 @@ own_read-point : (g : FlowGraph) (v : ℕ) (b : Bool) → option_to_list (own_re
 own_read-point g v true = refl
 own_read-point g v false = refl
 
-pub own_is : (g : FlowGraph) (heads : List Bool) (v : ℕ) (b : Bool) → heads ≡ heads_of g → v < length g.points → get_or heads v false ≡ b → own_read v b ≡ own_read v (is_head g v)
-own_is g heads v b is l e = ap (own_read v) (sym e ∙ head_at g heads v is l)
+pub own_is : (g : FlowGraph) (heads : List ℕ) (tests : List Bool) (v : ℕ) (b : Bool) → tests ≡ head_tests g heads → v < length g.points → get_or tests v false ≡ b → own_read v b ≡ own_read v (is_head heads v)
+own_is g heads tests v b is l e = ap (own_read v) (sym e ∙ test_at g heads tests v is l)
 
-pub point_pushed : (g : FlowGraph) (lists so_far more : List (List ℕ)) (list numbers : List ℕ) (v : ℕ) (itself : Option ℕ) → AreIncoming g lists → v < length g.points →
-    numbers ≡ get_or lists v [] → itself ≡ own_read v (is_head g v) → list ≡ option_to_list itself ++ sources_at g numbers →
-    so_far ≡ map (reads_of g) (range_with_len 0 v) → more ≡ so_far ++ list ∷ [] → more ≡ map (reads_of g) (range_with_len 0 (v + 1))
-point_pushed g lists so_far more list numbers v itself h l is_at own is before pushed =
-    let one : list ≡ reads_of g v =
+pub point_pushed : (g : FlowGraph) (heads : List ℕ) (lists so_far more : List (List ℕ)) (list numbers : List ℕ) (v : ℕ) (itself : Option ℕ) → AreIncoming g lists → v < length g.points →
+    numbers ≡ get_or lists v [] → itself ≡ own_read v (is_head heads v) → list ≡ option_to_list itself ++ sources_at g numbers →
+    so_far ≡ map (reads_of g heads) (range_with_len 0 v) → more ≡ so_far ++ list ∷ [] → more ≡ map (reads_of g heads) (range_with_len 0 (v + 1))
+point_pushed g heads lists so_far more list numbers v itself h l is_at own is before pushed =
+    let one : list ≡ reads_of g heads v =
     is
     ∙ ap (λ (o : Option ℕ). option_to_list o ++ sources_at g numbers) own
-    ∙ ap (λ (ns : List ℕ). option_to_list (own_read v (is_head g v)) ++ sources_at g ns) is_at
-    ∙ ap (λ (es : List Edge). option_to_list (own_read v (is_head g v)) ++ map (λ (e : Edge). e.from) es) (incoming_at g lists v h l)
-    ∙ own_read-point g v (is_head g v)
-    ∙ sym (reads_of-point g v l) in
+    ∙ ap (λ (ns : List ℕ). option_to_list (own_read v (is_head heads v)) ++ sources_at g ns) is_at
+    ∙ ap (λ (es : List Edge). option_to_list (own_read v (is_head heads v)) ++ map (λ (e : Edge). e.from) es) (incoming_at g lists v h l)
+    ∙ own_read-point g v (is_head heads v)
+    ∙ sym (reads_of-point g heads v l) in
     pushed ∙ ap (λ (xs : List (List ℕ)). xs ++ list ∷ []) before
-    ∙ ap (λ (xs : List ℕ). map (reads_of g) (range_with_len 0 v) ++ xs ∷ []) one
-    ∙ sym (map-range_with_len_more (reads_of g) 0 v v (omega arith))
+    ∙ ap (λ (xs : List ℕ). map (reads_of g heads) (range_with_len 0 v) ++ xs ∷ []) one
+    ∙ sym (map-range_with_len_more (reads_of g heads) 0 v v (omega arith))
 
-pub exit_pushed : (g : FlowGraph) (loops : List Bracket) (lists so_far more : List (List ℕ)) (list numbers : List ℕ) (k n next : ℕ) (d : Bracket) → AreIncoming g lists → loops ≡ brackets g →
-    k < length loops → n ≡ length g.points + k → n + 1 ≡ next → (get_or loops k d).head < length g.points →
-    numbers ≡ get_or lists (get_or loops k d).head [] → list ≡ (get_or loops k d).head ∷ sources_at g numbers →
-    so_far ≡ map (reads_of g) (range_with_len 0 n) → more ≡ so_far ++ list ∷ [] → more ≡ map (reads_of g) (range_with_len 0 next)
-exit_pushed g loops lists so_far more list numbers k n next d h loops_are l e f within is_at is before pushed =
-    let b : Bracket = get_or loops k d in
+pub exit_pushed : (g : FlowGraph) (heads : List ℕ) (lists so_far more : List (List ℕ)) (list numbers : List ℕ) (k n next d : ℕ) → AreIncoming g lists →
+    k < length heads → n ≡ length g.points + k → n + 1 ≡ next → get_or heads k d < length g.points →
+    numbers ≡ get_or lists (get_or heads k d) [] → list ≡ get_or heads k d ∷ sources_at g numbers →
+    so_far ≡ map (reads_of g heads) (range_with_len 0 n) → more ≡ so_far ++ list ∷ [] → more ≡ map (reads_of g heads) (range_with_len 0 next)
+exit_pushed g heads lists so_far more list numbers k n next d h l e f within is_at is before pushed =
+    let head : ℕ = get_or heads k d in
     let place : n - length g.points ≡ k = omega arith in
-    let bracket : bracket_of g n ≡ Some b =
-    ap (slice_get (brackets g)) place ∙ ap (λ (ls : List Bracket). slice_get ls k) (sym loops_are) ∙ slice_get-get_or loops k d l in
-    let one : list ≡ reads_of g n =
+    let found : head_of g heads n ≡ Some head = ap (slice_get heads) place ∙ slice_get-get_or heads k d l in
+    let one : list ≡ reads_of g heads n =
     is
-    ∙ ap (λ (ns : List ℕ). b.head ∷ sources_at g ns) is_at
-    ∙ ap (λ (es : List Edge). b.head ∷ map (λ (x : Edge). x.from) es) (incoming_at g lists b.head h within)
-    ∙ sym (reads_of-exit g n (omega arith) ∙ ap (exit_reads g) bracket) in
+    ∙ ap (λ (ns : List ℕ). head ∷ sources_at g ns) is_at
+    ∙ ap (λ (es : List Edge). head ∷ map (λ (x : Edge). x.from) es) (incoming_at g lists head h within)
+    ∙ sym (reads_of-exit g heads n (omega arith) ∙ ap (exit_reads g) found) in
     pushed ∙ ap (λ (xs : List (List ℕ)). xs ++ list ∷ []) before
-    ∙ ap (λ (xs : List ℕ). map (reads_of g) (range_with_len 0 n) ++ xs ∷ []) one
-    ∙ sym (map-range_with_len_more (reads_of g) 0 n n (omega arith))
-    ∙ ap (λ (m : ℕ). map (reads_of g) (range_with_len 0 m)) f
+    ∙ ap (λ (xs : List ℕ). map (reads_of g heads) (range_with_len 0 n) ++ xs ∷ []) one
+    ∙ sym (map-range_with_len_more (reads_of g heads) 0 n n (omega arith))
+    ∙ ap (λ (m : ℕ). map (reads_of g heads) (range_with_len 0 m)) f
 
-pub end_pushed : (g : FlowGraph) (so_far more : List (List ℕ)) (n : ℕ) → n ≡ length g.points + length (brackets g) →
-    so_far ≡ map (reads_of g) (range_with_len 0 n) → more ≡ so_far ++ [] ∷ [] → more ≡ all_reads g
-end_pushed g so_far more n e before pushed =
+pub end_pushed : (g : FlowGraph) (heads : List ℕ) (so_far more : List (List ℕ)) (n : ℕ) → n ≡ length g.points + length heads →
+    so_far ≡ map (reads_of g heads) (range_with_len 0 n) → more ≡ so_far ++ [] ∷ [] → more ≡ all_reads g heads
+end_pushed g heads so_far more n e before pushed =
     pushed ∙ ap (λ (xs : List (List ℕ)). xs ++ [] ∷ []) before
-    ∙ ap (λ (xs : List ℕ). map (reads_of g) (range_with_len 0 n) ++ xs ∷ []) (sym (reads_of-past g n (omega arith)))
-    ∙ sym (map-range_with_len_more (reads_of g) 0 n n (omega arith))
-    ∙ ap (λ (m : ℕ). map (reads_of g) (range_with_len 0 (m + 1))) e
+    ∙ ap (λ (xs : List ℕ). map (reads_of g heads) (range_with_len 0 n) ++ xs ∷ []) (sym (reads_of-past g heads n (omega arith)))
+    ∙ sym (map-range_with_len_more (reads_of g heads) 0 n n (omega arith))
+    ∙ ap (λ (m : ℕ). map (reads_of g heads) (range_with_len 0 (m + 1))) e
 
-pub reads_long : (g : FlowGraph) (reads : List (List ℕ)) → reads ≡ all_reads g → length reads ≡ elements g
-reads_long g reads is = ap length is ∙ length-map-range_with_len (reads_of g) 0 (elements g)
+pub reads_long : (g : FlowGraph) (heads : List ℕ) (reads : List (List ℕ)) → reads ≡ all_reads g heads → length reads ≡ length g.points + length heads + 1
+reads_long g heads reads is = ap length is ∙ length-map-range_with_len (reads_of g heads) 0 (length g.points + length heads + 1)
 
-pub reads_at : (g : FlowGraph) (reads : List (List ℕ)) (e : ℕ) → reads ≡ all_reads g → e < elements g → get_or reads e [] ≡ reads_of g e
-reads_at g reads e is l =
-    ap (λ (xs : List (List ℕ)). get_or xs e []) is ∙ get_or-map-range_with_len (reads_of g) 0 (elements g) e e [] l (omega arith)
+pub reads_at : (g : FlowGraph) (heads : List ℕ) (reads : List (List ℕ)) (e : ℕ) → reads ≡ all_reads g heads → e < length g.points + length heads + 1 → get_or reads e [] ≡ reads_of g heads e
+reads_at g heads reads e is l =
+    ap (λ (xs : List (List ℕ)). get_or xs e []) is ∙ get_or-map-range_with_len (reads_of g heads) 0 (length g.points + length heads + 1) e e [] l (omega arith)

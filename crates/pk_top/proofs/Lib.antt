@@ -8,7 +8,6 @@ pub mod Texts
 pub mod NameLists
 pub mod Folding
 pub mod Sizes
-pub mod Loops
 pub mod Graphs
 pub mod Derived
 pub mod IntRanges
@@ -23,7 +22,8 @@ pub mod ReportLemmas
 pub mod Accepting
 pub mod Stops
 pub mod Answering
-pub mod OrderLemmas
+pub mod TargetLemmas
 pub mod IndexLemmas
 pub mod AnalysisLemmas
 pub mod Reduced
+pub mod Ordering

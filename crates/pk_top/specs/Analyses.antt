@@ -1,14 +1,13 @@
 -- The analysis of a graph as a system of cells: a point's cell is an abstract state, an exit's is a phase.
 -- Without narrowing a component is gone through until its head is stable, and its phase is always Up.
 use Rattle.std.specs.Prelude.{ℕ, ◌-◌, ◌==◌, nat_lt, Bool, true, false, List, [], ◌∷◌, length, map, fold, Option, Some, None, slice_get, if◌then◌else◌}
-use Rattle.std.specs.List.{zip}
+use Rattle.std.specs.List.{zip, list_any}
 use Rattle.pk_iterate.specs.declared.systems.Decision.{Decision}
 use Rattle.pk_iterate.specs.declared.systems.Decision.TheVariants.{Stable, Again}
 use Rattle.pk_iterate.specs.Behaviour.{Behaviour}
 use Rattle.pk_top.specs.declared.analysis.Cell.{Cell}
 use Rattle.pk_top.specs.declared.analysis.Cell.TheVariants.{Point, Up}
-use Rattle.pk_top.specs.declared.graph.Bracket.{Bracket}
-use Rattle.pk_top.specs.FlowGraph.{FlowGraph, variables, incoming, brackets, is_head}
+use Rattle.pk_top.specs.FlowGraph.{FlowGraph, variables, incoming}
 use Rattle.pk_top.specs.States.{AbstractState, HasWidth, zeros, state_join, state_within, state_widened}
 use Rattle.pk_top.specs.Transfers.{transferred}
 use Rattle.pk_top.specs.Thresholds.{thresholds_of}
@@ -17,20 +16,25 @@ use Rattle.pk_top.specs.Thresholds.{thresholds_of}
 abbrev pub sources : FlowGraph → ℕ → List ℕ
 sources g v = map (λ e. e.from) (incoming g v)
 
+-- whether a point is among the heads of the components
+abbrev pub is_head : List ℕ → ℕ → Bool
+is_head heads v = list_any (λ h. h == v) heads
+
 -- a head reads itself too
-abbrev pub point_reads : FlowGraph → ℕ → List ℕ
-point_reads g v = if is_head g v then v ∷ sources g v else sources g v
+abbrev pub point_reads : FlowGraph → List ℕ → ℕ → List ℕ
+point_reads g heads v = if is_head heads v then v ∷ sources g v else sources g v
 
 -- an exit reads its head, and what the head reads
-abbrev pub exit_reads : FlowGraph → Option Bracket → List ℕ
+abbrev pub exit_reads : FlowGraph → Option ℕ → List ℕ
 exit_reads g None = []
-exit_reads g (Some l) = l.head ∷ sources g l.head
+exit_reads g (Some head) = head ∷ sources g head
 
-abbrev pub bracket_of : FlowGraph → ℕ → Option Bracket
-bracket_of g x = slice_get (brackets g) (x - length g.points)
+-- the head of the component whose exit an element is: exits are numbered after the points, in the order of the heads
+abbrev pub head_of : FlowGraph → List ℕ → ℕ → Option ℕ
+head_of g heads x = slice_get heads (x - length g.points)
 
-abbrev pub reads_of : FlowGraph → ℕ → List ℕ
-reads_of g e = if nat_lt e (length g.points) then point_reads g e else exit_reads g (bracket_of g e)
+abbrev pub reads_of : FlowGraph → List ℕ → ℕ → List ℕ
+reads_of g heads e = if nat_lt e (length g.points) then point_reads g heads e else exit_reads g (head_of g heads e)
 
 abbrev pub state_of : Cell → AbstractState
 state_of (Point s) = s
@@ -53,27 +57,33 @@ abbrev pub head_value : FlowGraph → ℕ → List Cell → AbstractState
 head_value g v [] = None
 head_value g v (h ∷ inputs) = state_widened (thresholds_of g) (state_of h) (equation g v inputs)
 
-abbrev pub point_value : FlowGraph → ℕ → List Cell → AbstractState
-point_value g v inputs = if is_head g v then head_value g v inputs else equation g v inputs
+abbrev pub point_value : FlowGraph → List ℕ → ℕ → List Cell → AbstractState
+point_value g heads v inputs = if is_head heads v then head_value g v inputs else equation g v inputs
 
-abbrev pub cell_of : FlowGraph → ℕ → List Cell → Cell
-cell_of g e inputs = if nat_lt e (length g.points) then Point (point_value g e inputs) else Up
+abbrev pub cell_of : FlowGraph → List ℕ → ℕ → List Cell → Cell
+cell_of g heads e inputs = if nat_lt e (length g.points) then Point (point_value g heads e inputs) else Up
 
 -- an exit is stable where what the head's equation gives is below the head's value
 abbrev pub decided_by : FlowGraph → ℕ → List Cell → Decision Cell
 decided_by g head [] = Stable Up
 decided_by g head (h ∷ inputs) = if state_within (equation g head inputs) (state_of h) then Stable Up else Again Up
 
-abbrev pub decision_at : FlowGraph → Option Bracket → List Cell → Decision Cell
+abbrev pub decision_at : FlowGraph → Option ℕ → List Cell → Decision Cell
 decision_at g None inputs = Stable Up
-decision_at g (Some l) inputs = decided_by g l.head inputs
+decision_at g (Some head) inputs = decided_by g head inputs
 
 -- a point decides nothing
-abbrev pub decision_of : FlowGraph → ℕ → List Cell → Decision Cell
-decision_of g x inputs = if nat_lt x (length g.points) then Stable (Point None) else decision_at g (bracket_of g x) inputs
+abbrev pub decision_of : FlowGraph → List ℕ → ℕ → List Cell → Decision Cell
+decision_of g heads x inputs = if nat_lt x (length g.points) then Stable (Point None) else decision_at g (head_of g heads x) inputs
 
-abbrev pub behaviour_of : FlowGraph → Behaviour Cell
-behaviour_of g = record { reads = reads_of g; first = first_cell g; apply = cell_of g; decide = decision_of g }
+-- a graph, and the heads of its components
+pub record Headed : Type 0 where
+  pub graph : FlowGraph
+  pub heads : List ℕ
+
+-- what the graph's elements do, where these are the heads of its components
+abbrev pub behaviour_of : FlowGraph → List ℕ → Behaviour Cell
+behaviour_of g heads = record { reads = reads_of g heads; first = first_cell g; apply = cell_of g heads; decide = decision_of g heads }
 
 -- a point may hold the states over the graph's variables, an exit and the end the phase
 abbrev pub IsCellOf : FlowGraph → Bool → Cell → Type 0

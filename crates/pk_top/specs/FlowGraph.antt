@@ -1,6 +1,6 @@
 -- Control-flow graphs: points, and edges with one instruction each.
-use Rattle.std.specs.Prelude.{ℕ, ◌+◌, ◌<◌, ◌≤◌, ◌==◌, List, length, map, filter, nat_le, All, IsTrue, Bool}
-use Rattle.std.specs.List.{list_any}
+use Rattle.std.specs.Prelude.{ℕ, ◌+◌, ◌<◌, ◌≤◌, ◌==◌, List, length, map, filter, All, IsTrue}
+use Rattle.std.specs.List.{range_with_len}
 use Rattle.pk_top.specs.declared.graph.Operand.{Operand}
 use Rattle.pk_top.specs.declared.graph.Operand.TheVariants.{Variable, Constant}
 use Rattle.pk_top.specs.declared.graph.Tree.{Tree}
@@ -10,7 +10,6 @@ use Rattle.pk_top.specs.declared.graph.Instr.{Instr}
 use Rattle.pk_top.specs.declared.graph.Instr.TheVariants.{Skip, Set, Guard}
 use Rattle.pk_top.specs.declared.graph.Edge.{Edge}
 use Rattle.pk_top.specs.declared.graph.Point.{Point}
-use Rattle.pk_top.specs.declared.graph.Bracket.{Bracket}
 use Rattle.pk_top.specs.Ranges.{is_int}
 
 -- The declared names in order, the points by number, and the edges in the order in which they were made.
@@ -27,22 +26,13 @@ variables g = length g.names + 1
 abbrev pub incoming : FlowGraph → ℕ → List Edge
 incoming g v = filter (λ e. e.to == v) g.edges
 
--- the loops, in order: an edge that leads back goes from the last point of a loop's body to its head
-abbrev pub brackets : FlowGraph → List Bracket
-brackets g = map (λ e. record { head = e.to; last = e.from }) (filter (λ e. nat_le e.to e.from) g.edges)
+-- the points to which edges lead from a point, in order
+abbrev pub targets : FlowGraph → ℕ → List ℕ
+targets g v = map (λ e. e.to) (filter (λ e. e.from == v) g.edges)
 
-abbrev pub is_head : FlowGraph → ℕ → Bool
-is_head g v = list_any (λ l. l.head == v) (brackets g)
-
--- Elements are numbered: the points, then the exit of each loop in the order of the heads, then the end.
-abbrev pub exit_number : FlowGraph → ℕ → ℕ
-exit_number g k = length g.points + k
-
-abbrev pub end_number : FlowGraph → ℕ
-end_number g = exit_number g (length (brackets g))
-
-abbrev pub elements : FlowGraph → ℕ
-elements g = end_number g + 1
+-- the graph without its instructions
+abbrev pub digraph_of : FlowGraph → List (List ℕ)
+digraph_of g = map (targets g) (range_with_len 0 (length g.points))
 
 -- what a graph keeps within its bounds: variables are numbered below n, constants are of type int
 

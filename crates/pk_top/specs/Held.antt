@@ -5,13 +5,12 @@ use Rattle.pk_iterate.specs.declared.systems.Decision.TheVariants.{Stable, Again
 use Rattle.pk_iterate.specs.Behaviour.{HoldEach, decided_cell}
 use Rattle.pk_top.specs.declared.analysis.Cell.{Cell}
 use Rattle.pk_top.specs.declared.analysis.Cell.TheVariants.{Point, Up}
-use Rattle.pk_top.specs.declared.graph.Bracket.{Bracket}
 use Rattle.pk_top.specs.declared.graph.Edge.{Edge}
-use Rattle.pk_top.specs.FlowGraph.{FlowGraph, variables, incoming, is_head}
+use Rattle.pk_top.specs.FlowGraph.{FlowGraph, variables, incoming}
 use Rattle.pk_top.specs.States.{AbstractState, HasWidth, zeros, state_join, state_within}
 use Rattle.pk_top.specs.Transfers.{transferred}
 use Rattle.pk_top.specs.Thresholds.{thresholds_of}
-use Rattle.pk_top.specs.Analyses.{sources, point_reads, exit_reads, bracket_of, reads_of, state_of, first_cell, start_at, equation, head_value, point_value, cell_of, decided_by, decision_at, decision_of, IsCellOf, MayHold}
+use Rattle.pk_top.specs.Analyses.{is_head, sources, point_reads, exit_reads, head_of, reads_of, state_of, first_cell, start_at, equation, head_value, point_value, cell_of, decided_by, decision_at, decision_of, IsCellOf, MayHold}
 use Rattle.pk_top.specs.Widths.{HasWidth-zeros, HasWidth-if_some, HasWidth-state_join, HasWidth-state_widened, HasWidth-transferred}
 
 first_is : (g : FlowGraph) (b : Bool) → IsCellOf g b (if b then Point None else Up)
@@ -50,13 +49,13 @@ width_of_point_value : (g : FlowGraph) (v : ℕ) (b : Bool) (cells : List Cell) 
 width_of_point_value g v true cells held = width_of_head_value g v cells held
 width_of_point_value g v false cells held = width_of_equation g v cells held
 
-applied_is : (g : FlowGraph) (e : ℕ) (b : Bool) (cells : List Cell) → HoldEach (MayHold g) (if b then point_reads g e else exit_reads g (bracket_of g e)) cells →
-    IsCellOf g b (if b then Point (point_value g e cells) else Up)
-applied_is g e true cells held = width_of_point_value g e (is_head g e) cells held
-applied_is g e false cells held = tt
+applied_is : (g : FlowGraph) (heads : List ℕ) (e : ℕ) (b : Bool) (cells : List Cell) → HoldEach (MayHold g) (if b then point_reads g heads e else exit_reads g (head_of g heads e)) cells →
+    IsCellOf g b (if b then Point (point_value g heads e cells) else Up)
+applied_is g heads e true cells held = width_of_point_value g e (is_head heads e) cells held
+applied_is g heads e false cells held = tt
 
-pub apply_may_hold : (g : FlowGraph) (e : ℕ) (cells : List Cell) → HoldEach (MayHold g) (reads_of g e) cells → MayHold g e (cell_of g e cells)
-apply_may_hold g e cells held = applied_is g e (nat_lt e (length g.points)) cells held
+pub apply_may_hold : (g : FlowGraph) (heads : List ℕ) (e : ℕ) (cells : List Cell) → HoldEach (MayHold g) (reads_of g heads e) cells → MayHold g e (cell_of g heads e cells)
+apply_may_hold g heads e cells held = applied_is g heads e (nat_lt e (length g.points)) cells held
 
 decided_if : (g : FlowGraph) (b : Bool) → IsCellOf g false (decided_cell (if b then Stable Up else Again Up))
 decided_if g true = tt
@@ -66,13 +65,13 @@ decided_by_is : (g : FlowGraph) (head : ℕ) (cells : List Cell) → IsCellOf g 
 decided_by_is g head [] = tt
 decided_by_is g head (h ∷ inputs) = decided_if g (state_within (equation g head inputs) (state_of h))
 
-decision_at_is : (g : FlowGraph) (l : Option Bracket) (cells : List Cell) → IsCellOf g false (decided_cell (decision_at g l cells))
+decision_at_is : (g : FlowGraph) (head : Option ℕ) (cells : List Cell) → IsCellOf g false (decided_cell (decision_at g head cells))
 decision_at_is g None cells = tt
-decision_at_is g (Some l) cells = decided_by_is g l.head cells
+decision_at_is g (Some head) cells = decided_by_is g head cells
 
-decided_is : (g : FlowGraph) (x : ℕ) (b : Bool) (cells : List Cell) → IsCellOf g b (decided_cell (if b then Stable (Point None) else decision_at g (bracket_of g x) cells))
-decided_is g x true cells = tt
-decided_is g x false cells = decision_at_is g (bracket_of g x) cells
+decided_is : (g : FlowGraph) (heads : List ℕ) (x : ℕ) (b : Bool) (cells : List Cell) → IsCellOf g b (decided_cell (if b then Stable (Point None) else decision_at g (head_of g heads x) cells))
+decided_is g heads x true cells = tt
+decided_is g heads x false cells = decision_at_is g (head_of g heads x) cells
 
-pub decide_may_hold : (g : FlowGraph) (x : ℕ) (cells : List Cell) → HoldEach (MayHold g) (reads_of g x) cells → MayHold g x (decided_cell (decision_of g x cells))
-decide_may_hold g x cells held = decided_is g x (nat_lt x (length g.points)) cells
+pub decide_may_hold : (g : FlowGraph) (heads : List ℕ) (x : ℕ) (cells : List Cell) → HoldEach (MayHold g) (reads_of g heads x) cells → MayHold g x (decided_cell (decision_of g heads x cells))
+decide_may_hold g heads x cells held = decided_is g heads x (nat_lt x (length g.points)) cells

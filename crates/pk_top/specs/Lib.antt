@@ -15,7 +15,6 @@ pub mod Analyses
 pub mod Indexes
 pub mod Widths
 pub mod Held
-pub mod Orders
 pub mod Verdicts
 pub mod Reports
 pub mod Congruences

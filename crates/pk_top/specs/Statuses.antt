@@ -4,12 +4,13 @@ use Rattle.std.specs.Fmt.{decimal}
 use Rattle.pk_top.specs.declared.status.Status.{Status}
 use Rattle.pk_top.specs.declared.status.Status.TheVariants.{Ok, Usage, Refused, Limit, RunLimit, ReadFault, WriteFault, Memory}
 use Rattle.pk_top.specs.declared.status.Refusal.{Refusal}
-use Rattle.pk_top.specs.declared.status.Refusal.TheVariants.{Unsupported}
+use Rattle.pk_top.specs.declared.status.Refusal.TheVariants.{Unsupported, NoEntry}
 use Rattle.pk_ctypes.specs.Places.{pos_text}
 use Rattle.pk_ctypes.specs.Words.{construct_text, quantity_text}
 
 abbrev pub refusal_text : Refusal → List ℕ
 refusal_text (Unsupported construct at) = codes "unsupported " ++ construct_text construct ++ codes " at " ++ pos_text at
+refusal_text (NoEntry name) = codes "no entry " ++ name
 
 abbrev pub status_text : Status → List ℕ
 status_text (Ok unknown) = []

@@ -1,14 +1,14 @@
 // The analysis of a graph as a system of cells.
 
-ghost use Rattle.std.specs.Prelude.{◌≡◌, ℕ, ◌<◌, ◌++◌, ◌^◌, All, IfOk, length, map, option_to_list};
+ghost use Rattle.std.specs.Prelude.{◌≡◌, ℕ, ◌+◌, ◌<◌, ◌++◌, ◌^◌, All, IfOk, length, map, option_to_list};
 ghost use Rattle.std.specs.Arc.{arc_value};
-ghost use Rattle.pk_top.specs.FlowGraph.{brackets as brackets_of, elements, IsWithin, InstrWithin};
+ghost use Rattle.pk_top.specs.FlowGraph.{IsWithin, InstrWithin};
 ghost use Rattle.pk_top.specs.States.{state_join};
 ghost use Rattle.pk_top.specs.Transfers.{transferred};
 ghost use Rattle.pk_top.specs.Analyses.{start_at, equation};
-ghost use Rattle.pk_top.specs.Indexes.{AreIncoming, edges_at, heads_of, all_reads};
+ghost use Rattle.pk_top.specs.Indexes.{AreIncoming, edges_at, head_tests as head_tests_of, all_reads};
 
-use crate::graph::{Bracket, Graph, Instr};
+use crate::graph::{Graph, Instr};
 use crate::state::State;
 use crate::thresholds::Thresholds;
 use crate::transfer::transfer;
@@ -29,29 +29,14 @@ pub enum Cell {
 pub struct Analysis<'g> {
     graph: &'g Graph,
     thresholds: Thresholds,
-    brackets: Vec<Bracket>,
+    // the heads of the components, in rising order
+    heads: Vec<u32>,
     // for each point, the numbers of the edges that lead to it
     incoming: Vec<Vec<u32>>,
     // for each point, whether it is a head
-    heads: Vec<bool>,
+    tests: Vec<bool>,
     // for each element, what it reads
     reads: Vec<Vec<u32>>,
-}
-
-/// The loops of a graph, in order.
-pub fn brackets(alloc: Global, graph: &Graph) -> Result<Vec<Bracket>, AllocError>
-    ensures { IfOk result (λ v. v.items ≡ brackets_of graph.now) }
-{
-    let mut found = Vec::new(alloc);
-    for edge in graph.edges() {
-        if edge.to <= edge.from {
-            found.push(Bracket {
-                head: edge.to,
-                last: edge.from,
-            })?;
-        }
-    }
-    Ok(found)
 }
 
 // For each point, the numbers of the edges that lead to it.
@@ -72,16 +57,15 @@ fn incoming(alloc: Global, graph: &Graph) -> Result<Vec<Vec<u32>>, AllocError>
 }
 
 /// For each point, whether it is a head.
-pub fn heads(alloc: Global, graph: &Graph, brackets: &[Bracket]) -> Result<Vec<bool>, AllocError>
-    requires within { IsWithin graph.now }
-    requires brackets { brackets.now ≡ brackets_of graph.now }
-    ensures { IfOk result (λ heads. heads.items ≡ heads_of graph.now) }
+pub fn head_tests(alloc: Global, graph: &Graph, heads: &[u32]) -> Result<Vec<bool>, AllocError>
+    requires heads { All (λ h. h < length graph.now.points) heads.now }
+    ensures { IfOk result (λ tests. tests.items ≡ head_tests_of graph.now heads.now) }
 {
-    let mut heads = vec![in alloc; false; graph.points().len()]?;
-    for it in brackets {
-        heads[it.head as usize] = true;
+    let mut tests = vec![in alloc; false; graph.points().len()]?;
+    for head in heads {
+        tests[*head as usize] = true;
     }
-    Ok(heads)
+    Ok(tests)
 }
 
 // An element, if there is one, and the points from which these edges come.
@@ -108,24 +92,24 @@ fn with_sources(
 fn reads(
     alloc: Global,
     graph: &Graph,
-    brackets: &[Bracket],
+    heads: &[u32],
     incoming: &[Vec<u32>],
-    heads: &[bool],
+    tests: &[bool],
 ) -> Result<Vec<Vec<u32>>, AllocError>
     requires within { IsWithin graph.now }
-    requires small { elements graph.now < 2 ^ 32 }
-    requires brackets { brackets.now ≡ brackets_of graph.now }
+    requires small { length graph.now.points < 2 ^ 31 }
+    requires heads { All (λ h. h < length graph.now.points) heads.now }
     requires incoming { AreIncoming graph.now (map (λ v. v.items) incoming.now) }
-    requires heads { heads.now ≡ heads_of graph.now }
-    ensures { IfOk result (λ lists. map (λ v. v.items) lists.items ≡ all_reads graph.now) }
+    requires tests { tests.now ≡ head_tests_of graph.now heads.now }
+    ensures { IfOk result (λ lists. map (λ v. v.items) lists.items ≡ all_reads graph.now heads.now) }
 {
-    let mut lists = Vec::with_capacity(alloc, incoming.len() + brackets.len() + 1)?;
+    let mut lists = Vec::with_capacity(alloc, incoming.len() + heads.len() + 1)?;
     for v in 0..incoming.len() {
-        let itself = if heads[v] { Some(v as u32) } else { None };
+        let itself = if tests[v] { Some(v as u32) } else { None };
         lists.push(with_sources(alloc, graph, itself, &incoming[v])?)?;
     }
-    for it in brackets {
-        lists.push(with_sources(alloc, graph, Some(it.head), &incoming[it.head as usize])?)?;
+    for head in heads {
+        lists.push(with_sources(alloc, graph, Some(*head), &incoming[*head as usize])?)?;
     }
     lists.push(Vec::new(alloc))?;
     Ok(lists)
@@ -140,31 +124,38 @@ fn joined(alloc: Global, state: State, instr: &Instr, before: &State) -> Result<
 }
 
 impl<'g> Analysis<'g> {
-    /// The analysis of a graph.
-    pub fn new(alloc: Global, graph: &'g Graph) -> Result<Analysis<'g>, AllocError>
+    /// The analysis of a graph, by the heads of its components in rising order.
+    pub fn new(alloc: Global, graph: &'g Graph, heads: Vec<u32>) -> Result<Analysis<'g>, AllocError>
         requires within { IsWithin graph.now }
-        requires small { elements graph.now < 2 ^ 32 }
+        requires small { length graph.now.points < 2 ^ 31 }
+        requires heads { All (λ h. h < length graph.now.points) heads.items }
         requires edges { length graph.now.edges < 2 ^ 32 }
-        ensures { IfOk result (λ a. a ≡ graph.now) }
+        ensures { IfOk result (λ a. a ≡ record { graph = graph.now; heads = heads.items }) }
     {
         let thresholds = Thresholds::new(alloc, graph)?;
-        let brackets = brackets(alloc, graph)?;
         let incoming = incoming(alloc, graph)?;
-        let heads = heads(alloc, graph, &brackets)?;
-        let reads = reads(alloc, graph, &brackets, &incoming, &heads)?;
+        let tests = head_tests(alloc, graph, &heads)?;
+        let reads = reads(alloc, graph, &heads, &incoming, &tests)?;
         Ok(Analysis {
             graph,
             thresholds,
-            brackets,
-            incoming,
             heads,
+            incoming,
+            tests,
             reads,
         })
     }
 
+    /// The heads of the components, in rising order.
+    pub fn heads(&self) -> &[u32]
+        ensures { result.now ≡ self.now.heads }
+    {
+        self.heads.as_slice()
+    }
+
     // What a point begins with: at the entry each variable is 0.
     fn start(&self, alloc: Global, v: u32) -> Result<State, AllocError>
-        ensures { IfOk result (λ s. s ≡ start_at self.now v) }
+        ensures { IfOk result (λ s. s ≡ start_at self.now.graph v) }
     {
         if v == 0 {
             State::zeros(alloc, self.graph.names().len() + 1)
@@ -175,8 +166,8 @@ impl<'g> Analysis<'g> {
 
     // What the point equation gives at v, from the cells of the points before it.
     fn equation(&self, alloc: Global, v: u32, inputs: &[Arc<Cell>]) -> Result<State, AllocError>
-        requires { v < length self.now.points }
-        ensures { IfOk result (λ s. s ≡ equation self.now v (map arc_value inputs.now)) }
+        requires { v < length self.now.graph.points }
+        ensures { IfOk result (λ s. s ≡ equation self.now.graph v (map arc_value inputs.now)) }
     {
         let mut state = self.start(alloc, v)?;
         for (i, input) in self.incoming[v as usize].iter().zip(inputs) {
@@ -190,16 +181,16 @@ impl<'g> Analysis<'g> {
 }
 
 impl<'g> Model for Analysis<'g> {
-    ghost use Rattle.pk_top.specs.FlowGraph.{FlowGraph};
+    ghost use Rattle.pk_top.specs.Analyses.{Headed};
 
-    ghost Value = { FlowGraph };
+    ghost Value = { Headed };
 
     ghost use Rattle.std.specs.Prelude.{map};
     ghost use Rattle.pk_top.specs.Indexes.{IsIndexed};
 
-    ghost view = { λ a. a.graph.now };
+    ghost view = { λ a. record { graph = a.graph.now; heads = a.heads.items } };
 
-    ghost invariant = { λ a. IsIndexed a.graph.now a.brackets.items (map (λ v. v.items) a.incoming.items) a.heads.items (map (λ v. v.items) a.reads.items) a.thresholds };
+    ghost invariant = { λ a. IsIndexed a.graph.now a.heads.items (map (λ v. v.items) a.incoming.items) a.tests.items (map (λ v. v.items) a.reads.items) a.thresholds };
 }
 
 impl<'g> System for Analysis<'g> {
@@ -208,15 +199,15 @@ impl<'g> System for Analysis<'g> {
 
     type Cell = Cell;
 
-    ghost meaning = { λ g. behaviour_of g };
+    ghost meaning = { λ a. behaviour_of a.graph a.heads };
 
-    ghost may_hold = { λ g e cell. MayHold g e cell };
+    ghost may_hold = { λ a e cell. MayHold a.graph e cell };
 
-    ghost first_held = { λ g e. first_may_hold g e };
+    ghost first_held = { λ a e. first_may_hold a.graph e };
 
-    ghost apply_held = { λ g e cells held. apply_may_hold g e cells held };
+    ghost apply_held = { λ a e cells held. apply_may_hold a.graph a.heads e cells held };
 
-    ghost decide_held = { λ g x cells held. decide_may_hold g x cells held };
+    ghost decide_held = { λ a x cells held. decide_may_hold a.graph a.heads x cells held };
 
     fn reads(&self, e: u32) -> &[u32] {
         match self.reads.get(e as usize) {
@@ -237,7 +228,7 @@ impl<'g> System for Analysis<'g> {
         if (e as usize) >= self.incoming.len() {
             return Ok(Cell::Up);
         }
-        if !self.heads[e as usize] {
+        if !self.tests[e as usize] {
             return Ok(Cell::Point(self.equation(alloc, e, inputs)?));
         }
         let [held, others @ ..] = inputs else {
@@ -260,10 +251,10 @@ impl<'g> System for Analysis<'g> {
         if (x as usize) < first {
             return Ok(Decision::Stable(Cell::Point(State::bot())));
         }
-        if x as usize - first >= self.brackets.len() {
+        if x as usize - first >= self.heads.len() {
             return Ok(Decision::Stable(Cell::Up));
         }
-        let head = self.brackets[x as usize - first].head;
+        let head = self.heads[x as usize - first];
         let [held, others @ ..] = inputs else {
             return Ok(Decision::Stable(Cell::Up));
         };

@@ -85,13 +85,6 @@ pub struct Point {
     pub visible: u32,
 }
 
-/// A loop: its head, and the last point of its body.
-#[derive(Clone, Copy, Debug, PartialEq, Eq)]
-pub struct Bracket {
-    pub head: u32,
-    pub last: u32,
-}
-
 /// The names in order of declaration, the points by number, and the edges in the order in which they were made.
 /// Variable 0 is the result of main, the others are the names.
 #[derive(Drop)]

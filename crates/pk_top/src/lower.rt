@@ -1,7 +1,7 @@
 // The control-flow graph of a tree. A text that breaks the rule on names has none.
 
 ghost use Rattle.std.specs.Prelude.{◌≡◌, ◌+◌, ◌-◌, ◌*◌, ◌^◌, ◌<◌, ◌≤◌, ◌++◌, ◌∷◌, [], ◌&&◌, true, false, length, map, IfOk, IfSome, OnOk, IsTrue, Some, None, if◌then◌else◌};
-ghost use Rattle.pk_top.specs.FlowGraph.{elements, IsWithin};
+ghost use Rattle.pk_top.specs.FlowGraph.{IsWithin};
 ghost use Rattle.pk_top.specs.Scopes.{is_declared, primary_is_scoped, sum_is_scoped, assignment_is_scoped, item_is_scoped, items_are_scoped, result_is_scoped, is_scoped, names_after, names_after_all};
 ghost use Rattle.pk_top.specs.Constants.{constants_are_ints};
 ghost use Rattle.pk_top.specs.Lowering.{variable_of, operand_of, constant_sum, tree_of, compared, condition_of, setting, skipping, piece_of, pieces_of, ending_of, graph_of};
@@ -399,7 +399,7 @@ fn add_ending(
 
 // The graph of a tree, without what the definitions say of its size.
 fn graph_of_tree(alloc: Global, text: &[u8], unit: &Unit) -> Result<Option<Graph>, AllocError>
-    requires { length unit.now.items < 2 ^ 29 }
+    requires { length unit.now.items < 2 ^ 28 }
     ensures { IfOk result (λ o. o ≡ (if is_scoped text.now unit.now then Some (graph_of text.now unit.now) else None)) }
 {
     let mut names = Names::new(alloc);
@@ -418,11 +418,11 @@ fn graph_of_tree(alloc: Global, text: &[u8], unit: &Unit) -> Result<Option<Graph
 
 /// The graph of a tree; none where a name is declared twice, or used before its declaration.
 pub fn lower(alloc: Global, text: &[u8], unit: &Unit) -> Result<Option<Graph>, AllocError>
-    requires items { length unit.now.items < 2 ^ 29 }
+    requires items { length unit.now.items < 2 ^ 28 }
     requires constants { IsTrue (constants_are_ints unit.now) }
     ensures graph { IfOk result (λ o. o ≡ (if is_scoped text.now unit.now then Some (graph_of text.now unit.now) else None)) }
     ensures within { IfOk result (λ o. IfSome o IsWithin) }
-    ensures small { IfOk result (λ o. IfSome o (λ g. elements g < 2 ^ 32)) }
+    ensures small { IfOk result (λ o. IfSome o (λ g. length g.points < 2 ^ 31)) }
     ensures edges { IfOk result (λ o. IfSome o (λ g. length g.edges < 2 ^ 32)) }
 {
     graph_of_tree(alloc, text, unit)

@@ -4,19 +4,19 @@ ghost use Rattle.std.specs.Prelude.{◌≡◌, true, false, ◌<◌, ◌≤◌, 
 ghost use Rattle.std.specs.List.{flat_map, zip};
 ghost use Rattle.std.specs.Fmt.{decimal, signed_decimal};
 ghost use Rattle.std.specs.Ordering.{int_eq};
-ghost use Rattle.pk_top.specs.FlowGraph.{brackets as brackets_of, elements, is_head, IsWithin, InstrWithin, ConditionWithin, TreeWithin, OperandWithin};
+ghost use Rattle.pk_top.specs.FlowGraph.{IsWithin, InstrWithin, ConditionWithin, TreeWithin, OperandWithin};
 ghost use Rattle.pk_top.specs.Ranges.{IsIntRange};
 ghost use Rattle.pk_ctypes.specs.Places.{pos_text};
 ghost use Rattle.pk_top.specs.Transfers.{raw_sum as raw_sum_of, clamped_sum};
 ghost use Rattle.pk_top.specs.Analyses.{state_of as state_of_cell};
 ghost use Rattle.pk_top.specs.Verdicts.{overflow_if, state_at, tree_accesses, condition_accesses, instr_accesses, accesses_of};
 ghost use Rattle.pk_top.specs.Reports.{value_line, point_word, point_lines, told_lines, report_text, unknown_count as unknown_count_of, is_safe as is_safe_verdict, is_unknown as is_unknown_verdict, is_unreachable as is_unreachable_verdict};
-ghost use Rattle.pk_top.specs.Indexes.{heads_of};
+ghost use Rattle.pk_top.specs.Indexes.{head_tests as head_tests_of};
 ghost use Rattle.pk_top.specs.Answers.{states_of};
 ghost use Rattle.pk_top.specs.Entries.{bounds_text_of, entry_in, entry_of, entry_line};
 
-use crate::analysis::{Cell, heads};
-use crate::graph::{Bracket, Condition, Graph, Instr, Term, Tree};
+use crate::analysis::{Cell, head_tests};
+use crate::graph::{Condition, Graph, Instr, Term, Tree};
 use crate::interval::Interval;
 use crate::names::Names;
 use crate::transfer::{first_value, raw_value};
@@ -173,9 +173,8 @@ fn write_point(
     head: bool,
 ) -> Result<(), AllocError>
     requires point { number < length graph.now.points }
-    requires head { is_head graph.now number ≡ head }
     requires cells { length graph.now.points ≤ length cells.now.cells }
-    ensures { OnOk result (bytes.new.items ≡ bytes.old.items ++ point_lines graph.now (states_of graph.now cells.now) number) }
+    ensures { OnOk result (bytes.new.items ≡ bytes.old.items ++ point_lines graph.now (states_of graph.now cells.now) head number) }
 {
     let point = graph.points()[number as usize];
     write_heading(alloc, bytes, number, head, point.at)?;
@@ -312,15 +311,15 @@ fn write_heads(
     bytes: &mut Vec<u8>,
     graph: &Graph,
     cells: &Cells<Cell>,
-    brackets: &[Bracket],
+    heads: &[u32],
 ) -> Result<(), AllocError>
     requires within { IsWithin graph.now }
-    requires brackets { brackets.now ≡ brackets_of graph.now }
+    requires heads { All (λ h. h < length graph.now.points) heads.now }
     requires cells { length graph.now.points ≤ length cells.now.cells }
-    ensures { OnOk result (bytes.new.items ≡ bytes.old.items ++ told_lines false graph.now (states_of graph.now cells.now)) }
+    ensures { OnOk result (bytes.new.items ≡ bytes.old.items ++ told_lines false graph.now heads.now (states_of graph.now cells.now)) }
 {
-    for it in brackets {
-        write_point(alloc, bytes, graph, cells, it.head, true)?;
+    for head in heads {
+        write_point(alloc, bytes, graph, cells, *head, true)?;
     }
     Ok(())
 }
@@ -329,16 +328,17 @@ fn write_all_points(
     alloc: Global,
     bytes: &mut Vec<u8>,
     graph: &Graph,
+    heads: &[u32],
     cells: &Cells<Cell>,
-    heads: &[bool],
+    tests: &[bool],
 ) -> Result<(), AllocError>
-    requires small { elements graph.now < 2 ^ 32 }
-    requires heads { heads.now ≡ heads_of graph.now }
+    requires small { length graph.now.points < 2 ^ 31 }
+    requires tests { tests.now ≡ head_tests_of graph.now heads.now }
     requires cells { length graph.now.points ≤ length cells.now.cells }
-    ensures { OnOk result (bytes.new.items ≡ bytes.old.items ++ told_lines true graph.now (states_of graph.now cells.now)) }
+    ensures { OnOk result (bytes.new.items ≡ bytes.old.items ++ told_lines true graph.now heads.now (states_of graph.now cells.now)) }
 {
-    for (number, head) in heads.iter().enumerate() {
-        write_point(alloc, bytes, graph, cells, number as u32, *head)?;
+    for (number, test) in tests.iter().enumerate() {
+        write_point(alloc, bytes, graph, cells, number as u32, *test)?;
     }
     Ok(())
 }
@@ -349,20 +349,20 @@ fn write_points(
     bytes: &mut Vec<u8>,
     graph: &Graph,
     cells: &Cells<Cell>,
-    brackets: &[Bracket],
+    heads: &[u32],
     points: bool,
 ) -> Result<(), AllocError>
     requires within { IsWithin graph.now }
-    requires small { elements graph.now < 2 ^ 32 }
-    requires brackets { brackets.now ≡ brackets_of graph.now }
+    requires small { length graph.now.points < 2 ^ 31 }
+    requires heads { All (λ h. h < length graph.now.points) heads.now }
     requires cells { length graph.now.points ≤ length cells.now.cells }
-    ensures { OnOk result (bytes.new.items ≡ bytes.old.items ++ told_lines points graph.now (states_of graph.now cells.now)) }
+    ensures { OnOk result (bytes.new.items ≡ bytes.old.items ++ told_lines points graph.now heads.now (states_of graph.now cells.now)) }
 {
     if points {
-        let heads = heads(alloc, graph, brackets)?;
-        write_all_points(alloc, bytes, graph, cells, &heads)
+        let tests = head_tests(alloc, graph, heads)?;
+        write_all_points(alloc, bytes, graph, heads, cells, &tests)
     } else {
-        write_heads(alloc, bytes, graph, cells, brackets)
+        write_heads(alloc, bytes, graph, cells, heads)
     }
 }
 
@@ -459,7 +459,7 @@ fn unreachable_count(entries: &[Entry]) -> usize
 fn report_lines(
     alloc: Global,
     graph: &Graph,
-    brackets: &[Bracket],
+    heads: &[u32],
     cells: &Cells<Cell>,
     points: bool,
     entries: &[Entry],
@@ -467,13 +467,13 @@ fn report_lines(
     last: &str,
 ) -> Result<Vec<u8>, AllocError>
     requires within { IsWithin graph.now }
-    requires small { elements graph.now < 2 ^ 32 }
-    requires brackets { brackets.now ≡ brackets_of graph.now }
+    requires small { length graph.now.points < 2 ^ 31 }
+    requires heads { All (λ h. h < length graph.now.points) heads.now }
     requires cells { length graph.now.points ≤ length cells.now.cells }
-    ensures { IfOk result (λ bytes. bytes.items ≡ string_bytes first ++ told_lines points graph.now (states_of graph.now cells.now) ++ flat_map entry_line entries.now ++ last.now) }
+    ensures { IfOk result (λ bytes. bytes.items ≡ string_bytes first ++ told_lines points graph.now heads.now (states_of graph.now cells.now) ++ flat_map entry_line entries.now ++ last.now) }
 {
     let mut bytes = first.into_bytes();
-    write_points(alloc, &mut bytes, graph, cells, brackets, points)?;
+    write_points(alloc, &mut bytes, graph, cells, heads, points)?;
     write_entries(alloc, &mut bytes, entries)?;
     write_text(&mut bytes, last)?;
     Ok(bytes)
@@ -483,25 +483,23 @@ fn report_lines(
 pub fn report(
     alloc: Global,
     graph: &Graph,
-    brackets: &[Bracket],
+    heads: &[u32],
     cells: &Cells<Cell>,
     points: bool,
 ) -> Result<(Vec<u8>, u64), AllocError>
     requires within { IsWithin graph.now }
-    requires small { elements graph.now < 2 ^ 32 }
-    requires brackets { brackets.now ≡ brackets_of graph.now }
+    requires small { length graph.now.points < 2 ^ 31 }
+    requires heads { All (λ h. h < length graph.now.points) heads.now }
     requires cells { length graph.now.points ≤ length cells.now.cells }
-    ensures bytes { IfOk result (λ it. it.0.items ≡ report_text points graph.now (states_of graph.now cells.now)) }
+    ensures bytes { IfOk result (λ it. it.0.items ≡ report_text points graph.now heads.now (states_of graph.now cells.now)) }
     ensures unknown { IfOk result (λ it. it.1 ≡ unknown_count_of graph.now (states_of graph.now cells.now)) }
 {
     let entries = entries(alloc, graph, cells)?;
     let safe = safe_count(&entries);
     let unknown = unknown_count(&entries);
     let unreachable = unreachable_count(&entries);
-    let first = first_line(alloc, graph.points().len(), brackets.len())?;
+    let first = first_line(alloc, graph.points().len(), heads.len())?;
     let last = last_line(alloc, safe, unknown, unreachable)?;
-    let bytes = report_lines(
-        alloc, graph, brackets, cells, points, &entries, first, &last,
-    )?;
+    let bytes = report_lines(alloc, graph, heads, cells, points, &entries, first, &last)?;
     Ok((bytes, unknown as u64))
 }

@@ -1,12 +1,14 @@
-// How a run of the command ends.
-use pk_ctypes::{Construct, Pos, Quantity};
+// How a command ends.
+use pk_ctypes::{Construct, Name, Pos, Quantity};
 use std::alloc::{AllocError, AllocFailed};
 use std::fmt;
 
 /// Why a text is not analysed.
-#[derive(Clone, Copy, Debug, PartialEq, Eq)]
+#[derive(Drop)]
 pub enum Refusal {
     Unsupported { construct: Construct, at: Pos },
+    /// No function of this name has a body.
+    NoEntry { name: Name },
 }
 
 impl fmt::Display for Refusal {
@@ -20,12 +22,13 @@ impl fmt::Display for Refusal {
             Refusal::Unsupported { construct, at } => {
                 write!(f, "unsupported {construct} at {at}")
             }
+            Refusal::NoEntry { name } => write!(f, "no entry {name}"),
         }
     }
 }
 
-/// How a run ends.
-#[derive(Clone, Copy, Debug, PartialEq, Eq)]
+/// How a command ends.
+#[derive(Drop)]
 pub enum Status {
     Ok { unknown: u64 },
     Usage,

@@ -257,7 +257,7 @@ fn is_usage(alloc: Global, words: &str) -> Result<bool, Fail> {
 fn other_words_are_usage(rt: HostRuntime) -> Result<(), Fail> {
     for words in [
         "",
-        "order",
+        "order --points",
         "run run",
         "run --workers 0",
         "run --workers 65",
@@ -271,8 +271,54 @@ fn other_words_are_usage(rt: HostRuntime) -> Result<(), Fail> {
             &[],
             &mut MemSource::new(Vec::new(rt.alloc()), 1, Vec::new(rt.alloc())),
             &mut MemSink::new(rt.alloc(), 1, Vec::new(rt.alloc()))
-        ) == Status::Usage
+        )
+        .code()
+            == 2
     );
+    Ok(())
+}
+
+// The order is a line of its own. It has no run limit, and begins with main.
+#[test]
+fn orders_are_exact(rt: HostRuntime) -> Result<(), Fail> {
+    for (words, text, order, code, told) in [
+        ("order", "int main(void){}", "0 1 2\n", 0, ""),
+        ("order", WORKED, "0 1 (2 3 4) 5 6 7\n", 0, ""),
+        (
+            "order --entry main",
+            "int main(void){int i=0;while(i<10)i=i+1;while(i<20)i=i+1;return i;}",
+            "0 1 (2 3 4) 5 (6 7 8) 9 10 11\n",
+            0,
+            "",
+        ),
+        (
+            "order",
+            "int main(void){",
+            "",
+            3,
+            "pikos: refused: unsupported later at 1:1",
+        ),
+        (
+            "order --entry f",
+            "int main(void){",
+            "",
+            3,
+            "pikos: refused: unsupported later at 1:1",
+        ),
+        (
+            "order --entry f",
+            WORKED,
+            "",
+            3,
+            "pikos: refused: no entry f",
+        ),
+        ("order --entry=", WORKED, "", 3, "pikos: refused: no entry "),
+    ] {
+        let (got, bytes, line) = outcome(rt.alloc(), words, text.as_bytes(), 9, NEVER, NEVER)?;
+        assert!(rt; got == code, "{words}: {got}");
+        assert!(rt; bytes.as_str() == order, "{words}: {bytes}");
+        assert!(rt; line.as_str() == told, "{words}: {line}");
+    }
     Ok(())
 }
 

@@ -1,28 +1,30 @@
 // The command.
 
-ghost use Rattle.std.specs.Prelude.{◌≡◌, ◌≢◌, ◌⊎◌, ◌≤◌, ◌<◌, ◌^◌, ℕ, List, map, length, string_bytes, IfOk, IfErr, IfSome, OnOk, MatchOption, true, false};
+ghost use Rattle.std.specs.Prelude.{◌≡◌, ◌≢◌, ◌⊎◌, ◌≤◌, ◌<◌, ◌^◌, ℕ, List, map, length, string_bytes, codes, IfOk, IfErr, IfSome, OnOk, MatchOption, MatchBool, true, false};
 ghost use Rattle.std.specs.Io.KnownBytes.{Keeps, IsAtEnd};
 ghost use Rattle.pk_command.specs.CommandLine.{is_taken};
-ghost use Rattle.pk_command.specs.Given.{AsksFor};
+ghost use Rattle.pk_command.specs.Given.{AsksFor, IsInRange};
+ghost use Rattle.pk_ctypes.specs.Places.{start_of_text};
 ghost use Rattle.pk_io.specs.Causes.{Rose};
 ghost use Rattle.pk_top.specs.declared.ast.Unit.{Unit as Unit'};
-ghost use Rattle.pk_top.specs.FlowGraph.{elements, IsWithin};
+ghost use Rattle.pk_top.specs.FlowGraph.{IsWithin};
 ghost use Rattle.pk_top.specs.Lowering.{graph_of};
-ghost use Rattle.pk_top.specs.Answers.{IsAccepted, IsReport, IsAnswer, OneAnswer, asked_text, text_limit};
+ghost use Rattle.pk_top.specs.Answers.{IsAccepted, IsReport, IsOrderLine, IsAnswer, OneAnswer, asked_text, text_limit};
 ghost use Rattle.pk_top.specs.Headline.{Answers, Gives, IsStop, IsStopped, IsSuccess, EndsAnalysis, IsRefusal};
 
-use crate::analysis::{Analysis, brackets};
+use crate::analysis::Analysis;
 use crate::graph::Graph;
 use crate::lex::lex;
 use crate::lower::lower;
-use crate::order::plan;
+use crate::order::{digraph, heads};
 use crate::parse::parse;
 use crate::report::report;
 use crate::status::{Refusal, Status};
-use pk_command::{Command, RunOptions, WordsError, read_words};
-use pk_ctypes::{Construct, Pos, Quantity};
+use pk_command::{Command, OrderOptions, RunOptions, WordsError, read_words};
+use pk_ctypes::{Construct, Name, Pos, Quantity};
 use pk_io::{ReadError, Sink, Source, read_all, write_all};
 use pk_iterate::{Solve, iterate};
+use pk_order::{line, ordered};
 use std::alloc::{AllocError, Global};
 
 /// The greatest number of bytes of a text.
@@ -33,7 +35,7 @@ fn graph_of_text(alloc: Global, text: &[u8]) -> Result<Option<Graph>, AllocError
     requires { length text.now ≤ text_limit }
     ensures accepted { IfOk result (λ o. MatchOption o ((u : Unit') → IsAccepted text.now u → ⊥) (λ g. (u : Unit') × (IsAccepted text.now u × (g ≡ graph_of text.now u)))) }
     ensures within { IfOk result (λ o. IfSome o IsWithin) }
-    ensures small { IfOk result (λ o. IfSome o (λ g. elements g < 2 ^ 32)) }
+    ensures small { IfOk result (λ o. IfSome o (λ g. length g.points < 2 ^ 31)) }
     ensures edges { IfOk result (λ o. IfSome o (λ g. length g.edges < 2 ^ 32)) }
 {
     let Some(tokens) = lex(alloc, text)? else {
@@ -48,17 +50,16 @@ fn graph_of_text(alloc: Global, text: &[u8]) -> Result<Option<Graph>, AllocError
 // The report on a graph, and its number of unknown verdicts.
 fn analyse(alloc: Global, graph: &Graph, options: RunOptions) -> Result<(Vec<u8>, u64), Status>
     requires within { IsWithin graph.now }
-    requires small { elements graph.now < 2 ^ 32 }
+    requires small { length graph.now.points < 2 ^ 31 }
     requires edges { length graph.now.edges < 2 ^ 32 }
     requires runs { options.max_runs ≤ 549755813888 }
     ensures report { IfOk result (λ made. IsReport graph.now options made.1 made.0.items) }
     ensures end { IfErr result (EndsAnalysis graph.now options.max_runs) }
 {
-    let analysis = Analysis::new(alloc, graph)?;
-    let brackets = brackets(alloc, graph)?;
-    let plan = plan(alloc, graph, &brackets)?;
-    match iterate(alloc, &analysis, &plan, options.max_runs) {
-        Ok(cells) => Ok(report(alloc, graph, &brackets, &cells, options.points)?),
+    let (plan, order) = ordered(alloc, &digraph(alloc, graph)?)?;
+    let analysis = Analysis::new(alloc, graph, heads(alloc, &plan)?)?;
+    match iterate(alloc, &analysis, &order, options.max_runs) {
+        Ok(cells) => Ok(report(alloc, graph, analysis.heads(), &cells, options.points)?),
         Err(Solve::RunLimit { .. }) => Err(Status::RunLimit {
             max_runs: options.max_runs,
         }),
@@ -66,8 +67,55 @@ fn analyse(alloc: Global, graph: &Graph, options: RunOptions) -> Result<(Vec<u8>
     }
 }
 
-// The bytes to write and the number of unknown verdicts, or the status in their place.
-fn answer(alloc: Global, options: RunOptions, text: &[u8]) -> Result<(Vec<u8>, u64), Status>
+// The line of the order of a graph's elements.
+fn order_line(alloc: Global, graph: &Graph) -> Result<Vec<u8>, AllocError>
+    requires within { IsWithin graph.now }
+    requires small { length graph.now.points < 2 ^ 31 }
+    ensures { IfOk result (λ bytes. IsOrderLine graph.now bytes.items) }
+{
+    let (plan, order) = ordered(alloc, &digraph(alloc, graph)?)?;
+    let mut bytes = line(alloc, &order)?;
+    bytes.push(b'\n')?;
+    Ok(bytes)
+}
+
+// Whether a name is that of the function main.
+fn is_main(name: &Name) -> bool
+    ensures { MatchBool result (name.now ≡ codes "main") (name.now ≢ codes "main") }
+{
+    name.as_str() == "main"
+}
+
+// The refusal of every text outside the language.
+fn unsupported() -> Status
+    ensures { result ≡ Status.Refused (Refusal.Unsupported Construct.Later start_of_text) }
+{
+    Status::Refused(Refusal::Unsupported {
+        construct: Construct::Later,
+        at: Pos { line: 1, column: 1 },
+    })
+}
+
+// The order of a text, or the status in its place.
+fn order_answer(alloc: Global, options: OrderOptions, text: &[u8]) -> Result<Vec<u8>, Status>
+    requires short { length text.now ≤ text_limit }
+    ensures made { IfOk result (λ made. (words : List (List ℕ)) → AsksFor words (Command.Order options) → IsAnswer words text.now (Status.Ok 0) made.items) }
+    ensures stopped { IfErr result (λ status. (words : List (List ℕ)) → AsksFor words (Command.Order options) → IsStopped words text.now status) }
+    ensures refused { IfErr result IsRefusal }
+{
+    let Some(graph) = graph_of_text(alloc, text)? else {
+        return Err(unsupported());
+    };
+    if !is_main(&options.entry) {
+        return Err(Status::Refused(Refusal::NoEntry {
+            name: options.entry,
+        }));
+    }
+    Ok(order_line(alloc, &graph)?)
+}
+
+// The report on a text and its number of unknown verdicts, or the status in their place.
+fn run_answer(alloc: Global, options: RunOptions, text: &[u8]) -> Result<(Vec<u8>, u64), Status>
     requires short { length text.now ≤ text_limit }
     requires runs { options.max_runs ≤ 549755813888 }
     ensures made { IfOk result (λ made. (words : List (List ℕ)) → AsksFor words (Command.Run options) → IsAnswer words text.now (Status.Ok made.1) made.0.items) }
@@ -76,24 +124,35 @@ fn answer(alloc: Global, options: RunOptions, text: &[u8]) -> Result<(Vec<u8>, u
 {
     match graph_of_text(alloc, text)? {
         Some(graph) => analyse(alloc, &graph, options),
-        None => Err(Status::Refused(Refusal::Unsupported {
-            construct: Construct::Later,
-            at: Pos { line: 1, column: 1 },
-        })),
+        None => Err(unsupported()),
     }
 }
 
-// The options that the words ask for.
-fn run_options(alloc: Global, words: &[String]) -> Result<RunOptions, WordsError>
+// The bytes to write and the number of unknown verdicts, or the status in their place.
+fn answer(alloc: Global, command: Command, text: &[u8]) -> Result<(Vec<u8>, u64), Status>
+    requires short { length text.now ≤ text_limit }
+    requires range { IsInRange command }
+    ensures made { IfOk result (λ made. (words : List (List ℕ)) → AsksFor words command → IsAnswer words text.now (Status.Ok made.1) made.0.items) }
+    ensures stopped { IfErr result (λ status. (words : List (List ℕ)) → AsksFor words command → IsStopped words text.now status) }
+    ensures refused { IfErr result IsRefusal }
+{
+    match command {
+        Command::Run(options) => run_answer(alloc, options, text),
+        Command::Order(options) => match order_answer(alloc, options, text) {
+            Ok(bytes) => Ok((bytes, 0)),
+            Err(status) => Err(status),
+        },
+    }
+}
+
+// The command that the words ask for.
+fn command(alloc: Global, words: &[String]) -> Result<Command, WordsError>
     ensures taken { OnOk result (is_taken (map string_bytes words.now) ≡ true) }
-    ensures asked { IfOk result (λ options. AsksFor (map string_bytes words.now) (Command.Run options)) }
-    ensures range { IfOk result (λ options. options.max_runs ≤ 549755813888) }
+    ensures asked { IfOk result (AsksFor (map string_bytes words.now)) }
+    ensures range { IfOk result IsInRange }
     ensures usage { result ≡ Err WordsError.Usage → is_taken (map string_bytes words.now) ≡ false }
 {
-    match read_words(alloc, words) {
-        Ok(Command::Run(options)) => Ok(options),
-        Err(error) => Err(error),
-    }
+    read_words(alloc, words)
 }
 
 // What `answer` gives for the source's text. It has no sink, so it writes nothing.
@@ -109,8 +168,8 @@ fn make<S: Source>(alloc: Global, words: &[String], src: &mut S) -> Result<(Vec<
     ensures whole { OnOk result (IsAtEnd (S.left src.new)) }
     ensures fault { result ≡ Err Status.ReadFault → Rose (S.faults src.old) (S.faults src.new) }
 {
-    let options = match run_options(alloc, words) {
-        Ok(options) => options,
+    let command = match command(alloc, words) {
+        Ok(command) => command,
         Err(WordsError::Usage) => return Err(Status::Usage),
         Err(WordsError::Memory) => return Err(Status::Memory),
     };
@@ -125,7 +184,7 @@ fn make<S: Source>(alloc: Global, words: &[String], src: &mut S) -> Result<(Vec<
             });
         }
     };
-    answer(alloc, options, &text)
+    answer(alloc, command, &text)
 }
 
 /// Answers the words, which are those after the program's name, and the text of `src`, and writes the answer to `out`.

@@ -8,7 +8,7 @@ use Rattle.pk_top.specs.declared.graph.Edge.{Edge}
 use Rattle.pk_top.specs.FlowGraph.{FlowGraph, variables}
 use Rattle.pk_top.specs.States.{AbstractState, state_join}
 use Rattle.pk_top.specs.Transfers.{transferred}
-use Rattle.pk_top.specs.Analyses.{state_of, start_at, equation}
+use Rattle.pk_top.specs.Analyses.{Headed, state_of, start_at, equation}
 use Rattle.pk_top.proofs.IndexLemmas.{incoming_long, items_at}
 use Rattle.pk_top.proofs.AnalysisLemmas.{state_join-None, left_start, left_head, left_turn, left_end, instr_within, state_of-other}
 use Rattle.pk_top.proofs.analysis.Analysis.equation.Goals as goal
@@ -18,7 +18,7 @@ index-requires c =
     let items : Vec ℕ Global → List ℕ = λ v. v.items in
     let long = incoming_long c.self.inside.graph.now (map items c.self.inside.incoming.items) c.self.invariant.incoming_are in
     let same = length-map c.self.inside.incoming.items items in
-    let points = ap (λ (x : FlowGraph). length x.points) c.self.view_is in
+    let points = ap (λ (x : Headed). length x.graph.points) c.self.view_is in
     omega arith
 
 pub loop-i-init : goal.loop-i-init
@@ -28,13 +28,13 @@ loop-i-init c =
     let lists : List (List ℕ) = map items c.self.inside.incoming.items in
     let long = incoming_long g lists c.self.invariant.incoming_are in
     let same = length-map c.self.inside.incoming.items items in
-    let points = ap (λ (x : FlowGraph). length x.points) c.self.view_is in
+    let points = ap (λ (x : Headed). length x.graph.points) c.self.view_is in
     let bound : c.args.v < length c.self.inside.incoming.items = omega arith in
     let within : c.args.v < length g.points = omega arith in
     let second : iter_rest (zip_second c.zip-i-items.result) ≡ c.args.inputs.now = c.zip-i-items.ensures.second.0 in
     left_start g lists c.args.v c.in_ok-state.state (iter_rest (zip_first c.into_iter-i-iterator.result)) (map arc_value (iter_rest (zip_second c.into_iter-i-iterator.result))) (map arc_value c.args.inputs.now)
     c.self.invariant.incoming_are within
-    (c.in_ok-state.ensures ∙ sym (ap (λ (x : FlowGraph). start_at x c.args.v) c.self.view_is))
+    (c.in_ok-state.ensures ∙ sym (ap (λ (x : Headed). start_at x.graph c.args.v) c.self.view_is))
     (ap (λ z. iter_rest (zip_first z)) c.into_iter-i-iterator.ensures.into_iter_gives ∙ ap iter_rest c.zip-i-items.ensures.first ∙ c.iter.ensures.rest ∙ c.deref.ensures.value
     ∙ items_at c.self.inside.incoming.items c.args.v c.index.result.now bound c.index.ensures)
     (ap (λ z. map arc_value (iter_rest (zip_second z))) c.into_iter-i-iterator.ensures.into_iter_gives ∙ ap (map arc_value) second)
@@ -71,4 +71,4 @@ returns c =
     let done = either_empty_from_Zip c.loop-i.i-iterator c.next.new.self c.next.result c.in-None.is c.next.ensures.steps in
     left_end c.self.inside.graph.now c.loop-i.state (iter_rest (zip_first c.loop-i.i-iterator)) (map arc_value (iter_rest (zip_second c.loop-i.i-iterator))) _ c.loop-i.invariant
     (elim done [ inl e ↦ inl e | inr e ↦ inr (ap (map arc_value) e) ])
-    ∙ ap (λ (x : FlowGraph). equation x c.args.v (map arc_value c.args.inputs.now)) c.self.view_is
+    ∙ ap (λ (x : Headed). equation x.graph c.args.v (map arc_value c.args.inputs.now)) c.self.view_is

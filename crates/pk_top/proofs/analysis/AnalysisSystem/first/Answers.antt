@@ -2,7 +2,7 @@ use Rattle.std.proofs.Common.{List, ℕ, map, Vec, Global, ap, sym, ◌∙◌, a
 use Rattle.std.proofs.lemmas.List.{length-map}
 use Rattle.pk_top.specs.declared.analysis.Cell.TheVariants.{Point}
 use Rattle.pk_top.specs.FlowGraph.{FlowGraph}
-use Rattle.pk_top.specs.Analyses.{first_cell}
+use Rattle.pk_top.specs.Analyses.{Headed, first_cell}
 use Rattle.pk_top.proofs.IndexLemmas.{incoming_long}
 use Rattle.pk_top.proofs.AnalysisLemmas.{first_point, first_up}
 use Rattle.pk_top.proofs.analysis.AnalysisSystem.first.Goals as goal
@@ -13,7 +13,7 @@ returns-then-e-len c =
     let g : FlowGraph = c.self.inside.graph.now in
     let long = incoming_long g (map items c.self.inside.incoming.items) c.self.invariant.incoming_are in
     let same = length-map c.self.inside.incoming.items items in
-    ap Point c.bot.ensures ∙ sym (first_point g c.args.e (omega arith)) ∙ ap (λ (x : FlowGraph). first_cell x c.args.e) c.self.view_is
+    ap Point c.bot.ensures ∙ sym (first_point g c.args.e (omega arith)) ∙ ap (λ (x : Headed). first_cell x.graph c.args.e) c.self.view_is
 
 pub returns-else-e-len : goal.returns-else-e-len
 returns-else-e-len c =
@@ -21,4 +21,4 @@ returns-else-e-len c =
     let g : FlowGraph = c.self.inside.graph.now in
     let long = incoming_long g (map items c.self.inside.incoming.items) c.self.invariant.incoming_are in
     let same = length-map c.self.inside.incoming.items items in
-    sym (first_up g c.args.e (omega arith)) ∙ ap (λ (x : FlowGraph). first_cell x c.args.e) c.self.view_is
+    sym (first_up g c.args.e (omega arith)) ∙ ap (λ (x : Headed). first_cell x.graph c.args.e) c.self.view_is

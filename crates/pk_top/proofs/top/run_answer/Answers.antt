@@ -1,5 +1,7 @@
-use Rattle.pk_top.proofs.Stops.{all_stopped_so}
-use Rattle.pk_top.proofs.top.answer.Goals as goal
+use Rattle.std.proofs.Common.{ℕ, List, Vec, Global, ◌∙◌, refl}
+use Rattle.pk_command.specs.declared.asked.Command.TheVariants.{Run}
+use Rattle.pk_top.proofs.Stops.{all_stopped_so, all_made_so, unsupported_so}
+use Rattle.pk_top.proofs.top.run_answer.Goals as goal
 
 pub returns-in-Some-clause-stopped : goal.returns-in-Some-clause-stopped
 returns-in-Some-clause-stopped c =
