@@ -1,0 +1,94 @@
+-- What each parsing function reads.
+use Rattle.std.specs.Prelude.{◌≡◌, ℕ, ◌+◌, ◌≤◌, List, [], ◌∷◌, Bool, true, if◌then◌else◌, nat_le, Option, Some, None}
+use Rattle.pk_ctypes.specs.declared.places.Pos.{Pos}
+use Rattle.pk_lex.specs.declared.token.Token.{Token}
+use Rattle.pk_lex.specs.declared.token.Kind.{Kind}
+use Rattle.pk_ast.specs.declared.declarations.Specifier.{Specifier}
+use Rattle.pk_ast.specs.declared.declarations.SpecifierWord.{SpecifierWord}
+use Rattle.pk_ast.specs.Trees.{ExpressionTree, ExternalTree}
+use Rattle.pk_grammar.specs.declared.failure.ParseError.{ParseError}
+use Rattle.pk_grammar.specs.declared.signs.Fixed.{Fixed}
+use Rattle.pk_grammar.specs.declared.signs.Operator.{Operator}
+use Rattle.pk_grammar.specs.declared.signs.Operator.TheVariants as operator
+use Rattle.pk_grammar.specs.Grammar.{strength, operators_in, postfixes_in, commas_in, any_expression, assignment_expression, conditional_expression, cast_expression, unary_expression}
+use Rattle.pk_grammar.specs.Signs.{is_fixed, operator_of, specifier_word}
+use Rattle.pk_grammar.specs.States.{Context, State, operand, complete}
+use Rattle.pk_grammar.specs.Steps.{specifier_at, operand_level}
+use Rattle.pk_grammar.specs.Running.{first_of_all, run, Fails}
+
+-- these tokens begin with one of this kind
+pub record Begins (f : Fixed) (ts : List Token) (t : Token) (rest : List Token) : Type 0 where
+  pub cut : ts ≡ t ∷ rest
+  pub is : is_fixed f t.kind ≡ true
+
+pub record BeginsWith (o : Operator) (ts : List Token) (at : Pos) (rest : List Token) : Type 0 where
+  pub token : Token
+  pub cut : ts ≡ token ∷ rest
+  pub is : operator_of token.kind ≡ o
+  pub place : token.at ≡ at
+
+pub record BeginsWithWord (ts : List Token) (s : Specifier) (rest : List Token) : Type 0 where
+  pub token : Token
+  pub word : SpecifierWord
+  pub cut : ts ≡ token ∷ rest
+  pub is : specifier_word token.kind ≡ Some word
+  pub specifier : s ≡ specifier_at token word
+
+-- the words of a type with which the tokens begin, and the tokens after them
+abbrev pub words_then : Token → Option SpecifierWord → List Specifier → List Specifier
+words_then t None more = []
+words_then t (Some w) more = specifier_at t w ∷ more
+
+unfoldable pub words : List Token → List Specifier
+words [] = []
+words (t ∷ ts) = words_then t (specifier_word t.kind) (words ts)
+
+abbrev pub past_word : List Token → Option SpecifierWord → List Token → List Token
+past_word here None more = here
+past_word here (Some w) more = more
+
+unfoldable pub past_words : List Token → List Token
+past_words [] = []
+past_words (t ∷ ts) = past_word (t ∷ ts) (specifier_word t.kind) (past_words ts)
+
+-- An expression of this level is followed by operators of at most this number
+abbrev pub follows : Operator → ℕ
+follows (operator.Step o) = 16
+follows (operator.Binary o) = strength o + 1
+follows operator.Question = 3
+follows (operator.Assignment o) = 2
+follows operator.Comma = 1
+follows operator.Other = 0
+
+abbrev pub EndsAt : Token → ℕ → List Token → Type 0
+EndsAt end level ts = follows (operator_of (first_of_all end ts).kind) ≤ level
+
+-- An operand without an operator of its own on the outside
+pub record IsPrimary (e : ExpressionTree) : Type 0 where
+  pub postfixes : postfixes_in e ≡ 0
+  pub operators : operators_in e ≡ 0
+  pub commas : commas_in e ≡ 0
+
+-- An operand that is whole: no `++` or `--` follows
+pub record IsOperand (end : Token) (e : ExpressionTree) (rest : List Token) : Type 0 where
+  pub operators : operators_in e ≡ 0
+  pub commas : commas_in e ≡ 0
+  pub ends : EndsAt end unary_expression rest
+
+-- whether a cast may stand there
+abbrev pub CastsIf : Bool → Context → Type 0
+CastsIf casts c = nat_le (operand_level c) cast_expression ≡ casts
+
+abbrev pub Anywhere : Context → Type 0
+Anywhere c = Unit {0}
+
+abbrev pub UpTo : ℕ → Context → Type 0
+UpTo level c = operand_level c ≤ level
+
+-- from a state within each of these contexts the tokens are read as an operand there
+abbrev pub Reads : Token → (Context → Type 0) → (Context → State) → ℕ → List Token → ExpressionTree → List Token → Type 0
+Reads end P s n ts e rest = (c : Context) → P c → run end (s c) ts ≡ run end (complete n e c) rest
+
+-- and this is the answer
+abbrev pub Refuses : Token → (Context → Type 0) → (Context → State) → List Token → ParseError → Type 0
+Refuses end P s ts x = (c : Context) → P c → Fails (run end (s c) ts) x

@@ -1,0 +1,250 @@
+-- Each text of the grammar is read.
+use Rattle.std.proofs.Common.{◌≡◌, ◌≢◌, ℕ, ◌+◌, ◌≤◌, ◌⊎◌, inl, inr, Option, Some, None, Bool, true, false, List, [], ◌∷◌, ◌++◌, map, refl, sym, ap, subst, ◌∙◌, arith, append_assoc, append-nil}
+use Rattle.pk_ctypes.specs.declared.places.Pos.{Pos}
+use Rattle.pk_lex.specs.declared.token.Token.{Token}
+use Rattle.pk_lex.specs.declared.token.Kind.{Kind}
+use Rattle.pk_lex.specs.declared.token.Kind.TheVariants as kind
+use Rattle.pk_lex.specs.declared.token.Keyword.TheVariants as key
+use Rattle.pk_lex.specs.declared.token.Punctuator.TheVariants as mark
+use Rattle.pk_ast.specs.declared.declarations.Specifier.{Specifier}
+use Rattle.pk_ast.specs.declared.declarations.SpecifierWord.{SpecifierWord}
+use Rattle.pk_ast.specs.declared.declarations.SpecifierWord.TheVariants as word
+use Rattle.pk_ast.specs.declared.expressions.Identifier.{Identifier}
+use Rattle.pk_ast.specs.declared.units.Storage.{Storage}
+use Rattle.pk_ast.specs.Trees.{DeclarationTree, block, no_items, BlockTree, ParameterTree, FunctionTree, ExternalTree, function, objects}
+use Rattle.pk_grammar.specs.declared.signs.Fixed.TheVariants as fixed
+use Rattle.pk_grammar.specs.Languages.{Marked, One, Identified, Inside, Where, Optional, ◌⊙◌, identifier_of}
+use Rattle.pk_grammar.specs.Grammar.{punctuator, keyword, specifiers, declared, stored, optional_name, parameter, IsVoidAlone, more_parameters, parameters, function_end, statement, block_items, external, externals}
+use Rattle.pk_grammar.specs.Signs.{is_fixed, specifier_word, storage_word, is_void_word}
+use Rattle.pk_grammar.specs.States.{Head, function_block, Site, outside, State, top, after_storage, after_specifiers, after_name, parameters_open, parameter_specifiers, parameter_name, parameter_comma, parameters_closed, block_item}
+use Rattle.pk_grammar.specs.Steps.{Verdict, taken, finished, step, read, read_on, Reading, ends, specifier_at, storage_at, storage_or_specifier, begin_external, begin_parameter, more_parameter, is_void, last_parameter, end_block}
+use Rattle.pk_grammar.proofs.CompleteLists.{tokens_of, nestings_of, before, Reads, reads_join, reads_both, reads_one, reads_none, reads_from, reads_to, reads_head, reads_sign, reads_last, reads_join_none, regrouped}
+use Rattle.pk_grammar.proofs.CompleteSigns.{storage_is, specifier_is, IsSpecifier, specifier_alone}
+use Rattle.pk_grammar.proofs.CompleteOperands.{IsAt, same_false, same_true}
+use Rattle.pk_grammar.proofs.CompleteExpressions.{ReadsTo, reads_specifiers}
+use Rattle.pk_grammar.proofs.CompleteDeclarations.{step_first_name, step_more_specifiers, reads_declared}
+use Rattle.pk_grammar.proofs.CompleteBodies.{items_read, filled_function}
+
+-- What a definition begins with
+
+abbrev TakesType : State → Site → Type 0
+TakesType q s = (t : Token) (w : SpecifierWord) → specifier_word t.kind ≡ Some w → step q t ≡ taken 0 (after_specifiers s (specifier_at t w ∷ []))
+
+record ReadsStorage (done : List ExternalTree) (s : Option Storage) (ms : List Marked) (rest : List Token) : Type 0 where
+  state : State
+  reads : Reads (top done) ms state rest
+  takes : TakesType state (outside done s)
+
+top_takes : (done : List ExternalTree) → TakesType (top done) (outside done None)
+top_takes done t w e =
+    let s = specifier_alone t.kind w e in
+    ap (λ o. storage_or_specifier done t o) s.no_storage ∙ same_false (is_fixed fixed.End t.kind) _ _ s.no_end ∙ ap (λ o. begin_external done None t o) e
+
+step_storage : (done : List ExternalTree) (s : Storage) (t : Token) → (storage_word t.kind ≡ Some s.word) × (t.at ≡ s.at) → step (top done) t ≡ taken 0 (after_storage done s)
+step_storage done s t e = ap (λ o. storage_or_specifier done t o) e.0 ∙ ap (λ p. taken 0 (after_storage done (record { word = s.word; at = p }))) e.1
+
+reads_stored : (done : List ExternalTree) (s : Option Storage) (ms : List Marked) (rest : List Token) → stored s 0 ms → ReadsStorage done s ms rest
+reads_stored done None ms rest h = record { state = top done; reads = reads_none h; takes = top_takes done }
+reads_stored done (Some s) ms rest h = record {
+  state = after_storage done s;
+  reads = reads_one h (step_storage done s h.token (ap storage_word h.holds.0 ∙ storage_is s.word, h.holds.1));
+  takes = λ t w e. ap (λ o. begin_external done (Some s) t o) e;
+}
+
+-- Parameters
+
+abbrev TakesParameter : State → Head → List ParameterTree → Type 0
+TakesParameter q h ps = (t : Token) (w : SpecifierWord) → specifier_word t.kind ≡ Some w → step q t ≡ taken 1 (parameter_specifiers h ps (specifier_at t w ∷ []))
+
+open_takes : (h : Head) → TakesParameter (parameters_open h) h []
+open_takes h t w e = same_false (is_fixed fixed.CloseParenthesis t.kind) _ _ (specifier_alone t.kind w e).no_close ∙ ap (λ o. begin_parameter h [] t o) e
+
+comma_takes : (h : Head) (ps : List ParameterTree) → TakesParameter (parameter_comma h ps) h ps
+comma_takes h ps t w e = ap (λ o. begin_parameter h ps t o) e
+
+abbrev with_name : List Specifier → Option Identifier → ParameterTree
+with_name specs n = record { specifiers = specs; name = n }
+
+-- a parameter that may be the last one
+abbrev IsNone : List ParameterTree → ParameterTree → Type 0
+IsNone ps p = (ps ≡ []) × IsVoidAlone p
+
+record ReadsParameter (q : State) (h : Head) (ps : List ParameterTree) (p : ParameterTree) (ms : List Marked) (rest : List Token) : Type 0 where
+  state : State
+  reads : Reads q ms state rest
+  comma : (t : Token) → t.kind ≡ kind.Punctuator mark.Comma → step state t ≡ taken 1 (parameter_comma h (ps ++ p ∷ []))
+  close : (t : Token) → t.kind ≡ kind.Punctuator mark.CloseParenthesis → ¬ IsNone ps p → step state t ≡ taken 0 (parameters_closed h (ps ++ p ∷ []))
+
+no_void : (s : Specifier) (w : SpecifierWord) → s.word ≡ w → ¬ IsVoidAlone (with_name (s ∷ []) None) → is_void_word w ≡ false
+no_void s word.Void e h = absurd (h (ap (λ w. w ∷ []) e, refl))
+no_void s _ e h = refl
+
+last_is : (ps : List ParameterTree) (specs : List Specifier) → ¬ IsNone ps (with_name specs None) → last_parameter ps specs ≡ ps ++ with_name specs None ∷ []
+last_is [] [] h = refl
+last_is [] (s ∷ []) h = rw (no_void s s.word refl (λ v. h (refl, v)))
+last_is [] (s ∷ r ∷ more) h = refl
+last_is (p ∷ ps) specs h = refl
+
+step_more_parameter : (h : Head) (ps : List ParameterTree) (specs : List Specifier) (t : Token) (w : SpecifierWord) → specifier_word t.kind ≡ Some w →
+    step (parameter_specifiers h ps specs) t ≡ taken 1 (parameter_specifiers h ps (specs ++ specifier_at t w ∷ []))
+step_more_parameter h ps specs t w e = ap (λ w. more_parameter h ps specs t w) e
+
+step_parameter_name : (h : Head) (ps : List ParameterTree) (specs : List Specifier) (id : Identifier) (t : Token) → (t.kind ≡ kind.Name) × (identifier_of t ≡ id) →
+    step (parameter_specifiers h ps specs) t ≡ taken 1 (parameter_name h ps (with_name specs (Some id)))
+step_parameter_name h ps specs id t e = rw e.0 (ap (λ i. taken 1 (parameter_name h ps (with_name specs (Some i)))) e.1)
+
+step_unnamed_comma : (h : Head) (ps : List ParameterTree) (specs : List Specifier) (t : Token) → t.kind ≡ kind.Punctuator mark.Comma →
+    step (parameter_specifiers h ps specs) t ≡ taken 1 (parameter_comma h (ps ++ with_name specs None ∷ []))
+step_unnamed_comma h ps specs t e = rw e
+
+step_unnamed_close : (h : Head) (ps : List ParameterTree) (specs : List Specifier) (t : Token) → t.kind ≡ kind.Punctuator mark.CloseParenthesis →
+    step (parameter_specifiers h ps specs) t ≡ taken 0 (parameters_closed h (last_parameter ps specs))
+step_unnamed_close h ps specs t e = rw e
+
+step_named_comma : (h : Head) (ps : List ParameterTree) (p : ParameterTree) (t : Token) → t.kind ≡ kind.Punctuator mark.Comma → step (parameter_name h ps p) t ≡ taken 1 (parameter_comma h (ps ++ p ∷ []))
+step_named_comma h ps p t e = rw e
+
+step_named_close : (h : Head) (ps : List ParameterTree) (p : ParameterTree) (t : Token) → t.kind ≡ kind.Punctuator mark.CloseParenthesis →
+    step (parameter_name h ps p) t ≡ taken 0 (parameters_closed h (ps ++ p ∷ []))
+step_named_close h ps p t e = rw e
+
+reads_name : (h : Head) (ps : List ParameterTree) (specs : List Specifier) (n : Option Identifier) (ms : List Marked) (rest : List Token) → optional_name n 1 ms →
+    ReadsParameter (parameter_specifiers h ps specs) h ps (with_name specs n) ms rest
+reads_name h ps specs None ms rest is = record {
+  state = parameter_specifiers h ps specs;
+  reads = reads_none is;
+  comma = step_unnamed_comma h ps specs;
+  close = λ t e f. step_unnamed_close h ps specs t e ∙ ap (λ ps. taken 0 (parameters_closed h ps)) (last_is ps specs f);
+}
+reads_name h ps specs (Some id) ms rest is = record {
+  state = parameter_name h ps (with_name specs (Some id));
+  reads = reads_one is (step_parameter_name h ps specs id is.token is.holds);
+  comma = step_named_comma h ps (with_name specs (Some id));
+  close = λ t e f. step_named_close h ps (with_name specs (Some id)) t e;
+}
+
+reads_parameter : (q : State) (h : Head) (ps : List ParameterTree) (p : ParameterTree) (ms : List Marked) (rest : List Token) → TakesParameter q h ps → parameter p 1 ms →
+    ReadsParameter q h ps p ms rest
+reads_parameter q h ps p ms rest takes is =
+    let n = reads_name h ps p.specifiers p.name is.back rest is.second in
+    record {
+      state = n.state;
+      reads = reads_both is (reads_specifiers (parameter_specifiers h ps) 1 (step_more_parameter h ps) p.specifiers [] q takes is.first) n.reads;
+      comma = n.comma;
+      close = n.close;
+    }
+
+not_empty : {A : Type 0} (ps : List A) (p : A) → ps ++ p ∷ [] ≢ []
+not_empty [] p e = cc
+not_empty (q ∷ ps) p e = cc
+
+-- a parameter and those behind it, up to the parenthesis
+reads_parameters : (more : List ParameterTree) (q : State) (h : Head) (ps : List ParameterTree) (p : ParameterTree) (ms : List Marked) (t : Token) (rest : List Token) → TakesParameter q h ps →
+    (parameter p ⊙ more_parameters more) 1 ms → t.kind ≡ kind.Punctuator mark.CloseParenthesis → (more ≡ [] → ¬ IsNone ps p) →
+    ReadsTo q ms t rest (taken 0 (parameters_closed h (ps ++ p ∷ more)))
+reads_parameters [] q h ps p ms t rest takes is close some =
+    let r = reads_parameter q h ps p is.front (t ∷ rest) takes is.first in
+    record { state = r.state; reads = reads_join_none is.cut is.second r.reads; then = r.close t close (some refl) }
+reads_parameters (d ∷ more) q h ps p ms t rest takes is close some =
+    let g = is.second in
+    let k = g.first.token in
+    let r = reads_parameter q h ps p is.front (k ∷ tokens_of g.back ++ t ∷ rest) takes is.first in
+    let m = reads_parameters more (parameter_comma h (ps ++ p ∷ [])) h (ps ++ p ∷ []) d g.back t rest (comma_takes h (ps ++ p ∷ [])) g.second close (λ e n. not_empty ps p n.0) in
+    record {
+      state = m.state;
+      reads = reads_sign is.front is.cut g r.reads (r.comma k g.first.holds) m.reads;
+      then = m.then ∙ ap (λ ps. taken 0 (parameters_closed h ps)) (append_assoc ps (p ∷ []) (d ∷ more));
+    }
+
+step_no_parameters : (h : Head) (t : Token) → t.kind ≡ kind.Punctuator mark.CloseParenthesis → step (parameters_open h) t ≡ taken 0 (parameters_closed h [])
+step_no_parameters h t e = rw e
+
+step_void_close : (h : Head) (at : Pos) (t : Token) → t.kind ≡ kind.Punctuator mark.CloseParenthesis →
+    step (parameter_specifiers h [] (record { word = word.Void; at = at } ∷ [])) t ≡ taken 0 (parameters_closed h [])
+step_void_close h at t e = rw e
+
+reads_all_parameters : (ps : List ParameterTree) (h : Head) (ms : List Marked) (t : Token) (rest : List Token) → parameters ps 1 ms → t.kind ≡ kind.Punctuator mark.CloseParenthesis →
+    ReadsTo (parameters_open h) ms t rest (taken 0 (parameters_closed h ps))
+reads_all_parameters [] h ms t rest is close = elim is [
+  | inl e ↦ record { state = parameters_open h; reads = reads_none e; then = step_no_parameters h t close }
+  | inr void ↦ record {
+    state = parameter_specifiers h [] (specifier_at void.token word.Void ∷ []);
+    reads = reads_one void (open_takes h void.token word.Void (ap specifier_word void.holds));
+    then = step_void_close h void.token.at t close;
+  }
+]
+reads_all_parameters (p ∷ []) h ms t rest is close =
+    let r = reads_parameter (parameters_open h) h [] p ms (t ∷ rest) (open_takes h) is.is in
+    record { state = r.state; reads = r.reads; then = r.close t close (λ v. is.holds v.1) }
+reads_all_parameters (p ∷ q ∷ more) h ms t rest is close =
+    reads_parameters (q ∷ more) (parameters_open h) h [] p ms t rest (open_takes h) is close (λ e. cc)
+
+-- Functions
+
+step_function : (done : List ExternalTree) (s : Option Storage) (specs : List Specifier) (id : Identifier) (t : Token) → t.kind ≡ kind.Punctuator mark.OpenParenthesis →
+    step (after_name (record { site = outside done s; specifiers = specs; declarators = [] }) id) t ≡ taken 1 (parameters_open (record { before = done; storage = s; specifiers = specs; name = id }))
+step_function done s specs id t e = rw e
+
+abbrev whole : Head → List ParameterTree → Option BlockTree → ExternalTree
+whole h ps b = function (record { storage = h.storage; specifiers = h.specifiers; name = h.name; parameters = ps; body = b })
+
+step_prototype : (h : Head) (ps : List ParameterTree) (t : Token) → t.kind ≡ kind.Punctuator mark.Semicolon → step (parameters_closed h ps) t ≡ taken 0 (top (h.before ++ whole h ps None ∷ []))
+step_prototype h ps t e = rw e
+
+step_body : (h : Head) (ps : List ParameterTree) (at : Pos) (t : Token) → IsAt mark.OpenBrace at t → step (parameters_closed h ps) t ≡ taken 1 (block_item (function_block h ps at no_items))
+step_body h ps at t e = rw (e.0, e.1)
+
+reads_body : (b : Option BlockTree) (h : Head) (ps : List ParameterTree) (ms : List Marked) (rest : List Token) → function_end b 0 ms →
+    Reads (parameters_closed h ps) ms (top (h.before ++ whole h ps b ∷ [])) rest
+unfolding statement
+reads_body None h ps ms rest is = reads_one is (step_prototype h ps is.token is.holds)
+reads_body (Some b) h ps ms rest is =
+    let g = is.first in
+    let c = is.second.token in
+    let k = (items_read b.items).reads (function_block h ps b.opened no_items) (block_item (function_block h ps b.opened no_items)) (λ t. refl) g.back c rest g.second is.second.holds.0 in
+    reads_last is.front is.cut is.second (reads_head g (step_body h ps b.opened g.first.token g.first.holds) k.reads)
+    (k.then ∙ ap (λ b. end_block b c) (filled_function b.items no_items h ps b.opened)
+    ∙ ap (λ p. taken 0 (top (h.before ++ whole h ps (Some (record { opened = b.opened; items = b.items; closed = p })) ∷ []))) is.second.holds.1)
+
+reads_function : (f : FunctionTree) (done : List ExternalTree) (ms : List Marked) (rest : List Token) → external (function f) 0 ms → Reads (top done) ms (top (done ++ function f ∷ [])) rest
+reads_function f done ms rest h =
+    let a = h.second in
+    let b = a.second in
+    let c = b.second in
+    let d = c.second in
+    let head : Head = record { before = done; storage = f.storage; specifiers = f.specifiers; name = f.name } in
+    let s = reads_stored done f.storage h.front (tokens_of h.back ++ rest) h.first in
+    let p = reads_all_parameters f.parameters head c.first.back d.first.token (tokens_of d.back ++ rest) c.first.second d.first.holds in
+    reads_both h s.reads
+    (reads_both a (reads_specifiers (after_specifiers (outside done f.storage)) 0 (step_more_specifiers (outside done f.storage)) f.specifiers [] s.state s.takes a.first)
+    (reads_both b (reads_one b.first (step_first_name (outside done f.storage) f.specifiers b.first.token b.first.holds.0
+    ∙ ap (λ id. taken 0 (after_name (record { site = outside done f.storage; specifiers = f.specifiers; declarators = [] }) id)) b.first.holds.1))
+    (reads_sign c.front c.cut d
+    (reads_head c.first (step_function done f.storage f.specifiers f.name c.first.first.token c.first.first.holds) p.reads)
+    p.then
+    (reads_body f.body head f.parameters d.back rest d.second))))
+
+-- External definitions
+
+reads_external : (x : ExternalTree) (done : List ExternalTree) (ms : List Marked) (rest : List Token) → external x 0 ms → Reads (top done) ms (top (done ++ x ∷ [])) rest
+reads_external (function f) done ms rest h = reads_function f done ms rest h
+reads_external (objects s d) done ms rest h =
+    let r = reads_stored done s h.front (tokens_of h.back ++ rest) h.first in
+    reads_both h r.reads (reads_declared (outside done s) r.state r.takes d rest h.back h.second)
+
+reads_externals : (u done : List ExternalTree) (ms : List Marked) (rest : List Token) → externals u 0 ms → Reads (top done) ms (top (done ++ u)) rest
+reads_externals [] done ms rest h = subst (λ u. Reads (top done) ms (top u) rest) (sym (append-nil done)) (reads_none h)
+reads_externals (x ∷ u) done ms rest h =
+    reads_both h (reads_external x done h.front (tokens_of h.back ++ rest) h.first)
+    (subst (λ u. Reads (top (done ++ x ∷ [])) h.back (top u) rest) (append_assoc done (x ∷ []) u) (reads_externals u (done ++ x ∷ []) h.back rest h.second))
+
+read_end : (u : List ExternalTree) (t : Token) → t.kind ≡ kind.End → read (top u) (t ∷ []) ≡ record { nestings = []; ending = ends u }
+unfolding read
+read_end u t e = rw e
+
+-- The tokens of a text are read as its trees, each token with its nesting.
+pub read_text : (u : List ExternalTree) (front : List Marked) (t : Token) → externals u 0 front → t.kind ≡ kind.End →
+    read (top []) (tokens_of front ++ t ∷ []) ≡ record { nestings = nestings_of front; ending = ends u }
+read_text u front t h e =
+    (reads_externals u [] front (t ∷ []) h).is ∙ ap (λ r. before (nestings_of front) r) (read_end u t e)
+    ∙ ap (λ ns. record { nestings = ns; ending = ends u }) (append-nil (nestings_of front))

@@ -1,0 +1,177 @@
+-- From each state some tokens lead to the end of a text.
+use Rattle.std.proofs.Common.{◌≡◌, ℕ, List, true, false, refl, sym, subst, rules}
+use Rattle.std.specs.Prelude.{nat_le, pos}
+use Rattle.pk_ctypes.specs.declared.places.Pos.{Pos}
+use Rattle.pk_lex.specs.declared.token.Token.{Token}
+use Rattle.pk_lex.specs.declared.token.Kind.{Kind}
+use Rattle.pk_lex.specs.declared.token.Kind.TheVariants as kind
+use Rattle.pk_lex.specs.declared.token.Keyword.TheVariants as key
+use Rattle.pk_lex.specs.declared.token.Punctuator.{Punctuator}
+use Rattle.pk_lex.specs.declared.token.Punctuator.TheVariants as mark
+use Rattle.pk_ast.specs.Trees.{ExpressionTree, prefix, unary, cast, binary, conditional, assignment, comma, ForStartTree, StatementTree, label, case, default, if_then, if_else, switch, while, for_loop, ExternalTree}
+use Rattle.pk_grammar.specs.declared.signs.Fixed.TheVariants as fixed
+use Rattle.pk_grammar.specs.declared.signs.Operator.TheVariants as operator
+use Rattle.pk_grammar.specs.Grammar.{any_expression, strength}
+use Rattle.pk_grammar.specs.Signs.{is_fixed, operator_of}
+use Rattle.pk_grammar.specs.States.{OpenBlock, function_block, inner_block, Outer, in_block, in_label, in_case, in_default, in_if, in_else, in_switch, in_while, in_do, in_for, Site, in_a_block, in_a_for, outside, Declaring, Purpose, as_statement, as_label, as_test, as_last_test, as_first, as_second, as_third, as_result, as_length, as_value, as_item, Context, as_whole, in_parentheses, in_index, in_call, in_prefix, in_unary, in_cast, in_binary, in_choice, in_alternative, in_assignment, in_comma, State, top, after_storage, after_specifiers, after_name, after_length, after_assign, after_brace, after_item, after_initializer, after_comma, parameters_open, parameter_specifiers, parameter_name, parameter_comma, parameters_closed, block_item, at_statement, after_statement, test_open, do_open, for_open, for_first, for_second, for_third, default_colon, goto_name, returning, statement_end, operand, named, arguments, opened, cast_specifiers, complete}
+use Rattle.pk_grammar.specs.Steps.{Verdict, taken, finished, Reduced, reduced, end_expression, end_purpose, go_on, resume, step, end_declaration}
+
+-- some tokens lead on to the end of a text
+pub data Ends : Verdict → Type 0 where
+  at_end : {u : List ExternalTree} → Ends (finished u)
+  goes : {n : ℕ} {s : State} (t : Token) → Ends (step s t) → Ends (taken n s)
+
+abbrev a_token : Kind → Token
+a_token k = record { kind = k; start = 0; end = 0; at = record { line = 0; column = 0 } }
+
+abbrev sign : Punctuator → Token
+sign p = a_token (kind.Punctuator p)
+
+abbrev semicolon : Token
+semicolon = sign mark.Semicolon
+
+abbrev a_name : Token
+a_name = a_token kind.Name
+
+abbrev a_character : Token
+a_character = a_token (kind.Character (pos 0))
+
+the_end : {n : ℕ} (u : List ExternalTree) → Ends (taken n (top u))
+the_end u = goes (a_token kind.End) at_end
+
+-- Statements
+
+-- a token that ends what is open, and begins no else
+record Closing (v : Token → Verdict) : Type 0 where
+  token : Token
+  no_else : is_fixed fixed.Else token.kind ≡ false
+  ends : Ends (v token)
+
+closes : (o : Outer) (s : StatementTree) → Closing (λ t. resume s o t)
+unfolding resume reduced
+closes (in_block (function_block h ps at items)) s = record { token = sign mark.CloseBrace; no_else = refl; ends = the_end _ }
+closes (in_block (inner_block n at items o)) s = record { token = sign mark.CloseBrace; no_else = refl; ends = let r = closes o _ in goes r.token r.ends }
+closes (in_label n id o) s = let r = closes o (label id s) in record { token = r.token; no_else = r.no_else; ends = r.ends }
+closes (in_case n at e o) s = let r = closes o (case at e s) in record { token = r.token; no_else = r.no_else; ends = r.ends }
+closes (in_default n at o) s = let r = closes o (default at s) in record { token = r.token; no_else = r.no_else; ends = r.ends }
+closes (in_if n at e o) s = let r = closes o (if_then at e s) in record { token = r.token; no_else = r.no_else; ends = rw r.no_else r.ends }
+closes (in_else n at e r o) s = let r = closes o (if_else at e r s) in record { token = r.token; no_else = r.no_else; ends = r.ends }
+closes (in_switch n at e o) s = let r = closes o (switch at e s) in record { token = r.token; no_else = r.no_else; ends = r.ends }
+closes (in_while n at e o) s = let r = closes o (while at e s) in record { token = r.token; no_else = r.no_else; ends = r.ends }
+closes (in_do n at o) s = record {
+  token = a_token (kind.Keyword key.While);
+  no_else = refl;
+  ends = let r = closes o _ in goes (sign mark.OpenParenthesis) (goes a_character (goes (sign mark.CloseParenthesis) (goes semicolon (goes r.token r.ends))));
+}
+closes (in_for n at f second third o) s = let r = closes o (for_loop at f second third s) in record { token = r.token; no_else = r.no_else; ends = r.ends }
+
+ends_after : (n : ℕ) (s : StatementTree) (o : Outer) → Ends (taken n (after_statement s o))
+ends_after n s o = let r = closes o s in goes r.token r.ends
+
+ends_statement : (n m : ℕ) (o : Outer) → Ends (taken n (at_statement m o))
+ends_statement n m o = goes semicolon (ends_after _ _ o)
+
+ends_item : (n : ℕ) (b : OpenBlock) → Ends (taken n (block_item b))
+ends_item n b = goes semicolon (ends_after _ _ (in_block b))
+
+-- Declarations
+
+ends_second : (k n : ℕ) (at : Pos) (f : ForStartTree) (o : Outer) → Ends (taken k (for_second n at f o))
+ends_second k n at f o = goes semicolon (goes (sign mark.CloseParenthesis) (ends_statement _ _ _))
+
+ends_declaration : (d : Declaring) → Ends (end_declaration d)
+ends_declaration d = go d d.site
+  where
+    go : (d : Declaring) (s : Site) → Ends (end_declaration (record d { site = s }))
+    go d (in_a_block b) = ends_item _ _
+    go d (in_a_for n at o) = ends_second _ n at _ o
+    go d (outside before s) = the_end _
+
+ends_initializer : (n : ℕ) (d : Declaring) → Ends (taken n (after_initializer d))
+ends_initializer n d = goes semicolon (ends_declaration d)
+
+-- Expressions
+
+-- a token that is no operator, and ends what is open
+record Ending (v : Token → Verdict) : Type 0 where
+  token : Token
+  no_operator : operator_of token.kind ≡ operator.Other
+  ends : Ends (v token)
+
+ends_purpose : (p : Purpose) (e : ExpressionTree) → Ending (λ t. end_purpose p e t)
+ends_purpose (as_statement n o) e = record { token = semicolon; no_operator = refl; ends = ends_after _ _ o }
+ends_purpose (as_label n at o) e = record { token = sign mark.Colon; no_operator = refl; ends = ends_statement _ _ _ }
+ends_purpose (as_test k n at o) e = record { token = sign mark.CloseParenthesis; no_operator = refl; ends = ends_statement _ _ _ }
+ends_purpose (as_last_test n at s o) e = record { token = sign mark.CloseParenthesis; no_operator = refl; ends = goes semicolon (ends_after _ _ o) }
+ends_purpose (as_first n at o) e = record { token = semicolon; no_operator = refl; ends = ends_second _ n at _ o }
+ends_purpose (as_second n at f o) e = record { token = semicolon; no_operator = refl; ends = goes (sign mark.CloseParenthesis) (ends_statement _ _ _) }
+ends_purpose (as_third n at f second o) e = record { token = sign mark.CloseParenthesis; no_operator = refl; ends = ends_statement _ _ _ }
+ends_purpose (as_result n at o) e = record { token = semicolon; no_operator = refl; ends = ends_after _ _ o }
+ends_purpose (as_length d id) e = record { token = sign mark.CloseBracket; no_operator = refl; ends = goes semicolon (ends_declaration _) }
+ends_purpose (as_value d) e = record { token = semicolon; no_operator = refl; ends = ends_declaration _ }
+ends_purpose (as_item d at es) e = record { token = sign mark.CloseBrace; no_operator = refl; ends = ends_initializer _ _ }
+
+zero_le : (n : ℕ) → nat_le 0 n ≡ true
+zero_le n = search rules
+
+abbrev ended : Reduced → Token → Verdict
+ended r t = end_expression r.tree r.context t
+
+-- the same of a state, an operand of which is complete
+ends_complete : (k n : ℕ) (e : ExpressionTree) (c : Context) → Ending (λ t. ended (reduced any_expression n e c) t) → Ends (taken k (complete n e c))
+ends_complete k n e c r = goes r.token (subst (λ o. Ends (go_on n e c r.token o)) (sym r.no_operator) r.ends)
+
+ends_context : (c : Context) (n : ℕ) (e : ExpressionTree) → Ending (λ t. ended (reduced any_expression n e c) t)
+unfolding reduced
+ends_context (as_whole p) n e = ends_purpose p e
+ends_context (in_parentheses m at c) n e = record { token = sign mark.CloseParenthesis; no_operator = refl; ends = ends_complete _ m _ c (ends_context c m _) }
+ends_context (in_index m id at c) n e = record { token = sign mark.CloseBracket; no_operator = refl; ends = ends_complete _ m _ c (ends_context c m _) }
+ends_context (in_call m id es c) n e = record { token = sign mark.CloseParenthesis; no_operator = refl; ends = ends_complete _ m _ c (ends_context c m _) }
+ends_context (in_prefix m o at c) n e = ends_context c m (prefix o at e)
+ends_context (in_unary m o at c) n e = ends_context c m (unary o at e)
+ends_context (in_cast m at specs c) n e = ends_context c m (cast at specs e)
+ends_context (in_binary m o at a c) n e = rw (zero_le (strength o)) (ends_context c m (binary o at a e))
+ends_context (in_choice m at d c) n e = record { token = sign mark.Colon; no_operator = refl; ends = goes a_character (ends_complete _ _ _ (in_alternative m at d e c) (ends_context c m _)) }
+ends_context (in_alternative m at d a c) n e = ends_context c m (conditional at d a e)
+ends_context (in_assignment m o at a c) n e = ends_context c m (assignment o at a e)
+ends_context (in_comma m at a c) n e = ends_context c m (comma at a e)
+
+ends_operand : (k n : ℕ) (c : Context) → Ends (taken k (operand n c))
+ends_operand k n c = goes a_character (ends_complete _ _ _ c (ends_context c _ _))
+
+-- the same of each state
+pub state_ends : (n : ℕ) (s : State) → Ends (taken n s)
+state_ends n (top before) = the_end before
+state_ends n (after_storage before s) = goes (a_token (kind.Keyword key.Int)) (goes a_name (goes semicolon (the_end _)))
+state_ends n (after_specifiers s specs) = goes a_name (goes semicolon (ends_declaration _))
+state_ends n (after_name d id) = goes semicolon (ends_declaration _)
+state_ends n (after_length d) = goes semicolon (ends_declaration _)
+state_ends n (after_assign d) = goes a_character (ends_complete _ _ _ _ (ends_context _ _ _))
+state_ends n (after_brace d at) = goes a_character (ends_complete _ _ _ _ (ends_context _ _ _))
+state_ends n (after_item d at es) = goes (sign mark.CloseBrace) (ends_initializer _ _)
+state_ends n (after_initializer d) = ends_initializer n d
+state_ends n (after_comma d) = goes a_name (goes semicolon (ends_declaration _))
+state_ends n (parameters_open h) = goes (sign mark.CloseParenthesis) (goes semicolon (the_end _))
+state_ends n (parameter_specifiers h ps specs) = goes (sign mark.CloseParenthesis) (goes semicolon (the_end _))
+state_ends n (parameter_name h ps p) = goes (sign mark.CloseParenthesis) (goes semicolon (the_end _))
+state_ends n (parameter_comma h ps) = goes (a_token (kind.Keyword key.Int)) (goes (sign mark.CloseParenthesis) (goes semicolon (the_end _)))
+state_ends n (parameters_closed h ps) = goes semicolon (the_end _)
+state_ends n (block_item b) = ends_item n b
+state_ends n (at_statement m o) = ends_statement n m o
+state_ends n (after_statement s o) = ends_after n s o
+state_ends n (test_open k m at o) = goes (sign mark.OpenParenthesis) (ends_operand _ _ _)
+state_ends n (do_open m at s o) = goes (sign mark.OpenParenthesis) (ends_operand _ _ _)
+state_ends n (for_open m at o) = goes (sign mark.OpenParenthesis) (goes semicolon (ends_second _ m at _ o))
+state_ends n (for_first m at o) = goes semicolon (ends_second _ m at _ o)
+state_ends n (for_second m at f o) = ends_second n m at f o
+state_ends n (for_third m at f second o) = goes (sign mark.CloseParenthesis) (ends_statement _ _ _)
+state_ends n (default_colon m at o) = goes (sign mark.Colon) (ends_statement _ _ _)
+state_ends n (goto_name m at o) = goes a_name (goes semicolon (ends_after _ _ o))
+state_ends n (returning m at o) = goes semicolon (ends_after _ _ o)
+state_ends n (statement_end m s o) = goes semicolon (ends_after _ _ o)
+state_ends n (operand m c) = ends_operand n m c
+state_ends n (named m id c) = goes (sign mark.OpenParenthesis) (goes (sign mark.CloseParenthesis) (ends_complete _ _ _ c (ends_context c _ _)))
+state_ends n (arguments m id c) = goes (sign mark.CloseParenthesis) (ends_complete _ _ _ c (ends_context c _ _))
+state_ends n (opened m at c) = goes a_character (ends_complete _ _ _ _ (ends_context _ _ _))
+state_ends n (cast_specifiers m at specs c) = goes (sign mark.CloseParenthesis) (ends_operand _ _ _)
+state_ends n (complete m e c) = ends_complete n m e c (ends_context c m e)

@@ -1,0 +1,120 @@
+-- Lists that grow at their end.
+use Rattle.std.proofs.Common.{◌≡◌, ℕ, List, [], ◌∷◌, ◌++◌, Some, refl}
+use Rattle.pk_lex.specs.declared.token.Token.{Token}
+use Rattle.pk_lex.specs.declared.token.Punctuator.TheVariants as mark
+use Rattle.pk_ast.specs.declared.declarations.SpecifierWord.{SpecifierWord}
+use Rattle.pk_ast.specs.declared.declarations.Specifier.{Specifier}
+use Rattle.pk_ast.specs.Trees.{ExpressionTree, ExpressionTrees, no_expressions, expression_then, DeclaratorTree, DeclarationTree, StatementTree, ItemTrees, no_items, declaration_then, statement_then, ParameterTree, ExternalTree}
+use Rattle.pk_grammar.specs.Languages.{Marked, ◌⊙◌}
+use Rattle.pk_grammar.specs.Grammar.{punctuator, assignment_expression, Fits, AllFit, specifier, specifiers, spelled, spelled_list, spelled_more, declarator, declarators, declared, statement, block_items, parameter, IsVoidAlone, more_parameters, parameters, external, externals}
+use Rattle.pk_grammar.specs.Steps.{specifier_at, one_more, one_more_statement, one_more_declaration}
+use Rattle.pk_grammar.proofs.SpellsSigns.{IsSpecifier}
+use Rattle.pk_grammar.proofs.SpellsWords.{Words, ◌▹◌, push, gather, last_as, assoc, then_as, alone, and_none}
+use Rattle.pk_grammar.proofs.SpellsStates.{expressions_before, declarators_before, parameters_before, some_items}
+
+-- Expressions
+
+comma_then : (es : ExpressionTrees) (e : ExpressionTree) (n : ℕ) (ts : List Marked) → (punctuator mark.Comma ⊙ spelled_list (one_more es e)) n ts → spelled_more (one_more es e) n ts
+unfolding spelled
+comma_then no_expressions e n ts h = h
+comma_then (expression_then d es) e n ts h = h
+
+pub expressions_end : (es : ExpressionTrees) (e : ExpressionTree) (n : ℕ) (ts : List Marked) → (expressions_before es ⊙ spelled e) n ts → spelled_list (one_more es e) n ts
+unfolding spelled
+expressions_end no_expressions e n ts h = and_none n ts (alone h)
+expressions_end (expression_then d es) e n ts h = then_as (λ us g. comma_then es e n us (then_as (λ vs f. expressions_end es e n vs f) (assoc g))) (assoc h)
+
+more_comma : (es : ExpressionTrees) (n : ℕ) (ts : List Marked) → (spelled_more es ⊙ punctuator mark.Comma) n ts → (punctuator mark.Comma ⊙ expressions_before es) n ts
+unfolding spelled
+more_comma no_expressions n ts h = and_none n ts (alone h)
+more_comma (expression_then e es) n ts h = then_as (λ us g. then_as (λ vs f. more_comma es n vs f) (assoc g)) (assoc h)
+
+list_comma : (es : ExpressionTrees) (e : ExpressionTree) (n : ℕ) (ts : List Marked) → (spelled_list (expression_then e es) ⊙ punctuator mark.Comma) n ts → expressions_before (expression_then e es) n ts
+unfolding spelled
+list_comma es e n ts h = then_as (λ us g. more_comma es n us g) (assoc h)
+
+pub items_comma : (es : ExpressionTrees) (n : ℕ) (ts : List Marked) → (some_items es ⊙ punctuator mark.Comma) n ts → expressions_before es n ts
+items_comma no_expressions n ts h = absurd h.first
+items_comma (expression_then e es) n ts h = list_comma es e n ts (record { front = h.front; back = h.back; cut = h.cut; first = h.first.is; second = h.second })
+
+pub items_fit : (es : ExpressionTrees) (n : ℕ) (ts : List Marked) → some_items es n ts → AllFit es
+items_fit no_expressions n ts h = absurd h
+items_fit (expression_then e es) n ts h = h.fit
+
+pub all_fit : (es : ExpressionTrees) (e : ExpressionTree) → AllFit es → Fits assignment_expression e → AllFit (one_more es e)
+all_fit no_expressions e a f = (f, tt)
+all_fit (expression_then d es) e a f = (a.0, all_fit es e a.1 f)
+
+pub some_items_end : (es : ExpressionTrees) (e : ExpressionTree) (n : ℕ) (ts : List Marked) → AllFit es → Fits assignment_expression e → (expressions_before es ⊙ spelled e) n ts → some_items (one_more es e) n ts
+some_items_end no_expressions e n ts a f h = record { fit = all_fit no_expressions e a f; is = expressions_end no_expressions e n ts h }
+some_items_end (expression_then d es) e n ts a f h = record { fit = all_fit (expression_then d es) e a f; is = expressions_end (expression_then d es) e n ts h }
+
+pub expressions_comma : (es : ExpressionTrees) (e : ExpressionTree) (n : ℕ) (ts : List Marked) → (spelled_list (one_more es e) ⊙ punctuator mark.Comma) n ts → expressions_before (one_more es e) n ts
+expressions_comma no_expressions e n ts h = list_comma no_expressions e n ts h
+expressions_comma (expression_then d es) e n ts h = list_comma (one_more es e) d n ts h
+
+-- Declarations
+
+specifiers_end : (ss : List Specifier) (s : Specifier) (n : ℕ) (ts : List Marked) → (specifiers ss ⊙ specifier s) n ts → specifiers (ss ++ s ∷ []) n ts
+specifiers_end [] s n ts h = absurd h.first
+specifiers_end (a ∷ []) s n ts h = h
+specifiers_end (a ∷ b ∷ ss) s n ts h = then_as (λ us g. specifiers_end (b ∷ ss) s n us g) (assoc h)
+
+-- one more word of a type
+pub one_more_word : {R : Words} (ss : List Specifier) (w : SpecifierWord) (t : Token) (n : ℕ) (ms : List Marked) → IsSpecifier (Some w) t.kind → (R ▹ specifiers ss n) ms →
+    (R ▹ specifiers (ss ++ specifier_at t w ∷ []) n) (ms ++ record { token = t; nesting = n } ∷ [])
+one_more_word ss w t n ms k h = last_as (λ ts g. specifiers_end ss (specifier_at t w) n ts g) (gather (push ms t h (k, refl)))
+
+declarators_then : (d : DeclaratorTree) (ds : List DeclaratorTree) (e : DeclaratorTree) (n : ℕ) (ts : List Marked) →
+    (declarator d ⊙ punctuator mark.Comma ⊙ declarators (ds ++ e ∷ [])) n ts → declarators (d ∷ (ds ++ e ∷ [])) n ts
+declarators_then d [] e n ts h = h
+declarators_then d (a ∷ ds) e n ts h = h
+
+pub declarators_end : (ds : List DeclaratorTree) (d : DeclaratorTree) (n : ℕ) (ts : List Marked) → (declarators_before ds ⊙ declarator d) n ts → declarators (ds ++ d ∷ []) n ts
+declarators_end [] d n ts h = alone h
+declarators_end (a ∷ ds) d n ts h = declarators_then a ds d n ts (then_as (λ us g. then_as (λ vs f. declarators_end ds d n vs f) (assoc g)) (assoc h))
+
+pub declarators_comma : (ds : List DeclaratorTree) (n : ℕ) (ts : List Marked) → (declarators ds ⊙ punctuator mark.Comma) n ts → declarators_before ds n ts
+declarators_comma [] n ts h = absurd h.first
+declarators_comma (d ∷ []) n ts h = then_as (λ us g. and_none n us g) h
+declarators_comma (d ∷ e ∷ ds) n ts h = then_as (λ us g. then_as (λ vs f. declarators_comma (e ∷ ds) n vs f) (assoc g)) (assoc h)
+
+-- Statements
+
+pub items_statement : (items : ItemTrees) (s : StatementTree) (n : ℕ) (ts : List Marked) → (block_items items ⊙ statement s) n ts → block_items (one_more_statement items s) n ts
+unfolding statement
+items_statement no_items s n ts h = and_none n ts (alone h)
+items_statement (declaration_then d items) s n ts h = then_as (λ us g. items_statement items s n us g) (assoc h)
+items_statement (statement_then r items) s n ts h = then_as (λ us g. items_statement items s n us g) (assoc h)
+
+pub items_declaration : (items : ItemTrees) (d : DeclarationTree) (n : ℕ) (ts : List Marked) → (block_items items ⊙ declared d) n ts → block_items (one_more_declaration items d) n ts
+unfolding statement
+items_declaration no_items d n ts h = and_none n ts (alone h)
+items_declaration (declaration_then c items) d n ts h = then_as (λ us g. items_declaration items d n us g) (assoc h)
+items_declaration (statement_then r items) d n ts h = then_as (λ us g. items_declaration items d n us g) (assoc h)
+
+-- External definitions
+
+more_parameters_end : (ps : List ParameterTree) (p : ParameterTree) (n : ℕ) (ts : List Marked) →
+    (punctuator mark.Comma ⊙ (parameters_before ps ⊙ parameter p)) n ts → more_parameters (ps ++ p ∷ []) n ts
+more_parameters_end [] p n ts h = then_as (λ us g. and_none n us (alone g)) h
+more_parameters_end (q ∷ ps) p n ts h = then_as (λ us g. then_as (λ vs f. more_parameters_end ps p n vs (assoc f)) (assoc g)) h
+
+parameters_then : (q : ParameterTree) (ps : List ParameterTree) (p : ParameterTree) (n : ℕ) (ts : List Marked) →
+    (parameter q ⊙ more_parameters (ps ++ p ∷ [])) n ts → parameters (q ∷ (ps ++ p ∷ [])) n ts
+parameters_then q [] p n ts h = h
+parameters_then q (r ∷ ps) p n ts h = h
+
+pub parameters_end : (ps : List ParameterTree) (p : ParameterTree) (n : ℕ) (ts : List Marked) → (ps ≡ [] → ¬ IsVoidAlone p) →
+    (parameters_before ps ⊙ parameter p) n ts → parameters (ps ++ p ∷ []) n ts
+parameters_end [] p n ts v h = record { holds = v refl; is = alone h }
+parameters_end (q ∷ ps) p n ts v h = parameters_then q ps p n ts (then_as (λ us g. more_parameters_end ps p n us (assoc g)) (assoc h))
+
+pub parameters_comma : (ps : List ParameterTree) (p : ParameterTree) (n : ℕ) (ts : List Marked) →
+    (parameters_before ps ⊙ (parameter p ⊙ punctuator mark.Comma)) n ts → parameters_before (ps ++ p ∷ []) n ts
+parameters_comma [] p n ts h = then_as (λ us g. and_none n us g) (alone h)
+parameters_comma (q ∷ ps) p n ts h = then_as (λ us g. then_as (λ vs f. parameters_comma ps p n vs f) (assoc g)) (assoc h)
+
+pub externals_end : (xs : List ExternalTree) (x : ExternalTree) (n : ℕ) (ts : List Marked) → (externals xs ⊙ external x) n ts → externals (xs ++ x ∷ []) n ts
+externals_end [] x n ts h = and_none n ts (alone h)
+externals_end (y ∷ xs) x n ts h = then_as (λ us g. externals_end xs x n us g) (assoc h)

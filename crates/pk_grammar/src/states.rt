@@ -1,0 +1,9 @@
+// What the parser keeps of the tokens that it has read.
+
+/// A statement that begins with a test in parentheses.
+#[derive(Clone, Copy, Debug, PartialEq, Eq)]
+pub enum Testing {
+    If,
+    Switch,
+    While,
+}

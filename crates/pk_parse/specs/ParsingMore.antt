@@ -1,0 +1,74 @@
+-- What the functions on declarations, statements and external definitions begin with and lead to.
+use Rattle.std.specs.Prelude.{◌≡◌, ℕ, ◌+◌, List, [], ◌∷◌, ◌++◌, Option, Some, None, true, false}
+use Rattle.pk_ctypes.specs.declared.places.Pos.{Pos}
+use Rattle.pk_lex.specs.declared.token.Token.{Token}
+use Rattle.pk_ast.specs.declared.expressions.Identifier.{Identifier}
+use Rattle.pk_ast.specs.declared.units.Storage.{Storage}
+use Rattle.pk_ast.specs.Lists.{append_items}
+use Rattle.pk_ast.specs.Trees.{ExpressionTree, DeclaratorTree, DeclarationTree, block, ItemTrees, no_items, BlockTree, ParameterTree, ExternalTree, function}
+use Rattle.pk_grammar.specs.declared.signs.Fixed.{Fixed}
+use Rattle.pk_grammar.specs.declared.signs.Fixed.TheVariants as fixed
+use Rattle.pk_grammar.specs.Grammar.{any_expression}
+use Rattle.pk_grammar.specs.Signs.{is_fixed}
+use Rattle.pk_grammar.specs.States.{Head, OpenBlock, function_block, inner_block, Site, in_a_block, in_a_for, outside, Declaring, Purpose, as_whole, State, top, after_storage, parameter_specifiers, parameter_name, after_statement, operand}
+use Rattle.pk_grammar.specs.Steps.{refused, taken, wanted, site_nesting, block_nesting, whole_declaration, declared_at, open_parameters, purpose_level, end_purpose, step}
+use Rattle.pk_grammar.specs.Running.{first_of_all}
+use Rattle.pk_expression.specs.Parsing.{EndsAt, UpTo, Reads}
+
+-- A declaration at this nesting, of which a name was read; where a `(` follows, it isn't the name of a function.
+pub record CanDeclare (end : Token) (d : Declaring) (id : Identifier) (n : ℕ) (ts : List Token) : Type 0 where
+  pub nesting : site_nesting d.site ≡ n
+  pub no_function : is_fixed fixed.OpenParenthesis (first_of_all end ts).kind ≡ true → open_parameters d.site d.specifiers d.declarators id ≡ refused
+
+-- a declaration in a function
+abbrev pub IsInner : Site → Type 0
+IsInner (in_a_block b) = Unit {0}
+IsInner (in_a_for n at o) = Unit {0}
+IsInner (outside before s) = ⊥
+
+abbrev pub with_declarators : Declaring → List DeclaratorTree → Declaring
+with_declarators d more = record { site = d.site; specifiers = d.specifiers; declarators = d.declarators ++ more }
+
+abbrev pub after_declaration : Declaring → State
+after_declaration d = declared_at d.site (whole_declaration d)
+
+-- No expression before this token, or one that ends somewhere
+abbrev pub IsOptional : Token → ℕ → Fixed → List Token → Option ExpressionTree → List Token → Type 0
+IsOptional end n close ts None rest = (rest ≡ ts) × (is_fixed close (first_of_all end ts).kind ≡ true)
+IsOptional end n close ts (Some e) rest =
+    (is_fixed close (first_of_all end ts).kind ≡ false) × Reads end (UpTo any_expression) (λ c. operand n c) n ts e rest × EndsAt end any_expression rest
+
+-- from this state an expression in parentheses is read, and leads to the next one
+pub record IsTest (s : State) (p : Purpose) (n : ℕ) (next : ExpressionTree → State) : Type 0 where
+  pub level : purpose_level p ≡ any_expression
+  pub opens : (t : Token) → step s t ≡ wanted fixed.OpenParenthesis t (taken (n + 1) (operand (n + 1) (as_whole p)))
+  pub closes : (e : ExpressionTree) (t : Token) → end_purpose p e t ≡ wanted fixed.CloseParenthesis t (taken n (next e))
+
+abbrev pub with_items : OpenBlock → ItemTrees → OpenBlock
+with_items (function_block h ps at items) more = function_block h ps at (append_items items more)
+with_items (inner_block n at items o) more = inner_block n at (append_items items more) o
+
+-- a block at this nesting, of which the `{` was read
+abbrev pub IsNewBlock : OpenBlock → Pos → ℕ → Type 0
+IsNewBlock (function_block h ps at items) place n = (at ≡ place) × (items ≡ no_items) × (1 ≡ n)
+IsNewBlock (inner_block m at items o) place n = (at ≡ place) × (items ≡ no_items) × (m + 1 ≡ n)
+
+abbrev pub after_function : Head → List ParameterTree → Option BlockTree → State
+after_function h ps body =
+    top (h.before ++ function (record { storage = h.storage; specifiers = h.specifiers; name = h.name; parameters = ps; body = body }) ∷ [])
+
+abbrev pub after_block : OpenBlock → BlockTree → State
+after_block (function_block h ps at items) b = after_function h ps (Some b)
+after_block (inner_block n at items o) b = after_statement (block b.opened b.items b.closed) o
+
+-- a parameter was read, with a name or without
+abbrev pub parameter_state : Head → List ParameterTree → ParameterTree → Option Identifier → State
+parameter_state h ps p None = parameter_specifiers h ps p.specifiers
+parameter_state h ps p (Some id) = parameter_name h ps p
+
+abbrev pub after_parameter : Head → List ParameterTree → ParameterTree → State
+after_parameter h ps p = parameter_state h ps p p.name
+
+abbrev pub storage_state : List ExternalTree → Option Storage → State
+storage_state before None = top before
+storage_state before (Some s) = after_storage before s

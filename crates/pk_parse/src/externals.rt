@@ -1,0 +1,152 @@
+// External definitions, and texts.
+
+ghost use Rattle.std.specs.Prelude.{◌≡◌, ◌≢◌, ◌<◌, ◌≤◌, ◌↔◌, List, [], ◌∷◌, ◌++◌, IsTrue, IfOk, IfErr, length, MatchResult, option_map};
+ghost use Rattle.pk_ast.specs.Trees as tree;
+ghost use Rattle.pk_ast.specs.Trees.{ExternalTree};
+ghost use Rattle.pk_ast.specs.Views.{block_tree, parameter_tree, parameter_trees, external_tree, unit_tree};
+ghost use Rattle.pk_grammar.specs.Grammar.{IsVoidAlone};
+ghost use Rattle.pk_grammar.specs.Outcomes.{IsEnded, IsParsed, IsRefused};
+ghost use Rattle.pk_grammar.specs.Running.{first_of_all, run, Fails};
+ghost use Rattle.pk_parse.specs.ParsingMore.{after_parameter, after_function, storage_state};
+ghost use Rattle.pk_grammar.specs.States as states;
+
+use crate::declarations::declarators;
+use crate::statements::block;
+use pk_grammar::{Fixed, ParseError, is_void_word, storage_word};
+use pk_expression::{Parser, identifier};
+use pk_ast::{Block, Declaration, External, Function, Parameter, Specifier, Storage, Unit};
+use pk_lex::{Kind, Token};
+use std::alloc::Global;
+
+// The word `void` and nothing else, which is no parameter.
+fn is_void_alone(p: &Parameter) -> bool
+    ensures { IsTrue result ↔ IsVoidAlone (parameter_tree p.now) }
+{
+    p.name.is_none() && p.specifiers.len() == 1 && is_void_word(p.specifiers[0].word)
+}
+
+// A parameter, of which the first word was read.
+fn parameter<'a>(
+    parser: Parser,
+    first: Specifier,
+    tokens: &'a [Token],
+) -> Result<(Parameter, &'a [Token]), ParseError>
+    ensures { MatchResult result
+        (λ r. ((h : states.Head) (ps : List tree.ParameterTree) → run parser.end (states.parameter_specifiers h ps (first ∷ [])) tokens.now ≡ run parser.end (after_parameter h ps (parameter_tree r.0)) r.1.now) × (length r.1.now ≤ length tokens.now))
+        (λ x. (h : states.Head) (ps : List tree.ParameterTree) → Fails (run parser.end (states.parameter_specifiers h ps (first ∷ [])) tokens.now) x) }
+{
+    let (words, rest) = parser.specifiers(first, tokens)?;
+    match parser.take(rest, Fixed::Name) {
+        Some((name, after)) => Ok((Parameter::new(words, Some(identifier(name))), after)),
+        None => Ok((Parameter::new(words, None), rest)),
+    }
+}
+
+// A function's parameters, after the `(`, and the `)`.
+fn parameters<'a>(
+    parser: Parser,
+    tokens: &'a [Token],
+) -> Result<(Vec<Parameter>, &'a [Token]), ParseError>
+    ensures { MatchResult result
+        (λ r. ((h : states.Head) → run parser.end (states.parameters_open h) tokens.now ≡ run parser.end (states.parameters_closed h (parameter_trees r.0.items)) r.1.now) × (length r.1.now ≤ length tokens.now))
+        (λ x. (h : states.Head) → Fails (run parser.end (states.parameters_open h) tokens.now) x) }
+{
+    let mut list = Vec::new(parser.alloc);
+    if let Some((_, last)) = parser.take(tokens, Fixed::CloseParenthesis) {
+        return Ok((list, last));
+    }
+    let mut rest = tokens;
+    loop {
+        let Some((word, after)) = parser.specifier(rest) else {
+            return Err(ParseError::Syntax {
+                at: parser.place(rest),
+            });
+        };
+        let (parameter, next) = parameter(parser, word, after)?;
+        if let Some((_, last)) = parser.take(next, Fixed::CloseParenthesis) {
+            if !list.is_empty() || !is_void_alone(&parameter) {
+                list.push(parameter)?;
+            }
+            return Ok((list, last));
+        }
+        let (_, following) = parser.expect(next, Fixed::Comma)?;
+        list.push(parameter)?;
+        rest = following;
+    }
+}
+
+// A function's body, or the `;` in place of it.
+fn body<'a>(parser: Parser, tokens: &'a [Token]) -> Result<(Option<Block>, &'a [Token]), ParseError>
+    ensures { MatchResult result
+        (λ r. ((h : states.Head) (ps : List tree.ParameterTree) → run parser.end (states.parameters_closed h ps) tokens.now ≡ run parser.end (after_function h ps (option_map block_tree r.0)) r.1.now) × (length r.1.now ≤ length tokens.now))
+        (λ x. (h : states.Head) (ps : List tree.ParameterTree) → Fails (run parser.end (states.parameters_closed h ps) tokens.now) x) }
+{
+    if let Some((_, last)) = parser.take(tokens, Fixed::Semicolon) {
+        return Ok((None, last));
+    }
+    let (open, after) = parser.expect(tokens, Fixed::OpenBrace)?;
+    let (block, last) = block(parser, open.at, after, 1)?;
+    Ok((Some(block), last))
+}
+
+// `static` or `extern`, where it comes first.
+fn storage<'a>(parser: Parser, tokens: &'a [Token]) -> (Option<Storage>, &'a [Token])
+    ensures { (before : List tree.ExternalTree) → run parser.end (states.top before) tokens.now ≡ run parser.end (storage_state before result.0) result.1.now }
+{
+    let Some((token, rest)) = tokens.split_first() else {
+        return (None, tokens);
+    };
+    match storage_word(token.kind) {
+        Some(word) => (Some(Storage { word, at: token.at }), rest),
+        None => (None, tokens),
+    }
+}
+
+// An external definition.
+fn external<'a>(parser: Parser, tokens: &'a [Token]) -> Result<(External, &'a [Token]), ParseError>
+    requires { (first_of_all parser.end tokens.now).kind ≢ Kind.End }
+    ensures { MatchResult result
+        (λ r. ((before : List tree.ExternalTree) → run parser.end (states.top before) tokens.now ≡ run parser.end (states.top (before ++ external_tree r.0 ∷ [])) r.1.now) × (length r.1.now < length tokens.now))
+        (λ x. (before : List tree.ExternalTree) → Fails (run parser.end (states.top before) tokens.now) x) }
+{
+    let (storage, after_storage) = storage(parser, tokens);
+    let Some((word, after_word)) = parser.specifier(after_storage) else {
+        return Err(ParseError::Syntax {
+            at: parser.place(after_storage),
+        });
+    };
+    let (words, after_words) = parser.specifiers(word, after_word)?;
+    let (token, after_name) = parser.expect(after_words, Fixed::Name)?;
+    let name = identifier(token);
+    let Some((_, after_open)) = parser.take(after_name, Fixed::OpenParenthesis) else {
+        let (declarators, last) = declarators(parser, name, after_name, 0)?;
+        let declaration = Declaration::new(words, declarators);
+        return Ok((External::declaration(storage, declaration), last));
+    };
+    let (parameters, after_close) = parameters(parser, after_open)?;
+    let (body, last) = body(parser, after_close)?;
+    let function = Function::new(storage, words, name, parameters, body);
+    Ok((External::function(function), last))
+}
+
+/// The trees of the tokens of a text, of which the last, and no other, is End; else the place of the first token with which no text
+/// goes on, or that is nested deeper than 128, whichever comes first.
+pub fn parse(alloc: Global, tokens: &[Token]) -> Result<Unit, ParseError>
+    requires { IsEnded tokens.now }
+    ensures parsed { IfOk result (λ u. IsParsed tokens.now (unit_tree u)) }
+    ensures refused { IfErr result (IsRefused tokens.now) }
+    ensures only { (trees : List ExternalTree) → IsParsed tokens.now trees → MatchResult result (λ u. unit_tree u ≡ trees) (λ x. x ≡ ParseError.Memory) }
+{
+    let Some((end, front)) = tokens.split_last() else {
+        return Err(ParseError::Memory);
+    };
+    let parser = Parser { alloc, end: *end };
+    let mut externals = Vec::new(alloc);
+    let mut rest = front;
+    while !rest.is_empty() {
+        let (external, after) = parser.external(rest)?;
+        externals.push(external)?;
+        rest = after;
+    }
+    Ok(Unit::new(externals))
+}
