@@ -103,22 +103,22 @@ module _ (end : Token) (n : ℕ) (ts : List Token) where
       ∙ run_question end n test k rest at after b p (subst (λ q. q ≤ 128) i h)
       ∙ ap (λ q. run end (operand q (in_choice n at test k)) after) (sym i)
 
-  pub chooses : (test yes : ExpressionTree) (rest after colon next : List Token) (at : Pos) (t : Token) (inside : ℕ) → Reads end (UpTo 3) (λ c. operand n c) n ts test rest →
-      BeginsWith operator.Question rest at after → inside ≡ n + 1 → inside ≤ 128 → Reads end (UpTo 0) (λ c. operand inside c) inside after yes colon → Begins fixed.Colon colon t next →
-      (k : Context) → operand_level k ≤ 2 → run end (operand n k) ts ≡ run end (operand inside (in_alternative n at test yes k)) next
-  chooses test yes rest after colon next at t inside r b i h y d k p =
+  pub chooses : (test chosen : ExpressionTree) (rest after colon next : List Token) (at : Pos) (t : Token) (inside : ℕ) → Reads end (UpTo 3) (λ c. operand n c) n ts test rest →
+      BeginsWith operator.Question rest at after → inside ≡ n + 1 → inside ≤ 128 → Reads end (UpTo 0) (λ c. operand inside c) inside after chosen colon → Begins fixed.Colon colon t next →
+      (k : Context) → operand_level k ≤ 2 → run end (operand n k) ts ≡ run end (operand inside (in_alternative n at test chosen k)) next
+  chooses test chosen rest after colon next at t inside r b i h y d k p =
       asks test rest after at inside r b i h k p
       ∙ y (in_choice n at test k) (omega arith)
-      ∙ run_colon end n inside at yes k colon t next test d (subst (λ q. q ≤ 128) i h)
-      ∙ ap (λ q. run end (operand q (in_alternative n at test yes k)) next) (sym i)
+      ∙ run_colon end n inside at chosen k colon t next test d (subst (λ q. q ≤ 128) i h)
+      ∙ ap (λ q. run end (operand q (in_alternative n at test chosen k)) next) (sym i)
 
-  pub reads_conditional : (test yes no whole : ExpressionTree) (rest after colon next last : List Token) (at : Pos) (t : Token) (inside : ℕ) → Reads end (UpTo 3) (λ c. operand n c) n ts test rest →
-      BeginsWith operator.Question rest at after → inside ≡ n + 1 → inside ≤ 128 → Reads end (UpTo 0) (λ c. operand inside c) inside after yes colon → Begins fixed.Colon colon t next →
-      Reads end (UpTo 2) (λ c. operand inside c) inside next no last → EndsAt end 2 last → whole ≡ conditional at test yes no → Reads end (UpTo 2) (λ c. operand n c) n ts whole last
-  reads_conditional test yes no whole rest after colon next last at t inside r b i h y d q ends w = λ k p.
-      chooses test yes rest after colon next at t inside r b i h y d k p
-      ∙ q (in_alternative n at test yes k) (omega arith)
-      ∙ run_conditional_end end n inside at no k last test yes ends p
+  pub reads_conditional : (test chosen other whole : ExpressionTree) (rest after colon next last : List Token) (at : Pos) (t : Token) (inside : ℕ) → Reads end (UpTo 3) (λ c. operand n c) n ts test rest →
+      BeginsWith operator.Question rest at after → inside ≡ n + 1 → inside ≤ 128 → Reads end (UpTo 0) (λ c. operand inside c) inside after chosen colon → Begins fixed.Colon colon t next →
+      Reads end (UpTo 2) (λ c. operand inside c) inside next other last → EndsAt end 2 last → whole ≡ conditional at test chosen other → Reads end (UpTo 2) (λ c. operand n c) n ts whole last
+  reads_conditional test chosen other whole rest after colon next last at t inside r b i h y d q ends w = λ k p.
+      chooses test chosen rest after colon next at t inside r b i h y d k p
+      ∙ q (in_alternative n at test chosen k) (omega arith)
+      ∙ run_conditional_end end n inside at other k last test chosen ends p
       ∙ ap (λ m. run end (complete n m k) last) (sym w)
 
   -- an assignment
