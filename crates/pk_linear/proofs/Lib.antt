@@ -1,4 +1,4 @@
-mod ListLemmas
+pub mod ListLemmas
 mod StepLemmas
 mod LevelLemmas
 mod WaitLemmas

@@ -1,2 +1,3 @@
+mod ConditionLemmas
 mod OrderLemmas
 pub mod Determined

@@ -3,6 +3,7 @@
 ghost use Rattle.std.specs.Prelude.{◌≡◌, ◌+◌, ◌<◌, ◌^◌, All, length, IfOk};
 ghost use Rattle.pk_wpo.specs.Made.{Fits};
 ghost use Rattle.pk_linear.specs.Linear.{GoesForward};
+ghost use Rattle.pk_order.specs.Condition.{IsWeakTopologicalOrder};
 ghost use Rattle.pk_order.specs.Ordered.{IsOrdered, OrderIsDetermined, heads_of};
 
 use pk_linear::linear;
@@ -20,6 +21,7 @@ pub fn ordered(alloc: Global, graph: &Digraph) -> Result<(Plan, Order), AllocErr
     ensures heads { IfOk result (λ made. All (λ h. h < length graph.now) (heads_of made.0)) }
     ensures fits { IfOk result (λ made. Fits graph.now made.0) }
     ensures forward { IfOk result (λ made. GoesForward made.0 made.1.order) }
+    ensures condition { IfOk result (λ made. IsWeakTopologicalOrder graph.now made.1.order) }
 {
     let nest = nest(alloc, graph)?;
     let plan = plan(alloc, &nest, graph)?;
