@@ -1,0 +1,3 @@
+mod TableLemmas
+mod ScanLemmas
+pub mod DeterminedLemmas

@@ -1,0 +1,10 @@
+//! The constructs of C that aren't analysed.
+#![tactic(auto)]
+
+mod constructs;
+mod laws;
+#[cfg(test)]
+mod tests;
+
+pub use constructs::first_unsupported;
+pub use laws::first_is_determined;
