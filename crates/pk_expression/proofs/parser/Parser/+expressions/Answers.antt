@@ -1,5 +1,6 @@
-use Rattle.std.proofs.Common.{◌≡◌, ◌+◌, ◌<◌, ◌≤◌, length, refl, sym, ap, subst, ◌∙◌, le-leb, arith}
-use Rattle.pk_ast.specs.Trees.{call}
+use Rattle.std.proofs.Common.{◌≡◌, ◌+◌, ◌<◌, ◌≤◌, SFits, w8, length, refl, sym, ap, subst, ◌∙◌, le-leb, arith, rules}
+use Rattle.std.proofs.lemmas.Int.{to_z-of_z}
+use Rattle.pk_ast.specs.Trees.{call, character}
 use Rattle.pk_ast.specs.Views.{expression_tree, expression_trees}
 use Rattle.pk_grammar.specs.Grammar.{operators_in, postfixes_in, commas_in}
 use Rattle.pk_grammar.specs.Signs.{operand_start}
@@ -233,7 +234,16 @@ pub operand-returns-in-Other : goal.operand-returns-in-Other
 operand-returns-in-Other t c = λ k h. no_operand c.args.self.end c.args.outside k c.args.tokens.now _ _ c.in_ok-token.ensures (sym c.operand_start.ensures ∙ c.in-Other.is)
 
 pub operand-returns-in-Character : goal.operand-returns-in-Character
-operand-returns-in-Character t c = let h = c.in-Character in let g = c.operand_start in let f = c.character in let d = c.in_ok-token in let e = c.next in ?
+operand-returns-in-Character t c =
+    let cut = c.in_ok-token.ensures in
+    let fits : SFits w8 c.in-Character.value = search rules in
+    let same = ap (λ v. character c.in_ok-token.token.at v) (to_z-of_z w8 c.in-Character.value fits) in
+    let begins = λ (k : Context).
+        run_character c.args.self.end c.args.outside k c.args.tokens.now _ _ cut c.in-Character.value (sym c.operand_start.ensures ∙ c.in-Character.is) c.requires
+        ∙ ap (λ q. run c.args.self.end (complete c.args.outside q k) c.in_ok-token.rest.now) (sym (c.character.ensures ∙ same)) in
+    handed _ _ _ _ c.postfixes-in-Character.result c.postfixes-in-Character.ensures
+    (λ r e. (λ k h. begins k ∙ e.0 k tt, e.1, (let p = e.2 in omega (arith, ap length cut))))
+    (λ y e k h. fails_as _ _ _ (begins k) (e k tt))
 
 pub operand-returns-in-Constant : goal.operand-returns-in-Constant
 operand-returns-in-Constant t c =
