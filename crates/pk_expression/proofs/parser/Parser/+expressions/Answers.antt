@@ -1,16 +1,15 @@
-use Rattle.std.proofs.Common.{◌≡◌, ◌+◌, ◌<◌, ◌≤◌, SFits, w8, length, refl, sym, ap, subst, ◌∙◌, le-leb, arith, rules}
+use Rattle.std.proofs.Common.{◌+◌, ◌<◌, ◌≤◌, SFits, w8, length, refl, sym, ap, subst, ◌∙◌, arith, rules}
 use Rattle.std.proofs.lemmas.Int.{to_z-of_z}
 use Rattle.pk_ast.specs.Trees.{call, character}
 use Rattle.pk_ast.specs.Views.{expression_tree, expression_trees}
 use Rattle.pk_grammar.specs.Grammar.{operators_in, postfixes_in, commas_in}
-use Rattle.pk_grammar.specs.Signs.{operand_start}
-use Rattle.pk_grammar.specs.States.{Context, in_call, in_index, in_parentheses, in_cast, in_choice, in_alternative, in_assignment, in_comma, named, arguments, opened, operand, complete}
+use Rattle.pk_grammar.specs.States.{Context, in_call, in_index, in_parentheses, in_cast, in_choice, in_alternative, in_assignment, in_comma, named, operand, complete}
 use Rattle.pk_grammar.specs.Steps.{operand_level}
 use Rattle.pk_grammar.specs.Running.{run}
 use Rattle.pk_expression.proofs.RunLemmas.{passed, handed, fails_as, fails_syntax, fails_nesting, no_more, below, outside_below, one_below}
 use Rattle.pk_expression.proofs.WordLemmas.{no_longer}
 use Rattle.pk_expression.proofs.RunOperators.{follows_weaker, deep_question, deep_assignment, no_assignment}
-use Rattle.pk_expression.proofs.RunOperands.{run_no_arguments, run_arguments, run_called, run_argument, run_name_alone, run_call, deep_call, run_index, deep_index, run_indexed, run_inner, run_parenthesized, run_cast, no_cast, run_name, run_constant, run_character, run_open, deep_open, deep_prefix, deep_unary, no_operand, operand_at_end, deep_comma}
+use Rattle.pk_expression.proofs.RunOperands.{run_no_arguments, run_arguments, run_called, run_argument, run_name_alone, run_call, deep_call, deep_index, run_indexed, run_inner, run_parenthesized, run_cast, no_cast, run_name, run_constant, run_character, run_open, deep_open, deep_prefix, deep_unary, no_operand, operand_at_end, deep_comma}
 use Rattle.pk_expression.proofs.RunEnds.{no_parenthesis, no_bracket, no_colon, no_argument_end}
 use Rattle.pk_expression.proofs.ExpressionLemmas.{trees_push, le_more, counts, ends_within, ends_binary, indexes, reads_prefix, fails_prefix, reads_unary, fails_unary, reads_binary, fails_binary, sinks_binary, asks, chooses, reads_conditional, assigns, reads_assignment, joins_comma, reads_comma, closes_cast, unclosed_cast, reads_cast}
 use Rattle.pk_expression.proofs.parser.Parser.+expressions.Goals as goal
@@ -19,18 +18,18 @@ use Rattle.pk_expression.proofs.parser.Parser.+expressions.Goals as goal
 
 pub arguments-returns-in-Some : goal.arguments-returns-in-Some
 arguments-returns-in-Some t c = (
-    λ id k h.
-        run_no_arguments c.args.self.end c.args.outside id k c.args.tokens.now _ _ c.in-Some.ensures (outside_below _ c.requires)
-        ∙ ap (λ q. run c.args.self.end (complete c.args.outside (call id (expression_trees q)) k) c.in-Some.after.now) (sym c.new-list.ensures.items),
-    omega (arith, ap length c.in-Some.ensures.cut),
+  λ id k h.
+      run_no_arguments c.args.self.end c.args.outside id k c.args.tokens.now _ _ c.in-Some.ensures (outside_below _ c.requires)
+      ∙ ap (λ q. run c.args.self.end (complete c.args.outside (call id (expression_trees q)) k) c.in-Some.after.now) (sym c.new-list.ensures.items),
+  omega (arith, ap length c.in-Some.ensures.cut),
 )
 
 pub arguments-loop-list-init : goal.arguments-loop-list-init
 arguments-loop-list-init t c = (
-    λ id k.
-        run_arguments c.args.self.end c.args.outside id k c.args.tokens.now c.in_default.ensures
-        ∙ ap (λ q. run c.args.self.end (operand (c.args.outside + 1) (in_call c.args.outside id (expression_trees q) k)) c.args.tokens.now) (sym c.new-list.ensures.items),
-    no_more _,
+  λ id k.
+      run_arguments c.args.self.end c.args.outside id k c.args.tokens.now c.in_default.ensures
+      ∙ ap (λ q. run c.args.self.end (operand (c.args.outside + 1) (in_call c.args.outside id (expression_trees q) k)) c.args.tokens.now) (sym c.new-list.ensures.items),
+  no_more _,
 )
 
 pub arguments-returns-in_err-argument : goal.arguments-returns-in_err-argument
@@ -61,9 +60,9 @@ arguments-returns-in_err-next t c =
     let es = expression_trees c.loop-list.list.items in
     passed _ _ c.from_residual-in_err-next.result _ c.from_residual-in_err-next.ensures.1
     (λ id k h. fails_syntax _ _ _ n.1
-        (i.0 id k
-        ∙ a.0 (in_call c.args.outside id es k) (no_more _)
-        ∙ no_argument_end c.args.self.end c.args.outside (c.args.outside + 1) c.args.self.end.at (expression_tree c.in_ok-argument.argument) k _ id es a.1 c.in_default-take.ensures n.0))
+    (i.0 id k
+    ∙ a.0 (in_call c.args.outside id es k) (no_more _)
+    ∙ no_argument_end c.args.self.end c.args.outside (c.args.outside + 1) c.args.self.end.at (expression_tree c.in_ok-argument.argument) k _ id es a.1 c.in_default-take.ensures n.0))
 
 pub arguments-loop-list-preserved : goal.arguments-loop-list-preserved
 arguments-loop-list-preserved t c =
@@ -127,8 +126,8 @@ named-returns-in_err-index t c =
     let n = c.in_ok-inside.ensures in
     passed _ _ c.from_residual-in_err-index.result _ c.from_residual-in_err-index.ensures.1
     (λ k h. fails_as _ _ _
-        (indexes c.args.self.end c.args.outside c.args.name k c.args.tokens.now c.in-Some-take.open c.in-Some-take.after.now _ c.in-Some-take.ensures n.0 n.1)
-        (c.in_err-index.ensures (in_index c.args.outside c.args.name c.in-Some-take.open.at k) (no_more _)))
+    (indexes c.args.self.end c.args.outside c.args.name k c.args.tokens.now c.in-Some-take.open c.in-Some-take.after.now _ c.in-Some-take.ensures n.0 n.1)
+    (c.in_err-index.ensures (in_index c.args.outside c.args.name c.in-Some-take.open.at k) (no_more _)))
 
 pub named-returns-in_err-last : goal.named-returns-in_err-last
 named-returns-in_err-last t c =
@@ -137,9 +136,9 @@ named-returns-in_err-last t c =
     let f = c.in_err-last.ensures in
     passed _ _ c.from_residual-in_err-last.result _ c.from_residual-in_err-last.ensures.1
     (λ k h. fails_syntax _ _ _ f.1
-        (indexes c.args.self.end c.args.outside c.args.name k c.args.tokens.now c.in-Some-take.open c.in-Some-take.after.now _ c.in-Some-take.ensures n.0 n.1
-        ∙ x.0 (in_index c.args.outside c.args.name c.in-Some-take.open.at k) (no_more _)
-        ∙ no_bracket c.args.self.end c.args.outside c.in_ok-inside.inside c.in-Some-take.open.at (expression_tree c.in_ok-index.index) k _ c.args.name x.1 f.0))
+    (indexes c.args.self.end c.args.outside c.args.name k c.args.tokens.now c.in-Some-take.open c.in-Some-take.after.now _ c.in-Some-take.ensures n.0 n.1
+    ∙ x.0 (in_index c.args.outside c.args.name c.in-Some-take.open.at k) (no_more _)
+    ∙ no_bracket c.args.self.end c.args.outside c.in_ok-inside.inside c.in-Some-take.open.at (expression_tree c.in_ok-index.index) k _ c.args.name x.1 f.0))
 
 pub named-returns-in-Some-take : goal.named-returns-in-Some-take
 named-returns-in-Some-take t c =
@@ -169,8 +168,8 @@ cast-returns-in_err-operand t c =
     let s = c.in_ok-words.ensures in
     passed _ _ c.from_residual-in_err-operand.result _ c.from_residual-in_err-operand.ensures.1
     (λ k h. fails_as _ _ _
-        (closes_cast c.args.self.end c.args.outside c.args.at c.args.first c.args.tokens.now _ c.in_ok-words.rest.now s.0 s.1 _ _ c.in_ok-after.ensures (below _ c.requires) k)
-        (c.in_err-operand.ensures (in_cast c.args.outside c.args.at c.in_ok-words.words.items k) refl))
+    (closes_cast c.args.self.end c.args.outside c.args.at c.args.first c.args.tokens.now _ c.in_ok-words.rest.now s.0 s.1 _ _ c.in_ok-after.ensures (below _ c.requires) k)
+    (c.in_err-operand.ensures (in_cast c.args.outside c.args.at c.in_ok-words.words.items k) refl))
 
 pub cast-returns : goal.cast-returns
 cast-returns t c =
@@ -189,7 +188,7 @@ pub opened-returns-then-casts : goal.opened-returns-then-casts
 opened-returns-then-casts t c =
     let b = c.in-Some.ensures in
     let opens = λ (k : Context) (h : _).
-        run_cast c.args.self.end c.args.outside c.args.at k c.args.tokens.now c.in-Some.first c.in-Some.after.now b (h ∙ c.if-casts.true) (below _ c.requires) in
+    run_cast c.args.self.end c.args.outside c.args.at k c.args.tokens.now c.in-Some.first c.in-Some.after.now b (h ∙ c.if-casts.true) (below _ c.requires) in
     handed _ _ _ _ c.cast.result c.cast.ensures (λ r e. (λ k h. opens k h ∙ e.0 k tt, e.1, (let p = e.2 in omega (arith, ap length b.cut)))) (λ x e k h. fails_as _ _ _ (opens k h) (e k tt))
 
 pub opened-returns-in-Some : goal.opened-returns-in-Some
@@ -206,19 +205,19 @@ opened-returns-in_err-after t c =
     let f = c.in_err-after.ensures in
     passed _ _ c.from_residual-in_err-after.result _ c.from_residual-in_err-after.ensures.1
     (λ k h. fails_syntax _ _ _ f.1
-        (run_inner c.args.self.end c.args.outside c.args.at k c.args.tokens.now c.in_default.ensures
-        ∙ x.0 (in_parentheses c.args.outside c.args.at k) (no_more _)
-        ∙ no_parenthesis c.args.self.end c.args.outside (c.args.outside + 1) c.args.at (expression_tree c.in_ok-inner.inner) k _ x.1 f.0))
+    (run_inner c.args.self.end c.args.outside c.args.at k c.args.tokens.now c.in_default.ensures
+    ∙ x.0 (in_parentheses c.args.outside c.args.at k) (no_more _)
+    ∙ no_parenthesis c.args.self.end c.args.outside (c.args.outside + 1) c.args.at (expression_tree c.in_ok-inner.inner) k _ x.1 f.0))
 
 pub opened-returns : goal.opened-returns
 opened-returns t c =
     let x = c.in_ok-inner.ensures in
     let w = c.in_ok-whole.ensures in
     let closes = λ (k : Context).
-        run_inner c.args.self.end c.args.outside c.args.at k c.args.tokens.now c.in_default.ensures
-        ∙ x.0 (in_parentheses c.args.outside c.args.at k) (no_more _)
-        ∙ run_parenthesized c.args.self.end c.args.outside (c.args.outside + 1) c.args.at (expression_tree c.in_ok-inner.inner) k _ _ _ c.in_ok-after.ensures (outside_below _ c.requires)
-        ∙ ap (λ q. run c.args.self.end (complete c.args.outside q k) c.in_ok-after.after.now) (sym w) in
+    run_inner c.args.self.end c.args.outside c.args.at k c.args.tokens.now c.in_default.ensures
+    ∙ x.0 (in_parentheses c.args.outside c.args.at k) (no_more _)
+    ∙ run_parenthesized c.args.self.end c.args.outside (c.args.outside + 1) c.args.at (expression_tree c.in_ok-inner.inner) k _ _ _ c.in_ok-after.ensures (outside_below _ c.requires)
+    ∙ ap (λ q. run c.args.self.end (complete c.args.outside q k) c.in_ok-after.after.now) (sym w) in
     handed _ _ _ _ c.postfixes.result c.postfixes.ensures
     (λ r e. (λ k h. closes k ∙ e.0 k tt, e.1, (let p = e.2 in let q = x.2 in omega (arith, ap length c.in_ok-after.ensures.cut))))
     (λ y e k h. fails_as _ _ _ (closes k) (e k tt))
@@ -239,8 +238,8 @@ operand-returns-in-Character t c =
     let fits : SFits w8 c.in-Character.value = search rules in
     let same = ap (λ v. character c.in_ok-token.token.at v) (to_z-of_z w8 c.in-Character.value fits) in
     let begins = λ (k : Context).
-        run_character c.args.self.end c.args.outside k c.args.tokens.now _ _ cut c.in-Character.value (sym c.operand_start.ensures ∙ c.in-Character.is) c.requires
-        ∙ ap (λ q. run c.args.self.end (complete c.args.outside q k) c.in_ok-token.rest.now) (sym (c.character.ensures ∙ same)) in
+    run_character c.args.self.end c.args.outside k c.args.tokens.now _ _ cut c.in-Character.value (sym c.operand_start.ensures ∙ c.in-Character.is) c.requires
+    ∙ ap (λ q. run c.args.self.end (complete c.args.outside q k) c.in_ok-token.rest.now) (sym (c.character.ensures ∙ same)) in
     handed _ _ _ _ c.postfixes-in-Character.result c.postfixes-in-Character.ensures
     (λ r e. (λ k h. begins k ∙ e.0 k tt, e.1, (let p = e.2 in omega (arith, ap length cut))))
     (λ y e k h. fails_as _ _ _ (begins k) (e k tt))
@@ -249,8 +248,8 @@ pub operand-returns-in-Constant : goal.operand-returns-in-Constant
 operand-returns-in-Constant t c =
     let cut = c.in_ok-token.ensures in
     let begins = λ (k : Context).
-        run_constant c.args.self.end c.args.outside k c.args.tokens.now _ _ cut c.in-Constant.ty c.in-Constant.value (sym c.operand_start.ensures ∙ c.in-Constant.is) c.requires
-        ∙ ap (λ q. run c.args.self.end (complete c.args.outside q k) c.in_ok-token.rest.now) (sym c.constant.ensures) in
+    run_constant c.args.self.end c.args.outside k c.args.tokens.now _ _ cut c.in-Constant.ty c.in-Constant.value (sym c.operand_start.ensures ∙ c.in-Constant.is) c.requires
+    ∙ ap (λ q. run c.args.self.end (complete c.args.outside q k) c.in_ok-token.rest.now) (sym c.constant.ensures) in
     handed _ _ _ _ c.postfixes-in-Constant.result c.postfixes-in-Constant.ensures
     (λ r e. (λ k h. begins k ∙ e.0 k tt, e.1, (let p = e.2 in omega (arith, ap length cut))))
     (λ y e k h. fails_as _ _ _ (begins k) (e k tt))
@@ -266,7 +265,7 @@ operand-returns-in_ok-nested-in-Parenthesis t c =
     let cut = c.in_ok-token.ensures in
     let n = c.in_ok-nested-in-Parenthesis.ensures in
     let begins = λ (k : Context).
-        run_open c.args.self.end c.args.outside k c.args.tokens.now _ _ cut (sym c.operand_start.ensures ∙ c.in-Parenthesis.is) (one_below _ _ n.0 n.1) in
+    run_open c.args.self.end c.args.outside k c.args.tokens.now _ _ cut (sym c.operand_start.ensures ∙ c.in-Parenthesis.is) (one_below _ _ n.0 n.1) in
     handed _ _ _ _ c.opened.result c.opened.ensures
     (λ r e. (λ k h. begins k ∙ e.0 k h, e.1, (let p = e.2 in omega (arith, ap length cut))))
     (λ y e k h. fails_as _ _ _ (begins k) (e k h))
@@ -275,18 +274,18 @@ pub operand-returns-in_err-whole-in-Name : goal.operand-returns-in_err-whole-in-
 operand-returns-in_err-whole-in-Name t c =
     passed _ _ c.from_residual-in_err-whole-in-Name.result _ c.from_residual-in_err-whole-in-Name.ensures.1
     (λ k h. fails_as _ _ _
-        (run_name c.args.self.end c.args.outside k c.args.tokens.now _ _ c.in_ok-token.ensures (sym c.operand_start.ensures ∙ c.in-Name.is) c.requires
-        ∙ ap (λ q. run c.args.self.end (named c.args.outside q k) c.in_ok-token.rest.now) (sym c.identifier.ensures))
-        (c.in_err-whole-in-Name.ensures k tt))
+    (run_name c.args.self.end c.args.outside k c.args.tokens.now _ _ c.in_ok-token.ensures (sym c.operand_start.ensures ∙ c.in-Name.is) c.requires
+    ∙ ap (λ q. run c.args.self.end (named c.args.outside q k) c.in_ok-token.rest.now) (sym c.identifier.ensures))
+    (c.in_err-whole-in-Name.ensures k tt))
 
 pub operand-returns-in_ok-whole-in-Name : goal.operand-returns-in_ok-whole-in-Name
 operand-returns-in_ok-whole-in-Name t c =
     let cut = c.in_ok-token.ensures in
     let a = c.in_ok-whole-in-Name.ensures in
     let begins = λ (k : Context).
-        run_name c.args.self.end c.args.outside k c.args.tokens.now _ _ cut (sym c.operand_start.ensures ∙ c.in-Name.is) c.requires
-        ∙ ap (λ q. run c.args.self.end (named c.args.outside q k) c.in_ok-token.rest.now) (sym c.identifier.ensures)
-        ∙ a.0 k tt in
+    run_name c.args.self.end c.args.outside k c.args.tokens.now _ _ cut (sym c.operand_start.ensures ∙ c.in-Name.is) c.requires
+    ∙ ap (λ q. run c.args.self.end (named c.args.outside q k) c.in_ok-token.rest.now) (sym c.identifier.ensures)
+    ∙ a.0 k tt in
     handed _ _ _ _ c.postfixes.result c.postfixes.ensures
     (λ r e. (λ k h. begins k ∙ e.0 k tt, e.1, (let p = e.2 in let q = a.2 in omega (arith, ap length cut))))
     (λ y e k h. fails_as _ _ _ (begins k) (e k tt))
@@ -400,8 +399,8 @@ conditional-returns-in_err-yes t c =
     let n = c.in_ok-inside.ensures in
     passed _ _ c.from_residual-in_err-yes.result _ c.from_residual-in_err-yes.ensures.1
     (λ k h. fails_as _ _ _
-        (asks c.args.self.end c.args.outside c.args.tokens.now (expression_tree c.in_ok-test.test) c.in_ok-test.rest.now c.in-Some.after.now c.in-Some.at c.in_ok-inside.inside c.in_ok-test.ensures.0 c.in-Some.ensures n.0 n.1 k h)
-        (c.in_err-yes.ensures (in_choice c.args.outside c.in-Some.at (expression_tree c.in_ok-test.test) k) (no_more _)))
+    (asks c.args.self.end c.args.outside c.args.tokens.now (expression_tree c.in_ok-test.test) c.in_ok-test.rest.now c.in-Some.after.now c.in-Some.at c.in_ok-inside.inside c.in_ok-test.ensures.0 c.in-Some.ensures n.0 n.1 k h)
+    (c.in_err-yes.ensures (in_choice c.args.outside c.in-Some.at (expression_tree c.in_ok-test.test) k) (no_more _)))
 
 pub conditional-returns-in_err-after_colon : goal.conditional-returns-in_err-after_colon
 conditional-returns-in_err-after_colon t c =
@@ -411,9 +410,9 @@ conditional-returns-in_err-after_colon t c =
     let test = expression_tree c.in_ok-test.test in
     passed _ _ c.from_residual-in_err-after_colon.result _ c.from_residual-in_err-after_colon.ensures.1
     (λ k h. fails_syntax _ _ _ f.1
-        (asks c.args.self.end c.args.outside c.args.tokens.now test c.in_ok-test.rest.now c.in-Some.after.now c.in-Some.at c.in_ok-inside.inside c.in_ok-test.ensures.0 c.in-Some.ensures n.0 n.1 k h
-        ∙ y.0 (in_choice c.args.outside c.in-Some.at test k) (no_more _)
-        ∙ no_colon c.args.self.end c.args.outside c.in_ok-inside.inside c.in-Some.at (expression_tree c.in_ok-yes.yes) k _ test y.1 f.0))
+    (asks c.args.self.end c.args.outside c.args.tokens.now test c.in_ok-test.rest.now c.in-Some.after.now c.in-Some.at c.in_ok-inside.inside c.in_ok-test.ensures.0 c.in-Some.ensures n.0 n.1 k h
+    ∙ y.0 (in_choice c.args.outside c.in-Some.at test k) (no_more _)
+    ∙ no_colon c.args.self.end c.args.outside c.in_ok-inside.inside c.in-Some.at (expression_tree c.in_ok-yes.yes) k _ test y.1 f.0))
 
 pub conditional-returns-in_err-no : goal.conditional-returns-in_err-no
 conditional-returns-in_err-no t c =
@@ -422,9 +421,9 @@ conditional-returns-in_err-no t c =
     let chosen = expression_tree c.in_ok-yes.yes in
     passed _ _ c.from_residual-in_err-no.result _ c.from_residual-in_err-no.ensures.1
     (λ k h. fails_as _ _ _
-        (chooses c.args.self.end c.args.outside c.args.tokens.now test chosen c.in_ok-test.rest.now c.in-Some.after.now c.in_ok-yes.before_colon.now c.in_ok-after_colon.after_colon.now c.in-Some.at _ c.in_ok-inside.inside
-            c.in_ok-test.ensures.0 c.in-Some.ensures n.0 n.1 c.in_ok-yes.ensures.0 c.in_ok-after_colon.ensures k h)
-        (c.in_err-no.ensures (in_alternative c.args.outside c.in-Some.at test chosen k) (no_more _)))
+    (chooses c.args.self.end c.args.outside c.args.tokens.now test chosen c.in_ok-test.rest.now c.in-Some.after.now c.in_ok-yes.before_colon.now c.in_ok-after_colon.after_colon.now c.in-Some.at _ c.in_ok-inside.inside
+    c.in_ok-test.ensures.0 c.in-Some.ensures n.0 n.1 c.in_ok-yes.ensures.0 c.in_ok-after_colon.ensures k h)
+    (c.in_err-no.ensures (in_alternative c.args.outside c.in-Some.at test chosen k) (no_more _)))
 
 pub conditional-returns : goal.conditional-returns
 conditional-returns t c =
@@ -452,8 +451,8 @@ assignment-returns-in_err-inside t c =
     let f = c.in_err-inside.ensures in
     passed _ _ c.from_residual-in_err-inside.result _ c.from_residual-in_err-inside.ensures.1
     (λ k h. fails_nesting _ _ _ f.0
-        (c.in_ok-left.ensures.0 k (le_more 1 h)
-        ∙ deep_assignment c.args.self.end c.args.outside (expression_tree c.in_ok-left.left) k c.in_ok-left.rest.now c.in-Some.at c.in-Some.after.now c.in-Some.op c.in-Some.ensures h (sym c.is_unary.ensures ∙ c.if-not-is_unary.false) f.1))
+    (c.in_ok-left.ensures.0 k (le_more 1 h)
+    ∙ deep_assignment c.args.self.end c.args.outside (expression_tree c.in_ok-left.left) k c.in_ok-left.rest.now c.in-Some.at c.in-Some.after.now c.in-Some.op c.in-Some.ensures h (sym c.is_unary.ensures ∙ c.if-not-is_unary.false) f.1))
 
 pub assignment-returns-in_err-right : goal.assignment-returns-in_err-right
 assignment-returns-in_err-right t c =
@@ -461,8 +460,8 @@ assignment-returns-in_err-right t c =
     let left = expression_tree c.in_ok-left.left in
     passed _ _ c.from_residual-in_err-right.result _ c.from_residual-in_err-right.ensures.1
     (λ k h. fails_as _ _ _
-        (assigns c.args.self.end c.args.outside c.args.tokens.now left c.in_ok-left.rest.now c.in-Some.after.now c.in-Some.op c.in-Some.at c.in_ok-inside.inside c.in_ok-left.ensures.0 c.in-Some.ensures (sym c.is_unary.ensures ∙ c.if-not-is_unary.false) n.0 n.1 k h)
-        (c.in_err-right.ensures (in_assignment c.args.outside c.in-Some.op c.in-Some.at left k) (no_more _)))
+    (assigns c.args.self.end c.args.outside c.args.tokens.now left c.in_ok-left.rest.now c.in-Some.after.now c.in-Some.op c.in-Some.at c.in_ok-inside.inside c.in_ok-left.ensures.0 c.in-Some.ensures (sym c.is_unary.ensures ∙ c.if-not-is_unary.false) n.0 n.1 k h)
+    (c.in_err-right.ensures (in_assignment c.args.outside c.in-Some.op c.in-Some.at left k) (no_more _)))
 
 pub assignment-returns : goal.assignment-returns
 assignment-returns t c =
@@ -485,9 +484,9 @@ expression-returns-in_err-inside t c =
     let f = c.in_err-inside.ensures in
     passed _ _ c.from_residual-in_err-inside.result _ c.from_residual-in_err-inside.ensures.1
     (λ k h. fails_nesting _ _ _ f.0
-        (i.0 k h
-        ∙ deep_comma c.args.self.end c.args.outside c.args.outside c.in-Some.comma.at (expression_tree c.loop-comma.left) k c.loop-comma.rest.now c.in-Some.comma c.in-Some.after.now c.in-Some.ensures h
-          (subst (λ m. 128 < c.args.outside + (m + 1)) (sym i.2) f.1)))
+    (i.0 k h
+    ∙ deep_comma c.args.self.end c.args.outside c.args.outside c.in-Some.comma.at (expression_tree c.loop-comma.left) k c.loop-comma.rest.now c.in-Some.comma c.in-Some.after.now c.in-Some.ensures h
+    (subst (λ m. 128 < c.args.outside + (m + 1)) (sym i.2) f.1)))
 
 pub expression-returns-in_err-right : goal.expression-returns-in_err-right
 expression-returns-in_err-right t c =
@@ -496,8 +495,8 @@ expression-returns-in_err-right t c =
     let left = expression_tree c.loop-comma.left in
     passed _ _ c.from_residual-in_err-right.result _ c.from_residual-in_err-right.ensures.1
     (λ k h. fails_as _ _ _
-        (joins_comma c.args.self.end c.args.outside c.args.tokens.now left c.loop-comma.rest.now c.in-Some.after.now c.in-Some.comma c.loop-comma.count c.in_ok-inside.inside i.0 i.2 c.in-Some.ensures n.0 n.1 k h)
-        (c.in_err-right.ensures (in_comma c.args.outside c.in-Some.comma.at left k) (no_more _)))
+    (joins_comma c.args.self.end c.args.outside c.args.tokens.now left c.loop-comma.rest.now c.in-Some.after.now c.in-Some.comma c.loop-comma.count c.in_ok-inside.inside i.0 i.2 c.in-Some.ensures n.0 n.1 k h)
+    (c.in_err-right.ensures (in_comma c.args.outside c.in-Some.comma.at left k) (no_more _)))
 
 pub expression-loop-comma-preserved : goal.expression-loop-comma-preserved
 expression-loop-comma-preserved t c =
