@@ -265,7 +265,7 @@ operand-returns-in_ok-nested-in-Parenthesis t c =
     let cut = c.in_ok-token.ensures in
     let n = c.in_ok-nested-in-Parenthesis.ensures in
     let begins = λ (k : Context).
-    run_open c.args.self.end c.args.outside k c.args.tokens.now _ _ cut (sym c.operand_start.ensures ∙ c.in-Parenthesis.is) (one_below _ _ n.0 n.1) in
+    run_open c.args.self.end c.args.outside k c.args.tokens.now c.in_ok-token.token c.in_ok-token.rest.now c.in_ok-token.ensures (sym c.operand_start.ensures ∙ c.in-Parenthesis.is) (one_below _ _ n.0 n.1) in
     handed _ _ _ _ c.opened.result c.opened.ensures
     (λ r e. (λ k h. begins k ∙ e.0 k h, e.1, (let p = e.2 in omega (arith, ap length cut))))
     (λ y e k h. fails_as _ _ _ (begins k) (e k h))
