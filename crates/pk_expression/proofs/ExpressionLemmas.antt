@@ -1,6 +1,5 @@
 -- What each function on expressions reads, put together from what the functions read that it calls.
-use Rattle.std.proofs.Common.{◌≡◌, ◌≢◌, ℕ, ◌+◌, ◌<◌, ◌≤◌, List, [], ◌∷◌, ◌++◌, Bool, true, false, refl, sym, ap, subst, ◌∙◌, le-leb, arith}
-use Rattle.std.specs.Prelude.{nat_le}
+use Rattle.std.proofs.Common.{◌≡◌, ℕ, ◌+◌, ◌<◌, ◌≤◌, List, [], ◌∷◌, ◌++◌, true, false, refl, sym, ap, subst, ◌∙◌, arith}
 use Rattle.pk_ctypes.specs.declared.places.Pos.{Pos}
 use Rattle.pk_lex.specs.declared.token.Token.{Token}
 use Rattle.pk_ast.specs.declared.declarations.Specifier.{Specifier}
@@ -10,7 +9,7 @@ use Rattle.pk_ast.specs.declared.expressions.BinaryOperator.{BinaryOperator}
 use Rattle.pk_ast.specs.declared.expressions.UnaryOperator.{UnaryOperator}
 use Rattle.pk_ast.specs.declared.expressions.StepOperator.{StepOperator}
 use Rattle.pk_ast.specs.declared.expressions.AssignmentOperator.{AssignmentOperator}
-use Rattle.pk_ast.specs.Trees.{ExpressionTree, name, call, index, constant, character, parenthesized, postfix, prefix, unary, cast, binary, conditional, assignment, comma, ExpressionTrees, no_expressions, expression_then}
+use Rattle.pk_ast.specs.Trees.{ExpressionTree, prefix, unary, cast, binary, conditional, assignment, comma, expression_then}
 use Rattle.pk_ast.specs.Views.{expression_tree, expression_trees}
 use Rattle.pk_grammar.specs.declared.failure.ParseError.{ParseError}
 use Rattle.pk_grammar.specs.declared.failure.ParseError.TheVariants.{Syntax, Nesting}
@@ -18,20 +17,38 @@ use Rattle.pk_grammar.specs.declared.signs.Fixed.TheVariants as fixed
 use Rattle.pk_grammar.specs.declared.signs.OperandStart.TheVariants as start
 use Rattle.pk_grammar.specs.declared.signs.Operator.TheVariants as operator
 use Rattle.pk_grammar.specs.Grammar.{strength, operators_in, commas_in}
-use Rattle.pk_grammar.specs.Signs.{is_fixed, operand_start, operator_of, specifier_word}
-use Rattle.pk_grammar.specs.States.{Context, in_parentheses, in_index, in_call, in_prefix, in_unary, in_cast, in_binary, in_choice, in_alternative, in_assignment, in_comma, operand, named, arguments, opened, cast_specifiers, complete}
+use Rattle.pk_grammar.specs.Signs.{is_fixed, operand_start, specifier_word}
+use Rattle.pk_grammar.specs.States.{Context, in_index, in_prefix, in_unary, in_cast, in_binary, in_choice, in_alternative, in_assignment, in_comma, operand, named, cast_specifiers, complete}
 use Rattle.pk_grammar.specs.Steps.{operand_level, is_unary, one_more}
-use Rattle.pk_grammar.specs.Running.{syntax, deep, first_of_all, run}
-use Rattle.pk_expression.specs.Parsing.{Begins, BeginsWith, BeginsWithWord, words, past_words, EndsAt, CastsIf, Anywhere, UpTo, Reads, Refuses}
+use Rattle.pk_grammar.specs.Running.{first_of_all, run}
+use Rattle.pk_expression.specs.Parsing.{Begins, BeginsWith, words, past_words, EndsAt, CastsIf, Anywhere, UpTo, Reads, Refuses}
 use Rattle.pk_grammar.proofs.CompleteSigns.{strength_most}
 use Rattle.pk_expression.proofs.RunLemmas.{fails_as, fails_syntax, fails_nesting}
-use Rattle.pk_expression.proofs.RunOperators.{run_binary, deep_binary, run_question, deep_question, run_assignment, deep_assignment, no_assignment}
-use Rattle.pk_expression.proofs.RunEnds.{run_prefix_end, run_unary_end, run_cast_end, run_binary_end, run_conditional_end, run_assignment_end, run_comma_end, no_parenthesis, no_bracket, no_colon, no_argument_end}
-use Rattle.pk_expression.proofs.RunOperands.{run_parenthesized, run_indexed, run_called, run_argument, run_colon, run_comma, deep_comma, run_prefix, run_unary, run_inner, run_cast, run_cast_words, no_word_past, run_cast_close, no_cast_close}
+use Rattle.pk_expression.proofs.RunOperators.{run_binary, deep_binary, run_question, run_assignment}
+use Rattle.pk_expression.proofs.RunEnds.{run_prefix_end, run_unary_end, run_cast_end, run_binary_end, run_conditional_end, run_assignment_end, run_comma_end}
+use Rattle.pk_expression.proofs.RunOperands.{run_index, run_colon, run_comma, run_prefix, run_unary, run_cast_words, no_word_past, run_cast_close, no_cast_close}
 
 pub trees_push : (es : List Expression) (e : Expression) → expression_trees (es ++ e ∷ []) ≡ one_more (expression_trees es) (expression_tree e)
 trees_push [] e = refl
 trees_push (d ∷ es) e = ap (λ q. expression_then (expression_tree d) q) (trees_push es e)
+
+pub le_more : (m : ℕ) {n : ℕ} → n ≤ m → n ≤ m + 1
+le_more m h = omega arith
+
+pub counts : (a b count more : ℕ) → a ≡ count → b ≡ more → a + 1 + b ≡ count + (1 + more)
+counts a b count more e f = omega arith
+
+pub ends_within : (end : Token) (ts : List Token) (s r : ℕ) → s ≡ r → EndsAt end (s + 1) ts → EndsAt end (r + 1) ts
+ends_within end ts s r e h = omega arith
+
+pub ends_binary : (end : Token) (ts : List Token) (o : BinaryOperator) (s : ℕ) → s ≡ strength o → EndsAt end (s + 1) ts → EndsAt end 14 ts
+ends_binary end ts o s e h = omega (arith, strength_most o)
+
+-- an element
+pub indexes : (end : Token) (n : ℕ) (id : Identifier) (k : Context) (ts : List Token) (t : Token) (after : List Token) (inside : ℕ) → Begins fixed.OpenBracket ts t after → inside ≡ n + 1 → inside ≤ 128 →
+    run end (named n id k) ts ≡ run end (operand inside (in_index n id t.at k)) after
+indexes end n id k ts t after inside b i h =
+    run_index end n id k ts t after b (subst (λ q. q ≤ 128) i h) ∙ ap (λ q. run end (operand q (in_index n id t.at k)) after) (sym i)
 
 module _ (end : Token) (n : ℕ) (ts : List Token) where
   -- a prefix operator and its operand

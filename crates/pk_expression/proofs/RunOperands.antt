@@ -1,38 +1,26 @@
 -- What is answered where operands begin and end.
-use Rattle.std.proofs.Common.{◌≡◌, ◌≢◌, ℕ, ◌+◌, ◌<◌, ◌≤◌, ◌⊎◌, inl, inr, List, [], ◌∷◌, ◌++◌, Option, Some, None, Bool, true, false, refl, sym, ap, subst, ◌∙◌, append_assoc, append-nil, le-leb, arith}
-use Rattle.std.proofs.lemmas.Bool.{lt-leb}
-use Rattle.std.specs.Prelude.{nat_le, if◌then◌else◌}
+use Rattle.std.proofs.Common.{◌≡◌, ℕ, ◌+◌, ◌<◌, ◌≤◌, List, [], ◌∷◌, ◌++◌, Option, Some, None, true, false, refl, sym, ap, ◌∙◌, append_assoc, append-nil}
+use Rattle.std.specs.Prelude.{nat_le}
 use Rattle.pk_ctypes.specs.declared.places.Pos.{Pos}
 use Rattle.pk_lex.specs.declared.token.Token.{Token}
-use Rattle.pk_lex.specs.declared.token.Kind.{Kind}
-use Rattle.pk_lex.specs.declared.token.Kind.TheVariants as kind
-use Rattle.pk_lex.specs.declared.token.Punctuator.{Punctuator}
-use Rattle.pk_lex.specs.declared.token.Punctuator.TheVariants as mark
 use Rattle.pk_ast.specs.declared.declarations.Specifier.{Specifier}
 use Rattle.pk_ast.specs.declared.declarations.SpecifierWord.{SpecifierWord}
 use Rattle.pk_ast.specs.declared.expressions.Identifier.{Identifier}
-use Rattle.pk_ast.specs.declared.expressions.BinaryOperator.{BinaryOperator}
 use Rattle.pk_ast.specs.declared.expressions.UnaryOperator.{UnaryOperator}
 use Rattle.pk_ast.specs.declared.expressions.StepOperator.{StepOperator}
-use Rattle.pk_ast.specs.declared.expressions.AssignmentOperator.{AssignmentOperator}
-use Rattle.pk_ast.specs.Trees.{ExpressionTree, name, call, index, constant, character, parenthesized, postfix, prefix, unary, cast, binary, conditional, assignment, comma, ExpressionTrees, no_expressions}
-use Rattle.pk_grammar.specs.declared.signs.Fixed.{Fixed}
+use Rattle.pk_ast.specs.Trees.{ExpressionTree, name, call, index, constant, character, parenthesized, ExpressionTrees, no_expressions}
 use Rattle.pk_grammar.specs.declared.signs.Fixed.TheVariants as fixed
 use Rattle.pk_grammar.specs.declared.signs.OperandStart.{OperandStart}
 use Rattle.pk_grammar.specs.declared.signs.OperandStart.TheVariants as start
-use Rattle.pk_grammar.specs.declared.signs.Operator.{Operator}
-use Rattle.pk_grammar.specs.declared.signs.Operator.TheVariants as operator
 use Rattle.pk_grammar.specs.Languages.{identifier_of}
-use Rattle.pk_grammar.specs.Grammar.{strength, operators_in, postfixes_in, commas_in, binary_sign, step_sign, assignment_sign}
-use Rattle.pk_grammar.specs.Signs.{is_fixed, operand_start, operator_of, specifier_word}
-use Rattle.pk_grammar.specs.States.{Context, as_whole, in_parentheses, in_index, in_call, in_prefix, in_unary, in_cast, in_binary, in_choice, in_alternative, in_assignment, in_comma, State, operand, named, arguments, opened, cast_specifiers, complete}
-use Rattle.pk_grammar.specs.Steps.{Verdict, taken, refused, begin_operand, Reduced, reduced, operand_level, go_on, join_assignment, is_unary, open_cast, more_cast, specifier_at, end_expression, comma_after, one_more, step}
-use Rattle.pk_grammar.specs.Running.{Answer, syntax, deep, first_of_all, run}
-use Rattle.pk_expression.specs.Parsing.{Begins, BeginsWith, BeginsWithWord, words, words_then, past_words, past_word, follows, EndsAt}
-use Rattle.pk_grammar.proofs.CompleteSigns.{takes, strength_least, strength_most}
-use Rattle.pk_grammar.proofs.CompleteReduced.{kept, complete_same, reduced_prefix, reduced_unary, reduced_cast, reduced_binary, reduced_alternative, reduced_assignment, reduced_comma}
-use Rattle.pk_grammar.proofs.CompleteOperands.{same_false, IsAt, step_call, step_index, step_no_arguments, step_cast, step_more_cast, step_cast_end, step_binary, step_postfix, step_question, step_colon, step_comma, step_parenthesized, step_indexed, step_called, step_argument}
-use Rattle.pk_grammar.proofs.SpellsSigns.{is_this, is_operator, IsFixed, IsOperator}
+use Rattle.pk_grammar.specs.Grammar.{commas_in}
+use Rattle.pk_grammar.specs.Signs.{is_fixed, operand_start, specifier_word}
+use Rattle.pk_grammar.specs.States.{Context, in_parentheses, in_index, in_call, in_prefix, in_unary, in_cast, in_choice, in_alternative, in_comma, operand, named, arguments, opened, cast_specifiers, complete}
+use Rattle.pk_grammar.specs.Steps.{begin_operand, operand_level, open_cast, more_cast, specifier_at, one_more, step}
+use Rattle.pk_grammar.specs.Running.{syntax, deep, first_of_all, run}
+use Rattle.pk_expression.specs.Parsing.{Begins, BeginsWithWord, words, words_then, past_words, past_word}
+use Rattle.pk_grammar.proofs.CompleteOperands.{same_false, step_call, step_index, step_no_arguments, step_more_cast, step_cast_end, step_colon, step_comma, step_parenthesized, step_indexed, step_called, step_argument}
+use Rattle.pk_grammar.proofs.SpellsSigns.{is_this}
 use Rattle.pk_expression.proofs.RunLemmas.{run_takes, run_deep, run_refused, run_alike, first_is}
 
 -- Signs that end what is open

@@ -1,7 +1,8 @@
 -- The words of a type with which tokens begin.
-use Rattle.std.proofs.Common.{◌≡◌, ◌<◌, List, [], ◌∷◌, ◌++◌, Option, Some, None, refl, sym, ap, subst, ◌∙◌, length, append_assoc, arith}
+use Rattle.std.proofs.Common.{◌≡◌, ◌<◌, ◌≤◌, List, [], ◌∷◌, ◌++◌, Option, Some, None, refl, sym, ap, ◌∙◌, length, append_assoc, arith}
 use Rattle.pk_lex.specs.declared.token.Token.{Token}
 use Rattle.pk_ast.specs.declared.declarations.Specifier.{Specifier}
+use Rattle.pk_ast.specs.declared.declarations.SpecifierWord.{SpecifierWord}
 use Rattle.pk_grammar.specs.Signs.{specifier_word}
 use Rattle.pk_grammar.specs.Running.{first_of_all}
 use Rattle.pk_expression.specs.Parsing.{BeginsWithWord, words, words_then, past_words, past_word}
@@ -23,3 +24,12 @@ one_word_more front ts s rest b = append_assoc front (s ∷ []) (words rest) ∙
 
 pub shorter : (ts : List Token) (s : Specifier) (rest : List Token) → BeginsWithWord ts s rest → length rest < length ts
 shorter ts s rest b = omega (arith, ap length b.cut)
+
+pub no_longer : (ts : List Token) → length (past_words ts) ≤ length ts
+unfolding past_words
+no_longer [] = omega arith
+no_longer (t ∷ ts) = by_word (no_longer ts) (specifier_word t.kind)
+  where
+    by_word : length (past_words ts) ≤ length ts → (w : Option SpecifierWord) → length (past_word (t ∷ ts) w (past_words ts)) ≤ length (t ∷ ts)
+    by_word on None = omega arith
+    by_word on (Some w) = omega arith

@@ -1,18 +1,17 @@
 -- What each parsing function reads.
-use Rattle.std.specs.Prelude.{◌≡◌, ℕ, ◌+◌, ◌≤◌, List, [], ◌∷◌, Bool, true, if◌then◌else◌, nat_le, Option, Some, None}
+use Rattle.std.specs.Prelude.{◌≡◌, ℕ, ◌+◌, ◌≤◌, List, [], ◌∷◌, Bool, true, nat_le, Option, Some, None}
 use Rattle.pk_ctypes.specs.declared.places.Pos.{Pos}
 use Rattle.pk_lex.specs.declared.token.Token.{Token}
-use Rattle.pk_lex.specs.declared.token.Kind.{Kind}
 use Rattle.pk_ast.specs.declared.declarations.Specifier.{Specifier}
 use Rattle.pk_ast.specs.declared.declarations.SpecifierWord.{SpecifierWord}
-use Rattle.pk_ast.specs.Trees.{ExpressionTree, ExternalTree}
+use Rattle.pk_ast.specs.Trees.{ExpressionTree}
 use Rattle.pk_grammar.specs.declared.failure.ParseError.{ParseError}
 use Rattle.pk_grammar.specs.declared.signs.Fixed.{Fixed}
 use Rattle.pk_grammar.specs.declared.signs.Operator.{Operator}
 use Rattle.pk_grammar.specs.declared.signs.Operator.TheVariants as operator
-use Rattle.pk_grammar.specs.Grammar.{strength, operators_in, postfixes_in, commas_in, any_expression, assignment_expression, conditional_expression, cast_expression, unary_expression}
+use Rattle.pk_grammar.specs.Grammar.{strength, operators_in, postfixes_in, commas_in, cast_expression, unary_expression}
 use Rattle.pk_grammar.specs.Signs.{is_fixed, operator_of, specifier_word}
-use Rattle.pk_grammar.specs.States.{Context, State, operand, complete}
+use Rattle.pk_grammar.specs.States.{Context, State, complete}
 use Rattle.pk_grammar.specs.Steps.{specifier_at, operand_level}
 use Rattle.pk_grammar.specs.Running.{first_of_all, run, Fails}
 

@@ -35,13 +35,13 @@ decreases-assignment l = 10 * (128 - l.outside) + 6
 abbrev pub decreases-expression : goal.decreases-expression
 decreases-expression l = 10 * (128 - l.outside) + 7
 
-abbrev pub invariant-arguments-loop-argument : goal.invariant-arguments-loop-argument
-invariant-arguments-loop-argument l =
+abbrev pub invariant-arguments-loop-list : goal.invariant-arguments-loop-list
+invariant-arguments-loop-list l =
     ((id : Identifier) (c : Context) → run l.self.end (arguments l.outside id c) l.tokens ≡ run l.self.end (operand (l.outside + 1) (in_call l.outside id (expression_trees l.list.items) c)) l.rest)
     × (length l.rest ≤ length l.tokens)
 
-abbrev pub decreases-arguments-loop-argument : goal.decreases-arguments-loop-argument
-decreases-arguments-loop-argument l = length l.rest
+abbrev pub decreases-arguments-loop-list : goal.decreases-arguments-loop-list
+decreases-arguments-loop-list l = length l.rest
 
 abbrev pub invariant-binary-loop-op : goal.invariant-binary-loop-op
 invariant-binary-loop-op l =

@@ -1,4 +1,4 @@
-use Rattle.std.proofs.Common.{◌≡◌, ◌+◌, ◌<◌, ◌≤◌, length, sym, ap, subst, ◌∙◌, arith}
+use Rattle.std.proofs.Common.{◌+◌, length, sym, ap, ◌∙◌, arith}
 use Rattle.pk_ast.specs.Views.{expression_tree}
 use Rattle.pk_grammar.specs.Grammar.{operators_in, postfixes_in, commas_in}
 use Rattle.pk_grammar.specs.States.{complete}

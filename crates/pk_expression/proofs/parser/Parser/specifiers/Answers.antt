@@ -1,5 +1,5 @@
-use Rattle.std.proofs.Common.{◌≡◌, ◌∷◌, ◌++◌, sym, ap, ◌∙◌, append-nil}
-use Rattle.pk_expression.specs.Parsing.{words, past_words}
+use Rattle.std.proofs.Common.{◌++◌, sym, ap, ◌∙◌, append-nil}
+use Rattle.pk_expression.specs.Parsing.{words}
 use Rattle.pk_expression.proofs.WordLemmas.{no_words, one_word, one_word_more}
 use Rattle.pk_expression.proofs.parser.Parser.specifiers.Goals as goal
 
