@@ -20,10 +20,10 @@ pub record IsLater (front : List Token) (t : Token) (other : List Token) : Type 
   pub more : List Token
   pub is : other ≡ front ++ t ∷ more
 
-abbrev Cuts : List Token → Token → List Token → Token → Type 0
+abbrev pub Cuts : List Token → Token → List Token → Token → Type 0
 Cuts a t b u = ((a ≡ b) × (t ≡ u)) ⊎ IsLater a t b ⊎ IsLater b u a
 
-two_cuts : (a b : List Token) (t u : Token) (x y : List Token) → a ++ t ∷ x ≡ b ++ u ∷ y → Cuts a t b u
+pub two_cuts : (a b : List Token) (t u : Token) (x y : List Token) → a ++ t ∷ x ≡ b ++ u ∷ y → Cuts a t b u
 two_cuts [] [] t u x y e = inl (refl, cc)
 two_cuts [] (v ∷ b) t u x y e = let g : v ≡ t = cc in inr (inl (record { more = b; is = ap (λ q. q ∷ b) g }))
 two_cuts (v ∷ a) [] t u x y e = let g : v ≡ u = cc in inr (inr (record { more = a; is = ap (λ q. q ∷ a) g }))

@@ -1,5 +1,5 @@
-// What C itself gives. The tables were written by programs that gcc 12 compiled with `-std=c99 -fsanitize=undefined`, one operation at a time; in types that are narrower than int,
-// in which no operator of C works, by its checked builtins.
+// What C itself gives. The tables of operators were written by programs that gcc 12 compiled with `-std=c99 -fsanitize=undefined`, one operation at a time, in types that are
+// narrower than int, in which no operator of C works, by its checked builtins; the others by plain casts and `_Generic`.
 
 ghost use Rattle.pk_ctypes.specs.Types.{InType};
 ghost use Rattle.pk_ctypes.specs.Operators.{HasRight};
@@ -407,10 +407,9 @@ fn words_are_printed(rt: HostRuntime) -> Result<(), Fail> {
         line: 7,
         column: 21,
     };
-    let later = Construct::Later;
     let text = Quantity::Text;
     let words = format!(in rt.alloc();
-        "{} {} {} {} {} {later} {text} {at}",
+        "{} {} {} {} {} {text} {at}",
         Fault::Index,
         Fault::DivZero,
         Fault::Overflow,
@@ -419,7 +418,58 @@ fn words_are_printed(rt: HostRuntime) -> Result<(), Fail> {
     )?;
     assert_eq!(rt;
         words.as_str(),
-        "index divzero overflow shift assert later text 7:21"
+        "index divzero overflow shift assert text 7:21"
+    );
+    Ok(())
+}
+
+const CONSTRUCTS: [Construct; 33] = [
+    Construct::Float,
+    Construct::Double,
+    Construct::Bool,
+    Construct::Complex,
+    Construct::Imaginary,
+    Construct::Struct,
+    Construct::Union,
+    Construct::Enum,
+    Construct::Typedef,
+    Construct::Volatile,
+    Construct::Restrict,
+    Construct::Inline,
+    Construct::Register,
+    Construct::Auto,
+    Construct::Sizeof,
+    Construct::Asm,
+    Construct::GnuAsm,
+    Construct::GnuAttribute,
+    Construct::GnuExtension,
+    Construct::GnuInline,
+    Construct::GnuRestrict,
+    Construct::Static,
+    Construct::Dot,
+    Construct::Ellipsis,
+    Construct::Arrow,
+    Construct::StringLiteral,
+    Construct::Floating,
+    Construct::Directive,
+    Construct::Pointer,
+    Construct::Brackets,
+    Construct::Arrays,
+    Construct::Designator,
+    Construct::Later,
+];
+
+#[test]
+fn constructs_are_printed(rt: HostRuntime) -> Result<(), Fail> {
+    let mut words = String::new(rt.alloc());
+    for construct in CONSTRUCTS {
+        let word = format!(in rt.alloc(); "{construct} ")?;
+        words.push_str(word.as_str())?;
+    }
+    assert_eq!(rt;
+        words.as_str(),
+        "float double _Bool _Complex _Imaginary struct union enum typedef volatile restrict inline register auto sizeof asm __asm__ __attribute__ __extension__ \
+         __inline __restrict static . ... -> string floating directive pointer brackets arrays designator later "
     );
     Ok(())
 }

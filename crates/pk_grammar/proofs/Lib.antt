@@ -22,4 +22,4 @@ pub mod CompleteExternals
 pub mod SpellsReading
 mod EndLemmas
 pub mod OutcomeLemmas
-mod LawLemmas
+pub mod LawLemmas

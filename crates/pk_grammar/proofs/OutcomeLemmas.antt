@@ -159,11 +159,11 @@ within_append [] b g h = h
 within_append (m ∷ a) b g h = (g.0, within_append a b g.1 h)
 
 -- the last nesting of a front
-within_last : (a : List Marked) (m : Marked) (b : List Marked) → IsWithin ((a ++ m ∷ []) ++ b) → m.nesting ≤ nesting_limit
+pub within_last : (a : List Marked) (m : Marked) (b : List Marked) → IsWithin ((a ++ m ∷ []) ++ b) → m.nesting ≤ nesting_limit
 within_last [] m b h = h.0
 within_last (k ∷ a) m b h = within_last a m b h.1
 
-unmarked_append : (a b : List Marked) → unmarked (a ++ b) ≡ unmarked a ++ unmarked b
+pub unmarked_append : (a b : List Marked) → unmarked (a ++ b) ≡ unmarked a ++ unmarked b
 unmarked_append [] b = refl
 unmarked_append (m ∷ a) b = ap (λ ts. m.token ∷ ts) (unmarked_append a b)
 
