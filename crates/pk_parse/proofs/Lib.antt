@@ -1,1 +1,6 @@
-mod RunDeclarations
+pub mod RunDeclarations
+pub mod DeclarationLemmas
+pub mod RunExternals
+pub mod ExternalLemmas
+mod AnswerLemmas
+mod TextLemmas

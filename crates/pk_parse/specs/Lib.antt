@@ -1,1 +1,2 @@
 pub mod ParsingMore
+pub mod Refusals

@@ -5,13 +5,13 @@ use Rattle.pk_lex.specs.declared.token.Token.{Token}
 use Rattle.pk_ast.specs.declared.expressions.Identifier.{Identifier}
 use Rattle.pk_ast.specs.declared.units.Storage.{Storage}
 use Rattle.pk_ast.specs.Lists.{append_items}
-use Rattle.pk_ast.specs.Trees.{ExpressionTree, DeclaratorTree, DeclarationTree, block, ItemTrees, no_items, BlockTree, ParameterTree, ExternalTree, function}
+use Rattle.pk_ast.specs.Trees.{ExpressionTree, DeclaratorTree, block, ItemTrees, no_items, BlockTree, ParameterTree, ExternalTree, function}
 use Rattle.pk_grammar.specs.declared.signs.Fixed.{Fixed}
 use Rattle.pk_grammar.specs.declared.signs.Fixed.TheVariants as fixed
 use Rattle.pk_grammar.specs.Grammar.{any_expression}
-use Rattle.pk_grammar.specs.Signs.{is_fixed}
+use Rattle.pk_grammar.specs.Signs.{is_fixed, specifier_word}
 use Rattle.pk_grammar.specs.States.{Head, OpenBlock, function_block, inner_block, Site, in_a_block, in_a_for, outside, Declaring, Purpose, as_whole, State, top, after_storage, parameter_specifiers, parameter_name, after_statement, operand}
-use Rattle.pk_grammar.specs.Steps.{refused, taken, wanted, site_nesting, block_nesting, whole_declaration, declared_at, open_parameters, purpose_level, end_purpose, step}
+use Rattle.pk_grammar.specs.Steps.{refused, taken, wanted, site_nesting, whole_declaration, declared_at, open_parameters, purpose_level, end_purpose, step}
 use Rattle.pk_grammar.specs.Running.{first_of_all}
 use Rattle.pk_expression.specs.Parsing.{EndsAt, UpTo, Reads}
 
@@ -68,6 +68,11 @@ parameter_state h ps p (Some id) = parameter_name h ps p
 
 abbrev pub after_parameter : Head → List ParameterTree → ParameterTree → State
 after_parameter h ps p = parameter_state h ps p p.name
+
+-- behind a parameter without a name comes neither a word of its type nor a name
+abbrev pub EndsParameter : Token → Option Identifier → List Token → Type 0
+EndsParameter end None ts = (specifier_word (first_of_all end ts).kind ≡ None) × (is_fixed fixed.Name (first_of_all end ts).kind ≡ false)
+EndsParameter end (Some id) ts = Unit {0}
 
 abbrev pub storage_state : List ExternalTree → Option Storage → State
 storage_state before None = top before

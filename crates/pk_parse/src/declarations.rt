@@ -11,9 +11,9 @@ ghost use Rattle.pk_parse.specs.ParsingMore.{CanDeclare, IsInner, with_declarato
 ghost use Rattle.pk_grammar.specs.States as states;
 ghost use Rattle.pk_grammar.specs.Steps as steps;
 
-use pk_grammar::{Fixed, ParseError};
-use pk_expression::{Parser, identifier, nested};
 use pk_ast::{Declaration, Declarator, Expression, Identifier, Initializer, Specifier};
+use pk_expression::{Parser, identifier, nested};
+use pk_grammar::{Fixed, ParseError};
 use pk_lex::Token;
 
 // The length of an array, in its brackets.

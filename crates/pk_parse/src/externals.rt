@@ -1,22 +1,20 @@
-// External definitions, and texts.
+// External definitions.
 
-ghost use Rattle.std.specs.Prelude.{◌≡◌, ◌≢◌, ◌<◌, ◌≤◌, ◌↔◌, List, [], ◌∷◌, ◌++◌, IsTrue, IfOk, IfErr, length, MatchResult, option_map};
+ghost use Rattle.std.specs.Prelude.{◌≡◌, ◌≢◌, ◌<◌, ◌≤◌, ◌↔◌, List, [], ◌∷◌, ◌++◌, IsTrue, length, MatchOption, MatchResult, option_map};
 ghost use Rattle.pk_ast.specs.Trees as tree;
-ghost use Rattle.pk_ast.specs.Trees.{ExternalTree};
-ghost use Rattle.pk_ast.specs.Views.{block_tree, parameter_tree, parameter_trees, external_tree, unit_tree};
+ghost use Rattle.pk_ast.specs.Views.{block_tree, parameter_tree, parameter_trees, external_tree, external_trees};
 ghost use Rattle.pk_grammar.specs.Grammar.{IsVoidAlone};
-ghost use Rattle.pk_grammar.specs.Outcomes.{IsEnded, IsParsed, IsRefused};
-ghost use Rattle.pk_grammar.specs.Running.{first_of_all, run, Fails};
-ghost use Rattle.pk_parse.specs.ParsingMore.{after_parameter, after_function, storage_state};
+ghost use Rattle.pk_grammar.specs.Running.{trees, first_of_all, run, Fails};
+ghost use Rattle.pk_grammar.specs.Signs as signs;
 ghost use Rattle.pk_grammar.specs.States as states;
+ghost use Rattle.pk_parse.specs.ParsingMore.{after_parameter, EndsParameter, after_function, storage_state};
 
 use crate::declarations::declarators;
 use crate::statements::block;
-use pk_grammar::{Fixed, ParseError, is_void_word, storage_word};
+use pk_ast::{Block, Declaration, External, Function, Parameter, Specifier, Storage};
 use pk_expression::{Parser, identifier};
-use pk_ast::{Block, Declaration, External, Function, Parameter, Specifier, Storage, Unit};
+use pk_grammar::{Fixed, ParseError, is, is_void_word, storage_word};
 use pk_lex::{Kind, Token};
-use std::alloc::Global;
 
 // The word `void` and nothing else, which is no parameter.
 fn is_void_alone(p: &Parameter) -> bool
@@ -32,7 +30,7 @@ fn parameter<'a>(
     tokens: &'a [Token],
 ) -> Result<(Parameter, &'a [Token]), ParseError>
     ensures { MatchResult result
-        (λ r. ((h : states.Head) (ps : List tree.ParameterTree) → run parser.end (states.parameter_specifiers h ps (first ∷ [])) tokens.now ≡ run parser.end (after_parameter h ps (parameter_tree r.0)) r.1.now) × (length r.1.now ≤ length tokens.now))
+        (λ r. ((h : states.Head) (ps : List tree.ParameterTree) → run parser.end (states.parameter_specifiers h ps (first ∷ [])) tokens.now ≡ run parser.end (after_parameter h ps (parameter_tree r.0)) r.1.now) × EndsParameter parser.end (parameter_tree r.0).name r.1.now × (length r.1.now ≤ length tokens.now))
         (λ x. (h : states.Head) (ps : List tree.ParameterTree) → Fails (run parser.end (states.parameter_specifiers h ps (first ∷ [])) tokens.now) x) }
 {
     let (words, rest) = parser.specifiers(first, tokens)?;
@@ -91,7 +89,8 @@ fn body<'a>(parser: Parser, tokens: &'a [Token]) -> Result<(Option<Block>, &'a [
 
 // `static` or `extern`, where it comes first.
 fn storage<'a>(parser: Parser, tokens: &'a [Token]) -> (Option<Storage>, &'a [Token])
-    ensures { (before : List tree.ExternalTree) → run parser.end (states.top before) tokens.now ≡ run parser.end (storage_state before result.0) result.1.now }
+    ensures reads { (before : List tree.ExternalTree) → run parser.end (states.top before) tokens.now ≡ run parser.end (storage_state before result.0) result.1.now }
+    ensures rest { MatchOption result.0 ((signs.storage_word (first_of_all parser.end tokens.now).kind ≡ None) × (result.1.now ≡ tokens.now)) (λ s. length result.1.now < length tokens.now) }
 {
     let Some((token, rest)) = tokens.split_first() else {
         return (None, tokens);
@@ -129,24 +128,20 @@ fn external<'a>(parser: Parser, tokens: &'a [Token]) -> Result<(External, &'a [T
     Ok((External::function(function), last))
 }
 
-/// The trees of the tokens of a text, of which the last, and no other, is End; else the place of the first token with which no text
-/// goes on, or that is nested deeper than 128, whichever comes first.
-pub fn parse(alloc: Global, tokens: &[Token]) -> Result<Unit, ParseError>
-    requires { IsEnded tokens.now }
-    ensures parsed { IfOk result (λ u. IsParsed tokens.now (unit_tree u)) }
-    ensures refused { IfErr result (IsRefused tokens.now) }
-    ensures only { (trees : List ExternalTree) → IsParsed tokens.now trees → MatchResult result (λ u. unit_tree u ≡ trees) (λ x. x ≡ ParseError.Memory) }
+// The external definitions of a text, up to its end.
+pub fn externals(parser: Parser, tokens: &[Token]) -> Result<Vec<External>, ParseError>
+    ensures { MatchResult result
+        (λ list. run parser.end (states.top []) tokens.now ≡ trees (external_trees list.items))
+        (λ x. Fails (run parser.end (states.top []) tokens.now) x) }
 {
-    let Some((end, front)) = tokens.split_last() else {
-        return Err(ParseError::Memory);
-    };
-    let parser = Parser { alloc, end: *end };
-    let mut externals = Vec::new(alloc);
-    let mut rest = front;
-    while !rest.is_empty() {
-        let (external, after) = parser.external(rest)?;
-        externals.push(external)?;
+    let mut list = Vec::new(parser.alloc);
+    let mut rest = tokens;
+    loop {
+        if is(parser.kind(rest), Fixed::End) {
+            return Ok(list);
+        }
+        let (external, after) = external(parser, rest)?;
+        list.push(external)?;
         rest = after;
     }
-    Ok(Unit::new(externals))
 }

@@ -3,9 +3,12 @@
 
 mod declarations;
 mod externals;
+mod laws;
 mod statements;
 #[cfg(test)]
 mod tests;
+mod texts;
 
-pub use externals::parse;
+pub use laws::answers_are_determined;
 pub use pk_grammar::ParseError;
+pub use texts::parse;

@@ -15,12 +15,12 @@ ghost use Rattle.pk_grammar.specs.States as states;
 ghost use Rattle.pk_grammar.specs.Steps as steps;
 
 use crate::declarations::declaration;
+use pk_ast::{Block, BlockItem, Expression, ForStart, Statement};
+use pk_ctypes::Pos;
+use pk_expression::{Parser, identifier, nested};
 use pk_grammar::{
     Fixed, OperandStart, ParseError, StatementStart, Testing, is, operand_start, statement_start,
 };
-use pk_expression::{Parser, identifier, nested};
-use pk_ast::{Block, BlockItem, Expression, ForStart, Statement};
-use pk_ctypes::Pos;
 use pk_lex::Token;
 
 // An expression, unless this token comes first.
@@ -78,6 +78,50 @@ fn for_start<'a>(
     let (first, rest) = optional(parser, tokens, outside, Fixed::Semicolon)?;
     let (_, last) = parser.expect(rest, Fixed::Semicolon)?;
     Ok((ForStart::expression(first), last))
+}
+
+// What follows the `;` of a `for`'s start in its parentheses, and the `)`.
+fn for_tests<'a>(
+    parser: Parser,
+    tokens: &'a [Token],
+    outside: u32,
+) -> Result<(Option<Expression>, Option<Expression>, &'a [Token]), ParseError>
+    requires { outside ≤ nesting_limit }
+    ensures { MatchResult result
+        (λ r. ((n : ℕ) (at : Pos) (f : tree.ForStartTree) (o : states.Outer) → outside ≡ n + 2 → run parser.end (states.for_second n at f o) tokens.now ≡ run parser.end (states.at_statement (n + 1) (states.in_for n at f (option_map expression_tree r.0) (option_map expression_tree r.1) o)) r.2.now) × (length r.2.now ≤ length tokens.now))
+        (λ x. (n : ℕ) (at : Pos) (f : tree.ForStartTree) (o : states.Outer) → outside ≡ n + 2 → Fails (run parser.end (states.for_second n at f o) tokens.now) x) }
+{
+    let (test, rest) = optional(parser, tokens, outside, Fixed::Semicolon)?;
+    let (_, third) = parser.expect(rest, Fixed::Semicolon)?;
+    let (step, close) = optional(parser, third, outside, Fixed::CloseParenthesis)?;
+    let (_, last) = parser.expect(close, Fixed::CloseParenthesis)?;
+    Ok((test, step, last))
+}
+
+// The parentheses of a `for`, after that word.
+fn for_head<'a>(
+    parser: Parser,
+    tokens: &'a [Token],
+    inside: u32,
+) -> Result<
+    (
+        ForStart,
+        Option<Expression>,
+        Option<Expression>,
+        &'a [Token],
+    ),
+    ParseError,
+>
+    requires { inside ≤ nesting_limit }
+    ensures { MatchResult result
+        (λ r. ((n : ℕ) (at : Pos) (o : states.Outer) → inside ≡ n + 1 → run parser.end (states.for_open n at o) tokens.now ≡ run parser.end (states.at_statement inside (states.in_for n at (for_start_tree r.0) (option_map expression_tree r.1) (option_map expression_tree r.2) o)) r.3.now) × (length r.3.now ≤ length tokens.now))
+        (λ x. (n : ℕ) (at : Pos) (o : states.Outer) → inside ≡ n + 1 → Fails (run parser.end (states.for_open n at o) tokens.now) x) }
+{
+    let (open, after) = parser.expect(tokens, Fixed::OpenParenthesis)?;
+    let head = nested(open.at, inside, 1)?;
+    let (start, second) = for_start(parser, after, head)?;
+    let (test, step, last) = for_tests(parser, second, head)?;
+    Ok((start, test, step, last))
 }
 
 // A `goto`, after that word.
@@ -267,13 +311,7 @@ fn for_loop<'a>(
         (λ r. ((n : ℕ) (o : states.Outer) → inside ≡ n + 1 → run parser.end (states.for_open n at o) tokens.now ≡ run parser.end (states.after_statement (statement_tree r.0) o) r.1.now) × (length r.1.now ≤ length tokens.now))
         (λ x. (n : ℕ) (o : states.Outer) → inside ≡ n + 1 → Fails (run parser.end (states.for_open n at o) tokens.now) x) }
 {
-    let (open, after) = parser.expect(tokens, Fixed::OpenParenthesis)?;
-    let head = nested(open.at, inside, 1)?;
-    let (start, second) = for_start(parser, after, head)?;
-    let (test, semicolon) = optional(parser, second, head, Fixed::Semicolon)?;
-    let (_, third) = parser.expect(semicolon, Fixed::Semicolon)?;
-    let (step, close) = optional(parser, third, head, Fixed::CloseParenthesis)?;
-    let (_, rest) = parser.expect(close, Fixed::CloseParenthesis)?;
+    let (start, test, step, rest) = for_head(parser, tokens, inside)?;
     let (body, last) = statement(parser, rest, inside)?;
     let whole = Statement::for_loop(parser.alloc, at, start, test, step, body)?;
     Ok((whole, last))
@@ -289,7 +327,7 @@ fn block_items<'a>(
     requires { inside ≤ nesting_limit }
     ensures { MatchResult result
         (λ r. (((b : states.OpenBlock) → steps.block_nesting b ≡ inside → run parser.end (states.block_item b) tokens.now ≡ run parser.end (states.block_item (with_items b (item_trees r.0.items))) r.1.now) × (length r.1.now ≤ length tokens.now))
-            × (is_fixed Fixed.CloseBrace (first_of_all parser.end r.1.now).kind ≡ true) × (length r.1.now ≤ length tokens.now))
+        × (is_fixed Fixed.CloseBrace (first_of_all parser.end r.1.now).kind ≡ true) × (length r.1.now ≤ length tokens.now))
         (λ x. (b : states.OpenBlock) → steps.block_nesting b ≡ inside → Fails (run parser.end (states.block_item b) tokens.now) x) }
 {
     let mut list = Vec::new(parser.alloc);

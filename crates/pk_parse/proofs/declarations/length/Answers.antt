@@ -1,0 +1,31 @@
+use Rattle.std.proofs.Common.{arith}
+use Rattle.pk_grammar.specs.declared.signs.Fixed.TheVariants as fixed
+use Rattle.pk_expression.proofs.RunLemmas.{passed}
+use Rattle.pk_parse.proofs.RunDeclarations.{run_no_length}
+use Rattle.pk_parse.proofs.DeclarationLemmas.{shorter, sinks_length, fails_length, stops_length, reads_length}
+use Rattle.pk_parse.proofs.declarations.length.Goals as goal
+
+pub returns-in_default : goal.returns-in_default
+returns-in_default c = (λ d id can. run_no_length _ d id _ _ can c.in_default.ensures, omega arith)
+
+pub returns-in_err-inside : goal.returns-in_err-inside
+returns-in_err-inside c = passed _ _ c.from_residual.result _ c.from_residual.ensures.1 (λ d id can. sinks_length _ d id _ _ can _ _ c.in-Some.ensures _ c.in_err-inside.ensures)
+
+pub returns-in_err-length : goal.returns-in_err-length
+returns-in_err-length c =
+    passed _ _ c.from_residual-in_err-length.result _ c.from_residual-in_err-length.ensures.1
+    (λ d id can. fails_length _ d id _ _ can _ _ c.in-Some.ensures _ c.in_ok-inside.ensures _ c.in_err-length.ensures)
+
+pub returns-in_err-last : goal.returns-in_err-last
+returns-in_err-last c =
+    let r = c.in_ok-length.ensures in
+    passed _ _ c.from_residual-in_err-last.result _ c.from_residual-in_err-last.ensures.1
+    (λ d id can. stops_length _ d id _ _ can _ _ c.in-Some.ensures _ c.in_ok-inside.ensures _ _ r.0 _ r.1 c.in_err-last.ensures)
+
+pub returns : goal.returns
+returns c =
+    let r = c.in_ok-length.ensures in
+    let a = shorter fixed.OpenBracket _ _ _ c.in-Some.ensures in
+    let b = shorter fixed.CloseBracket _ _ _ c.in_ok-last.ensures in
+    let h = r.3 in
+    (λ d id can. reads_length _ d id _ _ can _ _ c.in-Some.ensures _ c.in_ok-inside.ensures _ _ r.0 _ _ c.in_ok-last.ensures, omega arith)
