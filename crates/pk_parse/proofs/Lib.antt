@@ -1,6 +1,9 @@
-pub mod RunDeclarations
-pub mod DeclarationLemmas
-pub mod RunExternals
-pub mod ExternalLemmas
-mod AnswerLemmas
+mod RunDeclarations
+mod DeclarationLemmas
+mod RunExternals
+mod ExternalLemmas
+mod RunStatements
+mod StatementLemmas
 mod TextLemmas
+mod AnswerLemmas
+pub mod LexedLemmas

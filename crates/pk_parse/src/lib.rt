@@ -9,6 +9,6 @@ mod statements;
 mod tests;
 mod texts;
 
-pub use laws::answers_are_determined;
+pub use laws::{answers_are_determined, tokens_are_ended};
 pub use pk_grammar::ParseError;
 pub use texts::parse;

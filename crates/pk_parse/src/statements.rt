@@ -326,7 +326,7 @@ fn block_items<'a>(
 ) -> Result<(Vec<BlockItem>, &'a [Token]), ParseError>
     requires { inside ≤ nesting_limit }
     ensures { MatchResult result
-        (λ r. (((b : states.OpenBlock) → steps.block_nesting b ≡ inside → run parser.end (states.block_item b) tokens.now ≡ run parser.end (states.block_item (with_items b (item_trees r.0.items))) r.1.now) × (length r.1.now ≤ length tokens.now))
+        (λ r. ((b : states.OpenBlock) → steps.block_nesting b ≡ inside → run parser.end (states.block_item b) tokens.now ≡ run parser.end (states.block_item (with_items b (item_trees r.0.items))) r.1.now)
         × (is_fixed Fixed.CloseBrace (first_of_all parser.end r.1.now).kind ≡ true) × (length r.1.now ≤ length tokens.now))
         (λ x. (b : states.OpenBlock) → steps.block_nesting b ≡ inside → Fails (run parser.end (states.block_item b) tokens.now) x) }
 {

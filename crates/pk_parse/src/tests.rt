@@ -210,7 +210,11 @@ fn bodies(rt: HostRuntime) -> Result<(), Fail> {
     let front = "int main(void){int a=1;int b=1;int t[3]={0};";
     for (body, column) in BODIES {
         let text = format!(in rt.alloc(); "{front}{body}return 0;}}")?;
-        let at = if column == 0 { 0 } else { column + 44 };
+        let at = if column == 0 {
+            0
+        } else {
+            column.saturating_add(44)
+        };
         assert_eq!(rt; refused(rt.alloc(), text.as_str())?, syntax(at), "{body}");
     }
     Ok(())
