@@ -1,7 +1,6 @@
 -- The tokens of a text end with End, and none before it is End.
 use Rattle.std.proofs.Common.{◌≡◌, ◌≢◌, ℕ, List, [], ◌∷◌, ◌++◌, Option, Some, None, Bool, true, false, refl, sym, ap, subst, ◌∙◌}
 use Rattle.std.specs.Prelude.{if◌then◌else◌}
-use Rattle.pk_lex.specs.declared.numbers.Constant.{Constant}
 use Rattle.pk_lex.specs.declared.token.Keyword.{Keyword}
 use Rattle.pk_lex.specs.declared.token.Punctuator.{Punctuator}
 use Rattle.pk_lex.specs.declared.token.Kind.{Kind}
@@ -24,15 +23,18 @@ no_word : (k : Option Keyword) → Some (keyword_or_name k) ≢ Some kind.End
 no_word None = λ e. cc
 no_word (Some k) = λ e. cc
 
-no_number : (word : List ℕ) (c : Option Constant) → number_kind word c ≢ Some kind.End
-no_number word None = either (is_floating word) (Some kind.Floating) None (λ e. cc) (λ e. cc)
-no_number word (Some c) = λ e. cc
+no_number : (word : List ℕ) → number_kind word (constant_of word) ≢ Some kind.End
+no_number word =
+    elim (constant_of word) as (λ o. number_kind word o ≢ Some kind.End) [
+      | None ↦ either (is_floating word) (Some kind.Floating) None (λ e. cc) (λ e. cc)
+      | Some c ↦ λ e. cc
+    ]
 
 kind_is_no_end : (word : List ℕ) → kind_of word ≢ Some kind.End
 unfolding kind_of
 kind_is_no_end word =
     either (is_name word) _ _ (no_word (keyword_of word))
-    (either (is_number word) _ _ (no_number word (constant_of word))
+    (either (is_number word) _ _ (no_number word)
     (either (is_character word) _ _ (elim (character_of word) as (λ o. option_map kind.Character o ≢ Some kind.End) [ None ↦ λ e. cc | Some v ↦ λ e. cc ])
     (either (is_string word) _ _ (λ e. cc) (elim (punctuator_of word) as (λ o. option_map kind.Punctuator o ≢ Some kind.End) [ None ↦ λ e. cc | Some p ↦ λ e. cc ]))))
 
@@ -55,4 +57,4 @@ ended (w ∷ []) t h e = (h.0, e)
 ended (w ∷ v ∷ words) t h e = (h.0, ended (v ∷ words) t h.1 e)
 
 pub lexed_is_ended : (bytes : List ℕ) (tokens : List Token) → IsLexed bytes tokens → IsEnded tokens
-lexed_is_ended bytes tokens l = subst IsEnded (sym l.1) (ended l.0 _ (no_ends [] bytes l.0 bytes [] l.2) refl)
+lexed_is_ended bytes tokens l = subst IsEnded (sym l.1.0) (ended l.0 _ (no_ends [] bytes l.0 bytes [] l.1.1) refl)
