@@ -1,10 +1,9 @@
 -- Of the answers to a text there is one.
-use Rattle.std.proofs.Common.{◌≡◌, ℕ, ◌<◌, ◌≤◌, ◌⊎◌, inl, inr, List, [], ◌∷◌, ◌++◌, refl, sym, ap, subst, ◌∙◌, append_assoc, arith}
+use Rattle.std.proofs.Common.{◌≡◌, ◌<◌, ◌≤◌, inl, inr, List, [], ◌∷◌, ◌++◌, refl, sym, ap, subst, ◌∙◌, append_assoc, arith}
 use Rattle.pk_ctypes.specs.declared.places.Pos.{Pos}
 use Rattle.pk_lex.specs.declared.token.Token.{Token}
 use Rattle.pk_ast.specs.Trees.{ExternalTree}
-use Rattle.pk_constructs.specs.Constructs.{FirstUnsupported}
-use Rattle.pk_constructs.proofs.DeterminedLemmas.{IsLater, two_cuts, one_first, first_is_not_supported}
+use Rattle.pk_constructs.proofs.DeterminedLemmas.{two_cuts, one_first, first_is_not_supported}
 use Rattle.pk_grammar.specs.declared.failure.ParseError.{ParseError}
 use Rattle.pk_grammar.specs.declared.failure.ParseError.TheVariants.{Unsupported, Syntax, Nesting, Memory}
 use Rattle.pk_grammar.specs.Languages.{Marked}

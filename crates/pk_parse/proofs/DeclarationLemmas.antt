@@ -23,7 +23,7 @@ use Rattle.pk_expression.specs.Parsing.{Begins, words, past_words, past_word, En
 use Rattle.pk_expression.proofs.RunLemmas.{fails_as, fails_syntax, fails_nesting}
 use Rattle.pk_expression.proofs.RunOperands.{no_word_past}
 use Rattle.pk_expression.proofs.ExpressionLemmas.{trees_push}
-use Rattle.pk_parse.specs.ParsingMore.{CanDeclare, IsInner, with_declarators, after_declaration}
+use Rattle.pk_parse.specs.Parts.{CanDeclare, IsInner, with_declarators, after_declaration}
 use Rattle.pk_parse.proofs.RunDeclarations.{naming, run_specifiers, run_length, deep_length, run_length_end, no_length_end, run_assign, run_braced, run_value, run_value_end, run_first_item, run_item_end, run_item_comma, no_item_end, run_last_comma, run_next_item, run_semicolon, run_comma, no_comma, run_next_name, no_next_name, run_first_name, no_first_name}
 
 -- the first token is one of those that are left

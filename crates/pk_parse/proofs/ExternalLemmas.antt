@@ -26,7 +26,7 @@ use Rattle.pk_grammar.specs.Running.{syntax, first_of_all, run, Fails}
 use Rattle.pk_expression.specs.Parsing.{Begins, BeginsWithWord, words, past_words}
 use Rattle.pk_expression.proofs.RunLemmas.{fails_as, fails_syntax}
 use Rattle.pk_expression.proofs.RunOperands.{no_word_past}
-use Rattle.pk_parse.specs.ParsingMore.{CanDeclare, with_declarators, after_declaration, after_parameter, EndsParameter, after_function, storage_state}
+use Rattle.pk_parse.specs.Parts.{CanDeclare, with_declarators, after_declaration, after_parameter, EndsParameter, after_function, storage_state}
 use Rattle.pk_parse.proofs.DeclarationLemmas.{shorter, named_first, stops_first_name, run_named, past_words_shorter}
 use Rattle.pk_parse.proofs.RunExternals.{run_parameter, no_parameter, run_parameter_words, run_parameter_name, with_last, run_parameter_close, run_parameter_comma, no_parameter_end, run_function, run_first_word, no_first_word}
 

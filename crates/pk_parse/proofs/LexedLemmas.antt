@@ -2,7 +2,6 @@
 use Rattle.std.proofs.Common.{◌≡◌, ◌≢◌, ℕ, List, [], ◌∷◌, ◌++◌, Option, Some, None, Bool, true, false, refl, sym, ap, subst, ◌∙◌}
 use Rattle.std.specs.Prelude.{if◌then◌else◌}
 use Rattle.pk_lex.specs.declared.token.Keyword.{Keyword}
-use Rattle.pk_lex.specs.declared.token.Punctuator.{Punctuator}
 use Rattle.pk_lex.specs.declared.token.Kind.{Kind}
 use Rattle.pk_lex.specs.declared.token.Kind.TheVariants as kind
 use Rattle.pk_lex.specs.declared.token.Token.{Token}
@@ -11,7 +10,7 @@ use Rattle.pk_lex.specs.Tables.{keyword_of, punctuator_of}
 use Rattle.pk_lex.specs.Numbers.{is_number, constant_of, is_floating}
 use Rattle.pk_lex.specs.Characters.{is_character, character_of, is_string}
 use Rattle.pk_lex.specs.Words.{is_name}
-use Rattle.pk_lex.specs.Kinds.{keyword_or_name, floating_if, number_kind, kind_of}
+use Rattle.pk_lex.specs.Kinds.{keyword_or_name, number_kind, kind_of}
 use Rattle.pk_lex.specs.Tokens.{IsToken, longest, directive, Reads, nothing, past_white, past_token, IsLexed}
 use Rattle.pk_grammar.specs.Outcomes.{IsEnded}
 

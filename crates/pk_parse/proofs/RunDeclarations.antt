@@ -25,7 +25,7 @@ use Rattle.pk_grammar.proofs.SpellsSigns.{is_this}
 use Rattle.pk_expression.specs.Parsing.{Begins, words, words_then, past_words, past_word, follows, EndsAt}
 use Rattle.pk_expression.proofs.RunLemmas.{run_takes, run_deep, run_refused, run_alike}
 use Rattle.pk_expression.proofs.RunOperators.{operator_kind, ends_other, follows_no_comma}
-use Rattle.pk_parse.specs.ParsingMore.{CanDeclare, after_declaration}
+use Rattle.pk_parse.specs.Parts.{CanDeclare, after_declaration}
 
 -- the words of a type, one after another
 pub run_words : (end : Token) (state : List Specifier → State) (n : ℕ) → n ≤ 128 →

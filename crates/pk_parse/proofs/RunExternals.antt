@@ -20,7 +20,7 @@ use Rattle.pk_grammar.proofs.CompleteOperands.{same_false}
 use Rattle.pk_grammar.proofs.SpellsSigns.{is_this}
 use Rattle.pk_expression.specs.Parsing.{Begins, BeginsWithWord, words, past_words}
 use Rattle.pk_expression.proofs.RunLemmas.{run_takes, run_refused, run_alike}
-use Rattle.pk_parse.specs.ParsingMore.{EndsParameter, parameter_state, after_function, storage_state}
+use Rattle.pk_parse.specs.Parts.{EndsParameter, parameter_state, after_function, storage_state}
 use Rattle.pk_parse.proofs.RunDeclarations.{run_words}
 use Rattle.pk_parse.proofs.DeclarationLemmas.{named_first}
 

@@ -18,7 +18,7 @@ use Rattle.pk_expression.specs.Parsing.{Begins, BeginsWithWord, follows, EndsAt,
 use Rattle.pk_grammar.proofs.CompleteOperands.{same_false, same_true}
 use Rattle.pk_expression.proofs.RunLemmas.{run_takes, run_deep, run_refused, run_alike, first_is, fails_as, fails_syntax, fails_nesting}
 use Rattle.pk_expression.proofs.RunOperators.{ends_other}
-use Rattle.pk_parse.specs.ParsingMore.{IsOptional, IsTest}
+use Rattle.pk_parse.specs.Parts.{IsOptional, IsTest}
 
 -- a token of one kind alone is waited for
 module _ (end : Token) (s : State) (ts : List Token) (f : Fixed) (n : ℕ) (next : Token → State) where

@@ -34,7 +34,7 @@ use Rattle.pk_grammar.proofs.CompleteSigns.{strength_least}
 use Rattle.pk_grammar.proofs.CompleteOperands.{same_false, same_true}
 use Rattle.pk_grammar.proofs.SpellsSigns.{is_this}
 use Rattle.pk_expression.proofs.RunLemmas.{run_takes, run_deep, run_refused, run_alike, first_is, fails_as, fails_syntax, fails_nesting}
-use Rattle.pk_parse.specs.ParsingMore.{IsTest, with_items, IsNewBlock, after_function, after_block}
+use Rattle.pk_parse.specs.Parts.{IsTest, with_items, IsNewBlock, after_function, after_block}
 use Rattle.pk_parse.proofs.RunStatements.{run_wanted, deep_wanted, fails_wanted, step_ends, run_word}
 
 no_other_test : (k : Testing) → k ≢ testing.If → k ≢ testing.Switch → k ≡ testing.While

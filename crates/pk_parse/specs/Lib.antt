@@ -1,2 +1,2 @@
-pub mod ParsingMore
+pub mod Parts
 pub mod Refusals

@@ -7,7 +7,7 @@ ghost use Rattle.pk_ast.specs.Trees as tree;
 ghost use Rattle.pk_ast.specs.Views.{expression_tree, expression_trees, initializer_tree, declarator_tree, declarator_trees, declaration_tree};
 ghost use Rattle.pk_grammar.specs.Outcomes.{nesting_limit};
 ghost use Rattle.pk_grammar.specs.Running.{run, Fails};
-ghost use Rattle.pk_parse.specs.ParsingMore.{CanDeclare, IsInner, with_declarators, after_declaration};
+ghost use Rattle.pk_parse.specs.Parts.{CanDeclare, IsInner, with_declarators, after_declaration};
 ghost use Rattle.pk_grammar.specs.States as states;
 ghost use Rattle.pk_grammar.specs.Steps as steps;
 

@@ -7,7 +7,7 @@ ghost use Rattle.pk_grammar.specs.Grammar.{IsVoidAlone};
 ghost use Rattle.pk_grammar.specs.Running.{trees, first_of_all, run, Fails};
 ghost use Rattle.pk_grammar.specs.Signs as signs;
 ghost use Rattle.pk_grammar.specs.States as states;
-ghost use Rattle.pk_parse.specs.ParsingMore.{after_parameter, EndsParameter, after_function, storage_state};
+ghost use Rattle.pk_parse.specs.Parts.{after_parameter, EndsParameter, after_function, storage_state};
 
 use crate::declarations::declarators;
 use crate::statements::block;

@@ -8,7 +8,7 @@ ghost use Rattle.pk_grammar.specs.Grammar.{any_expression};
 ghost use Rattle.pk_grammar.specs.Outcomes.{nesting_limit};
 ghost use Rattle.pk_grammar.specs.Running.{first_of_all, run, Fails};
 ghost use Rattle.pk_expression.specs.Parsing.{UpTo, Refuses};
-ghost use Rattle.pk_parse.specs.ParsingMore.{IsOptional, IsTest, with_items, IsNewBlock, after_block};
+ghost use Rattle.pk_parse.specs.Parts.{IsOptional, IsTest, with_items, IsNewBlock, after_block};
 ghost use Rattle.pk_grammar.specs.Signs as signs;
 ghost use Rattle.pk_grammar.specs.Signs.{is_fixed};
 ghost use Rattle.pk_grammar.specs.States as states;

@@ -11,7 +11,7 @@ use Rattle.pk_grammar.specs.States.{inner_block, in_block, in_label, in_case, in
 use Rattle.pk_grammar.specs.Steps.{tested}
 use Rattle.pk_grammar.specs.Running.{run}
 use Rattle.pk_expression.proofs.RunLemmas.{passed, fails_as}
-use Rattle.pk_parse.specs.ParsingMore.{with_items, after_block}
+use Rattle.pk_parse.specs.Parts.{with_items, after_block}
 use Rattle.pk_parse.proofs.RunStatements.{run_statement_end, no_statement_end}
 use Rattle.pk_parse.proofs.StatementLemmas.{after_label, after_case, after_default, after_if, after_else, after_test_switch, after_test_while, after_for, run_while, no_while, run_else, deep_else, run_test, no_test, run_last_test, no_last_test, run_default, no_default, run_case, no_case, no_operand_begins, deep_operand, fails_expression, run_expression, no_label_name, run_label, no_label_colon, run_start, deep_start, goes_on, nesting_with_items, no_items_more, run_item_statement, run_item_word, after_item_statement, after_item_declaration, new_block_nesting, run_block_end}
 use Rattle.pk_parse.proofs.statements.+statements.Goals as goal

@@ -3,7 +3,7 @@ use Rattle.pk_ast.specs.Views.{item_trees}
 use Rattle.pk_grammar.specs.States.{OpenBlock, block_item}
 use Rattle.pk_grammar.specs.Steps.{block_nesting}
 use Rattle.pk_grammar.specs.Running.{run}
-use Rattle.pk_parse.specs.ParsingMore.{with_items}
+use Rattle.pk_parse.specs.Parts.{with_items}
 use Rattle.pk_parse.proofs.statements.+statements.Given as goal
 
 abbrev pub decreases-labelled : goal.decreases-labelled

@@ -1,4 +1,4 @@
-use Rattle.std.proofs.Common.{◌≡◌, sym, subst, ◌∙◌}
+use Rattle.std.proofs.Common.{sym, subst, ◌∙◌}
 use Rattle.pk_constructs.proofs.DeterminedLemmas.{first_is_not_supported}
 use Rattle.pk_expression.proofs.RunLemmas.{passed}
 use Rattle.pk_parse.specs.Refusals.{IsAccepted}

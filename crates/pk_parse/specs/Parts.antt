@@ -1,4 +1,4 @@
--- What the functions on declarations, statements and external definitions begin with and lead to.
+-- The parts of declarations, statements and external definitions: in which states they begin, and to which they lead.
 use Rattle.std.specs.Prelude.{◌≡◌, ℕ, ◌+◌, List, [], ◌∷◌, ◌++◌, Option, Some, None, true, false}
 use Rattle.pk_ctypes.specs.declared.places.Pos.{Pos}
 use Rattle.pk_lex.specs.declared.token.Token.{Token}
