@@ -17,7 +17,7 @@ pub use laws::{
     usual_law, value_law,
 };
 pub use names::{Name, Names};
-pub use operators::{apply, is_shift_count};
+pub use operators::{apply, is_shift_count, result_type};
 pub use places::Pos;
 pub use types::{IntType, Op};
-pub use words::{Construct, Quantity};
+pub use words::{Construct, Quantity, Rule};
