@@ -1,5 +1,13 @@
-//! Tests of the crates that read: types and operators, tokens, constructs, the command line, devices.
+//! Tests of the crates that read: types and operators, tokens, constructs, devices and the command line.
 #![tactic(auto)]
 
 #[cfg(test)]
+mod command;
+#[cfg(test)]
+mod constructs;
+#[cfg(test)]
 mod ctypes;
+#[cfg(test)]
+mod io;
+#[cfg(test)]
+mod lex;

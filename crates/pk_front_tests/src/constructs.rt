@@ -1,6 +1,6 @@
 // Texts and their first constructs.
 
-use crate::first_unsupported;
+use pk_constructs::first_unsupported;
 use pk_lex::lex;
 use std::test::Fail;
 

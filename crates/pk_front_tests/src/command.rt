@@ -1,6 +1,6 @@
 // Words, and what they give. Each list is parted by blanks, two of which stand round an empty word.
 
-use crate::{Command, RunOptions, WordsError, read_words};
+use pk_command::{Command, RunOptions, WordsError, read_words};
 use std::alloc::Global;
 use std::test::Fail;
 

@@ -1,7 +1,6 @@
 // Tables over the forms of tokens and the refusals. An independent implementation gave what is expected.
 
-use crate::lexer::lex;
-use crate::token::{Kind, LexError};
+use pk_lex::{Keyword, Kind, LexError, Punctuator, lex};
 use std::alloc::Global;
 use std::fmt::Write;
 use std::test::Fail;
@@ -183,6 +182,111 @@ const REFUSED: [(&[u8], &str); 47] = [
     (b"a\n\nb\n   08", "lexical constant at 4:4"),
 ];
 
+// The names by which the tables show words.
+const KEYWORDS: [(Keyword, &str); 43] = [
+    (Keyword::Auto, "Auto"),
+    (Keyword::Break, "Break"),
+    (Keyword::Case, "Case"),
+    (Keyword::Char, "Char"),
+    (Keyword::Const, "Const"),
+    (Keyword::Continue, "Continue"),
+    (Keyword::Default, "Default"),
+    (Keyword::Do, "Do"),
+    (Keyword::Double, "Double"),
+    (Keyword::Else, "Else"),
+    (Keyword::Enum, "Enum"),
+    (Keyword::Extern, "Extern"),
+    (Keyword::Float, "Float"),
+    (Keyword::For, "For"),
+    (Keyword::Goto, "Goto"),
+    (Keyword::If, "If"),
+    (Keyword::Inline, "Inline"),
+    (Keyword::Int, "Int"),
+    (Keyword::Long, "Long"),
+    (Keyword::Register, "Register"),
+    (Keyword::Restrict, "Restrict"),
+    (Keyword::Return, "Return"),
+    (Keyword::Short, "Short"),
+    (Keyword::Signed, "Signed"),
+    (Keyword::Sizeof, "Sizeof"),
+    (Keyword::Static, "Static"),
+    (Keyword::Struct, "Struct"),
+    (Keyword::Switch, "Switch"),
+    (Keyword::Typedef, "Typedef"),
+    (Keyword::Union, "Union"),
+    (Keyword::Unsigned, "Unsigned"),
+    (Keyword::Void, "Void"),
+    (Keyword::Volatile, "Volatile"),
+    (Keyword::While, "While"),
+    (Keyword::Bool, "Bool"),
+    (Keyword::Complex, "Complex"),
+    (Keyword::Imaginary, "Imaginary"),
+    (Keyword::Asm, "Asm"),
+    (Keyword::GnuAsm, "GnuAsm"),
+    (Keyword::GnuAttribute, "GnuAttribute"),
+    (Keyword::GnuExtension, "GnuExtension"),
+    (Keyword::GnuInline, "GnuInline"),
+    (Keyword::GnuRestrict, "GnuRestrict"),
+];
+
+const PUNCTUATORS: [(Punctuator, &str); 46] = [
+    (Punctuator::OpenParenthesis, "OpenParenthesis"),
+    (Punctuator::CloseParenthesis, "CloseParenthesis"),
+    (Punctuator::OpenBracket, "OpenBracket"),
+    (Punctuator::CloseBracket, "CloseBracket"),
+    (Punctuator::OpenBrace, "OpenBrace"),
+    (Punctuator::CloseBrace, "CloseBrace"),
+    (Punctuator::Semicolon, "Semicolon"),
+    (Punctuator::Colon, "Colon"),
+    (Punctuator::Comma, "Comma"),
+    (Punctuator::Question, "Question"),
+    (Punctuator::Tilde, "Tilde"),
+    (Punctuator::Plus, "Plus"),
+    (Punctuator::Minus, "Minus"),
+    (Punctuator::Star, "Star"),
+    (Punctuator::Slash, "Slash"),
+    (Punctuator::Percent, "Percent"),
+    (Punctuator::Ampersand, "Ampersand"),
+    (Punctuator::Caret, "Caret"),
+    (Punctuator::Bar, "Bar"),
+    (Punctuator::Exclamation, "Exclamation"),
+    (Punctuator::Assign, "Assign"),
+    (Punctuator::Less, "Less"),
+    (Punctuator::Greater, "Greater"),
+    (Punctuator::Increment, "Increment"),
+    (Punctuator::Decrement, "Decrement"),
+    (Punctuator::ShiftLeft, "ShiftLeft"),
+    (Punctuator::ShiftRight, "ShiftRight"),
+    (Punctuator::LessOrEqual, "LessOrEqual"),
+    (Punctuator::GreaterOrEqual, "GreaterOrEqual"),
+    (Punctuator::Equal, "Equal"),
+    (Punctuator::NotEqual, "NotEqual"),
+    (Punctuator::LogicalAnd, "LogicalAnd"),
+    (Punctuator::LogicalOr, "LogicalOr"),
+    (Punctuator::PlusAssign, "PlusAssign"),
+    (Punctuator::MinusAssign, "MinusAssign"),
+    (Punctuator::StarAssign, "StarAssign"),
+    (Punctuator::SlashAssign, "SlashAssign"),
+    (Punctuator::PercentAssign, "PercentAssign"),
+    (Punctuator::ShiftLeftAssign, "ShiftLeftAssign"),
+    (Punctuator::ShiftRightAssign, "ShiftRightAssign"),
+    (Punctuator::AmpersandAssign, "AmpersandAssign"),
+    (Punctuator::CaretAssign, "CaretAssign"),
+    (Punctuator::BarAssign, "BarAssign"),
+    (Punctuator::Dot, "Dot"),
+    (Punctuator::Ellipsis, "Ellipsis"),
+    (Punctuator::Arrow, "Arrow"),
+];
+
+fn name_of<T: Copy + PartialEq>(names: &[(T, &'static str)], wanted: T) -> &'static str {
+    for (named, name) in names {
+        if *named == wanted {
+            return *name;
+        }
+    }
+    "no name"
+}
+
 // The places and the kinds of a text's tokens, or its refusal.
 fn shown(alloc: Global, text: &[u8]) -> Result<String, Fail> {
     let tokens = match lex(alloc, text) {
@@ -199,11 +303,15 @@ fn shown(alloc: Global, text: &[u8]) -> Result<String, Fail> {
         }
         let at = token.at;
         match token.kind {
-            Kind::Keyword(k) => write!(out, "{at} {k:?}")?,
-            Kind::Punctuator(p) => write!(out, "{at} {p:?}")?,
+            Kind::Keyword(k) => write!(out, "{at} {}", name_of(&KEYWORDS, k))?,
+            Kind::Punctuator(p) => write!(out, "{at} {}", name_of(&PUNCTUATORS, p))?,
             Kind::Constant { ty, value } => write!(out, "{at} {value} {ty:?}")?,
             Kind::Character(value) => write!(out, "{at} Character {value}")?,
-            kind => write!(out, "{at} {kind:?}")?,
+            Kind::Name => write!(out, "{at} Name")?,
+            Kind::StringLiteral => write!(out, "{at} StringLiteral")?,
+            Kind::Floating => write!(out, "{at} Floating")?,
+            Kind::Directive => write!(out, "{at} Directive")?,
+            Kind::End => write!(out, "{at} End")?,
         }
     }
     Ok(out)
