@@ -1,6 +1,6 @@
 // Laws over the definitions.
 
-ghost use Rattle.pk_interval.specs.Widening.{Widens, Narrows};
+ghost use Rattle.pk_interval.specs.Widening.{Widens, Narrows, MovesAreRanks};
 ghost use Rattle.pk_interval.specs.Laws.{IsLattice, IsSound, Converts};
 
 /// The order of intervals is inclusion, the join is the least upper bound and the meet the intersection.
@@ -26,4 +26,9 @@ pub fn widening_law()
 /// A narrowing step holds what both intervals hold.
 pub fn narrowing_law()
     ensures { Narrows }
+{}
+
+/// The number of thresholds beyond a range's bounds never rises as it is widened, and falls where the other isn't within.
+pub fn rank_law()
+    ensures { MovesAreRanks }
 {}
