@@ -146,7 +146,7 @@ impl Matrix {
     }
 
     /// The bound on V(j) - V(i).
-    pub fn get(&self, i: u32, j: u32) -> Option<i128>
+    pub fn bound(&self, i: u32, j: u32) -> Bound
         requires row { i < 2 * self.now.vars }
         requires column { j < 2 * self.now.vars }
         ensures value { result ≡ entry self.now i j }
@@ -154,7 +154,17 @@ impl Matrix {
     {
         let d = 2 * self.vars as usize;
         let bound = self.cells[i as usize * d + j as usize];
-        bound.number()
+        bound
+    }
+
+    /// The bound on V(j) - V(i) as a number, if there is one.
+    pub fn get(&self, i: u32, j: u32) -> Option<i128>
+        requires row { i < 2 * self.now.vars }
+        requires column { j < 2 * self.now.vars }
+        ensures value { result ≡ entry self.now i j }
+        ensures near { IsNear (2 ^ 66) result }
+    {
+        self.bound(i, j).number()
     }
 
     /// Writes the bound on V(j) - V(i), and its coherent one: above 2^66 none, below -2^66 that number.
