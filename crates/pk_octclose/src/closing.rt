@@ -10,7 +10,7 @@ use crate::tight::tighten;
 use pk_octmat::{Bound, Matrix, blank};
 
 /// What is left of a matrix.
-#[derive(Clone, Copy, PartialEq, Eq, Debug)]
+#[derive(Clone, Copy)]
 pub enum Shape {
     /// Its bounds.
     Kept,
