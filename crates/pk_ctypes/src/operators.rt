@@ -76,8 +76,8 @@ fn rest(t: IntType, a: i128, b: i128) -> Result<i128, Fault>
     }
 }
 
-// Whether a number is a count of bits that are fewer than the type has.
-fn counts(t: IntType, b: i128) -> bool
+/// Whether a number is a count of bits that are fewer than the type has, as a shift asks (C99 6.5.7).
+pub fn is_shift_count(t: IntType, b: i128) -> bool
     ensures { result ≡ is_count t b }
 {
     0 <= b && b < i128::from(width(t))
@@ -94,7 +94,7 @@ fn shifted_left(t: IntType, a: i128, b: i128) -> Result<i128, Fault>
     requires { InType t a }
     ensures { result ≡ value_of Op.Shl t a b }
 {
-    if !counts(t, b) {
+    if !is_shift_count(t, b) {
         Err(Fault::Shift)
     } else if below_zero(t, a) {
         Err(Fault::Shift)
@@ -107,7 +107,7 @@ fn shifted_right(t: IntType, a: i128, b: i128) -> Result<i128, Fault>
     requires { InType t a }
     ensures { result ≡ value_of Op.Shr t a b }
 {
-    if counts(t, b) {
+    if is_shift_count(t, b) {
         Ok(a >> b)
     } else {
         Err(Fault::Shift)

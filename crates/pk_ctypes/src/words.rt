@@ -1,5 +1,8 @@
 // Small enums whose text is the printed word.
 
+ghost use Rattle.std.specs.Prelude.{◌≡◌};
+ghost use Rattle.pk_ctypes.specs.Words.{construct_text};
+
 use std::fmt;
 
 /// What is not analysed.
@@ -46,48 +49,56 @@ pub enum Construct {
     Later,
 }
 
+impl Construct {
+    /// The word that is printed for it.
+    pub fn word(self) -> &'static str
+        ensures { result.now ≡ construct_text self }
+    {
+        match self {
+            Construct::Float => "float",
+            Construct::Double => "double",
+            Construct::Bool => "_Bool",
+            Construct::Complex => "_Complex",
+            Construct::Imaginary => "_Imaginary",
+            Construct::Struct => "struct",
+            Construct::Union => "union",
+            Construct::Enum => "enum",
+            Construct::Typedef => "typedef",
+            Construct::Volatile => "volatile",
+            Construct::Restrict => "restrict",
+            Construct::Inline => "inline",
+            Construct::Register => "register",
+            Construct::Auto => "auto",
+            Construct::Sizeof => "sizeof",
+            Construct::Asm => "asm",
+            Construct::GnuAsm => "__asm__",
+            Construct::GnuAttribute => "__attribute__",
+            Construct::GnuExtension => "__extension__",
+            Construct::GnuInline => "__inline",
+            Construct::GnuRestrict => "__restrict",
+            Construct::Static => "static",
+            Construct::Dot => ".",
+            Construct::Ellipsis => "...",
+            Construct::Arrow => "->",
+            Construct::StringLiteral => "string",
+            Construct::Floating => "floating",
+            Construct::Directive => "directive",
+            Construct::Pointer => "pointer",
+            Construct::Brackets => "brackets",
+            Construct::Arrays => "arrays",
+            Construct::Designator => "designator",
+            Construct::Later => "later",
+        }
+    }
+}
+
 impl fmt::Display for Construct {
     ghost use Rattle.std.specs.declared.option.Option.TheVariants.{Some};
-    ghost use Rattle.pk_ctypes.specs.Words.{construct_text};
 
     ghost output = { λ construct. Some (construct_text construct) };
 
     fn fmt<W: fmt::Write>(&self, f: &mut fmt::Formatter<W>) -> fmt::Result {
-        match self {
-            Construct::Float => write!(f, "float"),
-            Construct::Double => write!(f, "double"),
-            Construct::Bool => write!(f, "_Bool"),
-            Construct::Complex => write!(f, "_Complex"),
-            Construct::Imaginary => write!(f, "_Imaginary"),
-            Construct::Struct => write!(f, "struct"),
-            Construct::Union => write!(f, "union"),
-            Construct::Enum => write!(f, "enum"),
-            Construct::Typedef => write!(f, "typedef"),
-            Construct::Volatile => write!(f, "volatile"),
-            Construct::Restrict => write!(f, "restrict"),
-            Construct::Inline => write!(f, "inline"),
-            Construct::Register => write!(f, "register"),
-            Construct::Auto => write!(f, "auto"),
-            Construct::Sizeof => write!(f, "sizeof"),
-            Construct::Asm => write!(f, "asm"),
-            Construct::GnuAsm => write!(f, "__asm__"),
-            Construct::GnuAttribute => write!(f, "__attribute__"),
-            Construct::GnuExtension => write!(f, "__extension__"),
-            Construct::GnuInline => write!(f, "__inline"),
-            Construct::GnuRestrict => write!(f, "__restrict"),
-            Construct::Static => write!(f, "static"),
-            Construct::Dot => write!(f, "."),
-            Construct::Ellipsis => write!(f, "..."),
-            Construct::Arrow => write!(f, "->"),
-            Construct::StringLiteral => write!(f, "string"),
-            Construct::Floating => write!(f, "floating"),
-            Construct::Directive => write!(f, "directive"),
-            Construct::Pointer => write!(f, "pointer"),
-            Construct::Brackets => write!(f, "brackets"),
-            Construct::Arrays => write!(f, "arrays"),
-            Construct::Designator => write!(f, "designator"),
-            Construct::Later => write!(f, "later"),
-        }
+        f.write_str(self.word())
     }
 }
 

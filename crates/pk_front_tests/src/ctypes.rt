@@ -1,10 +1,11 @@
-// What C itself gives. The tables of operators were written by programs that gcc 12 compiled with `-std=c99 -fsanitize=undefined`, one operation at a time, in types that are
-// narrower than int, in which no operator of C works, by its checked builtins; the others by plain casts and `_Generic`.
+// What C itself gives. The tables of operators were written by programs that gcc 12 compiled with `-std=c99 -fsanitize=undefined`, one operation at a time; in types that are
+// narrower than int, in which no operator of C works, by its checked builtins. The tables of common types and of conversions were written by programs that it compiled without these
+// options, by `_Generic` and by casts.
 
 ghost use Rattle.pk_ctypes.specs.Types.{InType};
 ghost use Rattle.pk_ctypes.specs.Operators.{HasRight};
 
-use crate::{
+use pk_ctypes::{
     Construct, Fault, IntType, Name, Names, Op, Pos, Quantity, apply, convert, promote, range,
     usual, width,
 };
