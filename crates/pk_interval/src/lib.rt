@@ -13,8 +13,11 @@ mod scalars;
 mod shifts;
 mod widening;
 
+pub use bits::whole;
 pub use fitting::{clamp, wrap};
 pub use interval::{Interval, between};
-pub use laws::{conversion_law, lattice_law, narrowing_law, operator_law, rank_law, widening_law};
+pub use laws::{
+    conversion_law, lattice_law, narrowing_law, operator_law, ordered_law, rank_law, widening_law,
+};
 pub use operators::{binary, unary};
 pub use outcome::Outcome;
