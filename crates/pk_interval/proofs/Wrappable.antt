@@ -1,16 +1,16 @@
 -- What an operator gives can be wrapped into a type: its least number is -2^126 or more.
-use Rattle.std.specs.Prelude.{◌≡◌, ℕ, suc, ◌-◌, ◌^◌, ◌==◌, ◌&&◌, nat_lt, Bool, true, false, if◌then◌else◌, ℤ, pos, negsuc, ◌-ℤ◌, ◌*ℤ◌, ◌≤ℤ◌, neg_ℤ, int_div, int_le, unsigned_abs, Option, Some, None}
-use Rattle.std.specs.Int.{int_min, int_max, int_shr}
+use Rattle.std.specs.Prelude.{◌≡◌, suc, ◌-◌, ◌^◌, ◌==◌, ◌&&◌, nat_lt, Bool, true, false, if◌then◌else◌, ℤ, pos, negsuc, ◌-ℤ◌, ◌*ℤ◌, ◌≤ℤ◌, neg_ℤ, int_div, int_le, unsigned_abs, Option, Some, None}
+use Rattle.std.specs.Int.{int_min, int_max}
 use Rattle.std.proofs.Common.{arith, refl}
 use Rattle.std.proofs.lemmas.Int.{ints, clamps}
 use Rattle.std.proofs.Math.Nat.{div-le_self}
 use Rattle.pk_ctypes.specs.declared.types.IntType.{IntType}
 use Rattle.pk_ctypes.specs.declared.types.Op.{Op}
 use Rattle.pk_ctypes.specs.declared.types.Op.TheVariants.{Add, Sub, Mul, Div, Rem, Shl, Shr, And, Or, Xor, Lt, Gt, Le, Ge, Eq, Ne, Neg, BitNot, Not}
-use Rattle.pk_ctypes.specs.Types.{width_of, is_signed_of, low_of, high_of, InType}
+use Rattle.pk_ctypes.specs.Types.{is_signed_of, low_of, high_of, InType}
 use Rattle.pk_ctypes.proofs.Wrapped.{sized, zero_in}
 use Rattle.pk_interval.specs.Ranges.{Range, IsIn, single, whole}
-use Rattle.pk_interval.specs.Operators.{within_if, hull_of, product_of, hull_if, corner_quotients, above_zero, below_zero, both_parts, greatest_of, rest_low, rests_within, range_rest, counts_of, shiftable, shifted_left, shifted_right, left_by, right_by, is_natural, range_and, range_or, digits_of, complement_of, range_complement, truths, is_below, is_at_most, is_one, are_apart, range_of, HasRightIn, CanWrap}
+use Rattle.pk_interval.specs.Operators.{within_if, hull_of, product_of, hull_if, corner_quotients, above_zero, below_zero, both_parts, greatest_of, rests_within, range_rest, counts_of, shiftable, shifted_left, shifted_right, left_by, right_by, is_natural, range_and, range_or, digits_of, complement_of, truths, is_below, is_at_most, is_one, are_apart, range_of, HasRightIn, CanWrap}
 use Rattle.pk_interval.proofs.Numbers.{product_from}
 use Rattle.pk_interval.proofs.Sound.{found_low}
 

@@ -1,6 +1,6 @@
 use Rattle.std.specs.Prelude.{◌≡◌, ◌<◌, ◌*◌, ◌/◌, ◌^◌, pos, unsigned_abs}
 use Rattle.std.specs.Int.{w128}
-use Rattle.std.proofs.Common.{arith, ap, ◌∙◌, sym, to_z}
+use Rattle.std.proofs.Common.{arith, ap, ◌∙◌, to_z}
 use Rattle.std.proofs.lemmas.Int.{ints}
 use Rattle.pk_congr.specs.Classes.{Class, gcd, class_if}
 use Rattle.pk_congr.proofs.Solutions.{modulus_is, rest_is, some_is, rest_less, part_some, meets_by, both_same, both_first, there_is, there_is_none}

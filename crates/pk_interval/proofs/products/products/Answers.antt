@@ -1,4 +1,4 @@
-use Rattle.std.proofs.Common.{ap, rules, to_z, of_z, ◌∙◌, ◌≡◌, FitsSigned}
+use Rattle.std.proofs.Common.{ap, rules, FitsSigned}
 use Rattle.std.specs.Int.{w128}
 use Rattle.pk_interval.specs.Ranges.{Range}
 use Rattle.pk_interval.proofs.Numbers.{back_to}
