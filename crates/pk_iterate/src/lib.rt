@@ -6,8 +6,6 @@ mod front;
 mod laws;
 mod outcome;
 mod systems;
-#[cfg(test)]
-mod tests;
 mod walk;
 
 pub use failure::Solve;
