@@ -5,3 +5,4 @@ pub mod Runs
 pub mod Outcome
 pub mod Answer
 pub mod Laws
+pub mod Settled

@@ -178,7 +178,7 @@ fn fill(alloc: Global) -> Result<Cells<Row>, Solve>
 
 #[test]
 fn eleven_runs_are_enough(rt: HostRuntime) -> Result<(), Fail> {
-    let cells = count(rt.alloc(), 11)?;
+    let cells = count(rt.alloc(), 11).ok().ok_or("no cells")?;
     assert_eq!(rt; cells.run(0), 1);
     assert_eq!(rt; cells.run(1), 11);
     assert_eq!(rt; cells.run(3), 11);
@@ -188,25 +188,19 @@ fn eleven_runs_are_enough(rt: HostRuntime) -> Result<(), Fail> {
 }
 
 #[test]
-fn ten_runs_are_too_few(rt: HostRuntime) -> Result<(), Fail> {
-    let over = Solve::RunLimit {
-        element: 1,
-        run: 11,
-    };
-    assert_eq!(rt; count(rt.alloc(), 10).err(), Some(over));
-    Ok(())
-}
-
-#[test]
-fn no_run_is_allowed(rt: HostRuntime) -> Result<(), Fail> {
-    let over = Solve::RunLimit { element: 0, run: 1 };
-    assert_eq!(rt; count(rt.alloc(), 0).err(), Some(over));
+fn fewer_runs_are_too_few(rt: HostRuntime) -> Result<(), Fail> {
+    for (most, over, next) in [(10, 1, 11), (0, 0, 1)] {
+        let told = count(rt.alloc(), most).err();
+        assert!(rt;
+            matches!(told, Some(Solve::RunLimit { element, run }) if element == over && run == next)
+        );
+    }
     Ok(())
 }
 
 #[test]
 fn cells_may_own_memory(rt: HostRuntime) -> Result<(), Fail> {
-    let cells = fill(rt.alloc())?;
+    let cells = fill(rt.alloc()).ok().ok_or("no cells")?;
     assert_eq!(rt; cells.run(3), 1);
     assert_eq!(rt; cells.cell(2).items.as_slice(), [7].as_slice());
     Ok(())
