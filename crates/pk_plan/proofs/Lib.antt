@@ -1,5 +1,5 @@
 pub mod Levels
 pub mod PlanLemmas
-mod NestedLemmas
 pub mod DigraphLemmas
+pub mod Drawing
 pub mod NestPlaceLemmas
