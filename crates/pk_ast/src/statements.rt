@@ -24,6 +24,14 @@ pub enum ForStart {
     Expression(Option<Expression>),
 }
 
+/// The parentheses of a `for`.
+#[derive(Drop)]
+pub struct ForHead {
+    pub start: ForStart,
+    pub condition: Option<Expression>,
+    pub step: Option<Expression>,
+}
+
 /// A statement, with the place of its first word.
 #[derive(Drop)]
 #[cycle(statements)]
@@ -36,11 +44,16 @@ pub enum Statement {
     Case(Pos, Expression, Box<Statement>),
     Default(Pos, Box<Statement>),
     If(Pos, Expression, Box<Statement>),
-    IfElse(Pos, Expression, Box<Statement>, Box<Statement>),
+    IfElse {
+        at: Pos,
+        condition: Expression,
+        then_branch: Box<Statement>,
+        else_branch: Box<Statement>,
+    },
     Switch(Pos, Expression, Box<Statement>),
     While(Pos, Expression, Box<Statement>),
     Do(Pos, Box<Statement>, Expression),
-    For(Pos, ForStart, Option<Expression>, Option<Expression>, Box<Statement>),
+    For(Pos, Box<ForHead>, Box<Statement>),
     Goto(Pos, Identifier),
     Continue(Pos),
     Break(Pos),
@@ -51,7 +64,7 @@ pub enum Statement {
 #[derive(Drop)]
 #[cycle(statements)]
 pub enum BlockItem {
-    Declaration(Declaration),
+    Declaration(Box<Declaration>),
     Statement(Statement),
 }
 
@@ -148,12 +161,12 @@ impl Statement {
         ensures { IfOk result (λ s. statement_tree s
             ≡ tree.if_else at (expression_tree condition) (statement_tree then_branch) (statement_tree else_branch)) }
     {
-        Ok(Statement::IfElse(
+        Ok(Statement::IfElse {
             at,
             condition,
-            Box::new(alloc, then_branch)?,
-            Box::new(alloc, else_branch)?,
-        ))
+            then_branch: Box::new(alloc, then_branch)?,
+            else_branch: Box::new(alloc, else_branch)?,
+        })
     }
 
     pub fn switch(
@@ -195,15 +208,13 @@ impl Statement {
     pub fn for_loop(
         alloc: Global,
         at: Pos,
-        start: ForStart,
-        condition: Option<Expression>,
-        step: Option<Expression>,
+        head: ForHead,
         body: Statement,
     ) -> Result<Statement, AllocError>
-        ensures { IfOk result (λ s. statement_tree s ≡ tree.for_loop at (for_start_tree start)
-            (option_map expression_tree condition) (option_map expression_tree step) (statement_tree body)) }
+        ensures { IfOk result (λ s. statement_tree s ≡ tree.for_loop at (for_start_tree head.start)
+            (option_map expression_tree head.condition) (option_map expression_tree head.step) (statement_tree body)) }
     {
-        Ok(Statement::For(at, start, condition, step, Box::new(alloc, body)?))
+        Ok(Statement::For(at, Box::new(alloc, head)?, Box::new(alloc, body)?))
     }
 
     pub fn goto(at: Pos, label: Identifier) -> Statement
@@ -243,11 +254,11 @@ impl Statement {
             Statement::Case(at, _, _) => *at,
             Statement::Default(at, _) => *at,
             Statement::If(at, _, _) => *at,
-            Statement::IfElse(at, _, _, _) => *at,
+            Statement::IfElse { at, .. } => *at,
             Statement::Switch(at, _, _) => *at,
             Statement::While(at, _, _) => *at,
             Statement::Do(at, _, _) => *at,
-            Statement::For(at, _, _, _, _) => *at,
+            Statement::For(at, _, _) => *at,
             Statement::Goto(at, _) => *at,
             Statement::Continue(at) => *at,
             Statement::Break(at) => *at,
@@ -257,11 +268,11 @@ impl Statement {
 }
 
 impl BlockItem {
-    pub fn declaration(declaration: Declaration) -> BlockItem
-        ensures { item_trees (result ∷ [])
-            ≡ tree.declaration_then (declaration_tree declaration) tree.no_items }
+    pub fn declaration(alloc: Global, declaration: Declaration) -> Result<BlockItem, AllocError>
+        ensures { IfOk result (λ item. item_trees (item ∷ [])
+            ≡ tree.declaration_then (declaration_tree declaration) tree.no_items) }
     {
-        BlockItem::Declaration(declaration)
+        Ok(BlockItem::Declaration(Box::new(alloc, declaration)?))
     }
 
     pub fn statement(statement: Statement) -> BlockItem

@@ -5,10 +5,10 @@ use Rattle.pk_lex.specs.declared.token.Token.{Token}
 use Rattle.pk_ast.specs.declared.declarations.Specifier.{Specifier}
 use Rattle.pk_ast.specs.declared.expressions.Identifier.{Identifier}
 use Rattle.pk_ast.specs.declared.expressions.Expression.{Expression}
-use Rattle.pk_ast.specs.declared.expressions.BinaryOperator.{BinaryOperator}
-use Rattle.pk_ast.specs.declared.expressions.UnaryOperator.{UnaryOperator}
-use Rattle.pk_ast.specs.declared.expressions.StepOperator.{StepOperator}
-use Rattle.pk_ast.specs.declared.expressions.AssignmentOperator.{AssignmentOperator}
+use Rattle.pk_ast.specs.declared.operators.BinaryOperator.{BinaryOperator}
+use Rattle.pk_ast.specs.declared.operators.UnaryOperator.{UnaryOperator}
+use Rattle.pk_ast.specs.declared.operators.StepOperator.{StepOperator}
+use Rattle.pk_ast.specs.declared.operators.AssignmentOperator.{AssignmentOperator}
 use Rattle.pk_ast.specs.Trees.{ExpressionTree, prefix, unary, cast, binary, conditional, assignment, comma, expression_then}
 use Rattle.pk_ast.specs.Views.{expression_tree, expression_trees}
 use Rattle.pk_grammar.specs.declared.failure.ParseError.{ParseError}
@@ -17,10 +17,10 @@ use Rattle.pk_grammar.specs.declared.signs.Fixed.TheVariants as fixed
 use Rattle.pk_grammar.specs.declared.signs.OperandStart.TheVariants as start
 use Rattle.pk_grammar.specs.declared.signs.Operator.TheVariants as operator
 use Rattle.pk_grammar.specs.Grammar.{strength, operators_in, commas_in}
-use Rattle.pk_grammar.specs.Signs.{is_fixed, operand_start, specifier_word}
-use Rattle.pk_grammar.specs.States.{Context, in_index, in_prefix, in_unary, in_cast, in_binary, in_choice, in_alternative, in_assignment, in_comma, operand, named, cast_specifiers, complete}
-use Rattle.pk_grammar.specs.Steps.{operand_level, is_unary, one_more}
-use Rattle.pk_grammar.specs.Running.{first_of_all, run}
+use Rattle.pk_grammar.specs.Machine.Signs.{is_fixed, operand_start, specifier_word}
+use Rattle.pk_grammar.specs.Machine.States.{Context, in_index, in_prefix, in_unary, in_cast, in_binary, in_choice, in_alternative, in_assignment, in_comma, operand, named, cast_specifiers, complete}
+use Rattle.pk_grammar.specs.Machine.Steps.{operand_level, is_unary, one_more}
+use Rattle.pk_grammar.specs.Machine.Running.{first_of_all, run}
 use Rattle.pk_expression.specs.Parsing.{Begins, BeginsWith, words, past_words, EndsAt, CastsIf, Anywhere, UpTo, Reads, Refuses}
 use Rattle.pk_grammar.proofs.CompleteSigns.{strength_most}
 use Rattle.pk_expression.proofs.RunLemmas.{fails_as, fails_syntax, fails_nesting}

@@ -6,18 +6,18 @@ use Rattle.pk_lex.specs.declared.token.Token.{Token}
 use Rattle.pk_ast.specs.declared.declarations.Specifier.{Specifier}
 use Rattle.pk_ast.specs.declared.declarations.SpecifierWord.{SpecifierWord}
 use Rattle.pk_ast.specs.declared.expressions.Identifier.{Identifier}
-use Rattle.pk_ast.specs.declared.expressions.UnaryOperator.{UnaryOperator}
-use Rattle.pk_ast.specs.declared.expressions.StepOperator.{StepOperator}
+use Rattle.pk_ast.specs.declared.operators.UnaryOperator.{UnaryOperator}
+use Rattle.pk_ast.specs.declared.operators.StepOperator.{StepOperator}
 use Rattle.pk_ast.specs.Trees.{ExpressionTree, name, call, index, constant, character, parenthesized, ExpressionTrees, no_expressions}
 use Rattle.pk_grammar.specs.declared.signs.Fixed.TheVariants as fixed
 use Rattle.pk_grammar.specs.declared.signs.OperandStart.{OperandStart}
 use Rattle.pk_grammar.specs.declared.signs.OperandStart.TheVariants as start
 use Rattle.pk_grammar.specs.Languages.{identifier_of}
 use Rattle.pk_grammar.specs.Grammar.{commas_in}
-use Rattle.pk_grammar.specs.Signs.{is_fixed, operand_start, specifier_word}
-use Rattle.pk_grammar.specs.States.{Context, in_parentheses, in_index, in_call, in_prefix, in_unary, in_cast, in_choice, in_alternative, in_comma, operand, named, arguments, opened, cast_specifiers, complete}
-use Rattle.pk_grammar.specs.Steps.{begin_operand, operand_level, open_cast, more_cast, specifier_at, one_more, step}
-use Rattle.pk_grammar.specs.Running.{syntax, deep, first_of_all, run}
+use Rattle.pk_grammar.specs.Machine.Signs.{is_fixed, operand_start, specifier_word}
+use Rattle.pk_grammar.specs.Machine.States.{Context, in_parentheses, in_index, in_call, in_prefix, in_unary, in_cast, in_choice, in_alternative, in_comma, operand, named, arguments, opened, cast_specifiers, complete}
+use Rattle.pk_grammar.specs.Machine.Steps.{begin_operand, operand_level, open_cast, more_cast, specifier_at, one_more, step}
+use Rattle.pk_grammar.specs.Machine.Running.{syntax, deep, first_of_all, run}
 use Rattle.pk_expression.specs.Parsing.{Begins, BeginsWithWord, words, words_then, past_words, past_word}
 use Rattle.pk_grammar.proofs.CompleteOperands.{same_false, step_call, step_index, step_no_arguments, step_more_cast, step_cast_end, step_colon, step_comma, step_parenthesized, step_indexed, step_called, step_argument}
 use Rattle.pk_grammar.proofs.SpellsSigns.{is_this}

@@ -10,10 +10,10 @@ use Rattle.pk_grammar.specs.declared.signs.Fixed.{Fixed}
 use Rattle.pk_grammar.specs.declared.signs.Operator.{Operator}
 use Rattle.pk_grammar.specs.declared.signs.Operator.TheVariants as operator
 use Rattle.pk_grammar.specs.Grammar.{strength, operators_in, postfixes_in, commas_in, cast_expression, unary_expression}
-use Rattle.pk_grammar.specs.Signs.{is_fixed, operator_of, specifier_word}
-use Rattle.pk_grammar.specs.States.{Context, State, complete}
-use Rattle.pk_grammar.specs.Steps.{specifier_at, operand_level}
-use Rattle.pk_grammar.specs.Running.{first_of_all, run, Fails}
+use Rattle.pk_grammar.specs.Machine.Signs.{is_fixed, operator_of, specifier_word}
+use Rattle.pk_grammar.specs.Machine.States.{Context, State, complete}
+use Rattle.pk_grammar.specs.Machine.Steps.{specifier_at, operand_level}
+use Rattle.pk_grammar.specs.Machine.Running.{first_of_all, run, Fails}
 
 -- these tokens begin with one of this kind
 pub record Begins (f : Fixed) (ts : List Token) (t : Token) (rest : List Token) : Type 0 where

@@ -4,8 +4,8 @@ ghost use Rattle.std.specs.Prelude.{◌≡◌, ◌+◌, ◌<◌, ◌≤◌, ◌�
 ghost use Rattle.pk_ast.specs.Trees as tree;
 ghost use Rattle.pk_ast.specs.Views.{expression_tree, expression_trees};
 ghost use Rattle.pk_grammar.specs.Grammar.{any_expression, assignment_expression, conditional_expression, weakest_operator, cast_expression, operators_in, commas_in};
-ghost use Rattle.pk_grammar.specs.States as states;
-ghost use Rattle.pk_grammar.specs.Steps as steps;
+ghost use Rattle.pk_grammar.specs.Machine.States as states;
+ghost use Rattle.pk_grammar.specs.Machine.Steps as steps;
 ghost use Rattle.pk_grammar.specs.Outcomes.{nesting_limit};
 ghost use Rattle.pk_expression.specs.Parsing.{EndsAt, IsPrimary, IsOperand, CastsIf, Anywhere, UpTo, Reads, Refuses};
 

@@ -4,9 +4,9 @@ ghost use Rattle.std.specs.Prelude.{◌≡◌, ◌≢◌, ◌+◌, ◌<◌, ◌�
 ghost use Rattle.pk_grammar.specs.Grammar as grammar;
 ghost use Rattle.pk_grammar.specs.Grammar.{strength};
 ghost use Rattle.pk_grammar.specs.Languages.{identifier_of};
-ghost use Rattle.pk_grammar.specs.Signs.{is_fixed, operator_of, specifier_word};
+ghost use Rattle.pk_grammar.specs.Machine.Signs.{is_fixed, operator_of, specifier_word};
 ghost use Rattle.pk_grammar.specs.Outcomes.{nesting_limit};
-ghost use Rattle.pk_grammar.specs.Running.{first_of_all};
+ghost use Rattle.pk_grammar.specs.Machine.Running.{first_of_all};
 ghost use Rattle.pk_expression.specs.Parsing.{Begins, BeginsWith, BeginsWithWord, words, past_words};
 
 use pk_ast::{AssignmentOperator, BinaryOperator, Identifier, Specifier, StepOperator};

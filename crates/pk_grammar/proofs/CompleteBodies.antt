@@ -18,9 +18,9 @@ use Rattle.pk_grammar.specs.declared.signs.Fixed.TheVariants as fixed
 use Rattle.pk_grammar.specs.declared.signs.StatementStart.TheVariants as first
 use Rattle.pk_grammar.specs.Languages.{Marked, One, Identified, Inside, Where, Optional, ◌⊙◌, identifier_of}
 use Rattle.pk_grammar.specs.Grammar.{Expression, punctuator, keyword, specifiers, declared, OpenEnd, test, for_start, optional, statement, block_items}
-use Rattle.pk_grammar.specs.Signs.{is_fixed, specifier_word, statement_start}
-use Rattle.pk_grammar.specs.States.{Head, OpenBlock, function_block, inner_block, Outer, in_block, in_label, in_case, in_default, in_if, in_else, in_switch, in_while, in_do, in_for, in_a_block, in_a_for, Purpose, as_statement, as_label, as_test, as_last_test, as_first, as_second, as_third, as_result, as_whole, State, after_specifiers, block_item, at_statement, after_statement, test_open, do_open, for_open, for_first, for_second, for_third, default_colon, goto_name, returning, statement_end, operand, named, complete}
-use Rattle.pk_grammar.specs.Steps.{Verdict, taken, reduced, purpose_level, operand_level, specifier_at, block_nesting, with_statement, with_declaration, one_more_statement, one_more_declaration, tested, begin_statement, declaration_or_statement, end_block, begin_for, resume, step}
+use Rattle.pk_grammar.specs.Machine.Signs.{is_fixed, specifier_word, statement_start}
+use Rattle.pk_grammar.specs.Machine.States.{Head, OpenBlock, function_block, inner_block, Outer, in_block, in_label, in_case, in_default, in_if, in_else, in_switch, in_while, in_do, in_for, in_a_block, in_a_for, Purpose, as_statement, as_label, as_test, as_last_test, as_first, as_second, as_third, as_result, as_whole, State, after_specifiers, block_item, at_statement, after_statement, test_open, do_open, for_open, for_first, for_second, for_third, default_colon, goto_name, returning, statement_end, operand, named, complete}
+use Rattle.pk_grammar.specs.Machine.Steps.{Verdict, taken, reduced, purpose_level, operand_level, specifier_at, block_nesting, with_statement, with_declaration, one_more_statement, one_more_declaration, tested, begin_statement, declaration_or_statement, end_block, begin_for, resume, step}
 use Rattle.pk_grammar.proofs.CompleteLists.{tokens_of, Reads, reads_join, reads_both, reads_one, reads_none, reads_from, reads_to, reads_head, reads_sign, reads_last, regrouped}
 use Rattle.pk_grammar.proofs.CompleteSigns.{Sign, Begins, begins, sign_semicolon, sign_close, specifier_no_else}
 use Rattle.pk_grammar.proofs.CompleteOperands.{Ends, IsAt, ends_at_sign, ends_at_colon, same_false, same_true}
@@ -198,7 +198,7 @@ step_for_open : (n : ℕ) (o : Outer) (at : Pos) (t : Token) → t.kind ≡ kind
 step_for_open n o at t e = rw e
 
 step_for_declaration : (n : ℕ) (o : Outer) (at : Pos) (t : Token) (w : SpecifierWord) → specifier_word t.kind ≡ Some w →
-    step (for_first n at o) t ≡ taken (n + 2) (after_specifiers (in_a_for n at o) (specifier_at t w ∷ []))
+    step (for_first n at o) t ≡ taken (n + 2) (after_specifiers (in_a_for n at o) (one (specifier_at t w)))
 step_for_declaration n o at t w e = ap (λ w. begin_for n at o t w) e
 
 step_first : (n : ℕ) (o : Outer) (at : Pos) (t : Token) → Begins t.kind → step (for_first n at o) t ≡ step (operand (n + 2) (as_whole (as_first n at o))) t
@@ -310,7 +310,7 @@ read_no_items : ItemsRead no_items
 unfolding block_items
 read_no_items = record { reads = λ b q same ms close rest h e. record { state = q; reads = reads_none h; then = same close ∙ step_close b close e } }
 
-step_declaration : (b : OpenBlock) (t : Token) (w : SpecifierWord) → specifier_word t.kind ≡ Some w → step (block_item b) t ≡ taken (block_nesting b) (after_specifiers (in_a_block b) (specifier_at t w ∷ []))
+step_declaration : (b : OpenBlock) (t : Token) (w : SpecifierWord) → specifier_word t.kind ≡ Some w → step (block_item b) t ≡ taken (block_nesting b) (after_specifiers (in_a_block b) (one (specifier_at t w)))
 step_declaration b t w e = ap (λ w. declaration_or_statement b t w) e
 
 read_declaration_then : (d : DeclarationTree) (items : ItemTrees) → ItemsRead items → ItemsRead (declaration_then d items)

@@ -18,9 +18,9 @@ use Rattle.pk_grammar.specs.declared.signs.Fixed.TheVariants as fixed
 use Rattle.pk_grammar.specs.declared.signs.StatementStart.TheVariants as first
 use Rattle.pk_grammar.specs.Languages.{Marked, One, Identified, Inside, Where, Optional, ◌⊙◌, identifier_of}
 use Rattle.pk_grammar.specs.Grammar.{Expression, punctuator, keyword, specifiers, declared, OpenEnd, test, for_start, optional, statement, block_items}
-use Rattle.pk_grammar.specs.Signs.{is_fixed, specifier_word, statement_start}
-use Rattle.pk_grammar.specs.States.{OpenBlock, function_block, inner_block, Outer, in_block, in_label, in_case, in_default, in_if, in_else, in_switch, in_while, in_do, in_for, in_a_block, in_a_for, Purpose, as_statement, as_label, as_test, as_last_test, as_first, as_second, as_third, as_result, as_whole, State, block_item, at_statement, after_statement, test_open, do_open, for_open, for_first, for_second, for_third, default_colon, goto_name, returning, statement_end, operand, named, complete}
-use Rattle.pk_grammar.specs.Steps.{Verdict, taken, reduced, purpose_level, operand_level, specifier_at, block_nesting, with_statement, with_declaration, tested, begin_statement, declaration_or_statement, end_block, begin_for, resume, step}
+use Rattle.pk_grammar.specs.Machine.Signs.{is_fixed, specifier_word, statement_start}
+use Rattle.pk_grammar.specs.Machine.States.{OpenBlock, function_block, inner_block, Outer, in_block, in_label, in_case, in_default, in_if, in_else, in_switch, in_while, in_do, in_for, in_a_block, in_a_for, Purpose, as_statement, as_label, as_test, as_last_test, as_first, as_second, as_third, as_result, as_whole, State, block_item, at_statement, after_statement, test_open, do_open, for_open, for_first, for_second, for_third, default_colon, goto_name, returning, statement_end, operand, named, complete}
+use Rattle.pk_grammar.specs.Machine.Steps.{Verdict, taken, reduced, purpose_level, operand_level, specifier_at, block_nesting, with_statement, with_declaration, tested, begin_statement, declaration_or_statement, end_block, begin_for, resume, step}
 use Rattle.pk_grammar.proofs.CompleteLists.{tokens_of, Reads, reads_both, reads_one, reads_none, reads_from, reads_to, reads_head, reads_sign, reads_last, regrouped}
 use Rattle.pk_grammar.proofs.CompleteSigns.{Sign, Begins, begins, sign_semicolon, sign_close, specifier_no_else}
 use Rattle.pk_grammar.proofs.CompleteOperands.{Ends, IsAt, ends_at_sign, ends_at_colon, same_false}
@@ -76,10 +76,8 @@ first_statement (return at e) n ms h = first_front h (first_front h.first (first
 abbrev pub NoElse : Kind → Type 0
 NoElse k = is_fixed fixed.Else k ≡ false
 
-first_specifiers : (specs : List Specifier) (n : ℕ) (ms : List Marked) → specifiers specs n ms → First NoElse ms
-first_specifiers [] n ms h = absurd h
-first_specifiers (s ∷ []) n ms h = first_one h _ h.holds.0 (specifier_no_else s.word)
-first_specifiers (s ∷ r ∷ more) n ms h = first_front h (first_one h.first _ h.first.holds.0 (specifier_no_else s.word))
+first_specifiers : (specs : OneOrMore Specifier) (n : ℕ) (ms : List Marked) → specifiers specs n ms → First NoElse ms
+first_specifiers specs n ms h = first_front h (first_one h.first _ h.first.holds.0 (specifier_no_else specs.first.word))
 
 -- the token behind an item of a block
 pub record NextToken (ts : List Token) : Type 0 where

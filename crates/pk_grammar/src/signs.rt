@@ -1,7 +1,7 @@
 // What a token's kind tells the parser.
 
 ghost use Rattle.std.specs.Prelude.{◌≡◌};
-ghost use Rattle.pk_grammar.specs.Signs as signs;
+ghost use Rattle.pk_grammar.specs.Machine.Signs as signs;
 
 use crate::states::Testing;
 use pk_ast::{

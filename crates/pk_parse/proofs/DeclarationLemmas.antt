@@ -15,10 +15,10 @@ use Rattle.pk_grammar.specs.declared.failure.ParseError.TheVariants.{Syntax, Nes
 use Rattle.pk_grammar.specs.declared.signs.Fixed.{Fixed}
 use Rattle.pk_grammar.specs.declared.signs.Fixed.TheVariants as fixed
 use Rattle.pk_grammar.specs.Languages.{identifier_of}
-use Rattle.pk_grammar.specs.Signs.{is_fixed, specifier_word}
-use Rattle.pk_grammar.specs.States.{Site, in_a_block, in_a_for, outside, Declaring, Naming, as_length, as_value, as_item, as_whole, after_specifiers, after_name, after_length, after_assign, after_brace, after_item, after_initializer, after_comma, operand, complete}
-use Rattle.pk_grammar.specs.Steps.{refused, one_more, site_nesting, naming_nesting, with_initializer, open_parameters}
-use Rattle.pk_grammar.specs.Running.{first_of_all, run, Fails}
+use Rattle.pk_grammar.specs.Machine.Signs.{is_fixed, specifier_word}
+use Rattle.pk_grammar.specs.Machine.States.{Site, in_a_block, in_a_for, outside, Declaring, Naming, as_length, as_value, as_item, as_whole, after_specifiers, after_name, after_length, after_assign, after_brace, after_item, after_initializer, after_comma, operand, complete}
+use Rattle.pk_grammar.specs.Machine.Steps.{refused, one_more, site_nesting, naming_nesting, with_initializer, open_parameters}
+use Rattle.pk_grammar.specs.Machine.Running.{first_of_all, run, Fails}
 use Rattle.pk_expression.specs.Parsing.{Begins, words, past_words, past_word, EndsAt, UpTo, Reads, Refuses}
 use Rattle.pk_expression.proofs.RunLemmas.{fails_as, fails_syntax, fails_nesting}
 use Rattle.pk_expression.proofs.RunOperands.{no_word_past}

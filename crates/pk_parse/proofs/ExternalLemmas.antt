@@ -19,10 +19,10 @@ use Rattle.pk_grammar.specs.declared.failure.ParseError.TheVariants.{Syntax}
 use Rattle.pk_grammar.specs.declared.signs.Fixed.TheVariants as fixed
 use Rattle.pk_grammar.specs.Languages.{identifier_of}
 use Rattle.pk_grammar.specs.Grammar.{IsVoidAlone}
-use Rattle.pk_grammar.specs.Signs.{is_fixed, specifier_word, storage_word, is_void_word}
-use Rattle.pk_grammar.specs.States.{Head, outside, Declaring, top, after_specifiers, after_name, parameters_open, parameter_specifiers, parameter_name, parameter_comma, parameters_closed}
-use Rattle.pk_grammar.specs.Steps.{is_void}
-use Rattle.pk_grammar.specs.Running.{syntax, first_of_all, run, Fails}
+use Rattle.pk_grammar.specs.Machine.Signs.{is_fixed, specifier_word, storage_word, is_void_word}
+use Rattle.pk_grammar.specs.Machine.States.{Head, outside, Declaring, top, after_specifiers, after_name, parameters_open, parameter_specifiers, parameter_name, parameter_comma, parameters_closed}
+use Rattle.pk_grammar.specs.Machine.Steps.{is_void}
+use Rattle.pk_grammar.specs.Machine.Running.{syntax, first_of_all, run, Fails}
 use Rattle.pk_expression.specs.Parsing.{Begins, BeginsWithWord, words, past_words}
 use Rattle.pk_expression.proofs.RunLemmas.{fails_as, fails_syntax}
 use Rattle.pk_expression.proofs.RunOperands.{no_word_past}

@@ -14,10 +14,10 @@ use Rattle.pk_grammar.specs.declared.signs.Fixed.TheVariants as fixed
 use Rattle.pk_grammar.specs.declared.signs.Operator.{Operator}
 use Rattle.pk_grammar.specs.declared.signs.Operator.TheVariants as operator
 use Rattle.pk_grammar.specs.Languages.{identifier_of}
-use Rattle.pk_grammar.specs.Signs.{is_fixed, operator_of, specifier_word}
-use Rattle.pk_grammar.specs.States.{Site, Declaring, Naming, State, as_length, as_value, as_item, as_whole, after_specifiers, after_name, after_length, after_assign, after_brace, after_item, after_initializer, after_comma, operand, complete}
-use Rattle.pk_grammar.specs.Steps.{taken, refused, reduced, is_unary, go_on, one_more, more_specifiers, specifier_at, site_nesting, naming_nesting, with_initializer, after_declarator, open_parameters, step}
-use Rattle.pk_grammar.specs.Running.{syntax, deep, first_of_all, run}
+use Rattle.pk_grammar.specs.Machine.Signs.{is_fixed, operator_of, specifier_word}
+use Rattle.pk_grammar.specs.Machine.States.{Site, Declaring, Naming, State, as_length, as_value, as_item, as_whole, after_specifiers, after_name, after_length, after_assign, after_brace, after_item, after_initializer, after_comma, operand, complete}
+use Rattle.pk_grammar.specs.Machine.Steps.{taken, refused, reduced, is_unary, go_on, one_more, more_specifiers, specifier_at, site_nesting, naming_nesting, with_initializer, after_declarator, open_parameters, step}
+use Rattle.pk_grammar.specs.Machine.Running.{syntax, deep, first_of_all, run}
 use Rattle.pk_grammar.proofs.CompleteSigns.{strength_least}
 use Rattle.pk_grammar.proofs.CompleteOperands.{same_false, same_true}
 use Rattle.pk_grammar.proofs.CompleteDeclarations.{step_first_name}

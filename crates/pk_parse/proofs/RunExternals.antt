@@ -11,10 +11,10 @@ use Rattle.pk_ast.specs.declared.units.StorageWord.{StorageWord}
 use Rattle.pk_ast.specs.Trees.{no_items, ParameterTree, ExternalTree}
 use Rattle.pk_grammar.specs.declared.signs.Fixed.TheVariants as fixed
 use Rattle.pk_grammar.specs.Languages.{identifier_of}
-use Rattle.pk_grammar.specs.Signs.{is_fixed, specifier_word, storage_word}
-use Rattle.pk_grammar.specs.States.{Head, function_block, outside, top, after_storage, after_specifiers, after_name, parameters_open, parameter_specifiers, parameter_name, parameter_comma, parameters_closed, block_item}
-use Rattle.pk_grammar.specs.Steps.{taken, refused, begin_external, storage_or_specifier, storage_at, begin_parameter, last_parameter, more_parameter, step}
-use Rattle.pk_grammar.specs.Running.{trees, syntax, first_of_all, run}
+use Rattle.pk_grammar.specs.Machine.Signs.{is_fixed, specifier_word, storage_word}
+use Rattle.pk_grammar.specs.Machine.States.{Head, function_block, outside, top, after_storage, after_specifiers, after_name, parameters_open, parameter_specifiers, parameter_name, parameter_comma, parameters_closed, block_item}
+use Rattle.pk_grammar.specs.Machine.Steps.{taken, refused, begin_external, storage_or_specifier, storage_at, begin_parameter, last_parameter, more_parameter, step}
+use Rattle.pk_grammar.specs.Machine.Running.{trees, syntax, first_of_all, run}
 use Rattle.pk_grammar.proofs.CompleteSigns.{specifier_alone}
 use Rattle.pk_grammar.proofs.CompleteOperands.{same_false}
 use Rattle.pk_grammar.proofs.SpellsSigns.{is_this}

@@ -9,10 +9,10 @@ use Rattle.pk_ast.specs.Trees.{ExpressionTree, DeclaratorTree, block, ItemTrees,
 use Rattle.pk_grammar.specs.declared.signs.Fixed.{Fixed}
 use Rattle.pk_grammar.specs.declared.signs.Fixed.TheVariants as fixed
 use Rattle.pk_grammar.specs.Grammar.{any_expression}
-use Rattle.pk_grammar.specs.Signs.{is_fixed, specifier_word}
-use Rattle.pk_grammar.specs.States.{Head, OpenBlock, function_block, inner_block, Site, in_a_block, in_a_for, outside, Declaring, Purpose, as_whole, State, top, after_storage, parameter_specifiers, parameter_name, after_statement, operand}
-use Rattle.pk_grammar.specs.Steps.{refused, taken, wanted, site_nesting, whole_declaration, declared_at, open_parameters, purpose_level, end_purpose, step}
-use Rattle.pk_grammar.specs.Running.{first_of_all}
+use Rattle.pk_grammar.specs.Machine.Signs.{is_fixed, specifier_word}
+use Rattle.pk_grammar.specs.Machine.States.{Head, OpenBlock, function_block, inner_block, Site, in_a_block, in_a_for, outside, Declaring, Purpose, as_whole, State, top, after_storage, parameter_specifiers, parameter_name, after_statement, operand}
+use Rattle.pk_grammar.specs.Machine.Steps.{refused, taken, wanted, site_nesting, whole_declaration, declared_at, open_parameters, purpose_level, end_purpose, step}
+use Rattle.pk_grammar.specs.Machine.Running.{first_of_all}
 use Rattle.pk_expression.specs.Parsing.{EndsAt, UpTo, Reads}
 
 -- A declaration at this nesting, of which a name was read; where a `(` follows, it isn't the name of a function.

@@ -6,10 +6,10 @@ ghost use Rattle.pk_ast.specs.declared.expressions.Identifier.{Identifier};
 ghost use Rattle.pk_ast.specs.Trees as tree;
 ghost use Rattle.pk_ast.specs.Views.{expression_tree, expression_trees, initializer_tree, declarator_tree, declarator_trees, declaration_tree};
 ghost use Rattle.pk_grammar.specs.Outcomes.{nesting_limit};
-ghost use Rattle.pk_grammar.specs.Running.{run, Fails};
+ghost use Rattle.pk_grammar.specs.Machine.Running.{run, Fails};
 ghost use Rattle.pk_parse.specs.Parts.{CanDeclare, IsInner, with_declarators, after_declaration};
-ghost use Rattle.pk_grammar.specs.States as states;
-ghost use Rattle.pk_grammar.specs.Steps as steps;
+ghost use Rattle.pk_grammar.specs.Machine.States as states;
+ghost use Rattle.pk_grammar.specs.Machine.Steps as steps;
 
 use pk_ast::{Declaration, Declarator, Expression, Identifier, Initializer, Specifier};
 use pk_expression::{Parser, identifier, nested};

@@ -4,9 +4,9 @@ ghost use Rattle.std.specs.Prelude.{◌≡◌, ◌≢◌, ◌<◌, ◌≤◌, �
 ghost use Rattle.pk_ast.specs.Trees as tree;
 ghost use Rattle.pk_ast.specs.Views.{block_tree, parameter_tree, parameter_trees, external_tree, external_trees};
 ghost use Rattle.pk_grammar.specs.Grammar.{IsVoidAlone};
-ghost use Rattle.pk_grammar.specs.Running.{trees, first_of_all, run, Fails};
-ghost use Rattle.pk_grammar.specs.Signs as signs;
-ghost use Rattle.pk_grammar.specs.States as states;
+ghost use Rattle.pk_grammar.specs.Machine.Running.{trees, first_of_all, run, Fails};
+ghost use Rattle.pk_grammar.specs.Machine.Signs as signs;
+ghost use Rattle.pk_grammar.specs.Machine.States as states;
 ghost use Rattle.pk_parse.specs.Parts.{after_parameter, EndsParameter, after_function, storage_state};
 
 use crate::declarations::declarators;

@@ -6,13 +6,13 @@ ghost use Rattle.pk_ast.specs.Trees as tree;
 ghost use Rattle.pk_ast.specs.Views.{expression_tree, for_start_tree, statement_tree, item_trees, block_tree};
 ghost use Rattle.pk_grammar.specs.Grammar.{any_expression};
 ghost use Rattle.pk_grammar.specs.Outcomes.{nesting_limit};
-ghost use Rattle.pk_grammar.specs.Running.{first_of_all, run, Fails};
+ghost use Rattle.pk_grammar.specs.Machine.Running.{first_of_all, run, Fails};
 ghost use Rattle.pk_expression.specs.Parsing.{UpTo, Refuses};
 ghost use Rattle.pk_parse.specs.Parts.{IsOptional, IsTest, with_items, IsNewBlock, after_block};
-ghost use Rattle.pk_grammar.specs.Signs as signs;
-ghost use Rattle.pk_grammar.specs.Signs.{is_fixed};
-ghost use Rattle.pk_grammar.specs.States as states;
-ghost use Rattle.pk_grammar.specs.Steps as steps;
+ghost use Rattle.pk_grammar.specs.Machine.Signs as signs;
+ghost use Rattle.pk_grammar.specs.Machine.Signs.{is_fixed};
+ghost use Rattle.pk_grammar.specs.Machine.States as states;
+ghost use Rattle.pk_grammar.specs.Machine.Steps as steps;
 
 use crate::declarations::declaration;
 use pk_ast::{Block, BlockItem, Expression, ForStart, Statement};

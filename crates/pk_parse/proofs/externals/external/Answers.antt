@@ -1,6 +1,6 @@
 use Rattle.std.proofs.Common.{length, sym, ap, ◌∙◌, arith}
 use Rattle.pk_grammar.specs.declared.signs.Fixed.TheVariants as fixed
-use Rattle.pk_grammar.specs.Running.{syntax}
+use Rattle.pk_grammar.specs.Machine.Running.{syntax}
 use Rattle.pk_expression.proofs.RunLemmas.{passed}
 use Rattle.pk_expression.proofs.WordLemmas as word_lemmas
 use Rattle.pk_parse.proofs.DeclarationLemmas.{shorter, past_words_shorter}
