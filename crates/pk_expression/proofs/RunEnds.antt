@@ -10,7 +10,7 @@ use Rattle.pk_ast.specs.declared.operators.BinaryOperator.{BinaryOperator}
 use Rattle.pk_ast.specs.declared.operators.UnaryOperator.{UnaryOperator}
 use Rattle.pk_ast.specs.declared.operators.StepOperator.{StepOperator}
 use Rattle.pk_ast.specs.declared.operators.AssignmentOperator.{AssignmentOperator}
-use Rattle.pk_ast.specs.Trees.{ExpressionTree, prefix, unary, cast, binary, conditional, assignment, comma, ExpressionTrees}
+use Rattle.pk_ast.specs.Trees.{ExpressionTree, prefix, unary, cast, binary, conditional, assignment, comma, ExpressionTrees, OneOrMore}
 use Rattle.pk_grammar.specs.declared.signs.Fixed.TheVariants as fixed
 use Rattle.pk_grammar.specs.declared.signs.Operator.{Operator}
 use Rattle.pk_grammar.specs.declared.signs.Operator.TheVariants as operator
@@ -84,7 +84,7 @@ module _ (end : Token) (n m : ℕ) (at : Pos) (e : ExpressionTree) (c : Context)
       let g = takes_most _ h in
       run_alike end _ _ rest (complete_same m n e (unary o at e) (in_unary n o at c) c (first_of_all end rest) (omega arith) (reduced_unary _ m n at e c o))
 
-  pub run_cast_end : (specs : List Specifier) → EndsAt end 14 rest → run end (complete m e (in_cast n at specs c)) rest ≡ run end (complete n (cast at specs e) c) rest
+  pub run_cast_end : (specs : OneOrMore Specifier) → EndsAt end 14 rest → run end (complete m e (in_cast n at specs c)) rest ≡ run end (complete n (cast at specs e) c) rest
   run_cast_end specs h =
       let g = takes_most _ h in
       run_alike end _ _ rest (complete_same m n e (cast at specs e) (in_cast n at specs c) c (first_of_all end rest) (omega arith) (reduced_cast _ m n at e c specs g))

@@ -4,7 +4,7 @@ use Rattle.pk_ctypes.specs.declared.places.Pos.{Pos}
 use Rattle.pk_lex.specs.declared.token.Token.{Token}
 use Rattle.pk_ast.specs.declared.declarations.Specifier.{Specifier}
 use Rattle.pk_ast.specs.declared.declarations.SpecifierWord.{SpecifierWord}
-use Rattle.pk_ast.specs.Trees.{ExpressionTree}
+use Rattle.pk_ast.specs.Trees.{OneOrMore, ExpressionTree}
 use Rattle.pk_grammar.specs.declared.failure.ParseError.{ParseError}
 use Rattle.pk_grammar.specs.declared.signs.Fixed.{Fixed}
 use Rattle.pk_grammar.specs.declared.signs.Operator.{Operator}
@@ -41,6 +41,10 @@ words_then t (Some w) more = specifier_at t w ∷ more
 unfoldable pub words : List Token → List Specifier
 words [] = []
 words (t ∷ ts) = words_then t (specifier_word t.kind) (words ts)
+
+-- of which the first was read before them
+abbrev pub specifiers_from : Specifier → List Token → OneOrMore Specifier
+specifiers_from first ts = record { first = first; more = words ts }
 
 abbrev pub past_word : List Token → Option SpecifierWord → List Token → List Token
 past_word here None more = here

@@ -1,25 +1,25 @@
 -- Each declaration of the grammar is read.
-use Rattle.std.proofs.Common.{◌≡◌, ◌≢◌, ℕ, ◌+◌, ◌≤◌, ◌⊎◌, inl, inr, Option, Some, None, Bool, true, false, List, [], ◌∷◌, ◌++◌, refl, sym, ap, subst, ◌∙◌, arith, append_assoc}
+use Rattle.std.proofs.Common.{◌≡◌, ℕ, ◌+◌, ◌⊎◌, inl, inr, Option, Some, None, List, [], ◌∷◌, ◌++◌, refl, sym, ap, subst, ◌∙◌, arith, append_assoc, append-nil}
 use Rattle.pk_ctypes.specs.declared.places.Pos.{Pos}
 use Rattle.pk_lex.specs.declared.token.Token.{Token}
-use Rattle.pk_lex.specs.declared.token.Kind.{Kind}
 use Rattle.pk_lex.specs.declared.token.Kind.TheVariants as kind
 use Rattle.pk_lex.specs.declared.token.Punctuator.TheVariants as mark
 use Rattle.pk_ast.specs.declared.declarations.Specifier.{Specifier}
 use Rattle.pk_ast.specs.declared.declarations.SpecifierWord.{SpecifierWord}
 use Rattle.pk_ast.specs.declared.expressions.Identifier.{Identifier}
-use Rattle.pk_ast.specs.Trees.{ExpressionTree, ExpressionTrees, no_expressions, expression_then, InitializerTree, single, braced, DeclaratorTree, DeclarationTree}
-use Rattle.pk_grammar.specs.declared.signs.Operator.TheVariants as operator
+use Rattle.pk_ast.specs.Trees.{OneOrMore, ExpressionTree, ExpressionTrees, no_expressions, expression_then, InitializerTree, single, braced, DeclaratorTree, DeclarationTree}
+use Rattle.pk_ast.specs.Lists.{one, with_last, ended}
+use Rattle.pk_grammar.proofs.SpellsWords.{drop_last}
 use Rattle.pk_grammar.specs.declared.signs.Fixed.TheVariants as fixed
-use Rattle.pk_grammar.specs.Languages.{Marked, One, Identified, Optional, ◌⊙◌, identifier_of}
-use Rattle.pk_grammar.specs.Grammar.{AllFit, Fits, spelled, spelled_list, spelled_more, punctuator, specifiers, array_length, initializer, declarator, declarators, declared}
-use Rattle.pk_grammar.specs.Machine.Signs.{is_fixed, operand_start, operator_of, specifier_word}
-use Rattle.pk_grammar.specs.Machine.States.{Site, Declaring, Naming, as_length, as_value, as_item, as_whole, State, operand, complete, after_specifiers, after_name, after_length, after_assign, after_brace, after_item, after_initializer, after_comma}
-use Rattle.pk_grammar.specs.Machine.Steps.{Verdict, taken, reduced, one_more, more_specifiers, specifier_at, site_nesting, naming_nesting, with_initializer, without_length, after_declarator, next_declarator, end_declaration, declared_at, step}
-use Rattle.pk_grammar.proofs.CompleteLists.{tokens_of, Reads, reads_both, reads_one, reads_none, reads_from, reads_to, reads_head, reads_sign, reads_last, regrouped, reads_join_none}
-use Rattle.pk_grammar.proofs.CompleteSigns.{Sign, Begins, begins, sign_comma, sign_semicolon, sign_close_brace, sign_close_bracket}
+use Rattle.pk_grammar.specs.Languages.{Marked, Optional, ◌⊙◌, identifier_of}
+use Rattle.pk_grammar.specs.Grammar.{AllFit, Fits, spelled, spelled_list, spelled_more, punctuator, array_length, initializer, declarator, declared, more_declarators}
+use Rattle.pk_grammar.specs.Machine.Signs.{is_fixed, specifier_word}
+use Rattle.pk_grammar.specs.Machine.States.{Site, Declaring, Naming, as_length, as_value, as_item, as_whole, State, operand, complete, after_specifiers, after_name, after_length, after_assign, after_brace, after_item, after_initializer, after_comma, Declared}
+use Rattle.pk_grammar.specs.Machine.Steps.{taken, reduced, one_more, more_specifiers, specifier_at, site_nesting, naming_nesting, with_initializer, without_length, after_declarator, declared_at, step, first_item, more_items, with_declarator, goes_on_declaring}
+use Rattle.pk_grammar.proofs.CompleteLists.{tokens_of, Reads, reads_both, reads_one, reads_none, reads_head, reads_sign, reads_last, regrouped, reads_join_none}
+use Rattle.pk_grammar.proofs.CompleteSigns.{Begins, sign_comma, sign_semicolon, sign_close_brace, sign_close_bracket}
 use Rattle.pk_grammar.proofs.CompleteOperands.{Ends, IsAt, ends_at_sign, same_false}
-use Rattle.pk_grammar.proofs.CompleteExpressions.{Starts, starts, from_operand, from_operand_more, Readable, readable, joined, joined_all, ReadsTo, reads_specifiers}
+use Rattle.pk_grammar.proofs.CompleteExpressions.{from_operand, readable, joined, joined_all, ReadsTo, reads_specifiers}
 
 -- Initializers
 

@@ -1,5 +1,5 @@
 -- Each expression of the grammar is read, up to any token that it ends at.
-use Rattle.std.proofs.Common.{◌≡◌, ◌≢◌, ℕ, ◌+◌, ◌≤◌, ◌<◌, ◌⊎◌, inl, inr, Option, Some, None, Bool, true, false, List, [], ◌∷◌, ◌++◌, refl, sym, ap, subst, ◌∙◌, arith, append_assoc}
+use Rattle.std.proofs.Common.{◌≡◌, ◌≢◌, ℕ, ◌+◌, ◌≤◌, Some, List, [], ◌∷◌, ◌++◌, refl, sym, ap, subst, ◌∙◌, arith, append_assoc, append-nil}
 use Rattle.pk_ctypes.specs.declared.places.Pos.{Pos}
 use Rattle.pk_lex.specs.declared.token.Token.{Token}
 use Rattle.pk_lex.specs.declared.token.Kind.{Kind}
@@ -12,19 +12,19 @@ use Rattle.pk_ast.specs.declared.operators.BinaryOperator.{BinaryOperator}
 use Rattle.pk_ast.specs.declared.operators.UnaryOperator.{UnaryOperator}
 use Rattle.pk_ast.specs.declared.operators.StepOperator.{StepOperator}
 use Rattle.pk_ast.specs.declared.operators.AssignmentOperator.{AssignmentOperator}
-use Rattle.pk_ast.specs.Trees.{ExpressionTree, name, call, index, constant, character, parenthesized, postfix, prefix, unary, cast, binary, conditional, assignment, comma, ExpressionTrees, no_expressions, expression_then}
+use Rattle.pk_ast.specs.Trees.{OneOrMore, ExpressionTree, name, call, index, constant, character, parenthesized, postfix, prefix, unary, cast, binary, conditional, assignment, comma, ExpressionTrees, no_expressions, expression_then}
+use Rattle.pk_ast.specs.Lists.{one, with_last}
 use Rattle.pk_grammar.specs.declared.signs.OperandStart.{OperandStart}
 use Rattle.pk_grammar.specs.declared.signs.OperandStart.TheVariants as start
-use Rattle.pk_grammar.specs.declared.signs.Operator.TheVariants as operator
-use Rattle.pk_grammar.specs.Languages.{Marked, One, Identified, ◌⊙◌, identifier_of}
-use Rattle.pk_grammar.specs.Grammar.{binary_sign, unary_sign, step_sign, assignment_sign, specifier_keyword, strength, Fits, AllFit, operators_in, postfixes_in, commas_in, spelled, spelled_list, spelled_more, specifiers, punctuator}
-use Rattle.pk_grammar.specs.Machine.Signs.{is_fixed, operand_start, operator_of, specifier_word}
-use Rattle.pk_grammar.specs.Machine.States.{Context, as_whole, in_parentheses, in_index, in_call, in_prefix, in_unary, in_cast, in_binary, in_choice, in_alternative, in_assignment, in_comma, State, operand, named, arguments, opened, cast_specifiers, complete}
-use Rattle.pk_grammar.specs.Machine.Steps.{Verdict, taken, reduced, operand_level, one_more, specifier_at, step}
+use Rattle.pk_grammar.specs.Languages.{Marked, One, Identified, ◌⊙◌}
+use Rattle.pk_grammar.specs.Grammar.{unary_sign, step_sign, strength, Fits, AllFit, operators_in, commas_in, spelled, spelled_list, spelled_more, specifiers, punctuator, specifier_list}
+use Rattle.pk_grammar.specs.Machine.Signs.{operand_start, operator_of, specifier_word}
+use Rattle.pk_grammar.specs.Machine.States.{Context, in_parentheses, in_index, in_call, in_prefix, in_unary, in_cast, in_binary, in_choice, in_alternative, in_assignment, in_comma, State, operand, named, opened, cast_specifiers, complete}
+use Rattle.pk_grammar.specs.Machine.Steps.{Verdict, taken, operand_level, one_more, specifier_at, step}
 use Rattle.pk_grammar.proofs.CompleteLists.{tokens_of, Reads, reads_both, reads_one, reads_none, reads_from, reads_to, reads_head, reads_sign, reads_last, regrouped, reads_join_none}
-use Rattle.pk_grammar.proofs.CompleteSigns.{takes, strength_least, strength_most, takes_no_unary, AfterName, Sign, sign_binary, sign_step, sign_assignment, sign_close, sign_close_bracket, sign_comma, sign_question, unary_start, step_start, specifier_is, Begins, begins}
+use Rattle.pk_grammar.proofs.CompleteSigns.{takes, strength_most, takes_no_unary, sign_binary, sign_step, sign_assignment, sign_close, sign_close_bracket, sign_comma, sign_question, unary_start, step_start, specifier_is, Begins, begins}
 use Rattle.pk_grammar.proofs.CompleteReduced.{reduced_prefix, reduced_unary, reduced_cast, reduced_binary, reduced_alternative, reduced_assignment, reduced_comma, complete_same}
-use Rattle.pk_grammar.proofs.CompleteOperands.{Ends, IsAt, ends_at_sign, ends_at_colon, step_name, step_constant, step_character, step_open, step_prefix, step_unary, step_named, step_call, step_index, step_no_arguments, step_arguments, step_opened, step_cast, step_more_cast, step_cast_end, step_binary, step_postfix, step_question, step_colon, step_assignment, step_comma, step_parenthesized, step_indexed, step_called, step_argument}
+use Rattle.pk_grammar.proofs.CompleteOperands.{Ends, ends_at_sign, ends_at_colon, step_name, step_constant, step_character, step_open, step_prefix, step_unary, step_named, step_call, step_index, step_no_arguments, step_arguments, step_opened, step_cast, step_more_cast, step_cast_end, step_binary, step_postfix, step_question, step_colon, step_assignment, step_comma, step_parenthesized, step_indexed, step_called, step_argument}
 
 -- The first token of an expression
 

@@ -1,26 +1,25 @@
 -- Each text of the grammar is read.
-use Rattle.std.proofs.Common.{◌≡◌, ◌≢◌, ℕ, ◌+◌, ◌≤◌, ◌⊎◌, inl, inr, Option, Some, None, Bool, true, false, List, [], ◌∷◌, ◌++◌, map, refl, sym, ap, subst, ◌∙◌, arith, append_assoc, append-nil}
+use Rattle.std.proofs.Common.{◌≡◌, ◌≢◌, inl, inr, Option, Some, None, false, List, [], ◌∷◌, ◌++◌, refl, sym, ap, subst, ◌∙◌, append_assoc, append-nil}
 use Rattle.pk_ctypes.specs.declared.places.Pos.{Pos}
 use Rattle.pk_lex.specs.declared.token.Token.{Token}
-use Rattle.pk_lex.specs.declared.token.Kind.{Kind}
 use Rattle.pk_lex.specs.declared.token.Kind.TheVariants as kind
-use Rattle.pk_lex.specs.declared.token.Keyword.TheVariants as key
 use Rattle.pk_lex.specs.declared.token.Punctuator.TheVariants as mark
 use Rattle.pk_ast.specs.declared.declarations.Specifier.{Specifier}
 use Rattle.pk_ast.specs.declared.declarations.SpecifierWord.{SpecifierWord}
 use Rattle.pk_ast.specs.declared.declarations.SpecifierWord.TheVariants as word
 use Rattle.pk_ast.specs.declared.expressions.Identifier.{Identifier}
 use Rattle.pk_ast.specs.declared.units.Storage.{Storage}
-use Rattle.pk_ast.specs.Trees.{DeclarationTree, block, no_items, BlockTree, ParameterTree, FunctionTree, ExternalTree, function, objects}
+use Rattle.pk_ast.specs.Trees.{OneOrMore, no_items, BlockTree, ParameterTree, FunctionTree, ExternalTree, function, objects}
+use Rattle.pk_ast.specs.Lists.{one, with_last}
 use Rattle.pk_grammar.specs.declared.signs.Fixed.TheVariants as fixed
-use Rattle.pk_grammar.specs.Languages.{Marked, One, Identified, Inside, Where, Optional, ◌⊙◌, identifier_of}
-use Rattle.pk_grammar.specs.Grammar.{punctuator, keyword, specifiers, declared, stored, optional_name, parameter, IsVoidAlone, more_parameters, parameters, function_end, statement, block_items, external, externals}
+use Rattle.pk_grammar.specs.Languages.{Marked, ◌⊙◌, identifier_of}
+use Rattle.pk_grammar.specs.Grammar.{stored, optional_name, parameter, IsVoidAlone, more_parameters, parameters, function_end, statement, external, externals}
 use Rattle.pk_grammar.specs.Machine.Signs.{is_fixed, specifier_word, storage_word, is_void_word}
 use Rattle.pk_grammar.specs.Machine.States.{Head, function_block, Site, outside, State, top, after_storage, after_specifiers, after_name, parameters_open, parameter_specifiers, parameter_name, parameter_comma, parameters_closed, block_item}
-use Rattle.pk_grammar.specs.Machine.Steps.{Verdict, taken, finished, step, read, read_on, Reading, ends, specifier_at, storage_at, storage_or_specifier, begin_external, begin_parameter, more_parameter, is_void_alone, is_void, last_parameter, end_block}
-use Rattle.pk_grammar.proofs.CompleteLists.{tokens_of, nestings_of, before, Reads, reads_join, reads_both, reads_one, reads_none, reads_from, reads_to, reads_head, reads_sign, reads_last, reads_join_none, regrouped}
-use Rattle.pk_grammar.proofs.CompleteSigns.{storage_is, specifier_is, IsSpecifier, specifier_alone}
-use Rattle.pk_grammar.proofs.CompleteOperands.{IsAt, same_false, same_true}
+use Rattle.pk_grammar.specs.Machine.Steps.{taken, step, read, ends, specifier_at, storage_or_specifier, begin_external, begin_parameter, more_parameter, is_void_alone, last_parameter, end_block}
+use Rattle.pk_grammar.proofs.CompleteLists.{tokens_of, nestings_of, before, Reads, reads_both, reads_one, reads_none, reads_head, reads_sign, reads_last, reads_join_none}
+use Rattle.pk_grammar.proofs.CompleteSigns.{storage_is, specifier_alone}
+use Rattle.pk_grammar.proofs.CompleteOperands.{IsAt, same_false}
 use Rattle.pk_grammar.proofs.CompleteExpressions.{ReadsTo, reads_specifiers}
 use Rattle.pk_grammar.proofs.CompleteDeclarations.{step_first_name, step_more_specifiers, reads_declared}
 use Rattle.pk_grammar.proofs.CompleteBodies.{items_read, filled_function}

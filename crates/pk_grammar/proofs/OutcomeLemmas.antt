@@ -1,12 +1,12 @@
 -- From what is answered to what is promised.
-use Rattle.std.proofs.Common.{◌≡◌, ◌≢◌, ℕ, ◌+◌, ◌<◌, ◌≤◌, List, [], ◌∷◌, ◌++◌, map, Bool, true, false, refl, sym, ap, subst, ◌∙◌, append_assoc, arith, append-nil}
+use Rattle.std.proofs.Common.{◌≡◌, ◌≢◌, ℕ, ◌<◌, ◌≤◌, List, [], ◌∷◌, ◌++◌, Bool, true, false, refl, sym, ap, subst, ◌∙◌, append_assoc, arith, append-nil}
 use Rattle.std.specs.Prelude.{nat_le, if◌then◌else◌}
 use Rattle.pk_ctypes.specs.declared.places.Pos.{Pos}
 use Rattle.pk_lex.specs.declared.token.Token.{Token}
 use Rattle.pk_lex.specs.declared.token.Kind.TheVariants as kind
 use Rattle.pk_ast.specs.Trees.{ExternalTree}
 use Rattle.pk_grammar.specs.Languages.{Marked}
-use Rattle.pk_grammar.specs.Grammar.{externals, text}
+use Rattle.pk_grammar.specs.Grammar.{externals}
 use Rattle.pk_grammar.specs.Machine.States.{State, top}
 use Rattle.pk_grammar.specs.Machine.Steps.{Verdict, taken, refused, finished, step}
 use Rattle.pk_grammar.specs.Outcomes.{nesting_limit, IsEnded, unmarked, IsWithin, IsParsed, SomeTextBegins, FailsSyntax, FailsNesting}
@@ -14,8 +14,8 @@ use Rattle.pk_grammar.specs.Machine.Running.{Answer, trees, syntax, deep, end_of
 use Rattle.pk_grammar.proofs.CompleteLists.{tokens_of}
 use Rattle.pk_grammar.proofs.SpellsStates.{Spells}
 use Rattle.pk_grammar.proofs.SpellsGood.{le_true, le_false}
-use Rattle.pk_grammar.proofs.Spells.{GoesOn, spells_start, spells_step, spells_end, spells_goes_on}
-use Rattle.pk_grammar.proofs.SpellsReading.{Leads, leads_none, leads_more, one_unit, refused_so, nested_so, BeginsWith}
+use Rattle.pk_grammar.proofs.Spells.{spells_start, spells_step, spells_end, spells_goes_on}
+use Rattle.pk_grammar.proofs.SpellsReading.{Leads, leads_none, leads_more, one_unit, refused_so, nested_so}
 use Rattle.pk_grammar.proofs.EndLemmas.{IsNotTaken, not_taken}
 
 pub tokens_of_all : (ms : List Marked) → unmarked ms ≡ tokens_of ms

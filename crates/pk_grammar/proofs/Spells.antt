@@ -3,7 +3,7 @@ use Rattle.std.proofs.Common.{◌≡◌, ℕ, ◌+◌, inr, List, [], ◌∷◌,
 use Rattle.pk_lex.specs.declared.token.Token.{Token}
 use Rattle.pk_lex.specs.declared.token.Kind.TheVariants as kind
 use Rattle.pk_ast.specs.declared.declarations.SpecifierWord.{SpecifierWord}
-use Rattle.pk_ast.specs.Trees.{return, no_expressions, ExternalTree}
+use Rattle.pk_ast.specs.Trees.{return, no_expressions, ExternalTree, expression_then}
 use Rattle.pk_grammar.specs.declared.signs.Fixed.TheVariants as fixed
 use Rattle.pk_grammar.specs.Languages.{Marked}
 use Rattle.pk_grammar.specs.Grammar.{statement, externals, text}
@@ -12,7 +12,7 @@ use Rattle.pk_grammar.specs.Machine.States.{as_first, as_second, as_third, as_re
 use Rattle.pk_grammar.specs.Machine.Steps.{Verdict, taken, refused, finished, naming_nesting, begin_for, step}
 use Rattle.pk_grammar.proofs.SpellsSigns.{IsSpecifier, is_specifier}
 use Rattle.pk_grammar.proofs.SpellsWords.{push, push_at, push_last, none_more, gather, last_as, moved}
-use Rattle.pk_grammar.proofs.SpellsLists.{items_comma, items_fit}
+use Rattle.pk_grammar.proofs.SpellsLists.{first_word, items_comma}
 use Rattle.pk_grammar.proofs.SpellsStates.{Spells}
 use Rattle.pk_grammar.proofs.SpellsGood.{Good, fixed_good, wanted_good, two}
 use Rattle.pk_grammar.proofs.SpellsDeclarations.{after_declarator_good, more_specifiers_good, at_after_name_good, at_after_length_good, braces_end}
@@ -52,7 +52,7 @@ step_good (for_open n at o) t ms h = wanted_good fixed.OpenParenthesis _ t ms (�
 step_good (for_first n at o) t ms h = go (specifier_word t.kind) (is_specifier t.kind)
   where
     go : (w : Option SpecifierWord) → IsSpecifier w t.kind → Good (begin_for n at o t w) t ms
-    go (Some w) k = push ms t h (k, refl)
+    go (Some w) k = first_word w t (n + 2) ms k h
     go None k = fixed_good fixed.Semicolon _ _ t ms (λ k. gather (push_at ms t (two n) (none_more (n + 1 + 1) h) k)) (at_operand_good (n + 2) (as_whole (as_first n at o)) t ms (two n) h)
 step_good (for_second n at f o) t ms h =
     fixed_good fixed.Semicolon _ _ t ms (λ k. push_at ms t (two n) (none_more (n + 1 + 1) h) k) (at_operand_good (n + 2) (as_whole (as_second n at f o)) t ms (two n) h)

@@ -7,7 +7,7 @@ use Rattle.pk_lex.specs.declared.token.Punctuator.TheVariants as mark
 use Rattle.pk_ast.specs.declared.declarations.Specifier.{Specifier}
 use Rattle.pk_ast.specs.declared.declarations.SpecifierWord.{SpecifierWord}
 use Rattle.pk_ast.specs.declared.expressions.Identifier.{Identifier}
-use Rattle.pk_ast.specs.Trees.{OneOrMore, ExpressionTree, InitializerTree, DeclaratorTree, ExpressionTrees, no_expressions, expression_then, braced}
+use Rattle.pk_ast.specs.Trees.{OneOrMore, ExpressionTree, InitializerTree, DeclaratorTree, ExpressionTrees, braced}
 use Rattle.pk_grammar.specs.declared.signs.Fixed.TheVariants as fixed
 use Rattle.pk_grammar.specs.Languages.{Marked, Optional, Identified}
 use Rattle.pk_grammar.specs.Grammar.{Items, specifiers, initializer, declared, punctuator}

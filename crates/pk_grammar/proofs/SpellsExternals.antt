@@ -1,5 +1,5 @@
 -- What the steps of an external definition leave.
-use Rattle.std.proofs.Common.{◌≡◌, ℕ, inr, List, [], ◌∷◌, Bool, true, false, map, Option, Some, None, if◌then◌else◌, refl, ap, ◌∙◌}
+use Rattle.std.proofs.Common.{◌≡◌, ℕ, inr, List, [], ◌∷◌, Bool, true, false, Option, Some, None, if◌then◌else◌, refl, ap, ◌∙◌}
 use Rattle.pk_lex.specs.declared.token.Token.{Token}
 use Rattle.pk_lex.specs.declared.token.Kind.TheVariants as kind
 use Rattle.pk_lex.specs.declared.token.Keyword.TheVariants as key
@@ -67,7 +67,7 @@ is_void_of ss e f = ap (λ more. is_void_alone ss.first.word more) f ∙ ap is_v
 only_parameter : (b : Bool) (ss : OneOrMore Specifier) (n : ℕ) (ts : List Marked) → is_void ss ≡ b → specifiers ss n ts →
     parameters (if b then [] else record { specifiers = ss; name = None } ∷ []) n ts
 only_parameter true ss n ts e h = inr (void_alone ss n ts e h)
-only_parameter false ss n ts e h = record { holds = λ v. let f = is_void_of ss v.0 v.1.0 in cc; is = and_none n ts h }
+only_parameter false ss n ts e h = record { holds = λ v. let f = is_void_of ss v.0 v.1 in cc; is = and_none n ts h }
 
 -- the last parameter, or none
 last_parameter_good : {R : Words} (ps : List ParameterTree) (ss : OneOrMore Specifier) (ms : List Marked) → (R ▹ parameters_before ps 1 ▹ specifiers ss 1) ms → (R ▹ parameters (last_parameter ps ss) 1) ms
@@ -81,7 +81,7 @@ more_parameter_good h ps ss t ms g = go (specifier_word t.kind) (is_specifier t.
     go : (w : Option SpecifierWord) → IsSpecifier w t.kind → Good (more_parameter h ps ss t w) t ms
     go (Some w) k = one_more_word ss w t 1 ms k g
     go None k =
-        fixed_good fixed.Name _ _ t ms (λ k. (λ v. let e : ◌≡◌ {A = Option Identifier} (Some (identifier_of t)) None = v.1.1 in cc, gather (push ms t g (k, refl))))
+        fixed_good fixed.Name _ _ t ms (λ k. (λ v. let e : ◌≡◌ {A = Option Identifier} (Some (identifier_of t)) None = v.2 in cc, gather (push ms t g (k, refl))))
         (fixed_good fixed.Comma _ _ t ms (λ k. last_as (λ ts f. parameters_comma ps _ 1 ts f) (gather (gather (push ms t (gather (none_more 1 g)) k))))
         (wanted_good fixed.CloseParenthesis _ t ms (λ k. push ms t (gather (last_parameter_good ps ss ms g)) k)))
 

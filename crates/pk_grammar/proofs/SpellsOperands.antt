@@ -11,7 +11,7 @@ use Rattle.pk_ast.specs.declared.expressions.Identifier.{Identifier}
 use Rattle.pk_ast.specs.declared.operators.BinaryOperator.{BinaryOperator}
 use Rattle.pk_ast.specs.declared.operators.BinaryOperator.TheVariants as op
 use Rattle.pk_ast.specs.declared.operators.AssignmentOperator.{AssignmentOperator}
-use Rattle.pk_ast.specs.Trees.{ExpressionTree, name, call, index, constant, character, parenthesized, postfix, prefix, unary, cast, binary, conditional, assignment, comma, no_expressions}
+use Rattle.pk_ast.specs.Trees.{OneOrMore, ExpressionTree, name, call, index, constant, character, parenthesized, postfix, prefix, unary, cast, binary, conditional, assignment, comma, no_expressions}
 use Rattle.pk_grammar.specs.declared.signs.Fixed.TheVariants as fixed
 use Rattle.pk_grammar.specs.declared.signs.OperandStart.{OperandStart}
 use Rattle.pk_grammar.specs.declared.signs.OperandStart.TheVariants as start
@@ -21,10 +21,10 @@ use Rattle.pk_grammar.specs.Languages.{Marked, Identified}
 use Rattle.pk_grammar.specs.Grammar.{any_expression, assignment_expression, conditional_expression, strength, weakest_operator, cast_expression, unary_expression, postfix_expression, Fits, specifiers, spelled, punctuator, punctuator_at}
 use Rattle.pk_grammar.specs.Machine.Signs.{operand_start, operator_of, specifier_word}
 use Rattle.pk_grammar.specs.Machine.States.{Purpose, as_statement, as_label, as_test, as_last_test, as_first, as_second, as_third, as_result, as_length, as_value, as_item, Context, as_whole, in_parentheses, in_index, in_call, in_prefix, in_unary, in_cast, in_binary, in_choice, in_alternative, in_assignment, in_comma}
-use Rattle.pk_grammar.specs.Machine.Steps.{Verdict, refused, Reduced, reduced, purpose_level, operand_level, begin_operand, at_operand, end_expression, comma_after, join_comma, join_binary, join_question, is_unary, join_assignment, go_on, at_complete, at_named, at_arguments, open_cast, at_opened, more_cast}
+use Rattle.pk_grammar.specs.Machine.Steps.{refused, Reduced, reduced, purpose_level, operand_level, begin_operand, at_operand, end_expression, comma_after, join_comma, join_binary, join_question, is_unary, join_assignment, go_on, at_complete, at_named, at_arguments, open_cast, at_opened, more_cast}
 use Rattle.pk_grammar.proofs.SpellsSigns.{IsOperand, is_operand, IsOperator, is_operator, IsSpecifier, is_specifier}
 use Rattle.pk_grammar.proofs.SpellsWords.{◌▹◌, push, none_more, gather, last_as, moved}
-use Rattle.pk_grammar.proofs.SpellsLists.{expressions_end, expressions_comma, all_fit, one_more_word}
+use Rattle.pk_grammar.proofs.SpellsLists.{expressions_end, expressions_comma, all_fit, one_more_word, first_word}
 use Rattle.pk_grammar.proofs.SpellsStates.{bare, to_operand, operand_nesting}
 use Rattle.pk_grammar.proofs.SpellsGood.{Good, if_good, fixed_good, wanted_good, le_true, le_false}
 use Rattle.pk_grammar.proofs.SpellsPurposes.{end_purpose_good, comma_purpose_good}

@@ -11,7 +11,7 @@ use Rattle.pk_grammar.specs.declared.signs.Fixed.TheVariants as fixed
 use Rattle.pk_grammar.specs.Languages.{Marked, Identified}
 use Rattle.pk_grammar.specs.Grammar.{any_expression, assignment_expression, Fits, spelled, Expression, statement, keyword_at, punctuator, optional}
 use Rattle.pk_grammar.specs.Machine.States.{Outer, in_for, Purpose, as_statement, as_label, as_test, as_last_test, as_first, as_second, as_third, as_result, as_length, as_value, as_item, as_whole, at_statement}
-use Rattle.pk_grammar.specs.Machine.Steps.{taken, labelled, end_purpose, comma_purpose, join_comma, tested, purpose_level, naming_nesting, one_more}
+use Rattle.pk_grammar.specs.Machine.Steps.{taken, labelled, end_purpose, comma_purpose, join_comma, tested, purpose_level, naming_nesting, first_item, more_items}
 use Rattle.pk_grammar.proofs.SpellsSigns.{testing_keyword}
 use Rattle.pk_grammar.proofs.SpellsWords.{Words, ◌▹◌, not_there, push, push_at, gather, last_as, moved}
 use Rattle.pk_grammar.proofs.SpellsLists.{some_items_end}

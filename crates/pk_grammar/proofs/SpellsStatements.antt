@@ -15,7 +15,7 @@ use Rattle.pk_grammar.specs.Machine.States.{OpenBlock, function_block, inner_blo
 use Rattle.pk_grammar.specs.Machine.Steps.{block_nesting, begin_statement, begins_statement, end_block, with_statement, declaration_or_statement, at_items, resume}
 use Rattle.pk_grammar.proofs.SpellsSigns.{is_this, IsStatement, is_statement, IsSpecifier, is_specifier}
 use Rattle.pk_grammar.proofs.SpellsWords.{◌▹◌, push, push_at, none_more, gather, together, last_as, before_as, moved}
-use Rattle.pk_grammar.proofs.SpellsLists.{items_statement, externals_end}
+use Rattle.pk_grammar.proofs.SpellsLists.{items_statement, externals_end, first_word}
 use Rattle.pk_grammar.proofs.SpellsStates.{bare, to_item, to_statement, outer_nesting}
 use Rattle.pk_grammar.proofs.SpellsGood.{Good, if_good, fixed_good, wanted_good, two}
 use Rattle.pk_grammar.proofs.SpellsPurposes.{leveled}

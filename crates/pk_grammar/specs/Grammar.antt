@@ -1,8 +1,6 @@
 -- The grammar, as a relation between trees and whole lists of tokens, each with its nesting (after C99 6.5 to 6.9).
-use Rattle.std.specs.Prelude.{◌≡◌, ℕ, ◌+◌, ◌≤◌, ◌⊎◌, List, [], ◌∷◌, ◌++◌, Option, Some, None}
+use Rattle.std.specs.Prelude.{◌≡◌, ℕ, ◌+◌, ◌≤◌, List, [], ◌∷◌, Option, Some, None}
 use Rattle.pk_ctypes.specs.declared.places.Pos.{Pos}
-use Rattle.pk_lex.specs.declared.token.Token.{Token}
-use Rattle.pk_lex.specs.declared.token.Kind.{Kind}
 use Rattle.pk_lex.specs.declared.token.Kind.TheVariants as kind
 use Rattle.pk_lex.specs.declared.token.Keyword.{Keyword}
 use Rattle.pk_lex.specs.declared.token.Keyword.TheVariants as key
@@ -23,7 +21,7 @@ use Rattle.pk_ast.specs.declared.operators.AssignmentOperator.TheVariants as asg
 use Rattle.pk_ast.specs.declared.units.Storage.{Storage}
 use Rattle.pk_ast.specs.declared.units.StorageWord.{StorageWord}
 use Rattle.pk_ast.specs.declared.units.StorageWord.TheVariants as storage
-use Rattle.pk_ast.specs.Trees.{OneOrMore, ExpressionTree, name, call, index, constant, character, parenthesized, postfix, prefix, unary, cast, binary, conditional, assignment, comma, ExpressionTrees, no_expressions, expression_then, InitializerTree, single, braced, DeclaratorTree, DeclarationTree, ForStartTree, declaration, expression, StatementTree, block, empty, expression_statement, label, case, default, if_then, if_else, switch, while, do_while, for_loop, goto, continue, break, return, ItemTrees, no_items, declaration_then, statement_then, BlockTree, ParameterTree, FunctionTree, ExternalTree, function, objects}
+use Rattle.pk_ast.specs.Trees.{OneOrMore, ExpressionTree, name, call, index, constant, character, parenthesized, postfix, prefix, unary, cast, binary, conditional, assignment, comma, ExpressionTrees, no_expressions, expression_then, InitializerTree, single, braced, DeclaratorTree, DeclarationTree, ForStartTree, declaration, expression, StatementTree, block, empty, expression_statement, label, case, default, if_then, if_else, switch, while, do_while, for_loop, goto, continue, break, return, ItemTrees, no_items, declaration_then, statement_then, BlockTree, ParameterTree, ExternalTree, function, objects}
 use Rattle.pk_grammar.specs.Languages.{Marked, Language, Nothing, At, Any, Identified, ◌⊙◌, Inside, Past, Optional, Where}
 
 -- Signs
