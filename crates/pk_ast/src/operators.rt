@@ -29,7 +29,7 @@ pub enum BinaryOperator {
 }
 
 /// A prefix operator on a value (C99 6.5.3.3).
-#[derive(Clone, Copy)]
+#[derive(Clone, Copy, PartialEq, Eq)]
 pub enum UnaryOperator {
     Plus,
     Minus,
@@ -38,7 +38,7 @@ pub enum UnaryOperator {
 }
 
 /// `++` or `--`, before or after its operand (C99 6.5.2.4, 6.5.3.1).
-#[derive(Clone, Copy)]
+#[derive(Clone, Copy, PartialEq, Eq)]
 pub enum StepOperator {
     Increment,
     Decrement,

@@ -155,16 +155,16 @@ impl Statement {
         alloc: Global,
         at: Pos,
         condition: Expression,
-        then_branch: Statement,
+        then_branch: Box<Statement>,
         else_branch: Statement,
     ) -> Result<Statement, AllocError>
         ensures { IfOk result (λ s. statement_tree s
-            ≡ tree.if_else at (expression_tree condition) (statement_tree then_branch) (statement_tree else_branch)) }
+            ≡ tree.if_else at (expression_tree condition) (statement_tree then_branch.value) (statement_tree else_branch)) }
     {
         Ok(Statement::IfElse {
             at,
             condition,
-            then_branch: Box::new(alloc, then_branch)?,
+            then_branch,
             else_branch: Box::new(alloc, else_branch)?,
         })
     }
@@ -208,13 +208,13 @@ impl Statement {
     pub fn for_loop(
         alloc: Global,
         at: Pos,
-        head: ForHead,
+        head: Box<ForHead>,
         body: Statement,
     ) -> Result<Statement, AllocError>
-        ensures { IfOk result (λ s. statement_tree s ≡ tree.for_loop at (for_start_tree head.start)
-            (option_map expression_tree head.condition) (option_map expression_tree head.step) (statement_tree body)) }
+        ensures { IfOk result (λ s. statement_tree s ≡ tree.for_loop at (for_start_tree head.value.start)
+            (option_map expression_tree head.value.condition) (option_map expression_tree head.value.step) (statement_tree body)) }
     {
-        Ok(Statement::For(at, Box::new(alloc, head)?, Box::new(alloc, body)?))
+        Ok(Statement::For(at, head, Box::new(alloc, body)?))
     }
 
     pub fn goto(at: Pos, label: Identifier) -> Statement

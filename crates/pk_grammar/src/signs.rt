@@ -31,7 +31,7 @@ pub enum Fixed {
 }
 
 /// What an operand begins with.
-#[derive(Clone, Copy)]
+#[derive(Clone, Copy, PartialEq, Eq)]
 pub enum OperandStart {
     Name,
     Constant { ty: IntType, value: u64 },
@@ -54,7 +54,7 @@ pub enum Operator {
 }
 
 /// What a statement begins with.
-#[derive(Clone, Copy)]
+#[derive(Clone, Copy, PartialEq, Eq)]
 pub enum StatementStart {
     Block,
     Empty,

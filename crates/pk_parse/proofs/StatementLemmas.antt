@@ -11,7 +11,7 @@ use Rattle.pk_ast.specs.declared.expressions.Expression.{Expression}
 use Rattle.pk_ast.specs.declared.expressions.Expression.TheVariants.{Name, Call', Index', Constant, Character, Parenthesized', Postfix', Prefix', Unary', Cast', Binary', Conditional', Assignment', Comma'}
 use Rattle.pk_ast.specs.declared.statements.BlockItem.{BlockItem}
 use Rattle.pk_ast.specs.Trees.{ExpressionTree, name, DeclarationTree, ForStartTree, StatementTree, block, label, case, default, if_then, if_else, switch, while, do_while, for_loop, expression_statement, ItemTrees, no_items, declaration_then, statement_then}
-use Rattle.pk_ast.specs.Lists.{append_items}
+use Rattle.pk_ast.specs.Lists.{append_items, one}
 use Rattle.pk_ast.specs.Views.{expression_tree, item_trees}
 use Rattle.pk_ast.proofs.ListLemmas.{append_items-none, append_items_assoc, item_trees-push}
 use Rattle.pk_grammar.specs.declared.failure.ParseError.{ParseError}
@@ -385,10 +385,10 @@ module _ (end : Token) (b : OpenBlock) (items : List BlockItem) (ts : List Token
         (ap (λ q. declaration_or_statement c t q) w ∙ same_false (is_fixed fixed.CloseBrace t.kind) _ _ f ∙ ap (λ q. step (at_statement q (in_block c)) t) (nesting_with_items b (item_trees items) ∙ n))
 
     pub run_item_word : (word : Specifier) (rest : List Token) → BeginsWithWord ts word rest → inside ≤ 128 →
-        run end (block_item (with_items b (item_trees items))) ts ≡ run end (after_specifiers (in_a_block (with_items b (item_trees items))) (word ∷ [])) rest
+        run end (block_item (with_items b (item_trees items))) ts ≡ run end (after_specifiers (in_a_block (with_items b (item_trees items))) (one word)) rest
     run_item_word word rest w h =
         let c = with_items b (item_trees items) in
-        run_word end (block_item c) ts word rest (block_nesting c) (λ q. after_specifiers (in_a_block c) (q ∷ [])) w (λ t s e. ap (λ q. declaration_or_statement c t q) e)
+        run_word end (block_item c) ts word rest (block_nesting c) (λ q. after_specifiers (in_a_block c) (one q)) w (λ t s e. ap (λ q. declaration_or_statement c t q) e)
         (subst (λ q. q ≤ 128) (sym (nesting_with_items b (item_trees items) ∙ n)) h)
 
   module _ (item : BlockItem) (more : List BlockItem) (grown : more ≡ items ++ item ∷ []) where
