@@ -5,6 +5,7 @@ ghost use Rattle.pk_ast.specs.Places.{first_place_of};
 ghost use Rattle.pk_ast.specs.Trees as tree;
 ghost use Rattle.pk_ast.specs.Views.{specifiers_tree, expression_tree, expression_trees};
 
+use crate::boxes::{all_boxed, both_boxed, boxed};
 use crate::declarations::Specifiers;
 use crate::operators::{AssignmentOperator, BinaryOperator, StepOperator, UnaryOperator};
 use pk_ctypes::{IntType, Pos};
@@ -89,7 +90,8 @@ impl Expression {
     ) -> Result<Expression, AllocError>
         ensures { IfOk result (λ e. expression_tree e ≡ tree.index name at (expression_tree index)) }
     {
-        Ok(Expression::Index(name, at, Box::new(alloc, index)?))
+        let index = boxed(alloc, index)?;
+        Ok(Expression::Index(name, at, index))
     }
 
     pub fn constant(at: Pos, int_type: IntType, value: u64) -> Expression
@@ -112,7 +114,8 @@ impl Expression {
     ) -> Result<Expression, AllocError>
         ensures { IfOk result (λ e. expression_tree e ≡ tree.parenthesized at (expression_tree inner)) }
     {
-        Ok(Expression::Parenthesized(at, Box::new(alloc, inner)?))
+        let inner = boxed(alloc, inner)?;
+        Ok(Expression::Parenthesized(at, inner))
     }
 
     pub fn postfix(
@@ -123,7 +126,8 @@ impl Expression {
     ) -> Result<Expression, AllocError>
         ensures { IfOk result (λ e. expression_tree e ≡ tree.postfix op at (expression_tree operand)) }
     {
-        Ok(Expression::Postfix(op, at, Box::new(alloc, operand)?))
+        let operand = boxed(alloc, operand)?;
+        Ok(Expression::Postfix(op, at, operand))
     }
 
     pub fn prefix(
@@ -134,7 +138,8 @@ impl Expression {
     ) -> Result<Expression, AllocError>
         ensures { IfOk result (λ e. expression_tree e ≡ tree.prefix op at (expression_tree operand)) }
     {
-        Ok(Expression::Prefix(op, at, Box::new(alloc, operand)?))
+        let operand = boxed(alloc, operand)?;
+        Ok(Expression::Prefix(op, at, operand))
     }
 
     pub fn unary(
@@ -145,7 +150,8 @@ impl Expression {
     ) -> Result<Expression, AllocError>
         ensures { IfOk result (λ e. expression_tree e ≡ tree.unary op at (expression_tree operand)) }
     {
-        Ok(Expression::Unary(op, at, Box::new(alloc, operand)?))
+        let operand = boxed(alloc, operand)?;
+        Ok(Expression::Unary(op, at, operand))
     }
 
     /// A conversion, at its `(`.
@@ -158,7 +164,8 @@ impl Expression {
         ensures { IfOk result (λ e. expression_tree e
             ≡ tree.cast at (specifiers_tree specifiers) (expression_tree operand)) }
     {
-        Ok(Expression::Cast(at, Box::new(alloc, specifiers)?, Box::new(alloc, operand)?))
+        let (specifiers, operand) = both_boxed(alloc, specifiers, operand)?;
+        Ok(Expression::Cast(at, specifiers, operand))
     }
 
     pub fn binary(
@@ -171,11 +178,12 @@ impl Expression {
         ensures { IfOk result (λ e. expression_tree e
             ≡ tree.binary op at (expression_tree left) (expression_tree right)) }
     {
+        let (left, right) = both_boxed(alloc, left, right)?;
         Ok(Expression::Binary {
             op,
             at,
-            left: Box::new(alloc, left)?,
-            right: Box::new(alloc, right)?,
+            left,
+            right,
         })
     }
 
@@ -189,11 +197,12 @@ impl Expression {
         ensures { IfOk result (λ e. expression_tree e
             ≡ tree.assignment op at (expression_tree left) (expression_tree right)) }
     {
+        let (left, right) = both_boxed(alloc, left, right)?;
         Ok(Expression::Assignment {
             op,
             at,
-            left: Box::new(alloc, left)?,
-            right: Box::new(alloc, right)?,
+            left,
+            right,
         })
     }
 
@@ -206,11 +215,8 @@ impl Expression {
         ensures { IfOk result (λ e. expression_tree e
             ≡ tree.comma at (expression_tree left) (expression_tree right)) }
     {
-        Ok(Expression::Comma {
-            at,
-            left: Box::new(alloc, left)?,
-            right: Box::new(alloc, right)?,
-        })
+        let (left, right) = both_boxed(alloc, left, right)?;
+        Ok(Expression::Comma { at, left, right })
     }
 
     /// At its `?`.
@@ -224,11 +230,12 @@ impl Expression {
         ensures { IfOk result (λ e. expression_tree e
             ≡ tree.conditional at (expression_tree condition) (expression_tree if_true) (expression_tree if_false)) }
     {
+        let (condition, if_true, if_false) = all_boxed(alloc, condition, if_true, if_false)?;
         Ok(Expression::Conditional {
             at,
-            condition: Box::new(alloc, condition)?,
-            if_true: Box::new(alloc, if_true)?,
-            if_false: Box::new(alloc, if_false)?,
+            condition,
+            if_true,
+            if_false,
         })
     }
 

@@ -4,6 +4,7 @@
 //! Every other tree inside a tree is one level of nesting, which the parser limits. So dropping a tree, or walking it, recurses no deeper than that limit.
 #![tactic(auto)]
 
+mod boxes;
 mod declarations;
 mod expressions;
 mod operators;

@@ -12,6 +12,7 @@ ghost use Rattle.pk_ast.specs.Views.{
   block_tree,
 };
 
+use crate::boxes::{boxed, boxed_beside};
 use crate::declarations::Declaration;
 use crate::expressions::{Expression, Identifier};
 use pk_ctypes::Pos;
@@ -118,7 +119,8 @@ impl Statement {
     pub fn label(alloc: Global, name: Identifier, body: Statement) -> Result<Statement, AllocError>
         ensures { IfOk result (λ s. statement_tree s ≡ tree.label name (statement_tree body)) }
     {
-        Ok(Statement::Label(name, Box::new(alloc, body)?))
+        let body = boxed(alloc, body)?;
+        Ok(Statement::Label(name, body))
     }
 
     pub fn case(
@@ -130,13 +132,15 @@ impl Statement {
         ensures { IfOk result (λ s. statement_tree s
             ≡ tree.case at (expression_tree value) (statement_tree body)) }
     {
-        Ok(Statement::Case(at, value, Box::new(alloc, body)?))
+        let (value, body) = boxed_beside(alloc, value, body)?;
+        Ok(Statement::Case(at, value, body))
     }
 
     pub fn default(alloc: Global, at: Pos, body: Statement) -> Result<Statement, AllocError>
         ensures { IfOk result (λ s. statement_tree s ≡ tree.default at (statement_tree body)) }
     {
-        Ok(Statement::Default(at, Box::new(alloc, body)?))
+        let body = boxed(alloc, body)?;
+        Ok(Statement::Default(at, body))
     }
 
     pub fn if_then(
@@ -148,7 +152,8 @@ impl Statement {
         ensures { IfOk result (λ s. statement_tree s
             ≡ tree.if_then at (expression_tree condition) (statement_tree then_branch)) }
     {
-        Ok(Statement::If(at, condition, Box::new(alloc, then_branch)?))
+        let (condition, then_branch) = boxed_beside(alloc, condition, then_branch)?;
+        Ok(Statement::If(at, condition, then_branch))
     }
 
     pub fn if_else(
@@ -161,11 +166,16 @@ impl Statement {
         ensures { IfOk result (λ s. statement_tree s
             ≡ tree.if_else at (expression_tree condition) (statement_tree then_branch.value) (statement_tree else_branch)) }
     {
+        let ((condition, then_branch), else_branch) = boxed_beside(
+            alloc,
+            (condition, then_branch),
+            else_branch,
+        )?;
         Ok(Statement::IfElse {
             at,
             condition,
             then_branch,
-            else_branch: Box::new(alloc, else_branch)?,
+            else_branch,
         })
     }
 
@@ -178,7 +188,8 @@ impl Statement {
         ensures { IfOk result (λ s. statement_tree s
             ≡ tree.switch at (expression_tree value) (statement_tree body)) }
     {
-        Ok(Statement::Switch(at, value, Box::new(alloc, body)?))
+        let (value, body) = boxed_beside(alloc, value, body)?;
+        Ok(Statement::Switch(at, value, body))
     }
 
     pub fn while_loop(
@@ -190,7 +201,8 @@ impl Statement {
         ensures { IfOk result (λ s. statement_tree s
             ≡ tree.while at (expression_tree condition) (statement_tree body)) }
     {
-        Ok(Statement::While(at, condition, Box::new(alloc, body)?))
+        let (condition, body) = boxed_beside(alloc, condition, body)?;
+        Ok(Statement::While(at, condition, body))
     }
 
     pub fn do_while(
@@ -202,7 +214,8 @@ impl Statement {
         ensures { IfOk result (λ s. statement_tree s
             ≡ tree.do_while at (statement_tree body) (expression_tree condition)) }
     {
-        Ok(Statement::Do(at, Box::new(alloc, body)?, condition))
+        let (condition, body) = boxed_beside(alloc, condition, body)?;
+        Ok(Statement::Do(at, body, condition))
     }
 
     pub fn for_loop(
@@ -214,7 +227,8 @@ impl Statement {
         ensures { IfOk result (λ s. statement_tree s ≡ tree.for_loop at (for_start_tree head.value.start)
             (option_map expression_tree head.value.condition) (option_map expression_tree head.value.step) (statement_tree body)) }
     {
-        Ok(Statement::For(at, head, Box::new(alloc, body)?))
+        let (head, body) = boxed_beside(alloc, head, body)?;
+        Ok(Statement::For(at, head, body))
     }
 
     pub fn goto(at: Pos, label: Identifier) -> Statement
@@ -272,7 +286,8 @@ impl BlockItem {
         ensures { IfOk result (λ item. item_trees (item ∷ [])
             ≡ tree.declaration_then (declaration_tree declaration) tree.no_items) }
     {
-        Ok(BlockItem::Declaration(Box::new(alloc, declaration)?))
+        let declaration = boxed(alloc, declaration)?;
+        Ok(BlockItem::Declaration(declaration))
     }
 
     pub fn statement(statement: Statement) -> BlockItem
