@@ -1,8 +1,8 @@
 use Rattle.std.proofs.Common.{Some, sym, ap, ◌∙◌, arith}
 use Rattle.pk_grammar.specs.declared.signs.Fixed.TheVariants as fixed
-use Rattle.pk_grammar.specs.States.{after_initializer}
-use Rattle.pk_grammar.specs.Steps.{with_initializer}
-use Rattle.pk_grammar.specs.Running.{run}
+use Rattle.pk_grammar.specs.Machine.States.{after_initializer}
+use Rattle.pk_grammar.specs.Machine.Steps.{with_initializer}
+use Rattle.pk_grammar.specs.Machine.Running.{run}
 use Rattle.pk_expression.proofs.RunLemmas.{passed, fails_as}
 use Rattle.pk_parse.proofs.DeclarationLemmas.{shorter, run_opened, fails_value, reads_value}
 use Rattle.pk_parse.proofs.declarations.value.Goals as goal

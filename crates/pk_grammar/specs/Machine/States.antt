@@ -3,19 +3,19 @@ use Rattle.std.specs.Prelude.{ℕ, List, Option}
 use Rattle.pk_ctypes.specs.declared.places.Pos.{Pos}
 use Rattle.pk_ast.specs.declared.declarations.Specifier.{Specifier}
 use Rattle.pk_ast.specs.declared.expressions.Identifier.{Identifier}
-use Rattle.pk_ast.specs.declared.expressions.BinaryOperator.{BinaryOperator}
-use Rattle.pk_ast.specs.declared.expressions.UnaryOperator.{UnaryOperator}
-use Rattle.pk_ast.specs.declared.expressions.StepOperator.{StepOperator}
-use Rattle.pk_ast.specs.declared.expressions.AssignmentOperator.{AssignmentOperator}
+use Rattle.pk_ast.specs.declared.operators.BinaryOperator.{BinaryOperator}
+use Rattle.pk_ast.specs.declared.operators.UnaryOperator.{UnaryOperator}
+use Rattle.pk_ast.specs.declared.operators.StepOperator.{StepOperator}
+use Rattle.pk_ast.specs.declared.operators.AssignmentOperator.{AssignmentOperator}
 use Rattle.pk_ast.specs.declared.units.Storage.{Storage}
-use Rattle.pk_ast.specs.Trees.{ExpressionTree, ExpressionTrees, DeclaratorTree, ForStartTree, StatementTree, ItemTrees, ParameterTree, ExternalTree}
+use Rattle.pk_ast.specs.Trees.{OneOrMore, ExpressionTree, ExpressionTrees, DeclaratorTree, ForStartTree, StatementTree, ItemTrees, ParameterTree, ExternalTree}
 use Rattle.pk_grammar.specs.declared.states.Testing.{Testing}
 
 -- a function of which everything before its parameters was read, and what stands before it
 pub record Head : Type 0 where
   pub before : List ExternalTree
   pub storage : Option Storage
-  pub specifiers : List Specifier
+  pub specifiers : OneOrMore Specifier
   pub name : Identifier
 
 mutual
@@ -43,11 +43,17 @@ pub data Site : Type 0 where
   in_a_for : ℕ → Pos → Outer → Site
   outside : List ExternalTree → Option Storage → Site
 
--- a declaration, and the declarators read so far
+-- a declaration, and the declarators read so far, behind which another one is to come
 pub record Declaring : Type 0 where
   pub site : Site
-  pub specifiers : List Specifier
+  pub specifiers : OneOrMore Specifier
   pub declarators : List DeclaratorTree
+
+-- the same, behind a declarator
+pub record Declared : Type 0 where
+  pub site : Site
+  pub specifiers : OneOrMore Specifier
+  pub declarators : OneOrMore DeclaratorTree
 
 -- a declarator whose name was read, and its length
 pub record Naming : Type 0 where
@@ -77,7 +83,7 @@ pub data Context : Type 0 where
   in_call : ℕ → Identifier → ExpressionTrees → Context → Context
   in_prefix : ℕ → StepOperator → Pos → Context → Context
   in_unary : ℕ → UnaryOperator → Pos → Context → Context
-  in_cast : ℕ → Pos → List Specifier → Context → Context
+  in_cast : ℕ → Pos → OneOrMore Specifier → Context → Context
   in_binary : ℕ → BinaryOperator → Pos → ExpressionTree → Context → Context
   in_choice : ℕ → Pos → ExpressionTree → Context → Context
   in_alternative : ℕ → Pos → ExpressionTree → ExpressionTree → Context → Context
@@ -89,17 +95,17 @@ pub data State : Type 0 where
   top : List ExternalTree → State
   after_storage : List ExternalTree → Storage → State
   -- in a declaration
-  after_specifiers : Site → List Specifier → State
+  after_specifiers : Site → OneOrMore Specifier → State
   after_name : Declaring → Identifier → State
   after_length : Naming → State
   after_assign : Naming → State
   after_brace : Naming → Pos → State
-  after_item : Naming → Pos → ExpressionTrees → State
-  after_initializer : Declaring → State
+  after_item : Naming → Pos → ExpressionTree → ExpressionTrees → State
+  after_initializer : Declared → State
   after_comma : Declaring → State
   -- in a function's head
   parameters_open : Head → State
-  parameter_specifiers : Head → List ParameterTree → List Specifier → State
+  parameter_specifiers : Head → List ParameterTree → OneOrMore Specifier → State
   parameter_name : Head → List ParameterTree → ParameterTree → State
   parameter_comma : Head → List ParameterTree → State
   parameters_closed : Head → List ParameterTree → State
@@ -122,5 +128,5 @@ pub data State : Type 0 where
   named : ℕ → Identifier → Context → State
   arguments : ℕ → Identifier → Context → State
   opened : ℕ → Pos → Context → State
-  cast_specifiers : ℕ → Pos → List Specifier → Context → State
+  cast_specifiers : ℕ → Pos → OneOrMore Specifier → Context → State
   complete : ℕ → ExpressionTree → Context → State

@@ -1,17 +1,16 @@
 -- The parser, token by token.
-use Rattle.std.specs.Prelude.{ℕ, ◌+◌, ◌==◌, List, [], ◌∷◌, ◌++◌, Option, Some, None, Bool, true, false, if◌then◌else◌, nat_le}
+use Rattle.std.specs.Prelude.{ℕ, ◌+◌, List, [], ◌∷◌, ◌++◌, Option, Some, None, Bool, true, false, if◌then◌else◌, nat_le}
 use Rattle.pk_ctypes.specs.declared.places.Pos.{Pos}
 use Rattle.pk_lex.specs.declared.token.Token.{Token}
-use Rattle.pk_lex.specs.declared.token.Kind.{Kind}
 use Rattle.pk_ast.specs.declared.declarations.Specifier.{Specifier}
 use Rattle.pk_ast.specs.declared.declarations.SpecifierWord.{SpecifierWord}
-use Rattle.pk_ast.specs.declared.declarations.SpecifierWord.TheVariants as word
 use Rattle.pk_ast.specs.declared.expressions.Identifier.{Identifier}
-use Rattle.pk_ast.specs.declared.expressions.BinaryOperator.{BinaryOperator}
-use Rattle.pk_ast.specs.declared.expressions.AssignmentOperator.{AssignmentOperator}
+use Rattle.pk_ast.specs.declared.operators.BinaryOperator.{BinaryOperator}
+use Rattle.pk_ast.specs.declared.operators.AssignmentOperator.{AssignmentOperator}
 use Rattle.pk_ast.specs.declared.units.Storage.{Storage}
 use Rattle.pk_ast.specs.declared.units.StorageWord.{StorageWord}
-use Rattle.pk_ast.specs.Trees.{ExpressionTree, name, call, index, constant, character, parenthesized, postfix, prefix, unary, cast, binary, conditional, assignment, comma, ExpressionTrees, no_expressions, expression_then, InitializerTree, single, braced, DeclaratorTree, DeclarationTree, ForStartTree, declaration, expression, StatementTree, block, empty, expression_statement, label, case, default, if_then, if_else, switch, while, do_while, for_loop, goto, continue, break, return, ItemTrees, no_items, declaration_then, statement_then, BlockTree, ParameterTree, FunctionTree, ExternalTree, function, objects}
+use Rattle.pk_ast.specs.Lists.{one, with_last, ended}
+use Rattle.pk_ast.specs.Trees.{OneOrMore, ExpressionTree, name, call, index, constant, character, parenthesized, postfix, prefix, unary, cast, binary, conditional, assignment, comma, ExpressionTrees, no_expressions, expression_then, InitializerTree, single, braced, DeclaratorTree, DeclarationTree, declaration, expression, StatementTree, block, empty, expression_statement, label, case, default, if_then, if_else, switch, while, do_while, for_loop, goto, continue, break, return, ItemTrees, no_items, declaration_then, statement_then, ParameterTree, ExternalTree, function, objects}
 use Rattle.pk_grammar.specs.declared.states.Testing.{Testing}
 use Rattle.pk_grammar.specs.declared.states.Testing.TheVariants as testing
 use Rattle.pk_grammar.specs.declared.signs.Fixed.{Fixed}
@@ -24,8 +23,8 @@ use Rattle.pk_grammar.specs.declared.signs.StatementStart.{StatementStart}
 use Rattle.pk_grammar.specs.declared.signs.StatementStart.TheVariants as first
 use Rattle.pk_grammar.specs.Languages.{identifier_of}
 use Rattle.pk_grammar.specs.Grammar.{any_expression, assignment_expression, conditional_expression, strength, weakest_operator, cast_expression, unary_expression, operators_in, postfixes_in, commas_in}
-use Rattle.pk_grammar.specs.Signs.{is_fixed, operand_start, operator_of, specifier_word, storage_word, statement_start, is_void_word}
-use Rattle.pk_grammar.specs.States.{Head, OpenBlock, function_block, inner_block, Outer, in_block, in_label, in_case, in_default, in_if, in_else, in_switch, in_while, in_do, in_for, Site, in_a_block, in_a_for, outside, Declaring, Naming, Purpose, as_statement, as_label, as_test, as_last_test, as_first, as_second, as_third, as_result, as_length, as_value, as_item, Context, as_whole, in_parentheses, in_index, in_call, in_prefix, in_unary, in_cast, in_binary, in_choice, in_alternative, in_assignment, in_comma, State, top, after_storage, after_specifiers, after_name, after_length, after_assign, after_brace, after_item, after_initializer, after_comma, parameters_open, parameter_specifiers, parameter_name, parameter_comma, parameters_closed, block_item, at_statement, after_statement, test_open, do_open, for_open, for_first, for_second, for_third, default_colon, goto_name, returning, statement_end, operand, named, arguments, opened, cast_specifiers, complete}
+use Rattle.pk_grammar.specs.Machine.Signs.{is_fixed, operand_start, operator_of, specifier_word, storage_word, statement_start, is_void_word}
+use Rattle.pk_grammar.specs.Machine.States.{Head, OpenBlock, function_block, inner_block, Outer, in_block, in_label, in_case, in_default, in_if, in_else, in_switch, in_while, in_do, in_for, Site, in_a_block, in_a_for, outside, Declaring, Declared, Naming, Purpose, as_statement, as_label, as_test, as_last_test, as_first, as_second, as_third, as_result, as_length, as_value, as_item, Context, as_whole, in_parentheses, in_index, in_call, in_prefix, in_unary, in_cast, in_binary, in_choice, in_alternative, in_assignment, in_comma, State, top, after_storage, after_specifiers, after_name, after_length, after_assign, after_brace, after_item, after_initializer, after_comma, parameters_open, parameter_specifiers, parameter_name, parameter_comma, parameters_closed, block_item, at_statement, after_statement, test_open, do_open, for_open, for_first, for_second, for_third, default_colon, goto_name, returning, statement_end, operand, named, arguments, opened, cast_specifiers, complete}
 
 -- what becomes of a state at a token: it is taken, nested so deep; or refused; or it is the end of a text
 pub data Verdict : Type 0 where
@@ -38,6 +37,15 @@ pub data Verdict : Type 0 where
 abbrev pub one_more : ExpressionTrees → ExpressionTree → ExpressionTrees
 one_more no_expressions e = expression_then e no_expressions
 one_more (expression_then d es) e = expression_then d (one_more es e)
+
+-- the first expression of a list with one more, and those after it
+abbrev pub first_item : ExpressionTrees → ExpressionTree → ExpressionTree
+first_item no_expressions e = e
+first_item (expression_then d es) e = d
+
+abbrev pub more_items : ExpressionTrees → ExpressionTree → ExpressionTrees
+more_items no_expressions e = no_expressions
+more_items (expression_then d es) e = one_more es e
 
 abbrev pub one_more_statement : ItemTrees → StatementTree → ItemTrees
 one_more_statement no_items s = statement_then s no_items
@@ -148,14 +156,13 @@ begin_operand n c t start.Other = refused
 abbrev pub at_operand : ℕ → Context → Token → Verdict
 at_operand n c t = begin_operand n c t (operand_start t.kind)
 
-abbrev pub with_initializer : Naming → Option InitializerTree → Declaring
-with_initializer d i = record {
-  site = d.declaring.site;
-  specifiers = d.declaring.specifiers;
-  declarators = d.declaring.declarators ++ record { name = d.name; length = d.length; initializer = i } ∷ [];
-}
+abbrev pub with_declarator : Declaring → DeclaratorTree → Declared
+with_declarator d x = record { site = d.site; specifiers = d.specifiers; declarators = ended d.declarators x }
 
-abbrev pub whole_declaration : Declaring → DeclarationTree
+abbrev pub with_initializer : Naming → Option InitializerTree → Declared
+with_initializer d i = with_declarator d.declaring (record { name = d.name; length = d.length; initializer = i })
+
+abbrev pub whole_declaration : Declared → DeclarationTree
 whole_declaration d = record { specifiers = d.specifiers; declarators = d.declarators }
 
 -- a declaration has ended
@@ -164,14 +171,17 @@ declared_at (in_a_block b) d = block_item (with_declaration b d)
 declared_at (in_a_for n at o) d = for_second n at (declaration d) o
 declared_at (outside before s) d = top (before ++ objects s d ∷ [])
 
-abbrev pub end_declaration : Declaring → Verdict
+abbrev pub end_declaration : Declared → Verdict
 end_declaration d = taken (site_nesting d.site) (declared_at d.site (whole_declaration d))
 
-abbrev pub next_declarator : Declaring → Verdict
-next_declarator d = taken (site_nesting d.site) (after_comma d)
+abbrev pub goes_on_declaring : Declared → Declaring
+goes_on_declaring d = record { site = d.site; specifiers = d.specifiers; declarators = d.declarators.first ∷ d.declarators.more }
+
+abbrev pub next_declarator : Declared → Verdict
+next_declarator d = taken (site_nesting d.site) (after_comma (goes_on_declaring d))
 
 -- after a declarator: another one, or the end
-abbrev pub after_declarator : Declaring → Token → Verdict
+abbrev pub after_declarator : Declared → Token → Verdict
 after_declarator d t = if is_fixed fixed.Comma t.kind then next_declarator d else wanted fixed.Semicolon t (end_declaration d)
 
 abbrev pub naming_nesting : Naming → ℕ
@@ -211,7 +221,7 @@ end_purpose (as_third n at f second o) e t = wanted fixed.CloseParenthesis t (ta
 end_purpose (as_result n at o) e t = wanted fixed.Semicolon t (taken n (after_statement (return at (Some e)) o))
 end_purpose (as_length d id) e t = wanted fixed.CloseBracket t (taken (site_nesting d.site) (after_length (record { declaring = d; name = id; length = Some e })))
 end_purpose (as_value d) e t = wanted fixed.Semicolon t (end_declaration (with_initializer d (Some (single e))))
-end_purpose (as_item d at es) e t = wanted fixed.CloseBrace t (taken (naming_nesting d) (after_initializer (with_initializer d (Some (braced at (one_more es e))))))
+end_purpose (as_item d at es) e t = wanted fixed.CloseBrace t (taken (naming_nesting d) (after_initializer (with_initializer d (Some (braced at (first_item es e) (more_items es e))))))
 
 -- an expression ends at this token, which is no operator
 abbrev pub end_expression : ExpressionTree → Context → Token → Verdict
@@ -243,7 +253,7 @@ comma_purpose (as_third m at f second o) n e t = join_comma n e (as_whole (as_th
 comma_purpose (as_result m at o) n e t = join_comma n e (as_whole (as_result m at o)) t
 comma_purpose (as_length d id) n e t = refused
 comma_purpose (as_value d) n e t = next_declarator (with_initializer d (Some (single e)))
-comma_purpose (as_item d at es) n e t = taken (naming_nesting d) (after_item d at (one_more es e))
+comma_purpose (as_item d at es) n e t = taken (naming_nesting d) (after_item d at (first_item es e) (more_items es e))
 
 abbrev pub comma_after : ℕ → ExpressionTree → Context → Token → Verdict
 comma_after n e (as_whole p) t = comma_purpose p n e t
@@ -313,14 +323,14 @@ at_arguments n id c t =
 
 abbrev pub open_cast : ℕ → Pos → Context → Token → Option SpecifierWord → Verdict
 open_cast n at c t (Some w) =
-    if nat_le (operand_level c) cast_expression then taken (n + 1) (cast_specifiers n at (specifier_at t w ∷ []) c) else refused
+    if nat_le (operand_level c) cast_expression then taken (n + 1) (cast_specifiers n at (one (specifier_at t w)) c) else refused
 open_cast n at c t None = at_operand (n + 1) (in_parentheses n at c) t
 
 abbrev pub at_opened : ℕ → Pos → Context → Token → Verdict
 at_opened n at c t = open_cast n at c t (specifier_word t.kind)
 
-abbrev pub more_cast : ℕ → Pos → List Specifier → Context → Token → Option SpecifierWord → Verdict
-more_cast n at specs c t (Some w) = taken (n + 1) (cast_specifiers n at (specs ++ specifier_at t w ∷ []) c)
+abbrev pub more_cast : ℕ → Pos → OneOrMore Specifier → Context → Token → Option SpecifierWord → Verdict
+more_cast n at specs c t (Some w) = taken (n + 1) (cast_specifiers n at (with_last specs (specifier_at t w)) c)
 more_cast n at specs c t None = wanted fixed.CloseParenthesis t (taken (n + 1) (operand (n + 1) (in_cast n at specs c)))
 
 -- Statements
@@ -349,7 +359,7 @@ end_block (function_block h ps at items) t =
 end_block (inner_block n at items o) t = taken n (after_statement (block at items t.at) o)
 
 abbrev pub declaration_or_statement : OpenBlock → Token → Option SpecifierWord → Verdict
-declaration_or_statement b t (Some w) = taken (block_nesting b) (after_specifiers (in_a_block b) (specifier_at t w ∷ []))
+declaration_or_statement b t (Some w) = taken (block_nesting b) (after_specifiers (in_a_block b) (one (specifier_at t w)))
 declaration_or_statement b t None = if is_fixed fixed.CloseBrace t.kind then end_block b t else begins_statement (block_nesting b) (in_block b) t
 
 abbrev pub at_items : OpenBlock → Token → Verdict
@@ -369,14 +379,14 @@ resume s (in_do n at o) t = wanted fixed.While t (taken (n + 1) (do_open n at s 
 resume s (in_for n at f second third o) t = resume (for_loop at f second third s) o t
 
 abbrev pub begin_for : ℕ → Pos → Outer → Token → Option SpecifierWord → Verdict
-begin_for n at o t (Some w) = taken (n + 2) (after_specifiers (in_a_for n at o) (specifier_at t w ∷ []))
+begin_for n at o t (Some w) = taken (n + 2) (after_specifiers (in_a_for n at o) (one (specifier_at t w)))
 begin_for n at o t None =
     if is_fixed fixed.Semicolon t.kind then taken (n + 2) (for_second n at (expression None) o) else at_operand (n + 2) (as_whole (as_first n at o)) t
 
 -- Declarations
 
-abbrev pub more_specifiers : Site → List Specifier → Token → Option SpecifierWord → Verdict
-more_specifiers s specs t (Some w) = taken (site_nesting s) (after_specifiers s (specs ++ specifier_at t w ∷ []))
+abbrev pub more_specifiers : Site → OneOrMore Specifier → Token → Option SpecifierWord → Verdict
+more_specifiers s specs t (Some w) = taken (site_nesting s) (after_specifiers s (with_last specs (specifier_at t w)))
 more_specifiers s specs t None =
     wanted fixed.Name t (taken (site_nesting s) (after_name (record { site = s; specifiers = specs; declarators = [] }) (identifier_of t)))
 
@@ -384,7 +394,7 @@ abbrev pub without_length : Declaring → Identifier → Naming
 without_length d id = record { declaring = d; name = id; length = None }
 
 -- a function, where this is the first declarator of an external definition
-abbrev pub open_parameters : Site → List Specifier → List DeclaratorTree → Identifier → Verdict
+abbrev pub open_parameters : Site → OneOrMore Specifier → List DeclaratorTree → Identifier → Verdict
 open_parameters (in_a_block b) specs ds id = refused
 open_parameters (in_a_for n at o) specs ds id = refused
 open_parameters (outside before s) specs [] id = taken 1 (parameters_open (record { before = before; storage = s; specifiers = specs; name = id }))
@@ -405,15 +415,15 @@ abbrev pub at_after_assign : Naming → Token → Verdict
 at_after_assign d t =
     if is_fixed fixed.OpenBrace t.kind then taken (naming_nesting d) (after_brace d t.at) else at_operand (naming_nesting d) (as_whole (as_value d)) t
 
-abbrev pub at_after_item : Naming → Pos → ExpressionTrees → Token → Verdict
-at_after_item d at es t =
-    if is_fixed fixed.CloseBrace t.kind then taken (naming_nesting d) (after_initializer (with_initializer d (Some (braced at es))))
-    else at_operand (naming_nesting d) (as_whole (as_item d at es)) t
+abbrev pub at_after_item : Naming → Pos → ExpressionTree → ExpressionTrees → Token → Verdict
+at_after_item d at e es t =
+    if is_fixed fixed.CloseBrace t.kind then taken (naming_nesting d) (after_initializer (with_initializer d (Some (braced at e es))))
+    else at_operand (naming_nesting d) (as_whole (as_item d at (expression_then e es))) t
 
 -- External definitions
 
 abbrev pub begin_external : List ExternalTree → Option Storage → Token → Option SpecifierWord → Verdict
-begin_external before s t (Some w) = taken 0 (after_specifiers (outside before s) (specifier_at t w ∷ []))
+begin_external before s t (Some w) = taken 0 (after_specifiers (outside before s) (one (specifier_at t w)))
 begin_external before s t None = refused
 
 abbrev pub storage_or_specifier : List ExternalTree → Token → Option StorageWord → Verdict
@@ -421,21 +431,23 @@ storage_or_specifier before t (Some w) = taken 0 (after_storage before (storage_
 storage_or_specifier before t None = if is_fixed fixed.End t.kind then finished before else begin_external before None t (specifier_word t.kind)
 
 abbrev pub begin_parameter : Head → List ParameterTree → Token → Option SpecifierWord → Verdict
-begin_parameter h ps t (Some w) = taken 1 (parameter_specifiers h ps (specifier_at t w ∷ []))
+begin_parameter h ps t (Some w) = taken 1 (parameter_specifiers h ps (one (specifier_at t w)))
 begin_parameter h ps t None = refused
 
 -- a parameter without a name; `void` alone is none
-abbrev pub is_void : List Specifier → Bool
-is_void [] = false
-is_void (s ∷ []) = is_void_word s.word
-is_void (s ∷ r ∷ more) = false
+abbrev pub is_void_alone : SpecifierWord → List Specifier → Bool
+is_void_alone w [] = is_void_word w
+is_void_alone w (s ∷ more) = false
 
-abbrev pub last_parameter : List ParameterTree → List Specifier → List ParameterTree
+abbrev pub is_void : OneOrMore Specifier → Bool
+is_void s = is_void_alone s.first.word s.more
+
+abbrev pub last_parameter : List ParameterTree → OneOrMore Specifier → List ParameterTree
 last_parameter [] specs = if is_void specs then [] else record { specifiers = specs; name = None } ∷ []
 last_parameter (p ∷ ps) specs = (p ∷ ps) ++ record { specifiers = specs; name = None } ∷ []
 
-abbrev pub more_parameter : Head → List ParameterTree → List Specifier → Token → Option SpecifierWord → Verdict
-more_parameter h ps specs t (Some w) = taken 1 (parameter_specifiers h ps (specs ++ specifier_at t w ∷ []))
+abbrev pub more_parameter : Head → List ParameterTree → OneOrMore Specifier → Token → Option SpecifierWord → Verdict
+more_parameter h ps specs t (Some w) = taken 1 (parameter_specifiers h ps (with_last specs (specifier_at t w)))
 more_parameter h ps specs t None =
     if is_fixed fixed.Name t.kind then taken 1 (parameter_name h ps (record { specifiers = specs; name = Some (identifier_of t) })) else
     if is_fixed fixed.Comma t.kind then taken 1 (parameter_comma h (ps ++ record { specifiers = specs; name = None } ∷ [])) else
@@ -461,7 +473,7 @@ step (after_name d id) t = at_after_name d id t
 step (after_length d) t = at_after_length d t
 step (after_assign d) t = at_after_assign d t
 step (after_brace d at) t = at_operand (naming_nesting d) (as_whole (as_item d at no_expressions)) t
-step (after_item d at es) t = at_after_item d at es t
+step (after_item d at e es) t = at_after_item d at e es t
 step (after_initializer d) t = after_declarator d t
 step (after_comma d) t = wanted fixed.Name t (taken (site_nesting d.site) (after_name d (identifier_of t)))
 step (parameters_open h) t = if is_fixed fixed.CloseParenthesis t.kind then taken 0 (parameters_closed h []) else begin_parameter h [] t (specifier_word t.kind)

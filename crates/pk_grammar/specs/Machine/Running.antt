@@ -6,9 +6,9 @@ use Rattle.pk_lex.specs.declared.token.Kind.TheVariants as kind
 use Rattle.pk_ast.specs.Trees.{ExternalTree}
 use Rattle.pk_grammar.specs.declared.failure.ParseError.{ParseError}
 use Rattle.pk_grammar.specs.declared.failure.ParseError.TheVariants.{Unsupported, Syntax, Nesting, Memory}
-use Rattle.pk_grammar.specs.States.{State}
+use Rattle.pk_grammar.specs.Machine.States.{State}
 use Rattle.pk_grammar.specs.Outcomes.{nesting_limit}
-use Rattle.pk_grammar.specs.Steps.{Verdict, taken, refused, finished, step}
+use Rattle.pk_grammar.specs.Machine.Steps.{Verdict, taken, refused, finished, step}
 
 -- The trees of the tokens; or the place of the first one with which no text goes on, or that is nested too deep
 pub data Answer : Type 0 where

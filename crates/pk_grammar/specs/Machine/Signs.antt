@@ -10,11 +10,10 @@ use Rattle.pk_ast.specs.declared.declarations.SpecifierWord.{SpecifierWord}
 use Rattle.pk_ast.specs.declared.declarations.SpecifierWord.TheVariants as word
 use Rattle.pk_ast.specs.declared.units.StorageWord.{StorageWord}
 use Rattle.pk_ast.specs.declared.units.StorageWord.TheVariants as storage
-use Rattle.pk_ast.specs.declared.expressions.BinaryOperator.TheVariants as op
-use Rattle.pk_ast.specs.declared.expressions.UnaryOperator.TheVariants as un
-use Rattle.pk_ast.specs.declared.expressions.StepOperator.TheVariants as step
-use Rattle.pk_ast.specs.declared.expressions.AssignmentOperator.TheVariants as asg
-use Rattle.pk_grammar.specs.declared.states.Testing.{Testing}
+use Rattle.pk_ast.specs.declared.operators.BinaryOperator.TheVariants as op
+use Rattle.pk_ast.specs.declared.operators.UnaryOperator.TheVariants as un
+use Rattle.pk_ast.specs.declared.operators.StepOperator.TheVariants as step
+use Rattle.pk_ast.specs.declared.operators.AssignmentOperator.TheVariants as asg
 use Rattle.pk_grammar.specs.declared.states.Testing.TheVariants as testing
 use Rattle.pk_grammar.specs.declared.signs.Fixed.{Fixed}
 use Rattle.pk_grammar.specs.declared.signs.Fixed.TheVariants as fixed
