@@ -76,13 +76,13 @@ const TEXTS: [(&str, &str); 66] = [
 
 #[test]
 fn texts(rt: HostRuntime) -> Result<(), Fail> {
-    for (text, expected) in TEXTS {
+    for (text, expected) in &TEXTS {
         let tokens = lex(rt.alloc(), text.as_bytes())?;
         let found = match first_unsupported(tokens.as_slice()) {
             Some((construct, at)) => format!(in rt.alloc(); "{construct} at {at}")?,
             None => String::new(rt.alloc()),
         };
-        assert_eq!(rt; found.as_str(), expected, "{text}");
+        assert_eq!(rt; found.as_str(), *expected, "{text}");
     }
     Ok(())
 }

@@ -320,9 +320,9 @@ fn outcomes(alloc: Global, op: Op, t: IntType) -> Result<String, Fail> {
 
 #[test]
 fn operators_are_those_of_c(rt: HostRuntime) -> Result<(), Fail> {
-    for t in TYPES {
-        for (op, expected) in OPERATORS.iter().zip(table_of(t)) {
-            let line = outcomes(rt.alloc(), *op, t)?;
+    for t in &TYPES {
+        for (op, expected) in OPERATORS.iter().zip(table_of(*t)) {
+            let line = outcomes(rt.alloc(), *op, *t)?;
             assert_eq!(rt; line.as_str(), *expected, "{t:?}");
         }
     }
@@ -348,8 +348,8 @@ const COMMON: [&str; 11] = [
 fn common_types_are_those_of_c(rt: HostRuntime) -> Result<(), Fail> {
     for (a, expected) in TYPES.iter().zip(COMMON.iter()) {
         let mut line = format!(in rt.alloc(); "{:?}", promote(*a))?;
-        for b in TYPES {
-            let text = format!(in rt.alloc(); " {:?}", usual(*a, b))?;
+        for b in &TYPES {
+            let text = format!(in rt.alloc(); " {:?}", usual(*a, *b))?;
             line.push_str(&text)?;
         }
         assert_eq!(rt; line.as_str(), *expected, "{a:?}");
@@ -394,8 +394,8 @@ const CONVERSIONS: [&str; 11] = [
 fn conversions_are_those_of_c(rt: HostRuntime) -> Result<(), Fail> {
     for (t, expected) in TYPES.iter().zip(CONVERSIONS.iter()) {
         let mut line = String::new(rt.alloc());
-        for number in NUMBERS {
-            add_outcome(&mut line, Ok(convert(*t, number)))?;
+        for number in &NUMBERS {
+            add_outcome(&mut line, Ok(convert(*t, *number)))?;
         }
         assert_eq!(rt; line.as_str(), *expected, "{t:?}");
     }
@@ -463,7 +463,7 @@ const CONSTRUCTS: [Construct; 33] = [
 #[test]
 fn constructs_are_printed(rt: HostRuntime) -> Result<(), Fail> {
     let mut words = String::new(rt.alloc());
-    for construct in CONSTRUCTS {
+    for construct in &CONSTRUCTS {
         let word = format!(in rt.alloc(); "{construct} ")?;
         words.push_str(word.as_str())?;
     }
@@ -475,17 +475,19 @@ fn constructs_are_printed(rt: HostRuntime) -> Result<(), Fail> {
     Ok(())
 }
 
+const NAMES: [&[u8]; 3] = [b"f", b"g", b"a\xffb"];
+
 #[test]
 fn names_are_copied(rt: HostRuntime) -> Result<(), Fail> {
-    let f = Name::new(rt.alloc(), b"f")?;
-    let g = Name::new(rt.alloc(), b"g")?;
-    let again = f.copy()?;
-    let names = Names::new(rt.alloc(), &[f, g, again])?;
+    let mut list = Vec::new(rt.alloc());
+    for text in &NAMES {
+        let name = Name::new(rt.alloc(), *text)?;
+        list.push(name.copy()?)?;
+    }
+    let names = Names::new(rt.alloc(), &list)?;
     let copy = names.copy()?;
-    let text = format!(in rt.alloc(); "{names}")?;
-    assert_eq!(rt; text.as_str(), "f g f");
-    assert_eq!(rt; copy.as_slice().len(), 3);
-    let other = Name::new(rt.alloc(), b"a\xffb")?;
-    assert_eq!(rt; other.as_str(), "a\u{fffd}b");
+    let text = format!(in rt.alloc(); "{copy}")?;
+    assert_eq!(rt; text.as_str(), "f g a\u{fffd}b");
+    assert_eq!(rt; names.as_slice().len(), 3);
     Ok(())
 }

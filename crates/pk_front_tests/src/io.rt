@@ -22,44 +22,48 @@ fn read_len<S: Source>(
     }
 }
 
+const READS: [(usize, u64, Result<usize, ReadError>, usize); 8] = [
+    (5, 9, Ok(5), 0),
+    (5, 0, Err(ReadError::ReadFault), 5),
+    (5, 1, Err(ReadError::ReadFault), 3),
+    (5, 3, Err(ReadError::ReadFault), 0),
+    (4, 9, Err(ReadError::TooLong), 0),
+    (4, 2, Err(ReadError::ReadFault), 1),
+    (3, 9, Err(ReadError::TooLong), 1),
+    (0, 9, Err(ReadError::TooLong), 3),
+];
+
 // Three reads give the text, and a fourth finds its end. A second call reads what the first left.
 #[test]
 fn reads_in_pieces(rt: HostRuntime) -> Result<(), Fail> {
     let alloc = rt.alloc();
-    for (limit, failing, want, rest) in [
-        (5, 9, Ok(5), 0),
-        (5, 0, Err(ReadError::ReadFault), 5),
-        (5, 1, Err(ReadError::ReadFault), 3),
-        (5, 3, Err(ReadError::ReadFault), 0),
-        (4, 9, Err(ReadError::TooLong), 0),
-        (4, 2, Err(ReadError::ReadFault), 1),
-        (3, 9, Err(ReadError::TooLong), 1),
-        (0, 9, Err(ReadError::TooLong), 3),
-    ] {
-        let mut src = MemSource::new(b"hello".to_vec(alloc)?, 2, [failing].to_vec(alloc)?);
-        let got = read_len(alloc, &mut src, limit)?;
-        assert!(rt; got == want, "limit {limit}, failing call {failing}");
+    for (limit, failing, want, rest) in &READS {
+        let mut src = MemSource::new(b"hello".to_vec(alloc)?, 2, [*failing].to_vec(alloc)?);
+        let got = read_len(alloc, &mut src, *limit)?;
+        assert!(rt; got == *want, "limit {limit}, failing call {failing}");
         let left = read_len(alloc, &mut src, 9)?;
         assert!(rt;
-            left == Ok(rest),
+            left == Ok(*rest),
             "after limit {limit}, failing call {failing}"
         );
     }
     Ok(())
 }
 
+const WRITES: [(u64, Result<(), WriteFault>, &str); 4] = [
+    (9, Ok(()), "hello"),
+    (0, Err(WriteFault { sent: 0 }), ""),
+    (1, Err(WriteFault { sent: 2 }), "he"),
+    (2, Err(WriteFault { sent: 4 }), "hell"),
+];
+
 #[test]
 fn writes_in_pieces(rt: HostRuntime) -> Result<(), Fail> {
     let alloc = rt.alloc();
-    for (failing, want, held) in [
-        (9, Ok(()), "hello"),
-        (0, Err(WriteFault { sent: 0 }), ""),
-        (1, Err(WriteFault { sent: 2 }), "he"),
-        (2, Err(WriteFault { sent: 4 }), "hell"),
-    ] {
-        let mut out = MemSink::new(alloc, 2, [failing].to_vec(alloc)?);
+    for (failing, want, held) in &WRITES {
+        let mut out = MemSink::new(alloc, 2, [*failing].to_vec(alloc)?);
         let got = write_all(&mut out, b"hello");
-        assert!(rt; got == want, "failing call {failing}");
+        assert!(rt; got == *want, "failing call {failing}");
         assert!(rt; out.bytes() == held.as_bytes(), "failing call {failing}");
     }
     Ok(())
@@ -100,22 +104,30 @@ impl Write for Broken {
     }
 }
 
+const BROKEN_READS: [Result<usize, ReadError>; 3] = [
+    Err(ReadError::ReadFault),
+    Ok(0),
+    Err(ReadError::TooLong),
+];
+
+const BROKEN_WRITES: [Result<(), WriteFault>; 3] = [
+    Err(WriteFault { sent: 2 }),
+    Err(WriteFault { sent: 0 }),
+    Ok(()),
+];
+
 #[test]
 fn a_broken_device_is_told(rt: HostRuntime) -> Result<(), Fail> {
     let alloc = rt.alloc();
     let mut src = StdSource::new(Broken { calls: 0 });
-    for want in [Err(ReadError::ReadFault), Ok(0), Err(ReadError::TooLong)] {
+    for want in &BROKEN_READS {
         let got = read_len(alloc, &mut src, 9)?;
-        assert!(rt; got == want);
+        assert!(rt; got == *want);
     }
     let mut out = StdSink::new(Broken { calls: 0 });
-    for want in [
-        Err(WriteFault { sent: 2 }),
-        Err(WriteFault { sent: 0 }),
-        Ok(()),
-    ] {
+    for want in &BROKEN_WRITES {
         let got = write_all(&mut out, b"hello");
-        assert!(rt; got == want);
+        assert!(rt; got == *want);
     }
     Ok(())
 }

@@ -319,37 +319,38 @@ fn shown(alloc: Global, text: &[u8]) -> Result<String, Fail> {
 
 #[test]
 fn each_form_of_token(rt: HostRuntime) -> Result<(), Fail> {
-    for (text, expected) in TOKENS {
-        assert_eq!(rt; shown(rt.alloc(), text)?.as_str(), expected);
+    for (text, expected) in &TOKENS {
+        assert_eq!(rt; shown(rt.alloc(), *text)?.as_str(), *expected);
     }
     Ok(())
 }
 
 #[test]
 fn each_refusal(rt: HostRuntime) -> Result<(), Fail> {
-    for (text, expected) in REFUSED {
-        assert_eq!(rt; shown(rt.alloc(), text)?.as_str(), expected);
+    for (text, expected) in &REFUSED {
+        assert_eq!(rt; shown(rt.alloc(), *text)?.as_str(), *expected);
     }
     Ok(())
 }
 
+const SPANS: [(usize, usize); 7] = [
+    (5, 8),
+    (9, 10),
+    (10, 11),
+    (12, 18),
+    (18, 19),
+    (20, 26),
+    (26, 26),
+];
+
 #[test]
 fn a_token_is_a_slice(rt: HostRuntime) -> Result<(), Fail> {
     let text = b"/* */int x= 0x1fUL;\n\"a\\\"b\"";
-    let spans = [
-        (5, 8),
-        (9, 10),
-        (10, 11),
-        (12, 18),
-        (18, 19),
-        (20, 26),
-        (26, 26),
-    ];
     let tokens = lex(rt.alloc(), text).ok().ok_or("no tokens")?;
-    assert_eq!(rt; tokens.len(), spans.len());
-    for (token, (start, end)) in tokens.iter().zip(spans) {
-        assert_eq!(rt; token.start, start);
-        assert_eq!(rt; token.end, end);
+    assert_eq!(rt; tokens.len(), SPANS.len());
+    for (token, (start, end)) in tokens.iter().zip(&SPANS) {
+        assert_eq!(rt; token.start, *start);
+        assert_eq!(rt; token.end, *end);
     }
     Ok(())
 }
