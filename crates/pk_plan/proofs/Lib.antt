@@ -3,3 +3,4 @@ pub mod PlanLemmas
 pub mod DigraphLemmas
 pub mod Drawing
 pub mod NestPlaceLemmas
+pub mod Shapes

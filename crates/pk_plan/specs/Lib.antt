@@ -7,3 +7,4 @@ pub mod Reverses
 pub mod Nests
 pub mod NestPlaces
 pub mod NestCode
+pub mod Shape

@@ -3,6 +3,7 @@
 
 mod components;
 mod digraphs;
+mod laws;
 mod nests;
 mod orders;
 mod places;
@@ -11,6 +12,7 @@ mod reverses;
 
 pub use components::Component;
 pub use digraphs::Digraph;
+pub use laws::shapes_meet;
 pub use nests::{Nest, NestPlace};
 pub use orders::Order;
 pub use places::{Place, Role};
