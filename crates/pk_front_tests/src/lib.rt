@@ -1,6 +1,8 @@
-//! Tests of the crates that read: types and operators, tokens, constructs, devices and the command line.
+//! Tests of the crates that read: types and operators, tokens, constructs, trees and parsing, devices and the command line.
 #![tactic(auto)]
 
+#[cfg(test)]
+mod ast;
 #[cfg(test)]
 mod command;
 #[cfg(test)]
@@ -11,3 +13,5 @@ mod ctypes;
 mod io;
 #[cfg(test)]
 mod lex;
+#[cfg(test)]
+mod parse;

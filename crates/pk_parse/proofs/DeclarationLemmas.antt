@@ -8,7 +8,7 @@ use Rattle.pk_ast.specs.declared.declarations.SpecifierWord.{SpecifierWord}
 use Rattle.pk_ast.specs.declared.declarations.Declarator.{Declarator}
 use Rattle.pk_ast.specs.declared.expressions.Expression.{Expression}
 use Rattle.pk_ast.specs.declared.expressions.Identifier.{Identifier}
-use Rattle.pk_ast.specs.Trees.{ExpressionTree, ExpressionTrees, no_expressions, InitializerTree, single, braced, DeclaratorTree, OneOrMore, expression_then}
+use Rattle.pk_ast.specs.Trees.{ExpressionTree, ExpressionTrees, no_expressions, InitializerTree, single, DeclaratorTree, OneOrMore, expression_then}
 use Rattle.pk_ast.specs.Views.{expression_tree, expression_trees, declarator_tree, declarator_trees}
 use Rattle.pk_ast.proofs.ListLemmas.{declarator_trees-push}
 use Rattle.pk_grammar.specs.declared.failure.ParseError.{ParseError}
@@ -17,10 +17,10 @@ use Rattle.pk_grammar.specs.declared.signs.Fixed.{Fixed}
 use Rattle.pk_grammar.specs.declared.signs.Fixed.TheVariants as fixed
 use Rattle.pk_grammar.specs.Languages.{identifier_of}
 use Rattle.pk_grammar.specs.Machine.Signs.{is_fixed, specifier_word}
-use Rattle.pk_grammar.specs.Machine.States.{Site, in_a_block, in_a_for, outside, Declaring, Naming, as_length, as_value, as_item, as_whole, after_specifiers, after_name, after_length, after_assign, after_brace, after_item, after_initializer, after_comma, operand, complete, Declared}
-use Rattle.pk_grammar.specs.Machine.Steps.{refused, one_more, site_nesting, naming_nesting, with_initializer, open_parameters, first_item, more_items, with_declarator, goes_on_declaring}
+use Rattle.pk_grammar.specs.Machine.States.{Site, in_a_block, in_a_for, outside, Declaring, Naming, as_length, as_value, as_item, as_whole, after_specifiers, after_name, after_length, after_assign, after_brace, after_initializer, after_comma, operand, complete, Declared}
+use Rattle.pk_grammar.specs.Machine.Steps.{refused, site_nesting, naming_nesting, with_initializer, open_parameters, first_item, more_items, with_declarator, goes_on_declaring}
 use Rattle.pk_grammar.specs.Machine.Running.{first_of_all, run, Fails}
-use Rattle.pk_expression.specs.Parsing.{Begins, words, past_words, past_word, EndsAt, UpTo, Reads, Refuses, specifiers_from}
+use Rattle.pk_expression.specs.Parsing.{Begins, past_words, past_word, EndsAt, UpTo, Reads, Refuses, specifiers_from}
 use Rattle.pk_expression.proofs.RunLemmas.{fails_as, fails_syntax, fails_nesting}
 use Rattle.pk_expression.proofs.RunOperands.{no_word_past}
 use Rattle.pk_expression.proofs.ExpressionLemmas.{trees_push}
@@ -90,17 +90,20 @@ pub fails_item : (end : Token) (n : ℕ) (ts : List Token) (x : ParseError) → 
     Fails (run end (operand n (as_whole (as_item d at es))) ts) x
 fails_item end n ts x r d at es same = r (as_whole (as_item d at es)) (omega arith)
 
+pub run_first : (end : Token) (n : ℕ) (ts : List Token) (d : Naming) (at : Pos) → naming_nesting d ≡ n → run end (after_brace d at) ts ≡ run end (operand n (as_whole (as_item d at no_expressions))) ts
+run_first end n ts d at same = run_first_item end d at ts ∙ ap (λ q. run end (operand q (as_whole (as_item d at no_expressions))) ts) same
+
 -- these items come first, behind one
 abbrev pub ReadsItems : Token → ℕ → Bool → List Token → ExpressionTrees → Bool → List Token → Type 0
 ReadsItems end n another ts es goes_on rest = (d : Naming) (at : Pos) (e : ExpressionTree) → naming_nesting d ≡ n →
     run end (item_state another d at e no_expressions) ts ≡ run end (item_state goes_on d at e es) rest
 
 module _ (end : Token) (n : ℕ) (first : Bool) (ts : List Token) (es : List Expression) (rest : List Token) (done : ReadsItems end n first ts (expression_trees es) true rest)
-    (open : is_fixed fixed.CloseBrace (first_of_all end rest).kind ≡ false) where
+    (goes : is_fixed fixed.CloseBrace (first_of_all end rest).kind ≡ false) where
   next_item : (d : Naming) (at : Pos) (e : ExpressionTree) → naming_nesting d ≡ n →
       run end (item_state first d at e no_expressions) ts ≡ run end (operand n (as_whole (as_item d at (expression_then e (expression_trees es))))) rest
   next_item d at e same =
-      done d at e same ∙ run_next_item end d at e (expression_trees es) rest open
+      done d at e same ∙ run_next_item end d at e (expression_trees es) rest goes
       ∙ ap (λ q. run end (operand q (as_whole (as_item d at (expression_then e (expression_trees es))))) rest) same
 
   pub fails_items : (x : ParseError) → ((d : Naming) (at : Pos) (es : ExpressionTrees) → naming_nesting d ≡ n → Fails (run end (operand n (as_whole (as_item d at es))) rest) x) →

@@ -1,11 +1,10 @@
 -- What is answered over a whole part of an external definition.
-use Rattle.std.proofs.Common.{◌≡◌, ◌≢◌, ◌<◌, ◌≤◌, ◌↔◌, List, [], ◌∷◌, ◌++◌, length, map, get_or, eqb, vec_len, Vec, Global, Option, Some, None, MatchOption, Bool, true, false, IsTrue, refl, sym, ap, subst, ◌∙◌, arith}
+use Rattle.std.proofs.Common.{◌≡◌, ◌≢◌, ◌<◌, ◌≤◌, List, [], ◌∷◌, ◌++◌, length, eqb, vec_len, Vec, Global, Option, Some, None, MatchOption, Bool, true, false, refl, sym, ap, subst, ◌∙◌, arith}
 use Rattle.std.proofs.lemmas.Bool.{eq-eqb}
 use Rattle.std.specs.Option.{is_some}
 use Rattle.pk_ast.specs.Lists.{one}
 use Rattle.pk_lex.specs.declared.token.Token.{Token}
 use Rattle.pk_lex.specs.declared.token.Kind.TheVariants as kind
-use Rattle.pk_ast.specs.declared.declarations.Declarator.{Declarator}
 use Rattle.pk_ast.specs.declared.declarations.Specifier.{Specifier}
 use Rattle.pk_ast.specs.declared.declarations.SpecifierWord.{SpecifierWord}
 use Rattle.pk_ast.specs.declared.declarations.SpecifierWord.TheVariants as word
@@ -13,7 +12,7 @@ use Rattle.pk_ast.specs.declared.expressions.Identifier.{Identifier}
 use Rattle.pk_ast.specs.declared.units.Parameter.{Parameter}
 use Rattle.pk_ast.specs.declared.units.Storage.{Storage}
 use Rattle.pk_ast.specs.Trees.{DeclarationTree, BlockTree, ParameterTree, FunctionTree, ExternalTree, function, objects, OneOrMore, DeclaratorTree}
-use Rattle.pk_ast.specs.Views.{declarator_trees, parameter_tree, parameter_trees}
+use Rattle.pk_ast.specs.Views.{parameter_tree, parameter_trees}
 use Rattle.pk_ast.proofs.ListLemmas.{parameter_trees-push}
 use Rattle.pk_grammar.specs.declared.failure.ParseError.{ParseError}
 use Rattle.pk_grammar.specs.declared.failure.ParseError.TheVariants.{Syntax}
@@ -24,7 +23,7 @@ use Rattle.pk_grammar.specs.Machine.Signs.{is_fixed, specifier_word, storage_wor
 use Rattle.pk_grammar.specs.Machine.States.{Head, outside, Declaring, top, after_specifiers, after_name, parameters_open, parameter_specifiers, parameter_name, parameter_comma, parameters_closed}
 use Rattle.pk_grammar.specs.Machine.Steps.{is_void, is_void_alone}
 use Rattle.pk_grammar.specs.Machine.Running.{syntax, first_of_all, run, Fails}
-use Rattle.pk_expression.specs.Parsing.{Begins, BeginsWithWord, words, past_words, specifiers_from}
+use Rattle.pk_expression.specs.Parsing.{Begins, BeginsWithWord, past_words, specifiers_from}
 use Rattle.pk_expression.proofs.RunLemmas.{fails_as, fails_syntax}
 use Rattle.pk_expression.proofs.RunOperands.{no_word_past}
 use Rattle.pk_parse.specs.Parts.{CanDeclare, with_all, after_declaration, after_parameter, EndsParameter, after_function, storage_state}
@@ -33,7 +32,7 @@ use Rattle.pk_parse.proofs.RunExternals.{run_parameter, no_parameter, run_parame
 
 -- the word `void`
 
-void_word : (w : SpecifierWord) → is_void_word w ≡ true → w ≡ word.Void
+pub void_word : (w : SpecifierWord) → is_void_word w ≡ true → w ≡ word.Void
 void_word word.Void e = refl
 void_word word.Char e = absurd (cc)
 void_word word.Short e = absurd (cc)
@@ -49,10 +48,10 @@ unnamed (Some x) e = cc
 
 -- whether a list is empty
 
-pub no_items : (v : Vec Parameter Global) → vec_len v ≡ 0 → v.items ≡ []
-no_items v e = none v.items (sym v.ok.0 ∙ e)
+pub no_items : {A : Type 0} (v : Vec A Global) → vec_len v ≡ 0 → v.items ≡ []
+no_items {A} v e = none v.items (sym v.ok.0 ∙ e)
   where
-    none : (list : List Parameter) → length list ≡ 0 → list ≡ []
+    none : (list : List A) → length list ≡ 0 → list ≡ []
     none [] h = refl
     none (p ∷ ps) h = absurd (omega arith)
 
@@ -125,22 +124,22 @@ module _ (end : Token) (ts : List Token) (list : List Parameter) (rest : List To
 
     module _ (p : Parameter) (next : List Token)
         (r : (h : Head) (ps : List ParameterTree) → run end (parameter_specifiers h ps (one s)) after ≡ run end (after_parameter h ps (parameter_tree p)) next) where
-      one : (h : Head) → run end (parameters_open h) ts ≡ run end (after_parameter h (parameter_trees list) (parameter_tree p)) next
-      one h = done h ∙ run_parameter end h (parameter_trees list) rest s after begins ∙ r h (parameter_trees list)
+      parameter_read : (h : Head) → run end (parameters_open h) ts ≡ run end (after_parameter h (parameter_trees list) (parameter_tree p)) next
+      parameter_read h = done h ∙ run_parameter end h (parameter_trees list) rest s after begins ∙ r h (parameter_trees list)
 
       pub stops_parameter : (x : ParseError) → EndsParameter end (parameter_tree p).name next → is_fixed fixed.CloseParenthesis (first_of_all end next).kind ≡ false →
           (is_fixed fixed.Comma (first_of_all end next).kind ≡ false) × (x ≡ Syntax (first_of_all end next).at) → (h : Head) → Fails (run end (parameters_open h) ts) x
       stops_parameter x ends f g h =
-          fails_syntax _ x _ g.1 (one h ∙ no_parameter_end end h (parameter_trees list) (parameter_tree p) (parameter_tree p).name next ends f g.0)
+          fails_syntax _ x _ g.1 (parameter_read h ∙ no_parameter_end end h (parameter_trees list) (parameter_tree p) (parameter_tree p).name next ends f g.0)
 
       pub reads_parameter : (t : Token) (following : List Token) (more : List Parameter) → more ≡ list ++ p ∷ [] → Begins fixed.Comma next t following → ReadsParameters end ts (parameter_trees more) following
       reads_parameter t following more pushed b h =
-          one h ∙ run_parameter_comma end h (parameter_trees list) (parameter_tree p) (parameter_tree p).name next t following refl b
+          parameter_read h ∙ run_parameter_comma end h (parameter_trees list) (parameter_tree p) (parameter_tree p).name next t following refl b
           ∙ ap (λ q. run end (parameter_comma h q) following) (sym (ap parameter_trees pushed ∙ parameter_trees-push list p))
 
       module _ (t : Token) (last : List Token) (b : Begins fixed.CloseParenthesis next t last) where
         closed : (h : Head) → run end (parameters_open h) ts ≡ run end (parameters_closed h (with_last (parameter_trees list) (parameter_tree p) (parameter_tree p).name)) last
-        closed h = one h ∙ run_parameter_close end h (parameter_trees list) (parameter_tree p) (parameter_tree p).name next t last b
+        closed h = parameter_read h ∙ run_parameter_close end h (parameter_trees list) (parameter_tree p) (parameter_tree p).name next t last b
 
         pub reads_last : (more : List Parameter) → more ≡ list ++ p ∷ [] → (list ≡ [] → ¬ IsVoidAlone (parameter_tree p)) → (h : Head) →
             run end (parameters_open h) ts ≡ run end (parameters_closed h (parameter_trees more)) last

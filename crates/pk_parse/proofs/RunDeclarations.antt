@@ -1,5 +1,5 @@
 -- What is answered within declarations, token by token.
-use Rattle.std.proofs.Common.{◌≡◌, ℕ, ◌+◌, ◌<◌, ◌≤◌, List, [], ◌∷◌, ◌++◌, Option, Some, None, Bool, true, false, refl, sym, ap, ◌∙◌, append_assoc, append-nil, arith}
+use Rattle.std.proofs.Common.{◌≡◌, ℕ, ◌+◌, ◌<◌, ◌≤◌, List, [], ◌∷◌, Option, Some, None, Bool, true, false, refl, sym, ap, ◌∙◌, append_assoc, append-nil, arith}
 use Rattle.std.specs.Prelude.{if◌then◌else◌}
 use Rattle.pk_expression.proofs.RunOperands.{and_words}
 use Rattle.pk_ast.specs.Lists.{with_last}
@@ -18,7 +18,7 @@ use Rattle.pk_grammar.specs.declared.signs.Operator.TheVariants as operator
 use Rattle.pk_grammar.specs.Languages.{identifier_of}
 use Rattle.pk_grammar.specs.Machine.Signs.{is_fixed, operator_of, specifier_word}
 use Rattle.pk_grammar.specs.Machine.States.{Site, Declaring, Naming, State, as_length, as_value, as_item, as_whole, after_specifiers, after_name, after_length, after_assign, after_brace, after_item, after_initializer, after_comma, operand, complete, Declared}
-use Rattle.pk_grammar.specs.Machine.Steps.{taken, refused, reduced, is_unary, go_on, one_more, more_specifiers, specifier_at, site_nesting, naming_nesting, with_initializer, after_declarator, open_parameters, step, first_item, more_items, goes_on_declaring}
+use Rattle.pk_grammar.specs.Machine.Steps.{taken, refused, reduced, is_unary, go_on, more_specifiers, specifier_at, site_nesting, naming_nesting, with_initializer, after_declarator, open_parameters, step, first_item, more_items, goes_on_declaring}
 use Rattle.pk_grammar.specs.Machine.Running.{syntax, deep, first_of_all, run}
 use Rattle.pk_grammar.proofs.CompleteSigns.{strength_least}
 use Rattle.pk_grammar.proofs.CompleteOperands.{same_false, same_true}

@@ -1,6 +1,6 @@
 // Declarations.
 
-ghost use Rattle.std.specs.Prelude.{◌≡◌, ◌<◌, ◌≤◌, ◌∷◌, [], length, MatchResult, option_map};
+ghost use Rattle.std.specs.Prelude.{◌≡◌, ◌<◌, ◌≤◌, length, MatchResult, option_map, false};
 ghost use Rattle.pk_ctypes.specs.declared.places.Pos.{Pos};
 ghost use Rattle.pk_ast.specs.declared.expressions.Identifier.{Identifier};
 ghost use Rattle.pk_ast.specs.Lists.{one};

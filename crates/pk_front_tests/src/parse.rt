@@ -1,8 +1,8 @@
 // Texts of C, their trees apart: what is accepted, and where the others are refused.
 
-use crate::{ParseError, parse};
 use pk_ctypes::{Construct, Pos};
 use pk_lex::lex;
+use pk_parse::{ParseError, parse};
 use std::alloc::Global;
 use std::test::Fail;
 
@@ -23,7 +23,7 @@ fn syntax(column: u64) -> Option<ParseError> {
 }
 
 // Texts, and the column at which each is a syntax error, or 0.
-const TEXTS: [(&str, u64); 48] = [
+const TEXTS: [(&str, u64); 35] = [
     ("", 0),
     ("}", 1),
     ("int x", 6),
@@ -36,26 +36,13 @@ const TEXTS: [(&str, u64); 48] = [
     ("int f(int,);", 11),
     ("static int x; extern int g(int, const char c);", 0),
     ("int f(void){return 0;} int", 27),
-    ("int f(int a){-a=3;}", 0),
     ("int f(int a){-(int)a=3;}", 0),
     ("int f(int a){++-(int)a=3;}", 0),
-    ("int f(int a){(int)a=3;}", 20),
-    ("int f(int a){a+b=3;}", 17),
-    ("int f(int a){a?b:c=3;}", 19),
-    ("int f(int a){++(int)a;}", 17),
-    ("int f(int a){f()();}", 17),
-    ("int f(int a){(a)[1];}", 17),
-    ("int f(int a){a++[1];}", 17),
     ("int f(int a){switch(a){case a, b:;}}", 30),
-    ("int f(int a){L:}", 16),
-    ("int f(int a){L:int x;}", 16),
     ("int f(int a){a:;(a):;}", 20),
-    ("int f(int a){if(a);else;else;}", 25),
-    ("int f(int a){if(a)if(a);else;else;}", 0),
     ("int f(int a){for(int i;;);}", 0),
     ("int f(int a){for(;);}", 19),
     ("int f(int a){for(;;}", 20),
-    ("int f(int a){do;while(a)}", 25),
     ("int f(int a){return (int)(char)1;}", 0),
     ("int f(int a){{}", 16),
     ("int main(void){int i=0;", 24),
@@ -83,7 +70,7 @@ fn texts(rt: HostRuntime) -> Result<(), Fail> {
 }
 
 // What stands in a body behind some declarations, and the column at which it is a syntax error, or 0.
-const BODIES: [(&str, u64); 119] = [
+const BODIES: [(&str, u64); 116] = [
     ("a+b=3;", 4),
     ("a?b:a=3;", 6),
     ("(int)a=3;", 7),
@@ -107,7 +94,6 @@ const BODIES: [(&str, u64); 119] = [
     ("a b;", 3),
     ("extern int q;", 1),
     ("a ?: b;", 4),
-    ("a ? b;", 6),
     ("goto 1;", 6),
     ("case 1;", 7),
     ("case :;", 6),
@@ -129,7 +115,6 @@ const BODIES: [(&str, u64); 119] = [
     ("for(int i=0,j=1;i<j;i++,j--);", 0),
     ("for(;;){break;}", 0),
     ("do a--;while(a);", 0),
-    ("if(a)if(b);else;else a=2;", 0),
     ("if(a)while(b)if(t[0]);else;else;", 0),
     ("a?b:t[0]?1:2;", 0),
     ("a=b=t[1]+=2;", 0),
@@ -201,7 +186,6 @@ const BODIES: [(&str, u64); 119] = [
     ("a='\\x41';", 0),
     ("int x[2]={1,2,};", 0),
     ("a=(1,2)+(0&&1/0);", 0),
-    ("goto M;{M:;}", 0),
     ("int int x;", 0),
 ];
 
