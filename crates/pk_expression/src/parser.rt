@@ -10,9 +10,7 @@ ghost use Rattle.pk_grammar.specs.Machine.Running.{first_of_all};
 ghost use Rattle.pk_ast.specs.Views.{specifiers_tree};
 ghost use Rattle.pk_expression.specs.Parsing.{Begins, BeginsWith, BeginsWithWord, specifiers_from, past_words};
 
-use pk_ast::{
-    AssignmentOperator, BinaryOperator, Identifier, Specifier, Specifiers, StepOperator,
-};
+use pk_ast::{AssignmentOperator, BinaryOperator, Identifier, Specifier, Specifiers, StepOperator};
 use pk_ctypes::Pos;
 use pk_grammar::{Fixed, Operator, ParseError, is, operator_of, specifier_word};
 use pk_lex::{Kind, Token};

@@ -11,6 +11,7 @@ use std::test::Fail;
 
 // A million statements take little memory.
 const _: () = prove!(size_of::<Statement>() <= 104);
+
 const _: () = prove!(size_of::<BlockItem>() <= 112);
 
 const AT: Pos = Pos { line: 1, column: 1 };

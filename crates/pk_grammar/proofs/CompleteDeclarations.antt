@@ -150,7 +150,7 @@ reads_items (expression_then e' es) e d at done s t rest ms same f fs h ends =
     let g = h.second in
     let k = g.first.token in
     let begins : (t : Token) → Begins t.kind → step (after_item d at (first_item done e) (more_items done e)) t ≡ step (operand (naming_nesting d) (as_whole (as_item d at (one_more done e)))) t
-        = λ t b. step_item d at (first_item done e) (more_items done e) t b ∙ ap (λ all. step (operand (naming_nesting d) (as_whole (as_item d at all))) t) (after_one_more done e) in
+    = λ t b. step_item d at (first_item done e) (more_items done e) t b ∙ ap (λ all. step (operand (naming_nesting d) (as_whole (as_item d at all))) t) (after_one_more done e) in
     let more = reads_items es e' d at (one_more done e) (after_item d at (first_item done e) (more_items done e)) t rest g.back begins fs.0 fs.1 g.second ends in
     subst (λ all. ReadsItems s ms t rest d at all (after_first done e (expression_then e' es))) (first_item-more done e e')
     (subst (λ all. ReadsItems s ms t rest d at (first_item (one_more done e) e') all) (after_first-more done e e' es) (record {

@@ -87,6 +87,7 @@ specifiers-names ss = none_then {P = specifier ss.first} [] (word_at _ ss.first.
 
 mutual
   unfolding spelled expression_names
+
   spelled-names : (e : ExpressionTree) → Has (spelled e) (expression_names e)
   spelled-names (name x) = identified x
   spelled-names (call x es) =
@@ -204,6 +205,7 @@ for-names at start second third s f n ts h =
 
 mutual
   unfolding statement statement_names
+
   statement-names : (s : StatementTree) → Has (statement s) (statement_names s)
   statement-names (block at items close) =
       let xs : List Identifier = item_names items in

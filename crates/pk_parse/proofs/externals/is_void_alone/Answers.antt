@@ -13,9 +13,10 @@ returns-then-is_empty c =
     let s = c.args.p.now.specifiers in
     elim c.if-is_none.branch [
       | then-is_none w ↦
-          let e = eqb-true (vec_len s.more) 0 (sym w.is_empty.ensures ∙ sym w.value-is ∙ c.if-is_empty.true) in
-          (λ t. (void_word s.first.word (sym c.is_void_word.ensures ∙ t), no_items s.more e, unnamed c.args.p.now.name (c.is_none.ensures ∙ ap not w.if-is_none.true)),
-          λ v. c.is_void_word.ensures ∙ ap is_void_word v.0)
+          let e = eqb-true (vec_len s.more) 0 (sym w.is_empty.ensures ∙ sym w.value-is ∙ c.if-is_empty.true) in (
+            λ t. (void_word s.first.word (sym c.is_void_word.ensures ∙ t), no_items s.more e, unnamed c.args.p.now.name (c.is_none.ensures ∙ ap not w.if-is_none.true)),
+            λ v. c.is_void_word.ensures ∙ ap is_void_word v.0,
+          )
       | else-is_none w ↦ let e : true ≡ false = sym c.if-is_empty.true ∙ w.value-is ∙ w.if-is_none.false in absurd (cc)
     ]
 
