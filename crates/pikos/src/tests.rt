@@ -3,8 +3,8 @@
 
 ghost use Rattle.std.specs.Prelude.{◌<◌};
 
-use crate::{Status, pikos};
 use pk_io::{MemSink, MemSource};
+use pk_top::pikos;
 use std::alloc::Global;
 use std::test::Fail;
 
