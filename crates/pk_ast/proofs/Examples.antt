@@ -2,10 +2,10 @@
 use Rattle.std.proofs.Common.{◌≡◌, ℕ, ◌+◌, [], ◌∷◌, Some, refl, map}
 use Rattle.pk_ctypes.specs.declared.places.Pos.{Pos}
 use Rattle.pk_ctypes.specs.declared.types.IntType.TheVariants as ctype
-use Rattle.pk_ast.specs.declared.expressions.AssignmentOperator.TheVariants as assignments
-use Rattle.pk_ast.specs.declared.expressions.BinaryOperator.TheVariants as operators
-use Rattle.pk_ast.specs.declared.expressions.StepOperator.TheVariants as steps
-use Rattle.pk_ast.specs.declared.expressions.UnaryOperator.TheVariants as unaries
+use Rattle.pk_ast.specs.declared.operators.AssignmentOperator.TheVariants as assignments
+use Rattle.pk_ast.specs.declared.operators.BinaryOperator.TheVariants as operators
+use Rattle.pk_ast.specs.declared.operators.StepOperator.TheVariants as steps
+use Rattle.pk_ast.specs.declared.operators.UnaryOperator.TheVariants as unaries
 use Rattle.pk_ast.specs.declared.expressions.Identifier.{Identifier}
 use Rattle.pk_ast.specs.Places.{first_place_of, first_place_of_statement}
 use Rattle.pk_ast.specs.Trees as tree

@@ -38,7 +38,7 @@ append_items_assoc (statement_then s rest) b c = ap (statement_then s) (append_i
 
 pub item_trees-append : (is more : List BlockItem) → item_trees (is ++ more) ≡ append_items (item_trees is) (item_trees more)
 item_trees-append [] more = refl
-item_trees-append (Declaration d ∷ rest) more = ap (declaration_then (declaration_tree d)) (item_trees-append rest more)
+item_trees-append (Declaration d ∷ rest) more = ap (declaration_then (declaration_tree d.value)) (item_trees-append rest more)
 item_trees-append (Statement s ∷ rest) more = ap (statement_then (statement_tree s)) (item_trees-append rest more)
 
 pub item_trees-push : (is : List BlockItem) (i : BlockItem) → item_trees (is ++ i ∷ []) ≡ append_items (item_trees is) (item_trees (i ∷ []))

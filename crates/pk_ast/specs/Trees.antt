@@ -4,11 +4,16 @@ use Rattle.pk_ctypes.specs.declared.places.Pos.{Pos}
 use Rattle.pk_ctypes.specs.declared.types.IntType.{IntType}
 use Rattle.pk_ast.specs.declared.declarations.Specifier.{Specifier}
 use Rattle.pk_ast.specs.declared.expressions.Identifier.{Identifier}
-use Rattle.pk_ast.specs.declared.expressions.BinaryOperator.{BinaryOperator}
-use Rattle.pk_ast.specs.declared.expressions.UnaryOperator.{UnaryOperator}
-use Rattle.pk_ast.specs.declared.expressions.StepOperator.{StepOperator}
-use Rattle.pk_ast.specs.declared.expressions.AssignmentOperator.{AssignmentOperator}
+use Rattle.pk_ast.specs.declared.operators.BinaryOperator.{BinaryOperator}
+use Rattle.pk_ast.specs.declared.operators.UnaryOperator.{UnaryOperator}
+use Rattle.pk_ast.specs.declared.operators.StepOperator.{StepOperator}
+use Rattle.pk_ast.specs.declared.operators.AssignmentOperator.{AssignmentOperator}
 use Rattle.pk_ast.specs.declared.units.Storage.{Storage}
+
+-- a list that has an element
+pub record OneOrMore (A : Type 0) : Type 0 where
+  pub first : A
+  pub more : List A
 
 mutual
   -- expressions (C99 6.5)
@@ -22,7 +27,7 @@ mutual
     postfix : StepOperator → Pos → ExpressionTree → ExpressionTree
     prefix : StepOperator → Pos → ExpressionTree → ExpressionTree
     unary : UnaryOperator → Pos → ExpressionTree → ExpressionTree
-    cast : Pos → List Specifier → ExpressionTree → ExpressionTree
+    cast : Pos → OneOrMore Specifier → ExpressionTree → ExpressionTree
     binary : BinaryOperator → Pos → ExpressionTree → ExpressionTree → ExpressionTree
     conditional : Pos → ExpressionTree → ExpressionTree → ExpressionTree → ExpressionTree
     assignment : AssignmentOperator → Pos → ExpressionTree → ExpressionTree → ExpressionTree
@@ -36,7 +41,7 @@ mutual
 -- what a declared object begins with (C99 6.7.8)
 pub data InitializerTree : Type 0 where
   single : ExpressionTree → InitializerTree
-  braced : Pos → ExpressionTrees → InitializerTree
+  braced : Pos → ExpressionTree → ExpressionTrees → InitializerTree
 
 pub record DeclaratorTree : Type 0 where
   pub name : Identifier
@@ -44,8 +49,8 @@ pub record DeclaratorTree : Type 0 where
   pub initializer : Option InitializerTree
 
 pub record DeclarationTree : Type 0 where
-  pub specifiers : List Specifier
-  pub declarators : List DeclaratorTree
+  pub specifiers : OneOrMore Specifier
+  pub declarators : OneOrMore DeclaratorTree
 
 -- what the parentheses of a `for` begin with
 pub data ForStartTree : Type 0 where
@@ -85,12 +90,12 @@ pub record BlockTree : Type 0 where
   pub closed : Pos
 
 pub record ParameterTree : Type 0 where
-  pub specifiers : List Specifier
+  pub specifiers : OneOrMore Specifier
   pub name : Option Identifier
 
 pub record FunctionTree : Type 0 where
   pub storage : Option Storage
-  pub specifiers : List Specifier
+  pub specifiers : OneOrMore Specifier
   pub name : Identifier
   pub parameters : List ParameterTree
   pub body : Option BlockTree

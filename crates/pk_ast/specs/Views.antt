@@ -1,8 +1,11 @@
 -- The tree that a value of the code stands for, without where it lies in memory.
 use Rattle.std.specs.Prelude.{List, [], ◌∷◌, option_map, map}
+use Rattle.pk_ast.specs.declared.declarations.Specifier.{Specifier}
+use Rattle.pk_ast.specs.declared.declarations.Specifiers.{Specifiers}
 use Rattle.pk_ast.specs.declared.declarations.Initializer.{Initializer}
 use Rattle.pk_ast.specs.declared.declarations.Initializer.TheVariants.{Single, Braced}
 use Rattle.pk_ast.specs.declared.declarations.Declarator.{Declarator}
+use Rattle.pk_ast.specs.declared.declarations.Declarators.{Declarators}
 use Rattle.pk_ast.specs.declared.declarations.Declaration.{Declaration}
 use Rattle.pk_ast.specs.declared.expressions.Expression.{Expression, Row_of-Expression, end_of-Expression, more_of-Expression}
 use Rattle.pk_ast.specs.declared.expressions.Expression.TheVariants.{Name, Call', Index', Constant, Character, Parenthesized', Postfix', Prefix', Unary', Cast', Binary', Conditional', Assignment', Comma'}
@@ -19,9 +22,12 @@ use Rattle.pk_ast.specs.declared.units.Function.{Function}
 use Rattle.pk_ast.specs.declared.units.External.{External}
 use Rattle.pk_ast.specs.declared.units.External.TheVariants as externals
 use Rattle.pk_ast.specs.declared.units.Unit as declared_unit
-use Rattle.pk_ast.specs.Trees.{ExpressionTree, ExpressionTrees, InitializerTree, DeclaratorTree, DeclarationTree, ForStartTree, StatementTree, ItemTrees, BlockTree, ParameterTree, FunctionTree, ExternalTree}
+use Rattle.pk_ast.specs.Trees.{OneOrMore, ExpressionTree, ExpressionTrees, InitializerTree, DeclaratorTree, DeclarationTree, ForStartTree, StatementTree, ItemTrees, BlockTree, ParameterTree, FunctionTree, ExternalTree}
 use Rattle.pk_ast.specs.Trees.{name, call, index, constant, character, parenthesized, postfix, prefix, unary, cast, binary, conditional, assignment, comma, no_expressions, expression_then, single, braced}
 use Rattle.pk_ast.specs.Trees.{declaration, expression, block, empty, expression_statement, label, case, default, if_then, if_else, switch, while, do_while, for_loop, goto, continue, break, return, no_items, declaration_then, statement_then, function, objects}
+
+abbrev pub specifiers_tree : Specifiers → OneOrMore Specifier
+specifiers_tree s = record { first = s.first; more = s.more.items }
 
 unfoldable mutual
   pub expression_tree : Expression → ExpressionTree
@@ -34,7 +40,7 @@ unfoldable mutual
   expression_tree (Postfix' op at p e) = postfix op at (expression_tree e)
   expression_tree (Prefix' op at p e) = prefix op at (expression_tree e)
   expression_tree (Unary' op at p e) = unary op at (expression_tree e)
-  expression_tree (Cast' at specifiers p e) = cast at specifiers.items (expression_tree e)
+  expression_tree (Cast' at specifiers p e) = cast at (specifiers_tree specifiers.value) (expression_tree e)
   expression_tree (Binary' op at p a q b) = binary op at (expression_tree a) (expression_tree b)
   expression_tree (Conditional' at p a q b r c) = conditional at (expression_tree a) (expression_tree b) (expression_tree c)
   expression_tree (Assignment' op at p a q b) = assignment op at (expression_tree a) (expression_tree b)
@@ -51,7 +57,7 @@ expression_trees (e ∷ es) = expression_then (expression_tree e) (expression_tr
 
 unfoldable pub initializer_tree : Initializer → InitializerTree
 initializer_tree (Single e) = single (expression_tree e)
-initializer_tree (Braced at es) = braced at (expression_trees es.items)
+initializer_tree (Braced at e es) = braced at (expression_tree e) (expression_trees es.items)
 
 unfoldable pub declarator_tree : Declarator → DeclaratorTree
 declarator_tree d = record { name = d.name; length = option_map expression_tree d.length; initializer = option_map initializer_tree d.initializer }
@@ -59,8 +65,11 @@ declarator_tree d = record { name = d.name; length = option_map expression_tree 
 abbrev pub declarator_trees : List Declarator → List DeclaratorTree
 declarator_trees = map declarator_tree
 
+abbrev pub declarators_tree : Declarators → OneOrMore DeclaratorTree
+declarators_tree d = record { first = declarator_tree d.first; more = declarator_trees d.more.items }
+
 unfoldable pub declaration_tree : Declaration → DeclarationTree
-declaration_tree d = record { specifiers = d.specifiers.items; declarators = declarator_trees d.declarators.items }
+declaration_tree d = record { specifiers = specifiers_tree d.specifiers; declarators = declarators_tree d.declarators }
 
 unfoldable pub for_start_tree : declared_for_start.ForStart → ForStartTree
 for_start_tree (for_starts.Declaration d) = declaration (declaration_tree d)
@@ -79,7 +88,8 @@ unfoldable mutual
   statement_tree (statements.Switch' at e p s) = switch at (expression_tree e) (statement_tree s)
   statement_tree (statements.While' at e p s) = while at (expression_tree e) (statement_tree s)
   statement_tree (statements.Do' at p s e) = do_while at (statement_tree s) (expression_tree e)
-  statement_tree (statements.For' at start test step p s) = for_loop at (for_start_tree start) (option_map expression_tree test) (option_map expression_tree step) (statement_tree s)
+  statement_tree (statements.For' at head p s) =
+      let h = head.value in for_loop at (for_start_tree h.start) (option_map expression_tree h.condition) (option_map expression_tree h.step) (statement_tree s)
   statement_tree (statements.Goto at x) = goto at x
   statement_tree (statements.Continue at) = continue at
   statement_tree (statements.Break at) = break at
@@ -88,19 +98,19 @@ unfoldable mutual
   -- those of a `Vec`, which is a row of them
   pub items_of_row : {n : _} → Row_of-BlockItem n → ItemTrees
   items_of_row end_of-BlockItem = no_items
-  items_of_row (more_of-BlockItem (items.Declaration d) rest) = declaration_then (declaration_tree d) (items_of_row rest)
+  items_of_row (more_of-BlockItem (items.Declaration d) rest) = declaration_then (declaration_tree d.value) (items_of_row rest)
   items_of_row (more_of-BlockItem (items.Statement s) rest) = statement_then (statement_tree s) (items_of_row rest)
 
 abbrev pub item_trees : List BlockItem → ItemTrees
 item_trees [] = no_items
-item_trees (items.Declaration d ∷ rest) = declaration_then (declaration_tree d) (item_trees rest)
+item_trees (items.Declaration d ∷ rest) = declaration_then (declaration_tree d.value) (item_trees rest)
 item_trees (items.Statement s ∷ rest) = statement_then (statement_tree s) (item_trees rest)
 
 unfoldable pub block_tree : declared_block.Block → BlockTree
 block_tree b = record { opened = b.open; items = item_trees b.items.items; closed = b.close }
 
 unfoldable pub parameter_tree : Parameter → ParameterTree
-parameter_tree p = record { specifiers = p.specifiers.items; name = p.name }
+parameter_tree p = record { specifiers = specifiers_tree p.specifiers; name = p.name }
 
 abbrev pub parameter_trees : List Parameter → List ParameterTree
 parameter_trees = map parameter_tree
@@ -108,7 +118,7 @@ parameter_trees = map parameter_tree
 unfoldable pub function_tree : Function → FunctionTree
 function_tree f = record {
   storage = f.storage;
-  specifiers = f.specifiers.items;
+  specifiers = specifiers_tree f.specifiers;
   name = f.name;
   parameters = parameter_trees f.parameters.items;
   body = option_map block_tree f.body;

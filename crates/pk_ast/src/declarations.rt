@@ -3,11 +3,12 @@
 ghost use Rattle.std.specs.Prelude.{◌≡◌, option_map};
 ghost use Rattle.pk_ast.specs.Trees as tree;
 ghost use Rattle.pk_ast.specs.Views.{
+  specifiers_tree,
   expression_tree,
   expression_trees,
   initializer_tree,
   declarator_tree,
-  declarator_trees,
+  declarators_tree,
   declaration_tree,
 };
 
@@ -15,7 +16,7 @@ use crate::expressions::{Expression, Identifier};
 use pk_ctypes::Pos;
 
 /// A word of a type's name (C99 6.7.2, 6.7.3).
-#[derive(Clone, Copy, Debug, PartialEq, Eq)]
+#[derive(Clone, Copy)]
 pub enum SpecifierWord {
     Void,
     Char,
@@ -28,17 +29,28 @@ pub enum SpecifierWord {
 }
 
 /// A word of a type's name at its place.
-#[derive(Clone, Copy, Debug, PartialEq, Eq)]
+#[derive(Clone, Copy)]
 pub struct Specifier {
     pub word: SpecifierWord,
     pub at: Pos,
 }
 
-/// What a declared object begins with: a value, or a list of them in braces, with the place of the `{`.
+/// The words of a type's name, one or more.
+#[derive(Drop)]
+pub struct Specifiers {
+    pub first: Specifier,
+    pub more: Vec<Specifier>,
+}
+
+/// What a declared object begins with: a value, or one or more of them in braces, with the place of the `{`.
 #[derive(Drop)]
 pub enum Initializer {
     Single(Expression),
-    Braced(Pos, Vec<Expression>),
+    Braced {
+        at: Pos,
+        first: Expression,
+        more: Vec<Expression>,
+    },
 }
 
 /// A declared name, with the length of an array and what it begins with, where these are given.
@@ -49,11 +61,18 @@ pub struct Declarator {
     pub initializer: Option<Initializer>,
 }
 
-/// The words of a type, and the names that are declared with it. Both lists have an element.
+/// Declared names, one or more.
+#[derive(Drop)]
+pub struct Declarators {
+    pub first: Declarator,
+    pub more: Vec<Declarator>,
+}
+
+/// The words of a type, and the names that are declared with it.
 #[derive(Drop)]
 pub struct Declaration {
-    pub specifiers: Vec<Specifier>,
-    pub declarators: Vec<Declarator>,
+    pub specifiers: Specifiers,
+    pub declarators: Declarators,
 }
 
 #[tactic(auto, unfolding(crate::specs::Views::initializer_tree))]
@@ -64,10 +83,11 @@ impl Initializer {
         Initializer::Single(value)
     }
 
-    pub fn braced(at: Pos, values: Vec<Expression>) -> Initializer
-        ensures { initializer_tree result ≡ tree.braced at (expression_trees values.items) }
+    pub fn braced(at: Pos, first: Expression, more: Vec<Expression>) -> Initializer
+        ensures { initializer_tree result
+            ≡ tree.braced at (expression_tree first) (expression_trees more.items) }
     {
-        Initializer::Braced(at, values)
+        Initializer::Braced { at, first, more }
     }
 }
 
@@ -94,10 +114,10 @@ impl Declarator {
 
 #[tactic(auto, unfolding(crate::specs::Views::declaration_tree))]
 impl Declaration {
-    pub fn new(specifiers: Vec<Specifier>, declarators: Vec<Declarator>) -> Declaration
+    pub fn new(specifiers: Specifiers, declarators: Declarators) -> Declaration
         ensures { declaration_tree result ≡ record {
-          specifiers = specifiers.items;
-          declarators = declarator_trees declarators.items;
+          specifiers = specifiers_tree specifiers;
+          declarators = declarators_tree declarators;
         } }
     {
         Declaration {

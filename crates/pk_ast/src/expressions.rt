@@ -3,73 +3,21 @@
 ghost use Rattle.std.specs.Prelude.{◌≡◌, IfOk};
 ghost use Rattle.pk_ast.specs.Places.{first_place_of};
 ghost use Rattle.pk_ast.specs.Trees as tree;
-ghost use Rattle.pk_ast.specs.Views.{expression_tree, expression_trees};
+ghost use Rattle.pk_ast.specs.Views.{specifiers_tree, expression_tree, expression_trees};
 
-use crate::declarations::Specifier;
+use crate::boxes::{all_boxed, both_boxed, boxed};
+use crate::declarations::Specifiers;
+use crate::operators::{AssignmentOperator, BinaryOperator, StepOperator, UnaryOperator};
 use pk_ctypes::{IntType, Pos};
 use std::alloc::{AllocError, Global};
 
-/// A name in a text: its bytes from `start` up to `end`, counted from 0, and the place of the first one.
-#[derive(Clone, Copy, Debug, PartialEq, Eq)]
+/// A name in a text: its bytes from `start` up to `end`, counted from 0, and the place of the first one. Two names are the same
+/// where their bytes are, so identifiers are not compared.
+#[derive(Clone, Copy)]
 pub struct Identifier {
     pub start: usize,
     pub end: usize,
     pub at: Pos,
-}
-
-/// An operator that joins two operands from left to right, weakest first (C99 6.5.5 to 6.5.14).
-#[derive(Clone, Copy, Debug, PartialEq, Eq)]
-pub enum BinaryOperator {
-    LogicalOr,
-    LogicalAnd,
-    Or,
-    ExclusiveOr,
-    And,
-    Equal,
-    NotEqual,
-    Less,
-    Greater,
-    LessOrEqual,
-    GreaterOrEqual,
-    ShiftLeft,
-    ShiftRight,
-    Add,
-    Subtract,
-    Multiply,
-    Divide,
-    Remainder,
-}
-
-/// A prefix operator on a value (C99 6.5.3.3).
-#[derive(Clone, Copy, Debug, PartialEq, Eq)]
-pub enum UnaryOperator {
-    Plus,
-    Minus,
-    Complement,
-    Not,
-}
-
-/// `++` or `--`, before or after its operand (C99 6.5.2.4, 6.5.3.1).
-#[derive(Clone, Copy, Debug, PartialEq, Eq)]
-pub enum StepOperator {
-    Increment,
-    Decrement,
-}
-
-/// `=`, or an operator that reads the left side too (C99 6.5.16).
-#[derive(Clone, Copy, Debug, PartialEq, Eq)]
-pub enum AssignmentOperator {
-    Assign,
-    Multiply,
-    Divide,
-    Remainder,
-    Add,
-    Subtract,
-    ShiftLeft,
-    ShiftRight,
-    And,
-    ExclusiveOr,
-    Or,
 }
 
 /// An expression. Operators stand with their places; parentheses are kept.
@@ -89,12 +37,31 @@ pub enum Expression {
     Prefix(StepOperator, Pos, Box<Expression>),
     Unary(UnaryOperator, Pos, Box<Expression>),
     /// A conversion to the type that the specifiers name, at its `(`.
-    Cast(Pos, Vec<Specifier>, Box<Expression>),
-    Binary(BinaryOperator, Pos, Box<Expression>, Box<Expression>),
-    /// `a ? b : c`, at its `?`.
-    Conditional(Pos, Box<Expression>, Box<Expression>, Box<Expression>),
-    Assignment(AssignmentOperator, Pos, Box<Expression>, Box<Expression>),
-    Comma(Pos, Box<Expression>, Box<Expression>),
+    Cast(Pos, Box<Specifiers>, Box<Expression>),
+    Binary {
+        op: BinaryOperator,
+        at: Pos,
+        left: Box<Expression>,
+        right: Box<Expression>,
+    },
+    /// `condition ? if_true : if_false`, at its `?`.
+    Conditional {
+        at: Pos,
+        condition: Box<Expression>,
+        if_true: Box<Expression>,
+        if_false: Box<Expression>,
+    },
+    Assignment {
+        op: AssignmentOperator,
+        at: Pos,
+        left: Box<Expression>,
+        right: Box<Expression>,
+    },
+    Comma {
+        at: Pos,
+        left: Box<Expression>,
+        right: Box<Expression>,
+    },
 }
 
 // Each ensures which tree it makes.
@@ -123,7 +90,8 @@ impl Expression {
     ) -> Result<Expression, AllocError>
         ensures { IfOk result (λ e. expression_tree e ≡ tree.index name at (expression_tree index)) }
     {
-        Ok(Expression::Index(name, at, Box::new(alloc, index)?))
+        let index = boxed(alloc, index)?;
+        Ok(Expression::Index(name, at, index))
     }
 
     pub fn constant(at: Pos, int_type: IntType, value: u64) -> Expression
@@ -146,7 +114,8 @@ impl Expression {
     ) -> Result<Expression, AllocError>
         ensures { IfOk result (λ e. expression_tree e ≡ tree.parenthesized at (expression_tree inner)) }
     {
-        Ok(Expression::Parenthesized(at, Box::new(alloc, inner)?))
+        let inner = boxed(alloc, inner)?;
+        Ok(Expression::Parenthesized(at, inner))
     }
 
     pub fn postfix(
@@ -157,7 +126,8 @@ impl Expression {
     ) -> Result<Expression, AllocError>
         ensures { IfOk result (λ e. expression_tree e ≡ tree.postfix op at (expression_tree operand)) }
     {
-        Ok(Expression::Postfix(op, at, Box::new(alloc, operand)?))
+        let operand = boxed(alloc, operand)?;
+        Ok(Expression::Postfix(op, at, operand))
     }
 
     pub fn prefix(
@@ -168,7 +138,8 @@ impl Expression {
     ) -> Result<Expression, AllocError>
         ensures { IfOk result (λ e. expression_tree e ≡ tree.prefix op at (expression_tree operand)) }
     {
-        Ok(Expression::Prefix(op, at, Box::new(alloc, operand)?))
+        let operand = boxed(alloc, operand)?;
+        Ok(Expression::Prefix(op, at, operand))
     }
 
     pub fn unary(
@@ -179,20 +150,22 @@ impl Expression {
     ) -> Result<Expression, AllocError>
         ensures { IfOk result (λ e. expression_tree e ≡ tree.unary op at (expression_tree operand)) }
     {
-        Ok(Expression::Unary(op, at, Box::new(alloc, operand)?))
+        let operand = boxed(alloc, operand)?;
+        Ok(Expression::Unary(op, at, operand))
     }
 
     /// A conversion, at its `(`.
     pub fn cast(
         alloc: Global,
         at: Pos,
-        specifiers: Vec<Specifier>,
+        specifiers: Specifiers,
         operand: Expression,
     ) -> Result<Expression, AllocError>
         ensures { IfOk result (λ e. expression_tree e
-            ≡ tree.cast at specifiers.items (expression_tree operand)) }
+            ≡ tree.cast at (specifiers_tree specifiers) (expression_tree operand)) }
     {
-        Ok(Expression::Cast(at, specifiers, Box::new(alloc, operand)?))
+        let (specifiers, operand) = both_boxed(alloc, specifiers, operand)?;
+        Ok(Expression::Cast(at, specifiers, operand))
     }
 
     pub fn binary(
@@ -205,7 +178,13 @@ impl Expression {
         ensures { IfOk result (λ e. expression_tree e
             ≡ tree.binary op at (expression_tree left) (expression_tree right)) }
     {
-        Ok(Expression::Binary(op, at, Box::new(alloc, left)?, Box::new(alloc, right)?))
+        let (left, right) = both_boxed(alloc, left, right)?;
+        Ok(Expression::Binary {
+            op,
+            at,
+            left,
+            right,
+        })
     }
 
     pub fn assignment(
@@ -218,7 +197,13 @@ impl Expression {
         ensures { IfOk result (λ e. expression_tree e
             ≡ tree.assignment op at (expression_tree left) (expression_tree right)) }
     {
-        Ok(Expression::Assignment(op, at, Box::new(alloc, left)?, Box::new(alloc, right)?))
+        let (left, right) = both_boxed(alloc, left, right)?;
+        Ok(Expression::Assignment {
+            op,
+            at,
+            left,
+            right,
+        })
     }
 
     pub fn comma(
@@ -230,7 +215,8 @@ impl Expression {
         ensures { IfOk result (λ e. expression_tree e
             ≡ tree.comma at (expression_tree left) (expression_tree right)) }
     {
-        Ok(Expression::Comma(at, Box::new(alloc, left)?, Box::new(alloc, right)?))
+        let (left, right) = both_boxed(alloc, left, right)?;
+        Ok(Expression::Comma { at, left, right })
     }
 
     /// At its `?`.
@@ -244,12 +230,13 @@ impl Expression {
         ensures { IfOk result (λ e. expression_tree e
             ≡ tree.conditional at (expression_tree condition) (expression_tree if_true) (expression_tree if_false)) }
     {
-        Ok(Expression::Conditional(
+        let (condition, if_true, if_false) = all_boxed(alloc, condition, if_true, if_false)?;
+        Ok(Expression::Conditional {
             at,
-            Box::new(alloc, condition)?,
-            Box::new(alloc, if_true)?,
-            Box::new(alloc, if_false)?,
-        ))
+            condition,
+            if_true,
+            if_false,
+        })
     }
 
     /// The place of the first token.
@@ -270,10 +257,10 @@ impl Expression {
                 Expression::Unary(_, at, _) => return *at,
                 Expression::Cast(at, _, _) => return *at,
                 Expression::Postfix(_, _, operand) => e = operand,
-                Expression::Binary(_, _, left, _) => e = left,
-                Expression::Conditional(_, condition, _, _) => e = condition,
-                Expression::Assignment(_, _, left, _) => e = left,
-                Expression::Comma(_, left, _) => e = left,
+                Expression::Binary { left, .. } => e = left,
+                Expression::Conditional { condition, .. } => e = condition,
+                Expression::Assignment { left, .. } => e = left,
+                Expression::Comma { left, .. } => e = left,
             }
         }
     }

@@ -4,16 +4,17 @@
 //! Every other tree inside a tree is one level of nesting, which the parser limits. So dropping a tree, or walking it, recurses no deeper than that limit.
 #![tactic(auto)]
 
+mod boxes;
 mod declarations;
 mod expressions;
+mod operators;
 mod statements;
-#[cfg(test)]
-mod tests;
 mod units;
 
-pub use declarations::{Declaration, Declarator, Initializer, Specifier, SpecifierWord};
-pub use expressions::{
-    AssignmentOperator, BinaryOperator, Expression, Identifier, StepOperator, UnaryOperator,
+pub use declarations::{
+    Declaration, Declarator, Declarators, Initializer, Specifier, SpecifierWord, Specifiers,
 };
-pub use statements::{Block, BlockItem, ForStart, Statement};
+pub use expressions::{Expression, Identifier};
+pub use operators::{AssignmentOperator, BinaryOperator, StepOperator, UnaryOperator};
+pub use statements::{Block, BlockItem, ForHead, ForStart, Statement};
 pub use units::{External, Function, Parameter, Storage, StorageWord, Unit};

@@ -12,6 +12,7 @@ ghost use Rattle.pk_ast.specs.Views.{
   block_tree,
 };
 
+use crate::boxes::{boxed, boxed_beside};
 use crate::declarations::Declaration;
 use crate::expressions::{Expression, Identifier};
 use pk_ctypes::Pos;
@@ -22,6 +23,14 @@ use std::alloc::{AllocError, Global};
 pub enum ForStart {
     Declaration(Declaration),
     Expression(Option<Expression>),
+}
+
+/// The parentheses of a `for`.
+#[derive(Drop)]
+pub struct ForHead {
+    pub start: ForStart,
+    pub condition: Option<Expression>,
+    pub step: Option<Expression>,
 }
 
 /// A statement, with the place of its first word.
@@ -36,11 +45,16 @@ pub enum Statement {
     Case(Pos, Expression, Box<Statement>),
     Default(Pos, Box<Statement>),
     If(Pos, Expression, Box<Statement>),
-    IfElse(Pos, Expression, Box<Statement>, Box<Statement>),
+    IfElse {
+        at: Pos,
+        condition: Expression,
+        then_branch: Box<Statement>,
+        else_branch: Box<Statement>,
+    },
     Switch(Pos, Expression, Box<Statement>),
     While(Pos, Expression, Box<Statement>),
     Do(Pos, Box<Statement>, Expression),
-    For(Pos, ForStart, Option<Expression>, Option<Expression>, Box<Statement>),
+    For(Pos, Box<ForHead>, Box<Statement>),
     Goto(Pos, Identifier),
     Continue(Pos),
     Break(Pos),
@@ -51,7 +65,7 @@ pub enum Statement {
 #[derive(Drop)]
 #[cycle(statements)]
 pub enum BlockItem {
-    Declaration(Declaration),
+    Declaration(Box<Declaration>),
     Statement(Statement),
 }
 
@@ -105,7 +119,8 @@ impl Statement {
     pub fn label(alloc: Global, name: Identifier, body: Statement) -> Result<Statement, AllocError>
         ensures { IfOk result (λ s. statement_tree s ≡ tree.label name (statement_tree body)) }
     {
-        Ok(Statement::Label(name, Box::new(alloc, body)?))
+        let body = boxed(alloc, body)?;
+        Ok(Statement::Label(name, body))
     }
 
     pub fn case(
@@ -117,13 +132,15 @@ impl Statement {
         ensures { IfOk result (λ s. statement_tree s
             ≡ tree.case at (expression_tree value) (statement_tree body)) }
     {
-        Ok(Statement::Case(at, value, Box::new(alloc, body)?))
+        let (value, body) = boxed_beside(alloc, value, body)?;
+        Ok(Statement::Case(at, value, body))
     }
 
     pub fn default(alloc: Global, at: Pos, body: Statement) -> Result<Statement, AllocError>
         ensures { IfOk result (λ s. statement_tree s ≡ tree.default at (statement_tree body)) }
     {
-        Ok(Statement::Default(at, Box::new(alloc, body)?))
+        let body = boxed(alloc, body)?;
+        Ok(Statement::Default(at, body))
     }
 
     pub fn if_then(
@@ -135,25 +152,31 @@ impl Statement {
         ensures { IfOk result (λ s. statement_tree s
             ≡ tree.if_then at (expression_tree condition) (statement_tree then_branch)) }
     {
-        Ok(Statement::If(at, condition, Box::new(alloc, then_branch)?))
+        let (condition, then_branch) = boxed_beside(alloc, condition, then_branch)?;
+        Ok(Statement::If(at, condition, then_branch))
     }
 
     pub fn if_else(
         alloc: Global,
         at: Pos,
         condition: Expression,
-        then_branch: Statement,
+        then_branch: Box<Statement>,
         else_branch: Statement,
     ) -> Result<Statement, AllocError>
         ensures { IfOk result (λ s. statement_tree s
-            ≡ tree.if_else at (expression_tree condition) (statement_tree then_branch) (statement_tree else_branch)) }
+            ≡ tree.if_else at (expression_tree condition) (statement_tree then_branch.value) (statement_tree else_branch)) }
     {
-        Ok(Statement::IfElse(
+        let ((condition, then_branch), else_branch) = boxed_beside(
+            alloc,
+            (condition, then_branch),
+            else_branch,
+        )?;
+        Ok(Statement::IfElse {
             at,
             condition,
-            Box::new(alloc, then_branch)?,
-            Box::new(alloc, else_branch)?,
-        ))
+            then_branch,
+            else_branch,
+        })
     }
 
     pub fn switch(
@@ -165,7 +188,8 @@ impl Statement {
         ensures { IfOk result (λ s. statement_tree s
             ≡ tree.switch at (expression_tree value) (statement_tree body)) }
     {
-        Ok(Statement::Switch(at, value, Box::new(alloc, body)?))
+        let (value, body) = boxed_beside(alloc, value, body)?;
+        Ok(Statement::Switch(at, value, body))
     }
 
     pub fn while_loop(
@@ -177,7 +201,8 @@ impl Statement {
         ensures { IfOk result (λ s. statement_tree s
             ≡ tree.while at (expression_tree condition) (statement_tree body)) }
     {
-        Ok(Statement::While(at, condition, Box::new(alloc, body)?))
+        let (condition, body) = boxed_beside(alloc, condition, body)?;
+        Ok(Statement::While(at, condition, body))
     }
 
     pub fn do_while(
@@ -189,21 +214,21 @@ impl Statement {
         ensures { IfOk result (λ s. statement_tree s
             ≡ tree.do_while at (statement_tree body) (expression_tree condition)) }
     {
-        Ok(Statement::Do(at, Box::new(alloc, body)?, condition))
+        let (condition, body) = boxed_beside(alloc, condition, body)?;
+        Ok(Statement::Do(at, body, condition))
     }
 
     pub fn for_loop(
         alloc: Global,
         at: Pos,
-        start: ForStart,
-        condition: Option<Expression>,
-        step: Option<Expression>,
+        head: Box<ForHead>,
         body: Statement,
     ) -> Result<Statement, AllocError>
-        ensures { IfOk result (λ s. statement_tree s ≡ tree.for_loop at (for_start_tree start)
-            (option_map expression_tree condition) (option_map expression_tree step) (statement_tree body)) }
+        ensures { IfOk result (λ s. statement_tree s ≡ tree.for_loop at (for_start_tree head.value.start)
+            (option_map expression_tree head.value.condition) (option_map expression_tree head.value.step) (statement_tree body)) }
     {
-        Ok(Statement::For(at, start, condition, step, Box::new(alloc, body)?))
+        let (head, body) = boxed_beside(alloc, head, body)?;
+        Ok(Statement::For(at, head, body))
     }
 
     pub fn goto(at: Pos, label: Identifier) -> Statement
@@ -243,11 +268,11 @@ impl Statement {
             Statement::Case(at, _, _) => *at,
             Statement::Default(at, _) => *at,
             Statement::If(at, _, _) => *at,
-            Statement::IfElse(at, _, _, _) => *at,
+            Statement::IfElse { at, .. } => *at,
             Statement::Switch(at, _, _) => *at,
             Statement::While(at, _, _) => *at,
             Statement::Do(at, _, _) => *at,
-            Statement::For(at, _, _, _, _) => *at,
+            Statement::For(at, _, _) => *at,
             Statement::Goto(at, _) => *at,
             Statement::Continue(at) => *at,
             Statement::Break(at) => *at,
@@ -257,11 +282,12 @@ impl Statement {
 }
 
 impl BlockItem {
-    pub fn declaration(declaration: Declaration) -> BlockItem
-        ensures { item_trees (result ∷ [])
-            ≡ tree.declaration_then (declaration_tree declaration) tree.no_items }
+    pub fn declaration(alloc: Global, declaration: Declaration) -> Result<BlockItem, AllocError>
+        ensures { IfOk result (λ item. item_trees (item ∷ [])
+            ≡ tree.declaration_then (declaration_tree declaration) tree.no_items) }
     {
-        BlockItem::Declaration(declaration)
+        let declaration = boxed(alloc, declaration)?;
+        Ok(BlockItem::Declaration(declaration))
     }
 
     pub fn statement(statement: Statement) -> BlockItem

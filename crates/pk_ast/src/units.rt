@@ -3,6 +3,7 @@
 ghost use Rattle.std.specs.Prelude.{◌≡◌, option_map};
 ghost use Rattle.pk_ast.specs.Trees as tree;
 ghost use Rattle.pk_ast.specs.Views.{
+  specifiers_tree,
   declaration_tree,
   block_tree,
   parameter_tree,
@@ -13,20 +14,20 @@ ghost use Rattle.pk_ast.specs.Views.{
   unit_tree,
 };
 
-use crate::declarations::{Declaration, Specifier};
+use crate::declarations::{Declaration, Specifiers};
 use crate::expressions::Identifier;
 use crate::statements::Block;
 use pk_ctypes::Pos;
 
 /// `static` or `extern`.
-#[derive(Clone, Copy, Debug, PartialEq, Eq)]
+#[derive(Clone, Copy)]
 pub enum StorageWord {
     Static,
     Extern,
 }
 
 /// `static` or `extern` at its place.
-#[derive(Clone, Copy, Debug, PartialEq, Eq)]
+#[derive(Clone, Copy)]
 pub struct Storage {
     pub word: StorageWord,
     pub at: Pos,
@@ -35,7 +36,7 @@ pub struct Storage {
 /// A parameter: the words of its type, and its name where it has one.
 #[derive(Drop)]
 pub struct Parameter {
-    pub specifiers: Vec<Specifier>,
+    pub specifiers: Specifiers,
     pub name: Option<Identifier>,
 }
 
@@ -43,7 +44,7 @@ pub struct Parameter {
 #[derive(Drop)]
 pub struct Function {
     pub storage: Option<Storage>,
-    pub specifiers: Vec<Specifier>,
+    pub specifiers: Specifiers,
     pub name: Identifier,
     pub parameters: Vec<Parameter>,
     pub body: Option<Block>,
@@ -64,8 +65,8 @@ pub struct Unit {
 
 #[tactic(auto, unfolding(crate::specs::Views::parameter_tree))]
 impl Parameter {
-    pub fn new(specifiers: Vec<Specifier>, name: Option<Identifier>) -> Parameter
-        ensures { parameter_tree result ≡ record { specifiers = specifiers.items; name = name } }
+    pub fn new(specifiers: Specifiers, name: Option<Identifier>) -> Parameter
+        ensures { parameter_tree result ≡ record { specifiers = specifiers_tree specifiers; name = name } }
     {
         Parameter { specifiers, name }
     }
@@ -75,14 +76,14 @@ impl Parameter {
 impl Function {
     pub fn new(
         storage: Option<Storage>,
-        specifiers: Vec<Specifier>,
+        specifiers: Specifiers,
         name: Identifier,
         parameters: Vec<Parameter>,
         body: Option<Block>,
     ) -> Function
         ensures { function_tree result ≡ record {
           storage = storage;
-          specifiers = specifiers.items;
+          specifiers = specifiers_tree specifiers;
           name = name;
           parameters = parameter_trees parameters.items;
           body = option_map block_tree body;

@@ -3,7 +3,7 @@ use pk_ctypes::Name;
 use std::alloc::AllocError;
 
 /// The options of `run`.
-#[derive(Clone, Copy, Debug, PartialEq, Eq)]
+#[derive(Clone, Copy, PartialEq, Eq)]
 pub struct RunOptions {
     /// How many threads iterate, from 1 to 64.
     pub workers: u32,
@@ -28,7 +28,7 @@ pub enum Command {
 }
 
 /// Why words give no command.
-#[derive(Clone, Copy, Debug, PartialEq, Eq)]
+#[derive(Clone, Copy, PartialEq, Eq)]
 pub enum WordsError {
     Usage,
     Memory,

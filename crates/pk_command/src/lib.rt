@@ -5,8 +5,6 @@ mod asked;
 mod definition;
 mod laws;
 mod reading;
-#[cfg(test)]
-mod tests;
 
 pub use asked::{Command, OrderOptions, RunOptions, WordsError};
 pub use laws::{one_command, order_is_taken, run_is_taken, taken_asks};

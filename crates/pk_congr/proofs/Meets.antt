@@ -222,6 +222,21 @@ meet_is_both = record {
   first = λ a b c. first_of a b (met a b) (meet_row a b) c;
 }
 
+pub meet_none : (a b : Class) → are_apart a b ≡ true → met a b ≡ None
+meet_none a b e = ap (λ w. if w then None else (if int_eq a.m (pos 0) then Some a else (if int_eq b.m (pos 0) then Some b else Some (met_of a b)))) e
+
+pub meet_first : (a b : Class) → are_apart a b ≡ false → a.m ≡ pos 0 → met a b ≡ Some a
+meet_first a b e f =
+    ap (λ w. if w then None else (if int_eq a.m (pos 0) then Some a else (if int_eq b.m (pos 0) then Some b else Some (met_of a b)))) e
+    ∙ ap (λ v. if int_eq v (pos 0) then Some a else (if int_eq b.m (pos 0) then Some b else Some (met_of a b))) f
+
+pub meet_second : (a b : Class) → are_apart a b ≡ false → (a.m ≡ pos 0 → ⊥) → b.m ≡ pos 0 → met a b ≡ Some b
+meet_second a b e f g =
+    let first = not_zero_test a.m f in
+    ap (λ w. if w then None else (if int_eq a.m (pos 0) then Some a else (if int_eq b.m (pos 0) then Some b else Some (met_of a b)))) e
+    ∙ ap (λ w. if w then Some a else (if int_eq b.m (pos 0) then Some b else Some (met_of a b))) first
+    ∙ ap (λ v. if int_eq v (pos 0) then Some b else Some (met_of a b)) g
+
 pub meet_both : (a b : Class) → are_apart a b ≡ false → (a.m ≡ pos 0 → ⊥) → (b.m ≡ pos 0 → ⊥) → met a b ≡ Some (met_of a b)
 meet_both a b e f g =
     let first = not_zero_test a.m f in

@@ -14,7 +14,7 @@ use Rattle.pk_congr.proofs.Numbers.{is_member, rest_member, two_members, tested_
 use Rattle.pk_congr.proofs.Meets.{same_constant}
 
 -- a multiple of m above 0 is not less than m
-not_less : (m d : ℤ) → pos 0 ≤ℤ m → Multiple m d → pos 0 <ℤ d → m ≤ℤ d
+pub not_less : (m d : ℤ) → pos 0 ≤ℤ m → Multiple m d → pos 0 <ℤ d → m ≤ℤ d
 not_less m (negsuc n) f h k = absurd (omega (arith, ints))
 not_less m (pos n) f h k =
     let some : 0 < n = omega (arith, ints) in

@@ -1,7 +1,8 @@
 -- Linear congruences.
 use Rattle.std.specs.Prelude.{◌≡◌, ℕ, zero, suc, ◌+◌, ◌-◌, ◌*◌, ◌/◌, ◌%◌, ◌<◌, ◌≤◌, ◌^◌, false, if◌then◌else◌, ℤ, pos, negsuc, ◌+ℤ◌, ◌-ℤ◌, ◌*ℤ◌, ◌≤ℤ◌, ◌<ℤ◌, unsigned_abs, Option, Some, None}
 use Rattle.std.specs.Option.{SomeIff}
-use Rattle.std.proofs.Common.{arith, ◌∙◌, ap, refl, sym, subst}
+use Rattle.std.specs.Int.{w128}
+use Rattle.std.proofs.Common.{arith, ◌∙◌, ap, refl, sym, subst, to_z, of_z}
 use Rattle.std.proofs.Math.Nat.{mul-div_cancel, mul-le-mul_left, div-le_self, mod-le, mod-eq_of_lt}
 use Rattle.std.proofs.Math.IntN.{*ℤ-zero}
 use Rattle.std.proofs.lemmas.Int.{ints}
@@ -9,7 +10,7 @@ use Rattle.std.proofs.lemmas.Nat.Gcd.{le_of_dvd}
 use Rattle.std.proofs.lemmas.Nat.{mod_below, div_below}
 use Rattle.pk_ctypes.specs.Types.{IsEqualModulo}
 use Rattle.pk_ctypes.proofs.Whole.{sum_times}
-use Rattle.pk_congr.specs.Classes.{Class, IsMember, gcd, int_gcd, int_lcm, are_apart, class_of, class_if, first_in, met_of, rest_modulo}
+use Rattle.pk_congr.specs.Classes.{Class, IsMember, IsReduced, gcd, int_gcd, int_lcm, are_apart, class_of, class_if, first_in, met_of, rest_modulo}
 use Rattle.pk_congr.proofs.Multiples.{Multiple, assoc, self_multiple, sum_multiple, negative_multiple, test_multiple, times_multiple, difference_times, dvd_from_multiple, mod_from_multiple}
 use Rattle.pk_congr.proofs.Gcd.{gcd_left, gcd_right, gcd_greatest, gcd_step, gcd_zero, gcd_some}
 use Rattle.pk_congr.proofs.Meets.{whole_part, common_found, common_apart, lcm_by_left, met_of_first}
@@ -204,3 +205,17 @@ there_is P v (Some w) l k e = let same : w ≡ l = cc in (k.0, sym same ∙ k.1)
 pub there_is_none : (P : Type 0) (v : ℕ) (o : Option ℕ) → SomeIff o P v → o ≡ None → P → ⊥
 there_is_none P v None k e = k
 there_is_none P v (Some w) k e = absurd (cc)
+
+-- ---- moduli and rests as natural numbers
+
+pub modulus_is : (m r m' : ℤ) (n : ℕ) → IsReduced m r → n ≡ unsigned_abs (to_z w128 (of_z w128 m)) → m ≡ m' → m' ≡ pos n
+modulus_is m r m' n h e f = sym f ∙ omega (arith, ints, h.from, h.modulus_held, e)
+
+pub rest_is : (m r m' r' : ℤ) (n : ℕ) → IsReduced m r → n ≡ unsigned_abs (to_z w128 (of_z w128 r)) → pos 0 <ℤ m' → m ≡ m' → r ≡ r' → r' ≡ pos n
+rest_is m r m' r' n h e l f g = sym g ∙ omega (arith, ints, h.rest, h.rest_held, e, l, f)
+
+pub some_is : (m : ℤ) (n : ℕ) → pos 0 <ℤ m → m ≡ pos n → 0 < n
+some_is m n l e = omega (arith, ints, l, e)
+
+pub rest_less : (m r m' : ℤ) (k n : ℕ) → IsReduced m r → m' ≡ pos k → m ≡ m' → r ≡ pos n → 0 < k → n < k
+rest_less m r m' k n h e f g l = omega (arith, ints, h.rest, e, f, g)

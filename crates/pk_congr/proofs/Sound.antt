@@ -112,7 +112,7 @@ divided_is y r z e = by (int_eq y (pos 0)) refl e
     by true f e = absurd (cc)
     by false f e = (e, tested_some y f)
 
-constant_is : (b : Class) (y : ℤ) → b.m ≡ pos 0 → IsMember b y → y ≡ b.r
+pub constant_is : (b : Class) (y : ℤ) → b.m ≡ pos 0 → IsMember b y → y ≡ b.r
 constant_is b y e h = let none : h.0 *ℤ b.m ≡ pos 0 = ap (λ v. h.0 *ℤ v) e ∙ omega (arith, ints) in omega (arith, ints, h.1)
 
 quotient_sound : (a b : Class) (x y z : ℤ) → IsMember a x → IsMember b y → divided y (Ok (int_div x y)) ≡ Ok z → IsMember (class_quotient a b) z
@@ -218,7 +218,7 @@ sound Ge t a b x y z i h k e = every_member z
 sound Eq t a b x y z i h k e = every_member z
 sound Ne t a b x y z i h k e = every_member z
 sound Neg t a b x y z i h k e = at (result_of Neg t a b) (neg_ℤ x) z e (negative_sound a x h)
-sound BitNot t a b x y z i h k e = at (result_of BitNot t a b) (complement t x) z e (complement_sound t a x i h)
+sound BitNot t a b x y z i h k e = at (result_of BitNot t a b) (complement t x) z e (complement_sound t a x (i refl) h)
 sound Not t a b x y z i h k e = every_member z
 
 pub wrapping_sound : WrappingIsSound

@@ -1,18 +1,20 @@
 -- Widening ends: each step that is not below divides the modulus.
-use Rattle.std.specs.Prelude.{◌≡◌, ◌⊎◌, ℕ, zero, suc, ◌*◌, ◌/◌, ◌<◌, ◌≤◌, ◌^◌, true, false, ℤ, pos, ◌-ℤ◌, ◌*ℤ◌, unsigned_abs, List, [], ◌∷◌, length}
-use Rattle.std.proofs.Common.{arith, ◌∙◌, ap, refl, sym, subst, inl, inr}
+use Rattle.std.specs.Prelude.{◌≡◌, ◌⊎◌, ℕ, zero, suc, ◌+◌, ◌*◌, ◌/◌, nat_le, Bool, ◌<◌, ◌≤◌, ◌^◌, true, false, ℤ, pos, ◌-ℤ◌, ◌*ℤ◌, unsigned_abs, List, [], ◌∷◌, length}
+use Rattle.std.proofs.Common.{arith, cond, ◌∙◌, ap, refl, sym, subst, inl, inr}
 use Rattle.std.proofs.Math.Nat.{pow-suc}
 use Rattle.std.proofs.Math.IntN.{*ℤ-zero}
+use Rattle.std.proofs.lemmas.Bool.Decides.{nat_tests}
 use Rattle.std.proofs.lemmas.Int.{ints}
+use Rattle.std.specs.Ordering.{int_eq}
 use Rattle.pk_ctypes.specs.declared.types.IntType.{IntType}
 use Rattle.pk_ctypes.specs.declared.types.IntType.TheVariants.{Char, SChar, UChar, Short, UShort, Int, UInt, Long, ULong, LLong, ULLong}
 use Rattle.pk_ctypes.specs.Types.{InType, size_of}
 use Rattle.pk_ctypes.proofs.Wrapped.{high_is}
 use Rattle.pk_congr.specs.Classes.{Class, IsMember, gcd, int_gcd, class_of, rest_modulo, is_within, widened}
-use Rattle.pk_congr.specs.Laws.{IsOf, IsChain, WideningEnds}
+use Rattle.pk_congr.specs.Laws.{IsOf, IsChain, WideningEnds, powers_within, divisions, DivisionsAreRanks}
 use Rattle.pk_congr.proofs.Multiples.{Multiple, multiple_trans}
 use Rattle.pk_congr.proofs.Gcd.{gcd_left, gcd_some, gcd_some_right}
-use Rattle.pk_congr.proofs.Numbers.{by_test, is_member, class_if_is, class_only, rest_member, rest_of_zero, class_reduced}
+use Rattle.pk_congr.proofs.Numbers.{by_test, tested_zero, is_member, class_if_is, class_only, rest_member, rest_of_zero, class_reduced}
 use Rattle.pk_congr.proofs.Order.{tests, within, within_test, join_is_least, gcd_le_left, gcd_le_right, gcd_below}
 use Rattle.pk_congr.proofs.Meets.{whole_part}
 
@@ -42,7 +44,7 @@ size_most ULong = omega arith
 size_most LLong = omega arith
 size_most ULLong = omega arith
 
-distance : (t : IntType) (a b : ℤ) → InType t a → InType t b → unsigned_abs (a -ℤ b) < 2 ^ 64
+pub distance : (t : IntType) (a b : ℤ) → InType t a → InType t b → unsigned_abs (a -ℤ b) < 2 ^ 64
 distance t a b h k =
     let last = high_is t in
     let most = size_most t in
@@ -163,3 +165,106 @@ ends t h (n ∷ ns) f c =
 
 pub widening_ends : WideningEnds
 widening_ends = record { above = above; rises = rises; ends = ends }
+
+-- ---- how many powers of 2 are within a modulus
+one_most : (t : Bool) → cond t 1 0 ≤ 1
+one_most true = omega arith
+one_most false = omega arith
+
+powers_most : (k m : ℕ) → powers_within k m ≤ k
+unfolding powers_within
+powers_most zero m = omega arith
+powers_most (suc k) m = omega (arith, one_most (nat_le (2 ^ suc k) m), powers_most k m)
+
+by_tests : (t u : Bool) → (t ≡ true → u ≡ true) → cond t 1 0 ≤ cond u 1 0
+by_tests true true h = omega arith
+by_tests true false h = let no = h refl in absurd (cc)
+by_tests false u h = omega arith
+
+is_within_test : (a b : ℕ) → a ≤ b → nat_le a b ≡ true
+is_within_test a b h = grind (arith, nat_tests)
+
+test_is_within : (a b : ℕ) → nat_le a b ≡ true → a ≤ b
+test_is_within a b h = grind (arith, nat_tests)
+
+powers_mono : (k a b : ℕ) → a ≤ b → powers_within k a ≤ powers_within k b
+unfolding powers_within
+powers_mono zero a b h = omega arith
+powers_mono (suc k) a b h =
+    omega (arith, powers_mono k a b h, by_tests (nat_le (2 ^ suc k) a) (nat_le (2 ^ suc k) b) (λ e. is_within_test (2 ^ suc k) b (omega (arith, test_is_within (2 ^ suc k) a e, h))))
+
+-- twice the number has a power more
+powers_more : (k a b : ℕ) → 0 < a → 2 * a ≤ b → powers_within k a + 1 ≤ powers_within (suc k) b
+unfolding powers_within
+powers_more zero a b some h = let first : nat_le (2 ^ 1) b ≡ true = is_within_test 2 b (omega arith) in rw first (omega arith)
+powers_more (suc k) a b some h =
+    let power = pow-suc 2 (suc k) in
+    let one = by_tests (nat_le (2 ^ suc k) a) (nat_le (2 ^ suc (suc k)) b) (λ e. is_within_test (2 ^ suc (suc k)) b (omega (arith, power, test_is_within (2 ^ suc k) a e, h))) in
+    omega (arith, one, powers_more k a b some h)
+
+powers_last : (k a : ℕ) → a < 2 ^ suc k → powers_within (suc k) a ≡ powers_within k a
+unfolding powers_within
+powers_last k a small = let none : nat_le (2 ^ suc k) a ≡ false = grind (arith, nat_tests) in rw none (omega arith)
+
+powers_fall : (k a b : ℕ) → 0 < a → 2 * a ≤ b → b ≤ 2 ^ suc k → powers_within (suc k) a < powers_within (suc k) b
+powers_fall k a b some h few =
+    let power = pow-suc 2 k in
+    omega (arith, powers_more k a b some h, powers_last k a (omega (arith, some)))
+
+divisions_few : (h : Class) → divisions h ≤ 65
+divisions_few h = by (int_eq h.m (pos 0))
+  where
+    by : (t : Bool) → cond t 65 (powers_within 64 (unsigned_abs h.m)) ≤ 65
+    by true = omega arith
+    by false = omega (arith, powers_most 64 (unsigned_abs h.m))
+
+divisions_of : (c : Class) (m : ℕ) → c.m ≡ pos m → 0 < m → divisions c ≡ powers_within 64 m
+divisions_of c m is some = by (int_eq c.m (pos 0)) refl
+  where
+    by : (t : Bool) → int_eq c.m (pos 0) ≡ t → cond t 65 (powers_within 64 (unsigned_abs c.m)) ≡ powers_within 64 m
+    by true e = let none : c.m ≡ pos 0 = tested_zero c.m e in absurd (omega (arith, ints, is, some, none))
+    by false e = rw is refl
+
+divisions_constant : (c : Class) → c.m ≡ pos 0 → divisions c ≡ 65
+divisions_constant c is = rw is refl
+
+module _ (t : IntType) (h n : Class) (f : IsOf t h) (g : IsOf t n) where
+  new_modulus : (widened h n).m ≡ pos (modulus_of h n)
+  new_modulus = widened_modulus t h n f g
+
+  stay_by : (k l : ℕ) → unsigned_abs h.m ≡ k → modulus_of h n ≡ l → divisions (widened h n) ≤ divisions h
+  stay_by zero l e e' =
+      let none : h.m ≡ pos 0 = omega (arith, ints) in
+      omega (arith, divisions_constant h none, divisions_few (widened h n))
+  stay_by (suc k) zero e e' =
+      let some = gcd_some (gcd (unsigned_abs h.m) (unsigned_abs n.m)) (unsigned_abs (h.r -ℤ n.r)) (gcd_some (unsigned_abs h.m) (unsigned_abs n.m) (omega arith)) in
+      absurd (omega arith)
+  stay_by (suc k) (suc l) e e' =
+      let some = gcd_some (unsigned_abs h.m) (unsigned_abs n.m) (omega arith) in
+      let first = gcd_le_left (unsigned_abs h.m) (unsigned_abs n.m) (omega arith) in
+      let second = gcd_le_left (gcd (unsigned_abs h.m) (unsigned_abs n.m)) (unsigned_abs (h.r -ℤ n.r)) some in
+      let from = f.reduced.from in
+      let held : h.m ≡ pos (suc k) = omega (arith, ints) in
+      let less : modulus_of h n ≤ suc k = omega arith in
+      omega (arith, divisions_of h (suc k) held (omega arith), divisions_of (widened h n) (modulus_of h n) new_modulus (omega arith), powers_mono 64 (modulus_of h n) (suc k) less)
+
+  fall_by : (k : ℕ) → unsigned_abs h.m ≡ k → is_within n h ≡ false → divisions (widened h n) < divisions h
+  fall_by zero e not_within =
+      let none : h.m ≡ pos 0 = omega (arith, ints) in
+      let some = modulus_some t h n f g not_within in
+      omega (arith, divisions_constant h none, divisions_of (widened h n) (modulus_of h n) new_modulus some, powers_most 64 (modulus_of h n))
+  fall_by (suc k) e not_within =
+      let some = modulus_some t h n f g not_within in
+      let half = modulus_halves t h n f g not_within (omega arith) in
+      let from = f.reduced.from in
+      let most = f.modulus in
+      let held : h.m ≡ pos (suc k) = omega (arith, ints) in
+      let few : suc k ≤ 2 ^ 64 = omega (arith, ints) in
+      omega (arith, divisions_of h (suc k) held (omega arith), divisions_of (widened h n) (modulus_of h n) new_modulus some, powers_fall 63 (modulus_of h n) (suc k) some (omega arith) few)
+
+pub divisions_are_ranks : DivisionsAreRanks
+divisions_are_ranks = record {
+  few = divisions_few;
+  stays = λ t h n f g. stay_by t h n f g (unsigned_abs h.m) (modulus_of h n) refl refl;
+  falls = λ t h n f g e. fall_by t h n f g (unsigned_abs h.m) refl e;
+}

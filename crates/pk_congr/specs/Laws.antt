@@ -1,8 +1,10 @@
 -- What the operations on classes mean for the numbers in them.
-use Rattle.std.specs.Prelude.{◌≡◌, ◌↔◌, ℕ, ◌≤◌, ◌<◌, ◌^◌, true, false, ℤ, pos, ◌+ℤ◌, ◌-ℤ◌, ◌≤ℤ◌, unsigned_abs, List, [], ◌∷◌, length, Option, Some, None, Ok}
+use Rattle.std.specs.Prelude.{◌≡◌, ◌↔◌, ℕ, zero, suc, ◌+◌, ◌≤◌, ◌<◌, ◌^◌, nat_le, if◌then◌else◌, true, false, ℤ, pos, ◌+ℤ◌, ◌-ℤ◌, ◌≤ℤ◌, unsigned_abs, List, [], ◌∷◌, length, Option, Some, None, Ok}
 use Rattle.std.specs.Int.{IsGcd}
+use Rattle.std.specs.Ordering.{int_eq}
 use Rattle.pk_ctypes.specs.declared.types.IntType.{IntType}
 use Rattle.pk_ctypes.specs.declared.types.Op.{Op}
+use Rattle.pk_ctypes.specs.declared.types.Op.TheVariants.{BitNot}
 use Rattle.pk_ctypes.specs.Types.{InType, wrapped}
 use Rattle.pk_ctypes.specs.Operators.{exact}
 use Rattle.pk_congr.specs.Classes.{Class, IsMember, IsReduced, gcd, int_lcm, has_member, is_within, joined, are_apart, met, widened, narrowed, next_up_of, next_down_of}
@@ -45,9 +47,9 @@ pub record MeetIsBoth : Type 0 where
 abbrev pub NarrowingKeeps : Type 0
 NarrowingKeeps = (h n : Class) (x : ℤ) → IsMember h x → IsMember n x → IsMember (narrowed h n) x
 
--- each exact result of an operator at members is a member of the result; the left operand is a number of the type
+-- each exact result of an operator at members is a member of the result; the operand of `~` is a number of the type
 abbrev pub OperatorsAreSound : Type 0
-OperatorsAreSound = (op : Op) (t : IntType) (a b : Class) (x y z : ℤ) → InType t x → IsMember a x → IsMember b y → exact op t x y ≡ Ok z → IsMember (result_of op t a b) z
+OperatorsAreSound = (op : Op) (t : IntType) (a b : Class) (x y z : ℤ) → (op ≡ BitNot → InType t x) → IsMember a x → IsMember b y → exact op t x y ≡ Ok z → IsMember (result_of op t a b) z
 
 -- the number that was added took z into the type; where there is none, nothing is known
 abbrev pub TookIn : IntType → ℤ → Option ℤ → Type 0
@@ -74,6 +76,21 @@ pub record WideningEnds : Type 0 where
   pub above : (h n : Class) → is_within h (widened h n) ≡ true
   pub rises : (h n : Class) → is_within n h ≡ false → is_within (widened h n) h ≡ false
   pub ends : (t : IntType) (h : Class) (ns : List Class) → IsOf t h → IsChain t h ns → length ns ≤ 65
+
+-- how many of 2, 4, 8, .. up to the k-th power are at most m
+unfoldable pub powers_within : ℕ → ℕ → ℕ
+powers_within zero m = 0
+powers_within (suc k) m = (if nat_le (2 ^ suc k) m then 1 else 0) + powers_within k m
+
+-- how often a class's modulus can still be divided; a constant's once more than any
+abbrev pub divisions : Class → ℕ
+divisions c = if int_eq c.m (pos 0) then 65 else powers_within 64 (unsigned_abs c.m)
+
+-- The divisions are a rank for widening: few, never more after a step, and fewer after one that isn't within.
+pub record DivisionsAreRanks : Type 0 where
+  pub few : (h : Class) → divisions h ≤ 65
+  pub stays : (t : IntType) (h n : Class) → IsOf t h → IsOf t n → divisions (widened h n) ≤ divisions h
+  pub falls : (t : IntType) (h n : Class) → IsOf t h → IsOf t n → is_within n h ≡ false → divisions (widened h n) < divisions h
 
 -- the least member at or above x
 pub record IsNextUp (c : Class) (x y : ℤ) : Type 0 where

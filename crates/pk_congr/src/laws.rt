@@ -1,7 +1,7 @@
 // What the operations mean for the numbers in a congruence, as laws over their definitions.
 
 ghost use Rattle.pk_congr.specs.Classes.{IsReduced};
-ghost use Rattle.pk_congr.specs.Laws.{EuclidIsRight, TestsAreRight, JoinIsLeast, MeetIsBoth, NarrowingKeeps, OperatorsAreSound, WrappingIsSound, WideningEnds, NextMembersAreRight};
+ghost use Rattle.pk_congr.specs.Laws.{EuclidIsRight, TestsAreRight, JoinIsLeast, MeetIsBoth, NarrowingKeeps, OperatorsAreSound, WrappingIsSound, WideningEnds, DivisionsAreRanks, NextMembersAreRight};
 
 use crate::congr::Congr;
 
@@ -55,4 +55,9 @@ pub fn widening_law()
 /// The next members are next.
 pub fn next_law()
     ensures { NextMembersAreRight }
+{}
+
+/// The number of divisions of its modulus never rises as a class is widened, and falls where the other isn't within.
+pub fn rank_law()
+    ensures { DivisionsAreRanks }
 {}

@@ -8,12 +8,10 @@ mod laws;
 mod meeting;
 mod members;
 mod operators;
-#[cfg(test)]
-mod tests;
 
 pub use congr::Congr;
 pub use laws::{
-    euclid_law, join_law, meet_law, narrowing_law, next_law, operators_law, reduced_law, tests_law,
-    widening_law, wrapping_law,
+    euclid_law, join_law, meet_law, narrowing_law, next_law, operators_law, rank_law, reduced_law,
+    tests_law, widening_law, wrapping_law,
 };
 pub use operators::{binary, unary, wrap};

@@ -1,7 +1,6 @@
 // What the operators give, before a result is clamped to its type or wrapped, and wrapping.
 
 ghost use Rattle.std.specs.Prelude.{◌≡◌, ◌^◌, pos, unsigned_abs, true};
-ghost use Rattle.pk_ctypes.specs.Types.{size_of};
 ghost use Rattle.pk_ctypes.specs.Operators.{is_count};
 ghost use Rattle.pk_congr.specs.Classes.{every};
 ghost use Rattle.pk_congr.specs.Operators.{class_if_some, product_of, class_of_products, class_of_both, class_sum, class_difference, class_product, is_divided, class_quotient, class_rest, class_doubled, class_negative, complement_total, class_complement, result_of, wrapped_class};
@@ -9,7 +8,7 @@ ghost use Rattle.pk_congr.specs.Operators.{class_if_some, product_of, class_of_p
 use crate::congr::{Congr, class};
 use crate::divisors::{gcd, is_divisor};
 use crate::members::held;
-use pk_ctypes::{IntType, Op, is_signed, range, width};
+use pk_ctypes::{IntType, Op, is_shift_count, is_signed, range, size};
 
 // The congruence of a modulus and any number of it, if there is such a number of 128 bits.
 fn class_or(m: u128, r: Option<i128>) -> Congr
@@ -106,13 +105,6 @@ fn rest(a: &Congr, b: &Congr) -> Congr
     class(gcd(moduli, b.r.unsigned_abs()), a.r)
 }
 
-// Whether a number is a count of bits that are fewer than the type has.
-fn counts(t: IntType, b: i128) -> bool
-    ensures { result ≡ is_count t b }
-{
-    0 <= b && b < i128::from(width(t))
-}
-
 // The congruence of a modulus and a rest, if they are there.
 fn doubled_class(m: Option<i128>, r: Option<i128>) -> Congr
     ensures { result ≡ class_of_both m r }
@@ -135,7 +127,7 @@ fn power(t: IntType, b: i128) -> i128
 fn doubled(t: IntType, a: &Congr, b: &Congr) -> Congr
     ensures { result ≡ class_doubled t a.now b.now }
 {
-    if b.m == 0 && counts(t, b.r) {
+    if b.m == 0 && is_shift_count(t, b.r) {
         let power = power(t, b.r);
         doubled_class(times(a.m, power), times(a.r, power))
     } else {
@@ -190,20 +182,12 @@ pub fn unary(op: Op, t: IntType, a: &Congr) -> Congr
     binary(op, t, a, &Congr::every())
 }
 
-// How many numbers a type has.
-fn size(t: IntType) -> u128
-    ensures { result ≡ size_of t }
-{
-    let (low, high) = range(t);
-    high.abs_diff(low) + 1
-}
-
 /// The congruence after each number was shifted into the type by adding `added`, or where that is None, by a multiple of the type's size of its own.
 pub fn wrap(t: IntType, a: &Congr, added: Option<i128>) -> Congr
     ensures { result ≡ wrapped_class t a.now added }
 {
     match added {
         Some(added) => class_or(a.m.unsigned_abs(), a.r.checked_add(added)),
-        None => class(gcd(a.m.unsigned_abs(), size(t)), a.r),
+        None => class(gcd(a.m.unsigned_abs(), size(t).unsigned_abs()), a.r),
     }
 }

@@ -1,5 +1,6 @@
 -- The first construct of a text is determined.
 use Rattle.std.proofs.Common.{◌≡◌, ◌⊎◌, inl, inr, List, [], ◌∷◌, ◌++◌, Some, true, refl, sym, ap, subst, ◌∙◌, append_assoc}
+use Rattle.std.proofs.lemmas.List.{append-nil}
 use Rattle.pk_ctypes.specs.declared.words.Construct.{Construct}
 use Rattle.pk_ctypes.specs.declared.places.Pos.{Pos}
 use Rattle.pk_lex.specs.declared.token.Token.{Token}
@@ -8,11 +9,7 @@ use Rattle.pk_constructs.specs.Tables.{before_next, kind_shows}
 use Rattle.pk_constructs.proofs.TableLemmas.{finds}
 
 supported_at : (front a : List Token) (t : Token) (b : List Token) → AreSupported front (a ++ t ∷ b) → (c : Construct) → ¬ IsUnsupported (front ++ a) t c
-supported_at front [] t b h c = subst (λ q. ¬ IsUnsupported q t c) (sym (append_nil front)) (h.0 c)
-  where
-    append_nil : (xs : List Token) → xs ++ [] ≡ xs
-    append_nil [] = refl
-    append_nil (x ∷ xs) = ap (λ q. x ∷ q) (append_nil xs)
+supported_at front [] t b h c = subst (λ q. ¬ IsUnsupported q t c) (sym (append-nil front)) (h.0 c)
 supported_at front (u ∷ a) t b h c = subst (λ q. ¬ IsUnsupported q t c) (append_assoc front (u ∷ []) a) (supported_at (front ++ u ∷ []) a t b h.1 c)
 
 -- two cuts of a list are at one place, or one is before the other

@@ -1,5 +1,6 @@
 -- Tokens that were looked through.
 use Rattle.std.proofs.Common.{◌≡◌, ℕ, ◌<◌, inl, inr, List, [], ◌∷◌, ◌++◌, Some, None, Bool, true, refl, sym, ap, subst, ◌∙◌, append_assoc}
+use Rattle.std.proofs.lemmas.List.{append-nil}
 use Rattle.pk_ctypes.specs.declared.words.Construct.{Construct}
 use Rattle.pk_lex.specs.declared.token.Token.{Token}
 use Rattle.pk_lex.specs.declared.token.Kind.{Kind}
@@ -35,11 +36,7 @@ last_of (u ∷ []) t = refl
 last_of (u ∷ v ∷ ts) t = last_of (v ∷ ts) t
 
 one_supported_more : (front ts : List Token) (t : Token) → AreSupported front ts → ((c : Construct) → ¬ IsUnsupported (front ++ ts) t c) → AreSupported front (ts ++ t ∷ [])
-one_supported_more front [] t g h = (subst (λ q. (c : Construct) → ¬ IsUnsupported q t c) (append_nil front) h, tt)
-  where
-    append_nil : (xs : List Token) → xs ++ [] ≡ xs
-    append_nil [] = refl
-    append_nil (x ∷ xs) = ap (λ q. x ∷ q) (append_nil xs)
+one_supported_more front [] t g h = (subst (λ q. (c : Construct) → ¬ IsUnsupported q t c) (append-nil front) h, tt)
 one_supported_more front (u ∷ ts) t g h =
     (g.0, one_supported_more (front ++ u ∷ []) ts t g.1 (subst (λ q. (c : Construct) → ¬ IsUnsupported q t c) (sym (append_assoc front (u ∷ []) ts)) h))
 
@@ -84,8 +81,4 @@ module _ (tokens rest : List Token) (b : Before) (braces : ℕ) (s : Scanned tok
   }
 
 pub scanned_all : (tokens : List Token) (b : Before) (braces : ℕ) → Scanned tokens [] b braces → IsSupported tokens
-scanned_all tokens b braces s = subst IsSupported (sym (append_nil s.front) ∙ sym s.cut) s.supported
-  where
-    append_nil : (xs : List Token) → xs ++ [] ≡ xs
-    append_nil [] = refl
-    append_nil (x ∷ xs) = ap (λ q. x ∷ q) (append_nil xs)
+scanned_all tokens b braces s = subst IsSupported (sym (append-nil s.front) ∙ sym s.cut) s.supported

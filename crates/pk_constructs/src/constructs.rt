@@ -8,7 +8,7 @@ use pk_ctypes::{Construct, Pos};
 use pk_lex::{Keyword, Kind, Punctuator, Token};
 
 /// What a token is to the `*`, `&`, `[` or `]` behind it.
-#[derive(Clone, Copy, Debug, PartialEq, Eq)]
+#[derive(Clone, Copy)]
 pub enum Before {
     /// An operand ends with it.
     Operand,

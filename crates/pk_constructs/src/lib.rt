@@ -3,8 +3,6 @@
 
 mod constructs;
 mod laws;
-#[cfg(test)]
-mod tests;
 
 pub use constructs::first_unsupported;
 pub use laws::first_is_determined;

@@ -1,18 +1,20 @@
 -- Shifts: what the code's 128 bits hold is the number itself, and a shift to the right stays in its type.
-use Rattle.std.specs.Prelude.{◌≡◌, ℕ, ◌*◌, ◌%◌, ◌^◌, ◌<◌, ◌≤◌, ◌-◌, Bool, true, false, ◌&&◌, ℤ, pos, negsuc, ◌*ℤ◌, ◌≤ℤ◌, ◌<ℤ◌, int_lt, unsigned_abs}
+use Rattle.std.specs.Prelude.{◌≡◌, ℕ, ◌*◌, ◌%◌, ◌^◌, ◌<◌, ◌≤◌, ◌-◌, Bool, true, false, ◌&&◌, ℤ, pos, negsuc, ◌*ℤ◌, ◌≤ℤ◌, ◌<ℤ◌, int_lt, unsigned_abs, FitsSigned, Ok}
 use Rattle.std.specs.Int.{w128, int_shr}
+use Rattle.std.specs.Int.Signed.{shr_z}
 use Rattle.std.proofs.Common.{arith, ◌∙◌, ap, refl, sym, to_z, of_z}
-use Rattle.std.proofs.lemmas.Int.{ints, to_z_pos}
+use Rattle.std.proofs.lemmas.Int.{ints, to_z_pos, to_z-of_z, fits_signed_from_abs}
 use Rattle.std.proofs.Math.Nat.{mul-le-mul, mod-eq_of_lt}
 use Rattle.std.proofs.Math.Pow.{pow_mono}
 use native.Mathlib.Nat.{div-le_self}
 use Rattle.pk_ctypes.specs.declared.types.IntType.{IntType}
 use Rattle.pk_ctypes.specs.declared.types.IntType.TheVariants.{Char, SChar, UChar, Short, UShort, Int, UInt, Long, ULong, LLong, ULLong}
-use Rattle.pk_ctypes.specs.declared.types.Op.TheVariants.{Shl}
+use Rattle.pk_ctypes.specs.declared.types.Op.TheVariants.{Shl, Shr}
 use Rattle.pk_ctypes.specs.declared.faults.Fault.TheVariants.{Shift}
 use Rattle.pk_ctypes.specs.Types.{width_of, is_signed_of, InType}
 use Rattle.pk_ctypes.specs.Laws.{IsCount}
 use Rattle.pk_ctypes.specs.Operators.{is_count, is_below_zero, fitted, value_of}
+use Rattle.pk_ctypes.proofs.Values.{fitted_inside}
 use Rattle.pk_ctypes.proofs.Wrapped.{sized, zero_in}
 
 pub width_most : (t : IntType) → width_of t ≤ 64
@@ -96,3 +98,13 @@ right_in t (negsuc a) n h =
     let zero = zero_in t in
     let small = div-le_self a (2 ^ n) in
     record { from = omega (arith, ints, h.from); to = omega (arith, ints, zero.1) }
+
+-- what the code's 128 bits hold after a shift to the right
+pub right_back : (t : IntType) (a b : ℤ) → FitsSigned w128 a → InType t a → is_count t b ≡ true → Ok (to_z w128 (of_z w128 (shr_z (to_z w128 (of_z w128 a)) (2 ^ of_z w128 b)))) ≡ value_of Shr t a b
+right_back t a (pos n) f h k =
+    let inside = right_in t a n h in
+    let size = sized t (int_shr a n) inside in
+    let fits = fits_signed_from_abs w128 (int_shr a n) (omega (arith, ints, size.0, size.1)) in
+    ap Ok (ap (λ x. to_z w128 (of_z w128 (shr_z x (2 ^ n)))) (to_z-of_z w128 a f) ∙ to_z-of_z w128 (int_shr a n) fits)
+    ∙ sym (rw k (fitted_inside Shift t (int_shr a n) inside))
+right_back t a (negsuc n) f h k = let count = count_is t (negsuc n) k in absurd (omega (arith, ints, count.from))

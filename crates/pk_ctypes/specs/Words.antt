@@ -6,7 +6,9 @@ use Rattle.pk_ctypes.specs.declared.faults.Fault.TheVariants.{Index, DivZero, Ov
 use Rattle.pk_ctypes.specs.declared.words.Construct.{Construct}
 use Rattle.pk_ctypes.specs.declared.words.Construct.TheVariants as construct
 use Rattle.pk_ctypes.specs.declared.words.Quantity.{Quantity}
-use Rattle.pk_ctypes.specs.declared.words.Quantity.TheVariants.{Text}
+use Rattle.pk_ctypes.specs.declared.words.Quantity.TheVariants.{Text, Nesting, Paths, Variables, Points}
+use Rattle.pk_ctypes.specs.declared.words.Rule.{Rule}
+use Rattle.pk_ctypes.specs.declared.words.Rule.TheVariants as rule
 
 abbrev pub fault_text : Fault → List ℕ
 fault_text Index = codes "index"
@@ -50,8 +52,30 @@ construct_text construct.Arrays = codes "arrays"
 construct_text construct.Designator = codes "designator"
 construct_text construct.Later = codes "later"
 
+abbrev pub rule_text : Rule → List ℕ
+rule_text rule.Specifiers = codes "specifiers"
+rule_text rule.Redeclared = codes "redeclared"
+rule_text rule.Extern = codes "extern"
+rule_text rule.Undeclared = codes "undeclared"
+rule_text rule.Void = codes "void"
+rule_text rule.Array = codes "array"
+rule_text rule.Constant = codes "constant"
+rule_text rule.Initialiser = codes "initialiser"
+rule_text rule.Place = codes "place"
+rule_text rule.Const = codes "const"
+rule_text rule.Arguments = codes "arguments"
+rule_text rule.Special = codes "special"
+rule_text rule.Return = codes "return"
+rule_text rule.Label = codes "label"
+rule_text rule.Jump = codes "jump"
+rule_text rule.Unsequenced = codes "unsequenced"
+
 abbrev pub quantity_text : Quantity → List ℕ
 quantity_text Text = codes "text"
+quantity_text Nesting = codes "nesting"
+quantity_text Paths = codes "paths"
+quantity_text Variables = codes "variables"
+quantity_text Points = codes "points"
 
 -- names with a blank between each two
 abbrev pub names_text : List (List ℕ) → List ℕ

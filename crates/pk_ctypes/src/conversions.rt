@@ -55,8 +55,8 @@ pub fn fits(t: IntType, value: i128) -> bool
     low <= value && value <= high
 }
 
-// How many numbers a type has.
-fn size(t: IntType) -> i128
+/// How many numbers a type has.
+pub fn size(t: IntType) -> i128
     ensures { result ≡ pos (size_of t) }
 {
     let (low, high) = range(t);

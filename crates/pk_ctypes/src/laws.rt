@@ -3,6 +3,7 @@
 ghost use Rattle.pk_ctypes.specs.Types.{IsTheConversion, wrapped};
 ghost use Rattle.pk_ctypes.specs.Conversions.{ArePromotions, AreUsualConversions, promoted, usual_of};
 ghost use Rattle.pk_ctypes.specs.Laws.{ValuesLieInTheirType, DividesTowardZero, ComparisonsAreTruths, FaultsAreTheTable, BitsAreMade};
+ghost use Rattle.pk_ctypes.specs.Places.{OrdersPlaces, Before};
 
 /// The conversion of a number is in the type and equal to the number modulo the type's size, and no other number is both (C99 6.3.1.3).
 pub fn conversion_law()
@@ -42,4 +43,9 @@ pub fn fault_law()
 /// The bits of a bitwise result are made of the bits of its operands.
 pub fn bits_law()
     ensures { BitsAreMade }
+{}
+
+/// Of two places that differ one is before the other, and never both.
+pub fn place_law()
+    ensures { OrdersPlaces Before }
 {}

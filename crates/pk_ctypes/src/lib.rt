@@ -7,19 +7,17 @@ mod laws;
 mod names;
 mod operators;
 mod places;
-#[cfg(test)]
-mod tests;
 mod types;
 mod words;
 
-pub use conversions::{convert, fits, is_signed, promote, range, usual, width};
+pub use conversions::{convert, fits, is_signed, promote, range, size, usual, width};
 pub use faults::Fault;
 pub use laws::{
-    bits_law, comparison_law, conversion_law, division_law, fault_law, promotion_law, usual_law,
-    value_law,
+    bits_law, comparison_law, conversion_law, division_law, fault_law, place_law, promotion_law,
+    usual_law, value_law,
 };
 pub use names::{Name, Names};
-pub use operators::apply;
+pub use operators::{apply, is_shift_count, result_type};
 pub use places::Pos;
 pub use types::{IntType, Op};
-pub use words::{Construct, Quantity};
+pub use words::{Construct, Quantity, Rule};

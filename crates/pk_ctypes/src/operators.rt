@@ -2,7 +2,7 @@
 
 ghost use Rattle.std.specs.Prelude.{◌≡◌, ℤ, ◌+ℤ◌, ◌-ℤ◌, ◌*ℤ◌, neg_ℤ, bit_and, bit_or, bit_xor};
 ghost use Rattle.pk_ctypes.specs.Types.{InType};
-ghost use Rattle.pk_ctypes.specs.Operators.{HasRight, is_count, is_below_zero, bitwise, complement, truth, fitted, value_of};
+ghost use Rattle.pk_ctypes.specs.Operators.{HasRight, is_count, is_below_zero, bitwise, complement, truth, fitted, value_of, result_type};
 
 use crate::conversions::{convert, fits, is_signed, width};
 use crate::faults::Fault;
@@ -76,8 +76,8 @@ fn rest(t: IntType, a: i128, b: i128) -> Result<i128, Fault>
     }
 }
 
-// Whether a number is a count of bits that are fewer than the type has.
-fn counts(t: IntType, b: i128) -> bool
+/// Whether a number is a count of bits that are fewer than the type has, as a shift asks (C99 6.5.7).
+pub fn is_shift_count(t: IntType, b: i128) -> bool
     ensures { result ≡ is_count t b }
 {
     0 <= b && b < i128::from(width(t))
@@ -94,7 +94,7 @@ fn shifted_left(t: IntType, a: i128, b: i128) -> Result<i128, Fault>
     requires { InType t a }
     ensures { result ≡ value_of Op.Shl t a b }
 {
-    if !counts(t, b) {
+    if !is_shift_count(t, b) {
         Err(Fault::Shift)
     } else if below_zero(t, a) {
         Err(Fault::Shift)
@@ -107,7 +107,7 @@ fn shifted_right(t: IntType, a: i128, b: i128) -> Result<i128, Fault>
     requires { InType t a }
     ensures { result ≡ value_of Op.Shr t a b }
 {
-    if counts(t, b) {
+    if is_shift_count(t, b) {
         Ok(a >> b)
     } else {
         Err(Fault::Shift)
@@ -150,6 +150,16 @@ fn compared(t: IntType, holds: bool) -> Result<i128, Fault>
     ensures { result ≡ fitted Fault.Overflow t (truth holds) }
 {
     Ok(i128::from(holds))
+}
+
+/// The type of what an operator gives at operands of a type: a comparison and `!` give an int (C99 6.5.3.3, 6.5.8, 6.5.9).
+pub fn result_type(op: Op, t: IntType) -> IntType
+    ensures { result ≡ result_type op t }
+{
+    match op {
+        Op::Lt | Op::Gt | Op::Le | Op::Ge | Op::Eq | Op::Ne | Op::Not => IntType::Int,
+        _ => t,
+    }
 }
 
 /// What an operator gives at operands of a type, or the fault at which the run stops (C99 6.5). A comparison and `!` give an int, the others a number of

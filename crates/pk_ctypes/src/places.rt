@@ -1,5 +1,8 @@
 // Places in a text.
 
+ghost use Rattle.std.specs.Prelude.{◌↔◌, IsTrue};
+ghost use Rattle.pk_ctypes.specs.Places.{Before};
+
 use std::fmt;
 
 /// A place in a text: line and column, counted in bytes from 1.
@@ -7,6 +10,15 @@ use std::fmt;
 pub struct Pos {
     pub line: u64,
     pub column: u64,
+}
+
+impl Pos {
+    /// Whether a place stands before another: on an earlier line, or on the same line at an earlier column.
+    pub fn is_before(self, other: Pos) -> bool
+        ensures { IsTrue result ↔ Before self other }
+    {
+        self.line < other.line || self.line == other.line && self.column < other.column
+    }
 }
 
 impl fmt::Display for Pos {

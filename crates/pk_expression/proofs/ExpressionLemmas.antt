@@ -5,23 +5,24 @@ use Rattle.pk_lex.specs.declared.token.Token.{Token}
 use Rattle.pk_ast.specs.declared.declarations.Specifier.{Specifier}
 use Rattle.pk_ast.specs.declared.expressions.Identifier.{Identifier}
 use Rattle.pk_ast.specs.declared.expressions.Expression.{Expression}
-use Rattle.pk_ast.specs.declared.expressions.BinaryOperator.{BinaryOperator}
-use Rattle.pk_ast.specs.declared.expressions.UnaryOperator.{UnaryOperator}
-use Rattle.pk_ast.specs.declared.expressions.StepOperator.{StepOperator}
-use Rattle.pk_ast.specs.declared.expressions.AssignmentOperator.{AssignmentOperator}
-use Rattle.pk_ast.specs.Trees.{ExpressionTree, prefix, unary, cast, binary, conditional, assignment, comma, expression_then}
+use Rattle.pk_ast.specs.declared.operators.BinaryOperator.{BinaryOperator}
+use Rattle.pk_ast.specs.declared.operators.UnaryOperator.{UnaryOperator}
+use Rattle.pk_ast.specs.declared.operators.StepOperator.{StepOperator}
+use Rattle.pk_ast.specs.declared.operators.AssignmentOperator.{AssignmentOperator}
+use Rattle.pk_ast.specs.Trees.{ExpressionTree, prefix, unary, cast, binary, conditional, assignment, comma, expression_then, OneOrMore}
 use Rattle.pk_ast.specs.Views.{expression_tree, expression_trees}
+use Rattle.pk_ast.specs.Lists.{one}
 use Rattle.pk_grammar.specs.declared.failure.ParseError.{ParseError}
 use Rattle.pk_grammar.specs.declared.failure.ParseError.TheVariants.{Syntax, Nesting}
 use Rattle.pk_grammar.specs.declared.signs.Fixed.TheVariants as fixed
 use Rattle.pk_grammar.specs.declared.signs.OperandStart.TheVariants as start
 use Rattle.pk_grammar.specs.declared.signs.Operator.TheVariants as operator
 use Rattle.pk_grammar.specs.Grammar.{strength, operators_in, commas_in}
-use Rattle.pk_grammar.specs.Signs.{is_fixed, operand_start, specifier_word}
-use Rattle.pk_grammar.specs.States.{Context, in_index, in_prefix, in_unary, in_cast, in_binary, in_choice, in_alternative, in_assignment, in_comma, operand, named, cast_specifiers, complete}
-use Rattle.pk_grammar.specs.Steps.{operand_level, is_unary, one_more}
-use Rattle.pk_grammar.specs.Running.{first_of_all, run}
-use Rattle.pk_expression.specs.Parsing.{Begins, BeginsWith, words, past_words, EndsAt, CastsIf, Anywhere, UpTo, Reads, Refuses}
+use Rattle.pk_grammar.specs.Machine.Signs.{is_fixed, operand_start, specifier_word}
+use Rattle.pk_grammar.specs.Machine.States.{Context, in_index, in_prefix, in_unary, in_cast, in_binary, in_choice, in_alternative, in_assignment, in_comma, operand, named, cast_specifiers, complete}
+use Rattle.pk_grammar.specs.Machine.Steps.{operand_level, is_unary, one_more}
+use Rattle.pk_grammar.specs.Machine.Running.{first_of_all, run}
+use Rattle.pk_expression.specs.Parsing.{Begins, BeginsWith, words, past_words, EndsAt, CastsIf, Anywhere, UpTo, Reads, Refuses, specifiers_from}
 use Rattle.pk_grammar.proofs.CompleteSigns.{strength_most}
 use Rattle.pk_expression.proofs.RunLemmas.{fails_as, fails_syntax, fails_nesting}
 use Rattle.pk_expression.proofs.RunOperators.{run_binary, deep_binary, run_question, run_assignment}
@@ -174,24 +175,24 @@ module _ (end : Token) (n : ℕ) (ts : List Token) where
       ∙ ap (λ m. run end (complete n m k) last) (sym w)
 
 -- A cast, of which the first word was read
-module _ (end : Token) (n : ℕ) (at : Pos) (first : Specifier) (ts : List Token) (specs : List Specifier) (rest : List Token) (all : specs ≡ first ∷ words ts) (past : rest ≡ past_words ts) where
-  words_read : (k : Context) → n + 1 ≤ 128 → run end (cast_specifiers n at (first ∷ []) k) ts ≡ run end (cast_specifiers n at specs k) rest
+module _ (end : Token) (n : ℕ) (at : Pos) (first : Specifier) (ts : List Token) (specs : OneOrMore Specifier) (rest : List Token) (all : specs ≡ specifiers_from first ts) (past : rest ≡ past_words ts) where
+  words_read : (k : Context) → n + 1 ≤ 128 → run end (cast_specifiers n at (one first) k) ts ≡ run end (cast_specifiers n at specs k) rest
   words_read k h =
-      run_cast_words end n at k h ts (first ∷ [])
+      run_cast_words end n at k h ts (one first)
       ∙ ap (λ q. run end (cast_specifiers n at q k) (past_words ts)) (sym all)
       ∙ ap (λ q. run end (cast_specifiers n at specs k) q) (sym past)
 
   pub closes_cast : (t : Token) (after : List Token) → Begins fixed.CloseParenthesis rest t after → n + 1 ≤ 128 → (k : Context) →
-      run end (cast_specifiers n at (first ∷ []) k) ts ≡ run end (operand (n + 1) (in_cast n at specs k)) after
+      run end (cast_specifiers n at (one first) k) ts ≡ run end (operand (n + 1) (in_cast n at specs k)) after
   closes_cast t after b h k = words_read k h ∙ run_cast_close end n at specs k rest t after b h
 
   pub unclosed_cast : (x : ParseError) → is_fixed fixed.CloseParenthesis (first_of_all end rest).kind ≡ false → x ≡ Syntax (first_of_all end rest).at → n + 1 ≤ 128 →
-      Refuses end Anywhere (λ c. cast_specifiers n at (first ∷ []) c) ts x
+      Refuses end Anywhere (λ c. cast_specifiers n at (one first) c) ts x
   unclosed_cast x f e h = λ k p.
       let none : specifier_word (first_of_all end rest).kind ≡ _ = ap (λ q. specifier_word (first_of_all end q).kind) past ∙ no_word_past end ts in
       fails_syntax _ x _ e (words_read k h ∙ no_cast_close end n at specs k rest none f)
 
   pub reads_cast : (t : Token) (after last : List Token) (e whole : ExpressionTree) → Begins fixed.CloseParenthesis rest t after → n + 1 ≤ 128 →
-      Reads end (CastsIf true) (λ c. operand (n + 1) c) (n + 1) after e last → EndsAt end 14 last → whole ≡ cast at specs e → Reads end Anywhere (λ c. cast_specifiers n at (first ∷ []) c) n ts whole last
+      Reads end (CastsIf true) (λ c. operand (n + 1) c) (n + 1) after e last → EndsAt end 14 last → whole ≡ cast at specs e → Reads end Anywhere (λ c. cast_specifiers n at (one first) c) n ts whole last
   reads_cast t after last e whole b h q ends w = λ k p.
       closes_cast t after b h k ∙ q (in_cast n at specs k) refl ∙ run_cast_end end n (n + 1) at e k last specs ends ∙ ap (λ m. run end (complete n m k) last) (sym w)

@@ -6,19 +6,19 @@ use Rattle.pk_ctypes.specs.declared.places.Pos.{Pos}
 use Rattle.pk_lex.specs.declared.token.Token.{Token}
 use Rattle.pk_ast.specs.declared.declarations.Specifier.{Specifier}
 use Rattle.pk_ast.specs.declared.expressions.Identifier.{Identifier}
-use Rattle.pk_ast.specs.declared.expressions.BinaryOperator.{BinaryOperator}
-use Rattle.pk_ast.specs.declared.expressions.UnaryOperator.{UnaryOperator}
-use Rattle.pk_ast.specs.declared.expressions.StepOperator.{StepOperator}
-use Rattle.pk_ast.specs.declared.expressions.AssignmentOperator.{AssignmentOperator}
-use Rattle.pk_ast.specs.Trees.{ExpressionTree, prefix, unary, cast, binary, conditional, assignment, comma, ExpressionTrees}
+use Rattle.pk_ast.specs.declared.operators.BinaryOperator.{BinaryOperator}
+use Rattle.pk_ast.specs.declared.operators.UnaryOperator.{UnaryOperator}
+use Rattle.pk_ast.specs.declared.operators.StepOperator.{StepOperator}
+use Rattle.pk_ast.specs.declared.operators.AssignmentOperator.{AssignmentOperator}
+use Rattle.pk_ast.specs.Trees.{ExpressionTree, prefix, unary, cast, binary, conditional, assignment, comma, ExpressionTrees, OneOrMore}
 use Rattle.pk_grammar.specs.declared.signs.Fixed.TheVariants as fixed
 use Rattle.pk_grammar.specs.declared.signs.Operator.{Operator}
 use Rattle.pk_grammar.specs.declared.signs.Operator.TheVariants as operator
 use Rattle.pk_grammar.specs.Grammar.{strength}
-use Rattle.pk_grammar.specs.Signs.{is_fixed, operator_of}
-use Rattle.pk_grammar.specs.States.{Context, in_parentheses, in_index, in_call, in_prefix, in_unary, in_cast, in_binary, in_choice, in_alternative, in_assignment, in_comma, complete}
-use Rattle.pk_grammar.specs.Steps.{Verdict, refused, reduced, operand_level, go_on, join_assignment, is_unary, step}
-use Rattle.pk_grammar.specs.Running.{syntax, first_of_all, run}
+use Rattle.pk_grammar.specs.Machine.Signs.{is_fixed, operator_of}
+use Rattle.pk_grammar.specs.Machine.States.{Context, in_parentheses, in_index, in_call, in_prefix, in_unary, in_cast, in_binary, in_choice, in_alternative, in_assignment, in_comma, complete}
+use Rattle.pk_grammar.specs.Machine.Steps.{Verdict, refused, reduced, operand_level, go_on, join_assignment, is_unary, step}
+use Rattle.pk_grammar.specs.Machine.Running.{syntax, first_of_all, run}
 use Rattle.pk_expression.specs.Parsing.{follows, EndsAt}
 use Rattle.pk_grammar.proofs.CompleteSigns.{takes, strength_least, strength_most}
 use Rattle.pk_grammar.proofs.CompleteReduced.{complete_same, reduced_prefix, reduced_unary, reduced_cast, reduced_binary, reduced_alternative, reduced_assignment, reduced_comma}
@@ -84,7 +84,7 @@ module _ (end : Token) (n m : ℕ) (at : Pos) (e : ExpressionTree) (c : Context)
       let g = takes_most _ h in
       run_alike end _ _ rest (complete_same m n e (unary o at e) (in_unary n o at c) c (first_of_all end rest) (omega arith) (reduced_unary _ m n at e c o))
 
-  pub run_cast_end : (specs : List Specifier) → EndsAt end 14 rest → run end (complete m e (in_cast n at specs c)) rest ≡ run end (complete n (cast at specs e) c) rest
+  pub run_cast_end : (specs : OneOrMore Specifier) → EndsAt end 14 rest → run end (complete m e (in_cast n at specs c)) rest ≡ run end (complete n (cast at specs e) c) rest
   run_cast_end specs h =
       let g = takes_most _ h in
       run_alike end _ _ rest (complete_same m n e (cast at specs e) (in_cast n at specs c) c (first_of_all end rest) (omega arith) (reduced_cast _ m n at e c specs g))

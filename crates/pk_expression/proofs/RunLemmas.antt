@@ -5,9 +5,9 @@ use Rattle.std.proofs.lemmas.Result.{err_from_is_err_and}
 use Rattle.pk_lex.specs.declared.token.Token.{Token}
 use Rattle.pk_grammar.specs.declared.failure.ParseError.{ParseError}
 use Rattle.pk_grammar.specs.declared.failure.ParseError.TheVariants.{Syntax, Nesting, Memory}
-use Rattle.pk_grammar.specs.States.{State}
-use Rattle.pk_grammar.specs.Steps.{taken, refused, step}
-use Rattle.pk_grammar.specs.Running.{Answer, syntax, deep, end_of, first_of_all, run_on, run, Fails}
+use Rattle.pk_grammar.specs.Machine.States.{State}
+use Rattle.pk_grammar.specs.Machine.Steps.{taken, refused, step}
+use Rattle.pk_grammar.specs.Machine.Running.{Answer, syntax, deep, end_of, first_of_all, run_on, run, Fails}
 
 pub run_takes : (end : Token) (s : State) (ts : List Token) (t : Token) (rest : List Token) (n : ℕ) (r : State) → ts ≡ t ∷ rest → step s t ≡ taken n r → n ≤ 128 → run end s ts ≡ run end r rest
 unfolding run

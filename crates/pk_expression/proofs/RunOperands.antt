@@ -6,18 +6,19 @@ use Rattle.pk_lex.specs.declared.token.Token.{Token}
 use Rattle.pk_ast.specs.declared.declarations.Specifier.{Specifier}
 use Rattle.pk_ast.specs.declared.declarations.SpecifierWord.{SpecifierWord}
 use Rattle.pk_ast.specs.declared.expressions.Identifier.{Identifier}
-use Rattle.pk_ast.specs.declared.expressions.UnaryOperator.{UnaryOperator}
-use Rattle.pk_ast.specs.declared.expressions.StepOperator.{StepOperator}
-use Rattle.pk_ast.specs.Trees.{ExpressionTree, name, call, index, constant, character, parenthesized, ExpressionTrees, no_expressions}
+use Rattle.pk_ast.specs.declared.operators.UnaryOperator.{UnaryOperator}
+use Rattle.pk_ast.specs.declared.operators.StepOperator.{StepOperator}
+use Rattle.pk_ast.specs.Trees.{ExpressionTree, name, call, index, constant, character, parenthesized, ExpressionTrees, no_expressions, OneOrMore}
+use Rattle.pk_ast.specs.Lists.{one, with_last}
 use Rattle.pk_grammar.specs.declared.signs.Fixed.TheVariants as fixed
 use Rattle.pk_grammar.specs.declared.signs.OperandStart.{OperandStart}
 use Rattle.pk_grammar.specs.declared.signs.OperandStart.TheVariants as start
 use Rattle.pk_grammar.specs.Languages.{identifier_of}
 use Rattle.pk_grammar.specs.Grammar.{commas_in}
-use Rattle.pk_grammar.specs.Signs.{is_fixed, operand_start, specifier_word}
-use Rattle.pk_grammar.specs.States.{Context, in_parentheses, in_index, in_call, in_prefix, in_unary, in_cast, in_choice, in_alternative, in_comma, operand, named, arguments, opened, cast_specifiers, complete}
-use Rattle.pk_grammar.specs.Steps.{begin_operand, operand_level, open_cast, more_cast, specifier_at, one_more, step}
-use Rattle.pk_grammar.specs.Running.{syntax, deep, first_of_all, run}
+use Rattle.pk_grammar.specs.Machine.Signs.{is_fixed, operand_start, specifier_word}
+use Rattle.pk_grammar.specs.Machine.States.{Context, in_parentheses, in_index, in_call, in_prefix, in_unary, in_cast, in_choice, in_alternative, in_comma, operand, named, arguments, opened, cast_specifiers, complete}
+use Rattle.pk_grammar.specs.Machine.Steps.{begin_operand, operand_level, open_cast, more_cast, specifier_at, one_more, step}
+use Rattle.pk_grammar.specs.Machine.Running.{syntax, deep, first_of_all, run}
 use Rattle.pk_expression.specs.Parsing.{Begins, BeginsWithWord, words, words_then, past_words, past_word}
 use Rattle.pk_grammar.proofs.CompleteOperands.{same_false, step_call, step_index, step_no_arguments, step_more_cast, step_cast_end, step_colon, step_comma, step_parenthesized, step_indexed, step_called, step_argument}
 use Rattle.pk_grammar.proofs.SpellsSigns.{is_this}
@@ -123,10 +124,10 @@ module _ (end : Token) (n : ℕ) (at : Pos) (c : Context) (ts : List Token) wher
   run_inner e = let t = first_of_all end ts in run_alike end _ _ ts (ap (λ w. open_cast n at c t w) e)
 
   pub run_cast : (s : Specifier) (rest : List Token) → BeginsWithWord ts s rest → nat_le (operand_level c) 13 ≡ true → n + 1 ≤ 128 →
-      run end (opened n at c) ts ≡ run end (cast_specifiers n at (s ∷ []) c) rest
+      run end (opened n at c) ts ≡ run end (cast_specifiers n at (one s) c) rest
   run_cast s rest b l h =
       run_takes end _ ts b.token rest _ _ b.cut (ap (λ w. open_cast n at c b.token w) b.is ∙ rw l) h
-      ∙ ap (λ q. run end (cast_specifiers n at (q ∷ []) c) rest) (sym b.specifier)
+      ∙ ap (λ q. run end (cast_specifiers n at (one q) c) rest) (sym b.specifier)
 
   pub no_cast : (s : Specifier) (rest : List Token) → BeginsWithWord ts s rest → nat_le (operand_level c) 13 ≡ false → run end (opened n at c) ts ≡ syntax s.at
   no_cast s rest b l =
@@ -134,19 +135,23 @@ module _ (end : Token) (n : ℕ) (at : Pos) (c : Context) (ts : List Token) wher
       run_refused end _ ts (ap (λ t. step (opened n at c) t) f ∙ ap (λ w. open_cast n at c b.token w) b.is ∙ rw l)
       ∙ ap (λ t. syntax t.at) f ∙ ap (λ (q : Specifier). syntax q.at) (sym b.specifier)
 
-pub run_cast_words : (end : Token) (n : ℕ) (at : Pos) (c : Context) → n + 1 ≤ 128 → (ts : List Token) (specs : List Specifier) →
-    run end (cast_specifiers n at specs c) ts ≡ run end (cast_specifiers n at (specs ++ words ts) c) (past_words ts)
+-- these words behind the others
+abbrev pub and_words : OneOrMore Specifier → List Specifier → OneOrMore Specifier
+and_words specs more = record { first = specs.first; more = specs.more ++ more }
+
+pub run_cast_words : (end : Token) (n : ℕ) (at : Pos) (c : Context) → n + 1 ≤ 128 → (ts : List Token) (specs : OneOrMore Specifier) →
+    run end (cast_specifiers n at specs c) ts ≡ run end (cast_specifiers n at (and_words specs (words ts)) c) (past_words ts)
 unfolding words past_words
-run_cast_words end n at c h [] specs = ap (λ q. run end (cast_specifiers n at q c) []) (sym (append-nil specs))
+run_cast_words end n at c h [] specs = ap (λ q. run end (cast_specifiers n at (record { first = specs.first; more = q }) c) []) (sym (append-nil specs.more))
 run_cast_words end n at c h (t ∷ ts) specs = by_word (λ q. run_cast_words end n at c h ts q) (specifier_word t.kind) refl
   where
-    by_word : ((q : List Specifier) → run end (cast_specifiers n at q c) ts ≡ run end (cast_specifiers n at (q ++ words ts) c) (past_words ts)) → (w : Option SpecifierWord) → specifier_word t.kind ≡ w →
-        run end (cast_specifiers n at specs c) (t ∷ ts) ≡ run end (cast_specifiers n at (specs ++ words_then t w (words ts)) c) (past_word (t ∷ ts) w (past_words ts))
-    by_word on None e = ap (λ q. run end (cast_specifiers n at q c) (t ∷ ts)) (sym (append-nil specs))
+    by_word : ((q : OneOrMore Specifier) → run end (cast_specifiers n at q c) ts ≡ run end (cast_specifiers n at (and_words q (words ts)) c) (past_words ts)) → (w : Option SpecifierWord) → specifier_word t.kind ≡ w →
+        run end (cast_specifiers n at specs c) (t ∷ ts) ≡ run end (cast_specifiers n at (and_words specs (words_then t w (words ts))) c) (past_word (t ∷ ts) w (past_words ts))
+    by_word on None e = ap (λ q. run end (cast_specifiers n at (record { first = specs.first; more = q }) c) (t ∷ ts)) (sym (append-nil specs.more))
     by_word on (Some w) e =
         run_takes end _ (t ∷ ts) t ts _ _ refl (step_more_cast n at specs c t w e) h
-        ∙ on (specs ++ specifier_at t w ∷ [])
-        ∙ ap (λ q. run end (cast_specifiers n at q c) (past_words ts)) (append_assoc specs (specifier_at t w ∷ []) (words ts))
+        ∙ on (with_last specs (specifier_at t w))
+        ∙ ap (λ q. run end (cast_specifiers n at (record { first = specs.first; more = q }) c) (past_words ts)) (append_assoc specs.more (specifier_at t w ∷ []) (words ts))
 
 pub no_word_past : (end : Token) (ts : List Token) → specifier_word (first_of_all end (past_words ts)).kind ≡ None
 unfolding past_words
@@ -157,7 +162,7 @@ no_word_past end (t ∷ ts) = by_word (no_word_past end ts) (specifier_word t.ki
     by_word on None e = e
     by_word on (Some w) e = on
 
-module _ (end : Token) (n : ℕ) (at : Pos) (specs : List Specifier) (c : Context) (ts : List Token) where
+module _ (end : Token) (n : ℕ) (at : Pos) (specs : OneOrMore Specifier) (c : Context) (ts : List Token) where
   pub run_cast_close : (t : Token) (rest : List Token) → Begins fixed.CloseParenthesis ts t rest → n + 1 ≤ 128 →
       run end (cast_specifiers n at specs c) ts ≡ run end (operand (n + 1) (in_cast n at specs c)) rest
   run_cast_close t rest b h = run_takes end (cast_specifiers n at specs c) ts t rest _ (operand (n + 1) (in_cast n at specs c)) b.cut (step_cast_end n at specs c t (is_this fixed.CloseParenthesis t.kind b.is)) h

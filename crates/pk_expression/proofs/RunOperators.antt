@@ -5,18 +5,18 @@ use Rattle.pk_lex.specs.declared.token.Token.{Token}
 use Rattle.pk_lex.specs.declared.token.Kind.{Kind}
 use Rattle.pk_lex.specs.declared.token.Kind.TheVariants as kind
 use Rattle.pk_lex.specs.declared.token.Punctuator.TheVariants as mark
-use Rattle.pk_ast.specs.declared.expressions.BinaryOperator.{BinaryOperator}
-use Rattle.pk_ast.specs.declared.expressions.StepOperator.{StepOperator}
-use Rattle.pk_ast.specs.declared.expressions.AssignmentOperator.{AssignmentOperator}
+use Rattle.pk_ast.specs.declared.operators.BinaryOperator.{BinaryOperator}
+use Rattle.pk_ast.specs.declared.operators.StepOperator.{StepOperator}
+use Rattle.pk_ast.specs.declared.operators.AssignmentOperator.{AssignmentOperator}
 use Rattle.pk_ast.specs.Trees.{ExpressionTree, postfix}
 use Rattle.pk_grammar.specs.declared.signs.Fixed.TheVariants as fixed
 use Rattle.pk_grammar.specs.declared.signs.Operator.{Operator}
 use Rattle.pk_grammar.specs.declared.signs.Operator.TheVariants as operator
 use Rattle.pk_grammar.specs.Grammar.{strength, operators_in, postfixes_in}
-use Rattle.pk_grammar.specs.Signs.{is_fixed, operator_of}
-use Rattle.pk_grammar.specs.States.{Context, in_binary, in_choice, in_assignment, operand, complete}
-use Rattle.pk_grammar.specs.Steps.{taken, operand_level, go_on, join_assignment, is_unary, step}
-use Rattle.pk_grammar.specs.Running.{syntax, deep, run}
+use Rattle.pk_grammar.specs.Machine.Signs.{is_fixed, operator_of}
+use Rattle.pk_grammar.specs.Machine.States.{Context, in_binary, in_choice, in_assignment, operand, complete}
+use Rattle.pk_grammar.specs.Machine.Steps.{taken, operand_level, go_on, join_assignment, is_unary, step}
+use Rattle.pk_grammar.specs.Machine.Running.{syntax, deep, run}
 use Rattle.pk_expression.specs.Parsing.{BeginsWith, follows}
 use Rattle.pk_grammar.proofs.CompleteSigns.{strength_least, strength_most}
 use Rattle.pk_grammar.proofs.CompleteReduced.{kept}

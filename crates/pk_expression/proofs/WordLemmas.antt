@@ -3,8 +3,8 @@ use Rattle.std.proofs.Common.{◌≡◌, ◌<◌, ◌≤◌, List, [], ◌∷◌
 use Rattle.pk_lex.specs.declared.token.Token.{Token}
 use Rattle.pk_ast.specs.declared.declarations.Specifier.{Specifier}
 use Rattle.pk_ast.specs.declared.declarations.SpecifierWord.{SpecifierWord}
-use Rattle.pk_grammar.specs.Signs.{specifier_word}
-use Rattle.pk_grammar.specs.Running.{first_of_all}
+use Rattle.pk_grammar.specs.Machine.Signs.{specifier_word}
+use Rattle.pk_grammar.specs.Machine.Running.{first_of_all}
 use Rattle.pk_expression.specs.Parsing.{BeginsWithWord, words, words_then, past_words, past_word}
 
 pub no_words : (end : Token) (ts : List Token) → specifier_word (first_of_all end ts).kind ≡ None → (words ts ≡ []) × (past_words ts ≡ ts)

@@ -4,16 +4,16 @@ use Rattle.pk_ctypes.specs.declared.places.Pos.{Pos}
 use Rattle.pk_lex.specs.declared.token.Token.{Token}
 use Rattle.pk_ast.specs.declared.declarations.Specifier.{Specifier}
 use Rattle.pk_ast.specs.declared.declarations.SpecifierWord.{SpecifierWord}
-use Rattle.pk_ast.specs.Trees.{ExpressionTree}
+use Rattle.pk_ast.specs.Trees.{OneOrMore, ExpressionTree}
 use Rattle.pk_grammar.specs.declared.failure.ParseError.{ParseError}
 use Rattle.pk_grammar.specs.declared.signs.Fixed.{Fixed}
 use Rattle.pk_grammar.specs.declared.signs.Operator.{Operator}
 use Rattle.pk_grammar.specs.declared.signs.Operator.TheVariants as operator
 use Rattle.pk_grammar.specs.Grammar.{strength, operators_in, postfixes_in, commas_in, cast_expression, unary_expression}
-use Rattle.pk_grammar.specs.Signs.{is_fixed, operator_of, specifier_word}
-use Rattle.pk_grammar.specs.States.{Context, State, complete}
-use Rattle.pk_grammar.specs.Steps.{specifier_at, operand_level}
-use Rattle.pk_grammar.specs.Running.{first_of_all, run, Fails}
+use Rattle.pk_grammar.specs.Machine.Signs.{is_fixed, operator_of, specifier_word}
+use Rattle.pk_grammar.specs.Machine.States.{Context, State, complete}
+use Rattle.pk_grammar.specs.Machine.Steps.{specifier_at, operand_level}
+use Rattle.pk_grammar.specs.Machine.Running.{first_of_all, run, Fails}
 
 -- these tokens begin with one of this kind
 pub record Begins (f : Fixed) (ts : List Token) (t : Token) (rest : List Token) : Type 0 where
@@ -41,6 +41,10 @@ words_then t (Some w) more = specifier_at t w ∷ more
 unfoldable pub words : List Token → List Specifier
 words [] = []
 words (t ∷ ts) = words_then t (specifier_word t.kind) (words ts)
+
+-- of which the first was read before them
+abbrev pub specifiers_from : Specifier → List Token → OneOrMore Specifier
+specifiers_from first ts = record { first = first; more = words ts }
 
 abbrev pub past_word : List Token → Option SpecifierWord → List Token → List Token
 past_word here None more = here

@@ -1,11 +1,12 @@
 // Expressions.
 
 ghost use Rattle.std.specs.Prelude.{◌≡◌, ◌+◌, ◌<◌, ◌≤◌, ◌∷◌, [], length, MatchResult};
+ghost use Rattle.pk_ast.specs.Lists.{one};
 ghost use Rattle.pk_ast.specs.Trees as tree;
 ghost use Rattle.pk_ast.specs.Views.{expression_tree, expression_trees};
 ghost use Rattle.pk_grammar.specs.Grammar.{any_expression, assignment_expression, conditional_expression, weakest_operator, cast_expression, operators_in, commas_in};
-ghost use Rattle.pk_grammar.specs.States as states;
-ghost use Rattle.pk_grammar.specs.Steps as steps;
+ghost use Rattle.pk_grammar.specs.Machine.States as states;
+ghost use Rattle.pk_grammar.specs.Machine.Steps as steps;
 ghost use Rattle.pk_grammar.specs.Outcomes.{nesting_limit};
 ghost use Rattle.pk_expression.specs.Parsing.{EndsAt, IsPrimary, IsOperand, CastsIf, Anywhere, UpTo, Reads, Refuses};
 
@@ -34,10 +35,10 @@ fn is_unary(e: &Expression) -> bool
         | Expression::Prefix(_, _, _)
         | Expression::Unary(_, _, _) => true,
         Expression::Cast(_, _, _)
-        | Expression::Binary(_, _, _, _)
-        | Expression::Conditional(_, _, _, _)
-        | Expression::Assignment(_, _, _, _)
-        | Expression::Comma(_, _, _) => false,
+        | Expression::Binary { .. }
+        | Expression::Conditional { .. }
+        | Expression::Assignment { .. }
+        | Expression::Comma { .. } => false,
     }
 }
 
@@ -136,8 +137,8 @@ impl Parser {
     ) -> Result<(Expression, &'a [Token]), ParseError>
         requires { outside < nesting_limit }
         ensures { MatchResult result
-            (λ r. Reads self.end Anywhere (λ c. states.cast_specifiers outside at (first ∷ []) c) outside tokens.now (expression_tree r.0) r.1.now × IsOperand self.end (expression_tree r.0) r.1.now × (length r.1.now ≤ length tokens.now))
-            (λ x. Refuses self.end Anywhere (λ c. states.cast_specifiers outside at (first ∷ []) c) tokens.now x) }
+            (λ r. Reads self.end Anywhere (λ c. states.cast_specifiers outside at (one first) c) outside tokens.now (expression_tree r.0) r.1.now × IsOperand self.end (expression_tree r.0) r.1.now × (length r.1.now ≤ length tokens.now))
+            (λ x. Refuses self.end Anywhere (λ c. states.cast_specifiers outside at (one first) c) tokens.now x) }
     {
         let (words, rest) = self.specifiers(first, tokens)?;
         let (_, after) = self.expect(rest, Fixed::CloseParenthesis)?;

@@ -4,12 +4,13 @@ ghost use Rattle.std.specs.Prelude.{◌≡◌, ◌≢◌, ◌+◌, ◌<◌, ◌�
 ghost use Rattle.pk_grammar.specs.Grammar as grammar;
 ghost use Rattle.pk_grammar.specs.Grammar.{strength};
 ghost use Rattle.pk_grammar.specs.Languages.{identifier_of};
-ghost use Rattle.pk_grammar.specs.Signs.{is_fixed, operator_of, specifier_word};
+ghost use Rattle.pk_grammar.specs.Machine.Signs.{is_fixed, operator_of, specifier_word};
 ghost use Rattle.pk_grammar.specs.Outcomes.{nesting_limit};
-ghost use Rattle.pk_grammar.specs.Running.{first_of_all};
-ghost use Rattle.pk_expression.specs.Parsing.{Begins, BeginsWith, BeginsWithWord, words, past_words};
+ghost use Rattle.pk_grammar.specs.Machine.Running.{first_of_all};
+ghost use Rattle.pk_ast.specs.Views.{specifiers_tree};
+ghost use Rattle.pk_expression.specs.Parsing.{Begins, BeginsWith, BeginsWithWord, specifiers_from, past_words};
 
-use pk_ast::{AssignmentOperator, BinaryOperator, Identifier, Specifier, StepOperator};
+use pk_ast::{AssignmentOperator, BinaryOperator, Identifier, Specifier, Specifiers, StepOperator};
 use pk_ctypes::Pos;
 use pk_grammar::{Fixed, Operator, ParseError, is, operator_of, specifier_word};
 use pk_lex::{Kind, Token};
@@ -176,17 +177,16 @@ impl Parser {
         self,
         first: Specifier,
         tokens: &'a [Token],
-    ) -> Result<(Vec<Specifier>, &'a [Token]), ParseError>
-        ensures { MatchResult result (λ r. (r.0.items ≡ first ∷ words tokens.now) × (r.1.now ≡ past_words tokens.now)) (λ x. x ≡ ParseError.Memory) }
+    ) -> Result<(Specifiers, &'a [Token]), ParseError>
+        ensures { MatchResult result (λ r. (specifiers_tree r.0 ≡ specifiers_from first tokens.now) × (r.1.now ≡ past_words tokens.now)) (λ x. x ≡ ParseError.Memory) }
     {
-        let mut words = Vec::new(self.alloc);
-        words.push(first)?;
+        let mut more = Vec::new(self.alloc);
         let mut rest = tokens;
         loop {
             let Some((word, after)) = self.specifier(rest) else {
-                return Ok((words, rest));
+                return Ok((Specifiers { first, more }, rest));
             };
-            words.push(word)?;
+            more.push(word)?;
             rest = after;
         }
     }

@@ -1,32 +1,27 @@
 -- Each statement of the grammar is read: those that have statements in them.
-use Rattle.std.proofs.Common.{◌≡◌, ◌≢◌, ℕ, ◌+◌, ◌≤◌, ◌⊎◌, inl, inr, Option, Some, None, Bool, true, false, List, [], ◌∷◌, ◌++◌, refl, sym, ap, subst, ◌∙◌, arith, append_assoc}
+use Rattle.std.proofs.Common.{◌≡◌, ℕ, ◌+◌, Option, Some, None, false, List, ◌∷◌, ◌++◌, refl, sym, ap, subst, ◌∙◌, arith, append_assoc}
 use Rattle.pk_ctypes.specs.declared.places.Pos.{Pos}
 use Rattle.pk_lex.specs.declared.token.Token.{Token}
-use Rattle.pk_lex.specs.declared.token.Kind.{Kind}
 use Rattle.pk_lex.specs.declared.token.Kind.TheVariants as kind
-use Rattle.pk_lex.specs.declared.token.Keyword.{Keyword}
 use Rattle.pk_lex.specs.declared.token.Keyword.TheVariants as key
-use Rattle.pk_lex.specs.declared.token.Punctuator.{Punctuator}
 use Rattle.pk_lex.specs.declared.token.Punctuator.TheVariants as mark
-use Rattle.pk_ast.specs.declared.declarations.Specifier.{Specifier}
 use Rattle.pk_ast.specs.declared.declarations.SpecifierWord.{SpecifierWord}
 use Rattle.pk_ast.specs.declared.expressions.Identifier.{Identifier}
 use Rattle.pk_ast.specs.Trees.{ExpressionTree, DeclarationTree, ForStartTree, declaration, expression, StatementTree, block, empty, expression_statement, label, case, default, if_then, if_else, switch, while, do_while, for_loop, goto, continue, break, return, ItemTrees, no_items, declaration_then, statement_then, ParameterTree}
-use Rattle.pk_grammar.specs.declared.states.Testing.{Testing}
+use Rattle.pk_ast.specs.Lists.{one}
 use Rattle.pk_grammar.specs.declared.states.Testing.TheVariants as testing
 use Rattle.pk_grammar.specs.declared.signs.Fixed.TheVariants as fixed
-use Rattle.pk_grammar.specs.declared.signs.StatementStart.TheVariants as first
-use Rattle.pk_grammar.specs.Languages.{Marked, One, Identified, Inside, Where, Optional, ◌⊙◌, identifier_of}
-use Rattle.pk_grammar.specs.Grammar.{Expression, punctuator, keyword, specifiers, declared, OpenEnd, test, for_start, optional, statement, block_items}
-use Rattle.pk_grammar.specs.Signs.{is_fixed, specifier_word, statement_start}
-use Rattle.pk_grammar.specs.States.{Head, OpenBlock, function_block, inner_block, Outer, in_block, in_label, in_case, in_default, in_if, in_else, in_switch, in_while, in_do, in_for, in_a_block, in_a_for, Purpose, as_statement, as_label, as_test, as_last_test, as_first, as_second, as_third, as_result, as_whole, State, after_specifiers, block_item, at_statement, after_statement, test_open, do_open, for_open, for_first, for_second, for_third, default_colon, goto_name, returning, statement_end, operand, named, complete}
-use Rattle.pk_grammar.specs.Steps.{Verdict, taken, reduced, purpose_level, operand_level, specifier_at, block_nesting, with_statement, with_declaration, one_more_statement, one_more_declaration, tested, begin_statement, declaration_or_statement, end_block, begin_for, resume, step}
-use Rattle.pk_grammar.proofs.CompleteLists.{tokens_of, Reads, reads_join, reads_both, reads_one, reads_none, reads_from, reads_to, reads_head, reads_sign, reads_last, regrouped}
-use Rattle.pk_grammar.proofs.CompleteSigns.{Sign, Begins, begins, sign_semicolon, sign_close, specifier_no_else}
-use Rattle.pk_grammar.proofs.CompleteOperands.{Ends, IsAt, ends_at_sign, ends_at_colon, same_false, same_true}
-use Rattle.pk_grammar.proofs.CompleteExpressions.{Starts, starts, from_operand, readable, ReadsTo}
+use Rattle.pk_grammar.specs.Languages.{Marked, ◌⊙◌, identifier_of}
+use Rattle.pk_grammar.specs.Grammar.{punctuator, keyword, for_start, optional, statement, block_items}
+use Rattle.pk_grammar.specs.Machine.Signs.{is_fixed, specifier_word}
+use Rattle.pk_grammar.specs.Machine.States.{Head, OpenBlock, function_block, inner_block, Outer, in_block, in_label, in_case, in_default, in_if, in_else, in_switch, in_while, in_do, in_for, in_a_block, in_a_for, as_statement, as_label, as_last_test, as_first, as_second, as_third, as_whole, State, after_specifiers, block_item, at_statement, after_statement, test_open, do_open, for_open, for_first, for_second, for_third, default_colon, statement_end, operand, named, complete}
+use Rattle.pk_grammar.specs.Machine.Steps.{taken, reduced, specifier_at, block_nesting, with_statement, with_declaration, one_more_statement, one_more_declaration, declaration_or_statement, end_block, begin_for, resume, step}
+use Rattle.pk_grammar.proofs.CompleteLists.{tokens_of, Reads, reads_join, reads_both, reads_none, reads_from, reads_to, reads_head, reads_sign, reads_last}
+use Rattle.pk_grammar.proofs.CompleteSigns.{Begins, sign_semicolon, sign_close}
+use Rattle.pk_grammar.proofs.CompleteOperands.{IsAt, ends_at_sign, ends_at_colon, same_false, same_true}
+use Rattle.pk_grammar.proofs.CompleteExpressions.{readable, ReadsTo}
 use Rattle.pk_grammar.proofs.CompleteDeclarations.{reads_declared}
-use Rattle.pk_grammar.proofs.CompleteStatements.{First, BeginsStatement, first_statement, NextToken, next_token, StatementRead, IsKeyword, read_expression_statement, two, reads_test, reads_head_test, reads_optional, read_empty, read_continue, read_break, read_goto, read_return, step_end}
+use Rattle.pk_grammar.proofs.CompleteStatements.{BeginsStatement, first_statement, next_token, StatementRead, IsKeyword, read_expression_statement, two, reads_test, reads_head_test, reads_optional, read_empty, read_continue, read_break, read_goto, read_return, step_end}
 
 -- Labels
 
@@ -198,7 +193,7 @@ step_for_open : (n : ℕ) (o : Outer) (at : Pos) (t : Token) → t.kind ≡ kind
 step_for_open n o at t e = rw e
 
 step_for_declaration : (n : ℕ) (o : Outer) (at : Pos) (t : Token) (w : SpecifierWord) → specifier_word t.kind ≡ Some w →
-    step (for_first n at o) t ≡ taken (n + 2) (after_specifiers (in_a_for n at o) (specifier_at t w ∷ []))
+    step (for_first n at o) t ≡ taken (n + 2) (after_specifiers (in_a_for n at o) (one (specifier_at t w)))
 step_for_declaration n o at t w e = ap (λ w. begin_for n at o t w) e
 
 step_first : (n : ℕ) (o : Outer) (at : Pos) (t : Token) → Begins t.kind → step (for_first n at o) t ≡ step (operand (n + 2) (as_whole (as_first n at o))) t
@@ -310,7 +305,7 @@ read_no_items : ItemsRead no_items
 unfolding block_items
 read_no_items = record { reads = λ b q same ms close rest h e. record { state = q; reads = reads_none h; then = same close ∙ step_close b close e } }
 
-step_declaration : (b : OpenBlock) (t : Token) (w : SpecifierWord) → specifier_word t.kind ≡ Some w → step (block_item b) t ≡ taken (block_nesting b) (after_specifiers (in_a_block b) (specifier_at t w ∷ []))
+step_declaration : (b : OpenBlock) (t : Token) (w : SpecifierWord) → specifier_word t.kind ≡ Some w → step (block_item b) t ≡ taken (block_nesting b) (after_specifiers (in_a_block b) (one (specifier_at t w)))
 step_declaration b t w e = ap (λ w. declaration_or_statement b t w) e
 
 read_declaration_then : (d : DeclarationTree) (items : ItemTrees) → ItemsRead items → ItemsRead (declaration_then d items)

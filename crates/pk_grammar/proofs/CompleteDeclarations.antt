@@ -1,25 +1,25 @@
 -- Each declaration of the grammar is read.
-use Rattle.std.proofs.Common.{◌≡◌, ◌≢◌, ℕ, ◌+◌, ◌≤◌, ◌⊎◌, inl, inr, Option, Some, None, Bool, true, false, List, [], ◌∷◌, ◌++◌, refl, sym, ap, subst, ◌∙◌, arith, append_assoc}
+use Rattle.std.proofs.Common.{◌≡◌, ℕ, ◌+◌, ◌⊎◌, inl, inr, Option, Some, None, List, [], ◌∷◌, ◌++◌, refl, sym, ap, subst, ◌∙◌, arith, append_assoc, append-nil}
 use Rattle.pk_ctypes.specs.declared.places.Pos.{Pos}
 use Rattle.pk_lex.specs.declared.token.Token.{Token}
-use Rattle.pk_lex.specs.declared.token.Kind.{Kind}
 use Rattle.pk_lex.specs.declared.token.Kind.TheVariants as kind
 use Rattle.pk_lex.specs.declared.token.Punctuator.TheVariants as mark
 use Rattle.pk_ast.specs.declared.declarations.Specifier.{Specifier}
 use Rattle.pk_ast.specs.declared.declarations.SpecifierWord.{SpecifierWord}
 use Rattle.pk_ast.specs.declared.expressions.Identifier.{Identifier}
-use Rattle.pk_ast.specs.Trees.{ExpressionTree, ExpressionTrees, no_expressions, expression_then, InitializerTree, single, braced, DeclaratorTree, DeclarationTree}
-use Rattle.pk_grammar.specs.declared.signs.Operator.TheVariants as operator
+use Rattle.pk_ast.specs.Trees.{OneOrMore, ExpressionTree, ExpressionTrees, no_expressions, expression_then, InitializerTree, single, braced, DeclaratorTree, DeclarationTree}
+use Rattle.pk_ast.specs.Lists.{one, with_last, ended}
+use Rattle.pk_grammar.proofs.SpellsWords.{drop_last}
 use Rattle.pk_grammar.specs.declared.signs.Fixed.TheVariants as fixed
-use Rattle.pk_grammar.specs.Languages.{Marked, One, Identified, Optional, ◌⊙◌, identifier_of}
-use Rattle.pk_grammar.specs.Grammar.{AllFit, Fits, spelled, spelled_list, spelled_more, punctuator, specifiers, array_length, initializer, declarator, declarators, declared}
-use Rattle.pk_grammar.specs.Signs.{is_fixed, operand_start, operator_of, specifier_word}
-use Rattle.pk_grammar.specs.States.{Site, Declaring, Naming, as_length, as_value, as_item, as_whole, State, operand, complete, after_specifiers, after_name, after_length, after_assign, after_brace, after_item, after_initializer, after_comma}
-use Rattle.pk_grammar.specs.Steps.{Verdict, taken, reduced, one_more, more_specifiers, specifier_at, site_nesting, naming_nesting, with_initializer, without_length, after_declarator, next_declarator, end_declaration, declared_at, step}
-use Rattle.pk_grammar.proofs.CompleteLists.{tokens_of, Reads, reads_both, reads_one, reads_none, reads_from, reads_to, reads_head, reads_sign, reads_last, regrouped, reads_join_none}
-use Rattle.pk_grammar.proofs.CompleteSigns.{Sign, Begins, begins, sign_comma, sign_semicolon, sign_close_brace, sign_close_bracket}
+use Rattle.pk_grammar.specs.Languages.{Marked, Optional, ◌⊙◌, identifier_of}
+use Rattle.pk_grammar.specs.Grammar.{AllFit, Fits, spelled, spelled_list, spelled_more, punctuator, array_length, initializer, declarator, declared, more_declarators}
+use Rattle.pk_grammar.specs.Machine.Signs.{is_fixed, specifier_word}
+use Rattle.pk_grammar.specs.Machine.States.{Site, Declaring, Naming, as_length, as_value, as_item, as_whole, State, operand, complete, after_specifiers, after_name, after_length, after_assign, after_brace, after_item, after_initializer, after_comma, Declared}
+use Rattle.pk_grammar.specs.Machine.Steps.{taken, reduced, one_more, more_specifiers, specifier_at, site_nesting, naming_nesting, with_initializer, without_length, after_declarator, declared_at, step, first_item, more_items, with_declarator, goes_on_declaring}
+use Rattle.pk_grammar.proofs.CompleteLists.{tokens_of, Reads, reads_both, reads_one, reads_none, reads_head, reads_sign, reads_last, regrouped, reads_join_none}
+use Rattle.pk_grammar.proofs.CompleteSigns.{Begins, sign_comma, sign_semicolon, sign_close_brace, sign_close_bracket}
 use Rattle.pk_grammar.proofs.CompleteOperands.{Ends, IsAt, ends_at_sign, same_false}
-use Rattle.pk_grammar.proofs.CompleteExpressions.{Starts, starts, from_operand, from_operand_more, Readable, readable, joined, joined_all, ReadsTo, reads_specifiers}
+use Rattle.pk_grammar.proofs.CompleteExpressions.{from_operand, readable, joined, joined_all, ReadsTo, reads_specifiers}
 
 -- Initializers
 
@@ -87,15 +87,15 @@ step_value d t b = same_false (is_fixed fixed.OpenBrace t.kind) _ _ b.no_open_br
 step_brace : (d : Naming) (t : Token) (at : Pos) → IsAt mark.OpenBrace at t → step (after_assign d) t ≡ taken (naming_nesting d) (after_brace d at)
 step_brace d t at e = rw (e.0, e.1)
 
-step_item : (d : Naming) (at : Pos) (es : ExpressionTrees) (t : Token) → Begins t.kind → step (after_item d at es) t ≡ step (operand (naming_nesting d) (as_whole (as_item d at es))) t
-step_item d at es t b = same_false (is_fixed fixed.CloseBrace t.kind) _ _ b.no_close_brace
+step_item : (d : Naming) (at : Pos) (e : ExpressionTree) (es : ExpressionTrees) (t : Token) → Begins t.kind → step (after_item d at e es) t ≡ step (operand (naming_nesting d) (as_whole (as_item d at (expression_then e es)))) t
+step_item d at e es t b = same_false (is_fixed fixed.CloseBrace t.kind) _ _ b.no_close_brace
 
 -- the items of a braced list are read
-record ReadsItems (s : State) (ms : List Marked) (t : Token) (rest : List Token) (d : Naming) (at : Pos) (es : ExpressionTrees) : Type 0 where
+record ReadsItems (s : State) (ms : List Marked) (t : Token) (rest : List Token) (d : Naming) (at : Pos) (e : ExpressionTree) (es : ExpressionTrees) : Type 0 where
   state : State
   reads : Reads s ms state (t ∷ rest)
-  closes : t.kind ≡ kind.Punctuator mark.CloseBrace → step state t ≡ taken (naming_nesting d) (after_initializer (with_initializer d (Some (braced at es))))
-  goes_on : t.kind ≡ kind.Punctuator mark.Comma → step state t ≡ taken (naming_nesting d) (after_item d at es)
+  closes : t.kind ≡ kind.Punctuator mark.CloseBrace → step state t ≡ taken (naming_nesting d) (after_initializer (with_initializer d (Some (braced at e es))))
+  goes_on : t.kind ≡ kind.Punctuator mark.Comma → step state t ≡ taken (naming_nesting d) (after_item d at e es)
 
 abbrev EndsItem : Token → Type 0
 EndsItem t = (t.kind ≡ kind.Punctuator mark.Comma) ⊎ (t.kind ≡ kind.Punctuator mark.CloseBrace)
@@ -104,32 +104,56 @@ item_ends : (c : _) (t : Token) → EndsItem t → Ends 1 c t.kind
 item_ends c t h = elim h [ inl e ↦ ends_at_sign _ _ t sign_comma e (omega arith) | inr e ↦ ends_at_sign _ _ t sign_close_brace e (omega arith) ]
 
 step_items_close : (n : ℕ) (e : ExpressionTree) (d : Naming) (at : Pos) (es : ExpressionTrees) (t : Token) → t.kind ≡ kind.Punctuator mark.CloseBrace →
-    step (complete n e (as_whole (as_item d at es))) t ≡ taken (naming_nesting d) (after_initializer (with_initializer d (Some (braced at (one_more es e)))))
+    step (complete n e (as_whole (as_item d at es))) t ≡ taken (naming_nesting d) (after_initializer (with_initializer d (Some (braced at (first_item es e) (more_items es e)))))
 unfolding reduced
 step_items_close n e d at es t is = rw is
 
 step_items_comma : (n : ℕ) (e : ExpressionTree) (d : Naming) (at : Pos) (es : ExpressionTrees) (t : Token) → t.kind ≡ kind.Punctuator mark.Comma →
-    step (complete n e (as_whole (as_item d at es))) t ≡ taken (naming_nesting d) (after_item d at (one_more es e))
+    step (complete n e (as_whole (as_item d at es))) t ≡ taken (naming_nesting d) (after_item d at (first_item es e) (more_items es e))
 unfolding reduced
 step_items_comma n e d at es t is = rw is
 
+-- what follows the first one of those that were read, of one more, and of these
+abbrev after_first : ExpressionTrees → ExpressionTree → ExpressionTrees → ExpressionTrees
+after_first no_expressions e es = es
+after_first (expression_then d ds) e es = joined ds (expression_then e es)
+
+after_first-none : (done : ExpressionTrees) (e : ExpressionTree) → more_items done e ≡ after_first done e no_expressions
+after_first-none no_expressions e = refl
+after_first-none (expression_then d ds) e = refl
+
+first_item-more : (done : ExpressionTrees) (e next : ExpressionTree) → first_item (one_more done e) next ≡ first_item done e
+first_item-more no_expressions e next = refl
+first_item-more (expression_then d ds) e next = refl
+
+after_first-more : (done : ExpressionTrees) (e next : ExpressionTree) (es : ExpressionTrees) → after_first (one_more done e) next es ≡ after_first done e (expression_then next es)
+after_first-more no_expressions e next es = joined_all (expression_then next es)
+after_first-more (expression_then d ds) e next es = refl
+
+after_one_more : (done : ExpressionTrees) (e : ExpressionTree) → expression_then (first_item done e) (more_items done e) ≡ one_more done e
+after_one_more no_expressions e = refl
+after_one_more (expression_then d ds) e = refl
+
 reads_items : (es : ExpressionTrees) (e : ExpressionTree) (d : Naming) (at : Pos) (done : ExpressionTrees) (s : State) (t : Token) (rest : List Token) (ms : List Marked) →
     ((t : Token) → Begins t.kind → step s t ≡ step (operand (naming_nesting d) (as_whole (as_item d at done))) t) → Fits 1 e → AllFit es →
-    (spelled e ⊙ spelled_more es) (naming_nesting d) ms → EndsItem t → ReadsItems s ms t rest d at (joined done (expression_then e es))
+    (spelled e ⊙ spelled_more es) (naming_nesting d) ms → EndsItem t → ReadsItems s ms t rest d at (first_item done e) (after_first done e es)
 unfolding spelled_more
-reads_items no_expressions e d at done s t rest ms same f fs h ends = record {
+reads_items no_expressions e d at done s t rest ms same f fs h ends = subst (λ es. ReadsItems s ms t rest d at (first_item done e) es) (after_first-none done e) (record {
   state = complete (naming_nesting d) e (as_whole (as_item d at done));
   reads = reads_join_none h.cut h.second
       (from_operand e (naming_nesting d) h.front h.first same
       ((readable e).reads 1 (naming_nesting d) h.front (as_whole (as_item d at done)) t rest f h.first (omega arith) (item_ends _ t ends)));
   closes = step_items_close (naming_nesting d) e d at done t;
   goes_on = step_items_comma (naming_nesting d) e d at done t;
-}
+})
 reads_items (expression_then e' es) e d at done s t rest ms same f fs h ends =
     let g = h.second in
     let k = g.first.token in
-    let more = reads_items es e' d at (one_more done e) (after_item d at (one_more done e)) t rest g.back (step_item d at (one_more done e)) fs.0 fs.1 g.second ends in
-    record {
+    let begins : (t : Token) → Begins t.kind → step (after_item d at (first_item done e) (more_items done e)) t ≡ step (operand (naming_nesting d) (as_whole (as_item d at (one_more done e)))) t
+    = λ t b. step_item d at (first_item done e) (more_items done e) t b ∙ ap (λ all. step (operand (naming_nesting d) (as_whole (as_item d at all))) t) (after_one_more done e) in
+    let more = reads_items es e' d at (one_more done e) (after_item d at (first_item done e) (more_items done e)) t rest g.back begins fs.0 fs.1 g.second ends in
+    subst (λ all. ReadsItems s ms t rest d at all (after_first done e (expression_then e' es))) (first_item-more done e e')
+    (subst (λ all. ReadsItems s ms t rest d at (first_item (one_more done e) e') all) (after_first-more done e e' es) (record {
       state = more.state;
       reads = reads_sign h.front h.cut g
           (from_operand e (naming_nesting d) h.front h.first same
@@ -139,25 +163,25 @@ reads_items (expression_then e' es) e d at done s t rest ms same f fs h ends =
           more.reads;
       closes = more.closes;
       goes_on = more.goes_on;
-    }
+    }))
 
-step_last_comma : (d : Naming) (at : Pos) (es : ExpressionTrees) (t : Token) → t.kind ≡ kind.Punctuator mark.CloseBrace →
-    step (after_item d at es) t ≡ taken (naming_nesting d) (after_initializer (with_initializer d (Some (braced at es))))
-step_last_comma d at es t e = rw e
+step_last_comma : (d : Naming) (at : Pos) (e : ExpressionTree) (es : ExpressionTrees) (t : Token) → t.kind ≡ kind.Punctuator mark.CloseBrace →
+    step (after_item d at e es) t ≡ taken (naming_nesting d) (after_initializer (with_initializer d (Some (braced at e es))))
+step_last_comma d at e es t is = rw is
 
 -- behind the items: a comma or none, and the brace
-reads_brace : (d : Naming) (at : Pos) (es : ExpressionTrees) (s : State) (ts front back : List Marked) (t : Token) (rest : List Token) → ts ≡ front ++ back →
+reads_brace : (d : Naming) (at : Pos) (e : ExpressionTree) (es : ExpressionTrees) (s : State) (ts front back : List Marked) (t : Token) (rest : List Token) → ts ≡ front ++ back →
     (c : (Optional (punctuator mark.Comma) ⊙ punctuator mark.CloseBrace) (naming_nesting d) back) →
-    ((t : Token) (rest : List Token) → EndsItem t → ReadsItems s front t rest d at es) →
-    Reads s ts (after_initializer (with_initializer d (Some (braced at es)))) (t ∷ rest)
-reads_brace d at es s ts front back t rest cut c items = elim c.first [
+    ((t : Token) (rest : List Token) → EndsItem t → ReadsItems s front t rest d at e es) →
+    Reads s ts (after_initializer (with_initializer d (Some (braced at e es)))) (t ∷ rest)
+reads_brace d at x es s ts front back t rest cut c items = elim c.first [
   | inl e ↦
       let r = items c.second.token (t ∷ rest) (inr c.second.holds) in
       reads_last front (cut ∙ ap (λ b. front ++ b) (c.cut ∙ ap (λ f. f ++ c.back) e)) c.second r.reads (r.closes c.second.holds)
   | inr comma ↦
       let r = items comma.token (tokens_of c.back ++ t ∷ rest) (inl comma.holds) in
       reads_sign {Q = punctuator mark.CloseBrace} front cut (record { front = c.front; back = c.back; cut = c.cut; first = comma; second = c.second }) r.reads (r.goes_on comma.holds)
-      (reads_one c.second (step_last_comma d at es c.second.token c.second.holds))
+      (reads_one c.second (step_last_comma d at x es c.second.token c.second.holds))
 ]
 
 reads_initializer : (i : Option InitializerTree) (d : Naming) (s : State) → HasName s d → (t : Token) (rest : List Token) → Separates t → (ms : List Marked) → initializer i (naming_nesting d) ms →
@@ -171,27 +195,22 @@ reads_initializer (Some (single e)) d s has t rest sep ms h = record {
       ((readable e).reads 1 (naming_nesting d) h.back (as_whole (as_value d)) t rest h.second.fits h.second.is (omega arith) (separator_ends _ t sep)));
   then = step_value_end (naming_nesting d) e d t sep;
 }
-reads_initializer (Some (braced at no_expressions)) d s has t rest sep ms h = absurd h
-reads_initializer (Some (braced at (expression_then e es))) d s has t rest sep ms h =
+reads_initializer (Some (braced at e es)) d s has t rest sep ms h =
     let a = h.second in
     let b = a.second in
     record {
-      state = after_initializer (with_initializer d (Some (braced at (expression_then e es))));
+      state = after_initializer (with_initializer d (Some (braced at e es)));
       reads = reads_head h (has.at_assign h.first.token h.first.holds)
           (reads_head a (step_brace d a.first.token at a.first.holds)
-          (reads_brace d at (expression_then e es) (after_brace d at) a.back b.front b.back t rest b.cut b.second
-          (λ t rest ends. subst (λ es. ReadsItems (after_brace d at) b.front t rest d at es) (joined_all (expression_then e es))
-          (reads_items es e d at no_expressions (after_brace d at) t rest b.front (λ t f. refl) b.first.fit.0 b.first.fit.1 b.first.is ends))));
+          (reads_brace d at e es (after_brace d at) a.back b.front b.back t rest b.cut b.second
+          (λ t rest ends. reads_items es e d at no_expressions (after_brace d at) t rest b.front (λ t f. refl) b.first.fit.0 b.first.fit.1 b.first.is ends)));
       then = refl;
     }
 
 -- Declarators
 
-abbrev and_declarator : Declaring → DeclaratorTree → Declaring
-and_declarator d x = record { site = d.site; specifiers = d.specifiers; declarators = d.declarators ++ x ∷ [] }
-
 reads_declarator : (x : DeclaratorTree) (d : Declaring) (s : State) → ((t : Token) → t.kind ≡ kind.Name → step s t ≡ taken (site_nesting d.site) (after_name d (identifier_of t))) →
-    (t : Token) (rest : List Token) → Separates t → (ms : List Marked) → declarator x (site_nesting d.site) ms → ReadsTo s ms t rest (after_declarator (and_declarator d x) t)
+    (t : Token) (rest : List Token) → Separates t → (ms : List Marked) → declarator x (site_nesting d.site) ms → ReadsTo s ms t rest (after_declarator (with_declarator d x) t)
 reads_declarator x d s names t rest sep ms h =
     let g = h.second in
     let l = reads_length d x.name x.length {rest = tokens_of g.back ++ t ∷ rest} g.first in
@@ -203,44 +222,54 @@ reads_declarator x d s names t rest sep ms h =
       then = i.then;
     }
 
-step_comma_declarator : (d : Declaring) (t : Token) → t.kind ≡ kind.Punctuator mark.Comma → after_declarator d t ≡ taken (site_nesting d.site) (after_comma d)
+step_comma_declarator : (d : Declared) (t : Token) → t.kind ≡ kind.Punctuator mark.Comma → after_declarator d t ≡ taken (site_nesting d.site) (after_comma (goes_on_declaring d))
 step_comma_declarator d t e = rw e
 
-step_end_declaration : (d : Declaring) (t : Token) → t.kind ≡ kind.Punctuator mark.Semicolon →
+step_end_declaration : (d : Declared) (t : Token) → t.kind ≡ kind.Punctuator mark.Semicolon →
     after_declarator d t ≡ taken (site_nesting d.site) (declared_at d.site (record { specifiers = d.specifiers; declarators = d.declarators }))
 step_end_declaration d t e = rw e
 
 step_next_name : (d : Declaring) (t : Token) → t.kind ≡ kind.Name → step (after_comma d) t ≡ taken (site_nesting d.site) (after_name d (identifier_of t))
 step_next_name d t e = rw e
 
-reads_declarators : (ds : List DeclaratorTree) (d : Declaring) (s : State) → ((t : Token) → t.kind ≡ kind.Name → step s t ≡ taken (site_nesting d.site) (after_name d (identifier_of t))) →
-    (rest : List Token) (ts : List Marked) → (declarators ds ⊙ punctuator mark.Semicolon) (site_nesting d.site) ts →
-    Reads s ts (declared_at d.site (record { specifiers = d.specifiers; declarators = d.declarators ++ ds })) rest
-reads_declarators [] d s names rest ts h = absurd h.first
-reads_declarators (x ∷ []) d s names rest ts h =
-    let r = reads_declarator x d s names h.second.token rest (inr h.second.holds) h.front h.first in
-    reads_last h.front h.cut h.second r.reads (r.then ∙ step_end_declaration (and_declarator d x) h.second.token h.second.holds)
-reads_declarators (x ∷ y ∷ more) d s names rest ts h =
+-- these declarators and those that come after them
+abbrev and_more : Declared → List DeclaratorTree → DeclarationTree
+and_more d more = record { specifiers = d.specifiers; declarators = record { first = d.declarators.first; more = d.declarators.more ++ more } }
+
+abbrev Names : State → Declaring → Type 0
+Names s d = (t : Token) → t.kind ≡ kind.Name → step s t ≡ taken (site_nesting d.site) (after_name d (identifier_of t))
+
+reads_declarators : (x : DeclaratorTree) (more : List DeclaratorTree) (d : Declaring) (s : State) → Names s d → (rest : List Token) (ts : List Marked) →
+    ((declarator x ⊙ more_declarators more) ⊙ punctuator mark.Semicolon) (site_nesting d.site) ts → Reads s ts (declared_at d.site (and_more (with_declarator d x) more)) rest
+reads_declarators x [] d s names rest ts h =
+    let g = drop_last h.first in
+    let r = reads_declarator x d s names h.second.token rest (inr h.second.holds) h.front g in
+    reads_last h.front h.cut h.second r.reads (r.then ∙ step_end_declaration (with_declarator d x) h.second.token h.second.holds
+    ∙ ap (λ more. taken (site_nesting d.site) (declared_at d.site (record { specifiers = d.specifiers; declarators = record { first = (ended d.declarators x).first; more = more } })))
+    (sym (append-nil (ended d.declarators x).more)))
+reads_declarators x (y ∷ more) d s names rest ts h =
     let f = regrouped {R = punctuator mark.Semicolon} h.front h.back h.cut h.first h.second in
     let g = regrouped {R = punctuator mark.Semicolon} f.second.front f.second.back f.second.cut f.second.first f.second.second in
     let r = reads_declarator x d s names g.first.token (tokens_of g.back ++ rest) (inl g.first.holds) f.front f.first in
-    reads_sign f.front f.cut g r.reads (r.then ∙ step_comma_declarator (and_declarator d x) g.first.token g.first.holds)
-    (subst (λ ds. Reads (after_comma (and_declarator d x)) g.back (declared_at d.site (record { specifiers = d.specifiers; declarators = ds })) rest)
-    (append_assoc d.declarators (x ∷ []) (y ∷ more))
-    (reads_declarators (y ∷ more) (and_declarator d x) (after_comma (and_declarator d x)) (step_next_name (and_declarator d x)) rest g.back g.second))
+    let e = with_declarator d x in
+    let k = goes_on_declaring e in
+    reads_sign f.front f.cut g r.reads (r.then ∙ step_comma_declarator e g.first.token g.first.holds)
+    (subst (λ all. Reads (after_comma k) g.back (declared_at d.site (record { specifiers = d.specifiers; declarators = record { first = e.declarators.first; more = all } })) rest)
+    (append_assoc e.declarators.more (y ∷ []) more)
+    (reads_declarators y more k (after_comma k) (step_next_name k) rest g.back g.second))
 
 -- Declarations
 
-pub step_first_name : (s : Site) (specs : List Specifier) (t : Token) → t.kind ≡ kind.Name →
+pub step_first_name : (s : Site) (specs : OneOrMore Specifier) (t : Token) → t.kind ≡ kind.Name →
     step (after_specifiers s specs) t ≡ taken (site_nesting s) (after_name (record { site = s; specifiers = specs; declarators = [] }) (identifier_of t))
 step_first_name s specs t e = rw e
 
-pub step_more_specifiers : (s : Site) (specs : List Specifier) (t : Token) (w : SpecifierWord) → specifier_word t.kind ≡ Some w →
-    step (after_specifiers s specs) t ≡ taken (site_nesting s) (after_specifiers s (specs ++ specifier_at t w ∷ []))
+pub step_more_specifiers : (s : Site) (specs : OneOrMore Specifier) (t : Token) (w : SpecifierWord) → specifier_word t.kind ≡ Some w →
+    step (after_specifiers s specs) t ≡ taken (site_nesting s) (after_specifiers s (with_last specs (specifier_at t w)))
 step_more_specifiers s specs t w e = ap (λ w. more_specifiers s specs t w) e
 
-pub reads_declared : (site : Site) (s : State) → ((t : Token) (w : SpecifierWord) → specifier_word t.kind ≡ Some w → step s t ≡ taken (site_nesting site) (after_specifiers site (specifier_at t w ∷ []))) →
+pub reads_declared : (site : Site) (s : State) → ((t : Token) (w : SpecifierWord) → specifier_word t.kind ≡ Some w → step s t ≡ taken (site_nesting site) (after_specifiers site (one (specifier_at t w)))) →
     (d : DeclarationTree) (rest : List Token) (ms : List Marked) → declared d (site_nesting site) ms → Reads s ms (declared_at site d) rest
 reads_declared site s takes d rest ms h =
-    reads_both h (reads_specifiers (after_specifiers site) (site_nesting site) (step_more_specifiers site) d.specifiers [] s takes h.first)
-    (reads_declarators d.declarators (record { site = site; specifiers = d.specifiers; declarators = [] }) (after_specifiers site d.specifiers) (step_first_name site d.specifiers) rest h.back h.second)
+    reads_both h (reads_specifiers (after_specifiers site) (site_nesting site) (step_more_specifiers site) d.specifiers s takes h.first)
+    (reads_declarators d.declarators.first d.declarators.more (record { site = site; specifiers = d.specifiers; declarators = [] }) (after_specifiers site d.specifiers) (step_first_name site d.specifiers) rest h.back h.second)

@@ -1,5 +1,5 @@
 -- Each expression of the grammar is read, up to any token that it ends at.
-use Rattle.std.proofs.Common.{◌≡◌, ◌≢◌, ℕ, ◌+◌, ◌≤◌, ◌<◌, ◌⊎◌, inl, inr, Option, Some, None, Bool, true, false, List, [], ◌∷◌, ◌++◌, refl, sym, ap, subst, ◌∙◌, arith, append_assoc}
+use Rattle.std.proofs.Common.{◌≡◌, ◌≢◌, ℕ, ◌+◌, ◌≤◌, Some, List, [], ◌∷◌, ◌++◌, refl, sym, ap, subst, ◌∙◌, arith, append_assoc, append-nil}
 use Rattle.pk_ctypes.specs.declared.places.Pos.{Pos}
 use Rattle.pk_lex.specs.declared.token.Token.{Token}
 use Rattle.pk_lex.specs.declared.token.Kind.{Kind}
@@ -8,23 +8,23 @@ use Rattle.pk_lex.specs.declared.token.Punctuator.TheVariants as mark
 use Rattle.pk_ast.specs.declared.declarations.Specifier.{Specifier}
 use Rattle.pk_ast.specs.declared.declarations.SpecifierWord.{SpecifierWord}
 use Rattle.pk_ast.specs.declared.expressions.Identifier.{Identifier}
-use Rattle.pk_ast.specs.declared.expressions.BinaryOperator.{BinaryOperator}
-use Rattle.pk_ast.specs.declared.expressions.UnaryOperator.{UnaryOperator}
-use Rattle.pk_ast.specs.declared.expressions.StepOperator.{StepOperator}
-use Rattle.pk_ast.specs.declared.expressions.AssignmentOperator.{AssignmentOperator}
-use Rattle.pk_ast.specs.Trees.{ExpressionTree, name, call, index, constant, character, parenthesized, postfix, prefix, unary, cast, binary, conditional, assignment, comma, ExpressionTrees, no_expressions, expression_then}
+use Rattle.pk_ast.specs.declared.operators.BinaryOperator.{BinaryOperator}
+use Rattle.pk_ast.specs.declared.operators.UnaryOperator.{UnaryOperator}
+use Rattle.pk_ast.specs.declared.operators.StepOperator.{StepOperator}
+use Rattle.pk_ast.specs.declared.operators.AssignmentOperator.{AssignmentOperator}
+use Rattle.pk_ast.specs.Trees.{OneOrMore, ExpressionTree, name, call, index, constant, character, parenthesized, postfix, prefix, unary, cast, binary, conditional, assignment, comma, ExpressionTrees, no_expressions, expression_then}
+use Rattle.pk_ast.specs.Lists.{one, with_last}
 use Rattle.pk_grammar.specs.declared.signs.OperandStart.{OperandStart}
 use Rattle.pk_grammar.specs.declared.signs.OperandStart.TheVariants as start
-use Rattle.pk_grammar.specs.declared.signs.Operator.TheVariants as operator
-use Rattle.pk_grammar.specs.Languages.{Marked, One, Identified, ◌⊙◌, identifier_of}
-use Rattle.pk_grammar.specs.Grammar.{binary_sign, unary_sign, step_sign, assignment_sign, specifier_keyword, strength, Fits, AllFit, operators_in, postfixes_in, commas_in, spelled, spelled_list, spelled_more, specifiers, punctuator}
-use Rattle.pk_grammar.specs.Signs.{is_fixed, operand_start, operator_of, specifier_word}
-use Rattle.pk_grammar.specs.States.{Context, as_whole, in_parentheses, in_index, in_call, in_prefix, in_unary, in_cast, in_binary, in_choice, in_alternative, in_assignment, in_comma, State, operand, named, arguments, opened, cast_specifiers, complete}
-use Rattle.pk_grammar.specs.Steps.{Verdict, taken, reduced, operand_level, one_more, specifier_at, step}
+use Rattle.pk_grammar.specs.Languages.{Marked, One, Identified, ◌⊙◌}
+use Rattle.pk_grammar.specs.Grammar.{unary_sign, step_sign, strength, Fits, AllFit, operators_in, commas_in, spelled, spelled_list, spelled_more, specifiers, punctuator, specifier_list}
+use Rattle.pk_grammar.specs.Machine.Signs.{operand_start, operator_of, specifier_word}
+use Rattle.pk_grammar.specs.Machine.States.{Context, in_parentheses, in_index, in_call, in_prefix, in_unary, in_cast, in_binary, in_choice, in_alternative, in_assignment, in_comma, State, operand, named, opened, cast_specifiers, complete}
+use Rattle.pk_grammar.specs.Machine.Steps.{Verdict, taken, operand_level, one_more, specifier_at, step}
 use Rattle.pk_grammar.proofs.CompleteLists.{tokens_of, Reads, reads_both, reads_one, reads_none, reads_from, reads_to, reads_head, reads_sign, reads_last, regrouped, reads_join_none}
-use Rattle.pk_grammar.proofs.CompleteSigns.{takes, strength_least, strength_most, takes_no_unary, AfterName, Sign, sign_binary, sign_step, sign_assignment, sign_close, sign_close_bracket, sign_comma, sign_question, unary_start, step_start, specifier_is, Begins, begins}
+use Rattle.pk_grammar.proofs.CompleteSigns.{takes, strength_most, takes_no_unary, sign_binary, sign_step, sign_assignment, sign_close, sign_close_bracket, sign_comma, sign_question, unary_start, step_start, specifier_is, Begins, begins}
 use Rattle.pk_grammar.proofs.CompleteReduced.{reduced_prefix, reduced_unary, reduced_cast, reduced_binary, reduced_alternative, reduced_assignment, reduced_comma, complete_same}
-use Rattle.pk_grammar.proofs.CompleteOperands.{Ends, IsAt, ends_at_sign, ends_at_colon, step_name, step_constant, step_character, step_open, step_prefix, step_unary, step_named, step_call, step_index, step_no_arguments, step_arguments, step_opened, step_cast, step_more_cast, step_cast_end, step_binary, step_postfix, step_question, step_colon, step_assignment, step_comma, step_parenthesized, step_indexed, step_called, step_argument}
+use Rattle.pk_grammar.proofs.CompleteOperands.{Ends, ends_at_sign, ends_at_colon, step_name, step_constant, step_character, step_open, step_prefix, step_unary, step_named, step_call, step_index, step_no_arguments, step_arguments, step_opened, step_cast, step_more_cast, step_cast_end, step_binary, step_postfix, step_question, step_colon, step_assignment, step_comma, step_parenthesized, step_indexed, step_called, step_argument}
 
 -- The first token of an expression
 
@@ -246,19 +246,27 @@ readable_unary o at e r = record {
 
 -- Words of a type
 
-module _ (f : List Specifier → State) (k : ℕ) (grows : (done : List Specifier) (t : Token) (w : SpecifierWord) → specifier_word t.kind ≡ Some w → step (f done) t ≡ taken k (f (done ++ specifier_at t w ∷ []))) where
-  -- from a state that takes a first word after those that were read
-  pub reads_specifiers : (specs done : List Specifier) (s : State) → ((t : Token) (w : SpecifierWord) → specifier_word t.kind ≡ Some w → step s t ≡ taken k (f (done ++ specifier_at t w ∷ []))) →
-      {ms : List Marked} {rest : List Token} → specifiers specs k ms → Reads s ms (f (done ++ specs)) rest
-  reads_specifiers [] done s takes h = absurd h
-  reads_specifiers (r ∷ []) done s takes h =
-      reads_one h (takes h.token r.word (ap specifier_word h.holds.0 ∙ specifier_is r.word) ∙ ap (λ p. taken k (f (done ++ record { word = r.word; at = p } ∷ []))) h.holds.1)
-  reads_specifiers (r ∷ q ∷ more) done s takes {ms} {rest} h =
-      reads_head h (takes h.first.token r.word (ap specifier_word h.first.holds.0 ∙ specifier_is r.word) ∙ ap (λ p. taken k (f (done ++ record { word = r.word; at = p } ∷ []))) h.first.holds.1)
-      (subst (λ specs. Reads (f (done ++ r ∷ [])) h.back (f specs) rest) (append_assoc done (r ∷ []) (q ∷ more))
-      (reads_specifiers (q ∷ more) (done ++ r ∷ []) (f (done ++ r ∷ [])) (grows (done ++ r ∷ [])) h.second))
+module _ (f : OneOrMore Specifier → State) (k : ℕ) (grows : (done : OneOrMore Specifier) (t : Token) (w : SpecifierWord) → specifier_word t.kind ≡ Some w → step (f done) t ≡ taken k (f (with_last done (specifier_at t w)))) where
+  abbrev and_all : OneOrMore Specifier → List Specifier → OneOrMore Specifier
+  and_all done more = record { first = done.first; more = done.more ++ more }
 
-readable_cast : (at : Pos) (specs : List Specifier) (e : ExpressionTree) → Readable e → Readable (cast at specs e)
+  reads_more : (more : List Specifier) (done : OneOrMore Specifier) {ms : List Marked} {rest : List Token} → specifier_list more k ms → Reads (f done) ms (f (and_all done more)) rest
+  reads_more [] done {ms} {rest} h =
+      subst (λ all. Reads (f done) ms (f (record { first = done.first; more = all })) rest) (sym (append-nil done.more)) (reads_none h)
+  reads_more (r ∷ more) done {ms} {rest} h =
+      reads_head h (grows done h.first.token r.word (ap specifier_word h.first.holds.0 ∙ specifier_is r.word) ∙ ap (λ p. taken k (f (with_last done (record { word = r.word; at = p })))) h.first.holds.1)
+      (subst (λ all. Reads (f (with_last done r)) h.back (f (record { first = done.first; more = all })) rest) (append_assoc done.more (r ∷ []) more)
+      (reads_more more (with_last done r) h.second))
+
+  -- from a state that takes a first word
+  pub reads_specifiers : (specs : OneOrMore Specifier) (s : State) → ((t : Token) (w : SpecifierWord) → specifier_word t.kind ≡ Some w → step s t ≡ taken k (f (one (specifier_at t w)))) →
+      {ms : List Marked} {rest : List Token} → specifiers specs k ms → Reads s ms (f specs) rest
+  reads_specifiers specs s takes h =
+      let r = specs.first in
+      reads_head h (takes h.first.token r.word (ap specifier_word h.first.holds.0 ∙ specifier_is r.word) ∙ ap (λ p. taken k (f (one (record { word = r.word; at = p })))) h.first.holds.1)
+      (reads_more specs.more (one r) h.second)
+
+readable_cast : (at : Pos) (specs : OneOrMore Specifier) (e : ExpressionTree) → Readable e → Readable (cast at specs e)
 unfolding spelled
 readable_cast at specs e r = record {
   reads = λ level n ms c t rest f h l ends.
@@ -266,7 +274,7 @@ readable_cast at specs e r = record {
       let g = h.second.second in
       reads_head h (step_open n c h.first.token at h.first.holds)
       (reads_both h.second
-      (reads_specifiers (λ specs. cast_specifiers n at specs c) (n + 1) (λ done t w. step_more_cast n at done c t w) specs [] (opened n at c)
+      (reads_specifiers (λ specs. cast_specifiers n at specs c) (n + 1) (λ done t w. step_more_cast n at done c t w) specs (opened n at c)
       (λ t w. step_cast n at c t w (omega (arith, f.0))) h.second.first)
       (reads_head g (step_cast_end n at specs c g.first.token g.first.holds)
       (reads_to t rest

@@ -1,26 +1,25 @@
 -- Each text of the grammar is read.
-use Rattle.std.proofs.Common.{◌≡◌, ◌≢◌, ℕ, ◌+◌, ◌≤◌, ◌⊎◌, inl, inr, Option, Some, None, Bool, true, false, List, [], ◌∷◌, ◌++◌, map, refl, sym, ap, subst, ◌∙◌, arith, append_assoc, append-nil}
+use Rattle.std.proofs.Common.{◌≡◌, ◌≢◌, inl, inr, Option, Some, None, false, List, [], ◌∷◌, ◌++◌, refl, sym, ap, subst, ◌∙◌, append_assoc, append-nil}
 use Rattle.pk_ctypes.specs.declared.places.Pos.{Pos}
 use Rattle.pk_lex.specs.declared.token.Token.{Token}
-use Rattle.pk_lex.specs.declared.token.Kind.{Kind}
 use Rattle.pk_lex.specs.declared.token.Kind.TheVariants as kind
-use Rattle.pk_lex.specs.declared.token.Keyword.TheVariants as key
 use Rattle.pk_lex.specs.declared.token.Punctuator.TheVariants as mark
 use Rattle.pk_ast.specs.declared.declarations.Specifier.{Specifier}
 use Rattle.pk_ast.specs.declared.declarations.SpecifierWord.{SpecifierWord}
 use Rattle.pk_ast.specs.declared.declarations.SpecifierWord.TheVariants as word
 use Rattle.pk_ast.specs.declared.expressions.Identifier.{Identifier}
 use Rattle.pk_ast.specs.declared.units.Storage.{Storage}
-use Rattle.pk_ast.specs.Trees.{DeclarationTree, block, no_items, BlockTree, ParameterTree, FunctionTree, ExternalTree, function, objects}
+use Rattle.pk_ast.specs.Trees.{OneOrMore, no_items, BlockTree, ParameterTree, FunctionTree, ExternalTree, function, objects}
+use Rattle.pk_ast.specs.Lists.{one, with_last}
 use Rattle.pk_grammar.specs.declared.signs.Fixed.TheVariants as fixed
-use Rattle.pk_grammar.specs.Languages.{Marked, One, Identified, Inside, Where, Optional, ◌⊙◌, identifier_of}
-use Rattle.pk_grammar.specs.Grammar.{punctuator, keyword, specifiers, declared, stored, optional_name, parameter, IsVoidAlone, more_parameters, parameters, function_end, statement, block_items, external, externals}
-use Rattle.pk_grammar.specs.Signs.{is_fixed, specifier_word, storage_word, is_void_word}
-use Rattle.pk_grammar.specs.States.{Head, function_block, Site, outside, State, top, after_storage, after_specifiers, after_name, parameters_open, parameter_specifiers, parameter_name, parameter_comma, parameters_closed, block_item}
-use Rattle.pk_grammar.specs.Steps.{Verdict, taken, finished, step, read, read_on, Reading, ends, specifier_at, storage_at, storage_or_specifier, begin_external, begin_parameter, more_parameter, is_void, last_parameter, end_block}
-use Rattle.pk_grammar.proofs.CompleteLists.{tokens_of, nestings_of, before, Reads, reads_join, reads_both, reads_one, reads_none, reads_from, reads_to, reads_head, reads_sign, reads_last, reads_join_none, regrouped}
-use Rattle.pk_grammar.proofs.CompleteSigns.{storage_is, specifier_is, IsSpecifier, specifier_alone}
-use Rattle.pk_grammar.proofs.CompleteOperands.{IsAt, same_false, same_true}
+use Rattle.pk_grammar.specs.Languages.{Marked, ◌⊙◌, identifier_of}
+use Rattle.pk_grammar.specs.Grammar.{stored, optional_name, parameter, IsVoidAlone, more_parameters, parameters, function_end, statement, external, externals}
+use Rattle.pk_grammar.specs.Machine.Signs.{is_fixed, specifier_word, storage_word, is_void_word}
+use Rattle.pk_grammar.specs.Machine.States.{Head, function_block, Site, outside, State, top, after_storage, after_specifiers, after_name, parameters_open, parameter_specifiers, parameter_name, parameter_comma, parameters_closed, block_item}
+use Rattle.pk_grammar.specs.Machine.Steps.{taken, step, read, ends, specifier_at, storage_or_specifier, begin_external, begin_parameter, more_parameter, is_void_alone, last_parameter, end_block}
+use Rattle.pk_grammar.proofs.CompleteLists.{tokens_of, nestings_of, before, Reads, reads_both, reads_one, reads_none, reads_head, reads_sign, reads_last, reads_join_none}
+use Rattle.pk_grammar.proofs.CompleteSigns.{storage_is, specifier_alone}
+use Rattle.pk_grammar.proofs.CompleteOperands.{IsAt, same_false}
 use Rattle.pk_grammar.proofs.CompleteExpressions.{ReadsTo, reads_specifiers}
 use Rattle.pk_grammar.proofs.CompleteDeclarations.{step_first_name, step_more_specifiers, reads_declared}
 use Rattle.pk_grammar.proofs.CompleteBodies.{items_read, filled_function}
@@ -28,7 +27,7 @@ use Rattle.pk_grammar.proofs.CompleteBodies.{items_read, filled_function}
 -- What a definition begins with
 
 abbrev TakesType : State → Site → Type 0
-TakesType q s = (t : Token) (w : SpecifierWord) → specifier_word t.kind ≡ Some w → step q t ≡ taken 0 (after_specifiers s (specifier_at t w ∷ []))
+TakesType q s = (t : Token) (w : SpecifierWord) → specifier_word t.kind ≡ Some w → step q t ≡ taken 0 (after_specifiers s (one (specifier_at t w)))
 
 record ReadsStorage (done : List ExternalTree) (s : Option Storage) (ms : List Marked) (rest : List Token) : Type 0 where
   state : State
@@ -54,7 +53,7 @@ reads_stored done (Some s) ms rest h = record {
 -- Parameters
 
 abbrev TakesParameter : State → Head → List ParameterTree → Type 0
-TakesParameter q h ps = (t : Token) (w : SpecifierWord) → specifier_word t.kind ≡ Some w → step q t ≡ taken 1 (parameter_specifiers h ps (specifier_at t w ∷ []))
+TakesParameter q h ps = (t : Token) (w : SpecifierWord) → specifier_word t.kind ≡ Some w → step q t ≡ taken 1 (parameter_specifiers h ps (one (specifier_at t w)))
 
 open_takes : (h : Head) → TakesParameter (parameters_open h) h []
 open_takes h t w e = same_false (is_fixed fixed.CloseParenthesis t.kind) _ _ (specifier_alone t.kind w e).no_close ∙ ap (λ o. begin_parameter h [] t o) e
@@ -62,7 +61,7 @@ open_takes h t w e = same_false (is_fixed fixed.CloseParenthesis t.kind) _ _ (sp
 comma_takes : (h : Head) (ps : List ParameterTree) → TakesParameter (parameter_comma h ps) h ps
 comma_takes h ps t w e = ap (λ o. begin_parameter h ps t o) e
 
-abbrev with_name : List Specifier → Option Identifier → ParameterTree
+abbrev with_name : OneOrMore Specifier → Option Identifier → ParameterTree
 with_name specs n = record { specifiers = specs; name = n }
 
 -- a parameter that may be the last one
@@ -75,29 +74,31 @@ record ReadsParameter (q : State) (h : Head) (ps : List ParameterTree) (p : Para
   comma : (t : Token) → t.kind ≡ kind.Punctuator mark.Comma → step state t ≡ taken 1 (parameter_comma h (ps ++ p ∷ []))
   close : (t : Token) → t.kind ≡ kind.Punctuator mark.CloseParenthesis → ¬ IsNone ps p → step state t ≡ taken 0 (parameters_closed h (ps ++ p ∷ []))
 
-no_void : (s : Specifier) (w : SpecifierWord) → s.word ≡ w → ¬ IsVoidAlone (with_name (s ∷ []) None) → is_void_word w ≡ false
-no_void s word.Void e h = absurd (h (ap (λ w. w ∷ []) e, refl))
+no_void : (s : Specifier) (w : SpecifierWord) → s.word ≡ w → ¬ IsVoidAlone (with_name (one s) None) → is_void_word w ≡ false
+no_void s word.Void e h = absurd (h (e, refl, refl))
 no_void s _ e h = refl
 
-last_is : (ps : List ParameterTree) (specs : List Specifier) → ¬ IsNone ps (with_name specs None) → last_parameter ps specs ≡ ps ++ with_name specs None ∷ []
-last_is [] [] h = refl
-last_is [] (s ∷ []) h = rw (no_void s s.word refl (λ v. h (refl, v)))
-last_is [] (s ∷ r ∷ more) h = refl
+no_void_alone : (s : Specifier) (more : List Specifier) → ¬ IsVoidAlone (with_name (record { first = s; more = more }) None) → is_void_alone s.word more ≡ false
+no_void_alone s [] h = no_void s s.word refl h
+no_void_alone s (r ∷ more) h = refl
+
+last_is : (ps : List ParameterTree) (specs : OneOrMore Specifier) → ¬ IsNone ps (with_name specs None) → last_parameter ps specs ≡ ps ++ with_name specs None ∷ []
+last_is [] specs h = rw (no_void_alone specs.first specs.more (λ v. h (refl, v)))
 last_is (p ∷ ps) specs h = refl
 
-step_more_parameter : (h : Head) (ps : List ParameterTree) (specs : List Specifier) (t : Token) (w : SpecifierWord) → specifier_word t.kind ≡ Some w →
-    step (parameter_specifiers h ps specs) t ≡ taken 1 (parameter_specifiers h ps (specs ++ specifier_at t w ∷ []))
+step_more_parameter : (h : Head) (ps : List ParameterTree) (specs : OneOrMore Specifier) (t : Token) (w : SpecifierWord) → specifier_word t.kind ≡ Some w →
+    step (parameter_specifiers h ps specs) t ≡ taken 1 (parameter_specifiers h ps (with_last specs (specifier_at t w)))
 step_more_parameter h ps specs t w e = ap (λ w. more_parameter h ps specs t w) e
 
-step_parameter_name : (h : Head) (ps : List ParameterTree) (specs : List Specifier) (id : Identifier) (t : Token) → (t.kind ≡ kind.Name) × (identifier_of t ≡ id) →
+step_parameter_name : (h : Head) (ps : List ParameterTree) (specs : OneOrMore Specifier) (id : Identifier) (t : Token) → (t.kind ≡ kind.Name) × (identifier_of t ≡ id) →
     step (parameter_specifiers h ps specs) t ≡ taken 1 (parameter_name h ps (with_name specs (Some id)))
 step_parameter_name h ps specs id t e = rw e.0 (ap (λ i. taken 1 (parameter_name h ps (with_name specs (Some i)))) e.1)
 
-step_unnamed_comma : (h : Head) (ps : List ParameterTree) (specs : List Specifier) (t : Token) → t.kind ≡ kind.Punctuator mark.Comma →
+step_unnamed_comma : (h : Head) (ps : List ParameterTree) (specs : OneOrMore Specifier) (t : Token) → t.kind ≡ kind.Punctuator mark.Comma →
     step (parameter_specifiers h ps specs) t ≡ taken 1 (parameter_comma h (ps ++ with_name specs None ∷ []))
 step_unnamed_comma h ps specs t e = rw e
 
-step_unnamed_close : (h : Head) (ps : List ParameterTree) (specs : List Specifier) (t : Token) → t.kind ≡ kind.Punctuator mark.CloseParenthesis →
+step_unnamed_close : (h : Head) (ps : List ParameterTree) (specs : OneOrMore Specifier) (t : Token) → t.kind ≡ kind.Punctuator mark.CloseParenthesis →
     step (parameter_specifiers h ps specs) t ≡ taken 0 (parameters_closed h (last_parameter ps specs))
 step_unnamed_close h ps specs t e = rw e
 
@@ -108,7 +109,7 @@ step_named_close : (h : Head) (ps : List ParameterTree) (p : ParameterTree) (t :
     step (parameter_name h ps p) t ≡ taken 0 (parameters_closed h (ps ++ p ∷ []))
 step_named_close h ps p t e = rw e
 
-reads_name : (h : Head) (ps : List ParameterTree) (specs : List Specifier) (n : Option Identifier) (ms : List Marked) (rest : List Token) → optional_name n 1 ms →
+reads_name : (h : Head) (ps : List ParameterTree) (specs : OneOrMore Specifier) (n : Option Identifier) (ms : List Marked) (rest : List Token) → optional_name n 1 ms →
     ReadsParameter (parameter_specifiers h ps specs) h ps (with_name specs n) ms rest
 reads_name h ps specs None ms rest is = record {
   state = parameter_specifiers h ps specs;
@@ -129,7 +130,7 @@ reads_parameter q h ps p ms rest takes is =
     let n = reads_name h ps p.specifiers p.name is.back rest is.second in
     record {
       state = n.state;
-      reads = reads_both is (reads_specifiers (parameter_specifiers h ps) 1 (step_more_parameter h ps) p.specifiers [] q takes is.first) n.reads;
+      reads = reads_both is (reads_specifiers (parameter_specifiers h ps) 1 (step_more_parameter h ps) p.specifiers q takes is.first) n.reads;
       comma = n.comma;
       close = n.close;
     }
@@ -160,7 +161,7 @@ step_no_parameters : (h : Head) (t : Token) → t.kind ≡ kind.Punctuator mark.
 step_no_parameters h t e = rw e
 
 step_void_close : (h : Head) (at : Pos) (t : Token) → t.kind ≡ kind.Punctuator mark.CloseParenthesis →
-    step (parameter_specifiers h [] (record { word = word.Void; at = at } ∷ [])) t ≡ taken 0 (parameters_closed h [])
+    step (parameter_specifiers h [] (one (record { word = word.Void; at = at }))) t ≡ taken 0 (parameters_closed h [])
 step_void_close h at t e = rw e
 
 reads_all_parameters : (ps : List ParameterTree) (h : Head) (ms : List Marked) (t : Token) (rest : List Token) → parameters ps 1 ms → t.kind ≡ kind.Punctuator mark.CloseParenthesis →
@@ -168,7 +169,7 @@ reads_all_parameters : (ps : List ParameterTree) (h : Head) (ms : List Marked) (
 reads_all_parameters [] h ms t rest is close = elim is [
   | inl e ↦ record { state = parameters_open h; reads = reads_none e; then = step_no_parameters h t close }
   | inr void ↦ record {
-    state = parameter_specifiers h [] (specifier_at void.token word.Void ∷ []);
+    state = parameter_specifiers h [] (one (specifier_at void.token word.Void));
     reads = reads_one void (open_takes h void.token word.Void (ap specifier_word void.holds));
     then = step_void_close h void.token.at t close;
   }
@@ -181,7 +182,7 @@ reads_all_parameters (p ∷ q ∷ more) h ms t rest is close =
 
 -- Functions
 
-step_function : (done : List ExternalTree) (s : Option Storage) (specs : List Specifier) (id : Identifier) (t : Token) → t.kind ≡ kind.Punctuator mark.OpenParenthesis →
+step_function : (done : List ExternalTree) (s : Option Storage) (specs : OneOrMore Specifier) (id : Identifier) (t : Token) → t.kind ≡ kind.Punctuator mark.OpenParenthesis →
     step (after_name (record { site = outside done s; specifiers = specs; declarators = [] }) id) t ≡ taken 1 (parameters_open (record { before = done; storage = s; specifiers = specs; name = id }))
 step_function done s specs id t e = rw e
 
@@ -216,7 +217,7 @@ reads_function f done ms rest h =
     let s = reads_stored done f.storage h.front (tokens_of h.back ++ rest) h.first in
     let p = reads_all_parameters f.parameters head c.first.back d.first.token (tokens_of d.back ++ rest) c.first.second d.first.holds in
     reads_both h s.reads
-    (reads_both a (reads_specifiers (after_specifiers (outside done f.storage)) 0 (step_more_specifiers (outside done f.storage)) f.specifiers [] s.state s.takes a.first)
+    (reads_both a (reads_specifiers (after_specifiers (outside done f.storage)) 0 (step_more_specifiers (outside done f.storage)) f.specifiers s.state s.takes a.first)
     (reads_both b (reads_one b.first (step_first_name (outside done f.storage) f.specifiers b.first.token b.first.holds.0
     ∙ ap (λ id. taken 0 (after_name (record { site = outside done f.storage; specifiers = f.specifiers; declarators = [] }) id)) b.first.holds.1))
     (reads_sign c.front c.cut d

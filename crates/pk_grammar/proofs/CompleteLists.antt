@@ -1,10 +1,9 @@
 -- How the parser reads marked tokens, one list after another.
-use Rattle.std.proofs.Common.{◌≡◌, ℕ, ◌+◌, ◌≤◌, List, [], ◌∷◌, ◌++◌, refl, sym, ap, subst, ◌∙◌, append_assoc, append-nil}
+use Rattle.std.proofs.Common.{◌≡◌, ℕ, List, [], ◌∷◌, ◌++◌, refl, sym, ap, subst, ◌∙◌, append_assoc, append-nil}
 use Rattle.pk_lex.specs.declared.token.Token.{Token}
-use Rattle.pk_ast.specs.Trees.{ExpressionTrees, no_expressions, expression_then}
 use Rattle.pk_grammar.specs.Languages.{Marked, One, ◌⊙◌}
-use Rattle.pk_grammar.specs.States.{State}
-use Rattle.pk_grammar.specs.Steps.{Verdict, taken, step, Reading, then_reading, read_on, read, one_more}
+use Rattle.pk_grammar.specs.Machine.States.{State}
+use Rattle.pk_grammar.specs.Machine.Steps.{taken, step, Reading, then_reading, read_on, read}
 
 abbrev pub tokens_of : List Marked → List Token
 tokens_of [] = []

@@ -1,5 +1,5 @@
 -- What the parser does at each token of an expression.
-use Rattle.std.proofs.Common.{◌≡◌, ◌≢◌, ℕ, ◌+◌, ◌≤◌, ◌<◌, ◌⊎◌, inl, inr, Option, Some, None, Bool, true, false, if◌then◌else◌, List, [], ◌∷◌, ◌++◌, refl, sym, ap, subst, ◌∙◌, arith, le-leb}
+use Rattle.std.proofs.Common.{◌≡◌, ℕ, ◌+◌, ◌≤◌, ◌⊎◌, inl, inr, Some, Bool, true, false, if◌then◌else◌, refl, sym, ap, subst, ◌∙◌, arith, le-leb}
 use Rattle.pk_ctypes.specs.declared.places.Pos.{Pos}
 use Rattle.pk_lex.specs.declared.token.Token.{Token}
 use Rattle.pk_lex.specs.declared.token.Kind.{Kind}
@@ -9,22 +9,20 @@ use Rattle.pk_lex.specs.declared.token.Punctuator.TheVariants as mark
 use Rattle.pk_ast.specs.declared.declarations.Specifier.{Specifier}
 use Rattle.pk_ast.specs.declared.declarations.SpecifierWord.{SpecifierWord}
 use Rattle.pk_ast.specs.declared.expressions.Identifier.{Identifier}
-use Rattle.pk_ast.specs.declared.expressions.BinaryOperator.{BinaryOperator}
-use Rattle.pk_ast.specs.declared.expressions.UnaryOperator.{UnaryOperator}
-use Rattle.pk_ast.specs.declared.expressions.StepOperator.{StepOperator}
-use Rattle.pk_ast.specs.declared.expressions.AssignmentOperator.{AssignmentOperator}
-use Rattle.pk_ast.specs.Trees.{ExpressionTree, name, call, index, constant, character, parenthesized, postfix, prefix, unary, cast, binary, conditional, assignment, comma, ExpressionTrees, no_expressions, expression_then}
+use Rattle.pk_ast.specs.declared.operators.BinaryOperator.{BinaryOperator}
+use Rattle.pk_ast.specs.declared.operators.UnaryOperator.{UnaryOperator}
+use Rattle.pk_ast.specs.declared.operators.StepOperator.{StepOperator}
+use Rattle.pk_ast.specs.declared.operators.AssignmentOperator.{AssignmentOperator}
+use Rattle.pk_ast.specs.Trees.{OneOrMore, ExpressionTree, name, call, index, constant, character, parenthesized, postfix, cast, binary, conditional, assignment, comma, ExpressionTrees, no_expressions}
+use Rattle.pk_ast.specs.Lists.{one, with_last}
 use Rattle.pk_grammar.specs.declared.signs.Fixed.TheVariants as fixed
-use Rattle.pk_grammar.specs.declared.signs.OperandStart.{OperandStart}
-use Rattle.pk_grammar.specs.declared.signs.OperandStart.TheVariants as start
 use Rattle.pk_grammar.specs.declared.signs.Operator.{Operator}
-use Rattle.pk_grammar.specs.declared.signs.Operator.TheVariants as operator
 use Rattle.pk_grammar.specs.Languages.{identifier_of}
-use Rattle.pk_grammar.specs.Grammar.{binary_sign, unary_sign, step_sign, assignment_sign, specifier_keyword, strength, any_expression, weakest_operator, cast_expression, assignment_expression, Fits, operators_in, postfixes_in, commas_in}
-use Rattle.pk_grammar.specs.Signs.{is_fixed, operand_start, operator_of, specifier_word}
-use Rattle.pk_grammar.specs.States.{Purpose, as_statement, as_label, as_test, as_last_test, as_first, as_second, as_third, as_result, as_length, as_value, as_item, Context, as_whole, in_parentheses, in_index, in_call, in_prefix, in_unary, in_cast, in_binary, in_choice, in_alternative, in_assignment, in_comma, State, operand, named, arguments, opened, cast_specifiers, complete}
-use Rattle.pk_grammar.specs.Steps.{Verdict, taken, Reduced, reduced, operand_level, begin_operand, go_on, join_binary, join_question, join_assignment, join_comma, is_unary, comma_after, end_expression, at_operand, at_complete, at_named, open_cast, more_cast, specifier_at, one_more, wanted, step}
-use Rattle.pk_grammar.proofs.CompleteSigns.{takes, strength_least, strength_most, AfterName, Sign, sign_binary, sign_step, sign_assignment, unary_start, step_start, specifier_is, Begins, begins}
+use Rattle.pk_grammar.specs.Grammar.{binary_sign, unary_sign, step_sign, assignment_sign, strength, Fits, operators_in, postfixes_in, commas_in}
+use Rattle.pk_grammar.specs.Machine.Signs.{is_fixed, operand_start, operator_of, specifier_word}
+use Rattle.pk_grammar.specs.Machine.States.{as_statement, as_label, as_test, as_last_test, as_first, as_second, as_third, as_result, as_length, as_value, as_item, Context, as_whole, in_parentheses, in_index, in_call, in_prefix, in_unary, in_cast, in_binary, in_choice, in_alternative, in_assignment, in_comma, operand, named, arguments, opened, cast_specifiers, complete}
+use Rattle.pk_grammar.specs.Machine.Steps.{taken, Reduced, reduced, operand_level, begin_operand, go_on, join_binary, join_question, join_assignment, join_comma, is_unary, comma_after, open_cast, more_cast, specifier_at, one_more, step}
+use Rattle.pk_grammar.proofs.CompleteSigns.{takes, strength_least, strength_most, Sign, sign_binary, sign_step, sign_assignment, unary_start, step_start, Begins}
 use Rattle.pk_grammar.proofs.CompleteReduced.{kept}
 
 -- A token that ends an expression of this level, or takes it as its left operand
@@ -100,14 +98,14 @@ step_opened n at c t b = ap (λ w. open_cast n at c t w) b.no_specifier
 -- Casts
 
 pub step_cast : (n : ℕ) (at : Pos) (c : Context) (t : Token) (w : SpecifierWord) → operand_level c ≤ 13 → specifier_word t.kind ≡ Some w →
-    step (opened n at c) t ≡ taken (n + 1) (cast_specifiers n at (specifier_at t w ∷ []) c)
+    step (opened n at c) t ≡ taken (n + 1) (cast_specifiers n at (one (specifier_at t w)) c)
 step_cast n at c t w h e = ap (λ w. open_cast n at c t w) e ∙ rw (le-leb (operand_level c) 13 h)
 
-pub step_more_cast : (n : ℕ) (at : Pos) (specs : List Specifier) (c : Context) (t : Token) (w : SpecifierWord) → specifier_word t.kind ≡ Some w →
-    step (cast_specifiers n at specs c) t ≡ taken (n + 1) (cast_specifiers n at (specs ++ specifier_at t w ∷ []) c)
+pub step_more_cast : (n : ℕ) (at : Pos) (specs : OneOrMore Specifier) (c : Context) (t : Token) (w : SpecifierWord) → specifier_word t.kind ≡ Some w →
+    step (cast_specifiers n at specs c) t ≡ taken (n + 1) (cast_specifiers n at (with_last specs (specifier_at t w)) c)
 step_more_cast n at specs c t w e = ap (λ w. more_cast n at specs c t w) e
 
-pub step_cast_end : (n : ℕ) (at : Pos) (specs : List Specifier) (c : Context) (t : Token) → t.kind ≡ kind.Punctuator mark.CloseParenthesis →
+pub step_cast_end : (n : ℕ) (at : Pos) (specs : OneOrMore Specifier) (c : Context) (t : Token) → t.kind ≡ kind.Punctuator mark.CloseParenthesis →
     step (cast_specifiers n at specs c) t ≡ taken (n + 1) (operand (n + 1) (in_cast n at specs c))
 step_cast_end n at specs c t e = rw e
 

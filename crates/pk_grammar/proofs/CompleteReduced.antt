@@ -1,17 +1,16 @@
 -- What an operand's end completes: operators that stand before it, as many as the next token lets be.
-use Rattle.std.proofs.Common.{◌≡◌, ◌≢◌, ℕ, ◌+◌, ◌≤◌, ◌<◌, ◌⊎◌, inl, inr, Option, Some, None, Bool, true, false, cond, refl, sym, ap, ◌∙◌, arith, le-leb}
+use Rattle.std.proofs.Common.{◌≡◌, ℕ, ◌≤◌, ◌⊎◌, refl, ap, arith, le-leb}
 use Rattle.std.proofs.lemmas.Bool.{lt-leb}
 use Rattle.pk_ctypes.specs.declared.places.Pos.{Pos}
 use Rattle.pk_lex.specs.declared.token.Token.{Token}
-use Rattle.pk_ast.specs.declared.declarations.Specifier.{Specifier}
-use Rattle.pk_ast.specs.declared.expressions.BinaryOperator.{BinaryOperator}
+use Rattle.pk_ast.specs.declared.operators.BinaryOperator.{BinaryOperator}
 use Rattle.pk_ast.specs.Trees.{ExpressionTree, prefix, unary, cast, binary, conditional, assignment, comma}
 use Rattle.pk_grammar.specs.declared.signs.Operator.{Operator}
 use Rattle.pk_grammar.specs.declared.signs.Operator.TheVariants as operator
-use Rattle.pk_grammar.specs.Grammar.{strength, any_expression, assignment_expression, conditional_expression, weakest_operator, cast_expression}
-use Rattle.pk_grammar.specs.Signs.{operator_of}
-use Rattle.pk_grammar.specs.States.{Context, as_whole, in_parentheses, in_index, in_call, in_prefix, in_unary, in_cast, in_binary, in_choice, in_alternative, in_assignment, in_comma, State, complete}
-use Rattle.pk_grammar.specs.Steps.{Reduced, reduced, operand_level, join_binary, join_question, join_assignment, comma_after, end_expression, go_on, step}
+use Rattle.pk_grammar.specs.Grammar.{strength, any_expression, assignment_expression, conditional_expression}
+use Rattle.pk_grammar.specs.Machine.Signs.{operator_of}
+use Rattle.pk_grammar.specs.Machine.States.{Context, as_whole, in_parentheses, in_index, in_call, in_prefix, in_unary, in_cast, in_binary, in_choice, in_alternative, in_assignment, in_comma, complete}
+use Rattle.pk_grammar.specs.Machine.Steps.{Reduced, reduced, operand_level, join_binary, join_question, join_assignment, comma_after, end_expression, go_on, step}
 use Rattle.pk_grammar.proofs.CompleteSigns.{takes}
 
 -- nothing is completed where the operator before takes an operand as strong as this one

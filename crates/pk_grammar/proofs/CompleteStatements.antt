@@ -1,31 +1,26 @@
 -- Each statement of the grammar is read, up to any token that doesn't go on with it.
-use Rattle.std.proofs.Common.{◌≡◌, ◌≢◌, ℕ, ◌+◌, ◌≤◌, ◌⊎◌, inl, inr, Option, Some, None, Bool, true, false, List, [], ◌∷◌, ◌++◌, refl, sym, ap, subst, ◌∙◌, arith, append_assoc}
+use Rattle.std.proofs.Common.{◌≡◌, ℕ, ◌+◌, ◌≤◌, Option, Some, None, false, List, [], ◌∷◌, ◌++◌, refl, sym, ap, subst, ◌∙◌, arith}
 use Rattle.pk_ctypes.specs.declared.places.Pos.{Pos}
 use Rattle.pk_lex.specs.declared.token.Token.{Token}
 use Rattle.pk_lex.specs.declared.token.Kind.{Kind}
 use Rattle.pk_lex.specs.declared.token.Kind.TheVariants as kind
 use Rattle.pk_lex.specs.declared.token.Keyword.{Keyword}
 use Rattle.pk_lex.specs.declared.token.Keyword.TheVariants as key
-use Rattle.pk_lex.specs.declared.token.Punctuator.{Punctuator}
 use Rattle.pk_lex.specs.declared.token.Punctuator.TheVariants as mark
 use Rattle.pk_ast.specs.declared.declarations.Specifier.{Specifier}
-use Rattle.pk_ast.specs.declared.declarations.SpecifierWord.{SpecifierWord}
 use Rattle.pk_ast.specs.declared.expressions.Identifier.{Identifier}
-use Rattle.pk_ast.specs.Trees.{ExpressionTree, DeclarationTree, ForStartTree, declaration, expression, StatementTree, block, empty, expression_statement, label, case, default, if_then, if_else, switch, while, do_while, for_loop, goto, continue, break, return, ItemTrees, no_items, declaration_then, statement_then}
+use Rattle.pk_ast.specs.Trees.{OneOrMore, ExpressionTree, StatementTree, block, empty, expression_statement, label, case, default, if_then, if_else, switch, while, do_while, for_loop, goto, continue, break, return, ItemTrees, no_items, declaration_then, statement_then}
 use Rattle.pk_grammar.specs.declared.states.Testing.{Testing}
-use Rattle.pk_grammar.specs.declared.states.Testing.TheVariants as testing
 use Rattle.pk_grammar.specs.declared.signs.Fixed.TheVariants as fixed
-use Rattle.pk_grammar.specs.declared.signs.StatementStart.TheVariants as first
-use Rattle.pk_grammar.specs.Languages.{Marked, One, Identified, Inside, Where, Optional, ◌⊙◌, identifier_of}
-use Rattle.pk_grammar.specs.Grammar.{Expression, punctuator, keyword, specifiers, declared, OpenEnd, test, for_start, optional, statement, block_items}
-use Rattle.pk_grammar.specs.Signs.{is_fixed, specifier_word, statement_start}
-use Rattle.pk_grammar.specs.States.{OpenBlock, function_block, inner_block, Outer, in_block, in_label, in_case, in_default, in_if, in_else, in_switch, in_while, in_do, in_for, in_a_block, in_a_for, Purpose, as_statement, as_label, as_test, as_last_test, as_first, as_second, as_third, as_result, as_whole, State, block_item, at_statement, after_statement, test_open, do_open, for_open, for_first, for_second, for_third, default_colon, goto_name, returning, statement_end, operand, named, complete}
-use Rattle.pk_grammar.specs.Steps.{Verdict, taken, reduced, purpose_level, operand_level, specifier_at, block_nesting, with_statement, with_declaration, tested, begin_statement, declaration_or_statement, end_block, begin_for, resume, step}
-use Rattle.pk_grammar.proofs.CompleteLists.{tokens_of, Reads, reads_both, reads_one, reads_none, reads_from, reads_to, reads_head, reads_sign, reads_last, regrouped}
-use Rattle.pk_grammar.proofs.CompleteSigns.{Sign, Begins, begins, sign_semicolon, sign_close, specifier_no_else}
-use Rattle.pk_grammar.proofs.CompleteOperands.{Ends, IsAt, ends_at_sign, ends_at_colon, same_false}
-use Rattle.pk_grammar.proofs.CompleteExpressions.{Starts, starts, from_operand, readable, ReadsTo}
-use Rattle.pk_grammar.proofs.CompleteDeclarations.{reads_declared}
+use Rattle.pk_grammar.specs.Languages.{Marked, One, ◌⊙◌, identifier_of}
+use Rattle.pk_grammar.specs.Grammar.{Expression, punctuator, specifiers, OpenEnd, test, optional, statement, block_items}
+use Rattle.pk_grammar.specs.Machine.Signs.{is_fixed, specifier_word}
+use Rattle.pk_grammar.specs.Machine.States.{Outer, Purpose, as_statement, as_test, as_result, as_whole, State, at_statement, after_statement, test_open, goto_name, returning, statement_end, operand, complete}
+use Rattle.pk_grammar.specs.Machine.Steps.{Verdict, taken, reduced, purpose_level, tested, begin_statement, step}
+use Rattle.pk_grammar.proofs.CompleteLists.{tokens_of, Reads, reads_both, reads_one, reads_none, reads_head, reads_last}
+use Rattle.pk_grammar.proofs.CompleteSigns.{Begins, begins, sign_semicolon, sign_close, specifier_no_else}
+use Rattle.pk_grammar.proofs.CompleteOperands.{Ends, IsAt, ends_at_sign, same_false}
+use Rattle.pk_grammar.proofs.CompleteExpressions.{starts, from_operand, readable, ReadsTo}
 
 -- First tokens
 
@@ -76,10 +71,8 @@ first_statement (return at e) n ms h = first_front h (first_front h.first (first
 abbrev pub NoElse : Kind → Type 0
 NoElse k = is_fixed fixed.Else k ≡ false
 
-first_specifiers : (specs : List Specifier) (n : ℕ) (ms : List Marked) → specifiers specs n ms → First NoElse ms
-first_specifiers [] n ms h = absurd h
-first_specifiers (s ∷ []) n ms h = first_one h _ h.holds.0 (specifier_no_else s.word)
-first_specifiers (s ∷ r ∷ more) n ms h = first_front h (first_one h.first _ h.first.holds.0 (specifier_no_else s.word))
+first_specifiers : (specs : OneOrMore Specifier) (n : ℕ) (ms : List Marked) → specifiers specs n ms → First NoElse ms
+first_specifiers specs n ms h = first_front h (first_one h.first _ h.first.holds.0 (specifier_no_else specs.first.word))
 
 -- the token behind an item of a block
 pub record NextToken (ts : List Token) : Type 0 where

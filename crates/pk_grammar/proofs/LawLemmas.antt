@@ -4,8 +4,8 @@ use Rattle.pk_lex.specs.declared.token.Token.{Token}
 use Rattle.pk_ast.specs.Trees.{ExternalTree}
 use Rattle.pk_grammar.specs.Languages.{Marked}
 use Rattle.pk_grammar.specs.Grammar.{text}
-use Rattle.pk_grammar.specs.States.{State, top}
-use Rattle.pk_grammar.specs.Steps.{Verdict, taken, refused, finished, step, Reading, read_on, read}
+use Rattle.pk_grammar.specs.Machine.States.{State, top}
+use Rattle.pk_grammar.specs.Machine.Steps.{Verdict, taken, refused, finished, step, Reading, read_on, read}
 use Rattle.pk_grammar.specs.Outcomes.{unmarked, GoesOnFrom}
 use Rattle.pk_grammar.proofs.CompleteLists.{tokens_of, nestings_of}
 use Rattle.pk_grammar.proofs.CompleteExternals.{read_text}

@@ -23,3 +23,4 @@ pub mod SpellsReading
 mod EndLemmas
 pub mod OutcomeLemmas
 pub mod LawLemmas
+mod NameLemmas

@@ -1,22 +1,21 @@
 -- From what is answered to what is promised.
-use Rattle.std.proofs.Common.{◌≡◌, ◌≢◌, ℕ, ◌+◌, ◌<◌, ◌≤◌, List, [], ◌∷◌, ◌++◌, map, Bool, true, false, refl, sym, ap, subst, ◌∙◌, append_assoc, arith}
+use Rattle.std.proofs.Common.{◌≡◌, ◌≢◌, ℕ, ◌<◌, ◌≤◌, List, [], ◌∷◌, ◌++◌, Bool, true, false, refl, sym, ap, subst, ◌∙◌, append_assoc, arith, append-nil}
 use Rattle.std.specs.Prelude.{nat_le, if◌then◌else◌}
 use Rattle.pk_ctypes.specs.declared.places.Pos.{Pos}
 use Rattle.pk_lex.specs.declared.token.Token.{Token}
 use Rattle.pk_lex.specs.declared.token.Kind.TheVariants as kind
 use Rattle.pk_ast.specs.Trees.{ExternalTree}
 use Rattle.pk_grammar.specs.Languages.{Marked}
-use Rattle.pk_grammar.specs.Grammar.{externals, text}
-use Rattle.pk_grammar.specs.States.{State, top}
-use Rattle.pk_grammar.specs.Steps.{Verdict, taken, refused, finished, step}
+use Rattle.pk_grammar.specs.Grammar.{externals}
+use Rattle.pk_grammar.specs.Machine.States.{State, top}
+use Rattle.pk_grammar.specs.Machine.Steps.{Verdict, taken, refused, finished, step}
 use Rattle.pk_grammar.specs.Outcomes.{nesting_limit, IsEnded, unmarked, IsWithin, IsParsed, SomeTextBegins, FailsSyntax, FailsNesting}
-use Rattle.pk_grammar.specs.Running.{Answer, trees, syntax, deep, end_of, run_on, run}
+use Rattle.pk_grammar.specs.Machine.Running.{Answer, trees, syntax, deep, end_of, run_on, run}
 use Rattle.pk_grammar.proofs.CompleteLists.{tokens_of}
-use Rattle.pk_grammar.proofs.SpellsWords.{append_nil}
 use Rattle.pk_grammar.proofs.SpellsStates.{Spells}
 use Rattle.pk_grammar.proofs.SpellsGood.{le_true, le_false}
-use Rattle.pk_grammar.proofs.Spells.{GoesOn, spells_start, spells_step, spells_end, spells_goes_on}
-use Rattle.pk_grammar.proofs.SpellsReading.{Leads, leads_none, leads_more, one_unit, refused_so, nested_so, BeginsWith}
+use Rattle.pk_grammar.proofs.Spells.{spells_start, spells_step, spells_end, spells_goes_on}
+use Rattle.pk_grammar.proofs.SpellsReading.{Leads, leads_none, leads_more, one_unit, refused_so, nested_so}
 use Rattle.pk_grammar.proofs.EndLemmas.{IsNotTaken, not_taken}
 
 pub tokens_of_all : (ms : List Marked) → unmarked ms ≡ tokens_of ms
@@ -115,10 +114,10 @@ module _ (end : Token) (is_end : end.kind ≡ kind.End) where
         place = refl;
         leads = leads_none s;
         refuses = e;
-        spells = subst (λ q. Spells s q) (sym (append_nil ms)) h;
+        spells = subst (λ q. Spells s q) (sym (append-nil ms)) h;
         within = tt;
       }
-      go (finished u) e f = record { back = []; cut = refl; derived = subst (λ q. externals u 0 q) (sym (append_nil ms)) (spells_end s (end_of end) u ms h e).1; within = tt }
+      go (finished u) e f = record { back = []; cut = refl; derived = subst (λ q. externals u 0 q) (sym (append-nil ms)) (spells_end s (end_of end) u ms h e).1; within = tt }
   comes (t ∷ ts) free s ms h = go (λ r ns k. comes ts free.1 r ns k) (step s t) refl
     where
       deeper : (n : ℕ) (r : State) → step s t ≡ taken n r → ((r : State) (ns : List Marked) → Spells r ns → Comes end r ns ts (run end r ts)) → (b : Bool) → nat_le n nesting_limit ≡ b →
@@ -132,7 +131,7 @@ module _ (end : Token) (is_end : end.kind ≡ kind.End) where
         cut = refl;
         place = refl;
         leads = leads_more s t n r [] r e (leads_none r);
-        spells = subst (λ q. Spells r (q ++ record { token = t; nesting = n } ∷ [])) (sym (append_nil ms)) (spells_step s r t n ms h e);
+        spells = subst (λ q. Spells r (q ++ record { token = t; nesting = n } ∷ [])) (sym (append-nil ms)) (spells_step s r t n ms h e);
         within = tt;
         deeper = le_false n nesting_limit b;
       }
@@ -149,7 +148,7 @@ module _ (end : Token) (is_end : end.kind ≡ kind.End) where
         place = refl;
         leads = leads_none s;
         refuses = e;
-        spells = subst (λ q. Spells s q) (sym (append_nil ms)) h;
+        spells = subst (λ q. Spells s q) (sym (append-nil ms)) h;
         within = tt;
       }
       go on (finished u) e = absurd (free.0 (spells_end s t u ms h e).0)

@@ -3,16 +3,16 @@ use Rattle.std.proofs.Common.{◌≡◌, ℕ, ◌+◌, inr, List, [], ◌∷◌,
 use Rattle.pk_lex.specs.declared.token.Token.{Token}
 use Rattle.pk_lex.specs.declared.token.Kind.TheVariants as kind
 use Rattle.pk_ast.specs.declared.declarations.SpecifierWord.{SpecifierWord}
-use Rattle.pk_ast.specs.Trees.{return, no_expressions, ExternalTree}
+use Rattle.pk_ast.specs.Trees.{return, no_expressions, ExternalTree, expression_then}
 use Rattle.pk_grammar.specs.declared.signs.Fixed.TheVariants as fixed
 use Rattle.pk_grammar.specs.Languages.{Marked}
 use Rattle.pk_grammar.specs.Grammar.{statement, externals, text}
-use Rattle.pk_grammar.specs.Signs.{specifier_word}
-use Rattle.pk_grammar.specs.States.{as_first, as_second, as_third, as_result, as_value, as_item, as_whole, State, top, after_storage, after_specifiers, after_name, after_length, after_assign, after_brace, after_item, after_initializer, after_comma, parameters_open, parameter_specifiers, parameter_name, parameter_comma, parameters_closed, block_item, at_statement, after_statement, test_open, do_open, for_open, for_first, for_second, for_third, default_colon, goto_name, returning, statement_end, operand, named, arguments, opened, cast_specifiers, complete}
-use Rattle.pk_grammar.specs.Steps.{Verdict, taken, refused, finished, naming_nesting, begin_for, step}
+use Rattle.pk_grammar.specs.Machine.Signs.{specifier_word}
+use Rattle.pk_grammar.specs.Machine.States.{as_first, as_second, as_third, as_result, as_value, as_item, as_whole, State, top, after_storage, after_specifiers, after_name, after_length, after_assign, after_brace, after_item, after_initializer, after_comma, parameters_open, parameter_specifiers, parameter_name, parameter_comma, parameters_closed, block_item, at_statement, after_statement, test_open, do_open, for_open, for_first, for_second, for_third, default_colon, goto_name, returning, statement_end, operand, named, arguments, opened, cast_specifiers, complete}
+use Rattle.pk_grammar.specs.Machine.Steps.{Verdict, taken, refused, finished, naming_nesting, begin_for, step}
 use Rattle.pk_grammar.proofs.SpellsSigns.{IsSpecifier, is_specifier}
 use Rattle.pk_grammar.proofs.SpellsWords.{push, push_at, push_last, none_more, gather, last_as, moved}
-use Rattle.pk_grammar.proofs.SpellsLists.{items_comma, items_fit}
+use Rattle.pk_grammar.proofs.SpellsLists.{first_word, items_comma}
 use Rattle.pk_grammar.proofs.SpellsStates.{Spells}
 use Rattle.pk_grammar.proofs.SpellsGood.{Good, fixed_good, wanted_good, two}
 use Rattle.pk_grammar.proofs.SpellsDeclarations.{after_declarator_good, more_specifiers_good, at_after_name_good, at_after_length_good, braces_end}
@@ -31,10 +31,10 @@ step_good (after_name d id) t ms h = at_after_name_good d id t ms h
 step_good (after_length d) t ms h = at_after_length_good d t ms h
 step_good (after_assign d) t ms h = fixed_good fixed.OpenBrace _ _ t ms (λ k. push ms t h (k, refl)) (at_operand_good (naming_nesting d) (as_whole (as_value d)) t ms refl h)
 step_good (after_brace d at) t ms h = at_operand_good (naming_nesting d) (as_whole (as_item d at no_expressions)) t ms refl (tt, none_more (naming_nesting d) h)
-step_good (after_item d at es) t ms h =
-    fixed_good fixed.CloseBrace _ _ t ms (λ k. braces_end d at es t ms k (last_as (λ ts c. inr c) h))
-    (at_operand_good (naming_nesting d) (as_whole (as_item d at es)) t ms refl
-    (items_fit es (naming_nesting d) _ h.first.second, last_as (λ ts g. items_comma es (naming_nesting d) ts g) (gather h)))
+step_good (after_item d at e es) t ms h =
+    fixed_good fixed.CloseBrace _ _ t ms (λ k. braces_end d at e es t ms k (last_as (λ ts c. inr c) h))
+    (at_operand_good (naming_nesting d) (as_whole (as_item d at (expression_then e es))) t ms refl
+    (h.first.second.fit, last_as (λ ts g. items_comma e es (naming_nesting d) ts g) (gather h)))
 step_good (after_initializer d) t ms h = after_declarator_good d t ms h
 step_good (after_comma d) t ms h = wanted_good fixed.Name _ t ms (λ k. push ms t h (k, refl))
 step_good (parameters_open g) t ms h =
@@ -52,7 +52,7 @@ step_good (for_open n at o) t ms h = wanted_good fixed.OpenParenthesis _ t ms (�
 step_good (for_first n at o) t ms h = go (specifier_word t.kind) (is_specifier t.kind)
   where
     go : (w : Option SpecifierWord) → IsSpecifier w t.kind → Good (begin_for n at o t w) t ms
-    go (Some w) k = push ms t h (k, refl)
+    go (Some w) k = first_word w t (n + 2) ms k h
     go None k = fixed_good fixed.Semicolon _ _ t ms (λ k. gather (push_at ms t (two n) (none_more (n + 1 + 1) h) k)) (at_operand_good (n + 2) (as_whole (as_first n at o)) t ms (two n) h)
 step_good (for_second n at f o) t ms h =
     fixed_good fixed.Semicolon _ _ t ms (λ k. push_at ms t (two n) (none_more (n + 1 + 1) h) k) (at_operand_good (n + 2) (as_whole (as_second n at f o)) t ms (two n) h)

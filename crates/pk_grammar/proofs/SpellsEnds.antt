@@ -12,9 +12,9 @@ use Rattle.pk_ast.specs.Trees.{ExpressionTree, prefix, unary, cast, binary, cond
 use Rattle.pk_grammar.specs.declared.signs.Fixed.TheVariants as fixed
 use Rattle.pk_grammar.specs.declared.signs.Operator.TheVariants as operator
 use Rattle.pk_grammar.specs.Grammar.{any_expression, strength}
-use Rattle.pk_grammar.specs.Signs.{is_fixed, operator_of}
-use Rattle.pk_grammar.specs.States.{OpenBlock, function_block, inner_block, Outer, in_block, in_label, in_case, in_default, in_if, in_else, in_switch, in_while, in_do, in_for, Site, in_a_block, in_a_for, outside, Declaring, Purpose, as_statement, as_label, as_test, as_last_test, as_first, as_second, as_third, as_result, as_length, as_value, as_item, Context, as_whole, in_parentheses, in_index, in_call, in_prefix, in_unary, in_cast, in_binary, in_choice, in_alternative, in_assignment, in_comma, State, top, after_storage, after_specifiers, after_name, after_length, after_assign, after_brace, after_item, after_initializer, after_comma, parameters_open, parameter_specifiers, parameter_name, parameter_comma, parameters_closed, block_item, at_statement, after_statement, test_open, do_open, for_open, for_first, for_second, for_third, default_colon, goto_name, returning, statement_end, operand, named, arguments, opened, cast_specifiers, complete}
-use Rattle.pk_grammar.specs.Steps.{Verdict, taken, finished, Reduced, reduced, end_expression, end_purpose, go_on, resume, step, end_declaration}
+use Rattle.pk_grammar.specs.Machine.Signs.{is_fixed, operator_of}
+use Rattle.pk_grammar.specs.Machine.States.{OpenBlock, function_block, inner_block, Outer, in_block, in_label, in_case, in_default, in_if, in_else, in_switch, in_while, in_do, in_for, Site, in_a_block, in_a_for, outside, Declared, Purpose, as_statement, as_label, as_test, as_last_test, as_first, as_second, as_third, as_result, as_length, as_value, as_item, Context, as_whole, in_parentheses, in_index, in_call, in_prefix, in_unary, in_cast, in_binary, in_choice, in_alternative, in_assignment, in_comma, State, top, after_storage, after_specifiers, after_name, after_length, after_assign, after_brace, after_item, after_initializer, after_comma, parameters_open, parameter_specifiers, parameter_name, parameter_comma, parameters_closed, block_item, at_statement, after_statement, test_open, do_open, for_open, for_first, for_second, for_third, default_colon, goto_name, returning, statement_end, operand, named, arguments, opened, cast_specifiers, complete}
+use Rattle.pk_grammar.specs.Machine.Steps.{Verdict, taken, finished, Reduced, reduced, end_expression, end_purpose, go_on, resume, step, end_declaration}
 
 -- some tokens lead on to the end of a text
 pub data Ends : Verdict → Type 0 where
@@ -79,15 +79,15 @@ ends_item n b = goes semicolon (ends_after _ _ (in_block b))
 ends_second : (k n : ℕ) (at : Pos) (f : ForStartTree) (o : Outer) → Ends (taken k (for_second n at f o))
 ends_second k n at f o = goes semicolon (goes (sign mark.CloseParenthesis) (ends_statement _ _ _))
 
-ends_declaration : (d : Declaring) → Ends (end_declaration d)
+ends_declaration : (d : Declared) → Ends (end_declaration d)
 ends_declaration d = go d d.site
   where
-    go : (d : Declaring) (s : Site) → Ends (end_declaration (record d { site = s }))
+    go : (d : Declared) (s : Site) → Ends (end_declaration (record d { site = s }))
     go d (in_a_block b) = ends_item _ _
     go d (in_a_for n at o) = ends_second _ n at _ o
     go d (outside before s) = the_end _
 
-ends_initializer : (n : ℕ) (d : Declaring) → Ends (taken n (after_initializer d))
+ends_initializer : (n : ℕ) (d : Declared) → Ends (taken n (after_initializer d))
 ends_initializer n d = goes semicolon (ends_declaration d)
 
 -- Expressions
@@ -148,7 +148,7 @@ state_ends n (after_name d id) = goes semicolon (ends_declaration _)
 state_ends n (after_length d) = goes semicolon (ends_declaration _)
 state_ends n (after_assign d) = goes a_character (ends_complete _ _ _ _ (ends_context _ _ _))
 state_ends n (after_brace d at) = goes a_character (ends_complete _ _ _ _ (ends_context _ _ _))
-state_ends n (after_item d at es) = goes (sign mark.CloseBrace) (ends_initializer _ _)
+state_ends n (after_item d at e es) = goes (sign mark.CloseBrace) (ends_initializer _ _)
 state_ends n (after_initializer d) = ends_initializer n d
 state_ends n (after_comma d) = goes a_name (goes semicolon (ends_declaration _))
 state_ends n (parameters_open h) = goes (sign mark.CloseParenthesis) (goes semicolon (the_end _))

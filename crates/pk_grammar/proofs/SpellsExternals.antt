@@ -1,5 +1,5 @@
 -- What the steps of an external definition leave.
-use Rattle.std.proofs.Common.{◌≡◌, ℕ, inr, List, [], ◌∷◌, Bool, true, false, map, Option, Some, None, if◌then◌else◌, refl, ap, ◌∙◌}
+use Rattle.std.proofs.Common.{◌≡◌, ℕ, inr, List, [], ◌∷◌, Bool, true, false, Option, Some, None, if◌then◌else◌, refl, ap, ◌∙◌}
 use Rattle.pk_lex.specs.declared.token.Token.{Token}
 use Rattle.pk_lex.specs.declared.token.Kind.TheVariants as kind
 use Rattle.pk_lex.specs.declared.token.Keyword.TheVariants as key
@@ -10,16 +10,16 @@ use Rattle.pk_ast.specs.declared.declarations.SpecifierWord.TheVariants as word
 use Rattle.pk_ast.specs.declared.expressions.Identifier.{Identifier}
 use Rattle.pk_ast.specs.declared.units.Storage.{Storage}
 use Rattle.pk_ast.specs.declared.units.StorageWord.{StorageWord}
-use Rattle.pk_ast.specs.Trees.{ParameterTree, ExternalTree}
+use Rattle.pk_ast.specs.Trees.{OneOrMore, ParameterTree, ExternalTree}
 use Rattle.pk_grammar.specs.declared.signs.Fixed.TheVariants as fixed
-use Rattle.pk_grammar.specs.Languages.{Marked, identifier_of}
-use Rattle.pk_grammar.specs.Grammar.{specifier_keyword, keyword, punctuator, specifiers, stored, parameter, IsVoidAlone, parameters, externals, statement}
-use Rattle.pk_grammar.specs.Signs.{specifier_word, storage_word, is_void_word}
-use Rattle.pk_grammar.specs.States.{Head, parameters_closed}
-use Rattle.pk_grammar.specs.Steps.{taken, begin_external, storage_or_specifier, begin_parameter, is_void, last_parameter, more_parameter, at_parameter_name, at_parameters_closed}
+use Rattle.pk_grammar.specs.Languages.{Marked, ◌⊙◌, identifier_of}
+use Rattle.pk_grammar.specs.Grammar.{specifier_keyword, keyword, punctuator, specifier, specifier_list, specifiers, stored, parameter, IsVoidAlone, parameters, externals, statement}
+use Rattle.pk_grammar.specs.Machine.Signs.{specifier_word, storage_word, is_void_word}
+use Rattle.pk_grammar.specs.Machine.States.{Head, parameters_closed}
+use Rattle.pk_grammar.specs.Machine.Steps.{taken, begin_external, storage_or_specifier, begin_parameter, is_void_alone, is_void, last_parameter, more_parameter, at_parameter_name, at_parameters_closed}
 use Rattle.pk_grammar.proofs.SpellsSigns.{IsSpecifier, is_specifier, IsStorage, is_storage}
-use Rattle.pk_grammar.proofs.SpellsWords.{and_none, drop_none, Words, ◌▹◌, push, none_more, not_there, gather, together, last_as, before_as}
-use Rattle.pk_grammar.proofs.SpellsLists.{one_more_word, parameters_end, parameters_comma, externals_end}
+use Rattle.pk_grammar.proofs.SpellsWords.{and_none, drop_none, drop_last, Words, ◌▹◌, push, none_more, not_there, gather, together, last_as, before_as}
+use Rattle.pk_grammar.proofs.SpellsLists.{first_word, one_more_word, parameters_end, parameters_comma, externals_end}
 use Rattle.pk_grammar.proofs.SpellsStates.{parameters_before, to_parameters, to_body}
 use Rattle.pk_grammar.proofs.SpellsGood.{Good, fixed_good, wanted_good}
 
@@ -27,7 +27,7 @@ pub begin_external_good : (before : List ExternalTree) (s : Option Storage) (t :
 begin_external_good before s t ms h = go (specifier_word t.kind) (is_specifier t.kind)
   where
     go : (w : Option SpecifierWord) → IsSpecifier w t.kind → Good (begin_external before s t w) t ms
-    go (Some w) k = push ms t h (k, refl)
+    go (Some w) k = first_word w t 0 ms k h
     go None k = tt
 
 pub at_top_good : (before : List ExternalTree) (t : Token) (ms : List Marked) → externals before 0 ms → Good (storage_or_specifier before t (storage_word t.kind)) t ms
@@ -44,7 +44,7 @@ pub begin_parameter_good : (h : Head) (ps : List ParameterTree) (t : Token) (ms 
 begin_parameter_good h ps t ms g = go (specifier_word t.kind) (is_specifier t.kind)
   where
     go : (w : Option SpecifierWord) → IsSpecifier w t.kind → Good (begin_parameter h ps t w) t ms
-    go (Some w) k = push ms t g (k, refl)
+    go (Some w) k = first_word w t 1 ms k g
     go None k = tt
 
 void_word : (w : SpecifierWord) → is_void_word w ≡ true → w ≡ word.Void
@@ -52,34 +52,36 @@ void_word word.Void e = refl
 void_word _ e = cc
 
 -- `void` alone
-void_alone : (ss : List Specifier) (n : ℕ) (ts : List Marked) → is_void ss ≡ true → specifiers ss n ts → keyword key.Void n ts
-void_alone [] n ts e h = absurd h
-void_alone (s ∷ []) n ts e h = record { token = h.token; is = h.is; holds = h.holds.0 ∙ ap (λ w. kind.Keyword (specifier_keyword w)) (void_word s.word e) }
-void_alone (s ∷ r ∷ ss) n ts e h = cc
+void_first : (s : Specifier) (more : List Specifier) (n : ℕ) (ts : List Marked) → is_void_alone s.word more ≡ true → (specifier s ⊙ specifier_list more) n ts → keyword key.Void n ts
+void_first s [] n ts e h =
+    let g = drop_last h in
+    record { token = g.token; is = g.is; holds = g.holds.0 ∙ ap (λ w. kind.Keyword (specifier_keyword w)) (void_word s.word e) }
+void_first s (r ∷ more) n ts e h = cc
 
-is_void_of : (ss : List Specifier) → map (λ (s : Specifier). s.word) ss ≡ word.Void ∷ [] → is_void ss ≡ true
-is_void_of [] e = cc
-is_void_of (s ∷ []) e = let f : s.word ≡ word.Void = cc in ap is_void_word f
-is_void_of (s ∷ r ∷ ss) e = cc
+void_alone : (ss : OneOrMore Specifier) (n : ℕ) (ts : List Marked) → is_void ss ≡ true → specifiers ss n ts → keyword key.Void n ts
+void_alone ss n ts e h = void_first ss.first ss.more n ts e h
 
-only_parameter : (b : Bool) (ss : List Specifier) (n : ℕ) (ts : List Marked) → is_void ss ≡ b → specifiers ss n ts →
+is_void_of : (ss : OneOrMore Specifier) → ss.first.word ≡ word.Void → ss.more ≡ [] → is_void ss ≡ true
+is_void_of ss e f = ap (λ more. is_void_alone ss.first.word more) f ∙ ap is_void_word e
+
+only_parameter : (b : Bool) (ss : OneOrMore Specifier) (n : ℕ) (ts : List Marked) → is_void ss ≡ b → specifiers ss n ts →
     parameters (if b then [] else record { specifiers = ss; name = None } ∷ []) n ts
 only_parameter true ss n ts e h = inr (void_alone ss n ts e h)
-only_parameter false ss n ts e h = record { holds = λ v. let f = is_void_of ss v.0 in cc; is = and_none n ts h }
+only_parameter false ss n ts e h = record { holds = λ v. let f = is_void_of ss v.0 v.1 in cc; is = and_none n ts h }
 
 -- the last parameter, or none
-last_parameter_good : {R : Words} (ps : List ParameterTree) (ss : List Specifier) (ms : List Marked) → (R ▹ parameters_before ps 1 ▹ specifiers ss 1) ms → (R ▹ parameters (last_parameter ps ss) 1) ms
+last_parameter_good : {R : Words} (ps : List ParameterTree) (ss : OneOrMore Specifier) (ms : List Marked) → (R ▹ parameters_before ps 1 ▹ specifiers ss 1) ms → (R ▹ parameters (last_parameter ps ss) 1) ms
 last_parameter_good [] ss ms h = last_as (λ ts g. only_parameter (is_void ss) ss 1 ts refl g) (before_as (λ ts b. drop_none 1 b) h)
 last_parameter_good (p ∷ ps) ss ms h = last_as (λ ts g. parameters_end (p ∷ ps) _ 1 ts (λ e. cc) g) (gather (gather (none_more 1 h)))
 
-pub more_parameter_good : (h : Head) (ps : List ParameterTree) (ss : List Specifier) (t : Token) (ms : List Marked) →
+pub more_parameter_good : (h : Head) (ps : List ParameterTree) (ss : OneOrMore Specifier) (t : Token) (ms : List Marked) →
     (to_parameters h ▹ punctuator mark.OpenParenthesis 1 ▹ parameters_before ps 1 ▹ specifiers ss 1) ms → Good (more_parameter h ps ss t (specifier_word t.kind)) t ms
 more_parameter_good h ps ss t ms g = go (specifier_word t.kind) (is_specifier t.kind)
   where
     go : (w : Option SpecifierWord) → IsSpecifier w t.kind → Good (more_parameter h ps ss t w) t ms
     go (Some w) k = one_more_word ss w t 1 ms k g
     go None k =
-        fixed_good fixed.Name _ _ t ms (λ k. (λ v. let e : ◌≡◌ {A = Option Identifier} (Some (identifier_of t)) None = v.1 in cc, gather (push ms t g (k, refl))))
+        fixed_good fixed.Name _ _ t ms (λ k. (λ v. let e : ◌≡◌ {A = Option Identifier} (Some (identifier_of t)) None = v.2 in cc, gather (push ms t g (k, refl))))
         (fixed_good fixed.Comma _ _ t ms (λ k. last_as (λ ts f. parameters_comma ps _ 1 ts f) (gather (gather (push ms t (gather (none_more 1 g)) k))))
         (wanted_good fixed.CloseParenthesis _ t ms (λ k. push ms t (gather (last_parameter_good ps ss ms g)) k)))
 

@@ -6,8 +6,8 @@ use Rattle.pk_lex.specs.declared.token.Kind.TheVariants as kind
 use Rattle.pk_grammar.specs.declared.signs.Fixed.{Fixed}
 use Rattle.pk_grammar.specs.Languages.{Marked}
 use Rattle.pk_grammar.specs.Grammar.{externals}
-use Rattle.pk_grammar.specs.Signs.{is_fixed}
-use Rattle.pk_grammar.specs.Steps.{Verdict, taken, refused, finished, wanted}
+use Rattle.pk_grammar.specs.Machine.Signs.{is_fixed}
+use Rattle.pk_grammar.specs.Machine.Steps.{Verdict, taken, refused, finished, wanted}
 use Rattle.pk_grammar.proofs.SpellsSigns.{IsFixed, is_this}
 use Rattle.pk_grammar.proofs.SpellsStates.{Spells}
 

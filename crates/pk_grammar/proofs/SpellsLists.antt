@@ -4,13 +4,14 @@ use Rattle.pk_lex.specs.declared.token.Token.{Token}
 use Rattle.pk_lex.specs.declared.token.Punctuator.TheVariants as mark
 use Rattle.pk_ast.specs.declared.declarations.SpecifierWord.{SpecifierWord}
 use Rattle.pk_ast.specs.declared.declarations.Specifier.{Specifier}
-use Rattle.pk_ast.specs.Trees.{ExpressionTree, ExpressionTrees, no_expressions, expression_then, DeclaratorTree, DeclarationTree, StatementTree, ItemTrees, no_items, declaration_then, statement_then, ParameterTree, ExternalTree}
+use Rattle.pk_ast.specs.Lists.{one, with_last, ended}
+use Rattle.pk_ast.specs.Trees.{OneOrMore, ExpressionTree, ExpressionTrees, no_expressions, expression_then, DeclaratorTree, DeclarationTree, StatementTree, ItemTrees, no_items, declaration_then, statement_then, ParameterTree, ExternalTree}
 use Rattle.pk_grammar.specs.Languages.{Marked, ◌⊙◌}
-use Rattle.pk_grammar.specs.Grammar.{punctuator, assignment_expression, Fits, AllFit, specifier, specifiers, spelled, spelled_list, spelled_more, declarator, declarators, declared, statement, block_items, parameter, IsVoidAlone, more_parameters, parameters, external, externals}
-use Rattle.pk_grammar.specs.Steps.{specifier_at, one_more, one_more_statement, one_more_declaration}
+use Rattle.pk_grammar.specs.Grammar.{punctuator, assignment_expression, Fits, AllFit, specifier, specifier_list, specifiers, Items, spelled, spelled_list, spelled_more, declarator, more_declarators, declarators, declared, statement, block_items, parameter, IsVoidAlone, more_parameters, parameters, external, externals}
+use Rattle.pk_grammar.specs.Machine.Steps.{specifier_at, first_item, more_items, one_more, one_more_statement, one_more_declaration}
 use Rattle.pk_grammar.proofs.SpellsSigns.{IsSpecifier}
 use Rattle.pk_grammar.proofs.SpellsWords.{Words, ◌▹◌, push, gather, last_as, assoc, then_as, alone, and_none}
-use Rattle.pk_grammar.proofs.SpellsStates.{expressions_before, declarators_before, parameters_before, some_items}
+use Rattle.pk_grammar.proofs.SpellsStates.{expressions_before, declarators_before, parameters_before}
 
 -- Expressions
 
@@ -33,19 +34,15 @@ list_comma : (es : ExpressionTrees) (e : ExpressionTree) (n : ℕ) (ts : List Ma
 unfolding spelled
 list_comma es e n ts h = then_as (λ us g. more_comma es n us g) (assoc h)
 
-pub items_comma : (es : ExpressionTrees) (n : ℕ) (ts : List Marked) → (some_items es ⊙ punctuator mark.Comma) n ts → expressions_before es n ts
-items_comma no_expressions n ts h = absurd h.first
-items_comma (expression_then e es) n ts h = list_comma es e n ts (record { front = h.front; back = h.back; cut = h.cut; first = h.first.is; second = h.second })
-
-pub items_fit : (es : ExpressionTrees) (n : ℕ) (ts : List Marked) → some_items es n ts → AllFit es
-items_fit no_expressions n ts h = absurd h
-items_fit (expression_then e es) n ts h = h.fit
+pub items_comma : (e : ExpressionTree) (es : ExpressionTrees) (n : ℕ) (ts : List Marked) → (Items e es ⊙ punctuator mark.Comma) n ts → expressions_before (expression_then e es) n ts
+items_comma e es n ts h = list_comma es e n ts (record { front = h.front; back = h.back; cut = h.cut; first = h.first.is; second = h.second })
 
 pub all_fit : (es : ExpressionTrees) (e : ExpressionTree) → AllFit es → Fits assignment_expression e → AllFit (one_more es e)
 all_fit no_expressions e a f = (f, tt)
 all_fit (expression_then d es) e a f = (a.0, all_fit es e a.1 f)
 
-pub some_items_end : (es : ExpressionTrees) (e : ExpressionTree) (n : ℕ) (ts : List Marked) → AllFit es → Fits assignment_expression e → (expressions_before es ⊙ spelled e) n ts → some_items (one_more es e) n ts
+pub some_items_end : (es : ExpressionTrees) (e : ExpressionTree) (n : ℕ) (ts : List Marked) → AllFit es → Fits assignment_expression e → (expressions_before es ⊙ spelled e) n ts →
+    Items (first_item es e) (more_items es e) n ts
 some_items_end no_expressions e n ts a f h = record { fit = all_fit no_expressions e a f; is = expressions_end no_expressions e n ts h }
 some_items_end (expression_then d es) e n ts a f h = record { fit = all_fit (expression_then d es) e a f; is = expressions_end (expression_then d es) e n ts h }
 
@@ -55,29 +52,34 @@ expressions_comma (expression_then d es) e n ts h = list_comma (one_more es e) d
 
 -- Declarations
 
-specifiers_end : (ss : List Specifier) (s : Specifier) (n : ℕ) (ts : List Marked) → (specifiers ss ⊙ specifier s) n ts → specifiers (ss ++ s ∷ []) n ts
-specifiers_end [] s n ts h = absurd h.first
-specifiers_end (a ∷ []) s n ts h = h
-specifiers_end (a ∷ b ∷ ss) s n ts h = then_as (λ us g. specifiers_end (b ∷ ss) s n us g) (assoc h)
+specifiers_end : (ss : List Specifier) (s : Specifier) (n : ℕ) (ts : List Marked) → (specifier_list ss ⊙ specifier s) n ts → specifier_list (ss ++ s ∷ []) n ts
+specifiers_end [] s n ts h = and_none n ts (alone h)
+specifiers_end (a ∷ ss) s n ts h = then_as (λ us g. specifiers_end ss s n us g) (assoc h)
 
--- one more word of a type
-pub one_more_word : {R : Words} (ss : List Specifier) (w : SpecifierWord) (t : Token) (n : ℕ) (ms : List Marked) → IsSpecifier (Some w) t.kind → (R ▹ specifiers ss n) ms →
-    (R ▹ specifiers (ss ++ specifier_at t w ∷ []) n) (ms ++ record { token = t; nesting = n } ∷ [])
-one_more_word ss w t n ms k h = last_as (λ ts g. specifiers_end ss (specifier_at t w) n ts g) (gather (push ms t h (k, refl)))
+-- a first word of a type, and one more
+pub first_word : {R : Words} (w : SpecifierWord) (t : Token) (n : ℕ) (ms : List Marked) → IsSpecifier (Some w) t.kind → R ms →
+    (R ▹ specifiers (one (specifier_at t w)) n) (ms ++ record { token = t; nesting = n } ∷ [])
+first_word w t n ms k h = last_as (λ ts g. and_none n ts g) (push ms t h (k, refl))
 
-declarators_then : (d : DeclaratorTree) (ds : List DeclaratorTree) (e : DeclaratorTree) (n : ℕ) (ts : List Marked) →
-    (declarator d ⊙ punctuator mark.Comma ⊙ declarators (ds ++ e ∷ [])) n ts → declarators (d ∷ (ds ++ e ∷ [])) n ts
-declarators_then d [] e n ts h = h
-declarators_then d (a ∷ ds) e n ts h = h
+pub one_more_word : {R : Words} (ss : OneOrMore Specifier) (w : SpecifierWord) (t : Token) (n : ℕ) (ms : List Marked) → IsSpecifier (Some w) t.kind → (R ▹ specifiers ss n) ms →
+    (R ▹ specifiers (with_last ss (specifier_at t w)) n) (ms ++ record { token = t; nesting = n } ∷ [])
+one_more_word ss w t n ms k h = last_as (λ ts g. then_as (λ us f. specifiers_end ss.more (specifier_at t w) n us f) (assoc g)) (gather (push ms t h (k, refl)))
 
-pub declarators_end : (ds : List DeclaratorTree) (d : DeclaratorTree) (n : ℕ) (ts : List Marked) → (declarators_before ds ⊙ declarator d) n ts → declarators (ds ++ d ∷ []) n ts
-declarators_end [] d n ts h = alone h
-declarators_end (a ∷ ds) d n ts h = declarators_then a ds d n ts (then_as (λ us g. then_as (λ vs f. declarators_end ds d n vs f) (assoc g)) (assoc h))
+more_declarators_end : (ds : List DeclaratorTree) (d : DeclaratorTree) (n : ℕ) (ts : List Marked) →
+    ((punctuator mark.Comma ⊙ declarators_before ds) ⊙ declarator d) n ts → more_declarators (ds ++ d ∷ []) n ts
+more_declarators_end [] d n ts h = then_as (λ us g. and_none n us (alone g)) (assoc h)
+more_declarators_end (a ∷ ds) d n ts h = then_as (λ us g. then_as (λ vs f. more_declarators_end ds d n vs f) (assoc g)) (assoc h)
 
-pub declarators_comma : (ds : List DeclaratorTree) (n : ℕ) (ts : List Marked) → (declarators ds ⊙ punctuator mark.Comma) n ts → declarators_before ds n ts
-declarators_comma [] n ts h = absurd h.first
-declarators_comma (d ∷ []) n ts h = then_as (λ us g. and_none n us g) h
-declarators_comma (d ∷ e ∷ ds) n ts h = then_as (λ us g. then_as (λ vs f. declarators_comma (e ∷ ds) n vs f) (assoc g)) (assoc h)
+pub declarators_end : (ds : List DeclaratorTree) (d : DeclaratorTree) (n : ℕ) (ts : List Marked) → (declarators_before ds ⊙ declarator d) n ts → declarators (ended ds d) n ts
+declarators_end [] d n ts h = and_none n ts (alone h)
+declarators_end (a ∷ ds) d n ts h = then_as (λ us g. more_declarators_end ds d n us g) (assoc h)
+
+more_declarators_comma : (ds : List DeclaratorTree) (n : ℕ) (ts : List Marked) → (more_declarators ds ⊙ punctuator mark.Comma) n ts → (punctuator mark.Comma ⊙ declarators_before ds) n ts
+more_declarators_comma [] n ts h = and_none n ts (alone h)
+more_declarators_comma (d ∷ ds) n ts h = then_as (λ us g. then_as (λ vs f. more_declarators_comma ds n vs f) (assoc g)) (assoc h)
+
+pub declarators_comma : (ds : OneOrMore DeclaratorTree) (n : ℕ) (ts : List Marked) → (declarators ds ⊙ punctuator mark.Comma) n ts → declarators_before (ds.first ∷ ds.more) n ts
+declarators_comma ds n ts h = then_as (λ us g. more_declarators_comma ds.more n us g) (assoc h)
 
 -- Statements
 

@@ -8,10 +8,10 @@ use Rattle.pk_lex.specs.declared.token.Punctuator.TheVariants as mark
 use Rattle.pk_ast.specs.declared.declarations.SpecifierWord.{SpecifierWord}
 use Rattle.pk_ast.specs.declared.declarations.Specifier.{Specifier}
 use Rattle.pk_ast.specs.declared.expressions.Identifier.{Identifier}
-use Rattle.pk_ast.specs.declared.expressions.BinaryOperator.{BinaryOperator}
-use Rattle.pk_ast.specs.declared.expressions.BinaryOperator.TheVariants as op
-use Rattle.pk_ast.specs.declared.expressions.AssignmentOperator.{AssignmentOperator}
-use Rattle.pk_ast.specs.Trees.{ExpressionTree, name, call, index, constant, character, parenthesized, postfix, prefix, unary, cast, binary, conditional, assignment, comma, no_expressions}
+use Rattle.pk_ast.specs.declared.operators.BinaryOperator.{BinaryOperator}
+use Rattle.pk_ast.specs.declared.operators.BinaryOperator.TheVariants as op
+use Rattle.pk_ast.specs.declared.operators.AssignmentOperator.{AssignmentOperator}
+use Rattle.pk_ast.specs.Trees.{OneOrMore, ExpressionTree, name, call, index, constant, character, parenthesized, postfix, prefix, unary, cast, binary, conditional, assignment, comma, no_expressions}
 use Rattle.pk_grammar.specs.declared.signs.Fixed.TheVariants as fixed
 use Rattle.pk_grammar.specs.declared.signs.OperandStart.{OperandStart}
 use Rattle.pk_grammar.specs.declared.signs.OperandStart.TheVariants as start
@@ -19,12 +19,12 @@ use Rattle.pk_grammar.specs.declared.signs.Operator.{Operator}
 use Rattle.pk_grammar.specs.declared.signs.Operator.TheVariants as operator
 use Rattle.pk_grammar.specs.Languages.{Marked, Identified}
 use Rattle.pk_grammar.specs.Grammar.{any_expression, assignment_expression, conditional_expression, strength, weakest_operator, cast_expression, unary_expression, postfix_expression, Fits, specifiers, spelled, punctuator, punctuator_at}
-use Rattle.pk_grammar.specs.Signs.{operand_start, operator_of, specifier_word}
-use Rattle.pk_grammar.specs.States.{Purpose, as_statement, as_label, as_test, as_last_test, as_first, as_second, as_third, as_result, as_length, as_value, as_item, Context, as_whole, in_parentheses, in_index, in_call, in_prefix, in_unary, in_cast, in_binary, in_choice, in_alternative, in_assignment, in_comma}
-use Rattle.pk_grammar.specs.Steps.{Verdict, refused, Reduced, reduced, purpose_level, operand_level, begin_operand, at_operand, end_expression, comma_after, join_comma, join_binary, join_question, is_unary, join_assignment, go_on, at_complete, at_named, at_arguments, open_cast, at_opened, more_cast}
+use Rattle.pk_grammar.specs.Machine.Signs.{operand_start, operator_of, specifier_word}
+use Rattle.pk_grammar.specs.Machine.States.{Purpose, as_statement, as_label, as_test, as_last_test, as_first, as_second, as_third, as_result, as_length, as_value, as_item, Context, as_whole, in_parentheses, in_index, in_call, in_prefix, in_unary, in_cast, in_binary, in_choice, in_alternative, in_assignment, in_comma}
+use Rattle.pk_grammar.specs.Machine.Steps.{refused, Reduced, reduced, purpose_level, operand_level, begin_operand, at_operand, end_expression, comma_after, join_comma, join_binary, join_question, is_unary, join_assignment, go_on, at_complete, at_named, at_arguments, open_cast, at_opened, more_cast}
 use Rattle.pk_grammar.proofs.SpellsSigns.{IsOperand, is_operand, IsOperator, is_operator, IsSpecifier, is_specifier}
 use Rattle.pk_grammar.proofs.SpellsWords.{◌▹◌, push, none_more, gather, last_as, moved}
-use Rattle.pk_grammar.proofs.SpellsLists.{expressions_end, expressions_comma, all_fit, one_more_word}
+use Rattle.pk_grammar.proofs.SpellsLists.{expressions_end, expressions_comma, all_fit, one_more_word, first_word}
 use Rattle.pk_grammar.proofs.SpellsStates.{bare, to_operand, operand_nesting}
 use Rattle.pk_grammar.proofs.SpellsGood.{Good, if_good, fixed_good, wanted_good, le_true, le_false}
 use Rattle.pk_grammar.proofs.SpellsPurposes.{end_purpose_good, comma_purpose_good}
@@ -363,18 +363,18 @@ at_arguments_good n id c t ms en h =
 open_cast_good : (n : ℕ) (at : Pos) (c : Context) (t : Token) (ms : List Marked) (w : Option SpecifierWord) → IsSpecifier w t.kind → n ≡ operand_nesting c →
     (to_operand c ▹ punctuator_at mark.OpenParenthesis at (n + 1)) ms → Good (open_cast n at c t w) t ms
 open_cast_good n at c t ms (Some w) k en h = if_good (nat_le (operand_level c) cast_expression) _ refused t ms
-    (λ b. ((en, le_true _ _ b), push ms t h (k, refl))) (λ b. tt)
+    (λ b. ((en, le_true _ _ b), first_word w t (n + 1) ms k h)) (λ b. tt)
 open_cast_good n at c t ms None k en h = at_operand_good (n + 1) (in_parentheses n at c) t ms refl (en, h)
 
 pub at_opened_good : (n : ℕ) (at : Pos) (c : Context) (t : Token) (ms : List Marked) → n ≡ operand_nesting c →
     (to_operand c ▹ punctuator_at mark.OpenParenthesis at (n + 1)) ms → Good (at_opened n at c t) t ms
 at_opened_good n at c t ms en h = open_cast_good n at c t ms (specifier_word t.kind) (is_specifier t.kind) en h
 
-more_cast_as : (n : ℕ) (at : Pos) (ss : List Specifier) (c : Context) (t : Token) (ms : List Marked) (w : Option SpecifierWord) → IsSpecifier w t.kind → n ≡ operand_nesting c →
+more_cast_as : (n : ℕ) (at : Pos) (ss : OneOrMore Specifier) (c : Context) (t : Token) (ms : List Marked) (w : Option SpecifierWord) → IsSpecifier w t.kind → n ≡ operand_nesting c →
     operand_level c ≤ cast_expression → (to_operand c ▹ punctuator_at mark.OpenParenthesis at (n + 1) ▹ specifiers ss (n + 1)) ms → Good (more_cast n at ss c t w) t ms
 more_cast_as n at ss c t ms (Some w) k en l h = ((en, l), one_more_word ss w t (n + 1) ms k h)
 more_cast_as n at ss c t ms None k en l h = wanted_good fixed.CloseParenthesis _ t ms (λ k. (refl, ((en, l), push ms t h k)))
 
-pub more_cast_good : (n : ℕ) (at : Pos) (ss : List Specifier) (c : Context) (t : Token) (ms : List Marked) → n ≡ operand_nesting c →
+pub more_cast_good : (n : ℕ) (at : Pos) (ss : OneOrMore Specifier) (c : Context) (t : Token) (ms : List Marked) → n ≡ operand_nesting c →
     operand_level c ≤ cast_expression → (to_operand c ▹ punctuator_at mark.OpenParenthesis at (n + 1) ▹ specifiers ss (n + 1)) ms → Good (more_cast n at ss c t (specifier_word t.kind)) t ms
 more_cast_good n at ss c t ms en l h = more_cast_as n at ss c t ms (specifier_word t.kind) (is_specifier t.kind) en l h

@@ -10,8 +10,8 @@ use Rattle.pk_grammar.specs.declared.states.Testing.TheVariants as testing
 use Rattle.pk_grammar.specs.declared.signs.Fixed.TheVariants as fixed
 use Rattle.pk_grammar.specs.Languages.{Marked, Identified}
 use Rattle.pk_grammar.specs.Grammar.{any_expression, assignment_expression, Fits, spelled, Expression, statement, keyword_at, punctuator, optional}
-use Rattle.pk_grammar.specs.States.{Outer, in_for, Purpose, as_statement, as_label, as_test, as_last_test, as_first, as_second, as_third, as_result, as_length, as_value, as_item, as_whole, at_statement}
-use Rattle.pk_grammar.specs.Steps.{taken, labelled, end_purpose, comma_purpose, join_comma, tested, purpose_level, naming_nesting, one_more}
+use Rattle.pk_grammar.specs.Machine.States.{Outer, in_for, Purpose, as_statement, as_label, as_test, as_last_test, as_first, as_second, as_third, as_result, as_length, as_value, as_item, as_whole, at_statement}
+use Rattle.pk_grammar.specs.Machine.Steps.{taken, labelled, end_purpose, comma_purpose, join_comma, tested, purpose_level, naming_nesting, first_item, more_items}
 use Rattle.pk_grammar.proofs.SpellsSigns.{testing_keyword}
 use Rattle.pk_grammar.proofs.SpellsWords.{Words, ◌▹◌, not_there, push, push_at, gather, last_as, moved}
 use Rattle.pk_grammar.proofs.SpellsLists.{some_items_end}
@@ -80,7 +80,7 @@ end_purpose_good (as_length d id) m e t ms en f l h = wanted_good fixed.CloseBra
 end_purpose_good (as_value d) m e t ms en f l h = wanted_good fixed.Semicolon _ t ms (λ k.
     end_declaration_good _ t ms k (initialized d (Some (single e)) ms (gather (leveled assignment_expression l (moved (spelled e) en h)))))
 end_purpose_good (as_item d at es) m e t ms en f l h = wanted_good fixed.CloseBrace _ t ms (λ k.
-    braces_end d at (one_more es e) t ms k (not_there (punctuator mark.Comma) (naming_nesting d) (last_as (λ ts g. some_items_end es e _ ts h.first.0 l g) (gather (bare (moved (spelled e) en h))))))
+    braces_end d at (first_item es e) (more_items es e) t ms k (not_there (punctuator mark.Comma) (naming_nesting d) (last_as (λ ts g. some_items_end es e _ ts h.first.0 l g) (gather (bare (moved (spelled e) en h))))))
 
 join_comma_good : (p : Purpose) (n : ℕ) (e : ExpressionTree) (t : Token) (ms : List Marked) → t.kind ≡ kind.Punctuator mark.Comma → n ≡ expression_nesting p →
     purpose_level p ≤ any_expression → Fits any_expression e → (to_expression p ▹ spelled e n) ms → Good (join_comma n e (as_whole p) t) t ms

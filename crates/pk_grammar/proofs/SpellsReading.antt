@@ -1,15 +1,14 @@
 -- What was read where reading ends.
-use Rattle.std.proofs.Common.{◌≡◌, ℕ, List, [], ◌∷◌, ◌++◌, refl, sym, ap, subst, ◌∙◌, append_assoc}
+use Rattle.std.proofs.Common.{◌≡◌, ℕ, List, [], ◌∷◌, ◌++◌, refl, sym, ap, subst, ◌∙◌, append_assoc, append-nil}
 use Rattle.pk_lex.specs.declared.token.Token.{Token}
 use Rattle.pk_lex.specs.declared.token.Kind.TheVariants as kind
 use Rattle.pk_ast.specs.Trees.{ExternalTree}
 use Rattle.pk_grammar.specs.Languages.{Marked}
 use Rattle.pk_grammar.specs.Grammar.{externals, text}
-use Rattle.pk_grammar.specs.States.{State, top}
-use Rattle.pk_grammar.specs.Steps.{Verdict, taken, refused, finished, step, Ending, ends, stops, cut_off, Reading, then_reading, read_on, read}
+use Rattle.pk_grammar.specs.Machine.States.{State, top}
+use Rattle.pk_grammar.specs.Machine.Steps.{Verdict, taken, refused, finished, step, Ending, ends, stops, cut_off, Reading, then_reading, read_on, read}
 use Rattle.pk_grammar.proofs.CompleteLists.{tokens_of, nestings_of, before}
 use Rattle.pk_grammar.proofs.CompleteExternals.{read_text}
-use Rattle.pk_grammar.proofs.SpellsWords.{append_nil}
 use Rattle.pk_grammar.proofs.SpellsStates.{Spells}
 use Rattle.pk_grammar.proofs.Spells.{spells_step, spells_end}
 
@@ -91,7 +90,7 @@ outcome_more s ms t n s' ts ns cut_off f o = record {
 
 pub outcome : (ts : List Token) (s : State) (ms : List Marked) → Spells s ms → Outcome s ms ts (read s ts).nestings (read s ts).ending
 unfolding read
-outcome [] s ms h = record { front = []; state = s; cut = refl; nestings = refl; leads = leads_none s; spells = subst (λ q. Spells s q) (sym (append_nil ms)) h }
+outcome [] s ms h = record { front = []; state = s; cut = refl; nestings = refl; leads = leads_none s; spells = subst (λ q. Spells s q) (sym (append-nil ms)) h }
 outcome (t ∷ ts) s ms h = go (λ s' ms' h'. outcome ts s' ms' h') (step s t) refl
   where
     go : ((s' : State) (ms' : List Marked) → Spells s' ms' → Outcome s' ms' ts (read s' ts).nestings (read s' ts).ending) →
@@ -105,11 +104,11 @@ outcome (t ∷ ts) s ms h = go (λ s' ms' h'. outcome ts s' ms' h') (step s t) r
       nestings = refl;
       leads = leads_none s;
       refuses = e;
-      spells = subst (λ q. Spells s q) (sym (append_nil ms)) h;
+      spells = subst (λ q. Spells s q) (sym (append-nil ms)) h;
     }
     go on (finished u) e =
         let d = spells_end s t u ms h e in
-        record { front = []; end = t; rest = ts; cut = refl; nestings = refl; is_end = d.0; derived = subst (λ q. externals u 0 q) (sym (append_nil ms)) d.1 }
+        record { front = []; end = t; rest = ts; cut = refl; nestings = refl; is_end = d.0; derived = subst (λ q. externals u 0 q) (sym (append-nil ms)) d.1 }
 
 -- The trees of a text are those that are read from its tokens, and its nestings are those of reading.
 

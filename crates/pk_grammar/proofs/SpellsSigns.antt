@@ -19,7 +19,7 @@ use Rattle.pk_grammar.specs.declared.signs.Operator.TheVariants as operator
 use Rattle.pk_grammar.specs.declared.signs.StatementStart.{StatementStart}
 use Rattle.pk_grammar.specs.declared.signs.StatementStart.TheVariants as first
 use Rattle.pk_grammar.specs.Grammar.{binary_sign, unary_sign, step_sign, assignment_sign, specifier_keyword, storage_keyword}
-use Rattle.pk_grammar.specs.Signs.{fixed_number, fixed_of, is_fixed, specifier_word, storage_word, operand_start, operator_of, statement_start}
+use Rattle.pk_grammar.specs.Machine.Signs.{fixed_number, fixed_of, is_fixed, specifier_word, storage_word, operand_start, operator_of, statement_start}
 
 -- the kinds of which each table gives this answer
 

@@ -10,12 +10,12 @@ use Rattle.pk_grammar.specs.declared.signs.StatementStart.{StatementStart}
 use Rattle.pk_grammar.specs.declared.signs.StatementStart.TheVariants as first
 use Rattle.pk_grammar.specs.Languages.{Marked}
 use Rattle.pk_grammar.specs.Grammar.{conditional_expression, OpenEnd, statement}
-use Rattle.pk_grammar.specs.Signs.{is_fixed, statement_start, specifier_word}
-use Rattle.pk_grammar.specs.States.{OpenBlock, function_block, inner_block, Outer, in_block, in_label, in_case, in_default, in_if, in_else, in_switch, in_while, in_do, in_for, as_statement, as_whole}
-use Rattle.pk_grammar.specs.Steps.{block_nesting, begin_statement, begins_statement, end_block, with_statement, declaration_or_statement, at_items, resume}
+use Rattle.pk_grammar.specs.Machine.Signs.{is_fixed, statement_start, specifier_word}
+use Rattle.pk_grammar.specs.Machine.States.{OpenBlock, function_block, inner_block, Outer, in_block, in_label, in_case, in_default, in_if, in_else, in_switch, in_while, in_do, in_for, as_statement, as_whole}
+use Rattle.pk_grammar.specs.Machine.Steps.{block_nesting, begin_statement, begins_statement, end_block, with_statement, declaration_or_statement, at_items, resume}
 use Rattle.pk_grammar.proofs.SpellsSigns.{is_this, IsStatement, is_statement, IsSpecifier, is_specifier}
 use Rattle.pk_grammar.proofs.SpellsWords.{◌▹◌, push, push_at, none_more, gather, together, last_as, before_as, moved}
-use Rattle.pk_grammar.proofs.SpellsLists.{items_statement, externals_end}
+use Rattle.pk_grammar.proofs.SpellsLists.{items_statement, externals_end, first_word}
 use Rattle.pk_grammar.proofs.SpellsStates.{bare, to_item, to_statement, outer_nesting}
 use Rattle.pk_grammar.proofs.SpellsGood.{Good, if_good, fixed_good, wanted_good, two}
 use Rattle.pk_grammar.proofs.SpellsPurposes.{leveled}
@@ -52,7 +52,7 @@ with_statement_good (function_block h ps at items) s ms g = last_as (λ ts f. it
 with_statement_good (inner_block n at items o) s ms g = (g.first.0, last_as (λ ts f. items_statement items s (n + 1) ts f) (gather (bare g)))
 
 declaration_or_statement_good : (b : OpenBlock) (t : Token) (ms : List Marked) (w : Option SpecifierWord) → IsSpecifier w t.kind → to_item b ms → Good (declaration_or_statement b t w) t ms
-declaration_or_statement_good b t ms (Some w) k g = push ms t g (k, refl)
+declaration_or_statement_good b t ms (Some w) k g = first_word w t (block_nesting b) ms k g
 declaration_or_statement_good b t ms None k g =
     fixed_good fixed.CloseBrace _ _ t ms (λ k. end_block_good b t ms k g) (begins_statement_good (block_nesting b) (in_block b) t ms refl g)
 

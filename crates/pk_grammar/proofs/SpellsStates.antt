@@ -7,8 +7,8 @@ use Rattle.pk_lex.specs.declared.token.Punctuator.TheVariants as mark
 use Rattle.pk_ast.specs.Trees.{ExpressionTree, ExpressionTrees, no_expressions, expression_then, DeclaratorTree, StatementTree, ForStartTree, ParameterTree}
 use Rattle.pk_grammar.specs.Languages.{Marked, Language, Nothing, Identified, ◌⊙◌, Where}
 use Rattle.pk_grammar.specs.Grammar.{binary_sign, unary_sign, step_sign, assignment_sign, punctuator_at, punctuator, keyword_at, keyword, any_expression, assignment_expression, conditional_expression, strength, weakest_operator, cast_expression, unary_expression, postfix_expression, Fits, AllFit, operators_in, commas_in, specifiers, spelled, Items, optional, array_length, declarator, declarators, OpenEnd, test, for_start, statement, block_items, stored, parameter, IsVoidAlone, parameters, externals}
-use Rattle.pk_grammar.specs.States.{Head, OpenBlock, function_block, inner_block, Outer, in_block, in_label, in_case, in_default, in_if, in_else, in_switch, in_while, in_do, in_for, Site, in_a_block, in_a_for, outside, Declaring, Naming, Purpose, as_statement, as_label, as_test, as_last_test, as_first, as_second, as_third, as_result, as_length, as_value, as_item, Context, as_whole, in_parentheses, in_index, in_call, in_prefix, in_unary, in_cast, in_binary, in_choice, in_alternative, in_assignment, in_comma, State, top, after_storage, after_specifiers, after_name, after_length, after_assign, after_brace, after_item, after_initializer, after_comma, parameters_open, parameter_specifiers, parameter_name, parameter_comma, parameters_closed, block_item, at_statement, after_statement, test_open, do_open, for_open, for_first, for_second, for_third, default_colon, goto_name, returning, statement_end, operand, named, arguments, opened, cast_specifiers, complete}
-use Rattle.pk_grammar.specs.Steps.{block_nesting, site_nesting, naming_nesting, operand_level}
+use Rattle.pk_grammar.specs.Machine.States.{Head, OpenBlock, function_block, inner_block, Outer, in_block, in_label, in_case, in_default, in_if, in_else, in_switch, in_while, in_do, in_for, Site, in_a_block, in_a_for, outside, Declaring, Declared, Naming, Purpose, as_statement, as_label, as_test, as_last_test, as_first, as_second, as_third, as_result, as_length, as_value, as_item, Context, as_whole, in_parentheses, in_index, in_call, in_prefix, in_unary, in_cast, in_binary, in_choice, in_alternative, in_assignment, in_comma, State, top, after_storage, after_specifiers, after_name, after_length, after_assign, after_brace, after_item, after_initializer, after_comma, parameters_open, parameter_specifiers, parameter_name, parameter_comma, parameters_closed, block_item, at_statement, after_statement, test_open, do_open, for_open, for_first, for_second, for_third, default_colon, goto_name, returning, statement_end, operand, named, arguments, opened, cast_specifiers, complete}
+use Rattle.pk_grammar.specs.Machine.Steps.{block_nesting, site_nesting, naming_nesting, operand_level}
 use Rattle.pk_grammar.proofs.SpellsSigns.{testing_keyword}
 use Rattle.pk_grammar.proofs.SpellsWords.{Words, ◌▹◌, before_as}
 
@@ -42,11 +42,6 @@ declarators_before (d ∷ ds) = declarator d ⊙ punctuator mark.Comma ⊙ decla
 abbrev pub parameters_before : List ParameterTree → Language
 parameters_before [] = Nothing
 parameters_before (p ∷ ps) = parameter p ⊙ punctuator mark.Comma ⊙ parameters_before ps
-
--- one or more items of a braced list
-abbrev pub some_items : ExpressionTrees → Language
-some_items no_expressions n ts = ⊥
-some_items (expression_then e es) n ts = Items e es n ts
 
 -- up to a function's name
 abbrev pub to_parameters : Head → Words
@@ -120,7 +115,7 @@ abbrev pub to_declarator : Declaring → Words
 to_declarator d = to_declaration d.site ▹ specifiers d.specifiers (site_nesting d.site) ▹ declarators_before d.declarators (site_nesting d.site)
 
 -- up to what follows a declaration's last declarator
-abbrev pub to_declarator_end : Declaring → Words
+abbrev pub to_declarator_end : Declared → Words
 to_declarator_end d = to_declaration d.site ▹ specifiers d.specifiers (site_nesting d.site) ▹ declarators d.declarators (site_nesting d.site)
 
 -- up to an initializer
@@ -216,7 +211,7 @@ Spells (after_name d id) = to_declarator d ▹ Identified id (site_nesting d.sit
 Spells (after_length d) = to_initializer d
 Spells (after_assign d) = to_value d
 Spells (after_brace d at) = to_brace d at
-Spells (after_item d at es) = to_brace d at ▹ some_items es (naming_nesting d) ▹ punctuator mark.Comma (naming_nesting d)
+Spells (after_item d at e es) = to_brace d at ▹ Items e es (naming_nesting d) ▹ punctuator mark.Comma (naming_nesting d)
 Spells (after_initializer d) = to_declarator_end d
 Spells (after_comma d) = to_declarator d
 Spells (parameters_open h) = to_parameters h ▹ punctuator mark.OpenParenthesis 1

@@ -1,5 +1,5 @@
 -- Lists of tokens one after another.
-use Rattle.std.proofs.Common.{◌≡◌, ℕ, inl, List, [], ◌∷◌, ◌++◌, refl, sym, ap, subst, ◌∙◌, append_assoc}
+use Rattle.std.proofs.Common.{◌≡◌, ℕ, inl, List, [], ◌∷◌, ◌++◌, refl, sym, ap, subst, ◌∙◌, append_assoc, append-nil}
 use Rattle.pk_lex.specs.declared.token.Token.{Token}
 use Rattle.pk_grammar.specs.Languages.{Marked, Language, Nothing, One, ◌⊙◌, Optional}
 
@@ -16,19 +16,15 @@ pub record ◌▹◌ (R S : Words) (ts : List Marked) : Type 0 where
   pub first : R front
   pub second : S back
 
-pub append_nil : {A : Type 0} (p : List A) → p ++ [] ≡ p
-append_nil [] = refl
-append_nil (a ∷ p) = ap (λ q. a ∷ q) (append_nil p)
-
 -- the token that comes last
 pub push : {R : Words} {P : Token → Type 0} (ms : List Marked) (t : Token) {n : ℕ} → R ms → P t → (R ▹ One P n) (ms ++ record { token = t; nesting = n } ∷ [])
 push ms t r p = record { front = ms; back = _; cut = refl; first = r; second = record { token = t; is = refl; holds = p } }
 
 pub none_more : {R : Words} (n : ℕ) {ms : List Marked} → R ms → (R ▹ Nothing n) ms
-none_more n {ms = ms} r = record { front = ms; back = []; cut = sym (append_nil ms); first = r; second = refl }
+none_more n {ms = ms} r = record { front = ms; back = []; cut = sym (append-nil ms); first = r; second = refl }
 
 pub not_there : {R : Words} (P : Language) (n : ℕ) {ms : List Marked} → R ms → (R ▹ Optional P n) ms
-not_there P n {ms = ms} r = record { front = ms; back = []; cut = sym (append_nil ms); first = r; second = inl refl }
+not_there P n {ms = ms} r = record { front = ms; back = []; cut = sym (append-nil ms); first = r; second = inl refl }
 
 -- what comes last joins what is before it
 pub gather : {R : Words} {P Q : Language} {n : ℕ} {ms : List Marked} → (R ▹ P n ▹ Q n) ms → (R ▹ (P ⊙ Q) n) ms
@@ -91,7 +87,10 @@ pub alone : {P : Language} {n : ℕ} {ts : List Marked} → (Nothing ⊙ P) n ts
 alone {P = P} {n = n} h = subst (λ q. P n q) (sym (h.cut ∙ ap (λ q. q ++ h.back) h.first)) h.second
 
 pub and_none : {P : Language} (n : ℕ) (ts : List Marked) → P n ts → (P ⊙ Nothing) n ts
-and_none n ts p = record { front = ts; back = []; cut = sym (append_nil ts); first = p; second = refl }
+and_none n ts p = record { front = ts; back = []; cut = sym (append-nil ts); first = p; second = refl }
 
 pub drop_none : {R : Words} (n : ℕ) {ms : List Marked} → (R ▹ Nothing n) ms → R ms
-drop_none {R = R} n h = subst R (sym (h.cut ∙ ap (λ q. h.front ++ q) h.second ∙ append_nil h.front)) h.first
+drop_none {R = R} n h = subst R (sym (h.cut ∙ ap (λ q. h.front ++ q) h.second ∙ append-nil h.front)) h.first
+
+pub drop_last : {P : Language} {n : ℕ} {ts : List Marked} → (P ⊙ Nothing) n ts → P n ts
+drop_last {P} {n} h = subst (λ q. P n q) (sym (h.cut ∙ ap (λ q. h.front ++ q) h.second ∙ append-nil h.front)) h.first

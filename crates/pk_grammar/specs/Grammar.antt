@@ -1,8 +1,6 @@
 -- The grammar, as a relation between trees and whole lists of tokens, each with its nesting (after C99 6.5 to 6.9).
-use Rattle.std.specs.Prelude.{◌≡◌, ℕ, ◌+◌, ◌≤◌, ◌⊎◌, List, [], ◌∷◌, ◌++◌, Option, Some, None, map}
+use Rattle.std.specs.Prelude.{◌≡◌, ℕ, ◌+◌, ◌≤◌, List, [], ◌∷◌, Option, Some, None}
 use Rattle.pk_ctypes.specs.declared.places.Pos.{Pos}
-use Rattle.pk_lex.specs.declared.token.Token.{Token}
-use Rattle.pk_lex.specs.declared.token.Kind.{Kind}
 use Rattle.pk_lex.specs.declared.token.Kind.TheVariants as kind
 use Rattle.pk_lex.specs.declared.token.Keyword.{Keyword}
 use Rattle.pk_lex.specs.declared.token.Keyword.TheVariants as key
@@ -12,18 +10,18 @@ use Rattle.pk_ast.specs.declared.declarations.Specifier.{Specifier}
 use Rattle.pk_ast.specs.declared.declarations.SpecifierWord.{SpecifierWord}
 use Rattle.pk_ast.specs.declared.declarations.SpecifierWord.TheVariants as word
 use Rattle.pk_ast.specs.declared.expressions.Identifier.{Identifier}
-use Rattle.pk_ast.specs.declared.expressions.BinaryOperator.{BinaryOperator}
-use Rattle.pk_ast.specs.declared.expressions.BinaryOperator.TheVariants as op
-use Rattle.pk_ast.specs.declared.expressions.UnaryOperator.{UnaryOperator}
-use Rattle.pk_ast.specs.declared.expressions.UnaryOperator.TheVariants as un
-use Rattle.pk_ast.specs.declared.expressions.StepOperator.{StepOperator}
-use Rattle.pk_ast.specs.declared.expressions.StepOperator.TheVariants as step
-use Rattle.pk_ast.specs.declared.expressions.AssignmentOperator.{AssignmentOperator}
-use Rattle.pk_ast.specs.declared.expressions.AssignmentOperator.TheVariants as asg
+use Rattle.pk_ast.specs.declared.operators.BinaryOperator.{BinaryOperator}
+use Rattle.pk_ast.specs.declared.operators.BinaryOperator.TheVariants as op
+use Rattle.pk_ast.specs.declared.operators.UnaryOperator.{UnaryOperator}
+use Rattle.pk_ast.specs.declared.operators.UnaryOperator.TheVariants as un
+use Rattle.pk_ast.specs.declared.operators.StepOperator.{StepOperator}
+use Rattle.pk_ast.specs.declared.operators.StepOperator.TheVariants as step
+use Rattle.pk_ast.specs.declared.operators.AssignmentOperator.{AssignmentOperator}
+use Rattle.pk_ast.specs.declared.operators.AssignmentOperator.TheVariants as asg
 use Rattle.pk_ast.specs.declared.units.Storage.{Storage}
 use Rattle.pk_ast.specs.declared.units.StorageWord.{StorageWord}
 use Rattle.pk_ast.specs.declared.units.StorageWord.TheVariants as storage
-use Rattle.pk_ast.specs.Trees.{ExpressionTree, name, call, index, constant, character, parenthesized, postfix, prefix, unary, cast, binary, conditional, assignment, comma, ExpressionTrees, no_expressions, expression_then, InitializerTree, single, braced, DeclaratorTree, DeclarationTree, ForStartTree, declaration, expression, StatementTree, block, empty, expression_statement, label, case, default, if_then, if_else, switch, while, do_while, for_loop, goto, continue, break, return, ItemTrees, no_items, declaration_then, statement_then, BlockTree, ParameterTree, FunctionTree, ExternalTree, function, objects}
+use Rattle.pk_ast.specs.Trees.{OneOrMore, ExpressionTree, name, call, index, constant, character, parenthesized, postfix, prefix, unary, cast, binary, conditional, assignment, comma, ExpressionTrees, no_expressions, expression_then, InitializerTree, single, braced, DeclaratorTree, DeclarationTree, ForStartTree, declaration, expression, StatementTree, block, empty, expression_statement, label, case, default, if_then, if_else, switch, while, do_while, for_loop, goto, continue, break, return, ItemTrees, no_items, declaration_then, statement_then, BlockTree, ParameterTree, ExternalTree, function, objects}
 use Rattle.pk_grammar.specs.Languages.{Marked, Language, Nothing, At, Any, Identified, ◌⊙◌, Inside, Past, Optional, Where}
 
 -- Signs
@@ -220,11 +218,13 @@ commas_in (comma at a b) = commas_in a + 1
 abbrev pub specifier : Specifier → Language
 specifier s = keyword_at (specifier_keyword s.word) s.at
 
--- one or more words of a type
-abbrev pub specifiers : List Specifier → Language
-specifiers [] n ts = ⊥
-specifiers (s ∷ []) n ts = specifier s n ts
-specifiers (s ∷ r ∷ more) n ts = (specifier s ⊙ specifiers (r ∷ more)) n ts
+-- words of a type, one after another
+abbrev pub specifier_list : List Specifier → Language
+specifier_list [] = Nothing
+specifier_list (s ∷ more) = specifier s ⊙ specifier_list more
+
+abbrev pub specifiers : OneOrMore Specifier → Language
+specifiers s = specifier s.first ⊙ specifier_list s.more
 
 unfoldable mutual
   -- how an expression is spelled, whatever its operators' strengths
@@ -276,18 +276,19 @@ array_length (Some e) = Inside (punctuator mark.OpenBracket ⊙ Expression condi
 abbrev pub initializer : Option InitializerTree → Language
 initializer None n ts = Nothing n ts
 initializer (Some (single e)) n ts = (punctuator mark.Assign ⊙ Expression assignment_expression e) n ts
-initializer (Some (braced at no_expressions)) n ts = ⊥
-initializer (Some (braced at (expression_then e es))) n ts =
+initializer (Some (braced at e es)) n ts =
     (punctuator mark.Assign ⊙ punctuator_at mark.OpenBrace at ⊙ Items e es ⊙ Optional (punctuator mark.Comma) ⊙ punctuator mark.CloseBrace) n ts
 
 abbrev pub declarator : DeclaratorTree → Language
 declarator d = Identified d.name ⊙ array_length d.length ⊙ initializer d.initializer
 
--- one or more, with commas between them
-abbrev pub declarators : List DeclaratorTree → Language
-declarators [] n ts = ⊥
-declarators (d ∷ []) n ts = declarator d n ts
-declarators (d ∷ e ∷ more) n ts = (declarator d ⊙ punctuator mark.Comma ⊙ declarators (e ∷ more)) n ts
+-- with commas between them
+abbrev pub more_declarators : List DeclaratorTree → Language
+more_declarators [] = Nothing
+more_declarators (d ∷ more) = punctuator mark.Comma ⊙ declarator d ⊙ more_declarators more
+
+abbrev pub declarators : OneOrMore DeclaratorTree → Language
+declarators d = declarator d.first ⊙ more_declarators d.more
 
 abbrev pub declared : DeclarationTree → Language
 declared d = specifiers d.specifiers ⊙ declarators d.declarators ⊙ punctuator mark.Semicolon
@@ -365,7 +366,7 @@ parameter p = specifiers p.specifiers ⊙ optional_name p.name
 
 -- the word `void` and nothing else
 abbrev pub IsVoidAlone : ParameterTree → Type 0
-IsVoidAlone p = (map (λ (s : Specifier). s.word) p.specifiers ≡ word.Void ∷ []) × (p.name ≡ None)
+IsVoidAlone p = (p.specifiers.first.word ≡ word.Void) × (p.specifiers.more ≡ []) × (p.name ≡ None)
 
 -- Parameters with commas between them. Without any there is nothing, or `void` alone, which is no parameter.
 abbrev pub more_parameters : List ParameterTree → Language

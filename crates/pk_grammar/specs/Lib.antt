@@ -1,7 +1,5 @@
 pub mod Languages
 pub mod Grammar
+pub mod Names
 pub mod Outcomes
-pub mod Signs
-pub mod States
-pub mod Steps
-pub mod Running
+pub mod Machine

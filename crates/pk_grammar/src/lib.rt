@@ -7,7 +7,7 @@ mod signs;
 mod states;
 
 pub use failure::ParseError;
-pub use laws::{nestings_are_determined, units_are_determined};
+pub use laws::{names_are_tokens, nestings_are_determined, units_are_determined};
 pub use signs::{
     Fixed, OperandStart, Operator, StatementStart, is, is_void_word, operand_start, operator_of,
     specifier_word, statement_start, storage_word,

@@ -1,7 +1,7 @@
 // What a token's kind tells the parser.
 
 ghost use Rattle.std.specs.Prelude.{◌≡◌};
-ghost use Rattle.pk_grammar.specs.Signs as signs;
+ghost use Rattle.pk_grammar.specs.Machine.Signs as signs;
 
 use crate::states::Testing;
 use pk_ast::{
@@ -11,7 +11,7 @@ use pk_ctypes::IntType;
 use pk_lex::{Keyword, Kind, Punctuator};
 
 /// A token that stands at its place in a construct, whatever its value.
-#[derive(Clone, Copy, Debug, PartialEq, Eq)]
+#[derive(Clone, Copy)]
 pub enum Fixed {
     Name,
     OpenParenthesis,
@@ -31,7 +31,7 @@ pub enum Fixed {
 }
 
 /// What an operand begins with.
-#[derive(Clone, Copy, Debug, PartialEq, Eq)]
+#[derive(Clone, Copy, PartialEq, Eq)]
 pub enum OperandStart {
     Name,
     Constant { ty: IntType, value: u64 },
@@ -43,7 +43,7 @@ pub enum OperandStart {
 }
 
 /// What comes after an operand.
-#[derive(Clone, Copy, Debug, PartialEq, Eq)]
+#[derive(Clone, Copy)]
 pub enum Operator {
     Step(StepOperator),
     Binary(BinaryOperator),
@@ -54,7 +54,7 @@ pub enum Operator {
 }
 
 /// What a statement begins with.
-#[derive(Clone, Copy, Debug, PartialEq, Eq)]
+#[derive(Clone, Copy, PartialEq, Eq)]
 pub enum StatementStart {
     Block,
     Empty,

@@ -7,7 +7,7 @@ use Rattle.std.proofs.lemmas.Int.{ints}
 use Rattle.pk_ctypes.specs.declared.types.IntType.{IntType}
 use Rattle.pk_ctypes.specs.Types.{low_of, high_of, is_in_type, InType}
 use Rattle.pk_interval.specs.Ranges.{Range, Holds, IsIn, is_within}
-use Rattle.pk_interval.specs.Widening.{next_up, next_down, widened, IsChain, Widens}
+use Rattle.pk_interval.specs.Widening.{next_up, next_down, widened, IsChain, Widens, tally, lies_above, lies_below, moves, MovesAreRanks}
 use Rattle.pk_interval.proofs.NextThresholds.{up_in, down_in}
 
 abbrev In : List ℤ → ℤ → Type 0
@@ -31,10 +31,6 @@ less_true : (a b : ℤ) → a <ℤ b → int_lt a b ≡ true
 less_true a b h = sym (omega (arith, ints))
 
 -- ---- counts
-abbrev tally : (ℤ → Bool) → List ℤ → ℕ
-tally p [] = 0
-tally p (c ∷ cs) = cond (p c) 1 0 + tally p cs
-
 tally_le_length : (p : ℤ → Bool) (cs : List ℤ) → tally p cs ≤ length cs
 tally_le_length p [] = omega arith
 tally_le_length p (c ∷ cs) = by (p c) (tally_le_length p cs)
@@ -95,17 +91,11 @@ max_one a c = by (int_lt c a)
     by false = inr refl
 
 -- ---- how often a bound can still move
-abbrev is_above : IntType → ℤ → ℤ → Bool
-is_above t hi c = int_lt hi c && is_in_type t c
-
-abbrev is_below : IntType → ℤ → ℤ → Bool
-is_below t lo c = int_lt c lo && is_in_type t c
-
 abbrev ups : IntType → List ℤ → ℤ → ℕ
-ups t cs hi = tally (is_above t hi) (high_of t ∷ cs)
+ups t cs hi = tally (lies_above t hi) (high_of t ∷ cs)
 
 abbrev downs : IntType → List ℤ → ℤ → ℕ
-downs t cs lo = tally (is_below t lo) (low_of t ∷ cs)
+downs t cs lo = tally (lies_below t lo) (low_of t ∷ cs)
 
 in_type : (t : IntType) (z : ℤ) → InType t z → is_in_type t z ≡ true
 in_type t z h = and_true (int_le (low_of t) z) (int_le z (high_of t)) (sym (omega (arith, ints, h.from))) (sym (omega (arith, ints, h.to)))
@@ -124,7 +114,7 @@ up_falls t cs hi x h k =
     falls m =
         let r = next_up t cs x in
         let past : hi <ℤ r = omega (arith, ints, inside.1) in
-        count_falls (is_above t hi) (is_above t r) (high_of t ∷ cs) r
+        count_falls (lies_above t hi) (lies_above t r) (high_of t ∷ cs) r
         (λ c e. let tests = both_true (int_lt r c) (is_in_type t c) e in and_true _ _ (less_true hi c (omega (arith, ints, tests.0, past))) tests.1)
         m (and_true _ _ (less_true hi r past) (in_type t r inside.0)) (false_and (int_lt r r) _ (sym (omega (arith, ints))))
 
@@ -142,12 +132,19 @@ down_falls t cs lo x h k =
     falls m =
         let r = next_down t cs x in
         let past : r <ℤ lo = omega (arith, ints, inside.1) in
-        count_falls (is_below t lo) (is_below t r) (low_of t ∷ cs) r
+        count_falls (lies_below t lo) (lies_below t r) (low_of t ∷ cs) r
         (λ c e. let tests = both_true (int_lt c r) (is_in_type t c) e in and_true _ _ (less_true c lo (omega (arith, ints, tests.0, past))) tests.1)
         m (and_true _ _ (less_true r lo past) (in_type t r inside.0)) (false_and (int_lt r r) _ (sym (omega (arith, ints))))
 
-abbrev moves : IntType → List ℤ → Range → ℕ
-moves t cs r = ups t cs r.hi + downs t cs r.lo
+-- no step adds one
+widened_stays : (t : IntType) (cs : List ℤ) (h n : Range) → IsIn t n → moves t cs (widened t cs h n) ≤ moves t cs h
+widened_stays t cs h n m = by (int_lt n.lo h.lo) (int_lt h.hi n.hi) refl refl
+  where
+    by : (a b : Bool) → int_lt n.lo h.lo ≡ a → int_lt h.hi n.hi ≡ b → ups t cs (if b then next_up t cs n.hi else h.hi) + downs t cs (if a then next_down t cs n.lo else h.lo) ≤ moves t cs h
+    by true true f g = omega (arith, up_falls t cs h.hi n.hi (omega (arith, ints)) m.to, down_falls t cs h.lo n.lo (omega (arith, ints)) m.from)
+    by true false f g = omega (arith, down_falls t cs h.lo n.lo (omega (arith, ints)) m.from)
+    by false true f g = omega (arith, up_falls t cs h.hi n.hi (omega (arith, ints)) m.to)
+    by false false f g = omega arith
 
 widened_falls : (t : IntType) (cs : List ℤ) (h n : Range) → IsIn t n → is_within n h ≡ false → moves t cs (widened t cs h n) < moves t cs h
 widened_falls t cs h n m e = by (int_lt n.lo h.lo) (int_lt h.hi n.hi) refl refl
@@ -163,7 +160,7 @@ chain_short t cs h [] c = omega arith
 chain_short t cs h (n ∷ ns) c = omega (arith, widened_falls t cs h n c.0 c.1, chain_short t cs (widened t cs h n) ns c.2)
 
 pub chain_ends : (t : IntType) (cs : List ℤ) (h : Range) (ns : List Range) → IsChain t cs h ns → length ns ≤ 2 * (length cs + 1)
-chain_ends t cs h ns c = omega (arith, chain_short t cs h ns c, tally_le_length (is_above t h.hi) (high_of t ∷ cs), tally_le_length (is_below t h.lo) (low_of t ∷ cs))
+chain_ends t cs h ns c = omega (arith, chain_short t cs h ns c, tally_le_length (lies_above t h.hi) (high_of t ∷ cs), tally_le_length (lies_below t h.lo) (low_of t ∷ cs))
 
 -- ---- what a step holds
 within : (t : IntType) (cs : List ℤ) (h n : Range) → IsIn t h → IsIn t n → ((widened t cs h n).lo ≤ℤ h.lo) × ((widened t cs h n).lo ≤ℤ n.lo) × (h.hi ≤ℤ (widened t cs h n).hi) × (n.hi ≤ℤ (widened t cs h n).hi)
@@ -201,3 +198,10 @@ grows t cs h n i j e = by (is_within (widened t cs h n) h) refl
 
 pub widens : Widens
 widens = record { keeps = keeps; takes = takes; grows = grows; ends = λ t cs h ns i c. chain_ends t cs h ns c }
+
+pub moves_are_ranks : MovesAreRanks
+moves_are_ranks = record {
+  few = λ t cs h. omega (arith, tally_le_length (lies_above t h.hi) (high_of t ∷ cs), tally_le_length (lies_below t h.lo) (low_of t ∷ cs));
+  stays = widened_stays;
+  falls = widened_falls;
+}

@@ -6,3 +6,4 @@ pub mod Ends
 pub mod Order
 pub mod Fits
 pub mod Sound
+pub mod Wrappable

@@ -126,6 +126,9 @@ left_rises (pos x) (negsuc y) c d h k l m = absurd (omega (arith, ints))
 left_rises (pos x) (pos y) (negsuc c) d h k l m = absurd (omega (arith, ints))
 left_rises (pos x) (pos y) (pos c) (negsuc d) h k l m = absurd (omega (arith, ints))
 
+pub left_value : (r x c x' c' : ℤ) → FitsSigned w128 r → FitsSigned w128 x → FitsSigned w128 c → r ≡ shifted_left (to_z w128 (of_z w128 x)) (to_z w128 (of_z w128 c)) → x ≡ x' → c ≡ c' → to_z w128 (of_z w128 r) ≡ shifted_left x' c'
+left_value r x c x' c' k f g e h m = simp to_z-of_z ((simp to_z-of_z at e) ∙ ap (λ v. shifted_left v c) h ∙ ap (shifted_left x') m)
+
 pub right_value : (r x c x' c' : ℤ) → FitsSigned w128 r → FitsSigned w128 x → FitsSigned w128 c → r ≡ shifted_right (to_z w128 (of_z w128 x)) (to_z w128 (of_z w128 c)) → x ≡ x' → c ≡ c' → to_z w128 (of_z w128 r) ≡ shifted_right x' c'
 right_value r x c x' c' k f g e h m = simp to_z-of_z ((simp to_z-of_z at e) ∙ ap (λ v. shifted_right v c) h ∙ ap (shifted_right x') m)
 

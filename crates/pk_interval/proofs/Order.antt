@@ -1,10 +1,11 @@
 -- The order of ranges is inclusion.
-use Rattle.std.specs.Prelude.{◌≡◌, ◌↔◌, ◌&&◌, Bool, true, false, if◌then◌else◌, ℤ, ◌≤ℤ◌, int_le, Some, None}
+use Rattle.std.specs.Prelude.{◌≡◌, ◌↔◌, ◌&&◌, Bool, true, false, if◌then◌else◌, ℤ, ◌≤ℤ◌, int_le, Some, None, IfSome}
 use Rattle.std.specs.Int.{int_min, int_max}
 use Rattle.std.proofs.Common.{arith, refl}
 use Rattle.std.proofs.lemmas.Int.{ints, clamps}
+use Rattle.pk_ctypes.specs.declared.types.IntType.{IntType}
 use Rattle.pk_ctypes.proofs.Values.{le_test, test_le}
-use Rattle.pk_interval.specs.Ranges.{Range, Holds, HeldBy, range_from, joined, met, is_within}
+use Rattle.pk_interval.specs.Ranges.{Range, Holds, HeldBy, IsIn, LiesIn, range_from, joined, met, is_within}
 use Rattle.pk_interval.specs.Laws.{Includes, IsLattice}
 
 first_true : (a b : Bool) → (a && b) ≡ true → a ≡ true
@@ -58,6 +59,27 @@ least a b c e f =
     let first = ends_within a c e in
     let second = ends_within b c f in
     within_ends (joined a b) c (omega (arith, ints, clamps, first.0, second.0)) (omega (arith, ints, clamps, first.1, second.1))
+
+-- what is found between ends within those of a range lies in it
+lies_from : (a : Range) (l h : ℤ) → a.lo ≤ℤ l → h ≤ℤ a.hi → IfSome (range_from l h) (LiesIn a)
+lies_from a l h p q = by (int_le l h) refl
+  where
+    by : (b : Bool) → int_le l h ≡ b → IfSome (if b then Some (record { lo = l; hi = h }) else None) (LiesIn a)
+    by true e = record { from = p; some = omega (arith, ints, e); to = q }
+    by false e = tt
+
+pub met_left : (a b : Range) → IfSome (met a b) (LiesIn a)
+met_left a b = lies_from a (int_max a.lo b.lo) (int_min a.hi b.hi) (omega (arith, ints, clamps)) (omega (arith, ints, clamps))
+
+pub met_right : (a b : Range) → IfSome (met a b) (LiesIn b)
+met_right a b = lies_from b (int_max a.lo b.lo) (int_min a.hi b.hi) (omega (arith, ints, clamps)) (omega (arith, ints, clamps))
+
+-- what lies in a range of a type is a range of the type
+pub lies_in_type : (t : IntType) (a r : Range) → IsIn t a → LiesIn a r → IsIn t r
+lies_in_type t a r i h = record {
+  from = record { from = omega (arith, ints, i.from.from, h.from); to = omega (arith, ints, i.to.to, h.some, h.to) };
+  to = record { from = omega (arith, ints, i.from.from, h.from, h.some); to = omega (arith, ints, i.to.to, h.to) };
+}
 
 pub lattice : IsLattice
 lattice = record {

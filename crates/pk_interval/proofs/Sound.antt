@@ -222,7 +222,7 @@ counts_hold t b y k c =
     held_from (int_max b.lo (pos 0)) (int_min b.hi (pos (width_of t) -ℤ pos 1)) y (omega (arith, ints, clamps, k.from, count.from)) (omega (arith, ints, clamps, k.to, count.below))
 
 -- the range that is found has these ends
-found_low : (l h : ℤ) (d : Range) → range_from l h ≡ Some d → d.lo ≡ l
+pub found_low : (l h : ℤ) (d : Range) → range_from l h ≡ Some d → d.lo ≡ l
 found_low l h d e = let ends = from_is l h d e in ends.0
 
 left_known : (x y : ℤ) (o o' : Option Range) → HeldBy o x → HeldBy o' y → ((d : Range) → o ≡ Some d → pos 0 ≤ℤ d.lo) → ((d : Range) → o' ≡ Some d → pos 0 ≤ℤ d.lo) → KnownBy (within_if (left_by o o')) (shifted_left x y)

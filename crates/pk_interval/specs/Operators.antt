@@ -191,6 +191,12 @@ range_of Neg t a b = Within (range_negative a)
 range_of BitNot t a b = Within (range_complement t a)
 range_of Not t a b = Within (truths (is_one a (single (pos 0))) (are_apart a (single (pos 0))))
 
+-- what is given can be wrapped into a type: its least number is -2^126 or more
+abbrev pub CanWrap : Outcome → Type 0
+CanWrap Empty = Unit {0}
+CanWrap (Within r) = negsuc (2 ^ 126 - 1) ≤ℤ r.lo
+CanWrap TooLarge = Unit {0}
+
 -- what is asked of the right operand: nothing of a shift's counts, and a unary operator has none
 abbrev pub HasRightIn : Op → IntType → Range → Type 0
 HasRightIn Add t b = IsIn t b

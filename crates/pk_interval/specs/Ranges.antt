@@ -24,6 +24,12 @@ pub record IsIn (t : IntType) (r : Range) : Type 0 where
   pub from : InType t r.lo
   pub to : InType t r.hi
 
+-- some numbers of a, and no others
+pub record LiesIn (a r : Range) : Type 0 where
+  pub from : a.lo ≤ℤ r.lo
+  pub some : r.lo ≤ℤ r.hi
+  pub to : r.hi ≤ℤ a.hi
+
 abbrev pub single : ℤ → Range
 single z = record { lo = z; hi = z }
 

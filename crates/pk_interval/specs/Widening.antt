@@ -1,9 +1,9 @@
 -- Widening with thresholds, narrowing, and how long a chain of widening steps can be.
-use Rattle.std.specs.Prelude.{◌≡◌, ◌+◌, ◌*◌, ◌≤◌, false, if◌then◌else◌, ℤ, int_le, int_lt, Option, Some, None, List, [], ◌∷◌, length, filter, fold}
+use Rattle.std.specs.Prelude.{◌≡◌, ◌+◌, ◌*◌, ℕ, ◌<◌, ◌≤◌, ◌&&◌, Bool, false, if◌then◌else◌, ℤ, int_le, int_lt, Option, Some, None, List, [], ◌∷◌, length, filter, fold}
 use Rattle.std.specs.Ordering.{int_eq}
 use Rattle.std.specs.Int.{int_min, int_max}
 use Rattle.pk_ctypes.specs.declared.types.IntType.{IntType}
-use Rattle.pk_ctypes.specs.Types.{low_of, high_of}
+use Rattle.pk_ctypes.specs.Types.{low_of, high_of, is_in_type}
 use Rattle.pk_interval.specs.Ranges.{Range, IsIn, Holds, range_from, is_within}
 
 -- the least threshold that is x or more, where it is in the type, or else the type's end
@@ -53,3 +53,25 @@ pub record Widens : Type 0 where
 -- A narrowing step holds what both hold.
 abbrev pub Narrows : Type 0
 Narrows = (t : IntType) (h n : Range) (z : ℤ) → Holds h z → Holds n z → Holds (narrowed t h n) z
+
+-- how many numbers of a list pass a test
+abbrev pub tally : (ℤ → Bool) → List ℤ → ℕ
+tally p [] = 0
+tally p (c ∷ cs) = (if p c then 1 else 0) + tally p cs
+
+-- a number of the type beyond a bound
+abbrev pub lies_above : IntType → ℤ → ℤ → Bool
+lies_above t hi c = int_lt hi c && is_in_type t c
+
+abbrev pub lies_below : IntType → ℤ → ℤ → Bool
+lies_below t lo c = int_lt c lo && is_in_type t c
+
+-- how often a range's bounds can still move: how many thresholds of the type, its ends among them, lie beyond each
+abbrev pub moves : IntType → List ℤ → Range → ℕ
+moves t thresholds r = tally (lies_above t r.hi) (high_of t ∷ thresholds) + tally (lies_below t r.lo) (low_of t ∷ thresholds)
+
+-- The moves are a rank for widening: few, never more after a step, and fewer after one that isn't within.
+pub record MovesAreRanks : Type 0 where
+  pub few : (t : IntType) (thresholds : List ℤ) (h : Range) → moves t thresholds h ≤ 2 * (length thresholds + 1)
+  pub stays : (t : IntType) (thresholds : List ℤ) (h n : Range) → IsIn t n → moves t thresholds (widened t thresholds h n) ≤ moves t thresholds h
+  pub falls : (t : IntType) (thresholds : List ℤ) (h n : Range) → IsIn t n → is_within n h ≡ false → moves t thresholds (widened t thresholds h n) < moves t thresholds h

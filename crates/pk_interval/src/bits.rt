@@ -8,8 +8,8 @@ use crate::interval::Interval;
 use crate::scalars::{greater, lesser, other_bits};
 use pk_ctypes::{IntType, range};
 
-// All numbers of a type.
-pub(crate) fn whole(t: IntType) -> Interval
+/// All numbers of a type.
+pub fn whole(t: IntType) -> Interval
     ensures { result ≡ whole_of t }
 {
     let (lo, hi) = range(t);

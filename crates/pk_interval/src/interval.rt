@@ -1,7 +1,7 @@
 // Intervals, and their order.
 
-ghost use Rattle.std.specs.Prelude.{◌≡◌, ◌≤ℤ◌};
-ghost use Rattle.pk_interval.specs.Ranges.{joined, met, is_within, range_from, single};
+ghost use Rattle.std.specs.Prelude.{◌≡◌, ◌≤ℤ◌, IfSome};
+ghost use Rattle.pk_interval.specs.Ranges.{joined, met, is_within, range_from, single, LiesIn};
 
 use std::marker::Model;
 
@@ -25,8 +25,8 @@ impl Model for Interval {
     ghost inverse = { λ r. record { lo = r.lo; hi = r.hi } };
 }
 
-// The numbers from `lo` to `hi`, if there is one.
-pub(crate) fn between(lo: i128, hi: i128) -> Option<Interval>
+/// The numbers from `lo` to `hi`, if there is one.
+pub fn between(lo: i128, hi: i128) -> Option<Interval>
     ensures { result ≡ range_from lo hi }
 {
     if lo <= hi {
@@ -42,6 +42,12 @@ pub(crate) fn point(z: i128) -> Interval
     Interval { lo: z, hi: z }
 }
 
+fn common(a: &Interval, b: &Interval) -> Option<Interval>
+    ensures { result ≡ met a.now b.now }
+{
+    between(a.lo.max(b.lo), a.hi.min(b.hi))
+}
+
 impl Interval {
     /// The least interval that has the numbers of both.
     pub fn join(&self, other: &Interval) -> Interval
@@ -55,9 +61,11 @@ impl Interval {
 
     /// The numbers of both, if there is one.
     pub fn meet(&self, other: &Interval) -> Option<Interval>
-        ensures { result ≡ met self.now other.now }
+        ensures value { result ≡ met self.now other.now }
+        ensures left { IfSome result (λ r. LiesIn self.now r) }
+        ensures right { IfSome result (λ r. LiesIn other.now r) }
     {
-        between(self.lo.max(other.lo), self.hi.min(other.hi))
+        common(self, other)
     }
 
     /// Whether each number of this one is one of `other`.

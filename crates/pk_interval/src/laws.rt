@@ -1,7 +1,17 @@
 // Laws over the definitions.
 
-ghost use Rattle.pk_interval.specs.Widening.{Widens, Narrows};
+ghost use Rattle.std.specs.Prelude.{◌≤ℤ◌};
+ghost use Rattle.pk_interval.specs.Widening.{Widens, Narrows, MovesAreRanks};
 ghost use Rattle.pk_interval.specs.Laws.{IsLattice, IsSound, Converts};
+
+use crate::interval::Interval;
+
+/// An interval has a number: its least is at most its greatest.
+pub fn ordered_law(a: &Interval)
+    ensures { a.now.lo ≤ℤ a.now.hi }
+{
+    let _opened = a.lo;
+}
 
 /// The order of intervals is inclusion, the join is the least upper bound and the meet the intersection.
 pub fn lattice_law()
@@ -26,4 +36,9 @@ pub fn widening_law()
 /// A narrowing step holds what both intervals hold.
 pub fn narrowing_law()
     ensures { Narrows }
+{}
+
+/// The number of thresholds beyond a range's bounds never rises as it is widened, and falls where the other isn't within.
+pub fn rank_law()
+    ensures { MovesAreRanks }
 {}

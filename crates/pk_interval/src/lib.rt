@@ -11,12 +11,13 @@ mod outcome;
 mod products;
 mod scalars;
 mod shifts;
-#[cfg(test)]
-mod tests;
 mod widening;
 
+pub use bits::whole;
 pub use fitting::{clamp, wrap};
-pub use interval::Interval;
-pub use laws::{conversion_law, lattice_law, narrowing_law, operator_law, widening_law};
+pub use interval::{Interval, between};
+pub use laws::{
+    conversion_law, lattice_law, narrowing_law, operator_law, ordered_law, rank_law, widening_law,
+};
 pub use operators::{binary, unary};
 pub use outcome::Outcome;

@@ -1,8 +1,8 @@
 // The operators on intervals.
 
-ghost use Rattle.std.specs.Prelude.{◌≡◌, true};
+ghost use Rattle.std.specs.Prelude.{◌≡◌, true, ◌-◌, ◌^◌, negsuc, ◌≤ℤ◌};
 ghost use Rattle.pk_interval.specs.Ranges.{IsIn};
-ghost use Rattle.pk_interval.specs.Operators.{range_of, HasRightIn, is_unary};
+ghost use Rattle.pk_interval.specs.Operators.{range_of, HasRightIn, CanWrap, is_unary};
 
 use crate::bits::{ands, complements, ors};
 use crate::comparisons::{apart, at_most, below, one, truths, zeros};
@@ -12,9 +12,7 @@ use crate::products::{differences, negatives, products, quotients, rests, sums};
 use crate::shifts::{shifts_left, shifts_right};
 use pk_ctypes::{IntType, Op};
 
-/// What an operator gives on numbers of the intervals, before it is clamped to the type or wrapped into it. A shift's counts may be any numbers, and a unary
-/// operator doesn't use `b`.
-pub fn binary(op: Op, t: IntType, a: &Interval, b: &Interval) -> Outcome
+fn by_operator(op: Op, t: IntType, a: &Interval, b: &Interval) -> Outcome
     requires left { IsIn t a.now }
     requires right { HasRightIn op t b.now }
     ensures { result ≡ range_of op t a.now b.now }
@@ -42,11 +40,23 @@ pub fn binary(op: Op, t: IntType, a: &Interval, b: &Interval) -> Outcome
     }
 }
 
+/// What an operator gives on numbers of the intervals, before it is clamped to the type or wrapped into it. A shift's counts may be any numbers, and a unary
+/// operator doesn't use `b`.
+pub fn binary(op: Op, t: IntType, a: &Interval, b: &Interval) -> Outcome
+    requires left { IsIn t a.now }
+    requires right { HasRightIn op t b.now }
+    ensures value { result ≡ range_of op t a.now b.now }
+    ensures least { CanWrap result }
+{
+    by_operator(op, t, a, b)
+}
+
 /// What a unary operator gives on the numbers of an interval, before it is clamped to the type or wrapped into it. It is never empty, nor too large.
 pub fn unary(op: Op, t: IntType, a: &Interval) -> Interval
     requires operand { IsIn t a.now }
     requires unary { is_unary op ≡ true }
-    ensures { Outcome.Within result ≡ range_of op t a.now a.now }
+    ensures value { Outcome.Within result ≡ range_of op t a.now a.now }
+    ensures least { negsuc (2 ^ 126 - 1) ≤ℤ result.lo }
 {
     match op {
         Op::Neg => negatives(t, a),

@@ -8,7 +8,7 @@ ghost use Rattle.pk_io.specs.declared.all.ReadError.TheVariants.{Memory};
 use crate::{Sink, Source};
 use std::alloc::{AllocError, Global};
 
-#[derive(Clone, Copy, Debug, PartialEq, Eq)]
+#[derive(Clone, Copy, PartialEq, Eq)]
 pub enum ReadError {
     ReadFault,
     TooLong,
@@ -24,7 +24,7 @@ impl From<AllocError> for ReadError {
 }
 
 /// A write that a fault of the sink cut short.
-#[derive(Clone, Copy, Debug, PartialEq, Eq)]
+#[derive(Clone, Copy, PartialEq, Eq)]
 pub struct WriteFault {
     pub sent: usize,
 }

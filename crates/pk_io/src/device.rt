@@ -7,7 +7,7 @@ ghost use Rattle.pk_io.specs.Causes.{HasCause};
 ghost use Rattle.pk_io.specs.Turns.{turns_after};
 
 /// A device failed, and has counted it.
-#[derive(Clone, Copy, Debug, PartialEq, Eq)]
+#[derive(Clone, Copy)]
 pub struct Failed;
 
 pub trait Source {

@@ -6,8 +6,6 @@ mod all;
 mod device;
 mod memory;
 mod standard;
-#[cfg(test)]
-mod tests;
 
 pub use all::{ReadError, WriteFault, read_all, write_all};
 pub use device::{Failed, Sink, Source};

@@ -10,3 +10,4 @@ pub mod Run_values
 pub mod Held
 pub mod Stands
 pub mod Turns
+pub mod Settles

@@ -5,6 +5,4 @@ pub mod Runs
 pub mod Outcome
 pub mod Answer
 pub mod Laws
-pub mod Counting
-pub mod Counting_laws
-pub mod Rows
+pub mod Settled

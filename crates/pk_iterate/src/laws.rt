@@ -1,6 +1,7 @@
 // Laws of the definitions, each over whatever system there is.
 
 ghost use Rattle.pk_iterate.specs.Laws.{WithinIsWhole, CountsBeyondAreOver, RecursionIsDetermined, RunValuesAgree, CellsAreHeld};
+ghost use Rattle.pk_iterate.specs.Settled.{WholeIsSettled};
 
 use crate::systems::System;
 
@@ -27,4 +28,9 @@ pub fn run_values_agree<Y: System>(system: &Y)
 /// Each cell, and whatever is read, is one that its element may hold.
 pub fn cells_are_held<Y: System>(system: &Y)
     ensures { CellsAreHeld (Y.meaning system.now) (Y.may_hold system.now) }
+{}
+
+/// When no run is left each element was run, and what stands ahead of it wasn't run since: each exit's last run found its component stable.
+pub fn whole_is_settled<Y: System>(system: &Y)
+    ensures { WholeIsSettled (Y.meaning system.now) }
 {}

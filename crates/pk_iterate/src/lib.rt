@@ -6,14 +6,12 @@ mod front;
 mod laws;
 mod outcome;
 mod systems;
-#[cfg(test)]
-mod tests;
 mod walk;
 
 pub use failure::Solve;
 pub use laws::{
     cells_are_held, counts_beyond_are_over, recursion_is_determined, run_values_agree,
-    within_is_whole,
+    whole_is_settled, within_is_whole,
 };
 pub use outcome::Cells;
 pub use systems::{Decision, System};

@@ -7,8 +7,6 @@ mod lexer;
 mod lines;
 mod numbers;
 mod tables;
-#[cfg(test)]
-mod tests;
 mod token;
 mod white;
 mod words;

@@ -67,7 +67,7 @@ pub(crate) fn number_count(text: &[u8]) -> usize
 }
 
 // What a suffix says.
-#[derive(Clone, Copy, Debug, PartialEq, Eq)]
+#[derive(Clone, Copy)]
 pub(crate) struct Suffix {
     pub(crate) unsigned: bool,
     pub(crate) longs: u8,
@@ -237,7 +237,7 @@ fn constant_type(is_decimal: bool, suffix: Suffix, value: u64) -> Option<IntType
 }
 
 // An integer constant.
-#[derive(Clone, Copy, Debug, PartialEq, Eq)]
+#[derive(Clone, Copy)]
 pub(crate) struct Constant {
     pub(crate) value: u64,
     pub(crate) ty: IntType,

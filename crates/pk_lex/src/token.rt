@@ -4,7 +4,7 @@ use pk_ctypes::{IntType, Pos};
 use std::fmt;
 
 /// A keyword (C99 6.4.1), or a word that GNU C reserves.
-#[derive(Clone, Copy, Debug, PartialEq, Eq)]
+#[derive(Clone, Copy, PartialEq, Eq)]
 pub enum Keyword {
     Auto,
     Break,
@@ -52,7 +52,7 @@ pub enum Keyword {
 }
 
 /// A punctuator (C99 6.4.6) without digraphs and the preprocessor's own.
-#[derive(Clone, Copy, Debug, PartialEq, Eq)]
+#[derive(Clone, Copy, PartialEq, Eq)]
 pub enum Punctuator {
     OpenParenthesis,
     CloseParenthesis,
@@ -103,7 +103,7 @@ pub enum Punctuator {
 }
 
 /// What a token is.
-#[derive(Clone, Copy, Debug, PartialEq, Eq)]
+#[derive(Clone, Copy, PartialEq, Eq)]
 pub enum Kind {
     Keyword(Keyword),
     Name,
@@ -120,7 +120,7 @@ pub enum Kind {
 }
 
 /// A token: its kind, the bytes of the text from `start` up to `end`, counted from 0, and the place of its first byte.
-#[derive(Clone, Copy, Debug, PartialEq, Eq)]
+#[derive(Clone, Copy, PartialEq, Eq)]
 pub struct Token {
     pub kind: Kind,
     pub start: usize,

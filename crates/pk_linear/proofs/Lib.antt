@@ -8,4 +8,3 @@ pub mod Determined
 mod TurnLemmas
 mod KnownLemmas
 mod TextLemmas
-mod WrittenLemmas

@@ -1,7 +1,7 @@
 -- How an item's constraints are read.
-use Rattle.std.proofs.Common.{◌≡◌, ◌≢◌, inl, inr, ◌<◌, ◌≤◌, ℕ, ◌+◌, Bool, List, length, get_or, set, arith, sym, ap, subst, ◌∙◌, Contains}
+use Rattle.std.proofs.Common.{◌≡◌, ◌≢◌, inl, inr, ◌<◌, ◌≤◌, ℕ, ◌+◌, Bool, List, [], ◌∷◌, ◌++◌, length, length-append, get_or, set, arith, sym, ap, subst, ◌∙◌, Contains}
 use Rattle.std.proofs.lemmas.Bool.{cases_lt, cases_eq}
-use Rattle.std.proofs.lemmas.List.{get_or_default, length-set, get_or-set_same, get_or-set_other}
+use Rattle.std.proofs.lemmas.List.{get_or_append_left, get_or_at, get_or_default, length-set, get_or-set_same, get_or-set_other}
 use Rattle.std.proofs.lemmas.List.Elements.{Contains-get_or}
 use Rattle.pk_plan.specs.Plans.{PlanView, Constrains, place_of, predecessors_of}
 use Rattle.pk_plan.specs.Axioms.{Axioms}
@@ -127,3 +127,17 @@ lasts_all p lasts count all are = record {
       subst (λ (x : Component). get_or lasts x.head 0 ≡ x.end) is (are.heads of.0 (omega (arith, of.1, all)));
   others = λ e within none. are.others e within (λ k less. none (nth p k) (nth_of p k (omega (arith, less, all))));
 }
+
+-- one element's place more
+pub lasts_push : (p : PlanView) (old new : List ℕ) (n last : ℕ) → (length old ≡ n) × ((k : ℕ) → k < n → get_or old k 0 ≡ place_of p k)
+    → new ≡ old ++ last ∷ [] → last ≡ place_of p n → (length new ≡ n + 1) × ((k : ℕ) → k < n + 1 → get_or new k 0 ≡ place_of p k)
+lasts_push p old new n last so_far is place =
+    let long : length old ≡ n = so_far.0 in (
+      ap {B = ℕ} (λ (xs : List ℕ). length xs) is ∙ length-append old (last ∷ []) ∙ ap (λ (m : ℕ). m + 1) long,
+      λ k less. ap (λ (xs : List ℕ). get_or xs k 0) is ∙ elim (cases_lt k n) [
+        | inl earlier ↦ get_or_append_left old (last ∷ []) 0 k (omega (arith, earlier, long)) ∙ so_far.1 k earlier
+        | inr later ↦
+            let same : n ≡ k = omega (arith, less, later) in
+            get_or_at old last [] 0 k (long ∙ same) ∙ place ∙ ap (place_of p) same
+      ],
+    )

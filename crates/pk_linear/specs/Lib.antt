@@ -3,4 +3,3 @@ pub mod Waits
 pub mod Steps
 pub mod Progress
 pub mod Texts
-pub mod Written

@@ -4,8 +4,6 @@
 mod laws;
 mod orders;
 mod progress;
-#[cfg(test)]
-mod tests;
 mod texts;
 mod waits;
 

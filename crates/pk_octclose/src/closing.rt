@@ -1,6 +1,6 @@
 // Closing.
 
-ghost use Rattle.std.specs.Prelude.{◌≡◌, ◌↔◌, ℕ, ℤ, ◌*◌, ◌<◌, ◌^◌};
+ghost use Rattle.std.specs.Prelude.{◌≡◌, ◌%◌, ◌↔◌, ℕ, ℤ, ◌*◌, ◌<◌, ◌^◌};
 ghost use Rattle.pk_octmat.specs.Octagon.{entry, cell_at, top_bound, Meets, IsMatrix};
 ghost use Rattle.pk_octclose.specs.Closing.{IsClosing, IsEmpty, IsClosed, KeepsPoints};
 ghost use Rattle.pk_octclose.specs.declared.closing.Shape.TheVariants.{Kept, Empty};
@@ -10,7 +10,7 @@ use crate::tight::tighten;
 use pk_octmat::{Bound, Matrix, blank};
 
 /// What is left of a matrix.
-#[derive(Clone, Copy, PartialEq, Eq, Debug)]
+#[derive(Clone, Copy)]
 pub enum Shape {
     /// Its bounds.
     Kept,
@@ -19,9 +19,9 @@ pub enum Shape {
 }
 
 /// Closes the cells of a matrix in place, or finds that no integers meet them.
-fn close_cells(cells: &mut [Bound], d: usize, n: usize) -> Shape
+fn close_cells(cells: &mut [Bound], d: usize) -> Shape
     requires whole { IsMatrix d cells.old }
-    requires pairs { d ≡ 2 * n }
+    requires pairs { d % 2 ≡ 0 }
     requires room { d < 2 ^ 33 }
     ensures whole { IsMatrix d cells.new }
     ensures kept { result ≡ Kept → IsClosing d (cell_at d cells.old) (cell_at d cells.new) }
@@ -31,10 +31,10 @@ fn close_cells(cells: &mut [Bound], d: usize, n: usize) -> Shape
     ensures none { result ≡ Empty → (x : ℕ → ℤ) → Meets (cell_at d cells.old) x → ⊥ }
     ensures again { IsClosed d (cell_at d cells.old) → (result ≡ Kept) × ((i j : ℕ) → cell_at d cells.new i j ≡ cell_at d cells.old i j) }
 {
-    if paths(cells, d) && tighten(cells, d, n) {
+    if paths(cells, d) && tighten(cells, d) {
         return Shape::Kept;
     }
-    blank(cells, d, n);
+    blank(cells, d);
     Shape::Empty
 }
 
@@ -50,6 +50,5 @@ pub fn close(m: &mut Matrix) -> Shape
     ensures none { result ≡ Empty → (x : ℕ → ℤ) → Meets (entry m.old) x → ⊥ }
     ensures again { IsClosed (2 * m.old.vars) (entry m.old) → (result ≡ Kept) × ((i j : ℕ) → entry m.new i j ≡ entry m.old i j) }
 {
-    let n = m.vars as usize;
-    close_cells(&mut m.cells, 2 * n, n)
+    close_cells(&mut m.cells, 2 * m.vars as usize)
 }

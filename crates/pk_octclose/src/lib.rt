@@ -4,8 +4,6 @@
 mod closing;
 mod laws;
 mod paths;
-#[cfg(test)]
-mod tests;
 mod tight;
 
 pub use closing::{Shape, close};

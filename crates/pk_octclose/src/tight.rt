@@ -1,6 +1,6 @@
 // What integers allow beyond least sums: even bounds on one variable, and a last tightening.
 
-ghost use Rattle.std.specs.Prelude.{◌≡◌, ◌≢◌, ℕ, ℤ, ◌<◌, ◌≤◌, ◌*◌, ◌+◌, ◌^◌, length, pos, Option, Some, None, Bool, true, false};
+ghost use Rattle.std.specs.Prelude.{◌≡◌, ◌%◌, ◌≢◌, ℕ, ℤ, ◌<◌, ◌≤◌, ◌*◌, ◌+◌, ◌^◌, length, pos, Option, Some, None, Bool, true, false};
 ghost use Rattle.pk_octmat.specs.Bounds.{capped, IsNear, AtMost, is_negative as negative};
 ghost use Rattle.pk_octmat.specs.Octagon.{cell_at};
 ghost use Rattle.pk_octclose.specs.Closing.{evened, there_and_back, tight};
@@ -8,29 +8,27 @@ ghost use Rattle.pk_octclose.specs.Closing.{evened, there_and_back, tight};
 use pk_octmat::{Bound, bar};
 
 /// Rounds the bounds from each place to its negative down to even.
-fn even_all(cells: &mut [Bound], d: usize, n: usize)
+fn even_all(cells: &mut [Bound], d: usize)
     requires size { length cells.old ≡ d * d }
-    requires pairs { d ≡ 2 * n }
+    requires pairs { d % 2 ≡ 0 }
     requires room { d < 2 ^ 33 }
     ensures kept { length cells.new ≡ d * d }
     ensures value { (a b : ℕ) → a < d → b < d → cell_at d cells.new a b ≡ evened (cell_at d cells.old) a b }
 {
-    let _ = n;
     for i in 0..d {
         cells[i * d + bar(i)] = cells[i * d + bar(i)].even_down();
     }
 }
 
 /// Whether no place's bounds to its negative and back are negative together.
-fn have_halves(cells: &[Bound], d: usize, n: usize) -> bool
+fn have_halves(cells: &[Bound], d: usize) -> bool
     requires size { length cells.now ≡ d * d }
-    requires pairs { d ≡ 2 * n }
+    requires pairs { d % 2 ≡ 0 }
     requires room { d < 2 ^ 33 }
     requires near { (i j : ℕ) → i < d → j < d → IsNear (2 ^ 100) (cell_at d cells.now i j) }
     ensures yes { result ≡ true → (i : ℕ) → i < d → AtMost (Some (pos 0)) (there_and_back (cell_at d cells.now) i) }
     ensures no { result ≡ false → (i : ℕ) × (i < d) × (negative (there_and_back (cell_at d cells.now) i) ≡ true) }
 {
-    let _ = n;
     for i in 0..d {
         let both = cells[i * d + bar(i)].plus(cells[bar(i) * d + i]);
         if both.is_negative() {
@@ -41,19 +39,19 @@ fn have_halves(cells: &[Bound], d: usize, n: usize) -> bool
 }
 
 /// Lowers each bound to what the bounds on its two numbers give.
-fn tighten_all(cells: &mut [Bound], d: usize, n: usize)
+fn tighten_all(cells: &mut [Bound], d: usize)
     requires size { length cells.old ≡ d * d }
-    requires pairs { d ≡ 2 * n }
+    requires pairs { d % 2 ≡ 0 }
     requires room { d < 2 ^ 33 }
     requires near { (i j : ℕ) → i < d → j < d → IsNear (2 ^ 100) (cell_at d cells.old i j) }
     ensures kept { length cells.new ≡ d * d }
     ensures value { (a b : ℕ) → a < d → b < d → cell_at d cells.new a b ≡ tight (cell_at d cells.old) a b }
 {
-    let _ = n;
     for i in 0..d {
         for j in 0..d {
             let both = cells[i * d + bar(i)].plus(cells[bar(j) * d + j]);
-            cells[i * d + j] = cells[i * d + j].lesser(both.halved());
+            let at = i * d + j;
+            cells[at] = cells[at].lesser(both.halved());
         }
     }
 }
@@ -71,9 +69,9 @@ fn cap_all(cells: &mut [Bound], d: usize)
 }
 
 /// Closes a matrix of least sums. False where no integers meet it.
-pub fn tighten(cells: &mut [Bound], d: usize, n: usize) -> bool
+pub fn tighten(cells: &mut [Bound], d: usize) -> bool
     requires size { length cells.old ≡ d * d }
-    requires pairs { d ≡ 2 * n }
+    requires pairs { d % 2 ≡ 0 }
     requires room { d < 2 ^ 33 }
     requires near { (i j : ℕ) → i < d → j < d → IsNear (2 ^ 100) (cell_at d cells.old i j) }
     ensures kept { length cells.new ≡ d * d }
@@ -81,11 +79,11 @@ pub fn tighten(cells: &mut [Bound], d: usize, n: usize) -> bool
     ensures value { result ≡ true → (i j : ℕ) → i < d → j < d → cell_at d cells.new i j ≡ capped (tight (evened (cell_at d cells.old)) i j) }
     ensures no { result ≡ false → (i : ℕ) × (i < d) × (negative (there_and_back (evened (cell_at d cells.old)) i) ≡ true) }
 {
-    even_all(cells, d, n);
-    if !have_halves(cells, d, n) {
+    even_all(cells, d);
+    if !have_halves(cells, d) {
         return false;
     }
-    tighten_all(cells, d, n);
+    tighten_all(cells, d);
     cap_all(cells, d);
     true
 }

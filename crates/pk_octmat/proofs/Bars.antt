@@ -5,6 +5,13 @@ use Rattle.std.proofs.lemmas.Bool.Decides.{nat_tests}
 use Rattle.std.proofs.lemmas.Int.{ints}
 use Rattle.pk_octmat.specs.Octagon.{bar, side}
 
+-- places come in pairs
+pub pairs_of : (d : ℕ) → d % 2 ≡ 0 → d ≡ 2 * (d / 2)
+pairs_of d h = omega arith
+
+pub half_below : (d k : ℕ) → d % 2 ≡ 0 → 2 * k < d → k < d / 2
+half_below d k h l = omega arith
+
 pub bar_bar : (i : ℕ) → bar (bar i) ≡ i
 bar_bar i = omega arith
 

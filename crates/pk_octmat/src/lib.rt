@@ -3,8 +3,6 @@
 
 mod bound;
 mod matrix;
-#[cfg(test)]
-mod tests;
 
 pub use bound::Bound;
 pub use matrix::{Matrix, bar, blank};

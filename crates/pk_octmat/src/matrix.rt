@@ -1,6 +1,6 @@
 // Matrices of bounds.
 
-ghost use Rattle.std.specs.Prelude.{◌≡◌, ◌≢◌, ℕ, ℤ, ◌<◌, ◌*◌, ◌/◌, ◌^◌, ◌==◌, ◌||◌, if◌then◌else◌, length, IfOk};
+ghost use Rattle.std.specs.Prelude.{◌≡◌, ◌%◌, ◌≢◌, ℕ, ℤ, ◌<◌, ◌*◌, ◌/◌, ◌^◌, ◌==◌, ◌||◌, if◌then◌else◌, length, IfOk};
 ghost use Rattle.pk_octmat.specs.Bounds.{capped, IsNear};
 ghost use Rattle.pk_octmat.specs.Octagon.{entry, cell_at, bar as other, written, top_bound, forgotten, HasEntries, IsMatrix, IsOctagon, Meets, with_number};
 
@@ -48,13 +48,12 @@ fn unbounded(i: usize, j: usize) -> Bound
 }
 
 /// Takes away all bounds.
-pub fn blank(cells: &mut [Bound], d: usize, n: usize)
+pub fn blank(cells: &mut [Bound], d: usize)
     requires size { length cells.old ≡ d * d }
-    requires pairs { d ≡ 2 * n }
+    requires pairs { d % 2 ≡ 0 }
     ensures value { (a b : ℕ) → a < d → b < d → cell_at d cells.new a b ≡ top_bound a b }
     ensures whole { IsMatrix d cells.new }
 {
-    let _ = n;
     for i in 0..d {
         for j in 0..d {
             cells[i * d + j] = unbounded(i, j);
@@ -63,9 +62,9 @@ pub fn blank(cells: &mut [Bound], d: usize, n: usize)
 }
 
 /// Writes a bound and its coherent one.
-fn write(cells: &mut [Bound], d: usize, n: usize, i: usize, j: usize, bound: Bound)
+fn write(cells: &mut [Bound], d: usize, i: usize, j: usize, bound: Bound)
     requires whole { IsMatrix d cells.old }
-    requires pairs { d ≡ 2 * n }
+    requires pairs { d % 2 ≡ 0 }
     requires room { d < 2 ^ 33 }
     requires row { i < d }
     requires column { j < d }
@@ -74,7 +73,6 @@ fn write(cells: &mut [Bound], d: usize, n: usize, i: usize, j: usize, bound: Bou
     ensures value { (a b : ℕ) → cell_at d cells.new a b ≡ written (cell_at d cells.old) i j bound a b }
     ensures whole { IsMatrix d cells.new }
 {
-    let _ = n;
     cells[i * d + j] = bound;
     cells[bar(j) * d + bar(i)] = bound;
 }
@@ -93,16 +91,15 @@ fn clear(cells: &mut [Bound], d: usize, p: usize)
 }
 
 /// Takes away the bounds of one variable.
-fn forget_cells(cells: &mut [Bound], d: usize, n: usize, k: usize)
+fn forget_cells(cells: &mut [Bound], d: usize, k: usize)
     requires whole { IsMatrix d cells.old }
-    requires pairs { d ≡ 2 * n }
+    requires pairs { d % 2 ≡ 0 }
     requires room { d < 2 ^ 33 }
-    requires variable { k < n }
+    requires variable { 2 * k < d }
     ensures value { (a b : ℕ) → cell_at d cells.new a b ≡ forgotten (cell_at d cells.old) k a b }
     ensures sound { (x : ℕ → ℤ) (v : ℤ) → Meets (cell_at d cells.old) x → Meets (cell_at d cells.new) (with_number x k v) }
     ensures whole { IsMatrix d cells.new }
 {
-    let _ = n;
     clear(cells, d, 2 * k);
     clear(cells, d, 2 * k + 1);
 }
@@ -117,7 +114,7 @@ impl Matrix {
             Some(size) => {
                 if n < 1 << 31 {
                     let mut cells = vec![in alloc; Bound::none(); size]?;
-                    blank(&mut cells, d, n as usize);
+                    blank(&mut cells, d);
                     Ok(Matrix { vars: n, cells })
                 } else {
                     Err(AllocError)
@@ -146,7 +143,7 @@ impl Matrix {
     }
 
     /// The bound on V(j) - V(i).
-    pub fn get(&self, i: u32, j: u32) -> Option<i128>
+    pub fn bound(&self, i: u32, j: u32) -> Bound
         requires row { i < 2 * self.now.vars }
         requires column { j < 2 * self.now.vars }
         ensures value { result ≡ entry self.now i j }
@@ -154,7 +151,17 @@ impl Matrix {
     {
         let d = 2 * self.vars as usize;
         let bound = self.cells[i as usize * d + j as usize];
-        bound.number()
+        bound
+    }
+
+    /// The bound on V(j) - V(i) as a number, if there is one.
+    pub fn get(&self, i: u32, j: u32) -> Option<i128>
+        requires row { i < 2 * self.now.vars }
+        requires column { j < 2 * self.now.vars }
+        ensures value { result ≡ entry self.now i j }
+        ensures near { IsNear (2 ^ 66) result }
+    {
+        self.bound(i, j).number()
     }
 
     /// Writes the bound on V(j) - V(i), and its coherent one: above 2^66 none, below -2^66 that number.
@@ -165,11 +172,9 @@ impl Matrix {
         ensures vars { self.new.vars ≡ self.old.vars }
         ensures value { (a b : ℕ) → entry self.new a b ≡ written (entry self.old) i j (capped bound) a b }
     {
-        let n = self.vars as usize;
         write(
             &mut self.cells,
-            2 * n,
-            n,
+            2 * self.vars as usize,
             i as usize,
             j as usize,
             Bound::of(bound),
@@ -183,7 +188,6 @@ impl Matrix {
         ensures value { (a b : ℕ) → entry self.new a b ≡ forgotten (entry self.old) k a b }
         ensures sound { (x : ℕ → ℤ) (v : ℤ) → Meets (entry self.old) x → Meets (entry self.new) (with_number x k v) }
     {
-        let n = self.vars as usize;
-        forget_cells(&mut self.cells, 2 * n, n, k as usize);
+        forget_cells(&mut self.cells, 2 * self.vars as usize, k as usize);
     }
 }

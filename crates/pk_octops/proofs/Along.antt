@@ -314,8 +314,8 @@ two_terms x a b k c e h =
     let same : (side x a -ℤ side x k) ≡ (side x a +ℤ side x b) = ap (λ q. side x a -ℤ side x q) e ∙ ap (λ z. side x a -ℤ z) (side_bar x b) ∙ sum_is (side x a) (side x b) in
     at_most_trans (Some (side x a -ℤ side x k)) (Some c) (capped (Some c)) (subst (λ z. z ≤ℤ c) (sym same) h) (at_most_capped (Some c))
 
-pub lowered_is : (e : ℕ → ℕ → Option ℤ) (i j : ℕ) (c : ℤ) (held number : Option ℤ) → held ≡ e i j → IsNear (2 ^ 66) held → number ≡ Some c → capped (lesser held number) ≡ lesser (e i j) (capped (Some c))
-lowered_is e i j c held number h n s = capped_lesser held number n ∙ ap (λ b. lesser b (capped number)) h ∙ ap (λ b. lesser (e i j) (capped b)) s
+pub lowered_is : (e : ℕ → ℕ → Option ℤ) (i j : ℕ) (c : ℤ) (held number : Option ℤ) → held ≡ e i j → IsNear (2 ^ 66) held → number ≡ capped (Some c) → IsNear (2 ^ 66) number → capped (lesser held number) ≡ lesser (e i j) (capped (Some c))
+lowered_is e i j c held number h n s near = capped_lesser held number n ∙ ap (λ b. lesser b (capped number)) h ∙ ap (λ b. lesser (e i j) b) (capped_same number near ∙ s)
 
 pub lowered_holds : (e : ℕ → ℕ → Option ℤ) (i j : ℕ) (c : ℤ) (x : ℕ → ℤ) → Meets e x → AtMost (Some (side x j -ℤ side x i)) (capped (Some c)) → (a b : ℕ) → AtMost (Some (side x b -ℤ side x a)) (lowered e i j c a b)
 lowered_holds e i j c x m h a b = written_holds e i j (lesser (e i j) (capped (Some c))) x m (lesser_above (e i j) (capped (Some c)) (Some (side x j -ℤ side x i)) (m.each i j) h) a b

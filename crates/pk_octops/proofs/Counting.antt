@@ -6,7 +6,7 @@ use Rattle.pk_octmat.specs.Bounds.{AtMost, is_at_most}
 use Rattle.pk_octmat.specs.Octagon.{Octagon, entry}
 use Rattle.pk_octmat.proofs.Cells.{cell_column_out, cell_row_out}
 use Rattle.pk_octops.specs.Tables.{IsBelow, widened}
-use Rattle.pk_octops.specs.Chains.{IsChain, IsStep, LosesNumber}
+use Rattle.pk_octops.specs.Chains.{IsChain, IsStep, IsWidening, LosesNumber, sum_below, one, numbers, numbers_of, NumbersAreRanks}
 use Rattle.pk_octops.proofs.Pointwise.{at_most_from}
 
 -- ---- a bound that isn't at most another is found
@@ -69,10 +69,6 @@ step_loses h w s = by (find_all (2 * h.vars) (entry s.by) (entry h) (2 * h.vars)
         record { from = f.0; to = f.1; number = z.0; old = z.1; new = s.is.each f.0 f.1 f.2 f.3 ∙ rw f.4 refl }
 
 -- ---- sums of small numbers
-abbrev pub sum_below : ℕ → (ℕ → ℕ) → ℕ
-sum_below zero f = 0
-sum_below (suc k) f = f k + sum_below k f
-
 sum_le : (k : ℕ) (f g : ℕ → ℕ) → ((i : ℕ) → i < k → f i ≤ g i) → sum_below k f ≤ sum_below k g
 sum_le zero f g h = omega arith
 sum_le (suc k) f g h = omega (arith, h k (omega arith), sum_le k f g (λ i l. h i (omega arith)))
@@ -90,13 +86,6 @@ sum_most zero m f h = omega arith
 sum_most (suc k) m f h = let more : suc k * m ≡ m + k * m = omega arith in omega (arith, more, h k (omega arith), sum_most k m f (λ i l. h i (omega arith)))
 
 -- ---- the numbers of a matrix
-abbrev one : Option ℤ → ℕ
-one None = 0
-one (Some z) = 1
-
-abbrev numbers : ℕ → (ℕ → ℕ → Option ℤ) → ℕ
-numbers d e = sum_below d (λ i. sum_below d (λ j. one (e i j)))
-
 one_most : (b : Option ℤ) → one b ≤ 1
 one_most None = omega arith
 one_most (Some z) = omega arith
@@ -127,6 +116,12 @@ inside m i j z e = by (cases_lt i (2 * m.vars)) (cases_lt j (2 * m.vars))
     by (inl l) (inr g) = let no : None ≡ Some z = sym (entry_outside m m.vars i j refl (inr g)) ∙ e in absurd (cc)
     by (inr g) r = let no : None ≡ Some z = sym (entry_outside m m.vars i j refl (inl g)) ∙ e in absurd (cc)
 
+numbers_stay : (h n w : Octagon) → IsWidening h n w → numbers_of w ≤ numbers_of h
+numbers_stay h n w is =
+    subst (λ k. numbers (2 * k) (entry w) ≤ numbers (2 * h.vars) (entry h)) (sym is.vars)
+    (sum_le (2 * h.vars) (λ i. sum_below (2 * h.vars) (λ j. one (entry w i j))) (λ i. sum_below (2 * h.vars) (λ j. one (entry h i j)))
+    (λ i id. sum_le (2 * h.vars) (λ j. one (entry w i j)) (λ j. one (entry h i j)) (λ j jd. rw (is.each i j id jd) (one_widened (entry h i j) (entry n i j)))))
+
 step_falls : (h w : Octagon) → IsStep h w → numbers (2 * w.vars) (entry w) < numbers (2 * h.vars) (entry h)
 step_falls h w s =
     let l = step_loses h w s in
@@ -141,3 +136,10 @@ chain_numbers h (w ∷ ws) c = omega (arith, step_falls h w c.0, chain_numbers w
 
 pub chain_ends : (h : Octagon) (ws : List Octagon) → IsChain h ws → length ws ≤ 2 * h.vars * (2 * h.vars)
 chain_ends h ws c = omega (arith, chain_numbers h ws c, numbers_most (2 * h.vars) (entry h))
+
+pub numbers_are_ranks : NumbersAreRanks
+numbers_are_ranks = record {
+  few = λ h. numbers_most (2 * h.vars) (entry h);
+  stays = numbers_stay;
+  falls = λ h n w vars above is. step_falls h w (record { by = n; vars = vars; above = above; is = is });
+}

@@ -73,16 +73,15 @@ fn gained(bound: Bound, k: usize, c: i128, i: usize, j: usize) -> Bound
 }
 
 /// Writes the bounds of a matrix with c added along, after an exchange where t is the negative of x_k.
-fn move_cells(cells: &mut [Bound], old: &[Bound], d: usize, n: usize, k: usize, t: usize, c: i128)
+fn move_cells(cells: &mut [Bound], old: &[Bound], d: usize, k: usize, t: usize, c: i128)
     requires size { length cells.old ≡ d * d }
     requires old { IsMatrix d old.now }
-    requires pairs { d ≡ 2 * n }
+    requires pairs { d % 2 ≡ 0 }
     requires room { d < 2 ^ 33 }
-    requires variable { k < n }
+    requires variable { 2 * k < d }
     ensures value { (i j : ℕ) → i < d → j < d → cell_at d cells.new i j ≡ moved (cell_at d old.now) k t c i j }
     ensures whole { IsMatrix d cells.new }
 {
-    let _ = n;
     for i in 0..d {
         for j in 0..d {
             let bound = old[source(k, t, i) * d + source(k, t, j)];
@@ -97,8 +96,8 @@ fn move_along(m: &Matrix, k: u32, t: u32, c: i128) -> Result<Matrix, AllocError>
     ensures value { IfOk result (HasEntries m.now.vars (moved (entry m.now) k t c)) }
 {
     let mut r = m.copy()?;
-    let n = m.vars as usize;
-    move_cells(&mut r.cells, &m.cells, 2 * n, n, k as usize, t as usize, c);
+    let d = 2 * m.vars as usize;
+    move_cells(&mut r.cells, &m.cells, d, k as usize, t as usize, c);
     Ok(r)
 }
 

@@ -1,36 +1,19 @@
 // Guards on one or two places.
 
 ghost use Rattle.std.specs.Prelude.{◌≡◌, ◌≢◌, ◌↔◌, ℕ, ℤ, pos, ◌≤ℤ◌, ◌<ℤ◌, ◌+ℤ◌, ◌-ℤ◌, ◌<◌, ◌*◌, ◌^◌, Option, Some, None};
-ghost use Rattle.pk_octmat.specs.Bounds.{AtMost, IsNear, capped, lesser as lesser_of};
+ghost use Rattle.pk_octmat.specs.Bounds.{AtMost, capped};
 ghost use Rattle.pk_octmat.specs.Octagon.{entry, written, side, bar as other, Meets};
 ghost use Rattle.pk_octops.specs.Guards.{IsGuard, Obeys, guarded, lowered};
 ghost use Rattle.pk_octclose.specs.declared.closing.Shape.TheVariants.{Kept, Empty};
 
 use pk_octclose::Shape;
-use pk_octmat::Matrix;
-
-/// The lesser of a bound, if there is one, and a number.
-fn least(held: Option<i128>, number: Option<i128>) -> Option<i128>
-    ensures { result ≡ lesser_of held number }
-{
-    match (held, number) {
-        (None, number) => number,
-        (Some(held), None) => Some(held),
-        (Some(held), Some(number)) => {
-            if number < held {
-                Some(number)
-            } else {
-                Some(held)
-            }
-        }
-    }
-}
+use pk_octmat::{Bound, Matrix, bar};
 
 /// The place of the negative.
 fn opposite(i: u32) -> u32
     ensures { result ≡ other i }
 {
-    if i % 2 == 0 { i + 1 } else { i - 1 }
+    bar(i as usize) as u32
 }
 
 /// Twice a number, or one past the cap on its side.
@@ -49,8 +32,8 @@ fn lower(m: &mut Matrix, i: u32, j: u32, c: i128)
     ensures value { (a b : ℕ) → entry m.new a b ≡ lowered (entry m.old) i j c a b }
     ensures sound { (x : ℕ → ℤ) → Meets (entry m.old) x → AtMost (Some (side x j -ℤ side x i)) (capped (Some c)) → Meets (entry m.new) x }
 {
-    let held = m.get(i, j);
-    m.set(i, j, least(held, Some(c)));
+    let least = m.bound(i, j).lesser(Bound::of(Some(c)));
+    m.set(i, j, least.number());
 }
 
 /// Keeps the integers with V(a) + V(b) <= c, where terms that are none are left out. Empty where no term is left and c is negative.

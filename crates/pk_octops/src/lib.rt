@@ -5,12 +5,10 @@ mod assigns;
 mod chains;
 mod guards;
 mod tables;
-#[cfg(test)]
-mod tests;
 mod values;
 
 pub use assigns::assign;
-pub use chains::{widening_chains_end, widening_loses_numbers};
+pub use chains::{numbers_are_ranks, widening_chains_end, widening_loses_numbers};
 pub use guards::guard;
 pub use pk_octclose::{Shape, close};
 pub use tables::{join, leq, narrow, widen};

@@ -1,6 +1,6 @@
 // Order, join, widening and narrowing.
 
-ghost use Rattle.std.specs.Prelude.{◌≡◌, ℕ, ℤ, ◌<◌, ◌*◌, ◌^◌, ◌⊎◌, ◌↔◌, IfOk, length, Bool, true, false};
+ghost use Rattle.std.specs.Prelude.{◌≡◌, ◌%◌, ℕ, ℤ, ◌<◌, ◌*◌, ◌^◌, ◌⊎◌, ◌↔◌, IfOk, length, Bool, true, false};
 ghost use Rattle.pk_octmat.specs.Bounds.{AtMost, greater as greater_of};
 ghost use Rattle.pk_octmat.specs.Octagon.{entry, cell_at, HasEntries, IsMatrix, Meets};
 ghost use Rattle.pk_octops.specs.Tables.{IsBelow, widened as widened_of, narrowed as narrowed_of};
@@ -34,49 +34,49 @@ fn narrowed(h: Bound, n: Bound) -> Bound
 }
 
 /// Raises each bound to that of another matrix, if it is less.
-fn join_cells(cells: &mut [Bound], other: &[Bound], d: usize, n: usize)
+fn join_cells(cells: &mut [Bound], other: &[Bound], d: usize)
     requires whole { IsMatrix d cells.old }
     requires other { IsMatrix d other.now }
-    requires pairs { d ≡ 2 * n }
+    requires pairs { d % 2 ≡ 0 }
     ensures value { (i j : ℕ) → i < d → j < d → cell_at d cells.new i j ≡ greater_of (cell_at d cells.old i j) (cell_at d other.now i j) }
     ensures whole { IsMatrix d cells.new }
 {
-    let _ = n;
     for i in 0..d {
         for j in 0..d {
-            cells[i * d + j] = greater(cells[i * d + j], other[i * d + j]);
+            let at = i * d + j;
+            cells[at] = greater(cells[at], other[at]);
         }
     }
 }
 
 /// Makes each bound none that another matrix exceeds.
-fn widen_cells(cells: &mut [Bound], other: &[Bound], d: usize, n: usize)
+fn widen_cells(cells: &mut [Bound], other: &[Bound], d: usize)
     requires whole { IsMatrix d cells.old }
     requires other { IsMatrix d other.now }
-    requires pairs { d ≡ 2 * n }
+    requires pairs { d % 2 ≡ 0 }
     ensures value { (i j : ℕ) → i < d → j < d → cell_at d cells.new i j ≡ widened_of (cell_at d cells.old i j) (cell_at d other.now i j) }
     ensures whole { IsMatrix d cells.new }
 {
-    let _ = n;
     for i in 0..d {
         for j in 0..d {
-            cells[i * d + j] = widened(cells[i * d + j], other[i * d + j]);
+            let at = i * d + j;
+            cells[at] = widened(cells[at], other[at]);
         }
     }
 }
 
 /// Takes the bounds of another matrix where there are none.
-fn narrow_cells(cells: &mut [Bound], other: &[Bound], d: usize, n: usize)
+fn narrow_cells(cells: &mut [Bound], other: &[Bound], d: usize)
     requires whole { IsMatrix d cells.old }
     requires other { IsMatrix d other.now }
-    requires pairs { d ≡ 2 * n }
+    requires pairs { d % 2 ≡ 0 }
     ensures value { (i j : ℕ) → i < d → j < d → cell_at d cells.new i j ≡ narrowed_of (cell_at d cells.old i j) (cell_at d other.now i j) }
     ensures whole { IsMatrix d cells.new }
 {
-    let _ = n;
     for i in 0..d {
         for j in 0..d {
-            cells[i * d + j] = narrowed(cells[i * d + j], other[i * d + j]);
+            let at = i * d + j;
+            cells[at] = narrowed(cells[at], other[at]);
         }
     }
 }
@@ -86,8 +86,7 @@ fn joined(a: &Matrix, b: &Matrix) -> Result<Matrix, AllocError>
     ensures { IfOk result (HasEntries a.now.vars (λ i j. greater_of (entry a.now i j) (entry b.now i j))) }
 {
     let mut m = a.copy()?;
-    let n = b.vars as usize;
-    join_cells(&mut m.cells, &b.cells, 2 * n, n);
+    join_cells(&mut m.cells, &b.cells, 2 * b.vars as usize);
     Ok(m)
 }
 
@@ -96,8 +95,7 @@ fn loosened(h: &Matrix, n: &Matrix) -> Result<Matrix, AllocError>
     ensures { IfOk result (HasEntries h.now.vars (λ i j. widened_of (entry h.now i j) (entry n.now i j))) }
 {
     let mut m = h.copy()?;
-    let vars = n.vars as usize;
-    widen_cells(&mut m.cells, &n.cells, 2 * vars, vars);
+    widen_cells(&mut m.cells, &n.cells, 2 * n.vars as usize);
     Ok(m)
 }
 
@@ -106,8 +104,7 @@ fn filled(h: &Matrix, n: &Matrix) -> Result<Matrix, AllocError>
     ensures { IfOk result (HasEntries h.now.vars (λ i j. narrowed_of (entry h.now i j) (entry n.now i j))) }
 {
     let mut m = h.copy()?;
-    let vars = n.vars as usize;
-    narrow_cells(&mut m.cells, &n.cells, 2 * vars, vars);
+    narrow_cells(&mut m.cells, &n.cells, 2 * n.vars as usize);
     Ok(m)
 }
 

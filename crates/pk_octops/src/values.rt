@@ -7,16 +7,6 @@ ghost use Rattle.pk_octops.specs.Values.{least_of, IsFrom};
 
 use pk_octmat::Matrix;
 
-/// Half of a bound, rounded down.
-fn half(bound: Option<i128>) -> Option<i128>
-    ensures { result ≡ halved bound }
-{
-    match bound {
-        None => None,
-        Some(z) => Some(z.div_euclid(2)),
-    }
-}
-
 /// The least number, from a bound on twice its negative.
 fn least(bound: Option<i128>) -> Option<i128>
     ensures { result ≡ least_of bound }
@@ -37,6 +27,6 @@ pub fn bounds(m: &Matrix, k: u32) -> (Option<i128>, Option<i128>)
     m.is_octagon();
     (
         least(m.get(2 * k, 2 * k + 1)),
-        half(m.get(2 * k + 1, 2 * k)),
+        m.bound(2 * k + 1, 2 * k).halved().number(),
     )
 }

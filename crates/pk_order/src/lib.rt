@@ -2,8 +2,6 @@
 #![tactic(auto)]
 
 mod orders;
-#[cfg(test)]
-mod tests;
 
 pub use orders::{order_is_determined, ordered};
 pub use pk_linear::line;

@@ -1,5 +1,5 @@
 -- Of the answers to a text there is one.
-use Rattle.std.proofs.Common.{◌≡◌, ◌<◌, ◌≤◌, inl, inr, List, [], ◌∷◌, ◌++◌, refl, sym, ap, subst, ◌∙◌, append_assoc, arith}
+use Rattle.std.proofs.Common.{◌≡◌, ◌<◌, ◌≤◌, inl, inr, List, [], ◌∷◌, ◌++◌, refl, sym, ap, subst, ◌∙◌, append_assoc, arith, append-nil}
 use Rattle.pk_ctypes.specs.declared.places.Pos.{Pos}
 use Rattle.pk_lex.specs.declared.token.Token.{Token}
 use Rattle.pk_ast.specs.Trees.{ExternalTree}
@@ -43,12 +43,8 @@ last_is_flat u front last h = end_of_cut (front ++ last ∷ []) front last h.fro
 nested_there : (u v : List ExternalTree) (front : List Marked) (found : Marked) (more marked : List Marked) (rest : List Token) → nesting_limit < found.nesting →
     text u 0 ((front ++ found ∷ []) ++ more) → text v 0 marked → unmarked marked ≡ unmarked front ++ found.token ∷ rest → (k : List Marked) × (marked ≡ (front ++ found ∷ []) ++ k)
 nested_there u v front found [] marked rest deep h g e =
-    let flat : found.nesting ≡ 0 = last_is_flat u front found (subst (λ q. text u 0 q) (append_nil (front ++ found ∷ [])) h) in
+    let flat : found.nesting ≡ 0 = last_is_flat u front found (subst (λ q. text u 0 q) (append-nil (front ++ found ∷ [])) h) in
     absurd (omega arith)
-  where
-    append_nil : (xs : List Marked) → xs ++ [] ≡ xs
-    append_nil [] = refl
-    append_nil (x ∷ xs) = ap (λ q. x ∷ q) (append_nil xs)
 nested_there u v front found (next ∷ more) marked rest deep h g e =
     let r = nested_alike u v (front ++ found ∷ []) next more marked rest h g
     (e ∙ sym (append_assoc (unmarked front) (found.token ∷ []) rest) ∙ ap (λ q. q ++ rest) (sym (unmarked_append front (found ∷ [])))) in
@@ -95,16 +91,12 @@ one_nesting tokens at there f g = elim (two_cuts (unmarked f.front) (unmarked g.
 not_both : (tokens : List Token) (at there : Pos) → FailsSyntax tokens at → FailsNesting tokens there → ⊥
 not_both tokens at there f g = elim (two_cuts (unmarked f.front) (unmarked g.front) f.found g.found.token f.rest g.rest (sym f.tokens_are ∙ g.tokens_are)) [
   | inl h ↦ begins_not _ (g.front ++ g.found ∷ []) [] f.none_begins g.begins
-      (unmarked_append g.front (g.found ∷ []) ∙ ap (λ q. q ++ g.found.token ∷ []) (sym h.0) ∙ ap (λ q. unmarked f.front ++ q ∷ []) (sym h.1) ∙ sym (append_nil (unmarked f.front ++ f.found ∷ [])))
+      (unmarked_append g.front (g.found ∷ []) ∙ ap (λ q. q ++ g.found.token ∷ []) (sym h.0) ∙ ap (λ q. unmarked f.front ++ q ∷ []) (sym h.1) ∙ sym (append-nil (unmarked f.front ++ f.found ∷ [])))
   | inr k ↦ elim k [
     | inl h ↦ begins_not _ g.front h.more f.none_begins (less g.front g.found g.begins) (h.is ∙ sym (append_assoc (unmarked f.front) (f.found ∷ []) h.more))
     | inr h ↦ deep_before g.front g.found f.front h.more g.deeper g.begins f.begins f.within h.is
   ]
 ]
-  where
-    append_nil : (xs : List Token) → xs ++ [] ≡ xs
-    append_nil [] = refl
-    append_nil (x ∷ xs) = ap (λ q. x ∷ q) (append_nil xs)
 
 parsed_no_syntax : (tokens : List Token) (u : List ExternalTree) (at : Pos) → IsParsed tokens u → FailsSyntax tokens at → ⊥
 parsed_no_syntax tokens u at p f = f.none_begins u p.marked f.rest p.derived (p.tokens_are ∙ f.tokens_are ∙ sym (append_assoc (unmarked f.front) (f.found ∷ []) f.rest))

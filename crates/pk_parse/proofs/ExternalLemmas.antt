@@ -1,38 +1,38 @@
 -- What is answered over a whole part of an external definition.
-use Rattle.std.proofs.Common.{◌≡◌, ◌≢◌, ◌<◌, ◌≤◌, ◌↔◌, List, [], ◌∷◌, ◌++◌, length, map, get_or, eqb, vec_len, Vec, Global, Option, Some, None, MatchOption, Bool, true, false, IsTrue, refl, sym, ap, subst, ◌∙◌, arith}
+use Rattle.std.proofs.Common.{◌≡◌, ◌≢◌, ◌<◌, ◌≤◌, List, [], ◌∷◌, ◌++◌, length, eqb, vec_len, Vec, Global, Option, Some, None, MatchOption, Bool, true, false, refl, sym, ap, subst, ◌∙◌, arith}
 use Rattle.std.proofs.lemmas.Bool.{eq-eqb}
 use Rattle.std.specs.Option.{is_some}
+use Rattle.pk_ast.specs.Lists.{one}
 use Rattle.pk_lex.specs.declared.token.Token.{Token}
 use Rattle.pk_lex.specs.declared.token.Kind.TheVariants as kind
-use Rattle.pk_ast.specs.declared.declarations.Declarator.{Declarator}
 use Rattle.pk_ast.specs.declared.declarations.Specifier.{Specifier}
 use Rattle.pk_ast.specs.declared.declarations.SpecifierWord.{SpecifierWord}
 use Rattle.pk_ast.specs.declared.declarations.SpecifierWord.TheVariants as word
 use Rattle.pk_ast.specs.declared.expressions.Identifier.{Identifier}
 use Rattle.pk_ast.specs.declared.units.Parameter.{Parameter}
 use Rattle.pk_ast.specs.declared.units.Storage.{Storage}
-use Rattle.pk_ast.specs.Trees.{DeclarationTree, BlockTree, ParameterTree, FunctionTree, ExternalTree, function, objects}
-use Rattle.pk_ast.specs.Views.{declarator_trees, parameter_tree, parameter_trees}
+use Rattle.pk_ast.specs.Trees.{DeclarationTree, BlockTree, ParameterTree, FunctionTree, ExternalTree, function, objects, OneOrMore, DeclaratorTree}
+use Rattle.pk_ast.specs.Views.{parameter_tree, parameter_trees}
 use Rattle.pk_ast.proofs.ListLemmas.{parameter_trees-push}
 use Rattle.pk_grammar.specs.declared.failure.ParseError.{ParseError}
 use Rattle.pk_grammar.specs.declared.failure.ParseError.TheVariants.{Syntax}
 use Rattle.pk_grammar.specs.declared.signs.Fixed.TheVariants as fixed
 use Rattle.pk_grammar.specs.Languages.{identifier_of}
 use Rattle.pk_grammar.specs.Grammar.{IsVoidAlone}
-use Rattle.pk_grammar.specs.Signs.{is_fixed, specifier_word, storage_word, is_void_word}
-use Rattle.pk_grammar.specs.States.{Head, outside, Declaring, top, after_specifiers, after_name, parameters_open, parameter_specifiers, parameter_name, parameter_comma, parameters_closed}
-use Rattle.pk_grammar.specs.Steps.{is_void}
-use Rattle.pk_grammar.specs.Running.{syntax, first_of_all, run, Fails}
-use Rattle.pk_expression.specs.Parsing.{Begins, BeginsWithWord, words, past_words}
+use Rattle.pk_grammar.specs.Machine.Signs.{is_fixed, specifier_word, storage_word, is_void_word}
+use Rattle.pk_grammar.specs.Machine.States.{Head, outside, Declaring, top, after_specifiers, after_name, parameters_open, parameter_specifiers, parameter_name, parameter_comma, parameters_closed}
+use Rattle.pk_grammar.specs.Machine.Steps.{is_void, is_void_alone}
+use Rattle.pk_grammar.specs.Machine.Running.{syntax, first_of_all, run, Fails}
+use Rattle.pk_expression.specs.Parsing.{Begins, BeginsWithWord, past_words, specifiers_from}
 use Rattle.pk_expression.proofs.RunLemmas.{fails_as, fails_syntax}
 use Rattle.pk_expression.proofs.RunOperands.{no_word_past}
-use Rattle.pk_parse.specs.Parts.{CanDeclare, with_declarators, after_declaration, after_parameter, EndsParameter, after_function, storage_state}
+use Rattle.pk_parse.specs.Parts.{CanDeclare, with_all, after_declaration, after_parameter, EndsParameter, after_function, storage_state}
 use Rattle.pk_parse.proofs.DeclarationLemmas.{shorter, named_first, stops_first_name, run_named, past_words_shorter}
 use Rattle.pk_parse.proofs.RunExternals.{run_parameter, no_parameter, run_parameter_words, run_parameter_name, with_last, run_parameter_close, run_parameter_comma, no_parameter_end, run_function, run_first_word, no_first_word}
 
 -- the word `void`
 
-void_word : (w : SpecifierWord) → is_void_word w ≡ true → w ≡ word.Void
+pub void_word : (w : SpecifierWord) → is_void_word w ≡ true → w ≡ word.Void
 void_word word.Void e = refl
 void_word word.Char e = absurd (cc)
 void_word word.Short e = absurd (cc)
@@ -42,32 +42,16 @@ void_word word.Signed e = absurd (cc)
 void_word word.Unsigned e = absurd (cc)
 void_word word.Const e = absurd (cc)
 
-abbrev pub words_of : List Specifier → List SpecifierWord
-words_of = map (λ (s : Specifier). s.word)
-
-pub void_one : (specs : List Specifier) (s : Specifier) (b : Bool) → length specs ≡ 1 → s ≡ get_or specs 0 s → b ≡ is_void_word s.word → IsTrue b ↔ (words_of specs ≡ word.Void ∷ [])
-void_one [] s b l e f = absurd (omega arith)
-void_one (x ∷ []) s b l e f = (
-  λ t. ap (λ w. w ∷ []) (void_word x.word (ap (λ (q : Specifier). is_void_word q.word) (sym e) ∙ sym f ∙ t)),
-  λ v. f ∙ ap (λ (q : Specifier). is_void_word q.word) e ∙ ap is_void_word (let h : x.word ≡ word.Void = cc in h),
-)
-void_one (x ∷ y ∷ more) s b l e f = absurd (omega arith)
-
-pub void_length : (specs : List Specifier) → words_of specs ≡ word.Void ∷ [] → length specs ≡ 1
-void_length [] e = cc
-void_length (x ∷ []) e = refl
-void_length (x ∷ y ∷ more) e = cc
-
 pub unnamed : (id : Option Identifier) → is_some id ≡ false → id ≡ None
 unnamed None e = refl
 unnamed (Some x) e = cc
 
 -- whether a list is empty
 
-pub no_items : (v : Vec Parameter Global) → vec_len v ≡ 0 → v.items ≡ []
-no_items v e = none v.items (sym v.ok.0 ∙ e)
+pub no_items : {A : Type 0} (v : Vec A Global) → vec_len v ≡ 0 → v.items ≡ []
+no_items {A} v e = none v.items (sym v.ok.0 ∙ e)
   where
-    none : (list : List Parameter) → length list ≡ 0 → list ≡ []
+    none : (list : List A) → length list ≡ 0 → list ≡ []
     none [] h = refl
     none (p ∷ ps) h = absurd (omega arith)
 
@@ -76,51 +60,51 @@ some_items v e h = let f : false ≡ true = e ∙ eq-eqb (vec_len v) 0 (v.ok.0 �
 
 -- A parameter
 
-module _ (end : Token) (first : Specifier) (ts : List Token) (specs : List Specifier) (rest : List Token) (are : (specs ≡ first ∷ words ts) × (rest ≡ past_words ts)) (p : ParameterTree) where
-  specified : (h : Head) (ps : List ParameterTree) → run end (parameter_specifiers h ps (first ∷ [])) ts ≡ run end (parameter_specifiers h ps specs) rest
+module _ (end : Token) (first : Specifier) (ts : List Token) (specs : OneOrMore Specifier) (rest : List Token) (are : (specs ≡ specifiers_from first ts) × (rest ≡ past_words ts)) (p : ParameterTree) where
+  specified : (h : Head) (ps : List ParameterTree) → run end (parameter_specifiers h ps (one first)) ts ≡ run end (parameter_specifiers h ps specs) rest
   specified h ps =
-      run_parameter_words end h ps ts (first ∷ []) ∙ ap (λ q. run end (parameter_specifiers h ps q) (past_words ts)) (sym are.0) ∙ ap (λ q. run end (parameter_specifiers h ps specs) q) (sym are.1)
+      run_parameter_words end h ps ts (one first) ∙ ap (λ q. run end (parameter_specifiers h ps q) (past_words ts)) (sym are.0) ∙ ap (λ q. run end (parameter_specifiers h ps specs) q) (sym are.1)
 
   pub reads_named : (t : Token) (after : List Token) (id : Identifier) → Begins fixed.Name rest t after → id ≡ identifier_of t → p ≡ record { specifiers = specs; name = Some id } →
-      ((h : Head) (ps : List ParameterTree) → run end (parameter_specifiers h ps (first ∷ [])) ts ≡ run end (after_parameter h ps p) after) × EndsParameter end p.name after × (length after ≤ length ts)
+      ((h : Head) (ps : List ParameterTree) → run end (parameter_specifiers h ps (one first)) ts ≡ run end (after_parameter h ps p) after) × EndsParameter end p.name after × (length after ≤ length ts)
   reads_named t after id b is same =
       let a = shorter fixed.Name rest t after b in
       let k = past_words_shorter ts in
       let e = ap length are.1 in
-      subst (λ (q : ParameterTree). ((h : Head) (ps : List ParameterTree) → run end (parameter_specifiers h ps (first ∷ [])) ts ≡ run end (after_parameter h ps q) after) × EndsParameter end q.name after × (length after ≤ length ts))
+      subst (λ (q : ParameterTree). ((h : Head) (ps : List ParameterTree) → run end (parameter_specifiers h ps (one first)) ts ≡ run end (after_parameter h ps q) after) × EndsParameter end q.name after × (length after ≤ length ts))
       (sym same)
       (λ h ps. specified h ps ∙ run_parameter_name end h ps rest specs t after b ∙ ap (λ q. run end (parameter_name h ps (record { specifiers = specs; name = Some q })) after) (sym is), tt, omega arith)
 
   pub reads_unnamed : is_fixed fixed.Name (first_of_all end rest).kind ≡ false → p ≡ record { specifiers = specs; name = None } →
-      ((h : Head) (ps : List ParameterTree) → run end (parameter_specifiers h ps (first ∷ [])) ts ≡ run end (after_parameter h ps p) rest) × EndsParameter end p.name rest × (length rest ≤ length ts)
+      ((h : Head) (ps : List ParameterTree) → run end (parameter_specifiers h ps (one first)) ts ≡ run end (after_parameter h ps p) rest) × EndsParameter end p.name rest × (length rest ≤ length ts)
   reads_unnamed f same =
       let k = past_words_shorter ts in
       let e = ap length are.1 in
-      subst (λ (q : ParameterTree). ((h : Head) (ps : List ParameterTree) → run end (parameter_specifiers h ps (first ∷ [])) ts ≡ run end (after_parameter h ps q) rest) × EndsParameter end q.name rest × (length rest ≤ length ts))
+      subst (λ (q : ParameterTree). ((h : Head) (ps : List ParameterTree) → run end (parameter_specifiers h ps (one first)) ts ≡ run end (after_parameter h ps q) rest) × EndsParameter end q.name rest × (length rest ≤ length ts))
       (sym same)
       (λ h ps. specified h ps, (subst (λ q. specifier_word (first_of_all end q).kind ≡ None) (sym are.1) (no_word_past end ts), f), omega arith)
 
 -- Parameters
 
-void_is : (specs : List Specifier) → words_of specs ≡ word.Void ∷ [] → is_void specs ≡ true
-void_is [] e = cc
-void_is (s ∷ []) e = ap is_void_word (let h : s.word ≡ word.Void = cc in h)
-void_is (s ∷ r ∷ more) e = cc
+void_is : (specs : OneOrMore Specifier) → specs.first.word ≡ word.Void → specs.more ≡ [] → is_void specs ≡ true
+void_is specs e f = ap (λ more. is_void_alone specs.first.word more) f ∙ ap is_void_word e
 
-no_void : (specs : List Specifier) (b : Bool) → is_void specs ≡ b → ¬ (words_of specs ≡ word.Void ∷ []) → is_void specs ≡ false
+void_alone : (w : SpecifierWord) (more : List Specifier) → is_void_alone w more ≡ true → (w ≡ word.Void) × (more ≡ [])
+void_alone w [] e = (void_word w e, refl)
+void_alone w (s ∷ more) e = cc
+
+no_void : (specs : OneOrMore Specifier) (b : Bool) → is_void specs ≡ b → ¬ ((specs.first.word ≡ word.Void) × (specs.more ≡ [])) → is_void specs ≡ false
 no_void specs false e h = e
-no_void [] true e h = refl
-no_void (s ∷ []) true e h = absurd (h (ap (λ w. w ∷ []) (void_word s.word e)))
-no_void (s ∷ r ∷ more) true e h = refl
+no_void specs true e h = absurd (h (void_alone specs.first.word specs.more e))
 
 last_pushed : (ps : List ParameterTree) (p : ParameterTree) (id : Option Identifier) → p.name ≡ id → (ps ≡ [] → ¬ IsVoidAlone p) → with_last ps p id ≡ ps ++ p ∷ []
-last_pushed [] p None e h = rw (no_void p.specifiers (is_void p.specifiers) refl (λ v. h refl (v, e))) (ap (λ q. record { specifiers = p.specifiers; name = q } ∷ []) (sym e))
+last_pushed [] p None e h = rw (no_void p.specifiers (is_void p.specifiers) refl (λ v. h refl (v.0, v.1, e))) (ap (λ q. record { specifiers = p.specifiers; name = q } ∷ []) (sym e))
 last_pushed (q ∷ qs) p None e h = ap (λ r. (q ∷ qs) ++ record { specifiers = p.specifiers; name = r } ∷ []) (sym e)
 last_pushed ps p (Some id) e h = refl
 
 last_void : (p : ParameterTree) (id : Option Identifier) → p.name ≡ id → IsVoidAlone p → with_last [] p id ≡ []
-last_void p None e v = rw (void_is p.specifiers v.0)
-last_void p (Some id) e v = let h : None ≡ Some id = sym v.1 ∙ e in absurd (cc)
+last_void p None e v = rw (void_is p.specifiers v.0 v.1)
+last_void p (Some id) e v = let h : None ≡ Some id = sym v.2 ∙ e in absurd (cc)
 
 no_trees : (list : List Parameter) → parameter_trees list ≡ [] → list ≡ []
 no_trees [] e = refl
@@ -135,27 +119,27 @@ module _ (end : Token) (ts : List Token) (list : List Parameter) (rest : List To
   stops_parameters e h = done h ∙ no_parameter end h (parameter_trees list) rest e
 
   module _ (s : Specifier) (after : List Token) (begins : BeginsWithWord rest s after) where
-    pub fails_parameter : (x : ParseError) → ((h : Head) (ps : List ParameterTree) → Fails (run end (parameter_specifiers h ps (s ∷ [])) after) x) → (h : Head) → Fails (run end (parameters_open h) ts) x
+    pub fails_parameter : (x : ParseError) → ((h : Head) (ps : List ParameterTree) → Fails (run end (parameter_specifiers h ps (one s)) after) x) → (h : Head) → Fails (run end (parameters_open h) ts) x
     fails_parameter x r h = fails_as _ _ x (done h ∙ run_parameter end h (parameter_trees list) rest s after begins) (r h (parameter_trees list))
 
     module _ (p : Parameter) (next : List Token)
-        (r : (h : Head) (ps : List ParameterTree) → run end (parameter_specifiers h ps (s ∷ [])) after ≡ run end (after_parameter h ps (parameter_tree p)) next) where
-      one : (h : Head) → run end (parameters_open h) ts ≡ run end (after_parameter h (parameter_trees list) (parameter_tree p)) next
-      one h = done h ∙ run_parameter end h (parameter_trees list) rest s after begins ∙ r h (parameter_trees list)
+        (r : (h : Head) (ps : List ParameterTree) → run end (parameter_specifiers h ps (one s)) after ≡ run end (after_parameter h ps (parameter_tree p)) next) where
+      parameter_read : (h : Head) → run end (parameters_open h) ts ≡ run end (after_parameter h (parameter_trees list) (parameter_tree p)) next
+      parameter_read h = done h ∙ run_parameter end h (parameter_trees list) rest s after begins ∙ r h (parameter_trees list)
 
       pub stops_parameter : (x : ParseError) → EndsParameter end (parameter_tree p).name next → is_fixed fixed.CloseParenthesis (first_of_all end next).kind ≡ false →
           (is_fixed fixed.Comma (first_of_all end next).kind ≡ false) × (x ≡ Syntax (first_of_all end next).at) → (h : Head) → Fails (run end (parameters_open h) ts) x
       stops_parameter x ends f g h =
-          fails_syntax _ x _ g.1 (one h ∙ no_parameter_end end h (parameter_trees list) (parameter_tree p) (parameter_tree p).name next ends f g.0)
+          fails_syntax _ x _ g.1 (parameter_read h ∙ no_parameter_end end h (parameter_trees list) (parameter_tree p) (parameter_tree p).name next ends f g.0)
 
       pub reads_parameter : (t : Token) (following : List Token) (more : List Parameter) → more ≡ list ++ p ∷ [] → Begins fixed.Comma next t following → ReadsParameters end ts (parameter_trees more) following
       reads_parameter t following more pushed b h =
-          one h ∙ run_parameter_comma end h (parameter_trees list) (parameter_tree p) (parameter_tree p).name next t following refl b
+          parameter_read h ∙ run_parameter_comma end h (parameter_trees list) (parameter_tree p) (parameter_tree p).name next t following refl b
           ∙ ap (λ q. run end (parameter_comma h q) following) (sym (ap parameter_trees pushed ∙ parameter_trees-push list p))
 
       module _ (t : Token) (last : List Token) (b : Begins fixed.CloseParenthesis next t last) where
         closed : (h : Head) → run end (parameters_open h) ts ≡ run end (parameters_closed h (with_last (parameter_trees list) (parameter_tree p) (parameter_tree p).name)) last
-        closed h = one h ∙ run_parameter_close end h (parameter_trees list) (parameter_tree p) (parameter_tree p).name next t last b
+        closed h = parameter_read h ∙ run_parameter_close end h (parameter_trees list) (parameter_tree p) (parameter_tree p).name next t last b
 
         pub reads_last : (more : List Parameter) → more ≡ list ++ p ∷ [] → (list ≡ [] → ¬ IsVoidAlone (parameter_tree p)) → (h : Head) →
             run end (parameters_open h) ts ≡ run end (parameters_closed h (parameter_trees more)) last
@@ -170,7 +154,7 @@ module _ (end : Token) (ts : List Token) (list : List Parameter) (rest : List To
 
 -- External definitions
 
-abbrev pub head_of : List ExternalTree → Option Storage → List Specifier → Identifier → Head
+abbrev pub head_of : List ExternalTree → Option Storage → OneOrMore Specifier → Identifier → Head
 head_of before s specs id = record { before = before; storage = s; specifiers = specs; name = id }
 
 -- a storage word is taken where it comes first
@@ -190,9 +174,9 @@ module _ (end : Token) (before : List ExternalTree) (ts : List Token) (s : Optio
   pub stops_word : TakesStorage end ts rest s → (first_of_all end ts).kind ≢ kind.End → specifier_word (first_of_all end rest).kind ≡ None → run end (top before) ts ≡ syntax (first_of_all end rest).at
   stops_word h f e = stored ∙ no_first_word end before rest s (no_storage end ts rest s h f) e
 
-  module _ (first : Specifier) (after_word : List Token) (begins : BeginsWithWord rest first after_word) (specs : List Specifier) (after_words : List Token)
-      (are : (specs ≡ first ∷ words after_word) × (after_words ≡ past_words after_word)) where
-    worded : run end (top before) ts ≡ run end (after_specifiers (outside before s) (first ∷ [])) after_word
+  module _ (first : Specifier) (after_word : List Token) (begins : BeginsWithWord rest first after_word) (specs : OneOrMore Specifier) (after_words : List Token)
+      (are : (specs ≡ specifiers_from first after_word) × (after_words ≡ past_words after_word)) where
+    worded : run end (top before) ts ≡ run end (after_specifiers (outside before s) (one first)) after_word
     worded = stored ∙ run_first_word end before rest s first after_word begins
 
     pub stops_name : (x : ParseError) → (is_fixed fixed.Name (first_of_all end after_words).kind ≡ false) × (x ≡ Syntax (first_of_all end after_words).at) → Fails (run end (top before) ts) x
@@ -209,8 +193,8 @@ module _ (end : Token) (before : List ExternalTree) (ts : List Token) (s : Optio
         pub fails_declarators : (x : ParseError) → ((d : Declaring) → CanDeclare end d id 0 after → Fails (run end (after_name d id) after) x) → Fails (run end (top before) ts) x
         fails_declarators x r = fails_as _ _ x named (r (named_first (outside before s) specs) can_declare)
 
-        pub reads_objects : (ds : List Declarator) (last : List Token) → ((d : Declaring) → CanDeclare end d id 0 after → run end (after_name d id) after ≡ run end (after_declaration (with_declarators d (declarator_trees ds))) last) →
-            (d : DeclarationTree) (x : ExternalTree) → d ≡ record { specifiers = specs; declarators = declarator_trees ds } → x ≡ objects s d → run end (top before) ts ≡ run end (top (before ++ x ∷ [])) last
+        pub reads_objects : (ds : OneOrMore DeclaratorTree) (last : List Token) → ((d : Declaring) → CanDeclare end d id 0 after → run end (after_name d id) after ≡ run end (after_declaration (with_all d ds)) last) →
+            (d : DeclarationTree) (x : ExternalTree) → d ≡ record { specifiers = specs; declarators = ds } → x ≡ objects s d → run end (top before) ts ≡ run end (top (before ++ x ∷ [])) last
         reads_objects ds last r d x e g =
             named ∙ r (named_first (outside before s) specs) can_declare ∙ ap (λ q. run end (top (before ++ objects s q ∷ [])) last) (sym e) ∙ ap (λ q. run end (top (before ++ q ∷ [])) last) (sym g)
 

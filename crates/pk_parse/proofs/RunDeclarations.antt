@@ -1,6 +1,8 @@
 -- What is answered within declarations, token by token.
-use Rattle.std.proofs.Common.{◌≡◌, ℕ, ◌+◌, ◌<◌, ◌≤◌, List, [], ◌∷◌, ◌++◌, Option, Some, None, Bool, true, false, refl, sym, ap, ◌∙◌, append_assoc, append-nil, arith}
+use Rattle.std.proofs.Common.{◌≡◌, ℕ, ◌+◌, ◌<◌, ◌≤◌, List, [], ◌∷◌, Option, Some, None, Bool, true, false, refl, sym, ap, ◌∙◌, append_assoc, append-nil, arith}
 use Rattle.std.specs.Prelude.{if◌then◌else◌}
+use Rattle.pk_expression.proofs.RunOperands.{and_words}
+use Rattle.pk_ast.specs.Lists.{with_last}
 use Rattle.pk_ctypes.specs.declared.places.Pos.{Pos}
 use Rattle.pk_lex.specs.declared.token.Token.{Token}
 use Rattle.pk_lex.specs.declared.token.Kind.{Kind}
@@ -9,15 +11,15 @@ use Rattle.pk_lex.specs.declared.token.Punctuator.TheVariants as mark
 use Rattle.pk_ast.specs.declared.declarations.Specifier.{Specifier}
 use Rattle.pk_ast.specs.declared.declarations.SpecifierWord.{SpecifierWord}
 use Rattle.pk_ast.specs.declared.expressions.Identifier.{Identifier}
-use Rattle.pk_ast.specs.Trees.{ExpressionTree, ExpressionTrees, no_expressions, single, braced}
+use Rattle.pk_ast.specs.Trees.{ExpressionTree, ExpressionTrees, no_expressions, single, braced, OneOrMore, expression_then}
 use Rattle.pk_grammar.specs.declared.signs.Fixed.TheVariants as fixed
 use Rattle.pk_grammar.specs.declared.signs.Operator.{Operator}
 use Rattle.pk_grammar.specs.declared.signs.Operator.TheVariants as operator
 use Rattle.pk_grammar.specs.Languages.{identifier_of}
-use Rattle.pk_grammar.specs.Signs.{is_fixed, operator_of, specifier_word}
-use Rattle.pk_grammar.specs.States.{Site, Declaring, Naming, State, as_length, as_value, as_item, as_whole, after_specifiers, after_name, after_length, after_assign, after_brace, after_item, after_initializer, after_comma, operand, complete}
-use Rattle.pk_grammar.specs.Steps.{taken, refused, reduced, is_unary, go_on, one_more, more_specifiers, specifier_at, site_nesting, naming_nesting, with_initializer, after_declarator, open_parameters, step}
-use Rattle.pk_grammar.specs.Running.{syntax, deep, first_of_all, run}
+use Rattle.pk_grammar.specs.Machine.Signs.{is_fixed, operator_of, specifier_word}
+use Rattle.pk_grammar.specs.Machine.States.{Site, Declaring, Naming, State, as_length, as_value, as_item, as_whole, after_specifiers, after_name, after_length, after_assign, after_brace, after_item, after_initializer, after_comma, operand, complete, Declared}
+use Rattle.pk_grammar.specs.Machine.Steps.{taken, refused, reduced, is_unary, go_on, more_specifiers, specifier_at, site_nesting, naming_nesting, with_initializer, after_declarator, open_parameters, step, first_item, more_items, goes_on_declaring}
+use Rattle.pk_grammar.specs.Machine.Running.{syntax, deep, first_of_all, run}
 use Rattle.pk_grammar.proofs.CompleteSigns.{strength_least}
 use Rattle.pk_grammar.proofs.CompleteOperands.{same_false, same_true}
 use Rattle.pk_grammar.proofs.CompleteDeclarations.{step_first_name}
@@ -28,23 +30,23 @@ use Rattle.pk_expression.proofs.RunOperators.{operator_kind, ends_other, follows
 use Rattle.pk_parse.specs.Parts.{CanDeclare, after_declaration}
 
 -- the words of a type, one after another
-pub run_words : (end : Token) (state : List Specifier → State) (n : ℕ) → n ≤ 128 →
-    ((specs : List Specifier) (t : Token) (w : SpecifierWord) → specifier_word t.kind ≡ Some w → step (state specs) t ≡ taken n (state (specs ++ specifier_at t w ∷ []))) →
-    (ts : List Token) (specs : List Specifier) → run end (state specs) ts ≡ run end (state (specs ++ words ts)) (past_words ts)
+pub run_words : (end : Token) (state : OneOrMore Specifier → State) (n : ℕ) → n ≤ 128 →
+    ((specs : OneOrMore Specifier) (t : Token) (w : SpecifierWord) → specifier_word t.kind ≡ Some w → step (state specs) t ≡ taken n (state (with_last specs (specifier_at t w)))) →
+    (ts : List Token) (specs : OneOrMore Specifier) → run end (state specs) ts ≡ run end (state (and_words specs (words ts))) (past_words ts)
 unfolding words past_words
-run_words end state n h steps [] specs = ap (λ q. run end (state q) []) (sym (append-nil specs))
+run_words end state n h steps [] specs = ap (λ q. run end (state (record { first = specs.first; more = q })) []) (sym (append-nil specs.more))
 run_words end state n h steps (t ∷ ts) specs = by_word (λ q. run_words end state n h steps ts q) (specifier_word t.kind) refl
   where
-    by_word : ((q : List Specifier) → run end (state q) ts ≡ run end (state (q ++ words ts)) (past_words ts)) → (w : Option SpecifierWord) → specifier_word t.kind ≡ w →
-        run end (state specs) (t ∷ ts) ≡ run end (state (specs ++ words_then t w (words ts))) (past_word (t ∷ ts) w (past_words ts))
-    by_word on None e = ap (λ q. run end (state q) (t ∷ ts)) (sym (append-nil specs))
+    by_word : ((q : OneOrMore Specifier) → run end (state q) ts ≡ run end (state (and_words q (words ts))) (past_words ts)) → (w : Option SpecifierWord) → specifier_word t.kind ≡ w →
+        run end (state specs) (t ∷ ts) ≡ run end (state (and_words specs (words_then t w (words ts)))) (past_word (t ∷ ts) w (past_words ts))
+    by_word on None e = ap (λ q. run end (state (record { first = specs.first; more = q })) (t ∷ ts)) (sym (append-nil specs.more))
     by_word on (Some w) e =
-        run_takes end (state specs) (t ∷ ts) t ts n (state (specs ++ specifier_at t w ∷ [])) refl (steps specs t w e) h
-        ∙ on (specs ++ specifier_at t w ∷ [])
-        ∙ ap (λ q. run end (state q) (past_words ts)) (append_assoc specs (specifier_at t w ∷ []) (words ts))
+        run_takes end (state specs) (t ∷ ts) t ts n (state (with_last specs (specifier_at t w))) refl (steps specs t w e) h
+        ∙ on (with_last specs (specifier_at t w))
+        ∙ ap (λ q. run end (state (record { first = specs.first; more = q })) (past_words ts)) (append_assoc specs.more (specifier_at t w ∷ []) (words ts))
 
-pub run_specifiers : (end : Token) (s : Site) → site_nesting s ≤ 128 → (ts : List Token) (specs : List Specifier) →
-    run end (after_specifiers s specs) ts ≡ run end (after_specifiers s (specs ++ words ts)) (past_words ts)
+pub run_specifiers : (end : Token) (s : Site) → site_nesting s ≤ 128 → (ts : List Token) (specs : OneOrMore Specifier) →
+    run end (after_specifiers s specs) ts ≡ run end (after_specifiers s (and_words specs (words ts))) (past_words ts)
 run_specifiers end s h ts specs = run_words end (λ q. after_specifiers s q) (site_nesting s) h (λ q t w e. ap (λ v. more_specifiers s q t v) e) ts specs
 
 -- A declarator's name, and its length
@@ -148,29 +150,29 @@ module _ (end : Token) (d : Naming) (ts : List Token) where
 -- The items of a braced list
 
 step_item_end : (m : ℕ) (e : ExpressionTree) (d : Naming) (at : Pos) (es : ExpressionTrees) (t : Token) → t.kind ≡ kind.Punctuator mark.CloseBrace →
-    step (complete m e (as_whole (as_item d at es))) t ≡ taken (naming_nesting d) (after_initializer (with_initializer d (Some (braced at (one_more es e)))))
+    step (complete m e (as_whole (as_item d at es))) t ≡ taken (naming_nesting d) (after_initializer (with_initializer d (Some (braced at (first_item es e) (more_items es e)))))
 unfolding reduced
 step_item_end m e d at es t is = rw is
 
 step_item_comma : (m : ℕ) (e : ExpressionTree) (d : Naming) (at : Pos) (es : ExpressionTrees) (t : Token) → t.kind ≡ kind.Punctuator mark.Comma →
-    step (complete m e (as_whole (as_item d at es))) t ≡ taken (naming_nesting d) (after_item d at (one_more es e))
+    step (complete m e (as_whole (as_item d at es))) t ≡ taken (naming_nesting d) (after_item d at (first_item es e) (more_items es e))
 unfolding reduced
 step_item_comma m e d at es t is = rw is
 
-step_last_comma : (d : Naming) (at : Pos) (es : ExpressionTrees) (t : Token) → t.kind ≡ kind.Punctuator mark.CloseBrace →
-    step (after_item d at es) t ≡ taken (naming_nesting d) (after_initializer (with_initializer d (Some (braced at es))))
-step_last_comma d at es t e = rw e
+step_last_comma : (d : Naming) (at : Pos) (e : ExpressionTree) (es : ExpressionTrees) (t : Token) → t.kind ≡ kind.Punctuator mark.CloseBrace →
+    step (after_item d at e es) t ≡ taken (naming_nesting d) (after_initializer (with_initializer d (Some (braced at e es))))
+step_last_comma d at e es t is = rw is
 
 pub run_first_item : (end : Token) (d : Naming) (at : Pos) (ts : List Token) → run end (after_brace d at) ts ≡ run end (operand (naming_nesting d) (as_whole (as_item d at no_expressions))) ts
 run_first_item end d at ts = run_alike end (after_brace d at) (operand (naming_nesting d) (as_whole (as_item d at no_expressions))) ts refl
 
 module _ (end : Token) (d : Naming) (at : Pos) (es : ExpressionTrees) (ts : List Token) where
   pub run_item_end : (m : ℕ) (e : ExpressionTree) (t : Token) (rest : List Token) → Begins fixed.CloseBrace ts t rest → naming_nesting d ≤ 128 →
-      run end (complete m e (as_whole (as_item d at es))) ts ≡ run end (after_initializer (with_initializer d (Some (braced at (one_more es e))))) rest
+      run end (complete m e (as_whole (as_item d at es))) ts ≡ run end (after_initializer (with_initializer d (Some (braced at (first_item es e) (more_items es e))))) rest
   run_item_end m e t rest b h = run_takes end (complete m e (as_whole (as_item d at es))) ts t rest _ _ b.cut (step_item_end m e d at es t (is_this fixed.CloseBrace t.kind b.is)) h
 
   pub run_item_comma : (m : ℕ) (e : ExpressionTree) (t : Token) (rest : List Token) → Begins fixed.Comma ts t rest → naming_nesting d ≤ 128 →
-      run end (complete m e (as_whole (as_item d at es))) ts ≡ run end (after_item d at (one_more es e)) rest
+      run end (complete m e (as_whole (as_item d at es))) ts ≡ run end (after_item d at (first_item es e) (more_items es e)) rest
   run_item_comma m e t rest b h = run_takes end (complete m e (as_whole (as_item d at es))) ts t rest _ _ b.cut (step_item_comma m e d at es t (is_this fixed.Comma t.kind b.is)) h
 
   pub no_item_end : (m : ℕ) (e : ExpressionTree) → EndsAt end 1 ts → is_fixed fixed.CloseBrace (first_of_all end ts).kind ≡ false → is_fixed fixed.Comma (first_of_all end ts).kind ≡ false →
@@ -180,34 +182,36 @@ module _ (end : Token) (d : Naming) (at : Pos) (es : ExpressionTrees) (ts : List
       let t = first_of_all end ts in
       run_refused end _ ts (ap (λ o. go_on m e (as_whole (as_item d at es)) t o) (ends_other _ (follows_no_comma t.kind g h)) ∙ same_false (is_fixed fixed.CloseBrace t.kind) _ _ f)
 
+module _ (end : Token) (d : Naming) (at : Pos) (e : ExpressionTree) (es : ExpressionTrees) (ts : List Token) where
   pub run_last_comma : (t : Token) (rest : List Token) → Begins fixed.CloseBrace ts t rest → naming_nesting d ≤ 128 →
-      run end (after_item d at es) ts ≡ run end (after_initializer (with_initializer d (Some (braced at es)))) rest
-  run_last_comma t rest b h = run_takes end (after_item d at es) ts t rest _ _ b.cut (step_last_comma d at es t (is_this fixed.CloseBrace t.kind b.is)) h
+      run end (after_item d at e es) ts ≡ run end (after_initializer (with_initializer d (Some (braced at e es)))) rest
+  run_last_comma t rest b h = run_takes end (after_item d at e es) ts t rest _ _ b.cut (step_last_comma d at e es t (is_this fixed.CloseBrace t.kind b.is)) h
 
-  pub run_next_item : is_fixed fixed.CloseBrace (first_of_all end ts).kind ≡ false → run end (after_item d at es) ts ≡ run end (operand (naming_nesting d) (as_whole (as_item d at es))) ts
+  pub run_next_item : is_fixed fixed.CloseBrace (first_of_all end ts).kind ≡ false → run end (after_item d at e es) ts ≡ run end (operand (naming_nesting d) (as_whole (as_item d at (expression_then e es)))) ts
   run_next_item f = let t = first_of_all end ts in run_alike end _ _ ts (same_false (is_fixed fixed.CloseBrace t.kind) _ _ f)
 
 -- After a declarator
 
-step_semicolon : (d : Declaring) (t : Token) → t.kind ≡ kind.Punctuator mark.Semicolon → step (after_initializer d) t ≡ taken (site_nesting d.site) (after_declaration d)
+step_semicolon : (d : Declared) (t : Token) → t.kind ≡ kind.Punctuator mark.Semicolon → step (after_initializer d) t ≡ taken (site_nesting d.site) (after_declaration d)
 step_semicolon d t e = rw e
 
-step_comma : (d : Declaring) (t : Token) → t.kind ≡ kind.Punctuator mark.Comma → step (after_initializer d) t ≡ taken (site_nesting d.site) (after_comma d)
+step_comma : (d : Declared) (t : Token) → t.kind ≡ kind.Punctuator mark.Comma → step (after_initializer d) t ≡ taken (site_nesting d.site) (after_comma (goes_on_declaring d))
 step_comma d t e = rw e
 
 step_next_name : (d : Declaring) (t : Token) → t.kind ≡ kind.Name → step (after_comma d) t ≡ taken (site_nesting d.site) (after_name d (identifier_of t))
 step_next_name d t e = rw e
 
-module _ (end : Token) (d : Declaring) (ts : List Token) where
+module _ (end : Token) (d : Declared) (ts : List Token) where
   pub run_semicolon : (t : Token) (rest : List Token) → Begins fixed.Semicolon ts t rest → site_nesting d.site ≤ 128 → run end (after_initializer d) ts ≡ run end (after_declaration d) rest
   run_semicolon t rest b h = run_takes end (after_initializer d) ts t rest _ _ b.cut (step_semicolon d t (is_this fixed.Semicolon t.kind b.is)) h
 
-  pub run_comma : (t : Token) (rest : List Token) → Begins fixed.Comma ts t rest → site_nesting d.site ≤ 128 → run end (after_initializer d) ts ≡ run end (after_comma d) rest
+  pub run_comma : (t : Token) (rest : List Token) → Begins fixed.Comma ts t rest → site_nesting d.site ≤ 128 → run end (after_initializer d) ts ≡ run end (after_comma (goes_on_declaring d)) rest
   run_comma t rest b h = run_takes end (after_initializer d) ts t rest _ _ b.cut (step_comma d t (is_this fixed.Comma t.kind b.is)) h
 
   pub no_comma : is_fixed fixed.Semicolon (first_of_all end ts).kind ≡ false → is_fixed fixed.Comma (first_of_all end ts).kind ≡ false → run end (after_initializer d) ts ≡ syntax (first_of_all end ts).at
   no_comma f g = let t = first_of_all end ts in run_refused end _ ts (same_false (is_fixed fixed.Comma t.kind) _ _ g ∙ same_false (is_fixed fixed.Semicolon t.kind) _ _ f)
 
+module _ (end : Token) (d : Declaring) (ts : List Token) where
   pub run_next_name : (t : Token) (rest : List Token) → Begins fixed.Name ts t rest → site_nesting d.site ≤ 128 → run end (after_comma d) ts ≡ run end (after_name d (identifier_of t)) rest
   run_next_name t rest b h = run_takes end (after_comma d) ts t rest _ _ b.cut (step_next_name d t (is_this fixed.Name t.kind b.is)) h
 
@@ -216,7 +220,7 @@ module _ (end : Token) (d : Declaring) (ts : List Token) where
 
 -- The first name of a declaration
 
-module _ (end : Token) (s : Site) (specs : List Specifier) (ts : List Token) where
+module _ (end : Token) (s : Site) (specs : OneOrMore Specifier) (ts : List Token) where
   pub run_first_name : (t : Token) (rest : List Token) → Begins fixed.Name ts t rest → site_nesting s ≤ 128 →
       run end (after_specifiers s specs) ts ≡ run end (after_name (record { site = s; specifiers = specs; declarators = [] }) (identifier_of t)) rest
   run_first_name t rest b h = run_takes end (after_specifiers s specs) ts t rest _ _ b.cut (step_first_name s specs t (is_this fixed.Name t.kind b.is)) h

@@ -1,5 +1,7 @@
 -- What is answered within external definitions, token by token.
 use Rattle.std.proofs.Common.{◌≡◌, ◌≢◌, List, [], ◌∷◌, ◌++◌, Option, Some, None, Bool, true, false, refl, sym, ap, ◌∙◌, arith}
+use Rattle.pk_expression.proofs.RunOperands.{and_words}
+use Rattle.pk_ast.specs.Lists.{one}
 use Rattle.pk_lex.specs.declared.token.Token.{Token}
 use Rattle.pk_lex.specs.declared.token.Kind.{Kind}
 use Rattle.pk_lex.specs.declared.token.Kind.TheVariants as kind
@@ -8,13 +10,13 @@ use Rattle.pk_ast.specs.declared.declarations.Specifier.{Specifier}
 use Rattle.pk_ast.specs.declared.expressions.Identifier.{Identifier}
 use Rattle.pk_ast.specs.declared.units.Storage.{Storage}
 use Rattle.pk_ast.specs.declared.units.StorageWord.{StorageWord}
-use Rattle.pk_ast.specs.Trees.{no_items, ParameterTree, ExternalTree}
+use Rattle.pk_ast.specs.Trees.{no_items, ParameterTree, ExternalTree, OneOrMore}
 use Rattle.pk_grammar.specs.declared.signs.Fixed.TheVariants as fixed
 use Rattle.pk_grammar.specs.Languages.{identifier_of}
-use Rattle.pk_grammar.specs.Signs.{is_fixed, specifier_word, storage_word}
-use Rattle.pk_grammar.specs.States.{Head, function_block, outside, top, after_storage, after_specifiers, after_name, parameters_open, parameter_specifiers, parameter_name, parameter_comma, parameters_closed, block_item}
-use Rattle.pk_grammar.specs.Steps.{taken, refused, begin_external, storage_or_specifier, storage_at, begin_parameter, last_parameter, more_parameter, step}
-use Rattle.pk_grammar.specs.Running.{trees, syntax, first_of_all, run}
+use Rattle.pk_grammar.specs.Machine.Signs.{is_fixed, specifier_word, storage_word}
+use Rattle.pk_grammar.specs.Machine.States.{Head, function_block, outside, top, after_storage, after_specifiers, after_name, parameters_open, parameter_specifiers, parameter_name, parameter_comma, parameters_closed, block_item}
+use Rattle.pk_grammar.specs.Machine.Steps.{taken, refused, begin_external, storage_or_specifier, storage_at, begin_parameter, last_parameter, more_parameter, step}
+use Rattle.pk_grammar.specs.Machine.Running.{trees, syntax, first_of_all, run}
 use Rattle.pk_grammar.proofs.CompleteSigns.{specifier_alone}
 use Rattle.pk_grammar.proofs.CompleteOperands.{same_false}
 use Rattle.pk_grammar.proofs.SpellsSigns.{is_this}
@@ -29,7 +31,7 @@ use Rattle.pk_parse.proofs.DeclarationLemmas.{named_first}
 step_no_parameters : (h : Head) (t : Token) → t.kind ≡ kind.Punctuator mark.CloseParenthesis → step (parameters_open h) t ≡ taken 0 (parameters_closed h [])
 step_no_parameters h t e = rw e
 
-step_parameter_name : (h : Head) (ps : List ParameterTree) (specs : List Specifier) (t : Token) → t.kind ≡ kind.Name →
+step_parameter_name : (h : Head) (ps : List ParameterTree) (specs : OneOrMore Specifier) (t : Token) → t.kind ≡ kind.Name →
     step (parameter_specifiers h ps specs) t ≡ taken 1 (parameter_name h ps (record { specifiers = specs; name = Some (identifier_of t) }))
 step_parameter_name h ps specs t e = rw e
 
@@ -41,18 +43,18 @@ module _ (end : Token) (h : Head) (ts : List Token) where
   run_parameters f = let t = first_of_all end ts in run_alike end (parameters_open h) (parameter_comma h []) ts (same_false (is_fixed fixed.CloseParenthesis t.kind) _ _ f)
 
 module _ (end : Token) (h : Head) (ps : List ParameterTree) (ts : List Token) where
-  pub run_parameter : (s : Specifier) (rest : List Token) → BeginsWithWord ts s rest → run end (parameter_comma h ps) ts ≡ run end (parameter_specifiers h ps (s ∷ [])) rest
+  pub run_parameter : (s : Specifier) (rest : List Token) → BeginsWithWord ts s rest → run end (parameter_comma h ps) ts ≡ run end (parameter_specifiers h ps (one s)) rest
   run_parameter s rest b =
       run_takes end (parameter_comma h ps) ts b.token rest _ _ b.cut (ap (λ w. begin_parameter h ps b.token w) b.is) (omega arith)
-      ∙ ap (λ q. run end (parameter_specifiers h ps (q ∷ [])) rest) (sym b.specifier)
+      ∙ ap (λ q. run end (parameter_specifiers h ps (one q)) rest) (sym b.specifier)
 
   pub no_parameter : specifier_word (first_of_all end ts).kind ≡ None → run end (parameter_comma h ps) ts ≡ syntax (first_of_all end ts).at
   no_parameter e = let t = first_of_all end ts in run_refused end (parameter_comma h ps) ts (ap (λ w. begin_parameter h ps t w) e)
 
-  pub run_parameter_words : (specs : List Specifier) → run end (parameter_specifiers h ps specs) ts ≡ run end (parameter_specifiers h ps (specs ++ words ts)) (past_words ts)
+  pub run_parameter_words : (specs : OneOrMore Specifier) → run end (parameter_specifiers h ps specs) ts ≡ run end (parameter_specifiers h ps (and_words specs (words ts))) (past_words ts)
   run_parameter_words specs = run_words end (λ q. parameter_specifiers h ps q) 1 (omega arith) (λ q t w e. ap (λ v. more_parameter h ps q t v) e) ts specs
 
-  pub run_parameter_name : (specs : List Specifier) (t : Token) (rest : List Token) → Begins fixed.Name ts t rest →
+  pub run_parameter_name : (specs : OneOrMore Specifier) (t : Token) (rest : List Token) → Begins fixed.Name ts t rest →
       run end (parameter_specifiers h ps specs) ts ≡ run end (parameter_name h ps (record { specifiers = specs; name = Some (identifier_of t) })) rest
   run_parameter_name specs t rest b = run_takes end (parameter_specifiers h ps specs) ts t rest _ _ b.cut (step_parameter_name h ps specs t (is_this fixed.Name t.kind b.is)) (omega arith)
 
@@ -98,7 +100,7 @@ module _ (end : Token) (h : Head) (ps : List ParameterTree) (p : ParameterTree) 
 
 -- Functions
 
-step_function : (before : List ExternalTree) (s : Option Storage) (specs : List Specifier) (id : Identifier) (t : Token) → t.kind ≡ kind.Punctuator mark.OpenParenthesis →
+step_function : (before : List ExternalTree) (s : Option Storage) (specs : OneOrMore Specifier) (id : Identifier) (t : Token) → t.kind ≡ kind.Punctuator mark.OpenParenthesis →
     step (after_name (named_first (outside before s) specs) id) t ≡ taken 1 (parameters_open (record { before = before; storage = s; specifiers = specs; name = id }))
 step_function before s specs id t e = rw e
 
@@ -108,7 +110,7 @@ step_prototype h ps t e = rw e
 step_body : (h : Head) (ps : List ParameterTree) (t : Token) → t.kind ≡ kind.Punctuator mark.OpenBrace → step (parameters_closed h ps) t ≡ taken 1 (block_item (function_block h ps t.at no_items))
 step_body h ps t e = rw e
 
-pub run_function : (end : Token) (before : List ExternalTree) (s : Option Storage) (specs : List Specifier) (id : Identifier) (ts : List Token) (t : Token) (rest : List Token) →
+pub run_function : (end : Token) (before : List ExternalTree) (s : Option Storage) (specs : OneOrMore Specifier) (id : Identifier) (ts : List Token) (t : Token) (rest : List Token) →
     Begins fixed.OpenParenthesis ts t rest →
     run end (after_name (named_first (outside before s) specs) id) ts ≡ run end (parameters_open (record { before = before; storage = s; specifiers = specs; name = id })) rest
 run_function end before s specs id ts t rest b =
@@ -133,15 +135,15 @@ pub run_storage : (end : Token) (before : List ExternalTree) (ts : List Token) (
 run_storage end before ts t rest w cut e = run_takes end (top before) ts t rest _ _ cut (ap (λ o. storage_or_specifier before t o) e) (omega arith)
 
 module _ (end : Token) (before : List ExternalTree) (ts : List Token) where
-  pub run_first_word : (s : Option Storage) (first : Specifier) (rest : List Token) → BeginsWithWord ts first rest → run end (storage_state before s) ts ≡ run end (after_specifiers (outside before s) (first ∷ [])) rest
+  pub run_first_word : (s : Option Storage) (first : Specifier) (rest : List Token) → BeginsWithWord ts first rest → run end (storage_state before s) ts ≡ run end (after_specifiers (outside before s) (one first)) rest
   run_first_word None first rest b =
       let a = specifier_alone b.token.kind b.word b.is in
       run_takes end (top before) ts b.token rest _ _ b.cut
       (ap (λ o. storage_or_specifier before b.token o) a.no_storage ∙ same_false (is_fixed fixed.End b.token.kind) _ _ a.no_end ∙ ap (λ o. begin_external before None b.token o) b.is) (omega arith)
-      ∙ ap (λ q. run end (after_specifiers (outside before None) (q ∷ [])) rest) (sym b.specifier)
+      ∙ ap (λ q. run end (after_specifiers (outside before None) (one q)) rest) (sym b.specifier)
   run_first_word (Some s) first rest b =
       run_takes end (after_storage before s) ts b.token rest _ _ b.cut (ap (λ o. begin_external before (Some s) b.token o) b.is) (omega arith)
-      ∙ ap (λ q. run end (after_specifiers (outside before (Some s)) (q ∷ [])) rest) (sym b.specifier)
+      ∙ ap (λ q. run end (after_specifiers (outside before (Some s)) (one q)) rest) (sym b.specifier)
 
   no_end : (k : Kind) → k ≢ kind.End → (b : Bool) → is_fixed fixed.End k ≡ b → is_fixed fixed.End k ≡ false
   no_end k h true e = absurd (h (is_this fixed.End k e))

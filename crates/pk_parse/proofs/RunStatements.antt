@@ -1,5 +1,6 @@
 -- What is answered within statements: tokens that are waited for, and expressions.
-use Rattle.std.proofs.Common.{◌≡◌, ℕ, ◌+◌, ◌<◌, ◌≤◌, List, [], ◌∷◌, Option, Some, None, true, false, refl, sym, ap, subst, ◌∙◌, arith}
+use Rattle.std.proofs.Common.{◌≡◌, ℕ, ◌+◌, ◌<◌, ◌≤◌, List, ◌∷◌, Option, Some, None, true, false, refl, sym, ap, subst, ◌∙◌, arith}
+use Rattle.pk_ast.specs.Lists.{one}
 use Rattle.pk_ctypes.specs.declared.places.Pos.{Pos}
 use Rattle.pk_lex.specs.declared.token.Token.{Token}
 use Rattle.pk_ast.specs.declared.declarations.Specifier.{Specifier}
@@ -10,10 +11,10 @@ use Rattle.pk_grammar.specs.declared.failure.ParseError.TheVariants.{Syntax, Nes
 use Rattle.pk_grammar.specs.declared.signs.Fixed.{Fixed}
 use Rattle.pk_grammar.specs.declared.signs.Fixed.TheVariants as fixed
 use Rattle.pk_grammar.specs.Languages.{identifier_of}
-use Rattle.pk_grammar.specs.Signs.{is_fixed, operator_of, specifier_word}
-use Rattle.pk_grammar.specs.States.{Outer, in_for, in_a_for, Purpose, as_first, as_second, as_third, as_result, as_whole, State, after_specifiers, at_statement, after_statement, for_first, for_second, for_third, goto_name, returning, statement_end, operand, complete}
-use Rattle.pk_grammar.specs.Steps.{taken, wanted, reduced, go_on, purpose_level, end_purpose, begin_for, specifier_at, step}
-use Rattle.pk_grammar.specs.Running.{first_of_all, run, Fails}
+use Rattle.pk_grammar.specs.Machine.Signs.{is_fixed, operator_of, specifier_word}
+use Rattle.pk_grammar.specs.Machine.States.{Outer, in_for, in_a_for, Purpose, as_first, as_second, as_third, as_result, as_whole, State, after_specifiers, at_statement, after_statement, for_first, for_second, for_third, goto_name, returning, statement_end, operand, complete}
+use Rattle.pk_grammar.specs.Machine.Steps.{taken, wanted, reduced, go_on, purpose_level, end_purpose, begin_for, specifier_at, step}
+use Rattle.pk_grammar.specs.Machine.Running.{first_of_all, run, Fails}
 use Rattle.pk_expression.specs.Parsing.{Begins, BeginsWithWord, follows, EndsAt, UpTo, Reads, Refuses}
 use Rattle.pk_grammar.proofs.CompleteOperands.{same_false, same_true}
 use Rattle.pk_expression.proofs.RunLemmas.{run_takes, run_deep, run_refused, run_alike, first_is, fails_as, fails_syntax, fails_nesting}
@@ -153,9 +154,9 @@ run_word end s ts word rest n next b steps h =
     ∙ ap (λ q. run end (next q) rest) (sym b.specifier)
 
 pub run_for_word : (end : Token) (n : ℕ) (at : Pos) (o : Outer) (ts : List Token) (word : Specifier) (rest : List Token) → BeginsWithWord ts word rest → n + 2 ≤ 128 →
-    run end (for_first n at o) ts ≡ run end (after_specifiers (in_a_for n at o) (word ∷ [])) rest
+    run end (for_first n at o) ts ≡ run end (after_specifiers (in_a_for n at o) (one word)) rest
 run_for_word end n at o ts word rest b h =
-    run_word end (for_first n at o) ts word rest (n + 2) (λ q. after_specifiers (in_a_for n at o) (q ∷ [])) b (λ t w e. ap (λ q. begin_for n at o t q) e) h
+    run_word end (for_first n at o) ts word rest (n + 2) (λ q. after_specifiers (in_a_for n at o) (one q)) b (λ t w e. ap (λ q. begin_for n at o t q) e) h
 
 -- the last `;` of a statement
 pub run_statement_end : (end : Token) (n : ℕ) (s : StatementTree) (o : Outer) (ts : List Token) (t : Token) (rest : List Token) → Begins fixed.Semicolon ts t rest → n ≤ 128 →

@@ -11,7 +11,7 @@ use Rattle.pk_ast.specs.declared.expressions.Expression.{Expression}
 use Rattle.pk_ast.specs.declared.expressions.Expression.TheVariants.{Name, Call', Index', Constant, Character, Parenthesized', Postfix', Prefix', Unary', Cast', Binary', Conditional', Assignment', Comma'}
 use Rattle.pk_ast.specs.declared.statements.BlockItem.{BlockItem}
 use Rattle.pk_ast.specs.Trees.{ExpressionTree, name, DeclarationTree, ForStartTree, StatementTree, block, label, case, default, if_then, if_else, switch, while, do_while, for_loop, expression_statement, ItemTrees, no_items, declaration_then, statement_then}
-use Rattle.pk_ast.specs.Lists.{append_items}
+use Rattle.pk_ast.specs.Lists.{append_items, one}
 use Rattle.pk_ast.specs.Views.{expression_tree, item_trees}
 use Rattle.pk_ast.proofs.ListLemmas.{append_items-none, append_items_assoc, item_trees-push}
 use Rattle.pk_grammar.specs.declared.failure.ParseError.{ParseError}
@@ -25,10 +25,10 @@ use Rattle.pk_grammar.specs.declared.signs.Operator.{Operator}
 use Rattle.pk_grammar.specs.declared.signs.Operator.TheVariants as operator
 use Rattle.pk_grammar.specs.declared.signs.StatementStart.{StatementStart}
 use Rattle.pk_grammar.specs.declared.signs.StatementStart.TheVariants as first
-use Rattle.pk_grammar.specs.Signs.{is_fixed, operand_start, operator_of, specifier_word, statement_start}
-use Rattle.pk_grammar.specs.States.{Context, OpenBlock, function_block, inner_block, Outer, in_block, in_label, in_case, in_default, in_if, in_else, in_switch, in_while, in_do, in_for, in_a_block, Purpose, as_statement, as_label, as_test, as_last_test, as_whole, State, after_specifiers, block_item, at_statement, after_statement, test_open, do_open, for_open, for_first, default_colon, statement_end, operand, complete}
-use Rattle.pk_grammar.specs.Steps.{taken, refused, wanted, reduced, go_on, begin_operand, labelled, tested, one_more_statement, one_more_declaration, block_nesting, with_statement, with_declaration, begin_statement, declaration_or_statement, end_block, resume, step}
-use Rattle.pk_grammar.specs.Running.{first_of_all, run, Fails}
+use Rattle.pk_grammar.specs.Machine.Signs.{is_fixed, operand_start, operator_of, specifier_word, statement_start}
+use Rattle.pk_grammar.specs.Machine.States.{Context, OpenBlock, function_block, inner_block, Outer, in_block, in_label, in_case, in_default, in_if, in_else, in_switch, in_while, in_do, in_for, in_a_block, Purpose, as_statement, as_label, as_test, as_last_test, as_whole, State, after_specifiers, block_item, at_statement, after_statement, test_open, do_open, for_open, for_first, default_colon, statement_end, operand, complete}
+use Rattle.pk_grammar.specs.Machine.Steps.{taken, refused, wanted, reduced, go_on, begin_operand, labelled, tested, one_more_statement, one_more_declaration, block_nesting, with_statement, with_declaration, begin_statement, declaration_or_statement, end_block, resume, step}
+use Rattle.pk_grammar.specs.Machine.Running.{first_of_all, run, Fails}
 use Rattle.pk_expression.specs.Parsing.{Begins, BeginsWithWord, follows, EndsAt, UpTo, Reads, Refuses}
 use Rattle.pk_grammar.proofs.CompleteSigns.{strength_least}
 use Rattle.pk_grammar.proofs.CompleteOperands.{same_false, same_true}
@@ -385,10 +385,10 @@ module _ (end : Token) (b : OpenBlock) (items : List BlockItem) (ts : List Token
         (ap (λ q. declaration_or_statement c t q) w ∙ same_false (is_fixed fixed.CloseBrace t.kind) _ _ f ∙ ap (λ q. step (at_statement q (in_block c)) t) (nesting_with_items b (item_trees items) ∙ n))
 
     pub run_item_word : (word : Specifier) (rest : List Token) → BeginsWithWord ts word rest → inside ≤ 128 →
-        run end (block_item (with_items b (item_trees items))) ts ≡ run end (after_specifiers (in_a_block (with_items b (item_trees items))) (word ∷ [])) rest
+        run end (block_item (with_items b (item_trees items))) ts ≡ run end (after_specifiers (in_a_block (with_items b (item_trees items))) (one word)) rest
     run_item_word word rest w h =
         let c = with_items b (item_trees items) in
-        run_word end (block_item c) ts word rest (block_nesting c) (λ q. after_specifiers (in_a_block c) (q ∷ [])) w (λ t s e. ap (λ q. declaration_or_statement c t q) e)
+        run_word end (block_item c) ts word rest (block_nesting c) (λ q. after_specifiers (in_a_block c) (one q)) w (λ t s e. ap (λ q. declaration_or_statement c t q) e)
         (subst (λ q. q ≤ 128) (sym (nesting_with_items b (item_trees items) ∙ n)) h)
 
   module _ (item : BlockItem) (more : List BlockItem) (grown : more ≡ items ++ item ∷ []) where

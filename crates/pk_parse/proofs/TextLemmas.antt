@@ -6,9 +6,9 @@ use Rattle.pk_ast.specs.Trees.{ExternalTree}
 use Rattle.pk_constructs.specs.Constructs.{IsSupported}
 use Rattle.pk_grammar.specs.declared.failure.ParseError.{ParseError}
 use Rattle.pk_grammar.specs.declared.failure.ParseError.TheVariants.{Unsupported, Syntax, Nesting, Memory}
-use Rattle.pk_grammar.specs.States.{top}
+use Rattle.pk_grammar.specs.Machine.States.{top}
 use Rattle.pk_grammar.specs.Outcomes.{IsEnded}
-use Rattle.pk_grammar.specs.Running.{trees, run, Fails}
+use Rattle.pk_grammar.specs.Machine.Running.{trees, run, Fails}
 use Rattle.pk_grammar.proofs.OutcomeLemmas.{parsed_so, syntax_so, nesting_so, only_answer}
 use Rattle.pk_parse.specs.Refusals.{IsAccepted, IsRefused}
 

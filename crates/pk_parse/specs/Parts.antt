@@ -1,18 +1,18 @@
 -- The parts of declarations, statements and external definitions: in which states they begin, and to which they lead.
-use Rattle.std.specs.Prelude.{◌≡◌, ℕ, ◌+◌, List, [], ◌∷◌, ◌++◌, Option, Some, None, true, false}
+use Rattle.std.specs.Prelude.{◌≡◌, ℕ, ◌+◌, List, [], ◌∷◌, ◌++◌, Option, Some, None, Bool, true, false}
 use Rattle.pk_ctypes.specs.declared.places.Pos.{Pos}
 use Rattle.pk_lex.specs.declared.token.Token.{Token}
 use Rattle.pk_ast.specs.declared.expressions.Identifier.{Identifier}
 use Rattle.pk_ast.specs.declared.units.Storage.{Storage}
 use Rattle.pk_ast.specs.Lists.{append_items}
-use Rattle.pk_ast.specs.Trees.{ExpressionTree, DeclaratorTree, block, ItemTrees, no_items, BlockTree, ParameterTree, ExternalTree, function}
+use Rattle.pk_ast.specs.Trees.{OneOrMore, ExpressionTree, ExpressionTrees, braced, DeclaratorTree, block, ItemTrees, no_items, BlockTree, ParameterTree, ExternalTree, function}
 use Rattle.pk_grammar.specs.declared.signs.Fixed.{Fixed}
 use Rattle.pk_grammar.specs.declared.signs.Fixed.TheVariants as fixed
 use Rattle.pk_grammar.specs.Grammar.{any_expression}
-use Rattle.pk_grammar.specs.Signs.{is_fixed, specifier_word}
-use Rattle.pk_grammar.specs.States.{Head, OpenBlock, function_block, inner_block, Site, in_a_block, in_a_for, outside, Declaring, Purpose, as_whole, State, top, after_storage, parameter_specifiers, parameter_name, after_statement, operand}
-use Rattle.pk_grammar.specs.Steps.{refused, taken, wanted, site_nesting, whole_declaration, declared_at, open_parameters, purpose_level, end_purpose, step}
-use Rattle.pk_grammar.specs.Running.{first_of_all}
+use Rattle.pk_grammar.specs.Machine.Signs.{is_fixed, specifier_word}
+use Rattle.pk_grammar.specs.Machine.States.{Head, OpenBlock, function_block, inner_block, Site, in_a_block, in_a_for, outside, Declaring, Declared, Naming, Purpose, as_whole, State, top, after_storage, after_item, after_initializer, parameter_specifiers, parameter_name, after_statement, operand}
+use Rattle.pk_grammar.specs.Machine.Steps.{refused, taken, wanted, site_nesting, with_declarator, with_initializer, whole_declaration, declared_at, open_parameters, purpose_level, end_purpose, step}
+use Rattle.pk_grammar.specs.Machine.Running.{first_of_all}
 use Rattle.pk_expression.specs.Parsing.{EndsAt, UpTo, Reads}
 
 -- A declaration at this nesting, of which a name was read; where a `(` follows, it isn't the name of a function.
@@ -26,11 +26,23 @@ IsInner (in_a_block b) = Unit {0}
 IsInner (in_a_for n at o) = Unit {0}
 IsInner (outside before s) = ⊥
 
-abbrev pub with_declarators : Declaring → List DeclaratorTree → Declaring
-with_declarators d more = record { site = d.site; specifiers = d.specifiers; declarators = d.declarators ++ more }
+abbrev pub with_declarators : Declared → List DeclaratorTree → Declared
+with_declarators d more = record { site = d.site; specifiers = d.specifiers; declarators = record { first = d.declarators.first; more = d.declarators.more ++ more } }
 
-abbrev pub after_declaration : Declaring → State
+abbrev pub with_all : Declaring → OneOrMore DeclaratorTree → Declared
+with_all d all = with_declarators (with_declarator d all.first) all.more
+
+abbrev pub after_declaration : Declared → State
 after_declaration d = declared_at d.site (whole_declaration d)
+
+-- behind an item of a braced list: another one is to come, or the list has ended
+abbrev pub item_state : Bool → Naming → Pos → ExpressionTree → ExpressionTrees → State
+item_state true d at e es = after_item d at e es
+item_state false d at e es = after_initializer (with_initializer d (Some (braced at e es)))
+
+-- an item comes
+abbrev pub GoesOn : Token → Bool → List Token → Type 0
+GoesOn end another ts = another ≡ true → is_fixed fixed.CloseBrace (first_of_all end ts).kind ≡ false
 
 -- No expression before this token, or one that ends somewhere
 abbrev pub IsOptional : Token → ℕ → Fixed → List Token → Option ExpressionTree → List Token → Type 0

@@ -1,17 +1,20 @@
 // Declarations.
 
-ghost use Rattle.std.specs.Prelude.{◌≡◌, ◌<◌, ◌≤◌, ◌∷◌, [], length, MatchResult, option_map};
+ghost use Rattle.std.specs.Prelude.{◌≡◌, ◌<◌, ◌≤◌, length, MatchResult, option_map, false};
 ghost use Rattle.pk_ctypes.specs.declared.places.Pos.{Pos};
 ghost use Rattle.pk_ast.specs.declared.expressions.Identifier.{Identifier};
+ghost use Rattle.pk_ast.specs.Lists.{one};
 ghost use Rattle.pk_ast.specs.Trees as tree;
-ghost use Rattle.pk_ast.specs.Views.{expression_tree, expression_trees, initializer_tree, declarator_tree, declarator_trees, declaration_tree};
+ghost use Rattle.pk_ast.specs.Views.{expression_tree, expression_trees, initializer_tree, declarator_tree, declarator_trees, declarators_tree, declaration_tree};
 ghost use Rattle.pk_grammar.specs.Outcomes.{nesting_limit};
-ghost use Rattle.pk_grammar.specs.Running.{run, Fails};
-ghost use Rattle.pk_parse.specs.Parts.{CanDeclare, IsInner, with_declarators, after_declaration};
-ghost use Rattle.pk_grammar.specs.States as states;
-ghost use Rattle.pk_grammar.specs.Steps as steps;
+ghost use Rattle.pk_grammar.specs.Machine.Running.{run, Fails};
+ghost use Rattle.pk_parse.specs.Parts.{CanDeclare, IsInner, with_declarators, with_all, after_declaration, item_state, GoesOn};
+ghost use Rattle.pk_grammar.specs.Machine.States as states;
+ghost use Rattle.pk_grammar.specs.Machine.Steps as steps;
 
-use pk_ast::{Declaration, Declarator, Expression, Identifier, Initializer, Specifier};
+use pk_ast::{
+    Declaration, Declarator, Declarators, Expression, Identifier, Initializer, Specifier,
+};
 use pk_expression::{Parser, identifier, nested};
 use pk_grammar::{Fixed, ParseError};
 use pk_lex::Token;
@@ -36,30 +39,52 @@ fn length<'a>(
     Ok((Some(length), last))
 }
 
-// The items of a braced list, after the `{`, and the `}`.
-fn items<'a>(
+// An item of a braced list, and whether another one comes. Otherwise the `}` was read too.
+fn item<'a>(
     parser: Parser,
     tokens: &'a [Token],
     outside: u32,
-) -> Result<(Vec<Expression>, &'a [Token]), ParseError>
+) -> Result<(Expression, bool, &'a [Token]), ParseError>
     requires { outside ≤ nesting_limit }
     ensures { MatchResult result
-        (λ r. ((d : states.Naming) (at : Pos) → steps.naming_nesting d ≡ outside → run parser.end (states.after_brace d at) tokens.now ≡ run parser.end (states.after_initializer (steps.with_initializer d (Some (tree.braced at (expression_trees r.0.items))))) r.1.now) × (length r.1.now ≤ length tokens.now))
-        (λ x. (d : states.Naming) (at : Pos) → steps.naming_nesting d ≡ outside → Fails (run parser.end (states.after_brace d at) tokens.now) x) }
+        (λ r. ((d : states.Naming) (at : Pos) (es : tree.ExpressionTrees) → steps.naming_nesting d ≡ outside → run parser.end (states.operand outside (states.as_whole (states.as_item d at es))) tokens.now ≡ run parser.end (item_state r.1 d at (steps.first_item es (expression_tree r.0)) (steps.more_items es (expression_tree r.0))) r.2.now) × GoesOn parser.end r.1 r.2.now × (length r.2.now < length tokens.now))
+        (λ x. (d : states.Naming) (at : Pos) (es : tree.ExpressionTrees) → steps.naming_nesting d ≡ outside → Fails (run parser.end (states.operand outside (states.as_whole (states.as_item d at es))) tokens.now) x) }
+{
+    let (item, after) = parser.assignment(tokens, outside)?;
+    if let Some((_, last)) = parser.take(after, Fixed::CloseBrace) {
+        return Ok((item, false, last));
+    }
+    let (_, next) = parser.expect(after, Fixed::Comma)?;
+    if let Some((_, last)) = parser.take(next, Fixed::CloseBrace) {
+        return Ok((item, false, last));
+    }
+    Ok((item, true, next))
+}
+
+// The items of a braced list after those that were read, and the `}`.
+fn more_items<'a>(
+    parser: Parser,
+    another: bool,
+    tokens: &'a [Token],
+    outside: u32,
+) -> Result<(Vec<Expression>, &'a [Token]), ParseError>
+    requires limit { outside ≤ nesting_limit }
+    requires item { GoesOn parser.end another tokens.now }
+    ensures { MatchResult result
+        (λ r. ((d : states.Naming) (at : Pos) (e : tree.ExpressionTree) → steps.naming_nesting d ≡ outside → run parser.end (item_state another d at e tree.no_expressions) tokens.now ≡ run parser.end (item_state false d at e (expression_trees r.0.items)) r.1.now) × (length r.1.now ≤ length tokens.now))
+        (λ x. (d : states.Naming) (at : Pos) (e : tree.ExpressionTree) → steps.naming_nesting d ≡ outside → Fails (run parser.end (item_state another d at e tree.no_expressions) tokens.now) x) }
 {
     let mut list = Vec::new(parser.alloc);
+    let mut another = another;
     let mut rest = tokens;
     loop {
-        let (item, after) = parser.assignment(rest, outside)?;
+        if !another {
+            return Ok((list, rest));
+        }
+        let (item, goes_on, after) = item(parser, rest, outside)?;
         list.push(item)?;
-        if let Some((_, last)) = parser.take(after, Fixed::CloseBrace) {
-            return Ok((list, last));
-        }
-        let (_, next) = parser.expect(after, Fixed::Comma)?;
-        if let Some((_, last)) = parser.take(next, Fixed::CloseBrace) {
-            return Ok((list, last));
-        }
-        rest = next;
+        another = goes_on;
+        rest = after;
     }
 }
 
@@ -75,8 +100,9 @@ fn value<'a>(
         (λ x. (d : states.Naming) → steps.naming_nesting d ≡ outside → Fails (run parser.end (states.after_assign d) tokens.now) x) }
 {
     if let Some((open, after)) = parser.take(tokens, Fixed::OpenBrace) {
-        let (list, rest) = items(parser, after, outside)?;
-        return Ok((Initializer::braced(open.at, list), rest));
+        let (first, another, following) = item(parser, after, outside)?;
+        let (more, rest) = more_items(parser, another, following, outside)?;
+        return Ok((Initializer::braced(open.at, first, more), rest));
     }
     let (value, rest) = parser.assignment(tokens, outside)?;
     Ok((Initializer::single(value), rest))
@@ -109,12 +135,38 @@ fn declarator<'a>(
 ) -> Result<(Declarator, &'a [Token]), ParseError>
     requires { outside ≤ nesting_limit }
     ensures { MatchResult result
-        (λ r. ((d : states.Declaring) → CanDeclare parser.end d name outside tokens.now → run parser.end (states.after_name d name) tokens.now ≡ run parser.end (states.after_initializer (with_declarators d (declarator_tree r.0 ∷ []))) r.1.now) × (length r.1.now ≤ length tokens.now))
+        (λ r. ((d : states.Declaring) → CanDeclare parser.end d name outside tokens.now → run parser.end (states.after_name d name) tokens.now ≡ run parser.end (states.after_initializer (steps.with_declarator d (declarator_tree r.0))) r.1.now) × (length r.1.now ≤ length tokens.now))
         (λ x. (d : states.Declaring) → CanDeclare parser.end d name outside tokens.now → Fails (run parser.end (states.after_name d name) tokens.now) x) }
 {
     let (length, after) = length(parser, tokens, outside)?;
     let (initializer, rest) = initializer(parser, after, outside)?;
     Ok((Declarator::new(name, length, initializer), rest))
+}
+
+// The objects of a declaration after those that were read, and the `;`.
+fn more_declarators<'a>(
+    parser: Parser,
+    tokens: &'a [Token],
+    outside: u32,
+) -> Result<(Vec<Declarator>, &'a [Token]), ParseError>
+    requires { outside ≤ nesting_limit }
+    ensures { MatchResult result
+        (λ r. ((d : states.Declared) → steps.site_nesting d.site ≡ outside → run parser.end (states.after_initializer d) tokens.now ≡ run parser.end (after_declaration (with_declarators d (declarator_trees r.0.items))) r.1.now) × (length r.1.now < length tokens.now))
+        (λ x. (d : states.Declared) → steps.site_nesting d.site ≡ outside → Fails (run parser.end (states.after_initializer d) tokens.now) x) }
+{
+    let mut list = Vec::new(parser.alloc);
+    let mut rest = tokens;
+    loop {
+        if let Some((_, last)) = parser.take(rest, Fixed::Semicolon) {
+            return Ok((list, last));
+        }
+        let (_, next) = parser.expect(rest, Fixed::Comma)?;
+        let (token, following) = parser.expect(next, Fixed::Name)?;
+        let name = identifier(token);
+        let (declarator, after) = declarator(parser, name, following, outside)?;
+        list.push(declarator)?;
+        rest = after;
+    }
 }
 
 /// The objects of a declaration, of which the first one's name was read, and the `;`.
@@ -123,26 +175,15 @@ pub fn declarators<'a>(
     name: Identifier,
     tokens: &'a [Token],
     outside: u32,
-) -> Result<(Vec<Declarator>, &'a [Token]), ParseError>
+) -> Result<(Declarators, &'a [Token]), ParseError>
     requires { outside ≤ nesting_limit }
     ensures { MatchResult result
-        (λ r. ((d : states.Declaring) → CanDeclare parser.end d name outside tokens.now → run parser.end (states.after_name d name) tokens.now ≡ run parser.end (after_declaration (with_declarators d (declarator_trees r.0.items))) r.1.now) × (length r.1.now < length tokens.now))
+        (λ r. ((d : states.Declaring) → CanDeclare parser.end d name outside tokens.now → run parser.end (states.after_name d name) tokens.now ≡ run parser.end (after_declaration (with_all d (declarators_tree r.0))) r.1.now) × (length r.1.now < length tokens.now))
         (λ x. (d : states.Declaring) → CanDeclare parser.end d name outside tokens.now → Fails (run parser.end (states.after_name d name) tokens.now) x) }
 {
-    let mut list = Vec::new(parser.alloc);
-    let mut name = name;
-    let mut rest = tokens;
-    loop {
-        let (declarator, after) = declarator(parser, name, rest, outside)?;
-        list.push(declarator)?;
-        if let Some((_, last)) = parser.take(after, Fixed::Semicolon) {
-            return Ok((list, last));
-        }
-        let (_, next) = parser.expect(after, Fixed::Comma)?;
-        let (token, following) = parser.expect(next, Fixed::Name)?;
-        name = identifier(token);
-        rest = following;
-    }
+    let (first, after) = declarator(parser, name, tokens, outside)?;
+    let (more, last) = more_declarators(parser, after, outside)?;
+    Ok((Declarators { first, more }, last))
 }
 
 /// A declaration, of which the first word was read.
@@ -154,8 +195,8 @@ pub fn declaration<'a>(
 ) -> Result<(Declaration, &'a [Token]), ParseError>
     requires { outside ≤ nesting_limit }
     ensures { MatchResult result
-        (λ r. ((s : states.Site) → IsInner s → steps.site_nesting s ≡ outside → run parser.end (states.after_specifiers s (first ∷ [])) tokens.now ≡ run parser.end (steps.declared_at s (declaration_tree r.0)) r.1.now) × (length r.1.now < length tokens.now))
-        (λ x. (s : states.Site) → IsInner s → steps.site_nesting s ≡ outside → Fails (run parser.end (states.after_specifiers s (first ∷ [])) tokens.now) x) }
+        (λ r. ((s : states.Site) → IsInner s → steps.site_nesting s ≡ outside → run parser.end (states.after_specifiers s (one first)) tokens.now ≡ run parser.end (steps.declared_at s (declaration_tree r.0)) r.1.now) × (length r.1.now < length tokens.now))
+        (λ x. (s : states.Site) → IsInner s → steps.site_nesting s ≡ outside → Fails (run parser.end (states.after_specifiers s (one first)) tokens.now) x) }
 {
     let (words, rest) = parser.specifiers(first, tokens)?;
     let (token, after) = parser.expect(rest, Fixed::Name)?;

@@ -1,12 +1,13 @@
 // External definitions.
 
 ghost use Rattle.std.specs.Prelude.{◌≡◌, ◌≢◌, ◌<◌, ◌≤◌, ◌↔◌, List, [], ◌∷◌, ◌++◌, IsTrue, length, MatchOption, MatchResult, option_map};
+ghost use Rattle.pk_ast.specs.Lists.{one};
 ghost use Rattle.pk_ast.specs.Trees as tree;
 ghost use Rattle.pk_ast.specs.Views.{block_tree, parameter_tree, parameter_trees, external_tree, external_trees};
 ghost use Rattle.pk_grammar.specs.Grammar.{IsVoidAlone};
-ghost use Rattle.pk_grammar.specs.Running.{trees, first_of_all, run, Fails};
-ghost use Rattle.pk_grammar.specs.Signs as signs;
-ghost use Rattle.pk_grammar.specs.States as states;
+ghost use Rattle.pk_grammar.specs.Machine.Running.{trees, first_of_all, run, Fails};
+ghost use Rattle.pk_grammar.specs.Machine.Signs as signs;
+ghost use Rattle.pk_grammar.specs.Machine.States as states;
 ghost use Rattle.pk_parse.specs.Parts.{after_parameter, EndsParameter, after_function, storage_state};
 
 use crate::declarations::declarators;
@@ -20,7 +21,7 @@ use pk_lex::{Kind, Token};
 fn is_void_alone(p: &Parameter) -> bool
     ensures { IsTrue result ↔ IsVoidAlone (parameter_tree p.now) }
 {
-    p.name.is_none() && p.specifiers.len() == 1 && is_void_word(p.specifiers[0].word)
+    p.name.is_none() && p.specifiers.more.is_empty() && is_void_word(p.specifiers.first.word)
 }
 
 // A parameter, of which the first word was read.
@@ -30,8 +31,8 @@ fn parameter<'a>(
     tokens: &'a [Token],
 ) -> Result<(Parameter, &'a [Token]), ParseError>
     ensures { MatchResult result
-        (λ r. ((h : states.Head) (ps : List tree.ParameterTree) → run parser.end (states.parameter_specifiers h ps (first ∷ [])) tokens.now ≡ run parser.end (after_parameter h ps (parameter_tree r.0)) r.1.now) × EndsParameter parser.end (parameter_tree r.0).name r.1.now × (length r.1.now ≤ length tokens.now))
-        (λ x. (h : states.Head) (ps : List tree.ParameterTree) → Fails (run parser.end (states.parameter_specifiers h ps (first ∷ [])) tokens.now) x) }
+        (λ r. ((h : states.Head) (ps : List tree.ParameterTree) → run parser.end (states.parameter_specifiers h ps (one first)) tokens.now ≡ run parser.end (after_parameter h ps (parameter_tree r.0)) r.1.now) × EndsParameter parser.end (parameter_tree r.0).name r.1.now × (length r.1.now ≤ length tokens.now))
+        (λ x. (h : states.Head) (ps : List tree.ParameterTree) → Fails (run parser.end (states.parameter_specifiers h ps (one first)) tokens.now) x) }
 {
     let (words, rest) = parser.specifiers(first, tokens)?;
     match parser.take(rest, Fixed::Name) {

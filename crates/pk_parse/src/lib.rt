@@ -5,8 +5,6 @@ mod declarations;
 mod externals;
 mod laws;
 mod statements;
-#[cfg(test)]
-mod tests;
 mod texts;
 
 pub use laws::{answers_are_determined, tokens_are_ended};

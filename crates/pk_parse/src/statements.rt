@@ -6,16 +6,16 @@ ghost use Rattle.pk_ast.specs.Trees as tree;
 ghost use Rattle.pk_ast.specs.Views.{expression_tree, for_start_tree, statement_tree, item_trees, block_tree};
 ghost use Rattle.pk_grammar.specs.Grammar.{any_expression};
 ghost use Rattle.pk_grammar.specs.Outcomes.{nesting_limit};
-ghost use Rattle.pk_grammar.specs.Running.{first_of_all, run, Fails};
+ghost use Rattle.pk_grammar.specs.Machine.Running.{first_of_all, run, Fails};
 ghost use Rattle.pk_expression.specs.Parsing.{UpTo, Refuses};
 ghost use Rattle.pk_parse.specs.Parts.{IsOptional, IsTest, with_items, IsNewBlock, after_block};
-ghost use Rattle.pk_grammar.specs.Signs as signs;
-ghost use Rattle.pk_grammar.specs.Signs.{is_fixed};
-ghost use Rattle.pk_grammar.specs.States as states;
-ghost use Rattle.pk_grammar.specs.Steps as steps;
+ghost use Rattle.pk_grammar.specs.Machine.Signs as signs;
+ghost use Rattle.pk_grammar.specs.Machine.Signs.{is_fixed};
+ghost use Rattle.pk_grammar.specs.Machine.States as states;
+ghost use Rattle.pk_grammar.specs.Machine.Steps as steps;
 
 use crate::declarations::declaration;
-use pk_ast::{Block, BlockItem, Expression, ForStart, Statement};
+use pk_ast::{Block, BlockItem, Expression, ForHead, ForStart, Statement};
 use pk_ctypes::Pos;
 use pk_expression::{Parser, identifier, nested};
 use pk_grammar::{
@@ -103,25 +103,22 @@ fn for_head<'a>(
     parser: Parser,
     tokens: &'a [Token],
     inside: u32,
-) -> Result<
-    (
-        ForStart,
-        Option<Expression>,
-        Option<Expression>,
-        &'a [Token],
-    ),
-    ParseError,
->
+) -> Result<(Box<ForHead>, &'a [Token]), ParseError>
     requires { inside ≤ nesting_limit }
     ensures { MatchResult result
-        (λ r. ((n : ℕ) (at : Pos) (o : states.Outer) → inside ≡ n + 1 → run parser.end (states.for_open n at o) tokens.now ≡ run parser.end (states.at_statement inside (states.in_for n at (for_start_tree r.0) (option_map expression_tree r.1) (option_map expression_tree r.2) o)) r.3.now) × (length r.3.now ≤ length tokens.now))
+        (λ r. ((n : ℕ) (at : Pos) (o : states.Outer) → inside ≡ n + 1 → run parser.end (states.for_open n at o) tokens.now ≡ run parser.end (states.at_statement inside (states.in_for n at (for_start_tree r.0.value.start) (option_map expression_tree r.0.value.condition) (option_map expression_tree r.0.value.step) o)) r.1.now) × (length r.1.now ≤ length tokens.now))
         (λ x. (n : ℕ) (at : Pos) (o : states.Outer) → inside ≡ n + 1 → Fails (run parser.end (states.for_open n at o) tokens.now) x) }
 {
     let (open, after) = parser.expect(tokens, Fixed::OpenParenthesis)?;
     let head = nested(open.at, inside, 1)?;
     let (start, second) = for_start(parser, after, head)?;
-    let (test, step, last) = for_tests(parser, second, head)?;
-    Ok((start, test, step, last))
+    let (condition, step, last) = for_tests(parser, second, head)?;
+    let head = ForHead {
+        start,
+        condition,
+        step,
+    };
+    Ok((Box::new(parser.alloc, head)?, last))
 }
 
 // A `goto`, after that word.
@@ -247,6 +244,7 @@ fn choice<'a>(
         let whole = Statement::if_then(parser.alloc, at, test, yes)?;
         return Ok((whole, rest));
     };
+    let yes = Box::new(parser.alloc, yes)?;
     let branch = nested(other.at, inside, 1)?;
     let (no, last) = statement(parser, next, branch)?;
     let whole = Statement::if_else(parser.alloc, at, test, yes, no)?;
@@ -311,9 +309,9 @@ fn for_loop<'a>(
         (λ r. ((n : ℕ) (o : states.Outer) → inside ≡ n + 1 → run parser.end (states.for_open n at o) tokens.now ≡ run parser.end (states.after_statement (statement_tree r.0) o) r.1.now) × (length r.1.now ≤ length tokens.now))
         (λ x. (n : ℕ) (o : states.Outer) → inside ≡ n + 1 → Fails (run parser.end (states.for_open n at o) tokens.now) x) }
 {
-    let (start, test, step, rest) = for_head(parser, tokens, inside)?;
+    let (head, rest) = for_head(parser, tokens, inside)?;
     let (body, last) = statement(parser, rest, inside)?;
-    let whole = Statement::for_loop(parser.alloc, at, start, test, step, body)?;
+    let whole = Statement::for_loop(parser.alloc, at, head, body)?;
     Ok((whole, last))
 }
 
@@ -338,7 +336,7 @@ fn block_items<'a>(
         }
         if let Some((word, after)) = parser.specifier(rest) {
             let (declaration, next) = declaration(parser, word, after, inside)?;
-            list.push(BlockItem::declaration(declaration))?;
+            list.push(BlockItem::declaration(parser.alloc, declaration)?)?;
             rest = next;
         } else {
             let (statement, next) = statement(parser, rest, inside)?;

@@ -1,5 +1,6 @@
 pub mod Levels
 pub mod PlanLemmas
-mod NestedLemmas
 pub mod DigraphLemmas
+pub mod Drawing
 pub mod NestPlaceLemmas
+pub mod Shapes

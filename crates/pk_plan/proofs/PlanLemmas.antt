@@ -1,16 +1,16 @@
 -- What follows from the axioms of a plan for its lists.
-use Rattle.std.proofs.Common.{◌≡◌, ◌≢◌, ℕ, zero, suc, ◌<◌, ◌≤◌, ◌+◌, ◌-◌, min, ◌⊎◌, inl, inr, List, [], ◌∷◌, length, get_or, take, drop, map, arith, refl, ap, sym, subst, ◌∙◌, add-one, All, Contains, IsTrue, ◌↔◌, ◌&&◌, true}
+use Rattle.std.proofs.Common.{◌≡◌, ◌≢◌, ℕ, zero, suc, ◌<◌, ◌≤◌, ◌+◌, ◌-◌, ◌⊎◌, inl, inr, List, [], ◌∷◌, length, get_or, drop, map, arith, ap, sym, subst, ◌∙◌, add-one, Contains, IsTrue, ◌↔◌, ◌&&◌, true}
 use Rattle.std.proofs.Math.Dec.{leb, ltb}
 use Rattle.std.specs.List.{range_with_len, AllPairs}
 use Rattle.std.specs.List.Sorted.{IsStrictlyIncreasing}
 use Rattle.std.proofs.lemmas.Bool.{cases_lt}
 use Rattle.std.proofs.lemmas.Bool.Decides.{eqb_tells, nat_tests}
-use Rattle.std.proofs.lemmas.List.{get_or_past, get_or_default, get_or-map, get_or-take, get_or-drop, length-take, length-drop, length-map}
+use Rattle.std.proofs.lemmas.List.{get_or_default, get_or-map, get_or-take, get_or-drop, length-take, length-drop, length-map}
 use Rattle.std.proofs.lemmas.List.FromFn.{get_or-range_with_len}
 use Rattle.std.proofs.lemmas.List.Kept.{AllPairs-from_increasing}
 use Rattle.std.proofs.lemmas.List.Elements.{Contains-get_or, All-contains}
 use Rattle.pk_plan.specs.declared.components.Component.{Component}
-use Rattle.pk_plan.specs.Plans.{PlanView, end_of, predecessors_of, successors_of, Constrains, Precedes, One, More, place_of, members_of, Inside, is_inside}
+use Rattle.pk_plan.specs.Plans.{PlanView, predecessors_of, Constrains, Precedes, One, More, place_of, members_of, Inside, is_inside}
 use Rattle.pk_plan.specs.Axioms.{Axioms}
 
 -- each number of a rising list is at least its place

@@ -1,9 +1,9 @@
 -- What every plan meets (after S. K. Kim, A. J. Venet, A. V. Thakur, Deterministic parallel fixpoint computation, 2020).
-use Rattle.std.specs.Prelude.{◌≡◌, ◌≢◌, ℕ, ◌+◌, ◌<◌, ◌⊎◌, List, length, map, slice_index, Contains, All}
+use Rattle.std.specs.Prelude.{◌≡◌, ◌≢◌, ℕ, ◌+◌, ◌<◌, ◌⊎◌, length, map, slice_index, Contains, All}
 use Rattle.std.specs.List.Sorted.{IsStrictlyIncreasing}
 use Rattle.std.specs.List.{range_with_len}
 use Rattle.pk_plan.specs.declared.components.Component.{Component}
-use Rattle.pk_plan.specs.Plans.{PlanView, end_of, predecessors_of, successors_of, Constrains, Precedes, place_of, Inside}
+use Rattle.pk_plan.specs.Plans.{PlanView, end_of, predecessors_of, Constrains, Precedes, place_of, Inside}
 
 pub record Axioms (p : PlanView) : Type 0 where
   -- the points, an exit for each component in the order of their heads, and END

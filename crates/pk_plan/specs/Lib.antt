@@ -2,8 +2,9 @@ pub mod Order
 pub mod OrderView
 pub mod Plans
 pub mod Axioms
-pub mod Nested
 pub mod Digraphs
+pub mod Reverses
 pub mod Nests
 pub mod NestPlaces
 pub mod NestCode
+pub mod Shape

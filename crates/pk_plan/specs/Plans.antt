@@ -1,5 +1,5 @@
 -- What a plan stands for: elements, the constraints among them, and their components.
-use Rattle.std.specs.Prelude.{◌≡◌, ℕ, ◌+◌, ◌<◌, ◌&&◌, Bool, List, [], length, map, count_by, nat_lt, nat_le, slice_index, slice_index_or, slice_range, Contains}
+use Rattle.std.specs.Prelude.{ℕ, ◌+◌, ◌&&◌, Bool, List, [], length, count_by, nat_lt, nat_le, slice_index, slice_index_or, slice_range, Contains}
 use Rattle.pk_plan.specs.declared.components.Component.{Component}
 
 -- Elements are numbers: first the points, then an exit for each component, last END. The listing has each of them once, in an

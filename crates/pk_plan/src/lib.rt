@@ -3,16 +3,18 @@
 
 mod components;
 mod digraphs;
+mod laws;
 mod nests;
 mod orders;
 mod places;
 mod plans;
-#[cfg(test)]
-mod tests;
+mod reverses;
 
 pub use components::Component;
 pub use digraphs::Digraph;
+pub use laws::shapes_meet;
 pub use nests::{Nest, NestPlace};
 pub use orders::Order;
 pub use places::{Place, Role};
-pub use plans::Plan;
+pub use plans::{Plan, lies_within};
+pub use reverses::reversed;

@@ -1,7 +1,7 @@
 // The places of an order.
 
 /// What an element is at its place. An exit says how many places back the head of its component stands.
-#[derive(Clone, Copy, PartialEq, Eq, Debug)]
+#[derive(Clone, Copy)]
 pub enum Role {
     Vertex,
     Head,
@@ -9,7 +9,7 @@ pub enum Role {
 }
 
 /// A place of an order: an element, and whether it is a vertex, the head of a component or the exit of one.
-#[derive(Clone, Copy, PartialEq, Eq, Debug)]
+#[derive(Clone, Copy)]
 pub struct Place {
     pub element: u32,
     pub role: Role,

@@ -1,6 +1,6 @@
 // A plan: elements, the constraints among them, and their components.
 
-ghost use Rattle.std.specs.Prelude.{◌≡◌, ◌<◌, ◌^◌, ◌↔◌, ◌&&◌, nat_le, nat_lt, IsTrue, Contains};
+ghost use Rattle.std.specs.Prelude.{◌≡◌, ◌<◌, ◌≤◌, ◌^◌, ◌↔◌, ◌&&◌, nat_le, nat_lt, IsTrue, Contains};
 ghost use Rattle.pk_plan.specs.Plans.{plan_of, predecessors_of, successors_of, place_of, members_of, Inside, is_inside, full_count, inner_count};
 ghost use Rattle.pk_plan.specs.Axioms.{Axioms};
 
@@ -161,8 +161,10 @@ impl Plan {
     }
 }
 
-fn lies_within(first: u32, place: u32, end: u32) -> bool
-    ensures { result ≡ (nat_le first place && nat_lt place end) }
+/// Whether a place lies in the stretch from `first` on up to `end`.
+pub fn lies_within(first: u32, place: u32, end: u32) -> bool
+    ensures test { result ≡ (nat_le first place && nat_lt place end) }
+    ensures within { IsTrue result ↔ ((first ≤ place) × (place < end)) }
 {
     first <= place && place < end
 }

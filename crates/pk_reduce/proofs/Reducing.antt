@@ -1,14 +1,19 @@
 -- Reduction keeps exactly the numbers of both, and numbers past 127 bits never matter to it.
-use Rattle.std.specs.Prelude.{◌≡◌, ◌⊎◌, ◌<◌, ◌-◌, ◌^◌, Bool, true, false, if◌then◌else◌, ℤ, pos, ◌+ℤ◌, ◌≤ℤ◌, ◌<ℤ◌, int_lt, unsigned_abs, Option, Some, None, IfSome}
+use Rattle.std.specs.Prelude.{◌≡◌, ◌⊎◌, ◌<◌, ◌-◌, ◌^◌, Bool, true, false, if◌then◌else◌, ℤ, pos, ◌+ℤ◌, ◌-ℤ◌, ◌≤ℤ◌, ◌<ℤ◌, int_lt, unsigned_abs, Option, Some, None, IfSome}
 use Rattle.std.proofs.Common.{arith, ◌∙◌, ap, sym, refl, subst, inl, inr}
 use Rattle.std.proofs.lemmas.Int.{ints, by_lt_z}
 use Rattle.std.proofs.lemmas.Bool.Decides.{nat_tests}
 use Rattle.pk_ctypes.specs.declared.types.IntType.{IntType}
+use Rattle.pk_ctypes.specs.Types.{InType}
 use Rattle.pk_ctypes.proofs.Wrapped.{sized}
-use Rattle.pk_interval.specs.Ranges.{Range, IsIn, single}
-use Rattle.pk_congr.specs.Classes.{Class, IsMember, constant, is_held, held_number, next_up_of, next_down_of}
-use Rattle.pk_congr.specs.Laws.{IsNextUp, IsNextDown}
-use Rattle.pk_congr.proofs.Next.{next_members}
+use Rattle.pk_interval.specs.Ranges.{Range, IsIn, LiesIn, single}
+use Rattle.pk_interval.proofs.Order.{lies_in_type}
+use Rattle.pk_congr.specs.Classes.{Class, IsMember, IsReduced, constant, is_held, held_number, next_up_of, next_down_of}
+use Rattle.pk_congr.specs.Laws.{IsNextUp, IsNextDown, IsOf}
+use Rattle.pk_congr.proofs.Next.{next_members, not_less}
+use Rattle.pk_congr.proofs.Numbers.{two_members}
+use Rattle.pk_congr.proofs.Sound.{constant_is}
+use Rattle.pk_congr.proofs.Widening.{distance}
 use Rattle.pk_reduce.specs.Reduction.{reduced_at, reduced_if, red, IsInBoth, ReductionIsExact}
 
 pub held_small : (o : Option ℤ) → IfSome (held_number o) (λ z. unsigned_abs z < 2 ^ 127)
@@ -63,7 +68,7 @@ record IsFound (r : Range) (c : Class) (p : Range × Class) : Type 0 where
   low : p.0.lo ≡ lo
   high : p.0.hi ≡ hi
   order : lo ≤ℤ hi
-  same : (p.1 ≡ c) ⊎ ((p.1 ≡ constant lo) × (lo ≡ hi))
+  same : ((p.1 ≡ c) × (lo <ℤ hi)) ⊎ ((p.1 ≡ constant lo) × (lo ≡ hi))
 
 at_found : (r : Range) (c : Class) (p : Range × Class) (lo hi : ℤ) → IsNextUp c r.lo lo → IsNextDown c r.hi hi → reduced_at c lo hi ≡ Some p → IsFound r c p
 at_found r c p lo hi u d e = by (int_lt lo hi) (int_lt hi lo) refl refl e
@@ -72,7 +77,7 @@ at_found r c p lo hi u d e = by (int_lt lo hi) (int_lt hi lo) refl refl e
     by true b f g k =
         let q : Range × Class = (record { lo = lo; hi = hi }, c) in
         let is : q ≡ p = cc in
-        record { lo = lo; hi = hi; up = u; down = d; low = ap (λ (v : Range × Class). v.0.lo) (sym is); high = ap (λ (v : Range × Class). v.0.hi) (sym is); order = omega (arith, ints, f); same = inl (ap (λ (v : Range × Class). v.1) (sym is)) }
+        record { lo = lo; hi = hi; up = u; down = d; low = ap (λ (v : Range × Class). v.0.lo) (sym is); high = ap (λ (v : Range × Class). v.0.hi) (sym is); order = omega (arith, ints, f); same = inl (ap (λ (v : Range × Class). v.1) (sym is), omega (arith, ints, f)) }
     by false true f g k = absurd (cc)
     by false false f g k =
         let q : Range × Class = (single lo, constant lo) in
@@ -102,7 +107,7 @@ all r c p x m e h =
     record {
       range = record { from = omega (arith, ints, low, f.low); to = omega (arith, ints, high, f.high) };
       class = elim f.same [
-        | inl s ↦ subst (λ (d : Class). IsMember d x) (sym s) h.class
+        | inl s ↦ subst (λ (d : Class). IsMember d x) (sym s.0) h.class
         | inr s ↦ let one : f.lo ≡ x = omega (arith, ints, low, high, s.1) in subst (λ (d : Class). IsMember d x) (sym s.0) (subst (IsMember (constant f.lo)) one (own_member f.lo))
       ];
     }
@@ -113,7 +118,7 @@ only r c p x m e h =
     record {
       range = record { from = omega (arith, ints, f.up.above, f.low, h.range.from); to = omega (arith, ints, f.down.below, f.high, h.range.to) };
       class = elim f.same [
-        | inl s ↦ subst (λ (d : Class). IsMember d x) s h.class
+        | inl s ↦ subst (λ (d : Class). IsMember d x) s.0 h.class
         | inr s ↦
             let is : x ≡ f.lo = of_constant f.lo x (subst (λ (d : Class). IsMember d x) s.0 h.class) in
             subst (IsMember c) (sym is) f.up.member
@@ -142,7 +147,7 @@ least r c p m e =
     record {
       range = record { from = omega (arith, ints); to = omega (arith, ints, f.low, f.high, f.order) };
       class = elim f.same [
-        | inl s ↦ subst (λ (d : Class). IsMember d p.0.lo) (sym s) (subst (IsMember c) (sym f.low) f.up.member)
+        | inl s ↦ subst (λ (d : Class). IsMember d p.0.lo) (sym s.0) (subst (IsMember c) (sym f.low) f.up.member)
         | inr s ↦ subst (λ (d : Class). IsMember d p.0.lo) (sym s.0) (subst (IsMember (constant f.lo)) (sym f.low) (own_member f.lo))
       ];
     }
@@ -153,10 +158,57 @@ greatest r c p m e =
     record {
       range = record { from = omega (arith, ints, f.low, f.high, f.order); to = omega (arith, ints) };
       class = elim f.same [
-        | inl s ↦ subst (λ (d : Class). IsMember d p.0.hi) (sym s) (subst (IsMember c) (sym f.high) f.down.member)
+        | inl s ↦ subst (λ (d : Class). IsMember d p.0.hi) (sym s.0) (subst (IsMember c) (sym f.high) f.down.member)
         | inr s ↦ subst (λ (d : Class). IsMember d p.0.hi) (sym s.0) (subst (IsMember (constant f.lo)) (s.1 ∙ sym f.high) (own_member f.lo))
       ];
     }
 
 pub exact : ReductionIsExact
 exact = record { all = all; only = only; none = none; least = least; greatest = greatest }
+
+-- ---- what is found lies in the range, and its class is one of the type
+
+if_some : {A : Type 0} (P : A → Type 0) (o : Option A) → ((p : A) → o ≡ Some p → P p) → IfSome o P
+if_some P None f = tt
+if_some P (Some p) f = f p refl
+
+lies : (r : Range) (c : Class) (p : Range × Class) → IsFound r c p → LiesIn r p.0
+lies r c p f = record { from = omega (arith, ints, f.up.above, f.low); some = omega (arith, ints, f.low, f.high, f.order); to = omega (arith, ints, f.down.below, f.high) }
+
+pub red_lies : (r : Range) (c : Class) → pos 0 ≤ℤ c.m → IfSome (red r c) (λ p. LiesIn r p.0)
+red_lies r c m = if_some (λ p. LiesIn r p.0) (red r c) (λ p e. lies r c p (found r c p m e))
+
+pub red_inside : (t : IntType) (r : Range) (c : Class) → IsIn t r → pos 0 ≤ℤ c.m → IfSome (red r c) (λ p. IsIn t p.0)
+red_inside t r c i m = if_some (λ p. IsIn t p.0) (red r c) (λ p e. lies_in_type t r p.0 i (lies r c p (found r c p m e)))
+
+constant_of : (t : IntType) (x : ℤ) → InType t x → IsOf t (constant x)
+constant_of t x h =
+    let size = sized t x h in
+    record {
+      reduced = record { from = omega (arith, ints); rest = inl refl; modulus_held = omega arith; rest_held = omega (arith, ints, size.0, size.1) };
+      modulus = omega (arith, ints);
+      constant = λ _. h;
+    }
+
+-- two of its numbers in the type are a modulus or more apart
+class_of_two : (t : IntType) (c : Class) (x y : ℤ) → IsReduced c.m c.r → InType t x → InType t y → IsMember c x → IsMember c y → x <ℤ y → IsOf t c
+class_of_two t c x y reduced h k p q less =
+    let apart = not_less c.m (y -ℤ x) reduced.from (two_members c y x q p) (omega (arith, ints, less)) in
+    let near = distance t y x k h in
+    record {
+      reduced = reduced;
+      modulus = omega (arith, ints, apart, near, less);
+      constant = λ e. subst (InType t) (constant_is c x e p) h;
+    }
+
+class_in : (t : IntType) (r : Range) (c : Class) (p : Range × Class) → IsIn t r → IsReduced c.m c.r → IsFound r c p → IsOf t p.1
+class_in t r c p i reduced f =
+    let low : InType t f.lo = record { from = omega (arith, ints, i.from.from, f.up.above); to = omega (arith, ints, i.to.to, f.order, f.down.below) } in
+    let high : InType t f.hi = record { from = omega (arith, ints, i.from.from, f.up.above, f.order); to = omega (arith, ints, i.to.to, f.down.below) } in
+    elim f.same [
+      | inl s ↦ subst (IsOf t) (sym s.0) (class_of_two t c f.lo f.hi reduced low high f.up.member f.down.member s.1)
+      | inr s ↦ subst (IsOf t) (sym s.0) (constant_of t f.lo low)
+    ]
+
+pub red_class : (t : IntType) (r : Range) (c : Class) → IsIn t r → IsReduced c.m c.r → IfSome (red r c) (λ p. IsOf t p.1)
+red_class t r c i reduced = if_some (λ p. IsOf t p.1) (red r c) (λ p e. class_in t r c p i reduced (found r c p reduced.from e))

@@ -2,7 +2,5 @@
 #![tactic(auto)]
 
 mod reduction;
-#[cfg(test)]
-mod tests;
 
 pub use reduction::{reduce, reduction_law};

@@ -1,7 +1,8 @@
 // An interval and a congruence, each as tight as the other lets it be.
 
 ghost use Rattle.std.specs.Prelude.{◌≡◌, ◌<◌, ◌^◌, unsigned_abs, IfSome};
-ghost use Rattle.pk_interval.specs.Ranges.{IsIn};
+ghost use Rattle.pk_interval.specs.Ranges.{IsIn, LiesIn};
+ghost use Rattle.pk_congr.specs.Laws.{IsOf};
 ghost use Rattle.pk_reduce.specs.Reduction.{red, reduced_at, reduced_if, ReductionIsExact};
 
 use pk_congr::{Congr, reduced_law};
@@ -34,8 +35,7 @@ fn from_next(lo: Option<i128>, hi: Option<i128>, congr: &Congr) -> Option<(Inter
     }
 }
 
-/// The numbers that are in both, for an interval of type `t`: its bounds moved to the next numbers of the congruence, and a constant where one number is left.
-pub fn reduce(t: IntType, interval: &Interval, congr: &Congr) -> Option<(Interval, Congr)>
+fn reduced(t: IntType, interval: &Interval, congr: &Congr) -> Option<(Interval, Congr)>
     requires { IsIn t interval.now }
     ensures { result ≡ red interval.now congr.now }
 {
@@ -46,6 +46,19 @@ pub fn reduce(t: IntType, interval: &Interval, congr: &Congr) -> Option<(Interva
         congr.next_down(interval.hi),
         congr,
     )
+}
+
+/// The numbers that are in both, for an interval of type `t`: its bounds moved to the next numbers of the congruence, and a constant where one number is left.
+/// The modulus is then at most 2^64.
+pub fn reduce(t: IntType, interval: &Interval, congr: &Congr) -> Option<(Interval, Congr)>
+    requires { IsIn t interval.now }
+    ensures value { result ≡ red interval.now congr.now }
+    ensures within { IfSome result (λ p. LiesIn interval.now p.0) }
+    ensures inside { IfSome result (λ p. IsIn t p.0) }
+    ensures class { IfSome result (λ p. IsOf t p.1) }
+{
+    reduced_law(congr);
+    reduced(t, interval, congr)
 }
 
 /// Reduction keeps exactly the numbers of both, and its bounds are two of them.

@@ -7,21 +7,21 @@ use crate::lex::Name;
 use pk_ctypes::Pos;
 use std::marker::Model;
 
-#[derive(Clone, Copy, Debug, PartialEq, Eq)]
+#[derive(Clone, Copy)]
 pub enum Sign {
     Plus,
     Minus,
 }
 
 /// A name or a constant.
-#[derive(Clone, Copy, Debug, PartialEq, Eq)]
+#[derive(Clone, Copy)]
 pub enum Primary {
     Name(Name),
     Constant(u32),
 }
 
 /// A sign, its place, and what is added or subtracted.
-#[derive(Clone, Copy, Debug, PartialEq, Eq)]
+#[derive(Clone, Copy)]
 pub struct Addend {
     pub sign: Sign,
     pub at: Pos,

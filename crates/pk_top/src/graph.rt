@@ -8,14 +8,14 @@ use pk_ctypes::Pos;
 use std::marker::Model;
 
 /// A variable by its number, or a constant of type int.
-#[derive(Clone, Copy, Debug, PartialEq, Eq)]
+#[derive(Clone, Copy)]
 pub enum Operand {
     Variable(u32),
     Constant(i64),
 }
 
 /// A sign, its place, and what is added or subtracted.
-#[derive(Clone, Copy, Debug, PartialEq, Eq)]
+#[derive(Clone, Copy)]
 pub struct Term {
     pub sign: Sign,
     pub at: Pos,
@@ -79,7 +79,7 @@ pub struct Edge {
 }
 
 /// A point's place in the text, and how many of the declared names are visible there.
-#[derive(Clone, Copy, Debug, PartialEq, Eq)]
+#[derive(Clone, Copy)]
 pub struct Point {
     pub at: Pos,
     pub visible: u32,

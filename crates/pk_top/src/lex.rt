@@ -12,7 +12,7 @@ use pk_ctypes::Pos;
 use std::alloc::{AllocError, Global};
 
 /// A name: where it begins and ends in the text, counted in bytes from 0.
-#[derive(Clone, Copy, Debug, PartialEq, Eq)]
+#[derive(Clone, Copy, PartialEq, Eq)]
 pub struct Name {
     pub start: u32,
     pub end: u32,
@@ -29,7 +29,7 @@ pub fn bytes_of(text: &[u8], name: Name) -> &[u8]
 }
 
 /// What a token says.
-#[derive(Clone, Copy, Debug, PartialEq, Eq)]
+#[derive(Clone, Copy, PartialEq, Eq)]
 pub enum Word {
     Int,
     Void,
@@ -49,7 +49,7 @@ pub enum Word {
 }
 
 /// A word and its place.
-#[derive(Clone, Copy, Debug, PartialEq, Eq)]
+#[derive(Clone, Copy)]
 pub struct Token {
     pub word: Word,
     pub at: Pos,
@@ -311,19 +311,3 @@ pub fn lex(alloc: Global, text: &[u8]) -> Result<Option<Vec<Token>>, AllocError>
 pub fn tokens_are_determined()
     ensures { TokensAreDetermined }
 {}
-
-#[cfg(test)]
-mod tests {
-    use super::*;
-    use std::test::Fail;
-
-    #[test]
-    fn a_program_is_its_tokens(rt: HostRuntime) -> Result<(), Fail> {
-        let text = b"int main(void){int i=0;while(i<10)i=i+1;return i;}";
-        let tokens = lex(rt.alloc(), text)?.ok_or("no tokens")?;
-        assert_eq!(rt; tokens.len(), 27);
-        assert_eq!(rt; tokens[26].word, Word::CloseBrace);
-        assert_eq!(rt; tokens[26].at.column, 50);
-        Ok(())
-    }
-}

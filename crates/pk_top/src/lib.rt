@@ -13,8 +13,6 @@ mod parse;
 mod report;
 mod state;
 mod status;
-#[cfg(test)]
-mod tests;
 mod thresholds;
 mod top;
 mod transfer;

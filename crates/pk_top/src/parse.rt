@@ -298,26 +298,3 @@ pub fn parse(alloc: Global, text: &[u8], tokens: &[Token]) -> Result<Option<Unit
 pub fn tree_is_determined()
     ensures { TreeIsDetermined }
 {}
-
-#[cfg(test)]
-mod tests {
-    use super::*;
-    use crate::lex::lex;
-    use std::test::Fail;
-
-    #[test]
-    fn a_program_is_its_tree(rt: HostRuntime) -> Result<(), Fail> {
-        let text = b"int main(void){int i=0;while(i<10)i=i+1;i=1-i;return i;}";
-        let tokens = lex(rt.alloc(), text)?.ok_or("no tokens")?;
-        let unit = parse(rt.alloc(), text, tokens.as_slice())?.ok_or("no tree")?;
-        let items = unit.items.as_slice();
-        assert_eq!(rt; items.len(), 3);
-        assert!(rt; matches!(&items[0], Item::Declare(_)));
-        assert!(rt; matches!(&items[1], Item::Repeat(_)));
-        assert!(rt; matches!(&items[2], Item::Assign(_)));
-        assert!(rt; unit.result.is_some());
-        assert_eq!(rt; unit.opening.column, 15);
-        assert_eq!(rt; unit.closing.column, 56);
-        Ok(())
-    }
-}

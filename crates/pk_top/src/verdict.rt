@@ -7,7 +7,7 @@ use crate::interval::{GREATEST, Interval, LEAST};
 use std::fmt;
 
 /// What is said of an operation: its result lies in the type, or may have these bounds, or it is never reached.
-#[derive(Clone, Copy, Debug, PartialEq, Eq)]
+#[derive(Clone, Copy)]
 pub enum Verdict {
     Safe,
     Unknown(i64, i64),

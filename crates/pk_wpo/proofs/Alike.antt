@@ -1,21 +1,20 @@
 -- Constraints don't depend on which of two nests that hold the same is taken.
-use Rattle.std.proofs.Common.{◌≡◌, ◌≢◌, ℕ, ◌<◌, ◌≤◌, ◌+◌, Bool, true, false, List, [], ◌∷◌, ◌⊎◌, inl, inr, length, get_or, map, filter, sym, subst, arith, ap, refl, ◌∙◌, Contains, All, IsTrue, ◌↔◌, count_by}
+use Rattle.std.proofs.Common.{◌≡◌, ℕ, ◌<◌, ◌+◌, Bool, true, false, List, [], length, get_or, map, sym, subst, arith, ap, refl, ◌∙◌, Contains, All, ◌↔◌, count_by}
 use Rattle.std.specs.List.{range_with_len}
 use Rattle.std.specs.List.Sorted.{IsStrictlyIncreasing}
 use Rattle.std.proofs.lemmas.List.{ext_get_or, get_or_default, get_or-map, length-map}
 use Rattle.std.proofs.lemmas.List.Elements.{filter_agree}
 use Rattle.std.proofs.lemmas.List.Sums.{length-filter}
 use Rattle.pk_plan.specs.declared.components.Component.{Component}
-use Rattle.pk_plan.specs.Digraphs.{Edge}
 use Rattle.pk_plan.specs.Nests.{Items, Holds}
-use Rattle.pk_plan.specs.Plans.{PlanView, predecessors_of, successors_of, Constrains, Inside, is_inside, inner_count}
+use Rattle.pk_plan.specs.Plans.{PlanView, predecessors_of, Constrains, Inside, is_inside}
 use Rattle.pk_plan.specs.Axioms.{Axioms}
-use Rattle.pk_plan.proofs.PlanLemmas.{Of, is_inside_tells, constrains_from, predecessor_within}
-use Rattle.pk_wpo.specs.Constraints.{IsOutermost, Top, itself, exit_of_outermost, Has, vertex, inner_exit, EdgeConstraint, forth, back, HeadConstraint, IsElement, a_vertex, an_exit, Constraint, by_edge, by_head, to_end, is_head, heads_below, exit_of}
+use Rattle.pk_plan.proofs.PlanLemmas.{is_inside_tells, constrains_from}
+use Rattle.pk_wpo.specs.Constraints.{Top, itself, exit_of_outermost, Has, vertex, inner_exit, EdgeConstraint, forth, back, HeadConstraint, IsElement, a_vertex, an_exit, Constraint, by_edge, by_head, to_end, is_head, exit_of}
 use Rattle.pk_wpo.specs.Made.{IsPlanOf}
-use Rattle.pk_wpo.specs.Same.{HoldTheSame, AreAlike, PlanIsDetermined}
+use Rattle.pk_wpo.specs.Same.{HoldTheSame, PlanIsDetermined}
 use Rattle.pk_wpo.proofs.Numbers.{head_holds, holds_head}
-use Rattle.pk_wpo.proofs.Sequences.{Member, member_at}
+use Rattle.pk_wpo.proofs.Sequences.{Member}
 use Rattle.pk_wpo.proofs.Rising.{contains_member, member_contains, rising_same, filter_agrees}
 
 -- both hold the same, and number the exits in the same way

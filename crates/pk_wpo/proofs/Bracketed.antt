@@ -1,7 +1,7 @@
 -- How the elements of a nest stand in the order of its brackets.
-use Rattle.std.proofs.Common.{◌≡◌, ◌≢◌, ℕ, ◌<◌, ◌≤◌, ◌+◌, List, [], ◌∷◌, ◌++◌, ◌⊎◌, inl, inr, sym, subst, arith, ap, refl, ◌∙◌}
+use Rattle.std.proofs.Common.{◌≡◌, ◌≢◌, ℕ, List, ◌∷◌, ◌⊎◌, inl, inr, sym, subst, ap, refl, ◌∙◌}
 use Rattle.pk_plan.specs.Digraphs.{Edge, Here}
-use Rattle.pk_plan.specs.Nests.{Items, No_items, Vertex_first, Component_first, In, Once, Holds, AreItems, Forward, IsNest}
+use Rattle.pk_plan.specs.Nests.{Items, No_items, Vertex_first, Component_first, In, Once, Holds, AreItems, Forward}
 use Rattle.pk_wpo.specs.Layouts.{elements_of}
 use Rattle.pk_wpo.proofs.Sequences.{Member, Before, Different, member_left, member_right, member_either, before_left, before_right, before_across, different_join}
 

@@ -1,9 +1,9 @@
 -- Climbing from component to component, out to the outermost that doesn't hold another vertex.
-use Rattle.std.proofs.Common.{◌≡◌, ◌≢◌, ℕ, zero, suc, ◌<◌, ◌≤◌, ◌+◌, ◌⊎◌, inl, inr, length, sym, subst, arith, ap, refl, ◌∙◌, Option, Some, None}
+use Rattle.std.proofs.Common.{◌≡◌, ◌≢◌, ℕ, zero, suc, ◌<◌, ◌+◌, ◌⊎◌, inl, inr, length, sym, subst, arith, refl, Option, Some, None}
 use Rattle.std.proofs.lemmas.Bool.Decides.{eqb_tells}
 use Rattle.pk_plan.specs.Nests.{Holds}
-use Rattle.pk_wpo.specs.Constraints.{Top, itself, exit_of_outermost, Has, vertex, exit_of}
-use Rattle.pk_wpo.specs.Layouts.{Laid, IsLaid, IsHome, IsInnermost, end_number, place_in}
+use Rattle.pk_wpo.specs.Constraints.{itself, exit_of_outermost, vertex}
+use Rattle.pk_wpo.specs.Layouts.{Laid, IsLaid, IsInnermost, place_in}
 use Rattle.pk_wpo.proofs.Placed.{Hold, exit_in, holding_head, head_vertex, same_place, hold_from, hold_trans, hold_or_not, hold_or_none}
 use Rattle.pk_wpo.proofs.Homes.{home_of_each}
 use Rattle.pk_wpo.proofs.Orders.{TopIn, HomeIn, has_vertex, innermost_by_home, innermost_itself}

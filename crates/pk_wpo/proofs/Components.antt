@@ -1,5 +1,5 @@
 -- The components of a laid out nest, in the order of their heads.
-use Rattle.std.proofs.Common.{◌≡◌, ◌≢◌, ℕ, zero, suc, ◌<◌, ◌≤◌, ◌+◌, Bool, true, false, cond, List, [], ◌∷◌, ◌++◌, ◌⊎◌, inl, inr, length, get_or, map, filter, sym, subst, arith, ap, refl, ◌∙◌, length-append, add-one, All, Contains, append-nil}
+use Rattle.std.proofs.Common.{◌≡◌, ℕ, zero, suc, ◌<◌, ◌+◌, Bool, true, false, cond, List, [], ◌∷◌, ◌++◌, ◌⊎◌, inl, inr, length, get_or, map, sym, subst, arith, ap, refl, ◌∙◌, length-append, add-one, Contains, append-nil}
 use Rattle.std.specs.List.{range_with_len}
 use Rattle.std.proofs.lemmas.Bool.{cases_lt}
 use Rattle.std.specs.List.Sorted.{IsStrictlyIncreasing}
@@ -9,8 +9,8 @@ use Rattle.std.proofs.lemmas.List.FromFn.{get_or-range_with_len, map-range_with_
 use Rattle.std.proofs.lemmas.List.Kept.{IsStrictlyIncreasing-filter}
 use Rattle.pk_plan.specs.declared.components.Component.{Component}
 use Rattle.pk_plan.specs.Nests.{Items}
-use Rattle.pk_wpo.specs.Constraints.{is_head, heads_below, exit_of}
-use Rattle.pk_wpo.specs.Layouts.{Laid, IsLaid, end_number, place_in, component_at, components_in}
+use Rattle.pk_wpo.specs.Constraints.{is_head, heads_below}
+use Rattle.pk_wpo.specs.Layouts.{Laid, IsLaid, component_at, components_in}
 use Rattle.pk_wpo.proofs.Numbers.{head_holds, holds_head, heads_below_more}
 use Rattle.pk_wpo.proofs.Placed.{Hold, exit_in, head_vertex}
 

@@ -1,11 +1,8 @@
 -- A list without repetition is as long as the numbers that it has.
-use Rattle.std.proofs.Common.{◌≡◌, ◌≢◌, ℕ, zero, suc, ◌<◌, ◌≤◌, ◌+◌, ◌==◌, Bool, true, false, cond, List, [], ◌∷◌, ◌++◌, ◌⊎◌, inl, inr, length, get_or, sym, subst, arith, ap, refl, ◌∙◌, length-append}
-use Rattle.std.proofs.lemmas.Bool.{cases_lt}
+use Rattle.std.proofs.Common.{◌≡◌, ◌≢◌, ℕ, zero, suc, ◌<◌, ◌≤◌, ◌==◌, cond, List, [], ◌∷◌, inl, inr, length, get_or, sym, arith, ap, ◌∙◌}
 use Rattle.std.proofs.lemmas.Bool.Decides.{eqb_tells}
-use Rattle.std.specs.List.{AllPairs}
-use Rattle.std.proofs.lemmas.List.{get_or_default}
 use Rattle.pk_wpo.specs.Layouts.{Laid, end_number}
-use Rattle.pk_wpo.proofs.Sequences.{Member, Different, member_at, different_at}
+use Rattle.pk_wpo.proofs.Sequences.{Member, member_at, different_at}
 use Rattle.pk_wpo.proofs.Placed.{listed_in, NestOf, element_listed_of, listed_below_of, listed_differ_of}
 
 -- no more numbers go, each to another, than there are places

@@ -1,10 +1,10 @@
 -- The homes of the elements of a nest.
-use Rattle.std.proofs.Common.{◌≡◌, ◌≢◌, ℕ, zero, suc, ◌<◌, ◌≤◌, ◌+◌, List, [], ◌∷◌, ◌++◌, ◌⊎◌, inl, inr, length, get_or, sym, subst, arith, ap, refl, ◌∙◌, length-append, Option, Some, None}
+use Rattle.std.proofs.Common.{◌≡◌, ◌≢◌, ℕ, zero, suc, ◌<◌, List, [], ◌∷◌, ◌++◌, ◌⊎◌, inl, inr, length, get_or, sym, subst, arith, ap, refl, ◌∙◌, length-append, Option, Some, None}
 use Rattle.std.proofs.lemmas.List.{get_or_append_left}
 use Rattle.pk_plan.specs.Nests.{Items, No_items, Vertex_first, Component_first, In, Once, Holds}
 use Rattle.pk_wpo.specs.Constraints.{Has, vertex, inner_exit, exit_of}
 use Rattle.pk_wpo.specs.Layouts.{elements_of, homes_of, Laid, IsLaid, IsHome, end_number, place_in}
-use Rattle.pk_wpo.proofs.Sequences.{Member, Different, member_left, member_right, member_either, different_left, different_right, different_apart}
+use Rattle.pk_wpo.proofs.Sequences.{Member, Different, member_left, member_right, different_left, different_right, different_apart}
 use Rattle.pk_wpo.proofs.Bracketed.{head_in, held_in, vertex_listed, exit_listed, listed_is}
 use Rattle.pk_wpo.proofs.Placed.{listed_in, place_below, at_place, at_listed, listed_differ}
 

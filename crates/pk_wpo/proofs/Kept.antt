@@ -1,13 +1,13 @@
 -- What is read of a layout.
-use Rattle.std.proofs.Common.{◌≡◌, ◌≢◌, ℕ, ◌<◌, ◌≤◌, ◌+◌, ◌^◌, Bool, true, false, List, [], ◌∷◌, ◌++◌, length, get_or, map, sym, subst, arith, ap, refl, ◌∙◌, length-append, Option, Some, None}
+use Rattle.std.proofs.Common.{◌≡◌, ℕ, ◌<◌, ◌≤◌, ◌+◌, ◌^◌, Bool, List, [], ◌∷◌, length, get_or, sym, subst, arith, ap, ◌∙◌, length-append, Option, None}
 use Rattle.std.specs.List.{range_with_len}
 use Rattle.std.proofs.lemmas.List.Sums.{length-filter, count_by-le-length}
-use Rattle.std.proofs.lemmas.List.{get_or_default, get_or-map, length-map}
-use Rattle.std.proofs.lemmas.List.FromFn.{get_or-range_with_len, length-range_with_len, get_or-map-range_with_len, length-map-range_with_len}
+use Rattle.std.proofs.lemmas.List.{get_or_default}
+use Rattle.std.proofs.lemmas.List.FromFn.{length-range_with_len, get_or-map-range_with_len, length-map-range_with_len}
 use Rattle.pk_plan.specs.Nests.{Holds}
-use Rattle.pk_wpo.specs.Constraints.{Has, is_head, exit_of}
+use Rattle.pk_wpo.specs.Constraints.{is_head, exit_of}
 use Rattle.pk_wpo.specs.Layouts.{homes_of, Laid, IsLaid, IsKept, IsHome, end_number, place_in}
-use Rattle.pk_wpo.proofs.Placed.{listed_in, elements_long, place_below}
+use Rattle.pk_wpo.proofs.Placed.{elements_long, place_below}
 use Rattle.pk_wpo.proofs.Counting.{as_many}
 use Rattle.pk_wpo.proofs.Homes.{home_at, length-homes_of}
 

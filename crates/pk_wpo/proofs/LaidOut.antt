@@ -1,18 +1,18 @@
 -- A layout as it is made.
-use Rattle.std.proofs.Common.{◌≡◌, ◌≢◌, ℕ, zero, suc, ◌<◌, ◌≤◌, ◌+◌, ◌^◌, Bool, List, [], ◌∷◌, ◌++◌, ◌⊎◌, inl, inr, length, get_or, map, filter, take, sym, subst, arith, ap, refl, ◌∙◌, length-append, Option, Some, None, All}
+use Rattle.std.proofs.Common.{◌≡◌, ◌≢◌, ℕ, ◌<◌, ◌≤◌, ◌+◌, ◌^◌, Bool, List, [], ◌∷◌, ◌++◌, inl, inr, length, get_or, map, filter, take, sym, subst, arith, ap, ◌∙◌, length-append, Option, None, All}
 use Rattle.std.specs.List.{range_with_len, AllPairs, slice_index}
 use Rattle.std.proofs.lemmas.Bool.{cases_lt}
 use Rattle.std.proofs.lemmas.List.{get_or_default, get_or_append_left, get_or_at, ext_get_or}
 use Rattle.std.proofs.lemmas.List.Sums.{length-filter, count_by-le-length}
 use Rattle.std.proofs.lemmas.List.FromFn.{length-range_with_len, length-map-range_with_len, get_or-map-range_with_len}
-use Rattle.pk_plan.specs.Digraphs.{IsVertex, IsClosed}
-use Rattle.pk_plan.specs.Nests.{Items, In, IsNest}
+use Rattle.pk_plan.specs.Digraphs.{IsVertex}
+use Rattle.pk_plan.specs.Nests.{Items, IsNest}
 use Rattle.pk_plan.specs.NestPlaces.{nest_places}
 use Rattle.pk_wpo.specs.Constraints.{is_head, exit_of}
-use Rattle.pk_wpo.specs.Layouts.{elements_of, homes_of, Laid, IsLaid, IsKept, end_number, place_in}
+use Rattle.pk_wpo.specs.Layouts.{elements_of, homes_of, Laid}
 use Rattle.pk_wpo.specs.Walks.{walk_elements, walk_homes, HeadBelow}
-use Rattle.pk_wpo.proofs.Sequences.{Member, Different, member_at, different_join, different_at}
-use Rattle.pk_wpo.proofs.Placed.{listed_in, listed_below_of, listed_differ_of}
+use Rattle.pk_wpo.proofs.Sequences.{Different, member_at, different_join, different_at}
+use Rattle.pk_wpo.proofs.Placed.{listed_below_of, listed_differ_of}
 use Rattle.pk_wpo.proofs.Counting.{as_many}
 use Rattle.pk_wpo.proofs.Walked.{counted_heads, walk_elements-all, walk_homes-all, elements_of-same, places_below}
 

@@ -13,7 +13,6 @@ pub mod Kept
 pub mod Climbing
 pub mod Walked
 pub mod LaidOut
-pub mod Drawing
 pub mod Steps
 pub mod Rising
 pub mod Alike

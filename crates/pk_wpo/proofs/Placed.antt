@@ -1,15 +1,15 @@
 -- A laid out nest by places.
-use Rattle.std.proofs.Common.{◌≡◌, ◌≢◌, ℕ, zero, suc, ◌<◌, ◌≤◌, ◌+◌, ◌^◌, Bool, true, false, List, [], ◌∷◌, ◌++◌, ◌⊎◌, inl, inr, length, get_or, sym, subst, arith, ap, refl, ◌∙◌, length-append, add-one}
+use Rattle.std.proofs.Common.{◌≡◌, ◌≢◌, ℕ, zero, suc, ◌<◌, ◌≤◌, ◌+◌, Bool, true, false, List, [], ◌∷◌, ◌⊎◌, inl, inr, length, get_or, sym, subst, arith, ap, refl, ◌∙◌, length-append, add-one}
 use Rattle.std.proofs.lemmas.Bool.{cases_lt}
 use Rattle.std.proofs.lemmas.Bool.Decides.{eqb_tells}
 use Rattle.std.proofs.lemmas.List.{get_or_append_left, get_or_at}
 use Rattle.pk_plan.specs.Digraphs.{Edge, IsVertex}
-use Rattle.pk_plan.specs.Nests.{In, Holds, IsNest}
+use Rattle.pk_plan.specs.Nests.{Holds, IsNest}
 use Rattle.pk_plan.proofs.DigraphLemmas.{edge_from_vertex}
 use Rattle.pk_wpo.specs.Constraints.{Has, vertex, inner_exit, is_head, exit_of}
 use Rattle.pk_wpo.specs.Layouts.{elements_of, Laid, IsLaid, end_number, place_in}
-use Rattle.pk_wpo.proofs.Sequences.{Member, Before, Different, member_at, at_member, before_at, member_either, different_join, different_at}
-use Rattle.pk_wpo.proofs.Bracketed.{held_in, head_in, vertex_listed, exit_listed, VertexOrExit, listed_is, Exits, elements_differ, held_from, held_before, where_stands, exits_nested, edge_stands}
+use Rattle.pk_wpo.proofs.Sequences.{Member, Before, Different, at_member, before_at}
+use Rattle.pk_wpo.proofs.Bracketed.{held_in, vertex_listed, exit_listed, listed_is, Exits, elements_differ, held_from, held_before, where_stands, exits_nested, edge_stands}
 use Rattle.pk_wpo.proofs.Numbers.{head_holds, holds_head, exit_at_head, exit_at_other, exit_rises, exit_apart}
 
 abbrev pub Hold : Laid → ℕ → ℕ → Type 0

@@ -1,5 +1,5 @@
 -- What is drawn is the plan of the nest, and meets the axioms.
-use Rattle.std.proofs.Common.{◌≡◌, ◌≢◌, ℕ, zero, suc, ◌<◌, ◌≤◌, ◌+◌, List, [], ◌∷◌, ◌⊎◌, inl, inr, length, get_or, map, sym, subst, arith, ap, refl, ◌∙◌, All, Contains, Option, Some, None}
+use Rattle.std.proofs.Common.{◌≡◌, ◌≢◌, ℕ, zero, suc, ◌<◌, ◌≤◌, ◌+◌, List, ◌⊎◌, inl, inr, length, get_or, sym, subst, arith, ap, refl, ◌∙◌, All, Contains, Option, Some, None}
 use Rattle.std.specs.List.{range_with_len}
 use Rattle.std.specs.List.Sorted.{IsStrictlyIncreasing}
 use Rattle.std.proofs.lemmas.Bool.{cases_lt}
@@ -9,17 +9,18 @@ use Rattle.std.proofs.lemmas.List.Elements.{Contains-get_or}
 use Rattle.pk_plan.specs.declared.components.Component.{Component}
 use Rattle.pk_plan.specs.Digraphs.{Edge}
 use Rattle.pk_plan.specs.Nests.{Items, Holds}
-use Rattle.pk_plan.specs.Plans.{PlanView, plan_of, end_of, predecessors_of, Constrains, Precedes, One, More, place_of, Inside}
+use Rattle.pk_plan.specs.Plans.{PlanView, plan_of, end_of, Constrains, Precedes, One, More, Inside}
 use Rattle.pk_plan.specs.Axioms.{Axioms}
 use Rattle.pk_plan.proofs.DigraphLemmas.{edge_from_vertex}
 use Rattle.pk_plan.proofs.PlanLemmas.{precedes_trans}
-use Rattle.pk_wpo.specs.Constraints.{Has, vertex, EdgeConstraint, forth as leads_forth, HeadConstraint, IsElement, a_vertex, an_exit, Constraint, by_edge, by_head, to_end, heads_below, exit_of}
-use Rattle.pk_wpo.specs.Layouts.{Laid, IsLaid, IsHome, end_number, place_in, component_at, components_in}
-use Rattle.pk_wpo.specs.Edges.{IsReverse, AreEdgeConstraints, HasHeadConstraintsMore, HasEndConstraintsMore}
+use Rattle.pk_wpo.specs.Constraints.{vertex, forth as leads_forth, IsElement, a_vertex, an_exit, Constraint, by_edge, by_head, to_end, heads_below, exit_of}
+use Rattle.pk_wpo.specs.Layouts.{Laid, IsLaid, end_number, place_in, component_at, components_in}
+use Rattle.pk_plan.specs.Reverses.{IsReverse}
+use Rattle.pk_wpo.specs.Edges.{AreEdgeConstraints, HasHeadConstraintsMore, HasEndConstraintsMore}
 use Rattle.pk_wpo.specs.Made.{IsPlanOf, LeadsForwardOrBack, Fits}
-use Rattle.pk_wpo.proofs.Placed.{Hold, exit_in, listed_in, held_vertex, holding_head, head_vertex, exit_before_end, is_element, elements_long, at_listed, at_end, place_of_listed, place_of_end, place_below, at_place, listed_below, hold_from, hold_before, hold_by_place, exit_nested, hold_or_none, hold_or_not, has_from, has_before, has_head, has_below, has_by_place}
+use Rattle.pk_wpo.proofs.Placed.{Hold, exit_in, listed_in, holding_head, head_vertex, exit_before_end, is_element, elements_long, at_listed, at_end, place_of_end, place_below, at_place, listed_below, hold_before, hold_by_place, exit_nested, hold_or_none, hold_or_not, has_from, has_before, has_head, has_below, has_by_place}
 use Rattle.pk_wpo.proofs.Sequences.{member_at}
-use Rattle.pk_wpo.proofs.Orders.{HasIn, ByEdge, ByHead, HomeIn, has_vertex, has_trans, edge_rises, head_rises, edge_from_below, edge_to_below, edge_stays, head_stays, has_leads, top_below}
+use Rattle.pk_wpo.proofs.Orders.{HasIn, ByEdge, ByHead, HomeIn, has_trans, edge_rises, head_rises, edge_from_below, edge_to_below, edge_stays, head_stays, has_leads}
 use Rattle.pk_wpo.proofs.Homes.{home_of_each}
 use Rattle.pk_wpo.proofs.Climbing.{top_exists, top_is}
 use Rattle.pk_wpo.proofs.Counting.{as_many}
@@ -34,10 +35,8 @@ pub record Drawn (l : Laid) (by_edges with_heads drawn back forth : List (List �
   pub ends : HasEndConstraintsMore (end_number l) with_heads drawn
   pub long : length drawn ≡ end_number l + 1
   pub backward : IsReverse drawn back
-  pub backward_long : length back ≡ length drawn
   pub backward_rises : All IsStrictlyIncreasing back
   pub forward : IsReverse back forth
-  pub forward_long : length forth ≡ length back
   pub forward_rises : All IsStrictlyIncreasing forth
 
 abbrev pub made : Laid → List (List ℕ) → List (List ℕ) → PlanView
@@ -86,10 +85,10 @@ constraint_drawn l c0 c1 c2 back forth a b d (to_end element no_edge no_head) =
 
 -- the drawn edges are the plan's constraints
 pub constrains_by : (l : Laid) (c0 c1 c2 back forth : List (List ℕ)) (a b : ℕ) → Drawn l c0 c1 c2 back forth → Edge c2 a b → Constrains (made l back forth) a b
-constrains_by l c0 c1 c2 back forth a b d e = d.forward.to b a (d.backward.to a b e)
+constrains_by l c0 c1 c2 back forth a b d e = d.forward.back b a (d.backward.back a b e)
 
 pub drawn_by : (l : Laid) (c0 c1 c2 back forth : List (List ℕ)) (a b : ℕ) → Drawn l c0 c1 c2 back forth → Constrains (made l back forth) a b → Edge c2 a b
-drawn_by l c0 c1 c2 back forth a b d c = d.backward.from a b (d.forward.from b a c)
+drawn_by l c0 c1 c2 back forth a b d c = d.backward.forth a b (d.forward.forth b a c)
 
 -- they lead forward
 drawn_rises : (l : Laid) (c0 c1 c2 back forth : List (List ℕ)) (a b : ℕ) → Drawn l c0 c1 c2 back forth → Edge c2 a b → place_in l a < place_in l b
@@ -257,10 +256,10 @@ axioms_made l c0 c1 c2 back forth d =
       heads = subst IsStrictlyIncreasing (sym (components_heads l heads)) (heads_rise l.items (length l.graph));
       points = λ k x below. (component_is l (get_or (components_in l) k x) (Contains-get_or (components_in l) k x below)).2;
       exits = components_exits l heads ∙ exits_follow l (length l.graph) ∙ ap (range_with_len (length l.graph)) (sym many);
-      successor_lists = d.forward_long ∙ d.backward_long ∙ d.long;
-      predecessor_lists = d.backward_long ∙ d.long;
-      to_predecessor = λ a b c. d.forward.from b a c;
-      to_successor = λ a b c. d.forward.to b a c;
+      successor_lists = d.forward.as_many ∙ d.backward.as_many ∙ d.long;
+      predecessor_lists = d.backward.as_many ∙ d.long;
+      to_predecessor = λ a b c. d.forward.forth b a c;
+      to_successor = λ a b c. d.forward.back b a c;
       within = λ a b c. let below = drawn_to l c0 c1 c2 back forth a b d (drawn_by l c0 c1 c2 back forth a b d c) in omega (arith, below);
       successors_rise = d.forward_rises;
       predecessors_rise = d.backward_rises;

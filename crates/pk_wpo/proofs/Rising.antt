@@ -1,5 +1,5 @@
 -- Lists in rising order, by what they hold.
-use Rattle.std.proofs.Common.{◌≡◌, ◌≢◌, ℕ, zero, suc, ◌<◌, ◌≤◌, ◌+◌, Bool, cond, List, [], ◌∷◌, ◌⊎◌, inl, inr, length, get_or, filter, sym, subst, arith, ap, refl, ◌∙◌, add-one, Contains}
+use Rattle.std.proofs.Common.{◌≡◌, ℕ, suc, ◌<◌, ◌+◌, Bool, cond, List, [], ◌∷◌, ◌⊎◌, inl, inr, get_or, filter, sym, subst, arith, ap, refl, ◌∙◌, Contains}
 use Rattle.std.specs.List.{AllPairs}
 use Rattle.std.specs.List.Sorted.{IsStrictlyIncreasing}
 use Rattle.std.proofs.lemmas.List.{get_or_default}

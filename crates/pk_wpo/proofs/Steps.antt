@@ -1,5 +1,5 @@
 -- The constraints of heads, element by element.
-use Rattle.std.proofs.Common.{◌≡◌, ◌≢◌, ℕ, ◌<◌, ◌≤◌, ◌+◌, List, ◌⊎◌, inl, inr, length, get_or, take, [], ◌∷◌, ◌++◌, Bool, true, false, IsTrue, ◌↔◌, sym, subst, arith, ap, refl, ◌∙◌, Option, Some, None, Contains}
+use Rattle.std.proofs.Common.{◌≡◌, ℕ, ◌<◌, ◌≤◌, ◌+◌, List, ◌⊎◌, inl, inr, length, get_or, take, [], ◌∷◌, ◌++◌, Bool, true, false, IsTrue, ◌↔◌, sym, subst, arith, ap, refl, ◌∙◌, Option, Some, None, Contains}
 use Rattle.std.proofs.lemmas.Bool.{cases_lt}
 use Rattle.std.proofs.lemmas.Bool.Decides.{eqb_tells}
 use Rattle.std.proofs.Math.ListN.{replicate}
@@ -7,14 +7,14 @@ use Rattle.std.proofs.lemmas.List.{take_more, take_all, get_or-replicate, get_or
 use Rattle.std.proofs.lemmas.List.Elements.{Contains-get_or, Contains-push_cases}
 use Rattle.pk_plan.specs.Digraphs.{Edge}
 use Rattle.pk_plan.specs.Nests.{Holds}
-use Rattle.pk_plan.proofs.DigraphLemmas.{edge_from_vertex}
-use Rattle.pk_wpo.specs.Constraints.{Top, Has, vertex, EdgeConstraint, forth, back, HeadConstraint, exit_of}
+use Rattle.pk_wpo.specs.Constraints.{Top, vertex, EdgeConstraint, forth, back, exit_of}
 use Rattle.pk_wpo.specs.Targets.{IsTarget, vertex as plain_vertex, exit_of_head}
-use Rattle.pk_wpo.specs.Layouts.{Laid, IsLaid, IsHome, end_number, place_in}
-use Rattle.pk_wpo.specs.Edges.{IsOneMore, AreEdgeConstraints, IsLed, IsFromHome, IsMoreFrom, HasHeadConstraintsMore, IsEndMore, HasEndConstraintsMore}
-use Rattle.pk_wpo.proofs.Placed.{Hold, exit_in, held_vertex, head_vertex, holding_head, exit_before_end, hold_same, has_from, has_before, has_head, has_below, hold_by_place}
-use Rattle.pk_wpo.proofs.Orders.{HasIn, TopIn, ByEdge, ByHead, HomeIn, top_is_one, top_below, edge_from_below, edge_to_below}
-use Rattle.pk_wpo.proofs.Drawing.{EdgesOf, Rows, RowTo}
+use Rattle.pk_wpo.specs.Layouts.{Laid, IsLaid, end_number, place_in}
+use Rattle.pk_plan.specs.Reverses.{IsOneMore}
+use Rattle.pk_wpo.specs.Edges.{AreEdgeConstraints, IsLed, IsFromHome, IsMoreFrom, HasHeadConstraintsMore, IsEndMore, HasEndConstraintsMore}
+use Rattle.pk_wpo.proofs.Placed.{Hold, head_vertex, exit_before_end, hold_same, has_from, has_before, has_head, has_below, hold_by_place}
+use Rattle.pk_wpo.proofs.Orders.{HasIn, TopIn, ByHead, HomeIn, top_is_one, edge_from_below, edge_to_below}
+use Rattle.pk_plan.proofs.Drawing.{EdgesOf, Rows, RowTo}
 
 -- what an edge gives
 abbrev pub Drawn : Laid → ℕ → ℕ → ℕ → ℕ → Type 0

@@ -1,14 +1,16 @@
 -- The walk through the places of a nest gives its elements and their homes.
-use Rattle.std.proofs.Common.{◌≡◌, ◌≢◌, ℕ, zero, suc, ◌<◌, ◌≤◌, ◌+◌, ◌==◌, ◌||◌, Bool, true, false, List, [], ◌∷◌, ◌++◌, ◌⊎◌, inl, inr, length, get_or, map, take, drop, sym, subst, arith, ap, refl, ◌∙◌, append_assoc, append-nil, filter, cond, Option, Some, None, All}
-use Rattle.std.specs.List.{range_with_len}
-use Rattle.std.proofs.lemmas.List.{take_more, ext_get_or}
+use Rattle.std.proofs.Common.{◌≡◌, ℕ, ◌-◌, subst, suc, drop, reverse, add-one, ◌<◌, ◌≤◌, ◌+◌, ◌==◌, ◌||◌, Bool, true, false, List, [], ◌∷◌, ◌++◌, inl, inr, length, get_or, map, take, sym, arith, ap, refl, ◌∙◌, append_assoc, append-nil, filter, cond, Option, Some, None, All}
+use mathlib.Core.List.{reverse_aux}
+use Rattle.std.specs.List.{range_with_len, slice_get}
+use Rattle.std.proofs.Math.Seq.{drop-cons}
+use Rattle.std.proofs.lemmas.List.{take_more, ext_get_or, reverse-append}
 use Rattle.std.proofs.lemmas.List.FromFn.{length-map-range_with_len, get_or-map-range_with_len, take-map-range_with_len}
 use Rattle.std.proofs.lemmas.List.Elements.{All-nil, All-cons, All-append}
 use Rattle.pk_plan.specs.declared.nests.NestPlace.{NestPlace}
 use Rattle.pk_plan.specs.declared.nests.NestPlace.TheVariants.{Vertex, Head, Exit}
-use Rattle.pk_plan.specs.Nests.{Items, No_items, Vertex_first, Component_first, In, Holds}
+use Rattle.pk_plan.specs.Nests.{Items, No_items, Vertex_first, Component_first, In}
 use Rattle.pk_plan.specs.NestPlaces.{nest_places}
-use Rattle.pk_wpo.specs.Constraints.{is_head, heads_below, exit_of}
+use Rattle.pk_wpo.specs.Constraints.{is_head, heads_below}
 use Rattle.pk_wpo.specs.Layouts.{elements_of, homes_of}
 use Rattle.pk_wpo.specs.Walks.{first_of, walk_elements, walk_homes, HeadBelow, is_head_at}
 
@@ -118,3 +120,29 @@ pub counted_heads : (items : Items) (n k : ℕ) → k ≤ n → length (filter (
 counted_heads items n k below =
     ap (λ (bs : List Bool). length (filter (λ (b : Bool). b) bs)) (take-map-range_with_len (is_head items) 0 n k below)
     ∙ filter_tests (is_head items) (range_with_len 0 k)
+
+-- a step of the walk: what stood at its place is taken over from the rest
+pub taken_over : {A : Type 0} (done more new before rest whole : List A) → new ≡ done ++ more → before ≡ more ++ rest → done ++ before ≡ whole → new ++ rest ≡ whole
+taken_over {A = A} done more new before rest whole is splits so_far =
+    ap (λ (xs : List A). xs ++ rest) is ∙ append_assoc done more rest ∙ ap (λ (xs : List A). done ++ xs) (sym splits) ∙ so_far
+
+-- the rest from a place on, by what stands there
+pub rest_at : (places : List NestPlace) (i : ℕ) (d p : NestPlace) → i < length places → get_or places i d ≡ p → drop i places ≡ p ∷ drop (i + 1) places
+rest_at places i d p inside is = rw add-one (drop-cons places i d inside ∙ ap (λ (q : NestPlace). q ∷ drop (suc i) places) is)
+
+pub reverse_push : (opened : List ℕ) (h : ℕ) → reverse (opened ++ h ∷ []) ≡ h ∷ reverse opened
+reverse_push opened h = reverse-append opened (h ∷ [])
+
+pub head_at : (n : ℕ) (places : List NestPlace) (i : ℕ) (d : NestPlace) (h : ℕ) → All (HeadBelow n) places → i < length places → get_or places i d ≡ Head h → h < n
+head_at n places i d h below inside is = subst (HeadBelow n) is (below i d inside)
+
+-- the last of a list is the first of its reverse
+last_onto : (xs : List ℕ) (x : ℕ) (after : List ℕ) → slice_get (x ∷ xs) (length xs) ≡ first_of (reverse_aux xs (x ∷ after))
+last_onto [] x after = refl
+last_onto (y ∷ ys) x after = last_onto ys y (x ∷ after)
+
+pub last_get : (xs : List ℕ) → slice_get xs (length xs - 1) ≡ first_of (reverse xs)
+last_get [] = refl
+last_get (x ∷ xs) =
+    let last : length (x ∷ xs) - 1 ≡ length xs = omega arith in
+    ap (slice_get (x ∷ xs)) last ∙ last_onto xs x []

@@ -1,24 +1,10 @@
--- Edges that are added, and the constraints among them.
-use Rattle.std.specs.Prelude.{◌≡◌, ◌≢◌, ℕ, ◌<◌, ◌⊎◌, List, Option, Some, None, length}
+-- The constraints that edges are added for.
+use Rattle.std.specs.Prelude.{◌≡◌, ℕ, ◌<◌, ◌⊎◌, List, Option, Some, None}
 use Rattle.pk_plan.specs.Digraphs.{Edge}
+use Rattle.pk_plan.specs.Reverses.{IsOneMore}
 use Rattle.pk_plan.specs.Nests.{Holds}
 use Rattle.pk_wpo.specs.Constraints.{Has, EdgeConstraint, HeadConstraint, exit_of}
 use Rattle.pk_wpo.specs.Layouts.{Laid, IsHome, end_number}
-
--- the same edges, the other way round
-pub record IsReverse (g back : List (List ℕ)) : Type 0 where
-  pub to : (u v : ℕ) → Edge g u v → Edge back v u
-  pub from : (u v : ℕ) → Edge back v u → Edge g u v
-
--- one edge more, or the same edges where it was there
-pub record IsOneMore (g : List (List ℕ)) (from to : ℕ) (more : List (List ℕ)) : Type 0 where
-  pub old : (u v : ℕ) → Edge g u v → Edge more u v
-  pub new : Edge more from to
-  pub only : (u v : ℕ) → Edge more u v → Edge g u v ⊎ ((u ≡ from) × (v ≡ to))
-
--- edges lead below a number
-abbrev pub IsBelow : List (List ℕ) → ℕ → Type 0
-IsBelow g n = (u v : ℕ) → Edge g u v → v < n
 
 -- the edges are the constraints that edges of the digraph give
 pub record AreEdgeConstraints (l : Laid) (constraints : List (List ℕ)) : Type 0 where

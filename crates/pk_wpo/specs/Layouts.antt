@@ -1,10 +1,10 @@
 -- A nest laid out: its elements in the order of its brackets.
-use Rattle.std.specs.Prelude.{◌≡◌, ◌≢◌, ℕ, ◌+◌, ◌*◌, ◌<◌, ◌≤◌, ◌^◌, Bool, Option, None, Some, List, [], ◌∷◌, ◌++◌, length, map, slice_index, refl}
+use Rattle.std.specs.Prelude.{◌≡◌, ◌≢◌, ℕ, ◌+◌, ◌<◌, ◌^◌, Bool, Option, None, Some, List, [], ◌∷◌, ◌++◌, length, map, slice_index, refl}
 use Rattle.std.specs.Coded.{Coded, code_by, coded×, coded_ℕ, coded_list}
 use Rattle.std.specs.List.{range_with_len}
 use Rattle.pk_plan.specs.declared.components.Component.{Component}
 use Rattle.pk_plan.specs.Digraphs.{IsVertex, IsClosed}
-use Rattle.pk_plan.specs.Nests.{Items, No_items, Vertex_first, Component_first, Holds, IsNest}
+use Rattle.pk_plan.specs.Nests.{Items, No_items, Vertex_first, Component_first, IsNest}
 use Rattle.pk_plan.specs.NestCode.{items_code}
 use Rattle.pk_wpo.specs.Constraints.{Has, is_head, heads_below, exit_of}
 

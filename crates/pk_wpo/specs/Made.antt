@@ -1,5 +1,5 @@
 -- What the plan of a nest is.
-use Rattle.std.specs.Prelude.{◌≡◌, ℕ, ◌+◌, ◌⊎◌, List, length, Contains}
+use Rattle.std.specs.Prelude.{◌≡◌, ℕ, ◌⊎◌, List, length, Contains}
 use Rattle.pk_plan.specs.declared.components.Component.{Component}
 use Rattle.pk_plan.specs.Digraphs.{Edge}
 use Rattle.pk_plan.specs.Nests.{Items, Holds}

@@ -1,5 +1,5 @@
 -- The plan of a digraph doesn't depend on which of its nests is taken.
-use Rattle.std.specs.Prelude.{◌≡◌, ℕ, ◌<◌, ◌↔◌, List, length, map, Contains}
+use Rattle.std.specs.Prelude.{◌≡◌, ℕ, ◌↔◌, List, map, Contains}
 use Rattle.pk_plan.specs.declared.components.Component.{Component}
 use Rattle.pk_plan.specs.Nests.{Items, Holds}
 use Rattle.pk_plan.specs.Plans.{PlanView, Inside, inner_count}

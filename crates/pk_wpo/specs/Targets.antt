@@ -1,5 +1,5 @@
 -- What the top of u constrains by an edge from u to v.
-use Rattle.std.specs.Prelude.{◌≡◌, ℕ}
+use Rattle.std.specs.Prelude.{ℕ}
 
 -- v, or the exit of v where it is the head of a component that holds u
 pub data IsTarget (holds : ℕ → ℕ → Type 0) (exit : ℕ → ℕ) (u v : ℕ) : ℕ → Type 0 where

@@ -7,7 +7,7 @@ ghost use Rattle.pk_wpo.specs.Constraints.{Has, is_head, exit_of};
 ghost use Rattle.pk_wpo.specs.Layouts.{Laid, IsLaid, IsHome, IsInnermost, end_number, place_in, component_at, components_in};
 
 use crate::listing::{Listed, exits, heads, places, walked};
-use pk_plan::{Component, Digraph, Nest};
+use pk_plan::{Component, Digraph, Nest, lies_within};
 use std::alloc::{AllocError, Global};
 use std::marker::Model;
 
@@ -204,10 +204,4 @@ impl<'a> Layout<'a> {
         } = self;
         (elements, places)
     }
-}
-
-fn lies_within(from: u32, at: u32, before: u32) -> bool
-    ensures { IsTrue result ↔ ((from ≤ at) × (at < before)) }
-{
-    from <= at && at < before
 }

@@ -5,9 +5,6 @@ mod constraints;
 mod laws;
 mod layout;
 mod listing;
-mod reversed;
-#[cfg(test)]
-mod tests;
 mod top;
 mod weak_order;
 

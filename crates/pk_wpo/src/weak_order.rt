@@ -7,8 +7,7 @@ ghost use Rattle.pk_wpo.specs.Made.{IsPlanOf, Fits};
 
 use crate::constraints::{add_end_constraints, add_head_constraints, edge_constraints};
 use crate::layout::Layout;
-use crate::reversed::reversed;
-use pk_plan::{Digraph, Nest, Plan};
+use pk_plan::{Digraph, Nest, Plan, reversed};
 use std::alloc::{AllocError, Global};
 
 /// The plan of a digraph, by its nest.

@@ -36,3 +36,27 @@ pub returns-in-Ne : goal.returns-in-Ne
 returns-in-Ne c =
     let same = eqb-of_z c.args.a c.args.b c.ranges.a c.ranges.b in
     rw c.in-Ne.is (rw same at c.compared-in-Ne.ensures)
+
+pub returns-in-Lt : goal.returns-in-Lt
+returns-in-Lt c =
+    let left : FitsSigned w128 c.args.a = c.ranges.a in
+    let right : FitsSigned w128 c.args.b = c.ranges.b in
+    rw c.in-Lt.is (simp to_z-of_z at c.compared.ensures)
+
+pub returns-in-Gt : goal.returns-in-Gt
+returns-in-Gt c =
+    let left : FitsSigned w128 c.args.a = c.ranges.a in
+    let right : FitsSigned w128 c.args.b = c.ranges.b in
+    rw c.in-Gt.is (simp to_z-of_z at c.compared-in-Gt.ensures)
+
+pub returns-in-Le : goal.returns-in-Le
+returns-in-Le c =
+    let left : FitsSigned w128 c.args.a = c.ranges.a in
+    let right : FitsSigned w128 c.args.b = c.ranges.b in
+    rw c.in-Le.is (simp to_z-of_z at c.compared-in-Le.ensures)
+
+pub returns-in-Ge : goal.returns-in-Ge
+returns-in-Ge c =
+    let left : FitsSigned w128 c.args.a = c.ranges.a in
+    let right : FitsSigned w128 c.args.b = c.ranges.b in
+    rw c.in-Ge.is (simp to_z-of_z at c.compared-in-Ge.ensures)

@@ -1,21 +1,22 @@
-use Rattle.std.proofs.Common.{ap, ◌∙◌, FitsSigned, rules}
+use Rattle.std.proofs.Common.{ap, rules, ◌∙◌, ◌≡◌, FitsSigned}
 use Rattle.std.specs.Int.{w128}
 use Rattle.pk_interval.specs.Ranges.{Range}
-use Rattle.pk_interval.proofs.Numbers.{quotient_value, same_hull}
+use Rattle.std.specs.Prelude.{int_div}
+use Rattle.pk_interval.proofs.Numbers.{back_to, same_hull}
 use Rattle.pk_interval.proofs.products.corners.Goals as goal
 
 pub returns : goal.returns
 returns c =
-    let al = ap (λ (r : Range). r.lo) c.a.view_is in
-    let ah = ap (λ (r : Range). r.hi) c.a.view_is in
-    let bl = ap (λ (r : Range). r.lo) c.d.view_is in
-    let bh = ap (λ (r : Range). r.hi) c.d.view_is in
     let fal : FitsSigned w128 c.a.inside.lo = search rules in
     let fah : FitsSigned w128 c.a.inside.hi = search rules in
     let fdl : FitsSigned w128 c.d.inside.lo = search rules in
     let fdh : FitsSigned w128 c.d.inside.hi = search rules in
-    c.hull.ensures ∙ same_hull _ _ _ _ _ _ _ _
-    (quotient_value _ _ _ _ _ (record { sfits = c.divided.type_inv }) fal fdl c.divided.ensures al bl)
-    (quotient_value _ _ _ _ _ (record { sfits = c.divided-2.type_inv }) fal fdh c.divided-2.ensures al bh)
-    (quotient_value _ _ _ _ _ (record { sfits = c.divided-3.type_inv }) fah fdl c.divided-3.ensures ah bl)
-    (quotient_value _ _ _ _ _ (record { sfits = c.divided-4.type_inv }) fah fdh c.divided-4.ensures ah bh)
+    let al = back_to c.a.inside.lo c.args.a.now.lo fal (ap (λ (r : Range). r.lo) c.a.view_is) in
+    let ah = back_to c.a.inside.hi c.args.a.now.hi fah (ap (λ (r : Range). r.hi) c.a.view_is) in
+    let dl = back_to c.d.inside.lo c.args.d.now.lo fdl (ap (λ (r : Range). r.lo) c.d.view_is) in
+    let dh = back_to c.d.inside.hi c.args.d.now.hi fdh (ap (λ (r : Range). r.hi) c.d.view_is) in
+    let k1 : c.divided.result ≡ int_div c.args.a.now.lo c.args.d.now.lo = cc in
+    let k2 : c.divided-2.result ≡ int_div c.args.a.now.lo c.args.d.now.hi = cc in
+    let k3 : c.divided-3.result ≡ int_div c.args.a.now.hi c.args.d.now.lo = cc in
+    let k4 : c.divided-4.result ≡ int_div c.args.a.now.hi c.args.d.now.hi = cc in
+    c.hull.ensures ∙ same_hull _ _ _ _ _ _ _ _ (back_to _ _ (record { sfits = c.divided.type_inv }) k1) (back_to _ _ (record { sfits = c.divided-2.type_inv }) k2) (back_to _ _ (record { sfits = c.divided-3.type_inv }) k3) (back_to _ _ (record { sfits = c.divided-4.type_inv }) k4)

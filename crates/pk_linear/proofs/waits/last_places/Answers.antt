@@ -1,8 +1,12 @@
 use Rattle.std.proofs.Common.{◌≡◌, ◌<◌, ◌+◌, List, length, get_or, set, arith, sym, ap, subst}
 use Rattle.pk_plan.specs.declared.components.Component.{Component}
 use Rattle.pk_plan.proofs.PlanLemmas.{head_within}
-use Rattle.pk_linear.proofs.WaitLemmas.{AreLastsSoFar, nth_of, lasts_more, lasts_all}
+use Rattle.pk_linear.proofs.WaitLemmas.{AreLastsSoFar, nth_of, lasts_push, lasts_more, lasts_all}
 use Rattle.pk_linear.proofs.waits.last_places.Goals as goal
+
+pub loop-element-preserved : goal.loop-element-preserved
+loop-element-preserved c =
+    lasts_push c.args.plan.now c.loop-element.lasts.items c.push.new.self.items c.loop-element.element c.place.result c.loop-element.invariant c.in_ok-push.ensures.items c.place.ensures
 
 pub loop-component-init : goal.loop-component-init
 loop-component-init c = record {

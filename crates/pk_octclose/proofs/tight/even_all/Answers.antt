@@ -1,3 +1,4 @@
+use Rattle.pk_octmat.proofs.Bars.{pairs_of}
 use Rattle.std.proofs.Common.{arith, ap, sym, ◌∙◌, ◌<◌, ◌≡◌, refl, inr}
 use Rattle.pk_octmat.specs.Bounds.{even_down}
 use Rattle.pk_octmat.specs.Octagon.{cell_at, bar}
@@ -12,6 +13,6 @@ loop-i-preserved c =
     let i = c.loop-i.i in
     let column : bar i < c.args.d = omega (arith, c.requires.pairs, c.loop-i-test.true) in
     let here : c.index-cells-i.result ≡ e i (bar i) =
-    row_read _ _ _ _ _ _ c.requires.pairs c.loop-i.invariant.size c.loop-i-test.true c.bar.ensures c.index-cells-i.is ∙ c.loop-i.invariant.rest i (bar i) c.loop-i-test.true column (inr (refl, omega arith)) in
+    row_read _ _ _ _ _ _ (pairs_of _ c.requires.pairs) c.loop-i.invariant.size c.loop-i-test.true c.bar.ensures c.index-cells-i.is ∙ c.loop-i.invariant.rest i (bar i) c.loop-i-test.true column (inr (refl, omega arith)) in
     let is : c.even_down.result ≡ evened e i (bar i) = c.even_down.ensures ∙ ap even_down here ∙ sym (evened_here e i) in
     rw c.bar-in-loop-i.ensures (swept_one c.args.d i (bar i) e (evened e) c.loop-i.cells c.even_down.result c.loop-i.invariant c.loop-i-test.true column is (λ b n. evened_other e i b n))

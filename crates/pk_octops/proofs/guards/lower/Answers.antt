@@ -12,7 +12,8 @@ value : (c : After-set) (a b : ℕ) → entry c.set.new.self a b ≡ lowered (en
 value c a b =
     c.set.ensures.value a b
     ∙ ap (λ s. written (entry c.args.m.now) c.args.i c.args.j s a b)
-    (ap capped c.least.ensures ∙ lowered_is (entry c.args.m.now) c.args.i c.args.j c.args.c c.get-held.result _ c.get-held.ensures.value c.get-held.ensures.near (ap (λ z. Some z) (to_z-of_z w128 c.args.c c.ranges.c)))
+    (ap capped (c.number.ensures ∙ c.lesser-least.ensures)
+    ∙ lowered_is (entry c.args.m.now) c.args.i c.args.j c.args.c c.bound.result c.of.result c.bound.ensures.value c.bound.ensures.near (c.of.ensures.value ∙ ap (λ z. capped (Some z)) (to_z-of_z w128 c.args.c c.ranges.c)) c.of.ensures.near)
 
 pub returns-clause-value : goal.returns-clause-value
 returns-clause-value c = value c

@@ -1,7 +1,8 @@
 use Rattle.std.proofs.Common.{length, sym, ap, ◌∙◌, arith}
+use Rattle.pk_ast.specs.Views.{specifiers_tree}
 use Rattle.pk_grammar.specs.declared.signs.Fixed.TheVariants as fixed
-use Rattle.pk_grammar.specs.Steps.{declared_at}
-use Rattle.pk_grammar.specs.Running.{run}
+use Rattle.pk_grammar.specs.Machine.Steps.{declared_at}
+use Rattle.pk_grammar.specs.Machine.Running.{run}
 use Rattle.pk_expression.proofs.RunLemmas.{passed, fails_as}
 use Rattle.pk_parse.proofs.DeclarationLemmas.{shorter, named_first, can_declare_inner, stops_first_name, run_named, past_words_shorter}
 use Rattle.pk_parse.proofs.declarations.declaration.Goals as goal
@@ -15,7 +16,7 @@ pub returns-in_err-declarators : goal.returns-in_err-declarators
 returns-in_err-declarators c =
     passed _ _ c.from_residual-in_err-declarators.result _ c.from_residual-in_err-declarators.ensures.1
     (λ s inner same. fails_as _ _ _ (run_named _ _ c.requires s same _ _ _ _ c.in_ok-words.ensures _ _ _ c.in_ok-token.ensures c.identifier.ensures)
-    (c.in_err-declarators.ensures (named_first s c.in_ok-words.words.items) (can_declare_inner _ s _ _ _ _ inner same)))
+    (c.in_err-declarators.ensures (named_first s (specifiers_tree c.in_ok-words.words)) (can_declare_inner _ s _ _ _ _ inner same)))
 
 pub returns : goal.returns
 returns c =
@@ -26,7 +27,7 @@ returns c =
     let e = ap length w.1 in
     let h = r.1 in (
       λ s inner same. run_named _ _ c.requires s same _ _ _ _ w _ _ _ c.in_ok-token.ensures c.identifier.ensures
-          ∙ r.0 (named_first s c.in_ok-words.words.items) (can_declare_inner _ s _ _ _ _ inner same)
+          ∙ r.0 (named_first s (specifiers_tree c.in_ok-words.words)) (can_declare_inner _ s _ _ _ _ inner same)
           ∙ ap (λ q. run c.args.parser.end (declared_at s q) c.in_ok-declarators.last.now) (sym c.new.ensures),
       omega arith,
     )

@@ -1,8 +1,8 @@
-use Rattle.std.proofs.Common.{[], ◌∷◌, sym, ap, ◌∙◌, arith}
-use Rattle.pk_grammar.specs.States.{after_initializer}
-use Rattle.pk_grammar.specs.Running.{run}
+use Rattle.std.proofs.Common.{sym, ap, ◌∙◌, arith}
+use Rattle.pk_grammar.specs.Machine.States.{after_initializer}
+use Rattle.pk_grammar.specs.Machine.Running.{run}
 use Rattle.pk_expression.proofs.RunLemmas.{passed, fails_as}
-use Rattle.pk_parse.specs.Parts.{with_declarators}
+use Rattle.pk_grammar.specs.Machine.Steps.{with_declarator}
 use Rattle.pk_parse.proofs.RunDeclarations.{naming}
 use Rattle.pk_parse.proofs.declarations.declarator.Goals as goal
 
@@ -21,6 +21,6 @@ returns c =
     let h = l.1 in
     let g = i.1 in (
       λ d can. l.0 d c.args.name can ∙ i.0 (naming d c.args.name _) can.nesting
-          ∙ ap (λ q. run c.args.parser.end (after_initializer (with_declarators d (q ∷ []))) c.in_ok-initializer.rest.now) (sym c.new.ensures),
+          ∙ ap (λ q. run c.args.parser.end (after_initializer (with_declarator d q)) c.in_ok-initializer.rest.now) (sym c.new.ensures),
       omega arith,
     )

@@ -1,24 +1,37 @@
 use Rattle.std.proofs.Common.{Some, sym, ap, ◌∙◌, arith}
+use Rattle.pk_ast.specs.Trees.{no_expressions}
+use Rattle.pk_ast.specs.Views.{expression_tree}
 use Rattle.pk_grammar.specs.declared.signs.Fixed.TheVariants as fixed
-use Rattle.pk_grammar.specs.States.{after_initializer}
-use Rattle.pk_grammar.specs.Steps.{with_initializer}
-use Rattle.pk_grammar.specs.Running.{run}
+use Rattle.pk_grammar.specs.Machine.States.{after_initializer}
+use Rattle.pk_grammar.specs.Machine.Steps.{with_initializer}
+use Rattle.pk_grammar.specs.Machine.Running.{run}
 use Rattle.pk_expression.proofs.RunLemmas.{passed, fails_as}
-use Rattle.pk_parse.proofs.DeclarationLemmas.{shorter, run_opened, fails_value, reads_value}
+use Rattle.pk_parse.proofs.DeclarationLemmas.{shorter, run_opened, run_first, fails_value, reads_value}
 use Rattle.pk_parse.proofs.declarations.value.Goals as goal
 
-pub returns-in_err-list : goal.returns-in_err-list
-returns-in_err-list c =
+pub returns-in_err-first : goal.returns-in_err-first
+returns-in_err-first c =
     passed _ _ c.from_residual.result _ c.from_residual.ensures.1
-    (λ d same. fails_as _ _ _ (run_opened _ _ c.requires d same _ _ _ c.in-Some.ensures) (c.in_err-list.ensures d c.in-Some.open.at same))
+    (λ d same. fails_as _ _ _ (run_opened _ _ c.requires d same _ _ _ c.in-Some.ensures ∙ run_first _ _ _ d c.in-Some.open.at same) (c.in_err-first.ensures d c.in-Some.open.at no_expressions same))
+
+pub returns-in_err-more : goal.returns-in_err-more
+returns-in_err-more c =
+    let f = c.in_ok-first.ensures in
+    passed _ _ c.from_residual-in_err-more.result _ c.from_residual-in_err-more.ensures.1
+    (λ d same. fails_as _ _ _
+    (run_opened _ _ c.requires d same _ _ _ c.in-Some.ensures ∙ run_first _ _ _ d c.in-Some.open.at same ∙ f.0 d c.in-Some.open.at no_expressions same)
+    (c.in_err-more.ensures d c.in-Some.open.at (expression_tree c.in_ok-first.first) same))
 
 pub returns-in-Some : goal.returns-in-Some
 returns-in-Some c =
-    let r = c.in_ok-list.ensures in
+    let f = c.in_ok-first.ensures in
+    let r = c.in_ok-more.ensures in
     let a = shorter fixed.OpenBrace _ _ _ c.in-Some.ensures in
+    let g = f.2 in
     let h = r.1 in (
-      λ d same. run_opened _ _ c.requires d same _ _ _ c.in-Some.ensures ∙ r.0 d c.in-Some.open.at same
-          ∙ ap (λ q. run c.args.parser.end (after_initializer (with_initializer d (Some q))) c.in_ok-list.rest.now) (sym c.braced.ensures),
+      λ d same. run_opened _ _ c.requires d same _ _ _ c.in-Some.ensures ∙ run_first _ _ _ d c.in-Some.open.at same ∙ f.0 d c.in-Some.open.at no_expressions same
+          ∙ r.0 d c.in-Some.open.at (expression_tree c.in_ok-first.first) same
+          ∙ ap (λ q. run c.args.parser.end (after_initializer (with_initializer d (Some q))) c.in_ok-more.rest.now) (sym c.braced.ensures),
       omega arith,
     )
 

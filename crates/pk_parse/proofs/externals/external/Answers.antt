@@ -1,6 +1,7 @@
 use Rattle.std.proofs.Common.{length, sym, ap, ◌∙◌, arith}
+use Rattle.pk_ast.specs.Views.{declarators_tree}
 use Rattle.pk_grammar.specs.declared.signs.Fixed.TheVariants as fixed
-use Rattle.pk_grammar.specs.Running.{syntax}
+use Rattle.pk_grammar.specs.Machine.Running.{syntax}
 use Rattle.pk_expression.proofs.RunLemmas.{passed}
 use Rattle.pk_expression.proofs.WordLemmas as word_lemmas
 use Rattle.pk_parse.proofs.DeclarationLemmas.{shorter, past_words_shorter}
@@ -33,7 +34,7 @@ returns-in_default-take c =
     let f = shorter fixed.Name _ _ _ c.in_ok-token.ensures in
     let g = r.1 in (
       λ before. reads_objects _ before _ c.storage-storage.result.0 _ (c.storage-storage.ensures.reads before) _ _ c.in-Some.ensures _ _ c.in_ok-words.ensures _ _ _ c.in_ok-token.ensures c.identifier-name.ensures
-          c.in_default-take.ensures c.in_ok-declarators.declarators.items _ r.0 _ _ c.new-declaration.ensures c.declaration.ensures,
+          c.in_default-take.ensures (declarators_tree c.in_ok-declarators.declarators) _ r.0 _ _ c.new-declaration.ensures c.declaration.ensures,
       omega arith,
     )
 

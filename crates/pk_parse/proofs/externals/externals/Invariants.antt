@@ -1,7 +1,7 @@
 use Rattle.std.proofs.Common.{◌≡◌, [], length}
 use Rattle.pk_ast.specs.Views.{external_trees}
-use Rattle.pk_grammar.specs.States.{top}
-use Rattle.pk_grammar.specs.Running.{run}
+use Rattle.pk_grammar.specs.Machine.States.{top}
+use Rattle.pk_grammar.specs.Machine.Running.{run}
 use Rattle.pk_parse.proofs.externals.externals.Given as goal
 
 abbrev pub invariant-loop-rest : goal.invariant-loop-rest

@@ -4,8 +4,8 @@ use Rattle.pk_ast.specs.declared.units.Parameter.{Parameter}
 use Rattle.pk_ast.specs.Trees.{ParameterTree}
 use Rattle.pk_ast.specs.Views.{parameter_trees}
 use Rattle.pk_grammar.specs.declared.signs.Fixed.TheVariants as fixed
-use Rattle.pk_grammar.specs.States.{parameters_closed}
-use Rattle.pk_grammar.specs.Running.{syntax, run}
+use Rattle.pk_grammar.specs.Machine.States.{parameters_closed}
+use Rattle.pk_grammar.specs.Machine.Running.{syntax, run}
 use Rattle.pk_expression.proofs.RunLemmas.{passed}
 use Rattle.pk_expression.proofs.WordLemmas as word_lemmas
 use Rattle.pk_parse.proofs.DeclarationLemmas.{shorter}

@@ -1,15 +1,15 @@
 use Rattle.std.proofs.Common.{◌≡◌, ◌≢◌, ◌+◌, ◌≤◌, length, option_map, inl, inr, refl, ap, sym, ◌∙◌, arith, rules}
-use Rattle.pk_ast.specs.Trees.{no_items, do_while, continue, break, empty}
+use Rattle.pk_ast.specs.Trees.{if_else, no_items, do_while, continue, break, empty}
 use Rattle.pk_ast.specs.Views.{expression_tree, for_start_tree, statement_tree, item_trees}
 use Rattle.pk_grammar.specs.declared.failure.ParseError.TheVariants.{Syntax, Nesting}
 use Rattle.pk_grammar.specs.declared.states.Testing.TheVariants as testing
 use Rattle.pk_grammar.specs.declared.signs.Fixed.TheVariants as fixed
 use Rattle.pk_grammar.specs.declared.signs.OperandStart.TheVariants as start
 use Rattle.pk_grammar.specs.declared.signs.StatementStart.TheVariants as first
-use Rattle.pk_grammar.specs.Signs.{is_fixed, operand_start, statement_start}
-use Rattle.pk_grammar.specs.States.{inner_block, in_block, in_label, in_case, in_default, in_if, in_else, in_do, in_for, in_a_block, as_label, as_whole, block_item, at_statement, after_statement, test_open, for_open, default_colon, goto_name, returning, statement_end, operand}
-use Rattle.pk_grammar.specs.Steps.{tested}
-use Rattle.pk_grammar.specs.Running.{run}
+use Rattle.pk_grammar.specs.Machine.Signs.{is_fixed, operand_start, statement_start}
+use Rattle.pk_grammar.specs.Machine.States.{inner_block, in_block, in_label, in_case, in_default, in_if, in_else, in_do, in_for, in_a_block, as_label, as_whole, block_item, at_statement, after_statement, test_open, for_open, default_colon, goto_name, returning, statement_end, operand}
+use Rattle.pk_grammar.specs.Machine.Steps.{tested}
+use Rattle.pk_grammar.specs.Machine.Running.{run}
 use Rattle.pk_expression.proofs.RunLemmas.{passed, fails_as}
 use Rattle.pk_parse.specs.Parts.{with_items, after_block}
 use Rattle.pk_parse.proofs.RunStatements.{run_statement_end, no_statement_end}
@@ -158,7 +158,7 @@ choice-returns t c = (
       ∙ c.in_ok-yes.ensures.0 (in_if n c.args.at (expression_tree c.in_ok-test.test) o)
       ∙ run_else c.args.parser.end n o (statement_tree c.in_ok-yes.yes) c.in_ok-yes.rest.now c.args.at (expression_tree c.in_ok-test.test) _ _ c.in-Some.ensures c.args.inside i c.in_ok-branch.branch c.in_ok-branch.ensures
       ∙ c.in_ok-no.ensures.0 (in_else n c.args.at (expression_tree c.in_ok-test.test) (statement_tree c.in_ok-yes.yes) o)
-      ∙ after_else c.args.parser.end n o (statement_tree c.in_ok-no.no) c.in_ok-no.last.now _ c.args.at (expression_tree c.in_ok-test.test) (statement_tree c.in_ok-yes.yes) c.in_ok-whole-2.ensures,
+      ∙ after_else c.args.parser.end n o (statement_tree c.in_ok-no.no) c.in_ok-no.last.now _ c.args.at (expression_tree c.in_ok-test.test) (statement_tree c.in_ok-yes.yes) (c.in_ok-whole-2.ensures ∙ ap (λ y. if_else c.args.at (expression_tree c.in_ok-test.test) (statement_tree y) (statement_tree c.in_ok-no.no)) c.in_ok-yes-2.ensures.ok),
   let g = c.in_ok-test.ensures.1 in let h = c.in_ok-yes.ensures.1 in let k = c.in_ok-no.ensures.1 in omega (arith, ap length c.in-Some.ensures.cut),
 )
 
@@ -230,23 +230,23 @@ repeated-returns t c =
       let g = c.in_ok-body.ensures.1 in let h = c.in_ok-test.ensures.1 in omega (arith, ap length c.in_ok-after.ensures.cut, ap length c.in_ok-last.ensures.cut),
     )
 
-pub for_loop-returns-in_err-start : goal.for_loop-returns-in_err-start
-for_loop-returns-in_err-start t c =
-    passed _ _ c.from_residual.result _ c.from_residual.ensures.1 (λ n o i. c.in_err-start.ensures n c.args.at o i)
+pub for_loop-returns-in_err-head : goal.for_loop-returns-in_err-head
+for_loop-returns-in_err-head t c =
+    passed _ _ c.from_residual.result _ c.from_residual.ensures.1 (λ n o i. c.in_err-head.ensures n c.args.at o i)
 
 pub for_loop-returns-in_err-body : goal.for_loop-returns-in_err-body
 for_loop-returns-in_err-body t c =
-    let h = c.in_ok-start in
+    let h = c.in_ok-head in
     passed _ _ c.from_residual-in_err-body.result _ c.from_residual-in_err-body.ensures.1
-    (λ n o i. fails_as _ _ _ (h.ensures.0 n c.args.at o i) (c.in_err-body.ensures (in_for n c.args.at (for_start_tree h.start) (option_map expression_tree h.test) (option_map expression_tree h.step) o)))
+    (λ n o i. fails_as _ _ _ (h.ensures.0 n c.args.at o i) (c.in_err-body.ensures (in_for n c.args.at (for_start_tree h.head.value.start) (option_map expression_tree h.head.value.condition) (option_map expression_tree h.head.value.step) o)))
 
 pub for_loop-returns : goal.for_loop-returns
 for_loop-returns t c =
-    let h = c.in_ok-start in (
+    let h = c.in_ok-head in (
       λ n o i.
           h.ensures.0 n c.args.at o i
-          ∙ c.in_ok-body.ensures.0 (in_for n c.args.at (for_start_tree h.start) (option_map expression_tree h.test) (option_map expression_tree h.step) o)
-          ∙ after_for c.args.parser.end n o (statement_tree c.in_ok-body.body) c.in_ok-body.last.now _ c.args.at (for_start_tree h.start) (option_map expression_tree h.test) (option_map expression_tree h.step) c.in_ok-whole.ensures,
+          ∙ c.in_ok-body.ensures.0 (in_for n c.args.at (for_start_tree h.head.value.start) (option_map expression_tree h.head.value.condition) (option_map expression_tree h.head.value.step) o)
+          ∙ after_for c.args.parser.end n o (statement_tree c.in_ok-body.body) c.in_ok-body.last.now _ c.args.at (for_start_tree h.head.value.start) (option_map expression_tree h.head.value.condition) (option_map expression_tree h.head.value.step) c.in_ok-whole.ensures,
       let f = h.ensures.1 in let g = c.in_ok-body.ensures.1 in omega arith,
     )
 
@@ -271,7 +271,7 @@ block_items-loop-parser-preserved-in-Some t c =
           c.loop-parser.invariant.0 b n
           ∙ run_item_word c.args.parser.end b list c.loop-parser.rest.now c.args.inside n _ _ c.in-Some.ensures c.requires
           ∙ c.in_ok-declaration.ensures.0 (in_a_block (with_items b (item_trees list))) tt (nesting_with_items b (item_trees list) ∙ n)
-          ∙ after_item_declaration c.args.parser.end b list c.in_ok-declaration.next.now c.declaration-in-Some.result _ c.in_ok-push.ensures.items _ c.declaration-in-Some.ensures,
+          ∙ after_item_declaration c.args.parser.end b list c.in_ok-declaration.next.now c.in_ok-declaration-2.field-0 _ c.in_ok-push.ensures.items _ c.in_ok-declaration-2.ensures,
       let g = c.loop-parser.invariant.1 in let h = c.in_ok-declaration.ensures.1 in omega (arith, ap length c.in-Some.ensures.cut),
     )
 

@@ -1,8 +1,8 @@
 use Rattle.std.proofs.Common.{◌≡◌, ◌+◌, ◌-◌, ◌*◌, ◌≤◌, length}
 use Rattle.pk_ast.specs.Views.{item_trees}
-use Rattle.pk_grammar.specs.States.{OpenBlock, block_item}
-use Rattle.pk_grammar.specs.Steps.{block_nesting}
-use Rattle.pk_grammar.specs.Running.{run}
+use Rattle.pk_grammar.specs.Machine.States.{OpenBlock, block_item}
+use Rattle.pk_grammar.specs.Machine.Steps.{block_nesting}
+use Rattle.pk_grammar.specs.Machine.Running.{run}
 use Rattle.pk_parse.specs.Parts.{with_items}
 use Rattle.pk_parse.proofs.statements.+statements.Given as goal
 

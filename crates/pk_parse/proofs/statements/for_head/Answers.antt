@@ -1,7 +1,8 @@
 use Rattle.std.proofs.Common.{◌≡◌, ◌+◌, length, option_map, ap, sym, ◌∙◌, arith}
+use Rattle.pk_ast.specs.declared.statements.ForHead.{ForHead}
 use Rattle.pk_ast.specs.Views.{expression_tree, for_start_tree}
-use Rattle.pk_grammar.specs.States.{in_for, at_statement}
-use Rattle.pk_grammar.specs.Running.{run}
+use Rattle.pk_grammar.specs.Machine.States.{in_for, at_statement}
+use Rattle.pk_grammar.specs.Machine.Running.{run}
 use Rattle.pk_expression.proofs.RunLemmas.{passed, fails_as}
 use Rattle.pk_parse.proofs.StatementLemmas.{run_for_open, no_for_open, deep_for_open}
 use Rattle.pk_parse.proofs.statements.for_head.Goals as goal
@@ -23,15 +24,15 @@ returns-in_err-start c =
     (λ n at o e. fails_as _ _ _ (run_for_open c.args.parser.end n at o c.args.tokens.now c.args.inside e _ _ _ c.in_ok-open.ensures h)
     (c.in_err-start.ensures n at o (let f = h.0 in omega arith)))
 
-pub returns-in_err-test : goal.returns-in_err-test
-returns-in_err-test c =
+pub returns-in_err-condition : goal.returns-in_err-condition
+returns-in_err-condition c =
     let h = c.in_ok-head.ensures in
-    passed _ _ c.from_residual-in_err-test.result _ c.from_residual-in_err-test.ensures.1
+    passed _ _ c.from_residual-in_err-condition.result _ c.from_residual-in_err-condition.ensures.1
     (λ n at o e.
     let two : c.in_ok-head.head ≡ n + 2 = let f = h.0 in omega arith in
     fails_as _ _ _
     (run_for_open c.args.parser.end n at o c.args.tokens.now c.args.inside e _ _ _ c.in_ok-open.ensures h ∙ c.in_ok-start.ensures.0 n at o two)
-    (c.in_err-test.ensures n at (for_start_tree c.in_ok-start.start) o two))
+    (c.in_err-condition.ensures n at (for_start_tree c.in_ok-start.start) o two))
 
 pub returns : goal.returns
 returns c =
@@ -40,7 +41,8 @@ returns c =
           let two : c.in_ok-head.head ≡ n + 2 = let f = h.0 in omega arith in
           run_for_open c.args.parser.end n at o c.args.tokens.now c.args.inside e _ _ _ c.in_ok-open.ensures h
           ∙ c.in_ok-start.ensures.0 n at o two
-          ∙ c.in_ok-test.ensures.0 n at (for_start_tree c.in_ok-start.start) o two
-          ∙ ap (λ q. run c.args.parser.end (at_statement q (in_for n at (for_start_tree c.in_ok-start.start) (option_map expression_tree c.in_ok-test.test) (option_map expression_tree c.in_ok-test.step) o)) c.in_ok-test.last.now) (sym e),
-      let f = c.in_ok-start.ensures.1 in let g = c.in_ok-test.ensures.1 in omega (arith, ap length c.in_ok-open.ensures.cut),
+          ∙ c.in_ok-condition.ensures.0 n at (for_start_tree c.in_ok-start.start) o two
+          ∙ ap (λ q. run c.args.parser.end (at_statement q (in_for n at (for_start_tree c.in_ok-start.start) (option_map expression_tree c.in_ok-condition.condition) (option_map expression_tree c.in_ok-condition.step) o)) c.in_ok-condition.last.now) (sym e)
+          ∙ ap (λ (h : ForHead). run c.args.parser.end (at_statement c.args.inside (in_for n at (for_start_tree h.start) (option_map expression_tree h.condition) (option_map expression_tree h.step) o)) c.in_ok-condition.last.now) (sym c.in_ok-new.ensures.ok),
+      let f = c.in_ok-start.ensures.1 in let g = c.in_ok-condition.ensures.1 in omega (arith, ap length c.in_ok-open.ensures.cut),
     )

@@ -1,7 +1,7 @@
 use Rattle.std.proofs.Common.{length, option_map, ap, sym, ◌∙◌, arith}
 use Rattle.pk_ast.specs.Views.{expression_tree}
-use Rattle.pk_grammar.specs.States.{after_statement}
-use Rattle.pk_grammar.specs.Running.{run}
+use Rattle.pk_grammar.specs.Machine.States.{after_statement}
+use Rattle.pk_grammar.specs.Machine.Running.{run}
 use Rattle.pk_expression.proofs.RunLemmas.{passed}
 use Rattle.pk_parse.proofs.RunStatements.{result_part, fails_part, reads_part, unclosed_part}
 use Rattle.pk_parse.proofs.statements.returning.Goals as goal

@@ -1,4 +1,4 @@
-use Rattle.std.proofs.Common.{◌≡◌, ◌+◌, ℕ, List, length, sym, arith, ◌∙◌}
+use Rattle.std.proofs.Common.{arith, ◌∙◌}
 use Rattle.pk_wpo.proofs.Steps.{ends_more, ends_end}
 use Rattle.pk_wpo.proofs.constraints.add_end_constraints.Goals as goal
 

@@ -1,6 +1,6 @@
-use Rattle.std.proofs.Common.{◌≡◌, ◌<◌, ◌≤◌, ◌+◌, ℕ, Bool, false, List, Some, IsTrue, ◌↔◌, length, get_or, ap, sym, subst, arith, ◌∙◌}
+use Rattle.std.proofs.Common.{◌≡◌, ◌<◌, Bool, false, IsTrue, ◌↔◌, get_or, sym, subst, arith, ◌∙◌}
 use Rattle.std.proofs.lemmas.List.{get_or_default}
-use Rattle.pk_wpo.specs.Layouts.{Laid, end_number}
+use Rattle.pk_wpo.specs.Layouts.{end_number}
 use Rattle.pk_wpo.specs.Edges.{IsLed}
 use Rattle.pk_wpo.proofs.Steps.{heads_step, heads_end, head_for_below}
 use Rattle.pk_wpo.proofs.constraints.add_head_constraints.Goals as goal

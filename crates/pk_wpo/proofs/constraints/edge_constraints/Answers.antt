@@ -1,9 +1,8 @@
-use Rattle.std.proofs.Common.{◌≡◌, ◌<◌, ◌≤◌, ◌+◌, ◌++◌, ◌∷◌, [], ℕ, List, length, get_or, ap, sym, subst, arith, refl, ◌∙◌}
+use Rattle.std.proofs.Common.{◌++◌, ◌∷◌, [], ℕ, List, length, get_or, ap, subst, arith, ◌∙◌}
 use Rattle.std.proofs.Math.ListN.{length-set}
 use Rattle.pk_plan.specs.Digraphs.{Edge}
-use Rattle.pk_wpo.specs.Layouts.{Laid, end_number}
 use Rattle.pk_wpo.proofs.Orders.{top_below}
-use Rattle.pk_wpo.proofs.Drawing.{EdgesOf, Rows, RowTo, edge_more_of, row_begins, row_more, row_ends, rows_end}
+use Rattle.pk_plan.proofs.Drawing.{EdgesOf, edge_more_of, row_begins, row_more, row_ends, rows_end}
 use Rattle.pk_wpo.proofs.Steps.{Drawn, drawn_is_one, target_below, are_edge_constraints}
 use Rattle.pk_wpo.proofs.constraints.edge_constraints.Goals as goal
 

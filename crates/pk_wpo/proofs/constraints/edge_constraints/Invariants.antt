@@ -1,6 +1,6 @@
 use Rattle.std.proofs.Common.{◌≡◌, ◌+◌, length}
 use Rattle.pk_wpo.specs.Layouts.{end_number}
-use Rattle.pk_wpo.proofs.Drawing.{EdgesOf, Rows, RowTo}
+use Rattle.pk_plan.proofs.Drawing.{EdgesOf, Rows, RowTo}
 use Rattle.pk_wpo.proofs.Steps.{Drawn}
 use Rattle.pk_wpo.proofs.constraints.edge_constraints.Given as goal
 

@@ -1,4 +1,4 @@
-use Rattle.std.proofs.Common.{◌≡◌, ℕ, Some, IsTrue, subst}
+use Rattle.std.proofs.Common.{ℕ, subst}
 use Rattle.pk_wpo.proofs.Orders.{HasIn}
 use Rattle.pk_wpo.proofs.Steps.{home_is_one}
 use Rattle.pk_wpo.proofs.constraints.is_from_home.Goals as goal

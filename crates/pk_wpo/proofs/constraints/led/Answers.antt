@@ -1,6 +1,5 @@
-use Rattle.std.proofs.Common.{◌≡◌, ◌<◌, ◌≤◌, ◌+◌, ℕ, List, length, get_or, ap, sym, subst, arith, ◌∙◌}
-use Rattle.pk_wpo.specs.Layouts.{Laid, end_number}
-use Rattle.pk_wpo.proofs.Steps.{LedTo, led_begins, led_row_begins, led_row_more, led_row_ends, led_ends, row_below}
+use Rattle.std.proofs.Common.{arith, ◌∙◌}
+use Rattle.pk_wpo.proofs.Steps.{led_row_begins, led_row_more, led_row_ends, led_ends, row_below}
 use Rattle.pk_wpo.proofs.constraints.led.Goals as goal
 
 pub loop-b-init : goal.loop-b-init

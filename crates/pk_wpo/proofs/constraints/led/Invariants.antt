@@ -1,6 +1,6 @@
 use Rattle.std.proofs.Common.{◌≡◌, length}
 use Rattle.pk_wpo.specs.Layouts.{end_number}
-use Rattle.pk_wpo.proofs.Drawing.{Rows, RowTo}
+use Rattle.pk_plan.proofs.Drawing.{Rows, RowTo}
 use Rattle.pk_wpo.proofs.Steps.{LedTo}
 use Rattle.pk_wpo.proofs.constraints.led.Given as goal
 

@@ -1,8 +1,7 @@
-use Rattle.std.proofs.Common.{◌≡◌, ◌<◌, ◌+◌, ◌||◌, ℕ, Bool, false, List, length, get_or, take, ap, sym, subst, arith, ◌∙◌}
+use Rattle.std.proofs.Common.{◌≡◌, ◌||◌, Bool, List, length, get_or, ap, sym, arith, ◌∙◌}
 use Rattle.pk_plan.specs.declared.nests.NestPlace.{NestPlace}
 use Rattle.pk_plan.specs.declared.nests.NestPlace.TheVariants.{Vertex}
 use Rattle.std.proofs.lemmas.List.{take_all}
-use Rattle.pk_plan.specs.NestPlaces.{nest_places}
 use Rattle.pk_wpo.specs.Walks.{is_head_at}
 use Rattle.pk_wpo.proofs.Walked.{heads_seen, seen_more, heads_all_seen}
 use Rattle.pk_wpo.proofs.listing.heads.Goals as goal

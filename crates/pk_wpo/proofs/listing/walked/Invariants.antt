@@ -1,4 +1,4 @@
-use Rattle.std.proofs.Common.{◌≡◌, ◌<◌, ◌++◌, [], ℕ, length, get_or, drop, reverse, All}
+use Rattle.std.proofs.Common.{◌≡◌, ◌<◌, ◌++◌, [], length, get_or, drop, reverse, All}
 use Rattle.pk_wpo.specs.Walks.{walk_elements, walk_homes}
 use Rattle.pk_wpo.proofs.listing.walked.Given as goal
 

@@ -1,13 +1,7 @@
-use Rattle.std.proofs.Common.{◌≡◌, ◌<◌, ◌≤◌, ◌+◌, length, get_or, slice_index, ap, subst, sym, arith, refl, ◌∙◌, List, [], ◌∷◌, ◌++◌, map, ℕ, Option, Some, Bool, true, false, IsTrue, ◌↔◌, inl, inr}
-use Rattle.pk_plan.specs.declared.components.Component.{Component}
-use Rattle.pk_plan.specs.Nests.{Holds}
-use Rattle.pk_wpo.specs.Constraints.{Has, vertex, exit_of, is_head, heads_below}
-use Rattle.pk_wpo.specs.Targets.{IsTarget, vertex as plain_vertex, exit_of_head}
-use Rattle.pk_wpo.specs.Layouts.{Laid, IsLaid, IsKept, IsHome, IsInnermost, end_number, place_in, component_at}
-use Rattle.pk_wpo.proofs.Numbers.{head_holds, holds_head}
-use Rattle.pk_wpo.proofs.Placed.{Hold, head_vertex, exit_before_end}
-use Rattle.pk_wpo.proofs.Components.{components_more, components_same}
-use Rattle.pk_wpo.proofs.Climbing.{Climbing, climb_begins, climb_on, climb_ends, climb_is_out, climb_shortens}
+use Rattle.std.proofs.Common.{◌≡◌, subst, sym, arith, ℕ, Option, Some}
+use Rattle.pk_wpo.specs.Layouts.{Laid}
+use Rattle.pk_wpo.proofs.Placed.{head_vertex}
+use Rattle.pk_wpo.proofs.Climbing.{Climbing, climb_on, climb_ends, climb_is_out, climb_shortens}
 use Rattle.pk_wpo.proofs.top.top.Goals as goal
 
 -- the climb, at the component that comes next

@@ -1,5 +1,4 @@
-use Rattle.std.proofs.Common.{◌≡◌, ◌+◌, ℕ, List, length, ap, sym, subst, arith, ◌∙◌}
-use Rattle.pk_wpo.specs.Layouts.{Laid, end_number}
+use Rattle.std.proofs.Common.{◌+◌, ℕ, subst, arith, ◌∙◌}
 use Rattle.pk_wpo.specs.Edges.{HasEndConstraintsMore}
 use Rattle.pk_wpo.proofs.PlanMade.{Drawn, axioms_by_parts, plan_by_parts}
 use Rattle.pk_wpo.proofs.weak_order.plan.Goals as goal
@@ -13,11 +12,9 @@ new-requires-2 c =
       heads = c.in_ok-add_head_constraints.ensures.edges;
       ends = subst (λ (n : ℕ). HasEndConstraintsMore n c.add_head_constraints.new.constraints c.add_end_constraints.new.constraints) c.end-end.ensures.end c.in_ok-add_end_constraints.ensures.edges;
       long = c.in_ok-add_end_constraints.ensures.as_many ∙ c.in_ok-add_head_constraints.ensures.as_many ∙ c.in_ok-constraints.ensures.as_many;
-      backward = c.in_ok-predecessors.ensures.edges;
-      backward_long = c.in_ok-predecessors.ensures.as_many;
+      backward = c.in_ok-predecessors.ensures.reverse;
       backward_rises = c.in_ok-predecessors.ensures.rising;
-      forward = c.in_ok-successors.ensures.edges;
-      forward_long = c.in_ok-successors.ensures.as_many;
+      forward = c.in_ok-successors.ensures.reverse;
       forward_rises = c.in_ok-successors.ensures.rising;
     } in
     axioms_by_parts l c.in_ok-constraints.constraints c.add_head_constraints.new.constraints c.add_end_constraints.new.constraints c.in_ok-predecessors.predecessors c.in_ok-successors.successors c.args.graph.now c.vertices.result (c.end-end.result + 1)
@@ -33,11 +30,9 @@ returns-clause-plan c =
       heads = c.in_ok-add_head_constraints.ensures.edges;
       ends = subst (λ (n : ℕ). HasEndConstraintsMore n c.add_head_constraints.new.constraints c.add_end_constraints.new.constraints) c.end-end.ensures.end c.in_ok-add_end_constraints.ensures.edges;
       long = c.in_ok-add_end_constraints.ensures.as_many ∙ c.in_ok-add_head_constraints.ensures.as_many ∙ c.in_ok-constraints.ensures.as_many;
-      backward = c.in_ok-predecessors.ensures.edges;
-      backward_long = c.in_ok-predecessors.ensures.as_many;
+      backward = c.in_ok-predecessors.ensures.reverse;
       backward_rises = c.in_ok-predecessors.ensures.rising;
-      forward = c.in_ok-successors.ensures.edges;
-      forward_long = c.in_ok-successors.ensures.as_many;
+      forward = c.in_ok-successors.ensures.reverse;
       forward_rises = c.in_ok-successors.ensures.rising;
     } in
     (plan_by_parts l c.in_ok-constraints.constraints c.add_head_constraints.new.constraints c.add_end_constraints.new.constraints c.in_ok-predecessors.predecessors c.in_ok-successors.successors c.args.graph.now c.args.nest.now c.vertices.result (c.end-end.result + 1)
@@ -53,11 +48,9 @@ returns-clause-fits c =
       heads = c.in_ok-add_head_constraints.ensures.edges;
       ends = subst (λ (n : ℕ). HasEndConstraintsMore n c.add_head_constraints.new.constraints c.add_end_constraints.new.constraints) c.end-end.ensures.end c.in_ok-add_end_constraints.ensures.edges;
       long = c.in_ok-add_end_constraints.ensures.as_many ∙ c.in_ok-add_head_constraints.ensures.as_many ∙ c.in_ok-constraints.ensures.as_many;
-      backward = c.in_ok-predecessors.ensures.edges;
-      backward_long = c.in_ok-predecessors.ensures.as_many;
+      backward = c.in_ok-predecessors.ensures.reverse;
       backward_rises = c.in_ok-predecessors.ensures.rising;
-      forward = c.in_ok-successors.ensures.edges;
-      forward_long = c.in_ok-successors.ensures.as_many;
+      forward = c.in_ok-successors.ensures.reverse;
       forward_rises = c.in_ok-successors.ensures.rising;
     } in
     (plan_by_parts l c.in_ok-constraints.constraints c.add_head_constraints.new.constraints c.add_end_constraints.new.constraints c.in_ok-predecessors.predecessors c.in_ok-successors.successors c.args.graph.now c.args.nest.now c.vertices.result (c.end-end.result + 1)

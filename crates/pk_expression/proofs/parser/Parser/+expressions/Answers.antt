@@ -1,11 +1,11 @@
 use Rattle.std.proofs.Common.{◌+◌, ◌<◌, ◌≤◌, SFits, w8, length, refl, sym, ap, subst, ◌∙◌, arith, rules}
 use Rattle.std.proofs.lemmas.Int.{to_z-of_z}
 use Rattle.pk_ast.specs.Trees.{call, character}
-use Rattle.pk_ast.specs.Views.{expression_tree, expression_trees}
+use Rattle.pk_ast.specs.Views.{expression_tree, expression_trees, specifiers_tree}
 use Rattle.pk_grammar.specs.Grammar.{operators_in, postfixes_in, commas_in}
-use Rattle.pk_grammar.specs.States.{Context, in_call, in_index, in_parentheses, in_cast, in_choice, in_alternative, in_assignment, in_comma, named, operand, complete}
-use Rattle.pk_grammar.specs.Steps.{operand_level}
-use Rattle.pk_grammar.specs.Running.{run}
+use Rattle.pk_grammar.specs.Machine.States.{Context, in_call, in_index, in_parentheses, in_cast, in_choice, in_alternative, in_assignment, in_comma, named, operand, complete}
+use Rattle.pk_grammar.specs.Machine.Steps.{operand_level}
+use Rattle.pk_grammar.specs.Machine.Running.{run}
 use Rattle.pk_expression.proofs.RunLemmas.{passed, handed, fails_as, fails_syntax, fails_nesting, no_more, below, outside_below, one_below}
 use Rattle.pk_expression.proofs.WordLemmas.{no_longer}
 use Rattle.pk_expression.proofs.RunOperators.{follows_weaker, deep_question, deep_assignment, no_assignment}
@@ -169,14 +169,14 @@ cast-returns-in_err-operand t c =
     passed _ _ c.from_residual-in_err-operand.result _ c.from_residual-in_err-operand.ensures.1
     (λ k h. fails_as _ _ _
     (closes_cast c.args.self.end c.args.outside c.args.at c.args.first c.args.tokens.now _ c.in_ok-words.rest.now s.0 s.1 _ _ c.in_ok-after.ensures (below _ c.requires) k)
-    (c.in_err-operand.ensures (in_cast c.args.outside c.args.at c.in_ok-words.words.items k) refl))
+    (c.in_err-operand.ensures (in_cast c.args.outside c.args.at (specifiers_tree c.in_ok-words.words) k) refl))
 
 pub cast-returns : goal.cast-returns
 cast-returns t c =
     let s = c.in_ok-words.ensures in
     let o = c.in_ok-operand.ensures in
     let w = c.in_ok-whole.ensures in (
-      reads_cast c.args.self.end c.args.outside c.args.at c.args.first c.args.tokens.now c.in_ok-words.words.items c.in_ok-words.rest.now s.0 s.1 _ _ _ (expression_tree c.in_ok-operand.operand) _
+      reads_cast c.args.self.end c.args.outside c.args.at c.args.first c.args.tokens.now (specifiers_tree c.in_ok-words.words) c.in_ok-words.rest.now s.0 s.1 _ _ _ (expression_tree c.in_ok-operand.operand) _
           c.in_ok-after.ensures (below _ c.requires) o.0 o.1.ends w,
       record { operators = ap operators_in w; commas = ap commas_in w; ends = o.1.ends },
       (let p = o.2 in let q = s.1 in omega (arith, no_longer c.args.tokens.now, ap length s.1, ap length c.in_ok-after.ensures.cut)),

@@ -2,9 +2,9 @@ use Rattle.std.proofs.Common.{◌≡◌, ◌+◌, ◌-◌, ◌*◌, ◌≤◌, l
 use Rattle.pk_ast.specs.declared.expressions.Identifier.{Identifier}
 use Rattle.pk_ast.specs.Views.{expression_tree, expression_trees}
 use Rattle.pk_grammar.specs.Grammar.{operators_in, commas_in}
-use Rattle.pk_grammar.specs.States.{Context, operand, arguments, in_call}
+use Rattle.pk_grammar.specs.Machine.States.{Context, operand, arguments, in_call}
 use Rattle.pk_grammar.specs.Outcomes.{nesting_limit}
-use Rattle.pk_grammar.specs.Running.{run}
+use Rattle.pk_grammar.specs.Machine.Running.{run}
 use Rattle.pk_expression.specs.Parsing.{EndsAt, UpTo, Reads}
 use Rattle.pk_expression.proofs.parser.Parser.+expressions.Given as goal
 

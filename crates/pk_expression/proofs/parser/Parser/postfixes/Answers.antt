@@ -1,8 +1,8 @@
 use Rattle.std.proofs.Common.{◌+◌, length, sym, ap, ◌∙◌, arith}
 use Rattle.pk_ast.specs.Views.{expression_tree}
 use Rattle.pk_grammar.specs.Grammar.{operators_in, postfixes_in, commas_in}
-use Rattle.pk_grammar.specs.States.{complete}
-use Rattle.pk_grammar.specs.Running.{run}
+use Rattle.pk_grammar.specs.Machine.States.{complete}
+use Rattle.pk_grammar.specs.Machine.Running.{run}
 use Rattle.pk_expression.proofs.RunLemmas.{passed, fails_nesting}
 use Rattle.pk_expression.proofs.RunOperators.{run_postfix, deep_postfix}
 use Rattle.pk_expression.proofs.parser.Parser.postfixes.Goals as goal

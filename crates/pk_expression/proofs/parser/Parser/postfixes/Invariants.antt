@@ -1,7 +1,7 @@
 use Rattle.std.proofs.Common.{◌≡◌, ◌+◌, ◌≤◌, length}
 use Rattle.pk_ast.specs.Views.{expression_tree}
 use Rattle.pk_grammar.specs.Grammar.{operators_in, postfixes_in, commas_in}
-use Rattle.pk_grammar.specs.States.{complete}
+use Rattle.pk_grammar.specs.Machine.States.{complete}
 use Rattle.pk_grammar.specs.Outcomes.{nesting_limit}
 use Rattle.pk_expression.specs.Parsing.{Anywhere, Reads}
 use Rattle.pk_expression.proofs.parser.Parser.postfixes.Given as goal

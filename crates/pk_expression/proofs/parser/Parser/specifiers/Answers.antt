@@ -1,4 +1,6 @@
-use Rattle.std.proofs.Common.{◌++◌, sym, ap, ◌∙◌, append-nil}
+use Rattle.std.proofs.Common.{◌++◌, List, sym, ap, ◌∙◌, append-nil}
+use Rattle.pk_ast.specs.declared.declarations.Specifier.{Specifier}
+use Rattle.pk_ast.specs.Trees.{OneOrMore}
 use Rattle.pk_expression.specs.Parsing.{words}
 use Rattle.pk_expression.proofs.WordLemmas.{no_words, one_word, one_word_more}
 use Rattle.pk_expression.proofs.parser.Parser.specifiers.Goals as goal
@@ -7,11 +9,12 @@ pub returns-in_default : goal.returns-in_default
 returns-in_default c =
     let h = no_words c.args.self.end c.loop-word.rest.now c.in_default.ensures in
     let i = c.loop-word.invariant in
-    (sym (append-nil c.loop-word.words.items) ∙ ap (λ q. c.loop-word.words.items ++ q) (sym h.0) ∙ i.0, sym h.1 ∙ i.1)
+    let from : List Specifier → OneOrMore Specifier = λ q. record { first = c.args.first; more = q } in
+    (ap from (sym (append-nil c.loop-word.more.items) ∙ ap (λ q. c.loop-word.more.items ++ q) (sym h.0) ∙ i.0), sym h.1 ∙ i.1)
 
 pub loop-word-preserved : goal.loop-word-preserved
 loop-word-preserved c =
     let b = c.in-Some.ensures in
     let h = one_word _ _ _ b in
     let i = c.loop-word.invariant in
-    (ap (λ q. q ++ words c.in-Some.after.now) c.in_ok-push-2.ensures.items ∙ one_word_more c.loop-word.words.items _ _ _ b ∙ i.0, sym h.1 ∙ i.1)
+    (ap (λ q. q ++ words c.in-Some.after.now) c.in_ok-push.ensures.items ∙ one_word_more c.loop-word.more.items _ _ _ b ∙ i.0, sym h.1 ∙ i.1)

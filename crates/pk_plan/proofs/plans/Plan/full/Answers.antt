@@ -1,6 +1,5 @@
-use Rattle.std.proofs.Common.{◌≤◌, length, arith, w32}
+use Rattle.std.proofs.Common.{arith, w32}
 use Rattle.std.proofs.Math.Facts.{Fits-of_lt}
-use Rattle.pk_plan.specs.Plans.{predecessors_of}
 use Rattle.pk_plan.proofs.PlanLemmas.{full_within}
 use Rattle.pk_plan.proofs.plans.Plan.full.Goals as goal
 

@@ -8,5 +8,5 @@ returns-clause-holds c = λ of.
     let p = c.args.self.now in
     let it = c.args.component.now in
     let is : c.lies_within.result ≡ is_inside p it c.args.e =
-    c.lies_within.ensures ∙ ap (λ (n : ℕ). nat_le it.first n && nat_lt n it.end) c.place.ensures in
+    c.lies_within.ensures.test ∙ ap (λ (n : ℕ). nat_le it.first n && nat_lt n it.end) c.place.ensures in
     subst (λ (b : Bool). IsTrue b ↔ Inside p it c.args.e) (sym is) (is_inside_tells p it c.args.e c.axioms.ensures.axioms of c.requires)

@@ -1,11 +1,7 @@
-use Rattle.std.proofs.Common.{◌≡◌, ◌<◌, ◌≤◌, ◌+◌, length, get_or, slice_index, ap, subst, sym, arith, refl, ◌∙◌, List, ℕ, Option, Some, Bool, true, false, IsTrue, ◌↔◌, inl, inr}
-use Rattle.pk_plan.specs.Nests.{Holds}
-use Rattle.pk_wpo.specs.Constraints.{Has, vertex, exit_of, is_head}
-use Rattle.pk_wpo.specs.Layouts.{Laid, IsLaid, IsKept, IsHome, IsInnermost, end_number, place_in}
-use Rattle.pk_wpo.proofs.Kept.{kept, place_in_range, place_read, exit_in_range, exit_read, heads_long, head_read, home_in_range, home_read, end_small}
-use Rattle.pk_wpo.proofs.Numbers.{head_holds, holds_head}
+use Rattle.std.proofs.Common.{◌≡◌, ap, arith, ◌∙◌}
+use Rattle.pk_wpo.specs.Constraints.{exit_of}
+use Rattle.pk_wpo.specs.Layouts.{place_in}
 use Rattle.pk_wpo.proofs.Placed.{head_vertex, exit_before_end, has_from, has_before, has_by_place}
-use Rattle.pk_wpo.proofs.Orders.{has_vertex, innermost_by_home, innermost_itself}
 use Rattle.pk_wpo.proofs.layout.Layout.has.Goals as goal
 
 pub exit-exit-requires : goal.exit-exit-requires
@@ -25,11 +21,11 @@ returns c =
     let exit_place : c.place-3.result ≡ place_in l (exit_of l.graph l.items c.args.h) = c.place-3.ensures ∙ ap (place_in l) c.exit-exit.ensures in
     let at_h = c.place.ensures in
     let at_e = c.place-2.ensures in (
-      (λ told. let within = c.lies_within.ensures.0 told in
+      (λ told. let within = c.lies_within.ensures.within.0 told in
           let from = within.0 in
           let before = within.1 in
           has_by_place l c.args.h c.args.e c.laid.ensures c.requires.head c.requires.element (omega (arith, from, at_h, at_e)) (omega (arith, before, at_e, exit_place))),
       (λ has. let from = has_from l c.args.h c.args.e c.laid.ensures has in
           let before = has_before l c.args.h c.args.e c.laid.ensures has in
-          c.lies_within.ensures.1 (omega (arith, from, at_h, at_e), omega (arith, before, at_e, exit_place))),
+          c.lies_within.ensures.within.1 (omega (arith, from, at_h, at_e), omega (arith, before, at_e, exit_place))),
     )

@@ -1,11 +1,7 @@
-use Rattle.std.proofs.Common.{◌≡◌, ◌<◌, ◌≤◌, ◌+◌, length, get_or, slice_index, ap, subst, sym, arith, refl, ◌∙◌, List, ℕ, Option, Some, Bool, true, false, IsTrue, ◌↔◌, inl, inr}
-use Rattle.pk_plan.specs.Nests.{Holds}
-use Rattle.pk_wpo.specs.Constraints.{Has, vertex, exit_of, is_head}
-use Rattle.pk_wpo.specs.Layouts.{Laid, IsLaid, IsKept, IsHome, IsInnermost, end_number, place_in}
-use Rattle.pk_wpo.proofs.Kept.{kept, place_in_range, place_read, exit_in_range, exit_read, heads_long, head_read, home_in_range, home_read, end_small}
+use Rattle.std.proofs.Common.{sym, arith, ◌∙◌}
+use Rattle.pk_wpo.specs.Constraints.{vertex}
 use Rattle.pk_wpo.proofs.Numbers.{head_holds, holds_head}
-use Rattle.pk_wpo.proofs.Placed.{head_vertex, exit_before_end, has_from, has_before, has_by_place}
-use Rattle.pk_wpo.proofs.Orders.{has_vertex, innermost_by_home, innermost_itself}
+use Rattle.pk_wpo.proofs.Orders.{has_vertex}
 use Rattle.pk_wpo.proofs.layout.Layout.holds.Goals as goal
 
 pub has-requires-clause-head : goal.has-requires-clause-head

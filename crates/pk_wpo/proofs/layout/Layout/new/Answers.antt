@@ -1,9 +1,7 @@
-use Rattle.std.proofs.Common.{◌≡◌, ◌≢◌, ◌<◌, ◌+◌, ◌++◌, ◌∷◌, [], ℕ, Bool, List, Option, None, length, get_or, map, ap, sym, subst, arith, ◌∙◌, All}
-use Rattle.std.specs.List.{AllPairs, range_with_len}
-use Rattle.pk_plan.specs.Nests.{Items}
+use Rattle.std.proofs.Common.{◌≡◌, ◌+◌, ◌++◌, ◌∷◌, [], ℕ, Bool, List, length, get_or, map, ap, sym, arith, ◌∙◌}
+use Rattle.std.specs.List.{range_with_len}
 use Rattle.pk_wpo.specs.Constraints.{is_head, exit_of}
-use Rattle.pk_wpo.specs.Layouts.{Laid, IsLaid, IsKept, elements_of}
-use Rattle.pk_wpo.specs.Walks.{HeadBelow, walk_elements}
+use Rattle.pk_wpo.specs.Layouts.{elements_of}
 use Rattle.pk_wpo.proofs.LaidOut.{heads_of_nest, tests_long, exits_are, exits_long, elements_are, homes_are, whole_few, whole_within, whole_once}
 use Rattle.pk_wpo.proofs.layout.Layout.new.Goals as goal
 

@@ -1,0 +1,93 @@
+-- The names in trees, in the order of the text.
+use Rattle.std.specs.Prelude.{List, [], ◌∷◌, ◌++◌, Option, Some, None}
+use Rattle.pk_ast.specs.declared.expressions.Identifier.{Identifier}
+use Rattle.pk_ast.specs.Trees.{ExpressionTree, name, call, index, constant, character, parenthesized, postfix, prefix, unary, cast, binary, conditional, assignment, comma, ExpressionTrees, no_expressions, expression_then, InitializerTree, single, braced, DeclaratorTree, DeclarationTree, ForStartTree, declaration, expression, StatementTree, block, empty, expression_statement, label, case, default, if_then, if_else, switch, while, do_while, for_loop, goto, continue, break, return, ItemTrees, no_items, declaration_then, statement_then, BlockTree, ParameterTree, ExternalTree, function, objects}
+
+unfoldable mutual
+  pub expression_names : ExpressionTree → List Identifier
+  expression_names (name x) = x ∷ []
+  expression_names (call x es) = x ∷ list_names es
+  expression_names (index x at e) = x ∷ expression_names e
+  expression_names (constant at t n) = []
+  expression_names (character at n) = []
+  expression_names (parenthesized at e) = expression_names e
+  expression_names (postfix op at e) = expression_names e
+  expression_names (prefix op at e) = expression_names e
+  expression_names (unary op at e) = expression_names e
+  expression_names (cast at specifiers e) = expression_names e
+  expression_names (binary op at a b) = expression_names a ++ expression_names b
+  expression_names (conditional at a b c) = expression_names a ++ expression_names b ++ expression_names c
+  expression_names (assignment op at a b) = expression_names a ++ expression_names b
+  expression_names (comma at a b) = expression_names a ++ expression_names b
+
+  pub list_names : ExpressionTrees → List Identifier
+  list_names no_expressions = []
+  list_names (expression_then e es) = expression_names e ++ list_names es
+
+abbrev pub optional_names : Option ExpressionTree → List Identifier
+optional_names None = []
+optional_names (Some e) = expression_names e
+
+abbrev pub initializer_names : Option InitializerTree → List Identifier
+initializer_names None = []
+initializer_names (Some (single e)) = expression_names e
+initializer_names (Some (braced at e es)) = expression_names e ++ list_names es
+
+abbrev pub declarator_names : DeclaratorTree → List Identifier
+declarator_names d = d.name ∷ (optional_names d.length ++ initializer_names d.initializer)
+
+abbrev pub all_declarator_names : List DeclaratorTree → List Identifier
+all_declarator_names [] = []
+all_declarator_names (d ∷ ds) = declarator_names d ++ all_declarator_names ds
+
+abbrev pub declaration_names : DeclarationTree → List Identifier
+declaration_names d = declarator_names d.declarators.first ++ all_declarator_names d.declarators.more
+
+abbrev pub for_start_names : ForStartTree → List Identifier
+for_start_names (declaration d) = declaration_names d
+for_start_names (expression e) = optional_names e
+
+unfoldable mutual
+  pub statement_names : StatementTree → List Identifier
+  statement_names (block opened items closed) = item_names items
+  statement_names (empty at) = []
+  statement_names (expression_statement e) = expression_names e
+  statement_names (label x s) = x ∷ statement_names s
+  statement_names (case at e s) = expression_names e ++ statement_names s
+  statement_names (default at s) = statement_names s
+  statement_names (if_then at e s) = expression_names e ++ statement_names s
+  statement_names (if_else at e s t) = expression_names e ++ statement_names s ++ statement_names t
+  statement_names (switch at e s) = expression_names e ++ statement_names s
+  statement_names (while at e s) = expression_names e ++ statement_names s
+  statement_names (do_while at s e) = statement_names s ++ expression_names e
+  statement_names (for_loop at start condition step s) = for_start_names start ++ optional_names condition ++ optional_names step ++ statement_names s
+  statement_names (goto at x) = x ∷ []
+  statement_names (continue at) = []
+  statement_names (break at) = []
+  statement_names (return at e) = optional_names e
+
+  pub item_names : ItemTrees → List Identifier
+  item_names no_items = []
+  item_names (declaration_then d items) = declaration_names d ++ item_names items
+  item_names (statement_then s items) = statement_names s ++ item_names items
+
+abbrev pub body_names : Option BlockTree → List Identifier
+body_names None = []
+body_names (Some b) = item_names b.items
+
+abbrev pub optional_name : Option Identifier → List Identifier
+optional_name None = []
+optional_name (Some x) = x ∷ []
+
+abbrev pub parameter_names : List ParameterTree → List Identifier
+parameter_names [] = []
+parameter_names (p ∷ ps) = optional_name p.name ++ parameter_names ps
+
+abbrev pub external_names : ExternalTree → List Identifier
+external_names (function f) = f.name ∷ (parameter_names f.parameters ++ body_names f.body)
+external_names (objects storage d) = declaration_names d
+
+-- those of a text
+abbrev pub names_of : List ExternalTree → List Identifier
+names_of [] = []
+names_of (x ∷ xs) = external_names x ++ names_of xs

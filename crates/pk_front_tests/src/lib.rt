@@ -1,0 +1,17 @@
+//! Tests of the crates that read: types and operators, tokens, constructs, trees and parsing, devices and the command line.
+#![tactic(auto)]
+
+#[cfg(test)]
+mod ast;
+#[cfg(test)]
+mod command;
+#[cfg(test)]
+mod constructs;
+#[cfg(test)]
+mod ctypes;
+#[cfg(test)]
+mod io;
+#[cfg(test)]
+mod lex;
+#[cfg(test)]
+mod parse;

@@ -1,0 +1,294 @@
+-- The names in trees are those among the tokens of their text.
+use Rattle.std.proofs.Common.{◌≡◌, ℕ, ◌+◌, inl, inr, List, [], ◌∷◌, ◌++◌, Option, Some, None, refl, sym, ap, ◌∙◌, append_assoc, append-nil}
+use Rattle.pk_ctypes.specs.declared.places.Pos.{Pos}
+use Rattle.pk_lex.specs.declared.token.Kind.{Kind}
+use Rattle.pk_lex.specs.declared.token.Kind.TheVariants as kind
+use Rattle.pk_lex.specs.declared.token.Keyword.{Keyword}
+use Rattle.pk_lex.specs.declared.token.Keyword.TheVariants as key
+use Rattle.pk_lex.specs.declared.token.Punctuator.{Punctuator}
+use Rattle.pk_lex.specs.declared.token.Punctuator.TheVariants as mark
+use Rattle.pk_ast.specs.declared.declarations.Specifier.{Specifier}
+use Rattle.pk_ast.specs.declared.expressions.Identifier.{Identifier}
+use Rattle.pk_ast.specs.declared.units.Storage.{Storage}
+use Rattle.pk_ast.specs.Names.{expression_names, list_names, optional_names, initializer_names, declarator_names, all_declarator_names, declaration_names, for_start_names, statement_names, item_names, body_names, optional_name, parameter_names, external_names, names_of}
+use Rattle.pk_ast.specs.Trees.{OneOrMore, ExpressionTree, name, call, index, constant, character, parenthesized, postfix, prefix, unary, cast, binary, conditional, assignment, comma, ExpressionTrees, no_expressions, expression_then, InitializerTree, single, braced, DeclaratorTree, DeclarationTree, ForStartTree, declaration, expression, StatementTree, block, empty, expression_statement, label, case, default, if_then, if_else, switch, while, do_while, for_loop, goto, continue, break, return, ItemTrees, no_items, declaration_then, statement_then, BlockTree, ParameterTree, ExternalTree, function, objects}
+use Rattle.pk_grammar.specs.Languages.{Marked, Language, Nothing, At, Any, Identified, ◌⊙◌, Inside, Past, Optional, identifier_of}
+use Rattle.pk_grammar.specs.Grammar as grammar
+use Rattle.pk_grammar.specs.Grammar.{punctuator, punctuator_at, keyword, keyword_at, specifier, specifier_list, specifiers, spelled, spelled_list, spelled_more, Expression, Items, statement, block_items}
+use Rattle.pk_grammar.specs.Outcomes.{unmarked}
+use Rattle.pk_grammar.specs.Names.{name_of, names_among, NamesAreTokens}
+
+abbrev names_in : List Marked → List Identifier
+names_in ms = names_among (unmarked ms)
+
+names_in-append : (a b : List Marked) → names_in (a ++ b) ≡ names_in a ++ names_in b
+names_in-append [] b = refl
+names_in-append (m ∷ a) b =
+    let here : List Identifier = name_of m.token.kind (identifier_of m.token) in
+    ap (λ q. here ++ q) (names_in-append a b) ∙ sym (append_assoc here (names_in a) (names_in b))
+
+-- the tokens of this language have these names
+abbrev Has : Language → List Identifier → Type 0
+Has P xs = (n : ℕ) (ts : List Marked) → P n ts → names_in ts ≡ xs
+
+both : {P Q : Language} (xs ys : List Identifier) → Has P xs → Has Q ys → Has (P ⊙ Q) (xs ++ ys)
+both xs ys f g n ts h = ap names_in h.cut ∙ names_in-append h.front h.back ∙ ap (λ q. q ++ names_in h.back) (f n h.front h.first) ∙ ap (λ q. xs ++ q) (g n h.back h.second)
+
+none_then : {P Q : Language} (xs : List Identifier) → Has P [] → Has Q xs → Has (P ⊙ Q) xs
+none_then xs f g = both [] xs f g
+
+then_none : {P Q : Language} (xs : List Identifier) → Has P xs → Has Q [] → Has (P ⊙ Q) xs
+then_none xs f g n ts h = both xs [] f g n ts h ∙ append-nil xs
+
+nothing : Has Nothing []
+nothing n ts h = ap names_in h
+
+any : (k : Kind) → ((x : Identifier) → name_of k x ≡ []) → Has (Any k) []
+any k e n ts h = ap names_in h.is ∙ ap (λ k. name_of k (identifier_of h.token) ++ []) h.holds ∙ ap (λ q. q ++ []) (e (identifier_of h.token))
+
+at_place : (k : Kind) (at : Pos) → ((x : Identifier) → name_of k x ≡ []) → Has (At k at) []
+at_place k at e n ts h = ap names_in h.is ∙ ap (λ k. name_of k (identifier_of h.token) ++ []) h.holds.0 ∙ ap (λ q. q ++ []) (e (identifier_of h.token))
+
+sign : (p : Punctuator) → Has (punctuator p) []
+sign p = any (kind.Punctuator p) (λ x. refl)
+
+sign_at : (p : Punctuator) (at : Pos) → Has (punctuator_at p at) []
+sign_at p at = at_place (kind.Punctuator p) at (λ x. refl)
+
+word : (k : Keyword) → Has (keyword k) []
+word k = any (kind.Keyword k) (λ x. refl)
+
+word_at : (k : Keyword) (at : Pos) → Has (keyword_at k at) []
+word_at k at = at_place (kind.Keyword k) at (λ x. refl)
+
+identified : (x : Identifier) → Has (Identified x) (x ∷ [])
+identified x n ts h = ap names_in h.is ∙ ap (λ k. name_of k (identifier_of h.token) ++ []) h.holds.0 ∙ ap (λ y. y ∷ []) h.holds.1
+
+past : {P : Language} (k : ℕ) (xs : List Identifier) → Has P xs → Has (Past k P) xs
+past k xs f n ts h = f (n + k) ts h
+
+inside : {P : Language} (xs : List Identifier) → Has P xs → Has (Inside P) xs
+inside xs f n ts h = f (n + 1) ts h
+
+maybe : {P : Language} → Has P [] → Has (Optional P) []
+maybe f n ts h = elim h [ inl e ↦ ap names_in e | inr g ↦ f n ts g ]
+
+grouped : {P : Language} (a b c : List Identifier) → Has P (a ++ (b ++ c)) → Has P ((a ++ b) ++ c)
+grouped a b c f n ts h = f n ts h ∙ sym (append_assoc a b c)
+
+-- Expressions
+
+specifier_list-names : (ss : List Specifier) → Has (specifier_list ss) []
+specifier_list-names [] = nothing
+specifier_list-names (s ∷ ss) = none_then {P = specifier s} [] (word_at _ s.at) (specifier_list-names ss)
+
+specifiers-names : (ss : OneOrMore Specifier) → Has (specifiers ss) []
+specifiers-names ss = none_then {P = specifier ss.first} [] (word_at _ ss.first.at) (specifier_list-names ss.more)
+
+mutual
+  unfolding spelled expression_names
+
+  spelled-names : (e : ExpressionTree) → Has (spelled e) (expression_names e)
+  spelled-names (name x) = identified x
+  spelled-names (call x es) =
+      both (x ∷ []) (list_names es) (identified x)
+      (then_none (list_names es) (inside (list_names es) (none_then (list_names es) (sign mark.OpenParenthesis) (list-names es))) (sign mark.CloseParenthesis))
+  spelled-names (index x at e) =
+      both (x ∷ []) (expression_names e) (identified x)
+      (then_none (expression_names e) (inside (expression_names e) (none_then (expression_names e) (sign_at mark.OpenBracket at) (spelled-names e))) (sign mark.CloseBracket))
+  spelled-names (constant at t v) = at_place (kind.Constant t v) at (λ x. refl)
+  spelled-names (character at v) = at_place (kind.Character v) at (λ x. refl)
+  spelled-names (parenthesized at e) =
+      then_none (expression_names e) (inside (expression_names e) (none_then (expression_names e) (sign_at mark.OpenParenthesis at) (spelled-names e))) (sign mark.CloseParenthesis)
+  spelled-names (postfix o at e) = then_none (expression_names e) (spelled-names e) (past _ [] (sign_at _ at))
+  spelled-names (prefix o at e) = inside (expression_names e) (none_then (expression_names e) (sign_at _ at) (spelled-names e))
+  spelled-names (unary o at e) = inside (expression_names e) (none_then (expression_names e) (sign_at _ at) (spelled-names e))
+  spelled-names (cast at specs e) =
+      let xs : List Identifier = expression_names e in
+      inside xs (none_then xs (sign_at mark.OpenParenthesis at) (none_then xs (specifiers-names specs) (none_then xs (sign mark.CloseParenthesis) (spelled-names e))))
+  spelled-names (binary o at a b) =
+      both (expression_names a) (expression_names b) (spelled-names a) (past _ (expression_names b) (none_then (expression_names b) (sign_at _ at) (spelled-names b)))
+  spelled-names (conditional at c a b) =
+      let xs : List Identifier = expression_names a in
+      let ys : List Identifier = expression_names b in
+      grouped (expression_names c) xs ys (both (expression_names c) (xs ++ ys) (spelled-names c)
+      (both xs ys (inside xs (none_then xs (sign_at mark.Question at) (spelled-names a))) (inside ys (none_then ys (sign mark.Colon) (spelled-names b)))))
+  spelled-names (assignment o at a b) =
+      both (expression_names a) (expression_names b) (spelled-names a) (inside (expression_names b) (none_then (expression_names b) (sign_at _ at) (spelled-names b)))
+  spelled-names (comma at a b) =
+      both (expression_names a) (expression_names b) (spelled-names a) (past _ (expression_names b) (none_then (expression_names b) (sign_at mark.Comma at) (spelled-names b)))
+
+  list-names : (es : ExpressionTrees) → Has (spelled_list es) (list_names es)
+  list-names no_expressions = nothing
+  list-names (expression_then e es) = both (expression_names e) (list_names es) (spelled-names e) (more-names es)
+
+  more-names : (es : ExpressionTrees) → Has (spelled_more es) (list_names es)
+  more-names no_expressions = nothing
+  more-names (expression_then e es) =
+      none_then (expression_names e ++ list_names es) (sign mark.Comma) (both (expression_names e) (list_names es) (spelled-names e) (more-names es))
+
+expression-names : (level : ℕ) (e : ExpressionTree) → Has (Expression level e) (expression_names e)
+expression-names level e n ts h = spelled-names e n ts h.is
+
+items-names : (e : ExpressionTree) (es : ExpressionTrees) → Has (Items e es) (expression_names e ++ list_names es)
+unfolding list_names
+items-names e es n ts h = list-names (expression_then e es) n ts h.is
+
+optional-names : (level : ℕ) (e : Option ExpressionTree) → Has (grammar.optional level e) (optional_names e)
+optional-names level None = nothing
+optional-names level (Some e) = expression-names level e
+
+-- Declarations
+
+length-names : (l : Option ExpressionTree) → Has (grammar.array_length l) (optional_names l)
+length-names None = nothing
+length-names (Some e) =
+    let xs : List Identifier = expression_names e in
+    then_none xs (inside xs (none_then xs (sign mark.OpenBracket) (expression-names _ e))) (sign mark.CloseBracket)
+
+initializer-names : (i : Option InitializerTree) → Has (grammar.initializer i) (initializer_names i)
+initializer-names None = nothing
+initializer-names (Some (single e)) = none_then (expression_names e) (sign mark.Assign) (expression-names _ e)
+initializer-names (Some (braced at e es)) =
+    let xs : List Identifier = expression_names e ++ list_names es in
+    none_then xs (sign mark.Assign) (none_then xs (sign_at mark.OpenBrace at) (then_none xs (items-names e es) (none_then [] (maybe (sign mark.Comma)) (sign mark.CloseBrace))))
+
+declarator-names : (d : DeclaratorTree) → Has (grammar.declarator d) (declarator_names d)
+declarator-names d =
+    both (d.name ∷ []) (optional_names d.length ++ initializer_names d.initializer) (identified d.name)
+    (both (optional_names d.length) (initializer_names d.initializer) (length-names d.length) (initializer-names d.initializer))
+
+more_declarators-names : (ds : List DeclaratorTree) → Has (grammar.more_declarators ds) (all_declarator_names ds)
+more_declarators-names [] = nothing
+more_declarators-names (d ∷ ds) =
+    none_then (declarator_names d ++ all_declarator_names ds) (sign mark.Comma) (both (declarator_names d) (all_declarator_names ds) (declarator-names d) (more_declarators-names ds))
+
+declared-names : (d : DeclarationTree) → Has (grammar.declared d) (declaration_names d)
+declared-names d =
+    let first : List Identifier = declarator_names d.declarators.first in
+    let more : List Identifier = all_declarator_names d.declarators.more in
+    none_then (first ++ more) (specifiers-names d.specifiers)
+    (then_none (first ++ more) (both first more (declarator-names d.declarators.first) (more_declarators-names d.declarators.more)) (sign mark.Semicolon))
+
+-- Statements
+
+test-names : (e : ExpressionTree) → Has (grammar.test e) (expression_names e)
+test-names e =
+    let xs : List Identifier = expression_names e in
+    then_none xs (inside xs (none_then xs (sign mark.OpenParenthesis) (expression-names _ e))) (sign mark.CloseParenthesis)
+
+start-names : (f : ForStartTree) → Has (grammar.for_start f) (for_start_names f)
+start-names (declaration d) = declared-names d
+start-names (expression e) = then_none (optional_names e) (optional-names _ e) (sign mark.Semicolon)
+
+-- a keyword, a test and a statement
+tested-names : (k : Keyword) (at : Pos) (e : ExpressionTree) (s : StatementTree) → Has (statement s) (statement_names s) →
+    Has (Inside (keyword_at k at ⊙ grammar.test e ⊙ statement s)) (expression_names e ++ statement_names s)
+tested-names k at e s f =
+    let xs : List Identifier = expression_names e ++ statement_names s in
+    inside xs (none_then xs (word_at k at) (both (expression_names e) (statement_names s) (test-names e) f))
+
+for-names : (at : Pos) (start : ForStartTree) (second third : Option ExpressionTree) (s : StatementTree) → Has (statement s) (statement_names s) →
+    Has (Inside (keyword_at key.For at
+    ⊙ Inside (punctuator mark.OpenParenthesis ⊙ grammar.for_start start ⊙ grammar.optional grammar.any_expression second ⊙ punctuator mark.Semicolon ⊙ grammar.optional grammar.any_expression third)
+    ⊙ punctuator mark.CloseParenthesis ⊙ statement s)) (for_start_names start ++ optional_names second ++ optional_names third ++ statement_names s)
+for-names at start second third s f n ts h =
+    let a : List Identifier = for_start_names start in
+    let b : List Identifier = optional_names second in
+    let c : List Identifier = optional_names third in
+    let d : List Identifier = statement_names s in
+    let head : List Identifier = a ++ (b ++ c) in
+    inside (head ++ d) (none_then (head ++ d) (word_at key.For at) (both head d
+    (inside head (none_then head (sign mark.OpenParenthesis) (both a (b ++ c) (start-names start) (both b c (optional-names _ second) (none_then c (sign mark.Semicolon) (optional-names _ third))))))
+    (none_then d (sign mark.CloseParenthesis) f))) n ts h
+    ∙ ap (λ q. q ++ d) (sym (append_assoc a b c))
+
+mutual
+  unfolding statement statement_names
+
+  statement-names : (s : StatementTree) → Has (statement s) (statement_names s)
+  statement-names (block at items close) =
+      let xs : List Identifier = item_names items in
+      then_none xs (inside xs (none_then xs (sign_at mark.OpenBrace at) (item-names items))) (sign_at mark.CloseBrace close)
+  statement-names (empty at) = inside [] (sign_at mark.Semicolon at)
+  statement-names (expression_statement e) = then_none (expression_names e) (inside (expression_names e) (expression-names _ e)) (sign mark.Semicolon)
+  statement-names (label x s) =
+      let xs : List Identifier = statement_names s in
+      inside (x ∷ xs) (both (x ∷ []) xs (identified x) (none_then xs (sign mark.Colon) (statement-names s)))
+  statement-names (case at e s) =
+      let xs : List Identifier = statement_names s in
+      let all : List Identifier = expression_names e ++ xs in
+      inside all (none_then all (word_at key.Case at) (both (expression_names e) xs (expression-names _ e) (none_then xs (sign mark.Colon) (statement-names s))))
+  statement-names (default at s) =
+      let xs : List Identifier = statement_names s in
+      inside xs (none_then xs (word_at key.Default at) (none_then xs (sign mark.Colon) (statement-names s)))
+  statement-names (if_then at e s) = tested-names key.If at e s (statement-names s)
+  statement-names (if_else at e s t) =
+      let xs : List Identifier = statement_names s in
+      let ys : List Identifier = statement_names t in
+      let all : List Identifier = expression_names e ++ (xs ++ ys) in
+      grouped (expression_names e) xs ys (inside all (none_then all (word_at key.If at) (both (expression_names e) (xs ++ ys) (test-names e)
+      (both xs ys (λ n ts h. statement-names s n ts h.is) (inside ys (none_then ys (word key.Else) (statement-names t)))))))
+  statement-names (switch at e s) = tested-names key.Switch at e s (statement-names s)
+  statement-names (while at e s) = tested-names key.While at e s (statement-names s)
+  statement-names (do_while at s e) =
+      let xs : List Identifier = statement_names s in
+      let all : List Identifier = xs ++ expression_names e in
+      then_none all (inside all (none_then all (word_at key.Do at) (both xs (expression_names e) (statement-names s) (none_then (expression_names e) (word key.While) (test-names e))))) (sign mark.Semicolon)
+  statement-names (for_loop at start second third s) = for-names at start second third s (statement-names s)
+  statement-names (goto at x) = then_none (x ∷ []) (inside (x ∷ []) (none_then (x ∷ []) (word_at key.Goto at) (identified x))) (sign mark.Semicolon)
+  statement-names (continue at) = then_none [] (inside [] (word_at key.Continue at)) (sign mark.Semicolon)
+  statement-names (break at) = then_none [] (inside [] (word_at key.Break at)) (sign mark.Semicolon)
+  statement-names (return at e) =
+      let xs : List Identifier = optional_names e in
+      then_none xs (inside xs (none_then xs (word_at key.Return at) (optional-names _ e))) (sign mark.Semicolon)
+
+  item-names : (items : ItemTrees) → Has (block_items items) (item_names items)
+  item-names no_items = nothing
+  item-names (declaration_then d items) = both (declaration_names d) (item_names items) (declared-names d) (item-names items)
+  item-names (statement_then s items) = both (statement_names s) (item_names items) (statement-names s) (item-names items)
+
+-- External definitions
+
+stored-names : (s : Option Storage) → Has (grammar.stored s) []
+stored-names None = nothing
+stored-names (Some s) = word_at _ s.at
+
+parameter-names : (p : ParameterTree) → Has (grammar.parameter p) (optional_name p.name)
+parameter-names p = none_then (optional_name p.name) (specifiers-names p.specifiers) (named p.name)
+  where
+    named : (x : Option Identifier) → Has (grammar.optional_name x) (optional_name x)
+    named None = nothing
+    named (Some x) = identified x
+
+more_parameters-names : (ps : List ParameterTree) → Has (grammar.more_parameters ps) (parameter_names ps)
+more_parameters-names [] = nothing
+more_parameters-names (p ∷ ps) =
+    none_then (optional_name p.name ++ parameter_names ps) (sign mark.Comma) (both (optional_name p.name) (parameter_names ps) (parameter-names p) (more_parameters-names ps))
+
+parameters-names : (ps : List ParameterTree) → Has (grammar.parameters ps) (parameter_names ps)
+parameters-names [] n ts h = maybe (word key.Void) n ts h
+parameters-names (p ∷ []) n ts h = parameter-names p n ts h.is ∙ sym (append-nil (optional_name p.name))
+parameters-names (p ∷ q ∷ more) n ts h = both (optional_name p.name) (parameter_names (q ∷ more)) (parameter-names p) (more_parameters-names (q ∷ more)) n ts h
+
+body-names : (b : Option BlockTree) → Has (grammar.function_end b) (body_names b)
+unfolding statement_names
+body-names None = sign mark.Semicolon
+body-names (Some b) = statement-names (block b.opened b.items b.closed)
+
+external-names : (x : ExternalTree) → Has (grammar.external x) (external_names x)
+external-names (function f) =
+    let xs : List Identifier = parameter_names f.parameters in
+    let ys : List Identifier = body_names f.body in
+    let all : List Identifier = f.name ∷ (xs ++ ys) in
+    none_then all (stored-names f.storage) (none_then all (specifiers-names f.specifiers) (both (f.name ∷ []) (xs ++ ys) (identified f.name)
+    (both xs ys (inside xs (none_then xs (sign mark.OpenParenthesis) (parameters-names f.parameters))) (none_then ys (sign mark.CloseParenthesis) (body-names f.body)))))
+external-names (objects s d) = none_then (declaration_names d) (stored-names s) (declared-names d)
+
+externals-names : (xs : List ExternalTree) → Has (grammar.externals xs) (names_of xs)
+externals-names [] = nothing
+externals-names (x ∷ xs) = both (external_names x) (names_of xs) (external-names x) (externals-names xs)
+
+pub names_are_tokens : NamesAreTokens
+names_are_tokens tokens trees p =
+    sym (then_none (names_of trees) (externals-names trees) (any kind.End (λ x. refl)) 0 p.marked p.derived) ∙ ap names_among p.tokens_are

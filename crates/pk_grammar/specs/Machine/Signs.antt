@@ -1,0 +1,238 @@
+-- What a token's kind tells the parser.
+use Rattle.std.specs.Prelude.{ℕ, ◌==◌, Option, Some, None, Bool, true, false}
+use Rattle.pk_lex.specs.declared.token.Kind.{Kind}
+use Rattle.pk_lex.specs.declared.token.Kind.TheVariants as kind
+use Rattle.pk_lex.specs.declared.token.Keyword.{Keyword}
+use Rattle.pk_lex.specs.declared.token.Keyword.TheVariants as key
+use Rattle.pk_lex.specs.declared.token.Punctuator.{Punctuator}
+use Rattle.pk_lex.specs.declared.token.Punctuator.TheVariants as mark
+use Rattle.pk_ast.specs.declared.declarations.SpecifierWord.{SpecifierWord}
+use Rattle.pk_ast.specs.declared.declarations.SpecifierWord.TheVariants as word
+use Rattle.pk_ast.specs.declared.units.StorageWord.{StorageWord}
+use Rattle.pk_ast.specs.declared.units.StorageWord.TheVariants as storage
+use Rattle.pk_ast.specs.declared.operators.BinaryOperator.TheVariants as op
+use Rattle.pk_ast.specs.declared.operators.UnaryOperator.TheVariants as un
+use Rattle.pk_ast.specs.declared.operators.StepOperator.TheVariants as step
+use Rattle.pk_ast.specs.declared.operators.AssignmentOperator.TheVariants as asg
+use Rattle.pk_grammar.specs.declared.states.Testing.TheVariants as testing
+use Rattle.pk_grammar.specs.declared.signs.Fixed.{Fixed}
+use Rattle.pk_grammar.specs.declared.signs.Fixed.TheVariants as fixed
+use Rattle.pk_grammar.specs.declared.signs.OperandStart.{OperandStart}
+use Rattle.pk_grammar.specs.declared.signs.OperandStart.TheVariants as start
+use Rattle.pk_grammar.specs.declared.signs.Operator.{Operator}
+use Rattle.pk_grammar.specs.declared.signs.Operator.TheVariants as operator
+use Rattle.pk_grammar.specs.declared.signs.StatementStart.{StatementStart}
+use Rattle.pk_grammar.specs.declared.signs.StatementStart.TheVariants as first
+
+abbrev pub fixed_number : Fixed → ℕ
+fixed_number fixed.Name = 0
+fixed_number fixed.OpenParenthesis = 1
+fixed_number fixed.CloseParenthesis = 2
+fixed_number fixed.OpenBracket = 3
+fixed_number fixed.CloseBracket = 4
+fixed_number fixed.OpenBrace = 5
+fixed_number fixed.CloseBrace = 6
+fixed_number fixed.Semicolon = 7
+fixed_number fixed.Colon = 8
+fixed_number fixed.Comma = 9
+fixed_number fixed.Assign = 10
+fixed_number fixed.Else = 11
+fixed_number fixed.While = 12
+fixed_number fixed.End = 13
+fixed_number fixed.Other = 14
+
+-- What a punctuator is: the token of a construct; what begins an operand; what comes after one; what begins a statement
+pub record PunctuatorSigns : Type 0 where
+  pub fixed : Fixed
+  pub operand : OperandStart
+  pub operator : Operator
+  pub statement : StatementStart
+
+abbrev pub signs : Fixed → OperandStart → Operator → StatementStart → PunctuatorSigns
+signs f s o t = record { fixed = f; operand = s; operator = o; statement = t }
+
+abbrev pub punctuator_signs : Punctuator → PunctuatorSigns
+punctuator_signs mark.OpenParenthesis = signs fixed.OpenParenthesis start.Parenthesis operator.Other first.Other
+punctuator_signs mark.CloseParenthesis = signs fixed.CloseParenthesis start.Other operator.Other first.Other
+punctuator_signs mark.OpenBracket = signs fixed.OpenBracket start.Other operator.Other first.Other
+punctuator_signs mark.CloseBracket = signs fixed.CloseBracket start.Other operator.Other first.Other
+punctuator_signs mark.OpenBrace = signs fixed.OpenBrace start.Other operator.Other first.Block
+punctuator_signs mark.CloseBrace = signs fixed.CloseBrace start.Other operator.Other first.Other
+punctuator_signs mark.Semicolon = signs fixed.Semicolon start.Other operator.Other first.Empty
+punctuator_signs mark.Colon = signs fixed.Colon start.Other operator.Other first.Other
+punctuator_signs mark.Comma = signs fixed.Comma start.Other operator.Comma first.Other
+punctuator_signs mark.Question = signs fixed.Other start.Other operator.Question first.Other
+punctuator_signs mark.Tilde = signs fixed.Other (start.Unary un.Complement) operator.Other first.Other
+punctuator_signs mark.Plus = signs fixed.Other (start.Unary un.Plus) (operator.Binary op.Add) first.Other
+punctuator_signs mark.Minus = signs fixed.Other (start.Unary un.Minus) (operator.Binary op.Subtract) first.Other
+punctuator_signs mark.Star = signs fixed.Other start.Other (operator.Binary op.Multiply) first.Other
+punctuator_signs mark.Slash = signs fixed.Other start.Other (operator.Binary op.Divide) first.Other
+punctuator_signs mark.Percent = signs fixed.Other start.Other (operator.Binary op.Remainder) first.Other
+punctuator_signs mark.Ampersand = signs fixed.Other start.Other (operator.Binary op.And) first.Other
+punctuator_signs mark.Caret = signs fixed.Other start.Other (operator.Binary op.ExclusiveOr) first.Other
+punctuator_signs mark.Bar = signs fixed.Other start.Other (operator.Binary op.Or) first.Other
+punctuator_signs mark.Exclamation = signs fixed.Other (start.Unary un.Not) operator.Other first.Other
+punctuator_signs mark.Assign = signs fixed.Assign start.Other (operator.Assignment asg.Assign) first.Other
+punctuator_signs mark.Less = signs fixed.Other start.Other (operator.Binary op.Less) first.Other
+punctuator_signs mark.Greater = signs fixed.Other start.Other (operator.Binary op.Greater) first.Other
+punctuator_signs mark.Increment = signs fixed.Other (start.Step step.Increment) (operator.Step step.Increment) first.Other
+punctuator_signs mark.Decrement = signs fixed.Other (start.Step step.Decrement) (operator.Step step.Decrement) first.Other
+punctuator_signs mark.ShiftLeft = signs fixed.Other start.Other (operator.Binary op.ShiftLeft) first.Other
+punctuator_signs mark.ShiftRight = signs fixed.Other start.Other (operator.Binary op.ShiftRight) first.Other
+punctuator_signs mark.LessOrEqual = signs fixed.Other start.Other (operator.Binary op.LessOrEqual) first.Other
+punctuator_signs mark.GreaterOrEqual = signs fixed.Other start.Other (operator.Binary op.GreaterOrEqual) first.Other
+punctuator_signs mark.Equal = signs fixed.Other start.Other (operator.Binary op.Equal) first.Other
+punctuator_signs mark.NotEqual = signs fixed.Other start.Other (operator.Binary op.NotEqual) first.Other
+punctuator_signs mark.LogicalAnd = signs fixed.Other start.Other (operator.Binary op.LogicalAnd) first.Other
+punctuator_signs mark.LogicalOr = signs fixed.Other start.Other (operator.Binary op.LogicalOr) first.Other
+punctuator_signs mark.PlusAssign = signs fixed.Other start.Other (operator.Assignment asg.Add) first.Other
+punctuator_signs mark.MinusAssign = signs fixed.Other start.Other (operator.Assignment asg.Subtract) first.Other
+punctuator_signs mark.StarAssign = signs fixed.Other start.Other (operator.Assignment asg.Multiply) first.Other
+punctuator_signs mark.SlashAssign = signs fixed.Other start.Other (operator.Assignment asg.Divide) first.Other
+punctuator_signs mark.PercentAssign = signs fixed.Other start.Other (operator.Assignment asg.Remainder) first.Other
+punctuator_signs mark.ShiftLeftAssign = signs fixed.Other start.Other (operator.Assignment asg.ShiftLeft) first.Other
+punctuator_signs mark.ShiftRightAssign = signs fixed.Other start.Other (operator.Assignment asg.ShiftRight) first.Other
+punctuator_signs mark.AmpersandAssign = signs fixed.Other start.Other (operator.Assignment asg.And) first.Other
+punctuator_signs mark.CaretAssign = signs fixed.Other start.Other (operator.Assignment asg.ExclusiveOr) first.Other
+punctuator_signs mark.BarAssign = signs fixed.Other start.Other (operator.Assignment asg.Or) first.Other
+punctuator_signs mark.Dot = signs fixed.Other start.Other operator.Other first.Other
+punctuator_signs mark.Ellipsis = signs fixed.Other start.Other operator.Other first.Other
+punctuator_signs mark.Arrow = signs fixed.Other start.Other operator.Other first.Other
+
+-- What a keyword is: the token of a construct; a word of a type; a storage word; what begins a statement
+pub record KeywordSigns : Type 0 where
+  pub fixed : Fixed
+  pub specifier : Option SpecifierWord
+  pub storage : Option StorageWord
+  pub statement : StatementStart
+
+abbrev pub word_signs : Fixed → Option SpecifierWord → Option StorageWord → StatementStart → KeywordSigns
+word_signs f s o t = record { fixed = f; specifier = s; storage = o; statement = t }
+
+abbrev pub keyword_signs : Keyword → KeywordSigns
+keyword_signs key.Auto = word_signs fixed.Other None None first.Other
+keyword_signs key.Break = word_signs fixed.Other None None first.Break
+keyword_signs key.Case = word_signs fixed.Other None None first.Case
+keyword_signs key.Char = word_signs fixed.Other (Some word.Char) None first.Other
+keyword_signs key.Const = word_signs fixed.Other (Some word.Const) None first.Other
+keyword_signs key.Continue = word_signs fixed.Other None None first.Continue
+keyword_signs key.Default = word_signs fixed.Other None None first.Default
+keyword_signs key.Do = word_signs fixed.Other None None first.Do
+keyword_signs key.Double = word_signs fixed.Other None None first.Other
+keyword_signs key.Else = word_signs fixed.Else None None first.Other
+keyword_signs key.Enum = word_signs fixed.Other None None first.Other
+keyword_signs key.Extern = word_signs fixed.Other None (Some storage.Extern) first.Other
+keyword_signs key.Float = word_signs fixed.Other None None first.Other
+keyword_signs key.For = word_signs fixed.Other None None first.For
+keyword_signs key.Goto = word_signs fixed.Other None None first.Goto
+keyword_signs key.If = word_signs fixed.Other None None (first.Test testing.If)
+keyword_signs key.Inline = word_signs fixed.Other None None first.Other
+keyword_signs key.Int = word_signs fixed.Other (Some word.Int) None first.Other
+keyword_signs key.Long = word_signs fixed.Other (Some word.Long) None first.Other
+keyword_signs key.Register = word_signs fixed.Other None None first.Other
+keyword_signs key.Restrict = word_signs fixed.Other None None first.Other
+keyword_signs key.Return = word_signs fixed.Other None None first.Return
+keyword_signs key.Short = word_signs fixed.Other (Some word.Short) None first.Other
+keyword_signs key.Signed = word_signs fixed.Other (Some word.Signed) None first.Other
+keyword_signs key.Sizeof = word_signs fixed.Other None None first.Other
+keyword_signs key.Static = word_signs fixed.Other None (Some storage.Static) first.Other
+keyword_signs key.Struct = word_signs fixed.Other None None first.Other
+keyword_signs key.Switch = word_signs fixed.Other None None (first.Test testing.Switch)
+keyword_signs key.Typedef = word_signs fixed.Other None None first.Other
+keyword_signs key.Union = word_signs fixed.Other None None first.Other
+keyword_signs key.Unsigned = word_signs fixed.Other (Some word.Unsigned) None first.Other
+keyword_signs key.Void = word_signs fixed.Other (Some word.Void) None first.Other
+keyword_signs key.Volatile = word_signs fixed.Other None None first.Other
+keyword_signs key.While = word_signs fixed.While None None (first.Test testing.While)
+keyword_signs key.Bool = word_signs fixed.Other None None first.Other
+keyword_signs key.Complex = word_signs fixed.Other None None first.Other
+keyword_signs key.Imaginary = word_signs fixed.Other None None first.Other
+keyword_signs key.Asm = word_signs fixed.Other None None first.Other
+keyword_signs key.GnuAsm = word_signs fixed.Other None None first.Other
+keyword_signs key.GnuAttribute = word_signs fixed.Other None None first.Other
+keyword_signs key.GnuExtension = word_signs fixed.Other None None first.Other
+keyword_signs key.GnuInline = word_signs fixed.Other None None first.Other
+keyword_signs key.GnuRestrict = word_signs fixed.Other None None first.Other
+
+abbrev pub fixed_of : Kind → Fixed
+fixed_of kind.Name = fixed.Name
+fixed_of (kind.Keyword k) = (keyword_signs k).fixed
+fixed_of (kind.Constant ty v) = fixed.Other
+fixed_of (kind.Character v) = fixed.Other
+fixed_of kind.StringLiteral = fixed.Other
+fixed_of kind.Floating = fixed.Other
+fixed_of kind.Directive = fixed.Other
+fixed_of (kind.Punctuator p) = (punctuator_signs p).fixed
+fixed_of kind.End = fixed.End
+
+-- the token is of this kind
+abbrev pub is_fixed : Fixed → Kind → Bool
+is_fixed f k = fixed_number (fixed_of k) == fixed_number f
+
+abbrev pub specifier_word : Kind → Option SpecifierWord
+specifier_word kind.Name = None
+specifier_word (kind.Keyword k) = (keyword_signs k).specifier
+specifier_word (kind.Constant ty v) = None
+specifier_word (kind.Character v) = None
+specifier_word kind.StringLiteral = None
+specifier_word kind.Floating = None
+specifier_word kind.Directive = None
+specifier_word (kind.Punctuator p) = None
+specifier_word kind.End = None
+
+abbrev pub is_void_word : SpecifierWord → Bool
+is_void_word word.Void = true
+is_void_word word.Char = false
+is_void_word word.Short = false
+is_void_word word.Int = false
+is_void_word word.Long = false
+is_void_word word.Signed = false
+is_void_word word.Unsigned = false
+is_void_word word.Const = false
+
+abbrev pub storage_word : Kind → Option StorageWord
+storage_word kind.Name = None
+storage_word (kind.Keyword k) = (keyword_signs k).storage
+storage_word (kind.Constant ty v) = None
+storage_word (kind.Character v) = None
+storage_word kind.StringLiteral = None
+storage_word kind.Floating = None
+storage_word kind.Directive = None
+storage_word (kind.Punctuator p) = None
+storage_word kind.End = None
+
+abbrev pub operand_start : Kind → OperandStart
+operand_start kind.Name = start.Name
+operand_start (kind.Keyword k) = start.Other
+operand_start (kind.Constant ty v) = start.Constant ty v
+operand_start (kind.Character v) = start.Character v
+operand_start kind.StringLiteral = start.Other
+operand_start kind.Floating = start.Other
+operand_start kind.Directive = start.Other
+operand_start (kind.Punctuator p) = (punctuator_signs p).operand
+operand_start kind.End = start.Other
+
+abbrev pub operator_sign : Punctuator → Operator
+operator_sign p = (punctuator_signs p).operator
+
+abbrev pub operator_of : Kind → Operator
+operator_of kind.Name = operator.Other
+operator_of (kind.Keyword k) = operator.Other
+operator_of (kind.Constant ty v) = operator.Other
+operator_of (kind.Character v) = operator.Other
+operator_of kind.StringLiteral = operator.Other
+operator_of kind.Floating = operator.Other
+operator_of kind.Directive = operator.Other
+operator_of (kind.Punctuator p) = operator_sign p
+operator_of kind.End = operator.Other
+
+abbrev pub statement_start : Kind → StatementStart
+statement_start kind.Name = first.Other
+statement_start (kind.Keyword k) = (keyword_signs k).statement
+statement_start (kind.Constant ty v) = first.Other
+statement_start (kind.Character v) = first.Other
+statement_start kind.StringLiteral = first.Other
+statement_start kind.Floating = first.Other
+statement_start kind.Directive = first.Other
+statement_start (kind.Punctuator p) = (punctuator_signs p).statement
+statement_start kind.End = first.Other

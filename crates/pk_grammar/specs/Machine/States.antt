@@ -1,0 +1,132 @@
+-- What the parser keeps of the tokens that it has read: the constructs that are open, innermost first, each with what was read of it.
+use Rattle.std.specs.Prelude.{ℕ, List, Option}
+use Rattle.pk_ctypes.specs.declared.places.Pos.{Pos}
+use Rattle.pk_ast.specs.declared.declarations.Specifier.{Specifier}
+use Rattle.pk_ast.specs.declared.expressions.Identifier.{Identifier}
+use Rattle.pk_ast.specs.declared.operators.BinaryOperator.{BinaryOperator}
+use Rattle.pk_ast.specs.declared.operators.UnaryOperator.{UnaryOperator}
+use Rattle.pk_ast.specs.declared.operators.StepOperator.{StepOperator}
+use Rattle.pk_ast.specs.declared.operators.AssignmentOperator.{AssignmentOperator}
+use Rattle.pk_ast.specs.declared.units.Storage.{Storage}
+use Rattle.pk_ast.specs.Trees.{OneOrMore, ExpressionTree, ExpressionTrees, DeclaratorTree, ForStartTree, StatementTree, ItemTrees, ParameterTree, ExternalTree}
+use Rattle.pk_grammar.specs.declared.states.Testing.{Testing}
+
+-- a function of which everything before its parameters was read, and what stands before it
+pub record Head : Type 0 where
+  pub before : List ExternalTree
+  pub storage : Option Storage
+  pub specifiers : OneOrMore Specifier
+  pub name : Identifier
+
+mutual
+  -- a block whose items are being read: a function's, or one that is a statement
+  pub data OpenBlock : Type 0 where
+    function_block : Head → List ParameterTree → Pos → ItemTrees → OpenBlock
+    inner_block : ℕ → Pos → ItemTrees → Outer → OpenBlock
+
+  -- what a statement that is being read is part of; the numbers are the nesting outside
+  pub data Outer : Type 0 where
+    in_block : OpenBlock → Outer
+    in_label : ℕ → Identifier → Outer → Outer
+    in_case : ℕ → Pos → ExpressionTree → Outer → Outer
+    in_default : ℕ → Pos → Outer → Outer
+    in_if : ℕ → Pos → ExpressionTree → Outer → Outer
+    in_else : ℕ → Pos → ExpressionTree → StatementTree → Outer → Outer
+    in_switch : ℕ → Pos → ExpressionTree → Outer → Outer
+    in_while : ℕ → Pos → ExpressionTree → Outer → Outer
+    in_do : ℕ → Pos → Outer → Outer
+    in_for : ℕ → Pos → ForStartTree → Option ExpressionTree → Option ExpressionTree → Outer → Outer
+
+-- where a declaration stands
+pub data Site : Type 0 where
+  in_a_block : OpenBlock → Site
+  in_a_for : ℕ → Pos → Outer → Site
+  outside : List ExternalTree → Option Storage → Site
+
+-- a declaration, and the declarators read so far, behind which another one is to come
+pub record Declaring : Type 0 where
+  pub site : Site
+  pub specifiers : OneOrMore Specifier
+  pub declarators : List DeclaratorTree
+
+-- the same, behind a declarator
+pub record Declared : Type 0 where
+  pub site : Site
+  pub specifiers : OneOrMore Specifier
+  pub declarators : OneOrMore DeclaratorTree
+
+-- a declarator whose name was read, and its length
+pub record Naming : Type 0 where
+  pub declaring : Declaring
+  pub name : Identifier
+  pub length : Option ExpressionTree
+
+-- what an expression is for that isn't part of another one
+pub data Purpose : Type 0 where
+  as_statement : ℕ → Outer → Purpose
+  as_label : ℕ → Pos → Outer → Purpose
+  as_test : Testing → ℕ → Pos → Outer → Purpose
+  as_last_test : ℕ → Pos → StatementTree → Outer → Purpose
+  as_first : ℕ → Pos → Outer → Purpose
+  as_second : ℕ → Pos → ForStartTree → Outer → Purpose
+  as_third : ℕ → Pos → ForStartTree → Option ExpressionTree → Outer → Purpose
+  as_result : ℕ → Pos → Outer → Purpose
+  as_length : Declaring → Identifier → Purpose
+  as_value : Naming → Purpose
+  as_item : Naming → Pos → ExpressionTrees → Purpose
+
+-- what an expression that is being read is part of; the numbers are the nesting outside
+pub data Context : Type 0 where
+  as_whole : Purpose → Context
+  in_parentheses : ℕ → Pos → Context → Context
+  in_index : ℕ → Identifier → Pos → Context → Context
+  in_call : ℕ → Identifier → ExpressionTrees → Context → Context
+  in_prefix : ℕ → StepOperator → Pos → Context → Context
+  in_unary : ℕ → UnaryOperator → Pos → Context → Context
+  in_cast : ℕ → Pos → OneOrMore Specifier → Context → Context
+  in_binary : ℕ → BinaryOperator → Pos → ExpressionTree → Context → Context
+  in_choice : ℕ → Pos → ExpressionTree → Context → Context
+  in_alternative : ℕ → Pos → ExpressionTree → ExpressionTree → Context → Context
+  in_assignment : ℕ → AssignmentOperator → Pos → ExpressionTree → Context → Context
+  in_comma : ℕ → Pos → ExpressionTree → Context → Context
+
+pub data State : Type 0 where
+  -- between external definitions
+  top : List ExternalTree → State
+  after_storage : List ExternalTree → Storage → State
+  -- in a declaration
+  after_specifiers : Site → OneOrMore Specifier → State
+  after_name : Declaring → Identifier → State
+  after_length : Naming → State
+  after_assign : Naming → State
+  after_brace : Naming → Pos → State
+  after_item : Naming → Pos → ExpressionTree → ExpressionTrees → State
+  after_initializer : Declared → State
+  after_comma : Declaring → State
+  -- in a function's head
+  parameters_open : Head → State
+  parameter_specifiers : Head → List ParameterTree → OneOrMore Specifier → State
+  parameter_name : Head → List ParameterTree → ParameterTree → State
+  parameter_comma : Head → List ParameterTree → State
+  parameters_closed : Head → List ParameterTree → State
+  -- in a block and its statements
+  block_item : OpenBlock → State
+  at_statement : ℕ → Outer → State
+  after_statement : StatementTree → Outer → State
+  test_open : Testing → ℕ → Pos → Outer → State
+  do_open : ℕ → Pos → StatementTree → Outer → State
+  for_open : ℕ → Pos → Outer → State
+  for_first : ℕ → Pos → Outer → State
+  for_second : ℕ → Pos → ForStartTree → Outer → State
+  for_third : ℕ → Pos → ForStartTree → Option ExpressionTree → Outer → State
+  default_colon : ℕ → Pos → Outer → State
+  goto_name : ℕ → Pos → Outer → State
+  returning : ℕ → Pos → Outer → State
+  statement_end : ℕ → StatementTree → Outer → State
+  -- in an expression
+  operand : ℕ → Context → State
+  named : ℕ → Identifier → Context → State
+  arguments : ℕ → Identifier → Context → State
+  opened : ℕ → Pos → Context → State
+  cast_specifiers : ℕ → Pos → OneOrMore Specifier → Context → State
+  complete : ℕ → ExpressionTree → Context → State

@@ -1,5 +1,0 @@
-use Rattle.pk_iterate.specs.Counting_laws.{counting_reads}
-use Rattle.pk_iterate.proofs.tests.count.Goals as goal
-
-pub iterate-requires-clause-reads : goal.iterate-requires-clause-reads
-iterate-requires-clause-reads c κs = rw c.in_ok-order.ensures counting_reads

@@ -1,0 +1,42 @@
+use Rattle.std.specs.Prelude.{◌≡◌, ◌*◌, ◌<◌, ◌↔◌, ℕ, ℤ, List, Option}
+use Rattle.std.proofs.Common.{◌∙◌, ap, subst, sym}
+use Rattle.std.proofs.lemmas.List.{with_items_is}
+use Rattle.std.specs.Vec.{with_items}
+use Rattle.pk_octmat.specs.Octagon.{Octagon, cell_at, entry, top_bound, Meets}
+use Rattle.pk_octclose.specs.declared.closing.Shape.TheVariants.{Kept, Empty}
+use Rattle.pk_octclose.specs.Closing.{IsClosing, IsEmpty, IsClosed, KeepsPoints}
+use Rattle.pk_octclose.proofs.closing.close.Goals as goal
+
+-- the octagon that was there
+was : (c : goal.After-m-1) → (let o : Octagon = record { vars = c.m.inside.vars; cells = c.deref_mut.result.now } in o ≡ c.args.m.now)
+was c = ap (λ (xs : List (Option ℤ)). let o : Octagon = record { vars = c.m.inside.vars; cells = xs } in o) c.deref_mut.ensures.value ∙ c.m.view_is
+
+-- the bounds that are there then
+made : (c : goal.After-m-1) → (with_items c.m.inside.cells c.close_cells.new.cells).items ≡ c.close_cells.new.cells
+made c = with_items_is c.m.inside.cells c.close_cells.new.cells (c.close_cells.auto.cells ∙ c.deref_mut.ensures.len)
+
+pub returns-clause-kept : goal.returns-clause-kept
+returns-clause-kept c =
+    subst (λ (xs : List (Option ℤ)). c.close_cells.result ≡ Kept → IsClosing (2 * c.args.m.now.vars) (entry c.args.m.now) (cell_at (2 * c.m.inside.vars) xs)) (sym (made c))
+    (subst (λ (o : Octagon). c.close_cells.result ≡ Kept → IsClosing (2 * o.vars) (entry o) (cell_at (2 * c.m.inside.vars) c.close_cells.new.cells)) (was c) c.close_cells.ensures.kept)
+
+pub returns-clause-points : goal.returns-clause-points
+returns-clause-points c =
+    subst (λ (xs : List (Option ℤ)). c.close_cells.result ≡ Kept → KeepsPoints (entry c.args.m.now) (cell_at (2 * c.m.inside.vars) xs)) (sym (made c))
+    (subst (λ (o : Octagon). c.close_cells.result ≡ Kept → KeepsPoints (entry o) (cell_at (2 * c.m.inside.vars) c.close_cells.new.cells)) (was c) c.close_cells.ensures.points)
+
+pub returns-clause-again : goal.returns-clause-again
+returns-clause-again c =
+    subst (λ (xs : List (Option ℤ)). IsClosed (2 * c.args.m.now.vars) (entry c.args.m.now) → (c.close_cells.result ≡ Kept) × ((i j : ℕ) → cell_at (2 * c.m.inside.vars) xs i j ≡ entry c.args.m.now i j)) (sym (made c))
+    (subst (λ (o : Octagon). IsClosed (2 * o.vars) (entry o) → (c.close_cells.result ≡ Kept) × ((i j : ℕ) → cell_at (2 * c.m.inside.vars) c.close_cells.new.cells i j ≡ entry o i j)) (was c) c.close_cells.ensures.again)
+
+pub returns-clause-cleared : goal.returns-clause-cleared
+returns-clause-cleared c =
+    subst (λ (xs : List (Option ℤ)). c.close_cells.result ≡ Empty → (i j : ℕ) → i < 2 * c.args.m.now.vars → j < 2 * c.args.m.now.vars → cell_at (2 * c.m.inside.vars) xs i j ≡ top_bound i j) (sym (made c))
+    (subst (λ (o : Octagon). c.close_cells.result ≡ Empty → (i j : ℕ) → i < 2 * o.vars → j < 2 * o.vars → cell_at (2 * c.m.inside.vars) c.close_cells.new.cells i j ≡ top_bound i j) (was c) c.close_cells.ensures.cleared)
+
+pub returns-clause-empty : goal.returns-clause-empty
+returns-clause-empty c = subst (λ (o : Octagon). (c.close_cells.result ≡ Empty) ↔ IsEmpty (2 * o.vars) (entry o)) (was c) c.close_cells.ensures.empty
+
+pub returns-clause-none : goal.returns-clause-none
+returns-clause-none c = subst (λ (o : Octagon). c.close_cells.result ≡ Empty → (x : ℕ → ℤ) → Meets (entry o) x → ⊥) (was c) c.close_cells.ensures.none

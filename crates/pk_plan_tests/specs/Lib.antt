@@ -1,0 +1,3 @@
+pub mod Counting
+pub mod Counting_laws
+pub mod Rows

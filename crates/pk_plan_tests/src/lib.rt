@@ -1,0 +1,11 @@
+//! The tests of nests, plans, orders and iterations over orders.
+#![tactic(auto)]
+
+#[cfg(test)]
+mod graphs;
+#[cfg(test)]
+mod iterations;
+#[cfg(test)]
+mod orders;
+#[cfg(test)]
+mod plans;
