@@ -8,3 +8,6 @@ returns-clause-heads c = heads_within c.args.graph.now c.in_ok-plan.plan c.axiom
 pub returns-clause-condition : goal.returns-clause-condition
 returns-clause-condition c =
     is_weak_topological_order c.in_ok-plan.plan c.in_ok-order.order.order c.axioms.ensures.axioms c.in_ok-order.ensures.linear c.in_ok-order.ensures.forward c.args.graph.now c.in_ok-plan.ensures.fits
+
+pub plan-requires-clause-nest : goal.plan-requires-clause-nest
+plan-requires-clause-nest c = c.in_ok-nest.ensures
