@@ -70,7 +70,7 @@ fn texts(rt: HostRuntime) -> Result<(), Fail> {
 }
 
 // What stands in a body behind some declarations, and the column at which it is a syntax error, or 0.
-const BODIES: [(&str, u64); 116] = [
+const BODIES: [(&str, u64); 117] = [
     ("a+b=3;", 4),
     ("a?b:a=3;", 6),
     ("(int)a=3;", 7),
@@ -175,6 +175,7 @@ const BODIES: [(&str, u64); 116] = [
     ("int x[1048576];", 0),
     ("switch(a){case 1:;case 2:;default:;}", 0),
     ("{M:;}goto M;", 0),
+    ("goto M;{M:;}", 0),
     ("int main;", 0),
     ("if(a)if(b);else;else;", 0),
     ("int const unsigned x;", 0),
