@@ -63,7 +63,8 @@ const TEXTS: [(&str, u64); 35] = [
 
 #[test]
 fn texts(rt: HostRuntime) -> Result<(), Fail> {
-    for (text, column) in TEXTS {
+    for row in &TEXTS {
+        let (text, column) = *row;
         assert_eq!(rt; refused(rt.alloc(), text)?, syntax(column), "{text}");
     }
     Ok(())
@@ -193,7 +194,8 @@ const BODIES: [(&str, u64); 117] = [
 #[test]
 fn bodies(rt: HostRuntime) -> Result<(), Fail> {
     let front = "int main(void){int a=1;int b=1;int t[3]={0};";
-    for (body, column) in BODIES {
+    for row in &BODIES {
+        let (body, column) = *row;
         let text = format!(in rt.alloc(); "{front}{body}return 0;}}")?;
         let at = if column == 0 {
             0
@@ -261,7 +263,8 @@ fn deep_texts(rt: HostRuntime) -> Result<(), Fail> {
         })
     };
     let alloc = rt.alloc();
-    for (front, piece, count, back, column) in DEEP {
+    for row in &DEEP {
+        let (front, piece, count, back, column) = *row;
         assert_eq!(rt;
             repeated(alloc, front, piece, count, back)?,
             None,

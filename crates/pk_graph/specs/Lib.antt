@@ -3,3 +3,7 @@ pub mod Views
 pub mod Kinds
 pub mod Steps
 pub mod Stores
+pub mod Graphs
+pub mod WellMade
+pub mod Propositions
+pub mod Shown

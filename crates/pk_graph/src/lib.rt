@@ -4,8 +4,10 @@
 //! were converted, and a conversion that changes no value of its operand's type is left out.
 #![tactic(auto)]
 
+mod graphs;
 mod instructions;
 mod trees;
 
+pub use graphs::{Edge, Graph, Path, Point, Scope, Start, Variable};
 pub use instructions::{Array, Instr};
 pub use trees::{Site, Tree};
