@@ -4,6 +4,8 @@ pub mod Kinds
 pub mod Steps
 pub mod Stores
 pub mod Graphs
+pub mod Accesses
+pub mod AccessViews
 pub mod WellMade
 pub mod Propositions
 pub mod Shown

@@ -6,8 +6,10 @@
 
 mod graphs;
 mod instructions;
+mod operations;
 mod trees;
 
 pub use graphs::{Edge, Graph, Path, Point, Scope, Start, Variable};
 pub use instructions::{Array, Instr};
+pub use operations::{Access, Operation, accesses};
 pub use trees::{Site, Tree};
