@@ -26,7 +26,7 @@ back_to f (g ∷ path) = if g == f then g ∷ [] else g ∷ back_to f path
 abbrev pub cycle_of : UnitTree → ℕ → List ℕ → List (List ℕ)
 cycle_of u f path = reverse (map (name_of u) (f ∷ back_to f path))
 
--- To walk these calls of the last function on the path comes to the outcome.
+-- With a path of functions, the last first, and the functions entered so far, to walk these calls of the last one comes to the outcome.
 pub data Walks (u : UnitTree) : List ℕ → List ℕ → List CallSite → Outcome → Type 0 where
   at_end : {path seen : List ℕ} → Walks u path seen [] (walked seen)
   -- of a function on the path
