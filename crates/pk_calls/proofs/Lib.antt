@@ -1,0 +1,11 @@
+pub mod CallLemmas
+pub mod ForestLemmas
+pub mod Walking
+pub mod WalkSteps
+pub mod LeadLemmas
+pub mod Listing
+pub mod ListingLemmas
+pub mod Determined
+pub mod SoundLemmas
+pub mod CallPathLemmas
+pub mod ReasonLemmas

@@ -1,0 +1,14 @@
+//! The walk of calls of a typed unit, and its call paths.
+#![tactic(auto)]
+
+mod answers;
+mod calls;
+mod failures;
+mod laws;
+mod listings;
+mod walk;
+
+pub use answers::paths;
+pub use failures::CallError;
+pub use laws::{answer_is_determined, no_function_twice, paths_are_all, refusals_are_met};
+pub use listings::{CallPath, Caller, Paths};
