@@ -1,5 +1,5 @@
 -- What is noted after several lists of failures and of calls.
-use Rattle.std.proofs.Common.{◌≡◌, Bool, true, false, ◌&&◌, List, [], ◌∷◌, ◌++◌, Option, refl, ap, sym, ◌∙◌, append_assoc}
+use Rattle.std.proofs.Common.{◌≡◌, Bool, true, false, ◌&&◌, List, [], ◌∷◌, ◌++◌, Option, refl, ap, ◌∙◌}
 use Rattle.pk_ctypes.specs.declared.places.Pos.{Pos}
 use Rattle.pk_ctypes.specs.declared.words.Rule.{Rule}
 use Rattle.pk_typed.specs.declared.units.CallSite.{CallSite}
@@ -18,7 +18,7 @@ pub when_fails_if : (a b : Bool) (r : Rule) (at : Pos) → when a (fails_if b r 
 when_fails_if true b r at = refl
 when_fails_if false b r at = refl
 
-pub same_noted : (f g : Option Failure) (c e : List CallSite) → f ≡ g → c ≡ e → record { found = f; calls = c } ≡ (record { found = g; calls = e } : Noted)
+pub same_noted : (f g : Option Failure) (c e : List CallSite) → f ≡ g → c ≡ e → ◌≡◌ {A = Noted} (record { found = f; calls = c }) (record { found = g; calls = e })
 same_noted f g c e p q = ap (λ x. record { found = x; calls = c }) p ∙ ap (λ x. record { found = g; calls = x }) q
 
 pub with_failures-append : (s : Noted) (fs gs : List Failure) → with_failures s (fs ++ gs) ≡ with_failures (with_failures s fs) gs

@@ -15,7 +15,7 @@ use Rattle.pk_typing.specs.declared.declarations.Declaration.{Declaration}
 use Rattle.pk_typing.specs.declared.declarations.Typing.{Typing}
 use Rattle.pk_typing.specs.declared.declarations.Typing.TheVariants.{Integer}
 use Rattle.pk_typing.specs.declared.failures.Failure.{Failure}
-use Rattle.pk_typing.specs.Declarations.{is_object, is_function, is_array, is_scalar, is_void}
+use Rattle.pk_typing.specs.Declarations.{is_object, is_function, is_array, is_scalar}
 use Rattle.pk_typing.specs.Failures.{fails_if}
 use Rattle.pk_typing.specs.Mentions.{Mentioned, object_named, nothing_mentioned, joined, changing, clash, all_joined, some_clash}
 use Rattle.pk_typing.specs.Rules.{is_const, takes_others, assignment_clash, assignment_place}

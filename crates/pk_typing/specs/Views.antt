@@ -1,5 +1,5 @@
 -- What the values of the code stand for.
-use Rattle.std.specs.Prelude.{ℕ, Bool, List, map, Option, option_map, ◌++◌, length, nat_eq}
+use Rattle.std.specs.Prelude.{◌≡◌, ℕ, Bool, List, map, Option, option_map, ◌++◌, nat_eq}
 use Rattle.std.specs.HashSet.{contains}
 use Rattle.pk_ast.specs.Trees.{ExpressionTree, ExpressionTrees}
 use Rattle.pk_typed.specs.declared.units.CallSite.{CallSite}
@@ -16,11 +16,12 @@ use Rattle.pk_typing.specs.declared.failures.Failure.{Failure}
 use Rattle.pk_typing.specs.declared.failures.Notes.{Notes}
 use Rattle.pk_typed.specs.declared.values.Variable.{Variable}
 use Rattle.pk_typed.specs.declared.values.Variable.TheVariants.{File, Local}
+use Rattle.pk_typing.specs.declared.mentions.Before.{Before}
 use Rattle.pk_typing.specs.declared.mentions.Mentions.{Mentions}
 use Rattle.pk_typing.specs.declared.mentions.Objects.{Objects}
 use Rattle.pk_typing.specs.Declarations.{Names}
 use Rattle.pk_typing.specs.Failures.{noted}
-use Rattle.pk_typing.specs.Mentions.{Mentioned, mentions}
+use Rattle.pk_typing.specs.Mentions.{Mentioned, mentions, is_among}
 use Rattle.pk_typing.specs.Rules.{failures, used_failures, failures_used}
 use Rattle.pk_typing.specs.Typed.{EvaluatedTree, value, effect, OperandTree, typed, calls, calls_in_all}
 use Rattle.pk_typing.specs.Types.{target_of, type_of}
@@ -39,6 +40,14 @@ mentioned_in m = record { named = m.named.items; changed = m.changed.items }
 abbrev pub has : Objects → Variable → Bool
 has s (File n) = contains nat_eq s.files n
 has s (Local n) = contains nat_eq s.locals n
+
+-- a set of these objects
+pub record IsSetOf (xs : List Variable) (s : Objects) : Type 0 where
+  pub same : (x : Variable) → has s x ≡ is_among xs x
+
+pub record IsBefore (m : Mentioned) (s : Before) : Type 0 where
+  pub named : IsSetOf m.named s.named
+  pub changed : IsSetOf m.changed s.changed
 
 -- what is known of an expression
 pub record Known : Type 0 where

@@ -12,7 +12,7 @@ ghost use Rattle.pk_typing.specs.Views.{evaluated_tree, mentioned_in, mentioned_
 use crate::boxes::boxed_option;
 use crate::checked::{Arguments, Checked};
 use crate::declarations::{Callee, Declaration, Typing, is_function};
-use crate::evaluated::{Evaluated, valued, value_of, without_value};
+use crate::evaluated::{Evaluated, value_of, valued, without_value};
 use crate::failures::Notes;
 use crate::mentions::{all_joined, some_clash};
 use pk_ctypes::{IntType, Pos, Rule};
@@ -31,6 +31,7 @@ impl Arguments {
     }
 }
 
+#[tactic(auto, using(crate::proofs::ListLemmas::value_trees_push))]
 fn with_value(
     values: Option<Vec<Value>>,
     value: Option<Box<Value>>,
@@ -211,7 +212,11 @@ pub(crate) fn call(
 {
     let clash = some_clash(alloc, &arguments.mentions)?;
     notes.fail_if(!is_function(declared), Rule::Undeclared, at);
-    notes.fail_if(takes_others(declared, arguments.mentions.len()), Rule::Arguments, at);
+    notes.fail_if(
+        takes_others(declared, arguments.mentions.len()),
+        Rule::Arguments,
+        at,
+    );
     notes.fail_if(clash, Rule::Unsequenced, at);
     let mentions = all_joined(alloc, &arguments.mentions)?;
     let tree = typed_call(alloc, declared, site, at, arguments.values)?;

@@ -26,10 +26,7 @@ pub struct Object {
 /// What a call of a function is. A function of a special name, which has that name's types and no body in the text, is a form of its own.
 #[derive(Clone, Copy)]
 pub enum Callee {
-    Ordinary {
-        returns: Typing,
-        parameters: usize,
-    },
+    Ordinary { returns: Typing, parameters: usize },
     /// `__VERIFIER_nondet_T`.
     Any(IntType),
     /// `__VERIFIER_assume`.

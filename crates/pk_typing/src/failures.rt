@@ -1,6 +1,6 @@
 // Failures of rules, and which of them is answered.
 
-ghost use Rattle.std.specs.Prelude.{◌≡◌, None, [], OnOk, ◌++◌};
+ghost use Rattle.std.specs.Prelude.{◌≡◌, None, [], OnOk, ◌++◌, length};
 ghost use Rattle.pk_typing.specs.Failures.{row_of, is_before, earlier, fails_if, noted};
 ghost use Rattle.pk_typing.specs.Declarations.{own_site};
 ghost use Rattle.pk_typing.specs.Views.{noted_in, with_failures};
@@ -93,6 +93,13 @@ impl Notes {
         if fails {
             self.found = earlier_of(self.found, Failure { rule, at });
         }
+    }
+
+    /// How many calls there are so far.
+    pub(crate) fn count(&self) -> usize
+        ensures { result ≡ length self.now.calls.items }
+    {
+        self.calls.len()
     }
 
     /// Notes the call of what a name stands for, at the name.

@@ -106,7 +106,11 @@ impl<'a> Scope<'a> {
     }
 
     /// Declares a name in the innermost scope, and answers whether that scope had declared it before.
-    pub fn declare(&mut self, name: Identifier, declaration: Declaration) -> Result<bool, AllocError>
+    pub fn declare(
+        &mut self,
+        name: Identifier,
+        declaration: Declaration,
+    ) -> Result<bool, AllocError>
         ensures again { IfOk result (λ r. r ≡ is_some (scopes.declared_here (scoping_of self.old) name)) }
         ensures declared { OnOk result (scoping_of self.new ≡ scopes.declaring (scoping_of self.old) name declaration) }
     {
