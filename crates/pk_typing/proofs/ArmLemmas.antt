@@ -16,18 +16,20 @@ use Rattle.pk_ast.specs.Operators.{assignment_number_operator}
 use Rattle.pk_ast.specs.Places.{first_place_of}
 use Rattle.pk_ast.specs.Trees.{OneOrMore, ExpressionTree, ExpressionTrees, name, call, index, constant, character, parenthesized, postfix, prefix, unary, cast, binary, conditional, assignment, comma, no_expressions, expression_then}
 use Rattle.pk_typed.specs.Trees.{ValueTrees}
-use Rattle.pk_typing.specs.declared.declarations.Declaration.{Declaration}
-use Rattle.pk_typing.specs.declared.declarations.Typing.{Typing}
-use Rattle.pk_typing.specs.Declarations.{Names, is_void, own_site}
-use Rattle.pk_typing.specs.Failures.{fails_if}
-use Rattle.pk_typing.specs.Specifiers.{type_named, specifiers}
+use Rattle.pk_scope.specs.declared.declarations.Declaration.{Declaration}
+use Rattle.pk_scope.specs.declared.declarations.Typing.{Typing}
+use Rattle.pk_scope.specs.Declarations.{Names, is_void, own_site}
+use Rattle.pk_scope.specs.Failures.{fails_if}
+use Rattle.pk_scope.specs.Specifiers.{type_named, specifiers}
 use Rattle.pk_typing.specs.Mentions.{Mentioned, named, changed, mentions_of_each, all_joined, named_in_all, changed_in_all}
 use Rattle.pk_typing.specs.Types.{type_of, target_of, type_of_call}
 use Rattle.pk_typing.specs.Typed.{typed, typed_all, typed_call, calls, calls_in_all}
 use Rattle.pk_typing.specs.Rules.{count, undeclared, void, array, place, constness, arguments, unsequenced, failures}
 use Rattle.pk_typing.specs.Forms.{name_failures, known_name, element_failures, known_element, known_constant, call_failures, known_call, step_failures, known_step, known_unary, known_cast, binary_failures, known_binary, known_conditional, assignment_failures, known_assignment, known_comma}
-use Rattle.pk_typing.specs.Views.{Known, Noted, known, with_failures, after, after_used, after_all}
-use Rattle.pk_typing.proofs.FailureLemmas.{noted_append, when_fails_if, same_noted}
+use Rattle.pk_scope.specs.Notes.{Noted, with_failures}
+use Rattle.pk_typing.specs.Views.{Known, known, after, after_used, after_all}
+use Rattle.pk_scope.proofs.FailureLemmas.{noted_append, same_noted}
+use Rattle.pk_typing.proofs.FailureLemmas.{when_fails_if}
 
 append_nil : {A : Type 0} (xs : List A) → xs ++ [] ≡ xs
 append_nil [] = refl

@@ -1,6 +1,5 @@
 pub mod ArmLemmas
 pub mod FailureLemmas
-pub mod FirstLemmas
 pub mod ListLemmas
 pub mod MentionLemmas
 pub mod PartLemmas

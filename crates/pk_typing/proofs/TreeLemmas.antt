@@ -16,17 +16,17 @@ use Rattle.pk_typed.specs.declared.values.Variable.{Variable}
 use Rattle.pk_typed.specs.Trees.{PlaceTree, ValueTree, ValueTrees, scalar, element, read, any, abort, no_values, value_before}
 use Rattle.pk_typed.specs.Types as trees
 use Rattle.pk_typed.specs.Types.{type_of_place}
-use Rattle.pk_typing.specs.declared.declarations.Callee.{Callee}
-use Rattle.pk_typing.specs.declared.declarations.Callee.TheVariants.{Ordinary, Any, Assume, Assert, Abort}
-use Rattle.pk_typing.specs.declared.declarations.Declaration.{Declaration}
-use Rattle.pk_typing.specs.declared.declarations.Declaration.TheVariants.{Object, Function}
-use Rattle.pk_typing.specs.declared.declarations.Target.{Target}
-use Rattle.pk_typing.specs.declared.declarations.Typing.{Typing}
-use Rattle.pk_typing.specs.declared.declarations.Typing.TheVariants.{Void, Integer, Unknown}
-use Rattle.pk_typing.specs.declared.failures.Failure.{Failure}
-use Rattle.pk_typing.specs.Declarations.{Names, HasTypes, is_void, is_unknown, is_object, is_function, is_array, is_scalar, returned_by, arguments_of, own_site}
-use Rattle.pk_typing.specs.Failures.{fails_if}
-use Rattle.pk_typing.specs.Specifiers.{type_named, specifiers}
+use Rattle.pk_scope.specs.declared.declarations.Callee.{Callee}
+use Rattle.pk_scope.specs.declared.declarations.Callee.TheVariants.{Ordinary, Any, Assume, Assert, Abort}
+use Rattle.pk_scope.specs.declared.declarations.Declaration.{Declaration}
+use Rattle.pk_scope.specs.declared.declarations.Declaration.TheVariants.{Object, Function}
+use Rattle.pk_typing.specs.declared.names.Target.{Target}
+use Rattle.pk_scope.specs.declared.declarations.Typing.{Typing}
+use Rattle.pk_scope.specs.declared.declarations.Typing.TheVariants.{Void, Integer, Unknown}
+use Rattle.pk_scope.specs.declared.failures.Failure.{Failure}
+use Rattle.pk_scope.specs.Declarations.{Names, HasTypes, is_void, is_unknown, is_object, is_function, is_array, is_scalar, returned_by, arguments_of, own_site}
+use Rattle.pk_scope.specs.Failures.{fails_if}
+use Rattle.pk_scope.specs.Specifiers.{type_named, specifiers}
 use Rattle.pk_typing.specs.Types.{type_of, target_of, of_object, scalar_target, element_target, type_of_target, type_of_call, of_integer, of_integers, unary_type, binary_type}
 use Rattle.pk_typing.specs.Typed.{EvaluatedTree, value, effect, value_of, effect_of, valued, operand_of, place_of, of_both, name_value, element_value, typed_call, call_of, called, if_none, only, step_value, unary_value, typed_cast, is_or, logical_value, binary_value, typed_conditional, assignment_value, comma_after, typed, typed_all, calls_after}
 use Rattle.pk_typing.specs.Rules.{when, count, takes_others, undeclared, void, array, place, constness, arguments, unsequenced, own, failures, failures_used}

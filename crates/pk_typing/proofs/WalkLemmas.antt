@@ -5,13 +5,14 @@ use Rattle.pk_ast.specs.declared.expressions.Expression.{Expression}
 use Rattle.pk_ast.specs.Trees.{ExpressionTree, ExpressionTrees, no_expressions, expression_then}
 use Rattle.pk_ast.specs.Views.{expression_tree, expression_trees}
 use Rattle.pk_typed.specs.Trees.{ValueTree, ValueTrees, no_values, value_before}
-use Rattle.pk_typing.specs.Declarations.{Names}
+use Rattle.pk_scope.specs.Declarations.{Names}
 use Rattle.pk_typing.specs.Forms.{append_values, with_last}
 use Rattle.pk_typing.specs.Mentions.{Mentioned, mentions, mentions_of_each}
 use Rattle.pk_typing.specs.Rules.{failures_used}
 use Rattle.pk_typing.specs.Typed.{typed, typed_all, calls, calls_in_all, value_of, of_both}
-use Rattle.pk_typing.specs.Views.{Known, Noted, known, after_used, after_all}
-use Rattle.pk_typing.proofs.FailureLemmas.{noted_append, same_noted}
+use Rattle.pk_scope.specs.Notes.{Noted}
+use Rattle.pk_typing.specs.Views.{Known, known, after_used, after_all}
+use Rattle.pk_scope.proofs.FailureLemmas.{noted_append, same_noted}
 use Rattle.pk_typing.proofs.ListLemmas.{append_values_none, append_values_assoc}
 
 -- values after values, where each list has them

@@ -15,15 +15,15 @@ use Rattle.pk_typed.specs.declared.units.CallSite.{CallSite}
 use Rattle.pk_typed.specs.Trees as tree
 use Rattle.pk_typed.specs.Trees.{PlaceTree, ValueTree, EffectTree, ValueTrees, no_values, value_before}
 use Rattle.pk_typed.specs.Types.{type_of_place}
-use Rattle.pk_typing.specs.declared.declarations.Callee.{Callee}
-use Rattle.pk_typing.specs.declared.declarations.Callee.TheVariants.{Ordinary, Any, Assume, Assert, Abort}
-use Rattle.pk_typing.specs.declared.declarations.Declaration.{Declaration}
-use Rattle.pk_typing.specs.declared.declarations.Declaration.TheVariants as declared
-use Rattle.pk_typing.specs.declared.declarations.Object.{Object}
-use Rattle.pk_typing.specs.declared.declarations.Typing.{Typing}
-use Rattle.pk_typing.specs.declared.declarations.Typing.TheVariants.{Void, Integer, Unknown}
-use Rattle.pk_typing.specs.Declarations.{Names, own_site}
-use Rattle.pk_typing.specs.Specifiers.{type_named}
+use Rattle.pk_scope.specs.declared.declarations.Callee.{Callee}
+use Rattle.pk_scope.specs.declared.declarations.Callee.TheVariants.{Ordinary, Any, Assume, Assert, Abort}
+use Rattle.pk_scope.specs.declared.declarations.Declaration.{Declaration}
+use Rattle.pk_scope.specs.declared.declarations.Declaration.TheVariants as declared
+use Rattle.pk_scope.specs.declared.declarations.Object.{Object}
+use Rattle.pk_scope.specs.declared.declarations.Typing.{Typing}
+use Rattle.pk_scope.specs.declared.declarations.Typing.TheVariants.{Void, Integer, Unknown}
+use Rattle.pk_scope.specs.Declarations.{Names, own_site}
+use Rattle.pk_scope.specs.Specifiers.{type_named}
 use Rattle.pk_typing.specs.Types.{type_of, operand_type, of_object}
 
 -- an expression with a value, or without one

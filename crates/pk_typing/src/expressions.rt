@@ -4,21 +4,20 @@ ghost use Rattle.std.specs.Prelude.{◌≡◌, ◌&&◌, IfOk, OnOk, length};
 ghost use Rattle.pk_ast.specs.Places.{first_place_of};
 ghost use Rattle.pk_ast.specs.Views.{expression_tree, expression_trees};
 ghost use Rattle.pk_ctypes.specs.declared.words.Rule.TheVariants as rule;
-ghost use Rattle.pk_typing.specs.Declarations.{is_void};
-ghost use Rattle.pk_typing.specs.Failures.{fails_if};
+ghost use Rattle.pk_scope.specs.Declarations.{is_void};
+ghost use Rattle.pk_scope.specs.Failures.{fails_if};
 ghost use Rattle.pk_typing.specs.Mentions.{mentions_of_each};
-ghost use Rattle.pk_typing.specs.Scopes.{names_in, scoping_of};
+ghost use Rattle.pk_scope.specs.Scopes.{names_in, scoping_of};
 ghost use Rattle.pk_typing.specs.Typed.{typed_all};
-ghost use Rattle.pk_typing.specs.Views.{noted_in, with_failures, after, after_used, after_all, known_of, known, mentioned_in_each, values_in};
+ghost use Rattle.pk_scope.specs.Notes.{noted_in, with_failures};
+ghost use Rattle.pk_typing.specs.Views.{after, after_used, after_all, known_of, known, mentioned_in_each, values_in};
 
 use crate::calls::with_argument;
 use crate::checked::{Arguments, Checked};
-use crate::failures::Notes;
-use crate::scopes::Scope;
-use crate::specifiers::{note_specifiers, type_named};
 use crate::{calls, operators};
 use pk_ast::{Expression, Specifiers};
 use pk_ctypes::Rule;
+use pk_scope::{Notes, Scope, note_specifiers, type_named};
 use std::alloc::{AllocError, Global};
 
 // Notes that an expression is void, where it is used.

@@ -5,7 +5,8 @@ ghost use Rattle.std.specs.List.{list_any};
 ghost use Rattle.pk_typing.specs.Mentions as definitions;
 ghost use Rattle.pk_typing.specs.Views.{mentioned_in, has, IsBefore};
 
-use crate::declarations::{Declaration, Target};
+use crate::names::Target;
+use pk_scope::Declaration;
 use pk_typed::Variable;
 use std::alloc::{AllocError, Global};
 use std::collections::HashSet;

@@ -9,18 +9,17 @@ ghost use Rattle.pk_typing.specs.Forms as forms;
 ghost use Rattle.pk_typing.specs.Rules as rules;
 ghost use Rattle.pk_typing.specs.Typed as typed;
 ghost use Rattle.pk_typing.specs.Types as types;
-ghost use Rattle.pk_typing.specs.Views.{evaluated_tree, operand_tree, mentioned_in, known_of, noted_in, with_failures};
+ghost use Rattle.pk_scope.specs.Notes.{noted_in, with_failures};
+ghost use Rattle.pk_typing.specs.Views.{evaluated_tree, operand_tree, mentioned_in, known_of};
 
 use crate::boxes::{both, boxed};
 use crate::checked::{Checked, Operand, operand_of};
-use crate::declarations::{
-    Declaration, Object, Target, Typing, is_array, is_object, is_scalar, typing_of,
-};
 use crate::evaluated::{Evaluated, effect_of, place_of, value_of, valued, without_value};
-use crate::failures::Notes;
 use crate::mentions::Mentions;
+use crate::names::{Target, is_array, is_object, is_scalar, typing_of};
 use pk_ast::{AssignmentOperator, BinaryOperator, StepOperator, UnaryOperator};
 use pk_ctypes::{IntType, Op, Pos, Rule, promote, result_type, usual};
+use pk_scope::{Declaration, Notes, Object, Typing};
 use pk_typed::{Effect, Place, Value};
 use std::alloc::{AllocError, Global};
 

@@ -3,9 +3,10 @@ use Rattle.std.proofs.Common.{ap, ◌++◌, length, refl}
 use Rattle.pk_ast.specs.Trees as ast
 use Rattle.pk_ast.specs.Views.{expression_tree, expression_trees}
 use Rattle.pk_typing.specs.Mentions.{mentions_of_each}
-use Rattle.pk_typing.specs.Declarations.{Names}
-use Rattle.pk_typing.specs.Scopes.{names_in, scoping_of}
-use Rattle.pk_typing.specs.Views.{noted_in, known_of}
+use Rattle.pk_scope.specs.Declarations.{Names}
+use Rattle.pk_scope.specs.Scopes.{names_in, scoping_of}
+use Rattle.pk_scope.specs.Notes.{noted_in}
+use Rattle.pk_typing.specs.Views.{known_of}
 use Rattle.pk_typing.proofs.ArmLemmas as arm
 use Rattle.pk_typing.proofs.PartLemmas.{one_part, two_parts, three_parts, cast_parts, call_parts}
 use Rattle.pk_typing.proofs.ResultLemmas.{on_ok, if_ok, whatever}

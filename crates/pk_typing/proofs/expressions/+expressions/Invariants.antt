@@ -2,9 +2,10 @@
 use Rattle.std.proofs.Common.{◌≡◌, ◌++◌, drop, length}
 use Rattle.pk_ast.specs.Views.{expression_trees}
 use Rattle.pk_typing.specs.Mentions.{mentions_of_each}
-use Rattle.pk_typing.specs.Scopes.{names_in, scoping_of}
+use Rattle.pk_scope.specs.Scopes.{names_in, scoping_of}
 use Rattle.pk_typing.specs.Typed.{typed_all}
-use Rattle.pk_typing.specs.Views.{noted_in, after_all, mentioned_in_each, values_in}
+use Rattle.pk_scope.specs.Notes.{noted_in}
+use Rattle.pk_typing.specs.Views.{after_all, mentioned_in_each, values_in}
 use Rattle.pk_typing.proofs.WalkLemmas.{appended}
 use Rattle.pk_typing.proofs.expressions.+expressions.Given as goal
 

@@ -2,8 +2,8 @@
 use Rattle.std.proofs.Common.{◌≡◌, ◌≤◌, ◌<◌, ℕ, Bool, true, false, List, [], ◌∷◌, Some, refl, arith, ap, if◌then◌else◌, ltb, eqb, inl, inr}
 use Rattle.std.proofs.lemmas.Bool.Decides.{nat_tests}
 use Rattle.pk_ctypes.specs.Places.{Before}
-use Rattle.pk_typing.specs.declared.failures.Failure.{Failure}
-use Rattle.pk_typing.specs.Failures.{row_of, is_before, noted, Among, here, later, IsFirst, TheFirstIsAnswered}
+use Rattle.pk_scope.specs.declared.failures.Failure.{Failure}
+use Rattle.pk_scope.specs.Failures.{row_of, is_before, noted, Among, here, later, IsFirst, TheFirstIsAnswered}
 
 -- by numbers alone
 abbrev below : ℕ → ℕ → ℕ → ℕ → ℕ → ℕ → Bool

@@ -6,14 +6,14 @@ use Rattle.pk_ast.specs.declared.declarations.Specifier.{Specifier}
 use Rattle.pk_ast.specs.declared.declarations.SpecifierWord.{SpecifierWord}
 use Rattle.pk_ast.specs.declared.declarations.SpecifierWord.TheVariants as word
 use Rattle.pk_ast.specs.Trees.{OneOrMore}
-use Rattle.pk_typing.specs.declared.failures.Failure.{Failure}
-use Rattle.pk_typing.specs.declared.declarations.Typing.{Typing}
-use Rattle.pk_typing.specs.declared.declarations.Typing.TheVariants.{Void, Integer, Unknown}
-use Rattle.pk_typing.specs.declared.specifiers.Counts.{Counts}
-use Rattle.pk_typing.specs.declared.specifiers.Times.{Times}
-use Rattle.pk_typing.specs.declared.specifiers.Times.TheVariants.{Never, Once, Twice, AtMostOnce}
-use Rattle.pk_typing.specs.Declarations.{is_unknown}
-use Rattle.pk_typing.specs.Failures.{fails_if}
+use Rattle.pk_scope.specs.declared.failures.Failure.{Failure}
+use Rattle.pk_scope.specs.declared.declarations.Typing.{Typing}
+use Rattle.pk_scope.specs.declared.declarations.Typing.TheVariants.{Void, Integer, Unknown}
+use Rattle.pk_scope.specs.declared.specifiers.Counts.{Counts}
+use Rattle.pk_scope.specs.declared.specifiers.Times.{Times}
+use Rattle.pk_scope.specs.declared.specifiers.Times.TheVariants.{Never, Once, Twice, AtMostOnce}
+use Rattle.pk_scope.specs.Declarations.{is_unknown}
+use Rattle.pk_scope.specs.Failures.{fails_if}
 
 -- one word more; `const` names no type
 abbrev pub counted : Counts → SpecifierWord → Counts

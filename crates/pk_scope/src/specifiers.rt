@@ -2,8 +2,8 @@
 
 ghost use Rattle.std.specs.Prelude.{◌≡◌, ◌+◌, ◌<◌, ◌≤◌, ◌^◌};
 ghost use Rattle.pk_ast.specs.Views.{specifiers_tree};
-ghost use Rattle.pk_typing.specs.Views.{noted_in, with_failures};
-ghost use Rattle.pk_typing.specs.Specifiers as definitions;
+ghost use Rattle.pk_scope.specs.Notes.{noted_in, with_failures};
+ghost use Rattle.pk_scope.specs.Specifiers as definitions;
 
 use crate::declarations::Typing;
 use crate::failures::Notes;

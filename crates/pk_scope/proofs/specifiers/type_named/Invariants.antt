@@ -1,7 +1,7 @@
 -- What is left is counted on, and no more words were counted than there were.
 use Rattle.std.proofs.Common.{◌≡◌, ◌≤◌, ◌+◌, drop}
-use Rattle.pk_typing.specs.Specifiers.{counts_of, total_of}
-use Rattle.pk_typing.proofs.specifiers.type_named.Given as goal
+use Rattle.pk_scope.specs.Specifiers.{counts_of, total_of}
+use Rattle.pk_scope.proofs.specifiers.type_named.Given as goal
 
 abbrev pub invariant-loop-specifier : goal.invariant-loop-specifier
 invariant-loop-specifier l = record {
