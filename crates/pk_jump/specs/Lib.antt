@@ -1,0 +1,4 @@
+pub mod Names
+pub mod Labels
+pub mod Jumps
+pub mod Views
