@@ -1,0 +1,5 @@
+pub mod ArmLemmas
+pub mod FailureLemmas
+pub mod ResultLemmas
+pub mod FirstLemmas
+pub mod TreeLemmas

@@ -1,0 +1,11 @@
+pub mod Failures
+pub mod Specifiers
+pub mod Declarations
+pub mod Scopes
+pub mod Mentions
+pub mod Types
+pub mod Typed
+pub mod Rules
+pub mod Views
+pub mod Forms
+pub mod Laws
