@@ -1,9 +1,10 @@
 -- What is noted after each form of expression, and what is known of it, by the steps in which the walk goes over it.
-use Rattle.std.proofs.Common.{◌≡◌, ℕ, ℤ, ◌+◌, Bool, true, false, not, ◌&&◌, pos, List, [], ◌∷◌, ◌++◌, Option, length, refl, ap, sym, ◌∙◌, append_assoc, length-append, arith}
+use Rattle.std.proofs.Common.{◌≡◌, ℕ, ℤ, ◌+◌, Bool, true, false, not, ◌&&◌, pos, List, [], ◌∷◌, ◌++◌, Option, None, length, refl, ap, sym, ◌∙◌, append_assoc, length-append, arith}
 use Rattle.std.specs.Option.{is_some}
 use Rattle.pk_ctypes.specs.declared.places.Pos.{Pos}
 use Rattle.pk_ctypes.specs.declared.types.IntType.{IntType}
 use Rattle.pk_ctypes.specs.declared.types.IntType.TheVariants.{Int}
+use Rattle.pk_ctypes.specs.declared.types.Op.{Op}
 use Rattle.pk_ctypes.specs.declared.words.Rule.TheVariants as rule
 use Rattle.pk_ast.specs.declared.declarations.Specifier.{Specifier}
 use Rattle.pk_ast.specs.declared.expressions.Identifier.{Identifier}
@@ -15,18 +16,20 @@ use Rattle.pk_ast.specs.Operators.{assignment_number_operator}
 use Rattle.pk_ast.specs.Places.{first_place_of}
 use Rattle.pk_ast.specs.Trees.{OneOrMore, ExpressionTree, ExpressionTrees, name, call, index, constant, character, parenthesized, postfix, prefix, unary, cast, binary, conditional, assignment, comma, no_expressions, expression_then}
 use Rattle.pk_typed.specs.Trees.{ValueTrees}
-use Rattle.pk_typing.specs.declared.declarations.Declaration.{Declaration}
-use Rattle.pk_typing.specs.declared.declarations.Typing.{Typing}
-use Rattle.pk_typing.specs.Declarations.{Names, is_void, own_site}
-use Rattle.pk_typing.specs.Failures.{fails_if}
-use Rattle.pk_typing.specs.Specifiers.{type_named, specifiers}
-use Rattle.pk_typing.specs.Mentions.{Mentioned, named, changed, mentions, mentions_of_each, all_joined, named_in_all, changed_in_all}
-use Rattle.pk_typing.specs.Types.{type_of, target_of}
-use Rattle.pk_typing.specs.Typed.{typed, typed_all, calls, calls_in_all}
-use Rattle.pk_typing.specs.Rules.{when, count, undeclared, void, array, place, constness, arguments, unsequenced, failures, failures_used}
+use Rattle.pk_scope.specs.declared.declarations.Declaration.{Declaration}
+use Rattle.pk_scope.specs.declared.declarations.Typing.{Typing}
+use Rattle.pk_scope.specs.Declarations.{Names, is_void, own_site}
+use Rattle.pk_scope.specs.Failures.{fails_if}
+use Rattle.pk_scope.specs.Specifiers.{type_named, specifiers}
+use Rattle.pk_typing.specs.Mentions.{Mentioned, named, changed, mentions_of_each, all_joined, named_in_all, changed_in_all}
+use Rattle.pk_typing.specs.Types.{type_of, target_of, type_of_call}
+use Rattle.pk_typing.specs.Typed.{typed, typed_all, typed_call, calls, calls_in_all}
+use Rattle.pk_typing.specs.Rules.{count, undeclared, void, array, place, constness, arguments, unsequenced, failures}
 use Rattle.pk_typing.specs.Forms.{name_failures, known_name, element_failures, known_element, known_constant, call_failures, known_call, step_failures, known_step, known_unary, known_cast, binary_failures, known_binary, known_conditional, assignment_failures, known_assignment, known_comma}
-use Rattle.pk_typing.specs.Views.{Known, Noted, known, with_failures, after, after_used, after_all}
-use Rattle.pk_typing.proofs.FailureLemmas.{noted_append, when_fails_if, same_noted}
+use Rattle.pk_scope.specs.Notes.{Noted, with_failures}
+use Rattle.pk_typing.specs.Views.{Known, known, after, after_used, after_all}
+use Rattle.pk_scope.proofs.FailureLemmas.{noted_append, same_noted}
+use Rattle.pk_typing.proofs.FailureLemmas.{when_fails_if}
 
 append_nil : {A : Type 0} (xs : List A) → xs ++ [] ≡ xs
 append_nil [] = refl
@@ -49,9 +52,9 @@ unfolding type_of target_of named changed typed
 name_known d n e x o c is look h = rw (h, look, is) refl
 
 -- an element
-pub element_notes : (d : Names) (n : ℕ) (e i : ExpressionTree) (x : Identifier) (at : Pos) (o : Option Declaration) (s t u : Noted) → e ≡ index x at i → o ≡ d x → t ≡ after_used d i s → u ≡ with_failures t (element_failures x.at o) → u ≡ after d e s
+pub element_notes : (d : Names) (e i : ExpressionTree) (x : Identifier) (at : Pos) (o : Option Declaration) (s t u : Noted) → e ≡ index x at i → o ≡ d x → t ≡ after_used d i s → u ≡ with_failures t (element_failures x.at o) → u ≡ after d e s
 unfolding failures undeclared array place constness arguments unsequenced calls
-element_notes d n e i x at o s t u is look during h = rw (h, during, look, is) (same_noted _ _ _ _ (simp noted_append) refl)
+element_notes d e i x at o s t u is look during h = rw (h, during, look, is) (same_noted _ _ _ _ (simp noted_append) refl)
 
 pub element_known : (d : Names) (n : ℕ) (e i : ExpressionTree) (x : Identifier) (at : Pos) (o : Option Declaration) (c k : Known) → e ≡ index x at i → o ≡ d x → k ≡ known d n i → c ≡ known_element at o k → c ≡ known d n e
 unfolding type_of target_of named changed typed
@@ -187,6 +190,9 @@ unfolding changed_in_all mentions_of_each
 changed_in_each d no_expressions = refl
 changed_in_each d (expression_then e es) = ap (λ xs. changed d e ++ xs) (changed_in_each d es)
 
+mentions_in_each : (d : Names) (es : ExpressionTrees) → ◌≡◌ {A = Mentioned} (record { named = named_in_all d es; changed = changed_in_all d es }) (all_joined (mentions_of_each d es))
+mentions_in_each d es = ap (λ xs. record { named = xs; changed = changed_in_all d es }) (named_in_each d es) ∙ ap (λ xs. record { named = (all_joined (mentions_of_each d es)).named; changed = xs }) (changed_in_each d es)
+
 counted_each : (d : Names) (es : ExpressionTrees) → length (mentions_of_each d es) ≡ count es
 unfolding mentions_of_each
 counted_each d no_expressions = refl
@@ -205,4 +211,40 @@ unfolding type_of target_of named changed typed
 call_known d e x es o ms vs c s t is look own each values h =
     let site : length t.calls ≡ length s.calls + length (own_site x.at (d x)) = ap (λ u. length u.calls) own ∙ (length-append s.calls (own_site x.at o) ∙ ap (λ p. length s.calls + length (own_site x.at p)) look) in
     let values' : vs ≡ typed_all d (length s.calls + length (own_site x.at (d x))) es = values ∙ ap (λ n. typed_all d n es) site in
-    rw (h, values', each, look, is) (simp (named_in_each, changed_in_each))
+    rw (h, values', each, look, is) (ap (λ m. record { typing = type_of_call (d x); target = None; mentions = m; tree = typed_call (d x) (length s.calls) x.at (typed_all d (length s.calls + length (own_site x.at (d x))) es) }) (sym (mentions_in_each d es)))
+
+-- with what the code has in place of these
+pub call_known' : (d : Names) (e : ExpressionTree) (x : Identifier) (es : ExpressionTrees) (o : Option Declaration) (ms : List Mentioned) (vs : Option ValueTrees) (c : Known) (n : ℕ) (s t : Noted)
+    → e ≡ call x es → o ≡ d x → t ≡ record { found = s.found; calls = s.calls ++ own_site x.at o } → ms ≡ mentions_of_each d es → vs ≡ typed_all d (length t.calls) es
+    → n ≡ length s.calls → c ≡ known_call x.at n o ms vs → c ≡ known d (length s.calls) e
+call_known' d e x es o ms vs c n s t is look own each values site h = call_known d e x es o ms vs c s t is look own each values (h ∙ ap (λ m. known_call x.at m o ms vs) site)
+
+-- with a test that the code has made
+pub cast_notes' : (d : Names) (n : ℕ) (e i : ExpressionTree) (words : OneOrMore Specifier) (at : Pos) (to : Typing) (b : Bool) (k : Known) (s t u v : Noted)
+    → e ≡ cast at words i → t ≡ with_failures s (specifiers words) → to ≡ type_named words → u ≡ after d i t → k ≡ known d n i → b ≡ is_void to
+    → v ≡ with_failures u (fails_if (not b && is_void k.typing) rule.Void (first_place_of i)) → v ≡ after d e s
+cast_notes' d n e i words at to b k s t u v is before names during inner test h =
+    cast_notes d n e i words at to k s t u v is before names during inner (h ∙ ap (λ x. with_failures u (fails_if (not x && is_void k.typing) rule.Void (first_place_of i))) test)
+
+pub cast_known' : (d : Names) (e i : ExpressionTree) (words : OneOrMore Specifier) (at : Pos) (to : Typing) (c k : Known) (s t : Noted)
+    → e ≡ cast at words i → t ≡ with_failures s (specifiers words) → to ≡ type_named words → k ≡ known d (length t.calls) i → c ≡ known_cast to k → c ≡ known d (length s.calls) e
+cast_known' d e i words at to c k s t is before names inner h =
+    cast_known d (length s.calls) e i words at to c k is names (inner ∙ ap (λ u. known d (length u.calls) i) before) h
+
+pub assignment_notes' : (d : Names) (m n : ℕ) (e a b : ExpressionTree) (op : AssignmentOperator) (at : Pos) (o : Option Op) (x : Bool) (k l : Known) (s t u v w : Noted)
+    → e ≡ assignment op at a b → t ≡ after d a s → k ≡ known d m a → o ≡ assignment_number_operator op → x ≡ is_some o
+    → u ≡ with_failures t (fails_if (x && is_void k.typing) rule.Void (first_place_of a))
+    → v ≡ after_used d b u → l ≡ known d n b → w ≡ with_failures v (assignment_failures at k l) → w ≡ after d e s
+assignment_notes' d m n e a b op at o x k l s t u v w is first left number test used second right h =
+    assignment_notes d m n e a b op at k l s t u v w is first left
+    (used ∙ ap (λ y. with_failures t (fails_if (y && is_void k.typing) rule.Void (first_place_of a))) (test ∙ ap is_some number)) second right h
+
+pub assignment_known' : (d : Names) (e a b : ExpressionTree) (op : AssignmentOperator) (at : Pos) (c k l : Known) (s t u : Noted)
+    → e ≡ assignment op at a b → t ≡ after d a s → k ≡ known d (length s.calls) a → length u.calls ≡ length t.calls → l ≡ known d (length u.calls) b → c ≡ known_assignment op at k l → c ≡ known d (length s.calls) e
+assignment_known' d e a b op at c k l s t u is first left same right h =
+    assignment_known d e a b op at c k l s u is (same ∙ calls_between' d a s t first) left right h
+
+-- an expression that is used
+pub used_notes : (d : Names) (n : ℕ) (e : ExpressionTree) (k : Known) (s t u : Noted) → t ≡ after d e s → k ≡ known d n e → u ≡ with_failures t (fails_if (is_void k.typing) rule.Void (first_place_of e)) → u ≡ after_used d e s
+unfolding void
+used_notes d n e k s t u before inner h = rw (h, inner, before) (same_noted _ _ _ _ (simp noted_append) refl)

@@ -1,5 +1,8 @@
 pub mod ArmLemmas
 pub mod FailureLemmas
+pub mod ListLemmas
+pub mod MentionLemmas
+pub mod PartLemmas
 pub mod ResultLemmas
-pub mod FirstLemmas
 pub mod TreeLemmas
+pub mod WalkLemmas

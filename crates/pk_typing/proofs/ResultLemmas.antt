@@ -8,3 +8,7 @@ on_ok (Err e) f p = p
 pub if_ok : {A E : Type 0} (r : Result A E) {P Q : A → Type 0} → ((v : A) → P v → Q v) → IfOk r P → IfOk r Q
 if_ok (Ok v) f p = f v p
 if_ok (Err e) f p = p
+
+pub whatever : {A E : Type 0} (r : Result A E) {Q : Type 0} → Q → OnOk r Q
+whatever (Ok v) q = q
+whatever (Err e) q = tt

@@ -1,5 +1,5 @@
 -- An expression in which no rule fails has a type, and a typed tree of that type.
-use Rattle.std.proofs.Common.{◌≡◌, ◌×◌, ℕ, zero, suc, ◌+◌, Bool, true, false, not, ◌&&◌, pos, List, [], ◌∷◌, ◌++◌, Option, Some, None, length, refl, ap, sym, ◌∙◌, arith, absurd, nat_eq, if◌then◌else◌}
+use Rattle.std.proofs.Common.{◌≡◌, ℕ, ◌+◌, Bool, true, false, not, ◌&&◌, List, [], ◌∷◌, ◌++◌, Option, Some, None, length, refl, ap, sym, ◌∙◌, arith, nat_eq, if◌then◌else◌}
 use Rattle.std.proofs.lemmas.Bool.Decides.{nat_tests}
 use Rattle.std.specs.Option.{is_some, option_map}
 use Rattle.pk_ctypes.specs.declared.places.Pos.{Pos}
@@ -13,23 +13,23 @@ use Rattle.pk_ast.specs.declared.operators.StepOperator.{StepOperator}
 use Rattle.pk_ast.specs.Operators.{binary_number_operator, unary_number_operator, assignment_number_operator}
 use Rattle.pk_ast.specs.Trees.{ExpressionTree, ExpressionTrees, name, call, index, constant, character, parenthesized, postfix, prefix, unary, cast, binary, conditional, assignment, comma, no_expressions, expression_then}
 use Rattle.pk_typed.specs.declared.values.Variable.{Variable}
-use Rattle.pk_typed.specs.Trees.{PlaceTree, ValueTree, ValueTrees, scalar, element, read, any, assume, assert, abort, no_values, value_before}
+use Rattle.pk_typed.specs.Trees.{PlaceTree, ValueTree, ValueTrees, scalar, element, read, any, abort, no_values, value_before}
 use Rattle.pk_typed.specs.Types as trees
 use Rattle.pk_typed.specs.Types.{type_of_place}
-use Rattle.pk_typing.specs.declared.declarations.Callee.{Callee}
-use Rattle.pk_typing.specs.declared.declarations.Callee.TheVariants.{Ordinary, Any, Assume, Assert, Abort}
-use Rattle.pk_typing.specs.declared.declarations.Declaration.{Declaration}
-use Rattle.pk_typing.specs.declared.declarations.Declaration.TheVariants.{Object, Function}
-use Rattle.pk_typing.specs.declared.declarations.Target.{Target}
-use Rattle.pk_typing.specs.declared.declarations.Typing.{Typing}
-use Rattle.pk_typing.specs.declared.declarations.Typing.TheVariants.{Void, Integer, Unknown}
-use Rattle.pk_typing.specs.declared.failures.Failure.{Failure}
-use Rattle.pk_typing.specs.Declarations.{Names, HasTypes, is_void, is_unknown, is_object, is_function, is_array, is_scalar, returned_by, arguments_of, own_site}
-use Rattle.pk_typing.specs.Failures.{fails_if}
-use Rattle.pk_typing.specs.Specifiers.{type_named, specifiers}
+use Rattle.pk_scope.specs.declared.declarations.Callee.{Callee}
+use Rattle.pk_scope.specs.declared.declarations.Callee.TheVariants.{Ordinary, Any, Assume, Assert, Abort}
+use Rattle.pk_scope.specs.declared.declarations.Declaration.{Declaration}
+use Rattle.pk_scope.specs.declared.declarations.Declaration.TheVariants.{Object, Function}
+use Rattle.pk_typing.specs.declared.names.Target.{Target}
+use Rattle.pk_scope.specs.declared.declarations.Typing.{Typing}
+use Rattle.pk_scope.specs.declared.declarations.Typing.TheVariants.{Void, Integer, Unknown}
+use Rattle.pk_scope.specs.declared.failures.Failure.{Failure}
+use Rattle.pk_scope.specs.Declarations.{Names, HasTypes, is_void, is_unknown, is_object, is_function, is_array, is_scalar, returned_by, arguments_of, own_site}
+use Rattle.pk_scope.specs.Failures.{fails_if}
+use Rattle.pk_scope.specs.Specifiers.{type_named, specifiers}
 use Rattle.pk_typing.specs.Types.{type_of, target_of, of_object, scalar_target, element_target, type_of_target, type_of_call, of_integer, of_integers, unary_type, binary_type}
-use Rattle.pk_typing.specs.Typed.{EvaluatedTree, value, effect, value_of, effect_of, valued, operand_of, place_of, of_both, name_value, element_value, typed_call, call_of, called, if_none, only, step_value, unary_value, typed_cast, is_or, logical_value, binary_value, typed_conditional, assignment_value, comma_after, typed, typed_all, calls, calls_after}
-use Rattle.pk_typing.specs.Rules.{when, count, takes_others, undeclared, void, array, place, constness, arguments, unsequenced, failures, failures_used}
+use Rattle.pk_typing.specs.Typed.{EvaluatedTree, value, effect, value_of, effect_of, valued, operand_of, place_of, of_both, name_value, element_value, typed_call, call_of, called, if_none, only, step_value, unary_value, typed_cast, is_or, logical_value, binary_value, typed_conditional, assignment_value, comma_after, typed, typed_all, calls_after}
+use Rattle.pk_typing.specs.Rules.{when, count, takes_others, undeclared, void, array, place, constness, arguments, unsequenced, own, failures, failures_used}
 use Rattle.pk_typing.proofs.FailureLemmas.{when_fails_if}
 use Rattle.pk_typing.specs.Laws.{IsTreeOf, AcceptedExpressionsHaveTrees}
 
@@ -41,6 +41,36 @@ none_before (f ∷ fs) gs h = absurd (cc)
 none_after : (fs gs : List Failure) → fs ++ gs ≡ [] → gs ≡ []
 none_after [] gs h = h
 none_after (f ∷ fs) gs h = absurd (cc)
+
+-- the rows at one expression
+record NoneOfSix (a b c d e f : List Failure) : Type 0 where
+  undeclared : a ≡ []
+  array : b ≡ []
+  place : c ≡ []
+  constness : d ≡ []
+  arguments : e ≡ []
+  unsequenced : f ≡ []
+
+none_of_six : (a b c d e f : List Failure) → a ++ b ++ c ++ d ++ e ++ f ≡ [] → NoneOfSix a b c d e f
+none_of_six a b c d e f p =
+    let p5 : a ++ b ++ c ++ d ++ e ≡ [] = none_before (a ++ b ++ c ++ d ++ e) f p in
+    let p4 : a ++ b ++ c ++ d ≡ [] = none_before (a ++ b ++ c ++ d) e p5 in
+    let p3 : a ++ b ++ c ≡ [] = none_before (a ++ b ++ c) d p4 in
+    let p2 : a ++ b ≡ [] = none_before (a ++ b) c p3 in
+    record {
+      undeclared = none_before a b p2;
+      array = none_after a b p2;
+      place = none_after (a ++ b) c p3;
+      constness = none_after (a ++ b ++ c) d p4;
+      arguments = none_after (a ++ b ++ c ++ d) e p5;
+      unsequenced = none_after (a ++ b ++ c ++ d ++ e) f p;
+    }
+
+abbrev OwnNone : Names → ExpressionTree → Type 0
+OwnNone d e = NoneOfSix (undeclared d e) (array d e) (place d e) (constness d e) (arguments d e) (unsequenced d e)
+
+own_none : (d : Names) (e : ExpressionTree) → own d e ≡ [] → OwnNone d e
+own_none d e = none_of_six (undeclared d e) (array d e) (place d e) (constness d e) (arguments d e) (unsequenced d e)
 
 holds_not : (b : Bool) (r : Rule) (at : Pos) → fails_if b r at ≡ [] → b ≡ false
 holds_not true r at h = absurd (cc)
@@ -184,6 +214,11 @@ comma_tree t (Integer u) (Some e) (Some (value v)) h k = k
 comma_tree t (Integer u) (Some e) (Some (effect f)) h k = absurd k
 comma_tree t Unknown (Some e) (Some f) h k = absurd k
 
+-- an expression that is used
+used_value : (d : Names) (n : ℕ) (e : ExpressionTree) → void d e ≡ [] → IsTreeOf (type_of d e) (typed d n e) → IsValue (type_of d e) (typed d n e)
+unfolding void
+used_value d n e p h = value_there (type_of d e) (typed d n e) h (holds_not _ _ _ p)
+
 -- values of all arguments
 length_of : ValueTrees → ℕ
 length_of no_values = 0
@@ -238,80 +273,93 @@ call_tree (Some (Function f)) n at k vs h p q v = rw v.is_trees (callee_tree f.c
 
 -- the walk
 mutual
+  unfolding failures failures_used undeclared array place constness arguments unsequenced void specifiers type_of target_of typed typed_all length_of trees.type_of
+
   tree_there : (d : Names) → ((x : Identifier) → HasTypes (d x)) → (n : ℕ) → (e : ExpressionTree) → failures d e ≡ [] → IsTreeOf (type_of d e) (typed d n e)
-  unfolding failures undeclared array place constness arguments unsequenced void specifiers type_of target_of typed
   tree_there d h n (name x) p =
-      name_tree (d x) (h x) (holds_not _ _ _ (none_before _ _ p)) (holds_not _ _ _ (none_before _ _ (none_after _ _ p)))
+      let o : OwnNone d (name x) = own_none d (name x) p in
+      name_tree (d x) (h x) (holds_not _ _ _ o.undeclared) (holds_not _ _ _ o.array)
   tree_there d h n (call x es) p =
-      let own = none_after (failures_used d es) _ p in
-      call_tree (d x) n x.at (count es) (typed_all d (n + length (own_site x.at (d x))) es) (h x)
-        (holds_not _ _ _ (none_before _ _ own)) (holds_not _ _ _ (none_before _ _ (none_after _ _ own)))
-        (trees_there d h (n + length (own_site x.at (d x))) es (none_before (failures_used d es) _ p))
+      let q : failures_used d es ++ own d (call x es) ≡ [] = p in
+      let o : OwnNone d (call x es) = own_none d (call x es) (none_after (failures_used d es) (own d (call x es)) q) in
+      call_tree (d x) n x.at (count es) (typed_all d (n + length (own_site x.at (d x))) es) (h x) (holds_not _ _ _ o.undeclared) (holds_not _ _ _ o.arguments)
+      (trees_there d h (n + length (own_site x.at (d x))) es (none_before (failures_used d es) (own d (call x es)) q))
   tree_there d h n (index x at e) p =
-      let used = none_after (failures d e) _ p in
-      let own = none_after _ _ used in
-      element_tree (d x) at (type_of d e) (typed d n e) (h x)
-        (holds_not _ _ _ (none_before _ _ own)) (holds_not _ _ _ (none_before _ _ (none_after _ _ own)))
-        (value_there (type_of d e) (typed d n e) (tree_there d h n e (none_before (failures d e) _ p)) (holds_not _ _ _ (none_before _ _ used)))
+      let q : failures d e ++ void d e ++ own d (index x at e) ≡ [] = p in
+      let o : OwnNone d (index x at e) = own_none d (index x at e) (none_after (failures d e ++ void d e) (own d (index x at e)) q) in
+      let used : failures d e ++ void d e ≡ [] = none_before (failures d e ++ void d e) (own d (index x at e)) q in
+      element_tree (d x) at (type_of d e) (typed d n e) (h x) (holds_not _ _ _ o.undeclared) (holds_not _ _ _ o.array)
+      (used_value d n e (none_after (failures d e) (void d e) used) (tree_there d h n e (none_before (failures d e) (void d e) used)))
   tree_there d h n (constant at t v) p = refl
   tree_there d h n (character at v) p = refl
   tree_there d h n (parenthesized at e) p = tree_there d h n e p
   tree_there d h n (postfix op at e) p =
-      let own = none_after _ _ (none_after (failures d e) _ p) in
-      step_tree op false at (target_of d e) (typed d n e)
-        (place_there d n e (tree_there d h n e (none_before (failures d e) _ p)) (holds_not _ _ _ (none_before _ _ own)))
+      let q : failures d e ++ void d e ++ own d (postfix op at e) ≡ [] = p in
+      let o : OwnNone d (postfix op at e) = own_none d (postfix op at e) (none_after (failures d e ++ void d e) (own d (postfix op at e)) q) in
+      let used : failures d e ++ void d e ≡ [] = none_before (failures d e ++ void d e) (own d (postfix op at e)) q in
+      step_tree op false at (target_of d e) (typed d n e) (place_there d n e (tree_there d h n e (none_before (failures d e) (void d e) used)) (holds_not _ _ _ o.place))
   tree_there d h n (prefix op at e) p =
-      let own = none_after _ _ (none_after (failures d e) _ p) in
-      step_tree op true at (target_of d e) (typed d n e)
-        (place_there d n e (tree_there d h n e (none_before (failures d e) _ p)) (holds_not _ _ _ (none_before _ _ own)))
+      let q : failures d e ++ void d e ++ own d (prefix op at e) ≡ [] = p in
+      let o : OwnNone d (prefix op at e) = own_none d (prefix op at e) (none_after (failures d e ++ void d e) (own d (prefix op at e)) q) in
+      let used : failures d e ++ void d e ≡ [] = none_before (failures d e ++ void d e) (own d (prefix op at e)) q in
+      step_tree op true at (target_of d e) (typed d n e) (place_there d n e (tree_there d h n e (none_before (failures d e) (void d e) used)) (holds_not _ _ _ o.place))
   tree_there d h n (unary op at e) p =
+      let q : failures d e ++ void d e ≡ [] = p in
       unary_tree (unary_number_operator op) at (type_of d e) (typed d n e)
-        (value_there (type_of d e) (typed d n e) (tree_there d h n e (none_before (failures d e) _ p)) (holds_not _ _ _ (none_after (failures d e) _ p)))
+      (used_value d n e (none_after (failures d e) (void d e) q) (tree_there d h n e (none_before (failures d e) (void d e) q)))
   tree_there d h n (cast at words e) p =
-      let rest = none_after (specifiers words) _ p in
-      cast_tree (type_named words) (type_of d e) (typed d n e) (holds_not _ _ _ (none_before (specifiers words) _ p))
-        (tree_there d h n e (none_before (failures d e) _ rest))
-        (holds_not _ _ _ (sym (when_fails_if (not (is_void (type_named words))) (is_void (type_of d e)) _ _) ∙ none_after (failures d e) _ rest))
+      let when_void : List Failure = when (not (is_void (type_named words))) (void d e) in
+      let q : specifiers words ++ failures d e ++ when_void ≡ [] = p in
+      let both : specifiers words ++ failures d e ≡ [] = none_before (specifiers words ++ failures d e) when_void q in
+      cast_tree (type_named words) (type_of d e) (typed d n e) (holds_not _ _ _ (none_before (specifiers words) (failures d e) both))
+      (tree_there d h n e (none_after (specifiers words) (failures d e) both))
+      (holds_not _ _ _ (sym (when_fails_if (not (is_void (type_named words))) (is_void (type_of d e)) _ _) ∙ none_after (specifiers words ++ failures d e) when_void q))
   tree_there d h n (binary op at a b) p =
       let m = calls_after d n a in
-      let p1 = none_after (failures d a) _ p in
-      let p2 = none_after _ _ p1 in
-      let p3 = none_after (failures d b) _ p2 in
+      let o : List Failure = own d (binary op at a b) in
+      let q : failures d a ++ void d a ++ failures d b ++ void d b ++ o ≡ [] = p in
+      let q4 : failures d a ++ void d a ++ failures d b ++ void d b ≡ [] = none_before (failures d a ++ void d a ++ failures d b ++ void d b) o q in
+      let q3 : failures d a ++ void d a ++ failures d b ≡ [] = none_before (failures d a ++ void d a ++ failures d b) (void d b) q4 in
+      let q2 : failures d a ++ void d a ≡ [] = none_before (failures d a ++ void d a) (failures d b) q3 in
       binary_tree (binary_number_operator op) (is_or op) at (type_of d a) (type_of d b) (typed d n a) (typed d m b)
-        (value_there (type_of d a) (typed d n a) (tree_there d h n a (none_before (failures d a) _ p)) (holds_not _ _ _ (none_before _ _ p1)))
-        (value_there (type_of d b) (typed d m b) (tree_there d h m b (none_before (failures d b) _ p2)) (holds_not _ _ _ (none_before _ _ p3)))
+      (used_value d n a (none_after (failures d a) (void d a) q2) (tree_there d h n a (none_before (failures d a) (void d a) q2)))
+      (used_value d m b (none_after (failures d a ++ void d a ++ failures d b) (void d b) q4) (tree_there d h m b (none_after (failures d a ++ void d a) (failures d b) q3)))
   tree_there d h n (conditional at a b c) p =
       let m = calls_after d n a in
       let k = calls_after d m b in
-      let p1 = none_after (failures d a) _ p in
-      let p2 = none_after _ _ p1 in
-      let p3 = none_after (failures d b) _ p2 in
-      let p4 = none_after _ _ p3 in
+      let q : failures d a ++ void d a ++ failures d b ++ void d b ++ failures d c ++ void d c ≡ [] = p in
+      let q5 : failures d a ++ void d a ++ failures d b ++ void d b ++ failures d c ≡ [] = none_before (failures d a ++ void d a ++ failures d b ++ void d b ++ failures d c) (void d c) q in
+      let q4 : failures d a ++ void d a ++ failures d b ++ void d b ≡ [] = none_before (failures d a ++ void d a ++ failures d b ++ void d b) (failures d c) q5 in
+      let q3 : failures d a ++ void d a ++ failures d b ≡ [] = none_before (failures d a ++ void d a ++ failures d b) (void d b) q4 in
+      let q2 : failures d a ++ void d a ≡ [] = none_before (failures d a ++ void d a) (failures d b) q3 in
       conditional_tree (type_of d a) (type_of d b) (type_of d c) (typed d n a) (typed d m b) (typed d k c)
-        (value_there (type_of d a) (typed d n a) (tree_there d h n a (none_before (failures d a) _ p)) (holds_not _ _ _ (none_before _ _ p1)))
-        (value_there (type_of d b) (typed d m b) (tree_there d h m b (none_before (failures d b) _ p2)) (holds_not _ _ _ (none_before _ _ p3)))
-        (value_there (type_of d c) (typed d k c) (tree_there d h k c (none_before (failures d c) _ p4)) (holds_not _ _ _ (none_after (failures d c) _ p4)))
+      (used_value d n a (none_after (failures d a) (void d a) q2) (tree_there d h n a (none_before (failures d a) (void d a) q2)))
+      (used_value d m b (none_after (failures d a ++ void d a ++ failures d b) (void d b) q4) (tree_there d h m b (none_after (failures d a ++ void d a) (failures d b) q3)))
+      (used_value d k c (none_after (failures d a ++ void d a ++ failures d b ++ void d b ++ failures d c) (void d c) q) (tree_there d h k c (none_after (failures d a ++ void d a ++ failures d b ++ void d b) (failures d c) q5)))
   tree_there d h n (assignment op at a b) p =
       let m = calls_after d n a in
-      let p1 = none_after (failures d a) _ p in
-      let p2 = none_after _ _ p1 in
-      let p3 = none_after (failures d b) _ p2 in
-      let own = none_after _ _ p3 in
+      let when_void : List Failure = when (is_some (assignment_number_operator op)) (void d a) in
+      let q : failures d a ++ when_void ++ failures d b ++ void d b ++ own d (assignment op at a b) ≡ [] = p in
+      let o : OwnNone d (assignment op at a b) = own_none d (assignment op at a b) (none_after (failures d a ++ when_void ++ failures d b ++ void d b) (own d (assignment op at a b)) q) in
+      let q4 : failures d a ++ when_void ++ failures d b ++ void d b ≡ [] = none_before (failures d a ++ when_void ++ failures d b ++ void d b) (own d (assignment op at a b)) q in
+      let q3 : failures d a ++ when_void ++ failures d b ≡ [] = none_before (failures d a ++ when_void ++ failures d b) (void d b) q4 in
+      let q2 : failures d a ++ when_void ≡ [] = none_before (failures d a ++ when_void) (failures d b) q3 in
       assignment_tree (assignment_number_operator op) at (target_of d a) (typed d n a) (type_of d b) (typed d m b)
-        (place_there d n a (tree_there d h n a (none_before (failures d a) _ p)) (holds_not _ _ _ (none_before _ _ own)))
-        (value_there (type_of d b) (typed d m b) (tree_there d h m b (none_before (failures d b) _ p2)) (holds_not _ _ _ (none_before _ _ p3)))
+      (place_there d n a (tree_there d h n a (none_before (failures d a) when_void q2)) (holds_not _ _ _ o.place))
+      (used_value d m b (none_after (failures d a ++ when_void ++ failures d b) (void d b) q4) (tree_there d h m b (none_after (failures d a ++ when_void) (failures d b) q3)))
   tree_there d h n (comma at a b) p =
+      let q : failures d a ++ failures d b ≡ [] = p in
       comma_tree (type_of d a) (type_of d b) (typed d n a) (typed d (calls_after d n a) b)
-        (tree_there d h n a (none_before (failures d a) _ p)) (tree_there d h (calls_after d n a) b (none_after (failures d a) _ p))
+      (tree_there d h n a (none_before (failures d a) (failures d b) q)) (tree_there d h (calls_after d n a) b (none_after (failures d a) (failures d b) q))
 
   trees_there : (d : Names) → ((x : Identifier) → HasTypes (d x)) → (n : ℕ) → (es : ExpressionTrees) → failures_used d es ≡ [] → AreValues (count es) (typed_all d n es)
-  unfolding failures_used void typed_all length_of
   trees_there d h n no_expressions p = record { trees = no_values; is_trees = refl; has_length = refl }
   trees_there d h n (expression_then e es) p =
-      let used = none_after (failures d e) _ p in
+      let q : failures d e ++ void d e ++ failures_used d es ≡ [] = p in
+      let used : failures d e ++ void d e ≡ [] = none_before (failures d e ++ void d e) (failures_used d es) q in
       one_more (count es) (type_of d e) (typed d n e) (typed_all d (calls_after d n e) es)
-        (value_there (type_of d e) (typed d n e) (tree_there d h n e (none_before (failures d e) _ p)) (holds_not _ _ _ (none_before _ _ used)))
-        (trees_there d h (calls_after d n e) es (none_after _ _ used))
+      (used_value d n e (none_after (failures d e) (void d e) used) (tree_there d h n e (none_before (failures d e) (void d e) used)))
+      (trees_there d h (calls_after d n e) es (none_after (failures d e ++ void d e) (failures_used d es) q))
 
 pub accepted_expressions_have_trees : AcceptedExpressionsHaveTrees
 accepted_expressions_have_trees d h n e = tree_there d h n e

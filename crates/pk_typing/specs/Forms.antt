@@ -11,12 +11,12 @@ use Rattle.pk_ast.specs.declared.operators.AssignmentOperator.{AssignmentOperato
 use Rattle.pk_ast.specs.Operators.{binary_number_operator, unary_number_operator, assignment_number_operator}
 use Rattle.pk_typed.specs.Trees as tree
 use Rattle.pk_typed.specs.Trees.{ValueTree, ValueTrees, no_values, value_before}
-use Rattle.pk_typing.specs.declared.declarations.Declaration.{Declaration}
-use Rattle.pk_typing.specs.declared.declarations.Typing.{Typing}
-use Rattle.pk_typing.specs.declared.declarations.Typing.TheVariants.{Integer}
-use Rattle.pk_typing.specs.declared.failures.Failure.{Failure}
-use Rattle.pk_typing.specs.Declarations.{is_object, is_function, is_array, is_scalar, is_void}
-use Rattle.pk_typing.specs.Failures.{fails_if}
+use Rattle.pk_scope.specs.declared.declarations.Declaration.{Declaration}
+use Rattle.pk_scope.specs.declared.declarations.Typing.{Typing}
+use Rattle.pk_scope.specs.declared.declarations.Typing.TheVariants.{Integer}
+use Rattle.pk_scope.specs.declared.failures.Failure.{Failure}
+use Rattle.pk_scope.specs.Declarations.{is_object, is_function, is_array, is_scalar}
+use Rattle.pk_scope.specs.Failures.{fails_if}
 use Rattle.pk_typing.specs.Mentions.{Mentioned, object_named, nothing_mentioned, joined, changing, clash, all_joined, some_clash}
 use Rattle.pk_typing.specs.Rules.{is_const, takes_others, assignment_clash, assignment_place}
 use Rattle.pk_typing.specs.Typed.{OperandTree, value, valued, value_of, effect_of, operand_of, place_of, of_both, name_value, element_value, typed_call, step_value, unary_value, typed_cast, is_or, binary_value, typed_conditional, assignment_value, comma_after}

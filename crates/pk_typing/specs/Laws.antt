@@ -1,12 +1,11 @@
 -- What the definitions say together.
-use Rattle.std.specs.Prelude.{◌≡◌, ℕ, List, [], Option, Some, None}
-use Rattle.pk_ctypes.specs.declared.types.IntType.{IntType}
+use Rattle.std.specs.Prelude.{◌≡◌, ℕ, [], Option, Some, None}
 use Rattle.pk_ast.specs.declared.expressions.Identifier.{Identifier}
 use Rattle.pk_ast.specs.Trees.{ExpressionTree}
 use Rattle.pk_typed.specs.Types as typed
-use Rattle.pk_typing.specs.declared.declarations.Typing.{Typing}
-use Rattle.pk_typing.specs.declared.declarations.Typing.TheVariants.{Void, Integer, Unknown}
-use Rattle.pk_typing.specs.Declarations.{Names, HasTypes}
+use Rattle.pk_scope.specs.declared.declarations.Typing.{Typing}
+use Rattle.pk_scope.specs.declared.declarations.Typing.TheVariants.{Void, Integer, Unknown}
+use Rattle.pk_scope.specs.Declarations.{Names, HasTypes}
 use Rattle.pk_typing.specs.Rules.{failures}
 use Rattle.pk_typing.specs.Typed.{EvaluatedTree, value, effect, typed}
 use Rattle.pk_typing.specs.Types.{type_of}

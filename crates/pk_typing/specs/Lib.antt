@@ -1,7 +1,3 @@
-pub mod Failures
-pub mod Specifiers
-pub mod Declarations
-pub mod Scopes
 pub mod Mentions
 pub mod Types
 pub mod Typed

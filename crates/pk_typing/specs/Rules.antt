@@ -1,18 +1,18 @@
 -- Where each rule fails in an expression: the rows of the table of rules, then the walk that asks them everywhere.
-use Rattle.std.specs.Prelude.{ℕ, ◌+◌, Bool, true, false, ◌&&◌, ◌||◌, not, Option, Some, None, List, [], ◌∷◌, ◌++◌, nat_eq, is_some, if◌then◌else◌}
+use Rattle.std.specs.Prelude.{ℕ, ◌+◌, Bool, false, ◌&&◌, ◌||◌, not, Option, Some, None, List, [], ◌++◌, nat_eq, is_some, if◌then◌else◌}
 use Rattle.pk_ctypes.specs.declared.places.Pos.{Pos}
 use Rattle.pk_ctypes.specs.declared.words.Rule.TheVariants as rule
 use Rattle.pk_ast.specs.Operators.{binary_number_operator, assignment_number_operator}
 use Rattle.pk_ast.specs.Places.{first_place_of}
 use Rattle.pk_ast.specs.Trees.{ExpressionTree, ExpressionTrees, name, call, index, constant, character, parenthesized, postfix, prefix, unary, cast, binary, conditional, assignment, comma, no_expressions, expression_then}
-use Rattle.pk_typing.specs.declared.declarations.Declaration.{Declaration}
-use Rattle.pk_typing.specs.declared.declarations.Declaration.TheVariants as declared
-use Rattle.pk_typing.specs.declared.declarations.Target.{Target}
-use Rattle.pk_typing.specs.declared.failures.Failure.{Failure}
-use Rattle.pk_typing.specs.Declarations.{Names, is_object, is_function, is_array, is_scalar, is_void, arguments_of}
-use Rattle.pk_typing.specs.Failures.{fails_if}
+use Rattle.pk_scope.specs.declared.declarations.Declaration.{Declaration}
+use Rattle.pk_scope.specs.declared.declarations.Declaration.TheVariants as declared
+use Rattle.pk_typing.specs.declared.names.Target.{Target}
+use Rattle.pk_scope.specs.declared.failures.Failure.{Failure}
+use Rattle.pk_scope.specs.Declarations.{Names, is_object, is_function, is_array, is_scalar, is_void, arguments_of}
+use Rattle.pk_scope.specs.Failures.{fails_if}
 use Rattle.pk_typing.specs.Mentions.{Mentioned, mentions, mentions_of_each, clash, some_clash, is_among}
-use Rattle.pk_typing.specs.Specifiers.{type_named, specifiers}
+use Rattle.pk_scope.specs.Specifiers.{type_named, specifiers}
 use Rattle.pk_typing.specs.Types.{type_of, target_of}
 
 -- undeclared: no declaration is in scope, or it is a function where an object is needed or the reverse; at the name

@@ -1,5 +1,5 @@
 -- The typed tree of an expression (C99 6.5), and its calls; no tree where a rule leaves it without one.
-use Rattle.std.specs.Prelude.{ℕ, ◌+◌, pos, Bool, true, false, Option, Some, None, List, [], ◌∷◌, ◌++◌, length, if◌then◌else◌, option_map}
+use Rattle.std.specs.Prelude.{ℕ, ◌+◌, pos, Bool, true, false, Option, Some, None, List, [], ◌++◌, length, if◌then◌else◌, option_map}
 use Rattle.pk_ctypes.specs.declared.places.Pos.{Pos}
 use Rattle.pk_ctypes.specs.declared.types.IntType.{IntType}
 use Rattle.pk_ctypes.specs.declared.types.IntType.TheVariants.{Int}
@@ -7,9 +7,7 @@ use Rattle.pk_ctypes.specs.declared.types.Op.{Op}
 use Rattle.pk_ctypes.specs.Conversions.{promoted, usual_of}
 use Rattle.pk_ast.specs.declared.operators.BinaryOperator.{BinaryOperator}
 use Rattle.pk_ast.specs.declared.operators.BinaryOperator.TheVariants.{LogicalOr}
-use Rattle.pk_ast.specs.declared.operators.UnaryOperator.{UnaryOperator}
 use Rattle.pk_ast.specs.declared.operators.StepOperator.{StepOperator}
-use Rattle.pk_ast.specs.declared.operators.AssignmentOperator.{AssignmentOperator}
 use Rattle.pk_ast.specs.Operators.{binary_number_operator, unary_number_operator, step_number_operator, assignment_number_operator}
 use Rattle.pk_ast.specs.Trees as ast
 use Rattle.pk_ast.specs.Trees.{ExpressionTree, ExpressionTrees, no_expressions, expression_then}
@@ -17,16 +15,15 @@ use Rattle.pk_typed.specs.declared.units.CallSite.{CallSite}
 use Rattle.pk_typed.specs.Trees as tree
 use Rattle.pk_typed.specs.Trees.{PlaceTree, ValueTree, EffectTree, ValueTrees, no_values, value_before}
 use Rattle.pk_typed.specs.Types.{type_of_place}
-use Rattle.pk_typing.specs.declared.declarations.Callee.{Callee}
-use Rattle.pk_typing.specs.declared.declarations.Callee.TheVariants.{Ordinary, Any, Assume, Assert, Abort}
-use Rattle.pk_typing.specs.declared.declarations.Declaration.{Declaration}
-use Rattle.pk_typing.specs.declared.declarations.Declaration.TheVariants as declared
-use Rattle.pk_typing.specs.declared.declarations.Function.{Function}
-use Rattle.pk_typing.specs.declared.declarations.Object.{Object}
-use Rattle.pk_typing.specs.declared.declarations.Typing.{Typing}
-use Rattle.pk_typing.specs.declared.declarations.Typing.TheVariants.{Void, Integer, Unknown}
-use Rattle.pk_typing.specs.Declarations.{Names, own_site}
-use Rattle.pk_typing.specs.Specifiers.{type_named}
+use Rattle.pk_scope.specs.declared.declarations.Callee.{Callee}
+use Rattle.pk_scope.specs.declared.declarations.Callee.TheVariants.{Ordinary, Any, Assume, Assert, Abort}
+use Rattle.pk_scope.specs.declared.declarations.Declaration.{Declaration}
+use Rattle.pk_scope.specs.declared.declarations.Declaration.TheVariants as declared
+use Rattle.pk_scope.specs.declared.declarations.Object.{Object}
+use Rattle.pk_scope.specs.declared.declarations.Typing.{Typing}
+use Rattle.pk_scope.specs.declared.declarations.Typing.TheVariants.{Void, Integer, Unknown}
+use Rattle.pk_scope.specs.Declarations.{Names, own_site}
+use Rattle.pk_scope.specs.Specifiers.{type_named}
 use Rattle.pk_typing.specs.Types.{type_of, operand_type, of_object}
 
 -- an expression with a value, or without one

@@ -1,5 +1,5 @@
 -- The type of an expression, also where a rule fails in it (C99 6.5).
-use Rattle.std.specs.Prelude.{Bool, Option, Some, None, option_map, if◌then◌else◌}
+use Rattle.std.specs.Prelude.{Option, Some, None, if◌then◌else◌}
 use Rattle.pk_ctypes.specs.declared.places.Pos.{Pos}
 use Rattle.pk_ctypes.specs.declared.types.IntType.{IntType}
 use Rattle.pk_ctypes.specs.declared.types.IntType.TheVariants.{Int}
@@ -7,18 +7,16 @@ use Rattle.pk_ctypes.specs.declared.types.Op.{Op}
 use Rattle.pk_ctypes.specs.declared.types.Op.TheVariants as number
 use Rattle.pk_ctypes.specs.Conversions.{promoted, usual_of}
 use Rattle.pk_ctypes.specs.Operators.{result_type}
-use Rattle.pk_ast.specs.declared.operators.BinaryOperator.{BinaryOperator}
-use Rattle.pk_ast.specs.declared.operators.UnaryOperator.{UnaryOperator}
 use Rattle.pk_ast.specs.Operators.{binary_number_operator, unary_number_operator}
 use Rattle.pk_ast.specs.Trees.{ExpressionTree, name, call, index, constant, character, parenthesized, postfix, prefix, unary, cast, binary, conditional, assignment, comma}
-use Rattle.pk_typing.specs.declared.declarations.Declaration.{Declaration}
-use Rattle.pk_typing.specs.declared.declarations.Declaration.TheVariants as declared
-use Rattle.pk_typing.specs.declared.declarations.Object.{Object}
-use Rattle.pk_typing.specs.declared.declarations.Target.{Target}
-use Rattle.pk_typing.specs.declared.declarations.Typing.{Typing}
-use Rattle.pk_typing.specs.declared.declarations.Typing.TheVariants.{Void, Integer, Unknown}
-use Rattle.pk_typing.specs.Declarations.{Names, typing_of, returned_by}
-use Rattle.pk_typing.specs.Specifiers.{type_named}
+use Rattle.pk_scope.specs.declared.declarations.Declaration.{Declaration}
+use Rattle.pk_scope.specs.declared.declarations.Declaration.TheVariants as declared
+use Rattle.pk_scope.specs.declared.declarations.Object.{Object}
+use Rattle.pk_typing.specs.declared.names.Target.{Target}
+use Rattle.pk_scope.specs.declared.declarations.Typing.{Typing}
+use Rattle.pk_scope.specs.declared.declarations.Typing.TheVariants.{Void, Integer, Unknown}
+use Rattle.pk_scope.specs.Declarations.{Names, typing_of, returned_by}
+use Rattle.pk_scope.specs.Specifiers.{type_named}
 
 -- The type to which the operands of a binary operator are converted: their common type (6.3.1.8). The operands of a shift are promoted one by one (6.5.7), so for it
 -- that is the left one's; promoting the count changes no value.

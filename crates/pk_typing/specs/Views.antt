@@ -1,26 +1,25 @@
 -- What the values of the code stand for.
-use Rattle.std.specs.Prelude.{ℕ, Bool, List, map, Option, option_map, ◌++◌, length, nat_eq}
+use Rattle.std.specs.Prelude.{◌≡◌, ℕ, Bool, List, map, Option, option_map, ◌++◌, nat_eq}
 use Rattle.std.specs.HashSet.{contains}
 use Rattle.pk_ast.specs.Trees.{ExpressionTree, ExpressionTrees}
-use Rattle.pk_typed.specs.declared.units.CallSite.{CallSite}
 use Rattle.pk_typed.specs.Trees.{ValueTrees}
 use Rattle.pk_typed.specs.Views.{value_tree, effect_tree, optional_values}
 use Rattle.pk_typing.specs.declared.checked.Arguments.{Arguments}
 use Rattle.pk_typing.specs.declared.checked.Checked.{Checked}
 use Rattle.pk_typing.specs.declared.checked.Operand.{Operand}
-use Rattle.pk_typing.specs.declared.declarations.Target.{Target}
-use Rattle.pk_typing.specs.declared.declarations.Typing.{Typing}
+use Rattle.pk_typing.specs.declared.names.Target.{Target}
+use Rattle.pk_scope.specs.declared.declarations.Typing.{Typing}
 use Rattle.pk_typing.specs.declared.evaluated.Evaluated.{Evaluated}
 use Rattle.pk_typing.specs.declared.evaluated.Evaluated.TheVariants as evaluated
-use Rattle.pk_typing.specs.declared.failures.Failure.{Failure}
-use Rattle.pk_typing.specs.declared.failures.Notes.{Notes}
 use Rattle.pk_typed.specs.declared.values.Variable.{Variable}
 use Rattle.pk_typed.specs.declared.values.Variable.TheVariants.{File, Local}
+use Rattle.pk_typing.specs.declared.mentions.Before.{Before}
 use Rattle.pk_typing.specs.declared.mentions.Mentions.{Mentions}
 use Rattle.pk_typing.specs.declared.mentions.Objects.{Objects}
-use Rattle.pk_typing.specs.Declarations.{Names}
-use Rattle.pk_typing.specs.Failures.{noted}
-use Rattle.pk_typing.specs.Mentions.{Mentioned, mentions}
+use Rattle.pk_scope.specs.Declarations.{Names}
+use Rattle.pk_scope.specs.Failures.{noted}
+use Rattle.pk_scope.specs.Notes.{Noted}
+use Rattle.pk_typing.specs.Mentions.{Mentioned, mentions, is_among}
 use Rattle.pk_typing.specs.Rules.{failures, used_failures, failures_used}
 use Rattle.pk_typing.specs.Typed.{EvaluatedTree, value, effect, OperandTree, typed, calls, calls_in_all}
 use Rattle.pk_typing.specs.Types.{target_of, type_of}
@@ -39,6 +38,14 @@ mentioned_in m = record { named = m.named.items; changed = m.changed.items }
 abbrev pub has : Objects → Variable → Bool
 has s (File n) = contains nat_eq s.files n
 has s (Local n) = contains nat_eq s.locals n
+
+-- a set of these objects
+pub record IsSetOf (xs : List Variable) (s : Objects) : Type 0 where
+  pub same : (x : Variable) → has s x ≡ is_among xs x
+
+pub record IsBefore (m : Mentioned) (s : Before) : Type 0 where
+  pub named : IsSetOf m.named s.named
+  pub changed : IsSetOf m.changed s.changed
 
 -- what is known of an expression
 pub record Known : Type 0 where
@@ -59,18 +66,6 @@ values_in all = optional_values all.values
 -- an expression before which n calls of its function stand
 abbrev pub known : Names → ℕ → ExpressionTree → Known
 known d n e = record { typing = type_of d e; target = target_of d e; mentions = mentions d e; tree = typed d n e }
-
--- what is noted on the way
-pub record Noted : Type 0 where
-  pub found : Option Failure
-  pub calls : List CallSite
-
-abbrev pub noted_in : Notes → Noted
-noted_in s = record { found = s.found; calls = s.calls.items }
-
--- and some failures
-abbrev pub with_failures : Noted → List Failure → Noted
-with_failures s fs = record { found = noted s.found fs; calls = s.calls }
 
 -- after an expression
 abbrev pub after : Names → ExpressionTree → Noted → Noted

@@ -1,6 +1,6 @@
 // Values on the heap. These are generic, so that what is dropped where memory ends is one value to the prover, and not each variant of a tree.
 
-ghost use Rattle.std.specs.Prelude.{◌≡◌, IfOk, option_map};
+ghost use Rattle.std.specs.Prelude.{◌≡◌, Some, IfOk, IfSome, option_map};
 ghost use Rattle.pk_typing.specs.Typed.{of_both};
 
 use std::alloc::{AllocError, Global};
@@ -26,7 +26,9 @@ pub(crate) fn boxed_option<T: Drop>(
 
 /// Both, where both are there.
 pub(crate) fn both<A: Drop, B: Drop>(first: Option<A>, second: Option<B>) -> Option<(A, B)>
-    ensures { result ≡ of_both (λ x y. (x, y)) first second }
+    ensures both { result ≡ of_both (λ x y. (x, y)) first second }
+    ensures first { IfSome result (λ r. first ≡ Some r.0) }
+    ensures second { IfSome result (λ r. second ≡ Some r.1) }
 {
     match first {
         None => None,

@@ -7,15 +7,16 @@ ghost use Rattle.pk_typing.specs.Forms as forms;
 ghost use Rattle.pk_typing.specs.Rules as rules;
 ghost use Rattle.pk_typing.specs.Typed as typed;
 ghost use Rattle.pk_typing.specs.Types as types;
-ghost use Rattle.pk_typing.specs.Views.{evaluated_tree, mentioned_in, mentioned_in_each, values_in, known_of, noted_in, with_failures};
+ghost use Rattle.pk_scope.specs.Notes.{noted_in, with_failures};
+ghost use Rattle.pk_typing.specs.Views.{evaluated_tree, mentioned_in, mentioned_in_each, values_in, known_of};
 
 use crate::boxes::boxed_option;
 use crate::checked::{Arguments, Checked};
-use crate::declarations::{Callee, Declaration, Typing, is_function};
-use crate::evaluated::{Evaluated, valued, value_of, without_value};
-use crate::failures::Notes;
+use crate::evaluated::{Evaluated, value_of, valued, without_value};
 use crate::mentions::{all_joined, some_clash};
+use crate::names::is_function;
 use pk_ctypes::{IntType, Pos, Rule};
+use pk_scope::{Callee, Declaration, Notes, Typing};
 use pk_typed::{Effect, Value};
 use std::alloc::{AllocError, Global};
 
@@ -31,6 +32,7 @@ impl Arguments {
     }
 }
 
+#[tactic(auto, using(crate::proofs::ListLemmas::value_trees_push))]
 fn with_value(
     values: Option<Vec<Value>>,
     value: Option<Box<Value>>,
@@ -211,7 +213,11 @@ pub(crate) fn call(
 {
     let clash = some_clash(alloc, &arguments.mentions)?;
     notes.fail_if(!is_function(declared), Rule::Undeclared, at);
-    notes.fail_if(takes_others(declared, arguments.mentions.len()), Rule::Arguments, at);
+    notes.fail_if(
+        takes_others(declared, arguments.mentions.len()),
+        Rule::Arguments,
+        at,
+    );
     notes.fail_if(clash, Rule::Unsequenced, at);
     let mentions = all_joined(alloc, &arguments.mentions)?;
     let tree = typed_call(alloc, declared, site, at, arguments.values)?;

@@ -5,10 +5,11 @@ ghost use Rattle.pk_typed.specs.Views.{value_tree, effect_tree};
 ghost use Rattle.pk_typing.specs.Typed as typed;
 ghost use Rattle.pk_typing.specs.Views.{known_of, evaluated_tree, operand_tree};
 
-use crate::declarations::{Target, Typing};
 use crate::evaluated::{Evaluated, effect_of, value_of};
 use crate::mentions::Mentions;
+use crate::names::Target;
 use pk_ctypes::IntType;
+use pk_scope::Typing;
 use pk_typed::{Effect, Value};
 
 /// What is known of a checked expression. It has a tree where no rule leaves it without one.

@@ -27,7 +27,10 @@ pub(crate) fn valued(alloc: Global, value: Option<Value>) -> Result<Option<Evalu
 }
 
 #[tactic(auto, unfolding(crate::specs::Views::evaluated_tree))]
-pub(crate) fn without_value(alloc: Global, effect: Option<Effect>) -> Result<Option<Evaluated>, AllocError>
+pub(crate) fn without_value(
+    alloc: Global,
+    effect: Option<Effect>,
+) -> Result<Option<Evaluated>, AllocError>
     ensures { IfOk result (λ e. option_map evaluated_tree e ≡ option_map typed.effect (option_map effect_tree effect)) }
 {
     match boxed_option(alloc, effect)? {

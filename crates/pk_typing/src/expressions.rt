@@ -4,22 +4,20 @@ ghost use Rattle.std.specs.Prelude.{◌≡◌, ◌&&◌, IfOk, OnOk, length};
 ghost use Rattle.pk_ast.specs.Places.{first_place_of};
 ghost use Rattle.pk_ast.specs.Views.{expression_tree, expression_trees};
 ghost use Rattle.pk_ctypes.specs.declared.words.Rule.TheVariants as rule;
-ghost use Rattle.pk_typing.specs.Declarations.{is_void};
-ghost use Rattle.pk_typing.specs.Failures.{fails_if};
+ghost use Rattle.pk_scope.specs.Declarations.{is_void};
+ghost use Rattle.pk_scope.specs.Failures.{fails_if};
 ghost use Rattle.pk_typing.specs.Mentions.{mentions_of_each};
-ghost use Rattle.pk_typing.specs.Scopes.{names_in, scoping_of};
+ghost use Rattle.pk_scope.specs.Scopes.{names_in, scoping_of};
 ghost use Rattle.pk_typing.specs.Typed.{typed_all};
-ghost use Rattle.pk_typing.specs.Views.{noted_in, with_failures, after, after_used, after_all, known_of, known, mentioned_in_each, values_in};
+ghost use Rattle.pk_scope.specs.Notes.{noted_in, with_failures};
+ghost use Rattle.pk_typing.specs.Views.{after, after_used, after_all, known_of, known, mentioned_in_each, values_in};
 
-use crate::calls;
 use crate::calls::with_argument;
 use crate::checked::{Arguments, Checked};
-use crate::failures::Notes;
-use crate::operators;
-use crate::scopes::Scope;
-use crate::specifiers::{note_specifiers, type_named};
-use pk_ast::Expression;
-use pk_ctypes::{IntType, Rule};
+use crate::{calls, operators};
+use pk_ast::{Expression, Specifiers};
+use pk_ctypes::Rule;
+use pk_scope::{Notes, Scope, note_specifiers, type_named};
 use std::alloc::{AllocError, Global};
 
 // Notes that an expression is void, where it is used.
@@ -48,7 +46,7 @@ pub fn expression(
         Expression::Name(x) => operators::name(alloc, notes, x.at, scope.lookup(*x)),
         Expression::Call(x, list) => {
             let declared = scope.lookup(*x);
-            let site = notes.calls.len();
+            let site = notes.count();
             notes.call(declared, x.at)?;
             let all = arguments(alloc, scope, notes, list.as_slice())?;
             calls::call(alloc, notes, x.at, declared, site, all)
@@ -57,8 +55,8 @@ pub fn expression(
             let index = used(alloc, scope, notes, inner)?;
             operators::element(alloc, notes, x.at, *at, scope.lookup(*x), index)
         }
-        Expression::Constant(_, t, n) => operators::constant(alloc, *t, i128::from(*n)),
-        Expression::Character(_, n) => operators::constant(alloc, IntType::Int, i128::from(*n)),
+        Expression::Constant(_, t, n) => operators::constant(alloc, *t, *n),
+        Expression::Character(_, n) => operators::character(alloc, n),
         Expression::Parenthesized(_, inner) => expression(alloc, scope, notes, inner),
         Expression::Postfix(op, at, inner) => {
             let operand = used(alloc, scope, notes, inner)?;
@@ -73,6 +71,8 @@ pub fn expression(
             operators::unary(alloc, *op, *at, operand)
         }
         Expression::Cast(_, words, inner) => {
+            let words: &Specifiers = words;
+            let inner: &Expression = inner;
             note_specifiers(notes, words);
             let to = type_named(words);
             let operand = expression(alloc, scope, notes, inner)?;
@@ -106,6 +106,7 @@ pub fn expression(
             left,
             right,
         } => {
+            let left: &Expression = left;
             let first = expression(alloc, scope, notes, left)?;
             note_void(notes, op.number_operator().is_some(), &first, left);
             let second = used(alloc, scope, notes, right)?;

@@ -3,9 +3,10 @@
 ghost use Rattle.std.specs.Prelude.{◌≡◌, ◌++◌, ◌||◌, ◌∷◌, [], false, IfOk, OnOk, map};
 ghost use Rattle.std.specs.List.{list_any};
 ghost use Rattle.pk_typing.specs.Mentions as definitions;
-ghost use Rattle.pk_typing.specs.Views.{mentioned_in, has};
+ghost use Rattle.pk_typing.specs.Views.{mentioned_in, has, IsBefore};
 
-use crate::declarations::{Declaration, Target};
+use crate::names::Target;
+use pk_scope::Declaration;
 use pk_typed::Variable;
 use std::alloc::{AllocError, Global};
 use std::collections::HashSet;
@@ -72,6 +73,42 @@ impl Objects {
             }
         }
         false
+    }
+}
+
+// What expressions before an expression mention.
+#[derive(Drop)]
+struct Before {
+    named: Objects,
+    changed: Objects,
+}
+
+impl Before {
+    fn none(alloc: Global) -> Before
+        ensures { IsBefore definitions.nothing_mentioned result }
+    {
+        Before {
+            named: Objects::new(alloc),
+            changed: Objects::new(alloc),
+        }
+    }
+
+    fn clashes(&self, mentions: &Mentions) -> bool
+        ensures { (before : definitions.Mentioned) → IsBefore before self.now
+            → result ≡ definitions.clash before (mentioned_in mentions.now) }
+    {
+        let named = self.changed.meets(&mentions.named);
+        let changed = self.named.meets(&mentions.changed);
+        named || changed
+    }
+
+    fn add(&mut self, mentions: &Mentions) -> Result<(), AllocError>
+        ensures { OnOk result ((before : definitions.Mentioned) → IsBefore before self.old
+            → IsBefore (definitions.joined before (mentioned_in mentions.now)) self.new) }
+    {
+        self.named.add_all(&mentions.named)?;
+        self.changed.add_all(&mentions.changed)?;
+        Ok(())
     }
 }
 
@@ -185,14 +222,12 @@ pub(crate) fn some_clash(alloc: Global, all: &[Mentions]) -> Result<bool, AllocE
     if changes_nothing(all) {
         return Ok(false);
     }
-    let mut named = Objects::new(alloc);
-    let mut changed = Objects::new(alloc);
+    let mut before = Before::none(alloc);
     for mentions in all {
-        if changed.meets(&mentions.named) || named.meets(&mentions.changed) {
+        if before.clashes(mentions) {
             return Ok(true);
         }
-        named.add_all(&mentions.named)?;
-        changed.add_all(&mentions.changed)?;
+        before.add(mentions)?;
     }
     Ok(false)
 }

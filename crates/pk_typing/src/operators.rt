@@ -1,25 +1,25 @@
 // What each form of expression makes of its checked parts. Each notes the rules that fail at it.
 
-ghost use Rattle.std.specs.Prelude.{◌≡◌, ◌&&◌, is_some, option_map, IfOk, OnOk};
+ghost use Rattle.std.specs.Prelude.{◌≡◌, ◌&&◌, pos, is_some, option_map, IfOk, OnOk};
 ghost use Rattle.pk_typed.specs.Trees as typed_trees;
 ghost use Rattle.pk_typed.specs.Views.{place_tree, value_tree, effect_tree};
 ghost use Rattle.pk_ctypes.specs.Conversions.{usual_of};
+ghost use Rattle.pk_ctypes.specs.declared.types.IntType.TheVariants as int_types;
 ghost use Rattle.pk_typing.specs.Forms as forms;
 ghost use Rattle.pk_typing.specs.Rules as rules;
 ghost use Rattle.pk_typing.specs.Typed as typed;
 ghost use Rattle.pk_typing.specs.Types as types;
-ghost use Rattle.pk_typing.specs.Views.{evaluated_tree, operand_tree, mentioned_in, known_of, noted_in, with_failures};
+ghost use Rattle.pk_scope.specs.Notes.{noted_in, with_failures};
+ghost use Rattle.pk_typing.specs.Views.{evaluated_tree, operand_tree, mentioned_in, known_of};
 
 use crate::boxes::{both, boxed};
 use crate::checked::{Checked, Operand, operand_of};
-use crate::declarations::{
-    Declaration, Object, Target, Typing, is_array, is_object, is_scalar, typing_of,
-};
 use crate::evaluated::{Evaluated, effect_of, place_of, value_of, valued, without_value};
-use crate::failures::Notes;
 use crate::mentions::Mentions;
+use crate::names::{Target, is_array, is_object, is_scalar, typing_of};
 use pk_ast::{AssignmentOperator, BinaryOperator, StepOperator, UnaryOperator};
 use pk_ctypes::{IntType, Op, Pos, Rule, promote, result_type, usual};
+use pk_scope::{Declaration, Notes, Object, Typing};
 use pk_typed::{Effect, Place, Value};
 use std::alloc::{AllocError, Global};
 
@@ -28,7 +28,9 @@ fn operand_type(op: Op, left: IntType, right: IntType) -> IntType
 {
     match op {
         Op::Shl | Op::Shr => promote(left),
-        Op::Add | Op::Sub | Op::Mul | Op::Div | Op::Rem | Op::And | Op::Or | Op::Xor => usual(left, right),
+        Op::Add | Op::Sub | Op::Mul | Op::Div | Op::Rem | Op::And | Op::Or | Op::Xor => usual(
+            left, right,
+        ),
         Op::Lt | Op::Gt | Op::Le | Op::Ge | Op::Eq | Op::Ne => usual(left, right),
         Op::Neg | Op::BitNot | Op::Not => usual(left, right),
     }
@@ -133,11 +135,7 @@ fn element_of(at: Pos, index: Option<Box<Value>>, object: Object) -> Option<Valu
     }
 }
 
-fn element_value(
-    at: Pos,
-    index: Option<Box<Value>>,
-    declared: Option<Declaration>,
-) -> Option<Value>
+fn element_value(at: Pos, index: Option<Box<Value>>, declared: Option<Declaration>) -> Option<Value>
     ensures { option_map value_tree result
         ≡ types.of_object (typed.element_value at (option_map (λ v. value_tree v.value) index)) declared }
 {
@@ -165,7 +163,10 @@ pub(crate) fn element(
     let target = element_target(bracket, declared);
     let mut mentions = Mentions::of_name(alloc, declared)?;
     mentions.join(&index.mentions)?;
-    let tree = valued(alloc, element_value(bracket, value_of(index.tree), declared))?;
+    let tree = valued(
+        alloc,
+        element_value(bracket, value_of(index.tree), declared),
+    )?;
     Ok(Checked {
         typing: type_of_target(target),
         target,
@@ -174,12 +175,7 @@ pub(crate) fn element(
     })
 }
 
-/// A constant with its type.
-pub(crate) fn constant(
-    alloc: Global,
-    int_type: IntType,
-    number: i128,
-) -> Result<Checked, AllocError>
+fn number(alloc: Global, int_type: IntType, number: i128) -> Result<Checked, AllocError>
     ensures { IfOk result (λ c. known_of c ≡ forms.known_constant int_type number) }
 {
     let tree = valued(alloc, Some(Value::constant(int_type, number)))?;
@@ -189,6 +185,20 @@ pub(crate) fn constant(
         mentions: Mentions::none(alloc),
         tree,
     })
+}
+
+/// A constant with its type.
+pub(crate) fn constant(alloc: Global, int_type: IntType, value: u64) -> Result<Checked, AllocError>
+    ensures { IfOk result (λ c. known_of c ≡ forms.known_constant int_type (pos value)) }
+{
+    number(alloc, int_type, i128::from(value))
+}
+
+/// A character constant.
+pub(crate) fn character(alloc: Global, value: &i8) -> Result<Checked, AllocError>
+    ensures { IfOk result (λ c. known_of c ≡ forms.known_constant int_types.Int value.now) }
+{
+    number(alloc, IntType::Int, i128::from(*value))
 }
 
 fn is_const(target: Option<Target>) -> bool
@@ -541,7 +551,10 @@ pub(crate) fn assignment(
     mentions.change(target)?;
     let place = place_of(left.tree);
     let second = operand_of(right.typing, right.tree);
-    let tree = valued(alloc, assignment_value(op.number_operator(), at, place, second))?;
+    let tree = valued(
+        alloc,
+        assignment_value(op.number_operator(), at, place, second),
+    )?;
     Ok(Checked {
         typing: type_of_target(target),
         target: None,
@@ -550,17 +563,17 @@ pub(crate) fn assignment(
     })
 }
 
-fn comma_after(
-    alloc: Global,
-    first: Effect,
-    second: Evaluated,
-) -> Result<Evaluated, AllocError>
+#[tactic(auto, unfolding(crate::specs::Views::evaluated_tree))]
+fn comma_after(alloc: Global, first: Effect, second: Evaluated) -> Result<Evaluated, AllocError>
     ensures { IfOk result (λ e. evaluated_tree e ≡ typed.comma_after (effect_tree first) (evaluated_tree second)) }
 {
     let first = boxed(alloc, first)?;
     match second {
         Evaluated::Value(value) => Ok(Evaluated::Value(boxed(alloc, Value::then(first, value))?)),
-        Evaluated::Effect(effect) => Ok(Evaluated::Effect(boxed(alloc, Effect::then(first, effect))?)),
+        Evaluated::Effect(effect) => Ok(Evaluated::Effect(boxed(
+            alloc,
+            Effect::then(first, effect),
+        )?)),
     }
 }
 

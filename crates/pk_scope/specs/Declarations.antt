@@ -4,12 +4,12 @@ use Rattle.pk_ctypes.specs.declared.places.Pos.{Pos}
 use Rattle.pk_ctypes.specs.declared.types.IntType.{IntType}
 use Rattle.pk_ast.specs.declared.expressions.Identifier.{Identifier}
 use Rattle.pk_typed.specs.declared.units.CallSite.{CallSite}
-use Rattle.pk_typing.specs.declared.declarations.Callee.{Callee}
-use Rattle.pk_typing.specs.declared.declarations.Callee.TheVariants.{Ordinary, Any, Assume, Assert, Abort}
-use Rattle.pk_typing.specs.declared.declarations.Declaration.{Declaration}
-use Rattle.pk_typing.specs.declared.declarations.Declaration.TheVariants as declared
-use Rattle.pk_typing.specs.declared.declarations.Typing.{Typing}
-use Rattle.pk_typing.specs.declared.declarations.Typing.TheVariants.{Void, Integer, Unknown}
+use Rattle.pk_scope.specs.declared.declarations.Callee.{Callee}
+use Rattle.pk_scope.specs.declared.declarations.Callee.TheVariants.{Ordinary, Any, Assume, Assert, Abort}
+use Rattle.pk_scope.specs.declared.declarations.Declaration.{Declaration}
+use Rattle.pk_scope.specs.declared.declarations.Declaration.TheVariants as declared
+use Rattle.pk_scope.specs.declared.declarations.Typing.{Typing}
+use Rattle.pk_scope.specs.declared.declarations.Typing.TheVariants.{Void, Integer, Unknown}
 
 -- the declaration in scope of each name; an expression declares nothing, so it is one for all of its parts
 abbrev pub Names : Type 0

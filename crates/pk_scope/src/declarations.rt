@@ -1,9 +1,9 @@
 // What names stand for, and what expressions are.
 
 ghost use Rattle.std.specs.Prelude.{◌≡◌};
-ghost use Rattle.pk_typing.specs.Declarations as definitions;
+ghost use Rattle.pk_scope.specs.Declarations as definitions;
 
-use pk_ctypes::{IntType, Pos};
+use pk_ctypes::IntType;
 use pk_typed::Variable;
 
 /// What an expression is: of no value, of an integer type, or neither, where a rule fails in it or in a declaration that it names.
@@ -26,10 +26,7 @@ pub struct Object {
 /// What a call of a function is. A function of a special name, which has that name's types and no body in the text, is a form of its own.
 #[derive(Clone, Copy)]
 pub enum Callee {
-    Ordinary {
-        returns: Typing,
-        parameters: usize,
-    },
+    Ordinary { returns: Typing, parameters: usize },
     /// `__VERIFIER_nondet_T`.
     Any(IntType),
     /// `__VERIFIER_assume`.
@@ -54,15 +51,6 @@ pub enum Declaration {
     Function(Function),
 }
 
-/// What an assignment may change: a scalar, or an element, with the place of its `[`.
-#[derive(Clone, Copy)]
-pub struct Target {
-    pub variable: Variable,
-    pub int_type: Option<IntType>,
-    pub is_const: bool,
-    pub bracket: Option<Pos>,
-}
-
 impl Typing {
     pub fn is_void(self) -> bool
         ensures { result ≡ definitions.is_void self }
@@ -82,55 +70,6 @@ impl Typing {
             Typing::Integer(_) => false,
             Typing::Unknown => true,
         }
-    }
-}
-
-pub(crate) fn typing_of(int_type: Option<IntType>) -> Typing
-    ensures { result ≡ definitions.typing_of int_type }
-{
-    match int_type {
-        Some(t) => Typing::Integer(t),
-        None => Typing::Unknown,
-    }
-}
-
-pub(crate) fn is_object(declared: Option<Declaration>) -> bool
-    ensures { result ≡ definitions.is_object declared }
-{
-    match declared {
-        None => false,
-        Some(Declaration::Function(_)) => false,
-        Some(Declaration::Object(_)) => true,
-    }
-}
-
-pub(crate) fn is_function(declared: Option<Declaration>) -> bool
-    ensures { result ≡ definitions.is_function declared }
-{
-    match declared {
-        None => false,
-        Some(Declaration::Function(_)) => true,
-        Some(Declaration::Object(_)) => false,
-    }
-}
-
-pub(crate) fn is_array(declared: Option<Declaration>) -> bool
-    ensures { result ≡ definitions.is_array declared }
-{
-    match declared {
-        None => false,
-        Some(Declaration::Function(_)) => false,
-        Some(Declaration::Object(o)) => o.is_array,
-    }
-}
-
-pub(crate) fn is_scalar(declared: Option<Declaration>) -> bool
-    ensures { result ≡ definitions.is_scalar declared }
-{
-    match declared {
-        None => false,
-        Some(Declaration::Function(_)) => false,
-        Some(Declaration::Object(o)) => !o.is_array,
     }
 }
 

@@ -1,9 +1,9 @@
 // Scopes: which declaration a name has (C99 6.2.1).
 
 ghost use Rattle.std.specs.Prelude.{◌≡◌, ◌++◌, ◌∷◌, ◌<◌, [], ℕ, List, None, Some, is_some, IfOk, OnOk, length};
-ghost use Rattle.pk_typing.specs.Declarations.{Names};
-ghost use Rattle.pk_typing.specs.Scopes as scopes;
-ghost use Rattle.pk_typing.specs.Scopes.{Layer, Scoping, layer_of, scoping_of};
+ghost use Rattle.pk_scope.specs.Declarations.{Names};
+ghost use Rattle.pk_scope.specs.Scopes as scopes;
+ghost use Rattle.pk_scope.specs.Scopes.{Layer, Scoping, layer_of, scoping_of};
 
 use crate::declarations::Declaration;
 use indexmap::IndexMap;
@@ -106,7 +106,11 @@ impl<'a> Scope<'a> {
     }
 
     /// Declares a name in the innermost scope, and answers whether that scope had declared it before.
-    pub fn declare(&mut self, name: Identifier, declaration: Declaration) -> Result<bool, AllocError>
+    pub fn declare(
+        &mut self,
+        name: Identifier,
+        declaration: Declaration,
+    ) -> Result<bool, AllocError>
         ensures again { IfOk result (λ r. r ≡ is_some (scopes.declared_here (scoping_of self.old) name)) }
         ensures declared { OnOk result (scoping_of self.new ≡ scopes.declaring (scoping_of self.old) name declaration) }
     {

@@ -1,10 +1,9 @@
 -- The failure that is answered is the first.
-use Rattle.std.proofs.Common.{◌≡◌, ◌≤◌, ◌<◌, ◌⊎◌, ℕ, Bool, true, false, List, [], ◌∷◌, Some, refl, arith, ap, if◌then◌else◌, ltb, eqb, inl, inr, absurd}
+use Rattle.std.proofs.Common.{◌≡◌, ◌≤◌, ◌<◌, ℕ, Bool, true, false, List, [], ◌∷◌, Some, refl, arith, ap, if◌then◌else◌, ltb, eqb, inl, inr}
 use Rattle.std.proofs.lemmas.Bool.Decides.{nat_tests}
-use Rattle.pk_ctypes.specs.declared.places.Pos.{Pos}
 use Rattle.pk_ctypes.specs.Places.{Before}
-use Rattle.pk_typing.specs.declared.failures.Failure.{Failure}
-use Rattle.pk_typing.specs.Failures.{row_of, is_before, noted, Among, here, later, IsFirst, TheFirstIsAnswered}
+use Rattle.pk_scope.specs.declared.failures.Failure.{Failure}
+use Rattle.pk_scope.specs.Failures.{row_of, is_before, noted, Among, here, later, IsFirst, TheFirstIsAnswered}
 
 -- by numbers alone
 abbrev below : ℕ → ℕ → ℕ → ℕ → ℕ → ℕ → Bool
@@ -75,23 +74,21 @@ not_on_an_earlier_line a b c x y z h l = grind (arith, nat_tests)
 not_in_an_earlier_column : (a b c x y z : ℕ) → below a b c x y z ≡ false → a ≡ x → b < y → ⊥
 not_in_an_earlier_column a b c x y z h l k = grind (arith, nat_tests)
 
-no_upper_row : (a b c z : ℕ) → below a b c a b z ≡ false → z ≤ c
-no_upper_row a b c z h = grind (arith, nat_tests)
+no_upper_row : (a b c x y z : ℕ) → below a b c x y z ≡ false → a ≡ x → b ≡ y → z ≤ c
+no_upper_row a b c x y z h p q = grind (arith, nat_tests)
 
 not_earlier : (g f : Failure) → is_before g f ≡ false → ¬ (Before g.at f.at)
 not_earlier g f h (inl l) = not_on_an_earlier_line g.at.line g.at.column (row_of g.rule) f.at.line f.at.column (row_of f.rule) h l
 not_earlier g f h (inr p) = not_in_an_earlier_column g.at.line g.at.column (row_of g.rule) f.at.line f.at.column (row_of f.rule) h p.0 p.1
 
-not_above : (g f : Failure) → is_before g f ≡ false → g.at ≡ f.at → row_of f.rule ≤ row_of g.rule
-not_above g f h e =
-    let same : is_before (record { rule = g.rule; at = f.at }) f ≡ false = rw (← e) h in
-    no_upper_row f.at.line f.at.column (row_of g.rule) (row_of f.rule) same
+no_upper : (g f : Failure) → is_before g f ≡ false → g.at ≡ f.at → row_of f.rule ≤ row_of g.rule
+no_upper g f h e = no_upper_row g.at.line g.at.column (row_of g.rule) f.at.line f.at.column (row_of f.rule) h (ap (λ p. p.line) e) (ap (λ p. p.column) e)
 
 is_first : (fs : List Failure) (f : Failure) → IsLeast fs f → IsFirst fs f
 is_first fs f k = record {
   there = k.there;
   earliest = λ g m. not_earlier g f (k.first g m);
-  uppermost = λ g m. not_above g f (k.first g m);
+  uppermost = λ g m. no_upper g f (k.first g m);
 }
 
 pub first_is_answered : TheFirstIsAnswered

@@ -1,20 +1,19 @@
 -- The type that the words of a declaration or of a cast name (C99 6.7.2), in any order.
 use Rattle.std.specs.Prelude.{ℕ, ◌+◌, Bool, true, false, ◌&&◌, nat_eq, nat_le, List, [], ◌∷◌, if◌then◌else◌}
-use Rattle.pk_ctypes.specs.declared.types.IntType.{IntType}
 use Rattle.pk_ctypes.specs.declared.types.IntType.TheVariants.{Char, SChar, UChar, Short, UShort, Int, UInt, Long, ULong, LLong, ULLong}
 use Rattle.pk_ctypes.specs.declared.words.Rule.TheVariants as rule
 use Rattle.pk_ast.specs.declared.declarations.Specifier.{Specifier}
 use Rattle.pk_ast.specs.declared.declarations.SpecifierWord.{SpecifierWord}
 use Rattle.pk_ast.specs.declared.declarations.SpecifierWord.TheVariants as word
 use Rattle.pk_ast.specs.Trees.{OneOrMore}
-use Rattle.pk_typing.specs.declared.failures.Failure.{Failure}
-use Rattle.pk_typing.specs.declared.declarations.Typing.{Typing}
-use Rattle.pk_typing.specs.declared.declarations.Typing.TheVariants.{Void, Integer, Unknown}
-use Rattle.pk_typing.specs.declared.specifiers.Counts.{Counts}
-use Rattle.pk_typing.specs.declared.specifiers.Times.{Times}
-use Rattle.pk_typing.specs.declared.specifiers.Times.TheVariants.{Never, Once, Twice, AtMostOnce}
-use Rattle.pk_typing.specs.Declarations.{is_unknown}
-use Rattle.pk_typing.specs.Failures.{fails_if}
+use Rattle.pk_scope.specs.declared.failures.Failure.{Failure}
+use Rattle.pk_scope.specs.declared.declarations.Typing.{Typing}
+use Rattle.pk_scope.specs.declared.declarations.Typing.TheVariants.{Void, Integer, Unknown}
+use Rattle.pk_scope.specs.declared.specifiers.Counts.{Counts}
+use Rattle.pk_scope.specs.declared.specifiers.Times.{Times}
+use Rattle.pk_scope.specs.declared.specifiers.Times.TheVariants.{Never, Once, Twice, AtMostOnce}
+use Rattle.pk_scope.specs.Declarations.{is_unknown}
+use Rattle.pk_scope.specs.Failures.{fails_if}
 
 -- one word more; `const` names no type
 abbrev pub counted : Counts → SpecifierWord → Counts
@@ -53,19 +52,19 @@ has_words c void char short int long signed unsigned =
 abbrev pub type_counted : Counts → Typing
 type_counted c =
     --                void  char  short int        long  signed     unsigned
-    if has_words c    Once  Never Never Never      Never Never      Never then Void
-    else if has_words c Never Once  Never Never      Never Never      Never then Integer Char
-    else if has_words c Never Once  Never Never      Never Once       Never then Integer SChar
-    else if has_words c Never Once  Never Never      Never Never      Once  then Integer UChar
-    else if has_words c Never Never Once  AtMostOnce Never AtMostOnce Never then Integer Short
-    else if has_words c Never Never Once  AtMostOnce Never Never      Once  then Integer UShort
-    else if has_words c Never Never Never Once       Never AtMostOnce Never then Integer Int
-    else if has_words c Never Never Never Never      Never Once       Never then Integer Int
-    else if has_words c Never Never Never AtMostOnce Never Never      Once  then Integer UInt
-    else if has_words c Never Never Never AtMostOnce Once  AtMostOnce Never then Integer Long
-    else if has_words c Never Never Never AtMostOnce Once  Never      Once  then Integer ULong
+    if has_words c Once Never Never Never Never Never Never then Void
+    else if has_words c Never Once Never Never Never Never Never then Integer Char
+    else if has_words c Never Once Never Never Never Once Never then Integer SChar
+    else if has_words c Never Once Never Never Never Never Once then Integer UChar
+    else if has_words c Never Never Once AtMostOnce Never AtMostOnce Never then Integer Short
+    else if has_words c Never Never Once AtMostOnce Never Never Once then Integer UShort
+    else if has_words c Never Never Never Once Never AtMostOnce Never then Integer Int
+    else if has_words c Never Never Never Never Never Once Never then Integer Int
+    else if has_words c Never Never Never AtMostOnce Never Never Once then Integer UInt
+    else if has_words c Never Never Never AtMostOnce Once AtMostOnce Never then Integer Long
+    else if has_words c Never Never Never AtMostOnce Once Never Once then Integer ULong
     else if has_words c Never Never Never AtMostOnce Twice AtMostOnce Never then Integer LLong
-    else if has_words c Never Never Never AtMostOnce Twice Never      Once  then Integer ULLong
+    else if has_words c Never Never Never AtMostOnce Twice Never Once then Integer ULLong
     else Unknown
 
 -- the type that the words name; unknown where they name none

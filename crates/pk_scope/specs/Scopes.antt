@@ -3,10 +3,10 @@ use Rattle.std.specs.Prelude.{ℕ, List, [], ◌∷◌, ◌++◌, map, Option, S
 use Rattle.std.specs.Str.{bytes_eq}
 use Rattle.indexmap.specs.IndexMap.{get_by}
 use Rattle.pk_ast.specs.declared.expressions.Identifier.{Identifier}
-use Rattle.pk_typing.specs.declared.declarations.Declaration.{Declaration}
-use Rattle.pk_typing.specs.declared.scopes.Frame.{Frame}
-use Rattle.pk_typing.specs.declared.scopes.Scope.{Scope}
-use Rattle.pk_typing.specs.Declarations.{Names}
+use Rattle.pk_scope.specs.declared.declarations.Declaration.{Declaration}
+use Rattle.pk_scope.specs.declared.scopes.Frame.{Frame}
+use Rattle.pk_scope.specs.declared.scopes.Scope.{Scope}
+use Rattle.pk_scope.specs.Declarations.{Names}
 
 -- what one scope declares, by spelling
 abbrev pub Layer : Type 0

@@ -1,9 +1,9 @@
 // Failures of rules, and which of them is answered.
 
-ghost use Rattle.std.specs.Prelude.{◌≡◌, None, [], OnOk, ◌++◌};
-ghost use Rattle.pk_typing.specs.Failures.{row_of, is_before, earlier, fails_if, noted};
-ghost use Rattle.pk_typing.specs.Declarations.{own_site};
-ghost use Rattle.pk_typing.specs.Views.{noted_in, with_failures};
+ghost use Rattle.std.specs.Prelude.{◌≡◌, None, [], OnOk, ◌++◌, length};
+ghost use Rattle.pk_scope.specs.Failures.{row_of, is_before, earlier, fails_if, noted};
+ghost use Rattle.pk_scope.specs.Declarations.{own_site};
+ghost use Rattle.pk_scope.specs.Notes.{noted_in, with_failures};
 
 use crate::declarations::{Callee, Declaration};
 use pk_ctypes::{Pos, Rule};
@@ -95,8 +95,15 @@ impl Notes {
         }
     }
 
+    /// How many calls there are so far.
+    pub fn count(&self) -> usize
+        ensures { result ≡ length self.now.calls.items }
+    {
+        self.calls.len()
+    }
+
     /// Notes the call of what a name stands for, at the name.
-    pub(crate) fn call(&mut self, declared: Option<Declaration>, at: Pos) -> Result<(), AllocError>
+    pub fn call(&mut self, declared: Option<Declaration>, at: Pos) -> Result<(), AllocError>
         ensures { OnOk result (noted_in self.new
             ≡ record { found = self.old.found; calls = self.old.calls.items ++ own_site at declared }) }
     {

@@ -4,7 +4,7 @@ use Rattle.pk_ctypes.specs.declared.places.Pos.{Pos}
 use Rattle.pk_ctypes.specs.declared.words.Rule.{Rule}
 use Rattle.pk_ctypes.specs.declared.words.Rule.TheVariants.{Specifiers, Redeclared, Extern, Undeclared, Void, Array, Constant, Initialiser, Place, Const, Arguments, Special, Return, Label, Jump, Unsequenced}
 use Rattle.pk_ctypes.specs.Places.{Before}
-use Rattle.pk_typing.specs.declared.failures.Failure.{Failure}
+use Rattle.pk_scope.specs.declared.failures.Failure.{Failure}
 
 abbrev pub fails_if : Bool → Rule → Pos → List Failure
 fails_if true r at = record { rule = r; at = at } ∷ []

@@ -2,8 +2,8 @@
 
 ghost use Rattle.std.specs.Prelude.{◌≡◌, ◌+◌, ◌<◌, ◌≤◌, ◌^◌};
 ghost use Rattle.pk_ast.specs.Views.{specifiers_tree};
-ghost use Rattle.pk_typing.specs.Views.{noted_in, with_failures};
-ghost use Rattle.pk_typing.specs.Specifiers as definitions;
+ghost use Rattle.pk_scope.specs.Notes.{noted_in, with_failures};
+ghost use Rattle.pk_scope.specs.Specifiers as definitions;
 
 use crate::declarations::Typing;
 use crate::failures::Notes;
@@ -55,9 +55,13 @@ fn has_words(
 ) -> bool
     ensures { result ≡ definitions.has_words counts.now void char short int long signed unsigned }
 {
-    occurs(void, counts.voids) && occurs(char, counts.chars) && occurs(short, counts.shorts)
-        && occurs(int, counts.ints) && occurs(long, counts.longs)
-        && occurs(signed, counts.signeds) && occurs(unsigned, counts.unsigneds)
+    occurs(void, counts.voids)
+        && occurs(char, counts.chars)
+        && occurs(short, counts.shorts)
+        && occurs(int, counts.ints)
+        && occurs(long, counts.longs)
+        && occurs(signed, counts.signeds)
+        && occurs(unsigned, counts.unsigneds)
 }
 
 fn counted(counts: Counts, word: SpecifierWord) -> Counts
@@ -95,7 +99,9 @@ fn type_counted(counts: &Counts) -> Typing
     if has_words(counts, Never, Once, Never, Never, Never, Never, Once) {
         return Typing::Integer(IntType::UChar);
     }
-    if has_words(counts, Never, Never, Once, AtMostOnce, Never, AtMostOnce, Never) {
+    if has_words(
+        counts, Never, Never, Once, AtMostOnce, Never, AtMostOnce, Never,
+    ) {
         return Typing::Integer(IntType::Short);
     }
     if has_words(counts, Never, Never, Once, AtMostOnce, Never, Never, Once) {
@@ -110,13 +116,17 @@ fn type_counted(counts: &Counts) -> Typing
     if has_words(counts, Never, Never, Never, AtMostOnce, Never, Never, Once) {
         return Typing::Integer(IntType::UInt);
     }
-    if has_words(counts, Never, Never, Never, AtMostOnce, Once, AtMostOnce, Never) {
+    if has_words(
+        counts, Never, Never, Never, AtMostOnce, Once, AtMostOnce, Never,
+    ) {
         return Typing::Integer(IntType::Long);
     }
     if has_words(counts, Never, Never, Never, AtMostOnce, Once, Never, Once) {
         return Typing::Integer(IntType::ULong);
     }
-    if has_words(counts, Never, Never, Never, AtMostOnce, Twice, AtMostOnce, Never) {
+    if has_words(
+        counts, Never, Never, Never, AtMostOnce, Twice, AtMostOnce, Never,
+    ) {
         return Typing::Integer(IntType::LLong);
     }
     if has_words(counts, Never, Never, Never, AtMostOnce, Twice, Never, Once) {

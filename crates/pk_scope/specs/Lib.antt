@@ -1,0 +1,5 @@
+pub mod Declarations
+pub mod Failures
+pub mod Notes
+pub mod Scopes
+pub mod Specifiers
