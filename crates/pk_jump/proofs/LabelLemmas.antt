@@ -5,7 +5,7 @@ use Rattle.pk_ast.specs.declared.expressions.Identifier.{Identifier}
 use Rattle.pk_ast.specs.Trees.{DeclarationTree, StatementTree, ItemTrees, no_items, declaration_then, statement_then}
 use Rattle.pk_jump.specs.declared.labels.Label.{Label}
 use Rattle.pk_jump.specs.declared.labels.Within.{Within}
-use Rattle.pk_jump.specs.Names.{spelled}
+use Rattle.pk_scope.specs.Scopes.{spelled}
 use Rattle.pk_jump.specs.Labels.{Listed, listed, listed_items, inside, with_declaration, with_label, named, is_repeated}
 
 pub after_declaration : (text : List ℕ) (w v : Within) (l m all : Listed) (now rest : ItemTrees) (d : DeclarationTree) → now ≡ declaration_then d rest → v ≡ inside l.declarations w → m ≡ with_declaration l → listed_items text w l now ≡ all → listed_items text v m rest ≡ all

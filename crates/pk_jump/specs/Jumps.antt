@@ -3,7 +3,7 @@ use Rattle.std.specs.Prelude.{ℕ, ◌+◌, Bool, true, false, not, ◌||◌, Li
 use Rattle.pk_ctypes.specs.declared.places.Pos.{Pos}
 use Rattle.pk_ast.specs.Trees.{declaration, expression, StatementTree, block, empty, expression_statement, label, case, default, if_then, if_else, switch, while, do_while, for_loop, goto, continue, break, return, ItemTrees, no_items, declaration_then, statement_then}
 use Rattle.pk_jump.specs.declared.labels.Label.{Label}
-use Rattle.pk_jump.specs.Names.{spelled}
+use Rattle.pk_scope.specs.Scopes.{spelled}
 
 -- What is around a place: the scopes that hold it, the outermost first, the innermost again, whether a loop is around it, and the innermost scope around its `switch`.
 pub record Around : Type 0 where

@@ -7,7 +7,7 @@ use Rattle.pk_ast.specs.declared.expressions.Identifier.{Identifier}
 use Rattle.pk_ast.specs.Trees.{declaration, expression, StatementTree, block, empty, expression_statement, label, case, default, if_then, if_else, switch, while, do_while, for_loop, goto, continue, break, return, ItemTrees, no_items, declaration_then, statement_then}
 use Rattle.pk_jump.specs.declared.labels.Label.{Label}
 use Rattle.pk_jump.specs.declared.labels.Within.{Within}
-use Rattle.pk_jump.specs.Names.{spelled}
+use Rattle.pk_scope.specs.Scopes.{spelled}
 
 -- what stands before a place: the labels, each spelling with its last one, how many there are, how many declarations, and where a label is repeated
 pub record Listed : Type 0 where

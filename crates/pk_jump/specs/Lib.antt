@@ -1,4 +1,3 @@
-pub mod Names
 pub mod Labels
 pub mod Jumps
 pub mod Views

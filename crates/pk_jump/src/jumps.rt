@@ -3,7 +3,7 @@
 ghost use Rattle.std.specs.Prelude.{◌≡◌, ◌+◌, ◌++◌, ◌∷◌, ◌||◌, [], true, Some, not, is_some, IfOk, OnOk, take};
 ghost use Rattle.pk_ast.specs.Views.{statement_tree, item_trees, block_tree};
 ghost use Rattle.pk_jump.specs.Jumps as definitions;
-ghost use Rattle.pk_jump.specs.Names.{spelled};
+ghost use Rattle.pk_scope.specs.Scopes.{spelled};
 ghost use Rattle.pk_jump.specs.Views.{labels_in, around_of, jumped_in};
 
 use crate::labels::{Label, Labels, next};

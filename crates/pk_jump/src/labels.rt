@@ -3,10 +3,10 @@
 ghost use Rattle.std.specs.Prelude.{◌≡◌, ◌+◌, ◌++◌, ◌∷◌, [], ℕ, List, None, IfOk, OnOk, is_some};
 ghost use Rattle.pk_ast.specs.Views.{statement_tree, item_trees, block_tree};
 ghost use Rattle.pk_jump.specs.Labels as definitions;
-ghost use Rattle.pk_jump.specs.Names.{spelled};
+ghost use Rattle.pk_scope.specs.Scopes.{spelled};
 ghost use Rattle.pk_jump.specs.Views.{labels_in, listed_in};
 
-use crate::names::spelling;
+use pk_scope::spelling;
 use pk_ast::{Block, BlockItem, ForStart, Identifier, Statement};
 use pk_ctypes::Pos;
 use std::alloc::{AllocError, Global};

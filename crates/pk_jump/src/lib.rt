@@ -3,8 +3,6 @@
 
 mod jumps;
 mod labels;
-mod names;
 
 pub use jumps::Jumps;
 pub use labels::{Label, Labels, Within};
-pub use names::spelling;
