@@ -1,0 +1,3 @@
+pub mod Labels
+pub mod Jumps
+pub mod Views
