@@ -1,0 +1,5 @@
+pub mod Trees
+pub mod Views
+pub mod Kinds
+pub mod Steps
+pub mod Stores
