@@ -3,7 +3,7 @@
 ghost use Rattle.std.specs.Prelude.{◌≡◌, ◌<◌, ◌^◌, unsigned_abs, IfSome};
 ghost use Rattle.pk_interval.specs.Ranges.{IsIn, LiesIn};
 ghost use Rattle.pk_congr.specs.Laws.{IsOf};
-ghost use Rattle.pk_reduce.specs.Reduction.{red, reduced_at, reduced_if, ReductionIsExact};
+ghost use Rattle.pk_value.specs.Reduction.{red, reduced_at, reduced_if, ReductionIsExact};
 
 use pk_congr::{Congr, reduced_law};
 use pk_ctypes::IntType;

@@ -14,7 +14,7 @@ use Rattle.pk_congr.proofs.Next.{next_members, not_less}
 use Rattle.pk_congr.proofs.Numbers.{two_members}
 use Rattle.pk_congr.proofs.Sound.{constant_is}
 use Rattle.pk_congr.proofs.Widening.{distance}
-use Rattle.pk_reduce.specs.Reduction.{reduced_at, reduced_if, red, IsInBoth, ReductionIsExact}
+use Rattle.pk_value.specs.Reduction.{reduced_at, reduced_if, red, IsInBoth, ReductionIsExact}
 
 pub held_small : (o : Option ℤ) → IfSome (held_number o) (λ z. unsigned_abs z < 2 ^ 127)
 held_small None = tt
@@ -181,7 +181,7 @@ red_lies r c m = if_some (λ p. LiesIn r p.0) (red r c) (λ p e. lies r c p (fou
 pub red_inside : (t : IntType) (r : Range) (c : Class) → IsIn t r → pos 0 ≤ℤ c.m → IfSome (red r c) (λ p. IsIn t p.0)
 red_inside t r c i m = if_some (λ p. IsIn t p.0) (red r c) (λ p e. lies_in_type t r p.0 i (lies r c p (found r c p m e)))
 
-constant_of : (t : IntType) (x : ℤ) → InType t x → IsOf t (constant x)
+pub constant_of : (t : IntType) (x : ℤ) → InType t x → IsOf t (constant x)
 constant_of t x h =
     let size = sized t x h in
     record {

@@ -3,9 +3,9 @@ use Rattle.std.specs.Int.{w128}
 use Rattle.std.proofs.lemmas.Int.{to_z-of_z}
 use Rattle.pk_interval.specs.Ranges.{Range}
 use Rattle.pk_congr.specs.Classes.{held_number, next_up_of, next_down_of}
-use Rattle.pk_reduce.specs.Reduction.{reduced_if}
-use Rattle.pk_reduce.proofs.Reducing.{held_small, held_red}
-use Rattle.pk_reduce.proofs.reduction.reduced.Goals as goal
+use Rattle.pk_value.specs.Reduction.{reduced_if}
+use Rattle.pk_value.proofs.Reducing.{held_small, held_red}
+use Rattle.pk_value.proofs.reduction.reduced.Goals as goal
 
 pub from_next-requires : goal.from_next-requires
 from_next-requires c = rw c.next_up.ensures (held_small (next_up_of c.args.congr.now (to_z w128 (of_z w128 c.interval.inside.lo))))

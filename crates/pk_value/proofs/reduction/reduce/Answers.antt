@@ -1,5 +1,5 @@
-use Rattle.pk_reduce.proofs.Reducing.{red_lies, red_inside, red_class}
-use Rattle.pk_reduce.proofs.reduction.reduce.Goals as goal
+use Rattle.pk_value.proofs.Reducing.{red_lies, red_inside, red_class}
+use Rattle.pk_value.proofs.reduction.reduce.Goals as goal
 
 pub returns-clause-within : goal.returns-clause-within
 returns-clause-within c = rw c.reduced.ensures (red_lies c.args.interval.now c.args.congr.now c.reduced_law.ensures.from)
