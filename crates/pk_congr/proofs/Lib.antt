@@ -8,3 +8,4 @@ pub mod Next
 pub mod Held
 pub mod Solutions
 pub mod Sound
+pub mod Keeping

@@ -88,7 +88,7 @@ module _ (t : IntType) (h n : Class) (f : IsOf t h) (g : IsOf t n) where
   widened_only : (x : ℤ) → IsMember (widened h n) x → Multiple (pos (modulus_of h n)) (x -ℤ h.r)
   widened_only x k = class_only (pos (modulus_of h n)) h.r x (subst (λ (c : Class). IsMember c x) widened_is k)
 
-  still_of : IsOf t (widened h n)
+  pub still_of : IsOf t (widened h n)
   still_of = subst (IsOf t) (sym widened_is) (record {
     reduced = class_reduced (pos (modulus_of h n)) h.r (omega (arith, ints)) (let most = modulus_most in omega arith) f.reduced.rest_held;
     modulus = let most = modulus_most in omega (arith, ints);

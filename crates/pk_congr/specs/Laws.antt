@@ -109,3 +109,10 @@ pub record NextMembersAreRight : Type 0 where
   pub no_up : (c : Class) (x : ℤ) → next_up_of c x ≡ None → (z : ℤ) → IsMember c z → x ≤ℤ z → ⊥
   pub down : (c : Class) (x y : ℤ) → pos 0 ≤ℤ c.m → next_down_of c x ≡ Some y → IsNextDown c x y
   pub no_down : (c : Class) (x : ℤ) → next_down_of c x ≡ None → (z : ℤ) → IsMember c z → z ≤ℤ x → ⊥
+
+-- What changes nothing: a join or a widening with what is within, and a narrowing by the class itself; and what a widening step is of.
+pub record NothingChanges : Type 0 where
+  pub joins : (a b : Class) → IsReduced a.m a.r → is_within b a ≡ true → joined a b ≡ a
+  pub narrowings : (h : Class) → narrowed h h ≡ h
+  pub widened_of : (t : IntType) (h n : Class) → IsOf t h → IsOf t n → IsOf t (widened h n)
+  pub within_itself : (a : Class) → is_within a a ≡ true

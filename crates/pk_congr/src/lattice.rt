@@ -1,6 +1,6 @@
 // The order of congruences, joins and widening.
 
-ghost use Rattle.std.specs.Prelude.{◌≡◌};
+ghost use Rattle.std.specs.Prelude.{◌≡◌, ◌↔◌, true};
 ghost use Rattle.pk_congr.specs.Classes.{is_within, joined, widened, narrowed};
 
 use crate::congr::{Congr, class};
@@ -13,6 +13,13 @@ impl Congr {
     {
         let moduli = gcd(self.m.unsigned_abs(), other.m.unsigned_abs());
         class(gcd(moduli, self.r.abs_diff(other.r)), self.r)
+    }
+
+    /// Whether both have the same modulus and rest.
+    pub fn equals(&self, other: &Congr) -> bool
+        ensures { result ≡ true ↔ self.now ≡ other.now }
+    {
+        self.m == other.m && self.r == other.r
     }
 
     /// Whether each number of this one is one of `other`.

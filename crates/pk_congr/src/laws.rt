@@ -1,7 +1,7 @@
 // What the operations mean for the numbers in a congruence, as laws over their definitions.
 
 ghost use Rattle.pk_congr.specs.Classes.{IsReduced};
-ghost use Rattle.pk_congr.specs.Laws.{EuclidIsRight, TestsAreRight, JoinIsLeast, MeetIsBoth, NarrowingKeeps, OperatorsAreSound, WrappingIsSound, WideningEnds, DivisionsAreRanks, NextMembersAreRight};
+ghost use Rattle.pk_congr.specs.Laws.{EuclidIsRight, TestsAreRight, JoinIsLeast, MeetIsBoth, NarrowingKeeps, OperatorsAreSound, WrappingIsSound, WideningEnds, DivisionsAreRanks, NextMembersAreRight, NothingChanges};
 
 use crate::congr::Congr;
 
@@ -60,4 +60,9 @@ pub fn next_law()
 /// The number of divisions of its modulus never rises as a class is widened, and falls where the other isn't within.
 pub fn rank_law()
     ensures { DivisionsAreRanks }
+{}
+
+/// A join or a widening with a congruence within, and a narrowing by the congruence itself, changes nothing.
+pub fn unchanged_law()
+    ensures { NothingChanges }
 {}

@@ -12,6 +12,6 @@ mod operators;
 pub use congr::Congr;
 pub use laws::{
     euclid_law, join_law, meet_law, narrowing_law, next_law, operators_law, rank_law, reduced_law,
-    tests_law, widening_law, wrapping_law,
+    tests_law, unchanged_law, widening_law, wrapping_law,
 };
 pub use operators::{binary, unary, wrap};

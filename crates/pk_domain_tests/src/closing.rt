@@ -2,8 +2,8 @@
 
 ghost use Rattle.std.specs.Prelude.{◌≡◌, ◌*◌};
 
-use pk_octclose::{Shape, close};
-use pk_octmat::Matrix;
+use pk_octclose::close;
+use pk_octmat::{Matrix, Shape};
 use std::alloc::{AllocError, Global};
 use std::test::Fail;
 

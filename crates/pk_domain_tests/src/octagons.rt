@@ -3,8 +3,9 @@
 ghost use Rattle.std.specs.Prelude.{◌≡◌, ◌<◌, IfOk, IfSome};
 
 use crate::closing::is_kept;
+use pk_octclose::close;
 use pk_octmat::Matrix;
-use pk_octops::{assign, bounds, close, guard, join, leq, narrow, widen};
+use pk_octops::{assign, bounds, guard, join, leq, narrow, widen};
 use std::alloc::{AllocError, Global};
 use std::test::Fail;
 

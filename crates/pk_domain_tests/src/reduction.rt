@@ -5,7 +5,7 @@ use crate::intervals::interval;
 use pk_congr::Congr;
 use pk_ctypes::IntType;
 use pk_interval::Interval;
-use pk_reduce::reduce;
+use pk_value::reduce;
 use std::test::Fail;
 
 // The bounds of an interval, and a congruence's modulus and rest.

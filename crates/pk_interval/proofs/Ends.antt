@@ -163,7 +163,7 @@ pub chain_ends : (t : IntType) (cs : List ℤ) (h : Range) (ns : List Range) →
 chain_ends t cs h ns c = omega (arith, chain_short t cs h ns c, tally_le_length (lies_above t h.hi) (high_of t ∷ cs), tally_le_length (lies_below t h.lo) (low_of t ∷ cs))
 
 -- ---- what a step holds
-within : (t : IntType) (cs : List ℤ) (h n : Range) → IsIn t h → IsIn t n → ((widened t cs h n).lo ≤ℤ h.lo) × ((widened t cs h n).lo ≤ℤ n.lo) × (h.hi ≤ℤ (widened t cs h n).hi) × (n.hi ≤ℤ (widened t cs h n).hi)
+pub within : (t : IntType) (cs : List ℤ) (h n : Range) → IsIn t h → IsIn t n → ((widened t cs h n).lo ≤ℤ h.lo) × ((widened t cs h n).lo ≤ℤ n.lo) × (h.hi ≤ℤ (widened t cs h n).hi) × (n.hi ≤ℤ (widened t cs h n).hi)
 within t cs h n i j =
     let down = down_in t cs n.lo j.from in
     let up = up_in t cs n.hi j.to in

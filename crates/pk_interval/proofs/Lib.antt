@@ -7,3 +7,4 @@ pub mod Order
 pub mod Fits
 pub mod Sound
 pub mod Wrappable
+pub mod Keeping

@@ -1,5 +1,5 @@
 -- Ranges of results in a type: clamped to a signed one, wrapped into an unsigned one.
-use Rattle.std.specs.Prelude.{if◌then◌else◌, ℤ, ◌+ℤ◌, ◌-ℤ◌, int_le, Option, Some, None}
+use Rattle.std.specs.Prelude.{if◌then◌else◌, ℤ, pos, ◌+ℤ◌, ◌-ℤ◌, int_le, Option, Some, None}
 use Rattle.std.specs.Int.{int_min, int_max}
 use Rattle.pk_ctypes.specs.declared.types.IntType.{IntType}
 use Rattle.pk_ctypes.specs.Types.{low_of, high_of, is_signed_of, wrapped}
@@ -28,3 +28,14 @@ abbrev pub finished : IntType → Outcome → Option Range
 finished t Empty = None
 finished t (Within r) = if is_signed_of t then clamped t r else Some (shifted t r).0
 finished t TooLarge = Some (whole t)
+
+-- a range to whose numbers nothing was added
+abbrev pub unmoved : Option Range → Option (Range × Option ℤ)
+unmoved None = None
+unmoved (Some r) = Some (r, Some (pos 0))
+
+-- the same, and what was added to each number, if that was one number
+abbrev pub finish_of : IntType → Outcome → Option (Range × Option ℤ)
+finish_of t Empty = None
+finish_of t (Within r) = if is_signed_of t then unmoved (clamped t r) else Some (shifted t r)
+finish_of t TooLarge = Some (whole t, None)

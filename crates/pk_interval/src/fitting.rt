@@ -3,12 +3,14 @@
 ghost use Rattle.std.specs.Prelude.{◌≡◌, ◌-◌, ◌^◌, ℤ, negsuc, ◌-ℤ◌, ◌≤ℤ◌, IfSome};
 ghost use Rattle.pk_ctypes.specs.Types.{wrapped};
 ghost use Rattle.pk_interval.specs.Ranges.{IsIn};
-ghost use Rattle.pk_interval.specs.Fitting.{clamped, moved_if, shifted};
+ghost use Rattle.pk_interval.specs.Fitting.{clamped, moved_if, shifted, unmoved, finish_of};
+ghost use Rattle.pk_interval.specs.Operators.{CanWrap};
 
 use crate::bits::whole;
 use crate::interval::{Interval, between};
+use crate::outcome::Outcome;
 use crate::scalars::{greater, lesser};
-use pk_ctypes::{IntType, convert, range};
+use pk_ctypes::{IntType, convert, is_signed, range};
 
 /// The numbers of an interval that lie in a type, if there is one.
 pub fn clamp(t: IntType, a: &Interval) -> Option<Interval>
@@ -54,4 +56,34 @@ pub fn wrap(t: IntType, a: &Interval) -> (Interval, Option<i128>)
     ensures inside { IsIn t result.0 }
 {
     move_by(t, a, shift(t, a.lo))
+}
+
+// An interval to whose numbers nothing was added.
+fn kept(found: Option<Interval>) -> Option<(Interval, Option<i128>)>
+    ensures { result ≡ unmoved found }
+{
+    match found {
+        None => None,
+        Some(interval) => Some((interval, Some(0))),
+    }
+}
+
+/// What an operator gives, in the type of its result: clamped to a signed type, wrapped into an unsigned one; and what was added to each number, none where that
+/// isn't one number.
+pub fn finish(t: IntType, found: &Outcome) -> Option<(Interval, Option<i128>)>
+    requires { CanWrap found.now }
+    ensures value { result ≡ finish_of t found.now }
+    ensures inside { IfSome result (λ p. IsIn t p.0) }
+{
+    match found {
+        Outcome::Empty => None,
+        Outcome::Within(interval) => {
+            if is_signed(t) {
+                kept(clamp(t, interval))
+            } else {
+                Some(wrap(t, interval))
+            }
+        }
+        Outcome::TooLarge => Some((whole(t), None)),
+    }
 }

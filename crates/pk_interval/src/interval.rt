@@ -1,6 +1,6 @@
 // Intervals, and their order.
 
-ghost use Rattle.std.specs.Prelude.{◌≡◌, ◌≤ℤ◌, IfSome};
+ghost use Rattle.std.specs.Prelude.{◌≡◌, ◌↔◌, true, ◌≤ℤ◌, IfSome};
 ghost use Rattle.pk_interval.specs.Ranges.{joined, met, is_within, range_from, single, LiesIn};
 
 use std::marker::Model;
@@ -36,7 +36,8 @@ pub fn between(lo: i128, hi: i128) -> Option<Interval>
     }
 }
 
-pub(crate) fn point(z: i128) -> Interval
+/// One number.
+pub fn point(z: i128) -> Interval
     ensures { result ≡ single z }
 {
     Interval { lo: z, hi: z }
@@ -66,6 +67,13 @@ impl Interval {
         ensures right { IfSome result (λ r. LiesIn other.now r) }
     {
         common(self, other)
+    }
+
+    /// Whether both have the same numbers.
+    pub fn equals(&self, other: &Interval) -> bool
+        ensures { result ≡ true ↔ self.now ≡ other.now }
+    {
+        self.lo == other.lo && self.hi == other.hi
     }
 
     /// Whether each number of this one is one of `other`.

@@ -2,7 +2,7 @@
 
 ghost use Rattle.std.specs.Prelude.{◌≤ℤ◌};
 ghost use Rattle.pk_interval.specs.Widening.{Widens, Narrows, MovesAreRanks};
-ghost use Rattle.pk_interval.specs.Laws.{IsLattice, IsSound, Converts};
+ghost use Rattle.pk_interval.specs.Laws.{IsLattice, IsSound, Converts, FinishIsFinished, NothingChanges, StaysInType};
 
 use crate::interval::Interval;
 
@@ -41,4 +41,19 @@ pub fn narrowing_law()
 /// The number of thresholds beyond a range's bounds never rises as it is widened, and falls where the other isn't within.
 pub fn rank_law()
     ensures { MovesAreRanks }
+{}
+
+/// What an operator gives is finished in its type to the range that it has there.
+pub fn finish_law()
+    ensures { FinishIsFinished }
+{}
+
+/// A join or a widening with an interval within, and a narrowing by the interval itself, changes nothing.
+pub fn unchanged_law()
+    ensures { NothingChanges }
+{}
+
+/// Joins, meets, widening and narrowing steps of intervals of a type are intervals of the type, and a widening step has both within.
+pub fn types_law()
+    ensures { StaysInType }
 {}

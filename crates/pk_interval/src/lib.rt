@@ -14,10 +14,11 @@ mod shifts;
 mod widening;
 
 pub use bits::whole;
-pub use fitting::{clamp, wrap};
-pub use interval::{Interval, between};
+pub use fitting::{clamp, finish, wrap};
+pub use interval::{Interval, between, point};
 pub use laws::{
-    conversion_law, lattice_law, narrowing_law, operator_law, ordered_law, rank_law, widening_law,
+    conversion_law, finish_law, lattice_law, narrowing_law, operator_law, ordered_law, rank_law,
+    types_law, unchanged_law, widening_law,
 };
 pub use operators::{binary, unary};
 pub use outcome::Outcome;

@@ -25,7 +25,7 @@ sums_same d e p q g h i j id jd =
     let m = h.each i j id jd in
     at_most_both (p i j) (q i j) (subst (λ s. AtMost (p i j) s) m.reached (l.least m.by)) (subst (λ s. AtMost (q i j) s) l.reached (m.least l.by))
 
-evened_same : (p q : ℕ → ℕ → Option ℤ) (i j : ℕ) → p i j ≡ q i j → evened p i j ≡ evened q i j
+pub evened_same : (p q : ℕ → ℕ → Option ℤ) (i j : ℕ) → p i j ≡ q i j → evened p i j ≡ evened q i j
 evened_same p q i j s = by (j == bar i)
   where
     by : (t : Bool) → (if t then even_down (p i j) else p i j) ≡ (if t then even_down (q i j) else q i j)
@@ -59,9 +59,9 @@ closing_not_empty d n xs r pairs c (inr h) =
     nonnegative _ (subst (λ s. AtMost (Some (pos 0)) s) same (c.halves h.at h.place)) h.negative
 
 -- ---- least sums are there where no walk that leads back is negative
-record Sums (d : ℕ) (e : ℕ → ℕ → Option ℤ) (k : ℕ) : Type 0 where
-  sums : ℕ → ℕ → Option ℤ
-  through : Through d e sums (Below k)
+pub record Sums (d : ℕ) (e : ℕ → ℕ → Option ℤ) (k : ℕ) : Type 0 where
+  pub sums : ℕ → ℕ → Option ℤ
+  pub through : Through d e sums (Below k)
 
 one_more : (k : ℕ) → IsWith (Below k) k (Below (suc k))
 one_more k = record { old = λ p h. omega arith; new = omega arith; only = λ p h. by p h (cases_lt p k) }
@@ -70,7 +70,7 @@ one_more k = record { old = λ p h. omega arith; new = omega arith; only = λ p 
     by p h (inl l) = inl l
     by p h (inr g) = inr (omega arith)
 
-sums_from : (d : ℕ) (e : ℕ → ℕ → Option ℤ) → ((i : ℕ) → i < d → e i i ≡ Some (pos 0)) → ((i : ℕ) (vs : List ℕ) → i < d → EachIn (Below d) vs → AtMost (Some (pos 0)) (walk_sum e i vs i)) → (k : ℕ) → k ≤ d → Sums d e k
+pub sums_from : (d : ℕ) (e : ℕ → ℕ → Option ℤ) → ((i : ℕ) → i < d → e i i ≡ Some (pos 0)) → ((i : ℕ) (vs : List ℕ) → i < d → EachIn (Below d) vs → AtMost (Some (pos 0)) (walk_sum e i vs i)) → (k : ℕ) → k ≤ d → Sums d e k
 sums_from d e z h zero kd = record { sums = e; through = through_none d e (Below 0) (λ p l. omega arith) z }
 sums_from d e z h (suc k) kd = by (sums_from d e z h k (omega arith))
   where
@@ -93,12 +93,12 @@ walks_above d t r triangle above i j (v ∷ vs) id jd b =
     at_most_trans (t i j) (plus (t i v) (t v j)) (plus (r i v) (walk_sum r v vs j)) (triangle i v j id b.0 jd)
     (plus_le (t i v) (t v j) (r i v) (walk_sum r v vs j) (above i v id b.0) (walks_above d t r triangle above v j vs b.0 jd b.1))
 
-even_le : (a b : Option ℤ) → AtMost a b → AtMost (even_down a) (even_down b)
+pub even_le : (a b : Option ℤ) → AtMost a b → AtMost (even_down a) (even_down b)
 even_le a None h = at_most_none (even_down a)
 even_le None (Some b) h = absurd h
 even_le (Some a) (Some b) h = omega (arith, ints, h, half_low a, half_high a, half_low b, half_high b)
 
-half_le : (a b : Option ℤ) → AtMost a b → AtMost (halved a) (halved b)
+pub half_le : (a b : Option ℤ) → AtMost a b → AtMost (halved a) (halved b)
 half_le a None h = at_most_none (halved a)
 half_le None (Some b) h = absurd h
 half_le (Some a) (Some b) h = omega (arith, ints, h, half_low a, half_high a, half_low b, half_high b)

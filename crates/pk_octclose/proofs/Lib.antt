@@ -8,3 +8,5 @@ pub mod Members
 pub mod Closed
 pub mod Triangle
 pub mod Again
+pub mod Floyd
+pub mod Stays

@@ -1,3 +1,4 @@
 pub mod Walks
 pub mod Closing
 pub mod Laws
+pub mod Places

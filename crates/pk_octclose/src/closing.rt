@@ -3,20 +3,13 @@
 ghost use Rattle.std.specs.Prelude.{◌≡◌, ◌%◌, ◌↔◌, ℕ, ℤ, ◌*◌, ◌<◌, ◌^◌};
 ghost use Rattle.pk_octmat.specs.Octagon.{entry, cell_at, top_bound, Meets, IsMatrix};
 ghost use Rattle.pk_octclose.specs.Closing.{IsClosing, IsEmpty, IsClosed, KeepsPoints};
-ghost use Rattle.pk_octclose.specs.declared.closing.Shape.TheVariants.{Kept, Empty};
+ghost use Rattle.pk_octclose.specs.Places.{closing_of};
+ghost use Rattle.pk_octmat.specs.Shapes.{left_of};
+ghost use Rattle.pk_octmat.specs.declared.shape.Shape.TheVariants.{Kept, Empty};
 
 use crate::paths::paths;
 use crate::tight::tighten;
-use pk_octmat::{Bound, Matrix, blank};
-
-/// What is left of a matrix.
-#[derive(Clone, Copy)]
-pub enum Shape {
-    /// Its bounds.
-    Kept,
-    /// Nothing: no integers meet the bounds.
-    Empty,
-}
+use pk_octmat::{Bound, Matrix, Shape, blank};
 
 /// Closes the cells of a matrix in place, or finds that no integers meet them.
 fn close_cells(cells: &mut [Bound], d: usize) -> Shape
@@ -42,6 +35,7 @@ fn close_cells(cells: &mut [Bound], d: usize) -> Shape
 ///
 /// A closing keeps exactly the integers that meet the matrix, and closing it again changes nothing.
 pub fn close(m: &mut Matrix) -> Shape
+    ensures value { left_of result m.new ≡ closing_of m.old }
     ensures vars { m.new.vars ≡ m.old.vars }
     ensures kept { result ≡ Kept → IsClosing (2 * m.old.vars) (entry m.old) (entry m.new) }
     ensures empty { (result ≡ Empty) ↔ IsEmpty (2 * m.old.vars) (entry m.old) }

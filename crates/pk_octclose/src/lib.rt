@@ -6,5 +6,5 @@ mod laws;
 mod paths;
 mod tight;
 
-pub use closing::{Shape, close};
-pub use laws::{closing_is_closed, closing_is_determined};
+pub use closing::close;
+pub use laws::{closed_stay_closed, closing_by_places, closing_is_closed, closing_is_determined};

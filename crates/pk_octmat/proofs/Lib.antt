@@ -6,3 +6,4 @@ pub mod Matrices
 pub mod Written
 pub mod Clearing
 pub mod Points
+pub mod Tabled

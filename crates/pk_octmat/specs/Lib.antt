@@ -1,3 +1,5 @@
 pub mod Bounds
 pub mod Packed
 pub mod Octagon
+pub mod Laws
+pub mod Shapes

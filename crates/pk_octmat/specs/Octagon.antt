@@ -1,5 +1,6 @@
 -- Matrices of bounds on the differences of numbers and their negatives (Miné 2006, section 3).
-use Rattle.std.specs.Prelude.{◌≡◌, ℕ, ◌<◌, ◌+◌, ◌-◌, ◌*◌, ◌/◌, ◌%◌, ◌^◌, ◌&&◌, ◌||◌, nat_lt, ◌==◌, if◌then◌else◌, ℤ, pos, ◌-ℤ◌, neg_ℤ, Option, Some, None, List, slice_index_or, length}
+use Rattle.std.specs.Prelude.{◌≡◌, ℕ, ◌<◌, ◌+◌, ◌-◌, ◌*◌, ◌/◌, ◌%◌, ◌^◌, ◌&&◌, ◌||◌, nat_lt, ◌==◌, if◌then◌else◌, ℤ, pos, ◌-ℤ◌, neg_ℤ, Option, Some, None, List, map, slice_index_or, length}
+use Rattle.std.specs.List.{range_with_len}
 use Rattle.pk_octmat.specs.Bounds.{AtMost, IsNear}
 
 -- the bounds of a matrix over a number of variables, row by row
@@ -63,3 +64,11 @@ forgotten e k i j = if ((i / 2) == k) || ((j / 2) == k) then top_bound i j else 
 pub record HasEntries (n : ℕ) (f : ℕ → ℕ → Option ℤ) (m : Octagon) : Type 0 where
   pub vars : m.vars ≡ n
   pub each : (i j : ℕ) → i < 2 * n → j < 2 * n → entry m i j ≡ f i j
+
+-- the bounds of d places, row by row
+abbrev pub tabled : ℕ → (ℕ → ℕ → Option ℤ) → List (Option ℤ)
+tabled d f = map (λ k. f (k / d) (k % d)) (range_with_len 0 (d * d))
+
+-- the matrix over n variables with these bounds
+abbrev pub octagon_of : ℕ → (ℕ → ℕ → Option ℤ) → Octagon
+octagon_of n f = record { vars = n; cells = tabled (2 * n) f }

@@ -1,6 +1,6 @@
 // A bound in 16 bytes: a number, or none.
 
-ghost use Rattle.std.specs.Prelude.{◌≡◌, ◌-◌, ◌^◌, ◌<ℤ◌, pos, Some, None};
+ghost use Rattle.std.specs.Prelude.{◌≡◌, ◌-◌, ◌^◌, ◌<ℤ◌, pos, Some, None, true, ◌↔◌};
 ghost use Rattle.pk_octmat.specs.Bounds.{IsNear, plus as sum_of, lesser as lesser_of, greater as greater_of, is_none as none_of, is_at_most as at_most, is_negative as negative, capped as capped_at, halved as half_of, even_down as even_of};
 
 use std::marker::Model;
@@ -107,6 +107,14 @@ impl Bound {
             None => false,
             Some(z) => z < 0,
         }
+    }
+
+    /// Whether two bounds are the same.
+    #[inline]
+    pub fn equals(self, other: Bound) -> bool
+        ensures { (result ≡ true) ↔ (self ≡ other) }
+    {
+        self.packed == other.packed
     }
 
     /// Whether a bound is at most another.

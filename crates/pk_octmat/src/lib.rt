@@ -2,7 +2,11 @@
 #![tactic(auto)]
 
 mod bound;
+mod laws;
 mod matrix;
+mod shape;
 
 pub use bound::Bound;
+pub use laws::octagons_are_entries;
 pub use matrix::{Matrix, bar, blank};
+pub use shape::Shape;

@@ -1,6 +1,6 @@
 // Matrices of bounds.
 
-ghost use Rattle.std.specs.Prelude.{◌≡◌, ◌%◌, ◌≢◌, ℕ, ℤ, ◌<◌, ◌*◌, ◌/◌, ◌^◌, ◌==◌, ◌||◌, if◌then◌else◌, length, IfOk};
+ghost use Rattle.std.specs.Prelude.{◌≡◌, ◌%◌, ◌≢◌, ℕ, ℤ, ◌<◌, ◌*◌, ◌/◌, ◌^◌, ◌==◌, ◌||◌, if◌then◌else◌, length, IfOk, true, ◌↔◌};
 ghost use Rattle.pk_octmat.specs.Bounds.{capped, IsNear};
 ghost use Rattle.pk_octmat.specs.Octagon.{entry, cell_at, bar as other, written, top_bound, forgotten, HasEntries, IsMatrix, IsOctagon, Meets, with_number};
 
@@ -104,6 +104,19 @@ fn forget_cells(cells: &mut [Bound], d: usize, k: usize)
     clear(cells, d, 2 * k + 1);
 }
 
+/// Whether two lists of cells are the same.
+fn same_cells(cells: &[Bound], other: &[Bound]) -> bool
+    requires { length cells.now ≡ length other.now }
+    ensures { (result ≡ true) ↔ (cells.now ≡ other.now) }
+{
+    for k in 0..cells.len() {
+        if !cells[k].equals(other[k]) {
+            return false;
+        }
+    }
+    true
+}
+
 impl Matrix {
     /// No bounds on n variables. There is no memory for 2^31 variables or more.
     pub fn top(alloc: Global, n: u32) -> Result<Matrix, AllocError>
@@ -133,6 +146,13 @@ impl Matrix {
             vars: self.vars,
             cells,
         })
+    }
+
+    /// Whether two matrices are the same.
+    pub fn equals(&self, other: &Matrix) -> bool
+        ensures { (result ≡ true) ↔ (self.now ≡ other.now) }
+    {
+        self.vars == other.vars && same_cells(&self.cells, &other.cells)
     }
 
     /// What every matrix is: coherent, its diagonal 0, each bound none or within 2^66 of 0, and its places counted in 32 bits.

@@ -67,13 +67,13 @@ no_change a = omega (arith, ints)
 neg_both : (a b : ℤ) → (b -ℤ a) ≡ (neg_ℤ a -ℤ neg_ℤ b)
 neg_both a b = omega (arith, ints)
 
-moved_zero : (d n k t : ℕ) (c : ℤ) (e : ℕ → ℕ → Option ℤ) → d ≡ 2 * n → ((i : ℕ) → i < d → e i i ≡ Some (pos 0)) → (i : ℕ) → i < d → moved e k t c i i ≡ Some (pos 0)
+pub moved_zero : (d n k t : ℕ) (c : ℤ) (e : ℕ → ℕ → Option ℤ) → d ≡ 2 * n → ((i : ℕ) → i < d → e i i ≡ Some (pos 0)) → (i : ℕ) → i < d → moved e k t c i i ≡ Some (pos 0)
 unfolding moved
 moved_zero d n k t c e pairs zero i id =
     let inside : source k t i < d = subst (λ q. source k t i < q) (sym pairs) (source_inside n k t i (omega (arith, pairs))) in
     rw (zero (source k t i) inside) (rw (no_change (gain k c i)) refl)
 
-moved_turned : (k t : ℕ) (c : ℤ) (e : ℕ → ℕ → Option ℤ) → ((i j : ℕ) → e i j ≡ e (bar j) (bar i)) → (i j : ℕ) → moved e k t c i j ≡ moved e k t c (bar j) (bar i)
+pub moved_turned : (k t : ℕ) (c : ℤ) (e : ℕ → ℕ → Option ℤ) → ((i j : ℕ) → e i j ≡ e (bar j) (bar i)) → (i j : ℕ) → moved e k t c i j ≡ moved e k t c (bar j) (bar i)
 unfolding moved
 moved_turned k t c e turned i j =
     let first : e (source k t i) (source k t j) ≡ e (source k t (bar j)) (source k t (bar i)) =

@@ -2,3 +2,4 @@ pub mod Pointwise
 pub mod Counting
 pub mod Sound
 pub mod Along
+pub mod Kept

@@ -21,7 +21,7 @@ pointwise f zero near d n xs ys news pairs m o size is =
     ∙ sym (is (bar j) (bar i) (omega (arith, pairs)) (omega (arith, pairs))))
     (λ i j id jd. rw (is i j id jd) (near _ _ (m.near i j) (o.near i j)))
 
-greater_near : (a b : Option ℤ) → IsNear (2 ^ 66) a → IsNear (2 ^ 66) b → IsNear (2 ^ 66) (greater a b)
+pub greater_near : (a b : Option ℤ) → IsNear (2 ^ 66) a → IsNear (2 ^ 66) b → IsNear (2 ^ 66) (greater a b)
 greater_near None b p q = tt
 greater_near (Some a) None p q = tt
 greater_near (Some a) (Some b) p q = by (int_lt a b)
@@ -34,14 +34,14 @@ pub greater_matrix : (d n : ℕ) (xs ys news : List (Option ℤ)) → d ≡ 2 * 
     → ((i j : ℕ) → i < d → j < d → cell_at d news i j ≡ greater (cell_at d xs i j) (cell_at d ys i j)) → IsMatrix d news
 greater_matrix = pointwise greater refl greater_near
 
-widened_near : (a b : Option ℤ) → IsNear (2 ^ 66) a → IsNear (2 ^ 66) b → IsNear (2 ^ 66) (widened a b)
+pub widened_near : (a b : Option ℤ) → IsNear (2 ^ 66) a → IsNear (2 ^ 66) b → IsNear (2 ^ 66) (widened a b)
 widened_near a b p q = by (is_at_most b a)
   where
     by : (t : Bool) → IsNear (2 ^ 66) (if t then a else None)
     by true = p
     by false = tt
 
-narrowed_near : (a b : Option ℤ) → IsNear (2 ^ 66) a → IsNear (2 ^ 66) b → IsNear (2 ^ 66) (narrowed a b)
+pub narrowed_near : (a b : Option ℤ) → IsNear (2 ^ 66) a → IsNear (2 ^ 66) b → IsNear (2 ^ 66) (narrowed a b)
 narrowed_near None b p q = q
 narrowed_near (Some a) b p q = p
 

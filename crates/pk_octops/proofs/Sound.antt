@@ -31,14 +31,14 @@ greater_right (Some a) (Some b) = by (int_lt a b) refl
     by true e = omega (arith, ints)
     by false e = omega (arith, ints)
 
-widened_left : (h n : Option ℤ) → AtMost h (widened h n)
+pub widened_left : (h n : Option ℤ) → AtMost h (widened h n)
 widened_left h n = by (is_at_most n h)
   where
     by : (t : Bool) → AtMost h (if t then h else None)
     by true = at_most_same h
     by false = at_most_none h
 
-widened_right : (h n : Option ℤ) → AtMost n (widened h n)
+pub widened_right : (h n : Option ℤ) → AtMost n (widened h n)
 widened_right h n = by (is_at_most n h) refl
   where
     by : (t : Bool) → is_at_most n h ≡ t → AtMost n (if t then h else None)

@@ -1,7 +1,7 @@
 -- Assignments x_k := V(t) + c.
 use Rattle.std.specs.Prelude.{◌≡◌, ℕ, ◌+◌, ◌*◌, ◌/◌, ◌%◌, ◌==◌, if◌then◌else◌, ℤ, pos, ◌+ℤ◌, ◌-ℤ◌, neg_ℤ, Option, Some, None}
 use Rattle.pk_octmat.specs.Bounds.{plus, capped}
-use Rattle.pk_octmat.specs.Octagon.{bar, side, written, forgotten}
+use Rattle.pk_octmat.specs.Octagon.{Octagon, entry, bar, side, written, forgotten, octagon_of}
 
 -- the number that x_k gets: that of the term and c, or any
 abbrev pub Gives : (ℕ → ℤ) → Option ℕ → ℤ → ℤ → Type 0
@@ -28,3 +28,7 @@ bound_to e k t c = written (written (forgotten e k) t (2 * k) (capped (Some c)))
 abbrev pub assigned : (ℕ → ℕ → Option ℤ) → ℕ → Option ℕ → ℤ → ℕ → ℕ → Option ℤ
 assigned e k None c i j = forgotten e k i j
 assigned e k (Some t) c i j = if (t / 2) == k then moved e k t c i j else bound_to e k t c i j
+
+-- the matrix after an assignment
+abbrev pub assignment_of : Octagon → ℕ → Option ℕ → ℤ → Octagon
+assignment_of m k t c = octagon_of m.vars (assigned (entry m) k t c)

@@ -1,7 +1,7 @@
 -- Guards on one or two places.
-use Rattle.std.specs.Prelude.{◌≢◌, ℕ, ◌<◌, ◌*◌, ℤ, pos, ◌+ℤ◌, ◌≤ℤ◌, Option, Some, None}
+use Rattle.std.specs.Prelude.{◌≢◌, ℕ, ◌<◌, ◌*◌, if◌then◌else◌, ℤ, pos, ◌+ℤ◌, ◌≤ℤ◌, int_lt, Option, Some, None}
 use Rattle.pk_octmat.specs.Bounds.{lesser, capped}
-use Rattle.pk_octmat.specs.Octagon.{bar, side, written}
+use Rattle.pk_octmat.specs.Octagon.{Octagon, entry, bar, side, written, octagon_of}
 
 -- a guard's terms over n variables: the second asks for the first, and is not its negative
 abbrev pub IsGuard : ℕ → Option ℕ → Option ℕ → Type 0
@@ -27,3 +27,13 @@ guarded e None None c = e
 guarded e None (Some b) c = e
 guarded e (Some a) None c = lowered e (bar a) a (c +ℤ c)
 guarded e (Some a) (Some b) c = lowered e (bar b) a c
+
+-- the bound that is stored, for the second term
+abbrev pub bound_of : Option ℕ → ℤ → ℤ
+bound_of None c = c +ℤ c
+bound_of (Some b) c = c
+
+-- the matrix after a guard, if there is one
+abbrev pub guard_of : Octagon → Option ℕ → Option ℕ → ℤ → Option Octagon
+guard_of m None b c = if int_lt c (pos 0) then None else Some m
+guard_of m (Some a) b c = Some (octagon_of m.vars (guarded (entry m) (Some a) b c))

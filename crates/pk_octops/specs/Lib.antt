@@ -3,3 +3,4 @@ pub mod Guards
 pub mod Assigns
 pub mod Values
 pub mod Chains
+pub mod Laws

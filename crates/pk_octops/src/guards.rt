@@ -3,11 +3,13 @@
 ghost use Rattle.std.specs.Prelude.{◌≡◌, ◌≢◌, ◌↔◌, ℕ, ℤ, pos, ◌≤ℤ◌, ◌<ℤ◌, ◌+ℤ◌, ◌-ℤ◌, ◌<◌, ◌*◌, ◌^◌, Option, Some, None};
 ghost use Rattle.pk_octmat.specs.Bounds.{AtMost, capped};
 ghost use Rattle.pk_octmat.specs.Octagon.{entry, written, side, bar as other, Meets};
-ghost use Rattle.pk_octops.specs.Guards.{IsGuard, Obeys, guarded, lowered};
-ghost use Rattle.pk_octclose.specs.declared.closing.Shape.TheVariants.{Kept, Empty};
+ghost use Rattle.pk_octmat.specs.Bounds.{IsNear};
+ghost use Rattle.pk_octmat.specs.Octagon.{IsOctagon};
+ghost use Rattle.pk_octmat.specs.Shapes.{left_of};
+ghost use Rattle.pk_octops.specs.Guards.{IsGuard, Obeys, guarded, guard_of, lowered, bound_of};
+ghost use Rattle.pk_octmat.specs.declared.shape.Shape.TheVariants.{Kept, Empty};
 
-use pk_octclose::Shape;
-use pk_octmat::{Bound, Matrix, bar};
+use pk_octmat::{Bound, Matrix, Shape, bar};
 
 /// The place of the negative.
 fn opposite(i: u32) -> u32
@@ -31,18 +33,25 @@ fn lower(m: &mut Matrix, i: u32, j: u32, c: i128)
     ensures vars { m.new.vars ≡ m.old.vars }
     ensures value { (a b : ℕ) → entry m.new a b ≡ lowered (entry m.old) i j c a b }
     ensures sound { (x : ℕ → ℤ) → Meets (entry m.old) x → AtMost (Some (side x j -ℤ side x i)) (capped (Some c)) → Meets (entry m.new) x }
+    ensures was { IsOctagon m.old }
+    ensures octagon { IsOctagon m.new }
 {
+    m.is_octagon();
     let least = m.bound(i, j).lesser(Bound::of(Some(c)));
     m.set(i, j, least.number());
+    m.is_octagon();
 }
 
-/// Keeps the integers with V(a) + V(b) <= c, where terms that are none are left out. Empty where no term is left and c is negative.
+/// Keeps the integers with V(a) + V(b) <= c, where terms that are none are left out: exactly these, where the bound that is stored (2c for one term) lies within 2^66 of 0.
+/// Empty where no term is left and c is negative.
 pub fn guard(m: &mut Matrix, a: Option<u32>, b: Option<u32>, c: i128) -> Shape
     requires { IsGuard m.old.vars a b }
     ensures vars { m.new.vars ≡ m.old.vars }
     ensures empty { (result ≡ Empty) ↔ ((a ≡ None) × (c <ℤ pos 0)) }
     ensures value { (i j : ℕ) → entry m.new i j ≡ guarded (entry m.old) a b c i j }
+    ensures is { left_of result m.new ≡ guard_of m.old a b c }
     ensures sound { (x : ℕ → ℤ) → Meets (entry m.old) x → Obeys x a b c → (result ≡ Kept) × Meets (entry m.new) x }
+    ensures exact { result ≡ Kept → IsNear (2 ^ 66) (Some (bound_of b c)) → (x : ℕ → ℤ) → Meets (entry m.new) x → Meets (entry m.old) x × Obeys x a b c }
 {
     match (a, b) {
         (None, _) => { if c < 0 { Shape::Empty } else { Shape::Kept } }

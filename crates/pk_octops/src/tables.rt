@@ -3,7 +3,7 @@
 ghost use Rattle.std.specs.Prelude.{◌≡◌, ◌%◌, ℕ, ℤ, ◌<◌, ◌*◌, ◌^◌, ◌⊎◌, ◌↔◌, IfOk, length, Bool, true, false};
 ghost use Rattle.pk_octmat.specs.Bounds.{AtMost, greater as greater_of};
 ghost use Rattle.pk_octmat.specs.Octagon.{entry, cell_at, HasEntries, IsMatrix, Meets};
-ghost use Rattle.pk_octops.specs.Tables.{IsBelow, widened as widened_of, narrowed as narrowed_of};
+ghost use Rattle.pk_octops.specs.Tables.{IsBelow, widened as widened_of, narrowed as narrowed_of, join_of, widening_of, narrowing_of};
 ghost use Rattle.pk_octops.specs.Chains.{IsWidening};
 
 use pk_octmat::{Bound, Matrix};
@@ -112,27 +112,36 @@ fn filled(h: &Matrix, n: &Matrix) -> Result<Matrix, AllocError>
 pub fn join(a: &Matrix, b: &Matrix) -> Result<Matrix, AllocError>
     requires { a.now.vars ≡ b.now.vars }
     ensures value { IfOk result (HasEntries a.now.vars (λ i j. greater_of (entry a.now i j) (entry b.now i j))) }
+    ensures is { IfOk result (λ m. m ≡ join_of a.now b.now) }
     ensures sound { IfOk result (λ m. (x : ℕ → ℤ) → Meets (entry a.now) x ⊎ Meets (entry b.now) x → Meets (entry m) x) }
 {
-    joined(a, b)
+    let m = joined(a, b)?;
+    m.is_octagon();
+    Ok(m)
 }
 
 /// Each bound of `h` if that of `n` is at most it, else none: a matrix that the integers of both meet.
 pub fn widen(h: &Matrix, n: &Matrix) -> Result<Matrix, AllocError>
     requires { h.now.vars ≡ n.now.vars }
     ensures value { IfOk result (IsWidening h.now n.now) }
+    ensures is { IfOk result (λ m. m ≡ widening_of h.now n.now) }
     ensures sound { IfOk result (λ m. (x : ℕ → ℤ) → Meets (entry h.now) x ⊎ Meets (entry n.now) x → Meets (entry m) x) }
 {
-    loosened(h, n)
+    let m = loosened(h, n)?;
+    m.is_octagon();
+    Ok(m)
 }
 
 /// Each bound of `h`, or that of `n` where it is none: a matrix that the integers meet which meet both.
 pub fn narrow(h: &Matrix, n: &Matrix) -> Result<Matrix, AllocError>
     requires { h.now.vars ≡ n.now.vars }
     ensures value { IfOk result (HasEntries h.now.vars (λ i j. narrowed_of (entry h.now i j) (entry n.now i j))) }
+    ensures is { IfOk result (λ m. m ≡ narrowing_of h.now n.now) }
     ensures sound { IfOk result (λ m. (x : ℕ → ℤ) → Meets (entry h.now) x → Meets (entry n.now) x → Meets (entry m) x) }
 {
-    filled(h, n)
+    let m = filled(h, n)?;
+    m.is_octagon();
+    Ok(m)
 }
 
 /// Whether each bound is at most that of another matrix.

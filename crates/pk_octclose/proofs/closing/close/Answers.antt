@@ -2,8 +2,11 @@ use Rattle.std.specs.Prelude.{◌≡◌, ◌*◌, ◌<◌, ◌↔◌, ℕ, ℤ, 
 use Rattle.std.proofs.Common.{◌∙◌, ap, subst, sym}
 use Rattle.std.proofs.lemmas.List.{with_items_is}
 use Rattle.std.specs.Vec.{with_items}
-use Rattle.pk_octmat.specs.Octagon.{Octagon, cell_at, entry, top_bound, Meets}
-use Rattle.pk_octclose.specs.declared.closing.Shape.TheVariants.{Kept, Empty}
+use Rattle.pk_octmat.specs.Octagon.{Octagon, cell_at, entry, top_bound, IsOctagon, Meets}
+use Rattle.pk_octmat.specs.Shapes.{left_of}
+use Rattle.pk_octclose.specs.Places.{closing_of}
+use Rattle.pk_octclose.proofs.Floyd.{close_is}
+use Rattle.pk_octmat.specs.declared.shape.Shape.TheVariants.{Kept, Empty}
 use Rattle.pk_octclose.specs.Closing.{IsClosing, IsEmpty, IsClosed, KeepsPoints}
 use Rattle.pk_octclose.proofs.closing.close.Goals as goal
 
@@ -40,3 +43,12 @@ returns-clause-empty c = subst (λ (o : Octagon). (c.close_cells.result ≡ Empt
 
 pub returns-clause-none : goal.returns-clause-none
 returns-clause-none c = subst (λ (o : Octagon). c.close_cells.result ≡ Empty → (x : ℕ → ℤ) → Meets (entry o) x → ⊥) (was c) c.close_cells.ensures.none
+
+pub returns-clause-value : goal.returns-clause-value
+returns-clause-value c =
+    let n : Octagon = record { vars = c.m.inside.vars; cells = c.close_cells.new.cells } in
+    subst (λ (xs : List (Option ℤ)). let o : Octagon = record { vars = c.m.inside.vars; cells = xs } in left_of c.close_cells.result o ≡ closing_of c.args.m.now) (sym (made c))
+    (close_is c.close_cells.result c.args.m.now n (subst (λ (o : Octagon). IsOctagon o) c.m.view_is c.m.invariant) (record { few = c.m.invariant.few; whole = c.close_cells.ensures.whole })
+    (ap (λ (o : Octagon). o.vars) c.m.view_is)
+    (subst (λ (o : Octagon). c.close_cells.result ≡ Kept → IsClosing (2 * o.vars) (entry o) (entry n)) (was c) c.close_cells.ensures.kept)
+    (subst (λ (o : Octagon). c.close_cells.result ≡ Empty → IsEmpty (2 * o.vars) (entry o)) (was c) c.close_cells.ensures.empty.0))

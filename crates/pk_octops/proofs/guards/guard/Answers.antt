@@ -1,12 +1,13 @@
-use Rattle.std.proofs.Common.{ap, refl, sym, subst, ◌∙◌, ◌≡◌, Some, to_z, of_z}
+use Rattle.std.proofs.Common.{ℕ, ap, refl, sym, subst, ◌∙◌, ◌≡◌, Some, to_z, of_z}
 use Rattle.std.specs.Prelude.{◌-ℤ◌, ◌+ℤ◌}
 use Rattle.std.specs.Int.{w128}
 use Rattle.std.specs.Int.RustNames.{FitsSigned}
 use Rattle.std.proofs.lemmas.Int.{to_z-of_z}
 use Rattle.std.proofs.Common.{rules}
 use Rattle.pk_octmat.specs.Bounds.{AtMost, capped, lesser}
-use Rattle.pk_octmat.specs.Octagon.{bar, entry, side, written}
-use Rattle.pk_octops.specs.Guards.{Obeys, guarded, lowered}
+use Rattle.pk_octmat.specs.Octagon.{bar, entry, side, written, Meets}
+use Rattle.pk_octops.specs.Guards.{Obeys, guard_of, guarded, lowered}
+use Rattle.pk_octops.proofs.Kept.{guard_exact, guard_is}
 use Rattle.pk_octops.proofs.Along.{one_term, two_terms}
 use Rattle.pk_octops.proofs.guards.guard.Goals as goal
 use Rattle.pk_octops.proofs.guards.guard.Goals.{After-lower}
@@ -48,3 +49,31 @@ returns-in-Some-Some-clause-sound c = λ x m h.
     let held = two_terms x c.in-Some-Some.a c.in-Some-Some.b c.opposite-in-Some-Some.result c.args.c c.opposite-in-Some-Some.ensures both in
     let passed = subst (λ z. AtMost (Some (side x c.in-Some-Some.a -ℤ side x c.opposite-in-Some-Some.result)) (capped (Some z))) (sym (to_z-of_z w128 c.args.c c.ranges.c)) held in
     (refl, c.lower-in-Some-Some.ensures.sound x m passed)
+
+pub returns-in-Some-None-clause-is : goal.returns-in-Some-None-clause-is
+returns-in-Some-None-clause-is c =
+    let n = c.lower.new.m in
+    subst (λ t. Some n ≡ guard_of c.args.m.now t c.args.b c.args.c) (sym c.in-Some-None.is-0)
+    (guard_is c.args.m.now n c.in-Some-None.a c.args.b c.args.c c.lower.ensures.octagon c.lower.ensures.vars
+    (subst (λ t. (i j : ℕ) → entry n i j ≡ guarded (entry c.args.m.now) t c.args.b c.args.c i j) c.in-Some-None.is-0 (returns-in-Some-None-clause-value c)))
+
+pub returns-in-Some-None-clause-exact : goal.returns-in-Some-None-clause-exact
+returns-in-Some-None-clause-exact c = λ e near x k.
+    let n = c.lower.new.m in
+    subst (λ t. Meets (entry c.args.m.now) x × Obeys x t c.args.b c.args.c) (sym c.in-Some-None.is-0)
+    (guard_exact c.args.m.now (entry n) c.in-Some-None.a c.args.b c.args.c x c.lower.ensures.was
+    (subst (λ t. (i j : ℕ) → entry n i j ≡ guarded (entry c.args.m.now) t c.args.b c.args.c i j) c.in-Some-None.is-0 (returns-in-Some-None-clause-value c)) near k)
+
+pub returns-in-Some-Some-clause-is : goal.returns-in-Some-Some-clause-is
+returns-in-Some-Some-clause-is c =
+    let n = c.lower-in-Some-Some.new.m in
+    subst (λ t. Some n ≡ guard_of c.args.m.now t c.args.b c.args.c) (sym c.in-Some-Some.is-0)
+    (guard_is c.args.m.now n c.in-Some-Some.a c.args.b c.args.c c.lower-in-Some-Some.ensures.octagon c.lower-in-Some-Some.ensures.vars
+    (subst (λ t. (i j : ℕ) → entry n i j ≡ guarded (entry c.args.m.now) t c.args.b c.args.c i j) c.in-Some-Some.is-0 (returns-in-Some-Some-clause-value c)))
+
+pub returns-in-Some-Some-clause-exact : goal.returns-in-Some-Some-clause-exact
+returns-in-Some-Some-clause-exact c = λ e near x k.
+    let n = c.lower-in-Some-Some.new.m in
+    subst (λ t. Meets (entry c.args.m.now) x × Obeys x t c.args.b c.args.c) (sym c.in-Some-Some.is-0)
+    (guard_exact c.args.m.now (entry n) c.in-Some-Some.a c.args.b c.args.c x c.lower-in-Some-Some.ensures.was
+    (subst (λ t. (i j : ℕ) → entry n i j ≡ guarded (entry c.args.m.now) t c.args.b c.args.c i j) c.in-Some-Some.is-0 (returns-in-Some-Some-clause-value c)) near k)

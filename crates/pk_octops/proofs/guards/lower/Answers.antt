@@ -6,9 +6,9 @@ use Rattle.pk_octmat.specs.Octagon.{entry, written}
 use Rattle.pk_octops.specs.Guards.{lowered}
 use Rattle.pk_octops.proofs.Along.{lowered_holds, lowered_is}
 use Rattle.pk_octops.proofs.guards.lower.Goals as goal
-use Rattle.pk_octops.proofs.guards.lower.Goals.{After-set}
+use Rattle.pk_octops.proofs.guards.lower.Goals.{After-is_octagon-2}
 
-value : (c : After-set) (a b : ℕ) → entry c.set.new.self a b ≡ lowered (entry c.args.m.now) c.args.i c.args.j c.args.c a b
+value : (c : After-is_octagon-2) (a b : ℕ) → entry c.set.new.self a b ≡ lowered (entry c.args.m.now) c.args.i c.args.j c.args.c a b
 value c a b =
     c.set.ensures.value a b
     ∙ ap (λ s. written (entry c.args.m.now) c.args.i c.args.j s a b)

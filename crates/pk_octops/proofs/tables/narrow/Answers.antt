@@ -1,6 +1,9 @@
-use Rattle.std.proofs.lemmas.Result.{IfOk-weaker}
+use Rattle.pk_octmat.proofs.Tabled.{octagon_is}
 use Rattle.pk_octops.proofs.Sound.{narrow_sound}
 use Rattle.pk_octops.proofs.tables.narrow.Goals as goal
 
 pub returns-clause-sound : goal.returns-clause-sound
-returns-clause-sound c = IfOk-weaker c.filled.result _ _ (λ m h. narrow_sound c.args.h.now.vars c.args.h.now c.args.n.now m h) c.filled.ensures
+returns-clause-sound c = narrow_sound c.args.h.now.vars c.args.h.now c.args.n.now c.in_ok-m.m c.in_ok-m.ensures
+
+pub returns-clause-is : goal.returns-clause-is
+returns-clause-is c = octagon_is c.args.h.now.vars _ c.in_ok-m.m c.is_octagon.ensures c.in_ok-m.ensures

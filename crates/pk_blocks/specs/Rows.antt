@@ -1,0 +1,17 @@
+-- Lists in rows, as one list.
+use Rattle.std.specs.Prelude.{◌≡◌, ℕ, ◌+◌, List, [], ◌∷◌, ◌++◌, All, length}
+
+-- the rows' items, one row after another
+abbrev pub flat : {A : Type 0} → List (List A) → List A
+flat [] = []
+flat (b ∷ bs) = b ++ flat bs
+
+-- each row has n items
+abbrev pub AreRows : {A : Type 0} → ℕ → List (List A) → Type 0
+AreRows n bs = All (λ b. length b ≡ n) bs
+
+-- f of each two items and their place, which is counted from i
+abbrev pub merged_from : {A : Type 0} → (ℕ → A → A → A) → ℕ → List A → List A → List A
+merged_from f i [] ys = []
+merged_from f i (x ∷ xs) [] = []
+merged_from f i (x ∷ xs) (y ∷ ys) = f i x y ∷ merged_from f (i + 1) xs ys

@@ -1,0 +1,149 @@
+// Lists in groups of blocks.
+
+ghost use Rattle.std.specs.Prelude.{◌≡◌, ◌<◌, ◌≤◌, ◌+◌, ◌*◌, ◌/◌, ◌%◌, ◌^◌, ℕ, true, IfOk, OnOk, OnErr, length, take, slice_get, slice_set, Some, replicate};
+ghost use Rattle.pk_blocks.specs.Rows.{flat, AreRows, merged_from};
+
+use crate::block::Block;
+use crate::group::{GROUP, Group};
+use crate::item::{Item, Merge};
+use std::alloc::{AllocError, Global};
+use std::marker::Model;
+
+/// A list. Copies share what they have in common.
+#[derive(Drop)]
+pub struct Blocks<T: Item> {
+    // Each has 512 items; those past the length are any.
+    groups: Vec<Group<T>>,
+    count: usize,
+}
+
+impl<T: Item> Model for Blocks<T> {
+    ghost use Rattle.std.specs.Prelude.{◌≡◌, ◌<◌, ◌+◌, ◌/◌, ◌^◌, List, length, take};
+    ghost use Rattle.pk_blocks.specs.Rows.{flat, AreRows};
+
+    ghost Value = { List T };
+
+    ghost view = { λ b. take b.count (flat b.groups.items) };
+
+    ghost invariant = { λ b. AreRows 512 b.groups.items × (length b.groups.items ≡ b.count / 512 + 1) × (b.count < 2 ^ 60) };
+}
+
+// The same groups, shared once more.
+fn shared<T: Item>(alloc: Global, groups: &[Group<T>]) -> Result<Vec<Group<T>>, AllocError>
+    ensures { IfOk result (λ v. v.items ≡ groups.now) }
+{
+    let mut out = Vec::with_capacity(alloc, groups.len())?;
+    for group in groups {
+        out.push(group.share()?)?;
+    }
+    Ok(out)
+}
+
+// So many groups, all alike.
+fn filled_groups<T: Item>(
+    alloc: Global,
+    group: &Group<T>,
+    count: usize,
+) -> Result<Vec<Group<T>>, AllocError>
+    ensures { IfOk result (λ v. v.items ≡ replicate count group.now) }
+{
+    let mut out = Vec::with_capacity(alloc, count)?;
+    for _ in 0..count {
+        out.push(group.share()?)?;
+    }
+    Ok(out)
+}
+
+// The groups merged.
+fn merge_groups<T: Item, M: Merge<T>>(
+    alloc: Global,
+    a: &[Group<T>],
+    b: &[Group<T>],
+    by: &M,
+) -> Result<Vec<Group<T>>, AllocError>
+    requires rows { AreRows 512 a.now }
+    requires others { AreRows 512 b.now }
+    requires count { length a.now ≡ length b.now }
+    requires room { length a.now * 512 < 2 ^ 61 }
+    ensures value { IfOk result (λ v. flat v.items ≡ merged_from (M.merged by.now) 0 (flat a.now) (flat b.now)) }
+    ensures rows { IfOk result (λ v. AreRows 512 v.items) }
+    ensures count { IfOk result (λ v. length v.items ≡ length a.now) }
+{
+    let mut out = Vec::with_capacity(alloc, a.len())?;
+    for k in 0..a.len() {
+        let pair = a[k].merge(alloc, &b[k], by, k * GROUP)?;
+        out.push(pair.0)?;
+    }
+    Ok(out)
+}
+
+impl<T: Item> Blocks<T> {
+    /// So many times the same item. There is no memory for 2^60 or more.
+    pub fn filled(alloc: Global, item: T, count: usize) -> Result<Blocks<T>, AllocError>
+        ensures { IfOk result (λ b. b ≡ replicate count item) }
+    {
+        if 1 << 60 <= count {
+            return Err(AllocError);
+        }
+        let block = Block::filled(alloc, item)?;
+        let group = Group::filled(alloc, &block)?;
+        Ok(Blocks {
+            groups: filled_groups(alloc, &group, count / GROUP + 1)?,
+            count,
+        })
+    }
+
+    /// How many items there are.
+    pub fn len(&self) -> usize
+        ensures value { result ≡ length self.now }
+        ensures small { result < 2 ^ 60 }
+    {
+        self.count
+    }
+
+    /// The item of a place.
+    pub fn get(&self, i: usize) -> T
+        requires { i < length self.now }
+        ensures { slice_get self.now i ≡ Some result }
+    {
+        self.groups[i / GROUP].get(i % GROUP)
+    }
+
+    /// Writes an item: its block is copied, and the rest stays shared.
+    pub fn set(&mut self, alloc: Global, i: usize, item: T) -> Result<(), AllocError>
+        requires { i < length self.old }
+        ensures ok { OnOk result (self.new ≡ slice_set self.old i item) }
+        ensures err { OnErr result (self.new ≡ self.old) }
+    {
+        let k = i / GROUP;
+        let group = self.groups[k].with(alloc, i % GROUP, item)?;
+        self.groups[k] = group;
+        Ok(())
+    }
+
+    /// The same list, which shares each block.
+    pub fn copy(&self, alloc: Global) -> Result<Blocks<T>, AllocError>
+        ensures { IfOk result (λ b. b ≡ self.now) }
+    {
+        Ok(Blocks {
+            groups: shared(alloc, &self.groups)?,
+            count: self.count,
+        })
+    }
+
+    /// Item by item; blocks that stay as they are here are shared.
+    pub fn merge<M: Merge<T>>(
+        &self,
+        alloc: Global,
+        other: &Blocks<T>,
+        by: &M,
+    ) -> Result<Blocks<T>, AllocError>
+        requires { length self.now ≡ length other.now }
+        ensures { IfOk result (λ b. b ≡ merged_from (M.merged by.now) 0 self.now other.now) }
+    {
+        Ok(Blocks {
+            groups: merge_groups(alloc, &self.groups, &other.groups, by)?,
+            count: self.count,
+        })
+    }
+}

@@ -1,0 +1,4 @@
+pub mod Reduction
+pub mod Known
+pub mod Values
+pub mod Laws

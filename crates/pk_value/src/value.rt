@@ -1,0 +1,75 @@
+// What is known of a number.
+
+ghost use Rattle.std.specs.Prelude.{◌≡◌, ◌↔◌, true, ◌<◌, ◌^◌, IfSome, unsigned_abs};
+ghost use Rattle.pk_interval.specs.Ranges.{IsIn};
+ghost use Rattle.pk_congr.specs.Laws.{IsOf};
+ghost use Rattle.pk_value.specs.Known.{Known, any_of, exactly, red_known};
+
+use crate::reduction::reduce;
+use pk_congr::Congr;
+use pk_ctypes::IntType;
+use pk_interval::{Interval, point, whole};
+use std::marker::Model;
+
+/// What is known of a number: an interval and a congruence. Its type stands elsewhere.
+#[derive(Clone, Copy)]
+pub struct Value {
+    pub interval: Interval,
+    pub congr: Congr,
+}
+
+impl Model for Value {
+    ghost use Rattle.pk_value.specs.Known.{Known};
+
+    ghost Value = { Known };
+
+    ghost view = { λ v. record { range = v.interval; class = v.congr } };
+
+    ghost inverse = { λ k. record { interval = k.range; congr = k.class } };
+}
+
+impl Value {
+    /// Any number of a type.
+    pub fn any(t: IntType) -> Value
+        ensures { result ≡ any_of t }
+    {
+        Value {
+            interval: whole(t),
+            congr: Congr::every(),
+        }
+    }
+
+    /// One number.
+    pub fn exactly(z: i128) -> Value
+        requires { unsigned_abs z < 2 ^ 127 }
+        ensures { result ≡ exactly z }
+    {
+        Value {
+            interval: point(z),
+            congr: Congr::constant(z),
+        }
+    }
+
+    /// Both parts, each as tight as the other lets it be, or none where no number is left.
+    pub fn reduced(&self, t: IntType) -> Option<Value>
+        requires { IsIn t self.now.range }
+        ensures value { result ≡ red_known self.now }
+        ensures inside { IfSome result (λ k. IsIn t k.range) }
+        ensures class { IfSome result (λ k. IsOf t k.class) }
+    {
+        match reduce(t, &self.interval, &self.congr) {
+            None => None,
+            Some(both) => Some(Value {
+                interval: both.0,
+                congr: both.1,
+            }),
+        }
+    }
+
+    /// Whether both know the same.
+    pub fn equals(&self, other: &Value) -> bool
+        ensures { result ≡ true ↔ self.now ≡ other.now }
+    {
+        self.interval.equals(&other.interval) && self.congr.equals(&other.congr)
+    }
+}
