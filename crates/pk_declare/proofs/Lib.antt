@@ -1,0 +1,5 @@
+pub mod ListLemmas
+pub mod TableLemmas
+pub mod ItemLemmas
+pub mod PartLemmas
+pub mod DeclaratorLemmas

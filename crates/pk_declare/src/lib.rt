@@ -1,0 +1,16 @@
+//! Declared objects of C functions (C99 6.7): which rules a declaration breaks in its scope, and its typed tree where none leaves it without one.
+#![tactic(auto)]
+
+mod constants;
+mod declarators;
+mod initializers;
+mod parts;
+mod specials;
+mod walk;
+mod words;
+
+pub use constants::Evaluated;
+pub use parts::Parts;
+pub use specials::special;
+pub use walk::Walk;
+pub use words::Words;
