@@ -208,7 +208,7 @@ values_kept = record {
 
 -- ---- guards, exactly
 
-written_below : (e : ℕ → ℕ → Option ℤ) (i j : ℕ) (b : Option ℤ) (a c : ℕ) → ((i j : ℕ) → e i j ≡ e (bar j) (bar i)) → AtMost b (e i j) → AtMost (written e i j b a c) (e a c)
+pub written_below : (e : ℕ → ℕ → Option ℤ) (i j : ℕ) (b : Option ℤ) (a c : ℕ) → ((i j : ℕ) → e i j ≡ e (bar j) (bar i)) → AtMost b (e i j) → AtMost (written e i j b a c) (e a c)
 written_below e i j b a c turned h = by (is_place a c i j) (is_place a c (bar j) (bar i))
   where
     by : IsPlace a c i j ⊎ (IsPlace a c i j → ⊥) → IsPlace a c (bar j) (bar i) ⊎ (IsPlace a c (bar j) (bar i) → ⊥) → AtMost (written e i j b a c) (e a c)

@@ -228,7 +228,7 @@ at_from c lo hi p h e = by (int_lt lo hi) (int_lt hi lo) e
     by false true f = absurd (cc)
     by false false f = let one : Range × Class = (single lo, constant lo) in let same : one ≡ p = cc in subst (λ (q : Range × Class). pos 0 ≤ℤ q.1.m) same (natural 0)
 
-red_from : (r : Range) (c : Class) (p : Range × Class) → pos 0 ≤ℤ c.m → red r c ≡ Some p → pos 0 ≤ℤ p.1.m
+pub red_from : (r : Range) (c : Class) (p : Range × Class) → pos 0 ≤ℤ c.m → red r c ≡ Some p → pos 0 ≤ℤ p.1.m
 red_from r c p h e = by (next_up_of c r.lo) (next_down_of c r.hi) e
   where
     by : (l m : Option ℤ) → reduced_if c l m ≡ Some p → pos 0 ≤ℤ p.1.m

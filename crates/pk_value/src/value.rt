@@ -6,6 +6,7 @@ ghost use Rattle.pk_congr.specs.Laws.{IsOf};
 ghost use Rattle.pk_value.specs.Known.{Known, any_of, exactly, red_known};
 
 use crate::reduction::reduce;
+use pk_blocks::Item;
 use pk_congr::Congr;
 use pk_ctypes::IntType;
 use pk_interval::{Interval, point, whole};
@@ -71,5 +72,11 @@ impl Value {
         ensures { result ≡ true ↔ self.now ≡ other.now }
     {
         self.interval.equals(&other.interval) && self.congr.equals(&other.congr)
+    }
+}
+
+impl Item for Value {
+    fn same(&self, other: &Value) -> bool {
+        self.equals(other)
     }
 }

@@ -1,0 +1,40 @@
+-- The state of which nothing is known.
+use Rattle.std.specs.Prelude.{◌≡◌, ℕ, zero, suc, ◌<◌, List, [], ◌∷◌, ◌++◌, map, replicate, length, slice_index_or}
+use Rattle.std.proofs.Common.{ap, refl, sym, subst, arith, set, take, drop}
+use Rattle.std.proofs.Math.ListN.{get_or-map}
+use Rattle.std.proofs.lemmas.List.{length-map}
+use Rattle.std.proofs.lemmas.Int.{ints}
+use Rattle.pk_ctypes.specs.declared.types.IntType.{IntType}
+use Rattle.pk_ctypes.specs.declared.types.IntType.TheVariants.{Int}
+use Rattle.pk_ctypes.proofs.Wrapped.{zero_in}
+use Rattle.pk_interval.proofs.Keeping.{stays}
+use Rattle.pk_value.specs.Known.{any_of}
+use Rattle.pk_octmat.specs.Octagon.{bar, top_bound}
+use Rattle.pk_octmat.proofs.Matrices.{top_same, top_turned, top_near}
+use Rattle.pk_octmat.proofs.Tabled.{octagon_from}
+use Rattle.pk_state.specs.Layouts.{Layout, IsLayout, type_at}
+use Rattle.pk_state.specs.Facts.{AreFacts, top_facts}
+use Rattle.pk_state.proofs.Stays.{IsValue}
+use Rattle.pk_state.proofs.Held.{every_reduced, values_from}
+
+pub top_set : (ts : List IntType) (k : ℕ) → k < length ts
+    → set (map any_of (take k ts) ++ drop k (replicate (length ts) (any_of Int))) k (any_of (slice_index_or ts k Int)) ≡ map any_of (take (suc k) ts) ++ drop (suc k) (replicate (length ts) (any_of Int))
+top_set [] k p = absurd (omega arith)
+top_set (t ∷ ts) zero p = refl
+top_set (t ∷ ts) (suc k) p = ap (λ vs. any_of t ∷ vs) (top_set ts k (omega arith))
+
+any_value : (t : IntType) → IsValue t (any_of t)
+any_value t = let z = zero_in t in record { inside = stays.whole_in t; some = omega (arith, ints, z.0, z.1); class = every_reduced }
+
+pub top_stays : (l : Layout) → IsLayout l → AreFacts l (top_facts l)
+top_stays l h = record {
+  values = values_from l (map any_of l.types) (length-map l.types any_of) (λ x p. subst (IsValue (type_at l x)) (sym (get_or-map any_of l.types x Int)) (any_value (type_at l x)));
+  vars = refl;
+  octagon =
+      octagon_from (length l.chosen) top_bound (record {
+        few = h.few;
+        zero = λ i id. top_same i;
+        turned = λ i j id jd. top_turned i j (bar j) (bar i) refl refl;
+        near = λ i j id jd. top_near i j;
+      });
+}

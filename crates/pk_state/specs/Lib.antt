@@ -1,0 +1,4 @@
+pub mod Layouts
+pub mod Facts
+pub mod Reduced
+pub mod Members

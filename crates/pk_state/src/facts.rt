@@ -1,0 +1,186 @@
+// What is known where a run may come: a value of each variable, and an octagon.
+
+ghost use Rattle.std.specs.Prelude.{◌≡◌, ◌↔◌, ◌<◌, ◌^◌, true, IfOk, length, map, Some};
+ghost use Rattle.std.specs.Arc.{arc_value};
+ghost use Rattle.std.specs.List.Sorted.{IsSorted};
+ghost use Rattle.std.specs.Ordering.{int_cmp};
+ghost use Rattle.pk_octops.specs.Tables.{join_of, widening_of, narrowing_of};
+ghost use Rattle.pk_state.specs.Facts.{AreFacts, AreWithin, joined_values, widened_values, narrowed_values, top_facts as top_of};
+ghost use Rattle.pk_octmat.specs.Octagon.{octagon_of, top_bound};
+ghost use Rattle.pk_value.specs.Known.{any_of};
+ghost use Rattle.pk_state.specs.Reduced.{reduced_facts};
+
+use crate::frame::Frame;
+use crate::octagons::{join_shared, lower_all, narrow_shared, widen_shared};
+use crate::values::{
+    bound_values, join_values, leq_values, narrow_values, reduce_values, same_values, widen_values,
+};
+use pk_blocks::Blocks;
+use pk_ctypes::IntType;
+use pk_octclose::close;
+use pk_octmat::{Matrix, Shape};
+use pk_octops::leq;
+use pk_value::Value;
+use std::alloc::{AllocError, Global};
+use std::marker::Model;
+use std::sync::Arc;
+
+#[derive(Drop)]
+pub(crate) struct Facts {
+    pub(crate) values: Blocks<Value>,
+    pub(crate) octagon: Arc<Matrix>,
+}
+
+impl Model for Facts {
+    ghost use Rattle.std.specs.Arc.{arc_value};
+    ghost use Rattle.pk_state.specs.Facts.{Facts};
+
+    ghost Value = { Facts };
+
+    ghost view = { λ f. record { values = f.values; octagon = arc_value f.octagon } };
+}
+
+// No bounds on n variables.
+fn top_octagon(alloc: Global, n: usize) -> Result<Matrix, AllocError>
+    requires { n < 2 ^ 31 }
+    ensures { IfOk result (λ m. m ≡ octagon_of n top_bound) }
+{
+    let m = Matrix::top(alloc, n as u32)?;
+    m.is_octagon();
+    Ok(m)
+}
+
+// Any number of each variable's type.
+fn top_values(alloc: Global, frame: &Frame) -> Result<Blocks<Value>, AllocError>
+    ensures { IfOk result (λ v. v ≡ map any_of frame.now.types) }
+{
+    let mut values = Blocks::filled(alloc, Value::any(IntType::Int), frame.len())?;
+    for x in 0..frame.len() {
+        values.set(alloc, x, Value::any(frame.int_type(x)))?;
+    }
+    Ok(values)
+}
+
+/// Any number of each variable's type, and no bound.
+pub(crate) fn top_facts(alloc: Global, frame: &Frame) -> Result<Facts, AllocError>
+    ensures { IfOk result (λ f. f ≡ top_of frame.now) }
+{
+    frame.is_layout();
+    Ok(Facts {
+        values: top_values(alloc, frame)?,
+        octagon: Arc::new(alloc, top_octagon(alloc, frame.octagon_len())?)?,
+    })
+}
+
+/// The same facts, shared.
+pub(crate) fn copy_facts(alloc: Global, f: &Facts) -> Result<Facts, AllocError>
+    ensures { IfOk result (λ g. g ≡ f.now) }
+{
+    Ok(Facts {
+        values: f.values.copy(alloc)?,
+        octagon: Arc::try_clone(&f.octagon)?,
+    })
+}
+
+pub(crate) fn join_facts(alloc: Global, a: &Facts, b: &Facts) -> Result<Facts, AllocError>
+    requires size { length a.now.values ≡ length b.now.values }
+    requires vars { b.now.octagon.vars ≡ a.now.octagon.vars }
+    ensures { IfOk result (λ f. f ≡ record { values = joined_values a.now.values b.now.values; octagon = join_of a.now.octagon b.now.octagon }) }
+{
+    Ok(Facts {
+        values: join_values(alloc, &a.values, &b.values)?,
+        octagon: join_shared(alloc, &a.octagon, &b.octagon)?,
+    })
+}
+
+pub(crate) fn widen_facts(
+    alloc: Global,
+    held: &Facts,
+    next: &Facts,
+    frame: &Frame,
+    thresholds: &[i128],
+) -> Result<Facts, AllocError>
+    requires held { AreFacts frame.now held.now }
+    requires next { AreFacts frame.now next.now }
+    requires rising { IsSorted int_cmp thresholds.now }
+    ensures { IfOk result (λ f. f ≡ record { values = widened_values frame.now thresholds.now held.now.values next.now.values; octagon = widening_of held.now.octagon next.now.octagon }) }
+{
+    Ok(Facts {
+        values: widen_values(alloc, &held.values, &next.values, frame, thresholds)?,
+        octagon: widen_shared(alloc, &held.octagon, &next.octagon)?,
+    })
+}
+
+pub(crate) fn narrow_facts(
+    alloc: Global,
+    held: &Facts,
+    next: &Facts,
+    frame: &Frame,
+) -> Result<Facts, AllocError>
+    requires held { AreFacts frame.now held.now }
+    requires next { AreFacts frame.now next.now }
+    ensures { IfOk result (λ f. f ≡ record { values = narrowed_values frame.now held.now.values next.now.values; octagon = narrowing_of held.now.octagon next.now.octagon }) }
+{
+    Ok(Facts {
+        values: narrow_values(alloc, &held.values, &next.values, frame)?,
+        octagon: narrow_shared(alloc, &held.octagon, &next.octagon)?,
+    })
+}
+
+/// Whether each part is within that of the other.
+pub(crate) fn leq_facts(a: &Facts, b: &Facts) -> bool
+    requires size { length a.now.values ≡ length b.now.values }
+    requires vars { a.now.octagon.vars ≡ b.now.octagon.vars }
+    ensures { result ≡ true ↔ AreWithin a.now b.now }
+{
+    leq_values(&a.values, &b.values) && leq(&a.octagon, &b.octagon)
+}
+
+/// Whether both know the same.
+pub(crate) fn same_facts(a: &Facts, b: &Facts) -> bool
+    requires { length a.now.values ≡ length b.now.values }
+    ensures { result ≡ true ↔ a.now ≡ b.now }
+{
+    same_values(&a.values, &b.values) && a.octagon.equals(&b.octagon)
+}
+
+// An octagon of these bounds: the old one, shared, where it has them.
+fn shared(alloc: Global, old: &Arc<Matrix>, new: Matrix) -> Result<Arc<Matrix>, AllocError>
+    ensures { IfOk result (λ m. arc_value m ≡ new) }
+{
+    if new.equals(old) {
+        return Arc::try_clone(old);
+    }
+    Ok(Arc::new(alloc, new)?)
+}
+
+/// The reduction, or none where nothing is left.
+pub(crate) fn reduce_facts(
+    alloc: Global,
+    f: &Facts,
+    frame: &Frame,
+) -> Result<Option<Facts>, AllocError>
+    requires { AreFacts frame.now f.now }
+    ensures { IfOk result (λ o. o ≡ reduced_facts frame.now f.now) }
+{
+    let mut values = f.values.copy(alloc)?;
+    if !reduce_values(alloc, &mut values, frame)? {
+        return Ok(None);
+    }
+    let mut m = f.octagon.copy()?;
+    lower_all(&mut m, &values, frame);
+    match close(&mut m) {
+        Shape::Empty => return Ok(None),
+        Shape::Kept => {}
+    }
+    if !bound_values(alloc, &mut values, &m, frame)? {
+        return Ok(None);
+    }
+    if !reduce_values(alloc, &mut values, frame)? {
+        return Ok(None);
+    }
+    Ok(Some(Facts {
+        values,
+        octagon: shared(alloc, &f.octagon, m)?,
+    }))
+}

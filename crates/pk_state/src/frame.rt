@@ -1,0 +1,72 @@
+// The variables that a state speaks of.
+
+ghost use Rattle.std.specs.Prelude.{◌≡◌, ◌<◌, length, slice_index_or};
+ghost use Rattle.pk_state.specs.Layouts.{Layout, IsLayout, type_at, chosen_at};
+
+use pk_ctypes::IntType;
+use std::marker::Model;
+
+/// The type of each variable, and the variables that the octagon is over. States share it.
+#[derive(Drop)]
+pub struct Frame {
+    types: Vec<IntType>,
+    chosen: Vec<usize>,
+}
+
+impl Model for Frame {
+    ghost use Rattle.pk_state.specs.Layouts.{Layout, IsLayout};
+
+    ghost Value = { Layout };
+
+    ghost view = { λ f. record { types = f.types.items; chosen = f.chosen.items } };
+
+    ghost invariant = { λ f. IsLayout (record { types = f.types.items; chosen = f.chosen.items }) };
+}
+
+impl Frame {
+    /// The types of the variables by number, and the numbers of those that the octagon is over, each once.
+    pub fn new(types: Vec<IntType>, chosen: Vec<usize>) -> Frame
+        requires { IsLayout (record { types = types.items; chosen = chosen.items }) }
+        ensures { result ≡ record { types = types.items; chosen = chosen.items } }
+    {
+        Frame { types, chosen }
+    }
+
+    /// How many variables there are.
+    pub fn len(&self) -> usize
+        ensures { result ≡ length self.now.types }
+    {
+        self.types.len()
+    }
+
+    /// How many variables the octagon is over.
+    pub fn octagon_len(&self) -> usize
+        ensures { result ≡ length self.now.chosen }
+    {
+        self.chosen.len()
+    }
+
+    /// The type of a variable.
+    pub fn int_type(&self, x: usize) -> IntType
+        requires { x < length self.now.types }
+        ensures { result ≡ type_at self.now x }
+    {
+        self.types[x]
+    }
+
+    /// The variable of a place of the octagon.
+    pub fn chosen(&self, k: usize) -> usize
+        requires { k < length self.now.chosen }
+        ensures value { result ≡ chosen_at self.now k }
+        ensures there { result < length self.now.types }
+    {
+        self.chosen[k]
+    }
+
+    /// What every frame is: the octagon's variables are there, each once, and their places are counted in 32 bits.
+    pub fn is_layout(&self)
+        ensures { IsLayout self.now }
+    {
+        let _ = &self.chosen;
+    }
+}

@@ -1,0 +1,13 @@
+//! Abstract states: what is known of each variable, and an octagon over some of them.
+#![tactic(auto)]
+
+mod facts;
+mod frame;
+mod laws;
+mod octagons;
+mod state;
+mod values;
+
+pub use frame::Frame;
+pub use laws::{states_law, stays_law};
+pub use state::State;

@@ -1,0 +1,265 @@
+// Abstract states.
+
+ghost use Rattle.std.specs.Prelude.{◌≡◌, ◌↔◌, ◌<◌, true, IfOk, OnOk, IsNone, length, Some, None, slice_set};
+ghost use Rattle.std.specs.Arc.{arc_value};
+ghost use Rattle.std.specs.List.Sorted.{IsSorted};
+ghost use Rattle.std.specs.Ordering.{int_cmp};
+ghost use Rattle.pk_state.specs.Layouts.{IsLayout};
+ghost use Rattle.pk_state.specs.Facts.{AreFactsIf, joined, widened, narrowed, IsBelow, top_facts as top_of};
+ghost use Rattle.pk_state.specs.Reduced.{reduced};
+
+use crate::facts::{
+    Facts, copy_facts, join_facts, leq_facts, narrow_facts, reduce_facts, same_facts, top_facts,
+    widen_facts,
+};
+use crate::frame::Frame;
+use std::alloc::{AllocError, Global};
+use std::marker::Model;
+use std::sync::Arc;
+
+/// What is known at a point of a program: a value of each variable and an octagon, or that no run comes there. States share their frame, and what they have in
+/// common.
+#[derive(Drop)]
+pub struct State {
+    frame: Arc<Frame>,
+    facts: Option<Facts>,
+}
+
+impl Model for State {
+    ghost use Rattle.std.specs.Arc.{arc_value};
+    ghost use Rattle.pk_state.specs.Layouts.{IsLayout};
+    ghost use Rattle.pk_state.specs.Facts.{Stated, AreFactsIf};
+
+    ghost Value = { Stated };
+
+    ghost view = { λ s. record { layout = arc_value s.frame; facts = s.facts } };
+
+    ghost invariant = { λ s. IsLayout (arc_value s.frame) × AreFactsIf (arc_value s.frame) s.facts };
+}
+
+// A state of these facts over the frame of another.
+fn with_facts(state: &State, facts: Option<Facts>) -> Result<State, AllocError>
+    requires { AreFactsIf state.now.layout facts }
+    ensures { IfOk result (λ s. s ≡ record { layout = state.now.layout; facts = facts }) }
+{
+    state.frame.is_layout();
+    Ok(State {
+        frame: Arc::try_clone(&state.frame)?,
+        facts,
+    })
+}
+
+fn copy_if(alloc: Global, facts: &Option<Facts>) -> Result<Option<Facts>, AllocError>
+    ensures { IfOk result (λ f. f ≡ facts.now) }
+{
+    match facts {
+        None => Ok(None),
+        Some(facts) => Ok(Some(copy_facts(alloc, facts)?)),
+    }
+}
+
+fn join_if(
+    alloc: Global,
+    a: &Option<Facts>,
+    b: &Option<Facts>,
+    frame: &Frame,
+) -> Result<Option<Facts>, AllocError>
+    requires left { AreFactsIf frame.now a.now }
+    requires right { AreFactsIf frame.now b.now }
+    ensures { IfOk result (λ f. f ≡ joined a.now b.now) }
+{
+    let _ = frame;
+    match a {
+        None => copy_if(alloc, b),
+        Some(left) => match b {
+            None => Ok(Some(copy_facts(alloc, left)?)),
+            Some(right) => Ok(Some(join_facts(alloc, left, right)?)),
+        },
+    }
+}
+
+fn widen_if(
+    alloc: Global,
+    held: &Option<Facts>,
+    next: &Option<Facts>,
+    frame: &Frame,
+    thresholds: &[i128],
+) -> Result<Option<Facts>, AllocError>
+    requires held { AreFactsIf frame.now held.now }
+    requires next { AreFactsIf frame.now next.now }
+    requires rising { IsSorted int_cmp thresholds.now }
+    ensures { IfOk result (λ f. f ≡ widened frame.now thresholds.now held.now next.now) }
+{
+    match held {
+        None => copy_if(alloc, next),
+        Some(held) => match next {
+            None => Ok(Some(copy_facts(alloc, held)?)),
+            Some(next) => Ok(Some(widen_facts(alloc, held, next, frame, thresholds)?)),
+        },
+    }
+}
+
+fn narrow_if(
+    alloc: Global,
+    held: &Option<Facts>,
+    next: &Option<Facts>,
+    frame: &Frame,
+) -> Result<Option<Facts>, AllocError>
+    requires held { AreFactsIf frame.now held.now }
+    requires next { AreFactsIf frame.now next.now }
+    ensures { IfOk result (λ f. f ≡ narrowed frame.now held.now next.now) }
+{
+    match held {
+        None => Ok(None),
+        Some(held) => match next {
+            None => Ok(Some(copy_facts(alloc, held)?)),
+            Some(next) => Ok(Some(narrow_facts(alloc, held, next, frame)?)),
+        },
+    }
+}
+
+fn reduce_if(
+    alloc: Global,
+    facts: &Option<Facts>,
+    frame: &Frame,
+) -> Result<Option<Facts>, AllocError>
+    requires { AreFactsIf frame.now facts.now }
+    ensures { IfOk result (λ f. f ≡ reduced frame.now facts.now) }
+{
+    match facts {
+        None => Ok(None),
+        Some(facts) => reduce_facts(alloc, facts, frame),
+    }
+}
+
+fn leq_if(a: &Option<Facts>, b: &Option<Facts>, frame: &Frame) -> bool
+    requires left { AreFactsIf frame.now a.now }
+    requires right { AreFactsIf frame.now b.now }
+    ensures { result ≡ true ↔ IsBelow a.now b.now }
+{
+    let _ = frame;
+    match a {
+        None => true,
+        Some(left) => match b {
+            None => false,
+            Some(right) => leq_facts(left, right),
+        },
+    }
+}
+
+fn same_if(a: &Option<Facts>, b: &Option<Facts>, frame: &Frame) -> bool
+    requires left { AreFactsIf frame.now a.now }
+    requires right { AreFactsIf frame.now b.now }
+    ensures { result ≡ true ↔ a.now ≡ b.now }
+{
+    let _ = frame;
+    match a {
+        None => b.is_none(),
+        Some(left) => match b {
+            None => false,
+            Some(right) => same_facts(left, right),
+        },
+    }
+}
+
+impl State {
+    /// No run comes there.
+    pub fn bottom(frame: Arc<Frame>) -> State
+        ensures { result ≡ record { layout = arc_value frame; facts = None } }
+    {
+        frame.is_layout();
+        State { frame, facts: None }
+    }
+
+    /// Each variable may have any number of its type.
+    pub fn top(alloc: Global, frame: Arc<Frame>) -> Result<State, AllocError>
+        ensures { IfOk result (λ s. s ≡ record { layout = arc_value frame; facts = Some (top_of (arc_value frame)) }) }
+    {
+        frame.is_layout();
+        let facts = top_facts(alloc, &frame)?;
+        Ok(State {
+            frame,
+            facts: Some(facts),
+        })
+    }
+
+    /// What every state is: its layout is one, and its facts are of it.
+    pub fn is_stated(&self)
+        ensures layout { IsLayout self.now.layout }
+        ensures facts { AreFactsIf self.now.layout self.now.facts }
+    {
+        let _ = &self.facts;
+    }
+
+    /// Whether no run comes there.
+    pub fn is_bottom(&self) -> bool
+        ensures { result ≡ true ↔ self.now.facts ≡ None }
+    {
+        self.facts.is_none()
+    }
+
+    /// The same state, which shares all.
+    pub fn copy(&self, alloc: Global) -> Result<State, AllocError>
+        ensures { IfOk result (λ s. s ≡ self.now) }
+    {
+        let facts = copy_if(alloc, &self.facts)?;
+        with_facts(self, facts)
+    }
+
+    /// What is known where either is.
+    pub fn join(&self, alloc: Global, other: &State) -> Result<State, AllocError>
+        requires { other.now.layout ≡ self.now.layout }
+        ensures { IfOk result (λ s. s ≡ record { layout = self.now.layout; facts = joined self.now.facts other.now.facts }) }
+    {
+        let facts = join_if(alloc, &self.facts, &other.facts, &self.frame)?;
+        with_facts(self, facts)
+    }
+
+    /// Whether each part is within that of `other`, so that each store of this state is one of `other`.
+    pub fn leq(&self, other: &State) -> bool
+        requires { other.now.layout ≡ self.now.layout }
+        ensures { result ≡ true ↔ IsBelow self.now.facts other.now.facts }
+    {
+        leq_if(&self.facts, &other.facts, &self.frame)
+    }
+
+    /// Whether both know the same.
+    pub fn equals(&self, other: &State) -> bool
+        requires { other.now.layout ≡ self.now.layout }
+        ensures { result ≡ true ↔ self.now.facts ≡ other.now.facts }
+    {
+        same_if(&self.facts, &other.facts, &self.frame)
+    }
+
+    /// This state widened by `next`, with thresholds in rising order.
+    pub fn widen(
+        &self,
+        alloc: Global,
+        next: &State,
+        thresholds: &[i128],
+    ) -> Result<State, AllocError>
+        requires layout { next.now.layout ≡ self.now.layout }
+        requires rising { IsSorted int_cmp thresholds.now }
+        ensures { IfOk result (λ s. s ≡ record { layout = self.now.layout; facts = widened self.now.layout thresholds.now self.now.facts next.now.facts }) }
+    {
+        let facts = widen_if(alloc, &self.facts, &next.facts, &self.frame, thresholds)?;
+        with_facts(self, facts)
+    }
+
+    /// This state narrowed by `next`.
+    pub fn narrow(&self, alloc: Global, next: &State) -> Result<State, AllocError>
+        requires { next.now.layout ≡ self.now.layout }
+        ensures { IfOk result (λ s. s ≡ record { layout = self.now.layout; facts = narrowed self.now.layout self.now.facts next.now.facts }) }
+    {
+        let facts = narrow_if(alloc, &self.facts, &next.facts, &self.frame)?;
+        with_facts(self, facts)
+    }
+
+    /// Each part as tight as the others let it be; exactly the same stores are left.
+    pub fn reduce(&self, alloc: Global) -> Result<State, AllocError>
+        ensures { IfOk result (λ s. s ≡ record { layout = self.now.layout; facts = reduced self.now.layout self.now.facts }) }
+    {
+        let facts = reduce_if(alloc, &self.facts, &self.frame)?;
+        with_facts(self, facts)
+    }
+}

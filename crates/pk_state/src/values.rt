@@ -1,0 +1,228 @@
+// The values of all variables: joined, widened, narrowed, compared, reduced, bounded.
+
+ghost use Rattle.std.specs.Prelude.{◌≡◌, ◌↔◌, ◌<◌, ℕ, true, IfOk, OnOk, length, slice_set};
+ghost use Rattle.std.specs.List.Sorted.{IsSorted};
+ghost use Rattle.std.specs.Ordering.{int_cmp};
+ghost use Rattle.pk_value.specs.Known.{is_within};
+ghost use Rattle.pk_octmat.specs.Octagon.{entry};
+ghost use Rattle.pk_octmat.specs.Bounds.{halved};
+ghost use Rattle.pk_octops.specs.Values.{least_of};
+ghost use Rattle.pk_state.specs.Facts.{known_at, AreValues, joined_values, widened_values, narrowed_values};
+ghost use Rattle.pk_state.specs.Reduced.{red_all, with_range, raised_low, lowered_high, bounded_by, bounded_all, kept_if};
+ghost use Rattle.pk_interval.specs.Ranges.{range_from};
+
+use crate::frame::Frame;
+use pk_blocks::{Blocks, Merge};
+use pk_interval::{Interval, between};
+use pk_octmat::Matrix;
+use pk_octops::bounds;
+use pk_value::Value;
+use std::alloc::{AllocError, Global};
+
+// Joins values.
+struct Joining;
+
+impl Merge<Value> for Joining {
+    ghost use Rattle.pk_value.specs.Known.{joined};
+
+    ghost merged = { λ s i a b. joined a b };
+
+    fn merge(&self, _: usize, a: &Value, b: &Value) -> Value {
+        a.join(b)
+    }
+}
+
+/// The values joined, each with its own.
+pub(crate) fn join_values(
+    alloc: Global,
+    a: &Blocks<Value>,
+    b: &Blocks<Value>,
+) -> Result<Blocks<Value>, AllocError>
+    requires { length a.now ≡ length b.now }
+    ensures { IfOk result (λ v. v ≡ joined_values a.now b.now) }
+{
+    a.merge(alloc, b, &Joining)
+}
+
+// Writes a value, if it isn't there.
+fn put(
+    alloc: Global,
+    values: &mut Blocks<Value>,
+    x: usize,
+    old: &Value,
+    new: Value,
+) -> Result<(), AllocError>
+    requires place { x < length values.old }
+    requires old { known_at values.old x ≡ old.now }
+    ensures { OnOk result (values.new ≡ slice_set values.old x new) }
+{
+    if new.equals(old) {
+        return Ok(());
+    }
+    values.set(alloc, x, new)
+}
+
+/// The values widened.
+pub(crate) fn widen_values(
+    alloc: Global,
+    held: &Blocks<Value>,
+    next: &Blocks<Value>,
+    frame: &Frame,
+    thresholds: &[i128],
+) -> Result<Blocks<Value>, AllocError>
+    requires held { AreValues frame.now held.now }
+    requires next { AreValues frame.now next.now }
+    requires rising { IsSorted int_cmp thresholds.now }
+    ensures { IfOk result (λ v. v ≡ widened_values frame.now thresholds.now held.now next.now) }
+{
+    let mut out = held.copy(alloc)?;
+    for x in 0..frame.len() {
+        let old = held.get(x);
+        let new = old.widen(&next.get(x), frame.int_type(x), thresholds);
+        put(alloc, &mut out, x, &old, new)?;
+    }
+    Ok(out)
+}
+
+/// The values narrowed.
+pub(crate) fn narrow_values(
+    alloc: Global,
+    held: &Blocks<Value>,
+    next: &Blocks<Value>,
+    frame: &Frame,
+) -> Result<Blocks<Value>, AllocError>
+    requires held { AreValues frame.now held.now }
+    requires next { AreValues frame.now next.now }
+    ensures { IfOk result (λ v. v ≡ narrowed_values frame.now held.now next.now) }
+{
+    let mut out = held.copy(alloc)?;
+    for x in 0..frame.len() {
+        let old = held.get(x);
+        let new = old.narrow(&next.get(x), frame.int_type(x));
+        put(alloc, &mut out, x, &old, new)?;
+    }
+    Ok(out)
+}
+
+/// Whether each value is within the other's.
+pub(crate) fn leq_values(a: &Blocks<Value>, b: &Blocks<Value>) -> bool
+    requires { length a.now ≡ length b.now }
+    ensures { result ≡ true ↔ ((x : ℕ) → x < length a.now → is_within (known_at a.now x) (known_at b.now x) ≡ true) }
+{
+    for x in 0..a.len() {
+        if !a.get(x).leq(&b.get(x)) {
+            return false;
+        }
+    }
+    true
+}
+
+/// Whether the values are the same.
+pub(crate) fn same_values(a: &Blocks<Value>, b: &Blocks<Value>) -> bool
+    requires { length a.now ≡ length b.now }
+    ensures { result ≡ true ↔ a.now ≡ b.now }
+{
+    for x in 0..a.len() {
+        if !a.get(x).equals(&b.get(x)) {
+            return false;
+        }
+    }
+    true
+}
+
+/// Reduces each value. False where one is empty.
+pub(crate) fn reduce_values(
+    alloc: Global,
+    values: &mut Blocks<Value>,
+    frame: &Frame,
+) -> Result<bool, AllocError>
+    requires { AreValues frame.now values.old }
+    ensures value { IfOk result (λ b. kept_if b values.new ≡ red_all values.old) }
+    ensures stays { IfOk result (λ b. b ≡ true → AreValues frame.now values.new) }
+{
+    for x in 0..frame.len() {
+        let old = values.get(x);
+        match old.reduced(frame.int_type(x)) {
+            None => return Ok(false),
+            Some(new) => put(alloc, values, x, &old, new)?,
+        }
+    }
+    Ok(true)
+}
+
+// The greater of a bound and one that may be there.
+fn raised(bound: Option<i128>, z: i128) -> i128
+    ensures { result ≡ raised_low bound z }
+{
+    match bound {
+        None => z,
+        Some(bound) => bound.max(z),
+    }
+}
+
+// The lesser of a bound and one that may be there.
+fn lowered(bound: Option<i128>, z: i128) -> i128
+    ensures { result ≡ lowered_high bound z }
+{
+    match bound {
+        None => z,
+        Some(bound) => bound.min(z),
+    }
+}
+
+// A value with another interval, if there is one.
+fn with_interval(value: &Value, interval: Option<Interval>) -> Option<Value>
+    ensures { result ≡ with_range value.now interval }
+{
+    match interval {
+        None => None,
+        Some(interval) => Some(Value {
+            interval,
+            congr: value.congr,
+        }),
+    }
+}
+
+// The bounds of a range, or those that are given where they are tighter.
+fn tighter(value: &Value, low: Option<i128>, high: Option<i128>) -> Option<Value>
+    ensures { result ≡ with_range value.now (range_from (raised_low low value.now.range.lo) (lowered_high high value.now.range.hi)) }
+{
+    let interval = between(
+        raised(low, value.interval.lo),
+        lowered(high, value.interval.hi),
+    );
+    with_interval(value, interval)
+}
+
+// What is left of a value by an octagon's bounds on its variable k.
+fn bound(m: &Matrix, k: u32, value: &Value) -> Option<Value>
+    requires { k < m.now.vars }
+    ensures { result ≡ bounded_by m.now k value.now }
+{
+    let (low, high) = bounds(m, k);
+    tighter(value, low, high)
+}
+
+/// Bounds the values of the octagon's variables by it. False where nothing is left of one.
+pub(crate) fn bound_values(
+    alloc: Global,
+    values: &mut Blocks<Value>,
+    m: &Matrix,
+    frame: &Frame,
+) -> Result<bool, AllocError>
+    requires values { AreValues frame.now values.old }
+    requires vars { m.now.vars ≡ length frame.now.chosen }
+    ensures value { IfOk result (λ b. kept_if b values.new ≡ bounded_all frame.now m.now (length frame.now.chosen) values.old) }
+    ensures stays { IfOk result (λ b. b ≡ true → AreValues frame.now values.new) }
+{
+    frame.is_layout();
+    for k in 0..frame.octagon_len() {
+        let x = frame.chosen(k);
+        let old = values.get(x);
+        match bound(m, k as u32, &old) {
+            None => return Ok(false),
+            Some(new) => put(alloc, values, x, &old, new)?,
+        }
+    }
+    Ok(true)
+}
