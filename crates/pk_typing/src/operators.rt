@@ -6,6 +6,7 @@ ghost use Rattle.pk_typed.specs.Views.{place_tree, value_tree, effect_tree};
 ghost use Rattle.pk_ctypes.specs.Conversions.{usual_of};
 ghost use Rattle.pk_ctypes.specs.declared.types.IntType.TheVariants as int_types;
 ghost use Rattle.pk_typing.specs.Forms as forms;
+ghost use Rattle.pk_typing.specs.Mentions as mentions;
 ghost use Rattle.pk_typing.specs.Rules as rules;
 ghost use Rattle.pk_typing.specs.Typed as typed;
 ghost use Rattle.pk_typing.specs.Types as types;
@@ -388,6 +389,20 @@ fn binary_value(
     }
 }
 
+fn operands_clash(
+    alloc: Global,
+    op: Option<Op>,
+    left: &Mentions,
+    right: &Mentions,
+) -> Result<bool, AllocError>
+    ensures { IfOk result (λ r. r ≡ (is_some op && mentions.clash (mentioned_in left.now) (mentioned_in right.now))) }
+{
+    if op.is_none() {
+        return Ok(false);
+    }
+    left.clash(alloc, right)
+}
+
 /// A binary operator, at its place.
 pub(crate) fn binary(
     alloc: Global,
@@ -402,8 +417,8 @@ pub(crate) fn binary(
     ensures known { IfOk result (λ c. known_of c ≡ forms.known_binary op at (known_of left) (known_of right)) }
 {
     let number = op.number_operator();
-    let clash = left.mentions.clash(alloc, &right.mentions)?;
-    notes.fail_if(number.is_some() && clash, Rule::Unsequenced, at);
+    let clash = operands_clash(alloc, number, &left.mentions, &right.mentions)?;
+    notes.fail_if(clash, Rule::Unsequenced, at);
     let typing = type_of_binary(number, left.typing, right.typing);
     let mut mentions = left.mentions;
     mentions.join(&right.mentions)?;
