@@ -1,2 +1,4 @@
 mod PointLemmas
 mod AccessLemmas
+mod MarkLemmas
+mod FirstLemmas

@@ -6,6 +6,7 @@ pub mod Stores
 pub mod Graphs
 pub mod Accesses
 pub mod AccessViews
+pub mod OctagonVariables
 pub mod WellMade
 pub mod Propositions
 pub mod Shown

@@ -6,10 +6,12 @@
 
 mod graphs;
 mod instructions;
+mod octagons;
 mod operations;
 mod trees;
 
 pub use graphs::{Edge, Graph, Path, Point, Scope, Start, Variable};
 pub use instructions::{Array, Instr};
+pub use octagons::octagon_variables;
 pub use operations::{Access, Operation, accesses};
 pub use trees::{Site, Tree};
