@@ -4,5 +4,6 @@ pub mod ListLemmas
 pub mod MentionLemmas
 pub mod PartLemmas
 pub mod ResultLemmas
+pub mod SequenceLemmas
 pub mod TreeLemmas
 pub mod WalkLemmas

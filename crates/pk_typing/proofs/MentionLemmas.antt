@@ -9,7 +9,7 @@ use Rattle.pk_typed.specs.declared.values.Variable.TheVariants.{File, Local}
 use Rattle.pk_typing.specs.declared.mentions.Mentions.{Mentions}
 use Rattle.pk_typing.specs.declared.mentions.Before.{Before}
 use Rattle.pk_typing.specs.declared.mentions.Objects.{Objects}
-use Rattle.pk_typing.specs.Mentions.{Mentioned, is_same, is_among, meet, clash, joined, clash_after, some_clash, nothing_mentioned, change_nothing, is_empty}
+use Rattle.pk_typing.specs.Mentions.{Mentioned, is_same, is_among, meet, clash, joined, some_clash, nothing_mentioned, change_nothing, is_empty}
 use Rattle.pk_typing.specs.Views.{has, mentioned_in, IsSetOf, IsBefore}
 
 or_assoc : (a b c : Bool) → (a || (b || c)) ≡ ((a || b) || c)
@@ -36,11 +36,11 @@ is_same_comm (File a) (Local b) = refl
 is_same_comm (Local a) (File b) = refl
 
 -- the same test of each
-pub any_same : (f g : Variable → Bool) → ((x : Variable) → f x ≡ g x) → (xs : List Variable) → list_any f xs ≡ list_any g xs
+pub any_same : {A : Type 0} (f g : A → Bool) → ((x : A) → f x ≡ g x) → (xs : List A) → list_any f xs ≡ list_any g xs
 any_same f g h [] = refl
 any_same f g h (x ∷ xs) = rw (h x) (ap (λ b. g x || b) (any_same f g h xs))
 
-any_of_none : (ys : List Variable) → list_any (λ y. false) ys ≡ false
+any_of_none : {A : Type 0} (ys : List A) → list_any (λ y. false) ys ≡ false
 any_of_none [] = refl
 any_of_none (y ∷ ys) = any_of_none ys
 
@@ -48,16 +48,16 @@ pub none_meet : (ys : List Variable) → meet [] ys ≡ false
 none_meet ys = any_of_none ys
 
 -- the order in which two lists are gone through doesn't matter
-any_or : (f g : Variable → Bool) (ys : List Variable) → list_any (λ y. f y || g y) ys ≡ (list_any f ys || list_any g ys)
+regroup : (a b c d : Bool) → ((a || b) || (c || d)) ≡ ((a || c) || (b || d))
+regroup true b c d = refl
+regroup false true true d = refl
+regroup false true false d = refl
+regroup false false true d = refl
+regroup false false false d = refl
+
+any_or : {A : Type 0} (f g : A → Bool) (ys : List A) → list_any (λ y. f y || g y) ys ≡ (list_any f ys || list_any g ys)
 any_or f g [] = refl
 any_or f g (y ∷ ys) = rw (any_or f g ys) (regroup (f y) (g y) (list_any f ys) (list_any g ys))
-  where
-    regroup : (a b c d : Bool) → ((a || b) || (c || d)) ≡ ((a || c) || (b || d))
-    regroup true b c d = refl
-    regroup false true true d = refl
-    regroup false true false d = refl
-    regroup false false true d = refl
-    regroup false false false d = refl
 
 pub meet_comm : (xs ys : List Variable) → meet xs ys ≡ meet ys xs
 meet_comm [] ys = none_meet ys
@@ -86,6 +86,38 @@ pub clashes : (m n : Mentioned) (s : Before) (b c : Bool) → IsBefore m s → b
 clashes m n s b c h p q =
     rw (p, q, meets_set m.changed n.named s.changed h.changed, meets_set m.named n.changed s.named h.named) (ap (λ x. meet m.changed n.named || x) (meet_comm m.named n.changed))
 
+-- one clashes with one of those before it
+abbrev pub clash_after : Mentioned → List Mentioned → Bool
+clash_after before [] = false
+clash_after before (m ∷ ms) = clash before m || clash_after (joined before m) ms
+
+any-append : (f : Variable → Bool) (xs ys : List Variable) → list_any f (xs ++ ys) ≡ (list_any f xs || list_any f ys)
+any-append f [] ys = refl
+any-append f (x ∷ xs) ys = rw (any-append f xs ys) (or_assoc (f x) (list_any f xs) (list_any f ys))
+
+meet-append : (xs ys zs : List Variable) → meet (xs ++ ys) zs ≡ (meet xs zs || meet ys zs)
+meet-append xs ys zs = any_same (is_among (xs ++ ys)) (λ z. is_among xs z || is_among ys z) (among-append xs ys) zs ∙ any_or (is_among xs) (is_among ys) zs
+
+clash_joined : (m n x : Mentioned) → clash (joined m n) x ≡ (clash m x || clash n x)
+clash_joined m n x = rw (meet-append m.changed n.changed x.named, any-append (is_among x.changed) m.named n.named) (regroup (meet m.changed x.named) (meet n.changed x.named) (meet x.changed m.named) (meet x.changed n.named))
+
+move_or : (a b c d : Bool) → (a || ((b || c) || d)) ≡ ((a || b) || (c || d))
+move_or true b c d = refl
+move_or false true c d = refl
+move_or false false c d = refl
+
+clash_after_is : (before : Mentioned) (ms : List Mentioned) → clash_after before ms ≡ (list_any (clash before) ms || some_clash ms)
+clash_after_is before [] = refl
+clash_after_is before (m ∷ ms) =
+    rw (clash_after_is (joined before m) ms, any_same (clash (joined before m)) (λ x. clash before x || clash m x) (clash_joined before m) ms, any_or (clash before) (clash m) ms)
+    (move_or (clash before m) (list_any (clash before) ms) (list_any (clash m) ms) (some_clash ms))
+
+nothing_and : (m : Mentioned) → clash nothing_mentioned m ≡ false
+nothing_and m = ap (λ b. b || meet m.changed []) (none_meet m.named)
+
+pub nothing_before : (ms : List Mentioned) → clash_after nothing_mentioned ms ≡ some_clash ms
+nothing_before ms = clash_after_is nothing_mentioned ms ∙ ap (λ b. b || some_clash ms) (any_same (clash nothing_mentioned) (λ x. false) nothing_and ms ∙ any_of_none ms)
+
 -- where nothing is changed, nothing clashes
 nothing_meets : (m : Mentioned) (n : Mentioned) → m.changed ≡ [] → n.changed ≡ [] → clash m n ≡ false
 nothing_meets m n p q = rw (p, q) (ap (λ b. b || meet [] m.named) (none_meet n.named) ∙ none_meet m.named)
@@ -109,7 +141,7 @@ still_nothing before (m ∷ ms) p q =
     rw (nothing_meets before m p n.0) (still_nothing (joined before m) ms none n.1)
 
 pub nothing_clashes : (ms : List Mentioned) → change_nothing ms ≡ true → some_clash ms ≡ false
-nothing_clashes ms h = still_nothing nothing_mentioned ms refl h
+nothing_clashes ms h = sym (nothing_before ms) ∙ still_nothing nothing_mentioned ms refl h
 
 not_none : (n : ℕ) → true ≡ (n == 0) → 0 < n → ⊥
 not_none n h k = grind (arith, nat_tests)
@@ -154,3 +186,22 @@ clashes_then m n s xs ys a b h p q x y t = ap (λ c. c || b) (sym t) ∙ clashes
 
 pub clashes_else : (m n : Mentioned) (s : Before) (xs ys : List Variable) (a b : Bool) → IsBefore m s → xs ≡ n.named → ys ≡ n.changed → a ≡ list_any (has s.changed) xs → b ≡ list_any (has s.named) ys → a ≡ false → b ≡ clash m n
 clashes_else m n s xs ys a b h p q x y t = ap (λ c. c || b) (sym t) ∙ clashes_by m n s xs ys a b h p q x y
+
+none_of_more : (n : ℕ) → 0 < n → (n == 0) ≡ false
+none_of_more n h = grind (arith, nat_tests)
+
+pub empty_by_length : (xs : List Variable) → (length xs == 0) ≡ is_empty xs
+empty_by_length [] = refl
+empty_by_length (x ∷ xs) = none_of_more (length (x ∷ xs)) (omega arith)
+
+-- whether nothing is changed, one by one
+pub still_none : (m : Mentioned) (now rest : List Mentioned) (xs : List Variable) (all b : Bool) → now ≡ m ∷ rest → change_nothing now ≡ all → xs ≡ m.changed → b ≡ is_empty xs → b ≡ true → change_nothing rest ≡ all
+still_none m now rest xs all b p q same h t =
+    ap (λ c. if c then change_nothing rest else false) (sym t ∙ (h ∙ ap is_empty same)) ∙ (ap change_nothing (sym p) ∙ q)
+
+pub one_changed : (m : Mentioned) (now rest : List Mentioned) (xs : List Variable) (all b : Bool) → now ≡ m ∷ rest → change_nothing now ≡ all → xs ≡ m.changed → b ≡ is_empty xs → b ≡ false → false ≡ all
+one_changed m now rest xs all b p q same h t =
+    ap (λ c. if c then change_nothing rest else false) (sym t ∙ (h ∙ ap is_empty same)) ∙ (ap change_nothing (sym p) ∙ q)
+
+pub none_changed : (all : List Mentions) (i : ℕ) (r : Bool) → length all ≤ i → change_nothing (map mentioned_in (drop i all)) ≡ r → true ≡ r
+none_changed all i r h q = ap (λ ms. change_nothing (map mentioned_in ms)) (sym (drop_past all i h)) ∙ q

@@ -114,13 +114,10 @@ unfoldable pub mentions_of_each : Names → ExpressionTrees → List Mentioned
 mentions_of_each d no_expressions = []
 mentions_of_each d (expression_then e es) = mentions d e ∷ mentions_of_each d es
 
--- one clashes with one of those before it
-abbrev pub clash_after : Mentioned → List Mentioned → Bool
-clash_after before [] = false
-clash_after before (m ∷ ms) = clash before m || clash_after (joined before m) ms
-
+-- two of these clash
 abbrev pub some_clash : List Mentioned → Bool
-some_clash = clash_after nothing_mentioned
+some_clash [] = false
+some_clash (m ∷ ms) = list_any (clash m) ms || some_clash ms
 
 abbrev pub change_nothing : List Mentioned → Bool
 change_nothing [] = true

@@ -5,7 +5,7 @@ ghost use Rattle.pk_typing.specs.Typed.{of_both};
 
 use std::alloc::{AllocError, Global};
 
-pub(crate) fn boxed<T: Drop>(alloc: Global, value: T) -> Result<Box<T>, AllocError>
+fn boxed<T: Drop>(alloc: Global, value: T) -> Result<Box<T>, AllocError>
     ensures { IfOk result (λ b. b.value ≡ value) }
 {
     Ok(Box::new(alloc, value)?)

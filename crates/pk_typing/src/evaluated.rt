@@ -5,7 +5,7 @@ ghost use Rattle.pk_typed.specs.Views.{place_tree, value_tree, effect_tree};
 ghost use Rattle.pk_typing.specs.Typed as typed;
 ghost use Rattle.pk_typing.specs.Views.{evaluated_tree};
 
-use crate::boxes::{boxed, boxed_option};
+use crate::boxes::boxed_option;
 use pk_typed::{Effect, Place, Value};
 use std::alloc::{AllocError, Global};
 

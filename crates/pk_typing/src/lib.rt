@@ -14,6 +14,6 @@ mod operators;
 pub use checked::{Arguments, Checked};
 pub use evaluated::Evaluated;
 pub use expressions::{arguments, expression, used};
-pub use laws::tree_law;
+pub use laws::{assignment_law, tree_law};
 pub use mentions::Mentions;
 pub use names::Target;

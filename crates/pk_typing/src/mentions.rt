@@ -204,11 +204,17 @@ fn is_same(x: Variable, y: Variable) -> bool
     }
 }
 
+fn is_none(objects: &[Variable]) -> bool
+    ensures { result ≡ definitions.is_empty objects.now }
+{
+    objects.is_empty()
+}
+
 fn changes_nothing(all: &[Mentions]) -> bool
     ensures { result ≡ definitions.change_nothing (map mentioned_in all.now) }
 {
     for mentions in all {
-        if !mentions.changed.is_empty() {
+        if !is_none(&mentions.changed) {
             return false;
         }
     }

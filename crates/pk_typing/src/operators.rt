@@ -6,13 +6,14 @@ ghost use Rattle.pk_typed.specs.Views.{place_tree, value_tree, effect_tree};
 ghost use Rattle.pk_ctypes.specs.Conversions.{usual_of};
 ghost use Rattle.pk_ctypes.specs.declared.types.IntType.TheVariants as int_types;
 ghost use Rattle.pk_typing.specs.Forms as forms;
+ghost use Rattle.pk_typing.specs.Mentions as mentions;
 ghost use Rattle.pk_typing.specs.Rules as rules;
 ghost use Rattle.pk_typing.specs.Typed as typed;
 ghost use Rattle.pk_typing.specs.Types as types;
 ghost use Rattle.pk_scope.specs.Notes.{noted_in, with_failures};
 ghost use Rattle.pk_typing.specs.Views.{evaluated_tree, operand_tree, mentioned_in, known_of};
 
-use crate::boxes::{both, boxed};
+use crate::boxes::{both, boxed_option};
 use crate::checked::{Checked, Operand, operand_of};
 use crate::evaluated::{Evaluated, effect_of, place_of, value_of, valued, without_value};
 use crate::mentions::Mentions;
@@ -28,9 +29,8 @@ fn operand_type(op: Op, left: IntType, right: IntType) -> IntType
 {
     match op {
         Op::Shl | Op::Shr => promote(left),
-        Op::Add | Op::Sub | Op::Mul | Op::Div | Op::Rem | Op::And | Op::Or | Op::Xor => usual(
-            left, right,
-        ),
+        Op::Add | Op::Sub | Op::Mul | Op::Div | Op::Rem => usual(left, right),
+        Op::And | Op::Or | Op::Xor => usual(left, right),
         Op::Lt | Op::Gt | Op::Le | Op::Ge | Op::Eq | Op::Ne => usual(left, right),
         Op::Neg | Op::BitNot | Op::Not => usual(left, right),
     }
@@ -389,6 +389,20 @@ fn binary_value(
     }
 }
 
+fn operands_clash(
+    alloc: Global,
+    op: Option<Op>,
+    left: &Mentions,
+    right: &Mentions,
+) -> Result<bool, AllocError>
+    ensures { IfOk result (λ r. r ≡ (is_some op && mentions.clash (mentioned_in left.now) (mentioned_in right.now))) }
+{
+    if op.is_none() {
+        return Ok(false);
+    }
+    left.clash(alloc, right)
+}
+
 /// A binary operator, at its place.
 pub(crate) fn binary(
     alloc: Global,
@@ -403,8 +417,8 @@ pub(crate) fn binary(
     ensures known { IfOk result (λ c. known_of c ≡ forms.known_binary op at (known_of left) (known_of right)) }
 {
     let number = op.number_operator();
-    let clash = left.mentions.clash(alloc, &right.mentions)?;
-    notes.fail_if(number.is_some() && clash, Rule::Unsequenced, at);
+    let clash = operands_clash(alloc, number, &left.mentions, &right.mentions)?;
+    notes.fail_if(clash, Rule::Unsequenced, at);
     let typing = type_of_binary(number, left.typing, right.typing);
     let mut mentions = left.mentions;
     mentions.join(&right.mentions)?;
@@ -564,19 +578,6 @@ pub(crate) fn assignment(
 }
 
 #[tactic(auto, unfolding(crate::specs::Views::evaluated_tree))]
-fn comma_after(alloc: Global, first: Effect, second: Evaluated) -> Result<Evaluated, AllocError>
-    ensures { IfOk result (λ e. evaluated_tree e ≡ typed.comma_after (effect_tree first) (evaluated_tree second)) }
-{
-    let first = boxed(alloc, first)?;
-    match second {
-        Evaluated::Value(value) => Ok(Evaluated::Value(boxed(alloc, Value::then(first, value))?)),
-        Evaluated::Effect(effect) => Ok(Evaluated::Effect(boxed(
-            alloc,
-            Effect::then(first, effect),
-        )?)),
-    }
-}
-
 fn comma_tree(
     alloc: Global,
     first: Option<Effect>,
@@ -585,9 +586,13 @@ fn comma_tree(
     ensures { IfOk result (λ e. option_map evaluated_tree e
         ≡ typed.of_both typed.comma_after (option_map effect_tree first) (option_map evaluated_tree second)) }
 {
+    let first = boxed_option(alloc, first)?;
     match both(first, second) {
         None => Ok(None),
-        Some((first, second)) => Ok(Some(comma_after(alloc, first, second)?)),
+        Some((first, second)) => match second {
+            Evaluated::Value(value) => valued(alloc, Some(Value::then(first, value))),
+            Evaluated::Effect(effect) => without_value(alloc, Some(Effect::then(first, effect))),
+        },
     }
 }
 

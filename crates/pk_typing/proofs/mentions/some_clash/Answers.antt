@@ -1,15 +1,15 @@
 -- What is left decides, and clashes with what the set stands for.
-use Rattle.std.proofs.Common.{refl, sym, map}
+use Rattle.std.proofs.Common.{sym, map}
 use Rattle.pk_typing.specs.Mentions.{joined, nothing_mentioned}
 use Rattle.pk_typing.specs.Views.{mentioned_in}
-use Rattle.pk_typing.proofs.MentionLemmas.{nothing_clashes, next, clashes_now, clashes_later, clashes_never}
+use Rattle.pk_typing.proofs.MentionLemmas.{nothing_clashes, nothing_before, next, clashes_now, clashes_later, clashes_never}
 use Rattle.pk_typing.proofs.mentions.some_clash.Goals as goal
 
 pub returns-then-changes_nothing : goal.returns-then-changes_nothing
 returns-then-changes_nothing c = sym (nothing_clashes (map mentioned_in c.args.all.now) (sym c.if-changes_nothing.ensures))
 
 pub loop-mentions-init : goal.loop-mentions-init
-loop-mentions-init c = record { so_far = nothing_mentioned; is = c.none-before.ensures; left = refl }
+loop-mentions-init c = record { so_far = nothing_mentioned; is = c.none-before.ensures; left = nothing_before (map mentioned_in c.args.all.now) }
 
 pub returns-then-clashes : goal.returns-then-clashes
 returns-then-clashes c =

@@ -1,7 +1,8 @@
 -- What those so far mention, and what is left decides.
 use Rattle.std.proofs.Common.{◌≡◌, drop, map}
-use Rattle.pk_typing.specs.Mentions.{Mentioned, clash_after, some_clash}
+use Rattle.pk_typing.specs.Mentions.{Mentioned, some_clash}
 use Rattle.pk_typing.specs.Views.{mentioned_in, IsBefore}
+use Rattle.pk_typing.proofs.MentionLemmas.{clash_after}
 use Rattle.pk_typing.proofs.mentions.some_clash.Given as goal
 
 abbrev pub invariant-loop-mentions : goal.invariant-loop-mentions
