@@ -1,10 +1,9 @@
 -- The rule on constant expressions, and array lengths.
-use Rattle.std.specs.Prelude.{ℕ, ℤ, pos, Bool, true, false, not, ◌&&◌, ◌||◌, int_le, unsigned_abs, List, Option, Some, None, if◌then◌else◌}
+use Rattle.std.specs.Prelude.{ℕ, ℤ, pos, Bool, true, false, not, ◌&&◌, ◌||◌, int_le, unsigned_abs, Option, Some, None, if◌then◌else◌}
 use Rattle.pk_ctypes.specs.declared.words.Rule.TheVariants as rule
 use Rattle.pk_ast.specs.Places.{first_place_of}
 use Rattle.pk_ast.specs.Trees.{ExpressionTree}
 use Rattle.pk_typed.specs.Trees.{ValueTree}
-use Rattle.pk_scope.specs.declared.failures.Failure.{Failure}
 use Rattle.pk_scope.specs.Failures.{fails_if}
 use Rattle.pk_constant.specs.declared.constants.Constant.{Constant}
 use Rattle.pk_constant.specs.declared.constants.Constant.TheVariants.{Number, Faulty, NotConstant}

@@ -1,5 +1,5 @@
 -- Declared objects of a function (C99 6.7, 6.7.8).
-use Rattle.std.specs.Prelude.{ℕ, zero, suc, ◌+◌, Bool, true, false, not, is_some, Option, Some, None, option_map, List, [], ◌∷◌, ◌++◌, length, if◌then◌else◌}
+use Rattle.std.specs.Prelude.{ℕ, zero, suc, Bool, true, false, not, is_some, Option, Some, None, option_map, List, [], ◌∷◌, ◌++◌, length, if◌then◌else◌}
 use Rattle.std.specs.Str.Lossy.{utf8_lossy}
 use Rattle.pk_ctypes.specs.declared.places.Pos.{Pos}
 use Rattle.pk_ctypes.specs.declared.types.IntType.{IntType}
@@ -122,7 +122,7 @@ abbrev pub after_head : {F : Type 0} → Adding F → Words → DeclaratorTree �
 after_head add words d w =
     let n = length_at w d.length in
     failing add (braces (is_some d.length) d.initializer d.name.at ++ surplus n d.initializer)
-        (after_object add words (is_some d.length) n d.name (after_optional_length add d.length w))
+    (after_object add words (is_some d.length) n d.name (after_optional_length add d.length w))
 
 -- what it begins with stands inside its scope
 unfoldable pub after_declarator : {F : Type 0} → Adding F → Words → DeclaratorTree → Walked F → Walked F

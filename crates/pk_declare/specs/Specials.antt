@@ -1,7 +1,6 @@
 -- The special names: functions that the analysis knows, where a text declares them (C99 has no such names but abort, 7.20.4.1).
 use Rattle.std.specs.Prelude.{ℕ, List, [], ◌∷◌, Option, Some, None, codes, if◌then◌else◌}
 use Rattle.std.specs.Str.{bytes_eq}
-use Rattle.pk_ctypes.specs.declared.types.IntType.{IntType}
 use Rattle.pk_ctypes.specs.declared.types.IntType.TheVariants as ctype
 use Rattle.pk_scope.specs.declared.declarations.Callee.{Callee}
 use Rattle.pk_scope.specs.declared.declarations.Callee.TheVariants.{Any, Assume, Assert, Abort}

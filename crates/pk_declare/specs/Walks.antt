@@ -1,9 +1,8 @@
 -- What is known at a place of a function, and how expressions there go on from it. What is found of failures is added to what was found before: as a list of all of them, or as the
 -- failure that is answered.
-use Rattle.std.specs.Prelude.{ℕ, ℤ, Bool, List, [], ◌∷◌, ◌++◌, Option, Some, None, length}
-use Rattle.pk_ctypes.specs.declared.places.Pos.{Pos}
+use Rattle.std.specs.Prelude.{List, [], ◌∷◌, ◌++◌, Option, length}
 use Rattle.pk_ast.specs.declared.expressions.Identifier.{Identifier}
-use Rattle.pk_ast.specs.Trees.{ExpressionTree, ExpressionTrees, no_expressions, expression_then}
+use Rattle.pk_ast.specs.Trees.{ExpressionTree, ExpressionTrees}
 use Rattle.pk_typed.specs.declared.units.CallSite.{CallSite}
 use Rattle.pk_typed.specs.Trees.{LocalTree, ValueTree, EffectTree, ValueTrees}
 use Rattle.pk_scope.specs.declared.declarations.Declaration.{Declaration}

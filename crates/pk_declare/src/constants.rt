@@ -140,7 +140,11 @@ impl<'a> Walk<'a> {
             ≡ definitions.length_in (definitions.evaluated (walked_in self.old) (expression_tree e.now))) }
     {
         let evaluated = self.evaluate(alloc, e)?;
-        self.fail_if(evaluated.is_refused_length(), Rule::Constant, e.first_place());
+        self.fail_if(
+            evaluated.is_refused_length(),
+            Rule::Constant,
+            e.first_place(),
+        );
         Ok(evaluated.length())
     }
 }

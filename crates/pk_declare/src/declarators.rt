@@ -17,13 +17,13 @@ use crate::walk::Walk;
 use crate::words::{Words, integer_in, type_or_int};
 use pk_ast::{Declarator, Expression, Identifier, Specifiers};
 use pk_ctypes::{Name, Rule};
-use pk_typed::{Declared, Local, Variable};
 use pk_scope::{Declaration, Object, note_specifiers, spelling};
+use pk_typed::{Declared, Local, Variable};
 use std::alloc::{AllocError, Global};
 
 impl<'a> Walk<'a> {
-    // The length of an array, where it has one.
-    fn optional_length(
+    /// The length of an array, where it has one.
+    pub fn optional_length(
         &mut self,
         alloc: Global,
         length: &Option<Expression>,
@@ -101,7 +101,14 @@ impl<'a> Walk<'a> {
             ≡ definitions.declarator_tree_at noted words (declarator_tree d.now) (walked_in self.old)) }
     {
         let number = self.head(alloc, words, d)?;
-        first_value(self, alloc, d.length.is_some(), number, d.name.at, &d.initializer)
+        first_value(
+            self,
+            alloc,
+            d.length.is_some(),
+            number,
+            d.name.at,
+            &d.initializer,
+        )
     }
 
     // Notes that the words name no type, where they don't.
@@ -154,7 +161,8 @@ impl<'a> Walk<'a> {
     }
 }
 
-fn length_or_1(is_array: bool, length: Option<usize>) -> Option<usize>
+/// The length of an array, or 1 where a failure leaves it out.
+pub fn length_or_1(is_array: bool, length: Option<usize>) -> Option<usize>
     ensures { result ≡ definitions.length_or_1 is_array length }
 {
     if !is_array {

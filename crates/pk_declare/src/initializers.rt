@@ -137,9 +137,9 @@ pub(crate) fn first_value(
     }
 }
 
-// Notes braces on a scalar, or none on an array.
+/// Notes braces on a scalar, or none on an array.
 #[tactic(auto, unfolding(pk_ast::specs::Views::initializer_tree))]
-pub(crate) fn note_braces(walk: &mut Walk<'_>, is_array: bool, first: &Option<Initializer>, at: Pos)
+pub fn note_braces(walk: &mut Walk<'_>, is_array: bool, first: &Option<Initializer>, at: Pos)
     ensures { walked_in walk.new
         ≡ walks.failing noted (definitions.braces is_array (option_map initializer_tree first.now) at) (walked_in walk.old) }
 {
@@ -165,9 +165,9 @@ fn item_at<'e>(
     }
 }
 
-// Notes the first value too many.
+/// Notes the first value too many.
 #[tactic(auto, unfolding(pk_ast::specs::Views::initializer_tree))]
-pub(crate) fn note_surplus(walk: &mut Walk<'_>, length: Option<usize>, first: &Option<Initializer>)
+pub fn note_surplus(walk: &mut Walk<'_>, length: Option<usize>, first: &Option<Initializer>)
     ensures { walked_in walk.new
         ≡ walks.failing noted (definitions.surplus length (option_map initializer_tree first.now)) (walked_in walk.old) }
 {
@@ -177,7 +177,10 @@ pub(crate) fn note_surplus(walk: &mut Walk<'_>, length: Option<usize>, first: &O
     match first {
         None => {}
         Some(Initializer::Single(_)) => {}
-        Some(Initializer::Braced { first, more, .. }) => note_item(walk, item_at(first, more, length)),
+        Some(Initializer::Braced { first, more, .. }) => note_item(
+            walk,
+            item_at(first, more, length),
+        ),
     }
 }
 

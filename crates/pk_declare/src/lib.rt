@@ -10,7 +10,9 @@ mod walk;
 mod words;
 
 pub use constants::Evaluated;
+pub use declarators::length_or_1;
+pub use initializers::{note_braces, note_surplus};
 pub use parts::Parts;
 pub use specials::special;
 pub use walk::Walk;
-pub use words::Words;
+pub use words::{Words, integer_in, type_or_int};

@@ -13,8 +13,8 @@ ghost use Rattle.pk_declare.specs.Walks as walks;
 
 use pk_ast::{Expression, Identifier};
 use pk_ctypes::{Pos, Rule};
-use pk_typed::{Effect, Local, Value};
 use pk_scope::{Declaration, Notes, Scope, Typing};
+use pk_typed::{Effect, Local, Value};
 use pk_typing::{Evaluated, arguments, expression, used};
 use std::alloc::{AllocError, Global};
 
@@ -100,7 +100,11 @@ impl<'a> Walk<'a> {
     }
 
     /// Declares a name in the innermost scope, and answers whether that scope had declared it before.
-    pub fn declare(&mut self, name: Identifier, declaration: Declaration) -> Result<bool, AllocError>
+    pub fn declare(
+        &mut self,
+        name: Identifier,
+        declaration: Declaration,
+    ) -> Result<bool, AllocError>
         ensures again { IfOk result (λ r. r ≡ is_some (declared_here (walked_in self.old).scoping name)) }
         ensures walked { OnOk result (walked_in self.new ≡ walks.after_name name declaration (walked_in self.old)) }
     {

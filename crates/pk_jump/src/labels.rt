@@ -6,9 +6,9 @@ ghost use Rattle.pk_jump.specs.Labels as definitions;
 ghost use Rattle.pk_scope.specs.Scopes.{spelled};
 ghost use Rattle.pk_jump.specs.Views.{labels_in, listed_in};
 
-use pk_scope::spelling;
 use pk_ast::{Block, BlockItem, ForStart, Identifier, Statement};
 use pk_ctypes::Pos;
+use pk_scope::spelling;
 use std::alloc::{AllocError, Global};
 use std::collections::HashMap;
 

@@ -1,4 +1,4 @@
-use Rattle.std.proofs.Common.{◌∙◌, ap, Some, [], ◌∷◌, ◌++◌, option_map}
+use Rattle.std.proofs.Common.{◌∙◌, ap, [], ◌∷◌, ◌++◌, option_map}
 use Rattle.pk_ast.specs.Views.{declarator_trees, declaration_tree}
 use Rattle.pk_typed.specs.Views.{declared_tree, declared_trees}
 use Rattle.pk_typing.specs.Typed.{of_both}

@@ -1,0 +1,4 @@
+pub mod CaseLemmas
+pub mod ItemLemmas
+pub mod KeepLemmas
+pub mod WalkLemmas

@@ -1,0 +1,81 @@
+use Rattle.std.proofs.Common.{◌≡◌, ◌∙◌, ap, option_map}
+use Rattle.pk_ast.specs.Views.{declaration_tree}
+use Rattle.pk_typed.specs.Views.{statement_tree, item_trees}
+use Rattle.pk_jump.specs.Views.{labels_in}
+use Rattle.pk_declare.specs.Parts.{parts_in}
+use Rattle.pk_declare.proofs.PartLemmas.{map_twice}
+use Rattle.pk_statement.specs.Views.{passed_in, items_in}
+use Rattle.pk_statement.proofs.WalkLemmas.{items_left, left_positive, items_passed, for_left, for_passed, for_typed, switch_passed, switch_typed, next, at_end, declaration_passed, statement_passed, end_passed, declaration_typed, statement_typed, end_typed}
+use Rattle.pk_statement.proofs.walk.+walk.Goals as goal
+use Rattle.pk_statement.proofs.walk.+walk.Goals.{body_items-in-Declaration+in_ok-objects-in-Declaration+in_ok-add_objects-in-Declaration, body_items-in-Statement+in_ok-one-in-Statement+in_ok-add_statement-in-Statement}
+
+pub block_items-leave-requires : goal.block_items-leave-requires
+block_items-leave-requires t c =
+    left_positive (passed_in c.args.to.now) (passed_in c.body_items.new.to) (items_left c.args.around.now.returns (passed_in c.args.to.now) _ _ _ c.in_ok-enter.ensures c.in_ok-all.ensures.passed)
+
+pub block_items-returns-clause-passed : goal.block_items-returns-clause-passed
+block_items-returns-clause-passed t c =
+    let l = items_left c.args.around.now.returns (passed_in c.args.to.now) _ (passed_in c.body_items.new.to) _ c.in_ok-enter.ensures c.in_ok-all.ensures.passed in
+    items_passed c.args.around.now.returns (passed_in c.args.to.now) _ _ _ _ c.in_ok-enter.ensures c.in_ok-all.ensures.passed (c.leave.ensures (passed_in c.args.to.now).walked l.outer l.text)
+
+pub body_items-loop-item-preserved : goal.body_items-loop-item-preserved
+body_items-loop-item-preserved t c =
+    let i = c.loop-item.invariant in
+    let r = c.args.around.now.returns in
+    let labels = labels_in c.args.around.now.labels.now in
+    let item = next c.args.list.now c.loop-item.item-index c.item-item.result in
+    elim c.match-item.branch [
+      | body_items-in-Declaration+in_ok-objects-in-Declaration+in_ok-add_objects-in-Declaration w ↦
+          let now = item _ c.loop-item-test.true c.item-item.is w.in-Declaration.is in
+          let d = ap declaration_tree w.deref.ensures in
+          let e = w.in_ok-objects-in-Declaration.ensures in
+          let k = ap passed_in w.to-is ∙ e.passed in
+          record {
+            passed = declaration_passed r _ _ _ _ _ _ _ now d k i.passed;
+            trees = declaration_typed r labels _ _ _ _ _ _ _ _ _ _ now d k e.trees (ap items_in w.all-is ∙ w.in_ok-add_objects-in-Declaration.ensures) i.trees;
+          }
+      | body_items-in-Statement+in_ok-one-in-Statement+in_ok-add_statement-in-Statement w ↦
+          let now = item _ c.loop-item-test.true c.item-item.is w.in-Statement.is in
+          let e = w.in_ok-one-in-Statement.ensures in
+          let k = ap passed_in w.to-is ∙ e.passed in
+          record {
+            passed = statement_passed r _ _ _ _ _ _ now k i.passed;
+            trees = statement_typed r labels _ _ _ _ _ _ _ _ _ now k e.tree (ap items_in w.all-is ∙ w.in_ok-add_statement-in-Statement.ensures) i.trees;
+          }
+    ]
+
+pub body_items-returns-clause-passed : goal.body_items-returns-clause-passed
+body_items-returns-clause-passed t c =
+    end_passed c.args.around.now.returns _ _ _ (at_end c.args.list.now c.loop-item.item-index c.loop-item-test.false) c.loop-item.invariant.passed
+
+pub body_items-returns-clause-trees : goal.body_items-returns-clause-trees
+body_items-returns-clause-trees t c =
+    map_twice (λ v. v.items) item_trees c.whole.result
+    ∙ (ap (option_map item_trees) c.whole.ensures
+    ∙ end_typed c.args.around.now.returns (labels_in c.args.around.now.labels.now) _ _ _ _ _ _ (at_end c.args.list.now c.loop-item.item-index c.loop-item-test.false) (ap (option_map item_trees) c.new-all.ensures) c.loop-item.invariant.trees)
+
+pub for_statement-leave-requires : goal.for_statement-leave-requires
+for_statement-leave-requires t c =
+    left_positive (passed_in c.args.to.now) (passed_in c.statement.new.to) (for_left c.args.around.now.returns _ _ _ (passed_in c.args.to.now) _ _ _ _ c.in_ok-enter.ensures c.in_ok-head.ensures.passed c.in_ok-body.ensures.passed)
+
+pub for_statement-returns-clause-passed : goal.for_statement-returns-clause-passed
+for_statement-returns-clause-passed t c =
+    let l = for_left c.args.around.now.returns _ _ _ (passed_in c.args.to.now) _ _ (passed_in c.statement.new.to) _ c.in_ok-enter.ensures c.in_ok-head.ensures.passed c.in_ok-body.ensures.passed in
+    for_passed c.args.around.now.returns c.args.at _ _ _ (passed_in c.args.to.now) _ _ _ _ _ c.in_ok-enter.ensures c.in_ok-head.ensures.passed c.in_ok-body.ensures.passed
+    (c.leave.ensures (passed_in c.args.to.now).walked l.outer l.text)
+
+pub for_statement-returns-clause-tree : goal.for_statement-returns-clause-tree
+for_statement-returns-clause-tree t c =
+    for_typed c.args.around.now.returns (labels_in c.args.around.now.labels.now) c.args.at _ _ _ (passed_in c.args.to.now) _ _ _ _ _ _ c.in_ok-enter.ensures c.in_ok-head.ensures.passed c.in_ok-head.ensures.tree c.in_ok-body.ensures.tree
+    (map_twice (λ b. b.value) statement_tree c.in_ok-made.made ∙ (ap (option_map statement_tree) c.in_ok-made.ensures ∙ c.for_loop.ensures))
+
+pub switch_statement-returns-clause-passed : goal.switch_statement-returns-clause-passed
+switch_statement-returns-clause-passed t c =
+    switch_passed c.args.around.now.returns c.args.at _ (passed_in c.args.to.now) _ _ _ _ _ _ _ _ c.in_ok-typing.ensures.passed c.in_ok-typing.ensures.typing c.enter_switch-outer.ensures.passed
+    c.enter_switch-outer.ensures.cases c.enter_switch-outer.ensures.has_default c.in_ok-body.ensures.passed c.in_ok-ended.ensures.passed
+
+pub switch_statement-returns-clause-tree : goal.switch_statement-returns-clause-tree
+switch_statement-returns-clause-tree t c =
+    switch_typed c.args.around.now.returns (labels_in c.args.around.now.labels.now) c.args.at _ (passed_in c.args.to.now) _ _ _ _ _ _ _ _ _ c.in_ok-typing.ensures.passed c.in_ok-typing.ensures.typing c.enter_switch-outer.ensures.passed
+    c.in_ok-body.ensures.passed c.in_ok-typing.ensures.value c.in_ok-ended.ensures.ended c.in_ok-body.ensures.tree
+    (map_twice (λ b. b.value) statement_tree c.in_ok-made.made ∙ (ap (option_map statement_tree) c.in_ok-made.ensures ∙ c.switch.ensures))

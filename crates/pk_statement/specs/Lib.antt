@@ -1,0 +1,5 @@
+pub mod Statements
+pub mod Trees
+pub mod Items
+pub mod Numbers
+pub mod Views
