@@ -197,7 +197,7 @@ assigned_one l (Some f) s j t c z k h m lay p g i =
       values = written_values f.values s x k (z ∷ []) here m.values (record { each = λ a q. one a q; some = omega arith });
       scalars = λ a q. is a q (cases_eq a j);
       octagon = meets_same (entry (assignment_of f.octagon j t c)) (with_number (selected l.chosen s) j z) (selected l.chosen out) (after l s j z lay p here)
-      (assign_sound f.octagon.vars j t c f.octagon (assignment_of f.octagon j t c) (octagon_entries f.octagon.vars (assigned (entry f.octagon) j t c)) (selected l.chosen s) z g m.octagon);
+          (assign_sound f.octagon.vars j t c f.octagon (assignment_of f.octagon j t c) (octagon_entries f.octagon.vars (assigned (entry f.octagon) j t c)) (selected l.chosen s) z g m.octagon);
     }
   where
     one : (a : ℕ) → a < length (z ∷ []) → IsOf k (number_at (z ∷ []) a)

@@ -145,7 +145,11 @@ pub(crate) fn same_facts(a: &Facts, b: &Facts) -> bool
 }
 
 /// An octagon of these bounds: the old one, shared, where it has them.
-pub(crate) fn shared(alloc: Global, old: &Arc<Matrix>, new: Matrix) -> Result<Arc<Matrix>, AllocError>
+pub(crate) fn shared(
+    alloc: Global,
+    old: &Arc<Matrix>,
+    new: Matrix,
+) -> Result<Arc<Matrix>, AllocError>
     ensures { IfOk result (λ m. arc_value m ≡ new) }
 {
     if new.equals(old) {

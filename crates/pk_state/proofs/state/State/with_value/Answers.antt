@@ -10,6 +10,8 @@ use Rattle.pk_state.proofs.state.State.with_value.Goals as goal
 pub invariant_of-result : goal.invariant_of-result
 invariant_of-result c =
     let l = arc_value c.self.inside.frame in
-    let mine : c.args.self.layout ≡ l = sym (ap (λ (s : Stated). s.layout) c.self.view_is) in
-    (c.self.invariant.0, rw c.in_ok-facts.ensures (changes_stay.written l c.self.inside.facts c.args.x c.args.value c.self.invariant.1 (subst (λ k. c.args.x < length k.types) mine c.requires.place)
-    (subst (λ (k : Layout). IsValue (type_at k c.args.x) c.args.value) mine c.requires.value)))
+    let mine : c.args.self.layout ≡ l = sym (ap (λ (s : Stated). s.layout) c.self.view_is) in (
+      c.self.invariant.0,
+      rw c.in_ok-facts.ensures (changes_stay.written l c.self.inside.facts c.args.x c.args.value c.self.invariant.1 (subst (λ k. c.args.x < length k.types) mine c.requires.place)
+          (subst (λ (k : Layout). IsValue (type_at k c.args.x) c.args.value) mine c.requires.value)),
+    )
