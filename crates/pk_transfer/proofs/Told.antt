@@ -37,11 +37,11 @@ kinds_type l x = ap (λ (k : Kind). k.int_type) (get_or-map kind_of l.types x In
 -- ---- values
 
 -- what goes on with a number has the number
-then_ok : (r : Result ℤ Failure) (f : ℤ → Result ℤ Failure) (z : ℤ) → and_then r f ≡ Ok z → (y : ℤ) × (r ≡ Ok y) × (f y ≡ Ok z)
+pub then_ok : (r : Result ℤ Failure) (f : ℤ → Result ℤ Failure) (z : ℤ) → and_then r f ≡ Ok z → (y : ℤ) × (r ≡ Ok y) × (f y ≡ Ok z)
 then_ok (Ok y) f z e = (y, refl, e)
 then_ok (Err x) f z e = absurd (cc)
 
-site_ok : (s : Site) (r : Result ℤ Fault) (z : ℤ) → at_site s r ≡ Ok z → r ≡ Ok z
+pub site_ok : (s : Site) (r : Result ℤ Fault) (z : ℤ) → at_site s r ≡ Ok z → r ≡ Ok z
 site_ok s (Ok y) z e = let same : y ≡ z = cc in ap Ok same
 site_ok s (Err f) z e = absurd (cc)
 

@@ -1,8 +1,14 @@
 // Laws of trees, over their definitions.
 
+ghost use Rattle.pk_transfer.specs.Guards.{GuardsKeep};
 ghost use Rattle.pk_transfer.specs.Trees.{TreesAreSound};
 
 /// Where a typed tree has a value in a store of a state, it is one of the numbers that are known of it.
 pub fn trees_law()
     ensures { TreesAreSound }
+{}
+
+/// A tree's truth is that of its condition; where a comparison holds, what is known of both operands after it has them.
+pub fn guards_law()
+    ensures { GuardsKeep }
 {}

@@ -1,8 +1,10 @@
 //! What a state knows of trees, and what it knows after instructions.
 #![tactic(auto)]
 
+mod guards;
 mod laws;
 mod trees;
 
-pub use laws::trees_law;
+pub use guards::refine;
+pub use laws::{guards_law, trees_law};
 pub use trees::value;
