@@ -1,6 +1,8 @@
-//! Tests of the numeric domains: intervals, congruences, their reduction, and octagons.
+//! Tests of the numeric domains: intervals, congruences, values, octagons, shared blocks and states.
 #![tactic(auto)]
 
+#[cfg(test)]
+mod blocks;
 #[cfg(test)]
 mod closing;
 #[cfg(test)]
@@ -13,3 +15,7 @@ mod matrices;
 mod octagons;
 #[cfg(test)]
 mod reduction;
+#[cfg(test)]
+mod states;
+#[cfg(test)]
+mod values;

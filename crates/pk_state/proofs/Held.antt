@@ -26,7 +26,8 @@ use Rattle.pk_state.specs.Members.{FactsStay}
 use Rattle.pk_state.proofs.Lists.{merged_at}
 use Rattle.pk_state.proofs.Reds.{reds_of}
 use Rattle.pk_state.proofs.Octs.{by_ranges_vars, by_ranges_octagon}
-use Rattle.pk_state.proofs.Stays.{IsValue, value_at, red_value, bounded_value, write_values}
+use Rattle.pk_state.specs.Changes.{IsValue}
+use Rattle.pk_state.proofs.Stays.{value_at, red_value, bounded_value, write_values}
 
 -- ---- one value
 

@@ -6,3 +6,4 @@ pub mod Sound
 pub mod Stays
 pub mod Held
 pub mod Tops
+pub mod Changed

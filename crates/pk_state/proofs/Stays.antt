@@ -1,5 +1,5 @@
 -- What is made of a layout's values and facts is of the layout.
-use Rattle.std.specs.Prelude.{◌≡◌, ◌≢◌, ◌⊎◌, ℕ, zero, suc, ◌+◌, ◌-◌, ◌*◌, ◌<◌, ◌≤◌, Bool, true, false, if◌then◌else◌, ℤ, ◌≤ℤ◌, int_le, List, [], ◌∷◌, ◌++◌, length, slice_get, Option, Some, None, IfSome}
+use Rattle.std.specs.Prelude.{◌≡◌, ◌≢◌, ◌⊎◌, ℕ, zero, suc, ◌+◌, ◌-◌, ◌*◌, ◌<◌, ◌≤◌, Bool, true, false, if◌then◌else◌, ℤ, int_le, List, [], ◌∷◌, ◌++◌, length, slice_get, Option, Some, None, IfSome}
 use Rattle.std.proofs.Common.{◌∙◌, ap, refl, sym, subst, arith, inl, inr, set, take, drop, length-set}
 use Rattle.std.proofs.lemmas.Int.{ints}
 use Rattle.std.proofs.lemmas.Bool.{cases_eq}
@@ -18,13 +18,8 @@ use Rattle.pk_state.specs.Layouts.{Layout, type_at, chosen_at}
 use Rattle.pk_state.specs.Facts.{known_at, AreValues}
 use Rattle.pk_blocks.specs.Rows.{merged_from}
 use Rattle.pk_state.specs.Reduced.{then_with, with_first, red_all, with_range, raised_low, lowered_high, bounded_by, bounded_at, bounded_all}
+use Rattle.pk_state.specs.Changes.{IsValue}
 use Rattle.pk_state.proofs.Bounded.{known_same, known_other, low_rises, high_falls}
-
--- what a value of a type is
-pub record IsValue (t : IntType) (k : Known) : Type 0 where
-  pub inside : IsIn t k.range
-  pub some : k.range.lo ≤ℤ k.range.hi
-  pub class : IsReduced k.class.m k.class.r
 
 pub value_at : (l : Layout) (vs : List Known) (x : ℕ) → AreValues l vs → x < length vs → IsValue (type_at l x) (known_at vs x)
 value_at l vs x h p = record { inside = h.inside x p; some = h.some x p; class = h.classes x p }

@@ -14,7 +14,7 @@ use Rattle.pk_octmat.proofs.Matrices.{top_same, top_turned, top_near}
 use Rattle.pk_octmat.proofs.Tabled.{octagon_from}
 use Rattle.pk_state.specs.Layouts.{Layout, IsLayout, type_at}
 use Rattle.pk_state.specs.Facts.{AreFacts, top_facts}
-use Rattle.pk_state.proofs.Stays.{IsValue}
+use Rattle.pk_state.specs.Changes.{IsValue}
 use Rattle.pk_state.proofs.Held.{every_reduced, values_from}
 
 pub top_set : (ts : List IntType) (k : ℕ) → k < length ts

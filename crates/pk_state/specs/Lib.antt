@@ -2,3 +2,4 @@ pub mod Layouts
 pub mod Facts
 pub mod Reduced
 pub mod Members
+pub mod Changes

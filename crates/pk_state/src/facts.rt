@@ -144,8 +144,12 @@ pub(crate) fn same_facts(a: &Facts, b: &Facts) -> bool
     same_values(&a.values, &b.values) && a.octagon.equals(&b.octagon)
 }
 
-// An octagon of these bounds: the old one, shared, where it has them.
-fn shared(alloc: Global, old: &Arc<Matrix>, new: Matrix) -> Result<Arc<Matrix>, AllocError>
+/// An octagon of these bounds: the old one, shared, where it has them.
+pub(crate) fn shared(
+    alloc: Global,
+    old: &Arc<Matrix>,
+    new: Matrix,
+) -> Result<Arc<Matrix>, AllocError>
     ensures { IfOk result (λ m. arc_value m ≡ new) }
 {
     if new.equals(old) {

@@ -1,6 +1,7 @@
 //! Abstract states: what is known of each variable, and an octagon over some of them.
 #![tactic(auto)]
 
+mod changes;
 mod facts;
 mod frame;
 mod laws;
@@ -9,5 +10,5 @@ mod state;
 mod values;
 
 pub use frame::Frame;
-pub use laws::{states_law, stays_law};
+pub use laws::{changes_law, states_law, stays_law, written_law};
 pub use state::State;

@@ -21,8 +21,8 @@ use std::sync::Arc;
 /// common.
 #[derive(Drop)]
 pub struct State {
-    frame: Arc<Frame>,
-    facts: Option<Facts>,
+    pub(crate) frame: Arc<Frame>,
+    pub(crate) facts: Option<Facts>,
 }
 
 impl Model for State {

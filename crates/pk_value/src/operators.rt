@@ -60,6 +60,7 @@ fn known(t: IntType, interval: &Interval, congr: &Congr) -> Option<Value>
     ensures value { result ≡ red_as interval.now congr.now }
     ensures inside { IfSome result (λ k. IsIn t k.range) }
     ensures class { IfSome result (λ k. IsOf t k.class) }
+    ensures some { IfSome result (λ k. k.range.lo ≤ℤ k.range.hi) }
 {
     Value {
         interval: *interval,
@@ -74,6 +75,7 @@ fn fit(t: IntType, found: &Outcome, congr: &Congr) -> Option<Value>
     ensures value { result ≡ fitted t (finish_of t found.now) congr.now }
     ensures inside { IfSome result (λ k. IsIn t k.range) }
     ensures class { IfSome result (λ k. IsOf t k.class) }
+    ensures some { IfSome result (λ k. k.range.lo ≤ℤ k.range.hi) }
 {
     match finish(t, found) {
         None => None,
@@ -87,6 +89,7 @@ fn by_table(op: Op, t: IntType, a: &Value, b: &Value) -> Option<Value>
     ensures value { result ≡ from_table op t a.now b.now }
     ensures inside { IfSome result (λ k. IsIn (type_of_result op t) k.range) }
     ensures class { IfSome result (λ k. IsOf (type_of_result op t) k.class) }
+    ensures some { IfSome result (λ k. k.range.lo ≤ℤ k.range.hi) }
 {
     let found = compare(
         op,
@@ -114,6 +117,7 @@ pub fn operate(op: Op, t: IntType, a: &Value, b: &Value) -> Option<Value>
     ensures value { result ≡ operated op t a.now b.now }
     ensures inside { IfSome result (λ k. IsIn (type_of_result op t) k.range) }
     ensures class { IfSome result (λ k. IsOf (type_of_result op t) k.class) }
+    ensures some { IfSome result (λ k. k.range.lo ≤ℤ k.range.hi) }
 {
     value_law();
     if constant(a) && constant(b) {
@@ -132,6 +136,7 @@ pub fn convert(t: IntType, a: &Value) -> Option<Value>
     ensures value { result ≡ converted t a.now }
     ensures inside { IfSome result (λ k. IsIn t k.range) }
     ensures class { IfSome result (λ k. IsOf t k.class) }
+    ensures some { IfSome result (λ k. k.range.lo ≤ℤ k.range.hi) }
 {
     let (interval, added) = wrap_interval(t, &a.interval);
     known(t, &interval, &wrap_congr(t, &a.congr, added))

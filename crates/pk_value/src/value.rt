@@ -1,13 +1,13 @@
 // What is known of a number.
 
-ghost use Rattle.std.specs.Prelude.{◌≡◌, ◌↔◌, true, ◌<◌, ◌^◌, IfSome, unsigned_abs};
+ghost use Rattle.std.specs.Prelude.{◌≡◌, ◌↔◌, true, ◌<◌, ◌≤ℤ◌, ◌^◌, IfSome, unsigned_abs};
 ghost use Rattle.pk_interval.specs.Ranges.{IsIn};
 ghost use Rattle.pk_congr.specs.Laws.{IsOf};
 ghost use Rattle.pk_value.specs.Known.{Known, any_of, exactly, red_known};
 
 use crate::reduction::reduce;
 use pk_blocks::Item;
-use pk_congr::Congr;
+use pk_congr::{Congr, reduced_law};
 use pk_ctypes::IntType;
 use pk_interval::{Interval, point, whole};
 use std::marker::Model;
@@ -57,7 +57,9 @@ impl Value {
         ensures value { result ≡ red_known self.now }
         ensures inside { IfSome result (λ k. IsIn t k.range) }
         ensures class { IfSome result (λ k. IsOf t k.class) }
+        ensures some { IfSome result (λ k. k.range.lo ≤ℤ k.range.hi) }
     {
+        reduced_law(&self.congr);
         match reduce(t, &self.interval, &self.congr) {
             None => None,
             Some(both) => Some(Value {

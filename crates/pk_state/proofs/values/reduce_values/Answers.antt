@@ -1,6 +1,7 @@
 use Rattle.std.proofs.Common.{◌<◌, sym, subst, ◌∙◌, arith, length}
 use Rattle.pk_state.specs.Layouts.{type_at}
-use Rattle.pk_state.proofs.Stays.{IsValue, value_at, red_value, write_values, get_known, red_more, red_stop}
+use Rattle.pk_state.specs.Changes.{IsValue}
+use Rattle.pk_state.proofs.Stays.{value_at, red_value, write_values, get_known, red_more, red_stop}
 use Rattle.pk_state.proofs.values.reduce_values.Goals as goal
 
 pub returns-in-None-clause-value : goal.returns-in-None-clause-value

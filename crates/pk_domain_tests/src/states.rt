@@ -1,0 +1,103 @@
+// Small states: what an octagon decides that intervals can't, and that no run comes to a point.
+
+ghost use Rattle.std.specs.Prelude.{◌≡◌, ◌<◌, IfOk, length};
+ghost use Rattle.std.specs.Arc.{arc_value};
+
+use pk_ctypes::IntType;
+use pk_state::{Frame, State};
+use std::alloc::{AllocError, Global};
+use std::sync::Arc;
+use std::test::Fail;
+
+// Two variables of type int, and an octagon over both.
+fn pair(alloc: Global) -> Result<Arc<Frame>, AllocError>
+    ensures types { IfOk result (λ f. length (arc_value f).types ≡ 2) }
+    ensures chosen { IfOk result (λ f. length (arc_value f).chosen ≡ 2) }
+{
+    let types = Vec::from_slice(alloc, &[IntType::Int, IntType::Int])?;
+    let chosen = Vec::from_slice(alloc, &[0, 1])?;
+    Ok(Arc::new(alloc, Frame::new(types, chosen))?)
+}
+
+// The bounds of a variable; none where no run comes there.
+fn range(s: &State, x: usize) -> Option<(i128, i128)>
+    requires { x < length s.now.layout.types }
+{
+    s.value(x).map(|v| (v.interval.lo, v.interval.hi))
+}
+
+// x from 0 to 10 and y at most 5, over one frame.
+fn small(alloc: Global, frame: &Arc<Frame>) -> Result<State, AllocError>
+    requires { length (arc_value frame.now).chosen ≡ 2 }
+    ensures { IfOk result (λ s. s.layout ≡ arc_value frame.now) }
+{
+    State::top(alloc, Arc::try_clone(frame)?)?
+        .with_guard(alloc, Some(0), None, 10)?
+        .with_guard(alloc, Some(1), None, 0)?
+        .with_guard(alloc, Some(2), None, 5)?
+        .reduce(alloc)
+}
+
+// x from 0 to 3 as well.
+fn less(alloc: Global, frame: &Arc<Frame>) -> Result<State, AllocError>
+    requires { length (arc_value frame.now).chosen ≡ 2 }
+    ensures { IfOk result (λ s. s.layout ≡ arc_value frame.now) }
+{
+    small(alloc, frame)?
+        .with_guard(alloc, Some(0), None, 3)?
+        .reduce(alloc)
+}
+
+// And x < y.
+fn ordered(alloc: Global, frame: &Arc<Frame>) -> Result<State, AllocError>
+    requires { length (arc_value frame.now).chosen ≡ 2 }
+    ensures { IfOk result (λ s. s.layout ≡ arc_value frame.now) }
+{
+    small(alloc, frame)?
+        .with_guard(alloc, Some(0), Some(3), -1)?
+        .reduce(alloc)
+}
+
+#[test]
+fn octagons_decide(rt: HostRuntime) -> Result<(), Fail> {
+    let frame = pair(rt.alloc())?;
+    let s = ordered(rt.alloc(), &frame)?;
+    assert_eq!(rt; (range(&s, 0), range(&s, 1)), (Some((0, 4)), Some((1, 5))));
+    // y < x
+    let s = s
+        .with_guard(rt.alloc(), Some(2), Some(1), -1)?
+        .reduce(rt.alloc())?;
+    assert_eq!(rt; (s.is_bottom(), range(&s, 0)), (true, None));
+    Ok(())
+}
+
+#[test]
+fn orders(rt: HostRuntime) -> Result<(), Fail> {
+    let frame = pair(rt.alloc())?;
+    let small = small(rt.alloc(), &frame)?;
+    let less = less(rt.alloc(), &frame)?;
+    assert_eq!(rt; (less.leq(&small), small.leq(&less)), (true, false));
+    assert!(rt; less.join(rt.alloc(), &small)?.equals(&small));
+    Ok(())
+}
+
+#[test]
+fn bottoms(rt: HostRuntime) -> Result<(), Fail> {
+    let frame = pair(rt.alloc())?;
+    let small = small(rt.alloc(), &frame)?;
+    let bottom = State::bottom(frame);
+    assert_eq!(rt; (bottom.leq(&small), small.leq(&bottom)), (true, false));
+    assert!(rt; bottom.join(rt.alloc(), &small)?.equals(&small));
+    Ok(())
+}
+
+#[test]
+fn steps(rt: HostRuntime) -> Result<(), Fail> {
+    let frame = pair(rt.alloc())?;
+    let small = small(rt.alloc(), &frame)?;
+    let less = less(rt.alloc(), &frame)?;
+    let wide = less.widen(rt.alloc(), &small, &[])?;
+    assert_eq!(rt; range(&wide, 0), Some((0, 2147483647)));
+    assert_eq!(rt; range(&wide.narrow(rt.alloc(), &small)?, 0), Some((0, 10)));
+    Ok(())
+}

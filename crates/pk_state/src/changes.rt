@@ -1,0 +1,169 @@
+// Reading and writing what a state knows.
+
+ghost use Rattle.std.specs.Prelude.{◌≡◌, ◌<◌, ◌*◌, IfOk, IfSome, length};
+ghost use Rattle.pk_octops.specs.Guards.{IsGuard};
+ghost use Rattle.pk_state.specs.Layouts.{type_at};
+ghost use Rattle.pk_state.specs.Facts.{AreFactsIf};
+ghost use Rattle.pk_state.specs.Changes.{IsValue, known_in, with_known, assigned_in, guarded_in};
+
+use crate::facts::{Facts, shared};
+use crate::frame::Frame;
+use crate::state::State;
+use pk_octmat::Shape;
+use pk_octops::{assign, guard};
+use pk_value::Value;
+use std::alloc::{AllocError, Global};
+use std::sync::Arc;
+
+fn value_if(facts: &Option<Facts>, x: usize, frame: &Frame) -> Option<Value>
+    requires facts { AreFactsIf frame.now facts.now }
+    requires place { x < length frame.now.types }
+    ensures value { result ≡ known_in facts.now x }
+    ensures inside { IfSome result (IsValue (type_at frame.now x)) }
+{
+    let _ = frame;
+    match facts {
+        None => None,
+        Some(facts) => Some(facts.values.get(x)),
+    }
+}
+
+fn write_if(
+    alloc: Global,
+    facts: Option<Facts>,
+    x: usize,
+    value: Value,
+    frame: &Frame,
+) -> Result<Option<Facts>, AllocError>
+    requires facts { AreFactsIf frame.now facts }
+    requires place { x < length frame.now.types }
+    ensures { IfOk result (λ f. f ≡ with_known facts x value) }
+{
+    let _ = frame;
+    match facts {
+        None => Ok(None),
+        Some(facts) => {
+            let mut values = facts.values;
+            values.set(alloc, x, value)?;
+            Ok(Some(Facts {
+                values,
+                octagon: facts.octagon,
+            }))
+        }
+    }
+}
+
+fn assign_if(
+    alloc: Global,
+    facts: Option<Facts>,
+    k: u32,
+    term: Option<u32>,
+    c: i128,
+    frame: &Frame,
+) -> Result<Option<Facts>, AllocError>
+    requires facts { AreFactsIf frame.now facts }
+    requires variable { k < length frame.now.chosen }
+    requires term { IfSome term (λ t. t < 2 * length frame.now.chosen) }
+    ensures { IfOk result (λ f. f ≡ assigned_in facts k term c) }
+{
+    let _ = frame;
+    match facts {
+        None => Ok(None),
+        Some(facts) => {
+            let m = assign(&facts.octagon, k, term, c)?;
+            Ok(Some(Facts {
+                octagon: shared(alloc, &facts.octagon, m)?,
+                values: facts.values,
+            }))
+        }
+    }
+}
+
+fn guard_if(
+    alloc: Global,
+    facts: Option<Facts>,
+    a: Option<u32>,
+    b: Option<u32>,
+    c: i128,
+    frame: &Frame,
+) -> Result<Option<Facts>, AllocError>
+    requires facts { AreFactsIf frame.now facts }
+    requires terms { IsGuard (length frame.now.chosen) a b }
+    ensures { IfOk result (λ f. f ≡ guarded_in facts a b c) }
+{
+    let _ = frame;
+    match facts {
+        None => Ok(None),
+        Some(facts) => {
+            let mut m = facts.octagon.copy()?;
+            match guard(&mut m, a, b, c) {
+                Shape::Empty => Ok(None),
+                Shape::Kept => Ok(Some(Facts {
+                    octagon: shared(alloc, &facts.octagon, m)?,
+                    values: facts.values,
+                })),
+            }
+        }
+    }
+}
+
+impl State {
+    /// What is known of a variable; none where no run comes there.
+    pub fn value(&self, x: usize) -> Option<Value>
+        requires { x < length self.now.layout.types }
+        ensures value { result ≡ known_in self.now.facts x }
+        ensures inside { IfSome result (IsValue (type_at self.now.layout x)) }
+    {
+        value_if(&self.facts, x, &self.frame)
+    }
+
+    /// The same, but for what is known of a variable.
+    pub fn with_value(self, alloc: Global, x: usize, value: Value) -> Result<State, AllocError>
+        requires place { x < length self.layout.types }
+        requires value { IsValue (type_at self.layout x) value }
+        ensures { IfOk result (λ s. s ≡ record { layout = self.layout; facts = with_known self.facts x value }) }
+    {
+        let facts = write_if(alloc, self.facts, x, value, &self.frame)?;
+        Ok(State {
+            frame: self.frame,
+            facts,
+        })
+    }
+
+    /// The octagon's variable k gets V(term) + c, or any number where there is no term. Place 2k is the variable, place 2k + 1 its negative.
+    pub fn with_assignment(
+        self,
+        alloc: Global,
+        k: u32,
+        term: Option<u32>,
+        c: i128,
+    ) -> Result<State, AllocError>
+        requires variable { k < length self.layout.chosen }
+        requires term { IfSome term (λ t. t < 2 * length self.layout.chosen) }
+        ensures { IfOk result (λ s. s ≡ record { layout = self.layout; facts = assigned_in self.facts k term c }) }
+    {
+        let facts = assign_if(alloc, self.facts, k, term, c, &self.frame)?;
+        Ok(State {
+            frame: self.frame,
+            facts,
+        })
+    }
+
+    /// Keeps the stores with V(a) + V(b) <= c, where terms that are none are left out.
+    pub fn with_guard(
+        self,
+        alloc: Global,
+        a: Option<u32>,
+        b: Option<u32>,
+        c: i128,
+    ) -> Result<State, AllocError>
+        requires { IsGuard (length self.layout.chosen) a b }
+        ensures { IfOk result (λ s. s ≡ record { layout = self.layout; facts = guarded_in self.facts a b c }) }
+    {
+        let facts = guard_if(alloc, self.facts, a, b, c, &self.frame)?;
+        Ok(State {
+            frame: self.frame,
+            facts,
+        })
+    }
+}

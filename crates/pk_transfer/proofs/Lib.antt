@@ -1,0 +1,5 @@
+pub mod Told
+pub mod Refining
+pub mod Apart
+pub mod Forms
+pub mod Assigning

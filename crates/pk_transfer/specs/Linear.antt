@@ -1,0 +1,178 @@
+-- Linear forms: a constant and at most two signed octagon variables.
+use Rattle.std.specs.Prelude.{◌≡◌, ◌≢◌, ℕ, suc, ◌<◌, ◌*◌, ◌==◌, nat_le, Bool, ◌&&◌, ◌||◌, if◌then◌else◌, ℤ, pos, ◌+ℤ◌, ◌-ℤ◌, ◌≤ℤ◌, neg_ℤ, int_le, List, [], ◌∷◌, length, map, Option, Some, None, option_map, Ok}
+use Rattle.pk_ctypes.specs.declared.types.IntType.{IntType}
+use Rattle.pk_ctypes.specs.declared.types.Op.{Op}
+use Rattle.pk_ctypes.specs.declared.types.Op.TheVariants.{Add, Sub, Mul, Div, Rem, Shl, Shr, And, Or, Xor, Lt, Gt, Le, Ge, Eq, Ne, Neg, BitNot, Not}
+use Rattle.pk_ctypes.specs.Types.{low_of, high_of, is_signed_of}
+use Rattle.pk_interval.specs.declared.outcome.Outcome.{Outcome}
+use Rattle.pk_interval.specs.declared.outcome.Outcome.TheVariants.{Empty, Within, TooLarge}
+use Rattle.pk_interval.specs.Ranges.{Range}
+use Rattle.pk_interval.specs.Operators.{range_of}
+use Rattle.pk_octmat.specs.Octagon.{bar, side}
+use Rattle.pk_octops.specs.Guards.{IsGuard, Obeys}
+use Rattle.pk_graph.specs.Trees.{TreeOf, constant, variable, converted, unary, binary}
+use Rattle.pk_graph.specs.Kinds.{IsTyped}
+use Rattle.pk_graph.specs.Steps.{tree_value}
+use Rattle.pk_graph.specs.Stores.{Stored, storing}
+use Rattle.pk_value.specs.Known.{Known}
+use Rattle.pk_state.specs.Layouts.{Layout}
+use Rattle.pk_state.specs.Facts.{Facts, AreFactsIf}
+use Rattle.pk_state.specs.Members.{selected, Member}
+use Rattle.pk_state.specs.Changes.{known_in}
+use Rattle.pk_transfer.specs.Trees.{tree_known, kinds_of}
+
+-- ---- the octagon's variables
+
+-- the number of a variable among the selected ones
+abbrev pub place_in : List ℕ → ℕ → Option ℕ
+place_in [] x = None
+place_in (y ∷ ys) x = if y == x then Some 0 else option_map suc (place_in ys x)
+
+-- ---- forms
+
+pub record Linear : Type 0 where
+  pub constant : ℤ
+  pub places : List ℕ
+
+-- the sum of the places' numbers
+abbrev pub sum_of : (ℕ → ℤ) → List ℕ → ℤ
+sum_of x [] = pos 0
+sum_of x (p ∷ ps) = side x p +ℤ sum_of x ps
+
+abbrev pub linear_value : (ℕ → ℤ) → Linear → ℤ
+linear_value x l = l.constant +ℤ sum_of x l.places
+
+-- one place more, or its opposite less
+abbrev pub with_place : ℕ → List ℕ → List ℕ
+with_place p [] = p ∷ []
+with_place p (q ∷ qs) = if q == bar p then qs else q ∷ with_place p qs
+
+abbrev pub with_places : List ℕ → List ℕ → List ℕ
+with_places [] qs = qs
+with_places (p ∷ ps) qs = with_place p (with_places ps qs)
+
+abbrev pub negative : Linear → Linear
+negative l = record { constant = neg_ℤ l.constant; places = map bar l.places }
+
+abbrev pub sum : Linear → Linear → Linear
+sum l m = record { constant = l.constant +ℤ m.constant; places = with_places l.places m.places }
+
+abbrev pub difference : Linear → Linear → Linear
+difference l m = sum l (negative m)
+
+-- ---- of a tree
+
+-- at most two places
+abbrev pub if_few : Linear → Option Linear
+if_few l = if nat_le (length l.places) 2 then Some l else None
+
+abbrev pub both : (Linear → Linear → Linear) → Option Linear → Option Linear → Option Linear
+both f None m = None
+both f (Some l) None = None
+both f (Some l) (Some m) = if_few (f l m)
+
+-- the form, where what is known passes a test
+abbrev pub where_known : Option Known → (Known → Bool) → Option Linear → Option Linear
+where_known None f l = None
+where_known (Some k) f l = if f k then l else None
+
+abbrev pub where_both : Option Known → Option Known → (Known → Known → Bool) → Option Linear → Option Linear
+where_both None k f l = None
+where_both (Some j) k f l = where_known k (f j) l
+
+-- the range lies in the type, so that a conversion changes no number of it
+abbrev pub is_inside : IntType → Range → Bool
+is_inside t r = int_le (low_of t) r.lo && int_le r.hi (high_of t)
+
+abbrev pub stays : IntType → Outcome → Bool
+stays t Empty = is_signed_of t
+stays t (Within r) = is_signed_of t || is_inside t r
+stays t TooLarge = is_signed_of t
+
+-- the operator's numbers are not wrapped
+abbrev pub is_exact : Op → IntType → Known → Known → Bool
+is_exact op t j k = stays t (range_of op t j.range k.range)
+
+-- a form that only a negative has, and two that only a sum and a difference have
+abbrev pub if_negative : Op → Option Linear → Option Linear
+if_negative Add l = None
+if_negative Sub l = None
+if_negative Mul l = None
+if_negative Div l = None
+if_negative Rem l = None
+if_negative Shl l = None
+if_negative Shr l = None
+if_negative And l = None
+if_negative Or l = None
+if_negative Xor l = None
+if_negative Lt l = None
+if_negative Gt l = None
+if_negative Le l = None
+if_negative Ge l = None
+if_negative Eq l = None
+if_negative Ne l = None
+if_negative Neg l = l
+if_negative BitNot l = None
+if_negative Not l = None
+
+abbrev pub if_sum : Op → Option Linear → Option Linear → Option Linear
+if_sum Add l m = l
+if_sum Sub l m = m
+if_sum Mul l m = None
+if_sum Div l m = None
+if_sum Rem l m = None
+if_sum Shl l m = None
+if_sum Shr l m = None
+if_sum And l m = None
+if_sum Or l m = None
+if_sum Xor l m = None
+if_sum Lt l m = None
+if_sum Gt l m = None
+if_sum Le l m = None
+if_sum Ge l m = None
+if_sum Eq l m = None
+if_sum Ne l m = None
+if_sum Neg l m = None
+if_sum BitNot l m = None
+if_sum Not l m = None
+
+-- The linear form of a tree over the chosen variables, where it has one and g says what is known of each variable.
+abbrev pub linear : List ℕ → (ℕ → Option Known) → TreeOf ℕ → Option Linear
+linear chosen g (constant t c) = Some (record { constant = c; places = [] })
+linear chosen g (variable x) = option_map (λ k. record { constant = pos 0; places = 2 * k ∷ [] }) (place_in chosen x)
+linear chosen g (converted t e) = where_known (tree_known g e) (λ k. is_inside t k.range) (linear chosen g e)
+linear chosen g (unary op s t e) = if_negative op (where_known (tree_known g e) (λ k. is_exact Neg t k k) (option_map negative (linear chosen g e)))
+linear chosen g (binary op s t a b) =
+    if_sum op (where_both (tree_known g a) (tree_known g b) (is_exact Add t) (both sum (linear chosen g a) (linear chosen g b)))
+    (where_both (tree_known g a) (tree_known g b) (is_exact Sub t) (both difference (linear chosen g a) (linear chosen g b)))
+
+-- the bound c on the sum of at most two places, as a guard of an octagon has it
+abbrev pub IsBounded : (ℕ → ℤ) → List ℕ → ℤ → Type 0
+IsBounded x [] c = Obeys x None None c
+IsBounded x (a ∷ []) c = Obeys x (Some a) None c
+IsBounded x (a ∷ (b ∷ [])) c = Obeys x (Some a) (Some b) c
+IsBounded x (a ∷ (b ∷ (d ∷ ps))) c = Unit {0}
+
+-- q isn't among the places
+abbrev pub IsNone : ℕ → List ℕ → Type 0
+IsNone q [] = Unit {0}
+IsNone q (p ∷ ps) = (p ≢ q) × IsNone q ps
+
+-- places of n variables, none the opposite of another
+abbrev pub ArePlaces : ℕ → List ℕ → Type 0
+ArePlaces n [] = Unit {0}
+ArePlaces n (p ∷ ps) = (p < 2 * n) × IsNone (bar p) ps × ArePlaces n ps
+
+-- a guard on the places
+abbrev pub IsGuardOn : ℕ → List ℕ → Type 0
+IsGuardOn n [] = IsGuard n None None
+IsGuardOn n (a ∷ []) = IsGuard n (Some a) None
+IsGuardOn n (a ∷ (b ∷ [])) = IsGuard n (Some a) (Some b)
+IsGuardOn n (a ∷ (b ∷ (c ∷ ps))) = Unit {0}
+
+-- Where a typed tree has a value in a store of a state, and a linear form, the value is that of the form; where the left of two forms is at most the right, their
+-- difference is bounded by that of the constants; and the difference of two trees' forms is a guard of the octagon.
+pub record FormsAreExact : Type 0 where
+  pub values : (y : Layout) (f : Option Facts) (s : Stored) (e : TreeOf ℕ) (z : ℤ) (l : Linear) → AreFactsIf y f → Member y f s → IsTyped (kinds_of y) e → tree_value storing e s ≡ Ok z → linear y.chosen (known_in f) e ≡ Some l → z ≡ linear_value (selected y.chosen s) l
+  pub bounded : (x : ℕ → ℤ) (l r : Linear) → linear_value x l ≤ℤ linear_value x r → IsBounded x (difference l r).places (r.constant -ℤ l.constant)
+  pub guards : (chosen : List ℕ) (g : ℕ → Option Known) (d e : TreeOf ℕ) (l r : Linear) → linear chosen g d ≡ Some l → linear chosen g e ≡ Some r → IsGuardOn (length chosen) (difference l r).places
