@@ -1,10 +1,8 @@
 -- What is noted after several lists of failures and of calls.
-use Rattle.std.proofs.Common.{◌≡◌, Bool, true, false, ◌&&◌, List, [], ◌∷◌, ◌++◌, Option, refl, ap, ◌∙◌}
-use Rattle.pk_ctypes.specs.declared.places.Pos.{Pos}
-use Rattle.pk_ctypes.specs.declared.words.Rule.{Rule}
+use Rattle.std.proofs.Common.{◌≡◌, List, [], ◌∷◌, ◌++◌, Option, refl, ap, ◌∙◌}
 use Rattle.pk_typed.specs.declared.units.CallSite.{CallSite}
 use Rattle.pk_scope.specs.declared.failures.Failure.{Failure}
-use Rattle.pk_scope.specs.Failures.{fails_if, earlier, noted}
+use Rattle.pk_scope.specs.Failures.{earlier, noted}
 use Rattle.pk_scope.specs.Notes.{Noted, with_failures}
 
 -- one list after another
