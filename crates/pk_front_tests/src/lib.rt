@@ -15,3 +15,5 @@ mod io;
 mod lex;
 #[cfg(test)]
 mod parse;
+#[cfg(test)]
+mod typing;
