@@ -17,3 +17,5 @@ mod io;
 mod lex;
 #[cfg(test)]
 mod parse;
+#[cfg(test)]
+mod typing;

@@ -26,6 +26,7 @@ use pk_typed::Item;
 use std::alloc::{AllocError, Global};
 
 /// What the statements of a function see of it: what it returns, and its labels.
+#[derive(Clone, Copy)]
 pub struct Around<'f, 'a> {
     pub alloc: Global,
     pub returns: Typing,

@@ -1,0 +1,112 @@
+-- Objects of the file scope from a place on.
+use Rattle.std.proofs.Math.Seq.{drop-cons}
+use Rattle.std.proofs.lemmas.List.{drop_all, map-append, append-nil}
+use Rattle.std.proofs.Common.{◌≡◌, ℕ, suc, ◌+◌, ◌<◌, ◌≤◌, ℤ, Bool, List, [], ◌∷◌, ◌++◌, Option, Some, None, option_map, drop, get_or, length, map, add-one, append_assoc, refl, ap, sym, ◌∙◌}
+use Rattle.pk_ctypes.specs.declared.types.IntType.{IntType}
+use Rattle.pk_ctypes.specs.declared.words.Rule.TheVariants as rule
+use Rattle.std.specs.Option.{is_some}
+use Rattle.pk_ast.specs.declared.declarations.Declarator.{Declarator}
+use Rattle.pk_ast.specs.declared.expressions.Expression.{Expression}
+use Rattle.pk_ast.specs.declared.units.Storage.{Storage}
+use Rattle.pk_ast.specs.Trees.{ExpressionTree, ExpressionTrees, no_expressions, expression_then, DeclaratorTree, DeclarationTree}
+use Rattle.pk_ast.specs.Views.{expression_tree, expression_trees, declarator_tree, declarator_trees}
+use Rattle.pk_typed.specs.declared.units.FileObject.{FileObject}
+use Rattle.pk_typed.specs.Views.{file_object_tree}
+use Rattle.pk_scope.specs.declared.failures.Failure.{Failure}
+use Rattle.pk_scope.specs.declared.declarations.Declaration.{Declaration}
+use Rattle.pk_scope.specs.Declarations.{is_void}
+use Rattle.pk_scope.specs.Failures.{noted, fails_if}
+use Rattle.pk_scope.specs.Scopes.{declared_here, spelled}
+use Rattle.pk_scope.specs.Specifiers.{specifiers}
+use Rattle.pk_declare.specs.declared.words.Words.{Words}
+use Rattle.pk_declare.specs.Constants.{after_constant}
+use Rattle.pk_declare.specs.Declarations.{words_of, after_optional_length, length_at, braces, surplus}
+use Rattle.pk_declare.specs.Specials.{special}
+use Rattle.pk_declare.specs.Walks.{Walked, failing, after_name}
+use Rattle.pk_statement.proofs.CaseLemmas.{failing_twice}
+use Rattle.pk_type.specs.Files.{Filed, is_extern, file_object, after_head, number_at, after_numbers, numbers_at, after_object, after_objects, after_declaration, without_calls, on}
+
+abbrev State : Type 0
+State = Walked (Option Failure)
+
+abbrev Files : Type 0
+Files = Filed (Option Failure)
+
+pub objects_push : (xs : List FileObject) (x : FileObject) → map file_object_tree (xs ++ x ∷ []) ≡ map file_object_tree xs ++ file_object_tree x ∷ []
+objects_push xs x = map-append file_object_tree xs (x ∷ [])
+
+pub next_expression : (list : List Expression) (i : ℕ) (x : Expression) → i < length list → x ≡ get_or list i x → expression_trees (drop i list) ≡ expression_then (expression_tree x) (expression_trees (drop (i + 1) list))
+next_expression list i x h is = rw add-one (ap expression_trees (drop-cons list i x h ∙ ap (λ z. z ∷ drop (suc i) list) (sym is)))
+
+pub last_expression : (list : List Expression) (i : ℕ) → length list ≤ i → expression_trees (drop i list) ≡ no_expressions
+last_expression list i h = ap expression_trees (drop_all i list h)
+
+pub numbers_walked : (w v all : State) (e : ExpressionTree) (now rest : ExpressionTrees) → now ≡ expression_then e rest → v ≡ after_constant noted e w → after_numbers noted now w ≡ all → after_numbers noted rest v ≡ all
+unfolding after_numbers
+numbers_walked w v all e now rest p q h = ap (after_numbers noted rest) q ∙ (ap (λ n. after_numbers noted n w) (sym p) ∙ h)
+
+pub numbers_ended : (w all : State) (now : ExpressionTrees) → now ≡ no_expressions → after_numbers noted now w ≡ all → w ≡ all
+unfolding after_numbers
+numbers_ended w all now p h = ap (λ n. after_numbers noted n w) (sym p) ∙ h
+
+pub numbers_step : (t : IntType) (w v : State) (e : ExpressionTree) (now rest : ExpressionTrees) (xs ys all : List ℤ) → now ≡ expression_then e rest → v ≡ after_constant noted e w → ys ≡ xs ++ number_at t w e ∷ [] →
+    xs ++ numbers_at noted t now w ≡ all → ys ++ numbers_at noted t rest v ≡ all
+unfolding numbers_at
+numbers_step t w v e now rest xs ys all p q s h =
+    ap (λ x. ys ++ numbers_at noted t rest x) q
+    ∙ (ap (λ y. y ++ numbers_at noted t rest (after_constant noted e w)) s
+    ∙ (append_assoc xs (number_at t w e ∷ []) (numbers_at noted t rest (after_constant noted e w)) ∙ (ap (λ m. xs ++ numbers_at noted t m w) (sym p) ∙ h)))
+
+pub numbers_done : (t : IntType) (w : State) (now : ExpressionTrees) (xs all : List ℤ) → now ≡ no_expressions → xs ++ numbers_at noted t now w ≡ all → xs ≡ all
+unfolding numbers_at
+numbers_done t w now xs all p h = sym (append-nil xs) ∙ (ap (λ m. xs ++ numbers_at noted t m w) (sym p) ∙ h)
+
+pub next_declarator : (list : List Declarator) (i : ℕ) (x : Declarator) → i < length list → x ≡ get_or list i x → declarator_trees (drop i list) ≡ declarator_tree x ∷ declarator_trees (drop (i + 1) list)
+next_declarator list i x h is = rw add-one (ap declarator_trees (drop-cons list i x h ∙ ap (λ z. z ∷ drop (suc i) list) (sym is)))
+
+pub last_declarator : (list : List Declarator) (i : ℕ) → length list ≤ i → declarator_trees (drop i list) ≡ []
+last_declarator list i h = ap declarator_trees (drop_all i list h)
+
+pub objects_step : (storage : Option Storage) (words : Words) (f g all : Files) (now rest : List DeclaratorTree) (d : DeclaratorTree) → now ≡ d ∷ rest → g ≡ after_object noted storage words d f → after_objects noted storage words now f ≡ all → after_objects noted storage words rest g ≡ all
+unfolding after_objects
+objects_step storage words f g all now rest d p q h = ap (after_objects noted storage words rest) q ∙ (ap (λ n. after_objects noted storage words n f) (sym p) ∙ h)
+
+pub objects_ended : (storage : Option Storage) (words : Words) (f all : Files) (now : List DeclaratorTree) → now ≡ [] → after_objects noted storage words now f ≡ all → f ≡ all
+unfolding after_objects
+objects_ended storage words f all now p h = ap (λ n. after_objects noted storage words n f) (sym p) ∙ h
+
+pub declaration_step : (storage : Option Storage) (d : DeclarationTree) (words : Words) (more : List DeclaratorTree) (f a b c g : Files) → words ≡ words_of d.specifiers → more ≡ d.declarators.more → a ≡ on (failing noted (specifiers d.specifiers)) f →
+    b ≡ after_object noted storage words d.declarators.first a → c ≡ after_objects noted storage words more b → g ≡ without_calls c → g ≡ after_declaration noted storage d f
+unfolding after_declaration after_objects
+declaration_step storage d words more f a b c g p q r s t u =
+    let x = d.declarators.first in
+    u ∙ ap without_calls (t ∙ (ap (λ y. after_objects noted storage words y b) q
+    ∙ (ap (after_objects noted storage words d.declarators.more) (s ∙ ap (after_object noted storage words x) r)
+    ∙ ap (λ y. after_objects noted storage y d.declarators.more (after_object noted storage y x (on (failing noted (specifiers d.specifiers)) f))) p)))
+
+-- a declarator as far as what its name begins with, step by step
+pub head_walked : (storage : Option Storage) (words : Words) (d : DeclaratorTree) (f : Files) (len : Option ℕ) (o : Declaration) (is_array again ext void odd : Bool) (a b c e g : State) →
+    a ≡ after_optional_length noted d.length f.walked → is_array ≡ is_some d.length → len ≡ length_at f.walked d.length → o ≡ file_object words is_array f → again ≡ is_some (declared_here a.scoping d.name) → b ≡ after_name d.name o a →
+    ext ≡ is_extern storage → void ≡ is_void words.typing → odd ≡ is_some (special (spelled a.scoping.text d.name)) →
+    c ≡ failing noted (fails_if again rule.Redeclared d.name.at ++ fails_if ext rule.Extern d.name.at ++ fails_if void rule.Void d.name.at ++ fails_if odd rule.Special d.name.at) b →
+    e ≡ failing noted (braces is_array d.initializer d.name.at) c → g ≡ failing noted (surplus len d.initializer) e → g ≡ after_head noted storage words d f
+head_walked storage words d f len o is_array again ext void odd a b c e g ha hi hl ho hr hb hx hv hs hc he hg =
+    let x = d.name in
+    let w : State = after_optional_length noted d.length f.walked in
+    let rows : Bool → Bool → Bool → Bool → List Failure = λ k l m n. fails_if k rule.Redeclared x.at ++ fails_if l rule.Extern x.at ++ fails_if m rule.Void x.at ++ fails_if n rule.Special x.at in
+    let all : List Failure = rows (is_some (declared_here w.scoping x)) (is_extern storage) (is_void words.typing) (is_some (special (spelled w.scoping.text x))) in
+    let made : State → State = λ s. failing noted (rows (is_some (declared_here s.scoping x)) (is_extern storage) (is_void words.typing) (is_some (special (spelled s.scoping.text x)))) (after_name x (file_object words (is_some d.length) f) s) in
+    let step : c ≡ made w =
+    hc ∙ (ap (failing noted (rows again ext void odd)) (hb ∙ ap (λ y. after_name x y a) (ho ∙ ap (λ i. file_object words i f) hi))
+    ∙ (ap (λ k. failing noted (rows k ext void odd) (after_name x (file_object words (is_some d.length) f) a)) hr
+    ∙ (ap (λ k. failing noted (rows (is_some (declared_here a.scoping x)) k void odd) (after_name x (file_object words (is_some d.length) f) a)) hx
+    ∙ (ap (λ k. failing noted (rows (is_some (declared_here a.scoping x)) (is_extern storage) k odd) (after_name x (file_object words (is_some d.length) f) a)) hv
+    ∙ (ap (λ k. failing noted (rows (is_some (declared_here a.scoping x)) (is_extern storage) (is_void words.typing) k) (after_name x (file_object words (is_some d.length) f) a)) hs
+    ∙ ap made ha))))) in
+    hg ∙ (ap (λ n. failing noted (surplus n d.initializer) e) hl
+    ∙ (ap (failing noted (surplus (length_at f.walked d.length) d.initializer)) (he ∙ (ap (λ i. failing noted (braces i d.initializer x.at) c) hi ∙ ap (failing noted (braces (is_some d.length) d.initializer x.at)) step))
+    ∙ sym (failing_twice (braces (is_some d.length) d.initializer x.at) (surplus (length_at f.walked d.length) d.initializer) (made w))))
+
+pub is_some_map : {A B : Type 0} (f : A → B) (x : Option A) → is_some (option_map f x) ≡ is_some x
+is_some_map f None = refl
+is_some_map f (Some a) = refl

@@ -1,0 +1,5 @@
+pub mod FileLemmas
+pub mod SignatureLemmas
+pub mod PlaceLemmas
+pub mod UnitLemmas
+pub mod FunctionLemmas

@@ -1,0 +1,9 @@
+use Rattle.std.proofs.Common.{◌≡◌, drop}
+use Rattle.pk_scope.specs.Failures.{noted}
+use Rattle.pk_declare.specs.Views.{walked_in}
+use Rattle.pk_declare.specs.Walks.{failing}
+use Rattle.pk_type.specs.Functions.{each_at}
+use Rattle.pk_type.proofs.bodies.note_all.Given as goal
+
+abbrev pub invariant-loop-at : goal.invariant-loop-at
+invariant-loop-at l = failing noted (each_at l.rule (drop l.at-index l.places)) (walked_in l.walk) ≡ failing noted (each_at l.rule l.places) (walked_in l.initial.walk)

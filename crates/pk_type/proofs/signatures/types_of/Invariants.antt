@@ -1,0 +1,7 @@
+use Rattle.std.proofs.Common.{◌≡◌, ◌++◌, drop}
+use Rattle.pk_ast.specs.Views.{parameter_trees}
+use Rattle.pk_type.specs.Signatures.{types_of}
+use Rattle.pk_type.proofs.signatures.types_of.Given as goal
+
+abbrev pub invariant-loop-parameter : goal.invariant-loop-parameter
+invariant-loop-parameter l = l.types.items ++ types_of (parameter_trees (drop l.parameter-index l.list)) ≡ types_of (parameter_trees l.list)

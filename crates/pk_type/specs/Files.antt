@@ -1,0 +1,116 @@
+-- Objects of the file scope (C99 6.9.2, 6.7.8). What stands before a place of it: its scope, the objects and the functions.
+use Rattle.std.specs.Prelude.{ℕ, ℤ, pos, Bool, true, false, is_some, Option, Some, None, List, [], ◌∷◌, ◌++◌, length}
+use Rattle.pk_ctypes.specs.declared.types.IntType.{IntType}
+use Rattle.pk_ctypes.specs.declared.words.Rule.TheVariants as rule
+use Rattle.pk_ctypes.specs.Types.{wrapped}
+use Rattle.pk_ast.specs.declared.expressions.Identifier.{Identifier}
+use Rattle.pk_ast.specs.declared.units.Storage.{Storage}
+use Rattle.pk_ast.specs.declared.units.StorageWord.TheVariants.{Static, Extern}
+use Rattle.pk_ast.specs.Trees.{ExpressionTree, ExpressionTrees, no_expressions, expression_then, InitializerTree, single, braced, DeclaratorTree, DeclarationTree}
+use Rattle.pk_typed.specs.declared.values.Variable.TheVariants.{File}
+use Rattle.pk_typed.specs.Trees.{BodyTree, FileObjectTree, StartTree, scalar_start, array_start}
+use Rattle.pk_scope.specs.declared.declarations.Declaration.{Declaration}
+use Rattle.pk_scope.specs.declared.declarations.Declaration.TheVariants as declared
+use Rattle.pk_scope.specs.declared.failures.Failure.{Failure}
+use Rattle.pk_scope.specs.Failures.{fails_if}
+use Rattle.pk_scope.specs.Specifiers.{specifiers}
+use Rattle.pk_declare.specs.declared.words.Words.{Words}
+use Rattle.pk_declare.specs.Constants.{evaluated, number_in, after_constant}
+use Rattle.pk_declare.specs.Declarations.{words_of, integer_in, type_or_int, text_of, redeclared, void_object, special_object, braces, surplus, length_at, after_optional_length, length_or_1}
+use Rattle.pk_declare.specs.Walks.{Walked, Adding, failing, after_name}
+use Rattle.pk_type.specs.Signatures.{SignatureTree}
+
+-- a function that was declared: whether it was defined, and its body, where that has a tree
+pub record EntryTree : Type 0 where
+  pub name : List ℕ
+  pub signature : SignatureTree
+  pub is_defined : Bool
+  pub body : Option BodyTree
+
+pub record Filed (F : Type 0) : Type 0 where
+  pub walked : Walked F
+  pub objects : List FileObjectTree
+  pub functions : List EntryTree
+
+-- a value that an object begins with, converted to its type; 0 where a failure leaves it out
+abbrev pub number_or_0 : IntType → Option ℤ → ℤ
+number_or_0 t None = pos 0
+number_or_0 t (Some n) = wrapped t n
+
+abbrev pub number_at : {F : Type 0} → IntType → Walked F → ExpressionTree → ℤ
+number_at t w e = number_or_0 t (number_in (evaluated w e))
+
+unfoldable pub after_numbers : {F : Type 0} → Adding F → ExpressionTrees → Walked F → Walked F
+after_numbers add no_expressions w = w
+after_numbers add (expression_then e es) w = after_numbers add es (after_constant add e w)
+
+unfoldable pub numbers_at : {F : Type 0} → Adding F → IntType → ExpressionTrees → Walked F → List ℤ
+numbers_at add t no_expressions w = []
+numbers_at add t (expression_then e es) w = number_at t w e ∷ numbers_at add t es (after_constant add e w)
+
+-- what is given, each of which has to be constant
+abbrev pub given : Option InitializerTree → ExpressionTrees
+given None = no_expressions
+given (Some (single e)) = expression_then e no_expressions
+given (Some (braced at e es)) = expression_then e es
+
+abbrev pub first_or_0 : List ℤ → ℤ
+first_or_0 [] = pos 0
+first_or_0 (n ∷ ns) = n
+
+abbrev pub start_of : Option ℕ → List ℤ → StartTree
+start_of None ns = scalar_start (first_or_0 ns)
+start_of (Some n) ns = array_start n ns
+
+abbrev pub is_extern : Option Storage → Bool
+is_extern None = false
+is_extern (Some storage) = elim storage.word [ Static ↦ false | Extern ↦ true ]
+
+-- extern: an object is declared extern; at the name
+abbrev pub extern_object : Option Storage → Identifier → List Failure
+extern_object storage x = fails_if (is_extern storage) rule.Extern x.at
+
+abbrev pub file_object : {F : Type 0} → Words → Bool → Filed F → Declaration
+file_object words is_array f =
+    declared.Object (record { variable = File (length f.objects); int_type = integer_in words.typing; is_array = is_array; is_const = words.is_const })
+
+-- a declarator as far as what its name begins with
+abbrev pub after_head : {F : Type 0} → Adding F → Option Storage → Words → DeclaratorTree → Filed F → Walked F
+after_head add storage words d f =
+    let w = after_optional_length add d.length f.walked in
+    let rows = redeclared w.scoping d.name ++ extern_object storage d.name ++ void_object words.typing d.name.at ++ special_object w.scoping d.name in
+    failing add (braces (is_some d.length) d.initializer d.name.at ++ surplus (length_at f.walked d.length) d.initializer)
+    (after_name d.name (file_object words (is_some d.length) f) (failing add rows w))
+
+unfoldable pub after_object : {F : Type 0} → Adding F → Option Storage → Words → DeclaratorTree → Filed F → Filed F
+after_object add storage words d f =
+    let w = after_head add storage words d f in
+    let t = type_or_int words.typing in
+    record {
+      walked = after_numbers add (given d.initializer) w;
+      objects = f.objects ++ record {
+        name = text_of f.walked.scoping d.name;
+        int_type = t;
+        start = start_of (length_or_1 (is_some d.length) (length_at f.walked d.length)) (numbers_at add t (given d.initializer) w);
+      } ∷ [];
+      functions = f.functions;
+    }
+
+unfoldable pub after_objects : {F : Type 0} → Adding F → Option Storage → Words → List DeclaratorTree → Filed F → Filed F
+after_objects add storage words [] f = f
+after_objects add storage words (d ∷ ds) f = after_objects add storage words ds (after_object add storage words d f)
+
+-- the calls of a failure's expressions count for no function
+abbrev pub without_calls : {F : Type 0} → Filed F → Filed F
+without_calls f = record {
+  walked = record { scoping = f.walked.scoping; found = f.walked.found; calls = []; locals = f.walked.locals };
+  objects = f.objects;
+  functions = f.functions;
+}
+
+abbrev pub on : {F : Type 0} → (Walked F → Walked F) → Filed F → Filed F
+on g f = record { walked = g f.walked; objects = f.objects; functions = f.functions }
+
+unfoldable pub after_declaration : {F : Type 0} → Adding F → Option Storage → DeclarationTree → Filed F → Filed F
+after_declaration add storage d f =
+    without_calls (after_objects add storage (words_of d.specifiers) (d.declarators.first ∷ d.declarators.more) (on (failing add (specifiers d.specifiers)) f))

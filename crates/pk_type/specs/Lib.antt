@@ -1,0 +1,5 @@
+pub mod Signatures
+pub mod Files
+pub mod Functions
+pub mod Units
+pub mod Views

@@ -1,0 +1,48 @@
+-- Texts (C99 6.9).
+use Rattle.std.specs.Prelude.{ℕ, Bool, true, false, is_some, List, [], ◌∷◌, map, if◌then◌else◌}
+use Rattle.std.specs.Str.{bytes_eq}
+use Rattle.pk_ast.specs.Trees.{ExternalTree, function, objects}
+use Rattle.pk_typed.specs.Trees as typed
+use Rattle.pk_typed.specs.Trees.{UnitTree}
+use Rattle.pk_scope.specs.Scopes.{spelled, file_scope}
+use Rattle.pk_declare.specs.Declarations.{integer_in, type_or_int}
+use Rattle.pk_declare.specs.Walks.{Adding}
+use Rattle.pk_type.specs.Files.{EntryTree, Filed, after_declaration}
+use Rattle.pk_type.specs.Functions.{after_function}
+
+abbrev pub no_name : List ℕ → Bool
+no_name q = false
+
+abbrev pub with_name : (List ℕ → Bool) → List ℕ → List ℕ → Bool
+with_name has name q = if bytes_eq name q then true else has q
+
+abbrev pub and_defined : List ℕ → ExternalTree → (List ℕ → Bool) → List ℕ → Bool
+and_defined text (function f) has = if is_some f.body then with_name has (spelled text f.name) else has
+and_defined text (objects storage d) has = has
+
+-- whether a function of that spelling has a body
+unfoldable pub defined_in : List ℕ → List ExternalTree → (List ℕ → Bool) → List ℕ → Bool
+defined_in text [] has = has
+defined_in text (x ∷ xs) has = defined_in text xs (and_defined text x has)
+
+abbrev pub after_external : {F : Type 0} → Adding F → (List ℕ → Bool) → ExternalTree → Filed F → Filed F
+after_external add defined (function g) f = after_function add defined g f
+after_external add defined (objects storage d) f = after_declaration add storage d f
+
+unfoldable pub after_externals : {F : Type 0} → Adding F → (List ℕ → Bool) → List ExternalTree → Filed F → Filed F
+after_externals add defined [] f = f
+after_externals add defined (x ∷ xs) f = after_externals add defined xs (after_external add defined x f)
+
+abbrev pub nothing_filed : {F : Type 0} → F → List ℕ → Filed F
+nothing_filed found text = record { walked = record { scoping = file_scope text; found = found; calls = []; locals = [] }; objects = []; functions = [] }
+
+-- a text from its beginning to its end, where nothing was found before
+abbrev pub checked : {F : Type 0} → Adding F → F → List ℕ → List ExternalTree → Filed F
+checked add found text trees = after_externals add (defined_in text trees no_name) trees (nothing_filed found text)
+
+abbrev pub function_of : EntryTree → typed.FunctionTree
+function_of e = record { name = e.name; returns = integer_in e.signature.returns; parameters = map type_or_int e.signature.parameters; body = e.body }
+
+-- the typed tree
+abbrev pub unit_of : {F : Type 0} → Filed F → UnitTree
+unit_of f = record { objects = f.objects; functions = map function_of f.functions }

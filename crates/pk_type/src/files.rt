@@ -1,0 +1,306 @@
+// What stands before a place of the file scope.
+
+ghost use Rattle.std.specs.Prelude.{◌≡◌, ◌++◌, ◌∷◌, [], None, is_some, option_map, IfOk, OnOk};
+ghost use Rattle.pk_ast.specs.Views.{expression_tree, expression_trees, initializer_tree, specifiers_tree, declarator_tree, declarator_trees, declaration_tree};
+ghost use Rattle.pk_typed.specs.Views.{start_tree, file_object_tree};
+ghost use Rattle.pk_ctypes.specs.declared.words.Rule.TheVariants as rule;
+ghost use Rattle.pk_scope.specs.Failures.{fails_if, noted};
+ghost use Rattle.pk_scope.specs.Specifiers.{specifiers};
+ghost use Rattle.pk_declare.specs.Constants.{after_constant};
+ghost use Rattle.pk_declare.specs.Declarations.{length_or_1, length_at};
+ghost use Rattle.pk_declare.specs.Views.{walked_in};
+ghost use Rattle.pk_declare.specs.Walks as walks;
+ghost use Rattle.pk_type.specs.Files as definitions;
+ghost use Rattle.pk_type.specs.Units.{nothing_filed};
+ghost use Rattle.pk_type.specs.Views.{filed_in};
+
+use crate::signatures::Signature;
+use pk_ast::{
+    Declaration as ObjectDeclaration, Declarator, Expression, Initializer, Specifiers, Storage,
+    StorageWord,
+};
+use pk_ctypes::{IntType, Name, Pos, Rule, convert};
+use pk_declare::{
+    Walk, Words, integer_in, length_or_1, note_braces, note_surplus, special, type_or_int,
+};
+use pk_scope::{Declaration, Notes, Object, Scope, note_specifiers, spelling};
+use pk_statement::Statements;
+use pk_typed::{Body, FileObject, Start, Variable};
+use std::alloc::{AllocError, Global};
+
+/// A function that was declared: whether it was defined, and its body, where that has a tree.
+#[derive(Drop)]
+pub struct Entry {
+    pub name: Name,
+    pub signature: Signature,
+    pub is_defined: bool,
+    pub body: Option<Body>,
+}
+
+/// The file's scope, and what stands before a place of it.
+#[derive(Drop)]
+pub struct File<'a> {
+    pub to: Statements<'a>,
+    pub objects: Vec<FileObject>,
+    pub functions: Vec<Entry>,
+}
+
+fn is_extern(storage: &Option<Storage>) -> bool
+    ensures { result ≡ definitions.is_extern storage.now }
+{
+    match storage {
+        None => false,
+        Some(storage) => match storage.word {
+            StorageWord::Extern => true,
+            StorageWord::Static => false,
+        },
+    }
+}
+
+fn number_or_0(int_type: IntType, number: Option<i128>) -> i128
+    ensures { result ≡ definitions.number_or_0 int_type number }
+{
+    match number {
+        None => 0,
+        Some(number) => convert(int_type, number),
+    }
+}
+
+fn first_or_0(numbers: &[i128]) -> i128
+    ensures { result ≡ definitions.first_or_0 numbers.now }
+{
+    match numbers {
+        [] => 0,
+        [first, ..] => *first,
+    }
+}
+
+#[tactic(auto, unfolding(pk_typed::specs::Views::start_tree))]
+fn start_of(length: Option<usize>, items: Vec<i128>) -> Start
+    ensures { start_tree result ≡ definitions.start_of length items.items }
+{
+    match length {
+        None => Start::Scalar(first_or_0(&items)),
+        Some(length) => Start::Array { length, items },
+    }
+}
+
+// A value that an object begins with, after others.
+fn number(
+    walk: &mut Walk<'_>,
+    alloc: Global,
+    int_type: IntType,
+    e: &Expression,
+    all: &mut Vec<i128>,
+) -> Result<(), AllocError>
+    ensures walked { OnOk result (walked_in walk.new ≡ after_constant noted (expression_tree e.now) (walked_in walk.old)) }
+    ensures numbers { OnOk result (all.new.items
+        ≡ all.old.items ++ definitions.number_at int_type (walked_in walk.old) (expression_tree e.now) ∷ []) }
+{
+    let evaluated = walk.constant(alloc, e)?;
+    all.push(number_or_0(int_type, evaluated.number()))?;
+    Ok(())
+}
+
+// Values that an object begins with, after others.
+fn numbers(
+    walk: &mut Walk<'_>,
+    alloc: Global,
+    int_type: IntType,
+    list: &[Expression],
+    all: &mut Vec<i128>,
+) -> Result<(), AllocError>
+    ensures walked { OnOk result (walked_in walk.new
+        ≡ definitions.after_numbers noted (expression_trees list.now) (walked_in walk.old)) }
+    ensures numbers { OnOk result (all.new.items
+        ≡ all.old.items ++ definitions.numbers_at noted int_type (expression_trees list.now) (walked_in walk.old)) }
+{
+    for e in list {
+        number(walk, alloc, int_type, e, all)?;
+    }
+    Ok(())
+}
+
+// What an object begins with.
+#[tactic(auto, unfolding(pk_ast::specs::Views::initializer_tree, crate::specs::Files::after_numbers, crate::specs::Files::numbers_at))]
+fn given(
+    walk: &mut Walk<'_>,
+    alloc: Global,
+    int_type: IntType,
+    first: &Option<Initializer>,
+) -> Result<Vec<i128>, AllocError>
+    ensures walked { OnOk result (walked_in walk.new
+        ≡ definitions.after_numbers noted (definitions.given (option_map initializer_tree first.now)) (walked_in walk.old)) }
+    ensures numbers { IfOk result (λ v. v.items
+        ≡ definitions.numbers_at noted int_type (definitions.given (option_map initializer_tree first.now)) (walked_in walk.old)) }
+{
+    let mut all = Vec::new(alloc);
+    match first {
+        None => {}
+        Some(Initializer::Single(e)) => {
+            number(walk, alloc, int_type, e, &mut all)?;
+        }
+        Some(Initializer::Braced { first, more, .. }) => {
+            number(walk, alloc, int_type, first, &mut all)?;
+            numbers(walk, alloc, int_type, more, &mut all)?;
+        }
+    }
+    Ok(all)
+}
+
+// Notes what fails at the name of an object.
+#[tactic(auto, using(pk_statement::proofs::CaseLemmas::failing_twice))]
+fn note_rows(
+    walk: &mut Walk<'_>,
+    is_again: bool,
+    is_extern: bool,
+    is_void: bool,
+    is_special: bool,
+    at: Pos,
+)
+    ensures { walked_in walk.new ≡ walks.failing noted (fails_if is_again rule.Redeclared at ++ fails_if is_extern rule.Extern at
+        ++ fails_if is_void rule.Void at ++ fails_if is_special rule.Special at) (walked_in walk.old) }
+{
+    walk.fail_if(is_again, Rule::Redeclared, at);
+    walk.fail_if(is_extern, Rule::Extern, at);
+    walk.fail_if(is_void, Rule::Void, at);
+    walk.fail_if(is_special, Rule::Special, at);
+}
+
+impl<'a> File<'a> {
+    pub fn new(alloc: Global, text: &'a [u8]) -> File<'a>
+        ensures { filed_in result ≡ nothing_filed None text.now }
+    {
+        File {
+            to: Statements {
+                walk: Walk {
+                    scope: Scope::new(alloc, text),
+                    notes: Notes::new(alloc),
+                    locals: Vec::new(alloc),
+                },
+                cases: Vec::new(alloc),
+                has_default: false,
+            },
+            objects: Vec::new(alloc),
+            functions: Vec::new(alloc),
+        }
+    }
+
+    // The next object of the file.
+    fn object_of(&self, words: Words, is_array: bool) -> Declaration
+        ensures { result ≡ definitions.file_object words is_array (filed_in self.now) }
+    {
+        Declaration::Object(Object {
+            variable: Variable::File(self.objects.len()),
+            int_type: integer_in(words.typing),
+            is_array,
+            is_const: words.is_const,
+        })
+    }
+
+    // A declarator as far as what its name begins with; gives the length of an array.
+    #[tactic(auto, unfolding(pk_ast::specs::Views::declarator_tree))]
+    fn head(
+        &mut self,
+        alloc: Global,
+        storage: &Option<Storage>,
+        words: Words,
+        d: &Declarator,
+    ) -> Result<Option<usize>, AllocError>
+        ensures walked { OnOk result (walked_in self.new.to.walk
+            ≡ definitions.after_head noted storage.now words (declarator_tree d.now) (filed_in self.old)) }
+        ensures objects { self.new.objects ≡ self.old.objects }
+        ensures functions { self.new.functions ≡ self.old.functions }
+        ensures length { IfOk result (λ n. n
+            ≡ length_or_1 (is_some (declarator_tree d.now).length) (length_at (filed_in self.old).walked (declarator_tree d.now).length)) }
+    {
+        let is_array = d.length.is_some();
+        let object = self.object_of(words, is_array);
+        let length = self.to.walk.optional_length(alloc, &d.length)?;
+        let is_special = special(spelling(self.to.walk.scope.text, d.name)).is_some();
+        let is_again = self.to.walk.declare(d.name, object)?;
+        note_rows(
+            &mut self.to.walk,
+            is_again,
+            is_extern(storage),
+            words.typing.is_void(),
+            is_special,
+            d.name.at,
+        );
+        note_braces(&mut self.to.walk, is_array, &d.initializer, d.name.at);
+        note_surplus(&mut self.to.walk, length, &d.initializer);
+        Ok(length_or_1(is_array, length))
+    }
+
+    // An object of the file.
+    #[tactic(auto, using(crate::proofs::FileLemmas::objects_push), unfolding(pk_ast::specs::Views::declarator_tree, pk_typed::specs::Views::file_object_tree, crate::specs::Files::after_object))]
+    fn declarator(
+        &mut self,
+        alloc: Global,
+        storage: &Option<Storage>,
+        words: Words,
+        d: &Declarator,
+    ) -> Result<(), AllocError>
+        ensures { OnOk result (filed_in self.new
+            ≡ definitions.after_object noted storage.now words (declarator_tree d.now) (filed_in self.old)) }
+    {
+        let name = Name::new(alloc, spelling(self.to.walk.scope.text, d.name))?;
+        let int_type = type_or_int(words.typing);
+        let length = self.head(alloc, storage, words, d)?;
+        let items = given(&mut self.to.walk, alloc, int_type, &d.initializer)?;
+        self.objects.push(FileObject {
+            name,
+            int_type,
+            start: start_of(length, items),
+        })?;
+        Ok(())
+    }
+
+    pub(crate) fn note_words(&mut self, words: &Specifiers)
+        ensures { filed_in self.new
+            ≡ definitions.on (walks.failing noted (specifiers (specifiers_tree words.now))) (filed_in self.old) }
+    {
+        note_specifiers(&mut self.to.walk.notes, words);
+    }
+
+    fn forget_calls(&mut self, alloc: Global)
+        ensures { filed_in self.new ≡ definitions.without_calls (filed_in self.old) }
+    {
+        self.to.walk.notes.calls = Vec::new(alloc);
+    }
+
+    // The other objects of a declaration.
+    fn more(
+        &mut self,
+        alloc: Global,
+        storage: &Option<Storage>,
+        words: Words,
+        list: &[Declarator],
+    ) -> Result<(), AllocError>
+        ensures { OnOk result (filed_in self.new
+            ≡ definitions.after_objects noted storage.now words (declarator_trees list.now) (filed_in self.old)) }
+    {
+        for d in list {
+            self.declarator(alloc, storage, words, d)?;
+        }
+        Ok(())
+    }
+
+    /// A declaration of the file scope.
+    pub fn declaration(
+        &mut self,
+        alloc: Global,
+        storage: &Option<Storage>,
+        d: &ObjectDeclaration,
+    ) -> Result<(), AllocError>
+        ensures { OnOk result (filed_in self.new
+            ≡ definitions.after_declaration noted storage.now (declaration_tree d.now) (filed_in self.old)) }
+    {
+        self.note_words(&d.specifiers);
+        let words = Words::of(&d.specifiers);
+        self.declarator(alloc, storage, words, &d.declarators.first)?;
+        self.more(alloc, storage, words, &d.declarators.more)?;
+        self.forget_calls(alloc);
+        Ok(())
+    }
+}

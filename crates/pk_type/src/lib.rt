@@ -1,0 +1,11 @@
+//! Typing of C texts (C99 6.5 to 6.9): the typed tree of a text in which no rule fails, or the first failure.
+#![tactic(auto)]
+
+mod bodies;
+mod defined;
+mod files;
+mod functions;
+mod signatures;
+mod units;
+
+pub use units::{Refusal, check};

@@ -1,0 +1,170 @@
+// Texts.
+
+ghost use Rattle.std.specs.Prelude.{◌≡◌, ◌⊎◌, ℕ, List, None, Some, IfOk, IfErr, OnOk, map};
+ghost use Rattle.pk_ast.specs.Views as ast;
+ghost use Rattle.pk_ast.specs.Views.{external_tree, external_trees};
+ghost use Rattle.pk_typed.specs.Views.{function_tree, unit_tree};
+ghost use Rattle.pk_scope.specs.declared.failures.Failure.{Failure};
+ghost use Rattle.pk_scope.specs.Failures.{noted};
+ghost use Rattle.pk_declare.specs.Declarations as declarations;
+ghost use Rattle.pk_type.specs.Units as definitions;
+ghost use Rattle.pk_type.specs.Views.{defined_names, entry_tree, filed_in};
+
+use crate::defined::Defined;
+use crate::files::{Entry, File};
+use pk_ast::{External, Unit};
+use pk_ctypes::{IntType, Pos, Rule};
+use pk_declare::{integer_in, type_or_int};
+use pk_scope::{Typing, spelling};
+use pk_typed as typed;
+use std::alloc::{AllocError, Global};
+
+/// Why a text has no typed tree.
+#[derive(Clone, Copy)]
+pub enum Refusal {
+    /// The rule that fails at the first place, the upper one of those that fail there.
+    Type { rule: Rule, at: Pos },
+    Memory,
+}
+
+impl From<AllocError> for Refusal {
+    ghost use Rattle.std.specs.Prelude.{◌≡◌};
+    ghost use Rattle.pk_type.specs.declared.units.Refusal.TheVariants.{Memory};
+
+    ghost from_gives = { λ e refusal. refusal ≡ Memory };
+
+    fn from(_e: AllocError) -> Refusal {
+        Refusal::Memory
+    }
+}
+
+// The functions that a text defines.
+fn defined<'a>(alloc: Global, text: &'a [u8], list: &[External]) -> Result<Defined<'a>, AllocError>
+    ensures { IfOk result (λ d. defined_names d ≡ definitions.defined_in text.now (external_trees list.now) definitions.no_name) }
+{
+    let mut defined = Defined::new(alloc);
+    for external in list {
+        and_defined(&mut defined, text, external)?;
+    }
+    Ok(defined)
+}
+
+// Adds a function that is defined.
+#[tactic(auto, unfolding(pk_ast::specs::Views::external_tree, pk_ast::specs::Views::function_tree))]
+fn and_defined<'a>(
+    defined: &mut Defined<'a>,
+    text: &'a [u8],
+    external: &External,
+) -> Result<(), AllocError>
+    ensures { OnOk result (defined_names defined.new
+        ≡ definitions.and_defined text.now (external_tree external.now) (defined_names defined.old)) }
+{
+    match external {
+        External::Declaration(_, _) => Ok(()),
+        External::Function(function) => if function.body.is_some() {
+            defined.add(spelling(text, function.name))
+        } else {
+            Ok(())
+        },
+    }
+}
+
+fn types_of(alloc: Global, list: &[Typing]) -> Result<Vec<IntType>, AllocError>
+    ensures { IfOk result (λ v. v.items ≡ map declarations.type_or_int list.now) }
+{
+    list.iter()
+        .map(|typing| type_or_int(*typing))
+        .collect(alloc)
+}
+
+#[tactic(auto, unfolding(pk_typed::specs::Views::function_tree))]
+fn function_of(alloc: Global, entry: Entry) -> Result<typed::Function, AllocError>
+    ensures { IfOk result (λ f. function_tree f ≡ definitions.function_of (entry_tree entry)) }
+{
+    let Entry {
+        name,
+        signature,
+        is_defined: _,
+        body,
+    } = entry;
+    let parameters = types_of(alloc, &signature.parameters)?;
+    Ok(typed::Function {
+        name,
+        returns: integer_in(signature.returns),
+        parameters,
+        body,
+    })
+}
+
+fn functions_of(alloc: Global, entries: Vec<Entry>) -> Result<Vec<typed::Function>, AllocError>
+    ensures { IfOk result (λ v. map function_tree v.items ≡ map definitions.function_of (map entry_tree entries.items)) }
+{
+    let mut functions = Vec::new(alloc);
+    for entry in entries {
+        let function = function_of(alloc, entry)?;
+        functions.push(function)?;
+    }
+    Ok(functions)
+}
+
+fn externals(
+    file: &mut File<'_>,
+    alloc: Global,
+    defined: &Defined<'_>,
+    list: &[External],
+) -> Result<(), AllocError>
+    ensures { OnOk result (filed_in file.new
+        ≡ definitions.after_externals noted (defined_names defined.now) (external_trees list.now) (filed_in file.old)) }
+{
+    for one in list {
+        external(file, alloc, defined, one)?;
+    }
+    Ok(())
+}
+
+#[tactic(auto, unfolding(pk_ast::specs::Views::external_tree))]
+fn external(
+    file: &mut File<'_>,
+    alloc: Global,
+    defined: &Defined<'_>,
+    one: &External,
+) -> Result<(), AllocError>
+    ensures { OnOk result (filed_in file.new
+        ≡ definitions.after_external noted (defined_names defined.now) (external_tree one.now) (filed_in file.old)) }
+{
+    match one {
+        External::Function(f) => file.function(alloc, defined, f),
+        External::Declaration(storage, d) => file.declaration(alloc, storage, d),
+    }
+}
+
+#[tactic(auto, unfolding(pk_ast::specs::Views::unit_tree))]
+fn filed<'a>(alloc: Global, text: &'a [u8], unit: &Unit) -> Result<File<'a>, AllocError>
+    ensures { IfOk result (λ f. filed_in f ≡ definitions.checked noted None text.now (ast.unit_tree unit.now)) }
+{
+    let defined = defined(alloc, text, &unit.externals)?;
+    let mut file = File::new(alloc, text);
+    externals(&mut file, alloc, &defined, &unit.externals)?;
+    Ok(file)
+}
+
+/// The typed tree of a text in which no rule fails; else the first failure: the earliest place, and of the rules that fail there the upper one.
+#[tactic(auto, unfolding(pk_typed::specs::Views::unit_tree))]
+pub fn check(alloc: Global, text: &[u8], unit: &Unit) -> Result<typed::Unit, Refusal>
+    ensures accepted { let f = definitions.checked noted None text.now (ast.unit_tree unit.now) in IfOk result (λ u. (f.walked.found ≡ None) × (unit_tree u ≡ definitions.unit_of f)) }
+    ensures refused { let f = definitions.checked noted None text.now (ast.unit_tree unit.now) in IfErr result (λ x. (x ≡ Refusal.Memory) ⊎
+        ((failure : Failure) × (f.walked.found ≡ Some failure) × (x ≡ Refusal.Type failure.rule failure.at))) }
+{
+    let file = filed(alloc, text, unit)?;
+    if let Some(failure) = file.to.walk.notes.found {
+        return Err(Refusal::Type {
+            rule: failure.rule,
+            at: failure.at,
+        });
+    }
+    let functions = functions_of(alloc, file.functions)?;
+    Ok(typed::Unit {
+        objects: file.objects,
+        functions,
+    })
+}
