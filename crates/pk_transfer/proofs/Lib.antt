@@ -3,3 +3,4 @@ pub mod Refining
 pub mod Apart
 pub mod Forms
 pub mod Assigning
+pub mod Passing

@@ -25,7 +25,7 @@ use Rattle.pk_transfer.specs.Guards.{negated, flipped, is_comparison, is_zero, c
 
 -- ---- tests
 
-equal_by_test : (x y : ℤ) → int_eq x y ≡ true → x ≡ y
+pub equal_by_test : (x y : ℤ) → int_eq x y ≡ true → x ≡ y
 equal_by_test x y e = go (Decides-int_eq x y)
   where
     go : (int_eq x y ≡ true → x ≡ y) × (x ≡ y → int_eq x y ≡ true) → x ≡ y

@@ -1,5 +1,6 @@
 // Laws of trees, over their definitions.
 
+ghost use Rattle.pk_transfer.specs.Assumptions.{GuardsPass};
 ghost use Rattle.pk_transfer.specs.Guards.{GuardsKeep};
 ghost use Rattle.pk_transfer.specs.Assignments.{AssignmentsKeep};
 ghost use Rattle.pk_transfer.specs.Linear.{FormsAreExact};
@@ -23,4 +24,9 @@ pub fn forms_law()
 /// A store of a state in which a variable gets a tree's value is one of the state after the assignment.
 pub fn assignments_law()
     ensures { AssignmentsKeep }
+{}
+
+/// A store of a state in which a tree has the wanted truth is one of the state after the guard.
+pub fn passing_law()
+    ensures { GuardsPass }
 {}
