@@ -4,3 +4,4 @@ pub mod Apart
 pub mod Forms
 pub mod Assigning
 pub mod Passing
+pub mod Transferring
