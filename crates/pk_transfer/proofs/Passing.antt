@@ -20,11 +20,12 @@ use Rattle.pk_state.proofs.Bounded.{known_same, known_other}
 use Rattle.pk_transfer.specs.Trees.{tree_known, IsOver}
 use Rattle.pk_transfer.specs.Linear.{Linear, difference, linear, IsBounded, IsGuardOn}
 use Rattle.pk_transfer.specs.Guards.{is_not, is_comparison, is_zero, negated, condition_of, Condition, test_of, HoldsIn, flipped, refined}
-use Rattle.pk_transfer.specs.Assumptions.{places_in, le_in, compared_in, with_operand, with_operands, refined_in, GuardsPass}
+use Rattle.pk_transfer.specs.Assignments.{with_known_if}
+use Rattle.pk_transfer.specs.Assumptions.{places_in, le_in, compared_in, with_operand, if_some, refined_in, GuardsPass}
 use Rattle.pk_transfer.proofs.Told.{trees_sound}
 use Rattle.pk_transfer.proofs.Apart.{differences_guards}
 use Rattle.pk_transfer.proofs.Forms.{Tells, tree_tells, forms_exact}
-use Rattle.pk_transfer.proofs.Refining.{equal_by_test, guards_keep}
+use Rattle.pk_transfer.proofs.Refining.{equal_by_test, turned, guards_keep}
 
 -- ---- the octagon
 
@@ -49,29 +50,29 @@ record AreForms (y : Layout) (s : Stored) (o p : Option Linear) (v w : ℤ) : Ty
   there : (l r : Linear) → o ≡ Some l → p ≡ Some r → IsGuardOn (length y.chosen) (difference l r).places
   back : (l r : Linear) → p ≡ Some l → o ≡ Some r → IsGuardOn (length y.chosen) (difference l r).places
 
-compared_keep : (op : Op) (y : Layout) (f : Option Facts) (s : Stored) (o p : Option Linear) (v w : ℤ) → AreFactsIf y f → Member y f s → AreForms y s o p v w → test_of op v w ≡ true → Member y (compared_in op f o p) s
-compared_keep Add y f s o p v w a m g h = m
-compared_keep Sub y f s o p v w a m g h = m
-compared_keep Mul y f s o p v w a m g h = m
-compared_keep Div y f s o p v w a m g h = m
-compared_keep Rem y f s o p v w a m g h = m
-compared_keep Shl y f s o p v w a m g h = m
-compared_keep Shr y f s o p v w a m g h = m
-compared_keep And y f s o p v w a m g h = m
-compared_keep Or y f s o p v w a m g h = m
-compared_keep Xor y f s o p v w a m g h = m
-compared_keep Lt y f s o p v w a m g h = (le_forms y f s o p (pos 1) v w a m g.there g.left g.right (omega (arith, ints, h))).1
-compared_keep Gt y f s o p v w a m g h = (le_forms y f s p o (pos 1) w v a m g.back g.right g.left (omega (arith, ints, h))).1
-compared_keep Le y f s o p v w a m g h = (le_forms y f s o p (pos 0) v w a m g.there g.left g.right (omega (arith, ints, h))).1
-compared_keep Ge y f s o p v w a m g h = (le_forms y f s p o (pos 0) w v a m g.back g.right g.left (omega (arith, ints, h))).1
+compared_keep : (op : Op) (y : Layout) (f : Option Facts) (s : Stored) (o p : Option Linear) (v w : ℤ) → AreFactsIf y f → Member y f s → AreForms y s o p v w → test_of op v w ≡ true → AreFactsIf y (compared_in op f o p) × Member y (compared_in op f o p) s
+compared_keep Add y f s o p v w a m g h = (a, m)
+compared_keep Sub y f s o p v w a m g h = (a, m)
+compared_keep Mul y f s o p v w a m g h = (a, m)
+compared_keep Div y f s o p v w a m g h = (a, m)
+compared_keep Rem y f s o p v w a m g h = (a, m)
+compared_keep Shl y f s o p v w a m g h = (a, m)
+compared_keep Shr y f s o p v w a m g h = (a, m)
+compared_keep And y f s o p v w a m g h = (a, m)
+compared_keep Or y f s o p v w a m g h = (a, m)
+compared_keep Xor y f s o p v w a m g h = (a, m)
+compared_keep Lt y f s o p v w a m g h = le_forms y f s o p (pos 1) v w a m g.there g.left g.right (omega (arith, ints, h))
+compared_keep Gt y f s o p v w a m g h = le_forms y f s p o (pos 1) w v a m g.back g.right g.left (omega (arith, ints, h))
+compared_keep Le y f s o p v w a m g h = le_forms y f s o p (pos 0) v w a m g.there g.left g.right (omega (arith, ints, h))
+compared_keep Ge y f s o p v w a m g h = le_forms y f s p o (pos 0) w v a m g.back g.right g.left (omega (arith, ints, h))
 compared_keep Eq y f s o p v w a m g h =
     let same = equal_by_test v w h in
     let once = le_forms y f s o p (pos 0) v w a m g.there g.left g.right (omega (arith, ints, same)) in
-    (le_forms y (le_in f o p (pos 0)) s p o (pos 0) w v once.0 once.1 g.back g.right g.left (omega (arith, ints, same))).1
-compared_keep Ne y f s o p v w a m g h = m
-compared_keep Neg y f s o p v w a m g h = m
-compared_keep BitNot y f s o p v w a m g h = m
-compared_keep Not y f s o p v w a m g h = m
+    le_forms y (le_in f o p (pos 0)) s p o (pos 0) w v once.0 once.1 g.back g.right g.left (omega (arith, ints, same))
+compared_keep Ne y f s o p v w a m g h = (a, m)
+compared_keep Neg y f s o p v w a m g h = (a, m)
+compared_keep BitNot y f s o p v w a m g h = (a, m)
+compared_keep Not y f s o p v w a m g h = (a, m)
 
 -- ---- the operands
 
@@ -100,25 +101,52 @@ scalar_numbers ks s x k st sc h =
     at : (i : ℕ) → i ≡ 0 → IsOf k (number_at (numbers_of s x) i)
     at i e = subst (λ j. IsOf k (number_at (numbers_of s x) j)) (sym e) h
 
-operand_keeps : (ks : Kinds) (y : Layout) (f : Option Facts) (s : Stored) (e : TreeOf ℕ) (k : Known) (z : ℤ) → IsStore ks s → Member y f s → IsTyped ks e → tree_value storing e s ≡ Ok z → IsOf k z → Member y (with_operand f e k) s
-operand_keeps ks y f s (constant t n) k z st m h v i = m
-operand_keeps ks y f s (variable x) k z st m h v i =
+-- there is a value for each variable
+abbrev HasSize : Layout → Option Facts → Type 0
+HasSize y None = Unit {0}
+HasSize y (Some f) = length f.values ≡ length y.types
+
+size_of : (y : Layout) (f : Option Facts) → AreFactsIf y f → HasSize y f
+size_of y None a = tt
+size_of y (Some f) a = a.values.size
+
+variable_keeps : (ks : Kinds) (y : Layout) (f : Option Facts) (s : Stored) (x : ℕ) (op : Op) (v : Known) (w : ℤ) → IsOver ks y → IsStore ks s → HasSize y f → Member y f s → IsScalar ks x → IsOf v w → test_of op (number_of s x) w ≡ true
+    → HasSize y (with_operand f (variable x) op v) × Member y (with_operand f (variable x) op v) s
+variable_keeps ks y None s x op v w over st z m sc i t = absurd m
+variable_keeps ks y (Some f) s x op v w over st z m sc i t = go (refined op (known_at f.values x) v) (guards_keep.left op (known_at f.values x) v (number_of s x) w held i t)
+  where
+    here : x < length f.values
+    here = omega (arith, sc.there, over.size, z)
+
+    held : IsOf (known_at f.values x) (number_of s x)
+    held = m.values.each x 0 here (m.values.some x here)
+
+    go : (o : Option Known) → IsOneOf o (number_of s x) → HasSize y (with_known_if (Some f) x o) × Member y (with_known_if (Some f) x o) s
+    go None h = absurd h
+    go (Some k) h = (length-set f.values x k ∙ z, refined_one y (Some f) s x k m (scalar_numbers ks s x k st sc h))
+
+operand_keeps : (ks : Kinds) (y : Layout) (f : Option Facts) (s : Stored) (e : TreeOf ℕ) (op : Op) (v : Known) (z w : ℤ) → IsOver ks y → IsStore ks s → HasSize y f → Member y f s → IsTyped ks e → tree_value storing e s ≡ Ok z → IsOf v w → test_of op z w ≡ true
+    → HasSize y (with_operand f e op v) × Member y (with_operand f e op v) s
+operand_keeps ks y f s (constant t n) op v z w over st g m h e i r = (g, m)
+operand_keeps ks y f s (variable x) op v z w over st g m h e i r =
     let same : number_of s x ≡ z = cc in
-    refined_one y f s x k m (scalar_numbers ks s x k st h (subst (IsOf k) (sym same) i))
-operand_keeps ks y f s (converted t e) k z st m h v i = m
-operand_keeps ks y f s (unary op p t e) k z st m h v i = m
-operand_keeps ks y f s (binary op p t a b) k z st m h v i = m
+    variable_keeps ks y f s x op v w over st g m h i (subst (λ u. test_of op u w ≡ true) (sym same) r)
+operand_keeps ks y f s (converted t e') op v z w over st g m h e i r = (g, m)
+operand_keeps ks y f s (unary q p t e') op v z w over st g m h e i r = (g, m)
+operand_keeps ks y f s (binary q p t a b) op v z w over st g m h e i r = (g, m)
 
-operands_keep : (ks : Kinds) (y : Layout) (f : Option Facts) (s : Stored) (c : Condition) (o p : Option Known) (h : HoldsIn s c) → IsStore ks s → Member y f s → IsTyped ks c.left → IsTyped ks c.right → IsOneOf o h.x → IsOneOf p h.y → Member y (with_operands f c o p) s
-operands_keep ks y f s c None p h st m l r i j = absurd i
-operands_keep ks y f s c (Some k) None h st m l r i j = absurd j
-operands_keep ks y f s c (Some k) (Some v) h st m l r i j = operand_keeps ks y (with_operand f c.left k) s c.right v h.y st (operand_keeps ks y f s c.left k h.x st m l h.left_is i) r h.right_is j
+if_some_keeps : (y : Layout) (s : Stored) (o : Option Known) (f : Option Facts) (z : ℤ) → IsOneOf o z → Member y f s → Member y (if_some o f) s
+if_some_keeps y s None f z h m = absurd h
+if_some_keeps y s (Some k) f z h m = m
 
-refined_keep : (ks : Kinds) (y : Layout) (f : Option Facts) (s : Stored) (c : Condition) (o p : Option Known) (h : HoldsIn s c) → IsStore ks s → Member y f s → IsTyped ks c.left → IsTyped ks c.right → IsOneOf o h.x → IsOneOf p h.y → Member y (refined_in f c o p) s
-refined_keep ks y f s c None p h st m l r i j = absurd i
-refined_keep ks y f s c (Some k) None h st m l r i j = absurd j
-refined_keep ks y f s c (Some k) (Some v) h st m l r i j =
-    operands_keep ks y f s c (refined c.op k v) (refined (flipped c.op) v k) h st m l r (guards_keep.left c.op k v h.x h.y i j h.holds) (guards_keep.right c.op k v h.x h.y i j h.holds)
+refined_keep : (ks : Kinds) (y : Layout) (f : Option Facts) (s : Stored) (c : Condition) (o p : Option Known) (h : HoldsIn s c) → IsOver ks y → IsStore ks s → HasSize y f → Member y f s → IsTyped ks c.left → IsTyped ks c.right → IsOneOf o h.x → IsOneOf p h.y
+    → Member y (refined_in f c o p) s
+refined_keep ks y f s c None p h over st g m l r i j = absurd i
+refined_keep ks y f s c (Some k) None h over st g m l r i j = absurd j
+refined_keep ks y f s c (Some k) (Some v) h over st g m l r i j =
+    let left = operand_keeps ks y f s c.left c.op v h.x h.y over st g m l h.left_is j h.holds in
+    let both = operand_keeps ks y (with_operand f c.left c.op v) s c.right (flipped c.op) k h.y h.x over st left.0 left.1 r h.right_is i (turned c.op h.x h.y h.holds) in
+    if_some_keeps y s (refined c.op k v) (with_operand (with_operand f c.left c.op v) c.right (flipped c.op) k) h.x (guards_keep.left c.op k v h.x h.y i j h.holds) both.1
 
 -- ---- conditions
 
@@ -154,8 +182,9 @@ holds_keep ks y f s c over st a m h i =
       there = differences_guards y.chosen (known_in f) c.left c.right;
       back = differences_guards y.chosen (known_in f) c.right c.left;
     } in
-    refined_keep ks y (compared_in c.op f (linear y.chosen (known_in f) c.left) (linear y.chosen (known_in f) c.right)) s c (tree_known (known_in f) c.left) (tree_known (known_in f) c.right) i st
-    (compared_keep c.op y f s (linear y.chosen (known_in f) c.left) (linear y.chosen (known_in f) c.right) i.x i.y a m forms i.holds) h.0 h.1
+    let first = compared_keep c.op y f s (linear y.chosen (known_in f) c.left) (linear y.chosen (known_in f) c.right) i.x i.y a m forms i.holds in
+    let g = compared_in c.op f (linear y.chosen (known_in f) c.left) (linear y.chosen (known_in f) c.right) in
+    refined_keep ks y g s c (tree_known (known_in f) c.left) (tree_known (known_in f) c.right) i over st (size_of y g first.0) first.1 h.0 h.1
     (trees_sound.values y f s c.left i.x a m left i.left_is) (trees_sound.values y f s c.right i.y a m right i.right_is)
 
 pub guards_pass : GuardsPass

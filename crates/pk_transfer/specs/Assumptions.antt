@@ -10,9 +10,10 @@ use Rattle.pk_value.specs.Known.{Known}
 use Rattle.pk_state.specs.Layouts.{Layout}
 use Rattle.pk_state.specs.Facts.{Facts, AreFactsIf}
 use Rattle.pk_state.specs.Members.{Member}
-use Rattle.pk_state.specs.Changes.{known_in, with_known, guarded_in}
-use Rattle.pk_transfer.specs.Trees.{tree_known, IsOver}
+use Rattle.pk_state.specs.Changes.{known_in, guarded_in}
+use Rattle.pk_transfer.specs.Trees.{known_with, tree_known, IsOver}
 use Rattle.pk_transfer.specs.Linear.{Linear, difference, linear}
+use Rattle.pk_transfer.specs.Assignments.{with_known_if}
 use Rattle.pk_transfer.specs.Guards.{Condition, condition_of, flipped, refined}
 
 -- ---- the octagon
@@ -54,24 +55,24 @@ compared_in Not f l r = f
 
 -- ---- the operands
 
--- an operand that is a variable is refined
-abbrev pub with_operand : Option Facts → TreeOf ℕ → Known → Option Facts
-with_operand f (constant t n) k = f
-with_operand f (variable x) k = with_known f x k
-with_operand f (converted t e) k = f
-with_operand f (unary op s t e) k = f
-with_operand f (binary op s t a b) k = f
+-- an operand that is a variable is refined by what was known of the other
+abbrev pub with_operand : Option Facts → TreeOf ℕ → Op → Known → Option Facts
+with_operand f (constant t n) op v = f
+with_operand f (variable x) op v = with_known_if f x (known_with (known_in f x) (λ k. refined op k v))
+with_operand f (converted t e) op v = f
+with_operand f (unary p s t e) op v = f
+with_operand f (binary p s t a b) op v = f
 
-abbrev pub with_operands : Option Facts → Condition → Option Known → Option Known → Option Facts
-with_operands f c None v = None
-with_operands f c (Some k) None = None
-with_operands f c (Some k) (Some v) = with_operand (with_operand f c.left k) c.right v
+abbrev pub if_some : Option Known → Option Facts → Option Facts
+if_some None f = None
+if_some (Some k) f = f
 
--- no store is left where an operand is empty, or refining one leaves nothing of it: then the comparison is surely false
+-- No store is left where an operand is empty, or refining one leaves nothing of it: then the comparison is surely false. Each operand is refined by what was known of
+-- the other before, so that one variable on both sides is refined twice.
 abbrev pub refined_in : Option Facts → Condition → Option Known → Option Known → Option Facts
 refined_in f c None v = None
 refined_in f c (Some k) None = None
-refined_in f c (Some k) (Some v) = with_operands f c (refined c.op k v) (refined (flipped c.op) v k)
+refined_in f c (Some k) (Some v) = if_some (refined c.op k v) (with_operand (with_operand f c.left c.op v) c.right (flipped c.op) k)
 
 abbrev pub holds_in : Layout → Option Facts → Condition → Option Facts
 holds_in y f c =
