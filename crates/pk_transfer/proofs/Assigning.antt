@@ -22,13 +22,13 @@ use Rattle.pk_transfer.proofs.Told.{tree_knows}
 use Rattle.pk_transfer.proofs.Forms.{Tells, place_at, tree_tells}
 
 -- the k-th variable, where there is one
-chosen_is : (ys : List ℕ) (k y : ℕ) → slice_get ys k ≡ Some y → (k < length ys) × (slice_index_or ys k 0 ≡ y)
+pub chosen_is : (ys : List ℕ) (k y : ℕ) → slice_get ys k ≡ Some y → (k < length ys) × (slice_index_or ys k 0 ≡ y)
 chosen_is [] k y e = absurd (cc)
 chosen_is (z ∷ ys) zero y e = let same : z ≡ y = cc in (omega arith, same)
 chosen_is (z ∷ ys) (suc k) y e = let r = chosen_is ys k y e in (omega (arith, r.0), r.1)
 
 -- a variable without a place isn't among the chosen ones
-no_place : (chosen : List ℕ) (x : ℕ) → place_in chosen x ≡ None → (j : ℕ) → j < length chosen → slice_index_or chosen j 0 ≢ x
+pub no_place : (chosen : List ℕ) (x : ℕ) → place_in chosen x ≡ None → (j : ℕ) → j < length chosen → slice_index_or chosen j 0 ≢ x
 no_place [] x e j p = absurd (omega arith)
 no_place (y ∷ ys) x e j p = by (no_place ys x) (y == x) refl e j p
   where
@@ -55,7 +55,7 @@ formed : (y : Layout) (f : Option Facts) (s : Stored) (j : ℕ) (o : Option Line
 formed y f s j None z k lay a m p t h = changes_sound.assigned y f s j None (pos 0) z k a m lay p tt h
 formed y f s j (Some l) z k lay a m p t h = changes_sound.assigned y f s j (term_of l.places) l.constant z k a m lay p (gives_at (selected y.chosen s) l.constant l.places z t) h
 
-placed : (y : Layout) (f : Option Facts) (s : Stored) (x : ℕ) (o : Option Linear) (z : ℤ) (k : Known) → IsLayout y → AreFactsIf y f → Member y f s → x < length y.types → Tells (selected y.chosen s) o z → IsOf k z
+pub placed : (y : Layout) (f : Option Facts) (s : Stored) (x : ℕ) (o : Option Linear) (z : ℤ) (k : Known) → IsLayout y → AreFactsIf y f → Member y f s → x < length y.types → Tells (selected y.chosen s) o z → IsOf k z
     → Member y (with_known (with_form_at f (place_in y.chosen x) o) x k) (slice_set s x (z ∷ []))
 placed y f s x o z k lay a m p t h = go (place_in y.chosen x) refl
   where

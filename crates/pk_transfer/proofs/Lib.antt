@@ -3,3 +3,5 @@ pub mod Refining
 pub mod Apart
 pub mod Forms
 pub mod Assigning
+pub mod Passing
+pub mod Transferring

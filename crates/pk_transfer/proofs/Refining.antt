@@ -25,7 +25,7 @@ use Rattle.pk_transfer.specs.Guards.{negated, flipped, is_comparison, is_zero, c
 
 -- ---- tests
 
-equal_by_test : (x y : ℤ) → int_eq x y ≡ true → x ≡ y
+pub equal_by_test : (x y : ℤ) → int_eq x y ≡ true → x ≡ y
 equal_by_test x y e = go (Decides-int_eq x y)
   where
     go : (int_eq x y ≡ true → x ≡ y) × (x ≡ y → int_eq x y ≡ true) → x ≡ y
@@ -139,7 +139,7 @@ refined_left Neg x v a b h g e = h
 refined_left BitNot x v a b h g e = h
 refined_left Not x v a b h g e = h
 
-turned : (op : Op) (a b : ℤ) → test_of op a b ≡ true → test_of (flipped op) b a ≡ true
+pub turned : (op : Op) (a b : ℤ) → test_of op a b ≡ true → test_of (flipped op) b a ≡ true
 turned Eq a b e = test_by_equal b a (sym (equal_by_test a b e))
 turned Ne a b e = by (int_eq b a) refl
   where

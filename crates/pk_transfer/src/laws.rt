@@ -1,8 +1,10 @@
 // Laws of trees, over their definitions.
 
+ghost use Rattle.pk_transfer.specs.Assumptions.{GuardsPass};
 ghost use Rattle.pk_transfer.specs.Guards.{GuardsKeep};
 ghost use Rattle.pk_transfer.specs.Assignments.{AssignmentsKeep};
 ghost use Rattle.pk_transfer.specs.Linear.{FormsAreExact};
+ghost use Rattle.pk_transfer.specs.Transfers.{TransfersKeep};
 ghost use Rattle.pk_transfer.specs.Trees.{TreesAreSound};
 
 /// Where a typed tree has a value in a store of a state, it is one of the numbers that are known of it.
@@ -23,4 +25,14 @@ pub fn forms_law()
 /// A store of a state in which a variable gets a tree's value is one of the state after the assignment.
 pub fn assignments_law()
     ensures { AssignmentsKeep }
+{}
+
+/// A store of a state in which a tree has the wanted truth is one of the state after the guard.
+pub fn passing_law()
+    ensures { GuardsPass }
+{}
+
+/// Where an instruction takes a store of a state to another, that is one of the state after it.
+pub fn transfers_law()
+    ensures { TransfersKeep }
 {}

@@ -6,5 +6,5 @@ mod laws;
 mod trees;
 
 pub use guards::refine;
-pub use laws::{assignments_law, forms_law, guards_law, trees_law};
+pub use laws::{assignments_law, forms_law, guards_law, passing_law, transfers_law, trees_law};
 pub use trees::value;

@@ -1,0 +1,90 @@
+-- What is known where a guard passes.
+use Rattle.std.specs.Prelude.{◌≡◌, ℕ, Bool, ℤ, pos, ◌-ℤ◌, List, [], ◌∷◌, Option, Some, None, Ok}
+use Rattle.pk_ctypes.specs.declared.types.Op.{Op}
+use Rattle.pk_ctypes.specs.declared.types.Op.TheVariants.{Add, Sub, Mul, Div, Rem, Shl, Shr, And, Or, Xor, Lt, Gt, Le, Ge, Eq, Ne, Neg, BitNot, Not}
+use Rattle.pk_graph.specs.Trees.{TreeOf, constant, variable, converted, unary, binary}
+use Rattle.pk_graph.specs.Kinds.{Kinds, IsTyped}
+use Rattle.pk_graph.specs.Steps.{tree_value, is_true}
+use Rattle.pk_graph.specs.Stores.{Stored, storing, IsStore}
+use Rattle.pk_value.specs.Known.{Known}
+use Rattle.pk_state.specs.Layouts.{Layout}
+use Rattle.pk_state.specs.Facts.{Facts, AreFactsIf}
+use Rattle.pk_state.specs.Members.{Member}
+use Rattle.pk_state.specs.Changes.{known_in, guarded_in}
+use Rattle.pk_transfer.specs.Trees.{known_with, tree_known, IsOver}
+use Rattle.pk_transfer.specs.Linear.{Linear, difference, linear}
+use Rattle.pk_transfer.specs.Assignments.{with_known_if}
+use Rattle.pk_transfer.specs.Guards.{Condition, condition_of, flipped, refined}
+
+-- ---- the octagon
+
+-- the sum of at most two places is at most c
+abbrev pub places_in : Option Facts → List ℕ → ℤ → Option Facts
+places_in f [] c = guarded_in f None None c
+places_in f (a ∷ []) c = guarded_in f (Some a) None c
+places_in f (a ∷ (b ∷ [])) c = guarded_in f (Some a) (Some b) c
+places_in f (a ∷ (b ∷ (d ∷ ps))) c = f
+
+-- l and n are at most r
+abbrev pub le_in : Option Facts → Option Linear → Option Linear → ℤ → Option Facts
+le_in f None r n = f
+le_in f (Some l) None n = f
+le_in f (Some l) (Some r) n = places_in f (difference l r).places ((r.constant -ℤ n) -ℤ l.constant)
+
+-- a comparison of two forms holds
+abbrev pub compared_in : Op → Option Facts → Option Linear → Option Linear → Option Facts
+compared_in Add f l r = f
+compared_in Sub f l r = f
+compared_in Mul f l r = f
+compared_in Div f l r = f
+compared_in Rem f l r = f
+compared_in Shl f l r = f
+compared_in Shr f l r = f
+compared_in And f l r = f
+compared_in Or f l r = f
+compared_in Xor f l r = f
+compared_in Lt f l r = le_in f l r (pos 1)
+compared_in Gt f l r = le_in f r l (pos 1)
+compared_in Le f l r = le_in f l r (pos 0)
+compared_in Ge f l r = le_in f r l (pos 0)
+compared_in Eq f l r = le_in (le_in f l r (pos 0)) r l (pos 0)
+compared_in Ne f l r = f
+compared_in Neg f l r = f
+compared_in BitNot f l r = f
+compared_in Not f l r = f
+
+-- ---- the operands
+
+-- an operand that is a variable is refined by what was known of the other
+abbrev pub with_operand : Option Facts → TreeOf ℕ → Op → Known → Option Facts
+with_operand f (constant t n) op v = f
+with_operand f (variable x) op v = with_known_if f x (known_with (known_in f x) (λ k. refined op k v))
+with_operand f (converted t e) op v = f
+with_operand f (unary p s t e) op v = f
+with_operand f (binary p s t a b) op v = f
+
+abbrev pub if_some : Option Known → Option Facts → Option Facts
+if_some None f = None
+if_some (Some k) f = f
+
+-- No store is left where an operand is empty, or refining one leaves nothing of it: then the comparison is surely false. Each operand is refined by what was known of
+-- the other before, so that one variable on both sides is refined twice.
+abbrev pub refined_in : Option Facts → Condition → Option Known → Option Known → Option Facts
+refined_in f c None v = None
+refined_in f c (Some k) None = None
+refined_in f c (Some k) (Some v) = if_some (refined c.op k v) (with_operand (with_operand f c.left c.op v) c.right (flipped c.op) k)
+
+abbrev pub holds_in : Layout → Option Facts → Condition → Option Facts
+holds_in y f c =
+    let g = known_in f in
+    refined_in (compared_in c.op f (linear y.chosen g c.left) (linear y.chosen g c.right)) c (tree_known g c.left) (tree_known g c.right)
+
+-- A guard on a tree passes.
+abbrev pub guard_in : Layout → Option Facts → TreeOf ℕ → Bool → Option Facts
+guard_in y f e b = holds_in y f (condition_of e b)
+
+-- A store of a state in which a typed tree has the wanted truth is one of the state after the guard.
+abbrev pub GuardsPass : Type 0
+GuardsPass =
+    (ks : Kinds) (y : Layout) (f : Option Facts) (s : Stored) (e : TreeOf ℕ) (b : Bool) (z : ℤ) → IsOver ks y → IsStore ks s → AreFactsIf y f → Member y f s → IsTyped ks e → tree_value storing e s ≡ Ok z → is_true z ≡ b
+    → Member y (guard_in y f e b) s
