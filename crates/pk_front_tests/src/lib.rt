@@ -17,5 +17,3 @@ mod io;
 mod lex;
 #[cfg(test)]
 mod parse;
-#[cfg(test)]
-mod typing;
