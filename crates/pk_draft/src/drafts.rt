@@ -1,11 +1,11 @@
 // A graph under construction, and the few verbs in which the lowering is said.
 
-ghost use Rattle.std.specs.Prelude.{◌≡◌, ◌+◌, ◌≤◌, OnOk};
+ghost use Rattle.std.specs.Prelude.{◌≡◌, ◌+◌, ◌≤◌, OnOk, map};
 ghost use Rattle.pk_graph.specs.Views.{tree_view, instr_view};
 ghost use Rattle.pk_graph.specs.Graphs.{variable_view};
 ghost use Rattle.pk_graph.specs.Trees as tree;
 ghost use Rattle.pk_draft.specs.Drafts as draft;
-ghost use Rattle.pk_draft.specs.Answers.{Adds, Makes, Gives};
+ghost use Rattle.pk_draft.specs.Answers.{Adds, Makes, Gives, edge_view};
 
 use crate::failures::LowerError;
 use pk_ctypes::{IntType, Name, Pos};
@@ -62,6 +62,15 @@ pub struct Draft {
     regions: Vec<Region>,
     scopes: Vec<Scope>,
     edges: Vec<DraftEdge>,
+}
+
+/// What a draft has made: what each point is, the variables, the chain of scopes, and the edges in the order in which they were made.
+#[derive(Drop)]
+pub struct Parts {
+    pub labels: Vec<Label>,
+    pub variables: Vec<Variable>,
+    pub scopes: Vec<Scope>,
+    pub edges: Vec<DraftEdge>,
 }
 
 ghost use Rattle.pk_draft.specs.Shown.{drafted};
@@ -300,6 +309,21 @@ impl Draft {
         self.point = region.points;
         self.points = region.points + size.points;
         Ok(())
+    }
+
+    /// Takes apart what was made.
+    pub fn parts(self) -> Parts
+        ensures labels { result.labels.items ≡ (drafted self).labels }
+        ensures variables { map variable_view result.variables.items ≡ (drafted self).made }
+        ensures scopes { result.scopes.items ≡ (drafted self).scopes }
+        ensures edges { map edge_view result.edges.items ≡ (drafted self).edges }
+    {
+        Parts {
+            labels: self.labels,
+            variables: self.made,
+            scopes: self.scopes,
+            edges: self.edges,
+        }
     }
 }
 
