@@ -19,8 +19,6 @@ use Rattle.pk_state.specs.Layouts.{Layout, place_in}
 use Rattle.pk_state.specs.Facts.{Facts, AreFactsIf}
 use Rattle.pk_state.specs.Members.{selected, Member}
 use Rattle.pk_state.specs.Changes.{known_in}
-use Rattle.pk_transfer.specs.declared.forms.Places.{Places}
-use Rattle.pk_transfer.specs.declared.forms.Places.TheVariants.{Zero, One, Two}
 use Rattle.pk_transfer.specs.Trees.{tree_known, kinds_of}
 
 -- ---- forms
@@ -54,13 +52,6 @@ sum l m = record { constant = l.constant +ℤ m.constant; places = with_places l
 
 abbrev pub difference : Linear → Linear → Linear
 difference l m = sum l (negative m)
-
--- ---- in code
-
-abbrev pub places_of : Places → List ℕ
-places_of Zero = []
-places_of (One a) = a ∷ []
-places_of (Two a b) = a ∷ (b ∷ [])
 
 -- ---- of a tree
 

@@ -11,13 +11,14 @@ ghost use Rattle.pk_state.specs.Changes.{IsValue, known_in};
 ghost use Rattle.pk_transfer.specs.Trees.{kinds_of, known_with};
 ghost use Rattle.pk_transfer.specs.Guards.{refined as refined_by, is_zero as zero_test, negated as negated_op, flipped as flipped_op};
 ghost use Rattle.pk_transfer.specs.Linear.{HasPlaces, IsGuardOn};
+ghost use Rattle.pk_transfer.specs.Places.{places_of};
 ghost use Rattle.pk_transfer.specs.Assignments.{with_known_if};
 ghost use Rattle.pk_transfer.specs.Assumptions.{places_in, le_in, compared_in, with_operand as refined_operand, refined_in, holds_in, guard_in};
 
-use crate::forms::{Form, Places, opposites, with_places};
+use crate::linear::{Form, Places};
 use crate::guards::refine;
 use crate::operators::{flipped, is_comparison, is_not, negated};
-use crate::told::{Told, tell};
+use crate::telling::{Told, tell};
 use pk_ctypes::{IntType, Op};
 use pk_graph::Tree;
 use pk_state::State;
@@ -44,8 +45,8 @@ pub(crate) fn written(
 // ---- the octagon
 
 fn at_most(alloc: Global, state: State, places: Places, c: i128) -> Result<State, AllocError>
-    requires { IsGuardOn (length state.layout.chosen) places }
-    ensures { IfOk result (λ s. s ≡ record { layout = state.layout; facts = places_in state.facts places c }) }
+    requires { IsGuardOn (length state.layout.chosen) (places_of places) }
+    ensures { IfOk result (λ s. s ≡ record { layout = state.layout; facts = places_in state.facts (places_of places) c }) }
 {
     match places {
         Places::Zero => state.with_guard(alloc, None, None, c),
@@ -67,10 +68,12 @@ fn bounded(
     requires to { less ≤ℤ pos 1 }
     ensures { IfOk result (λ s. s ≡ record { layout = state.layout; facts = le_in state.facts (Some left) (Some right) less }) }
 {
-    let c = right.constant - less - left.constant;
-    match with_places(left.places, opposites(right.places)) {
+    match left.places_over(right) {
         None => Ok(state),
-        Some(places) => at_most(alloc, state, places, c),
+        Some(places) => {
+            let room = left.room_below(right, less);
+            at_most(alloc, state, places, room)
+        }
     }
 }
 
@@ -78,21 +81,21 @@ fn bounded(
 fn le(
     alloc: Global,
     state: State,
-    left: Option<Form>,
-    right: Option<Form>,
+    left: &Option<Form>,
+    right: &Option<Form>,
     less: i128,
 ) -> Result<State, AllocError>
-    requires left { HasPlaces (length state.layout.chosen) left }
-    requires right { HasPlaces (length state.layout.chosen) right }
+    requires left { HasPlaces (length state.layout.chosen) left.now }
+    requires right { HasPlaces (length state.layout.chosen) right.now }
     requires from { pos 0 ≤ℤ less }
     requires to { less ≤ℤ pos 1 }
-    ensures { IfOk result (λ s. s ≡ record { layout = state.layout; facts = le_in state.facts left right less }) }
+    ensures { IfOk result (λ s. s ≡ record { layout = state.layout; facts = le_in state.facts left.now right.now less }) }
 {
     match left {
         None => Ok(state),
         Some(left) => match right {
             None => Ok(state),
-            Some(right) => bounded(alloc, state, left, right, less),
+            Some(right) => bounded(alloc, state, *left, *right, less),
         },
     }
 }
@@ -100,12 +103,12 @@ fn le(
 fn same(
     alloc: Global,
     state: State,
-    left: Option<Form>,
-    right: Option<Form>,
+    left: &Option<Form>,
+    right: &Option<Form>,
 ) -> Result<State, AllocError>
-    requires left { HasPlaces (length state.layout.chosen) left }
-    requires right { HasPlaces (length state.layout.chosen) right }
-    ensures { IfOk result (λ s. s ≡ record { layout = state.layout; facts = le_in (le_in state.facts left right (pos 0)) right left (pos 0) }) }
+    requires left { HasPlaces (length state.layout.chosen) left.now }
+    requires right { HasPlaces (length state.layout.chosen) right.now }
+    ensures { IfOk result (λ s. s ≡ record { layout = state.layout; facts = le_in (le_in state.facts left.now right.now (pos 0)) right.now left.now (pos 0) }) }
 {
     let state = le(alloc, state, left, right, 0)?;
     le(alloc, state, right, left, 0)
@@ -115,12 +118,12 @@ fn compared(
     alloc: Global,
     state: State,
     op: Op,
-    left: Option<Form>,
-    right: Option<Form>,
+    left: &Option<Form>,
+    right: &Option<Form>,
 ) -> Result<State, AllocError>
-    requires left { HasPlaces (length state.layout.chosen) left }
-    requires right { HasPlaces (length state.layout.chosen) right }
-    ensures { IfOk result (λ s. s ≡ record { layout = state.layout; facts = compared_in op state.facts left right }) }
+    requires left { HasPlaces (length state.layout.chosen) left.now }
+    requires right { HasPlaces (length state.layout.chosen) right.now }
+    ensures { IfOk result (λ s. s ≡ record { layout = state.layout; facts = compared_in op state.facts left.now right.now }) }
 {
     match op {
         Op::Lt => le(alloc, state, left, right, 1),
@@ -261,7 +264,7 @@ fn holds(
 {
     let l = tell(left, &state);
     let r = tell(right, &state);
-    let state = compared(alloc, state, op, l.form, r.form)?;
+    let state = compared(alloc, state, op, &l.form, &r.form)?;
     refined(alloc, state, op, left, right, &l, &r)
 }
 
@@ -340,6 +343,6 @@ pub fn guard(
     requires { IsTyped (kinds_of state.layout) (tree_view e.now) }
     ensures { IfOk result (λ s. s ≡ record { layout = state.layout; facts = guard_in state.layout state.facts (tree_view e.now) sense }) }
 {
-    let zero = Tree::Constant(IntType::Int, 0);
+    let zero = Tree::constant(IntType::Int, 0);
     passed(alloc, state, e, sense, &zero)
 }

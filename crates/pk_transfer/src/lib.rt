@@ -2,11 +2,11 @@
 #![tactic(auto)]
 
 mod assumptions;
-mod forms;
+mod linear;
 mod guards;
 mod laws;
 mod operators;
-mod told;
+mod telling;
 mod transfers;
 mod trees;
 

@@ -8,13 +8,14 @@ ghost use Rattle.pk_value.specs.Known.{exactly};
 ghost use Rattle.pk_state.specs.Layouts.{type_at, place_in};
 ghost use Rattle.pk_state.specs.Changes.{IsValue, known_in, with_known};
 ghost use Rattle.pk_transfer.specs.Trees.{kinds_of, tree_known};
-ghost use Rattle.pk_transfer.specs.Linear.{HasPlaces};
+ghost use Rattle.pk_transfer.specs.Linear.{HasPlaces, linear};
+ghost use Rattle.pk_transfer.specs.Places.{places_of};
 ghost use Rattle.pk_transfer.specs.Assignments.{term_of, with_form, with_form_at, set_in, with_known_if};
 ghost use Rattle.pk_transfer.specs.Transfers.{IsInstrOver, applied, at_index, forgotten_in, joined_if as joined_of, misses as misses_all, transferred};
 
 use crate::assumptions::{guard, written};
-use crate::forms::{Form, Places};
-use crate::told::tell;
+use crate::linear::{Form, Places};
+use crate::telling::tell;
 use crate::trees::value;
 use pk_ctypes::IntType;
 use pk_graph::{Array, Instr, Tree};
@@ -25,7 +26,7 @@ use std::alloc::{AllocError, Global};
 // ---- the octagon
 
 fn term(places: Places) -> Option<u32>
-    ensures { result ≡ term_of places }
+    ensures { result ≡ term_of (places_of places) }
 {
     match places {
         Places::Zero => None,

@@ -1,9 +1,10 @@
 // Linear forms: a constant and at most two signed octagon variables.
 
-ghost use Rattle.std.specs.Prelude.{◌≡◌, ◌∷◌, [], true, map, pos, option_map, ◌*◌, if◌then◌else◌, None, Some};
+ghost use Rattle.std.specs.Prelude.{◌≡◌, ◌∷◌, [], map, pos, negsuc, option_map, ◌*◌, ◌^◌, ◌≤ℤ◌, ◌+ℤ◌, ◌-ℤ◌};
 ghost use Rattle.pk_octmat.specs.Octagon.{bar as opposite};
 ghost use Rattle.pk_state.specs.Layouts.{place_in};
 ghost use Rattle.pk_transfer.specs.Linear.{is_near as is_near_zero, if_two, if_near, if_few, with_place as more, with_places as sum_of_places, negative as negative_of, sum as sum_of, difference as difference_of};
+ghost use Rattle.pk_transfer.specs.Places.{places_of};
 
 use pk_state::State;
 use std::marker::Model;
@@ -16,16 +17,7 @@ pub(crate) enum Places {
     Two(u32, u32),
 }
 
-impl Model for Places {
-    ghost use Rattle.std.specs.Prelude.{ℕ, List};
-    ghost use Rattle.pk_transfer.specs.Linear.{places_of};
-
-    ghost Value = { List ℕ };
-
-    ghost view = { places_of };
-}
-
-/// A constant and the sum of places.
+/// A constant and the sum of places. The constant is within 2^126 of 0.
 #[derive(Clone, Copy)]
 pub(crate) struct Form {
     pub(crate) constant: i128,
@@ -34,13 +26,19 @@ pub(crate) struct Form {
 
 impl Model for Form {
     ghost use Rattle.std.specs.Prelude.{◌≡◌, true};
+    ghost use Rattle.std.proofs.Common.{ap};
     ghost use Rattle.pk_transfer.specs.Linear.{Linear, is_near};
+    ghost use Rattle.pk_transfer.specs.Places.{places_of, places_back, back_of};
 
     ghost Value = { Linear };
 
-    ghost view = { λ l. record { constant = l.constant; places = l.places } };
+    ghost view = { λ l. record { constant = l.constant; places = places_of l.places } };
 
     ghost invariant = { λ l. is_near l.constant ≡ true };
+
+    ghost inverse = { λ l. record { constant = l.constant; places = places_back l.places } };
+
+    ghost inverse_ok = { λ l h. ap (λ p. record l { places = p }) (back_of l.places) };
 }
 
 // The place of the negative.
@@ -51,7 +49,7 @@ fn bar(p: u32) -> u32
 }
 
 fn with_place(p: u32, places: Places) -> Option<Places>
-    ensures { result ≡ if_two (more p places) }
+    ensures { option_map places_of result ≡ if_two (more p (places_of places)) }
 {
     match places {
         Places::Zero => Some(Places::One(p)),
@@ -76,7 +74,7 @@ fn with_place(p: u32, places: Places) -> Option<Places>
 
 // One more than three.
 fn with_fourth(p: u32, a: u32, b: u32, d: u32) -> Option<Places>
-    ensures { result ≡ if_two (more p (a ∷ (b ∷ (d ∷ [])))) }
+    ensures { option_map places_of result ≡ if_two (more p (a ∷ (b ∷ (d ∷ [])))) }
 {
     if a == bar(p) {
         Some(Places::Two(b, d))
@@ -90,7 +88,7 @@ fn with_fourth(p: u32, a: u32, b: u32, d: u32) -> Option<Places>
 }
 
 fn with_two(p: u32, q: u32, places: Places) -> Option<Places>
-    ensures { result ≡ if_two (more p (more q places)) }
+    ensures { option_map places_of result ≡ if_two (more p (more q (places_of places))) }
 {
     match places {
         Places::Zero => with_place(p, Places::One(q)),
@@ -115,7 +113,7 @@ fn with_two(p: u32, q: u32, places: Places) -> Option<Places>
 
 /// The places of both, without opposite ones; none where there are more than two.
 pub(crate) fn with_places(left: Places, right: Places) -> Option<Places>
-    ensures { result ≡ if_two (sum_of_places left right) }
+    ensures { option_map places_of result ≡ if_two (sum_of_places (places_of left) (places_of right)) }
 {
     match left {
         Places::Zero => some(right),
@@ -125,7 +123,7 @@ pub(crate) fn with_places(left: Places, right: Places) -> Option<Places>
 }
 
 fn some(places: Places) -> Option<Places>
-    ensures { result ≡ if_two places }
+    ensures { option_map places_of result ≡ if_two (places_of places) }
 {
     match places {
         Places::Zero => Some(Places::Zero),
@@ -136,7 +134,7 @@ fn some(places: Places) -> Option<Places>
 
 /// The negatives of places.
 pub(crate) fn opposites(places: Places) -> Places
-    ensures { result ≡ map opposite places }
+    ensures { places_of result ≡ map opposite (places_of places) }
 {
     match places {
         Places::Zero => Places::Zero,
@@ -154,13 +152,19 @@ fn is_near(c: i128) -> bool
 }
 
 fn near(constant: i128, places: Places) -> Option<Form>
-    ensures { result ≡ if_near constant places }
+    ensures { result ≡ if_near constant (places_of places) }
 {
     if is_near(constant) {
         Some(Form { constant, places })
     } else {
         None
     }
+}
+
+fn constants(a: Form, b: Form) -> i128
+    ensures { result ≡ a.constant +ℤ b.constant }
+{
+    a.constant + b.constant
 }
 
 impl Form {
@@ -173,13 +177,48 @@ impl Form {
         }
     }
 
+    /// The places of the difference, where there are at most two.
+    pub(crate) fn places_over(self, other: Form) -> Option<Places>
+        ensures { option_map places_of result ≡ if_two (difference_of self other).places }
+    {
+        with_places(self.places, opposites(other.places))
+    }
+
+    fn less(self, number: i128) -> i128
+        requires from { pos 0 ≤ℤ number }
+        requires to { number ≤ℤ pos 1 }
+        ensures value { result ≡ self.constant -ℤ number }
+        ensures from { negsuc (2 ^ 126) ≤ℤ result }
+        ensures to { result ≤ℤ pos (2 ^ 126) }
+    {
+        self.constant - number
+    }
+
+    fn below(self, number: i128) -> i128
+        requires from { negsuc (2 ^ 126) ≤ℤ number }
+        requires to { number ≤ℤ pos (2 ^ 126) }
+        ensures { result ≡ number -ℤ self.constant }
+    {
+        number - self.constant
+    }
+
+    /// What the difference of the places is at most where this form is at most the other less a number.
+    pub(crate) fn room_below(self, other: Form, number: i128) -> i128
+        requires from { pos 0 ≤ℤ number }
+        requires to { number ≤ℤ pos 1 }
+        ensures { result ≡ (other.constant -ℤ number) -ℤ self.constant }
+    {
+        let most = other.less(number);
+        self.below(most)
+    }
+
     /// The sum, where it is a form.
     pub(crate) fn plus(self, other: Form) -> Option<Form>
         ensures { result ≡ if_few (sum_of self other) }
     {
         match with_places(self.places, other.places) {
             None => None,
-            Some(places) => near(self.constant + other.constant, places),
+            Some(places) => near(constants(self, other), places),
         }
     }
 
@@ -195,6 +234,7 @@ impl Form {
 pub(crate) fn of_variable(x: usize, state: &State) -> Option<Form>
     ensures { result ≡ option_map (λ k. record { constant = pos 0; places = 2 * k ∷ [] }) (place_in state.now.layout.chosen x) }
 {
+    state.is_stated();
     match state.place(x) {
         None => None,
         Some(k) => Some(Form {

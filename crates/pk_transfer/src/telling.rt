@@ -16,7 +16,7 @@ ghost use Rattle.pk_transfer.specs.Trees.{known_with, kinds_of};
 ghost use Rattle.pk_transfer.specs.Linear.{both, difference, if_negative, if_sum, is_exact as stays_exact, is_inside as lies_inside, negative, sum, where_both, where_known};
 ghost use Rattle.pk_transfer.specs.Told.{told, told_converted, told_unary, told_binary};
 
-use crate::forms::{Form, Places, of_variable};
+use crate::linear::{Form, Places, of_variable};
 use pk_ctypes::{IntType, Op, is_signed, range, result_type};
 use pk_graph::Tree;
 use pk_interval::{Interval, Outcome, binary};
@@ -42,6 +42,8 @@ impl Model for Told {
     ghost view = { λ d. record { int_type = d.int_type; known = d.known; form = d.form } };
 
     ghost invariant = { λ d. IfSome d.known (IsValue d.int_type) };
+
+    ghost inverse = { λ d. record { int_type = d.int_type; known = d.known; form = d.form } };
 }
 
 // ---- types
