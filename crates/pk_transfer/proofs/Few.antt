@@ -1,5 +1,5 @@
 -- Forms of at most two places.
-use Rattle.std.specs.Prelude.{◌≡◌, ℕ, nat_le, Bool, true, false, if◌then◌else◌, List, length, Option, Some, None}
+use Rattle.std.specs.Prelude.{◌≡◌, ℕ, nat_le, Bool, true, false, if◌then◌else◌, List, length, Some, None}
 use Rattle.pk_transfer.specs.Linear.{if_two}
 
 pub few_is : (ps qs : List ℕ) → Some qs ≡ if_two ps → qs ≡ ps

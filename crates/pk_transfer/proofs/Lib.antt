@@ -6,3 +6,4 @@ pub mod Assigning
 pub mod Passing
 pub mod Transferring
 pub mod Few
+pub mod Over

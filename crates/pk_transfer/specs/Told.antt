@@ -1,5 +1,5 @@
 -- What a tree tells of its value: its type, what is known of it, and its linear form.
-use Rattle.std.specs.Prelude.{◌≡◌, ℕ, Option, option_map}
+use Rattle.std.specs.Prelude.{ℕ, Option, option_map}
 use Rattle.pk_ctypes.specs.declared.types.IntType.{IntType}
 use Rattle.pk_ctypes.specs.declared.types.Op.{Op}
 use Rattle.pk_ctypes.specs.declared.types.Op.TheVariants.{Add, Sub, Neg}

@@ -15,8 +15,8 @@ ghost use Rattle.pk_transfer.specs.Places.{places_of};
 ghost use Rattle.pk_transfer.specs.Assignments.{with_known_if};
 ghost use Rattle.pk_transfer.specs.Assumptions.{places_in, le_in, compared_in, with_operand as refined_operand, refined_in, holds_in, guard_in};
 
-use crate::linear::{Form, Places};
 use crate::guards::refine;
+use crate::linear::{Form, Places};
 use crate::operators::{flipped, is_comparison, is_not, negated};
 use crate::telling::{Told, tell};
 use pk_ctypes::{IntType, Op};
@@ -334,12 +334,7 @@ fn passed(
 }
 
 /// What is known where a tree has this truth. The state is taken; where memory is refused, it is gone.
-pub fn guard(
-    alloc: Global,
-    state: State,
-    e: &Tree,
-    sense: bool,
-) -> Result<State, AllocError>
+pub fn guard(alloc: Global, state: State, e: &Tree, sense: bool) -> Result<State, AllocError>
     requires { IsTyped (kinds_of state.layout) (tree_view e.now) }
     ensures { IfOk result (λ s. s ≡ record { layout = state.layout; facts = guard_in state.layout state.facts (tree_view e.now) sense }) }
 {

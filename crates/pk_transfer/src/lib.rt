@@ -2,9 +2,9 @@
 #![tactic(auto)]
 
 mod assumptions;
-mod linear;
 mod guards;
 mod laws;
+mod linear;
 mod operators;
 mod telling;
 mod transfers;

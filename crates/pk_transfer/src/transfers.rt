@@ -36,12 +36,7 @@ fn term(places: Places) -> Option<u32>
 }
 
 // The octagon's variable k gets the form's number, or any.
-fn assigned(
-    alloc: Global,
-    state: State,
-    k: u32,
-    form: Option<Form>,
-) -> Result<State, AllocError>
+fn assigned(alloc: Global, state: State, k: u32, form: Option<Form>) -> Result<State, AllocError>
     requires variable { k < length state.layout.chosen }
     requires places { HasPlaces (length state.layout.chosen) form }
     ensures { IfOk result (λ s. s ≡ record { layout = state.layout; facts = with_form state.facts k form }) }
@@ -75,13 +70,7 @@ fn forgotten(
 // ---- instructions
 
 // A variable of the octagon, at place k, gets a tree's value.
-fn set_chosen(
-    alloc: Global,
-    state: State,
-    x: usize,
-    k: u32,
-    e: &Tree,
-) -> Result<State, AllocError>
+fn set_chosen(alloc: Global, state: State, x: usize, k: u32, e: &Tree) -> Result<State, AllocError>
     requires place { x < length state.layout.types }
     requires variable { k < length state.layout.chosen }
     requires typed { IsTyped (kinds_of state.layout) (tree_view e.now) }
@@ -194,7 +183,9 @@ fn apply(alloc: Global, state: State, instr: &Instr) -> Result<State, AllocError
         Instr::Skip => Ok(state),
         Instr::Set(x, e) => set(alloc, state, *x, e),
         Instr::Havoc {
-            variable, int_type, ..
+            variable,
+            int_type,
+            ..
         } => forgotten(alloc, state, *variable, Some(Value::any(*int_type))),
         Instr::Clear(array) => state.with_value(alloc, array.variable, Value::exactly(0)),
         Instr::Load {
