@@ -5,3 +5,5 @@ pub mod Forms
 pub mod Assigning
 pub mod Passing
 pub mod Transferring
+pub mod Few
+pub mod Over

@@ -1,0 +1,5 @@
+pub mod TypedLemmas
+pub mod KeptLemmas
+pub mod StoreLemmas
+pub mod ChosenLemmas
+pub mod EdgeLemmas

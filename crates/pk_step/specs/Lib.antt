@@ -1,0 +1,2 @@
+pub mod GraphSteps
+pub mod Laws
