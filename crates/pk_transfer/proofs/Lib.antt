@@ -7,3 +7,4 @@ pub mod Passing
 pub mod Transferring
 pub mod Few
 pub mod Over
+pub mod Operands
