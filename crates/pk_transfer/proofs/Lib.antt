@@ -8,3 +8,4 @@ pub mod Transferring
 pub mod Few
 pub mod Over
 pub mod Operands
+pub mod Layouting
