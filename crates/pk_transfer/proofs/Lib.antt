@@ -9,3 +9,4 @@ pub mod Few
 pub mod Over
 pub mod Operands
 pub mod Layouting
+pub mod Keeping
