@@ -4,7 +4,7 @@ ghost use Rattle.std.specs.Prelude.{◌≡◌, ◌<◌, ◌*◌, IfOk, IfSome, l
 ghost use Rattle.pk_octops.specs.Guards.{IsGuard};
 ghost use Rattle.pk_state.specs.Layouts.{type_at, place_in};
 ghost use Rattle.pk_state.specs.Facts.{AreFactsIf};
-ghost use Rattle.pk_state.specs.Changes.{IsValue, known_in, with_known, assigned_in, guarded_in};
+ghost use Rattle.pk_state.specs.Changes.{IsValue, known_in, bound_in, with_known, assigned_in, guarded_in};
 
 use crate::facts::{Facts, shared};
 use crate::frame::Frame;
@@ -110,6 +110,19 @@ fn guard_if(
     }
 }
 
+fn bound_if(facts: &Option<Facts>, i: u32, j: u32, frame: &Frame) -> Option<i128>
+    requires facts { AreFactsIf frame.now facts.now }
+    requires row { i < 2 * length frame.now.chosen }
+    requires column { j < 2 * length frame.now.chosen }
+    ensures { result ≡ bound_in facts.now i j }
+{
+    let _ = frame;
+    match facts {
+        None => None,
+        Some(facts) => facts.octagon.get(i, j),
+    }
+}
+
 impl State {
     /// What is known of a variable; none where no run comes there.
     pub fn value(&self, x: usize) -> Option<Value>
@@ -134,6 +147,15 @@ impl State {
         ensures there { IfSome result (λ k. k < length self.now.layout.chosen) }
     {
         self.frame.place(x)
+    }
+
+    /// The octagon's bound on V(j) - V(i), if there is one. Place 2k is the variable of place k, place 2k + 1 its negative.
+    pub fn bound(&self, i: u32, j: u32) -> Option<i128>
+        requires row { i < 2 * length self.now.layout.chosen }
+        requires column { j < 2 * length self.now.layout.chosen }
+        ensures { result ≡ bound_in self.now.facts i j }
+    {
+        bound_if(&self.facts, i, j, &self.frame)
     }
 
     /// No run comes there.
