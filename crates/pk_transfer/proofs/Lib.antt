@@ -7,3 +7,6 @@ pub mod Passing
 pub mod Transferring
 pub mod Few
 pub mod Over
+pub mod Operands
+pub mod Layouting
+pub mod Keeping

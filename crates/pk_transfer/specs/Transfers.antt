@@ -47,6 +47,10 @@ applied y f (Check s e) = guard_in y f e true
 abbrev pub transferred : Layout → Option Facts → InstrOf ℕ → Option Facts
 transferred y f i = reduced y (applied y (reduced y f) i)
 
+-- Each store to which an instruction takes a store of f is one of g.
+abbrev pub IsKept : Layout → Option Facts → InstrOf ℕ → Option Facts → Type 0
+IsKept y f i g = (ks : Kinds) (s t : Stored) (ch : Numbers) → IsOver ks y → IsStore ks s → Member y f s → IsTypedInstr ks i → effect storing ch i s ≡ To t → Member y g t
+
 -- an instruction that is typed in a table of variables, and a layout over that table
 pub record IsInstrOver (y : Layout) (i : InstrOf ℕ) : Type 0 where
   pub kinds : Kinds

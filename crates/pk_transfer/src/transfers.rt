@@ -11,7 +11,7 @@ ghost use Rattle.pk_transfer.specs.Trees.{kinds_of, tree_known};
 ghost use Rattle.pk_transfer.specs.Linear.{HasPlaces, linear};
 ghost use Rattle.pk_transfer.specs.Places.{places_of};
 ghost use Rattle.pk_transfer.specs.Assignments.{term_of, with_form, with_form_at, set_in, with_known_if};
-ghost use Rattle.pk_transfer.specs.Transfers.{IsInstrOver, applied, at_index, forgotten_in, joined_if as joined_of, misses as misses_all, transferred};
+ghost use Rattle.pk_transfer.specs.Transfers.{IsInstrOver, applied, at_index, forgotten_in, joined_if as joined_of, misses as misses_all, transferred, IsKept};
 
 use crate::assumptions::{guard, written};
 use crate::linear::{Form, Places};
@@ -208,9 +208,12 @@ fn apply(alloc: Global, state: State, instr: &Instr) -> Result<State, AllocError
 /// What is known after an instruction, which is typed in a table of the state's variables: the state reduced, the instruction applied, and that reduced.
 pub fn transfer(alloc: Global, instr: &Instr, state: &State) -> Result<State, AllocError>
     requires { IsInstrOver state.now.layout (instr_view instr.now) }
-    ensures { IfOk result (λ s. s ≡ record { layout = state.now.layout; facts = transferred state.now.layout state.now.facts (instr_view instr.now) }) }
+    ensures value { IfOk result (λ s. s ≡ record { layout = state.now.layout; facts = transferred state.now.layout state.now.facts (instr_view instr.now) }) }
+    ensures sound { IfOk result (λ s. IsKept state.now.layout state.now.facts (instr_view instr.now) s.facts) }
 {
+    state.is_stated();
     let before = state.reduce(alloc)?;
     let after = apply(alloc, before, instr)?;
+    after.is_stated();
     after.reduce(alloc)
 }
