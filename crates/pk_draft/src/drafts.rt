@@ -311,6 +311,34 @@ impl Draft {
         Ok(())
     }
 
+    /// What each point is.
+    pub fn labels(&self) -> &[Label]
+        ensures { result.now ≡ (drafted self.now).labels }
+    {
+        &self.labels
+    }
+
+    /// The variables that were made.
+    pub fn made(&self) -> &[Variable]
+        ensures { map variable_view result.now ≡ (drafted self.now).made }
+    {
+        &self.made
+    }
+
+    /// The chain of scopes.
+    pub fn scopes(&self) -> &[Scope]
+        ensures { result.now ≡ (drafted self.now).scopes }
+    {
+        &self.scopes
+    }
+
+    /// The edges in the order in which they were made.
+    pub fn edges(&self) -> &[DraftEdge]
+        ensures { map edge_view result.now ≡ (drafted self.now).edges }
+    {
+        &self.edges
+    }
+
     /// Takes apart what was made.
     pub fn parts(self) -> Parts
         ensures labels { result.labels.items ≡ (drafted self).labels }

@@ -7,3 +7,4 @@ pub mod NumberLemmas
 pub mod WaitLemmas
 pub mod PointLemmas
 pub mod GraphLemmas
+mod TableLemmas

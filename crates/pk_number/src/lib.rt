@@ -4,7 +4,9 @@
 mod laws;
 mod numbering;
 mod rows;
+mod typed;
 mod walks;
 
 pub use laws::numbered_law;
-pub use numbering::number;
+pub use numbering::{number, number_if_typed};
+pub use typed::is_typed;
