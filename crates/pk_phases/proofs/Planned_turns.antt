@@ -53,8 +53,8 @@ named : {V : Type 0} (q : Equations V) (c : Component) (head exit : ℕ) → c.h
 named q c head exit h x are = (ap q.part (sym h) ∙ are.0 ∙ ap HeadOf x, ap q.part (sym x) ∙ are.1 ∙ ap ExitOf h)
 
 pub linear_order_ends : {V : Type 0} (q : Equations V) (held : ℕ → V → Type 0) → KeepHeld q held → LinearOrderEnds q held
-linear_order_ends {V} q held keeps p order rank chain linear parts ranks =
-    equations_end q held keeps order rank chain once same (λ head exit i. let c = component_of p order head exit linear i in subst (λ (h : ℕ). IsRank q.ops (held h) chain rank) c.2 (ranks c.0 c.1))
+linear_order_ends {V} q held keeps p order rank chain linear parts apart ranks =
+    equations_end q held keeps order rank chain once same apart (λ head exit i. let c = component_of p order head exit linear i in subst (λ (h : ℕ). IsRank q.ops (held h) chain rank) c.2 (ranks c.0 c.1))
   where
     once : Once order
     once = different_once order (subst (AllPairs (λ (a b : ℕ). a ≢ b)) (sym (elements_of_places order)) linear.once)

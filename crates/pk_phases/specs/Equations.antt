@@ -103,13 +103,15 @@ IsExit (ExitOf head) = Unit {0}
 abbrev pub AreHeld : {V : Type 0} → (ℕ → V → Type 0) → V → V → Type 0
 AreHeld held h n = (e : ℕ) × held e h × held e n
 
--- The equations keep to the values that their points may hold, and read points alone.
+-- The equations keep to the values that their points may hold.
 pub record KeepHeld {V : Type 0} (q : Equations V) (held : ℕ → V → Type 0) : Type 0 where
   pub bottom : (e : ℕ) → held e q.bottom
   pub value : (e : ℕ) (vs : List V) → HoldEach held (q.sources e) vs → held e (q.value e vs)
   pub next : (e : ℕ) (phase : Phase) (h n : V) → held e h → held e n → held e (next_value q.ops phase h n)
-  pub points : (e : ℕ) → All (λ u. IsExit (q.part u) → ⊥) (q.sources e)
-  pub heads : (e head : ℕ) → q.part e ≡ ExitOf head → IsExit (q.part head) → ⊥
+
+-- points read points alone
+abbrev pub ReadsPoints : {V : Type 0} → Equations V → Type 0
+ReadsPoints q = (e : ℕ) → All (λ u. IsExit (q.part u) → ⊥) (q.sources e)
 
 -- the order's components are those of the equations
 abbrev pub PartsAreOf : {V : Type 0} → Equations V → Level → Type 0
@@ -118,6 +120,6 @@ PartsAreOf q order = (head exit : ℕ) → HasComponent order head exit → (q.p
 -- with a rank of the values that a head may hold the recursion ends, and each entry of a component runs its head only so often
 abbrev pub EquationsEnd : {V : Type 0} → Equations V → (ℕ → V → Type 0) → Type 0
 EquationsEnd {V} q held =
-    (order : Level) (rank : V → ℕ) (chain : ℕ) → Once order → PartsAreOf q order
+    (order : Level) (rank : V → ℕ) (chain : ℕ) → Once order → PartsAreOf q order → ReadsPoints q
     → ((head exit : ℕ) → HasComponent order head exit → IsRank q.ops (held head) chain rank)
     → EndsWithin (behaviour_of q) order (turn_bound chain q.narrow)

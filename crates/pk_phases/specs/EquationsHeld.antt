@@ -1,6 +1,5 @@
 -- The cells of equations may be held.
-use Rattle.std.proofs.Common.{◌≡◌, ℕ, List, [], ◌∷◌, map, subst, refl, All}
-use Rattle.std.proofs.lemmas.List.Elements.{All-head, All-tail}
+use Rattle.std.proofs.Common.{◌≡◌, ℕ, List, [], ◌∷◌, map, refl}
 use Rattle.pk_iterate.specs.declared.systems.Decision.{Decision}
 use Rattle.pk_iterate.specs.declared.systems.Decision.TheVariants.{Stable, Again}
 use Rattle.pk_iterate.specs.Behaviour.{HoldEach, decided_cell}
@@ -10,40 +9,36 @@ use Rattle.pk_phases.specs.declared.equations.Cell.{Cell}
 use Rattle.pk_phases.specs.declared.equations.Cell.TheVariants.{Value, Exit}
 use Rattle.pk_phases.specs.declared.equations.Part.{Part}
 use Rattle.pk_phases.specs.declared.equations.Part.TheVariants.{Point, HeadOf, ExitOf}
-use Rattle.pk_phases.specs.Equations.{Equations, value_of, phase_of, new_value, reads_in, first_in, head_run, apply_in, exit_cell, exit_run, decide_in, behaviour_of, held_in, may_hold_of, IsExit, KeepHeld}
+use Rattle.pk_phases.specs.Equations.{Equations, value_of, phase_of, new_value, reads_in, first_in, head_run, apply_in, exit_cell, exit_run, decide_in, behaviour_of, held_in, may_hold_of, KeepHeld}
 
 module _ {V : Type 0} (q : Equations V) (held : ℕ → V → Type 0) (k : KeepHeld q held) where
-  -- a point's cell is a value that it may hold
-  pub value_at : (e : ℕ) (part : Part) (c : Cell V) → (IsExit part → ⊥) → held_in held e part c → held e (value_of q.bottom c)
-  value_at e Point (Value v) point h = h
-  value_at e Point (Exit p) point h = absurd h
-  value_at e (HeadOf exit) (Value v) point h = h
-  value_at e (HeadOf exit) (Exit p) point h = absurd h
-  value_at e (ExitOf head) c point h = absurd (point tt)
+  -- the value of a cell may be held, also where that is bottom for a phase
+  pub value_at : (e : ℕ) (part : Part) (c : Cell V) → held_in held e part c → held e (value_of q.bottom c)
+  value_at e Point (Value v) h = h
+  value_at e Point (Exit p) h = absurd h
+  value_at e (HeadOf exit) (Value v) h = h
+  value_at e (HeadOf exit) (Exit p) h = absurd h
+  value_at e (ExitOf head) (Value v) h = absurd h
+  value_at e (ExitOf head) (Exit p) h = k.bottom e
 
-  values_of : (us : List ℕ) (cells : List (Cell V)) → All (λ u. IsExit (q.part u) → ⊥) us → HoldEach (may_hold_of q held) us cells → HoldEach held us (map (value_of q.bottom) cells)
-  values_of [] [] points h = tt
-  values_of [] (c ∷ cells) points h = absurd h
-  values_of (u ∷ us) [] points h = absurd h
-  values_of (u ∷ us) (c ∷ cells) points h =
-      (value_at u (q.part u) c (All-head (λ (v : ℕ). IsExit (q.part v) → ⊥) u us points) h.0, values_of us cells (All-tail (λ (v : ℕ). IsExit (q.part v) → ⊥) u us points) h.1)
+  values_of : (us : List ℕ) (cells : List (Cell V)) → HoldEach (may_hold_of q held) us cells → HoldEach held us (map (value_of q.bottom) cells)
+  values_of [] [] h = tt
+  values_of [] (c ∷ cells) h = absurd h
+  values_of (u ∷ us) [] h = absurd h
+  values_of (u ∷ us) (c ∷ cells) h = (value_at u (q.part u) c h.0, values_of us cells h.1)
 
   pub new_held : (e : ℕ) (cells : List (Cell V)) → HoldEach (may_hold_of q held) (q.sources e) cells → held e (new_value q e cells)
-  new_held e cells h = k.value e (map (value_of q.bottom) cells) (values_of (q.sources e) cells (k.points e) h)
+  new_held e cells h = k.value e (map (value_of q.bottom) cells) (values_of (q.sources e) cells h)
 
   first_held : (e : ℕ) (part : Part) → held_in held e part (first_in q part)
   first_held e Point = k.bottom e
   first_held e (HeadOf exit) = k.bottom e
   first_held e (ExitOf head) = tt
 
-  -- a head's own cell is a value
-  pub own_value : (e exit : ℕ) (part : Part) (c : Cell V) → part ≡ HeadOf exit → held_in held e part c → held e (value_of q.bottom c)
-  own_value e exit part c is h = value_at e (HeadOf exit) c (λ no. no) (subst (λ (p : Part). held_in held e p c) is h)
-
   head_held : (e exit : ℕ) (cells : List (Cell V)) → q.part e ≡ HeadOf exit → HoldEach (may_hold_of q held) (exit ∷ (e ∷ q.sources e)) cells → held e (head_run q e cells)
   head_held e exit [] is h = absurd h
   head_held e exit (x ∷ []) is h = absurd h.1
-  head_held e exit (x ∷ (c ∷ cells)) is h = k.next e (phase_of x) (value_of q.bottom c) (new_value q e cells) (own_value e exit (q.part e) c is h.1.0) (new_held e cells h.1.1)
+  head_held e exit (x ∷ (c ∷ cells)) is h = k.next e (phase_of x) (value_of q.bottom c) (new_value q e cells) (value_at e (q.part e) c h.1.0) (new_held e cells h.1.1)
 
   apply_held : (e : ℕ) (part : Part) (cells : List (Cell V)) → q.part e ≡ part → HoldEach (may_hold_of q held) (reads_in q e part) cells → held_in held e part (apply_in q e part cells)
   apply_held e Point cells is h = new_held e cells h
