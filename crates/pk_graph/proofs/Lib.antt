@@ -2,3 +2,5 @@ mod PointLemmas
 mod AccessLemmas
 mod MarkLemmas
 mod FirstLemmas
+mod ScopeLemmas
+mod VisibleLemmas

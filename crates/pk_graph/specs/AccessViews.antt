@@ -8,7 +8,7 @@ use Rattle.pk_graph.specs.Accesses.{OperationOf, Index, Divisor, Negation, Resul
 
 unfoldable pub operation_view : Operation → OperationOf
 operation_view (operations.Index n i) = Index n (tree_view i.now)
-operation_view (operations.Divisor e) = Divisor (tree_view e.now)
+operation_view (operations.Divisor a b) = Divisor (tree_view a.now) (tree_view b.now)
 operation_view (operations.Negation t e) = Negation t (tree_view e.now)
 operation_view (operations.Result op t a b) = Result op t (tree_view a.now) (tree_view b.now)
 operation_view (operations.Shift op t a b) = Shift op t (tree_view a.now) (tree_view b.now)

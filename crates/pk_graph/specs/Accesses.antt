@@ -12,8 +12,8 @@ use Rattle.pk_graph.specs.Graphs.{EdgeOf, PointOf, GraphOf}
 pub data OperationOf : Type 0 where
   -- an index of an array of so many elements
   Index : ℕ → TreeOf ℕ → OperationOf
-  -- the divisor of a division
-  Divisor : TreeOf ℕ → OperationOf
+  -- a division: its dividend and its divisor
+  Divisor : TreeOf ℕ → TreeOf ℕ → OperationOf
   -- signed operators whose result may lie outside of the type
   Negation : IntType → TreeOf ℕ → OperationOf
   Result : Op → IntType → TreeOf ℕ → TreeOf ℕ → OperationOf
@@ -64,8 +64,8 @@ abbrev pub of_binary : ℕ → Op → Site → IntType → TreeOf ℕ → TreeOf
 of_binary p Add s t a b = if_signed t (access p s (Result Add t a b))
 of_binary p Sub s t a b = if_signed t (access p s (Result Sub t a b))
 of_binary p Mul s t a b = if_signed t (access p s (Result Mul t a b))
-of_binary p Div s t a b = access p s (Divisor b) ∷ if_signed t (access p s (Result Div t a b))
-of_binary p Rem s t a b = access p s (Divisor b) ∷ if_signed t (access p s (Result Rem t a b))
+of_binary p Div s t a b = access p s (Divisor a b) ∷ if_signed t (access p s (Result Div t a b))
+of_binary p Rem s t a b = access p s (Divisor a b) ∷ if_signed t (access p s (Result Rem t a b))
 of_binary p Shl s t a b = access p s (Shift Shl t a b) ∷ []
 of_binary p Shr s t a b = access p s (Shift Shr t a b) ∷ []
 of_binary p And s t a b = []

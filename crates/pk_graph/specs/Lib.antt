@@ -7,6 +7,8 @@ pub mod Graphs
 pub mod Accesses
 pub mod AccessViews
 pub mod OctagonVariables
+pub mod Visible
 pub mod WellMade
 pub mod Propositions
 pub mod Shown
+pub mod Named

@@ -1,13 +1,14 @@
 // Graphs: call paths, variables, points and edges.
 
-ghost use Rattle.std.specs.Prelude.{◌≡◌, ◌<◌, length, map};
-ghost use Rattle.pk_graph.specs.Graphs.{graph_of, path_view, variable_view, edge_view, point_at};
+ghost use Rattle.std.specs.Prelude.{◌≡◌, ◌<◌, length, map, IfOk};
+ghost use Rattle.pk_graph.specs.Graphs.{graph_of, path_view, variable_view, edge_view, point_at, scope_at};
 ghost use Rattle.pk_graph.specs.WellMade.{IsGraph};
 ghost use Rattle.pk_graph.specs.Propositions.{IsGraph-prop};
 
 use crate::instructions::Instr;
 use crate::trees::Site;
 use pk_ctypes::{IntType, Name, Pos};
+use std::alloc::{AllocError, Global};
 
 /// A call path: the entry, or a call of a function on a call path.
 #[derive(Drop)]
@@ -75,6 +76,20 @@ pub struct Graph {
     ghost well_made: { IsGraph (graph_of paths.items variables.items scopes.items points.items) } by { IsGraph-prop _ },
 }
 
+// The variables of a place in a chain, newest first.
+fn in_scope(alloc: Global, scopes: &[Scope], place: usize) -> Result<Vec<usize>, AllocError>
+    ensures { IfOk result (λ list. list.items ≡ scope_at scopes.now place) }
+{
+    let mut list = Vec::new(alloc);
+    let mut left = place;
+    while 0 < left && left <= scopes.len() {
+        let scope = scopes[left - 1];
+        list.push(scope.variable)?;
+        left = if scope.outer < left { scope.outer } else { 0 };
+    }
+    Ok(list)
+}
+
 impl Graph {
     ghost use Rattle.pk_graph.specs.Shown.{graph_view};
 
@@ -135,6 +150,14 @@ impl Graph {
         ensures { result ≡ (point_at (graph_view self.now) point).path }
     {
         self.points[point].path
+    }
+
+    /// The variables whose names are in scope at a point, newest first, the hidden ones too.
+    pub fn scope(&self, alloc: Global, point: usize) -> Result<Vec<usize>, AllocError>
+        requires { point < length (graph_view self.now).points }
+        ensures { IfOk result (λ list. list.items ≡ (point_at (graph_view self.now) point).scope) }
+    {
+        in_scope(alloc, &self.scopes, self.points[point].scope)
     }
 
     /// The edges that begin at a point, in the order in which they were made.

@@ -9,9 +9,13 @@ mod instructions;
 mod octagons;
 mod operations;
 mod trees;
+mod verdicts;
+mod visibility;
 
 pub use graphs::{Edge, Graph, Path, Point, Scope, Start, Variable};
 pub use instructions::{Array, Instr};
 pub use octagons::octagon_variables;
 pub use operations::{Access, Operation, accesses};
 pub use trees::{Site, Tree};
+pub use verdicts::Verdict;
+pub use visibility::visible;

@@ -18,8 +18,8 @@ use std::alloc::{AllocError, Global};
 pub enum Operation<'a> {
     /// An index of an array of so many elements.
     Index(usize, &'a Tree),
-    /// The divisor of a division, which may be 0.
-    Divisor(&'a Tree),
+    /// A division: its dividend, and the divisor, which may be 0.
+    Divisor(&'a Tree, &'a Tree),
     /// A unary minus in a signed type.
     Negation(IntType, &'a Tree),
     /// `+`, `-`, `*`, `/` or `%` in a signed type, whose result may lie outside of it.
@@ -113,7 +113,7 @@ fn add_binary<'a>(
     match operator {
         Op::Add | Op::Sub | Op::Mul => add_if_signed(all, point, site, int_type, result),
         Op::Div | Op::Rem => {
-            add(all, point, site, Operation::Divisor(right))?;
+            add(all, point, site, Operation::Divisor(left, right))?;
             add_if_signed(all, point, site, int_type, result)
         }
         Op::Shl | Op::Shr => add(

@@ -7,3 +7,4 @@ pub mod Stays
 pub mod Held
 pub mod Tops
 pub mod Changed
+pub mod Places

@@ -6,7 +6,7 @@ use Rattle.pk_graph.specs.Stores.{Stored, numbers_of}
 use Rattle.pk_interval.specs.Ranges.{IsIn}
 use Rattle.pk_congr.specs.Classes.{IsReduced}
 use Rattle.pk_value.specs.Known.{Known, IsOf, IsOneOf}
-use Rattle.pk_octmat.specs.Octagon.{Octagon}
+use Rattle.pk_octmat.specs.Octagon.{Octagon, entry}
 use Rattle.pk_octops.specs.Guards.{IsGuard, Obeys, guard_of}
 use Rattle.pk_octops.specs.Assigns.{Gives, assignment_of}
 use Rattle.pk_octops.specs.Laws.{IsTerm}
@@ -18,6 +18,11 @@ use Rattle.pk_state.specs.Members.{selected, Member}
 abbrev pub known_in : Option Facts → ℕ → Option Known
 known_in None x = None
 known_in (Some f) x = Some (known_at f.values x)
+
+-- the octagon's bound on V(j) - V(i), if there is one
+abbrev pub bound_in : Option Facts → ℕ → ℕ → Option ℤ
+bound_in None i j = None
+bound_in (Some f) i j = entry f.octagon i j
 
 -- something else is known of a variable
 abbrev pub with_known : Option Facts → ℕ → Known → Option Facts

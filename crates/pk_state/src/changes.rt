@@ -1,14 +1,16 @@
 // Reading and writing what a state knows.
 
-ghost use Rattle.std.specs.Prelude.{◌≡◌, ◌<◌, ◌*◌, IfOk, IfSome, length};
+ghost use Rattle.std.specs.Prelude.{◌≡◌, ◌<◌, ◌*◌, IfOk, IfSome, length, None};
 ghost use Rattle.pk_octops.specs.Guards.{IsGuard};
-ghost use Rattle.pk_state.specs.Layouts.{type_at};
+ghost use Rattle.pk_state.specs.Layouts.{type_at, place_in};
 ghost use Rattle.pk_state.specs.Facts.{AreFactsIf};
-ghost use Rattle.pk_state.specs.Changes.{IsValue, known_in, with_known, assigned_in, guarded_in};
+ghost use Rattle.pk_state.specs.Changes.{IsValue, known_in, bound_in, with_known, assigned_in, guarded_in};
 
 use crate::facts::{Facts, shared};
 use crate::frame::Frame;
 use crate::state::State;
+use crate::values::put;
+use pk_ctypes::IntType;
 use pk_octmat::Shape;
 use pk_octops::{assign, guard};
 use pk_value::Value;
@@ -44,7 +46,8 @@ fn write_if(
         None => Ok(None),
         Some(facts) => {
             let mut values = facts.values;
-            values.set(alloc, x, value)?;
+            let old = values.get(x);
+            put(alloc, &mut values, x, &old, value)?;
             Ok(Some(Facts {
                 values,
                 octagon: facts.octagon,
@@ -107,6 +110,19 @@ fn guard_if(
     }
 }
 
+fn bound_if(facts: &Option<Facts>, i: u32, j: u32, frame: &Frame) -> Option<i128>
+    requires facts { AreFactsIf frame.now facts.now }
+    requires row { i < 2 * length frame.now.chosen }
+    requires column { j < 2 * length frame.now.chosen }
+    ensures { result ≡ bound_in facts.now i j }
+{
+    let _ = frame;
+    match facts {
+        None => None,
+        Some(facts) => facts.octagon.get(i, j),
+    }
+}
+
 impl State {
     /// What is known of a variable; none where no run comes there.
     pub fn value(&self, x: usize) -> Option<Value>
@@ -115,6 +131,38 @@ impl State {
         ensures inside { IfSome result (IsValue (type_at self.now.layout x)) }
     {
         value_if(&self.facts, x, &self.frame)
+    }
+
+    /// The type of a variable.
+    pub fn int_type(&self, x: usize) -> IntType
+        requires { x < length self.now.layout.types }
+        ensures { result ≡ type_at self.now.layout x }
+    {
+        self.frame.int_type(x)
+    }
+
+    /// The place of a variable in the octagon, if that is over it.
+    pub fn place(&self, x: usize) -> Option<u32>
+        ensures value { result ≡ place_in self.now.layout.chosen x }
+        ensures there { IfSome result (λ k. k < length self.now.layout.chosen) }
+    {
+        self.frame.place(x)
+    }
+
+    /// The octagon's bound on V(j) - V(i), if there is one. Place 2k is the variable of place k, place 2k + 1 its negative.
+    pub fn bound(&self, i: u32, j: u32) -> Option<i128>
+        requires row { i < 2 * length self.now.layout.chosen }
+        requires column { j < 2 * length self.now.layout.chosen }
+        ensures { result ≡ bound_in self.now.facts i j }
+    {
+        bound_if(&self.facts, i, j, &self.frame)
+    }
+
+    /// No run comes there.
+    pub fn emptied(self) -> State
+        ensures { result ≡ record { layout = self.layout; facts = None } }
+    {
+        State::bottom(self.frame)
     }
 
     /// The same, but for what is known of a variable.

@@ -1,7 +1,7 @@
 // The variables that a state speaks of.
 
-ghost use Rattle.std.specs.Prelude.{◌≡◌, ◌<◌, length, slice_index_or};
-ghost use Rattle.pk_state.specs.Layouts.{Layout, IsLayout, type_at, chosen_at};
+ghost use Rattle.std.specs.Prelude.{◌≡◌, ◌<◌, length, slice_index_or, IfSome};
+ghost use Rattle.pk_state.specs.Layouts.{Layout, IsLayout, type_at, chosen_at, place_in};
 
 use pk_ctypes::IntType;
 use std::marker::Model;
@@ -61,6 +61,20 @@ impl Frame {
         ensures there { result < length self.now.types }
     {
         self.chosen[k]
+    }
+
+    /// The place of a variable in the octagon, if that is over it.
+    pub fn place(&self, x: usize) -> Option<u32>
+        ensures value { result ≡ place_in self.now.chosen x }
+        ensures there { IfSome result (λ k. k < length self.now.chosen) }
+    {
+        self.is_layout();
+        for k in 0..self.octagon_len() {
+            if self.chosen(k) == x {
+                return Some(k as u32);
+            }
+        }
+        None
     }
 
     /// What every frame is: the octagon's variables are there, each once, and their places are counted in 32 bits.

@@ -44,8 +44,8 @@ pub(crate) fn join_values(
     a.merge(alloc, b, &Joining)
 }
 
-// Writes a value, if it isn't there.
-fn put(
+/// Writes a value, if it isn't there.
+pub(crate) fn put(
     alloc: Global,
     values: &mut Blocks<Value>,
     x: usize,

@@ -6,10 +6,11 @@ use Rattle.pk_ctypes.specs.declared.types.Op.TheVariants.{Add, Sub, Mul, Div, Re
 use Rattle.pk_ctypes.specs.declared.types.Op.{Op}
 use Rattle.pk_octmat.specs.Octagon.{bar}
 use Rattle.pk_octmat.proofs.Bars.{bar_bar, bar_in}
+use Rattle.pk_state.specs.Layouts.{place_in}
 use Rattle.pk_graph.specs.Trees.{TreeOf, constant, variable, converted, unary, binary}
 use Rattle.pk_value.specs.Known.{Known}
 use Rattle.pk_transfer.specs.Trees.{tree_known}
-use Rattle.pk_transfer.specs.Linear.{place_in, Linear, with_place, with_places, negative, sum, difference, if_few, both, where_known, where_both, is_inside, is_exact, if_negative, if_sum, linear, IsNone, ArePlaces, IsGuardOn}
+use Rattle.pk_transfer.specs.Linear.{Linear, with_place, with_places, negative, sum, difference, if_few, both, where_known, where_both, is_inside, is_exact, if_negative, if_sum, linear, IsNone, ArePlaces, IsGuardOn, HasPlaces, is_near, with_constant}
 
 none_with : (q p : ℕ) (ps : List ℕ) → p ≢ q → IsNone q ps → IsNone q (with_place p ps)
 none_with q p [] d h = (d, tt)
@@ -44,15 +45,15 @@ places_negative n (p ∷ ps) h = (bar_in n p h.0, none_negative (bar p) ps h.1, 
 
 -- ---- forms
 
-abbrev HasPlaces : ℕ → Option Linear → Type 0
-HasPlaces n None = Unit {0}
-HasPlaces n (Some l) = ArePlaces n l.places
-
 few_places : (n : ℕ) (l : Linear) → ArePlaces n l.places → HasPlaces n (if_few l)
 few_places n l h = by (nat_le (length l.places) 2)
   where
-    by : (b : Bool) → HasPlaces n (if b then Some l else None)
-    by true = h
+    near : (b : Bool) → HasPlaces n (if b then Some l else None)
+    near true = h
+    near false = tt
+
+    by : (b : Bool) → HasPlaces n (with_constant l.constant (if b then Some l.places else None))
+    by true = near (is_near l.constant)
     by false = tt
 
 both_places : (n : ℕ) (f : Linear → Linear → Linear) → ((l m : Linear) → ArePlaces n l.places → ArePlaces n m.places → ArePlaces n (f l m).places) → (o p : Option Linear) → HasPlaces n o → HasPlaces n p → HasPlaces n (both f o p)
@@ -76,10 +77,10 @@ negative_places : (n : ℕ) (o : Option Linear) → HasPlaces n o → HasPlaces 
 negative_places n None h = tt
 negative_places n (Some l) h = places_negative n l.places h
 
-difference_places : (n : ℕ) (l m : Linear) → ArePlaces n l.places → ArePlaces n m.places → ArePlaces n (difference l m).places
+pub difference_places : (n : ℕ) (l m : Linear) → ArePlaces n l.places → ArePlaces n m.places → ArePlaces n (difference l m).places
 difference_places n l m h k = places_all n l.places (map bar m.places) h (places_negative n m.places k)
 
-place_below : (chosen : List ℕ) (x k : ℕ) → place_in chosen x ≡ Some k → k < length chosen
+pub place_below : (chosen : List ℕ) (x k : ℕ) → place_in chosen x ≡ Some k → k < length chosen
 place_below [] x k e = absurd (cc)
 place_below (y ∷ ys) x k e = by (λ j h. place_below ys x j h) (y == x) e
   where
@@ -133,7 +134,7 @@ if_sum_places n Neg l m h k = tt
 if_sum_places n BitNot l m h k = tt
 if_sum_places n Not l m h k = tt
 
-tree_places : (chosen : List ℕ) (g : ℕ → Option Known) (e : TreeOf ℕ) → HasPlaces (length chosen) (linear chosen g e)
+pub tree_places : (chosen : List ℕ) (g : ℕ → Option Known) (e : TreeOf ℕ) → HasPlaces (length chosen) (linear chosen g e)
 tree_places chosen g (variable x) = go (place_in chosen x) refl
   where
     go : (o : Option ℕ) → place_in chosen x ≡ o → HasPlaces (length chosen) (option_map (λ k. record { constant = pos 0; places = 2 * k ∷ [] }) o)
@@ -151,7 +152,7 @@ tree_places chosen g (binary op s t a b) =
     (where_both_places (length chosen) (tree_known g a) (tree_known g b) (is_exact Sub t) (both difference (linear chosen g a) (linear chosen g b))
     (both_places (length chosen) difference (difference_places (length chosen)) (linear chosen g a) (linear chosen g b) (tree_places chosen g a) (tree_places chosen g b)))
 
-guard_on : (n : ℕ) (ps : List ℕ) → ArePlaces n ps → IsGuardOn n ps
+pub guard_on : (n : ℕ) (ps : List ℕ) → ArePlaces n ps → IsGuardOn n ps
 guard_on n [] h = tt
 guard_on n (a ∷ []) h = h.0
 guard_on n (a ∷ (b ∷ [])) h = (h.0, h.2.0, h.1.0)

@@ -10,13 +10,13 @@ use Rattle.pk_graph.specs.Stores.{Stored}
 use Rattle.pk_value.specs.Known.{Known, IsOf}
 use Rattle.pk_value.proofs.Sound.{Knows}
 use Rattle.pk_octops.specs.Assigns.{Gives}
-use Rattle.pk_state.specs.Layouts.{Layout, IsLayout, chosen_at}
+use Rattle.pk_state.specs.Layouts.{Layout, IsLayout, chosen_at, place_in}
 use Rattle.pk_state.specs.Facts.{Facts, AreFactsIf}
 use Rattle.pk_state.specs.Members.{selected, Member}
 use Rattle.pk_state.specs.Changes.{known_in, with_known, IsApart}
 use Rattle.pk_state.proofs.Changed.{changes_sound}
 use Rattle.pk_transfer.specs.Trees.{tree_known, kind_of, kinds_of}
-use Rattle.pk_transfer.specs.Linear.{Linear, place_in, sum_of, linear}
+use Rattle.pk_transfer.specs.Linear.{Linear, sum_of, linear}
 use Rattle.pk_transfer.specs.Assignments.{term_of, with_form, with_form_at, with_known_if, AssignmentsKeep}
 use Rattle.pk_transfer.proofs.Told.{tree_knows}
 use Rattle.pk_transfer.proofs.Forms.{Tells, place_at, tree_tells}

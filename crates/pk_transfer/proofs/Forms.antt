@@ -26,12 +26,12 @@ use Rattle.pk_graph.specs.Steps.{at_site, and_then, tree_value}
 use Rattle.pk_graph.specs.Stores.{Stored, storing, number_of}
 use Rattle.pk_value.specs.Known.{Known, IsOf, IsKnown}
 use Rattle.pk_value.proofs.Sound.{Knows}
-use Rattle.pk_state.specs.Layouts.{Layout}
+use Rattle.pk_state.specs.Layouts.{Layout, place_in}
 use Rattle.pk_state.specs.Facts.{Facts, AreFactsIf}
 use Rattle.pk_state.specs.Members.{number_if, selected, Member}
 use Rattle.pk_state.specs.Changes.{known_in}
 use Rattle.pk_transfer.specs.Trees.{tree_known, kinds_of}
-use Rattle.pk_transfer.specs.Linear.{place_in, Linear, sum_of, linear_value, with_place, with_places, negative, sum, difference, if_few, both, where_known, where_both, is_inside, stays, is_exact, if_negative, if_sum, linear, IsBounded, FormsAreExact}
+use Rattle.pk_transfer.specs.Linear.{Linear, sum_of, linear_value, with_place, with_places, negative, sum, difference, is_near, with_constant, if_few, both, where_known, where_both, is_inside, stays, is_exact, if_negative, if_sum, linear, IsBounded, FormsAreExact}
 use Rattle.pk_transfer.proofs.Told.{then_ok, site_ok, in_wider, right_wider, tree_knows}
 use Rattle.pk_transfer.proofs.Apart.{differences_guards}
 
@@ -78,8 +78,12 @@ value_difference x l m = omega (arith, ints, value_sum x l (negative m), value_n
 tells_few : (x : ℕ → ℤ) (l : Linear) (z : ℤ) → z ≡ linear_value x l → Tells x (if_few l) z
 tells_few x l z e = by (nat_le (length l.places) 2)
   where
-    by : (b : Bool) → Tells x (if b then Some l else None) z
-    by true = e
+    near : (b : Bool) → Tells x (if b then Some l else None) z
+    near true = e
+    near false = tt
+
+    by : (b : Bool) → Tells x (with_constant l.constant (if b then Some l.places else None)) z
+    by true = near (is_near l.constant)
     by false = tt
 
 tells_both : (x : ℕ → ℤ) (f : Linear → Linear → Linear) (o n : Option Linear) (y w z : ℤ) → ((l m : Linear) → y ≡ linear_value x l → w ≡ linear_value x m → z ≡ linear_value x (f l m)) → Tells x o y → Tells x n w → Tells x (both f o n) z

@@ -5,3 +5,8 @@ pub mod Forms
 pub mod Assigning
 pub mod Passing
 pub mod Transferring
+pub mod Few
+pub mod Over
+pub mod Operands
+pub mod Layouting
+pub mod Keeping

@@ -130,7 +130,7 @@ tree_knows l f s (binary op p t d b) z a m h k =
 
 -- ---- a layout's types
 
-typed_in : (ks : Kinds) (l : Layout) (e : TreeOf ℕ) → IsOver ks l → IsTyped ks e → IsTyped (kinds_of l) e × (type_of (kinds_of l) e ≡ type_of ks e)
+pub typed_in : (ks : Kinds) (l : Layout) (e : TreeOf ℕ) → IsOver ks l → IsTyped ks e → IsTyped (kinds_of l) e × (type_of (kinds_of l) e ≡ type_of ks e)
 typed_in ks l (variable x) o h =
     let same : kinds.type_at (kinds_of l) x ≡ kinds.type_at ks x = kinds_type l x ∙ o.types x h.there in
     let scalar : (kind_at (kinds_of l) x).length ≡ None = ap (λ (k : Kind). k.length) (get_or-map kind_of l.types x Int) in

@@ -18,13 +18,12 @@ use Rattle.pk_graph.specs.Steps.{Numbers, number_at, Failure, failure, and_then,
 use Rattle.pk_graph.specs.Stores.{Stored, storing, numbers_of, IsStore}
 use Rattle.pk_value.specs.Known.{Known, any_of, exactly, joined, IsOf, IsOneOf}
 use Rattle.pk_value.proofs.Orders.{lattice}
-use Rattle.pk_state.specs.Layouts.{Layout, IsLayout}
+use Rattle.pk_state.specs.Layouts.{Layout, IsLayout, place_in}
 use Rattle.pk_state.specs.Facts.{Facts, AreFactsIf}
 use Rattle.pk_state.specs.Members.{Member}
 use Rattle.pk_state.specs.Changes.{known_in, with_known, IsApart}
 use Rattle.pk_state.proofs.Changed.{changes_sound}
 use Rattle.pk_transfer.specs.Trees.{tree_known, IsOver}
-use Rattle.pk_transfer.specs.Linear.{place_in}
 use Rattle.pk_transfer.specs.Assignments.{with_form_at, with_known_if}
 use Rattle.pk_transfer.specs.Transfers.{forgotten_in, at_index, joined_if, applied, TransfersKeep}
 use Rattle.pk_transfer.proofs.Told.{trees_sound}

@@ -5,12 +5,12 @@ use Rattle.pk_graph.specs.Kinds.{IsTyped, IsScalar}
 use Rattle.pk_graph.specs.Steps.{tree_value}
 use Rattle.pk_graph.specs.Stores.{Stored, storing}
 use Rattle.pk_value.specs.Known.{Known}
-use Rattle.pk_state.specs.Layouts.{Layout, IsLayout}
+use Rattle.pk_state.specs.Layouts.{Layout, IsLayout, place_in}
 use Rattle.pk_state.specs.Facts.{Facts, AreFactsIf}
 use Rattle.pk_state.specs.Members.{Member}
 use Rattle.pk_state.specs.Changes.{known_in, with_known, assigned_in}
 use Rattle.pk_transfer.specs.Trees.{tree_known, kinds_of}
-use Rattle.pk_transfer.specs.Linear.{Linear, place_in, linear}
+use Rattle.pk_transfer.specs.Linear.{Linear, linear}
 
 -- the term, if there is just one
 abbrev pub term_of : List ℕ → Option ℕ

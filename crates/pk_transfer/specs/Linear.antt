@@ -1,5 +1,5 @@
 -- Linear forms: a constant and at most two signed octagon variables.
-use Rattle.std.specs.Prelude.{◌≡◌, ◌≢◌, ℕ, suc, ◌<◌, ◌*◌, ◌==◌, nat_le, Bool, ◌&&◌, ◌||◌, if◌then◌else◌, ℤ, pos, ◌+ℤ◌, ◌-ℤ◌, ◌≤ℤ◌, neg_ℤ, int_le, List, [], ◌∷◌, length, map, Option, Some, None, option_map, Ok}
+use Rattle.std.specs.Prelude.{◌≡◌, ◌≢◌, ℕ, ◌<◌, ◌-◌, ◌*◌, ◌^◌, ◌==◌, nat_le, Bool, ◌&&◌, ◌||◌, if◌then◌else◌, ℤ, pos, negsuc, ◌+ℤ◌, ◌-ℤ◌, ◌≤ℤ◌, neg_ℤ, int_le, int_lt, List, [], ◌∷◌, length, map, Option, Some, None, option_map, Ok}
 use Rattle.pk_ctypes.specs.declared.types.IntType.{IntType}
 use Rattle.pk_ctypes.specs.declared.types.Op.{Op}
 use Rattle.pk_ctypes.specs.declared.types.Op.TheVariants.{Add, Sub, Mul, Div, Rem, Shl, Shr, And, Or, Xor, Lt, Gt, Le, Ge, Eq, Ne, Neg, BitNot, Not}
@@ -15,18 +15,11 @@ use Rattle.pk_graph.specs.Kinds.{IsTyped}
 use Rattle.pk_graph.specs.Steps.{tree_value}
 use Rattle.pk_graph.specs.Stores.{Stored, storing}
 use Rattle.pk_value.specs.Known.{Known}
-use Rattle.pk_state.specs.Layouts.{Layout}
+use Rattle.pk_state.specs.Layouts.{Layout, place_in}
 use Rattle.pk_state.specs.Facts.{Facts, AreFactsIf}
 use Rattle.pk_state.specs.Members.{selected, Member}
 use Rattle.pk_state.specs.Changes.{known_in}
 use Rattle.pk_transfer.specs.Trees.{tree_known, kinds_of}
-
--- ---- the octagon's variables
-
--- the number of a variable among the selected ones
-abbrev pub place_in : List ℕ → ℕ → Option ℕ
-place_in [] x = None
-place_in (y ∷ ys) x = if y == x then Some 0 else option_map suc (place_in ys x)
 
 -- ---- forms
 
@@ -63,8 +56,23 @@ difference l m = sum l (negative m)
 -- ---- of a tree
 
 -- at most two places
+abbrev pub if_two : List ℕ → Option (List ℕ)
+if_two ps = if nat_le (length ps) 2 then Some ps else None
+
+-- A constant within 2^126 of 0, as every one in an analysed text is: it is at most a sum of constants of the text.
+abbrev pub is_near : ℤ → Bool
+is_near c = int_lt (negsuc (2 ^ 126 - 1)) c && int_lt c (pos (2 ^ 126))
+
+abbrev pub if_near : ℤ → List ℕ → Option Linear
+if_near c ps = if is_near c then Some (record { constant = c; places = ps }) else None
+
+abbrev pub with_constant : ℤ → Option (List ℕ) → Option Linear
+with_constant c None = None
+with_constant c (Some ps) = if_near c ps
+
+-- such a form
 abbrev pub if_few : Linear → Option Linear
-if_few l = if nat_le (length l.places) 2 then Some l else None
+if_few l = with_constant l.constant (if_two l.places)
 
 abbrev pub both : (Linear → Linear → Linear) → Option Linear → Option Linear → Option Linear
 both f None m = None
@@ -162,6 +170,10 @@ IsNone q (p ∷ ps) = (p ≢ q) × IsNone q ps
 abbrev pub ArePlaces : ℕ → List ℕ → Type 0
 ArePlaces n [] = Unit {0}
 ArePlaces n (p ∷ ps) = (p < 2 * n) × IsNone (bar p) ps × ArePlaces n ps
+
+abbrev pub HasPlaces : ℕ → Option Linear → Type 0
+HasPlaces n None = Unit {0}
+HasPlaces n (Some l) = ArePlaces n l.places
 
 -- a guard on the places
 abbrev pub IsGuardOn : ℕ → List ℕ → Type 0

@@ -5,12 +5,12 @@ use Rattle.pk_graph.specs.Kinds.{Kinds, IsTypedInstr}
 use Rattle.pk_graph.specs.Steps.{Numbers, To, effect}
 use Rattle.pk_graph.specs.Stores.{Stored, storing, IsStore}
 use Rattle.pk_value.specs.Known.{Known, any_of, exactly, joined}
-use Rattle.pk_state.specs.Layouts.{Layout, IsLayout}
+use Rattle.pk_state.specs.Layouts.{Layout, IsLayout, place_in}
 use Rattle.pk_state.specs.Facts.{Facts, AreFactsIf}
+use Rattle.pk_state.specs.Reduced.{reduced}
 use Rattle.pk_state.specs.Members.{Member}
 use Rattle.pk_state.specs.Changes.{known_in, with_known}
 use Rattle.pk_transfer.specs.Trees.{tree_known, IsOver}
-use Rattle.pk_transfer.specs.Linear.{place_in}
 use Rattle.pk_transfer.specs.Assignments.{with_form_at, with_known_if, set_in}
 use Rattle.pk_transfer.specs.Assumptions.{guard_in}
 
@@ -42,6 +42,20 @@ applied y f (Load x a s b i) = at_index a.length (tree_known (known_in f) i) (fo
 applied y f (Store a s b i e) = at_index a.length (tree_known (known_in f) i) (with_known_if f a.variable (joined_if (known_in f a.variable) (tree_known (known_in f) e)))
 applied y f (Guard e b) = guard_in y f e b
 applied y f (Check s e) = guard_in y f e true
+
+-- reduced before and after
+abbrev pub transferred : Layout → Option Facts → InstrOf ℕ → Option Facts
+transferred y f i = reduced y (applied y (reduced y f) i)
+
+-- Each store to which an instruction takes a store of f is one of g.
+abbrev pub IsKept : Layout → Option Facts → InstrOf ℕ → Option Facts → Type 0
+IsKept y f i g = (ks : Kinds) (s t : Stored) (ch : Numbers) → IsOver ks y → IsStore ks s → Member y f s → IsTypedInstr ks i → effect storing ch i s ≡ To t → Member y g t
+
+-- an instruction that is typed in a table of variables, and a layout over that table
+pub record IsInstrOver (y : Layout) (i : InstrOf ℕ) : Type 0 where
+  pub kinds : Kinds
+  pub over : IsOver kinds y
+  pub typed : IsTypedInstr kinds i
 
 -- Where an instruction takes a store of a state to another, that is one of the state after it.
 abbrev pub TransfersKeep : Type 0

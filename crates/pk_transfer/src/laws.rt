@@ -5,6 +5,7 @@ ghost use Rattle.pk_transfer.specs.Guards.{GuardsKeep};
 ghost use Rattle.pk_transfer.specs.Assignments.{AssignmentsKeep};
 ghost use Rattle.pk_transfer.specs.Linear.{FormsAreExact};
 ghost use Rattle.pk_transfer.specs.Transfers.{TransfersKeep};
+ghost use Rattle.pk_transfer.specs.Graphs.{GraphsAreOver};
 ghost use Rattle.pk_transfer.specs.Trees.{TreesAreSound};
 
 /// Where a typed tree has a value in a store of a state, it is one of the numbers that are known of it.
@@ -35,4 +36,9 @@ pub fn passing_law()
 /// Where an instruction takes a store of a state to another, that is one of the state after it.
 pub fn transfers_law()
     ensures { TransfersKeep }
+{}
+
+/// A graph's layout is over the table of its variables, and its instructions may be transferred over every such layout.
+pub fn graphs_law()
+    ensures { GraphsAreOver }
 {}

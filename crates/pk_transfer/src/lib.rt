@@ -1,10 +1,17 @@
 //! What a state knows of trees, and what it knows after instructions.
 #![tactic(auto)]
 
+mod assumptions;
 mod guards;
 mod laws;
+mod linear;
+mod operators;
+mod telling;
+mod transfers;
 mod trees;
 
+pub use assumptions::guard;
 pub use guards::refine;
-pub use laws::{assignments_law, forms_law, guards_law, passing_law, transfers_law, trees_law};
+pub use laws::{assignments_law, forms_law, graphs_law, guards_law, passing_law, transfers_law, trees_law};
+pub use transfers::transfer;
 pub use trees::value;

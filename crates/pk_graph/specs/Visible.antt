@@ -1,0 +1,33 @@
+-- What is visible at a point.
+use Rattle.std.specs.Prelude.{ℕ, Bool, true, false, not, if◌then◌else◌, List, [], ◌∷◌, reverse, slice_index_or, Option, Some, None}
+use Rattle.std.specs.Str.{bytes_eq}
+use Rattle.pk_graph.specs.Graphs.{VariableOf, no_variable, GraphOf, point_at}
+
+-- a set of names
+abbrev pub Names : Type 0
+Names = List ℕ → Bool
+
+abbrev pub no_name : Names
+no_name n = false
+
+abbrev pub with_name : Option (List ℕ) → Names → Names
+with_name None has n = has n
+with_name (Some m) has n = if bytes_eq m n then true else has n
+
+abbrev pub is_new : Option (List ℕ) → Names → Bool
+is_new None has = false
+is_new (Some m) has = not (has m)
+
+abbrev pub name_at : List VariableOf → ℕ → Option (List ℕ)
+name_at vs x = (slice_index_or vs x no_variable).name
+
+-- Of variables in scope, newest first, those that none hides: a name hides the same name of an older one. There are newer ones of these names.
+unfoldable pub not_hidden : List VariableOf → Names → List ℕ → List ℕ
+not_hidden vs has [] = []
+not_hidden vs has (x ∷ xs) =
+    let m = name_at vs x in
+    if is_new m has then x ∷ not_hidden vs (with_name m has) xs else not_hidden vs (with_name m has) xs
+
+-- in the order in which they were declared
+abbrev pub visible_at : GraphOf → ℕ → List ℕ
+visible_at g p = reverse (not_hidden g.variables no_name (point_at g p).scope)

@@ -1,0 +1,5 @@
+pub mod Preorders
+pub mod Numbering
+pub mod Typed
+pub mod Ways
+pub mod Rows
