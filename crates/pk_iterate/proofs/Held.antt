@@ -23,7 +23,7 @@ pub record MayHold {C : Type 0} (b : Behaviour C) (may_hold : ℕ → C → Type
   pub apply : (e : ℕ) (cells : List C) → HoldEach may_hold (b.reads e) cells → may_hold e (b.apply e cells)
   pub decide : (x : ℕ) (cells : List C) → HoldEach may_hold (b.reads x) cells → may_hold x (decided_cell (b.decide x cells))
 
-held_more : {C : Type 0} (b : Behaviour C) (may_hold : ℕ → C → Type 0) (runs : List (ℕ × C)) (e : ℕ) (c : C) → ((u : ℕ) → may_hold u (cell_after b runs u)) → may_hold e c → (u : ℕ) → may_hold u (cell_after b ((e, c) ∷ runs) u)
+pub held_more : {C : Type 0} (b : Behaviour C) (may_hold : ℕ → C → Type 0) (runs : List (ℕ × C)) (e : ℕ) (c : C) → ((u : ℕ) → may_hold u (cell_after b runs u)) → may_hold e c → (u : ℕ) → may_hold u (cell_after b ((e, c) ∷ runs) u)
 held_more {C} b may_hold runs e c before now u =
     elim (eqb_tells e u) [
       | inl same ↦ rw same.0 (subst (λ (v : ℕ). may_hold v c) same.1 now)

@@ -11,3 +11,6 @@ pub mod Held
 pub mod Stands
 pub mod Turns
 pub mod Settles
+pub mod Ended
+pub mod Falling
+pub mod Once_each

@@ -6,3 +6,5 @@ pub mod Outcome
 pub mod Answer
 pub mod Laws
 pub mod Settled
+pub mod Ending
+pub mod BoundedTurns

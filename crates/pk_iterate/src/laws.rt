@@ -2,6 +2,8 @@
 
 ghost use Rattle.pk_iterate.specs.Laws.{WithinIsWhole, CountsBeyondAreOver, RecursionIsDetermined, RunValuesAgree, CellsAreHeld};
 ghost use Rattle.pk_iterate.specs.Settled.{WholeIsSettled};
+ghost use Rattle.pk_iterate.specs.Ending.{TraceIsOne};
+ghost use Rattle.pk_iterate.specs.BoundedTurns.{FallingTurnsEnd, DifferentStandOnce};
 
 use crate::systems::System;
 
@@ -33,4 +35,19 @@ pub fn cells_are_held<Y: System>(system: &Y)
 /// When no run is left each element was run, and what stands ahead of it wasn't run since: each exit's last run found its component stable.
 pub fn whole_is_settled<Y: System>(system: &Y)
     ensures { WholeIsSettled (Y.meaning system.now) }
+{}
+
+/// The whole trace is one, and an iteration's result is what it leaves.
+pub fn trace_is_one<Y: System>(system: &Y)
+    ensures { TraceIsOne (Y.meaning system.now) }
+{}
+
+/// Where a rank falls from turn to turn of each component, the recursion ends, and each entry has few turns.
+pub fn falling_turns_end<Y: System>(system: &Y)
+    ensures { FallingTurnsEnd (Y.meaning system.now) (Y.may_hold system.now) }
+{}
+
+/// Where the elements of an order's places differ from one another, each stands once.
+pub fn different_stand_once()
+    ensures { DifferentStandOnce }
 {}

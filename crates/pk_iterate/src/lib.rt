@@ -10,8 +10,8 @@ mod walk;
 
 pub use failure::Solve;
 pub use laws::{
-    cells_are_held, counts_beyond_are_over, recursion_is_determined, run_values_agree,
-    whole_is_settled, within_is_whole,
+    cells_are_held, counts_beyond_are_over, different_stand_once, falling_turns_end,
+    recursion_is_determined, run_values_agree, trace_is_one, whole_is_settled, within_is_whole,
 };
 pub use outcome::Cells;
 pub use systems::{Decision, System};

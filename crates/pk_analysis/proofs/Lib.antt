@@ -1,0 +1,6 @@
+mod ArrowLemmas
+mod DigraphLemmas
+mod PartLemmas
+mod ReadLemmas
+mod StartLemmas
+mod LayoutLemmas

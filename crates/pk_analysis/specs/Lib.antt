@@ -1,0 +1,10 @@
+pub mod Digraphs
+pub mod Arrows
+pub mod Parts
+pub mod Starts
+pub mod Orders
+pub mod Flows
+pub mod Reading
+pub mod Steps
+pub mod Keeping
+pub mod Made

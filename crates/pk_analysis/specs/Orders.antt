@@ -1,0 +1,54 @@
+-- Tests on facts: whether those of one state are within those of another, and whether they are the same.
+use Rattle.std.specs.Prelude.{ℕ, ◌*◌, ◌==◌, ◌&&◌, Bool, true, false, ℤ, List, [], ◌∷◌, Option, None, Some}
+use Rattle.std.specs.List.{list_all, range_with_len}
+use Rattle.std.specs.Ordering.{int_eq}
+use Rattle.pk_value.specs.Known.{Known, is_within}
+use Rattle.pk_octmat.specs.Bounds.{is_at_most}
+use Rattle.pk_octmat.specs.Octagon.{Octagon, entry}
+use Rattle.pk_state.specs.Facts.{Facts}
+
+abbrev pub values_within : List Known → List Known → Bool
+values_within [] bs = true
+values_within (a ∷ others) [] = true
+values_within (a ∷ others) (b ∷ bs) = is_within a b && values_within others bs
+
+-- each bound is at most the other's
+abbrev pub octagon_within : Octagon → Octagon → Bool
+octagon_within a b =
+    list_all (λ i. list_all (λ j. is_at_most (entry a i j) (entry b i j)) (range_with_len 0 (2 * a.vars))) (range_with_len 0 (2 * a.vars))
+
+abbrev pub is_below : Option Facts → Option Facts → Bool
+is_below None b = true
+is_below (Some a) None = false
+is_below (Some a) (Some b) = values_within a.values b.values && octagon_within a.octagon b.octagon
+
+abbrev pub same_known : Known → Known → Bool
+same_known a b =
+    int_eq a.range.lo b.range.lo && int_eq a.range.hi b.range.hi && int_eq a.class.m b.class.m && int_eq a.class.r b.class.r
+
+abbrev pub same_values : List Known → List Known → Bool
+same_values [] [] = true
+same_values [] (b ∷ bs) = false
+same_values (a ∷ others) [] = false
+same_values (a ∷ others) (b ∷ bs) = same_known a b && same_values others bs
+
+abbrev pub same_bound : Option ℤ → Option ℤ → Bool
+same_bound None None = true
+same_bound None (Some b) = false
+same_bound (Some a) None = false
+same_bound (Some a) (Some b) = int_eq a b
+
+abbrev pub same_bounds : List (Option ℤ) → List (Option ℤ) → Bool
+same_bounds [] [] = true
+same_bounds [] (b ∷ bs) = false
+same_bounds (a ∷ others) [] = false
+same_bounds (a ∷ others) (b ∷ bs) = same_bound a b && same_bounds others bs
+
+abbrev pub same_octagon : Octagon → Octagon → Bool
+same_octagon a b = (a.vars == b.vars) && same_bounds a.cells b.cells
+
+abbrev pub is_same : Option Facts → Option Facts → Bool
+is_same None None = true
+is_same None (Some b) = false
+is_same (Some a) None = false
+is_same (Some a) (Some b) = same_values a.values b.values && same_octagon a.octagon b.octagon

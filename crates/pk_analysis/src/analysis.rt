@@ -1,0 +1,179 @@
+// The analysis of a graph, as a system that is iterated.
+
+ghost use Rattle.std.specs.Prelude.{◌≡◌, ◌<◌, ◌≤◌, ◌^◌, IfOk, length, map, take, All, None};
+ghost use Rattle.std.specs.Arc.{arc_value};
+ghost use Rattle.pk_graph.specs.Shown.{graph_view};
+ghost use Rattle.pk_phases.specs.Equations.{value_of};
+ghost use Rattle.pk_analysis.specs.Flows.{stated, reduced_cell};
+ghost use Rattle.pk_analysis.specs.Starts.{layout_of};
+ghost use Rattle.pk_analysis.specs.Made.{IsAnalysisOf};
+
+use crate::arrows::arrows;
+use crate::flow::Flow;
+use crate::parts::parts;
+use crate::reads::reads;
+use crate::starts::start;
+use pk_graph::{Graph, octagon_variables};
+use pk_iterate::{Cells, Decision, System};
+use pk_phases::{Cell, Equate, Phased};
+use pk_plan::Plan;
+use pk_state::{Frame, State};
+use pk_thresh::thresholds;
+use std::alloc::{AllocError, Global};
+use std::marker::Model;
+use std::sync::Arc;
+
+/// How often a component is narrowed, and over how many variables the octagon is at most.
+#[derive(Clone, Copy)]
+pub struct Options {
+    pub narrow: u32,
+    pub oct: usize,
+}
+
+/// The equations of a graph's points, iterated by the phases.
+#[derive(Drop)]
+pub struct Analysis<'g> {
+    phased: Phased<Flow<'g>>,
+}
+
+impl<'g> Model for Analysis<'g> {
+    ghost use Rattle.pk_analysis.specs.Flows.{Flow};
+
+    ghost use Rattle.pk_graph.specs.contracts.graphs.Graph as made;
+    ghost use Rattle.std.specs.Coded.{codes};
+
+    ghost Value = { Flow };
+
+    ghost coded = { Prim.hlevel (codes, made.the_row.coded) };
+
+    ghost view = { λ a. a.phased.equations };
+}
+
+// The graph's variables, with an octagon over the first of them.
+#[tactic(auto, unfolding(pk_graph::specs::Graphs::variable_view))]
+fn frame(alloc: Global, graph: &Graph, oct: usize) -> Result<Frame, AllocError>
+    requires { oct < 2 ^ 31 }
+    ensures { IfOk result (λ f. f ≡ layout_of (graph_view graph.now) oct) }
+{
+    let chosen = octagon_variables(alloc, graph, oct)?;
+    let variables = graph.variables();
+    let mut types = Vec::with_capacity(alloc, variables.len())?;
+    for variable in variables {
+        types.push(variable.int_type)?;
+    }
+    Ok(Frame::new(types, chosen))
+}
+
+impl<'g> Analysis<'g> {
+    /// The analysis of a graph by a plan of its digraph.
+    pub fn new(
+        alloc: Global,
+        graph: &'g Graph,
+        plan: &Plan,
+        options: Options,
+    ) -> Result<Analysis<'g>, AllocError>
+        requires { options.oct < 2 ^ 31 }
+        ensures { IfOk result (IsAnalysisOf (graph_view graph.now) plan.now options) }
+    {
+        let frame = Arc::new(alloc, frame(alloc, graph, options.oct)?)?;
+        let thresholds = thresholds(alloc, graph)?;
+        let parts = parts(alloc, plan)?;
+        let arrows = arrows(alloc, graph)?;
+        let reads = reads(alloc, &arrows, &parts)?;
+        let start = start(alloc, graph, &frame)?;
+        Ok(Analysis {
+            phased: Phased {
+                equations: Flow {
+                    graph,
+                    frame,
+                    thresholds,
+                    parts,
+                    arrows,
+                    reads,
+                    start,
+                    narrow: options.narrow,
+                },
+            },
+        })
+    }
+}
+
+impl<'g> System for Analysis<'g> {
+    ghost use Rattle.pk_phases.specs.Equations.{behaviour_of, may_hold_of};
+    ghost use Rattle.pk_phases.specs.EquationsHeld.{equations_hold};
+    ghost use Rattle.pk_analysis.specs.Flows.{equations_of, IsOverFlow};
+    ghost use Rattle.pk_analysis.specs.Keeping.{flow_keeps};
+
+    type Cell = Cell<State>;
+
+    ghost meaning = { λ a. behaviour_of (equations_of a) };
+
+    ghost may_hold = { λ a. may_hold_of (equations_of a) (IsOverFlow a) };
+
+    ghost first_held = { λ a e. (equations_hold (equations_of a) (IsOverFlow a) (flow_keeps a)).first e };
+
+    ghost apply_held = { λ a e cells h. (equations_hold (equations_of a) (IsOverFlow a) (flow_keeps a)).apply e cells h };
+
+    ghost decide_held = { λ a x cells h. (equations_hold (equations_of a) (IsOverFlow a) (flow_keeps a)).decide x cells h };
+
+    fn reads(&self, e: u32) -> &[u32] {
+        self.phased.reads(e)
+    }
+
+    fn first(&self, alloc: Global, e: u32) -> Result<Cell<State>, AllocError> {
+        self.phased.first(alloc, e)
+    }
+
+    fn apply(
+        &self,
+        alloc: Global,
+        e: u32,
+        inputs: &[Arc<Cell<State>>],
+    ) -> Result<Cell<State>, AllocError> {
+        self.phased.apply(alloc, e, inputs)
+    }
+
+    fn decide(
+        &self,
+        alloc: Global,
+        x: u32,
+        inputs: &[Arc<Cell<State>>],
+    ) -> Result<Decision<Cell<State>>, AllocError> {
+        self.phased.decide(alloc, x, inputs)
+    }
+}
+
+// A cell's state, reduced.
+fn reduced_state(
+    alloc: Global,
+    analysis: &Analysis,
+    cell: &Cell<State>,
+) -> Result<State, AllocError>
+    requires { (value_of (stated analysis.now.layout None) cell.now).layout ≡ analysis.now.layout }
+    ensures { IfOk result (λ s. s ≡ reduced_cell analysis.now cell.now) }
+{
+    match cell {
+        Cell::Value(state) => state.reduce(alloc),
+        Cell::Exit(_) => analysis.phased.equations.bottom(alloc),
+    }
+}
+
+/// What is known at each point, reduced.
+pub fn reduced(
+    alloc: Global,
+    analysis: &Analysis,
+    cells: &Cells<Cell<State>>,
+) -> Result<Vec<State>, AllocError>
+    requires points { length (graph_view analysis.now.graph).points ≤ length cells.now.cells }
+    requires held { All (λ c. (value_of (stated analysis.now.layout None) c).layout ≡ analysis.now.layout) cells.now.cells }
+    ensures { IfOk result (λ list. list.items ≡ map (reduced_cell analysis.now) (take (length (graph_view analysis.now.graph).points) cells.now.cells)) }
+{
+    let graph = analysis.phased.equations.graph;
+    graph.well_made();
+    let mut list = Vec::with_capacity(alloc, graph.points())?;
+    for point in 0..graph.points() {
+        let cell = cells.cell(point as u32);
+        list.push(reduced_state(alloc, analysis, cell)?)?;
+    }
+    Ok(list)
+}

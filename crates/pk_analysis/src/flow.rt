@@ -1,0 +1,159 @@
+// The equations of a graph.
+
+ghost use Rattle.std.specs.Prelude.{◌≡◌, IfOk, None};
+ghost use Rattle.std.specs.Arc.{arc_value};
+ghost use Rattle.pk_graph.specs.Shown.{graph_view};
+ghost use Rattle.pk_phases.specs.Equations.{value_of};
+ghost use Rattle.pk_analysis.specs.Steps.{transferred};
+ghost use Rattle.pk_analysis.specs.Arrows.{arrows_at, instr_of, IsArrow};
+ghost use Rattle.pk_analysis.specs.Flows.{stated, start_at};
+
+use crate::arrows::Arrow;
+use crate::steps::transfer;
+use pk_graph::Graph;
+use pk_phases::{Cell, Equate, Part};
+use pk_state::{Frame, State};
+use std::alloc::{AllocError, Global};
+use std::marker::Model;
+use std::sync::Arc;
+
+/// The equations of a graph, with what is read of it often.
+#[derive(Drop)]
+pub struct Flow<'g> {
+    pub(crate) graph: &'g Graph,
+    pub(crate) frame: Arc<Frame>,
+    pub(crate) thresholds: Vec<i128>,
+    pub(crate) parts: Vec<Part>,
+    pub(crate) arrows: Vec<Vec<Arrow>>,
+    pub(crate) reads: Vec<Vec<u32>>,
+    pub(crate) start: State,
+    pub(crate) narrow: u32,
+}
+
+impl<'g> Model for Flow<'g> {
+    ghost use Rattle.std.specs.Arc.{arc_value};
+    ghost use Rattle.pk_graph.specs.Shown.{graph_view};
+    ghost use Rattle.pk_analysis.specs.Arrows.{rows_of};
+    ghost use Rattle.pk_analysis.specs.Flows.{Flow};
+    ghost use Rattle.pk_analysis.specs.Reading.{IsIndexed};
+
+    ghost use Rattle.pk_graph.specs.contracts.graphs.Graph as made;
+    ghost use Rattle.std.specs.Coded.{codes};
+
+    ghost Value = { Flow };
+
+    ghost coded = { Prim.hlevel (codes, made.the_row.coded) };
+
+    ghost view = { λ f. record { graph = f.graph.now; layout = arc_value f.frame; thresholds = f.thresholds.items; parts = f.parts.items; narrow = f.narrow } };
+
+    ghost invariant = { λ f. IsIndexed (graph_view f.graph.now) (arc_value f.frame) f.thresholds.items f.parts.items (rows_of f.arrows.items) (rows_of f.reads.items) f.start };
+}
+
+// What a point is told by an edge: nothing where the cell has no state.
+fn after(
+    alloc: Global,
+    flow: &Flow,
+    arrow: Arrow,
+    cell: &Cell<State>,
+) -> Result<State, AllocError>
+    requires arrow { IsArrow (graph_view flow.now.graph) arrow }
+    requires held { (value_of (stated flow.now.layout None) cell.now).layout ≡ flow.now.layout }
+    ensures { IfOk result (λ s. s ≡ stated flow.now.layout (transferred flow.now.layout (value_of (stated flow.now.layout None) cell.now).facts (instr_of (graph_view flow.now.graph) arrow))) }
+{
+    flow.graph.well_made();
+    let instr = &flow.graph.edges(arrow.from as usize)[arrow.edge].instr;
+    match cell {
+        Cell::Value(state) => transfer(alloc, instr, state),
+        Cell::Exit(_) => {
+            let state = State::bottom(Arc::try_clone(&flow.frame)?);
+            transfer(alloc, instr, &state)
+        }
+    }
+}
+
+// What is known at a point before any edge: the start state at the entry.
+fn begun(alloc: Global, flow: &Flow, v: u32) -> Result<State, AllocError>
+    ensures { IfOk result (λ s. s ≡ stated flow.now.layout (start_at (graph_view flow.now.graph) flow.now.layout v)) }
+{
+    if v == 0 {
+        flow.start.copy(alloc)
+    } else {
+        Ok(State::bottom(Arc::try_clone(&flow.frame)?))
+    }
+}
+
+// The edges that lead to a point.
+fn row<'f>(flow: &'f Flow, v: u32) -> &'f [Arrow]
+    ensures { result.now ≡ arrows_at (graph_view flow.now.graph) v }
+{
+    match flow.arrows.get(v as usize) {
+        None => &[],
+        Some(row) => row.as_slice(),
+    }
+}
+
+impl<'g> Equate for Flow<'g> {
+    ghost use Rattle.pk_analysis.specs.Flows.{equations_of, IsOverFlow};
+    ghost use Rattle.pk_analysis.specs.Keeping.{flow_keeps};
+
+    type Value = State;
+
+    ghost meaning = { λ a. equations_of a };
+
+    ghost held = { λ a e s. IsOverFlow a e s };
+
+    ghost keeps = { λ a. flow_keeps a };
+
+    fn part(&self, e: u32) -> Part {
+        match self.parts.get(e as usize) {
+            None => Part::Point,
+            Some(part) => *part,
+        }
+    }
+
+    fn reads(&self, e: u32) -> &[u32] {
+        match self.reads.get(e as usize) {
+            None => &[],
+            Some(list) => list.as_slice(),
+        }
+    }
+
+    fn narrow(&self) -> u32 {
+        self.narrow
+    }
+
+    fn bottom(&self, _: Global) -> Result<State, AllocError> {
+        Ok(State::bottom(Arc::try_clone(&self.frame)?))
+    }
+
+    fn new_value(
+        &self,
+        alloc: Global,
+        e: u32,
+        cells: &[Arc<Cell<State>>],
+    ) -> Result<State, AllocError> {
+        let mut state = begun(alloc, self, e)?;
+        let row = row(self, e);
+        for i in 0..row.len() {
+            let cell = &cells[i];
+            state = state.join(alloc, &after(alloc, self, row[i], cell)?)?;
+        }
+        Ok(state)
+    }
+
+    fn leq(&self, new: &State, old: &State) -> bool {
+        new.leq(old)
+    }
+
+    fn same(&self, a: &State, b: &State) -> bool {
+        a.equals(b)
+    }
+
+    fn widen(&self, alloc: Global, old: &State, new: &State) -> Result<State, AllocError> {
+        old.widen(alloc, new, &self.thresholds)
+    }
+
+    fn narrowed(&self, alloc: Global, old: &State, new: &State) -> Result<State, AllocError> {
+        old.narrow(alloc, new)
+    }
+}

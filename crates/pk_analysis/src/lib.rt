@@ -1,0 +1,14 @@
+//! The analysis of a graph: the equations of its points over abstract states, iterated by the phases.
+#![tactic(auto)]
+
+mod analysis;
+mod arrows;
+mod digraphs;
+mod flow;
+mod parts;
+mod reads;
+mod starts;
+mod steps;
+
+pub use analysis::{Analysis, Options, reduced};
+pub use digraphs::digraph;

@@ -1,0 +1,137 @@
+// The start state.
+
+ghost use Rattle.std.specs.Prelude.{◌≡◌, ℕ, pos, if◌then◌else◌, IfOk, Some, All};
+ghost use Rattle.std.specs.Arc.{arc_value};
+ghost use Rattle.pk_ctypes.specs.Types.{InType};
+ghost use Rattle.pk_graph.specs.Kinds.{count_of};
+ghost use Rattle.pk_graph.specs.Graphs.{variable_view};
+ghost use Rattle.pk_graph.specs.WellMade.{IsStartOf};
+ghost use Rattle.pk_graph.specs.Shown.{graph_view};
+ghost use Rattle.pk_state.specs.Changes.{IsValue};
+ghost use Rattle.pk_value.specs.Known.{any_of, exactly, joined as joined_of};
+ghost use Rattle.pk_analysis.specs.Starts.{layout_of, known_of_numbers, joined_with, start_known, start_facts};
+ghost use Rattle.pk_analysis.specs.Flows.{stated};
+
+use pk_ctypes::IntType;
+use pk_congr::reduced_law;
+use pk_graph::{Graph, Start, Variable};
+use pk_interval::{ordered_law, types_law};
+use pk_state::{Frame, State};
+use pk_value::Value;
+use std::alloc::{AllocError, Global};
+use std::sync::Arc;
+
+// Facts on a value: it is in the type, has a number, and its class is reduced.
+fn exactly_in(t: IntType, number: i128) -> Value
+    requires { InType t number }
+    ensures value { result ≡ exactly number }
+    ensures inside { IsValue t result }
+{
+    let _ = t;
+    let value = Value::exactly(number);
+    reduced_law(&value.congr);
+    value
+}
+
+fn any_in(t: IntType) -> Value
+    ensures value { result ≡ any_of t }
+    ensures inside { IsValue t result }
+{
+    let value = Value::any(t);
+    types_law();
+    ordered_law(&value.interval);
+    reduced_law(&value.congr);
+    value
+}
+
+fn join_in(t: IntType, a: &Value, b: &Value) -> Value
+    requires left { IsValue t a.now }
+    requires right { IsValue t b.now }
+    ensures value { result ≡ joined_of a.now b.now }
+    ensures inside { IsValue t result }
+{
+    let _ = t;
+    let value = a.join(b);
+    types_law();
+    ordered_law(&value.interval);
+    reduced_law(&value.congr);
+    value
+}
+
+// The join of these numbers with what is known.
+fn joined(t: IntType, known: Value, numbers: &[i128]) -> Value
+    requires known { IsValue t known }
+    requires numbers { All (InType t) numbers.now }
+    ensures value { result ≡ joined_with known numbers.now }
+    ensures inside { IsValue t result }
+{
+    let mut all = known;
+    for number in numbers {
+        all = join_in(t, &all, &exactly_in(t, *number));
+    }
+    all
+}
+
+// The join of a value with 0, where there are fewer numbers than the variable has.
+fn filled(t: IntType, short: bool, value: Value) -> Value
+    requires { IsValue t value }
+    ensures value { result ≡ if short then joined_of value (exactly (pos 0)) else value }
+    ensures inside { IsValue t result }
+{
+    if short {
+        join_in(t, &value, &exactly_in(t, 0))
+    } else {
+        value
+    }
+}
+
+// What is known of a variable with these first numbers.
+fn of_numbers(t: IntType, short: bool, numbers: &[i128]) -> Value
+    requires { All (InType t) numbers.now }
+    ensures value { result ≡ known_of_numbers short numbers.now }
+    ensures inside { IsValue t result }
+{
+    match numbers {
+        [] => exactly_in(t, 0),
+        [first, rest @ ..] => filled(t, short, joined(t, exactly_in(t, *first), rest)),
+    }
+}
+
+// How many numbers a variable has.
+#[tactic(auto, unfolding(pk_graph::specs::Graphs::variable_view))]
+fn count(variable: &Variable) -> usize
+    ensures { result ≡ count_of (variable_view variable.now).kind.length }
+{
+    match variable.length {
+        None => 1,
+        Some(length) => length,
+    }
+}
+
+// What is known of a variable when a run begins.
+#[tactic(auto, unfolding(pk_graph::specs::Graphs::variable_view, pk_graph::specs::Graphs::start_view))]
+fn known(variable: &Variable) -> Value
+    requires { IsStartOf (variable_view variable.now) (variable_view variable.now).start }
+    ensures value { result ≡ start_known (variable_view variable.now) }
+    ensures inside { IsValue (variable_view variable.now).kind.int_type result }
+{
+    let count = count(variable);
+    match &variable.start {
+        Start::Any => any_in(variable.int_type),
+        Start::Numbers(numbers) => of_numbers(variable.int_type, numbers.len() < count, numbers),
+    }
+}
+
+/// What is known when a run begins.
+pub fn start(alloc: Global, graph: &Graph, frame: &Arc<Frame>) -> Result<State, AllocError>
+    requires { (oct : ℕ) × (arc_value frame.now ≡ layout_of (graph_view graph.now) oct) }
+    ensures { IfOk result (λ s. s ≡ stated (arc_value frame.now) (Some (start_facts (graph_view graph.now) (arc_value frame.now)))) }
+{
+    graph.well_made();
+    let mut state = State::top(alloc, Arc::try_clone(frame)?)?;
+    let variables = graph.variables();
+    for x in 0..variables.len() {
+        state = state.with_value(alloc, x, known(&variables[x]))?;
+    }
+    Ok(state)
+}

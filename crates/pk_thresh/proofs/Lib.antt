@@ -1,0 +1,3 @@
+mod PointLemmas
+mod NearLemmas
+mod StopLemmas

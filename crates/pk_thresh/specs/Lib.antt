@@ -1,0 +1,3 @@
+pub mod Thresholds
+pub mod Chains
+pub mod Near
