@@ -1,6 +1,6 @@
 // The graph of a draft.
 
-ghost use Rattle.std.specs.Prelude.{◌≡◌, ◌<◌, ℕ, true, All, IfOk, IfSome, length, map};
+ghost use Rattle.std.specs.Prelude.{◌≡◌, ◌<◌, ℕ, true, All, IfOk, MatchOption, length, map};
 ghost use Rattle.pk_graph.specs.Graphs.{edge_view, path_view};
 ghost use Rattle.pk_graph.specs.Shown.{graph_view};
 ghost use Rattle.pk_draft.specs.Shown.{drafted};
@@ -86,7 +86,8 @@ pub fn number_if_typed(
     paths: Vec<Path>,
     draft: Draft,
 ) -> Result<Option<Graph>, AllocError>
-    ensures { IfOk result (λ made. IfSome made (λ graph. (graph_view graph ≡ numbered (map path_view paths.items) (drafted draft)) × IsTypedDraft (length paths.items) (drafted draft))) }
+    ensures { IfOk result (λ made. MatchOption made (IsTypedDraft (length paths.items) (drafted draft) → ⊥)
+        (λ graph. (graph_view graph ≡ numbered (map path_view paths.items) (drafted draft)) × IsTypedDraft (length paths.items) (drafted draft))) }
 {
     if is_typed(paths.len(), &draft) {
         Ok(Some(number(alloc, paths, draft)?))

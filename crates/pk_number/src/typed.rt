@@ -1,6 +1,6 @@
 // Whether a draft is typed.
 
-ghost use Rattle.std.specs.Prelude.{◌≡◌, ◌<◌, ◌^◌, ℕ, true, length, map, All};
+ghost use Rattle.std.specs.Prelude.{◌≡◌, ◌↔◌, ◌<◌, ◌^◌, ℕ, true, length, map, All};
 ghost use Rattle.pk_ctypes.specs.Types.{InType, Represents};
 ghost use Rattle.pk_graph.specs.Kinds.{IsTyped, IsTypedInstr, IsScalar, IsArray, IsOfType, IsUnary, IsRight, type_of as type_of_tree, type_at, kind_at, count_at, count_of};
 ghost use Rattle.pk_graph.specs.Graphs.{variable_view, start_view};
@@ -15,7 +15,7 @@ use pk_draft::{Draft, DraftEdge, Label, represents};
 use pk_graph::{Array, Instr, Scope, Start, Tree, Variable};
 
 fn is_unary(op: Op) -> bool
-    ensures { result ≡ true → IsUnary op }
+    ensures { result ≡ true ↔ IsUnary op }
 {
     match op {
         Op::Neg => true,
@@ -41,7 +41,7 @@ fn is_unary(op: Op) -> bool
 }
 
 fn is_right(op: Op, t: IntType, u: IntType) -> bool
-    ensures { result ≡ true → IsRight op t u }
+    ensures { result ≡ true ↔ IsRight op t u }
 {
     match op {
         Op::Neg => false,
@@ -88,14 +88,14 @@ fn length_of(variables: &[Variable], x: usize) -> Option<usize>
 }
 
 fn is_scalar(variables: &[Variable], x: usize) -> bool
-    ensures { result ≡ true → IsScalar (kinds_in variables.now) x }
+    ensures { result ≡ true ↔ IsScalar (kinds_in variables.now) x }
 {
     x < variables.len() && length_of(variables, x).is_none()
 }
 
 #[tactic(auto, unfolding(pk_graph::specs::Views::array_view))]
 fn is_array(variables: &[Variable], array: Array) -> bool
-    ensures { result ≡ true → IsArray (kinds_in variables.now) (array_view array) }
+    ensures { result ≡ true ↔ IsArray (kinds_in variables.now) (array_view array) }
 {
     array.variable < variables.len() && length_of(variables, array.variable) == Some(array.length)
 }
@@ -119,15 +119,14 @@ fn type_of(variables: &[Variable], tree: &Tree) -> IntType
 
 // Whether an operator in a type takes these operands.
 fn are_operands(variables: &[Variable], op: Op, t: IntType, left: &Tree, right: &Tree) -> bool
-    ensures left { result ≡ true → Represents t (type_of_tree (kinds_in variables.now) (tree_view left.now)) }
-    ensures right { result ≡ true → IsRight op t (type_of_tree (kinds_in variables.now) (tree_view right.now)) }
+    ensures { result ≡ true ↔ Represents t (type_of_tree (kinds_in variables.now) (tree_view left.now)) × IsRight op t (type_of_tree (kinds_in variables.now) (tree_view right.now)) }
 {
     represents(t, type_of(variables, left)) && is_right(op, t, type_of(variables, right))
 }
 
 #[tactic(auto, unfolding(pk_graph::specs::Views::tree_view))]
 fn is_typed_tree(variables: &[Variable], tree: &Tree) -> bool
-    ensures { result ≡ true → IsTyped (kinds_in variables.now) (tree_view tree.now) }
+    ensures { result ≡ true ↔ IsTyped (kinds_in variables.now) (tree_view tree.now) }
 {
     match tree {
         Tree::Constant(t, n) => fits(*t, *n),
@@ -151,7 +150,7 @@ fn is_typed_tree(variables: &[Variable], tree: &Tree) -> bool
 }
 
 fn is_of_type(variables: &[Variable], t: IntType, tree: &Tree) -> bool
-    ensures { result ≡ true → IsOfType (kinds_in variables.now) t (tree_view tree.now) }
+    ensures { result ≡ true ↔ IsOfType (kinds_in variables.now) t (tree_view tree.now) }
 {
     is_typed_tree(variables, tree) && represents(t, type_of(variables, tree))
 }
@@ -167,7 +166,7 @@ fn count_of(length: Option<usize>) -> usize
 
 #[tactic(auto, unfolding(pk_graph::specs::Views::instr_view))]
 fn is_typed_instr(variables: &[Variable], instr: &Instr) -> bool
-    ensures { result ≡ true → IsTypedInstr (kinds_in variables.now) (instr_view instr.now) }
+    ensures { result ≡ true ↔ IsTypedInstr (kinds_in variables.now) (instr_view instr.now) }
 {
     match instr {
         Instr::Skip => true,
@@ -213,7 +212,7 @@ fn is_typed_instr(variables: &[Variable], instr: &Instr) -> bool
 // Whether a variable begins with numbers of its type, no more than it has.
 #[tactic(auto, unfolding(pk_graph::specs::Graphs::variable_view, pk_graph::specs::Graphs::start_view))]
 fn is_start(variable: &Variable) -> bool
-    ensures { result ≡ true → IsStartOf (variable_view variable.now) (variable_view variable.now).start }
+    ensures { result ≡ true ↔ IsStartOf (variable_view variable.now) (variable_view variable.now).start }
 {
     match &variable.start {
         Start::Any => true,
@@ -224,27 +223,25 @@ fn is_start(variable: &Variable) -> bool
 }
 
 fn all_fit(t: IntType, numbers: &[i128]) -> bool
-    ensures { result ≡ true → All (InType t) numbers.now }
+    ensures { result ≡ true ↔ All (InType t) numbers.now }
 {
     numbers.iter().all(|number| fits(t, *number))
 }
 
 fn are_starts(variables: &[Variable]) -> bool
-    ensures { result ≡ true → All (λ v. IsStartOf (variable_view v) (variable_view v).start) variables.now }
+    ensures { result ≡ true ↔ All (λ v. IsStartOf (variable_view v) (variable_view v).start) variables.now }
 {
     variables.iter().all(is_start)
 }
 
 fn is_typed_edge(variables: &[Variable], points: usize, edge: &DraftEdge) -> bool
-    ensures from { result ≡ true → edge.now.from < points }
-    ensures to { result ≡ true → edge.now.to < points }
-    ensures typed { result ≡ true → IsTypedInstr (kinds_in variables.now) (instr_view edge.now.instr) }
+    ensures { result ≡ true ↔ (edge.now.from < points) × (edge.now.to < points) × IsTypedInstr (kinds_in variables.now) (instr_view edge.now.instr) }
 {
     edge.from < points && edge.to < points && is_typed_instr(variables, &edge.instr)
 }
 
 fn are_typed(variables: &[Variable], points: usize, edges: &[DraftEdge]) -> bool
-    ensures { result ≡ true → All (λ e. (e.from < points) × (e.to < points) × IsTypedInstr (kinds_in variables.now) (instr_view e.instr)) edges.now }
+    ensures { result ≡ true ↔ All (λ e. (e.from < points) × (e.to < points) × IsTypedInstr (kinds_in variables.now) (instr_view e.instr)) edges.now }
 {
     edges
         .iter()
@@ -252,13 +249,13 @@ fn are_typed(variables: &[Variable], points: usize, edges: &[DraftEdge]) -> bool
 }
 
 fn have_paths(paths: usize, labels: &[Label]) -> bool
-    ensures { result ≡ true → All (λ l. l.path < paths) labels.now }
+    ensures { result ≡ true ↔ All (λ l. l.path < paths) labels.now }
 {
     labels.iter().all(|label| label.path < paths)
 }
 
 fn have_variables(variables: usize, scopes: &[Scope]) -> bool
-    ensures { result ≡ true → All (λ s. s.variable < variables) scopes.now }
+    ensures { result ≡ true ↔ All (λ s. s.variable < variables) scopes.now }
 {
     scopes.iter().all(|scope| scope.variable < variables)
 }
@@ -271,7 +268,7 @@ fn are_parts_typed(
     scopes: &[Scope],
     edges: &[DraftEdge],
 ) -> bool
-    ensures { result ≡ true → ArePartsTyped paths labels.now variables.now scopes.now edges.now }
+    ensures { result ≡ true ↔ ArePartsTyped paths labels.now variables.now scopes.now edges.now }
 {
     let points = labels.len();
     1 < points
@@ -285,7 +282,7 @@ fn are_parts_typed(
 /// Whether a draft is typed, with so many call paths: its trees over its variables, and its edges, paths and names are there.
 
 pub fn is_typed(paths: usize, draft: &Draft) -> bool
-    ensures { result ≡ true → IsTypedDraft paths (drafted draft.now) }
+    ensures { result ≡ true ↔ IsTypedDraft paths (drafted draft.now) }
 {
     are_parts_typed(
         paths,
