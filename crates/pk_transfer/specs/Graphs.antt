@@ -1,5 +1,5 @@
 -- Layouts of graphs.
-use Rattle.std.specs.Prelude.{◌≡◌, ℕ, ◌<◌, ◌^◌, length, map, slice_index_or, All}
+use Rattle.std.specs.Prelude.{ℕ, ◌<◌, ◌^◌, length, map, All}
 use Rattle.pk_graph.specs.Kinds.{Kind}
 use Rattle.pk_graph.specs.Graphs.{EdgeOf, GraphOf, kinds_of, point_at}
 use Rattle.pk_graph.specs.WellMade.{IsGraph}

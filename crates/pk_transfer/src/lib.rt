@@ -12,6 +12,8 @@ mod trees;
 
 pub use assumptions::guard;
 pub use guards::refine;
-pub use laws::{assignments_law, forms_law, graphs_law, guards_law, passing_law, transfers_law, trees_law};
+pub use laws::{
+    assignments_law, forms_law, graphs_law, guards_law, passing_law, transfers_law, trees_law,
+};
 pub use transfers::transfer;
 pub use trees::value;
