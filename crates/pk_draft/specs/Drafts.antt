@@ -1,0 +1,139 @@
+-- A graph under construction, and the few verbs in which the lowering is said.
+use Rattle.std.specs.Prelude.{ℕ, zero, suc, ◌+◌, List, [], ◌∷◌, ◌++◌, length, slice_set, slice_index_or, Option, Some, None}
+use Rattle.pk_ctypes.specs.declared.places.Pos.{Pos}
+use Rattle.pk_ctypes.specs.declared.types.IntType.{IntType}
+use Rattle.pk_graph.specs.Trees.{TreeOf, variable, InstrOf, Skip, Set}
+use Rattle.pk_graph.specs.Graphs.{VariableOf, number_start}
+use Rattle.pk_graph.specs.declared.graphs.Scope.{Scope}
+use Rattle.pk_draft.specs.declared.drafts.Region.{Region}
+use Rattle.pk_draft.specs.declared.drafts.Label.{Label}
+use Rattle.pk_draft.specs.declared.drafts.Size.{Size}
+
+-- How the variables V are named: an object of the file by its number; an object of a call path by the path, its number in the function and its variable; the result of a path by the path and its variable; a temporary by its variable. A variable of a graph is the number by which it is named last.
+pub record Names (V : Type 0) : Type 0 where
+  pub file : ℕ → V
+  pub object : (path i x : ℕ) → V
+  pub result : (path x : ℕ) → V
+  pub temporary : (x : ℕ) → V
+
+abbrev pub by_number : Names ℕ
+by_number = record { file = λ i. i; object = λ k i x. x; result = λ k x. x; temporary = λ x. x }
+
+pub record EdgeFrom (V : Type 0) : Type 0 where
+  pub from : ℕ
+  pub instr : InstrOf V
+  pub to : ℕ
+
+-- A scope is a place in a chain, which points share: nothing is in scope at place 0; place k + 1 adds the variable of entry k to those of the place around it.
+-- The current point, what a point made here is, the next point and the next variable, and what is known so far: of each point what it is, of each variable what it is, of each object of
+-- the function at hand, and behind them of its result, its variable, of each call path its region; and the edges in the order in which they were made.
+pub record DraftOf (V : Type 0) : Type 0 where
+  pub names : Names V
+  pub point : ℕ
+  pub here : Label
+  pub points : ℕ
+  pub variables : ℕ
+  pub labels : List Label
+  pub made : List VariableOf
+  pub objects : List ℕ
+  pub regions : List Region
+  pub scopes : List Scope
+  pub edges : List (EdgeFrom V)
+
+-- a tree, and the draft after it
+abbrev pub Given : Type 0 → Type 0
+Given V = TreeOf V × DraftOf V
+
+-- a point that is none: an edge to it isn't made
+abbrev pub nowhere : ℕ
+nowhere = 0
+
+abbrev pub at : {V : Type 0} → ℕ → DraftOf V → DraftOf V
+at p d = record d { point = p }
+
+abbrev pub standing : {V : Type 0} → Label → DraftOf V → DraftOf V
+standing l d = record d { here = l }
+
+-- the position of what is lowered from here on
+abbrev pub on : {V : Type 0} → Pos → DraftOf V → DraftOf V
+on p d = standing (record { at = p; path = d.here.path; scope = d.here.scope }) d
+
+abbrev pub in_scope : {V : Type 0} → ℕ → DraftOf V → DraftOf V
+in_scope k d = standing (record { at = d.here.at; path = d.here.path; scope = k }) d
+
+-- the name of a variable comes into scope
+abbrev pub with_name : {V : Type 0} → ℕ → DraftOf V → DraftOf V
+with_name x d = in_scope (length d.scopes + 1) (record d { scopes = d.scopes ++ record { variable = x; outer = d.here.scope } ∷ [] })
+
+-- names in scope inside a block alone
+abbrev pub scoped : {V : Type 0} → (DraftOf V → DraftOf V) → DraftOf V → DraftOf V
+scoped f d = in_scope d.here.scope (f d)
+
+-- a point that was made before is here
+abbrev pub placed : {V : Type 0} → ℕ → DraftOf V → DraftOf V
+placed p d = record d { labels = slice_set d.labels p d.here }
+
+-- n points from p on are here
+abbrev pub all_placed : {V : Type 0} → (n p : ℕ) → DraftOf V → DraftOf V
+all_placed zero p d = d
+all_placed (suc n) p d = all_placed n (p + 1) (placed p d)
+
+-- n new points
+abbrev pub fresh : {V : Type 0} → ℕ → DraftOf V → DraftOf V
+fresh n d = let e = all_placed n d.points d in record e { points = d.points + n }
+
+-- a new variable
+abbrev pub with_variable : {V : Type 0} → VariableOf → DraftOf V → DraftOf V
+with_variable x d = record d { variables = d.variables + 1; made = slice_set d.made d.variables x }
+
+-- a variable of a path that holds 0 when a run begins
+abbrev pub inner : Option (List ℕ) → IntType → Option ℕ → (path : ℕ) → VariableOf
+inner name t n k = record { name = name; kind = record { int_type = t; length = n }; path = Some k; start = number_start [] }
+
+-- a new variable is object i of the function at hand
+abbrev pub with_object : {V : Type 0} → ℕ → VariableOf → DraftOf V → DraftOf V
+with_object i x d = with_variable x (record d { objects = slice_set d.objects i d.variables })
+
+-- the variable of object i of the function at hand
+abbrev pub object_number : {V : Type 0} → ℕ → DraftOf V → ℕ
+object_number i d = slice_index_or d.objects i 0
+
+-- a new temporary, which is the next variable
+abbrev pub with_temporary : {V : Type 0} → IntType → DraftOf V → DraftOf V
+with_temporary t d = with_variable (inner None t None d.here.path) d
+
+abbrev pub next_temporary : {V : Type 0} → DraftOf V → V
+next_temporary d = d.names.temporary d.variables
+
+-- an edge from the current point, which stays
+abbrev pub link : {V : Type 0} → InstrOf V → ℕ → DraftOf V → DraftOf V
+link i q d = record d { edges = d.edges ++ record { from = d.point; instr = i; to = q } ∷ [] }
+
+-- an edge from the current point, and on at its end
+abbrev pub go : {V : Type 0} → InstrOf V → ℕ → DraftOf V → DraftOf V
+go i q d = at q (link i q d)
+
+-- an edge to a new point
+abbrev pub emit : {V : Type 0} → InstrOf V → DraftOf V → DraftOf V
+emit i d = go i d.points (fresh 1 d)
+
+-- an edge away; on at a new point
+abbrev pub away : {V : Type 0} → ℕ → DraftOf V → DraftOf V
+away q d = at d.points (fresh 1 (link Skip q d))
+
+-- an edge to a point that was made before and is here
+abbrev pub come : {V : Type 0} → ℕ → DraftOf V → DraftOf V
+come p d = go Skip p (placed p d)
+
+-- a tree put in a fresh temporary
+abbrev pub stored : {V : Type 0} → IntType → TreeOf V → DraftOf V → Given V
+stored t e d = (variable (next_temporary d), emit (Set (next_temporary d) e) (with_temporary t d))
+
+-- The body of a call path from here. Its part makes as many points and variables as its size says; the first of these points is its exit, where the caller goes on.
+abbrev pub entered : {V : Type 0} → (path : ℕ) → Size → DraftOf V → DraftOf V
+entered k s d = record d {
+  point = d.points;
+  points = d.points + s.points;
+  variables = d.variables + s.variables;
+  regions = slice_set d.regions k (record { at = d.point; points = d.points; variables = d.variables });
+}

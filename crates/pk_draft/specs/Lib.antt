@@ -1,0 +1,4 @@
+pub mod Drafts
+pub mod Folding
+pub mod Answers
+pub mod Shown

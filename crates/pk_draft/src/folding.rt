@@ -1,0 +1,136 @@
+// Trees as the lowering makes them.
+
+ghost use Rattle.std.specs.Prelude.{◌≡◌, IfSome, IfOk};
+ghost use Rattle.pk_graph.specs.Trees as tree;
+ghost use Rattle.pk_graph.specs.Views.{tree_view};
+ghost use Rattle.pk_ctypes.specs.Types.{InType, represents};
+ghost use Rattle.pk_ctypes.specs.Operators.{HasRight};
+ghost use Rattle.pk_draft.specs.Folding as folding;
+
+use pk_ctypes::{IntType, Op, apply, convert, promote, range, result_type};
+use pk_graph::{Site, Tree};
+use std::alloc::{AllocError, Global};
+
+// The number of a constant.
+#[tactic(auto, using(crate::proofs::FoldingLemmas::of_constant, crate::proofs::FoldingLemmas::of_variable, crate::proofs::FoldingLemmas::of_converted, crate::proofs::FoldingLemmas::of_unary, crate::proofs::FoldingLemmas::of_binary))]
+fn number_in(tree: &Tree) -> Option<i128>
+    ensures { result ≡ folding.number_in (tree_view tree.now) }
+{
+    match tree {
+        Tree::Constant(_, number) => Some(*number),
+        Tree::Variable(_) => None,
+        Tree::Converted(_, _) => None,
+        Tree::Unary(_, _, _, _) => None,
+        Tree::Binary {
+            operator: _,
+            site: _,
+            int_type: _,
+            left: _,
+            right: _,
+        } => None,
+    }
+}
+
+/// Whether a type has each number of another.
+pub fn represents(t: IntType, other: IntType) -> bool
+    ensures { result ≡ represents t other }
+{
+    let (low, high) = range(t);
+    let (least, greatest) = range(other);
+    low <= least && greatest <= high
+}
+
+fn is_shift(op: Op) -> bool
+    ensures { result ≡ folding.is_shift op }
+{
+    match op {
+        Op::Shl | Op::Shr => true,
+        _ => false,
+    }
+}
+
+/// The type to which an operator's right operand is converted, where the left has type `t`: a shift's count is promoted alone.
+pub fn right_type(op: Op, u: IntType, t: IntType) -> IntType
+    ensures { result ≡ folding.right_type op u t }
+{
+    if is_shift(op) { promote(u) } else { t }
+}
+
+/// The conversion to a type of the tree of an expression of type `from`.
+pub fn conversion(from: IntType, to: IntType, tree: Box<Tree>) -> Tree
+    ensures { tree_view result ≡ folding.conversion from to (tree_view tree.value) }
+{
+    match number_in(&tree) {
+        Some(number) => Tree::constant(to, convert(to, number)),
+        None => {
+            if represents(to, from) {
+                Box::into_inner(tree)
+            } else {
+                Tree::converted(to, tree)
+            }
+        }
+    }
+}
+
+/// An operator with one operand in a type, whose operand has been converted to it.
+pub fn unary_tree(op: Op, site: Site, int_type: IntType, operand: Box<Tree>) -> Tree
+    requires { IfSome (folding.number_in (tree_view operand.value)) (InType int_type) }
+    ensures { tree_view result ≡ folding.unary_tree op site int_type (tree_view operand.value) }
+{
+    match number_in(&operand) {
+        Some(number) => match apply(op, int_type, number, number) {
+            Ok(value) => Tree::constant(result_type(op, int_type), value),
+            Err(_) => Tree::unary(op, site, int_type, operand),
+        },
+        None => Tree::unary(op, site, int_type, operand),
+    }
+}
+
+/// An operator with two operands in a type, to which they have been converted.
+pub fn binary_tree(op: Op, site: Site, int_type: IntType, left: Box<Tree>, right: Box<Tree>) -> Tree
+    requires left { IfSome (folding.number_in (tree_view left.value)) (InType int_type) }
+    requires right { IfSome (folding.number_in (tree_view right.value)) (HasRight op int_type) }
+    ensures { tree_view result ≡ folding.binary_tree op site int_type (tree_view left.value) (tree_view right.value) }
+{
+    match (number_in(&left), number_in(&right)) {
+        (Some(a), Some(b)) => match apply(op, int_type, a, b) {
+            Ok(value) => Tree::constant(result_type(op, int_type), value),
+            Err(_) => Tree::binary(op, site, int_type, left, right),
+        },
+        (Some(_), None) => Tree::binary(op, site, int_type, left, right),
+        (None, _) => Tree::binary(op, site, int_type, left, right),
+    }
+}
+
+/// An operator in a type, of operands that have the types `u` and `v`.
+pub fn operated_tree(
+    alloc: Global,
+    op: Op,
+    site: Site,
+    int_type: IntType,
+    u: IntType,
+    v: IntType,
+    left: Box<Tree>,
+    right: Box<Tree>,
+) -> Result<Tree, AllocError>
+    ensures { IfOk result (λ e. tree_view e ≡ folding.operated_tree op site int_type u v (tree_view left.value) (tree_view right.value)) }
+{
+    let a = conversion(u, int_type, left);
+    let b = conversion(v, right_type(op, v, int_type), right);
+    let (a, b) = both_boxed(alloc, a, b)?;
+    Ok(binary_tree(op, site, int_type, a, b))
+}
+
+// Two values on the heap. It is generic, so that what is dropped where memory ends is one value to the prover, and not each variant of a tree.
+fn both_boxed<A: Drop, B: Drop>(
+    alloc: Global,
+    first: A,
+    second: B,
+) -> Result<(Box<A>, Box<B>), AllocError>
+    ensures first { IfOk result (λ r. r.0.value ≡ first) }
+    ensures second { IfOk result (λ r. r.1.value ≡ second) }
+{
+    let first = Box::new(alloc, first)?;
+    let second = Box::new(alloc, second)?;
+    Ok((first, second))
+}

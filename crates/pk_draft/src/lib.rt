@@ -1,0 +1,10 @@
+//! Graphs under construction: points, variables and edges as they are made, and trees whose constant parts are folded.
+#![tactic(auto)]
+
+mod drafts;
+mod failures;
+mod folding;
+
+pub use drafts::{Draft, DraftEdge, Label, Region, Size, inner};
+pub use failures::LowerError;
+pub use folding::{binary_tree, conversion, operated_tree, represents, right_type, unary_tree};
