@@ -1,10 +1,11 @@
 // Trees: expressions without effects.
 
-ghost use Rattle.std.specs.Prelude.{◌≡◌};
+ghost use Rattle.std.specs.Prelude.{◌≡◌, IfOk};
 ghost use Rattle.pk_graph.specs.Trees as tree;
 ghost use Rattle.pk_graph.specs.Views.{tree_view};
 
 use pk_ctypes::{IntType, Op, Pos};
+use std::alloc::{AllocError, Global};
 
 /// An operation of a graph: the number of its call path, and its place in the text.
 #[derive(Clone, Copy)]
@@ -73,6 +74,60 @@ impl Tree {
             int_type,
             left,
             right,
+        }
+    }
+
+    /// The same tree, in memory of its own.
+    pub fn copy(&self, alloc: Global) -> Result<Tree, AllocError>
+        ensures { IfOk result (λ e. tree_view e ≡ tree_view self.now) }
+    {
+        let copied = copied(alloc, self)?;
+        Ok(Box::into_inner(copied))
+    }
+}
+
+// A tree on the heap. It is generic, so that what is dropped where memory ends is one value to the prover, and not each variant.
+fn boxed<T: Drop>(alloc: Global, value: T) -> Result<Box<T>, AllocError>
+    ensures { IfOk result (λ b. b.value ≡ value) }
+{
+    Ok(Box::new(alloc, value)?)
+}
+
+fn constant_of(int_type: IntType, number: &i128) -> Tree
+    ensures { tree_view result ≡ tree.constant int_type number.now }
+{
+    Tree::constant(int_type, *number)
+}
+
+// The same tree on the heap.
+#[tactic(auto, unfolding(crate::specs::Views::tree_view))]
+fn copied(alloc: Global, tree: &Tree) -> Result<Box<Tree>, AllocError>
+    ensures { IfOk result (λ b. tree_view b.value ≡ tree_view tree.now) }
+{
+    match tree {
+        Tree::Constant(int_type, number) => boxed(alloc, constant_of(*int_type, number)),
+        Tree::Variable(variable) => boxed(alloc, Tree::variable(*variable)),
+        Tree::Converted(int_type, operand) => {
+            let operand = copied(alloc, operand)?;
+            boxed(alloc, Tree::converted(*int_type, operand))
+        }
+        Tree::Unary(operator, at, int_type, operand) => {
+            let operand = copied(alloc, operand)?;
+            boxed(alloc, Tree::unary(*operator, *at, *int_type, operand))
+        }
+        Tree::Binary {
+            operator,
+            site,
+            int_type,
+            left: first,
+            right: second,
+        } => {
+            let left = copied(alloc, first)?;
+            let right = copied(alloc, second)?;
+            boxed(
+                alloc,
+                Tree::binary(*operator, *site, *int_type, left, right),
+            )
         }
     }
 }
