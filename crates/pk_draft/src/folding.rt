@@ -4,7 +4,8 @@ ghost use Rattle.std.specs.Prelude.{◌≡◌, IfSome, IfOk};
 ghost use Rattle.pk_graph.specs.Trees as tree;
 ghost use Rattle.pk_graph.specs.Views.{tree_view};
 ghost use Rattle.pk_ctypes.specs.Types.{InType, represents};
-ghost use Rattle.pk_ctypes.specs.Operators.{HasRight};
+ghost use Rattle.pk_ctypes.specs.declared.types.Op.TheVariants.{Eq};
+ghost use Rattle.pk_ctypes.specs.Operators.{HasRight, truth};
 ghost use Rattle.pk_draft.specs.Folding as folding;
 
 use pk_ctypes::{IntType, Op, apply, convert, promote, range, result_type};
@@ -133,4 +134,35 @@ fn both_boxed<A: Drop, B: Drop>(
     let first = Box::new(alloc, first)?;
     let second = Box::new(alloc, second)?;
     Ok((first, second))
+}
+
+/// Whether a tree has a number.
+pub fn equals(
+    alloc: Global,
+    site: Site,
+    int_type: IntType,
+    tree: Box<Tree>,
+    number: &i128,
+) -> Result<Tree, AllocError>
+    ensures { IfOk result (λ e. tree_view e ≡ folding.binary_tree Eq site int_type (tree_view tree.value) (tree.constant int_type number.now)) }
+{
+    match number_in(&tree) {
+        Some(value) => Ok(Tree::constant(IntType::Int, truth(value == *number))),
+        None => {
+            let right = boxed(alloc, Tree::constant(int_type, *number))?;
+            Ok(Tree::binary(Op::Eq, site, int_type, tree, right))
+        }
+    }
+}
+
+fn truth(value: bool) -> i128
+    ensures { result ≡ truth value }
+{
+    if value { 1 } else { 0 }
+}
+
+fn boxed<T: Drop>(alloc: Global, value: T) -> Result<Box<T>, AllocError>
+    ensures { IfOk result (λ b. b.value ≡ value) }
+{
+    Ok(Box::new(alloc, value)?)
 }

@@ -7,9 +7,9 @@ use Rattle.pk_calls.specs.declared.listings.Caller.{Caller}
 use Rattle.pk_calls.specs.declared.listings.CallPath.{CallPath}
 use Rattle.pk_graph.specs.declared.trees.Site.{Site}
 use Rattle.pk_graph.specs.Graphs.{PathOf, any_start, VariableOf, no_variable, EdgeOf, PointOf, scope_at, GraphOf}
-use Rattle.pk_draft.specs.Drafts.{by_number, EdgeFrom, DraftOf, nowhere}
-use Rattle.pk_lower.specs.Contexts.{parameters_of}
-use Rattle.pk_lower.specs.Parts.{function_at, body_at, nowhere_in_text, no_label, entry_point, program_draft}
+use Rattle.pk_draft.specs.Drafts.{by_number, entry_point, no_label, EdgeFrom, DraftOf, nowhere}
+use Rattle.pk_lower_expression.specs.Contexts.{parameters_of}
+use Rattle.pk_lower.specs.Parts.{function_at, body_at, nowhere_in_text, program_draft}
 
 -- ---- points
 

@@ -7,24 +7,16 @@ use Rattle.pk_ctypes.specs.declared.types.Op.TheVariants.{Eq}
 use Rattle.pk_typed.specs.Trees.{ValueTree, EffectTree, ValueTrees, DeclaredTree, ForStartTree, StatementTree, ItemTrees, LocalTree}
 use Rattle.pk_typed.specs.Trees as tree
 use Rattle.pk_typed.specs.Types.{type_of}
+use Rattle.pk_lower.specs.declared.statements.Exits.{Exits}
 use Rattle.pk_graph.specs.declared.trees.Site.{Site}
 use Rattle.pk_graph.specs.Kinds.{count_of}
-use Rattle.pk_graph.specs.Trees.{TreeOf, constant, ArrayOf, Skip, Set, Havoc, Clear, Store}
+use Rattle.pk_graph.specs.Trees.{TreeOf, constant, ArrayOf, Skip, Havoc, Clear, Store}
 use Rattle.pk_draft.specs.Drafts.{DraftOf, at, on, in_scope, scoped, with_name, fresh, inner, with_object, link, go, emit, away, come}
 use Rattle.pk_draft.specs.Folding.{conversion, binary_tree}
-use Rattle.pk_lower.specs.declared.shapes.Waiting.TheVariants.{Strong}
-use Rattle.pk_lower.specs.Shapes.{converted_shape}
-use Rattle.pk_lower.specs.Contexts.{Context, site, own, own_result, local_at}
-use Rattle.pk_lower.specs.Expressions.{Ways, Operand, operand, held, guards, with_value, ways, performed}
-
--- where break, continue and return go; the first of the function's labels, and of the innermost switch the first of its cases and its default
-pub record Exits : Type 0 where
-  pub broken : ℕ
-  pub continued : ℕ
-  pub left : ℕ
-  pub labels : ℕ
-  pub cases : ℕ
-  pub otherwise : ℕ
+use Rattle.pk_lower_expression.specs.declared.shapes.Waiting.TheVariants.{Strong}
+use Rattle.pk_lower_expression.specs.Shapes.{converted_shape}
+use Rattle.pk_lower_expression.specs.Contexts.{Context, site, own, own_result, local_at}
+use Rattle.pk_lower_expression.specs.Expressions.{Ways, Operand, operand, held, guards, set_after, ways, performed}
 
 -- ---- declarations
 
@@ -45,10 +37,12 @@ anything c i d = let x = local_at c i in emit (Havoc (own c i d) x.int_type (cou
 abbrev pub own_array : {V : Type 0} → Context → ℕ → DraftOf V → ArrayOf V
 own_array c i d = record { variable = own c i d; length = count_of (local_at c i).length }
 
--- element j of a list, whose index is no access
+-- element j of an array gets the value of an item of type u, behind it; its index is no access
+abbrev pub item_after : {V : Type 0} → ArrayOf V → Site → (j : ℕ) → (u t : IntType) → Given V → DraftOf V
+item_after a s j u t r = emit (Store a s false (constant Int (pos j)) (conversion u t r.0)) r.1
+
 abbrev pub item : {V : Type 0} → Context → (i j : ℕ) → IntType → Ways V → DraftOf V → DraftOf V
-item c i j u w d =
-    with_value (λ r. Store (own_array c i d) (site c d.here.at) false (constant Int (pos j)) (conversion u (local_at c i).int_type r)) w d
+item c i j u w d = item_after (own_array c i d) (site c d.here.at) j u (local_at c i).int_type (w.value d)
 
 abbrev pub items : {V : Type 0} → Context → (i j : ℕ) → ValueTrees → DraftOf V → DraftOf V
 items c i j tree.no_values d = d
@@ -56,7 +50,7 @@ items c i j (tree.value_before e es) d = items c i (j + 1) es (item c i j (type_
 
 abbrev pub scalar_first : {V : Type 0} → Context → ℕ → Option ValueTree → DraftOf V → DraftOf V
 scalar_first c i None d = anything c i d
-scalar_first c i (Some e) d = with_value (λ r. Set (own c i d) (conversion (type_of e) (local_at c i).int_type r)) (ways c e) d
+scalar_first c i (Some e) d = set_after (local_at c i).int_type (type_of e) (own c i d) ((ways c e).value d)
 
 abbrev pub array_first : {V : Type 0} → Context → ℕ → Option ValueTrees → DraftOf V → DraftOf V
 array_first c i None d = anything c i d
@@ -144,7 +138,7 @@ abbrev pub return_draft : {V : Type 0} → Context → Exits → Option IntType 
 return_draft c x None None d = away x.left d
 return_draft c x None (Some e) d = away x.left d
 return_draft c x (Some t) None d = away x.left d
-return_draft c x (Some t) (Some e) d = away x.left (with_value (λ r. Set (own_result c d) (conversion (type_of e) t r)) (ways c e) d)
+return_draft c x (Some t) (Some e) d = away x.left (set_after t (type_of e) (own_result c d) ((ways c e).value d))
 
 abbrev pub performed_if : {V : Type 0} → Context → Option EffectTree → DraftOf V → DraftOf V
 performed_if c None d = d

@@ -1,6 +1,11 @@
-//! The lowering of a typed unit with its call paths to a control-flow graph.
+//! The lowering of a typed unit with its call paths to a graph under construction.
 #![tactic(auto)]
 
-mod forms;
-mod rows;
-mod shapes;
+mod declarations;
+mod jumps;
+mod parts;
+mod programs;
+mod statements;
+mod switches;
+
+pub use programs::draft;

@@ -1,9 +1,9 @@
 use Rattle.std.proofs.Common.{subst, sym, IfSome}
 use Rattle.pk_ctypes.specs.Types.{InType}
-use Rattle.pk_lower.specs.declared.shapes.Shape.{Shape}
-use Rattle.pk_lower.specs.Shapes as shapes
-use Rattle.pk_lower.proofs.ShapeLemmas.{in_type}
-use Rattle.pk_lower.proofs.shapes.operand_shape.Goals as goal
+use Rattle.pk_lower_expression.specs.declared.shapes.Shape.{Shape}
+use Rattle.pk_lower_expression.specs.Shapes as shapes
+use Rattle.pk_lower_expression.proofs.ShapeLemmas.{in_type}
+use Rattle.pk_lower_expression.proofs.shapes.operand_shape.Goals as goal
 
 pub unary_shape-requires : goal.unary_shape-requires
 unary_shape-requires c =

@@ -1,8 +1,8 @@
 use Rattle.std.proofs.Common.{ap, sym}
 use Rattle.pk_typed.specs.declared.values.Place.{Place}
 use Rattle.pk_typed.specs.Views.{place_tree}
-use Rattle.pk_lower.specs.Shapes as shapes
-use Rattle.pk_lower.proofs.shapes.makes_at_place.Goals as goal
+use Rattle.pk_lower_expression.specs.Shapes as shapes
+use Rattle.pk_lower_expression.proofs.shapes.makes_at_place.Goals as goal
 
 pub returns-in-Scalar : goal.returns-in-Scalar
 unfolding place_tree

@@ -10,15 +10,16 @@ use Rattle.pk_typed.specs.Trees.{PlaceTree, ValueTree, EffectTree, ValueTrees}
 use Rattle.pk_typed.specs.Trees as tree
 use Rattle.pk_typed.specs.Types.{type_of}
 use Rattle.pk_graph.specs.declared.trees.Site.{Site}
-use Rattle.pk_graph.specs.Trees.{TreeOf, constant, variable, ArrayOf, InstrOf, Set, Havoc, Load, Store, Guard, Check}
+use Rattle.pk_graph.specs.Trees.{TreeOf, constant, variable, ArrayOf, Set, Havoc, Load, Store, Guard, Check}
+use Rattle.pk_draft.specs.declared.drafts.Size.{Size}
 use Rattle.pk_draft.specs.Drafts.{DraftOf, Given, nowhere, at, fresh, with_temporary, next_temporary, link, emit, stored, entered}
 use Rattle.pk_draft.specs.Folding.{conversion, unary_tree, operated_tree, updated_tree}
-use Rattle.pk_lower.specs.declared.shapes.Shape.{Shape}
-use Rattle.pk_lower.specs.declared.shapes.Shape.TheVariants.{Fixed, Temporary, Named}
-use Rattle.pk_lower.specs.declared.shapes.Waiting.{Waiting}
-use Rattle.pk_lower.specs.declared.shapes.Waiting.TheVariants.{Weak}
-use Rattle.pk_lower.specs.Shapes.{converted_shape, unary_shape, operated_shape, shape_of, is_plain, makes, any_makes, strong_if, strong_or_weak, stays}
-use Rattle.pk_lower.specs.Contexts.{Context, site, variable_of, array_of, parameters_of}
+use Rattle.pk_lower_expression.specs.declared.shapes.Shape.{Shape}
+use Rattle.pk_lower_expression.specs.declared.shapes.Shape.TheVariants.{Fixed, Temporary, Named}
+use Rattle.pk_lower_expression.specs.declared.shapes.Waiting.{Waiting}
+use Rattle.pk_lower_expression.specs.declared.shapes.Waiting.TheVariants.{Weak}
+use Rattle.pk_lower_expression.specs.Shapes.{converted_shape, unary_shape, operated_shape, shape_of, is_plain, makes, any_makes, strong_if, strong_or_weak, stays}
+use Rattle.pk_lower_expression.specs.Contexts.{Context, callee, size_in, site, variable_of, array_of, parameters_of}
 
 -- How an expression is lowered: to a tree; to a choice between two points; for its effects alone.
 pub record Ways (V : Type 0) : Type 0 where
@@ -65,10 +66,6 @@ by_value s t f = by_both f (λ d. dropped s t (f d))
 abbrev pub by_choice : {V : Type 0} → Shape → IntType → (DraftOf V → Given V) → ((p q : ℕ) → DraftOf V → DraftOf V) → Ways V
 by_choice s t f choice = record { value = f; choice = choice; unused = λ d. dropped s t (f d) }
 
--- an instruction with an operand's tree
-abbrev pub with_value : {V : Type 0} → (TreeOf V → InstrOf V) → Ways V → DraftOf V → DraftOf V
-with_value i w d = let r = w.value d in emit (i r.0) r.1
-
 -- two operands in order, the first of which waits
 pub record Two (V : Type 0) : Type 0 where
   pub first : TreeOf V
@@ -88,36 +85,49 @@ pub data Target (V : Type 0) : Type 0 where
   scalar : IntType → (DraftOf V → V) → Target V
   element : IntType → Site → (DraftOf V → ArrayOf V) → Operand V → Target V
 
+-- an element, by its index, in a temporary
+abbrev pub load : {V : Type 0} → IntType → Site → ArrayOf V → Given V → Given V
+load t s a r = (variable (next_temporary r.1), emit (Load (next_temporary r.1) a s true r.0) (with_temporary t r.1))
+
 -- a[i]
 abbrev pub element_value : {V : Type 0} → IntType → Site → ArrayOf V → Operand V → DraftOf V → Given V
-element_value t s a i d =
-    let r = i.ways.value d in
-    (variable (next_temporary r.1), emit (Load (next_temporary r.1) a s true r.0) (with_temporary t r.1))
+element_value t s a i d = load t s a (i.ways.value d)
 
 abbrev pub read_ways : {V : Type 0} → Target V → Ways V
 read_ways (scalar t x) = by_value Named t (λ d. (variable (x d), d))
 read_ways (element t s a i) = by_value Temporary t (λ d. element_value t s (a d) i d)
 
--- a[i] = e: not used, and used
+-- of a[i] = e, with a right side of type u, what comes behind both: not used, and used
+abbrev pub put_after : {V : Type 0} → (t u : IntType) → Site → ArrayOf V → Two V → DraftOf V
+put_after t u s a p = emit (Store a s true p.first (conversion u t p.second)) p.draft
+
+-- a value that was stored goes into an element, and is given
+abbrev pub written : {V : Type 0} → ArrayOf V → Site → Bool → (index : TreeOf V) → Given V → Given V
+written a s is_access i v = (v.0, emit (Store a s is_access i v.0) v.1)
+
+abbrev pub kept_after : {V : Type 0} → (t u : IntType) → Site → ArrayOf V → Two V → Given V
+kept_after t u s a p = written a s true p.first (stored t (conversion u t p.second) p.draft)
+
 abbrev pub put_unused : {V : Type 0} → IntType → Site → ArrayOf V → Operand V → Operand V → DraftOf V → DraftOf V
-put_unused t s a i e d =
-    let p = two (strong_if e.makes) i e d in
-    emit (Store a s true p.first (conversion e.int_type t p.second)) p.draft
+put_unused t s a i e d = put_after t e.int_type s a (two (strong_if e.makes) i e d)
 
 abbrev pub put_used : {V : Type 0} → IntType → Site → ArrayOf V → Operand V → Operand V → DraftOf V → Given V
-put_used t s a i e d =
-    let p = two (strong_or_weak e.makes) i e d in
-    let v = stored t (conversion e.int_type t p.second) p.draft in
-    (v.0, emit (Store a s true p.first v.0) v.1)
+put_used t s a i e d = kept_after t e.int_type s a (two (strong_or_weak e.makes) i e d)
+
+-- x = e, with a right side of type u, behind it
+abbrev pub set_after : {V : Type 0} → (t u : IntType) → V → Given V → DraftOf V
+set_after t u x r = emit (Set x (conversion u t r.0)) r.1
 
 abbrev pub assign_ways : {V : Type 0} → Target V → Operand V → Ways V
-assign_ways (scalar t x) e =
-    by_value Named t (λ d. (variable (x d), with_value (λ r. Set (x d) (conversion e.int_type t r)) e.ways d))
+assign_ways (scalar t x) e = by_value Named t (λ d. (variable (x d), set_after t e.int_type (x d) (e.ways.value d)))
 assign_ways (element t s a i) e = by_both (λ d. put_used t s (a d) i e d) (λ d. put_unused t s (a d) i e d)
 
--- x op= e
+-- x op= e, with a right side of type u, behind it
+abbrev pub update_after : {V : Type 0} → Op → Site → (o t u : IntType) → V → Given V → DraftOf V
+update_after op s o t u x r = emit (Set x (updated_tree op s o t u (variable x) r.0)) r.1
+
 abbrev pub update_scalar : {V : Type 0} → Op → Site → (o t : IntType) → V → Operand V → DraftOf V → DraftOf V
-update_scalar op s o t x e d = with_value (λ r. Set x (updated_tree op s o t e.int_type (variable x) r)) e.ways d
+update_scalar op s o t x e d = update_after op s o t e.int_type x (e.ways.value d)
 
 -- of `a[i] op= e` the index and the right side, which wait, and the element in the next temporary
 pub record Loaded (V : Type 0) : Type 0 where
@@ -126,10 +136,10 @@ pub record Loaded (V : Type 0) : Type 0 where
   pub element : TreeOf V
   pub draft : DraftOf V
 
-abbrev pub loaded : {V : Type 0} → IntType → Site → ArrayOf V → Operand V → Operand V → DraftOf V → Loaded V
-loaded t s a i e d =
-    let p = two (strong_or_weak e.makes) i e d in
-    let k = held Weak e.shape e.int_type (p.second, p.draft) in
+-- behind both, of which the right side has a shape and type
+abbrev pub loaded_after : {V : Type 0} → IntType → Site → ArrayOf V → Shape → (u : IntType) → Two V → Loaded V
+loaded_after t s a shape u p =
+    let k = held Weak shape u (p.second, p.draft) in
     record {
       index = p.first;
       right = k.0;
@@ -137,23 +147,29 @@ loaded t s a i e d =
       draft = emit (Load (next_temporary k.1) a s true p.first) (with_temporary t k.1);
     }
 
--- what is written back
-abbrev pub renewed_tree : {V : Type 0} → Op → Site → (o t : IntType) → Operand V → Loaded V → TreeOf V
-renewed_tree op s o t e p = updated_tree op s o t e.int_type p.element p.right
+abbrev pub loaded : {V : Type 0} → IntType → Site → ArrayOf V → Operand V → Operand V → DraftOf V → Loaded V
+loaded t s a i e d = loaded_after t s a e.shape e.int_type (two (strong_or_weak e.makes) i e d)
 
-abbrev pub renew_unused : {V : Type 0} → Op → Site → IntType → IntType → Site → ArrayOf V → Operand V → Loaded V → DraftOf V
-renew_unused op s o t r a e p = emit (Store a r false p.index (renewed_tree op s o t e p)) p.draft
+-- what is written back, with a right side of type u
+abbrev pub renewed_tree : {V : Type 0} → Op → Site → (o t u : IntType) → Loaded V → TreeOf V
+renewed_tree op s o t u p = updated_tree op s o t u p.element p.right
 
-abbrev pub renew_used : {V : Type 0} → Op → Site → IntType → IntType → Site → ArrayOf V → Operand V → Loaded V → Given V
-renew_used op s o t r a e p =
-    let v = stored t (renewed_tree op s o t e p) p.draft in (v.0, emit (Store a r false p.index v.0) v.1)
+abbrev pub renew_unused : {V : Type 0} → Op → Site → (o t : IntType) → Site → ArrayOf V → (u : IntType) → Loaded V → DraftOf V
+renew_unused op s o t r a u p = emit (Store a r false p.index (renewed_tree op s o t u p)) p.draft
+
+abbrev pub renew_used : {V : Type 0} → Op → Site → (o t : IntType) → Site → ArrayOf V → (u : IntType) → Loaded V → Given V
+renew_used op s o t r a u p = written a r false p.index (stored t (renewed_tree op s o t u p) p.draft)
+
+-- what was there before is given
+abbrev pub renew_old : {V : Type 0} → Op → Site → (o t : IntType) → Site → ArrayOf V → Loaded V → Given V
+renew_old op s o t r a p = (p.element, renew_unused op s o t r a Int p)
 
 -- an assignment with an operator in type o
 abbrev pub update_ways : {V : Type 0} → Op → Site → (o : IntType) → Target V → Operand V → Ways V
 update_ways op s o (scalar t x) e = by_value Named t (λ d. (variable (x d), update_scalar op s o t (x d) e d))
 update_ways op s o (element t r a i) e = by_both
-    (λ d. renew_used op s o t r (a d) e (loaded t r (a d) i e d))
-    (λ d. renew_unused op s o t r (a d) e (loaded t r (a d) i e d))
+    (λ d. renew_used op s o t r (a d) e.int_type (loaded t r (a d) i e d))
+    (λ d. renew_unused op s o t r (a d) e.int_type (loaded t r (a d) i e d))
 
 -- the constant 1
 abbrev pub one : {V : Type 0} → Operand V
@@ -169,14 +185,14 @@ abbrev pub after_scalar : {V : Type 0} → Op → Site → (o t : IntType) → V
 after_scalar op s o t x d = let r = stored t (variable x) d in (r.0, update_scalar op s o t x one r.1)
 
 abbrev pub after_element : {V : Type 0} → Op → Site → IntType → IntType → Site → ArrayOf V → Operand V → DraftOf V → Given V
-after_element op s o t r a i d = let p = loaded t r a i one d in (p.element, renew_unused op s o t r a one p)
+after_element op s o t r a i d = renew_old op s o t r a (loaded t r a i one d)
 
 -- `x++` and `x--`; where they aren't used they are `++x` and `--x`
 abbrev pub after_ways : {V : Type 0} → Op → Site → (o : IntType) → Target V → Ways V
 after_ways op s o (scalar t x) = by_both (λ d. after_scalar op s o t (x d) d) (λ d. update_scalar op s o t (x d) one d)
 after_ways op s o (element t r a i) = by_both
     (λ d. after_element op s o t r (a d) i d)
-    (λ d. renew_unused op s o t r (a d) one (loaded t r (a d) i one d))
+    (λ d. renew_unused op s o t r (a d) Int (loaded t r (a d) i one d))
 
 -- `++x` is `x += 1`
 abbrev pub step_ways : {V : Type 0} → Op → Site → (o : IntType) → Target V → Bool → Ways V
@@ -188,14 +204,20 @@ step_ways op s o x false = after_ways op s o x
 abbrev pub any_value : {V : Type 0} → IntType → DraftOf V → Given V
 any_value t d = (variable (next_temporary d), emit (Havoc (next_temporary d) t 1) (with_temporary t d))
 
+abbrev pub convert_after : {V : Type 0} → (u t : IntType) → Given V → Given V
+convert_after u t r = (conversion u t r.0, r.1)
+
 abbrev pub convert_value : {V : Type 0} → IntType → Operand V → DraftOf V → Given V
-convert_value t e d = let r = e.ways.value d in (conversion e.int_type t r.0, r.1)
+convert_value t e d = convert_after e.int_type t (e.ways.value d)
 
 abbrev pub convert_ways : {V : Type 0} → IntType → Operand V → Ways V
 convert_ways t e = by_value (converted_shape e.int_type t e.shape) t (convert_value t e)
 
+abbrev pub unary_after : {V : Type 0} → Op → Site → (u t : IntType) → Given V → Given V
+unary_after op s u t r = (unary_tree op s t (conversion u t r.0), r.1)
+
 abbrev pub unary_value : {V : Type 0} → Op → Site → IntType → Operand V → DraftOf V → Given V
-unary_value op s t e d = let r = convert_value t e d in (unary_tree op s t r.0, r.1)
+unary_value op s t e d = unary_after op s e.int_type t (e.ways.value d)
 
 abbrev pub is_not : Op → Bool
 is_not Not = true
@@ -226,9 +248,11 @@ abbrev pub unary_ways : {V : Type 0} → Op → Site → IntType → Operand V �
 unary_ways op s t e =
     by_choice (unary_shape op t (converted_shape e.int_type t e.shape)) (result_type op t) (unary_value op s t e) (unary_choice op s t e)
 
+abbrev pub binary_after : {V : Type 0} → Op → Site → (t u v : IntType) → Two V → Given V
+binary_after op s t u v p = (operated_tree op s t u v p.first p.second, p.draft)
+
 abbrev pub binary_value : {V : Type 0} → Op → Site → IntType → Operand V → Operand V → DraftOf V → Given V
-binary_value op s t a b d =
-    let p = two (strong_if b.makes) a b d in (operated_tree op s t a.int_type b.int_type p.first p.second, p.draft)
+binary_value op s t a b d = binary_after op s t a.int_type b.int_type (two (strong_if b.makes) a b d)
 
 abbrev pub binary_ways : {V : Type 0} → Op → Site → IntType → Operand V → Operand V → Ways V
 binary_ways op s t a b =
@@ -240,15 +264,26 @@ and_choice a b p q d = b.choice p q (at d.points (a.choice d.points q (fresh 1 d
 abbrev pub or_choice : {V : Type 0} → Ways V → Ways V → (p q : ℕ) → DraftOf V → DraftOf V
 or_choice a b p q d = b.choice p q (at d.points (a.choice p d.points (fresh 1 d)))
 
+-- a tree is put into a variable on the way to a point; on at another
+abbrev pub set_between : {V : Type 0} → V → (p q : ℕ) → Given V → DraftOf V
+set_between x p q r = at q (link (Set x r.0) p r.1)
+
 -- new points for both truths and behind them, and a temporary; a tree at each, put into it
 abbrev pub joined : {V : Type 0} → IntType → ((p q : ℕ) → DraftOf V → DraftOf V) → (a b : DraftOf V → Given V) → DraftOf V → Given V
-joined {V} t choice a b d =
-    let set = λ (r : Given V). link (Set (next_temporary d) r.0) (d.points + 2) r.1 in
+joined t choice a b d =
+    let x = next_temporary d in
     let c = choice d.points (d.points + 1) (with_temporary t (fresh 3 d)) in
-    (variable (next_temporary d), at (d.points + 2) (set (b (at (d.points + 1) (set (a (at d.points c)))))))
+    let m = set_between x (d.points + 2) (d.points + 1) (a (at d.points c)) in
+    (variable x, set_between x (d.points + 2) (d.points + 2) (b m))
 
 abbrev pub truth_value : {V : Type 0} → ((p q : ℕ) → DraftOf V → DraftOf V) → DraftOf V → Given V
 truth_value choice = joined Int choice (λ d. (constant Int (pos 1), d)) (λ d. (constant Int (pos 0), d))
+
+-- the same behind the choice, with points from p on and a temporary
+abbrev pub truths : {V : Type 0} → (p : ℕ) → V → DraftOf V → Given V
+truths p x d =
+    let m = set_between x (p + 2) (p + 1) (constant Int (pos 1), at p d) in
+    (variable x, set_between x (p + 2) (p + 2) (constant Int (pos 0), m))
 
 abbrev pub truth_ways : {V : Type 0} → ((p q : ℕ) → DraftOf V → DraftOf V) → Ways V
 truth_ways choice = by_choice Temporary Int (truth_value choice) choice
@@ -284,12 +319,15 @@ passed_before later e rest d =
     let r = rest k.1 in
     record { trees = k.0 ∷ r.trees; draft = r.draft }
 
--- a call that leads to a path, of a function with these parameters, with arguments of these types; the result's variable is behind the parameters
-abbrev pub called : {V : Type 0} → Context → (path : ℕ) → (parameters types : List IntType) → (DraftOf V → Passed V) → DraftOf V → Given V
-called c k ts us arguments d =
-    let r = arguments d in
+-- A call that leads to a path of this size, of a function with these parameters, behind its arguments, which have these types. The result's variable is behind the parameters.
+abbrev pub call_after : {V : Type 0} → (path : ℕ) → Size → (parameters types : List IntType) → Passed V → Given V
+call_after k s ts us r =
     let x = r.draft.variables in
-    (variable (r.draft.names.result k (x + length ts)), entered k (c.size k) (bound k 0 x ts us r.trees r.draft))
+    (variable (r.draft.names.result k (x + length ts)), entered k s (bound k 0 x ts us r.trees r.draft))
+
+-- call n of the function at hand, of function f
+abbrev pub called : {V : Type 0} → Context → (f n : ℕ) → (types : List IntType) → (DraftOf V → Passed V) → DraftOf V → Given V
+called c f n us arguments d = call_after (callee c n) (size_in c.sizes f) (parameters_of c.unit f) us (arguments d)
 
 -- a condition that is true from here on: the edge where it is false isn't made
 abbrev pub assumed : {V : Type 0} → Ways V → DraftOf V → DraftOf V
@@ -301,6 +339,10 @@ as_int e = if represents Int e.int_type then e.ways else convert_ways Int e
 
 abbrev pub zero_ways : {V : Type 0} → Ways V
 zero_ways = by_value (Fixed (pos 0)) Int (λ d. (constant Int (pos 0), d))
+
+-- an assertion behind its condition, which has type u
+abbrev pub check_after : {V : Type 0} → Site → (u : IntType) → Given V → DraftOf V
+check_after s u r = emit (Check s (conversion u Int r.0)) r.1
 
 -- ---- the forms
 
@@ -315,7 +357,7 @@ abbrev mutual
   ways c (tree.assign at p e) = assign_ways (target c p) (operand e (ways c e))
   ways c (tree.update op at o p e) = update_ways op (site c at) o (target c p) (operand e (ways c e))
   ways c (tree.step op at o p prefix) = step_ways op (site c at) o (target c p) prefix
-  ways c (tree.call t f n at es) = by_value Named t (called c (c.callee n) (parameters_of c.unit f) (types_of es) (passed c es))
+  ways c (tree.call t f n at es) = by_value Named t (called c f n (types_of es) (passed c es))
   ways c (tree.any t at) = by_value Temporary t (any_value t)
   ways c (tree.unary op at t e) = unary_ways op (site c at) t (operand e (ways c e))
   ways c (tree.convert t e) = convert_ways t (operand e (ways c e))
@@ -328,9 +370,9 @@ abbrev mutual
   -- for its effect alone
   pub performed : {V : Type 0} → Context → EffectTree → DraftOf V → DraftOf V
   performed c (tree.unused v) d = (ways c v).unused d
-  performed c (tree.run f n at es) d = (called c (c.callee n) (parameters_of c.unit f) (types_of es) (passed c es) d).1
+  performed c (tree.run f n at es) d = (called c f n (types_of es) (passed c es) d).1
   performed c (tree.assume at v) d = assumed (as_int (operand v (ways c v))) d
-  performed c (tree.assert at v) d = with_value (λ r. Check (site c at) (conversion (type_of v) Int r)) (ways c v) d
+  performed c (tree.assert at v) d = check_after (site c at) (type_of v) ((ways c v).value d)
   performed c (tree.abort at) d = assumed zero_ways d
   performed c (tree.then_effect a b) d = performed c b (performed c a d)
 

@@ -4,9 +4,9 @@ use Rattle.std.specs.Prelude.{◌||◌}
 use Rattle.pk_typed.specs.declared.values.Value.{Value}
 use Rattle.pk_typed.specs.declared.values.Effect.{Effect}
 use Rattle.pk_typed.specs.Views.{value_tree, effect_tree}
-use Rattle.pk_lower.specs.declared.shapes.Shape.{Shape}
-use Rattle.pk_lower.specs.Shapes as shapes
-use Rattle.pk_lower.proofs.forms.+makes.Goals as goal
+use Rattle.pk_lower_expression.specs.declared.shapes.Shape.{Shape}
+use Rattle.pk_lower_expression.specs.Shapes as shapes
+use Rattle.pk_lower_expression.proofs.forms.+makes.Goals as goal
 
 abbrev value : Value → Bool
 value v = shapes.makes (value_tree v)

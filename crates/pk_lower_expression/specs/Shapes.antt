@@ -10,10 +10,10 @@ use Rattle.pk_typed.specs.Trees.{PlaceTree, ValueTree, EffectTree, ValueTrees}
 use Rattle.pk_typed.specs.Trees as tree
 use Rattle.pk_typed.specs.Types.{type_of}
 use Rattle.pk_draft.specs.Folding.{right_type}
-use Rattle.pk_lower.specs.declared.shapes.Shape.{Shape}
-use Rattle.pk_lower.specs.declared.shapes.Shape.TheVariants.{Fixed, Temporary, Named, Other}
-use Rattle.pk_lower.specs.declared.shapes.Waiting.{Waiting}
-use Rattle.pk_lower.specs.declared.shapes.Waiting.TheVariants.{Loose, Strong, Weak}
+use Rattle.pk_lower_expression.specs.declared.shapes.Shape.{Shape}
+use Rattle.pk_lower_expression.specs.declared.shapes.Shape.TheVariants.{Fixed, Temporary, Named, Other}
+use Rattle.pk_lower_expression.specs.declared.shapes.Waiting.{Waiting}
+use Rattle.pk_lower_expression.specs.declared.shapes.Waiting.TheVariants.{Loose, Strong, Weak}
 
 abbrev pub number_in_shape : Shape → Option ℤ
 number_in_shape (Fixed z) = Some z

@@ -8,9 +8,9 @@ use Rattle.pk_ctypes.specs.Operators.{HasRight}
 use Rattle.pk_ctypes.proofs.Wrapped.{conversion}
 use Rattle.pk_draft.specs.Folding.{right_type}
 use Rattle.pk_draft.proofs.FoldingLemmas.{right_number}
-use Rattle.pk_lower.specs.declared.shapes.Shape.{Shape}
-use Rattle.pk_lower.specs.declared.shapes.Shape.TheVariants.{Fixed, Temporary, Named, Other}
-use Rattle.pk_lower.specs.Shapes.{number_in_shape, kept_shape_if, converted_shape}
+use Rattle.pk_lower_expression.specs.declared.shapes.Shape.{Shape}
+use Rattle.pk_lower_expression.specs.declared.shapes.Shape.TheVariants.{Fixed, Temporary, Named, Other}
+use Rattle.pk_lower_expression.specs.Shapes.{number_in_shape, kept_shape_if, converted_shape}
 
 of_kept : (b : Bool) (s : Shape) → number_in_shape s ≡ None → number_in_shape (kept_shape_if b s) ≡ None
 of_kept true s h = h

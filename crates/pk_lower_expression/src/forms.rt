@@ -2,7 +2,7 @@
 
 ghost use Rattle.std.specs.Prelude.{◌≡◌, ◌||◌};
 ghost use Rattle.pk_typed.specs.Views.{value_tree, effect_tree};
-ghost use Rattle.pk_lower.specs.Shapes as shapes;
+ghost use Rattle.pk_lower_expression.specs.Shapes as shapes;
 
 use crate::shapes::{
     Shape, converted_shape, fixed, is_plain, makes_at_place, operand_shape, operated_shape,

@@ -4,9 +4,9 @@ use Rattle.pk_ctypes.specs.declared.types.IntType.{IntType}
 use Rattle.pk_typed.specs.declared.values.Value.{Value}
 use Rattle.pk_typed.specs.Types.{type_of}
 use Rattle.pk_typed.specs.Views.{value_tree, place_tree}
-use Rattle.pk_lower.specs.declared.shapes.Shape.{Shape}
-use Rattle.pk_lower.specs.Shapes as shapes
-use Rattle.pk_lower.proofs.forms.+shape_of.Goals as goal
+use Rattle.pk_lower_expression.specs.declared.shapes.Shape.{Shape}
+use Rattle.pk_lower_expression.specs.Shapes as shapes
+use Rattle.pk_lower_expression.proofs.forms.+shape_of.Goals as goal
 
 abbrev shape : Value → Shape
 shape v = shapes.shape_of (value_tree v)

@@ -1,5 +1,5 @@
 -- What the lowering of a function's body on a call path looks up.
-use Rattle.std.specs.Prelude.{ℕ, List, [], length, slice_get, slice_index_or, Option, Some, None, option_map, unwrap_or}
+use Rattle.std.specs.Prelude.{ℕ, ◌+◌, List, [], length, slice_get, slice_index_or, Option, Some, None, option_map, unwrap_or}
 use Rattle.std.specs.Option.{option_and_then}
 use Rattle.pk_ctypes.specs.declared.places.Pos.{Pos}
 use Rattle.pk_ctypes.specs.declared.types.IntType.{IntType}
@@ -16,14 +16,22 @@ use Rattle.pk_draft.specs.Drafts.{DraftOf, object_number}
 abbrev pub no_size : Size
 no_size = record { points = 0; variables = 0 }
 
--- The unit, the path's number, the objects and the return type of its function; of each call of the function the path that it leads to, and of each path its size.
+-- The unit, the path's number, the number of the path by its function's first call, which those by the others follow in order, the objects and the return type of its function; and the sizes of functions.
 pub record Context : Type 0 where
   pub unit : UnitTree
   pub path : ℕ
+  pub first : ℕ
   pub locals : List LocalTree
   pub returns : Option IntType
-  pub callee : ℕ → ℕ
-  pub size : ℕ → Size
+  pub sizes : List (Option Size)
+
+-- the path that a call leads to
+abbrev pub callee : Context → ℕ → ℕ
+callee c call = c.first + call
+
+-- the size of a function's part, where it is known
+abbrev pub size_in : List (Option Size) → ℕ → Size
+size_in ss f = unwrap_or (slice_index_or ss f None) no_size
 
 abbrev pub site : Context → Pos → Site
 site c at = record { path = c.path; at = at }

@@ -4,8 +4,8 @@ ghost use Rattle.std.specs.Prelude.{◌≡◌, if◌then◌else◌, IfSome};
 ghost use Rattle.pk_ctypes.specs.Types.{InType};
 ghost use Rattle.pk_ctypes.specs.Operators.{HasRight};
 ghost use Rattle.pk_typed.specs.Views.{place_tree};
-ghost use Rattle.pk_lower.specs.declared.shapes.Shape.TheVariants.{Fixed, Temporary};
-ghost use Rattle.pk_lower.specs.Shapes as shapes;
+ghost use Rattle.pk_lower_expression.specs.declared.shapes.Shape.TheVariants.{Fixed, Temporary};
+ghost use Rattle.pk_lower_expression.specs.Shapes as shapes;
 
 use pk_ctypes::{IntType, Op, apply, convert};
 use pk_draft::{represents, right_type};

@@ -2,10 +2,10 @@ use Rattle.std.proofs.Common.{ap, subst, sym, ◌∙◌, IfSome}
 use Rattle.pk_ctypes.specs.declared.types.IntType.{IntType}
 use Rattle.pk_ctypes.specs.Types.{InType}
 use Rattle.pk_ctypes.specs.Operators.{HasRight}
-use Rattle.pk_lower.specs.declared.shapes.Shape.{Shape}
-use Rattle.pk_lower.specs.Shapes as shapes
-use Rattle.pk_lower.proofs.ShapeLemmas.{in_type, is_right}
-use Rattle.pk_lower.proofs.shapes.operated_shape.Goals as goal
+use Rattle.pk_lower_expression.specs.declared.shapes.Shape.{Shape}
+use Rattle.pk_lower_expression.specs.Shapes as shapes
+use Rattle.pk_lower_expression.proofs.ShapeLemmas.{in_type, is_right}
+use Rattle.pk_lower_expression.proofs.shapes.operated_shape.Goals as goal
 
 pub binary_shape-requires-clause-left : goal.binary_shape-requires-clause-left
 binary_shape-requires-clause-left c =

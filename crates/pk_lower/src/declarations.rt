@@ -1,0 +1,162 @@
+// The lowering of declarations.
+
+ghost use Rattle.std.specs.Prelude.{◌≡◌, IfOk, OnOk, Option, List, ℕ};
+ghost use Rattle.pk_typed.specs.Views.{value_trees, declared_tree, declared_trees, optional_values};
+ghost use Rattle.pk_graph.specs.Views.{array_view};
+ghost use Rattle.pk_draft.specs.Shown.{drafted};
+ghost use Rattle.pk_lower_expression.specs.Contexts as contexts;
+ghost use Rattle.pk_lower_expression.specs.Views.{context_in, given};
+ghost use Rattle.pk_lower.specs.Statements as rows;
+
+use pk_ctypes::{IntType, Name};
+use pk_draft::{Draft, conversion, inner};
+use pk_graph::{Array, Instr, Site, Tree};
+use pk_lower_expression::{Context, count_of, set, value};
+use pk_typed::{Declared, Value};
+use std::alloc::AllocError;
+
+// A variable's name comes into scope, if it has one.
+fn name_if(draft: &mut Draft, is_named: bool, variable: usize) -> Result<(), AllocError> {
+    if is_named { draft.name(variable) } else { Ok(()) }
+}
+
+fn name_of(context: &Context<'_>, object: usize) -> Result<Option<Name>, AllocError> {
+    if object < context.locals.len() {
+        match &context.locals[object].name {
+            None => Ok(None),
+            Some(name) => Ok(Some(name.copy()?)),
+        }
+    } else {
+        Ok(None)
+    }
+}
+
+/// An object of the function as the next variable, with its name in scope.
+pub fn introduce(context: &Context<'_>, draft: &mut Draft, object: usize) -> Result<(), AllocError> {
+    let number = draft.variables();
+    let name = name_of(context, object)?;
+    let is_named = name.is_some();
+    draft.object_is(
+        object,
+        inner(
+            context.alloc,
+            name,
+            context.type_of_local(object),
+            context.length_of_local(object),
+            context.path,
+        ),
+    )?;
+    name_if(draft, is_named, number)
+}
+
+// `T x;`, `T a[n];`
+fn anything(context: &Context<'_>, draft: &mut Draft, object: usize) -> Result<(), AllocError> {
+    let variable = draft.object(object);
+    let count = count_of(context.length_of_local(object));
+    draft.emit(Instr::havoc(variable, context.type_of_local(object), count))
+}
+
+fn own_array(context: &Context<'_>, draft: &Draft, object: usize) -> Array {
+    Array {
+        variable: draft.object(object),
+        length: count_of(context.length_of_local(object)),
+    }
+}
+
+// Element `number` of an array gets an item's value, behind it.
+fn put_item(
+    context: &Context<'_>,
+    draft: &mut Draft,
+    array: Array,
+    site: Site,
+    number: usize,
+    from: IntType,
+    to: IntType,
+    tree: Box<Tree>,
+) -> Result<(), AllocError> {
+    let index = Tree::constant(IntType::Int, number as i128);
+    let tree = conversion(from, to, tree);
+    draft.emit(Instr::store(array, site, false, index, tree))
+}
+
+// Element `number` of an array.
+fn item(
+    context: &Context<'_>,
+    draft: &mut Draft,
+    object: usize,
+    number: usize,
+    item: &Value,
+) -> Result<(), AllocError> {
+    let array = own_array(context, draft, object);
+    let site = context.site(draft.here().at);
+    let tree = value(context, draft, item)?;
+    let to = context.type_of_local(object);
+    put_item(context, draft, array, site, number, item.int_type(), to, tree)
+}
+
+fn items(
+    context: &Context<'_>,
+    draft: &mut Draft,
+    object: usize,
+    list: &[Value],
+) -> Result<(), AllocError> {
+    for (number, value) in list.iter().enumerate() {
+        item(context, draft, object, number, value)?;
+    }
+    Ok(())
+}
+
+fn begin_scalar(
+    context: &Context<'_>,
+    draft: &mut Draft,
+    object: usize,
+    first: &Option<Value>,
+) -> Result<(), AllocError> {
+    match first {
+        None => anything(context, draft, object),
+        Some(first) => {
+            let variable = draft.object(object);
+            let tree = value(context, draft, first)?;
+            set(draft, context.type_of_local(object), first.int_type(), variable, tree)
+        }
+    }
+}
+
+fn begin_array(
+    context: &Context<'_>,
+    draft: &mut Draft,
+    object: usize,
+    list: &Option<Vec<Value>>,
+) -> Result<(), AllocError> {
+    match list {
+        None => anything(context, draft, object),
+        Some(list) => {
+            let array = own_array(context, draft, object);
+            draft.emit(Instr::clear(array))?;
+            items(context, draft, object, list.as_slice())
+        }
+    }
+}
+
+/// A declared object.
+pub fn declare(context: &Context<'_>, draft: &mut Draft, object: &Declared) -> Result<(), AllocError> {
+    match object {
+        Declared::Scalar(number, at, first) => {
+            draft.on(*at);
+            introduce(context, draft, *number)?;
+            begin_scalar(context, draft, *number, first)
+        }
+        Declared::Array(number, at, list) => {
+            draft.on(*at);
+            introduce(context, draft, *number)?;
+            begin_array(context, draft, *number, list)
+        }
+    }
+}
+
+pub fn declare_all(context: &Context<'_>, draft: &mut Draft, objects: &[Declared]) -> Result<(), AllocError> {
+    for object in objects {
+        declare(context, draft, object)?;
+    }
+    Ok(())
+}

@@ -1,0 +1,44 @@
+// `return`.
+
+ghost use Rattle.std.specs.Prelude.{◌≡◌, OnOk, option_map};
+ghost use Rattle.pk_typed.specs.Views.{value_tree};
+ghost use Rattle.pk_draft.specs.Shown.{drafted};
+ghost use Rattle.pk_lower_expression.specs.Views.{context_in};
+ghost use Rattle.pk_lower.specs.Statements as rows;
+
+use pk_ctypes::IntType;
+use pk_draft::Draft;
+use pk_lower_expression::{Context, set, value};
+use pk_typed::Value;
+use std::alloc::AllocError;
+
+// A returned value.
+fn result(
+    context: &Context<'_>,
+    draft: &mut Draft,
+    returns: IntType,
+    returned: &Value,
+) -> Result<(), AllocError> {
+    let variable = draft.object(context.locals.len());
+    let tree = value(context, draft, returned)?;
+    set(draft, returns, returned.int_type(), variable, tree)
+}
+
+/// `return`, to the function's exit.
+pub fn return_value(
+    context: &Context<'_>,
+    draft: &mut Draft,
+    left: usize,
+    returned: &Option<Value>,
+) -> Result<(), AllocError> {
+    match context.returns {
+        None => draft.away(left),
+        Some(returns) => match returned {
+            None => draft.away(left),
+            Some(returned) => {
+                result(context, draft, returns, returned)?;
+                draft.away(left)
+            }
+        },
+    }
+}

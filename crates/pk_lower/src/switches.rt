@@ -1,0 +1,95 @@
+// The tests of a `switch`.
+
+ghost use Rattle.std.specs.Prelude.{◌≡◌, OnOk, IfOk};
+ghost use Rattle.pk_draft.specs.Shown.{drafted};
+ghost use Rattle.pk_lower_expression.specs.Views.{context_in, given};
+ghost use Rattle.pk_lower.specs.Statements as rows;
+
+use crate::statements::Exits;
+use pk_ctypes::{IntType, Pos};
+use pk_draft::{Draft, equals};
+use pk_graph::{Site, Tree};
+use pk_lower_expression::{
+    Context, Waiting, boxed, converted, converted_shape, guards, held, shape_of, value,
+};
+use pk_typed::Value;
+use std::alloc::{AllocError, Global};
+
+// A test for each case in order, whose points begin at `first`.
+fn test_cases(
+    alloc: Global,
+    draft: &mut Draft,
+    site: Site,
+    int_type: IntType,
+    tree: &Tree,
+    cases: &[i128],
+    first: usize,
+) -> Result<(), AllocError> {
+    let mut point = first;
+    for case in cases {
+        test_case(alloc, draft, site, int_type, tree, case, point)?;
+        point = point.checked_add(1).ok_or(AllocError)?;
+    }
+    Ok(())
+}
+
+fn test_case(
+    alloc: Global,
+    draft: &mut Draft,
+    site: Site,
+    int_type: IntType,
+    tree: &Tree,
+    case: &i128,
+    point: usize,
+) -> Result<(), AllocError> {
+    let next = draft.fresh(1)?;
+    let copy = tree.copy(alloc)?;
+    let copy = boxed(alloc, copy)?;
+    let test = equals(alloc, site, int_type, copy, case)?;
+    let test = boxed(alloc, test)?;
+    guards(alloc, draft, point, next, test)?;
+    draft.at(next);
+    Ok(())
+}
+
+// The promoted value, which waits for the tests.
+fn tested(
+    context: &Context<'_>,
+    draft: &mut Draft,
+    int_type: IntType,
+    switched: &Value,
+) -> Result<Box<Tree>, AllocError> {
+    let tree = value(context, draft, switched)?;
+    let from = switched.int_type();
+    let tree = converted(context.alloc, from, int_type, tree)?;
+    let shape = converted_shape(from, int_type, shape_of(switched));
+    held(context.alloc, draft, Waiting::Strong, shape, int_type, tree)
+}
+
+/// A `switch` up to its body: its end, and the exits inside it.
+pub fn begin_switch(
+    context: &Context<'_>,
+    draft: &mut Draft,
+    exits: Exits,
+    at: Pos,
+    int_type: IntType,
+    switched: &Value,
+    cases: &[i128],
+    has_default: bool,
+) -> Result<(usize, Exits), AllocError> {
+    let tree = tested(context, draft, int_type, switched)?;
+    let count = cases.len();
+    let points = if has_default { 2 + count } else { 1 + count };
+    let end = draft.fresh(points)?;
+    let first = end.checked_add(1).ok_or(AllocError)?;
+    let otherwise = first.checked_add(count).ok_or(AllocError)?;
+    test_cases(context.alloc, draft, context.site(at), int_type, &tree, cases, first)?;
+    draft.away(if has_default { otherwise } else { end })?;
+    let inner = Exits {
+        broken: end,
+        cases: first,
+        otherwise,
+        ..exits
+    };
+    Ok((end, inner))
+}

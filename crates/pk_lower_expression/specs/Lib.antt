@@ -1,0 +1,4 @@
+pub mod Shapes
+pub mod Contexts
+pub mod Expressions
+pub mod Views
