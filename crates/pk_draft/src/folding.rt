@@ -5,6 +5,7 @@ ghost use Rattle.pk_graph.specs.Trees as tree;
 ghost use Rattle.pk_graph.specs.Views.{tree_view};
 ghost use Rattle.pk_ctypes.specs.Types.{InType, represents};
 ghost use Rattle.pk_ctypes.specs.declared.types.Op.TheVariants.{Eq};
+ghost use Rattle.pk_ctypes.specs.declared.types.IntType.TheVariants.{Int};
 ghost use Rattle.pk_ctypes.specs.Operators.{HasRight, truth};
 ghost use Rattle.pk_draft.specs.Folding as folding;
 
@@ -141,26 +142,38 @@ pub fn equals(
     alloc: Global,
     site: Site,
     int_type: IntType,
-    tree: Box<Tree>,
+    left: Box<Tree>,
     number: &i128,
 ) -> Result<Tree, AllocError>
-    ensures { IfOk result (λ e. tree_view e ≡ folding.binary_tree Eq site int_type (tree_view tree.value) (tree.constant int_type number.now)) }
+    ensures { IfOk result (λ e. tree_view e ≡ folding.binary_tree Eq site int_type (tree_view left.value) (tree.constant int_type number.now)) }
 {
-    match number_in(&tree) {
-        Some(value) => Ok(Tree::constant(IntType::Int, truth(value == *number))),
+    match number_in(&left) {
+        Some(value) => Ok(truth(value == *number)),
         None => {
-            let right = boxed(alloc, Tree::constant(int_type, *number))?;
-            Ok(Tree::binary(Op::Eq, site, int_type, tree, right))
+            let right = constant_boxed(alloc, int_type, number)?;
+            Ok(Tree::binary(Op::Eq, site, int_type, left, right))
         }
     }
 }
 
-fn truth(value: bool) -> i128
-    ensures { result ≡ truth value }
+// 1 or 0, of type int.
+fn truth(value: bool) -> Tree
+    ensures { tree_view result ≡ tree.constant Int (truth value) }
 {
-    if value { 1 } else { 0 }
+    if value {
+        Tree::constant(IntType::Int, 1)
+    } else {
+        Tree::constant(IntType::Int, 0)
+    }
 }
 
+fn constant_boxed(alloc: Global, int_type: IntType, number: &i128) -> Result<Box<Tree>, AllocError>
+    ensures { IfOk result (λ e. tree_view e.value ≡ tree.constant int_type number.now) }
+{
+    boxed(alloc, Tree::constant(int_type, *number))
+}
+
+// It is generic, so that what is dropped where memory ends is one value to the prover.
 fn boxed<T: Drop>(alloc: Global, value: T) -> Result<Box<T>, AllocError>
     ensures { IfOk result (λ b. b.value ≡ value) }
 {
