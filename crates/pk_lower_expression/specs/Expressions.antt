@@ -279,11 +279,11 @@ joined t choice a b d =
 abbrev pub truth_value : {V : Type 0} → ((p q : ℕ) → DraftOf V → DraftOf V) → DraftOf V → Given V
 truth_value choice = joined Int choice (λ d. (constant Int (pos 1), d)) (λ d. (constant Int (pos 0), d))
 
--- the same behind the choice, with points from p on and a temporary
-abbrev pub truths : {V : Type 0} → (p : ℕ) → V → DraftOf V → Given V
-truths p x d =
-    let m = set_between x (p + 2) (p + 1) (constant Int (pos 1), at p d) in
-    (variable x, set_between x (p + 2) (p + 2) (constant Int (pos 0), m))
+-- the same behind the choice, with points for both truths and behind them, and a temporary
+abbrev pub truths : {V : Type 0} → (p q behind : ℕ) → V → DraftOf V → Given V
+truths p q behind x d =
+    let m = set_between x behind q (constant Int (pos 1), at p d) in
+    (variable x, set_between x behind behind (constant Int (pos 0), m))
 
 abbrev pub truth_ways : {V : Type 0} → ((p q : ℕ) → DraftOf V → DraftOf V) → Ways V
 truth_ways choice = by_choice Temporary Int (truth_value choice) choice
@@ -320,10 +320,12 @@ passed_before later e rest d =
     record { trees = k.0 ∷ r.trees; draft = r.draft }
 
 -- A call that leads to a path of this size, of a function with these parameters, behind its arguments, which have these types. The result's variable is behind the parameters.
+abbrev pub entered_after : {V : Type 0} → (path : ℕ) → Size → (parameters types : List IntType) → List (TreeOf V) → DraftOf V → DraftOf V
+entered_after k s ts us rs d = entered k s (bound k 0 d.variables ts us rs d)
+
 abbrev pub call_after : {V : Type 0} → (path : ℕ) → Size → (parameters types : List IntType) → Passed V → Given V
 call_after k s ts us r =
-    let x = r.draft.variables in
-    (variable (r.draft.names.result k (x + length ts)), entered k s (bound k 0 x ts us r.trees r.draft))
+    (variable (r.draft.names.result k (r.draft.variables + length ts)), entered_after k s ts us r.trees r.draft)
 
 -- call n of the function at hand, of function f
 abbrev pub called : {V : Type 0} → Context → (f n : ℕ) → (types : List IntType) → (DraftOf V → Passed V) → DraftOf V → Given V

@@ -1,11 +1,14 @@
 // Calls behind their arguments.
 
-ghost use Rattle.std.specs.Prelude.{◌≡◌, map, IfOk, OnOk};
-ghost use Rattle.pk_typed.specs.Views.{value_trees};
+ghost use Rattle.std.specs.Prelude.{◌≡◌, ◌+◌, ℕ, map, drop, nat_lt, length, IfOk, OnOk};
+ghost use Rattle.pk_typed.specs.Types.{type_of};
+ghost use Rattle.pk_typed.specs.Views.{value_tree, value_trees};
 ghost use Rattle.pk_graph.specs.Views.{tree_view};
+ghost use Rattle.pk_draft.specs.Drafts as drafts;
 ghost use Rattle.pk_draft.specs.Shown.{drafted};
 ghost use Rattle.pk_lower_expression.specs.Expressions as rows;
 ghost use Rattle.pk_lower_expression.specs.Shapes.{any_makes};
+ghost use Rattle.pk_lower_expression.specs.Views.{given};
 
 use crate::boxes::boxed;
 use crate::forms::makes;
@@ -17,33 +20,64 @@ use pk_typed::Value;
 use std::alloc::{AllocError, Global};
 
 /// How many values there are up to the last whose lowering makes an edge.
-pub fn last_making(values: &[Value]) -> usize {
-    let mut last = 0;
-    for (number, value) in values.iter().enumerate() {
-        if makes(value) {
-            last = number + 1;
+pub fn last_making(values: &[Value]) -> usize
+    ensures { (k : ℕ) → any_makes (value_trees (drop k values.now)) ≡ nat_lt k result }
+{
+    let mut last = values.len();
+    while last > 0 {
+        if makes(&values[last - 1]) {
+            return last;
         }
+        last -= 1;
     }
-    last
+    0
+}
+
+// A parameter gets a tree of a value.
+fn bind(
+    alloc: Global,
+    draft: &mut Draft,
+    parameter: IntType,
+    value: &Value,
+    variable: usize,
+    argument: &Tree,
+) -> Result<(), AllocError>
+    ensures { OnOk result (drafted draft.new ≡ rows.set_after parameter (type_of (value_tree value.now)) variable (given argument.now draft.old)) }
+{
+    let copy = argument.copy(alloc)?;
+    let copy = boxed(alloc, copy)?;
+    set(draft, parameter, value.int_type(), variable, copy)
 }
 
 // The parameters of a path are set from trees; they are its first variables.
-fn bind(
+fn bind_all(
     alloc: Global,
     draft: &mut Draft,
     first: usize,
     parameters: &[IntType],
     values: &[Value],
     trees: &[Tree],
-) -> Result<(), AllocError> {
-    for (number, parameter) in parameters.iter().enumerate() {
-        if number >= values.len() || number >= trees.len() {
+) -> Result<(), AllocError>
+    ensures { (k : ℕ) → OnOk result (drafted draft.new
+        ≡ rows.bound k 0 first parameters.now (rows.types_of (value_trees values.now)) (map tree_view trees.now) (drafted draft.old)) }
+{
+    for number in 0..parameters.len() {
+        if number >= values.len() {
             return Ok(());
         }
-        let tree = trees[number].copy(alloc)?;
-        let tree = boxed(alloc, tree)?;
+        if number >= trees.len() {
+            return Ok(());
+        }
         let variable = first.checked_add(number).ok_or(AllocError)?;
-        set(draft, *parameter, values[number].int_type(), variable, tree)?;
+        let parameter = parameters[number];
+        bind(
+            alloc,
+            draft,
+            parameter,
+            &values[number],
+            variable,
+            &trees[number],
+        )?;
     }
     Ok(())
 }
@@ -57,9 +91,13 @@ pub fn enter(
     parameters: &[IntType],
     values: &[Value],
     trees: &[Tree],
-) -> Result<usize, AllocError> {
+) -> Result<usize, AllocError>
+    ensures draft { OnOk result (drafted draft.new
+        ≡ rows.entered_after path size parameters.now (rows.types_of (value_trees values.now)) (map tree_view trees.now) (drafted draft.old)) }
+    ensures variable { IfOk result (λ x. x ≡ (drafted draft.old).variables + length parameters.now) }
+{
     let first = draft.variables();
-    bind(alloc, draft, first, parameters, values, trees)?;
+    bind_all(alloc, draft, first, parameters, values, trees)?;
     draft.enter(path, size)?;
     first.checked_add(parameters.len()).ok_or(AllocError)
 }

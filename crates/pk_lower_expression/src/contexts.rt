@@ -66,6 +66,7 @@ pub fn length_of_object(object: &FileObject) -> Option<usize>
 
 ghost use Rattle.pk_typed.specs.Views.{file_object_tree};
 
+#[tactic(auto, unfolding(crate::specs::Views::context_in))]
 impl<'a> Context<'a> {
     /// The size of a function's part, where it is known.
     pub fn size(&self, function: usize) -> Size
@@ -127,6 +128,7 @@ impl<'a> Context<'a> {
     }
 
     /// The variable of an object.
+    #[tactic(auto, unfolding(crate::specs::Views::context_in, pk_draft::specs::Shown::drafted))]
     pub fn variable(&self, draft: &Draft, object: Variable) -> usize
         ensures { result ≡ contexts.variable_of (context_in self.now) object (drafted draft.now) }
     {

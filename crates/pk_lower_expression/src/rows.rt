@@ -1,13 +1,14 @@
 // Rows of the table that don't recurse: each takes what lowering the parts gave.
 
-ghost use Rattle.std.specs.Prelude.{◌≡◌, List, map, IfOk, OnOk};
+ghost use Rattle.std.specs.Prelude.{◌≡◌, ◌+◌, ◌<◌, ◌^◌, pos, IfOk, OnOk};
 ghost use Rattle.pk_ctypes.specs.declared.types.IntType.TheVariants.{Int};
 ghost use Rattle.pk_graph.specs.Views.{tree_view, array_view};
 ghost use Rattle.pk_draft.specs.Drafts as drafts;
 ghost use Rattle.pk_draft.specs.Folding as folding;
 ghost use Rattle.pk_draft.specs.Shown.{drafted};
 ghost use Rattle.pk_lower_expression.specs.Expressions as rows;
-ghost use Rattle.pk_lower_expression.specs.Views.{given, two_in, loaded_in, passed_in};
+ghost use Rattle.pk_lower_expression.specs.Joins.{IsJoin};
+ghost use Rattle.pk_lower_expression.specs.Views.{given, two_in, loaded_in};
 
 use crate::boxes::boxed;
 use crate::shapes::{Shape, Waiting, is_plain, stays};
@@ -93,6 +94,7 @@ pub fn variable(alloc: Global, variable: usize) -> Result<Box<Tree>, AllocError>
 }
 
 /// An element, by its index, in a temporary.
+#[tactic(auto, unfolding(pk_draft::specs::Shown::drafted))]
 pub fn load(
     alloc: Global,
     draft: &mut Draft,
@@ -173,6 +175,21 @@ pub fn set(
     draft.emit(Instr::set(variable, conversion(from, int_type, value)))
 }
 
+/// The same, used.
+pub fn set_kept(
+    alloc: Global,
+    draft: &mut Draft,
+    int_type: IntType,
+    from: IntType,
+    number: usize,
+    value: Box<Tree>,
+) -> Result<Box<Tree>, AllocError>
+    ensures { IfOk result (λ e. given e.value draft.new ≡ (tree.variable number, rows.set_after int_type from number (given value.value draft.old))) }
+{
+    set(draft, int_type, from, number, value)?;
+    variable(alloc, number)
+}
+
 /// What an assignment with an operator in a type writes to a place.
 fn updated_tree(
     alloc: Global,
@@ -208,6 +225,26 @@ pub fn update(
     let old = variable(alloc, number)?;
     let tree = updated_tree(alloc, op, site, in_type, int_type, from, old, value)?;
     draft.emit(Instr::set(number, tree))
+}
+
+/// The same, used.
+pub fn update_kept(
+    alloc: Global,
+    draft: &mut Draft,
+    op: Op,
+    site: Site,
+    in_type: IntType,
+    int_type: IntType,
+    from: IntType,
+    number: usize,
+    value: Box<Tree>,
+) -> Result<Box<Tree>, AllocError>
+    ensures { IfOk result (λ e. given e.value draft.new ≡ (tree.variable number, rows.update_after op site in_type int_type from number (given value.value draft.old))) }
+{
+    update(
+        alloc, draft, op, site, in_type, int_type, from, number, value,
+    )?;
+    variable(alloc, number)
 }
 
 /// Of `a[i] op= e` the index, the right side and the element.
@@ -389,6 +426,7 @@ pub fn step_after(
 }
 
 /// Any number of a type.
+#[tactic(auto, unfolding(pk_draft::specs::Shown::drafted))]
 pub fn any(alloc: Global, draft: &mut Draft, int_type: IntType) -> Result<Box<Tree>, AllocError>
     ensures { IfOk result (λ e. given e.value draft.new ≡ rows.any_value int_type (drafted draft.old)) }
 {
@@ -468,39 +506,54 @@ pub fn check(
     draft.emit(Instr::check(site, conversion(from, IntType::Int, tree)))
 }
 
-/// New points for both truths and behind them, of which the first is given, and a temporary.
-pub fn begin_join(
-    alloc: Global,
-    draft: &mut Draft,
-    int_type: IntType,
-) -> Result<(usize, usize), AllocError>
-    ensures draft { OnOk result (drafted draft.new ≡ drafts.with_temporary int_type (drafts.fresh 3 (drafted draft.old))) }
-    ensures first { IfOk result (λ r. r.0 ≡ (drafted draft.old).points) }
-    ensures number { IfOk result (λ r. r.1 ≡ (drafted draft.old).variables) }
-    ensures fits { IfOk result (λ r. r.0 + 3 < 2 ^ 64) }
-{
-    let number = draft.variables();
-    let first = draft.fresh(3)?;
-    draft.temporary(alloc, int_type)?;
-    Ok((first, number))
+/// Where both truths of a condition begin, and the temporary into which a tree of each is put; they meet at the point behind both.
+#[derive(Clone, Copy)]
+pub struct Join {
+    pub if_true: usize,
+    pub if_false: usize,
+    pub behind: usize,
+    pub variable: usize,
 }
 
-/// The truths 1 and 0, each at its point, are put into a temporary.
-pub fn end_truth(
+/// New points for both truths and behind them, and a temporary.
+pub fn begin_join(alloc: Global, draft: &mut Draft, int_type: IntType) -> Result<Join, AllocError>
+    ensures draft { OnOk result (drafted draft.new ≡ drafts.with_temporary int_type (drafts.fresh 3 (drafted draft.old))) }
+    ensures join { IfOk result (λ j. IsJoin j (drafted draft.old).points (drafted draft.old).variables) }
+{
+    let variable = draft.variables();
+    let first = draft.fresh(3)?;
+    draft.temporary(alloc, int_type)?;
+    Ok(Join {
+        if_true: first,
+        if_false: first + 1,
+        behind: first + 2,
+        variable,
+    })
+}
+
+/// The truths 1 and 0, each at its point, are put into the temporary.
+pub fn end_truth(alloc: Global, draft: &mut Draft, join: Join) -> Result<Box<Tree>, AllocError>
+    ensures { IfOk result (λ e. given e.value draft.new ≡ rows.truths join.if_true join.if_false join.behind join.variable (drafted draft.old)) }
+{
+    draft.at(join.if_true);
+    let tree = one(alloc)?;
+    set_between(draft, join.variable, join.behind, join.if_false, tree)?;
+    let tree = zero(alloc)?;
+    set_between(draft, join.variable, join.behind, join.behind, tree)?;
+    variable(alloc, join.variable)
+}
+
+/// The second tree of a choice is put into the temporary.
+pub fn end_join(
     alloc: Global,
     draft: &mut Draft,
-    first: usize,
-    number: usize,
+    join: Join,
+    last: Box<Tree>,
 ) -> Result<Box<Tree>, AllocError>
-    requires { first + 3 < 2 ^ 64 }
-    ensures { IfOk result (λ e. given e.value draft.new ≡ rows.truths first number (drafted draft.old)) }
+    ensures { IfOk result (λ e. given e.value draft.new ≡ (tree.variable join.variable, rows.set_between join.variable join.behind join.behind (given last.value draft.old))) }
 {
-    draft.at(first);
-    let tree = one(alloc)?;
-    set_between(draft, number, first + 2, first + 1, tree)?;
-    let tree = zero(alloc)?;
-    set_between(draft, number, first + 2, first + 2, tree)?;
-    variable(alloc, number)
+    set_between(draft, join.variable, join.behind, join.behind, last)?;
+    variable(alloc, join.variable)
 }
 
 pub fn is_not(op: Op) -> bool
