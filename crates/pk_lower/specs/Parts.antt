@@ -141,7 +141,7 @@ abbrev pub parts_from : {V : Type 0} → UnitTree → List (Option Size) → (k 
 parts_from u sizes k n [] d = d
 parts_from u sizes k n (p ∷ ps) d =
     parts_from u sizes (k + 1) (n + length (calls_of u p.function)) ps
-        (part (context u sizes k n p.function) p.function p.caller (region_of k d) d)
+    (part (context u sizes k n p.function) p.function p.caller (region_of k d) d)
 
 abbrev pub program_draft : {V : Type 0} → Names V → UnitTree → List CallPath → DraftOf V
 program_draft names u paths =

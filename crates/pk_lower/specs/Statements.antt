@@ -69,13 +69,16 @@ all_declared c (x ∷ xs) d = all_declared c xs (declared c x d)
 abbrev pub inside : (broken continued : ℕ) → Exits → Exits
 inside b k x = record x { broken = b; continued = k }
 
--- two new points for the branches; a new one where both ends meet
+-- two new points for the branches, from the first of which it goes on
+abbrev pub branching : {V : Type 0} → Pos → Ways V → DraftOf V → DraftOf V
+branching p c d = at d.points (c.choice d.points (d.points + 1) (fresh 2 (on p d)))
+
+-- a new point where this end and that of the first branch, e, meet
+abbrev pub meeting : {V : Type 0} → Pos → (e : ℕ) → DraftOf V → DraftOf V
+meeting p e d = go Skip d.points (at d.point (link Skip d.points (at e (fresh 1 (on p d)))))
+
 abbrev pub if_draft : {V : Type 0} → Pos → Ways V → (a b : DraftOf V → DraftOf V) → DraftOf V → DraftOf V
-if_draft p c a b d =
-    let t = a (at d.points (c.choice d.points (d.points + 1) (fresh 2 d))) in
-    let f = b (at (d.points + 1) t) in
-    let j = fresh 1 (on p f) in
-    go Skip f.points (at f.point (link Skip f.points (at t.point j)))
+if_draft p c a b d = let t = a (branching p c d) in meeting p t.point (b (at (d.points + 1) t))
 
 -- a loop's body between two points, and the way from its end to k
 abbrev pub round : {V : Type 0} → Exits → (Exits → DraftOf V → DraftOf V) → (from broken k : ℕ) → DraftOf V → DraftOf V
@@ -85,9 +88,13 @@ round x s b e k d = go Skip k (s (inside e k x) (at b d))
 abbrev pub while_from : {V : Type 0} → Ways V → (Exits → DraftOf V → DraftOf V) → Exits → (b e : ℕ) → DraftOf V → DraftOf V
 while_from c s x b e d = round x s b e d.point (c.choice b e d)
 
+-- three new points, on at the first
+abbrev pub loop_begun : {V : Type 0} → DraftOf V → DraftOf V
+loop_begun d = go Skip d.points (fresh 3 d)
+
 -- new head, body, end
 abbrev pub while_draft : {V : Type 0} → Ways V → (Exits → DraftOf V → DraftOf V) → Exits → DraftOf V → DraftOf V
-while_draft c s x d = let h = d.points in at (h + 2) (while_from c s x (h + 1) (h + 2) (go Skip h (fresh 3 d)))
+while_draft c s x d = let h = d.points in at (h + 2) (while_from c s x (h + 1) (h + 2) (loop_begun d))
 
 -- a `do` from its body, at the current point: the body, the test at k
 abbrev pub do_from : {V : Type 0} → Pos → Ways V → (Exits → DraftOf V → DraftOf V) → Exits → (k e : ℕ) → DraftOf V → DraftOf V
@@ -95,7 +102,7 @@ do_from p c s x k e d = c.choice d.point e (on p (round x s d.point e k d))
 
 -- new body, test, end
 abbrev pub do_draft : {V : Type 0} → Pos → Ways V → (Exits → DraftOf V → DraftOf V) → Exits → DraftOf V → DraftOf V
-do_draft p c s x d = let b = d.points in at (b + 2) (do_from p c s x (b + 1) (b + 2) (go Skip b (fresh 3 d)))
+do_draft p c s x d = let b = d.points in at (b + 2) (do_from p c s x (b + 1) (b + 2) (loop_begun d))
 
 -- a `for` from its head, the current point: the test, the body from b, the third part from k, back; it ends at e
 abbrev pub for_from : {V : Type 0} → Pos → (test : (p q : ℕ) → DraftOf V → DraftOf V) → (third : DraftOf V → DraftOf V) → (Exits → DraftOf V → DraftOf V) → Exits → (b k e : ℕ) → DraftOf V → DraftOf V
@@ -107,7 +114,7 @@ for_draft p first test third s x d =
     let e = d.points in
     let f = on p (first (fresh 1 d)) in
     let h = f.points in
-    in_scope d.here.scope (at e (for_from p test third s x (h + 1) (h + 2) e (go Skip h (fresh 3 f))))
+    in_scope d.here.scope (at e (for_from p test third s x (h + 1) (h + 2) e (loop_begun f)))
 
 -- without a test
 abbrev pub for_ever : {V : Type 0} → (p q : ℕ) → DraftOf V → DraftOf V
@@ -134,11 +141,12 @@ switch_draft s t v zs has_default body x d =
 
 -- ---- the forms
 
-abbrev pub return_draft : {V : Type 0} → Context → Exits → Option IntType → Option ValueTree → DraftOf V → DraftOf V
-return_draft c x None None d = away x.left d
-return_draft c x None (Some e) d = away x.left d
-return_draft c x (Some t) None d = away x.left d
-return_draft c x (Some t) (Some e) d = away x.left (set_after t (type_of e) (own_result c d) ((ways c e).value d))
+-- to the exit
+abbrev pub returned : {V : Type 0} → Context → (left : ℕ) → Option IntType → Option ValueTree → DraftOf V → DraftOf V
+returned c left None None d = away left d
+returned c left None (Some e) d = away left d
+returned c left (Some t) None d = away left d
+returned c left (Some t) (Some e) d = away left (set_after t (type_of e) (own_result c d) ((ways c e).value d))
 
 abbrev pub performed_if : {V : Type 0} → Context → Option EffectTree → DraftOf V → DraftOf V
 performed_if c None d = d
@@ -160,8 +168,8 @@ abbrev mutual
   lowered c (tree.label p l s) x d = lowered c s x (come (x.labels + l) (on p d))
   lowered c (tree.case p i s) x d = lowered c s x (come (x.cases + i) (on p d))
   lowered c (tree.default p s) x d = lowered c s x (come x.otherwise (on p d))
-  lowered c (tree.if_then p e s) x d = if_draft p (ways c e) (lowered c s x) (λ f. f) (on p d)
-  lowered c (tree.if_else p e s r) x d = if_draft p (ways c e) (lowered c s x) (lowered c r x) (on p d)
+  lowered c (tree.if_then p e s) x d = if_draft p (ways c e) (lowered c s x) (λ f. f) d
+  lowered c (tree.if_else p e s r) x d = if_draft p (ways c e) (lowered c s x) (lowered c r x) d
   lowered c (tree.switch p t e zs has_default s) x d =
       switch_draft (site c p) t (operand e (ways c e)) zs has_default (lowered c s) x (on p d)
   lowered c (tree.while p e s) x d = while_draft (ways c e) (lowered c s) x (on p d)
@@ -171,7 +179,7 @@ abbrev mutual
   lowered c (tree.goto p l) x d = away (x.labels + l) (on p d)
   lowered c (tree.continue p) x d = away x.continued (on p d)
   lowered c (tree.break p) x d = away x.broken (on p d)
-  lowered c (tree.return p e) x d = return_draft c x c.returns e (on p d)
+  lowered c (tree.return p e) x d = returned c x.left c.returns e (on p d)
 
   pub lowered_items : {V : Type 0} → Context → ItemTrees → Exits → DraftOf V → DraftOf V
   lowered_items c tree.no_items x d = d

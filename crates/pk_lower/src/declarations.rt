@@ -1,10 +1,13 @@
 // The lowering of declarations.
 
-ghost use Rattle.std.specs.Prelude.{◌≡◌, IfOk, OnOk, Option, List, ℕ};
-ghost use Rattle.pk_typed.specs.Views.{value_trees, declared_tree, declared_trees, optional_values};
+ghost use Rattle.std.specs.Prelude.{◌≡◌, if◌then◌else◌, option_map, IfOk, OnOk};
+ghost use Rattle.pk_typed.specs.Types.{type_of};
+ghost use Rattle.pk_typed.specs.Views.{value_tree, value_trees, declared_tree, declared_trees, optional_values};
 ghost use Rattle.pk_graph.specs.Views.{array_view};
+ghost use Rattle.pk_draft.specs.Drafts as drafts;
 ghost use Rattle.pk_draft.specs.Shown.{drafted};
 ghost use Rattle.pk_lower_expression.specs.Contexts as contexts;
+ghost use Rattle.pk_lower_expression.specs.Expressions as expressions;
 ghost use Rattle.pk_lower_expression.specs.Views.{context_in, given};
 ghost use Rattle.pk_lower.specs.Statements as rows;
 
@@ -16,11 +19,19 @@ use pk_typed::{Declared, Value};
 use std::alloc::AllocError;
 
 // A variable's name comes into scope, if it has one.
-fn name_if(draft: &mut Draft, is_named: bool, variable: usize) -> Result<(), AllocError> {
-    if is_named { draft.name(variable) } else { Ok(()) }
+fn name_if(draft: &mut Draft, is_named: bool, variable: usize) -> Result<(), AllocError>
+    ensures { OnOk result (drafted draft.new ≡ if◌then◌else◌ is_named (drafts.with_name variable (drafted draft.old)) (drafted draft.old)) }
+{
+    if is_named {
+        draft.name(variable)
+    } else {
+        Ok(())
+    }
 }
 
-fn name_of(context: &Context<'_>, object: usize) -> Result<Option<Name>, AllocError> {
+fn name_of(context: &Context<'_>, object: usize) -> Result<Option<Name>, AllocError>
+    ensures { IfOk result (λ name. name ≡ (contexts.local_at (context_in context.now) object).name) }
+{
     if object < context.locals.len() {
         match &context.locals[object].name {
             None => Ok(None),
@@ -32,7 +43,9 @@ fn name_of(context: &Context<'_>, object: usize) -> Result<Option<Name>, AllocEr
 }
 
 /// An object of the function as the next variable, with its name in scope.
-pub fn introduce(context: &Context<'_>, draft: &mut Draft, object: usize) -> Result<(), AllocError> {
+pub fn introduce(context: &Context<'_>, draft: &mut Draft, object: usize) -> Result<(), AllocError>
+    ensures { OnOk result (drafted draft.new ≡ rows.introduced (context_in context.now) object (drafted draft.old)) }
+{
     let number = draft.variables();
     let name = name_of(context, object)?;
     let is_named = name.is_some();
@@ -50,13 +63,17 @@ pub fn introduce(context: &Context<'_>, draft: &mut Draft, object: usize) -> Res
 }
 
 // `T x;`, `T a[n];`
-fn anything(context: &Context<'_>, draft: &mut Draft, object: usize) -> Result<(), AllocError> {
+fn anything(context: &Context<'_>, draft: &mut Draft, object: usize) -> Result<(), AllocError>
+    ensures { OnOk result (drafted draft.new ≡ rows.anything (context_in context.now) object (drafted draft.old)) }
+{
     let variable = draft.object(object);
     let count = count_of(context.length_of_local(object));
     draft.emit(Instr::havoc(variable, context.type_of_local(object), count))
 }
 
-fn own_array(context: &Context<'_>, draft: &Draft, object: usize) -> Array {
+fn own_array(context: &Context<'_>, draft: &Draft, object: usize) -> Array
+    ensures { array_view result ≡ rows.own_array (context_in context.now) object (drafted draft.now) }
+{
     Array {
         variable: draft.object(object),
         length: count_of(context.length_of_local(object)),
@@ -65,7 +82,6 @@ fn own_array(context: &Context<'_>, draft: &Draft, object: usize) -> Array {
 
 // Element `number` of an array gets an item's value, behind it.
 fn put_item(
-    context: &Context<'_>,
     draft: &mut Draft,
     array: Array,
     site: Site,
@@ -73,7 +89,9 @@ fn put_item(
     from: IntType,
     to: IntType,
     tree: Box<Tree>,
-) -> Result<(), AllocError> {
+) -> Result<(), AllocError>
+    ensures { OnOk result (drafted draft.new ≡ rows.item_after (array_view array) site number from to (given tree.value draft.old)) }
+{
     let index = Tree::constant(IntType::Int, number as i128);
     let tree = conversion(from, to, tree);
     draft.emit(Instr::store(array, site, false, index, tree))
@@ -86,12 +104,14 @@ fn item(
     object: usize,
     number: usize,
     item: &Value,
-) -> Result<(), AllocError> {
+) -> Result<(), AllocError>
+    ensures { OnOk result (drafted draft.new ≡ rows.item (context_in context.now) object number (type_of (value_tree item.now)) (expressions.ways (context_in context.now) (value_tree item.now)) (drafted draft.old)) }
+{
     let array = own_array(context, draft, object);
     let site = context.site(draft.here().at);
     let tree = value(context, draft, item)?;
     let to = context.type_of_local(object);
-    put_item(context, draft, array, site, number, item.int_type(), to, tree)
+    put_item(draft, array, site, number, item.int_type(), to, tree)
 }
 
 fn items(
@@ -99,7 +119,9 @@ fn items(
     draft: &mut Draft,
     object: usize,
     list: &[Value],
-) -> Result<(), AllocError> {
+) -> Result<(), AllocError>
+    ensures { OnOk result (drafted draft.new ≡ rows.items (context_in context.now) object 0 (value_trees list.now) (drafted draft.old)) }
+{
     for (number, value) in list.iter().enumerate() {
         item(context, draft, object, number, value)?;
     }
@@ -111,13 +133,21 @@ fn begin_scalar(
     draft: &mut Draft,
     object: usize,
     first: &Option<Value>,
-) -> Result<(), AllocError> {
+) -> Result<(), AllocError>
+    ensures { OnOk result (drafted draft.new ≡ rows.scalar_first (context_in context.now) object (option_map value_tree first.now) (drafted draft.old)) }
+{
     match first {
         None => anything(context, draft, object),
         Some(first) => {
             let variable = draft.object(object);
             let tree = value(context, draft, first)?;
-            set(draft, context.type_of_local(object), first.int_type(), variable, tree)
+            set(
+                draft,
+                context.type_of_local(object),
+                first.int_type(),
+                variable,
+                tree,
+            )
         }
     }
 }
@@ -127,7 +157,9 @@ fn begin_array(
     draft: &mut Draft,
     object: usize,
     list: &Option<Vec<Value>>,
-) -> Result<(), AllocError> {
+) -> Result<(), AllocError>
+    ensures { OnOk result (drafted draft.new ≡ rows.array_first (context_in context.now) object (optional_values list.now) (drafted draft.old)) }
+{
     match list {
         None => anything(context, draft, object),
         Some(list) => {
@@ -139,7 +171,13 @@ fn begin_array(
 }
 
 /// A declared object.
-pub fn declare(context: &Context<'_>, draft: &mut Draft, object: &Declared) -> Result<(), AllocError> {
+pub fn declare(
+    context: &Context<'_>,
+    draft: &mut Draft,
+    object: &Declared,
+) -> Result<(), AllocError>
+    ensures { OnOk result (drafted draft.new ≡ rows.declared (context_in context.now) (declared_tree object.now) (drafted draft.old)) }
+{
     match object {
         Declared::Scalar(number, at, first) => {
             draft.on(*at);
@@ -154,7 +192,13 @@ pub fn declare(context: &Context<'_>, draft: &mut Draft, object: &Declared) -> R
     }
 }
 
-pub fn declare_all(context: &Context<'_>, draft: &mut Draft, objects: &[Declared]) -> Result<(), AllocError> {
+pub fn declare_all(
+    context: &Context<'_>,
+    draft: &mut Draft,
+    objects: &[Declared],
+) -> Result<(), AllocError>
+    ensures { OnOk result (drafted draft.new ≡ rows.all_declared (context_in context.now) (declared_trees objects.now) (drafted draft.old)) }
+{
     for object in objects {
         declare(context, draft, object)?;
     }

@@ -1,8 +1,11 @@
 // `return`.
 
-ghost use Rattle.std.specs.Prelude.{◌≡◌, OnOk, option_map};
+ghost use Rattle.std.specs.Prelude.{◌≡◌, option_map, OnOk};
+ghost use Rattle.pk_typed.specs.Types.{type_of};
 ghost use Rattle.pk_typed.specs.Views.{value_tree};
 ghost use Rattle.pk_draft.specs.Shown.{drafted};
+ghost use Rattle.pk_lower_expression.specs.Contexts as contexts;
+ghost use Rattle.pk_lower_expression.specs.Expressions as expressions;
 ghost use Rattle.pk_lower_expression.specs.Views.{context_in};
 ghost use Rattle.pk_lower.specs.Statements as rows;
 
@@ -18,7 +21,9 @@ fn result(
     draft: &mut Draft,
     returns: IntType,
     returned: &Value,
-) -> Result<(), AllocError> {
+) -> Result<(), AllocError>
+    ensures { OnOk result (drafted draft.new ≡ expressions.set_after returns (type_of (value_tree returned.now)) (contexts.own_result (context_in context.now) (drafted draft.old)) ((expressions.ways (context_in context.now) (value_tree returned.now)).value (drafted draft.old))) }
+{
     let variable = draft.object(context.locals.len());
     let tree = value(context, draft, returned)?;
     set(draft, returns, returned.int_type(), variable, tree)
@@ -30,7 +35,9 @@ pub fn return_value(
     draft: &mut Draft,
     left: usize,
     returned: &Option<Value>,
-) -> Result<(), AllocError> {
+) -> Result<(), AllocError>
+    ensures { OnOk result (drafted draft.new ≡ rows.returned (context_in context.now) left (context_in context.now).returns (option_map value_tree returned.now) (drafted draft.old)) }
+{
     match context.returns {
         None => draft.away(left),
         Some(returns) => match returned {

@@ -15,7 +15,11 @@ use pk_typed::{Body, Function};
 use std::alloc::AllocError;
 
 // The parameters, which are the first objects: as many as there are types.
-fn introduce_all(context: &Context<'_>, draft: &mut Draft, parameters: &[IntType]) -> Result<(), AllocError> {
+fn introduce_all(
+    context: &Context<'_>,
+    draft: &mut Draft,
+    parameters: &[IntType],
+) -> Result<(), AllocError> {
     for object in 0..parameters.len() {
         introduce(context, draft, object)?;
     }
@@ -23,7 +27,11 @@ fn introduce_all(context: &Context<'_>, draft: &mut Draft, parameters: &[IntType
 }
 
 // The result, behind the objects.
-fn add_result(context: &Context<'_>, draft: &mut Draft, returns: Option<IntType>) -> Result<(), AllocError> {
+fn add_result(
+    context: &Context<'_>,
+    draft: &mut Draft,
+    returns: Option<IntType>,
+) -> Result<(), AllocError> {
     match returns {
         None => Ok(()),
         Some(int_type) => draft.object_is(

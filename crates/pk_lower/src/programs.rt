@@ -12,8 +12,8 @@ use pk_ctypes::IntType;
 use pk_draft::{Draft, LowerError, Size, no_region};
 use pk_graph::{Start, Variable};
 use pk_lower_expression::{Context, length_of_object};
-use pk_typed::{FileObject, Local, Unit};
 use pk_typed as typed;
+use pk_typed::{FileObject, Local, Unit};
 use std::alloc::{AllocError, Global};
 
 // The greatest number of a point.
@@ -139,13 +139,22 @@ fn file_variables(alloc: Global, unit: &Unit) -> Result<Vec<Variable>, AllocErro
 
 fn whole_size(sizes: &[Option<Size>], paths: &Paths) -> Size {
     if paths.len() == 0 {
-        Size { points: 0, variables: 0 }
+        Size {
+            points: 0,
+            variables: 0,
+        }
     } else {
         let function = paths.path(0).function;
         if function < sizes.len() {
-            sizes[function].unwrap_or(Size { points: 0, variables: 0 })
+            sizes[function].unwrap_or(Size {
+                points: 0,
+                variables: 0,
+            })
         } else {
-            Size { points: 0, variables: 0 }
+            Size {
+                points: 0,
+                variables: 0,
+            }
         }
     }
 }
@@ -164,7 +173,13 @@ pub fn draft(alloc: Global, unit: &Unit, paths: &Paths) -> Result<Draft, LowerEr
         let path = paths.path(number);
         let context = context(alloc, unit, &sizes, number, first, path.function);
         let region = draft.region(number);
-        lower_part(&context, &mut draft, path.function, path.caller.is_none(), region)?;
+        lower_part(
+            &context,
+            &mut draft,
+            path.function,
+            path.caller.is_none(),
+            region,
+        )?;
         first = first
             .checked_add(count_of_calls(unit, path.function))
             .ok_or(AllocError)?;

@@ -1,19 +1,22 @@
 // The lowering of statements.
 
-ghost use Rattle.std.specs.Prelude.{◌≡◌, IfOk, OnOk};
-ghost use Rattle.pk_typed.specs.Views.{value_tree, statement_tree, item_trees};
+ghost use Rattle.std.specs.Prelude.{◌≡◌, ◌+◌, ◌<◌, ◌^◌, option_map, IfOk, OnOk};
+ghost use Rattle.pk_typed.specs.Views.{value_tree, effect_tree, for_start_tree, statement_tree, item_trees};
+ghost use Rattle.pk_draft.specs.Drafts as drafts;
 ghost use Rattle.pk_draft.specs.Shown.{drafted};
-ghost use Rattle.pk_lower.specs.Statements as rows;
+ghost use Rattle.pk_lower_expression.specs.Contexts as contexts;
+ghost use Rattle.pk_lower_expression.specs.Expressions as expressions;
 ghost use Rattle.pk_lower_expression.specs.Views.{context_in};
+ghost use Rattle.pk_lower.specs.Statements as rows;
 
 use crate::declarations::{declare, declare_all};
 use crate::jumps::return_value;
 use crate::switches::begin_switch;
+use pk_ctypes::{IntType, Pos};
 use pk_draft::Draft;
 use pk_graph::Instr;
 use pk_lower_expression::{Context, choose, perform};
 use pk_typed::{Effect, ForHead, ForStart, Item, Statement, Value};
-use pk_ctypes::{IntType, Pos};
 use std::alloc::AllocError;
 
 /// Where break, continue and return go; the first of the function's labels, and of the innermost switch the first of its cases and its default.
@@ -28,19 +31,29 @@ pub struct Exits {
 }
 
 // A point of a row of them.
-fn point_of(first: usize, number: usize) -> Result<usize, AllocError> {
+fn point_of(first: usize, number: usize) -> Result<usize, AllocError>
+    ensures { IfOk result (λ p. p ≡ first + number) }
+{
     first.checked_add(number).ok_or(AllocError)
 }
 
 // An optional expression for its effect.
-fn perform_if(context: &Context<'_>, draft: &mut Draft, effect: &Option<Effect>) -> Result<(), AllocError> {
+fn perform_if(
+    context: &Context<'_>,
+    draft: &mut Draft,
+    effect: &Option<Effect>,
+) -> Result<(), AllocError>
+    ensures { OnOk result (drafted draft.new ≡ rows.performed_if (context_in context.now) (option_map effect_tree effect.now) (drafted draft.old)) }
+{
     match effect {
         None => Ok(()),
         Some(effect) => perform(context, draft, effect),
     }
 }
 
-fn start_for(context: &Context<'_>, draft: &mut Draft, start: &ForStart) -> Result<(), AllocError> {
+fn start_for(context: &Context<'_>, draft: &mut Draft, start: &ForStart) -> Result<(), AllocError>
+    ensures { OnOk result (drafted draft.new ≡ rows.for_start (context_in context.now) (for_start_tree start.now) (drafted draft.old)) }
+{
     match start {
         ForStart::Declared(objects) => declare_all(context, draft, objects.as_slice()),
         ForStart::Effect(effect) => perform_if(context, draft, effect),
@@ -53,7 +66,9 @@ fn test_for(
     if_true: usize,
     if_false: usize,
     test: &Option<Value>,
-) -> Result<(), AllocError> {
+) -> Result<(), AllocError>
+    ensures { OnOk result (drafted draft.new ≡ rows.for_test (context_in context.now) (option_map value_tree test.now) if_true if_false (drafted draft.old)) }
+{
     match test {
         None => draft.link(Instr::skip(), if_true),
         Some(test) => choose(context, draft, if_true, if_false, test),
@@ -66,7 +81,11 @@ fn begin_if(
     draft: &mut Draft,
     at: Pos,
     condition: &Value,
-) -> Result<usize, AllocError> {
+) -> Result<usize, AllocError>
+    ensures draft { OnOk result (drafted draft.new ≡ rows.branching at (expressions.ways (context_in context.now) (value_tree condition.now)) (drafted draft.old)) }
+    ensures first { IfOk result (λ p. p ≡ (drafted draft.old).points) }
+    ensures fits { IfOk result (λ p. p + 2 < 2 ^ 64) }
+{
     draft.on(at);
     let first = draft.fresh(2)?;
     choose(context, draft, first, first + 1, condition)?;
@@ -75,7 +94,9 @@ fn begin_if(
 }
 
 // A new point where both ends meet.
-fn end_if(draft: &mut Draft, at: Pos, end: usize) -> Result<(), AllocError> {
+fn end_if(draft: &mut Draft, at: Pos, end: usize) -> Result<(), AllocError>
+    ensures { OnOk result (drafted draft.new ≡ rows.meeting at end (drafted draft.old)) }
+{
     let other = draft.point();
     draft.on(at);
     let join = draft.fresh(1)?;
@@ -86,7 +107,11 @@ fn end_if(draft: &mut Draft, at: Pos, end: usize) -> Result<(), AllocError> {
 }
 
 // Three new points; on at the first, with an edge to it.
-fn begin_loop(draft: &mut Draft) -> Result<usize, AllocError> {
+fn begin_loop(draft: &mut Draft) -> Result<usize, AllocError>
+    ensures draft { OnOk result (drafted draft.new ≡ rows.loop_begun (drafted draft.old)) }
+    ensures first { IfOk result (λ p. p ≡ (drafted draft.old).points) }
+    ensures fits { IfOk result (λ p. p + 3 < 2 ^ 64) }
+{
     let first = draft.fresh(3)?;
     draft.go(Instr::skip(), first)?;
     Ok(first)
@@ -102,7 +127,9 @@ fn round(
     broken: usize,
     to: usize,
     body: &Statement,
-) -> Result<(), AllocError> {
+) -> Result<(), AllocError>
+    ensures { OnOk result (drafted draft.new ≡ rows.round exits (rows.lowered (context_in context.now) (statement_tree body.now)) from broken to (drafted draft.old)) }
+{
     draft.at(from);
     let inner = Exits {
         broken,
@@ -121,7 +148,9 @@ fn lower_while(
     at: Pos,
     condition: &Value,
     body: &Statement,
-) -> Result<(), AllocError> {
+) -> Result<(), AllocError>
+    ensures { OnOk result (drafted draft.new ≡ rows.while_draft (expressions.ways (context_in context.now) (value_tree condition.now)) (rows.lowered (context_in context.now) (statement_tree body.now)) exits (drafts.on at (drafted draft.old))) }
+{
     draft.on(at);
     let head = begin_loop(draft)?;
     choose(context, draft, head + 1, head + 2, condition)?;
@@ -138,7 +167,9 @@ fn lower_do(
     at: Pos,
     body: &Statement,
     condition: &Value,
-) -> Result<(), AllocError> {
+) -> Result<(), AllocError>
+    ensures { OnOk result (drafted draft.new ≡ rows.do_draft at (expressions.ways (context_in context.now) (value_tree condition.now)) (rows.lowered (context_in context.now) (statement_tree body.now)) exits (drafts.on at (drafted draft.old))) }
+{
     draft.on(at);
     let first = begin_loop(draft)?;
     round(context, draft, exits, first, first + 2, first + 1, body)?;
@@ -156,7 +187,10 @@ fn lower_for(
     at: Pos,
     head: &ForHead,
     body: &Statement,
-) -> Result<(), AllocError> {
+) -> Result<(), AllocError>
+    ensures { let h = head.now in OnOk result (drafted draft.new ≡ rows.for_draft at (rows.for_start (context_in context.now) (for_start_tree h.start)) (rows.for_test (context_in context.now) (option_map value_tree h.test))
+        (rows.performed_if (context_in context.now) (option_map effect_tree h.step)) (rows.lowered (context_in context.now) (statement_tree body.now)) exits (drafts.on at (drafted draft.old))) }
+{
     draft.on(at);
     let outer = draft.here().scope;
     let end = draft.fresh(1)?;
@@ -186,9 +220,21 @@ fn lower_switch(
     cases: &[i128],
     has_default: bool,
     body: &Statement,
-) -> Result<(), AllocError> {
+) -> Result<(), AllocError>
+    ensures { OnOk result (drafted draft.new ≡ rows.switch_draft (contexts.site (context_in context.now) at) int_type (expressions.operand (value_tree value.now) (expressions.ways (context_in context.now) (value_tree value.now)))
+        cases.now has_default (rows.lowered (context_in context.now) (statement_tree body.now)) exits (drafts.on at (drafted draft.old))) }
+{
     draft.on(at);
-    let (end, exits) = begin_switch(context, draft, exits, at, int_type, value, cases, has_default)?;
+    let (end, exits) = begin_switch(
+        context,
+        draft,
+        exits,
+        at,
+        int_type,
+        value,
+        cases,
+        has_default,
+    )?;
     lower(context, draft, exits, body)?;
     draft.go(Instr::skip(), end)
 }
@@ -200,7 +246,9 @@ pub fn lower(
     draft: &mut Draft,
     exits: Exits,
     statement: &Statement,
-) -> Result<(), AllocError> {
+) -> Result<(), AllocError>
+    ensures { OnOk result (drafted draft.new ≡ rows.lowered (context_in context.now) (statement_tree statement.now) exits (drafted draft.old)) }
+{
     match statement {
         Statement::Block(_, items) => {
             let scope = draft.here().scope;
@@ -302,7 +350,9 @@ pub fn lower_items(
     draft: &mut Draft,
     exits: Exits,
     items: &[Item],
-) -> Result<(), AllocError> {
+) -> Result<(), AllocError>
+    ensures { OnOk result (drafted draft.new ≡ rows.lowered_items (context_in context.now) (item_trees items.now) exits (drafted draft.old)) }
+{
     for item in items {
         match item {
             Item::Declared(object) => declare(context, draft, object)?,

@@ -83,7 +83,15 @@ pub fn begin_switch(
     let end = draft.fresh(points)?;
     let first = end.checked_add(1).ok_or(AllocError)?;
     let otherwise = first.checked_add(count).ok_or(AllocError)?;
-    test_cases(context.alloc, draft, context.site(at), int_type, &tree, cases, first)?;
+    test_cases(
+        context.alloc,
+        draft,
+        context.site(at),
+        int_type,
+        &tree,
+        cases,
+        first,
+    )?;
     draft.away(if has_default { otherwise } else { end })?;
     let inner = Exits {
         broken: end,

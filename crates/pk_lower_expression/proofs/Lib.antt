@@ -1,2 +1,4 @@
 pub mod ShapeLemmas
 pub mod ContextLemmas
+pub mod CallLemmas
+pub mod ArmLemmas

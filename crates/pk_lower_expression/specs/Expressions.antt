@@ -72,6 +72,13 @@ pub record Two (V : Type 0) : Type 0 where
   pub second : TreeOf V
   pub draft : DraftOf V
 
+abbrev pub paired : {V : Type 0} → (first second : TreeOf V) → DraftOf V → Two V
+paired a b d = record { first = a; second = b; draft = d }
+
+-- a variable, and a draft
+abbrev pub kept_beside : {V : Type 0} → V → DraftOf V → Given V
+kept_beside x d = (variable x, d)
+
 abbrev pub two : {V : Type 0} → Waiting → Operand V → Operand V → DraftOf V → Two V
 two how a b d =
     let k = held how a.shape a.int_type (a.ways.value d) in
@@ -170,6 +177,9 @@ update_ways op s o (scalar t x) e = by_value Named t (λ d. (variable (x d), upd
 update_ways op s o (element t r a i) e = by_both
     (λ d. renew_used op s o t r (a d) e.int_type (loaded t r (a d) i e d))
     (λ d. renew_unused op s o t r (a d) e.int_type (loaded t r (a d) i e d))
+
+abbrev pub one_tree : {V : Type 0} → TreeOf V
+one_tree = constant Int (pos 1)
 
 -- the constant 1
 abbrev pub one : {V : Type 0} → Operand V

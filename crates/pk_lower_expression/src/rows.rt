@@ -338,6 +338,58 @@ pub fn renew_kept(
     write(alloc, draft, array, place, false, loaded.index, value)
 }
 
+/// `a[i] op= e`, not used, behind both operands.
+pub fn update_element(
+    alloc: Global,
+    draft: &mut Draft,
+    op: Op,
+    site: Site,
+    in_type: IntType,
+    int_type: IntType,
+    place: Site,
+    array: Array,
+    shape: Shape,
+    from: IntType,
+    index: Box<Tree>,
+    right: Box<Tree>,
+) -> Result<(), AllocError>
+    ensures { OnOk result (drafted draft.new ≡ rows.renew_unused op site in_type int_type place (array_view array) from
+        (rows.loaded_after int_type place (array_view array) shape from (two_in index.value right.value draft.old))) }
+{
+    let loaded = load_between(
+        alloc, draft, int_type, place, array, shape, from, index, right,
+    )?;
+    renew(
+        alloc, draft, op, site, in_type, int_type, place, array, from, loaded,
+    )
+}
+
+/// The same, used.
+pub fn update_element_kept(
+    alloc: Global,
+    draft: &mut Draft,
+    op: Op,
+    site: Site,
+    in_type: IntType,
+    int_type: IntType,
+    place: Site,
+    array: Array,
+    shape: Shape,
+    from: IntType,
+    index: Box<Tree>,
+    right: Box<Tree>,
+) -> Result<Box<Tree>, AllocError>
+    ensures { IfOk result (λ e. given e.value draft.new ≡ rows.renew_used op site in_type int_type place (array_view array) from
+        (rows.loaded_after int_type place (array_view array) shape from (two_in index.value right.value draft.old))) }
+{
+    let loaded = load_between(
+        alloc, draft, int_type, place, array, shape, from, index, right,
+    )?;
+    renew_kept(
+        alloc, draft, op, site, in_type, int_type, place, array, from, loaded,
+    )
+}
+
 /// `a[i]++`, used: the old value is given.
 pub fn renew_after(
     alloc: Global,
@@ -406,6 +458,22 @@ pub fn step(
         number,
         one,
     )
+}
+
+/// `++x`, used.
+pub fn step_kept(
+    alloc: Global,
+    draft: &mut Draft,
+    op: Op,
+    site: Site,
+    in_type: IntType,
+    int_type: IntType,
+    number: usize,
+) -> Result<Box<Tree>, AllocError>
+    ensures { IfOk result (λ e. given e.value draft.new ≡ (tree.variable number, rows.update_scalar op site in_type int_type number rows.one (drafted draft.old))) }
+{
+    step(alloc, draft, op, site, in_type, int_type, number)?;
+    variable(alloc, number)
 }
 
 /// `x++`, used.
