@@ -211,7 +211,7 @@ variables_{tag} : List Known
 variables_{tag} = {show(('list', vs))}
 
 same_{tag} : checked unit_{tag} paths_{tag} ≡ (points_{tag}, variables_{tag})
-unfolding unit_{tag} paths_{tag} points_{tag} variables_{tag} body_of type_of
+unfolding unit_{tag} paths_{tag} points_{tag} variables_{tag} body_of calls_of type_of
 same_{tag} = refl
 '''
 print(out, end='')

@@ -9,6 +9,7 @@ use Rattle.pk_calls.specs.Calls.{body_of, calls_of}
 use Rattle.pk_graph.specs.Trees.{constant, Set, Havoc, Skip}
 use Rattle.pk_graph.specs.Graphs.{StartOf, number_start, VariableOf, no_variable}
 use Rattle.pk_draft.specs.declared.drafts.Region.{Region}
+use Rattle.pk_draft.specs.declared.drafts.Label.{Label}
 use Rattle.pk_draft.specs.declared.drafts.Size.{Size}
 use Rattle.pk_draft.specs.Drafts.{Names, by_number, no_region, empty_draft, first_draft, DraftOf, region_of, begun_at, on, standing, fresh, placed, inner, with_object, go, emit}
 use Rattle.pk_lower_expression.specs.Contexts.{no_size, size_in, Context, own_result, length_of_start}
@@ -58,7 +59,7 @@ with_result c (Some t) d = with_object (length c.locals) (inner None t None c.pa
 -- A path is entered, at the function's `{`, with the file's names in scope: its parameters, whose names are in scope, and its result.
 abbrev pub begun : {V : Type 0} → Context → FunctionTree → BodyTree → Region → DraftOf V → DraftOf V
 begun c g b r d =
-    let here = record { at = b.opened; path = c.path; scope = b.visible } in
+    let here : Label = record { at = b.opened; path = c.path; scope = b.visible } in
     with_result c g.returns (all_introduced c 0 g.parameters (begun_at r here (length c.locals + 1) d))
 
 -- nothing leads to the entry, so that its point is made here

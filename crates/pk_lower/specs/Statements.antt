@@ -11,7 +11,7 @@ use Rattle.pk_lower.specs.declared.statements.Exits.{Exits}
 use Rattle.pk_graph.specs.declared.trees.Site.{Site}
 use Rattle.pk_graph.specs.Kinds.{count_of}
 use Rattle.pk_graph.specs.Trees.{TreeOf, constant, ArrayOf, Skip, Havoc, Clear, Store}
-use Rattle.pk_draft.specs.Drafts.{DraftOf, at, on, in_scope, scoped, with_name, fresh, inner, with_object, link, go, emit, away, come}
+use Rattle.pk_draft.specs.Drafts.{DraftOf, Given, at, on, in_scope, scoped, with_name, fresh, inner, with_object, link, go, emit, away, come}
 use Rattle.pk_draft.specs.Folding.{conversion, binary_tree}
 use Rattle.pk_lower_expression.specs.declared.shapes.Waiting.TheVariants.{Strong}
 use Rattle.pk_lower_expression.specs.Shapes.{converted_shape}

@@ -16,8 +16,8 @@ use Rattle.pk_graph.specs.Trees as g
 use Rattle.pk_graph.specs.Trees.{InstrOf, ArrayOf}
 use Rattle.pk_graph.specs.Graphs.{VariableOf, EdgeOf, PointOf, GraphOf, variable_at}
 use Rattle.pk_typed.specs.Types.{type_of}
-use Rattle.pk_calls.specs.Calls.{body_of}
-use Rattle.pk_lower.specs.Parts.{sizes, program_draft}
+use Rattle.pk_calls.specs.Calls.{body_of, calls_of}
+use Rattle.pk_lower.specs.Parts.{sizes_of, program_draft}
 use Rattle.pk_lower.specs.Numbering.{graph_of}
 
 abbrev p : ℕ → ℕ → Pos
@@ -90,7 +90,7 @@ variables_arguments : List Known
 variables_arguments = (record { name = (Some (97 ∷ [])); int_type = c.Int; length = None; } ∷ record { name = None; int_type = c.Int; length = None; } ∷ record { name = (Some (98 ∷ [])); int_type = c.Int; length = None; } ∷ record { name = (Some (99 ∷ [])); int_type = c.Int; length = None; } ∷ record { name = None; int_type = c.Int; length = None; } ∷ record { name = (Some (112 ∷ [])); int_type = c.Int; length = None; } ∷ record { name = (Some (113 ∷ [])); int_type = c.Int; length = None; } ∷ record { name = None; int_type = c.Int; length = None; } ∷ record { name = (Some (112 ∷ [])); int_type = c.Int; length = None; } ∷ record { name = (Some (113 ∷ [])); int_type = c.Int; length = None; } ∷ record { name = (Some (114 ∷ [])); int_type = c.Int; length = None; } ∷ record { name = None; int_type = c.Int; length = None; } ∷ record { name = (Some (112 ∷ [])); int_type = c.Int; length = None; } ∷ record { name = (Some (113 ∷ [])); int_type = c.Int; length = None; } ∷ record { name = None; int_type = c.Int; length = None; } ∷ record { name = (Some (112 ∷ [])); int_type = c.Int; length = None; } ∷ record { name = (Some (113 ∷ [])); int_type = c.Int; length = None; } ∷ record { name = None; int_type = c.Int; length = None; } ∷ record { name = (Some (112 ∷ [])); int_type = c.Int; length = None; } ∷ record { name = (Some (113 ∷ [])); int_type = c.Int; length = None; } ∷ record { name = (Some (114 ∷ [])); int_type = c.Int; length = None; } ∷ record { name = None; int_type = c.Int; length = None; } ∷ record { name = (Some (112 ∷ [])); int_type = c.Int; length = None; } ∷ record { name = (Some (113 ∷ [])); int_type = c.Int; length = None; } ∷ record { name = None; int_type = c.Int; length = None; } ∷ record { name = (Some (112 ∷ [])); int_type = c.Int; length = None; } ∷ record { name = (Some (113 ∷ [])); int_type = c.Int; length = None; } ∷ record { name = None; int_type = c.Int; length = None; } ∷ [])
 
 same_arguments : checked unit_arguments paths_arguments ≡ (points_arguments, variables_arguments)
-unfolding unit_arguments paths_arguments points_arguments variables_arguments body_of type_of
+unfolding unit_arguments paths_arguments points_arguments variables_arguments body_of calls_of type_of
 same_arguments = refl
 
 unit_calls : UnitTree
@@ -106,7 +106,7 @@ variables_calls : List Known
 variables_calls = (record { name = (Some (103 ∷ [])); int_type = c.Int; length = None; } ∷ record { name = None; int_type = c.Int; length = None; } ∷ record { name = (Some (120 ∷ [])); int_type = c.Int; length = None; } ∷ record { name = (Some (112 ∷ [])); int_type = c.Int; length = None; } ∷ record { name = (Some (113 ∷ [])); int_type = c.Int; length = None; } ∷ record { name = None; int_type = c.Int; length = None; } ∷ record { name = None; int_type = c.Int; length = None; } ∷ record { name = None; int_type = c.Int; length = None; } ∷ record { name = None; int_type = c.Int; length = None; } ∷ record { name = (Some (112 ∷ [])); int_type = c.Int; length = None; } ∷ record { name = (Some (113 ∷ [])); int_type = c.Int; length = None; } ∷ record { name = None; int_type = c.Int; length = None; } ∷ record { name = (Some (112 ∷ [])); int_type = c.Int; length = None; } ∷ record { name = (Some (113 ∷ [])); int_type = c.Int; length = None; } ∷ record { name = None; int_type = c.Int; length = None; } ∷ record { name = (Some (112 ∷ [])); int_type = c.Int; length = None; } ∷ record { name = (Some (113 ∷ [])); int_type = c.Int; length = None; } ∷ record { name = None; int_type = c.Int; length = None; } ∷ record { name = None; int_type = c.Int; length = None; } ∷ record { name = (Some (112 ∷ [])); int_type = c.Int; length = None; } ∷ record { name = (Some (113 ∷ [])); int_type = c.Int; length = None; } ∷ record { name = None; int_type = c.Int; length = None; } ∷ record { name = None; int_type = c.Int; length = None; } ∷ record { name = (Some (110 ∷ [])); int_type = c.Int; length = None; } ∷ record { name = (Some (99 ∷ [])); int_type = c.Char; length = None; } ∷ record { name = None; int_type = c.Int; length = None; } ∷ record { name = (Some (110 ∷ [])); int_type = c.Int; length = None; } ∷ record { name = None; int_type = c.Int; length = None; } ∷ record { name = (Some (108 ∷ 111 ∷ 99 ∷ [])); int_type = c.Int; length = None; } ∷ record { name = None; int_type = c.Int; length = None; } ∷ record { name = (Some (112 ∷ [])); int_type = c.Int; length = None; } ∷ record { name = (Some (113 ∷ [])); int_type = c.Int; length = None; } ∷ record { name = None; int_type = c.Int; length = None; } ∷ record { name = (Some (99 ∷ [])); int_type = c.Char; length = None; } ∷ record { name = None; int_type = c.Int; length = None; } ∷ record { name = (Some (99 ∷ [])); int_type = c.Char; length = None; } ∷ record { name = None; int_type = c.Int; length = None; } ∷ record { name = (Some (99 ∷ [])); int_type = c.Char; length = None; } ∷ record { name = None; int_type = c.Int; length = None; } ∷ record { name = None; int_type = c.Char; length = None; } ∷ record { name = None; int_type = c.Int; length = None; } ∷ record { name = (Some (110 ∷ [])); int_type = c.Int; length = None; } ∷ record { name = (Some (112 ∷ [])); int_type = c.Int; length = None; } ∷ record { name = (Some (113 ∷ [])); int_type = c.Int; length = None; } ∷ record { name = None; int_type = c.Int; length = None; } ∷ record { name = (Some (110 ∷ [])); int_type = c.Int; length = None; } ∷ record { name = None; int_type = c.Int; length = None; } ∷ record { name = (Some (108 ∷ 111 ∷ 99 ∷ [])); int_type = c.Int; length = None; } ∷ record { name = None; int_type = c.Int; length = None; } ∷ record { name = (Some (112 ∷ [])); int_type = c.Int; length = None; } ∷ record { name = (Some (113 ∷ [])); int_type = c.Int; length = None; } ∷ record { name = None; int_type = c.Int; length = None; } ∷ record { name = (Some (99 ∷ [])); int_type = c.Char; length = None; } ∷ record { name = None; int_type = c.Int; length = None; } ∷ [])
 
 same_calls : checked unit_calls paths_calls ≡ (points_calls, variables_calls)
-unfolding unit_calls paths_calls points_calls variables_calls body_of type_of
+unfolding unit_calls paths_calls points_calls variables_calls body_of calls_of type_of
 same_calls = refl
 
 unit_conv : UnitTree
@@ -122,7 +122,7 @@ variables_conv : List Known
 variables_conv = (record { name = None; int_type = c.Int; length = None; } ∷ record { name = (Some (99 ∷ [])); int_type = c.SChar; length = None; } ∷ record { name = (Some (117 ∷ [])); int_type = c.UChar; length = None; } ∷ record { name = (Some (115 ∷ [])); int_type = c.Short; length = None; } ∷ record { name = (Some (118 ∷ [])); int_type = c.UInt; length = None; } ∷ record { name = (Some (108 ∷ [])); int_type = c.Long; length = None; } ∷ record { name = (Some (109 ∷ [])); int_type = c.ULong; length = None; } ∷ [])
 
 same_conv : checked unit_conv paths_conv ≡ (points_conv, variables_conv)
-unfolding unit_conv paths_conv points_conv variables_conv body_of type_of
+unfolding unit_conv paths_conv points_conv variables_conv body_of calls_of type_of
 same_conv = refl
 
 unit_elements : UnitTree
@@ -138,7 +138,7 @@ variables_elements : List Known
 variables_elements = (record { name = (Some (116 ∷ [])); int_type = c.Int; length = (Some 4); } ∷ record { name = (Some (98 ∷ [])); int_type = c.Char; length = (Some 10); } ∷ record { name = None; int_type = c.Int; length = None; } ∷ record { name = (Some (105 ∷ [])); int_type = c.Int; length = None; } ∷ record { name = (Some (106 ∷ [])); int_type = c.Int; length = None; } ∷ record { name = (Some (117 ∷ [])); int_type = c.UInt; length = None; } ∷ record { name = (Some (97 ∷ [])); int_type = c.Int; length = (Some 3); } ∷ record { name = (Some (100 ∷ [])); int_type = c.Int; length = (Some 2); } ∷ record { name = None; int_type = c.Int; length = None; } ∷ record { name = None; int_type = c.Int; length = None; } ∷ record { name = None; int_type = c.Int; length = None; } ∷ record { name = None; int_type = c.Int; length = None; } ∷ record { name = None; int_type = c.Int; length = None; } ∷ record { name = None; int_type = c.Int; length = None; } ∷ record { name = None; int_type = c.Int; length = None; } ∷ record { name = None; int_type = c.Int; length = None; } ∷ record { name = None; int_type = c.Int; length = None; } ∷ record { name = None; int_type = c.Int; length = None; } ∷ record { name = None; int_type = c.Int; length = None; } ∷ record { name = None; int_type = c.Int; length = None; } ∷ record { name = None; int_type = c.Int; length = None; } ∷ record { name = None; int_type = c.Int; length = None; } ∷ record { name = None; int_type = c.Int; length = None; } ∷ record { name = None; int_type = c.Int; length = None; } ∷ record { name = None; int_type = c.Int; length = None; } ∷ record { name = None; int_type = c.Int; length = None; } ∷ record { name = None; int_type = c.Int; length = None; } ∷ record { name = None; int_type = c.Int; length = None; } ∷ record { name = None; int_type = c.Int; length = None; } ∷ record { name = None; int_type = c.Int; length = None; } ∷ record { name = None; int_type = c.UInt; length = None; } ∷ record { name = None; int_type = c.Char; length = None; } ∷ record { name = None; int_type = c.Char; length = None; } ∷ record { name = None; int_type = c.Int; length = None; } ∷ record { name = None; int_type = c.Char; length = None; } ∷ record { name = None; int_type = c.Int; length = None; } ∷ record { name = None; int_type = c.Int; length = None; } ∷ record { name = None; int_type = c.Int; length = None; } ∷ record { name = None; int_type = c.Int; length = None; } ∷ record { name = None; int_type = c.Int; length = None; } ∷ record { name = None; int_type = c.Int; length = None; } ∷ record { name = None; int_type = c.Int; length = None; } ∷ record { name = None; int_type = c.Int; length = None; } ∷ record { name = None; int_type = c.Int; length = None; } ∷ record { name = None; int_type = c.Int; length = None; } ∷ record { name = None; int_type = c.Int; length = None; } ∷ record { name = None; int_type = c.Int; length = None; } ∷ record { name = None; int_type = c.Int; length = None; } ∷ record { name = None; int_type = c.Int; length = None; } ∷ record { name = None; int_type = c.Int; length = None; } ∷ record { name = None; int_type = c.Int; length = None; } ∷ record { name = None; int_type = c.Int; length = None; } ∷ [])
 
 same_elements : checked unit_elements paths_elements ≡ (points_elements, variables_elements)
-unfolding unit_elements paths_elements points_elements variables_elements body_of type_of
+unfolding unit_elements paths_elements points_elements variables_elements body_of calls_of type_of
 same_elements = refl
 
 unit_entry : UnitTree
@@ -154,7 +154,7 @@ variables_entry : List Known
 variables_entry = (record { name = (Some (103 ∷ [])); int_type = c.Int; length = None; } ∷ record { name = (Some (97 ∷ [])); int_type = c.Int; length = None; } ∷ record { name = (Some (98 ∷ [])); int_type = c.UChar; length = None; } ∷ record { name = None; int_type = c.Int; length = None; } ∷ record { name = (Some (103 ∷ [])); int_type = c.Int; length = None; } ∷ [])
 
 same_entry : checked unit_entry paths_entry ≡ (points_entry, variables_entry)
-unfolding unit_entry paths_entry points_entry variables_entry body_of type_of
+unfolding unit_entry paths_entry points_entry variables_entry body_of calls_of type_of
 same_entry = refl
 
 unit_falls : UnitTree
@@ -170,7 +170,7 @@ variables_falls : List Known
 variables_falls = (record { name = None; int_type = c.Int; length = None; } ∷ record { name = (Some (120 ∷ [])); int_type = c.Int; length = None; } ∷ record { name = None; int_type = c.Int; length = None; } ∷ record { name = None; int_type = c.Int; length = None; } ∷ record { name = None; int_type = c.Int; length = None; } ∷ record { name = None; int_type = c.Int; length = None; } ∷ record { name = None; int_type = c.Int; length = None; } ∷ [])
 
 same_falls : checked unit_falls paths_falls ≡ (points_falls, variables_falls)
-unfolding unit_falls paths_falls points_falls variables_falls body_of type_of
+unfolding unit_falls paths_falls points_falls variables_falls body_of calls_of type_of
 same_falls = refl
 
 unit_hidden : UnitTree
@@ -186,7 +186,7 @@ variables_hidden : List Known
 variables_hidden = (record { name = (Some (120 ∷ [])); int_type = c.Int; length = None; } ∷ record { name = (Some (121 ∷ [])); int_type = c.Int; length = (Some 3); } ∷ record { name = (Some (122 ∷ [])); int_type = c.Long; length = None; } ∷ record { name = (Some (119 ∷ [])); int_type = c.Int; length = None; } ∷ record { name = None; int_type = c.Int; length = None; } ∷ record { name = (Some (122 ∷ [])); int_type = c.Int; length = None; } ∷ record { name = (Some (120 ∷ [])); int_type = c.Int; length = None; } ∷ record { name = (Some (121 ∷ [])); int_type = c.Int; length = None; } ∷ record { name = None; int_type = c.Int; length = None; } ∷ record { name = (Some (120 ∷ [])); int_type = c.Int; length = None; } ∷ record { name = (Some (121 ∷ [])); int_type = c.Int; length = None; } ∷ record { name = (Some (120 ∷ [])); int_type = c.Int; length = None; } ∷ record { name = (Some (120 ∷ [])); int_type = c.Int; length = None; } ∷ [])
 
 same_hidden : checked unit_hidden paths_hidden ≡ (points_hidden, variables_hidden)
-unfolding unit_hidden paths_hidden points_hidden variables_hidden body_of type_of
+unfolding unit_hidden paths_hidden points_hidden variables_hidden body_of calls_of type_of
 same_hidden = refl
 
 unit_jumps : UnitTree
@@ -202,7 +202,7 @@ variables_jumps : List Known
 variables_jumps = (record { name = None; int_type = c.Int; length = None; } ∷ record { name = (Some (105 ∷ [])); int_type = c.Int; length = None; } ∷ record { name = (Some (106 ∷ [])); int_type = c.Int; length = None; } ∷ [])
 
 same_jumps : checked unit_jumps paths_jumps ≡ (points_jumps, variables_jumps)
-unfolding unit_jumps paths_jumps points_jumps variables_jumps body_of type_of
+unfolding unit_jumps paths_jumps points_jumps variables_jumps body_of calls_of type_of
 same_jumps = refl
 
 unit_logic : UnitTree
@@ -218,7 +218,7 @@ variables_logic : List Known
 variables_logic = (record { name = None; int_type = c.Int; length = None; } ∷ record { name = (Some (97 ∷ [])); int_type = c.Int; length = None; } ∷ record { name = (Some (98 ∷ [])); int_type = c.Int; length = None; } ∷ record { name = (Some (99 ∷ [])); int_type = c.Int; length = None; } ∷ record { name = None; int_type = c.Int; length = None; } ∷ record { name = None; int_type = c.Int; length = None; } ∷ record { name = None; int_type = c.Int; length = None; } ∷ record { name = None; int_type = c.Int; length = None; } ∷ record { name = None; int_type = c.Int; length = None; } ∷ record { name = None; int_type = c.Int; length = None; } ∷ record { name = None; int_type = c.Int; length = None; } ∷ record { name = None; int_type = c.Int; length = None; } ∷ record { name = None; int_type = c.Int; length = None; } ∷ record { name = None; int_type = c.Int; length = None; } ∷ record { name = None; int_type = c.Int; length = None; } ∷ record { name = None; int_type = c.Int; length = None; } ∷ record { name = None; int_type = c.Int; length = None; } ∷ record { name = None; int_type = c.Int; length = None; } ∷ record { name = None; int_type = c.Int; length = None; } ∷ [])
 
 same_logic : checked unit_logic paths_logic ≡ (points_logic, variables_logic)
-unfolding unit_logic paths_logic points_logic variables_logic body_of type_of
+unfolding unit_logic paths_logic points_logic variables_logic body_of calls_of type_of
 same_logic = refl
 
 unit_loops : UnitTree
@@ -234,7 +234,7 @@ variables_loops : List Known
 variables_loops = (record { name = None; int_type = c.Int; length = None; } ∷ record { name = (Some (115 ∷ [])); int_type = c.Int; length = None; } ∷ record { name = (Some (105 ∷ [])); int_type = c.Int; length = None; } ∷ record { name = (Some (113 ∷ [])); int_type = c.Int; length = None; } ∷ record { name = (Some (107 ∷ [])); int_type = c.Int; length = None; } ∷ record { name = (Some (115 ∷ [])); int_type = c.Int; length = None; } ∷ record { name = (Some (97 ∷ [])); int_type = c.Int; length = None; } ∷ record { name = (Some (98 ∷ [])); int_type = c.Int; length = None; } ∷ [])
 
 same_loops : checked unit_loops paths_loops ≡ (points_loops, variables_loops)
-unfolding unit_loops paths_loops points_loops variables_loops body_of type_of
+unfolding unit_loops paths_loops points_loops variables_loops body_of calls_of type_of
 same_loops = refl
 
 unit_overflow : UnitTree
@@ -250,7 +250,7 @@ variables_overflow : List Known
 variables_overflow = (record { name = (Some (97 ∷ [])); int_type = c.Int; length = None; } ∷ record { name = (Some (98 ∷ [])); int_type = c.Long; length = None; } ∷ record { name = None; int_type = c.Int; length = None; } ∷ record { name = (Some (116 ∷ [])); int_type = c.Int; length = (Some 2); } ∷ record { name = None; int_type = c.Int; length = None; } ∷ record { name = None; int_type = c.Int; length = None; } ∷ [])
 
 same_overflow : checked unit_overflow paths_overflow ≡ (points_overflow, variables_overflow)
-unfolding unit_overflow paths_overflow points_overflow variables_overflow body_of type_of
+unfolding unit_overflow paths_overflow points_overflow variables_overflow body_of calls_of type_of
 same_overflow = refl
 
 unit_scalars : UnitTree
@@ -266,7 +266,7 @@ variables_scalars : List Known
 variables_scalars = (record { name = (Some (103 ∷ [])); int_type = c.Int; length = None; } ∷ record { name = (Some (104 ∷ [])); int_type = c.UInt; length = None; } ∷ record { name = (Some (99 ∷ [])); int_type = c.Char; length = None; } ∷ record { name = None; int_type = c.Int; length = None; } ∷ record { name = (Some (120 ∷ [])); int_type = c.Int; length = None; } ∷ record { name = (Some (118 ∷ [])); int_type = c.Int; length = None; } ∷ record { name = (Some (121 ∷ [])); int_type = c.Int; length = None; } ∷ record { name = None; int_type = c.Int; length = None; } ∷ record { name = (Some (122 ∷ [])); int_type = c.Long; length = None; } ∷ record { name = None; int_type = c.Int; length = None; } ∷ record { name = None; int_type = c.Int; length = None; } ∷ record { name = None; int_type = c.Int; length = None; } ∷ record { name = None; int_type = c.Char; length = None; } ∷ record { name = None; int_type = c.Int; length = None; } ∷ record { name = None; int_type = c.Int; length = None; } ∷ record { name = None; int_type = c.Int; length = None; } ∷ record { name = None; int_type = c.Int; length = None; } ∷ record { name = None; int_type = c.Int; length = None; } ∷ record { name = None; int_type = c.UInt; length = None; } ∷ record { name = None; int_type = c.Int; length = None; } ∷ [])
 
 same_scalars : checked unit_scalars paths_scalars ≡ (points_scalars, variables_scalars)
-unfolding unit_scalars paths_scalars points_scalars variables_scalars body_of type_of
+unfolding unit_scalars paths_scalars points_scalars variables_scalars body_of calls_of type_of
 same_scalars = refl
 
 unit_specials : UnitTree
@@ -282,7 +282,7 @@ variables_specials : List Known
 variables_specials = (record { name = None; int_type = c.Int; length = None; } ∷ record { name = (Some (120 ∷ [])); int_type = c.Int; length = None; } ∷ record { name = None; int_type = c.Int; length = None; } ∷ record { name = (Some (121 ∷ [])); int_type = c.Char; length = None; } ∷ record { name = (Some (122 ∷ [])); int_type = c.Int; length = (Some 4); } ∷ record { name = (Some (108 ∷ [])); int_type = c.Long; length = None; } ∷ record { name = None; int_type = c.UChar; length = None; } ∷ record { name = None; int_type = c.Long; length = None; } ∷ record { name = None; int_type = c.Int; length = None; } ∷ record { name = None; int_type = c.Int; length = None; } ∷ record { name = None; int_type = c.Int; length = None; } ∷ [])
 
 same_specials : checked unit_specials paths_specials ≡ (points_specials, variables_specials)
-unfolding unit_specials paths_specials points_specials variables_specials body_of type_of
+unfolding unit_specials paths_specials points_specials variables_specials body_of calls_of type_of
 same_specials = refl
 
 unit_switches : UnitTree
@@ -298,7 +298,7 @@ variables_switches : List Known
 variables_switches = (record { name = None; int_type = c.Int; length = None; } ∷ record { name = (Some (120 ∷ [])); int_type = c.Int; length = None; } ∷ record { name = (Some (99 ∷ [])); int_type = c.Char; length = None; } ∷ record { name = (Some (114 ∷ [])); int_type = c.Int; length = None; } ∷ record { name = None; int_type = c.Int; length = None; } ∷ record { name = None; int_type = c.Int; length = None; } ∷ record { name = None; int_type = c.Int; length = None; } ∷ record { name = (Some (121 ∷ [])); int_type = c.Int; length = None; } ∷ record { name = None; int_type = c.Int; length = None; } ∷ record { name = None; int_type = c.Int; length = None; } ∷ record { name = None; int_type = c.Int; length = None; } ∷ [])
 
 same_switches : checked unit_switches paths_switches ≡ (points_switches, variables_switches)
-unfolding unit_switches paths_switches points_switches variables_switches body_of type_of
+unfolding unit_switches paths_switches points_switches variables_switches body_of calls_of type_of
 same_switches = refl
 
 unit_voidmain : UnitTree
@@ -314,7 +314,7 @@ variables_voidmain : List Known
 variables_voidmain = (record { name = (Some (120 ∷ [])); int_type = c.Int; length = None; } ∷ [])
 
 same_voidmain : checked unit_voidmain paths_voidmain ≡ (points_voidmain, variables_voidmain)
-unfolding unit_voidmain paths_voidmain points_voidmain variables_voidmain body_of type_of
+unfolding unit_voidmain paths_voidmain points_voidmain variables_voidmain body_of calls_of type_of
 same_voidmain = refl
 
 unit_while : UnitTree
@@ -330,5 +330,5 @@ variables_while : List Known
 variables_while = (record { name = None; int_type = c.Int; length = None; } ∷ record { name = (Some (105 ∷ [])); int_type = c.Int; length = None; } ∷ [])
 
 same_while : checked unit_while paths_while ≡ (points_while, variables_while)
-unfolding unit_while paths_while points_while variables_while body_of type_of
+unfolding unit_while paths_while points_while variables_while body_of calls_of type_of
 same_while = refl
