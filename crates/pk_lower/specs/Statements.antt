@@ -16,7 +16,7 @@ use Rattle.pk_draft.specs.Folding.{conversion, binary_tree}
 use Rattle.pk_lower_expression.specs.declared.shapes.Waiting.TheVariants.{Strong}
 use Rattle.pk_lower_expression.specs.Shapes.{converted_shape}
 use Rattle.pk_lower_expression.specs.Contexts.{Context, site, own, own_result, local_at}
-use Rattle.pk_lower_expression.specs.Expressions.{Ways, Operand, operand, held, guards, set_after, ways, performed}
+use Rattle.pk_lower_expression.specs.Expressions.{Ways, Operand, operand, held, guards, set_after, convert_after, ways, performed}
 
 -- ---- declarations
 
@@ -120,11 +120,14 @@ for_draft p first test third s x d =
 abbrev pub for_ever : {V : Type 0} → (p q : ℕ) → DraftOf V → DraftOf V
 for_ever p q d = link Skip p d
 
+-- one test, which leads to p where it holds
+abbrev pub case_test : {V : Type 0} → Site → IntType → TreeOf V → ℤ → ℕ → DraftOf V → DraftOf V
+case_test s t r z p d = at d.points (guards p d.points (binary_tree Eq s t r (constant t z), fresh 1 d))
+
 -- a test for each case in order: new points from p on are the cases'
 abbrev pub case_tests : {V : Type 0} → Site → IntType → TreeOf V → List ℤ → ℕ → DraftOf V → DraftOf V
 case_tests s t r [] p d = d
-case_tests s t r (z ∷ zs) p d =
-    case_tests s t r zs (p + 1) (at d.points (guards p d.points (binary_tree Eq s t r (constant t z), fresh 1 d)))
+case_tests s t r (z ∷ zs) p d = case_tests s t r zs (p + 1) (case_test s t r z p d)
 
 -- a switch whose end is e, behind which are its n cases and the default, from the tests of the cases from i on
 abbrev pub switch_from : {V : Type 0} → Site → IntType → TreeOf V → List ℤ → (i n e : ℕ) → Bool → (Exits → DraftOf V → DraftOf V) → Exits → DraftOf V → DraftOf V
@@ -132,11 +135,14 @@ switch_from s t r zs i n e has_default body x d =
     let a = away (if has_default then e + 1 + n else e) (case_tests s t r zs (e + 1 + i) d) in
     go Skip e (body (record x { broken = e; cases = e + 1; otherwise = e + 1 + n }) a)
 
--- the promoted value in a temporary, unless it is a constant or temporary; new end, and a point for each case and the default
+-- the promoted value in a temporary, unless it is a constant or temporary
+abbrev pub tested : {V : Type 0} → IntType → Operand V → DraftOf V → Given V
+tested t v d = held Strong (converted_shape v.int_type t v.shape) t (convert_after v.int_type t (v.ways.value d))
+
+-- new end, and a point for each case and the default
 abbrev pub switch_draft : {V : Type 0} → Site → IntType → Operand V → List ℤ → Bool → (Exits → DraftOf V → DraftOf V) → Exits → DraftOf V → DraftOf V
 switch_draft s t v zs has_default body x d =
-    let r = v.ways.value d in
-    let k = held Strong (converted_shape v.int_type t v.shape) t (conversion v.int_type t r.0, r.1) in
+    let k = tested t v d in
     switch_from s t k.0 zs 0 (length zs) k.1.points has_default body x (fresh (1 + length zs + (if has_default then 1 else 0)) k.1)
 
 -- ---- the forms

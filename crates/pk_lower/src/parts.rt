@@ -1,6 +1,7 @@
 // The part of a call path.
 
 ghost use Rattle.std.specs.Prelude.{◌≡◌, OnOk, IfOk};
+ghost use Rattle.pk_typed.specs.Views.{function_tree, body_tree};
 ghost use Rattle.pk_draft.specs.Shown.{drafted};
 ghost use Rattle.pk_lower_expression.specs.Views.{context_in};
 ghost use Rattle.pk_lower.specs.Parts as parts;
@@ -19,7 +20,9 @@ fn introduce_all(
     context: &Context<'_>,
     draft: &mut Draft,
     parameters: &[IntType],
-) -> Result<(), AllocError> {
+) -> Result<(), AllocError>
+    ensures { OnOk result (drafted draft.new ≡ parts.all_introduced (context_in context.now) 0 parameters.now (drafted draft.old)) }
+{
     for object in 0..parameters.len() {
         introduce(context, draft, object)?;
     }
@@ -31,7 +34,9 @@ fn add_result(
     context: &Context<'_>,
     draft: &mut Draft,
     returns: Option<IntType>,
-) -> Result<(), AllocError> {
+) -> Result<(), AllocError>
+    ensures { OnOk result (drafted draft.new ≡ parts.with_result (context_in context.now) returns (drafted draft.old)) }
+{
     match returns {
         None => Ok(()),
         Some(int_type) => draft.object_is(
@@ -48,7 +53,9 @@ fn begin(
     function: &Function,
     body: &Body,
     region: Region,
-) -> Result<(), AllocError> {
+) -> Result<(), AllocError>
+    ensures { OnOk result (drafted draft.new ≡ parts.begun (context_in context.now) (function_tree function.now) (body_tree body.now) region (drafted draft.old)) }
+{
     let here = Label {
         at: body.open,
         path: context.path,
@@ -60,7 +67,9 @@ fn begin(
     add_result(context, draft, function.returns)
 }
 
-fn is_main(name: &Name) -> bool {
+fn is_main(name: &Name) -> bool
+    ensures { result ≡ parts.is_main name.now }
+{
     name.as_str() == "main"
 }
 
@@ -70,7 +79,9 @@ fn end(
     draft: &mut Draft,
     name: &Name,
     returns: Option<IntType>,
-) -> Result<(), AllocError> {
+) -> Result<(), AllocError>
+    ensures { OnOk result (drafted draft.new ≡ parts.ended (context_in context.now) name.now returns (drafted draft.old)) }
+{
     match returns {
         None => Ok(()),
         Some(int_type) => {
@@ -90,7 +101,9 @@ fn lower_body(
     draft: &mut Draft,
     function: &Function,
     body: &Body,
-) -> Result<(), AllocError> {
+) -> Result<(), AllocError>
+    ensures { OnOk result (drafted draft.new ≡ parts.body_draft (context_in context.now) (function_tree function.now) (body_tree body.now) (drafted draft.old)) }
+{
     let here = draft.here();
     let count = body.labels.checked_add(1).ok_or(AllocError)?;
     let exit = draft.fresh(count)?;

@@ -1,7 +1,10 @@
 // The tests of a `switch`.
 
 ghost use Rattle.std.specs.Prelude.{◌≡◌, OnOk, IfOk};
+ghost use Rattle.pk_typed.specs.Views.{value_tree};
+ghost use Rattle.pk_graph.specs.Views.{tree_view};
 ghost use Rattle.pk_draft.specs.Shown.{drafted};
+ghost use Rattle.pk_lower_expression.specs.Expressions.{operand, ways};
 ghost use Rattle.pk_lower_expression.specs.Views.{context_in, given};
 ghost use Rattle.pk_lower.specs.Statements as rows;
 
@@ -24,7 +27,9 @@ fn test_cases(
     tree: &Tree,
     cases: &[i128],
     first: usize,
-) -> Result<(), AllocError> {
+) -> Result<(), AllocError>
+    ensures { OnOk result (drafted draft.new ≡ rows.case_tests site int_type (tree_view tree.now) cases.now first (drafted draft.old)) }
+{
     let mut point = first;
     for case in cases {
         test_case(alloc, draft, site, int_type, tree, case, point)?;
@@ -41,7 +46,9 @@ fn test_case(
     tree: &Tree,
     case: &i128,
     point: usize,
-) -> Result<(), AllocError> {
+) -> Result<(), AllocError>
+    ensures { OnOk result (drafted draft.new ≡ rows.case_test site int_type (tree_view tree.now) case.now point (drafted draft.old)) }
+{
     let next = draft.fresh(1)?;
     let copy = tree.copy(alloc)?;
     let copy = boxed(alloc, copy)?;
@@ -58,7 +65,9 @@ fn tested(
     draft: &mut Draft,
     int_type: IntType,
     switched: &Value,
-) -> Result<Box<Tree>, AllocError> {
+) -> Result<Box<Tree>, AllocError>
+    ensures { IfOk result (λ e. given e.value draft.new ≡ rows.tested int_type (operand (value_tree switched.now) (ways (context_in context.now) (value_tree switched.now))) (drafted draft.old)) }
+{
     let tree = value(context, draft, switched)?;
     let from = switched.int_type();
     let tree = converted(context.alloc, from, int_type, tree)?;
