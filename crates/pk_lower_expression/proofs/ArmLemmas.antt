@@ -224,13 +224,15 @@ unused_element c op r s k t x p i a l d es ea el =
     ∙ (ap (λ (w : Site). rows.renew_unused op r k t w a Int (rows.loaded t w a (rows.operand i (rows.ways c i)) rows.one d)) es
     ∙ ap (λ (w : ArrayOf ℕ). rows.renew_unused op r k t (site c p) w Int (rows.loaded t (site c p) w (rows.operand i (rows.ways c i)) rows.one d)) ea)
 
+update_unused_is : (op : Op) (o : Site) (k : IntType) (t : rows.Target ℕ) (d : DraftOf ℕ) → (rows.after_ways op o k t).unused d ≡ (rows.update_ways op o k t rows.one).unused d
+update_unused_is op o k (rows.scalar t x) d = refl
+update_unused_is op o k (rows.element t s a i) d = refl
+
 -- where it isn't used, the new value and the old one are one
-pub step_unused_is : (c : Context) (op : Op) (r : Site) (k : IntType) (p : PlaceTree) (prefix : Bool) (d : DraftOf ℕ)
-    → (rows.after_ways op r k (rows.target c p)).unused d ≡ (rows.step_ways op r k (rows.target c p) prefix).unused d
-step_unused_is c op r k (tree.scalar t x) true d = refl
-step_unused_is c op r k (tree.element t x q i) true d = refl
-step_unused_is c op r k (tree.scalar t x) false d = refl
-step_unused_is c op r k (tree.element t x q i) false d = refl
+pub step_unused_is : (c : Context) (op : Op) (o : Site) (k : IntType) (p : PlaceTree) (prefix : Bool) (d : DraftOf ℕ)
+    → (rows.after_ways op o k (rows.target c p)).unused d ≡ (rows.step_ways op o k (rows.target c p) prefix).unused d
+step_unused_is c op o k p true d = update_unused_is op o k (rows.target c p) d
+step_unused_is c op o k p false d = refl
 
 pub loads_for_step : (c : Context) (t : IntType) (s : Site) (a : ArrayOf ℕ) (i : ValueTree) (x y : TreeOf ℕ) (d0 d1 : DraftOf ℕ)
     → (x, d1) ≡ rows.held Weak (shape_of i) (type_of i) ((rows.ways c i).value d0)
@@ -307,23 +309,37 @@ assumed_converted e n x d0 d1 d2 d3 d4 is en e1 e2 e3 e4 =
 
 -- ---- forms that decide by their tree, or are dropped
 
+read_decides : (t : rows.Target ℕ) (p q : ℕ) (d : DraftOf ℕ) → rows.guards p q ((rows.read_ways t).value d) ≡ (rows.read_ways t).choice p q d
+read_decides (rows.scalar t x) p q d = refl
+read_decides (rows.element t s a i) p q d = refl
+
+assign_decides : (t : rows.Target ℕ) (e : rows.Operand ℕ) (p q : ℕ) (d : DraftOf ℕ) → rows.guards p q ((rows.assign_ways t e).value d) ≡ (rows.assign_ways t e).choice p q d
+assign_decides (rows.scalar t x) e p q d = refl
+assign_decides (rows.element t s a i) e p q d = refl
+
+update_decides : (op : Op) (o : Site) (k : IntType) (t : rows.Target ℕ) (e : rows.Operand ℕ) (p q : ℕ) (d : DraftOf ℕ) → rows.guards p q ((rows.update_ways op o k t e).value d) ≡ (rows.update_ways op o k t e).choice p q d
+update_decides op o k (rows.scalar t x) e p q d = refl
+update_decides op o k (rows.element t s a i) e p q d = refl
+
+after_decides : (op : Op) (o : Site) (k : IntType) (t : rows.Target ℕ) (p q : ℕ) (d : DraftOf ℕ) → rows.guards p q ((rows.after_ways op o k t).value d) ≡ (rows.after_ways op o k t).choice p q d
+after_decides op o k (rows.scalar t x) p q d = refl
+after_decides op o k (rows.element t s a i) p q d = refl
+
+step_decides : (op : Op) (o : Site) (k : IntType) (t : rows.Target ℕ) (prefix : Bool) (p q : ℕ) (d : DraftOf ℕ) → rows.guards p q ((rows.step_ways op o k t prefix).value d) ≡ (rows.step_ways op o k t prefix).choice p q d
+step_decides op o k t true p q d = update_decides op o k t rows.one p q d
+step_decides op o k t false p q d = after_decides op o k t p q d
+
 pub decided_read : (c : Context) (r : PlaceTree) (p q : ℕ) (d : DraftOf ℕ) → rows.guards p q ((rows.ways c (tree.read r)).value d) ≡ (rows.ways c (tree.read r)).choice p q d
-decided_read c (tree.scalar t x) p q d = refl
-decided_read c (tree.element t x i v) p q d = refl
+decided_read c r p q d = read_decides (rows.target c r) p q d
 
 pub decided_assign : (c : Context) (o : Pos) (r : PlaceTree) (b : ValueTree) (p q : ℕ) (d : DraftOf ℕ) → rows.guards p q ((rows.ways c (tree.assign o r b)).value d) ≡ (rows.ways c (tree.assign o r b)).choice p q d
-decided_assign c o (tree.scalar t x) b p q d = refl
-decided_assign c o (tree.element t x i v) b p q d = refl
+decided_assign c o r b p q d = assign_decides (rows.target c r) (rows.operand b (rows.ways c b)) p q d
 
 pub decided_update : (c : Context) (op : Op) (o : Pos) (k : IntType) (r : PlaceTree) (b : ValueTree) (p q : ℕ) (d : DraftOf ℕ) → rows.guards p q ((rows.ways c (tree.update op o k r b)).value d) ≡ (rows.ways c (tree.update op o k r b)).choice p q d
-decided_update c op o k (tree.scalar t x) b p q d = refl
-decided_update c op o k (tree.element t x i v) b p q d = refl
+decided_update c op o k r b p q d = update_decides op (site c o) k (rows.target c r) (rows.operand b (rows.ways c b)) p q d
 
 pub decided_step : (c : Context) (op : Op) (o : Pos) (k : IntType) (r : PlaceTree) (prefix : Bool) (p q : ℕ) (d : DraftOf ℕ) → rows.guards p q ((rows.ways c (tree.step op o k r prefix)).value d) ≡ (rows.ways c (tree.step op o k r prefix)).choice p q d
-decided_step c op o k (tree.scalar t x) true p q d = refl
-decided_step c op o k (tree.scalar t x) false p q d = refl
-decided_step c op o k (tree.element t x i v) true p q d = refl
-decided_step c op o k (tree.element t x i v) false p q d = refl
+decided_step c op o k r prefix p q d = step_decides op (site c o) k (rows.target c r) prefix p q d
 
 pub decided_unary : (c : Context) (op : Op) (o : Pos) (t : IntType) (e : ValueTree) (p q : ℕ) (d : DraftOf ℕ) → rows.is_not op ≡ false → rows.guards p q ((rows.ways c (tree.unary op o t e)).value d) ≡ (rows.ways c (tree.unary op o t e)).choice p q d
 decided_unary c op o t e p q d is =
