@@ -1,8 +1,8 @@
 -- Edges and variables of the code, one more and one in its place.
-use Rattle.std.proofs.Common.{◌≡◌, ap, arith, ℕ, suc, ◌+◌, ◌-◌, ◌<◌, ◌≤◌, List, [], ◌∷◌, ◌++◌, map, slice_set}
-use Rattle.std.proofs.lemmas.List.{map-append, map-set}
+use Rattle.std.proofs.Common.{◌≡◌, ap, sym, ◌∙◌, arith, ℕ, suc, ◌+◌, ◌-◌, ◌<◌, ◌≤◌, List, [], ◌∷◌, ◌++◌, map, replicate, slice_set, append_assoc}
+use Rattle.std.proofs.lemmas.List.{append-nil, map-append, map-set}
 use Rattle.pk_graph.specs.declared.graphs.Variable.{Variable}
-use Rattle.pk_graph.specs.Graphs.{variable_view}
+use Rattle.pk_graph.specs.Graphs.{VariableOf, no_variable, variable_view}
 use Rattle.pk_draft.specs.declared.drafts.DraftEdge.{DraftEdge}
 use Rattle.pk_draft.specs.Drafts.{DraftOf, placed, all_placed}
 use Rattle.pk_draft.specs.Answers.{edge_view}
@@ -19,3 +19,17 @@ all_placed_next p e d h =
 
 pub all_placed_none : (p e : ℕ) (d : DraftOf ℕ) → e ≤ p → all_placed (e - p) p d ≡ d
 all_placed_none p e d h = let is : e - p ≡ 0 = omega arith in ap (λ (k : ℕ). all_placed k p d) is
+
+-- one variable more, one less to come
+pub space_next : (xs : List Variable) (x : Variable) (i n : ℕ) → i < n → variable_view x ≡ no_variable
+    → map variable_view xs ++ replicate (n - i) no_variable ≡ map variable_view (xs ++ x ∷ []) ++ replicate (n - (i + 1)) no_variable
+space_next xs x i n h e =
+    let is : n - i ≡ suc (n - (i + 1)) = omega arith in
+    ap (λ (k : ℕ). map variable_view xs ++ replicate k no_variable) is
+    ∙ (ap (λ (v : VariableOf). map variable_view xs ++ v ∷ replicate (n - (i + 1)) no_variable) (sym e)
+    ∙ (sym (append_assoc (map variable_view xs) (variable_view x ∷ []) (replicate (n - (i + 1)) no_variable))
+    ∙ ap (λ (vs : List VariableOf). vs ++ replicate (n - (i + 1)) no_variable) (sym (map-append variable_view xs (x ∷ [])))))
+
+pub space_end : (xs : List VariableOf) (i n : ℕ) → n ≤ i → xs ++ replicate (n - i) no_variable ≡ xs
+space_end xs i n h =
+    let is : n - i ≡ 0 = omega arith in ap (λ (k : ℕ). xs ++ replicate k no_variable) is ∙ append-nil xs

@@ -1,9 +1,9 @@
 -- A graph under construction, and the few verbs in which the lowering is said.
-use Rattle.std.specs.Prelude.{ℕ, zero, suc, ◌+◌, List, [], ◌∷◌, ◌++◌, length, slice_set, slice_index_or, Option, Some, None}
+use Rattle.std.specs.Prelude.{ℕ, zero, suc, ◌+◌, List, [], ◌∷◌, ◌++◌, length, slice_set, slice_index_or, replicate, Option, Some, None}
 use Rattle.pk_ctypes.specs.declared.places.Pos.{Pos}
 use Rattle.pk_ctypes.specs.declared.types.IntType.{IntType}
 use Rattle.pk_graph.specs.Trees.{TreeOf, variable, InstrOf, Skip, Set}
-use Rattle.pk_graph.specs.Graphs.{VariableOf, number_start}
+use Rattle.pk_graph.specs.Graphs.{VariableOf, number_start, no_variable}
 use Rattle.pk_graph.specs.declared.graphs.Scope.{Scope}
 use Rattle.pk_draft.specs.declared.drafts.Region.{Region}
 use Rattle.pk_draft.specs.declared.drafts.Label.{Label}
@@ -136,4 +136,55 @@ entered k s d = record d {
   points = d.points + s.points;
   variables = d.variables + s.variables;
   regions = slice_set d.regions k (record { at = d.point; points = d.points; variables = d.variables });
+}
+
+-- ---- where a draft begins
+
+abbrev pub no_label : Label
+no_label = record { at = record { line = 0; column = 0 }; path = 0; scope = 0 }
+
+abbrev pub no_region : Region
+no_region = record { at = 0; points = 0; variables = 0 }
+
+abbrev pub empty_draft : {V : Type 0} → Names V → DraftOf V
+empty_draft names = record {
+  names = names;
+  point = 0;
+  here = no_label;
+  points = 0;
+  variables = 0;
+  labels = [];
+  made = [];
+  objects = [];
+  regions = [];
+  scopes = [];
+  edges = [];
+}
+
+abbrev pub region_of : {V : Type 0} → (path : ℕ) → DraftOf V → Region
+region_of k d = slice_index_or d.regions k no_region
+
+-- the part of a path is made from here on, of whose n objects none is a variable yet
+abbrev pub begun_at : {V : Type 0} → Region → Label → (n : ℕ) → DraftOf V → DraftOf V
+begun_at r l n d = record d { point = r.at; here = l; points = r.points; variables = r.variables; objects = replicate n 0 }
+
+abbrev pub entry_point : ℕ
+entry_point = 1
+
+-- the first n objects of the file come into scope in order
+abbrev pub file_scopes : ℕ → List Scope
+file_scopes zero = []
+file_scopes (suc n) = file_scopes n ++ record { variable = n; outer = n } ∷ []
+
+-- the regions of so many paths where that of the entry alone is known, behind so many objects of the file
+abbrev pub first_regions : (objects paths : ℕ) → List Region
+first_regions n k = slice_set (replicate k no_region) 0 (record { at = entry_point; points = entry_point + 1; variables = n })
+
+-- Before the first part: nowhere, the entry, and the file's objects.
+abbrev pub first_draft : {V : Type 0} → Names V → (objects : List VariableOf) → (paths : ℕ) → Size → DraftOf V
+first_draft names xs k s = record (empty_draft names) {
+  labels = replicate (s.points + (entry_point + 1)) no_label;
+  made = xs ++ replicate s.variables no_variable;
+  regions = first_regions (length xs) k;
+  scopes = file_scopes (length xs);
 }

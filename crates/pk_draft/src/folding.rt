@@ -4,7 +4,9 @@ ghost use Rattle.std.specs.Prelude.{◌≡◌, IfSome, IfOk};
 ghost use Rattle.pk_graph.specs.Trees as tree;
 ghost use Rattle.pk_graph.specs.Views.{tree_view};
 ghost use Rattle.pk_ctypes.specs.Types.{InType, represents};
-ghost use Rattle.pk_ctypes.specs.Operators.{HasRight};
+ghost use Rattle.pk_ctypes.specs.declared.types.Op.TheVariants.{Eq};
+ghost use Rattle.pk_ctypes.specs.declared.types.IntType.TheVariants.{Int};
+ghost use Rattle.pk_ctypes.specs.Operators.{HasRight, truth};
 ghost use Rattle.pk_draft.specs.Folding as folding;
 
 use pk_ctypes::{IntType, Op, apply, convert, promote, range, result_type};
@@ -133,4 +135,47 @@ fn both_boxed<A: Drop, B: Drop>(
     let first = Box::new(alloc, first)?;
     let second = Box::new(alloc, second)?;
     Ok((first, second))
+}
+
+/// Whether a tree has a number.
+pub fn equals(
+    alloc: Global,
+    site: Site,
+    int_type: IntType,
+    left: Box<Tree>,
+    number: &i128,
+) -> Result<Tree, AllocError>
+    ensures { IfOk result (λ e. tree_view e ≡ folding.binary_tree Eq site int_type (tree_view left.value) (tree.constant int_type number.now)) }
+{
+    match number_in(&left) {
+        Some(value) => Ok(truth(value == *number)),
+        None => {
+            let right = constant_boxed(alloc, int_type, number)?;
+            Ok(Tree::binary(Op::Eq, site, int_type, left, right))
+        }
+    }
+}
+
+// 1 or 0, of type int.
+fn truth(value: bool) -> Tree
+    ensures { tree_view result ≡ tree.constant Int (truth value) }
+{
+    if value {
+        Tree::constant(IntType::Int, 1)
+    } else {
+        Tree::constant(IntType::Int, 0)
+    }
+}
+
+fn constant_boxed(alloc: Global, int_type: IntType, number: &i128) -> Result<Box<Tree>, AllocError>
+    ensures { IfOk result (λ e. tree_view e.value ≡ tree.constant int_type number.now) }
+{
+    boxed(alloc, Tree::constant(int_type, *number))
+}
+
+// It is generic, so that what is dropped where memory ends is one value to the prover.
+fn boxed<T: Drop>(alloc: Global, value: T) -> Result<Box<T>, AllocError>
+    ensures { IfOk result (λ b. b.value ≡ value) }
+{
+    Ok(Box::new(alloc, value)?)
 }

@@ -5,6 +5,8 @@ mod drafts;
 mod failures;
 mod folding;
 
-pub use drafts::{Draft, DraftEdge, Label, Parts, Region, Size, inner};
+pub use drafts::{Draft, DraftEdge, Label, NOWHERE, Parts, Region, Size, inner, no_region};
 pub use failures::LowerError;
-pub use folding::{binary_tree, conversion, operated_tree, represents, right_type, unary_tree};
+pub use folding::{
+    binary_tree, conversion, equals, operated_tree, represents, right_type, unary_tree,
+};
