@@ -6,7 +6,7 @@ use Rattle.pk_plan.specs.Plans.{PlanView}
 use Rattle.pk_thresh.specs.Thresholds.{AreThresholds}
 use Rattle.pk_analysis.specs.declared.analysis.Options.{Options}
 use Rattle.pk_analysis.specs.Parts.{AreParts}
-use Rattle.pk_analysis.specs.Starts.{layout_of}
+use Rattle.pk_transfer.specs.Graphs.{layout_of}
 use Rattle.pk_analysis.specs.Flows.{Flow}
 
 -- the equations of the graph's points, with the heads and exits of the plan
