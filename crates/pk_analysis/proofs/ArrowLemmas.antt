@@ -8,7 +8,7 @@ use Rattle.std.proofs.lemmas.List.{drop_more, drop_all, length-drop, get_or-drop
 use Rattle.std.proofs.lemmas.List.Elements.{All-nil, All-cons, All-append, All-head, All-tail}
 use Rattle.pk_graph.specs.declared.graphs.Edge.{Edge}
 use Rattle.pk_graph.specs.Graphs.{EdgeOf, edge_view, PointOf, GraphOf, no_point, point_at}
-use Rattle.pk_graph.specs.WellMade.{IsGraph, IsPointOf, IsEdgeOf}
+use Rattle.pk_graph.specs.WellMade.{IsGraph}
 use Rattle.pk_analysis.specs.declared.arrows.Arrow.{Arrow}
 use Rattle.pk_analysis.specs.Arrows.{arrows_along, arrows_from, arrows_at, no_edge, row_at, AreArrows, AreMore, IsArrow}
 

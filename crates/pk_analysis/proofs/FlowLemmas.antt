@@ -1,9 +1,8 @@
 -- The equations, edge by edge.
-use Rattle.std.proofs.Common.{◌≡◌, ◌<◌, ◌≤◌, ◌+◌, ℕ, zero, suc, nat_lt, Bool, true, false, ap, ◌∙◌, sym, subst, refl, inl, inr, Option, None, Some, List, [], ◌∷◌, length, drop, map, All, arith}
+use Rattle.std.proofs.Common.{◌≡◌, ◌<◌, ◌≤◌, ◌+◌, ℕ, zero, suc, nat_lt, Bool, true, false, ap, ◌∙◌, sym, refl, Option, None, List, [], ◌∷◌, length, drop, map, arith}
 use Rattle.std.specs.List.{slice_index_or}
 use Rattle.std.proofs.lemmas.Bool.Decides.{nat_tests}
-use Rattle.std.proofs.lemmas.List.{drop_more, drop_all, get_or-map, get_or_default, length-map}
-use Rattle.pk_graph.specs.Trees.{InstrOf}
+use Rattle.std.proofs.lemmas.List.{drop_more, drop_all, get_or-map, length-map}
 use Rattle.pk_graph.specs.declared.graphs.Edge.{Edge}
 use Rattle.pk_graph.specs.Views.{instr_view}
 use Rattle.pk_graph.specs.Graphs.{EdgeOf, GraphOf, edge_view, point_at, kinds_of}

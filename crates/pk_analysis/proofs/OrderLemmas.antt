@@ -1,15 +1,12 @@
 -- The tests say what they test.
-use Rattle.std.proofs.Common.{◌≡◌, ◌<◌, ◌≤◌, ◌+◌, ◌*◌, ◌==◌, ◌&&◌, ℕ, zero, suc, ap, ◌∙◌, sym, subst, refl, Bool, true, false, Option, None, Some, List, [], ◌∷◌, length, ℤ, arith}
+use Rattle.std.proofs.Common.{◌≡◌, ◌<◌, ◌*◌, ◌==◌, ◌&&◌, ℕ, zero, suc, ap, ◌∙◌, sym, subst, refl, Bool, true, false, Option, None, Some, List, [], ◌∷◌, length, ℤ, arith}
 use Rattle.std.specs.List.{slice_index_or}
 use Rattle.std.specs.Bool.{Decides}
 use Rattle.std.specs.Ordering.{int_eq}
-use Rattle.std.proofs.lemmas.Bool.Decides.{Decides-int_eq, Decides-eqb, Decides-and, Decides-like, not_from_Decides}
-use Rattle.pk_ctypes.specs.declared.types.IntType.TheVariants.{Int}
-use Rattle.pk_interval.specs.Ranges.{Range}
-use Rattle.pk_congr.specs.Classes.{Class}
-use Rattle.pk_value.specs.Known.{Known, is_within, any_of}
+use Rattle.std.proofs.lemmas.Bool.Decides.{Decides-int_eq, Decides-eqb}
+use Rattle.pk_value.specs.Known.{Known, is_within}
 use Rattle.pk_octmat.specs.Bounds.{AtMost, is_at_most}
-use Rattle.pk_octmat.specs.Octagon.{Octagon, entry, cell_at}
+use Rattle.pk_octmat.specs.Octagon.{entry, cell_at}
 use Rattle.pk_octops.specs.Tables as tables
 use Rattle.pk_octops.proofs.Pointwise.{at_most_from, not_at_most, cells_below, cells_at}
 use Rattle.pk_state.specs.Layouts.{Layout}

@@ -1,5 +1,5 @@
 -- The parts, component by component from the last.
-use Rattle.std.proofs.Common.{◌≡◌, ◌≢◌, ◌<◌, ◌≤◌, ◌+◌, ◌-◌, ◌==◌, ℕ, zero, suc, ap, ◌∙◌, sym, subst, refl, Bool, true, false, cond, inl, inr, List, [], ◌∷◌, length, drop, set, replicate, map, All, arith}
+use Rattle.std.proofs.Common.{◌≡◌, ◌<◌, ◌≤◌, ◌+◌, ◌-◌, ◌==◌, ℕ, zero, suc, ap, ◌∙◌, sym, subst, refl, Bool, cond, inl, inr, List, ◌∷◌, length, drop, set, replicate, map, arith}
 use Rattle.std.specs.List.{slice_index_or, range_with_len}
 use Rattle.std.proofs.lemmas.List.{drop_more, drop_all, length-set, length-replicate, get_or-set_same, get_or-set_other, get_or-map, get_or_default}
 use Rattle.std.proofs.lemmas.List.FromFn.{get_or-range_with_len}

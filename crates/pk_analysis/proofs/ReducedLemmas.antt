@@ -1,5 +1,5 @@
 -- The reduced cells, point by point.
-use Rattle.std.proofs.Common.{◌≡◌, ◌+◌, ℕ, zero, suc, ap, ◌∙◌, sym, subst, Some, List, [], ◌∷◌, ◌++◌, take, map, arith}
+use Rattle.std.proofs.Common.{◌≡◌, ◌+◌, ℕ, zero, suc, ap, ◌∙◌, sym, Some, List, [], ◌∷◌, ◌++◌, take, map, arith}
 use Rattle.std.specs.List.{slice_get}
 use Rattle.std.proofs.lemmas.List.{map-append}
 use Rattle.pk_state.specs.Facts.{Stated}

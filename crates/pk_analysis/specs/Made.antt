@@ -1,5 +1,5 @@
 -- What the analysis of a graph is.
-use Rattle.std.specs.Prelude.{◌≡◌, ℕ}
+use Rattle.std.specs.Prelude.{◌≡◌}
 use Rattle.pk_graph.specs.Graphs.{GraphOf}
 use Rattle.pk_graph.specs.Shown.{graph_view}
 use Rattle.pk_plan.specs.Plans.{PlanView}

@@ -1,5 +1,5 @@
 -- The start state: what is known of each variable when a run begins.
-use Rattle.std.specs.Prelude.{ℕ, Bool, nat_lt, if◌then◌else◌, ℤ, pos, List, [], ◌∷◌, map, length}
+use Rattle.std.specs.Prelude.{Bool, nat_lt, if◌then◌else◌, ℤ, pos, List, [], ◌∷◌, map, length}
 use Rattle.pk_graph.specs.Kinds.{count_of}
 use Rattle.pk_graph.specs.Graphs.{VariableOf, StartOf, any_start, number_start, GraphOf}
 use Rattle.pk_value.specs.Known.{Known, any_of, exactly, joined}

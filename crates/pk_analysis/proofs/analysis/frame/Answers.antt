@@ -1,10 +1,9 @@
-use Rattle.std.proofs.Common.{ℕ, List, take, map, length, ap, sym, subst, ◌∙◌, arith}
+use Rattle.std.proofs.Common.{ℕ, List, map, ap, sym, subst, ◌∙◌}
 use Rattle.std.proofs.lemmas.List.{take_all}
 use Rattle.pk_ctypes.specs.declared.types.IntType.{IntType}
 use Rattle.pk_graph.specs.declared.graphs.Variable.{Variable}
 use Rattle.pk_graph.specs.Graphs.{VariableOf, variable_view}
 use Rattle.pk_graph.specs.Shown.{graph_view}
-use Rattle.pk_graph.specs.OctagonVariables.{octagon_variables_of}
 use Rattle.pk_state.specs.Layouts.{Layout, IsLayout}
 use Rattle.pk_analysis.proofs.LayoutLemmas.{types_of}
 use Rattle.pk_analysis.proofs.analysis.frame.Goals as goal

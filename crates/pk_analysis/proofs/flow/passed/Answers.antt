@@ -1,8 +1,8 @@
-use Rattle.std.proofs.Common.{◌≡◌, ◌<◌, ℕ, length, ap, sym, subst, ◌∙◌, arith}
+use Rattle.std.proofs.Common.{◌<◌, ℕ, length, ap, sym, subst, ◌∙◌, arith}
 use Rattle.std.specs.Arc.{arc_value}
 use Rattle.std.proofs.lemmas.List.{length-map}
 use Rattle.pk_graph.specs.Trees.{InstrOf}
-use Rattle.pk_graph.specs.Graphs.{EdgeOf, PointOf, edge_view, point_at}
+use Rattle.pk_graph.specs.Graphs.{edge_view}
 use Rattle.pk_graph.specs.Shown.{graph_view}
 use Rattle.pk_graph.specs.Views.{instr_view}
 use Rattle.std.specs.List.{slice_index_or}

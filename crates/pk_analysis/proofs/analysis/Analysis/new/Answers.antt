@@ -1,8 +1,6 @@
-use Rattle.std.proofs.Common.{◌∙◌, List, ap, sym, subst, arith}
-use Rattle.std.specs.Arc.{arc_value}
+use Rattle.std.proofs.Common.{◌∙◌, List, sym, subst, arith}
 use Rattle.pk_graph.specs.Graphs.{kinds_of}
 use Rattle.pk_graph.specs.Shown.{graph_view}
-use Rattle.pk_state.specs.Layouts.{Layout}
 use Rattle.pk_transfer.specs.Trees.{IsOver}
 use Rattle.pk_phases.specs.declared.equations.Part.{Part}
 use Rattle.std.specs.Global.{Vec}

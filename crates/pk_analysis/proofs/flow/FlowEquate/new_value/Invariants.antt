@@ -1,4 +1,4 @@
-use Rattle.std.proofs.Common.{◌≡◌, drop, map}
+use Rattle.std.proofs.Common.{map}
 use Rattle.std.specs.Arc.{arc_value}
 use Rattle.pk_analysis.proofs.FlowLemmas.{IsArrivedTo}
 use Rattle.pk_analysis.proofs.flow.FlowEquate.new_value.Given as goal

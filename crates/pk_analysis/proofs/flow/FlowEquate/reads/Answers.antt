@@ -1,9 +1,7 @@
-use Rattle.std.proofs.Common.{◌≡◌, ◌<◌, ◌≤◌, ℕ, List, [], length, ap, sym, ◌∙◌, arith}
+use Rattle.std.proofs.Common.{◌<◌, ℕ, List, [], length, ap, sym, ◌∙◌, arith}
 use Rattle.std.specs.Global.{Vec}
 use Rattle.std.specs.Arc.{arc_value}
 use Rattle.std.proofs.lemmas.List.{length-map, get_or-map}
-use Rattle.pk_graph.specs.Shown.{graph_view}
-use Rattle.pk_analysis.specs.declared.arrows.Arrow.{Arrow}
 use Rattle.pk_analysis.specs.Arrows.{rows_of}
 use Rattle.pk_analysis.specs.Parts.{part_at}
 use Rattle.pk_analysis.specs.Flows.{Flow, equations_of}
