@@ -8,7 +8,7 @@ use Rattle.std.proofs.lemmas.List.{drop_more, drop_all, length-drop, get_or-drop
 use Rattle.std.proofs.lemmas.List.Elements.{All-nil, All-cons, All-append, All-head, All-tail}
 use Rattle.pk_graph.specs.declared.graphs.Edge.{Edge}
 use Rattle.pk_graph.specs.Graphs.{EdgeOf, edge_view, PointOf, GraphOf, no_point, point_at}
-use Rattle.pk_graph.specs.WellMade.{IsGraph, IsPointOf, IsEdgeOf}
+use Rattle.pk_graph.specs.WellMade.{IsGraph}
 use Rattle.pk_analysis.specs.declared.arrows.Arrow.{Arrow}
 use Rattle.pk_analysis.specs.Arrows.{arrows_along, arrows_from, arrows_at, no_edge, row_at, AreArrows, AreMore, IsArrow}
 
@@ -40,19 +40,19 @@ so_far_next from k to es old mid new a h s within leads is made =
     each : (v : ℕ) → v < length old → row_at new v ++ arrows_along v from (k + 1) (drop (k + 1) es) ≡ row_at old v ++ arrows_along v from 0 es
     each v l = elim (eqb_tells to v) [
       | inl same ↦ (let here : (slice_index_or es k no_edge).to ≡ v = leads ∙ same.1 in
-        let now : row_at new v ≡ row_at mid v ++ a ∷ [] = ap (λ (rows : List (List Arrow)). row_at rows v) made ∙ subst (λ (w : ℕ). row_at (set mid to (row_at mid to ++ a ∷ [])) w ≡ row_at mid w ++ a ∷ []) same.1 (get_or-set_same mid to (row_at mid to ++ a ∷ []) [] within) in
-        ap (λ (row : List Arrow). row ++ arrows_along v from (k + 1) (drop (k + 1) es)) now
-        ∙ append_assoc (row_at mid v) (a ∷ []) (arrows_along v from (k + 1) (drop (k + 1) es))
-        ∙ ap (λ (b : Arrow). row_at mid v ++ (b ∷ arrows_along v from (k + 1) (drop (k + 1) es))) is
-        ∙ ap (λ (row : List Arrow). row_at mid v ++ row) (sym (along_first v from k (slice_index_or es k no_edge) (drop (k + 1) es) here))
-        ∙ ap (λ (fs : List EdgeOf). row_at mid v ++ arrows_along v from k fs) (sym (drop_more es k no_edge h))
-        ∙ s.each v l)
+          let now : row_at new v ≡ row_at mid v ++ a ∷ [] = ap (λ (rows : List (List Arrow)). row_at rows v) made ∙ subst (λ (w : ℕ). row_at (set mid to (row_at mid to ++ a ∷ [])) w ≡ row_at mid w ++ a ∷ []) same.1 (get_or-set_same mid to (row_at mid to ++ a ∷ []) [] within) in
+          ap (λ (row : List Arrow). row ++ arrows_along v from (k + 1) (drop (k + 1) es)) now
+          ∙ append_assoc (row_at mid v) (a ∷ []) (arrows_along v from (k + 1) (drop (k + 1) es))
+          ∙ ap (λ (b : Arrow). row_at mid v ++ (b ∷ arrows_along v from (k + 1) (drop (k + 1) es))) is
+          ∙ ap (λ (row : List Arrow). row_at mid v ++ row) (sym (along_first v from k (slice_index_or es k no_edge) (drop (k + 1) es) here))
+          ∙ ap (λ (fs : List EdgeOf). row_at mid v ++ arrows_along v from k fs) (sym (drop_more es k no_edge h))
+          ∙ s.each v l)
       | inr other ↦ (let apart : (slice_index_or es k no_edge).to ≢ v = (λ is. absurd (other.1 (sym leads ∙ is))) in
-        let now : row_at new v ≡ row_at mid v = ap (λ (rows : List (List Arrow)). row_at rows v) made ∙ get_or-set_other mid to v (row_at mid to ++ a ∷ []) [] (λ is. other.1 (sym is)) in
-        ap (λ (row : List Arrow). row ++ arrows_along v from (k + 1) (drop (k + 1) es)) now
-        ∙ ap (λ (row : List Arrow). row_at mid v ++ row) (sym (along_other v from k (slice_index_or es k no_edge) (drop (k + 1) es) apart))
-        ∙ ap (λ (fs : List EdgeOf). row_at mid v ++ arrows_along v from k fs) (sym (drop_more es k no_edge h))
-        ∙ s.each v l)
+          let now : row_at new v ≡ row_at mid v = ap (λ (rows : List (List Arrow)). row_at rows v) made ∙ get_or-set_other mid to v (row_at mid to ++ a ∷ []) [] (λ is. other.1 (sym is)) in
+          ap (λ (row : List Arrow). row ++ arrows_along v from (k + 1) (drop (k + 1) es)) now
+          ∙ ap (λ (row : List Arrow). row_at mid v ++ row) (sym (along_other v from k (slice_index_or es k no_edge) (drop (k + 1) es) apart))
+          ∙ ap (λ (fs : List EdgeOf). row_at mid v ++ arrows_along v from k fs) (sym (drop_more es k no_edge h))
+          ∙ s.each v l)
     ]
 
 pub so_far_end : (from k : ℕ) (es : List EdgeOf) (old new : List (List Arrow)) → length es ≤ k → SoFar from k es old new → AreMore (λ v. arrows_along v from 0 es) old new
@@ -81,10 +81,10 @@ pub up_to_next : (ps : List PointOf) (u : ℕ) (old new : List (List Arrow)) →
 up_to_next ps u old new h s more = record {
   size = more.size ∙ s.size;
   each = λ v l.
-  ap (λ (row : List Arrow). row ++ arrows_from v (u + 1) (drop (u + 1) ps)) (more.each v (subst (λ (n : ℕ). v < n) (sym s.size) l))
-  ∙ append_assoc (row_at old v) (arrows_along v u 0 (slice_index_or ps u no_point).edges) (arrows_from v (u + 1) (drop (u + 1) ps))
-  ∙ ap (λ (qs : List PointOf). row_at old v ++ arrows_from v u qs) (sym (drop_more ps u no_point h))
-  ∙ s.each v l;
+      ap (λ (row : List Arrow). row ++ arrows_from v (u + 1) (drop (u + 1) ps)) (more.each v (subst (λ (n : ℕ). v < n) (sym s.size) l))
+      ∙ append_assoc (row_at old v) (arrows_along v u 0 (slice_index_or ps u no_point).edges) (arrows_from v (u + 1) (drop (u + 1) ps))
+      ∙ ap (λ (qs : List PointOf). row_at old v ++ arrows_from v u qs) (sym (drop_more ps u no_point h))
+      ∙ s.each v l;
 }
 
 pub up_to_end : (g : GraphOf) (u : ℕ) (rows : List (List Arrow)) → length g.points ≤ u → UpTo g.points u rows → AreArrows g rows

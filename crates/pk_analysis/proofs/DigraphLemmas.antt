@@ -1,8 +1,8 @@
 -- The digraph, point by point.
-use Rattle.std.proofs.Common.{◌≡◌, ◌<◌, ◌≤◌, ◌+◌, ℕ, zero, suc, refl, ap, ◌∙◌, sym, subst, List, [], ◌∷◌, ◌++◌, length, take, map, Contains, All, arith}
+use Rattle.std.proofs.Common.{◌≡◌, ◌<◌, ◌+◌, ℕ, zero, suc, refl, ap, ◌∙◌, sym, subst, List, [], ◌∷◌, ◌++◌, length, take, map, Contains, All}
 use Rattle.std.specs.List.{slice_index_or}
 use Rattle.std.specs.Global.{Vec}
-use Rattle.std.proofs.lemmas.List.{map-append, take_more, get_or-map, length-map}
+use Rattle.std.proofs.lemmas.List.{map-append, take_more, length-map}
 use Rattle.std.proofs.lemmas.List.Elements.{All-nil, All-head, All-tail, All-map}
 use Rattle.pk_graph.specs.Graphs.{EdgeOf, PointOf, GraphOf, no_point, point_at}
 use Rattle.pk_graph.specs.WellMade.{IsGraph}

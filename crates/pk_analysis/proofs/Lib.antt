@@ -4,3 +4,6 @@ mod PartLemmas
 mod ReadLemmas
 mod StartLemmas
 mod LayoutLemmas
+mod FlowLemmas
+mod OrderLemmas
+mod ReducedLemmas

@@ -1,5 +1,5 @@
 -- The parts, component by component from the last.
-use Rattle.std.proofs.Common.{◌≡◌, ◌≢◌, ◌<◌, ◌≤◌, ◌+◌, ◌-◌, ◌==◌, ℕ, zero, suc, ap, ◌∙◌, sym, subst, refl, Bool, true, false, cond, inl, inr, List, [], ◌∷◌, length, drop, set, replicate, map, All, arith}
+use Rattle.std.proofs.Common.{◌≡◌, ◌<◌, ◌≤◌, ◌+◌, ◌-◌, ◌==◌, ℕ, zero, suc, ap, ◌∙◌, sym, subst, refl, Bool, cond, inl, inr, List, ◌∷◌, length, drop, set, replicate, map, arith}
 use Rattle.std.specs.List.{slice_index_or, range_with_len}
 use Rattle.std.proofs.lemmas.List.{drop_more, drop_all, length-set, length-replicate, get_or-set_same, get_or-set_other, get_or-map, get_or_default}
 use Rattle.std.proofs.lemmas.List.FromFn.{get_or-range_with_len}
@@ -43,16 +43,16 @@ parts_next p k c old new h is head exit s made = record {
     at : (e : ℕ) → e < p.elements → part_at (set (set old c.exit (ExitOf c.head)) c.head (HeadOf c.exit)) e ≡ part_in (c ∷ drop (k + 1) p.components) e
     at e l = elim (eqb_tells c.head e) [
       | inl same ↦ subst (λ (x : ℕ). part_at (set (set old c.exit (ExitOf c.head)) c.head (HeadOf c.exit)) x ≡ HeadOf c.exit) same.1
-        (get_or-set_same (set old c.exit (ExitOf c.head)) c.head (HeadOf c.exit) Point (omega (arith, length-set old c.exit (ExitOf c.head), s.size, head)))
-        ∙ sym (ap (λ (b : Bool). cond b (HeadOf c.exit) (cond (c.exit == e) (ExitOf c.head) (part_in (drop (k + 1) p.components) e))) same.0)
+          (get_or-set_same (set old c.exit (ExitOf c.head)) c.head (HeadOf c.exit) Point (omega (arith, length-set old c.exit (ExitOf c.head), s.size, head)))
+          ∙ sym (ap (λ (b : Bool). cond b (HeadOf c.exit) (cond (c.exit == e) (ExitOf c.head) (part_in (drop (k + 1) p.components) e))) same.0)
       | inr other ↦ get_or-set_other (set old c.exit (ExitOf c.head)) c.head e (HeadOf c.exit) Point (λ x. other.1 (sym x))
-        ∙ elim (eqb_tells c.exit e) [
-          | inl same ↦ subst (λ (x : ℕ). part_at (set old c.exit (ExitOf c.head)) x ≡ ExitOf c.head) same.1 (get_or-set_same old c.exit (ExitOf c.head) Point (omega (arith, s.size, exit)))
-            ∙ sym (ap (λ (b : Bool). cond b (ExitOf c.head) (part_in (drop (k + 1) p.components) e)) same.0)
-          | inr another ↦ get_or-set_other old c.exit e (ExitOf c.head) Point (λ x. another.1 (sym x)) ∙ s.each e l
-            ∙ sym (ap (λ (b : Bool). cond b (ExitOf c.head) (part_in (drop (k + 1) p.components) e)) another.0)
-        ]
-        ∙ sym (ap (λ (b : Bool). cond b (HeadOf c.exit) (cond (c.exit == e) (ExitOf c.head) (part_in (drop (k + 1) p.components) e))) other.0)
+          ∙ elim (eqb_tells c.exit e) [
+            | inl same ↦ subst (λ (x : ℕ). part_at (set old c.exit (ExitOf c.head)) x ≡ ExitOf c.head) same.1 (get_or-set_same old c.exit (ExitOf c.head) Point (omega (arith, s.size, exit)))
+                ∙ sym (ap (λ (b : Bool). cond b (ExitOf c.head) (part_in (drop (k + 1) p.components) e)) same.0)
+            | inr another ↦ get_or-set_other old c.exit e (ExitOf c.head) Point (λ x. another.1 (sym x)) ∙ s.each e l
+                ∙ sym (ap (λ (b : Bool). cond b (ExitOf c.head) (part_in (drop (k + 1) p.components) e)) another.0)
+          ]
+          ∙ sym (ap (λ (b : Bool). cond b (HeadOf c.exit) (cond (c.exit == e) (ExitOf c.head) (part_in (drop (k + 1) p.components) e))) other.0)
     ]
 
 pub parts_end : (p : PlanView) (k : ℕ) (parts : List Part) → k ≡ 0 → PartsFrom p k parts → AreParts p parts

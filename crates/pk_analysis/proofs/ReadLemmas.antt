@@ -1,14 +1,10 @@
 -- What is read, element by element.
-use Rattle.std.proofs.Common.{◌≡◌, ◌<◌, ◌≤◌, ◌+◌, ℕ, ap, ◌∙◌, sym, subst, refl, inl, inr, List, [], ◌∷◌, ◌++◌, length, arith}
-use Rattle.std.specs.List.{slice_index_or}
-use Rattle.std.specs.Global.{Vec}
-use Rattle.std.proofs.lemmas.List.{map-append, length-map, length-append}
+use Rattle.std.proofs.Common.{◌≡◌, ◌<◌, ℕ, List, length}
 use Rattle.pk_phases.specs.declared.equations.Part.{Part}
-use Rattle.pk_phases.specs.declared.equations.Part.TheVariants.{Point}
 use Rattle.pk_analysis.specs.declared.arrows.Arrow.{Arrow}
-use Rattle.pk_analysis.specs.Arrows.{rows_of, row_at}
+use Rattle.pk_analysis.specs.Arrows.{row_at}
 use Rattle.pk_analysis.specs.Parts.{part_at}
-use Rattle.pk_analysis.specs.Reading.{read_by, AreReads}
+use Rattle.pk_analysis.specs.Reading.{read_by}
 
 -- those of the first k elements
 pub record ReadsTo (rows : List (List Arrow)) (parts : List Part) (k : ℕ) (reads : List (List ℕ)) : Type 0 where

@@ -2,17 +2,18 @@
 use Rattle.std.proofs.Common.{◌≡◌, ◌<◌, ◌≤◌, ◌+◌, ◌-◌, ℕ, zero, suc, ap, ◌∙◌, sym, subst, refl, Bool, if◌then◌else◌, ℤ, pos, List, [], ◌∷◌, ◌++◌, length, take, drop, set, map, Some, arith}
 use Rattle.std.specs.List.{slice_index_or}
 use Rattle.std.proofs.lemmas.List.{take_all, get_or-map, length-map}
-use Rattle.pk_ctypes.specs.declared.types.IntType.{IntType}
 use Rattle.pk_ctypes.specs.declared.types.IntType.TheVariants.{Int}
 use Rattle.pk_graph.specs.declared.graphs.Variable.{Variable}
-use Rattle.pk_graph.specs.Graphs.{VariableOf, GraphOf, no_variable, variable_view}
+use Rattle.pk_graph.specs.Graphs.{VariableOf, GraphOf, no_variable, variable_view, kinds_of}
 use Rattle.pk_graph.specs.WellMade.{IsGraph, IsStartOf}
 use Rattle.pk_value.specs.Known.{Known, any_of, exactly, joined}
 use Rattle.pk_octmat.specs.Octagon.{octagon_of, top_bound}
 use Rattle.pk_state.specs.Layouts.{Layout, type_at}
 use Rattle.pk_state.specs.Facts.{Stated}
 use Rattle.pk_state.specs.Changes.{with_known}
-use Rattle.pk_analysis.specs.Starts.{layout_of, joined_with, known_of_numbers, start_known}
+use Rattle.pk_transfer.specs.Graphs.{layout_of}
+use Rattle.pk_graph.specs.Kinds.{Kind, no_kind}
+use Rattle.pk_analysis.specs.Starts.{joined_with, known_of_numbers, start_known}
 use Rattle.pk_analysis.specs.Flows.{stated}
 
 -- the first k variables are known
@@ -35,7 +36,7 @@ pub started_next : (g : GraphOf) (l : Layout) (oct k : ℕ) (old new : Stated) (
     → known ≡ start_known (slice_index_or g.variables k no_variable) → new ≡ stated l (with_known old.facts k known) → IsStartedTo g l (k + 1) new
 started_next g l oct k old new known is h so here made =
     let many : length (map start_known g.variables) ≡ length (map any_of l.types) =
-    length-map g.variables start_known ∙ sym (length-map l.types any_of ∙ ap (λ (y : Layout). length y.types) is ∙ length-map g.variables (λ (x : VariableOf). x.kind.int_type)) in
+    length-map g.variables start_known ∙ sym (length-map l.types any_of ∙ ap (λ (y : Layout). length y.types) is ∙ length-map (kinds_of g) (λ (k : Kind). k.int_type) ∙ length-map g.variables (λ (x : VariableOf). x.kind)) in
     let next : k + 1 ≡ suc k = omega arith in
     made ∙ ap (λ (s : Stated). stated l (with_known s.facts k known)) so
     ∙ ap (λ (v : Known). stated l (with_known (Some (record { values = take k (map start_known g.variables) ++ drop k (map any_of l.types); octagon = octagon_of (length l.chosen) top_bound })) k v)) (here ∙ sym (get_or-map start_known g.variables k no_variable (any_of Int) h))
@@ -55,4 +56,5 @@ starts_there g vs k d made are h =
 
 pub type_there : (g : GraphOf) (l : Layout) (oct : ℕ) (vs : List Variable) (k : ℕ) (d : Variable) → l ≡ layout_of g oct → map variable_view vs ≡ g.variables → k < length vs → type_at l k ≡ (variable_view (slice_index_or vs k d)).kind.int_type
 type_there g l oct vs k d is are h =
-    ap (λ (y : Layout). type_at y k) is ∙ get_or-map (λ (x : VariableOf). x.kind.int_type) g.variables k no_variable Int (omega (arith, h, many g vs are)) ∙ ap (λ (x : VariableOf). x.kind.int_type) (shown g vs k d are h)
+    ap (λ (y : Layout). type_at y k) is ∙ get_or-map (λ (x : Kind). x.int_type) (kinds_of g) k no_kind Int (omega (arith, h, many g vs are, length-map g.variables (λ (x : VariableOf). x.kind)))
+    ∙ ap (λ (x : Kind). x.int_type) (get_or-map (λ (x : VariableOf). x.kind) g.variables k no_variable no_kind (omega (arith, h, many g vs are))) ∙ ap (λ (x : VariableOf). x.kind.int_type) (shown g vs k d are h)

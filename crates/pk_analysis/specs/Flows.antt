@@ -6,7 +6,7 @@ use Rattle.pk_graph.specs.Shown.{graph_view}
 use Rattle.pk_state.specs.Layouts.{Layout}
 use Rattle.pk_state.specs.Facts.{Facts, Stated, joined, widened, narrowed}
 use Rattle.pk_state.specs.Reduced.{reduced}
-use Rattle.pk_analysis.specs.Steps.{transferred}
+use Rattle.pk_transfer.specs.Transfers.{transferred}
 use Rattle.pk_phases.specs.declared.equations.Part.{Part}
 use Rattle.pk_phases.specs.declared.equations.Cell.{Cell}
 use Rattle.pk_phases.specs.Values.{Operations}

@@ -5,6 +5,5 @@ pub mod Starts
 pub mod Orders
 pub mod Flows
 pub mod Reading
-pub mod Steps
 pub mod Keeping
 pub mod Made

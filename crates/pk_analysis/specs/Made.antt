@@ -1,12 +1,12 @@
 -- What the analysis of a graph is.
-use Rattle.std.specs.Prelude.{◌≡◌, ℕ}
+use Rattle.std.specs.Prelude.{◌≡◌}
 use Rattle.pk_graph.specs.Graphs.{GraphOf}
 use Rattle.pk_graph.specs.Shown.{graph_view}
 use Rattle.pk_plan.specs.Plans.{PlanView}
 use Rattle.pk_thresh.specs.Thresholds.{AreThresholds}
 use Rattle.pk_analysis.specs.declared.analysis.Options.{Options}
 use Rattle.pk_analysis.specs.Parts.{AreParts}
-use Rattle.pk_analysis.specs.Starts.{layout_of}
+use Rattle.pk_transfer.specs.Graphs.{layout_of}
 use Rattle.pk_analysis.specs.Flows.{Flow}
 
 -- the equations of the graph's points, with the heads and exits of the plan

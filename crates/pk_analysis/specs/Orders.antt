@@ -1,10 +1,9 @@
 -- Tests on facts: whether those of one state are within those of another, and whether they are the same.
-use Rattle.std.specs.Prelude.{ℕ, ◌*◌, ◌==◌, ◌&&◌, Bool, true, false, ℤ, List, [], ◌∷◌, Option, None, Some}
-use Rattle.std.specs.List.{list_all, range_with_len}
+use Rattle.std.specs.Prelude.{◌==◌, ◌&&◌, Bool, true, false, ℤ, List, [], ◌∷◌, Option, None, Some}
 use Rattle.std.specs.Ordering.{int_eq}
 use Rattle.pk_value.specs.Known.{Known, is_within}
 use Rattle.pk_octmat.specs.Bounds.{is_at_most}
-use Rattle.pk_octmat.specs.Octagon.{Octagon, entry}
+use Rattle.pk_octmat.specs.Octagon.{Octagon}
 use Rattle.pk_state.specs.Facts.{Facts}
 
 abbrev pub values_within : List Known → List Known → Bool
@@ -13,18 +12,19 @@ values_within (a ∷ others) [] = true
 values_within (a ∷ others) (b ∷ bs) = is_within a b && values_within others bs
 
 -- each bound is at most the other's
-abbrev pub octagon_within : Octagon → Octagon → Bool
-octagon_within a b =
-    list_all (λ i. list_all (λ j. is_at_most (entry a i j) (entry b i j)) (range_with_len 0 (2 * a.vars))) (range_with_len 0 (2 * a.vars))
+abbrev pub bounds_within : List (Option ℤ) → List (Option ℤ) → Bool
+bounds_within [] bs = true
+bounds_within (a ∷ others) [] = true
+bounds_within (a ∷ others) (b ∷ bs) = is_at_most a b && bounds_within others bs
 
 abbrev pub is_below : Option Facts → Option Facts → Bool
 is_below None b = true
 is_below (Some a) None = false
-is_below (Some a) (Some b) = values_within a.values b.values && octagon_within a.octagon b.octagon
+is_below (Some a) (Some b) = values_within a.values b.values && bounds_within a.octagon.cells b.octagon.cells
 
 abbrev pub same_known : Known → Known → Bool
 same_known a b =
-    int_eq a.range.lo b.range.lo && int_eq a.range.hi b.range.hi && int_eq a.class.m b.class.m && int_eq a.class.r b.class.r
+    int_eq a.range.lo b.range.lo && (int_eq a.range.hi b.range.hi && (int_eq a.class.m b.class.m && int_eq a.class.r b.class.r))
 
 abbrev pub same_values : List Known → List Known → Bool
 same_values [] [] = true

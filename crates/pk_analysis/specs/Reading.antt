@@ -1,5 +1,5 @@
 -- What is kept beside a graph so that it is found fast.
-use Rattle.std.specs.Prelude.{◌≡◌, ℕ, ◌<◌, ℤ, List, ◌∷◌, length, Some}
+use Rattle.std.specs.Prelude.{◌≡◌, ℕ, ◌<◌, ◌≤◌, ℤ, List, ◌∷◌, length, Some}
 use Rattle.std.specs.List.Sorted.{IsSorted}
 use Rattle.std.specs.Ordering.{int_cmp}
 use Rattle.pk_graph.specs.Graphs.{GraphOf, kinds_of}
@@ -26,6 +26,7 @@ pub record AreReads (rows : List (List Arrow)) (parts : List Part) (reads : List
 
 pub record IsIndexed (g : GraphOf) (l : Layout) (thresholds : List ℤ) (parts : List Part) (rows : List (List Arrow)) (reads : List (List ℕ)) (start : Stated) : Type 0 where
   pub over : IsOver (kinds_of g) l
+  pub enough : length g.points ≤ length parts
   pub rising : IsSorted int_cmp thresholds
   pub arrows_are : AreArrows g rows
   pub reads_are : AreReads rows parts reads

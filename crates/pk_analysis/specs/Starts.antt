@@ -1,16 +1,11 @@
 -- The start state: what is known of each variable when a run begins.
-use Rattle.std.specs.Prelude.{ℕ, Bool, nat_lt, if◌then◌else◌, ℤ, pos, List, [], ◌∷◌, map, length}
+use Rattle.std.specs.Prelude.{Bool, nat_lt, if◌then◌else◌, ℤ, pos, List, [], ◌∷◌, map, length}
 use Rattle.pk_graph.specs.Kinds.{count_of}
 use Rattle.pk_graph.specs.Graphs.{VariableOf, StartOf, any_start, number_start, GraphOf}
-use Rattle.pk_graph.specs.OctagonVariables.{octagon_variables_of}
 use Rattle.pk_value.specs.Known.{Known, any_of, exactly, joined}
 use Rattle.pk_octmat.specs.Octagon.{octagon_of, top_bound}
 use Rattle.pk_state.specs.Layouts.{Layout}
 use Rattle.pk_state.specs.Facts.{Facts}
-
--- the graph's variables, with an octagon over the first `oct` of those that it may be over
-abbrev pub layout_of : GraphOf → ℕ → Layout
-layout_of g oct = record { types = map (λ (x : VariableOf). x.kind.int_type) g.variables; chosen = octagon_variables_of g oct }
 
 abbrev pub joined_with : Known → List ℤ → Known
 joined_with k [] = k

@@ -5,7 +5,7 @@ ghost use Rattle.std.specs.Arc.{arc_value};
 ghost use Rattle.pk_graph.specs.Shown.{graph_view};
 ghost use Rattle.pk_phases.specs.Equations.{value_of};
 ghost use Rattle.pk_analysis.specs.Flows.{stated, reduced_cell};
-ghost use Rattle.pk_analysis.specs.Starts.{layout_of};
+ghost use Rattle.pk_transfer.specs.Graphs.{layout_of};
 ghost use Rattle.pk_analysis.specs.Made.{IsAnalysisOf};
 
 use crate::arrows::arrows;
@@ -19,6 +19,7 @@ use pk_phases::{Cell, Equate, Phased};
 use pk_plan::Plan;
 use pk_state::{Frame, State};
 use pk_thresh::thresholds;
+use pk_transfer::graphs_law;
 use std::alloc::{AllocError, Global};
 use std::marker::Model;
 use std::sync::Arc;
@@ -38,7 +39,6 @@ pub struct Analysis<'g> {
 
 impl<'g> Model for Analysis<'g> {
     ghost use Rattle.pk_analysis.specs.Flows.{Flow};
-
     ghost use Rattle.pk_graph.specs.contracts.graphs.Graph as made;
     ghost use Rattle.std.specs.Coded.{codes};
 
@@ -55,6 +55,7 @@ fn frame(alloc: Global, graph: &Graph, oct: usize) -> Result<Frame, AllocError>
     requires { oct < 2 ^ 31 }
     ensures { IfOk result (λ f. f ≡ layout_of (graph_view graph.now) oct) }
 {
+    graphs_law();
     let chosen = octagon_variables(alloc, graph, oct)?;
     let variables = graph.variables();
     let mut types = Vec::with_capacity(alloc, variables.len())?;
@@ -72,9 +73,12 @@ impl<'g> Analysis<'g> {
         plan: &Plan,
         options: Options,
     ) -> Result<Analysis<'g>, AllocError>
-        requires { options.oct < 2 ^ 31 }
+        requires plan { plan.now.points ≡ length (graph_view graph.now).points }
+        requires oct { options.oct < 2 ^ 31 }
         ensures { IfOk result (IsAnalysisOf (graph_view graph.now) plan.now options) }
     {
+        graphs_law();
+        plan.axioms();
         let frame = Arc::new(alloc, frame(alloc, graph, options.oct)?)?;
         let thresholds = thresholds(alloc, graph)?;
         let parts = parts(alloc, plan)?;

@@ -4,15 +4,15 @@ ghost use Rattle.std.specs.Prelude.{◌≡◌, IfOk, None};
 ghost use Rattle.std.specs.Arc.{arc_value};
 ghost use Rattle.pk_graph.specs.Shown.{graph_view};
 ghost use Rattle.pk_phases.specs.Equations.{value_of};
-ghost use Rattle.pk_analysis.specs.Steps.{transferred};
+ghost use Rattle.pk_transfer.specs.Transfers.{transferred};
 ghost use Rattle.pk_analysis.specs.Arrows.{arrows_at, instr_of, IsArrow};
 ghost use Rattle.pk_analysis.specs.Flows.{stated, start_at};
 
 use crate::arrows::Arrow;
-use crate::steps::transfer;
 use pk_graph::Graph;
 use pk_phases::{Cell, Equate, Part};
 use pk_state::{Frame, State};
+use pk_transfer::{graphs_law, transfer};
 use std::alloc::{AllocError, Global};
 use std::marker::Model;
 use std::sync::Arc;
@@ -36,7 +36,6 @@ impl<'g> Model for Flow<'g> {
     ghost use Rattle.pk_analysis.specs.Arrows.{rows_of};
     ghost use Rattle.pk_analysis.specs.Flows.{Flow};
     ghost use Rattle.pk_analysis.specs.Reading.{IsIndexed};
-
     ghost use Rattle.pk_graph.specs.contracts.graphs.Graph as made;
     ghost use Rattle.std.specs.Coded.{codes};
 
@@ -49,24 +48,30 @@ impl<'g> Model for Flow<'g> {
     ghost invariant = { λ f. IsIndexed (graph_view f.graph.now) (arc_value f.frame) f.thresholds.items f.parts.items (rows_of f.arrows.items) (rows_of f.reads.items) f.start };
 }
 
-// What a point is told by an edge: nothing where the cell has no state.
-fn after(
-    alloc: Global,
-    flow: &Flow,
-    arrow: Arrow,
-    cell: &Cell<State>,
-) -> Result<State, AllocError>
+// What is known after an edge, of what is known before it.
+fn passed(alloc: Global, flow: &Flow, arrow: Arrow, state: &State) -> Result<State, AllocError>
+    requires arrow { IsArrow (graph_view flow.now.graph) arrow }
+    requires layout { state.now.layout ≡ flow.now.layout }
+    ensures { IfOk result (λ s. s ≡ stated flow.now.layout (transferred flow.now.layout state.now.facts (instr_of (graph_view flow.now.graph) arrow))) }
+{
+    graphs_law();
+    flow.graph.well_made();
+    let edges = flow.graph.edges(arrow.from as usize);
+    let passed = transfer(alloc, &edges[arrow.edge].instr, state)?;
+    Ok(passed)
+}
+
+// The same of a cell: nothing where it has no state.
+fn after(alloc: Global, flow: &Flow, arrow: Arrow, cell: &Cell<State>) -> Result<State, AllocError>
     requires arrow { IsArrow (graph_view flow.now.graph) arrow }
     requires held { (value_of (stated flow.now.layout None) cell.now).layout ≡ flow.now.layout }
     ensures { IfOk result (λ s. s ≡ stated flow.now.layout (transferred flow.now.layout (value_of (stated flow.now.layout None) cell.now).facts (instr_of (graph_view flow.now.graph) arrow))) }
 {
-    flow.graph.well_made();
-    let instr = &flow.graph.edges(arrow.from as usize)[arrow.edge].instr;
     match cell {
-        Cell::Value(state) => transfer(alloc, instr, state),
+        Cell::Value(state) => passed(alloc, flow, arrow, state),
         Cell::Exit(_) => {
             let state = State::bottom(Arc::try_clone(&flow.frame)?);
-            transfer(alloc, instr, &state)
+            passed(alloc, flow, arrow, &state)
         }
     }
 }
@@ -86,10 +91,11 @@ fn begun(alloc: Global, flow: &Flow, v: u32) -> Result<State, AllocError>
 fn row<'f>(flow: &'f Flow, v: u32) -> &'f [Arrow]
     ensures { result.now ≡ arrows_at (graph_view flow.now.graph) v }
 {
-    match flow.arrows.get(v as usize) {
-        None => &[],
-        Some(row) => row.as_slice(),
+    flow.graph.well_made();
+    if v as usize >= flow.arrows.len() {
+        return &[];
     }
+    flow.arrows[v as usize].as_slice()
 }
 
 impl<'g> Equate for Flow<'g> {
@@ -112,10 +118,11 @@ impl<'g> Equate for Flow<'g> {
     }
 
     fn reads(&self, e: u32) -> &[u32] {
-        match self.reads.get(e as usize) {
-            None => &[],
-            Some(list) => list.as_slice(),
+        self.graph.well_made();
+        if e as usize >= self.reads.len() {
+            return &[];
         }
+        self.reads[e as usize].as_slice()
     }
 
     fn narrow(&self) -> u32 {
@@ -135,13 +142,15 @@ impl<'g> Equate for Flow<'g> {
         let mut state = begun(alloc, self, e)?;
         let row = row(self, e);
         for i in 0..row.len() {
-            let cell = &cells[i];
-            state = state.join(alloc, &after(alloc, self, row[i], cell)?)?;
+            let next = after(alloc, self, row[i], &cells[i])?;
+            state = state.join(alloc, &next)?;
         }
         Ok(state)
     }
 
     fn leq(&self, new: &State, old: &State) -> bool {
+        new.is_stated();
+        old.is_stated();
         new.leq(old)
     }
 

@@ -8,7 +8,6 @@ mod flow;
 mod parts;
 mod reads;
 mod starts;
-mod steps;
 
 pub use analysis::{Analysis, Options, reduced};
 pub use digraphs::digraph;

@@ -8,12 +8,13 @@ ghost use Rattle.pk_graph.specs.Graphs.{variable_view};
 ghost use Rattle.pk_graph.specs.WellMade.{IsStartOf};
 ghost use Rattle.pk_graph.specs.Shown.{graph_view};
 ghost use Rattle.pk_state.specs.Changes.{IsValue};
+ghost use Rattle.pk_transfer.specs.Graphs.{layout_of};
 ghost use Rattle.pk_value.specs.Known.{any_of, exactly, joined as joined_of};
-ghost use Rattle.pk_analysis.specs.Starts.{layout_of, known_of_numbers, joined_with, start_known, start_facts};
+ghost use Rattle.pk_analysis.specs.Starts.{known_of_numbers, joined_with, start_known, start_facts};
 ghost use Rattle.pk_analysis.specs.Flows.{stated};
 
-use pk_ctypes::IntType;
 use pk_congr::reduced_law;
+use pk_ctypes::IntType;
 use pk_graph::{Graph, Start, Variable};
 use pk_interval::{ordered_law, types_law};
 use pk_state::{Frame, State};

@@ -1,13 +1,11 @@
-use Rattle.std.proofs.Common.{ℕ, List, take, map, length, ap, sym, subst, ◌∙◌, arith}
+use Rattle.std.proofs.Common.{ℕ, List, map, ap, sym, subst, ◌∙◌}
 use Rattle.std.proofs.lemmas.List.{take_all}
 use Rattle.pk_ctypes.specs.declared.types.IntType.{IntType}
 use Rattle.pk_graph.specs.declared.graphs.Variable.{Variable}
 use Rattle.pk_graph.specs.Graphs.{VariableOf, variable_view}
 use Rattle.pk_graph.specs.Shown.{graph_view}
-use Rattle.pk_graph.specs.OctagonVariables.{octagon_variables_of}
 use Rattle.pk_state.specs.Layouts.{Layout, IsLayout}
-use Rattle.pk_analysis.specs.Starts.{layout_of}
-use Rattle.pk_analysis.proofs.LayoutLemmas.{type_of_variable, is_layout}
+use Rattle.pk_analysis.proofs.LayoutLemmas.{types_of}
 use Rattle.pk_analysis.proofs.analysis.frame.Goals as goal
 
 pub new-requires : goal.new-requires
@@ -15,8 +13,8 @@ new-requires c =
     let g = graph_view c.args.graph.now in
     let vs = c.variables-variables.result.now in
     let whole = c.loop-variable.invariant
-    ∙ ap (λ (us : List Variable). map type_of_variable (map variable_view us)) (take_all c.loop-variable.variable-index vs c.loop-variable-test.false)
-    ∙ ap (λ (us : List VariableOf). map type_of_variable us) c.variables-variables.ensures in
+    ∙ ap (λ (us : List Variable). types_of (map variable_view us)) (take_all c.loop-variable.variable-index vs c.loop-variable-test.false)
+    ∙ ap (λ (us : List VariableOf). types_of us) c.variables-variables.ensures in
     let made = ap (λ (ts : List IntType). let l : Layout = record { types = ts; chosen = c.in_ok-chosen.chosen.items } in l) whole
-    ∙ ap (λ (xs : List ℕ). let l : Layout = record { types = map type_of_variable g.variables; chosen = xs } in l) c.in_ok-chosen.ensures in
-    subst IsLayout (sym made) (is_layout g c.args.oct c.requires)
+    ∙ ap (λ (xs : List ℕ). let l : Layout = record { types = types_of g.variables; chosen = xs } in l) c.in_ok-chosen.ensures in
+    subst IsLayout (sym made) (c.graphs_law.ensures.layouts g c.args.oct c.requires)

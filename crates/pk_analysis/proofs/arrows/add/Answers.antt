@@ -1,8 +1,8 @@
-use Rattle.std.proofs.Common.{ℕ, List, [], ◌∷◌, ◌++◌, ap, ◌∙◌, sym, set}
+use Rattle.std.proofs.Common.{List, [], ◌∷◌, ◌++◌, ap, ◌∙◌, sym, set}
 use Rattle.std.specs.Global.{Vec}
 use Rattle.std.proofs.lemmas.List.{map-set, get_or-map}
 use Rattle.pk_analysis.specs.declared.arrows.Arrow.{Arrow}
-use Rattle.pk_analysis.specs.Arrows.{rows_of, row_at}
+use Rattle.pk_analysis.specs.Arrows.{rows_of}
 use Rattle.pk_analysis.proofs.arrows.add.Goals as goal
 
 pub returns : goal.returns

@@ -1,8 +1,8 @@
-use Rattle.std.proofs.Common.{ℕ, List, map, length, ap, ◌∙◌, sym, subst, refl, ◌<◌, arith}
+use Rattle.std.proofs.Common.{List, map, refl, arith}
 use Rattle.std.specs.List.{slice_index_or}
 use Rattle.std.specs.Global.{Vec}
 use Rattle.std.proofs.lemmas.List.{length-map}
-use Rattle.pk_graph.specs.Graphs.{EdgeOf, edge_view}
+use Rattle.pk_graph.specs.Graphs.{edge_view}
 use Rattle.pk_analysis.specs.declared.arrows.Arrow.{Arrow}
 use Rattle.pk_analysis.specs.Arrows.{rows_of, no_edge}
 use Rattle.pk_analysis.proofs.ArrowLemmas.{so_far_next, edge_leads}

@@ -1,4 +1,4 @@
-use Rattle.std.proofs.Common.{ℕ, ◌≤◌, List, ap, ◌∙◌, sym, subst, length, map, take, arith}
+use Rattle.std.proofs.Common.{ℕ, ◌≤◌, List, ap, ◌∙◌, sym, subst, map}
 use Rattle.std.proofs.lemmas.List.{take_all}
 use Rattle.pk_plan.specs.Digraphs.{IsClosed}
 use Rattle.pk_graph.specs.Graphs.{PointOf}

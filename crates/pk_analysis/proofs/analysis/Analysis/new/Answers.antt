@@ -1,0 +1,24 @@
+use Rattle.std.proofs.Common.{◌∙◌, List, sym, subst, arith}
+use Rattle.pk_graph.specs.Graphs.{kinds_of}
+use Rattle.pk_graph.specs.Shown.{graph_view}
+use Rattle.pk_transfer.specs.Trees.{IsOver}
+use Rattle.pk_phases.specs.declared.equations.Part.{Part}
+use Rattle.std.specs.Global.{Vec}
+use Rattle.pk_analysis.specs.declared.arrows.Arrow.{Arrow}
+use Rattle.pk_analysis.specs.Arrows.{rows_of}
+use Rattle.pk_analysis.specs.Reading.{AreReads}
+use Rattle.pk_analysis.proofs.analysis.Analysis.new.Goals as goal
+
+pub invariant_of-result : goal.invariant_of-result
+invariant_of-result c =
+    let g = graph_view c.args.graph.now in
+    let layout = c.in_ok-frame-2.ensures.ok ∙ c.in_ok-frame.ensures in
+    record {
+      over = subst (IsOver (kinds_of g)) (sym layout) (c.graphs_law.ensures.over g c.args.options.oct);
+      enough = omega (arith, c.in_ok-parts.ensures.size, c.axioms.ensures.axioms.counted, c.requires.plan);
+      rising = c.in_ok-thresholds.ensures.sorted;
+      arrows_are = c.in_ok-arrows.ensures;
+      reads_are = subst (λ (ps : List Part). AreReads (rows_of c.in_ok-arrows.arrows.items) ps (rows_of c.in_ok-reads.reads.items)) c.deref-2.ensures.value
+          (subst (λ (rs : List (Vec Arrow)). AreReads (rows_of rs) c.deref-2.result.now (rows_of c.in_ok-reads.reads.items)) c.deref.ensures.value c.in_ok-reads.ensures);
+      start_is = c.in_ok-start.ensures;
+    }

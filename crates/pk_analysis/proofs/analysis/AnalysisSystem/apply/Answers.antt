@@ -1,0 +1,11 @@
+use Rattle.std.proofs.Common.{map, sym, subst}
+use Rattle.std.specs.Arc.{arc_value}
+use Rattle.pk_iterate.specs.Behaviour.{HoldEach}
+use Rattle.pk_phases.specs.Equations.{reads_in, may_hold_of}
+use Rattle.pk_analysis.specs.Parts.{part_at}
+use Rattle.pk_analysis.specs.Flows.{Flow, equations_of, IsOverFlow}
+use Rattle.pk_analysis.proofs.analysis.AnalysisSystem.apply.Goals as goal
+
+pub apply-requires : goal.apply-requires
+apply-requires c =
+    subst (λ (a : Flow). HoldEach (may_hold_of (equations_of a) (IsOverFlow a)) (reads_in (equations_of a) c.args.e (part_at a.parts c.args.e)) (map arc_value c.args.inputs.now)) (sym c.self.view_is) c.requires
