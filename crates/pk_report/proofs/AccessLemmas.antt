@@ -1,5 +1,5 @@
 -- Accesses with their verdicts, one by one.
-use Rattle.std.proofs.Common.{◌≡◌, ◌<◌, ◌≤◌, ◌+◌, ℕ, ap, ◌∙◌, sym, subst, List, ◌++◌, length, map, take, slice_index_or}
+use Rattle.std.proofs.Common.{◌≡◌, ◌<◌, ◌≤◌, ◌+◌, ℕ, ap, ◌∙◌, sym, subst, List, ◌++◌, length, take, slice_index_or}
 use Rattle.std.specs.List.{flat_map, zip}
 use Rattle.std.proofs.lemmas.List.{length-map, get_or-map}
 use Rattle.pk_graph.specs.declared.operations.Access.{Access}

@@ -4,13 +4,13 @@ use Rattle.std.specs.Fmt.{signed_decimal}
 use Rattle.std.specs.List.{flat_map, filter_map}
 use Rattle.pk_report.specs.declared.octagons.Placed.{Placed}
 use Rattle.pk_report.specs.declared.octagons.Bounds.{Bounds}
-use Rattle.pk_graph.specs.Graphs.{VariableOf, GraphOf, variable_at}
+use Rattle.pk_graph.specs.Graphs.{GraphOf, variable_at}
 use Rattle.pk_interval.specs.Ranges.{Range}
 use Rattle.pk_congr.specs.Classes.{Class}
 use Rattle.pk_value.specs.Known.{Known}
 use Rattle.pk_octmat.specs.Octagon.{entry}
 use Rattle.pk_state.specs.Layouts.{Layout, place_in}
-use Rattle.pk_state.specs.Facts.{Facts, Stated, known_at}
+use Rattle.pk_state.specs.Facts.{Facts, known_at}
 
 abbrev pub name_of : GraphOf → ℕ → List ℕ
 name_of g x = unwrap_or (variable_at g x).name []

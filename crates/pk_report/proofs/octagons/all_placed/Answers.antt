@@ -1,4 +1,4 @@
-use Rattle.std.proofs.Common.{ap, ◌∙◌, ◌++◌, List, Option}
+use Rattle.std.proofs.Common.{ap, ◌∙◌, ◌++◌, Option}
 use Rattle.std.specs.Option.{option_to_list}
 use Rattle.pk_report.specs.declared.octagons.Placed.{Placed}
 use Rattle.pk_report.proofs.OctagonLemmas.{placed_next, placed_end}

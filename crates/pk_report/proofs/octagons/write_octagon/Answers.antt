@@ -1,4 +1,4 @@
-use Rattle.std.proofs.Common.{◌<◌, ◌∙◌, ap, sym, subst, All, List, ℕ, ◌++◌, length}
+use Rattle.std.proofs.Common.{◌<◌, ◌∙◌, ap, sym, subst, All, List, ◌++◌, length}
 use Rattle.pk_graph.specs.Shown.{graph_view}
 use Rattle.pk_report.specs.declared.octagons.Placed.{Placed}
 use Rattle.pk_report.specs.Values.{of_pairs, pair_lines_if}

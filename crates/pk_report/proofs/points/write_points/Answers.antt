@@ -1,4 +1,4 @@
-use Rattle.std.proofs.Common.{◌<◌, ◌≤◌, ap, sym, subst, ◌∙◌, List, ℕ, length}
+use Rattle.std.proofs.Common.{◌<◌, ◌≤◌, subst, ℕ, length}
 use Rattle.pk_graph.specs.Shown.{graph_view}
 use Rattle.pk_report.specs.Reports.{AreHeads}
 use Rattle.pk_report.proofs.PointLemmas.{told_next, told_end}

@@ -1,4 +1,4 @@
-use Rattle.std.proofs.Common.{ap, ◌∙◌, List, ℕ, ◌++◌}
+use Rattle.std.proofs.Common.{ap, ◌∙◌, List, ◌++◌}
 use Rattle.std.specs.Prelude.{codes}
 use Rattle.pk_graph.specs.Graphs.{PathOf}
 use Rattle.pk_graph.specs.Shown.{graph_view}

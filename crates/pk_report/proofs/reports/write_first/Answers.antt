@@ -1,4 +1,4 @@
-use Rattle.std.proofs.Common.{ap, ◌∙◌, List, ℕ, ◌++◌, length}
+use Rattle.std.proofs.Common.{ap, ◌∙◌, ℕ, ◌++◌, length}
 use Rattle.std.specs.Prelude.{codes}
 use Rattle.pk_graph.specs.Shown.{graph_view}
 use Rattle.pk_report.specs.Paths.{path_text}

@@ -1,4 +1,4 @@
-use Rattle.std.proofs.Common.{ap, ◌∙◌, List, ℕ, ◌++◌}
+use Rattle.std.proofs.Common.{ap, ◌∙◌, ℕ, ◌++◌}
 use Rattle.std.specs.Prelude.{codes, count_by}
 use Rattle.pk_report.specs.Reports.{is_safe, is_unknown, is_unreachable, counted}
 use Rattle.pk_report.proofs.WriteLemmas.{four}

@@ -1,4 +1,3 @@
-use Rattle.std.proofs.Common.{ℕ}
 use Rattle.pk_graph.specs.Shown.{graph_view}
 use Rattle.pk_report.specs.Values.{value_line_if}
 use Rattle.pk_report.proofs.WriteLemmas.{flat_more, flat_all}
