@@ -5,7 +5,7 @@ use Rattle.pk_graph.specs.declared.graphs.Edge.{Edge}
 use Rattle.pk_graph.specs.Kinds.{IsTypedInstr}
 use Rattle.pk_graph.specs.Graphs.{EdgeOf, GraphOf, no_point, point_at, edge_view, kinds_of}
 use Rattle.pk_graph.specs.WellMade.{IsGraph}
-use Rattle.pk_step.specs.GraphSteps.{no_edge, edge_at}
+use Rattle.pk_step.specs.GraphSteps.{no_edge}
 
 pub edge_is : (g : GraphOf) (p k : ℕ) (es : List Edge) (e : Edge) → map edge_view es ≡ (point_at g p).edges → k < length (point_at g p).edges → e ≡ slice_index_or es k e → (d : EdgeOf) → slice_index_or (point_at g p).edges k d ≡ edge_view e
 edge_is g p k es e f h is d =

@@ -1,5 +1,5 @@
 -- A step leads from a store of the variables to one.
-use Rattle.std.proofs.Common.{◌≡◌, ◌≢◌, ◌<◌, ◌≤◌, ◌+◌, ℕ, zero, suc, refl, ap, ◌∙◌, sym, subst, nat_eq, Bool, true, false, ◌&&◌, if◌then◌else◌, ◌⊎◌, inl, inr, Result, Ok, Err, List, [], ◌∷◌, length, replicate, slice_index_or, slice_set, arith, length-set}
+use Rattle.std.proofs.Common.{◌≡◌, ◌≢◌, ◌<◌, ℕ, zero, suc, refl, ap, ◌∙◌, sym, subst, nat_eq, Bool, true, false, ◌&&◌, if◌then◌else◌, ◌⊎◌, inl, inr, Result, Ok, Err, [], ◌∷◌, length, replicate, slice_set, arith, length-set}
 use Rattle.std.proofs.lemmas.Int.{ints}
 use Rattle.std.specs.Prelude.{ℤ, pos, int_le, int_lt, unsigned_abs}
 use Rattle.std.proofs.lemmas.Bool.Decides.{eqb_tells}
@@ -11,9 +11,9 @@ use Rattle.pk_ctypes.specs.Types.{InType, is_in_type}
 use Rattle.pk_ctypes.proofs.Values.{cases_of_type}
 use Rattle.pk_ctypes.specs.Laws.{ValuesLieInTheirType}
 use Rattle.pk_graph.specs.declared.trees.Site.{Site}
-use Rattle.pk_graph.specs.Trees.{TreeOf, ArrayOf, InstrOf, Skip, Set, Havoc, Clear, Load, Store, Guard, Check}
-use Rattle.pk_graph.specs.Kinds.{Kinds, type_at, count_of, count_at, type_of, IsScalar, IsArray, IsTyped, IsOfType, IsTypedInstr}
-use Rattle.pk_graph.specs.Steps.{Numbers, number_at, Failure, failure, and_then, tree_value, is_true, is_index, indexed, all_in_type, are_any, After, To, Blocked, Wants, Faulted, with_value, passed, effect}
+use Rattle.pk_graph.specs.Trees.{ArrayOf, InstrOf, Skip, Set, Havoc, Clear, Load, Store, Guard, Check}
+use Rattle.pk_graph.specs.Kinds.{Kinds, type_at, count_of, count_at, IsScalar, IsArray, IsTypedInstr}
+use Rattle.pk_graph.specs.Steps.{Numbers, number_at, Failure, failure, and_then, tree_value, is_true, is_index, indexed, all_in_type, are_any, To, Wants, Faulted, with_value, passed, effect}
 use Rattle.pk_graph.specs.Stores.{Stored, numbers_of, storing, IsStore}
 use Rattle.pk_step.proofs.TypedLemmas.{scalar_count, typed_value}
 

@@ -1,5 +1,5 @@
 -- A typed tree's number in a store lies in its type.
-use Rattle.std.proofs.Common.{◌≡◌, ◌<◌, ◌≤◌, ℕ, refl, ap, ◌∙◌, sym, subst, Option, Some, None, Result, Ok, Err, List, length, arith}
+use Rattle.std.proofs.Common.{◌≡◌, ℕ, refl, ap, subst, Result, Ok, Err, arith}
 use Rattle.std.specs.Prelude.{ℤ}
 use Rattle.pk_ctypes.specs.declared.types.IntType.{IntType}
 use Rattle.pk_ctypes.specs.declared.types.Op.{Op}

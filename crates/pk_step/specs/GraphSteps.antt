@@ -1,5 +1,5 @@
 -- A step of a graph run: from a point over one of its edges, with a store.
-use Rattle.std.specs.Prelude.{ℕ, ℤ, slice_index_or, Result, Ok, Err}
+use Rattle.std.specs.Prelude.{ℕ, slice_index_or, Result, Ok, Err}
 use Rattle.pk_graph.specs.Trees.{Skip}
 use Rattle.pk_graph.specs.Steps as steps
 use Rattle.pk_graph.specs.Steps.{Numbers, failure, After, To, Blocked, Wants, Faulted, effect}

@@ -1,5 +1,5 @@
 -- Laws of steps.
-use Rattle.std.specs.Prelude.{◌≡◌, ℕ, ◌<◌, length}
+use Rattle.std.specs.Prelude.{◌≡◌, ℕ}
 use Rattle.pk_graph.specs.Steps.{Numbers, To, effect}
 use Rattle.pk_graph.specs.Stores.{Stored, storing, IsStore}
 use Rattle.pk_graph.specs.Kinds.{Kinds, IsTypedInstr}

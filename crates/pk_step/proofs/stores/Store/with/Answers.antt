@@ -1,4 +1,4 @@
-use Rattle.std.proofs.Common.{ap, sym, ◌∙◌, List, slice_set, map}
+use Rattle.std.proofs.Common.{ap, ◌∙◌, List, slice_set}
 use Rattle.std.specs.Prelude.{ℤ}
 use Rattle.std.specs.declared.vec.Vec.{Vec}
 use Rattle.std.specs.declared.alloc.Global.{Global}

@@ -1,0 +1,93 @@
+-- The lines of what is known at a point.
+use Rattle.std.specs.Prelude.{ℕ, ◌+◌, ◌-◌, ◌*◌, ◌^◌, ℤ, pos, negsuc, ◌≤ℤ◌, ◌+ℤ◌, ◌-ℤ◌, int_lt, Bool, true, false, is_some, if◌then◌else◌, List, [], ◌∷◌, ◌++◌, codes, Option, Some, None, option_map, unwrap_or}
+use Rattle.std.specs.Fmt.{signed_decimal}
+use Rattle.std.specs.List.{flat_map, filter_map}
+use Rattle.pk_report.specs.declared.octagons.Placed.{Placed}
+use Rattle.pk_report.specs.declared.octagons.Bounds.{Bounds}
+use Rattle.pk_graph.specs.Graphs.{GraphOf, variable_at}
+use Rattle.pk_interval.specs.Ranges.{Range}
+use Rattle.pk_congr.specs.Classes.{Class}
+use Rattle.pk_value.specs.Known.{Known}
+use Rattle.pk_octmat.specs.Octagon.{entry}
+use Rattle.pk_state.specs.Layouts.{Layout, place_in}
+use Rattle.pk_state.specs.Facts.{Facts, known_at}
+
+abbrev pub name_of : GraphOf → ℕ → List ℕ
+name_of g x = unwrap_or (variable_at g x).name []
+
+abbrev pub brackets : Bool → List ℕ
+brackets true = codes "[]"
+brackets false = []
+
+abbrev pub range_text : Range → List ℕ
+range_text r = codes " [" ++ signed_decimal r.lo ++ codes "," ++ signed_decimal r.hi ++ codes "] "
+
+abbrev pub class_text : Class → List ℕ
+class_text c = signed_decimal c.m ++ codes "Z+" ++ signed_decimal c.r ++ codes "\n"
+
+-- `  NAME [lo,hi] mZ+r`, an array as `  NAME[] [lo,hi] mZ+r`
+abbrev pub value_text : List ℕ → (is_array : Bool) → Known → List ℕ
+value_text name is_array k = codes "  " ++ name ++ brackets is_array ++ range_text k.range ++ class_text k.class
+
+abbrev pub value_line : GraphOf → Facts → ℕ → List ℕ
+value_line g f x = value_text (name_of g x) (is_some (variable_at g x).kind.length) (known_at f.values x)
+
+-- the variables that the octagon is over, with their places there
+abbrev pub placed_in : Layout → ℕ → Option Placed
+placed_in l x = option_map (λ k. record { variable = x; place = k }) (place_in l.chosen x)
+
+abbrev pub placed : Layout → List ℕ → List Placed
+placed l = filter_map (placed_in l)
+
+-- `  FORM <= c`, only where c is less than what the intervals give
+abbrev pub bound_text : List ℕ → (limit : ℤ) → Option ℤ → List ℕ
+bound_text form limit None = []
+bound_text form limit (Some c) = if int_lt c limit then codes "  " ++ form ++ codes " <= " ++ signed_decimal c ++ codes "\n" else []
+
+-- the four forms of two variables, with their bounds
+abbrev pub pair_text : (x y : List ℕ) → (kx ky : Known) → Bounds → List ℕ
+pair_text x y kx ky b =
+    bound_text (x ++ codes " - " ++ y) (kx.range.hi -ℤ ky.range.lo) b.minus
+    ++ bound_text (y ++ codes " - " ++ x) (ky.range.hi -ℤ kx.range.lo) b.turned
+    ++ bound_text (x ++ codes " + " ++ y) (kx.range.hi +ℤ ky.range.hi) b.plus
+    ++ bound_text (codes "-" ++ x ++ codes " - " ++ y) ((pos 0 -ℤ kx.range.lo) -ℤ ky.range.lo) b.negated
+
+-- V(j) - V(i) is at most bound i j, and V(2k) is the variable of place k, V(2k + 1) its negative.
+abbrev pub bounds_of : (bound : ℕ → ℕ → Option ℤ) → (k l : ℕ) → Bounds
+bounds_of bound k l = record {
+  minus = bound (2 * l) (2 * k);
+  turned = bound (2 * k) (2 * l);
+  plus = bound (2 * l + 1) (2 * k);
+  negated = bound (2 * l) (2 * k + 1);
+}
+
+abbrev pub pair_lines : GraphOf → Facts → Placed → Placed → List ℕ
+pair_lines g f p q =
+    pair_text (name_of g p.variable) (name_of g q.variable) (known_at f.values p.variable) (known_at f.values q.variable) (bounds_of (entry f.octagon) p.place q.place)
+
+-- each pair, the one before the other in the list
+abbrev pub of_pairs : (Placed → Placed → List ℕ) → List Placed → List ℕ
+of_pairs line [] = []
+of_pairs line (p ∷ ps) = flat_map (line p) ps ++ of_pairs line ps
+
+-- of the visible variables
+abbrev pub facts_lines : GraphOf → Layout → Option Facts → List ℕ → List ℕ
+facts_lines g l None xs = codes "  unreachable\n"
+facts_lines g l (Some f) xs = flat_map (value_line g f) xs ++ of_pairs (pair_lines g f) (placed l xs)
+
+-- ---- where there may be no facts
+
+abbrev pub value_line_if : GraphOf → Option Facts → ℕ → List ℕ
+value_line_if g None x = []
+value_line_if g (Some f) x = value_line g f x
+
+abbrev pub pair_lines_if : GraphOf → Option Facts → Placed → Placed → List ℕ
+pair_lines_if g None p q = []
+pair_lines_if g (Some f) p q = pair_lines g f p q
+
+-- bounds that no type passes
+pub record IsSmall (k : Known) : Type 0 where
+  pub lo_from : negsuc (2 ^ 63 - 1) ≤ℤ k.range.lo
+  pub lo_to : k.range.lo ≤ℤ pos (2 ^ 64 - 1)
+  pub hi_from : negsuc (2 ^ 63 - 1) ≤ℤ k.range.hi
+  pub hi_to : k.range.hi ≤ℤ pos (2 ^ 64 - 1)
