@@ -1,0 +1,3 @@
+pub mod WayLemmas
+pub mod CallLemmas
+pub mod ArmLemmas
