@@ -1,0 +1,3 @@
+pub mod FormLemmas
+pub mod StepLemmas
+pub mod NameLemmas
