@@ -1,0 +1,4 @@
+pub mod FunctionLemmas
+pub mod PartLemmas
+pub mod SizeLemmas
+pub mod ProgramLemmas
