@@ -1,0 +1,6 @@
+mod Reading
+mod Solving
+mod Told
+mod Sorting
+mod Determined
+mod Telling
