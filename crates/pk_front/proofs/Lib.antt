@@ -1,0 +1,4 @@
+mod TextLemmas
+mod WayLemmas
+mod WalkLemmas
+mod EndLemmas

@@ -1,0 +1,120 @@
+// How a command ends.
+use pk_ctypes::{Construct, Name, Names, Pos, Quantity, Rule};
+use pk_lex::LexicalKind;
+use std::alloc::{AllocError, AllocFailed};
+use std::fmt;
+
+/// Why a text is not analysed.
+#[derive(Drop)]
+pub enum Refusal {
+    /// No token begins at this place, the earliest such.
+    Lexical { kind: LexicalKind, at: Pos },
+    /// The first construct of C that isn't analysed.
+    Unsupported { construct: Construct, at: Pos },
+    /// The first token with which no text of the grammar goes on.
+    Syntax { at: Pos },
+    /// The rule that fails at the first place, the upper one of those that fail there.
+    Typing { rule: Rule, at: Pos },
+    /// No function of this name has a body.
+    NoEntry { name: Name },
+    /// A function that leads to a call of itself: the names from it to itself.
+    Recursion { cycle: Names },
+    /// A call of a function without a body, at the place of the name.
+    UndefinedCall { name: Name, at: Pos },
+}
+
+impl fmt::Display for Refusal {
+    ghost use Rattle.std.specs.declared.option.Option.TheVariants.{Some};
+    ghost use Rattle.pk_front.specs.Statuses.{refusal_text};
+
+    ghost output = { λ r. Some (refusal_text r) };
+
+    fn fmt<W: fmt::Write>(&self, f: &mut fmt::Formatter<W>) -> fmt::Result {
+        match self {
+            Refusal::Lexical { kind, at } => write!(f, "lexical {kind} at {at}"),
+            Refusal::Unsupported { construct, at } => write!(f, "unsupported {construct} at {at}"),
+            Refusal::Syntax { at } => write!(f, "syntax at {at}"),
+            Refusal::Typing { rule, at } => write!(f, "typing {rule} at {at}"),
+            Refusal::NoEntry { name } => write!(f, "no entry {name}"),
+            Refusal::Recursion { cycle } => write!(f, "recursion {cycle}"),
+            Refusal::UndefinedCall { name, at } => write!(f, "undefined call {name} at {at}"),
+        }
+    }
+}
+
+/// How a command ends.
+#[derive(Drop)]
+pub enum Status {
+    Ok { unknown: u64 },
+    Usage,
+    Refused(Refusal),
+    Limit { what: Quantity, number: u64 },
+    RunLimit { max_runs: u64 },
+    ReadFault,
+    WriteFault { sent: usize },
+    Memory,
+}
+
+impl Status {
+    ghost use Rattle.std.specs.Prelude.{◌≡◌};
+    ghost use Rattle.pk_front.specs.Statuses.{status_code};
+
+    /// The exit code of the program.
+    pub fn code(&self) -> u8
+        ensures { result ≡ status_code self.now }
+    {
+        match self {
+            Status::Ok { unknown } => { if *unknown == 0 { 0 } else { 1 } }
+            Status::Usage => 2,
+            Status::Refused(_) => 3,
+            Status::Limit { .. } => 4,
+            Status::RunLimit { .. } => 4,
+            Status::ReadFault => 5,
+            Status::WriteFault { .. } => 6,
+            Status::Memory => 7,
+        }
+    }
+}
+
+impl From<AllocError> for Status {
+    ghost use Rattle.std.specs.Prelude.{◌≡◌};
+    ghost use Rattle.pk_front.specs.declared.status.Status.TheVariants.{Memory};
+
+    ghost from_gives = { λ _ s. s ≡ Memory };
+
+    fn from(_: AllocError) -> Self {
+        Status::Memory
+    }
+}
+
+impl<T: Drop> From<AllocFailed<T>> for Status {
+    ghost use Rattle.std.specs.Prelude.{◌≡◌};
+    ghost use Rattle.pk_front.specs.declared.status.Status.TheVariants.{Memory};
+
+    ghost from_gives = { λ _ s. s ≡ Memory };
+
+    fn from(_: AllocFailed<T>) -> Self {
+        Status::Memory
+    }
+}
+
+/// The line on standard error, without its end; `Ok` has none.
+impl fmt::Display for Status {
+    ghost use Rattle.std.specs.declared.option.Option.TheVariants.{Some};
+    ghost use Rattle.pk_front.specs.Statuses.{status_text};
+
+    ghost output = { λ s. Some (status_text s) };
+
+    fn fmt<W: fmt::Write>(&self, f: &mut fmt::Formatter<W>) -> fmt::Result {
+        match self {
+            Status::Ok { .. } => Ok(()),
+            Status::Usage => write!(f, "pikos: usage"),
+            Status::Refused(refusal) => write!(f, "pikos: refused: {refusal}"),
+            Status::Limit { what, number } => write!(f, "pikos: limit {what} {number}"),
+            Status::RunLimit { max_runs } => write!(f, "pikos: run limit {max_runs}"),
+            Status::ReadFault => write!(f, "pikos: read fault"),
+            Status::WriteFault { sent } => write!(f, "pikos: write fault after {sent} bytes"),
+            Status::Memory => write!(f, "pikos: memory"),
+        }
+    }
+}
