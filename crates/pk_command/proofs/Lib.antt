@@ -1,3 +1,4 @@
 mod Rows
 mod Taken
+mod Settings
 pub mod Asking

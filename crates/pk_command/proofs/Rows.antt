@@ -1,6 +1,6 @@
 -- The rows of words without a fault: each value passes the parser of its argument.
 use Rattle.std.proofs.Common.{◌≡◌, ◌∙◌, ◌&&◌, ◌||◌, ◌++◌, refl, sym, ap, subst, ℕ, zero, suc, Bool, true, false, cond, List, [], ◌∷◌, Option, Some, None, length, arith, ◌+◌, if◌then◌else◌, is_some}
-use Rattle.std.specs.Prelude.{find, fold, min, slice_get, drop, encode_utf8}
+use Rattle.std.specs.Prelude.{find, fold, min, slice_get, drop, encode_utf8, nat_lt, not}
 use Rattle.std.specs.Option.{option_map_or}
 use Rattle.std.specs.Str.{bytes_eq, chars}
 use Rattle.std.proofs.lemmas.Slice.Eq.{bytes_eq-Decides}
@@ -65,17 +65,43 @@ values_append ignore_case parser (x ∷ xs) ys a b =
 
 -- ---- rows
 
--- the argument is the first of its id
-abbrev pub IsFirst : List Rule → Rule → Type 0
-IsFirst c a = arg_by_id c a.id ≡ Some a
+-- each use of the argument has a value, or values that stand for none
+abbrev pub has_value : Rule → Bool
+has_value a = nat_lt 0 (unwrap_or_range a.range).start_inclusive || not (is_empty a.missing)
 
--- each argument is the first of its id
+-- the argument is the first of its id, and each use of it has a value
+abbrev pub IsFirst : List Rule → Rule → Type 0
+IsFirst c a = (arg_by_id c a.id ≡ Some a) × (has_value a ≡ true)
+
+-- each argument is the first of its id, and each use of it has a value
 abbrev pub IsKeyed : List Rule → Type 0
 IsKeyed c = Each (IsFirst c) c
 
--- the row's values pass the parser of its argument, and are read as that says
+-- the row has values, which pass the parser of its argument, and are read as that says
 abbrev pub Passes : List Rule → Row → Type 0
-Passes c r = (a : Rule) → arg_by_id c r.id ≡ Some a → (values_fault a r.values ≡ []) × (r.reading ≡ reading_by a)
+Passes c r = (is_empty r.values ≡ false) × ((a : Rule) → arg_by_id c r.id ≡ Some a → (values_fault a r.values ≡ []) × (r.reading ≡ reading_by a))
+
+-- there are values, and they pass the parser of the argument
+abbrev Pass : Rule → List Text → Type 0
+Pass a values = (is_empty values ≡ false) × (values_fault a values ≡ [])
+
+cons_some : (v : Text) (vs : List Text) → is_empty (v ∷ vs) ≡ false
+cons_some v vs = grind arith
+
+append_some : (xs ys : List Text) → is_empty xs ≡ false → is_empty (xs ++ ys) ≡ false
+append_some [] ys some = cc
+append_some (x ∷ xs) ys some = cons_some x (xs ++ ys)
+
+has_missing : (positive none : Bool) (rest : Kinds) → (positive || not none) ≡ true → cond (positive && true) (kind.InvalidValue ∷ []) rest ≡ [] → none ≡ false
+has_missing true none rest has range = absurd (cons_empty _ _ range)
+has_missing false true rest has range = cc
+has_missing false false rest has range = refl
+
+-- the values of a use, or those that stand for none
+used_some : (a : Rule) (values : List Text) → has_value a ≡ true → range_kinds (unwrap_or_range a.range).start_inclusive (most_values a) (length values) ≡ []
+    → is_empty (values_or_missing a values) ≡ false
+used_some a (v ∷ vs) has range = cons_some v vs
+used_some a [] has range = has_missing (nat_lt 0 (unwrap_or_range a.range).start_inclusive) (is_empty a.missing) _ has range
 
 at_head : (P : Row → Type 0) (id : Text) (change : Row → List Row) (missing : List Row) (r : Row) (rs : List Row) (b : Bool) → bytes_eq r.id id ≡ b
     → P r → Each P rs → (r.id ≡ id → P r → Each P (change r)) → Each P (at_row id change missing rs)
@@ -94,20 +120,26 @@ each_without P id rows each = each_at_row P id (λ r. []) [] rows each (λ r is 
 
 module _ (c : List Rule) where
   -- values that pass may be added to a row
-  grown : (a : Rule) (values : List Text) (r : Row) → IsFirst c a → values_fault a values ≡ [] → r.id ≡ a.id → Passes c r
-      → (b : Rule) → arg_by_id c r.id ≡ Some b → (values_fault b (r.values ++ values) ≡ []) × (r.reading ≡ reading_by b)
-  grown a values r first pass is old b found =
-      let same : a ≡ b = some_same a b (sym first ∙ ap (arg_by_id c) (sym is) ∙ found) in
-      let before = old b found in
-      (values_append b.ignore_case (parser_of_value b.parser) r.values values before.0 (subst (λ (x : Rule). values_fault x values ≡ []) same pass), before.1)
+  grown : (a : Rule) (values : List Text) (r : Row) → IsFirst c a → Pass a values → r.id ≡ a.id → Passes c r
+      → (is_empty (r.values ++ values) ≡ false) × ((b : Rule) → arg_by_id c r.id ≡ Some b → (values_fault b (r.values ++ values) ≡ []) × (r.reading ≡ reading_by b))
+  grown a values r first pass is old = (
+    append_some r.values values old.0,
+    λ b found.
+        let same : a ≡ b = some_same a b (sym first.0 ∙ ap (arg_by_id c) (sym is) ∙ found) in
+        let before = old.1 b found in
+        (values_append b.ignore_case (parser_of_value b.parser) r.values values before.0 (subst (λ (x : Rule). values_fault x values ≡ []) same pass.1), before.1),
+  )
 
-  fresh : (a : Rule) (values : List Text) → IsFirst c a → values_fault a values ≡ []
-      → (b : Rule) → arg_by_id c a.id ≡ Some b → (values_fault b values ≡ []) × (reading_by a ≡ reading_by b)
-  fresh a values first pass b found =
-      let same : a ≡ b = some_same a b (sym first ∙ found) in
-      (subst (λ (x : Rule). values_fault x values ≡ []) same pass, ap reading_by same)
+  fresh : (a : Rule) (values : List Text) → IsFirst c a → Pass a values
+      → (is_empty values ≡ false) × ((b : Rule) → arg_by_id c a.id ≡ Some b → (values_fault b values ≡ []) × (reading_by a ≡ reading_by b))
+  fresh a values first pass = (
+    pass.0,
+    λ b found.
+        let same : a ≡ b = some_same a b (sym first.0 ∙ found) in
+        (subst (λ (x : Rule). values_fault x values ≡ []) same pass.1, ap reading_by same),
+  )
 
-  each_with_values : (a : Rule) (source : ValueSource) (values : List Text) (rows : List Row) → IsFirst c a → values_fault a values ≡ [] → Each (Passes c) rows
+  each_with_values : (a : Rule) (source : ValueSource) (values : List Text) (rows : List Row) → IsFirst c a → Pass a values → Each (Passes c) rows
       → Each (Passes c) (with_values a.id (reading_by a) source values rows)
   each_with_values a source values rows first pass each =
       each_at_row (Passes c) a.id (more_values source values) _ rows each (λ r is old. (grown a values r first pass is old, tt)) (fresh a values first pass, tt)
@@ -115,39 +147,42 @@ module _ (c : List Rule) where
   each_with_count : (a : Rule) (source : ValueSource) (n : ℕ) (rows : List Row) → IsFirst c a → values_fault a (count_text n ∷ []) ≡ [] → Each (Passes c) rows
       → Each (Passes c) (with_count a.id (reading_by a) source n rows)
   each_with_count a source n rows first pass each =
-      each_at_row (Passes c) a.id (new_count source n) _ rows each (λ r is old. (grown a (count_text n ∷ []) r first pass is old, tt)) (fresh a (count_text n ∷ []) first pass, tt)
+      let some = cons_some (count_text n) [] in
+      each_at_row (Passes c) a.id (new_count source n) _ rows each (λ r is old. (grown a (count_text n ∷ []) r first (some, pass) is old, tt)) (fresh a (count_text n ∷ []) first (some, pass), tt)
 
   -- ---- one use of an argument
 
-  each_set : (again : Bool) (a : Rule) (values : List Text) (rows : List Row) → IsFirst c a → or_else (repeat_fault again a.id rows) (values_fault a values) ≡ [] → Each (Passes c) rows
+  each_set : (again : Bool) (a : Rule) (values : List Text) (rows : List Row) → IsFirst c a → is_empty values ≡ false
+      → or_else (repeat_fault again a.id rows) (values_fault a values) ≡ [] → Each (Passes c) rows
       → Each (Passes c) (with_values a.id (reading_by a) CommandLine values (without a.id rows))
-  each_set again a values rows first pass each =
-      each_with_values a CommandLine values (without a.id rows) first (second_empty (repeat_fault again a.id rows) (values_fault a values) pass) (each_without (Passes c) a.id rows each)
+  each_set again a values rows first some pass each =
+      each_with_values a CommandLine values (without a.id rows) first (some, second_empty (repeat_fault again a.id rows) (values_fault a values) pass) (each_without (Passes c) a.id rows each)
 
   each_counted : (a : Rule) (values : List Text) (rows : List Row) → IsFirst c a → count_fault a values rows ≡ [] → Each (Passes c) rows
       → Each (Passes c) (counted a.id (reading_by a) values rows)
   each_counted a [] rows first pass each =
       each_with_count a CommandLine (min (count_of a.id rows + 1) 255) (without a.id rows) first (rw pass refl) (each_without (Passes c) a.id rows each)
   each_counted a (v ∷ vs) rows first pass each =
-      each_with_values a CommandLine (v ∷ vs) (without a.id rows) first pass (each_without (Passes c) a.id rows each)
+      each_with_values a CommandLine (v ∷ vs) (without a.id rows) first (cons_some v vs, pass) (each_without (Passes c) a.id rows each)
 
-  each_used_as : (x : ArgAction) (again : Bool) (a : Rule) (values : List Text) (rows : List Row) → IsFirst c a → action_fault x again a values rows ≡ [] → Each (Passes c) rows
+  each_used_as : (x : ArgAction) (again : Bool) (a : Rule) (values : List Text) (rows : List Row) → IsFirst c a → is_empty values ≡ false → action_fault x again a values rows ≡ [] → Each (Passes c) rows
       → Each (Passes c) (used_as x a.id (reading_by a) values rows)
-  each_used_as Set again a values rows first pass each = each_set again a values rows first pass each
-  each_used_as SetTrue again a values rows first pass each = each_set again a values rows first pass each
-  each_used_as SetFalse again a values rows first pass each = each_set again a values rows first pass each
-  each_used_as Append again a values rows first pass each = each_with_values a CommandLine values rows first pass each
-  each_used_as Count again a values rows first pass each = each_counted a values rows first pass each
-  each_used_as Help again a values rows first pass each = each
-  each_used_as HelpShort again a values rows first pass each = each
-  each_used_as HelpLong again a values rows first pass each = each
-  each_used_as Version again a values rows first pass each = each
+  each_used_as Set again a values rows first some pass each = each_set again a values rows first some pass each
+  each_used_as SetTrue again a values rows first some pass each = each_set again a values rows first some pass each
+  each_used_as SetFalse again a values rows first some pass each = each_set again a values rows first some pass each
+  each_used_as Append again a values rows first some pass each = each_with_values a CommandLine values rows first (some, pass) each
+  each_used_as Count again a values rows first some pass each = each_counted a values rows first pass each
+  each_used_as Help again a values rows first some pass each = each
+  each_used_as HelpShort again a values rows first some pass each = each
+  each_used_as HelpLong again a values rows first some pass each = each
+  each_used_as Version again a values rows first some pass each = each
 
   each_used : (again : Bool) (a : Rule) (values : List Text) (rows : List Row) → IsFirst c a → use_fault again a values rows ≡ [] → Each (Passes c) rows
       → Each (Passes c) (used a values rows)
   each_used again a values rows first pass each =
-      each_used_as (action_of a) again a (values_or_missing a values) rows first
-      (second_empty (range_kinds (unwrap_or_range a.range).start_inclusive (most_values a) (length values)) (action_fault (action_of a) again a (values_or_missing a values) rows) pass) each
+      let range = range_kinds (unwrap_or_range a.range).start_inclusive (most_values a) (length values) in
+      let action = action_fault (action_of a) again a (values_or_missing a values) rows in
+      each_used_as (action_of a) again a (values_or_missing a values) rows first (used_some a values first.1 (first_empty range action pass)) (second_empty range action pass) each
 
   -- ---- the walk
 
@@ -333,14 +368,13 @@ module _ (s : Shape) (names : Names) (keyed : IsKeyed s.rules) where
 each_default_rows : (c : List Rule) (a : Rule) (values : List Text) (rows : List Row) → IsFirst c a → values_fault a values ≡ [] → Each (Passes c) rows
     → Each (Passes c) (default_rows a.id (reading_by a) values rows)
 each_default_rows c a [] rows first pass each = each
-each_default_rows c a (v ∷ vs) rows first pass each = each_with_values c a DefaultValue (v ∷ vs) rows first pass each
+each_default_rows c a (v ∷ vs) rows first pass each = each_with_values c a DefaultValue (v ∷ vs) rows first (cons_some v vs, pass) each
 
 each_default_given : (c : List Rule) (a : Rule) (values : List Text) (rows : List Row) → IsFirst c a → cond (is_empty values) [] (given_default_fault a values) ≡ [] → Each (Passes c) rows
     → Each (Passes c) (default_rows a.id (reading_by a) values rows)
 each_default_given c a [] rows first pass each = each
 each_default_given c a (v ∷ vs) rows first pass each =
-    let some : is_empty (v ∷ vs) ≡ false = grind arith in
-    each_default_rows c a (v ∷ vs) rows first (second_empty (request_kinds (action_of a)) (values_fault a (v ∷ vs)) (rw some at pass)) each
+    each_default_rows c a (v ∷ vs) rows first (second_empty (request_kinds (action_of a)) (values_fault a (v ∷ vs)) (rw (cons_some v vs) at pass)) each
 
 each_with_default : (c : List Rule) (a : Rule) (rows : List Row) (has : Bool) → IsFirst c a → cond (has || is_empty a.defaults) [] (given_default_fault a a.defaults) ≡ [] → Each (Passes c) rows
     → Each (Passes c) (cond has rows (default_rows a.id (reading_by a) a.defaults rows))

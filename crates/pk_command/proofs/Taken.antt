@@ -23,16 +23,17 @@ use Rattle.clap.specs.Facts.{explicit_source, parser_of_value}
 use Rattle.clap.specs.Takes.{is_given}
 use Rattle.std.specs.List.{list_any}
 use Rattle.clap.specs.Kinds.{Kinds, check_kinds, values_kinds}
-use Rattle.clap.specs.Walk.{Row, Rule, Text, answers_to, arg_by_id, finished, first_of, nothing_held, one_of, reading_by, row_text, rows_after, rows_of, walk}
+use Rattle.clap.specs.Walk.{Row, Rule, Text, answers_to, arg_by_id, finished, is_empty as has_none, first_of, nothing_held, one_of, reading_by, row_text, rows_after, rows_of, walk}
 use Rattle.clap.specs.Simple.{App, Shape, built, entered, label_of, names_of, rows_at, subcommand_rows, subcommand_rows_of}
 use Rattle.clap.specs.Faults.{check_fault, entered_fault, fault_of, level_fault, values_fault}
 use Rattle.clap.specs.declared.builder.value_parser.ValueParser.{ValueParser}
 use Rattle.clap.specs.declared.error.kind.ErrorKind.{ErrorKind}
 use Rattle.clap.proofs.ValueTestLemmas.{accepts-Accepts}
 use Rattle.pk_command.specs.CommandLine.{is_empty, number_option, pikos_app}
-use Rattle.pk_command.specs.Given.{IsInRange, given_by, is_set, number_in, number_of, run_options, text_of}
-use Rattle.pk_command.specs.declared.asked.Command.TheVariants.{Run}
-use Rattle.pk_command.specs.Found.{IsFlagFound, IsNumberFound, IsRunFound}
+use Rattle.pk_command.specs.Given.{IsGen, IsInRange, given_by, is_set, number_given, number_in, number_of, run_options, text_of}
+use Rattle.pk_command.specs.declared.asked.Command.TheVariants.{Run, Gen}
+use Rattle.pk_command.specs.declared.asked.GenOptions.{GenOptions}
+use Rattle.pk_command.specs.Found.{IsFlagFound, IsGenFound, IsNumberFound, IsRequiredFound, IsRunFound}
 use Rattle.pk_command.proofs.Rows.{Each, IsKeyed, Passes, below_passes, check_passes, each_found, each_row}
 
 -- ---- the subcommand
@@ -51,6 +52,12 @@ a_fault (k ∷ ks) some = refl
 wants_command : (help argument : Bool) → check_kinds help true argument ≡ [] → ⊥
 wants_command true argument e = no_kind _ _ e
 wants_command false argument e = no_kind _ _ e
+
+no_argument : (help command argument : Bool) → check_kinds help command argument ≡ [] → argument ≡ false
+no_argument true command argument e = absurd (no_kind _ _ e)
+no_argument false true argument e = absurd (no_kind _ _ e)
+no_argument false false true e = absurd (no_kind _ _ e)
+no_argument false false false e = refl
 
 missing_command : (s : Shape) (rows : List Row) → s.subcommand_required ≡ true → check_fault s rows false ≡ [] → ⊥
 missing_command s rows required e =
@@ -93,17 +100,27 @@ run_shape = unwrap_or (slice_get (built pikos_app).subs 0) (built pikos_app).top
 abbrev pub order_shape : Shape
 order_shape = unwrap_or (slice_get (built pikos_app).subs 1) (built pikos_app).top
 
--- the words name the command of this shape, and each value that they give passes the parser of its option
+abbrev pub gen_shape : Shape
+gen_shape = unwrap_or (slice_get (built pikos_app).subs 2) (built pikos_app).top
+
+-- the words name the command of this shape, each value that they give passes the parser of its option, and no required option is missing
 pub record NamesCommand (shape : Shape) (words : List Text) : Type 0 where
   pub rows : List Row
   pub given : given_by words ≡ Some (shape.name, rows)
   pub pass : Each (Passes shape.rules) rows
+  pub check : check_fault shape rows false ≡ []
+
+abbrev IsCommand : Shape → Type 0
+IsCommand s = (s ≡ run_shape) ⊎ (s ≡ order_shape) ⊎ (s ≡ gen_shape)
 
 run_keyed : IsKeyed run_shape.rules
-run_keyed = (refl, (refl, (refl, tt)))
+run_keyed = ((refl, refl), ((refl, refl), ((refl, refl), ((refl, refl), ((refl, refl), ((refl, refl), tt))))))
 
 order_keyed : IsKeyed order_shape.rules
-order_keyed = (refl, tt)
+order_keyed = ((refl, refl), tt)
+
+gen_keyed : IsKeyed gen_shape.rules
+gen_keyed = ((refl, refl), ((refl, refl), ((refl, refl), tt)))
 
 -- where the walk over the words stops
 abbrev stop_at : List Text → Option (Text × List Text)
@@ -117,18 +134,23 @@ names_shape P shape words met is keyed =
       given = met.rows ∙ ap (λ (s : Shape). Some (s.name, rows_after met.shape.rules [] met.words)) is;
       pass = subst (λ (s : Shape). Each (Passes s.rules) (rows_after met.shape.rules [] met.words)) is
           (each_row met.shape [] met.words false [] own met.pass);
+      check = subst (λ (s : Shape). check_fault s (rows_after met.shape.rules [] met.words) false ≡ []) is
+          (check_passes met.shape [] nothing_held met.words false [] met.pass);
     }
 
-pub taken_names : (words : List Text) → fault_of pikos_app words ≡ [] → NamesCommand run_shape words ⊎ NamesCommand order_shape words
+pub taken_names : (words : List Text) → fault_of pikos_app words ≡ [] → NamesCommand run_shape words ⊎ NamesCommand order_shape words ⊎ NamesCommand gen_shape words
 taken_names words taken =
     let a = built pikos_app in
     let stop = stop_at words in
     let below = below_passes a.top (names_of a) nothing_held words (is_some (entered a stop)) (entered_fault a stop) taken in
     let check = check_passes a.top (names_of a) nothing_held words (is_some (entered a stop)) (entered_fault a stop) taken in
-    let met = enters (λ s. (s ≡ run_shape) ⊎ (s ≡ order_shape)) a stop (finished a.top.rules (walk a.top.rules (names_of a) nothing_held words).held) (inl refl, (inr refl, tt)) refl check below in
+    let met = enters IsCommand a stop (finished a.top.rules (walk a.top.rules (names_of a) nothing_held words).held) (inl refl, (inr (inl refl), (inr (inr refl), tt))) refl check below in
     elim met.one [
-      | inl is ↦ inl (names_shape (λ s. (s ≡ run_shape) ⊎ (s ≡ order_shape)) run_shape words met is run_keyed)
-      | inr is ↦ inr (names_shape (λ s. (s ≡ run_shape) ⊎ (s ≡ order_shape)) order_shape words met is order_keyed)
+      | inl is ↦ inl (names_shape IsCommand run_shape words met is run_keyed)
+      | inr other ↦ elim other [
+        | inl is ↦ inr (inl (names_shape IsCommand order_shape words met is order_keyed))
+        | inr is ↦ inr (inr (names_shape IsCommand gen_shape words met is gen_keyed))
+      ]
     ]
 
 -- ---- the values
@@ -160,13 +182,29 @@ given_row c a name None first each = record { passed = tt; read = refl }
 given_row c a name (Some r) first each =
     let at = each r refl in
     let same : r.id ≡ name = (bytes_eq-Decides r.id name).0 at.1 in
-    let pass = at.0 a (ap (arg_by_id c) same ∙ first) in
+    let pass = at.0.1 a (ap (arg_by_id c) same ∙ first) in
     given_values a r r.values pass.1 pass.0
 
 -- what is given for an argument of a level that fails nowhere
 pub given_of : (c : List Rule) (a : Rule) (name : Text) (rows : List Row) → arg_by_id c name ≡ Some a → Each (Passes c) rows → IsGiven a (first_of name rows) (one_of name rows)
 given_of c a name rows first each =
     given_row c a name (find (λ r. bytes_eq r.id name) rows) first (λ r found. each_found (Passes c) (λ q. bytes_eq q.id name) rows r each found)
+
+-- a row of a level that fails nowhere has a value
+given_some : (values : List Text) → has_none values ≡ false → is_some (slice_get values 0) ≡ true
+given_some [] some = cc
+given_some (v ∷ vs) some = refl
+
+required_row : (P : Row → Type 0) (found : Option Row) → ((r : Row) → found ≡ Some r → P r × (has_none r.values ≡ false)) → option_map_or (λ r. explicit_source r.source) found false ≡ true
+    → is_some (option_and_then (λ r. slice_get r.values 0) found) ≡ true
+required_row P None each given = cc
+required_row P (Some r) each given = given_some r.values (each r refl).1
+
+-- what was given has a value
+required_given : (c : List Rule) (name : Text) (rows : List Row) → Each (Passes c) rows → is_given name rows ≡ true → is_some (first_of name rows) ≡ true
+required_given c name rows pass given =
+    required_row (Passes c) (find (λ r. bytes_eq r.id name) rows)
+    (λ r found. let at = each_found (Passes c) (λ q. bytes_eq q.id name) rows r pass found in (at.0, at.0.0)) given
 
 -- ---- numbers
 
@@ -227,7 +265,7 @@ signed_within low high t passed = go (starts_with_minus t) refl
         rw minus (omega (arith, ints), omega (arith, ints))
 
 number_within : (low high default : ℕ) (o : Option Text) → low ≤ default → default ≤ high → IfSome o (IsSignedIn (pos low) (pos high))
-    → (low ≤ option_map_or number_in o default) × (option_map_or number_in o default ≤ high)
+    → (low ≤ unwrap_or (option_map number_in o) default) × (unwrap_or (option_map number_in o) default ≤ high)
 number_within low high default None least most passed = (least, most)
 number_within low high default (Some t) least most passed = signed_within low high t passed
 
@@ -236,21 +274,39 @@ pub number_in_range : (name : Text) (low high default : ℕ) (rows : List Row) �
     → (low ≤ number_of name default rows) × (number_of name default rows ≤ high)
 number_in_range name low high default rows least most found = number_within low high default (first_of name rows) least most found.within
 
-number_got : (E : Type 0) (G : Text → Result ℕ E → Type 0) (default : ℕ) (first one : Option Text) (r : Option ℕ)
-    → ((u : Text) (x : Result ℕ E) → G u x → ParsesUnsigned 64 10 u x) → IfSome first (IsSignedIn (pos 1) (pos 549755813888))
+number_got : (E : Type 0) (G : Text → Result ℕ E → Type 0) (first one : Option Text) (r : Option ℕ)
+    → ((u : Text) (x : Result ℕ E) → G u x → ParsesUnsigned 64 10 u x) → IfSome first (IsSignedIn (pos 0) (pos 549755813888))
     → one ≡ option_map without_minus first → (one ≡ None → r ≡ None) → ((t : Text) → one ≡ Some t → ReadsOne G t r)
-    → unwrap_or r default ≡ option_map_or number_in first default
-number_got E G default None one r only passed read none value = rw (none read) refl
-number_got E G default (Some t) one r only passed read none value =
-    rw (number_reads E G 64 1 549755813888 t r (value (without_minus t) read) only (lit< tt) passed) refl
+    → r ≡ option_map number_in first
+number_got E G None one r only passed read none value = none read
+number_got E G (Some t) one r only passed read none value =
+    number_reads E G 64 0 549755813888 t r (value (without_minus t) read) only (lit< tt) passed
 
--- what `get_one` gives for an option, or the default
-pub number_read : (E : Type 0) (G : Text → Result ℕ E → Type 0) (name : Text) (default : ℕ) (f : Found) (r : Option ℕ)
-    → ((u : Text) (x : Result ℕ E) → G u x → ParsesUnsigned 64 10 u x) → IsNumberFound name 1 549755813888 (rows_of f)
+-- what `get_one` gives for an option
+pub number_read : (E : Type 0) (G : Text → Result ℕ E → Type 0) (name : Text) (f : Found) (r : Option ℕ)
+    → ((u : Text) (x : Result ℕ E) → G u x → ParsesUnsigned 64 10 u x) → IsNumberFound name 0 549755813888 (rows_of f)
     → (one_text f name ≡ None → r ≡ None) → ((t : Text) → one_text f name ≡ Some t → ReadsOne G t r)
-    → unwrap_or r default ≡ number_of name default (rows_of f)
-number_read E G name default f r only found none value =
-    number_got E G default (first_of name (rows_of f)) (one_text f name) r only found.within (one_text-rows f name ∙ found.read) none value
+    → r ≡ number_given name (rows_of f)
+number_read E G name f r only found none value =
+    number_got E G (first_of name (rows_of f)) (one_text f name) r only found.within (one_text-rows f name ∙ found.read) none value
+
+given_within : (low high n : ℕ) (o : Option Text) → IfSome o (IsSignedIn (pos low) (pos high)) → option_map number_in o ≡ Some n → (low ≤ n) × (n ≤ high)
+given_within low high n None passed is = cc
+given_within low high n (Some t) passed is =
+    let same : number_in t ≡ n = cc in
+    subst (λ (m : ℕ). (low ≤ m) × (m ≤ high)) same (signed_within low high t passed)
+
+-- a number that was given lies in its range
+pub given_in_range : (name : Text) (low high n : ℕ) (rows : List Row) → IsNumberFound name low high rows → number_given name rows ≡ Some n → (low ≤ n) × (n ≤ high)
+given_in_range name low high n rows found is = given_within low high n (first_of name rows) found.within is
+
+-- an option that was given isn't missing
+pub not_missing : (name : Text) (rows : List Row) → is_some (first_of name rows) ≡ true → number_given name rows ≡ None → ⊥
+not_missing name rows given none = missing (first_of name rows) given none
+  where
+    missing : (o : Option Text) → is_some o ≡ true → option_map number_in o ≡ None → ⊥
+    missing None given none = cc
+    missing (Some t) given none = cc
 
 flag_word : (text : Text) (r b : Bool) → bytes_eq text (codes "true") ≡ b → (bytes_eq text (codes "true") || bytes_eq text (codes "false")) ≡ true
     → (text ≡ codes "true" → r ≡ true) → (text ≡ codes "false" → r ≡ false) → r ≡ b
@@ -272,14 +328,8 @@ flag_read name f r found none when_true when_false = flag_got (first_of name (ro
 
 -- ---- the options of `run`
 
-abbrev workers_rule : Rule
-workers_rule = unwrap_or (slice_get run_shape.rules 0) (number_option [] 0 0)
-
-abbrev max_runs_rule : Rule
-max_runs_rule = unwrap_or (slice_get run_shape.rules 1) (number_option [] 0 0)
-
-abbrev points_rule : Rule
-points_rule = unwrap_or (slice_get run_shape.rules 2) (number_option [] 0 0)
+abbrev run_rule : ℕ → Rule
+run_rule i = unwrap_or (slice_get run_shape.rules i) (number_option [] 0 0)
 
 copied : (o : Option Text) → option_map (λ t. t) o ≡ o
 copied None = refl
@@ -287,31 +337,88 @@ copied (Some t) = refl
 
 pub run_found : (rows : List Row) → Each (Passes run_shape.rules) rows → IsRunFound rows
 run_found rows pass =
-    let workers = given_of run_shape.rules workers_rule (codes "workers") rows refl pass in
-    let max_runs = given_of run_shape.rules max_runs_rule (codes "max-runs") rows refl pass in
-    let points = given_of run_shape.rules points_rule (codes "points") rows refl pass in
+    let workers = given_of run_shape.rules (run_rule 0) (codes "workers") rows refl pass in
+    let narrow = given_of run_shape.rules (run_rule 1) (codes "narrow") rows refl pass in
+    let oct = given_of run_shape.rules (run_rule 2) (codes "oct") rows refl pass in
+    let max_runs = given_of run_shape.rules (run_rule 3) (codes "max-runs") rows refl pass in
+    let points = given_of run_shape.rules (run_rule 5) (codes "points") rows refl pass in
     record {
       workers = record { within = workers.passed; read = workers.read };
+      narrow = record { within = narrow.passed; read = narrow.read };
+      oct = record { within = oct.passed; read = oct.read };
       max_runs = record { within = max_runs.passed; read = max_runs.read };
       points = record { word = points.passed; read = points.read ∙ copied (first_of (codes "points") rows) };
     }
 
-signed_wider : (low most high : ℕ) (t : Text) → most ≤ high → IsSignedIn (pos low) (pos most) t → IsSignedIn (pos low) (pos high) t
-signed_wider low most high t wide passed = (passed.0, passed.1, passed.2, omega (arith, ints, passed.3))
+signed_wider : (least most high : ℕ) (t : Text) → most ≤ high → IsSignedIn (pos least) (pos most) t → IsSignedIn (pos 0) (pos high) t
+signed_wider least most high t wide passed = (passed.0, passed.1, omega (arith, ints, passed.2), omega (arith, ints, passed.3))
 
-number_wider : (low most high : ℕ) (o : Option Text) → most ≤ high → IfSome o (IsSignedIn (pos low) (pos most)) → IfSome o (IsSignedIn (pos low) (pos high))
-number_wider low most high None wide passed = passed
-number_wider low most high (Some t) wide passed = signed_wider low most high t wide passed
+number_wider : (least most high : ℕ) (o : Option Text) → most ≤ high → IfSome o (IsSignedIn (pos least) (pos most)) → IfSome o (IsSignedIn (pos 0) (pos high))
+number_wider least most high None wide passed = passed
+number_wider least most high (Some t) wide passed = signed_wider least most high t wide passed
 
 -- a number of a narrow range is one of a wide range
-pub found_wider : (name : Text) (low most high : ℕ) (rows : List Row) → most ≤ high → IsNumberFound name low most rows → IsNumberFound name low high rows
-found_wider name low most high rows wide found = record { within = number_wider low most high (first_of name rows) wide found.within; read = found.read }
+pub found_wider : (name : Text) (least most high : ℕ) (rows : List Row) → most ≤ high → IsNumberFound name least most rows → IsNumberFound name 0 high rows
+found_wider name least most high rows wide found = record { within = number_wider least most high (first_of name rows) wide found.within; read = found.read }
+
+pub required_wider : (name : Text) (least most high : ℕ) (rows : List Row) → most ≤ high → IsRequiredFound name least most rows → IsRequiredFound name 0 high rows
+required_wider name least most high rows wide found = record { number = found_wider name least most high rows wide found.number; given = found.given }
+
+pub workers_in_range : (rows : List Row) → IsNumberFound (codes "workers") 1 64 rows → (1 ≤ number_of (codes "workers") 4 rows) × (number_of (codes "workers") 4 rows ≤ 64)
+workers_in_range rows found = number_in_range (codes "workers") 1 64 4 rows (lit≤ tt) (lit≤ tt) found
 
 pub run_in_range : (rows : List Row) → IsRunFound rows → IsInRange (Run (run_options rows))
 run_in_range rows found =
-    let workers = number_in_range (codes "workers") 1 64 4 rows (lit≤ tt) (lit≤ tt) found.workers in
+    let workers = workers_in_range rows found.workers in
+    let narrow = number_in_range (codes "narrow") 0 8 2 rows (lit≤ tt) (lit≤ tt) found.narrow in
+    let oct = number_in_range (codes "oct") 0 64 16 rows (lit≤ tt) (lit≤ tt) found.oct in
     let max_runs = number_in_range (codes "max-runs") 1 549755813888 1000000 rows (lit≤ tt) (lit≤ tt) found.max_runs in
-    (workers.0, workers.1, max_runs.0, max_runs.1)
+    (workers.0, workers.1, narrow.1, oct.1, max_runs.0, max_runs.1)
+
+-- ---- the options of `gen`
+
+abbrev gen_rule : ℕ → Rule
+gen_rule i = unwrap_or (slice_get gen_shape.rules i) (number_option [] 0 0)
+
+both_given : (a b rest : Bool) → (not a || (not b || rest)) ≡ false → (a ≡ true) × (b ≡ true)
+both_given true true rest none = (refl, refl)
+both_given true false rest none = cc
+both_given false b rest none = cc
+
+gen_given : (rows : List Row) → check_fault gen_shape rows false ≡ [] → (is_given (codes "seed") rows ≡ true) × (is_given (codes "size") rows ≡ true)
+gen_given rows check =
+    let missing = list_any (λ a. a.required && not (is_given a.id rows)) gen_shape.rules in
+    both_given (is_given (codes "seed") rows) (is_given (codes "size") rows) false (no_argument false false missing check)
+
+pub gen_found : (rows : List Row) → Each (Passes gen_shape.rules) rows → check_fault gen_shape rows false ≡ [] → IsGenFound rows
+gen_found rows pass check =
+    let seed = given_of gen_shape.rules (gen_rule 0) (codes "seed") rows refl pass in
+    let size = given_of gen_shape.rules (gen_rule 1) (codes "size") rows refl pass in
+    let workers = given_of gen_shape.rules (gen_rule 2) (codes "workers") rows refl pass in
+    let given = gen_given rows check in
+    record {
+      seed = record { number = record { within = seed.passed; read = seed.read }; given = required_given gen_shape.rules (codes "seed") rows pass given.0 };
+      size = record { number = record { within = size.passed; read = size.read }; given = required_given gen_shape.rules (codes "size") rows pass given.1 };
+      workers = record { within = workers.passed; read = workers.read };
+    }
+
+pub gen_in_range : (rows : List Row) (options : GenOptions) → IsGenFound rows → IsGen rows options → IsInRange (Gen options)
+gen_in_range rows options found is =
+    let seed = given_in_range (codes "seed") 0 2147483647 options.seed rows found.seed.number is.seed in
+    let size = given_in_range (codes "size") 1 1000 options.size rows found.size.number is.size in
+    let workers = rw (sym is.workers) at (workers_in_range rows found.workers) in
+    (seed.1, size.0, size.1, workers.0, workers.1)
+
+the_number : (name : Text) (rows : List Row) (o : Option ℕ) → number_given name rows ≡ o → (o ≡ None → ⊥) → (n : ℕ) × (number_given name rows ≡ Some n)
+the_number name rows None is some = absurd (some refl)
+the_number name rows (Some n) is some = (n, is)
+
+-- the options that were given
+pub gen_options : (rows : List Row) → IsGenFound rows → (options : GenOptions) × IsGen rows options
+gen_options rows found =
+    let seed = the_number (codes "seed") rows (number_given (codes "seed") rows) refl (not_missing (codes "seed") rows found.seed.given) in
+    let size = the_number (codes "size") rows (number_given (codes "size") rows) refl (not_missing (codes "size") rows found.size.given) in
+    (record { seed = seed.0; size = size.0; workers = number_of (codes "workers") 4 rows }, record { seed = seed.1; size = size.1; workers = refl })
 
 -- ---- the option of `order`
 
@@ -332,11 +439,15 @@ pair_rows o rows given name left right = some_rows rows given (sym left ∙ ap (
     some_rows : (a b : List Row) → Some a ≡ Some b → a ≡ b
     some_rows a b e = cc
 
--- no command is `run` and `order`
-pub other_names : (o : Option (Text × List Row)) (rows given : List Row) → o ≡ Some (codes "run", rows) → o ≡ Some (codes "order", given) → ⊥
-other_names o rows given left right =
-    let bad : true ≡ false = ap (λ p. option_map_or (λ q. bytes_eq q.0 (codes "run")) p false) (sym left ∙ right) in
+-- no command has two names
+pub other_names : (o : Option (Text × List Row)) (name other : Text) (rows given : List Row) → (bytes_eq name other ≡ false) → o ≡ Some (name, rows) → o ≡ Some (other, given) → ⊥
+other_names o name other rows given differ left right =
+    let same : name ≡ other = some_text name other (sym (ap (option_map (λ p. p.0)) left) ∙ ap (option_map (λ p. p.0)) right) in
+    let yes : bytes_eq name other ≡ true = (bytes_eq-Decides name other).1 same in
     cc
+  where
+    some_text : (a b : Text) → Some a ≡ Some b → a ≡ b
+    some_text a b e = cc
 
 pair_of : (o : Option (Text × List Row)) (name : Text) (rows : List Row) → option_map (λ p. p.0) o ≡ Some name → option_map (λ p. p.1) o ≡ Some rows → o ≡ Some (name, rows)
 pair_of None name rows left right = absurd (none_row rows right)
@@ -357,17 +468,32 @@ pub given_of_found : (words : List Text) (m : ArgMatches) (name : Text) (rows : 
     → subcommand_name_of m ≡ Some name → option_map (λ p. p.1) (subcommand_rows_of m) ≡ Some rows → given_by words ≡ Some (name, rows)
 given_of_found words m name rows given named is = sym given ∙ pair_of (subcommand_rows_of m) name rows (sym (name_of_rows m) ∙ named) is
 
--- the rows of `run` are as its options say
+-- the rows of `run` and of `gen` are as their options say
 pub run_of_taken : (words : List Text) (rows : List Row) → fault_of pikos_app words ≡ [] → given_by words ≡ Some (codes "run", rows) → IsRunFound rows
 run_of_taken words rows taken given = elim (taken_names words taken) [
   | inl names ↦ subst IsRunFound (sym (pair_rows (given_by words) rows names.rows (codes "run") (ap (option_map (λ p. p.1)) given) names.given)) (run_found names.rows names.pass)
-  | inr names ↦ absurd (other_names (given_by words) rows names.rows given names.given)
+  | inr other ↦ elim other [
+    | inl names ↦ absurd (other_names (given_by words) (codes "run") (codes "order") rows names.rows refl given names.given)
+    | inr names ↦ absurd (other_names (given_by words) (codes "run") (codes "gen") rows names.rows refl given names.given)
+  ]
+]
+
+pub gen_of_taken : (words : List Text) (rows : List Row) → fault_of pikos_app words ≡ [] → given_by words ≡ Some (codes "gen", rows) → IsGenFound rows
+gen_of_taken words rows taken given = elim (taken_names words taken) [
+  | inl names ↦ absurd (other_names (given_by words) (codes "gen") (codes "run") rows names.rows refl given names.given)
+  | inr other ↦ elim other [
+    | inl names ↦ absurd (other_names (given_by words) (codes "gen") (codes "order") rows names.rows refl given names.given)
+    | inr names ↦ subst IsGenFound (sym (pair_rows (given_by words) rows names.rows (codes "gen") (ap (option_map (λ p. p.1)) given) names.given)) (gen_found names.rows names.pass names.check)
+  ]
 ]
 
 -- words that are taken name one of the commands
 pub one_is_named : (words : List Text) (m : ArgMatches) → fault_of pikos_app words ≡ [] → subcommand_rows_of m ≡ given_by words
-    → (subcommand_name_of m ≡ Some (codes "run")) ⊎ (subcommand_name_of m ≡ Some (codes "order"))
+    → (subcommand_name_of m ≡ Some (codes "run")) ⊎ (subcommand_name_of m ≡ Some (codes "order")) ⊎ (subcommand_name_of m ≡ Some (codes "gen"))
 one_is_named words m taken given = elim (taken_names words taken) [
   | inl names ↦ inl (name_of_rows m ∙ ap (option_map (λ p. p.0)) (given ∙ names.given))
-  | inr names ↦ inr (name_of_rows m ∙ ap (option_map (λ p. p.0)) (given ∙ names.given))
+  | inr other ↦ elim other [
+    | inl names ↦ inr (inl (name_of_rows m ∙ ap (option_map (λ p. p.0)) (given ∙ names.given)))
+    | inr names ↦ inr (inr (name_of_rows m ∙ ap (option_map (λ p. p.0)) (given ∙ names.given)))
+  ]
 ]

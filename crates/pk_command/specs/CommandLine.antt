@@ -1,5 +1,5 @@
 -- The command line, as a value of clap's: the commands, their options, and which words are taken.
-use Rattle.std.specs.Prelude.{ℕ, Bool, true, false, pos, List, [], ◌∷◌, codes, Some}
+use Rattle.std.specs.Prelude.{ℕ, Bool, true, false, pos, List, [], ◌∷◌, ◌++◌, codes, fold, Some}
 use Rattle.clap.specs.Words.{App, Rule, Shape, Text, fault_of, new_app, new_rule, with_rule, with_subcommand}
 use Rattle.clap.specs.Kinds.{Kinds}
 use Rattle.clap.specs.declared.builder.ArgAction.TheVariants.{Set, SetTrue}
@@ -9,6 +9,10 @@ use Rattle.clap.specs.declared.builder.value_parser.ValueParser.TheVariants as p
 abbrev pub number_option : Text → ℕ → ℕ → Rule
 number_option name least most = record (new_rule name) { long = Some name; action = Some Set; parser = Some (parser.Signed (pos least) (pos most)) }
 
+-- the same, where the option has to be given
+abbrev pub required_number : Text → ℕ → ℕ → Rule
+required_number name least most = record (number_option name least most) { required = true }
+
 -- `--NAME TEXT`, any text
 abbrev pub text_option : Text → Rule
 text_option name = record (new_rule name) { long = Some name; action = Some Set; parser = Some parser.String }
@@ -17,14 +21,37 @@ text_option name = record (new_rule name) { long = Some name; action = Some Set;
 abbrev pub flag : Text → Rule
 flag name = record (new_rule name) { long = Some name; action = Some SetTrue }
 
--- `run [--workers N] [--max-runs N] [--points]`
+abbrev pub workers_option : Rule
+workers_option = number_option (codes "workers") 1 64
+
+abbrev pub entry_option : Rule
+entry_option = text_option (codes "entry")
+
+-- a command, with its options
+abbrev pub command : Text → List Rule → App
+command name options = fold with_rule (new_app name) options
+
+abbrev pub run_number_options : List Rule
+run_number_options = workers_option
+    ∷ number_option (codes "narrow") 0 8
+    ∷ number_option (codes "oct") 0 64
+    ∷ number_option (codes "max-runs") 1 549755813888
+    ∷ []
+
+-- `run [--workers N] [--narrow K] [--oct N] [--max-runs N] [--entry NAME] [--points]`
 abbrev pub run_app : App
-run_app = with_rule (with_rule (with_rule (new_app (codes "run"))
-    (number_option (codes "workers") 1 64)) (number_option (codes "max-runs") 1 549755813888)) (flag (codes "points"))
+run_app = command (codes "run") (run_number_options ++ entry_option ∷ flag (codes "points") ∷ [])
 
 -- `order [--entry NAME]`
 abbrev pub order_app : App
-order_app = with_rule (new_app (codes "order")) (text_option (codes "entry"))
+order_app = command (codes "order") (entry_option ∷ [])
+
+-- `gen --seed S --size N [--workers N]`
+abbrev pub gen_app : App
+gen_app = command (codes "gen") (required_number (codes "seed") 0 2147483647
+    ∷ required_number (codes "size") 1 1000
+    ∷ workers_option
+    ∷ [])
 
 -- a command is required; the words leave out the program's name, and nothing asks for help or a version
 abbrev pub program_shape : Shape
@@ -36,8 +63,11 @@ program_shape = record (new_app (codes "pikos")).top {
   subcommand_required = true;
 }
 
+abbrev pub program_app : App
+program_app = record { top = program_shape; subs = [] }
+
 abbrev pub pikos_app : App
-pikos_app = with_subcommand (with_subcommand (record { top = program_shape; subs = [] }) run_app.top) order_app.top
+pikos_app = with_subcommand (with_subcommand (with_subcommand program_app run_app.top) order_app.top) gen_app.top
 
 abbrev pub is_empty : Kinds → Bool
 is_empty [] = true

@@ -2,17 +2,33 @@
 use Rattle.std.specs.Prelude.{◌≡◌, false, IsTrue, List, [], ◌∷◌, codes}
 use Rattle.clap.specs.Words.{Text}
 use Rattle.pk_command.specs.declared.asked.Command.{Command}
-use Rattle.pk_command.specs.declared.asked.Command.TheVariants.{Run, Order}
+use Rattle.pk_command.specs.declared.asked.Command.TheVariants.{Run, Order, Gen}
 use Rattle.pk_command.specs.CommandLine.{is_taken}
 use Rattle.pk_command.specs.Given.{AsksFor}
 
 -- the word `run` alone asks for a run with every default
 abbrev pub RunIsTaken : Type 0
-RunIsTaken = AsksFor (codes "run" ∷ []) (Run (record { workers = 4; max_runs = 1000000; points = false }))
+RunIsTaken = AsksFor (codes "run" ∷ []) (Run (record {
+  workers = 4;
+  narrow = 2;
+  oct = 16;
+  max_runs = 1000000;
+  entry = codes "main";
+  points = false;
+}))
 
 -- the word `order` alone asks for the order from `main`
 abbrev pub OrderIsTaken : Type 0
 OrderIsTaken = AsksFor (codes "order" ∷ []) (Order (record { entry = codes "main" }))
+
+-- the word `gen` with a seed and a size asks for their program
+abbrev pub GenIsTaken : Type 0
+GenIsTaken = AsksFor (codes "gen" ∷ codes "--seed" ∷ codes "2" ∷ codes "--size" ∷ codes "1" ∷ []) (Gen (record { seed = 2; size = 1; workers = 4 }))
+
+-- the word `gen` isn't taken without a size, nor without a seed
+abbrev pub GenNeedsOptions : Type 0
+GenNeedsOptions = (is_taken (codes "gen" ∷ codes "--seed" ∷ codes "2" ∷ []) ≡ false)
+    × (is_taken (codes "gen" ∷ codes "--size" ∷ codes "1" ∷ []) ≡ false)
 
 -- words that are taken ask for a command
 abbrev pub TakenAsks : Type 0

@@ -3,12 +3,18 @@ use pk_ctypes::Name;
 use std::alloc::AllocError;
 
 /// The options of `run`.
-#[derive(Clone, Copy, PartialEq, Eq)]
+#[derive(Drop)]
 pub struct RunOptions {
     /// How many threads iterate, from 1 to 64.
     pub workers: u32,
+    /// How often a head may be narrowed, from 0 to 8.
+    pub narrow: u32,
+    /// How many variables the octagon has at most, from 0 to 64.
+    pub oct: usize,
     /// How often an element may be run, from 1 to 549755813888.
     pub max_runs: u64,
+    /// The name of the function that a run of the text begins with. It may be any text, the empty one too.
+    pub entry: Name,
     /// Whether every point is reported.
     pub points: bool,
 }
@@ -20,11 +26,23 @@ pub struct OrderOptions {
     pub entry: Name,
 }
 
+/// The options of `gen`.
+#[derive(Drop)]
+pub struct GenOptions {
+    /// What the program is drawn from, from 0 to 2147483647.
+    pub seed: u32,
+    /// How many blocks the program has, from 1 to 1000.
+    pub size: u32,
+    /// How many threads iterate, from 1 to 64.
+    pub workers: u32,
+}
+
 /// A command, with its options.
 #[derive(Drop)]
 pub enum Command {
     Run(RunOptions),
     Order(OrderOptions),
+    Gen(GenOptions),
 }
 
 /// Why words give no command.

@@ -6,6 +6,8 @@ mod definition;
 mod laws;
 mod reading;
 
-pub use asked::{Command, OrderOptions, RunOptions, WordsError};
-pub use laws::{one_command, order_is_taken, run_is_taken, taken_asks};
+pub use asked::{Command, GenOptions, OrderOptions, RunOptions, WordsError};
+pub use laws::{
+    gen_is_taken, gen_needs_options, one_command, order_is_taken, run_is_taken, taken_asks,
+};
 pub use reading::read_words;

@@ -1,12 +1,12 @@
 // The words that the definition takes, and what they give.
 
-ghost use Rattle.std.specs.Prelude.{◌≡◌, [], IfOk, OnOk, false, codes, map, string_bytes};
+ghost use Rattle.std.specs.Prelude.{◌≡◌, [], Some, IfOk, OnOk, false, codes, map, string_bytes};
 ghost use Rattle.clap.specs.Words.{fault_of, found_of, rows_of, subcommand_rows_of};
 ghost use Rattle.pk_command.specs.CommandLine.{is_taken, pikos_app};
-ghost use Rattle.pk_command.specs.Given.{AsksFor, IsInRange, given_by, is_set, number_of, order_options as order_options_of, run_options as run_options_of, text_of};
-ghost use Rattle.pk_command.specs.Found.{IsFlagFound, IsNumberFound, IsRunFound};
+ghost use Rattle.pk_command.specs.Given.{AsksFor, IsInRange, IsGen, given_by, is_set, number_given, number_of, order_options as order_options_of, run_options as run_options_of, text_of};
+ghost use Rattle.pk_command.specs.Found.{IsFlagFound, IsGenFound, IsNumberFound, IsRequiredFound, IsRunFound};
 
-use crate::asked::{Command, OrderOptions, RunOptions, WordsError};
+use crate::asked::{Command, GenOptions, OrderOptions, RunOptions, WordsError};
 use crate::definition::command_line;
 use clap::ArgMatches;
 use clap::error::ErrorKind;
@@ -32,7 +32,7 @@ fn matches_in<'a>(alloc: Global, words: &'a [String]) -> Result<ArgMatches<'a>, 
 }
 
 fn number(found: &ArgMatches<'_>, name: &str, default: u64) -> u64
-    requires { IsNumberFound name.now 1 549755813888 (rows_of (found_of found.now)) }
+    requires { IsNumberFound name.now 0 549755813888 (rows_of (found_of found.now)) }
     ensures { result ≡ number_of name.now default (rows_of (found_of found.now)) }
 {
     match found.get_one(name) {
@@ -41,22 +41,28 @@ fn number(found: &ArgMatches<'_>, name: &str, default: u64) -> u64
     }
 }
 
+fn required(found: &ArgMatches<'_>, name: &str) -> u64
+    requires { IsRequiredFound name.now 0 549755813888 (rows_of (found_of found.now)) }
+    ensures { number_given name.now (rows_of (found_of found.now)) ≡ Some result }
+{
+    match found.get_one(name) {
+        Some(number) => number,
+        None => unreachable!(),
+    }
+}
+
+fn workers(found: &ArgMatches<'_>) -> u32
+    requires { IsNumberFound (codes "workers") 1 64 (rows_of (found_of found.now)) }
+    ensures { result ≡ number_of (codes "workers") 4 (rows_of (found_of found.now)) }
+{
+    number(found, "workers", 4) as u32
+}
+
 fn is_given(found: &ArgMatches<'_>, name: &str) -> bool
     requires { IsFlagFound name.now (rows_of (found_of found.now)) }
     ensures { result ≡ is_set name.now (rows_of (found_of found.now)) }
 {
     found.get_flag(name)
-}
-
-fn run_options(found: &ArgMatches<'_>) -> RunOptions
-    requires { IsRunFound (rows_of (found_of found.now)) }
-    ensures { result ≡ run_options_of (rows_of (found_of found.now)) }
-{
-    RunOptions {
-        workers: number(found, "workers", 4) as u32,
-        max_runs: number(found, "max-runs", 1000000),
-        points: is_given(found, "points"),
-    }
 }
 
 fn text<'a>(found: &ArgMatches<'a>, name: &str, default: &'a str) -> &'a str
@@ -68,13 +74,43 @@ fn text<'a>(found: &ArgMatches<'a>, name: &str, default: &'a str) -> &'a str
     }
 }
 
+fn entry(alloc: Global, found: &ArgMatches<'_>) -> Result<Name, AllocError>
+    ensures { IfOk result (λ name. name ≡ text_of (codes "entry") (codes "main") (rows_of (found_of found.now))) }
+{
+    Name::new(alloc, text(found, "entry", "main").as_bytes())
+}
+
+fn run_options(alloc: Global, found: &ArgMatches<'_>) -> Result<RunOptions, AllocError>
+    requires { IsRunFound (rows_of (found_of found.now)) }
+    ensures { IfOk result (λ options. options ≡ run_options_of (rows_of (found_of found.now))) }
+{
+    Ok(RunOptions {
+        workers: workers(found),
+        narrow: number(found, "narrow", 2) as u32,
+        oct: number(found, "oct", 16) as usize,
+        max_runs: number(found, "max-runs", 1000000),
+        entry: entry(alloc, found)?,
+        points: is_given(found, "points"),
+    })
+}
+
 fn order_options(alloc: Global, found: &ArgMatches<'_>) -> Result<OrderOptions, AllocError>
     ensures { IfOk result (λ options. options ≡ order_options_of (rows_of (found_of found.now))) }
 {
-    let entry = text(found, "entry", "main");
     Ok(OrderOptions {
-        entry: Name::new(alloc, entry.as_bytes())?,
+        entry: entry(alloc, found)?,
     })
+}
+
+fn gen_options(found: &ArgMatches<'_>) -> GenOptions
+    requires { IsGenFound (rows_of (found_of found.now)) }
+    ensures { IsGen (rows_of (found_of found.now)) result }
+{
+    GenOptions {
+        seed: required(found, "seed") as u32,
+        size: required(found, "size") as u32,
+        workers: workers(found),
+    }
 }
 
 /// Reads the words after the program's name. Without memory for it, words that aren't taken too may give `Memory`.
@@ -88,10 +124,13 @@ pub fn read_words(alloc: Global, words: &[String]) -> Result<Command, WordsError
 {
     let matches = matches_in(alloc, words)?;
     match matches.subcommand_matches("run") {
-        Some(found) => Ok(Command::Run(run_options(found))),
+        Some(found) => Ok(Command::Run(run_options(alloc, found)?)),
         None => match matches.subcommand_matches("order") {
             Some(found) => Ok(Command::Order(order_options(alloc, found)?)),
-            None => unreachable!(),
+            None => match matches.subcommand_matches("gen") {
+                Some(found) => Ok(Command::Gen(gen_options(found))),
+                None => unreachable!(),
+            },
         },
     }
 }

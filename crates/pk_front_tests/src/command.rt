@@ -1,6 +1,6 @@
 // Words, and what they give. Each list is parted by blanks, two of which stand round an empty word.
 
-use pk_command::{Command, RunOptions, WordsError, read_words};
+use pk_command::{Command, WordsError, read_words};
 use std::alloc::Global;
 use std::test::Fail;
 
@@ -12,9 +12,25 @@ fn answer(alloc: Global, words: &str) -> Result<Result<Command, WordsError>, Fai
     Ok(read_words(alloc, &list))
 }
 
-fn asks_for_run(alloc: Global, words: &str, wanted: RunOptions) -> Result<bool, Fail> {
+#[derive(Drop)]
+struct Wanted {
+    workers: u32,
+    narrow: u32,
+    oct: usize,
+    max_runs: u64,
+    points: bool,
+}
+
+fn asks_for_run(alloc: Global, words: &str, wanted: &Wanted, entry: &str) -> Result<bool, Fail> {
     match answer(alloc, words)? {
-        Ok(Command::Run(options)) => Ok(options == wanted),
+        Ok(Command::Run(options)) => Ok(
+            options.workers == wanted.workers
+                && options.narrow == wanted.narrow
+                && options.oct == wanted.oct
+                && options.max_runs == wanted.max_runs
+                && options.points == wanted.points
+                && options.entry.as_str() == entry,
+        ),
         _ => Ok(false),
     }
 }
@@ -33,31 +49,69 @@ fn is_usage(answer: Result<Command, WordsError>) -> bool {
     }
 }
 
-const RUNS: [(&str, u32, u64, bool); 13] = [
-    ("run", 4, 1000000, false),
-    ("run --", 4, 1000000, false),
-    ("run --points", 4, 1000000, true),
-    ("run --workers 1", 1, 1000000, false),
-    ("run --workers 64", 64, 1000000, false),
-    ("run --workers=16", 16, 1000000, false),
-    ("run --workers +16", 16, 1000000, false),
-    ("run --workers=+16", 16, 1000000, false),
-    ("run --workers 007", 7, 1000000, false),
-    ("run --max-runs 1", 4, 1, false),
-    ("run --max-runs 549755813888", 4, 549755813888, false),
-    ("run --points --max-runs=5 --workers 2", 2, 5, true),
-    ("run --workers 2 --points --max-runs 5 --", 2, 5, true),
+const RUNS: [(&str, u32, u32, usize, u64, &str, bool); 22] = [
+    ("run", 4, 2, 16, 1000000, "main", false),
+    ("run --", 4, 2, 16, 1000000, "main", false),
+    ("run --points", 4, 2, 16, 1000000, "main", true),
+    ("run --workers 1", 1, 2, 16, 1000000, "main", false),
+    ("run --workers 64", 64, 2, 16, 1000000, "main", false),
+    ("run --workers=16", 16, 2, 16, 1000000, "main", false),
+    ("run --workers +16", 16, 2, 16, 1000000, "main", false),
+    ("run --workers=+16", 16, 2, 16, 1000000, "main", false),
+    ("run --workers 007", 7, 2, 16, 1000000, "main", false),
+    ("run --narrow 0", 4, 0, 16, 1000000, "main", false),
+    ("run --narrow 8", 4, 8, 16, 1000000, "main", false),
+    ("run --narrow=-0", 4, 0, 16, 1000000, "main", false),
+    ("run --oct 0", 4, 2, 0, 1000000, "main", false),
+    ("run --oct 64", 4, 2, 64, 1000000, "main", false),
+    ("run --oct=-0", 4, 2, 0, 1000000, "main", false),
+    ("run --max-runs 1", 4, 2, 16, 1, "main", false),
+    (
+        "run --max-runs 549755813888",
+        4,
+        2,
+        16,
+        549755813888,
+        "main",
+        false,
+    ),
+    ("run --entry f", 4, 2, 16, 1000000, "f", false),
+    ("run --entry=", 4, 2, 16, 1000000, "", false),
+    ("run --entry=-x", 4, 2, 16, 1000000, "-x", false),
+    (
+        "run --points --max-runs=5 --workers 2",
+        2,
+        2,
+        16,
+        5,
+        "main",
+        true,
+    ),
+    (
+        "run --entry f --oct 3 --narrow 1 --workers 2 --points --max-runs 5 --",
+        2,
+        1,
+        3,
+        5,
+        "f",
+        true,
+    ),
 ];
 
 #[test]
 fn these_words_ask_for_a_run(rt: HostRuntime) -> Result<(), Fail> {
-    for (words, workers, max_runs, points) in &RUNS {
-        let options = RunOptions {
+    for (words, workers, narrow, oct, max_runs, entry, points) in &RUNS {
+        let wanted = Wanted {
             workers: *workers,
+            narrow: *narrow,
+            oct: *oct,
             max_runs: *max_runs,
             points: *points,
         };
-        assert!(rt; asks_for_run(rt.alloc(), *words, options)?, "{words}");
+        assert!(rt;
+            asks_for_run(rt.alloc(), *words, &wanted, *entry)?,
+            "{words}"
+        );
     }
     Ok(())
 }
@@ -88,7 +142,43 @@ fn these_words_ask_for_the_order(rt: HostRuntime) -> Result<(), Fail> {
     Ok(())
 }
 
-const USAGES: [&str; 81] = [
+const GENS: [(&str, u32, u32, u32); 7] = [
+    ("gen --seed 0 --size 1", 0, 1, 4),
+    ("gen --seed 2147483647 --size 1000", 2147483647, 1000, 4),
+    ("gen --size=1 --seed=2 --workers 64", 2, 1, 64),
+    ("gen --workers 1 --size 7 --seed 9 --", 9, 7, 1),
+    ("gen --seed +3 --size +4", 3, 4, 4),
+    ("gen --seed=-0 --size 1", 0, 1, 4),
+    ("gen --seed 0002147483647 --size 0001", 2147483647, 1, 4),
+];
+
+fn asks_for_gen(
+    alloc: Global,
+    words: &str,
+    seed: u32,
+    size: u32,
+    workers: u32,
+) -> Result<bool, Fail> {
+    match answer(alloc, words)? {
+        Ok(Command::Gen(options)) => {
+            Ok(options.seed == seed && options.size == size && options.workers == workers)
+        }
+        _ => Ok(false),
+    }
+}
+
+#[test]
+fn these_words_ask_for_a_program(rt: HostRuntime) -> Result<(), Fail> {
+    for (words, seed, size, workers) in &GENS {
+        assert!(rt;
+            asks_for_gen(rt.alloc(), *words, *seed, *size, *workers)?,
+            "{words}"
+        );
+    }
+    Ok(())
+}
+
+const USAGES: [&str; 120] = [
     "",
     "Run",
     "ru",
@@ -136,7 +226,6 @@ const USAGES: [&str; 81] = [
     "run help",
     "--version",
     "run -V",
-    "run --entry f",
     "run --order",
     "Order",
     "ord",
@@ -170,6 +259,46 @@ const USAGES: [&str; 81] = [
     "order -h",
     "order --version",
     "help order",
+    "run --narrow",
+    "run --narrow 9",
+    "run --narrow -1",
+    "run --narrow=-1",
+    "run --narrow -0",
+    "run --narrow 1 --narrow 1",
+    "run --oct 65",
+    "run --oct=-1",
+    "run --oct",
+    "run --oct 1 --oct 1",
+    "run --entry",
+    "run --entry a --entry b",
+    "run --entry -x",
+    "run --seed 1",
+    "run --size 1",
+    "order --narrow 1",
+    "order --oct 1",
+    "gen",
+    "Gen",
+    "gens",
+    "gen --seed 1",
+    "gen --size 1",
+    "gen --seed 1 --size 0",
+    "gen --seed 1 --size 1001",
+    "gen --seed 2147483648 --size 1",
+    "gen --seed=-1 --size 1",
+    "gen --seed 1 --size 1 --seed 1",
+    "gen --seed 1 --size 1 --workers 0",
+    "gen --seed 1 --size 1 --workers 65",
+    "gen --seed 1 --size",
+    "gen --seed --size 1",
+    "gen --seed 1 --size 1 --narrow 1",
+    "gen --seed 1 --size 1 --oct 1",
+    "gen --seed 1 --size 1 --max-runs 5",
+    "gen --seed 1 --size 1 --entry f",
+    "gen --seed 1 --size 1 --points",
+    "gen --seed 1 --size 1 run",
+    "gen 1 1",
+    "gen --help",
+    "help gen",
 ];
 
 #[test]

@@ -1,201 +1,223 @@
--- Words and a text have at most one answer.
-use Rattle.std.proofs.Common.{◌≡◌, ℕ, ◌<◌, ◌⊎◌, inl, inr, ◌++◌, codes, List, [], length, map, take, false, refl, sym, ◌∙◌, ap, subst, arith}
-use Rattle.pk_top.specs.declared.lex.Token.{Token}
-use Rattle.pk_top.specs.declared.ast.Unit.{Unit as Unit'}
-use Rattle.pk_top.specs.declared.analysis.Cell.{Cell}
-use Rattle.pk_top.specs.declared.status.Status.{Status}
-use Rattle.pk_top.specs.declared.status.Status.TheVariants as status
-use Rattle.pk_top.specs.declared.status.Refusal.{Refusal}
-use Rattle.pk_top.specs.declared.status.Refusal.TheVariants.{Unsupported, NoEntry}
-use Rattle.pk_ctypes.specs.declared.places.Pos.{Pos}
-use Rattle.pk_ctypes.specs.declared.words.Construct.{Construct}
+-- Words and a text have at most one answer, and the number of workers tells nothing.
+use Rattle.std.specs.Prelude.{◌≡◌, ℕ, ◌++◌, List, codes, length}
+use Rattle.std.proofs.Common.{sym, ap, subst, ◌∙◌, inl, inr, arith}
 use Rattle.pk_ctypes.specs.declared.words.Quantity.{Quantity}
-use Rattle.pk_linear.specs.Texts.{order_text}
-use Rattle.pk_top.specs.Grammar.{Derives}
-use Rattle.pk_top.specs.FlowGraph.{FlowGraph, digraph_of}
-use Rattle.pk_plan.specs.Order.{Level}
-use Rattle.pk_order.specs.Ordered.{IsOrdered, heads_of}
-use Rattle.pk_order.proofs.Determined.{heads_same, elements_same, order_same}
-use Rattle.pk_iterate.specs.Answer.{Over, IsResult}
-use Rattle.pk_iterate.specs.Outcome.{Outcome}
-use Rattle.pk_top.specs.Lowering.{graph_of}
-use Rattle.pk_top.specs.States.{AbstractState}
-use Rattle.pk_top.specs.Analyses.{behaviour_of, state_of}
-use Rattle.pk_top.specs.Reports.{report_text, unknown_count}
-use Rattle.pk_top.specs.Answers.{IsAccepted, IsReport, IsOver, IsOrderLine, IsAsked, IsRun, IsOrder, IsTooLong, IsRefusedFor, OneAnswer, states_of, text_limit}
 use Rattle.pk_command.specs.declared.asked.RunOptions.{RunOptions}
-use Rattle.pk_command.specs.declared.asked.OrderOptions.{OrderOptions}
 use Rattle.pk_command.specs.declared.asked.Command.{Command}
-use Rattle.pk_command.specs.declared.asked.Command.TheVariants.{Run, Order}
-use Rattle.pk_command.specs.CommandLine.{is_taken}
-use Rattle.pk_command.specs.Given.{AsksFor}
-use Rattle.pk_command.proofs.Asking.{asked_taken, one_run, one_order, never_both}
-use Rattle.pk_top.proofs.Lexing.{one_list}
-use Rattle.pk_top.proofs.Grammars.{one_tree}
+use Rattle.pk_command.specs.declared.asked.Command.TheVariants.{Run, Order, Gen}
+use Rattle.pk_command.specs.Laws.{OneCommand}
+use Rattle.pk_typed.specs.Trees.{UnitTree}
+use Rattle.pk_front.specs.declared.status.Status.{Status}
+use Rattle.pk_front.specs.declared.status.Status.TheVariants as status
+use Rattle.pk_front.specs.declared.status.Refusal.{Refusal}
+use Rattle.pk_front.specs.Texts.{IsLeft}
+use Rattle.pk_front.specs.Laws.{WayIsDetermined}
+use Rattle.pk_graph.specs.Graphs.{GraphOf}
+use Rattle.pk_lower.specs.Parts.{point_count}
+use Rattle.pk_analysis.specs.declared.analysis.Options.{Options}
+use Rattle.pk_answer.specs.Reported.{IsReport, IsSummary, IsOrderText, IsOver, OneReport}
+use Rattle.pk_top.specs.Answers.{IsReply, IsTold, IsShort, IsLong, IsCutOff, HasGraph, HasManyPoints, HasNoGraph, PassesLimit, graph_of, entry_of, options_of, default_options, default_runs, OneAnswer, DifferInWorkers, WorkersTellNothing}
+use Rattle.pk_top.proofs.Replies.{not_taken}
 
--- a text has at most one tree
-pub one_unit : {text : List ℕ} {u v : Unit'} → IsAccepted text u → IsAccepted text v → u ≡ v
-one_unit {text} {u} {v} a b =
-    let same : a.tokens ≡ b.tokens = one_list text a.tokens b.tokens a.lexed b.lexed in
-    one_tree text b.tokens u v (subst (λ (tokens : List Token). Derives text tokens u) same a.derived) b.derived
+-- ---- graphs
 
--- a graph has at most one result
-one_outcome : (g : FlowGraph) (heads heads' : List ℕ) (order order' : Level) (elements elements' most : ℕ) (it it' : Outcome Cell) → heads ≡ heads' → order ≡ order' → elements ≡ elements' →
-    IsResult (behaviour_of g heads) order elements most it → IsResult (behaviour_of g heads') order' elements' most it' → it.cells ≡ it'.cells
-one_outcome g heads heads' order order' elements elements' most it it' h o e r s =
-    let moved : IsResult (behaviour_of g heads') order' elements' most it =
-    subst (λ (hs : List ℕ). IsResult (behaviour_of g hs) order' elements' most it) h
-    (subst (λ (l : Level). IsResult (behaviour_of g heads) l elements' most it) o
-    (subst (λ (n : ℕ). IsResult (behaviour_of g heads) order n most it) e r)) in
-    moved.cells_after ∙ sym s.cells_after
+refused_known : (r : Refusal) → status.Refused r ≡ status.Memory → ⊥
+refused_known r e = absurd (cc)
 
--- a graph has at most one report
-pub one_report : {g : FlowGraph} {options : RunOptions} {m n : ℕ} {a b : List ℕ} → IsReport g options m a → IsReport g options n b → (m ≡ n) × (a ≡ b)
-one_report {g} {options} p q =
-    let heads : heads_of p.plan ≡ heads_of q.plan = heads_same (digraph_of g) p.plan q.plan p.order q.order p.ordered q.ordered in
-    let elements : p.plan.elements ≡ q.plan.elements = elements_same (digraph_of g) p.plan q.plan p.order q.order p.ordered q.ordered in
-    let order : p.order ≡ q.order = order_same (digraph_of g) p.plan q.plan p.order q.order p.ordered q.ordered in
-    let same : p.outcome.cells ≡ q.outcome.cells =
-    one_outcome g (heads_of p.plan) (heads_of q.plan) p.order q.order p.plan.elements q.plan.elements options.max_runs p.outcome q.outcome heads order elements p.result q.result in
-    let states : states_of g p.outcome ≡ states_of g q.outcome = ap (λ (cells : List Cell). map state_of (take (length g.points) cells)) same in (
-      p.counted ∙ ap (λ (s : List AbstractState). unknown_count g s) states ∙ sym q.counted,
-      p.told ∙ ap (λ (s : List AbstractState). report_text options.points g (heads_of p.plan) s) states
-          ∙ ap (λ (hs : List ℕ). report_text options.points g hs (states_of g q.outcome)) heads ∙ sym q.told,
-    )
+limit_known : (w : Quantity) (n : ℕ) → status.Limit w n ≡ status.Memory → ⊥
+limit_known w n e = absurd (cc)
 
--- a graph whose elements are run too often has no report
-not_over : (g : FlowGraph) (options : RunOptions) (m : ℕ) (a : List ℕ) → IsReport g options m a → IsOver g options.max_runs → ⊥
-not_over g options m a r over =
-    let heads : heads_of over.plan ≡ heads_of r.plan = heads_same (digraph_of g) over.plan r.plan over.order r.order over.ordered r.ordered in
-    let elements : over.plan.elements ≡ r.plan.elements = elements_same (digraph_of g) over.plan r.plan over.order r.order over.ordered r.ordered in
-    let order : over.order ≡ r.order = order_same (digraph_of g) over.plan r.plan over.order r.order over.ordered r.ordered in
-    r.result.within
-    (subst (λ (hs : List ℕ). Over (behaviour_of g hs) r.order r.plan.elements options.max_runs) heads
-    (subst (λ (l : Level). Over (behaviour_of g (heads_of over.plan)) l r.plan.elements options.max_runs) order
-    (subst (λ (n : ℕ). Over (behaviour_of g (heads_of over.plan)) over.order n options.max_runs) elements over.over)))
+module _ (law : WayIsDetermined) where
+  one_graph : (text entry : List ℕ) (g h : GraphOf) → HasGraph text entry g → HasGraph text entry h → g ≡ h
+  one_graph text entry g h x y =
+      let unit : x.unit ≡ y.unit = law.unit text entry x.unit y.unit x.paths y.paths x.called y.called in
+      let paths : x.paths ≡ y.paths = law.paths text entry x.unit y.unit x.paths y.paths x.called y.called in
+      x.graph ∙ ap (λ (u : UnitTree). graph_of u x.paths) unit ∙ ap (graph_of y.unit) paths ∙ sym y.graph
 
--- a graph has at most one line of its order
-one_line : {g : FlowGraph} {a b : List ℕ} → IsOrderLine g a → IsOrderLine g b → a ≡ b
-one_line {g} p q =
-    let elements : p.plan.elements ≡ q.plan.elements = elements_same (digraph_of g) p.plan q.plan p.order q.order p.ordered q.ordered in
-    let order : p.order ≡ q.order = order_same (digraph_of g) p.plan q.plan p.order q.order p.ordered q.ordered in
-    p.told
-    ∙ ap (λ (n : ℕ). order_text (record { elements = n; order = p.order }) ++ codes "\n") elements
-    ∙ ap (λ (l : Level). order_text (record { elements = q.plan.elements; order = l }) ++ codes "\n") order
-    ∙ sym q.told
+  -- a text with a graph has no more points than it may
+  few_points : (text entry : List ℕ) (g : GraphOf) → HasGraph text entry g → HasManyPoints text entry → ⊥
+  few_points text entry g x y =
+      let unit : x.unit ≡ y.unit = law.unit text entry x.unit y.unit x.paths y.paths x.called y.called in
+      let paths : x.paths ≡ y.paths = law.paths text entry x.unit y.unit x.paths y.paths x.called y.called in
+      let counts : point_count x.unit x.paths ≡ point_count y.unit y.paths =
+      ap (λ (u : UnitTree). point_count u x.paths) unit ∙ ap (point_count y.unit) paths in
+      absurd (omega (arith, counts, x.few, y.many))
 
-not_taken : (words : List (List ℕ)) (command : Command) → AsksFor words command → is_taken words ≡ false → ⊥
-not_taken words command asks refused = let taken = asked_taken words command asks in cc
+  graph_or_refused : (text entry : List ℕ) (g : GraphOf) (r : Refusal) → HasGraph text entry g → IsLeft text entry (status.Refused r) → ⊥
+  graph_or_refused text entry g r x left = law.apart text entry x.unit x.paths (status.Refused r) (refused_known r) x.called left
 
-too_long : {words : List (List ℕ)} {text : List ℕ} {command : Command} → IsAsked words text command → text_limit < length text → ⊥
-too_long asked long = omega (arith, asked.short, long)
+  graph_or_limit : (text entry : List ℕ) (g : GraphOf) (w : Quantity) (n : ℕ) → HasGraph text entry g → HasNoGraph text entry (status.Limit w n) → ⊥
+  graph_or_limit text entry g w n x (inl left) = law.apart text entry x.unit x.paths (status.Limit w n) (limit_known w n) x.called left
+  graph_or_limit text entry g w n x (inr (many, is)) = few_points text entry g x many
 
-same_report : {text : List ℕ} {u v : Unit'} {o p : RunOptions} {m n : ℕ} {a b : List ℕ} → o ≡ p → IsAccepted text u → IsAccepted text v → IsReport (graph_of text u) o m a → IsReport (graph_of text v) p n b → (m ≡ n) × (a ≡ b)
-same_report {text} {u} {v} {o} {p} {m} {n} {a} {b} same left right r s =
-    one_report (subst (λ (w : Unit'). IsReport (graph_of text w) p m a) (one_unit left right) (subst (λ (x : RunOptions). IsReport (graph_of text u) x m a) same r)) s
+  refused_or_limit : (text entry : List ℕ) (r : Refusal) (w : Quantity) (n : ℕ) → IsLeft text entry (status.Refused r) → HasNoGraph text entry (status.Limit w n) → ⊥
+  refused_or_limit text entry r w n x (inl left) =
+      let same : status.Refused r ≡ status.Limit w n = law.left text entry (status.Refused r) (status.Limit w n) (refused_known r) (limit_known w n) x left in absurd (cc)
+  refused_or_limit text entry r w n x (inr (many, is)) = law.apart text entry many.unit many.paths (status.Refused r) (refused_known r) many.called x
 
-over_or_not : {words : List (List ℕ)} {text : List ℕ} {n m : ℕ} {a : List ℕ} → IsRun words text n a → IsTooLong words text m → ⊥
-over_or_not {words} {text} {n} {m} {a} r o =
-    let same : r.options ≡ o.options = one_run words r.options o.options r.asked.command o.asked.command in
-    not_over (graph_of text r.tree) r.options n a r.report
-    (subst (λ (x : RunOptions). IsOver (graph_of text r.tree) x.max_runs) (sym same)
-    (subst (λ (w : Unit'). IsOver (graph_of text w) o.options.max_runs) (sym (one_unit r.accepted o.accepted)) o.over))
+  one_refusal : (text entry : List ℕ) (r q : Refusal) → IsLeft text entry (status.Refused r) → IsLeft text entry (status.Refused q) → status.Refused r ≡ status.Refused q
+  one_refusal text entry r q x y = law.left text entry (status.Refused r) (status.Refused q) (refused_known r) (refused_known q) x y
 
--- the answers that are given, two and two
-one_given : {words : List (List ℕ)} {text : List ℕ} {m n : ℕ} {a b : List ℕ} → IsRun words text m a ⊎ IsOrder words text m a → IsRun words text n b ⊎ IsOrder words text n b → (m ≡ n) × (a ≡ b)
-one_given {words} (inl x) (inl y) = same_report (one_run words x.options y.options x.asked.command y.asked.command) x.accepted y.accepted x.report y.report
-one_given {words} (inl x) (inr y) = absurd (never_both words x.options y.options x.asked.command y.asked.command)
-one_given {words} (inr x) (inl y) = absurd (never_both words y.options x.options y.asked.command x.asked.command)
-one_given {text = text} {a = a} (inr x) (inr y) = (
-  x.none_unknown ∙ sym y.none_unknown,
-  one_line (subst (λ (w : Unit'). IsOrderLine (graph_of text w) a) (one_unit x.accepted y.accepted) x.line) y.line,
-)
+  one_limit : (text entry : List ℕ) (w v : Quantity) (m n : ℕ) → HasNoGraph text entry (status.Limit w m) → HasNoGraph text entry (status.Limit v n) → status.Limit w m ≡ status.Limit v n
+  one_limit text entry w v m n (inl x) (inl y) = law.left text entry (status.Limit w m) (status.Limit v n) (limit_known w m) (limit_known v n) x y
+  one_limit text entry w v m n (inl x) (inr (many, is)) = absurd (law.apart text entry many.unit many.paths (status.Limit w m) (limit_known w m) many.called x)
+  one_limit text entry w v m n (inr (many, is)) (inl y) = absurd (law.apart text entry many.unit many.paths (status.Limit v n) (limit_known v n) many.called y)
+  one_limit text entry w v m n (inr (x, is)) (inr (y, js)) = is ∙ sym js
 
-given_taken : {words : List (List ℕ)} {text : List ℕ} {m : ℕ} {a : List ℕ} → IsRun words text m a ⊎ IsOrder words text m a → is_taken words ≡ false → ⊥
-given_taken {words} (inl x) refused = not_taken words (Run x.options) x.asked.command refused
-given_taken {words} (inr x) refused = not_taken words (Order x.options) x.asked.command refused
+-- ---- replies to one command
 
-given_short : {words : List (List ℕ)} {text : List ℕ} {m : ℕ} {a : List ℕ} → IsRun words text m a ⊎ IsOrder words text m a → text_limit < length text → ⊥
-given_short (inl x) long = too_long x.asked long
-given_short (inr x) long = too_long x.asked long
+short_or_long : (text : List ℕ) (c : Command) → IsShort text c → IsLong text c → ⊥
+short_or_long text (Run options) short long = absurd (omega (arith, short, long))
+short_or_long text (Order options) short long = absurd (omega (arith, short, long))
+short_or_long text (Gen options) short long = long
 
-given_or_refused : {words : List (List ℕ)} {text : List ℕ} {m : ℕ} {a : List ℕ} → IsRun words text m a ⊎ IsOrder words text m a → (r : Refusal) → IsRefusedFor words text r → ⊥
-given_or_refused (inl x) (Unsupported construct at) r = r.1 x.tree x.accepted
-given_or_refused (inr x) (Unsupported construct at) r = r.1 x.tree x.accepted
-given_or_refused {words} (inl x) (NoEntry name) r = never_both words x.options r.options x.asked.command r.asked.command
-given_or_refused {words} (inr x) (NoEntry name) r = r.another (ap (λ (o : OrderOptions). o.entry) (one_order words r.options x.options r.asked.command x.asked.command) ∙ x.entry)
+module _ (front : WayIsDetermined) (reports : OneReport) where
+  -- what is told of a text is told of its graph
+  told_graph : (text : List ℕ) (c : Command) (unknown : ℕ) (bytes : List ℕ) → IsTold text c unknown bytes → (g : GraphOf) × HasGraph text (entry_of c) g
+  told_graph text (Run options) unknown bytes x = (x.graph, x.has_graph)
+  told_graph text (Order options) unknown bytes x = (x.graph, x.has_graph)
+  told_graph text (Gen options) unknown bytes x = (x.graph, x.has_graph)
 
-given_or_over : {words : List (List ℕ)} {text : List ℕ} {m n : ℕ} {a : List ℕ} → IsRun words text m a ⊎ IsOrder words text m a → IsTooLong words text n → ⊥
-given_or_over (inl x) o = over_or_not x o
-given_or_over {words} (inr x) o = never_both words o.options x.options o.asked.command x.asked.command
+  cut_graph : (text : List ℕ) (c : Command) (max_runs : ℕ) → IsCutOff text c max_runs → (g : GraphOf) × HasGraph text (entry_of c) g
+  cut_graph text (Run options) max_runs x = (x.0.graph, x.0.has_graph)
+  cut_graph text (Order options) max_runs x = absurd x
+  cut_graph text (Gen options) max_runs x = (x.0.graph, x.0.has_graph)
 
--- the refusals
-refused_taken : (words : List (List ℕ)) (text : List ℕ) (r : Refusal) → IsRefusedFor words text r → is_taken words ≡ false → ⊥
-refused_taken words text (Unsupported construct at) r refused = not_taken words r.0.0 r.0.1.command refused
-refused_taken words text (NoEntry name) r refused = not_taken words (Order r.options) r.asked.command refused
+  one_told : (text : List ℕ) (c : Command) (m n : ℕ) (a b : List ℕ) → IsTold text c m a → IsTold text c n b → (m ≡ n) × (a ≡ b)
+  one_told text (Run o) m n a b x y =
+      let same = one_graph front text o.entry x.graph y.graph x.has_graph y.has_graph in
+      reports.reports y.graph (options_of o) o.max_runs o.points m n a b (subst (λ (g : GraphOf). IsReport g (options_of o) o.max_runs o.points m a) same x.report) y.report
+  one_told text (Order o) m n a b x y =
+      let same = one_graph front text o.entry x.graph y.graph x.has_graph y.has_graph in
+      let line : x.line ≡ y.line = reports.orders y.graph x.line y.line (subst (λ (g : GraphOf). IsOrderText g x.line) same x.order) y.order in
+      (x.none_unknown ∙ sym y.none_unknown, x.told ∙ ap (λ (l : List ℕ). l ++ codes "\n") line ∙ sym y.told)
+  one_told text (Gen o) m n a b x y =
+      let same = one_graph front text (codes "main") x.graph y.graph x.has_graph y.has_graph in
+      reports.summaries y.graph default_options default_runs o.seed o.size (length text) m n a b
+      (subst (λ (g : GraphOf). IsSummary g default_options default_runs o.seed o.size (length text) m a) same x.summary) y.summary
 
-refused_short : (words : List (List ℕ)) (text : List ℕ) (r : Refusal) → IsRefusedFor words text r → text_limit < length text → ⊥
-refused_short words text (Unsupported construct at) r long = too_long r.0.1 long
-refused_short words text (NoEntry name) r long = too_long r.asked long
+  told_or_cut : (text : List ℕ) (c : Command) (m max_runs : ℕ) (a : List ℕ) → IsTold text c m a → IsCutOff text c max_runs → ⊥
+  told_or_cut text (Run o) m max_runs a x y =
+      let same = one_graph front text o.entry y.0.graph x.graph y.0.has_graph x.has_graph in
+      reports.within x.graph (options_of o) o.max_runs x.report.plan x.report.states x.report.are_states
+      (subst (IsOver x.graph (options_of o)) y.1 (subst (λ (g : GraphOf). IsOver g (options_of o) max_runs) same y.0.over))
+  told_or_cut text (Order o) m max_runs a x y = absurd y
+  told_or_cut text (Gen o) m max_runs a x y =
+      let same = one_graph front text (codes "main") y.0.graph x.graph y.0.has_graph x.has_graph in
+      reports.within x.graph default_options default_runs x.summary.plan x.summary.states x.summary.are_states
+      (subst (IsOver x.graph default_options) y.1 (subst (λ (g : GraphOf). IsOver g default_options max_runs) same y.0.over))
 
-refused_or_over : {words : List (List ℕ)} {text : List ℕ} {n : ℕ} (r : Refusal) → IsRefusedFor words text r → IsTooLong words text n → ⊥
-refused_or_over (Unsupported construct at) r o = r.1 o.tree o.accepted
-refused_or_over {words} (NoEntry name) r o = never_both words o.options r.options o.asked.command r.asked.command
+  one_cut : (text : List ℕ) (c : Command) (m n : ℕ) → IsCutOff text c m → IsCutOff text c n → m ≡ n
+  one_cut text (Run o) m n x y = x.1 ∙ sym y.1
+  one_cut text (Order o) m n x y = absurd x
+  one_cut text (Gen o) m n x y = x.1 ∙ sym y.1
 
-one_refusal : (words : List (List ℕ)) (text : List ℕ) (r s : Refusal) → IsRefusedFor words text r → IsRefusedFor words text s → r ≡ s
-one_refusal words text (Unsupported c p) (Unsupported d q) r s =
-    ap (λ (x : Construct). Unsupported x p) (r.2 ∙ sym s.2) ∙ ap (λ (x : Pos). Unsupported d x) (r.3 ∙ sym s.3)
-one_refusal words text (Unsupported c p) (NoEntry n) r s = absurd (r.1 s.tree s.accepted)
-one_refusal words text (NoEntry m) (Unsupported d q) r s = absurd (s.1 r.tree r.accepted)
-one_refusal words text (NoEntry m) (NoEntry n) r s =
-    ap NoEntry (r.name_is ∙ ap (λ (o : OrderOptions). o.entry) (one_order words r.options s.options r.asked.command s.asked.command) ∙ sym s.name_is)
+  -- a limit of the text, and one that it passes on the way to its graph
+  limits_same : (c : Command) (text : List ℕ) (w v : Quantity) (m n : ℕ) → PassesLimit c text w m → PassesLimit c text v n → status.Limit w m ≡ status.Limit v n
+  limits_same c text w v m n (inl x) (inl y) = ap (λ (q : Quantity). status.Limit q m) (x.1 ∙ sym y.1) ∙ ap (status.Limit v) (x.2 ∙ sym y.2)
+  limits_same c text w v m n (inl x) (inr y) = absurd (short_or_long text c y.0 x.0)
+  limits_same c text w v m n (inr x) (inl y) = absurd (short_or_long text c x.0 y.0)
+  limits_same c text w v m n (inr x) (inr y) = one_limit front text (entry_of c) w v m n x.1 y.1
 
-same_end : {s t : Status} {a b : List ℕ} → s ≡ t → a ≡ [] → b ≡ [] → (s ≡ t) × (a ≡ b)
-same_end e f g = (e, f ∙ sym g)
+  told_or_limit : (c : Command) (text : List ℕ) (u : ℕ) (a : List ℕ) (w : Quantity) (n : ℕ) → IsShort text c → IsTold text c u a → PassesLimit c text w n → ⊥
+  told_or_limit c text u a w n short told (inl y) = short_or_long text c short y.0
+  told_or_limit c text u a w n short told (inr y) = let g = told_graph text c u a told in graph_or_limit front text (entry_of c) g.0 w n g.1 y.1
 
-pub one_answer : OneAnswer
-one_answer words text (status.Ok m) (status.Ok n) a b x y = let same = one_given x y in (ap status.Ok same.0, same.1)
-one_answer words text (status.Ok m) status.Usage a b x y = absurd (given_taken x y.0)
-one_answer words text (status.Ok m) (status.Refused s) a b x y = absurd (given_or_refused x s y.0)
-one_answer words text (status.Ok m) (status.Limit q n) a b x y = absurd (given_short x y.1)
-one_answer words text (status.Ok m) (status.RunLimit n) a b x y = absurd (given_or_over x y.0)
-one_answer words text (status.Ok m) status.ReadFault a b x y = absurd y
-one_answer words text (status.Ok m) (status.WriteFault n) a b x y = absurd y
-one_answer words text (status.Ok m) status.Memory a b x y = absurd y
-one_answer words text status.Usage (status.Ok n) a b x y = absurd (given_taken y x.0)
-one_answer words text status.Usage status.Usage a b x y = same_end refl x.1 y.1
-one_answer words text status.Usage (status.Refused s) a b x y = absurd (refused_taken words text s y.0 x.0)
-one_answer words text status.Usage (status.Limit q n) a b x y = absurd (not_taken words y.0.0 y.0.1 x.0)
-one_answer words text status.Usage (status.RunLimit n) a b x y = absurd (not_taken words (Run y.0.options) y.0.asked.command x.0)
-one_answer words text status.Usage status.ReadFault a b x y = absurd y
-one_answer words text status.Usage (status.WriteFault n) a b x y = absurd y
-one_answer words text status.Usage status.Memory a b x y = absurd y
-one_answer words text (status.Refused r) (status.Ok n) a b x y = absurd (given_or_refused y r x.0)
-one_answer words text (status.Refused r) status.Usage a b x y = absurd (refused_taken words text r x.0 y.0)
-one_answer words text (status.Refused r) (status.Refused s) a b x y = same_end (ap status.Refused (one_refusal words text r s x.0 y.0)) x.1 y.1
-one_answer words text (status.Refused r) (status.Limit q n) a b x y = absurd (refused_short words text r x.0 y.1)
-one_answer words text (status.Refused r) (status.RunLimit n) a b x y = absurd (refused_or_over r x.0 y.0)
-one_answer words text (status.Refused r) status.ReadFault a b x y = absurd y
-one_answer words text (status.Refused r) (status.WriteFault n) a b x y = absurd y
-one_answer words text (status.Refused r) status.Memory a b x y = absurd y
-one_answer words text (status.Limit p m) (status.Ok n) a b x y = absurd (given_short y x.1)
-one_answer words text (status.Limit p m) status.Usage a b x y = absurd (not_taken words x.0.0 x.0.1 y.0)
-one_answer words text (status.Limit p m) (status.Refused s) a b x y = absurd (refused_short words text s y.0 x.1)
-one_answer words text (status.Limit p m) (status.Limit q n) a b x y =
-    same_end (ap (λ (w : Quantity). status.Limit w m) (x.2 ∙ sym y.2) ∙ ap (λ (k : ℕ). status.Limit q k) (x.3 ∙ sym y.3)) x.4 y.4
-one_answer words text (status.Limit p m) (status.RunLimit n) a b x y = absurd (too_long y.0.asked x.1)
-one_answer words text (status.Limit p m) status.ReadFault a b x y = absurd y
-one_answer words text (status.Limit p m) (status.WriteFault n) a b x y = absurd y
-one_answer words text (status.Limit p m) status.Memory a b x y = absurd y
-one_answer words text (status.RunLimit m) (status.Ok n) a b x y = absurd (given_or_over y x.0)
-one_answer words text (status.RunLimit m) status.Usage a b x y = absurd (not_taken words (Run x.0.options) x.0.asked.command y.0)
-one_answer words text (status.RunLimit m) (status.Refused s) a b x y = absurd (refused_or_over s y.0 x.0)
-one_answer words text (status.RunLimit m) (status.Limit q n) a b x y = absurd (too_long x.0.asked y.1)
-one_answer words text (status.RunLimit m) (status.RunLimit n) a b x y =
-    same_end (ap status.RunLimit (x.0.limit ∙ ap (λ (o : RunOptions). o.max_runs) (one_run words x.0.options y.0.options x.0.asked.command y.0.asked.command) ∙ sym y.0.limit)) x.1 y.1
-one_answer words text (status.RunLimit m) status.ReadFault a b x y = absurd y
-one_answer words text (status.RunLimit m) (status.WriteFault n) a b x y = absurd y
-one_answer words text (status.RunLimit m) status.Memory a b x y = absurd y
-one_answer words text status.ReadFault t a b x y = absurd x
-one_answer words text (status.WriteFault m) t a b x y = absurd x
-one_answer words text status.Memory t a b x y = absurd x
+  cut_or_limit : (c : Command) (text : List ℕ) (m : ℕ) (w : Quantity) (n : ℕ) → IsShort text c → IsCutOff text c m → PassesLimit c text w n → ⊥
+  cut_or_limit c text m w n short cut (inl y) = short_or_long text c short y.0
+  cut_or_limit c text m w n short cut (inr y) = let g = cut_graph text c m cut in graph_or_limit front text (entry_of c) g.0 w n g.1 y.1
+
+  refused_or_long : (c : Command) (text : List ℕ) (r : Refusal) (w : Quantity) (n : ℕ) → IsShort text c → IsLeft text (entry_of c) (status.Refused r) → PassesLimit c text w n → ⊥
+  refused_or_long c text r w n short left (inl y) = short_or_long text c short y.0
+  refused_or_long c text r w n short left (inr y) = refused_or_limit front text (entry_of c) r w n left y.1
+
+  one_reply : (c : Command) (text : List ℕ) (s t : Status) (a b : List ℕ) → IsReply c text s a → IsReply c text t b → (s ≡ t) × (a ≡ b)
+  one_reply c text (status.Ok m) (status.Ok n) a b x y = let same = one_told text c m n a b x.1 y.1 in (ap status.Ok same.0, same.1)
+  one_reply c text (status.Ok m) (status.Refused r) a b x y = let g = told_graph text c m a x.1 in absurd (graph_or_refused front text (entry_of c) g.0 r g.1 y.1)
+  one_reply c text (status.Ok m) (status.Limit w n) a b x y = absurd (told_or_limit c text m a w n x.0 x.1 y.0)
+  one_reply c text (status.Ok m) (status.RunLimit n) a b x y = absurd (told_or_cut text c m n a x.1 y.1)
+  one_reply c text (status.Refused r) (status.Ok n) a b x y = let g = told_graph text c n b y.1 in absurd (graph_or_refused front text (entry_of c) g.0 r g.1 x.1)
+  one_reply c text (status.Refused r) (status.Refused q) a b x y = (one_refusal front text (entry_of c) r q x.1 y.1, x.2 ∙ sym y.2)
+  one_reply c text (status.Refused r) (status.Limit w n) a b x y = absurd (refused_or_long c text r w n x.0 x.1 y.0)
+  one_reply c text (status.Refused r) (status.RunLimit n) a b x y = let g = cut_graph text c n y.1 in absurd (graph_or_refused front text (entry_of c) g.0 r g.1 x.1)
+  one_reply c text (status.Limit w m) (status.Ok n) a b x y = absurd (told_or_limit c text n b w m y.0 y.1 x.0)
+  one_reply c text (status.Limit w m) (status.Refused r) a b x y = absurd (refused_or_long c text r w m y.0 y.1 x.0)
+  one_reply c text (status.Limit w m) (status.Limit v n) a b x y = (limits_same c text w v m n x.0 y.0, x.1 ∙ sym y.1)
+  one_reply c text (status.Limit w m) (status.RunLimit n) a b x y = absurd (cut_or_limit c text n w m y.0 y.1 x.0)
+  one_reply c text (status.RunLimit m) (status.Ok n) a b x y = absurd (told_or_cut text c n m b y.1 x.1)
+  one_reply c text (status.RunLimit m) (status.Refused r) a b x y = let g = cut_graph text c m x.1 in absurd (graph_or_refused front text (entry_of c) g.0 r g.1 y.1)
+  one_reply c text (status.RunLimit m) (status.Limit w n) a b x y = absurd (cut_or_limit c text m w n x.0 x.1 y.0)
+  one_reply c text (status.RunLimit m) (status.RunLimit n) a b x y = (ap status.RunLimit (one_cut text c m n x.1 y.1), x.2 ∙ sym y.2)
+  one_reply c text status.Usage t a b x y = absurd x
+  one_reply c text status.ReadFault t a b x y = absurd x
+  one_reply c text (status.WriteFault sent) t a b x y = absurd x
+  one_reply c text status.Memory t a b x y = absurd x
+  one_reply c text (status.Ok m) status.Usage a b x y = absurd y
+  one_reply c text (status.Ok m) status.ReadFault a b x y = absurd y
+  one_reply c text (status.Ok m) (status.WriteFault sent) a b x y = absurd y
+  one_reply c text (status.Ok m) status.Memory a b x y = absurd y
+  one_reply c text (status.Refused r) status.Usage a b x y = absurd y
+  one_reply c text (status.Refused r) status.ReadFault a b x y = absurd y
+  one_reply c text (status.Refused r) (status.WriteFault sent) a b x y = absurd y
+  one_reply c text (status.Refused r) status.Memory a b x y = absurd y
+  one_reply c text (status.Limit w m) status.Usage a b x y = absurd y
+  one_reply c text (status.Limit w m) status.ReadFault a b x y = absurd y
+  one_reply c text (status.Limit w m) (status.WriteFault sent) a b x y = absurd y
+  one_reply c text (status.Limit w m) status.Memory a b x y = absurd y
+  one_reply c text (status.RunLimit m) status.Usage a b x y = absurd y
+  one_reply c text (status.RunLimit m) status.ReadFault a b x y = absurd y
+  one_reply c text (status.RunLimit m) (status.WriteFault sent) a b x y = absurd y
+  one_reply c text (status.RunLimit m) status.Memory a b x y = absurd y
+
+pub one_answer : OneCommand → WayIsDetermined → OneReport → OneAnswer
+one_answer one front reports words text s t a b (inl x) (inl y) = (x.status_is ∙ sym y.status_is, x.nothing ∙ sym y.nothing)
+one_answer one front reports words text s t a b (inl x) (inr y) = absurd (not_taken words y.command y.asked x.refused)
+one_answer one front reports words text s t a b (inr x) (inl y) = absurd (not_taken words x.command x.asked y.refused)
+one_answer one front reports words text s t a b (inr x) (inr y) =
+    one_reply front reports y.command text s t a b (subst (λ (c : Command). IsReply c text s a) (one words x.command y.command x.asked y.asked) x.reply) y.reply
+
+-- ---- workers
+
+module _ (o p : RunOptions) (d : DifferInWorkers o p) where
+  same_options : options_of o ≡ options_of p
+  same_options = ap (λ (n : ℕ). let r : Options = record { narrow = n; oct = o.oct } in r) d.narrow ∙ ap (λ (n : ℕ). let r : Options = record { narrow = p.narrow; oct = n } in r) d.oct
+
+  other_report : (g : GraphOf) (u : ℕ) (a : List ℕ) → IsReport g (options_of o) o.max_runs o.points u a → IsReport g (options_of p) p.max_runs p.points u a
+  other_report g u a h =
+      subst (λ b. IsReport g (options_of p) p.max_runs b u a) d.points
+      (subst (λ (n : ℕ). IsReport g (options_of p) n o.points u a) d.max_runs
+      (subst (λ (k : Options). IsReport g k o.max_runs o.points u a) same_options h))
+
+  other_reply : (text : List ℕ) (s : Status) (a : List ℕ) → IsReply (Run o) text s a → IsReply (Run p) text s a
+  other_reply text (status.Ok u) a x = (
+    x.0,
+    record {
+      graph = x.1.graph;
+      has_graph = subst (λ (e : List ℕ). HasGraph text e x.1.graph) d.entry x.1.has_graph;
+      report = other_report x.1.graph u a x.1.report;
+    },
+  )
+  other_reply text status.Usage a x = absurd x
+  other_reply text (status.Refused r) a x = (x.0, subst (λ (e : List ℕ). IsLeft text e (status.Refused r)) d.entry x.1, x.2)
+  other_reply text (status.Limit w n) a (inl x, e) = (inl x, e)
+  other_reply text (status.Limit w n) a (inr x, e) = (inr (x.0, subst (λ (k : List ℕ). HasNoGraph text k (status.Limit w n)) d.entry x.1), e)
+  other_reply text (status.RunLimit m) a x = (
+    x.0,
+    (
+      record {
+        graph = x.1.0.graph;
+        has_graph = subst (λ (e : List ℕ). HasGraph text e x.1.0.graph) d.entry x.1.0.has_graph;
+        over = subst (λ (k : Options). IsOver x.1.0.graph k m) same_options x.1.0.over;
+      },
+      x.1.1 ∙ d.max_runs,
+    ),
+    x.2,
+  )
+  other_reply text status.ReadFault a x = absurd x
+  other_reply text (status.WriteFault sent) a x = absurd x
+  other_reply text status.Memory a x = absurd x
+
+pub workers_nothing : OneCommand → WorkersTellNothing
+workers_nothing one words other text o p s bytes asks asks' d (inl x) = absurd (not_taken words (Run o) asks x.refused)
+workers_nothing one words other text o p s bytes asks asks' d (inr x) =
+    inr (record { command = Run p; asked = asks'; reply = other_reply o p d text s bytes (subst (λ (c : Command). IsReply c text s bytes) (one words x.command (Run o) x.asked asks) x.reply) })

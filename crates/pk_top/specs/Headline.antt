@@ -2,10 +2,12 @@
 use Rattle.std.specs.Prelude.{◌≡◌, ℕ, ◌<◌, List, [], length, take}
 use Rattle.std.specs.declared.option.Option.{Option}
 use Rattle.std.specs.Io.KnownBytes.{Appends, Keeps}
-use Rattle.pk_top.specs.declared.status.Status.{Status}
-use Rattle.pk_top.specs.declared.status.Status.TheVariants.{Ok, Usage, Refused, Limit, RunLimit, ReadFault, WriteFault, Memory}
-use Rattle.pk_top.specs.FlowGraph.{FlowGraph}
-use Rattle.pk_top.specs.Answers.{IsAnswer, IsOver}
+use Rattle.pk_front.specs.declared.status.Status.{Status}
+use Rattle.pk_front.specs.declared.status.Status.TheVariants.{Ok, Usage, Refused, Limit, RunLimit, ReadFault, WriteFault, Memory}
+use Rattle.pk_ctypes.specs.declared.words.Quantity.TheVariants.{Text}
+use Rattle.pk_command.specs.declared.asked.Command.{Command}
+use Rattle.pk_front.specs.Texts.{IsLeft}
+use Rattle.pk_top.specs.Answers.{IsAnswer, HasNoGraph, IsCutOff, IsLong, entry_of, text_limit}
 
 abbrev pub IsSuccess : Status → Type 0
 IsSuccess (Ok unknown) = Unit {0}
@@ -42,6 +44,41 @@ Answers words text (Refused refusal) before after = Gives words text (Refused re
 Answers words text (Limit what number) before after = Gives words text (Limit what number) before after
 Answers words text (RunLimit max_runs) before after = Gives words text (RunLimit max_runs) before after
 
+-- at every status but a success and a fault of writing the sink is as it was
+abbrev pub KeepsUnlessTold : Status → Option (List ℕ) → Option (List ℕ) → Type 0
+KeepsUnlessTold (Ok unknown) before after = Unit {0}
+KeepsUnlessTold (WriteFault sent) before after = Unit {0}
+KeepsUnlessTold Usage before after = Keeps before after
+KeepsUnlessTold (Refused refusal) before after = Keeps before after
+KeepsUnlessTold (Limit what number) before after = Keeps before after
+KeepsUnlessTold (RunLimit max_runs) before after = Keeps before after
+KeepsUnlessTold ReadFault before after = Keeps before after
+KeepsUnlessTold Memory before after = Keeps before after
+
+-- ---- without a report
+
+-- a command about a text ends so without telling anything, or for want of memory
+abbrev pub IsStopped : List ℕ → Command → Status → Type 0
+IsStopped text command (Ok unknown) = ⊥
+IsStopped text command Usage = ⊥
+IsStopped text command (Refused refusal) = IsLeft text (entry_of command) (Refused refusal)
+IsStopped text command (Limit what number) = HasNoGraph text (entry_of command) (Limit what number)
+IsStopped text command (RunLimit max_runs) = IsCutOff text command max_runs
+IsStopped text command ReadFault = ⊥
+IsStopped text command (WriteFault sent) = ⊥
+IsStopped text command Memory = Unit {0}
+
+-- the answer is this status with nothing told, unless a read or the memory failed
+abbrev pub IsUntold : List (List ℕ) → List ℕ → Status → Type 0
+IsUntold words text (Ok unknown) = ⊥
+IsUntold words text (WriteFault sent) = ⊥
+IsUntold words text ReadFault = Unit {0}
+IsUntold words text Memory = Unit {0}
+IsUntold words text Usage = IsAnswer words text Usage []
+IsUntold words text (Refused refusal) = IsAnswer words text (Refused refusal) []
+IsUntold words text (Limit what number) = IsAnswer words text (Limit what number) []
+IsUntold words text (RunLimit max_runs) = IsAnswer words text (RunLimit max_runs) []
+
 -- a status that ends a call before anything is written
 abbrev pub IsStop : Status → Type 0
 IsStop (Ok unknown) = ⊥
@@ -53,35 +90,24 @@ IsStop (RunLimit max_runs) = Unit {0}
 IsStop ReadFault = Unit {0}
 IsStop Memory = Unit {0}
 
--- the answer is this status with no bytes, unless a read or the memory failed
-abbrev pub IsStopped : List (List ℕ) → List ℕ → Status → Type 0
-IsStopped words text ReadFault = Unit {0}
-IsStopped words text Memory = Unit {0}
-IsStopped words text (WriteFault sent) = ⊥
-IsStopped words text (Ok unknown) = ⊥
-IsStopped words text Usage = IsAnswer words text Usage []
-IsStopped words text (Refused refusal) = IsAnswer words text (Refused refusal) []
-IsStopped words text (Limit what number) = IsAnswer words text (Limit what number) []
-IsStopped words text (RunLimit max_runs) = IsAnswer words text (RunLimit max_runs) []
+-- the text of a source wasn't read: it is too long, or a read or the memory failed
+abbrev pub IsUnread : List ℕ → Status → Type 0
+IsUnread text (Ok unknown) = ⊥
+IsUnread text Usage = ⊥
+IsUnread text (Refused refusal) = ⊥
+IsUnread text (Limit what number) = (text_limit < length text) × (what ≡ Text) × (number ≡ text_limit)
+IsUnread text (RunLimit max_runs) = ⊥
+IsUnread text ReadFault = Unit {0}
+IsUnread text (WriteFault sent) = ⊥
+IsUnread text Memory = Unit {0}
 
--- the analysis of a graph ends without a report only at the run limit, or for want of memory
-abbrev pub EndsAnalysis : FlowGraph → (most : ℕ) → Status → Type 0
-EndsAnalysis g most (RunLimit max_runs) = IsOver g most × (max_runs ≡ most)
-EndsAnalysis g most Memory = Unit {0}
-EndsAnalysis g most (Ok unknown) = ⊥
-EndsAnalysis g most Usage = ⊥
-EndsAnalysis g most (Refused refusal) = ⊥
-EndsAnalysis g most (Limit what number) = ⊥
-EndsAnalysis g most ReadFault = ⊥
-EndsAnalysis g most (WriteFault sent) = ⊥
-
--- a status that a text alone can have, without a report
-abbrev pub IsRefusal : Status → Type 0
-IsRefusal (Refused refusal) = Unit {0}
-IsRefusal (RunLimit max_runs) = Unit {0}
-IsRefusal Memory = Unit {0}
-IsRefusal (Ok unknown) = ⊥
-IsRefusal Usage = ⊥
-IsRefusal (Limit what number) = ⊥
-IsRefusal ReadFault = ⊥
-IsRefusal (WriteFault sent) = ⊥
+-- there is no text for a command
+abbrev pub IsTextless : List ℕ → Command → Status → Type 0
+IsTextless text command (Ok unknown) = ⊥
+IsTextless text command Usage = ⊥
+IsTextless text command (Refused refusal) = ⊥
+IsTextless text command (Limit what number) = IsLong text command × (what ≡ Text) × (number ≡ text_limit)
+IsTextless text command (RunLimit max_runs) = ⊥
+IsTextless text command ReadFault = Unit {0}
+IsTextless text command (WriteFault sent) = ⊥
+IsTextless text command Memory = Unit {0}

@@ -1,17 +1,32 @@
-use Rattle.std.proofs.Common.{map, string_bytes}
-use Rattle.pk_command.specs.CommandLine.{is_taken}
-use Rattle.pk_top.specs.declared.status.Status.TheVariants as status
-use Rattle.pk_top.specs.Answers.{IsAnswer}
-use Rattle.pk_top.specs.Headline.{IsStopped}
-use Rattle.pk_top.proofs.Stops.{if_asked, ok_at, err_at}
+use Rattle.std.proofs.Common.{map, string_bytes, ℕ, List, sym, subst, ◌∙◌}
+use Rattle.pk_top.specs.Answers.{IsShort}
+use Rattle.pk_top.specs.Headline.{IsUntold}
+use Rattle.pk_top.proofs.Replies.{handed_on, if_ok, if_err, not_taken, told_so, textless_so, stopped_so, no_source}
 use Rattle.pk_top.proofs.top.make.Goals as goal
 
-pub returns-clause-made : goal.returns-clause-made
-returns-clause-made g c =
-    let words = map string_bytes c.args.words.now in
-    if_asked (is_taken words) _ _ _ c.in-Ok.ensures.taken c.in-Ok-read_all.ensures.bytes (rw c.deref.ensures.value at (ok_at _ (λ w made. IsAnswer w c.deref.result.now (status.Ok made.1) made.0.items) words c.in-Ok.command c.in-Ok.ensures.asked c.answer.ensures.made))
+pub returns-in_err-text-clause-untold : goal.returns-in_err-text-clause-untold
+returns-in_err-text-clause-untold g c = λ text about.
+    handed_on (IsUntold (map string_bytes c.args.words.now) text) c.from_residual-in_err-text.result c.in_err-text.field-0.0 c.from_residual-in_err-text.ensures.1
+    (textless_so (map string_bytes c.args.words.now) (g.S.Source.left c.args.src.now) c.in_ok-command.command c.in_err-text.field-0.0 c.in_ok-command.ensures.asked c.in_err-text.ensures.none text about)
 
-pub returns-clause-stopped : goal.returns-clause-stopped
-returns-clause-stopped g c =
-    let words = map string_bytes c.args.words.now in
-    if_asked (is_taken words) _ _ _ c.in-Ok.ensures.taken c.in-Ok-read_all.ensures.bytes (rw c.deref.ensures.value at (err_at _ (λ w s. IsStopped w c.deref.result.now s) words c.in-Ok.command c.in-Ok.ensures.asked c.answer.ensures.stopped))
+pub returns-in_err-text-clause-refused : goal.returns-in_err-text-clause-refused
+returns-in_err-text-clause-refused g c = λ refused. absurd (not_taken (map string_bytes c.args.words.now) c.in_ok-command.command c.in_ok-command.ensures.asked refused)
+
+pub returns-in_err-text-clause-unread : goal.returns-in_err-text-clause-unread
+returns-in_err-text-clause-unread g c = λ none. c.in_err-text.ensures.unread (no_source (map string_bytes c.args.words.now) c.in_ok-command.command c.in_ok-command.ensures.asked none)
+
+pub returns-clause-made : goal.returns-clause-made
+returns-clause-made g c = λ text about.
+    if_ok c.told.result (λ made told. told_so (map string_bytes c.args.words.now) (g.S.Source.left c.args.src.now) c.in_ok-command.command c.deref.result.now made.1 made.0.items c.in_ok-command.ensures.asked
+    (λ t e. c.deref.ensures.value ∙ c.in_ok-text.ensures.text t e) (subst (λ (bytes : List ℕ). IsShort bytes c.in_ok-command.command) (sym c.deref.ensures.value) c.in_ok-text.ensures.short) told text about) c.told.ensures.told
+
+pub returns-clause-untold : goal.returns-clause-untold
+returns-clause-untold g c = λ text about.
+    if_err c.told.result (λ s stopped. stopped_so (map string_bytes c.args.words.now) (g.S.Source.left c.args.src.now) c.in_ok-command.command c.deref.result.now s c.in_ok-command.ensures.asked
+    (λ t e. c.deref.ensures.value ∙ c.in_ok-text.ensures.text t e) (subst (λ (bytes : List ℕ). IsShort bytes c.in_ok-command.command) (sym c.deref.ensures.value) c.in_ok-text.ensures.short) stopped text about) c.told.ensures.stopped
+
+pub returns-clause-refused : goal.returns-clause-refused
+returns-clause-refused g c = λ refused. absurd (not_taken (map string_bytes c.args.words.now) c.in_ok-command.command c.in_ok-command.ensures.asked refused)
+
+pub returns-clause-unread : goal.returns-clause-unread
+returns-clause-unread g c = λ none. c.in_ok-text.ensures.unread (no_source (map string_bytes c.args.words.now) c.in_ok-command.command c.in_ok-command.ensures.asked none)

@@ -1,12 +1,20 @@
-use Rattle.pk_top.proofs.Stops.{given, cut}
+use Rattle.std.proofs.Common.{map, string_bytes, ap, Err}
+use Rattle.pk_top.proofs.Replies.{ended_so, complete_so}
 use Rattle.pk_top.proofs.top.pikos.Goals as goal
 
-pub returns-in-Ok-write_all-clause-answer : goal.returns-in-Ok-write_all-clause-answer
-returns-in-Ok-write_all-clause-answer g c = given _ _ _ _ _ _ c.in-Ok.ensures.made (rw c.deref.ensures.value at c.in-Ok-write_all.ensures.all)
+pub returns-in-Err-clause-answer : goal.returns-in-Err-clause-answer
+returns-in-Err-clause-answer g c = λ text about. ended_so (map string_bytes c.args.words.now) text c.in-Err.status (g.K.Sink.written c.args.out.now) (c.in-Err.ensures.untold text about)
 
-pub returns-in-Ok-write_all-clause-complete : goal.returns-in-Ok-write_all-clause-complete
-returns-in-Ok-write_all-clause-complete g c = λ _ _ _. given _ _ _ _ _ _ c.in-Ok.ensures.made (rw c.deref.ensures.value at c.in-Ok-write_all.ensures.all)
+pub returns-in-Err-clause-complete : goal.returns-in-Err-clause-complete
+returns-in-Err-clause-complete g c = λ unrisen still known text about.
+    complete_so (map string_bytes c.args.words.now) text c.in-Err.status (g.K.Sink.written c.args.out.now) (c.in-Err.ensures.untold text about)
+    (λ e. unrisen (c.in-Err.ensures.fault (ap Err e))) known
 
 pub returns-clause-answer : goal.returns-clause-answer
-returns-clause-answer g c =
-    cut _ _ _ _ _ _ _ c.in-Ok.ensures.made (rw c.deref.ensures.value at c.in-Err-write_all.ensures.part) (rw c.deref.ensures.value at c.in-Err-write_all.ensures.sent)
+returns-clause-answer g c = λ text about. record {
+  unknown = c.in-Ok.made.1;
+  bytes = c.in-Ok.made.0.items;
+  answer = c.in-Ok.ensures.made text about;
+  fewer = rw c.deref.ensures.value at c.in-Err-write_all.ensures.part;
+  written = rw c.deref.ensures.value at c.in-Err-write_all.ensures.sent;
+}
