@@ -1,0 +1,334 @@
+-- Of a layout's facts an instruction makes facts of the layout.
+use Rattle.std.specs.Prelude.{◌≡◌, ℕ, zero, suc, ◌<◌, ◌*◌, ◌/◌, ◌^◌, Bool, true, false, not, if◌then◌else◌, ℤ, pos, negsuc, ◌+ℤ◌, ◌-ℤ◌, ◌≤ℤ◌, int_le, unsigned_abs, List, [], ◌∷◌, length, Option, Some, None, IfSome}
+use Rattle.std.specs.Ordering.{int_eq}
+use Rattle.std.specs.Int.{int_min, int_max}
+use Rattle.std.proofs.Common.{arith, refl, sym, subst, inr, ◌∙◌}
+use Rattle.std.proofs.lemmas.Int.{ints, clamps}
+use Rattle.pk_ctypes.specs.declared.types.IntType.{IntType}
+use Rattle.pk_ctypes.specs.declared.types.IntType.TheVariants.{Int}
+use Rattle.pk_ctypes.specs.declared.types.Op.{Op}
+use Rattle.pk_ctypes.specs.declared.types.Op.TheVariants.{Add, Sub, Mul, Div, Rem, Shl, Shr, And, Or, Xor, Lt, Gt, Le, Ge, Eq, Ne, Neg, BitNot, Not}
+use Rattle.pk_ctypes.specs.Types.{Represents}
+use Rattle.pk_ctypes.proofs.Wrapped.{zero_in}
+use Rattle.pk_ctypes.proofs.Whole.{rest_from, rest_below}
+use Rattle.pk_interval.specs.Ranges.{Range, IsIn, range_from, met}
+use Rattle.pk_interval.proofs.Keeping.{stays}
+use Rattle.pk_congr.specs.Classes.{Class, IsReduced, is_held, rest_modulo, class_of, are_apart, int_gcd, int_lcm, gcd, first_in, met_of}
+use Rattle.pk_congr.specs.Classes as classes
+use Rattle.pk_congr.proofs.Numbers.{test_held, rest_of_some, tested_some}
+use Rattle.pk_congr.proofs.Meets.{lcm_by_left}
+use Rattle.pk_congr.proofs.Gcd.{gcd_left}
+use Rattle.pk_congr.proofs.Solutions.{part_some}
+use Rattle.pk_graph.specs.Trees.{TreeOf, constant, variable, converted, unary, binary, InstrOf, Skip, Set, Havoc, Clear, Load, Store, Guard, Check}
+use Rattle.pk_graph.specs.Kinds.{Kinds, type_of, IsTyped, IsTypedInstr}
+use Rattle.pk_value.specs.Known.{Known, any_of, exactly, joined}
+use Rattle.pk_state.specs.Layouts.{Layout, type_at, place_in}
+use Rattle.pk_state.specs.Facts.{Facts, AreFactsIf}
+use Rattle.pk_state.specs.Reduced.{reduced}
+use Rattle.pk_state.specs.Changes.{known_in, IsValue}
+use Rattle.pk_state.proofs.Changed.{changes_stay}
+use Rattle.pk_state.proofs.Held.{facts_stay}
+use Rattle.pk_octops.specs.Laws.{IsTerm}
+use Rattle.pk_transfer.specs.Trees.{tree_known, known_with, kinds_of, IsOver}
+use Rattle.pk_transfer.specs.Linear.{Linear, linear, difference, HasPlaces, ArePlaces, IsGuardOn}
+use Rattle.pk_transfer.specs.Guards.{is_not, is_comparison, is_zero, negated, flipped, condition_of, Condition, with_range, with_both, at_most, at_least, other_than, refined}
+use Rattle.pk_transfer.specs.Assignments.{term_of, with_form, with_form_at, with_known_if, set_in}
+use Rattle.pk_transfer.specs.Assumptions.{places_in, le_in, compared_in, with_operand, if_some, refined_in, holds_in, guard_in}
+use Rattle.pk_transfer.specs.Transfers.{misses, at_index, forgotten_in, joined_if, applied}
+use Rattle.pk_transfer.proofs.Told.{in_wider}
+use Rattle.pk_transfer.proofs.Over.{tree_over, fits_over}
+use Rattle.pk_transfer.proofs.Apart.{place_below, tree_places, differences_guards}
+use Rattle.pk_transfer.proofs.Refining.{part_in, met_in}
+use Rattle.pk_value.specs.Values.{is_constant}
+use Rattle.pk_sound.specs.Staying.{TransfersStay}
+use Rattle.pk_sound.proofs.Values_stay.{any_value, Reduced, if_reduced, exactly_value, variable_value, tree_stays}
+
+-- ---- meets of classes
+
+some_abs : (a : ℤ) → (a ≡ pos 0 → ⊥) → 0 < unsigned_abs a
+some_abs (pos zero) h = absurd (h refl)
+some_abs (pos (suc n)) h = omega arith
+some_abs (negsuc n) h = omega arith
+
+product_some : (a b : ℕ) → 0 < a → 0 < b → 0 < a * b
+product_some zero b h k = absurd (omega arith)
+product_some (suc a) b h k = omega arith
+
+lcm_some : (m n : ℕ) → 0 < m → 0 < n → 0 < m * n / gcd m n
+lcm_some m n h k =
+    let part = part_some m n (gcd m n) h refl in
+    let some : 0 < m / gcd m n = by (m / gcd m n) part.1 in
+    let is : m * n / gcd m n ≡ m / gcd m n * n = lcm_by_left m n (gcd m n) part.0 (gcd_left (pos m) (pos n)) in
+    subst (λ (x : ℕ). 0 < x) (sym is) (product_some (m / gcd m n) n some k)
+  where
+    by : (q : ℕ) → q * gcd m n ≡ m → 0 < q
+    by zero e = absurd (omega arith)
+    by (suc q) e = omega arith
+
+positive_reduced : (m : ℕ) (r : ℤ) → 0 < m → unsigned_abs (pos m) < 2 ^ 127 → IsReduced (pos m) (rest_modulo r (pos m))
+positive_reduced m r h k =
+    let from = rest_from r m h in
+    let below = rest_below r m h in
+    subst (IsReduced (pos m)) (sym (rest_of_some r (pos m) (λ e. absurd (omega (arith, ints, h, e)))))
+    (record { from = omega (arith, ints); rest = inr (from, below); modulus_held = k; rest_held = omega (arith, ints, from, below, k) })
+
+met_of_reduced : (a b : Class) → (a.m ≡ pos 0 → ⊥) → (b.m ≡ pos 0 → ⊥) → Reduced a → Reduced (met_of a b)
+met_of_reduced a b g i h = by (is_held (int_lcm a.m b.m)) refl
+  where
+    by : (w : Bool) → is_held (int_lcm a.m b.m) ≡ w → Reduced (if w then class_of (int_lcm a.m b.m) (first_in b a.m (unsigned_abs b.m) a.r) else a)
+    by true f =
+        positive_reduced (unsigned_abs a.m * unsigned_abs b.m / gcd (unsigned_abs a.m) (unsigned_abs b.m)) (first_in b a.m (unsigned_abs b.m) a.r)
+        (lcm_some (unsigned_abs a.m) (unsigned_abs b.m) (some_abs a.m g) (some_abs b.m i)) (test_held (int_lcm a.m b.m) f)
+    by false f = h
+
+met_reduced : (a b : Class) → Reduced a → Reduced b → IfSome (classes.met a b) Reduced
+met_reduced a b h k = by (are_apart a b) (int_eq a.m (pos 0)) (int_eq b.m (pos 0)) refl refl
+  where
+    by : (d m n : Bool) → int_eq a.m (pos 0) ≡ m → int_eq b.m (pos 0) ≡ n → IfSome (if d then None else (if m then Some a else (if n then Some b else Some (met_of a b)))) Reduced
+    by true m n e f = tt
+    by false true n e f = h
+    by false false true e f = k
+    by false false false e f = met_of_reduced a b (tested_some a.m e) (tested_some b.m f) h
+
+-- ---- refining
+
+ranged_value : (t : IntType) (k : Known) (lo hi : ℤ) → IsValue t k → k.range.lo ≤ℤ lo → hi ≤ℤ k.range.hi → IfSome (with_range k (range_from lo hi)) (IsValue t)
+ranged_value t k lo hi v h i = by (int_le lo hi) refl
+  where
+    by : (b : Bool) → int_le lo hi ≡ b → IfSome (with_range k (let r : Range = record { lo = lo; hi = hi } in if b then Some r else None)) (IsValue t)
+    by true e = let some : lo ≤ℤ hi = omega (arith, ints, e) in record { inside = part_in t k.range lo hi v.inside h some i; some = some; class = v.class }
+    by false e = tt
+
+most_value : (t : IntType) (k : Known) (z : ℤ) → IsValue t k → IfSome (at_most k z) (IsValue t)
+most_value t k z v = ranged_value t k k.range.lo (int_min k.range.hi z) v (omega (arith, ints)) (omega (arith, ints, clamps))
+
+least_value : (t : IntType) (k : Known) (z : ℤ) → IsValue t k → IfSome (at_least k z) (IsValue t)
+least_value t k z v = ranged_value t k (int_max k.range.lo z) k.range.hi v (omega (arith, ints, clamps)) (omega (arith, ints))
+
+other_value : (t : IntType) (k : Known) (z : ℤ) → IsValue t k → IfSome (other_than k z) (IsValue t)
+other_value t k z v = ranged_value t k (if int_eq k.range.lo z then k.range.lo +ℤ pos 1 else k.range.lo) (if int_eq k.range.hi z then k.range.hi -ℤ pos 1 else k.range.hi) v (low (int_eq k.range.lo z)) (high (int_eq k.range.hi z))
+  where
+    low : (b : Bool) → k.range.lo ≤ℤ (if b then k.range.lo +ℤ pos 1 else k.range.lo)
+    low true = omega (arith, ints)
+    low false = omega (arith, ints)
+
+    high : (b : Bool) → (if b then k.range.hi -ℤ pos 1 else k.range.hi) ≤ℤ k.range.hi
+    high true = omega (arith, ints)
+    high false = omega (arith, ints)
+
+met_some : (a b : Range) → IfSome (met a b) (λ r. r.lo ≤ℤ r.hi)
+met_some a b = by (int_le (int_max a.lo b.lo) (int_min a.hi b.hi)) refl
+  where
+    by : (m : Bool) → int_le (int_max a.lo b.lo) (int_min a.hi b.hi) ≡ m → IfSome (let r : Range = record { lo = int_max a.lo b.lo; hi = int_min a.hi b.hi } in if m then Some r else None) (λ r. r.lo ≤ℤ r.hi)
+    by true e = omega (arith, ints, e)
+    by false e = tt
+
+both_value : (t : IntType) (o : Option Range) (c : Option Class) → IfSome o (IsIn t) → IfSome o (λ r. r.lo ≤ℤ r.hi) → IfSome c Reduced → IfSome (with_both o c) (IsValue t)
+both_value t None c i s h = tt
+both_value t (Some r) None i s h = tt
+both_value t (Some r) (Some c) i s h = record { inside = i; some = s; class = h }
+
+refined_value : (op : Op) (t u : IntType) (x v : Known) → IsValue t x → IsValue u v → IfSome (refined op x v) (IsValue t)
+refined_value Lt t u x v h k = most_value t x (v.range.hi -ℤ pos 1) h
+refined_value Le t u x v h k = most_value t x v.range.hi h
+refined_value Gt t u x v h k = least_value t x (v.range.lo +ℤ pos 1) h
+refined_value Ge t u x v h k = least_value t x v.range.lo h
+refined_value Eq t u x v h k = both_value t (met x.range v.range) (classes.met x.class v.class) (met_in t x.range v.range h.inside) (met_some x.range v.range) (met_reduced x.class v.class h.class k.class)
+refined_value Ne t u x v h k = by (is_constant v)
+  where
+    by : (b : Bool) → IfSome (if b then other_than x v.range.lo else Some x) (IsValue t)
+    by true = other_value t x v.range.lo h
+    by false = h
+refined_value Add t u x v h k = h
+refined_value Sub t u x v h k = h
+refined_value Mul t u x v h k = h
+refined_value Div t u x v h k = h
+refined_value Rem t u x v h k = h
+refined_value Shl t u x v h k = h
+refined_value Shr t u x v h k = h
+refined_value And t u x v h k = h
+refined_value Or t u x v h k = h
+refined_value Xor t u x v h k = h
+refined_value Neg t u x v h k = h
+refined_value BitNot t u x v h k = h
+refined_value Not t u x v h k = h
+
+-- ---- writing
+
+written_stays : (y : Layout) (f : Option Facts) (x : ℕ) (o : Option Known) → AreFactsIf y f → x < length y.types → IfSome o (IsValue (type_at y x)) → AreFactsIf y (with_known_if f x o)
+written_stays y f x None a h i = tt
+written_stays y f x (Some k) a h i = changes_stay.written y f x k a h i
+
+term_in : (n : ℕ) (ps : List ℕ) → ArePlaces n ps → IsTerm n (term_of ps)
+term_in n [] h = tt
+term_in n (p ∷ []) h = h.0
+term_in n (p ∷ (q ∷ ps)) h = tt
+
+form_stays : (y : Layout) (f : Option Facts) (k : ℕ) (o : Option Linear) → AreFactsIf y f → k < length y.chosen → HasPlaces (length y.chosen) o → AreFactsIf y (with_form f k o)
+form_stays y f k None a h p = changes_stay.assigned y f k None (pos 0) a h tt
+form_stays y f k (Some l) a h p = changes_stay.assigned y f k (term_of l.places) l.constant a h (term_in (length y.chosen) l.places p)
+
+form_at_stays : (y : Layout) (f : Option Facts) (x : ℕ) (o : Option Linear) → AreFactsIf y f → HasPlaces (length y.chosen) o → AreFactsIf y (with_form_at f (place_in y.chosen x) o)
+form_at_stays y f x o a p = by (place_in y.chosen x) refl
+  where
+    by : (q : Option ℕ) → place_in y.chosen x ≡ q → AreFactsIf y (with_form_at f q o)
+    by None e = a
+    by (Some k) e = form_stays y f k o a (place_below y.chosen x k e) p
+
+-- a value of a narrower type
+wider_value : (t u : IntType) (o : Option Known) → Represents t u → IfSome o (IsValue u) → IfSome o (IsValue t)
+wider_value t u None w h = tt
+wider_value t u (Some k) w h = record { inside = in_wider t u k.range w h.inside; some = h.some; class = h.class }
+
+set_stays : (y : Layout) (f : Option Facts) (x : ℕ) (e : TreeOf ℕ) → AreFactsIf y f → x < length y.types → IsTyped (kinds_of y) e → Represents (type_at y x) (type_of (kinds_of y) e) → AreFactsIf y (set_in y f x e)
+set_stays y f x e a h t w =
+    written_stays y (with_form_at f (place_in y.chosen x) (linear y.chosen (known_in f) e)) x (tree_known (known_in f) e)
+    (form_at_stays y f x (linear y.chosen (known_in f) e) a (tree_places y.chosen (known_in f) e)) h
+    (wider_value (type_at y x) (type_of (kinds_of y) e) (tree_known (known_in f) e) w (tree_stays y f e a t))
+
+forgotten_stays : (y : Layout) (f : Option Facts) (x : ℕ) (o : Option Known) → AreFactsIf y f → x < length y.types → IfSome o (IsValue (type_at y x)) → AreFactsIf y (forgotten_in y f x o)
+forgotten_stays y f x o a h i = written_stays y (with_form_at f (place_in y.chosen x) None) x o (form_at_stays y f x None a tt) h i
+
+index_stays : (y : Layout) (n : ℕ) (o : Option Known) (f : Option Facts) → AreFactsIf y f → AreFactsIf y (at_index n o f)
+index_stays y n None f a = tt
+index_stays y n (Some k) f a = by (misses n k)
+  where
+    by : (b : Bool) → AreFactsIf y (if b then None else f)
+    by true = tt
+    by false = a
+
+pub joined_value : (t : IntType) (a b : Known) → IsValue t a → IsValue t b → IsValue t (joined a b)
+joined_value t a b h k = record { inside = stays.joins t a.range b.range h.inside k.inside; some = omega (arith, ints, clamps, h.some, k.some); class = if_reduced (int_gcd (int_gcd a.class.m b.class.m) (a.class.r -ℤ b.class.r)) a.class.r (omega (arith, ints)) }
+
+joined_stays : (t : IntType) (o p : Option Known) → IfSome o (IsValue t) → IfSome p (IsValue t) → IfSome (joined_if o p) (IsValue t)
+joined_stays t None p h k = tt
+joined_stays t (Some a) None h k = tt
+joined_stays t (Some a) (Some b) h k = joined_value t a b h k
+
+-- ---- guards
+
+places_stay : (y : Layout) (f : Option Facts) (ps : List ℕ) (c : ℤ) → AreFactsIf y f → IsGuardOn (length y.chosen) ps → AreFactsIf y (places_in f ps c)
+places_stay y f [] c a g = changes_stay.guarded y f None None c a g
+places_stay y f (p ∷ []) c a g = changes_stay.guarded y f (Some p) None c a g
+places_stay y f (p ∷ (q ∷ [])) c a g = changes_stay.guarded y f (Some p) (Some q) c a g
+places_stay y f (p ∷ (q ∷ (r ∷ ps))) c a g = a
+
+abbrev AreGuards : Layout → Option Linear → Option Linear → Type 0
+AreGuards y o p = (l r : Linear) → o ≡ Some l → p ≡ Some r → IsGuardOn (length y.chosen) (difference l r).places
+
+le_stays : (y : Layout) (f : Option Facts) (o p : Option Linear) (n : ℤ) → AreFactsIf y f → AreGuards y o p → AreFactsIf y (le_in f o p n)
+le_stays y f None p n a g = a
+le_stays y f (Some l) None n a g = a
+le_stays y f (Some l) (Some r) n a g = places_stay y f (difference l r).places ((r.constant -ℤ n) -ℤ l.constant) a (g l r refl refl)
+
+compared_stays : (op : Op) (y : Layout) (f : Option Facts) (o p : Option Linear) → AreFactsIf y f → AreGuards y o p → AreGuards y p o → AreFactsIf y (compared_in op f o p)
+compared_stays Add y f o p a g h = a
+compared_stays Sub y f o p a g h = a
+compared_stays Mul y f o p a g h = a
+compared_stays Div y f o p a g h = a
+compared_stays Rem y f o p a g h = a
+compared_stays Shl y f o p a g h = a
+compared_stays Shr y f o p a g h = a
+compared_stays And y f o p a g h = a
+compared_stays Or y f o p a g h = a
+compared_stays Xor y f o p a g h = a
+compared_stays Lt y f o p a g h = le_stays y f o p (pos 1) a g
+compared_stays Gt y f o p a g h = le_stays y f p o (pos 1) a h
+compared_stays Le y f o p a g h = le_stays y f o p (pos 0) a g
+compared_stays Ge y f o p a g h = le_stays y f p o (pos 0) a h
+compared_stays Eq y f o p a g h = le_stays y (le_in f o p (pos 0)) p o (pos 0) (le_stays y f o p (pos 0) a g) h
+compared_stays Ne y f o p a g h = a
+compared_stays Neg y f o p a g h = a
+compared_stays BitNot y f o p a g h = a
+compared_stays Not y f o p a g h = a
+
+with_stays : (t : IntType) (o : Option Known) (f : Known → Option Known) → IfSome o (IsValue t) → ((k : Known) → IsValue t k → IfSome (f k) (IsValue t)) → IfSome (known_with o f) (IsValue t)
+with_stays t None f h g = tt
+with_stays t (Some k) f h g = g k h
+
+there_in : (ks : Kinds) (y : Layout) (x : ℕ) → IsOver ks y → x < length ks → x < length y.types
+there_in ks y x o h = omega (arith, h, o.size)
+
+operand_stays : (ks : Kinds) (y : Layout) (f : Option Facts) (e : TreeOf ℕ) (op : Op) (u : IntType) (v : Known) → IsOver ks y → AreFactsIf y f → IsTyped ks e → IsValue u v → AreFactsIf y (with_operand f e op v)
+operand_stays ks y f (constant t n) op u v o a h i = a
+operand_stays ks y f (variable x) op u v o a h i =
+    let here = there_in ks y x o h.there in
+    written_stays y f x (known_with (known_in f x) (λ k. refined op k v)) a here
+    (with_stays (type_at y x) (known_in f x) (λ k. refined op k v) (variable_value y f x a here) (λ k j. refined_value op (type_at y x) u k v j i))
+operand_stays ks y f (converted t e) op u v o a h i = a
+operand_stays ks y f (unary q s t e) op u v o a h i = a
+operand_stays ks y f (binary q s t d e) op u v o a h i = a
+
+if_some_stays : (y : Layout) (o : Option Known) (f : Option Facts) → AreFactsIf y f → AreFactsIf y (if_some o f)
+if_some_stays y None f a = tt
+if_some_stays y (Some k) f a = a
+
+refined_stays : (ks : Kinds) (y : Layout) (f : Option Facts) (c : Condition) (o p : Option Known) (t u : IntType) → IsOver ks y → AreFactsIf y f → IsTyped ks c.left → IsTyped ks c.right → IfSome o (IsValue t) → IfSome p (IsValue u) → AreFactsIf y (refined_in f c o p)
+refined_stays ks y f c None p t u over a h i j k = tt
+refined_stays ks y f c (Some m) None t u over a h i j k = tt
+refined_stays ks y f c (Some m) (Some n) t u over a h i j k =
+    if_some_stays y (refined c.op m n) (with_operand (with_operand f c.left c.op n) c.right (flipped c.op) m)
+    (operand_stays ks y (with_operand f c.left c.op n) c.right (flipped c.op) t m over (operand_stays ks y f c.left c.op u n over a h k) i j)
+
+holds_stay : (ks : Kinds) (y : Layout) (f : Option Facts) (c : Condition) → IsOver ks y → AreFactsIf y f → IsTyped ks c.left → IsTyped ks c.right → AreFactsIf y (holds_in y f c)
+holds_stay ks y f c over a h i =
+    refined_stays ks y (compared_in c.op f (linear y.chosen (known_in f) c.left) (linear y.chosen (known_in f) c.right)) c (tree_known (known_in f) c.left) (tree_known (known_in f) c.right)
+    (type_of (kinds_of y) c.left) (type_of (kinds_of y) c.right) over
+    (compared_stays c.op y f (linear y.chosen (known_in f) c.left) (linear y.chosen (known_in f) c.right) a (differences_guards y.chosen (known_in f) c.left c.right) (differences_guards y.chosen (known_in f) c.right c.left))
+    h i (tree_stays y f c.left a (tree_over ks y c.left over h)) (tree_stays y f c.right a (tree_over ks y c.right over i))
+
+zero_typed : (ks : Kinds) → IsTyped ks (constant Int (pos 0))
+zero_typed ks = record { from = omega (arith, ints); to = omega (arith, ints) }
+
+abbrev AreTyped : Kinds → Condition → Type 0
+AreTyped ks c = IsTyped ks c.left × IsTyped ks c.right
+
+condition_typed : (ks : Kinds) (e : TreeOf ℕ) (b : Bool) → IsTyped ks e → AreTyped ks (condition_of e b)
+condition_typed ks (constant t n) b h = (h, zero_typed ks)
+condition_typed ks (variable x) b h = (h, zero_typed ks)
+condition_typed ks (converted t e) b h = (h, zero_typed ks)
+condition_typed ks (unary op p t e) b h = by (is_not op) (condition_typed ks e (not b) h.1)
+  where
+    by : (n : Bool) → AreTyped ks (condition_of e (not b)) → AreTyped ks (if n then condition_of e (not b) else is_zero (unary op p t e) b)
+    by true i = i
+    by false i = (h, zero_typed ks)
+condition_typed ks (binary op p t d e) b h = by (is_comparison op)
+  where
+    by : (n : Bool) → AreTyped ks (let c : Condition = record { op = if b then op else negated op; left = d; right = e } in if n then c else is_zero (binary op p t d e) b)
+    by true = (h.0, h.1)
+    by false = (h, zero_typed ks)
+
+pub guard_stays : (ks : Kinds) (y : Layout) (f : Option Facts) (e : TreeOf ℕ) (b : Bool) → IsOver ks y → AreFactsIf y f → IsTyped ks e → AreFactsIf y (guard_in y f e b)
+guard_stays ks y f e b over a h = let c = condition_typed ks e b h in holds_stay ks y f (condition_of e b) over a c.0 c.1
+
+-- ---- instructions
+
+applied_by : (ks : Kinds) (y : Layout) (f : Option Facts) (i : InstrOf ℕ) → IsOver ks y → AreFactsIf y f → IsTypedInstr ks i → AreFactsIf y (applied y f i)
+applied_by ks y f Skip over a h = a
+applied_by ks y f (Set x e) over a h = set_stays y f x e a (there_in ks y x over h.0.there) (tree_over ks y e over h.1.typed) (fits_over ks y x e over h.0.there h.1)
+applied_by ks y f (Havoc x t n) over a h =
+    forgotten_stays y f x (Some (any_of t)) a (there_in ks y x over h.0) (subst (λ (u : IntType). IsValue u (any_of t)) (sym (over.types x h.0 ∙ h.1)) (any_value t))
+applied_by ks y f (Clear r) over a h =
+    let zero = zero_in (type_at y r.variable) in
+    changes_stay.written y f r.variable (exactly (pos 0)) a (there_in ks y r.variable over h.there) (exactly_value (type_at y r.variable) (pos 0) (record { from = zero.0; to = zero.1 }))
+applied_by ks y f (Load x r s b i) over a h =
+    let from = there_in ks y r.variable over h.1.there in
+    let same : type_at y r.variable ≡ type_at y x = over.types r.variable h.1.there ∙ sym h.2 ∙ sym (over.types x h.0.there) in
+    index_stays y r.length (tree_known (known_in f) i) (forgotten_in y f x (known_in f r.variable))
+    (forgotten_stays y f x (known_in f r.variable) a (there_in ks y x over h.0.there) (subst (λ (t : IntType). IfSome (known_in f r.variable) (IsValue t)) same (variable_value y f r.variable a from)))
+applied_by ks y f (Store r s b i e) over a h =
+    let here = there_in ks y r.variable over h.0.there in
+    index_stays y r.length (tree_known (known_in f) i) (with_known_if f r.variable (joined_if (known_in f r.variable) (tree_known (known_in f) e)))
+    (written_stays y f r.variable (joined_if (known_in f r.variable) (tree_known (known_in f) e)) a here
+    (joined_stays (type_at y r.variable) (known_in f r.variable) (tree_known (known_in f) e) (variable_value y f r.variable a here)
+    (wider_value (type_at y r.variable) (type_of (kinds_of y) e) (tree_known (known_in f) e) (fits_over ks y r.variable e over h.0.there h.2) (tree_stays y f e a (tree_over ks y e over h.2.typed)))))
+applied_by ks y f (Guard e b) over a h = guard_stays ks y f e b over a h
+applied_by ks y f (Check s e) over a h = guard_stays ks y f e true over a h
+
+pub transfers_stay : TransfersStay
+transfers_stay = record {
+  applied = λ y f i a h. applied_by h.kinds y f i h.over a h.typed;
+  transferred = λ y f i l a h.
+      let before = facts_stay.reductions y f l a in
+      facts_stay.reductions y (applied y (reduced y f) i) l (applied_by h.kinds y (reduced y f) i h.over before h.typed);
+}

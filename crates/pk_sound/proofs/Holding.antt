@@ -1,0 +1,186 @@
+-- No run leaves the result.
+use Rattle.std.proofs.Common.{◌≡◌, ◌<◌, ◌/◌, ◌%◌, ◌==◌, if◌then◌else◌, Bool, true, false, inl, inr, ℕ, ℤ, ◌-ℤ◌, neg_ℤ, ap, ◌∙◌, sym, subst, refl, Option, Some, None, List, [], ◌∷◌, map, length, slice_get, slice_index_or, All, Contains, arith}
+use Rattle.std.proofs.Math.ListN.{get_or-map}
+use Rattle.std.proofs.lemmas.List.{get_or_default, length-map}
+use Rattle.std.proofs.lemmas.List.Elements.{All-head, All-tail}
+use Rattle.pk_ctypes.specs.Laws.{ValuesLieInTheirType}
+use Rattle.pk_graph.specs.Graphs.{VariableOf, EdgeOf, GraphOf, no_variable, variable_at, no_point, point_at, kinds_of}
+use Rattle.pk_graph.specs.Kinds.{Kind, Kinds, kind_at, count_of}
+use Rattle.pk_graph.specs.Trees.{InstrOf}
+use Rattle.pk_graph.specs.WellMade.{IsGraph, IsEdgeOf}
+use Rattle.pk_graph.specs.Steps.{Numbers, To, effect}
+use Rattle.pk_graph.specs.Stores.{Stored, storing, numbers_of, IsStore}
+use Rattle.pk_octmat.specs.Bounds.{AtMost}
+use Rattle.pk_octmat.specs.Octagon.{entry, side, Meets}
+use Rattle.pk_value.specs.Known.{IsOf}
+use Rattle.pk_linear.proofs.ListLemmas.{contains_none, contains_cases}
+use Rattle.pk_value.proofs.Sound.{value_in}
+use Rattle.pk_state.specs.Layouts.{Layout, IsLayout, chosen_at}
+use Rattle.pk_state.specs.Facts.{Facts, Stated, known_at, AreFactsIf, joined}
+use Rattle.pk_state.specs.Members.{number_if, selected, Member}
+use Rattle.pk_state.specs.Reduced.{reduced}
+use Rattle.pk_state.proofs.Held.{facts_stay}
+use Rattle.pk_state.proofs.Sound.{states_sound}
+use Rattle.pk_step.proofs.KeptLemmas.{steps_keep}
+use Rattle.pk_transfer.specs.Trees.{IsOver}
+use Rattle.pk_transfer.specs.Transfers.{transferred}
+use Rattle.pk_transfer.proofs.Keeping.{transferred_keeps}
+use Rattle.pk_transfer.proofs.Layouting.{graphs_over}
+use Rattle.pk_iterate.specs.Outcome.{Outcome}
+use Rattle.pk_phases.specs.declared.equations.Cell.{Cell}
+use Rattle.pk_analysis.specs.declared.arrows.Arrow.{Arrow}
+use Rattle.pk_analysis.specs.Arrows.{arrows_at, origins, no_edge, instr_of}
+use Rattle.pk_analysis.specs.Flows.{Flow, arrived, start_at}
+use Rattle.pk_analysis.specs.Starts.{start_facts}
+use Rattle.pk_sound.specs.Runs.{HasElements, Begins, Reaches, begins, steps}
+use Rattle.pk_sound.proofs.Padding.{pad, pad_same, numbers_at, numbers_longer, kinds_up, store_up, over_up, step_pad}
+use Rattle.pk_sound.specs.Results.{known_at_point, reduced_at_point, given_at_point}
+use Rattle.pk_sound.specs.Solved.{IsSolvedAt}
+use Rattle.pk_sound.specs.Held.{Agrees, ResultHoldsRuns}
+use Rattle.pk_sound.proofs.Arrows_at.{IsArrowTo, arrows_to, has_arrow, arrow_over}
+use Rattle.pk_sound.proofs.Begun.{start_stays, start_store, start_member}
+use Rattle.pk_sound.proofs.Facts_at.{start_at_stays}
+use Rattle.pk_sound.proofs.Facts_stay.{transfers_stay}
+use Rattle.pk_sound.proofs.Solving.{result_is_solved}
+
+-- an edge of a point
+edge_is : (es : List EdgeOf) (e : EdgeOf) (has : Contains es e) → slice_index_or es has.0 no_edge ≡ e
+edge_is es e has = get_or_default es has.0 no_edge e has.1 ∙ has.2
+
+module _ (g : GraphOf) (l : Layout) (made : IsGraph g) (lay : IsLayout l) (over : IsOver (kinds_of g) l) (known : ℕ → Option Facts) (facts : (u : ℕ) → u < length g.points → AreFactsIf l (known u)) where
+  edge_made : (r : Arrow) → r.from < length g.points → r.edge < length (point_at g r.from).edges → IsEdgeOf g (slice_index_or (point_at g r.from).edges r.edge no_edge)
+  edge_made r h k = (made.points r.from no_point h).edges r.edge no_edge k
+
+  -- what is known after an edge
+  abbrev passed : Arrow → Option Facts
+  passed r = transferred l (known r.from) (instr_of g r)
+
+  passed_stays : (v : ℕ) (r : Arrow) → IsArrowTo g v r → AreFactsIf l (passed r)
+  passed_stays v r h = transfers_stay.transferred l (known r.from) (instr_of g r) lay (facts r.from h.point) (arrow_over g l v r made over h)
+
+  -- what was known before has its stores
+  arrived_from : (v : ℕ) (s : Stored) (rows : List Arrow) (f : Option Facts) → All (IsArrowTo g v) rows → AreFactsIf l f → Member l f s → Member l (arrived g l rows (map known (origins rows)) f) s
+  arrived_from v s [] f h a m = m
+  arrived_from v s (r ∷ rows) f h a m =
+      let after = passed_stays v r (All-head (IsArrowTo g v) r rows h) in
+      arrived_from v s rows (joined f (passed r)) (All-tail (IsArrowTo g v) r rows h) (facts_stay.joins l f (passed r) a after) (states_sound.joins l f (passed r) s a after (inl m))
+
+  -- and so has each edge
+  arrived_by : (v : ℕ) (s : Stored) (r : Arrow) (rows : List Arrow) (f : Option Facts) → All (IsArrowTo g v) rows → AreFactsIf l f → Contains rows r → Member l (passed r) s → Member l (arrived g l rows (map known (origins rows)) f) s
+  arrived_by v s r [] f h a has m = absurd (contains_none has)
+  arrived_by v s r (q ∷ rows) f h a has m =
+      let after = passed_stays v q (All-head (IsArrowTo g v) q rows h) in
+      let rest = All-tail (IsArrowTo g v) q rows h in
+      let stays = facts_stay.joins l f (passed q) a after in
+      elim (contains_cases q r rows has) [
+        | inl same ↦ arrived_from v s rows (joined f (passed q)) rest stays (states_sound.joins l f (passed q) s a after (inr (subst (λ (w : Arrow). Member l (passed w) s) (sym same) m)))
+        | inr later ↦ arrived_by v s r rows (joined f (passed q)) rest stays later m
+      ]
+
+  -- a step over an edge
+  stepped : (v : ℕ) (s t : Stored) (r : Arrow) (i : InstrOf ℕ) (chosen : Numbers) → instr_of g r ≡ i → IsArrowTo g v r → IsStore (kinds_of g) s → Member l (known r.from) (pad s) → effect storing chosen i s ≡ To t → Member l (passed r) (pad t)
+  stepped v s t r i chosen is h st m e =
+      let f = known r.from in
+      let a = facts r.from h.point in
+      let before = facts_stay.reductions l f lay a in
+      let after = transfers_stay.applied l (reduced l f) (instr_of g r) before (arrow_over g l v r made over h) in
+      let step = step_pad (kinds_of g) (instr_of g r) chosen s t (edge_made r h.point h.edge).typed st (subst (λ (j : InstrOf ℕ). effect storing chosen j s ≡ To t) (sym is) e) in
+      let same = step.same l (reduced l f) in
+      let kept = transferred_keeps l f step.instr lay a (subst (AreFactsIf l) (sym same) after) in
+      subst (λ (x : Option Facts). Member l (reduced l x) (pad t)) same
+      (kept (kinds_up (kinds_of g)) (pad s) (pad t) step.chosen (over_up (kinds_of g) l over) (store_up (kinds_of g) s st) m step.typed step.goes)
+
+pub values_lie : ValuesLieInTheirType
+values_lie = λ op t x y z h k e. value_in op t x y z e
+
+-- a store at a point: one of the graph's variables, and, as if arrays without elements had one, of what is known there
+pub record IsAt (g : GraphOf) (a : Flow) (it : Outcome (Cell Stated)) (v : ℕ) (s : Stored) : Type 0 where
+  pub point : v < length g.points
+  pub store : IsStore (kinds_of g) s
+  pub member : Member a.layout (known_at_point a it v) (pad s)
+
+module _ (g : GraphOf) (a : Flow) (it : Outcome (Cell Stated)) (made : IsGraph g) (lay : IsLayout a.layout) (over : IsOver (kinds_of g) a.layout)
+    (solved : (v : ℕ) → v < length g.points → IsSolvedAt g a it v) where
+  facts_at : (u : ℕ) → u < length g.points → AreFactsIf a.layout (known_at_point a it u)
+  facts_at u h = (solved u h).known
+
+  -- what the equation gives has no other stores
+  from_given : (v : ℕ) (s : Stored) → v < length g.points → Member a.layout (given_at_point g a it v) s → Member a.layout (known_at_point a it v) s
+  from_given v s h m = let at = solved v h in states_sound.within a.layout (given_at_point g a it v) (known_at_point a it v) s at.given at.known at.below m
+
+  begun : (s : Stored) → Begins g s → IsAt g a it 0 s
+  begun s b = record {
+    point = made.entry;
+    store = start_store g a.layout made lay over s b;
+    member =
+        from_given 0 (pad s) made.entry
+        (arrived_from g a.layout made lay over (known_at_point a it) facts_at 0 (pad s) (arrows_at g 0) (Some (start_facts g a.layout)) (arrows_to g 0) (start_stays g a.layout made lay over) (start_member g a.layout made lay over s b));
+  }
+
+  gone : (p : ℕ) (s t : Stored) (e : EdgeOf) (chosen : Numbers) → Contains (point_at g p).edges e → effect storing chosen e.instr s ≡ To t → IsAt g a it p s → IsAt g a it e.to t
+  gone p s t e chosen has goes at =
+      let r : Arrow = record { from = p; edge = has.0 } in
+      let is = edge_is (point_at g p).edges e has in
+      let edge : IsEdgeOf g e = subst (IsEdgeOf g) is (edge_made g a.layout made lay over (known_at_point a it) facts_at r at.point has.1) in
+      let arrow : IsArrowTo g e.to r = record { point = at.point; edge = has.1; leads = ap (λ (x : EdgeOf). x.to) is } in
+      let member = stepped g a.layout made lay over (known_at_point a it) facts_at e.to s t r e.instr chosen (ap (λ (x : EdgeOf). x.instr) is) arrow at.store at.member goes in
+      record {
+        point = edge.leads_to_a_point;
+        store = steps_keep values_lie (kinds_of g) e.instr chosen s t edge.typed at.store goes;
+        member =
+            from_given e.to (pad t) edge.leads_to_a_point
+            (arrived_by g a.layout made lay over (known_at_point a it) facts_at e.to (pad t) r (arrows_at g e.to) (start_at g a.layout e.to) (arrows_to g e.to) (start_at_stays g a.layout made lay over e.to)
+            (has_arrow g e.to p has.0 at.point has.1 (ap (λ (x : EdgeOf). x.to) is)) member);
+      }
+
+  pub reached : (v : ℕ) (s : Stored) → Reaches g v s → IsAt g a it v s
+  reached v s (begins b) = begun s b
+  reached v s (steps {p = p} {s = before} {e = e} chosen earlier has goes) = gone p before s e chosen has goes (reached p before earlier)
+
+-- ---- without the elements that arrays don't have
+
+side_same : (x y : ℕ → ℤ) → ((k : ℕ) → x k ≡ y k) → (i : ℕ) → side x i ≡ side y i
+side_same x y h i = by (i % 2 == 0)
+  where
+    by : (b : Bool) → (if b then x (i / 2) else neg_ℤ (x (i / 2))) ≡ (if b then y (i / 2) else neg_ℤ (y (i / 2)))
+    by true = h (i / 2)
+    by false = ap neg_ℤ (h (i / 2))
+
+meets_same : (e : ℕ → ℕ → Option ℤ) (x y : ℕ → ℤ) → ((k : ℕ) → x k ≡ y k) → Meets e x → Meets e y
+meets_same e x y h m = record {
+  each = λ i j. subst (λ v. AtMost (Some (side y j -ℤ v)) (e i j)) (side_same x y h i) (subst (λ v. AtMost (Some (v -ℤ side x i)) (e i j)) (side_same x y h j) (m.each i j));
+}
+
+number_same : (s : Stored) (o : Option ℕ) → number_if (pad s) o ≡ number_if s o
+number_same s None = refl
+number_same s (Some x) = numbers_at s x 0
+
+agrees : (ks : Kinds) (l : Layout) (f : Option Facts) (s : Stored) → IsLayout l → IsOver ks l → IsStore ks s → Member l f (pad s) → Agrees l f s
+agrees ks l None s lay over st m = m
+agrees ks l (Some f) s lay over st m = record {
+  values = λ x i p q. subst (IsOf (known_at f.values x)) (numbers_at s x i) (m.values.each x i p (omega (arith, q, numbers_longer s x)));
+  scalars = λ k p. st.counts (chosen_at l k) (omega (arith, lay.there k p, over.size)) ∙ ap count_of (over.scalars k p);
+  octagon = meets_same (entry f.octagon) (selected l.chosen (pad s)) (selected l.chosen s) (λ k. number_same s (slice_get l.chosen k)) m.octagon;
+}
+
+nothing_padded : (g : GraphOf) (s : Stored) → HasElements g → IsStore (kinds_of g) s → pad s ≡ s
+nothing_padded g s some st = pad_same s (λ x h.
+    let many = length-map g.variables (λ (v : VariableOf). v.kind) in
+    let inside : x < length g.variables = omega (arith, h, many, st.size) in
+    let kind : kind_at (kinds_of g) x ≡ (variable_at g x).kind = get_or-map (λ (v : VariableOf). v.kind) g.variables x no_variable in
+    let count : length (numbers_of s x) ≡ count_of (variable_at g x).kind.length = st.counts x (omega (arith, inside, many)) ∙ ap (λ (k : Kind). count_of k.length) kind in
+    subst (λ (n : ℕ). 0 < n) (sym count) (some x no_variable inside))
+
+pub result_holds_runs : ResultHoldsRuns
+result_holds_runs g o p order a most it is v s run =
+    let lay : IsLayout a.layout = subst IsLayout (sym is.analysis.layout) (graphs_over.layouts g o.oct is.oct) in
+    let over : IsOver (kinds_of g) a.layout = subst (IsOver (kinds_of g)) (sym is.analysis.layout) (graphs_over.over g o.oct) in
+    let solved = result_is_solved g o p order a most it is in
+    let at = reached g a it is.graph lay over solved v s run in
+    let kept = states_sound.kept a.layout (known_at_point a it v) (pad s) lay (solved v at.point).known at.member in
+    record {
+      known = agrees (kinds_of g) a.layout (known_at_point a it v) s lay over at.store at.member;
+      reduced = agrees (kinds_of g) a.layout (reduced_at_point a it v) s lay over at.store kept;
+      member = λ some. subst (Member a.layout (known_at_point a it v)) (nothing_padded g s some at.store) at.member;
+      reduced_member = λ some. subst (Member a.layout (reduced_at_point a it v)) (nothing_padded g s some at.store) kept;
+    }
