@@ -15,6 +15,7 @@ use Rattle.pk_front.specs.declared.status.Status.{Status}
 use Rattle.pk_front.specs.declared.status.Status.TheVariants.{Ok, Usage, Refused, Limit, RunLimit, ReadFault, WriteFault, Memory}
 use Rattle.pk_front.specs.Texts.{HasPaths, IsLeft}
 use Rattle.pk_graph.specs.Graphs.{GraphOf}
+use Rattle.pk_graph.specs.WellMade.{IsGraph}
 use Rattle.pk_draft.specs.Drafts.{by_number}
 use Rattle.pk_lower.specs.Parts.{point_count, program_draft}
 use Rattle.pk_lower.specs.Paths.{path_of}
@@ -36,13 +37,14 @@ point_limit = 65536
 abbrev pub graph_of : UnitTree → List CallPath → GraphOf
 graph_of u paths = numbered (map (path_of u paths) paths) (program_draft by_number u paths)
 
--- the graph of a text whose runs begin with this function
+-- the graph of a text whose runs begin with this function, which is well made
 pub record HasGraph (text entry : List ℕ) (g : GraphOf) : Type 0 where
   pub unit : UnitTree
   pub paths : List CallPath
   pub called : HasPaths text entry unit paths
   pub few : point_count unit paths ≤ point_limit
   pub graph : g ≡ graph_of unit paths
+  pub made : IsGraph g
 
 -- it would have too many points
 pub record HasManyPoints (text entry : List ℕ) : Type 0 where

@@ -38,7 +38,10 @@ fn graph_of_text(alloc: Global, text: &[u8], entry: &str) -> Result<Graph, Statu
     };
     let list = graph_paths(alloc, &unit, &paths)?;
     match number_if_typed(alloc, list, draft)? {
-        Some(graph) => Ok(graph),
+        Some(graph) => {
+            graph.well_made();
+            Ok(graph)
+        }
         None => Err(Status::Memory),
     }
 }

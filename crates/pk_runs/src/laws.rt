@@ -1,0 +1,20 @@
+// Laws of reports, over runs of the graph.
+
+ghost use Rattle.pk_runs.specs.True.{AnswersAreTrue, ReportsAreTrue};
+
+use pk_sound::{result_holds_runs, verdicts_hold};
+
+/// The states that a report tells of a graph hold each of its runs, and the verdicts are right.
+pub fn reports_are_true()
+    ensures { ReportsAreTrue }
+{
+    result_holds_runs();
+    verdicts_hold();
+}
+
+/// So do those of the report on a text.
+pub fn answers_are_true()
+    ensures { AnswersAreTrue }
+{
+    reports_are_true();
+}
