@@ -1,10 +1,11 @@
 // What is told of a text.
 
-ghost use Rattle.std.specs.Prelude.{◌≡◌, ◌≤◌, IfOk, IfErr, codes};
+ghost use Rattle.std.specs.Prelude.{◌≡◌, ◌++◌, IfOk, IfErr, codes};
 ghost use Rattle.pk_command.specs.Given.{IsInRange};
 ghost use Rattle.pk_command.specs.declared.asked.Command.TheVariants as commands;
+ghost use Rattle.pk_ctypes.specs.declared.words.Quantity.TheVariants.{Points};
 ghost use Rattle.pk_graph.specs.Shown.{graph_view};
-ghost use Rattle.pk_top.specs.Answers.{HasGraph, HasNoGraph, IsRun, IsOrder, IsMade, IsTold};
+ghost use Rattle.pk_top.specs.Answers.{HasGraph, HasNoGraph, IsRun, IsOrder, IsMade, IsTold, options_of, point_limit};
 ghost use Rattle.pk_top.specs.Headline.{IsStopped};
 
 use pk_answer::{Failure, Options, order_of, report_of, summary_of};
@@ -15,10 +16,44 @@ use pk_front::{Status, front};
 use pk_graph::Graph;
 use pk_lower::{draft, graph_paths};
 use pk_number::number_if_typed;
-use std::alloc::Global;
+use std::alloc::{AllocError, Global};
 
-// The greatest number of points.
-const POINT_LIMIT: u64 = 65536;
+// A graph would have too many points.
+fn too_many_points() -> Status
+    ensures { result ≡ Status.Limit Points point_limit }
+{
+    Status::Limit {
+        what: Quantity::Points,
+        number: 65536,
+    }
+}
+
+// How a graph is analysed for a run.
+fn analysis_of(options: &RunOptions) -> Options
+    ensures { result ≡ options_of options.now }
+{
+    Options {
+        narrow: options.narrow,
+        oct: options.oct,
+    }
+}
+
+// A line, of its text.
+fn line_of(text: Vec<u8>) -> Result<Vec<u8>, AllocError>
+    ensures { IfOk result (λ line. line.items ≡ text.items ++ codes "\n") }
+{
+    let mut line = text;
+    line.push(b'\n')?;
+    Ok(line)
+}
+
+// The seed and the size of a made text.
+fn made_from(options: &GenOptions) -> (usize, usize)
+    ensures seed { result.0 ≡ options.now.seed }
+    ensures size { result.1 ≡ options.now.size }
+{
+    (options.seed as usize, options.size as usize)
+}
 
 // The graph of a text whose runs begin with a function.
 fn graph_of_text(alloc: Global, text: &[u8], entry: &str) -> Result<Graph, Status>
@@ -29,10 +64,7 @@ fn graph_of_text(alloc: Global, text: &[u8], entry: &str) -> Result<Graph, Statu
     let draft = match draft(alloc, &unit, &paths) {
         Ok(draft) => draft,
         Err(LowerError::Limit) => {
-            return Err(Status::Limit {
-                what: Quantity::Points,
-                number: POINT_LIMIT,
-            });
+            return Err(too_many_points());
         }
         Err(LowerError::Memory) => return Err(Status::Memory),
     };
@@ -53,10 +85,7 @@ fn run_told(alloc: Global, options: &RunOptions, text: &[u8]) -> Result<(Vec<u8>
     ensures stopped { IfErr result (IsStopped text.now (commands.Run options.now)) }
 {
     let graph = graph_of_text(alloc, text, options.entry.as_str())?;
-    let analysis = Options {
-        narrow: options.narrow,
-        oct: options.oct,
-    };
+    let analysis = analysis_of(options);
     match report_of(alloc, &graph, analysis, options.max_runs, options.points) {
         Ok((bytes, unknown)) => Ok((bytes, unknown as u64)),
         Err(Failure::RunLimit) => Err(Status::RunLimit {
@@ -72,8 +101,7 @@ fn order_told(alloc: Global, options: &OrderOptions, text: &[u8]) -> Result<(Vec
     ensures stopped { IfErr result (IsStopped text.now (commands.Order options.now)) }
 {
     let graph = graph_of_text(alloc, text, options.entry.as_str())?;
-    let mut bytes = order_of(alloc, &graph)?;
-    bytes.push(b'\n')?;
+    let bytes = line_of(order_of(alloc, &graph)?)?;
     Ok((bytes, 0))
 }
 
@@ -84,15 +112,8 @@ fn gen_told(alloc: Global, options: &GenOptions, text: &[u8]) -> Result<(Vec<u8>
 {
     let graph = graph_of_text(alloc, text, "main")?;
     let analysis = Options { narrow: 2, oct: 16 };
-    match summary_of(
-        alloc,
-        &graph,
-        analysis,
-        1000000,
-        options.seed as usize,
-        options.size as usize,
-        text.len(),
-    ) {
+    let (seed, size) = made_from(options);
+    match summary_of(alloc, &graph, analysis, 1000000, seed, size, text.len()) {
         Ok((bytes, unknown)) => Ok((bytes, unknown as u64)),
         Err(Failure::RunLimit) => Err(Status::RunLimit { max_runs: 1000000 }),
         Err(Failure::Memory) => Err(Status::Memory),
