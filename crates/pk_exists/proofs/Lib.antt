@@ -1,0 +1,16 @@
+mod Told
+mod Picking
+mod Reaching
+pub mod Nesting
+mod Graphs
+mod Laying
+pub mod Drawing
+mod StepLemmas
+mod LevelLemmas
+mod SpellLemmas
+mod Telling
+mod Candidates
+mod Backs
+mod Turning
+pub mod Placing
+pub mod Ordering

@@ -1,0 +1,4 @@
+pub mod Nests
+pub mod Plans
+pub mod Orders
+pub mod Digraphs
