@@ -1,0 +1,9 @@
+pub mod Verbs
+pub mod Forms
+pub mod Expressions
+pub mod Statements
+pub mod Sizes
+pub mod Everywhere
+pub mod Measures
+pub mod Behind
+pub mod Leading

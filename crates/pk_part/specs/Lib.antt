@@ -1,0 +1,4 @@
+pub mod Called
+pub mod Steps
+pub mod Laws
+pub mod Listed
