@@ -8,3 +8,4 @@ pub mod Held
 pub mod Tops
 pub mod Changed
 pub mod Places
+pub mod Loose

@@ -8,8 +8,8 @@ ghost use Rattle.pk_state.specs.Changes.{IsValue, known_in, bound_in, with_known
 
 use crate::facts::{Facts, shared};
 use crate::frame::Frame;
+use crate::marks::put_loose;
 use crate::state::State;
-use crate::values::put;
 use pk_ctypes::IntType;
 use pk_octmat::Shape;
 use pk_octops::{assign, guard};
@@ -46,11 +46,13 @@ fn write_if(
         None => Ok(None),
         Some(facts) => {
             let mut values = facts.values;
+            let mut loose = facts.loose;
             let old = values.get(x);
-            put(alloc, &mut values, x, &old, value)?;
+            put_loose(alloc, &mut values, &mut loose, x, &old, value)?;
             Ok(Some(Facts {
                 values,
                 octagon: facts.octagon,
+                loose,
             }))
         }
     }
@@ -77,6 +79,7 @@ fn assign_if(
             Ok(Some(Facts {
                 octagon: shared(alloc, &facts.octagon, m)?,
                 values: facts.values,
+                loose: facts.loose,
             }))
         }
     }
@@ -104,6 +107,7 @@ fn guard_if(
                 Shape::Kept => Ok(Some(Facts {
                     octagon: shared(alloc, &facts.octagon, m)?,
                     values: facts.values,
+                    loose: facts.loose,
                 })),
             }
         }

@@ -11,6 +11,7 @@ ghost use Rattle.pk_value.specs.Known.{any_of};
 ghost use Rattle.pk_state.specs.Reduced.{reduced_facts};
 
 use crate::frame::Frame;
+use crate::marks::{at_most, either, every};
 use crate::octagons::{join_shared, lower_all, narrow_shared, widen_shared};
 use crate::values::{
     bound_values, join_values, leq_values, narrow_values, reduce_values, same_values, widen_values,
@@ -29,15 +30,20 @@ use std::sync::Arc;
 pub(crate) struct Facts {
     pub(crate) values: Blocks<Value>,
     pub(crate) octagon: Arc<Matrix>,
+    // The values that may be loose: every other one is tight.
+    pub(crate) loose: Vec<usize>,
 }
 
 impl Model for Facts {
     ghost use Rattle.std.specs.Arc.{arc_value};
     ghost use Rattle.pk_state.specs.Facts.{Facts};
+    ghost use Rattle.pk_state.specs.Marks.{AreMarked};
 
     ghost Value = { Facts };
 
     ghost view = { λ f. record { values = f.values; octagon = arc_value f.octagon } };
+
+    ghost invariant = { λ f. AreMarked f.values f.loose.items };
 }
 
 // No bounds on n variables.
@@ -69,6 +75,7 @@ pub(crate) fn top_facts(alloc: Global, frame: &Frame) -> Result<Facts, AllocErro
     Ok(Facts {
         values: top_values(alloc, frame)?,
         octagon: Arc::new(alloc, top_octagon(alloc, frame.octagon_len())?)?,
+        loose: every(alloc, frame.len())?,
     })
 }
 
@@ -79,17 +86,24 @@ pub(crate) fn copy_facts(alloc: Global, f: &Facts) -> Result<Facts, AllocError>
     Ok(Facts {
         values: f.values.copy(alloc)?,
         octagon: Arc::try_clone(&f.octagon)?,
+        loose: Vec::from_slice(alloc, &f.loose)?,
     })
 }
 
-pub(crate) fn join_facts(alloc: Global, a: &Facts, b: &Facts) -> Result<Facts, AllocError>
-    requires size { length a.now.values ≡ length b.now.values }
-    requires vars { b.now.octagon.vars ≡ a.now.octagon.vars }
+pub(crate) fn join_facts(
+    alloc: Global,
+    a: &Facts,
+    b: &Facts,
+    frame: &Frame,
+) -> Result<Facts, AllocError>
+    requires left { AreFacts frame.now a.now }
+    requires right { AreFacts frame.now b.now }
     ensures { IfOk result (λ f. f ≡ record { values = joined_values a.now.values b.now.values; octagon = join_of a.now.octagon b.now.octagon }) }
 {
     Ok(Facts {
         values: join_values(alloc, &a.values, &b.values)?,
         octagon: join_shared(alloc, &a.octagon, &b.octagon)?,
+        loose: either(alloc, &a.loose, &b.loose, frame.len())?,
     })
 }
 
@@ -105,9 +119,18 @@ pub(crate) fn widen_facts(
     requires rising { IsSorted int_cmp thresholds.now }
     ensures { IfOk result (λ f. f ≡ record { values = widened_values frame.now thresholds.now held.now.values next.now.values; octagon = widening_of held.now.octagon next.now.octagon }) }
 {
+    let mut loose = Vec::from_slice(alloc, &held.loose)?;
     Ok(Facts {
-        values: widen_values(alloc, &held.values, &next.values, frame, thresholds)?,
+        values: widen_values(
+            alloc,
+            &held.values,
+            &next.values,
+            frame,
+            thresholds,
+            &mut loose,
+        )?,
         octagon: widen_shared(alloc, &held.octagon, &next.octagon)?,
+        loose: at_most(alloc, loose, frame.len())?,
     })
 }
 
@@ -121,9 +144,11 @@ pub(crate) fn narrow_facts(
     requires next { AreFacts frame.now next.now }
     ensures { IfOk result (λ f. f ≡ record { values = narrowed_values frame.now held.now.values next.now.values; octagon = narrowing_of held.now.octagon next.now.octagon }) }
 {
+    let mut loose = Vec::from_slice(alloc, &held.loose)?;
     Ok(Facts {
-        values: narrow_values(alloc, &held.values, &next.values, frame)?,
+        values: narrow_values(alloc, &held.values, &next.values, frame, &mut loose)?,
         octagon: narrow_shared(alloc, &held.octagon, &next.octagon)?,
+        loose: at_most(alloc, loose, frame.len())?,
     })
 }
 
@@ -168,7 +193,7 @@ pub(crate) fn reduce_facts(
     ensures { IfOk result (λ o. o ≡ reduced_facts frame.now f.now) }
 {
     let mut values = f.values.copy(alloc)?;
-    if !reduce_values(alloc, &mut values, frame)? {
+    if !reduce_values(alloc, &mut values, &f.loose, frame)? {
         return Ok(None);
     }
     let mut m = f.octagon.copy()?;
@@ -180,11 +205,12 @@ pub(crate) fn reduce_facts(
     if !bound_values(alloc, &mut values, &m, frame)? {
         return Ok(None);
     }
-    if !reduce_values(alloc, &mut values, frame)? {
+    if !reduce_values(alloc, &mut values, frame.all_chosen(), frame)? {
         return Ok(None);
     }
     Ok(Some(Facts {
         values,
         octagon: shared(alloc, &f.octagon, m)?,
+        loose: Vec::new(alloc),
     }))
 }

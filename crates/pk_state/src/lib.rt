@@ -5,6 +5,7 @@ mod changes;
 mod facts;
 mod frame;
 mod laws;
+mod marks;
 mod octagons;
 mod state;
 mod values;

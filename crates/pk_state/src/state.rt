@@ -68,12 +68,11 @@ fn join_if(
     requires right { AreFactsIf frame.now b.now }
     ensures { IfOk result (λ f. f ≡ joined a.now b.now) }
 {
-    let _ = frame;
     match a {
         None => copy_if(alloc, b),
         Some(left) => match b {
             None => Ok(Some(copy_facts(alloc, left)?)),
-            Some(right) => Ok(Some(join_facts(alloc, left, right)?)),
+            Some(right) => Ok(Some(join_facts(alloc, left, right, frame)?)),
         },
     }
 }

@@ -1,6 +1,6 @@
 // The values of all variables: joined, widened, narrowed, compared, reduced, bounded.
 
-ghost use Rattle.std.specs.Prelude.{◌≡◌, ◌↔◌, ◌<◌, ℕ, true, IfOk, OnOk, length, slice_set};
+ghost use Rattle.std.specs.Prelude.{◌≡◌, ◌↔◌, ◌<◌, ℕ, true, IfOk, OnOk, [], length, slice_set};
 ghost use Rattle.std.specs.List.Sorted.{IsSorted};
 ghost use Rattle.std.specs.Ordering.{int_cmp};
 ghost use Rattle.pk_value.specs.Known.{is_within};
@@ -8,10 +8,12 @@ ghost use Rattle.pk_octmat.specs.Octagon.{entry};
 ghost use Rattle.pk_octmat.specs.Bounds.{halved};
 ghost use Rattle.pk_octops.specs.Values.{least_of};
 ghost use Rattle.pk_state.specs.Facts.{known_at, AreValues, joined_values, widened_values, narrowed_values};
+ghost use Rattle.pk_state.specs.Marks.{AreMarked};
 ghost use Rattle.pk_state.specs.Reduced.{red_all, with_range, raised_low, lowered_high, bounded_by, bounded_all, kept_if};
 ghost use Rattle.pk_interval.specs.Ranges.{range_from};
 
 use crate::frame::Frame;
+use crate::marks::put_loose;
 use pk_blocks::{Blocks, Merge};
 use pk_interval::{Interval, between};
 use pk_octmat::Matrix;
@@ -69,17 +71,20 @@ pub(crate) fn widen_values(
     next: &Blocks<Value>,
     frame: &Frame,
     thresholds: &[i128],
+    loose: &mut Vec<usize>,
 ) -> Result<Blocks<Value>, AllocError>
     requires held { AreValues frame.now held.now }
     requires next { AreValues frame.now next.now }
     requires rising { IsSorted int_cmp thresholds.now }
-    ensures { IfOk result (λ v. v ≡ widened_values frame.now thresholds.now held.now next.now) }
+    requires marked { AreMarked held.now loose.old.items }
+    ensures value { IfOk result (λ v. v ≡ widened_values frame.now thresholds.now held.now next.now) }
+    ensures marked { IfOk result (λ v. AreMarked v loose.new.items) }
 {
     let mut out = held.copy(alloc)?;
     for x in 0..frame.len() {
         let old = held.get(x);
         let new = old.widen(&next.get(x), frame.int_type(x), thresholds);
-        put(alloc, &mut out, x, &old, new)?;
+        put_loose(alloc, &mut out, loose, x, &old, new)?;
     }
     Ok(out)
 }
@@ -90,16 +95,19 @@ pub(crate) fn narrow_values(
     held: &Blocks<Value>,
     next: &Blocks<Value>,
     frame: &Frame,
+    loose: &mut Vec<usize>,
 ) -> Result<Blocks<Value>, AllocError>
     requires held { AreValues frame.now held.now }
     requires next { AreValues frame.now next.now }
-    ensures { IfOk result (λ v. v ≡ narrowed_values frame.now held.now next.now) }
+    requires marked { AreMarked held.now loose.old.items }
+    ensures value { IfOk result (λ v. v ≡ narrowed_values frame.now held.now next.now) }
+    ensures marked { IfOk result (λ v. AreMarked v loose.new.items) }
 {
     let mut out = held.copy(alloc)?;
     for x in 0..frame.len() {
         let old = held.get(x);
         let new = old.narrow(&next.get(x), frame.int_type(x));
-        put(alloc, &mut out, x, &old, new)?;
+        put_loose(alloc, &mut out, loose, x, &old, new)?;
     }
     Ok(out)
 }
@@ -130,21 +138,27 @@ pub(crate) fn same_values(a: &Blocks<Value>, b: &Blocks<Value>) -> bool
     true
 }
 
-/// Reduces each value. False where one is empty.
+/// Reduces each value; those that aren't listed are their own reductions. False where one is empty.
 pub(crate) fn reduce_values(
     alloc: Global,
     values: &mut Blocks<Value>,
+    loose: &[usize],
     frame: &Frame,
 ) -> Result<bool, AllocError>
-    requires { AreValues frame.now values.old }
+    requires values { AreValues frame.now values.old }
+    requires marked { AreMarked values.old loose.now }
     ensures value { IfOk result (λ b. kept_if b values.new ≡ red_all values.old) }
     ensures stays { IfOk result (λ b. b ≡ true → AreValues frame.now values.new) }
+    ensures tight { IfOk result (λ b. b ≡ true → AreMarked values.new []) }
 {
-    for x in 0..frame.len() {
-        let old = values.get(x);
-        match old.reduced(frame.int_type(x)) {
-            None => return Ok(false),
-            Some(new) => put(alloc, values, x, &old, new)?,
+    for k in 0..loose.len() {
+        let x = loose[k];
+        if x < frame.len() {
+            let old = values.get(x);
+            match old.reduced(frame.int_type(x)) {
+                None => return Ok(false),
+                Some(new) => put(alloc, values, x, &old, new)?,
+            }
         }
     }
     Ok(true)
@@ -214,6 +228,7 @@ pub(crate) fn bound_values(
     requires vars { m.now.vars ≡ length frame.now.chosen }
     ensures value { IfOk result (λ b. kept_if b values.new ≡ bounded_all frame.now m.now (length frame.now.chosen) values.old) }
     ensures stays { IfOk result (λ b. b ≡ true → AreValues frame.now values.new) }
+    ensures others { IfOk result (λ b. b ≡ true → AreMarked values.old [] → AreMarked values.new frame.now.chosen) }
 {
     frame.is_layout();
     for k in 0..frame.octagon_len() {

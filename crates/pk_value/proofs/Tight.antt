@@ -3,7 +3,6 @@ use Rattle.std.specs.Prelude.{◌≡◌, ◌⊎◌, Bool, true, false, if◌then
 use Rattle.std.specs.Int.{int_min, int_max}
 use Rattle.std.proofs.Common.{arith, refl, ap, sym, subst, ◌∙◌, inl, inr}
 use Rattle.std.proofs.lemmas.Int.{ints, clamps}
-use Rattle.pk_ctypes.specs.declared.types.IntType.{IntType}
 use Rattle.pk_interval.specs.Ranges.{Range, single}
 use Rattle.pk_congr.specs.Classes.{Class, IsMember, IsReduced, constant, next_up_of, next_down_of}
 use Rattle.pk_congr.specs.Classes as classes
@@ -12,7 +11,7 @@ use Rattle.pk_congr.proofs.Order.{join_is_least}
 use Rattle.pk_congr.proofs.Keeping.{unchanged}
 use Rattle.pk_value.specs.Reduction.{red, reduced_at, reduced_if}
 use Rattle.pk_value.specs.Known.{Known, known_of, red_known, joined}
-use Rattle.pk_value.specs.Laws.{IsOfIts, IsTight, TightIsReduced}
+use Rattle.pk_value.specs.Laws.{IsTight, TightIsReduced}
 use Rattle.pk_value.proofs.Reducing.{exact as reduction}
 
 -- a member is the next one to itself
@@ -98,8 +97,8 @@ high_of_both a b = by (int_lt a.hi b.hi) refl
     by true e = inr (omega (arith, ints, clamps, e))
     by false e = inl (omega (arith, ints, clamps, e))
 
-joins_tight : (t : IntType) (a b : Known) → IsOfIts t a → IsOfIts t b → IsTight a → IsTight b → IsTight (joined a b)
-joins_tight t a b f g h k = record {
+joins_tight : (a b : Known) → IsReduced a.class.m a.class.r → IsTight a → IsTight b → IsTight (joined a b)
+joins_tight a b f h k = record {
   some = omega (arith, ints, clamps, h.some, k.some);
   least = least (low_of_both a.range b.range);
   greatest = greatest (high_of_both a.range b.range);
@@ -125,7 +124,7 @@ joins_tight t a b f g h k = record {
         let low : a.range.lo ≡ int_min a.range.lo b.range.lo = omega (arith, ints, clamps, e, h.some, k.some) in
         let first : a.class ≡ constant a.range.lo = h.one left in
         let second : b.class ≡ a.class = k.one right ∙ ap constant same ∙ sym first in
-        ap (λ c. classes.joined a.class c) second ∙ unchanged.joins a.class a.class f.class.reduced (unchanged.within_itself a.class) ∙ first ∙ ap constant low
+        ap (λ c. classes.joined a.class c) second ∙ unchanged.joins a.class a.class f (unchanged.within_itself a.class) ∙ first ∙ ap constant low
 
 pub tight_is_reduced : TightIsReduced
 tight_is_reduced = record { again = again; tight = tight; joins = joins_tight }

@@ -53,8 +53,8 @@ pub record IsTight (k : Known) : Type 0 where
   pub greatest : IsMember k.class k.range.hi
   pub one : k.range.lo ≡ k.range.hi → k.class ≡ constant k.range.lo
 
--- What is tight is its own reduction, what is reduced is tight, and so are joins of tight values of a type.
+-- What is tight is its own reduction, what is reduced is tight, and so are joins of tight values.
 pub record TightIsReduced : Type 0 where
   pub again : (k : Known) → pos 0 ≤ℤ k.class.m → IsTight k → red_known k ≡ Some k
   pub tight : (k r : Known) → pos 0 ≤ℤ k.class.m → red_known k ≡ Some r → IsTight r
-  pub joins : (t : IntType) (a b : Known) → IsOfIts t a → IsOfIts t b → IsTight a → IsTight b → IsTight (joined a b)
+  pub joins : (a b : Known) → IsReduced a.class.m a.class.r → IsTight a → IsTight b → IsTight (joined a b)

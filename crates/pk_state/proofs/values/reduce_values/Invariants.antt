@@ -1,7 +1,8 @@
+use Rattle.std.proofs.Common.{drop}
 use Rattle.pk_state.specs.Facts.{AreValues}
-use Rattle.pk_state.proofs.Stays.{AreRed}
+use Rattle.pk_state.proofs.Loose.{AreHalfway}
 use Rattle.pk_state.proofs.values.reduce_values.Given as goal
 
--- so many are reduced
-abbrev pub invariant-loop-x : goal.invariant-loop-x
-invariant-loop-x l = AreValues l.frame l.values × AreRed l.fn.values l.values l.x
+-- those up to k are reduced
+abbrev pub invariant-loop-k : goal.invariant-loop-k
+invariant-loop-k l = AreValues l.frame l.values × AreHalfway l.fn.values l.values (drop l.k l.loose)

@@ -1,0 +1,200 @@
+-- Which values may be loose.
+use Rattle.std.specs.Prelude.{◌≡◌, ◌≢◌, ◌⊎◌, ℕ, zero, suc, ◌+◌, ◌<◌, ◌≤◌, Bool, true, false, not, List, [], ◌∷◌, ◌++◌, length, slice_index_or, Option, Some, None, pos, ◌≤ℤ◌}
+use Rattle.std.proofs.Common.{◌∙◌, ap, refl, sym, subst, arith, inl, inr, set, drop, length-set}
+use Rattle.std.proofs.lemmas.List.{drop_more}
+use Rattle.std.proofs.lemmas.Bool.{cases_eq}
+use Rattle.pk_value.specs.Known.{Known, red_known, joined}
+use Rattle.pk_value.specs.Laws.{IsTight}
+use Rattle.pk_value.proofs.Tight.{tight_is_reduced}
+use Rattle.pk_blocks.specs.Rows.{merged_from}
+use Rattle.pk_blocks.proofs.Merging.{merged_length}
+use Rattle.pk_state.specs.Layouts.{Layout}
+use Rattle.pk_state.specs.Facts.{known_at, AreValues, joined_values}
+use Rattle.pk_state.specs.Reduced.{with_first, red_all}
+use Rattle.pk_state.specs.Marks.{IsListed, AreMarked}
+use Rattle.pk_state.proofs.Bounded.{known_same, known_other}
+use Rattle.pk_state.proofs.Lists.{merged_at}
+
+-- ---- lists
+
+pub listed_left : (xs ys : List ℕ) (y : ℕ) → IsListed xs y → IsListed (xs ++ ys) y
+listed_left [] ys y h = absurd h
+listed_left (x ∷ xs) ys y (inl e) = inl e
+listed_left (x ∷ xs) ys y (inr h) = inr (listed_left xs ys y h)
+
+pub listed_right : (xs ys : List ℕ) (y : ℕ) → IsListed ys y → IsListed (xs ++ ys) y
+listed_right [] ys y h = h
+listed_right (x ∷ xs) ys y h = inr (listed_right xs ys y h)
+
+pub listed_last : (xs : List ℕ) (y : ℕ) → IsListed (xs ++ y ∷ []) y
+listed_last xs y = listed_right xs (y ∷ []) y (inl refl)
+
+pub listed_at : (xs : List ℕ) (k d : ℕ) → k < length xs → IsListed xs (slice_index_or xs k d)
+listed_at [] k d p = absurd (omega arith)
+listed_at (x ∷ xs) zero d p = inl refl
+listed_at (x ∷ xs) (suc k) d p = inr (listed_at xs k d (omega arith))
+
+-- what is left is the next one or among the rest
+pub listed_next : (xs : List ℕ) (k d y : ℕ) → k < length xs → IsListed (drop k xs) y → (slice_index_or xs k d ≡ y) ⊎ IsListed (drop (k + 1) xs) y
+listed_next xs k d y p h = subst (λ zs. IsListed zs y) (drop_more xs k d p) h
+
+-- those of either of two lists
+pub listed_both : (a b : List ℕ) (y : ℕ) → IsListed a y ⊎ IsListed b y → IsListed (a ++ b) y
+listed_both a b y (inl e) = listed_left a b y e
+listed_both a b y (inr e) = listed_right a b y e
+
+-- one more than so many
+pub listed_more : (xs : List ℕ) (n : ℕ) → ((y : ℕ) → y < n → IsListed xs y) → (y : ℕ) → y < n + 1 → IsListed (xs ++ n ∷ []) y
+listed_more xs n h y p = by (cases_eq y n)
+  where
+    by : (y ≡ n) ⊎ (y ≢ n) → IsListed (xs ++ n ∷ []) y
+    by (inl e) = rw e (listed_last xs n)
+    by (inr d) = listed_left xs (n ∷ []) y (h y (omega (arith, p, d)))
+
+pub not_false : (b : Bool) → not b ≡ false → b ≡ true
+not_false true e = refl
+not_false false e = absurd (cc)
+
+-- ---- values
+
+-- a value that is written is listed
+pub marked_put : (vs : List Known) (loose : List ℕ) (x : ℕ) (v : Known) → AreMarked vs loose → AreMarked (set vs x v) (loose ++ x ∷ [])
+marked_put vs loose x v h y p = by (cases_eq y x)
+  where
+    other : y ≢ x → IsTight (known_at vs y) ⊎ IsListed loose y → IsTight (known_at (set vs x v) y) ⊎ IsListed (loose ++ x ∷ []) y
+    other n (inl t) = inl (rw (known_other vs x y v n) t)
+    other n (inr l) = inr (listed_left loose (x ∷ []) y l)
+
+    by : (y ≡ x) ⊎ (y ≢ x) → IsTight (known_at (set vs x v) y) ⊎ IsListed (loose ++ x ∷ []) y
+    by (inl e) = inr (rw e (listed_last loose x))
+    by (inr n) = other n (h y (omega (arith, p, length-set vs x v)))
+
+-- or is listed already
+pub marked_listed : (vs : List Known) (loose : List ℕ) (x : ℕ) (v : Known) → IsListed loose x → AreMarked vs loose → AreMarked (set vs x v) loose
+marked_listed vs loose x v l h y p = by (cases_eq y x)
+  where
+    other : y ≢ x → IsTight (known_at vs y) ⊎ IsListed loose y → IsTight (known_at (set vs x v) y) ⊎ IsListed loose y
+    other n (inl t) = inl (rw (known_other vs x y v n) t)
+    other n (inr l) = inr l
+
+    by : (y ≡ x) ⊎ (y ≢ x) → IsTight (known_at (set vs x v) y) ⊎ IsListed loose y
+    by (inl e) = inr (subst (λ z. IsListed loose z) (sym e) l)
+    by (inr n) = other n (h y (omega (arith, p, length-set vs x v)))
+
+pub marked_more : (vs : List Known) (loose : List ℕ) → AreMarked vs [] → AreMarked vs loose
+marked_more vs loose h x p = by (h x p)
+  where
+    by : IsTight (known_at vs x) ⊎ ⊥ → IsTight (known_at vs x) ⊎ IsListed loose x
+    by (inl t) = inl t
+    by (inr b) = absurd b
+
+-- those of a list that has those of another
+pub marked_in : (vs : List Known) (loose more : List ℕ) → ((y : ℕ) → y < length vs → IsListed loose y → IsListed more y) → AreMarked vs loose → AreMarked vs more
+marked_in vs loose more f h x p = by (h x p)
+  where
+    by : IsTight (known_at vs x) ⊎ IsListed loose x → IsTight (known_at vs x) ⊎ IsListed more x
+    by (inl t) = inl t
+    by (inr l) = inr (f x p l)
+
+pub marked_join : (l : Layout) (us vs : List Known) (a b all : List ℕ) → AreValues l us → AreValues l vs → ((y : ℕ) → y < length l.types → IsListed a y ⊎ IsListed b y → IsListed all y) → AreMarked us a → AreMarked vs b → AreMarked (joined_values us vs) all
+marked_join l us vs a b all h k f m n x p = by (m x here) (n x there)
+  where
+    same : length us ≡ length vs
+    same = h.size ∙ sym k.size
+
+    here : x < length us
+    here = omega (arith, p, merged_length (λ y. joined) 0 us vs same)
+
+    there : x < length vs
+    there = omega (arith, here, same)
+
+    listed : IsListed a x ⊎ IsListed b x → IsTight (known_at (joined_values us vs) x) ⊎ IsListed all x
+    listed e = inr (f x (omega (arith, here, h.size)) e)
+
+    by : IsTight (known_at us x) ⊎ IsListed a x → IsTight (known_at vs x) ⊎ IsListed b x → IsTight (known_at (joined_values us vs) x) ⊎ IsListed all x
+    by (inl t) (inl u) = inl (rw (merged_at (λ y. joined) 0 us vs x x here same (omega arith)) (tight_is_reduced.joins (known_at us x) (known_at vs x) (h.classes x here) t u))
+    by (inl t) (inr e) = listed (inr e)
+    by (inr e) u = listed (inl e)
+
+pub marked_either : (l : Layout) (us vs : List Known) (a b c d all : List ℕ) (n : ℕ) → n ≡ length l.types → c ≡ a → d ≡ b → ((y : ℕ) → y < n → IsListed c y ⊎ IsListed d y → IsListed all y) → AreValues l us → AreValues l vs → AreMarked us a → AreMarked vs b → AreMarked (joined_values us vs) all
+marked_either l us vs a b c d all n size first second f h k m o = marked_join l us vs a b all h k (λ y p e. f y (omega (arith, p, size)) (by y e)) m o
+  where
+    by : (y : ℕ) → IsListed a y ⊎ IsListed b y → IsListed c y ⊎ IsListed d y
+    by y (inl e) = inl (subst (λ zs. IsListed zs y) (sym first) e)
+    by y (inr e) = inr (subst (λ zs. IsListed zs y) (sym second) e)
+
+-- ---- reducing those that are listed
+
+-- the values reduce as those that there were, and those that are neither tight nor left are none
+pub record AreHalfway (olds vs : List Known) (left : List ℕ) : Type 0 where
+  pub size : length vs ≡ length olds
+  pub same : (y : ℕ) → y < length olds → red_known (known_at vs y) ≡ red_known (known_at olds y)
+  pub marked : AreMarked vs left
+
+pub halfway_start : (vs : List Known) (loose : List ℕ) → AreMarked vs loose → AreHalfway vs vs loose
+halfway_start vs loose h = record { size = refl; same = λ y p. refl; marked = h }
+
+pub halfway_step : (olds vs : List Known) (loose : List ℕ) (k x d : ℕ) (v w : Known) → AreHalfway olds vs (drop k loose) → k < length loose → x ≡ slice_index_or loose k d → x < length vs → known_at vs x ≡ v → pos 0 ≤ℤ v.class.m → pos 0 ≤ℤ w.class.m → red_known v ≡ Some w
+    → AreHalfway olds (set vs x w) (drop (k + 1) loose)
+halfway_step olds vs loose k x d v w h p e q f m n r = record { size = length-set vs x w ∙ h.size; same = λ y s. same y s (cases_eq y x); marked = λ y s. marked y (omega (arith, s, length-set vs x w)) (cases_eq y x) }
+  where
+    is : IsTight w
+    is = tight_is_reduced.tight v w m r
+
+    same : (y : ℕ) → y < length olds → (y ≡ x) ⊎ (y ≢ x) → red_known (known_at (set vs x w) y) ≡ red_known (known_at olds y)
+    same y s (inl g) =
+        rw g
+        (ap red_known (known_same vs x w q) ∙ tight_is_reduced.again w n is ∙ sym r ∙ ap red_known (sym f) ∙ h.same x (omega (arith, q, h.size)))
+    same y s (inr g) = rw (known_other vs x y w g) (h.same y s)
+
+    rest : (y : ℕ) → y ≢ x → IsTight (known_at vs y) ⊎ IsListed (drop k loose) y → IsTight (known_at (set vs x w) y) ⊎ IsListed (drop (k + 1) loose) y
+    rest y g (inl t) = inl (rw (known_other vs x y w g) t)
+    rest y g (inr t) = next (listed_next loose k d y p t)
+      where
+        next : (slice_index_or loose k d ≡ y) ⊎ IsListed (drop (k + 1) loose) y → IsTight (known_at (set vs x w) y) ⊎ IsListed (drop (k + 1) loose) y
+        next (inl u) = absurd (g (sym u ∙ sym e))
+        next (inr u) = inr u
+
+    marked : (y : ℕ) → y < length vs → (y ≡ x) ⊎ (y ≢ x) → IsTight (known_at (set vs x w) y) ⊎ IsListed (drop (k + 1) loose) y
+    marked y s (inl g) = inl (rw g (rw (known_same vs x w q) is))
+    marked y s (inr g) = rest y g (h.marked y s)
+
+-- a place past the values
+pub halfway_past : (olds vs : List Known) (loose : List ℕ) (k x d : ℕ) → AreHalfway olds vs (drop k loose) → k < length loose → x ≡ slice_index_or loose k d → length vs ≤ x → AreHalfway olds vs (drop (k + 1) loose)
+halfway_past olds vs loose k x d h p e q = record { size = h.size; same = h.same; marked = λ y s. by y s (h.marked y s) }
+  where
+    by : (y : ℕ) → y < length vs → IsTight (known_at vs y) ⊎ IsListed (drop k loose) y → IsTight (known_at vs y) ⊎ IsListed (drop (k + 1) loose) y
+    by y s (inl t) = inl t
+    by y s (inr t) = next (listed_next loose k d y p t)
+      where
+        next : (slice_index_or loose k d ≡ y) ⊎ IsListed (drop (k + 1) loose) y → IsTight (known_at vs y) ⊎ IsListed (drop (k + 1) loose) y
+        next (inl u) = absurd (omega (arith, s, q, e, u))
+        next (inr u) = inr u
+
+red_all_none : (vs : List Known) (x : ℕ) → x < length vs → red_known (known_at vs x) ≡ None → red_all vs ≡ None
+red_all_none [] x p e = absurd (omega arith)
+red_all_none (v ∷ vs) zero p e = ap (λ o. with_first o (red_all vs)) e
+red_all_none (v ∷ vs) (suc x) p e = ap (λ o. with_first (red_known v) o) (red_all_none vs x (omega arith) e) ∙ by (red_known v)
+  where
+    by : (o : Option Known) → with_first o None ≡ None
+    by None = refl
+    by (Some u) = refl
+
+red_all_some : (vs ws : List Known) → length ws ≡ length vs → ((y : ℕ) → y < length vs → red_known (known_at vs y) ≡ Some (known_at ws y)) → red_all vs ≡ Some ws
+red_all_some [] [] n h = refl
+red_all_some [] (w ∷ ws) n h = absurd (omega (arith, n))
+red_all_some (v ∷ vs) [] n h = absurd (omega (arith, n))
+red_all_some (v ∷ vs) (w ∷ ws) n h =
+    ap (λ o. with_first o (red_all vs)) (h 0 (omega arith)) ∙ ap (λ o. with_first (Some w) o) (red_all_some vs ws (omega (arith, n)) (λ y p. h (suc y) (omega (arith, p))))
+
+pub halfway_stop : (olds vs : List Known) (left : List ℕ) (x : ℕ) (v : Known) → AreHalfway olds vs left → x < length vs → known_at vs x ≡ v → None ≡ red_known v → None ≡ red_all olds
+halfway_stop olds vs left x v h p e n =
+    let here : x < length olds = omega (arith, p, h.size) in
+    sym (red_all_none olds x here (sym (h.same x here) ∙ ap red_known e ∙ sym n))
+
+pub halfway_end : (l : Layout) (olds vs : List Known) (left : List ℕ) → left ≡ [] → AreValues l vs → AreHalfway olds vs left → Some vs ≡ red_all olds
+halfway_end l olds vs left none a h = sym (red_all_some olds vs h.size (λ y p. sym (h.same y p) ∙ own y (omega (arith, p, h.size)) (h.marked y (omega (arith, p, h.size)))))
+  where
+    own : (y : ℕ) → y < length vs → IsTight (known_at vs y) ⊎ IsListed left y → red_known (known_at vs y) ≡ Some (known_at vs y)
+    own y p (inl t) = tight_is_reduced.again (known_at vs y) (a.classes y p).from t
+    own y p (inr t) = absurd (subst (λ zs. IsListed zs y) none t)

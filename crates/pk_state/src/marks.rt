@@ -1,0 +1,67 @@
+// Which values may be loose: the others are their own reductions.
+
+ghost use Rattle.std.specs.Prelude.{◌≡◌, ◌⊎◌, ◌<◌, ℕ, IfOk, OnOk, length, slice_set};
+ghost use Rattle.pk_state.specs.Facts.{known_at};
+ghost use Rattle.pk_state.specs.Marks.{IsListed, AreMarked};
+
+use pk_blocks::Blocks;
+use pk_value::Value;
+use std::alloc::{AllocError, Global};
+
+/// All of so many.
+pub(crate) fn every(alloc: Global, n: usize) -> Result<Vec<usize>, AllocError>
+    ensures { IfOk result (λ r. (y : ℕ) → y < n → IsListed r.items y) }
+{
+    let mut out = Vec::with_capacity(alloc, n)?;
+    for x in 0..n {
+        out.push(x)?;
+    }
+    Ok(out)
+}
+
+/// Those of a list; all of so many, where it is longer.
+pub(crate) fn at_most(alloc: Global, list: Vec<usize>, n: usize) -> Result<Vec<usize>, AllocError>
+    ensures { IfOk result (λ r. (y : ℕ) → y < n → IsListed list.items y → IsListed r.items y) }
+{
+    if n < list.len() {
+        return every(alloc, n);
+    }
+    Ok(list)
+}
+
+/// Those of both lists.
+pub(crate) fn either(
+    alloc: Global,
+    a: &[usize],
+    b: &[usize],
+    n: usize,
+) -> Result<Vec<usize>, AllocError>
+    ensures { IfOk result (λ r. (y : ℕ) → y < n → IsListed a.now y ⊎ IsListed b.now y → IsListed r.items y) }
+{
+    let mut out = Vec::from_slice(alloc, a)?;
+    out.extend_from_slice(b)?;
+    at_most(alloc, out, n)
+}
+
+/// Writes a value that may be loose, if it isn't there.
+pub(crate) fn put_loose(
+    alloc: Global,
+    values: &mut Blocks<Value>,
+    loose: &mut Vec<usize>,
+    x: usize,
+    old: &Value,
+    new: Value,
+) -> Result<(), AllocError>
+    requires place { x < length values.old }
+    requires old { known_at values.old x ≡ old.now }
+    requires marked { AreMarked values.old loose.old.items }
+    ensures value { OnOk result (values.new ≡ slice_set values.old x new) }
+    ensures marked { OnOk result (AreMarked values.new loose.new.items) }
+{
+    if new.equals(old) {
+        return Ok(());
+    }
+    values.set(alloc, x, new)?;
+    loose.push(x)?;
+    Ok(())
+}
