@@ -9,3 +9,4 @@ pub mod Tops
 pub mod Changed
 pub mod Places
 pub mod Loose
+pub mod Closings

@@ -1,6 +1,6 @@
 -- Lowering an octagon by ranges.
-use Rattle.std.specs.Prelude.{◌≡◌, ◌⊎◌, ℕ, zero, suc, ◌+◌, ◌*◌, ◌/◌, ◌%◌, ◌==◌, true, false, ◌<◌, ◌≤◌, ◌^◌, ℤ, pos, neg_ℤ, ◌+ℤ◌, ◌-ℤ◌, ◌≤ℤ◌, List, Some, None}
-use Rattle.std.proofs.Common.{◌∙◌, refl, sym, subst, arith, inl, inr}
+use Rattle.std.specs.Prelude.{◌≡◌, ◌⊎◌, ℕ, zero, suc, ◌+◌, ◌*◌, ◌/◌, ◌%◌, ◌==◌, ◌&&◌, ◌||◌, if◌then◌else◌, Bool, true, false, ◌<◌, ◌≤◌, ◌^◌, ℤ, pos, neg_ℤ, ◌+ℤ◌, ◌-ℤ◌, ◌≤ℤ◌, List, Option, Some, None}
+use Rattle.std.proofs.Common.{◌∙◌, ap, refl, sym, subst, arith, inl, inr}
 use Rattle.std.proofs.lemmas.Bool.{cases_lt}
 use Rattle.std.proofs.lemmas.Bool.Decides.{nat_tests}
 use Rattle.std.proofs.lemmas.Int.{ints}
@@ -12,12 +12,12 @@ use Rattle.pk_ctypes.specs.declared.types.IntType.{IntType}
 use Rattle.pk_ctypes.specs.Types.{InType}
 use Rattle.pk_ctypes.proofs.Wrapped.{sized}
 use Rattle.pk_octmat.specs.Bounds.{AtMost, capped, lesser}
-use Rattle.pk_octmat.specs.Octagon.{Octagon, entry, bar, side, Meets, IsOctagon}
+use Rattle.pk_octmat.specs.Octagon.{Octagon, entry, bar, side, written, Meets, IsOctagon}
 use Rattle.pk_octmat.specs.Shapes.{left_of}
 use Rattle.pk_octmat.specs.declared.shape.Shape.{Shape}
 use Rattle.pk_octmat.specs.declared.shape.Shape.TheVariants.{Kept, Empty}
 use Rattle.pk_octmat.proofs.Cells.{cell_row_out, cell_column_out}
-use Rattle.pk_octmat.proofs.Tabled.{octagon_entries}
+use Rattle.pk_octmat.proofs.Tabled.{octagon_entries, octagon_is}
 use Rattle.pk_octmat.proofs.Tropical.{at_most_trans, lesser_left}
 use Rattle.pk_octops.specs.Guards.{guarded}
 use Rattle.pk_octops.proofs.Along.{lowered_holds, one_term}
@@ -104,3 +104,36 @@ negative_fits t z h =
     let fits : FitsSigned w128 (pos 0 -ℤ z) = search (rules, ints) in
     let same : (pos 0 -ℤ z) ≡ neg_ℤ z = omega (arith, ints) in
     to_z-of_z w128 (pos 0 -ℤ z) fits ∙ same
+
+-- ---- bounds that aren't lowered
+
+-- the number and the place that a test compared
+same_place : (a i c j : ℕ) → ((a == i) && (c == j)) ≡ true → (a ≡ i) × (c ≡ j)
+same_place a i c j e = by (a == i) refl e
+  where
+    by : (b : Bool) → (a == i) ≡ b → (b && (c == j)) ≡ true → (a ≡ i) × (c ≡ j)
+    by true f g = (grind (arith, f, nat_tests), grind (arith, g, nat_tests))
+    by false f g = absurd (cc)
+
+-- writing what is there changes nothing
+written_own : (e : ℕ → ℕ → Option ℤ) (i j a c : ℕ) → e i j ≡ e (bar j) (bar i) → written e i j (e i j) a c ≡ e a c
+written_own e i j a c turned = by ((a == i) && (c == j)) refl ((a == bar j) && (c == bar i)) refl
+  where
+    by : (p : Bool) → ((a == i) && (c == j)) ≡ p → (q : Bool) → ((a == bar j) && (c == bar i)) ≡ q → (if p || q then e i j else e a c) ≡ e a c
+    by true f q g = let s = same_place a i c j f in ap (λ x. e x j) (sym s.0) ∙ ap (λ y. e a y) (sym s.1)
+    by false f true g = let s = same_place a (bar j) c (bar i) g in turned ∙ ap (λ x. e x (bar i)) (sym s.0) ∙ ap (λ y. e a y) (sym s.1)
+    by false f false g = refl
+
+pub at_most_same : (m : Octagon) (a : ℕ) (c : ℤ) → IsOctagon m → lesser (entry m (bar a) a) (capped (Some (c +ℤ c))) ≡ entry m (bar a) a → at_most m a c ≡ m
+at_most_same m a c h e =
+    sym (octagon_is m.vars (guarded (entry m) (Some a) None c) m h (record {
+      vars = refl;
+      each = λ i j p q. sym (ap (λ b. written (entry m) (bar a) a b i j) e ∙ written_own (entry m) (bar a) a i j (h.whole.coherent.turned (bar a) a));
+    }))
+
+pub by_range_same : (m : Octagon) (k : ℕ) (r : Range) → IsOctagon m → lesser (entry m (2 * k + 1) (2 * k)) (capped (Some (r.hi +ℤ r.hi))) ≡ entry m (2 * k + 1) (2 * k)
+    → lesser (entry m (2 * k) (2 * k + 1)) (capped (Some (neg_ℤ r.lo +ℤ neg_ℤ r.lo))) ≡ entry m (2 * k) (2 * k + 1) → by_range m k r ≡ m
+by_range_same m k r h e f =
+    let up : bar (2 * k) ≡ 2 * k + 1 = omega arith in
+    let down : bar (2 * k + 1) ≡ 2 * k = omega arith in
+    ap (λ o. at_most o (2 * k + 1) (neg_ℤ r.lo)) (at_most_same m (2 * k) r.hi h (rw up e)) ∙ at_most_same m (2 * k + 1) (neg_ℤ r.lo) h (rw down f)

@@ -1,7 +1,9 @@
--- Which values may be loose: not as tight as their range and class let them be.
-use Rattle.std.specs.Prelude.{◌≡◌, ◌⊎◌, ℕ, ◌<◌, List, [], ◌∷◌, length}
+-- What is known to be reduced already: values that are tight, and an octagon that is closed.
+use Rattle.std.specs.Prelude.{◌≡◌, ◌⊎◌, ℕ, ◌<◌, ◌*◌, Bool, true, List, [], ◌∷◌, length}
 use Rattle.pk_value.specs.Known.{Known}
 use Rattle.pk_value.specs.Laws.{IsTight}
+use Rattle.pk_octmat.specs.Octagon.{Octagon, entry}
+use Rattle.pk_octclose.specs.Closing.{IsClosed}
 use Rattle.pk_state.specs.Facts.{known_at}
 
 abbrev pub IsListed : List ℕ → ℕ → Type 0
@@ -11,3 +13,7 @@ IsListed (x ∷ xs) y = (x ≡ y) ⊎ IsListed xs y
 -- each value that isn't listed is tight
 abbrev pub AreMarked : List Known → List ℕ → Type 0
 AreMarked vs loose = (x : ℕ) → x < length vs → IsTight (known_at vs x) ⊎ IsListed loose x
+
+-- an octagon that is marked as closed is so
+abbrev pub IsClosedIf : Bool → Octagon → Type 0
+IsClosedIf mark m = mark ≡ true → IsClosed (2 * m.vars) (entry m)

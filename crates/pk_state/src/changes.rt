@@ -1,17 +1,18 @@
 // Reading and writing what a state knows.
 
-ghost use Rattle.std.specs.Prelude.{◌≡◌, ◌<◌, ◌*◌, IfOk, IfSome, length, None};
+ghost use Rattle.std.specs.Prelude.{◌≡◌, ◌<◌, ◌*◌, true, IfOk, IfSome, length, None};
 ghost use Rattle.pk_octops.specs.Guards.{IsGuard};
 ghost use Rattle.pk_state.specs.Layouts.{type_at, place_in};
 ghost use Rattle.pk_state.specs.Facts.{AreFactsIf};
 ghost use Rattle.pk_state.specs.Changes.{IsValue, known_in, bound_in, with_known, assigned_in, guarded_in};
 
-use crate::facts::{Facts, shared};
+use crate::facts::Facts;
 use crate::frame::Frame;
 use crate::marks::put_loose;
+use crate::octagons::shared;
 use crate::state::State;
 use pk_ctypes::IntType;
-use pk_octmat::Shape;
+use pk_octmat::{Matrix, Shape};
 use pk_octops::{assign, guard};
 use pk_value::Value;
 use std::alloc::{AllocError, Global};
@@ -53,9 +54,24 @@ fn write_if(
                 values,
                 octagon: facts.octagon,
                 loose,
+                closed: facts.closed,
             }))
         }
     }
+}
+
+// Whether an octagon that is closed or not is closed behind an assignment: where its variable is forgotten.
+fn stays_closed(closed: bool, term: Option<u32>) -> bool
+    ensures { result ≡ true → (closed ≡ true) × (term ≡ None) }
+{
+    closed && term.is_none()
+}
+
+// Whether an octagon is closed that comes of one that is closed or not: where it is the same.
+fn is_closed_still(closed: bool, old: &Matrix, new: &Matrix) -> bool
+    ensures { result ≡ true → (closed ≡ true) × (new.now ≡ old.now) }
+{
+    closed && new.equals(old)
 }
 
 fn assign_if(
@@ -76,10 +92,12 @@ fn assign_if(
         None => Ok(None),
         Some(facts) => {
             let m = assign(&facts.octagon, k, term, c)?;
+            let closed = stays_closed(facts.closed, term);
             Ok(Some(Facts {
                 octagon: shared(alloc, &facts.octagon, m)?,
                 values: facts.values,
                 loose: facts.loose,
+                closed,
             }))
         }
     }
@@ -104,11 +122,15 @@ fn guard_if(
             let mut m = facts.octagon.copy()?;
             match guard(&mut m, a, b, c) {
                 Shape::Empty => Ok(None),
-                Shape::Kept => Ok(Some(Facts {
-                    octagon: shared(alloc, &facts.octagon, m)?,
-                    values: facts.values,
-                    loose: facts.loose,
-                })),
+                Shape::Kept => {
+                    let closed = is_closed_still(facts.closed, &facts.octagon, &m);
+                    Ok(Some(Facts {
+                        closed,
+                        octagon: shared(alloc, &facts.octagon, m)?,
+                        values: facts.values,
+                        loose: facts.loose,
+                    }))
+                }
             }
         }
     }

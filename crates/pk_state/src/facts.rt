@@ -1,25 +1,25 @@
 // What is known where a run may come: a value of each variable, and an octagon.
 
-ghost use Rattle.std.specs.Prelude.{◌≡◌, ◌↔◌, ◌<◌, ◌^◌, true, IfOk, length, map, Some};
+ghost use Rattle.std.specs.Prelude.{◌≡◌, ◌↔◌, ◌<◌, ◌^◌, true, [], IfOk, length, map, Some};
 ghost use Rattle.std.specs.Arc.{arc_value};
 ghost use Rattle.std.specs.List.Sorted.{IsSorted};
 ghost use Rattle.std.specs.Ordering.{int_cmp};
 ghost use Rattle.pk_octops.specs.Tables.{join_of, widening_of, narrowing_of};
-ghost use Rattle.pk_state.specs.Facts.{AreFacts, AreWithin, joined_values, widened_values, narrowed_values, top_facts as top_of};
+ghost use Rattle.pk_state.specs.Facts.{AreFacts, AreValues, AreWithin, joined_values, widened_values, narrowed_values, top_facts as top_of};
 ghost use Rattle.pk_octmat.specs.Octagon.{octagon_of, top_bound};
 ghost use Rattle.pk_value.specs.Known.{any_of};
-ghost use Rattle.pk_state.specs.Reduced.{reduced_facts};
+ghost use Rattle.pk_state.specs.Marks.{AreMarked, IsClosedIf};
+ghost use Rattle.pk_state.specs.Reduced.{reduced_facts, with_closed};
 
 use crate::frame::Frame;
 use crate::marks::{at_most, either, every};
-use crate::octagons::{join_shared, lower_all, narrow_shared, widen_shared};
+use crate::octagons::{close_by, join_shared, narrow_shared, widen_shared};
 use crate::values::{
     bound_values, join_values, leq_values, narrow_values, reduce_values, same_values, widen_values,
 };
 use pk_blocks::Blocks;
 use pk_ctypes::IntType;
-use pk_octclose::close;
-use pk_octmat::{Matrix, Shape};
+use pk_octmat::Matrix;
 use pk_octops::leq;
 use pk_value::Value;
 use std::alloc::{AllocError, Global};
@@ -32,18 +32,20 @@ pub(crate) struct Facts {
     pub(crate) octagon: Arc<Matrix>,
     // The values that may be loose: every other one is tight.
     pub(crate) loose: Vec<usize>,
+    // Whether the octagon is known to be closed.
+    pub(crate) closed: bool,
 }
 
 impl Model for Facts {
     ghost use Rattle.std.specs.Arc.{arc_value};
     ghost use Rattle.pk_state.specs.Facts.{Facts};
-    ghost use Rattle.pk_state.specs.Marks.{AreMarked};
+    ghost use Rattle.pk_state.specs.Marks.{AreMarked, IsClosedIf};
 
     ghost Value = { Facts };
 
     ghost view = { λ f. record { values = f.values; octagon = arc_value f.octagon } };
 
-    ghost invariant = { λ f. AreMarked f.values f.loose.items };
+    ghost invariant = { λ f. AreMarked f.values f.loose.items × IsClosedIf f.closed (arc_value f.octagon) };
 }
 
 // No bounds on n variables.
@@ -76,6 +78,7 @@ pub(crate) fn top_facts(alloc: Global, frame: &Frame) -> Result<Facts, AllocErro
         values: top_values(alloc, frame)?,
         octagon: Arc::new(alloc, top_octagon(alloc, frame.octagon_len())?)?,
         loose: every(alloc, frame.len())?,
+        closed: false,
     })
 }
 
@@ -87,7 +90,15 @@ pub(crate) fn copy_facts(alloc: Global, f: &Facts) -> Result<Facts, AllocError>
         values: f.values.copy(alloc)?,
         octagon: Arc::try_clone(&f.octagon)?,
         loose: Vec::from_slice(alloc, &f.loose)?,
+        closed: f.closed,
     })
+}
+
+// Whether both are so.
+fn are_both(a: bool, b: bool) -> bool
+    ensures { result ≡ true → (a ≡ true) × (b ≡ true) }
+{
+    a && b
 }
 
 pub(crate) fn join_facts(
@@ -104,6 +115,7 @@ pub(crate) fn join_facts(
         values: join_values(alloc, &a.values, &b.values)?,
         octagon: join_shared(alloc, &a.octagon, &b.octagon)?,
         loose: either(alloc, &a.loose, &b.loose, frame.len())?,
+        closed: are_both(a.closed, b.closed),
     })
 }
 
@@ -131,6 +143,7 @@ pub(crate) fn widen_facts(
         )?,
         octagon: widen_shared(alloc, &held.octagon, &next.octagon)?,
         loose: at_most(alloc, loose, frame.len())?,
+        closed: false,
     })
 }
 
@@ -149,6 +162,7 @@ pub(crate) fn narrow_facts(
         values: narrow_values(alloc, &held.values, &next.values, frame, &mut loose)?,
         octagon: narrow_shared(alloc, &held.octagon, &next.octagon)?,
         loose: at_most(alloc, loose, frame.len())?,
+        closed: false,
     })
 }
 
@@ -169,18 +183,31 @@ pub(crate) fn same_facts(a: &Facts, b: &Facts) -> bool
     same_values(&a.values, &b.values) && a.octagon.equals(&b.octagon)
 }
 
-/// An octagon of these bounds: the old one, shared, where it has them.
-pub(crate) fn shared(
+// The values that a closed octagon leaves, reduced once more, with it.
+fn with_octagon(
     alloc: Global,
-    old: &Arc<Matrix>,
-    new: Matrix,
-) -> Result<Arc<Matrix>, AllocError>
-    ensures { IfOk result (λ m. arc_value m ≡ new) }
+    mut values: Blocks<Value>,
+    octagon: Arc<Matrix>,
+    frame: &Frame,
+) -> Result<Option<Facts>, AllocError>
+    requires values { AreValues frame.now values }
+    requires vars { (arc_value octagon).vars ≡ length frame.now.chosen }
+    requires tight { AreMarked values [] }
+    requires closed { IsClosedIf true (arc_value octagon) }
+    ensures { IfOk result (λ o. o ≡ with_closed frame.now values (arc_value octagon)) }
 {
-    if new.equals(old) {
-        return Arc::try_clone(old);
+    if !bound_values(alloc, &mut values, &octagon, frame)? {
+        return Ok(None);
     }
-    Ok(Arc::new(alloc, new)?)
+    if !reduce_values(alloc, &mut values, frame.all_chosen(), frame)? {
+        return Ok(None);
+    }
+    Ok(Some(Facts {
+        values,
+        octagon,
+        loose: Vec::new(alloc),
+        closed: true,
+    }))
 }
 
 /// The reduction, or none where nothing is left.
@@ -196,21 +223,8 @@ pub(crate) fn reduce_facts(
     if !reduce_values(alloc, &mut values, &f.loose, frame)? {
         return Ok(None);
     }
-    let mut m = f.octagon.copy()?;
-    lower_all(&mut m, &values, frame);
-    match close(&mut m) {
-        Shape::Empty => return Ok(None),
-        Shape::Kept => {}
+    match close_by(alloc, &f.octagon, f.closed, &values, frame)? {
+        None => Ok(None),
+        Some(octagon) => with_octagon(alloc, values, octagon, frame),
     }
-    if !bound_values(alloc, &mut values, &m, frame)? {
-        return Ok(None);
-    }
-    if !reduce_values(alloc, &mut values, frame.all_chosen(), frame)? {
-        return Ok(None);
-    }
-    Ok(Some(Facts {
-        values,
-        octagon: shared(alloc, &f.octagon, m)?,
-        loose: Vec::new(alloc),
-    }))
 }

@@ -1,17 +1,22 @@
 // Lowering an octagon by ranges, and joins, widening and narrowing steps of shared ones.
 
-ghost use Rattle.std.specs.Prelude.{◌≡◌, ◌<◌, ℕ, IfOk, length};
+ghost use Rattle.std.specs.Prelude.{◌≡◌, ◌<◌, ◌*◌, ◌+ℤ◌, ℕ, true, Some, IfOk, length, option_map};
 ghost use Rattle.std.specs.Arc.{arc_value};
 ghost use Rattle.pk_interval.specs.Ranges.{IsIn};
 ghost use Rattle.pk_octops.specs.Tables.{join_of, widening_of, narrowing_of};
 ghost use Rattle.pk_state.specs.Facts.{AreValues};
+ghost use Rattle.pk_octmat.specs.Bounds.{lesser, capped};
+ghost use Rattle.pk_octmat.specs.Octagon.{entry};
+ghost use Rattle.pk_octclose.specs.Places.{closing_of};
+ghost use Rattle.pk_state.specs.Marks.{IsClosedIf};
 ghost use Rattle.pk_state.specs.Reduced.{by_range, by_ranges};
 
 use crate::frame::Frame;
 use pk_blocks::Blocks;
 use pk_ctypes::IntType;
 use pk_interval::Interval;
-use pk_octmat::Matrix;
+use pk_octclose::close;
+use pk_octmat::{Bound, Matrix, Shape};
 use pk_octops::{guard, join, leq, narrow, widen};
 use pk_value::Value;
 use std::alloc::{AllocError, Global};
@@ -43,6 +48,104 @@ pub(crate) fn lower_all(m: &mut Matrix, values: &Blocks<Value>, frame: &Frame)
         let value = values.get(x);
         lower(m, k as u32, frame.int_type(x), &value.interval);
     }
+}
+
+// Twice a number, or one past the cap on its side.
+fn twice(c: i128) -> i128
+    ensures { capped (Some result) ≡ capped (Some (c +ℤ c)) }
+{
+    c.saturating_add(c)
+}
+
+// Whether a bound is at most twice a number already.
+fn is_within(m: &Matrix, i: u32, j: u32, c: i128) -> bool
+    requires row { i < 2 * m.now.vars }
+    requires column { j < 2 * m.now.vars }
+    ensures { result ≡ true → lesser (entry m.now i j) (capped (Some (c +ℤ c))) ≡ entry m.now i j }
+{
+    let bound = m.bound(i, j);
+    bound.lesser(Bound::of(Some(twice(c)))).equals(bound)
+}
+
+// Whether the bounds on one variable are within its range already.
+fn is_lowered(m: &Matrix, k: u32, t: IntType, range: &Interval) -> bool
+    requires place { k < m.now.vars }
+    requires inside { IsIn t range.now }
+    ensures { result ≡ true → by_range m.now k range.now ≡ m.now }
+{
+    let _ = t;
+    m.is_octagon();
+    is_within(m, 2 * k + 1, 2 * k, range.hi) && is_within(m, 2 * k, 2 * k + 1, -range.lo)
+}
+
+// Whether the bounds on all variables are within their ranges already.
+fn are_lowered(m: &Matrix, values: &Blocks<Value>, frame: &Frame) -> bool
+    requires vars { m.now.vars ≡ length frame.now.chosen }
+    requires values { AreValues frame.now values.now }
+    ensures { result ≡ true → by_ranges frame.now values.now (length frame.now.chosen) m.now ≡ m.now }
+{
+    frame.is_layout();
+    for k in 0..frame.octagon_len() {
+        let x = frame.chosen(k);
+        let value = values.get(x);
+        if !is_lowered(m, k as u32, frame.int_type(x), &value.interval) {
+            return false;
+        }
+    }
+    true
+}
+
+/// An octagon of these bounds: the old one, shared, where it has them.
+pub(crate) fn shared(
+    alloc: Global,
+    old: &Arc<Matrix>,
+    new: Matrix,
+) -> Result<Arc<Matrix>, AllocError>
+    ensures { IfOk result (λ m. arc_value m ≡ new) }
+{
+    if new.equals(old) {
+        return Arc::try_clone(old);
+    }
+    Ok(Arc::new(alloc, new)?)
+}
+
+// The closing of an octagon lowered by the ranges, if it has one.
+fn close_lowered(
+    alloc: Global,
+    octagon: &Arc<Matrix>,
+    values: &Blocks<Value>,
+    frame: &Frame,
+) -> Result<Option<Arc<Matrix>>, AllocError>
+    requires vars { (arc_value octagon.now).vars ≡ length frame.now.chosen }
+    requires values { AreValues frame.now values.now }
+    ensures { IfOk result (λ o. option_map arc_value o ≡ closing_of (by_ranges frame.now values.now (length frame.now.chosen) (arc_value octagon.now))) }
+{
+    let mut m = octagon.copy()?;
+    lower_all(&mut m, values, frame);
+    match close(&mut m) {
+        Shape::Empty => Ok(None),
+        Shape::Kept => Ok(Some(shared(alloc, octagon, m)?)),
+    }
+}
+
+/// The closing of an octagon lowered by the ranges, if it has one: the octagon itself, shared, where it is closed and they lower nothing.
+pub(crate) fn close_by(
+    alloc: Global,
+    octagon: &Arc<Matrix>,
+    closed: bool,
+    values: &Blocks<Value>,
+    frame: &Frame,
+) -> Result<Option<Arc<Matrix>>, AllocError>
+    requires vars { (arc_value octagon.now).vars ≡ length frame.now.chosen }
+    requires values { AreValues frame.now values.now }
+    requires closed { IsClosedIf closed (arc_value octagon.now) }
+    ensures { IfOk result (λ o. option_map arc_value o ≡ closing_of (by_ranges frame.now values.now (length frame.now.chosen) (arc_value octagon.now))) }
+{
+    octagon.is_octagon();
+    if closed && are_lowered(octagon, values, frame) {
+        return Ok(Some(Arc::try_clone(octagon)?));
+    }
+    close_lowered(alloc, octagon, values, frame)
 }
 
 /// The join of two octagons: the first one, shared, where the other is below it.
