@@ -21,11 +21,11 @@ fn writes(rt: HostRuntime) -> Result<(), Fail> {
             0 | 15 | 16 | 511 | 512 | 1099 => i as i128,
             _ => 7,
         };
-        assert_eq!(rt; blocks.get(i).interval.lo, expected);
+        assert!(rt; blocks.get(i).interval.lo == expected);
     }
     for i in 0..old.len() {
-        assert_eq!(rt; old.get(i).interval.lo, 7);
+        assert!(rt; old.get(i).interval.lo == 7);
     }
-    assert_eq!(rt; (blocks.len(), old.len()), (1100, 1100));
+    assert!(rt; (blocks.len(), old.len()) == (1100, 1100));
     Ok(())
 }

@@ -4,6 +4,13 @@ use pk_octmat::Matrix;
 use std::alloc::{AllocError, Global};
 use std::test::Fail;
 
+const BOUNDS: [(u32, u32, Option<i128>, Option<i128>); 4] = [
+    (2, 0, Some(3), None),
+    (1, 3, Some(3), None),
+    (0, 2, None, None),
+    (3, 3, Some(0), Some(0)),
+];
+
 #[test]
 fn a_bound_and_its_coherent_one(rt: HostRuntime) -> Result<(), Fail> {
     let mut m = Matrix::top(rt.alloc(), 2)?;
@@ -11,14 +18,10 @@ fn a_bound_and_its_coherent_one(rt: HostRuntime) -> Result<(), Fail> {
     m.set(2, 0, Some(3));
     let same = m.copy()?;
     m.forget(1);
-    for (i, j, written, forgotten) in [
-        (2, 0, Some(3), None),
-        (1, 3, Some(3), None),
-        (0, 2, None, None),
-        (3, 3, Some(0), Some(0)),
-    ] {
-        assert_eq!(rt; same.get(i, j), written);
-        assert_eq!(rt; m.get(i, j), forgotten);
+    for row in &BOUNDS {
+        let (i, j, written, forgotten) = *row;
+        assert!(rt; same.get(i, j) == written);
+        assert!(rt; m.get(i, j) == forgotten);
     }
     Ok(())
 }
@@ -30,19 +33,23 @@ fn held(alloc: Global, bound: Option<i128>) -> Result<Option<i128>, AllocError> 
     Ok(m.get(0, 1))
 }
 
+const MOST: i128 = 73_786_976_294_838_206_464;
+
+const CAPPED: [(Option<i128>, Option<i128>); 7] = [
+    (None, None),
+    (Some(MOST), Some(MOST)),
+    (Some(MOST + 1), None),
+    (Some(-MOST), Some(-MOST)),
+    (Some(-MOST - 1), Some(-MOST)),
+    (Some(i128::MAX), None),
+    (Some(i128::MIN), Some(-MOST)),
+];
+
 #[test]
 fn bounds_at_the_cap(rt: HostRuntime) -> Result<(), Fail> {
-    let most = 73_786_976_294_838_206_464;
-    for (bound, expected) in [
-        (None, None),
-        (Some(most), Some(most)),
-        (Some(most + 1), None),
-        (Some(-most), Some(-most)),
-        (Some(-most - 1), Some(-most)),
-        (Some(i128::MAX), None),
-        (Some(i128::MIN), Some(-most)),
-    ] {
-        assert_eq!(rt; held(rt.alloc(), bound)?, expected);
+    for row in &CAPPED {
+        let (bound, expected) = *row;
+        assert!(rt; held(rt.alloc(), bound)? == expected);
     }
     Ok(())
 }
@@ -50,9 +57,9 @@ fn bounds_at_the_cap(rt: HostRuntime) -> Result<(), Fail> {
 #[test]
 fn no_variables_and_many(rt: HostRuntime) -> Result<(), Fail> {
     let none = Matrix::top(rt.alloc(), 0)?;
-    assert_eq!(rt; none.vars, 0);
+    assert!(rt; none.vars == 0);
     let many = Matrix::top(rt.alloc(), 64)?;
-    assert_eq!(rt; many.get(127, 0), None);
-    assert_eq!(rt; many.get(127, 127), Some(0));
+    assert!(rt; many.get(127, 0).is_none());
+    assert!(rt; many.get(127, 127) == Some(0));
     Ok(())
 }

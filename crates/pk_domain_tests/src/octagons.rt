@@ -44,24 +44,24 @@ fn range(
 
 const MOST: i128 = 73_786_976_294_838_206_464;
 
+const ASSIGNMENTS: [(Option<u32>, i128, (Option<i128>, Option<i128>)); 7] = [
+    (Some(0), 1, (Some(1), Some(6))),
+    (Some(1), 3, (Some(-2), Some(3))),
+    (Some(2), 7, (Some(7), Some(12))),
+    (Some(3), 7, (Some(2), Some(7))),
+    (None, 7, (None, None)),
+    // constants beyond the cap
+    (Some(0), i128::MAX, (Some(MOST / 2), None)),
+    (Some(0), i128::MIN, (None, Some(-MOST / 2))),
+];
+
 #[test]
 fn assignments(rt: HostRuntime) -> Result<(), Fail> {
-    for (term, c, expected) in [
-        (Some(0), 1, (Some(1), Some(6))),
-        (Some(1), 3, (Some(-2), Some(3))),
-        (Some(2), 7, (Some(7), Some(12))),
-        (Some(3), 7, (Some(2), Some(7))),
-        (None, 7, (None, None)),
-        // constants beyond the cap
-        (Some(0), i128::MAX, (Some(MOST / 2), None)),
-        (Some(0), i128::MIN, (None, Some(-MOST / 2))),
-    ] {
-        assert_eq!(rt; range(rt.alloc(), term, c)?, expected);
+    for row in &ASSIGNMENTS {
+        let (term, c, expected) = *row;
+        assert!(rt; range(rt.alloc(), term, c)? == expected);
     }
-    assert_eq!(rt;
-        bounds(&between(rt.alloc(), i128::MIN, i128::MAX)?, 0),
-        (None, Some(-MOST / 2))
-    );
+    assert!(rt; bounds(&between(rt.alloc(), i128::MIN, i128::MAX)?, 0) == (None, Some(-MOST / 2)));
     Ok(())
 }
 
@@ -73,14 +73,14 @@ fn plain(alloc: Global, c: i128) -> Result<bool, AllocError> {
 
 #[test]
 fn guards(rt: HostRuntime) -> Result<(), Fail> {
+    assert!(rt; plain(rt.alloc(), 0)?);
+    assert!(rt; !plain(rt.alloc(), -1)?);
     let mut m = Matrix::top(rt.alloc(), 2)?;
     // x + y <= 3 and x - y <= 0, so 2x <= 2
     guard(&mut m, Some(0), Some(2), 3);
     guard(&mut m, Some(0), Some(3), 0);
     assert!(rt; is_kept(close(&mut m)));
-    assert_eq!(rt; bounds(&m, 0), (None, Some(1)));
-    assert!(rt; plain(rt.alloc(), 0)?);
-    assert!(rt; !plain(rt.alloc(), -1)?);
+    assert!(rt; bounds(&m, 0) == (None, Some(1)));
     Ok(())
 }
 
@@ -88,10 +88,10 @@ fn guards(rt: HostRuntime) -> Result<(), Fail> {
 fn tables(rt: HostRuntime) -> Result<(), Fail> {
     let small = between(rt.alloc(), 3, -1)?;
     let large = between(rt.alloc(), 5, -1)?;
-    assert_eq!(rt; (leq(&small, &large), leq(&large, &small)), (true, false));
-    assert_eq!(rt; bounds(&join(&small, &large)?, 0), (Some(1), Some(5)));
+    assert!(rt; (leq(&small, &large), leq(&large, &small)) == (true, false));
+    assert!(rt; bounds(&join(&small, &large)?, 0) == (Some(1), Some(5)));
     let wide = widen(&small, &large)?;
-    assert_eq!(rt; bounds(&wide, 0), (Some(1), None));
-    assert_eq!(rt; bounds(&narrow(&wide, &large)?, 0), (Some(1), Some(5)));
+    assert!(rt; bounds(&wide, 0) == (Some(1), None));
+    assert!(rt; bounds(&narrow(&wide, &large)?, 0) == (Some(1), Some(5)));
     Ok(())
 }

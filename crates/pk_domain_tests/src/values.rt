@@ -34,39 +34,47 @@ fn operated(op: Op, t: IntType, a: &Value, b: &Value) -> Option<Value>
     operate(op, t, a, b)
 }
 
+const OPERATORS: [(
+    Op,
+    (i128, i128, i128, i128),
+    (i128, i128, i128, i128),
+    Option<(i128, i128, i128, i128)>,
+); 10] = [
+    // constants
+    (Op::Add, (2, 2, 0, 2), (3, 3, 0, 3), Some((5, 5, 0, 5))),
+    (
+        Op::Div,
+        (-7, -7, 0, -7),
+        (2, 2, 0, 2),
+        Some((-3, -3, 0, -3)),
+    ),
+    (Op::Lt, (2, 2, 0, 2), (3, 3, 0, 3), Some((1, 1, 0, 1))),
+    // constants with a fault
+    (Op::Div, (7, 7, 0, 7), (0, 0, 0, 0), None),
+    // the interval and the class
+    (Op::Add, (0, 10, 2, 0), (1, 5, 2, 1), Some((1, 15, 2, 1))),
+    (Op::Mul, (0, 10, 1, 0), (4, 4, 0, 4), Some((0, 40, 4, 0))),
+    // a result that is cut at the type's end, and then reduced
+    (
+        Op::Add,
+        (2147483640, 2147483646, 2, 0),
+        (0, 100, 2, 0),
+        Some((2147483640, 2147483646, 2, 0)),
+    ),
+    // classes that are apart
+    (Op::Eq, (0, 10, 2, 0), (1, 9, 2, 1), Some((0, 0, 0, 0))),
+    (Op::Ne, (0, 10, 2, 0), (1, 9, 2, 1), Some((1, 1, 0, 1))),
+    (Op::Eq, (0, 10, 2, 0), (4, 8, 2, 0), Some((0, 1, 1, 0))),
+];
+
 #[test]
 fn operators(rt: HostRuntime) -> Result<(), Fail> {
-    for (op, a, b, expected) in [
-        // constants
-        (Op::Add, (2, 2, 0, 2), (3, 3, 0, 3), Some((5, 5, 0, 5))),
-        (
-            Op::Div,
-            (-7, -7, 0, -7),
-            (2, 2, 0, 2),
-            Some((-3, -3, 0, -3)),
-        ),
-        (Op::Lt, (2, 2, 0, 2), (3, 3, 0, 3), Some((1, 1, 0, 1))),
-        // constants with a fault
-        (Op::Div, (7, 7, 0, 7), (0, 0, 0, 0), None),
-        // the interval and the class
-        (Op::Add, (0, 10, 2, 0), (1, 5, 2, 1), Some((1, 15, 2, 1))),
-        (Op::Mul, (0, 10, 1, 0), (4, 4, 0, 4), Some((0, 40, 4, 0))),
-        // a result that is cut at the type's end, and then reduced
-        (
-            Op::Add,
-            (2147483640, 2147483646, 2, 0),
-            (0, 100, 2, 0),
-            Some((2147483640, 2147483646, 2, 0)),
-        ),
-        // classes that are apart
-        (Op::Eq, (0, 10, 2, 0), (1, 9, 2, 1), Some((0, 0, 0, 0))),
-        (Op::Ne, (0, 10, 2, 0), (1, 9, 2, 1), Some((1, 1, 0, 1))),
-        (Op::Eq, (0, 10, 2, 0), (4, 8, 2, 0), Some((0, 1, 1, 0))),
-    ] {
+    for row in &OPERATORS {
+        let (op, a, b, expected) = *row;
         let left = value(IntType::Int, a.0, a.1, a.2, a.3).ok_or("left")?;
         let right = value(IntType::Int, b.0, b.1, b.2, b.3).ok_or("right")?;
         let found = operated(op, IntType::Int, &left, &right);
-        assert_eq!(rt; found.map(numbers), expected, "{op:?} {a:?} {b:?}");
+        assert!(rt; found.map(numbers) == expected, "{op:?} {a:?} {b:?}");
     }
     Ok(())
 }
@@ -79,36 +87,44 @@ fn converted(t: IntType, a: &Value) -> Option<Value> {
     }
 }
 
+const CONVERSIONS: [(
+    IntType,
+    (i128, i128, i128, i128),
+    IntType,
+    Option<(i128, i128, i128, i128)>,
+); 4] = [
+    (
+        IntType::Int,
+        (-2, -2, 0, -2),
+        IntType::UInt,
+        Some((4294967294, 4294967294, 0, 4294967294)),
+    ),
+    (
+        IntType::Int,
+        (256, 266, 2, 0),
+        IntType::UChar,
+        Some((0, 10, 2, 0)),
+    ),
+    (
+        IntType::Int,
+        (250, 260, 5, 0),
+        IntType::UChar,
+        Some((0, 255, 1, 0)),
+    ),
+    (
+        IntType::Int,
+        (3, 9, 3, 0),
+        IntType::Long,
+        Some((3, 9, 3, 0)),
+    ),
+];
+
 #[test]
 fn conversions(rt: HostRuntime) -> Result<(), Fail> {
-    for (from, a, to, expected) in [
-        (
-            IntType::Int,
-            (-2, -2, 0, -2),
-            IntType::UInt,
-            Some((4294967294, 4294967294, 0, 4294967294)),
-        ),
-        (
-            IntType::Int,
-            (256, 266, 2, 0),
-            IntType::UChar,
-            Some((0, 10, 2, 0)),
-        ),
-        (
-            IntType::Int,
-            (250, 260, 5, 0),
-            IntType::UChar,
-            Some((0, 255, 1, 0)),
-        ),
-        (
-            IntType::Int,
-            (3, 9, 3, 0),
-            IntType::Long,
-            Some((3, 9, 3, 0)),
-        ),
-    ] {
+    for row in &CONVERSIONS {
+        let (from, a, to, expected) = *row;
         let known = value(from, a.0, a.1, a.2, a.3).ok_or("value")?;
-        assert_eq!(rt; converted(to, &known).map(numbers), expected, "{a:?}");
+        assert!(rt; converted(to, &known).map(numbers) == expected, "{a:?}");
     }
     Ok(())
 }

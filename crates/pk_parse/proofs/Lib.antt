@@ -1,3 +1,4 @@
+mod KeptLemmas
 mod RunDeclarations
 mod DeclarationLemmas
 mod RunExternals

@@ -12,6 +12,7 @@ ghost use Rattle.pk_parse.specs.Parts.{CanDeclare, IsInner, with_declarators, wi
 ghost use Rattle.pk_grammar.specs.Machine.States as states;
 ghost use Rattle.pk_grammar.specs.Machine.Steps as steps;
 
+use crate::kept::keeping;
 use pk_ast::{
     Declaration, Declarator, Declarators, Expression, Identifier, Initializer, Specifier,
 };
@@ -35,7 +36,7 @@ fn length<'a>(
     };
     let inside = nested(open.at, outside, 1)?;
     let (length, rest) = parser.conditional(after, inside)?;
-    let (_, last) = parser.expect(rest, Fixed::CloseBracket)?;
+    let ((_, last), length) = keeping(parser.expect(rest, Fixed::CloseBracket), length)?;
     Ok((Some(length), last))
 }
 
@@ -54,7 +55,7 @@ fn item<'a>(
     if let Some((_, last)) = parser.take(after, Fixed::CloseBrace) {
         return Ok((item, false, last));
     }
-    let (_, next) = parser.expect(after, Fixed::Comma)?;
+    let ((_, next), item) = keeping(parser.expect(after, Fixed::Comma), item)?;
     if let Some((_, last)) = parser.take(next, Fixed::CloseBrace) {
         return Ok((item, false, last));
     }
@@ -101,7 +102,10 @@ fn value<'a>(
 {
     if let Some((open, after)) = parser.take(tokens, Fixed::OpenBrace) {
         let (first, another, following) = item(parser, after, outside)?;
-        let (more, rest) = more_items(parser, another, following, outside)?;
+        let ((more, rest), first) = keeping(
+            more_items(parser, another, following, outside),
+            first,
+        )?;
         return Ok((Initializer::braced(open.at, first, more), rest));
     }
     let (value, rest) = parser.assignment(tokens, outside)?;
@@ -139,7 +143,7 @@ fn declarator<'a>(
         (λ x. (d : states.Declaring) → CanDeclare parser.end d name outside tokens.now → Fails (run parser.end (states.after_name d name) tokens.now) x) }
 {
     let (length, after) = length(parser, tokens, outside)?;
-    let (initializer, rest) = initializer(parser, after, outside)?;
+    let ((initializer, rest), length) = keeping(initializer(parser, after, outside), length)?;
     Ok((Declarator::new(name, length, initializer), rest))
 }
 
@@ -182,7 +186,7 @@ pub fn declarators<'a>(
         (λ x. (d : states.Declaring) → CanDeclare parser.end d name outside tokens.now → Fails (run parser.end (states.after_name d name) tokens.now) x) }
 {
     let (first, after) = declarator(parser, name, tokens, outside)?;
-    let (more, last) = more_declarators(parser, after, outside)?;
+    let ((more, last), first) = keeping(more_declarators(parser, after, outside), first)?;
     Ok((Declarators { first, more }, last))
 }
 
@@ -199,7 +203,10 @@ pub fn declaration<'a>(
         (λ x. (s : states.Site) → IsInner s → steps.site_nesting s ≡ outside → Fails (run parser.end (states.after_specifiers s (one first)) tokens.now) x) }
 {
     let (words, rest) = parser.specifiers(first, tokens)?;
-    let (token, after) = parser.expect(rest, Fixed::Name)?;
-    let (declarators, last) = declarators(parser, identifier(token), after, outside)?;
+    let ((token, after), words) = keeping(parser.expect(rest, Fixed::Name), words)?;
+    let ((declarators, last), words) = keeping(
+        declarators(parser, identifier(token), after, outside),
+        words,
+    )?;
     Ok((Declaration::new(words, declarators), last))
 }

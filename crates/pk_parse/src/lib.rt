@@ -3,6 +3,7 @@
 
 mod declarations;
 mod externals;
+mod kept;
 mod laws;
 mod statements;
 mod texts;

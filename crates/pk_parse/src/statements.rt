@@ -1,6 +1,6 @@
 // Statements.
 
-ghost use Rattle.std.specs.Prelude.{◌≡◌, ◌≢◌, ◌<◌, ◌≤◌, ℕ, ◌+◌, length, MatchResult, option_map, true, false};
+ghost use Rattle.std.specs.Prelude.{◌≡◌, ◌≢◌, ◌<◌, ◌≤◌, ℕ, ◌+◌, length, MatchOption, MatchResult, option_map, true, false};
 ghost use Rattle.pk_ctypes.specs.declared.places.Pos.{Pos};
 ghost use Rattle.pk_ast.specs.Trees as tree;
 ghost use Rattle.pk_ast.specs.Views.{expression_tree, for_start_tree, statement_tree, item_trees, block_tree};
@@ -15,7 +15,8 @@ ghost use Rattle.pk_grammar.specs.Machine.States as states;
 ghost use Rattle.pk_grammar.specs.Machine.Steps as steps;
 
 use crate::declarations::declaration;
-use pk_ast::{Block, BlockItem, Expression, ForHead, ForStart, Statement};
+use crate::kept::keeping;
+use pk_ast::{Block, BlockItem, Expression, ForHead, ForStart, Identifier, Statement};
 use pk_ctypes::Pos;
 use pk_expression::{Parser, identifier, nested};
 use pk_grammar::{
@@ -56,7 +57,7 @@ fn test<'a>(
     let (open, after) = parser.expect(tokens, Fixed::OpenParenthesis)?;
     let inside = nested(open.at, outside, 1)?;
     let (whole, rest) = parser.expression(after, inside)?;
-    let (_, last) = parser.expect(rest, Fixed::CloseParenthesis)?;
+    let ((_, last), whole) = keeping(parser.expect(rest, Fixed::CloseParenthesis), whole)?;
     Ok((whole, last))
 }
 
@@ -76,7 +77,7 @@ fn for_start<'a>(
         return Ok((ForStart::declaration(declaration), rest));
     }
     let (first, rest) = optional(parser, tokens, outside, Fixed::Semicolon)?;
-    let (_, last) = parser.expect(rest, Fixed::Semicolon)?;
+    let ((_, last), first) = keeping(parser.expect(rest, Fixed::Semicolon), first)?;
     Ok((ForStart::expression(first), last))
 }
 
@@ -92,9 +93,15 @@ fn for_tests<'a>(
         (λ x. (n : ℕ) (at : Pos) (f : tree.ForStartTree) (o : states.Outer) → outside ≡ n + 2 → Fails (run parser.end (states.for_second n at f o) tokens.now) x) }
 {
     let (test, rest) = optional(parser, tokens, outside, Fixed::Semicolon)?;
-    let (_, third) = parser.expect(rest, Fixed::Semicolon)?;
-    let (step, close) = optional(parser, third, outside, Fixed::CloseParenthesis)?;
-    let (_, last) = parser.expect(close, Fixed::CloseParenthesis)?;
+    let ((_, third), test) = keeping(parser.expect(rest, Fixed::Semicolon), test)?;
+    let ((step, close), test) = keeping(
+        optional(parser, third, outside, Fixed::CloseParenthesis),
+        test,
+    )?;
+    let ((_, last), (test, step)) = keeping(
+        parser.expect(close, Fixed::CloseParenthesis),
+        (test, step),
+    )?;
     Ok((test, step, last))
 }
 
@@ -112,7 +119,7 @@ fn for_head<'a>(
     let (open, after) = parser.expect(tokens, Fixed::OpenParenthesis)?;
     let head = nested(open.at, inside, 1)?;
     let (start, second) = for_start(parser, after, head)?;
-    let (condition, step, last) = for_tests(parser, second, head)?;
+    let ((condition, step, last), start) = keeping(for_tests(parser, second, head), start)?;
     let head = ForHead {
         start,
         condition,
@@ -149,8 +156,18 @@ fn returning<'a>(
         (λ x. (n : ℕ) (o : states.Outer) → inside ≡ n + 1 → Fails (run parser.end (states.returning n at o) tokens.now) x) }
 {
     let (value, rest) = optional(parser, tokens, inside, Fixed::Semicolon)?;
-    let (_, last) = parser.expect(rest, Fixed::Semicolon)?;
+    let ((_, last), value) = keeping(parser.expect(rest, Fixed::Semicolon), value)?;
     Ok((Statement::return_statement(at, value), last))
+}
+
+// The name that an expression is, where it is no more than one.
+fn name_alone(e: &Expression) -> Option<Identifier>
+    ensures { MatchOption result ((name : Identifier) → e.now ≢ Expression.Name name) (λ name. e.now ≡ Expression.Name name) }
+{
+    match e {
+        Expression::Name(name) => Some(*name),
+        _ => None,
+    }
 }
 
 // A statement that an expression begins, or a label.
@@ -175,7 +192,9 @@ fn labelled<'a>(
     if let Some((_, last)) = parser.take(rest, Fixed::Semicolon) {
         return Ok((Statement::expression(whole), last));
     }
-    let Expression::Name(label) = whole else {
+    let name = name_alone(&whole);
+    drop(whole);
+    let Some(label) = name else {
         return Err(ParseError::Syntax {
             at: parser.place(rest),
         });
@@ -200,8 +219,8 @@ fn case<'a>(
         (λ x. (n : ℕ) (o : states.Outer) → inside ≡ n + 1 → Fails (run parser.end (states.operand inside (states.as_whole (states.as_label n at o))) tokens.now) x) }
 {
     let (value, rest) = parser.conditional(tokens, inside)?;
-    let (_, after) = parser.expect(rest, Fixed::Colon)?;
-    let (body, last) = statement(parser, after, inside)?;
+    let ((_, after), value) = keeping(parser.expect(rest, Fixed::Colon), value)?;
+    let ((body, last), value) = keeping(statement(parser, after, inside), value)?;
     let whole = Statement::case(parser.alloc, at, value, body)?;
     Ok((whole, last))
 }
@@ -239,14 +258,14 @@ fn choice<'a>(
         (λ x. (n : ℕ) (o : states.Outer) → inside ≡ n + 1 → Fails (run parser.end (states.test_open Testing.If n at o) tokens.now) x) }
 {
     let (test, after) = test(parser, tokens, inside)?;
-    let (yes, rest) = statement(parser, after, inside)?;
+    let ((yes, rest), test) = keeping(statement(parser, after, inside), test)?;
     let Some((other, next)) = parser.take(rest, Fixed::Else) else {
         let whole = Statement::if_then(parser.alloc, at, test, yes)?;
         return Ok((whole, rest));
     };
-    let yes = Box::new(parser.alloc, yes)?;
-    let branch = nested(other.at, inside, 1)?;
-    let (no, last) = statement(parser, next, branch)?;
+    let (yes, test) = keeping(Box::new(parser.alloc, yes), test)?;
+    let (branch, (test, yes)) = keeping(nested(other.at, inside, 1), (test, yes))?;
+    let ((no, last), (test, yes)) = keeping(statement(parser, next, branch), (test, yes))?;
     let whole = Statement::if_else(parser.alloc, at, test, yes, no)?;
     Ok((whole, last))
 }
@@ -267,7 +286,7 @@ fn tested<'a>(
         (λ x. (n : ℕ) (o : states.Outer) → inside ≡ n + 1 → Fails (run parser.end (states.test_open testing n at o) tokens.now) x) }
 {
     let (test, after) = test(parser, tokens, inside)?;
-    let (body, last) = statement(parser, after, inside)?;
+    let ((body, last), test) = keeping(statement(parser, after, inside), test)?;
     let whole = match testing {
         Testing::Switch => Statement::switch(parser.alloc, at, test, body)?,
         _ => Statement::while_loop(parser.alloc, at, test, body)?,
@@ -289,9 +308,9 @@ fn repeated<'a>(
         (λ x. (n : ℕ) (o : states.Outer) → inside ≡ n + 1 → Fails (run parser.end (states.at_statement inside (states.in_do n at o)) tokens.now) x) }
 {
     let (body, rest) = statement(parser, tokens, inside)?;
-    let (_, after) = parser.expect(rest, Fixed::While)?;
-    let (test, end) = test(parser, after, inside)?;
-    let (_, last) = parser.expect(end, Fixed::Semicolon)?;
+    let ((_, after), body) = keeping(parser.expect(rest, Fixed::While), body)?;
+    let ((test, end), body) = keeping(test(parser, after, inside), body)?;
+    let ((_, last), (body, test)) = keeping(parser.expect(end, Fixed::Semicolon), (body, test))?;
     let whole = Statement::do_while(parser.alloc, at, body, test)?;
     Ok((whole, last))
 }
@@ -360,7 +379,7 @@ pub fn block<'a>(
         (λ x. (b : states.OpenBlock) → IsNewBlock b brace inside → Fails (run parser.end (states.block_item b) tokens.now) x) }
 {
     let (items, rest) = block_items(parser, tokens, inside)?;
-    let (close, last) = parser.expect(rest, Fixed::CloseBrace)?;
+    let ((close, last), items) = keeping(parser.expect(rest, Fixed::CloseBrace), items)?;
     Ok((Block::new(brace, items, close.at), last))
 }
 

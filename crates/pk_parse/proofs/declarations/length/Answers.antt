@@ -1,7 +1,11 @@
-use Rattle.std.proofs.Common.{arith}
+use Rattle.std.proofs.Common.{Some, sym, ap, ◌∙◌, arith}
 use Rattle.pk_grammar.specs.declared.signs.Fixed.TheVariants as fixed
+use Rattle.pk_ast.specs.Views.{expression_tree}
+use Rattle.pk_grammar.specs.Machine.States.{after_length}
+use Rattle.pk_grammar.specs.Machine.Running.{run}
 use Rattle.pk_expression.proofs.RunLemmas.{passed}
-use Rattle.pk_parse.proofs.RunDeclarations.{run_no_length}
+use Rattle.pk_parse.proofs.KeptLemmas.{made, not_made}
+use Rattle.pk_parse.proofs.RunDeclarations.{naming, run_no_length}
 use Rattle.pk_parse.proofs.DeclarationLemmas.{shorter, sinks_length, fails_length, stops_length, reads_length}
 use Rattle.pk_parse.proofs.declarations.length.Goals as goal
 
@@ -20,12 +24,16 @@ pub returns-in_err-last : goal.returns-in_err-last
 returns-in_err-last c =
     let r = c.in_ok-length.ensures in
     passed _ _ c.from_residual-in_err-last.result _ c.from_residual-in_err-last.ensures.1
-    (λ d id can. stops_length _ d id _ _ can _ _ c.in-Some.ensures _ c.in_ok-inside.ensures _ _ r.0 _ r.1 c.in_err-last.ensures)
+    (λ d id can. stops_length _ d id _ _ can _ _ c.in-Some.ensures _ c.in_ok-inside.ensures _ _ r.0 _ r.1 (not_made _ _ _ _ c.expect.ensures c.in_err-last.ensures))
 
 pub returns : goal.returns
 returns c =
     let r = c.in_ok-length.ensures in
     let a = shorter fixed.OpenBracket _ _ _ c.in-Some.ensures in
-    let b = shorter fixed.CloseBracket _ _ _ c.in_ok-last.ensures in
-    let h = r.3 in
-    (λ d id can. reads_length _ d id _ _ can _ _ c.in-Some.ensures _ c.in_ok-inside.ensures _ _ r.0 _ _ c.in_ok-last.ensures, omega arith)
+    let closed = made _ _ _ _ c.expect.ensures c.in_ok-last.ensures.0 in
+    let b = shorter fixed.CloseBracket _ _ _ closed in
+    let h = r.3 in (
+      λ d id can. reads_length _ d id _ _ can _ _ c.in-Some.ensures _ c.in_ok-inside.ensures _ _ r.0 _ _ closed
+          ∙ ap (λ q. run c.args.parser.end (after_length (naming d id (Some (expression_tree q)))) c.in_ok-last.last.now) (sym c.in_ok-last.ensures.1),
+      omega arith,
+    )

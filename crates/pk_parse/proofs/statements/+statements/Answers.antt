@@ -1,5 +1,5 @@
 use Rattle.std.proofs.Common.{◌≡◌, ◌≢◌, ◌+◌, ◌≤◌, length, option_map, inl, inr, refl, ap, sym, ◌∙◌, arith, rules}
-use Rattle.pk_ast.specs.Trees.{if_else, no_items, do_while, continue, break, empty}
+use Rattle.pk_ast.specs.Trees.{case, if_then, if_else, switch, while, no_items, do_while, continue, break, empty}
 use Rattle.pk_ast.specs.Views.{expression_tree, for_start_tree, statement_tree, item_trees}
 use Rattle.pk_grammar.specs.declared.failure.ParseError.TheVariants.{Syntax, Nesting}
 use Rattle.pk_grammar.specs.declared.states.Testing.TheVariants as testing
@@ -12,6 +12,7 @@ use Rattle.pk_grammar.specs.Machine.Steps.{tested}
 use Rattle.pk_grammar.specs.Machine.Running.{run}
 use Rattle.pk_expression.proofs.RunLemmas.{passed, fails_as}
 use Rattle.pk_parse.specs.Parts.{with_items, after_block}
+use Rattle.pk_parse.proofs.KeptLemmas.{made, not_made}
 use Rattle.pk_parse.proofs.RunStatements.{run_statement_end, no_statement_end}
 use Rattle.pk_parse.proofs.StatementLemmas.{after_label, after_case, after_default, after_if, after_else, after_test_switch, after_test_while, after_for, run_while, no_while, run_else, deep_else, run_test, no_test, run_last_test, no_last_test, run_default, no_default, run_case, no_case, no_operand_begins, deep_operand, fails_expression, run_expression, no_label_name, run_label, no_label_colon, run_start, deep_start, goes_on, nesting_with_items, no_items_more, run_item_statement, run_item_word, after_item_statement, after_item_declaration, new_block_nesting, run_block_end}
 use Rattle.pk_parse.proofs.statements.+statements.Goals as goal
@@ -41,32 +42,32 @@ labelled-returns-in-Some t c =
       let h = w.2 in omega (arith, ap length c.in-Some.ensures.cut),
     )
 
-pub labelled-returns-in_default-whole : goal.labelled-returns-in_default-whole
-labelled-returns-in_default-whole t c =
+pub labelled-returns-in_default-name : goal.labelled-returns-in_default-name
+labelled-returns-in_default-name t c =
     let w = c.in_ok-whole.ensures in
-    λ o. no_label_name c.args.parser.end c.args.outside o c.args.tokens.now c.requires.other c.in_ok-inside.inside c.in_ok-inside.ensures c.in_ok-whole.whole c.in_ok-whole.rest.now w.0 w.1 c.in_default.ensures (Syntax c.place.result) c.in_default-whole.not-Name (ap Syntax c.place.ensures)
+    λ o. no_label_name c.args.parser.end c.args.outside o c.args.tokens.now c.requires.other c.in_ok-inside.inside c.in_ok-inside.ensures c.in_ok-whole.whole c.in_ok-whole.rest.now w.0 w.1 c.in_default.ensures (Syntax c.place.result) c.in_default-name.ensures (ap Syntax c.place.ensures)
 
 pub labelled-returns-in_err-after : goal.labelled-returns-in_err-after
 labelled-returns-in_err-after t c =
     let w = c.in_ok-whole.ensures in
     passed _ _ c.from_residual-in_err-after.result _ c.from_residual-in_err-after.ensures.1
-    (λ o. no_label_colon c.args.parser.end c.args.outside o c.args.tokens.now c.requires.other c.in_ok-inside.inside c.in_ok-inside.ensures c.in_ok-whole.whole c.in_ok-whole.rest.now w.0 w.1 c.in_default.ensures c.in-Name.label c.in-Name.is _ c.in_err-after.ensures)
+    (λ o. no_label_colon c.args.parser.end c.args.outside o c.args.tokens.now c.requires.other c.in_ok-inside.inside c.in_ok-inside.ensures c.in_ok-whole.whole c.in_ok-whole.rest.now w.0 w.1 c.in_default.ensures c.in-Some-name.label c.in-Some-name.ensures _ c.in_err-after.ensures)
 
 pub labelled-returns-in_err-body : goal.labelled-returns-in_err-body
 labelled-returns-in_err-body t c =
     let w = c.in_ok-whole.ensures in
     passed _ _ c.from_residual-in_err-body.result _ c.from_residual-in_err-body.ensures.1
     (λ o. fails_as _ _ _
-    (run_label c.args.parser.end c.args.outside o c.args.tokens.now c.requires.other c.in_ok-inside.inside c.in_ok-inside.ensures c.in_ok-whole.whole c.in_ok-whole.rest.now w.0 w.1 c.in_default.ensures c.in-Name.label c.in-Name.is _ _ c.in_ok-after.ensures)
-    (c.in_err-body.ensures (in_label c.args.outside c.in-Name.label o)))
+    (run_label c.args.parser.end c.args.outside o c.args.tokens.now c.requires.other c.in_ok-inside.inside c.in_ok-inside.ensures c.in_ok-whole.whole c.in_ok-whole.rest.now w.0 w.1 c.in_default.ensures c.in-Some-name.label c.in-Some-name.ensures _ _ c.in_ok-after.ensures)
+    (c.in_err-body.ensures (in_label c.args.outside c.in-Some-name.label o)))
 
 pub labelled-returns : goal.labelled-returns
 labelled-returns t c =
     let w = c.in_ok-whole.ensures in (
       λ o.
-          run_label c.args.parser.end c.args.outside o c.args.tokens.now c.requires.other c.in_ok-inside.inside c.in_ok-inside.ensures c.in_ok-whole.whole c.in_ok-whole.rest.now w.0 w.1 c.in_default.ensures c.in-Name.label c.in-Name.is _ _ c.in_ok-after.ensures
-          ∙ c.in_ok-body.ensures.0 (in_label c.args.outside c.in-Name.label o)
-          ∙ after_label c.args.parser.end c.args.outside o (statement_tree c.in_ok-body.body) c.in_ok-body.last.now _ c.in-Name.label c.in_ok-whole-2.ensures,
+          run_label c.args.parser.end c.args.outside o c.args.tokens.now c.requires.other c.in_ok-inside.inside c.in_ok-inside.ensures c.in_ok-whole.whole c.in_ok-whole.rest.now w.0 w.1 c.in_default.ensures c.in-Some-name.label c.in-Some-name.ensures _ _ c.in_ok-after.ensures
+          ∙ c.in_ok-body.ensures.0 (in_label c.args.outside c.in-Some-name.label o)
+          ∙ after_label c.args.parser.end c.args.outside o (statement_tree c.in_ok-body.body) c.in_ok-body.last.now _ c.in-Some-name.label c.in_ok-whole-2.ensures,
       let h = w.2 in let g = c.in_ok-body.ensures.1 in omega (arith, ap length c.in_ok-after.ensures.cut),
     )
 
@@ -74,24 +75,26 @@ pub case-returns-in_err-after : goal.case-returns-in_err-after
 case-returns-in_err-after t c =
     let v = c.in_ok-value.ensures in
     passed _ _ c.from_residual-in_err-after.result _ c.from_residual-in_err-after.ensures.1
-    (λ n o i. no_case c.args.parser.end n c.args.at o c.args.inside i c.args.tokens.now (expression_tree c.in_ok-value.value) c.in_ok-value.rest.now v.0 _ v.1 c.in_err-after.ensures)
+    (λ n o i. no_case c.args.parser.end n c.args.at o c.args.inside i c.args.tokens.now (expression_tree c.in_ok-value.value) c.in_ok-value.rest.now v.0 _ v.1 (not_made _ _ _ _ c.expect.ensures c.in_err-after.ensures))
 
 pub case-returns-in_err-body : goal.case-returns-in_err-body
 case-returns-in_err-body t c =
     let v = c.in_ok-value.ensures in
     passed _ _ c.from_residual-in_err-body.result _ c.from_residual-in_err-body.ensures.1
     (λ n o i. fails_as _ _ _
-    (run_case c.args.parser.end n c.args.at o c.args.inside i c.args.tokens.now (expression_tree c.in_ok-value.value) c.in_ok-value.rest.now v.0 _ _ c.in_ok-after.ensures c.requires)
-    (c.in_err-body.ensures (in_case n c.args.at (expression_tree c.in_ok-value.value) o)))
+    (run_case c.args.parser.end n c.args.at o c.args.inside i c.args.tokens.now (expression_tree c.in_ok-value.value) c.in_ok-value.rest.now v.0 _ _ (made _ _ _ _ c.expect.ensures c.in_ok-after.ensures.0) c.requires)
+    (not_made _ _ _ _ c.statement.ensures c.in_err-body.ensures (in_case n c.args.at (expression_tree c.in_ok-value.value) o)))
 
 pub case-returns : goal.case-returns
 case-returns t c =
-    let v = c.in_ok-value.ensures in (
+    let v = c.in_ok-value.ensures in
+    let colon = made _ _ _ _ c.expect.ensures c.in_ok-after.ensures.0 in
+    let b = made _ _ _ _ c.statement.ensures c.in_ok-body.ensures.0 in (
       λ n o i.
-          run_case c.args.parser.end n c.args.at o c.args.inside i c.args.tokens.now (expression_tree c.in_ok-value.value) c.in_ok-value.rest.now v.0 _ _ c.in_ok-after.ensures c.requires
-          ∙ c.in_ok-body.ensures.0 (in_case n c.args.at (expression_tree c.in_ok-value.value) o)
-          ∙ after_case c.args.parser.end n o (statement_tree c.in_ok-body.body) c.in_ok-body.last.now _ c.args.at (expression_tree c.in_ok-value.value) c.in_ok-whole.ensures,
-      let h = v.3 in let g = c.in_ok-body.ensures.1 in omega (arith, ap length c.in_ok-after.ensures.cut),
+          run_case c.args.parser.end n c.args.at o c.args.inside i c.args.tokens.now (expression_tree c.in_ok-value.value) c.in_ok-value.rest.now v.0 _ _ colon c.requires
+          ∙ b.0 (in_case n c.args.at (expression_tree c.in_ok-value.value) o)
+          ∙ after_case c.args.parser.end n o (statement_tree c.in_ok-body.body) c.in_ok-body.last.now _ c.args.at (expression_tree c.in_ok-value.value) (c.in_ok-whole.ensures ∙ ap (λ e. case c.args.at (expression_tree e) (statement_tree c.in_ok-body.body)) (c.in_ok-body.ensures.1 ∙ c.in_ok-after.ensures.1)),
+      let h = v.3 in let g = b.1 in omega (arith, ap length colon.cut),
     )
 
 pub default-returns-in_err-after : goal.default-returns-in_err-after
@@ -123,44 +126,54 @@ choice-returns-in_err-yes t c =
     passed _ _ c.from_residual-in_err-yes.result _ c.from_residual-in_err-yes.ensures.1
     (λ n o i. fails_as _ _ _
     (run_test c.args.parser.end n c.args.at o c.args.inside i testing.If c.args.tokens.now (expression_tree c.in_ok-test.test) _ c.in_ok-test.ensures.0)
-    (c.in_err-yes.ensures (in_if n c.args.at (expression_tree c.in_ok-test.test) o)))
+    (not_made _ _ _ _ c.statement.ensures c.in_err-yes.ensures (in_if n c.args.at (expression_tree c.in_ok-test.test) o)))
 
 pub choice-returns-in_default : goal.choice-returns-in_default
-choice-returns-in_default t c = (
-  λ n o i.
-      run_test c.args.parser.end n c.args.at o c.args.inside i testing.If c.args.tokens.now (expression_tree c.in_ok-test.test) _ c.in_ok-test.ensures.0
-      ∙ c.in_ok-yes.ensures.0 (in_if n c.args.at (expression_tree c.in_ok-test.test) o)
-      ∙ after_if c.args.parser.end n o (statement_tree c.in_ok-yes.yes) c.in_ok-yes.rest.now _ c.args.at (expression_tree c.in_ok-test.test) c.in_ok-whole.ensures c.in_default.ensures,
-  let g = c.in_ok-test.ensures.1 in let h = c.in_ok-yes.ensures.1 in omega arith,
-)
+choice-returns-in_default t c =
+    let y = made _ _ _ _ c.statement.ensures c.in_ok-yes.ensures.0 in (
+      λ n o i.
+          run_test c.args.parser.end n c.args.at o c.args.inside i testing.If c.args.tokens.now (expression_tree c.in_ok-test.test) _ c.in_ok-test.ensures.0
+          ∙ y.0 (in_if n c.args.at (expression_tree c.in_ok-test.test) o)
+          ∙ after_if c.args.parser.end n o (statement_tree c.in_ok-yes.yes) c.in_ok-yes.rest.now _ c.args.at (expression_tree c.in_ok-test.test)
+          (c.in_ok-whole.ensures ∙ ap (λ e. if_then c.args.at (expression_tree e) (statement_tree c.in_ok-yes.yes)) c.in_ok-yes.ensures.1) c.in_default.ensures,
+      let g = c.in_ok-test.ensures.1 in let h = y.1 in omega arith,
+    )
 
 pub choice-returns-in_err-branch : goal.choice-returns-in_err-branch
 choice-returns-in_err-branch t c =
     passed _ _ c.from_residual-in_err-branch.result _ c.from_residual-in_err-branch.ensures.1
     (λ n o i. fails_as _ _ _
     (run_test c.args.parser.end n c.args.at o c.args.inside i testing.If c.args.tokens.now (expression_tree c.in_ok-test.test) _ c.in_ok-test.ensures.0
-    ∙ c.in_ok-yes.ensures.0 (in_if n c.args.at (expression_tree c.in_ok-test.test) o))
-    (deep_else c.args.parser.end n o (statement_tree c.in_ok-yes.yes) c.in_ok-yes.rest.now c.args.at (expression_tree c.in_ok-test.test) _ _ c.in-Some.ensures c.args.inside i _ c.in_err-branch.ensures))
+    ∙ (made _ _ _ _ c.statement.ensures c.in_ok-yes.ensures.0).0 (in_if n c.args.at (expression_tree c.in_ok-test.test) o))
+    (deep_else c.args.parser.end n o (statement_tree c.in_ok-yes.yes) c.in_ok-yes.rest.now c.args.at (expression_tree c.in_ok-test.test) _ _ c.in-Some.ensures c.args.inside i _ (not_made _ _ _ _ c.nested.ensures c.in_err-branch.ensures)))
 
 pub choice-returns-in_err-no : goal.choice-returns-in_err-no
 choice-returns-in_err-no t c =
     passed _ _ c.from_residual-in_err-no.result _ c.from_residual-in_err-no.ensures.1
     (λ n o i. fails_as _ _ _
     (run_test c.args.parser.end n c.args.at o c.args.inside i testing.If c.args.tokens.now (expression_tree c.in_ok-test.test) _ c.in_ok-test.ensures.0
-    ∙ c.in_ok-yes.ensures.0 (in_if n c.args.at (expression_tree c.in_ok-test.test) o)
-    ∙ run_else c.args.parser.end n o (statement_tree c.in_ok-yes.yes) c.in_ok-yes.rest.now c.args.at (expression_tree c.in_ok-test.test) _ _ c.in-Some.ensures c.args.inside i c.in_ok-branch.branch c.in_ok-branch.ensures)
-    (c.in_err-no.ensures (in_else n c.args.at (expression_tree c.in_ok-test.test) (statement_tree c.in_ok-yes.yes) o)))
+    ∙ (made _ _ _ _ c.statement.ensures c.in_ok-yes.ensures.0).0 (in_if n c.args.at (expression_tree c.in_ok-test.test) o)
+    ∙ run_else c.args.parser.end n o (statement_tree c.in_ok-yes.yes) c.in_ok-yes.rest.now c.args.at (expression_tree c.in_ok-test.test) _ _ c.in-Some.ensures c.args.inside i c.in_ok-branch.branch (made _ _ _ _ c.nested.ensures c.in_ok-branch.ensures.0))
+    (not_made _ _ _ _ c.statement-2.ensures c.in_err-no.ensures (in_else n c.args.at (expression_tree c.in_ok-test.test) (statement_tree c.in_ok-yes.yes) o)))
 
 pub choice-returns : goal.choice-returns
-choice-returns t c = (
-  λ n o i.
-      run_test c.args.parser.end n c.args.at o c.args.inside i testing.If c.args.tokens.now (expression_tree c.in_ok-test.test) _ c.in_ok-test.ensures.0
-      ∙ c.in_ok-yes.ensures.0 (in_if n c.args.at (expression_tree c.in_ok-test.test) o)
-      ∙ run_else c.args.parser.end n o (statement_tree c.in_ok-yes.yes) c.in_ok-yes.rest.now c.args.at (expression_tree c.in_ok-test.test) _ _ c.in-Some.ensures c.args.inside i c.in_ok-branch.branch c.in_ok-branch.ensures
-      ∙ c.in_ok-no.ensures.0 (in_else n c.args.at (expression_tree c.in_ok-test.test) (statement_tree c.in_ok-yes.yes) o)
-      ∙ after_else c.args.parser.end n o (statement_tree c.in_ok-no.no) c.in_ok-no.last.now _ c.args.at (expression_tree c.in_ok-test.test) (statement_tree c.in_ok-yes.yes) (c.in_ok-whole-2.ensures ∙ ap (λ y. if_else c.args.at (expression_tree c.in_ok-test.test) (statement_tree y) (statement_tree c.in_ok-no.no)) c.in_ok-yes-2.ensures.ok),
-  let g = c.in_ok-test.ensures.1 in let h = c.in_ok-yes.ensures.1 in let k = c.in_ok-no.ensures.1 in omega (arith, ap length c.in-Some.ensures.cut),
-)
+choice-returns t c =
+    let y = made _ _ _ _ c.statement.ensures c.in_ok-yes.ensures.0 in
+    let f = made _ _ _ _ c.statement-2.ensures c.in_ok-no.ensures.0 in
+    let boxed = made _ _ _ _ c.new.ensures.ok c.in_ok-yes-2.ensures.0 in
+    let held = c.in_ok-no.ensures.1 ∙ c.in_ok-branch.ensures.1 in (
+      λ n o i.
+          run_test c.args.parser.end n c.args.at o c.args.inside i testing.If c.args.tokens.now (expression_tree c.in_ok-test.test) _ c.in_ok-test.ensures.0
+          ∙ y.0 (in_if n c.args.at (expression_tree c.in_ok-test.test) o)
+          ∙ run_else c.args.parser.end n o (statement_tree c.in_ok-yes.yes) c.in_ok-yes.rest.now c.args.at (expression_tree c.in_ok-test.test) _ _ c.in-Some.ensures c.args.inside i c.in_ok-branch.branch (made _ _ _ _ c.nested.ensures c.in_ok-branch.ensures.0)
+          ∙ f.0 (in_else n c.args.at (expression_tree c.in_ok-test.test) (statement_tree c.in_ok-yes.yes) o)
+          ∙ after_else c.args.parser.end n o (statement_tree c.in_ok-no.no) c.in_ok-no.last.now _ c.args.at (expression_tree c.in_ok-test.test) (statement_tree c.in_ok-yes.yes)
+          (c.in_ok-whole-2.ensures
+          ∙ ap (λ q. if_else c.args.at (expression_tree q.0) (statement_tree q.1.value) (statement_tree c.in_ok-no.no)) held
+          ∙ ap (λ e. if_else c.args.at (expression_tree e) (statement_tree c.in_ok-yes-2.yes.value) (statement_tree c.in_ok-no.no)) (c.in_ok-yes-2.ensures.1 ∙ c.in_ok-yes.ensures.1)
+          ∙ ap (λ y. if_else c.args.at (expression_tree c.in_ok-test.test) (statement_tree y) (statement_tree c.in_ok-no.no)) boxed),
+      let g = c.in_ok-test.ensures.1 in let h = y.1 in let k = f.1 in omega (arith, ap length c.in-Some.ensures.cut),
+    )
 
 pub tested-returns-in_err-test : goal.tested-returns-in_err-test
 tested-returns-in_err-test t c =
@@ -174,21 +187,22 @@ tested-returns-in_err-body t c =
     passed _ _ c.from_residual-in_err-body.result _ c.from_residual-in_err-body.ensures.1
     (λ n o i. fails_as _ _ _
     (run_test c.args.parser.end n c.args.at o c.args.inside i k c.args.tokens.now (expression_tree c.in_ok-test.test) _ c.in_ok-test.ensures.0)
-    (c.in_err-body.ensures (tested k n c.args.at (expression_tree c.in_ok-test.test) o)))
+    (not_made _ _ _ _ c.statement.ensures c.in_err-body.ensures (tested k n c.args.at (expression_tree c.in_ok-test.test) o)))
 
 pub tested-returns : goal.tested-returns
 tested-returns t c =
-    let k = c.args.testing in (
+    let k = c.args.testing in
+    let b = made _ _ _ _ c.statement.ensures c.in_ok-body.ensures.0 in (
       λ n o i.
           run_test c.args.parser.end n c.args.at o c.args.inside i k c.args.tokens.now (expression_tree c.in_ok-test.test) _ c.in_ok-test.ensures.0
-          ∙ c.in_ok-body.ensures.0 (tested k n c.args.at (expression_tree c.in_ok-test.test) o)
+          ∙ b.0 (tested k n c.args.at (expression_tree c.in_ok-test.test) o)
           ∙ elim c.match-testing.branch [
             | tested-in-Switch+in_ok-whole-in-Switch w ↦
-                after_test_switch c.args.parser.end n o (statement_tree c.in_ok-body.body) c.in_ok-body.last.now _ c.args.at k (expression_tree c.in_ok-test.test) w.in-Switch.is (ap statement_tree w.whole-is ∙ w.in_ok-whole-in-Switch.ensures)
+                after_test_switch c.args.parser.end n o (statement_tree c.in_ok-body.body) c.in_ok-body.last.now _ c.args.at k (expression_tree c.in_ok-test.test) w.in-Switch.is (ap statement_tree w.whole-is ∙ w.in_ok-whole-in-Switch.ensures ∙ ap (λ e. switch c.args.at (expression_tree e) (statement_tree c.in_ok-body.body)) c.in_ok-body.ensures.1)
             | tested-in_default+in_ok-whole-in_default w ↦
-                after_test_while c.args.parser.end n o (statement_tree c.in_ok-body.body) c.in_ok-body.last.now _ c.args.at k (expression_tree c.in_ok-test.test) c.requires.no_if w.in_default.not-Switch (ap statement_tree w.whole-is ∙ w.in_ok-whole-in_default.ensures)
+                after_test_while c.args.parser.end n o (statement_tree c.in_ok-body.body) c.in_ok-body.last.now _ c.args.at k (expression_tree c.in_ok-test.test) c.requires.no_if w.in_default.not-Switch (ap statement_tree w.whole-is ∙ w.in_ok-whole-in_default.ensures ∙ ap (λ e. while c.args.at (expression_tree e) (statement_tree c.in_ok-body.body)) c.in_ok-body.ensures.1)
           ],
-      let g = c.in_ok-test.ensures.1 in let h = c.in_ok-body.ensures.1 in omega arith,
+      let g = c.in_ok-test.ensures.1 in let h = b.1 in omega arith,
     )
 
 pub repeated-returns-in_err-body : goal.repeated-returns-in_err-body
@@ -198,15 +212,15 @@ repeated-returns-in_err-body t c =
 pub repeated-returns-in_err-after : goal.repeated-returns-in_err-after
 repeated-returns-in_err-after t c =
     passed _ _ c.from_residual-in_err-after.result _ c.from_residual-in_err-after.ensures.1
-    (λ n o i. fails_as _ _ _ (c.in_ok-body.ensures.0 (in_do n c.args.at o)) (no_while c.args.parser.end n o (statement_tree c.in_ok-body.body) c.in_ok-body.rest.now c.args.at _ c.in_err-after.ensures))
+    (λ n o i. fails_as _ _ _ (c.in_ok-body.ensures.0 (in_do n c.args.at o)) (no_while c.args.parser.end n o (statement_tree c.in_ok-body.body) c.in_ok-body.rest.now c.args.at _ (not_made _ _ _ _ c.expect.ensures c.in_err-after.ensures)))
 
 pub repeated-returns-in_err-test : goal.repeated-returns-in_err-test
 repeated-returns-in_err-test t c =
     let s = statement_tree c.in_ok-body.body in
     passed _ _ c.from_residual-in_err-test.result _ c.from_residual-in_err-test.ensures.1
     (λ n o i. fails_as _ _ _
-    (c.in_ok-body.ensures.0 (in_do n c.args.at o) ∙ run_while c.args.parser.end n o s c.in_ok-body.rest.now c.args.at _ _ c.in_ok-after.ensures (let h = c.requires in omega arith))
-    (no_last_test c.args.parser.end n c.args.at o c.args.inside i s c.in_ok-after.after.now _ c.in_err-test.ensures))
+    (c.in_ok-body.ensures.0 (in_do n c.args.at o) ∙ run_while c.args.parser.end n o s c.in_ok-body.rest.now c.args.at _ _ (made _ _ _ _ c.expect.ensures c.in_ok-after.ensures.0) (let h = c.requires in omega arith))
+    (no_last_test c.args.parser.end n c.args.at o c.args.inside i s c.in_ok-after.after.now _ (not_made _ _ _ _ c.test.ensures c.in_err-test.ensures)))
 
 pub repeated-returns-in_err-last : goal.repeated-returns-in_err-last
 repeated-returns-in_err-last t c =
@@ -214,20 +228,26 @@ repeated-returns-in_err-last t c =
     passed _ _ c.from_residual-in_err-last.result _ c.from_residual-in_err-last.ensures.1
     (λ n o i. fails_as _ _ _
     (c.in_ok-body.ensures.0 (in_do n c.args.at o)
-    ∙ run_while c.args.parser.end n o s c.in_ok-body.rest.now c.args.at _ _ c.in_ok-after.ensures (let h = c.requires in omega arith)
-    ∙ run_last_test c.args.parser.end n c.args.at o c.args.inside i s c.in_ok-after.after.now (expression_tree c.in_ok-test.test) _ c.in_ok-test.ensures.0)
-    (no_statement_end c.args.parser.end n (do_while c.args.at s (expression_tree c.in_ok-test.test)) o c.in_ok-test.end.now _ c.in_err-last.ensures))
+    ∙ run_while c.args.parser.end n o s c.in_ok-body.rest.now c.args.at _ _ (made _ _ _ _ c.expect.ensures c.in_ok-after.ensures.0) (let h = c.requires in omega arith)
+    ∙ run_last_test c.args.parser.end n c.args.at o c.args.inside i s c.in_ok-after.after.now (expression_tree c.in_ok-test.test) _ (made _ _ _ _ c.test.ensures c.in_ok-test.ensures.0).0)
+    (no_statement_end c.args.parser.end n (do_while c.args.at s (expression_tree c.in_ok-test.test)) o c.in_ok-test.end.now _ (not_made _ _ _ _ c.expect-2.ensures c.in_err-last.ensures)))
 
 pub repeated-returns : goal.repeated-returns
 repeated-returns t c =
-    let s = statement_tree c.in_ok-body.body in (
+    let s = statement_tree c.in_ok-body.body in
+    let word = made _ _ _ _ c.expect.ensures c.in_ok-after.ensures.0 in
+    let tested = made _ _ _ _ c.test.ensures c.in_ok-test.ensures.0 in
+    let ended = made _ _ _ _ c.expect-2.ensures c.in_ok-last.ensures.0 in (
       λ n o i.
           c.in_ok-body.ensures.0 (in_do n c.args.at o)
-          ∙ run_while c.args.parser.end n o s c.in_ok-body.rest.now c.args.at _ _ c.in_ok-after.ensures (let h = c.requires in omega arith)
-          ∙ run_last_test c.args.parser.end n c.args.at o c.args.inside i s c.in_ok-after.after.now (expression_tree c.in_ok-test.test) _ c.in_ok-test.ensures.0
-          ∙ run_statement_end c.args.parser.end n (do_while c.args.at s (expression_tree c.in_ok-test.test)) o c.in_ok-test.end.now _ _ c.in_ok-last.ensures (let h = c.requires in omega arith)
-          ∙ ap (λ q. run c.args.parser.end (after_statement q o) c.in_ok-last.last.now) (sym c.in_ok-whole.ensures),
-      let g = c.in_ok-body.ensures.1 in let h = c.in_ok-test.ensures.1 in omega (arith, ap length c.in_ok-after.ensures.cut, ap length c.in_ok-last.ensures.cut),
+          ∙ run_while c.args.parser.end n o s c.in_ok-body.rest.now c.args.at _ _ word (let h = c.requires in omega arith)
+          ∙ run_last_test c.args.parser.end n c.args.at o c.args.inside i s c.in_ok-after.after.now (expression_tree c.in_ok-test.test) _ tested.0
+          ∙ run_statement_end c.args.parser.end n (do_while c.args.at s (expression_tree c.in_ok-test.test)) o c.in_ok-test.end.now _ _ ended (let h = c.requires in omega arith)
+          ∙ ap (λ q. run c.args.parser.end (after_statement q o) c.in_ok-last.last.now)
+          (ap (λ b. do_while c.args.at (statement_tree b) (expression_tree c.in_ok-test.test)) (sym (c.in_ok-test.ensures.1 ∙ c.in_ok-after.ensures.1))
+          ∙ ap (λ q. do_while c.args.at (statement_tree q.0) (expression_tree q.1)) (sym c.in_ok-last.ensures.1)
+          ∙ sym c.in_ok-whole.ensures),
+      let g = c.in_ok-body.ensures.1 in let h = tested.1 in omega (arith, ap length word.cut, ap length ended.cut),
     )
 
 pub for_loop-returns-in_err-head : goal.for_loop-returns-in_err-head
@@ -297,12 +317,13 @@ block_items-loop-parser-preserved t c =
 
 pub block-returns : goal.block-returns
 block-returns t c =
-    let w = c.in_ok-items.ensures in (
+    let w = c.in_ok-items.ensures in
+    let closed = made _ _ _ _ c.expect.ensures c.in_ok-close.ensures.0 in (
       λ b new.
           w.0 b (new_block_nesting b c.args.brace c.args.inside new)
-          ∙ run_block_end c.args.parser.end b c.args.brace c.args.inside (item_trees c.in_ok-items.items.items) c.in_ok-items.rest.now _ _ new c.requires c.in_ok-close.ensures
-          ∙ ap (λ q. run c.args.parser.end (after_block b q) c.in_ok-close.last.now) (sym c.new.ensures),
-      let h = w.2 in omega (arith, ap length c.in_ok-close.ensures.cut),
+          ∙ run_block_end c.args.parser.end b c.args.brace c.args.inside (item_trees c.in_ok-items.items.items) c.in_ok-items.rest.now _ _ new c.requires closed
+          ∙ ap (λ q. run c.args.parser.end (after_block b q) c.in_ok-close.last.now) (ap (λ v. record { opened = c.args.brace; items = item_trees v.items; closed = c.in_ok-close.close.at }) (sym c.in_ok-close.ensures.1) ∙ sym c.new.ensures),
+      let h = w.2 in omega (arith, ap length closed.cut),
     )
 
 pub statement-returns-in_err-inside : goal.statement-returns-in_err-inside
