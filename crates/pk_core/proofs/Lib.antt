@@ -1,0 +1,11 @@
+pub mod Basics
+pub mod Moves
+pub mod Keeps
+pub mod Diamond
+pub mod Front
+pub mod Settled
+pub mod Sequence
+pub mod Logs
+pub mod Plays
+pub mod Plan_shapes
+pub mod Kept_to

@@ -1,0 +1,5 @@
+pub mod States
+pub mod Events
+pub mod Orders
+pub mod Fits
+pub mod Promises
