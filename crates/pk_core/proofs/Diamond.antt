@@ -1,14 +1,14 @@
 -- Two moves that can be made can be made in either order.
-use Rattle.std.proofs.Common.{◌≡◌, ◌≢◌, ℕ, zero, suc, ◌<◌, ◌==◌, eqb, List, [], ◌∷◌, map, length, count_by, Bool, true, false, ◌||◌, ◌&&◌, not, if◌then◌else◌, refl, sym, ap, ◌∙◌, arith, rules, inl, inr, ◌⊎◌}
+use Rattle.std.proofs.Common.{◌≡◌, ◌≢◌, ℕ, ◌==◌, List, [], ◌∷◌, map, Bool, true, false, ◌||◌, if◌then◌else◌, refl, sym, ap, ◌∙◌, inl, inr, ◌⊎◌}
 use Rattle.pk_iterate.specs.Behaviour.{Behaviour}
-use Rattle.pk_plan.specs.Shape.{Shape, has, Before}
-use Rattle.pk_core.specs.Events.{inner, arrived, without, after_send_at}
-use Rattle.pk_core.proofs.Moves.{Axioms, Comparable, Move, Run, Tell, ran, effect, moved, CanMove, restarts, gives}
-use Rattle.pk_core.specs.States.{Made, Element, State, inputs_of, cell_in, newest}
+use Rattle.pk_plan.specs.Shape.{Shape, has}
+use Rattle.pk_core.specs.Events.{arrived, without, after_send_at}
+use Rattle.pk_core.proofs.Moves.{Axioms, Comparable, Move, Run, Tell, ran, effect, moved, CanMove}
+use Rattle.pk_core.specs.States.{Element, State, inputs_of, cell_in}
 use Rattle.pk_core.specs.declared.events.Status.{Status}
-use Rattle.pk_core.specs.declared.events.Status.TheVariants.{Waiting, Open, Held, Done}
-use Rattle.pk_core.proofs.Basics.{or_false, cases, not_true, neq, same, itself, has_without, without_twice, or_right}
-use Rattle.pk_core.proofs.Keeps.{is_done, is_waiting, Kept, past, before_done, target_waits, inside_done, done_not_waiting}
+use Rattle.pk_core.specs.declared.events.Status.TheVariants.{Held}
+use Rattle.pk_core.proofs.Basics.{or_false, cases, not_true, same, itself, has_without, without_twice, or_right}
+use Rattle.pk_core.proofs.Keeps.{is_done, is_waiting, Kept, before_done, target_waits, inside_done, done_not_waiting}
 
 abbrev pub touched : Shape → Move → ℕ → Bool
 touched p (Run e) u = (u == e) || p.inside e u

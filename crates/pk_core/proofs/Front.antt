@@ -1,14 +1,11 @@
 -- Each move that can be made is on the way to the end, and may be made first.
-use Rattle.std.proofs.Common.{◌≡◌, ◌≢◌, ℕ, zero, suc, ◌+◌, ◌<◌, ◌≤◌, ◌==◌, List, [], ◌∷◌, ◌++◌, map, length, count_by, Bool, true, false, if◌then◌else◌, not, refl, sym, ap, subst, ◌∙◌, arith, rules, inl, inr, ◌⊎◌}
+use Rattle.std.proofs.Common.{◌≡◌, ◌≢◌, ℕ, zero, ◌+◌, ◌==◌, false, refl, sym, ap, subst, ◌∙◌, arith, inl, inr, ◌⊎◌}
 use Rattle.pk_iterate.specs.Behaviour.{Behaviour}
-use Rattle.pk_plan.specs.Shape.{Shape, has, Before}
-use Rattle.pk_core.specs.Events.{inner}
+use Rattle.pk_plan.specs.Shape.{Shape}
 use Rattle.pk_core.proofs.Moves.{Axioms, Comparable, Move, Run, Tell, moved, CanMove}
-use Rattle.pk_core.specs.States.{Made, Element, State}
-use Rattle.pk_core.specs.declared.events.Status.{Status}
-use Rattle.pk_core.specs.declared.events.Status.TheVariants.{Held, Done}
-use Rattle.pk_core.proofs.Basics.{cases, not_true, neq, same, itself}
-use Rattle.pk_core.proofs.Keeps.{is_done, is_waiting, Kept, kept_moved}
+use Rattle.pk_core.specs.States.{State}
+use Rattle.pk_core.proofs.Basics.{cases, same, itself}
+use Rattle.pk_core.proofs.Keeps.{Kept, kept_moved}
 use Rattle.pk_core.proofs.Diamond.{still, swap}
 
 -- runs are counted

@@ -1,10 +1,10 @@
 -- What every move keeps: counts are the sends still to come.
-use Rattle.std.proofs.Common.{◌≡◌, ◌≢◌, ℕ, zero, suc, ◌+◌, ◌<◌, ◌==◌, eqb, List, [], ◌∷◌, map, length, count_by, Bool, true, false, ◌||◌, ◌&&◌, not, cond, if◌then◌else◌, refl, sym, ap, subst, ◌∙◌, arith, rules, inl, inr, ◌⊎◌}
+use Rattle.std.proofs.Common.{◌≡◌, ◌≢◌, ℕ, zero, suc, ◌+◌, ◌<◌, ◌==◌, List, [], ◌∷◌, count_by, Bool, true, false, ◌&&◌, not, cond, if◌then◌else◌, refl, sym, ap, subst, ◌∙◌, arith, inl, inr, ◌⊎◌}
 use Rattle.pk_iterate.specs.Behaviour.{Behaviour}
 use Rattle.pk_plan.specs.Shape.{Shape, has, Before, one, more}
 use Rattle.pk_core.specs.Events.{inner, arrived, without, after_run_at, after_send_at}
-use Rattle.pk_core.proofs.Moves.{Axioms, Comparable, Move, Run, Tell, ran, effect, moved, CanMove, restarts, gives}
-use Rattle.pk_core.specs.States.{Made, Element, State, inputs_of, cell_in, newest}
+use Rattle.pk_core.proofs.Moves.{Axioms, Move, Run, Tell, moved, CanMove, restarts, gives}
+use Rattle.pk_core.specs.States.{Made, Element, State, inputs_of}
 use Rattle.pk_core.specs.declared.events.Status.{Status}
 use Rattle.pk_core.specs.declared.events.Status.TheVariants.{Waiting, Open, Held, Done}
 use Rattle.pk_core.proofs.Basics.{cases, not_true, neq, same, itself, none_counted, counted_same, counted_less, has_without, has_without_none, has_filter, count_cons}

@@ -1,22 +1,17 @@
 -- Every list of events keeps to the recursion, over a plan.
-use Rattle.std.proofs.Common.{◌≡◌, ◌≢◌, ℕ, zero, suc, ◌+◌, ◌<◌, ◌≤◌, ◌==◌, ◌⊎◌, inl, inr, List, [], ◌∷◌, length, count_by, Bool, true, false, cond, refl, sym, ap, subst, ◌∙◌, arith, Contains, get_or, slice_index}
-use Rattle.std.specs.List.{slice_index_or}
-use Rattle.std.specs.List.Sorted.{IsStrictlyIncreasing}
-use Rattle.pk_plan.specs.declared.components.Component.{Component}
+use Rattle.std.proofs.Common.{◌≤◌, List, length, arith}
 use Rattle.pk_plan.specs.Order.{Level}
-use Rattle.pk_plan.specs.Plans.{PlanView, end_of, predecessors_of, Precedes, Inside}
+use Rattle.pk_plan.specs.Plans.{PlanView}
 use Rattle.pk_plan.specs.Axioms.{Axioms as PlanAxioms}
-use Rattle.pk_plan.specs.Shape.{Shape, has, Before, shape_of}
-use Rattle.pk_plan.proofs.Shapes.{shapes}
+use Rattle.pk_plan.specs.Shape.{shape_of}
 use Rattle.pk_iterate.specs.Behaviour.{Behaviour}
 use Rattle.pk_iterate.specs.Ending.{Ends, trace}
 use Rattle.pk_core.specs.declared.events.Event.{Event}
 use Rattle.pk_core.specs.States.{State}
 use Rattle.pk_core.specs.Events.{start, AllEnabled, played}
 use Rattle.pk_core.specs.Orders.{IsOrderOf}
-use Rattle.pk_core.specs.Fits.{FitsPlan, IsHeadOver}
-use Rattle.pk_core.specs.Promises.{runs_in, IsOver, KeepsTo, EveryListKeeps}
-use Rattle.pk_core.proofs.Moves.{Axioms, Comparable}
+use Rattle.pk_core.specs.Fits.{FitsPlan}
+use Rattle.pk_core.specs.Promises.{runs_in, KeepsTo, EveryListKeeps}
 use Rattle.pk_core.proofs.Plan_shapes.{plan_shape, comparable, has_of}
 use Rattle.pk_core.proofs.Plays.{Agrees, every_play}
 

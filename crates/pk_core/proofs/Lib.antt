@@ -9,3 +9,9 @@ pub mod Logs
 pub mod Plays
 pub mod Plan_shapes
 pub mod Kept_to
+pub mod Changed_at
+pub mod Asked
+pub mod Restarting
+pub mod Stepping
+pub mod Listed
+pub mod Played_on

@@ -1,12 +1,12 @@
 -- What the log of an element says in the trace's own words.
-use Rattle.std.proofs.Common.{◌≡◌, ◌≢◌, ℕ, zero, suc, ◌+◌, ◌<◌, ◌≤◌, ◌==◌, List, [], ◌∷◌, ◌++◌, map, length, count_by, Bool, true, false, if◌then◌else◌, cond, not, ◌&&◌, ◌||◌, refl, sym, ap, subst, ◌∙◌, arith, rules, inl, inr, ◌⊎◌, length-append}
+use Rattle.std.proofs.Common.{◌≡◌, ℕ, suc, ◌+◌, ◌≤◌, ◌==◌, List, [], ◌∷◌, ◌++◌, map, length, Bool, true, false, if◌then◌else◌, cond, ◌&&◌, refl, sym, ap, ◌∙◌, arith, length-append}
 use Rattle.std.proofs.lemmas.List.Sums.{sum_by-cons}
 use Rattle.pk_iterate.specs.Behaviour.{Behaviour}
 use Rattle.pk_iterate.specs.Iteration.{inputs_after, cell_after, count_of}
 use Rattle.pk_core.specs.States.{Made, newest}
 use Rattle.pk_core.proofs.Moves.{log_of}
 use Rattle.pk_iterate.specs.Runs.{runs_before, run_value, values_read}
-use Rattle.pk_core.proofs.Basics.{cases, neq, same, itself}
+use Rattle.pk_core.proofs.Basics.{neq, itself}
 use Rattle.pk_core.proofs.Sequence.{log_cell}
 
 pub count_more : {C : Type 0} (r : ℕ × C) (runs : List (ℕ × C)) (e : ℕ) → count_of (r ∷ runs) e ≡ cond (r.0 == e) 1 0 + count_of runs e

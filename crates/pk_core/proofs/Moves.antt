@@ -1,5 +1,5 @@
 -- Events but for offers and claims are moves: runs, and sends.
-use Rattle.std.specs.Prelude.{◌≡◌, ◌≢◌, ℕ, ◌<◌, ◌==◌, ◌⊎◌, List, [], ◌∷◌, map, count_by, if◌then◌else◌, Bool, true, false}
+use Rattle.std.specs.Prelude.{◌≡◌, ◌≢◌, ℕ, ◌<◌, ◌==◌, ◌⊎◌, List, [], ◌∷◌, count_by, if◌then◌else◌, Bool, true, false}
 use Rattle.pk_plan.specs.Shape.{Shape, has, Before, ShapeAxioms}
 use Rattle.pk_iterate.specs.Behaviour.{Behaviour, decided_cell, is_again}
 use Rattle.pk_iterate.specs.Iteration.{inputs_after}

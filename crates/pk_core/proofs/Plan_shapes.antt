@@ -1,11 +1,10 @@
 -- What the core asks of a plan's shape, and of what a system reads.
-use Rattle.std.proofs.Common.{◌≡◌, ◌≢◌, ℕ, zero, suc, ◌+◌, ◌<◌, ◌≤◌, ◌==◌, ◌||◌, ◌⊎◌, inl, inr, List, [], ◌∷◌, length, count_by, get_or, Bool, true, false, cond, refl, sym, ap, subst, ◌∙◌, arith, All, Contains}
+use Rattle.std.proofs.Common.{◌≡◌, ℕ, zero, suc, ◌+◌, ◌<◌, ◌≤◌, ◌==◌, ◌||◌, inl, inr, List, [], ◌∷◌, length, count_by, get_or, Bool, true, false, cond, refl, sym, ap, subst, ◌∙◌, arith, All, Contains}
 use Rattle.std.specs.List.{slice_index_or}
 use Rattle.std.specs.List.Sorted.{IsStrictlyIncreasing}
-use Rattle.pk_plan.specs.declared.components.Component.{Component}
-use Rattle.pk_plan.specs.Plans.{PlanView, predecessors_of, Precedes, One, More, Inside}
+use Rattle.pk_plan.specs.Plans.{PlanView, predecessors_of, Precedes, One, More}
 use Rattle.pk_plan.specs.Axioms.{Axioms as PlanAxioms}
-use Rattle.pk_plan.specs.Shape.{Shape, has, Before, one, more, shape_of}
+use Rattle.pk_plan.specs.Shape.{has, Before, one, more, shape_of}
 use Rattle.pk_plan.proofs.PlanLemmas.{head_inside}
 use Rattle.pk_plan.proofs.Shapes.{shapes}
 use Rattle.pk_iterate.specs.Behaviour.{Behaviour}

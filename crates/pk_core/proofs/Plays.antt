@@ -1,24 +1,24 @@
 -- Every list of events agrees with the trace.
-use Rattle.std.proofs.Common.{◌≡◌, ◌≢◌, ℕ, zero, suc, ◌+◌, ◌<◌, ◌≤◌, ◌==◌, List, [], ◌∷◌, ◌++◌, map, length, count_by, Bool, true, false, if◌then◌else◌, cond, not, ◌&&◌, ◌||◌, refl, sym, ap, subst, ◌∙◌, arith, rules, inl, inr, ◌⊎◌, length-append, append_assoc}
+use Rattle.std.proofs.Common.{◌≡◌, ◌≢◌, ℕ, suc, ◌+◌, ◌<◌, ◌≤◌, ◌==◌, List, [], ◌∷◌, ◌++◌, length, Bool, true, false, if◌then◌else◌, not, ◌&&◌, ◌||◌, refl, sym, ap, subst, ◌∙◌, arith, inl, inr, length-append, append_assoc}
 use Rattle.pk_plan.specs.Order.{Level}
 use Rattle.pk_iterate.specs.Behaviour.{Behaviour, is_again}
-use Rattle.pk_iterate.specs.Iteration.{Task, cell_after, count_of, Progress, progress}
+use Rattle.pk_iterate.specs.Iteration.{Task, cell_after, count_of, progress}
 use Rattle.pk_core.specs.declared.events.Status.{Status}
 use Rattle.pk_core.specs.declared.events.Status.TheVariants.{Waiting, Open, Held, Done}
 use Rattle.pk_core.specs.declared.events.Event.{Event}
-use Rattle.pk_core.specs.declared.events.Event.TheVariants.{Offer, Claim, Finish, Send, Stable, Again}
-use Rattle.pk_plan.specs.Shape.{Shape, has, Before}
+use Rattle.pk_core.specs.declared.events.Event.TheVariants.{Claim, Finish, Send, Stable, Again}
+use Rattle.pk_plan.specs.Shape.{Shape, has}
 use Rattle.pk_core.specs.Events.{inner, start, Enabled, after, AllEnabled, played}
 use Rattle.pk_core.proofs.Moves.{Axioms, Comparable, Move, Run, Tell, moved, CanMove, restarts, gives, log_of}
-use Rattle.pk_core.specs.States.{Made, Element, State, inputs_of, cell_in, newest, run_number}
+use Rattle.pk_core.specs.States.{Made, State, inputs_of, cell_in, newest, run_number}
 use Rattle.pk_core.specs.Orders.{elements_left, IsOrderOf}
-use Rattle.pk_iterate.specs.Runs.{runs_before, run_value, values_read}
+use Rattle.pk_iterate.specs.Runs.{run_value, values_read}
 use Rattle.pk_core.specs.Promises.{is_run, runs_in, IsOffer}
-use Rattle.pk_core.proofs.Basics.{cases, not_true, same, itself}
+use Rattle.pk_core.proofs.Basics.{cases, same, itself}
 use Rattle.pk_core.proofs.Keeps.{is_done, is_waiting, Kept, kept_moved, before_done, target_waits, done_not_waiting, done_arrived, apart_of}
 use Rattle.pk_core.proofs.Front.{Reaches, here, onward, weight, IsFinal, first}
-use Rattle.pk_core.proofs.Settled.{settle, settle_one, settled, Does, nothing, move, does, kept_start}
-use Rattle.pk_core.proofs.Sequence.{Sim, log_cell, Stage, stage}
+use Rattle.pk_core.proofs.Settled.{settle, settled, Does, nothing, move, does, kept_start}
+use Rattle.pk_core.proofs.Sequence.{Sim, log_cell, stage}
 use Rattle.pk_core.proofs.Logs.{log_length, value_at, read_at, read_values}
 
 -- What a move does to the runs that an element has made.
@@ -149,9 +149,9 @@ run_event {C} b p s e held below = by_exit (p.is_exit e) (is_again (b.decide e (
     by_exit true false x y = (Stable e, ((held, below), x, y), λ o. o)
     by_exit true true x y = (Again e, ((held, below), x, y), λ o. o)
 
-move_event : {C : Type 0} (b : Behaviour C) (p : Shape) (s : State C) (m : Move) → CanMove p (settled s) m → (ev : Event) × Enabled b p s ev × (IsOffer ev → ⊥)
-move_event {C} b p s (Tell a v) can = (Send a v, can, λ o. o)
-move_event {C} b p s (Run e) can = by_status (s e).status refl can.0
+move_event : {C : Type 0} (b : Behaviour C) (p : Shape) (s : State C) → Axioms p → Kept p (settled s) → (m : Move) → CanMove p (settled s) m → (ev : Event) × Enabled b p s ev × (IsOffer ev → ⊥)
+move_event {C} b p s ax k (Tell a v) can = (Send a v, (ax.shape.above a v (k.along a v can), ax.shape.below a v (k.along a v can), can), λ o. o)
+move_event {C} b p s ax k (Run e) can = by_status (s e).status refl can.0
   where
     by_status : (st : Status) → (s e).status ≡ st → settle st ≡ Held → (ev : Event) × Enabled b p s ev × (IsOffer ev → ⊥)
     by_status (Waiting n) q h = absurd (cc)
@@ -181,9 +181,9 @@ is_over : {C : Type 0} {b : Behaviour C} {p : Shape} {end s : State C} {n : ℕ}
 is_over (here q) final = q
 is_over (onward m can count rest) final = absurd (final m can)
 
-goes_on : {C : Type 0} {b : Behaviour C} {p : Shape} {end s : State C} {n : ℕ} → Reaches b p end n (settled s) → is_done (end p.last).status ≡ true → is_done (s p.last).status ≡ false → (ev : Event) × Enabled b p s ev × (IsOffer ev → ⊥)
-goes_on {C} {b} {p} {end} {s} (here q) d u = absurd (let t : is_done (settle (s p.last).status) ≡ true = ap (λ (x : State C). is_done (x p.last).status) q ∙ d in let r = settle_done (s p.last).status in cc)
-goes_on {C} {b} {p} {end} {s} (onward m can count rest) d u = move_event b p s m can
+goes_on : {C : Type 0} {b : Behaviour C} {p : Shape} {end s : State C} {n : ℕ} → Axioms p → Kept p (settled s) → Reaches b p end n (settled s) → is_done (end p.last).status ≡ true → is_done (s p.last).status ≡ false → (ev : Event) × Enabled b p s ev × (IsOffer ev → ⊥)
+goes_on {C} {b} {p} {end} {s} ax k (here q) d u = absurd (let t : is_done (settle (s p.last).status) ≡ true = ap (λ (x : State C). is_done (x p.last).status) q ∙ d in let r = settle_done (s p.last).status in cc)
+goes_on {C} {b} {p} {end} {s} ax k (onward m can count rest) d u = move_event b p s ax k m can
 
 -- a state, against the whole trace
 pub record Agrees {C : Type 0} (b : Behaviour C) (p : Shape) (runs : List (ℕ × C)) (s : State C) : Type 0 where
@@ -210,7 +210,7 @@ agrees {C} {b} {p} {end} {s} {n} {runs} ax fits w last kept reach = record {
     | inl b ↦ absurd (let d = before_done kept u e b (ap (λ (st : Status). is_waiting (settle st)) he) in let t = ap (λ (st : Status). is_done (settle st)) hu in cc)
     | inr b ↦ absurd (let d = before_done kept e u b (ap (λ (st : Status). is_waiting (settle st)) hu) in let t = ap (λ (st : Status). is_done (settle st)) he in cc)
   ];
-  goes_on = λ ne. goes_on reach (w.done p.last last) (not_done (s p.last).status ne);
+  goes_on = λ ne. goes_on ax kept reach (w.done p.last last) (not_done (s p.last).status ne);
   ends = λ over e below.
       let last_done : is_done (settle (s p.last).status) ≡ true = ap (λ (st : Status). is_done (settle st)) over in
       let final = all_over ax kept last_done in

@@ -1,6 +1,5 @@
 -- The recursion is one way through the moves.
-use Rattle.std.proofs.Common.{◌≡◌, ◌≢◌, ℕ, zero, suc, ◌+◌, ◌<◌, ◌≤◌, ◌==◌, List, [], ◌∷◌, ◌++◌, map, drop, length, count_by, Bool, true, false, if◌then◌else◌, cond, not, ◌&&◌, ◌||◌, refl, sym, ap, subst, ◌∙◌, arith, rules, inl, inr, ◌⊎◌, add-one, append_assoc, append-nil}
-use Rattle.std.proofs.lemmas.List.{length-map}
+use Rattle.std.proofs.Common.{◌≡◌, ◌≢◌, ℕ, zero, suc, ◌+◌, ◌<◌, ◌≤◌, ◌==◌, List, [], ◌∷◌, ◌++◌, map, drop, length, Bool, true, false, if◌then◌else◌, not, ◌||◌, refl, sym, ap, subst, ◌∙◌, arith, inl, inr, append_assoc}
 use Rattle.pk_plan.specs.Order.{Level, Empty, Vertex_then, Component_then}
 use Rattle.pk_iterate.specs.declared.systems.Decision.{Decision}
 use Rattle.pk_iterate.specs.declared.systems.Decision.TheVariants.{Stable, Again}
@@ -8,18 +7,17 @@ use Rattle.pk_iterate.specs.Behaviour.{Behaviour, decided_cell, is_again}
 use Rattle.pk_iterate.specs.Iteration.{Task, Run as RunTask, Exit, to_do, element_of, inputs_after, cell_after, Progress, progress, next_run, decided}
 use Rattle.pk_iterate.proofs.Jumps.{jump}
 use Rattle.pk_iterate.proofs.Next.{length-to_do}
-use Rattle.pk_plan.specs.declared.places.Place.{Place}
 use Rattle.pk_plan.specs.Order.{places_of}
 use Rattle.pk_core.specs.declared.events.Status.{Status}
 use Rattle.pk_core.specs.declared.events.Status.TheVariants.{Waiting, Open, Held, Done}
 use Rattle.pk_plan.specs.Shape.{Shape, has}
-use Rattle.pk_core.specs.Events.{inner, after_run_at, after_send_at, arrived, without, start, start_status}
+use Rattle.pk_core.specs.Events.{without, start, start_status}
 use Rattle.pk_core.proofs.Moves.{Axioms, Move, Run, Tell, moved, CanMove, restarts, gives, log_of}
 use Rattle.pk_core.specs.States.{Made, Element, State, inputs_of, cell_in, newest}
-use Rattle.pk_core.specs.Orders.{elements_left, IsTask, IsPlaced, IsOrderOf}
-use Rattle.pk_core.proofs.Basics.{cases, not_true, neq, same, itself, count_cons, counted_same}
-use Rattle.pk_core.proofs.Keeps.{is_done, is_waiting, owing, missing, Due, Kept, kept_moved, count_none, after_send, after_run, run_else, restart_else, restart_sends, restart_not_done, done_arrived, apart_of}
-use Rattle.pk_core.proofs.Settled.{settle, settle_one, settled, settled_moved, kept_start}
+use Rattle.pk_core.specs.Orders.{elements_left, IsPlaced, IsOrderOf}
+use Rattle.pk_core.proofs.Basics.{cases, neq, same, itself, counted_same}
+use Rattle.pk_core.proofs.Keeps.{is_done, owing, missing, Due, Kept, kept_moved, count_none, after_send, after_run, run_else, restart_else, restart_sends, restart_not_done, done_arrived, apart_of}
+use Rattle.pk_core.proofs.Settled.{settle, settled, settled_moved, kept_start}
 use Rattle.pk_core.proofs.Front.{Reaches, here, onward, weight}
 
 -- one move more at the end

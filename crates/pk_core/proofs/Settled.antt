@@ -1,18 +1,18 @@
 -- Offers and claims aside, an event is a move.
-use Rattle.std.proofs.Common.{◌≡◌, ◌≢◌, ℕ, zero, suc, ◌+◌, ◌<◌, ◌==◌, List, [], ◌∷◌, map, length, count_by, Bool, true, false, if◌then◌else◌, cond, not, ◌&&◌, refl, sym, ap, subst, ◌∙◌, arith, rules, inl, inr, ◌⊎◌}
+use Rattle.std.proofs.Common.{◌≡◌, ℕ, zero, suc, ◌==◌, List, [], ◌∷◌, length, count_by, Bool, true, false, if◌then◌else◌, not, ◌&&◌, refl, sym, ap, ◌∙◌, arith}
 use Rattle.pk_iterate.specs.Behaviour.{Behaviour}
 use Rattle.pk_core.specs.declared.events.Status.{Status}
 use Rattle.pk_core.specs.declared.events.Status.TheVariants.{Waiting, Open, Held, Done}
 use Rattle.pk_core.specs.declared.events.Event.{Event}
 use Rattle.pk_core.specs.declared.events.Event.TheVariants.{Offer, Claim, Finish, Send, Stable, Again}
-use Rattle.pk_plan.specs.Shape.{Shape, has}
+use Rattle.pk_plan.specs.Shape.{Shape}
 use Rattle.pk_core.specs.Events.{inner, after_run_at, after_send_at, arrived, without, start, start_status, Enabled, after, applied, decided, with_status}
-use Rattle.pk_core.proofs.Moves.{Axioms, Move, Run, Tell, moved, CanMove, restarts, gives}
+use Rattle.pk_core.proofs.Moves.{Move, Run, Tell, moved, CanMove, restarts, gives}
 use Rattle.pk_core.specs.States.{Made, Element, State, inputs_of}
 use Rattle.pk_core.specs.Promises.{is_run}
 use Rattle.pk_core.proofs.Front.{weight}
-use Rattle.pk_core.proofs.Basics.{cases, not_true, neq, same, itself, count_cons, counted_same}
-use Rattle.pk_core.proofs.Keeps.{is_done, is_waiting, owing, missing, Due, Kept}
+use Rattle.pk_core.proofs.Basics.{same, count_cons, counted_same}
+use Rattle.pk_core.proofs.Keeps.{is_done, owing, missing, Due, Kept}
 
 abbrev pub settle : Status → Status
 settle (Waiting n) = Waiting n
@@ -73,7 +73,7 @@ pub does : {C : Type 0} (b : Behaviour C) (p : Shape) (s : State C) (ev : Event)
 does b p s (Offer e) can = nothing (λ i u. same_status Open (u == e) (s u) (λ q. sym (ap (λ (j : ℕ). settle (s j).status) (same u e q) ∙ ap settle can.0)) i) refl
 does b p s (Claim e) can = nothing (λ i u. same_status Held (u == e) (s u) (λ q. sym (ap (λ (j : ℕ). settle (s j).status) (same u e q) ∙ ap settle can.0)) i) refl
 does b p s (Finish e) can = move (Run e) (ap settle can.0.0, can.0.1) (run_is b p s e false false (applied b s e) can.1 refl refl) refl
-does b p s (Send a v) can = move (Tell a v) can (λ i u. settled_sent a v u (s u) i) refl
+does b p s (Send a v) can = move (Tell a v) can.2 (λ i u. settled_sent a v u (s u) i) refl
 does b p s (Stable x) can = move (Run x) (ap settle can.0.0, can.0.1) (run_is b p s x true false (decided b s x) can.1 can.2 refl) refl
 does b p s (Again x) can = move (Run x) (ap settle can.0.0, can.0.1) (run_is b p s x true true (decided b s x) can.1 can.2 refl) refl
 

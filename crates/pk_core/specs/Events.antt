@@ -27,7 +27,7 @@ abbrev pub Enabled : {C : Type 0} → Behaviour C → Shape → State C → Even
 Enabled b p s (Offer e) = IsHeld p s e
 Enabled b p s (Claim e) = ((s e).status ≡ Open) × (e < p.elements)
 Enabled b p s (Finish e) = IsHeld p s e × (p.is_exit e ≡ false)
-Enabled b p s (Send u v) = has v (s u).sends ≡ true
+Enabled b p s (Send u v) = (u < p.elements) × (v < p.elements) × (has v (s u).sends ≡ true)
 Enabled b p s (Stable x) = IsHeld p s x × (p.is_exit x ≡ true) × (decides_again b s x ≡ false)
 Enabled b p s (Again x) = IsHeld p s x × (p.is_exit x ≡ true) × (decides_again b s x ≡ true)
 
