@@ -15,3 +15,4 @@ pub mod Restarting
 pub mod Stepping
 pub mod Listed
 pub mod Played_on
+pub mod Nested_meets

@@ -100,12 +100,12 @@ bool_same true t f g = sym (f refl)
 bool_same false true f g = g refl
 bool_same false false f g = refl
 
-holds_is : (p : PlanView) (x u : ℕ) → exits p x ≡ true → u < p.elements → holds p x u ≡ is_inside p (component_of p x) u
+pub holds_is : (p : PlanView) (x u : ℕ) → exits p x ≡ true → u < p.elements → holds p x u ≡ is_inside p (component_of p x) u
 holds_is p x u exit below =
     let test = below_true u p.elements below in
     rw (exit, test) refl
 
-members_are : (p : PlanView) (c : Component) (u : ℕ) → PlanAxioms p → Of p c → u < p.elements → has u (members_of p c) ≡ is_inside p c u
+pub members_are : (p : PlanView) (c : Component) (u : ℕ) → PlanAxioms p → Of p c → u < p.elements → has u (members_of p c) ≡ is_inside p c u
 members_are p c u axioms of below =
     let tells = is_inside_tells p c u axioms of below in
     bool_same (has u (members_of p c)) (is_inside p c u) (λ h. tells.1 (of_has u (members_of p c) h)) (λ t. has_of u (members_of p c) (tells.0 t))

@@ -3,6 +3,7 @@ pub mod Events
 pub mod Orders
 pub mod Fits
 pub mod Promises
+pub mod Nested
 pub mod Shown
 pub mod Steps
 pub mod Entries

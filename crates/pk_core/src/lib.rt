@@ -13,5 +13,5 @@ mod starts;
 
 pub use cores::Core;
 pub use events::{Event, Status};
-pub use laws::every_list_keeps;
+pub use laws::{every_list_keeps, nested_meets_all};
 pub use playing::{PlayError, play};
