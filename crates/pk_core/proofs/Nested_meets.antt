@@ -1,17 +1,17 @@
 -- The plan with a component in a component meets what is asked.
-use Rattle.std.proofs.Common.{◌≡◌, ◌≢◌, ℕ, zero, suc, ◌+◌, ◌<◌, ◌==◌, ◌||◌, ◌&&◌, ◌⊎◌, inl, inr, List, [], ◌∷◌, length, drop, get_or, Bool, true, false, refl, sym, ap, subst, ◌∙◌, arith, All, Contains}
+use Rattle.std.proofs.Common.{◌≡◌, ◌≢◌, ℕ, zero, suc, ◌<◌, ◌==◌, ◌⊎◌, inl, inr, List, [], ◌∷◌, drop, get_or, true, false, refl, sym, subst, arith, Contains}
 use Rattle.std.proofs.Math.Dec.{ltb}
 use Rattle.std.proofs.lemmas.Bool.Decides.{nat_tests}
 use Rattle.std.specs.List.Sorted.{IsStrictlyIncreasing}
 use Rattle.std.proofs.lemmas.List.Elements.{All-from_recursion}
 use Rattle.pk_plan.specs.declared.components.Component.{Component}
-use Rattle.pk_plan.specs.Order.{Level, Empty, Component_then}
-use Rattle.pk_plan.specs.Plans.{PlanView, predecessors_of, successors_of, place_of, Constrains, Precedes, One, More, Inside}
+use Rattle.pk_plan.specs.Order.{Empty, Component_then}
+use Rattle.pk_plan.specs.Plans.{predecessors_of, place_of, Constrains, Precedes, One, More, Inside}
 use Rattle.pk_plan.specs.Axioms.{Axioms}
-use Rattle.pk_plan.specs.Shape.{has, holds, exits, shape_of}
+use Rattle.pk_plan.specs.Shape.{has, holds, shape_of}
 use Rattle.pk_iterate.specs.Iteration.{Task, Run, Exit, to_do, progress}
 use Rattle.pk_iterate.specs.Ending.{Ends}
-use Rattle.pk_core.specs.Orders.{IsTask, IsPlaced, IsOrderOf}
+use Rattle.pk_core.specs.Orders.{IsPlaced, IsOrderOf}
 use Rattle.pk_core.specs.Fits.{FitsPlan, IsHeadOver}
 use Rattle.pk_core.specs.Nested.{nested_plan, nested_order, nested_system, NestedMeetsAll}
 use Rattle.pk_core.proofs.Basics.{neq}
