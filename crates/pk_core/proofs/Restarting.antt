@@ -1,0 +1,70 @@
+-- A component that is gone through again.
+use Rattle.std.proofs.Common.{◌≡◌, ℕ, ◌+◌, ◌-◌, ◌<◌, ◌≤◌, ◌&&◌, List, [], ◌∷◌, ◌++◌, length, take, get_or, Bool, true, false, refl, sym, ap, ◌∙◌, arith}
+use Rattle.std.proofs.Math.Dec.{leb, ltb}
+use Rattle.std.proofs.lemmas.Bool.Decides.{nat_tests}
+use Rattle.std.proofs.lemmas.List.{take_more, get_or_default}
+use Rattle.pk_plan.specs.declared.components.Component.{Component}
+use Rattle.pk_plan.specs.Plans.{PlanView, end_of}
+use Rattle.pk_plan.specs.Axioms.{Axioms as PlanAxioms}
+use Rattle.pk_plan.specs.Shape.{component_of, exits}
+use Rattle.pk_plan.proofs.PlanLemmas.{Of, exit_at}
+use Rattle.pk_core.specs.declared.events.Status.{Status}
+use Rattle.pk_core.specs.Shown.{Standing}
+use Rattle.pk_core.specs.Entries.{changed, with_new_status, armed, rearmed, AreKept}
+use Rattle.pk_iterate.specs.Behaviour.{Behaviour}
+use Rattle.pk_core.proofs.Changed_at.{length_changed, kept_changed}
+
+-- ---- the component of an exit
+
+and_both : (s t : Bool) → (s && t) ≡ true → (s ≡ true) × (t ≡ true)
+and_both true t h = (refl, h)
+and_both false t h = absurd (cc)
+
+below_tells : (a b : ℕ) → ltb a b ≡ true → a < b
+below_tells a b h = grind (arith, nat_tests)
+
+most_tells : (a b : ℕ) → leb a b ≡ true → a ≤ b
+most_tells a b h = grind (arith, nat_tests)
+
+pub exit_range : (p : PlanView) (x : ℕ) → exits p x ≡ true → (p.points ≤ x) × (x < end_of p)
+exit_range p x h =
+    let b = and_both (leb p.points x) (ltb x (end_of p)) h in
+    (most_tells p.points x b.0, below_tells x (end_of p) b.1)
+
+pub of_exit : (p : PlanView) (x : ℕ) → exits p x ≡ true → Of p (component_of p x)
+of_exit p x h =
+    let r = exit_range p x h in
+    let in_range : x - p.points < length p.components = omega (arith, r.0, r.1) in
+    (x - p.points, in_range, get_or_default p.components (x - p.points) _ _ in_range)
+
+pub exit_is : (p : PlanView) (x : ℕ) → PlanAxioms p → (h : exits p x ≡ true) → (component_of p x).exit ≡ x
+unfolding of_exit
+exit_is p x axioms h =
+    let r = exit_range p x h in
+    let at : (component_of p x).exit ≡ p.points + (x - p.points) = exit_at p (component_of p x) axioms (of_exit p x h) in
+    omega (arith, r.0, at)
+
+-- ---- one member more
+
+rearmed_more : {C : Type 0} (p : PlanView) (c : Component) (es : List ℕ) (e : ℕ) (xs : List (Standing C)) → rearmed p c (es ++ e ∷ []) xs ≡ changed (rearmed p c es xs) e (with_new_status (armed p c e))
+rearmed_more p c [] e xs = refl
+rearmed_more p c (k ∷ es) e xs = rearmed_more p c es e (changed xs k (with_new_status (armed p c k)))
+
+pub rearm_step : {C : Type 0} (p : PlanView) (c : Component) (ms items : List ℕ) (i : ℕ) (xs now : List (Standing C)) (status : Status) → items ≡ ms → i < length items → now ≡ rearmed p c (take i ms) xs → status ≡ armed p c (get_or items i 0) → changed now (get_or items i 0) (with_new_status status) ≡ rearmed p c (take (i + 1) ms) xs
+rearm_step p c ms items i xs now status same in_range so_far is =
+    let e : ℕ = get_or items i 0 in
+    let more : take (i + 1) ms ≡ take i ms ++ e ∷ [] = ap (take (i + 1)) (sym same) ∙ take_more items i 0 in_range ∙ ap (λ (l : List ℕ). take i l ++ e ∷ []) same in
+    ap (λ (zs : List (Standing _)). changed zs e (with_new_status status)) so_far
+    ∙ ap (λ (st : Status). changed (rearmed p c (take i ms) xs) e (with_new_status st)) is
+    ∙ sym (rearmed_more p c (take i ms) e xs)
+    ∙ ap (λ (l : List ℕ). rearmed p c l xs) (sym more)
+
+-- ---- what is kept
+
+pub length_rearmed : {C : Type 0} (p : PlanView) (c : Component) (es : List ℕ) (xs : List (Standing C)) → length (rearmed p c es xs) ≡ length xs
+length_rearmed p c [] xs = refl
+length_rearmed p c (e ∷ es) xs = length_rearmed p c es (changed xs e (with_new_status (armed p c e))) ∙ length_changed xs e (with_new_status (armed p c e))
+
+pub kept_rearmed : {C : Type 0} (b : Behaviour C) (may_hold : ℕ → C → Type 0) (n : ℕ) (p : PlanView) (c : Component) (es : List ℕ) (xs : List (Standing C)) → AreKept b may_hold n xs → AreKept b may_hold n (rearmed p c es xs)
+kept_rearmed b may_hold n p c [] xs kept = kept
+kept_rearmed b may_hold n p c (e ∷ es) xs kept = kept_rearmed b may_hold n p c es (changed xs e (with_new_status (armed p c e))) (kept_changed b may_hold n xs e (with_new_status (armed p c e)) kept (λ x held. held))

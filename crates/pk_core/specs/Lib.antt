@@ -1,0 +1,10 @@
+pub mod States
+pub mod Events
+pub mod Orders
+pub mod Fits
+pub mod Promises
+pub mod Nested
+pub mod Shown
+pub mod Steps
+pub mod Entries
+pub mod Refusals
