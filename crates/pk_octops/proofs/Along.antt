@@ -40,7 +40,7 @@ neg_neg z = omega (arith, ints)
 neg_zero : pos 0 ≡ neg_ℤ (pos 0)
 neg_zero = omega (arith, ints)
 
-gain_bar : (k : ℕ) (c : ℤ) (i : ℕ) → gain k c (bar i) ≡ neg_ℤ (gain k c i)
+pub gain_bar : (k : ℕ) (c : ℤ) (i : ℕ) → gain k c (bar i) ≡ neg_ℤ (gain k c i)
 gain_bar k c i = by (i == (2 * k)) refl (i == (2 * k + 1)) refl
   where
     by : (p : Bool) → (i == (2 * k)) ≡ p → (q : Bool) → (i == (2 * k + 1)) ≡ q → gain k c (bar i) ≡ neg_ℤ (if p then c else (if q then neg_ℤ c else pos 0))

@@ -9,7 +9,7 @@ ghost use Rattle.pk_state.specs.Changes.{IsValue, known_in, bound_in, with_known
 use crate::facts::Facts;
 use crate::frame::Frame;
 use crate::marks::put_loose;
-use crate::octagons::shared;
+use crate::octagons::{keeps_closed, shared};
 use crate::state::State;
 use pk_ctypes::IntType;
 use pk_octmat::{Matrix, Shape};
@@ -60,13 +60,6 @@ fn write_if(
     }
 }
 
-// Whether an octagon that is closed or not is closed behind an assignment: where its variable is forgotten.
-fn stays_closed(closed: bool, term: Option<u32>) -> bool
-    ensures { result ≡ true → (closed ≡ true) × (term ≡ None) }
-{
-    closed && term.is_none()
-}
-
 // Whether an octagon is closed that comes of one that is closed or not: where it is the same.
 fn is_closed_still(closed: bool, old: &Matrix, new: &Matrix) -> bool
     ensures { result ≡ true → (closed ≡ true) × (new.now ≡ old.now) }
@@ -92,7 +85,7 @@ fn assign_if(
         None => Ok(None),
         Some(facts) => {
             let m = assign(&facts.octagon, k, term, c)?;
-            let closed = stays_closed(facts.closed, term);
+            let closed = keeps_closed(&facts.octagon, facts.closed, k, term);
             Ok(Some(Facts {
                 octagon: shared(alloc, &facts.octagon, m)?,
                 values: facts.values,

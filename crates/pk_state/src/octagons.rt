@@ -7,8 +7,9 @@ ghost use Rattle.pk_octops.specs.Tables.{join_of, widening_of, narrowing_of};
 ghost use Rattle.pk_state.specs.Facts.{AreValues};
 ghost use Rattle.pk_octmat.specs.Bounds.{lesser, capped};
 ghost use Rattle.pk_octmat.specs.Octagon.{entry};
+ghost use Rattle.pk_octclose.specs.Laws.{IsInside};
 ghost use Rattle.pk_octclose.specs.Places.{closing_of};
-ghost use Rattle.pk_state.specs.Marks.{IsClosedIf};
+ghost use Rattle.pk_state.specs.Marks.{IsClosedIf, IsFar, KeepsClosed};
 ghost use Rattle.pk_state.specs.Reduced.{by_range, by_ranges};
 
 use crate::frame::Frame;
@@ -48,6 +49,49 @@ pub(crate) fn lower_all(m: &mut Matrix, values: &Blocks<Value>, frame: &Frame)
         let value = values.get(x);
         lower(m, k as u32, frame.int_type(x), &value.interval);
     }
+}
+
+// Whether a bound is a number far from the cap.
+fn is_inside(bound: Bound) -> bool
+    ensures { result ≡ true → IsInside bound }
+{
+    match bound.number() {
+        None => false,
+        Some(z) => -(1 << 66) < z,
+    }
+}
+
+// Whether each bound on a variable is so.
+fn is_far(m: &Matrix, k: u32) -> bool
+    requires { k < m.now.vars }
+    ensures { result ≡ true → IsFar m.now k }
+{
+    for j in 0..2 * m.vars {
+        if !is_inside(m.bound(2 * k, j)) || !is_inside(m.bound(2 * k + 1, j)) {
+            return false;
+        }
+    }
+    true
+}
+
+// Whether what is closed stays so: where the variable is forgotten, or gains a constant far from the cap.
+fn is_kept(m: &Matrix, k: u32, term: Option<u32>) -> bool
+    requires { k < m.now.vars }
+    ensures { result ≡ true → KeepsClosed m.now k term }
+{
+    m.is_octagon();
+    match term {
+        None => true,
+        Some(t) => t == 2 * k && is_far(m, k),
+    }
+}
+
+/// Whether an octagon that is closed or not is closed behind an assignment.
+pub(crate) fn keeps_closed(m: &Matrix, closed: bool, k: u32, term: Option<u32>) -> bool
+    requires { k < m.now.vars }
+    ensures { result ≡ true → (closed ≡ true) × KeepsClosed m.now k term }
+{
+    closed && is_kept(m, k, term)
 }
 
 // Twice a number, or one past the cap on its side.
