@@ -6,14 +6,8 @@ use pk_typed::{Body, CallSite, FileObject, Function, Local, Start, Unit};
 use std::alloc::Global;
 use std::test::Fail;
 
-// A function with a body, these calls and so many objects without a name.
-fn with_body(
-    alloc: Global,
-    name: &str,
-    calls: Vec<CallSite>,
-    objects: usize,
-) -> Result<Function, Fail> {
-    let at = Pos { line: 1, column: 1 };
+// So many objects without a name.
+fn nameless(alloc: Global, objects: usize) -> Result<Vec<Local>, Fail> {
     let mut locals = Vec::new(alloc);
     for _ in 0..objects {
         locals.push(Local {
@@ -22,6 +16,30 @@ fn with_body(
             length: None,
         })?;
     }
+    Ok(locals)
+}
+
+// A function without a body.
+fn without_body(alloc: Global, name: &str) -> Result<Function, Fail> {
+    let name = Name::new(alloc, name.as_bytes())?;
+    Ok(Function {
+        name,
+        returns: None,
+        parameters: Vec::new(alloc),
+        body: None,
+    })
+}
+
+// A function with a body, these calls and so many objects without a name.
+fn with_body(
+    alloc: Global,
+    name: &str,
+    calls: Vec<CallSite>,
+    objects: usize,
+) -> Result<Function, Fail> {
+    let name = Name::new(alloc, name.as_bytes())?;
+    let locals = nameless(alloc, objects)?;
+    let at = Pos { line: 1, column: 1 };
     let body = Body {
         open: at,
         close: at,
@@ -32,7 +50,7 @@ fn with_body(
         items: Vec::new(alloc),
     };
     Ok(Function {
-        name: Name::new(alloc, name.as_bytes())?,
+        name,
         returns: None,
         parameters: Vec::new(alloc),
         body: Some(body),
@@ -50,22 +68,13 @@ fn number(functions: &str, name: &str) -> Result<usize, Fail> {
     Err(Fail::from("a function that is called stands in the list"))
 }
 
-// A function as `f:g h`, which calls g and h in a line of its own, or `f`, which has no body.
-fn function(
+// The calls of these functions, in a line of their own.
+fn calls_of(
     alloc: Global,
     functions: &str,
-    text: &str,
+    callees: &str,
     line: u64,
-    objects: usize,
-) -> Result<Function, Fail> {
-    let Some((name, callees)) = text.split_once(':') else {
-        return Ok(Function {
-            name: Name::new(alloc, text.as_bytes())?,
-            returns: None,
-            parameters: Vec::new(alloc),
-            body: None,
-        });
-    };
+) -> Result<Vec<CallSite>, Fail> {
     let mut calls = Vec::new(alloc);
     let mut column = 1u64;
     for callee in callees.split_whitespace() {
@@ -74,7 +83,24 @@ fn function(
         calls.push(CallSite { function, at })?;
         column = column.saturating_add(1);
     }
-    with_body(alloc, name, calls, objects)
+    Ok(calls)
+}
+
+// A function as `f:g h`, which calls g and h in a line of its own, or `f`, which has no body.
+fn function(
+    alloc: Global,
+    functions: &str,
+    text: &str,
+    line: u64,
+    objects: usize,
+) -> Result<Function, Fail> {
+    match text.split_once(':') {
+        None => without_body(alloc, text),
+        Some((name, callees)) => {
+            let calls = calls_of(alloc, functions, callees, line)?;
+            with_body(alloc, name, calls, objects)
+        }
+    }
 }
 
 // The unit of these functions, each with so many objects.
@@ -137,7 +163,7 @@ fn units(rt: HostRuntime) -> Result<(), Fail> {
     for row in &UNITS {
         let unit = unit(rt.alloc(), row.0, 0)?;
         let found = paths(rt.alloc(), &unit, row.1);
-        assert_eq!(rt; told(rt.alloc(), &found)?.as_str(), row.2, "{}", row.0);
+        assert!(rt; told(rt.alloc(), &found)?.as_str() == row.2, "{}", row.0);
     }
     Ok(())
 }
@@ -147,9 +173,9 @@ fn doubling(alloc: Global, functions: u64, main: &str) -> Result<String, Fail> {
     let mut text = String::new(alloc);
     for f in 1..functions {
         let next = f + 1;
-        text.push_str(format!(in alloc; "f{f}:f{next} f{next};")?.as_str())?;
+        write!(text, "f{f}:f{next} f{next};")?;
     }
-    text.push_str(format!(in alloc; "f{functions}:;g:;main:{main}")?.as_str())?;
+    write!(text, "f{functions}:;g:;main:{main}")?;
     Ok(text)
 }
 
@@ -165,7 +191,7 @@ fn path_limit(rt: HostRuntime) -> Result<(), Fail> {
         let text = doubling(rt.alloc(), row.0, row.1)?;
         let unit = unit(rt.alloc(), &text, 0)?;
         let found = paths(rt.alloc(), &unit, "main");
-        assert_eq!(rt; told(rt.alloc(), &found)?.as_str(), row.2, "{text}");
+        assert!(rt; told(rt.alloc(), &found)?.as_str() == row.2, "{text}");
     }
     Ok(())
 }
@@ -190,7 +216,7 @@ fn variable_limit(rt: HostRuntime) -> Result<(), Fail> {
             })?;
         }
         let found = paths(rt.alloc(), &unit, "main");
-        assert_eq!(rt; told(rt.alloc(), &found)?.as_str(), row.2);
+        assert!(rt; told(rt.alloc(), &found)?.as_str() == row.2);
     }
     Ok(())
 }
@@ -206,16 +232,15 @@ fn numbers(rt: HostRuntime) -> Result<(), Fail> {
     for number in 0..paths.len() {
         let path = paths.path(number);
         let function = path.function;
-        let part = match path.caller {
-            None => format!(in rt.alloc(); "{function}")?,
+        match path.caller {
+            None => write!(text, "{function}")?,
             Some(caller) => {
-                assert_eq!(rt; paths.callee(caller.path, caller.call), number);
-                format!(in rt.alloc(); " {}.{}:{function}", caller.path, caller.call)?
+                assert!(rt; paths.callee(caller.path, caller.call) == number);
+                write!(text, " {}.{}:{function}", caller.path, caller.call)?;
             }
-        };
-        text.push_str(part.as_str())?;
+        }
     }
-    assert_eq!(rt; text.as_str(), "0 0.0:1 0.1:2 0.2:1 1.0:2 3.0:2");
+    assert!(rt; text.as_str() == "0 0.0:1 0.1:2 0.2:1 1.0:2 3.0:2");
     Ok(())
 }
 
@@ -243,12 +268,12 @@ fn chain(alloc: Global, functions: usize, last: Option<usize>) -> Result<Unit, F
 fn deep(rt: HostRuntime) -> Result<(), Fail> {
     let open = chain(rt.alloc(), 100_000, None)?;
     let found = paths(rt.alloc(), &open, "main");
-    assert_eq!(rt; told(rt.alloc(), &found)?.as_str(), "limit paths 4096");
+    assert!(rt; told(rt.alloc(), &found)?.as_str() == "limit paths 4096");
     let closed = chain(rt.alloc(), 100_000, Some(0))?;
     let Err(CallError::Recursion { cycle }) = paths(rt.alloc(), &closed, "main") else {
         return Err(Fail::from("the chain is closed"));
     };
-    assert_eq!(rt; cycle.as_slice().len(), 100_001);
+    assert!(rt; cycle.as_slice().len() == 100_001);
     Ok(())
 }
 
@@ -269,6 +294,6 @@ fn wide(rt: HostRuntime) -> Result<(), Fail> {
         functions,
     };
     let found = paths(rt.alloc(), &unit, "main");
-    assert_eq!(rt; told(rt.alloc(), &found)?.as_str(), "limit paths 4096");
+    assert!(rt; told(rt.alloc(), &found)?.as_str() == "limit paths 4096");
     Ok(())
 }

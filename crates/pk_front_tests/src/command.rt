@@ -4,11 +4,16 @@ use pk_command::{Command, WordsError, read_words};
 use std::alloc::Global;
 use std::test::Fail;
 
-fn answer(alloc: Global, words: &str) -> Result<Result<Command, WordsError>, Fail> {
+fn list_of(alloc: Global, words: &str) -> Result<Vec<String>, Fail> {
     let mut list = Vec::new(alloc);
     for word in words.split(' ') {
         list.push(String::from_str(alloc, word)?)?;
     }
+    Ok(list)
+}
+
+fn answer(alloc: Global, words: &str) -> Result<Result<Command, WordsError>, Fail> {
+    let list = list_of(alloc, words)?;
     Ok(read_words(alloc, &list))
 }
 

@@ -297,14 +297,13 @@ fn right_operand(op: Op, t: IntType, k: u32) -> i128
 }
 
 fn add_outcome(line: &mut String, outcome: Result<i128, Fault>) -> Result<(), Fail> {
-    let text = match outcome {
-        Ok(value) => format!(in *line.allocator(); " {value}")?,
-        Err(Fault::DivZero) => format!(in *line.allocator(); " z")?,
-        Err(Fault::Overflow) => format!(in *line.allocator(); " o")?,
-        Err(Fault::Shift) => format!(in *line.allocator(); " s")?,
-        Err(fault) => format!(in *line.allocator(); " {fault}")?,
-    };
-    line.push_str(&text)?;
+    match outcome {
+        Ok(value) => write!(line, " {value}")?,
+        Err(Fault::DivZero) => line.push_str(" z")?,
+        Err(Fault::Overflow) => line.push_str(" o")?,
+        Err(Fault::Shift) => line.push_str(" s")?,
+        Err(fault) => write!(line, " {fault}")?,
+    }
     Ok(())
 }
 
@@ -323,7 +322,7 @@ fn operators_are_those_of_c(rt: HostRuntime) -> Result<(), Fail> {
     for t in &TYPES {
         for (op, expected) in OPERATORS.iter().zip(table_of(*t)) {
             let line = outcomes(rt.alloc(), *op, *t)?;
-            assert_eq!(rt; line.as_str(), *expected, "{t:?}");
+            assert!(rt; line.as_str() == *expected, "{t:?}");
         }
     }
     Ok(())
@@ -349,10 +348,9 @@ fn common_types_are_those_of_c(rt: HostRuntime) -> Result<(), Fail> {
     for (a, expected) in TYPES.iter().zip(COMMON.iter()) {
         let mut line = format!(in rt.alloc(); "{:?}", promote(*a))?;
         for b in &TYPES {
-            let text = format!(in rt.alloc(); " {:?}", usual(*a, *b))?;
-            line.push_str(&text)?;
+            write!(line, " {:?}", usual(*a, *b))?;
         }
-        assert_eq!(rt; line.as_str(), *expected, "{a:?}");
+        assert!(rt; line.as_str() == *expected, "{a:?}");
     }
     Ok(())
 }
@@ -397,7 +395,7 @@ fn conversions_are_those_of_c(rt: HostRuntime) -> Result<(), Fail> {
         for number in &NUMBERS {
             add_outcome(&mut line, Ok(convert(*t, *number)))?;
         }
-        assert_eq!(rt; line.as_str(), *expected, "{t:?}");
+        assert!(rt; line.as_str() == *expected, "{t:?}");
     }
     Ok(())
 }
@@ -417,10 +415,7 @@ fn words_are_printed(rt: HostRuntime) -> Result<(), Fail> {
         Fault::Shift,
         Fault::Assert
     )?;
-    assert_eq!(rt;
-        words.as_str(),
-        "index divzero overflow shift assert text 7:21"
-    );
+    assert!(rt; words.as_str() == "index divzero overflow shift assert text 7:21");
     Ok(())
 }
 
@@ -464,12 +459,11 @@ const CONSTRUCTS: [Construct; 33] = [
 fn constructs_are_printed(rt: HostRuntime) -> Result<(), Fail> {
     let mut words = String::new(rt.alloc());
     for construct in &CONSTRUCTS {
-        let word = format!(in rt.alloc(); "{construct} ")?;
-        words.push_str(word.as_str())?;
+        write!(words, "{construct} ")?;
     }
-    assert_eq!(rt;
-        words.as_str(),
-        "float double _Bool _Complex _Imaginary struct union enum typedef volatile restrict inline register auto sizeof asm __asm__ __attribute__ __extension__ \
+    assert!(rt;
+        words.as_str()
+            == "float double _Bool _Complex _Imaginary struct union enum typedef volatile restrict inline register auto sizeof asm __asm__ __attribute__ __extension__ \
          __inline __restrict static . ... -> string floating directive pointer brackets arrays designator later "
     );
     Ok(())
@@ -487,7 +481,7 @@ fn names_are_copied(rt: HostRuntime) -> Result<(), Fail> {
     let names = Names::new(rt.alloc(), &list)?;
     let copy = names.copy()?;
     let text = format!(in rt.alloc(); "{copy}")?;
-    assert_eq!(rt; text.as_str(), "f g a\u{fffd}b");
-    assert_eq!(rt; names.as_slice().len(), 3);
+    assert!(rt; text.as_str() == "f g a\u{fffd}b");
+    assert!(rt; names.as_slice().len() == 3);
     Ok(())
 }

@@ -12,7 +12,7 @@ ghost use Rattle.pk_lower_statement.specs.Statements as rows;
 
 use crate::declarations::{declare, declare_all};
 use crate::jumps::return_value;
-use crate::switches::{begin_switch, tested};
+use crate::switches::open_switch;
 use pk_ctypes::{IntType, Pos};
 use pk_draft::Draft;
 use pk_graph::Instr;
@@ -228,17 +228,7 @@ fn lower_switch(
         cases.now has_default (rows.lowered (context_in context.now) (statement_tree body.now)) exits (drafts.on at (drafted draft.old))) }
 {
     draft.on(at);
-    let tree = tested(context, draft, int_type, value)?;
-    let site = context.site(at);
-    let end = begin_switch(
-        context.alloc,
-        draft,
-        site,
-        int_type,
-        cases,
-        has_default,
-        &tree,
-    )?;
+    let end = open_switch(context, draft, at, int_type, value, cases, has_default)?;
     let inner = Exits {
         broken: end,
         cases: end + 1,

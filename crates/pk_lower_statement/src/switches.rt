@@ -6,10 +6,11 @@ ghost use Rattle.pk_graph.specs.Views.{tree_view};
 ghost use Rattle.pk_draft.specs.Shown.{drafted};
 ghost use Rattle.pk_lower_row.specs.Rows.{operand};
 ghost use Rattle.pk_lower_expression.specs.Expressions.{ways};
+ghost use Rattle.pk_lower_row.specs.Contexts as contexts;
 ghost use Rattle.pk_lower_row.specs.Views.{context_in, given};
 ghost use Rattle.pk_lower_statement.specs.Statements as rows;
 
-use pk_ctypes::IntType;
+use pk_ctypes::{IntType, Pos};
 use pk_draft::{Draft, equals};
 use pk_graph::{Site, Tree};
 use pk_lower_expression::value;
@@ -58,8 +59,8 @@ fn test_case(
     Ok(())
 }
 
-/// The promoted value, which waits for the tests.
-pub fn tested(
+// The promoted value, which waits for the tests.
+fn tested(
     context: &Context<'_>,
     draft: &mut Draft,
     int_type: IntType,
@@ -74,8 +75,8 @@ pub fn tested(
     held(context.alloc, draft, Waiting::Strong, shape, int_type, tree)
 }
 
-/// A `switch` up to its body, behind its value: the number of its end, behind which are its cases and the default.
-pub fn begin_switch(
+// A `switch` up to its body, behind its value: the number of its end, behind which are its cases and the default.
+fn begin_switch(
     alloc: Global,
     draft: &mut Draft,
     site: Site,
@@ -94,4 +95,34 @@ pub fn begin_switch(
     test_cases(alloc, draft, site, int_type, tree, cases, end + 1)?;
     draft.away(if has_default { end + 1 + count } else { end })?;
     Ok(end)
+}
+
+/// A `switch` up to its body: the number of its end, behind which are its cases and the default. The value's tree is let go here, once.
+pub fn open_switch(
+    context: &Context<'_>,
+    draft: &mut Draft,
+    at: Pos,
+    int_type: IntType,
+    switched: &Value,
+    cases: &[i128],
+    has_default: bool,
+) -> Result<usize, AllocError>
+    ensures draft { OnOk result (drafted draft.new ≡ rows.switch_begun (contexts.site (context_in context.now) at) int_type cases.now has_default
+        (rows.tested int_type (operand (value_tree switched.now) (ways (context_in context.now) (value_tree switched.now))) (drafted draft.old))) }
+    ensures end { IfOk result (λ e. e ≡ (rows.tested int_type (operand (value_tree switched.now) (ways (context_in context.now) (value_tree switched.now))) (drafted draft.old)).1.points) }
+    ensures fits { IfOk result (λ e. e + 1 + length cases.now < 2 ^ 64) }
+{
+    let tree = tested(context, draft, int_type, switched)?;
+    let site = context.site(at);
+    let end = begin_switch(
+        context.alloc,
+        draft,
+        site,
+        int_type,
+        cases,
+        has_default,
+        &tree,
+    );
+    drop(tree);
+    end
 }

@@ -5,18 +5,17 @@ use Rattle.pk_typed.specs.declared.statements.Statement.{Statement}
 use Rattle.pk_typed.specs.declared.statements.ForHead.{ForHead}
 use Rattle.pk_typed.specs.Views.{value_tree, effect_tree, for_start_tree, statement_tree, item_trees}
 use Rattle.pk_typed.proofs.ViewLemmas.{tree_of_block}
-use Rattle.pk_graph.specs.declared.trees.Tree.{Tree}
 use Rattle.pk_graph.specs.Views.{instr_view}
 use Rattle.pk_draft.specs.declared.drafts.Label.{Label}
 use Rattle.pk_draft.specs.Drafts.{DraftOf, on}
 use Rattle.pk_draft.specs.Shown.{drafted}
-use Rattle.pk_lower_row.specs.Contexts.{Context}
-use Rattle.pk_lower_row.specs.Rows.{operand}
-use Rattle.pk_lower_row.specs.Views.{context_in, given}
+use Rattle.pk_lower_row.specs.Contexts.{Context, site}
+use Rattle.pk_lower_row.specs.Rows.{Operand, operand}
+use Rattle.pk_lower_row.specs.Views.{context_in}
 use Rattle.std.specs.Prelude.{option_map}
 use Rattle.pk_lower_expression.specs.Expressions.{ways}
 use Rattle.pk_lower_statement.specs.declared.statements.Exits.{Exits}
-use Rattle.pk_lower_statement.specs.Statements.{in_switch, switch_begun, for_draft, for_start, for_test, performed_if, lowered}
+use Rattle.pk_lower_statement.specs.Statements.{in_switch, tested, for_draft, for_start, for_test, performed_if, lowered}
 use Rattle.pk_lower_statement.proofs.StepLemmas as step
 use Rattle.pk_lower_statement.proofs.StepLemmas.{on_ok}
 use Rattle.pk_lower_statement.proofs.statements.+statements.Goals as goal
@@ -134,7 +133,7 @@ lower_items-returns t c =
 pub lower_switch-returns : goal.lower_switch-returns
 lower_switch-returns t c =
     let k : Context = context_in c.args.context.now in
-    on_ok c.go.result (step.switch_is k c.args.at c.site-site.result c.args.int_type (operand (value_tree c.args.value.now) (ways k (value_tree c.args.value.now))) c.args.cases.now c.args.has_default (statement_tree c.args.body.now) c.args.exits
-    (in_switch c.in_ok-end.end (length c.args.cases.now) c.args.exits) c.in_ok-end.end (instr_view c.skip.result) (given c.in_ok-tree.tree.value c.tested.new.draft) (on c.args.at (drafted c.args.draft.now)) (drafted c.on.new.self) (drafted c.begin_switch.new.draft) (drafted c.lower.new.draft) (drafted c.go.new.self)
-    c.site-site.ensures c.on.ensures c.in_ok-tree.ensures c.in_ok-end.ensures.end
-    (c.in_ok-end.ensures.draft ∙ ap (λ (r : Tree). switch_begun c.site-site.result c.args.int_type c.args.cases.now c.args.has_default (given r c.tested.new.draft)) c.deref.ensures) refl c.in_ok-lower.ensures c.skip.ensures) c.go.ensures
+    let v : Operand ℕ = operand (value_tree c.args.value.now) (ways k (value_tree c.args.value.now)) in
+    on_ok c.go.result (step.switch_is k c.args.at (site k c.args.at) c.args.int_type v c.args.cases.now c.args.has_default (statement_tree c.args.body.now) c.args.exits
+    (in_switch c.in_ok-end.end (length c.args.cases.now) c.args.exits) c.in_ok-end.end (instr_view c.skip.result) (tested c.args.int_type v (drafted c.on.new.self)) (on c.args.at (drafted c.args.draft.now)) (drafted c.on.new.self) (drafted c.open_switch.new.draft) (drafted c.lower.new.draft) (drafted c.go.new.self)
+    refl c.on.ensures refl c.in_ok-end.ensures.end c.in_ok-end.ensures.draft refl c.in_ok-lower.ensures c.skip.ensures) c.go.ensures
