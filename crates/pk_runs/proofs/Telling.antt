@@ -1,14 +1,15 @@
 -- From the states of a report to the result of the analysis.
-use Rattle.std.specs.Prelude.{◌≡◌, ℕ, ◌+◌, ◌*◌, ◌<◌, ◌≤◌, ◌^◌, List, length, map, take, slice_index_or, Contains, None}
+use Rattle.std.specs.Prelude.{◌≡◌, ◌⊎◌, ℕ, ◌+◌, ◌*◌, ◌<◌, ◌≤◌, ◌^◌, List, length, map, take, slice_index_or, Contains, None}
 use Rattle.std.specs.List.{range_with_len}
-use Rattle.std.proofs.Common.{arith, sym, ap, subst, ◌∙◌}
+use Rattle.std.proofs.Common.{arith, sym, ap, subst, ◌∙◌, inl, inr}
 use Rattle.std.proofs.lemmas.List.{length-map, length-take-le, get_or-map, get_or-take}
 use Rattle.std.proofs.lemmas.List.FromFn.{length-range_with_len}
 use Rattle.std.proofs.lemmas.List.Elements.{All-get_or, All-contains}
 use Rattle.pk_graph.specs.declared.verdicts.Verdict.TheVariants.{Safe, Unreachable}
 use Rattle.pk_graph.specs.Accesses.{AccessOf, accesses_of}
 use Rattle.pk_graph.specs.Graphs.{EdgeOf, PointOf, GraphOf, no_point, point_at}
-use Rattle.pk_graph.specs.Stores.{Stored}
+use Rattle.pk_graph.specs.Steps.{Numbers, Failure, Faulted, effect}
+use Rattle.pk_graph.specs.Stores.{Stored, storing}
 use Rattle.pk_graph.specs.WellMade.{IsGraph, IsPointOf, IsEdgeOf}
 use Rattle.pk_state.specs.Facts.{Stated}
 use Rattle.pk_plan.specs.Plans.{PlanView}
@@ -25,7 +26,8 @@ use Rattle.pk_sound.specs.Runs.{Reaches, begins, steps}
 use Rattle.pk_sound.specs.Results.{IsAnalysed, cell_at}
 use Rattle.pk_sound.specs.Held.{Agrees, ResultHoldsRuns}
 use Rattle.pk_sound.specs.Verdicts.{FaultsIn, IsEvaluatedIn, VerdictsHold}
-use Rattle.pk_runs.specs.True.{ReportsAreTrue}
+use Rattle.pk_sound.specs.Faults.{IsHidden, IsFailing, IsUnknownAt, FaultsAreUnknown}
+use Rattle.pk_runs.specs.True.{IsUnknownIn, ReportsAreTrue}
 
 -- a run comes to points of the graph alone
 there : (g : GraphOf) (v : ℕ) (s : Stored) → IsGraph g → Reaches g v s → v < length g.points
@@ -71,9 +73,21 @@ module _ (g : GraphOf) (o : Options) (most : ℕ) (p : PlanView) (states : List 
   unreachable : VerdictsHold → (a : AccessOf) (s : Stored) → Contains (accesses_of g) a → Reaches g a.point s → verdict_at states a ≡ Unreachable → IsEvaluatedIn a.operation s → ⊥
   unreachable law a s has h is = (law g o p x.order x.flow most x.outcome analysed a s has h).unreachable (sym (verdict_is a (there g a.point s made h)) ∙ is)
 
-pub reports_true : ResultHoldsRuns → VerdictsHold → ReportsAreTrue
-reports_true runs verdicts g o most p states made few x = record {
+  unknown_is : (v : ℕ) (a : AccessOf) → v < length g.points → IsUnknownAt x.flow x.outcome v a → IsUnknownIn states v a
+  unknown_is v a l (lo, hi, is) = (lo, hi, ap (λ (t : Stated). verdict_of t.layout t.facts a.operation) (state_is v l) ∙ is)
+
+  faults : FaultsAreUnknown → (v : ℕ) (s : Stored) (e : EdgeOf) (chosen : Numbers) (w : Failure) → Reaches g v s → Contains (point_at g v).edges e → effect storing chosen e.instr s ≡ Faulted w
+      → ((a : AccessOf) × IsFailing v e.instr w s a × IsUnknownIn states v a) ⊎ IsHidden e.instr w.site
+  faults law v s e chosen w h has fails = by (law g o p x.order x.flow most x.outcome analysed v s e chosen w h has fails)
+    where
+      by : ((a : AccessOf) × IsFailing v e.instr w s a × IsUnknownAt x.flow x.outcome v a) ⊎ IsHidden e.instr w.site → ((a : AccessOf) × IsFailing v e.instr w s a × IsUnknownIn states v a) ⊎ IsHidden e.instr w.site
+      by (inl (a, f, u)) = inl (a, f, unknown_is v a (there g v s made h) u)
+      by (inr hidden) = inr hidden
+
+pub reports_true : ResultHoldsRuns → VerdictsHold → FaultsAreUnknown → ReportsAreTrue
+reports_true runs verdicts unknowns g o most p states made few x = record {
   holds = holds g o most p states made few x runs;
   safe = safe g o most p states made few x verdicts;
   unreachable = unreachable g o most p states made few x verdicts;
+  faults = faults g o most p states made few x unknowns;
 }

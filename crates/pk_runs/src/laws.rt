@@ -2,7 +2,7 @@
 
 ghost use Rattle.pk_runs.specs.True.{AnswersAreTrue, ReportsAreTrue};
 
-use pk_sound::{result_holds_runs, verdicts_hold};
+use pk_sound::{faults_are_unknown, result_holds_runs, verdicts_hold};
 
 /// The states that a report tells of a graph hold each of its runs, and the verdicts are right.
 pub fn reports_are_true()
@@ -10,6 +10,7 @@ pub fn reports_are_true()
 {
     result_holds_runs();
     verdicts_hold();
+    faults_are_unknown();
 }
 
 /// So do those of the report on a text.
