@@ -1,0 +1,6 @@
+pub mod Expressions
+pub mod Walks
+pub mod Forms
+pub mod Declarations
+pub mod Statements
+pub mod Jumps

@@ -1,0 +1,2 @@
+//! The typed unit of an accepted text is well typed.
+#![tactic(auto)]
