@@ -142,7 +142,7 @@ nth (y ∷ xs) x ys = nth xs x ys
 pub no_site : (e : ExpressionTree) (w : W) → is_constant_form e ≡ true → Steps w (after_value noted e w) [] 0
 no_site e w h = record { sites = calls (here w) e; calls = refl; listed = sym (ap (numbered (length w.calls)) (no_calls (here w) e h)); objects = sym (add-zero (length w.locals)) }
 
-or_left : (a b : Bool) → (not a || b) ≡ false → a ≡ true
+pub or_left : (a b : Bool) → (not a || b) ≡ false → a ≡ true
 or_left true b h = refl
 or_left false b h = absurd (false≢true (sym h))
 
@@ -165,7 +165,7 @@ later_length e w = later w (after_value noted e w) _ (later_value e w) (later_fa
 -- ---- lengths of arrays
 
 -- an array's length that is known
-abbrev KnownLength : Option ℕ → Type 0
+abbrev pub KnownLength : Option ℕ → Type 0
 KnownLength o = (n : ℕ) × (o ≡ Some n) × (n ≤ 1048576)
 
 magnitude_in : (z : ℤ) → pos 1 ≤ℤ z → z ≤ℤ pos 1048576 → unsigned_abs z ≤ 1048576
@@ -209,7 +209,7 @@ is_used : (d : Names) (e : ExpressionTree) → void d e ≡ [] → is_void (type
 unfolding void
 is_used d e h = holds_not _ _ _ h
 
-length_known : (u : UnitTree) (ls : List LocalTree) (w : W) (e : ExpressionTree) → NamesAre (around u ls w) (here w) → (after_length noted e w).found ≡ None → KnownLength (length_in (evaluated w e))
+pub length_known : (u : UnitTree) (ls : List LocalTree) (w : W) (e : ExpressionTree) → NamesAre (around u ls w) (here w) → (after_length noted e w).found ≡ None → KnownLength (length_in (evaluated w e))
 length_known u ls w e n h =
     let r = none_found (after_value noted e w).found (fails_if (is_refused_length (evaluated w e)) rule.Constant (first_place_of e)) h in
     let f : used_failures (here w) e ≡ [] = (none_found w.found (used_failures (here w) e) r.0).1 in
@@ -220,7 +220,7 @@ length_known u ls w e n h =
 
 -- ---- what an object begins with
 
-room : (es : ExpressionTrees) (n : ℕ) → surplus_item (item_at es n) ≡ [] → count es ≤ n
+pub room : (es : ExpressionTrees) (n : ℕ) → surplus_item (item_at es n) ≡ [] → count es ≤ n
 room no_expressions n h = omega arith
 room (expression_then e es) zero h = absurd (cc)
 room (expression_then e es) (suc n) h = let l = room es n h in omega (l, arith)
@@ -281,14 +281,18 @@ pub record Declared (u : UnitTree) (ls : List LocalTree) (w v : W) (t : IntType)
   pub names : NamesAre (around u ls v) (here v)
   pub calls : Steps w v [] 1
 
+pub not_void : (words : Words) (b : Bool) (n : Option ℕ) (x : Identifier) (w : W) → (after_object noted words b n x w).found ≡ None → is_void words.typing ≡ false
+not_void words b n x w h =
+    let rows : redeclared w.scoping x ++ void_object words.typing x.at ++ special_object w.scoping x ≡ [] = (none_found w.found (at_name w.scoping words.typing x) h).1 in
+    holds_not _ _ _ (none_after (redeclared w.scoping x) (void_object words.typing x.at) (none_before (redeclared w.scoping x ++ void_object words.typing x.at) (special_object w.scoping x) rows))
+
 pub object_declared : (u : UnitTree) (ls : List LocalTree) (words : Words) (b : Bool) (n : Option ℕ) (x : Identifier) (w : W) → NamesAre (around u ls w) (here w) → is_unknown words.typing ≡ false
     → Begins ls (after_object noted words b n x w) → (after_object noted words b n x w).found ≡ None → Declared u ls w (after_object noted words b n x w) (type_or_int words.typing) (length_or_1 b n)
 object_declared u ls words b n x w g unknown begins h =
     let v = after_object noted words b n x w in
     let l = local_of words.typing w.scoping b n x in
     let fs = none_found w.found (at_name w.scoping words.typing x) h in
-    let rows : redeclared w.scoping x ++ void_object words.typing x.at ++ special_object w.scoping x ≡ [] = fs.1 in
-    let void : is_void words.typing ≡ false = holds_not _ _ _ (none_after (redeclared w.scoping x) (void_object words.typing x.at) (none_before (redeclared w.scoping x ++ void_object words.typing x.at) (special_object w.scoping x) rows)) in
+    let void : is_void words.typing ≡ false = not_void words b n x w h in
     let later : Later w v = record { found = λ f. fs.0; more = l ∷ []; locals = refl } in
     let is : ls ≡ w.locals ++ l ∷ begins.rest = begins.is ∙ append_assoc w.locals (l ∷ []) begins.rest in
     let kind : kind_among ls (length w.locals) ≡ Some (record { int_type = type_or_int words.typing; length = length_or_1 b n }) = rw is (ap (option_map (λ (y : LocalTree). record { int_type = y.int_type; length = y.length })) (nth w.locals l begins.rest)) in
@@ -307,11 +311,11 @@ object_declared u ls words b n x w g unknown begins h =
 
 -- ---- later places, whatever fails
 
-later_optional_length : (e : Option ExpressionTree) (w : W) → Later w (after_optional_length noted e w)
+pub later_optional_length : (e : Option ExpressionTree) (w : W) → Later w (after_optional_length noted e w)
 later_optional_length None w = later_same w
 later_optional_length (Some e) w = later_length e w
 
-later_object : (words : Words) (b : Bool) (n : Option ℕ) (x : Identifier) (w : W) → Later w (after_object noted words b n x w)
+pub later_object : (words : Words) (b : Bool) (n : Option ℕ) (x : Identifier) (w : W) → Later w (after_object noted words b n x w)
 later_object words b n x w = record { found = λ h. (none_found w.found (at_name w.scoping words.typing x) h).0; more = local_of words.typing w.scoping b n x ∷ []; locals = refl }
 
 later_head : (words : Words) (d : DeclaratorTree) (w : W) → Later w (after_head noted words d w)

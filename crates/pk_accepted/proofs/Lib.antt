@@ -4,3 +4,4 @@ pub mod Forms
 pub mod Declarations
 pub mod Statements
 pub mod Jumps
+pub mod Functions

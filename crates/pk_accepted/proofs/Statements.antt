@@ -183,7 +183,7 @@ abbrev StatementPart : UnitTree → List LocalTree → Marks → (w v : W) → O
 StatementPart u ls m w v None = Unit {0}
 StatementPart u ls m w v (Some t) = IsStatement (around u ls w) m t × Steps w v (calls_in_statement t) (objects_in t)
 
-abbrev ItemsPart : UnitTree → List LocalTree → Marks → (w v : W) → Option tree.ItemTrees → Type 0
+abbrev pub ItemsPart : UnitTree → List LocalTree → Marks → (w v : W) → Option tree.ItemTrees → Type 0
 ItemsPart u ls m w v None = Unit {0}
 ItemsPart u ls m w v (Some is) = AreItems (around u ls w) m is × Steps w v (calls_in_items is) (objects_in_items is)
 
