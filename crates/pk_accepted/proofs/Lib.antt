@@ -5,3 +5,4 @@ pub mod Declarations
 pub mod Statements
 pub mod Jumps
 pub mod Functions
+pub mod Files
