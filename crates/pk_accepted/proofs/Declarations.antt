@@ -1,8 +1,8 @@
 -- Declared objects of a function in which no rule fails are well typed, each the next of its function.
 use Rattle.std.proofs.Common.{◌≡◌, ℕ, ◌+◌, ◌<◌, ◌≤◌, zero, suc, Bool, true, false, not, List, [], ◌∷◌, ◌++◌, Option, Some, None, length, refl, ap, sym, subst, ◌∙◌, arith, length-append, append_assoc, if◌then◌else◌}
-use Rattle.std.proofs.Math.Nat.{add-zero, add_assoc}
+use Rattle.std.proofs.Math.Nat.{add-zero}
 use Rattle.std.proofs.lemmas.Bool.{false≢true}
-use Rattle.std.specs.Prelude.{ℤ, pos, is_some, slice_get, All, unsigned_abs, ◌&&◌, ◌||◌, int_le, ◌≤ℤ◌}
+use Rattle.std.specs.Prelude.{ℤ, pos, is_some, slice_get, unsigned_abs, ◌&&◌, ◌||◌, int_le, ◌≤ℤ◌}
 use Rattle.pk_ctypes.proofs.Values.{test_le}
 use Rattle.std.proofs.lemmas.Int.{ints}
 use Rattle.std.specs.Option.{option_map}
@@ -24,7 +24,6 @@ use Rattle.pk_scope.specs.declared.declarations.Declaration.{Declaration}
 use Rattle.pk_scope.specs.declared.declarations.Declaration.TheVariants.{Object, Function}
 use Rattle.pk_scope.specs.declared.declarations.Typing.{Typing}
 use Rattle.pk_scope.specs.declared.declarations.Typing.TheVariants.{Void, Integer, Unknown}
-use Rattle.pk_scope.specs.declared.failures.Failure.{Failure}
 use Rattle.pk_scope.specs.Declarations.{Names, HasTypes, is_void, is_unknown}
 use Rattle.pk_scope.specs.Failures.{fails_if, noted}
 use Rattle.pk_scope.specs.Scopes.{Scoping, Layer, names_in, opened, declaring, first_of, found_up, spelled}
@@ -36,18 +35,15 @@ use Rattle.pk_typing.specs.Types.{type_of}
 use Rattle.pk_typing.proofs.TreeLemmas.{accepted_expressions_have_trees}
 use Rattle.pk_constant.specs.declared.constants.Constant.{Constant}
 use Rattle.pk_constant.specs.declared.constants.Constant.TheVariants.{Number, Faulty, NotConstant}
-use Rattle.pk_constant.specs.Constants.{constant_value}
 use Rattle.pk_constant.specs.Forms.{is_constant_form}
 use Rattle.pk_declare.specs.declared.words.Words.{Words}
-use Rattle.pk_declare.specs.declared.constants.Evaluated.{Evaluated}
 use Rattle.pk_declare.specs.Constants.{given_by, evaluated, is_refused, is_refused_length, is_outside, is_length, number_of, magnitude, length_in, after_constant, after_length}
-use Rattle.pk_declare.specs.Declarations as declare
-use Rattle.pk_declare.specs.Declarations.{integer_in, type_or_int, object_at, at_name, redeclared, void_object, special_object, braces, surplus, surplus_item, item_at, after_initializer, length_at, after_optional_length, length_or_1, local_of, after_object, after_head, after_declarator, after_declarators, after_declaration, words_of, scalar_tree, array_tree, object_tree, declarator_tree_at, declarator_trees_at, declaration_trees_at}
-use Rattle.pk_declare.specs.Walks.{here, failing, after_value, after_values, after_name, with_local, value_at, values_at}
-use Rattle.pk_welltyped.specs.Listed.{Numbered, numbered, calls_in, calls_in_values, calls_in_declared, calls_in_all_declared}
+use Rattle.pk_declare.specs.Declarations.{integer_in, type_or_int, object_at, at_name, redeclared, void_object, special_object, braces, surplus, surplus_item, item_at, after_initializer, length_at, after_optional_length, length_or_1, local_of, after_object, after_head, after_declarator, after_declarators, after_declaration, words_of, scalar_tree, array_tree, declarator_tree_at, declarator_trees_at, declaration_trees_at}
+use Rattle.pk_declare.specs.Walks.{here, failing, after_value, after_values, value_at, values_at}
+use Rattle.pk_welltyped.specs.Listed.{numbered, calls_in, calls_in_values, calls_in_declared, calls_in_all_declared}
 use Rattle.pk_welltyped.specs.WellTyped as good
 use Rattle.pk_welltyped.specs.WellTyped.{Around, Kind, IsObject, IsValue, AreValues, kind_among, HasRoom, IsDeclared, AreDeclared, behind, IsValueIf, AreValuesIf}
-use Rattle.pk_accepted.specs.Constants.{HasConstants, HaveConstants, HasConstantsIf, InitializerHas, DeclaratorHas, DeclaratorsHave, DeclarationHas}
+use Rattle.pk_accepted.specs.Constants.{HasConstantsIf, InitializerHas, DeclaratorsHave, DeclarationHas}
 use Rattle.pk_accepted.specs.Names.{ObjectIs, CalleeIs, DeclarationIs, NamesAre}
 use Rattle.pk_accepted.proofs.Expressions.{none_before, none_after}
 use Rattle.pk_accepted.proofs.Forms.{no_calls, Gives, Numeric, numeric}

@@ -37,7 +37,7 @@ use Rattle.pk_scope.specs.Declarations.{Names, is_void, arguments_of, site_of, o
 use Rattle.pk_scope.specs.Failures.{fails_if}
 use Rattle.pk_scope.specs.Specifiers.{type_named, specifiers}
 use Rattle.pk_typing.specs.Types.{type_of, of_object}
-use Rattle.pk_typing.specs.Typed.{EvaluatedTree, value, effect, value_of, effect_of, valued, OperandTree, operand_of, place_in, place_of, of_both, name_value, element_value, typed_call, call_of, called, if_none, only, step_value, unary_value, typed_cast, is_or, logical_value, binary_value, typed_conditional, assignment_value, comma_after, typed, typed_all, calls, calls_in_all, calls_after}
+use Rattle.pk_typing.specs.Typed.{EvaluatedTree, value, effect, value_of, effect_of, valued, OperandTree, operand_of, place_of, of_both, name_value, element_value, typed_call, call_of, if_none, only, step_value, unary_value, typed_cast, is_or, logical_value, binary_value, typed_conditional, assignment_value, comma_after, typed, typed_all, calls, calls_in_all, calls_after}
 use Rattle.pk_typing.specs.Rules.{when, count, takes_others, undeclared, void, array, place, constness, arguments, unsequenced, own, failures, failures_used}
 use Rattle.pk_welltyped.specs.Listed as listed
 use Rattle.pk_welltyped.specs.Listed.{Numbered, numbered, calls_at_place, calls_in, calls_in_effect, calls_in_values}

@@ -1,25 +1,17 @@
 -- Objects and functions of the file in an accepted text.
-use Rattle.std.proofs.Common.{◌≡◌, ℕ, ◌+◌, zero, suc, ◌<◌, ◌≤◌, Bool, true, false, not, List, [], ◌∷◌, ◌++◌, Option, Some, None, length, map, refl, ap, sym, subst, ◌∙◌, arith, length-append, append_assoc, nat_eq, if◌then◌else◌}
-use Rattle.std.proofs.Math.Nat.{add-zero, zero-add}
+use Rattle.std.proofs.Common.{◌≡◌, ℕ, zero, suc, ◌≤◌, Bool, true, false, List, [], ◌∷◌, ◌++◌, Option, Some, None, length, refl, ap, sym, subst, ◌∙◌, arith, append_assoc, if◌then◌else◌}
 use Rattle.std.proofs.lemmas.Bool.{false≢true}
-use Rattle.std.proofs.lemmas.Bool.Decides.{nat_tests}
-use Rattle.std.proofs.lemmas.Option.{none-some, slice_get-map, slice_get-get_or, slice_get_within}
-use Rattle.std.proofs.lemmas.List.{length-map}
-use Rattle.std.specs.Prelude.{ℤ, pos, All, slice_get, is_some, unwrap_or, ◌&&◌, ◌||◌}
+use Rattle.std.specs.Prelude.{ℤ, pos, All, slice_get, is_some}
 use Rattle.std.specs.Option.{option_map}
 use Rattle.std.specs.Str.{bytes_eq}
-use Rattle.std.specs.List.{list_all, list_any, zip}
 use Rattle.pk_ctypes.specs.declared.types.IntType.{IntType}
-use Rattle.pk_ctypes.specs.declared.types.IntType.TheVariants.{Char, SChar, UChar, Short, UShort, Int, UInt, Long, ULong, LLong, ULLong}
-use Rattle.pk_ctypes.specs.declared.words.Rule.TheVariants as rule
-use Rattle.pk_ctypes.specs.Types.{InType, wrapped}
+use Rattle.pk_ctypes.specs.Types.{InType}
 use Rattle.pk_ctypes.proofs.Wrapped.{wrapped_in, zero_in}
 use Rattle.pk_ast.specs.declared.expressions.Identifier.{Identifier}
 use Rattle.pk_ast.specs.declared.units.Storage.{Storage}
-use Rattle.pk_ast.specs.Trees.{ExpressionTree, ExpressionTrees, no_expressions, expression_then, InitializerTree, single, braced, BlockTree, ParameterTree, DeclaratorTree, DeclarationTree, FunctionTree, ExternalTree, function, objects}
+use Rattle.pk_ast.specs.Trees.{ExpressionTree, ExpressionTrees, no_expressions, expression_then, InitializerTree, single, braced, DeclaratorTree, DeclarationTree}
 use Rattle.pk_typed.specs.declared.values.Variable.TheVariants.{File, Local}
-use Rattle.pk_typed.specs.Trees as tree
-use Rattle.pk_typed.specs.Trees.{LocalTree, BodyTree, StartTree, scalar_start, array_start, FileObjectTree, UnitTree}
+use Rattle.pk_typed.specs.Trees.{LocalTree, FileObjectTree, UnitTree}
 use Rattle.pk_scope.specs.declared.declarations.Callee.{Callee}
 use Rattle.pk_scope.specs.declared.declarations.Callee.TheVariants.{Ordinary, Any, Assume, Assert, Abort}
 use Rattle.pk_scope.specs.declared.declarations.Declaration.{Declaration}
@@ -28,25 +20,23 @@ use Rattle.pk_scope.specs.declared.declarations.Typing.{Typing}
 use Rattle.pk_scope.specs.declared.declarations.Typing.TheVariants.{Void, Integer, Unknown}
 use Rattle.pk_scope.specs.declared.failures.Failure.{Failure}
 use Rattle.pk_scope.specs.Declarations.{Names, is_void, is_unknown}
-use Rattle.pk_scope.specs.Failures.{fails_if, noted}
-use Rattle.pk_scope.specs.Scopes.{Scoping, names_in, opened, declaring, first_of, found_up, spelled, file_scope}
+use Rattle.pk_scope.specs.Failures.{noted}
+use Rattle.pk_scope.specs.Scopes.{Scoping, names_in, declaring, first_of, found_up, spelled}
 use Rattle.pk_scope.specs.Specifiers.{specifiers, type_named}
 use Rattle.pk_typing.specs.Rules.{count}
 use Rattle.pk_declare.specs.declared.words.Words.{Words}
 use Rattle.pk_declare.specs.Constants.{evaluated, number_in, after_constant, length_in}
-use Rattle.pk_declare.specs.Declarations.{words_of, integer_in, type_or_int, text_of, redeclared, void_object, special_object, braces, surplus, surplus_item, item_at, length_at, after_optional_length, length_or_1}
-use Rattle.pk_declare.specs.Walks.{here, failing, after_name, entering}
+use Rattle.pk_declare.specs.Declarations.{words_of, integer_in, type_or_int, text_of, redeclared, void_object, special_object, braces, surplus, length_at, after_optional_length, length_or_1}
+use Rattle.pk_declare.specs.Walks.{here, failing, after_name}
 use Rattle.pk_type.specs.Files.{EntryTree, Filed, number_or_0, number_at, after_numbers, numbers_at, given, first_or_0, start_of, is_extern, extern_object, file_object, after_object, after_objects, without_calls, on, after_declaration}
 use Rattle.pk_type.specs.Files as files
 use Rattle.pk_type.specs.Units.{function_of}
-use Rattle.pk_type.specs.Signatures.{SignatureTree, differ, all_differ, is_integer, are_integers, differs, types_of}
 use Rattle.pk_welltyped.specs.WellTyped as good
 use Rattle.pk_welltyped.specs.WellTyped.{Around, IsObject, Kind, kind_in_file, length_at_start, Takes, IsStart, IsBody, IsBodyIf}
-use Rattle.pk_accepted.specs.Constants.{InitializerHas, DeclaratorHas, DeclaratorsHave, DeclarationHas}
 use Rattle.pk_accepted.specs.Names.{ObjectIs, CalleeIs, DeclarationIs, NamesAre}
 use Rattle.pk_accepted.proofs.Expressions.{none_before, none_after}
-use Rattle.pk_accepted.proofs.Walks.{W, around, none_found, Later, later_same, later, later_failing, later_value}
-use Rattle.pk_accepted.proofs.Declarations.{holds_not, names_later, names_declaring, names_opened, Begins, begins_before, nth, later_constant, later_optional_length, length_known, KnownLength, room}
+use Rattle.pk_accepted.proofs.Walks.{W, none_found, Later, later_same, later, later_failing}
+use Rattle.pk_accepted.proofs.Declarations.{holds_not, names_declaring, nth, later_constant, later_optional_length, length_known, room}
 use Rattle.pk_accepted.proofs.Functions.{Integers}
 
 abbrev pub F : Type 0
@@ -233,7 +223,7 @@ object_is u k (Integer t) false n p q h = h
 object_is u k (Integer t) true None p q h = (1, h)
 object_is u k (Integer t) true (Some n) p q h = (n, h)
 
-known_declaring : (es : Entries) (s : Scoping) (x : Identifier) (o : Declaration) → ((y : Identifier) → KnownIn es (names_in s y)) → KnownIn es (Some o) → (y : Identifier) → KnownIn es (names_in (declaring s x o) y)
+pub known_declaring : (es : Entries) (s : Scoping) (x : Identifier) (o : Declaration) → ((y : Identifier) → KnownIn es (names_in s y)) → KnownIn es (Some o) → (y : Identifier) → KnownIn es (names_in (declaring s x o) y)
 unfolding names_in
 known_declaring es s x o h k y = picked (bytes_eq (spelled s.text x) (spelled s.text y)) (s.inner (spelled s.text y)) (found_up s.outer (spelled s.text y) None) (h y)
   where

@@ -1,5 +1,5 @@
 -- A constant expression notes no call, and gives a number or a fault.
-use Rattle.std.proofs.Common.{◌≡◌, ℕ, Bool, true, false, ◌&&◌, not, List, [], ◌++◌, Option, Some, None, refl, ap, ◌∙◌}
+use Rattle.std.proofs.Common.{◌≡◌, ℕ, Bool, true, false, [], Option, Some, None, refl}
 use Rattle.std.specs.Prelude.{ℤ, pos, Result, Ok, Err, if◌then◌else◌}
 use Rattle.std.specs.Option.{option_map}
 use Rattle.std.specs.Ordering.{int_eq}
@@ -14,7 +14,6 @@ use Rattle.pk_ctypes.specs.Types.{wrapped}
 use Rattle.pk_ast.specs.Operators.{binary_number_operator, unary_number_operator}
 use Rattle.pk_ast.specs.Trees as ast
 use Rattle.pk_ast.specs.Trees.{ExpressionTree}
-use Rattle.pk_typed.specs.declared.units.CallSite.{CallSite}
 use Rattle.pk_typed.specs.Trees as tree
 use Rattle.pk_typed.specs.Trees.{ValueTree, EffectTree}
 use Rattle.pk_scope.specs.declared.declarations.Typing.{Typing}
@@ -22,8 +21,7 @@ use Rattle.pk_scope.specs.declared.declarations.Typing.TheVariants.{Void, Intege
 use Rattle.pk_scope.specs.Declarations.{Names}
 use Rattle.pk_scope.specs.Specifiers.{type_named}
 use Rattle.pk_typing.specs.Types.{type_of}
-use Rattle.pk_typing.specs.Typed as typing
-use Rattle.pk_typing.specs.Typed.{EvaluatedTree, value, effect, value_of, effect_of, valued, OperandTree, operand_of, of_both, unary_value, typed_cast, is_or, logical_value, binary_value, typed_conditional, comma_after, typed, calls, calls_after}
+use Rattle.pk_typing.specs.Typed.{EvaluatedTree, value, effect, effect_of, valued, OperandTree, operand_of, of_both, unary_value, typed_cast, is_or, logical_value, binary_value, typed_conditional, comma_after, typed, calls, calls_after}
 use Rattle.pk_constant.specs.declared.constants.Constant.{Constant}
 use Rattle.pk_constant.specs.declared.constants.Constant.TheVariants.{Number, Faulty, NotConstant}
 use Rattle.pk_constant.specs.Constants.{with_number, given, right_operand, calculated, converted, truth_of, chosen, constant_value, constant_effect}

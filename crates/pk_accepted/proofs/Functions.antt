@@ -1,6 +1,5 @@
 -- Parameters and bodies of functions in which no rule fails.
-use Rattle.std.proofs.Common.{◌≡◌, ℕ, ◌+◌, zero, suc, ◌<◌, ◌≤◌, Bool, true, false, List, [], ◌∷◌, ◌++◌, Option, Some, None, length, map, refl, ap, sym, subst, ◌∙◌, arith, length-append, append_assoc}
-use Rattle.std.proofs.Math.Nat.{add-zero, zero-add}
+use Rattle.std.proofs.Common.{◌≡◌, ℕ, suc, ◌≤◌, true, false, List, [], ◌∷◌, ◌++◌, Option, Some, None, length, map, refl, ap, sym, subst, ◌∙◌, arith, append_assoc}
 use Rattle.std.proofs.lemmas.Bool.{false≢true}
 use Rattle.std.specs.Option.{option_map}
 use Rattle.pk_ctypes.specs.declared.places.Pos.{Pos}
@@ -13,27 +12,25 @@ use Rattle.pk_typed.specs.Trees as tree
 use Rattle.pk_typed.specs.Trees.{LocalTree, BodyTree, UnitTree}
 use Rattle.pk_scope.specs.declared.declarations.Typing.{Typing}
 use Rattle.pk_scope.specs.declared.declarations.Typing.TheVariants.{Void, Integer, Unknown}
-use Rattle.pk_scope.specs.declared.failures.Failure.{Failure}
 use Rattle.pk_scope.specs.Declarations.{is_void, is_unknown}
 use Rattle.pk_scope.specs.Failures.{fails_if, noted}
 use Rattle.pk_scope.specs.Specifiers.{type_named, specifiers}
-use Rattle.pk_declare.specs.Declarations.{words_of, type_or_int, local_of, after_object}
+use Rattle.pk_declare.specs.Declarations.{words_of, type_or_int, local_of}
 use Rattle.pk_declare.specs.Walks.{here, failing, with_local}
-use Rattle.pk_jump.specs.Jumps.{Jumped, jumps_of}
-use Rattle.pk_jump.specs.Labels.{Listed, labels_of}
-use Rattle.pk_statement.specs.Statements.{Passed, after_items}
+use Rattle.pk_jump.specs.Jumps.{jumps_of}
+use Rattle.pk_jump.specs.Labels.{labels_of}
+use Rattle.pk_statement.specs.Statements.{after_items}
 use Rattle.pk_statement.specs.Trees.{typed_items}
 use Rattle.pk_type.specs.Functions.{unnamed, after_parameter_name, after_parameter, after_parameters, each_at, about_jumps, before_body, after_body, body_of, body_at}
 use Rattle.pk_type.specs.Signatures.{is_integer, types_of}
-use Rattle.pk_welltyped.specs.Listed.{numbered, calls_in_items}
-use Rattle.pk_welltyped.specs.WellTyped as good
-use Rattle.pk_welltyped.specs.WellTyped.{AreParameters, AreItems, IsBody, Marks}
+use Rattle.pk_welltyped.specs.Listed.{numbered}
+use Rattle.pk_welltyped.specs.WellTyped.{AreParameters, AreItems, IsBodyIf, Marks}
 use Rattle.pk_accepted.specs.Constants.{ItemsHave}
 use Rattle.pk_accepted.specs.Names.{NamesAre}
-use Rattle.pk_accepted.proofs.Walks.{W, around, none_found, Later, later_same, later, later_failing, Steps}
+use Rattle.pk_accepted.proofs.Walks.{W, around, none_found, Later, later_same, later, later_failing}
 use Rattle.pk_accepted.proofs.Expressions as lists
 use Rattle.pk_accepted.proofs.Declarations.{holds_not, names_later, Begins, begins_before, later_object, not_void, object_declared}
-use Rattle.pk_accepted.proofs.Statements.{P, Ends, items_part, later_items, ItemsPart}
+use Rattle.pk_accepted.proofs.Statements.{Ends, items_part, later_items, ItemsPart}
 use Rattle.pk_accepted.proofs.Jumps.{labels_below, no_case, no_default}
 
 -- ---- parameters
@@ -66,6 +63,26 @@ integer Void h k = absurd (false≢true (sym h))
 integer (Integer t) h k = refl
 integer Unknown h k = absurd (false≢true (sym k))
 
+parameter_integer : (p : ParameterTree) (w : W) → (after_parameter noted p w).found ≡ None → is_integer (type_named p.specifiers) ≡ true
+unfolding specifiers
+parameter_integer p w h = named p.name h
+  where
+    named : (x : Option Identifier) → (after_parameter_name noted p x (failing noted (specifiers p.specifiers) w)).found ≡ None → is_integer (type_named p.specifiers) ≡ true
+    named None h =
+        let t = type_named p.specifiers in
+        let v = failing noted (specifiers p.specifiers) w in
+        let f = none_found v.found (fails_if (is_void t) rule.Void p.specifiers.first.at) h in
+        integer t (holds_not _ _ _ f.1) (holds_not _ _ _ (none_found w.found (specifiers p.specifiers) f.0).1)
+    named (Some x) h =
+        let t = type_named p.specifiers in
+        let v = failing noted (specifiers p.specifiers) w in
+        integer t (not_void (words_of p.specifiers) false None x v h) (holds_not _ _ _ (none_found w.found (specifiers p.specifiers) ((later_object (words_of p.specifiers) false None x v).found h)).1)
+
+pub integers_of : (ps : List ParameterTree) (w : W) → (after_parameters noted ps w).found ≡ None → Integers (types_of ps)
+unfolding after_parameters
+integers_of [] w h = tt
+integers_of (p ∷ ps) w h = (parameter_integer p w ((later_parameters ps (after_parameter noted p w)).found h), integers_of ps (after_parameter noted p w) h)
+
 record One (u : UnitTree) (ls : List LocalTree) (w v : W) (t : Typing) : Type 0 where
   names : NamesAre (around u ls v) (here v)
   calls : v.calls ≡ w.calls
@@ -73,7 +90,6 @@ record One (u : UnitTree) (ls : List LocalTree) (w v : W) (t : Typing) : Type 0 
   locals : v.locals ≡ w.locals ++ local ∷ []
   type_is : local.int_type ≡ type_or_int t
   length_is : local.length ≡ None
-  integer : is_integer t ≡ true
 
 parameter : (u : UnitTree) (ls : List LocalTree) (p : ParameterTree) (w : W) → NamesAre (around u ls w) (here w) → Begins ls (after_parameter noted p w) → (after_parameter noted p w).found ≡ None → One u ls w (after_parameter noted p w) (type_named p.specifiers)
 unfolding specifiers
@@ -86,7 +102,6 @@ parameter u ls p w n b h = named p.name b h
         let v = failing noted (specifiers p.specifiers) w in
         let fs = fails_if (is_void t) rule.Void p.specifiers.first.at in
         let f = none_found v.found fs h in
-        let g = none_found w.found (specifiers p.specifiers) f.0 in
         let x = unnamed noted p v in
         let l = later w (failing noted fs v) x (later w v _ (later_failing (specifiers p.specifiers) w) (later_failing fs v)) (later_local (record { name = None; int_type = type_or_int t; length = None }) (failing noted fs v)) in
         record {
@@ -96,7 +111,6 @@ parameter u ls p w n b h = named p.name b h
           locals = refl;
           type_is = refl;
           length_is = refl;
-          integer = integer t (holds_not _ _ _ f.1) (holds_not _ _ _ g.1);
         }
     named (Some x) b h =
         let t = type_named p.specifiers in
@@ -111,7 +125,6 @@ parameter u ls p w n b h = named p.name b h
           locals = refl;
           type_is = refl;
           length_is = refl;
-          integer = integer t (not_void (words_of p.specifiers) false None x v h) unknown;
         }
 
 pub record Parameters (u : UnitTree) (ls : List LocalTree) (w v : W) (ts : List Typing) : Type 0 where
@@ -121,7 +134,6 @@ pub record Parameters (u : UnitTree) (ls : List LocalTree) (w v : W) (ts : List 
   pub locals : v.locals ≡ w.locals ++ more
   pub are : AreParameters (map type_or_int ts) more
   pub many : length more ≡ length (map type_or_int ts)
-  pub integers : Integers ts
 
 append_none : {A : Type 0} (xs : List A) → xs ≡ xs ++ []
 append_none [] = refl
@@ -130,7 +142,7 @@ append_none (x ∷ xs) = ap (λ (l : List _). x ∷ l) (append_none xs)
 pub parameters : (u : UnitTree) (ls : List LocalTree) (ps : List ParameterTree) (w : W) → NamesAre (around u ls w) (here w) → Begins ls (after_parameters noted ps w) → (after_parameters noted ps w).found ≡ None
     → Parameters u ls w (after_parameters noted ps w) (types_of ps)
 unfolding after_parameters
-parameters u ls [] w n b h = record { names = n; calls = refl; more = []; locals = append_none w.locals; are = tt; many = refl; integers = tt }
+parameters u ls [] w n b h = record { names = n; calls = refl; more = []; locals = append_none w.locals; are = tt; many = refl }
 parameters u ls (p ∷ ps) w n b h =
     let v = after_parameter noted p w in
     let l = later_parameters ps v in
@@ -143,7 +155,6 @@ parameters u ls (p ∷ ps) w n b h =
       locals = all.locals ∙ (ap (λ (xs : List LocalTree). xs ++ all.more) one.locals ∙ append_assoc w.locals (one.local ∷ []) all.more);
       are = (one.type_is, one.length_is, all.are);
       many = ap suc all.many;
-      integers = (one.integer, all.integers);
     }
 
 -- and more objects behind them
@@ -165,13 +176,9 @@ later_body r b w =
     let p = before_body w in
     later w (after_items noted r p b.items).walked _ (later_items r p b.items).walked (later_failing fs (after_items noted r p b.items).walked)
 
-abbrev pub BodyPart : UnitTree → tree.FunctionTree → Option BodyTree → Type 0
-BodyPart u g None = Unit {0}
-BodyPart u g (Some b) = IsBody u g b
-
 made : (u : UnitTree) (g : tree.FunctionTree) (m : Marks) (visible : ℕ) (b : BlockTree) (w v x : W) (is : Option tree.ItemTrees) → m ≡ record { labels = m.labels; cases = 0; has_default = false } → x.calls ≡ v.calls → x.locals ≡ v.locals
     → visible ≤ length u.objects → w.calls ≡ [] → AreParameters g.parameters x.locals → length w.locals ≡ length g.parameters → ItemsPart u x.locals m w v is
-    → BodyPart u g (option_map (body_of b visible m.labels x) is)
+    → IsBodyIf u g (option_map (body_of b visible m.labels x) is)
 made u g m visible b w v x None im c l s k p n h = tt
 made u g m visible b w v x (Some is) im c l s k p n h = record {
   visible = s;
@@ -184,7 +191,7 @@ made u g m visible b w v x (Some is) im c l s k p n h = record {
 }
 
 pub body : (u : UnitTree) (g : tree.FunctionTree) (r : Typing) (visible : ℕ) (b : BlockTree) (w : W) → visible ≤ length u.objects → w.calls ≡ [] → AreParameters g.parameters (after_body noted r b w).locals → length w.locals ≡ length g.parameters
-    → NamesAre (around u (after_body noted r b w).locals w) (here w) → ItemsHave b.items → (after_body noted r b w).found ≡ None → BodyPart u g (body_at noted r visible b w)
+    → NamesAre (around u (after_body noted r b w).locals w) (here w) → ItemsHave b.items → (after_body noted r b w).found ≡ None → IsBodyIf u g (body_at noted r visible b w)
 body u g r visible b w s k p n names has h =
     let labels = labels_of w.scoping.text b.items in
     let jumps = jumps_of w.scoping.text labels.labels b.items in

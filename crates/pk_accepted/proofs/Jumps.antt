@@ -1,5 +1,5 @@
 -- Labels are numbered below their count; outside of every `switch` there is no case, where no jump is out of place.
-use Rattle.std.proofs.Common.{◌≡◌, ℕ, ◌+◌, ◌<◌, ◌≤◌, Bool, true, false, not, List, [], ◌∷◌, ◌++◌, Option, Some, None, length, refl, ap, sym, subst, ◌∙◌, arith, if◌then◌else◌}
+use Rattle.std.proofs.Common.{◌≡◌, ℕ, ◌+◌, ◌<◌, ◌≤◌, Bool, true, false, not, List, [], ◌∷◌, ◌++◌, Option, Some, None, refl, ap, sym, ◌∙◌, arith, if◌then◌else◌}
 use Rattle.std.proofs.lemmas.Bool.{false≢true}
 use Rattle.std.specs.Prelude.{◌||◌}
 use Rattle.std.specs.Str.{bytes_eq}
@@ -10,12 +10,11 @@ use Rattle.pk_ast.specs.Trees.{declaration, expression, StatementTree, ItemTrees
 use Rattle.pk_scope.specs.declared.declarations.Typing.{Typing}
 use Rattle.pk_scope.specs.Failures.{noted}
 use Rattle.pk_scope.specs.Scopes.{spelled}
-use Rattle.pk_typing.specs.Types.{type_of}
 use Rattle.pk_declare.specs.Declarations.{after_declaration}
-use Rattle.pk_declare.specs.Walks.{here, after_value}
+use Rattle.pk_declare.specs.Walks.{after_value}
 use Rattle.pk_jump.specs.declared.labels.Label.{Label}
 use Rattle.pk_jump.specs.declared.labels.Within.{Within}
-use Rattle.pk_jump.specs.Labels.{Listed, nothing_listed, named, with_label, with_declaration, inside, listed, listed_items, outermost, labels_of}
+use Rattle.pk_jump.specs.Labels.{Listed, nothing_listed, with_label, with_declaration, inside, listed, listed_items, outermost, labels_of}
 use Rattle.pk_jump.specs.Jumps as jump
 use Rattle.pk_jump.specs.Jumps.{Around, Jumped, at_if, misplaced_if, gone, holds, is_out_of_place, is_unbroken, with_default_flag, looped, switched, within_next, jumped, jumped_items}
 use Rattle.pk_statement.specs.Statements as statements

@@ -6,3 +6,4 @@ pub mod Statements
 pub mod Jumps
 pub mod Functions
 pub mod Files
+pub mod Units

@@ -1,17 +1,15 @@
 -- Statements in which no rule fails are well typed.
-use Rattle.std.proofs.Common.{◌≡◌, ℕ, zero, suc, ◌+◌, ◌<◌, ◌≤◌, Bool, true, false, List, [], ◌∷◌, ◌++◌, Option, Some, None, length, refl, ap, sym, subst, ◌∙◌, arith, length-append, append_assoc}
-use Rattle.std.proofs.Math.Nat.{add-zero, add_assoc}
+use Rattle.std.proofs.Common.{◌≡◌, ℕ, zero, suc, ◌+◌, ◌<◌, ◌≤◌, true, List, [], ◌∷◌, ◌++◌, Option, Some, None, length, refl, ap, sym, subst, ◌∙◌, arith, length-append, append_assoc}
+use Rattle.std.proofs.Math.Nat.{add-zero}
 use Rattle.std.specs.Prelude.{ℤ, All, is_some, unwrap_or}
 use Rattle.std.proofs.lemmas.Option.{none-some}
 use Rattle.std.specs.Option.{option_map}
-use Rattle.std.proofs.lemmas.Bool.{false≢true}
 use Rattle.pk_ctypes.specs.declared.places.Pos.{Pos}
 use Rattle.pk_ctypes.specs.declared.types.IntType.{IntType}
 use Rattle.pk_ctypes.specs.declared.words.Rule.TheVariants as rule
 use Rattle.pk_ctypes.specs.Types.{InType, wrapped}
 use Rattle.pk_ctypes.specs.Conversions.{promoted}
 use Rattle.pk_ctypes.proofs.Wrapped.{wrapped_in}
-use Rattle.pk_ast.specs.declared.expressions.Identifier.{Identifier}
 use Rattle.pk_ast.specs.Places.{first_place_of}
 use Rattle.pk_ast.specs.Trees as ast
 use Rattle.pk_ast.specs.Trees.{ExpressionTree, DeclarationTree, ForStartTree, declaration, expression, StatementTree, ItemTrees, no_items, declaration_then, statement_then}
@@ -20,25 +18,24 @@ use Rattle.pk_typed.specs.Trees.{LocalTree, ValueTree, EffectTree, DeclaredTree,
 use Rattle.pk_scope.specs.declared.declarations.Typing.{Typing}
 use Rattle.pk_scope.specs.declared.declarations.Typing.TheVariants.{Void, Integer, Unknown}
 use Rattle.pk_scope.specs.declared.failures.Failure.{Failure}
-use Rattle.pk_scope.specs.Declarations.{Names}
 use Rattle.pk_scope.specs.Failures.{fails_if, noted}
 use Rattle.pk_scope.specs.Scopes.{Scoping, names_in, spelled}
 use Rattle.pk_typing.specs.Typed.{of_both}
 use Rattle.pk_typing.specs.Types.{type_of}
-use Rattle.pk_declare.specs.Constants.{after_constant, evaluated, number_in}
+use Rattle.pk_declare.specs.Constants.{evaluated, number_in}
 use Rattle.pk_declare.specs.Declarations.{after_declaration, declaration_trees_at}
-use Rattle.pk_declare.specs.Walks.{here, failing, after_value, after_effect, entering, leaving, value_at, effect_at}
+use Rattle.pk_declare.specs.Walks.{here, failing, after_value, after_effect, value_at, effect_at}
 use Rattle.pk_jump.specs.declared.labels.Label.{Label}
 use Rattle.pk_statement.specs.declared.statements.Case.{Case}
 use Rattle.pk_statement.specs.Statements.{Passed, on, inside, outside, after_optional_value, after_optional_effect, returns_otherwise, after_return, with_case, with_default, repeated_cases, in_switch, after_switch, after_start, after_head, after, after_items}
-use Rattle.pk_statement.specs.Trees.{Labels, numbered, label_at, of_three, case_numbers, EndedTree, ended_as, ended, switch_of, optional_value_at, optional_effect_at, start_at, HeadTree, a_head, head_at, for_tree, declared_all, typed, typed_items}
+use Rattle.pk_statement.specs.Trees.{Labels, numbered, of_three, case_numbers, ended_as, ended, switch_of, optional_value_at, optional_effect_at, start_at, a_head, for_tree, declared_all, typed, typed_items}
 use Rattle.pk_welltyped.specs.Listed as listed
 use Rattle.pk_welltyped.specs.Listed.{Numbered, calls_in, calls_in_effect, calls_if, calls_in_effect_if, calls_in_declared, calls_in_all_declared, calls_at_start, calls_in_statement, calls_in_items, objects_at_start, objects_in, objects_in_items}
 use Rattle.pk_welltyped.specs.WellTyped as good
 use Rattle.pk_welltyped.specs.WellTyped.{Around, behind, IsValue, IsValueIf, IsEffect, IsEffectIf, AreDeclared, IsForStart, Marks, IsStatement, AreItems}
-use Rattle.pk_accepted.specs.Constants.{HasConstants, HasConstantsIf, StartHas, StatementHas, ItemsHave}
+use Rattle.pk_accepted.specs.Constants.{HasConstantsIf, StartHas, StatementHas, ItemsHave}
 use Rattle.pk_accepted.specs.Names.{NamesAre}
-use Rattle.pk_accepted.proofs.Walks.{W, around, none_found, Later, later_same, later, later_failing, later_value, later_effect, Steps, steps_none, steps, steps_as, ValuePart, EffectPart, value_part, effect_part}
+use Rattle.pk_accepted.proofs.Walks.{W, around, Later, later_same, later, later_failing, later_value, later_effect, Steps, steps_none, steps, steps_as, ValuePart, EffectPart, value_part, effect_part}
 use Rattle.pk_accepted.proofs.Declarations.{names_later, names_opened, Begins, begins_before, constant_steps, later_constant, later_declaration, AllDeclaredPart, AllDeclaring}
 use Rattle.pk_accepted.proofs.Declarations as declarations
 

@@ -1,5 +1,5 @@
 -- What stands at a place of a function, and what expressions add to it, where no rule fails.
-use Rattle.std.proofs.Common.{◌≡◌, ◌≢◌, ℕ, ◌+◌, Bool, true, false, List, [], ◌∷◌, ◌++◌, Option, Some, None, length, refl, ap, sym, ◌∙◌, arith, length-append, append_assoc, if◌then◌else◌}
+use Rattle.std.proofs.Common.{◌≡◌, ℕ, ◌+◌, Bool, true, false, List, [], ◌∷◌, ◌++◌, Option, Some, None, length, refl, ap, sym, ◌∙◌, length-append, append_assoc, if◌then◌else◌}
 use Rattle.std.proofs.Math.Nat.{add-zero, add_assoc}
 use Rattle.std.proofs.lemmas.Option.{none-some}
 use Rattle.pk_ast.specs.Trees.{ExpressionTree, ExpressionTrees}
@@ -8,14 +8,14 @@ use Rattle.pk_typed.specs.Trees.{ValueTree, EffectTree, ValueTrees, LocalTree, U
 use Rattle.pk_scope.specs.declared.failures.Failure.{Failure}
 use Rattle.pk_scope.specs.Failures.{is_before, earlier, noted}
 use Rattle.pk_typing.specs.Rules.{void, count, failures, used_failures, failures_used}
-use Rattle.pk_typing.specs.Typed.{typed, typed_all, calls, calls_in_all}
+use Rattle.pk_typing.specs.Typed.{typed, calls, calls_in_all}
 use Rattle.pk_declare.specs.Walks.{Walked, here, after_value, after_effect, after_values, value_at, effect_at, values_at, failing}
 use Rattle.pk_welltyped.specs.Listed.{Numbered, numbered, calls_in, calls_in_effect, calls_in_values}
 use Rattle.pk_welltyped.specs.WellTyped as good
 use Rattle.pk_welltyped.specs.WellTyped.{Around, IsValue, IsEffect, AreValues}
 use Rattle.pk_accepted.specs.Constants.{HasConstants, HaveConstants}
 use Rattle.pk_accepted.specs.Names.{NamesAre}
-use Rattle.pk_accepted.proofs.Expressions.{none_before, numbered_append, Good, GoodValue, GoodEffect, GoodValues, good_value, good_effect, expressions, all_expressions}
+use Rattle.pk_accepted.proofs.Expressions.{none_before, numbered_append, GoodValue, GoodEffect, GoodValues, good_value, good_effect, expressions, all_expressions}
 
 abbrev pub W : Type 0
 W = Walked (Option Failure)
