@@ -1,0 +1,2 @@
+//! The draft of a well-typed unit is typed.
+#![tactic(auto)]
