@@ -135,7 +135,7 @@ has_kind w g v ms rs x p b h f =
     let is : variable_in (slice_set ms v x) v ≡ x = get_or-set_same ms v x no_variable (omega (there, h.many, arith)) in
     record { there = there; kind = f.made v w.context.path (ap (λ (o : VariableOf). o.path) is ∙ p) ∙ ap (λ (o : VariableOf). o.kind) is }
 
-pub variable_step : (w : Place) → Proper w → (m : ℕ) (s : Stage) (x : VariableOf) (d : D) → x.path ≡ Some w.context.path → IsStartOf x x.start → Step w m m s s d (with_variable x d) (Unit {0}) (Has w.kinds d.variables x.kind.int_type x.kind.length)
+pub variable_step : (w : Place) → Proper w → (m : ℕ) (s : Stage) (x : VariableOf) (d : D) → (d.here.path ≡ w.context.path → x.path ≡ Some w.context.path) → IsStartOf x x.start → Step w m m s s d (with_variable x d) (Unit {0}) (Has w.kinds d.variables x.kind.int_type x.kind.length)
 variable_step w g m s x d p st = record {
   order = omega arith;
   variables = omega arith;
@@ -153,7 +153,7 @@ variable_step w g m s x d p st = record {
       edges = t.edges;
       objects = t.objects;
     },
-    has_kind w g d.variables d.made d.regions x p y.0 b.laid f,
+    has_kind w g d.variables d.made d.regions x (p t.here) y.0 b.laid f,
   );
 }
 
@@ -191,7 +191,7 @@ object_more w s os v t n k h o =
 pub object_step : (w : Place) → Proper w → (m : ℕ) (s : Stage) (x : VariableOf) (d : D) → x.path ≡ Some w.context.path → IsStartOf x x.start → good.kind_among w.context.locals s.objects ≡ Some (record { int_type = x.kind.int_type; length = x.kind.length })
     → Step w m m s (with_objects (s.objects + 1) s) d (with_object s.objects x d) (Unit {0}) (Has w.kinds d.variables x.kind.int_type x.kind.length)
 object_step w g m s x d p st k =
-    let v = variable_step w g m s x d p st in
+    let v = variable_step w g m s x d (λ h. p) st in
     record {
       order = v.order;
       variables = v.variables;
@@ -209,7 +209,7 @@ pub result_step : (w : Place) → Proper w → (m n : ℕ) (t : IntType) (x : Va
     → Step w m m (record { objects = n; result = None }) (record { objects = n; result = Some t }) d (with_object (length w.context.locals) x d) (Unit {0}) (Unit {0})
 result_step w g m n t x d p st k =
     let i = length w.context.locals in
-    let v = variable_step w g m (record { objects = n; result = None }) x d p st in
+    let v = variable_step w g m (record { objects = n; result = None }) x d (λ h. p) st in
     record {
       order = v.order;
       variables = v.variables;
