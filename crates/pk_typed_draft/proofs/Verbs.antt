@@ -84,8 +84,8 @@ placed_same : (n p : ℕ) (d : D) → ((all_placed n p d).variables ≡ d.variab
 placed_same zero p d = (refl, refl, refl)
 placed_same (suc n) p d = placed_same n (p + 1) (placed p d)
 
-pub fresh_step : (w : Place) → Proper w → (m n : ℕ) (s : Stage) (d : D) → Step w m m s s d (fresh n d) (Unit {0}) (Unit {0})
-fresh_step w g m n s d = let k = placed_same n d.points d in quiet w m s s d (fresh n d) (Unit {0}) (Unit {0}) k.0 k.1 k.2 (omega arith) (λ p b t u. (typed_fresh w g s n d t, tt))
+pub fresh_step : (w : Place) → Proper w → (m n : ℕ) (s : Stage) (d : D) → Step w m m s s d (fresh n d) (Unit {0}) (d.points + n ≤ w.points)
+fresh_step w g m n s d = let k = placed_same n d.points d in quiet w m s s d (fresh n d) (Unit {0}) (d.points + n ≤ w.points) k.0 k.1 k.2 (omega arith) (λ p b t u. (typed_fresh w g s n d t, b.1))
 
 pub emit_step : (w : Place) → Proper w → (m : ℕ) (s : Stage) (i : InstrOf ℕ) (d : D) → Step w m m s s d (emit i d) (IsTypedInstr w.kinds i) (Unit {0})
 emit_step w g m s i d = quiet w m s s d (emit i d) (IsTypedInstr w.kinds i) (Unit {0}) refl refl refl (omega arith)
@@ -281,6 +281,13 @@ laid_entered w g v ms rs j f r c rv b h =
         let a = range i y e p in
         elim (h.pending k y m (old k y o q)).2 [ inl l ↦ absurd (omega (l, a.0, arith)) | inr l ↦ absurd (omega (l, a.1, b, arith)) ]
 
+pub entered_promised : (w : Place) (m : ℕ) (f : ℕ) (d : D) → IsCallee w (w.context.first + m) f → Before w m (m + 1) d → Foreseen w d.made (entered (w.context.first + m) (size_in w.context.sizes f) d).regions → Promised w f d.variables
+entered_promised w m f d c b z =
+    let j = w.context.first + m in
+    let r : Region = record { at = d.point; points = d.points; variables = d.variables } in
+    let new : region_at (slice_set d.regions j r) j ≡ r = get_or-set_same d.regions j r no_region (omega (b.laid.count, c.there, arith)) in
+    subst (λ (x : ℕ). Promised w x d.variables) c.function (subst (λ (x : Region). Promised w (w.function j) x.variables) new (z.regions j c.behind (subst (λ (x : Region). 0 < x.points) (sym new) b.positive)))
+
 pub entered_step : (w : Place) → Proper w → (m : ℕ) (s : Stage) (f : ℕ) (d : D) → IsCallee w (w.context.first + m) f
     → Step w m (m + 1) s s d (entered (w.context.first + m) (size_in w.context.sizes f) d) (Unit {0}) (Promised w f d.variables)
 entered_step w g m s f d c =
@@ -302,8 +309,8 @@ entered_step w g m s f d c =
             let same : region_at (slice_set d.regions j r) i ≡ region_at d.regions i = get_or-set_other d.regions j i r no_region other in
             subst (λ (x : Region). Promised w (w.function i) x.variables) same (z.regions i l (subst (λ (x : Region). 0 < x.points) (sym same) k));
       };
-      typed = λ b y z t q. let new : region_at (slice_set d.regions j r) j ≡ r = get_or-set_same d.regions j r no_region (omega (b.laid.count, c.there, arith)) in (
+      typed = λ b y z t q. (
         record { names = t.names; point = omega (y.1, c.size, arith); here = t.here; labels = t.labels; scopes = t.scopes; starts = t.starts; edges = t.edges; objects = t.objects },
-        subst (λ (x : ℕ). Promised w x d.variables) c.function (subst (λ (x : Region). Promised w (w.function j) x.variables) new (z.regions j c.behind (subst (λ (x : Region). 0 < x.points) (sym new) b.positive))),
+        entered_promised w m f d c b z,
       );
     }
