@@ -61,7 +61,7 @@ read_are w g m n s (element t o a i) h =
 
 -- ---- assigning
 
-set_step : (w : Place) → Proper w → (m n : ℕ) (s : Stage) (t : IntType) (x : ℕ) (e : Operand ℕ) → OperandIs w m n s e → (d : D) → (Typed w s d → Has w.kinds x t None)
+pub set_step : (w : Place) → Proper w → (m n : ℕ) (s : Stage) (t : IntType) (x : ℕ) (e : Operand ℕ) → OperandIs w m n s e → (d : D) → (Typed w s d → Has w.kinds x t None)
     → Step w m n s s d (row.set_after t e.int_type x (e.ways.value d)) (Unit {0}) (IsOfType w.kinds t (variable x))
 set_step w g m n s t x e h d k =
     let r = e.ways.value d in
