@@ -15,7 +15,7 @@ use Rattle.pk_scope.specs.declared.declarations.Typing.TheVariants.{Void, Intege
 use Rattle.pk_scope.specs.Declarations.{is_void, is_unknown}
 use Rattle.pk_scope.specs.Failures.{fails_if, noted}
 use Rattle.pk_scope.specs.Specifiers.{type_named, specifiers}
-use Rattle.pk_declare.specs.Declarations.{words_of, type_or_int, local_of}
+use Rattle.pk_declare.specs.Declarations.{words_of, type_or_int, local_of, integer_in}
 use Rattle.pk_declare.specs.Walks.{here, failing, with_local}
 use Rattle.pk_jump.specs.Jumps.{jumps_of}
 use Rattle.pk_jump.specs.Labels.{labels_of}
@@ -176,7 +176,7 @@ later_body r b w =
     let p = before_body w in
     later w (after_items noted r p b.items).walked _ (later_items r p b.items).walked (later_failing fs (after_items noted r p b.items).walked)
 
-made : (u : UnitTree) (g : tree.FunctionTree) (m : Marks) (visible : ℕ) (b : BlockTree) (w v x : W) (is : Option tree.ItemTrees) → m ≡ record { labels = m.labels; cases = 0; has_default = false } → x.calls ≡ v.calls → x.locals ≡ v.locals
+made : (u : UnitTree) (g : tree.FunctionTree) (m : Marks) (visible : ℕ) (b : BlockTree) (w v x : W) (is : Option tree.ItemTrees) → m ≡ record { labels = m.labels; returns = g.returns; cases = 0; has_default = false } → x.calls ≡ v.calls → x.locals ≡ v.locals
     → visible ≤ length u.objects → w.calls ≡ [] → AreParameters g.parameters x.locals → length w.locals ≡ length g.parameters → ItemsPart u x.locals m w v is
     → IsBodyIf u g (option_map (body_of b visible m.labels x) is)
 made u g m visible b w v x None im c l s k p n h = tt
@@ -190,9 +190,9 @@ made u g m visible b w v x (Some is) im c l s k p n h = record {
       h.1.listed ∙ (at ∙ sym (ap (numbered 0) is_them));
 }
 
-pub body : (u : UnitTree) (g : tree.FunctionTree) (r : Typing) (visible : ℕ) (b : BlockTree) (w : W) → visible ≤ length u.objects → w.calls ≡ [] → AreParameters g.parameters (after_body noted r b w).locals → length w.locals ≡ length g.parameters
+pub body : (u : UnitTree) (g : tree.FunctionTree) (r : Typing) (visible : ℕ) (b : BlockTree) (w : W) → visible ≤ length u.objects → w.calls ≡ [] → AreParameters g.parameters (after_body noted r b w).locals → length w.locals ≡ length g.parameters → g.returns ≡ integer_in r → is_unknown r ≡ false
     → NamesAre (around u (after_body noted r b w).locals w) (here w) → ItemsHave b.items → (after_body noted r b w).found ≡ None → IsBodyIf u g (body_at noted r visible b w)
-body u g r visible b w s k p n names has h =
+body u g r visible b w s k p n ret known names has h =
     let labels = labels_of w.scoping.text b.items in
     let jumps = jumps_of w.scoping.text labels.labels b.items in
     let fs = about_jumps labels jumps in
@@ -202,7 +202,7 @@ body u g r visible b w s k p n names has h =
     let f = none_found q.walked.found fs h in
     let rows : each_at rule.Label labels.repeated ++ each_at rule.Label jumps.unknown ++ each_at rule.Jump jumps.misplaced ≡ [] = f.1 in
     let placed : jumps.misplaced ≡ [] = none_at rule.Jump jumps.misplaced (lists.none_after (each_at rule.Label labels.repeated ++ each_at rule.Label jumps.unknown) (each_at rule.Jump jumps.misplaced) rows) in
-    let m : Marks = record { labels = labels.count; cases = 0; has_default = false } in
+    let m : Marks = record { labels = labels.count; returns = g.returns; cases = 0; has_default = false } in
     let e : Ends x.locals m q = record {
       begins = record { rest = []; is = append_none q.walked.locals };
       found = f.0;
@@ -210,4 +210,4 @@ body u g r visible b w s k p n names has h =
       default = λ t. absurd (false≢true (sym (no_default w.scoping.text labels.labels r start b.items placed) ∙ t));
     } in
     made u g m visible b w q.walked x (typed_items noted r labels.labels start b.items) refl refl refl s k p n
-    (items_part u x.locals r labels.labels m (labels_below w.scoping.text b.items) start b.items names has e)
+    (items_part u x.locals r labels.labels m (labels_below w.scoping.text b.items, ret, known) start b.items names has e)

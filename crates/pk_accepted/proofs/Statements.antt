@@ -1,5 +1,6 @@
 -- Statements in which no rule fails are well typed.
-use Rattle.std.proofs.Common.{◌≡◌, ℕ, zero, suc, ◌+◌, ◌<◌, ◌≤◌, true, List, [], ◌∷◌, ◌++◌, Option, Some, None, length, refl, ap, sym, subst, ◌∙◌, arith, length-append, append_assoc}
+use Rattle.std.proofs.lemmas.Bool.{false≢true}
+use Rattle.std.proofs.Common.{false, true, ◌≡◌, ℕ, zero, suc, ◌+◌, ◌<◌, ◌≤◌, true, List, [], ◌∷◌, ◌++◌, Option, Some, None, length, refl, ap, sym, subst, ◌∙◌, arith, length-append, append_assoc}
 use Rattle.std.proofs.Math.Nat.{add-zero}
 use Rattle.std.specs.Prelude.{ℤ, All, is_some, unwrap_or}
 use Rattle.std.proofs.lemmas.Option.{none-some}
@@ -18,12 +19,13 @@ use Rattle.pk_typed.specs.Trees.{LocalTree, ValueTree, EffectTree, DeclaredTree,
 use Rattle.pk_scope.specs.declared.declarations.Typing.{Typing}
 use Rattle.pk_scope.specs.declared.declarations.Typing.TheVariants.{Void, Integer, Unknown}
 use Rattle.pk_scope.specs.declared.failures.Failure.{Failure}
+use Rattle.pk_scope.specs.Declarations.{is_unknown}
 use Rattle.pk_scope.specs.Failures.{fails_if, noted}
 use Rattle.pk_scope.specs.Scopes.{Scoping, names_in, spelled}
 use Rattle.pk_typing.specs.Typed.{of_both}
 use Rattle.pk_typing.specs.Types.{type_of}
 use Rattle.pk_declare.specs.Constants.{evaluated, number_in}
-use Rattle.pk_declare.specs.Declarations.{after_declaration, declaration_trees_at}
+use Rattle.pk_declare.specs.Declarations.{after_declaration, declaration_trees_at, integer_in}
 use Rattle.pk_declare.specs.Walks.{here, failing, after_value, after_effect, value_at, effect_at}
 use Rattle.pk_jump.specs.declared.labels.Label.{Label}
 use Rattle.pk_statement.specs.declared.statements.Case.{Case}
@@ -32,10 +34,10 @@ use Rattle.pk_statement.specs.Trees.{Labels, numbered, of_three, case_numbers, e
 use Rattle.pk_welltyped.specs.Listed as listed
 use Rattle.pk_welltyped.specs.Listed.{Numbered, calls_in, calls_in_effect, calls_if, calls_in_effect_if, calls_in_declared, calls_in_all_declared, calls_at_start, calls_in_statement, calls_in_items, objects_at_start, objects_in, objects_in_items}
 use Rattle.pk_welltyped.specs.WellTyped as good
-use Rattle.pk_welltyped.specs.WellTyped.{Around, behind, IsValue, IsValueIf, IsEffect, IsEffectIf, AreDeclared, IsForStart, Marks, IsStatement, AreItems}
+use Rattle.pk_welltyped.specs.WellTyped.{Around, behind, IsValue, IsValueIf, IsEffect, IsEffectIf, AreDeclared, IsForStart, Marks, IsReturned, IsStatement, AreItems}
 use Rattle.pk_accepted.specs.Constants.{HasConstantsIf, StartHas, StatementHas, ItemsHave}
 use Rattle.pk_accepted.specs.Names.{NamesAre}
-use Rattle.pk_accepted.proofs.Walks.{W, around, Later, later_same, later, later_failing, later_value, later_effect, Steps, steps_none, steps, steps_as, ValuePart, EffectPart, value_part, effect_part}
+use Rattle.pk_accepted.proofs.Walks.{none_found, W, around, Later, later_same, later, later_failing, later_value, later_effect, Steps, steps_none, steps, steps_as, ValuePart, EffectPart, value_part, effect_part}
 use Rattle.pk_accepted.proofs.Declarations.{names_later, names_opened, Begins, begins_before, constant_steps, later_constant, later_declaration, AllDeclaredPart, AllDeclaring}
 use Rattle.pk_accepted.proofs.Declarations as declarations
 
@@ -307,10 +309,25 @@ switch_statement u ls m w v x y p q (Some c) (Integer t) s a b g h = known (case
           record { sites = all.sites; calls = a ∙ all.calls; listed = all.listed; objects = ap length b ∙ all.objects },
         )
 
-return_statement : (u : UnitTree) (ls : List LocalTree) (m : Marks) (w v : W) (p : Pos) (e : Option ValueTree) → ValuePart (around u ls w) w v e → StatementPart u ls m w v (option_map (tree.return p) (option_map Some e))
+return_statement : (u : UnitTree) (ls : List LocalTree) (m : Marks) (w v : W) (p : Pos) (t : IntType) (e : Option ValueTree) → m.returns ≡ Some t → ValuePart (around u ls w) w v e → StatementPart u ls m w v (option_map (tree.return p) (option_map Some e))
 unfolding IsStatement calls_in_statement objects_in
-return_statement u ls m w v p None h = tt
-return_statement u ls m w v p (Some e) h = h
+return_statement u ls m w v p t None r h = tt
+return_statement u ls m w v p t (Some e) r h = (subst (λ (q : Option IntType). IsReturned (around u ls w) q (Some e)) (sym r) h.0, h.1)
+
+-- the rule on `return` (6.8.6.4)
+returns_value : (r : Typing) → returns_otherwise r true ≡ false → is_unknown r ≡ false → (t : IntType) × (integer_in r ≡ Some t)
+returns_value Void h k = absurd (false≢true (sym h))
+returns_value (Integer t) h k = (t, refl)
+returns_value Unknown h k = absurd (false≢true (sym k))
+
+returns_nothing : (r : Typing) → returns_otherwise r false ≡ false → is_unknown r ≡ false → integer_in r ≡ None
+returns_nothing Void h k = refl
+returns_nothing (Integer t) h k = absurd (false≢true (sym h))
+returns_nothing Unknown h k = absurd (false≢true (sym k))
+
+-- labels are below their number, and the function's type is known
+abbrev pub Fitting : Marks → Typing → Labels → Type 0
+Fitting m r labels = Below m.labels labels × (m.returns ≡ integer_in r) × (is_unknown r ≡ false)
 
 -- ---- the parentheses of a `for`
 
@@ -459,7 +476,7 @@ names_behind u ls w v l same n = subst (λ (s : Scoping). NamesAre (around u ls 
 mutual
   unfolding after after_items typed typed_items StatementHas ItemsHave IsStatement calls_in_statement objects_in
 
-  pub statements : (u : UnitTree) (ls : List LocalTree) (r : Typing) (labels : Labels) (m : Marks) → Below m.labels labels → (p : P) (s : StatementTree) → NamesAre (around u ls p.walked) (here p.walked) → StatementHas s
+  pub statements : (u : UnitTree) (ls : List LocalTree) (r : Typing) (labels : Labels) (m : Marks) → Fitting m r labels → (p : P) (s : StatementTree) → NamesAre (around u ls p.walked) (here p.walked) → StatementHas s
       → Ends ls m (after noted r p s) → StatementPart u ls m p.walked (after noted r p s).walked (typed noted r labels p s)
   statements u ls r labels m b p (ast.block opened items closed) n k e =
       let i = inside p in
@@ -470,7 +487,7 @@ mutual
   statements u ls r labels m b p (ast.expression_statement x) n k e =
       effect_statement u ls m p.walked (after_effect noted x p.walked) (first_place_of x) (effect_at p.walked x) (effect_part (around u ls p.walked) p.walked x n k e.found)
   statements u ls r labels m b p (ast.label x s) n k e =
-      label_statement u ls m p.walked (after noted r p s).walked x.at (labels (spelled p.walked.scoping.text x)) (typed noted r labels p s) (b (spelled p.walked.scoping.text x)) (statements u ls r labels m b p s n k e)
+      label_statement u ls m p.walked (after noted r p s).walked x.at (labels (spelled p.walked.scoping.text x)) (typed noted r labels p s) (b.0 (spelled p.walked.scoping.text x)) (statements u ls r labels m b p s n k e)
   statements u ls r labels m b p (ast.case at x s) n k e =
       let q = with_case noted at x p in
       let l = ends_before ls m q _ (later_statement r q s) e in
@@ -525,17 +542,19 @@ mutual
       for_statement u ls m p.walked i.walked v x y o.walked (outside p o).walked at (start_at noted start i.walked) (optional_value_at v test) (optional_effect_at x step) (typed noted r labels q s) refl refl refl refl
       first.part (optional_value (around u ls v) v test first.names k.1 fx) (optional_effect (around u ls v) x step (value_names u ls v test first.names) k.2 l.found)
       (statements u ls r labels m b q s (optional_names u ls x step nx) k.3 inner)
-  statements u ls r labels m b p (ast.goto at x) n k e = goto_statement u ls m p.walked at (labels (spelled p.walked.scoping.text x)) (b (spelled p.walked.scoping.text x))
+  statements u ls r labels m b p (ast.goto at x) n k e = goto_statement u ls m p.walked at (labels (spelled p.walked.scoping.text x)) (b.0 (spelled p.walked.scoping.text x))
   statements u ls r labels m b p (ast.continue at) n k e = nothing u ls m p.walked p.walked (tree.continue at) refl refl tt refl refl
   statements u ls r labels m b p (ast.break at) n k e = nothing u ls m p.walked p.walked (tree.break at) refl refl tt refl refl
-  statements u ls r labels m b p (ast.return at None) n k e = nothing u ls m p.walked (after noted r p (ast.return at None)).walked (tree.return at None) refl refl tt refl refl
+  statements u ls r labels m b p (ast.return at None) n k e = nothing u ls m p.walked (after noted r p (ast.return at None)).walked (tree.return at None) refl refl
+      (let none = returns_nothing r (declarations.holds_not _ _ _ (none_found p.walked.found (fails_if (returns_otherwise r false) rule.Return at) e.found).1) b.2 in subst (λ (q : Option IntType). IsReturned (around u ls p.walked) q None) (sym (b.1 ∙ none)) tt) refl refl
   statements u ls r labels m b p (ast.return at (Some x)) n k e =
       let fs = fails_if (returns_otherwise r true) rule.Return at in
       let w = failing noted fs p.walked in
       let s = value_part (around u ls p.walked) w x n k e.found in
-      return_statement u ls m p.walked (after_value noted x w) at (value_at w x) (from_there (around u ls p.walked) p.walked w (after_value noted x w) (value_at w x) refl refl s)
+      let some = returns_value r (declarations.holds_not _ _ _ (none_found p.walked.found fs ((later_value x w).found e.found)).1) b.2 in
+      return_statement u ls m p.walked (after_value noted x w) at some.0 (value_at w x) (b.1 ∙ some.1) (from_there (around u ls p.walked) p.walked w (after_value noted x w) (value_at w x) refl refl s)
 
-  pub items_part : (u : UnitTree) (ls : List LocalTree) (r : Typing) (labels : Labels) (m : Marks) → Below m.labels labels → (p : P) (is : ItemTrees) → NamesAre (around u ls p.walked) (here p.walked) → ItemsHave is
+  pub items_part : (u : UnitTree) (ls : List LocalTree) (r : Typing) (labels : Labels) (m : Marks) → Fitting m r labels → (p : P) (is : ItemTrees) → NamesAre (around u ls p.walked) (here p.walked) → ItemsHave is
       → Ends ls m (after_items noted r p is) → ItemsPart u ls m p.walked (after_items noted r p is).walked (typed_items noted r labels p is)
   items_part u ls r labels m b p no_items n k e = no_items_part u ls m p.walked
   items_part u ls r labels m b p (declaration_then d is) n k e =

@@ -247,6 +247,7 @@ are_special q = found_special specials q (tt, (tt, (tt, (tt, (tt, (tt, (tt, (tt,
 record HeadIs (u : UnitTree) (h : F) (n : ℕ) (s : SignatureTree) : Type 0 where
   file : FileIs u h
   entry : EntryAt h.functions n s
+  known : is_unknown s.returns ≡ false
 
 head : (u : UnitTree) (defined : List ℕ → Bool) (f : FunctionTree) (file : F) → FileIs u file → Stands u (after_head noted defined f file) → (after_head noted defined f file).walked.found ≡ None → Integers (types_of f.parameters)
     → HeadIs u (after_head noted defined f file) (number_of file.functions (names_in file.walked.scoping f.name)) (signature_of f)
@@ -273,6 +274,7 @@ head u defined f file h s k i =
         entries = new_entries (EntryIs u) file.functions n (text_of w.scoping f.name) (signature_of f) h.entries (record { body = tt; integers = i; returns = unknown });
       };
       entry = e;
+      known = unknown;
     }
   where
     known_new : (es : Entries) (n : ℕ) (name : List ℕ) (s : SignatureTree) (d : Option Declaration) → KnownIn es d → KnownIn (with_new es n name s) d
@@ -316,10 +318,10 @@ known_kept es fs (Some (Function f)) k h = there (slice_get fs f.number) refl (k
     there (Some e) is s = (e, is)
 
 -- the entries of a function whose parameters and body are looked at
-with_block : (u : UnitTree) (r : Typing) (n : ℕ) (ps : List ParameterTree) (b : Option BlockTree) (h : F) (e : EntryTree) → FileIs u h → h.walked.calls ≡ [] → slice_get h.functions n ≡ Some e → e.signature.parameters ≡ types_of ps → BlockHas b
+with_block : (u : UnitTree) (r : Typing) (n : ℕ) (ps : List ParameterTree) (b : Option BlockTree) (h : F) (e : EntryTree) → FileIs u h → h.walked.calls ≡ [] → slice_get h.functions n ≡ Some e → e.signature.parameters ≡ types_of ps → e.signature.returns ≡ r → is_unknown r ≡ false → BlockHas b
     → (let g = on (after_parameters noted ps) (on entering h) in let x = after_optional_body noted r n b g in Stands u x → x.walked.found ≡ None → (i : ℕ) (d : EntryTree) → slice_get x.functions i ≡ Some d → EntryIs u d)
-with_block u r n ps None h e is c there same has s k = is.entries
-with_block u r n ps (Some b) h e is c there same has s k =
+with_block u r n ps None h e is c there same ret known has s k = is.entries
+with_block u r n ps (Some b) h e is c there same ret known has s k =
     let w = (on entering h).walked in
     let v = after_parameters noted ps w in
     let ls = (after_body noted r b v).locals in
@@ -333,7 +335,7 @@ with_block u r n ps (Some b) h e is c there same has s k =
     let many : length v.locals ≡ length (map type_or_int e.signature.parameters) = ap length locals ∙ (p.many ∙ ap length types) in
     let visible : length h.objects ≤ length u.objects = omega (ap length s.objects ∙ length-append h.objects s.rest, arith) in
     let made = body_at noted r (length h.objects) b v in
-    let whole = body u (function_of (with_body made e)) r (length h.objects) b v visible (p.calls ∙ c) are many p.names has k in
+    let whole = body u (function_of (with_body made e)) r (length h.objects) b v visible (p.calls ∙ c) are many (ap integer_in ret) known p.names has k in
     updated (EntryIs u) (with_body (body_at noted r (length h.objects) b v)) n h.functions is.entries
     (λ d is_d. let same_entry : e ≡ d = ap (λ (o : Option EntryTree). unwrap_or o d) (sym there ∙ is_d) in
     let x = is.entries n d is_d in
@@ -364,7 +366,7 @@ function_is u defined f file is c has s k =
       known = λ y. known_kept h.functions x.functions (here h.walked y) b.entries (hi.file.known y);
       locals = refl;
       objects = subst (All (λ (o : tree.FileObjectTree). IsStart o.int_type o.start)) (sym (same_objects r n f.body g)) is.objects;
-      entries = with_block u r n f.parameters f.body h hi.entry.entry hi.file c hi.entry.there (ap (λ (q : SignatureTree). q.parameters) hi.entry.same) has sx k;
+      entries = with_block u r n f.parameters f.body h hi.entry.entry hi.file c hi.entry.there (ap (λ (q : SignatureTree). q.parameters) hi.entry.same) (ap (λ (q : SignatureTree). q.returns) hi.entry.same) hi.known has sx k;
     }
 
 -- ---- texts

@@ -234,34 +234,38 @@ quiet w m i k d e P Q v s r p t = record {
   typed = λ x y z f q. t x.positive y f q;
 }
 
--- a call whose arguments have later calls
-pub step_around : (w : Place) (m n : ℕ) (i j k : Stage) (d e g : D) (P Q R : Type 0) → Step w (m + 1) n i j d e P Q → Step w m (m + 1) j k e g Q R → Step w m n i k d g P R
-step_around w m n i j k d e g P Q R a b = record {
-  order = omega (a.order, arith);
+-- steps of which the first makes the later calls
+pub step_back : (w : Place) (m l n : ℕ) (i j k : Stage) (d e g : D) (P Q R : Type 0) → Step w l n i j d e P Q → Step w m l j k e g Q R → Step w m n i k d g P R
+step_back w m l n i j k d e g P Q R a b = record {
+  order = omega (a.order, b.order, arith);
   variables = omega (a.variables, b.variables, arith);
   points = omega (a.points, b.points, arith);
   after = λ x y. let f = a.after (inner x) (below_before w e g b.variables b.points y) in let h = b.after (own x f) y in record {
     laid = h.laid;
     same = λ q c. elim c [
-      inl l ↦ h.same q (inl l) ∙ f.same q (inl (omega (l, arith))) |
-      inr l ↦ h.same q (inr (omega (l, a.order, arith))) ∙ f.same q (inr l)
+      inl o ↦ h.same q (inl o) ∙ f.same q (inl (omega (o, b.order, arith))) |
+      inr o ↦ h.same q (inr (omega (o, a.order, arith))) ∙ f.same q (inr o)
     ];
-    made = λ q l o. which q (split q m) l o f h;
+    made = λ q o c. which q (split q l) o c f h;
   };
   before = λ x y z. let be = below_before w e g b.variables b.points y in let f = a.after (inner x) be in a.before (inner x) be (b.before (own x f) y z);
   typed = λ x y z t p. let be = below_before w e g b.variables b.points y in let f = a.after (inner x) be in let r = a.typed (inner x) be (b.before (own x f) y z) t p in b.typed (own x f) y z r.0 r.1;
 }
   where
-    split : (i l : ℕ) → (i ≤ l) ⊎ (l < i)
+    split : (i l : ℕ) → (i < l) ⊎ (l ≤ i)
     split i l = grind arith
-    inner : Before w m n d → Before w (m + 1) n d
-    inner x = record { laid = x.laid; not_made = λ q l o. x.not_made q (omega (l, arith)) o; positive = x.positive }
-    own : Before w m n d → After w (m + 1) n d e → Before w m (m + 1) e
+    inner : Before w m n d → Before w l n d
+    inner x = record { laid = x.laid; not_made = λ q o c. x.not_made q (omega (o, b.order, arith)) c; positive = x.positive }
+    own : Before w m n d → After w l n d e → Before w m l e
     own x f = record {
       laid = f.laid;
-      not_made = λ q l o c. x.not_made q l (omega (o, a.order, arith)) (subst (λ (r : Region). 0 < r.points) (f.same (w.context.first + q) (inl (omega (o, arith)))) c);
+      not_made = λ q o c h. x.not_made q o (omega (c, a.order, arith)) (subst (λ (r : Region). 0 < r.points) (f.same (w.context.first + q) (inl (omega (c, arith)))) h);
       positive = omega (x.positive, a.points, arith);
     }
-    which : (q : ℕ) → (q ≤ m) ⊎ (m < q) → m ≤ q → q < n → After w (m + 1) n d e → After w m (m + 1) e g → IsKept g.regions (w.context.first + q)
-    which q (inl c) l o f h = h.made q l (omega (c, arith))
-    which q (inr c) l o f h = subst (λ (r : Region). 0 < r.points) (sym (h.same (w.context.first + q) (inr (omega (c, arith))))) (f.made q (omega (c, arith)) o)
+    which : (q : ℕ) → (q < l) ⊎ (l ≤ q) → m ≤ q → q < n → After w l n d e → After w m l e g → IsKept g.regions (w.context.first + q)
+    which q (inl o) c r f h = h.made q c o
+    which q (inr o) c r f h = subst (λ (x : Region). 0 < x.points) (sym (h.same (w.context.first + q) (inr (omega (o, arith))))) (f.made q o r)
+
+-- a call whose arguments have later calls
+pub step_around : (w : Place) (m n : ℕ) (i j k : Stage) (d e g : D) (P Q R : Type 0) → Step w (m + 1) n i j d e P Q → Step w m (m + 1) j k e g Q R → Step w m n i k d g P R
+step_around w m n i j k d e g P Q R a b = step_back w m (m + 1) n i j k d e g P Q R a b
