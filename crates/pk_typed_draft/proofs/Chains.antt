@@ -53,4 +53,5 @@ named_step w m s (Some name) x d = quiet w m s s d (with_name x d) (x < length w
       starts = t.starts;
       edges = t.edges;
       objects = t.objects;
+      places = t.places;
     }, tt))

@@ -110,6 +110,10 @@ pub record ObjectsAre (w : Place) (s : Stage) (os : List ℕ) : Type 0 where
   pub each : (i : ℕ) → i < s.objects → (k : good.Kind) → good.kind_among w.context.locals i ≡ Some k → Has w.kinds (slice_index_or os i 0) k.int_type k.length
   pub result : HasIf w.kinds (slice_index_or os (length w.context.locals) 0) s.result
 
+-- the points where regions are entered are there
+abbrev pub PlacesAre : Place → List Region → Type 0
+PlacesAre w rs = (j : ℕ) → IsKept rs j → (region_at rs j).at < w.points
+
 pub record Typed (w : Place) (n : Stage) (d : D) : Type 0 where
   pub names : d.names ≡ by_number
   pub point : d.point < w.points
@@ -119,6 +123,7 @@ pub record Typed (w : Place) (n : Stage) (d : D) : Type 0 where
   pub starts : All (λ (x : VariableOf). IsStartOf x x.start) d.made
   pub edges : All (EdgeIs w) d.edges
   pub objects : ObjectsAre w n d.objects
+  pub places : PlacesAre w d.regions
 
 -- what is so all along
 pub record Proper (w : Place) : Type 0 where
@@ -141,10 +146,17 @@ pub record Before (w : Place) (m n : ℕ) (d : D) : Type 0 where
   pub not_made : NotMade w m n d.regions
   pub positive : 0 < d.points
 
+-- a region that is kept for a path, inside those that are there
+pub record IsMade (w : Place) (j : ℕ) (r : Region) : Type 0 where
+  pub kept : 0 < r.points
+  pub points : r.points + (size_in w.context.sizes (w.function j)).points ≤ w.points
+  pub variables : r.variables + (size_in w.context.sizes (w.function j)).variables ≤ length w.kinds
+
 pub record After (w : Place) (m n : ℕ) (d e : D) : Type 0 where
   pub laid : Laid w e.variables e.made e.regions
   pub same : (j : ℕ) → (j < w.context.first + m) ⊎ (w.context.first + n ≤ j) → region_at e.regions j ≡ region_at d.regions j
-  pub made : (i : ℕ) → m ≤ i → i < n → IsKept e.regions (w.context.first + i)
+  pub made : (i : ℕ) → m ≤ i → i < n → IsMade w (w.context.first + i) (region_at e.regions (w.context.first + i))
+  pub old : (y k : ℕ) → (variable_in d.made y).path ≡ Some k → variable_in e.made y ≡ variable_in d.made y
 
 -- From d to e calls m to n are made, and objects i to k declared; P is asked, Q is given.
 pub record Step (w : Place) (m n : ℕ) (i k : Stage) (d e : D) (P Q : Type 0) : Type 0 where
@@ -173,15 +185,16 @@ after_both w m l n d e g o p a b = record {
   laid = b.laid;
   same = λ j c. both j c;
   made = λ i x y. made i x y;
+  old = λ y k x. let o = a.old y k x in b.old y k (ap (λ (v : VariableOf). v.path) o ∙ x) ∙ o;
 }
   where
     both : (j : ℕ) → (j < w.context.first + m) ⊎ (w.context.first + n ≤ j) → region_at g.regions j ≡ region_at d.regions j
     both j (inl c) = b.same j (inl (omega (c, o, arith))) ∙ a.same j (inl c)
     both j (inr c) = b.same j (inr c) ∙ a.same j (inr (omega (c, p, arith)))
-    which : (i : ℕ) → (i < l) ⊎ (l ≤ i) → m ≤ i → i < n → IsKept g.regions (w.context.first + i)
-    which i (inl c) x y = subst (λ (r : Region). 0 < r.points) (sym (b.same (w.context.first + i) (inl (omega (c, arith))))) (a.made i x c)
+    which : (i : ℕ) → (i < l) ⊎ (l ≤ i) → m ≤ i → i < n → IsMade w (w.context.first + i) (region_at g.regions (w.context.first + i))
+    which i (inl c) x y = subst (IsMade w (w.context.first + i)) (sym (b.same (w.context.first + i) (inl (omega (c, arith))))) (a.made i x c)
     which i (inr c) x y = b.made i c y
-    made : (i : ℕ) → m ≤ i → i < n → IsKept g.regions (w.context.first + i)
+    made : (i : ℕ) → m ≤ i → i < n → IsMade w (w.context.first + i) (region_at g.regions (w.context.first + i))
     made i x y = which i (split i l) x y
       where
         split : (i l : ℕ) → (i < l) ⊎ (l ≤ i)
@@ -229,7 +242,7 @@ quiet w m i k d e P Q v s r p t = record {
   order = omega arith;
   variables = omega (v, arith);
   points = p;
-  after = λ x y. record { laid = rw (v, s, r) x.laid; same = λ j c. ap (λ (rs : List Region). region_at rs j) r; made = λ j a b. absurd (omega (a, b, arith)) };
+  after = λ x y. record { laid = rw (v, s, r) x.laid; same = λ j c. ap (λ (rs : List Region). region_at rs j) r; made = λ j a b. absurd (omega (a, b, arith)); old = λ j l c. ap (λ (ms : List VariableOf). variable_in ms j) s };
   before = λ x y z. rw (s, r) at z;
   typed = λ x y z f q. t x.positive y f q;
 }
@@ -247,6 +260,7 @@ step_back w m l n i j k d e g P Q R a b = record {
       inr o ↦ h.same q (inr (omega (o, a.order, arith))) ∙ f.same q (inr o)
     ];
     made = λ q o c. which q (split q l) o c f h;
+    old = λ q o c. let u = f.old q o c in h.old q o (ap (λ (v : VariableOf). v.path) u ∙ c) ∙ u;
   };
   before = λ x y z. let be = below_before w e g b.variables b.points y in let f = a.after (inner x) be in a.before (inner x) be (b.before (own x f) y z);
   typed = λ x y z t p. let be = below_before w e g b.variables b.points y in let f = a.after (inner x) be in let r = a.typed (inner x) be (b.before (own x f) y z) t p in b.typed (own x f) y z r.0 r.1;
@@ -262,9 +276,9 @@ step_back w m l n i j k d e g P Q R a b = record {
       not_made = λ q o c h. x.not_made q o (omega (c, a.order, arith)) (subst (λ (r : Region). 0 < r.points) (f.same (w.context.first + q) (inl (omega (c, arith)))) h);
       positive = omega (x.positive, a.points, arith);
     }
-    which : (q : ℕ) → (q < l) ⊎ (l ≤ q) → m ≤ q → q < n → After w l n d e → After w m l e g → IsKept g.regions (w.context.first + q)
+    which : (q : ℕ) → (q < l) ⊎ (l ≤ q) → m ≤ q → q < n → After w l n d e → After w m l e g → IsMade w (w.context.first + q) (region_at g.regions (w.context.first + q))
     which q (inl o) c r f h = h.made q c o
-    which q (inr o) c r f h = subst (λ (x : Region). 0 < x.points) (sym (h.same (w.context.first + q) (inr (omega (o, arith))))) (f.made q o r)
+    which q (inr o) c r f h = subst (IsMade w (w.context.first + q)) (sym (h.same (w.context.first + q) (inr (omega (o, arith))))) (f.made q o r)
 
 -- a call whose arguments have later calls
 pub step_around : (w : Place) (m n : ℕ) (i j k : Stage) (d e g : D) (P Q R : Type 0) → Step w (m + 1) n i j d e P Q → Step w m (m + 1) j k e g Q R → Step w m n i k d g P R

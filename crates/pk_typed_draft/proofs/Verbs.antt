@@ -17,7 +17,7 @@ use Rattle.pk_draft.specs.declared.drafts.Size.{Size}
 use Rattle.pk_draft.specs.Drafts.{DraftOf, EdgeFrom, no_region, at, standing, on, in_scope, with_name, placed, all_placed, fresh, with_variable, with_object, inner, with_temporary, link, go, emit, away, come, entered}
 use Rattle.pk_lower_row.specs.Contexts.{Context, size_in}
 use Rattle.pk_welltyped.specs.WellTyped as good
-use Rattle.pk_typed_draft.proofs.Places.{D, Place, Has, HasIf, Promised, region_at, IsKept, In, variable_in, IsFresh, Laid, Foreseen, EdgeIs, LabelsAre, Stage, ObjectsAre, Typed, Proper, Below, NotMade, Before, After, Step, quiet}
+use Rattle.pk_typed_draft.proofs.Places.{D, Place, Has, HasIf, Promised, region_at, IsKept, In, variable_in, IsFresh, Laid, Foreseen, EdgeIs, LabelsAre, Stage, ObjectsAre, Typed, Proper, Below, NotMade, IsMade, PlacesAre, Before, After, Step, quiet}
 
 pub all_last : {A : Type 0} (Q : A → Type 0) (xs : List A) (x : A) → All Q xs → Q x → All Q (xs ++ x ∷ [])
 all_last Q [] x h k zero d l = k
@@ -41,10 +41,10 @@ either (suc i) (suc j) = elim (either i j) [ inl h ↦ inl (ap suc h) | inr h �
 -- ---- points and edges
 
 pub typed_at : (w : Place) (s : Stage) (p : ℕ) (d : D) → p < w.points → Typed w s d → Typed w s (at p d)
-typed_at w s p d h t = record { names = t.names; point = h; here = t.here; labels = t.labels; scopes = t.scopes; starts = t.starts; edges = t.edges; objects = t.objects }
+typed_at w s p d h t = record { names = t.names; point = h; here = t.here; labels = t.labels; scopes = t.scopes; starts = t.starts; edges = t.edges; objects = t.objects; places = t.places }
 
 pub typed_standing : (w : Place) (s : Stage) (l : Label) (d : D) → l.path ≡ d.here.path → Typed w s d → Typed w s (standing l d)
-typed_standing w s l d h t = record { names = t.names; point = t.point; here = h ∙ t.here; labels = t.labels; scopes = t.scopes; starts = t.starts; edges = t.edges; objects = t.objects }
+typed_standing w s l d h t = record { names = t.names; point = t.point; here = h ∙ t.here; labels = t.labels; scopes = t.scopes; starts = t.starts; edges = t.edges; objects = t.objects; places = t.places }
 
 pub typed_link : (w : Place) (s : Stage) (i : InstrOf ℕ) (q : ℕ) (d : D) → q < w.points → IsTypedInstr w.kinds i → Typed w s d → Typed w s (link i q d)
 typed_link w s i q d h k t = record {
@@ -55,7 +55,7 @@ typed_link w s i q d h k t = record {
   scopes = t.scopes;
   starts = t.starts;
   edges = all_last (EdgeIs w) d.edges (record { from = d.point; instr = i; to = q }) t.edges (record { from = t.point; to = h; typed = k });
-  objects = t.objects;
+  objects = t.objects; places = t.places;
 }
 
 pub typed_placed : (w : Place) → Proper w → (s : Stage) (p : ℕ) (d : D) → Typed w s d → Typed w s (placed p d)
@@ -67,7 +67,7 @@ typed_placed w g s p d t = record {
   scopes = t.scopes;
   starts = t.starts;
   edges = t.edges;
-  objects = t.objects;
+  objects = t.objects; places = t.places;
 }
 
 typed_all_placed : (w : Place) → Proper w → (s : Stage) (n p : ℕ) (d : D) → Typed w s d → Typed w s (all_placed n p d)
@@ -77,7 +77,7 @@ typed_all_placed w g s (suc n) p d t = typed_all_placed w g s n (p + 1) (placed 
 pub typed_fresh : (w : Place) → Proper w → (s : Stage) (n : ℕ) (d : D) → Typed w s d → Typed w s (fresh n d)
 typed_fresh w g s n d t =
     let e = typed_all_placed w g s n d.points d t in
-    record { names = e.names; point = e.point; here = e.here; labels = e.labels; scopes = e.scopes; starts = e.starts; edges = e.edges; objects = e.objects }
+    record { names = e.names; point = e.point; here = e.here; labels = e.labels; scopes = e.scopes; starts = e.starts; edges = e.edges; objects = e.objects; places = e.places }
 
 -- n points, where n isn't known
 placed_same : (n p : ℕ) (d : D) → ((all_placed n p d).variables ≡ d.variables) × ((all_placed n p d).made ≡ d.made) × ((all_placed n p d).regions ≡ d.regions)
@@ -140,7 +140,7 @@ variable_step w g m s x d p st = record {
   order = omega arith;
   variables = omega arith;
   points = omega arith;
-  after = λ b y. record { laid = laid_with w d.variables d.made d.regions x y.0 b.laid; same = λ j c. refl; made = λ j a c. absurd (omega (a, c, arith)) };
+  after = λ b y. record { laid = laid_with w d.variables d.made d.regions x y.0 b.laid; same = λ j c. refl; made = λ j a c. absurd (omega (a, c, arith)); old = λ j k e. get_or-set_other d.made d.variables j x no_variable (λ q. absurd (none-some k (sym (b.laid.free d.variables (omega arith) (omega (y.0, arith))) ∙ (ap (λ (z : ℕ). (variable_in d.made z).path) (sym q) ∙ e)))) };
   before = λ b y f. foreseen_with w d.variables d.made d.regions x y.0 b.laid f;
   typed = λ b y f t q. (
     record {
@@ -151,7 +151,7 @@ variable_step w g m s x d p st = record {
       scopes = t.scopes;
       starts = all_set (λ (o : VariableOf). IsStartOf o o.start) d.made d.variables x t.starts st;
       edges = t.edges;
-      objects = t.objects;
+      objects = t.objects; places = t.places;
     },
     has_kind w g d.variables d.made d.regions x (p t.here) y.0 b.laid f,
   );
@@ -196,10 +196,10 @@ object_step w g m s x d p st k =
       order = v.order;
       variables = v.variables;
       points = v.points;
-      after = λ b y. let a = v.after b y in record { laid = a.laid; same = a.same; made = a.made };
+      after = λ b y. let a = v.after b y in record { laid = a.laid; same = a.same; made = a.made; old = a.old };
       before = v.before;
       typed = λ b y f t q. let r = v.typed b y f t q in let u = r.0 in (
-        record { names = u.names; point = u.point; here = u.here; labels = u.labels; scopes = u.scopes; starts = u.starts; edges = u.edges; objects = object_more w s d.objects d.variables x.kind.int_type x.kind.length k r.1 t.objects },
+        record { names = u.names; point = u.point; here = u.here; labels = u.labels; scopes = u.scopes; starts = u.starts; edges = u.edges; objects = object_more w s d.objects d.variables x.kind.int_type x.kind.length k r.1 t.objects; places = u.places },
         r.1,
       );
     }
@@ -214,10 +214,10 @@ result_step w g m n t x d p st k =
       order = v.order;
       variables = v.variables;
       points = v.points;
-      after = λ b y. let a = v.after b y in record { laid = a.laid; same = a.same; made = a.made };
+      after = λ b y. let a = v.after b y in record { laid = a.laid; same = a.same; made = a.made; old = a.old };
       before = v.before;
       typed = λ b y f z q. let r = v.typed b y f z q in let u = r.0 in (
-        record { names = u.names; point = u.point; here = u.here; labels = u.labels; scopes = u.scopes; starts = u.starts; edges = u.edges; objects = result_more w n t d.objects d.variables z.objects (subst (λ (a : Kind). Has w.kinds d.variables a.int_type a.length) k r.1) },
+        record { names = u.names; point = u.point; here = u.here; labels = u.labels; scopes = u.scopes; starts = u.starts; edges = u.edges; objects = result_more w n t d.objects d.variables z.objects (subst (λ (a : Kind). Has w.kinds d.variables a.int_type a.length) k r.1); places = u.places },
         tt,
       );
     }
@@ -288,6 +288,22 @@ entered_promised w m f d c b z =
     let new : region_at (slice_set d.regions j r) j ≡ r = get_or-set_same d.regions j r no_region (omega (b.laid.count, c.there, arith)) in
     subst (λ (x : ℕ). Promised w x d.variables) c.function (subst (λ (x : Region). Promised w (w.function j) x.variables) new (z.regions j c.behind (subst (λ (x : Region). 0 < x.points) (sym new) b.positive)))
 
+entered_made : (w : Place) → Proper w → (m : ℕ) (f : ℕ) (d : D) → IsCallee w (w.context.first + m) f → 0 < d.points → Below w (entered (w.context.first + m) (size_in w.context.sizes f) d)
+    → IsMade w (w.context.first + m) (record { at = d.point; points = d.points; variables = d.variables })
+entered_made w g m f d c p y =
+    let size : size_in w.context.sizes (w.function (w.context.first + m)) ≡ size_in w.context.sizes f = ap (size_in w.context.sizes) c.function in
+    record {
+      kept = p;
+      points = subst (λ (z : Size). d.points + z.points ≤ w.points) (sym size) y.1;
+      variables = subst (λ (z : Size). d.variables + z.variables ≤ length w.kinds) (sym size) (omega (y.0, g.limit, arith));
+    }
+
+entered_places : (w : Place) (rs : List Region) (j : ℕ) (r : Region) → j < length rs → r.at < w.points → PlacesAre w rs → PlacesAre w (slice_set rs j r)
+entered_places w rs j r l a h i k = elim (either i j) [
+  inl e ↦ subst (λ (x : ℕ). (region_at (slice_set rs j r) x).at < w.points) (sym e) (subst (λ (x : Region). x.at < w.points) (sym (get_or-set_same rs j r no_region l)) a) |
+  inr o ↦ let same : region_at (slice_set rs j r) i ≡ region_at rs i = get_or-set_other rs j i r no_region o in subst (λ (x : Region). x.at < w.points) (sym same) (h i (subst (λ (x : Region). 0 < x.points) same k))
+]
+
 pub entered_step : (w : Place) → Proper w → (m : ℕ) (s : Stage) (f : ℕ) (d : D) → IsCallee w (w.context.first + m) f
     → Step w m (m + 1) s s d (entered (w.context.first + m) (size_in w.context.sizes f) d) (Unit {0}) (Promised w f d.variables)
 entered_step w g m s f d c =
@@ -301,7 +317,8 @@ entered_step w g m s f d c =
         laid = laid_entered w g d.variables d.made d.regions j f r c refl y.0 b.laid;
         same = λ i q. get_or-set_other d.regions j i r no_region (λ e. elim q [ inl a ↦ absurd (omega (e, a, arith)) | inr a ↦ absurd (omega (e, a, arith)) ]);
         made = λ i a l. let is : i ≡ m = omega (a, l, arith) in
-            subst (λ (x : ℕ). IsKept (slice_set d.regions j r) (w.context.first + x)) (sym is) (subst (λ (x : Region). 0 < x.points) (sym (get_or-set_same d.regions j r no_region (omega (b.laid.count, c.there, arith)))) b.positive);
+            subst (λ (x : ℕ). IsMade w (w.context.first + x) (region_at (slice_set d.regions j r) (w.context.first + x))) (sym is) (subst (IsMade w j) (sym (get_or-set_same d.regions j r no_region (omega (b.laid.count, c.there, arith)))) (entered_made w g m f d c b.positive y));
+        old = λ i k e. refl;
       };
       before = λ b y z. record {
         made = z.made;
@@ -310,7 +327,7 @@ entered_step w g m s f d c =
             subst (λ (x : Region). Promised w (w.function i) x.variables) same (z.regions i l (subst (λ (x : Region). 0 < x.points) (sym same) k));
       };
       typed = λ b y z t q. (
-        record { names = t.names; point = omega (y.1, c.size, arith); here = t.here; labels = t.labels; scopes = t.scopes; starts = t.starts; edges = t.edges; objects = t.objects },
+        record { names = t.names; point = omega (y.1, c.size, arith); here = t.here; labels = t.labels; scopes = t.scopes; starts = t.starts; edges = t.edges; objects = t.objects; places = entered_places w d.regions j r (omega (b.laid.count, c.there, arith)) t.point t.places },
         entered_promised w m f d c b z,
       );
     }
