@@ -80,8 +80,8 @@ call_step w g m s f us rs d c =
       after = both.after;
       before = both.before;
       typed = λ x y z t q.
-          let at_b : Before w m (m + 1) b = record { laid = rw (same.variables, same.made, same.regions) x.laid; not_made = rw same.regions x.not_made; positive = omega (x.positive, same.points, arith) } in
-          let promise : Promised w f b.variables = entered_promised w m f b c at_b z in
+          let at_b : Before w m (m + 1) b = record { laid = rw (same.variables, same.made, same.regions) x.laid; not_made = rw same.regions x.not_made; positive = omega (x.positive, same.points, arith); files = rw same.variables x.files } in
+          let promise : Promised w f b.variables = (entered_promised w m f b c at_b z).0 in
           let here : Promised w f d.variables = subst (Promised w f) same.variables promise in
           let r = both.typed x y z t (here.parameters, q) in
           (r.0, subst (λ (n : Names ℕ). HasIf w.kinds (n.result k (d.variables + length ts)) (returned_by w.context.unit f)) (sym t.names) here.result);

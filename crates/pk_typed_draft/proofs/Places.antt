@@ -22,7 +22,7 @@ use Rattle.pk_welltyped.specs.WellTyped as good
 abbrev pub D : Type 0
 D = DraftOf ℕ
 
--- The path whose part is made, the kinds that all variables have in the end, how many points and paths there are, the function of each path, and where the path's region of variables ends.
+-- The path whose part is made, the kinds that all variables have in the end, how many points and paths there are, the function of each path, where the path's region of variables ends, and how many objects the file has.
 pub record Place : Type 0 where
   pub context : Context
   pub kinds : Kinds
@@ -30,6 +30,7 @@ pub record Place : Type 0 where
   pub paths : ℕ
   pub function : ℕ → ℕ
   pub limit : ℕ
+  pub files : ℕ
 
 -- ---- variables
 
@@ -86,7 +87,7 @@ pub record Laid (w : Place) (v : ℕ) (ms : List VariableOf) (rs : List Region) 
 -- what is known of the end: the kinds of what has been made, and what later paths make
 pub record Foreseen (w : Place) (ms : List VariableOf) (rs : List Region) : Type 0 where
   pub made : (y k : ℕ) → (variable_in ms y).path ≡ Some k → kind_at w.kinds y ≡ (variable_in ms y).kind
-  pub regions : (j : ℕ) → w.context.path < j → IsKept rs j → Promised w (w.function j) (region_at rs j).variables
+  pub regions : (j : ℕ) → w.context.path < j → IsKept rs j → Promised w (w.function j) (region_at rs j).variables × ((region_at rs j).points < w.points)
 
 -- ---- what has been made of points and edges
 
@@ -145,17 +146,20 @@ pub record Before (w : Place) (m n : ℕ) (d : D) : Type 0 where
   pub laid : Laid w d.variables d.made d.regions
   pub not_made : NotMade w m n d.regions
   pub positive : 0 < d.points
+  pub files : w.files ≤ d.variables
 
 -- a region that is kept for a path, inside those that are there
 pub record IsMade (w : Place) (j : ℕ) (r : Region) : Type 0 where
   pub kept : 0 < r.points
   pub points : r.points + (size_in w.context.sizes (w.function j)).points ≤ w.points
   pub variables : r.variables + (size_in w.context.sizes (w.function j)).variables ≤ length w.kinds
+  pub files : w.files ≤ r.variables
 
 pub record After (w : Place) (m n : ℕ) (d e : D) : Type 0 where
   pub laid : Laid w e.variables e.made e.regions
   pub same : (j : ℕ) → (j < w.context.first + m) ⊎ (w.context.first + n ≤ j) → region_at e.regions j ≡ region_at d.regions j
   pub made : (i : ℕ) → m ≤ i → i < n → IsMade w (w.context.first + i) (region_at e.regions (w.context.first + i))
+  pub low : (y : ℕ) → y < d.variables → variable_in e.made y ≡ variable_in d.made y
   pub old : (y k : ℕ) → (variable_in d.made y).path ≡ Some k → variable_in e.made y ≡ variable_in d.made y
 
 -- From d to e calls m to n are made, and objects i to k declared; P is asked, Q is given.
@@ -171,20 +175,22 @@ below_before : (w : Place) (d e : D) → d.variables ≤ e.variables → d.point
 below_before w d e v p b = (omega (v, b.0, arith), omega (p, b.1, arith))
 
 before_first : (w : Place) (m l n : ℕ) (d : D) → l ≤ n → Before w m n d → Before w m l d
-before_first w m l n d o b = record { laid = b.laid; not_made = λ i a c k. b.not_made i a (omega (c, o, arith)) k; positive = b.positive }
+before_first w m l n d o b = record { laid = b.laid; not_made = λ i a c k. b.not_made i a (omega (c, o, arith)) k; positive = b.positive; files = b.files }
 
-before_second : (w : Place) (m l n : ℕ) (d e : D) → m ≤ l → d.points ≤ e.points → Before w m n d → After w m l d e → Before w l n e
-before_second w m l n d e o p b a = record {
+before_second : (w : Place) (m l n : ℕ) (d e : D) → m ≤ l → d.variables ≤ e.variables → d.points ≤ e.points → Before w m n d → After w m l d e → Before w l n e
+before_second w m l n d e o v p b a = record {
   laid = a.laid;
   not_made = λ i c f k. b.not_made i (omega (o, c, arith)) f (subst (λ (r : Region). 0 < r.points) (a.same (w.context.first + i) (inr (omega (c, arith)))) k);
   positive = omega (b.positive, p, arith);
+  files = omega (b.files, v, arith);
 }
 
-after_both : (w : Place) (m l n : ℕ) (d e g : D) → m ≤ l → l ≤ n → After w m l d e → After w l n e g → After w m n d g
-after_both w m l n d e g o p a b = record {
+after_both : (w : Place) (m l n : ℕ) (d e g : D) → m ≤ l → l ≤ n → d.variables ≤ e.variables → After w m l d e → After w l n e g → After w m n d g
+after_both w m l n d e g o p v a b = record {
   laid = b.laid;
   same = λ j c. both j c;
   made = λ i x y. made i x y;
+  low = λ y x. b.low y (omega (x, v, arith)) ∙ a.low y x;
   old = λ y k x. let o = a.old y k x in b.old y k (ap (λ (v : VariableOf). v.path) o ∙ x) ∙ o;
 }
   where
@@ -206,10 +212,10 @@ step w m l n i j k d e g P Q R a b = record {
   variables = omega (a.variables, b.variables, arith);
   points = omega (a.points, b.points, arith);
   after = λ x y. let be = below_before w e g b.variables b.points y in let f = a.after (before_first w m l n d b.order x) be in
-      after_both w m l n d e g a.order b.order f (b.after (before_second w m l n d e a.order a.points x f) y);
+      after_both w m l n d e g a.order b.order a.variables f (b.after (before_second w m l n d e a.order a.variables a.points x f) y);
   before = λ x y z. let be = below_before w e g b.variables b.points y in let f = a.after (before_first w m l n d b.order x) be in
-      a.before (before_first w m l n d b.order x) be (b.before (before_second w m l n d e a.order a.points x f) y z);
-  typed = λ x y z t p. let be = below_before w e g b.variables b.points y in let x1 = before_first w m l n d b.order x in let f = a.after x1 be in let x2 = before_second w m l n d e a.order a.points x f in
+      a.before (before_first w m l n d b.order x) be (b.before (before_second w m l n d e a.order a.variables a.points x f) y z);
+  typed = λ x y z t p. let be = below_before w e g b.variables b.points y in let x1 = before_first w m l n d b.order x in let f = a.after x1 be in let x2 = before_second w m l n d e a.order a.variables a.points x f in
       let r = a.typed x1 be (b.before x2 y z) t p in b.typed x2 y z r.0 r.1;
 }
 
@@ -242,7 +248,7 @@ quiet w m i k d e P Q v s r p t = record {
   order = omega arith;
   variables = omega (v, arith);
   points = p;
-  after = λ x y. record { laid = rw (v, s, r) x.laid; same = λ j c. ap (λ (rs : List Region). region_at rs j) r; made = λ j a b. absurd (omega (a, b, arith)); old = λ j l c. ap (λ (ms : List VariableOf). variable_in ms j) s };
+  after = λ x y. record { laid = rw (v, s, r) x.laid; same = λ j c. ap (λ (rs : List Region). region_at rs j) r; made = λ j a b. absurd (omega (a, b, arith)); low = λ j l. ap (λ (ms : List VariableOf). variable_in ms j) s; old = λ j l c. ap (λ (ms : List VariableOf). variable_in ms j) s };
   before = λ x y z. rw (s, r) at z;
   typed = λ x y z f q. t x.positive y f q;
 }
@@ -260,6 +266,7 @@ step_back w m l n i j k d e g P Q R a b = record {
       inr o ↦ h.same q (inr (omega (o, a.order, arith))) ∙ f.same q (inr o)
     ];
     made = λ q o c. which q (split q l) o c f h;
+    low = λ q o. h.low q (omega (o, a.variables, arith)) ∙ f.low q o;
     old = λ q o c. let u = f.old q o c in h.old q o (ap (λ (v : VariableOf). v.path) u ∙ c) ∙ u;
   };
   before = λ x y z. let be = below_before w e g b.variables b.points y in let f = a.after (inner x) be in a.before (inner x) be (b.before (own x f) y z);
@@ -269,12 +276,13 @@ step_back w m l n i j k d e g P Q R a b = record {
     split : (i l : ℕ) → (i < l) ⊎ (l ≤ i)
     split i l = grind arith
     inner : Before w m n d → Before w l n d
-    inner x = record { laid = x.laid; not_made = λ q o c. x.not_made q (omega (o, b.order, arith)) c; positive = x.positive }
+    inner x = record { laid = x.laid; not_made = λ q o c. x.not_made q (omega (o, b.order, arith)) c; positive = x.positive; files = x.files }
     own : Before w m n d → After w l n d e → Before w m l e
     own x f = record {
       laid = f.laid;
       not_made = λ q o c h. x.not_made q o (omega (c, a.order, arith)) (subst (λ (r : Region). 0 < r.points) (f.same (w.context.first + q) (inl (omega (c, arith)))) h);
       positive = omega (x.positive, a.points, arith);
+      files = omega (x.files, a.variables, arith);
     }
     which : (q : ℕ) → (q < l) ⊎ (l ≤ q) → m ≤ q → q < n → After w l n d e → After w m l e g → IsMade w (w.context.first + q) (region_at g.regions (w.context.first + q))
     which q (inl o) c r f h = h.made q c o

@@ -140,7 +140,7 @@ variable_step w g m s x d p st = record {
   order = omega arith;
   variables = omega arith;
   points = omega arith;
-  after = λ b y. record { laid = laid_with w d.variables d.made d.regions x y.0 b.laid; same = λ j c. refl; made = λ j a c. absurd (omega (a, c, arith)); old = λ j k e. get_or-set_other d.made d.variables j x no_variable (λ q. absurd (none-some k (sym (b.laid.free d.variables (omega arith) (omega (y.0, arith))) ∙ (ap (λ (z : ℕ). (variable_in d.made z).path) (sym q) ∙ e)))) };
+  after = λ b y. record { laid = laid_with w d.variables d.made d.regions x y.0 b.laid; same = λ j c. refl; made = λ j a c. absurd (omega (a, c, arith)); low = λ j l. get_or-set_other d.made d.variables j x no_variable (λ q. absurd (omega (q, l, arith))); old = λ j k e. get_or-set_other d.made d.variables j x no_variable (λ q. absurd (none-some k (sym (b.laid.free d.variables (omega arith) (omega (y.0, arith))) ∙ (ap (λ (z : ℕ). (variable_in d.made z).path) (sym q) ∙ e)))) };
   before = λ b y f. foreseen_with w d.variables d.made d.regions x y.0 b.laid f;
   typed = λ b y f t q. (
     record {
@@ -196,7 +196,7 @@ object_step w g m s x d p st k =
       order = v.order;
       variables = v.variables;
       points = v.points;
-      after = λ b y. let a = v.after b y in record { laid = a.laid; same = a.same; made = a.made; old = a.old };
+      after = λ b y. let a = v.after b y in record { laid = a.laid; same = a.same; made = a.made; low = a.low; old = a.old };
       before = v.before;
       typed = λ b y f t q. let r = v.typed b y f t q in let u = r.0 in (
         record { names = u.names; point = u.point; here = u.here; labels = u.labels; scopes = u.scopes; starts = u.starts; edges = u.edges; objects = object_more w s d.objects d.variables x.kind.int_type x.kind.length k r.1 t.objects; places = u.places },
@@ -214,7 +214,7 @@ result_step w g m n t x d p st k =
       order = v.order;
       variables = v.variables;
       points = v.points;
-      after = λ b y. let a = v.after b y in record { laid = a.laid; same = a.same; made = a.made; old = a.old };
+      after = λ b y. let a = v.after b y in record { laid = a.laid; same = a.same; made = a.made; low = a.low; old = a.old };
       before = v.before;
       typed = λ b y f z q. let r = v.typed b y f z q in let u = r.0 in (
         record { names = u.names; point = u.point; here = u.here; labels = u.labels; scopes = u.scopes; starts = u.starts; edges = u.edges; objects = result_more w n t d.objects d.variables z.objects (subst (λ (a : Kind). Has w.kinds d.variables a.int_type a.length) k r.1); places = u.places },
@@ -242,7 +242,6 @@ pub record IsCallee (w : Place) (j f : ℕ) : Type 0 where
   pub behind : w.context.path < j
   pub there : j < w.paths
   pub function : w.function j ≡ f
-  pub size : 0 < (size_in w.context.sizes f).points
 
 laid_entered : (w : Place) → Proper w → (v : ℕ) (ms : List VariableOf) (rs : List Region) (j f : ℕ) (r : Region) → IsCallee w j f → r.variables ≡ v → v + (size_in w.context.sizes f).variables ≤ w.limit → Laid w v ms rs
     → Laid w (v + (size_in w.context.sizes f).variables) ms (slice_set rs j r)
@@ -281,21 +280,22 @@ laid_entered w g v ms rs j f r c rv b h =
         let a = range i y e p in
         elim (h.pending k y m (old k y o q)).2 [ inl l ↦ absurd (omega (l, a.0, arith)) | inr l ↦ absurd (omega (l, a.1, b, arith)) ]
 
-pub entered_promised : (w : Place) (m : ℕ) (f : ℕ) (d : D) → IsCallee w (w.context.first + m) f → Before w m (m + 1) d → Foreseen w d.made (entered (w.context.first + m) (size_in w.context.sizes f) d).regions → Promised w f d.variables
+pub entered_promised : (w : Place) (m : ℕ) (f : ℕ) (d : D) → IsCallee w (w.context.first + m) f → Before w m (m + 1) d → Foreseen w d.made (entered (w.context.first + m) (size_in w.context.sizes f) d).regions → Promised w f d.variables × (d.points < w.points)
 entered_promised w m f d c b z =
     let j = w.context.first + m in
     let r : Region = record { at = d.point; points = d.points; variables = d.variables } in
     let new : region_at (slice_set d.regions j r) j ≡ r = get_or-set_same d.regions j r no_region (omega (b.laid.count, c.there, arith)) in
-    subst (λ (x : ℕ). Promised w x d.variables) c.function (subst (λ (x : Region). Promised w (w.function j) x.variables) new (z.regions j c.behind (subst (λ (x : Region). 0 < x.points) (sym new) b.positive)))
+    subst (λ (x : ℕ). Promised w x d.variables × (d.points < w.points)) c.function (subst (λ (x : Region). Promised w (w.function j) x.variables × (x.points < w.points)) new (z.regions j c.behind (subst (λ (x : Region). 0 < x.points) (sym new) b.positive)))
 
-entered_made : (w : Place) → Proper w → (m : ℕ) (f : ℕ) (d : D) → IsCallee w (w.context.first + m) f → 0 < d.points → Below w (entered (w.context.first + m) (size_in w.context.sizes f) d)
+entered_made : (w : Place) → Proper w → (m : ℕ) (f : ℕ) (d : D) → IsCallee w (w.context.first + m) f → 0 < d.points → w.files ≤ d.variables → Below w (entered (w.context.first + m) (size_in w.context.sizes f) d)
     → IsMade w (w.context.first + m) (record { at = d.point; points = d.points; variables = d.variables })
-entered_made w g m f d c p y =
+entered_made w g m f d c p q y =
     let size : size_in w.context.sizes (w.function (w.context.first + m)) ≡ size_in w.context.sizes f = ap (size_in w.context.sizes) c.function in
     record {
       kept = p;
       points = subst (λ (z : Size). d.points + z.points ≤ w.points) (sym size) y.1;
       variables = subst (λ (z : Size). d.variables + z.variables ≤ length w.kinds) (sym size) (omega (y.0, g.limit, arith));
+      files = q;
     }
 
 entered_places : (w : Place) (rs : List Region) (j : ℕ) (r : Region) → j < length rs → r.at < w.points → PlacesAre w rs → PlacesAre w (slice_set rs j r)
@@ -317,17 +317,18 @@ entered_step w g m s f d c =
         laid = laid_entered w g d.variables d.made d.regions j f r c refl y.0 b.laid;
         same = λ i q. get_or-set_other d.regions j i r no_region (λ e. elim q [ inl a ↦ absurd (omega (e, a, arith)) | inr a ↦ absurd (omega (e, a, arith)) ]);
         made = λ i a l. let is : i ≡ m = omega (a, l, arith) in
-            subst (λ (x : ℕ). IsMade w (w.context.first + x) (region_at (slice_set d.regions j r) (w.context.first + x))) (sym is) (subst (IsMade w j) (sym (get_or-set_same d.regions j r no_region (omega (b.laid.count, c.there, arith)))) (entered_made w g m f d c b.positive y));
+            subst (λ (x : ℕ). IsMade w (w.context.first + x) (region_at (slice_set d.regions j r) (w.context.first + x))) (sym is) (subst (IsMade w j) (sym (get_or-set_same d.regions j r no_region (omega (b.laid.count, c.there, arith)))) (entered_made w g m f d c b.positive b.files y));
+        low = λ i l. refl;
         old = λ i k e. refl;
       };
       before = λ b y z. record {
         made = z.made;
         regions = λ i l k. let other : i ≢ j = λ e. absurd (b.not_made m (omega arith) (omega arith) (subst (IsKept d.regions) e k)) in
             let same : region_at (slice_set d.regions j r) i ≡ region_at d.regions i = get_or-set_other d.regions j i r no_region other in
-            subst (λ (x : Region). Promised w (w.function i) x.variables) same (z.regions i l (subst (λ (x : Region). 0 < x.points) (sym same) k));
+            subst (λ (x : Region). Promised w (w.function i) x.variables × (x.points < w.points)) same (z.regions i l (subst (λ (x : Region). 0 < x.points) (sym same) k));
       };
       typed = λ b y z t q. (
-        record { names = t.names; point = omega (y.1, c.size, arith); here = t.here; labels = t.labels; scopes = t.scopes; starts = t.starts; edges = t.edges; objects = t.objects; places = entered_places w d.regions j r (omega (b.laid.count, c.there, arith)) t.point t.places },
-        entered_promised w m f d c b z,
+        record { names = t.names; point = (entered_promised w m f d c b z).1; here = t.here; labels = t.labels; scopes = t.scopes; starts = t.starts; edges = t.edges; objects = t.objects; places = entered_places w d.regions j r (omega (b.laid.count, c.there, arith)) t.point t.places },
+        (entered_promised w m f d c b z).0,
       );
     }
