@@ -224,7 +224,7 @@ switch_works w g m l n s u marks o t v zs b f h zin i x d =
 
 -- ---- the forms
 
-result_there : (w : Place) (s : Stage) (t : IntType) (d : D) → s.result ≡ Some t → Typed w s d → Has w.kinds (own_result w.context d) t None
+pub result_there : (w : Place) (s : Stage) (t : IntType) (d : D) → s.result ≡ Some t → Typed w s d → Has w.kinds (own_result w.context d) t None
 result_there w s t d r z =
     subst (λ (n : Names ℕ). Has w.kinds (n.result w.context.path (slice_index_or d.objects (length w.context.locals) 0)) t None) (sym z.names) (subst (HasIf w.kinds (slice_index_or d.objects (length w.context.locals) 0)) r z.objects.result)
 
