@@ -1,5 +1,5 @@
 -- The part of a path: parameters, result, body.
-use Rattle.std.proofs.Common.{◌≡◌, ℕ, ◌+◌, zero, suc, ◌<◌, ◌≤◌, Bool, true, false, List, [], ◌∷◌, ◌++◌, Option, Some, None, length, refl, ap, sym, subst, ◌∙◌, arith, slice_index_or, slice_set, length-set, length-append, if◌then◌else◌}
+use Rattle.std.proofs.Common.{◌≡◌, ℕ, ◌+◌, zero, suc, ◌<◌, ◌≤◌, Bool, true, false, inr, List, [], ◌∷◌, ◌++◌, Option, Some, None, length, refl, ap, sym, subst, ◌∙◌, arith, slice_index_or, slice_set, length-set, length-append, if◌then◌else◌}
 use Rattle.std.proofs.lemmas.List.{get_or-set_same}
 use Rattle.std.proofs.lemmas.Option.{none-some}
 use Rattle.std.proofs.lemmas.Bool.{false≢true}
@@ -179,11 +179,11 @@ with_result_step : (w : Place) → Proper w → (n : ℕ) (t : Option IntType) (
 with_result_step w g n None d = idle w 0 (record { objects = n; result = None }) d (Unit {0})
 with_result_step w g n (Some t) d = result_step w g 0 n t (inner None t None w.context.path) d refl (inner_start None t None w.context.path) refl
 
-result_written : (w : Place) (t : Option IntType) (d : D) → d.variables < length d.made → IsWrittenIf w (part.with_result w.context t d).made d.variables t
-result_written w None d l = tt
-result_written w (Some t) d l =
+result_written : (w : Place) → Proper w → (t : Option IntType) (d : D) → length d.made ≡ length w.kinds → Below w (part.with_result w.context t d) → IsWrittenIf w (part.with_result w.context t d).made d.variables t
+result_written w g None d m y = tt
+result_written w g (Some t) d m y =
     let x = inner None t None w.context.path in
-    let is : variable_in (slice_set d.made d.variables x) d.variables ≡ x = get_or-set_same d.made d.variables x no_variable l in
+    let is : variable_in (slice_set d.made d.variables x) d.variables ≡ x = get_or-set_same d.made d.variables x no_variable (omega (m, y.0, g.limit, arith)) in
     record { path = ap (λ (q : VariableOf). q.path) is; kind = ap (λ (q : VariableOf). q.kind) is }
 
 entry_step : (w : Place) → Proper w → (s : Stage) (from : Option Caller) (d : D) → Step w 0 0 s s d (part.placed_entry from d) (Unit {0}) (Unit {0})
@@ -282,3 +282,66 @@ part_step w n g b h from r d =
     let three = chain two (entry_step w p s from d2) in
     let four = chain three (chain (seen w 0 s d3 (Unit {0}) named (λ t q. t.here)) (step_for w 0 0 s s d3 d4 (Unit {0} × named) (few × named) named (few × named) (λ z. (tt, z)) (λ z. z) (step_beside w 0 0 s s d3 d4 (Unit {0}) few named (fresh_step w p 0 (b.labels + 1) s d3)))) in
     chain four (body_steps w p n s g b h.returns h.returns h.items h.calls d3)
+
+-- ---- what a part makes of its parameters and its result
+
+pub before_next : (w : Place) (n : ℕ) (i j : Stage) (d e : D) → Step w 0 0 i j d e (Unit {0}) (Unit {0}) → Before w 0 n d → Below w e → Before w 0 n e
+before_next w n i j d e s b y =
+    let one : Before w 0 0 d = record { laid = b.laid; not_made = λ q l m. absurd (omega (m, arith)); positive = b.positive; files = b.files } in
+    let a = s.after one y in
+    record {
+      laid = a.laid;
+      not_made = λ q l m k. b.not_made q l m (subst (λ (r : Region). 0 < r.points) (a.same (w.context.first + q) (inr (omega arith))) k);
+      positive = omega (b.positive, s.points, arith);
+      files = omega (b.files, s.variables, arith);
+    }
+
+pub record PartMade (w : Place) (n : ℕ) (g : FunctionTree) (b : BodyTree) (from : Option Caller) (r : Region) (d : D) : Type 0 where
+  pub parameters : AreWritten w (made_part w g b from r d).made r.variables g.parameters
+  pub result : IsWrittenIf w (made_part w g b from r d).made (r.variables + length g.parameters) g.returns
+
+pub part_points : (w : Place) (n : ℕ) (g : FunctionTree) (b : BodyTree) → PartIs w n g b → (from : Option Caller) (r : Region) (d : D) → r.points + 1 ≤ (made_part w g b from r d).points
+part_points w n g b h from r d =
+    let p = h.proper in
+    let k = length g.parameters in
+    let d0 = begun_here w b r d in
+    let d1 = part.all_introduced w.context from 0 g.parameters d0 in
+    let d2 = part.with_result w.context g.returns d1 in
+    let d3 = part.placed_entry from d2 in
+    let s : Stage = record { objects = k; result = g.returns } in
+    let one = parameters_step w p start from g.parameters h.parameters d0 in
+    let two = with_result_step w p k g.returns d1 in
+    let three = entry_step w p s from d2 in
+    let last = body_steps w p n s g b h.returns h.returns h.items h.calls d3 in
+    omega (one.points, two.points, three.points, last.points, arith)
+
+pub part_made : (w : Place) (n : ℕ) (g : FunctionTree) (b : BodyTree) → PartIs w n g b → (from : Option Caller) (r : Region) (d : D) → Before w 0 n (begun_here w b r d) → Below w (made_part w g b from r d) → PartMade w n g b from r d
+part_made w n g b h from r d x y =
+    let p = h.proper in
+    let k = length g.parameters in
+    let d0 = begun_here w b r d in
+    let d1 = part.all_introduced w.context from 0 g.parameters d0 in
+    let d2 = part.with_result w.context g.returns d1 in
+    let d3 = part.placed_entry from d2 in
+    let d4 = with_exits b d3 in
+    let e = made_part w g b from r d in
+    let s : Stage = record { objects = k; result = g.returns } in
+    let few = d3.points + (b.labels + 1) ≤ w.points in
+    let named = d3.here.path ≡ w.context.path in
+    let zero_more : 0 + k ≡ k = omega arith in
+    let one = to_objects w start (0 + k) k d0 d1 zero_more (parameters_step w p start from g.parameters h.parameters d0) in
+    let two = with_result_step w p k g.returns d1 in
+    let three = entry_step w p s from d2 in
+    let four = chain (seen w 0 s d3 (Unit {0}) named (λ t q. t.here)) (step_for w 0 0 s s d3 d4 (Unit {0} × named) (few × named) named (few × named) (λ z. (tt, z)) (λ z. z) (step_beside w 0 0 s s d3 d4 (Unit {0}) few named (fresh_step w p 0 (b.labels + 1) s d3))) in
+    let from_two = chain three (chain four (body_steps w p n s g b h.returns h.returns h.items h.calls d3)) in
+    let from_one = chain two from_two in
+    let y2 : Below w d2 = (omega (from_two.variables, y.0, arith), omega (from_two.points, y.1, arith)) in
+    let y1 : Below w d1 = (omega (from_one.variables, y.0, arith), omega (from_one.points, y.1, arith)) in
+    let x1 = before_next w n start (record { objects = k; result = None }) d0 d1 one x y1 in
+    let x2 = before_next w n (record { objects = k; result = None }) s d1 d2 two x1 y2 in
+    let x0 : Before w 0 0 d0 = record { laid = x.laid; not_made = λ q l m. absurd (omega (m, arith)); positive = x.positive; files = x.files } in
+    let wr = parameters_written w p start from g.parameters h.parameters d0 x0 y1 in
+    record {
+      parameters = all_stay w d1.made e.made r.variables g.parameters (from_one.after x1 y).old wr.0;
+      result = if_stays w d2.made e.made (r.variables + k) g.returns (from_two.after x2 y).old (subst (λ (v : ℕ). IsWrittenIf w d2.made v g.returns) wr.1 (result_written w p g.returns d1 x1.laid.many y2));
+    }
