@@ -62,29 +62,29 @@ pub parameters_at : (xs : List LocalTree) (ts : List IntType) → AreParameters 
 parameters_at xs ts h = parameters_from [] xs ts h
 
 -- a scalar of the path that has been made
-pub record IsWritten (w : Place) (ms : List VariableOf) (y : ℕ) (t : IntType) : Type 0 where
-  pub path : (variable_in ms y).path ≡ Some w.context.path
+pub record IsWritten (k : ℕ) (ms : List VariableOf) (y : ℕ) (t : IntType) : Type 0 where
+  pub path : (variable_in ms y).path ≡ Some k
   pub kind : (variable_in ms y).kind ≡ record { int_type = t; length = None }
 
-abbrev pub AreWritten : Place → List VariableOf → ℕ → List IntType → Type 0
-AreWritten w ms y [] = Unit {0}
-AreWritten w ms y (t ∷ ts) = IsWritten w ms y t × AreWritten w ms (y + 1) ts
+abbrev pub AreWritten : ℕ → List VariableOf → ℕ → List IntType → Type 0
+AreWritten k ms y [] = Unit {0}
+AreWritten k ms y (t ∷ ts) = IsWritten k ms y t × AreWritten k ms (y + 1) ts
 
-abbrev pub IsWrittenIf : Place → List VariableOf → ℕ → Option IntType → Type 0
-IsWrittenIf w ms y None = Unit {0}
-IsWrittenIf w ms y (Some t) = IsWritten w ms y t
+abbrev pub IsWrittenIf : ℕ → List VariableOf → ℕ → Option IntType → Type 0
+IsWrittenIf k ms y None = Unit {0}
+IsWrittenIf k ms y (Some t) = IsWritten k ms y t
 
-abbrev Stays : List VariableOf → List VariableOf → Type 0
+abbrev pub Stays : List VariableOf → List VariableOf → Type 0
 Stays ms ns = (y k : ℕ) → (variable_in ms y).path ≡ Some k → variable_in ns y ≡ variable_in ms y
 
-written_stays : (w : Place) (ms ns : List VariableOf) (y : ℕ) (t : IntType) → Stays ms ns → IsWritten w ms y t → IsWritten w ns y t
-written_stays w ms ns y t s h = let e = s y w.context.path h.path in record { path = ap (λ (v : VariableOf). v.path) e ∙ h.path; kind = ap (λ (v : VariableOf). v.kind) e ∙ h.kind }
+written_stays : (w : ℕ) (ms ns : List VariableOf) (y : ℕ) (t : IntType) → Stays ms ns → IsWritten w ms y t → IsWritten w ns y t
+written_stays w ms ns y t s h = let e = s y w h.path in record { path = ap (λ (v : VariableOf). v.path) e ∙ h.path; kind = ap (λ (v : VariableOf). v.kind) e ∙ h.kind }
 
-pub all_stay : (w : Place) (ms ns : List VariableOf) (y : ℕ) (ts : List IntType) → Stays ms ns → AreWritten w ms y ts → AreWritten w ns y ts
+pub all_stay : (w : ℕ) (ms ns : List VariableOf) (y : ℕ) (ts : List IntType) → Stays ms ns → AreWritten w ms y ts → AreWritten w ns y ts
 all_stay w ms ns y [] s h = tt
 all_stay w ms ns y (t ∷ ts) s h = (written_stays w ms ns y t s h.0, all_stay w ms ns (y + 1) ts s h.1)
 
-pub if_stays : (w : Place) (ms ns : List VariableOf) (y : ℕ) (t : Option IntType) → Stays ms ns → IsWrittenIf w ms y t → IsWrittenIf w ns y t
+pub if_stays : (w : ℕ) (ms ns : List VariableOf) (y : ℕ) (t : Option IntType) → Stays ms ns → IsWrittenIf w ms y t → IsWrittenIf w ns y t
 if_stays w ms ns y None s h = tt
 if_stays w ms ns y (Some t) s h = written_stays w ms ns y t s h
 
@@ -131,7 +131,7 @@ parameter_variables : (w : Place) (from : Option Caller) (i : ℕ) (d : D) → (
 parameter_variables w from i d = ap (λ (q : D). q.variables) (introduced w from i d) ∙ (named_made (local_at w.context i).name d.variables (with_object i (parameter_variable w from i) d)).1
 
 parameter_written : (w : Place) → Proper w → (from : Option Caller) (i : ℕ) (t : IntType) → kind_among w.context.locals i ≡ Some (good.scalar t) → (d : D) → d.variables < length d.made
-    → IsWritten w (part.introduced_parameter w.context from i d).made d.variables t × ((part.introduced_parameter w.context from i d).variables ≡ d.variables + 1)
+    → IsWritten w.context.path (part.introduced_parameter w.context from i d).made d.variables t × ((part.introduced_parameter w.context from i d).variables ≡ d.variables + 1)
 parameter_written w g from i t k d l =
     let v = parameter_variable w from i in
     let e = with_object i v d in
@@ -153,7 +153,7 @@ parameters_step w g s from (t ∷ ts) h d =
     (chain (parameter_step w g s from t h.0 d) (parameters_step w g (more 1 s) from ts h.1 e))
 
 pub parameters_written : (w : Place) → Proper w → (s : Stage) (from : Option Caller) (ts : List IntType) → ParametersAt w.context.locals s.objects ts → (d : D) → Before w 0 0 d → Below w (part.all_introduced w.context from s.objects ts d)
-    → AreWritten w (part.all_introduced w.context from s.objects ts d).made d.variables ts × ((part.all_introduced w.context from s.objects ts d).variables ≡ d.variables + length ts)
+    → AreWritten w.context.path (part.all_introduced w.context from s.objects ts d).made d.variables ts × ((part.all_introduced w.context from s.objects ts d).variables ≡ d.variables + length ts)
 unfolding part.all_introduced
 parameters_written w g s from [] h d b y = (tt, omega arith)
 parameters_written w g s from (t ∷ ts) h d b y =
@@ -166,8 +166,8 @@ parameters_written w g s from (t ∷ ts) h d b y =
     let first_be : d.variables + 1 ≤ w.limit = omega (parameter_variables w from s.objects d, be.0, arith) in
     let first = parameter_written w g from s.objects t h.0 d (omega (first_be, g.limit, b.laid.many, arith)) in
     let all = parameters_written w g (more 1 s) from ts h.1 e at_e y in
-    ((written_stays w e.made (part.all_introduced w.context from (s.objects + 1) ts e).made d.variables t (rest.after at_e y).old first.0,
-      subst (λ (v : ℕ). AreWritten w (part.all_introduced w.context from (s.objects + 1) ts e).made v ts) first.1 all.0),
+    ((written_stays w.context.path e.made (part.all_introduced w.context from (s.objects + 1) ts e).made d.variables t (rest.after at_e y).old first.0,
+      subst (λ (v : ℕ). AreWritten w.context.path (part.all_introduced w.context from (s.objects + 1) ts e).made v ts) first.1 all.0),
     omega (all.1, first.1, arith))
 
 -- ---- a whole part
@@ -179,7 +179,7 @@ with_result_step : (w : Place) → Proper w → (n : ℕ) (t : Option IntType) (
 with_result_step w g n None d = idle w 0 (record { objects = n; result = None }) d (Unit {0})
 with_result_step w g n (Some t) d = result_step w g 0 n t (inner None t None w.context.path) d refl (inner_start None t None w.context.path) refl
 
-result_written : (w : Place) → Proper w → (t : Option IntType) (d : D) → length d.made ≡ length w.kinds → Below w (part.with_result w.context t d) → IsWrittenIf w (part.with_result w.context t d).made d.variables t
+result_written : (w : Place) → Proper w → (t : Option IntType) (d : D) → length d.made ≡ length w.kinds → Below w (part.with_result w.context t d) → IsWrittenIf w.context.path (part.with_result w.context t d).made d.variables t
 result_written w g None d m y = tt
 result_written w g (Some t) d m y =
     let x = inner None t None w.context.path in
@@ -297,8 +297,8 @@ before_next w n i j d e s b y =
     }
 
 pub record PartMade (w : Place) (n : ℕ) (g : FunctionTree) (b : BodyTree) (from : Option Caller) (r : Region) (d : D) : Type 0 where
-  pub parameters : AreWritten w (made_part w g b from r d).made r.variables g.parameters
-  pub result : IsWrittenIf w (made_part w g b from r d).made (r.variables + length g.parameters) g.returns
+  pub parameters : AreWritten w.context.path (made_part w g b from r d).made r.variables g.parameters
+  pub result : IsWrittenIf w.context.path (made_part w g b from r d).made (r.variables + length g.parameters) g.returns
 
 pub part_points : (w : Place) (n : ℕ) (g : FunctionTree) (b : BodyTree) → PartIs w n g b → (from : Option Caller) (r : Region) (d : D) → r.points + 1 ≤ (made_part w g b from r d).points
 part_points w n g b h from r d =
@@ -342,6 +342,6 @@ part_made w n g b h from r d x y =
     let x0 : Before w 0 0 d0 = record { laid = x.laid; not_made = λ q l m. absurd (omega (m, arith)); positive = x.positive; files = x.files } in
     let wr = parameters_written w p start from g.parameters h.parameters d0 x0 y1 in
     record {
-      parameters = all_stay w d1.made e.made r.variables g.parameters (from_one.after x1 y).old wr.0;
-      result = if_stays w d2.made e.made (r.variables + k) g.returns (from_two.after x2 y).old (subst (λ (v : ℕ). IsWrittenIf w d2.made v g.returns) wr.1 (result_written w p g.returns d1 x1.laid.many y2));
+      parameters = all_stay w.context.path d1.made e.made r.variables g.parameters (from_one.after x1 y).old wr.0;
+      result = if_stays w.context.path d2.made e.made (r.variables + k) g.returns (from_two.after x2 y).old (subst (λ (v : ℕ). IsWrittenIf w.context.path d2.made v g.returns) wr.1 (result_written w p g.returns d1 x1.laid.many y2));
     }
