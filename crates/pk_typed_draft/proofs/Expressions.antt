@@ -55,7 +55,7 @@ pub object_is : (w : Place) → Proper w → (s : Stage) (k : good.Kind) (x : Va
 object_is w g s k (File i) h d t = subst (λ (n : Names ℕ). Has w.kinds (n.file i) k.int_type k.length) (sym t.names) (g.files i k h)
 object_is w g s k (Local i) h d t = subst (λ (n : Names ℕ). Has w.kinds (n.object w.context.path i (slice_index_or d.objects i 0)) k.int_type k.length) (sym t.names) (t.objects.each i h.0 k h.1)
 
-same_length : (s : StartTree) → length_at_start s ≡ length_of_start s
+pub same_length : (s : StartTree) → length_at_start s ≡ length_of_start s
 same_length (scalar_start z) = refl
 same_length (array_start n zs) = refl
 
