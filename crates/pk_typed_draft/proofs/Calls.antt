@@ -1,21 +1,19 @@
 -- Calls: the parameters are set from the arguments, and the callee's region is kept.
-use Rattle.std.proofs.Common.{◌≡◌, ℕ, ◌+◌, zero, suc, ◌<◌, ◌≤◌, Bool, true, false, List, [], ◌∷◌, Option, Some, None, length, refl, ap, sym, subst, ◌∙◌, arith}
-use Rattle.std.proofs.Math.Nat.{add-zero}
-use Rattle.std.specs.Prelude.{slice_get, unwrap_or}
-use Rattle.std.specs.Option.{option_map, option_and_then}
+use Rattle.std.proofs.Common.{◌≡◌, ℕ, ◌+◌, ◌≤◌, Bool, List, [], ◌∷◌, Option, Some, None, length, refl, ap, sym, subst, ◌∙◌, arith}
+use Rattle.std.specs.Prelude.{slice_get}
+use Rattle.std.specs.Option.{option_and_then}
 use Rattle.pk_ctypes.specs.declared.types.IntType.{IntType}
 use Rattle.pk_typed.specs.Trees.{FunctionTree, UnitTree}
 use Rattle.pk_graph.specs.Trees.{TreeOf, variable, Set}
 use Rattle.pk_graph.specs.Kinds.{Kinds, IsOfType}
-use Rattle.pk_draft.specs.declared.drafts.Size.{Size}
 use Rattle.pk_draft.specs.Drafts.{Names, emit, entered}
 use Rattle.pk_draft.specs.Folding.{conversion}
-use Rattle.pk_lower_row.specs.Contexts.{Context, callee, size_in, parameters_of}
+use Rattle.pk_lower_row.specs.Contexts.{size_in, parameters_of}
 use Rattle.pk_lower_row.specs.Shapes.{strong_if, stays}
 use Rattle.pk_lower_row.specs.Rows as row
 use Rattle.pk_lower_row.specs.Rows.{Operand, Passed, bound, stored_unless}
 use Rattle.pk_welltyped.specs.WellTyped.{Takes}
-use Rattle.pk_typed_draft.proofs.Places.{D, Place, Has, HasIf, HasAll, Promised, returned_by, Stage, Typed, Proper, Below, Before, After, Step, step, step_for, step_beside, step_around, quiet}
+use Rattle.pk_typed_draft.proofs.Places.{D, Place, Has, HasIf, HasAll, Promised, returned_by, Stage, Proper, Before, Step, step, step_for, step_beside, step_around, quiet}
 use Rattle.pk_typed_draft.proofs.Trees.{conversion_is}
 use Rattle.pk_typed_draft.proofs.Verbs.{emit_step, IsCallee, entered_promised, entered_step}
 use Rattle.pk_typed_draft.proofs.Rows.{Gives, Works, OperandIs, idle, set_is, variable_is, unless_step, weaker}
@@ -55,16 +53,16 @@ bound_step w g m s k i x (t ∷ ts) (u ∷ us) (r ∷ rs) d =
     let P = HasAll w.kinds x (t ∷ ts) × TreesAre w.kinds (u ∷ us) (r ∷ rs) in
     let Q = HasAll w.kinds (x + 1) ts × TreesAre w.kinds us rs in
     let named : Step w m m s s d d P (Has w.kinds y t None × P) = quiet w m s s d d P (Has w.kinds y t None × P) refl refl refl (omega arith)
-        (λ o b z p. (z, (subst (λ (n : Names ℕ). Has w.kinds (n.object k i x) t None) (sym z.names) p.0.0, p))) in
+    (λ o b z p. (z, (subst (λ (n : Names ℕ). Has w.kinds (n.object k i x) t None) (sym z.names) p.0.0, p))) in
     let set = step_for w m m s s d e (_ × Q) (Unit {0} × Q) (Has w.kinds y t None × P) Q (λ q. (set_is w.kinds y t (conversion u t r) q.0 (conversion_is w.kinds u t r q.1.1.0), (q.1.0.1, q.1.1.1))) (λ q. q.1)
-        (step_beside w m m s s d e _ (Unit {0}) Q (emit_step w g m s (Set y (conversion u t r)) d)) in
+    (step_beside w m m s s d e _ (Unit {0}) Q (emit_step w g m s (Set y (conversion u t r)) d)) in
     step w m m m s s s d e (bound k i x (t ∷ ts) (u ∷ us) (r ∷ rs) d) P Q (Unit {0}) (step w m m m s s s d d e P (Has w.kinds y t None × P) Q named set) (bound_step w g m s k (i + 1) (x + 1) ts us rs e)
 
 -- ---- a call behind its arguments
 
 call_step : (w : Place) → Proper w → (m : ℕ) (s : Stage) (f : ℕ) (us : List IntType) (rs : List (TreeOf ℕ)) (d : D) → IsCallee w (w.context.first + m) f
     → (let ts = parameters_of w.context.unit f in let k = w.context.first + m in
-       Step w m (m + 1) s s d (row.entered_after k (size_in w.context.sizes f) ts us rs d) (TreesAre w.kinds us rs) (HasIf w.kinds (d.names.result k (d.variables + length ts)) (returned_by w.context.unit f)))
+    Step w m (m + 1) s s d (row.entered_after k (size_in w.context.sizes f) ts us rs d) (TreesAre w.kinds us rs) (HasIf w.kinds (d.names.result k (d.variables + length ts)) (returned_by w.context.unit f)))
 call_step w g m s f us rs d c =
     let ts = parameters_of w.context.unit f in
     let k = w.context.first + m in
@@ -112,7 +110,7 @@ returned u f k r (Some g) is h = ap (option_and_then (λ (x : FunctionTree). x.r
 
 pub called_step : (w : Place) → Proper w → (m n : ℕ) (s : Stage) (f : ℕ) (us : List IntType) (arguments : D → Passed ℕ) → IsCallee w (w.context.first + m) f → Passes w (m + 1) n s us arguments → (d : D)
     → (let a = arguments d in let k = w.context.first + m in let ts = parameters_of w.context.unit f in
-       Step w m n s s d (row.called w.context f m us arguments d).1 (Unit {0}) (HasIf w.kinds (a.draft.names.result k (a.draft.variables + length ts)) (returned_by w.context.unit f)))
+    Step w m n s s d (row.called w.context f m us arguments d).1 (Unit {0}) (HasIf w.kinds (a.draft.names.result k (a.draft.variables + length ts)) (returned_by w.context.unit f)))
 called_step w g m n s f us arguments c h d =
     let a = arguments d in
     let k = w.context.first + m in

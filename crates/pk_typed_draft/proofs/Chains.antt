@@ -1,12 +1,11 @@
 -- Steps one after another, with what is known carried along.
-use Rattle.std.proofs.Common.{◌≡◌, ℕ, ◌+◌, ◌<◌, ◌≤◌, List, [], ◌∷◌, ◌++◌, Option, Some, None, length, refl, ap, sym, subst, ◌∙◌, arith}
+use Rattle.std.proofs.Common.{ℕ, ◌+◌, ◌<◌, ◌≤◌, List, Option, Some, None, length, refl, arith}
 use Rattle.pk_ctypes.specs.declared.places.Pos.{Pos}
 use Rattle.pk_graph.specs.declared.graphs.Scope.{Scope}
-use Rattle.pk_graph.specs.Trees.{InstrOf, Skip}
-use Rattle.pk_graph.specs.Kinds.{IsTypedInstr}
-use Rattle.pk_draft.specs.Drafts.{at, on, in_scope, with_name, fresh, link, go}
+use Rattle.pk_graph.specs.Trees.{Skip}
+use Rattle.pk_draft.specs.Drafts.{on, in_scope, with_name, fresh, link, go}
 use Rattle.pk_lower_statement.specs.Statements.{named, loop_begun}
-use Rattle.pk_typed_draft.proofs.Places.{D, Place, Stage, Typed, Proper, Below, Step, step, step_for, step_beside, quiet}
+use Rattle.pk_typed_draft.proofs.Places.{D, Place, Stage, Proper, Step, step, step_for, step_beside, quiet}
 use Rattle.pk_typed_draft.proofs.Verbs.{all_last, typed_at, typed_standing, typed_link, typed_fresh}
 
 pub chain : {w : Place} {m l n : ℕ} {i j k : Stage} {d e g : D} {P Q R : Type 0} → Step w m l i j d e P Q → Step w l n j k e g Q R → Step w m n i k d g P R
@@ -39,19 +38,22 @@ go_step w m s q d = quiet w m s s d (go Skip q d) (q < w.points) (Unit {0}) refl
 pub begun_step : (w : Place) → Proper w → (m : ℕ) (s : Stage) (d : D) → Step w m m s s d (loop_begun d) (Unit {0}) (d.points + 3 ≤ w.points)
 begun_step w g m s d = quiet w m s s d (loop_begun d) (Unit {0}) (d.points + 3 ≤ w.points) refl refl refl (omega arith)
     (λ o b t k. let q : d.points < w.points = omega (b.1, arith) in
-        (typed_at w s d.points (link Skip d.points (fresh 3 d)) q (typed_link w s Skip d.points (fresh 3 d) q tt (typed_fresh w g s 3 d t)), b.1))
+    (typed_at w s d.points (link Skip d.points (fresh 3 d)) q (typed_link w s Skip d.points (fresh 3 d) q tt (typed_fresh w g s 3 d t)), b.1))
 
 pub named_step : (w : Place) (m : ℕ) (s : Stage) (name : Option (List ℕ)) (x : ℕ) (d : D) → Step w m m s s d (named name x d) (x < length w.kinds) (Unit {0})
 named_step w m s None x d = quiet w m s s d d (x < length w.kinds) (Unit {0}) refl refl refl (omega arith) (λ o b t k. (t, tt))
 named_step w m s (Some name) x d = quiet w m s s d (with_name x d) (x < length w.kinds) (Unit {0}) refl refl refl (omega arith)
-    (λ o b t k. (record {
-      names = t.names;
-      point = t.point;
-      here = t.here;
-      labels = t.labels;
-      scopes = all_last (λ (c : Scope). c.variable < length w.kinds) d.scopes (record { variable = x; outer = d.here.scope }) t.scopes k;
-      starts = t.starts;
-      edges = t.edges;
-      objects = t.objects;
-      places = t.places;
-    }, tt))
+    (λ o b t k. (
+      record {
+        names = t.names;
+        point = t.point;
+        here = t.here;
+        labels = t.labels;
+        scopes = all_last (λ (c : Scope). c.variable < length w.kinds) d.scopes (record { variable = x; outer = d.here.scope }) t.scopes k;
+        starts = t.starts;
+        edges = t.edges;
+        objects = t.objects;
+        places = t.places;
+      },
+      tt,
+    ))

@@ -1,10 +1,9 @@
 -- Well-typed declarations are lowered typed.
-use Rattle.std.proofs.Common.{◌≡◌, false, ℕ, ◌+◌, zero, suc, ◌<◌, ◌≤◌, List, [], ◌∷◌, ◌++◌, Option, Some, None, length, refl, ap, sym, subst, ◌∙◌, arith, slice_index_or}
+use Rattle.std.proofs.Common.{◌≡◌, false, ℕ, ◌+◌, ◌<◌, ◌≤◌, List, [], ◌∷◌, Option, Some, None, length, refl, ap, sym, subst, ◌∙◌, arith}
 use Rattle.std.proofs.lemmas.Int.{ints}
 use Rattle.std.proofs.lemmas.Option.{none-some, get_or_from_slice_get}
-use Rattle.std.specs.Prelude.{ℤ, pos, slice_get, unwrap_or}
+use Rattle.std.specs.Prelude.{pos, slice_get, unwrap_or}
 use Rattle.std.specs.Option.{option_map}
-use Rattle.pk_ctypes.specs.declared.places.Pos.{Pos}
 use Rattle.pk_ctypes.specs.declared.types.IntType.{IntType}
 use Rattle.pk_ctypes.specs.declared.types.IntType.TheVariants.{Int}
 use Rattle.pk_ctypes.specs.Types.{InType}
@@ -12,25 +11,24 @@ use Rattle.pk_typed.specs.declared.values.Variable.TheVariants.{Local}
 use Rattle.pk_typed.specs.Trees.{ValueTree, ValueTrees, DeclaredTree, LocalTree}
 use Rattle.pk_typed.specs.Trees as tree
 use Rattle.pk_typed.specs.Types.{type_of}
-use Rattle.pk_graph.specs.declared.trees.Site.{Site}
-use Rattle.pk_graph.specs.Kinds.{Kinds, Kind, count_of, IsOfType, IsTypedInstr}
-use Rattle.pk_graph.specs.Trees.{ArrayOf, constant, variable, Havoc, Clear, Store}
-use Rattle.pk_draft.specs.Drafts.{Names, inner, on, with_object, emit}
+use Rattle.pk_graph.specs.Kinds.{Kind, count_of, IsOfType}
+use Rattle.pk_graph.specs.Trees.{constant, variable, Havoc, Clear, Store}
+use Rattle.pk_draft.specs.Drafts.{inner, on, with_object, emit}
 use Rattle.pk_draft.specs.Folding.{conversion}
 use Rattle.pk_lower_row.specs.Contexts.{site, own, array_of, local_at, no_local}
-use Rattle.pk_lower_row.specs.Rows.{Ways, Operand, operand}
+use Rattle.pk_lower_row.specs.Rows.{operand}
 use Rattle.pk_lower_expression.specs.Expressions.{ways}
 use Rattle.pk_lower_statement.specs.Statements as form
 use Rattle.pk_welltyped.specs.Listed.{calls_in, calls_in_values, calls_in_declared, calls_in_all_declared}
 use Rattle.pk_welltyped.specs.WellTyped as good
 use Rattle.pk_welltyped.specs.WellTyped.{IsValue, AreValues, kind_among, HasRoom, IsDeclared, AreDeclared}
-use Rattle.pk_typed_draft.proofs.Places.{D, Place, Has, Stage, Typed, Proper, Step, step_for, quiet}
-use Rattle.pk_typed_draft.proofs.Verbs.{with_objects, object_step, emit_step}
+use Rattle.pk_typed_draft.proofs.Places.{D, Place, Has, Stage, Typed, Proper, Step}
+use Rattle.pk_typed_draft.proofs.Verbs.{with_objects, object_step}
 use Rattle.pk_typed_draft.proofs.Trees.{constant_is, conversion_is}
 use Rattle.pk_typed_draft.proofs.Rows.{Works, HasArray, array_is, type_is, store_is, inner_start, idle, seen, then_emit, knowing}
 use Rattle.pk_typed_draft.proofs.Targets.{set_step}
 use Rattle.pk_typed_draft.proofs.Expressions.{CallsAre, split, around, object_is, array_there, local_length, values}
-use Rattle.pk_typed_draft.proofs.Chains.{chain, run, use_it, gain, given, on_step, named_step}
+use Rattle.pk_typed_draft.proofs.Chains.{chain, given, on_step, named_step}
 
 -- behind n more objects
 abbrev pub more : ℕ → Stage → Stage
@@ -100,7 +98,7 @@ item_works w g m n s i j t k l is few e h c d =
     (then_emit w g m n s d r.1 (Store a o false (constant Int (pos j)) (conversion (type_of e) v r.0)) (Unit {0}) (x × y)
     (knowing w m n s d r.1 y x (λ z. array_there w g s t (Local i) (k, (l, is)) d z) ((values w g m n s e h c).value d))
     (λ q. store_is w.kinds a t Int o false (constant Int (pos j)) (conversion (type_of e) v r.0) q.1 (constant_is w.kinds Int (pos j) (place_in j few))
-        (subst (λ (u : IntType). IsOfType w.kinds u (conversion (type_of e) v r.0)) (local_type w i (good.array t k) is) (conversion_is w.kinds (type_of e) v r.0 q.0))))
+    (subst (λ (u : IntType). IsOfType w.kinds u (conversion (type_of e) v r.0)) (local_type w i (good.array t k) is) (conversion_is w.kinds (type_of e) v r.0 q.0))))
 
 items_work : (w : Place) → Proper w → (m n : ℕ) (s : Stage) (i j : ℕ) (t : IntType) (k : ℕ) → i < s.objects → kind_among w.context.locals i ≡ Some (good.array t k) → (es : ValueTrees) → j + good.count es ≤ 1048576 → AreValues (around w s) es → CallsAre w m (calls_in_values es) n
     → Works w m n s (form.items w.context i j es)

@@ -1,21 +1,19 @@
 -- Well-typed expressions are lowered typed.
-use Rattle.std.proofs.Common.{◌≡◌, ℕ, ◌+◌, zero, suc, ◌<◌, ◌≤◌, Bool, true, false, List, [], ◌∷◌, ◌++◌, Option, Some, None, length, refl, ap, sym, subst, ◌∙◌, arith, slice_index_or}
+use Rattle.std.proofs.Common.{◌≡◌, ℕ, ◌+◌, List, [], ◌∷◌, ◌++◌, Option, Some, None, refl, ap, sym, subst, ◌∙◌, slice_index_or}
 use Rattle.std.proofs.lemmas.Option.{none-some, get_or_from_slice_get}
-use Rattle.std.specs.Prelude.{ℤ, pos, slice_get, unwrap_or}
+use Rattle.std.specs.Prelude.{slice_get, unwrap_or}
 use Rattle.std.specs.Option.{option_map, option_and_then}
 use Rattle.pk_ctypes.specs.declared.types.IntType.{IntType}
-use Rattle.pk_ctypes.specs.declared.types.IntType.TheVariants.{Int}
 use Rattle.pk_typed.specs.declared.values.Variable.{Variable}
 use Rattle.pk_typed.specs.declared.values.Variable.TheVariants.{File, Local}
 use Rattle.pk_typed.specs.Trees.{PlaceTree, ValueTree, EffectTree, ValueTrees, LocalTree, FileObjectTree, StartTree, scalar_start, array_start, UnitTree}
 use Rattle.pk_typed.specs.Trees as tree
 use Rattle.pk_typed.specs.Types.{type_of, type_of_place}
-use Rattle.pk_graph.specs.Kinds.{Kinds, count_of, IsOfType}
-use Rattle.pk_graph.specs.Trees.{constant, variable}
+use Rattle.pk_graph.specs.Kinds.{count_of}
 use Rattle.pk_draft.specs.Drafts.{Names}
-use Rattle.pk_lower_row.specs.declared.shapes.Shape.TheVariants.{Fixed, Temporary, Named}
+use Rattle.pk_lower_row.specs.declared.shapes.Shape.TheVariants.{Named}
 use Rattle.pk_lower_row.specs.Shapes.{any_makes}
-use Rattle.pk_lower_row.specs.Contexts.{Context, site, no_local, length_of_start, length_in_file, local_at, length_of, variable_of, array_of}
+use Rattle.pk_lower_row.specs.Contexts.{site, no_local, length_of_start, local_at, length_of, variable_of, array_of}
 use Rattle.pk_lower_row.specs.Rows as row
 use Rattle.pk_lower_row.specs.Rows.{Ways, Operand, operand, types_of, and_choice, or_choice, called}
 use Rattle.pk_lower_expression.specs.Expressions.{target, ways, performed, passed}
@@ -24,10 +22,10 @@ use Rattle.pk_welltyped.specs.WellTyped as good
 use Rattle.pk_welltyped.specs.WellTyped.{Around, IsPlace, IsValue, IsEffect, AreValues, kind_in_file, kind_among, length_at_start, IsObject}
 use Rattle.pk_typed_draft.proofs.Places.{D, Place, Has, Stage, Typed, Proper, Step, step}
 use Rattle.pk_typed_draft.proofs.Verbs.{IsCallee}
-use Rattle.pk_typed_draft.proofs.Rows.{Gives, Works, Chooses, WaysAre, OperandIs, HasArray, idle, seen, value_are}
+use Rattle.pk_typed_draft.proofs.Rows.{Gives, Works, WaysAre, HasArray, idle, value_are}
 use Rattle.pk_typed_draft.proofs.Targets.{TargetIs, type_of_target, read_are, assign_are, update_are, step_are, constant_are}
 use Rattle.pk_typed_draft.proofs.Operators.{any_are, convert_are, unary_are, binary_are, and_chooses, or_chooses, truth_are, conditional_are, then_are, assumed_works, int_chooses, zero_chooses, check_works}
-use Rattle.pk_typed_draft.proofs.Calls.{TreesAre, Passes, passing, called_gives, called_works}
+use Rattle.pk_typed_draft.proofs.Calls.{Passes, passing, called_gives, called_works}
 
 -- ---- calls in order
 

@@ -1,8 +1,8 @@
 -- The draft before the first part.
-use Rattle.std.proofs.Common.{◌≡◌, ◌≢◌, ℕ, ◌+◌, zero, suc, ◌<◌, ◌≤◌, ◌⊎◌, inl, inr, List, [], ◌∷◌, ◌++◌, Option, Some, None, length, map, refl, ap, sym, subst, ◌∙◌, arith, slice_index_or, slice_set, length-set, length-append}
+use Rattle.std.proofs.Common.{◌≡◌, ◌≢◌, ℕ, ◌+◌, zero, suc, ◌<◌, ◌≤◌, inl, inr, List, [], ◌∷◌, ◌++◌, Option, Some, None, length, map, refl, ap, sym, subst, ◌∙◌, arith, slice_index_or, length-set, length-append}
 use Rattle.std.proofs.lemmas.List.{get_or-set_same, get_or-set_other, length-map}
 use Rattle.std.proofs.lemmas.List.Elements.{All-append}
-use Rattle.std.proofs.lemmas.Option.{none-some, slice_get-get_or, slice_get_within}
+use Rattle.std.proofs.lemmas.Option.{none-some, slice_get_within}
 use Rattle.std.specs.Prelude.{slice_get, unwrap_or, All, replicate}
 use Rattle.std.specs.Option.{option_map}
 use Rattle.pk_ctypes.specs.Types.{InType}
@@ -10,8 +10,8 @@ use Rattle.pk_typed.specs.Trees.{FileObjectTree, StartTree, scalar_start, array_
 use Rattle.pk_calls.specs.declared.listings.CallPath.{CallPath}
 use Rattle.pk_calls.specs.Paths.{entry_path}
 use Rattle.pk_graph.specs.declared.graphs.Scope.{Scope}
-use Rattle.pk_graph.specs.Kinds.{Kind, Kinds, kind_at, count_of}
-use Rattle.pk_graph.specs.Graphs.{VariableOf, no_variable, StartOf}
+use Rattle.pk_graph.specs.Kinds.{kind_at}
+use Rattle.pk_graph.specs.Graphs.{VariableOf, no_variable}
 use Rattle.pk_graph.specs.WellMade.{IsStartOf}
 use Rattle.pk_draft.specs.declared.drafts.Region.{Region}
 use Rattle.pk_draft.specs.declared.drafts.Label.{Label}
@@ -152,15 +152,15 @@ first_plan W c =
           }));
       unkept = λ j l k. no_other W j (λ e. absurd (omega (e, l, arith))) k;
       pending = λ j y l i. elim (either j 0) [
-        inr o ↦ absurd (no_other W j o i.kept) |
-        inl e ↦ (let q : In (base W) (start W).regions 0 y = subst (λ (z : ℕ). In (base W) (start W).regions z y) e i in
+        | inr o ↦ absurd (no_other W j o i.kept)
+        | inl e ↦ (let q : In (base W) (start W).regions 0 y = subst (λ (z : ℕ). In (base W) (start W).regions z y) e i in
             let from : length xs ≤ y = subst (λ (z : Region). z.variables ≤ y) is q.from in
             let to : y < length xs + (size_of W 0).variables = subst (λ (z : Region). y < z.variables + (size_of W 0).variables) is q.to in
             (ap (λ (v : VariableOf). v.path) (behind_at xs s.variables y no_variable from), omega (to, many, c.kinds, ap (λ (z : Size). z.variables) size, arith)))
       ];
       apart = λ i j y l m a b. elim (either i 0) [
-        inr o ↦ absurd (no_other W i o a.kept) |
-        inl e ↦ elim (either j 0) [ inr o ↦ absurd (no_other W j o b.kept) | inl f ↦ e ∙ sym f ]
+        | inr o ↦ absurd (no_other W i o a.kept)
+        | inl e ↦ elim (either j 0) [ inr o ↦ absurd (no_other W j o b.kept) | inl f ↦ e ∙ sym f ]
       ];
     }
 
@@ -177,7 +177,7 @@ first_typed W c h =
           (all_replicate (λ (x : VariableOf). IsStartOf x x.start) s.variables no_variable (omega arith, λ k d l. absurd (omega (l, arith))));
       edges = λ k d l. absurd (omega (l, arith));
       places = λ j k. elim (either j 0) [
-        inr o ↦ absurd (no_other W j o k) |
-        inl e ↦ subst (λ (i : ℕ). (region_at (start W).regions i).at < W.points) (sym e) (subst (λ (r : Region). r.at < W.points) (sym (first_region W c.some)) (omega (c.points, arith)))
+        | inr o ↦ absurd (no_other W j o k)
+        | inl e ↦ subst (λ (i : ℕ). (region_at (start W).regions i).at < W.points) (sym e) (subst (λ (r : Region). r.at < W.points) (sym (first_region W c.some)) (omega (c.points, arith)))
       ];
     }

@@ -1,5 +1,5 @@
 -- What is well typed at a place is so behind more objects.
-use Rattle.std.proofs.Common.{ℕ, ◌+◌, ◌≤◌, Option, Some, None, arith}
+use Rattle.std.proofs.Common.{◌≤◌, Option, Some, None, arith}
 use Rattle.pk_typed.specs.declared.values.Variable.{Variable}
 use Rattle.pk_typed.specs.declared.values.Variable.TheVariants.{File, Local}
 use Rattle.pk_typed.specs.Trees.{PlaceTree, ValueTree, EffectTree, ValueTrees}

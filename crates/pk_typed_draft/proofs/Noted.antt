@@ -1,8 +1,8 @@
 -- Calls that stand in a body in order have their numbers in its list.
-use Rattle.std.proofs.Common.{◌≡◌, ℕ, ◌+◌, zero, suc, ◌<◌, List, [], ◌∷◌, ◌++◌, Option, Some, None, length, refl, ap, sym, subst, ◌∙◌, arith}
-use Rattle.std.proofs.lemmas.Option.{none-some, slice_get_within}
+use Rattle.std.proofs.Common.{◌≡◌, ℕ, ◌+◌, zero, suc, List, [], ◌∷◌, ◌++◌, Option, Some, None, refl, ap, sym, subst, ◌∙◌, arith}
+use Rattle.std.proofs.lemmas.Option.{slice_get_within}
 use Rattle.std.proofs.lemmas.Bool.{false≢true}
-use Rattle.std.specs.Prelude.{slice_get, All, unwrap_or, slice_index_or, IsSome}
+use Rattle.std.specs.Prelude.{slice_get, unwrap_or, slice_index_or, IsSome}
 use Rattle.std.specs.Option.{option_map, option_and_then}
 use Rattle.std.proofs.lemmas.Option.{get_or_from_slice_get}
 use Rattle.pk_typed.specs.declared.units.CallSite.{CallSite}
@@ -12,7 +12,7 @@ use Rattle.pk_calls.specs.Calls as calls
 use Rattle.pk_calls.specs.Calls.{HasBody, calls_of}
 use Rattle.pk_lower.specs.Parts.{body_at, no_body}
 use Rattle.pk_part.specs.Called.{OfCalls, AtPlace, AtValue, AtEffect, AtValues, AtValueIf, AtValuesIf, AtEffectIf, AtDeclared, AtAllDeclared, AtStart, AtStatement, AtItems}
-use Rattle.pk_part.specs.Listed.{IsCallOf, CallsAreNoted}
+use Rattle.pk_part.specs.Listed.{IsCallOf}
 use Rattle.pk_welltyped.specs.Listed.{Numbered, numbered, calls_at_place, calls_in, calls_in_effect, calls_in_values, calls_if, calls_in_values_if, calls_in_effect_if, calls_in_declared, calls_in_all_declared, calls_at_start, calls_in_statement, calls_in_items}
 use Rattle.pk_welltyped.specs.WellTyped.{IsUnit, IsBody, IsBodyIf}
 use Rattle.pk_typed_draft.specs.Noted.{WellTypedCallsAreNoted}
@@ -109,9 +109,12 @@ mutual
   statement P (tree.do_while o s c) h = (statement P s (each_first P (calls_in_statement s) (calls_in c) h), value P c (each_second P (calls_in_statement s) (calls_in c) h))
   statement P (tree.for_loop o a c e s) h =
       let k = each_first P (calls_at_start a ++ calls_if c ++ calls_in_effect_if e) (calls_in_statement s) h in
-      let l = each_first P (calls_at_start a ++ calls_if c) (calls_in_effect_if e) k in
-      (start P a (each_first P (calls_at_start a) (calls_if c) l), value_if P c (each_second P (calls_at_start a) (calls_if c) l), effect_if P e (each_second P (calls_at_start a ++ calls_if c) (calls_in_effect_if e) k),
-        statement P s (each_second P (calls_at_start a ++ calls_if c ++ calls_in_effect_if e) (calls_in_statement s) h))
+      let l = each_first P (calls_at_start a ++ calls_if c) (calls_in_effect_if e) k in (
+        start P a (each_first P (calls_at_start a) (calls_if c) l),
+        value_if P c (each_second P (calls_at_start a) (calls_if c) l),
+        effect_if P e (each_second P (calls_at_start a ++ calls_if c) (calls_in_effect_if e) k),
+        statement P s (each_second P (calls_at_start a ++ calls_if c ++ calls_in_effect_if e) (calls_in_statement s) h),
+      )
   statement P (tree.goto o l) h = tt
   statement P (tree.continue o) h = tt
   statement P (tree.break o) h = tt
@@ -160,6 +163,7 @@ bodied u f has = of_function (slice_get u.functions f) refl has
     of_body : (g : FunctionTree) → slice_get u.functions f ≡ Some g → (o : Option BodyTree) → g.body ≡ o → IsSome o → Bodied u f
     of_body g is None e h = absurd (false≢true h)
     of_body g is (Some b) e h = record { function = g; body = b; there = is; has = e; body_of = ap (option_and_then (λ (x : FunctionTree). x.body)) is ∙ e }
+
     of_function : (o : Option FunctionTree) → slice_get u.functions f ≡ o → IsSome (option_and_then (λ (x : FunctionTree). x.body) o) → Bodied u f
     of_function None is h = absurd (false≢true h)
     of_function (Some g) is h = of_body g is g.body refl h

@@ -1,5 +1,5 @@
 -- Operators, choices and conditions.
-use Rattle.std.proofs.Common.{◌≡◌, ℕ, ◌+◌, zero, suc, ◌<◌, ◌≤◌, Bool, true, false, List, [], ◌∷◌, Option, Some, None, length, refl, ap, sym, subst, ◌∙◌, arith, if◌then◌else◌}
+use Rattle.std.proofs.Common.{◌≡◌, ℕ, ◌+◌, ◌<◌, ◌≤◌, Bool, true, false, None, refl, ap, arith, if◌then◌else◌}
 use Rattle.std.specs.Prelude.{ℤ, pos}
 use Rattle.std.proofs.lemmas.Int.{ints}
 use Rattle.pk_ctypes.specs.declared.types.IntType.{IntType}
@@ -9,19 +9,19 @@ use Rattle.pk_ctypes.specs.Types.{InType, represents}
 use Rattle.pk_ctypes.specs.Operators.{result_type}
 use Rattle.pk_ctypes.proofs.Wrapped.{zero_in}
 use Rattle.pk_graph.specs.declared.trees.Site.{Site}
-use Rattle.pk_graph.specs.Trees.{TreeOf, constant, variable, Set, Havoc, Check}
+use Rattle.pk_graph.specs.Trees.{constant, variable, Set, Havoc, Check}
 use Rattle.pk_graph.specs.Kinds.{Kinds, Kind, count_of, IsOfType, IsTypedInstr}
-use Rattle.pk_draft.specs.Drafts.{Given, at, fresh, with_temporary, next_temporary, link, emit, nowhere}
+use Rattle.pk_draft.specs.Drafts.{Given, at, fresh, with_temporary, next_temporary, link, nowhere}
 use Rattle.pk_draft.specs.Folding.{conversion}
-use Rattle.pk_lower_row.specs.declared.shapes.Shape.TheVariants.{Fixed, Temporary}
+use Rattle.pk_lower_row.specs.declared.shapes.Shape.TheVariants.{Temporary}
 use Rattle.pk_lower_row.specs.Shapes.{strong_if, converted_shape, unary_shape, operated_shape}
 use Rattle.pk_lower_row.specs.Rows as row
 use Rattle.pk_lower_row.specs.Rows.{Ways, Operand, two, guards, is_not}
 use Rattle.pk_welltyped.specs.WellTyped.{operands}
-use Rattle.pk_typed_draft.proofs.Places.{D, Place, Has, Stage, Typed, Proper, Step, step, step_for, step_beside, quiet}
+use Rattle.pk_typed_draft.proofs.Places.{D, Place, Has, Stage, Proper, Step, step, step_for, step_beside, quiet}
 use Rattle.pk_typed_draft.proofs.Trees.{constant_is, conversion_is, unary_is, operated_is}
-use Rattle.pk_typed_draft.proofs.Verbs.{typed_at, typed_link, fresh_step, emit_step, at_step, link_step}
-use Rattle.pk_typed_draft.proofs.Rows.{Gives, Works, Chooses, WaysAre, OperandIs, idle, seen, scalar_is, type_is, variable_is, set_is, temporary_step, choice_of, value_are, choice_are, two_step, then_emit, weaker}
+use Rattle.pk_typed_draft.proofs.Verbs.{typed_at, typed_link, fresh_step, at_step}
+use Rattle.pk_typed_draft.proofs.Rows.{Gives, Works, Chooses, WaysAre, OperandIs, seen, type_is, variable_is, set_is, temporary_step, choice_of, value_are, choice_are, two_step, then_emit, weaker}
 use Rattle.pk_typed_draft.proofs.Targets.{constant_are}
 
 -- ---- any number, conversions, operators
@@ -32,9 +32,9 @@ havoc_is ks x t h = (h.there, type_is ks x t None h, ap (λ (k : Kind). count_of
 pub any_are : (w : Place) → Proper w → (m : ℕ) (s : Stage) (t : IntType) → WaysAre w m m s t (row.by_value Temporary t (row.any_value t))
 any_are w g m s t = value_are w g m m s Temporary t (row.any_value t)
     (λ d. let x = next_temporary d in
-        let h = Has w.kinds x t None in
-        weaker w m m s d (row.any_value t d).1 (Unit {0}) h (IsOfType w.kinds t (variable x)) (variable_is w.kinds x t)
-        (then_emit w g m m s d (with_temporary t d) (Havoc x t 1) (Unit {0}) h (temporary_step w g m s t d) (havoc_is w.kinds x t)))
+    let h = Has w.kinds x t None in
+    weaker w m m s d (row.any_value t d).1 (Unit {0}) h (IsOfType w.kinds t (variable x)) (variable_is w.kinds x t)
+    (then_emit w g m m s d (with_temporary t d) (Havoc x t 1) (Unit {0}) h (temporary_step w g m s t d) (havoc_is w.kinds x t)))
 
 pub convert_gives : (w : Place) (m n : ℕ) (s : Stage) (t : IntType) (e : Operand ℕ) → OperandIs w m n s e → Gives w m n s t (row.convert_value t e)
 convert_gives w m n s t e h d =
@@ -63,8 +63,8 @@ pub binary_are : (w : Place) → Proper w → (m l n : ℕ) (s : Stage) (op : Op
 binary_are w g m l n s op z o t a b h k =
     value_are w g m n s (operated_shape op t a.int_type b.int_type a.shape b.shape) (result_type op t) (row.binary_value op o t a b)
     (λ d. let p = two (strong_if b.makes) a b d in
-        weaker w m n s d p.draft (Unit {0}) (IsOfType w.kinds a.int_type p.first × IsOfType w.kinds b.int_type p.second) (IsOfType w.kinds (result_type op t) (row.binary_value op o t a b d).0)
-        (λ q. operated_is w.kinds op o t a.int_type b.int_type p.first p.second z q.0 q.1) (two_step w g m l n s (strong_if b.makes) a b h k d))
+    weaker w m n s d p.draft (Unit {0}) (IsOfType w.kinds a.int_type p.first × IsOfType w.kinds b.int_type p.second) (IsOfType w.kinds (result_type op t) (row.binary_value op o t a b d).0)
+    (λ q. operated_is w.kinds op o t a.int_type b.int_type p.first p.second z q.0 q.1) (two_step w g m l n s (strong_if b.makes) a b h k d))
 
 -- ---- conditions
 

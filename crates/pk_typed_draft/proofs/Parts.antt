@@ -1,22 +1,20 @@
 -- The part of a path: parameters, result, body.
-use Rattle.std.proofs.Common.{◌≡◌, ℕ, ◌+◌, zero, suc, ◌<◌, ◌≤◌, Bool, true, false, inr, List, [], ◌∷◌, ◌++◌, Option, Some, None, length, refl, ap, sym, subst, ◌∙◌, arith, slice_index_or, slice_set, length-set, length-append, if◌then◌else◌}
+use Rattle.std.proofs.Common.{◌≡◌, ℕ, ◌+◌, ◌<◌, ◌≤◌, Bool, true, false, inr, List, [], ◌∷◌, ◌++◌, Option, Some, None, length, refl, ap, sym, subst, ◌∙◌, arith, slice_set, length-append, if◌then◌else◌}
 use Rattle.std.proofs.lemmas.List.{get_or-set_same}
-use Rattle.std.proofs.lemmas.Option.{none-some}
 use Rattle.std.proofs.lemmas.Bool.{false≢true}
-use Rattle.std.specs.Prelude.{ℤ, pos, slice_get, unwrap_or, All}
+use Rattle.std.specs.Prelude.{pos, slice_get}
 use Rattle.std.specs.Option.{option_map}
 use Rattle.pk_ctypes.specs.declared.types.IntType.{IntType}
-use Rattle.pk_ctypes.specs.Types.{InType}
 use Rattle.pk_ctypes.proofs.Wrapped.{zero_in}
-use Rattle.pk_typed.specs.Trees.{LocalTree, BodyTree, FunctionTree, UnitTree}
+use Rattle.pk_typed.specs.Trees.{LocalTree, BodyTree, FunctionTree}
 use Rattle.pk_calls.specs.declared.listings.Caller.{Caller}
-use Rattle.pk_graph.specs.Kinds.{Kind, count_of, IsOfType, IsTypedInstr}
-use Rattle.pk_graph.specs.Trees.{constant, variable, Set, Havoc, Skip}
-use Rattle.pk_graph.specs.Graphs.{VariableOf, no_variable, any_start}
+use Rattle.pk_graph.specs.Kinds.{Kind, count_of}
+use Rattle.pk_graph.specs.Trees.{constant, Set, Havoc}
+use Rattle.pk_graph.specs.Graphs.{VariableOf, no_variable}
 use Rattle.pk_graph.specs.WellMade.{IsStartOf}
 use Rattle.pk_draft.specs.declared.drafts.Region.{Region}
 use Rattle.pk_draft.specs.declared.drafts.Label.{Label}
-use Rattle.pk_draft.specs.Drafts.{begun_at, on, standing, placed, fresh, inner, with_object, go, emit}
+use Rattle.pk_draft.specs.Drafts.{begun_at, on, standing, placed, fresh, inner, with_object, emit}
 use Rattle.pk_lower_row.specs.Contexts.{own_result, local_at}
 use Rattle.pk_lower_statement.specs.Statements as form
 use Rattle.pk_lower_statement.specs.Statements.{lowered_items}
@@ -24,12 +22,12 @@ use Rattle.pk_lower.specs.Parts as part
 use Rattle.pk_welltyped.specs.Listed.{calls_in_items, objects_in_items}
 use Rattle.pk_welltyped.specs.WellTyped as good
 use Rattle.pk_welltyped.specs.WellTyped.{Marks, AreParameters, AreItems, kind_among}
-use Rattle.pk_typed_draft.proofs.Places.{D, Place, Has, Stage, Typed, Proper, Below, Before, After, Step, step_for, step_beside, variable_in, quiet}
+use Rattle.pk_typed_draft.proofs.Places.{D, Place, Has, Stage, Proper, Below, Before, Step, step_for, step_beside, variable_in, quiet}
 use Rattle.pk_typed_draft.proofs.Verbs.{with_objects, typed_standing, typed_placed, object_step, result_step, fresh_step}
 use Rattle.pk_typed_draft.proofs.Trees.{constant_is}
-use Rattle.pk_typed_draft.proofs.Rows.{Works, idle, seen, scalar_is, type_is, set_is, inner_start, then_emit}
+use Rattle.pk_typed_draft.proofs.Rows.{Works, idle, seen, type_is, set_is, inner_start, then_emit}
 use Rattle.pk_typed_draft.proofs.Expressions.{CallsAre, around, local_length}
-use Rattle.pk_typed_draft.proofs.Chains.{chain, run, use_it, gain, given, on_step, go_step, named_step}
+use Rattle.pk_typed_draft.proofs.Chains.{chain, run, use_it, given, on_step, go_step, named_step}
 use Rattle.pk_typed_draft.proofs.Declarations.{more, local_type}
 use Rattle.pk_typed_draft.proofs.Statements.{ExitsAre, items, result_there}
 
@@ -53,10 +51,12 @@ parameters_from pre xs [] h = tt
 parameters_from pre [] (t ∷ ts) h = absurd h
 parameters_from pre (x ∷ xs) (t ∷ ts) h =
     let is : kind_among (pre ++ x ∷ xs) (length pre) ≡ Some (good.scalar t) =
-        ap (option_map (λ (y : LocalTree). record { int_type = y.int_type; length = y.length })) (nth pre x xs)
-        ∙ (ap (λ (u : IntType). Some (record { int_type = u; length = x.length })) h.0 ∙ ap (λ (n : Option ℕ). Some (record { int_type = t; length = n })) h.1) in
-    (is, subst (λ (l : List LocalTree). ParametersAt l (length pre + 1) ts) (append_one pre x xs)
-        (subst (λ (i : ℕ). ParametersAt ((pre ++ x ∷ []) ++ xs) i ts) (length-append pre (x ∷ [])) (parameters_from (pre ++ x ∷ []) xs ts h.2)))
+    ap (option_map (λ (y : LocalTree). record { int_type = y.int_type; length = y.length })) (nth pre x xs)
+    ∙ (ap (λ (u : IntType). Some (record { int_type = u; length = x.length })) h.0 ∙ ap (λ (n : Option ℕ). Some (record { int_type = t; length = n })) h.1) in (
+      is,
+      subst (λ (l : List LocalTree). ParametersAt l (length pre + 1) ts) (append_one pre x xs)
+          (subst (λ (i : ℕ). ParametersAt ((pre ++ x ∷ []) ++ xs) i ts) (length-append pre (x ∷ [])) (parameters_from (pre ++ x ∷ []) xs ts h.2)),
+    )
 
 pub parameters_at : (xs : List LocalTree) (ts : List IntType) → AreParameters ts xs → ParametersAt xs 0 ts
 parameters_at xs ts h = parameters_from [] xs ts h
@@ -165,10 +165,13 @@ parameters_written w g s from (t ∷ ts) h d b y =
     let at_e : Before w 0 0 e = record { laid = a.laid; not_made = λ i l m. absurd (omega (m, arith)); positive = omega (b.positive, one.points, arith); files = omega (b.files, one.variables, arith) } in
     let first_be : d.variables + 1 ≤ w.limit = omega (parameter_variables w from s.objects d, be.0, arith) in
     let first = parameter_written w g from s.objects t h.0 d (omega (first_be, g.limit, b.laid.many, arith)) in
-    let all = parameters_written w g (more 1 s) from ts h.1 e at_e y in
-    ((written_stays w.context.path e.made (part.all_introduced w.context from (s.objects + 1) ts e).made d.variables t (rest.after at_e y).old first.0,
-      subst (λ (v : ℕ). AreWritten w.context.path (part.all_introduced w.context from (s.objects + 1) ts e).made v ts) first.1 all.0),
-    omega (all.1, first.1, arith))
+    let all = parameters_written w g (more 1 s) from ts h.1 e at_e y in (
+      (
+        written_stays w.context.path e.made (part.all_introduced w.context from (s.objects + 1) ts e).made d.variables t (rest.after at_e y).old first.0,
+        subst (λ (v : ℕ). AreWritten w.context.path (part.all_introduced w.context from (s.objects + 1) ts e).made v ts) first.1 all.0,
+      ),
+      omega (all.1, first.1, arith),
+    )
 
 -- ---- a whole part
 

@@ -1,22 +1,17 @@
 -- A part of a draft that is made while the kinds of all variables are known: what holds of the draft before and after a step.
-use Rattle.std.proofs.Common.{◌≡◌, ◌≢◌, ℕ, ◌+◌, zero, suc, ◌<◌, ◌≤◌, ◌⊎◌, inl, inr, List, [], ◌∷◌, ◌++◌, Option, Some, None, length, refl, ap, sym, subst, ◌∙◌, arith, slice_index_or, slice_set, length-set}
-use Rattle.std.proofs.lemmas.List.{get_or-set_same, get_or-set_other}
-use Rattle.std.proofs.lemmas.Option.{none-some}
-use Rattle.std.specs.Prelude.{All, slice_get, unwrap_or}
-use Rattle.std.specs.Option.{option_map, option_and_then}
+use Rattle.std.proofs.Common.{◌≡◌, ℕ, ◌+◌, ◌<◌, ◌≤◌, ◌⊎◌, inl, inr, List, [], ◌∷◌, Option, Some, None, length, ap, sym, subst, ◌∙◌, arith, slice_index_or}
+use Rattle.std.specs.Prelude.{All, slice_get}
+use Rattle.std.specs.Option.{option_and_then}
 use Rattle.pk_ctypes.specs.declared.types.IntType.{IntType}
 use Rattle.pk_typed.specs.Trees.{FunctionTree, UnitTree}
 use Rattle.pk_graph.specs.declared.graphs.Scope.{Scope}
-use Rattle.pk_graph.specs.Kinds as graph
-use Rattle.pk_graph.specs.Kinds.{Kind, Kinds, kind_at, IsTypedInstr}
+use Rattle.pk_graph.specs.Kinds.{Kinds, kind_at, IsTypedInstr}
 use Rattle.pk_graph.specs.Graphs.{VariableOf, no_variable}
 use Rattle.pk_graph.specs.WellMade.{IsStartOf}
 use Rattle.pk_draft.specs.declared.drafts.Region.{Region}
 use Rattle.pk_draft.specs.declared.drafts.Label.{Label}
-use Rattle.pk_draft.specs.declared.drafts.Size.{Size}
-use Rattle.pk_draft.specs.Drafts.{DraftOf, EdgeFrom, by_number, no_region, with_variable}
+use Rattle.pk_draft.specs.Drafts.{DraftOf, EdgeFrom, by_number, no_region}
 use Rattle.pk_lower_row.specs.Contexts.{Context, size_in, parameters_of}
-use Rattle.pk_welltyped.specs.Listed.{Numbered}
 use Rattle.pk_welltyped.specs.WellTyped as good
 
 abbrev pub D : Type 0
@@ -197,9 +192,11 @@ after_both w m l n d e g o p v a b = record {
     both : (j : ℕ) → (j < w.context.first + m) ⊎ (w.context.first + n ≤ j) → region_at g.regions j ≡ region_at d.regions j
     both j (inl c) = b.same j (inl (omega (c, o, arith))) ∙ a.same j (inl c)
     both j (inr c) = b.same j (inr c) ∙ a.same j (inr (omega (c, p, arith)))
+
     which : (i : ℕ) → (i < l) ⊎ (l ≤ i) → m ≤ i → i < n → IsMade w (w.context.first + i) (region_at g.regions (w.context.first + i))
     which i (inl c) x y = subst (IsMade w (w.context.first + i)) (sym (b.same (w.context.first + i) (inl (omega (c, arith))))) (a.made i x c)
     which i (inr c) x y = b.made i c y
+
     made : (i : ℕ) → m ≤ i → i < n → IsMade w (w.context.first + i) (region_at g.regions (w.context.first + i))
     made i x y = which i (split i l) x y
       where
@@ -262,8 +259,8 @@ step_back w m l n i j k d e g P Q R a b = record {
   after = λ x y. let f = a.after (inner x) (below_before w e g b.variables b.points y) in let h = b.after (own x f) y in record {
     laid = h.laid;
     same = λ q c. elim c [
-      inl o ↦ h.same q (inl o) ∙ f.same q (inl (omega (o, b.order, arith))) |
-      inr o ↦ h.same q (inr (omega (o, a.order, arith))) ∙ f.same q (inr o)
+      | inl o ↦ h.same q (inl o) ∙ f.same q (inl (omega (o, b.order, arith)))
+      | inr o ↦ h.same q (inr (omega (o, a.order, arith))) ∙ f.same q (inr o)
     ];
     made = λ q o c. which q (split q l) o c f h;
     low = λ q o. h.low q (omega (o, a.variables, arith)) ∙ f.low q o;
@@ -275,8 +272,10 @@ step_back w m l n i j k d e g P Q R a b = record {
   where
     split : (i l : ℕ) → (i < l) ⊎ (l ≤ i)
     split i l = grind arith
+
     inner : Before w m n d → Before w l n d
     inner x = record { laid = x.laid; not_made = λ q o c. x.not_made q (omega (o, b.order, arith)) c; positive = x.positive; files = x.files }
+
     own : Before w m n d → After w l n d e → Before w m l e
     own x f = record {
       laid = f.laid;
@@ -284,6 +283,7 @@ step_back w m l n i j k d e g P Q R a b = record {
       positive = omega (x.positive, a.points, arith);
       files = omega (x.files, a.variables, arith);
     }
+
     which : (q : ℕ) → (q < l) ⊎ (l ≤ q) → m ≤ q → q < n → After w l n d e → After w m l e g → IsMade w (w.context.first + q) (region_at g.regions (w.context.first + q))
     which q (inl o) c r f h = h.made q c o
     which q (inr o) c r f h = subst (IsMade w (w.context.first + q)) (sym (h.same (w.context.first + q) (inr (omega (o, arith))))) (f.made q o r)

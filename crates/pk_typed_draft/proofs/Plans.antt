@@ -1,6 +1,6 @@
 -- All parts: regions don't meet, and what callers rely on is made.
-use Rattle.std.proofs.Common.{◌≡◌, ◌≢◌, ℕ, ◌+◌, zero, suc, ◌<◌, ◌≤◌, ◌⊎◌, inl, inr, Bool, true, false, List, [], ◌∷◌, ◌++◌, Option, Some, None, length, map, refl, ap, sym, subst, ◌∙◌, arith, slice_index_or, slice_set, length-set, length-append}
-use Rattle.std.proofs.lemmas.Option.{none-some, slice_get_within, get_or_from_slice_get}
+use Rattle.std.proofs.Common.{◌≡◌, ℕ, ◌+◌, zero, suc, ◌<◌, ◌≤◌, ◌⊎◌, inl, inr, false, List, [], ◌∷◌, Option, Some, None, length, refl, ap, sym, subst, ◌∙◌, arith, slice_index_or}
+use Rattle.std.proofs.lemmas.Option.{slice_get_within, get_or_from_slice_get}
 use Rattle.std.specs.Prelude.{slice_get, unwrap_or, All, replicate}
 use Rattle.std.specs.Option.{option_map, option_and_then}
 use Rattle.pk_ctypes.specs.declared.types.IntType.{IntType}
@@ -12,24 +12,23 @@ use Rattle.pk_calls.specs.Calls as calls
 use Rattle.pk_calls.specs.Calls.{calls_of}
 use Rattle.pk_calls.specs.Paths.{entry_path, path_by}
 use Rattle.pk_graph.specs.declared.graphs.Scope.{Scope}
-use Rattle.pk_graph.specs.Kinds.{Kind, Kinds, kind_at}
-use Rattle.pk_graph.specs.Graphs.{VariableOf, no_variable}
+use Rattle.pk_graph.specs.Kinds.{Kinds, kind_at}
+use Rattle.pk_graph.specs.Graphs.{VariableOf}
 use Rattle.pk_graph.specs.WellMade.{IsStartOf}
 use Rattle.pk_draft.specs.declared.drafts.Region.{Region}
-use Rattle.pk_draft.specs.declared.drafts.Label.{Label}
 use Rattle.pk_draft.specs.declared.drafts.Size.{Size}
-use Rattle.pk_draft.specs.Drafts.{EdgeFrom, by_number, no_region, begun_at}
+use Rattle.pk_draft.specs.Drafts.{by_number}
 use Rattle.pk_lower_row.specs.Contexts.{size_in, parameters_of}
 use Rattle.pk_lower.specs.Parts as part
 use Rattle.pk_part.specs.Listed.{CallsLeadBehind, IsListed}
 use Rattle.pk_part.proofs.Measures.{parts_fill_regions}
-use Rattle.pk_welltyped.specs.Listed.{Numbered, numbered, calls_in_items}
+use Rattle.pk_welltyped.specs.Listed.{Numbered, numbered}
 use Rattle.pk_welltyped.specs.WellTyped as good
 use Rattle.pk_welltyped.specs.WellTyped.{IsBody, AreParameters, AreItems, Marks}
-use Rattle.pk_typed_draft.proofs.Places.{D, Place, Has, HasIf, HasAll, returned_by, Promised, region_at, IsKept, In, variable_in, IsFresh, Laid, Foreseen, EdgeIs, LabelsAre, Stage, ObjectsAre, PlacesAre, Typed, Proper, Below, NotMade, IsMade, Before, After, Step}
-use Rattle.pk_typed_draft.proofs.Verbs.{IsCallee, either}
+use Rattle.pk_typed_draft.proofs.Places.{D, Place, Has, returned_by, Promised, region_at, IsKept, In, variable_in, IsFresh, Foreseen, EdgeIs, LabelsAre, Stage, PlacesAre, Typed, Below, IsMade, Before, After}
+use Rattle.pk_typed_draft.proofs.Verbs.{IsCallee}
 use Rattle.pk_typed_draft.proofs.Expressions.{CallsAre}
-use Rattle.pk_typed_draft.proofs.Parts.{ParametersAt, parameters_at, AreWritten, IsWrittenIf, Stays, all_stay, if_stays, begun_here, PartIs, made_part, ends, part_step, PartMade, part_points, part_made}
+use Rattle.pk_typed_draft.proofs.Parts.{parameters_at, AreWritten, IsWrittenIf, Stays, all_stay, if_stays, begun_here, PartIs, made_part, ends, part_step, part_points, part_made}
 
 -- the unit and its call paths, the kinds of the variables in the end, how many points there are, and how many objects the file has
 pub record World : Type 0 where
@@ -110,9 +109,11 @@ calls_from w m [] h = omega arith
 calls_from w m (c ∷ cs) h =
     let at : m + zero ≡ m = omega arith in
     let next : (i : ℕ) → m + suc i ≡ m + 1 + i = λ i. omega arith in
-    let end : m + 1 + length cs ≡ m + length (c ∷ cs) = omega arith in
-    (refl, subst (λ (q : ℕ). IsCallee w (w.context.first + q) c.function) at (h zero c refl),
-      subst (CallsAre w (m + 1) (numbered (m + 1) cs)) end (calls_from w (m + 1) cs (λ i d e. subst (λ (q : ℕ). IsCallee w (w.context.first + q) d.function) (next i) (h (suc i) d e))))
+    let end : m + 1 + length cs ≡ m + length (c ∷ cs) = omega arith in (
+      refl,
+      subst (λ (q : ℕ). IsCallee w (w.context.first + q) c.function) at (h zero c refl),
+      subst (CallsAre w (m + 1) (numbered (m + 1) cs)) end (calls_from w (m + 1) cs (λ i d e. subst (λ (q : ℕ). IsCallee w (w.context.first + q) d.function) (next i) (h (suc i) d e))),
+    )
 
 -- the region of a path in a plan
 abbrev pub limit_of : World → ℕ → Region → ℕ
@@ -128,9 +129,9 @@ part_is W l k n p r h made =
     let bodies : part.body_at W.unit f ≡ h.body = body_at_is W.unit f h.function h.body h.there h.has in
     let locals : w.context.locals ≡ h.body.locals = ap (λ (b : BodyTree). b.locals) bodies in
     let callee : (i : ℕ) (c : CallSite) → slice_get h.body.calls i ≡ Some c → IsCallee w (n + (0 + i)) c.function = λ i c e.
-        let q = h.leads i c e in
-        let at : 0 + i ≡ i = omega arith in
-        subst (λ (j : ℕ). IsCallee w (n + j) c.function) (sym at) (record { behind = omega (h.below, arith); there = slice_get_within W.paths (n + i) (path_by k i c.function) q; function = function_is W (n + i) (path_by k i c.function) q }) in
+    let q = h.leads i c e in
+    let at : 0 + i ≡ i = omega arith in
+    subst (λ (j : ℕ). IsCallee w (n + j) c.function) (sym at) (record { behind = omega (h.below, arith); there = slice_get_within W.paths (n + i) (path_by k i c.function) q; function = function_is W (n + i) (path_by k i c.function) q }) in
     let end : 0 + length h.body.calls ≡ length h.body.calls = omega arith in
     record {
       proper = record { path = slice_get_within W.paths k p h.path; limit = made.variables; points = l.points; files = l.files };
@@ -182,11 +183,14 @@ before_part W k n p h d plan =
         many = plan.many;
         count = plan.count;
         free = λ y l m. (plan.pending k y (omega arith) (record { kept = made.kept; from = l; to = m })).0;
-        pending = λ j y l i. let q = in_place W k n p r d.regions j y i in let a = plan.pending j y (omega (l, arith)) q in
-            (a.0, a.1, elim (where_is y r.variables (limit_of W k r)) [
-              inl o ↦ inl o |
-              inr o ↦ elim o [ inl c ↦ absurd (omega (plan.apart k j y (omega arith) (omega (l, arith)) (record { kept = made.kept; from = c.0; to = c.1 }) q, l, arith)) | inr c ↦ inr c ]
-            ]);
+        pending = λ j y l i. let q = in_place W k n p r d.regions j y i in let a = plan.pending j y (omega (l, arith)) q in (
+          a.0,
+          a.1,
+          elim (where_is y r.variables (limit_of W k r)) [
+            | inl o ↦ inl o
+            | inr o ↦ elim o [ inl c ↦ absurd (omega (plan.apart k j y (omega arith) (omega (l, arith)) (record { kept = made.kept; from = c.0; to = c.1 }) q, l, arith)) | inr c ↦ inr c ]
+          ],
+        );
         apart = λ i j y l m a b. plan.apart i j y (omega (l, arith)) (omega (m, arith)) (in_place W k n p r d.regions i y a) (in_place W k n p r d.regions j y b);
       };
       not_made = λ i l m q. plan.unkept (n + i) (omega arith) q;
@@ -229,6 +233,7 @@ plan_next W l k n p h d plan =
   where
     split : (i l : ℕ) → (i < l) ⊎ (l ≤ i)
     split i l = grind arith
+
     which : (j : ℕ) → (j < n) ⊎ (n ≤ j) → j < n + length h.body.calls
         → After (place_at W k n p (region_at d.regions k)) 0 (length h.body.calls) (begun_here (place_at W k n p (region_at d.regions k)) h.body (region_at d.regions k) d) (made_part (place_at W k n p (region_at d.regions k)) h.function h.body p.caller (region_at d.regions k) d)
         → IsMade (base W) j (region_at (made_part (place_at W k n p (region_at d.regions k)) h.function h.body p.caller (region_at d.regions k) d).regions j)
@@ -362,8 +367,8 @@ one_part W l k n p h d plan =
       foreknown = λ f. let g = s.before b y (seen f) in record {
         made = g.made;
         regions = λ j q. elim (split k j) [
-          inl c ↦ (let z = g.regions j c q in (promised_in W k n p r (function_of W j) (region_at d.regions j).variables z.0, z.1)) |
-          inr c ↦ (let same : region_at e.regions j ≡ region_at d.regions j = a.same j (inl (omega (c, h.below, arith))) in
+          | inl c ↦ (let z = g.regions j c q in (promised_in W k n p r (function_of W j) (region_at d.regions j).variables z.0, z.1))
+          | inr c ↦ (let same : region_at e.regions j ≡ region_at d.regions j = a.same j (inl (omega (c, h.below, arith))) in
               subst (λ (x : Region). Promised (base W) (function_of W j) x.variables × (x.points < W.points)) same (f.regions j (subst (λ (x : Region). 0 < x.points) (sym same) q)))
         ];
       };

@@ -1,29 +1,18 @@
 -- The rows of the lowering of expressions as steps.
-use Rattle.std.proofs.Common.{◌≡◌, ℕ, ◌+◌, zero, suc, ◌<◌, ◌≤◌, Bool, true, false, List, [], ◌∷◌, Option, Some, None, length, refl, ap, sym, subst, ◌∙◌, arith, if◌then◌else◌}
-use Rattle.std.specs.Prelude.{ℤ, pos, All}
+use Rattle.std.proofs.Common.{◌≡◌, ℕ, ◌<◌, Bool, true, false, List, Option, Some, None, refl, ap, sym, subst, arith}
 use Rattle.pk_ctypes.specs.declared.types.IntType.{IntType}
-use Rattle.pk_ctypes.specs.declared.types.IntType.TheVariants.{Int}
-use Rattle.pk_ctypes.specs.declared.types.Op.{Op}
-use Rattle.pk_ctypes.specs.Types.{InType, represents}
-use Rattle.pk_ctypes.specs.Operators.{result_type}
+use Rattle.pk_ctypes.specs.Types.{InType}
 use Rattle.pk_graph.specs.declared.trees.Site.{Site}
-use Rattle.pk_graph.specs.Trees.{TreeOf, constant, variable, ArrayOf, InstrOf, Set, Havoc, Load, Store, Guard, Check}
-use Rattle.pk_graph.specs.Kinds.{Kinds, Kind, kind_at, type_at, IsScalar, IsArray, IsTyped, IsOfType, IsTypedInstr}
-use Rattle.pk_graph.specs.Graphs.{VariableOf}
+use Rattle.pk_graph.specs.Trees.{TreeOf, variable, ArrayOf, InstrOf, Set, Store, Guard}
+use Rattle.pk_graph.specs.Kinds.{Kinds, Kind, type_at, IsScalar, IsArray, IsOfType, IsTypedInstr}
 use Rattle.pk_graph.specs.WellMade.{IsStartOf}
-use Rattle.pk_draft.specs.Drafts.{DraftOf, Given, Names, by_number, inner, at, fresh, with_temporary, next_temporary, link, emit, stored, nowhere}
-use Rattle.pk_draft.specs.Folding.{conversion, updated_tree}
+use Rattle.pk_draft.specs.Drafts.{Given, Names, inner, with_temporary, next_temporary, link, emit, stored}
 use Rattle.pk_lower_row.specs.declared.shapes.Shape.{Shape}
-use Rattle.pk_lower_row.specs.declared.shapes.Shape.TheVariants.{Fixed, Temporary, Named}
 use Rattle.pk_lower_row.specs.declared.shapes.Waiting.{Waiting}
-use Rattle.pk_lower_row.specs.declared.shapes.Waiting.TheVariants.{Weak}
-use Rattle.pk_lower_row.specs.Shapes.{is_plain, stays, strong_if, strong_or_weak, converted_shape, unary_shape, operated_shape}
-use Rattle.pk_lower_row.specs.Rows
-use Rattle.pk_lower_row.specs.Rows.{Ways, Operand, Two, Loaded, Target, scalar, element, stored_unless, held, dropped, guards, by_both, by_value, by_choice, two}
-use Rattle.pk_welltyped.specs.WellTyped.{operands}
-use Rattle.pk_typed_draft.proofs.Places.{D, Place, Has, Stage, Typed, Proper, Below, Step, step, step_for, step_beside, quiet}
-use Rattle.pk_typed_draft.proofs.Verbs.{typed_at, typed_link, typed_fresh, fresh_step, emit_step, at_step, link_step, variable_step}
-use Rattle.pk_typed_draft.proofs.Trees.{constant_is, conversion_is, unary_is, operated_is, updated_is}
+use Rattle.pk_lower_row.specs.Shapes.{is_plain, stays}
+use Rattle.pk_lower_row.specs.Rows.{Ways, Operand, stored_unless, dropped, guards, by_both, by_value, by_choice, two}
+use Rattle.pk_typed_draft.proofs.Places.{D, Place, Has, Stage, Typed, Proper, Step, step, step_for, step_beside, quiet}
+use Rattle.pk_typed_draft.proofs.Verbs.{typed_link, emit_step, variable_step}
 
 abbrev pub Gives : Place → (m n : ℕ) → Stage → IntType → (D → Given ℕ) → Type 0
 Gives w m n s t f = (d : D) → Step w m n s s d (f d).1 (Unit {0}) (IsOfType w.kinds t (f d).0)
@@ -99,7 +88,7 @@ stored_step w g m s t e d =
     let k = IsOfType w.kinds t e in
     let a = step_for w m m s s d (with_temporary t d) (Unit {0} × k) (h × k) k (h × k) (λ q. (tt, q)) (λ q. q) (step_beside w m m s s d (with_temporary t d) (Unit {0}) h k (temporary_step w g m s t d)) in
     let b = step_for w m m s s (with_temporary t d) (emit (Set x e) (with_temporary t d)) (IsTypedInstr w.kinds (Set x e) × h) (Unit {0} × h) (h × k) (IsOfType w.kinds t (variable x)) (λ q. (set_is w.kinds x t e q.0 q.1, q.0)) (λ q. variable_is w.kinds x t q.1)
-        (step_beside w m m s s (with_temporary t d) (emit (Set x e) (with_temporary t d)) (IsTypedInstr w.kinds (Set x e)) (Unit {0}) h (emit_step w g m s (Set x e) (with_temporary t d))) in
+    (step_beside w m m s s (with_temporary t d) (emit (Set x e) (with_temporary t d)) (IsTypedInstr w.kinds (Set x e)) (Unit {0}) h (emit_step w g m s (Set x e) (with_temporary t d))) in
     step w m m m s s s d (with_temporary t d) (stored t e d).1 k (h × k) (IsOfType w.kinds t (variable x)) a b
 
 pub unless_step : (w : Place) → Proper w → (m : ℕ) (s : Stage) (b : Bool) (t : IntType) (r : Given ℕ) → Step w m m s s r.1 (stored_unless b t r).1 (IsOfType w.kinds t r.0) (IsOfType w.kinds t (stored_unless b t r).0)

@@ -1,6 +1,5 @@
 -- Well-typed statements are lowered typed.
-use Rattle.std.proofs.Common.{◌≡◌, ℕ, ◌+◌, zero, suc, ◌<◌, ◌≤◌, Bool, true, false, List, [], ◌∷◌, ◌++◌, Option, Some, None, length, refl, ap, sym, subst, ◌∙◌, arith, slice_index_or, if◌then◌else◌}
-use Rattle.std.proofs.lemmas.Bool.{false≢true}
+use Rattle.std.proofs.Common.{◌≡◌, ℕ, ◌+◌, suc, ◌<◌, ◌≤◌, Bool, true, false, List, [], ◌∷◌, ◌++◌, Option, Some, None, length, refl, ap, sym, subst, arith, slice_index_or, if◌then◌else◌}
 use Rattle.std.specs.Prelude.{ℤ, All}
 use Rattle.pk_ctypes.specs.declared.places.Pos.{Pos}
 use Rattle.pk_ctypes.specs.declared.types.IntType.{IntType}
@@ -13,27 +12,27 @@ use Rattle.pk_typed.specs.Types.{type_of}
 use Rattle.pk_graph.specs.declared.trees.Site.{Site}
 use Rattle.pk_graph.specs.Kinds.{IsOfType}
 use Rattle.pk_graph.specs.Trees.{TreeOf, constant, variable, Skip}
-use Rattle.pk_draft.specs.Drafts.{Given, Names, at, on, in_scope, fresh, link, go, away, come}
-use Rattle.pk_draft.specs.Folding.{conversion, binary_tree}
+use Rattle.pk_draft.specs.Drafts.{Names, at, on, in_scope, fresh, link, go, away, come}
+use Rattle.pk_draft.specs.Folding.{binary_tree}
 use Rattle.pk_lower_row.specs.declared.shapes.Waiting.TheVariants.{Strong}
 use Rattle.pk_lower_row.specs.Shapes.{converted_shape, stays}
 use Rattle.pk_lower_row.specs.Contexts.{site, own_result}
 use Rattle.pk_lower_row.specs.Rows as row
 use Rattle.pk_lower_row.specs.Rows.{Ways, Operand, operand, stored_unless, guards, convert_after}
-use Rattle.pk_lower_expression.specs.Expressions.{ways, performed}
+use Rattle.pk_lower_expression.specs.Expressions.{ways}
 use Rattle.pk_lower_statement.specs.Statements as form
 use Rattle.pk_lower_statement.specs.Statements.{lowered, lowered_items}
 use Rattle.pk_lower_statement.specs.declared.statements.Exits.{Exits}
-use Rattle.pk_welltyped.specs.Listed.{calls_in, calls_if, calls_in_effect, calls_in_effect_if, calls_in_declared, calls_at_start, calls_in_statement, calls_in_items, objects_at_start, objects_in, objects_in_items}
+use Rattle.pk_welltyped.specs.Listed.{calls_in, calls_if, calls_in_effect_if, calls_in_declared, calls_at_start, calls_in_statement, calls_in_items, objects_at_start, objects_in, objects_in_items}
 use Rattle.pk_welltyped.specs.WellTyped as good
 use Rattle.pk_welltyped.specs.WellTyped.{Marks, IsReturned, IsValueIf, IsEffectIf, IsForStart, IsStatement, AreItems}
-use Rattle.pk_typed_draft.proofs.Places.{D, Place, Has, HasIf, Stage, Typed, Proper, Below, Step, step_for, step_beside, step_back, quiet}
+use Rattle.pk_typed_draft.proofs.Places.{D, Place, Has, HasIf, Stage, Typed, Proper, Step, step_for, step_beside, step_back, quiet}
 use Rattle.pk_typed_draft.proofs.Verbs.{with_objects, typed_at, typed_standing, typed_link, typed_fresh, fresh_step, at_step, link_step, away_step, come_step}
 use Rattle.pk_typed_draft.proofs.Trees.{constant_is, binary_is}
 use Rattle.pk_typed_draft.proofs.Rows.{Works, Chooses, WaysAre, idle, seen, unless_step, guards_step}
 use Rattle.pk_typed_draft.proofs.Targets.{set_step}
 use Rattle.pk_typed_draft.proofs.Operators.{convert_gives}
-use Rattle.pk_typed_draft.proofs.Expressions.{CallsAre, Split, split, around, values, effects}
+use Rattle.pk_typed_draft.proofs.Expressions.{CallsAre, split, around, values, effects}
 use Rattle.pk_typed_draft.proofs.Later.{value_later, effect_if_later}
 use Rattle.pk_typed_draft.proofs.Chains.{chain, run, use_it, gain, given, on_step, scope_step, go_step, begun_step}
 use Rattle.pk_typed_draft.proofs.Declarations.{more, declared_works, all_declared_work}
@@ -63,15 +62,15 @@ branching_step w g m n s p c h d =
 meeting_step : (w : Place) → Proper w → (m : ℕ) (s : Stage) (p : Pos) (e : ℕ) (d : D) → Step w m m s s d (form.meeting p e d) (e < w.points) (Unit {0})
 meeting_step w g m s p e d = quiet w m s s d (form.meeting p e d) (e < w.points) (Unit {0}) refl refl refl (omega arith)
     (λ o b t k.
-        let q : d.points < w.points = omega (b.1, arith) in
-        let d1 = on p d in
-        let d2 = fresh 1 d1 in
-        let d3 = link Skip d.points (at e d2) in
-        let d4 = at d.point d3 in
-        let t2 = typed_fresh w g s 1 d1 (typed_standing w s (record { at = p; path = d.here.path; scope = d.here.scope }) d refl t) in
-        let t3 = typed_link w s Skip d.points (at e d2) q tt (typed_at w s e d2 k t2) in
-        let t4 = typed_at w s d.point d3 t.point t3 in
-        (typed_at w s d.points (link Skip d.points d4) q (typed_link w s Skip d.points d4 q tt t4), tt))
+    let q : d.points < w.points = omega (b.1, arith) in
+    let d1 = on p d in
+    let d2 = fresh 1 d1 in
+    let d3 = link Skip d.points (at e d2) in
+    let d4 = at d.point d3 in
+    let t2 = typed_fresh w g s 1 d1 (typed_standing w s (record { at = p; path = d.here.path; scope = d.here.scope }) d refl t) in
+    let t3 = typed_link w s Skip d.points (at e d2) q tt (typed_at w s e d2 k t2) in
+    let t4 = typed_at w s d.point d3 t.point t3 in
+    (typed_at w s d.points (link Skip d.points d4) q (typed_link w s Skip d.points d4 q tt t4), tt))
 
 pub if_works : (w : Place) → Proper w → (m l j n : ℕ) (s t u : Stage) (marks : Marks) (x : Exits) (p : Pos) (c : Ways ℕ) (a b : D → D) → Chooses w m l s c.choice
     → ((d : D) → Step w l j s t d (a d) (ExitsAre w marks x) (Unit {0})) → ((d : D) → Step w j n t u d (b d) (ExitsAre w marks x) (Unit {0})) → (d : D) → Step w m n s u d (form.if_draft p c a b d) (ExitsAre w marks x) (Unit {0})
@@ -284,7 +283,7 @@ mutual
       let k = split w m n (calls_in e) (calls_in_statement t) c in
       let u = more (objects_in t) s in
       λ x d. if_works w g m k.middle n n s u u marks x p (ways w.context e) (lowered w.context t x) (λ f. f) (values w g m k.middle s e h.0 k.first).choice (statements w g k.middle n s marks r q t h.1 k.second x)
-          (λ f. given (Unit {0}) (λ z. tt) (idle w n u f (ExitsAre w marks x))) d
+      (λ f. given (Unit {0}) (λ z. tt) (idle w n u f (ExitsAre w marks x))) d
   statements w g m n s marks r q (tree.if_else p e t o) h c =
       let k = split w m n (calls_in e ++ calls_in_statement t) (calls_in_statement o) c in
       let l = split w m k.middle (calls_in e) (calls_in_statement t) k.first in
@@ -292,22 +291,22 @@ mutual
       let same : s.objects + objects_in t + objects_in o ≡ s.objects + (objects_in t + objects_in o) = omega arith in
       to_objects w m n s marks (lowered w.context (tree.if_else p e t o)) (s.objects + objects_in t + objects_in o) (s.objects + (objects_in t + objects_in o)) same
       (λ x d. if_works w g m l.middle k.middle n s u (more (objects_in o) u) marks x p (ways w.context e) (lowered w.context t x) (lowered w.context o x) (values w g m l.middle s e h.0 l.first).choice
-          (statements w g l.middle k.middle s marks r q t h.1 l.second x) (statements w g k.middle n u marks r q o h.2 k.second x) d)
+      (statements w g l.middle k.middle s marks r q t h.1 l.second x) (statements w g k.middle n u marks r q o h.2 k.second x) d)
   statements w g m n s marks r q (tree.switch p t e zs b o) h c =
       let k = split w m n (calls_in e) (calls_in_statement o) c in
       let u = more (objects_in o) s in
       λ x d. chain (run (ExitsAre w marks x) (on_step w m s p d))
-          (switch_works w g m k.middle n s u marks (site w.context p) t (operand e (ways w.context e)) zs b (lowered w.context o) (values w g m k.middle s e h.0 k.first) (all_in t zs h.1)
-          (statements w g k.middle n s (good.in_switch (length zs) b marks) r q o h.2 k.second) x (on p d))
+      (switch_works w g m k.middle n s u marks (site w.context p) t (operand e (ways w.context e)) zs b (lowered w.context o) (values w g m k.middle s e h.0 k.first) (all_in t zs h.1)
+      (statements w g k.middle n s (good.in_switch (length zs) b marks) r q o h.2 k.second) x (on p d))
   statements w g m n s marks r q (tree.while p e t) h c =
       let k = split w m n (calls_in e) (calls_in_statement t) c in
       λ x d. chain (run (ExitsAre w marks x) (on_step w m s p d))
-          (while_works w g m k.middle n s (more (objects_in t) s) marks (ways w.context e) (lowered w.context t) (values w g m k.middle s e h.0 k.first).choice (statements w g k.middle n s marks r q t h.1 k.second) x (on p d))
+      (while_works w g m k.middle n s (more (objects_in t) s) marks (ways w.context e) (lowered w.context t) (values w g m k.middle s e h.0 k.first).choice (statements w g k.middle n s marks r q t h.1 k.second) x (on p d))
   statements w g m n s marks r q (tree.do_while p t e) h c =
       let k = split w m n (calls_in_statement t) (calls_in e) c in
       let u = more (objects_in t) s in
       λ x d. chain (run (ExitsAre w marks x) (on_step w m s p d))
-          (do_works w g m k.middle n s u marks p (ways w.context e) (lowered w.context t) (statements w g m k.middle s marks r q t h.0 k.first) (values w g k.middle n u e (value_later w s u (omega arith) e h.1) k.second).choice x (on p d))
+      (do_works w g m k.middle n s u marks p (ways w.context e) (lowered w.context t) (statements w g m k.middle s marks r q t h.0 k.first) (values w g k.middle n u e (value_later w s u (omega arith) e h.1) k.second).choice x (on p d))
   statements w g m n s marks r q (tree.for_loop p a e third t) h c =
       let k = split w m n (calls_at_start a ++ calls_if e ++ calls_in_effect_if third) (calls_in_statement t) c in
       let l = split w m k.middle (calls_at_start a ++ calls_if e) (calls_in_effect_if third) k.first in
@@ -317,8 +316,8 @@ mutual
       let same : s.objects + objects_at_start a + objects_in t ≡ s.objects + (objects_at_start a + objects_in t) = omega arith in
       to_objects w m n s marks (lowered w.context (tree.for_loop p a e third t)) (s.objects + objects_at_start a + objects_in t) (s.objects + (objects_at_start a + objects_in t)) same
       (λ x d. chain (run (ExitsAre w marks x) (on_step w m s p d))
-          (for_works w g m j.middle l.middle k.middle n s v u marks p (form.for_start w.context a) (form.for_test w.context e) (form.performed_if w.context third) (lowered w.context t)
-          (start_works w g m j.middle s a h.0 j.first) (value_if w g j.middle l.middle v e h.1 j.second) (effect_if w g l.middle k.middle u third (effect_if_later w v u (omega arith) third h.2) l.second) (statements w g k.middle n v marks r q t h.3 k.second) x (on p d)))
+      (for_works w g m j.middle l.middle k.middle n s v u marks p (form.for_start w.context a) (form.for_test w.context e) (form.performed_if w.context third) (lowered w.context t)
+      (start_works w g m j.middle s a h.0 j.first) (value_if w g j.middle l.middle v e h.1 j.second) (effect_if w g l.middle k.middle u third (effect_if_later w v u (omega arith) third h.2) l.second) (statements w g k.middle n v marks r q t h.3 k.second) x (on p d)))
   statements w g m n s marks r q (tree.goto p l) h c = to_end w m n s marks (lowered w.context (tree.goto p l)) c
       (λ x d. let R = ExitsAre w marks x in chain (run R (on_step w m s p d)) (given (Unit {0}) (λ z. tt) (use_it R (λ z. z.labels l h) (away_step w g m s (x.labels + l) (on p d)))))
   statements w g m n s marks r q (tree.continue p) h c = to_end w m n s marks (lowered w.context (tree.continue p)) c
@@ -327,7 +326,7 @@ mutual
       (λ x d. let R = ExitsAre w marks x in chain (run R (on_step w m s p d)) (given (Unit {0}) (λ z. tt) (use_it R (λ z. z.broken) (away_step w g m s x.broken (on p d)))))
   statements w g m n s marks r q (tree.return p e) h c = none_more w m n s marks (lowered w.context (tree.return p e))
       (λ x d. let R = ExitsAre w marks x in chain (run R (on_step w m s p d)) (given (Unit {0}) (λ z. tt) (use_it R (λ z. z.left)
-          (returned_works w g m n s x.left w.context.returns e r (subst (λ (o : Option IntType). IsReturned (around w s) o e) q h) c (on p d)))))
+      (returned_works w g m n s x.left w.context.returns e r (subst (λ (o : Option IntType). IsReturned (around w s) o e) q h) c (on p d)))))
 
   pub items : (w : Place) → Proper w → (m n : ℕ) (s : Stage) (marks : Marks) → s.result ≡ w.context.returns → marks.returns ≡ w.context.returns → (is : ItemTrees) → AreItems (around w s) marks is → CallsAre w m (calls_in_items is) n
       → BodyIs w m n s (more (objects_in_items is) s) marks (lowered_items w.context is)
@@ -343,5 +342,5 @@ mutual
       let same : s.objects + objects_in t + objects_in_items is ≡ s.objects + (objects_in t + objects_in_items is) = omega arith in
       to_objects w m n s marks (lowered_items w.context (tree.statement_before t is)) (s.objects + objects_in t + objects_in_items is) (s.objects + (objects_in t + objects_in_items is)) same
       (λ x d. let R = ExitsAre w marks x in let f = lowered w.context t x d in
-          chain (step_for w m k.middle s u d f (R × R) (Unit {0} × R) R R (λ z. (z, z)) (λ z. z.1) (step_beside w m k.middle s u d f R (Unit {0}) R (statements w g m k.middle s marks r q t h.0 k.first x d)))
-          (items w g k.middle n u marks r q is h.1 k.second x f))
+      chain (step_for w m k.middle s u d f (R × R) (Unit {0} × R) R R (λ z. (z, z)) (λ z. z.1) (step_beside w m k.middle s u d f R (Unit {0}) R (statements w g m k.middle s marks r q t h.0 k.first x d)))
+      (items w g k.middle n u marks r q is h.1 k.second x f))

@@ -1,15 +1,15 @@
 -- What is read, assigned and stepped.
-use Rattle.std.proofs.Common.{◌≡◌, ℕ, ◌+◌, zero, suc, ◌<◌, ◌≤◌, Bool, true, false, List, [], ◌∷◌, Option, Some, None, length, refl, ap, sym, subst, ◌∙◌, arith, if◌then◌else◌}
+use Rattle.std.proofs.Common.{◌≡◌, ℕ, Bool, true, false, Some, None, sym, subst, ◌∙◌, arith}
 use Rattle.std.specs.Prelude.{ℤ, pos}
 use Rattle.std.proofs.lemmas.Int.{ints}
 use Rattle.pk_ctypes.specs.declared.types.IntType.{IntType}
 use Rattle.pk_ctypes.specs.declared.types.IntType.TheVariants.{Int}
 use Rattle.pk_ctypes.specs.declared.types.Op.{Op}
-use Rattle.pk_ctypes.specs.Types.{InType, low_of, high_of}
+use Rattle.pk_ctypes.specs.Types.{InType}
 use Rattle.pk_graph.specs.declared.trees.Site.{Site}
 use Rattle.pk_graph.specs.Trees.{TreeOf, constant, variable, ArrayOf, Set, Load, Store}
-use Rattle.pk_graph.specs.Kinds.{Kinds, Kind, IsTyped, IsOfType, IsTypedInstr}
-use Rattle.pk_draft.specs.Drafts.{Given, with_temporary, next_temporary, emit, stored}
+use Rattle.pk_graph.specs.Kinds.{IsOfType}
+use Rattle.pk_draft.specs.Drafts.{with_temporary, next_temporary, stored}
 use Rattle.pk_draft.specs.Folding.{conversion, updated_tree}
 use Rattle.pk_lower_row.specs.declared.shapes.Shape.TheVariants.{Fixed, Temporary, Named}
 use Rattle.pk_lower_row.specs.declared.shapes.Waiting.{Waiting}
@@ -20,8 +20,7 @@ use Rattle.pk_lower_row.specs.Rows.{Ways, Operand, Two, Loaded, Target, scalar, 
 use Rattle.pk_welltyped.specs.WellTyped.{operands}
 use Rattle.pk_typed_draft.proofs.Places.{D, Place, Has, Stage, Typed, Proper, Step, step, step_for, step_beside}
 use Rattle.pk_typed_draft.proofs.Trees.{constant_is, conversion_is, updated_is}
-use Rattle.pk_typed_draft.proofs.Verbs.{emit_step}
-use Rattle.pk_typed_draft.proofs.Rows.{Gives, Works, WaysAre, OperandIs, idle, seen, scalar_is, type_is, variable_is, set_is, HasArray, array_is, store_is, temporary_step, unless_step, both_are, value_are, two_step, then_emit, then_store, weaker, knowing}
+use Rattle.pk_typed_draft.proofs.Rows.{Gives, Works, WaysAre, OperandIs, seen, scalar_is, type_is, variable_is, set_is, HasArray, array_is, store_is, temporary_step, unless_step, both_are, value_are, two_step, then_emit, then_store, weaker, knowing}
 
 abbrev pub TargetIs : Place → (m n : ℕ) → Stage → Target ℕ → Type 0
 TargetIs w m n s (scalar t x) = (m ≡ n) × ((d : D) → Typed w s d → Has w.kinds (x d) t None)
@@ -53,11 +52,11 @@ read_are w g m n s (scalar t x) h =
 read_are w g m n s (element t o a i) h =
     value_are w g m n s Temporary t (λ d. row.element_value t o (a d) i d)
     (λ d. let r = i.ways.value d in
-        let k = IsOfType w.kinds i.int_type r.0 in
-        let b = HasArray w.kinds (a d) t in
-        let l = row.load t o (a d) r in
-        weaker w m n s d l.1 (Unit {0}) ((k × b) × IsOfType w.kinds t l.0) (IsOfType w.kinds t l.0) (λ q. q.1)
-        (then_load w g m n s d r.1 t i.int_type o (a d) r.0 (Unit {0}) (k × b) (knowing w m n s d r.1 b k (h.1 d) (h.0.value d)) (λ q. q)))
+    let k = IsOfType w.kinds i.int_type r.0 in
+    let b = HasArray w.kinds (a d) t in
+    let l = row.load t o (a d) r in
+    weaker w m n s d l.1 (Unit {0}) ((k × b) × IsOfType w.kinds t l.0) (IsOfType w.kinds t l.0) (λ q. q.1)
+    (then_load w g m n s d r.1 t i.int_type o (a d) r.0 (Unit {0}) (k × b) (knowing w m n s d r.1 b k (h.1 d) (h.0.value d)) (λ q. q)))
 
 -- ---- assigning
 
@@ -166,8 +165,8 @@ update_are w g m l n s op z o c (element t r a i) e h k =
     both_are w m n s t (λ d. row.renew_used op o c t r (a d) e.int_type (row.loaded t r (a d) i e d)) (λ d. row.renew_unused op o c t r (a d) e.int_type (row.loaded t r (a d) i e d))
     (λ d. renew_used w g m n s op z o r c t i.int_type e.int_type (a d) (row.loaded t r (a d) i e d) d (loaded_step w g m l n s t r (a d) i e h.0 k d (h.1 d)))
     (λ d. let p = row.loaded t r (a d) i e d in
-        weaker w m n s d (row.renew_unused op o c t r (a d) e.int_type p) (Unit {0}) (LoadedIs w i.int_type e.int_type t (a d) p) (Unit {0}) (λ q. tt)
-        (renew_unused w g m n s op z o r c t i.int_type e.int_type (a d) p d (loaded_step w g m l n s t r (a d) i e h.0 k d (h.1 d))))
+    weaker w m n s d (row.renew_unused op o c t r (a d) e.int_type p) (Unit {0}) (LoadedIs w i.int_type e.int_type t (a d) p) (Unit {0}) (λ q. tt)
+    (renew_unused w g m n s op z o r c t i.int_type e.int_type (a d) p d (loaded_step w g m l n s t r (a d) i e h.0 k d (h.1 d))))
 
 -- ---- steps of one
 
@@ -185,23 +184,23 @@ after_are w g m n s op z o c (scalar t x) h =
     subst (λ (j : ℕ). WaysAre w m j s t (row.after_ways op o c (scalar t x))) h.0
     (both_are w m m s t (λ d. row.after_scalar op o c t (x d) d) (λ d. row.update_scalar op o c t (x d) row.one d)
     (λ d. let r = stored t (variable (x d)) d in
-        let k = IsOfType w.kinds t r.0 in
-        let b = Has w.kinds (x d) t None in
-        let f = row.update_scalar op o c t (x d) row.one r.1 in
-        let first = then_store w g m m s d d t (variable (x d)) (Unit {0}) b (seen w m s d (Unit {0}) b (λ y q. h.1 d y)) (λ q. variable_is w.kinds (x d) t q) in
-        weaker w m m s d f (Unit {0}) (b × k) k (λ q. q.1)
-        (then_emit w g m m s d r.1 (Set (x d) (updated_tree op o c t Int (variable (x d)) (constant Int (pos 1)))) (Unit {0}) (b × k) first
-        (λ q. set_is w.kinds (x d) t (updated_tree op o c t Int (variable (x d)) (constant Int (pos 1))) q.0
-            (updated_is w.kinds op o c t Int (variable (x d)) (constant Int (pos 1)) z (variable_is w.kinds (x d) t q.0) (constant_is w.kinds Int (pos 1) one_in)))))
+    let k = IsOfType w.kinds t r.0 in
+    let b = Has w.kinds (x d) t None in
+    let f = row.update_scalar op o c t (x d) row.one r.1 in
+    let first = then_store w g m m s d d t (variable (x d)) (Unit {0}) b (seen w m s d (Unit {0}) b (λ y q. h.1 d y)) (λ q. variable_is w.kinds (x d) t q) in
+    weaker w m m s d f (Unit {0}) (b × k) k (λ q. q.1)
+    (then_emit w g m m s d r.1 (Set (x d) (updated_tree op o c t Int (variable (x d)) (constant Int (pos 1)))) (Unit {0}) (b × k) first
+    (λ q. set_is w.kinds (x d) t (updated_tree op o c t Int (variable (x d)) (constant Int (pos 1))) q.0
+    (updated_is w.kinds op o c t Int (variable (x d)) (constant Int (pos 1)) z (variable_is w.kinds (x d) t q.0) (constant_is w.kinds Int (pos 1) one_in)))))
     (λ d. weaker w m m s d (row.update_scalar op o c t (x d) row.one d) (Unit {0}) (IsOfType w.kinds t (variable (x d))) (Unit {0}) (λ q. tt) (update_step w g m m s op z o c t (x d) row.one (one_is w g m s) d (h.1 d))))
 after_are w g m n s op z o c (element t r a i) h =
     both_are w m n s t (λ d. row.after_element op o c t r (a d) i d) (λ d. row.renew_unused op o c t r (a d) Int (row.loaded t r (a d) i row.one d))
     (λ d. let p = row.loaded t r (a d) i row.one d in
-        weaker w m n s d (row.renew_unused op o c t r (a d) Int p) (Unit {0}) (LoadedIs w i.int_type Int t (a d) p) (IsOfType w.kinds t p.element) (λ q. q.2)
-        (renew_unused w g m n s op z o r c t i.int_type Int (a d) p d (loaded_step w g m n n s t r (a d) i row.one h.0 (one_is w g n s) d (h.1 d))))
+    weaker w m n s d (row.renew_unused op o c t r (a d) Int p) (Unit {0}) (LoadedIs w i.int_type Int t (a d) p) (IsOfType w.kinds t p.element) (λ q. q.2)
+    (renew_unused w g m n s op z o r c t i.int_type Int (a d) p d (loaded_step w g m n n s t r (a d) i row.one h.0 (one_is w g n s) d (h.1 d))))
     (λ d. let p = row.loaded t r (a d) i row.one d in
-        weaker w m n s d (row.renew_unused op o c t r (a d) Int p) (Unit {0}) (LoadedIs w i.int_type Int t (a d) p) (Unit {0}) (λ q. tt)
-        (renew_unused w g m n s op z o r c t i.int_type Int (a d) p d (loaded_step w g m n n s t r (a d) i row.one h.0 (one_is w g n s) d (h.1 d))))
+    weaker w m n s d (row.renew_unused op o c t r (a d) Int p) (Unit {0}) (LoadedIs w i.int_type Int t (a d) p) (Unit {0}) (λ q. tt)
+    (renew_unused w g m n s op z o r c t i.int_type Int (a d) p d (loaded_step w g m n n s t r (a d) i row.one h.0 (one_is w g n s) d (h.1 d))))
 
 pub step_are : (w : Place) → Proper w → (m n : ℕ) (s : Stage) (op : Op) → operands op ≡ 2 → (o : Site) (c : IntType) (x : Target ℕ) (prefix : Bool) → TargetIs w m n s x → WaysAre w m n s (type_of_target x) (row.step_ways op o c x prefix)
 step_are w g m n s op z o c x true h = update_are w g m n n s op z o c x row.one h (one_is w g n s)

@@ -1,5 +1,5 @@
 -- Trees that the lowering makes are typed where their parts are.
-use Rattle.std.proofs.Common.{◌≡◌, ℕ, Bool, true, false, Option, Some, None, refl, ap, sym, subst, ◌∙◌, arith, if◌then◌else◌}
+use Rattle.std.proofs.Common.{◌≡◌, ℕ, Bool, true, false, Option, Some, None, refl, subst, arith}
 use Rattle.std.specs.Prelude.{ℤ, pos, int_lt, int_le, not, Result, Ok, Err}
 use Rattle.std.specs.Ordering.{int_eq}
 use Rattle.std.specs.Option.{option_map, option_and_then}
@@ -12,10 +12,10 @@ use Rattle.pk_ctypes.specs.declared.faults.Fault.TheVariants.{Overflow, Shift}
 use Rattle.pk_ctypes.specs.Types.{InType, Represents, represents, wrapped}
 use Rattle.pk_ctypes.specs.Operators.{truth, exact, fitted, value_of, result_type}
 use Rattle.pk_ctypes.proofs.Values.{fitted_if_in, fitted_inside, truth_in}
-use Rattle.pk_ctypes.proofs.Wrapped.{wrapped_in, zero_in}
+use Rattle.pk_ctypes.proofs.Wrapped.{wrapped_in}
 use Rattle.pk_ctypes.proofs.Common.{test-Represents}
 use Rattle.pk_graph.specs.declared.trees.Site.{Site}
-use Rattle.pk_graph.specs.Kinds.{Kinds, type_of, IsUnary, IsRight, IsTyped, IsOfType}
+use Rattle.pk_graph.specs.Kinds.{Kinds, type_of, IsUnary, IsRight, IsOfType}
 use Rattle.pk_graph.specs.Trees.{TreeOf, constant, variable, converted, unary, binary}
 use Rattle.pk_draft.specs.Folding.{number_in, folded, kept_if, conversion, right_type, unary_tree, binary_tree, operated_tree, updated_tree}
 use Rattle.pk_welltyped.specs.WellTyped.{operands}
@@ -117,6 +117,7 @@ unary_is ks op s t e h k = by_form e k
   where
     plain : (e : TreeOf ℕ) → IsOfType ks t e → IsOfType ks (result_type op t) (unary op s t e)
     plain e k = record { typed = (unary_operator op h, k.typed, k.fits); fits = λ z q. q }
+
     by_form : (e : TreeOf ℕ) → IsOfType ks t e → IsOfType ks (result_type op t) (unary_tree op s t e)
     by_form (constant v z) k = folded_is ks (result_type op t) (unary op s t (constant v z)) (value_of op t z z) (plain (constant v z) k) (λ n e. values op t z z n e)
     by_form (variable x) k = plain (variable x) k

@@ -6,18 +6,17 @@ use Rattle.std.specs.Prelude.{All, slice_get, unwrap_or}
 use Rattle.std.specs.Option.{option_map}
 use Rattle.pk_ctypes.specs.declared.types.IntType.{IntType}
 use Rattle.pk_typed.specs.Trees.{LocalTree}
-use Rattle.pk_graph.specs.declared.graphs.Scope.{Scope}
 use Rattle.pk_graph.specs.Trees.{InstrOf, Skip}
-use Rattle.pk_graph.specs.Kinds.{Kind, kind_at, IsTypedInstr}
+use Rattle.pk_graph.specs.Kinds.{Kind, IsTypedInstr}
 use Rattle.pk_graph.specs.Graphs.{VariableOf, no_variable}
 use Rattle.pk_graph.specs.WellMade.{IsStartOf}
 use Rattle.pk_draft.specs.declared.drafts.Region.{Region}
 use Rattle.pk_draft.specs.declared.drafts.Label.{Label}
 use Rattle.pk_draft.specs.declared.drafts.Size.{Size}
-use Rattle.pk_draft.specs.Drafts.{DraftOf, EdgeFrom, no_region, at, standing, on, in_scope, with_name, placed, all_placed, fresh, with_variable, with_object, inner, with_temporary, link, go, emit, away, come, entered}
-use Rattle.pk_lower_row.specs.Contexts.{Context, size_in}
+use Rattle.pk_draft.specs.Drafts.{no_region, at, standing, placed, all_placed, fresh, with_variable, with_object, link, emit, away, come, entered}
+use Rattle.pk_lower_row.specs.Contexts.{size_in}
 use Rattle.pk_welltyped.specs.WellTyped as good
-use Rattle.pk_typed_draft.proofs.Places.{D, Place, Has, HasIf, Promised, region_at, IsKept, In, variable_in, IsFresh, Laid, Foreseen, EdgeIs, LabelsAre, Stage, ObjectsAre, Typed, Proper, Below, NotMade, IsMade, PlacesAre, Before, After, Step, quiet}
+use Rattle.pk_typed_draft.proofs.Places.{D, Place, Has, HasIf, Promised, region_at, IsKept, In, variable_in, Laid, Foreseen, EdgeIs, Stage, ObjectsAre, Typed, Proper, Below, IsMade, PlacesAre, Before, Step, quiet}
 
 pub all_last : {A : Type 0} (Q : A → Type 0) (xs : List A) (x : A) → All Q xs → Q x → All Q (xs ++ x ∷ [])
 all_last Q [] x h k zero d l = k
@@ -55,7 +54,8 @@ typed_link w s i q d h k t = record {
   scopes = t.scopes;
   starts = t.starts;
   edges = all_last (EdgeIs w) d.edges (record { from = d.point; instr = i; to = q }) t.edges (record { from = t.point; to = h; typed = k });
-  objects = t.objects; places = t.places;
+  objects = t.objects;
+  places = t.places;
 }
 
 pub typed_placed : (w : Place) → Proper w → (s : Stage) (p : ℕ) (d : D) → Typed w s d → Typed w s (placed p d)
@@ -67,7 +67,8 @@ typed_placed w g s p d t = record {
   scopes = t.scopes;
   starts = t.starts;
   edges = t.edges;
-  objects = t.objects; places = t.places;
+  objects = t.objects;
+  places = t.places;
 }
 
 typed_all_placed : (w : Place) → Proper w → (s : Stage) (n p : ℕ) (d : D) → Typed w s d → Typed w s (all_placed n p d)
@@ -90,7 +91,7 @@ fresh_step w g m n s d = let k = placed_same n d.points d in quiet w m s s d (fr
 pub emit_step : (w : Place) → Proper w → (m : ℕ) (s : Stage) (i : InstrOf ℕ) (d : D) → Step w m m s s d (emit i d) (IsTypedInstr w.kinds i) (Unit {0})
 emit_step w g m s i d = quiet w m s s d (emit i d) (IsTypedInstr w.kinds i) (Unit {0}) refl refl refl (omega arith)
     (λ p b t k. let q : d.points < w.points = omega (b.1, arith) in
-        (typed_at w s d.points (link i d.points (fresh 1 d)) q (typed_link w s i d.points (fresh 1 d) q k (typed_fresh w g s 1 d t)), tt))
+    (typed_at w s d.points (link i d.points (fresh 1 d)) q (typed_link w s i d.points (fresh 1 d) q k (typed_fresh w g s 1 d t)), tt))
 
 pub at_step : (w : Place) (m : ℕ) (s : Stage) (p : ℕ) (d : D) → Step w m m s s d (at p d) (p < w.points) (Unit {0})
 at_step w m s p d = quiet w m s s d (at p d) (p < w.points) (Unit {0}) refl refl refl (omega arith) (λ o b t k. (typed_at w s p d k t, tt))
@@ -151,7 +152,8 @@ variable_step w g m s x d p st = record {
       scopes = t.scopes;
       starts = all_set (λ (o : VariableOf). IsStartOf o o.start) d.made d.variables x t.starts st;
       edges = t.edges;
-      objects = t.objects; places = t.places;
+      objects = t.objects;
+      places = t.places;
     },
     has_kind w g d.variables d.made d.regions x (p t.here) y.0 b.laid f,
   );
@@ -168,8 +170,8 @@ object_more w s os v t n k h o =
     record {
       many = length-set os i v ∙ o.many;
       each = λ j l q e. elim (either j i) [
-        inl same ↦ here j q same e inside |
-        inr other ↦ subst (λ (x : ℕ). Has w.kinds x q.int_type q.length) (sym (get_or-set_other os i j v 0 other)) (o.each j (smaller j other l) q e)
+        | inl same ↦ here j q same e inside
+        | inr other ↦ subst (λ (x : ℕ). Has w.kinds x q.int_type q.length) (sym (get_or-set_other os i j v 0 other)) (o.each j (smaller j other l) q e)
       ];
       result = subst (λ (x : ℕ). HasIf w.kinds x s.result) (sym (get_or-set_other os i (length w.context.locals) v 0 (λ e. absurd (omega (e, inside, arith))))) o.result;
     }
@@ -180,8 +182,10 @@ object_more w s os v t n k h o =
         known : (a : Option LocalTree) → slice_get xs i ≡ a → option_map (λ (x : LocalTree). record { int_type = x.int_type; length = x.length }) a ≡ Some q → i < length xs
         known None is e = absurd (none-some q e)
         known (Some x) is e = slice_get_within xs i x is
+
     smaller : (j : ℕ) → j ≢ s.objects → j < s.objects + 1 → j < s.objects
     smaller j other l = omega (other, l, arith)
+
     here : (j : ℕ) (q : good.Kind) → j ≡ s.objects → good.kind_among w.context.locals j ≡ Some q → s.objects < length w.context.locals → Has w.kinds (slice_index_or (slice_set os s.objects v) j 0) q.int_type q.length
     here j q same e l =
         let is : record { int_type = t; length = n } ≡ q = ap (λ (a : Option good.Kind). unwrap_or a q) (sym k ∙ (ap (good.kind_among w.context.locals) (sym same) ∙ e)) in
@@ -228,6 +232,7 @@ result_step w g m n t x d p st k =
         known : (a : Option LocalTree) → slice_get xs j ≡ a → option_map (λ (x : LocalTree). record { int_type = x.int_type; length = x.length }) a ≡ Some q → j < length xs
         known None is e = absurd (none-some q e)
         known (Some x) is e = slice_get_within xs j x is
+
     result_more : (w : Place) (n : ℕ) (t : IntType) (os : List ℕ) (v : ℕ) → ObjectsAre w (record { objects = n; result = None }) os → Has w.kinds v t None → ObjectsAre w (record { objects = n; result = Some t }) (slice_set os (length w.context.locals) v)
     result_more w n t os v o h = record {
       many = length-set os (length w.context.locals) v ∙ o.many;
@@ -253,12 +258,12 @@ laid_entered w g v ms rs j f r c rv b h =
       count = length-set rs j r ∙ h.count;
       free = λ y l m. h.free y (omega (l, arith)) m;
       pending = λ i y l q. elim (either i j) [
-        inl e ↦ let k = range i y e q in (h.free y k.0 (omega (k.1, b, arith)), omega (k.1, b, g.limit, arith), inl k.1) |
-        inr o ↦ let p = h.pending i y l (old i y o q) in (p.0, p.1, elim p.2 [ inl a ↦ inl (omega (a, arith)) | inr a ↦ inr a ])
+        | inl e ↦ let k = range i y e q in (h.free y k.0 (omega (k.1, b, arith)), omega (k.1, b, g.limit, arith), inl k.1)
+        | inr o ↦ let p = h.pending i y l (old i y o q) in (p.0, p.1, elim p.2 [ inl a ↦ inl (omega (a, arith)) | inr a ↦ inr a ])
       ];
       apart = λ i k y l m p q. elim (either i j) [
-        inl e ↦ elim (either k j) [ inl e2 ↦ e ∙ sym e2 | inr o ↦ absurd (never i k y e o m p q) ] |
-        inr o ↦ elim (either k j) [ inl e ↦ absurd (never k i y e o l q p) | inr o2 ↦ h.apart i k y l m (old i y o p) (old k y o2 q) ]
+        | inl e ↦ elim (either k j) [ inl e2 ↦ e ∙ sym e2 | inr o ↦ absurd (never i k y e o m p q) ]
+        | inr o ↦ elim (either k j) [ inl e ↦ absurd (never k i y e o l q p) | inr o2 ↦ h.apart i k y l m (old i y o p) (old k y o2 q) ]
       ];
     }
   where
@@ -270,11 +275,13 @@ laid_entered w g v ms rs j f r c rv b h =
           from = subst (λ (x : Region). x.variables ≤ y) same q.from;
           to = subst (λ (x : Region). y < x.variables + (size_in w.context.sizes (w.function i)).variables) same q.to;
         }
+
     range : (i y : ℕ) → i ≡ j → In w (slice_set rs j r) i y → (v ≤ y) × (y < v + (size_in w.context.sizes f).variables)
     range i y e q =
         let is : (region_at (slice_set rs j r) i).variables ≡ v = ap (λ (x : ℕ). (region_at (slice_set rs j r) x).variables) e ∙ (ap (λ (x : Region). x.variables) (get_or-set_same rs j r no_region (omega (h.count, c.there, arith))) ∙ rv) in
         let size : (size_in w.context.sizes (w.function i)).variables ≡ (size_in w.context.sizes f).variables = ap (λ (x : ℕ). (size_in w.context.sizes (w.function x)).variables) e ∙ ap (λ (x : ℕ). (size_in w.context.sizes x).variables) c.function in
         (omega (is, q.from, arith), omega (is, size, q.to, arith))
+
     never : (i k y : ℕ) → i ≡ j → k ≢ j → w.context.path < k → In w (slice_set rs j r) i y → In w (slice_set rs j r) k y → ⊥
     never i k y e o m p q =
         let a = range i y e p in
@@ -300,8 +307,8 @@ entered_made w g m f d c p q y =
 
 entered_places : (w : Place) (rs : List Region) (j : ℕ) (r : Region) → j < length rs → r.at < w.points → PlacesAre w rs → PlacesAre w (slice_set rs j r)
 entered_places w rs j r l a h i k = elim (either i j) [
-  inl e ↦ subst (λ (x : ℕ). (region_at (slice_set rs j r) x).at < w.points) (sym e) (subst (λ (x : Region). x.at < w.points) (sym (get_or-set_same rs j r no_region l)) a) |
-  inr o ↦ let same : region_at (slice_set rs j r) i ≡ region_at rs i = get_or-set_other rs j i r no_region o in subst (λ (x : Region). x.at < w.points) (sym same) (h i (subst (λ (x : Region). 0 < x.points) same k))
+  | inl e ↦ subst (λ (x : ℕ). (region_at (slice_set rs j r) x).at < w.points) (sym e) (subst (λ (x : Region). x.at < w.points) (sym (get_or-set_same rs j r no_region l)) a)
+  | inr o ↦ let same : region_at (slice_set rs j r) i ≡ region_at rs i = get_or-set_other rs j i r no_region o in subst (λ (x : Region). x.at < w.points) (sym same) (h i (subst (λ (x : Region). 0 < x.points) same k))
 ]
 
 pub entered_step : (w : Place) → Proper w → (m : ℕ) (s : Stage) (f : ℕ) (d : D) → IsCallee w (w.context.first + m) f

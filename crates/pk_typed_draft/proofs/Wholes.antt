@@ -1,22 +1,20 @@
 -- All parts in order, from the first draft on.
-use Rattle.std.proofs.Common.{◌≡◌, ℕ, ◌+◌, zero, suc, ◌<◌, ◌≤◌, ◌⊎◌, inl, inr, List, [], ◌∷◌, ◌++◌, Option, Some, None, length, map, refl, ap, sym, subst, ◌∙◌, arith, slice_index_or, slice_set, length-set, length-append}
-use Rattle.std.proofs.lemmas.Option.{none-some, slice_get_within, slice_get-get_or, get_or_from_slice_get}
-use Rattle.std.specs.Prelude.{slice_get, unwrap_or, All}
+use Rattle.std.proofs.Common.{◌≡◌, ℕ, ◌+◌, zero, suc, ◌<◌, ◌≤◌, ◌⊎◌, inl, inr, List, [], ◌∷◌, Option, Some, None, length, map, refl, ap, sym, subst, ◌∙◌, arith}
+use Rattle.std.proofs.lemmas.Option.{none-some}
+use Rattle.std.specs.Prelude.{slice_get, unwrap_or}
 use Rattle.std.specs.Option.{option_map}
 use Rattle.pk_ctypes.specs.declared.types.IntType.{IntType}
 use Rattle.pk_typed.specs.Trees.{BodyTree, UnitTree}
 use Rattle.pk_calls.specs.declared.listings.CallPath.{CallPath}
 use Rattle.pk_calls.specs.Calls as calls
 use Rattle.pk_calls.specs.Calls.{calls_of}
-use Rattle.pk_calls.specs.Paths.{entry_path}
-use Rattle.pk_graph.specs.Kinds.{Kind, Kinds, kind_at, no_kind}
-use Rattle.pk_graph.specs.Graphs.{VariableOf, no_variable}
-use Rattle.pk_draft.specs.declared.drafts.Region.{Region}
+use Rattle.pk_graph.specs.Kinds.{Kinds, kind_at}
+use Rattle.pk_graph.specs.Graphs.{VariableOf}
 use Rattle.pk_lower_row.specs.Contexts.{parameters_of}
 use Rattle.pk_lower.specs.Parts as part
 use Rattle.pk_typed_draft.proofs.Places.{D, Has, HasIf, HasAll, returned_by, Promised, region_at, IsKept, variable_in}
-use Rattle.pk_typed_draft.proofs.Parts.{IsWritten, AreWritten, IsWrittenIf, Stays, made_part}
-use Rattle.pk_typed_draft.proofs.Plans.{World, sizes, function_of, base, Lasting, Plan, PathIs, function_is, place_at, part_made_is, plan_next, PathMade, path_stays, path_made, Foreknown, AllTyped, OnePart, one_part}
+use Rattle.pk_typed_draft.proofs.Parts.{IsWritten, AreWritten, IsWrittenIf, made_part}
+use Rattle.pk_typed_draft.proofs.Plans.{World, sizes, function_of, base, Lasting, Plan, PathIs, function_is, place_at, part_made_is, plan_next, PathMade, path_stays, path_made, Foreknown, OnePart, one_part}
 
 -- the paths from k on, whose calls lead to paths from n on, to the last
 abbrev pub Paths : World → (k n : ℕ) → List CallPath → Type 0
@@ -71,9 +69,9 @@ wholes W l k n (p ∷ ps) h d plan =
     let whole : Whole W k n (p ∷ ps) d g = record {
       part = both W n (n + m) d e g (omega arith) here rest.part;
       made = λ j q i. elim i [
-        inl at ↦ subst (λ (x : CallPath). PathMade W j x g) at.1 (subst (λ (x : ℕ). PathMade W x p g) (sym at.0)
-            (path_stays W k p e g rest.part.stays (rest.part.regions k (omega (one.below, arith))) (path_made W l k n p one d plan))) |
-        inr after ↦ rest.made j q after
+        | inl at ↦ subst (λ (x : CallPath). PathMade W j x g) at.1 (subst (λ (x : ℕ). PathMade W x p g) (sym at.0)
+            (path_stays W k p e g rest.part.stays (rest.part.regions k (omega (one.below, arith))) (path_made W l k n p one d plan)))
+        | inr after ↦ rest.made j q after
       ];
       many = rest.many;
       unkept = rest.unkept;
