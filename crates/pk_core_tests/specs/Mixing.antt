@@ -13,7 +13,7 @@ mixed_from so_far (cell ∷ cells) = mixed_from (mixed_more so_far cell) cells
 
 -- the first cell that an exit reads is its own, which counts the turns of the entry
 abbrev pub turn_at : ℕ → List ℕ → Decision ℕ
-turn_at own cells = if (own % 4 == 3) || (mixed_from own cells % 2 == 0) then Stable 0 else Again (own % 4 + 1)
+turn_at own cells = if (own % 4 == 3) || (mixed_from own cells % 4 == 0) then Stable 0 else Again (own % 4 + 1)
 
 abbrev pub turn_of : List ℕ → Decision ℕ
 turn_of [] = Stable 0

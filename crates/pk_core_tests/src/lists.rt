@@ -24,6 +24,7 @@ const DIGRAPHS: [(u32, &str); 7] = [
 #[test]
 fn driven_as_iterated(rt: HostRuntime) -> Result<(), Fail> {
     let alloc = rt.alloc();
+    let mut most = 0;
     for (vertices, edges) in &DIGRAPHS {
         let graph = digraph(&rt, alloc, *vertices, edges)?;
         assert!(rt; graph.vertices() < 1000);
@@ -35,11 +36,13 @@ fn driven_as_iterated(rt: HostRuntime) -> Result<(), Fail> {
         for seed in 1..21u64 {
             let core = driven(alloc, &system, &plan, seed)?.ok_or("events end")?;
             for e in 0..plan.elements() {
+                most = core.run(e).max(most);
                 assert_eq!(rt; core.run(e), cells.run(e));
                 assert_eq!(rt; **core.cell(e), **cells.cell(e));
             }
         }
     }
+    assert!(rt; most > 4);
     Ok(())
 }
 

@@ -73,7 +73,7 @@ impl System for Mixing {
         match inputs {
             [own, others @ ..] => {
                 let own = **own % 65521;
-                if own % 4 == 3 || mixed(own, others) % 2 == 0 {
+                if own % 4 == 3 || mixed(own, others) % 4 == 0 {
                     Ok(Decision::Stable(0))
                 } else {
                     Ok(Decision::Again(own % 4 + 1))
