@@ -1,0 +1,6 @@
+mod Slots
+mod Grows
+mod Growing
+mod Values
+mod Tells
+mod Stands
