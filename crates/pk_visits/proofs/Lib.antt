@@ -3,4 +3,5 @@ mod Grows
 mod Growing
 mod Values
 mod Tells
+mod Silent
 mod Stands
