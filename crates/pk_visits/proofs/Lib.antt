@@ -5,3 +5,5 @@ mod Values
 mod Tells
 mod Silent
 mod Stands
+mod Stores
+mod Follow
