@@ -159,7 +159,7 @@ keep g chosen p m k h w v vs s b x a hs (inr l) e same f =
 pub drop : (g : Whole) (chosen : Numbers) (p : ℕ) (m : Memory) (k : ℕ) (h : Place) (w : Work) (v : ℤ) (vs : Numbers) (s : Objects) (b : Bool) (x : Exits) (a : Held) (hs : List Held)
     → Laid g k h x (work.Drop w) p (a ∷ hs) → Means m (a ∷ hs) (v ∷ vs) → m.objects ≡ s → FitsObjects g.program s
     → Answers g chosen k h p m (step_of g.program chosen (config k h (work.Drop w) (v ∷ vs) s b) (work.Drop w))
-drop g chosen p m k h w v vs s b x a hs (inl l) e same f = still g chosen p m k h w vs s x hs l e.2 same f
+drop g chosen p m k h w v vs s b x a hs (inl l) e same f = still g chosen p m k h w vs s x hs l.1 e.2 same f
 drop g chosen p m k h w v vs s b x a hs (inr l) e same f =
     moved g chosen p l.0 m (with_memory (temporary l.1) (v ∷ []) m) (Set (temporary l.1) a.tree) k h w vs s false x hs
     l.2.there (set_does chosen (temporary l.1) a.tree v m e.0) refl l.3 (means_apart (temporary l.1) (v ∷ []) m hs vs l.2.apart e.2) same f

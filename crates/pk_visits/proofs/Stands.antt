@@ -122,8 +122,27 @@ Means m [] (v ∷ vs) = ⊥
 Means m (h ∷ hs) [] = ⊥
 Means m (h ∷ hs) (v ∷ vs) = (tree_value memory h.tree m ≡ Ok v) × InType h.int_type v × Means m hs vs
 
--- an edge to a point of the place, which writes a slot that no tree reads
+-- a constant or a variable, which never faults
+abbrev pub IsPlain : SlotTree → Type 0
+IsPlain (constant t z) = Unit {0}
+IsPlain (variable x) = Unit {0}
+IsPlain (converted t e) = ⊥
+IsPlain (unary op s t e) = ⊥
+IsPlain (binary op s t a b) = ⊥
+
+abbrev pub ArePlain : List Held → Type 0
+ArePlain [] = Unit {0}
+ArePlain (h ∷ hs) = IsPlain h.tree × ArePlain hs
+
+-- an edge to a point of the place, which writes a slot that no tree reads, where no tree faults
 pub record Writes (g : Whole) (k : ℕ) (h : Place) (p : ℕ) (x : Slot) (i : Instr) (q : ℕ) (hs : List Held) : Type 0 where
+  pub there : Among (edge p i q) g.edges
+  pub shown : ShowsAt g q k h
+  pub apart : AreApart x hs
+  pub plain : ArePlain hs
+
+-- the same, where later arguments may fault
+pub record Passes (g : Whole) (k : ℕ) (h : Place) (p : ℕ) (x : Slot) (i : Instr) (q : ℕ) (hs : List Held) : Type 0 where
   pub there : Among (edge p i q) g.edges
   pub shown : ShowsAt g q k h
   pub apart : AreApart x hs
@@ -144,7 +163,7 @@ picked (suc n) (h ∷ hs) f = picked n hs (λ a rest. f a (h ∷ rest))
 abbrev pub Binds : Whole → ℕ → Place → (m i : ℕ) → List IntType → (ℕ → List Held → Type 0) → ℕ → List Held → Type 0
 Binds g k h m i [] rest p hs = rest p hs
 Binds g k h m i (t ∷ ts) rest p hs = picked (length ts) hs (λ a hs. (q : ℕ)
-    × Writes g k h p (own (local m i)) (Set (own (local m i)) (conversion a.int_type t a.tree)) q hs × Binds g k h m (i + 1) ts rest q hs)
+    × Passes g k h p (own (local m i)) (Set (own (local m i)) (conversion a.int_type t a.tree)) q hs × Binds g k h m (i + 1) ts rest q hs)
 
 -- ---- what fits
 
@@ -240,16 +259,20 @@ abbrev pub switch_from : Context → Site → IntType → SlotTree → List ℤ 
 switch_from c s t r zs i n e b body x d =
     go Skip e (lowered c body (in_switch e n x) (away (if b then e + 1 + n else e) (case_tests s t r zs (e + 1 + i) d)))
 
--- an edge that sets a slot which no tree reads
+-- an edge that sets a slot which no tree reads, where no tree faults
 pub record Sets (g : Whole) (p : ℕ) (x : Slot) (i : Instr) (q : ℕ) (hs : List Held) : Type 0 where
   pub there : Among (edge p i q) g.edges
   pub apart : AreApart x hs
+  pub plain : ArePlain hs
 
 -- falling off the end of a path's function, from p to q
+abbrev pub end_place : Program → (path : ℕ) → Place
+end_place p k = place (block_of p k).closed (body_scope p k)
+
 abbrev pub EndedBy : Whole → (k : ℕ) → Bool → Option IntType → (p q : ℕ) → List Held → Type 0
 EndedBy g k b None p q hs = p ≡ q
-EndedBy g k true (Some t) p q hs = Sets g p (own (result k)) (Set (own (result k)) (constant t (pos 0))) q hs
-EndedBy g k false (Some t) p q hs = Sets g p (own (result k)) (Havoc (own (result k)) t 1) q hs
+EndedBy g k true (Some t) p q hs = Writes g k (end_place g.program k) p (own (result k)) (Set (own (result k)) (constant t (pos 0))) q hs
+EndedBy g k false (Some t) p q hs = Writes g k (end_place g.program k) p (own (result k)) (Havoc (own (result k)) t 1) q hs
 
 -- no edge begins here
 abbrev pub IsLast : Whole → ℕ → Type 0
@@ -303,7 +326,7 @@ abbrev mutual
   LaidAhead g k x (End c) p hs = Ended g k x p hs × Body g k x hs × LaidCaller g k c x.left hs
 
   pub Laid : Whole → (k : ℕ) → Place → Exits → Work → (p : ℕ) → List Held → Type 0
-  Laid g k h x (Go a) p hs = LaidAhead g k x a p hs
+  Laid g k h x (Go a) p hs = ArePlain hs × LaidAhead g k x a p hs
   Laid g k h x (Do s a) p hs = (d : Draft) × (n : ℕ) × (m : Marks) × (d.point ≡ p) × IsStatement (around g k n) m s × AreCalm d.variables hs
       × (t : Stage g k h (led_to (g.contexts k) (calls_in_statement s)) d (lowered (g.contexts k) s x d)) × Marking x m t.marks
       × LaidAhead g k x a (lowered (g.contexts k) s x d).point hs
@@ -320,7 +343,7 @@ abbrev mutual
   -- the tree waits as it is, or in a temporary
   Laid g k h x (Keep w) p hs = OnTop hs (λ a rest. Laid g k h x w p (a ∷ rest)
       ⊎ ((q : ℕ) × (n : ℕ) × Writes g k h p (temporary n) (Set (temporary n) a.tree) q rest × Laid g k h x w q (in_temporary n a.int_type ∷ rest)))
-  Laid g k h x (Branch y n) p hs = OnTop hs (λ a rest. (i : ℕ) × (j : ℕ) × Among (edge p (Guard a.tree true) i) g.edges × Among (edge p (Guard a.tree false) j) g.edges
+  Laid g k h x (Branch y n) p hs = OnTop hs (λ a rest. ArePlain rest × (i : ℕ) × (j : ℕ) × Among (edge p (Guard a.tree true) i) g.edges × Among (edge p (Guard a.tree false) j) g.edges
       × LaidWay g k y i rest × LaidWay g k n j rest)
   Laid g k h x (Apply op at t w) p hs = OnTop hs (λ a rest. Laid g k h x w p (held (unary_tree op (site_at k at) t (conversion a.int_type t a.tree)) (result_type op t) ∷ rest))
   Laid g k h x (Operate op at t w) p hs = OnTwo hs (λ a b rest. Laid g k h x w p (held (operated_tree op (site_at k at) t a.int_type b.int_type a.tree b.tree) (result_type op t) ∷ rest))
@@ -329,7 +352,7 @@ abbrev mutual
       × Laid g k h x w q (in_temporary n t ∷ rest))
   Laid g k h x (Truth z w) p hs = (q : ℕ) × (n : ℕ) × Sets g p (temporary n) (Set (temporary n) (constant Int z)) q hs × Laid g k h x w q (in_temporary n Int ∷ hs)
   -- a variable or constant is dropped at once
-  Laid g k h x (Drop w) p hs = OnTop hs (λ a rest. Laid g k h x w p rest ⊎ ((q : ℕ) × (n : ℕ) × Writes g k h p (temporary n) (Set (temporary n) a.tree) q rest × Laid g k h x w q rest))
+  Laid g k h x (Drop w) p hs = OnTop hs (λ a rest. (IsPlain a.tree × Laid g k h x w p rest) ⊎ ((q : ℕ) × (n : ℕ) × Writes g k h p (temporary n) (Set (temporary n) a.tree) q rest × Laid g k h x w q rest))
   Laid g k h x (Assign t y w) p hs = OnTop hs (λ a rest. (q : ℕ) × IsScalar g y t × Writes g k h p (own y) (Set (own y) (conversion a.int_type t a.tree)) q rest
       × Laid g k h x w q (held (variable (own y)) t ∷ rest))
   Laid g k h x (Put t y w) p hs = OnTop hs (λ a rest. (q : ℕ) × IsScalar g y t × Writes g k h p (own y) (Set (own y) (conversion a.int_type t a.tree)) q rest × Laid g k h x w q rest)
@@ -356,17 +379,17 @@ abbrev mutual
       × AreCalm d.variables hs × Stage g k h (led_to (g.contexts k) (calls_in_values es)) d (items (g.contexts k) i j es d) × Laid g k h x w (items (g.contexts k) i j es d).point hs
   Laid g k h x (Item a j w) p hs = OnTop hs (λ b rest. (q : ℕ) × (s : Site) × (j < a.length) × IsArrayOf g a
       × Writes g k h p (own a.object) (Store (cells a) s false (constant Int (pos j)) (conversion b.int_type a.int_type b.tree)) q rest × Laid g k h x w q rest)
-  Laid g k h x (Claim at w) p hs = OnTop hs (λ a rest. (q : ℕ) × Among (edge p (Check (site_at k at) (conversion a.int_type Int a.tree)) q) g.edges × ShowsAt g q k h × Laid g k h x w q rest)
+  Laid g k h x (Claim at w) p hs = OnTop hs (λ a rest. ArePlain rest × (q : ℕ) × Among (edge p (Check (site_at k at) (conversion a.int_type Int a.tree)) q) g.edges × ShowsAt g q k h × Laid g k h x w q rest)
   Laid g k h x (Pass es w) p hs = (d : Draft) × (n : ℕ) × (d.point ≡ p) × AreValues (around g k n) es × AreQuiet (any_makes es) d.variables hs
       × Stage g k h (led_to (g.contexts k) (calls_in_values es)) d (passed (g.contexts k) es d).draft
       × Laid g k h x w (passed (g.contexts k) es d).draft.point (pushed es (passed (g.contexts k) es d).trees hs)
   Laid g k h x (Bind m i ts w) p hs = Binds g k h m i ts (Laid g k h x w) p hs
   Laid g k h x (Enter m w) p hs = (m < length g.program.paths) × ((region_at g.regions m).at ≡ p) × AreCalm (region_at g.regions m).variables hs
       × Laid g k h x w (region_at g.regions m).points hs
-  Laid g k h x (Leave c) p hs = Among (edge p Skip x.left) g.edges × ShowsAt g x.left k (body_place g.program k) × LaidCaller g k c x.left hs
-  Laid g k h x (Return c) p hs = LaidCaller g k c p hs
-  Laid g k h x (Turn j l e a) p hs = (c : ℕ) × (o : ℕ) × Loops g k j x l p c o hs × ContinuesAt l p c × ShowsAt g o k e × LaidAhead g k x a o hs
-  Laid g k h x (Back j l e a) p hs = (b : ℕ) × (c : ℕ) × (o : ℕ) × Among (edge p Skip b) g.edges × ShowsAt g b k j × Loops g k j x l b c o hs × ContinuesAt l b c × ShowsAt g o k e × LaidAhead g k x a o hs
+  Laid g k h x (Leave c) p hs = ArePlain hs × Among (edge p Skip x.left) g.edges × ShowsAt g x.left k (body_place g.program k) × LaidCaller g k c x.left hs
+  Laid g k h x (Return c) p hs = ArePlain hs × LaidCaller g k c p hs
+  Laid g k h x (Turn j l e a) p hs = ArePlain hs × (c : ℕ) × (o : ℕ) × Loops g k j x l p c o hs × ContinuesAt l p c × ShowsAt g o k e × LaidAhead g k x a o hs
+  Laid g k h x (Back j l e a) p hs = ArePlain hs × (b : ℕ) × (c : ℕ) × (o : ℕ) × Among (edge p Skip b) g.edges × ShowsAt g b k j × Loops g k j x l b c o hs × ContinuesAt l b c × ShowsAt g o k e × LaidAhead g k x a o hs
   Laid g k h x (Choose t zs i b s j a) p hs = OnTop hs (λ v rest. (d : Draft) × (n : ℕ) × (m : Marks) × (r : Site) × (total : ℕ) × (e : ℕ) × (d.point ≡ p) × (v.int_type ≡ t) × (total ≡ i + length zs)
       × IsStatement (around g k n) (WellTyped.in_switch total b m) s × AreCalm d.variables (v ∷ rest)
       × (u : Stage g k j (led_to (g.contexts k) (calls_in_statement s)) d (switch_from (g.contexts k) r t v.tree zs i total e b s x d))
