@@ -7,3 +7,4 @@ mod Silent
 mod Stands
 mod Stores
 mod Follow
+mod Doom

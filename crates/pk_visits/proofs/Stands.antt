@@ -25,7 +25,7 @@ use Rattle.pk_lower_row.specs.Rows.{one_tree}
 use Rattle.pk_lower_expression.specs.Expressions.{ways, performed, passed}
 use Rattle.pk_lower_statement.specs.declared.statements.Exits.{Exits}
 use Rattle.pk_lower_statement.specs.Statements.{inside, in_switch, while_from, do_from, for_from, for_test, performed_if, lowered, lowered_items, all_declared, items, case_tests}
-use Rattle.pk_meaning.specs.Objects.{Object, file, local, result, Array, Objects, numbers_of}
+use Rattle.pk_meaning.specs.Objects.{Object, file, local, result, Array, Objects, numbers_of, is_in_scope}
 use Rattle.pk_meaning.specs.Programs.{Program, function_of, block_of, local_of, with_local, body_scope, is_main}
 use Rattle.pk_meaning.specs.Work as work
 use Rattle.pk_meaning.specs.Work.{Place, Loop, While, DoWhile, For, Way, Onward, Refused, Lost, Caller, Nobody, Path, Ahead, Rest, Join, Again, Close, End, Work, Go, Do, Declare, Perform, Evaluate, Test, Keep, Branch, Apply, Operate, Convert, Settle, Truth, Drop, Assign, Put, Update, Advance, Fetch, Reload, StoreKept, Renew, Renewed, Replace, Fill, Item, Claim, Pass, Bind, Enter, Leave, Return, Turn, Back, Choose}
@@ -141,29 +141,19 @@ pub record Writes (g : Whole) (k : ℕ) (h : Place) (p : ℕ) (x : Slot) (i : In
   pub apart : AreApart x hs
   pub plain : ArePlain hs
 
--- the same, where later arguments may fault
-pub record Passes (g : Whole) (k : ℕ) (h : Place) (p : ℕ) (x : Slot) (i : Instr) (q : ℕ) (hs : List Held) : Type 0 where
-  pub there : Among (edge p i q) g.edges
+-- under n trees none faults
+abbrev pub ArePlainUnder : ℕ → List Held → Type 0
+ArePlainUnder zero hs = ArePlain hs
+ArePlainUnder (suc n) [] = Unit {0}
+ArePlainUnder (suc n) (h ∷ hs) = ArePlainUnder n hs
+
+-- an edge that sets an object which isn't in scope, where n later arguments may fault
+pub record Passes (g : Whole) (k : ℕ) (h : Place) (n p : ℕ) (y : Object) (e : SlotTree) (q : ℕ) (hs : List Held) : Type 0 where
+  pub there : Among (edge p (Set (own y) e) q) g.edges
   pub shown : ShowsAt g q k h
-  pub apart : AreApart x hs
-
--- the trees of arguments, laid on those that wait
-abbrev pub pushed : ValueTrees → List SlotTree → List Held → List Held
-pushed tree.no_values ts hs = hs
-pushed (tree.value_before e es) [] hs = hs
-pushed (tree.value_before e es) (a ∷ ts) hs = pushed es ts (held a (type_of e) ∷ hs)
-
--- the tree under n others, and those without it
-abbrev pub picked : ℕ → List Held → (Held → List Held → Type 0) → Type 0
-picked n [] f = ⊥
-picked zero (h ∷ hs) f = f h hs
-picked (suc n) (h ∷ hs) f = picked n hs (λ a rest. f a (h ∷ rest))
-
--- the edges that set the parameters of path m from number i on, where the graph goes on as rest says
-abbrev pub Binds : Whole → ℕ → Place → (m i : ℕ) → List IntType → (ℕ → List Held → Type 0) → ℕ → List Held → Type 0
-Binds g k h m i [] rest p hs = rest p hs
-Binds g k h m i (t ∷ ts) rest p hs = picked (length ts) hs (λ a hs. (q : ℕ)
-    × Passes g k h p (own (local m i)) (Set (own (local m i)) (conversion a.int_type t a.tree)) q hs × Binds g k h m (i + 1) ts rest q hs)
+  pub apart : AreApart (own y) hs
+  pub hidden : is_in_scope y h.scope ≡ false
+  pub plain : ArePlainUnder n hs
 
 -- ---- what fits
 
@@ -192,6 +182,26 @@ IsArrayOf g a = HasKind g.program a.object (array a.int_type a.length) × (0 < a
 -- each object holds as many numbers as its kind says, of its type
 abbrev pub FitsObjects : Program → Objects → Type 0
 FitsObjects p s = (x : Object) (n : Kind) → HasKind p x n → (length (numbers_of x s) ≡ count_of n.length) × (all_in_type n.int_type (numbers_of x s) ≡ true)
+
+-- ---- calls
+
+-- the trees of arguments, laid on those that wait
+abbrev pub pushed : ValueTrees → List SlotTree → List Held → List Held
+pushed tree.no_values ts hs = hs
+pushed (tree.value_before e es) [] hs = hs
+pushed (tree.value_before e es) (a ∷ ts) hs = pushed es ts (held a (type_of e) ∷ hs)
+
+-- the tree under n others, and those without it
+abbrev pub picked : ℕ → List Held → (Held → List Held → Type 0) → Type 0
+picked n [] f = ⊥
+picked zero (h ∷ hs) f = f h hs
+picked (suc n) (h ∷ hs) f = picked n hs (λ a rest. f a (h ∷ rest))
+
+-- the edges that set the parameters of path m from number i on, where the graph goes on as rest says
+abbrev pub Binds : Whole → ℕ → Place → (m i : ℕ) → List IntType → (ℕ → List Held → Type 0) → ℕ → List Held → Type 0
+Binds g k h m i [] rest p hs = rest p hs
+Binds g k h m i (t ∷ ts) rest p hs = picked (length ts) hs (λ a hs. (q : ℕ)
+    × IsScalar g (local m i) t × Passes g k h (length ts) p (local m i) (conversion a.int_type t a.tree) q hs × Binds g k h m (i + 1) ts rest q hs)
 
 -- ---- work
 
@@ -369,11 +379,11 @@ abbrev mutual
       × Writes g k h p (own a.object) (Store (cells a) (site_at k at) true i.tree (conversion b.int_type a.int_type b.tree)) q rest × Laid g k h x w q rest)
   Laid g k h x (StoreKept at a w) p hs = OnTwo hs (λ i b rest. (q : ℕ) × (f : Bool) × IsArrayOf g a × (b.int_type ≡ a.int_type)
       × Writes g k h p (own a.object) (Store (cells a) (site_at k at) f i.tree b.tree) q (b ∷ rest) × Laid g k h x w q (b ∷ rest))
-  Laid g k h x (Renew op at o r a w) p hs = OnThree hs (λ i b e rest. (q : ℕ) × IsArrayOf g a × (e.int_type ≡ a.int_type)
+  Laid g k h x (Renew op at o r a w) p hs = OnThree hs (λ i b e rest. (q : ℕ) × ArePlain (e ∷ b ∷ i ∷ rest) × IsArrayOf g a × (e.int_type ≡ a.int_type)
       × Writes g k h p (own a.object) (Store (cells a) (site_at k r) false i.tree (updated_tree op (site_at k at) o a.int_type b.int_type e.tree b.tree)) q rest × Laid g k h x w q rest)
-  Laid g k h x (Renewed op at o t w) p hs = OnThree hs (λ i b e rest. (q : ℕ) × (n : ℕ) × (e.int_type ≡ t)
+  Laid g k h x (Renewed op at o t w) p hs = OnThree hs (λ i b e rest. (q : ℕ) × (n : ℕ) × ArePlain (e ∷ b ∷ i ∷ rest) × (e.int_type ≡ t)
       × Writes g k h p (temporary n) (Set (temporary n) (updated_tree op (site_at k at) o t b.int_type e.tree b.tree)) q (i ∷ rest) × Laid g k h x w q (in_temporary n t ∷ i ∷ rest))
-  Laid g k h x (Replace op at o r a w) p hs = OnThree hs (λ i b e rest. (q : ℕ) × IsArrayOf g a × (e.int_type ≡ a.int_type)
+  Laid g k h x (Replace op at o r a w) p hs = OnThree hs (λ i b e rest. (q : ℕ) × ArePlain (e ∷ b ∷ i ∷ rest) × IsArrayOf g a × (e.int_type ≡ a.int_type)
       × Writes g k h p (own a.object) (Store (cells a) (site_at k r) false i.tree (updated_tree op (site_at k at) o a.int_type b.int_type e.tree b.tree)) q (e ∷ rest) × Laid g k h x w q (e ∷ rest))
   Laid g k h x (Fill a j es w) p hs = (d : Draft) × (n : ℕ) × (i : ℕ) × (d.point ≡ p) × (a ≡ local_array g k i) × IsArrayOf g a × AreValues (around g k n) es × (j + count es ≤ a.length)
       × AreCalm d.variables hs × Stage g k h (led_to (g.contexts k) (calls_in_values es)) d (items (g.contexts k) i j es d) × Laid g k h x w (items (g.contexts k) i j es d).point hs

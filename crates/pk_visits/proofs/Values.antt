@@ -71,6 +71,18 @@ conversion_fault u t (converted s e) f m k = kept_fault t (converted s e) f m (r
 conversion_fault u t (unary op s r e) f m k = kept_fault t (unary op s r e) f m (represents t u) k
 conversion_fault u t (binary op s r a b) f m k = kept_fault t (binary op s r a b) f m (represents t u) k
 
+-- what gives a number gives one after a conversion
+kept_ok : (t : IntType) (e : SlotTree) (v : ℤ) (m : Memory) (b : Bool) → tree_value memory e m ≡ Ok v → (w : ℤ) × (tree_value memory (kept_if b t e) m ≡ Ok w)
+kept_ok t e v m true k = (v, k)
+kept_ok t e v m false k = (wrapped t v, ap (λ r. and_then r (λ w. Ok (wrapped t w))) k)
+
+pub conversion_ok : (u t : IntType) (e : SlotTree) (v : ℤ) (m : Memory) → tree_value memory e m ≡ Ok v → (w : ℤ) × (tree_value memory (conversion u t e) m ≡ Ok w)
+conversion_ok u t (constant s z) v m k = (wrapped t z, refl)
+conversion_ok u t (variable x) v m k = kept_ok t (variable x) v m (represents t u) k
+conversion_ok u t (converted s e) v m k = kept_ok t (converted s e) v m (represents t u) k
+conversion_ok u t (unary op s r e) v m k = kept_ok t (unary op s r e) v m (represents t u) k
+conversion_ok u t (binary op s r a b) v m k = kept_ok t (binary op s r a b) v m (represents t u) k
+
 -- ---- operators
 
 folded_value : (t : IntType) (e : SlotTree) (s : Site) (r : Result ℤ Fault) (m : Memory) → tree_value memory e m ≡ at_site s r → tree_value memory (folded t e (Some r)) m ≡ at_site s r
@@ -181,12 +193,13 @@ operated_left op s t u q a b f m k =
     binary_is op s t (conversion u t a) (conversion q (right_type op q t) b) m
     ∙ ap (λ r. and_then r (λ x. and_then (tree_value memory (conversion q (right_type op q t) b) m) (λ y. at_site s (value_of op t x y)))) (conversion_fault u t a f m k)
 
-pub operated_right : (op : Op) (s : Site) (t u q : IntType) (a b : SlotTree) (v : ℤ) (f : Failure) (m : Memory) → InType u v → tree_value memory a m ≡ Ok v → tree_value memory b m ≡ Err f
+pub operated_right : (op : Op) (s : Site) (t u q : IntType) (a b : SlotTree) (v : ℤ) (f : Failure) (m : Memory) → tree_value memory a m ≡ Ok v → tree_value memory b m ≡ Err f
     → tree_value memory (operated_tree op s t u q a b) m ≡ Err f
-operated_right op s t u q a b v f m i k l =
+operated_right op s t u q a b v f m k l =
+    let c = conversion_ok u t a v m k in
     binary_is op s t (conversion u t a) (conversion q (right_type op q t) b) m
-    ∙ ap (λ r. and_then r (λ x. and_then (tree_value memory (conversion q (right_type op q t) b) m) (λ y. at_site s (value_of op t x y)))) (conversion_value u t a v m i k)
-    ∙ ap (λ r. and_then r (λ y. at_site s (value_of op t (wrapped t v) y))) (conversion_fault q (right_type op q t) b f m l)
+    ∙ ap (λ r. and_then r (λ x. and_then (tree_value memory (conversion q (right_type op q t) b) m) (λ y. at_site s (value_of op t x y)))) c.1
+    ∙ ap (λ r. and_then r (λ y. at_site s (value_of op t c.0 y))) (conversion_fault q (right_type op q t) b f m l)
 
 pub unary_value : (op : Op) (s : Site) (t u : IntType) (e : SlotTree) (v : ℤ) (m : Memory) → InType u v → tree_value memory e m ≡ Ok v
     → tree_value memory (unary_tree op s t (conversion u t e)) m ≡ at_site s (value_of op t (wrapped t v) (wrapped t v))
