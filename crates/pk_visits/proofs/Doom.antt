@@ -1,13 +1,15 @@
 -- Where a tree that waits faults, the graph faults from this point on: the program faults where it evaluates an operand, the graph where it uses the tree.
 use Rattle.std.proofs.Common.{◌≡◌, ℕ, zero, suc, ◌+◌, ◌⊎◌, List, [], ◌∷◌, length, Bool, true, false, if◌then◌else◌, refl, sym, ap, ◌∙◌, subst, inl, inr, arith, ℤ}
-use Rattle.std.specs.Prelude.{pos, Ok, Err, Result}
+use Rattle.std.specs.Prelude.{pos, Ok, Err, Result, slice_set}
 use Rattle.pk_ctypes.specs.declared.types.IntType.{IntType}
 use Rattle.pk_ctypes.specs.declared.types.IntType.TheVariants.{Int}
 use Rattle.pk_ctypes.specs.Types.{wrapped}
 use Rattle.pk_ctypes.specs.Operators.{result_type}
 use Rattle.pk_typed.specs.Trees.{ValueTree, EffectTree, ValueTrees, no_values, value_before}
 use Rattle.pk_typed.specs.Types.{type_of}
-use Rattle.pk_graph.specs.Trees.{constant, variable, converted, unary, binary, Set, Load, Store, Guard, Check}
+use Rattle.pk_ctypes.specs.declared.faults.Fault.TheVariants as faults
+use Rattle.pk_graph.specs.declared.trees.Site.{Site}
+use Rattle.pk_graph.specs.Trees.{constant, variable, converted, unary, binary, ArrayOf, Set, Load, Store, Guard, Check}
 use Rattle.pk_graph.specs.Steps as steps
 use Rattle.pk_graph.specs.Steps.{Numbers, Failure, tree_value, effect, with_value, and_then, indexed}
 use Rattle.pk_draft.specs.Folding.{conversion, unary_tree, operated_tree, updated_tree}
@@ -19,8 +21,8 @@ use Rattle.pk_lower_statement.specs.declared.statements.Exits.{Exits}
 use Rattle.pk_meaning.specs.Objects.{Object, local}
 use Rattle.pk_meaning.specs.Work as work
 use Rattle.pk_meaning.specs.Work.{Place, Work}
-use Rattle.pk_visits.proofs.Slots.{Slot, own, temporary, Draft, SlotTree, Edge, edge, Memory, memory, with_memory, Among}
-use Rattle.pk_visits.proofs.Stands.{Whole, Held, held, IsApart, AreApart, IsCalm, AreCalm, IsPlain, ArePlain, ArePlainUnder, picked, pushed, Binds, Passes, site_at, Laid}
+use Rattle.pk_visits.proofs.Slots.{Slot, own, temporary, Draft, SlotTree, Edge, edge, Memory, memory, memory_numbers, with_memory, Among}
+use Rattle.pk_visits.proofs.Stands.{Whole, Held, held, IsApart, AreApart, IsCalm, AreCalm, IsPlain, ArePlain, ArePlainUnder, picked, pushed, Binds, Passes, site_at, cells, Laid}
 use Rattle.pk_visits.proofs.Values.{conversion_ok, conversion_fault, unary_fault, operated_left, operated_right}
 use Rattle.pk_visits.proofs.Stores.{apart_value}
 use Rattle.pk_visits.proofs.Silent.{silent, silent_effect, left_false, right_false}
@@ -151,3 +153,149 @@ doomed_binds g chosen k h f j i (t ∷ ts) rest next p hs m l bad =
           later q (local j i) (conversion a.int_type t a.tree) z.0 w.there z.1 w.hidden w.shown
           (more q (with_memory (own (local j i)) (z.0 ∷ []) m) b (faulty_apart (own (local j i)) z.0 m f hs w.apart k))
       by a hs q w b (under k) more = absurd (plain_under (length ts) m f hs w.plain k)
+
+-- ---- by the work that waits
+
+both_bools : (P : Type 0) (b : Bool) → (b ≡ true → P) → (b ≡ false → P) → P
+both_bools P true f g = f refl
+both_bools P false f g = g refl
+
+load_fails : (chosen : Numbers) (x : Slot) (a : ArrayOf Slot) (s : Site) (b : Bool) (i : SlotTree) (f : Failure) (m : Memory) → tree_value memory i m ≡ Err f
+    → effect memory chosen (Load x a s b i) m ≡ steps.Faulted f
+load_fails chosen x a s b i f m k =
+    ap (λ r. with_value (and_then r (indexed s a.length)) (λ j. steps.To (with_memory x (steps.number_at (memory_numbers a.variable m) j ∷ []) m))) k
+
+store_index_fails : (chosen : Numbers) (a : ArrayOf Slot) (s : Site) (b : Bool) (i e : SlotTree) (f : Failure) (m : Memory) → tree_value memory i m ≡ Err f
+    → effect memory chosen (Store a s b i e) m ≡ steps.Faulted f
+store_index_fails chosen a s b i e f m k =
+    ap (λ r. with_value r (λ z. with_value (tree_value memory e m) (λ v. with_value (indexed s a.length z) (λ j. steps.To (with_memory a.variable (slice_set (memory_numbers a.variable m) j v) m))))) k
+
+store_value_fails : (chosen : Numbers) (a : ArrayOf Slot) (s : Site) (b : Bool) (i e : SlotTree) (z : ℤ) (f : Failure) (m : Memory) → tree_value memory i m ≡ Ok z → tree_value memory e m ≡ Err f
+    → effect memory chosen (Store a s b i e) m ≡ steps.Faulted f
+store_value_fails chosen a s b i e z f m k l =
+    ap (λ r. with_value r (λ z. with_value (tree_value memory e m) (λ v. with_value (indexed s a.length z) (λ j. steps.To (with_memory a.variable (slice_set (memory_numbers a.variable m) j v) m))))) k
+    ∙ ap (λ r. with_value r (λ v. with_value (indexed s a.length z) (λ j. steps.To (with_memory a.variable (slice_set (memory_numbers a.variable m) j v) m)))) l
+
+-- the tree on top gives no number, where its work uses it at once
+pub doom : (g : Whole) (chosen : Numbers) (k : ℕ) (h : Place) (x : Exits) (f : Failure) (w : Work) (p : ℕ) (hs : List Held) (m : Memory) → Laid g k h x w p hs → Faulty m f hs → Doomed g chosen k h f p m
+doom g chosen k h x f (work.Go a) p hs m l b = absurd (plain_sound m f hs l.0 b)
+doom g chosen k h x f (work.Do s a) p hs m l b = absurd (calm_sound l.0.variables m f hs l.5 b)
+doom g chosen k h x f (work.Declare ds w) p hs m l b = absurd (calm_sound l.0.variables m f hs l.4 b)
+doom g chosen k h x f (work.Perform e w) p hs m l b = both_bools (Doomed g chosen k h f p m) (makes_effect e)
+    (λ is. absurd (calm_sound l.0.variables m f hs (l.4 is) b))
+    (λ is. doom g chosen k h x f w p hs m (subst (λ q. Laid g k h x w q hs) (ap (λ (d : Draft). d.point) (silent_effect (g.contexts k) e l.0 is) ∙ l.2) l.6) b)
+doom g chosen k h x f (work.Evaluate e w) p hs m l b = both_bools (Doomed g chosen k h f p m) (makes e)
+    (λ is. absurd (calm_sound l.0.variables m f hs (l.4 is) b))
+    (λ is. doom g chosen k h x f w p (held ((ways (g.contexts k) e).value l.0).0 (type_of e) ∷ hs) m
+    (subst (λ q. Laid g k h x w q (held ((ways (g.contexts k) e).value l.0).0 (type_of e) ∷ hs)) (ap (λ (d : Draft). d.point) (silent (g.contexts k) e l.0 is) ∙ l.2) l.6) (inr b))
+doom g chosen k h x f (work.Test e y n) p hs m l b = absurd (calm_sound l.0.variables m f hs l.6 b)
+doom g chosen k h x f (work.Keep w) p [] m l b = absurd l
+doom g chosen k h x f (work.Keep w) p (a ∷ hs) m (inl l) b = doom g chosen k h x f w p (a ∷ hs) m l b
+doom g chosen k h x f (work.Keep w) p (a ∷ hs) m (inr l) (inl b) = now l.0 (Set (temporary l.1) a.tree) l.2.there (set_fails chosen (temporary l.1) a.tree f m b.0)
+doom g chosen k h x f (work.Keep w) p (a ∷ hs) m (inr l) (inr b) = absurd (plain_sound m f hs l.2.plain b)
+doom g chosen k h x f (work.Branch y n) p [] m l b = absurd l
+doom g chosen k h x f (work.Branch y n) p (a ∷ hs) m l (inl b) = now l.1 (Guard a.tree true) l.3 (ap (λ r. with_value r (λ v. steps.passed (steps.is_true v) true m)) b.0)
+doom g chosen k h x f (work.Branch y n) p (a ∷ hs) m l (inr b) = absurd (plain_sound m f hs l.0 b)
+doom g chosen k h x f (work.Apply op at t w) p [] m l b = absurd l
+doom g chosen k h x f (work.Apply op at t w) p (a ∷ hs) m l (inl b) =
+    doom g chosen k h x f w p (held (unary_tree op (site_at k at) t (conversion a.int_type t a.tree)) (result_type op t) ∷ hs) m l
+    (inl (unary_fault op (site_at k at) t a.int_type a.tree f m b.0, b.1))
+doom g chosen k h x f (work.Apply op at t w) p (a ∷ hs) m l (inr b) =
+    doom g chosen k h x f w p (held (unary_tree op (site_at k at) t (conversion a.int_type t a.tree)) (result_type op t) ∷ hs) m l (inr b)
+doom g chosen k h x f (work.Operate op at t w) p [] m l b = absurd l
+doom g chosen k h x f (work.Operate op at t w) p (c ∷ []) m l b = absurd l
+doom g chosen k h x f (work.Operate op at t w) p (c ∷ a ∷ hs) m l (inl b) =
+    doom g chosen k h x f w p (held (operated_tree op (site_at k at) t a.int_type c.int_type a.tree c.tree) (result_type op t) ∷ hs) m l
+    (inl (operated_right op (site_at k at) t a.int_type c.int_type a.tree c.tree b.1.0.0 f m b.1.0.1 b.0, b.1.1))
+doom g chosen k h x f (work.Operate op at t w) p (c ∷ a ∷ hs) m l (inr (inl b)) =
+    doom g chosen k h x f w p (held (operated_tree op (site_at k at) t a.int_type c.int_type a.tree c.tree) (result_type op t) ∷ hs) m l
+    (inl (operated_left op (site_at k at) t a.int_type c.int_type a.tree c.tree f m b.0, b.1))
+doom g chosen k h x f (work.Operate op at t w) p (c ∷ a ∷ hs) m l (inr (inr b)) =
+    doom g chosen k h x f w p (held (operated_tree op (site_at k at) t a.int_type c.int_type a.tree c.tree) (result_type op t) ∷ hs) m l (inr b)
+doom g chosen k h x f (work.Convert t w) p [] m l b = absurd l
+doom g chosen k h x f (work.Convert t w) p (a ∷ hs) m l (inl b) =
+    doom g chosen k h x f w p (held (conversion a.int_type t a.tree) t ∷ hs) m l (inl (conversion_fault a.int_type t a.tree f m b.0, b.1))
+doom g chosen k h x f (work.Convert t w) p (a ∷ hs) m l (inr b) = doom g chosen k h x f w p (held (conversion a.int_type t a.tree) t ∷ hs) m l (inr b)
+doom g chosen k h x f (work.Settle t w) p [] m l b = absurd l
+doom g chosen k h x f (work.Settle t w) p (a ∷ hs) m l (inl b) =
+    now l.0 (Set (temporary l.1) (conversion a.int_type t a.tree)) l.2.there (set_fails chosen (temporary l.1) (conversion a.int_type t a.tree) f m (conversion_fault a.int_type t a.tree f m b.0))
+doom g chosen k h x f (work.Settle t w) p (a ∷ hs) m l (inr b) = absurd (plain_sound m f hs l.2.plain b)
+doom g chosen k h x f (work.Truth z w) p hs m l b = absurd (plain_sound m f hs l.2.plain b)
+doom g chosen k h x f (work.Drop w) p [] m l b = absurd l
+doom g chosen k h x f (work.Drop w) p (a ∷ hs) m (inl l) (inl b) = absurd (plain_tree m f a.tree l.0 b.0)
+doom g chosen k h x f (work.Drop w) p (a ∷ hs) m (inl l) (inr b) = doom g chosen k h x f w p hs m l.1 b
+doom g chosen k h x f (work.Drop w) p (a ∷ hs) m (inr l) (inl b) = now l.0 (Set (temporary l.1) a.tree) l.2.there (set_fails chosen (temporary l.1) a.tree f m b.0)
+doom g chosen k h x f (work.Drop w) p (a ∷ hs) m (inr l) (inr b) = absurd (plain_sound m f hs l.2.plain b)
+doom g chosen k h x f (work.Assign t y w) p [] m l b = absurd l
+doom g chosen k h x f (work.Assign t y w) p (a ∷ hs) m l (inl b) =
+    now l.0 (Set (own y) (conversion a.int_type t a.tree)) l.2.there (set_fails chosen (own y) (conversion a.int_type t a.tree) f m (conversion_fault a.int_type t a.tree f m b.0))
+doom g chosen k h x f (work.Assign t y w) p (a ∷ hs) m l (inr b) = absurd (plain_sound m f hs l.2.plain b)
+doom g chosen k h x f (work.Put t y w) p [] m l b = absurd l
+doom g chosen k h x f (work.Put t y w) p (a ∷ hs) m l (inl b) =
+    now l.0 (Set (own y) (conversion a.int_type t a.tree)) l.2.there (set_fails chosen (own y) (conversion a.int_type t a.tree) f m (conversion_fault a.int_type t a.tree f m b.0))
+doom g chosen k h x f (work.Put t y w) p (a ∷ hs) m l (inr b) = absurd (plain_sound m f hs l.2.plain b)
+doom g chosen k h x f (work.Update op at o t y w) p [] m l b = absurd l
+doom g chosen k h x f (work.Update op at o t y w) p (a ∷ hs) m l (inl b) =
+    let e = operated_tree op (site_at k at) o t a.int_type (variable (own y)) a.tree in
+    now l.0 (Set (own y) (conversion (result_type op o) t e)) l.2.there (set_fails chosen (own y) (conversion (result_type op o) t e) f m
+    (conversion_fault (result_type op o) t e f m (operated_right op (site_at k at) o t a.int_type (variable (own y)) a.tree _ f m refl b.0)))
+doom g chosen k h x f (work.Update op at o t y w) p (a ∷ hs) m l (inr b) = absurd (plain_sound m f hs l.2.plain b)
+doom g chosen k h x f (work.Advance op at o t y w) p hs m l b = absurd (plain_sound m f hs l.2.plain b)
+doom g chosen k h x f (work.Fetch t y w) p hs m l b = doom g chosen k h x f w p (held (variable (own y)) t ∷ hs) m l.1 (inr b)
+doom g chosen k h x f (work.Load at a w) p [] m l b = absurd l
+doom g chosen k h x f (work.Load at a w) p (i ∷ hs) m l (inl b) = now l.0 (Load (temporary l.1) (cells a) (site_at k at) true i.tree) l.3.there (load_fails chosen (temporary l.1) (cells a) (site_at k at) true i.tree f m b.0)
+doom g chosen k h x f (work.Load at a w) p (i ∷ hs) m l (inr b) = absurd (plain_sound m f hs l.3.plain b)
+doom g chosen k h x f (work.Reload at a w) p [] m l b = absurd l
+doom g chosen k h x f (work.Reload at a w) p (c ∷ []) m l b = absurd l
+doom g chosen k h x f (work.Reload at a w) p (c ∷ i ∷ hs) m l b = absurd (plain_sound m f (c ∷ i ∷ hs) l.3.plain b)
+doom g chosen k h x f (work.Store at a w) p [] m l b = absurd l
+doom g chosen k h x f (work.Store at a w) p (c ∷ []) m l b = absurd l
+doom g chosen k h x f (work.Store at a w) p (c ∷ i ∷ hs) m l (inl b) =
+    let e = conversion c.int_type a.int_type c.tree in
+    now l.0 (Store (cells a) (site_at k at) true i.tree e) l.2.there (store_value_fails chosen (cells a) (site_at k at) true i.tree e b.1.0.0 f m b.1.0.1 (conversion_fault c.int_type a.int_type c.tree f m b.0))
+doom g chosen k h x f (work.Store at a w) p (c ∷ i ∷ hs) m l (inr (inl b)) =
+    let e = conversion c.int_type a.int_type c.tree in
+    now l.0 (Store (cells a) (site_at k at) true i.tree e) l.2.there (store_index_fails chosen (cells a) (site_at k at) true i.tree e f m b.0)
+doom g chosen k h x f (work.Store at a w) p (c ∷ i ∷ hs) m l (inr (inr b)) = absurd (plain_sound m f hs l.2.plain b)
+doom g chosen k h x f (work.StoreKept at a w) p [] m l b = absurd l
+doom g chosen k h x f (work.StoreKept at a w) p (c ∷ []) m l b = absurd l
+doom g chosen k h x f (work.StoreKept at a w) p (c ∷ i ∷ hs) m l (inl b) = absurd (plain_tree m f c.tree l.4.plain.0 b.0)
+doom g chosen k h x f (work.StoreKept at a w) p (c ∷ i ∷ hs) m l (inr (inl b)) =
+    now l.0 (Store (cells a) (site_at k at) l.1 i.tree c.tree) l.4.there (store_index_fails chosen (cells a) (site_at k at) l.1 i.tree c.tree f m b.0)
+doom g chosen k h x f (work.StoreKept at a w) p (c ∷ i ∷ hs) m l (inr (inr b)) = absurd (plain_sound m f hs l.4.plain.1 b)
+doom g chosen k h x f (work.Renew op at o r a w) p [] m l b = absurd l
+doom g chosen k h x f (work.Renew op at o r a w) p (e ∷ []) m l b = absurd l
+doom g chosen k h x f (work.Renew op at o r a w) p (e ∷ c ∷ []) m l b = absurd l
+doom g chosen k h x f (work.Renew op at o r a w) p (e ∷ c ∷ i ∷ hs) m l b = absurd (plain_sound m f (e ∷ c ∷ i ∷ hs) l.1 b)
+doom g chosen k h x f (work.Renewed op at o t w) p [] m l b = absurd l
+doom g chosen k h x f (work.Renewed op at o t w) p (e ∷ []) m l b = absurd l
+doom g chosen k h x f (work.Renewed op at o t w) p (e ∷ c ∷ []) m l b = absurd l
+doom g chosen k h x f (work.Renewed op at o t w) p (e ∷ c ∷ i ∷ hs) m l b = absurd (plain_sound m f (e ∷ c ∷ i ∷ hs) l.2 b)
+doom g chosen k h x f (work.Replace op at o r a w) p [] m l b = absurd l
+doom g chosen k h x f (work.Replace op at o r a w) p (e ∷ []) m l b = absurd l
+doom g chosen k h x f (work.Replace op at o r a w) p (e ∷ c ∷ []) m l b = absurd l
+doom g chosen k h x f (work.Replace op at o r a w) p (e ∷ c ∷ i ∷ hs) m l b = absurd (plain_sound m f (e ∷ c ∷ i ∷ hs) l.1 b)
+doom g chosen k h x f (work.Fill a j es w) p hs m l b = absurd (calm_sound l.0.variables m f hs l.8 b)
+doom g chosen k h x f (work.Item a j w) p [] m l b = absurd l
+doom g chosen k h x f (work.Item a j w) p (c ∷ hs) m l (inl b) =
+    let e = conversion c.int_type a.int_type c.tree in
+    now l.0 (Store (cells a) l.1 false (constant Int (pos j)) e) l.4.there (store_value_fails chosen (cells a) l.1 false (constant Int (pos j)) e (pos j) f m refl (conversion_fault c.int_type a.int_type c.tree f m b.0))
+doom g chosen k h x f (work.Item a j w) p (c ∷ hs) m l (inr b) = absurd (plain_sound m f hs l.4.plain b)
+doom g chosen k h x f (work.Claim at w) p [] m l b = absurd l
+doom g chosen k h x f (work.Claim at w) p (a ∷ hs) m l (inl b) =
+    now l.1 (Check (site_at k at) (conversion a.int_type Int a.tree)) l.2
+    (ap (λ r. with_value r (λ v. if steps.is_true v then steps.To m else steps.Faulted (steps.failure faults.Assert (site_at k at)))) (conversion_fault a.int_type Int a.tree f m b.0))
+doom g chosen k h x f (work.Claim at w) p (a ∷ hs) m l (inr b) = absurd (plain_sound m f hs l.0 b)
+doom g chosen k h x f (work.Pass es w) p hs m l b = both_bools (Doomed g chosen k h f p m) (any_makes es)
+    (λ is. absurd (calm_sound l.0.variables m f hs (l.4 is) b))
+    (λ is. doom g chosen k h x f w p (pushed es (passed (g.contexts k) es l.0).trees hs) m
+    (subst (λ q. Laid g k h x w q (pushed es (passed (g.contexts k) es l.0).trees hs)) (ap (λ (d : Draft). d.point) (silent_passed (g.contexts k) es l.0 is) ∙ l.2) l.6)
+    (faulty_pushed m f es (passed (g.contexts k) es l.0).trees hs b))
+doom g chosen k h x f (work.Bind j i ts w) p hs m l b = doomed_binds g chosen k h f j i ts (Laid g k h x w) (λ q js n. doom g chosen k h x f w q js n) p hs m l b
+doom g chosen k h x f (work.Enter j w) p hs m l b = absurd (calm_sound _ m f hs l.2 b)
+doom g chosen k h x f (work.Leave c) p hs m l b = absurd (plain_sound m f hs l.0 b)
+doom g chosen k h x f (work.Return c) p hs m l b = absurd (plain_sound m f hs l.0 b)
+doom g chosen k h x f (work.Turn j l e a) p hs m q b = absurd (plain_sound m f hs q.0 b)
+doom g chosen k h x f (work.Back j l e a) p hs m q b = absurd (plain_sound m f hs q.0 b)
+doom g chosen k h x f (work.Choose t zs i c s j a) p [] m l b = absurd l
+doom g chosen k h x f (work.Choose t zs i c s j a) p (v ∷ hs) m l b = absurd (calm_sound l.0.variables m f (v ∷ hs) l.10 b)
