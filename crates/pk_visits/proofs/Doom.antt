@@ -86,7 +86,7 @@ silent_passed c (value_before e es) d h =
 
 -- ---- faults of edges
 
-set_fails : (chosen : Numbers) (y : Slot) (e : SlotTree) (f : Failure) (m : Memory) → tree_value memory e m ≡ Err f → effect memory chosen (Set y e) m ≡ steps.Faulted f
+pub set_fails : (chosen : Numbers) (y : Slot) (e : SlotTree) (f : Failure) (m : Memory) → tree_value memory e m ≡ Err f → effect memory chosen (Set y e) m ≡ steps.Faulted f
 set_fails chosen y e f m k = ap (λ r. with_value r (λ w. steps.To (with_memory y (w ∷ []) m))) k
 
 -- memories and trees that are apart
@@ -160,17 +160,17 @@ both_bools : (P : Type 0) (b : Bool) → (b ≡ true → P) → (b ≡ false →
 both_bools P true f g = f refl
 both_bools P false f g = g refl
 
-load_fails : (chosen : Numbers) (x : Slot) (a : ArrayOf Slot) (s : Site) (b : Bool) (i : SlotTree) (f : Failure) (m : Memory) → tree_value memory i m ≡ Err f
+pub load_fails : (chosen : Numbers) (x : Slot) (a : ArrayOf Slot) (s : Site) (b : Bool) (i : SlotTree) (f : Failure) (m : Memory) → tree_value memory i m ≡ Err f
     → effect memory chosen (Load x a s b i) m ≡ steps.Faulted f
 load_fails chosen x a s b i f m k =
     ap (λ r. with_value (and_then r (indexed s a.length)) (λ j. steps.To (with_memory x (steps.number_at (memory_numbers a.variable m) j ∷ []) m))) k
 
-store_index_fails : (chosen : Numbers) (a : ArrayOf Slot) (s : Site) (b : Bool) (i e : SlotTree) (f : Failure) (m : Memory) → tree_value memory i m ≡ Err f
+pub store_index_fails : (chosen : Numbers) (a : ArrayOf Slot) (s : Site) (b : Bool) (i e : SlotTree) (f : Failure) (m : Memory) → tree_value memory i m ≡ Err f
     → effect memory chosen (Store a s b i e) m ≡ steps.Faulted f
 store_index_fails chosen a s b i e f m k =
     ap (λ r. with_value r (λ z. with_value (tree_value memory e m) (λ v. with_value (indexed s a.length z) (λ j. steps.To (with_memory a.variable (slice_set (memory_numbers a.variable m) j v) m))))) k
 
-store_value_fails : (chosen : Numbers) (a : ArrayOf Slot) (s : Site) (b : Bool) (i e : SlotTree) (z : ℤ) (f : Failure) (m : Memory) → tree_value memory i m ≡ Ok z → tree_value memory e m ≡ Err f
+pub store_value_fails : (chosen : Numbers) (a : ArrayOf Slot) (s : Site) (b : Bool) (i e : SlotTree) (z : ℤ) (f : Failure) (m : Memory) → tree_value memory i m ≡ Ok z → tree_value memory e m ≡ Err f
     → effect memory chosen (Store a s b i e) m ≡ steps.Faulted f
 store_value_fails chosen a s b i e z f m k l =
     ap (λ r. with_value r (λ z. with_value (tree_value memory e m) (λ v. with_value (indexed s a.length z) (λ j. steps.To (with_memory a.variable (slice_set (memory_numbers a.variable m) j v) m))))) k

@@ -8,3 +8,5 @@ mod Stands
 mod Stores
 mod Follow
 mod Doom
+mod Operators
+mod Elements
