@@ -32,7 +32,7 @@ use Rattle.pk_visits.proofs.Stands.{Whole, Held, held, in_temporary, Means, HasK
 use Rattle.pk_visits.proofs.Stores.{Fitting, same_object, fits_written, means_apart, temporary_value, own_value}
 use Rattle.pk_visits.proofs.Values.{conversion_value, conversion_fault, unary_value, operated_value, value_in}
 use Rattle.pk_visits.proofs.Follow.{Doomed, now, Answers, Follows, config, still, moved, set_does, kind_is, scalar_written, is_there, number_in_type}
-use Rattle.pk_visits.proofs.Doom.{Sound, Faulty, doom, set_fails}
+use Rattle.pk_visits.proofs.Doom.{Sound, Faulty, doom, set_fails, store_value_fails}
 use Rattle.pk_visits.proofs.Operators.{by_result, sound_means, in_type}
 
 -- ---- indices
@@ -188,3 +188,65 @@ item g chosen p m k h a j w v vs s b x d hs l e same f =
     (conversion_value d.int_type a.int_type d.tree v m e.1 e.0) (below_index a.length j l.2) l.4 l.5 (means_apart (own a.object) _ m hs vs l.4.apart e.2) same f where
       below_index : (n j : ℕ) → j < n → is_index n (pos j) ≡ true
       below_index n j h = grind (arith, ints, h)
+
+-- ---- elements with an operator
+
+-- what is written back where the operator gives a number
+renewed_value : (op : Op) (at : Site) (o t : IntType) (d c : Held) (u v z : ℤ) (m : Memory) → t ≡ d.int_type → InType d.int_type u → tree_value memory d.tree m ≡ Ok u → InType c.int_type v → tree_value memory c.tree m ≡ Ok v
+    → operated op o u v ≡ Ok z → tree_value memory (updated_tree op at o t c.int_type d.tree c.tree) m ≡ Ok (wrapped t z)
+renewed_value op at o t d c u v z m is i k j l ok =
+    conversion_value (result_type op o) t (operated_tree op at o t c.int_type d.tree c.tree) z m (value_in op o (wrapped o u) (meaning.right_number op o v) z ok)
+    (operated_value op at o t c.int_type d.tree c.tree u v m (subst (λ q. InType q u) (sym is) i) k j l ∙ ap (at_site at) ok)
+
+renewed_fault : (op : Op) (at : Site) (o t : IntType) (d c : Held) (u v : ℤ) (n : Fault) (m : Memory) → t ≡ d.int_type → InType d.int_type u → tree_value memory d.tree m ≡ Ok u → InType c.int_type v → tree_value memory c.tree m ≡ Ok v
+    → operated op o u v ≡ Err n → tree_value memory (updated_tree op at o t c.int_type d.tree c.tree) m ≡ Err (steps.failure n at)
+renewed_fault op at o t d c u v n m is i k j l err =
+    conversion_fault (result_type op o) t (operated_tree op at o t c.int_type d.tree c.tree) (steps.failure n at) m
+    (operated_value op at o t c.int_type d.tree c.tree u v m (subst (λ q. InType q u) (sym is) i) k j l ∙ ap (at_site at) err)
+
+store_tree_fails : (g : Whole) (chosen : Numbers) (p q : ℕ) (m : Memory) (k : ℕ) (h : Place) (a : Array) (r : Site) (f : Bool) (c e : SlotTree) (i : ℤ) (n : steps.Failure) (hs : List Held)
+    → tree_value memory c m ≡ Ok i → tree_value memory e m ≡ Err n → Writes g k h p (own a.object) (Store (cells a) r f c e) q hs → Doomed g chosen k h n p m
+store_tree_fails g chosen p q m k h a r f c e i n hs d l z = now q (Store (cells a) r f c e) z.there (store_value_fails chosen (cells a) r f c e i n m d l)
+
+pub renew : (g : Whole) (chosen : Numbers) (p : ℕ) (m : Memory) (k : ℕ) (h : Place) (op : Op) (at : Pos) (o : IntType) (r : Pos) (a : Array) (w : Work) (i v u : ℤ) (vs : Numbers) (s : Objects) (b : Bool) (x : Exits) (n c d : Held) (hs : List Held)
+    → Laid g k h x (work.Renew op at o r a w) p (d ∷ c ∷ n ∷ hs) → Means m (d ∷ c ∷ n ∷ hs) (u ∷ v ∷ i ∷ vs) → m.objects ≡ s → FitsObjects g.program s
+    → Answers g chosen k h p m (step_of g.program chosen (config k h (work.Renew op at o r a w) (u ∷ v ∷ i ∷ vs) s b) (work.Renew op at o r a w))
+renew g chosen p m k h op at o r a w i v u vs s b x n c d hs l e same f =
+    let con = config k h (work.Renew op at o r a w) (u ∷ v ∷ i ∷ vs) s b in
+    let y = updated_tree op (site_at k at) o a.int_type c.int_type d.tree c.tree in
+    by_result g chosen p m con at (operated op o u v) (λ z. meaning.with_index con r a i (λ j. meaning.stores con a j (wrapped a.int_type z) w vs))
+    (λ z ok. let is = renewed_value op (site_at k at) o a.int_type d c u v z m (sym l.3) e.1 e.0 e.2.1 e.2.0 ok in
+    by_index g chosen p m con r a i (λ j. meaning.stores con a j (wrapped a.int_type z) w vs)
+    (λ t. stored_follows g chosen p l.0 m k h s x w a (site_at k r) false n.tree y i (wrapped a.int_type z) hs vs l.2 (wrapped_in a.int_type z) e.2.2.0 is t l.4 l.5
+    (means_apart (own a.object) _ m hs vs l.4.apart e.2.2.2) same f)
+    (λ t. store_out g chosen p l.0 m k h a (site_at k r) false n.tree y i (wrapped a.int_type z) hs e.2.2.0 is t l.4))
+    (λ q err. store_tree_fails g chosen p l.0 m k h a (site_at k r) false n.tree y i (steps.failure q (site_at k at)) hs e.2.2.0
+    (renewed_fault op (site_at k at) o a.int_type d c u v q m (sym l.3) e.1 e.0 e.2.1 e.2.0 err) l.4)
+
+pub replace : (g : Whole) (chosen : Numbers) (p : ℕ) (m : Memory) (k : ℕ) (h : Place) (op : Op) (at : Pos) (o : IntType) (r : Pos) (a : Array) (w : Work) (i v u : ℤ) (vs : Numbers) (s : Objects) (b : Bool) (x : Exits) (n c d : Held) (hs : List Held)
+    → Laid g k h x (work.Replace op at o r a w) p (d ∷ c ∷ n ∷ hs) → Means m (d ∷ c ∷ n ∷ hs) (u ∷ v ∷ i ∷ vs) → m.objects ≡ s → FitsObjects g.program s
+    → Answers g chosen k h p m (step_of g.program chosen (config k h (work.Replace op at o r a w) (u ∷ v ∷ i ∷ vs) s b) (work.Replace op at o r a w))
+replace g chosen p m k h op at o r a w i v u vs s b x n c d hs l e same f =
+    let con = config k h (work.Replace op at o r a w) (u ∷ v ∷ i ∷ vs) s b in
+    let y = updated_tree op (site_at k at) o a.int_type c.int_type d.tree c.tree in
+    by_result g chosen p m con at (operated op o u v) (λ z. meaning.with_index con r a i (λ j. meaning.stores con a j (wrapped a.int_type z) w (u ∷ vs)))
+    (λ z ok. let is = renewed_value op (site_at k at) o a.int_type d c u v z m (sym l.3) e.1 e.0 e.2.1 e.2.0 ok in
+    by_index g chosen p m con r a i (λ j. meaning.stores con a j (wrapped a.int_type z) w (u ∷ vs))
+    (λ t. stored_follows g chosen p l.0 m k h s x w a (site_at k r) false n.tree y i (wrapped a.int_type z) (d ∷ hs) (u ∷ vs) l.2 (wrapped_in a.int_type z) e.2.2.0 is t l.4 l.5
+    (means_apart (own a.object) _ m (d ∷ hs) (u ∷ vs) l.4.apart (e.0, e.1, e.2.2.2)) same f)
+    (λ t. store_out g chosen p l.0 m k h a (site_at k r) false n.tree y i (wrapped a.int_type z) (d ∷ hs) e.2.2.0 is t l.4))
+    (λ q err. store_tree_fails g chosen p l.0 m k h a (site_at k r) false n.tree y i (steps.failure q (site_at k at)) (d ∷ hs) e.2.2.0
+    (renewed_fault op (site_at k at) o a.int_type d c u v q m (sym l.3) e.1 e.0 e.2.1 e.2.0 err) l.4)
+
+pub renewed : (g : Whole) (chosen : Numbers) (p : ℕ) (m : Memory) (k : ℕ) (h : Place) (op : Op) (at : Pos) (o t : IntType) (w : Work) (i v u : ℤ) (vs : Numbers) (s : Objects) (b : Bool) (x : Exits) (n c d : Held) (hs : List Held)
+    → Laid g k h x (work.Renewed op at o t w) p (d ∷ c ∷ n ∷ hs) → Means m (d ∷ c ∷ n ∷ hs) (u ∷ v ∷ i ∷ vs) → m.objects ≡ s → FitsObjects g.program s
+    → Answers g chosen k h p m (step_of g.program chosen (config k h (work.Renewed op at o t w) (u ∷ v ∷ i ∷ vs) s b) (work.Renewed op at o t w))
+renewed g chosen p m k h op at o t w i v u vs s b x n c d hs l e same f =
+    let con = config k h (work.Renewed op at o t w) (u ∷ v ∷ i ∷ vs) s b in
+    let y = updated_tree op (site_at k at) o t c.int_type d.tree c.tree in
+    by_result g chosen p m con at (operated op o u v) (λ z. meaning.on con w (wrapped t z ∷ i ∷ vs))
+    (λ z ok. let q = wrapped t z in
+    moved g chosen p l.0 m (with_memory (temporary l.1) (q ∷ []) m) (Set (temporary l.1) y) k h w (q ∷ i ∷ vs) s false x (in_temporary l.1 t ∷ n ∷ hs)
+    l.4.there (set_does chosen (temporary l.1) y q m (renewed_value op (site_at k at) o t d c u v z m (sym l.3) e.1 e.0 e.2.1 e.2.0 ok)) refl l.5
+    (temporary_value l.1 q m, wrapped_in t z, means_apart (temporary l.1) (q ∷ []) m (n ∷ hs) (i ∷ vs) l.4.apart (e.2.2.0, e.2.2.1, e.2.2.2)) same f)
+    (λ q err. now l.0 (Set (temporary l.1) y) l.4.there (set_fails chosen (temporary l.1) y (steps.failure q (site_at k at)) m (renewed_fault op (site_at k at) o t d c u v q m (sym l.3) e.1 e.0 e.2.1 e.2.0 err)))

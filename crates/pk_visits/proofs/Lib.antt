@@ -10,3 +10,4 @@ mod Follow
 mod Doom
 mod Operators
 mod Elements
+mod Tests
