@@ -11,3 +11,4 @@ mod Doom
 mod Operators
 mod Elements
 mod Tests
+mod Stages

@@ -1,0 +1,175 @@
+-- A stage of the lowering, and those of its parts.
+use Rattle.std.proofs.Common.{◌≡◌, ℕ, ◌+◌, ◌<◌, ◌≤◌, ◌⊎◌, List, [], ◌∷◌, ◌++◌, length, refl, sym, ap, ◌∙◌, subst, inl, inr, arith}
+use Rattle.std.specs.Prelude.{map}
+use Rattle.std.proofs.lemmas.List.{get_or-set_same, length-set}
+use Rattle.pk_typed.specs.Trees.{ValueTree, EffectTree, ValueTrees}
+use Rattle.pk_welltyped.specs.Listed.{Numbered, calls_in, calls_in_effect, calls_in_values}
+use Rattle.pk_draft.specs.declared.drafts.Label.{Label}
+use Rattle.pk_draft.specs.Drafts.{no_label, emit}
+use Rattle.pk_lower_row.specs.Contexts.{Context, callee}
+use Rattle.pk_lower_expression.specs.Expressions.{ways, performed, passed}
+use Rattle.pk_meaning.specs.Work.{Place}
+use Rattle.pk_visits.proofs.Slots.{Slot, slots, Draft, Instr, Edge, edge, Among, Keeps, Grows, Never, label_at, region_at, last_among}
+use Rattle.pk_visits.proofs.Grows.{WaysGrow, Makes, PassGrows, grows_refl}
+use Rattle.pk_visits.proofs.Growing.{AllCalled, values, effects, arguments}
+use Rattle.pk_visits.proofs.Stands.{Whole, ShowsAt, Leads, led_to, Distinct, Stage}
+
+-- ---- lists
+
+pub among_front : (xs ys : List ℕ) (m : ℕ) → Among m xs → Among m (xs ++ ys)
+among_front [] ys m h = absurd h
+among_front (x ∷ xs) ys m (inl e) = inl e
+among_front (x ∷ xs) ys m (inr h) = inr (among_front xs ys m h)
+
+pub among_back : (xs ys : List ℕ) (m : ℕ) → Among m ys → Among m (xs ++ ys)
+among_back [] ys m h = h
+among_back (x ∷ xs) ys m h = inr (among_back xs ys m h)
+
+pub among_either : (xs ys : List ℕ) (m : ℕ) → Among m (xs ++ ys) → Among m xs ⊎ Among m ys
+among_either [] ys m h = inr h
+among_either (x ∷ xs) ys m (inl e) = inl (inl e)
+among_either (x ∷ xs) ys m (inr h) = by (among_either xs ys m h) where
+  by : Among m xs ⊎ Among m ys → Among m (x ∷ xs) ⊎ Among m ys
+  by (inl k) = inl (inr k)
+  by (inr k) = inr k
+
+distinct_front : (xs ys : List ℕ) → Distinct (xs ++ ys) → Distinct xs
+distinct_front [] ys h = tt
+distinct_front (x ∷ xs) ys h = (λ k. h.0 (among_front xs ys x k), distinct_front xs ys h.1)
+
+distinct_back : (xs ys : List ℕ) → Distinct (xs ++ ys) → Distinct ys
+distinct_back [] ys h = h
+distinct_back (x ∷ xs) ys h = distinct_back xs ys h.1
+
+distinct_between : (xs ys : List ℕ) (m : ℕ) → Distinct (xs ++ ys) → Among m xs → Among m ys → ⊥
+distinct_between [] ys m h a b = a
+distinct_between (x ∷ xs) ys m h (inl e) b = h.0 (among_back xs ys x (subst (λ z. Among z ys) e b))
+distinct_between (x ∷ xs) ys m h (inr a) b = distinct_between xs ys m h.1 a b
+
+pub led_both : (c : Context) (xs ys : List Numbered) → led_to c (xs ++ ys) ≡ led_to c xs ++ led_to c ys
+led_both c [] ys = refl
+led_both c (x ∷ xs) ys = ap (λ zs. callee c x.number ∷ zs) (led_both c xs ys)
+
+-- ---- what a tree's calls touch
+
+abbrev pub In : List ℕ → ℕ → Type 0
+In xs m = Among m xs
+
+called_more : (c : Context) (ys : List ℕ) (y : ℕ) (xs : List Numbered) → AllCalled (In ys) c xs → AllCalled (In (y ∷ ys)) c xs
+called_more c ys y [] h = tt
+called_more c ys y (x ∷ xs) h = (inr h.0, called_more c ys y xs h.1)
+
+pub all_called : (c : Context) (xs : List Numbered) → AllCalled (In (led_to c xs)) c xs
+all_called c [] = tt
+all_called c (x ∷ xs) = (inl refl, called_more c (led_to c xs) (callee c x.number) xs (all_called c xs))
+
+pub ways_grow : (c : Context) (e : ValueTree) → WaysGrow (In (led_to c (calls_in e))) (ways c e)
+ways_grow c e = values (In (led_to c (calls_in e))) c e (all_called c (calls_in e))
+
+pub effect_grows : (c : Context) (e : EffectTree) → Makes (In (led_to c (calls_in_effect e))) (performed c e)
+effect_grows c e = effects (In (led_to c (calls_in_effect e))) c e (all_called c (calls_in_effect e))
+
+pub passed_grows : (c : Context) (es : ValueTrees) → PassGrows (In (led_to c (calls_in_values es))) (passed c es)
+passed_grows c es = arguments (In (led_to c (calls_in_values es))) c es (all_called c (calls_in_values es))
+
+-- ---- stages
+
+composed : {A B : Type 0} {x y z : A} → ⊥ ⊎ (y ≡ x) → B ⊎ (z ≡ y) → B ⊎ (z ≡ x)
+composed (inl h) b = absurd h
+composed (inr a) (inl h) = inl h
+composed (inr a) (inr b) = inr (b ∙ a)
+
+regional : {A : Type 0} {x y z : A} (xs ys : List ℕ) (m : ℕ) → Among m xs ⊎ (y ≡ x) → Among m ys ⊎ (z ≡ y) → Among m (xs ++ ys) ⊎ (z ≡ x)
+regional xs ys m (inl h) b = inl (among_front xs ys m h)
+regional xs ys m (inr a) (inl h) = inl (among_back xs ys m h)
+regional xs ys m (inr a) (inr b) = inr (b ∙ a)
+
+-- an earlier stage leads to the graph too
+pub leads_back : (g : Whole) (marks later cs : List ℕ) (d e : Draft) → Grows (In cs) d e → Leads g marks later e → Leads g marks (cs ++ later) d
+leads_back g marks later cs d e s l = record {
+  edges = λ x h. l.edges x (s.edges x h);
+  names = sym s.names ∙ l.names;
+  room = let a = s.points in let b = l.room in let c = s.size in omega (arith, a, b, c);
+  labels = λ q h. composed (s.labels q h) (l.labels q (let a = s.points in omega (arith, h, a)));
+  regions = λ k. regional cs later k (s.regions k) (l.regions k);
+}
+
+pub stage_first : (g : Whole) (k : ℕ) (h : Place) (xs ys : List ℕ) (d e f : Draft) → Stage g k h (xs ++ ys) d f → Grows (In ys) e f → Stage g k h xs d e
+stage_first g k h xs ys d e f s t = record {
+  marks = s.marks;
+  later = ys ++ s.later;
+  leads = leads_back g s.marks s.later ys e f t s.leads;
+  bounded = s.bounded;
+  here = s.here;
+  apart = λ m a b. by m a (among_either ys s.later m b);
+  distinct = distinct_front xs ys s.distinct;
+} where
+  by : (m : ℕ) → Among m xs → Among m ys ⊎ Among m s.later → ⊥
+  by m a (inl b) = distinct_between xs ys m s.distinct a b
+  by m a (inr b) = s.apart m (among_front xs ys m a) b
+
+pub stage_second : (g : Whole) (k : ℕ) (h : Place) (C : ℕ → Type 0) (xs ys : List ℕ) (d e f : Draft) → Stage g k h (xs ++ ys) d f → Grows C d e → Stage g k h ys e f
+stage_second g k h C xs ys d e f s t = record {
+  marks = s.marks;
+  later = s.later;
+  leads = s.leads;
+  bounded = λ q a. let b = s.bounded q a in let c = t.points in omega (arith, b, c);
+  here = subst (λ (l : Label). g.shows l k h) (sym t.here) s.here;
+  apart = λ m a b. s.apart m (among_back xs ys m a) b;
+  distinct = distinct_back xs ys s.distinct;
+}
+
+-- by the calls of trees
+pub stage_front : (g : Whole) (k : ℕ) (h : Place) (c : Context) (xs ys : List Numbered) (d e f : Draft) → Stage g k h (led_to c (xs ++ ys)) d f → Grows (In (led_to c ys)) e f → Stage g k h (led_to c xs) d e
+stage_front g k h c xs ys d e f s t = stage_first g k h (led_to c xs) (led_to c ys) d e f (subst (λ zs. Stage g k h zs d f) (led_both c xs ys) s) t
+
+pub stage_behind : (g : Whole) (k : ℕ) (h : Place) (c : Context) (C : ℕ → Type 0) (xs ys : List Numbered) (d e f : Draft) → Stage g k h (led_to c (xs ++ ys)) d f → Grows C d e → Stage g k h (led_to c ys) e f
+stage_behind g k h c C xs ys d e f s t = stage_second g k h C (led_to c xs) (led_to c ys) d e f (subst (λ zs. Stage g k h zs d f) (led_both c xs ys) s) t
+
+-- the same calls, up to an earlier draft; and from a later one
+pub stage_until : (g : Whole) (k : ℕ) (h : Place) (xs : List ℕ) (d e f : Draft) → Stage g k h xs d f → Grows (In []) e f → Stage g k h xs d e
+stage_until g k h xs d e f s t = record {
+  marks = s.marks;
+  later = s.later;
+  leads = leads_back g s.marks s.later [] e f t s.leads;
+  bounded = s.bounded;
+  here = s.here;
+  apart = s.apart;
+  distinct = s.distinct;
+}
+
+pub stage_from : (g : Whole) (k : ℕ) (h : Place) (C : ℕ → Type 0) (xs : List ℕ) (d e f : Draft) → Stage g k h xs d f → Grows C d e → Stage g k h xs e f
+stage_from g k h C xs d e f s t = record {
+  marks = s.marks;
+  later = s.later;
+  leads = s.leads;
+  bounded = λ q a. let b = s.bounded q a in let c = t.points in omega (arith, b, c);
+  here = subst (λ (l : Label). g.shows l k h) (sym t.here) s.here;
+  apart = s.apart;
+  distinct = s.distinct;
+}
+
+-- a point that a stage made is at its place
+same_label : {P : Type 0} {x y z : Label} → (P → ⊥) → ⊥ ⊎ (y ≡ x) → P ⊎ (z ≡ y) → z ≡ x
+same_label n (inl h) b = absurd h
+same_label n (inr a) (inl h) = absurd (n h)
+same_label n (inr a) (inr b) = b ∙ a
+
+-- an edge that a stage made, with its end
+pub stage_edge : (g : Whole) (k : ℕ) (h : Place) (C E : ℕ → Type 0) (xs : List ℕ) (d e f : Draft) (i : Instr) → Stage g k h xs d f → Grows C d e → Grows E (emit i e) f
+    → Among (edge e.point i e.points) g.edges × ShowsAt g e.points k h
+stage_edge g k h C E xs d e f i s t u = (there, shown) where
+  there : Among (edge e.point i e.points) g.edges
+  there = s.leads.edges _ (u.edges _ (last_among e.edges (edge e.point i e.points)))
+
+  unmarked : Among e.points s.marks → ⊥
+  unmarked a = let b = s.bounded e.points a in let c = t.points in absurd (omega (arith, b, c))
+
+  room : e.points < length e.labels
+  room = let a = u.points in let b = s.leads.room in let c = u.size in let z = length-set e.labels e.points e.here in omega (arith, a, b, c, z)
+
+  label : label_at g.labels e.points ≡ label_at (emit i e).labels e.points
+  label = same_label unmarked (u.labels e.points (omega arith)) (s.leads.labels e.points (let a = u.points in omega (arith, a)))
+
+  shown : ShowsAt g e.points k h
+  shown = subst (λ (l : Label). g.shows l k h) (sym (label ∙ get_or-set_same e.labels e.points e.here no_label room ∙ t.here)) s.here
