@@ -12,3 +12,4 @@ mod Operators
 mod Elements
 mod Tests
 mod Stages
+mod Operands
