@@ -22,7 +22,7 @@ use Rattle.pk_meaning.specs.Objects.{Object, local}
 use Rattle.pk_meaning.specs.Work as work
 use Rattle.pk_meaning.specs.Work.{Place, Work}
 use Rattle.pk_visits.proofs.Slots.{Slot, own, temporary, Draft, SlotTree, Edge, edge, Memory, memory, memory_numbers, with_memory, Among}
-use Rattle.pk_visits.proofs.Stands.{Whole, Held, held, IsApart, AreApart, IsCalm, AreCalm, IsPlain, ArePlain, ArePlainUnder, picked, pushed, Binds, Passes, site_at, cells, Laid}
+use Rattle.pk_visits.proofs.Stands.{Whole, context_of, Held, held, IsApart, AreApart, IsCalm, AreCalm, IsPlain, ArePlain, ArePlainUnder, picked, pushed, Binds, Passes, site_at, cells, Laid}
 use Rattle.pk_visits.proofs.Values.{conversion_ok, conversion_fault, unary_fault, operated_left, operated_right}
 use Rattle.pk_visits.proofs.Stores.{apart_value}
 use Rattle.pk_visits.proofs.Silent.{silent, silent_effect, left_false, right_false}
@@ -183,11 +183,11 @@ doom g chosen k h x f (work.Do s a) p hs m l b = absurd (calm_sound l.0.variable
 doom g chosen k h x f (work.Declare ds w) p hs m l b = absurd (calm_sound l.0.variables m f hs l.4 b)
 doom g chosen k h x f (work.Perform e w) p hs m l b = both_bools (Doomed g chosen k h f p m) (makes_effect e)
     (λ is. absurd (calm_sound l.0.variables m f hs (l.4 is) b))
-    (λ is. doom g chosen k h x f w p hs m (subst (λ q. Laid g k h x w q hs) (ap (λ (d : Draft). d.point) (silent_effect (g.contexts k) e l.0 is) ∙ l.2) l.6) b)
+    (λ is. doom g chosen k h x f w p hs m (subst (λ q. Laid g k h x w q hs) (ap (λ (d : Draft). d.point) (silent_effect (context_of g k) e l.0 is) ∙ l.2) l.6) b)
 doom g chosen k h x f (work.Evaluate e w) p hs m l b = both_bools (Doomed g chosen k h f p m) (makes e)
     (λ is. absurd (calm_sound l.0.variables m f hs (l.4 is) b))
-    (λ is. doom g chosen k h x f w p (held ((ways (g.contexts k) e).value l.0).0 (type_of e) ∷ hs) m
-    (subst (λ q. Laid g k h x w q (held ((ways (g.contexts k) e).value l.0).0 (type_of e) ∷ hs)) (ap (λ (d : Draft). d.point) (silent (g.contexts k) e l.0 is) ∙ l.2) l.6) (inr b))
+    (λ is. doom g chosen k h x f w p (held ((ways (context_of g k) e).value l.0).0 (type_of e) ∷ hs) m
+    (subst (λ q. Laid g k h x w q (held ((ways (context_of g k) e).value l.0).0 (type_of e) ∷ hs)) (ap (λ (d : Draft). d.point) (silent (context_of g k) e l.0 is) ∙ l.2) l.6) (inr b))
 doom g chosen k h x f (work.Test e y n) p hs m l b = absurd (calm_sound l.0.variables m f hs l.6 b)
 doom g chosen k h x f (work.Keep w) p [] m l b = absurd l
 doom g chosen k h x f (work.Keep w) p (a ∷ hs) m (inl l) b = doom g chosen k h x f w p (a ∷ hs) m l b
@@ -288,9 +288,9 @@ doom g chosen k h x f (work.Claim at w) p (a ∷ hs) m l (inl b) =
 doom g chosen k h x f (work.Claim at w) p (a ∷ hs) m l (inr b) = absurd (plain_sound m f hs l.0 b)
 doom g chosen k h x f (work.Pass es w) p hs m l b = both_bools (Doomed g chosen k h f p m) (any_makes es)
     (λ is. absurd (calm_sound l.0.variables m f hs (l.4 is) b))
-    (λ is. doom g chosen k h x f w p (pushed es (passed (g.contexts k) es l.0).trees hs) m
-    (subst (λ q. Laid g k h x w q (pushed es (passed (g.contexts k) es l.0).trees hs)) (ap (λ (d : Draft). d.point) (silent_passed (g.contexts k) es l.0 is) ∙ l.2) l.6)
-    (faulty_pushed m f es (passed (g.contexts k) es l.0).trees hs b))
+    (λ is. doom g chosen k h x f w p (pushed es (passed (context_of g k) es l.0).trees hs) m
+    (subst (λ q. Laid g k h x w q (pushed es (passed (context_of g k) es l.0).trees hs)) (ap (λ (d : Draft). d.point) (silent_passed (context_of g k) es l.0 is) ∙ l.2) l.6)
+    (faulty_pushed m f es (passed (context_of g k) es l.0).trees hs b))
 doom g chosen k h x f (work.Bind j i ts w) p hs m l b = doomed_binds g chosen k h f j i ts (Laid g k h x w) (λ q js n. doom g chosen k h x f w q js n) p hs m l b
 doom g chosen k h x f (work.Enter j w) p hs m l b = absurd (calm_sound _ m f hs l.2 b)
 doom g chosen k h x f (work.Leave c) p hs m l b = absurd (plain_sound m f hs l.0 b)

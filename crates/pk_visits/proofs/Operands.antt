@@ -23,7 +23,7 @@ use Rattle.pk_visits.proofs.Slots.{Slot, own, temporary, slots, Draft, SlotTree,
 use Rattle.pk_visits.proofs.Grows.{grows_trans, temporary_grows, held_grows}
 use Rattle.pk_visits.proofs.Growing.{lowered}
 use Rattle.pk_visits.proofs.Tells.{Tells, shapes}
-use Rattle.pk_visits.proofs.Stands.{Whole, Held, held, in_temporary, around, IsApart, AreApart, IsCalm, AreCalm, AreQuiet, ArePlain, Writes, Stage, led_to, Laid}
+use Rattle.pk_visits.proofs.Stands.{Whole, context_of, Held, held, in_temporary, around, IsApart, AreApart, IsCalm, AreCalm, AreQuiet, ArePlain, Writes, Stage, led_to, Laid}
 use Rattle.pk_visits.proofs.Stages.{In, ways_grow, stage_front, stage_behind, stage_until, stage_edge}
 use Rattle.pk_visits.proofs.Doom.{calm_plain}
 
@@ -126,12 +126,12 @@ unless_more Weak m n hs le c = calm_more m n hs le c
 pub two_laid : (g : Whole) (k : ℕ) (h : Place) (x : Exits) (w : Work) (how : Waiting) (a b : ValueTree) (n : ℕ) (d f : Draft) (hs : List Held)
     → d.names ≡ slots → (makes b ≡ true → how ≡ Strong) → UnlessLoose how (AreCalm d.variables hs) → AreQuiet (makes b) d.variables hs
     → IsValue (around g k n) a → AreQuiet (makes a) d.variables hs → IsValue (around g k n) b
-    → Stage g k h (led_to (g.contexts k) (calls_in a ++ calls_in b)) d f → Grows (In []) (two how (lowered (g.contexts k) a) (lowered (g.contexts k) b) d).draft f
-    → Laid g k h x w (two how (lowered (g.contexts k) a) (lowered (g.contexts k) b) d).draft.point
-        (held (two how (lowered (g.contexts k) a) (lowered (g.contexts k) b) d).second (type_of b) ∷ held (two how (lowered (g.contexts k) a) (lowered (g.contexts k) b) d).first (type_of a) ∷ hs)
+    → Stage g k h (led_to (context_of g k) (calls_in a ++ calls_in b)) d f → Grows (In []) (two how (lowered (context_of g k) a) (lowered (context_of g k) b) d).draft f
+    → Laid g k h x w (two how (lowered (context_of g k) a) (lowered (context_of g k) b) d).draft.point
+        (held (two how (lowered (context_of g k) a) (lowered (context_of g k) b) d).second (type_of b) ∷ held (two how (lowered (context_of g k) a) (lowered (context_of g k) b) d).first (type_of a) ∷ hs)
     → Laid g k h x (Evaluate a (Keep (Evaluate b w))) d.point hs
 two_laid g k h x w how a b n d f hs ns strong kept quiet fa qa fb s z l =
-    let c = g.contexts k in
+    let c = context_of g k in
     let r = (ways c a).value d in
     let v = rows.held how (shape_of a) (type_of a) r in
     let q = (ways c b).value v.1 in

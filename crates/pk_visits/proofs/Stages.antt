@@ -103,6 +103,7 @@ stage_first g k h xs ys d e f s t = record {
   here = s.here;
   apart = λ m a b. by m a (among_either ys s.later m b);
   distinct = distinct_front xs ys s.distinct;
+  path = s.path;
 } where
   by : (m : ℕ) → Among m xs → Among m ys ⊎ Among m s.later → ⊥
   by m a (inl b) = distinct_between xs ys m s.distinct a b
@@ -117,6 +118,7 @@ stage_second g k h C xs ys d e f s t = record {
   here = subst (λ (l : Label). g.shows l k h) (sym t.here) s.here;
   apart = λ m a b. s.apart m (among_back xs ys m a) b;
   distinct = distinct_back xs ys s.distinct;
+  path = s.path;
 }
 
 -- by the calls of trees
@@ -136,6 +138,7 @@ stage_until g k h xs d e f s t = record {
   here = s.here;
   apart = s.apart;
   distinct = s.distinct;
+  path = s.path;
 }
 
 pub stage_from : (g : Whole) (k : ℕ) (h : Place) (C : ℕ → Type 0) (xs : List ℕ) (d e f : Draft) → Stage g k h xs d f → Grows C d e → Stage g k h xs e f
@@ -147,6 +150,7 @@ stage_from g k h C xs d e f s t = record {
   here = subst (λ (l : Label). g.shows l k h) (sym t.here) s.here;
   apart = s.apart;
   distinct = s.distinct;
+  path = s.path;
 }
 
 -- a point that a stage made is at its place
