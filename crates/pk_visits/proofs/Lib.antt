@@ -13,3 +13,4 @@ mod Elements
 mod Tests
 mod Stages
 mod Operands
+mod Trees
