@@ -124,7 +124,7 @@ load g chosen p m k h at a w i vs s b x c hs l e same f =
     (λ is. let j = unsigned_abs i in let v = number_at (memory_numbers (own a.object) m) j in
     moved g chosen p l.0 m (with_memory (temporary l.1) (v ∷ []) m) (Load (temporary l.1) (cells a) (site_at k at) true c.tree) k h w (meaning.element_of a j s ∷ vs) s false x (in_temporary l.1 a.int_type ∷ hs)
     l.3.there (by ∙ ap (λ r. with_value r (λ j. steps.To (loaded (cells a) (temporary l.1) j m))) (index_in (site_at k at) a.length i is)) refl l.4
-    (temporary_value l.1 v m ∙ ap Ok (element_same a j s m same), element_in g.program a j s l.2.0 f, means_apart (temporary l.1) (v ∷ []) m hs vs l.3.apart e.2) same f)
+    (temporary_value l.1 v m ∙ ap Ok (element_same a j s m same), element_in g.program a j s l.2 f, means_apart (temporary l.1) (v ∷ []) m hs vs l.3.apart e.2) same f)
     (λ is. now l.0 (Load (temporary l.1) (cells a) (site_at k at) true c.tree) l.3.there
     (by ∙ ap (λ r. with_value r (λ j. steps.To (loaded (cells a) (temporary l.1) j m))) (index_out (site_at k at) a.length i is)))
 
@@ -138,7 +138,7 @@ reload g chosen p m k h at a w i v vs s b x c d hs l e same f =
     moved g chosen p l.0 m (with_memory (temporary l.1) (z ∷ []) m) (Load (temporary l.1) (cells a) (site_at k at) true c.tree) k h w (meaning.element_of a j s ∷ v ∷ i ∷ vs) s false x
     (in_temporary l.1 a.int_type ∷ d ∷ c ∷ hs)
     l.3.there (by ∙ ap (λ r. with_value r (λ j. steps.To (loaded (cells a) (temporary l.1) j m))) (index_in (site_at k at) a.length i is)) refl l.4
-    (temporary_value l.1 z m ∙ ap Ok (element_same a j s m same), element_in g.program a j s l.2.0 f, means_apart (temporary l.1) (z ∷ []) m (d ∷ c ∷ hs) (v ∷ i ∷ vs) l.3.apart e) same f)
+    (temporary_value l.1 z m ∙ ap Ok (element_same a j s m same), element_in g.program a j s l.2 f, means_apart (temporary l.1) (z ∷ []) m (d ∷ c ∷ hs) (v ∷ i ∷ vs) l.3.apart e) same f)
     (λ is. now l.0 (Load (temporary l.1) (cells a) (site_at k at) true c.tree) l.3.there
     (by ∙ ap (λ r. with_value r (λ j. steps.To (loaded (cells a) (temporary l.1) j m))) (index_out (site_at k at) a.length i is)))
 
@@ -152,7 +152,7 @@ stored_follows g chosen p q m k h s x w a r f c e i v hs vs is t d n o z l y sam
     let j = unsigned_abs i in
     moved g chosen p q m (with_memory (own a.object) (slice_set (numbers_of a.object m.objects) j v) m) (Store (cells a) r f c e) k h w vs (with_numbers a.object (slice_set (numbers_of a.object s) j v) s) (is_in_scope a.object h.scope) x hs
     z.there (store_by chosen (cells a) r f c e i v m d n ∙ ap (λ u. with_value u (λ j. steps.To (stored (cells a) j v m))) (index_in r a.length i o)) (refl, z.shown) l y
-    (ap (λ u. with_numbers a.object (slice_set (numbers_of a.object u) j v) u) same) (element_written g.program a j v s is.0 t fit)
+    (ap (λ u. with_numbers a.object (slice_set (numbers_of a.object u) j v) u) same) (element_written g.program a j v s is t fit)
 
 store_out : (g : Whole) (chosen : Numbers) (p q : ℕ) (m : Memory) (k : ℕ) (h : Place) (a : Array) (r : Site) (f : Bool) (c e : SlotTree) (i v : ℤ) (hs : List Held)
     → tree_value memory c m ≡ Ok i → tree_value memory e m ≡ Ok v → is_index a.length i ≡ false → Writes g k h p (own a.object) (Store (cells a) r f c e) q hs

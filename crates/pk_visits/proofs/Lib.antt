@@ -14,3 +14,4 @@ mod Tests
 mod Stages
 mod Operands
 mod Trees
+mod Joined

@@ -1,11 +1,11 @@
 -- A stage of the lowering, and those of its parts.
 use Rattle.std.proofs.Common.{◌≡◌, ℕ, ◌+◌, ◌<◌, ◌≤◌, ◌⊎◌, List, [], ◌∷◌, ◌++◌, length, refl, sym, ap, ◌∙◌, subst, inl, inr, arith}
-use Rattle.std.specs.Prelude.{map}
-use Rattle.std.proofs.lemmas.List.{get_or-set_same, length-set}
+use Rattle.std.specs.Prelude.{map, slice_set}
+use Rattle.std.proofs.lemmas.List.{get_or-set_same, get_or-set_other, length-set}
 use Rattle.pk_typed.specs.Trees.{ValueTree, EffectTree, ValueTrees}
 use Rattle.pk_welltyped.specs.Listed.{Numbered, calls_in, calls_in_effect, calls_in_values}
 use Rattle.pk_draft.specs.declared.drafts.Label.{Label}
-use Rattle.pk_draft.specs.Drafts.{no_label, emit}
+use Rattle.pk_draft.specs.Drafts.{no_label, emit, fresh}
 use Rattle.pk_lower_row.specs.Contexts.{Context, callee}
 use Rattle.pk_lower_expression.specs.Expressions.{ways, performed, passed}
 use Rattle.pk_meaning.specs.Work.{Place}
@@ -177,3 +177,50 @@ stage_edge g k h C E xs d e f i s t u = (there, shown) where
 
   shown : ShowsAt g e.points k h
   shown = subst (λ (l : Label). g.shows l k h) (sym (label ∙ get_or-set_same e.labels e.points e.here no_label room ∙ t.here)) s.here
+
+-- ---- points
+
+-- a point that was made at the stage's place shows it
+pub stage_point : (g : Whole) (k : ℕ) (h : Place) (E : ℕ → Type 0) (xs : List ℕ) (d e f : Draft) (q : ℕ) → Stage g k h xs d f → Grows E e f → d.points ≤ q → q < e.points → label_at e.labels q ≡ d.here → ShowsAt g q k h
+stage_point g k h E xs d e f q s u from to is = subst (λ (l : Label). g.shows l k h) (sym (label ∙ is)) s.here where
+  unmarked : Among q s.marks → ⊥
+  unmarked a = let b = s.bounded q a in absurd (omega (arith, b, from))
+
+  label : label_at g.labels q ≡ label_at e.labels q
+  label = same_label unmarked (u.labels q to) (s.leads.labels q (let a = u.points in omega (arith, a, to)))
+
+-- there is room for the points of a stage
+pub stage_room : (g : Whole) (k : ℕ) (h : Place) (C : ℕ → Type 0) (xs : List ℕ) (d e f : Draft) → Stage g k h xs d f → Grows C e f → e.points ≤ length e.labels
+stage_room g k h C xs d e f s u = let a = u.points in let b = s.leads.room in let c = u.size in omega (arith, a, b, c)
+
+set_same : (ls : List Label) (q : ℕ) (l : Label) → q < length ls → label_at (slice_set ls q l) q ≡ l
+set_same ls q l h = get_or-set_same ls q l no_label h
+
+set_other : (ls : List Label) (q n : ℕ) (l : Label) → (n ≡ q → ⊥) → label_at (slice_set ls q l) n ≡ label_at ls n
+set_other ls q n l h = get_or-set_other ls q n l no_label h
+
+-- of one new point, of two and of three
+pub fresh_one : (d : Draft) → d.points + 1 ≤ length d.labels → label_at (fresh 1 d).labels d.points ≡ d.here
+fresh_one d r = set_same d.labels d.points d.here (omega (arith, r))
+
+pub fresh_first : (d : Draft) → d.points + 2 ≤ length d.labels → label_at (fresh 2 d).labels d.points ≡ d.here
+fresh_first d r =
+    set_other (slice_set d.labels d.points d.here) (d.points + 1) d.points d.here (λ e. absurd (omega (arith, e))) ∙ set_same d.labels d.points d.here (omega (arith, r))
+
+pub fresh_second : (d : Draft) → d.points + 2 ≤ length d.labels → label_at (fresh 2 d).labels (d.points + 1) ≡ d.here
+fresh_second d r = set_same (slice_set d.labels d.points d.here) (d.points + 1) d.here (let z = length-set d.labels d.points d.here in omega (arith, r, z))
+
+pub three_first : (d : Draft) → d.points + 3 ≤ length d.labels → label_at (fresh 3 d).labels d.points ≡ d.here
+three_first d r =
+    set_other _ (d.points + 1 + 1) d.points d.here (λ e. absurd (omega (arith, e)))
+    ∙ set_other (slice_set d.labels d.points d.here) (d.points + 1) d.points d.here (λ e. absurd (omega (arith, e))) ∙ set_same d.labels d.points d.here (omega (arith, r))
+
+pub three_second : (d : Draft) → d.points + 3 ≤ length d.labels → label_at (fresh 3 d).labels (d.points + 1) ≡ d.here
+three_second d r =
+    set_other _ (d.points + 1 + 1) (d.points + 1) d.here (λ e. absurd (omega (arith, e)))
+    ∙ set_same (slice_set d.labels d.points d.here) (d.points + 1) d.here (let z = length-set d.labels d.points d.here in omega (arith, r, z))
+
+pub three_third : (d : Draft) → d.points + 3 ≤ length d.labels → label_at (fresh 3 d).labels (d.points + 1 + 1) ≡ d.here
+three_third d r =
+    set_same (slice_set (slice_set d.labels d.points d.here) (d.points + 1) d.here) (d.points + 1 + 1) d.here
+    (let y = length-set d.labels d.points d.here in let z = length-set (slice_set d.labels d.points d.here) (d.points + 1) d.here in omega (arith, r, y, z))

@@ -191,7 +191,7 @@ abbrev pub IsScalar : Whole → Object → IntType → Type 0
 IsScalar g x t = HasKind g.program x (scalar t)
 
 abbrev pub IsArrayOf : Whole → Array → Type 0
-IsArrayOf g a = HasKind g.program a.object (array a.int_type a.length) × (0 < a.length)
+IsArrayOf g a = HasKind g.program a.object (array a.int_type a.length)
 
 -- each object holds as many numbers as its kind says, of its type
 abbrev pub FitsObjects : Program → Objects → Type 0
