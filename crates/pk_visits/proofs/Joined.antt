@@ -148,3 +148,49 @@ conditional_laid g k h x t e a b w p hs (d, n, is, fits, quiet, s, l) =
     (shows_second g k h (xs ++ ys ++ zs) t d f split q.after,
     (x, (middle fa (next_temporary d) d.points (decided t choice d), n, refl, fits.2, (λ m. calm_more d.variables (middle fa (next_temporary d) d.points (decided t choice d)).variables hs vb calm), q.second,
     (d.points + 2, d.variables, q.sets_too, l')))))
+
+-- ---- truths
+
+nothing_behind : (xs : List ℕ) → xs ++ [] ≡ xs
+nothing_behind [] = refl
+nothing_behind (x ∷ xs) = ap (λ ys. x ∷ ys) (nothing_behind xs)
+
+-- a choice whose truth is the value
+truths_laid : (g : Whole) (k : ℕ) (h : Place) (x : Exits) (e : ValueTree) (w : Work) (choice : (p q : ℕ) → Draft → Draft) (n : ℕ) (d : Draft) (hs : List Held) → choice ≡ (ways (context_of g k) e).choice
+    → Chooses (In (led_to (context_of g k) (calls_in e))) choice → Chooses (λ z. Unit {0}) choice → IsValue (around g k n) e → AreCalm d.variables hs
+    → Stage g k h (led_to (context_of g k) (calls_in e)) d (rows.truth_value choice d).1
+    → Laid g k h x w (d.points + 2) (held (variable (next_temporary d)) Int ∷ hs)
+    → Laid g k h x (work.Test e (Onward h (work.Truth (pos 1) w)) (Onward h (work.Truth (pos 0) w))) d.point hs
+truths_laid g k h x e w choice n d hs same gc any_c fits calm s l =
+    let xs = led_to (context_of g k) (calls_in e) in
+    let fa : Draft → Given Slot = λ r. (constant Int (pos 1), r) in
+    let fb : Draft → Given Slot = λ r. (constant Int (pos 0), r) in
+    let f = (rows.joined Int choice fa fb d).1 in
+    let split = subst (λ qs. Stage g k h qs d f) (sym (nothing_behind (xs ++ []) ∙ nothing_behind xs)) s in
+    let ns = (grows_trans (grows_trans (fresh_three_grows (λ z. Unit {0}) d) (temporary_grows (λ z. Unit {0}) Int (fresh 3 d)))
+        (joined_after Int choice fa fb any_c (grows_refl (λ z. Unit {0})) (grows_refl (λ z. Unit {0})) d)).names in
+    let names = sym ns ∙ s.leads.names in
+    let q = parts g k h Int fa fb xs [] [] d (decided Int choice d) hs (grows_refl (In [])) (grows_refl (In [])) (grows_refl (λ z. Unit {0})) (grows_refl (λ z. Unit {0}))
+        (gc d.points (d.points + 1) (begun Int d)) (any_c d.points (d.points + 1) (begun Int d)) names
+        (stage_from g k h (In []) (xs ++ [] ++ []) d (begun Int d) f split (starts d Int)) calm in
+    let l' = subst (λ v. Laid g k h x w (d.points + 2) (held (variable v) Int ∷ hs)) (next_is d names) l in
+    (begun Int d, n, d.points, d.points + 1, refl, fits, calm_more d.variables (begun Int d).variables hs (omega arith) calm,
+    subst (λ (ch : (p q : ℕ) → Draft → Draft). Stage g k h xs (begun Int d) (ch d.points (d.points + 1) (begun Int d))) same q.test,
+    (shows_first g k h (xs ++ [] ++ []) Int d f split q.after, (x, (d.points + 2, d.variables, q.sets, l'))),
+    (shows_second g k h (xs ++ [] ++ []) Int d f split q.after, (x, (d.points + 2, d.variables, q.sets_too, l'))))
+
+pub and_laid : (g : Whole) (k : ℕ) (h : Place) (x : Exits) (a b : ValueTree) (w : Work) (p : ℕ) (hs : List Held) → Laid g k h x (work.Evaluate (tree.and a b) w) p hs
+    → Laid g k h x (work.Test (tree.and a b) (Onward h (work.Truth (pos 1) w)) (Onward h (work.Truth (pos 0) w))) p hs
+unfolding ways type_of
+and_laid g k h x a b w p hs (d, n, is, fits, quiet, s, l) =
+    subst (λ q. Laid g k h x (work.Test (tree.and a b) (Onward h (work.Truth (pos 1) w)) (Onward h (work.Truth (pos 0) w))) q hs) is
+    (truths_laid g k h x (tree.and a b) w (rows.and_choice (ways (context_of g k) a) (ways (context_of g k) b)) n d hs refl
+    (ways_grow (context_of g k) (tree.and a b)).choice (sane (context_of g k) (tree.and a b)).choice fits (quiet refl) s l)
+
+pub or_laid : (g : Whole) (k : ℕ) (h : Place) (x : Exits) (a b : ValueTree) (w : Work) (p : ℕ) (hs : List Held) → Laid g k h x (work.Evaluate (tree.or a b) w) p hs
+    → Laid g k h x (work.Test (tree.or a b) (Onward h (work.Truth (pos 1) w)) (Onward h (work.Truth (pos 0) w))) p hs
+unfolding ways type_of
+or_laid g k h x a b w p hs (d, n, is, fits, quiet, s, l) =
+    subst (λ q. Laid g k h x (work.Test (tree.or a b) (Onward h (work.Truth (pos 1) w)) (Onward h (work.Truth (pos 0) w))) q hs) is
+    (truths_laid g k h x (tree.or a b) w (rows.or_choice (ways (context_of g k) a) (ways (context_of g k) b)) n d hs refl
+    (ways_grow (context_of g k) (tree.or a b)).choice (sane (context_of g k) (tree.or a b)).choice fits (quiet refl) s l)

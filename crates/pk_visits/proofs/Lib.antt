@@ -15,3 +15,4 @@ mod Stages
 mod Operands
 mod Trees
 mod Joined
+mod Conditions
