@@ -113,3 +113,35 @@ comma_laid g k h x f v y n p hs (d, m, i, j, is, fits, calm, s, ly, ln) =
     (d, m, is, fits.0, (λ q. calm), stage_front g k h c (calls_in_effect f) (calls_in v) d e ((ways c v).choice i j e) s gv,
     (e, m, i, j, refl, fits.1, calm_more d.variables e.variables hs gf.variables calm,
     stage_behind g k h c (In (led_to c (calls_in_effect f))) (calls_in_effect f) (calls_in v) d e ((ways c v).choice i j e) s gf, ly, ln))
+
+-- ---- every test
+
+by_guards : (g : Whole) (k : ℕ) (h : Place) (x : Exits) (e : ValueTree) (y n : Way) (p : ℕ) (hs : List Held)
+    → ((i j : ℕ) (d : Draft) → (ways (context_of g k) e).choice i j d ≡ rows.guards i j ((ways (context_of g k) e).value d))
+    → Laid g k h x (work.Test e y n) p hs → Laid g k h x (work.Evaluate e (work.Branch y n)) p hs
+by_guards g k h x e y n p hs is (d, m, i, j, at', fits, calm, s, ly, ln) =
+    subst (λ q. Laid g k h x (work.Evaluate e (work.Branch y n)) q hs) at'
+    (guards_laid g k h x e y n m i j d hs fits calm (subst (Stage g k h (led_to (context_of g k) (calls_in e)) d) (is i j d) s) ly ln)
+
+pub tested_laid : (g : Whole) (k : ℕ) (h : Place) (x : Exits) (e : ValueTree) (y n : Way) (p : ℕ) (hs : List Held) → Laid g k h x (work.Test e y n) p hs → Laid g k h x (meaning.tested h e y n) p hs
+unfolding target ways
+tested_laid g k h x (tree.constant t z) y n p hs l = by_guards g k h x (tree.constant t z) y n p hs (λ i j d. refl) l
+tested_laid g k h x (tree.read (tree.scalar t v)) y n p hs l = by_guards g k h x (tree.read (tree.scalar t v)) y n p hs (λ i j d. refl) l
+tested_laid g k h x (tree.read (tree.element t v q i)) y n p hs l = by_guards g k h x (tree.read (tree.element t v q i)) y n p hs (λ i j d. refl) l
+tested_laid g k h x (tree.assign q (tree.scalar t v) e) y n p hs l = by_guards g k h x (tree.assign q (tree.scalar t v) e) y n p hs (λ i j d. refl) l
+tested_laid g k h x (tree.assign q (tree.element t v r i) e) y n p hs l = by_guards g k h x (tree.assign q (tree.element t v r i) e) y n p hs (λ i j d. refl) l
+tested_laid g k h x (tree.update op q o (tree.scalar t v) e) y n p hs l = by_guards g k h x (tree.update op q o (tree.scalar t v) e) y n p hs (λ i j d. refl) l
+tested_laid g k h x (tree.update op q o (tree.element t v r i) e) y n p hs l = by_guards g k h x (tree.update op q o (tree.element t v r i) e) y n p hs (λ i j d. refl) l
+tested_laid g k h x (tree.step op q o (tree.scalar t v) true) y n p hs l = by_guards g k h x (tree.step op q o (tree.scalar t v) true) y n p hs (λ i j d. refl) l
+tested_laid g k h x (tree.step op q o (tree.scalar t v) false) y n p hs l = by_guards g k h x (tree.step op q o (tree.scalar t v) false) y n p hs (λ i j d. refl) l
+tested_laid g k h x (tree.step op q o (tree.element t v r i) true) y n p hs l = by_guards g k h x (tree.step op q o (tree.element t v r i) true) y n p hs (λ i j d. refl) l
+tested_laid g k h x (tree.step op q o (tree.element t v r i) false) y n p hs l = by_guards g k h x (tree.step op q o (tree.element t v r i) false) y n p hs (λ i j d. refl) l
+tested_laid g k h x (tree.call t f m q es) y n p hs l = by_guards g k h x (tree.call t f m q es) y n p hs (λ i j d. refl) l
+tested_laid g k h x (tree.any t q) y n p hs l = by_guards g k h x (tree.any t q) y n p hs (λ i j d. refl) l
+tested_laid g k h x (tree.unary op q t e) y n p hs l = not_laid g k h x op q t e y n p hs l
+tested_laid g k h x (tree.convert t e) y n p hs l = by_guards g k h x (tree.convert t e) y n p hs (λ i j d. refl) l
+tested_laid g k h x (tree.binary op q t a b) y n p hs l = by_guards g k h x (tree.binary op q t a b) y n p hs (λ i j d. refl) l
+tested_laid g k h x (tree.and a b) y n p hs l = both_laid g k h x a b y n p hs l
+tested_laid g k h x (tree.or a b) y n p hs l = either_laid g k h x a b y n p hs l
+tested_laid g k h x (tree.conditional t e a b) y n p hs l = by_guards g k h x (tree.conditional t e a b) y n p hs (λ i j d. refl) l
+tested_laid g k h x (tree.then_value f v) y n p hs l = comma_laid g k h x f v y n p hs l

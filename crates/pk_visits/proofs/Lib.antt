@@ -16,3 +16,4 @@ mod Operands
 mod Trees
 mod Joined
 mod Conditions
+mod ElementTrees

@@ -86,7 +86,7 @@ object_value x s m same = ap (λ o. Ok (number_of x o)) same
 pub object_in : (p : Program) (x : Object) (t : IntType) (s : Objects) → HasKind p x (scalar t) → FitsObjects p s → InType t (number_of x s)
 object_in p x t s h f = in_type t (number_of x s) (number_in_type t (numbers_of x s) (f x (scalar t) h).0 (f x (scalar t) h).1)
 
-one_in : InType Int (pos 1)
+pub one_in : InType Int (pos 1)
 one_in = record { from = let a = (zero_in Int).0 in omega (arith, ints, a); to = one_most Int }
 
 pub fetched : (g : Whole) (chosen : Numbers) (p : ℕ) (m : Memory) (k : ℕ) (h : Place) (t : IntType) (y : Object) (w : Work) (vs : Numbers) (s : Objects) (b : Bool) (x : Exits) (hs : List Held)
