@@ -17,6 +17,7 @@ use Rattle.pk_graph.specs.Kinds.{count_of}
 use Rattle.pk_graph.specs.Trees.{constant, variable, converted, unary, binary, ArrayOf, Set, Havoc, Load, Store}
 use Rattle.pk_draft.specs.Drafts.{Given, emit, with_temporary, next_temporary, stored}
 use Rattle.pk_draft.specs.Folding.{conversion, updated_tree}
+use Rattle.pk_graph.specs.declared.trees.Site.{Site}
 use Rattle.pk_lower_row.specs.declared.shapes.Shape.{Shape}
 use Rattle.pk_lower_row.specs.declared.shapes.Shape.TheVariants.{Fixed, Temporary, Named, Other}
 use Rattle.pk_lower_row.specs.declared.shapes.Waiting.{Waiting}
@@ -35,12 +36,12 @@ use Rattle.pk_meaning.specs.Work as work
 use Rattle.pk_meaning.specs.Work.{Place, Work}
 use Rattle.pk_meaning.specs.Steps as meaning
 use Rattle.pk_visits.proofs.Slots.{Slot, own, temporary, slots, SlotTree, Draft, Instr, Among, edge, Grows}
-use Rattle.pk_visits.proofs.Grows.{grows_refl, grows_trans, emit_grows, temporary_grows, made_grows, two_grows, held_grows, loaded_after_grows}
+use Rattle.pk_visits.proofs.Grows.{grows_refl, grows_trans, emit_grows, temporary_grows, made_grows, two_grows, held_grows, loaded_grows}
 use Rattle.pk_visits.proofs.Growing.{lowered}
 use Rattle.pk_visits.proofs.Tells.{Tells, variable_is, shapes, sane}
 use Rattle.pk_visits.proofs.Stands.{Whole, context_of, Held, held, in_temporary, around, IsApart, AreApart, AreCalm, AreQuiet, IsPlain, ArePlain, HasKind, IsScalar, IsArrayOf, cells, Writes, Sets, Stage, led_to, Laid}
 use Rattle.pk_visits.proofs.Stages.{In, ways_grow, stage_front, stage_behind, stage_until, stage_from, stage_edge}
-use Rattle.pk_visits.proofs.Operands.{UnlessLoose, all_own, all_temporary, calm_more, next_is, held_calm, two_laid}
+use Rattle.pk_visits.proofs.Operands.{UnlessLoose, all_own, all_temporary, calm_more, next_is, held_calm, keep_laid, two_laid}
 use Rattle.pk_visits.proofs.Trees.{stage_names, has_kind, writes_scalar}
 use Rattle.pk_visits.proofs.Operators.{one_in}
 use Rattle.pk_visits.proofs.Doom.{calm_plain}
@@ -334,3 +335,197 @@ kept_laid g k h x q at t y i e w pt hs (d, n, is, fits, quiet, s, l) =
       plain = (tt, calm_plain d.variables hs calm);
     },
     subst (λ u. Laid g k h x w m.points (held (variable u) t ∷ hs)) (next_is p.draft np) l)))
+
+-- ---- a[i] op= e, a[i]++
+
+-- index and right side, the element, and what comes behind
+reload_laid : (g : Whole) (k : ℕ) (h : Place) (x : Exits) (at : Pos) (t : IntType) (y : Variable) (i e : ValueTree) (w : Work) (n : ℕ) (d f : Draft) (hs : List Held)
+    → d.names ≡ slots → IsArray (around g k n) t y → IsValue (around g k n) i → IsValue (around g k n) e → AreCalm d.variables hs
+    → Stage g k h (led_to (context_of g k) (calls_in i ++ calls_in e)) d f
+    → Grows (In []) (rows.loaded t (site (context_of g k) at) (lower.array_of (context_of g k) y d) (lowered (context_of g k) i) (lowered (context_of g k) e) d).draft f
+    → Laid g k h x w (rows.loaded t (site (context_of g k) at) (lower.array_of (context_of g k) y d) (lowered (context_of g k) i) (lowered (context_of g k) e) d).draft.point
+        (held (rows.loaded t (site (context_of g k) at) (lower.array_of (context_of g k) y d) (lowered (context_of g k) i) (lowered (context_of g k) e) d).element t
+        ∷ held (rows.loaded t (site (context_of g k) at) (lower.array_of (context_of g k) y d) (lowered (context_of g k) i) (lowered (context_of g k) e) d).right (type_of e)
+        ∷ held (rows.loaded t (site (context_of g k) at) (lower.array_of (context_of g k) y d) (lowered (context_of g k) i) (lowered (context_of g k) e) d).index (type_of i) ∷ hs)
+    → Laid g k h x (meaning.reload at (program.array_of g.program k t y) i e w) d.point hs
+reload_laid g k h x at t y i e w n d f hs ns fa fi fe calm s after l =
+    let c = context_of g k in
+    let how = strong_or_weak (makes e) in
+    let p = two how (lowered c i) (lowered c e) d in
+    let r : Given Slot = (p.second, p.draft) in
+    let v = rows.held Weak (shape_of e) (type_of e) r in
+    let b = program.array_of g.program k t y in
+    let j = λ (q : ArrayOf Slot) (u : Slot). Load u q (site c at) true p.first in
+    let a = lower.array_of c y d in
+    let any2 = two_grows Any how (lowered c i) (lowered c e) (sane c i) (sane c e) d in
+    let kept = held_grows Any Weak (shape_of e) (type_of e) r in
+    let np = two_names c how i e d ns in
+    let nv = kept.names ∙ np in
+    let load_grows = made_grows (In []) (j a (next_temporary v.1)) t v.1 in
+    let kept_after : Grows (In []) v.1 f = grows_trans load_grows after in
+    let behind : Grows (In []) p.draft f = grows_trans (held_grows (In []) Weak (shape_of e) (type_of e) r) kept_after in
+    let edge' = stage_edge g k h Any (In []) _ d (with_temporary t v.1) f (j a (next_temporary v.1)) s (grows_trans any2 (grows_trans kept (temporary_grows Any t v.1))) after in
+    let old = two_old c how i e d (not_loose (makes e)) ns in
+    let z = rows.held how (shape_of i) (type_of i) ((ways c i).value d) in
+    let nz = (held_grows Any how (shape_of i) (type_of i) ((ways c i).value d)).names ∙ ((sane c i).value d).names ∙ ns in
+    let right = held_old Weak (shape_of e) (type_of e) r refl np (shapes c e z.1 nz) in
+    let le = any2.variables in
+    let le2 = kept.variables in
+    let old2 = old_more p.draft.variables v.1.variables p.first le2 old in
+    two_laid g k h x (work.Keep (work.Reload at b w)) how i e n d f hs ns (store_strong (makes e)) (calm_unless how d.variables hs calm) (λ m. calm) fi (λ m. calm) fe s behind
+    (keep_laid g k h x (work.Reload at b w) Weak (shape_of e) (type_of e) r (held p.first (type_of i) ∷ hs) Any (In []) _ d f s any2 kept_after np
+    ((old_apart p.draft.variables p.draft.variables p.first (omega arith) old, all_temporary d.variables p.draft.variables hs le calm), (old_plain p.draft.variables p.first old, calm_plain d.variables hs calm))
+    (v.1.points, v.1.variables, is_array g k n t y s.path fa,
+    record {
+      there = subst (λ u. Among (edge v.1.point (j (cells b) u) v.1.points) g.edges) (next_is v.1 nv)
+          (subst (λ q. Among (edge v.1.point (j q (next_temporary v.1)) v.1.points) g.edges) (array_is g k t y d ns) edge'.0);
+      shown = edge'.1;
+      apart = (old_apart v.1.variables v.1.variables v.0 (omega arith) right, (old_apart v.1.variables v.1.variables p.first (omega arith) old2, all_temporary d.variables v.1.variables hs (omega (arith, le, le2)) calm));
+      plain = (old_plain v.1.variables v.0 right, (old_plain v.1.variables p.first old2, calm_plain d.variables hs calm));
+    },
+    subst (λ u. Laid g k h x w v.1.points (held (variable u) t ∷ held v.0 (type_of e) ∷ held p.first (type_of i) ∷ hs)) (next_is v.1 nv) l))
+
+-- what waits behind the load is old
+record Olds (c : Context) (t : IntType) (s : Site) (a : ArrayOf Slot) (i e : ValueTree) (d : Draft) : Type 0 where
+  pub index : IsOld (rows.loaded t s a (lowered c i) (lowered c e) d).draft.variables (rows.loaded t s a (lowered c i) (lowered c e) d).index
+  pub right : IsOld (rows.loaded t s a (lowered c i) (lowered c e) d).draft.variables (rows.loaded t s a (lowered c i) (lowered c e) d).right
+  pub element : IsOld (rows.loaded t s a (lowered c i) (lowered c e) d).draft.variables (rows.loaded t s a (lowered c i) (lowered c e) d).element
+  pub names : (rows.loaded t s a (lowered c i) (lowered c e) d).draft.names ≡ slots
+  pub more : d.variables ≤ (rows.loaded t s a (lowered c i) (lowered c e) d).draft.variables
+
+olds : (c : Context) (t : IntType) (s : Site) (a : ArrayOf Slot) (i e : ValueTree) (d : Draft) → d.names ≡ slots → Olds c t s a i e d
+olds c t s a i e d ns =
+    let how = strong_or_weak (makes e) in
+    let p = two how (lowered c i) (lowered c e) d in
+    let r : Given Slot = (p.second, p.draft) in
+    let v = rows.held Weak (shape_of e) (type_of e) r in
+    let np = two_names c how i e d ns in
+    let kept = held_grows Any Weak (shape_of e) (type_of e) r in
+    let nv = kept.names ∙ np in
+    let z = rows.held how (shape_of i) (type_of i) ((ways c i).value d) in
+    let nz = (held_grows Any how (shape_of i) (type_of i) ((ways c i).value d)).names ∙ ((sane c i).value d).names ∙ ns in
+    let le = (two_grows Any how (lowered c i) (lowered c e) (sane c i) (sane c e) d).variables in
+    let le2 = kept.variables in
+    record {
+      index = old_more p.draft.variables (v.1.variables + 1) p.first (omega (arith, le2)) (two_old c how i e d (not_loose (makes e)) ns);
+      right = old_more v.1.variables (v.1.variables + 1) v.0 (omega arith) (held_old Weak (shape_of e) (type_of e) r refl np (shapes c e z.1 nz));
+      element = new_old v.1 nv;
+      names = nv;
+      more = omega (arith, le, le2);
+    }
+
+loaded_any : (c : Context) (t : IntType) (s : Site) (a : ArrayOf Slot) (i e : ValueTree) (d : Draft) → Grows Any d (rows.loaded t s a (lowered c i) (lowered c e) d).draft
+loaded_any c t s a i e d = loaded_grows Any t s a (lowered c i) (lowered c e) (sane c i) (sane c e) d
+
+-- not used
+pub renew_laid : (g : Whole) (k : ℕ) (h : Place) (x : Exits) (op : Op) (q : Pos) (o : IntType) (at : Pos) (t : IntType) (y : Variable) (i e : ValueTree) (w : Work) (n : ℕ) (d : Draft) (hs : List Held)
+    → IsArray (around g k n) t y → IsValue (around g k n) i → IsValue (around g k n) e → AreCalm d.variables hs
+    → Stage g k h (led_to (context_of g k) (calls_in i ++ calls_in e)) d
+        (rows.renew_unused op (site (context_of g k) q) o t (site (context_of g k) at) (lower.array_of (context_of g k) y d) (type_of e) (rows.loaded t (site (context_of g k) at) (lower.array_of (context_of g k) y d) (lowered (context_of g k) i) (lowered (context_of g k) e) d))
+    → Laid g k h x w (rows.renew_unused op (site (context_of g k) q) o t (site (context_of g k) at) (lower.array_of (context_of g k) y d) (type_of e) (rows.loaded t (site (context_of g k) at) (lower.array_of (context_of g k) y d) (lowered (context_of g k) i) (lowered (context_of g k) e) d)).point hs
+    → Laid g k h x (meaning.reload at (program.array_of g.program k t y) i e (work.Renew op q o at (program.array_of g.program k t y) w)) d.point hs
+renew_laid g k h x op q o at t y i e w n d hs fa fi fe calm s l =
+    let c = context_of g k in
+    let a = lower.array_of c y d in
+    let b = program.array_of g.program k t y in
+    let p = rows.loaded t (site c at) a (lowered c i) (lowered c e) d in
+    let j = λ (r : ArrayOf Slot). Store r (site c at) false p.index (rows.renewed_tree op (site c q) o t (type_of e) p) in
+    let f = emit (j a) p.draft in
+    let any2 = loaded_any c t (site c at) a i e d in
+    let ns = stage_names g k h _ Any d f s (grows_trans any2 (emit_grows Any (j a) p.draft)) in
+    let z = stage_edge g k h Any (In []) _ d p.draft f (j a) s any2 (grows_refl (In []) f) in
+    let u = olds c t (site c at) a i e d ns in
+    reload_laid g k h x at t y i e (work.Renew op q o at b w) n d f hs ns fa fi fe calm s (emit_grows (In []) (j a) p.draft)
+    (p.draft.points,
+    (old_plain p.draft.variables p.element u.element, (old_plain p.draft.variables p.right u.right, (old_plain p.draft.variables p.index u.index, calm_plain d.variables hs calm))),
+    is_array g k n t y s.path fa, refl,
+    record {
+      there = subst (λ r. Among (edge p.draft.point (j r) p.draft.points) g.edges) (array_is g k t y d ns) z.0;
+      shown = z.1;
+      apart = all_own d.variables (object_of k y) hs calm;
+      plain = calm_plain d.variables hs calm;
+    }, l)
+
+-- an old tree that isn't an object is apart from objects
+element_apart : (d : Draft) (x : Object) → d.names ≡ slots → IsApart (own x) (variable (next_temporary d))
+element_apart d x n = subst (λ y. IsApart (own x) (variable y)) (sym (next_is d n)) (λ e. subst is_own e tt)
+
+-- used: what was there before is given
+pub replace_laid : (g : Whole) (k : ℕ) (h : Place) (x : Exits) (op : Op) (q : Pos) (o : IntType) (at : Pos) (t : IntType) (y : Variable) (i : ValueTree) (w : Work) (pt : ℕ) (hs : List Held)
+    → Laid g k h x (work.Evaluate (tree.step op q o (tree.element t y at i) false) w) pt hs
+    → Laid g k h x (meaning.reload at (program.array_of g.program k t y) i meaning.one (work.Replace op q o at (program.array_of g.program k t y) w)) pt hs
+unfolding target ways IsPlace IsValue calls_at_place calls_in type_of
+replace_laid g k h x op q o at t y i w pt hs (d, n, is, fits, quiet, s, l) =
+    let c = context_of g k in
+    let a = lower.array_of c y d in
+    let b = program.array_of g.program k t y in
+    let e = meaning.one in
+    let p = rows.loaded t (site c at) a (lowered c i) (lowered c e) d in
+    let j = λ (r : ArrayOf Slot). Store r (site c at) false p.index (rows.renewed_tree op (site c q) o t Int p) in
+    let f = emit (j a) p.draft in
+    let any2 = loaded_any c t (site c at) a i e d in
+    let calm = quiet refl in
+    let v = rows.held Weak (shape_of e) Int ((two (strong_or_weak false) (lowered c i) (lowered c e) d).second, (two (strong_or_weak false) (lowered c i) (lowered c e) d).draft) in
+    let s' = subst (λ zs. Stage g k h (led_to c zs) d f) (sym (nothing_behind (calls_in i))) s in
+    let ns = stage_names g k h _ Any d f s (grows_trans any2 (emit_grows Any (j a) p.draft)) in
+    let z = stage_edge g k h Any (In []) _ d p.draft f (j a) s any2 (grows_refl (In []) f) in
+    let u = olds c t (site c at) a i e d ns in
+    subst (λ m. Laid g k h x (meaning.reload at b i e (work.Replace op q o at b w)) m hs) is
+    (reload_laid g k h x at t y i e (work.Replace op q o at b w) n d f hs ns fits.1.0 fits.1.1 one_in calm s' (emit_grows (In []) (j a) p.draft)
+    (p.draft.points,
+    (old_plain p.draft.variables p.element u.element, (old_plain p.draft.variables p.right u.right, (old_plain p.draft.variables p.index u.index, calm_plain d.variables hs calm))),
+    is_array g k n t y s.path fits.1.0, refl,
+    record {
+      there = subst (λ r. Among (edge p.draft.point (j r) p.draft.points) g.edges) (array_is g k t y d ns) z.0;
+      shown = z.1;
+      apart = (element_apart v.1 (object_of k y) u.names, all_own d.variables (object_of k y) hs calm);
+      plain = (old_plain p.draft.variables p.element u.element, calm_plain d.variables hs calm);
+    }, l)) where
+      nothing_behind : {A : Type 0} (xs : List A) → xs ++ [] ≡ xs
+      nothing_behind [] = refl
+      nothing_behind (x ∷ xs) = ap (λ ys. x ∷ ys) (nothing_behind xs)
+
+-- used: what is written is given
+pub renewed_laid : (g : Whole) (k : ℕ) (h : Place) (x : Exits) (op : Op) (q : Pos) (o : IntType) (at : Pos) (t : IntType) (y : Variable) (i e : ValueTree) (w : Work) (n : ℕ) (d : Draft) (hs : List Held)
+    → IsArray (around g k n) t y → IsValue (around g k n) i → IsValue (around g k n) e → AreCalm d.variables hs
+    → Stage g k h (led_to (context_of g k) (calls_in i ++ calls_in e)) d
+        (rows.renew_used op (site (context_of g k) q) o t (site (context_of g k) at) (lower.array_of (context_of g k) y d) (type_of e) (rows.loaded t (site (context_of g k) at) (lower.array_of (context_of g k) y d) (lowered (context_of g k) i) (lowered (context_of g k) e) d)).1
+    → Laid g k h x w (rows.renew_used op (site (context_of g k) q) o t (site (context_of g k) at) (lower.array_of (context_of g k) y d) (type_of e) (rows.loaded t (site (context_of g k) at) (lower.array_of (context_of g k) y d) (lowered (context_of g k) i) (lowered (context_of g k) e) d)).1.point
+        (held (rows.renew_used op (site (context_of g k) q) o t (site (context_of g k) at) (lower.array_of (context_of g k) y d) (type_of e) (rows.loaded t (site (context_of g k) at) (lower.array_of (context_of g k) y d) (lowered (context_of g k) i) (lowered (context_of g k) e) d)).0 t ∷ hs)
+    → Laid g k h x (meaning.reload at (program.array_of g.program k t y) i e (work.Renewed op q o t (work.StoreKept at (program.array_of g.program k t y) w))) d.point hs
+renewed_laid g k h x op q o at t y i e w n d hs fa fi fe calm s l =
+    let c = context_of g k in
+    let a = lower.array_of c y d in
+    let b = program.array_of g.program k t y in
+    let p = rows.loaded t (site c at) a (lowered c i) (lowered c e) d in
+    let v = rows.renewed_tree op (site c q) o t (type_of e) p in
+    let m = emit (Set (next_temporary p.draft) v) (with_temporary t p.draft) in
+    let j = λ (r : ArrayOf Slot) (u : Slot). Store r (site c at) false p.index (variable u) in
+    let f = emit (j a (next_temporary p.draft)) m in
+    let any2 = loaded_any c t (site c at) a i e d in
+    let set_grows = made_grows Any (Set (next_temporary p.draft) v) t p.draft in
+    let last = emit_grows (In []) (j a (next_temporary p.draft)) m in
+    let ns = stage_names g k h _ Any d f s (grows_trans any2 (grows_trans set_grows (emit_grows Any (j a (next_temporary p.draft)) m))) in
+    let u = olds c t (site c at) a i e d ns in
+    let le = u.more in
+    let set_edge = stage_edge g k h Any (In []) _ d (with_temporary t p.draft) f (Set (next_temporary p.draft) v) s (grows_trans any2 (temporary_grows Any t p.draft)) last in
+    let put_edge = stage_edge g k h Any (In []) _ d m f (j a (next_temporary p.draft)) s (grows_trans any2 set_grows) (grows_refl (In []) f) in
+    reload_laid g k h x at t y i e (work.Renewed op q o t (work.StoreKept at b w)) n d f hs ns fa fi fe calm s (grows_trans (made_grows (In []) (Set (next_temporary p.draft) v) t p.draft) last)
+    (p.draft.points, p.draft.variables,
+    (old_plain p.draft.variables p.element u.element, (old_plain p.draft.variables p.right u.right, (old_plain p.draft.variables p.index u.index, calm_plain d.variables hs calm))),
+    refl,
+    record {
+      there = subst (λ z. Among (edge p.draft.point (Set z v) p.draft.points) g.edges) (next_is p.draft u.names) set_edge.0;
+      shown = set_edge.1;
+      apart = (old_apart p.draft.variables p.draft.variables p.index (omega arith) u.index, all_temporary d.variables p.draft.variables hs le calm);
+      plain = (old_plain p.draft.variables p.index u.index, calm_plain d.variables hs calm);
+    },
+    (m.points, false, is_array g k n t y s.path fa, refl,
+    record {
+      there = subst (λ z. Among (edge p.draft.points (j (cells b) z) m.points) g.edges) (next_is p.draft u.names)
+          (subst (λ r. Among (edge p.draft.points (j r (next_temporary p.draft)) m.points) g.edges) (array_is g k t y d ns) put_edge.0);
+      shown = put_edge.1;
+      apart = ((λ z. absurd (subst is_own z tt)), all_own d.variables (object_of k y) hs calm);
+      plain = (tt, calm_plain d.variables hs calm);
+    },
+    subst (λ z. Laid g k h x w m.points (held (variable z) t ∷ hs)) (next_is p.draft u.names) l))

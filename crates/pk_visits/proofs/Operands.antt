@@ -92,7 +92,7 @@ UnlessLoose Strong A = A
 UnlessLoose Weak A = A
 
 keep_unless : (g : Whole) (k : ℕ) (h : Place) (x : Exits) (w : Work) (b : Bool) (t : IntType) (r : Given Slot) (hs : List Held) (C E : ℕ → Type 0) (xs : List ℕ) (d f : Draft)
-    → Stage g k h xs d f → Grows C d r.1 → Grows E (stored_unless b t r).1 f → r.1.names ≡ slots → AreCalm r.1.variables hs
+    → Stage g k h xs d f → Grows C d r.1 → Grows E (stored_unless b t r).1 f → r.1.names ≡ slots → AreApart (temporary r.1.variables) hs × ArePlain hs
     → Laid g k h x w (stored_unless b t r).1.point (held (stored_unless b t r).0 t ∷ hs) → Laid g k h x (Keep w) r.1.point (held r.0 t ∷ hs)
 keep_unless g k h x w true t r hs C E xs d f s u v n c l = inl l
 keep_unless g k h x w false t r hs C E xs d f s u v n c l =
@@ -101,13 +101,13 @@ keep_unless g k h x w false t r hs C E xs d f s u v n c l =
     record {
       there = subst (λ y. Rattle.pk_visits.proofs.Slots.Among (Rattle.pk_visits.proofs.Slots.edge r.1.point (Set y r.0) r.1.points) g.edges) (next_is r.1 n) e.0;
       shown = e.1;
-      apart = all_temporary r.1.variables r.1.variables hs (omega arith) c;
-      plain = calm_plain r.1.variables hs c;
+      apart = c.0;
+      plain = c.1;
     },
     subst (λ y. Laid g k h x w r.1.points (held (variable y) t ∷ hs)) (next_is r.1 n) l)
 
 pub keep_laid : (g : Whole) (k : ℕ) (h : Place) (x : Exits) (w : Work) (how : Waiting) (s : Shape) (t : IntType) (r : Given Slot) (hs : List Held) (C E : ℕ → Type 0) (xs : List ℕ) (d f : Draft)
-    → Stage g k h xs d f → Grows C d r.1 → Grows E (rows.held how s t r).1 f → r.1.names ≡ slots → UnlessLoose how (AreCalm r.1.variables hs)
+    → Stage g k h xs d f → Grows C d r.1 → Grows E (rows.held how s t r).1 f → r.1.names ≡ slots → UnlessLoose how (AreApart (temporary r.1.variables) hs × ArePlain hs)
     → Laid g k h x w (rows.held how s t r).1.point (held (rows.held how s t r).0 t ∷ hs) → Laid g k h x (Keep w) r.1.point (held r.0 t ∷ hs)
 keep_laid g k h x w Loose s t r hs C E xs d f st u v n c l = inl l
 keep_laid g k h x w Strong s t r hs C E xs d f st u v n c l = keep_unless g k h x w (stays Strong s) t r hs C E xs d f st u v n c l
@@ -117,10 +117,10 @@ keep_laid g k h x w Weak s t r hs C E xs d f st u v n c l = keep_unless g k h x 
 first_calm : (how : Waiting) (s : Shape) (t : IntType) (r : Given Slot) → how ≡ Strong → r.1.names ≡ slots → Tells r.1.variables s r.0 → IsCalm (rows.held how s t r).1.variables (rows.held how s t r).0
 first_calm how s t r is n h = subst (λ w. IsCalm (rows.held w s t r).1.variables (rows.held w s t r).0) (sym is) (held_calm s t r n h)
 
-unless_more : (how : Waiting) (m n : ℕ) (hs : List Held) → m ≤ n → UnlessLoose how (AreCalm m hs) → UnlessLoose how (AreCalm n hs)
+unless_more : (how : Waiting) (m n : ℕ) (hs : List Held) → m ≤ n → UnlessLoose how (AreCalm m hs) → UnlessLoose how (AreApart (temporary n) hs × ArePlain hs)
 unless_more Loose m n hs le c = tt
-unless_more Strong m n hs le c = calm_more m n hs le c
-unless_more Weak m n hs le c = calm_more m n hs le c
+unless_more Strong m n hs le c = (all_temporary m n hs le c, calm_plain m hs c)
+unless_more Weak m n hs le c = (all_temporary m n hs le c, calm_plain m hs c)
 
 -- The work of two operands from a draft on, of which the first waits so, and what comes behind both.
 pub two_laid : (g : Whole) (k : ℕ) (h : Place) (x : Exits) (w : Work) (how : Waiting) (a b : ValueTree) (n : ℕ) (d f : Draft) (hs : List Held)
