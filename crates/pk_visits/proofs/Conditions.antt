@@ -66,7 +66,7 @@ not_laid g k h x Ge at' t e y n p hs (d, m, i, j, is, fits, calm, s, ly, ln) = a
 not_laid g k h x Eq at' t e y n p hs (d, m, i, j, is, fits, calm, s, ly, ln) = absurd (let z = fits.0 in grind (arith, z))
 not_laid g k h x Ne at' t e y n p hs (d, m, i, j, is, fits, calm, s, ly, ln) = absurd (let z = fits.0 in grind (arith, z))
 
-shows_fresh : (g : Whole) (k : ℕ) (h : Place) (xs : List ℕ) (d f : Draft) → Stage g k h xs d f → Grows (λ z. Unit {0}) (fresh 1 d) f → ShowsAt g d.points k h
+pub shows_fresh : (g : Whole) (k : ℕ) (h : Place) (xs : List ℕ) (d f : Draft) → Stage g k h xs d f → Grows (λ z. Unit {0}) (fresh 1 d) f → ShowsAt g d.points k h
 shows_fresh g k h xs d f s u =
     let a = stage_room g k h (λ z. Unit {0}) xs d (fresh 1 d) f s u in
     let q = (fresh_one_grows (In []) d).size in

@@ -156,7 +156,7 @@ doomed_binds g chosen k h f j i (t ∷ ts) rest next p hs m l bad =
 
 -- ---- by the work that waits
 
-both_bools : (P : Type 0) (b : Bool) → (b ≡ true → P) → (b ≡ false → P) → P
+pub both_bools : (P : Type 0) (b : Bool) → (b ≡ true → P) → (b ≡ false → P) → P
 both_bools P true f g = f refl
 both_bools P false f g = g refl
 

@@ -17,3 +17,4 @@ mod Trees
 mod Joined
 mod Conditions
 mod ElementTrees
+mod Effects

@@ -44,11 +44,11 @@ pub has_kind : (g : Whole) (k n : ℕ) (t : Kind) (y : Variable) → k < length 
 has_kind g k n t (File i) there h = h
 has_kind g k n t (Local i) there h = (there, h.1)
 
-or_first : (a b : Bool) → a ≡ true → (a || b) ≡ true
+pub or_first : (a b : Bool) → a ≡ true → (a || b) ≡ true
 or_first true b h = refl
 or_first false b h = absurd (grind (arith, h))
 
-or_second : (a b : Bool) → b ≡ true → (a || b) ≡ true
+pub or_second : (a b : Bool) → b ≡ true → (a || b) ≡ true
 or_second true b h = refl
 or_second false b h = h
 
