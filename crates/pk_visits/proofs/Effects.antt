@@ -11,7 +11,7 @@ use Rattle.pk_typed.specs.declared.values.Variable.{Variable}
 use Rattle.pk_typed.specs.Trees.{ValueTree, EffectTree}
 use Rattle.pk_typed.specs.Trees as tree
 use Rattle.pk_typed.specs.Types.{type_of}
-use Rattle.pk_welltyped.specs.Listed.{calls_at_place, calls_in, calls_in_effect}
+use Rattle.pk_welltyped.specs.Listed.{Numbered, calls_at_place, calls_in, calls_in_effect}
 use Rattle.pk_welltyped.specs.WellTyped.{Kind, scalar, IsPlace, IsValue, IsEffect}
 use Rattle.pk_graph.specs.Trees.{constant, variable, Set, Check}
 use Rattle.pk_draft.specs.Drafts.{Given, at, fresh, emit, with_temporary, next_temporary, nowhere}
@@ -34,7 +34,7 @@ use Rattle.pk_visits.proofs.Grows.{grows_refl, grows_trans, emit_grows, made_gro
 use Rattle.pk_visits.proofs.Growing.{lowered}
 use Rattle.pk_visits.proofs.Tells.{Tells, variable_is, shapes, sane, sane_effect}
 use Rattle.pk_visits.proofs.Stands.{Whole, context_of, Held, held, around, AreCalm, AreQuiet, IsPlain, ArePlain, ShowsAt, Writes, Stage, led_to, LaidWay, Laid}
-use Rattle.pk_visits.proofs.Stages.{In, ways_grow, effect_grows, stage_front, stage_behind, stage_until, stage_from, stage_edge}
+use Rattle.pk_visits.proofs.Stages.{In, ways_grow, effect_grows, stage_first, stage_second, stage_until, stage_from, stage_edge}
 use Rattle.pk_visits.proofs.Operands.{calm_more}
 use Rattle.pk_visits.proofs.Trees.{stage_names, has_kind, or_first, or_second, writes_scalar}
 use Rattle.pk_visits.proofs.ElementTrees.{writes_temporary, put_laid, renew_laid}
@@ -50,7 +50,7 @@ plain_shape n Named e h k = subst IsPlain (sym h.1) tt
 plain_shape n Other e h k = absurd (grind (arith, k))
 
 -- what waits is dropped, or put in a temporary
-drop_unless : (g : Whole) (k : ℕ) (h : Place) (x : Exits) (w : Work) (b : Bool) (t : IntType) (d : Draft) (r : Given Slot) (hs : List Held) (C : ℕ → Type 0) (xs : List ℕ)
+drop_unless : (g : Whole) (k : ℕ) (h : Place) (x : Exits) (w : Work) (b : Bool) (t : IntType) (d : Draft) (r : Given Slot) (hs : List Held) (C : ℕ → Type 0) (xs : List Numbered)
     → r.1.names ≡ slots → (b ≡ true → IsPlain r.0) → (b ≡ false → AreCalm r.1.variables hs) → Grows C d r.1 → Stage g k h xs d (stored_unless b t r).1 → Laid g k h x w (stored_unless b t r).1.point hs
     → Laid g k h x (work.Drop w) r.1.point (held r.0 t ∷ hs)
 drop_unless g k h x w true t d r hs C xs ns plain calm z s l = inl (plain refl, l)
@@ -64,14 +64,14 @@ not_true false h = refl
 -- an expression whose tree is dropped
 pub drop_laid : (g : Whole) (k : ℕ) (h : Place) (x : Exits) (v : ValueTree) (w : Work) (n : ℕ) (d : Draft) (hs : List Held)
     → (ways (context_of g k) v).unused d ≡ rows.dropped (shape_of v) (type_of v) ((ways (context_of g k) v).value d)
-    → IsValue (around g k n) v → AreQuiet (makes v || not (is_plain (shape_of v))) d.variables hs → Stage g k h (led_to (context_of g k) (calls_in v)) d ((ways (context_of g k) v).unused d)
+    → IsValue (around g k n) v → AreQuiet (makes v || not (is_plain (shape_of v))) d.variables hs → Stage g k h (calls_in v) d ((ways (context_of g k) v).unused d)
     → Laid g k h x w ((ways (context_of g k) v).unused d).point hs → Laid g k h x (work.Evaluate v (work.Drop w)) d.point hs
 drop_laid g k h x v w n d hs same fits quiet s l =
     let c = context_of g k in
     let r = (ways c v).value d in
     let gv = (ways_grow c v).value d in
     let f = rows.dropped (shape_of v) (type_of v) r in
-    let s' = subst (λ e. Stage g k h (led_to c (calls_in v)) d e) same s in
+    let s' = subst (λ e. Stage g k h (calls_in v) d e) same s in
     let l' = subst (λ (e : Draft). Laid g k h x w e.point hs) same l in
     let ns = stage_names g k h _ (In (led_to c (calls_in v))) d f s' (grows_trans gv (unless_grows (In (led_to c (calls_in v))) (is_plain (shape_of v)) (type_of v) r)) in
     let le = gv.variables in
@@ -127,11 +127,11 @@ unused_laid g k h x (tree.step op q o (tree.scalar t y) prefix) w p hs l = advan
 unused_laid g k h x (tree.step op q o (tree.element t y r i) true) w p hs (d, n, is, fits, quiet, s, l) =
     let b = program.array_of g.program k t y in
     subst (λ m. Laid g k h x (meaning.reload r b i meaning.one (work.Renew op q o r b w)) m hs) is
-    (renew_laid g k h x op q o r t y i meaning.one w n d hs fits.1.0 fits.1.1 one_in (quiet refl) (subst (λ zs. Stage g k h (led_to (context_of g k) zs) d (performed (context_of g k) (tree.unused (tree.step op q o (tree.element t y r i) true)) d)) (sym (nothing_behind (calls_in i))) s) l)
+    (renew_laid g k h x op q o r t y i meaning.one w n d hs fits.1.0 fits.1.1 one_in (quiet refl) (subst (λ zs. Stage g k h zs d (performed (context_of g k) (tree.unused (tree.step op q o (tree.element t y r i) true)) d)) (sym (nothing_behind (calls_in i))) s) l)
 unused_laid g k h x (tree.step op q o (tree.element t y r i) false) w p hs (d, n, is, fits, quiet, s, l) =
     let b = program.array_of g.program k t y in
     subst (λ m. Laid g k h x (meaning.reload r b i meaning.one (work.Renew op q o r b w)) m hs) is
-    (renew_laid g k h x op q o r t y i meaning.one w n d hs fits.1.0 fits.1.1 one_in (quiet refl) (subst (λ zs. Stage g k h (led_to (context_of g k) zs) d (performed (context_of g k) (tree.unused (tree.step op q o (tree.element t y r i) false)) d)) (sym (nothing_behind (calls_in i))) s) l)
+    (renew_laid g k h x op q o r t y i meaning.one w n d hs fits.1.0 fits.1.1 one_in (quiet refl) (subst (λ zs. Stage g k h zs d (performed (context_of g k) (tree.unused (tree.step op q o (tree.element t y r i) false)) d)) (sym (nothing_behind (calls_in i))) s) l)
 unused_laid g k h x (tree.call t f m q es) w p hs l = by_drop g k h x (tree.call t f m q es) w p hs (λ d. refl) l
 unused_laid g k h x (tree.any t q) w p hs l = by_drop g k h x (tree.any t q) w p hs (λ d. refl) l
 unused_laid g k h x (tree.unary op q t e) w p hs l = by_drop g k h x (tree.unary op q t e) w p hs (λ d. refl) l
@@ -147,9 +147,9 @@ unused_laid g k h x (tree.then_value f v) w p hs (d, n, is, fits, quiet, s, l) =
     let gv = (ways_grow c v).unused e in
     let whole = makes_effect f || makes v in
     let rest = not (is_plain (shape_of v)) in
-    (d, n, is, fits.0, (λ m. quiet (or_first whole rest (or_first (makes_effect f) (makes v) m))), stage_front g k h c (calls_in_effect f) (calls_in v) d e ((ways c v).unused e) s gv,
+    (d, n, is, fits.0, (λ m. quiet (or_first whole rest (or_first (makes_effect f) (makes v) m))), stage_first g k h (calls_in_effect f) (calls_in v) d e ((ways c v).unused e) s gv,
     (e, n, refl, fits.1, (λ m. calm_more d.variables e.variables hs gf.variables (quiet (regroup (makes_effect f) (makes v) rest m))),
-    stage_behind g k h c (In (led_to c (calls_in_effect f))) (calls_in_effect f) (calls_in v) d e ((ways c v).unused e) s gf, l)) where
+    stage_second g k h (In (led_to c (calls_in_effect f))) (calls_in_effect f) (calls_in v) d e ((ways c v).unused e) s gf, l)) where
       regroup : (a b c : Bool) → (b || c) ≡ true → ((a || b) || c) ≡ true
       regroup true b c h = refl
       regroup false b c h = h
@@ -175,13 +175,13 @@ then_effect_laid g k h x a b w p hs (d, n, is, fits, quiet, s, l) =
     let e = performed c a d in
     let ga = effect_grows c a d in
     let gb = effect_grows c b e in
-    (d, n, is, fits.0, (λ m. quiet (or_first (makes_effect a) (makes_effect b) m)), stage_front g k h c (calls_in_effect a) (calls_in_effect b) d e (performed c b e) s gb,
+    (d, n, is, fits.0, (λ m. quiet (or_first (makes_effect a) (makes_effect b) m)), stage_first g k h (calls_in_effect a) (calls_in_effect b) d e (performed c b e) s gb,
     (e, n, refl, fits.1, (λ m. calm_more d.variables e.variables hs ga.variables (quiet (or_second (makes_effect a) (makes_effect b) m))),
-    stage_behind g k h c (In (led_to c (calls_in_effect a))) (calls_in_effect a) (calls_in_effect b) d e (performed c b e) s ga, l))
+    stage_second g k h (In (led_to c (calls_in_effect a))) (calls_in_effect a) (calls_in_effect b) d e (performed c b e) s ga, l))
 
 -- an assumption, which holds from here on
 assumed_laid : (g : Whole) (k : ℕ) (h : Place) (x : Exits) (v : ValueTree) (w : Work) (n : ℕ) (d : Draft) (hs : List Held) → IsValue (around g k n) v → AreCalm d.variables hs
-    → Stage g k h (led_to (context_of g k) (calls_in v)) d (rows.assumed (ways (context_of g k) v) d) → Laid g k h x w d.points hs → Laid g k h x (work.Test v (Onward h w) Refused) d.point hs
+    → Stage g k h (calls_in v) d (rows.assumed (ways (context_of g k) v) d) → Laid g k h x w d.points hs → Laid g k h x (work.Test v (Onward h w) Refused) d.point hs
 assumed_laid g k h x v w n d hs fits calm s l =
     let c = context_of g k in
     let e = (ways c v).choice d.points 0 (fresh 1 d) in
@@ -193,7 +193,7 @@ pub assume_laid : (g : Whole) (k : ℕ) (h : Place) (x : Exits) (q : Pos) (v : V
     → Laid g k h x (work.Test (meaning.as_int v) (Onward h w) Refused) p hs
 unfolding ways performed IsValue IsEffect calls_in calls_in_effect
 assume_laid g k h x q v w p hs (d, n, is, fits, quiet, s, l) = by (represents Int (type_of v)) s where
-  by : (b : Bool) → Stage g k h (led_to (context_of g k) (calls_in v)) d (rows.assumed (if b then ways (context_of g k) v else rows.convert_ways Int (lowered (context_of g k) v)) d)
+  by : (b : Bool) → Stage g k h (calls_in v) d (rows.assumed (if b then ways (context_of g k) v else rows.convert_ways Int (lowered (context_of g k) v)) d)
       → Laid g k h x (work.Test (if b then v else tree.convert Int v) (Onward h w) Refused) p hs
   by true s = subst (λ m. Laid g k h x (work.Test v (Onward h w) Refused) m hs) is (assumed_laid g k h x v w n d hs fits (quiet refl) s l)
   by false s = subst (λ m. Laid g k h x (work.Test (tree.convert Int v) (Onward h w) Refused) m hs) is (assumed_laid g k h x (tree.convert Int v) w n d hs fits (quiet refl) s l)

@@ -11,7 +11,7 @@ use Rattle.pk_typed.specs.declared.values.Variable.TheVariants.{File, Local}
 use Rattle.pk_typed.specs.Trees.{ValueTree, FileObjectTree, LocalTree, StartTree}
 use Rattle.pk_typed.specs.Trees as tree
 use Rattle.pk_typed.specs.Types.{type_of}
-use Rattle.pk_welltyped.specs.Listed.{calls_at_place, calls_in}
+use Rattle.pk_welltyped.specs.Listed.{Numbered, calls_at_place, calls_in}
 use Rattle.pk_welltyped.specs.WellTyped.{Kind, scalar, array, IsArray, IsObject, IsPlace, IsValue, kind_in_file, kind_among, length_at_start}
 use Rattle.pk_graph.specs.Kinds.{count_of}
 use Rattle.pk_graph.specs.Trees.{constant, variable, converted, unary, binary, ArrayOf, Set, Havoc, Load, Store}
@@ -40,7 +40,7 @@ use Rattle.pk_visits.proofs.Grows.{grows_refl, grows_trans, emit_grows, temporar
 use Rattle.pk_visits.proofs.Growing.{lowered}
 use Rattle.pk_visits.proofs.Tells.{Tells, variable_is, shapes, sane}
 use Rattle.pk_visits.proofs.Stands.{Whole, context_of, Held, held, in_temporary, around, IsApart, AreApart, AreCalm, AreQuiet, IsPlain, ArePlain, HasKind, IsScalar, IsArrayOf, cells, Writes, Sets, Stage, led_to, Laid}
-use Rattle.pk_visits.proofs.Stages.{In, ways_grow, stage_front, stage_behind, stage_until, stage_from, stage_edge}
+use Rattle.pk_visits.proofs.Stages.{In, ways_grow, stage_first, stage_second, stage_until, stage_from, stage_edge}
 use Rattle.pk_visits.proofs.Operands.{UnlessLoose, all_own, all_temporary, calm_more, next_is, held_calm, keep_laid, two_laid}
 use Rattle.pk_visits.proofs.Trees.{stage_names, has_kind, writes_scalar}
 use Rattle.pk_visits.proofs.Operators.{one_in}
@@ -48,7 +48,7 @@ use Rattle.pk_visits.proofs.Doom.{calm_plain}
 
 -- ---- an edge that writes a new temporary
 
-pub writes_temporary : (g : Whole) (k : ℕ) (h : Place) (n : ℕ) (t : IntType) (i : Slot → Instr) (d r f : Draft) (hs : List Held) (C E : ℕ → Type 0) (xs : List ℕ)
+pub writes_temporary : (g : Whole) (k : ℕ) (h : Place) (n : ℕ) (t : IntType) (i : Slot → Instr) (d r f : Draft) (hs : List Held) (C E : ℕ → Type 0) (xs : List Numbered)
     → r.names ≡ slots → Stage g k h xs d f → Grows C d r → Grows E (emit (i (next_temporary r)) (with_temporary t r)) f → n ≤ r.variables → AreCalm n hs
     → Writes g k h r.point (temporary r.variables) (i (temporary r.variables)) r.points hs
 writes_temporary g k h n t i d r f hs C E xs ns s z u le calm =
@@ -269,7 +269,7 @@ quiet_loose false n hs c = tt
 -- not used
 pub put_laid : (g : Whole) (k : ℕ) (h : Place) (x : Exits) (at : Pos) (t : IntType) (y : Variable) (i e : ValueTree) (w : Work) (n : ℕ) (d : Draft) (hs : List Held)
     → IsArray (around g k n) t y → IsValue (around g k n) i → IsValue (around g k n) e → AreCalm d.variables hs
-    → Stage g k h (led_to (context_of g k) (calls_in i ++ calls_in e)) d (rows.put_unused t (site (context_of g k) at) (lower.array_of (context_of g k) y d) (lowered (context_of g k) i) (lowered (context_of g k) e) d)
+    → Stage g k h (calls_in i ++ calls_in e) d (rows.put_unused t (site (context_of g k) at) (lower.array_of (context_of g k) y d) (lowered (context_of g k) i) (lowered (context_of g k) e) d)
     → Laid g k h x w (rows.put_unused t (site (context_of g k) at) (lower.array_of (context_of g k) y d) (lowered (context_of g k) i) (lowered (context_of g k) e) d).point hs
     → Laid g k h x (work.Evaluate i (work.Keep (work.Evaluate e (work.Store at (program.array_of g.program k t y) w)))) d.point hs
 put_laid g k h x at t y i e w n d hs fa fi fe calm s l =
@@ -341,7 +341,7 @@ kept_laid g k h x q at t y i e w pt hs (d, n, is, fits, quiet, s, l) =
 -- index and right side, the element, and what comes behind
 reload_laid : (g : Whole) (k : ℕ) (h : Place) (x : Exits) (at : Pos) (t : IntType) (y : Variable) (i e : ValueTree) (w : Work) (n : ℕ) (d f : Draft) (hs : List Held)
     → d.names ≡ slots → IsArray (around g k n) t y → IsValue (around g k n) i → IsValue (around g k n) e → AreCalm d.variables hs
-    → Stage g k h (led_to (context_of g k) (calls_in i ++ calls_in e)) d f
+    → Stage g k h (calls_in i ++ calls_in e) d f
     → Grows (In []) (rows.loaded t (site (context_of g k) at) (lower.array_of (context_of g k) y d) (lowered (context_of g k) i) (lowered (context_of g k) e) d).draft f
     → Laid g k h x w (rows.loaded t (site (context_of g k) at) (lower.array_of (context_of g k) y d) (lowered (context_of g k) i) (lowered (context_of g k) e) d).draft.point
         (held (rows.loaded t (site (context_of g k) at) (lower.array_of (context_of g k) y d) (lowered (context_of g k) i) (lowered (context_of g k) e) d).element t
@@ -420,7 +420,7 @@ loaded_any c t s a i e d = loaded_grows Any t s a (lowered c i) (lowered c e) (s
 -- not used
 pub renew_laid : (g : Whole) (k : ℕ) (h : Place) (x : Exits) (op : Op) (q : Pos) (o : IntType) (at : Pos) (t : IntType) (y : Variable) (i e : ValueTree) (w : Work) (n : ℕ) (d : Draft) (hs : List Held)
     → IsArray (around g k n) t y → IsValue (around g k n) i → IsValue (around g k n) e → AreCalm d.variables hs
-    → Stage g k h (led_to (context_of g k) (calls_in i ++ calls_in e)) d
+    → Stage g k h (calls_in i ++ calls_in e) d
         (rows.renew_unused op (site (context_of g k) q) o t (site (context_of g k) at) (lower.array_of (context_of g k) y d) (type_of e) (rows.loaded t (site (context_of g k) at) (lower.array_of (context_of g k) y d) (lowered (context_of g k) i) (lowered (context_of g k) e) d))
     → Laid g k h x w (rows.renew_unused op (site (context_of g k) q) o t (site (context_of g k) at) (lower.array_of (context_of g k) y d) (type_of e) (rows.loaded t (site (context_of g k) at) (lower.array_of (context_of g k) y d) (lowered (context_of g k) i) (lowered (context_of g k) e) d)).point hs
     → Laid g k h x (meaning.reload at (program.array_of g.program k t y) i e (work.Renew op q o at (program.array_of g.program k t y) w)) d.point hs
@@ -466,7 +466,7 @@ replace_laid g k h x op q o at t y i w pt hs (d, n, is, fits, quiet, s, l) =
     let any2 = loaded_any c t (site c at) a i e d in
     let calm = quiet refl in
     let v = rows.held Weak (shape_of e) Int ((two (strong_or_weak false) (lowered c i) (lowered c e) d).second, (two (strong_or_weak false) (lowered c i) (lowered c e) d).draft) in
-    let s' = subst (λ zs. Stage g k h (led_to c zs) d f) (sym (nothing_behind (calls_in i))) s in
+    let s' = subst (λ zs. Stage g k h zs d f) (sym (nothing_behind (calls_in i))) s in
     let ns = stage_names g k h _ Any d f s (grows_trans any2 (emit_grows Any (j a) p.draft)) in
     let z = stage_edge g k h Any (In []) _ d p.draft f (j a) s any2 (grows_refl (In []) f) in
     let u = olds c t (site c at) a i e d ns in
@@ -488,7 +488,7 @@ replace_laid g k h x op q o at t y i w pt hs (d, n, is, fits, quiet, s, l) =
 -- used: what is written is given
 pub renewed_laid : (g : Whole) (k : ℕ) (h : Place) (x : Exits) (op : Op) (q : Pos) (o : IntType) (at : Pos) (t : IntType) (y : Variable) (i e : ValueTree) (w : Work) (n : ℕ) (d : Draft) (hs : List Held)
     → IsArray (around g k n) t y → IsValue (around g k n) i → IsValue (around g k n) e → AreCalm d.variables hs
-    → Stage g k h (led_to (context_of g k) (calls_in i ++ calls_in e)) d
+    → Stage g k h (calls_in i ++ calls_in e) d
         (rows.renew_used op (site (context_of g k) q) o t (site (context_of g k) at) (lower.array_of (context_of g k) y d) (type_of e) (rows.loaded t (site (context_of g k) at) (lower.array_of (context_of g k) y d) (lowered (context_of g k) i) (lowered (context_of g k) e) d)).1
     → Laid g k h x w (rows.renew_used op (site (context_of g k) q) o t (site (context_of g k) at) (lower.array_of (context_of g k) y d) (type_of e) (rows.loaded t (site (context_of g k) at) (lower.array_of (context_of g k) y d) (lowered (context_of g k) i) (lowered (context_of g k) e) d)).1.point
         (held (rows.renew_used op (site (context_of g k) q) o t (site (context_of g k) at) (lower.array_of (context_of g k) y d) (type_of e) (rows.loaded t (site (context_of g k) at) (lower.array_of (context_of g k) y d) (lowered (context_of g k) i) (lowered (context_of g k) e) d)).0 t ∷ hs)

@@ -6,7 +6,7 @@ use Rattle.pk_ctypes.specs.declared.types.IntType.TheVariants.{Int}
 use Rattle.pk_typed.specs.Trees.{ValueTree, EffectTree}
 use Rattle.pk_typed.specs.Trees as tree
 use Rattle.pk_typed.specs.Types.{type_of}
-use Rattle.pk_welltyped.specs.Listed.{calls_in, calls_in_effect}
+use Rattle.pk_welltyped.specs.Listed.{Numbered, calls_in, calls_in_effect}
 use Rattle.pk_welltyped.specs.WellTyped.{IsValue}
 use Rattle.pk_graph.specs.Trees.{constant, variable, Set}
 use Rattle.pk_draft.specs.Drafts.{Given, at, fresh, with_temporary, next_temporary, link}
@@ -22,7 +22,7 @@ use Rattle.pk_visits.proofs.Grows.{grows_refl, grows_trans, fresh_three_grows, t
 use Rattle.pk_visits.proofs.Growing.{lowered}
 use Rattle.pk_visits.proofs.Tells.{sane}
 use Rattle.pk_visits.proofs.Stands.{Whole, Leads, context_of, Held, held, in_temporary, around, AreCalm, AreQuiet, ArePlain, ShowsAt, Sets, Stage, led_to, LaidWay, Laid}
-use Rattle.pk_visits.proofs.Stages.{In, led_both, ways_grow, effect_grows, stage_first, stage_second, stage_front, stage_behind, stage_until, stage_from, stage_point, stage_room, three_first, three_second}
+use Rattle.pk_visits.proofs.Stages.{In, ways_grow, effect_grows, stage_first, stage_second, stage_until, stage_from, stage_point, stage_room, three_first, three_second}
 use Rattle.pk_visits.proofs.Operands.{all_temporary, calm_more, next_is}
 use Rattle.pk_visits.proofs.Trees.{stage_names}
 use Rattle.pk_visits.proofs.Doom.{calm_plain}
@@ -61,7 +61,7 @@ joined_after t choice a b x y z d =
     (grows_trans (z m) (link_grows Any (Set v q.0) (d.points + 2) q.1))))
 
 -- what is known of a join's parts, where its choice leads to the draft e
-record Parts (g : Whole) (k : ℕ) (h : Place) (t : IntType) (a b : Draft → Given Slot) (xs ys zs : List ℕ) (d e : Draft) (hs : List Held) : Type 0 where
+record Parts (g : Whole) (k : ℕ) (h : Place) (t : IntType) (a b : Draft → Given Slot) (xs ys zs : List Numbered) (d e : Draft) (hs : List Held) : Type 0 where
   pub test : Stage g k h xs (begun t d) e
   pub first : Stage g k h ys (at d.points e) (a (at d.points e)).1
   pub second : Stage g k h zs (middle a (next_temporary d) d.points e) (b (middle a (next_temporary d) d.points e)).1
@@ -71,8 +71,8 @@ record Parts (g : Whole) (k : ℕ) (h : Place) (t : IntType) (a b : Draft → Gi
   pub more_too : d.variables ≤ (middle a (next_temporary d) d.points e).variables
   pub after : Grows (λ z. Unit {0}) (begun t d) (rows.set_between (next_temporary d) (d.points + 2) (d.points + 2) (b (middle a (next_temporary d) d.points e)))
 
-parts : (g : Whole) (k : ℕ) (h : Place) (t : IntType) (a b : Draft → Given Slot) (xs ys zs : List ℕ) (d e : Draft) (hs : List Held) → Gives (In ys) a → Gives (In zs) b → Gives (λ z. Unit {0}) a → Gives (λ z. Unit {0}) b
-    → Grows (In xs) (begun t d) e → Grows (λ z. Unit {0}) (begun t d) e → d.names ≡ slots
+parts : (g : Whole) (k : ℕ) (h : Place) (t : IntType) (a b : Draft → Given Slot) (xs ys zs : List Numbered) (d e : Draft) (hs : List Held) → Gives (In (led_to (context_of g k) ys)) a → Gives (In (led_to (context_of g k) zs)) b → Gives (λ z. Unit {0}) a → Gives (λ z. Unit {0}) b
+    → Grows (In (led_to (context_of g k) xs)) (begun t d) e → Grows (λ z. Unit {0}) (begun t d) e → d.names ≡ slots
     → Stage g k h (xs ++ ys ++ zs) (begun t d) (rows.set_between (next_temporary d) (d.points + 2) (d.points + 2) (b (middle a (next_temporary d) d.points e))) → AreCalm d.variables hs
     → Parts g k h t a b xs ys zs d e hs
 parts g k h t a b xs ys zs d e hs ga gb any_a any_b ge any_e ns s calm =
@@ -92,7 +92,7 @@ parts g k h t a b xs ys zs d e hs ga gb any_a any_b ge any_e ns s calm =
     record {
       test = stage_first g k h xs ys (begun t d) e ra.1 sea' (ga (at d.points e));
       after = grows_trans toward (grows_trans (any_b m) (link_grows Any (Set y rb.0) o rb.1));
-      first = stage_second g k h (In xs) xs ys (begun t d) (at d.points e) ra.1 sea' ge;
+      first = stage_second g k h (In (led_to (context_of g k) xs)) xs ys (begun t d) (at d.points e) ra.1 sea' ge;
       second = stage_second g k h Any (xs ++ ys) zs (begun t d) m rb.1 sb toward;
       sets = sets_join g 0 d ra.1 lb ra.0 o hs Any s.marks s.later ns s.leads (grows_trans (any_b m) (link_grows Any (Set y rb.0) o rb.1)) calm;
       sets_too = sets_join g 0 d rb.1 lb rb.0 o hs Any s.marks s.later ns s.leads (grows_refl Any lb) calm;
@@ -101,17 +101,17 @@ parts g k h t a b xs ys zs d e hs ga gb any_a any_b ge any_e ns s calm =
     }
 
 -- the new points of a join are at its place
-join_room : (g : Whole) (k : ℕ) (h : Place) (xs : List ℕ) (t : IntType) (d f : Draft) → Stage g k h xs d f → Grows (λ z. Unit {0}) (begun t d) f → d.points + 3 ≤ length d.labels
+join_room : (g : Whole) (k : ℕ) (h : Place) (xs : List Numbered) (t : IntType) (d f : Draft) → Stage g k h xs d f → Grows (λ z. Unit {0}) (begun t d) f → d.points + 3 ≤ length d.labels
 join_room g k h xs t d f s u =
     let a = stage_room g k h (λ z. Unit {0}) xs d (begun t d) f s u in
     let q = (fresh_three_grows (In []) d).size in
     omega (arith, a, q)
 
-shows_first : (g : Whole) (k : ℕ) (h : Place) (xs : List ℕ) (t : IntType) (d f : Draft) → Stage g k h xs d f → Grows (λ z. Unit {0}) (begun t d) f → ShowsAt g d.points k h
+shows_first : (g : Whole) (k : ℕ) (h : Place) (xs : List Numbered) (t : IntType) (d f : Draft) → Stage g k h xs d f → Grows (λ z. Unit {0}) (begun t d) f → ShowsAt g d.points k h
 shows_first g k h xs t d f s u =
     stage_point g k h (λ z. Unit {0}) xs d (begun t d) f d.points s u (omega arith) (omega arith) (three_first d (join_room g k h xs t d f s u))
 
-shows_second : (g : Whole) (k : ℕ) (h : Place) (xs : List ℕ) (t : IntType) (d f : Draft) → Stage g k h xs d f → Grows (λ z. Unit {0}) (begun t d) f → ShowsAt g (d.points + 1) k h
+shows_second : (g : Whole) (k : ℕ) (h : Place) (xs : List Numbered) (t : IntType) (d f : Draft) → Stage g k h xs d f → Grows (λ z. Unit {0}) (begun t d) f → ShowsAt g (d.points + 1) k h
 shows_second g k h xs t d f s u =
     stage_point g k h (λ z. Unit {0}) xs d (begun t d) f (d.points + 1) s u (omega arith) (omega arith) (three_second d (join_room g k h xs t d f s u))
 
@@ -128,10 +128,10 @@ conditional_laid g k h x t e a b w p hs (d, n, is, fits, quiet, s, l) =
     let fa = rows.convert_value t (lowered c a) in
     let fb = rows.convert_value t (lowered c b) in
     let f = (rows.joined t choice fa fb d).1 in
-    let xs = led_to c (calls_in e) in
-    let ys = led_to c (calls_in a) in
-    let zs = led_to c (calls_in b) in
-    let split = subst (λ qs. Stage g k h qs d f) (led_both c (calls_in e ++ calls_in a) (calls_in b) ∙ ap (λ qs. qs ++ zs) (led_both c (calls_in e) (calls_in a))) s in
+    let xs = calls_in e in
+    let ys = calls_in a in
+    let zs = calls_in b in
+    let split : Stage g k h (xs ++ ys ++ zs) d f = s in
     let calm = quiet refl in
     let ns = (grows_trans (grows_trans (fresh_three_grows (λ z. Unit {0}) d) (temporary_grows (λ z. Unit {0}) t (fresh 3 d)))
         (joined_after t choice fa fb (sane c e).choice (λ r. (sane c a).value r) (λ r. (sane c b).value r) d)).names in
@@ -151,18 +151,18 @@ conditional_laid g k h x t e a b w p hs (d, n, is, fits, quiet, s, l) =
 
 -- ---- truths
 
-nothing_behind : (xs : List ℕ) → xs ++ [] ≡ xs
+nothing_behind : (xs : List Numbered) → xs ++ [] ≡ xs
 nothing_behind [] = refl
 nothing_behind (x ∷ xs) = ap (λ ys. x ∷ ys) (nothing_behind xs)
 
 -- a choice whose truth is the value
 truths_laid : (g : Whole) (k : ℕ) (h : Place) (x : Exits) (e : ValueTree) (w : Work) (choice : (p q : ℕ) → Draft → Draft) (n : ℕ) (d : Draft) (hs : List Held) → choice ≡ (ways (context_of g k) e).choice
     → Chooses (In (led_to (context_of g k) (calls_in e))) choice → Chooses (λ z. Unit {0}) choice → IsValue (around g k n) e → AreCalm d.variables hs
-    → Stage g k h (led_to (context_of g k) (calls_in e)) d (rows.truth_value choice d).1
+    → Stage g k h (calls_in e) d (rows.truth_value choice d).1
     → Laid g k h x w (d.points + 2) (held (variable (next_temporary d)) Int ∷ hs)
     → Laid g k h x (work.Test e (Onward h (work.Truth (pos 1) w)) (Onward h (work.Truth (pos 0) w))) d.point hs
 truths_laid g k h x e w choice n d hs same gc any_c fits calm s l =
-    let xs = led_to (context_of g k) (calls_in e) in
+    let xs = calls_in e in
     let fa : Draft → Given Slot = λ r. (constant Int (pos 1), r) in
     let fb : Draft → Given Slot = λ r. (constant Int (pos 0), r) in
     let f = (rows.joined Int choice fa fb d).1 in

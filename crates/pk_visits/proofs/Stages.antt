@@ -9,12 +9,16 @@ use Rattle.pk_draft.specs.Drafts.{no_label, emit, fresh}
 use Rattle.pk_lower_row.specs.Contexts.{Context, callee}
 use Rattle.pk_lower_expression.specs.Expressions.{ways, performed, passed}
 use Rattle.pk_meaning.specs.Work.{Place}
-use Rattle.pk_visits.proofs.Slots.{Slot, slots, Draft, Instr, Edge, edge, Among, Keeps, Grows, Never, label_at, region_at, last_among}
+use Rattle.pk_visits.proofs.Slots.{Slot, slots, Draft, Instr, Edge, edge, Among, Keeps, Grows, Never, label_at, region_at, front_among, last_among}
 use Rattle.pk_visits.proofs.Grows.{WaysGrow, Makes, PassGrows, grows_refl}
 use Rattle.pk_visits.proofs.Growing.{AllCalled, values, effects, arguments}
-use Rattle.pk_visits.proofs.Stands.{Whole, ShowsAt, Leads, led_to, Distinct, Stage}
+use Rattle.pk_visits.proofs.Stands.{Whole, context_of, ShowsAt, Leads, led_to, Distinct, Stage}
 
 -- ---- lists
+
+pub back_among : {A : Type 0} (xs ys : List A) (x : A) → Among x ys → Among x (xs ++ ys)
+back_among [] ys x h = h
+back_among (z ∷ xs) ys x h = inr (back_among xs ys x h)
 
 pub among_front : (xs ys : List ℕ) (m : ℕ) → Among m xs → Among m (xs ++ ys)
 among_front [] ys m h = absurd h
@@ -94,42 +98,43 @@ leads_back g marks later cs d e s l = record {
   regions = λ k. regional cs later k (s.regions k) (l.regions k);
 }
 
-pub stage_first : (g : Whole) (k : ℕ) (h : Place) (xs ys : List ℕ) (d e f : Draft) → Stage g k h (xs ++ ys) d f → Grows (In ys) e f → Stage g k h xs d e
+pub stage_first : (g : Whole) (k : ℕ) (h : Place) (xs ys : List Numbered) (d e f : Draft) → Stage g k h (xs ++ ys) d f → Grows (In (led_to (context_of g k) ys)) e f → Stage g k h xs d e
 stage_first g k h xs ys d e f s t = record {
   marks = s.marks;
-  later = ys ++ s.later;
-  leads = leads_back g s.marks s.later ys e f t s.leads;
+  later = led ys ++ s.later;
+  leads = leads_back g s.marks s.later (led ys) e f t s.leads;
   bounded = s.bounded;
   here = s.here;
-  apart = λ m a b. by m a (among_either ys s.later m b);
-  distinct = distinct_front xs ys s.distinct;
+  apart = λ m a b. by m a (among_either (led ys) s.later m b);
+  distinct = distinct_front (led xs) (led ys) both;
   path = s.path;
+  noted = λ z a. s.noted z (front_among xs ys z a);
 } where
-  by : (m : ℕ) → Among m xs → Among m ys ⊎ Among m s.later → ⊥
-  by m a (inl b) = distinct_between xs ys m s.distinct a b
-  by m a (inr b) = s.apart m (among_front xs ys m a) b
+  led : List Numbered → List ℕ
+  led = led_to (context_of g k)
 
-pub stage_second : (g : Whole) (k : ℕ) (h : Place) (C : ℕ → Type 0) (xs ys : List ℕ) (d e f : Draft) → Stage g k h (xs ++ ys) d f → Grows C d e → Stage g k h ys e f
+  both : Distinct (led_to (context_of g k) xs ++ led_to (context_of g k) ys)
+  both = subst Distinct (led_both (context_of g k) xs ys) s.distinct
+
+  by : (m : ℕ) → Among m (led_to (context_of g k) xs) → Among m (led_to (context_of g k) ys) ⊎ Among m s.later → ⊥
+  by m a (inl b) = distinct_between (led_to (context_of g k) xs) (led_to (context_of g k) ys) m both a b
+  by m a (inr b) = s.apart m (subst (Among m) (sym (led_both (context_of g k) xs ys)) (among_front (led_to (context_of g k) xs) (led_to (context_of g k) ys) m a)) b
+
+pub stage_second : (g : Whole) (k : ℕ) (h : Place) (C : ℕ → Type 0) (xs ys : List Numbered) (d e f : Draft) → Stage g k h (xs ++ ys) d f → Grows C d e → Stage g k h ys e f
 stage_second g k h C xs ys d e f s t = record {
   marks = s.marks;
   later = s.later;
   leads = s.leads;
   bounded = λ q a. let b = s.bounded q a in let c = t.points in omega (arith, b, c);
   here = subst (λ (l : Label). g.shows l k h) (sym t.here) s.here;
-  apart = λ m a b. s.apart m (among_back xs ys m a) b;
-  distinct = distinct_back xs ys s.distinct;
+  apart = λ m a b. s.apart m (subst (Among m) (sym (led_both (context_of g k) xs ys)) (among_back (led_to (context_of g k) xs) (led_to (context_of g k) ys) m a)) b;
+  distinct = distinct_back (led_to (context_of g k) xs) (led_to (context_of g k) ys) (subst Distinct (led_both (context_of g k) xs ys) s.distinct);
   path = s.path;
+  noted = λ z a. s.noted z (back_among xs ys z a);
 }
 
--- by the calls of trees
-pub stage_front : (g : Whole) (k : ℕ) (h : Place) (c : Context) (xs ys : List Numbered) (d e f : Draft) → Stage g k h (led_to c (xs ++ ys)) d f → Grows (In (led_to c ys)) e f → Stage g k h (led_to c xs) d e
-stage_front g k h c xs ys d e f s t = stage_first g k h (led_to c xs) (led_to c ys) d e f (subst (λ zs. Stage g k h zs d f) (led_both c xs ys) s) t
-
-pub stage_behind : (g : Whole) (k : ℕ) (h : Place) (c : Context) (C : ℕ → Type 0) (xs ys : List Numbered) (d e f : Draft) → Stage g k h (led_to c (xs ++ ys)) d f → Grows C d e → Stage g k h (led_to c ys) e f
-stage_behind g k h c C xs ys d e f s t = stage_second g k h C (led_to c xs) (led_to c ys) d e f (subst (λ zs. Stage g k h zs d f) (led_both c xs ys) s) t
-
 -- the same calls, up to an earlier draft; and from a later one
-pub stage_until : (g : Whole) (k : ℕ) (h : Place) (xs : List ℕ) (d e f : Draft) → Stage g k h xs d f → Grows (In []) e f → Stage g k h xs d e
+pub stage_until : (g : Whole) (k : ℕ) (h : Place) (xs : List Numbered) (d e f : Draft) → Stage g k h xs d f → Grows (In []) e f → Stage g k h xs d e
 stage_until g k h xs d e f s t = record {
   marks = s.marks;
   later = s.later;
@@ -139,9 +144,10 @@ stage_until g k h xs d e f s t = record {
   apart = s.apart;
   distinct = s.distinct;
   path = s.path;
+  noted = s.noted;
 }
 
-pub stage_from : (g : Whole) (k : ℕ) (h : Place) (C : ℕ → Type 0) (xs : List ℕ) (d e f : Draft) → Stage g k h xs d f → Grows C d e → Stage g k h xs e f
+pub stage_from : (g : Whole) (k : ℕ) (h : Place) (C : ℕ → Type 0) (xs : List Numbered) (d e f : Draft) → Stage g k h xs d f → Grows C d e → Stage g k h xs e f
 stage_from g k h C xs d e f s t = record {
   marks = s.marks;
   later = s.later;
@@ -151,6 +157,7 @@ stage_from g k h C xs d e f s t = record {
   apart = s.apart;
   distinct = s.distinct;
   path = s.path;
+  noted = s.noted;
 }
 
 -- a point that a stage made is at its place
@@ -160,7 +167,7 @@ same_label n (inr a) (inl h) = absurd (n h)
 same_label n (inr a) (inr b) = b ∙ a
 
 -- an edge that a stage made, with its end
-pub stage_edge : (g : Whole) (k : ℕ) (h : Place) (C E : ℕ → Type 0) (xs : List ℕ) (d e f : Draft) (i : Instr) → Stage g k h xs d f → Grows C d e → Grows E (emit i e) f
+pub stage_edge : (g : Whole) (k : ℕ) (h : Place) (C E : ℕ → Type 0) (xs : List Numbered) (d e f : Draft) (i : Instr) → Stage g k h xs d f → Grows C d e → Grows E (emit i e) f
     → Among (edge e.point i e.points) g.edges × ShowsAt g e.points k h
 stage_edge g k h C E xs d e f i s t u = (there, shown) where
   there : Among (edge e.point i e.points) g.edges
@@ -181,7 +188,7 @@ stage_edge g k h C E xs d e f i s t u = (there, shown) where
 -- ---- points
 
 -- a point that was made at the stage's place shows it
-pub stage_point : (g : Whole) (k : ℕ) (h : Place) (E : ℕ → Type 0) (xs : List ℕ) (d e f : Draft) (q : ℕ) → Stage g k h xs d f → Grows E e f → d.points ≤ q → q < e.points → label_at e.labels q ≡ d.here → ShowsAt g q k h
+pub stage_point : (g : Whole) (k : ℕ) (h : Place) (E : ℕ → Type 0) (xs : List Numbered) (d e f : Draft) (q : ℕ) → Stage g k h xs d f → Grows E e f → d.points ≤ q → q < e.points → label_at e.labels q ≡ d.here → ShowsAt g q k h
 stage_point g k h E xs d e f q s u from to is = subst (λ (l : Label). g.shows l k h) (sym (label ∙ is)) s.here where
   unmarked : Among q s.marks → ⊥
   unmarked a = let b = s.bounded q a in absurd (omega (arith, b, from))
@@ -190,7 +197,7 @@ stage_point g k h E xs d e f q s u from to is = subst (λ (l : Label). g.shows l
   label = same_label unmarked (u.labels q to) (s.leads.labels q (let a = u.points in omega (arith, a, to)))
 
 -- there is room for the points of a stage
-pub stage_room : (g : Whole) (k : ℕ) (h : Place) (C : ℕ → Type 0) (xs : List ℕ) (d e f : Draft) → Stage g k h xs d f → Grows C e f → e.points ≤ length e.labels
+pub stage_room : (g : Whole) (k : ℕ) (h : Place) (C : ℕ → Type 0) (xs : List Numbered) (d e f : Draft) → Stage g k h xs d f → Grows C e f → e.points ≤ length e.labels
 stage_room g k h C xs d e f s u = let a = u.points in let b = s.leads.room in let c = u.size in omega (arith, a, b, c)
 
 set_same : (ls : List Label) (q : ℕ) (l : Label) → q < length ls → label_at (slice_set ls q l) q ≡ l

@@ -76,16 +76,18 @@ abbrev pub Distinct : List ℕ → Type 0
 Distinct [] = Unit {0}
 Distinct (x ∷ xs) = (Among x xs → ⊥) × Distinct xs
 
--- A tree that calls these paths is lowered on path k, at a place, from the draft d to e.
-pub record Stage (g : Whole) (k : ℕ) (h : Place) (calls : List ℕ) (d e : Draft) : Type 0 where
+-- A tree with these calls is lowered on path k, at a place, from the draft d to e.
+pub record Stage (g : Whole) (k : ℕ) (h : Place) (calls : List Numbered) (d e : Draft) : Type 0 where
   pub marks : List ℕ
   pub later : List ℕ
   pub leads : Leads g marks later e
   pub bounded : (q : ℕ) → Among q marks → q < d.points
   pub here : g.shows d.here k h
-  pub apart : (m : ℕ) → Among m calls → Among m later → ⊥
-  pub distinct : Distinct calls
+  pub apart : (m : ℕ) → Among m (led_to (context_of g k) calls) → Among m later → ⊥
+  pub distinct : Distinct (led_to (context_of g k) calls)
   pub path : k < length g.program.paths
+  -- they are calls of the path's function
+  pub noted : (z : Numbered) → Among z calls → Among z (calls_in_items (block_of g.program k).items)
 
 -- ---- values that wait
 
@@ -268,7 +270,7 @@ pub record Loops (g : Whole) (k : ℕ) (h : Place) (x : Exits) (l : Loop) (p c e
   pub draft : Draft
   pub at : draft.point ≡ p
   pub fits : IsLoop (around g k objects) mark l
-  pub stage : Stage g k h (led_to (context_of g k) (calls_in_loop l)) draft (loop_from (context_of g k) h.at l x begin c e draft)
+  pub stage : Stage g k h (calls_in_loop l) draft (loop_from (context_of g k) h.at l x begin c e draft)
   pub marking : Marking x mark stage.marks
   pub calm : AreCalm draft.variables hs
 
@@ -316,7 +318,7 @@ pub record Body (g : Whole) (k : ℕ) (x : Exits) (hs : List Held) : Type 0 wher
   pub mark : Marks
   pub fits : AreItems (around g k objects) mark (block_of g.program k).items
   pub calm : AreCalm draft.variables hs
-  pub stage : Stage g k (place draft.here.at (body_scope g.program k)) (led_to (context_of g k) (calls_in_items (block_of g.program k).items)) draft (lowered_items (context_of g k) (block_of g.program k).items x draft)
+  pub stage : Stage g k (place draft.here.at (body_scope g.program k)) (calls_in_items (block_of g.program k).items) draft (lowered_items (context_of g k) (block_of g.program k).items x draft)
   pub marking : Marking x mark stage.marks
   pub ended : Ended g k x (lowered_items (context_of g k) (block_of g.program k).items x draft).point hs
 
@@ -339,7 +341,7 @@ abbrev mutual
 
   pub LaidAhead : Whole → (k : ℕ) → Exits → Ahead → (p : ℕ) → List Held → Type 0
   LaidAhead g k x (Rest xs is a) p hs = (d : Draft) × (n : ℕ) × (m : Marks) × (d.point ≡ p) × AreItems (around g k n) m is × AreCalm d.variables hs
-      × (s : Stage g k (place d.here.at xs) (led_to (context_of g k) (calls_in_items is)) d (lowered_items (context_of g k) is x d)) × Marking x m s.marks
+      × (s : Stage g k (place d.here.at xs) (calls_in_items is) d (lowered_items (context_of g k) is x d)) × Marking x m s.marks
       × LaidAhead g k x a (lowered_items (context_of g k) is x d).point hs
   LaidAhead g k x (Join h a) p hs = (q : ℕ) × Among (edge p Skip q) g.edges × ShowsAt g q k h × LaidAhead g k x a q hs
   LaidAhead g k x (Again h l e a) p hs = (y : Exits) × (b : ℕ) × Among (edge p Skip x.continued) g.edges × ShowsAt g x.continued k h × (x ≡ inside x.broken x.continued y)
@@ -352,18 +354,18 @@ abbrev mutual
   pub Laid : Whole → (k : ℕ) → Place → Exits → Work → (p : ℕ) → List Held → Type 0
   Laid g k h x (Go a) p hs = ArePlain hs × LaidAhead g k x a p hs
   Laid g k h x (Do s a) p hs = (d : Draft) × (n : ℕ) × (m : Marks) × (d.point ≡ p) × IsStatement (around g k n) m s × AreCalm d.variables hs
-      × (t : Stage g k h (led_to (context_of g k) (calls_in_statement s)) d (lowered (context_of g k) s x d)) × Marking x m t.marks
+      × (t : Stage g k h (calls_in_statement s) d (lowered (context_of g k) s x d)) × Marking x m t.marks
       × LaidAhead g k x a (lowered (context_of g k) s x d).point hs
   Laid g k h x (Declare ds w) p hs = (d : Draft) × (n : ℕ) × (d.point ≡ p) × AreDeclared (around g k n) ds × AreCalm d.variables hs
-      × Stage g k h (led_to (context_of g k) (calls_in_all_declared ds)) d (all_declared (context_of g k) ds d)
+      × Stage g k h (calls_in_all_declared ds) d (all_declared (context_of g k) ds d)
       × Laid g k (place_after g.program k ds h) x w (all_declared (context_of g k) ds d).point hs
   Laid g k h x (Perform e w) p hs = (d : Draft) × (n : ℕ) × (d.point ≡ p) × IsEffect (around g k n) e × AreQuiet (makes_effect e) d.variables hs
-      × Stage g k h (led_to (context_of g k) (calls_in_effect e)) d (performed (context_of g k) e d) × Laid g k h x w (performed (context_of g k) e d).point hs
+      × Stage g k h (calls_in_effect e) d (performed (context_of g k) e d) × Laid g k h x w (performed (context_of g k) e d).point hs
   Laid g k h x (Evaluate e w) p hs = (d : Draft) × (n : ℕ) × (d.point ≡ p) × IsValue (around g k n) e × AreQuiet (makes e) d.variables hs
-      × Stage g k h (led_to (context_of g k) (calls_in e)) d ((ways (context_of g k) e).value d).1
+      × Stage g k h (calls_in e) d ((ways (context_of g k) e).value d).1
       × Laid g k h x w ((ways (context_of g k) e).value d).1.point (held ((ways (context_of g k) e).value d).0 (type_of e) ∷ hs)
   Laid g k h x (Test e y n) p hs = (d : Draft) × (m : ℕ) × (i : ℕ) × (j : ℕ) × (d.point ≡ p) × IsValue (around g k m) e × AreCalm d.variables hs
-      × Stage g k h (led_to (context_of g k) (calls_in e)) d ((ways (context_of g k) e).choice i j d) × LaidWay g k y i hs × LaidWay g k n j hs
+      × Stage g k h (calls_in e) d ((ways (context_of g k) e).choice i j d) × LaidWay g k y i hs × LaidWay g k n j hs
   -- the tree waits as it is, or in a temporary
   Laid g k h x (Keep w) p hs = OnTop hs (λ a rest. Laid g k h x w p (a ∷ rest)
       ⊎ ((q : ℕ) × (n : ℕ) × Writes g k h p (temporary n) (Set (temporary n) a.tree) q rest × Laid g k h x w q (in_temporary n a.int_type ∷ rest)))
@@ -400,12 +402,12 @@ abbrev mutual
   Laid g k h x (Replace op at o r a w) p hs = OnThree hs (λ i b e rest. (q : ℕ) × ArePlain (e ∷ b ∷ i ∷ rest) × IsArrayOf g a × (e.int_type ≡ a.int_type)
       × Writes g k h p (own a.object) (Store (cells a) (site_at k r) false i.tree (updated_tree op (site_at k at) o a.int_type b.int_type e.tree b.tree)) q (e ∷ rest) × Laid g k h x w q (e ∷ rest))
   Laid g k h x (Fill a j es w) p hs = (d : Draft) × (n : ℕ) × (i : ℕ) × (d.point ≡ p) × (a ≡ local_array g k i) × IsArrayOf g a × AreValues (around g k n) es × (j + count es ≤ a.length)
-      × AreCalm d.variables hs × Stage g k h (led_to (context_of g k) (calls_in_values es)) d (items (context_of g k) i j es d) × Laid g k h x w (items (context_of g k) i j es d).point hs
+      × AreCalm d.variables hs × Stage g k h (calls_in_values es) d (items (context_of g k) i j es d) × Laid g k h x w (items (context_of g k) i j es d).point hs
   Laid g k h x (Item a j w) p hs = OnTop hs (λ b rest. (q : ℕ) × (s : Site) × (j < a.length) × IsArrayOf g a
       × Writes g k h p (own a.object) (Store (cells a) s false (constant Int (pos j)) (conversion b.int_type a.int_type b.tree)) q rest × Laid g k h x w q rest)
   Laid g k h x (Claim at w) p hs = OnTop hs (λ a rest. ArePlain rest × (q : ℕ) × Among (edge p (Check (site_at k at) (conversion a.int_type Int a.tree)) q) g.edges × ShowsAt g q k h × Laid g k h x w q rest)
   Laid g k h x (Pass es w) p hs = (d : Draft) × (n : ℕ) × (d.point ≡ p) × AreValues (around g k n) es × AreQuiet (any_makes es) d.variables hs
-      × Stage g k h (led_to (context_of g k) (calls_in_values es)) d (passed (context_of g k) es d).draft
+      × Stage g k h (calls_in_values es) d (passed (context_of g k) es d).draft
       × Laid g k h x w (passed (context_of g k) es d).draft.point (pushed es (passed (context_of g k) es d).trees hs)
   Laid g k h x (Bind m i ts w) p hs = Binds g k h m i ts (Laid g k h x w) p hs
   Laid g k h x (Enter m w) p hs = (m < length g.program.paths) × ((region_at g.regions m).at ≡ p) × AreCalm (region_at g.regions m).variables hs
@@ -416,7 +418,7 @@ abbrev mutual
   Laid g k h x (Back j l e a) p hs = ArePlain hs × (b : ℕ) × (c : ℕ) × (o : ℕ) × Among (edge p Skip b) g.edges × ShowsAt g b k j × Loops g k j x l b c o hs × ContinuesAt l b c × ShowsAt g o k e × LaidAhead g k x a o hs
   Laid g k h x (Choose t zs i b s j a) p hs = OnTop hs (λ v rest. (d : Draft) × (n : ℕ) × (m : Marks) × (r : Site) × (total : ℕ) × (e : ℕ) × (d.point ≡ p) × (v.int_type ≡ t) × (total ≡ i + length zs)
       × IsStatement (around g k n) (WellTyped.in_switch total b m) s × AreCalm d.variables (v ∷ rest)
-      × (u : Stage g k j (led_to (context_of g k) (calls_in_statement s)) d (switch_from (context_of g k) r t v.tree zs i total e b s x d))
+      × (u : Stage g k j (calls_in_statement s) d (switch_from (context_of g k) r t v.tree zs i total e b s x d))
       × Marking (in_switch e total x) (WellTyped.in_switch total b m) u.marks × ShowsAt g e k j × LaidAhead g k x a e rest)
 
 -- The configuration stands at a point with a memory: the graph does its work from there, and has its objects.

@@ -11,7 +11,7 @@ use Rattle.pk_typed.specs.declared.values.Variable.TheVariants.{File, Local}
 use Rattle.pk_typed.specs.Trees.{PlaceTree, ValueTree, EffectTree}
 use Rattle.pk_typed.specs.Trees as tree
 use Rattle.pk_typed.specs.Types.{type_of}
-use Rattle.pk_welltyped.specs.Listed.{calls_at_place, calls_in, calls_in_effect}
+use Rattle.pk_welltyped.specs.Listed.{Numbered, calls_at_place, calls_in, calls_in_effect}
 use Rattle.pk_welltyped.specs.WellTyped.{Kind, scalar, IsObject, IsPlace, IsValue, IsEffect}
 use Rattle.pk_graph.specs.Trees.{constant, variable, Set}
 use Rattle.pk_draft.specs.Drafts.{emit}
@@ -32,12 +32,12 @@ use Rattle.pk_visits.proofs.Grows.{grows_refl, grows_trans, emit_grows, two_grow
 use Rattle.pk_visits.proofs.Growing.{lowered}
 use Rattle.pk_visits.proofs.Tells.{variable_is, sane}
 use Rattle.pk_visits.proofs.Stands.{Whole, context_of, Held, held, around, AreCalm, AreQuiet, HasKind, IsScalar, Writes, Stage, led_to, Laid}
-use Rattle.pk_visits.proofs.Stages.{In, ways_grow, effect_grows, stage_front, stage_behind, stage_until, stage_edge}
+use Rattle.pk_visits.proofs.Stages.{In, ways_grow, effect_grows, stage_first, stage_second, stage_until, stage_edge}
 use Rattle.pk_visits.proofs.Operands.{UnlessLoose, all_own, calm_more, two_laid}
 use Rattle.pk_visits.proofs.Doom.{calm_plain}
 
 -- the names of a draft at which a stage begins
-pub stage_names : (g : Whole) (k : ℕ) (h : Place) (xs : List ℕ) (C : ℕ → Type 0) (d f : Draft) → Stage g k h xs d f → Grows C d f → d.names ≡ slots
+pub stage_names : (g : Whole) (k : ℕ) (h : Place) (xs : List Numbered) (C : ℕ → Type 0) (d f : Draft) → Stage g k h xs d f → Grows C d f → d.names ≡ slots
 stage_names g k h xs C d f s z = sym z.names ∙ s.leads.names
 
 pub has_kind : (g : Whole) (k n : ℕ) (t : Kind) (y : Variable) → k < length g.program.paths → IsObject (around g k n) t y → HasKind g.program (object_of k y) t
@@ -54,7 +54,7 @@ or_second false b h = h
 
 -- ---- a scalar that is written by an edge
 
-pub writes_scalar : (g : Whole) (k : ℕ) (h : Place) (n : ℕ) (y : Variable) (e : Slot → SlotTree) (d r : Draft) (hs : List Held) (C : ℕ → Type 0) (xs : List ℕ)
+pub writes_scalar : (g : Whole) (k : ℕ) (h : Place) (n : ℕ) (y : Variable) (e : Slot → SlotTree) (d r : Draft) (hs : List Held) (C : ℕ → Type 0) (xs : List Numbered)
     → d.names ≡ slots → Stage g k h xs d (emit (Set (variable_of (context_of g k) y d) (e (variable_of (context_of g k) y d))) r) → Grows C d r → AreCalm n hs
     → Writes g k h r.point (own (object_of k y)) (Set (own (object_of k y)) (e (own (object_of k y)))) r.points hs
 writes_scalar g k h n y e d r hs C xs ns s z calm =
@@ -115,9 +115,9 @@ then_laid g k h x f v w p hs (d, n, is, fits, quiet, s, l) =
     let e = performed c f d in
     let gf = effect_grows c f d in
     let gv = (ways_grow c v).value e in
-    (d, n, is, fits.0, (λ m. quiet (or_first (makes_effect f) (makes v) m)), stage_front g k h c (calls_in_effect f) (calls_in v) d e ((ways c v).value e).1 s gv,
+    (d, n, is, fits.0, (λ m. quiet (or_first (makes_effect f) (makes v) m)), stage_first g k h (calls_in_effect f) (calls_in v) d e ((ways c v).value e).1 s gv,
     (e, n, refl, fits.1, (λ m. calm_more d.variables e.variables hs gf.variables (quiet (or_second (makes_effect f) (makes v) m))),
-    stage_behind g k h c (In (led_to c (calls_in_effect f))) (calls_in_effect f) (calls_in v) d e ((ways c v).value e).1 s gf, l))
+    stage_second g k h (In (led_to c (calls_in_effect f))) (calls_in_effect f) (calls_in v) d e ((ways c v).value e).1 s gf, l))
 
 -- ---- assignments to names
 
