@@ -31,6 +31,7 @@ grows_refl C d = record {
   size = refl;
   labels = λ n h. inr refl;
   regions = λ k. inr refl;
+  paths = refl;
   here = refl;
 }
 
@@ -50,6 +51,7 @@ keeps_trans t a b = record {
   size = b.size ∙ a.size;
   labels = λ n h. linked (a.labels n h) (b.labels n (let m = a.points in omega (arith, h, m)));
   regions = λ k. linked (a.regions k) (b.regions k);
+  paths = b.paths ∙ a.paths;
   here = t a.here b.here;
 }
 
@@ -73,6 +75,7 @@ link_grows C i q d = record {
   size = refl;
   labels = λ n h. inr refl;
   regions = λ k. inr refl;
+  paths = refl;
   here = refl;
 }
 
@@ -85,6 +88,7 @@ emit_grows C i d = record {
   size = length-set d.labels d.points d.here;
   labels = new_label Never d.labels d.points d.points d.here (omega arith);
   regions = λ k. inr refl;
+  paths = refl;
   here = refl;
 }
 
@@ -97,6 +101,7 @@ temporary_grows C t d = record {
   size = refl;
   labels = λ n h. inr refl;
   regions = λ k. inr refl;
+  paths = refl;
   here = refl;
 }
 
@@ -113,6 +118,7 @@ fresh_one_grows C d = record {
   size = length-set d.labels d.points d.here;
   labels = new_label Never d.labels d.points d.points d.here (omega arith);
   regions = λ k. inr refl;
+  paths = refl;
   here = refl;
 }
 
@@ -263,6 +269,7 @@ fresh_three_grows C d = record {
   labels = λ n h. linked (new_label Never d.labels d.points d.points d.here (omega arith) n h)
       (linked (new_label Never _ d.points (d.points + 1) d.here (omega arith) n h) (new_label Never _ d.points (d.points + 1 + 1) d.here (omega arith) n h));
   regions = λ k. inr refl;
+  paths = refl;
   here = refl;
 }
 
@@ -329,6 +336,7 @@ entered_grows C k s c d = record {
   size = refl;
   labels = λ n h. inr refl;
   regions = other_region C d.regions k _ c;
+  paths = length-set d.regions k _;
   here = refl;
 }
 

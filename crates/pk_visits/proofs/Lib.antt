@@ -18,3 +18,4 @@ mod Joined
 mod Conditions
 mod ElementTrees
 mod Effects
+mod Passing

@@ -78,6 +78,7 @@ pub record KeepsBy (R : Label → Label → Type 0) (Mark Called : ℕ → Type 
   pub size : length ks ≡ length ls
   pub labels : (n : ℕ) → n < p → Mark n ⊎ (label_at ks n ≡ label_at ls n)
   pub regions : (k : ℕ) → Called k ⊎ (region_at ts k ≡ region_at rs k)
+  pub paths : length ts ≡ length rs
   pub here : R h i
 
 abbrev pub Keeps : (R : Label → Label → Type 0) → (Mark Called : ℕ → Type 0) → Draft → Draft → Type 0

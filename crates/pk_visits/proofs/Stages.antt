@@ -96,6 +96,7 @@ leads_back g marks later cs d e s l = record {
   room = let a = s.points in let b = l.room in let c = s.size in omega (arith, a, b, c);
   labels = λ q h. composed (s.labels q h) (l.labels q (let a = s.points in omega (arith, h, a)));
   regions = λ k. regional cs later k (s.regions k) (l.regions k);
+  paths = sym s.paths ∙ l.paths;
 }
 
 pub stage_first : (g : Whole) (k : ℕ) (h : Place) (xs ys : List Numbered) (d e f : Draft) → Stage g k h (xs ++ ys) d f → Grows (In (led_to (context_of g k) ys)) e f → Stage g k h xs d e

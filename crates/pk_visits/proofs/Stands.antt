@@ -1,5 +1,5 @@
 -- At which points of a graph over slots a configuration stands: those whose edges do what it does next.
-use Rattle.std.specs.Prelude.{◌≡◌, ℕ, zero, suc, ◌+◌, ◌<◌, ◌≤◌, ◌⊎◌, List, [], ◌∷◌, ◌++◌, length, Bool, true, false, ℤ, pos, Option, Some, None, Ok, map, if◌then◌else◌}
+use Rattle.std.specs.Prelude.{◌≡◌, ℕ, zero, suc, ◌+◌, ◌<◌, ◌≤◌, ◌⊎◌, List, [], ◌∷◌, ◌++◌, length, Bool, true, false, ℤ, pos, Option, Some, None, Ok, map, slice_get, if◌then◌else◌}
 use Rattle.pk_ctypes.specs.declared.places.Pos.{Pos}
 use Rattle.pk_ctypes.specs.declared.types.IntType.{IntType}
 use Rattle.pk_ctypes.specs.declared.types.IntType.TheVariants.{Int}
@@ -27,7 +27,8 @@ use Rattle.pk_lower_expression.specs.Expressions.{ways, performed, passed}
 use Rattle.pk_lower_statement.specs.declared.statements.Exits.{Exits}
 use Rattle.pk_lower_statement.specs.Statements.{inside, in_switch, while_from, do_from, for_from, for_test, performed_if, lowered, lowered_items, all_declared, items, case_tests}
 use Rattle.pk_meaning.specs.Objects.{Object, file, local, result, Array, Objects, numbers_of, is_in_scope}
-use Rattle.pk_meaning.specs.Programs.{Program, function_of, block_of, local_of, with_local, body_scope, is_main}
+use Rattle.pk_meaning.specs.Programs as program
+use Rattle.pk_meaning.specs.Programs.{Program, function_number, function_of, block_of, local_of, with_local, body_scope, is_main}
 use Rattle.pk_meaning.specs.Work as work
 use Rattle.pk_meaning.specs.Work.{Place, Loop, While, DoWhile, For, Way, Onward, Refused, Lost, Caller, Nobody, Path, Ahead, Rest, Join, Again, Close, End, Work, Go, Do, Declare, Perform, Evaluate, Test, Keep, Branch, Apply, Operate, Convert, Settle, Truth, Drop, Assign, Put, Update, Advance, Fetch, Reload, StoreKept, Renew, Renewed, Replace, Fill, Item, Claim, Pass, Bind, Enter, Leave, Return, Turn, Back, Choose}
 use Rattle.pk_meaning.specs.Steps.{Config, place, body_place}
@@ -67,6 +68,7 @@ pub record Leads (g : Whole) (marks later : List ℕ) (d : Draft) : Type 0 where
   pub room : d.points ≤ length d.labels
   pub labels : (q : ℕ) → q < d.points → Among q marks ⊎ (label_at g.labels q ≡ label_at d.labels q)
   pub regions : (k : ℕ) → Among k later ⊎ (region_at g.regions k ≡ region_at d.regions k)
+  pub paths : length d.regions ≡ length g.program.paths
 
 -- the paths that calls lead to
 abbrev pub led_to : Context → List Numbered → List ℕ
@@ -88,6 +90,43 @@ pub record Stage (g : Whole) (k : ℕ) (h : Place) (calls : List Numbered) (d e 
   pub path : k < length g.program.paths
   -- they are calls of the path's function
   pub noted : (z : Numbered) → Among z calls → Among z (calls_in_items (block_of g.program k).items)
+
+-- ---- what fits
+
+-- behind n objects of the path's function
+abbrev pub around : Whole → (k n : ℕ) → Around
+around g k n = record { unit = g.program.unit; locals = (block_of g.program k).locals; objects = n }
+
+abbrev pub local_array : Whole → (k i : ℕ) → Array
+local_array g k i = let x = local_of g.program k i in record { object = local k i; int_type = x.int_type; length = count_of x.length }
+
+abbrev pub cells : Array → ArrayOf Slot
+cells a = record { variable = own a.object; length = a.length }
+
+-- an object of the program, of a kind
+abbrev pub HasKind : Program → Object → Kind → Type 0
+HasKind p (file i) n = kind_in_file p.unit i ≡ Some n
+HasKind p (local k i) n = (k < length p.paths) × (kind_among (block_of p k).locals i ≡ Some n)
+HasKind p (result k) n = (k < length p.paths) × (t : IntType) × ((function_of p k).returns ≡ Some t) × (n ≡ scalar t)
+
+abbrev pub IsScalar : Whole → Object → IntType → Type 0
+IsScalar g x t = HasKind g.program x (scalar t)
+
+abbrev pub IsArrayOf : Whole → Array → Type 0
+IsArrayOf g a = HasKind g.program a.object (array a.int_type a.length)
+
+-- each object holds as many numbers as its kind says, of its type
+abbrev pub FitsObjects : Program → Objects → Type 0
+FitsObjects p s = (x : Object) (n : Kind) → HasKind p x n → (length (numbers_of x s) ≡ count_of n.length) × (all_in_type n.int_type (numbers_of x s) ≡ true)
+
+-- What is known of the program and its paths. A call of a path's function leads to a path of the function that it names, behind the caller; in scope are objects of the file and of the path.
+pub record Proper (g : Whole) : Type 0 where
+  pub callees : (k : ℕ) (z : Numbered) → k < length g.program.paths → Among z (calls_in_items (block_of g.program k).items) → program.callee g.program k z.number ≡ callee (context_of g k) z.number
+  pub there : (k : ℕ) (z : Numbered) → k < length g.program.paths → Among z (calls_in_items (block_of g.program k).items) → callee (context_of g k) z.number < length g.program.paths
+  pub functions : (k : ℕ) (z : Numbered) → k < length g.program.paths → Among z (calls_in_items (block_of g.program k).items) → function_number g.program (callee (context_of g k) z.number) ≡ z.call.function
+  pub behind : (k : ℕ) (z : Numbered) → k < length g.program.paths → Among z (calls_in_items (block_of g.program k).items) → k < callee (context_of g k) z.number
+  pub scopes : (l : Label) (k m i : ℕ) (h : Place) → g.shows l k h → k < m → is_in_scope (local m i) h.scope ≡ false
+  pub parameters : (m i : ℕ) (t : IntType) → m < length g.program.paths → slice_get (function_of g.program m).parameters i ≡ Some t → HasKind g.program (local m i) (scalar t)
 
 -- ---- values that wait
 
@@ -170,34 +209,6 @@ pub record Passes (g : Whole) (k : ℕ) (h : Place) (n p : ℕ) (y : Object) (e 
   pub apart : AreApart (own y) hs
   pub hidden : is_in_scope y h.scope ≡ false
   pub plain : ArePlainUnder n hs
-
--- ---- what fits
-
--- behind n objects of the path's function
-abbrev pub around : Whole → (k n : ℕ) → Around
-around g k n = record { unit = g.program.unit; locals = (block_of g.program k).locals; objects = n }
-
-abbrev pub local_array : Whole → (k i : ℕ) → Array
-local_array g k i = let x = local_of g.program k i in record { object = local k i; int_type = x.int_type; length = count_of x.length }
-
-abbrev pub cells : Array → ArrayOf Slot
-cells a = record { variable = own a.object; length = a.length }
-
--- an object of the program, of a kind
-abbrev pub HasKind : Program → Object → Kind → Type 0
-HasKind p (file i) n = kind_in_file p.unit i ≡ Some n
-HasKind p (local k i) n = (k < length p.paths) × (kind_among (block_of p k).locals i ≡ Some n)
-HasKind p (result k) n = (k < length p.paths) × (t : IntType) × ((function_of p k).returns ≡ Some t) × (n ≡ scalar t)
-
-abbrev pub IsScalar : Whole → Object → IntType → Type 0
-IsScalar g x t = HasKind g.program x (scalar t)
-
-abbrev pub IsArrayOf : Whole → Array → Type 0
-IsArrayOf g a = HasKind g.program a.object (array a.int_type a.length)
-
--- each object holds as many numbers as its kind says, of its type
-abbrev pub FitsObjects : Program → Objects → Type 0
-FitsObjects p s = (x : Object) (n : Kind) → HasKind p x n → (length (numbers_of x s) ≡ count_of n.length) × (all_in_type n.int_type (numbers_of x s) ≡ true)
 
 -- ---- calls
 
