@@ -19,3 +19,4 @@ mod Conditions
 mod ElementTrees
 mod Effects
 mod Passing
+mod OwnReads

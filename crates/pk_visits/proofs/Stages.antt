@@ -134,6 +134,26 @@ stage_second g k h C xs ys d e f s t = record {
   noted = λ z a. s.noted z (back_among xs ys z a);
 }
 
+-- up to a draft behind which the first calls are made
+pub stage_last : (g : Whole) (k : ℕ) (h : Place) (xs ys : List Numbered) (d e f : Draft) → Stage g k h (xs ++ ys) d f → Grows (In (led_to (context_of g k) xs)) e f → Stage g k h ys d e
+stage_last g k h xs ys d e f s t = record {
+  marks = s.marks;
+  later = led_to (context_of g k) xs ++ s.later;
+  leads = leads_back g s.marks s.later (led_to (context_of g k) xs) e f t s.leads;
+  bounded = s.bounded;
+  here = s.here;
+  apart = λ m a b. by m a (among_either (led_to (context_of g k) xs) s.later m b);
+  distinct = distinct_back (led_to (context_of g k) xs) (led_to (context_of g k) ys) both;
+  path = s.path;
+  noted = λ z a. s.noted z (back_among xs ys z a);
+} where
+  both : Distinct (led_to (context_of g k) xs ++ led_to (context_of g k) ys)
+  both = subst Distinct (led_both (context_of g k) xs ys) s.distinct
+
+  by : (m : ℕ) → Among m (led_to (context_of g k) ys) → Among m (led_to (context_of g k) xs) ⊎ Among m s.later → ⊥
+  by m a (inl b) = distinct_between (led_to (context_of g k) xs) (led_to (context_of g k) ys) m both b a
+  by m a (inr b) = s.apart m (subst (Among m) (sym (led_both (context_of g k) xs ys)) (among_back (led_to (context_of g k) xs) (led_to (context_of g k) ys) m a)) b
+
 -- the same calls, up to an earlier draft; and from a later one
 pub stage_until : (g : Whole) (k : ℕ) (h : Place) (xs : List Numbered) (d e f : Draft) → Stage g k h xs d f → Grows (In []) e f → Stage g k h xs d e
 stage_until g k h xs d e f s t = record {
