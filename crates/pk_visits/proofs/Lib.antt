@@ -20,3 +20,4 @@ mod ElementTrees
 mod Effects
 mod Passing
 mod OwnReads
+mod Calling

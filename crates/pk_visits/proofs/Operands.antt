@@ -114,10 +114,10 @@ keep_laid g k h x w Strong s t r hs C E xs d f st u v n c l = keep_unless g k h 
 keep_laid g k h x w Weak s t r hs C E xs d f st u v n c l = keep_unless g k h x w (stays Weak s) t r hs C E xs d f st u v n c l
 
 -- where the second makes an edge the first is held strongly, so that it is calm
-first_calm : (how : Waiting) (s : Shape) (t : IntType) (r : Given Slot) → how ≡ Strong → r.1.names ≡ slots → Tells r.1.variables s r.0 → IsCalm (rows.held how s t r).1.variables (rows.held how s t r).0
+pub first_calm : (how : Waiting) (s : Shape) (t : IntType) (r : Given Slot) → how ≡ Strong → r.1.names ≡ slots → Tells r.1.variables s r.0 → IsCalm (rows.held how s t r).1.variables (rows.held how s t r).0
 first_calm how s t r is n h = subst (λ w. IsCalm (rows.held w s t r).1.variables (rows.held w s t r).0) (sym is) (held_calm s t r n h)
 
-unless_more : (how : Waiting) (m n : ℕ) (hs : List Held) → m ≤ n → UnlessLoose how (AreCalm m hs) → UnlessLoose how (AreApart (temporary n) hs × ArePlain hs)
+pub unless_more : (how : Waiting) (m n : ℕ) (hs : List Held) → m ≤ n → UnlessLoose how (AreCalm m hs) → UnlessLoose how (AreApart (temporary n) hs × ArePlain hs)
 unless_more Loose m n hs le c = tt
 unless_more Strong m n hs le c = (all_temporary m n hs le c, calm_plain m hs c)
 unless_more Weak m n hs le c = (all_temporary m n hs le c, calm_plain m hs c)
