@@ -21,3 +21,4 @@ mod Effects
 mod Passing
 mod OwnReads
 mod Calling
+mod Entering

@@ -333,6 +333,23 @@ pub record Body (g : Whole) (k : ℕ) (x : Exits) (hs : List Held) : Type 0 wher
   pub marking : Marking x mark stage.marks
   pub ended : Ended g k x (lowered_items (context_of g k) (block_of g.program k).items x draft).point hs
 
+-- The body of a path stands in the graph: from where the path is entered to its exit.
+pub record BodyOf (g : Whole) (m : ℕ) : Type 0 where
+  pub exits : Exits
+  pub draft : Draft
+  pub objects : ℕ
+  pub mark : Marks
+  pub enters : draft.point ≡ (region_at g.regions m).at
+  pub leaves : exits.left ≡ (region_at g.regions m).points
+  pub variables : (region_at g.regions m).variables ≤ draft.variables
+  pub fits : AreItems (around g m objects) mark (block_of g.program m).items
+  pub stage : Stage g m (place draft.here.at (body_scope g.program m)) (calls_in_items (block_of g.program m).items) draft (lowered_items (context_of g m) (block_of g.program m).items exits draft)
+  pub marking : Marking exits mark stage.marks
+  pub ended : (hs : List Held) → AreCalm draft.variables hs → Ended g m exits (lowered_items (context_of g m) (block_of g.program m).items exits draft).point hs
+
+abbrev pub BodiesStand : Whole → Type 0
+BodiesStand g = (m : ℕ) → m < length g.program.paths → BodyOf g m
+
 -- where a path stands behind declared objects
 abbrev pub place_after : Program → (path : ℕ) → List DeclaredTree → Place → Place
 place_after p k [] h = h
