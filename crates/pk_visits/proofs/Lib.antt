@@ -22,3 +22,4 @@ mod Passing
 mod OwnReads
 mod Calling
 mod Entering
+mod Evaluations
