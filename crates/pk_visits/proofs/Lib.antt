@@ -23,3 +23,4 @@ mod OwnReads
 mod Calling
 mod Entering
 mod Evaluations
+mod StatementGrows
