@@ -24,3 +24,4 @@ mod Calling
 mod Entering
 mod Evaluations
 mod StatementGrows
+mod Statements

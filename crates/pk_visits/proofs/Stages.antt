@@ -37,15 +37,15 @@ among_either (x ∷ xs) ys m (inr h) = by (among_either xs ys m h) where
   by (inl k) = inl (inr k)
   by (inr k) = inr k
 
-distinct_front : (xs ys : List ℕ) → Distinct (xs ++ ys) → Distinct xs
+pub distinct_front : (xs ys : List ℕ) → Distinct (xs ++ ys) → Distinct xs
 distinct_front [] ys h = tt
 distinct_front (x ∷ xs) ys h = (λ k. h.0 (among_front xs ys x k), distinct_front xs ys h.1)
 
-distinct_back : (xs ys : List ℕ) → Distinct (xs ++ ys) → Distinct ys
+pub distinct_back : (xs ys : List ℕ) → Distinct (xs ++ ys) → Distinct ys
 distinct_back [] ys h = h
 distinct_back (x ∷ xs) ys h = distinct_back xs ys h.1
 
-distinct_between : (xs ys : List ℕ) (m : ℕ) → Distinct (xs ++ ys) → Among m xs → Among m ys → ⊥
+pub distinct_between : (xs ys : List ℕ) (m : ℕ) → Distinct (xs ++ ys) → Among m xs → Among m ys → ⊥
 distinct_between [] ys m h a b = a
 distinct_between (x ∷ xs) ys m h (inl e) b = h.0 (among_back xs ys x (subst (λ z. Among z ys) e b))
 distinct_between (x ∷ xs) ys m h (inr a) b = distinct_between xs ys m h.1 a b
@@ -252,3 +252,72 @@ pub three_third : (d : Draft) → d.points + 3 ≤ length d.labels → label_at 
 three_third d r =
     set_same (slice_set (slice_set d.labels d.points d.here) (d.points + 1) d.here) (d.points + 1 + 1) d.here
     (let y = length-set d.labels d.points d.here in let z = length-set (slice_set d.labels d.points d.here) (d.points + 1) d.here in omega (arith, r, y, z))
+
+-- ---- stages of statements
+
+marked : {A B : Type 0} {x y z : A} → B ⊎ (y ≡ x) → B ⊎ (z ≡ y) → B ⊎ (z ≡ x)
+marked (inl h) b = inl h
+marked (inr a) (inl h) = inl h
+marked (inr a) (inr b) = inr (b ∙ a)
+
+pub leads_behind : (g : Whole) (R : Label → Label → Type 0) (marks later cs : List ℕ) (d e : Draft) → Keeps R (In marks) (In cs) d e → Leads g marks later e → Leads g marks (cs ++ later) d
+leads_behind g R marks later cs d e s l = record {
+  edges = λ x h. l.edges x (s.edges x h);
+  names = sym s.names ∙ l.names;
+  room = let a = s.points in let b = l.room in let c = s.size in omega (arith, a, b, c);
+  labels = λ q h. marked (s.labels q h) (l.labels q (let a = s.points in omega (arith, h, a)));
+  regions = λ k. regional cs later k (s.regions k) (l.regions k);
+  paths = sym s.paths ∙ l.paths;
+}
+
+-- up to a draft behind which the later calls are made
+abbrev pub part_first : (g : Whole) (R : Label → Label → Type 0) (k : ℕ) (h : Place) (xs ys : List Numbered) (d e f : Draft) (s : Stage g k h (xs ++ ys) d f) → Keeps R (In s.marks) (In (led_to (context_of g k) ys)) e f → Stage g k h xs d e
+part_first g R k h xs ys d e f s t = record {
+  marks = s.marks;
+  later = led_to (context_of g k) ys ++ s.later;
+  leads = leads_behind g R s.marks s.later (led_to (context_of g k) ys) e f t s.leads;
+  bounded = s.bounded;
+  here = s.here;
+  apart = λ m a b. by m a (among_either (led_to (context_of g k) ys) s.later m b);
+  distinct = distinct_front (led_to (context_of g k) xs) (led_to (context_of g k) ys) both;
+  path = s.path;
+  noted = λ z a. s.noted z (front_among xs ys z a);
+} where
+  both : Distinct (led_to (context_of g k) xs ++ led_to (context_of g k) ys)
+  both = subst Distinct (led_both (context_of g k) xs ys) s.distinct
+
+  by : (m : ℕ) → Among m (led_to (context_of g k) xs) → Among m (led_to (context_of g k) ys) ⊎ Among m s.later → ⊥
+  by m a (inl b) = distinct_between (led_to (context_of g k) xs) (led_to (context_of g k) ys) m both a b
+  by m a (inr b) = s.apart m (subst (Among m) (sym (led_both (context_of g k) xs ys)) (among_front (led_to (context_of g k) xs) (led_to (context_of g k) ys) m a)) b
+
+-- from a later draft, at a place of its own
+abbrev pub part_second : (g : Whole) (k : ℕ) (h j : Place) (xs ys : List Numbered) (d e f : Draft) → Stage g k h (xs ++ ys) d f → d.points ≤ e.points → g.shows e.here k j → Stage g k j ys e f
+part_second g k h j xs ys d e f s le here = record {
+  marks = s.marks;
+  later = s.later;
+  leads = s.leads;
+  bounded = λ q a. let b = s.bounded q a in omega (arith, b, le);
+  here = here;
+  apart = λ m a b. s.apart m (subst (Among m) (sym (led_both (context_of g k) xs ys)) (among_back (led_to (context_of g k) xs) (led_to (context_of g k) ys) m a)) b;
+  distinct = distinct_back (led_to (context_of g k) xs) (led_to (context_of g k) ys) (subst Distinct (led_both (context_of g k) xs ys) s.distinct);
+  path = s.path;
+  noted = λ z a. s.noted z (back_among xs ys z a);
+}
+
+-- the same calls at a place of their own
+abbrev pub stage_at : (g : Whole) (k : ℕ) (h j : Place) (xs : List Numbered) (d e f : Draft) → Stage g k h xs d f → d.points ≤ e.points → g.shows e.here k j → Stage g k j xs e f
+stage_at g k h j xs d e f s le here = part_second g k h j [] xs d e f s le here
+
+-- up to a draft behind which no calls are made
+abbrev pub part_until : (g : Whole) (R : Label → Label → Type 0) (k : ℕ) (h : Place) (xs : List Numbered) (d e f : Draft) (s : Stage g k h xs d f) → Keeps R (In s.marks) (In []) e f → Stage g k h xs d e
+part_until g R k h xs d e f s t = record {
+  marks = s.marks;
+  later = s.later;
+  leads = leads_behind g R s.marks s.later [] e f t s.leads;
+  bounded = s.bounded;
+  here = s.here;
+  apart = s.apart;
+  distinct = s.distinct;
+  path = s.path;
+  noted = s.noted;
+}

@@ -26,7 +26,7 @@ use Rattle.pk_lower_row.specs.Rows.{one_tree}
 use Rattle.pk_lower_expression.specs.Expressions.{ways, performed, passed}
 use Rattle.pk_lower_statement.specs.declared.statements.Exits.{Exits}
 use Rattle.pk_lower_statement.specs.Statements.{inside, in_switch, while_from, do_from, for_from, for_test, performed_if, lowered, lowered_items, all_declared, items, case_tests}
-use Rattle.pk_meaning.specs.Objects.{Object, file, local, result, Array, Objects, numbers_of, is_in_scope}
+use Rattle.pk_meaning.specs.Objects.{Object, Scope, file, local, result, Array, Objects, numbers_of, is_in_scope}
 use Rattle.pk_meaning.specs.Programs as program
 use Rattle.pk_meaning.specs.Programs.{Program, function_number, function_of, block_of, local_of, with_local, body_scope, is_main}
 use Rattle.pk_meaning.specs.Work as work
@@ -125,6 +125,8 @@ pub record Proper (g : Whole) : Type 0 where
   pub there : (k : ℕ) (z : Numbered) → k < length g.program.paths → Among z (calls_in_items (block_of g.program k).items) → callee (context_of g k) z.number < length g.program.paths
   pub functions : (k : ℕ) (z : Numbered) → k < length g.program.paths → Among z (calls_in_items (block_of g.program k).items) → function_number g.program (callee (context_of g k) z.number) ≡ z.call.function
   pub behind : (k : ℕ) (z : Numbered) → k < length g.program.paths → Among z (calls_in_items (block_of g.program k).items) → k < callee (context_of g k) z.number
+  -- the position of a label may change
+  pub positions : (l : Label) (k : ℕ) (xs : Scope) (q : Pos) → g.shows l k (place l.at xs) → g.shows (record { at = q; path = l.path; scope = l.scope }) k (place q xs)
   pub scopes : (l : Label) (k m i : ℕ) (h : Place) → g.shows l k h → k < m → is_in_scope (local m i) h.scope ≡ false
   pub parameters : (m i : ℕ) (t : IntType) → m < length g.program.paths → slice_get (function_of g.program m).parameters i ≡ Some t → HasKind g.program (local m i) (scalar t)
 
@@ -382,10 +384,10 @@ abbrev mutual
   pub Laid : Whole → (k : ℕ) → Place → Exits → Work → (p : ℕ) → List Held → Type 0
   Laid g k h x (Go a) p hs = ArePlain hs × LaidAhead g k x a p hs
   Laid g k h x (Do s a) p hs = (d : Draft) × (n : ℕ) × (m : Marks) × (d.point ≡ p) × IsStatement (around g k n) m s × AreCalm d.variables hs
-      × (t : Stage g k h (calls_in_statement s) d (lowered (context_of g k) s x d)) × Marking x m t.marks
+      × (t : Stage g k (place d.here.at h.scope) (calls_in_statement s) d (lowered (context_of g k) s x d)) × Marking x m t.marks
       × LaidAhead g k x a (lowered (context_of g k) s x d).point hs
   Laid g k h x (Declare ds w) p hs = (d : Draft) × (n : ℕ) × (d.point ≡ p) × AreDeclared (around g k n) ds × AreCalm d.variables hs
-      × Stage g k h (calls_in_all_declared ds) d (all_declared (context_of g k) ds d)
+      × Stage g k (place d.here.at h.scope) (calls_in_all_declared ds) d (all_declared (context_of g k) ds d)
       × Laid g k (place_after g.program k ds h) x w (all_declared (context_of g k) ds d).point hs
   Laid g k h x (Perform e w) p hs = (d : Draft) × (n : ℕ) × (d.point ≡ p) × IsEffect (around g k n) e × AreQuiet (makes_effect e) d.variables hs
       × Stage g k h (calls_in_effect e) d (performed (context_of g k) e d) × Laid g k h x w (performed (context_of g k) e d).point hs
