@@ -25,3 +25,4 @@ mod Entering
 mod Evaluations
 mod StatementGrows
 mod Statements
+mod Rounds

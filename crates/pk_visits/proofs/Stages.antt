@@ -321,3 +321,21 @@ part_until g R k h xs d e f s t = record {
   path = s.path;
   noted = s.noted;
 }
+
+unless : {A : Type 0} {x y z : Label} → (A → ⊥) → A ⊎ (y ≡ x) → A ⊎ (z ≡ y) → z ≡ x
+unless no_mark (inl a) b = absurd (no_mark a)
+unless no_mark (inr a) (inl b) = absurd (no_mark b)
+unless no_mark (inr a) (inr b) = b ∙ a
+
+-- a point that was made behind the stage's begin shows what its label does
+pub part_point : (g : Whole) (R : Label → Label → Type 0) (C : ℕ → Type 0) (k : ℕ) (h j : Place) (xs : List Numbered) (d e f : Draft) (q : ℕ) (l : Label) (s : Stage g k h xs d f) → Keeps R (In s.marks) C e f → d.points ≤ q → q < e.points
+    → label_at e.labels q ≡ l → g.shows l k j → ShowsAt g q k j
+part_point g R C k h j xs d e f q l s u from to is shows = subst (λ (m : Label). g.shows m k j) (sym (label ∙ is)) shows where
+  unmarked : Among q s.marks → ⊥
+  unmarked a = let b = s.bounded q a in absurd (omega (arith, b, from))
+
+  label : label_at g.labels q ≡ label_at e.labels q
+  label = unless unmarked (u.labels q to) (s.leads.labels q (let a = u.points in omega (arith, a, to)))
+
+pub part_room : (g : Whole) (R : Label → Label → Type 0) (M C : ℕ → Type 0) (k : ℕ) (h : Place) (xs : List Numbered) (d e f : Draft) → Stage g k h xs d f → Keeps R M C e f → e.points ≤ length e.labels
+part_room g R M C k h xs d e f s u = let a = u.points in let b = s.leads.room in let c = u.size in omega (arith, a, b, c)

@@ -286,6 +286,8 @@ pub record Loops (g : Whole) (k : ℕ) (h : Place) (x : Exits) (l : Loop) (p c e
   pub stage : Stage g k h (calls_in_loop l) draft (loop_from (context_of g k) h.at l x begin c e draft)
   pub marking : Marking x mark stage.marks
   pub calm : AreCalm draft.variables hs
+  pub begins : ShowsAt g begin k h
+  pub continues : ShowsAt g c k h
 
 -- a `while` continues where it begins
 abbrev pub ContinuesAt : Loop → (p c : ℕ) → Type 0

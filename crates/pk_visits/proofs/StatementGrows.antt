@@ -94,7 +94,7 @@ on_adds ms C p d = record {
   here = (refl, refl);
 }
 
-link_adds : (ms : List ℕ) (C : ℕ → Type 0) (i : Instr) (q : ℕ) (d : Draft) → Adds ms C d (link i q d)
+pub link_adds : (ms : List ℕ) (C : ℕ → Type 0) (i : Instr) (q : ℕ) (d : Draft) → Adds ms C d (link i q d)
 link_adds ms C i q d = adds ms C d (link i q d) (link_grows C i q d)
 
 emit_adds : (ms : List ℕ) (C : ℕ → Type 0) (i : Instr) (d : Draft) → Adds ms C d (emit i d)
@@ -222,10 +222,10 @@ ChoiceAdds ms C f = (p q : ℕ) (d : Draft) → Adds ms C d (f p q d)
 abbrev BodyAdds : List ℕ → (ℕ → Type 0) → Exits → (Exits → Draft → Draft) → Type 0
 BodyAdds ms C x s = (b k : ℕ) (d : Draft) → Adds ms C d (s (inside b k x) d)
 
-fresh_adds : (ms : List ℕ) (C : ℕ → Type 0) (n : ℕ) (d : Draft) → Adds ms C d (fresh n d)
+pub fresh_adds : (ms : List ℕ) (C : ℕ → Type 0) (n : ℕ) (d : Draft) → Adds ms C d (fresh n d)
 fresh_adds ms C n d = adds ms C d (fresh n d) (fresh_grows C n d)
 
-nothing_adds : (ms : List ℕ) (C : ℕ → Type 0) (d : Draft) → Adds ms C d d
+pub nothing_adds : (ms : List ℕ) (C : ℕ → Type 0) (d : Draft) → Adds ms C d d
 nothing_adds ms C d = adds ms C d d (grows_refl C d)
 
 if_adds : (ms : List ℕ) (C : ℕ → Type 0) (p : Pos) (c : Ways Slot) (a b : Draft → Draft) → ChoiceAdds ms C c.choice → AddsTo ms C a → AddsTo ms C b → AddsTo ms C (if_draft p c a b)
@@ -240,16 +240,16 @@ if_adds ms C p c a b hc ha hb d =
     stays_then (on_adds ms C p d) (stays_then (fresh_adds ms C 2 d0) (stays_then (hc d0.points (d0.points + 1) d1) (stays_then (ha (at d0.points d2)) (stays_then (hb (at (d.points + 1) t))
     (stays_then (on_adds ms C p u) (stays_then (fresh_adds ms C 1 (on p u)) (stays_then (link_adds ms C Skip (on p u).points (at t.point j)) (link_adds ms C Skip (on p u).points (at u.point l)))))))))
 
-round_adds : (ms : List ℕ) (C : ℕ → Type 0) (x : Exits) (s : Exits → Draft → Draft) → BodyAdds ms C x s → (b e k : ℕ) (d : Draft) → Adds ms C d (round x s b e k d)
+pub round_adds : (ms : List ℕ) (C : ℕ → Type 0) (x : Exits) (s : Exits → Draft → Draft) → BodyAdds ms C x s → (b e k : ℕ) (d : Draft) → Adds ms C d (round x s b e k d)
 round_adds ms C x s h b e k d = stays_then (h e k (at b d)) (link_adds ms C Skip k (s (inside e k x) (at b d)))
 
-begun_adds : (ms : List ℕ) (C : ℕ → Type 0) (d : Draft) → Adds ms C d (loop_begun d)
+pub begun_adds : (ms : List ℕ) (C : ℕ → Type 0) (d : Draft) → Adds ms C d (loop_begun d)
 begun_adds ms C d = stays_then (fresh_adds ms C 3 d) (link_adds ms C Skip d.points (fresh 3 d))
 
-while_adds : (ms : List ℕ) (C : ℕ → Type 0) (c : Ways Slot) (s : Exits → Draft → Draft) (x : Exits) → ChoiceAdds ms C c.choice → BodyAdds ms C x s → (b e : ℕ) (d : Draft) → Adds ms C d (while_from c s x b e d)
+pub while_adds : (ms : List ℕ) (C : ℕ → Type 0) (c : Ways Slot) (s : Exits → Draft → Draft) (x : Exits) → ChoiceAdds ms C c.choice → BodyAdds ms C x s → (b e : ℕ) (d : Draft) → Adds ms C d (while_from c s x b e d)
 while_adds ms C c s x hc hs b e d = stays_then (hc b e d) (round_adds ms C x s hs b e d.point (c.choice b e d))
 
-do_adds : (ms : List ℕ) (C : ℕ → Type 0) (p : Pos) (c : Ways Slot) (s : Exits → Draft → Draft) (x : Exits) → ChoiceAdds ms C c.choice → BodyAdds ms C x s → (k e : ℕ) (d : Draft) → Adds ms C d (do_from p c s x k e d)
+pub do_adds : (ms : List ℕ) (C : ℕ → Type 0) (p : Pos) (c : Ways Slot) (s : Exits → Draft → Draft) (x : Exits) → ChoiceAdds ms C c.choice → BodyAdds ms C x s → (k e : ℕ) (d : Draft) → Adds ms C d (do_from p c s x k e d)
 do_adds ms C p c s x hc hs k e d =
     let r = round x s d.point e k d in
     stays_then (round_adds ms C x s hs d.point e k d) (stays_then (on_adds ms C p r) (hc d.point e (on p r)))
@@ -261,7 +261,7 @@ scope_adds ms C d e g = record { edges = g.edges; names = g.names; variables = g
 scoped_adds : (ms : List ℕ) (C : ℕ → Type 0) (k : ℕ) (d e : Draft) → Adds ms C d e → Adds ms C d (in_scope d.here.scope e)
 scoped_adds ms C k d e g = scope_adds ms C d e (enlarges ms C d e g)
 
-for_adds : (ms : List ℕ) (C : ℕ → Type 0) (p : Pos) (test : (p q : ℕ) → Draft → Draft) (third : Draft → Draft) (s : Exits → Draft → Draft) (x : Exits) → ChoiceAdds ms C test → AddsTo ms C third → BodyAdds ms C x s → (b k e : ℕ) (d : Draft)
+pub for_adds : (ms : List ℕ) (C : ℕ → Type 0) (p : Pos) (test : (p q : ℕ) → Draft → Draft) (third : Draft → Draft) (s : Exits → Draft → Draft) (x : Exits) → ChoiceAdds ms C test → AddsTo ms C third → BodyAdds ms C x s → (b k e : ℕ) (d : Draft)
     → Adds ms C d (for_from p test third s x b k e d)
 for_adds ms C p test third s x ht h3 hs b k e d =
     let t = test b e d in
@@ -337,7 +337,7 @@ marking_switch x m ms e n b h = record {
   default = λ k. front_list (upto (n + 1) (e + 1)) ms (e + 1 + n) (upto_has (n + 1) (e + 1) n (omega arith));
 }
 
-choice_adds : (ms : List ℕ) (C : ℕ → Type 0) (w : Ways Slot) → WaysGrow C w → ChoiceAdds ms C w.choice
+pub choice_adds : (ms : List ℕ) (C : ℕ → Type 0) (w : Ways Slot) → WaysGrow C w → ChoiceAdds ms C w.choice
 choice_adds ms C w g p q d = adds ms C d (w.choice p q d) (g.choice p q d)
 
 -- behind the value of a switch
