@@ -2,7 +2,7 @@
 use Rattle.std.proofs.Common.{◌≡◌, ℕ, ◌+◌, ◌-◌, ◌<◌, ◌≤◌, ◌&&◌, List, [], ◌∷◌, ◌++◌, length, take, get_or, Bool, true, false, refl, sym, ap, ◌∙◌, arith}
 use Rattle.std.proofs.Math.Dec.{leb, ltb}
 use Rattle.std.proofs.lemmas.Bool.Decides.{nat_tests}
-use Rattle.std.proofs.lemmas.List.{take_more, get_or_default}
+use Rattle.std.proofs.lemmas.List.{take_more, take_all, get_or_default}
 use Rattle.pk_plan.specs.declared.components.Component.{Component}
 use Rattle.pk_plan.specs.Plans.{PlanView, end_of}
 use Rattle.pk_plan.specs.Axioms.{Axioms as PlanAxioms}
@@ -10,7 +10,7 @@ use Rattle.pk_plan.specs.Shape.{component_of, exits}
 use Rattle.pk_plan.proofs.PlanLemmas.{Of, exit_at}
 use Rattle.pk_core.specs.declared.events.Status.{Status}
 use Rattle.pk_core.specs.Shown.{Standing}
-use Rattle.pk_core.specs.Entries.{changed, with_new_status, armed, rearmed, AreKept}
+use Rattle.pk_core.specs.Entries.{changed, with_new_status, after_run, armed, rearmed, AreKept}
 use Rattle.pk_iterate.specs.Behaviour.{Behaviour}
 use Rattle.pk_core.proofs.Changed_at.{length_changed, kept_changed}
 
@@ -61,10 +61,23 @@ rearm_step p c ms items i xs now status same in_range so_far is =
 
 -- ---- what is kept
 
-pub length_rearmed : {C : Type 0} (p : PlanView) (c : Component) (es : List ℕ) (xs : List (Standing C)) → length (rearmed p c es xs) ≡ length xs
+length_rearmed : {C : Type 0} (p : PlanView) (c : Component) (es : List ℕ) (xs : List (Standing C)) → length (rearmed p c es xs) ≡ length xs
 length_rearmed p c [] xs = refl
 length_rearmed p c (e ∷ es) xs = length_rearmed p c es (changed xs e (with_new_status (armed p c e))) ∙ length_changed xs e (with_new_status (armed p c e))
 
-pub kept_rearmed : {C : Type 0} (b : Behaviour C) (may_hold : ℕ → C → Type 0) (n : ℕ) (p : PlanView) (c : Component) (es : List ℕ) (xs : List (Standing C)) → AreKept b may_hold n xs → AreKept b may_hold n (rearmed p c es xs)
+kept_rearmed : {C : Type 0} (b : Behaviour C) (may_hold : ℕ → C → Type 0) (n : ℕ) (p : PlanView) (c : Component) (es : List ℕ) (xs : List (Standing C)) → AreKept b may_hold n xs → AreKept b may_hold n (rearmed p c es xs)
 kept_rearmed b may_hold n p c [] xs kept = kept
 kept_rearmed b may_hold n p c (e ∷ es) xs kept = kept_rearmed b may_hold n p c es (changed xs e (with_new_status (armed p c e))) (kept_changed b may_hold n xs e (with_new_status (armed p c e)) kept (λ x held. held))
+
+-- all members are armed
+pub rearm_done : {C : Type 0} (p : PlanView) (c : Component) (ms items : List ℕ) (i : ℕ) (xs now : List (Standing C)) → items ≡ ms → length items ≤ i → now ≡ rearmed p c (take i ms) xs → now ≡ rearmed p c ms xs
+rearm_done p c ms items i xs now same past so_far =
+    let all : take i ms ≡ ms = take_all i ms (omega (arith, past, ap length same)) in
+    so_far ∙ ap (λ (l : List ℕ). rearmed p c l xs) all
+
+pub restart_long : {C : Type 0} (p : PlanView) (c : Component) (es : List ℕ) (xs : List (Standing C)) (e : ℕ) (f : Standing C → Standing C) → length (rearmed p c es (changed xs e f)) ≡ length xs
+restart_long p c es xs e f = length_rearmed p c es (changed xs e f) ∙ length_changed xs e f
+
+pub restart_kept : {C : Type 0} (b : Behaviour C) (may_hold : ℕ → C → Type 0) (n : ℕ) (p : PlanView) (c : Component) (es : List ℕ) (xs : List (Standing C)) (status : Status) (cell : C) → AreKept b may_hold n xs → may_hold c.exit cell → AreKept b may_hold n (rearmed p c es (changed xs c.exit (after_run status cell)))
+restart_kept b may_hold n p c es xs status cell kept held =
+    kept_rearmed b may_hold n p c es (changed xs c.exit (after_run status cell)) (kept_changed b may_hold n xs c.exit (after_run status cell) kept (λ x h. held))

@@ -1,8 +1,7 @@
-use Rattle.std.proofs.Common.{◌≡◌, ◌∙◌, List, ℕ, length, map, take, ap, arith}
-use Rattle.std.proofs.lemmas.List.{take_all}
+use Rattle.std.proofs.Common.{◌∙◌, map}
 use Rattle.pk_plan.specs.Plans.{members_of}
-use Rattle.pk_core.specs.Entries.{standing_of, rearmed}
-use Rattle.pk_core.proofs.Restarting.{rearm_step}
+use Rattle.pk_core.specs.Entries.{standing_of}
+use Rattle.pk_core.proofs.Restarting.{rearm_step, rearm_done}
 use Rattle.pk_core.proofs.restarts.rearm.Goals as goal
 
 pub loop-e-preserved : goal.loop-e-preserved
@@ -13,6 +12,5 @@ loop-e-preserved g c =
 
 pub returns : goal.returns
 returns g c =
-    let all : take c.loop-e.e-index (members_of c.args.plan.now c.args.component.now) ≡ members_of c.args.plan.now c.args.component.now =
-    take_all c.loop-e.e-index (members_of c.args.plan.now c.args.component.now) (omega (arith, c.loop-e-test.false, ap length c.members-e-items.ensures)) in
-    c.loop-e.invariant ∙ ap (λ (l : List ℕ). rearmed c.args.plan.now c.args.component.now l (map standing_of c.args.entries.now)) all
+    rearm_done c.args.plan.now c.args.component.now (members_of c.args.plan.now c.args.component.now) c.members-e-items.result.now c.loop-e.e-index (map standing_of c.args.entries.now) (map standing_of c.loop-e.entries)
+    c.members-e-items.ensures c.loop-e-test.false c.loop-e.invariant

@@ -1,9 +1,8 @@
-use Rattle.std.proofs.Common.{◌≡◌, ◌∙◌, ◌^◌, ◌-◌, ap, sym, map, rules, subst}
+use Rattle.std.proofs.Common.{◌≡◌, ◌∙◌, ◌^◌, ◌-◌, ap, sym, length, map, rules, subst}
 use Rattle.std.specs.Arc.{arc_value}
-use Rattle.std.proofs.lemmas.List.{length-map}
 use Rattle.pk_core.specs.declared.events.Status.TheVariants.{Done}
 use Rattle.pk_core.specs.Entries.{standing_of, changed, after_run, with_sends}
-use Rattle.pk_core.proofs.Changed_at.{kept_as, kept_changed, length_changed, written, room_at}
+use Rattle.pk_core.proofs.Changed_at.{kept_changed, length_changed, kept_written, room_at}
 use Rattle.pk_core.proofs.cores.Core.finish.Goals as goal
 
 pub finish-requires-clause-room : goal.finish-requires-clause-room
@@ -13,8 +12,12 @@ finish-requires-clause-room g c =
 pub invariant_of-self : goal.invariant_of-self
 invariant_of-self g c =
     let items = c.self.inside.entries.items in
-    let ran = changed (map standing_of items) c.args.e (after_run Done (arc_value c.args.cell)) in
-    let new = changed ran c.args.e (with_sends c.in_ok-sends.sends.items) in
-    let now : map standing_of c.finish.new.entries ≡ new = c.finish.ensures ∙ ap (λ xs. changed (changed (map standing_of xs) c.args.e (after_run Done (arc_value c.args.cell))) c.args.e (with_sends c.in_ok-sends.sends.items)) c.deref_mut.ensures.value in
-    kept_as _ _ _ _ new (written c.finish.new.entries items c.self.inside.entries.len new now (length_changed ran c.args.e (with_sends c.in_ok-sends.sends.items) ∙ length_changed (map standing_of items) c.args.e (after_run Done (arc_value c.args.cell)) ∙ length-map items standing_of ∙ search rules))
-    (kept_changed _ _ _ ran c.args.e (with_sends c.in_ok-sends.sends.items) (kept_changed _ _ _ (map standing_of items) c.args.e (after_run Done (arc_value c.args.cell)) c.self.invariant (λ x held. subst (λ v. g.Y.System.may_hold v.system c.args.e (arc_value c.args.cell)) (sym c.self.view_is) c.requires.held)) (λ x held. held))
+    let run = after_run Done (arc_value c.args.cell) in
+    let leave = with_sends c.in_ok-sends.sends.items in
+    let ran = changed (map standing_of items) c.args.e run in
+    let in_all : length items ≡ c.self.inside.entries.len = search rules in
+    let held = subst (λ v. g.Y.System.may_hold v.system c.args.e (arc_value c.args.cell)) (sym c.self.view_is) c.requires.held in
+    kept_written _ _ _ c.finish.new.entries items c.self.inside.entries.len (changed ran c.args.e leave)
+    (c.finish.ensures ∙ ap (λ xs. changed (changed (map standing_of xs) c.args.e run) c.args.e leave) c.deref_mut.ensures.value)
+    (length_changed ran c.args.e leave ∙ length_changed (map standing_of items) c.args.e run) in_all
+    (kept_changed _ _ _ ran c.args.e leave (kept_changed _ _ _ (map standing_of items) c.args.e run c.self.invariant (λ x h. held)) (λ x h. h))

@@ -1,12 +1,11 @@
-use Rattle.std.proofs.Common.{◌≡◌, ◌∙◌, ◌<◌, ◌^◌, ◌-◌, ℕ, Some, slice_get, ap, sym, map, rules, subst}
+use Rattle.std.proofs.Common.{◌≡◌, ◌∙◌, ◌<◌, ◌^◌, ◌-◌, ℕ, Some, slice_get, ap, sym, length, map, rules, subst}
 use Rattle.std.specs.Arc.{arc_value}
-use Rattle.std.proofs.lemmas.List.{length-map}
 use Rattle.pk_plan.specs.Plans.{members_of, inner_count}
 use Rattle.pk_core.specs.declared.entries.Entry.{Entry}
 use Rattle.pk_core.specs.declared.events.Status.TheVariants.{Waiting}
 use Rattle.pk_core.specs.Entries.{standing_of, changed, after_run, rearmed}
-use Rattle.pk_core.proofs.Changed_at.{kept_as, kept_changed, length_changed, written, room_at}
-use Rattle.pk_core.proofs.Restarting.{length_rearmed, kept_rearmed}
+use Rattle.pk_core.proofs.Changed_at.{kept_written, room_at}
+use Rattle.pk_core.proofs.Restarting.{restart_long, restart_kept}
 use Rattle.pk_core.proofs.cores.Core.go_back.Goals as goal
 
 pub restart-requires-clause-room : goal.restart-requires-clause-room
@@ -19,10 +18,13 @@ invariant_of-self g c =
     let items = c.self.inside.entries.items in
     let p = c.self.inside.plan.now in
     let k = c.component_of-component.result.now in
-    let run = after_run (Waiting (inner_count p k k.exit)) (arc_value c.args.cell) in
-    let ran = changed (map standing_of items) k.exit run in
-    let new = rearmed p k (members_of p k) ran in
-    let now : map standing_of c.restart.new.entries ≡ new = c.restart.ensures ∙ ap (λ xs. rearmed p k (members_of p k) (changed (map standing_of xs) k.exit run)) c.deref_mut.ensures.value in
-    kept_as _ _ _ _ new (written c.restart.new.entries items c.self.inside.entries.len new now (length_rearmed p k (members_of p k) ran ∙ length_changed (map standing_of items) k.exit run ∙ length-map items standing_of ∙ search rules))
-    (kept_rearmed _ _ _ p k (members_of p k) ran (kept_changed _ _ _ (map standing_of items) k.exit run c.self.invariant
-    (λ x held. subst (λ (e : ℕ). g.Y.System.may_hold c.self.inside.system.now e (arc_value c.args.cell)) (sym c.component_of-component.ensures.exit) (subst (λ v. g.Y.System.may_hold v.system c.args.x (arc_value c.args.cell)) (sym c.self.view_is) c.requires.held))))
+    let ms = members_of p k in
+    let status = Waiting (inner_count p k k.exit) in
+    let cell = arc_value c.args.cell in
+    let in_all : length items ≡ c.self.inside.entries.len = search rules in
+    let at_x = subst (λ v. g.Y.System.may_hold v.system c.args.x cell) (sym c.self.view_is) c.requires.held in
+    let held = subst (λ (e : ℕ). g.Y.System.may_hold c.self.inside.system.now e cell) (sym c.component_of-component.ensures.exit) at_x in
+    kept_written _ _ _ c.restart.new.entries items c.self.inside.entries.len (rearmed p k ms (changed (map standing_of items) k.exit (after_run status cell)))
+    (c.restart.ensures ∙ ap (λ xs. rearmed p k ms (changed (map standing_of xs) k.exit (after_run status cell))) c.deref_mut.ensures.value)
+    (restart_long p k ms (map standing_of items) k.exit (after_run status cell)) in_all
+    (restart_kept _ _ _ p k ms (map standing_of items) status cell c.self.invariant held)
