@@ -1,0 +1,5 @@
+//! Tests of typing.
+#![tactic(auto)]
+
+#[cfg(test)]
+mod typing;
