@@ -1,0 +1,5 @@
+pub mod Objects
+pub mod Programs
+pub mod Work
+pub mod Steps
+pub mod Runs

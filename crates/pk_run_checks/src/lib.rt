@@ -1,0 +1,2 @@
+//! Runs of programs beside those of their graphs, computed.
+#![tactic(auto)]

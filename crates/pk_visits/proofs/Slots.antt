@@ -1,0 +1,95 @@
+-- Drafts over slots: the objects of a program and temporaries, and what they hold.
+use Rattle.std.proofs.Common.{◌≡◌, ℕ, ◌<◌, ◌≤◌, ◌⊎◌, List, [], ◌∷◌, ◌++◌, refl, inl, inr, length, nat_eq, if◌then◌else◌, ℤ}
+use Rattle.std.specs.Prelude.{slice_index_or}
+use Rattle.pk_graph.specs.Trees.{TreeOf, constant, variable, converted, unary, binary, InstrOf}
+use Rattle.pk_graph.specs.Steps.{Numbers, number_at, Storing}
+use Rattle.pk_draft.specs.declared.drafts.Label.{Label}
+use Rattle.pk_draft.specs.declared.drafts.Region.{Region}
+use Rattle.pk_draft.specs.Drafts.{Names, DraftOf, EdgeFrom, no_label, no_region}
+use Rattle.pk_meaning.specs.Objects.{Object, file, local, result, Objects, numbers_of, with_numbers}
+
+pub data Slot : Type 0 where
+  own : Object → Slot
+  temporary : ℕ → Slot
+
+abbrev pub slots : Names Slot
+slots = record { file = λ i. own (file i); object = λ k i x. own (local k i); result = λ k x. own (result k); temporary = λ x. temporary x }
+
+abbrev pub Draft : Type 0
+Draft = DraftOf Slot
+
+abbrev pub SlotTree : Type 0
+SlotTree = TreeOf Slot
+
+abbrev pub Instr : Type 0
+Instr = InstrOf Slot
+
+abbrev pub Edge : Type 0
+Edge = EdgeFrom Slot
+
+abbrev pub edge : ℕ → Instr → ℕ → Edge
+edge p i q = record { from = p; instr = i; to = q }
+
+-- what the objects and the temporaries hold
+pub record Memory : Type 0 where
+  pub objects : Objects
+  pub temporaries : ℕ → ℤ
+
+abbrev pub memory_numbers : Slot → Memory → Numbers
+memory_numbers (own x) m = numbers_of x m.objects
+memory_numbers (temporary n) m = m.temporaries n ∷ []
+
+abbrev pub with_memory : Slot → Numbers → Memory → Memory
+with_memory (own x) zs m = record { objects = with_numbers x zs m.objects; temporaries = m.temporaries }
+with_memory (temporary n) zs m = record { objects = m.objects; temporaries = λ k. if nat_eq n k then number_at zs 0 else m.temporaries k }
+
+abbrev pub memory : Storing Slot Memory
+memory = record { numbers = memory_numbers; with_numbers = with_memory }
+
+-- ---- lists
+
+abbrev pub Among : {A : Type 0} → A → List A → Type 0
+Among x [] = ⊥
+Among x (y ∷ ys) = (x ≡ y) ⊎ Among x ys
+
+pub front_among : {A : Type 0} (xs ys : List A) (x : A) → Among x xs → Among x (xs ++ ys)
+front_among [] ys x h = absurd h
+front_among (y ∷ xs) ys x (inl e) = inl e
+front_among (y ∷ xs) ys x (inr h) = inr (front_among xs ys x h)
+
+pub last_among : {A : Type 0} (xs : List A) (x : A) → Among x (xs ++ x ∷ [])
+last_among [] x = inl refl
+last_among (y ∷ xs) x = inr (last_among xs x)
+
+-- ---- what later work leaves as it is
+
+abbrev pub label_at : List Label → ℕ → Label
+label_at ls q = slice_index_or ls q no_label
+
+abbrev pub region_at : List Region → ℕ → Region
+region_at rs k = slice_index_or rs k no_region
+
+-- Edges and variables are only added, points keep their labels unless they are marks, the regions of all paths but some are kept, and what a point made here is goes over by R.
+pub record KeepsBy (R : Label → Label → Type 0) (Mark Called : ℕ → Type 0) (es : List Edge) (ns : Names Slot) (v p : ℕ) (ls : List Label) (rs : List Region) (h : Label) (fs : List Edge) (ms : Names Slot) (w q : ℕ) (ks : List Label) (ts : List Region) (i : Label) : Type 0 where
+  pub edges : (e : Edge) → Among e es → Among e fs
+  pub names : ms ≡ ns
+  pub variables : v ≤ w
+  pub points : p ≤ q
+  pub size : length ks ≡ length ls
+  pub labels : (n : ℕ) → n < p → Mark n ⊎ (label_at ks n ≡ label_at ls n)
+  pub regions : (k : ℕ) → Called k ⊎ (region_at ts k ≡ region_at rs k)
+  pub paths : length ts ≡ length rs
+  pub here : R h i
+
+abbrev pub Keeps : (R : Label → Label → Type 0) → (Mark Called : ℕ → Type 0) → Draft → Draft → Type 0
+Keeps R M C d e = KeepsBy R M C d.edges d.names d.variables d.points d.labels d.regions d.here e.edges e.names e.variables e.points e.labels e.regions e.here
+
+abbrev pub Never : ℕ → Type 0
+Never n = ⊥
+
+abbrev pub Same : Label → Label → Type 0
+Same h i = i ≡ h
+
+-- of an expression, in which these paths are called
+abbrev pub Grows : (Called : ℕ → Type 0) → Draft → Draft → Type 0
+Grows C d e = Keeps Same Never C d e

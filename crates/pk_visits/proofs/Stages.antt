@@ -1,0 +1,341 @@
+-- A stage of the lowering, and those of its parts.
+use Rattle.std.proofs.Common.{◌≡◌, ℕ, ◌+◌, ◌<◌, ◌≤◌, ◌⊎◌, List, [], ◌∷◌, ◌++◌, length, refl, sym, ap, ◌∙◌, subst, inl, inr, arith}
+use Rattle.std.specs.Prelude.{map, slice_set}
+use Rattle.std.proofs.lemmas.List.{get_or-set_same, get_or-set_other, length-set}
+use Rattle.pk_typed.specs.Trees.{ValueTree, EffectTree, ValueTrees}
+use Rattle.pk_welltyped.specs.Listed.{Numbered, calls_in, calls_in_effect, calls_in_values}
+use Rattle.pk_draft.specs.declared.drafts.Label.{Label}
+use Rattle.pk_draft.specs.Drafts.{no_label, emit, fresh}
+use Rattle.pk_lower_row.specs.Contexts.{Context, callee}
+use Rattle.pk_lower_expression.specs.Expressions.{ways, performed, passed}
+use Rattle.pk_meaning.specs.Work.{Place}
+use Rattle.pk_visits.proofs.Slots.{Slot, slots, Draft, Instr, Edge, edge, Among, Keeps, Grows, Never, label_at, region_at, front_among, last_among}
+use Rattle.pk_visits.proofs.Grows.{WaysGrow, Makes, PassGrows, grows_refl}
+use Rattle.pk_visits.proofs.Growing.{AllCalled, values, effects, arguments}
+use Rattle.pk_visits.proofs.Stands.{Whole, context_of, ShowsAt, Leads, led_to, Distinct, Stage}
+
+-- ---- lists
+
+pub back_among : {A : Type 0} (xs ys : List A) (x : A) → Among x ys → Among x (xs ++ ys)
+back_among [] ys x h = h
+back_among (z ∷ xs) ys x h = inr (back_among xs ys x h)
+
+pub among_front : (xs ys : List ℕ) (m : ℕ) → Among m xs → Among m (xs ++ ys)
+among_front [] ys m h = absurd h
+among_front (x ∷ xs) ys m (inl e) = inl e
+among_front (x ∷ xs) ys m (inr h) = inr (among_front xs ys m h)
+
+pub among_back : (xs ys : List ℕ) (m : ℕ) → Among m ys → Among m (xs ++ ys)
+among_back [] ys m h = h
+among_back (x ∷ xs) ys m h = inr (among_back xs ys m h)
+
+pub among_either : (xs ys : List ℕ) (m : ℕ) → Among m (xs ++ ys) → Among m xs ⊎ Among m ys
+among_either [] ys m h = inr h
+among_either (x ∷ xs) ys m (inl e) = inl (inl e)
+among_either (x ∷ xs) ys m (inr h) = by (among_either xs ys m h) where
+  by : Among m xs ⊎ Among m ys → Among m (x ∷ xs) ⊎ Among m ys
+  by (inl k) = inl (inr k)
+  by (inr k) = inr k
+
+pub distinct_front : (xs ys : List ℕ) → Distinct (xs ++ ys) → Distinct xs
+distinct_front [] ys h = tt
+distinct_front (x ∷ xs) ys h = (λ k. h.0 (among_front xs ys x k), distinct_front xs ys h.1)
+
+pub distinct_back : (xs ys : List ℕ) → Distinct (xs ++ ys) → Distinct ys
+distinct_back [] ys h = h
+distinct_back (x ∷ xs) ys h = distinct_back xs ys h.1
+
+pub distinct_between : (xs ys : List ℕ) (m : ℕ) → Distinct (xs ++ ys) → Among m xs → Among m ys → ⊥
+distinct_between [] ys m h a b = a
+distinct_between (x ∷ xs) ys m h (inl e) b = h.0 (among_back xs ys x (subst (λ z. Among z ys) e b))
+distinct_between (x ∷ xs) ys m h (inr a) b = distinct_between xs ys m h.1 a b
+
+pub led_both : (c : Context) (xs ys : List Numbered) → led_to c (xs ++ ys) ≡ led_to c xs ++ led_to c ys
+led_both c [] ys = refl
+led_both c (x ∷ xs) ys = ap (λ zs. callee c x.number ∷ zs) (led_both c xs ys)
+
+-- ---- what a tree's calls touch
+
+abbrev pub In : List ℕ → ℕ → Type 0
+In xs m = Among m xs
+
+called_more : (c : Context) (ys : List ℕ) (y : ℕ) (xs : List Numbered) → AllCalled (In ys) c xs → AllCalled (In (y ∷ ys)) c xs
+called_more c ys y [] h = tt
+called_more c ys y (x ∷ xs) h = (inr h.0, called_more c ys y xs h.1)
+
+pub all_called : (c : Context) (xs : List Numbered) → AllCalled (In (led_to c xs)) c xs
+all_called c [] = tt
+all_called c (x ∷ xs) = (inl refl, called_more c (led_to c xs) (callee c x.number) xs (all_called c xs))
+
+pub ways_grow : (c : Context) (e : ValueTree) → WaysGrow (In (led_to c (calls_in e))) (ways c e)
+ways_grow c e = values (In (led_to c (calls_in e))) c e (all_called c (calls_in e))
+
+pub effect_grows : (c : Context) (e : EffectTree) → Makes (In (led_to c (calls_in_effect e))) (performed c e)
+effect_grows c e = effects (In (led_to c (calls_in_effect e))) c e (all_called c (calls_in_effect e))
+
+pub passed_grows : (c : Context) (es : ValueTrees) → PassGrows (In (led_to c (calls_in_values es))) (passed c es)
+passed_grows c es = arguments (In (led_to c (calls_in_values es))) c es (all_called c (calls_in_values es))
+
+-- ---- stages
+
+composed : {A B : Type 0} {x y z : A} → ⊥ ⊎ (y ≡ x) → B ⊎ (z ≡ y) → B ⊎ (z ≡ x)
+composed (inl h) b = absurd h
+composed (inr a) (inl h) = inl h
+composed (inr a) (inr b) = inr (b ∙ a)
+
+regional : {A : Type 0} {x y z : A} (xs ys : List ℕ) (m : ℕ) → Among m xs ⊎ (y ≡ x) → Among m ys ⊎ (z ≡ y) → Among m (xs ++ ys) ⊎ (z ≡ x)
+regional xs ys m (inl h) b = inl (among_front xs ys m h)
+regional xs ys m (inr a) (inl h) = inl (among_back xs ys m h)
+regional xs ys m (inr a) (inr b) = inr (b ∙ a)
+
+-- an earlier stage leads to the graph too
+pub leads_back : (g : Whole) (marks later cs : List ℕ) (d e : Draft) → Grows (In cs) d e → Leads g marks later e → Leads g marks (cs ++ later) d
+leads_back g marks later cs d e s l = record {
+  edges = λ x h. l.edges x (s.edges x h);
+  names = sym s.names ∙ l.names;
+  room = let a = s.points in let b = l.room in let c = s.size in omega (arith, a, b, c);
+  labels = λ q h. composed (s.labels q h) (l.labels q (let a = s.points in omega (arith, h, a)));
+  regions = λ k. regional cs later k (s.regions k) (l.regions k);
+  paths = sym s.paths ∙ l.paths;
+}
+
+pub stage_first : (g : Whole) (k : ℕ) (h : Place) (xs ys : List Numbered) (d e f : Draft) → Stage g k h (xs ++ ys) d f → Grows (In (led_to (context_of g k) ys)) e f → Stage g k h xs d e
+stage_first g k h xs ys d e f s t = record {
+  marks = s.marks;
+  later = led ys ++ s.later;
+  leads = leads_back g s.marks s.later (led ys) e f t s.leads;
+  bounded = s.bounded;
+  here = s.here;
+  apart = λ m a b. by m a (among_either (led ys) s.later m b);
+  distinct = distinct_front (led xs) (led ys) both;
+  path = s.path;
+  noted = λ z a. s.noted z (front_among xs ys z a);
+} where
+  led : List Numbered → List ℕ
+  led = led_to (context_of g k)
+
+  both : Distinct (led_to (context_of g k) xs ++ led_to (context_of g k) ys)
+  both = subst Distinct (led_both (context_of g k) xs ys) s.distinct
+
+  by : (m : ℕ) → Among m (led_to (context_of g k) xs) → Among m (led_to (context_of g k) ys) ⊎ Among m s.later → ⊥
+  by m a (inl b) = distinct_between (led_to (context_of g k) xs) (led_to (context_of g k) ys) m both a b
+  by m a (inr b) = s.apart m (subst (Among m) (sym (led_both (context_of g k) xs ys)) (among_front (led_to (context_of g k) xs) (led_to (context_of g k) ys) m a)) b
+
+pub stage_second : (g : Whole) (k : ℕ) (h : Place) (C : ℕ → Type 0) (xs ys : List Numbered) (d e f : Draft) → Stage g k h (xs ++ ys) d f → Grows C d e → Stage g k h ys e f
+stage_second g k h C xs ys d e f s t = record {
+  marks = s.marks;
+  later = s.later;
+  leads = s.leads;
+  bounded = λ q a. let b = s.bounded q a in let c = t.points in omega (arith, b, c);
+  here = subst (λ (l : Label). g.shows l k h) (sym t.here) s.here;
+  apart = λ m a b. s.apart m (subst (Among m) (sym (led_both (context_of g k) xs ys)) (among_back (led_to (context_of g k) xs) (led_to (context_of g k) ys) m a)) b;
+  distinct = distinct_back (led_to (context_of g k) xs) (led_to (context_of g k) ys) (subst Distinct (led_both (context_of g k) xs ys) s.distinct);
+  path = s.path;
+  noted = λ z a. s.noted z (back_among xs ys z a);
+}
+
+-- up to a draft behind which the first calls are made
+pub stage_last : (g : Whole) (k : ℕ) (h : Place) (xs ys : List Numbered) (d e f : Draft) → Stage g k h (xs ++ ys) d f → Grows (In (led_to (context_of g k) xs)) e f → Stage g k h ys d e
+stage_last g k h xs ys d e f s t = record {
+  marks = s.marks;
+  later = led_to (context_of g k) xs ++ s.later;
+  leads = leads_back g s.marks s.later (led_to (context_of g k) xs) e f t s.leads;
+  bounded = s.bounded;
+  here = s.here;
+  apart = λ m a b. by m a (among_either (led_to (context_of g k) xs) s.later m b);
+  distinct = distinct_back (led_to (context_of g k) xs) (led_to (context_of g k) ys) both;
+  path = s.path;
+  noted = λ z a. s.noted z (back_among xs ys z a);
+} where
+  both : Distinct (led_to (context_of g k) xs ++ led_to (context_of g k) ys)
+  both = subst Distinct (led_both (context_of g k) xs ys) s.distinct
+
+  by : (m : ℕ) → Among m (led_to (context_of g k) ys) → Among m (led_to (context_of g k) xs) ⊎ Among m s.later → ⊥
+  by m a (inl b) = distinct_between (led_to (context_of g k) xs) (led_to (context_of g k) ys) m both b a
+  by m a (inr b) = s.apart m (subst (Among m) (sym (led_both (context_of g k) xs ys)) (among_back (led_to (context_of g k) xs) (led_to (context_of g k) ys) m a)) b
+
+-- the same calls, up to an earlier draft; and from a later one
+pub stage_until : (g : Whole) (k : ℕ) (h : Place) (xs : List Numbered) (d e f : Draft) → Stage g k h xs d f → Grows (In []) e f → Stage g k h xs d e
+stage_until g k h xs d e f s t = record {
+  marks = s.marks;
+  later = s.later;
+  leads = leads_back g s.marks s.later [] e f t s.leads;
+  bounded = s.bounded;
+  here = s.here;
+  apart = s.apart;
+  distinct = s.distinct;
+  path = s.path;
+  noted = s.noted;
+}
+
+pub stage_from : (g : Whole) (k : ℕ) (h : Place) (C : ℕ → Type 0) (xs : List Numbered) (d e f : Draft) → Stage g k h xs d f → Grows C d e → Stage g k h xs e f
+stage_from g k h C xs d e f s t = record {
+  marks = s.marks;
+  later = s.later;
+  leads = s.leads;
+  bounded = λ q a. let b = s.bounded q a in let c = t.points in omega (arith, b, c);
+  here = subst (λ (l : Label). g.shows l k h) (sym t.here) s.here;
+  apart = s.apart;
+  distinct = s.distinct;
+  path = s.path;
+  noted = s.noted;
+}
+
+-- a point that a stage made is at its place
+same_label : {P : Type 0} {x y z : Label} → (P → ⊥) → ⊥ ⊎ (y ≡ x) → P ⊎ (z ≡ y) → z ≡ x
+same_label n (inl h) b = absurd h
+same_label n (inr a) (inl h) = absurd (n h)
+same_label n (inr a) (inr b) = b ∙ a
+
+-- an edge that a stage made, with its end
+pub stage_edge : (g : Whole) (k : ℕ) (h : Place) (C E : ℕ → Type 0) (xs : List Numbered) (d e f : Draft) (i : Instr) → Stage g k h xs d f → Grows C d e → Grows E (emit i e) f
+    → Among (edge e.point i e.points) g.edges × ShowsAt g e.points k h
+stage_edge g k h C E xs d e f i s t u = (there, shown) where
+  there : Among (edge e.point i e.points) g.edges
+  there = s.leads.edges _ (u.edges _ (last_among e.edges (edge e.point i e.points)))
+
+  unmarked : Among e.points s.marks → ⊥
+  unmarked a = let b = s.bounded e.points a in let c = t.points in absurd (omega (arith, b, c))
+
+  room : e.points < length e.labels
+  room = let a = u.points in let b = s.leads.room in let c = u.size in let z = length-set e.labels e.points e.here in omega (arith, a, b, c, z)
+
+  label : label_at g.labels e.points ≡ label_at (emit i e).labels e.points
+  label = same_label unmarked (u.labels e.points (omega arith)) (s.leads.labels e.points (let a = u.points in omega (arith, a)))
+
+  shown : ShowsAt g e.points k h
+  shown = subst (λ (l : Label). g.shows l k h) (sym (label ∙ get_or-set_same e.labels e.points e.here no_label room ∙ t.here)) s.here
+
+-- ---- points
+
+-- a point that was made at the stage's place shows it
+pub stage_point : (g : Whole) (k : ℕ) (h : Place) (E : ℕ → Type 0) (xs : List Numbered) (d e f : Draft) (q : ℕ) → Stage g k h xs d f → Grows E e f → d.points ≤ q → q < e.points → label_at e.labels q ≡ d.here → ShowsAt g q k h
+stage_point g k h E xs d e f q s u from to is = subst (λ (l : Label). g.shows l k h) (sym (label ∙ is)) s.here where
+  unmarked : Among q s.marks → ⊥
+  unmarked a = let b = s.bounded q a in absurd (omega (arith, b, from))
+
+  label : label_at g.labels q ≡ label_at e.labels q
+  label = same_label unmarked (u.labels q to) (s.leads.labels q (let a = u.points in omega (arith, a, to)))
+
+-- there is room for the points of a stage
+pub stage_room : (g : Whole) (k : ℕ) (h : Place) (C : ℕ → Type 0) (xs : List Numbered) (d e f : Draft) → Stage g k h xs d f → Grows C e f → e.points ≤ length e.labels
+stage_room g k h C xs d e f s u = let a = u.points in let b = s.leads.room in let c = u.size in omega (arith, a, b, c)
+
+set_same : (ls : List Label) (q : ℕ) (l : Label) → q < length ls → label_at (slice_set ls q l) q ≡ l
+set_same ls q l h = get_or-set_same ls q l no_label h
+
+set_other : (ls : List Label) (q n : ℕ) (l : Label) → (n ≡ q → ⊥) → label_at (slice_set ls q l) n ≡ label_at ls n
+set_other ls q n l h = get_or-set_other ls q n l no_label h
+
+-- of one new point, of two and of three
+pub fresh_one : (d : Draft) → d.points + 1 ≤ length d.labels → label_at (fresh 1 d).labels d.points ≡ d.here
+fresh_one d r = set_same d.labels d.points d.here (omega (arith, r))
+
+pub fresh_first : (d : Draft) → d.points + 2 ≤ length d.labels → label_at (fresh 2 d).labels d.points ≡ d.here
+fresh_first d r =
+    set_other (slice_set d.labels d.points d.here) (d.points + 1) d.points d.here (λ e. absurd (omega (arith, e))) ∙ set_same d.labels d.points d.here (omega (arith, r))
+
+pub fresh_second : (d : Draft) → d.points + 2 ≤ length d.labels → label_at (fresh 2 d).labels (d.points + 1) ≡ d.here
+fresh_second d r = set_same (slice_set d.labels d.points d.here) (d.points + 1) d.here (let z = length-set d.labels d.points d.here in omega (arith, r, z))
+
+pub three_first : (d : Draft) → d.points + 3 ≤ length d.labels → label_at (fresh 3 d).labels d.points ≡ d.here
+three_first d r =
+    set_other _ (d.points + 1 + 1) d.points d.here (λ e. absurd (omega (arith, e)))
+    ∙ set_other (slice_set d.labels d.points d.here) (d.points + 1) d.points d.here (λ e. absurd (omega (arith, e))) ∙ set_same d.labels d.points d.here (omega (arith, r))
+
+pub three_second : (d : Draft) → d.points + 3 ≤ length d.labels → label_at (fresh 3 d).labels (d.points + 1) ≡ d.here
+three_second d r =
+    set_other _ (d.points + 1 + 1) (d.points + 1) d.here (λ e. absurd (omega (arith, e)))
+    ∙ set_same (slice_set d.labels d.points d.here) (d.points + 1) d.here (let z = length-set d.labels d.points d.here in omega (arith, r, z))
+
+pub three_third : (d : Draft) → d.points + 3 ≤ length d.labels → label_at (fresh 3 d).labels (d.points + 1 + 1) ≡ d.here
+three_third d r =
+    set_same (slice_set (slice_set d.labels d.points d.here) (d.points + 1) d.here) (d.points + 1 + 1) d.here
+    (let y = length-set d.labels d.points d.here in let z = length-set (slice_set d.labels d.points d.here) (d.points + 1) d.here in omega (arith, r, y, z))
+
+-- ---- stages of statements
+
+marked : {A B : Type 0} {x y z : A} → B ⊎ (y ≡ x) → B ⊎ (z ≡ y) → B ⊎ (z ≡ x)
+marked (inl h) b = inl h
+marked (inr a) (inl h) = inl h
+marked (inr a) (inr b) = inr (b ∙ a)
+
+pub leads_behind : (g : Whole) (R : Label → Label → Type 0) (marks later cs : List ℕ) (d e : Draft) → Keeps R (In marks) (In cs) d e → Leads g marks later e → Leads g marks (cs ++ later) d
+leads_behind g R marks later cs d e s l = record {
+  edges = λ x h. l.edges x (s.edges x h);
+  names = sym s.names ∙ l.names;
+  room = let a = s.points in let b = l.room in let c = s.size in omega (arith, a, b, c);
+  labels = λ q h. marked (s.labels q h) (l.labels q (let a = s.points in omega (arith, h, a)));
+  regions = λ k. regional cs later k (s.regions k) (l.regions k);
+  paths = sym s.paths ∙ l.paths;
+}
+
+-- up to a draft behind which the later calls are made
+abbrev pub part_first : (g : Whole) (R : Label → Label → Type 0) (k : ℕ) (h : Place) (xs ys : List Numbered) (d e f : Draft) (s : Stage g k h (xs ++ ys) d f) → Keeps R (In s.marks) (In (led_to (context_of g k) ys)) e f → Stage g k h xs d e
+part_first g R k h xs ys d e f s t = record {
+  marks = s.marks;
+  later = led_to (context_of g k) ys ++ s.later;
+  leads = leads_behind g R s.marks s.later (led_to (context_of g k) ys) e f t s.leads;
+  bounded = s.bounded;
+  here = s.here;
+  apart = λ m a b. by m a (among_either (led_to (context_of g k) ys) s.later m b);
+  distinct = distinct_front (led_to (context_of g k) xs) (led_to (context_of g k) ys) both;
+  path = s.path;
+  noted = λ z a. s.noted z (front_among xs ys z a);
+} where
+  both : Distinct (led_to (context_of g k) xs ++ led_to (context_of g k) ys)
+  both = subst Distinct (led_both (context_of g k) xs ys) s.distinct
+
+  by : (m : ℕ) → Among m (led_to (context_of g k) xs) → Among m (led_to (context_of g k) ys) ⊎ Among m s.later → ⊥
+  by m a (inl b) = distinct_between (led_to (context_of g k) xs) (led_to (context_of g k) ys) m both a b
+  by m a (inr b) = s.apart m (subst (Among m) (sym (led_both (context_of g k) xs ys)) (among_front (led_to (context_of g k) xs) (led_to (context_of g k) ys) m a)) b
+
+-- from a later draft, at a place of its own
+abbrev pub part_second : (g : Whole) (k : ℕ) (h j : Place) (xs ys : List Numbered) (d e f : Draft) → Stage g k h (xs ++ ys) d f → d.points ≤ e.points → g.shows e.here k j → Stage g k j ys e f
+part_second g k h j xs ys d e f s le here = record {
+  marks = s.marks;
+  later = s.later;
+  leads = s.leads;
+  bounded = λ q a. let b = s.bounded q a in omega (arith, b, le);
+  here = here;
+  apart = λ m a b. s.apart m (subst (Among m) (sym (led_both (context_of g k) xs ys)) (among_back (led_to (context_of g k) xs) (led_to (context_of g k) ys) m a)) b;
+  distinct = distinct_back (led_to (context_of g k) xs) (led_to (context_of g k) ys) (subst Distinct (led_both (context_of g k) xs ys) s.distinct);
+  path = s.path;
+  noted = λ z a. s.noted z (back_among xs ys z a);
+}
+
+-- the same calls at a place of their own
+abbrev pub stage_at : (g : Whole) (k : ℕ) (h j : Place) (xs : List Numbered) (d e f : Draft) → Stage g k h xs d f → d.points ≤ e.points → g.shows e.here k j → Stage g k j xs e f
+stage_at g k h j xs d e f s le here = part_second g k h j [] xs d e f s le here
+
+-- up to a draft behind which no calls are made
+abbrev pub part_until : (g : Whole) (R : Label → Label → Type 0) (k : ℕ) (h : Place) (xs : List Numbered) (d e f : Draft) (s : Stage g k h xs d f) → Keeps R (In s.marks) (In []) e f → Stage g k h xs d e
+part_until g R k h xs d e f s t = record {
+  marks = s.marks;
+  later = s.later;
+  leads = leads_behind g R s.marks s.later [] e f t s.leads;
+  bounded = s.bounded;
+  here = s.here;
+  apart = s.apart;
+  distinct = s.distinct;
+  path = s.path;
+  noted = s.noted;
+}
+
+unless : {A : Type 0} {x y z : Label} → (A → ⊥) → A ⊎ (y ≡ x) → A ⊎ (z ≡ y) → z ≡ x
+unless no_mark (inl a) b = absurd (no_mark a)
+unless no_mark (inr a) (inl b) = absurd (no_mark b)
+unless no_mark (inr a) (inr b) = b ∙ a
+
+-- a point that was made behind the stage's begin shows what its label does
+pub part_point : (g : Whole) (R : Label → Label → Type 0) (C : ℕ → Type 0) (k : ℕ) (h j : Place) (xs : List Numbered) (d e f : Draft) (q : ℕ) (l : Label) (s : Stage g k h xs d f) → Keeps R (In s.marks) C e f → d.points ≤ q → q < e.points
+    → label_at e.labels q ≡ l → g.shows l k j → ShowsAt g q k j
+part_point g R C k h j xs d e f q l s u from to is shows = subst (λ (m : Label). g.shows m k j) (sym (label ∙ is)) shows where
+  unmarked : Among q s.marks → ⊥
+  unmarked a = let b = s.bounded q a in absurd (omega (arith, b, from))
+
+  label : label_at g.labels q ≡ label_at e.labels q
+  label = unless unmarked (u.labels q to) (s.leads.labels q (let a = u.points in omega (arith, a, to)))
+
+pub part_room : (g : Whole) (R : Label → Label → Type 0) (M C : ℕ → Type 0) (k : ℕ) (h : Place) (xs : List Numbered) (d e f : Draft) → Stage g k h xs d f → Keeps R M C e f → e.points ≤ length e.labels
+part_room g R M C k h xs d e f s u = let a = u.points in let b = s.leads.room in let c = u.size in omega (arith, a, b, c)

@@ -1,0 +1,448 @@
+-- What declarations and statements add to a draft: points but marks keep their labels, and the names in scope stay behind a statement.
+use Rattle.std.proofs.Common.{◌≡◌, ℕ, zero, suc, ◌+◌, ◌<◌, ◌≤◌, ◌⊎◌, List, [], ◌∷◌, ◌++◌, length, Bool, true, false, if◌then◌else◌, refl, sym, ap, ◌∙◌, subst, inl, inr, arith, ◌≢◌, ℤ, Option, Some, None}
+use Rattle.std.specs.Prelude.{slice_set, pos, All}
+use Rattle.std.proofs.lemmas.List.{get_or-set_other, length-set}
+use Rattle.pk_ctypes.specs.declared.places.Pos.{Pos}
+use Rattle.pk_ctypes.specs.declared.types.IntType.{IntType}
+use Rattle.pk_ctypes.specs.declared.types.Op.TheVariants.{Eq}
+use Rattle.pk_typed.specs.Trees.{ValueTree, EffectTree, ValueTrees, DeclaredTree, ForStartTree, StatementTree, ItemTrees}
+use Rattle.pk_typed.specs.Trees as tree
+use Rattle.pk_typed.specs.Types.{type_of}
+use Rattle.pk_typed.specs.declared.values.Variable.TheVariants.{Local}
+use Rattle.pk_welltyped.specs.Listed.{Numbered, calls_in, calls_in_effect, calls_in_values, calls_if, calls_in_values_if, calls_in_effect_if, calls_in_declared, calls_in_all_declared, calls_at_start, calls_in_statement, calls_in_items}
+use Rattle.pk_welltyped.specs.WellTyped.{Around, Marks, IsStatement, AreItems}
+use Rattle.pk_welltyped.specs.WellTyped
+use Rattle.pk_graph.specs.declared.trees.Site.{Site}
+use Rattle.pk_graph.specs.Graphs.{VariableOf}
+use Rattle.pk_graph.specs.Trees.{constant, Skip, Set, Havoc, Clear, Store, ArrayOf}
+use Rattle.pk_draft.specs.declared.drafts.Label.{Label}
+use Rattle.pk_draft.specs.declared.drafts.Region.{Region}
+use Rattle.pk_draft.specs.Drafts.{Names, Given, no_label, at, on, in_scope, scoped, with_name, placed, all_placed, fresh, inner, with_object, link, go, emit, away, come}
+use Rattle.pk_draft.specs.Folding.{conversion, binary_tree}
+use Rattle.pk_lower_row.specs.declared.shapes.Waiting.TheVariants.{Strong}
+use Rattle.pk_lower_row.specs.Shapes.{converted_shape, shape_of}
+use Rattle.pk_lower_row.specs.Contexts.{Context, site, own_result, local_at, array_of}
+use Rattle.pk_lower_row.specs.Rows as rows
+use Rattle.pk_lower_row.specs.Rows.{Ways, operand}
+use Rattle.pk_lower_expression.specs.Expressions.{ways, performed}
+use Rattle.pk_lower_statement.specs.declared.statements.Exits.{Exits}
+use Rattle.pk_lower_statement.specs.Statements as statements
+use Rattle.pk_lower_statement.specs.Statements.{named, introduced, item, items, declared, all_declared, inside, branching, meeting, if_draft, round, while_from, do_from, for_from, loop_begun, case_test, case_tests, in_switch, switch_begun, returned, performed_if, for_start, for_test, lowered, lowered_items}
+use Rattle.pk_visits.proofs.Slots.{Slot, SlotTree, Draft, Instr, KeepsBy, Keeps, Grows, Same, Never, front_among, Among, label_at, region_at, Edge}
+use Rattle.pk_visits.proofs.Grows.{keeps_trans, grows_refl, grows_trans, link_grows, emit_grows, fresh_one_grows, fresh_three_grows, held_grows, guards_grow, WaysGrow}
+use Rattle.pk_visits.proofs.Growing.{AllCalled, values, effects, front_called, back_called}
+use Rattle.pk_visits.proofs.Growing as growing
+use Rattle.pk_visits.proofs.Stands.{Marking}
+use Rattle.pk_visits.proofs.Stores.{decided}
+
+-- the same path; and the same names in scope too
+abbrev pub OnPath : Label → Label → Type 0
+OnPath h i = i.path ≡ h.path
+
+abbrev pub Stays : Label → Label → Type 0
+Stays h i = (i.path ≡ h.path) × (i.scope ≡ h.scope)
+
+abbrev pub Marked : List ℕ → ℕ → Type 0
+Marked ms n = Among n ms
+
+abbrev pub Adds : List ℕ → (ℕ → Type 0) → Draft → Draft → Type 0
+Adds ms C d e = Keeps Stays (Marked ms) C d e
+
+abbrev pub Enlarges : List ℕ → (ℕ → Type 0) → Draft → Draft → Type 0
+Enlarges ms C d e = Keeps OnPath (Marked ms) C d e
+
+none_marked : {A : Type 0} (ms : List ℕ) (n : ℕ) → ⊥ ⊎ A → Marked ms n ⊎ A
+none_marked ms n (inl h) = absurd h
+none_marked ms n (inr a) = inr a
+
+-- what an expression adds, a statement adds
+pub adds : (ms : List ℕ) (C : ℕ → Type 0) (d e : Draft) → Grows C d e → Adds ms C d e
+adds ms C d e g = record {
+  edges = g.edges;
+  names = g.names;
+  variables = g.variables;
+  points = g.points;
+  size = g.size;
+  labels = λ n h. none_marked ms n (g.labels n h);
+  regions = g.regions;
+  paths = g.paths;
+  here = (ap (λ (l : Label). l.path) g.here, ap (λ (l : Label). l.scope) g.here);
+}
+
+pub enlarges : (ms : List ℕ) (C : ℕ → Type 0) (d e : Draft) → Adds ms C d e → Enlarges ms C d e
+enlarges ms C d e g = record { edges = g.edges; names = g.names; variables = g.variables; points = g.points; size = g.size; labels = g.labels; regions = g.regions; paths = g.paths; here = g.here.0 }
+
+-- one after the other
+pub stays_then : {M C : ℕ → Type 0} {es fs gs : List Edge} {ns ms os : Names Slot} {v w x p q r : ℕ} {ls ks js : List Label} {rs ts us : List Region} {h i j : Label}
+    → KeepsBy Stays M C es ns v p ls rs h fs ms w q ks ts i → KeepsBy Stays M C fs ms w q ks ts i gs os x r js us j → KeepsBy Stays M C es ns v p ls rs h gs os x r js us j
+stays_then a b = keeps_trans (λ m n. (n.0 ∙ m.0, n.1 ∙ m.1)) a b
+
+pub path_then : {M C : ℕ → Type 0} {es fs gs : List Edge} {ns ms os : Names Slot} {v w x p q r : ℕ} {ls ks js : List Label} {rs ts us : List Region} {h i j : Label}
+    → KeepsBy OnPath M C es ns v p ls rs h fs ms w q ks ts i → KeepsBy OnPath M C fs ms w q ks ts i gs os x r js us j → KeepsBy OnPath M C es ns v p ls rs h gs os x r js us j
+path_then a b = keeps_trans (λ m n. n ∙ m) a b
+
+pub on_adds : (ms : List ℕ) (C : ℕ → Type 0) (p : Pos) (d : Draft) → Adds ms C d (on p d)
+on_adds ms C p d = record {
+  edges = λ e h. h;
+  names = refl;
+  variables = omega arith;
+  points = omega arith;
+  size = refl;
+  labels = λ n h. inr refl;
+  regions = λ k. inr refl;
+  paths = refl;
+  here = (refl, refl);
+}
+
+pub link_adds : (ms : List ℕ) (C : ℕ → Type 0) (i : Instr) (q : ℕ) (d : Draft) → Adds ms C d (link i q d)
+link_adds ms C i q d = adds ms C d (link i q d) (link_grows C i q d)
+
+emit_adds : (ms : List ℕ) (C : ℕ → Type 0) (i : Instr) (d : Draft) → Adds ms C d (emit i d)
+emit_adds ms C i d = adds ms C d (emit i d) (emit_grows C i d)
+
+pub away_adds : (ms : List ℕ) (C : ℕ → Type 0) (q : ℕ) (d : Draft) → Adds ms C d (away q d)
+away_adds ms C q d = adds ms C d (away q d) (grows_trans (link_grows C Skip q d) (fresh_one_grows C (link Skip q d)))
+
+-- a point that was made before is here
+pub come_adds : (ms : List ℕ) (C : ℕ → Type 0) (p : ℕ) (d : Draft) → Among p ms → Adds ms C d (come p d)
+come_adds ms C p d m = record {
+  edges = λ e h. front_among d.edges _ e h;
+  names = refl;
+  variables = omega arith;
+  points = omega arith;
+  size = length-set d.labels p d.here;
+  labels = λ n h. by n (decided n p);
+  regions = λ k. inr refl;
+  paths = refl;
+  here = (refl, refl);
+} where
+  by : (n : ℕ) → (n ≡ p) ⊎ (n ≢ p) → Among n ms ⊎ (label_at (slice_set d.labels p d.here) n ≡ label_at d.labels n)
+  by n (inl e) = inl (subst (λ q. Among q ms) (sym e) m)
+  by n (inr h) = inr (get_or-set_other d.labels p n d.here no_label h)
+
+-- new points, where their number isn't known
+all_here : (n p : ℕ) (d : Draft) → (all_placed n p d).here ≡ d.here
+all_here zero p d = refl
+all_here (suc n) p d = all_here n (p + 1) (placed p d)
+
+record Placing (n p : ℕ) (d : Draft) : Type 0 where
+  pub edges : (all_placed n p d).edges ≡ d.edges
+  pub names : (all_placed n p d).names ≡ d.names
+  pub variables : (all_placed n p d).variables ≡ d.variables
+  pub regions : (all_placed n p d).regions ≡ d.regions
+  pub here : (all_placed n p d).here ≡ d.here
+  pub size : length (all_placed n p d).labels ≡ length d.labels
+  pub labels : (q : ℕ) → q < p → label_at (all_placed n p d).labels q ≡ label_at d.labels q
+
+placing : (n p : ℕ) (d : Draft) → Placing n p d
+placing zero p d = record { edges = refl; names = refl; variables = refl; regions = refl; here = refl; size = refl; labels = λ q h. refl }
+placing (suc n) p d =
+    let r = placing n (p + 1) (placed p d) in
+    record {
+      edges = r.edges;
+      names = r.names;
+      variables = r.variables;
+      regions = r.regions;
+      here = r.here;
+      size = r.size ∙ length-set d.labels p d.here;
+      labels = λ q h. r.labels q (omega (arith, h)) ∙ get_or-set_other d.labels p q d.here no_label (λ e. absurd (omega (arith, h, e)));
+    }
+
+pub fresh_grows : (C : ℕ → Type 0) (n : ℕ) (d : Draft) → Grows C d (fresh n d)
+fresh_grows C n d =
+    let r = placing n d.points d in
+    record {
+      edges = λ e h. subst (λ es. Among e es) (sym r.edges) h;
+      names = r.names;
+      variables = let v = r.variables in omega (arith, v);
+      points = omega arith;
+      size = r.size;
+      labels = λ q h. inr (r.labels q h);
+      regions = λ k. inr (ap (λ rs. region_at rs k) r.regions);
+      paths = ap length r.regions;
+      here = r.here;
+    }
+
+-- ---- declarations
+
+named_enlarges : (ms : List ℕ) (C : ℕ → Type 0) (o : Option (List ℕ)) (x : ℕ) (d : Draft) → Enlarges ms C d (named o x d)
+named_enlarges ms C None x d = record { edges = λ e h. h; names = refl; variables = omega arith; points = omega arith; size = refl; labels = λ n h. inr refl; regions = λ k. inr refl; paths = refl; here = refl }
+named_enlarges ms C (Some name) x d = record { edges = λ e h. h; names = refl; variables = omega arith; points = omega arith; size = refl; labels = λ n h. inr refl; regions = λ k. inr refl; paths = refl; here = refl }
+
+object_enlarges : (ms : List ℕ) (C : ℕ → Type 0) (i : ℕ) (x : VariableOf) (d : Draft) → Enlarges ms C d (with_object i x d)
+object_enlarges ms C i x d = record { edges = λ e h. h; names = refl; variables = omega arith; points = omega arith; size = refl; labels = λ n h. inr refl; regions = λ k. inr refl; paths = refl; here = refl }
+
+pub introduced_enlarges : (ms : List ℕ) (C : ℕ → Type 0) (c : Context) (i : ℕ) (d : Draft) → Enlarges ms C d (introduced c i d)
+introduced_enlarges ms C c i d =
+    let x = local_at c i in
+    let e = with_object i (inner x.name x.int_type x.length c.path) d in
+    path_then (object_enlarges ms C i (inner x.name x.int_type x.length c.path) d) (named_enlarges ms C x.name d.variables e)
+
+pub items_adds : (C : ℕ → Type 0) (c : Context) (i j : ℕ) (es : ValueTrees) (d : Draft) → AllCalled C c (calls_in_values es) → Grows C d (items c i j es d)
+unfolding items calls_in_values
+items_adds C c i j tree.no_values d h = grows_refl C d
+items_adds C c i j (tree.value_before e es) d h =
+    let r = (ways c e).value d in
+    grows_trans ((values C c e (front_called C c (calls_in e) (calls_in_values es) h)).value d) (grows_trans (emit_grows C _ r.1)
+    (items_adds C c i (j + 1) es (item c i j (type_of e) (ways c e) d) (back_called C c (calls_in e) (calls_in_values es) h)))
+
+scalar_first_grows : (C : ℕ → Type 0) (c : Context) (i : ℕ) (e : Option ValueTree) (d : Draft) → AllCalled C c (calls_if e) → Grows C d (statements.scalar_first c i e d)
+scalar_first_grows C c i None d h = emit_grows C _ d
+scalar_first_grows C c i (Some e) d h = grows_trans ((values C c e h).value d) (emit_grows C _ ((ways c e).value d).1)
+
+array_first_grows : (C : ℕ → Type 0) (c : Context) (i : ℕ) (es : Option ValueTrees) (d : Draft) → AllCalled C c (calls_in_values_if es) → Grows C d (statements.array_first c i es d)
+array_first_grows C c i None d h = emit_grows C _ d
+array_first_grows C c i (Some es) d h = grows_trans (emit_grows C (Clear (array_of c (Local i) d)) d) (items_adds C c i 0 es (emit (Clear (array_of c (Local i) d)) d) h)
+
+pub declared_enlarges : (ms : List ℕ) (C : ℕ → Type 0) (c : Context) (v : DeclaredTree) (d : Draft) → AllCalled C c (calls_in_declared v) → Enlarges ms C d (declared c v d)
+declared_enlarges ms C c (tree.scalar_object i p e) d h =
+    let f = introduced c i (on p d) in
+    path_then (enlarges ms C d (on p d) (on_adds ms C p d)) (path_then (introduced_enlarges ms C c i (on p d))
+    (enlarges ms C f (statements.scalar_first c i e f) (adds ms C f (statements.scalar_first c i e f) (scalar_first_grows C c i e f h))))
+declared_enlarges ms C c (tree.array_object i p es) d h =
+    let f = introduced c i (on p d) in
+    path_then (enlarges ms C d (on p d) (on_adds ms C p d)) (path_then (introduced_enlarges ms C c i (on p d))
+    (enlarges ms C f (statements.array_first c i es f) (adds ms C f (statements.array_first c i es f) (array_first_grows C c i es f h))))
+
+pub all_declared_enlarges : (ms : List ℕ) (C : ℕ → Type 0) (c : Context) (vs : List DeclaredTree) (d : Draft) → AllCalled C c (calls_in_all_declared vs) → Enlarges ms C d (all_declared c vs d)
+unfolding all_declared
+all_declared_enlarges ms C c [] d h = enlarges ms C d d (adds ms C d d (grows_refl C d))
+all_declared_enlarges ms C c (v ∷ vs) d h =
+    path_then (declared_enlarges ms C c v d (front_called C c (calls_in_declared v) (calls_in_all_declared vs) h))
+    (all_declared_enlarges ms C c vs (declared c v d) (back_called C c (calls_in_declared v) (calls_in_all_declared vs) h))
+
+-- ---- choices and loops
+
+abbrev AddsTo : List ℕ → (ℕ → Type 0) → (Draft → Draft) → Type 0
+AddsTo ms C f = (d : Draft) → Adds ms C d (f d)
+
+abbrev ChoiceAdds : List ℕ → (ℕ → Type 0) → ((p q : ℕ) → Draft → Draft) → Type 0
+ChoiceAdds ms C f = (p q : ℕ) (d : Draft) → Adds ms C d (f p q d)
+
+abbrev BodyAdds : List ℕ → (ℕ → Type 0) → Exits → (Exits → Draft → Draft) → Type 0
+BodyAdds ms C x s = (b k : ℕ) (d : Draft) → Adds ms C d (s (inside b k x) d)
+
+pub fresh_adds : (ms : List ℕ) (C : ℕ → Type 0) (n : ℕ) (d : Draft) → Adds ms C d (fresh n d)
+fresh_adds ms C n d = adds ms C d (fresh n d) (fresh_grows C n d)
+
+pub nothing_adds : (ms : List ℕ) (C : ℕ → Type 0) (d : Draft) → Adds ms C d d
+nothing_adds ms C d = adds ms C d d (grows_refl C d)
+
+if_adds : (ms : List ℕ) (C : ℕ → Type 0) (p : Pos) (c : Ways Slot) (a b : Draft → Draft) → ChoiceAdds ms C c.choice → AddsTo ms C a → AddsTo ms C b → AddsTo ms C (if_draft p c a b)
+if_adds ms C p c a b hc ha hb d =
+    let d0 = on p d in
+    let d1 = fresh 2 d0 in
+    let d2 = c.choice d0.points (d0.points + 1) d1 in
+    let t = a (at d0.points d2) in
+    let u = b (at (d.points + 1) t) in
+    let j = fresh 1 (on p u) in
+    let l = link Skip (on p u).points (at t.point j) in
+    stays_then (on_adds ms C p d) (stays_then (fresh_adds ms C 2 d0) (stays_then (hc d0.points (d0.points + 1) d1) (stays_then (ha (at d0.points d2)) (stays_then (hb (at (d.points + 1) t))
+    (stays_then (on_adds ms C p u) (stays_then (fresh_adds ms C 1 (on p u)) (stays_then (link_adds ms C Skip (on p u).points (at t.point j)) (link_adds ms C Skip (on p u).points (at u.point l)))))))))
+
+pub round_adds : (ms : List ℕ) (C : ℕ → Type 0) (x : Exits) (s : Exits → Draft → Draft) → BodyAdds ms C x s → (b e k : ℕ) (d : Draft) → Adds ms C d (round x s b e k d)
+round_adds ms C x s h b e k d = stays_then (h e k (at b d)) (link_adds ms C Skip k (s (inside e k x) (at b d)))
+
+pub begun_adds : (ms : List ℕ) (C : ℕ → Type 0) (d : Draft) → Adds ms C d (loop_begun d)
+begun_adds ms C d = stays_then (fresh_adds ms C 3 d) (link_adds ms C Skip d.points (fresh 3 d))
+
+pub while_adds : (ms : List ℕ) (C : ℕ → Type 0) (c : Ways Slot) (s : Exits → Draft → Draft) (x : Exits) → ChoiceAdds ms C c.choice → BodyAdds ms C x s → (b e : ℕ) (d : Draft) → Adds ms C d (while_from c s x b e d)
+while_adds ms C c s x hc hs b e d = stays_then (hc b e d) (round_adds ms C x s hs b e d.point (c.choice b e d))
+
+pub do_adds : (ms : List ℕ) (C : ℕ → Type 0) (p : Pos) (c : Ways Slot) (s : Exits → Draft → Draft) (x : Exits) → ChoiceAdds ms C c.choice → BodyAdds ms C x s → (k e : ℕ) (d : Draft) → Adds ms C d (do_from p c s x k e d)
+do_adds ms C p c s x hc hs k e d =
+    let r = round x s d.point e k d in
+    stays_then (round_adds ms C x s hs d.point e k d) (stays_then (on_adds ms C p r) (hc d.point e (on p r)))
+
+scope_adds : (ms : List ℕ) (C : ℕ → Type 0) (d e : Draft) → Enlarges ms C d e → Adds ms C d (in_scope d.here.scope e)
+scope_adds ms C d e g = record { edges = g.edges; names = g.names; variables = g.variables; points = g.points; size = g.size; labels = g.labels; regions = g.regions; paths = g.paths; here = (g.here, refl) }
+
+-- the names in scope are those of an earlier draft
+scoped_adds : (ms : List ℕ) (C : ℕ → Type 0) (k : ℕ) (d e : Draft) → Adds ms C d e → Adds ms C d (in_scope d.here.scope e)
+scoped_adds ms C k d e g = scope_adds ms C d e (enlarges ms C d e g)
+
+pub for_adds : (ms : List ℕ) (C : ℕ → Type 0) (p : Pos) (test : (p q : ℕ) → Draft → Draft) (third : Draft → Draft) (s : Exits → Draft → Draft) (x : Exits) → ChoiceAdds ms C test → AddsTo ms C third → BodyAdds ms C x s → (b k e : ℕ) (d : Draft)
+    → Adds ms C d (for_from p test third s x b k e d)
+for_adds ms C p test third s x ht h3 hs b k e d =
+    let t = test b e d in
+    let r = round x s b e k t in
+    let o = in_scope d.here.scope (on p r) in
+    stays_then (scoped_adds ms C 0 d (on p r) (stays_then (ht b e d) (stays_then (round_adds ms C x s hs b e k t) (on_adds ms C p r))))
+    (stays_then (h3 o) (link_adds ms C Skip d.point (third o)))
+
+-- ---- switches
+
+case_adds : (ms : List ℕ) (C : ℕ → Type 0) (s : Site) (t : IntType) (r : SlotTree) (zs : List ℤ) (p : ℕ) (d : Draft) → Adds ms C d (case_tests s t r zs p d)
+unfolding case_tests
+case_adds ms C s t r [] p d = nothing_adds ms C d
+case_adds ms C s t r (z ∷ zs) p d =
+    let q : Given Slot = (binary_tree Eq s t r (constant t z), fresh 1 d) in
+    stays_then (fresh_adds ms C 1 d) (stays_then (adds ms C (fresh 1 d) (rows.guards p d.points q) (guards_grow C p d.points q)) (case_adds ms C s t r zs (p + 1) (case_test s t r z p d)))
+
+-- n points from p on
+abbrev pub upto : (n p : ℕ) → List ℕ
+upto zero p = []
+upto (suc n) p = p ∷ upto n (p + 1)
+
+pub upto_from : (n p q : ℕ) → Among q (upto n p) → p ≤ q
+upto_from zero p q h = absurd h
+upto_from (suc n) p q (inl e) = omega (arith, e)
+upto_from (suc n) p q (inr h) = let z = upto_from n (p + 1) q h in omega (arith, z)
+
+pub upto_has : (n p i : ℕ) → i < n → Among (p + i) (upto n p)
+upto_has zero p i h = absurd (omega (arith, h))
+upto_has (suc n) p zero h = inl (omega arith)
+upto_has (suc n) p (suc i) h = inr (subst (λ q. Among q (upto n (p + 1))) (omega arith) (upto_has n (p + 1) i (omega (arith, h))))
+
+pub front_list : (xs ys : List ℕ) (m : ℕ) → Among m xs → Among m (xs ++ ys)
+front_list xs ys m h = front_among xs ys m h
+
+pub back_list : (xs ys : List ℕ) (m : ℕ) → Among m ys → Among m (xs ++ ys)
+back_list [] ys m h = h
+back_list (x ∷ xs) ys m h = inr (back_list xs ys m h)
+
+either_list : (xs ys : List ℕ) (m : ℕ) → Among m (xs ++ ys) → Among m xs ⊎ Among m ys
+either_list [] ys m h = inr h
+either_list (x ∷ xs) ys m (inl e) = inl (inl e)
+either_list (x ∷ xs) ys m (inr h) = by (either_list xs ys m h) where
+  by : Among m xs ⊎ Among m ys → Among m (x ∷ xs) ⊎ Among m ys
+  by (inl k) = inl (inr k)
+  by (inr k) = inr k
+
+-- marks that were made behind a draft are none of its points
+inner_adds : (ms ys : List ℕ) (C : ℕ → Type 0) (d e f : Draft) → ((q : ℕ) → Among q ys → d.points ≤ q) → Adds ms C d e → Adds (ys ++ ms) C e f → Adds ms C d f
+inner_adds ms ys C d e f from a b =
+    let first : Adds (ys ++ ms) C d e = record { edges = a.edges; names = a.names; variables = a.variables; points = a.points; size = a.size; labels = (λ q h. more q (a.labels q h)); regions = a.regions; paths = a.paths; here = a.here } in
+    let whole : Adds (ys ++ ms) C d f = stays_then first b in
+    record { edges = whole.edges; names = whole.names; variables = whole.variables; points = whole.points; size = whole.size; labels = (λ q h. less q h (whole.labels q h)); regions = whole.regions; paths = whole.paths; here = whole.here } where
+      more : (q : ℕ) {A : Type 0} → Among q ms ⊎ A → Among q (ys ++ ms) ⊎ A
+      more q (inl h) = inl (back_list ys ms q h)
+      more q (inr z) = inr z
+
+      by : (q : ℕ) → q < d.points → Among q ys ⊎ Among q ms → Among q ms
+      by q h (inl k) = let z = from q k in absurd (omega (arith, h, z))
+      by q h (inr k) = k
+
+      less : (q : ℕ) {A : Type 0} → q < d.points → Among q (ys ++ ms) ⊎ A → Among q ms ⊎ A
+      less q h (inl k) = inl (by q h (either_list ys ms q k))
+      less q h (inr z) = inr z
+
+pub marking_inside : (x : Exits) (m : Marks) (ms : List ℕ) (b k : ℕ) → Marking x m ms → Marking (inside b k x) m ms
+marking_inside x m ms b k h = record { labels = h.labels; cases = h.cases; default = h.default }
+
+pub marking_switch : (x : Exits) (m : Marks) (ms : List ℕ) (e n : ℕ) (b : Bool) → Marking x m ms → Marking (in_switch e n x) (WellTyped.in_switch n b m) (upto (n + 1) (e + 1) ++ ms)
+marking_switch x m ms e n b h = record {
+  labels = λ l k. back_list (upto (n + 1) (e + 1)) ms (x.labels + l) (h.labels l k);
+  cases = λ i k. front_list (upto (n + 1) (e + 1)) ms (e + 1 + i) (upto_has (n + 1) (e + 1) i (omega (arith, k)));
+  default = λ k. front_list (upto (n + 1) (e + 1)) ms (e + 1 + n) (upto_has (n + 1) (e + 1) n (omega arith));
+}
+
+pub choice_adds : (ms : List ℕ) (C : ℕ → Type 0) (w : Ways Slot) → WaysGrow C w → ChoiceAdds ms C w.choice
+choice_adds ms C w g p q d = adds ms C d (w.choice p q d) (g.choice p q d)
+
+-- behind the value of a switch
+pub begun_switch_adds : (ms : List ℕ) (C : ℕ → Type 0) (s : Site) (t : IntType) (zs : List ℤ) (b : Bool) (k : Given Slot) → Adds ms C k.1 (switch_begun s t zs b k)
+begun_switch_adds ms C s t zs b k =
+    let e = k.1.points in
+    let n = length zs in
+    let f = fresh (1 + n + (if b then 1 else 0)) k.1 in
+    stays_then (fresh_adds ms C (1 + n + (if b then 1 else 0)) k.1) (stays_then (case_adds ms C s t k.0 zs (e + 1) f) (away_adds ms C (if b then e + 1 + n else e) (case_tests s t k.0 zs (e + 1) f)))
+
+switch_adds : (ms : List ℕ) (C : ℕ → Type 0) (s : Site) (t : IntType) (c : Context) (v : ValueTree) (zs : List ℤ) (b : Bool) (body : Exits → Draft → Draft) (x : Exits) → WaysGrow C (ways c v)
+    → ((e : ℕ) (d : Draft) → Adds (upto (length zs + 1) (e + 1) ++ ms) C d (body (in_switch e (length zs) x) d)) → (d : Draft) → Adds ms C d (statements.switch_draft s t (operand v (ways c v)) zs b body x d)
+switch_adds ms C s t c v zs b body x hv hb d =
+    let r = (ways c v).value d in
+    let k = statements.tested t (operand v (ways c v)) d in
+    let e = k.1.points in
+    let u = switch_begun s t zs b k in
+    let valued : Grows C d k.1 = grows_trans (hv.value d) (held_grows C Strong (converted_shape (type_of v) t (shape_of v)) t (conversion (type_of v) t r.0, r.1)) in
+    let le = valued.points in
+    stays_then (inner_adds ms (upto (length zs + 1) (e + 1)) C d u (body (in_switch e (length zs) x) u) (λ q m. let z = upto_from (length zs + 1) (e + 1) q m in omega (arith, le, z))
+    (stays_then (adds ms C d k.1 valued) (begun_switch_adds ms C s t zs b k)) (hb e u)) (link_adds ms C Skip e (body (in_switch e (length zs) x) u))
+
+-- ---- the forms
+
+returned_adds : (ms : List ℕ) (C : ℕ → Type 0) (c : Context) (left : ℕ) (r : Option IntType) (e : Option ValueTree) → AllCalled C c (calls_if e) → AddsTo ms C (returned c left r e)
+returned_adds ms C c left None None h d = away_adds ms C left d
+returned_adds ms C c left None (Some e) h d = away_adds ms C left d
+returned_adds ms C c left (Some t) None h d = away_adds ms C left d
+returned_adds ms C c left (Some t) (Some e) h d =
+    let r = (ways c e).value d in
+    let f = rows.set_after t (type_of e) (own_result c d) r in
+    stays_then (adds ms C d f (grows_trans ((values C c e h).value d) (emit_grows C _ r.1))) (away_adds ms C left f)
+
+third_adds : (ms : List ℕ) (C : ℕ → Type 0) (c : Context) (e : Option EffectTree) → AllCalled C c (calls_in_effect_if e) → AddsTo ms C (performed_if c e)
+third_adds ms C c None h d = nothing_adds ms C d
+third_adds ms C c (Some e) h d = adds ms C d (performed c e d) (effects C c e h d)
+
+test_adds : (ms : List ℕ) (C : ℕ → Type 0) (c : Context) (e : Option ValueTree) → AllCalled C c (calls_if e) → ChoiceAdds ms C (for_test c e)
+test_adds ms C c None h p q d = link_adds ms C Skip p d
+test_adds ms C c (Some e) h p q d = adds ms C d ((ways c e).choice p q d) ((values C c e h).choice p q d)
+
+start_enlarges : (ms : List ℕ) (C : ℕ → Type 0) (c : Context) (f : ForStartTree) (d : Draft) → AllCalled C c (calls_at_start f) → Enlarges ms C d (for_start c f d)
+start_enlarges ms C c (tree.declarations vs) d h = all_declared_enlarges ms C c vs d h
+start_enlarges ms C c (tree.expression e) d h = enlarges ms C d (performed_if c e d) (third_adds ms C c e h d)
+
+for_draft_adds : (ms : List ℕ) (C : ℕ → Type 0) (p : Pos) (c : Context) (f : ForStartTree) (e : Option ValueTree) (third : Option EffectTree) (s : Exits → Draft → Draft) (x : Exits)
+    → AllCalled C c (calls_at_start f) → AllCalled C c (calls_if e) → AllCalled C c (calls_in_effect_if third) → BodyAdds ms C x s → (d : Draft) → Adds ms C d (statements.for_draft p (for_start c f) (for_test c e) (performed_if c third) s x d)
+for_draft_adds ms C p c f e third s x hf he h3 hs d =
+    let d1 = fresh 1 d in
+    let g = for_start c f d1 in
+    let o = on p g in
+    let h = o.points in
+    let b = loop_begun o in
+    let w = for_from p (for_test c e) (performed_if c third) s x (h + 1) (h + 2) d.points b in
+    scope_adds ms C d (at d.points w) (path_then (enlarges ms C d d1 (fresh_adds ms C 1 d)) (path_then (start_enlarges ms C c f d1 hf) (enlarges ms C g w (stays_then (on_adds ms C p g) (stays_then (begun_adds ms C o)
+    (for_adds ms C p (for_test c e) (performed_if c third) s x (test_adds ms C c e he) (third_adds ms C c third h3) hs (h + 1) (h + 2) d.points b))))))
+
+mutual
+  unfolding lowered lowered_items IsStatement AreItems calls_in_statement calls_in_items
+
+  pub statement : (C : ℕ → Type 0) (c : Context) (a : Around) (m : Marks) (s : StatementTree) (x : Exits) (ms : List ℕ) → IsStatement a m s → Marking x m ms → AllCalled C c (calls_in_statement s) → AddsTo ms C (lowered c s x)
+  statement C c a m (tree.block p is) x ms f h k d = scope_adds ms C d (lowered_items c is x d) (block C c a m is x ms f h k d)
+  statement C c a m (tree.empty p) x ms f h k d = nothing_adds ms C d
+  statement C c a m (tree.effect p e) x ms f h k d = stays_then (on_adds ms C p d) (adds ms C (on p d) (performed c e (on p d)) (effects C c e k (on p d)))
+  statement C c a m (tree.label p l s) x ms f h k d =
+      stays_then (on_adds ms C p d) (stays_then (come_adds ms C (x.labels + l) (on p d) (h.labels l f.0)) (statement C c a m s x ms f.1 h k (come (x.labels + l) (on p d))))
+  statement C c a m (tree.case p i s) x ms f h k d =
+      stays_then (on_adds ms C p d) (stays_then (come_adds ms C (x.cases + i) (on p d) (h.cases i f.0)) (statement C c a m s x ms f.1 h k (come (x.cases + i) (on p d))))
+  statement C c a m (tree.default p s) x ms f h k d =
+      stays_then (on_adds ms C p d) (stays_then (come_adds ms C x.otherwise (on p d) (h.default f.0)) (statement C c a m s x ms f.1 h k (come x.otherwise (on p d))))
+  statement C c a m (tree.if_then p e s) x ms f h k d =
+      if_adds ms C p (ways c e) (lowered c s x) (λ r. r) (choice_adds ms C (ways c e) (values C c e (front_called C c (calls_in e) (calls_in_statement s) k)))
+      (statement C c a m s x ms f.1 h (back_called C c (calls_in e) (calls_in_statement s) k)) (nothing_adds ms C) d
+  statement C c a m (tree.if_else p e s r) x ms f h k d =
+      let k1 = front_called C c (calls_in e ++ calls_in_statement s) (calls_in_statement r) k in
+      if_adds ms C p (ways c e) (lowered c s x) (lowered c r x) (choice_adds ms C (ways c e) (values C c e (front_called C c (calls_in e) (calls_in_statement s) k1)))
+      (statement C c a m s x ms f.1 h (back_called C c (calls_in e) (calls_in_statement s) k1)) (statement C c _ m r x ms f.2 h (back_called C c (calls_in e ++ calls_in_statement s) (calls_in_statement r) k)) d
+  statement C c a m (tree.switch p t e zs b s) x ms f h k d =
+      stays_then (on_adds ms C p d) (switch_adds ms C (site c p) t c e zs b (lowered c s) x (values C c e (front_called C c (calls_in e) (calls_in_statement s) k))
+      (λ q r. statement C c a (WellTyped.in_switch (length zs) b m) s (in_switch q (length zs) x) (upto (length zs + 1) (q + 1) ++ ms) f.2 (marking_switch x m ms q (length zs) b h) (back_called C c (calls_in e) (calls_in_statement s) k) r) (on p d))
+  statement C c a m (tree.while p e s) x ms f h k d =
+      let o = on p d in
+      stays_then (on_adds ms C p d) (stays_then (begun_adds ms C o)
+      (while_adds ms C (ways c e) (lowered c s) x (choice_adds ms C (ways c e) (values C c e (front_called C c (calls_in e) (calls_in_statement s) k)))
+      (λ b q r. statement C c a m s (inside b q x) ms f.1 (marking_inside x m ms b q h) (back_called C c (calls_in e) (calls_in_statement s) k) r) (o.points + 1) (o.points + 2) (loop_begun o)))
+  statement C c a m (tree.do_while p s e) x ms f h k d =
+      let o = on p d in
+      stays_then (on_adds ms C p d) (stays_then (begun_adds ms C o)
+      (do_adds ms C p (ways c e) (lowered c s) x (choice_adds ms C (ways c e) (values C c e (back_called C c (calls_in_statement s) (calls_in e) k)))
+      (λ b q r. statement C c a m s (inside b q x) ms f.0 (marking_inside x m ms b q h) (front_called C c (calls_in_statement s) (calls_in e) k) r) (o.points + 1) (o.points + 2) (loop_begun o)))
+  statement C c a m (tree.for_loop p g e third s) x ms f h k d =
+      let k1 = front_called C c (calls_at_start g ++ calls_if e ++ calls_in_effect_if third) (calls_in_statement s) k in
+      let k2 = front_called C c (calls_at_start g ++ calls_if e) (calls_in_effect_if third) k1 in
+      stays_then (on_adds ms C p d) (for_draft_adds ms C p c g e third (lowered c s) x (front_called C c (calls_at_start g) (calls_if e) k2) (back_called C c (calls_at_start g) (calls_if e) k2)
+      (back_called C c (calls_at_start g ++ calls_if e) (calls_in_effect_if third) k1)
+      (λ b q r. statement C c _ m s (inside b q x) ms f.3 (marking_inside x m ms b q h) (back_called C c (calls_at_start g ++ calls_if e ++ calls_in_effect_if third) (calls_in_statement s) k) r) (on p d))
+  statement C c a m (tree.goto p l) x ms f h k d = stays_then (on_adds ms C p d) (away_adds ms C (x.labels + l) (on p d))
+  statement C c a m (tree.continue p) x ms f h k d = stays_then (on_adds ms C p d) (away_adds ms C x.continued (on p d))
+  statement C c a m (tree.break p) x ms f h k d = stays_then (on_adds ms C p d) (away_adds ms C x.broken (on p d))
+  statement C c a m (tree.return p e) x ms f h k d = stays_then (on_adds ms C p d) (returned_adds ms C c x.left c.returns e k (on p d))
+
+  pub block : (C : ℕ → Type 0) (c : Context) (a : Around) (m : Marks) (is : ItemTrees) (x : Exits) (ms : List ℕ) → AreItems a m is → Marking x m ms → AllCalled C c (calls_in_items is) → (d : Draft) → Enlarges ms C d (lowered_items c is x d)
+  block C c a m tree.no_items x ms f h k d = enlarges ms C d d (nothing_adds ms C d)
+  block C c a m (tree.declared_before v is) x ms f h k d =
+      path_then (declared_enlarges ms C c v d (front_called C c (calls_in_declared v) (calls_in_items is) k)) (block C c _ m is x ms f.1 h (back_called C c (calls_in_declared v) (calls_in_items is) k) (declared c v d))
+  block C c a m (tree.statement_before s is) x ms f h k d =
+      path_then (enlarges ms C d (lowered c s x d) (statement C c a m s x ms f.0 h (front_called C c (calls_in_statement s) (calls_in_items is) k) d))
+      (block C c _ m is x ms f.1 h (back_called C c (calls_in_statement s) (calls_in_items is) k) (lowered c s x d))

@@ -1,0 +1,85 @@
+-- From the work of a statement to that of its parts.
+use Rattle.std.proofs.Common.{◌≡◌, ℕ, zero, suc, ◌+◌, ◌<◌, ◌≤◌, ◌⊎◌, List, [], ◌∷◌, ◌++◌, length, Bool, true, false, if◌then◌else◌, refl, sym, ap, ◌∙◌, subst, inl, inr, arith, ℤ, Option, Some, None}
+use Rattle.pk_ctypes.specs.declared.places.Pos.{Pos}
+use Rattle.pk_ctypes.specs.declared.types.IntType.{IntType}
+use Rattle.pk_typed.specs.Trees.{ValueTree, EffectTree, StatementTree, ItemTrees}
+use Rattle.pk_typed.specs.Trees as tree
+use Rattle.pk_welltyped.specs.Listed.{Numbered, calls_in, calls_in_effect, calls_in_statement, calls_in_items}
+use Rattle.pk_welltyped.specs.WellTyped.{IsStatement, AreItems, Marks}
+use Rattle.pk_graph.specs.Trees.{Skip}
+use Rattle.pk_graph.specs.Steps.{Numbers}
+use Rattle.pk_draft.specs.declared.drafts.Label.{Label}
+use Rattle.pk_draft.specs.Drafts.{on, in_scope, at, fresh, link, placed, come, no_label}
+use Rattle.pk_lower_row.specs.Shapes.{makes_effect}
+use Rattle.pk_lower_row.specs.Contexts.{Context}
+use Rattle.pk_lower_expression.specs.Expressions.{ways, performed}
+use Rattle.pk_lower_statement.specs.declared.statements.Exits.{Exits}
+use Rattle.pk_lower_statement.specs.Statements.{lowered, lowered_items}
+use Rattle.pk_meaning.specs.Objects.{Scope, Objects}
+use Rattle.pk_meaning.specs.Work as work
+use Rattle.pk_meaning.specs.Work.{Place, Work, Ahead, Onward}
+use Rattle.pk_meaning.specs.Steps as meaning
+use Rattle.pk_meaning.specs.Steps.{place, step_of}
+use Rattle.pk_visits.proofs.Slots.{Slot, Draft, Memory, Among, edge, last_among}
+use Rattle.pk_visits.proofs.Stands.{Whole, Proper, context_of, Held, around, AreCalm, ArePlain, ShowsAt, Means, FitsObjects, Stage, led_to, Marking, LaidAhead, Laid}
+use Rattle.pk_visits.proofs.Stages.{In, all_called, effect_grows, ways_grow, part_first, part_second, part_until, stage_at, stage_until}
+use Rattle.pk_visits.proofs.StatementGrows.{Stays, OnPath, Adds, Enlarges, on_adds, come_adds, away_adds, enlarges, statement, block}
+use Rattle.pk_visits.proofs.Operands.{calm_more}
+use Rattle.pk_visits.proofs.Follow.{Answers, Follows, config, still, moved}
+use Rattle.pk_visits.proofs.Doom.{calm_plain}
+
+-- ---- places
+
+-- a label of the same path and names shows the same place, at its own position
+pub shows_on : (g : Whole) (proper : Proper g) (k : ℕ) (xs : Scope) (l m : Label) → g.shows l k (place l.at xs) → Stays l m → g.shows m k (place m.at xs)
+shows_on g proper k xs l m s h =
+    subst (λ p. g.shows (record { at = m.at; path = p; scope = m.scope }) k (place m.at xs)) (sym h.0)
+    (subst (λ q. g.shows (record { at = m.at; path = l.path; scope = q }) k (place m.at xs)) (sym h.1) (proper.positions l k xs m.at s))
+
+-- ---- blocks and their items
+
+pub block_laid : (g : Whole) (k : ℕ) (h : Place) (x : Exits) (p : Pos) (is : ItemTrees) (a : Ahead) (pt : ℕ) (hs : List Held) → Laid g k h x (work.Do (tree.block p is) a) pt hs
+    → Laid g k h x (work.Go (work.Rest h.scope is a)) pt hs
+unfolding lowered IsStatement calls_in_statement
+block_laid g k h x p is a pt hs (d, n, m, at', fits, calm, s, marking, l) =
+    (calm_plain d.variables hs calm, (d, n, m, at', fits, calm, part_until g OnPath k _ _ d (lowered_items (context_of g k) is x d) _ s unscoped, marking, l)) where
+      unscoped : Rattle.pk_visits.proofs.Slots.Keeps OnPath (In s.marks) (In []) (lowered_items (context_of g k) is x d) (in_scope d.here.scope (lowered_items (context_of g k) is x d))
+      unscoped = record { edges = λ e z. z; names = refl; variables = omega arith; points = omega arith; size = refl; labels = λ q z. inr refl; regions = λ j. inr refl; paths = refl; here = refl }
+
+-- the next statement of a block, behind which is the rest
+pub next_laid : (g : Whole) (proper : Proper g) (k : ℕ) (h : Place) (x : Exits) (xs : Scope) (s : StatementTree) (is : ItemTrees) (a : Ahead) (p : ℕ) (hs : List Held) (q : Pos)
+    → Laid g k h x (work.Go (work.Rest xs (tree.statement_before s is) a)) p hs → Laid g k (place q xs) x (work.Do s (work.Rest xs is a)) p hs
+unfolding lowered_items AreItems calls_in_items
+next_laid g proper k h x xs s is a p hs q (plain, (d, n, m, at', fits, calm, t, marking, l)) =
+    let c = context_of g k in
+    let e = lowered c s x d in
+    let rest = block (In (led_to c (calls_in_items is))) c _ m is x t.marks fits.1 marking (all_called c (calls_in_items is)) e in
+    let first = statement (In (led_to c (calls_in_statement s))) c _ m s x t.marks fits.0 marking (all_called c (calls_in_statement s)) d in
+    let le = first.points in
+    let lv = first.variables in
+    (d, n, m, at', fits.0, calm, part_first g OnPath k _ (calls_in_statement s) (calls_in_items is) d e (lowered_items c is x e) t rest, marking,
+    (e, _, m, refl, fits.1, calm_more d.variables e.variables hs lv calm,
+    part_second g k _ (place e.here.at xs) (calls_in_statement s) (calls_in_items is) d e (lowered_items c is x e) t le (shows_on g proper k xs d.here e.here t.here first.here), marking, l))
+
+pub none_laid : (g : Whole) (k : ℕ) (h : Place) (x : Exits) (xs : Scope) (a : Ahead) (p : ℕ) (hs : List Held) → Laid g k h x (work.Go (work.Rest xs tree.no_items a)) p hs → Laid g k h x (work.Go a) p hs
+unfolding lowered_items
+none_laid g k h x xs a p hs (plain, (d, n, m, at', fits, calm, t, marking, l)) = (plain, subst (λ q. LaidAhead g k x a q hs) at' l)
+
+-- ---- statements of one expression
+
+pub empty_laid : (g : Whole) (k : ℕ) (h : Place) (x : Exits) (p : Pos) (a : Ahead) (pt : ℕ) (hs : List Held) → Laid g k h x (work.Do (tree.empty p) a) pt hs → Laid g k h x (work.Go a) pt hs
+unfolding lowered
+empty_laid g k h x p a pt hs (d, n, m, at', fits, calm, s, marking, l) = (calm_plain d.variables hs calm, subst (λ q. LaidAhead g k x a q hs) at' l)
+
+pub effect_laid : (g : Whole) (proper : Proper g) (k : ℕ) (h : Place) (x : Exits) (p : Pos) (e : EffectTree) (a : Ahead) (pt : ℕ) (hs : List Held) → Laid g k h x (work.Do (tree.effect p e) a) pt hs
+    → Laid g k (place p h.scope) x (work.Perform e (work.Go a)) pt hs
+unfolding lowered IsStatement calls_in_statement
+effect_laid g proper k h x p e a pt hs (d, n, m, at', fits, calm, s, marking, l) =
+    (on p d, n, at', fits, (λ q. calm), stage_at g k _ (place p h.scope) (calls_in_effect e) d (on p d) _ s (omega arith) (proper.positions d.here k h.scope p s.here), (calm_plain d.variables hs calm, l))
+
+-- ---- labels
+
+-- an edge to a mark, which shows its place
+record Comes (g : Whole) (k : ℕ) (p : Pos) (xs : Scope) (pt q : ℕ) : Type 0 where
+  pub there : Among (edge pt Skip q) g.edges
+  pub shown : ShowsAt g q k (place p xs)

@@ -1,0 +1,3 @@
+pub mod GraphVisits
+pub mod Marks
+pub mod SameVisits

@@ -1,0 +1,71 @@
+-- A program and its graph have the same visits.
+use Rattle.std.specs.Prelude.{◌≡◌, ℕ, ◌≤◌, List, ◌∷◌, map, Contains, Option, Some, None}
+use Rattle.pk_typed.specs.Trees.{UnitTree}
+use Rattle.pk_calls.specs.declared.listings.CallPath.{CallPath}
+use Rattle.pk_calls.specs.Answers.{HasPaths}
+use Rattle.pk_graph.specs.Graphs.{EdgeOf, GraphOf, point_at}
+use Rattle.pk_graph.specs.Steps as graph
+use Rattle.pk_graph.specs.Steps.{Numbers, Failure, effect}
+use Rattle.pk_graph.specs.Stores.{Stored, storing}
+use Rattle.pk_draft.specs.Drafts.{by_number}
+use Rattle.pk_lower.specs.Parts.{point_count, program_draft}
+use Rattle.pk_lower.specs.Paths.{path_of}
+use Rattle.pk_number.specs.Numbering.{numbered}
+use Rattle.pk_welltyped.specs.WellTyped.{IsUnit}
+use Rattle.pk_meaning.specs.Programs.{Program}
+use Rattle.pk_meaning.specs.Steps.{Config, Faulted, step}
+use Rattle.pk_meaning.specs.Runs.{Visit, visit_of, start, Runs}
+use Rattle.pk_visits.specs.GraphVisits.{Begins, visit_at, GraphRuns}
+use Rattle.pk_visits.specs.Marks.{AreMarked}
+
+-- the run goes on or not, or its next step fails
+abbrev pub Ends : Program → Config → Option Failure → Type 0
+Ends p c None = Unit {0}
+Ends p c (Some f) = (chosen : Numbers) × (step p chosen c ≡ Faulted f.fault f.site)
+
+-- the visits of a run of a program, and the failure at its end if there is one
+pub record ProgramVisits (p : Program) (visits : List Visit) (end : Option Failure) : Type 0 where
+  pub choice : Numbers
+  pub first : Config
+  pub last : Config
+  pub others : List Visit
+  pub starts : start p choice ≡ Some first
+  pub runs : Runs p first others last
+  pub visits_are : visits ≡ visit_of p first ∷ others
+  pub ends : Ends p last end
+
+-- some edge of the point fails
+pub record FailsAt (g : GraphOf) (point : ℕ) (s : Stored) (f : Failure) : Type 0 where
+  pub chosen : Numbers
+  pub edge : EdgeOf
+  pub there : Contains (point_at g point).edges edge
+  pub fails : effect storing chosen edge.instr s ≡ graph.Faulted f
+
+abbrev pub EndsAt : GraphOf → ℕ → Stored → Option Failure → Type 0
+EndsAt g p s None = Unit {0}
+EndsAt g p s (Some f) = FailsAt g p s f
+
+-- the visits of a run of a graph, and the failure at its end if there is one
+pub record GraphVisits (g : GraphOf) (visits : List Visit) (end : Option Failure) : Type 0 where
+  pub first : Stored
+  pub point : ℕ
+  pub last : Stored
+  pub others : List Visit
+  pub begins : Begins g first
+  pub runs : GraphRuns g 0 first others point last
+  pub visits_are : visits ≡ visit_at g 0 first ∷ others
+  pub ends : EndsAt g point last end
+
+-- Temporaries, results and parameters that are made ready are dropped (they are no visits): each list of visits of a run of the program, with its failure, is that of a run of the graph, and the other way round.
+pub record HaveSameVisits (p : Program) (g : GraphOf) : Type 0 where
+  pub forward : (visits : List Visit) (end : Option Failure) → ProgramVisits p visits end → GraphVisits g visits end
+  pub backward : (visits : List Visit) (end : Option Failure) → GraphVisits g visits end → ProgramVisits p visits end
+
+abbrev pub graph_of : UnitTree → List CallPath → GraphOf
+graph_of u paths = numbered (map (path_of u paths) paths) (program_draft by_number u paths)
+
+-- Every typed unit with its call paths, and the graph that the lowering makes of it.
+abbrev pub GraphsHaveProgramVisits : Type 0
+GraphsHaveProgramVisits =
+    (u : UnitTree) (name : List ℕ) (paths : List CallPath) → IsUnit u → AreMarked u → HasPaths u name paths → point_count u paths ≤ 65536
+    → HaveSameVisits (record { unit = u; paths = paths }) (graph_of u paths)

@@ -1,0 +1,2 @@
+//! The graph of a program has the program's visits.
+#![tactic(auto)]
