@@ -324,7 +324,8 @@ one_object u storage words x (Some e) i f unknown h s k =
     let fits : count (given i) ≤ m.0 = given_fit i m.0 x.at (none_before (braces true i x.at) (surplus n i) k1.1) (rw m.1 at (none_after (braces true i x.at) (surplus n i) k1.1)) in
     object_made u words true n x i f w rows fs (text_of f.walked.scoping x) refl refl void unknown h (subst (λ (o : Option ℕ). RoomIn true o (count (given i))) (sym m.1) fits) s
 
-all_objects : (u : UnitTree) (storage : Option Storage) (words : Words) (ds : List DeclaratorTree) (f : F) → is_unknown words.typing ≡ false → FileIs u f → Stands u (after_objects noted storage words ds f) → (after_objects noted storage words ds f).walked.found ≡ None
+all_objects : (u : UnitTree) (storage : Option Storage) (words : Words) (ds : List DeclaratorTree) (f : F) → is_unknown words.typing ≡ false → FileIs u f → Stands u (after_objects noted storage words ds f)
+    → (after_objects noted storage words ds f).walked.found ≡ None
     → FileIs u (after_objects noted storage words ds f)
 unfolding after_objects
 all_objects u storage words [] f unknown h s k = h
@@ -333,7 +334,8 @@ all_objects u storage words (d ∷ ds) f unknown h s k =
     let l = later_objects storage words ds g in
     all_objects u storage words ds g unknown (one_object u storage words d.name d.length d.initializer f unknown h (stands_before u g _ l s) (l.found k)) s k
 
-pub declaration : (u : UnitTree) (storage : Option Storage) (d : DeclarationTree) (f : F) → FileIs u f → Stands u (after_declaration noted storage d f) → (after_declaration noted storage d f).walked.found ≡ None → FileIs u (after_declaration noted storage d f)
+pub declaration : (u : UnitTree) (storage : Option Storage) (d : DeclarationTree) (f : F) → FileIs u f → Stands u (after_declaration noted storage d f) → (after_declaration noted storage d f).walked.found ≡ None
+    → FileIs u (after_declaration noted storage d f)
 unfolding after_declaration specifiers
 declaration u storage d f h s k =
     let g = on (failing noted (specifiers d.specifiers)) f in

@@ -91,7 +91,8 @@ record One (u : UnitTree) (ls : List LocalTree) (w v : W) (t : Typing) : Type 0 
   type_is : local.int_type ≡ type_or_int t
   length_is : local.length ≡ None
 
-parameter : (u : UnitTree) (ls : List LocalTree) (p : ParameterTree) (w : W) → NamesAre (around u ls w) (here w) → Begins ls (after_parameter noted p w) → (after_parameter noted p w).found ≡ None → One u ls w (after_parameter noted p w) (type_named p.specifiers)
+parameter : (u : UnitTree) (ls : List LocalTree) (p : ParameterTree) (w : W) → NamesAre (around u ls w) (here w) → Begins ls (after_parameter noted p w) → (after_parameter noted p w).found ≡ None
+    → One u ls w (after_parameter noted p w) (type_named p.specifiers)
 unfolding specifiers
 parameter u ls p w n b h = named p.name b h
   where
@@ -190,7 +191,8 @@ made u g m visible b w v x (Some is) im c l s k p n h = record {
       h.1.listed ∙ (at ∙ sym (ap (numbered 0) is_them));
 }
 
-pub body : (u : UnitTree) (g : tree.FunctionTree) (r : Typing) (visible : ℕ) (b : BlockTree) (w : W) → visible ≤ length u.objects → w.calls ≡ [] → AreParameters g.parameters (after_body noted r b w).locals → length w.locals ≡ length g.parameters → g.returns ≡ integer_in r → is_unknown r ≡ false
+pub body : (u : UnitTree) (g : tree.FunctionTree) (r : Typing) (visible : ℕ) (b : BlockTree) (w : W) → visible ≤ length u.objects → w.calls ≡ [] → AreParameters g.parameters (after_body noted r b w).locals
+    → length w.locals ≡ length g.parameters → g.returns ≡ integer_in r → is_unknown r ≡ false
     → NamesAre (around u (after_body noted r b w).locals w) (here w) → ItemsHave b.items → (after_body noted r b w).found ≡ None → IsBodyIf u g (body_at noted r visible b w)
 body u g r visible b w s k p n ret known names has h =
     let labels = labels_of w.scoping.text b.items in

@@ -218,7 +218,8 @@ block_statement u ls m w x v y p (Some is) a b c d h = (
   },
 )
 
-label_statement : (u : UnitTree) (ls : List LocalTree) (m : Marks) (w v : W) (p : Pos) (l : Option Label) (s : Option tree.StatementTree) → LabelBelow m.labels l → StatementPart u ls m w v s → StatementPart u ls m w v (of_both (tree.label p) (numbered l) s)
+label_statement : (u : UnitTree) (ls : List LocalTree) (m : Marks) (w v : W) (p : Pos) (l : Option Label) (s : Option tree.StatementTree) → LabelBelow m.labels l → StatementPart u ls m w v s
+    → StatementPart u ls m w v (of_both (tree.label p) (numbered l) s)
 unfolding IsStatement calls_in_statement objects_in
 label_statement u ls m w v p None s b h = tt
 label_statement u ls m w v p (Some l) None b h = tt
@@ -239,14 +240,16 @@ unfolding IsStatement calls_in_statement objects_in
 default_statement u ls m w v p None b h = tt
 default_statement u ls m w v p (Some s) b h = ((b, h.0), h.1)
 
-then_statement : (u : UnitTree) (ls : List LocalTree) (m : Marks) (w v x : W) (p : Pos) (c : Option ValueTree) (s : Option tree.StatementTree) → ValuePart (around u ls w) w v c → StatementPart u ls m v x s → StatementPart u ls m w x (of_both (tree.if_then p) c s)
+then_statement : (u : UnitTree) (ls : List LocalTree) (m : Marks) (w v x : W) (p : Pos) (c : Option ValueTree) (s : Option tree.StatementTree) → ValuePart (around u ls w) w v c → StatementPart u ls m v x s
+    → StatementPart u ls m w x (of_both (tree.if_then p) c s)
 unfolding IsStatement calls_in_statement objects_in
 then_statement u ls m w v x p None s g h = tt
 then_statement u ls m w v x p (Some c) None g h = tt
 then_statement u ls m w v x p (Some c) (Some s) g h =
     ((g.0, subst (λ (n : ℕ). IsStatement (at u ls n) m s) (still w v (calls_in c) g.1) h.0), value_steps w v x (calls_in c) (calls_in_statement s) (objects_in s) g.1 h.1)
 
-while_statement : (u : UnitTree) (ls : List LocalTree) (m : Marks) (w v x : W) (p : Pos) (c : Option ValueTree) (s : Option tree.StatementTree) → ValuePart (around u ls w) w v c → StatementPart u ls m v x s → StatementPart u ls m w x (of_both (tree.while p) c s)
+while_statement : (u : UnitTree) (ls : List LocalTree) (m : Marks) (w v x : W) (p : Pos) (c : Option ValueTree) (s : Option tree.StatementTree) → ValuePart (around u ls w) w v c → StatementPart u ls m v x s
+    → StatementPart u ls m w x (of_both (tree.while p) c s)
 unfolding IsStatement calls_in_statement objects_in
 while_statement u ls m w v x p None s g h = tt
 while_statement u ls m w v x p (Some c) None g h = tt
@@ -265,7 +268,8 @@ else_statement u ls m w v x y p (Some c) (Some s) (Some t) g h k =
       steps w x y (calls_in c ++ calls_in_statement s) (calls_in_statement t) (objects_in s) (objects_in t) one k.1,
     )
 
-do_statement : (u : UnitTree) (ls : List LocalTree) (m : Marks) (w v x : W) (p : Pos) (s : Option tree.StatementTree) (c : Option ValueTree) → StatementPart u ls m w v s → ValuePart (around u ls w) v x c → StatementPart u ls m w x (of_both (tree.do_while p) s c)
+do_statement : (u : UnitTree) (ls : List LocalTree) (m : Marks) (w v x : W) (p : Pos) (s : Option tree.StatementTree) (c : Option ValueTree) → StatementPart u ls m w v s → ValuePart (around u ls w) v x c
+    → StatementPart u ls m w x (of_both (tree.do_while p) s c)
 unfolding IsStatement calls_in_statement objects_in
 do_statement u ls m w v x p None c g h = tt
 do_statement u ls m w v x p (Some s) None g h = tt
@@ -309,7 +313,8 @@ switch_statement u ls m w v x y p q (Some c) (Integer t) s a b g h = known (case
           record { sites = all.sites; calls = a ∙ all.calls; listed = all.listed; objects = ap length b ∙ all.objects },
         )
 
-return_statement : (u : UnitTree) (ls : List LocalTree) (m : Marks) (w v : W) (p : Pos) (t : IntType) (e : Option ValueTree) → m.returns ≡ Some t → ValuePart (around u ls w) w v e → StatementPart u ls m w v (option_map (tree.return p) (option_map Some e))
+return_statement : (u : UnitTree) (ls : List LocalTree) (m : Marks) (w v : W) (p : Pos) (t : IntType) (e : Option ValueTree) → m.returns ≡ Some t → ValuePart (around u ls w) w v e
+    → StatementPart u ls m w v (option_map (tree.return p) (option_map Some e))
 unfolding IsStatement calls_in_statement objects_in
 return_statement u ls m w v p t None r h = tt
 return_statement u ls m w v p t (Some e) r h = (subst (λ (q : Option IntType). IsReturned (around u ls w) q (Some e)) (sym r) h.0, h.1)
@@ -371,7 +376,8 @@ optional_value_names : (u : UnitTree) (ls : List LocalTree) (w : W) (e : Option 
 optional_value_names u ls w None n = n
 optional_value_names u ls w (Some e) n = n
 
-starting : (u : UnitTree) (ls : List LocalTree) (w : W) (s : ForStartTree) → NamesAre (around u ls w) (here w) → StartHas s → Begins ls (after_start noted s w) → (after_start noted s w).found ≡ None → Starting u ls w (after_start noted s w) (start_at noted s w)
+starting : (u : UnitTree) (ls : List LocalTree) (w : W) (s : ForStartTree) → NamesAre (around u ls w) (here w) → StartHas s → Begins ls (after_start noted s w) → (after_start noted s w).found ≡ None
+    → Starting u ls w (after_start noted s w) (start_at noted s w)
 starting u ls w (declaration d) n k b h =
     let all = declarations.declaration u ls d k w n b h in
     record { names = all.names; part = listed (declaration_trees_at noted d w) all.part }
@@ -444,7 +450,8 @@ declared_first u ls m w v x (Some ds) (Some is) g h = (
       (steps w v x (calls_in_all_declared ds) (calls_in_items is) (length ds) (objects_in_items is) g.1 h.1) (declared_calls ds is) (declared_objects ds is),
 )
 
-statement_first : (u : UnitTree) (ls : List LocalTree) (m : Marks) (w v x : W) (s : Option tree.StatementTree) (is : Option tree.ItemTrees) → StatementPart u ls m w v s → ItemsPart u ls m v x is → ItemsPart u ls m w x (of_both tree.statement_before s is)
+statement_first : (u : UnitTree) (ls : List LocalTree) (m : Marks) (w v x : W) (s : Option tree.StatementTree) (is : Option tree.ItemTrees) → StatementPart u ls m w v s → ItemsPart u ls m v x is
+    → ItemsPart u ls m w x (of_both tree.statement_before s is)
 unfolding AreItems calls_in_items objects_in_items
 statement_first u ls m w v x None is g h = tt
 statement_first u ls m w v x (Some s) None g h = tt
@@ -458,7 +465,8 @@ from_there a w v x None b c h = tt
 from_there a w v x (Some e) b c h = (h.0, value_steps w v x [] (calls_in e) 0 (steps_none w v b c) h.1)
 
 -- a statement that adds nothing
-nothing : (u : UnitTree) (ls : List LocalTree) (m : Marks) (w v : W) (t : tree.StatementTree) → v.calls ≡ w.calls → v.locals ≡ w.locals → IsStatement (around u ls w) m t → calls_in_statement t ≡ [] → objects_in t ≡ 0 → StatementPart u ls m w v (Some t)
+nothing : (u : UnitTree) (ls : List LocalTree) (m : Marks) (w v : W) (t : tree.StatementTree) → v.calls ≡ w.calls → v.locals ≡ w.locals → IsStatement (around u ls w) m t → calls_in_statement t ≡ [] → objects_in t ≡ 0
+    → StatementPart u ls m w v (Some t)
 nothing u ls m w v t a b h c k = (h, steps_as w v [] (calls_in_statement t) 0 (objects_in t) (steps_none w v a b) c k)
 
 no_items_part : (u : UnitTree) (ls : List LocalTree) (m : Marks) (w : W) → ItemsPart u ls m w w (Some tree.no_items)

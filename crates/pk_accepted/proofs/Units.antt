@@ -231,7 +231,8 @@ found_special : (rows : List (List ℕ × Callee)) (q : List ℕ) → AreSpecial
 found_special [] q h = tt
 found_special (row ∷ rows) q h = row_special (bytes_eq row.0 q) row.1 (lookup rows q) h.0 (found_special rows q h.1)
 
-callee_is : (u : UnitTree) (n : ℕ) (s : SignatureTree) (d : Bool) (c : Option Callee) → IsSpecial c → is_unknown s.returns ≡ false → Takes (length s.parameters) (integer_in s.returns) (slice_get u.functions n) → CalleeIs (in_file u) n (callee_of s d c)
+callee_is : (u : UnitTree) (n : ℕ) (s : SignatureTree) (d : Bool) (c : Option Callee) → IsSpecial c → is_unknown s.returns ≡ false → Takes (length s.parameters) (integer_in s.returns) (slice_get u.functions n)
+    → CalleeIs (in_file u) n (callee_of s d c)
 callee_is u n s d None k q h = ordinary_is u n (length s.parameters) s.returns q h
 callee_is u n s true (Some c) k q h = ordinary_is u n (length s.parameters) s.returns q h
 callee_is u n s false (Some (Ordinary r m)) k q h = absurd k
@@ -318,7 +319,8 @@ known_kept es fs (Some (Function f)) k h = there (slice_get fs f.number) refl (k
     there (Some e) is s = (e, is)
 
 -- the entries of a function whose parameters and body are looked at
-with_block : (u : UnitTree) (r : Typing) (n : ℕ) (ps : List ParameterTree) (b : Option BlockTree) (h : F) (e : EntryTree) → FileIs u h → h.walked.calls ≡ [] → slice_get h.functions n ≡ Some e → e.signature.parameters ≡ types_of ps → e.signature.returns ≡ r → is_unknown r ≡ false → BlockHas b
+with_block : (u : UnitTree) (r : Typing) (n : ℕ) (ps : List ParameterTree) (b : Option BlockTree) (h : F) (e : EntryTree) → FileIs u h → h.walked.calls ≡ [] → slice_get h.functions n ≡ Some e → e.signature.parameters ≡ types_of ps
+    → e.signature.returns ≡ r → is_unknown r ≡ false → BlockHas b
     → (let g = on (after_parameters noted ps) (on entering h) in let x = after_optional_body noted r n b g in Stands u x → x.walked.found ≡ None → (i : ℕ) (d : EntryTree) → slice_get x.functions i ≡ Some d → EntryIs u d)
 with_block u r n ps None h e is c there same ret known has s k = is.entries
 with_block u r n ps (Some b) h e is c there same ret known has s k =
@@ -345,7 +347,8 @@ same_objects : (r : Typing) (n : ℕ) (b : Option BlockTree) (f : F) → (after_
 same_objects r n None f = refl
 same_objects r n (Some b) f = refl
 
-pub function_is : (u : UnitTree) (defined : List ℕ → Bool) (f : FunctionTree) (file : F) → FileIs u file → file.walked.calls ≡ [] → BlockHas f.body → Stands u (after_function noted defined f file) → (after_function noted defined f file).walked.found ≡ None
+pub function_is : (u : UnitTree) (defined : List ℕ → Bool) (f : FunctionTree) (file : F) → FileIs u file → file.walked.calls ≡ [] → BlockHas f.body → Stands u (after_function noted defined f file)
+    → (after_function noted defined f file).walked.found ≡ None
     → FileIs u (after_function noted defined f file)
 unfolding after_function
 function_is u defined f file is c has s k =
@@ -385,7 +388,8 @@ unfolding after_function after_declaration
 external_calls defined (function g) f = refl
 external_calls defined (objects storage d) f = refl
 
-external_is : (u : UnitTree) (defined : List ℕ → Bool) (x : ExternalTree) (f : F) → FileIs u f → f.walked.calls ≡ [] → ExternalHas x → Stands u (after_external noted defined x f) → (after_external noted defined x f).walked.found ≡ None → FileIs u (after_external noted defined x f)
+external_is : (u : UnitTree) (defined : List ℕ → Bool) (x : ExternalTree) (f : F) → FileIs u f → f.walked.calls ≡ [] → ExternalHas x → Stands u (after_external noted defined x f) → (after_external noted defined x f).walked.found ≡ None
+    → FileIs u (after_external noted defined x f)
 external_is u defined (function g) f is c has s k = function_is u defined g f is c has s k
 external_is u defined (objects storage d) f is c has s k = files.declaration u storage d f is s k
 
@@ -422,7 +426,8 @@ functions_are f is k d l =
     g : tree.FunctionTree
     g = slice_index_or (map function_of f.functions) k d
 
-    found : (o : Option EntryTree) → slice_get f.functions k ≡ o → option_map function_of o ≡ Some (slice_index_or (map function_of f.functions) k d) → IsBodyIf (unit_of f) (slice_index_or (map function_of f.functions) k d) (slice_index_or (map function_of f.functions) k d).body
+    found : (o : Option EntryTree) → slice_get f.functions k ≡ o → option_map function_of o ≡ Some (slice_index_or (map function_of f.functions) k d)
+        → IsBodyIf (unit_of f) (slice_index_or (map function_of f.functions) k d) (slice_index_or (map function_of f.functions) k d).body
     found None at e = absurd (none-some _ e)
     found (Some x) at e =
         let same : function_of x ≡ slice_index_or (map function_of f.functions) k d = ap (λ (o : Option tree.FunctionTree). unwrap_or o (function_of x)) e in

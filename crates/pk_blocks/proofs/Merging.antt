@@ -1,7 +1,8 @@
 -- Merging item by item.
-use Rattle.std.specs.Prelude.{◌≡◌, Bool, true, false, ℕ, zero, suc, ◌+◌, ◌<◌, List, [], ◌∷◌, ◌++◌, length}
+use Rattle.std.specs.Prelude.{◌≡◌, Bool, true, false, ℕ, zero, suc, ◌+◌, ◌<◌, ◌≤◌, nat_lt, if◌then◌else◌, List, [], ◌∷◌, ◌++◌, length}
 use Rattle.std.proofs.Common.{◌∙◌, ap, refl, arith, get_or, take, add-zero}
-use Rattle.pk_blocks.specs.Rows.{merged_from}
+use Rattle.std.proofs.lemmas.Bool.Decides.{nat_tests}
+use Rattle.pk_blocks.specs.Rows.{merged_from, below}
 
 -- one pair more
 pub merged_more : {A : Type 0} (f : ℕ → A → A → A) (i : ℕ) (xs ys : List A) (k : ℕ) (x y : A) → k < length xs → length xs ≡ length ys → x ≡ get_or xs k x → y ≡ get_or ys k y
@@ -30,6 +31,30 @@ merged-take f i zero xs ys = refl
 merged-take f i (suc n) [] ys = refl
 merged-take f i (suc n) (x ∷ xs) [] = refl
 merged-take f i (suc n) (x ∷ xs) (y ∷ ys) = ap (λ t. f i x y ∷ t) (merged-take f (i + 1) n xs ys)
+
+-- ---- merging below a place
+
+pub merged_below : {A : Type 0} (n : ℕ) (f : ℕ → A → A → A) (i : ℕ) (xs ys : List A) → i + length xs ≤ n → merged_from (below n f) i xs ys ≡ merged_from f i xs ys
+merged_below n f i [] ys p = refl
+merged_below n f i (x ∷ xs) [] p = refl
+merged_below n f i (x ∷ xs) (y ∷ ys) p =
+    let yes : nat_lt i n ≡ true = grind (arith, p, nat_tests) in
+    ap (λ b. (if b then f i x y else x) ∷ merged_from (below n f) (i + 1) xs ys) yes ∙ ap (λ t. f i x y ∷ t) (merged_below n f (i + 1) xs ys (omega (arith, p)))
+
+pub merged_beyond : {A : Type 0} (n : ℕ) (f : ℕ → A → A → A) (i : ℕ) (xs ys : List A) → n ≤ i → length xs ≡ length ys → merged_from (below n f) i xs ys ≡ xs
+merged_beyond n f i [] ys p e = refl
+merged_beyond n f i (x ∷ xs) [] p e = absurd (omega (arith, e))
+merged_beyond n f i (x ∷ xs) (y ∷ ys) p e =
+    let no : nat_lt i n ≡ false = grind (arith, p, nat_tests) in
+    ap (λ b. (if b then f i x y else x) ∷ merged_from (below n f) (i + 1) xs ys) no ∙ ap (λ t. x ∷ t) (merged_beyond n f (i + 1) xs ys (omega (arith, p)) (omega (arith, e)))
+
+pub merged_first : {A : Type 0} (n c : ℕ) (f : ℕ → A → A → A) (i : ℕ) (xs ys : List A) → i + c ≤ n → take c (merged_from (below n f) i xs ys) ≡ take c (merged_from f i xs ys)
+merged_first n zero f i xs ys p = refl
+merged_first n (suc c) f i [] ys p = refl
+merged_first n (suc c) f i (x ∷ xs) [] p = refl
+merged_first n (suc c) f i (x ∷ xs) (y ∷ ys) p =
+    let yes : nat_lt i n ≡ true = grind (arith, p, nat_tests) in
+    ap (λ b. (if b then f i x y else x) ∷ take c (merged_from (below n f) (i + 1) xs ys)) yes ∙ ap (λ t. f i x y ∷ t) (merged_first n c f (i + 1) xs ys (omega (arith, p)))
 
 pub never : (b : Bool) → b ≡ false → b ≡ true → ⊥
 never true e f = absurd (cc)

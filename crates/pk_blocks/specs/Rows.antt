@@ -1,5 +1,5 @@
 -- Lists in rows, as one list.
-use Rattle.std.specs.Prelude.{◌≡◌, ℕ, ◌+◌, List, [], ◌∷◌, ◌++◌, All, length}
+use Rattle.std.specs.Prelude.{◌≡◌, ℕ, ◌+◌, nat_lt, if◌then◌else◌, List, [], ◌∷◌, ◌++◌, All, length}
 
 -- the rows' items, one row after another
 abbrev pub flat : {A : Type 0} → List (List A) → List A
@@ -15,3 +15,7 @@ abbrev pub merged_from : {A : Type 0} → (ℕ → A → A → A) → ℕ → Li
 merged_from f i [] ys = []
 merged_from f i (x ∷ xs) [] = []
 merged_from f i (x ∷ xs) (y ∷ ys) = f i x y ∷ merged_from f (i + 1) xs ys
+
+-- f below a place, and the left item from there on
+abbrev pub below : {A : Type 0} → ℕ → (ℕ → A → A → A) → ℕ → A → A → A
+below n f i x y = if nat_lt i n then f i x y else x

@@ -1,9 +1,9 @@
 // Lists in groups of blocks.
 
 ghost use Rattle.std.specs.Prelude.{◌≡◌, ◌<◌, ◌≤◌, ◌+◌, ◌*◌, ◌/◌, ◌%◌, ◌^◌, ℕ, true, IfOk, OnOk, OnErr, length, take, slice_get, slice_set, Some, replicate};
-ghost use Rattle.pk_blocks.specs.Rows.{flat, AreRows, merged_from};
+ghost use Rattle.pk_blocks.specs.Rows.{flat, AreRows, merged_from, below};
 
-use crate::block::Block;
+use crate::block::{Block, ITEMS};
 use crate::group::{GROUP, Group};
 use crate::item::{Item, Merge};
 use std::alloc::{AllocError, Global};
@@ -54,24 +54,26 @@ fn filled_groups<T: Item>(
     Ok(out)
 }
 
-// The groups merged.
+// The items below the limit merged.
 fn merge_groups<T: Item, M: Merge<T>>(
     alloc: Global,
     a: &[Group<T>],
     b: &[Group<T>],
     by: &M,
+    limit: usize,
 ) -> Result<Vec<Group<T>>, AllocError>
     requires rows { AreRows 512 a.now }
     requires others { AreRows 512 b.now }
     requires count { length a.now ≡ length b.now }
     requires room { length a.now * 512 < 2 ^ 61 }
-    ensures value { IfOk result (λ v. flat v.items ≡ merged_from (M.merged by.now) 0 (flat a.now) (flat b.now)) }
+    requires whole { limit % 16 ≡ 0 }
+    ensures value { IfOk result (λ v. flat v.items ≡ merged_from (below limit (M.merged by.now)) 0 (flat a.now) (flat b.now)) }
     ensures rows { IfOk result (λ v. AreRows 512 v.items) }
     ensures count { IfOk result (λ v. length v.items ≡ length a.now) }
 {
     let mut out = Vec::with_capacity(alloc, a.len())?;
     for k in 0..a.len() {
-        let pair = a[k].merge(alloc, &b[k], by, k * GROUP)?;
+        let pair = a[k].merge(alloc, &b[k], by, k * GROUP, limit)?;
         out.push(pair.0)?;
     }
     Ok(out)
@@ -141,8 +143,10 @@ impl<T: Item> Blocks<T> {
         requires { length self.now ≡ length other.now }
         ensures { IfOk result (λ b. b ≡ merged_from (M.merged by.now) 0 self.now other.now) }
     {
+        // Blocks past the last item are left as they are.
+        let limit = (self.count + ITEMS - 1) / ITEMS * ITEMS;
         Ok(Blocks {
-            groups: merge_groups(alloc, &self.groups, &other.groups, by)?,
+            groups: merge_groups(alloc, &self.groups, &other.groups, by, limit)?,
             count: self.count,
         })
     }

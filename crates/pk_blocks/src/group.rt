@@ -1,7 +1,7 @@
 // Thirty-two blocks behind one pointer.
 
-ghost use Rattle.std.specs.Prelude.{◌≡◌, ◌<◌, ◌^◌, ◌+◌, ℕ, true, IfOk, length, slice_get, slice_set, Some, replicate};
-ghost use Rattle.pk_blocks.specs.Rows.{flat, AreRows, merged_from};
+ghost use Rattle.std.specs.Prelude.{◌≡◌, ◌<◌, ◌^◌, ◌+◌, ◌%◌, ℕ, true, IfOk, length, slice_get, slice_set, Some, replicate};
+ghost use Rattle.pk_blocks.specs.Rows.{flat, AreRows, merged_from, below};
 
 use crate::block::{Block, ITEMS};
 use crate::item::{Item, Merge};
@@ -69,20 +69,46 @@ fn with_block<T: Item>(
     Ok(out)
 }
 
-// The blocks merged, and whether they are those that were there.
+// A block merged, if it is below the limit; else the left one. Whether it is the left one.
+fn merge_block<T: Item, M: Merge<T>>(
+    alloc: Global,
+    a: &Block<T>,
+    b: &Block<T>,
+    by: &M,
+    at: usize,
+    limit: usize,
+) -> Result<(Block<T>, bool), AllocError>
+    requires left { length a.now ≡ 16 }
+    requires right { length b.now ≡ 16 }
+    requires room { at + 16 < 2 ^ 62 }
+    requires place { at % 16 ≡ 0 }
+    requires whole { limit % 16 ≡ 0 }
+    ensures value { IfOk result (λ p. p.0 ≡ merged_from (below limit (M.merged by.now)) at a.now b.now) }
+    ensures same { IfOk result (λ p. p.1 ≡ true → p.0 ≡ a.now) }
+{
+    if limit <= at {
+        return Ok((a.share()?, true));
+    }
+    Ok(a.merge(alloc, b, by, at)?)
+}
+
+// The blocks below the limit merged, and whether they are those that were there.
 fn merge_blocks<T: Item, M: Merge<T>>(
     alloc: Global,
     a: &[Block<T>],
     b: &[Block<T>],
     by: &M,
     from: usize,
+    limit: usize,
 ) -> Result<(Vec<Block<T>>, bool), AllocError>
     requires rows { AreRows 16 a.now }
     requires others { AreRows 16 b.now }
     requires count { length a.now ≡ 32 }
     requires counted { length b.now ≡ 32 }
     requires room { from + 512 < 2 ^ 62 }
-    ensures value { IfOk result (λ p. flat p.0.items ≡ merged_from (M.merged by.now) from (flat a.now) (flat b.now)) }
+    requires place { from % 16 ≡ 0 }
+    requires whole { limit % 16 ≡ 0 }
+    ensures value { IfOk result (λ p. flat p.0.items ≡ merged_from (below limit (M.merged by.now)) from (flat a.now) (flat b.now)) }
     ensures rows { IfOk result (λ p. AreRows 16 p.0.items) }
     ensures count { IfOk result (λ p. length p.0.items ≡ 32) }
     ensures same { IfOk result (λ p. p.1 ≡ true → p.0.items ≡ a.now) }
@@ -90,7 +116,7 @@ fn merge_blocks<T: Item, M: Merge<T>>(
     let mut out = Vec::with_capacity(alloc, BLOCKS)?;
     let mut same = true;
     for k in 0..BLOCKS {
-        let pair = a[k].merge(alloc, &b[k], by, from + k * ITEMS)?;
+        let pair = merge_block(alloc, &a[k], &b[k], by, from + k * ITEMS, limit)?;
         same = same && pair.1;
         out.push(pair.0)?;
     }
@@ -133,19 +159,22 @@ impl<T: Item> Group<T> {
         made(alloc, with_block(alloc, &self.blocks, k, block)?)
     }
 
-    // The items merged, and whether they are those that this group had, which is shared then.
+    // The items below the limit merged, and whether they are those that this group had, which is shared then.
     pub(crate) fn merge<M: Merge<T>>(
         &self,
         alloc: Global,
         other: &Group<T>,
         by: &M,
         from: usize,
+        limit: usize,
     ) -> Result<(Group<T>, bool), AllocError>
-        requires { from + 512 < 2 ^ 62 }
-        ensures value { IfOk result (λ p. p.0 ≡ merged_from (M.merged by.now) from self.now other.now) }
+        requires room { from + 512 < 2 ^ 62 }
+        requires place { from % 16 ≡ 0 }
+        requires whole { limit % 16 ≡ 0 }
+        ensures value { IfOk result (λ p. p.0 ≡ merged_from (below limit (M.merged by.now)) from self.now other.now) }
         ensures same { IfOk result (λ p. p.1 ≡ true → p.0 ≡ self.now) }
     {
-        let pair = merge_blocks(alloc, &self.blocks, &other.blocks, by, from)?;
+        let pair = merge_blocks(alloc, &self.blocks, &other.blocks, by, from, limit)?;
         if pair.1 {
             Ok((self.share()?, true))
         } else {

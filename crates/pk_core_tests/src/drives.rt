@@ -4,43 +4,52 @@ ghost use Rattle.std.specs.Prelude.{◌≡◌, IfOk, IfSome};
 ghost use Rattle.pk_iterate.specs.Behaviour.{ReadsWithin};
 ghost use Rattle.pk_core.specs.Steps.{IsAbout};
 
+use Event::{Again, Claim, Finish, Offer, Send, Stable};
 use pk_core::{Core, Event};
 use pk_iterate::System;
 use pk_plan::Plan;
 use std::alloc::{AllocError, Global};
 
+fn add_sends(events: &mut Vec<Event>, e: u32, successors: &[u32]) -> Result<(), AllocError> {
+    for v in successors {
+        events.push(Send(e, *v))?;
+    }
+    Ok(())
+}
+
+fn add_others(events: &mut Vec<Event>, e: u32) -> Result<(), AllocError> {
+    events.extend_from_slice(&[Offer(e), Claim(e), Finish(e), Stable(e), Again(e)])
+}
+
 // Every event of a plan's elements.
-pub fn all_events(alloc: Global, plan: &Plan) -> Result<Vec<Event>, AllocError> {
+fn all_events(alloc: Global, plan: &Plan) -> Result<Vec<Event>, AllocError> {
     let mut events = Vec::new(alloc);
     for e in 0..plan.elements() {
-        events.push(Event::Offer(e))?;
-        events.push(Event::Claim(e))?;
-        events.push(Event::Finish(e))?;
-        events.push(Event::Stable(e))?;
-        events.push(Event::Again(e))?;
-        for v in plan.successors(e) {
-            events.push(Event::Send(e, *v))?;
-        }
+        add_others(&mut events, e)?;
+        add_sends(&mut events, e, plan.successors(e))?;
     }
     Ok(events)
 }
 
+// One of the events that are enabled.
 fn pick<Y: System>(
-    alloc: Global,
     core: &Core<Y>,
     events: &[Event],
     draw: u64,
 ) -> Result<Option<Event>, AllocError> {
-    let mut enabled = Vec::new(alloc);
+    let mut draws = draw;
+    let mut picked = None;
     for event in events {
         if core.enabled(*event)? {
-            enabled.push(*event)?;
+            draws = draws
+                .wrapping_mul(6364136223846793005)
+                .wrapping_add(1442695040888963407);
+            if picked.is_none() || (draws >> 33) % 3 == 0 {
+                picked = Some(*event);
+            }
         }
     }
-    if enabled.is_empty() {
-        return Ok(None);
-    }
-    Ok(Some(enabled[(draw % enabled.len() as u64) as usize]))
+    Ok(picked)
 }
 
 // Makes events that draws pick, until none is enabled; no core where that doesn't come.
@@ -60,7 +69,7 @@ pub fn driven<'a, Y: System>(
         draws = draws
             .wrapping_mul(6364136223846793005)
             .wrapping_add(1442695040888963407);
-        let event = match pick(alloc, &core, &events, draws >> 33)? {
+        let event = match pick(&core, &events, draws)? {
             None => return Ok(Some(core)),
             Some(event) => event,
         };

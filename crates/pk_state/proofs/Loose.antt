@@ -1,10 +1,16 @@
 -- Which values may be loose.
-use Rattle.std.specs.Prelude.{◌≡◌, ◌≢◌, ◌⊎◌, ℕ, zero, suc, ◌+◌, ◌<◌, ◌≤◌, Bool, true, false, not, List, [], ◌∷◌, ◌++◌, length, slice_index_or, Option, Some, None, pos, ◌≤ℤ◌}
+use Rattle.std.specs.Prelude.{◌≡◌, ◌≢◌, ◌⊎◌, ℕ, zero, suc, ◌+◌, ◌<◌, ◌≤◌, Bool, true, false, not, List, [], ◌∷◌, ◌++◌, length, slice_index_or, Option, Some, None, ℤ, pos, ◌≤ℤ◌}
 use Rattle.std.proofs.Common.{◌∙◌, ap, refl, sym, subst, arith, inl, inr, set, drop, length-set}
 use Rattle.std.proofs.lemmas.List.{drop_more}
 use Rattle.std.proofs.lemmas.Bool.{cases_eq}
+use Rattle.std.proofs.lemmas.Int.{ints, clamps}
+use Rattle.std.specs.Int.{int_min, int_max}
 use Rattle.pk_value.specs.Known.{Known, red_known, joined}
 use Rattle.pk_value.specs.Laws.{IsTight}
+use Rattle.pk_interval.specs.Ranges.{Range}
+use Rattle.pk_interval.specs.Ranges as ranges
+use Rattle.pk_congr.specs.Classes.{Class, IsReduced}
+use Rattle.pk_congr.proofs.Keeping.{unchanged}
 use Rattle.pk_value.proofs.Tight.{tight_is_reduced}
 use Rattle.pk_blocks.specs.Rows.{merged_from}
 use Rattle.pk_blocks.proofs.Merging.{merged_length}
@@ -122,6 +128,21 @@ marked_either l us vs a b c d all n size first second f h k m o = marked_join l 
     by : (y : ℕ) → IsListed a y ⊎ IsListed b y → IsListed c y ⊎ IsListed d y
     by y (inl e) = inl (subst (λ zs. IsListed zs y) (sym first) e)
     by y (inr e) = inr (subst (λ zs. IsListed zs y) (sym second) e)
+
+-- a join with itself changes nothing
+pub join_own : (k : Known) → IsReduced k.class.m k.class.r → joined k k ≡ k
+join_own k h =
+    ap (λ (c : Class). let j : Known = record { range = ranges.joined k.range k.range; class = c } in j) (unchanged.joins k.class k.class h (unchanged.within_itself k.class))
+    ∙ ap (λ (r : Range). let j : Known = record { range = r; class = k.class } in j) same
+  where
+    low : int_min k.range.lo k.range.lo ≡ k.range.lo
+    low = omega (arith, ints, clamps)
+
+    high : int_max k.range.hi k.range.hi ≡ k.range.hi
+    high = omega (arith, ints, clamps)
+
+    same : ranges.joined k.range k.range ≡ k.range
+    same = ap (λ (z : ℤ). let r : Range = record { lo = z; hi = int_max k.range.hi k.range.hi } in r) low ∙ ap (λ (z : ℤ). let r : Range = record { lo = k.range.lo; hi = z } in r) high
 
 -- ---- reducing those that are listed
 

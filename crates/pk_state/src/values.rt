@@ -15,6 +15,7 @@ ghost use Rattle.pk_interval.specs.Ranges.{range_from};
 use crate::frame::Frame;
 use crate::marks::put_loose;
 use pk_blocks::{Blocks, Merge};
+use pk_congr::reduced_law;
 use pk_interval::{Interval, between};
 use pk_octmat::Matrix;
 use pk_octops::bounds;
@@ -29,8 +30,10 @@ impl Merge<Value> for Joining {
 
     ghost merged = { λ s i a b. joined a b };
 
+    // Most of the values of two states are the same.
     fn merge(&self, _: usize, a: &Value, b: &Value) -> Value {
-        a.join(b)
+        reduced_law(&a.congr);
+        if a.equals(b) { *a } else { a.join(b) }
     }
 }
 

@@ -118,7 +118,8 @@ called_step w g m n s f us arguments c h d =
     step_around w m n s s s d a.draft (row.called w.context f m us arguments d).1 (Unit {0}) (TreesAre w.kinds us a.trees) (HasIf w.kinds (a.draft.names.result k (a.draft.variables + length ts)) (returned_by w.context.unit f))
     (h d) (call_step w g m s f us a.trees a.draft c)
 
-pub called_gives : (w : Place) → Proper w → (m n : ℕ) (s : Stage) (t : IntType) (f j : ℕ) (us : List IntType) (arguments : D → Passed ℕ) → IsCallee w (w.context.first + m) f → Takes j (Some t) (slice_get w.context.unit.functions f) → Passes w (m + 1) n s us arguments
+pub called_gives : (w : Place) → Proper w → (m n : ℕ) (s : Stage) (t : IntType) (f j : ℕ) (us : List IntType) (arguments : D → Passed ℕ) → IsCallee w (w.context.first + m) f → Takes j (Some t) (slice_get w.context.unit.functions f)
+    → Passes w (m + 1) n s us arguments
     → Gives w m n s t (row.called w.context f m us arguments)
 called_gives w g m n s t f j us arguments c takes h d =
     let a = arguments d in

@@ -100,7 +100,8 @@ item_works w g m n s i j t k l is few e h c d =
     (λ q. store_is w.kinds a t Int o false (constant Int (pos j)) (conversion (type_of e) v r.0) q.1 (constant_is w.kinds Int (pos j) (place_in j few))
     (subst (λ (u : IntType). IsOfType w.kinds u (conversion (type_of e) v r.0)) (local_type w i (good.array t k) is) (conversion_is w.kinds (type_of e) v r.0 q.0))))
 
-items_work : (w : Place) → Proper w → (m n : ℕ) (s : Stage) (i j : ℕ) (t : IntType) (k : ℕ) → i < s.objects → kind_among w.context.locals i ≡ Some (good.array t k) → (es : ValueTrees) → j + good.count es ≤ 1048576 → AreValues (around w s) es → CallsAre w m (calls_in_values es) n
+items_work : (w : Place) → Proper w → (m n : ℕ) (s : Stage) (i j : ℕ) (t : IntType) (k : ℕ) → i < s.objects → kind_among w.context.locals i ≡ Some (good.array t k) → (es : ValueTrees) → j + good.count es ≤ 1048576
+    → AreValues (around w s) es → CallsAre w m (calls_in_values es) n
     → Works w m n s (form.items w.context i j es)
 unfolding form.items AreValues calls_in_values
 items_work w g m n s i j t k l is tree.no_values few h c d = subst (λ (q : ℕ). Step w m q s s d d (Unit {0}) (Unit {0})) c (idle w m s d (Unit {0}))
@@ -109,7 +110,8 @@ items_work w g m n s i j t k l is (tree.value_before e es) few h c d =
     chain (item_works w g m p.middle s i j t k l is (omega (few, arith)) e h.0 p.first d)
     (items_work w g p.middle n s i (j + 1) t k l is es (omega (few, arith)) h.1 p.second (form.item w.context i j (type_of e) (ways w.context e) d))
 
-array_works : (w : Place) → Proper w → (m n : ℕ) (s : Stage) (i : ℕ) (t : IntType) (k : ℕ) → i < s.objects → kind_among w.context.locals i ≡ Some (good.array t k) → k ≤ 1048576 → (es : Option ValueTrees) → good.count_if es ≤ k → good.AreValuesIf (around w s) es
+array_works : (w : Place) → Proper w → (m n : ℕ) (s : Stage) (i : ℕ) (t : IntType) (k : ℕ) → i < s.objects → kind_among w.context.locals i ≡ Some (good.array t k) → k ≤ 1048576 → (es : Option ValueTrees) → good.count_if es ≤ k
+    → good.AreValuesIf (around w s) es
     → CallsAre w m (calls_in_declared (tree.array_object i (record { line = 0; column = 0 }) es)) n → Works w m n s (form.array_first w.context i es)
 array_works w g m n s i t k l is few None room h c d = subst (λ (j : ℕ). Works w m j s (form.array_first w.context i None)) c (anything_works w g m s i (good.array t k) l is) d
 array_works w g m n s i t k l is few (Some es) room h c d =
@@ -136,7 +138,8 @@ declared_works w g m n s (tree.array_object i p es) h c d =
     (chain (chain (on_step w m s p d) (introduced_step w g m s k is o))
     (array_works w g m n (more 1 s) s.objects r.0 r.1 (omega arith) is r.4 es r.3 h.2 c (form.introduced w.context s.objects o)))
 
-pub all_declared_work : (w : Place) → Proper w → (m n : ℕ) (s : Stage) (xs : List DeclaredTree) → AreDeclared (around w s) xs → CallsAre w m (calls_in_all_declared xs) n → (d : D) → Step w m n s (more (length xs) s) d (form.all_declared w.context xs d) (Unit {0}) (Unit {0})
+pub all_declared_work : (w : Place) → Proper w → (m n : ℕ) (s : Stage) (xs : List DeclaredTree) → AreDeclared (around w s) xs → CallsAre w m (calls_in_all_declared xs) n → (d : D)
+    → Step w m n s (more (length xs) s) d (form.all_declared w.context xs d) (Unit {0}) (Unit {0})
 unfolding form.all_declared
 all_declared_work w g m n s [] h c d =
     let same : s.objects ≡ s.objects + 0 = omega arith in

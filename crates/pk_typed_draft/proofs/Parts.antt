@@ -118,7 +118,8 @@ named_made : (name : Option (List ℕ)) (x : ℕ) (d : D) → ((form.named name 
 named_made None x d = (refl, refl)
 named_made (Some n) x d = (refl, refl)
 
-parameter_step : (w : Place) → Proper w → (s : Stage) (from : Option Caller) (t : IntType) → kind_among w.context.locals s.objects ≡ Some (good.scalar t) → (d : D) → Step w 0 0 s (more 1 s) d (part.introduced_parameter w.context from s.objects d) (Unit {0}) (Unit {0})
+parameter_step : (w : Place) → Proper w → (s : Stage) (from : Option Caller) (t : IntType) → kind_among w.context.locals s.objects ≡ Some (good.scalar t) → (d : D)
+    → Step w 0 0 s (more 1 s) d (part.introduced_parameter w.context from s.objects d) (Unit {0}) (Unit {0})
 parameter_step w g s from t k d =
     let i = s.objects in
     let v = parameter_variable w from i in
@@ -143,7 +144,8 @@ parameter_written w g from i t k d l =
 to_objects : (w : Place) (s : Stage) (j k : ℕ) (d e : D) → j ≡ k → Step w 0 0 s (with_objects j s) d e (Unit {0}) (Unit {0}) → Step w 0 0 s (with_objects k s) d e (Unit {0}) (Unit {0})
 to_objects w s j k d e q h = subst (λ (i : ℕ). Step w 0 0 s (with_objects i s) d e (Unit {0}) (Unit {0})) q h
 
-pub parameters_step : (w : Place) → Proper w → (s : Stage) (from : Option Caller) (ts : List IntType) → ParametersAt w.context.locals s.objects ts → (d : D) → Step w 0 0 s (more (length ts) s) d (part.all_introduced w.context from s.objects ts d) (Unit {0}) (Unit {0})
+pub parameters_step : (w : Place) → Proper w → (s : Stage) (from : Option Caller) (ts : List IntType) → ParametersAt w.context.locals s.objects ts → (d : D)
+    → Step w 0 0 s (more (length ts) s) d (part.all_introduced w.context from s.objects ts d) (Unit {0}) (Unit {0})
 unfolding part.all_introduced
 parameters_step w g s from [] h d = let same : s.objects ≡ s.objects + 0 = omega arith in to_objects w s s.objects (s.objects + 0) d d same (idle w 0 s d (Unit {0}))
 parameters_step w g s from (t ∷ ts) h d =

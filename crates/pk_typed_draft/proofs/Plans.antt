@@ -173,7 +173,8 @@ more_by (suc n) zero h = absurd (omega (h, arith))
 more_by (suc n) (suc j) h = let r = more_by n j (omega (h, arith)) in (r.0, omega (r.1, arith))
 
 -- what holds before the part
-pub before_part : (W : World) (k n : ℕ) (p : CallPath) (h : PathIs W k n p) (d : D) → Plan W k n d → Before (place_at W k n p (region_at d.regions k)) 0 (length h.body.calls) (begun_here (place_at W k n p (region_at d.regions k)) h.body (region_at d.regions k) d)
+pub before_part : (W : World) (k n : ℕ) (p : CallPath) (h : PathIs W k n p) (d : D) → Plan W k n d
+    → Before (place_at W k n p (region_at d.regions k)) 0 (length h.body.calls) (begun_here (place_at W k n p (region_at d.regions k)) h.body (region_at d.regions k) d)
 before_part W k n p h d plan =
     let r = region_at d.regions k in
     let w = place_at W k n p r in

@@ -150,7 +150,8 @@ then_emit w g m n s d e i P Q a f =
     step w m n n s s s d e (emit i e) P Q Q a b
 
 -- a tree that is stored behind what gives it
-pub then_store : (w : Place) → Proper w → (m n : ℕ) (s : Stage) (d e : D) (t : IntType) (r : TreeOf ℕ) (P Q : Type 0) → Step w m n s s d e P Q → (Q → IsOfType w.kinds t r) → Step w m n s s d (stored t r e).1 P (Q × IsOfType w.kinds t (stored t r e).0)
+pub then_store : (w : Place) → Proper w → (m n : ℕ) (s : Stage) (d e : D) (t : IntType) (r : TreeOf ℕ) (P Q : Type 0) → Step w m n s s d e P Q → (Q → IsOfType w.kinds t r)
+    → Step w m n s s d (stored t r e).1 P (Q × IsOfType w.kinds t (stored t r e).0)
 then_store w g m n s d e t r P Q a f =
     let k = IsOfType w.kinds t r in
     let o = IsOfType w.kinds t (stored t r e).0 in

@@ -173,7 +173,8 @@ case_step w g m s o t r z p d R f =
     let is : F → IsOfType w.kinds Int c = λ q. let k = f q.0 in binary_is w.kinds Eq o t t r (constant t z) refl k.0 (constant_is w.kinds t z k.1) in
     chain (chain (gain R (fresh_step w g m 1 s d)) (use_it F (λ q. (is q, ((f q.0).2, omega (q.1, arith)))) (guards_step w m s Int p d.points (c, e)))) (given R (λ q. q.0) (use_it F (λ q. omega (q.1, arith)) (at_step w m s d.points x)))
 
-cases_step : (w : Place) → Proper w → (m : ℕ) (s : Stage) (o : Site) (t : IntType) (r : TreeOf ℕ) (zs : List ℤ) (p : ℕ) (d : D) (R : Type 0) → AllIn t zs → (R → IsOfType w.kinds t r × (p + length zs ≤ w.points)) → Step w m m s s d (form.case_tests o t r zs p d) R R
+cases_step : (w : Place) → Proper w → (m : ℕ) (s : Stage) (o : Site) (t : IntType) (r : TreeOf ℕ) (zs : List ℤ) (p : ℕ) (d : D) (R : Type 0) → AllIn t zs → (R → IsOfType w.kinds t r × (p + length zs ≤ w.points))
+    → Step w m m s s d (form.case_tests o t r zs p d) R R
 unfolding form.case_tests
 cases_step w g m s o t r [] p d R h f = idle w m s d R
 cases_step w g m s o t r (z ∷ zs) p d R h f =
@@ -227,7 +228,8 @@ pub result_there : (w : Place) (s : Stage) (t : IntType) (d : D) → s.result �
 result_there w s t d r z =
     subst (λ (n : Names ℕ). Has w.kinds (n.result w.context.path (slice_index_or d.objects (length w.context.locals) 0)) t None) (sym z.names) (subst (HasIf w.kinds (slice_index_or d.objects (length w.context.locals) 0)) r z.objects.result)
 
-returned_works : (w : Place) → Proper w → (m n : ℕ) (s : Stage) (q : ℕ) (r : Option IntType) (e : Option ValueTree) → s.result ≡ r → IsReturned (around w s) r e → CallsAre w m (calls_if e) n → (d : D) → Step w m n s s d (form.returned w.context q r e d) (q < w.points) (Unit {0})
+returned_works : (w : Place) → Proper w → (m n : ℕ) (s : Stage) (q : ℕ) (r : Option IntType) (e : Option ValueTree) → s.result ≡ r → IsReturned (around w s) r e → CallsAre w m (calls_if e) n → (d : D)
+    → Step w m n s s d (form.returned w.context q r e d) (q < w.points) (Unit {0})
 returned_works w g m n s q None None h k c d = subst (λ (j : ℕ). Step w m j s s d (away q d) (q < w.points) (Unit {0})) c (away_step w g m s q d)
 returned_works w g m n s q None (Some e) h k c d = absurd k
 returned_works w g m n s q (Some t) None h k c d = absurd k
@@ -245,7 +247,8 @@ effect_if : (w : Place) → Proper w → (m n : ℕ) (s : Stage) (e : Option Eff
 effect_if w g m n s None h c d = subst (λ (j : ℕ). Step w m j s s d d (Unit {0}) (Unit {0})) c (idle w m s d (Unit {0}))
 effect_if w g m n s (Some e) h c d = effects w g m n s e h c d
 
-start_works : (w : Place) → Proper w → (m n : ℕ) (s : Stage) (x : ForStartTree) → IsForStart (around w s) x → CallsAre w m (calls_at_start x) n → (d : D) → Step w m n s (more (objects_at_start x) s) d (form.for_start w.context x d) (Unit {0}) (Unit {0})
+start_works : (w : Place) → Proper w → (m n : ℕ) (s : Stage) (x : ForStartTree) → IsForStart (around w s) x → CallsAre w m (calls_at_start x) n → (d : D)
+    → Step w m n s (more (objects_at_start x) s) d (form.for_start w.context x d) (Unit {0}) (Unit {0})
 start_works w g m n s (tree.declarations ds) h c d = all_declared_work w g m n s ds h c d
 start_works w g m n s (tree.expression e) h c d =
     let same : s.objects ≡ s.objects + 0 = omega arith in

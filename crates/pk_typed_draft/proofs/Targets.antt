@@ -87,7 +87,8 @@ put_unused w g m l n s t o a i e h k f d =
     (λ x. store_is w.kinds (a d) t i.int_type o true p.first (conversion e.int_type t p.second) x.1 x.0.0 (conversion_is w.kinds e.int_type t p.second x.0.1)))
 
 -- a stored tree is written to an element
-written : (w : Place) → Proper w → (m n : ℕ) (s : Stage) (d e : D) (t u : IntType) (o : Site) (b : Bool) (a : ArrayOf ℕ) (i r : TreeOf ℕ) (Q : Type 0) → Step w m n s s d e (Unit {0}) Q → (Q → IsOfType w.kinds u i × IsOfType w.kinds t r × HasArray w.kinds a t)
+written : (w : Place) → Proper w → (m n : ℕ) (s : Stage) (d e : D) (t u : IntType) (o : Site) (b : Bool) (a : ArrayOf ℕ) (i r : TreeOf ℕ) (Q : Type 0) → Step w m n s s d e (Unit {0}) Q
+    → (Q → IsOfType w.kinds u i × IsOfType w.kinds t r × HasArray w.kinds a t)
     → Step w m n s s d (row.written a o b i (stored t r e)).1 (Unit {0}) (IsOfType w.kinds t (row.written a o b i (stored t r e)).0)
 written w g m n s d e t u o b a i r Q x f =
     let v = stored t r e in

@@ -136,7 +136,8 @@ has_kind w g v ms rs x p b h f =
     let is : variable_in (slice_set ms v x) v ≡ x = get_or-set_same ms v x no_variable (omega (there, h.many, arith)) in
     record { there = there; kind = f.made v w.context.path (ap (λ (o : VariableOf). o.path) is ∙ p) ∙ ap (λ (o : VariableOf). o.kind) is }
 
-pub variable_step : (w : Place) → Proper w → (m : ℕ) (s : Stage) (x : VariableOf) (d : D) → (d.here.path ≡ w.context.path → x.path ≡ Some w.context.path) → IsStartOf x x.start → Step w m m s s d (with_variable x d) (Unit {0}) (Has w.kinds d.variables x.kind.int_type x.kind.length)
+pub variable_step : (w : Place) → Proper w → (m : ℕ) (s : Stage) (x : VariableOf) (d : D) → (d.here.path ≡ w.context.path → x.path ≡ Some w.context.path) → IsStartOf x x.start
+    → Step w m m s s d (with_variable x d) (Unit {0}) (Has w.kinds d.variables x.kind.int_type x.kind.length)
 variable_step w g m s x d p st = record {
   order = omega arith;
   variables = omega arith;
@@ -287,7 +288,8 @@ laid_entered w g v ms rs j f r c rv b h =
         let a = range i y e p in
         elim (h.pending k y m (old k y o q)).2 [ inl l ↦ absurd (omega (l, a.0, arith)) | inr l ↦ absurd (omega (l, a.1, b, arith)) ]
 
-pub entered_promised : (w : Place) (m : ℕ) (f : ℕ) (d : D) → IsCallee w (w.context.first + m) f → Before w m (m + 1) d → Foreseen w d.made (entered (w.context.first + m) (size_in w.context.sizes f) d).regions → Promised w f d.variables × (d.points < w.points)
+pub entered_promised : (w : Place) (m : ℕ) (f : ℕ) (d : D) → IsCallee w (w.context.first + m) f → Before w m (m + 1) d → Foreseen w d.made (entered (w.context.first + m) (size_in w.context.sizes f) d).regions
+    → Promised w f d.variables × (d.points < w.points)
 entered_promised w m f d c b z =
     let j = w.context.first + m in
     let r : Region = record { at = d.point; points = d.points; variables = d.variables } in

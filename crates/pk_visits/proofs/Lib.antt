@@ -26,3 +26,4 @@ mod Evaluations
 mod StatementGrows
 mod Statements
 mod Rounds
+mod Branches

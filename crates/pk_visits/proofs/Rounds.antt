@@ -13,10 +13,10 @@ use Rattle.pk_lower_expression.specs.Expressions.{ways}
 use Rattle.pk_lower_statement.specs.declared.statements.Exits.{Exits}
 use Rattle.pk_lower_statement.specs.Statements.{inside, round, while_from, do_from, loop_begun, lowered}
 use Rattle.pk_meaning.specs.Work as work
-use Rattle.pk_meaning.specs.Work.{Place, Work, Ahead, Onward, While, DoWhile}
+use Rattle.pk_meaning.specs.Work.{Place, Work, Ahead, Loop, Onward, While, DoWhile}
 use Rattle.pk_meaning.specs.Steps.{place}
 use Rattle.pk_visits.proofs.Slots.{Slot, Draft, Among, edge, last_among, Keeps, label_at}
-use Rattle.pk_visits.proofs.Stands.{Whole, Proper, context_of, Held, around, AreCalm, ShowsAt, Stage, led_to, Marking, Loops, LaidAhead, LaidWay, Laid}
+use Rattle.pk_visits.proofs.Stands.{Whole, Proper, context_of, Held, around, AreCalm, ShowsAt, Stage, led_to, Marking, Loops, ContinuesAt, LaidAhead, LaidWay, Laid}
 use Rattle.pk_visits.proofs.Stages.{In, all_called, ways_grow, part_first, part_second, part_until, stage_at, part_point, part_room, three_first, three_second, three_third}
 use Rattle.pk_visits.proofs.Grows.{fresh_three_grows, link_grows}
 use Rattle.pk_visits.proofs.Tells.{sane, any_called}
@@ -73,6 +73,7 @@ while_laid g proper k h x p e s a pt hs (d, n, m, is, fits, calm, t, marking, l)
       stage = part_until g Stays k j (calls_in e ++ calls_in_statement s) b f (at (o.points + 2) f) s0 (record { edges = λ v w. w; names = refl; variables = omega arith; points = omega arith; size = refl; labels = λ v w. inr refl; regions = λ v. inr refl; paths = refl; here = (refl, refl) });
       marking = marking;
       calm = calm;
+      heads = z.first;
       begins = z.second;
       continues = z.first;
     }, refl, z.third, l))
@@ -104,6 +105,91 @@ do_laid g proper k h x p s e a pt hs (d, n, m, is, fits, calm, t, marking, l) =
       stage = part_until g Stays k j (calls_in_statement s ++ calls_in e) b f (at (o.points + 2) f) s0 (record { edges = λ v w. w; names = refl; variables = omega arith; points = omega arith; size = refl; labels = λ v w. inr refl; regions = λ v. inr refl; paths = refl; here = (refl, refl) });
       marking = marking;
       calm = calm;
+      heads = z.first;
       begins = z.first;
       continues = z.second;
     }, tt, z.third, l))
+
+-- ---- turns
+
+-- the end of a loop's body, in the exits of the loop
+again : (g : Whole) (k : ℕ) (h : Place) (x : Exits) (l : Loop) (e : Place) (a : Ahead) (p c o : ℕ) (t : ℕ) (hs : List Held) → Loops g k h x l p c o hs → ContinuesAt l p c → Among (edge t Skip c) g.edges → ShowsAt g o k e
+    → LaidAhead g k x a o hs → LaidAhead g k (inside o c x) (work.Again h l e a) t hs
+again g k h x l e a p c o t hs loop cont there shown z = (x, p, there, loop.continues, refl, loop, cont, shown, z)
+
+-- a `while` where it begins again: its test, then the body or what is behind
+pub turn_while : (g : Whole) (proper : Proper g) (k : ℕ) (h i : Place) (x : Exits) (e : ValueTree) (s : StatementTree) (o : Place) (a : Ahead) (p : ℕ) (hs : List Held) → Laid g k i x (work.Turn h (While e s) o a) p hs
+    → Laid g k h x (work.Test e (Onward h (work.Do s (work.Again h (While e s) o a))) (Onward o (work.Go a))) p hs
+turn_while g proper k h i x e s o a p hs (plain, c, b, loop, cont, shown, z) =
+    let ctx = context_of g k in
+    let d = loop.draft in
+    let t = loop.stage in
+    let d1 = (ways ctx e).choice loop.begin b d in
+    let y = inside b d.point x in
+    let d2 = lowered ctx s y (at loop.begin d1) in
+    let f = go Skip d.point d2 in
+    let ge = (ways_grow ctx e).choice loop.begin b d in
+    let gs = statement (In (led_to ctx (calls_in_statement s))) ctx _ loop.mark s y t.marks loop.fits.1 (marking_inside x loop.mark t.marks b d.point loop.marking) (all_called ctx (calls_in_statement s)) (at loop.begin d1) in
+    let last : Adds t.marks (In (led_to ctx (calls_in_statement s))) d1 f = stays_then gs (link_adds t.marks (In (led_to ctx (calls_in_statement s))) Skip d.point d2) in
+    let ve = ge.variables in
+    let se = part_first g Stays k h (calls_in e) (calls_in_statement s) d d1 f t last in
+    let here = subst (λ (m : Label). g.shows m k h) (sym ge.here) t.here in
+    let ss = part_second g k h (place d1.here.at h.scope) (calls_in e) (calls_in_statement s) d (at loop.begin d1) f t ge.points
+        (subst (λ q. g.shows d1.here k (place q h.scope)) (proper.at_positions d1.here k h here) here) in
+    let sd = part_until g Stays k _ (calls_in_statement s) (at loop.begin d1) d2 f ss (link_adds t.marks (In []) Skip d.point d2) in
+    let back = t.leads.edges _ (last_among d2.edges (edge d2.point Skip d.point)) in
+    let same : d.point ≡ c = loop.at ∙ cont in
+    (d, loop.objects, loop.begin, b, loop.at, loop.fits.0, loop.calm, se,
+    (loop.begins, (y, (at loop.begin d1, loop.objects, loop.mark, refl, loop.fits.1, calm_more d.variables d1.variables hs ve loop.calm, sd, marking_inside x loop.mark t.marks b d.point loop.marking,
+    subst (λ q. LaidAhead g k (inside b q x) (work.Again h (While e s) o a) d2.point hs) (sym same) (again g k h x (While e s) o a p c b d2.point hs loop cont (subst (λ q. Among (edge d2.point Skip q) g.edges) same back) shown z)))),
+    (shown, (x, (plain, z))))
+
+-- a `do` where it begins again: its body
+pub turn_do : (g : Whole) (proper : Proper g) (k : ℕ) (h i : Place) (x : Exits) (e : ValueTree) (s : StatementTree) (o : Place) (a : Ahead) (p : ℕ) (hs : List Held) → Laid g k i x (work.Turn h (DoWhile s e) o a) p hs
+    → (y : Exits) × Laid g k h y (work.Do s (work.Again h (DoWhile s e) o a)) p hs
+turn_do g proper k h i x e s o a p hs (plain, c, b, loop, cont, shown, z) =
+    let ctx = context_of g k in
+    let d = loop.draft in
+    let t = loop.stage in
+    let y = inside b c x in
+    let d2 = lowered ctx s y (at d.point d) in
+    let r = go Skip c d2 in
+    let f = (ways ctx e).choice d.point b (on h.at r) in
+    let ge = (ways_grow ctx e).choice d.point b (on h.at r) in
+    let last : Adds t.marks (In (led_to ctx (calls_in e))) d2 f =
+        stays_then (link_adds t.marks (In (led_to ctx (calls_in e))) Skip c d2) (stays_then (on_adds t.marks (In (led_to ctx (calls_in e))) h.at r) (adds t.marks (In (led_to ctx (calls_in e))) (on h.at r) f ge)) in
+    let first = part_first g Stays k h (calls_in_statement s) (calls_in e) d d2 f t last in
+    let ss = stage_at g k h (place d.here.at h.scope) (calls_in_statement s) d (at d.point d) d2 first (omega arith)
+        (subst (λ q. g.shows d.here k (place q h.scope)) (proper.at_positions d.here k h t.here) t.here) in
+    (y, (at d.point d, loop.objects, loop.mark, loop.at, loop.fits.0, loop.calm, ss, marking_inside x loop.mark t.marks b c loop.marking,
+    again g k h x (DoWhile s e) o a p c b d2.point hs loop cont (t.leads.edges _ (ge.edges _ (last_among d2.edges (edge d2.point Skip c)))) shown z))
+
+-- ---- the end of a body
+
+-- of a `while`: at its head again
+pub again_while : (g : Whole) (k : ℕ) (h i : Place) (x : Exits) (e : ValueTree) (s : StatementTree) (o : Place) (a : Ahead) (p : ℕ) (hs : List Held) → Laid g k i x (work.Go (work.Again h (While e s) o a)) p hs
+    → (q : ℕ) × Among (edge p Skip q) g.edges × ShowsAt g q k h × ((y : Exits) × Laid g k h y (work.Turn h (While e s) o a) q hs)
+again_while g k h i x e s o a p hs (plain, (y, b, there, shown, same, loop, cont, behind, z)) =
+    (x.continued, there, shown, (y, (plain, x.continued, x.broken, subst (λ q. Loops g k h y (While e s) q x.continued x.broken hs) cont loop, refl, behind, z)))
+
+-- of a `do`: at its test, which leads back to the body
+pub again_do : (g : Whole) (proper : Proper g) (k : ℕ) (h i : Place) (x : Exits) (e : ValueTree) (s : StatementTree) (o : Place) (a : Ahead) (p : ℕ) (hs : List Held) → Laid g k i x (work.Go (work.Again h (DoWhile s e) o a)) p hs
+    → (q : ℕ) × Among (edge p Skip q) g.edges × ShowsAt g q k h × ((y : Exits) × Laid g k h y (work.Test e (Onward h (work.Turn h (DoWhile s e) o a)) (Onward o (work.Go a))) q hs)
+again_do g proper k h i x e s o a p hs (plain, (y, b, there, shown, same, loop, cont, behind, z)) =
+    let ctx = context_of g k in
+    let d = loop.draft in
+    let t = loop.stage in
+    let w = inside x.broken x.continued y in
+    let d2 = lowered ctx s w (at d.point d) in
+    let r = go Skip x.continued d2 in
+    let u = on h.at r in
+    let f = (ways ctx e).choice d.point x.broken u in
+    let body = statement (In (led_to ctx (calls_in_statement s))) ctx _ loop.mark s w t.marks loop.fits.0 (marking_inside y loop.mark t.marks x.broken x.continued loop.marking) (all_called ctx (calls_in_statement s)) (at d.point d) in
+    let round = stays_then body (stays_then (link_adds t.marks (In (led_to ctx (calls_in_statement s))) Skip x.continued d2) (on_adds t.marks (In (led_to ctx (calls_in_statement s))) h.at r)) in
+    let first = subst (λ q. g.shows d.here k (place q h.scope)) (proper.at_positions d.here k h t.here) t.here in
+    let here : g.shows u.here k h = shows_on g proper k h.scope d.here u.here first round.here in
+    let tests = part_second g k h h (calls_in_statement s) (calls_in e) d u f t round.points here in
+    let vr = round.variables in
+    (x.continued, there, shown, (y, (u, loop.objects, d.point, x.broken, refl, loop.fits.1, calm_more d.variables u.variables hs vr loop.calm, tests,
+    (subst (λ q. ShowsAt g q k h) (sym loop.at) loop.heads, (y, (plain, x.continued, x.broken, subst (λ q. Loops g k h y (DoWhile s e) q x.continued x.broken hs) (sym loop.at) loop, tt, behind, z))),
+    (behind, (y, (plain, z))))))

@@ -125,6 +125,7 @@ pub record Proper (g : Whole) : Type 0 where
   pub there : (k : ℕ) (z : Numbered) → k < length g.program.paths → Among z (calls_in_items (block_of g.program k).items) → callee (context_of g k) z.number < length g.program.paths
   pub functions : (k : ℕ) (z : Numbered) → k < length g.program.paths → Among z (calls_in_items (block_of g.program k).items) → function_number g.program (callee (context_of g k) z.number) ≡ z.call.function
   pub behind : (k : ℕ) (z : Numbered) → k < length g.program.paths → Among z (calls_in_items (block_of g.program k).items) → k < callee (context_of g k) z.number
+  pub at_positions : (l : Label) (k : ℕ) (h : Place) → g.shows l k h → h.at ≡ l.at
   -- the position of a label may change
   pub positions : (l : Label) (k : ℕ) (xs : Scope) (q : Pos) → g.shows l k (place l.at xs) → g.shows (record { at = q; path = l.path; scope = l.scope }) k (place q xs)
   pub scopes : (l : Label) (k m i : ℕ) (h : Place) → g.shows l k h → k < m → is_in_scope (local m i) h.scope ≡ false
@@ -286,6 +287,7 @@ pub record Loops (g : Whole) (k : ℕ) (h : Place) (x : Exits) (l : Loop) (p c e
   pub stage : Stage g k h (calls_in_loop l) draft (loop_from (context_of g k) h.at l x begin c e draft)
   pub marking : Marking x mark stage.marks
   pub calm : AreCalm draft.variables hs
+  pub heads : ShowsAt g p k h
   pub begins : ShowsAt g begin k h
   pub continues : ShowsAt g c k h
 

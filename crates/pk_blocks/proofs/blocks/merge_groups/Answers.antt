@@ -1,4 +1,5 @@
 use Rattle.std.proofs.Common.{◌*◌, ◌<◌, length, arith}
+use Rattle.pk_blocks.specs.Rows.{below}
 use Rattle.pk_blocks.proofs.Flat.{merged_row}
 use Rattle.pk_blocks.proofs.blocks.merge_groups.Goals as goal
 
@@ -8,4 +9,4 @@ loop-k-preserved g c =
     let here : k < length c.args.a.now = c.loop-k-test.true in
     let there : k < length c.args.b.now = omega (arith, c.requires.count, c.loop-k-test.true) in
     rw c.in_ok-push.ensures.items
-    (merged_row 512 (g.M.Merge.merged c.args.by.now) 0 (k * 512) k c.loop-k.out.items c.args.a.now c.args.b.now c.index-a-k.result c.index-b-k.result c.in_ok-pair.pair.0 c.loop-k.invariant c.requires.rows c.requires.others here there c.index-a-k.is c.index-b-k.is (omega arith) c.in_ok-pair.ensures.value)
+    (merged_row 512 (below c.args.limit (g.M.Merge.merged c.args.by.now)) 0 (k * 512) k c.loop-k.out.items c.args.a.now c.args.b.now c.index-a-k.result c.index-b-k.result c.in_ok-pair.pair.0 c.loop-k.invariant c.requires.rows c.requires.others here there c.index-a-k.is c.index-b-k.is (omega arith) c.in_ok-pair.ensures.value)
