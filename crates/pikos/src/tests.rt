@@ -143,3 +143,60 @@ fn a_graph_may_have_so_many_points(rt: HostRuntime) -> Result<(), Fail> {
     );
     Ok(())
 }
+
+// So many objects of the file, and a function that reads the last of them.
+fn objects(alloc: Global, count: usize) -> Result<Vec<u8>, Fail> {
+    let mut text = b"int g;".to_vec(alloc)?;
+    for number in 1..count {
+        let declared = format!(in alloc; "int g{number};")?;
+        text.extend_from_slice(declared.as_bytes())?;
+    }
+    text.extend_from_slice(b"int main(void){g=g19999;return 0;}")?;
+    Ok(text)
+}
+
+#[test]
+fn a_text_may_declare_so_many_objects(rt: HostRuntime) -> Result<(), Fail> {
+    let alloc = rt.alloc();
+    let text = objects(alloc, 20000)?;
+    let (code, bytes, _) = outcome(alloc, "run", &text, 4096, NEVER, NEVER)?;
+    assert!(rt;
+        code == 0
+            && bytes.as_str()
+                == "pikos 1 entry main points 4 elements 5\nresult safe 0 unknown 0 unreachable 0\n",
+        "{code}"
+    );
+    Ok(())
+}
+
+// Twelve functions, each of which but the first calls the one before it twice.
+fn chain(alloc: Global) -> Result<Vec<u8>, Fail> {
+    let mut text = b"int f0(int x){return x;}".to_vec(alloc)?;
+    for number in 1..12 {
+        let last = number - 1;
+        let head = format!(in alloc; "int f{number}(int x)")?;
+        let call = format!(in alloc; "f{last}(x)")?;
+        text.extend_from_slice(head.as_bytes())?;
+        text.extend_from_slice(b"{return ")?;
+        text.extend_from_slice(call.as_bytes())?;
+        text.push(b'+')?;
+        text.extend_from_slice(call.as_bytes())?;
+        text.extend_from_slice(b";}")?;
+    }
+    text.extend_from_slice(b"int main(void){return f11(1);}")?;
+    Ok(text)
+}
+
+#[test]
+fn a_program_may_have_so_many_call_paths(rt: HostRuntime) -> Result<(), Fail> {
+    let alloc = rt.alloc();
+    let text = chain(alloc)?;
+    let (code, bytes, _) = outcome(alloc, "run", &text, 4096, NEVER, NEVER)?;
+    assert!(rt;
+        code == 0
+            && bytes.starts_with("pikos 1 entry main points 14335 elements 14336\n")
+            && bytes.ends_with("result safe 2047 unknown 0 unreachable 0\n"),
+        "{code}"
+    );
+    Ok(())
+}

@@ -37,14 +37,17 @@ point_limit = 65536
 abbrev pub graph_of : UnitTree → List CallPath → GraphOf
 graph_of u paths = numbered (map (path_of u paths) paths) (program_draft by_number u paths)
 
--- the graph of a text whose runs begin with this function, which is well made
+-- the graph of a text whose runs begin with this function
 pub record HasGraph (text entry : List ℕ) (g : GraphOf) : Type 0 where
   pub unit : UnitTree
   pub paths : List CallPath
   pub called : HasPaths text entry unit paths
   pub few : point_count unit paths ≤ point_limit
   pub graph : g ≡ graph_of unit paths
-  pub made : IsGraph g
+
+-- it is well made
+abbrev pub GraphsAreWellMade : Type 0
+GraphsAreWellMade = (text entry : List ℕ) (g : GraphOf) → HasGraph text entry g → IsGraph g
 
 -- it would have too many points
 pub record HasManyPoints (text entry : List ℕ) : Type 0 where

@@ -15,7 +15,8 @@ use pk_draft::LowerError;
 use pk_front::{Status, front};
 use pk_graph::Graph;
 use pk_lower::{draft, graph_paths};
-use pk_number::number_if_typed;
+use pk_number::number;
+use pk_welltyped_texts::drafts_of_texts_are_typed;
 use std::alloc::{AllocError, Global};
 
 // A graph would have too many points.
@@ -69,13 +70,8 @@ fn graph_of_text(alloc: Global, text: &[u8], entry: &str) -> Result<Graph, Statu
         Err(LowerError::Memory) => return Err(Status::Memory),
     };
     let list = graph_paths(alloc, &unit, &paths)?;
-    match number_if_typed(alloc, list, draft)? {
-        Some(graph) => {
-            graph.well_made();
-            Ok(graph)
-        }
-        None => Err(Status::Memory),
-    }
+    drafts_of_texts_are_typed();
+    Ok(number(alloc, list, draft)?)
 }
 
 // The report on a text.

@@ -1,10 +1,12 @@
 // Laws of the answer.
 
-ghost use Rattle.pk_top.specs.Answers.{OneAnswer, WorkersTellNothing};
+ghost use Rattle.pk_top.specs.Answers.{GraphsAreWellMade, OneAnswer, WorkersTellNothing};
 
 use pk_answer::one_report;
 use pk_command::one_command;
 use pk_front::way_is_determined;
+use pk_number::numbered_law;
+use pk_welltyped_texts::drafts_of_texts_are_typed;
 
 /// Words and a text have at most one answer.
 pub fn answer_law()
@@ -20,4 +22,12 @@ pub fn workers_law()
     ensures { WorkersTellNothing }
 {
     one_command();
+}
+
+/// The graph of a text is well made.
+pub fn graphs_are_well_made()
+    ensures { GraphsAreWellMade }
+{
+    drafts_of_texts_are_typed();
+    numbered_law();
 }

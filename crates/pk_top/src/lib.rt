@@ -5,6 +5,6 @@ mod answers;
 mod laws;
 mod top;
 
-pub use laws::{answer_law, workers_law};
+pub use laws::{answer_law, graphs_are_well_made, workers_law};
 pub use pk_front::{Refusal, Status};
 pub use top::pikos;
