@@ -1,0 +1,2 @@
+//! Labels, cases and defaults of an accepted text stand once.
+#![tactic(auto)]
