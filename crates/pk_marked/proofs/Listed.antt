@@ -1,7 +1,6 @@
 -- Labels of a function in which none is repeated.
-use Rattle.std.proofs.Common.{◌≡◌, ℕ, ◌+◌, ◌<◌, ◌≤◌, Bool, true, false, List, [], ◌∷◌, ◌++◌, Option, Some, None, refl, ap, sym, subst, ◌∙◌, arith, if◌then◌else◌}
+use Rattle.std.proofs.Common.{◌≡◌, ℕ, ◌≤◌, Bool, true, false, List, [], ◌∷◌, ◌++◌, Option, Some, None, refl, ap, sym, ◌∙◌, arith, if◌then◌else◌}
 use Rattle.std.proofs.lemmas.Option.{none-some}
-use Rattle.std.proofs.lemmas.Bool.{false≢true}
 use Rattle.std.proofs.lemmas.Slice.Eq.{bytes_eq-Decides}
 use Rattle.std.specs.Str.{bytes_eq}
 use Rattle.pk_ctypes.specs.declared.places.Pos.{Pos}
@@ -11,9 +10,9 @@ use Rattle.pk_ast.specs.Trees.{declaration, expression, StatementTree, ItemTrees
 use Rattle.pk_scope.specs.Scopes.{spelled}
 use Rattle.pk_jump.specs.declared.labels.Label.{Label}
 use Rattle.pk_jump.specs.declared.labels.Within.{Within}
-use Rattle.pk_jump.specs.Labels.{Listed, named, is_repeated, with_label, with_declaration, inside, listed, listed_items}
+use Rattle.pk_jump.specs.Labels.{Listed, is_repeated, with_label, with_declaration, inside, listed, listed_items}
 
-none_before : {A : Type 0} (xs ys : List A) → xs ++ ys ≡ [] → xs ≡ []
+pub none_before : {A : Type 0} (xs ys : List A) → xs ++ ys ≡ [] → xs ≡ []
 none_before [] ys h = refl
 none_before (x ∷ xs) ys h = absurd (cc)
 

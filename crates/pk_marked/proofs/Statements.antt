@@ -1,5 +1,5 @@
 -- Statements whose labels aren't repeated and whose cases aren't out of place.
-use Rattle.std.proofs.Common.{◌≡◌, ℕ, ◌+◌, zero, suc, ◌<◌, ◌≤◌, Bool, true, false, not, List, [], ◌∷◌, ◌++◌, Option, Some, None, length, refl, ap, sym, subst, ◌∙◌, arith, length-append, nat_eq, if◌then◌else◌}
+use Rattle.std.proofs.Common.{◌≡◌, ℕ, ◌+◌, suc, Bool, true, false, List, [], ◌∷◌, Option, Some, None, length, refl, ap, sym, subst, ◌∙◌, arith, length-append, nat_eq}
 use Rattle.std.proofs.lemmas.Option.{none-some}
 use Rattle.std.proofs.lemmas.Bool.{false≢true}
 use Rattle.std.specs.Prelude.{ℤ, unwrap_or, ◌||◌}
@@ -8,7 +8,6 @@ use Rattle.pk_ctypes.specs.declared.places.Pos.{Pos}
 use Rattle.pk_ctypes.specs.declared.types.IntType.{IntType}
 use Rattle.pk_ctypes.specs.Conversions.{promoted}
 use Rattle.pk_ctypes.specs.Types.{wrapped}
-use Rattle.pk_ast.specs.declared.expressions.Identifier.{Identifier}
 use Rattle.pk_ast.specs.Places.{first_place_of}
 use Rattle.pk_ast.specs.Trees as ast
 use Rattle.pk_ast.specs.Trees.{declaration, expression, StatementTree, ItemTrees, no_items, declaration_then, statement_then}
@@ -16,7 +15,6 @@ use Rattle.pk_typed.specs.Trees as tree
 use Rattle.pk_typed.specs.Trees.{ValueTree, EffectTree, DeclaredTree}
 use Rattle.pk_scope.specs.declared.declarations.Typing.{Typing}
 use Rattle.pk_scope.specs.declared.declarations.Typing.TheVariants.{Void, Integer, Unknown}
-use Rattle.pk_scope.specs.declared.failures.Failure.{Failure}
 use Rattle.pk_scope.specs.Failures.{noted}
 use Rattle.pk_scope.specs.Scopes.{spelled}
 use Rattle.pk_typing.specs.Typed.{of_both}
@@ -26,19 +24,17 @@ use Rattle.pk_declare.specs.Declarations.{after_declaration, declaration_trees_a
 use Rattle.pk_declare.specs.Walks.{here, after_value, value_at, effect_at}
 use Rattle.pk_jump.specs.declared.labels.Label.{Label}
 use Rattle.pk_jump.specs.declared.labels.Within.{Within}
-use Rattle.pk_jump.specs.Labels as labels
 use Rattle.pk_jump.specs.Labels.{Listed, with_label, with_declaration, inside, listed, listed_items}
 use Rattle.pk_jump.specs.Jumps as jump
 use Rattle.pk_jump.specs.Jumps.{Around, Jumped, at_if, misplaced_if, is_out_of_place, with_default_flag, looped, switched, within_next, jumped, jumped_items}
 use Rattle.pk_statement.specs.declared.statements.Case.{Case}
 use Rattle.pk_statement.specs.Statements as statements
 use Rattle.pk_statement.specs.Statements.{Passed, on, outside, with_case, with_default, in_switch, after_switch, after_head, after, after_items}
-use Rattle.pk_statement.specs.Trees.{Labels, numbered, label_at, of_three, case_numbers, ended_as, ended, switch_of, optional_value_at, start_at, HeadTree, head_at, for_tree, declared_all, typed, typed_items}
-use Rattle.pk_statement.proofs.KeepLemmas.{Kept, kept, kept_items, kept_declaration, kept_head}
+use Rattle.pk_statement.specs.Trees.{numbered, label_at, of_three, case_numbers, ended_as, ended, switch_of, optional_value_at, HeadTree, head_at, for_tree, declared_all, typed, typed_items}
+use Rattle.pk_statement.proofs.KeepLemmas.{kept, kept_declaration, kept_head}
 use Rattle.pk_meaning.specs.Steps as mark
 use Rattle.pk_meaning.specs.Steps.{Mark, labelled, otherwise}
-use Rattle.pk_marks.specs.Marks as marks
-use Rattle.pk_marks.specs.Marks.{one_if, times, times_in, IsSwitch, HasCases, HaveCases}
+use Rattle.pk_marks.specs.Marks.{one_if, times, times_in, HasCases, HaveCases}
 use Rattle.pk_accepted.proofs.Jumps.{before, items_before}
 use Rattle.pk_accepted.proofs.Statements.{P}
 use Rattle.pk_marked.proofs.Counts.{Counts, none, both, one}
