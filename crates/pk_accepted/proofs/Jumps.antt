@@ -89,7 +89,7 @@ Labels = List ℕ → Option Label
 mutual
   unfolding jumped jumped_items
 
-  before : (text : List ℕ) (labels : Labels) (a : Around) (j : Jumped) (s : StatementTree) → (jumped text labels a j s).misplaced ≡ [] → j.misplaced ≡ []
+  pub before : (text : List ℕ) (labels : Labels) (a : Around) (j : Jumped) (s : StatementTree) → (jumped text labels a j s).misplaced ≡ [] → j.misplaced ≡ []
   before text labels a j (ast.block opened items closed) h = items_before text labels a j items h
   before text labels a j (ast.empty at) h = h
   before text labels a j (ast.expression_statement e) h = h
@@ -108,7 +108,7 @@ mutual
   before text labels a j (ast.break at) h = none_before j.misplaced (at_if (is_unbroken a) at) h
   before text labels a j (ast.return at e) h = h
 
-  items_before : (text : List ℕ) (labels : Labels) (a : Around) (j : Jumped) (is : ItemTrees) → (jumped_items text labels a j is).misplaced ≡ [] → j.misplaced ≡ []
+  pub items_before : (text : List ℕ) (labels : Labels) (a : Around) (j : Jumped) (is : ItemTrees) → (jumped_items text labels a j is).misplaced ≡ [] → j.misplaced ≡ []
   items_before text labels a j no_items h = h
   items_before text labels a j (declaration_then d is) h = items_before text labels (within_next j a) (jump.with_declaration j) is h
   items_before text labels a j (statement_then s is) h = before text labels a j s (items_before text labels a (jumped text labels a j s) is h)

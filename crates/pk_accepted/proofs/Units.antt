@@ -130,7 +130,7 @@ new_keeps es n name s i e h = chosen (nat_eq n (length es))
     chosen false = h
 
 -- what holds of all entries and of a new one
-new_entries : (Q : EntryTree → Type 0) (es : Entries) (n : ℕ) (name : List ℕ) (s : SignatureTree) → ((i : ℕ) (e : EntryTree) → slice_get es i ≡ Some e → Q e) → Q (record { name = name; signature = s; is_defined = false; body = None })
+pub new_entries : (Q : EntryTree → Type 0) (es : Entries) (n : ℕ) (name : List ℕ) (s : SignatureTree) → ((i : ℕ) (e : EntryTree) → slice_get es i ≡ Some e → Q e) → Q (record { name = name; signature = s; is_defined = false; body = None })
     → (i : ℕ) (e : EntryTree) → slice_get (with_new es n name s) i ≡ Some e → Q e
 new_entries Q es n name s h k = chosen (nat_eq n (length es))
   where
@@ -150,7 +150,7 @@ new_entries Q es n name s h k = chosen (nat_eq n (length es))
 new_there : (es : Entries) (name : List ℕ) (s : SignatureTree) → slice_get (with_new es (length es) name s) (length es) ≡ Some (record { name = name; signature = s; is_defined = false; body = None })
 new_there es name s = rw (equal_numbers (length es)) (nth es (record { name = name; signature = s; is_defined = false; body = None }) [])
 
-updated : (Q : EntryTree → Type 0) (f : EntryTree → EntryTree) (n : ℕ) (es : Entries) → ((i : ℕ) (e : EntryTree) → slice_get es i ≡ Some e → Q e) → ((e : EntryTree) → slice_get es n ≡ Some e → Q (f e))
+pub updated : (Q : EntryTree → Type 0) (f : EntryTree → EntryTree) (n : ℕ) (es : Entries) → ((i : ℕ) (e : EntryTree) → slice_get es i ≡ Some e → Q e) → ((e : EntryTree) → slice_get es n ≡ Some e → Q (f e))
     → (i : ℕ) (e : EntryTree) → slice_get (update_at n f es) i ≡ Some e → Q e
 updated Q f n [] h k i e is = absurd (none-some e is)
 updated Q f zero (x ∷ es) h k zero e is = subst Q (ap (λ (o : Option EntryTree). unwrap_or o e) is) (k x refl)
@@ -374,16 +374,16 @@ function_is u defined f file is c has s k =
 
 -- ---- texts
 
-external_later : (defined : List ℕ → Bool) (x : ExternalTree) (f : F) → LaterFile f (after_external noted defined x f)
+pub external_later : (defined : List ℕ → Bool) (x : ExternalTree) (f : F) → LaterFile f (after_external noted defined x f)
 external_later defined (function g) f = later_function defined g f
 external_later defined (objects storage d) f = files.later_declaration storage d f
 
-externals_later : (defined : List ℕ → Bool) (xs : List ExternalTree) (f : F) → LaterFile f (after_externals noted defined xs f)
+pub externals_later : (defined : List ℕ → Bool) (xs : List ExternalTree) (f : F) → LaterFile f (after_externals noted defined xs f)
 unfolding after_externals
 externals_later defined [] f = file_same f
 externals_later defined (x ∷ xs) f = file_later f (after_external noted defined x f) _ (external_later defined x f) (externals_later defined xs (after_external noted defined x f))
 
-external_calls : (defined : List ℕ → Bool) (x : ExternalTree) (f : F) → (after_external noted defined x f).walked.calls ≡ []
+pub external_calls : (defined : List ℕ → Bool) (x : ExternalTree) (f : F) → (after_external noted defined x f).walked.calls ≡ []
 unfolding after_function after_declaration
 external_calls defined (function g) f = refl
 external_calls defined (objects storage d) f = refl
