@@ -27,3 +27,4 @@ mod StatementGrows
 mod Statements
 mod Rounds
 mod Branches
+mod Returns
