@@ -1,10 +1,9 @@
 -- The graph follows the program at the end of a body; from the work of a `return` to that of its value.
-use Rattle.std.proofs.Common.{◌≡◌, ℕ, zero, suc, ◌+◌, ◌<◌, ◌≤◌, ◌⊎◌, List, [], ◌∷◌, ◌++◌, length, Bool, true, false, ◌&&◌, nat_eq, if◌then◌else◌, refl, sym, ap, ◌∙◌, subst, inl, inr, arith, ℤ, Option, Some, None}
-use Rattle.std.specs.Prelude.{pos, Ok}
+use Rattle.std.proofs.Common.{◌≡◌, ℕ, ◌<◌, List, [], ◌∷◌, length, Bool, true, false, ◌&&◌, nat_eq, if◌then◌else◌, refl, sym, ap, subst, arith, Option, Some, None}
+use Rattle.std.specs.Prelude.{pos}
 use Rattle.std.proofs.lemmas.Bool.{eqb-true}
 use Rattle.pk_ctypes.specs.declared.places.Pos.{Pos}
 use Rattle.pk_ctypes.specs.declared.types.IntType.{IntType}
-use Rattle.pk_ctypes.specs.Types.{InType}
 use Rattle.pk_ctypes.proofs.Wrapped.{zero_in}
 use Rattle.pk_typed.specs.Trees.{ValueTree}
 use Rattle.pk_typed.specs.Trees as tree
@@ -14,25 +13,25 @@ use Rattle.pk_graph.specs.Steps as steps
 use Rattle.pk_graph.specs.Steps.{Numbers, are_any, all_in_type}
 use Rattle.pk_draft.specs.Drafts.{on, emit, away, link, Names, object_number}
 use Rattle.pk_draft.specs.Folding.{conversion}
-use Rattle.pk_lower_row.specs.Contexts.{Context, own_result}
+use Rattle.pk_lower_row.specs.Contexts.{own_result}
 use Rattle.pk_lower_row.specs.Rows as rows
 use Rattle.pk_lower_expression.specs.Expressions.{ways}
 use Rattle.pk_lower_statement.specs.declared.statements.Exits.{Exits}
 use Rattle.pk_lower_statement.specs.Statements.{lowered}
-use Rattle.pk_welltyped.specs.Listed.{Numbered, calls_in, calls_in_statement}
-use Rattle.pk_welltyped.specs.WellTyped.{Kind, scalar, IsValue, IsStatement}
+use Rattle.pk_welltyped.specs.Listed.{Numbered, calls_in}
+use Rattle.pk_welltyped.specs.WellTyped.{Kind, scalar, IsValue}
 use Rattle.pk_meaning.specs.Objects.{Objects, result, with_numbers, is_in_scope}
 use Rattle.pk_meaning.specs.Programs.{function_of, is_main}
 use Rattle.pk_meaning.specs.Work as work
 use Rattle.pk_meaning.specs.Work.{Place, Caller, Ahead}
 use Rattle.pk_meaning.specs.Steps as meaning
 use Rattle.pk_meaning.specs.Steps.{place, step_of, caller_of}
-use Rattle.pk_visits.proofs.Slots.{Slot, own, slots, Draft, Memory, memory, with_memory, Among, edge, front_among, last_among}
-use Rattle.pk_visits.proofs.Stands.{Whole, Proper, context_of, Held, held, around, ArePlain, AreCalm, ShowsAt, HasKind, Means, FitsObjects, Writes, EndedBy, end_place, Stage, led_to, LaidWay, LaidAhead, LaidCaller, Laid}
+use Rattle.pk_visits.proofs.Slots.{Slot, own, Draft, Memory, with_memory, Among, edge, last_among}
+use Rattle.pk_visits.proofs.Stands.{Whole, Proper, context_of, Held, around, ArePlain, AreCalm, ShowsAt, Means, FitsObjects, Writes, EndedBy, end_place, Stage, led_to, LaidWay, LaidAhead, LaidCaller, Laid}
 use Rattle.pk_visits.proofs.Stores.{Fitting, fits_written, means_apart}
-use Rattle.pk_visits.proofs.Follow.{Answers, Follows, config, still, moved, kind_is, scalar_written}
-use Rattle.pk_visits.proofs.Stages.{In, ways_grow, stage_at, stage_until, stage_from, stage_edge}
-use Rattle.pk_visits.proofs.Grows.{grows_refl, grows_trans, emit_grows, link_grows, fresh_one_grows}
+use Rattle.pk_visits.proofs.Follow.{Answers, config, still, moved, kind_is, scalar_written}
+use Rattle.pk_visits.proofs.Stages.{In, ways_grow, stage_at, stage_until, stage_edge}
+use Rattle.pk_visits.proofs.Grows.{grows_trans, emit_grows, link_grows, fresh_one_grows}
 use Rattle.pk_visits.proofs.Tells.{Any, sane}
 use Rattle.pk_visits.proofs.Trees.{stage_names}
 use Rattle.pk_visits.proofs.Operands.{all_own}
@@ -74,7 +73,7 @@ end_follows g chosen p q m k w c vs s b x hs (Some t) there is l plain way shown
 
   by : (y : Bool) → EndedBy g k y (Some t) p q hs
       → Answers g chosen k (end_place g.program k) p m (if y then meaning.writes (config k (end_place g.program k) w vs s b) (result k) (pos 0 ∷ []) (work.Leave c) vs
-        else meaning.with_choice t 1 chosen (meaning.writes (config k (end_place g.program k) w vs s b) (result k) chosen (work.Leave c) vs))
+      else meaning.with_choice t 1 chosen (meaning.writes (config k (end_place g.program k) w vs s b) (result k) chosen (work.Leave c) vs))
   by true z =
       moved g chosen p q m (with_memory (own (result k)) (pos 0 ∷ []) m) (Set (own (result k)) (constant t (pos 0))) k (end_place g.program k) (work.Leave c) vs (with_numbers (result k) (pos 0 ∷ []) s) (is_in_scope (result k) (end_place g.program k).scope) x hs
       z.there refl (refl, z.shown) (plain, way, shown, caller) (means_apart (own (result k)) (pos 0 ∷ []) m hs vs z.apart e) (ap (with_numbers (result k) (pos 0 ∷ [])) same)
@@ -135,12 +134,22 @@ value_laid g proper k h x p t e a n d hs is fits calm s l =
     let ns = stage_names g k j (calls_in e) Any o f so (grows_trans ((sane c e).value o) (grows_trans (emit_grows Any i r.1) away_grows)) in
     let same : v ≡ own (result k) = ap (λ (b : Names Slot). b.result k (object_number (length c.locals) o)) ns in
     let z = stage_edge g k j (In (led_to c (calls_in e))) (In []) (calls_in e) o r.1 f i so ge none in
-    let w = caller_laid g k x a f.point hs l in
-    (o, n, refl, fits, (λ m. calm), stage_until g k j (calls_in e) o r.1 f so (grows_trans (emit_grows (In []) i r.1) none),
-    (r.1.points, (s.path, t, is, refl),
-    record {
-      there = subst (λ q. Among (edge r.1.point (Set q (conversion (type_of e) t r.0)) r.1.points) g.edges) same z.0;
-      shown = z.1;
-      apart = all_own d.variables (result k) hs calm;
-      plain = calm_plain d.variables hs calm;
-    }, (calm_plain d.variables hs calm, s.leads.edges _ (last_among u.edges (edge u.point Skip x.left)), w.0, w.1)))
+    let w = caller_laid g k x a f.point hs l in (
+      o,
+      n,
+      refl,
+      fits,
+      (λ m. calm),
+      stage_until g k j (calls_in e) o r.1 f so (grows_trans (emit_grows (In []) i r.1) none),
+      (
+        r.1.points,
+        (s.path, t, is, refl),
+        record {
+          there = subst (λ q. Among (edge r.1.point (Set q (conversion (type_of e) t r.0)) r.1.points) g.edges) same z.0;
+          shown = z.1;
+          apart = all_own d.variables (result k) hs calm;
+          plain = calm_plain d.variables hs calm;
+        },
+        (calm_plain d.variables hs calm, s.leads.edges _ (last_among u.edges (edge u.point Skip x.left)), w.0, w.1),
+      ),
+    )

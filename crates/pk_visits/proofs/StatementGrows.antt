@@ -1,6 +1,6 @@
 -- What declarations and statements add to a draft: points but marks keep their labels, and the names in scope stay behind a statement.
-use Rattle.std.proofs.Common.{◌≡◌, ℕ, zero, suc, ◌+◌, ◌<◌, ◌≤◌, ◌⊎◌, List, [], ◌∷◌, ◌++◌, length, Bool, true, false, if◌then◌else◌, refl, sym, ap, ◌∙◌, subst, inl, inr, arith, ◌≢◌, ℤ, Option, Some, None}
-use Rattle.std.specs.Prelude.{slice_set, pos, All}
+use Rattle.std.proofs.Common.{◌≡◌, ℕ, zero, suc, ◌+◌, ◌<◌, ◌≤◌, ◌⊎◌, List, [], ◌∷◌, ◌++◌, length, Bool, if◌then◌else◌, refl, sym, ap, ◌∙◌, subst, inl, inr, arith, ◌≢◌, ℤ, Option, Some, None}
+use Rattle.std.specs.Prelude.{slice_set}
 use Rattle.std.proofs.lemmas.List.{get_or-set_other, length-set}
 use Rattle.pk_ctypes.specs.declared.places.Pos.{Pos}
 use Rattle.pk_ctypes.specs.declared.types.IntType.{IntType}
@@ -9,15 +9,15 @@ use Rattle.pk_typed.specs.Trees.{ValueTree, EffectTree, ValueTrees, DeclaredTree
 use Rattle.pk_typed.specs.Trees as tree
 use Rattle.pk_typed.specs.Types.{type_of}
 use Rattle.pk_typed.specs.declared.values.Variable.TheVariants.{Local}
-use Rattle.pk_welltyped.specs.Listed.{Numbered, calls_in, calls_in_effect, calls_in_values, calls_if, calls_in_values_if, calls_in_effect_if, calls_in_declared, calls_in_all_declared, calls_at_start, calls_in_statement, calls_in_items}
+use Rattle.pk_welltyped.specs.Listed.{calls_in, calls_in_values, calls_if, calls_in_values_if, calls_in_effect_if, calls_in_declared, calls_in_all_declared, calls_at_start, calls_in_statement, calls_in_items}
 use Rattle.pk_welltyped.specs.WellTyped.{Around, Marks, IsStatement, AreItems}
 use Rattle.pk_welltyped.specs.WellTyped
 use Rattle.pk_graph.specs.declared.trees.Site.{Site}
 use Rattle.pk_graph.specs.Graphs.{VariableOf}
-use Rattle.pk_graph.specs.Trees.{constant, Skip, Set, Havoc, Clear, Store, ArrayOf}
+use Rattle.pk_graph.specs.Trees.{constant, Skip, Clear}
 use Rattle.pk_draft.specs.declared.drafts.Label.{Label}
 use Rattle.pk_draft.specs.declared.drafts.Region.{Region}
-use Rattle.pk_draft.specs.Drafts.{Names, Given, no_label, at, on, in_scope, scoped, with_name, placed, all_placed, fresh, inner, with_object, link, go, emit, away, come}
+use Rattle.pk_draft.specs.Drafts.{Names, Given, no_label, at, on, in_scope, placed, all_placed, fresh, inner, with_object, link, emit, away, come}
 use Rattle.pk_draft.specs.Folding.{conversion, binary_tree}
 use Rattle.pk_lower_row.specs.declared.shapes.Waiting.TheVariants.{Strong}
 use Rattle.pk_lower_row.specs.Shapes.{converted_shape, shape_of}
@@ -28,10 +28,9 @@ use Rattle.pk_lower_expression.specs.Expressions.{ways, performed}
 use Rattle.pk_lower_statement.specs.declared.statements.Exits.{Exits}
 use Rattle.pk_lower_statement.specs.Statements as statements
 use Rattle.pk_lower_statement.specs.Statements.{named, introduced, item, items, declared, all_declared, inside, branching, meeting, if_draft, round, while_from, do_from, for_from, loop_begun, case_test, case_tests, in_switch, switch_begun, returned, performed_if, for_start, for_test, lowered, lowered_items}
-use Rattle.pk_visits.proofs.Slots.{Slot, SlotTree, Draft, Instr, KeepsBy, Keeps, Grows, Same, Never, front_among, Among, label_at, region_at, Edge}
-use Rattle.pk_visits.proofs.Grows.{keeps_trans, grows_refl, grows_trans, link_grows, emit_grows, fresh_one_grows, fresh_three_grows, held_grows, guards_grow, WaysGrow}
+use Rattle.pk_visits.proofs.Slots.{Slot, SlotTree, Draft, Instr, KeepsBy, Keeps, Grows, front_among, Among, label_at, region_at, Edge}
+use Rattle.pk_visits.proofs.Grows.{keeps_trans, grows_refl, grows_trans, link_grows, emit_grows, fresh_one_grows, held_grows, guards_grow, WaysGrow}
 use Rattle.pk_visits.proofs.Growing.{AllCalled, values, effects, front_called, back_called}
-use Rattle.pk_visits.proofs.Growing as growing
 use Rattle.pk_visits.proofs.Stands.{Marking}
 use Rattle.pk_visits.proofs.Stores.{decided}
 
