@@ -28,3 +28,4 @@ mod Statements
 mod Rounds
 mod Branches
 mod Returns
+mod Going

@@ -64,6 +64,7 @@ while_laid g proper k h x p e s a pt hs (d, n, m, is, fits, calm, t, marking, l)
       subst (λ q. Among (edge q Skip o.points) g.edges) is z.there,
       z.first,
       (
+        refl,
         calm_plain d.variables hs calm,
         o.points,
         o.points + 2,
@@ -106,6 +107,7 @@ do_laid g proper k h x p s e a pt hs (d, n, m, is, fits, calm, t, marking, l) =
       subst (λ q. Among (edge q Skip o.points) g.edges) is z.there,
       z.first,
       (
+        refl,
         calm_plain d.variables hs calm,
         o.points + 1,
         o.points + 2,
@@ -139,7 +141,7 @@ again g k h x l e a p c o t hs loop cont there shown z = (x, p, there, loop.cont
 -- a `while` where it begins again: its test, then the body or what is behind
 pub turn_while : (g : Whole) (proper : Proper g) (k : ℕ) (h i : Place) (x : Exits) (e : ValueTree) (s : StatementTree) (o : Place) (a : Ahead) (p : ℕ) (hs : List Held) → Laid g k i x (work.Turn h (While e s) o a) p hs
     → Laid g k h x (work.Test e (Onward h (work.Do s (work.Again h (While e s) o a))) (Onward o (work.Go a))) p hs
-turn_while g proper k h i x e s o a p hs (plain, c, b, loop, cont, shown, z) =
+turn_while g proper k h i x e s o a p hs (is, plain, c, b, loop, cont, shown, z) =
     let ctx = context_of g k in
     let d = loop.draft in
     let t = loop.stage in
@@ -189,7 +191,7 @@ turn_while g proper k h i x e s o a p hs (plain, c, b, loop, cont, shown, z) =
 -- a `do` where it begins again: its body
 pub turn_do : (g : Whole) (proper : Proper g) (k : ℕ) (h i : Place) (x : Exits) (e : ValueTree) (s : StatementTree) (o : Place) (a : Ahead) (p : ℕ) (hs : List Held) → Laid g k i x (work.Turn h (DoWhile s e) o a) p hs
     → (y : Exits) × Laid g k h y (work.Do s (work.Again h (DoWhile s e) o a)) p hs
-turn_do g proper k h i x e s o a p hs (plain, c, b, loop, cont, shown, z) =
+turn_do g proper k h i x e s o a p hs (is, plain, c, b, loop, cont, shown, z) =
     let ctx = context_of g k in
     let d = loop.draft in
     let t = loop.stage in
@@ -223,7 +225,7 @@ turn_do g proper k h i x e s o a p hs (plain, c, b, loop, cont, shown, z) =
 pub again_while : (g : Whole) (k : ℕ) (h i : Place) (x : Exits) (e : ValueTree) (s : StatementTree) (o : Place) (a : Ahead) (p : ℕ) (hs : List Held) → Laid g k i x (work.Go (work.Again h (While e s) o a)) p hs
     → (q : ℕ) × Among (edge p Skip q) g.edges × ShowsAt g q k h × ((y : Exits) × Laid g k h y (work.Turn h (While e s) o a) q hs)
 again_while g k h i x e s o a p hs (plain, (y, b, there, shown, same, loop, cont, behind, z)) =
-    (x.continued, there, shown, (y, (plain, x.continued, x.broken, subst (λ q. Loops g k h y (While e s) q x.continued x.broken hs) cont loop, refl, behind, z)))
+    (x.continued, there, shown, (y, (refl, plain, x.continued, x.broken, subst (λ q. Loops g k h y (While e s) q x.continued x.broken hs) cont loop, refl, behind, z)))
 
 -- of a `do`: at its test, which leads back to the body
 pub again_do : (g : Whole) (proper : Proper g) (k : ℕ) (h i : Place) (x : Exits) (e : ValueTree) (s : StatementTree) (o : Place) (a : Ahead) (p : ℕ) (hs : List Held) → Laid g k i x (work.Go (work.Again h (DoWhile s e) o a)) p hs
@@ -257,7 +259,7 @@ again_do g proper k h i x e s o a p hs (plain, (y, b, there, shown, same, loop, 
           loop.fits.1,
           calm_more d.variables u.variables hs vr loop.calm,
           tests,
-          (subst (λ q. ShowsAt g q k h) (sym loop.at) loop.heads, (y, (plain, x.continued, x.broken, subst (λ q. Loops g k h y (DoWhile s e) q x.continued x.broken hs) (sym loop.at) loop, tt, behind, z))),
+          (subst (λ q. ShowsAt g q k h) (sym loop.at) loop.heads, (y, (refl, plain, x.continued, x.broken, subst (λ q. Loops g k h y (DoWhile s e) q x.continued x.broken hs) (sym loop.at) loop, tt, behind, z))),
           (behind, (y, (plain, z))),
         ),
       ),

@@ -448,7 +448,7 @@ abbrev mutual
       × Laid g k h x w (region_at g.regions m).points hs
   Laid g k h x (Leave c) p hs = ArePlain hs × Among (edge p Skip x.left) g.edges × ShowsAt g x.left k (body_place g.program k) × LaidCaller g k c x.left hs
   Laid g k h x (Return c) p hs = ArePlain hs × LaidCaller g k c p hs
-  Laid g k h x (Turn j l e a) p hs = ArePlain hs × (c : ℕ) × (o : ℕ) × Loops g k j x l p c o hs × ContinuesAt l p c × ShowsAt g o k e × LaidAhead g k x a o hs
+  Laid g k h x (Turn j l e a) p hs = (h ≡ j) × ArePlain hs × (c : ℕ) × (o : ℕ) × Loops g k j x l p c o hs × ContinuesAt l p c × ShowsAt g o k e × LaidAhead g k x a o hs
   Laid g k h x (Back j l e a) p hs = ArePlain hs × (b : ℕ) × (c : ℕ) × (o : ℕ) × Among (edge p Skip b) g.edges × ShowsAt g b k j × Loops g k j x l b c o hs × ContinuesAt l b c × ShowsAt g o k e × LaidAhead g k x a o hs
   Laid g k h x (Choose t zs i b s j a) p hs = OnTop hs (λ v rest. (d : Draft) × (n : ℕ) × (m : Marks) × (r : Site) × (total : ℕ) × (e : ℕ) × (d.point ≡ p) × (v.int_type ≡ t) × (total ≡ i + length zs)
       × IsStatement (around g k n) (WellTyped.in_switch total b m) s × AreCalm d.variables (v ∷ rest)

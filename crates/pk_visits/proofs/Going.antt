@@ -1,0 +1,118 @@
+-- The graph follows the program at statements, and behind them.
+use Rattle.std.proofs.Common.{◌≡◌, ℕ, List, Bool, true, false, refl, sym, ap, subst, inl, inr, Option, Some, None}
+use Rattle.pk_ctypes.specs.declared.places.Pos.{Pos}
+use Rattle.pk_ctypes.specs.declared.types.IntType.{IntType}
+use Rattle.pk_typed.specs.Trees.{ValueTree, EffectTree, StatementTree, ItemTrees}
+use Rattle.pk_typed.specs.Trees as tree
+use Rattle.pk_graph.specs.Trees.{Skip}
+use Rattle.pk_graph.specs.Steps.{Numbers}
+use Rattle.pk_lower_statement.specs.declared.statements.Exits.{Exits}
+use Rattle.pk_meaning.specs.Objects.{Scope, Objects}
+use Rattle.pk_meaning.specs.Programs.{function_of}
+use Rattle.pk_meaning.specs.Work as work
+use Rattle.pk_meaning.specs.Work.{Place, Work, Ahead, Way, Onward, Refused, Lost, While, DoWhile}
+use Rattle.pk_meaning.specs.Steps as meaning
+use Rattle.pk_meaning.specs.Steps.{place, step_of, caller_of}
+use Rattle.pk_visits.proofs.Slots.{Memory, Among, edge}
+use Rattle.pk_visits.proofs.Stands.{Whole, Proper, Held, ShowsAt, Means, FitsObjects, LaidWay, LaidAhead, Laid}
+use Rattle.pk_visits.proofs.Follow.{Answers, Follows, config, still, moved}
+use Rattle.pk_visits.proofs.Statements.{block_laid, next_laid, none_laid, empty_laid, effect_laid}
+use Rattle.pk_visits.proofs.Branches.{if_else_laid, if_then_laid}
+use Rattle.pk_visits.proofs.Rounds.{while_laid, do_laid, turn_while, turn_do, again_while, again_do}
+use Rattle.pk_visits.proofs.Returns.{break_laid}
+
+-- over an edge that does nothing
+jump : (g : Whole) (chosen : Numbers) (p q : ℕ) (m : Memory) (k : ℕ) (h : Place) (w : Work) (vs : Numbers) (s : Objects) (x : Exits) (hs : List Held)
+    → Among (edge p Skip q) g.edges → ShowsAt g q k h → Laid g k h x w q hs → Means m hs vs → m.objects ≡ s → FitsObjects g.program s → Follows g chosen p m (config k h w vs s true)
+jump g chosen p q m k h w vs s x hs there shown l e same f = moved g chosen p q m m Skip k h w vs s true x hs there refl (refl, shown) l e same f
+
+-- over such an edge along a way
+along : (g : Whole) (chosen : Numbers) (p q : ℕ) (m : Memory) (k : ℕ) (h : Place) (w : Work) (vs : Numbers) (s : Objects) (b : Bool) (y : Way) (hs : List Held)
+    → Among (edge p Skip q) g.edges → LaidWay g k y q hs → Means m hs vs → m.objects ≡ s → FitsObjects g.program s → Answers g chosen k h p m (meaning.takes (config k h w vs s b) y vs)
+along g chosen p q m k h w vs s b (Onward j v) hs there (shown, (x, l)) e same f = jump g chosen p q m k j v vs s x hs there shown l e same f
+along g chosen p q m k h w vs s b Refused hs there l e same f = tt
+along g chosen p q m k h w vs s b Lost hs there l e same f = tt
+
+-- that the graph follows the program at this work, at each place
+abbrev IsFollowed : Work → Type 1
+IsFollowed w = (g : Whole) (proper : Proper g) (chosen : Numbers) (p : ℕ) (m : Memory) (k : ℕ) (h : Place) (vs : Numbers) (s : Objects) (b : Bool) (x : Exits) (hs : List Held)
+    → Laid g k h x w p hs → Means m hs vs → m.objects ≡ s → FitsObjects g.program s → Answers g chosen k h p m (step_of g.program chosen (config k h w vs s b) w)
+
+-- ---- statements
+
+pub block_followed : (q : Pos) (is : ItemTrees) (a : Ahead) → IsFollowed (work.Do (tree.block q is) a)
+block_followed q is a g proper chosen p m k h vs s b x hs l e same f = still g chosen p m k h (work.Go (work.Rest h.scope is a)) vs s x hs (block_laid g k h x q is a p hs l) e same f
+
+pub empty_followed : (q : Pos) (a : Ahead) → IsFollowed (work.Do (tree.empty q) a)
+empty_followed q a g proper chosen p m k h vs s b x hs l e same f = still g chosen p m k h (work.Go a) vs s x hs (empty_laid g k h x q a p hs l) e same f
+
+pub effect_followed : (q : Pos) (d : EffectTree) (a : Ahead) → IsFollowed (work.Do (tree.effect q d) a)
+effect_followed q d a g proper chosen p m k h vs s b x hs l e same f =
+    still g chosen p m k (place q h.scope) (work.Perform d (work.Go a)) vs s x hs (effect_laid g proper k h x q d a p hs l) e same f
+
+pub if_then_followed : (q : Pos) (c : ValueTree) (r : StatementTree) (a : Ahead) → IsFollowed (work.Do (tree.if_then q c r) a)
+if_then_followed q c r a g proper chosen p m k h vs s b x hs l e same f =
+    let j = place q h.scope in
+    still g chosen p m k j (work.Test c (Onward j (work.Do r (work.Join j a))) (Onward j (work.Go (work.Join j a)))) vs s x hs (if_then_laid g proper k h x q c r a p hs l) e same f
+
+pub if_else_followed : (q : Pos) (c : ValueTree) (r t : StatementTree) (a : Ahead) → IsFollowed (work.Do (tree.if_else q c r t) a)
+if_else_followed q c r t a g proper chosen p m k h vs s b x hs l e same f =
+    let j = place q h.scope in
+    still g chosen p m k j (work.Test c (Onward j (work.Do r (work.Join j a))) (Onward j (work.Do t (work.Join j a)))) vs s x hs (if_else_laid g proper k h x q c r t a p hs l) e same f
+
+pub while_followed : (q : Pos) (c : ValueTree) (r : StatementTree) (a : Ahead) → IsFollowed (work.Do (tree.while q c r) a)
+while_followed q c r a g proper chosen p m k h vs s b x hs l e same f =
+    let j = place q h.scope in
+    let z = while_laid g proper k h x q c r a p hs l in
+    jump g chosen p z.0 m k j (work.Turn j (While c r) j a) vs s x hs z.1 z.2 z.3 e same f
+
+pub do_followed : (q : Pos) (r : StatementTree) (c : ValueTree) (a : Ahead) → IsFollowed (work.Do (tree.do_while q r c) a)
+do_followed q r c a g proper chosen p m k h vs s b x hs l e same f =
+    let j = place q h.scope in
+    let z = do_laid g proper k h x q r c a p hs l in
+    jump g chosen p z.0 m k j (work.Turn j (DoWhile r c) j a) vs s x hs z.1 z.2 z.3 e same f
+
+pub break_followed : (q : Pos) (a : Ahead) → IsFollowed (work.Do (tree.break q) a)
+break_followed q a g proper chosen p m k h vs s b x hs l e same f =
+    let z = break_laid g k h x q a p hs l in along g chosen p x.broken m k h (work.Do (tree.break q) a) vs s b (meaning.broken a) hs z.0 z.1 e same f
+
+-- ---- behind a statement
+
+pub next_followed : (xs : Scope) (r : StatementTree) (is : ItemTrees) (a : Ahead) → IsFollowed (work.Go (work.Rest xs (tree.statement_before r is) a))
+next_followed xs r is a g proper chosen p m k h vs s b x hs l e same f =
+    still g chosen p m k (place h.at xs) (work.Do r (work.Rest xs is a)) vs s x hs (next_laid g proper k h x xs r is a p hs h.at l) e same f
+
+pub none_followed : (xs : Scope) (a : Ahead) → IsFollowed (work.Go (work.Rest xs tree.no_items a))
+none_followed xs a g proper chosen p m k h vs s b x hs l e same f = still g chosen p m k h (work.Go a) vs s x hs (none_laid g k h x xs a p hs l) e same f
+
+pub join_followed : (j : Place) (a : Ahead) → IsFollowed (work.Go (work.Join j a))
+join_followed j a g proper chosen p m k h vs s b x hs (plain, (q, there, shown, l)) e same f = jump g chosen p q m k j (work.Go a) vs s x hs there shown (plain, l) e same f
+
+pub close_followed : (j : Place) (a : Ahead) → IsFollowed (work.Go (work.Close j a))
+close_followed j a g proper chosen p m k h vs s b x hs (plain, (y, there, shown, is, l)) e same f = jump g chosen p x.broken m k j (work.Go a) vs s y hs there shown (plain, l) e same f
+
+pub again_while_followed : (j : Place) (c : ValueTree) (r : StatementTree) (o : Place) (a : Ahead) → IsFollowed (work.Go (work.Again j (While c r) o a))
+again_while_followed j c r o a g proper chosen p m k h vs s b x hs l e same f =
+    let z = again_while g k j h x c r o a p hs l in
+    let v = z.3 in jump g chosen p z.0 m k j (work.Turn j (While c r) o a) vs s v.0 hs z.1 z.2 v.1 e same f
+
+pub again_do_followed : (j : Place) (c : ValueTree) (r : StatementTree) (o : Place) (a : Ahead) → IsFollowed (work.Go (work.Again j (DoWhile r c) o a))
+again_do_followed j c r o a g proper chosen p m k h vs s b x hs l e same f =
+    let z = again_do g proper k j h x c r o a p hs l in
+    let v = z.3 in jump g chosen p z.0 m k j (work.Test c (Onward j (work.Turn j (DoWhile r c) o a)) (Onward o (work.Go a))) vs s v.0 hs z.1 z.2 v.1 e same f
+
+-- ---- where a loop begins again
+
+pub turn_while_followed : (j : Place) (c : ValueTree) (r : StatementTree) (o : Place) (a : Ahead) → IsFollowed (work.Turn j (While c r) o a)
+turn_while_followed j c r o a g proper chosen p m k h vs s b x hs l e same f =
+    let w = work.Test c (Onward j (work.Do r (work.Again j (While c r) o a))) (Onward o (work.Go a)) in
+    still g chosen p m k h w vs s x hs (subst (λ i. Laid g k i x w p hs) (sym l.0) (turn_while g proper k j h x c r o a p hs l)) e same f
+
+pub turn_do_followed : (j : Place) (r : StatementTree) (c : ValueTree) (o : Place) (a : Ahead) → IsFollowed (work.Turn j (DoWhile r c) o a)
+turn_do_followed j r c o a g proper chosen p m k h vs s b x hs l e same f =
+    let w = work.Do r (work.Again j (DoWhile r c) o a) in
+    let z = turn_do g proper k j h x c r o a p hs l in still g chosen p m k h w vs s z.0 hs (subst (λ i. Laid g k i z.0 w p hs) (sym l.0) z.1) e same f
+
+pub back_followed : (j : Place) (u : work.Loop) (o : Place) (a : Ahead) → IsFollowed (work.Back j u o a)
+back_followed j u o a g proper chosen p m k h vs s b x hs (plain, q, c, i, there, shown, loop, cont, behind, l) e same f =
+    jump g chosen p q m k j (work.Turn j u o a) vs s x hs there shown (refl, plain, c, i, loop, cont, behind, l) e same f
