@@ -1,25 +1,29 @@
 -- The graph follows the program at statements, and behind them.
-use Rattle.std.proofs.Common.{◌≡◌, ℕ, List, Bool, true, false, refl, sym, ap, subst, inl, inr, Option, Some, None}
+use Rattle.std.proofs.Common.{◌≡◌, ℕ, List, [], Bool, true, false, refl, sym, ap, subst, inl, inr, Option, Some, None}
 use Rattle.pk_ctypes.specs.declared.places.Pos.{Pos}
 use Rattle.pk_ctypes.specs.declared.types.IntType.{IntType}
 use Rattle.pk_typed.specs.Trees.{ValueTree, EffectTree, StatementTree, ItemTrees}
 use Rattle.pk_typed.specs.Trees as tree
+use Rattle.pk_welltyped.specs.Listed.{calls_in, calls_if, calls_in_statement}
+use Rattle.pk_welltyped.specs.WellTyped.{IsValueIf, IsStatement}
 use Rattle.pk_graph.specs.Trees.{Skip}
 use Rattle.pk_graph.specs.Steps.{Numbers}
+use Rattle.pk_draft.specs.Drafts.{on}
 use Rattle.pk_lower_statement.specs.declared.statements.Exits.{Exits}
-use Rattle.pk_meaning.specs.Objects.{Scope, Objects}
+use Rattle.pk_lower_statement.specs.Statements.{lowered, returned}
+use Rattle.pk_meaning.specs.Objects.{Scope, Objects, result}
 use Rattle.pk_meaning.specs.Programs.{function_of}
 use Rattle.pk_meaning.specs.Work as work
 use Rattle.pk_meaning.specs.Work.{Place, Work, Ahead, Way, Onward, Refused, Lost, While, DoWhile}
 use Rattle.pk_meaning.specs.Steps as meaning
 use Rattle.pk_meaning.specs.Steps.{place, step_of, caller_of}
-use Rattle.pk_visits.proofs.Slots.{Memory, Among, edge}
-use Rattle.pk_visits.proofs.Stands.{Whole, Proper, Held, ShowsAt, Means, FitsObjects, LaidWay, LaidAhead, Laid}
+use Rattle.pk_visits.proofs.Slots.{Draft, Memory, Among, edge}
+use Rattle.pk_visits.proofs.Stands.{Whole, Proper, context_of, Held, around, AreCalm, ShowsAt, Stage, Means, FitsObjects, LaidWay, LaidAhead, Laid}
 use Rattle.pk_visits.proofs.Follow.{Answers, Follows, config, still, moved}
 use Rattle.pk_visits.proofs.Statements.{block_laid, next_laid, none_laid, empty_laid, effect_laid}
 use Rattle.pk_visits.proofs.Branches.{if_else_laid, if_then_laid}
 use Rattle.pk_visits.proofs.Rounds.{while_laid, do_laid, turn_while, turn_do, again_while, again_do}
-use Rattle.pk_visits.proofs.Returns.{break_laid}
+use Rattle.pk_visits.proofs.Returns.{break_laid, leave_laid, value_laid}
 
 -- over an edge that does nothing
 jump : (g : Whole) (chosen : Numbers) (p q : ℕ) (m : Memory) (k : ℕ) (h : Place) (w : Work) (vs : Numbers) (s : Objects) (x : Exits) (hs : List Held)
@@ -75,6 +79,25 @@ do_followed q r c a g proper chosen p m k h vs s b x hs l e same f =
 pub break_followed : (q : Pos) (a : Ahead) → IsFollowed (work.Do (tree.break q) a)
 break_followed q a g proper chosen p m k h vs s b x hs l e same f =
     let z = break_laid g k h x q a p hs l in along g chosen p x.broken m k h (work.Do (tree.break q) a) vs s b (meaning.broken a) hs z.0 z.1 e same f
+
+return_by : (g : Whole) (proper : Proper g) (chosen : Numbers) (m : Memory) (k : ℕ) (h : Place) (x : Exits) (q : Pos) (v : Option ValueTree) (a : Ahead) (n : ℕ) (d : Draft) (vs : Numbers) (s : Objects) (b : Bool) (w : Work) (hs : List Held)
+    (r : Option IntType) → (function_of g.program k).returns ≡ r → IsValueIf (around g k n) v → AreCalm d.variables hs → Stage g k (place d.here.at h.scope) (calls_if v) d (returned (context_of g k) x.left r v (on q d))
+    → LaidAhead g k x a (returned (context_of g k) x.left r v (on q d)).point hs → Means m hs vs → m.objects ≡ s → FitsObjects g.program s
+    → Answers g chosen k h d.point m (meaning.returns (meaning.standing_at q (config k h w vs s b)) r v (caller_of a))
+return_by g proper chosen m k h x q None a n d vs s b w hs None is fits calm t l e same f =
+    still g chosen d.point m k (place q h.scope) (work.Leave (caller_of a)) vs s x hs (leave_laid g k (place d.here.at h.scope) x q None a d.point hs d [] refl calm t l) e same f
+return_by g proper chosen m k h x q (Some v) a n d vs s b w hs None is fits calm t l e same f =
+    still g chosen d.point m k (place q h.scope) (work.Leave (caller_of a)) vs s x hs (leave_laid g k (place d.here.at h.scope) x q (Some v) a d.point hs d (calls_in v) refl calm t l) e same f
+return_by g proper chosen m k h x q None a n d vs s b w hs (Some i) is fits calm t l e same f =
+    still g chosen d.point m k (place q h.scope) (work.Leave (caller_of a)) vs s x hs (leave_laid g k (place d.here.at h.scope) x q None a d.point hs d [] refl calm t l) e same f
+return_by g proper chosen m k h x q (Some v) a n d vs s b w hs (Some i) is fits calm t l e same f =
+    still g chosen d.point m k (place q h.scope) (work.Evaluate v (work.Put i (result k) (work.Leave (caller_of a)))) vs s x hs (value_laid g proper k h x q i v a n d hs is fits calm t l) e same f
+
+pub return_followed : (q : Pos) (v : Option ValueTree) (a : Ahead) → IsFollowed (work.Do (tree.return q v) a)
+unfolding lowered IsStatement calls_in_statement
+return_followed q v a g proper chosen p m k h vs s b x hs (d, n, marks, at', fits, calm, t, marking, l) e same f =
+    subst (λ i. Answers g chosen k h i m (step_of g.program chosen (config k h (work.Do (tree.return q v) a) vs s b) (work.Do (tree.return q v) a))) at'
+    (return_by g proper chosen m k h x q v a n d vs s b (work.Do (tree.return q v) a) hs (function_of g.program k).returns refl fits calm t l e same f)
 
 -- ---- behind a statement
 

@@ -114,7 +114,7 @@ leave_laid g k h x p e a pt hs d xs is calm s l =
     (calm_plain d.variables hs calm, subst (λ q. Among (edge q Skip x.left) g.edges) is (jump_edge g k h xs p x.left d s), r.0, r.1)
 
 -- and with one
-value_laid : (g : Whole) (proper : Proper g) (k : ℕ) (h : Place) (x : Exits) (p : Pos) (t : IntType) (e : ValueTree) (a : Ahead) (n : ℕ) (d : Draft) (hs : List Held) → (function_of g.program k).returns ≡ Some t
+pub value_laid : (g : Whole) (proper : Proper g) (k : ℕ) (h : Place) (x : Exits) (p : Pos) (t : IntType) (e : ValueTree) (a : Ahead) (n : ℕ) (d : Draft) (hs : List Held) → (function_of g.program k).returns ≡ Some t
     → IsValue (around g k n) e → AreCalm d.variables hs → Stage g k (place d.here.at h.scope) (calls_in e) d (away x.left (rows.set_after t (type_of e) (own_result (context_of g k) (on p d)) ((ways (context_of g k) e).value (on p d))))
     → LaidAhead g k x a (away x.left (rows.set_after t (type_of e) (own_result (context_of g k) (on p d)) ((ways (context_of g k) e).value (on p d)))).point hs
     → Laid g k (place p h.scope) x (work.Evaluate e (work.Put t (result k) (work.Leave (caller_of a)))) d.point hs
