@@ -28,4 +28,5 @@ mod Statements
 mod Rounds
 mod Branches
 mod Returns
+mod Thirds
 mod Going

@@ -134,7 +134,7 @@ do_laid g proper k h x p s e a pt hs (d, n, m, is, fits, calm, t, marking, l) =
 -- ---- turns
 
 -- the end of a loop's body, in the exits of the loop
-again : (g : Whole) (k : ℕ) (h : Place) (x : Exits) (l : Loop) (e : Place) (a : Ahead) (p c o : ℕ) (t : ℕ) (hs : List Held) → Loops g k h x l p c o hs → ContinuesAt l p c → Among (edge t Skip c) g.edges → ShowsAt g o k e
+pub again : (g : Whole) (k : ℕ) (h : Place) (x : Exits) (l : Loop) (e : Place) (a : Ahead) (p c o : ℕ) (t : ℕ) (hs : List Held) → Loops g k h x l p c o hs → ContinuesAt l p c → Among (edge t Skip c) g.edges → ShowsAt g o k e
     → LaidAhead g k x a o hs → LaidAhead g k (inside o c x) (work.Again h l e a) t hs
 again g k h x l e a p c o t hs loop cont there shown z = (x, p, there, loop.continues, refl, loop, cont, shown, z)
 

@@ -212,13 +212,13 @@ all_declared_enlarges ms C c (v ∷ vs) d h =
 
 -- ---- choices and loops
 
-abbrev AddsTo : List ℕ → (ℕ → Type 0) → (Draft → Draft) → Type 0
+abbrev pub AddsTo : List ℕ → (ℕ → Type 0) → (Draft → Draft) → Type 0
 AddsTo ms C f = (d : Draft) → Adds ms C d (f d)
 
-abbrev ChoiceAdds : List ℕ → (ℕ → Type 0) → ((p q : ℕ) → Draft → Draft) → Type 0
+abbrev pub ChoiceAdds : List ℕ → (ℕ → Type 0) → ((p q : ℕ) → Draft → Draft) → Type 0
 ChoiceAdds ms C f = (p q : ℕ) (d : Draft) → Adds ms C d (f p q d)
 
-abbrev BodyAdds : List ℕ → (ℕ → Type 0) → Exits → (Exits → Draft → Draft) → Type 0
+abbrev pub BodyAdds : List ℕ → (ℕ → Type 0) → Exits → (Exits → Draft → Draft) → Type 0
 BodyAdds ms C x s = (b k : ℕ) (d : Draft) → Adds ms C d (s (inside b k x) d)
 
 pub fresh_adds : (ms : List ℕ) (C : ℕ → Type 0) (n : ℕ) (d : Draft) → Adds ms C d (fresh n d)
@@ -253,11 +253,11 @@ do_adds ms C p c s x hc hs k e d =
     let r = round x s d.point e k d in
     stays_then (round_adds ms C x s hs d.point e k d) (stays_then (on_adds ms C p r) (hc d.point e (on p r)))
 
-scope_adds : (ms : List ℕ) (C : ℕ → Type 0) (d e : Draft) → Enlarges ms C d e → Adds ms C d (in_scope d.here.scope e)
+pub scope_adds : (ms : List ℕ) (C : ℕ → Type 0) (d e : Draft) → Enlarges ms C d e → Adds ms C d (in_scope d.here.scope e)
 scope_adds ms C d e g = record { edges = g.edges; names = g.names; variables = g.variables; points = g.points; size = g.size; labels = g.labels; regions = g.regions; paths = g.paths; here = (g.here, refl) }
 
 -- the names in scope are those of an earlier draft
-scoped_adds : (ms : List ℕ) (C : ℕ → Type 0) (k : ℕ) (d e : Draft) → Adds ms C d e → Adds ms C d (in_scope d.here.scope e)
+pub scoped_adds : (ms : List ℕ) (C : ℕ → Type 0) (k : ℕ) (d e : Draft) → Adds ms C d e → Adds ms C d (in_scope d.here.scope e)
 scoped_adds ms C k d e g = scope_adds ms C d e (enlarges ms C d e g)
 
 pub for_adds : (ms : List ℕ) (C : ℕ → Type 0) (p : Pos) (test : (p q : ℕ) → Draft → Draft) (third : Draft → Draft) (s : Exits → Draft → Draft) (x : Exits) → ChoiceAdds ms C test → AddsTo ms C third → BodyAdds ms C x s → (b k e : ℕ) (d : Draft)
@@ -370,11 +370,11 @@ returned_adds ms C c left (Some t) (Some e) h d =
     let f = rows.set_after t (type_of e) (own_result c d) r in
     stays_then (adds ms C d f (grows_trans ((values C c e h).value d) (emit_grows C _ r.1))) (away_adds ms C left f)
 
-third_adds : (ms : List ℕ) (C : ℕ → Type 0) (c : Context) (e : Option EffectTree) → AllCalled C c (calls_in_effect_if e) → AddsTo ms C (performed_if c e)
+pub third_adds : (ms : List ℕ) (C : ℕ → Type 0) (c : Context) (e : Option EffectTree) → AllCalled C c (calls_in_effect_if e) → AddsTo ms C (performed_if c e)
 third_adds ms C c None h d = nothing_adds ms C d
 third_adds ms C c (Some e) h d = adds ms C d (performed c e d) (effects C c e h d)
 
-test_adds : (ms : List ℕ) (C : ℕ → Type 0) (c : Context) (e : Option ValueTree) → AllCalled C c (calls_if e) → ChoiceAdds ms C (for_test c e)
+pub test_adds : (ms : List ℕ) (C : ℕ → Type 0) (c : Context) (e : Option ValueTree) → AllCalled C c (calls_if e) → ChoiceAdds ms C (for_test c e)
 test_adds ms C c None h p q d = link_adds ms C Skip p d
 test_adds ms C c (Some e) h p q d = adds ms C d ((ways c e).choice p q d) ((values C c e h).choice p q d)
 
