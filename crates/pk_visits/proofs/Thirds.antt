@@ -77,3 +77,56 @@ stage_other g k h xs ys zs d e s = record {
 
   second : led_to (context_of g k) (xs ++ (zs ++ ys)) ≡ led_to (context_of g k) xs ++ (led_to (context_of g k) zs ++ led_to (context_of g k) ys)
   second = led_both (context_of g k) xs (zs ++ ys) ∙ ap (λ l. led_to (context_of g k) xs ++ l) (led_both (context_of g k) zs ys)
+
+-- ---- the drafts of a `for`
+
+-- in another block's scope
+scope_enlarges : (ms : List ℕ) (C : ℕ → Type 0) (n : ℕ) (d : Draft) → Enlarges ms C d (in_scope n d)
+scope_enlarges ms C n d = record { edges = λ e z. z; names = refl; variables = omega arith; points = omega arith; size = refl; labels = λ q z. inr refl; regions = λ j. inr refl; paths = refl; here = refl }
+
+-- behind the way from the body's end: the third part, and back
+after_link : (g : Whole) (k : ℕ) (ms : List ℕ) (h : Place) (third : Option EffectTree) (n q : ℕ) (r : Draft)
+    → Enlarges ms (In (led_to (context_of g k) (calls_in_effect_if third))) r (go Skip q (performed_if (context_of g k) third (in_scope n (on h.at r))))
+after_link g k ms h third n q r =
+    let c = context_of g k in
+    let C = In (led_to c (calls_in_effect_if third)) in
+    let u = in_scope n (on h.at r) in
+    let v = performed_if c third u in
+    path_then (enlarges ms C r (on h.at r) (on_adds ms C h.at r)) (path_then (scope_enlarges ms C n (on h.at r))
+    (enlarges ms C u (go Skip q v) (stays_then (third_adds ms C c third (all_called_if c third) u) (link_adds ms C Skip q v)))) where
+      all_called_if : (c : Rattle.pk_lower_row.specs.Contexts.Context) (t : Option EffectTree) → Rattle.pk_visits.proofs.Growing.AllCalled (In (led_to c (calls_in_effect_if t))) c (calls_in_effect_if t)
+      all_called_if c t = all_called c (calls_in_effect_if t)
+
+-- the test of a `for` where it begins again, and its body
+for_parts : (g : Whole) (proper : Proper g) (k : ℕ) (h : Place) (x : Exits) (v : Option ValueTree) (third : Option EffectTree) (s : StatementTree) (o : Place) (a : Ahead) (p c b : ℕ) (hs : List Held)
+    → (loop : Loops g k h x (For v third s) p c b hs) → ShowsAt g b k o → LaidAhead g k x a b hs
+    → Stage g k h (calls_if v) loop.draft (for_test (context_of g k) v loop.begin b loop.draft) × Laid g k h (inside b c x) (work.Do s (work.Again h (For v third s) o a)) loop.begin hs
+for_parts g proper k h x v third s o a p c b hs loop shown z =
+    let ctx = context_of g k in
+    let d = loop.draft in
+    let d1 = for_test ctx v loop.begin b d in
+    let w = inside b c x in
+    let d2 = lowered ctx s w (at loop.begin d1) in
+    let r = go Skip c d2 in
+    let f = go Skip d.point (performed_if ctx third (in_scope d.here.scope (on h.at r))) in
+    let t = stage_other g k h (calls_if v) (calls_in_effect_if third) (calls_in_statement s) d f loop.stage in
+    let three = led_to ctx (calls_in_effect_if third) in
+    let both = calls_in_statement s ++ calls_in_effect_if third in
+    let C = In (led_to ctx both) in
+    let marks = marking_inside x loop.mark t.marks b c loop.marking in
+    let test = test_adds t.marks (In (led_to ctx (calls_if v))) ctx v (all_called ctx (calls_if v)) loop.begin b d in
+    let behind = after_link g k t.marks h third d.here.scope d.point r in
+    let after : Enlarges t.marks (In three) d2 f = path_then (enlarges t.marks (In three) d2 r (link_adds t.marks (In three) Skip c d2)) behind in
+    let body = statement C ctx _ loop.mark s w t.marks loop.fits.2 marks (front_called C ctx (calls_in_statement s) (calls_in_effect_if third) (all_called ctx both)) (at loop.begin d1) in
+    let third_called = back_called C ctx (calls_in_statement s) (calls_in_effect_if third) (all_called ctx both) in
+    let u = in_scope d.here.scope (on h.at r) in
+    let end : Enlarges t.marks C r f = path_then (enlarges t.marks C r (on h.at r) (on_adds t.marks C h.at r)) (path_then (scope_enlarges t.marks C d.here.scope (on h.at r))
+        (enlarges t.marks C u f (stays_then (third_adds t.marks C ctx third third_called u) (link_adds t.marks C Skip d.point (performed_if ctx third u))))) in
+    let rest : Enlarges t.marks C d1 f = path_then (enlarges t.marks C d1 r (stays_then body (link_adds t.marks C Skip c d2))) end in
+    let se = part_first g OnPath k h (calls_if v) both d d1 f t rest in
+    let first = subst (λ q. g.shows d.here k (place q h.scope)) (proper.at_positions d.here k h t.here) t.here in
+    let ss = part_second g k h (place d1.here.at h.scope) (calls_if v) both d (at loop.begin d1) f t test.points (shows_on g proper k h.scope d.here d1.here first test.here) in
+    let sd = part_first g OnPath k (place d1.here.at h.scope) (calls_in_statement s) (calls_in_effect_if third) (at loop.begin d1) d2 f ss after in
+    let ve = test.variables in
+    let there = t.leads.edges _ (behind.edges _ (last_among d2.edges (edge d2.point Skip c))) in
+    (se, (at loop.begin d1, loop.objects, loop.mark, refl, loop.fits.2, calm_more d.variables d1.variables hs ve loop.calm, sd, marks, again g k h x (For v third s) o a p c b d2.point hs loop tt there shown z))
