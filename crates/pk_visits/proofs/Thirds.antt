@@ -130,3 +130,75 @@ for_parts g proper k h x v third s o a p c b hs loop shown z =
     let ve = test.variables in
     let there = t.leads.edges _ (behind.edges _ (last_among d2.edges (edge d2.point Skip c))) in
     (se, (at loop.begin d1, loop.objects, loop.mark, refl, loop.fits.2, calm_more d.variables d1.variables hs ve loop.calm, sd, marks, again g k h x (For v third s) o a p c b d2.point hs loop tt there shown z))
+
+-- a `for` where it begins again: its test, then the body or what is behind
+pub turn_for : (g : Whole) (proper : Proper g) (k : ℕ) (h i : Place) (x : Exits) (e : ValueTree) (third : Option EffectTree) (s : StatementTree) (o : Place) (a : Ahead) (p : ℕ) (hs : List Held)
+    → Laid g k i x (work.Turn h (For (Some e) third s) o a) p hs → Laid g k h x (work.Test e (Onward h (work.Do s (work.Again h (For (Some e) third s) o a))) (Onward o (work.Go a))) p hs
+turn_for g proper k h i x e third s o a p hs (is, plain, c, b, loop, cont, shown, z) =
+    let parts = for_parts g proper k h x (Some e) third s o a p c b hs loop shown z in
+    (loop.draft, loop.objects, loop.begin, b, loop.at, loop.fits.0, loop.calm, parts.0, (loop.begins, (inside b c x, parts.1)), (shown, (x, (plain, z))))
+
+-- without a test: the edge to its body
+pub turn_ever : (g : Whole) (proper : Proper g) (k : ℕ) (h i : Place) (x : Exits) (third : Option EffectTree) (s : StatementTree) (o : Place) (a : Ahead) (p : ℕ) (hs : List Held)
+    → Laid g k i x (work.Turn h (For None third s) o a) p hs → (q : ℕ) × Among (edge p Skip q) g.edges × ShowsAt g q k h × ((y : Exits) × Laid g k h y (work.Do s (work.Again h (For None third s) o a)) q hs)
+turn_ever g proper k h i x third s o a p hs (is, plain, c, b, loop, cont, shown, z) =
+    let parts = for_parts g proper k h x None third s o a p c b hs loop shown z in
+    let d = loop.draft in
+    (loop.begin, subst (λ q. Among (edge q Skip loop.begin) g.edges) loop.at (parts.0.leads.edges _ (last_among d.edges (edge d.point Skip loop.begin))), loop.begins, (inside b c x, parts.1))
+
+-- the third part of a `for`, and back
+pub third_laid : (g : Whole) (proper : Proper g) (k : ℕ) (h : Place) (x : Exits) (v : Option ValueTree) (third : Option EffectTree) (s : StatementTree) (o : Place) (a : Ahead) (p : ℕ) (hs : List Held) → ArePlain hs
+    → LaidAhead g k x (work.Again h (For v third s) o a) p hs → (y : Exits) × Laid g k h y (meaning.resumed h (For v third s) o a) x.continued hs
+third_laid g proper k h x v third s o a p hs plain (y, b, there, shown, same, loop, cont, behind, z) = (y, by third refl) where
+  c : ℕ
+  c = x.continued
+
+  d : Draft
+  d = loop.draft
+
+  d1 : Draft
+  d1 = for_test (context_of g k) v loop.begin x.broken d
+
+  d2 : Draft
+  d2 = lowered (context_of g k) s (inside x.broken c y) (at loop.begin d1)
+
+  u : Draft
+  u = in_scope d.here.scope (on h.at (go Skip c d2))
+
+  back : (w : Draft) → Among (edge w.point Skip d.point) g.edges → Laid g k h y (work.Back h (For v third s) o a) w.point hs
+  back w e = (plain, b, c, x.broken, subst (λ q. Among (edge w.point Skip q) g.edges) loop.at e, loop.heads, loop, cont, behind, z)
+
+  t : Stage g k h (calls_if v ++ (calls_in_statement s ++ calls_in_effect_if third)) d (go Skip d.point (performed_if (context_of g k) third u))
+  t = stage_other g k h (calls_if v) (calls_in_effect_if third) (calls_in_statement s) d (go Skip d.point (performed_if (context_of g k) third u)) loop.stage
+
+  first : g.shows d.here k (place d.here.at h.scope)
+  first = subst (λ q. g.shows d.here k (place q h.scope)) (proper.at_positions d.here k h t.here) t.here
+
+  C : ℕ → Type 0
+  C = In (led_to (context_of g k) (calls_if v ++ (calls_in_statement s ++ calls_in_effect_if third)))
+
+  test : Adds t.marks C d d1
+  test = test_adds t.marks C (context_of g k) v (front_called C (context_of g k) (calls_if v) (calls_in_statement s ++ calls_in_effect_if third) (all_called (context_of g k) _)) loop.begin x.broken d
+
+  body : Adds t.marks C d1 d2
+  body = statement C (context_of g k) _ loop.mark s (inside x.broken c y) t.marks loop.fits.2 (marking_inside y loop.mark t.marks x.broken c loop.marking)
+      (front_called C (context_of g k) (calls_in_statement s) (calls_in_effect_if third) (back_called C (context_of g k) (calls_if v) (calls_in_statement s ++ calls_in_effect_if third) (all_called (context_of g k) _))) (at loop.begin d1)
+
+  round : Adds t.marks C d u
+  round = scoped_adds t.marks C 0 d (on h.at (go Skip c d2)) (stays_then test (stays_then body (stays_then (link_adds t.marks C Skip c d2) (on_adds t.marks C h.at (go Skip c d2)))))
+
+  stands : Stage g k h (calls_in_effect_if third) u (go Skip d.point (performed_if (context_of g k) third u))
+  stands =
+      let rest = stays_then body (stays_then (link_adds t.marks C Skip c d2) (on_adds t.marks C h.at (go Skip c d2))) in
+      let ss = part_second g k h (place d1.here.at h.scope) (calls_if v) (calls_in_statement s ++ calls_in_effect_if third) d d1 (go Skip d.point (performed_if (context_of g k) third u)) t test.points (shows_on g proper k h.scope d.here d1.here first test.here) in
+      part_second g k (place d1.here.at h.scope) h (calls_in_statement s) (calls_in_effect_if third) d1 u (go Skip d.point (performed_if (context_of g k) third u)) ss rest.points (shows_on g proper k h.scope d.here u.here first round.here)
+
+  by : (w : Option EffectTree) → w ≡ third → Laid g k h y (meaning.performed_if w (work.Back h (For v third s) o a)) c hs
+  by None e = back u (t.leads.edges _ (subst (λ (w : Option EffectTree). Among (edge c Skip d.point) (link Skip d.point (performed_if (context_of g k) w u)).edges) e (last_among u.edges (edge c Skip d.point))))
+  by (Some q) e =
+      let w = performed_if (context_of g k) (Some q) u in
+      let vr = round.variables in
+      let st = subst (λ (z : Option EffectTree). Stage g k h (calls_in_effect_if z) u (go Skip d.point (performed_if (context_of g k) z u))) (sym e) stands in
+      let fits = subst (λ (z : Option EffectTree). Rattle.pk_welltyped.specs.WellTyped.IsEffectIf (around g k loop.objects) z) (sym e) loop.fits.1 in
+      (u, loop.objects, refl, fits, (λ q. calm_more d.variables u.variables hs vr loop.calm), part_until g Stays k h (calls_in_effect_if (Some q)) u w (go Skip d.point w) st (link_adds st.marks (In []) Skip d.point w),
+      back w (st.leads.edges _ (last_among w.edges (edge w.point Skip d.point))))
