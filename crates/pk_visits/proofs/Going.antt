@@ -14,7 +14,7 @@ use Rattle.pk_lower_statement.specs.Statements.{lowered, returned}
 use Rattle.pk_meaning.specs.Objects.{Scope, Objects, result}
 use Rattle.pk_meaning.specs.Programs.{function_of}
 use Rattle.pk_meaning.specs.Work as work
-use Rattle.pk_meaning.specs.Work.{Place, Work, Ahead, Way, Onward, Refused, Lost, While, DoWhile}
+use Rattle.pk_meaning.specs.Work.{Place, Work, Ahead, Way, Onward, Refused, Lost, While, DoWhile, For}
 use Rattle.pk_meaning.specs.Steps as meaning
 use Rattle.pk_meaning.specs.Steps.{place, step_of, caller_of}
 use Rattle.pk_visits.proofs.Slots.{Draft, Memory, Among, edge}
@@ -22,7 +22,8 @@ use Rattle.pk_visits.proofs.Stands.{Whole, Proper, context_of, Held, around, Are
 use Rattle.pk_visits.proofs.Follow.{Answers, Follows, config, still, moved}
 use Rattle.pk_visits.proofs.Statements.{block_laid, next_laid, none_laid, empty_laid, effect_laid}
 use Rattle.pk_visits.proofs.Branches.{if_else_laid, if_then_laid}
-use Rattle.pk_visits.proofs.Rounds.{while_laid, do_laid, turn_while, turn_do, again_while, again_do}
+use Rattle.pk_visits.proofs.Rounds.{while_laid, do_laid, turn_while, turn_do}
+use Rattle.pk_visits.proofs.Thirds.{turn_for, turn_ever, resumed_laid, continue_laid}
 use Rattle.pk_visits.proofs.Returns.{break_laid, leave_laid, value_laid}
 
 -- over an edge that does nothing
@@ -99,6 +100,10 @@ return_followed q v a g proper chosen p m k h vs s b x hs (d, n, marks, at', fit
     subst (λ i. Answers g chosen k h i m (step_of g.program chosen (config k h (work.Do (tree.return q v) a) vs s b) (work.Do (tree.return q v) a))) at'
     (return_by g proper chosen m k h x q v a n d vs s b (work.Do (tree.return q v) a) hs (function_of g.program k).returns refl fits calm t l e same f)
 
+pub continue_followed : (q : Pos) (a : Ahead) → IsFollowed (work.Do (tree.continue q) a)
+continue_followed q a g proper chosen p m k h vs s b x hs l e same f =
+    let z = continue_laid g proper k h x q a p hs l in along g chosen p x.continued m k h (work.Do (tree.continue q) a) vs s b (meaning.continued a) hs z.0 z.1 e same f
+
 -- ---- behind a statement
 
 pub next_followed : (xs : Scope) (r : StatementTree) (is : ItemTrees) (a : Ahead) → IsFollowed (work.Go (work.Rest xs (tree.statement_before r is) a))
@@ -114,15 +119,9 @@ join_followed j a g proper chosen p m k h vs s b x hs (plain, (q, there, shown, 
 pub close_followed : (j : Place) (a : Ahead) → IsFollowed (work.Go (work.Close j a))
 close_followed j a g proper chosen p m k h vs s b x hs (plain, (y, there, shown, is, l)) e same f = jump g chosen p x.broken m k j (work.Go a) vs s y hs there shown (plain, l) e same f
 
-pub again_while_followed : (j : Place) (c : ValueTree) (r : StatementTree) (o : Place) (a : Ahead) → IsFollowed (work.Go (work.Again j (While c r) o a))
-again_while_followed j c r o a g proper chosen p m k h vs s b x hs l e same f =
-    let z = again_while g k j h x c r o a p hs l in
-    let v = z.3 in jump g chosen p z.0 m k j (work.Turn j (While c r) o a) vs s v.0 hs z.1 z.2 v.1 e same f
-
-pub again_do_followed : (j : Place) (c : ValueTree) (r : StatementTree) (o : Place) (a : Ahead) → IsFollowed (work.Go (work.Again j (DoWhile r c) o a))
-again_do_followed j c r o a g proper chosen p m k h vs s b x hs l e same f =
-    let z = again_do g proper k j h x c r o a p hs l in
-    let v = z.3 in jump g chosen p z.0 m k j (work.Test c (Onward j (work.Turn j (DoWhile r c) o a)) (Onward o (work.Go a))) vs s v.0 hs z.1 z.2 v.1 e same f
+pub again_followed : (j : Place) (u : work.Loop) (o : Place) (a : Ahead) → IsFollowed (work.Go (work.Again j u o a))
+again_followed j u o a g proper chosen p m k h vs s b x hs (plain, l) e same f =
+    let z = resumed_laid g proper k j x u o a p hs plain l in jump g chosen p x.continued m k j (meaning.resumed j u o a) vs s z.0 hs l.2 l.3 z.1 e same f
 
 -- ---- where a loop begins again
 
@@ -130,6 +129,16 @@ pub turn_while_followed : (j : Place) (c : ValueTree) (r : StatementTree) (o : P
 turn_while_followed j c r o a g proper chosen p m k h vs s b x hs l e same f =
     let w = work.Test c (Onward j (work.Do r (work.Again j (While c r) o a))) (Onward o (work.Go a)) in
     still g chosen p m k h w vs s x hs (subst (λ i. Laid g k i x w p hs) (sym l.0) (turn_while g proper k j h x c r o a p hs l)) e same f
+
+pub turn_for_followed : (j : Place) (c : ValueTree) (third : Option EffectTree) (r : StatementTree) (o : Place) (a : Ahead) → IsFollowed (work.Turn j (For (Some c) third r) o a)
+turn_for_followed j c third r o a g proper chosen p m k h vs s b x hs l e same f =
+    let w = work.Test c (Onward j (work.Do r (work.Again j (For (Some c) third r) o a))) (Onward o (work.Go a)) in
+    still g chosen p m k h w vs s x hs (subst (λ i. Laid g k i x w p hs) (sym l.0) (turn_for g proper k j h x c third r o a p hs l)) e same f
+
+pub turn_ever_followed : (j : Place) (third : Option EffectTree) (r : StatementTree) (o : Place) (a : Ahead) → IsFollowed (work.Turn j (For None third r) o a)
+turn_ever_followed j third r o a g proper chosen p m k h vs s b x hs l e same f =
+    let z = turn_ever g proper k j h x third r o a p hs l in
+    let v = z.3 in jump g chosen p z.0 m k j (work.Do r (work.Again j (For None third r) o a)) vs s v.0 hs z.1 z.2 v.1 e same f
 
 pub turn_do_followed : (j : Place) (r : StatementTree) (c : ValueTree) (o : Place) (a : Ahead) → IsFollowed (work.Turn j (DoWhile r c) o a)
 turn_do_followed j r c o a g proper chosen p m k h vs s b x hs l e same f =

@@ -29,4 +29,5 @@ mod Rounds
 mod Branches
 mod Returns
 mod Thirds
+mod Starts
 mod Going

@@ -89,7 +89,7 @@ fall g chosen p m k h c vs s b x hs (plain, (ended, body, caller)) e same f =
 -- ---- jumps
 
 -- the edge of a jump
-jump_edge : (g : Whole) (k : ℕ) (h : Place) (xs : List Numbered) (p : Pos) (q : ℕ) (d : Draft) → Stage g k h xs d (away q (on p d)) → Among (edge d.point Skip q) g.edges
+pub jump_edge : (g : Whole) (k : ℕ) (h : Place) (xs : List Numbered) (p : Pos) (q : ℕ) (d : Draft) → Stage g k h xs d (away q (on p d)) → Among (edge d.point Skip q) g.edges
 jump_edge g k h xs p q d s = s.leads.edges _ (last_among d.edges (edge d.point Skip q))
 
 pub broken_laid : (g : Whole) (k : ℕ) (x : Exits) (a : Ahead) (p : ℕ) (hs : List Held) → ArePlain hs → LaidAhead g k x a p hs → LaidWay g k (meaning.broken a) x.broken hs

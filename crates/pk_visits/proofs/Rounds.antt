@@ -15,7 +15,7 @@ use Rattle.pk_meaning.specs.Work as work
 use Rattle.pk_meaning.specs.Work.{Place, Work, Ahead, Loop, Onward, While, DoWhile}
 use Rattle.pk_meaning.specs.Steps.{place}
 use Rattle.pk_visits.proofs.Slots.{Draft, Among, edge, last_among, Keeps}
-use Rattle.pk_visits.proofs.Stands.{Whole, Proper, context_of, Held, ShowsAt, Stage, led_to, Loops, ContinuesAt, LaidAhead, Laid}
+use Rattle.pk_visits.proofs.Stands.{Whole, Proper, context_of, Held, ArePlain, ShowsAt, Stage, led_to, Loops, ContinuesAt, LaidAhead, Laid}
 use Rattle.pk_visits.proofs.Stages.{In, all_called, ways_grow, part_first, part_second, part_until, stage_at, part_point, part_room, three_first, three_second, three_third}
 use Rattle.pk_visits.proofs.Grows.{fresh_three_grows}
 use Rattle.pk_visits.proofs.Tells.{sane, any_called}
@@ -27,13 +27,13 @@ use Rattle.pk_visits.proofs.Doom.{calm_plain}
 -- ---- the begin of a loop
 
 -- what is known of the three points with which a loop begins
-record Begun (g : Whole) (k : ℕ) (h : Place) (d : Draft) : Type 0 where
+pub record Begun (g : Whole) (k : ℕ) (h : Place) (d : Draft) : Type 0 where
   pub there : Among (edge d.point Skip d.points) g.edges
   pub first : ShowsAt g d.points k h
   pub second : ShowsAt g (d.points + 1) k h
   pub third : ShowsAt g (d.points + 2) k h
 
-begun : (g : Whole) (R : Label → Label → Type 0) (C : ℕ → Type 0) (k : ℕ) (h j : Place) (xs : List Numbered) (d0 d f : Draft) (s : Stage g k h xs d0 f) → d0.points ≤ d.points → Keeps R (In s.marks) C (loop_begun d) f → g.shows d.here k j → Begun g k j d
+pub begun : (g : Whole) (R : Label → Label → Type 0) (C : ℕ → Type 0) (k : ℕ) (h j : Place) (xs : List Numbered) (d0 d f : Draft) (s : Stage g k h xs d0 f) → d0.points ≤ d.points → Keeps R (In s.marks) C (loop_begun d) f → g.shows d.here k j → Begun g k j d
 begun g R C k h j xs d0 d f s le u shows =
     let room = part_room g R (In s.marks) C k h xs d0 (loop_begun d) f s u in
     let size = (fresh_three_grows (In []) d).size in
@@ -222,15 +222,15 @@ turn_do g proper k h i x e s o a p hs (is, plain, c, b, loop, cont, shown, z) =
 -- ---- the end of a body
 
 -- of a `while`: at its head again
-pub again_while : (g : Whole) (k : ℕ) (h i : Place) (x : Exits) (e : ValueTree) (s : StatementTree) (o : Place) (a : Ahead) (p : ℕ) (hs : List Held) → Laid g k i x (work.Go (work.Again h (While e s) o a)) p hs
-    → (q : ℕ) × Among (edge p Skip q) g.edges × ShowsAt g q k h × ((y : Exits) × Laid g k h y (work.Turn h (While e s) o a) q hs)
-again_while g k h i x e s o a p hs (plain, (y, b, there, shown, same, loop, cont, behind, z)) =
-    (x.continued, there, shown, (y, (refl, plain, x.continued, x.broken, subst (λ q. Loops g k h y (While e s) q x.continued x.broken hs) cont loop, refl, behind, z)))
+pub again_while : (g : Whole) (k : ℕ) (h : Place) (x : Exits) (e : ValueTree) (s : StatementTree) (o : Place) (a : Ahead) (p : ℕ) (hs : List Held) → ArePlain hs → LaidAhead g k x (work.Again h (While e s) o a) p hs
+    → (y : Exits) × Laid g k h y (work.Turn h (While e s) o a) x.continued hs
+again_while g k h x e s o a p hs plain (y, b, there, shown, same, loop, cont, behind, z) =
+    (y, (refl, plain, x.continued, x.broken, subst (λ q. Loops g k h y (While e s) q x.continued x.broken hs) cont loop, refl, behind, z))
 
 -- of a `do`: at its test, which leads back to the body
-pub again_do : (g : Whole) (proper : Proper g) (k : ℕ) (h i : Place) (x : Exits) (e : ValueTree) (s : StatementTree) (o : Place) (a : Ahead) (p : ℕ) (hs : List Held) → Laid g k i x (work.Go (work.Again h (DoWhile s e) o a)) p hs
-    → (q : ℕ) × Among (edge p Skip q) g.edges × ShowsAt g q k h × ((y : Exits) × Laid g k h y (work.Test e (Onward h (work.Turn h (DoWhile s e) o a)) (Onward o (work.Go a))) q hs)
-again_do g proper k h i x e s o a p hs (plain, (y, b, there, shown, same, loop, cont, behind, z)) =
+pub again_do : (g : Whole) (proper : Proper g) (k : ℕ) (h : Place) (x : Exits) (e : ValueTree) (s : StatementTree) (o : Place) (a : Ahead) (p : ℕ) (hs : List Held) → ArePlain hs → LaidAhead g k x (work.Again h (DoWhile s e) o a) p hs
+    → (y : Exits) × Laid g k h y (work.Test e (Onward h (work.Turn h (DoWhile s e) o a)) (Onward o (work.Go a))) x.continued hs
+again_do g proper k h x e s o a p hs plain (y, b, there, shown, same, loop, cont, behind, z) =
     let ctx = context_of g k in
     let d = loop.draft in
     let t = loop.stage in
@@ -244,23 +244,7 @@ again_do g proper k h i x e s o a p hs (plain, (y, b, there, shown, same, loop, 
     let first = subst (λ q. g.shows d.here k (place q h.scope)) (proper.at_positions d.here k h t.here) t.here in
     let here : g.shows u.here k h = shows_on g proper k h.scope d.here u.here first round.here in
     let tests = part_second g k h h (calls_in_statement s) (calls_in e) d u f t round.points here in
-    let vr = round.variables in (
-      x.continued,
-      there,
-      shown,
-      (
-        y,
-        (
-          u,
-          loop.objects,
-          d.point,
-          x.broken,
-          refl,
-          loop.fits.1,
-          calm_more d.variables u.variables hs vr loop.calm,
-          tests,
-          (subst (λ q. ShowsAt g q k h) (sym loop.at) loop.heads, (y, (refl, plain, x.continued, x.broken, subst (λ q. Loops g k h y (DoWhile s e) q x.continued x.broken hs) (sym loop.at) loop, tt, behind, z))),
-          (behind, (y, (plain, z))),
-        ),
-      ),
-    )
+    let vr = round.variables in
+    (y, (u, loop.objects, d.point, x.broken, refl, loop.fits.1, calm_more d.variables u.variables hs vr loop.calm, tests,
+    (subst (λ q. ShowsAt g q k h) (sym loop.at) loop.heads, (y, (refl, plain, x.continued, x.broken, subst (λ q. Loops g k h y (DoWhile s e) q x.continued x.broken hs) (sym loop.at) loop, tt, behind, z))),
+    (behind, (y, (plain, z)))))

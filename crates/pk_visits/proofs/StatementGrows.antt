@@ -378,7 +378,7 @@ pub test_adds : (ms : List ℕ) (C : ℕ → Type 0) (c : Context) (e : Option V
 test_adds ms C c None h p q d = link_adds ms C Skip p d
 test_adds ms C c (Some e) h p q d = adds ms C d ((ways c e).choice p q d) ((values C c e h).choice p q d)
 
-start_enlarges : (ms : List ℕ) (C : ℕ → Type 0) (c : Context) (f : ForStartTree) (d : Draft) → AllCalled C c (calls_at_start f) → Enlarges ms C d (for_start c f d)
+pub start_enlarges : (ms : List ℕ) (C : ℕ → Type 0) (c : Context) (f : ForStartTree) (d : Draft) → AllCalled C c (calls_at_start f) → Enlarges ms C d (for_start c f d)
 start_enlarges ms C c (tree.declarations vs) d h = all_declared_enlarges ms C c vs d h
 start_enlarges ms C c (tree.expression e) d h = enlarges ms C d (performed_if c e d) (third_adds ms C c e h d)
 

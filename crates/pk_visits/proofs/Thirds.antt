@@ -1,6 +1,8 @@
 -- From the work of a `for`, where it begins again and at the end of its body, to that of its parts.
 use Rattle.std.proofs.Common.{◌≡◌, ℕ, ◌+◌, ◌<◌, ◌≤◌, ◌⊎◌, List, [], ◌∷◌, ◌++◌, refl, sym, ap, ◌∙◌, subst, inl, inr, arith, Option, Some, None}
+use Rattle.pk_ctypes.specs.declared.places.Pos.{Pos}
 use Rattle.pk_typed.specs.Trees.{ValueTree, EffectTree, StatementTree}
+use Rattle.pk_typed.specs.Trees as tree
 use Rattle.pk_welltyped.specs.Listed.{Numbered, calls_in, calls_if, calls_in_effect_if, calls_in_statement}
 use Rattle.pk_graph.specs.Trees.{Skip}
 use Rattle.pk_draft.specs.Drafts.{on, at, link, go, in_scope}
@@ -17,7 +19,9 @@ use Rattle.pk_visits.proofs.Growing.{front_called, back_called}
 use Rattle.pk_visits.proofs.StatementGrows.{Stays, OnPath, Adds, Enlarges, enlarges, stays_then, path_then, on_adds, link_adds, test_adds, third_adds, scoped_adds, statement, marking_inside}
 use Rattle.pk_visits.proofs.Operands.{calm_more}
 use Rattle.pk_visits.proofs.Statements.{shows_on}
-use Rattle.pk_visits.proofs.Rounds.{again}
+use Rattle.pk_visits.proofs.Rounds.{again, again_while, again_do}
+use Rattle.pk_visits.proofs.Doom.{calm_plain}
+use Rattle.pk_visits.proofs.Returns.{jump_edge}
 
 -- ---- calls in another order
 
@@ -81,7 +85,7 @@ stage_other g k h xs ys zs d e s = record {
 -- ---- the drafts of a `for`
 
 -- in another block's scope
-scope_enlarges : (ms : List ℕ) (C : ℕ → Type 0) (n : ℕ) (d : Draft) → Enlarges ms C d (in_scope n d)
+pub scope_enlarges : (ms : List ℕ) (C : ℕ → Type 0) (n : ℕ) (d : Draft) → Enlarges ms C d (in_scope n d)
 scope_enlarges ms C n d = record { edges = λ e z. z; names = refl; variables = omega arith; points = omega arith; size = refl; labels = λ q z. inr refl; regions = λ j. inr refl; paths = refl; here = refl }
 
 -- behind the way from the body's end: the third part, and back
@@ -202,3 +206,27 @@ third_laid g proper k h x v third s o a p hs plain (y, b, there, shown, same, lo
       let fits = subst (λ (z : Option EffectTree). Rattle.pk_welltyped.specs.WellTyped.IsEffectIf (around g k loop.objects) z) (sym e) loop.fits.1 in
       (u, loop.objects, refl, fits, (λ q. calm_more d.variables u.variables hs vr loop.calm), part_until g Stays k h (calls_in_effect_if (Some q)) u w (go Skip d.point w) st (link_adds st.marks (In []) Skip d.point w),
       back w (st.leads.edges _ (last_among w.edges (edge w.point Skip d.point))))
+
+-- ---- the ends of bodies
+
+-- a loop from the end of its body
+pub resumed_laid : (g : Whole) (proper : Proper g) (k : ℕ) (h : Place) (x : Exits) (l : work.Loop) (o : Place) (a : Ahead) (p : ℕ) (hs : List Held) → ArePlain hs → LaidAhead g k x (work.Again h l o a) p hs
+    → (y : Exits) × Laid g k h y (meaning.resumed h l o a) x.continued hs
+resumed_laid g proper k h x (work.While e s) o a p hs plain l = again_while g k h x e s o a p hs plain l
+resumed_laid g proper k h x (work.DoWhile s e) o a p hs plain l = again_do g proper k h x e s o a p hs plain l
+resumed_laid g proper k h x (For v third s) o a p hs plain l = third_laid g proper k h x v third s o a p hs plain l
+
+continued_laid : (g : Whole) (proper : Proper g) (k : ℕ) (x : Exits) (a : Ahead) (p : ℕ) (hs : List Held) → ArePlain hs → LaidAhead g k x a p hs → LaidWay g k (meaning.continued a) x.continued hs
+continued_laid g proper k x (work.Rest xs is a) p hs plain (d, n, m, is', fits, calm, s, marking, l) = continued_laid g proper k x a _ hs plain l
+continued_laid g proper k x (work.Join h a) p hs plain (q, there, shown, l) = continued_laid g proper k x a q hs plain l
+continued_laid g proper k x (work.Again h u o a) p hs plain l = (l.3, resumed_laid g proper k h x u o a p hs plain l)
+continued_laid g proper k x (work.Close h a) p hs plain (y, there, shown, same, l) =
+    subst (λ (z : Exits). LaidWay g k (meaning.continued a) z.continued hs) (sym same) (continued_laid g proper k y a _ hs plain l)
+continued_laid g proper k x (work.End c) p hs plain l = tt
+
+-- `continue`: the edge, and the end of the body
+pub continue_laid : (g : Whole) (proper : Proper g) (k : ℕ) (h : Place) (x : Exits) (p : Pos) (a : Ahead) (pt : ℕ) (hs : List Held) → Laid g k h x (work.Do (tree.continue p) a) pt hs
+    → Among (edge pt Skip x.continued) g.edges × LaidWay g k (meaning.continued a) x.continued hs
+unfolding lowered
+continue_laid g proper k h x p a pt hs (d, n, m, is, fits, calm, s, marking, l) =
+    (subst (λ q. Among (edge q Skip x.continued) g.edges) is (jump_edge g k _ _ p x.continued d s), continued_laid g proper k x a _ hs (calm_plain d.variables hs calm) l)
