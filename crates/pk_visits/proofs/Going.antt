@@ -4,13 +4,13 @@ use Rattle.pk_ctypes.specs.declared.places.Pos.{Pos}
 use Rattle.pk_ctypes.specs.declared.types.IntType.{IntType}
 use Rattle.pk_typed.specs.Trees.{ValueTree, EffectTree, StatementTree, ItemTrees}
 use Rattle.pk_typed.specs.Trees as tree
-use Rattle.pk_welltyped.specs.Listed.{calls_in, calls_if, calls_in_statement}
-use Rattle.pk_welltyped.specs.WellTyped.{IsValueIf, IsStatement}
+use Rattle.pk_welltyped.specs.Listed.{calls_in_effect_if, calls_in, calls_if, calls_in_statement}
+use Rattle.pk_welltyped.specs.WellTyped.{IsValueIf, IsStatement, Marks}
 use Rattle.pk_graph.specs.Trees.{Skip}
 use Rattle.pk_graph.specs.Steps.{Numbers}
-use Rattle.pk_draft.specs.Drafts.{on}
+use Rattle.pk_draft.specs.Drafts.{on, fresh}
 use Rattle.pk_lower_statement.specs.declared.statements.Exits.{Exits}
-use Rattle.pk_lower_statement.specs.Statements.{lowered, returned}
+use Rattle.pk_lower_statement.specs.Statements.{lowered, returned, performed_if}
 use Rattle.pk_meaning.specs.Objects.{Scope, Objects, result}
 use Rattle.pk_meaning.specs.Programs.{function_of}
 use Rattle.pk_meaning.specs.Work as work
@@ -18,9 +18,12 @@ use Rattle.pk_meaning.specs.Work.{Place, Work, Ahead, Way, Onward, Refused, Lost
 use Rattle.pk_meaning.specs.Steps as meaning
 use Rattle.pk_meaning.specs.Steps.{place, step_of, caller_of}
 use Rattle.pk_visits.proofs.Slots.{Draft, Memory, Among, edge}
-use Rattle.pk_visits.proofs.Stands.{Whole, Proper, context_of, Held, around, AreCalm, ShowsAt, Stage, Means, FitsObjects, LaidWay, LaidAhead, Laid}
+use Rattle.pk_visits.proofs.Stands.{Whole, Proper, context_of, Held, around, AreCalm, ShowsAt, Stage, Marking, Means, FitsObjects, LaidWay, LaidAhead, Laid}
 use Rattle.pk_visits.proofs.Follow.{Answers, Follows, config, still, moved}
-use Rattle.pk_visits.proofs.Statements.{block_laid, next_laid, none_laid, empty_laid, effect_laid}
+use Rattle.pk_visits.proofs.Tells.{any_called}
+use Rattle.pk_visits.proofs.StatementGrows.{stays_then, on_adds, fresh_adds, third_adds}
+use Rattle.pk_visits.proofs.Starts.{for_begun}
+use Rattle.pk_visits.proofs.Statements.{shows_on, block_laid, next_laid, none_laid, empty_laid, effect_laid}
 use Rattle.pk_visits.proofs.Branches.{if_else_laid, if_then_laid}
 use Rattle.pk_visits.proofs.Rounds.{while_laid, do_laid, turn_while, turn_do}
 use Rattle.pk_visits.proofs.Thirds.{turn_for, turn_ever, resumed_laid, continue_laid}
@@ -148,3 +151,34 @@ turn_do_followed j r c o a g proper chosen p m k h vs s b x hs l e same f =
 pub back_followed : (j : Place) (u : work.Loop) (o : Place) (a : Ahead) → IsFollowed (work.Back j u o a)
 back_followed j u o a g proper chosen p m k h vs s b x hs (plain, q, c, i, there, shown, loop, cont, behind, l) e same f =
     jump g chosen p q m k j (work.Turn j u o a) vs s x hs there shown (refl, plain, c, i, loop, cont, behind, l) e same f
+
+-- ---- a `for` whose first part is no declaration
+
+-- behind such a first part names are in scope as before
+started : (g : Whole) (proper : Proper g) (k : ℕ) (xs : Scope) (q : Pos) (v : Option EffectTree) (d : Draft) → g.shows d.here k (place d.here.at xs) → g.shows (on q (performed_if (context_of g k) v (fresh 1 (on q d)))).here k (place q xs)
+started g proper k xs q v d shows =
+    let c = context_of g k in
+    let U = λ (r : ℕ). Unit {0} in
+    let e = fresh 1 (on q d) in
+    let first = third_adds [] U c v (any_called c (calls_in_effect_if v)) e in
+    let all = stays_then (stays_then (on_adds [] U q d) (fresh_adds [] U 1 (on q d))) (stays_then first (on_adds [] U q (performed_if c v e))) in
+    shows_on g proper k xs d.here (on q (performed_if c v e)).here shows all.here
+
+for_by : (g : Whole) (proper : Proper g) (chosen : Numbers) (m : Memory) (k : ℕ) (h : Place) (x : Exits) (q : Pos) (v : Option EffectTree) (t : Option ValueTree) (third : Option EffectTree) (r : StatementTree) (a : Ahead) (d : Draft) (n : ℕ) (mark : Marks) (vs : Numbers) (s : Objects) (b : Bool) (w : Work) (hs : List Held)
+    → IsStatement (around g k n) mark (tree.for_loop q (tree.expression v) t third r) → AreCalm d.variables hs
+    → (z : Stage g k (place d.here.at h.scope) (calls_in_statement (tree.for_loop q (tree.expression v) t third r)) d (lowered (context_of g k) (tree.for_loop q (tree.expression v) t third r) x d))
+    → Marking x mark z.marks → LaidAhead g k x a (lowered (context_of g k) (tree.for_loop q (tree.expression v) t third r) x d).point hs → Means m hs vs → m.objects ≡ s → FitsObjects g.program s
+    → Answers g chosen k h d.point m (meaning.for_start (meaning.standing (place q h.scope) (config k h w vs s b)) (tree.expression v) (work.Back (place q h.scope) (For t third r) (place q h.scope) a))
+unfolding IsStatement
+for_by g proper chosen m k h x q None t third r a d n mark vs s b w hs fits calm z marking l e same f =
+    let parts = for_begun g proper k h h.scope x q (tree.expression None) t third r a hs d n mark fits calm z marking l (started g proper k h.scope q None d z.here) in
+    still g chosen d.point m k (place q h.scope) (work.Back (place q h.scope) (For t third r) (place q h.scope) a) vs s x hs parts.1 e same f
+for_by g proper chosen m k h x q (Some v) t third r a d n mark vs s b w hs fits calm z marking l e same f =
+    let parts = for_begun g proper k h h.scope x q (tree.expression (Some v)) t third r a hs d n mark fits calm z marking l (started g proper k h.scope q (Some v) d z.here) in
+    still g chosen d.point m k (place q h.scope) (work.Perform v (work.Back (place q h.scope) (For t third r) (place q h.scope) a)) vs s x hs
+    (fresh 1 (on q d), n, refl, fits.0, (λ y. calm), parts.0, parts.1) e same f
+
+pub for_followed : (q : Pos) (v : Option EffectTree) (t : Option ValueTree) (third : Option EffectTree) (r : StatementTree) (a : Ahead) → IsFollowed (work.Do (tree.for_loop q (tree.expression v) t third r) a)
+for_followed q v t third r a g proper chosen p m k h vs s b x hs (d, n, marks, at', fits, calm, z, marking, l) e same f =
+    let w = work.Do (tree.for_loop q (tree.expression v) t third r) a in
+    subst (λ i. Answers g chosen k h i m (step_of g.program chosen (config k h w vs s b) w)) at' (for_by g proper chosen m k h x q v t third r a d n marks vs s b w hs fits calm z marking l e same f)
