@@ -1,8 +1,8 @@
 -- The graph follows the program at statements, and behind them.
-use Rattle.std.proofs.Common.{◌≡◌, ℕ, List, [], Bool, true, false, refl, sym, ap, subst, inl, inr, Option, Some, None}
+use Rattle.std.proofs.Common.{◌≡◌, ℕ, ◌+◌, List, [], Bool, true, false, refl, sym, ap, subst, inl, inr, Option, Some, None}
 use Rattle.pk_ctypes.specs.declared.places.Pos.{Pos}
 use Rattle.pk_ctypes.specs.declared.types.IntType.{IntType}
-use Rattle.pk_typed.specs.Trees.{ValueTree, EffectTree, StatementTree, ItemTrees}
+use Rattle.pk_typed.specs.Trees.{ValueTree, ValueTrees, EffectTree, StatementTree, ItemTrees}
 use Rattle.pk_typed.specs.Trees as tree
 use Rattle.pk_welltyped.specs.Listed.{calls_in_effect_if, calls_in, calls_if, calls_in_statement}
 use Rattle.pk_welltyped.specs.WellTyped.{IsValueIf, IsStatement, Marks}
@@ -11,7 +11,7 @@ use Rattle.pk_graph.specs.Steps.{Numbers}
 use Rattle.pk_draft.specs.Drafts.{on, fresh}
 use Rattle.pk_lower_statement.specs.declared.statements.Exits.{Exits}
 use Rattle.pk_lower_statement.specs.Statements.{lowered, returned, performed_if}
-use Rattle.pk_meaning.specs.Objects.{Scope, Objects, result}
+use Rattle.pk_meaning.specs.Objects.{Scope, Objects, Array, result}
 use Rattle.pk_meaning.specs.Programs.{function_of}
 use Rattle.pk_meaning.specs.Work as work
 use Rattle.pk_meaning.specs.Work.{Place, Work, Ahead, Way, Onward, Refused, Lost, While, DoWhile, For}
@@ -23,6 +23,7 @@ use Rattle.pk_visits.proofs.Follow.{Answers, Follows, config, still, moved}
 use Rattle.pk_visits.proofs.Tells.{any_called}
 use Rattle.pk_visits.proofs.StatementGrows.{stays_then, on_adds, fresh_adds, third_adds}
 use Rattle.pk_visits.proofs.Starts.{for_begun}
+use Rattle.pk_visits.proofs.Fills.{filled_laid, item_laid}
 use Rattle.pk_visits.proofs.Statements.{shows_on, block_laid, next_laid, none_laid, empty_laid, effect_laid}
 use Rattle.pk_visits.proofs.Branches.{if_else_laid, if_then_laid}
 use Rattle.pk_visits.proofs.Rounds.{while_laid, do_laid, turn_while, turn_do}
@@ -182,3 +183,10 @@ pub for_followed : (q : Pos) (v : Option EffectTree) (t : Option ValueTree) (thi
 for_followed q v t third r a g proper chosen p m k h vs s b x hs (d, n, marks, at', fits, calm, z, marking, l) e same f =
     let w = work.Do (tree.for_loop q (tree.expression v) t third r) a in
     subst (λ i. Answers g chosen k h i m (step_of g.program chosen (config k h w vs s b) w)) at' (for_by g proper chosen m k h x q v t third r a d n marks vs s b w hs fits calm z marking l e same f)
+
+-- ---- braced lists
+
+pub fill_followed : (d : Array) (j : ℕ) (es : ValueTrees) (w : Work) → IsFollowed (work.Fill d j es w)
+fill_followed d j tree.no_values w g proper chosen p m k h vs s b x hs l e same f = still g chosen p m k h w vs s x hs (filled_laid g k h x d j w p hs l) e same f
+fill_followed d j (tree.value_before v es) w g proper chosen p m k h vs s b x hs l e same f =
+    still g chosen p m k h (work.Evaluate v (work.Item d j (work.Fill d (j + 1) es w))) vs s x hs (item_laid g k h x d j v es w p hs l) e same f

@@ -29,5 +29,6 @@ mod Rounds
 mod Branches
 mod Returns
 mod Thirds
+mod Fills
 mod Starts
 mod Going
