@@ -32,3 +32,4 @@ mod Thirds
 mod Fills
 mod Starts
 mod Going
+mod Followed

@@ -53,15 +53,15 @@ caller_laid g k x (work.End c) p hs (ended, body, l) = (ended.exit, l)
 
 -- ---- the end of a body
 
-end_follows : (g : Whole) (chosen : Numbers) (p q : ℕ) (m : Memory) (k : ℕ) (w : work.Work) (c : Caller) (vs : Numbers) (s : Objects) (b : Bool) (x : Exits) (hs : List Held) (r : Option IntType) → k < length g.program.paths
+end_follows : (j : Place) (g : Whole) (chosen : Numbers) (p q : ℕ) (m : Memory) (k : ℕ) (w : work.Work) (c : Caller) (vs : Numbers) (s : Objects) (b : Bool) (x : Exits) (hs : List Held) (r : Option IntType) → k < length g.program.paths
     → (function_of g.program k).returns ≡ r → EndedBy g k (is_main g.program k) r p q hs → ArePlain hs → Among (edge q Skip x.left) g.edges → ShowsAt g x.left k (meaning.body_place g.program k) → LaidCaller g k c x.left hs
     → Means m hs vs → m.objects ≡ s → FitsObjects g.program s
-    → Answers g chosen k (end_place g.program k) p m (meaning.falls g.program chosen (config k (end_place g.program k) w vs s b) r c)
-end_follows g chosen p q m k w c vs s b x hs None there is l plain way shown caller e same f =
+    → Answers g chosen k j p m (meaning.falls g.program chosen (config k (end_place g.program k) w vs s b) r c)
+end_follows j g chosen p q m k w c vs s b x hs None there is l plain way shown caller e same f =
     still g chosen p m k (end_place g.program k) (work.Leave c) vs s x hs (plain, subst (λ o. Among (edge o Skip x.left) g.edges) (sym l) way, shown, caller) e same f
-end_follows g chosen p q m k w c vs s b x hs (Some t) there is l plain way shown caller e same f = by (is_main g.program k) l where
+end_follows j g chosen p q m k w c vs s b x hs (Some t) there is l plain way shown caller e same f = by (is_main g.program k) l where
   any : (y : Bool) → are_any t 1 chosen ≡ y → Writes g k (end_place g.program k) p (own (result k)) (Havoc (own (result k)) t 1) q hs
-      → Answers g chosen k (end_place g.program k) p m (if y then meaning.writes (config k (end_place g.program k) w vs s b) (result k) chosen (work.Leave c) vs else meaning.Wants t 1)
+      → Answers g chosen k j p m (if y then meaning.writes (config k (end_place g.program k) w vs s b) (result k) chosen (work.Leave c) vs else meaning.Wants t 1)
   any false no_choice z = tt
   any true choice z =
       let a = both_true (nat_eq (length chosen) 1) (all_in_type t chosen) choice in
@@ -72,7 +72,7 @@ end_follows g chosen p q m k w c vs s b x hs (Some t) there is l plain way shown
       (fits_written g.program (result k) chosen s (λ n j. subst (λ (v : Kind). Fitting v chosen) (kind_is g.program (result k) (scalar t) n (there, t, is, refl) j) (one, a.1)) f)
 
   by : (y : Bool) → EndedBy g k y (Some t) p q hs
-      → Answers g chosen k (end_place g.program k) p m (if y then meaning.writes (config k (end_place g.program k) w vs s b) (result k) (pos 0 ∷ []) (work.Leave c) vs
+      → Answers g chosen k j p m (if y then meaning.writes (config k (end_place g.program k) w vs s b) (result k) (pos 0 ∷ []) (work.Leave c) vs
       else meaning.with_choice t 1 chosen (meaning.writes (config k (end_place g.program k) w vs s b) (result k) chosen (work.Leave c) vs))
   by true z =
       moved g chosen p q m (with_memory (own (result k)) (pos 0 ∷ []) m) (Set (own (result k)) (constant t (pos 0))) k (end_place g.program k) (work.Leave c) vs (with_numbers (result k) (pos 0 ∷ []) s) (is_in_scope (result k) (end_place g.program k).scope) x hs
@@ -82,9 +82,9 @@ end_follows g chosen p q m k w c vs s b x hs (Some t) there is l plain way shown
 
 pub fall : (g : Whole) (chosen : Numbers) (p : ℕ) (m : Memory) (k : ℕ) (h : Place) (c : Caller) (vs : Numbers) (s : Objects) (b : Bool) (x : Exits) (hs : List Held)
     → Laid g k h x (work.Go (work.End c)) p hs → Means m hs vs → m.objects ≡ s → FitsObjects g.program s
-    → Answers g chosen k (end_place g.program k) p m (step_of g.program chosen (config k h (work.Go (work.End c)) vs s b) (work.Go (work.End c)))
+    → Answers g chosen k h p m (step_of g.program chosen (config k h (work.Go (work.End c)) vs s b) (work.Go (work.End c)))
 fall g chosen p m k h c vs s b x hs (plain, (ended, body, caller)) e same f =
-    end_follows g chosen p ended.to m k (work.Go (work.End c)) c vs s b x hs (function_of g.program k).returns body.stage.path refl ended.falls plain ended.leaves ended.exit caller e same f
+    end_follows h g chosen p ended.to m k (work.Go (work.End c)) c vs s b x hs (function_of g.program k).returns body.stage.path refl ended.falls plain ended.leaves ended.exit caller e same f
 
 -- ---- jumps
 
