@@ -1,0 +1,65 @@
+-- From runs of a program to runs of its graph, and to what is told of it.
+use Rattle.std.specs.Prelude.{◌≡◌, ◌⊎◌, ℕ, ◌<◌, Bool, true, false, if◌then◌else◌, List, [], ◌∷◌, All, Contains, Option, Some, None}
+use Rattle.std.proofs.Common.{refl, sym, subst, inl, inr}
+use Rattle.std.proofs.lemmas.List.Elements.{All-nil, All-cons, All-get_or, All-contains}
+use Rattle.pk_graph.specs.Graphs.{EdgeOf, GraphOf, no_point, point_at}
+use Rattle.pk_graph.specs.Steps.{Failure}
+use Rattle.pk_graph.specs.Stores.{Stored}
+use Rattle.pk_graph.specs.WellMade.{IsGraph, IsPointOf, IsEdgeOf}
+use Rattle.pk_state.specs.Facts.{Stated}
+use Rattle.pk_sound.specs.Runs.{Reaches, begins, steps as step_of}
+use Rattle.pk_sound.specs.Faults.{IsHidden, IsFailing}
+use Rattle.pk_runs.specs.True.{AreTrueOf, IsUnknownIn}
+use Rattle.pk_meaning.specs.Programs.{Program}
+use Rattle.pk_meaning.specs.Runs.{Visit}
+use Rattle.pk_visits.specs.GraphVisits.{GraphRuns, ends, steps, is_visit, visit_at, visits_if}
+use Rattle.pk_visits.specs.SameVisits.{ProgramVisits, GraphVisits, FailsAt, EndsAt, HaveSameVisits}
+use Rattle.pk_true.specs.ToldOfPrograms.{IsToldVisit, IsToldFault, IsHiddenFault, IsToldEnd, IsTrueOfProgram}
+
+module _ (g : GraphOf) (states : List Stated) (made : IsGraph g) (t : AreTrueOf g states) where
+  -- a run comes to points of the graph alone
+  there : (v : ℕ) (s : Stored) → Reaches g v s → v < length g.points
+  there v s (begins h) = made.entry
+  there v r (step_of {p = p} {s = s} {t = q} {e = e} chosen h has goes) =
+      let point = All-get_or (IsPointOf g) g.points p no_point (there p s h) made.points in
+      (All-contains (IsEdgeOf g) (point_at g p).edges e point.edges has).leads_to_a_point
+
+  told : (v : ℕ) (s : Stored) → Reaches g v s → IsToldVisit g states (visit_at g v s)
+  told v s h = record { point = v; store = s; there = there v s h; visit_is = refl; agrees = t.holds v s h }
+
+  told_if : (e : EdgeOf) (s : Stored) (vs : List Visit) → Reaches g e.to s → All (IsToldVisit g states) vs → All (IsToldVisit g states) (visits_if g e s vs)
+  told_if e s vs h all = by (is_visit g e)
+    where
+      by : (b : Bool) → All (IsToldVisit g states) (if b then visit_at g e.to s ∷ vs else vs)
+      by true = All-cons (IsToldVisit g states) (visit_at g e.to s) vs (told e.to s h) all
+      by false = all
+
+  reached : (p : ℕ) (s : Stored) (vs : List Visit) (q : ℕ) (r : Stored) → GraphRuns g p s vs q r → Reaches g p s → All (IsToldVisit g states) vs × Reaches g q r
+  reached p s vs q r ends h = (All-nil (IsToldVisit g states), h)
+  reached p s ws q r (steps {t = u} {e = e} {vs = vs} chosen has goes rest) h =
+      let next = step_of chosen h has goes in
+      let more = reached e.to u vs q r rest next in
+      (told_if e u vs next more.0, more.1)
+
+  failing : (p : ℕ) (s : Stored) (f : Failure) → Reaches g p s → FailsAt g p s f → IsToldFault g states f ⊎ IsHiddenFault g f
+  failing p s f h x = by (t.faults p s x.edge x.chosen f h x.there x.fails)
+    where
+      by : ((a : AccessOf) × IsFailing p x.edge.instr f s a × IsUnknownIn states p a) ⊎ IsHidden x.edge.instr f.site → IsToldFault g states f ⊎ IsHiddenFault g f
+      by (inl (a, is, unknown)) = inl (record { point = p; edge = x.edge; there = x.there; access = a; listed = is.listed; place = is.site; kind = is.fault; unknown = unknown })
+      by (inr hidden) = inr (record { point = p; edge = x.edge; there = x.there; hidden = hidden })
+
+  ended : (p : ℕ) (s : Stored) (end : Option Failure) → Reaches g p s → EndsAt g p s end → IsToldEnd g states end
+  ended p s None h x = tt
+  ended p s (Some f) h x = failing p s f h x
+
+  of_graph : (visits : List Visit) (end : Option Failure) → GraphVisits g visits end → All (IsToldVisit g states) visits × IsToldEnd g states end
+  of_graph visits end x =
+      let first = begins x.begins in
+      let all = reached 0 x.first x.others x.point x.last x.runs first in
+      (subst (All (IsToldVisit g states)) (sym x.visits_are) (All-cons (IsToldVisit g states) (visit_at g 0 x.first) x.others (told 0 x.first first) all.0), ended x.point x.last end all.1 x.ends)
+
+pub true_of : (g : GraphOf) (states : List Stated) (p : Program) → IsGraph g → AreTrueOf g states → ((visits : List Visit) (end : Option Failure) → ProgramVisits p visits end → GraphVisits g visits end) → IsTrueOfProgram p g states
+true_of g states p made t forward = record {
+  visits = λ visits end x. (of_graph g states made t visits end (forward visits end x)).0;
+  faults = λ visits end x. (of_graph g states made t visits end (forward visits end x)).1;
+}
