@@ -1,2 +1,3 @@
 pub mod GraphSteps
 pub mod Laws
+pub mod Beginnings

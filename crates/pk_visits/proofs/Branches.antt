@@ -1,21 +1,20 @@
 -- From the work of an `if` to that of its test and branches.
-use Rattle.std.proofs.Common.{◌≡◌, ℕ, zero, suc, ◌+◌, ◌<◌, ◌≤◌, ◌⊎◌, List, [], ◌∷◌, ◌++◌, length, Bool, true, false, refl, sym, ap, ◌∙◌, subst, inl, inr, arith}
+use Rattle.std.proofs.Common.{◌≡◌, ℕ, ◌+◌, ◌≤◌, List, [], ◌∷◌, ◌++◌, length, refl, sym, ap, subst, arith}
 use Rattle.pk_ctypes.specs.declared.places.Pos.{Pos}
 use Rattle.pk_typed.specs.Trees.{ValueTree, StatementTree}
 use Rattle.pk_typed.specs.Trees as tree
 use Rattle.pk_welltyped.specs.Listed.{Numbered, calls_in, calls_in_statement}
-use Rattle.pk_welltyped.specs.WellTyped.{IsStatement, IsValue, Marks}
+use Rattle.pk_welltyped.specs.WellTyped.{IsStatement}
 use Rattle.pk_graph.specs.Trees.{Skip}
 use Rattle.pk_draft.specs.declared.drafts.Label.{Label}
-use Rattle.pk_draft.specs.Drafts.{on, at, fresh, link, go}
-use Rattle.pk_lower_row.specs.Contexts.{Context}
+use Rattle.pk_draft.specs.Drafts.{on, at, fresh, link}
 use Rattle.pk_lower_expression.specs.Expressions.{ways}
 use Rattle.pk_lower_statement.specs.declared.statements.Exits.{Exits}
-use Rattle.pk_lower_statement.specs.Statements.{if_draft, meeting, lowered}
+use Rattle.pk_lower_statement.specs.Statements.{meeting, lowered}
 use Rattle.pk_meaning.specs.Work as work
 use Rattle.pk_meaning.specs.Work.{Place, Work, Ahead, Onward}
 use Rattle.pk_meaning.specs.Steps.{place}
-use Rattle.pk_visits.proofs.Slots.{Slot, Draft, Among, edge, last_among, front_among, Keeps, label_at}
+use Rattle.pk_visits.proofs.Slots.{Draft, Among, edge, last_among, front_among}
 use Rattle.pk_visits.proofs.Stands.{Whole, Proper, context_of, Held, around, AreCalm, ShowsAt, Stage, led_to, Marking, LaidAhead, LaidWay, Laid}
 use Rattle.pk_visits.proofs.Stages.{In, all_called, ways_grow, part_first, part_second, part_until, stage_at, part_point, part_room, fresh_first, fresh_second, fresh_one}
 use Rattle.pk_visits.proofs.Grows.{fresh_one_grows}
@@ -130,14 +129,115 @@ if_else_laid g proper k h x p e s r a pt hs (d, n, m, is, fits, calm, t, marking
     let ys = calls_in_statement s in
     let zs = calls_in_statement r in
     let q = parts g proper k h choice fa fb p xs ys zs d t
-        (choice_adds t.marks (In (led_to c xs)) (ways c e) (ways_grow c e) d.points (d.points + 1) (opened p d)) (statement (In (led_to c ys)) c _ m s x t.marks fits.1 marking (all_called c ys) (at d.points (chosen choice p d)))
-        (statement (In (led_to c zs)) c _ m r x t.marks fits.2 marking (all_called c zs) (at (d.points + 1) (first_end choice fa p d)))
-        (choice_adds t.marks Any (ways c e) (sane c e) d.points (d.points + 1) (opened p d)) (statement Any c _ m s x t.marks fits.1 marking (any_called c ys) (at d.points (chosen choice p d)))
-        (statement Any c _ m r x t.marks fits.2 marking (any_called c zs) (at (d.points + 1) (first_end choice fa p d))) in
+    (choice_adds t.marks (In (led_to c xs)) (ways c e) (ways_grow c e) d.points (d.points + 1) (opened p d)) (statement (In (led_to c ys)) c _ m s x t.marks fits.1 marking (all_called c ys) (at d.points (chosen choice p d)))
+    (statement (In (led_to c zs)) c _ m r x t.marks fits.2 marking (all_called c zs) (at (d.points + 1) (first_end choice fa p d)))
+    (choice_adds t.marks Any (ways c e) (sane c e) d.points (d.points + 1) (opened p d)) (statement Any c _ m s x t.marks fits.1 marking (any_called c ys) (at d.points (chosen choice p d)))
+    (statement Any c _ m r x t.marks fits.2 marking (any_called c zs) (at (d.points + 1) (first_end choice fa p d))) in
     let v1 = q.more in
-    let v2 = q.more_too in
-    (opened p d, n, d.points, d.points + 1, is, fits.0, calm, q.test,
-    (q.yes, (x, (at d.points (chosen choice p d), n, m, refl, fits.1, calm_more d.variables (chosen choice p d).variables hs v1 calm, q.first, subst (Marking x m) (sym q.first_marks) marking,
-    ((second_end choice fa fb p d).points, q.meets, q.join, l)))),
-    (q.no, (x, (at (d.points + 1) (first_end choice fa p d), _, m, refl, fits.2, calm_more d.variables (first_end choice fa p d).variables hs v2 calm, q.second, subst (Marking x m) (sym q.second_marks) marking,
-    ((second_end choice fa fb p d).points, q.meets_too, q.join, l)))))
+    let v2 = q.more_too in (
+      opened p d,
+      n,
+      d.points,
+      d.points + 1,
+      is,
+      fits.0,
+      calm,
+      q.test,
+      (
+        q.yes,
+        (
+          x,
+          (
+            at d.points (chosen choice p d),
+            n,
+            m,
+            refl,
+            fits.1,
+            calm_more d.variables (chosen choice p d).variables hs v1 calm,
+            q.first,
+            subst (Marking x m) (sym q.first_marks) marking,
+            ((second_end choice fa fb p d).points, q.meets, q.join, l),
+          ),
+        ),
+      ),
+      (
+        q.no,
+        (
+          x,
+          (
+            at (d.points + 1) (first_end choice fa p d),
+            _,
+            m,
+            refl,
+            fits.2,
+            calm_more d.variables (first_end choice fa p d).variables hs v2 calm,
+            q.second,
+            subst (Marking x m) (sym q.second_marks) marking,
+            ((second_end choice fa fb p d).points, q.meets_too, q.join, l),
+          ),
+        ),
+      ),
+    )
+
+nothing_behind : {A : Type 0} (xs : List A) → xs ++ [] ≡ xs
+nothing_behind [] = refl
+nothing_behind (x ∷ xs) = ap (λ ys. x ∷ ys) (nothing_behind xs)
+
+-- the same stage, with no calls behind its own
+abbrev with_none : (g : Whole) (k : ℕ) (h : Place) (xs : List Numbered) (d f : Draft) → Stage g k h xs d f → Stage g k h (xs ++ []) d f
+with_none g k h xs d f s = record {
+  marks = s.marks;
+  later = s.later;
+  leads = s.leads;
+  bounded = s.bounded;
+  here = s.here;
+  apart = subst (λ ys. (m : ℕ) → Among m (led_to (context_of g k) ys) → Among m s.later → ⊥) (sym (nothing_behind xs)) s.apart;
+  distinct = subst (λ ys. Rattle.pk_visits.proofs.Stands.Distinct (led_to (context_of g k) ys)) (sym (nothing_behind xs)) s.distinct;
+  path = s.path;
+  noted = subst (λ ys. (z : Numbered) → Among z ys → Among z (Rattle.pk_welltyped.specs.Listed.calls_in_items (Rattle.pk_meaning.specs.Programs.block_of g.program k).items)) (sym (nothing_behind xs)) s.noted;
+}
+
+pub if_then_laid : (g : Whole) (proper : Proper g) (k : ℕ) (h : Place) (x : Exits) (p : Pos) (e : ValueTree) (s : StatementTree) (a : Ahead) (pt : ℕ) (hs : List Held) → Laid g k h x (work.Do (tree.if_then p e s) a) pt hs
+    → Laid g k (place p h.scope) x (work.Test e (Onward (place p h.scope) (work.Do s (work.Join (place p h.scope) a))) (Onward (place p h.scope) (work.Go (work.Join (place p h.scope) a)))) pt hs
+unfolding lowered IsStatement calls_in_statement
+if_then_laid g proper k h x p e s a pt hs (d, n, m, is, fits, calm, t, marking, l) =
+    let c = context_of g k in
+    let choice = (ways c e).choice in
+    let fa = lowered c s x in
+    let fb = λ (r : Draft). r in
+    let xs = calls_in e in
+    let ys = calls_in_statement s in
+    let split : Stage g k (place d.here.at h.scope) (xs ++ ys ++ []) d (met choice fa fb p d) = with_none g k (place d.here.at h.scope) (xs ++ ys) d (met choice fa fb p d) t in
+    let q = parts g proper k h choice fa fb p xs ys [] d split
+    (choice_adds t.marks (In (led_to c xs)) (ways c e) (ways_grow c e) d.points (d.points + 1) (opened p d)) (statement (In (led_to c ys)) c _ m s x t.marks fits.1 marking (all_called c ys) (at d.points (chosen choice p d)))
+    (nothing_adds t.marks (In []) (first_end choice fa p d))
+    (choice_adds t.marks Any (ways c e) (sane c e) d.points (d.points + 1) (opened p d)) (statement Any c _ m s x t.marks fits.1 marking (any_called c ys) (at d.points (chosen choice p d)))
+    (nothing_adds t.marks Any (first_end choice fa p d)) in
+    let v1 = q.more in (
+      opened p d,
+      n,
+      d.points,
+      d.points + 1,
+      is,
+      fits.0,
+      calm,
+      q.test,
+      (
+        q.yes,
+        (
+          x,
+          (
+            at d.points (chosen choice p d),
+            n,
+            m,
+            refl,
+            fits.1,
+            calm_more d.variables (chosen choice p d).variables hs v1 calm,
+            q.first,
+            subst (Marking x m) (sym q.first_marks) marking,
+            ((second_end choice fa fb p d).points, q.meets, q.join, l),
+          ),
+        ),
+      ),
+      (q.no, (x, (calm_plain d.variables hs calm, ((second_end choice fa fb p d).points, q.meets_too, q.join, l)))),
+    )

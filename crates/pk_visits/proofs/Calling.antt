@@ -1,6 +1,6 @@
 -- From the work of a call to that of its arguments, its parameters and its body; arguments one by one; the body's begin.
-use Rattle.std.proofs.Common.{◌≡◌, ℕ, zero, suc, ◌+◌, ◌<◌, ◌≤◌, List, [], ◌∷◌, ◌++◌, length, Bool, true, false, ◌||◌, refl, sym, ap, ◌∙◌, subst, inl, inr, arith, Option, Some, None, ◌⊎◌}
-use Rattle.std.specs.Prelude.{slice_get, slice_index_or, slice_set, option_map, unwrap_or}
+use Rattle.std.proofs.Common.{◌≡◌, ℕ, zero, suc, ◌+◌, ◌<◌, List, [], ◌∷◌, ◌++◌, length, Bool, true, false, refl, sym, ap, ◌∙◌, subst, inl, inr, arith, Option, Some, None, ◌⊎◌}
+use Rattle.std.specs.Prelude.{slice_get, slice_index_or, option_map, unwrap_or}
 use Rattle.std.proofs.lemmas.List.{get_or-set_same, length-set}
 use Rattle.pk_ctypes.specs.declared.places.Pos.{Pos}
 use Rattle.pk_ctypes.specs.declared.types.IntType.{IntType}
@@ -8,32 +8,30 @@ use Rattle.pk_typed.specs.Trees.{ValueTree, EffectTree, ValueTrees, FunctionTree
 use Rattle.pk_typed.specs.Trees as tree
 use Rattle.pk_typed.specs.Types.{type_of}
 use Rattle.pk_welltyped.specs.Listed.{Numbered, call_of, calls_in, calls_in_effect, calls_in_values, calls_in_items}
-use Rattle.pk_welltyped.specs.WellTyped.{scalar, count, Takes, IsValue, IsEffect, AreValues}
+use Rattle.pk_welltyped.specs.WellTyped.{count, Takes, IsValue, IsEffect, AreValues}
 use Rattle.pk_graph.specs.Trees.{variable}
 use Rattle.pk_draft.specs.declared.drafts.Region.{Region}
 use Rattle.pk_draft.specs.declared.drafts.Size.{Size}
 use Rattle.pk_draft.specs.Drafts.{Names, entered, no_region}
-use Rattle.pk_lower_row.specs.declared.shapes.Waiting.TheVariants.{Loose, Strong}
 use Rattle.pk_lower_row.specs.Shapes.{makes, any_makes, shape_of, strong_if}
-use Rattle.pk_lower_row.specs.Contexts.{Context, callee, parameters_of, size_in}
+use Rattle.pk_lower_row.specs.Contexts.{callee, parameters_of, size_in}
 use Rattle.pk_lower_row.specs.Rows as rows
 use Rattle.pk_lower_row.specs.Rows.{types_of}
 use Rattle.pk_lower_expression.specs.Expressions.{ways, performed, passed}
 use Rattle.pk_lower_statement.specs.declared.statements.Exits.{Exits}
-use Rattle.pk_meaning.specs.Objects.{Object, result, local}
+use Rattle.pk_meaning.specs.Objects.{result, local}
 use Rattle.pk_meaning.specs.Programs as program
 use Rattle.pk_meaning.specs.Work as work
 use Rattle.pk_meaning.specs.Work.{Place, Work}
 use Rattle.pk_meaning.specs.Steps as meaning
-use Rattle.pk_visits.proofs.Slots.{Slot, own, temporary, slots, SlotTree, Draft, Among, edge, Grows, region_at}
-use Rattle.pk_visits.proofs.Grows.{grows_refl, grows_trans, bound_grows, entered_grows, held_grows}
-use Rattle.pk_visits.proofs.Growing.{lowered}
+use Rattle.pk_visits.proofs.Slots.{Slot, Draft, Among, Grows, region_at}
+use Rattle.pk_visits.proofs.Grows.{grows_trans, bound_grows, entered_grows, held_grows}
 use Rattle.pk_visits.proofs.Tells.{Any, sane, shapes}
-use Rattle.pk_visits.proofs.Stands.{Whole, Proper, context_of, Held, held, around, AreCalm, AreQuiet, ArePlain, HasKind, IsScalar, pushed, Binds, Stage, led_to, Laid}
-use Rattle.pk_visits.proofs.Stages.{In, ways_grow, passed_grows, stage_first, stage_second, stage_until, stage_from, stage_last}
-use Rattle.pk_visits.proofs.Operands.{UnlessLoose, all_own, all_temporary, calm_more, keep_laid, first_calm, unless_more}
+use Rattle.pk_visits.proofs.Stands.{Whole, Proper, context_of, Held, held, around, AreCalm, AreQuiet, IsScalar, Binds, Stage, led_to, Laid}
+use Rattle.pk_visits.proofs.Stages.{In, ways_grow, passed_grows, stage_first, stage_second, stage_last}
+use Rattle.pk_visits.proofs.Operands.{UnlessLoose, all_own, calm_more, keep_laid, first_calm, unless_more}
 use Rattle.pk_visits.proofs.Trees.{stage_names, or_first, or_second}
-use Rattle.pk_visits.proofs.Passing.{stacked, pushed_is, binds_laid}
+use Rattle.pk_visits.proofs.Passing.{pushed_is, binds_laid}
 use Rattle.pk_visits.proofs.OwnReads.{passed_apart, passed_many}
 use Rattle.pk_visits.proofs.Doom.{calm_plain}
 
@@ -59,7 +57,7 @@ types_count (tree.value_before e es) = let z = types_count es in omega (arith, z
 called_laid : (g : Whole) (proper : Proper g) (k : ℕ) (h : Place) (x : Exits) (z : Numbered) (r : Option IntType) (es : ValueTrees) (w : Work) (n : ℕ) (d : Draft) (hs : List Held)
     → AreValues (around g k n) es → Takes (count es) r (slice_get g.program.unit.functions z.call.function) → AreCalm d.variables hs
     → Stage g k h (z ∷ calls_in_values es) d
-        (rows.call_after (callee (context_of g k) z.number) (size_in g.sizes z.call.function) (parameters_of g.program.unit z.call.function) (types_of es) (passed (context_of g k) es d)).1
+    (rows.call_after (callee (context_of g k) z.number) (size_in g.sizes z.call.function) (parameters_of g.program.unit z.call.function) (types_of es) (passed (context_of g k) es d)).1
     → Laid g k h x w (rows.call_after (callee (context_of g k) z.number) (size_in g.sizes z.call.function) (parameters_of g.program.unit z.call.function) (types_of es) (passed (context_of g k) es d)).1.point hs
     → Laid g k h x (work.Pass es (work.Bind (callee (context_of g k) z.number) 0 (parameters_of g.program.unit z.call.function) (work.Enter (callee (context_of g k) z.number) w))) d.point hs
 called_laid g proper k h x z r es w n d hs fits takes calm s l =
@@ -87,17 +85,26 @@ called_laid g proper k h x z r es w n d hs fits takes calm s l =
     let same = parameters_same g.program.unit.functions z.call.function in
     let many : length us ≡ length ts = let a = types_count es in let b = takes'.1 in let e = ap length same in omega (arith, a, b, e) in
     let region : region_at g.regions m ≡ record { at = d2.point; points = d2.points; variables = d2.variables } =
-        by s.later m d2 size (s.leads.regions m) (s.apart m (inl refl)) (let a = s.leads.paths in let b = length-set d2.regions m (record { at = d2.point; points = d2.points; variables = d2.variables }) in omega (arith, a, b, there)) in
+    by s.later m d2 size (s.leads.regions m) (s.apart m (inl refl)) (let a = s.leads.paths in let b = length-set d2.regions m (record { at = d2.point; points = d2.points; variables = d2.variables }) in omega (arith, a, b, there)) in
     let v1 = g1.variables in
-    let v2 = b2.variables in
-    (d, n, refl, fits, (λ i. calm), s1,
-    subst (λ js. Binds g k h m 0 ts (Laid g k h x (work.Enter m w)) d1.point js) (sym (pushed_is es q.trees hs))
-    (binds_laid g k h m 0 d1.variables ts us q.trees (Laid g k h x (work.Enter m w)) d d1 f hs Any (z ∷ calls_in_values es) many (passed_many c es d)
-    (λ j t is. subst (λ i. IsScalar g (local m i) t) (omega arith) (proper.parameters m j t there (subst (λ ps. slice_get ps j ≡ Some t) (parameters_at noted) is)))
-    (λ j. proper.scopes d.here k m j h s.here behind) (λ j. passed_apart c m j es d from ns) (λ j. all_own d.variables (local m j) hs calm) (calm_plain d.variables hs calm) (g1.names ∙ ns)
-    s weak1 weak3
-    (there, ap (λ (t : Region). t.at) region, subst (λ i. AreCalm i hs) (sym (ap (λ (t : Region). t.variables) region)) (calm_more d.variables d2.variables hs (omega (arith, v1, v2)) calm),
-    subst (λ i. Laid g k h x w i hs) (sym (ap (λ (t : Region). t.points) region)) l))) where
+    let v2 = b2.variables in (
+      d,
+      n,
+      refl,
+      fits,
+      (λ i. calm),
+      s1,
+      subst (λ js. Binds g k h m 0 ts (Laid g k h x (work.Enter m w)) d1.point js) (sym (pushed_is es q.trees hs))
+          (binds_laid g k h m 0 d1.variables ts us q.trees (Laid g k h x (work.Enter m w)) d d1 f hs Any (z ∷ calls_in_values es) many (passed_many c es d)
+          (λ j t is. subst (λ i. IsScalar g (local m i) t) (omega arith) (proper.parameters m j t there (subst (λ ps. slice_get ps j ≡ Some t) (parameters_at noted) is)))
+          (λ j. proper.scopes d.here k m j h s.here behind) (λ j. passed_apart c m j es d from ns) (λ j. all_own d.variables (local m j) hs calm) (calm_plain d.variables hs calm) (g1.names ∙ ns)
+          s weak1 weak3 (
+            there,
+            ap (λ (t : Region). t.at) region,
+            subst (λ i. AreCalm i hs) (sym (ap (λ (t : Region). t.variables) region)) (calm_more d.variables d2.variables hs (omega (arith, v1, v2)) calm),
+            subst (λ i. Laid g k h x w i hs) (sym (ap (λ (t : Region). t.points) region)) l,
+          )),
+    ) where
       by : (later : List ℕ) (m : ℕ) (e : Draft) (size : Size) → Among m later ⊎ (region_at g.regions m ≡ region_at (entered m size e).regions m) → (Among m later → ⊥) → m < length e.regions
           → region_at g.regions m ≡ record { at = e.point; points = e.points; variables = e.variables }
       by later m e size (inl a) none there = absurd (none a)
@@ -132,8 +139,13 @@ call_laid g proper k h x t f n at es w p hs (d, i, is, fits, quiet, s, l) =
     let weak1 : Grows Any d q.draft = record { edges = g1.edges; names = g1.names; variables = g1.variables; points = g1.points; size = g1.size; labels = g1.labels; regions = λ j. inl tt; paths = g1.paths; here = g1.here } in
     let d2 = rows.bound m 0 q.draft.variables (parameters_of g.program.unit f) (types_of es) q.trees q.draft in
     let ns = stage_names g k h (z ∷ calls_in_values es) Any d F s (grows_trans weak1 (grows_trans (bound_grows Any m 0 q.draft.variables (parameters_of g.program.unit f) (types_of es) q.trees q.draft) (entered_grows Any m (size_in g.sizes f) tt d2))) in
-    let kind : IsScalar g (result m) t = (there, t, (ap (λ (j : ℕ). (slice_index_or g.program.unit.functions j program.no_function).returns) (proper.functions k z s.path noted)
-        ∙ (taken g.program.unit.functions f (count es) (Some t) fits.0).0), refl) in
+    let kind : IsScalar g (result m) t = (
+      there,
+      t,
+      (ap (λ (j : ℕ). (slice_index_or g.program.unit.functions j program.no_function).returns) (proper.functions k z s.path noted)
+          ∙ (taken g.program.unit.functions f (count es) (Some t) fits.0).0),
+      refl,
+    ) in
     called_as g proper k h x z es (λ j. work.Fetch t (result j) w) p hs s.path noted
     (subst (λ o. Laid g k h x (work.Pass es (work.Bind m 0 (parameters_of g.program.unit f) (work.Enter m (work.Fetch t (result m) w)))) o hs) is
     (called_laid g proper k h x z (Some t) es (work.Fetch t (result m) w) i d hs fits.1 fits.0 (quiet refl) s
@@ -176,9 +188,21 @@ pass_laid g k h x (tree.value_before e es) w p hs (d, n, is, fits, quiet, s, l) 
     let nr = ge.names ∙ ns in
     let q = λ (m : any_makes es ≡ true). quiet (or_second (makes e) (any_makes es) m) in
     let va = ge.variables in
-    let vb = kept_e.variables in
-    (d, n, is, fits.0, (λ m. quiet (or_first (makes e) (any_makes es) m)), stage_first g k h (calls_in e) (calls_in_values es) d r.1 f s (grows_trans kept gp),
-    keep_laid g k h x (work.Pass es w) how (shape_of e) (type_of e) r hs (In (led_to c (calls_in e))) (In (led_to c (calls_in_values es))) (calls_in e ++ calls_in_values es) d f s ge gp nr
-    (unless_more how d.variables r.1.variables hs va (quiet_loose (any_makes es) d.variables hs q))
-    (v.1, n, refl, fits.1, (λ m. (first_calm how (shape_of e) (type_of e) r (ap strong_if m) nr (shapes c e d ns), calm_more d.variables v.1.variables hs (omega (arith, va, vb)) (q m))),
-    stage_second g k h (In (led_to c (calls_in e))) (calls_in e) (calls_in_values es) d v.1 f s (grows_trans ge kept_e), l))
+    let vb = kept_e.variables in (
+      d,
+      n,
+      is,
+      fits.0,
+      (λ m. quiet (or_first (makes e) (any_makes es) m)),
+      stage_first g k h (calls_in e) (calls_in_values es) d r.1 f s (grows_trans kept gp),
+      keep_laid g k h x (work.Pass es w) how (shape_of e) (type_of e) r hs (In (led_to c (calls_in e))) (In (led_to c (calls_in_values es))) (calls_in e ++ calls_in_values es) d f s ge gp nr
+          (unless_more how d.variables r.1.variables hs va (quiet_loose (any_makes es) d.variables hs q)) (
+            v.1,
+            n,
+            refl,
+            fits.1,
+            (λ m. (first_calm how (shape_of e) (type_of e) r (ap strong_if m) nr (shapes c e d ns), calm_more d.variables v.1.variables hs (omega (arith, va, vb)) (q m))),
+            stage_second g k h (In (led_to c (calls_in e))) (calls_in e) (calls_in_values es) d v.1 f s (grows_trans ge kept_e),
+            l,
+          ),
+    )

@@ -1,5 +1,5 @@
 -- From a test to its parts.
-use Rattle.std.proofs.Common.{◌≡◌, ℕ, ◌+◌, ◌<◌, ◌≤◌, List, [], ◌∷◌, ◌++◌, Bool, true, false, if◌then◌else◌, refl, sym, ap, ◌∙◌, subst, inl, inr, arith, length}
+use Rattle.std.proofs.Common.{◌≡◌, ℕ, List, [], ◌++◌, true, false, refl, subst, arith}
 use Rattle.pk_ctypes.specs.declared.places.Pos.{Pos}
 use Rattle.pk_ctypes.specs.declared.types.IntType.{IntType}
 use Rattle.pk_ctypes.specs.declared.types.Op.{Op}
@@ -9,19 +9,17 @@ use Rattle.pk_typed.specs.Trees as tree
 use Rattle.pk_welltyped.specs.Listed.{Numbered, calls_in, calls_in_effect}
 use Rattle.pk_welltyped.specs.WellTyped.{IsValue}
 use Rattle.pk_graph.specs.Trees.{Guard}
-use Rattle.pk_draft.specs.Drafts.{Given, at, fresh, link}
-use Rattle.pk_lower_row.specs.Shapes.{makes}
-use Rattle.pk_lower_row.specs.Contexts.{Context}
+use Rattle.pk_draft.specs.Drafts.{at, fresh, link}
 use Rattle.pk_lower_row.specs.Rows as rows
 use Rattle.pk_lower_expression.specs.Expressions.{target, ways, performed}
 use Rattle.pk_lower_statement.specs.declared.statements.Exits.{Exits}
 use Rattle.pk_meaning.specs.Work as work
 use Rattle.pk_meaning.specs.Work.{Place, Work, Way, Onward}
 use Rattle.pk_meaning.specs.Steps as meaning
-use Rattle.pk_visits.proofs.Slots.{Slot, slots, SlotTree, Draft, Edge, edge, Among, Grows, last_among}
-use Rattle.pk_visits.proofs.Grows.{grows_refl, grows_trans, fresh_one_grows, link_grows, guards_grow}
+use Rattle.pk_visits.proofs.Slots.{Draft, edge, Grows, last_among}
+use Rattle.pk_visits.proofs.Grows.{grows_trans, fresh_one_grows, link_grows, guards_grow}
 use Rattle.pk_visits.proofs.Tells.{sane}
-use Rattle.pk_visits.proofs.Stands.{Whole, context_of, Held, held, around, AreCalm, ArePlain, ShowsAt, Stage, led_to, LaidWay, Laid}
+use Rattle.pk_visits.proofs.Stands.{Whole, context_of, Held, around, AreCalm, ShowsAt, Stage, led_to, LaidWay, Laid}
 use Rattle.pk_visits.proofs.Stages.{In, ways_grow, effect_grows, stage_first, stage_second, stage_until, stage_from, stage_point, stage_room, fresh_one}
 use Rattle.pk_visits.proofs.Operands.{calm_more}
 use Rattle.pk_visits.proofs.Doom.{calm_plain}
@@ -33,11 +31,23 @@ pub guards_laid : (g : Whole) (k : ℕ) (h : Place) (x : Exits) (e : ValueTree) 
 guards_laid g k h x e y n m i j d hs fits calm s ly ln =
     let c = context_of g k in
     let r = (ways c e).value d in
-    let t = link (Guard r.0 true) i r.1 in
-    (d, m, refl, fits, (λ q. calm), stage_until g k h (calls_in e) d r.1 (rows.guards i j r) s (guards_grow (In []) i j r),
-    (calm_plain d.variables hs calm, i, j,
-    s.leads.edges _ ((link_grows (In []) (Guard r.0 false) j t).edges _ (last_among r.1.edges (edge r.1.point (Guard r.0 true) i))),
-    s.leads.edges _ (last_among t.edges (edge r.1.point (Guard r.0 false) j)), ly, ln))
+    let t = link (Guard r.0 true) i r.1 in (
+      d,
+      m,
+      refl,
+      fits,
+      (λ q. calm),
+      stage_until g k h (calls_in e) d r.1 (rows.guards i j r) s (guards_grow (In []) i j r),
+      (
+        calm_plain d.variables hs calm,
+        i,
+        j,
+        s.leads.edges _ ((link_grows (In []) (Guard r.0 false) j t).edges _ (last_among r.1.edges (edge r.1.point (Guard r.0 true) i))),
+        s.leads.edges _ (last_among t.edges (edge r.1.point (Guard r.0 false) j)),
+        ly,
+        ln,
+      ),
+    )
 
 -- ---- `!`, `&&`, `||`, the comma
 
@@ -82,10 +92,21 @@ both_laid g k h x a b y n p hs (d, m, i, j, is, fits, calm, s, ly, ln) =
     let ga = (ways_grow c a).choice d.points j (fresh 1 d) in
     let gb = (ways_grow c b).choice i j (at d.points e) in
     let s0 = stage_from g k h (In []) (calls_in a ++ calls_in b) d (fresh 1 d) f s (fresh_one_grows (In []) d) in
-    let va = ga.variables in
-    (fresh 1 d, m, d.points, j, is, fits.0, calm, stage_first g k h (calls_in a) (calls_in b) (fresh 1 d) e f s0 gb,
-    (shows_fresh g k h _ d f s (grows_trans ((sane c a).choice d.points j (fresh 1 d)) ((sane c b).choice i j (at d.points e))),
-    (x, (at d.points e, m, i, j, refl, fits.1, calm_more d.variables e.variables hs va calm, stage_second g k h (In (led_to c (calls_in a))) (calls_in a) (calls_in b) (fresh 1 d) (at d.points e) f s0 ga, ly, ln))), ln)
+    let va = ga.variables in (
+      fresh 1 d,
+      m,
+      d.points,
+      j,
+      is,
+      fits.0,
+      calm,
+      stage_first g k h (calls_in a) (calls_in b) (fresh 1 d) e f s0 gb,
+      (
+        shows_fresh g k h _ d f s (grows_trans ((sane c a).choice d.points j (fresh 1 d)) ((sane c b).choice i j (at d.points e))),
+        (x, (at d.points e, m, i, j, refl, fits.1, calm_more d.variables e.variables hs va calm, stage_second g k h (In (led_to c (calls_in a))) (calls_in a) (calls_in b) (fresh 1 d) (at d.points e) f s0 ga, ly, ln)),
+      ),
+      ln,
+    )
 
 pub either_laid : (g : Whole) (k : ℕ) (h : Place) (x : Exits) (a b : ValueTree) (y n : Way) (p : ℕ) (hs : List Held) → Laid g k h x (work.Test (tree.or a b) y n) p hs
     → Laid g k h x (work.Test a y (Onward h (work.Test b y n))) p hs
@@ -97,10 +118,21 @@ either_laid g k h x a b y n p hs (d, m, i, j, is, fits, calm, s, ly, ln) =
     let ga = (ways_grow c a).choice i d.points (fresh 1 d) in
     let gb = (ways_grow c b).choice i j (at d.points e) in
     let s0 = stage_from g k h (In []) (calls_in a ++ calls_in b) d (fresh 1 d) f s (fresh_one_grows (In []) d) in
-    let va = ga.variables in
-    (fresh 1 d, m, i, d.points, is, fits.0, calm, stage_first g k h (calls_in a) (calls_in b) (fresh 1 d) e f s0 gb, ly,
-    (shows_fresh g k h _ d f s (grows_trans ((sane c a).choice i d.points (fresh 1 d)) ((sane c b).choice i j (at d.points e))),
-    (x, (at d.points e, m, i, j, refl, fits.1, calm_more d.variables e.variables hs va calm, stage_second g k h (In (led_to c (calls_in a))) (calls_in a) (calls_in b) (fresh 1 d) (at d.points e) f s0 ga, ly, ln))))
+    let va = ga.variables in (
+      fresh 1 d,
+      m,
+      i,
+      d.points,
+      is,
+      fits.0,
+      calm,
+      stage_first g k h (calls_in a) (calls_in b) (fresh 1 d) e f s0 gb,
+      ly,
+      (
+        shows_fresh g k h _ d f s (grows_trans ((sane c a).choice i d.points (fresh 1 d)) ((sane c b).choice i j (at d.points e))),
+        (x, (at d.points e, m, i, j, refl, fits.1, calm_more d.variables e.variables hs va calm, stage_second g k h (In (led_to c (calls_in a))) (calls_in a) (calls_in b) (fresh 1 d) (at d.points e) f s0 ga, ly, ln)),
+      ),
+    )
 
 pub comma_laid : (g : Whole) (k : ℕ) (h : Place) (x : Exits) (f : EffectTree) (v : ValueTree) (y n : Way) (p : ℕ) (hs : List Held) → Laid g k h x (work.Test (tree.then_value f v) y n) p hs
     → Laid g k h x (work.Perform f (work.Test v y n)) p hs
@@ -109,10 +141,26 @@ comma_laid g k h x f v y n p hs (d, m, i, j, is, fits, calm, s, ly, ln) =
     let c = context_of g k in
     let e = performed c f d in
     let gf = effect_grows c f d in
-    let gv = (ways_grow c v).choice i j e in
-    (d, m, is, fits.0, (λ q. calm), stage_first g k h (calls_in_effect f) (calls_in v) d e ((ways c v).choice i j e) s gv,
-    (e, m, i, j, refl, fits.1, calm_more d.variables e.variables hs gf.variables calm,
-    stage_second g k h (In (led_to c (calls_in_effect f))) (calls_in_effect f) (calls_in v) d e ((ways c v).choice i j e) s gf, ly, ln))
+    let gv = (ways_grow c v).choice i j e in (
+      d,
+      m,
+      is,
+      fits.0,
+      (λ q. calm),
+      stage_first g k h (calls_in_effect f) (calls_in v) d e ((ways c v).choice i j e) s gv,
+      (
+        e,
+        m,
+        i,
+        j,
+        refl,
+        fits.1,
+        calm_more d.variables e.variables hs gf.variables calm,
+        stage_second g k h (In (led_to c (calls_in_effect f))) (calls_in_effect f) (calls_in v) d e ((ways c v).choice i j e) s gf,
+        ly,
+        ln,
+      ),
+    )
 
 -- ---- every test
 

@@ -1,28 +1,27 @@
 -- Where a tree that waits faults, the graph faults from this point on: the program faults where it evaluates an operand, the graph where it uses the tree.
-use Rattle.std.proofs.Common.{◌≡◌, ℕ, zero, suc, ◌+◌, ◌⊎◌, List, [], ◌∷◌, length, Bool, true, false, if◌then◌else◌, refl, sym, ap, ◌∙◌, subst, inl, inr, arith, ℤ}
-use Rattle.std.specs.Prelude.{pos, Ok, Err, Result, slice_set}
+use Rattle.std.proofs.Common.{◌≡◌, ℕ, zero, suc, ◌+◌, ◌⊎◌, List, [], ◌∷◌, length, Bool, true, false, if◌then◌else◌, refl, ap, ◌∙◌, subst, inl, inr, arith, ℤ}
+use Rattle.std.specs.Prelude.{pos, Ok, Err, slice_set}
 use Rattle.pk_ctypes.specs.declared.types.IntType.{IntType}
 use Rattle.pk_ctypes.specs.declared.types.IntType.TheVariants.{Int}
-use Rattle.pk_ctypes.specs.Types.{wrapped}
 use Rattle.pk_ctypes.specs.Operators.{result_type}
-use Rattle.pk_typed.specs.Trees.{ValueTree, EffectTree, ValueTrees, no_values, value_before}
+use Rattle.pk_typed.specs.Trees.{ValueTree, ValueTrees, no_values, value_before}
 use Rattle.pk_typed.specs.Types.{type_of}
 use Rattle.pk_ctypes.specs.declared.faults.Fault.TheVariants as faults
 use Rattle.pk_graph.specs.declared.trees.Site.{Site}
 use Rattle.pk_graph.specs.Trees.{constant, variable, converted, unary, binary, ArrayOf, Set, Load, Store, Guard, Check}
 use Rattle.pk_graph.specs.Steps as steps
 use Rattle.pk_graph.specs.Steps.{Numbers, Failure, tree_value, effect, with_value, and_then, indexed}
-use Rattle.pk_draft.specs.Folding.{conversion, unary_tree, operated_tree, updated_tree}
+use Rattle.pk_draft.specs.Folding.{conversion, unary_tree, operated_tree}
 use Rattle.pk_lower_row.specs.Shapes.{makes, makes_effect, any_makes}
 use Rattle.pk_lower_row.specs.Contexts.{Context}
 use Rattle.pk_lower_row.specs.Rows.{Passed, passed_before}
-use Rattle.pk_lower_expression.specs.Expressions.{ways, performed, passed}
+use Rattle.pk_lower_expression.specs.Expressions.{ways, passed}
 use Rattle.pk_lower_statement.specs.declared.statements.Exits.{Exits}
-use Rattle.pk_meaning.specs.Objects.{Object, local}
+use Rattle.pk_meaning.specs.Objects.{local}
 use Rattle.pk_meaning.specs.Work as work
 use Rattle.pk_meaning.specs.Work.{Place, Work}
-use Rattle.pk_visits.proofs.Slots.{Slot, own, temporary, Draft, SlotTree, Edge, edge, Memory, memory, memory_numbers, with_memory, Among}
-use Rattle.pk_visits.proofs.Stands.{Whole, context_of, Held, held, IsApart, AreApart, IsCalm, AreCalm, IsPlain, ArePlain, ArePlainUnder, picked, pushed, Binds, Passes, site_at, cells, Laid}
+use Rattle.pk_visits.proofs.Slots.{Slot, own, temporary, Draft, SlotTree, Memory, memory, memory_numbers, with_memory}
+use Rattle.pk_visits.proofs.Stands.{Whole, context_of, Held, held, AreApart, IsCalm, AreCalm, IsPlain, ArePlain, ArePlainUnder, picked, pushed, Binds, Passes, site_at, cells, Laid}
 use Rattle.pk_visits.proofs.Values.{conversion_ok, conversion_fault, unary_fault, operated_left, operated_right}
 use Rattle.pk_visits.proofs.Stores.{apart_value}
 use Rattle.pk_visits.proofs.Silent.{silent, silent_effect, left_false, right_false}
@@ -295,7 +294,7 @@ doom g chosen k h x f (work.Bind j i ts w) p hs m l b = doomed_binds g chosen k 
 doom g chosen k h x f (work.Enter j w) p hs m l b = absurd (calm_sound _ m f hs l.2 b)
 doom g chosen k h x f (work.Leave c) p hs m l b = absurd (plain_sound m f hs l.0 b)
 doom g chosen k h x f (work.Return c) p hs m l b = absurd (plain_sound m f hs l.0 b)
-doom g chosen k h x f (work.Turn j l e a) p hs m q b = absurd (plain_sound m f hs q.0 b)
+doom g chosen k h x f (work.Turn j l e a) p hs m q b = absurd (plain_sound m f hs q.1 b)
 doom g chosen k h x f (work.Back j l e a) p hs m q b = absurd (plain_sound m f hs q.0 b)
 doom g chosen k h x f (work.Choose t zs i c s j a) p [] m l b = absurd l
 doom g chosen k h x f (work.Choose t zs i c s j a) p (v ∷ hs) m l b = absurd (calm_sound l.0.variables m f (v ∷ hs) l.10 b)

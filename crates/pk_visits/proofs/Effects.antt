@@ -1,5 +1,5 @@
 -- From the work of an expression whose value isn't used to that of its parts.
-use Rattle.std.proofs.Common.{◌≡◌, ℕ, ◌+◌, ◌<◌, ◌≤◌, List, [], ◌∷◌, ◌++◌, Bool, true, false, not, ◌||◌, if◌then◌else◌, refl, sym, ap, ◌∙◌, subst, inl, inr, arith, length}
+use Rattle.std.proofs.Common.{◌≡◌, ℕ, List, [], ◌∷◌, ◌++◌, Bool, true, false, not, ◌||◌, if◌then◌else◌, refl, sym, ap, ◌∙◌, subst, inl, inr, arith}
 use Rattle.std.specs.Prelude.{pos}
 use Rattle.pk_ctypes.specs.declared.places.Pos.{Pos}
 use Rattle.pk_ctypes.specs.declared.types.IntType.{IntType}
@@ -12,14 +12,14 @@ use Rattle.pk_typed.specs.Trees.{ValueTree, EffectTree}
 use Rattle.pk_typed.specs.Trees as tree
 use Rattle.pk_typed.specs.Types.{type_of}
 use Rattle.pk_welltyped.specs.Listed.{Numbered, calls_at_place, calls_in, calls_in_effect}
-use Rattle.pk_welltyped.specs.WellTyped.{Kind, scalar, IsPlace, IsValue, IsEffect}
-use Rattle.pk_graph.specs.Trees.{constant, variable, Set, Check}
-use Rattle.pk_draft.specs.Drafts.{Given, at, fresh, emit, with_temporary, next_temporary, nowhere}
+use Rattle.pk_welltyped.specs.WellTyped.{scalar, IsPlace, IsValue, IsEffect}
+use Rattle.pk_graph.specs.Trees.{variable, Set, Check}
+use Rattle.pk_draft.specs.Drafts.{Given, at, fresh, emit, with_temporary, next_temporary}
 use Rattle.pk_draft.specs.Folding.{conversion, updated_tree}
 use Rattle.pk_lower_row.specs.declared.shapes.Shape.{Shape}
 use Rattle.pk_lower_row.specs.declared.shapes.Shape.TheVariants.{Fixed, Temporary, Named, Other}
 use Rattle.pk_lower_row.specs.Shapes.{makes, makes_effect, shape_of, is_plain}
-use Rattle.pk_lower_row.specs.Contexts.{Context, variable_of, site}
+use Rattle.pk_lower_row.specs.Contexts.{variable_of, site}
 use Rattle.pk_lower_row.specs.Rows as rows
 use Rattle.pk_lower_row.specs.Rows.{one_tree, stored_unless}
 use Rattle.pk_lower_expression.specs.Expressions.{target, ways, performed}
@@ -29,18 +29,18 @@ use Rattle.pk_meaning.specs.Programs.{object_of}
 use Rattle.pk_meaning.specs.Work as work
 use Rattle.pk_meaning.specs.Work.{Place, Work, Onward, Refused}
 use Rattle.pk_meaning.specs.Steps as meaning
-use Rattle.pk_visits.proofs.Slots.{Slot, own, temporary, slots, SlotTree, Draft, Among, edge, Grows}
-use Rattle.pk_visits.proofs.Grows.{grows_refl, grows_trans, emit_grows, made_grows, fresh_one_grows, unless_grows, zero_grows}
+use Rattle.pk_visits.proofs.Slots.{Slot, slots, SlotTree, Draft, Grows}
+use Rattle.pk_visits.proofs.Grows.{grows_refl, grows_trans, emit_grows, fresh_one_grows, unless_grows}
 use Rattle.pk_visits.proofs.Growing.{lowered}
-use Rattle.pk_visits.proofs.Tells.{Tells, variable_is, shapes, sane, sane_effect}
-use Rattle.pk_visits.proofs.Stands.{Whole, context_of, Held, held, around, AreCalm, AreQuiet, IsPlain, ArePlain, ShowsAt, Writes, Stage, led_to, LaidWay, Laid}
+use Rattle.pk_visits.proofs.Tells.{Tells, shapes, sane}
+use Rattle.pk_visits.proofs.Stands.{Whole, context_of, Held, held, around, AreCalm, AreQuiet, IsPlain, Stage, led_to, Laid}
 use Rattle.pk_visits.proofs.Stages.{In, ways_grow, effect_grows, stage_first, stage_second, stage_until, stage_from, stage_edge}
 use Rattle.pk_visits.proofs.Operands.{calm_more}
 use Rattle.pk_visits.proofs.Trees.{stage_names, has_kind, or_first, or_second, writes_scalar}
 use Rattle.pk_visits.proofs.ElementTrees.{writes_temporary, put_laid, renew_laid}
 use Rattle.pk_visits.proofs.Conditions.{shows_fresh}
 use Rattle.pk_visits.proofs.Operators.{one_in}
-use Rattle.pk_visits.proofs.Doom.{calm_plain, both_bools}
+use Rattle.pk_visits.proofs.Doom.{calm_plain}
 
 -- a tree of a plain shape
 plain_shape : (n : ℕ) (s : Shape) (e : SlotTree) → Tells n s e → is_plain s ≡ true → IsPlain e
@@ -74,10 +74,16 @@ drop_laid g k h x v w n d hs same fits quiet s l =
     let s' = subst (λ e. Stage g k h (calls_in v) d e) same s in
     let l' = subst (λ (e : Draft). Laid g k h x w e.point hs) same l in
     let ns = stage_names g k h _ (In (led_to c (calls_in v))) d f s' (grows_trans gv (unless_grows (In (led_to c (calls_in v))) (is_plain (shape_of v)) (type_of v) r)) in
-    let le = gv.variables in
-    (d, n, refl, fits, (λ m. quiet (or_first (makes v) (not (is_plain (shape_of v))) m)), stage_until g k h _ d r.1 f s' (unless_grows (In []) (is_plain (shape_of v)) (type_of v) r),
-    drop_unless g k h x w (is_plain (shape_of v)) (type_of v) d r hs (In (led_to c (calls_in v))) _ (gv.names ∙ ns) (plain_shape r.1.variables (shape_of v) r.0 (shapes c v d ns))
-    (λ m. calm_more d.variables r.1.variables hs le (quiet (or_second (makes v) (not (is_plain (shape_of v))) (not_true (is_plain (shape_of v)) m)))) gv s' l')
+    let le = gv.variables in (
+      d,
+      n,
+      refl,
+      fits,
+      (λ m. quiet (or_first (makes v) (not (is_plain (shape_of v))) m)),
+      stage_until g k h _ d r.1 f s' (unless_grows (In []) (is_plain (shape_of v)) (type_of v) r),
+      drop_unless g k h x w (is_plain (shape_of v)) (type_of v) d r hs (In (led_to c (calls_in v))) _ (gv.names ∙ ns) (plain_shape r.1.variables (shape_of v) r.0 (shapes c v d ns))
+          (λ m. calm_more d.variables r.1.variables hs le (quiet (or_second (makes v) (not (is_plain (shape_of v))) (not_true (is_plain (shape_of v)) m)))) gv s' l',
+    )
 
 -- ---- unused values
 
@@ -95,16 +101,22 @@ advance_laid g k h x op at' o t y true w p hs (d, n, is, fits, quiet, s, l) =
     let c = context_of g k in
     let i = Set (variable_of c y d) (updated_tree op (site c at') o t Int (variable (variable_of c y d)) one_tree) in
     let ns = stage_names g k h _ (In []) d (emit i d) s (emit_grows (In []) i d) in
-    subst (λ q. Laid g k h x (work.Advance op at' o t (object_of k y) w) q hs) is
-    (d.points, has_kind g k n (scalar t) y s.path fits.1,
-    writes_scalar g k h d.variables y (λ u. updated_tree op (site c at') o t Int (variable u) one_tree) d d hs (In []) _ ns s (grows_refl (In []) d) (quiet refl), l)
+    subst (λ q. Laid g k h x (work.Advance op at' o t (object_of k y) w) q hs) is (
+      d.points,
+      has_kind g k n (scalar t) y s.path fits.1,
+      writes_scalar g k h d.variables y (λ u. updated_tree op (site c at') o t Int (variable u) one_tree) d d hs (In []) _ ns s (grows_refl (In []) d) (quiet refl),
+      l,
+    )
 advance_laid g k h x op at' o t y false w p hs (d, n, is, fits, quiet, s, l) =
     let c = context_of g k in
     let i = Set (variable_of c y d) (updated_tree op (site c at') o t Int (variable (variable_of c y d)) one_tree) in
     let ns = stage_names g k h _ (In []) d (emit i d) s (emit_grows (In []) i d) in
-    subst (λ q. Laid g k h x (work.Advance op at' o t (object_of k y) w) q hs) is
-    (d.points, has_kind g k n (scalar t) y s.path fits.1,
-    writes_scalar g k h d.variables y (λ u. updated_tree op (site c at') o t Int (variable u) one_tree) d d hs (In []) _ ns s (grows_refl (In []) d) (quiet refl), l)
+    subst (λ q. Laid g k h x (work.Advance op at' o t (object_of k y) w) q hs) is (
+      d.points,
+      has_kind g k n (scalar t) y s.path fits.1,
+      writes_scalar g k h d.variables y (λ u. updated_tree op (site c at') o t Int (variable u) one_tree) d d hs (In []) _ ns s (grows_refl (In []) d) (quiet refl),
+      l,
+    )
 
 nothing_behind : {A : Type 0} (xs : List A) → xs ++ [] ≡ xs
 nothing_behind [] = refl
@@ -146,10 +158,23 @@ unused_laid g k h x (tree.then_value f v) w p hs (d, n, is, fits, quiet, s, l) =
     let gf = effect_grows c f d in
     let gv = (ways_grow c v).unused e in
     let whole = makes_effect f || makes v in
-    let rest = not (is_plain (shape_of v)) in
-    (d, n, is, fits.0, (λ m. quiet (or_first whole rest (or_first (makes_effect f) (makes v) m))), stage_first g k h (calls_in_effect f) (calls_in v) d e ((ways c v).unused e) s gv,
-    (e, n, refl, fits.1, (λ m. calm_more d.variables e.variables hs gf.variables (quiet (regroup (makes_effect f) (makes v) rest m))),
-    stage_second g k h (In (led_to c (calls_in_effect f))) (calls_in_effect f) (calls_in v) d e ((ways c v).unused e) s gf, l)) where
+    let rest = not (is_plain (shape_of v)) in (
+      d,
+      n,
+      is,
+      fits.0,
+      (λ m. quiet (or_first whole rest (or_first (makes_effect f) (makes v) m))),
+      stage_first g k h (calls_in_effect f) (calls_in v) d e ((ways c v).unused e) s gv,
+      (
+        e,
+        n,
+        refl,
+        fits.1,
+        (λ m. calm_more d.variables e.variables hs gf.variables (quiet (regroup (makes_effect f) (makes v) rest m))),
+        stage_second g k h (In (led_to c (calls_in_effect f))) (calls_in_effect f) (calls_in v) d e ((ways c v).unused e) s gf,
+        l,
+      ),
+    ) where
       regroup : (a b c : Bool) → (b || c) ≡ true → ((a || b) || c) ≡ true
       regroup true b c h = refl
       regroup false b c h = h
@@ -174,10 +199,23 @@ then_effect_laid g k h x a b w p hs (d, n, is, fits, quiet, s, l) =
     let c = context_of g k in
     let e = performed c a d in
     let ga = effect_grows c a d in
-    let gb = effect_grows c b e in
-    (d, n, is, fits.0, (λ m. quiet (or_first (makes_effect a) (makes_effect b) m)), stage_first g k h (calls_in_effect a) (calls_in_effect b) d e (performed c b e) s gb,
-    (e, n, refl, fits.1, (λ m. calm_more d.variables e.variables hs ga.variables (quiet (or_second (makes_effect a) (makes_effect b) m))),
-    stage_second g k h (In (led_to c (calls_in_effect a))) (calls_in_effect a) (calls_in_effect b) d e (performed c b e) s ga, l))
+    let gb = effect_grows c b e in (
+      d,
+      n,
+      is,
+      fits.0,
+      (λ m. quiet (or_first (makes_effect a) (makes_effect b) m)),
+      stage_first g k h (calls_in_effect a) (calls_in_effect b) d e (performed c b e) s gb,
+      (
+        e,
+        n,
+        refl,
+        fits.1,
+        (λ m. calm_more d.variables e.variables hs ga.variables (quiet (or_second (makes_effect a) (makes_effect b) m))),
+        stage_second g k h (In (led_to c (calls_in_effect a))) (calls_in_effect a) (calls_in_effect b) d e (performed c b e) s ga,
+        l,
+      ),
+    )
 
 -- an assumption, which holds from here on
 assumed_laid : (g : Whole) (k : ℕ) (h : Place) (x : Exits) (v : ValueTree) (w : Work) (n : ℕ) (d : Draft) (hs : List Held) → IsValue (around g k n) v → AreCalm d.variables hs
@@ -185,9 +223,18 @@ assumed_laid : (g : Whole) (k : ℕ) (h : Place) (x : Exits) (v : ValueTree) (w 
 assumed_laid g k h x v w n d hs fits calm s l =
     let c = context_of g k in
     let e = (ways c v).choice d.points 0 (fresh 1 d) in
-    let s0 = stage_from g k h (In []) _ d (fresh 1 d) (at d.points e) s (fresh_one_grows (In []) d) in
-    (fresh 1 d, n, d.points, 0, refl, fits, calm, stage_until g k h _ (fresh 1 d) e (at d.points e) s0 (grows_refl (In []) e),
-    (shows_fresh g k h _ d (at d.points e) s ((sane c v).choice d.points 0 (fresh 1 d)), (x, l)), refl)
+    let s0 = stage_from g k h (In []) _ d (fresh 1 d) (at d.points e) s (fresh_one_grows (In []) d) in (
+      fresh 1 d,
+      n,
+      d.points,
+      0,
+      refl,
+      fits,
+      calm,
+      stage_until g k h _ (fresh 1 d) e (at d.points e) s0 (grows_refl (In []) e),
+      (shows_fresh g k h _ d (at d.points e) s ((sane c v).choice d.points 0 (fresh 1 d)), (x, l)),
+      refl,
+    )
 
 pub assume_laid : (g : Whole) (k : ℕ) (h : Place) (x : Exits) (q : Pos) (v : ValueTree) (w : Work) (p : ℕ) (hs : List Held) → Laid g k h x (work.Perform (tree.assume q v) w) p hs
     → Laid g k h x (work.Test (meaning.as_int v) (Onward h w) Refused) p hs

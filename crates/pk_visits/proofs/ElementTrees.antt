@@ -1,6 +1,6 @@
 -- From the work of an expression to that of its parts: elements, `++` and `--`, and what holds any number.
-use Rattle.std.proofs.Common.{◌≡◌, ℕ, ◌+◌, ◌<◌, ◌≤◌, List, [], ◌∷◌, ◌++◌, Bool, true, false, refl, sym, ap, ◌∙◌, subst, inl, inr, arith, length, Option, Some, None}
-use Rattle.std.specs.Prelude.{pos, slice_get, slice_index_or, option_map}
+use Rattle.std.proofs.Common.{◌≡◌, ℕ, ◌+◌, ◌<◌, ◌≤◌, List, [], ◌∷◌, ◌++◌, Bool, true, false, refl, sym, ap, ◌∙◌, subst, arith, length, Option, Some, None}
+use Rattle.std.specs.Prelude.{slice_get, slice_index_or, option_map}
 use Rattle.std.specs.Option.{option_and_then}
 use Rattle.pk_ctypes.specs.declared.places.Pos.{Pos}
 use Rattle.pk_ctypes.specs.declared.types.IntType.{IntType}
@@ -12,10 +12,10 @@ use Rattle.pk_typed.specs.Trees.{ValueTree, FileObjectTree, LocalTree, StartTree
 use Rattle.pk_typed.specs.Trees as tree
 use Rattle.pk_typed.specs.Types.{type_of}
 use Rattle.pk_welltyped.specs.Listed.{Numbered, calls_at_place, calls_in}
-use Rattle.pk_welltyped.specs.WellTyped.{Kind, scalar, array, IsArray, IsObject, IsPlace, IsValue, kind_in_file, kind_among, length_at_start}
+use Rattle.pk_welltyped.specs.WellTyped.{Kind, scalar, array, IsArray, IsPlace, IsValue, kind_among, length_at_start}
 use Rattle.pk_graph.specs.Kinds.{count_of}
 use Rattle.pk_graph.specs.Trees.{constant, variable, converted, unary, binary, ArrayOf, Set, Havoc, Load, Store}
-use Rattle.pk_draft.specs.Drafts.{Given, emit, with_temporary, next_temporary, stored}
+use Rattle.pk_draft.specs.Drafts.{Given, emit, with_temporary, next_temporary}
 use Rattle.pk_draft.specs.Folding.{conversion, updated_tree}
 use Rattle.pk_graph.specs.declared.trees.Site.{Site}
 use Rattle.pk_lower_row.specs.declared.shapes.Shape.{Shape}
@@ -29,7 +29,7 @@ use Rattle.pk_lower_row.specs.Rows as rows
 use Rattle.pk_lower_row.specs.Rows.{two, one_tree}
 use Rattle.pk_lower_expression.specs.Expressions.{target, ways}
 use Rattle.pk_lower_statement.specs.declared.statements.Exits.{Exits}
-use Rattle.pk_meaning.specs.Objects.{Object, Array}
+use Rattle.pk_meaning.specs.Objects.{Object}
 use Rattle.pk_meaning.specs.Programs as program
 use Rattle.pk_meaning.specs.Programs.{object_of}
 use Rattle.pk_meaning.specs.Work as work
@@ -39,9 +39,9 @@ use Rattle.pk_visits.proofs.Slots.{Slot, own, temporary, slots, SlotTree, Draft,
 use Rattle.pk_visits.proofs.Grows.{grows_refl, grows_trans, emit_grows, temporary_grows, made_grows, two_grows, held_grows, loaded_grows}
 use Rattle.pk_visits.proofs.Growing.{lowered}
 use Rattle.pk_visits.proofs.Tells.{Tells, variable_is, shapes, sane}
-use Rattle.pk_visits.proofs.Stands.{Whole, context_of, Held, held, in_temporary, around, IsApart, AreApart, AreCalm, AreQuiet, IsPlain, ArePlain, HasKind, IsScalar, IsArrayOf, cells, Writes, Sets, Stage, led_to, Laid}
-use Rattle.pk_visits.proofs.Stages.{In, ways_grow, stage_first, stage_second, stage_until, stage_from, stage_edge}
-use Rattle.pk_visits.proofs.Operands.{UnlessLoose, all_own, all_temporary, calm_more, next_is, held_calm, keep_laid, two_laid}
+use Rattle.pk_visits.proofs.Stands.{Whole, context_of, Held, held, in_temporary, around, IsApart, AreCalm, IsPlain, HasKind, IsScalar, IsArrayOf, cells, Writes, Stage, led_to, Laid}
+use Rattle.pk_visits.proofs.Stages.{In, ways_grow, stage_until, stage_edge}
+use Rattle.pk_visits.proofs.Operands.{UnlessLoose, all_own, all_temporary, next_is, keep_laid, two_laid}
 use Rattle.pk_visits.proofs.Trees.{stage_names, has_kind, writes_scalar}
 use Rattle.pk_visits.proofs.Operators.{one_in}
 use Rattle.pk_visits.proofs.Doom.{calm_plain}
@@ -66,11 +66,13 @@ pub any_laid : (g : Whole) (k : ℕ) (h : Place) (x : Exits) (t : IntType) (at :
 unfolding ways type_of
 any_laid g k h x t at w p hs (d, n, is, fits, quiet, s, l) =
     let f = emit (Havoc (next_temporary d) t 1) (with_temporary t d) in
-    let ns = stage_names g k h _ (In []) d f s (made_grows (In []) (Havoc (next_temporary d) t 1) t d) in
-    (d.points, d.variables,
-    subst (λ q. Writes g k h q (temporary d.variables) (Havoc (temporary d.variables) t 1) d.points hs) is
-    (writes_temporary g k h d.variables t (λ y. Havoc y t 1) d d f hs (In []) (In []) _ ns s (grows_refl (In []) d) (grows_refl (In []) f) (omega arith) (quiet refl)),
-    subst (λ y. Laid g k h x w d.points (held (variable y) t ∷ hs)) (next_is d ns) l)
+    let ns = stage_names g k h _ (In []) d f s (made_grows (In []) (Havoc (next_temporary d) t 1) t d) in (
+      d.points,
+      d.variables,
+      subst (λ q. Writes g k h q (temporary d.variables) (Havoc (temporary d.variables) t 1) d.points hs) is
+          (writes_temporary g k h d.variables t (λ y. Havoc y t 1) d d f hs (In []) (In []) _ ns s (grows_refl (In []) d) (grows_refl (In []) f) (omega arith) (quiet refl)),
+      subst (λ y. Laid g k h x w d.points (held (variable y) t ∷ hs)) (next_is d ns) l,
+    )
 
 -- ---- arrays as the lowering has them
 
@@ -129,11 +131,21 @@ element_laid g k h x t y at i w p hs (d, n, is, fits, quiet, s, l) =
     let ns = stage_names g k h _ (λ z. Unit {0}) d f s (grows_trans ((sane c i).value d) (made_grows (λ z. Unit {0}) (j (next_temporary r.1)) t r.1)) in
     let nr = gi.names ∙ ns in
     let v = gi.variables in
-    let z = writes_temporary g k h d.variables t j d r.1 f hs (In (led_to c (calls_in i))) (In []) _ nr s gi (grows_refl (In []) f) v (quiet refl) in
-    (d, n, is, fits.1, (λ m. quiet refl), stage_until g k h _ d r.1 f s last,
-    (r.1.points, r.1.variables, is_array g k n t y s.path fits.0,
-    subst (λ (q : ArrayOf Slot). Writes g k h r.1.point (temporary r.1.variables) (Load (temporary r.1.variables) q (site c at) true r.0) r.1.points hs) (array_is g k t y d ns) z,
-    subst (λ u. Laid g k h x w r.1.points (held (variable u) t ∷ hs)) (next_is r.1 nr) l))
+    let z = writes_temporary g k h d.variables t j d r.1 f hs (In (led_to c (calls_in i))) (In []) _ nr s gi (grows_refl (In []) f) v (quiet refl) in (
+      d,
+      n,
+      is,
+      fits.1,
+      (λ m. quiet refl),
+      stage_until g k h _ d r.1 f s last,
+      (
+        r.1.points,
+        r.1.variables,
+        is_array g k n t y s.path fits.0,
+        subst (λ (q : ArrayOf Slot). Writes g k h r.1.point (temporary r.1.variables) (Load (temporary r.1.variables) q (site c at) true r.0) r.1.points hs) (array_is g k t y d ns) z,
+        subst (λ u. Laid g k h x w r.1.points (held (variable u) t ∷ hs)) (next_is r.1 nr) l,
+      ),
+    )
 
 -- ---- `++` and `--` on names
 
@@ -143,11 +155,20 @@ unfolding target ways IsPlace IsValue calls_at_place calls_in type_of
 step_laid g k h x op at o t y w p hs (d, n, is, fits, quiet, s, l) =
     let c = context_of g k in
     let i = Set (variable_of c y d) (updated_tree op (site c at) o t Int (variable (variable_of c y d)) one_tree) in
-    let ns = stage_names g k h _ (In []) d (emit i d) s (emit_grows (In []) i d) in
-    (d, n, is, one_in, (λ m. quiet refl), stage_until g k h _ d d (emit i d) s (emit_grows (In []) i d),
-    (d.points, has_kind g k n (scalar t) y s.path fits.1,
-    writes_scalar g k h d.variables y (λ u. updated_tree op (site c at) o t Int (variable u) one_tree) d d hs (In []) _ ns s (grows_refl (In []) d) (quiet refl),
-    subst (λ u. Laid g k h x w d.points (held (variable u) t ∷ hs)) (variable_is c y d ns) l))
+    let ns = stage_names g k h _ (In []) d (emit i d) s (emit_grows (In []) i d) in (
+      d,
+      n,
+      is,
+      one_in,
+      (λ m. quiet refl),
+      stage_until g k h _ d d (emit i d) s (emit_grows (In []) i d),
+      (
+        d.points,
+        has_kind g k n (scalar t) y s.path fits.1,
+        writes_scalar g k h d.variables y (λ u. updated_tree op (site c at) o t Int (variable u) one_tree) d d hs (In []) _ ns s (grows_refl (In []) d) (quiet refl),
+        subst (λ u. Laid g k h x w d.points (held (variable u) t ∷ hs)) (variable_is c y d ns) l,
+      ),
+    )
 
 -- `x++` used: its old value in a temporary, then the work that sets it
 pub after_laid : (g : Whole) (k : ℕ) (h : Place) (x : Exits) (op : Op) (at : Pos) (o t : IntType) (y : Variable) (w : Work) (p : ℕ) (hs : List Held)
@@ -165,13 +186,21 @@ after_laid g k h x op at o t y w p hs (d, n, is, fits, quiet, s, l) =
     let ns = stage_names g k h _ (In []) d (emit i e) s (grows_trans ge last) in
     let kind = has_kind g k n (scalar t) y s.path fits.1 in
     let z = writes_temporary g k h d.variables t (λ u. Set u (variable v)) d d (emit i e) hs (In []) (In []) _ ns s (grows_refl (In []) d) last (omega arith) (quiet refl) in
-    let b = writes_scalar g k h d.variables y (λ u. updated_tree op (site c at) o t Int (variable u) one_tree) d e hs (In []) _ ns s ge (quiet refl) in
-    (kind, (d.points, d.variables,
-    subst (λ q. Writes g k h q (temporary d.variables) (Set (temporary d.variables) (variable (own (object_of k y)))) d.points hs) is
-    (subst (λ u. Writes g k h d.point (temporary d.variables) (Set (temporary d.variables) (variable u)) d.points hs) (variable_is c y d ns) z),
-    (e.points, kind,
-    record { there = b.there; shown = b.shown; apart = (λ q. subst is_temporary (sym q) tt, b.apart); plain = (tt, b.plain) },
-    subst (λ u. Laid g k h x w e.points (held (variable u) t ∷ hs)) (next_is d ns) l))) where
+    let b = writes_scalar g k h d.variables y (λ u. updated_tree op (site c at) o t Int (variable u) one_tree) d e hs (In []) _ ns s ge (quiet refl) in (
+      kind,
+      (
+        d.points,
+        d.variables,
+        subst (λ q. Writes g k h q (temporary d.variables) (Set (temporary d.variables) (variable (own (object_of k y)))) d.points hs) is
+            (subst (λ u. Writes g k h d.point (temporary d.variables) (Set (temporary d.variables) (variable u)) d.points hs) (variable_is c y d ns) z),
+        (
+          e.points,
+          kind,
+          record { there = b.there; shown = b.shown; apart = (λ q. subst is_temporary (sym q) tt, b.apart); plain = (tt, b.plain) },
+          subst (λ u. Laid g k h x w e.points (held (variable u) t ∷ hs)) (next_is d ns) l,
+        ),
+      ),
+    ) where
       is_temporary : Slot → Type 0
       is_temporary (own z) = ⊥
       is_temporary (temporary m) = Unit {0}
@@ -283,14 +312,17 @@ put_laid g k h x at t y i e w n d hs fa fi fe calm s l =
     let any2 = two_grows Any how (lowered c i) (lowered c e) (sane c i) (sane c e) d in
     let ns = stage_names g k h _ Any d f s (grows_trans any2 (emit_grows Any (j a) p.draft)) in
     let z = stage_edge g k h Any (In []) _ d p.draft f (j a) s any2 (grows_refl (In []) f) in
-    two_laid g k h x (work.Store at b w) how i e n d f hs ns (λ m. ap strong_if m) (quiet_loose (makes e) d.variables hs calm) (λ m. calm) fi (λ m. calm) fe s (emit_grows (In []) (j a) p.draft)
-    (p.draft.points, is_array g k n t y s.path fa,
-    record {
-      there = subst (λ q. Among (edge p.draft.point (j q) p.draft.points) g.edges) (array_is g k t y d ns) z.0;
-      shown = z.1;
-      apart = all_own d.variables (object_of k y) hs calm;
-      plain = calm_plain d.variables hs calm;
-    }, l)
+    two_laid g k h x (work.Store at b w) how i e n d f hs ns (λ m. ap strong_if m) (quiet_loose (makes e) d.variables hs calm) (λ m. calm) fi (λ m. calm) fe s (emit_grows (In []) (j a) p.draft) (
+      p.draft.points,
+      is_array g k n t y s.path fa,
+      record {
+        there = subst (λ q. Among (edge p.draft.point (j q) p.draft.points) g.edges) (array_is g k t y d ns) z.0;
+        shown = z.1;
+        apart = all_own d.variables (object_of k y) hs calm;
+        plain = calm_plain d.variables hs calm;
+      },
+      l,
+    )
 
 -- used: the converted value in a temporary, which is stored and given
 pub kept_laid : (g : Whole) (k : ℕ) (h : Place) (x : Exits) (q : Pos) (at : Pos) (t : IntType) (y : Variable) (i e : ValueTree) (w : Work) (p : ℕ) (hs : List Held)
@@ -319,22 +351,29 @@ kept_laid g k h x q at t y i e w pt hs (d, n, is, fits, quiet, s, l) =
     let old = two_old c how i e d (not_loose (makes e)) ns in
     subst (λ o. Laid g k h x (work.Evaluate i (work.Keep (work.Evaluate e (work.Settle t (work.StoreKept at b w))))) o hs) is
     (two_laid g k h x (work.Settle t (work.StoreKept at b w)) how i e n d f hs ns (store_strong (makes e)) (calm_unless how d.variables hs calm) (λ z. calm) fits.0.1 (λ z. calm) fits.1 s
-    (grows_trans (made_grows (In []) (Set (next_temporary p.draft) v) t p.draft) last)
-    (p.draft.points, p.draft.variables,
-    record {
-      there = subst (λ u. Among (edge p.draft.point (Set u v) p.draft.points) g.edges) (next_is p.draft np) set_edge.0;
-      apart = (old_apart p.draft.variables p.draft.variables p.first (omega arith) old, all_temporary d.variables p.draft.variables hs le calm);
-      plain = (old_plain p.draft.variables p.first old, calm_plain d.variables hs calm);
-    },
-    (m.points, true, is_array g k n t y s.path fits.0.0, refl,
-    record {
-      there = subst (λ u. Among (edge p.draft.points (j (cells b) u) m.points) g.edges) (next_is p.draft np)
-          (subst (λ r. Among (edge p.draft.points (j r (next_temporary p.draft)) m.points) g.edges) (array_is g k t y d ns) put_edge.0);
-      shown = put_edge.1;
-      apart = ((λ o. absurd (subst is_own o tt)), all_own d.variables (object_of k y) hs calm);
-      plain = (tt, calm_plain d.variables hs calm);
-    },
-    subst (λ u. Laid g k h x w m.points (held (variable u) t ∷ hs)) (next_is p.draft np) l)))
+    (grows_trans (made_grows (In []) (Set (next_temporary p.draft) v) t p.draft) last) (
+      p.draft.points,
+      p.draft.variables,
+      record {
+        there = subst (λ u. Among (edge p.draft.point (Set u v) p.draft.points) g.edges) (next_is p.draft np) set_edge.0;
+        apart = (old_apart p.draft.variables p.draft.variables p.first (omega arith) old, all_temporary d.variables p.draft.variables hs le calm);
+        plain = (old_plain p.draft.variables p.first old, calm_plain d.variables hs calm);
+      },
+      (
+        m.points,
+        true,
+        is_array g k n t y s.path fits.0.0,
+        refl,
+        record {
+          there = subst (λ u. Among (edge p.draft.points (j (cells b) u) m.points) g.edges) (next_is p.draft np)
+              (subst (λ r. Among (edge p.draft.points (j r (next_temporary p.draft)) m.points) g.edges) (array_is g k t y d ns) put_edge.0);
+          shown = put_edge.1;
+          apart = ((λ o. absurd (subst is_own o tt)), all_own d.variables (object_of k y) hs calm);
+          plain = (tt, calm_plain d.variables hs calm);
+        },
+        subst (λ u. Laid g k h x w m.points (held (variable u) t ∷ hs)) (next_is p.draft np) l,
+      ),
+    ))
 
 -- ---- a[i] op= e, a[i]++
 
@@ -344,9 +383,9 @@ reload_laid : (g : Whole) (k : ℕ) (h : Place) (x : Exits) (at : Pos) (t : IntT
     → Stage g k h (calls_in i ++ calls_in e) d f
     → Grows (In []) (rows.loaded t (site (context_of g k) at) (lower.array_of (context_of g k) y d) (lowered (context_of g k) i) (lowered (context_of g k) e) d).draft f
     → Laid g k h x w (rows.loaded t (site (context_of g k) at) (lower.array_of (context_of g k) y d) (lowered (context_of g k) i) (lowered (context_of g k) e) d).draft.point
-        (held (rows.loaded t (site (context_of g k) at) (lower.array_of (context_of g k) y d) (lowered (context_of g k) i) (lowered (context_of g k) e) d).element t
-        ∷ held (rows.loaded t (site (context_of g k) at) (lower.array_of (context_of g k) y d) (lowered (context_of g k) i) (lowered (context_of g k) e) d).right (type_of e)
-        ∷ held (rows.loaded t (site (context_of g k) at) (lower.array_of (context_of g k) y d) (lowered (context_of g k) i) (lowered (context_of g k) e) d).index (type_of i) ∷ hs)
+    (held (rows.loaded t (site (context_of g k) at) (lower.array_of (context_of g k) y d) (lowered (context_of g k) i) (lowered (context_of g k) e) d).element t
+    ∷ held (rows.loaded t (site (context_of g k) at) (lower.array_of (context_of g k) y d) (lowered (context_of g k) i) (lowered (context_of g k) e) d).right (type_of e)
+    ∷ held (rows.loaded t (site (context_of g k) at) (lower.array_of (context_of g k) y d) (lowered (context_of g k) i) (lowered (context_of g k) e) d).index (type_of i) ∷ hs)
     → Laid g k h x (meaning.reload at (program.array_of g.program k t y) i e w) d.point hs
 reload_laid g k h x at t y i e w n d f hs ns fa fi fe calm s after l =
     let c = context_of g k in
@@ -374,16 +413,19 @@ reload_laid g k h x at t y i e w n d f hs ns fa fi fe calm s after l =
     let old2 = old_more p.draft.variables v.1.variables p.first le2 old in
     two_laid g k h x (work.Keep (work.Reload at b w)) how i e n d f hs ns (store_strong (makes e)) (calm_unless how d.variables hs calm) (λ m. calm) fi (λ m. calm) fe s behind
     (keep_laid g k h x (work.Reload at b w) Weak (shape_of e) (type_of e) r (held p.first (type_of i) ∷ hs) Any (In []) _ d f s any2 kept_after np
-    ((old_apart p.draft.variables p.draft.variables p.first (omega arith) old, all_temporary d.variables p.draft.variables hs le calm), (old_plain p.draft.variables p.first old, calm_plain d.variables hs calm))
-    (v.1.points, v.1.variables, is_array g k n t y s.path fa,
-    record {
-      there = subst (λ u. Among (edge v.1.point (j (cells b) u) v.1.points) g.edges) (next_is v.1 nv)
-          (subst (λ q. Among (edge v.1.point (j q (next_temporary v.1)) v.1.points) g.edges) (array_is g k t y d ns) edge'.0);
-      shown = edge'.1;
-      apart = (old_apart v.1.variables v.1.variables v.0 (omega arith) right, (old_apart v.1.variables v.1.variables p.first (omega arith) old2, all_temporary d.variables v.1.variables hs (omega (arith, le, le2)) calm));
-      plain = (old_plain v.1.variables v.0 right, (old_plain v.1.variables p.first old2, calm_plain d.variables hs calm));
-    },
-    subst (λ u. Laid g k h x w v.1.points (held (variable u) t ∷ held v.0 (type_of e) ∷ held p.first (type_of i) ∷ hs)) (next_is v.1 nv) l))
+    ((old_apart p.draft.variables p.draft.variables p.first (omega arith) old, all_temporary d.variables p.draft.variables hs le calm), (old_plain p.draft.variables p.first old, calm_plain d.variables hs calm)) (
+      v.1.points,
+      v.1.variables,
+      is_array g k n t y s.path fa,
+      record {
+        there = subst (λ u. Among (edge v.1.point (j (cells b) u) v.1.points) g.edges) (next_is v.1 nv)
+            (subst (λ q. Among (edge v.1.point (j q (next_temporary v.1)) v.1.points) g.edges) (array_is g k t y d ns) edge'.0);
+        shown = edge'.1;
+        apart = (old_apart v.1.variables v.1.variables v.0 (omega arith) right, (old_apart v.1.variables v.1.variables p.first (omega arith) old2, all_temporary d.variables v.1.variables hs (omega (arith, le, le2)) calm));
+        plain = (old_plain v.1.variables v.0 right, (old_plain v.1.variables p.first old2, calm_plain d.variables hs calm));
+      },
+      subst (λ u. Laid g k h x w v.1.points (held (variable u) t ∷ held v.0 (type_of e) ∷ held p.first (type_of i) ∷ hs)) (next_is v.1 nv) l,
+    ))
 
 -- what waits behind the load is old
 record Olds (c : Context) (t : IntType) (s : Site) (a : ArrayOf Slot) (i e : ValueTree) (d : Draft) : Type 0 where
@@ -421,7 +463,7 @@ loaded_any c t s a i e d = loaded_grows Any t s a (lowered c i) (lowered c e) (s
 pub renew_laid : (g : Whole) (k : ℕ) (h : Place) (x : Exits) (op : Op) (q : Pos) (o : IntType) (at : Pos) (t : IntType) (y : Variable) (i e : ValueTree) (w : Work) (n : ℕ) (d : Draft) (hs : List Held)
     → IsArray (around g k n) t y → IsValue (around g k n) i → IsValue (around g k n) e → AreCalm d.variables hs
     → Stage g k h (calls_in i ++ calls_in e) d
-        (rows.renew_unused op (site (context_of g k) q) o t (site (context_of g k) at) (lower.array_of (context_of g k) y d) (type_of e) (rows.loaded t (site (context_of g k) at) (lower.array_of (context_of g k) y d) (lowered (context_of g k) i) (lowered (context_of g k) e) d))
+    (rows.renew_unused op (site (context_of g k) q) o t (site (context_of g k) at) (lower.array_of (context_of g k) y d) (type_of e) (rows.loaded t (site (context_of g k) at) (lower.array_of (context_of g k) y d) (lowered (context_of g k) i) (lowered (context_of g k) e) d))
     → Laid g k h x w (rows.renew_unused op (site (context_of g k) q) o t (site (context_of g k) at) (lower.array_of (context_of g k) y d) (type_of e) (rows.loaded t (site (context_of g k) at) (lower.array_of (context_of g k) y d) (lowered (context_of g k) i) (lowered (context_of g k) e) d)).point hs
     → Laid g k h x (meaning.reload at (program.array_of g.program k t y) i e (work.Renew op q o at (program.array_of g.program k t y) w)) d.point hs
 renew_laid g k h x op q o at t y i e w n d hs fa fi fe calm s l =
@@ -435,16 +477,19 @@ renew_laid g k h x op q o at t y i e w n d hs fa fi fe calm s l =
     let ns = stage_names g k h _ Any d f s (grows_trans any2 (emit_grows Any (j a) p.draft)) in
     let z = stage_edge g k h Any (In []) _ d p.draft f (j a) s any2 (grows_refl (In []) f) in
     let u = olds c t (site c at) a i e d ns in
-    reload_laid g k h x at t y i e (work.Renew op q o at b w) n d f hs ns fa fi fe calm s (emit_grows (In []) (j a) p.draft)
-    (p.draft.points,
-    (old_plain p.draft.variables p.element u.element, (old_plain p.draft.variables p.right u.right, (old_plain p.draft.variables p.index u.index, calm_plain d.variables hs calm))),
-    is_array g k n t y s.path fa, refl,
-    record {
-      there = subst (λ r. Among (edge p.draft.point (j r) p.draft.points) g.edges) (array_is g k t y d ns) z.0;
-      shown = z.1;
-      apart = all_own d.variables (object_of k y) hs calm;
-      plain = calm_plain d.variables hs calm;
-    }, l)
+    reload_laid g k h x at t y i e (work.Renew op q o at b w) n d f hs ns fa fi fe calm s (emit_grows (In []) (j a) p.draft) (
+      p.draft.points,
+      (old_plain p.draft.variables p.element u.element, (old_plain p.draft.variables p.right u.right, (old_plain p.draft.variables p.index u.index, calm_plain d.variables hs calm))),
+      is_array g k n t y s.path fa,
+      refl,
+      record {
+        there = subst (λ r. Among (edge p.draft.point (j r) p.draft.points) g.edges) (array_is g k t y d ns) z.0;
+        shown = z.1;
+        apart = all_own d.variables (object_of k y) hs calm;
+        plain = calm_plain d.variables hs calm;
+      },
+      l,
+    )
 
 -- an old tree that isn't an object is apart from objects
 element_apart : (d : Draft) (x : Object) → d.names ≡ slots → IsApart (own x) (variable (next_temporary d))
@@ -471,16 +516,19 @@ replace_laid g k h x op q o at t y i w pt hs (d, n, is, fits, quiet, s, l) =
     let z = stage_edge g k h Any (In []) _ d p.draft f (j a) s any2 (grows_refl (In []) f) in
     let u = olds c t (site c at) a i e d ns in
     subst (λ m. Laid g k h x (meaning.reload at b i e (work.Replace op q o at b w)) m hs) is
-    (reload_laid g k h x at t y i e (work.Replace op q o at b w) n d f hs ns fits.1.0 fits.1.1 one_in calm s' (emit_grows (In []) (j a) p.draft)
-    (p.draft.points,
-    (old_plain p.draft.variables p.element u.element, (old_plain p.draft.variables p.right u.right, (old_plain p.draft.variables p.index u.index, calm_plain d.variables hs calm))),
-    is_array g k n t y s.path fits.1.0, refl,
-    record {
-      there = subst (λ r. Among (edge p.draft.point (j r) p.draft.points) g.edges) (array_is g k t y d ns) z.0;
-      shown = z.1;
-      apart = (element_apart v.1 (object_of k y) u.names, all_own d.variables (object_of k y) hs calm);
-      plain = (old_plain p.draft.variables p.element u.element, calm_plain d.variables hs calm);
-    }, l)) where
+    (reload_laid g k h x at t y i e (work.Replace op q o at b w) n d f hs ns fits.1.0 fits.1.1 one_in calm s' (emit_grows (In []) (j a) p.draft) (
+      p.draft.points,
+      (old_plain p.draft.variables p.element u.element, (old_plain p.draft.variables p.right u.right, (old_plain p.draft.variables p.index u.index, calm_plain d.variables hs calm))),
+      is_array g k n t y s.path fits.1.0,
+      refl,
+      record {
+        there = subst (λ r. Among (edge p.draft.point (j r) p.draft.points) g.edges) (array_is g k t y d ns) z.0;
+        shown = z.1;
+        apart = (element_apart v.1 (object_of k y) u.names, all_own d.variables (object_of k y) hs calm);
+        plain = (old_plain p.draft.variables p.element u.element, calm_plain d.variables hs calm);
+      },
+      l,
+    )) where
       nothing_behind : {A : Type 0} (xs : List A) → xs ++ [] ≡ xs
       nothing_behind [] = refl
       nothing_behind (x ∷ xs) = ap (λ ys. x ∷ ys) (nothing_behind xs)
@@ -489,9 +537,9 @@ replace_laid g k h x op q o at t y i w pt hs (d, n, is, fits, quiet, s, l) =
 pub renewed_laid : (g : Whole) (k : ℕ) (h : Place) (x : Exits) (op : Op) (q : Pos) (o : IntType) (at : Pos) (t : IntType) (y : Variable) (i e : ValueTree) (w : Work) (n : ℕ) (d : Draft) (hs : List Held)
     → IsArray (around g k n) t y → IsValue (around g k n) i → IsValue (around g k n) e → AreCalm d.variables hs
     → Stage g k h (calls_in i ++ calls_in e) d
-        (rows.renew_used op (site (context_of g k) q) o t (site (context_of g k) at) (lower.array_of (context_of g k) y d) (type_of e) (rows.loaded t (site (context_of g k) at) (lower.array_of (context_of g k) y d) (lowered (context_of g k) i) (lowered (context_of g k) e) d)).1
+    (rows.renew_used op (site (context_of g k) q) o t (site (context_of g k) at) (lower.array_of (context_of g k) y d) (type_of e) (rows.loaded t (site (context_of g k) at) (lower.array_of (context_of g k) y d) (lowered (context_of g k) i) (lowered (context_of g k) e) d)).1
     → Laid g k h x w (rows.renew_used op (site (context_of g k) q) o t (site (context_of g k) at) (lower.array_of (context_of g k) y d) (type_of e) (rows.loaded t (site (context_of g k) at) (lower.array_of (context_of g k) y d) (lowered (context_of g k) i) (lowered (context_of g k) e) d)).1.point
-        (held (rows.renew_used op (site (context_of g k) q) o t (site (context_of g k) at) (lower.array_of (context_of g k) y d) (type_of e) (rows.loaded t (site (context_of g k) at) (lower.array_of (context_of g k) y d) (lowered (context_of g k) i) (lowered (context_of g k) e) d)).0 t ∷ hs)
+    (held (rows.renew_used op (site (context_of g k) q) o t (site (context_of g k) at) (lower.array_of (context_of g k) y d) (type_of e) (rows.loaded t (site (context_of g k) at) (lower.array_of (context_of g k) y d) (lowered (context_of g k) i) (lowered (context_of g k) e) d)).0 t ∷ hs)
     → Laid g k h x (meaning.reload at (program.array_of g.program k t y) i e (work.Renewed op q o t (work.StoreKept at (program.array_of g.program k t y) w))) d.point hs
 renewed_laid g k h x op q o at t y i e w n d hs fa fi fe calm s l =
     let c = context_of g k in
@@ -510,22 +558,29 @@ renewed_laid g k h x op q o at t y i e w n d hs fa fi fe calm s l =
     let le = u.more in
     let set_edge = stage_edge g k h Any (In []) _ d (with_temporary t p.draft) f (Set (next_temporary p.draft) v) s (grows_trans any2 (temporary_grows Any t p.draft)) last in
     let put_edge = stage_edge g k h Any (In []) _ d m f (j a (next_temporary p.draft)) s (grows_trans any2 set_grows) (grows_refl (In []) f) in
-    reload_laid g k h x at t y i e (work.Renewed op q o t (work.StoreKept at b w)) n d f hs ns fa fi fe calm s (grows_trans (made_grows (In []) (Set (next_temporary p.draft) v) t p.draft) last)
-    (p.draft.points, p.draft.variables,
-    (old_plain p.draft.variables p.element u.element, (old_plain p.draft.variables p.right u.right, (old_plain p.draft.variables p.index u.index, calm_plain d.variables hs calm))),
-    refl,
-    record {
-      there = subst (λ z. Among (edge p.draft.point (Set z v) p.draft.points) g.edges) (next_is p.draft u.names) set_edge.0;
-      shown = set_edge.1;
-      apart = (old_apart p.draft.variables p.draft.variables p.index (omega arith) u.index, all_temporary d.variables p.draft.variables hs le calm);
-      plain = (old_plain p.draft.variables p.index u.index, calm_plain d.variables hs calm);
-    },
-    (m.points, false, is_array g k n t y s.path fa, refl,
-    record {
-      there = subst (λ z. Among (edge p.draft.points (j (cells b) z) m.points) g.edges) (next_is p.draft u.names)
-          (subst (λ r. Among (edge p.draft.points (j r (next_temporary p.draft)) m.points) g.edges) (array_is g k t y d ns) put_edge.0);
-      shown = put_edge.1;
-      apart = ((λ z. absurd (subst is_own z tt)), all_own d.variables (object_of k y) hs calm);
-      plain = (tt, calm_plain d.variables hs calm);
-    },
-    subst (λ z. Laid g k h x w m.points (held (variable z) t ∷ hs)) (next_is p.draft u.names) l))
+    reload_laid g k h x at t y i e (work.Renewed op q o t (work.StoreKept at b w)) n d f hs ns fa fi fe calm s (grows_trans (made_grows (In []) (Set (next_temporary p.draft) v) t p.draft) last) (
+      p.draft.points,
+      p.draft.variables,
+      (old_plain p.draft.variables p.element u.element, (old_plain p.draft.variables p.right u.right, (old_plain p.draft.variables p.index u.index, calm_plain d.variables hs calm))),
+      refl,
+      record {
+        there = subst (λ z. Among (edge p.draft.point (Set z v) p.draft.points) g.edges) (next_is p.draft u.names) set_edge.0;
+        shown = set_edge.1;
+        apart = (old_apart p.draft.variables p.draft.variables p.index (omega arith) u.index, all_temporary d.variables p.draft.variables hs le calm);
+        plain = (old_plain p.draft.variables p.index u.index, calm_plain d.variables hs calm);
+      },
+      (
+        m.points,
+        false,
+        is_array g k n t y s.path fa,
+        refl,
+        record {
+          there = subst (λ z. Among (edge p.draft.points (j (cells b) z) m.points) g.edges) (next_is p.draft u.names)
+              (subst (λ r. Among (edge p.draft.points (j r (next_temporary p.draft)) m.points) g.edges) (array_is g k t y d ns) put_edge.0);
+          shown = put_edge.1;
+          apart = ((λ z. absurd (subst is_own z tt)), all_own d.variables (object_of k y) hs calm);
+          plain = (tt, calm_plain d.variables hs calm);
+        },
+        subst (λ z. Laid g k h x w m.points (held (variable z) t ∷ hs)) (next_is p.draft u.names) l,
+      ),
+    )

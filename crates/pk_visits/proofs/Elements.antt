@@ -1,6 +1,6 @@
 -- The graph follows the program at elements, their faults included.
-use Rattle.std.proofs.Common.{◌≡◌, ℕ, zero, suc, ◌+◌, ◌<◌, ◌⊎◌, List, [], ◌∷◌, length, Bool, true, false, ◌&&◌, if◌then◌else◌, refl, sym, ap, ◌∙◌, subst, inl, inr, arith, ℤ}
-use Rattle.std.specs.Prelude.{pos, Ok, Err, Result, slice_index_or, slice_set, unsigned_abs}
+use Rattle.std.proofs.Common.{◌≡◌, ℕ, zero, suc, ◌<◌, List, [], ◌∷◌, Bool, true, false, ◌&&◌, if◌then◌else◌, refl, sym, ap, ◌∙◌, subst, arith, ℤ}
+use Rattle.std.specs.Prelude.{pos, Ok, Err, slice_set, unsigned_abs}
 use Rattle.std.proofs.lemmas.Int.{ints}
 use Rattle.std.proofs.lemmas.List.{length-set}
 use Rattle.pk_ctypes.specs.declared.places.Pos.{Pos}
@@ -10,30 +10,29 @@ use Rattle.pk_ctypes.specs.declared.types.Op.{Op}
 use Rattle.pk_ctypes.specs.declared.faults.Fault.{Fault}
 use Rattle.pk_ctypes.specs.declared.faults.Fault.TheVariants as faults
 use Rattle.pk_ctypes.specs.Types.{InType, is_in_type, wrapped}
-use Rattle.pk_ctypes.specs.Operators.{value_of, result_type}
-use Rattle.pk_ctypes.proofs.Wrapped.{wrapped_in, zero_in, one_most}
-use Rattle.pk_ctypes.proofs.Values.{in_type_test, cases_of_type}
+use Rattle.pk_ctypes.specs.Operators.{result_type}
+use Rattle.pk_ctypes.proofs.Wrapped.{wrapped_in, zero_in}
+use Rattle.pk_ctypes.proofs.Values.{in_type_test}
 use Rattle.pk_graph.specs.declared.trees.Site.{Site}
-use Rattle.pk_graph.specs.Trees.{constant, variable, ArrayOf, Set, Load, Store, Guard, Check}
+use Rattle.pk_graph.specs.Trees.{constant, ArrayOf, Set, Load, Store}
 use Rattle.pk_graph.specs.Steps as steps
 use Rattle.pk_graph.specs.Steps.{Numbers, number_at, tree_value, and_then, at_site, effect, with_value, all_in_type, is_index, is_true, indexed}
-use Rattle.pk_draft.specs.Folding.{conversion, unary_tree, operated_tree, updated_tree}
-use Rattle.pk_lower_row.specs.Rows.{one_tree}
+use Rattle.pk_draft.specs.Folding.{conversion, operated_tree, updated_tree}
 use Rattle.pk_lower_statement.specs.declared.statements.Exits.{Exits}
-use Rattle.pk_welltyped.specs.WellTyped.{Kind, scalar, array}
-use Rattle.pk_meaning.specs.Objects.{Object, Array, Objects, numbers_of, with_numbers, number_of, is_in_scope}
+use Rattle.pk_welltyped.specs.WellTyped.{Kind, array}
+use Rattle.pk_meaning.specs.Objects.{Array, Objects, numbers_of, with_numbers, is_in_scope}
 use Rattle.pk_meaning.specs.Programs.{Program}
 use Rattle.pk_meaning.specs.Work as work
 use Rattle.pk_meaning.specs.Work.{Place, Work, Way, Onward, Refused, Lost}
 use Rattle.pk_meaning.specs.Steps as meaning
 use Rattle.pk_meaning.specs.Steps.{Config, Next, step_of, operated}
-use Rattle.pk_visits.proofs.Slots.{Slot, own, temporary, Memory, memory, memory_numbers, with_memory, SlotTree, Among, edge}
-use Rattle.pk_visits.proofs.Stands.{Whole, Held, held, in_temporary, Means, HasKind, IsScalar, IsArrayOf, FitsObjects, Writes, site_at, cells, LaidWay, Laid}
-use Rattle.pk_visits.proofs.Stores.{Fitting, same_object, fits_written, means_apart, temporary_value, own_value}
-use Rattle.pk_visits.proofs.Values.{conversion_value, conversion_fault, unary_value, operated_value, value_in}
-use Rattle.pk_visits.proofs.Follow.{Doomed, now, Answers, Follows, config, still, moved, set_does, kind_is, scalar_written, is_there, number_in_type}
-use Rattle.pk_visits.proofs.Doom.{Sound, Faulty, doom, set_fails, store_value_fails}
-use Rattle.pk_visits.proofs.Operators.{by_result, sound_means, in_type}
+use Rattle.pk_visits.proofs.Slots.{Slot, own, temporary, Memory, memory, memory_numbers, with_memory, SlotTree}
+use Rattle.pk_visits.proofs.Stands.{Whole, Held, in_temporary, Means, HasKind, IsArrayOf, FitsObjects, Writes, site_at, cells, Laid}
+use Rattle.pk_visits.proofs.Stores.{Fitting, fits_written, means_apart, temporary_value}
+use Rattle.pk_visits.proofs.Values.{conversion_value, conversion_fault, operated_value, value_in}
+use Rattle.pk_visits.proofs.Follow.{Doomed, now, Answers, Follows, config, moved, set_does, kind_is}
+use Rattle.pk_visits.proofs.Doom.{set_fails, store_value_fails}
+use Rattle.pk_visits.proofs.Operators.{by_result, in_type}
 
 -- ---- indices
 

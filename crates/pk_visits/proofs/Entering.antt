@@ -1,5 +1,5 @@
 -- The graph follows the program where parameters are set and a body is entered.
-use Rattle.std.proofs.Common.{◌≡◌, ℕ, zero, suc, ◌+◌, ◌<◌, ◌≤◌, List, [], ◌∷◌, length, Bool, true, false, refl, sym, ap, ◌∙◌, subst, inl, inr, arith, ℤ}
+use Rattle.std.proofs.Common.{◌≡◌, ℕ, zero, suc, ◌+◌, List, [], ◌∷◌, length, Bool, refl, sym, ap, ◌∙◌, subst, ℤ}
 use Rattle.std.specs.Prelude.{Ok}
 use Rattle.pk_ctypes.specs.declared.types.IntType.{IntType}
 use Rattle.pk_ctypes.specs.Types.{InType, wrapped}
@@ -8,13 +8,13 @@ use Rattle.pk_graph.specs.Trees.{Set}
 use Rattle.pk_graph.specs.Steps.{Numbers, tree_value}
 use Rattle.pk_draft.specs.Folding.{conversion}
 use Rattle.pk_lower_statement.specs.declared.statements.Exits.{Exits}
-use Rattle.pk_meaning.specs.Objects.{Object, local, Objects, with_numbers, is_in_scope}
+use Rattle.pk_meaning.specs.Objects.{local, Objects, with_numbers, is_in_scope}
 use Rattle.pk_meaning.specs.Work as work
 use Rattle.pk_meaning.specs.Work.{Place, Work}
 use Rattle.pk_meaning.specs.Steps as meaning
 use Rattle.pk_meaning.specs.Steps.{Next, step_of, body_place, body_work}
-use Rattle.pk_visits.proofs.Slots.{Slot, own, Memory, memory, with_memory}
-use Rattle.pk_visits.proofs.Stands.{Whole, BodiesStand, Held, AreCalm, Means, FitsObjects, picked, Binds, Laid}
+use Rattle.pk_visits.proofs.Slots.{own, Memory, memory, with_memory}
+use Rattle.pk_visits.proofs.Stands.{Whole, BodiesStand, Held, Means, FitsObjects, picked, Laid}
 use Rattle.pk_visits.proofs.Values.{conversion_value}
 use Rattle.pk_visits.proofs.Stores.{means_apart}
 use Rattle.pk_visits.proofs.Follow.{Answers, config, still, moved, set_does, scalar_written}
@@ -66,9 +66,21 @@ enter g bodies chosen p m k h j w vs s b x hs l e same f =
     let le = q.variables in
     let calm = calm_more _ q.draft.variables hs le l.2 in
     let end = q.ended hs calm in
-    still g chosen p m j (body_place g.program j) (body_work g.program j (work.Path k h w)) vs s q.exits hs
-    (calm_plain q.draft.variables hs calm,
-    (q.draft, q.objects, q.mark, q.enters ∙ l.1, q.fits, calm, q.stage, q.marking,
-    (end,
-    record { draft = q.draft; objects = q.objects; mark = q.mark; fits = q.fits; calm = calm; stage = q.stage; marking = q.marking; ended = end },
-    (x, subst (λ o. Laid g k h x w o hs) (sym q.leaves) l.3)))) e same f
+    still g chosen p m j (body_place g.program j) (body_work g.program j (work.Path k h w)) vs s q.exits hs (
+      calm_plain q.draft.variables hs calm,
+      (
+        q.draft,
+        q.objects,
+        q.mark,
+        q.enters ∙ l.1,
+        q.fits,
+        calm,
+        q.stage,
+        q.marking,
+        (
+          end,
+          record { draft = q.draft; objects = q.objects; mark = q.mark; fits = q.fits; calm = calm; stage = q.stage; marking = q.marking; ended = end },
+          (x, subst (λ o. Laid g k h x w o hs) (sym q.leaves) l.3),
+        ),
+      ),
+    ) e same f

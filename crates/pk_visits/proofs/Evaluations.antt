@@ -1,16 +1,14 @@
 -- The graph follows the program at every expression, test and effect.
-use Rattle.std.proofs.Common.{◌≡◌, ℕ, zero, suc, ◌+◌, List, [], ◌∷◌, ◌++◌, length, Bool, true, false, ◌&&◌, nat_eq, if◌then◌else◌, refl, sym, ap, ◌∙◌, subst, inl, inr, arith, ℤ}
-use Rattle.std.specs.Prelude.{Ok, pos}
+use Rattle.std.proofs.Common.{◌≡◌, ℕ, List, [], ◌∷◌, ◌++◌, length, Bool, true, false, ◌&&◌, nat_eq, if◌then◌else◌, refl, sym, ap, subst, arith, ℤ}
 use Rattle.std.proofs.lemmas.Bool.{eqb-true}
 use Rattle.pk_ctypes.specs.declared.places.Pos.{Pos}
 use Rattle.pk_ctypes.specs.declared.types.IntType.{IntType}
 use Rattle.pk_ctypes.specs.declared.types.Op.{Op}
-use Rattle.pk_ctypes.specs.Types.{InType}
 use Rattle.pk_typed.specs.declared.values.Variable.{Variable}
 use Rattle.pk_typed.specs.Trees.{PlaceTree, ValueTree, EffectTree, ValueTrees}
 use Rattle.pk_typed.specs.Trees as tree
 use Rattle.pk_typed.specs.Types.{type_of}
-use Rattle.pk_welltyped.specs.Listed.{Numbered, calls_at_place, calls_in}
+use Rattle.pk_welltyped.specs.Listed.{calls_at_place, calls_in}
 use Rattle.pk_welltyped.specs.WellTyped.{IsPlace, IsValue}
 use Rattle.pk_graph.specs.Trees.{constant, variable, Set, Havoc}
 use Rattle.pk_graph.specs.Steps as steps
@@ -24,8 +22,8 @@ use Rattle.pk_meaning.specs.Work as work
 use Rattle.pk_meaning.specs.Work.{Place, Work, Way}
 use Rattle.pk_meaning.specs.Steps as meaning
 use Rattle.pk_meaning.specs.Steps.{step_of}
-use Rattle.pk_visits.proofs.Slots.{Slot, own, temporary, Draft, Memory, memory, memory_numbers, with_memory}
-use Rattle.pk_visits.proofs.Stands.{Whole, Proper, context_of, Held, held, in_temporary, around, Means, FitsObjects, Stage, Laid}
+use Rattle.pk_visits.proofs.Slots.{own, temporary, Memory, with_memory}
+use Rattle.pk_visits.proofs.Stands.{Whole, Proper, context_of, Held, held, in_temporary, Means, FitsObjects, Stage, Laid}
 use Rattle.pk_visits.proofs.Stores.{means_apart, temporary_value}
 use Rattle.pk_visits.proofs.Follow.{Answers, Follows, config, still, moved, set_does, number_in_type}
 use Rattle.pk_visits.proofs.Operators.{one_in, in_type, object_value, object_in}

@@ -1,27 +1,25 @@
 -- The graph follows the program at the kinds of work that make one edge at most and open no tree.
-use Rattle.std.proofs.Common.{◌≡◌, ℕ, ◌+◌, ◌<◌, ◌⊎◌, List, [], ◌∷◌, length, Bool, true, false, ◌&&◌, if◌then◌else◌, refl, sym, ap, ◌∙◌, subst, inl, inr, arith, ℤ, Option, Some, None}
-use Rattle.std.specs.Prelude.{pos, Ok, Err, Result, slice_index_or}
+use Rattle.std.proofs.Common.{◌≡◌, ℕ, ◌<◌, ◌⊎◌, List, [], ◌∷◌, length, Bool, true, false, ◌&&◌, refl, sym, ap, ◌∙◌, subst, inl, inr, arith, ℤ, Option, Some, None}
+use Rattle.std.specs.Prelude.{Ok}
 use Rattle.pk_ctypes.specs.declared.types.IntType.{IntType}
 use Rattle.pk_ctypes.specs.declared.types.IntType.TheVariants.{Int}
-use Rattle.pk_ctypes.specs.declared.faults.Fault.{Fault}
 use Rattle.pk_ctypes.specs.Types.{InType, is_in_type, wrapped}
 use Rattle.pk_ctypes.proofs.Wrapped.{wrapped_in}
 use Rattle.pk_ctypes.proofs.Values.{in_type_test}
-use Rattle.pk_graph.specs.Kinds.{count_of}
-use Rattle.pk_graph.specs.Trees.{constant, variable, InstrOf, Skip, Set, Havoc, Clear, Load, Store, Guard, Check}
+use Rattle.pk_graph.specs.Trees.{constant, variable, Skip, Set, Havoc, Clear, Load, Store, Guard, Check}
 use Rattle.pk_graph.specs.Steps as steps
 use Rattle.pk_graph.specs.Steps.{Numbers, number_at, tree_value, effect, with_value, all_in_type}
 use Rattle.pk_draft.specs.Folding.{conversion}
 use Rattle.pk_lower_statement.specs.declared.statements.Exits.{Exits}
 use Rattle.pk_welltyped.specs.WellTyped.{Kind, scalar}
-use Rattle.pk_meaning.specs.Objects.{Object, file, local, result, Objects, numbers_of, with_numbers, number_of, is_in_scope}
+use Rattle.pk_meaning.specs.Objects.{Object, file, local, result, Objects, numbers_of, with_numbers, is_in_scope}
 use Rattle.pk_meaning.specs.Programs.{Program}
 use Rattle.pk_meaning.specs.Work as work
 use Rattle.pk_meaning.specs.Work.{Place, Work}
 use Rattle.pk_meaning.specs.Steps.{Config, Next, To, Faulted, Assumed, Returned, Wants, Stuck, step_of}
-use Rattle.pk_visits.proofs.Slots.{Slot, own, temporary, Instr, Edge, edge, Memory, memory, with_memory, SlotTree, Among}
-use Rattle.pk_visits.proofs.Stands.{Whole, ShowsAt, Held, held, in_temporary, AreApart, Means, HasKind, IsScalar, FitsObjects, Laid, StandsAt}
-use Rattle.pk_visits.proofs.Stores.{Fitting, same_object, fits_written, means_apart, temporary_value, own_value}
+use Rattle.pk_visits.proofs.Slots.{Slot, own, temporary, Instr, edge, Memory, memory, with_memory, SlotTree, Among}
+use Rattle.pk_visits.proofs.Stands.{Whole, ShowsAt, Held, held, in_temporary, Means, HasKind, FitsObjects, Laid, StandsAt}
+use Rattle.pk_visits.proofs.Stores.{Fitting, fits_written, means_apart, temporary_value, own_value}
 use Rattle.pk_visits.proofs.Values.{conversion_value}
 
 -- the slot that an instruction writes

@@ -1,5 +1,5 @@
 -- Expressions add to a draft: edges, variables, points with the label that is at hand, and the regions of the paths that are called.
-use Rattle.std.proofs.Common.{ℕ, List, [], ◌∷◌, ◌++◌, ◌+◌}
+use Rattle.std.proofs.Common.{ℕ, List, [], ◌∷◌, ◌++◌}
 use Rattle.pk_ctypes.specs.declared.types.IntType.TheVariants.{Int}
 use Rattle.pk_ctypes.specs.Types.{represents}
 use Rattle.pk_typed.specs.Trees.{PlaceTree, ValueTree, EffectTree, ValueTrees}
@@ -11,7 +11,7 @@ use Rattle.pk_lower_row.specs.Shapes.{any_makes}
 use Rattle.pk_lower_row.specs.Contexts.{Context, site, callee, size_in, parameters_of}
 use Rattle.pk_lower_row.specs.Rows.{Operand, operand, convert_ways, types_of, and_choice, or_choice}
 use Rattle.pk_lower_expression.specs.Expressions.{target, ways, performed, passed}
-use Rattle.pk_visits.proofs.Slots.{Slot, Draft, Grows}
+use Rattle.pk_visits.proofs.Slots.{Slot}
 use Rattle.pk_visits.proofs.Grows.{WaysGrow, TargetGrows, PassGrows, Makes, grows_trans, grows_refl, emit_grows, valuing, reading, assigning, updating, stepping, havocking, converting, unary_grows, binary_grows, and_grows, or_grows, deciding, conditional_grows, then_grows, assuming, calling, passing, either_way, zero_grows}
 
 -- the paths that calls lead to are among C

@@ -1,5 +1,5 @@
 -- What the rows of expressions add to a draft.
-use Rattle.std.proofs.Common.{◌≡◌, ℕ, ◌+◌, ◌<◌, ◌≤◌, ◌⊎◌, List, [], ◌∷◌, ◌++◌, length, Bool, true, false, if◌then◌else◌, refl, sym, ap, ◌∙◌, subst, inl, inr, arith, ◌≢◌}
+use Rattle.std.proofs.Common.{◌≡◌, ℕ, ◌+◌, ◌<◌, ◌≤◌, ◌⊎◌, List, [], ◌∷◌, Bool, true, false, if◌then◌else◌, refl, sym, ap, ◌∙◌, subst, inl, inr, arith, ◌≢◌}
 use Rattle.std.specs.Prelude.{pos, slice_set}
 use Rattle.std.proofs.lemmas.List.{get_or-set_other, length-set}
 use Rattle.pk_ctypes.specs.declared.types.IntType.{IntType}
@@ -7,11 +7,11 @@ use Rattle.pk_ctypes.specs.declared.types.IntType.TheVariants.{Int}
 use Rattle.pk_ctypes.specs.declared.types.Op.{Op}
 use Rattle.pk_ctypes.specs.Operators.{result_type}
 use Rattle.pk_graph.specs.declared.trees.Site.{Site}
-use Rattle.pk_graph.specs.Trees.{TreeOf, constant, variable, ArrayOf, InstrOf, Set, Havoc, Load, Store, Guard, Check}
+use Rattle.pk_graph.specs.Trees.{TreeOf, constant, variable, ArrayOf, Set, Havoc, Load, Guard}
 use Rattle.pk_draft.specs.declared.drafts.Size.{Size}
 use Rattle.pk_draft.specs.declared.drafts.Label.{Label}
 use Rattle.pk_draft.specs.declared.drafts.Region.{Region}
-use Rattle.pk_draft.specs.Drafts.{Names, DraftOf, Given, at, fresh, with_temporary, next_temporary, link, go, emit, stored, no_label, entered}
+use Rattle.pk_draft.specs.Drafts.{Names, Given, at, fresh, with_temporary, next_temporary, link, emit, stored, no_label, entered}
 use Rattle.pk_draft.specs.Folding.{conversion}
 use Rattle.pk_lower_row.specs.declared.shapes.Shape.{Shape}
 use Rattle.pk_lower_row.specs.declared.shapes.Shape.TheVariants.{Fixed, Named, Temporary}
@@ -20,7 +20,7 @@ use Rattle.pk_lower_row.specs.declared.shapes.Waiting.TheVariants.{Weak}
 use Rattle.pk_lower_row.specs.Shapes.{is_plain, stays, strong_if, strong_or_weak}
 use Rattle.pk_lower_row.specs.Rows as rows
 use Rattle.pk_lower_row.specs.Rows.{Ways, Operand, Target, scalar, element, Two, Loaded, Passed, stored_unless, held, two, one}
-use Rattle.pk_visits.proofs.Slots.{Slot, Draft, SlotTree, Instr, Edge, edge, KeepsBy, Keeps, Grows, Never, Same, front_among, label_at, region_at}
+use Rattle.pk_visits.proofs.Slots.{Slot, Draft, Instr, Edge, KeepsBy, Grows, Never, Same, front_among, label_at, region_at}
 
 pub grows_refl : (C : ℕ → Type 0) (d : Draft) → Grows C d d
 grows_refl C d = record {

@@ -1,30 +1,27 @@
 -- From the work of `&&`, `||` and `?:` as values to that of their tests and arms, and from a test to its parts.
-use Rattle.std.proofs.Common.{◌≡◌, ℕ, ◌+◌, ◌<◌, ◌≤◌, List, [], ◌∷◌, ◌++◌, Bool, true, false, refl, sym, ap, ◌∙◌, subst, inl, inr, arith, length}
+use Rattle.std.proofs.Common.{◌≡◌, ℕ, ◌+◌, ◌≤◌, List, [], ◌∷◌, ◌++◌, refl, sym, ap, ◌∙◌, subst, arith, length}
 use Rattle.std.specs.Prelude.{pos}
 use Rattle.pk_ctypes.specs.declared.types.IntType.{IntType}
 use Rattle.pk_ctypes.specs.declared.types.IntType.TheVariants.{Int}
 use Rattle.pk_typed.specs.Trees.{ValueTree, EffectTree}
 use Rattle.pk_typed.specs.Trees as tree
 use Rattle.pk_typed.specs.Types.{type_of}
-use Rattle.pk_welltyped.specs.Listed.{Numbered, calls_in, calls_in_effect}
+use Rattle.pk_welltyped.specs.Listed.{Numbered, calls_in}
 use Rattle.pk_welltyped.specs.WellTyped.{IsValue}
 use Rattle.pk_graph.specs.Trees.{constant, variable, Set}
 use Rattle.pk_draft.specs.Drafts.{Given, at, fresh, with_temporary, next_temporary, link}
-use Rattle.pk_draft.specs.Folding.{conversion}
-use Rattle.pk_lower_row.specs.Contexts.{Context}
 use Rattle.pk_lower_row.specs.Rows as rows
-use Rattle.pk_lower_expression.specs.Expressions.{ways, performed}
+use Rattle.pk_lower_expression.specs.Expressions.{ways}
 use Rattle.pk_lower_statement.specs.declared.statements.Exits.{Exits}
 use Rattle.pk_meaning.specs.Work as work
 use Rattle.pk_meaning.specs.Work.{Place, Work, Way, Onward}
-use Rattle.pk_visits.proofs.Slots.{Slot, own, temporary, slots, SlotTree, Draft, Edge, edge, Among, Grows, last_among}
+use Rattle.pk_visits.proofs.Slots.{Slot, temporary, slots, SlotTree, Draft, edge, Among, Grows, last_among}
 use Rattle.pk_visits.proofs.Grows.{grows_refl, grows_trans, fresh_three_grows, temporary_grows, link_grows, Chooses, Gives}
 use Rattle.pk_visits.proofs.Growing.{lowered}
 use Rattle.pk_visits.proofs.Tells.{sane}
-use Rattle.pk_visits.proofs.Stands.{Whole, Leads, context_of, Held, held, in_temporary, around, AreCalm, AreQuiet, ArePlain, ShowsAt, Sets, Stage, led_to, LaidWay, Laid}
-use Rattle.pk_visits.proofs.Stages.{In, ways_grow, effect_grows, stage_first, stage_second, stage_until, stage_from, stage_point, stage_room, three_first, three_second}
+use Rattle.pk_visits.proofs.Stands.{Whole, Leads, context_of, Held, held, around, AreCalm, ShowsAt, Sets, Stage, led_to, Laid}
+use Rattle.pk_visits.proofs.Stages.{In, ways_grow, stage_first, stage_second, stage_until, stage_from, stage_point, stage_room, three_first, three_second}
 use Rattle.pk_visits.proofs.Operands.{all_temporary, calm_more, next_is}
-use Rattle.pk_visits.proofs.Trees.{stage_names}
 use Rattle.pk_visits.proofs.Doom.{calm_plain}
 
 -- the temporary of a join is set on the way to its end
@@ -134,20 +131,42 @@ conditional_laid g k h x t e a b w p hs (d, n, is, fits, quiet, s, l) =
     let split : Stage g k h (xs ++ ys ++ zs) d f = s in
     let calm = quiet refl in
     let ns = (grows_trans (grows_trans (fresh_three_grows (λ z. Unit {0}) d) (temporary_grows (λ z. Unit {0}) t (fresh 3 d)))
-        (joined_after t choice fa fb (sane c e).choice (λ r. (sane c a).value r) (λ r. (sane c b).value r) d)).names in
+    (joined_after t choice fa fb (sane c e).choice (λ r. (sane c a).value r) (λ r. (sane c b).value r) d)).names in
     let names = sym ns ∙ s.leads.names in
     let q = parts g k h t fa fb xs ys zs d (decided t choice d) hs (λ r. (ways_grow c a).value r) (λ r. (ways_grow c b).value r) (λ r. (sane c a).value r) (λ r. (sane c b).value r)
-        ((ways_grow c e).choice d.points (d.points + 1) (begun t d)) ((sane c e).choice d.points (d.points + 1) (begun t d)) names
-        (stage_from g k h (In []) (xs ++ ys ++ zs) d (begun t d) f split (starts d t)) calm in
+    ((ways_grow c e).choice d.points (d.points + 1) (begun t d)) ((sane c e).choice d.points (d.points + 1) (begun t d)) names
+    (stage_from g k h (In []) (xs ++ ys ++ zs) d (begun t d) f split (starts d t)) calm in
     let va = q.more in
     let vb = q.more_too in
-    let l' = subst (λ v. Laid g k h x w (d.points + 2) (held (variable v) t ∷ hs)) (next_is d names) l in
-    (begun t d, n, d.points, d.points + 1, is, fits.0, calm_more d.variables (begun t d).variables hs (omega arith) calm, q.test,
-    (shows_first g k h (xs ++ ys ++ zs) t d f split q.after,
-    (x, (at d.points (decided t choice d), n, refl, fits.1, (λ m. calm_more d.variables (decided t choice d).variables hs va calm), q.first, (d.points + 2, d.variables, q.sets, l')))),
-    (shows_second g k h (xs ++ ys ++ zs) t d f split q.after,
-    (x, (middle fa (next_temporary d) d.points (decided t choice d), n, refl, fits.2, (λ m. calm_more d.variables (middle fa (next_temporary d) d.points (decided t choice d)).variables hs vb calm), q.second,
-    (d.points + 2, d.variables, q.sets_too, l')))))
+    let l' = subst (λ v. Laid g k h x w (d.points + 2) (held (variable v) t ∷ hs)) (next_is d names) l in (
+      begun t d,
+      n,
+      d.points,
+      d.points + 1,
+      is,
+      fits.0,
+      calm_more d.variables (begun t d).variables hs (omega arith) calm,
+      q.test,
+      (
+        shows_first g k h (xs ++ ys ++ zs) t d f split q.after,
+        (x, (at d.points (decided t choice d), n, refl, fits.1, (λ m. calm_more d.variables (decided t choice d).variables hs va calm), q.first, (d.points + 2, d.variables, q.sets, l'))),
+      ),
+      (
+        shows_second g k h (xs ++ ys ++ zs) t d f split q.after,
+        (
+          x,
+          (
+            middle fa (next_temporary d) d.points (decided t choice d),
+            n,
+            refl,
+            fits.2,
+            (λ m. calm_more d.variables (middle fa (next_temporary d) d.points (decided t choice d)).variables hs vb calm),
+            q.second,
+            (d.points + 2, d.variables, q.sets_too, l'),
+          ),
+        ),
+      ),
+    )
 
 -- ---- truths
 
@@ -168,16 +187,23 @@ truths_laid g k h x e w choice n d hs same gc any_c fits calm s l =
     let f = (rows.joined Int choice fa fb d).1 in
     let split = subst (λ qs. Stage g k h qs d f) (sym (nothing_behind (xs ++ []) ∙ nothing_behind xs)) s in
     let ns = (grows_trans (grows_trans (fresh_three_grows (λ z. Unit {0}) d) (temporary_grows (λ z. Unit {0}) Int (fresh 3 d)))
-        (joined_after Int choice fa fb any_c (grows_refl (λ z. Unit {0})) (grows_refl (λ z. Unit {0})) d)).names in
+    (joined_after Int choice fa fb any_c (grows_refl (λ z. Unit {0})) (grows_refl (λ z. Unit {0})) d)).names in
     let names = sym ns ∙ s.leads.names in
     let q = parts g k h Int fa fb xs [] [] d (decided Int choice d) hs (grows_refl (In [])) (grows_refl (In [])) (grows_refl (λ z. Unit {0})) (grows_refl (λ z. Unit {0}))
-        (gc d.points (d.points + 1) (begun Int d)) (any_c d.points (d.points + 1) (begun Int d)) names
-        (stage_from g k h (In []) (xs ++ [] ++ []) d (begun Int d) f split (starts d Int)) calm in
-    let l' = subst (λ v. Laid g k h x w (d.points + 2) (held (variable v) Int ∷ hs)) (next_is d names) l in
-    (begun Int d, n, d.points, d.points + 1, refl, fits, calm_more d.variables (begun Int d).variables hs (omega arith) calm,
-    subst (λ (ch : (p q : ℕ) → Draft → Draft). Stage g k h xs (begun Int d) (ch d.points (d.points + 1) (begun Int d))) same q.test,
-    (shows_first g k h (xs ++ [] ++ []) Int d f split q.after, (x, (d.points + 2, d.variables, q.sets, l'))),
-    (shows_second g k h (xs ++ [] ++ []) Int d f split q.after, (x, (d.points + 2, d.variables, q.sets_too, l'))))
+    (gc d.points (d.points + 1) (begun Int d)) (any_c d.points (d.points + 1) (begun Int d)) names
+    (stage_from g k h (In []) (xs ++ [] ++ []) d (begun Int d) f split (starts d Int)) calm in
+    let l' = subst (λ v. Laid g k h x w (d.points + 2) (held (variable v) Int ∷ hs)) (next_is d names) l in (
+      begun Int d,
+      n,
+      d.points,
+      d.points + 1,
+      refl,
+      fits,
+      calm_more d.variables (begun Int d).variables hs (omega arith) calm,
+      subst (λ (ch : (p q : ℕ) → Draft → Draft). Stage g k h xs (begun Int d) (ch d.points (d.points + 1) (begun Int d))) same q.test,
+      (shows_first g k h (xs ++ [] ++ []) Int d f split q.after, (x, (d.points + 2, d.variables, q.sets, l'))),
+      (shows_second g k h (xs ++ [] ++ []) Int d f split q.after, (x, (d.points + 2, d.variables, q.sets_too, l'))),
+    )
 
 pub and_laid : (g : Whole) (k : ℕ) (h : Place) (x : Exits) (a b : ValueTree) (w : Work) (p : ℕ) (hs : List Held) → Laid g k h x (work.Evaluate (tree.and a b) w) p hs
     → Laid g k h x (work.Test (tree.and a b) (Onward h (work.Truth (pos 1) w)) (Onward h (work.Truth (pos 0) w))) p hs

@@ -27,3 +27,9 @@ mod StatementGrows
 mod Statements
 mod Rounds
 mod Branches
+mod Returns
+mod Thirds
+mod Fills
+mod Starts
+mod Going
+mod Followed

@@ -1,18 +1,17 @@
 -- Two operands in order, the first of which waits.
-use Rattle.std.proofs.Common.{◌≡◌, ℕ, ◌+◌, ◌<◌, ◌≤◌, List, [], ◌∷◌, ◌++◌, Bool, true, false, refl, sym, ap, ◌∙◌, subst, inl, inr, arith}
+use Rattle.std.proofs.Common.{◌≡◌, ℕ, ◌+◌, ◌≤◌, List, [], ◌∷◌, ◌++◌, Bool, true, false, refl, sym, ap, ◌∙◌, subst, inl, inr, arith}
 use Rattle.pk_ctypes.specs.declared.types.IntType.{IntType}
 use Rattle.pk_typed.specs.Trees.{ValueTree}
 use Rattle.pk_typed.specs.Types.{type_of}
 use Rattle.pk_welltyped.specs.Listed.{Numbered, calls_in}
 use Rattle.pk_welltyped.specs.WellTyped.{IsValue}
 use Rattle.pk_graph.specs.Trees.{constant, variable, converted, unary, binary, Set}
-use Rattle.pk_draft.specs.Drafts.{Given, with_temporary, next_temporary, emit, Names}
+use Rattle.pk_draft.specs.Drafts.{Given, with_temporary, next_temporary, Names}
 use Rattle.pk_lower_row.specs.declared.shapes.Shape.{Shape}
 use Rattle.pk_lower_row.specs.declared.shapes.Shape.TheVariants.{Fixed, Temporary, Named, Other}
 use Rattle.pk_lower_row.specs.declared.shapes.Waiting.{Waiting}
 use Rattle.pk_lower_row.specs.declared.shapes.Waiting.TheVariants.{Loose, Strong, Weak}
 use Rattle.pk_lower_row.specs.Shapes.{makes, shape_of, stays}
-use Rattle.pk_lower_row.specs.Contexts.{Context}
 use Rattle.pk_lower_row.specs.Rows.{Operand, two, stored_unless}
 use Rattle.pk_lower_row.specs.Rows as rows
 use Rattle.pk_lower_expression.specs.Expressions.{ways}
@@ -23,7 +22,7 @@ use Rattle.pk_visits.proofs.Slots.{Slot, own, temporary, slots, Draft, SlotTree,
 use Rattle.pk_visits.proofs.Grows.{grows_trans, temporary_grows, held_grows}
 use Rattle.pk_visits.proofs.Growing.{lowered}
 use Rattle.pk_visits.proofs.Tells.{Tells, shapes}
-use Rattle.pk_visits.proofs.Stands.{Whole, context_of, Held, held, in_temporary, around, IsApart, AreApart, IsCalm, AreCalm, AreQuiet, ArePlain, Writes, Stage, led_to, Laid}
+use Rattle.pk_visits.proofs.Stands.{Whole, context_of, Held, held, around, IsApart, AreApart, IsCalm, AreCalm, AreQuiet, ArePlain, Stage, led_to, Laid}
 use Rattle.pk_visits.proofs.Stages.{In, ways_grow, stage_first, stage_second, stage_until, stage_edge}
 use Rattle.pk_visits.proofs.Doom.{calm_plain}
 
@@ -97,14 +96,17 @@ keep_unless : (g : Whole) (k : ℕ) (h : Place) (x : Exits) (w : Work) (b : Bool
 keep_unless g k h x w true t r hs C E xs d f s u v n c l = inl l
 keep_unless g k h x w false t r hs C E xs d f s u v n c l =
     let e = stage_edge g k h C E xs d (with_temporary t r.1) f (Set (next_temporary r.1) r.0) s (grows_trans u (temporary_grows C t r.1)) v in
-    inr (r.1.points, r.1.variables,
-    record {
-      there = subst (λ y. Rattle.pk_visits.proofs.Slots.Among (Rattle.pk_visits.proofs.Slots.edge r.1.point (Set y r.0) r.1.points) g.edges) (next_is r.1 n) e.0;
-      shown = e.1;
-      apart = c.0;
-      plain = c.1;
-    },
-    subst (λ y. Laid g k h x w r.1.points (held (variable y) t ∷ hs)) (next_is r.1 n) l)
+    inr (
+      r.1.points,
+      r.1.variables,
+      record {
+        there = subst (λ y. Rattle.pk_visits.proofs.Slots.Among (Rattle.pk_visits.proofs.Slots.edge r.1.point (Set y r.0) r.1.points) g.edges) (next_is r.1 n) e.0;
+        shown = e.1;
+        apart = c.0;
+        plain = c.1;
+      },
+      subst (λ y. Laid g k h x w r.1.points (held (variable y) t ∷ hs)) (next_is r.1 n) l,
+    )
 
 pub keep_laid : (g : Whole) (k : ℕ) (h : Place) (x : Exits) (w : Work) (how : Waiting) (s : Shape) (t : IntType) (r : Given Slot) (hs : List Held) (C E : ℕ → Type 0) (xs : List Numbered) (d f : Draft)
     → Stage g k h xs d f → Grows C d r.1 → Grows E (rows.held how s t r).1 f → r.1.names ≡ slots → UnlessLoose how (AreApart (temporary r.1.variables) hs × ArePlain hs)
@@ -128,7 +130,7 @@ pub two_laid : (g : Whole) (k : ℕ) (h : Place) (x : Exits) (w : Work) (how : W
     → IsValue (around g k n) a → AreQuiet (makes a) d.variables hs → IsValue (around g k n) b
     → Stage g k h (calls_in a ++ calls_in b) d f → Grows (In []) (two how (lowered (context_of g k) a) (lowered (context_of g k) b) d).draft f
     → Laid g k h x w (two how (lowered (context_of g k) a) (lowered (context_of g k) b) d).draft.point
-        (held (two how (lowered (context_of g k) a) (lowered (context_of g k) b) d).second (type_of b) ∷ held (two how (lowered (context_of g k) a) (lowered (context_of g k) b) d).first (type_of a) ∷ hs)
+    (held (two how (lowered (context_of g k) a) (lowered (context_of g k) b) d).second (type_of b) ∷ held (two how (lowered (context_of g k) a) (lowered (context_of g k) b) d).first (type_of a) ∷ hs)
     → Laid g k h x (Evaluate a (Keep (Evaluate b w))) d.point hs
 two_laid g k h x w how a b n d f hs ns strong kept quiet fa qa fb s z l =
     let c = context_of g k in
@@ -144,10 +146,21 @@ two_laid g k h x w how a b n d f hs ns strong kept quiet fa qa fb s z l =
     let sb = stage_second g k h (In (led_to c (calls_in a))) (calls_in a) (calls_in b) d v.1 q.1 whole (grows_trans ga kept_grows) in
     let ra = ga.variables in
     let rb = kept_grows.variables in
-    let names = ga.names ∙ ns in
-    (d, n, refl, fa, qa, sa,
-    keep_laid g k h x (Evaluate b w) how (shape_of a) (type_of a) r hs (In (led_to c (calls_in a))) (In (led_to c (calls_in b))) (calls_in a ++ calls_in b) d q.1 whole ga gb names
-    (unless_more how d.variables r.1.variables hs ra kept)
-    (v.1, n, refl, fb,
-    (λ is. (first_calm how (shape_of a) (type_of a) r (strong is) names (shapes c a d ns), calm_more d.variables v.1.variables hs (omega (arith, ra, rb)) (quiet is))),
-    sb, l))
+    let names = ga.names ∙ ns in (
+      d,
+      n,
+      refl,
+      fa,
+      qa,
+      sa,
+      keep_laid g k h x (Evaluate b w) how (shape_of a) (type_of a) r hs (In (led_to c (calls_in a))) (In (led_to c (calls_in b))) (calls_in a ++ calls_in b) d q.1 whole ga gb names
+          (unless_more how d.variables r.1.variables hs ra kept) (
+            v.1,
+            n,
+            refl,
+            fb,
+            (λ is. (first_calm how (shape_of a) (type_of a) r (strong is) names (shapes c a d ns), calm_more d.variables v.1.variables hs (omega (arith, ra, rb)) (quiet is))),
+            sb,
+            l,
+          ),
+    )

@@ -1,6 +1,6 @@
 -- The tree of an expression reads no objects of other paths.
-use Rattle.std.proofs.Common.{◌≡◌, ℕ, ◌+◌, List, [], ◌∷◌, length, Bool, true, false, if◌then◌else◌, refl, sym, ap, ◌∙◌, subst, arith, ℤ}
-use Rattle.std.specs.Prelude.{Result, Ok, Err, Some, pos}
+use Rattle.std.proofs.Common.{◌≡◌, ℕ, ◌+◌, length, Bool, true, false, refl, sym, ap, ◌∙◌, subst, ℤ}
+use Rattle.std.specs.Prelude.{Result, Ok, Err, Some}
 use Rattle.pk_ctypes.specs.declared.faults.Fault.{Fault}
 use Rattle.pk_ctypes.specs.declared.types.IntType.{IntType}
 use Rattle.pk_ctypes.specs.declared.types.Op.{Op}
@@ -15,7 +15,6 @@ use Rattle.pk_graph.specs.declared.trees.Site.{Site}
 use Rattle.pk_graph.specs.Trees.{constant, variable, converted, unary, binary}
 use Rattle.pk_draft.specs.Drafts.{Given, Names, next_temporary}
 use Rattle.pk_draft.specs.Folding.{conversion, kept_if, folded, unary_tree, binary_tree, right_type}
-use Rattle.pk_lower_row.specs.declared.shapes.Shape.{Shape}
 use Rattle.pk_lower_row.specs.declared.shapes.Waiting.{Waiting}
 use Rattle.pk_lower_row.specs.declared.shapes.Waiting.TheVariants.{Weak}
 use Rattle.pk_lower_row.specs.Shapes.{shape_of, stays, makes, any_makes, strong_if, strong_or_weak}
@@ -23,8 +22,7 @@ use Rattle.pk_lower_row.specs.Contexts.{Context, variable_of, array_of, site, ca
 use Rattle.pk_lower_row.specs.Rows as rows
 use Rattle.pk_lower_row.specs.Rows.{Operand, two, one, stored_unless, types_of}
 use Rattle.pk_lower_expression.specs.Expressions.{target, ways, performed, passed}
-use Rattle.pk_meaning.specs.Objects.{Object, file, local, result}
-use Rattle.pk_meaning.specs.Programs.{object_of}
+use Rattle.pk_meaning.specs.Objects.{file, local, result}
 use Rattle.pk_welltyped.specs.Listed.{calls_in_values}
 use Rattle.pk_visits.proofs.Slots.{Slot, own, temporary, slots, SlotTree, Draft}
 use Rattle.pk_visits.proofs.Grows.{two_grows, loaded_grows, held_grows, one_grows}

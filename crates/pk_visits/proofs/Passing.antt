@@ -1,32 +1,22 @@
 -- From the work of a call to that of its arguments, its parameters and its body.
-use Rattle.std.proofs.Common.{◌≡◌, ℕ, zero, suc, ◌+◌, ◌<◌, ◌≤◌, List, [], ◌∷◌, ◌++◌, length, Bool, true, false, refl, sym, ap, ◌∙◌, subst, inl, inr, arith, Option, Some, None}
-use Rattle.std.specs.Prelude.{slice_get, slice_index_or, slice_set, option_map, unwrap_or}
-use Rattle.std.proofs.lemmas.List.{get_or-set_same}
-use Rattle.pk_ctypes.specs.declared.places.Pos.{Pos}
+use Rattle.std.proofs.Common.{◌≡◌, ℕ, suc, ◌+◌, List, [], ◌∷◌, ◌++◌, length, false, refl, ap, subst, inl, arith, Some}
+use Rattle.std.specs.Prelude.{slice_get}
 use Rattle.pk_ctypes.specs.declared.types.IntType.{IntType}
-use Rattle.pk_typed.specs.declared.values.Variable.{Variable}
-use Rattle.pk_typed.specs.declared.values.Variable.TheVariants.{File, Local}
 use Rattle.pk_typed.specs.Trees.{ValueTree, EffectTree, ValueTrees, FunctionTree}
 use Rattle.pk_typed.specs.Trees as tree
 use Rattle.pk_typed.specs.Types.{type_of}
-use Rattle.pk_graph.specs.Trees.{TreeOf, constant, variable, converted, unary, binary, Set}
-use Rattle.pk_draft.specs.declared.drafts.Region.{Region}
-use Rattle.pk_draft.specs.declared.drafts.Size.{Size}
-use Rattle.pk_draft.specs.Drafts.{Names, emit, entered, no_region}
+use Rattle.pk_graph.specs.Trees.{Set}
+use Rattle.pk_draft.specs.Drafts.{Names, emit}
 use Rattle.pk_draft.specs.Folding.{conversion}
-use Rattle.pk_lower_row.specs.Contexts.{Context, callee, parameters_of, size_in}
 use Rattle.pk_lower_row.specs.Rows as rows
 use Rattle.pk_lower_row.specs.Rows.{types_of}
-use Rattle.pk_lower_statement.specs.declared.statements.Exits.{Exits}
-use Rattle.pk_meaning.specs.Objects.{Object, file, local, result, is_in_scope}
-use Rattle.pk_meaning.specs.Programs as program
-use Rattle.pk_meaning.specs.Work as work
-use Rattle.pk_meaning.specs.Work.{Place, Work}
+use Rattle.pk_meaning.specs.Objects.{local, is_in_scope}
+use Rattle.pk_meaning.specs.Work.{Place}
 use Rattle.pk_welltyped.specs.Listed.{Numbered}
-use Rattle.pk_visits.proofs.Slots.{Slot, own, temporary, slots, SlotTree, Draft, Among, edge, Grows, region_at}
-use Rattle.pk_visits.proofs.Grows.{grows_refl, grows_trans, emit_grows, bound_grows, entered_grows}
-use Rattle.pk_visits.proofs.Stands.{Whole, context_of, Held, held, IsApart, AreApart, AreCalm, ArePlain, ArePlainUnder, IsScalar, Passes, picked, pushed, Binds, Stage, led_to, Laid}
-use Rattle.pk_visits.proofs.Stages.{In, stage_until, stage_from, stage_edge}
+use Rattle.pk_visits.proofs.Slots.{Slot, own, slots, SlotTree, Draft, Among, edge, Grows}
+use Rattle.pk_visits.proofs.Grows.{grows_trans, emit_grows, bound_grows}
+use Rattle.pk_visits.proofs.Stands.{Whole, Held, held, IsApart, AreApart, ArePlain, ArePlainUnder, IsScalar, Passes, picked, pushed, Binds, Stage}
+use Rattle.pk_visits.proofs.Stages.{stage_edge}
 
 -- ---- trees of arguments on the stack
 
@@ -101,16 +91,18 @@ binds_laid g k h m i y (t ∷ ts) (w ∷ us) (r ∷ rs) rest d e f hs C zs n a k
     let same : e.names.object m i y ≡ own (local m i) = ap (λ (q : Names Slot). q.object m i y) ns in
     let len : length us ≡ length ts = omega (arith, n) in
     subst (λ c. picked c (stacked us rs (held r w ∷ hs)) (λ b hs. (q : ℕ) × IsScalar g (local m i) t × Passes g k h (length ts) e.point (local m i) (conversion b.int_type t b.tree) q hs × Binds g k h m (i + 1) ts rest q hs)) (omega (arith, len))
-    (picked_stacked us rs [] hs (held r w) _ a
-    (e.points, subst (λ c. IsScalar g (local m c) t) (omega arith) (kinds 0 t refl),
-    record {
-      there = subst (λ q. Among (edge e.point (Set q (conversion w t r)) e.points) g.edges) same z.0;
-      shown = z.1;
-      apart = apart_stacked (own (local m i)) us rs hs (apart i).1 (under i);
-      hidden = hidden i;
-      plain = subst (λ c. ArePlainUnder c (stacked us rs hs)) (omega (arith, len)) (under_stacked us rs [] hs a plain);
-    },
-    binds_laid g k h m (i + 1) (y + 1) ts us rs rest d o f hs (λ q. Unit {0}) zs len a (λ b q is. subst (λ c. IsScalar g (local m c) q) (omega arith) (kinds (suc b) q is)) hidden (λ b. (apart b).1) under plain ns s
-    (grows_trans (weaken u) (emit_grows Any j e)) v l)) where
+    (picked_stacked us rs [] hs (held r w) _ a (
+      e.points,
+      subst (λ c. IsScalar g (local m c) t) (omega arith) (kinds 0 t refl),
+      record {
+        there = subst (λ q. Among (edge e.point (Set q (conversion w t r)) e.points) g.edges) same z.0;
+        shown = z.1;
+        apart = apart_stacked (own (local m i)) us rs hs (apart i).1 (under i);
+        hidden = hidden i;
+        plain = subst (λ c. ArePlainUnder c (stacked us rs hs)) (omega (arith, len)) (under_stacked us rs [] hs a plain);
+      },
+      binds_laid g k h m (i + 1) (y + 1) ts us rs rest d o f hs (λ q. Unit {0}) zs len a (λ b q is. subst (λ c. IsScalar g (local m c) q) (omega arith) (kinds (suc b) q is)) hidden (λ b. (apart b).1) under plain ns s
+          (grows_trans (weaken u) (emit_grows Any j e)) v l,
+    )) where
       weaken : Grows C d e → Grows (λ q. Unit {0}) d e
       weaken q = record { edges = q.edges; names = q.names; variables = q.variables; points = q.points; size = q.size; labels = q.labels; regions = λ k. inl tt; paths = q.paths; here = q.here }

@@ -1,12 +1,11 @@
 -- An expression that makes no edge leaves the draft as it is.
-use Rattle.std.proofs.Common.{◌≡◌, Bool, true, false, ◌||◌, not, refl, sym, ap, ◌∙◌, subst, arith}
+use Rattle.std.proofs.Common.{◌≡◌, Bool, true, false, ◌||◌, not, refl, ◌∙◌, arith}
 use Rattle.pk_ctypes.specs.declared.types.IntType.{IntType}
 use Rattle.pk_ctypes.specs.Operators.{result_type}
 use Rattle.pk_typed.specs.Trees.{PlaceTree, ValueTree, EffectTree}
 use Rattle.pk_typed.specs.Trees as tree
 use Rattle.pk_typed.specs.Types.{type_of}
 use Rattle.pk_draft.specs.Drafts.{Given}
-use Rattle.pk_lower_row.specs.declared.shapes.Shape.{Shape}
 use Rattle.pk_lower_row.specs.Shapes.{shape_of, unary_shape, converted_shape, operated_shape, is_plain, makes, makes_effect, strong_if}
 use Rattle.pk_lower_row.specs.Contexts.{Context, site}
 use Rattle.pk_lower_row.specs.Rows as rows

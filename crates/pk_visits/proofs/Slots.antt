@@ -1,7 +1,7 @@
 -- Drafts over slots: the objects of a program and temporaries, and what they hold.
 use Rattle.std.proofs.Common.{◌≡◌, ℕ, ◌<◌, ◌≤◌, ◌⊎◌, List, [], ◌∷◌, ◌++◌, refl, inl, inr, length, nat_eq, if◌then◌else◌, ℤ}
 use Rattle.std.specs.Prelude.{slice_index_or}
-use Rattle.pk_graph.specs.Trees.{TreeOf, constant, variable, converted, unary, binary, InstrOf}
+use Rattle.pk_graph.specs.Trees.{TreeOf, InstrOf}
 use Rattle.pk_graph.specs.Steps.{Numbers, number_at, Storing}
 use Rattle.pk_draft.specs.declared.drafts.Label.{Label}
 use Rattle.pk_draft.specs.declared.drafts.Region.{Region}

@@ -1,6 +1,6 @@
 -- A stage of the lowering, and those of its parts.
 use Rattle.std.proofs.Common.{◌≡◌, ℕ, ◌+◌, ◌<◌, ◌≤◌, ◌⊎◌, List, [], ◌∷◌, ◌++◌, length, refl, sym, ap, ◌∙◌, subst, inl, inr, arith}
-use Rattle.std.specs.Prelude.{map, slice_set}
+use Rattle.std.specs.Prelude.{slice_set}
 use Rattle.std.proofs.lemmas.List.{get_or-set_same, get_or-set_other, length-set}
 use Rattle.pk_typed.specs.Trees.{ValueTree, EffectTree, ValueTrees}
 use Rattle.pk_welltyped.specs.Listed.{Numbered, calls_in, calls_in_effect, calls_in_values}
@@ -9,8 +9,8 @@ use Rattle.pk_draft.specs.Drafts.{no_label, emit, fresh}
 use Rattle.pk_lower_row.specs.Contexts.{Context, callee}
 use Rattle.pk_lower_expression.specs.Expressions.{ways, performed, passed}
 use Rattle.pk_meaning.specs.Work.{Place}
-use Rattle.pk_visits.proofs.Slots.{Slot, slots, Draft, Instr, Edge, edge, Among, Keeps, Grows, Never, label_at, region_at, front_among, last_among}
-use Rattle.pk_visits.proofs.Grows.{WaysGrow, Makes, PassGrows, grows_refl}
+use Rattle.pk_visits.proofs.Slots.{Draft, Instr, edge, Among, Keeps, Grows, label_at, front_among, last_among}
+use Rattle.pk_visits.proofs.Grows.{WaysGrow, Makes, PassGrows}
 use Rattle.pk_visits.proofs.Growing.{AllCalled, values, effects, arguments}
 use Rattle.pk_visits.proofs.Stands.{Whole, context_of, ShowsAt, Leads, led_to, Distinct, Stage}
 

@@ -8,20 +8,20 @@ use Rattle.pk_ctypes.specs.Operators.{result_type}
 use Rattle.pk_typed.specs.Trees.{ValueTree, EffectTree, ValueTrees, DeclaredTree, StatementTree, ItemTrees, BodyTree, FunctionTree}
 use Rattle.pk_typed.specs.Trees as tree
 use Rattle.pk_typed.specs.Types.{type_of}
-use Rattle.pk_welltyped.specs.Listed.{Numbered, calls_in, calls_in_effect, calls_in_values, calls_in_declared, calls_in_all_declared, calls_in_effect_if, calls_if, calls_in_statement, calls_in_items}
+use Rattle.pk_welltyped.specs.Listed.{Numbered, calls_in, calls_in_effect, calls_in_values, calls_in_all_declared, calls_in_effect_if, calls_if, calls_in_statement, calls_in_items}
 use Rattle.pk_welltyped.specs.WellTyped
 use Rattle.pk_welltyped.specs.WellTyped.{count, Around, Kind, scalar, array, kind_in_file, kind_among, IsValue, IsEffect, AreValues, AreDeclared, IsValueIf, IsEffectIf, Marks, IsStatement, AreItems}
 use Rattle.pk_graph.specs.declared.trees.Site.{Site}
 use Rattle.pk_graph.specs.Kinds.{count_of}
-use Rattle.pk_graph.specs.Trees.{constant, variable, converted, unary, binary, InstrOf, Skip, Set, Havoc, Load, Store, Guard, Check, ArrayOf}
-use Rattle.pk_graph.specs.Steps.{Numbers, number_at, tree_value, all_in_type}
+use Rattle.pk_graph.specs.Trees.{constant, variable, converted, unary, binary, Skip, Set, Havoc, Load, Store, Guard, Check, ArrayOf}
+use Rattle.pk_graph.specs.Steps.{Numbers, tree_value, all_in_type}
 use Rattle.pk_draft.specs.declared.drafts.Label.{Label}
 use Rattle.pk_draft.specs.declared.drafts.Region.{Region}
 use Rattle.pk_draft.specs.declared.drafts.Size.{Size}
-use Rattle.pk_draft.specs.Drafts.{DraftOf, nowhere, go, away}
+use Rattle.pk_draft.specs.Drafts.{nowhere, go, away}
 use Rattle.pk_draft.specs.Folding.{conversion, unary_tree, operated_tree, updated_tree}
-use Rattle.pk_lower_row.specs.Shapes.{makes, makes_effect, any_makes, is_plain}
-use Rattle.pk_lower_row.specs.Contexts.{Context, callee, site}
+use Rattle.pk_lower_row.specs.Shapes.{makes, makes_effect, any_makes}
+use Rattle.pk_lower_row.specs.Contexts.{Context, callee}
 use Rattle.pk_lower_row.specs.Rows.{one_tree}
 use Rattle.pk_lower_expression.specs.Expressions.{ways, performed, passed}
 use Rattle.pk_lower_statement.specs.declared.statements.Exits.{Exits}
@@ -32,7 +32,7 @@ use Rattle.pk_meaning.specs.Programs.{Program, function_number, function_of, blo
 use Rattle.pk_meaning.specs.Work as work
 use Rattle.pk_meaning.specs.Work.{Place, Loop, While, DoWhile, For, Way, Onward, Refused, Lost, Caller, Nobody, Path, Ahead, Rest, Join, Again, Close, End, Work, Go, Do, Declare, Perform, Evaluate, Test, Keep, Branch, Apply, Operate, Convert, Settle, Truth, Drop, Assign, Put, Update, Advance, Fetch, Reload, StoreKept, Renew, Renewed, Replace, Fill, Item, Claim, Pass, Bind, Enter, Leave, Return, Turn, Back, Choose}
 use Rattle.pk_meaning.specs.Steps.{Config, place, body_place}
-use Rattle.pk_visits.proofs.Slots.{Slot, own, temporary, slots, Draft, SlotTree, Instr, Edge, edge, Memory, memory, Among, Grows, label_at, region_at}
+use Rattle.pk_visits.proofs.Slots.{Slot, own, temporary, slots, Draft, SlotTree, Instr, Edge, edge, Memory, memory, Among, label_at, region_at}
 
 -- A graph over slots, its points' labels and its paths' regions; the sizes of functions, and of each path the one by its function's first call; when a label is a path's place.
 pub record Whole : Type 1 where
@@ -448,7 +448,7 @@ abbrev mutual
       × Laid g k h x w (region_at g.regions m).points hs
   Laid g k h x (Leave c) p hs = ArePlain hs × Among (edge p Skip x.left) g.edges × ShowsAt g x.left k (body_place g.program k) × LaidCaller g k c x.left hs
   Laid g k h x (Return c) p hs = ArePlain hs × LaidCaller g k c p hs
-  Laid g k h x (Turn j l e a) p hs = ArePlain hs × (c : ℕ) × (o : ℕ) × Loops g k j x l p c o hs × ContinuesAt l p c × ShowsAt g o k e × LaidAhead g k x a o hs
+  Laid g k h x (Turn j l e a) p hs = (h ≡ j) × ArePlain hs × (c : ℕ) × (o : ℕ) × Loops g k j x l p c o hs × ContinuesAt l p c × ShowsAt g o k e × LaidAhead g k x a o hs
   Laid g k h x (Back j l e a) p hs = ArePlain hs × (b : ℕ) × (c : ℕ) × (o : ℕ) × Among (edge p Skip b) g.edges × ShowsAt g b k j × Loops g k j x l b c o hs × ContinuesAt l b c × ShowsAt g o k e × LaidAhead g k x a o hs
   Laid g k h x (Choose t zs i b s j a) p hs = OnTop hs (λ v rest. (d : Draft) × (n : ℕ) × (m : Marks) × (r : Site) × (total : ℕ) × (e : ℕ) × (d.point ≡ p) × (v.int_type ≡ t) × (total ≡ i + length zs)
       × IsStatement (around g k n) (WellTyped.in_switch total b m) s × AreCalm d.variables (v ∷ rest)

@@ -1,6 +1,6 @@
 -- What declarations and statements add to a draft: points but marks keep their labels, and the names in scope stay behind a statement.
-use Rattle.std.proofs.Common.{◌≡◌, ℕ, zero, suc, ◌+◌, ◌<◌, ◌≤◌, ◌⊎◌, List, [], ◌∷◌, ◌++◌, length, Bool, true, false, if◌then◌else◌, refl, sym, ap, ◌∙◌, subst, inl, inr, arith, ◌≢◌, ℤ, Option, Some, None}
-use Rattle.std.specs.Prelude.{slice_set, pos, All}
+use Rattle.std.proofs.Common.{◌≡◌, ℕ, zero, suc, ◌+◌, ◌<◌, ◌≤◌, ◌⊎◌, List, [], ◌∷◌, ◌++◌, length, Bool, if◌then◌else◌, refl, sym, ap, ◌∙◌, subst, inl, inr, arith, ◌≢◌, ℤ, Option, Some, None}
+use Rattle.std.specs.Prelude.{slice_set}
 use Rattle.std.proofs.lemmas.List.{get_or-set_other, length-set}
 use Rattle.pk_ctypes.specs.declared.places.Pos.{Pos}
 use Rattle.pk_ctypes.specs.declared.types.IntType.{IntType}
@@ -9,15 +9,15 @@ use Rattle.pk_typed.specs.Trees.{ValueTree, EffectTree, ValueTrees, DeclaredTree
 use Rattle.pk_typed.specs.Trees as tree
 use Rattle.pk_typed.specs.Types.{type_of}
 use Rattle.pk_typed.specs.declared.values.Variable.TheVariants.{Local}
-use Rattle.pk_welltyped.specs.Listed.{Numbered, calls_in, calls_in_effect, calls_in_values, calls_if, calls_in_values_if, calls_in_effect_if, calls_in_declared, calls_in_all_declared, calls_at_start, calls_in_statement, calls_in_items}
+use Rattle.pk_welltyped.specs.Listed.{calls_in, calls_in_values, calls_if, calls_in_values_if, calls_in_effect_if, calls_in_declared, calls_in_all_declared, calls_at_start, calls_in_statement, calls_in_items}
 use Rattle.pk_welltyped.specs.WellTyped.{Around, Marks, IsStatement, AreItems}
 use Rattle.pk_welltyped.specs.WellTyped
 use Rattle.pk_graph.specs.declared.trees.Site.{Site}
 use Rattle.pk_graph.specs.Graphs.{VariableOf}
-use Rattle.pk_graph.specs.Trees.{constant, Skip, Set, Havoc, Clear, Store, ArrayOf}
+use Rattle.pk_graph.specs.Trees.{constant, Skip, Clear}
 use Rattle.pk_draft.specs.declared.drafts.Label.{Label}
 use Rattle.pk_draft.specs.declared.drafts.Region.{Region}
-use Rattle.pk_draft.specs.Drafts.{Names, Given, no_label, at, on, in_scope, scoped, with_name, placed, all_placed, fresh, inner, with_object, link, go, emit, away, come}
+use Rattle.pk_draft.specs.Drafts.{Names, Given, no_label, at, on, in_scope, placed, all_placed, fresh, inner, with_object, link, emit, away, come}
 use Rattle.pk_draft.specs.Folding.{conversion, binary_tree}
 use Rattle.pk_lower_row.specs.declared.shapes.Waiting.TheVariants.{Strong}
 use Rattle.pk_lower_row.specs.Shapes.{converted_shape, shape_of}
@@ -28,10 +28,9 @@ use Rattle.pk_lower_expression.specs.Expressions.{ways, performed}
 use Rattle.pk_lower_statement.specs.declared.statements.Exits.{Exits}
 use Rattle.pk_lower_statement.specs.Statements as statements
 use Rattle.pk_lower_statement.specs.Statements.{named, introduced, item, items, declared, all_declared, inside, branching, meeting, if_draft, round, while_from, do_from, for_from, loop_begun, case_test, case_tests, in_switch, switch_begun, returned, performed_if, for_start, for_test, lowered, lowered_items}
-use Rattle.pk_visits.proofs.Slots.{Slot, SlotTree, Draft, Instr, KeepsBy, Keeps, Grows, Same, Never, front_among, Among, label_at, region_at, Edge}
-use Rattle.pk_visits.proofs.Grows.{keeps_trans, grows_refl, grows_trans, link_grows, emit_grows, fresh_one_grows, fresh_three_grows, held_grows, guards_grow, WaysGrow}
+use Rattle.pk_visits.proofs.Slots.{Slot, SlotTree, Draft, Instr, KeepsBy, Keeps, Grows, front_among, Among, label_at, region_at, Edge}
+use Rattle.pk_visits.proofs.Grows.{keeps_trans, grows_refl, grows_trans, link_grows, emit_grows, fresh_one_grows, held_grows, guards_grow, WaysGrow}
 use Rattle.pk_visits.proofs.Growing.{AllCalled, values, effects, front_called, back_called}
-use Rattle.pk_visits.proofs.Growing as growing
 use Rattle.pk_visits.proofs.Stands.{Marking}
 use Rattle.pk_visits.proofs.Stores.{decided}
 
@@ -213,13 +212,13 @@ all_declared_enlarges ms C c (v ∷ vs) d h =
 
 -- ---- choices and loops
 
-abbrev AddsTo : List ℕ → (ℕ → Type 0) → (Draft → Draft) → Type 0
+abbrev pub AddsTo : List ℕ → (ℕ → Type 0) → (Draft → Draft) → Type 0
 AddsTo ms C f = (d : Draft) → Adds ms C d (f d)
 
-abbrev ChoiceAdds : List ℕ → (ℕ → Type 0) → ((p q : ℕ) → Draft → Draft) → Type 0
+abbrev pub ChoiceAdds : List ℕ → (ℕ → Type 0) → ((p q : ℕ) → Draft → Draft) → Type 0
 ChoiceAdds ms C f = (p q : ℕ) (d : Draft) → Adds ms C d (f p q d)
 
-abbrev BodyAdds : List ℕ → (ℕ → Type 0) → Exits → (Exits → Draft → Draft) → Type 0
+abbrev pub BodyAdds : List ℕ → (ℕ → Type 0) → Exits → (Exits → Draft → Draft) → Type 0
 BodyAdds ms C x s = (b k : ℕ) (d : Draft) → Adds ms C d (s (inside b k x) d)
 
 pub fresh_adds : (ms : List ℕ) (C : ℕ → Type 0) (n : ℕ) (d : Draft) → Adds ms C d (fresh n d)
@@ -254,11 +253,11 @@ do_adds ms C p c s x hc hs k e d =
     let r = round x s d.point e k d in
     stays_then (round_adds ms C x s hs d.point e k d) (stays_then (on_adds ms C p r) (hc d.point e (on p r)))
 
-scope_adds : (ms : List ℕ) (C : ℕ → Type 0) (d e : Draft) → Enlarges ms C d e → Adds ms C d (in_scope d.here.scope e)
+pub scope_adds : (ms : List ℕ) (C : ℕ → Type 0) (d e : Draft) → Enlarges ms C d e → Adds ms C d (in_scope d.here.scope e)
 scope_adds ms C d e g = record { edges = g.edges; names = g.names; variables = g.variables; points = g.points; size = g.size; labels = g.labels; regions = g.regions; paths = g.paths; here = (g.here, refl) }
 
 -- the names in scope are those of an earlier draft
-scoped_adds : (ms : List ℕ) (C : ℕ → Type 0) (k : ℕ) (d e : Draft) → Adds ms C d e → Adds ms C d (in_scope d.here.scope e)
+pub scoped_adds : (ms : List ℕ) (C : ℕ → Type 0) (k : ℕ) (d e : Draft) → Adds ms C d e → Adds ms C d (in_scope d.here.scope e)
 scoped_adds ms C k d e g = scope_adds ms C d e (enlarges ms C d e g)
 
 pub for_adds : (ms : List ℕ) (C : ℕ → Type 0) (p : Pos) (test : (p q : ℕ) → Draft → Draft) (third : Draft → Draft) (s : Exits → Draft → Draft) (x : Exits) → ChoiceAdds ms C test → AddsTo ms C third → BodyAdds ms C x s → (b k e : ℕ) (d : Draft)
@@ -371,15 +370,15 @@ returned_adds ms C c left (Some t) (Some e) h d =
     let f = rows.set_after t (type_of e) (own_result c d) r in
     stays_then (adds ms C d f (grows_trans ((values C c e h).value d) (emit_grows C _ r.1))) (away_adds ms C left f)
 
-third_adds : (ms : List ℕ) (C : ℕ → Type 0) (c : Context) (e : Option EffectTree) → AllCalled C c (calls_in_effect_if e) → AddsTo ms C (performed_if c e)
+pub third_adds : (ms : List ℕ) (C : ℕ → Type 0) (c : Context) (e : Option EffectTree) → AllCalled C c (calls_in_effect_if e) → AddsTo ms C (performed_if c e)
 third_adds ms C c None h d = nothing_adds ms C d
 third_adds ms C c (Some e) h d = adds ms C d (performed c e d) (effects C c e h d)
 
-test_adds : (ms : List ℕ) (C : ℕ → Type 0) (c : Context) (e : Option ValueTree) → AllCalled C c (calls_if e) → ChoiceAdds ms C (for_test c e)
+pub test_adds : (ms : List ℕ) (C : ℕ → Type 0) (c : Context) (e : Option ValueTree) → AllCalled C c (calls_if e) → ChoiceAdds ms C (for_test c e)
 test_adds ms C c None h p q d = link_adds ms C Skip p d
 test_adds ms C c (Some e) h p q d = adds ms C d ((ways c e).choice p q d) ((values C c e h).choice p q d)
 
-start_enlarges : (ms : List ℕ) (C : ℕ → Type 0) (c : Context) (f : ForStartTree) (d : Draft) → AllCalled C c (calls_at_start f) → Enlarges ms C d (for_start c f d)
+pub start_enlarges : (ms : List ℕ) (C : ℕ → Type 0) (c : Context) (f : ForStartTree) (d : Draft) → AllCalled C c (calls_at_start f) → Enlarges ms C d (for_start c f d)
 start_enlarges ms C c (tree.declarations vs) d h = all_declared_enlarges ms C c vs d h
 start_enlarges ms C c (tree.expression e) d h = enlarges ms C d (performed_if c e d) (third_adds ms C c e h d)
 

@@ -1,31 +1,24 @@
 -- From the work of a statement to that of its parts.
-use Rattle.std.proofs.Common.{◌≡◌, ℕ, zero, suc, ◌+◌, ◌<◌, ◌≤◌, ◌⊎◌, List, [], ◌∷◌, ◌++◌, length, Bool, true, false, if◌then◌else◌, refl, sym, ap, ◌∙◌, subst, inl, inr, arith, ℤ, Option, Some, None}
+use Rattle.std.proofs.Common.{ℕ, List, [], refl, sym, subst, inr, arith}
 use Rattle.pk_ctypes.specs.declared.places.Pos.{Pos}
-use Rattle.pk_ctypes.specs.declared.types.IntType.{IntType}
 use Rattle.pk_typed.specs.Trees.{ValueTree, EffectTree, StatementTree, ItemTrees}
 use Rattle.pk_typed.specs.Trees as tree
-use Rattle.pk_welltyped.specs.Listed.{Numbered, calls_in, calls_in_effect, calls_in_statement, calls_in_items}
-use Rattle.pk_welltyped.specs.WellTyped.{IsStatement, AreItems, Marks}
+use Rattle.pk_welltyped.specs.Listed.{calls_in_effect, calls_in_statement, calls_in_items}
+use Rattle.pk_welltyped.specs.WellTyped.{IsStatement, AreItems}
 use Rattle.pk_graph.specs.Trees.{Skip}
-use Rattle.pk_graph.specs.Steps.{Numbers}
 use Rattle.pk_draft.specs.declared.drafts.Label.{Label}
-use Rattle.pk_draft.specs.Drafts.{on, in_scope, at, fresh, link, placed, come, no_label}
-use Rattle.pk_lower_row.specs.Shapes.{makes_effect}
-use Rattle.pk_lower_row.specs.Contexts.{Context}
-use Rattle.pk_lower_expression.specs.Expressions.{ways, performed}
+use Rattle.pk_draft.specs.Drafts.{on, in_scope}
 use Rattle.pk_lower_statement.specs.declared.statements.Exits.{Exits}
 use Rattle.pk_lower_statement.specs.Statements.{lowered, lowered_items}
-use Rattle.pk_meaning.specs.Objects.{Scope, Objects}
+use Rattle.pk_meaning.specs.Objects.{Scope}
 use Rattle.pk_meaning.specs.Work as work
 use Rattle.pk_meaning.specs.Work.{Place, Work, Ahead, Onward}
-use Rattle.pk_meaning.specs.Steps as meaning
-use Rattle.pk_meaning.specs.Steps.{place, step_of}
+use Rattle.pk_meaning.specs.Steps.{place}
 use Rattle.pk_visits.proofs.Slots.{Slot, Draft, Memory, Among, edge, last_among}
-use Rattle.pk_visits.proofs.Stands.{Whole, Proper, context_of, Held, around, AreCalm, ArePlain, ShowsAt, Means, FitsObjects, Stage, led_to, Marking, LaidAhead, Laid}
-use Rattle.pk_visits.proofs.Stages.{In, all_called, effect_grows, ways_grow, part_first, part_second, part_until, stage_at, stage_until}
-use Rattle.pk_visits.proofs.StatementGrows.{Stays, OnPath, Adds, Enlarges, on_adds, come_adds, away_adds, enlarges, statement, block}
+use Rattle.pk_visits.proofs.Stands.{Whole, Proper, context_of, Held, ShowsAt, led_to, LaidAhead, Laid}
+use Rattle.pk_visits.proofs.Stages.{In, all_called, part_first, part_second, part_until, stage_at}
+use Rattle.pk_visits.proofs.StatementGrows.{Stays, OnPath, statement, block}
 use Rattle.pk_visits.proofs.Operands.{calm_more}
-use Rattle.pk_visits.proofs.Follow.{Answers, Follows, config, still, moved}
 use Rattle.pk_visits.proofs.Doom.{calm_plain}
 
 -- ---- places
@@ -56,10 +49,27 @@ next_laid g proper k h x xs s is a p hs q (plain, (d, n, m, at', fits, calm, t, 
     let rest = block (In (led_to c (calls_in_items is))) c _ m is x t.marks fits.1 marking (all_called c (calls_in_items is)) e in
     let first = statement (In (led_to c (calls_in_statement s))) c _ m s x t.marks fits.0 marking (all_called c (calls_in_statement s)) d in
     let le = first.points in
-    let lv = first.variables in
-    (d, n, m, at', fits.0, calm, part_first g OnPath k _ (calls_in_statement s) (calls_in_items is) d e (lowered_items c is x e) t rest, marking,
-    (e, _, m, refl, fits.1, calm_more d.variables e.variables hs lv calm,
-    part_second g k _ (place e.here.at xs) (calls_in_statement s) (calls_in_items is) d e (lowered_items c is x e) t le (shows_on g proper k xs d.here e.here t.here first.here), marking, l))
+    let lv = first.variables in (
+      d,
+      n,
+      m,
+      at',
+      fits.0,
+      calm,
+      part_first g OnPath k _ (calls_in_statement s) (calls_in_items is) d e (lowered_items c is x e) t rest,
+      marking,
+      (
+        e,
+        _,
+        m,
+        refl,
+        fits.1,
+        calm_more d.variables e.variables hs lv calm,
+        part_second g k _ (place e.here.at xs) (calls_in_statement s) (calls_in_items is) d e (lowered_items c is x e) t le (shows_on g proper k xs d.here e.here t.here first.here),
+        marking,
+        l,
+      ),
+    )
 
 pub none_laid : (g : Whole) (k : ℕ) (h : Place) (x : Exits) (xs : Scope) (a : Ahead) (p : ℕ) (hs : List Held) → Laid g k h x (work.Go (work.Rest xs tree.no_items a)) p hs → Laid g k h x (work.Go a) p hs
 unfolding lowered_items

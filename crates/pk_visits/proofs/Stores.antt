@@ -1,10 +1,9 @@
 -- What objects and slots hold where one is written.
-use Rattle.std.proofs.Common.{◌≡◌, ℕ, zero, suc, ◌<◌, ◌⊎◌, List, [], ◌∷◌, length, Bool, true, false, ◌&&◌, if◌then◌else◌, nat_eq, refl, sym, ap, ◌∙◌, subst, inl, inr, arith, ◌≢◌, ℤ}
-use Rattle.std.specs.Prelude.{slice_index_or, slice_set, pos, Ok, Result}
+use Rattle.std.proofs.Common.{◌≡◌, ℕ, zero, suc, ◌<◌, ◌⊎◌, List, [], ◌∷◌, length, true, false, if◌then◌else◌, nat_eq, refl, sym, ap, ◌∙◌, subst, inl, inr, arith, ◌≢◌, ℤ}
+use Rattle.std.specs.Prelude.{slice_index_or, slice_set, Ok}
 use Rattle.std.proofs.lemmas.List.{get_or-set_other}
 use Rattle.std.proofs.lemmas.Bool.{eq-eqb, ne_eqb}
-use Rattle.pk_ctypes.specs.declared.types.IntType.{IntType}
-use Rattle.pk_ctypes.specs.Types.{InType, wrapped}
+use Rattle.pk_ctypes.specs.Types.{wrapped}
 use Rattle.pk_ctypes.specs.Operators.{value_of}
 use Rattle.pk_graph.specs.Kinds.{count_of}
 use Rattle.pk_graph.specs.Trees.{constant, variable, converted, unary, binary}

@@ -1,11 +1,11 @@
 -- The shape of an expression is that of its tree, wherever it is lowered.
-use Rattle.std.proofs.Common.{◌≡◌, length, List, [], ◌∷◌, ℕ, ◌+◌, ◌<◌, ◌≤◌, Bool, true, false, if◌then◌else◌, refl, sym, ap, ◌∙◌, subst, arith, ℤ, Option, Some, None}
-use Rattle.std.specs.Prelude.{Result, Ok, Err, option_map, pos}
+use Rattle.std.proofs.Common.{◌≡◌, length, List, [], ◌∷◌, ℕ, ◌+◌, ◌<◌, ◌≤◌, Bool, true, false, if◌then◌else◌, refl, sym, ap, ◌∙◌, subst, arith, ℤ, Some}
+use Rattle.std.specs.Prelude.{Result, Ok, Err, pos}
 use Rattle.pk_ctypes.specs.declared.faults.Fault.{Fault}
 use Rattle.pk_ctypes.specs.declared.types.IntType.{IntType}
 use Rattle.pk_ctypes.specs.declared.types.IntType.TheVariants.{Int}
 use Rattle.pk_ctypes.specs.declared.types.Op.{Op}
-use Rattle.pk_ctypes.specs.Types.{represents, wrapped}
+use Rattle.pk_ctypes.specs.Types.{represents}
 use Rattle.pk_ctypes.specs.Operators.{value_of, result_type}
 use Rattle.pk_typed.specs.declared.values.Variable.{Variable}
 use Rattle.pk_typed.specs.declared.values.Variable.TheVariants.{File, Local}
@@ -13,15 +13,15 @@ use Rattle.pk_typed.specs.Trees.{PlaceTree, ValueTree, EffectTree}
 use Rattle.pk_typed.specs.Trees as tree
 use Rattle.pk_typed.specs.Types.{type_of}
 use Rattle.pk_graph.specs.declared.trees.Site.{Site}
-use Rattle.pk_graph.specs.Trees.{TreeOf, constant, variable, converted, unary, binary}
-use Rattle.pk_draft.specs.Drafts.{Given, DraftOf, Names, at, fresh, with_temporary, next_temporary, object_number}
-use Rattle.pk_draft.specs.Folding.{conversion, kept_if, folded, unary_tree, binary_tree, operated_tree, right_type}
+use Rattle.pk_graph.specs.Trees.{constant, variable, unary, binary}
+use Rattle.pk_draft.specs.Drafts.{Given, Names, at, fresh, with_temporary, next_temporary, object_number}
+use Rattle.pk_draft.specs.Folding.{conversion, kept_if, folded, unary_tree, binary_tree, right_type}
 use Rattle.pk_lower_row.specs.declared.shapes.Shape.{Shape}
 use Rattle.pk_lower_row.specs.declared.shapes.Shape.TheVariants.{Fixed, Temporary, Named, Other}
 use Rattle.pk_lower_row.specs.declared.shapes.Waiting.{Waiting}
 use Rattle.pk_lower_row.specs.declared.shapes.Waiting.TheVariants.{Loose, Strong, Weak}
 use Rattle.pk_lower_row.specs.Shapes.{shape_of_place, folded_shape, kept_shape_if, converted_shape, unary_shape, binary_shape, operated_shape, shape_of, strong_if, strong_or_weak}
-use Rattle.pk_lower_row.specs.Contexts.{Context, variable_of, array_of, site, callee, size_in, parameters_of}
+use Rattle.pk_lower_row.specs.Contexts.{Context, variable_of, array_of, site, callee, parameters_of}
 use Rattle.pk_lower_row.specs.Rows as rows
 use Rattle.pk_lower_row.specs.Rows.{Operand, held, two, one}
 use Rattle.pk_lower_expression.specs.Expressions.{target, ways, performed, passed}

@@ -1,8 +1,7 @@
 -- The graph follows the program at tests, assertions, and the ends of branches, switches and functions.
-use Rattle.std.proofs.Common.{◌≡◌, ℕ, List, [], ◌∷◌, Bool, true, false, if◌then◌else◌, refl, sym, ap, ◌∙◌, subst, inl, inr, arith, ℤ}
-use Rattle.std.specs.Prelude.{pos, Ok, Err}
+use Rattle.std.proofs.Common.{◌≡◌, ℕ, List, ◌∷◌, Bool, true, false, if◌then◌else◌, refl, ap, ◌∙◌, ℤ}
+use Rattle.std.specs.Prelude.{Ok}
 use Rattle.pk_ctypes.specs.declared.places.Pos.{Pos}
-use Rattle.pk_ctypes.specs.declared.types.IntType.{IntType}
 use Rattle.pk_ctypes.specs.declared.types.IntType.TheVariants.{Int}
 use Rattle.pk_ctypes.specs.declared.faults.Fault.TheVariants as faults
 use Rattle.pk_ctypes.specs.Types.{wrapped}
@@ -17,9 +16,9 @@ use Rattle.pk_meaning.specs.Work.{Place, Work, Way, Onward, Refused, Lost, Ahead
 use Rattle.pk_meaning.specs.Steps as meaning
 use Rattle.pk_meaning.specs.Steps.{step_of, body_place}
 use Rattle.pk_visits.proofs.Slots.{Memory, memory, SlotTree, Among, edge}
-use Rattle.pk_visits.proofs.Stands.{Whole, Held, ArePlain, Means, FitsObjects, ShowsAt, site_at, LaidWay, LaidAhead, LaidCaller, Laid}
+use Rattle.pk_visits.proofs.Stands.{Whole, Held, Means, FitsObjects, site_at, LaidWay, Laid}
 use Rattle.pk_visits.proofs.Values.{conversion_value}
-use Rattle.pk_visits.proofs.Follow.{Doomed, now, Answers, Follows, config, still, moved}
+use Rattle.pk_visits.proofs.Follow.{now, Answers, config, still, moved}
 
 -- a guard that passes
 passes : (chosen : Numbers) (e : SlotTree) (v : ℤ) (sense : Bool) (m : Memory) → tree_value memory e m ≡ Ok v → is_true v ≡ sense → effect memory chosen (Guard e sense) m ≡ steps.To m

@@ -1,11 +1,8 @@
 -- From the work of an expression to that of its parts: names and operators.
-use Rattle.std.proofs.Common.{◌≡◌, ℕ, ◌+◌, ◌<◌, List, [], ◌∷◌, ◌++◌, Bool, true, false, ◌||◌, refl, sym, ap, ◌∙◌, subst, inl, inr, arith, length}
-use Rattle.std.specs.Prelude.{pos, Some}
+use Rattle.std.proofs.Common.{◌≡◌, ℕ, ◌<◌, List, [], ◌∷◌, Bool, true, false, ◌||◌, refl, sym, ap, ◌∙◌, subst, arith, length}
 use Rattle.pk_ctypes.specs.declared.places.Pos.{Pos}
 use Rattle.pk_ctypes.specs.declared.types.IntType.{IntType}
-use Rattle.pk_ctypes.specs.declared.types.IntType.TheVariants.{Int}
 use Rattle.pk_ctypes.specs.declared.types.Op.{Op}
-use Rattle.pk_ctypes.specs.Operators.{result_type}
 use Rattle.pk_typed.specs.declared.values.Variable.{Variable}
 use Rattle.pk_typed.specs.declared.values.Variable.TheVariants.{File, Local}
 use Rattle.pk_typed.specs.Trees.{PlaceTree, ValueTree, EffectTree}
@@ -13,21 +10,20 @@ use Rattle.pk_typed.specs.Trees as tree
 use Rattle.pk_typed.specs.Types.{type_of}
 use Rattle.pk_welltyped.specs.Listed.{Numbered, calls_at_place, calls_in, calls_in_effect}
 use Rattle.pk_welltyped.specs.WellTyped.{Kind, scalar, IsObject, IsPlace, IsValue, IsEffect}
-use Rattle.pk_graph.specs.Trees.{constant, variable, Set}
+use Rattle.pk_graph.specs.Trees.{variable, Set}
 use Rattle.pk_draft.specs.Drafts.{emit}
 use Rattle.pk_draft.specs.Folding.{conversion, updated_tree}
 use Rattle.pk_lower_row.specs.Shapes.{makes, makes_effect, strong_if}
-use Rattle.pk_lower_row.specs.declared.shapes.Waiting.TheVariants.{Loose, Strong}
-use Rattle.pk_lower_row.specs.Contexts.{Context, variable_of, site}
+use Rattle.pk_lower_row.specs.declared.shapes.Waiting.TheVariants.{Strong}
+use Rattle.pk_lower_row.specs.Contexts.{variable_of, site}
 use Rattle.pk_lower_row.specs.Rows as rows
 use Rattle.pk_lower_row.specs.Rows.{one_tree}
 use Rattle.pk_lower_expression.specs.Expressions.{target, ways, performed}
 use Rattle.pk_lower_statement.specs.declared.statements.Exits.{Exits}
-use Rattle.pk_meaning.specs.Objects.{Object, file, local}
 use Rattle.pk_meaning.specs.Programs.{object_of}
 use Rattle.pk_meaning.specs.Work as work
 use Rattle.pk_meaning.specs.Work.{Place, Work}
-use Rattle.pk_visits.proofs.Slots.{Slot, own, temporary, slots, SlotTree, Draft, Among, edge, Grows}
+use Rattle.pk_visits.proofs.Slots.{Slot, own, slots, SlotTree, Draft, Among, edge, Grows}
 use Rattle.pk_visits.proofs.Grows.{grows_refl, grows_trans, emit_grows, two_grows}
 use Rattle.pk_visits.proofs.Growing.{lowered}
 use Rattle.pk_visits.proofs.Tells.{variable_is, sane}
@@ -73,10 +69,11 @@ writes_scalar g k h n y e d r hs C xs ns s z calm =
 pub scalar_laid : (g : Whole) (k : ℕ) (h : Place) (x : Exits) (t : IntType) (y : Variable) (w : Work) (p : ℕ) (hs : List Held) → Laid g k h x (work.Evaluate (tree.read (tree.scalar t y)) w) p hs
     → IsScalar g (object_of k y) t × Laid g k h x w p (held (variable (own (object_of k y))) t ∷ hs)
 unfolding target ways IsPlace IsValue calls_at_place calls_in type_of
-scalar_laid g k h x t y w p hs (d, n, at, fits, quiet, s, l) =
-    (has_kind g k n (scalar t) y s.path fits,
-    subst (λ q. Laid g k h x w q (held (variable (own (object_of k y))) t ∷ hs)) at
-    (subst (λ u. Laid g k h x w d.point (held (variable u) t ∷ hs)) (variable_is (context_of g k) y d s.leads.names) l))
+scalar_laid g k h x t y w p hs (d, n, at, fits, quiet, s, l) = (
+  has_kind g k n (scalar t) y s.path fits,
+  subst (λ q. Laid g k h x w q (held (variable (own (object_of k y))) t ∷ hs)) at
+      (subst (λ u. Laid g k h x w d.point (held (variable u) t ∷ hs)) (variable_is (context_of g k) y d s.leads.names) l),
+)
 
 pub unary_laid : (g : Whole) (k : ℕ) (h : Place) (x : Exits) (op : Op) (at : Pos) (t : IntType) (e : ValueTree) (w : Work) (p : ℕ) (hs : List Held) → Laid g k h x (work.Evaluate (tree.unary op at t e) w) p hs
     → Laid g k h x (work.Evaluate e (work.Apply op at t w)) p hs
@@ -114,10 +111,23 @@ then_laid g k h x f v w p hs (d, n, is, fits, quiet, s, l) =
     let c = context_of g k in
     let e = performed c f d in
     let gf = effect_grows c f d in
-    let gv = (ways_grow c v).value e in
-    (d, n, is, fits.0, (λ m. quiet (or_first (makes_effect f) (makes v) m)), stage_first g k h (calls_in_effect f) (calls_in v) d e ((ways c v).value e).1 s gv,
-    (e, n, refl, fits.1, (λ m. calm_more d.variables e.variables hs gf.variables (quiet (or_second (makes_effect f) (makes v) m))),
-    stage_second g k h (In (led_to c (calls_in_effect f))) (calls_in_effect f) (calls_in v) d e ((ways c v).value e).1 s gf, l))
+    let gv = (ways_grow c v).value e in (
+      d,
+      n,
+      is,
+      fits.0,
+      (λ m. quiet (or_first (makes_effect f) (makes v) m)),
+      stage_first g k h (calls_in_effect f) (calls_in v) d e ((ways c v).value e).1 s gv,
+      (
+        e,
+        n,
+        refl,
+        fits.1,
+        (λ m. calm_more d.variables e.variables hs gf.variables (quiet (or_second (makes_effect f) (makes v) m))),
+        stage_second g k h (In (led_to c (calls_in_effect f))) (calls_in_effect f) (calls_in v) d e ((ways c v).value e).1 s gf,
+        l,
+      ),
+    )
 
 -- ---- assignments to names
 
@@ -130,11 +140,20 @@ assign_laid g k h x at t y e w p hs (d, n, is, fits, quiet, s, l) =
     let ge = (ways_grow c e).value d in
     let f = emit (Set (variable_of c y d) (conversion (type_of e) t r.0)) r.1 in
     let last = emit_grows (In []) (Set (variable_of c y d) (conversion (type_of e) t r.0)) r.1 in
-    let ns = stage_names g k h _ (In (led_to c (calls_in e))) d f s (grows_trans ge (emit_grows (In (led_to c (calls_in e))) (Set (variable_of c y d) (conversion (type_of e) t r.0)) r.1)) in
-    (d, n, is, fits.1, (λ m. quiet refl), stage_until g k h _ d r.1 f s last,
-    (r.1.points, has_kind g k n (scalar t) y s.path fits.0,
-    writes_scalar g k h d.variables y (λ u. conversion (type_of e) t r.0) d r.1 hs (In (led_to c (calls_in e))) _ ns s ge (quiet refl),
-    subst (λ u. Laid g k h x w r.1.points (held (variable u) t ∷ hs)) (variable_is c y d ns) l))
+    let ns = stage_names g k h _ (In (led_to c (calls_in e))) d f s (grows_trans ge (emit_grows (In (led_to c (calls_in e))) (Set (variable_of c y d) (conversion (type_of e) t r.0)) r.1)) in (
+      d,
+      n,
+      is,
+      fits.1,
+      (λ m. quiet refl),
+      stage_until g k h _ d r.1 f s last,
+      (
+        r.1.points,
+        has_kind g k n (scalar t) y s.path fits.0,
+        writes_scalar g k h d.variables y (λ u. conversion (type_of e) t r.0) d r.1 hs (In (led_to c (calls_in e))) _ ns s ge (quiet refl),
+        subst (λ u. Laid g k h x w r.1.points (held (variable u) t ∷ hs)) (variable_is c y d ns) l,
+      ),
+    )
 
 pub update_laid : (g : Whole) (k : ℕ) (h : Place) (x : Exits) (op : Op) (at : Pos) (o t : IntType) (y : Variable) (e : ValueTree) (w : Work) (p : ℕ) (hs : List Held)
     → Laid g k h x (work.Evaluate (tree.update op at o (tree.scalar t y) e) w) p hs → Laid g k h x (work.Evaluate e (work.Update op at o t (object_of k y) w)) p hs
@@ -144,8 +163,17 @@ update_laid g k h x op at o t y e w p hs (d, n, is, fits, quiet, s, l) =
     let r = (ways c e).value d in
     let ge = (ways_grow c e).value d in
     let i = Set (variable_of c y d) (updated_tree op (site c at) o t (type_of e) (variable (variable_of c y d)) r.0) in
-    let ns = stage_names g k h _ (In (led_to c (calls_in e))) d (emit i r.1) s (grows_trans ge (emit_grows (In (led_to c (calls_in e))) i r.1)) in
-    (d, n, is, fits.2, (λ m. quiet refl), stage_until g k h _ d r.1 (emit i r.1) s (emit_grows (In []) i r.1),
-    (r.1.points, has_kind g k n (scalar t) y s.path fits.1,
-    writes_scalar g k h d.variables y (λ u. updated_tree op (site c at) o t (type_of e) (variable u) r.0) d r.1 hs (In (led_to c (calls_in e))) _ ns s ge (quiet refl),
-    subst (λ u. Laid g k h x w r.1.points (held (variable u) t ∷ hs)) (variable_is c y d ns) l))
+    let ns = stage_names g k h _ (In (led_to c (calls_in e))) d (emit i r.1) s (grows_trans ge (emit_grows (In (led_to c (calls_in e))) i r.1)) in (
+      d,
+      n,
+      is,
+      fits.2,
+      (λ m. quiet refl),
+      stage_until g k h _ d r.1 (emit i r.1) s (emit_grows (In []) i r.1),
+      (
+        r.1.points,
+        has_kind g k n (scalar t) y s.path fits.1,
+        writes_scalar g k h d.variables y (λ u. updated_tree op (site c at) o t (type_of e) (variable u) r.0) d r.1 hs (In (led_to c (calls_in e))) _ ns s ge (quiet refl),
+        subst (λ u. Laid g k h x w r.1.points (held (variable u) t ∷ hs)) (variable_is c y d ns) l,
+      ),
+    )

@@ -1,8 +1,7 @@
 -- What trees give whose constant parts are folded, and whose conversions are left out where they change nothing.
-use Rattle.std.proofs.Common.{◌≡◌, ℕ, Bool, true, false, ◌&&◌, if◌then◌else◌, refl, sym, ap, ◌∙◌, subst, arith, ℤ, Option, Some, None}
-use Rattle.std.specs.Prelude.{Result, Ok, Err, option_map, int_le, int_lt, ◌≤ℤ◌, pos, not}
+use Rattle.std.proofs.Common.{◌≡◌, Bool, true, false, ◌&&◌, refl, sym, ap, ◌∙◌, subst, arith, ℤ, Some}
+use Rattle.std.specs.Prelude.{Result, Ok, Err, int_le, int_lt, ◌≤ℤ◌, pos, not}
 use Rattle.std.specs.Ordering.{int_eq}
-use Rattle.std.specs.Option.{option_and_then}
 use Rattle.std.proofs.lemmas.Int.{ints}
 use Rattle.pk_ctypes.specs.declared.faults.Fault.{Fault}
 use Rattle.pk_ctypes.specs.declared.types.IntType.{IntType}
@@ -16,9 +15,9 @@ use Rattle.pk_ctypes.specs.declared.faults.Fault.TheVariants.{Overflow, Shift}
 use Rattle.pk_ctypes.specs.Operators.{truth, exact, fitted, value_of, result_type}
 use Rattle.pk_ctypes.proofs.Values.{wrapped_inside, test_le, fitted_if_in, fitted_inside, truth_in}
 use Rattle.pk_graph.specs.declared.trees.Site.{Site}
-use Rattle.pk_graph.specs.Trees.{TreeOf, constant, variable, converted, unary, binary}
-use Rattle.pk_graph.specs.Steps.{tree_value, and_then, at_site, failure, Failure}
-use Rattle.pk_draft.specs.Folding.{conversion, kept_if, folded, unary_tree, binary_tree, operated_tree, updated_tree, right_type, number_in}
+use Rattle.pk_graph.specs.Trees.{constant, variable, converted, unary, binary}
+use Rattle.pk_graph.specs.Steps.{tree_value, and_then, at_site, Failure}
+use Rattle.pk_draft.specs.Folding.{conversion, kept_if, folded, unary_tree, binary_tree, operated_tree, right_type}
 use Rattle.pk_meaning.specs.Steps.{operated, right_number}
 use Rattle.pk_visits.proofs.Slots.{SlotTree, Memory, memory}
 

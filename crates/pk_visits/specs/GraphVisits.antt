@@ -1,22 +1,12 @@
 -- Runs of a graph, and what is seen of them.
-use Rattle.std.specs.Prelude.{◌≡◌, ℕ, ◌<◌, ◌-◌, Bool, true, pos, if◌then◌else◌, List, [], ◌∷◌, ◌++◌, length, map, replicate, Contains, Option, Some, None, unwrap_or}
-use Rattle.pk_graph.specs.Kinds.{count_of}
+use Rattle.std.specs.Prelude.{◌≡◌, ℕ, Bool, true, if◌then◌else◌, List, [], ◌∷◌, map, Contains, Option, Some, None, unwrap_or}
 use Rattle.pk_graph.specs.Trees.{InstrOf, Skip, Set, Havoc, Clear, Load, Store, Guard, Check}
-use Rattle.pk_graph.specs.Graphs.{VariableOf, StartOf, any_start, number_start, EdgeOf, GraphOf, variable_at, point_at}
-use Rattle.pk_graph.specs.Steps.{Numbers, are_any, To, effect}
+use Rattle.pk_graph.specs.Graphs.{EdgeOf, GraphOf, variable_at, point_at}
+use Rattle.pk_graph.specs.Steps.{Numbers, To, effect}
 use Rattle.pk_graph.specs.Stores.{Stored, storing, numbers_of}
 use Rattle.pk_number.specs.Preorders.{is_among}
+pub use Rattle.pk_step.specs.Beginnings.{BeginsWith, Begins}
 use Rattle.pk_meaning.specs.Runs.{Known, Visit}
-
--- what a variable may hold when a run begins: any numbers of its type, as many as it has, or the given ones and 0 for the others
-abbrev pub BeginsWith : VariableOf → StartOf → Numbers → Type 0
-BeginsWith x any_start zs = are_any x.kind.int_type (count_of x.kind.length) zs ≡ true
-BeginsWith x (number_start ns) zs = zs ≡ ns ++ replicate (count_of x.kind.length - length ns) (pos 0)
-
--- a store with which a run begins
-pub record Begins (g : GraphOf) (s : Stored) : Type 0 where
-  pub size : length s ≡ length g.variables
-  pub each : (x : ℕ) → x < length g.variables → BeginsWith (variable_at g x) (variable_at g x).start (numbers_of s x)
 
 -- the variable that an instruction writes
 abbrev pub written : InstrOf ℕ → Option ℕ

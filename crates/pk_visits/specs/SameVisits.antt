@@ -69,3 +69,9 @@ abbrev pub GraphsHaveProgramVisits : Type 0
 GraphsHaveProgramVisits =
     (u : UnitTree) (name : List ℕ) (paths : List CallPath) → IsUnit u → AreMarked u → HasPaths u name paths → point_count u paths ≤ 65536
     → HaveSameVisits (record { unit = u; paths = paths }) (graph_of u paths)
+
+-- the first half of it alone
+abbrev pub ProgramsAreFollowed : Type 0
+ProgramsAreFollowed =
+    (u : UnitTree) (name : List ℕ) (paths : List CallPath) → IsUnit u → AreMarked u → HasPaths u name paths → point_count u paths ≤ 65536
+    → (visits : List Visit) (end : Option Failure) → ProgramVisits (record { unit = u; paths = paths }) visits end → GraphVisits (graph_of u paths) visits end
