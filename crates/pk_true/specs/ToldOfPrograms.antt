@@ -12,7 +12,7 @@ use Rattle.pk_sound.specs.Faults.{fault_of, IsHidden}
 use Rattle.pk_meaning.specs.Programs.{Program}
 use Rattle.pk_meaning.specs.Runs.{Visit}
 use Rattle.pk_visits.specs.GraphVisits.{visit_at}
-use Rattle.pk_visits.specs.SameVisits.{ProgramVisits}
+use Rattle.pk_visits.specs.SameVisits.{ProgramVisits, ProgramsAreFollowed}
 use Rattle.pk_runs.specs.True.{IsUnknownIn}
 use Rattle.pk_top.specs.Answers.{IsRun}
 
@@ -59,3 +59,6 @@ abbrev pub ReportsAreTrueOfPrograms : Type 0
 ReportsAreTrueOfPrograms =
     (text : List ℕ) (o : RunOptions) (unknown : ℕ) (bytes : List ℕ) (r : IsRun text o unknown bytes) → o.oct < 2 ^ 31
     → IsTrueOfProgram (program_of r) r.graph r.report.states
+
+abbrev pub ToldWhereFollowed : Type 0
+ToldWhereFollowed = ProgramsAreFollowed → ReportsAreTrueOfPrograms

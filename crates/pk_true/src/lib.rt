@@ -1,6 +1,6 @@
-//! What is told of a text is true of every run of the program that it is.
+//! What is told of a text is true of every run of the program that it is, where its graph follows it.
 #![tactic(auto)]
 
 mod laws;
 
-pub use laws::programs_are_told;
+pub use laws::followed_programs_are_told;
