@@ -1,7 +1,8 @@
 -- From runs of a program to runs of its graph, and to what is told of it.
-use Rattle.std.specs.Prelude.{◌≡◌, ◌⊎◌, ℕ, ◌<◌, Bool, true, false, if◌then◌else◌, List, [], ◌∷◌, All, Contains, Option, Some, None}
+use Rattle.std.specs.Prelude.{◌≡◌, ◌⊎◌, ℕ, ◌<◌, Bool, true, false, if◌then◌else◌, List, [], ◌∷◌, length, All, Contains, Option, Some, None}
 use Rattle.std.proofs.Common.{refl, sym, subst, inl, inr}
 use Rattle.std.proofs.lemmas.List.Elements.{All-nil, All-cons, All-get_or, All-contains}
+use Rattle.pk_graph.specs.Accesses.{AccessOf}
 use Rattle.pk_graph.specs.Graphs.{EdgeOf, GraphOf, no_point, point_at}
 use Rattle.pk_graph.specs.Steps.{Failure}
 use Rattle.pk_graph.specs.Stores.{Stored}

@@ -1,5 +1,5 @@
 -- What a report tells is true of every run of the C program.
-use Rattle.std.specs.Prelude.{◌≡◌, ◌⊎◌, ℕ, ◌<◌, ◌^◌, List, Contains, All, Option, Some, None}
+use Rattle.std.specs.Prelude.{◌≡◌, ◌⊎◌, ℕ, ◌<◌, ◌^◌, List, length, Contains, All, Option, Some, None}
 use Rattle.pk_graph.specs.Accesses.{AccessOf, of_instr}
 use Rattle.pk_graph.specs.Graphs.{EdgeOf, GraphOf, point_at}
 use Rattle.pk_graph.specs.Steps.{Failure}
