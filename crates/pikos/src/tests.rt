@@ -172,8 +172,8 @@ fn a_text_may_declare_so_many_objects(rt: HostRuntime) -> Result<(), Fail> {
 // Twelve functions, each of which but the first calls the one before it twice.
 fn chain(alloc: Global) -> Result<Vec<u8>, Fail> {
     let mut text = b"int f0(int x){return x;}".to_vec(alloc)?;
-    for number in 1..12 {
-        let last = number - 1;
+    for last in 0..11 {
+        let number = last + 1;
         let head = format!(in alloc; "int f{number}(int x)")?;
         let call = format!(in alloc; "f{last}(x)")?;
         text.extend_from_slice(head.as_bytes())?;
