@@ -1,0 +1,3 @@
+mod Stops
+mod Analysing
+mod Replying

@@ -1,0 +1,65 @@
+// Laws of existence: reports, orders, replies, answers.
+
+ghost use Rattle.pk_answered.specs.Analyses.{EveryGraphIsOrdered, EveryGraphIsReported, EveryGraphIsSummed};
+ghost use Rattle.pk_answered.specs.Answers.{CommandsAreAnswered, OrdersAreAnswered, WordsAreAnswered, WordsForOrdersAreAnswered};
+
+use pk_command::taken_asks;
+use pk_exists::every_digraph_has_an_order;
+use pk_top::graphs_are_well_made;
+use pk_total::every_text_ends;
+
+/// Every graph has an order.
+pub fn every_graph_is_ordered()
+    ensures { EveryGraphIsOrdered }
+{
+    every_digraph_has_an_order();
+}
+
+/// Every graph that memory has room for has a report, or some element would be run too often.
+pub fn every_graph_is_reported()
+    ensures { EveryGraphIsReported }
+{
+    every_digraph_has_an_order();
+}
+
+/// So it has a summary.
+pub fn every_graph_is_summed()
+    ensures { EveryGraphIsSummed }
+{
+    every_digraph_has_an_order();
+}
+
+/// An order asked of whatever text has a reply.
+pub fn orders_are_answered()
+    ensures { OrdersAreAnswered }
+{
+    every_graph_is_ordered();
+    every_text_ends();
+    graphs_are_well_made();
+}
+
+/// Each command about a text whose graphs memory has room for has a reply.
+pub fn commands_are_answered()
+    ensures { CommandsAreAnswered }
+{
+    orders_are_answered();
+    every_graph_is_reported();
+    every_graph_is_summed();
+    every_text_ends();
+    graphs_are_well_made();
+}
+
+/// Words and such a text have an answer.
+pub fn words_are_answered()
+    ensures { WordsAreAnswered }
+{
+    commands_are_answered();
+    taken_asks();
+}
+
+/// Words that ask for an order have an answer, whatever the text.
+pub fn words_for_orders_are_answered()
+    ensures { WordsForOrdersAreAnswered }
+{
+    orders_are_answered();
+}

@@ -1,0 +1,9 @@
+//! Every graph has a report or is cut off, and words and a text have an answer.
+#![tactic(auto)]
+
+mod laws;
+
+pub use laws::{
+    commands_are_answered, every_graph_is_ordered, every_graph_is_reported, every_graph_is_summed,
+    orders_are_answered, words_are_answered, words_for_orders_are_answered,
+};
