@@ -30,6 +30,7 @@ mod Branches
 mod Returns
 mod Thirds
 mod Fills
+mod Firsts
 mod Starts
 mod Going
 mod Followed
