@@ -1,5 +1,5 @@
 -- The graph follows the program at what a declared object begins with, from where its name is in scope.
-use Rattle.std.proofs.Common.{◌≡◌, ℕ, zero, suc, ◌+◌, ◌<◌, ◌≤◌, ◌⊎◌, List, [], ◌∷◌, ◌++◌, length, Bool, true, false, ◌&&◌, nat_eq, if◌then◌else◌, refl, sym, ap, ◌∙◌, subst, inl, inr, arith, Option, Some, None}
+use Rattle.std.proofs.Common.{◌≡◌, ℕ, zero, suc, ◌≤◌, List, [], length, Bool, true, false, ◌&&◌, nat_eq, if◌then◌else◌, refl, ap, subst, arith, Option, Some, None}
 use Rattle.std.proofs.lemmas.Bool.{eqb-true}
 use Rattle.std.proofs.lemmas.List.{length-replicate}
 use Rattle.std.specs.Prelude.{pos, replicate}
@@ -27,7 +27,7 @@ use Rattle.pk_meaning.specs.Programs.{local_of}
 use Rattle.pk_meaning.specs.Work as work
 use Rattle.pk_meaning.specs.Work.{Place, Work}
 use Rattle.pk_meaning.specs.Steps as meaning
-use Rattle.pk_visits.proofs.Slots.{Slot, own, slots, Draft, Memory, memory, with_memory, Among, edge}
+use Rattle.pk_visits.proofs.Slots.{Slot, own, slots, Draft, Memory, with_memory, Among, edge}
 use Rattle.pk_visits.proofs.Stands.{Whole, context_of, Held, held, around, local_array, cells, AreCalm, HasKind, Means, FitsObjects, Writes, Stage, led_to, Laid}
 use Rattle.pk_visits.proofs.Stores.{Fitting, fits_written, means_apart}
 use Rattle.pk_visits.proofs.Follow.{Answers, config, still, moved, kind_is}
@@ -98,15 +98,25 @@ scalar_follows g chosen m k j x i (Some v) o d vs s b u w hs n kind types length
     let ns = stage_names g k j (calls_in v) Any d end st (grows_trans ((sane c v).value d) (emit_grows Any I r.1)) in
     let is : y ≡ own (local k i) = variable_is c (Local i) d ns in
     let z = stage_edge g k j (In (led_to c (calls_in v))) (In []) (calls_in v) d r.1 end I st ge (grows_refl (In []) end) in
-    still g chosen d.point m k j (work.Evaluate v (work.Put t (local k i) w)) vs s x hs
-    (d, o, refl, fits, (λ q. calm), stage_until g k j (calls_in v) d r.1 end st (emit_grows (In []) I r.1),
-    (r.1.points, subst (HasKind g.program (local k i)) one kind,
-    record {
-      there = subst (λ (q : Slot). Among (edge r.1.point (Set q (conversion (type_of v) t r.0)) r.1.points) g.edges) is z.0;
-      shown = z.1;
-      apart = all_own d.variables (local k i) hs calm;
-      plain = calm_plain d.variables hs calm;
-    }, l)) e same f
+    still g chosen d.point m k j (work.Evaluate v (work.Put t (local k i) w)) vs s x hs (
+      d,
+      o,
+      refl,
+      fits,
+      (λ q. calm),
+      stage_until g k j (calls_in v) d r.1 end st (emit_grows (In []) I r.1),
+      (
+        r.1.points,
+        subst (HasKind g.program (local k i)) one kind,
+        record {
+          there = subst (λ (q : Slot). Among (edge r.1.point (Set q (conversion (type_of v) t r.0)) r.1.points) g.edges) is z.0;
+          shown = z.1;
+          apart = all_own d.variables (local k i) hs calm;
+          plain = calm_plain d.variables hs calm;
+        },
+        l,
+      ),
+    ) e same f
 
 zeros_in : (t : IntType) (n : ℕ) → all_in_type t (replicate n (pos 0)) ≡ true
 zeros_in t zero = refl

@@ -244,7 +244,18 @@ again_do g proper k h x e s o a p hs plain (y, b, there, shown, same, loop, cont
     let first = subst (λ q. g.shows d.here k (place q h.scope)) (proper.at_positions d.here k h t.here) t.here in
     let here : g.shows u.here k h = shows_on g proper k h.scope d.here u.here first round.here in
     let tests = part_second g k h h (calls_in_statement s) (calls_in e) d u f t round.points here in
-    let vr = round.variables in
-    (y, (u, loop.objects, d.point, x.broken, refl, loop.fits.1, calm_more d.variables u.variables hs vr loop.calm, tests,
-    (subst (λ q. ShowsAt g q k h) (sym loop.at) loop.heads, (y, (refl, plain, x.continued, x.broken, subst (λ q. Loops g k h y (DoWhile s e) q x.continued x.broken hs) (sym loop.at) loop, tt, behind, z))),
-    (behind, (y, (plain, z)))))
+    let vr = round.variables in (
+      y,
+      (
+        u,
+        loop.objects,
+        d.point,
+        x.broken,
+        refl,
+        loop.fits.1,
+        calm_more d.variables u.variables hs vr loop.calm,
+        tests,
+        (subst (λ q. ShowsAt g q k h) (sym loop.at) loop.heads, (y, (refl, plain, x.continued, x.broken, subst (λ q. Loops g k h y (DoWhile s e) q x.continued x.broken hs) (sym loop.at) loop, tt, behind, z))),
+        (behind, (y, (plain, z))),
+      ),
+    )
