@@ -35,3 +35,4 @@ mod Starts
 mod Going
 mod Followed
 mod NumberedEdges
+mod NumberedStores
