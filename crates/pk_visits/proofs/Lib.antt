@@ -36,3 +36,5 @@ mod Going
 mod Followed
 mod NumberedEdges
 mod NumberedStores
+mod NumberedCopies
+mod NumberedRuns
