@@ -38,3 +38,4 @@ mod NumberedEdges
 mod NumberedStores
 mod NumberedCopies
 mod NumberedRuns
+mod NumberedStarts
