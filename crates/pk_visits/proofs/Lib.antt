@@ -34,3 +34,4 @@ mod Firsts
 mod Starts
 mod Going
 mod Followed
+mod Journeys
