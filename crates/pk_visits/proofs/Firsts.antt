@@ -49,11 +49,11 @@ both_true true b h = (refl, h)
 both_true false b h = absurd (grind (arith, h))
 
 -- an object without initialiser
-pub anything_follows : (g : Whole) (chosen : Numbers) (m : Memory) (k : ℕ) (j : Place) (x : Exits) (i : ℕ) (d : Draft) (vs : Numbers) (s : Objects) (b : Bool) (u w : Work) (hs : List Held) (n : Kind)
+pub anything_follows : (y : Place) (g : Whole) (chosen : Numbers) (m : Memory) (k : ℕ) (j : Place) (x : Exits) (i : ℕ) (d : Draft) (vs : Numbers) (s : Objects) (b : Bool) (u w : Work) (hs : List Held) (n : Kind)
     → HasKind g.program (local k i) n → (local_of g.program k i).int_type ≡ n.int_type → (local_of g.program k i).length ≡ n.length
     → AreCalm d.variables hs → Stage g k j [] d (statements.anything (context_of g k) i d) → Laid g k j x w (statements.anything (context_of g k) i d).point hs → Means m hs vs → m.objects ≡ s → FitsObjects g.program s
-    → Answers g chosen k j d.point m (meaning.anything g.program chosen (config k j u vs s b) i w)
-anything_follows g chosen m k j x i d vs s b u w hs n kind types lengths calm st l e same f = by (are_any t c chosen) refl where
+    → Answers g chosen k y d.point m (meaning.anything g.program chosen (config k j u vs s b) i w)
+anything_follows y g chosen m k j x i d vs s b u w hs n kind types lengths calm st l e same f = by (are_any t c chosen) refl where
   t : Rattle.pk_ctypes.specs.declared.types.IntType.IntType
   t = (local_of g.program k i).int_type
 
@@ -69,8 +69,8 @@ anything_follows g chosen m k j x i d vs s b u w hs n kind types lengths calm st
   z : Among (edge d.point (Havoc (lower.own (context_of g k) i d) t c) d.points) g.edges × Rattle.pk_visits.proofs.Stands.ShowsAt g d.points k j
   z = stage_edge g k j (In []) (In []) [] d d (statements.anything (context_of g k) i d) (Havoc (lower.own (context_of g k) i d) t c) st (grows_refl (In []) d) (grows_refl (In []) (statements.anything (context_of g k) i d))
 
-  by : (y : Bool) → are_any t c chosen ≡ y
-      → Answers g chosen k j d.point m (if y then meaning.writes (config k j u vs s b) (local k i) chosen w vs else meaning.Wants t c)
+  by : (r : Bool) → are_any t c chosen ≡ r
+      → Answers g chosen k y d.point m (if r then meaning.writes (config k j u vs s b) (local k i) chosen w vs else meaning.Wants t c)
   by false none = tt
   by true choice =
       let a = both_true (nat_eq (length chosen) c) (all_in_type t chosen) choice in
@@ -82,21 +82,21 @@ anything_follows g chosen m k j x i d vs s b u w hs n kind types lengths calm st
       (subst (λ (v : Option ℕ). length chosen ≡ count_of v) lengths many, subst (λ (v : Rattle.pk_ctypes.specs.declared.types.IntType.IntType). all_in_type v chosen ≡ true) types a.1)) f)
 
 -- a scalar
-pub scalar_follows : (g : Whole) (chosen : Numbers) (m : Memory) (k : ℕ) (j : Place) (x : Exits) (i : ℕ) (v : Option ValueTree) (o : ℕ) (d : Draft) (vs : Numbers) (s : Objects) (b : Bool) (u w : Work) (hs : List Held) (n : Kind)
+pub scalar_follows : (y : Place) (g : Whole) (chosen : Numbers) (m : Memory) (k : ℕ) (j : Place) (x : Exits) (i : ℕ) (v : Option ValueTree) (o : ℕ) (d : Draft) (vs : Numbers) (s : Objects) (b : Bool) (u w : Work) (hs : List Held) (n : Kind)
     → HasKind g.program (local k i) n → (local_of g.program k i).int_type ≡ n.int_type → (local_of g.program k i).length ≡ n.length → n ≡ scalar (local_of g.program k i).int_type → IsValueIf (around g k o) v
     → AreCalm d.variables hs → Stage g k j (calls_if v) d (statements.scalar_first (context_of g k) i v d) → Laid g k j x w (statements.scalar_first (context_of g k) i v d).point hs → Means m hs vs → m.objects ≡ s → FitsObjects g.program s
-    → Answers g chosen k j d.point m (meaning.scalar_first g.program chosen (config k j u vs s b) i v w)
-scalar_follows g chosen m k j x i None o d vs s b u w hs n kind types lengths one fits calm st l e same f = anything_follows g chosen m k j x i d vs s b u w hs n kind types lengths calm st l e same f
-scalar_follows g chosen m k j x i (Some v) o d vs s b u w hs n kind types lengths one fits calm st l e same f =
+    → Answers g chosen k y d.point m (meaning.scalar_first g.program chosen (config k j u vs s b) i v w)
+scalar_follows y g chosen m k j x i None o d vs s b u w hs n kind types lengths one fits calm st l e same f = anything_follows y g chosen m k j x i d vs s b u w hs n kind types lengths calm st l e same f
+scalar_follows y g chosen m k j x i (Some v) o d vs s b u w hs n kind types lengths one fits calm st l e same f =
     let c = context_of g k in
     let t = (local_of g.program k i).int_type in
     let r = (ways c v).value d in
-    let y = lower.own c i d in
-    let I = Set y (conversion (type_of v) t r.0) in
+    let v0 = lower.own c i d in
+    let I = Set v0 (conversion (type_of v) t r.0) in
     let end = emit I r.1 in
     let ge = (ways_grow c v).value d in
     let ns = stage_names g k j (calls_in v) Any d end st (grows_trans ((sane c v).value d) (emit_grows Any I r.1)) in
-    let is : y ≡ own (local k i) = variable_is c (Local i) d ns in
+    let is : v0 ≡ own (local k i) = variable_is c (Local i) d ns in
     let z = stage_edge g k j (In (led_to c (calls_in v))) (In []) (calls_in v) d r.1 end I st ge (grows_refl (In []) end) in
     still g chosen d.point m k j (work.Evaluate v (work.Put t (local k i) w)) vs s x hs (
       d,
@@ -123,13 +123,13 @@ zeros_in t zero = refl
 zeros_in t (suc n) = true_both (is_in_type t (pos 0)) (all_in_type t (replicate n (pos 0))) (in_type_test t (pos 0) (let z = zero_in t in record { from = z.0; to = z.1 })) (zeros_in t n)
 
 -- an array, which begins with zeros where it has a braced list
-pub array_follows : (g : Whole) (chosen : Numbers) (m : Memory) (k : ℕ) (j : Place) (x : Exits) (i : ℕ) (v : Option ValueTrees) (o : ℕ) (d : Draft) (vs : Numbers) (s : Objects) (b : Bool) (u w : Work) (hs : List Held) (n : Kind)
+pub array_follows : (y : Place) (g : Whole) (chosen : Numbers) (m : Memory) (k : ℕ) (j : Place) (x : Exits) (i : ℕ) (v : Option ValueTrees) (o : ℕ) (d : Draft) (vs : Numbers) (s : Objects) (b : Bool) (u w : Work) (hs : List Held) (n : Kind)
     → HasKind g.program (local k i) n → (local_of g.program k i).int_type ≡ n.int_type → (local_of g.program k i).length ≡ n.length → n ≡ array (local_array g k i).int_type (local_array g k i).length
     → AreValuesIf (around g k o) v → count_if v ≤ (local_array g k i).length
     → AreCalm d.variables hs → Stage g k j (calls_in_values_if v) d (statements.array_first (context_of g k) i v d) → Laid g k j x w (statements.array_first (context_of g k) i v d).point hs → Means m hs vs → m.objects ≡ s → FitsObjects g.program s
-    → Answers g chosen k j d.point m (meaning.array_first g.program chosen (config k j u vs s b) i v w)
-array_follows g chosen m k j x i None o d vs s b u w hs n kind types lengths one fits room calm st l e same f = anything_follows g chosen m k j x i d vs s b u w hs n kind types lengths calm st l e same f
-array_follows g chosen m k j x i (Some es) o d vs s b u w hs n kind types lengths one fits room calm st l e same f =
+    → Answers g chosen k y d.point m (meaning.array_first g.program chosen (config k j u vs s b) i v w)
+array_follows y g chosen m k j x i None o d vs s b u w hs n kind types lengths one fits room calm st l e same f = anything_follows y g chosen m k j x i d vs s b u w hs n kind types lengths calm st l e same f
+array_follows y g chosen m k j x i (Some es) o d vs s b u w hs n kind types lengths one fits room calm st l e same f =
     let c = context_of g k in
     let a = local_array g k i in
     let I = Clear (lower.array_of c (Local i) d) in

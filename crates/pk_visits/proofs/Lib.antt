@@ -31,6 +31,7 @@ mod Returns
 mod Thirds
 mod Fills
 mod Firsts
+mod Declared
 mod Starts
 mod Going
 mod Followed
@@ -39,3 +40,4 @@ mod NumberedStores
 mod NumberedCopies
 mod NumberedRuns
 mod NumberedStarts
+mod Journeys

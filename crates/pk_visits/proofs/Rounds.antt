@@ -75,7 +75,7 @@ while_laid g proper k h x p e s a pt hs (d, n, m, is, fits, calm, t, marking, l)
           draft = b;
           at = refl;
           fits = fits;
-          stage = part_until g Stays k j (calls_in e ++ calls_in_statement s) b f (at (o.points + 2) f) s0 (record { edges = λ v w. w; names = refl; variables = omega arith; points = omega arith; size = refl; labels = λ v w. inr refl; regions = λ v. inr refl; paths = refl; here = (refl, refl) });
+          stage = part_until g Stays k j (calls_in e ++ calls_in_statement s) b f (at (o.points + 2) f) s0 (record { edges = λ v w. w; names = refl; variables = omega arith; points = omega arith; size = refl; labels = λ v w. inr refl; regions = λ v. inr refl; paths = refl; scopes = λ n z h. h; here = (refl, refl) });
           marking = marking;
           calm = calm;
           heads = z.first;
@@ -118,7 +118,7 @@ do_laid g proper k h x p s e a pt hs (d, n, m, is, fits, calm, t, marking, l) =
           draft = b;
           at = refl;
           fits = fits;
-          stage = part_until g Stays k j (calls_in_statement s ++ calls_in e) b f (at (o.points + 2) f) s0 (record { edges = λ v w. w; names = refl; variables = omega arith; points = omega arith; size = refl; labels = λ v w. inr refl; regions = λ v. inr refl; paths = refl; here = (refl, refl) });
+          stage = part_until g Stays k j (calls_in_statement s ++ calls_in e) b f (at (o.points + 2) f) s0 (record { edges = λ v w. w; names = refl; variables = omega arith; points = omega arith; size = refl; labels = λ v w. inr refl; regions = λ v. inr refl; paths = refl; scopes = λ n z h. h; here = (refl, refl) });
           marking = marking;
           calm = calm;
           heads = z.first;

@@ -113,4 +113,4 @@ for_begun g proper k h names x q start v third s a hs d n m fits calm t marking 
       ),
     ) where
       widen : (ms : List ℕ) (C : ℕ → Type 0) (d e : Draft) → Enlarges ms C d e → Enlarges ms (λ r. Unit {0}) d e
-      widen ms C d e r = record { edges = r.edges; names = r.names; variables = r.variables; points = r.points; size = r.size; labels = r.labels; regions = λ i. inl tt; paths = r.paths; here = r.here }
+      widen ms C d e r = record { edges = r.edges; names = r.names; variables = r.variables; points = r.points; size = r.size; labels = r.labels; regions = λ i. inl tt; paths = r.paths; scopes = r.scopes; here = r.here }

@@ -86,7 +86,7 @@ stage_other g k h xs ys zs d e s = record {
 
 -- in another block's scope
 pub scope_enlarges : (ms : List ℕ) (C : ℕ → Type 0) (n : ℕ) (d : Draft) → Enlarges ms C d (in_scope n d)
-scope_enlarges ms C n d = record { edges = λ e z. z; names = refl; variables = omega arith; points = omega arith; size = refl; labels = λ q z. inr refl; regions = λ j. inr refl; paths = refl; here = refl }
+scope_enlarges ms C n d = record { edges = λ e z. z; names = refl; variables = omega arith; points = omega arith; size = refl; labels = λ q z. inr refl; regions = λ j. inr refl; paths = refl; scopes = λ n z h. h; here = refl }
 
 -- behind the way from the body's end: the third part, and back
 after_link : (g : Whole) (k : ℕ) (ms : List ℕ) (h : Place) (third : Option EffectTree) (n q : ℕ) (r : Draft)
