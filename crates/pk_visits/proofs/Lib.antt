@@ -41,3 +41,4 @@ mod NumberedCopies
 mod NumberedRuns
 mod NumberedStarts
 mod Journeys
+mod NumberedVisits
