@@ -42,3 +42,4 @@ mod NumberedRuns
 mod NumberedStarts
 mod Journeys
 mod NumberedVisits
+mod NumberedNames
