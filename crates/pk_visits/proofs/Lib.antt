@@ -43,3 +43,4 @@ mod NumberedStarts
 mod Journeys
 mod NumberedVisits
 mod NumberedNames
+mod NumberedRows
