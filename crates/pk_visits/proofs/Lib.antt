@@ -44,3 +44,4 @@ mod Journeys
 mod NumberedVisits
 mod NumberedNames
 mod NumberedRows
+mod NumberedForms

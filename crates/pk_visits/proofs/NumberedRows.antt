@@ -140,7 +140,7 @@ pub or_by : {V W : Type 0} (f : V → W) (a b : Ways V) (y z : Ways W) → WaysB
 or_by f a b y z h g p q d =
     ap (λ e. z.choice p q (at d.points e)) (h.choice p d.points (fresh 1 d)) ∙ g.choice p q (at d.points (a.choice p d.points (fresh 1 d)))
 
-between_by : {V W : Type 0} (f : V → W) (x : V) (p q : ℕ) (r : Given V) → rows.set_between (f x) p q (given_by f r) ≡ draft_by f (rows.set_between x p q r)
+pub between_by : {V W : Type 0} (f : V → W) (x : V) (p q : ℕ) (r : Given V) → rows.set_between (f x) p q (given_by f r) ≡ draft_by f (rows.set_between x p q r)
 between_by f x p q r = ap (at q) (link_by f (Set x r.0) p r.1)
 
 pub then_by : {V W : Type 0} (f : V → W) (u : DraftOf V → DraftOf V) (v : DraftOf W → DraftOf W) (w : Ways V) (z : Ways W) → Works f u v → WaysBy f w z → WaysBy f (rows.then_ways u w) (rows.then_ways v z)
