@@ -45,3 +45,4 @@ mod NumberedVisits
 mod NumberedNames
 mod NumberedRows
 mod NumberedForms
+mod NumberedExpressions

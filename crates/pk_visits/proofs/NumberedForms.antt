@@ -54,7 +54,7 @@ assign_by f x y e w (elements {t = t} {s = s} {a = a} {b = b} {i = i} {z = z} h 
 
 -- ---- assignments with an operator
 
-abbrev loaded_by : {V W : Type 0} → (V → W) → Loaded V → Loaded W
+abbrev pub loaded_by : {V W : Type 0} → (V → W) → Loaded V → Loaded W
 loaded_by f q = record { index = tree_by f q.index; right = tree_by f q.right; element = tree_by f q.element; draft = draft_by f q.draft }
 
 abbrev from_held : {W : Type 0} → IntType → Site → ArrayOf W → TreeOf W → Given W → Loaded W
@@ -69,14 +69,14 @@ loaded_after_by f t s a h u p =
     ap (from_held t s (array_by f a) (tree_by f p.first)) (held_by f Weak h u (p.second, p.draft))
     ∙ ap (with_draft (tree_by f p.first) (tree_by f k.0) (variable (f (next_temporary k.1)))) (emit_by f (Load (next_temporary k.1) a s true p.first) (with_temporary t k.1))
 
-loads_by : {V W : Type 0} (f : V → W) (t : IntType) (s : Site) (a : DraftOf V → ArrayOf V) (b : DraftOf W → ArrayOf W) (i e : Operand V) (z w : Ways W) → ((d : DraftOf V) → b (draft_by f d) ≡ array_by f (a d)) → WaysBy f i.ways z → WaysBy f e.ways w
+pub loads_by : {V W : Type 0} (f : V → W) (t : IntType) (s : Site) (a : DraftOf V → ArrayOf V) (b : DraftOf W → ArrayOf W) (i e : Operand V) (z w : Ways W) → ((d : DraftOf V) → b (draft_by f d) ≡ array_by f (a d)) → WaysBy f i.ways z → WaysBy f e.ways w
     → (d : DraftOf V) → rows.loaded t s (b (draft_by f d)) (beside i z) (beside e w) (draft_by f d) ≡ loaded_by f (rows.loaded t s (a d) i e d)
 loads_by f t s a b i e z w h k g d =
     ap (λ c. rows.loaded t s c (beside i z) (beside e w) (draft_by f d)) (h d)
     ∙ ap (rows.loaded_after t s (array_by f (a d)) e.shape e.int_type) (pair_by f (strong_or_weak e.makes) i e z w k g d)
     ∙ loaded_after_by f t s (a d) e.shape e.int_type (rows.two (strong_or_weak e.makes) i e d)
 
-renew_unused_by : {V W : Type 0} (f : V → W) (op : Op) (s : Site) (o t : IntType) (r : Site) (a : ArrayOf V) (u : IntType) (p : Loaded V) → rows.renew_unused op s o t r (array_by f a) u (loaded_by f p) ≡ draft_by f (rows.renew_unused op s o t r a u p)
+pub renew_unused_by : {V W : Type 0} (f : V → W) (op : Op) (s : Site) (o t : IntType) (r : Site) (a : ArrayOf V) (u : IntType) (p : Loaded V) → rows.renew_unused op s o t r (array_by f a) u (loaded_by f p) ≡ draft_by f (rows.renew_unused op s o t r a u p)
 renew_unused_by f op s o t r a u p =
     ap (λ e. emit (Store (array_by f a) r false (tree_by f p.index) e) (draft_by f p.draft)) (updated_by f op s o t u p.element p.right) ∙ emit_by f (Store a r false p.index (rows.renewed_tree op s o t u p)) p.draft
 
@@ -86,16 +86,16 @@ renew_used_by f op s o t r a u p =
     ∙ ap (rows.written (array_by f a) r false (tree_by f p.index)) (stored_by f t (rows.renewed_tree op s o t u p) p.draft)
     ∙ written_by f a r false p.index (stored t (rows.renewed_tree op s o t u p) p.draft)
 
-abbrev given : {W : Type 0} → TreeOf W → DraftOf W → Given W
+abbrev pub given : {W : Type 0} → TreeOf W → DraftOf W → Given W
 given e d = (e, d)
 
-renew_old_by : {V W : Type 0} (f : V → W) (op : Op) (s : Site) (o t : IntType) (r : Site) (a : ArrayOf V) (p : Loaded V) → rows.renew_old op s o t r (array_by f a) (loaded_by f p) ≡ given_by f (rows.renew_old op s o t r a p)
+pub renew_old_by : {V W : Type 0} (f : V → W) (op : Op) (s : Site) (o t : IntType) (r : Site) (a : ArrayOf V) (p : Loaded V) → rows.renew_old op s o t r (array_by f a) (loaded_by f p) ≡ given_by f (rows.renew_old op s o t r a p)
 renew_old_by f op s o t r a p = ap (given (tree_by f p.element)) (renew_unused_by f op s o t r a Int p)
 
 update_after_by : {V W : Type 0} (f : V → W) (op : Op) (s : Site) (o t u : IntType) (x : V) (r : Given V) → rows.update_after op s o t u (f x) (given_by f r) ≡ draft_by f (rows.update_after op s o t u x r)
 update_after_by f op s o t u x r = ap (λ e. emit (Set (f x) e) (draft_by f r.1)) (updated_by f op s o t u (variable x) r.0) ∙ emit_by f (Set x (updated_tree op s o t u (variable x) r.0)) r.1
 
-update_scalar_by : {V W : Type 0} (f : V → W) (op : Op) (s : Site) (o t : IntType) (x : V) (e : Operand V) (w : Ways W) → WaysBy f e.ways w → Works f (rows.update_scalar op s o t x e) (rows.update_scalar op s o t (f x) (beside e w))
+pub update_scalar_by : {V W : Type 0} (f : V → W) (op : Op) (s : Site) (o t : IntType) (x : V) (e : Operand V) (w : Ways W) → WaysBy f e.ways w → Works f (rows.update_scalar op s o t x e) (rows.update_scalar op s o t (f x) (beside e w))
 update_scalar_by f op s o t x e w g d = ap (rows.update_after op s o t e.int_type (f x)) (g.value d) ∙ update_after_by f op s o t e.int_type x (e.ways.value d)
 
 pub update_by : {V W : Type 0} (f : V → W) (op : Op) (s : Site) (o : IntType) (x : Target V) (y : Target W) (e : Operand V) (w : Ways W) → TargetsBy f x y → WaysBy f e.ways w → WaysBy f (rows.update_ways op s o x e) (rows.update_ways op s o y (beside e w))

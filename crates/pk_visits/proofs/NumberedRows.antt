@@ -96,7 +96,7 @@ read_by f x y (elements {t = t} {s = s} {a = a} {b = b} {i = i} {z = z} h g) =
 
 -- ---- operators
 
-any_by : {V W : Type 0} (f : V → W) (t : IntType) → WaysBy f (rows.by_value Temporary t (rows.any_value t)) (rows.by_value Temporary t (rows.any_value t))
+pub any_by : {V W : Type 0} (f : V → W) (t : IntType) → WaysBy f (rows.by_value Temporary t (rows.any_value t)) (rows.by_value Temporary t (rows.any_value t))
 any_by f t = value_by f Temporary t (rows.any_value t) (rows.any_value t) (λ d. ap (rows.kept_beside (f (next_temporary d))) (emit_by f (Havoc (next_temporary d) t 1) (with_temporary t d)))
 
 abbrev with_tree : {W : Type 0} → DraftOf W → TreeOf W → Given W
