@@ -46,3 +46,4 @@ mod NumberedNames
 mod NumberedRows
 mod NumberedForms
 mod NumberedExpressions
+mod NumberedStatements
