@@ -47,3 +47,4 @@ mod NumberedRows
 mod NumberedForms
 mod NumberedExpressions
 mod NumberedStatements
+mod NumberedLoops

@@ -54,7 +54,7 @@ held_by f how s t r = unless_by f (stays how s) t r
 pub dropped_by : {V W : Type 0} (f : V → W) (s : Shape) (t : IntType) (a : DraftOf V → Given V) (b : DraftOf W → Given W) → Gives f a b → Works f (λ d. rows.dropped s t (a d)) (λ d. rows.dropped s t (b d))
 dropped_by f s t a b h d = ap (rows.dropped s t) (h d) ∙ ap (λ r. r.1) (unless_by f (is_plain s) t (a d))
 
-guards_by : {V W : Type 0} (f : V → W) (p q : ℕ) (r : Given V) → rows.guards p q (given_by f r) ≡ draft_by f (rows.guards p q r)
+pub guards_by : {V W : Type 0} (f : V → W) (p q : ℕ) (r : Given V) → rows.guards p q (given_by f r) ≡ draft_by f (rows.guards p q r)
 guards_by f p q r = ap (link (Guard (tree_by f r.0) false) q) (link_by f (Guard r.0 true) p r.1) ∙ link_by f (Guard r.0 false) q (link (Guard r.0 true) p r.1)
 
 pub both_by : {V W : Type 0} (f : V → W) (a : DraftOf V → Given V) (b : DraftOf W → Given W) (u : DraftOf V → DraftOf V) (v : DraftOf W → DraftOf W) → Gives f a b → Works f u v → WaysBy f (rows.by_both a u) (rows.by_both b v)
