@@ -48,3 +48,4 @@ mod NumberedForms
 mod NumberedExpressions
 mod NumberedStatements
 mod NumberedLoops
+mod NumberedSwitches

@@ -36,10 +36,10 @@ if_by f p c z a b u v h k g d =
 abbrev pub Does : {V W : Type 0} → (V → W) → (Exits → DraftOf V → DraftOf V) → (Exits → DraftOf W → DraftOf W) → Type 0
 Does f s r = (x : Exits) → Works f (s x) (r x)
 
-round_by : {V W : Type 0} (f : V → W) (x : Exits) (s : Exits → DraftOf V → DraftOf V) (r : Exits → DraftOf W → DraftOf W) (b e k : ℕ) → Does f s r → Works f (statements.round x s b e k) (statements.round x r b e k)
+pub round_by : {V W : Type 0} (f : V → W) (x : Exits) (s : Exits → DraftOf V → DraftOf V) (r : Exits → DraftOf W → DraftOf W) (b e k : ℕ) → Does f s r → Works f (statements.round x s b e k) (statements.round x r b e k)
 round_by f x s r b e k h d = ap (go Skip k) (h (inside e k x) (at b d)) ∙ go_by f Skip k (s (inside e k x) (at b d))
 
-begun_by : {V W : Type 0} (f : V → W) → Works f statements.loop_begun statements.loop_begun
+pub begun_by : {V W : Type 0} (f : V → W) → Works f statements.loop_begun statements.loop_begun
 begun_by f d = go_by f Skip d.points (fresh 3 d)
 
 while_from_by : {V W : Type 0} (f : V → W) (c : Ways V) (z : Ways W) (s : Exits → DraftOf V → DraftOf V) (r : Exits → DraftOf W → DraftOf W) (x : Exits) (b e : ℕ) → WaysBy f c z → Does f s r
