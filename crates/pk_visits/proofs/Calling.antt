@@ -77,7 +77,7 @@ called_laid g proper k h x z r es w n d hs fits takes calm s l =
     let g1 = passed_grows c es d in
     let b2 : Grows (In (led_to c (z ∷ []))) d1 d2 = bound_grows (In (led_to c (z ∷ []))) m 0 d1.variables ts us q.trees d1 in
     let b3 : Grows (In (led_to c (z ∷ []))) d2 f = entered_grows (In (led_to c (z ∷ []))) m size (inl refl) d2 in
-    let weak1 : Grows Any d d1 = record { edges = g1.edges; names = g1.names; variables = g1.variables; points = g1.points; size = g1.size; labels = g1.labels; regions = λ j. inl tt; paths = g1.paths; here = g1.here } in
+    let weak1 : Grows Any d d1 = record { edges = g1.edges; names = g1.names; variables = g1.variables; points = g1.points; size = g1.size; labels = g1.labels; regions = λ j. inl tt; paths = g1.paths; scopes = g1.scopes; here = g1.here } in
     let weak3 = entered_grows Any m size tt d2 in
     let ns = stage_names g k h (z ∷ calls_in_values es) Any d f s (grows_trans weak1 (grows_trans (bound_grows Any m 0 d1.variables ts us q.trees d1) weak3)) in
     let s1 = stage_last g k h (z ∷ []) (calls_in_values es) d d1 f s (grows_trans b2 b3) in
@@ -136,7 +136,7 @@ call_laid g proper k h x t f n at es w p hs (d, i, is, fits, quiet, s, l) =
     let there = proper.there k z s.path noted in
     let g1 = passed_grows c es d in
     let F = (rows.call_after m (size_in g.sizes f) (parameters_of g.program.unit f) (types_of es) q).1 in
-    let weak1 : Grows Any d q.draft = record { edges = g1.edges; names = g1.names; variables = g1.variables; points = g1.points; size = g1.size; labels = g1.labels; regions = λ j. inl tt; paths = g1.paths; here = g1.here } in
+    let weak1 : Grows Any d q.draft = record { edges = g1.edges; names = g1.names; variables = g1.variables; points = g1.points; size = g1.size; labels = g1.labels; regions = λ j. inl tt; paths = g1.paths; scopes = g1.scopes; here = g1.here } in
     let d2 = rows.bound m 0 q.draft.variables (parameters_of g.program.unit f) (types_of es) q.trees q.draft in
     let ns = stage_names g k h (z ∷ calls_in_values es) Any d F s (grows_trans weak1 (grows_trans (bound_grows Any m 0 q.draft.variables (parameters_of g.program.unit f) (types_of es) q.trees q.draft) (entered_grows Any m (size_in g.sizes f) tt d2))) in
     let kind : IsScalar g (result m) t = (
@@ -183,7 +183,7 @@ pass_laid g k h x (tree.value_before e es) w p hs (d, n, is, fits, quiet, s, l) 
     let kept_e = held_grows (In (led_to c (calls_in e))) how (shape_of e) (type_of e) r in
     let any_e = (sane c e).value d in
     let any_kept = held_grows Any how (shape_of e) (type_of e) r in
-    let any_p : Grows Any v.1 f = record { edges = gp.edges; names = gp.names; variables = gp.variables; points = gp.points; size = gp.size; labels = gp.labels; regions = λ j. inl tt; paths = gp.paths; here = gp.here } in
+    let any_p : Grows Any v.1 f = record { edges = gp.edges; names = gp.names; variables = gp.variables; points = gp.points; size = gp.size; labels = gp.labels; regions = λ j. inl tt; paths = gp.paths; scopes = gp.scopes; here = gp.here } in
     let ns = stage_names g k h (calls_in e ++ calls_in_values es) Any d f s (grows_trans any_e (grows_trans any_kept any_p)) in
     let nr = ge.names ∙ ns in
     let q = λ (m : any_makes es ≡ true). quiet (or_second (makes e) (any_makes es) m) in

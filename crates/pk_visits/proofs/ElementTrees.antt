@@ -98,7 +98,7 @@ file_length (Some x) n h = start_length x.start ∙ same (record { int_type = x.
     length_or a None = a.length
     length_or a (Some b) = b.length
 
-local_length : (xs : List LocalTree) (i : ℕ) (n : Kind) → kind_among xs i ≡ Some n → (slice_index_or xs i program.no_local).length ≡ n.length
+pub local_length : (xs : List LocalTree) (i : ℕ) (n : Kind) → kind_among xs i ≡ Some n → (slice_index_or xs i program.no_local).length ≡ n.length
 local_length [] i n h = absurd (grind (arith, h))
 local_length (x ∷ xs) ℕ.zero n h = same (record { int_type = x.int_type; length = x.length }) h where
   same : (m : Kind) → Some m ≡ Some n → m.length ≡ n.length

@@ -1,5 +1,5 @@
 -- From the work of a braced list to that of its items.
-use Rattle.std.proofs.Common.{◌≡◌, ℕ, ◌+◌, ◌<◌, ◌≤◌, List, [], ◌∷◌, ◌++◌, false, refl, sym, ap, subst, arith}
+use Rattle.std.proofs.Common.{◌≡◌, ℕ, ◌+◌, ◌≤◌, List, ◌++◌, false, refl, sym, subst, arith}
 use Rattle.std.specs.Prelude.{pos}
 use Rattle.pk_ctypes.specs.declared.types.IntType.TheVariants.{Int}
 use Rattle.pk_typed.specs.declared.values.Variable.TheVariants.{Local}
@@ -7,23 +7,20 @@ use Rattle.pk_typed.specs.Trees.{ValueTree, ValueTrees}
 use Rattle.pk_typed.specs.Trees as tree
 use Rattle.pk_typed.specs.Types.{type_of}
 use Rattle.pk_welltyped.specs.Listed.{calls_in, calls_in_values}
-use Rattle.pk_welltyped.specs.WellTyped.{count, IsValue, AreValues}
+use Rattle.pk_welltyped.specs.WellTyped.{count, AreValues}
 use Rattle.pk_graph.specs.Trees.{constant, ArrayOf, Store}
-use Rattle.pk_draft.specs.Drafts.{emit}
 use Rattle.pk_draft.specs.Folding.{conversion}
 use Rattle.pk_lower_row.specs.Contexts as lower
 use Rattle.pk_lower_row.specs.Contexts.{local_at, site}
 use Rattle.pk_lower_expression.specs.Expressions.{ways}
 use Rattle.pk_lower_statement.specs.declared.statements.Exits.{Exits}
 use Rattle.pk_lower_statement.specs.Statements.{item, items}
-use Rattle.pk_meaning.specs.Objects.{local, Array}
-use Rattle.pk_meaning.specs.Programs.{local_of}
+use Rattle.pk_meaning.specs.Objects.{Array}
 use Rattle.pk_meaning.specs.Work as work
 use Rattle.pk_meaning.specs.Work.{Place, Work}
-use Rattle.pk_meaning.specs.Steps as meaning
-use Rattle.pk_visits.proofs.Slots.{Slot, own, Draft, Among, edge}
-use Rattle.pk_visits.proofs.Grows.{grows_refl, grows_trans, emit_grows}
-use Rattle.pk_visits.proofs.Stands.{Whole, context_of, Held, held, around, IsArrayOf, local_array, cells, Writes, Stage, led_to, Laid}
+use Rattle.pk_visits.proofs.Slots.{Slot, Among, edge}
+use Rattle.pk_visits.proofs.Grows.{grows_trans, emit_grows}
+use Rattle.pk_visits.proofs.Stands.{Whole, context_of, Held, IsArrayOf, local_array, cells, led_to, Laid}
 use Rattle.pk_visits.proofs.Stages.{In, all_called, ways_grow, stage_first, stage_second, stage_edge}
 use Rattle.pk_visits.proofs.StatementGrows.{items_adds}
 use Rattle.pk_visits.proofs.Tells.{Any, sane, any_called}
@@ -60,14 +57,36 @@ item_laid g k h x a j e es w p hs (d, n, i, at, same, fine, fits, bound, calm, s
     let v1 = ge.variables in
     let first = grows_trans ge (emit_grows C I r.1) in
     let v2 = first.variables in
-    subst (λ (y : Array). Laid g k h x (work.Evaluate e (work.Item y j (work.Fill y (j + 1) es w))) p hs) (sym same)
-    (d, n, at, fits.0, (λ q. calm), stage_first g k h (calls_in e) (calls_in_values es) d r.1 f s (grows_trans (emit_grows D I r.1) rest),
-    (r.1.points, site c d.here.at, omega (arith, subst (λ (y : Array). j + (1 + count es) ≤ y.length) same bound), subst (IsArrayOf g) same fine,
-    record {
-      there = subst (λ (y : ArrayOf Slot). Among (edge r.1.point (Store y (site c d.here.at) false (constant Int (pos j)) v) r.1.points) g.edges) cells_are z.0;
-      shown = z.1;
-      apart = all_own d.variables b.object hs calm;
-      plain = calm_plain d.variables hs calm;
-    },
-    (f1, n, i, refl, refl, subst (IsArrayOf g) same fine, fits.1, (let q = subst (λ (y : Array). j + (1 + count es) ≤ y.length) same bound in omega (arith, q)), calm_more d.variables f1.variables hs v2 calm,
-    stage_second g k h C (calls_in e) (calls_in_values es) d f1 f s first, l)))
+    subst (λ (y : Array). Laid g k h x (work.Evaluate e (work.Item y j (work.Fill y (j + 1) es w))) p hs) (sym same) (
+      d,
+      n,
+      at,
+      fits.0,
+      (λ q. calm),
+      stage_first g k h (calls_in e) (calls_in_values es) d r.1 f s (grows_trans (emit_grows D I r.1) rest),
+      (
+        r.1.points,
+        site c d.here.at,
+        omega (arith, subst (λ (y : Array). j + (1 + count es) ≤ y.length) same bound),
+        subst (IsArrayOf g) same fine,
+        record {
+          there = subst (λ (y : ArrayOf Slot). Among (edge r.1.point (Store y (site c d.here.at) false (constant Int (pos j)) v) r.1.points) g.edges) cells_are z.0;
+          shown = z.1;
+          apart = all_own d.variables b.object hs calm;
+          plain = calm_plain d.variables hs calm;
+        },
+        (
+          f1,
+          n,
+          i,
+          refl,
+          refl,
+          subst (IsArrayOf g) same fine,
+          fits.1,
+          (let q = subst (λ (y : Array). j + (1 + count es) ≤ y.length) same bound in omega (arith, q)),
+          calm_more d.variables f1.variables hs v2 calm,
+          stage_second g k h C (calls_in e) (calls_in_values es) d f1 f s first,
+          l,
+        ),
+      ),
+    )

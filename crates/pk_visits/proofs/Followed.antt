@@ -1,5 +1,5 @@
 -- The graph follows the program at each step of all work but declarations, marks and jumps to them.
-use Rattle.std.proofs.Common.{◌≡◌, ℕ, List, [], ◌∷◌, Bool, Option, Some, None}
+use Rattle.std.proofs.Common.{◌≡◌, ℕ, List, [], ◌∷◌, Bool, Some, None}
 use Rattle.pk_ctypes.specs.declared.types.IntType.TheVariants.{Int}
 use Rattle.pk_ctypes.specs.Types.{InType}
 use Rattle.pk_typed.specs.Trees.{StatementTree}

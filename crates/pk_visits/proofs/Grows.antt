@@ -20,7 +20,7 @@ use Rattle.pk_lower_row.specs.declared.shapes.Waiting.TheVariants.{Weak}
 use Rattle.pk_lower_row.specs.Shapes.{is_plain, stays, strong_if, strong_or_weak}
 use Rattle.pk_lower_row.specs.Rows as rows
 use Rattle.pk_lower_row.specs.Rows.{Ways, Operand, Target, scalar, element, Two, Loaded, Passed, stored_unless, held, two, one}
-use Rattle.pk_visits.proofs.Slots.{Slot, Draft, Instr, Edge, KeepsBy, Grows, Never, Same, front_among, label_at, region_at}
+use Rattle.pk_visits.proofs.Slots.{Slot, Draft, Instr, Edge, KeepsBy, Grows, Never, Same, Scoping, front_among, label_at, region_at}
 
 pub grows_refl : (C : ℕ → Type 0) (d : Draft) → Grows C d d
 grows_refl C d = record {
@@ -32,6 +32,7 @@ grows_refl C d = record {
   labels = λ n h. inr refl;
   regions = λ k. inr refl;
   paths = refl;
+  scopes = λ n z h. h;
   here = refl;
 }
 
@@ -41,8 +42,8 @@ linked (inr a) (inl h) = inl h
 linked (inr a) (inr b) = inr (b ∙ a)
 
 -- one after the other
-pub keeps_trans : {R : Label → Label → Type 0} {M C : ℕ → Type 0} {es fs gs : List Edge} {ns ms os : Names Slot} {v w x p q r : ℕ} {ls ks js : List Label} {rs ts us : List Region} {h i j : Label}
-    → (R h i → R i j → R h j) → KeepsBy R M C es ns v p ls rs h fs ms w q ks ts i → KeepsBy R M C fs ms w q ks ts i gs os x r js us j → KeepsBy R M C es ns v p ls rs h gs os x r js us j
+pub keeps_trans : {R : Label → Label → Type 0} {M C : ℕ → Type 0} {es fs gs : List Edge} {ns ms os : Names Slot} {v w x p q r : ℕ} {ls ks js : List Label} {rs ts us : List Region} {aa bb cc : Scoping} {h i j : Label}
+    → (R h i → R i j → R h j) → KeepsBy R M C es ns v p ls rs aa h fs ms w q ks ts bb i → KeepsBy R M C fs ms w q ks ts bb i gs os x r js us cc j → KeepsBy R M C es ns v p ls rs aa h gs os x r js us cc j
 keeps_trans t a b = record {
   edges = λ e h. b.edges e (a.edges e h);
   names = b.names ∙ a.names;
@@ -52,11 +53,12 @@ keeps_trans t a b = record {
   labels = λ n h. linked (a.labels n h) (b.labels n (let m = a.points in omega (arith, h, m)));
   regions = λ k. linked (a.regions k) (b.regions k);
   paths = b.paths ∙ a.paths;
+  scopes = λ n z h. b.scopes n z (a.scopes n z h);
   here = t a.here b.here;
 }
 
-pub grows_trans : {C : ℕ → Type 0} {es fs gs : List Edge} {ns ms os : Names Slot} {v w x p q r : ℕ} {ls ks js : List Label} {rs ts us : List Region} {h i j : Label}
-    → KeepsBy Same Never C es ns v p ls rs h fs ms w q ks ts i → KeepsBy Same Never C fs ms w q ks ts i gs os x r js us j → KeepsBy Same Never C es ns v p ls rs h gs os x r js us j
+pub grows_trans : {C : ℕ → Type 0} {es fs gs : List Edge} {ns ms os : Names Slot} {v w x p q r : ℕ} {ls ks js : List Label} {rs ts us : List Region} {aa bb cc : Scoping} {h i j : Label}
+    → KeepsBy Same Never C es ns v p ls rs aa h fs ms w q ks ts bb i → KeepsBy Same Never C fs ms w q ks ts bb i gs os x r js us cc j → KeepsBy Same Never C es ns v p ls rs aa h gs os x r js us cc j
 grows_trans a b = keeps_trans (λ m n. n ∙ m) a b
 
 other : (p n : ℕ) → n < p → n ≢ p
@@ -76,6 +78,7 @@ link_grows C i q d = record {
   labels = λ n h. inr refl;
   regions = λ k. inr refl;
   paths = refl;
+  scopes = λ n z h. h;
   here = refl;
 }
 
@@ -89,6 +92,7 @@ emit_grows C i d = record {
   labels = new_label Never d.labels d.points d.points d.here (omega arith);
   regions = λ k. inr refl;
   paths = refl;
+  scopes = λ n z h. h;
   here = refl;
 }
 
@@ -102,6 +106,7 @@ temporary_grows C t d = record {
   labels = λ n h. inr refl;
   regions = λ k. inr refl;
   paths = refl;
+  scopes = λ n z h. h;
   here = refl;
 }
 
@@ -119,6 +124,7 @@ fresh_one_grows C d = record {
   labels = new_label Never d.labels d.points d.points d.here (omega arith);
   regions = λ k. inr refl;
   paths = refl;
+  scopes = λ n z h. h;
   here = refl;
 }
 
@@ -270,6 +276,7 @@ fresh_three_grows C d = record {
       (linked (new_label Never _ d.points (d.points + 1) d.here (omega arith) n h) (new_label Never _ d.points (d.points + 1 + 1) d.here (omega arith) n h));
   regions = λ k. inr refl;
   paths = refl;
+  scopes = λ n z h. h;
   here = refl;
 }
 
@@ -337,6 +344,7 @@ entered_grows C k s c d = record {
   labels = λ n h. inr refl;
   regions = other_region C d.regions k _ c;
   paths = length-set d.regions k _;
+  scopes = λ n z h. h;
   here = refl;
 }
 

@@ -105,4 +105,4 @@ binds_laid g k h m i y (t ∷ ts) (w ∷ us) (r ∷ rs) rest d e f hs C zs n a k
           (grows_trans (weaken u) (emit_grows Any j e)) v l,
     )) where
       weaken : Grows C d e → Grows (λ q. Unit {0}) d e
-      weaken q = record { edges = q.edges; names = q.names; variables = q.variables; points = q.points; size = q.size; labels = q.labels; regions = λ k. inl tt; paths = q.paths; here = q.here }
+      weaken q = record { edges = q.edges; names = q.names; variables = q.variables; points = q.points; size = q.size; labels = q.labels; regions = λ k. inl tt; paths = q.paths; scopes = q.scopes; here = q.here }

@@ -75,7 +75,7 @@ while_laid g proper k h x p e s a pt hs (d, n, m, is, fits, calm, t, marking, l)
           draft = b;
           at = refl;
           fits = fits;
-          stage = part_until g Stays k j (calls_in e ++ calls_in_statement s) b f (at (o.points + 2) f) s0 (record { edges = λ v w. w; names = refl; variables = omega arith; points = omega arith; size = refl; labels = λ v w. inr refl; regions = λ v. inr refl; paths = refl; here = (refl, refl) });
+          stage = part_until g Stays k j (calls_in e ++ calls_in_statement s) b f (at (o.points + 2) f) s0 (record { edges = λ v w. w; names = refl; variables = omega arith; points = omega arith; size = refl; labels = λ v w. inr refl; regions = λ v. inr refl; paths = refl; scopes = λ n z h. h; here = (refl, refl) });
           marking = marking;
           calm = calm;
           heads = z.first;
@@ -118,7 +118,7 @@ do_laid g proper k h x p s e a pt hs (d, n, m, is, fits, calm, t, marking, l) =
           draft = b;
           at = refl;
           fits = fits;
-          stage = part_until g Stays k j (calls_in_statement s ++ calls_in e) b f (at (o.points + 2) f) s0 (record { edges = λ v w. w; names = refl; variables = omega arith; points = omega arith; size = refl; labels = λ v w. inr refl; regions = λ v. inr refl; paths = refl; here = (refl, refl) });
+          stage = part_until g Stays k j (calls_in_statement s ++ calls_in e) b f (at (o.points + 2) f) s0 (record { edges = λ v w. w; names = refl; variables = omega arith; points = omega arith; size = refl; labels = λ v w. inr refl; regions = λ v. inr refl; paths = refl; scopes = λ n z h. h; here = (refl, refl) });
           marking = marking;
           calm = calm;
           heads = z.first;
@@ -244,7 +244,18 @@ again_do g proper k h x e s o a p hs plain (y, b, there, shown, same, loop, cont
     let first = subst (λ q. g.shows d.here k (place q h.scope)) (proper.at_positions d.here k h t.here) t.here in
     let here : g.shows u.here k h = shows_on g proper k h.scope d.here u.here first round.here in
     let tests = part_second g k h h (calls_in_statement s) (calls_in e) d u f t round.points here in
-    let vr = round.variables in
-    (y, (u, loop.objects, d.point, x.broken, refl, loop.fits.1, calm_more d.variables u.variables hs vr loop.calm, tests,
-    (subst (λ q. ShowsAt g q k h) (sym loop.at) loop.heads, (y, (refl, plain, x.continued, x.broken, subst (λ q. Loops g k h y (DoWhile s e) q x.continued x.broken hs) (sym loop.at) loop, tt, behind, z))),
-    (behind, (y, (plain, z)))))
+    let vr = round.variables in (
+      y,
+      (
+        u,
+        loop.objects,
+        d.point,
+        x.broken,
+        refl,
+        loop.fits.1,
+        calm_more d.variables u.variables hs vr loop.calm,
+        tests,
+        (subst (λ q. ShowsAt g q k h) (sym loop.at) loop.heads, (y, (refl, plain, x.continued, x.broken, subst (λ q. Loops g k h y (DoWhile s e) q x.continued x.broken hs) (sym loop.at) loop, tt, behind, z))),
+        (behind, (y, (plain, z))),
+      ),
+    )

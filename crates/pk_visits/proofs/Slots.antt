@@ -1,6 +1,7 @@
 -- Drafts over slots: the objects of a program and temporaries, and what they hold.
 use Rattle.std.proofs.Common.{◌≡◌, ℕ, ◌<◌, ◌≤◌, ◌⊎◌, List, [], ◌∷◌, ◌++◌, refl, inl, inr, length, nat_eq, if◌then◌else◌, ℤ}
-use Rattle.std.specs.Prelude.{slice_index_or}
+use Rattle.std.specs.Prelude.{slice_index_or, slice_get, Some}
+use Rattle.pk_graph.specs.declared.graphs.Scope.{Scope}
 use Rattle.pk_graph.specs.Trees.{TreeOf, InstrOf}
 use Rattle.pk_graph.specs.Steps.{Numbers, number_at, Storing}
 use Rattle.pk_draft.specs.declared.drafts.Label.{Label}
@@ -69,8 +70,16 @@ label_at ls q = slice_index_or ls q no_label
 abbrev pub region_at : List Region → ℕ → Region
 region_at rs k = slice_index_or rs k no_region
 
--- Edges and variables are only added, points keep their labels unless they are marks, the regions of all paths but some are kept, and what a point made here is goes over by R.
-pub record KeepsBy (R : Label → Label → Type 0) (Mark Called : ℕ → Type 0) (es : List Edge) (ns : Names Slot) (v p : ℕ) (ls : List Label) (rs : List Region) (h : Label) (fs : List Edge) (ms : Names Slot) (w q : ℕ) (ks : List Label) (ts : List Region) (i : Label) : Type 0 where
+-- entries of scopes
+abbrev pub Scoping : Type 0
+Scoping = List Scope
+
+-- each entry stands where it stood
+abbrev pub Extends : Scoping → Scoping → Type 0
+Extends ss us = (n : ℕ) (z : Scope) → slice_get ss n ≡ Some z → slice_get us n ≡ Some z
+
+-- Edges and variables are only added, scopes too, points keep their labels unless they are marks, the regions of all paths but some are kept, and what a point made here is goes over by R.
+pub record KeepsBy (R : Label → Label → Type 0) (Mark Called : ℕ → Type 0) (es : List Edge) (ns : Names Slot) (v p : ℕ) (ls : List Label) (rs : List Region) (ss : Scoping) (h : Label) (fs : List Edge) (ms : Names Slot) (w q : ℕ) (ks : List Label) (ts : List Region) (us : Scoping) (i : Label) : Type 0 where
   pub edges : (e : Edge) → Among e es → Among e fs
   pub names : ms ≡ ns
   pub variables : v ≤ w
@@ -79,10 +88,11 @@ pub record KeepsBy (R : Label → Label → Type 0) (Mark Called : ℕ → Type 
   pub labels : (n : ℕ) → n < p → Mark n ⊎ (label_at ks n ≡ label_at ls n)
   pub regions : (k : ℕ) → Called k ⊎ (region_at ts k ≡ region_at rs k)
   pub paths : length ts ≡ length rs
+  pub scopes : Extends ss us
   pub here : R h i
 
 abbrev pub Keeps : (R : Label → Label → Type 0) → (Mark Called : ℕ → Type 0) → Draft → Draft → Type 0
-Keeps R M C d e = KeepsBy R M C d.edges d.names d.variables d.points d.labels d.regions d.here e.edges e.names e.variables e.points e.labels e.regions e.here
+Keeps R M C d e = KeepsBy R M C d.edges d.names d.variables d.points d.labels d.regions d.scopes d.here e.edges e.names e.variables e.points e.labels e.regions e.scopes e.here
 
 abbrev pub Never : ℕ → Type 0
 Never n = ⊥

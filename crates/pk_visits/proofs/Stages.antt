@@ -97,6 +97,7 @@ leads_back g marks later cs d e s l = record {
   labels = λ q h. composed (s.labels q h) (l.labels q (let a = s.points in omega (arith, h, a)));
   regions = λ k. regional cs later k (s.regions k) (l.regions k);
   paths = sym s.paths ∙ l.paths;
+  scopes = λ n z h. l.scopes n z (s.scopes n z h);
 }
 
 pub stage_first : (g : Whole) (k : ℕ) (h : Place) (xs ys : List Numbered) (d e f : Draft) → Stage g k h (xs ++ ys) d f → Grows (In (led_to (context_of g k) ys)) e f → Stage g k h xs d e
@@ -268,6 +269,7 @@ leads_behind g R marks later cs d e s l = record {
   labels = λ q h. marked (s.labels q h) (l.labels q (let a = s.points in omega (arith, h, a)));
   regions = λ k. regional cs later k (s.regions k) (l.regions k);
   paths = sym s.paths ∙ l.paths;
+  scopes = λ n z h. l.scopes n z (s.scopes n z h);
 }
 
 -- up to a draft behind which the later calls are made

@@ -32,7 +32,7 @@ use Rattle.pk_meaning.specs.Programs.{Program, function_number, function_of, blo
 use Rattle.pk_meaning.specs.Work as work
 use Rattle.pk_meaning.specs.Work.{Place, Loop, While, DoWhile, For, Way, Onward, Refused, Lost, Caller, Nobody, Path, Ahead, Rest, Join, Again, Close, End, Work, Go, Do, Declare, Perform, Evaluate, Test, Keep, Branch, Apply, Operate, Convert, Settle, Truth, Drop, Assign, Put, Update, Advance, Fetch, Reload, StoreKept, Renew, Renewed, Replace, Fill, Item, Claim, Pass, Bind, Enter, Leave, Return, Turn, Back, Choose}
 use Rattle.pk_meaning.specs.Steps.{Config, place, body_place}
-use Rattle.pk_visits.proofs.Slots.{Slot, own, temporary, slots, Draft, SlotTree, Instr, Edge, edge, Memory, memory, Among, label_at, region_at}
+use Rattle.pk_visits.proofs.Slots.{Slot, own, temporary, slots, Draft, SlotTree, Instr, Edge, edge, Memory, memory, Among, label_at, region_at, Scoping, Extends}
 
 -- A graph over slots, its points' labels and its paths' regions; the sizes of functions, and of each path the one by its function's first call; when a label is a path's place.
 pub record Whole : Type 1 where
@@ -42,6 +42,7 @@ pub record Whole : Type 1 where
   pub edges : List Edge
   pub labels : List Label
   pub regions : List Region
+  pub scopes : Scoping
   pub shows : Label → ℕ → Place → Type 0
 
 -- in which context a path is lowered
@@ -69,6 +70,7 @@ pub record Leads (g : Whole) (marks later : List ℕ) (d : Draft) : Type 0 where
   pub labels : (q : ℕ) → q < d.points → Among q marks ⊎ (label_at g.labels q ≡ label_at d.labels q)
   pub regions : (k : ℕ) → Among k later ⊎ (region_at g.regions k ≡ region_at d.regions k)
   pub paths : length d.regions ≡ length g.program.paths
+  pub scopes : Extends d.scopes g.scopes
 
 -- the paths that calls lead to
 abbrev pub led_to : Context → List Numbered → List ℕ

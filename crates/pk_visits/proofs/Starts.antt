@@ -1,27 +1,26 @@
 -- From the work of a `for` to that of its first part, and to where it begins.
-use Rattle.std.proofs.Common.{◌≡◌, ℕ, ◌+◌, ◌<◌, ◌≤◌, List, [], ◌∷◌, inl, ◌++◌, length, refl, sym, ap, subst, arith, Option}
+use Rattle.std.proofs.Common.{◌≡◌, ℕ, ◌+◌, List, [], ◌∷◌, inl, ◌++◌, refl, sym, ap, subst, arith, Option}
 use Rattle.pk_ctypes.specs.declared.places.Pos.{Pos}
 use Rattle.pk_typed.specs.Trees.{ValueTree, EffectTree, StatementTree, ForStartTree}
 use Rattle.pk_typed.specs.Trees as tree
 use Rattle.pk_welltyped.specs.Listed.{Numbered, calls_if, calls_at_start, calls_in_effect_if, calls_in_statement, objects_at_start}
-use Rattle.pk_welltyped.specs.WellTyped.{IsStatement, IsForStart, Marks}
-use Rattle.pk_graph.specs.Trees.{Skip}
-use Rattle.pk_draft.specs.Drafts.{on, at, fresh, link, go, in_scope}
+use Rattle.pk_welltyped.specs.WellTyped.{IsStatement, Marks}
+use Rattle.pk_draft.specs.Drafts.{on, at, fresh, in_scope}
 use Rattle.pk_lower_statement.specs.declared.statements.Exits.{Exits}
-use Rattle.pk_lower_statement.specs.Statements.{inside, for_from, for_draft, for_start, for_test, loop_begun, performed_if, lowered}
+use Rattle.pk_lower_statement.specs.Statements.{inside, for_from, for_start, for_test, loop_begun, performed_if, lowered}
 use Rattle.pk_meaning.specs.Objects.{Scope}
 use Rattle.pk_meaning.specs.Work as work
 use Rattle.pk_meaning.specs.Work.{Place, Work, Ahead, For}
 use Rattle.pk_meaning.specs.Steps.{place}
-use Rattle.pk_visits.proofs.Slots.{Slot, Draft, Among, Keeps, edge, last_among}
+use Rattle.pk_visits.proofs.Slots.{Draft, Among}
 use Rattle.pk_visits.proofs.Stands.{Whole, Proper, context_of, Held, around, AreCalm, ShowsAt, Stage, led_to, Marking, Distinct, LaidAhead, Laid}
 use Rattle.pk_visits.proofs.Stages.{In, all_called, part_first, part_second, part_until, stage_at, part_point, part_room, fresh_one}
 use Rattle.pk_visits.proofs.Growing.{front_called, back_called}
 use Rattle.pk_visits.proofs.Tells.{any_called}
-use Rattle.pk_visits.proofs.StatementGrows.{Stays, OnPath, Adds, Enlarges, enlarges, stays_then, path_then, on_adds, link_adds, fresh_adds, begun_adds, for_adds, test_adds, third_adds, start_enlarges, statement, marking_inside}
+use Rattle.pk_visits.proofs.StatementGrows.{OnPath, Enlarges, enlarges, stays_then, path_then, on_adds, fresh_adds, begun_adds, for_adds, test_adds, third_adds, start_enlarges, statement, marking_inside}
 use Rattle.pk_visits.proofs.Operands.{calm_more}
 use Rattle.pk_visits.proofs.Thirds.{scope_enlarges}
-use Rattle.pk_visits.proofs.Rounds.{Begun, begun}
+use Rattle.pk_visits.proofs.Rounds.{begun}
 use Rattle.pk_visits.proofs.Doom.{calm_plain}
 
 -- the calls of a first part before those of the loop
@@ -48,7 +47,7 @@ pub for_begun : (g : Whole) (proper : Proper g) (k : ℕ) (h : Place) (names : S
     → Marking x m t.marks → LaidAhead g k x a (lowered (context_of g k) (tree.for_loop q start v third s) x d).point hs
     → g.shows (on q (for_start (context_of g k) start (fresh 1 (on q d)))).here k (place q names)
     → Stage g k (place q h.scope) (calls_at_start start) (fresh 1 (on q d)) (for_start (context_of g k) start (fresh 1 (on q d)))
-        × Laid g k (place q names) x (work.Back (place q names) (For v third s) (place q h.scope) a) (for_start (context_of g k) start (fresh 1 (on q d))).point hs
+    × Laid g k (place q names) x (work.Back (place q names) (For v third s) (place q h.scope) a) (for_start (context_of g k) start (fresh 1 (on q d))).point hs
 unfolding lowered IsStatement calls_in_statement
 for_begun g proper k h names x q start v third s a hs d n m fits calm t marking l shows =
     let inner = place q names in
@@ -72,7 +71,7 @@ for_begun g proper k h names x q start v third s a hs d n m fits calm t marking 
     let two = calls_if v ++ calls_in_effect_if third in
     let k2 = front_called C c two (calls_in_statement s) (all_called c ys) in
     let loops = for_adds ms C q (for_test c v) (performed_if c third) (lowered c s) x (test_adds ms C c v (front_called C c (calls_if v) (calls_in_effect_if third) k2)) (third_adds ms C c third (back_called C c (calls_if v) (calls_in_effect_if third) k2))
-        (λ w i r. statement C c _ m s (inside w i x) ms fits.3 (marking_inside x m ms w i marking) (back_called C c two (calls_in_statement s) (all_called c ys)) r) (hp + 1) (hp + 2) e b in
+    (λ w i r. statement C c _ m s (inside w i x) ms fits.3 (marking_inside x m ms w i marking) (back_called C c two (calls_in_statement s) (all_called c ys)) r) (hp + 1) (hp + 2) e b in
     let from_b : Enlarges ms C b W = path_then (enlarges ms C b F loops) (scope_enlarges ms C o.here.scope (at e F)) in
     let from_f : Enlarges ms C f0 W = path_then (enlarges ms C f0 b (stays_then (on_adds ms C q f0) (begun_adds ms C f1))) from_b in
     let first = start_enlarges ms (In (led_to c xs)) c start d0 (all_called c xs) in
@@ -85,22 +84,33 @@ for_begun g proper k h names x q start v third s a hs d n m fits calm t marking 
     let le = first.points in
     let lv = first.variables in
     let sb = part_until g OnPath k inner ys b F W (part_second g k j inner xs ys d0 b W t0 (omega (arith, le)) shows) (scope_enlarges ms (In []) o.here.scope (at e F)) in
-    let calm_b = calm_more d.variables b.variables hs (omega (arith, lv)) calm in
-    (part_first g OnPath k j xs ys d0 f0 W t0 from_f,
-    (calm_plain d.variables hs calm, hp, hp + 2, e, z.there, z.first,
-    record {
-      objects = n + objects_at_start start;
-      mark = m;
-      begin = hp + 1;
-      draft = b;
-      at = refl;
-      fits = (fits.1, fits.2, fits.3);
-      stage = sb;
-      marking = marking;
-      calm = calm_b;
-      heads = z.first;
-      begins = z.second;
-      continues = z.third;
-    }, tt, behind, l)) where
+    let calm_b = calm_more d.variables b.variables hs (omega (arith, lv)) calm in (
+      part_first g OnPath k j xs ys d0 f0 W t0 from_f,
+      (
+        calm_plain d.variables hs calm,
+        hp,
+        hp + 2,
+        e,
+        z.there,
+        z.first,
+        record {
+          objects = n + objects_at_start start;
+          mark = m;
+          begin = hp + 1;
+          draft = b;
+          at = refl;
+          fits = (fits.1, fits.2, fits.3);
+          stage = sb;
+          marking = marking;
+          calm = calm_b;
+          heads = z.first;
+          begins = z.second;
+          continues = z.third;
+        },
+        tt,
+        behind,
+        l,
+      ),
+    ) where
       widen : (ms : List ℕ) (C : ℕ → Type 0) (d e : Draft) → Enlarges ms C d e → Enlarges ms (λ r. Unit {0}) d e
-      widen ms C d e r = record { edges = r.edges; names = r.names; variables = r.variables; points = r.points; size = r.size; labels = r.labels; regions = λ i. inl tt; paths = r.paths; here = r.here }
+      widen ms C d e r = record { edges = r.edges; names = r.names; variables = r.variables; points = r.points; size = r.size; labels = r.labels; regions = λ i. inl tt; paths = r.paths; scopes = r.scopes; here = r.here }

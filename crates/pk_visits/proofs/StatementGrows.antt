@@ -1,6 +1,6 @@
 -- What declarations and statements add to a draft: points but marks keep their labels, and the names in scope stay behind a statement.
 use Rattle.std.proofs.Common.{◌≡◌, ℕ, zero, suc, ◌+◌, ◌<◌, ◌≤◌, ◌⊎◌, List, [], ◌∷◌, ◌++◌, length, Bool, if◌then◌else◌, refl, sym, ap, ◌∙◌, subst, inl, inr, arith, ◌≢◌, ℤ, Option, Some, None}
-use Rattle.std.specs.Prelude.{slice_set}
+use Rattle.std.specs.Prelude.{slice_set, slice_get}
 use Rattle.std.proofs.lemmas.List.{get_or-set_other, length-set}
 use Rattle.pk_ctypes.specs.declared.places.Pos.{Pos}
 use Rattle.pk_ctypes.specs.declared.types.IntType.{IntType}
@@ -28,7 +28,7 @@ use Rattle.pk_lower_expression.specs.Expressions.{ways, performed}
 use Rattle.pk_lower_statement.specs.declared.statements.Exits.{Exits}
 use Rattle.pk_lower_statement.specs.Statements as statements
 use Rattle.pk_lower_statement.specs.Statements.{named, introduced, item, items, declared, all_declared, inside, branching, meeting, if_draft, round, while_from, do_from, for_from, loop_begun, case_test, case_tests, in_switch, switch_begun, returned, performed_if, for_start, for_test, lowered, lowered_items}
-use Rattle.pk_visits.proofs.Slots.{Slot, SlotTree, Draft, Instr, KeepsBy, Keeps, Grows, front_among, Among, label_at, region_at, Edge}
+use Rattle.pk_visits.proofs.Slots.{Slot, SlotTree, Draft, Instr, KeepsBy, Keeps, Grows, Scoping, Extends, front_among, Among, label_at, region_at, Edge}
 use Rattle.pk_visits.proofs.Grows.{keeps_trans, grows_refl, grows_trans, link_grows, emit_grows, fresh_one_grows, held_grows, guards_grow, WaysGrow}
 use Rattle.pk_visits.proofs.Growing.{AllCalled, values, effects, front_called, back_called}
 use Rattle.pk_visits.proofs.Stands.{Marking}
@@ -65,19 +65,20 @@ adds ms C d e g = record {
   labels = λ n h. none_marked ms n (g.labels n h);
   regions = g.regions;
   paths = g.paths;
+  scopes = g.scopes;
   here = (ap (λ (l : Label). l.path) g.here, ap (λ (l : Label). l.scope) g.here);
 }
 
 pub enlarges : (ms : List ℕ) (C : ℕ → Type 0) (d e : Draft) → Adds ms C d e → Enlarges ms C d e
-enlarges ms C d e g = record { edges = g.edges; names = g.names; variables = g.variables; points = g.points; size = g.size; labels = g.labels; regions = g.regions; paths = g.paths; here = g.here.0 }
+enlarges ms C d e g = record { edges = g.edges; names = g.names; variables = g.variables; points = g.points; size = g.size; labels = g.labels; regions = g.regions; paths = g.paths; scopes = g.scopes; here = g.here.0 }
 
 -- one after the other
-pub stays_then : {M C : ℕ → Type 0} {es fs gs : List Edge} {ns ms os : Names Slot} {v w x p q r : ℕ} {ls ks js : List Label} {rs ts us : List Region} {h i j : Label}
-    → KeepsBy Stays M C es ns v p ls rs h fs ms w q ks ts i → KeepsBy Stays M C fs ms w q ks ts i gs os x r js us j → KeepsBy Stays M C es ns v p ls rs h gs os x r js us j
+pub stays_then : {M C : ℕ → Type 0} {es fs gs : List Edge} {ns ms os : Names Slot} {v w x p q r : ℕ} {ls ks js : List Label} {rs ts us : List Region} {aa bb cc : Scoping} {h i j : Label}
+    → KeepsBy Stays M C es ns v p ls rs aa h fs ms w q ks ts bb i → KeepsBy Stays M C fs ms w q ks ts bb i gs os x r js us cc j → KeepsBy Stays M C es ns v p ls rs aa h gs os x r js us cc j
 stays_then a b = keeps_trans (λ m n. (n.0 ∙ m.0, n.1 ∙ m.1)) a b
 
-pub path_then : {M C : ℕ → Type 0} {es fs gs : List Edge} {ns ms os : Names Slot} {v w x p q r : ℕ} {ls ks js : List Label} {rs ts us : List Region} {h i j : Label}
-    → KeepsBy OnPath M C es ns v p ls rs h fs ms w q ks ts i → KeepsBy OnPath M C fs ms w q ks ts i gs os x r js us j → KeepsBy OnPath M C es ns v p ls rs h gs os x r js us j
+pub path_then : {M C : ℕ → Type 0} {es fs gs : List Edge} {ns ms os : Names Slot} {v w x p q r : ℕ} {ls ks js : List Label} {rs ts us : List Region} {aa bb cc : Scoping} {h i j : Label}
+    → KeepsBy OnPath M C es ns v p ls rs aa h fs ms w q ks ts bb i → KeepsBy OnPath M C fs ms w q ks ts bb i gs os x r js us cc j → KeepsBy OnPath M C es ns v p ls rs aa h gs os x r js us cc j
 path_then a b = keeps_trans (λ m n. n ∙ m) a b
 
 pub on_adds : (ms : List ℕ) (C : ℕ → Type 0) (p : Pos) (d : Draft) → Adds ms C d (on p d)
@@ -90,6 +91,7 @@ on_adds ms C p d = record {
   labels = λ n h. inr refl;
   regions = λ k. inr refl;
   paths = refl;
+  scopes = λ n z h. h;
   here = (refl, refl);
 }
 
@@ -113,6 +115,7 @@ come_adds ms C p d m = record {
   labels = λ n h. by n (decided n p);
   regions = λ k. inr refl;
   paths = refl;
+  scopes = λ n z h. h;
   here = (refl, refl);
 } where
   by : (n : ℕ) → (n ≡ p) ⊎ (n ≢ p) → Among n ms ⊎ (label_at (slice_set d.labels p d.here) n ≡ label_at d.labels n)
@@ -129,12 +132,13 @@ record Placing (n p : ℕ) (d : Draft) : Type 0 where
   pub names : (all_placed n p d).names ≡ d.names
   pub variables : (all_placed n p d).variables ≡ d.variables
   pub regions : (all_placed n p d).regions ≡ d.regions
+  pub scopes : (all_placed n p d).scopes ≡ d.scopes
   pub here : (all_placed n p d).here ≡ d.here
   pub size : length (all_placed n p d).labels ≡ length d.labels
   pub labels : (q : ℕ) → q < p → label_at (all_placed n p d).labels q ≡ label_at d.labels q
 
 placing : (n p : ℕ) (d : Draft) → Placing n p d
-placing zero p d = record { edges = refl; names = refl; variables = refl; regions = refl; here = refl; size = refl; labels = λ q h. refl }
+placing zero p d = record { edges = refl; names = refl; variables = refl; regions = refl; scopes = refl; here = refl; size = refl; labels = λ q h. refl }
 placing (suc n) p d =
     let r = placing n (p + 1) (placed p d) in
     record {
@@ -142,6 +146,7 @@ placing (suc n) p d =
       names = r.names;
       variables = r.variables;
       regions = r.regions;
+      scopes = r.scopes;
       here = r.here;
       size = r.size ∙ length-set d.labels p d.here;
       labels = λ q h. r.labels q (omega (arith, h)) ∙ get_or-set_other d.labels p q d.here no_label (λ e. absurd (omega (arith, h, e)));
@@ -159,17 +164,24 @@ fresh_grows C n d =
       labels = λ q h. inr (r.labels q h);
       regions = λ k. inr (ap (λ rs. region_at rs k) r.regions);
       paths = ap length r.regions;
+      scopes = λ i z h. subst (λ ss. slice_get ss i ≡ Some z) (sym r.scopes) h;
       here = r.here;
     }
 
 -- ---- declarations
 
+-- an entry more
+extended : (ss : Scoping) (z : Rattle.pk_graph.specs.declared.graphs.Scope.Scope) → Extends ss (ss ++ z ∷ [])
+extended [] z n y h = absurd (grind (arith, h))
+extended (s ∷ ss) z zero y h = h
+extended (s ∷ ss) z (suc n) y h = extended ss z n y h
+
 named_enlarges : (ms : List ℕ) (C : ℕ → Type 0) (o : Option (List ℕ)) (x : ℕ) (d : Draft) → Enlarges ms C d (named o x d)
-named_enlarges ms C None x d = record { edges = λ e h. h; names = refl; variables = omega arith; points = omega arith; size = refl; labels = λ n h. inr refl; regions = λ k. inr refl; paths = refl; here = refl }
-named_enlarges ms C (Some name) x d = record { edges = λ e h. h; names = refl; variables = omega arith; points = omega arith; size = refl; labels = λ n h. inr refl; regions = λ k. inr refl; paths = refl; here = refl }
+named_enlarges ms C None x d = record { edges = λ e h. h; names = refl; variables = omega arith; points = omega arith; size = refl; labels = λ n h. inr refl; regions = λ k. inr refl; paths = refl; scopes = λ n z h. h; here = refl }
+named_enlarges ms C (Some name) x d = record { edges = λ e h. h; names = refl; variables = omega arith; points = omega arith; size = refl; labels = λ n h. inr refl; regions = λ k. inr refl; paths = refl; scopes = extended d.scopes (record { variable = x; outer = d.here.scope }); here = refl }
 
 object_enlarges : (ms : List ℕ) (C : ℕ → Type 0) (i : ℕ) (x : VariableOf) (d : Draft) → Enlarges ms C d (with_object i x d)
-object_enlarges ms C i x d = record { edges = λ e h. h; names = refl; variables = omega arith; points = omega arith; size = refl; labels = λ n h. inr refl; regions = λ k. inr refl; paths = refl; here = refl }
+object_enlarges ms C i x d = record { edges = λ e h. h; names = refl; variables = omega arith; points = omega arith; size = refl; labels = λ n h. inr refl; regions = λ k. inr refl; paths = refl; scopes = λ n z h. h; here = refl }
 
 pub introduced_enlarges : (ms : List ℕ) (C : ℕ → Type 0) (c : Context) (i : ℕ) (d : Draft) → Enlarges ms C d (introduced c i d)
 introduced_enlarges ms C c i d =
@@ -254,7 +266,7 @@ do_adds ms C p c s x hc hs k e d =
     stays_then (round_adds ms C x s hs d.point e k d) (stays_then (on_adds ms C p r) (hc d.point e (on p r)))
 
 pub scope_adds : (ms : List ℕ) (C : ℕ → Type 0) (d e : Draft) → Enlarges ms C d e → Adds ms C d (in_scope d.here.scope e)
-scope_adds ms C d e g = record { edges = g.edges; names = g.names; variables = g.variables; points = g.points; size = g.size; labels = g.labels; regions = g.regions; paths = g.paths; here = (g.here, refl) }
+scope_adds ms C d e g = record { edges = g.edges; names = g.names; variables = g.variables; points = g.points; size = g.size; labels = g.labels; regions = g.regions; paths = g.paths; scopes = g.scopes; here = (g.here, refl) }
 
 -- the names in scope are those of an earlier draft
 pub scoped_adds : (ms : List ℕ) (C : ℕ → Type 0) (k : ℕ) (d e : Draft) → Adds ms C d e → Adds ms C d (in_scope d.here.scope e)
@@ -311,9 +323,9 @@ either_list (x ∷ xs) ys m (inr h) = by (either_list xs ys m h) where
 -- marks that were made behind a draft are none of its points
 inner_adds : (ms ys : List ℕ) (C : ℕ → Type 0) (d e f : Draft) → ((q : ℕ) → Among q ys → d.points ≤ q) → Adds ms C d e → Adds (ys ++ ms) C e f → Adds ms C d f
 inner_adds ms ys C d e f from a b =
-    let first : Adds (ys ++ ms) C d e = record { edges = a.edges; names = a.names; variables = a.variables; points = a.points; size = a.size; labels = (λ q h. more q (a.labels q h)); regions = a.regions; paths = a.paths; here = a.here } in
+    let first : Adds (ys ++ ms) C d e = record { edges = a.edges; names = a.names; variables = a.variables; points = a.points; size = a.size; labels = (λ q h. more q (a.labels q h)); regions = a.regions; paths = a.paths; scopes = a.scopes; here = a.here } in
     let whole : Adds (ys ++ ms) C d f = stays_then first b in
-    record { edges = whole.edges; names = whole.names; variables = whole.variables; points = whole.points; size = whole.size; labels = (λ q h. less q h (whole.labels q h)); regions = whole.regions; paths = whole.paths; here = whole.here } where
+    record { edges = whole.edges; names = whole.names; variables = whole.variables; points = whole.points; size = whole.size; labels = (λ q h. less q h (whole.labels q h)); regions = whole.regions; paths = whole.paths; scopes = whole.scopes; here = whole.here } where
       more : (q : ℕ) {A : Type 0} → Among q ms ⊎ A → Among q (ys ++ ms) ⊎ A
       more q (inl h) = inl (back_list ys ms q h)
       more q (inr z) = inr z

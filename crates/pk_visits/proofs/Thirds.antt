@@ -1,20 +1,20 @@
 -- From the work of a `for`, where it begins again and at the end of its body, to that of its parts.
-use Rattle.std.proofs.Common.{◌≡◌, ℕ, ◌+◌, ◌<◌, ◌≤◌, ◌⊎◌, List, [], ◌∷◌, ◌++◌, refl, sym, ap, ◌∙◌, subst, inl, inr, arith, Option, Some, None}
+use Rattle.std.proofs.Common.{◌≡◌, ℕ, ◌⊎◌, List, [], ◌∷◌, ◌++◌, refl, sym, ap, ◌∙◌, subst, inl, inr, arith, Option, Some, None}
 use Rattle.pk_ctypes.specs.declared.places.Pos.{Pos}
 use Rattle.pk_typed.specs.Trees.{ValueTree, EffectTree, StatementTree}
 use Rattle.pk_typed.specs.Trees as tree
-use Rattle.pk_welltyped.specs.Listed.{Numbered, calls_in, calls_if, calls_in_effect_if, calls_in_statement}
+use Rattle.pk_welltyped.specs.Listed.{Numbered, calls_if, calls_in_effect_if, calls_in_statement}
 use Rattle.pk_graph.specs.Trees.{Skip}
 use Rattle.pk_draft.specs.Drafts.{on, at, link, go, in_scope}
 use Rattle.pk_lower_statement.specs.declared.statements.Exits.{Exits}
-use Rattle.pk_lower_statement.specs.Statements.{inside, for_from, for_test, performed_if, lowered}
+use Rattle.pk_lower_statement.specs.Statements.{inside, for_test, performed_if, lowered}
 use Rattle.pk_meaning.specs.Work as work
 use Rattle.pk_meaning.specs.Work.{Place, Work, Ahead, For, Onward}
 use Rattle.pk_meaning.specs.Steps as meaning
 use Rattle.pk_meaning.specs.Steps.{place}
-use Rattle.pk_visits.proofs.Slots.{Slot, Draft, Among, edge, last_among, front_among}
-use Rattle.pk_visits.proofs.Stands.{Whole, Proper, context_of, Held, around, ArePlain, AreCalm, ShowsAt, Distinct, Stage, led_to, Loops, LaidAhead, LaidWay, Laid}
-use Rattle.pk_visits.proofs.Stages.{In, all_called, back_among, among_front, among_back, among_either, distinct_front, distinct_back, distinct_between, led_both, part_first, part_second, part_until, stage_at}
+use Rattle.pk_visits.proofs.Slots.{Draft, Among, edge, last_among, front_among}
+use Rattle.pk_visits.proofs.Stands.{Whole, Proper, context_of, Held, around, ArePlain, ShowsAt, Distinct, Stage, led_to, Loops, LaidAhead, LaidWay, Laid}
+use Rattle.pk_visits.proofs.Stages.{In, all_called, back_among, among_front, among_back, among_either, distinct_front, distinct_back, distinct_between, led_both, part_first, part_second, part_until}
 use Rattle.pk_visits.proofs.Growing.{front_called, back_called}
 use Rattle.pk_visits.proofs.StatementGrows.{Stays, OnPath, Adds, Enlarges, enlarges, stays_then, path_then, on_adds, link_adds, test_adds, third_adds, scoped_adds, statement, marking_inside}
 use Rattle.pk_visits.proofs.Operands.{calm_more}
@@ -86,7 +86,7 @@ stage_other g k h xs ys zs d e s = record {
 
 -- in another block's scope
 pub scope_enlarges : (ms : List ℕ) (C : ℕ → Type 0) (n : ℕ) (d : Draft) → Enlarges ms C d (in_scope n d)
-scope_enlarges ms C n d = record { edges = λ e z. z; names = refl; variables = omega arith; points = omega arith; size = refl; labels = λ q z. inr refl; regions = λ j. inr refl; paths = refl; here = refl }
+scope_enlarges ms C n d = record { edges = λ e z. z; names = refl; variables = omega arith; points = omega arith; size = refl; labels = λ q z. inr refl; regions = λ j. inr refl; paths = refl; scopes = λ n z h. h; here = refl }
 
 -- behind the way from the body's end: the third part, and back
 after_link : (g : Whole) (k : ℕ) (ms : List ℕ) (h : Place) (third : Option EffectTree) (n q : ℕ) (r : Draft)
@@ -125,7 +125,7 @@ for_parts g proper k h x v third s o a p c b hs loop shown z =
     let third_called = back_called C ctx (calls_in_statement s) (calls_in_effect_if third) (all_called ctx both) in
     let u = in_scope d.here.scope (on h.at r) in
     let end : Enlarges t.marks C r f = path_then (enlarges t.marks C r (on h.at r) (on_adds t.marks C h.at r)) (path_then (scope_enlarges t.marks C d.here.scope (on h.at r))
-        (enlarges t.marks C u f (stays_then (third_adds t.marks C ctx third third_called u) (link_adds t.marks C Skip d.point (performed_if ctx third u))))) in
+    (enlarges t.marks C u f (stays_then (third_adds t.marks C ctx third third_called u) (link_adds t.marks C Skip d.point (performed_if ctx third u))))) in
     let rest : Enlarges t.marks C d1 f = path_then (enlarges t.marks C d1 r (stays_then body (link_adds t.marks C Skip c d2))) end in
     let se = part_first g OnPath k h (calls_if v) both d d1 f t rest in
     let first = subst (λ q. g.shows d.here k (place q h.scope)) (proper.at_positions d.here k h t.here) t.here in
@@ -203,9 +203,15 @@ third_laid g proper k h x v third s o a p hs plain (y, b, there, shown, same, lo
       let w = performed_if (context_of g k) (Some q) u in
       let vr = round.variables in
       let st = subst (λ (z : Option EffectTree). Stage g k h (calls_in_effect_if z) u (go Skip d.point (performed_if (context_of g k) z u))) (sym e) stands in
-      let fits = subst (λ (z : Option EffectTree). Rattle.pk_welltyped.specs.WellTyped.IsEffectIf (around g k loop.objects) z) (sym e) loop.fits.1 in
-      (u, loop.objects, refl, fits, (λ q. calm_more d.variables u.variables hs vr loop.calm), part_until g Stays k h (calls_in_effect_if (Some q)) u w (go Skip d.point w) st (link_adds st.marks (In []) Skip d.point w),
-      back w (st.leads.edges _ (last_among w.edges (edge w.point Skip d.point))))
+      let fits = subst (λ (z : Option EffectTree). Rattle.pk_welltyped.specs.WellTyped.IsEffectIf (around g k loop.objects) z) (sym e) loop.fits.1 in (
+        u,
+        loop.objects,
+        refl,
+        fits,
+        (λ q. calm_more d.variables u.variables hs vr loop.calm),
+        part_until g Stays k h (calls_in_effect_if (Some q)) u w (go Skip d.point w) st (link_adds st.marks (In []) Skip d.point w),
+        back w (st.leads.edges _ (last_among w.edges (edge w.point Skip d.point))),
+      )
 
 -- ---- the ends of bodies
 

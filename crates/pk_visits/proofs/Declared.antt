@@ -1,0 +1,86 @@
+-- The graph follows the program at declarations, where a point behind the name shows it.
+use Rattle.std.proofs.Common.{◌≡◌, ℕ, zero, suc, ◌+◌, ◌<◌, ◌≤◌, List, [], ◌∷◌, length, Bool, refl, sym, ap, ◌∙◌, subst, arith, Option, Some, None}
+use Rattle.std.specs.Prelude.{slice_index_or}
+use Rattle.pk_ctypes.specs.declared.places.Pos.{Pos}
+use Rattle.pk_ctypes.specs.declared.types.IntType.{IntType}
+use Rattle.pk_typed.specs.Trees.{DeclaredTree, LocalTree}
+use Rattle.pk_typed.specs.Trees as tree
+use Rattle.pk_graph.specs.Kinds.{count_of}
+use Rattle.pk_graph.specs.Steps.{Numbers}
+use Rattle.pk_draft.specs.Drafts.{on}
+use Rattle.pk_lower_row.specs.Contexts.{Context, local_at}
+use Rattle.pk_lower_statement.specs.declared.statements.Exits.{Exits}
+use Rattle.pk_lower_statement.specs.Statements.{named, introduced, declared}
+use Rattle.pk_welltyped.specs.Listed.{calls_in_declared, calls_if, calls_in_values_if}
+use Rattle.pk_welltyped.specs.WellTyped.{Kind, scalar, array, kind_among, IsDeclared}
+use Rattle.pk_meaning.specs.Objects.{Objects, local}
+use Rattle.pk_meaning.specs.Programs as program
+use Rattle.pk_meaning.specs.Programs.{local_of, with_local, block_of}
+use Rattle.pk_meaning.specs.Work.{Place, Work}
+use Rattle.pk_meaning.specs.Steps as meaning
+use Rattle.pk_meaning.specs.Steps.{place}
+use Rattle.pk_visits.proofs.Slots.{Slot, Draft, Memory}
+use Rattle.pk_visits.proofs.Stands.{Whole, context_of, Held, around, AreCalm, HasKind, Means, FitsObjects, Stage, local_array, place_after, Laid}
+use Rattle.pk_visits.proofs.Follow.{Answers, config}
+use Rattle.pk_visits.proofs.Stages.{stage_at}
+use Rattle.pk_visits.proofs.StatementGrows.{introduced_enlarges}
+use Rattle.pk_visits.proofs.ElementTrees.{local_length}
+use Rattle.pk_visits.proofs.Operands.{calm_more}
+use Rattle.pk_visits.proofs.Firsts.{scalar_follows, array_follows}
+
+local_type : (xs : List LocalTree) (i : ℕ) (n : Kind) → kind_among xs i ≡ Some n → (slice_index_or xs i program.no_local).int_type ≡ n.int_type
+local_type [] i n h = absurd (grind (arith, h))
+local_type (x ∷ xs) zero n h = same (record { int_type = x.int_type; length = x.length }) h where
+  same : (m : Kind) → Some m ≡ Some n → m.int_type ≡ n.int_type
+  same m e = ap (λ (o : Option Kind). type_or m o) e where
+    type_or : Kind → Option Kind → IntType
+    type_or a None = a.int_type
+    type_or a (Some b) = b.int_type
+local_type (x ∷ xs) (suc i) n h = local_type xs i n h
+
+named_point : (o : Option (List ℕ)) (v : ℕ) (d : Draft) → (named o v d).point ≡ d.point
+named_point None v d = refl
+named_point (Some name) v d = refl
+
+introduced_point : (c : Context) (i : ℕ) (d : Draft) → (introduced c i d).point ≡ d.point
+introduced_point c i d = named_point (local_at c i).name d.variables _
+
+-- behind the name of the declared object a point shows it in scope
+abbrev pub ShowsName : Whole → (k : ℕ) → Place → DeclaredTree → Draft → Type 0
+ShowsName g k h (tree.scalar_object i q e) d = g.shows (introduced (context_of g k) i (on q d)).here k (place q (with_local g.program k i h.scope))
+ShowsName g k h (tree.array_object i q es) d = g.shows (introduced (context_of g k) i (on q d)).here k (place q (with_local g.program k i h.scope))
+
+pub declared_follows : (y : Place) (g : Whole) (chosen : Numbers) (m : Memory) (k : ℕ) (h : Place) (x : Exits) (v : DeclaredTree) (o : ℕ) (d : Draft) (vs : Numbers) (s : Objects) (b : Bool) (u w : Work) (hs : List Held)
+    → IsDeclared (around g k o) v → AreCalm d.variables hs → Stage g k (place d.here.at h.scope) (calls_in_declared v) d (declared (context_of g k) v d) → ShowsName g k h v d
+    → Laid g k (place_after g.program k (v ∷ []) h) x w (declared (context_of g k) v d).point hs → Means m hs vs → m.objects ≡ s → FitsObjects g.program s
+    → Answers g chosen k y d.point m (meaning.declares g.program chosen (config k h u vs s b) v w)
+declared_follows y g chosen m k h x (tree.scalar_object i q e) o d vs s b u w hs fits calm st shown l means same f =
+    let c = context_of g k in
+    let e0 = introduced c i (on q d) in
+    let grow = introduced_enlarges st.marks (λ z. Unit {0}) c i (on q d) in
+    let j = place q (with_local g.program k i h.scope) in
+    let gp = grow.points in
+    let gv = grow.variables in
+    let t = fits.1.0 in
+    let is = fits.1.1 in
+    let types = local_type (block_of g.program k).locals i (scalar t) is in
+    subst (λ p. Answers g chosen k y p m (meaning.declares g.program chosen (config k h u vs s b) (tree.scalar_object i q e) w)) (introduced_point c i (on q d))
+    (scalar_follows y g chosen m k j x i e (o + 1) e0 vs s b u w hs (scalar t) (st.path, is) types (local_length (block_of g.program k).locals i (scalar t) is) (ap (λ z. scalar z) (sym types)) fits.2
+    (calm_more d.variables e0.variables hs gv calm) (stage_at g k _ j (calls_if e) d e0 _ st gp shown) l means same f)
+declared_follows y g chosen m k h x (tree.array_object i q es) o d vs s b u w hs fits calm st shown l means same f =
+    let c = context_of g k in
+    let e0 = introduced c i (on q d) in
+    let grow = introduced_enlarges st.marks (λ z. Unit {0}) c i (on q d) in
+    let j = place q (with_local g.program k i h.scope) in
+    let gp = grow.points in
+    let gv = grow.variables in
+    let room = fits.1 in
+    let t = room.0 in
+    let n = room.1 in
+    let is = room.2 in
+    let types = local_type (block_of g.program k).locals i (array t n) is in
+    let lengths = local_length (block_of g.program k).locals i (array t n) is in
+    let many : (local_array g k i).length ≡ n = ap count_of lengths in
+    subst (λ p. Answers g chosen k y p m (meaning.declares g.program chosen (config k h u vs s b) (tree.array_object i q es) w)) (introduced_point c i (on q d))
+    (array_follows y g chosen m k j x i es (o + 1) e0 vs s b u w hs (array t n) (st.path, is) types lengths (ap (λ z. array z n) (sym types) ∙ ap (λ z. array (local_array g k i).int_type z) (sym many)) fits.2 (subst (λ z. _ ≤ z) (sym many) room.3)
+    (calm_more d.variables e0.variables hs gv calm) (stage_at g k _ j (calls_in_values_if es) d e0 _ st gp shown) l means same f)
