@@ -11,8 +11,8 @@ use Rattle.pk_draft.specs.Drafts.{on}
 use Rattle.pk_draft.specs.declared.drafts.Label.{Label}
 use Rattle.pk_lower_row.specs.Contexts.{Context, local_at}
 use Rattle.pk_lower_statement.specs.declared.statements.Exits.{Exits}
-use Rattle.pk_lower_statement.specs.Statements.{named, introduced, declared, lowered_items}
-use Rattle.pk_welltyped.specs.Listed.{calls_in_declared, calls_if, calls_in_values_if, calls_in_items}
+use Rattle.pk_lower_statement.specs.Statements.{named, introduced, declared, all_declared, lowered_items}
+use Rattle.pk_welltyped.specs.Listed.{calls_in_declared, calls_if, calls_in_values_if, calls_in_all_declared, calls_in_items}
 use Rattle.pk_welltyped.specs.WellTyped.{Kind, scalar, array, kind_among, IsDeclared, AreItems}
 use Rattle.pk_meaning.specs.Objects.{Objects, Scope, local}
 use Rattle.pk_meaning.specs.Programs as program
@@ -27,7 +27,7 @@ use Rattle.pk_visits.proofs.Follow.{Answers, config}
 use Rattle.pk_visits.proofs.Stages.{In, all_called, part_first, part_second, stage_at}
 use Rattle.pk_visits.proofs.Tells.{any_called}
 use Rattle.pk_visits.proofs.Doom.{calm_plain}
-use Rattle.pk_visits.proofs.StatementGrows.{OnPath, introduced_enlarges, scalar_first_grows, array_first_grows, declared_enlarges, block}
+use Rattle.pk_visits.proofs.StatementGrows.{OnPath, introduced_enlarges, scalar_first_grows, array_first_grows, declared_enlarges, all_declared_enlarges, block}
 use Rattle.pk_visits.proofs.ElementTrees.{local_length}
 use Rattle.pk_visits.proofs.Operands.{calm_more}
 use Rattle.pk_visits.proofs.Firsts.{scalar_follows, array_follows}
@@ -127,3 +127,37 @@ next_declared g proper chosen p m k h vs s b x hs xs v is a (plain, (d, n, mark,
     (part_first g OnPath k (place d.here.at xs) (calls_in_declared v) (calls_in_items is) d e (lowered_items c is x e) t rest) shown
     (calm_plain e.variables hs calm_e, (e, n + 1, mark, refl, fits.1, calm_e,
     part_second g k _ (place e.here.at ys) (calls_in_declared v) (calls_in_items is) d e (lowered_items c is x e) t le (shown_behind g proper k (place h.at xs) v d shown), marking, l)) means same f)
+
+-- ---- declarations at the start of a `for`
+
+place_then : (g : Whole) (k : ℕ) (v : DeclaredTree) (ds : List DeclaredTree) (h : Place) → place_after g.program k (v ∷ ds) h ≡ place_after g.program k ds (place_after g.program k (v ∷ []) h)
+place_then g k (tree.scalar_object i q e) ds h = refl
+place_then g k (tree.array_object i q es) ds h = refl
+
+scope_then : (g : Whole) (k : ℕ) (v : DeclaredTree) (h : Place) → with_declared g.program k v h.scope ≡ (place_after g.program k (v ∷ []) h).scope
+scope_then g k (tree.scalar_object i q e) h = refl
+scope_then g k (tree.array_object i q es) h = refl
+
+pub none_declared : (g : Whole) (k : ℕ) (h : Place) (x : Exits) (w : Work) (p : ℕ) (hs : List Held) → Laid g k h x (work.Declare [] w) p hs → Laid g k h x w p hs
+unfolding all_declared
+none_declared g k h x w p hs (d, n, at', fits, calm, t, l) = subst (λ q. Laid g k h x w q hs) at' l
+
+pub all_declared_next : (g : Whole) (proper : Proper g) (chosen : Numbers) (p : ℕ) (m : Memory) (k : ℕ) (h : Place) (vs : Numbers) (s : Objects) (b : Bool) (x : Exits) (hs : List Held) (v : DeclaredTree) (ds : List DeclaredTree) (w : Work)
+    → (l : Laid g k h x (work.Declare (v ∷ ds) w) p hs) → ShowsName g k h v l.0 → Means m hs vs → m.objects ≡ s → FitsObjects g.program s
+    → Answers g chosen k h p m (step_of g.program chosen (config k h (work.Declare (v ∷ ds) w) vs s b) (work.Declare (v ∷ ds) w))
+unfolding all_declared
+all_declared_next g proper chosen p m k h vs s b x hs v ds w (d, n, at', fits, calm, t, l) shown means same f =
+    let c = context_of g k in
+    let e = declared c v d in
+    let end = all_declared c ds e in
+    let j = place_after g.program k (v ∷ []) h in
+    let rest = all_declared_enlarges t.marks (In (led_to c (calls_in_all_declared ds))) c ds e (all_called c (calls_in_all_declared ds)) in
+    let first = declared_enlarges t.marks (λ z. Unit {0}) c v d (any_called c (calls_in_declared v)) in
+    let le = first.points in
+    let lv = first.variables in
+    let here = subst (λ ys. g.shows e.here k (place e.here.at ys)) (scope_then g k v h) (shown_behind g proper k h v d shown) in
+    subst (λ q. Answers g chosen k h q m (step_of g.program chosen (config k h (work.Declare (v ∷ ds) w) vs s b) (work.Declare (v ∷ ds) w))) at'
+    (declared_follows h g chosen m k h x v n d vs s b (work.Declare (v ∷ ds) w) (work.Declare ds w) hs fits.0 calm
+    (part_first g OnPath k (place d.here.at h.scope) (calls_in_declared v) (calls_in_all_declared ds) d e end t rest) shown
+    (e, n + 1, refl, fits.1, calm_more d.variables e.variables hs lv calm, part_second g k _ (place e.here.at j.scope) (calls_in_declared v) (calls_in_all_declared ds) d e end t le here,
+    subst (λ i. Laid g k i x w end.point hs) (place_then g k v ds h) l) means same f)
