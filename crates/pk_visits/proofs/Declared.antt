@@ -3,27 +3,28 @@ use Rattle.std.proofs.Common.{◌≡◌, ℕ, zero, suc, ◌+◌, ◌<◌, ◌�
 use Rattle.std.specs.Prelude.{slice_index_or}
 use Rattle.pk_ctypes.specs.declared.places.Pos.{Pos}
 use Rattle.pk_ctypes.specs.declared.types.IntType.{IntType}
-use Rattle.pk_typed.specs.Trees.{DeclaredTree, LocalTree, ItemTrees}
+use Rattle.pk_typed.specs.Trees.{ValueTree, EffectTree, StatementTree, DeclaredTree, LocalTree, ItemTrees}
 use Rattle.pk_typed.specs.Trees as tree
 use Rattle.pk_graph.specs.Kinds.{count_of}
 use Rattle.pk_graph.specs.Steps.{Numbers}
-use Rattle.pk_draft.specs.Drafts.{on}
+use Rattle.pk_draft.specs.Drafts.{on, fresh}
 use Rattle.pk_draft.specs.declared.drafts.Label.{Label}
 use Rattle.pk_lower_row.specs.Contexts.{Context, local_at}
 use Rattle.pk_lower_statement.specs.declared.statements.Exits.{Exits}
-use Rattle.pk_lower_statement.specs.Statements.{named, introduced, declared, all_declared, lowered_items}
+use Rattle.pk_lower_statement.specs.Statements.{named, introduced, declared, all_declared, for_start, lowered_items}
 use Rattle.pk_welltyped.specs.Listed.{calls_in_declared, calls_if, calls_in_values_if, calls_in_all_declared, calls_in_items}
-use Rattle.pk_welltyped.specs.WellTyped.{Kind, scalar, array, kind_among, IsDeclared, AreItems}
+use Rattle.pk_welltyped.specs.WellTyped.{Kind, scalar, array, kind_among, IsDeclared, IsStatement, AreItems}
 use Rattle.pk_meaning.specs.Objects.{Objects, Scope, local}
 use Rattle.pk_meaning.specs.Programs as program
-use Rattle.pk_meaning.specs.Programs.{local_of, with_local, with_declared, block_of}
+use Rattle.pk_meaning.specs.Programs.{local_of, with_local, with_declared, with_all_declared, block_of}
 use Rattle.pk_meaning.specs.Work as work
 use Rattle.pk_meaning.specs.Work.{Place, Work, Ahead}
 use Rattle.pk_meaning.specs.Steps as meaning
 use Rattle.pk_meaning.specs.Steps.{place, step_of}
 use Rattle.pk_visits.proofs.Slots.{Slot, Draft, Memory}
 use Rattle.pk_visits.proofs.Stands.{Whole, Proper, context_of, led_to, Held, around, AreCalm, HasKind, Means, FitsObjects, Stage, local_array, place_after, Laid}
-use Rattle.pk_visits.proofs.Follow.{Answers, config}
+use Rattle.pk_visits.proofs.Follow.{Answers, config, still}
+use Rattle.pk_visits.proofs.Starts.{for_begun}
 use Rattle.pk_visits.proofs.Stages.{In, all_called, part_first, part_second, stage_at}
 use Rattle.pk_visits.proofs.Tells.{any_called}
 use Rattle.pk_visits.proofs.Doom.{calm_plain}
@@ -161,3 +162,17 @@ all_declared_next g proper chosen p m k h vs s b x hs v ds w (d, n, at', fits, c
     (part_first g OnPath k (place d.here.at h.scope) (calls_in_declared v) (calls_in_all_declared ds) d e end t rest) shown
     (e, n + 1, refl, fits.1, calm_more d.variables e.variables hs lv calm, part_second g k _ (place e.here.at j.scope) (calls_in_declared v) (calls_in_all_declared ds) d e end t le here,
     subst (λ i. Laid g k i x w end.point hs) (place_then g k v ds h) l) means same f)
+
+-- a `for` that declares, where a point behind its names shows them
+pub for_declared : (g : Whole) (proper : Proper g) (chosen : Numbers) (p : ℕ) (m : Memory) (k : ℕ) (h : Place) (vs : Numbers) (s : Objects) (b : Bool) (x : Exits) (hs : List Held) (q : Pos) (ds : List DeclaredTree) (v : Option ValueTree) (third : Option EffectTree) (r : StatementTree) (a : Ahead)
+    → (l : Laid g k h x (work.Do (tree.for_loop q (tree.declarations ds) v third r) a) p hs) → g.shows (on q (for_start (context_of g k) (tree.declarations ds) (fresh 1 (on q l.0)))).here k (place q (with_all_declared g.program k ds h.scope))
+    → Means m hs vs → m.objects ≡ s → FitsObjects g.program s
+    → Answers g chosen k h p m (step_of g.program chosen (config k h (work.Do (tree.for_loop q (tree.declarations ds) v third r) a) vs s b) (work.Do (tree.for_loop q (tree.declarations ds) v third r) a))
+unfolding IsStatement
+for_declared g proper chosen p m k h vs s b x hs q ds v third r a (d, n, mark, at', fits, calm, t, marking, l) shown means same f =
+    let w = work.Do (tree.for_loop q (tree.declarations ds) v third r) a in
+    let names = with_all_declared g.program k ds h.scope in
+    let parts = for_begun g proper k h names x q (tree.declarations ds) v third r a hs d n mark fits calm t marking l shown in
+    subst (λ i. Answers g chosen k h i m (step_of g.program chosen (config k h w vs s b) w)) at'
+    (still g chosen d.point m k (place q h.scope) (work.Declare ds (work.Back (place q names) (work.For v third r) (place q h.scope) a)) vs s x hs
+    (fresh 1 (on q d), n, refl, fits.0, calm, parts.0, parts.1) means same f)

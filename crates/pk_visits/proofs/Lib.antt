@@ -31,8 +31,8 @@ mod Returns
 mod Thirds
 mod Fills
 mod Firsts
-mod Declared
 mod Starts
+mod Declared
 mod Going
 mod Followed
 mod Journeys
