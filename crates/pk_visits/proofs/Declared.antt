@@ -1,5 +1,5 @@
 -- The graph follows the program at declarations, where a point behind the name shows it.
-use Rattle.std.proofs.Common.{◌≡◌, ℕ, zero, suc, ◌+◌, ◌<◌, ◌≤◌, List, [], ◌∷◌, length, Bool, refl, sym, ap, ◌∙◌, subst, arith, Option, Some, None}
+use Rattle.std.proofs.Common.{◌≡◌, ℕ, zero, suc, ◌+◌, ◌≤◌, List, [], ◌∷◌, Bool, refl, sym, ap, ◌∙◌, subst, arith, Option, Some, None}
 use Rattle.std.specs.Prelude.{slice_index_or}
 use Rattle.pk_ctypes.specs.declared.places.Pos.{Pos}
 use Rattle.pk_ctypes.specs.declared.types.IntType.{IntType}
@@ -14,15 +14,15 @@ use Rattle.pk_lower_statement.specs.declared.statements.Exits.{Exits}
 use Rattle.pk_lower_statement.specs.Statements.{named, introduced, declared, all_declared, for_start, lowered_items}
 use Rattle.pk_welltyped.specs.Listed.{calls_in_declared, calls_if, calls_in_values_if, calls_in_all_declared, calls_in_items}
 use Rattle.pk_welltyped.specs.WellTyped.{Kind, scalar, array, kind_among, IsDeclared, IsStatement, AreItems}
-use Rattle.pk_meaning.specs.Objects.{Objects, Scope, local}
+use Rattle.pk_meaning.specs.Objects.{Objects, Scope}
 use Rattle.pk_meaning.specs.Programs as program
 use Rattle.pk_meaning.specs.Programs.{local_of, with_local, with_declared, with_all_declared, block_of}
 use Rattle.pk_meaning.specs.Work as work
 use Rattle.pk_meaning.specs.Work.{Place, Work, Ahead}
 use Rattle.pk_meaning.specs.Steps as meaning
 use Rattle.pk_meaning.specs.Steps.{place, step_of}
-use Rattle.pk_visits.proofs.Slots.{Slot, Draft, Memory}
-use Rattle.pk_visits.proofs.Stands.{Whole, Proper, context_of, led_to, Held, around, AreCalm, HasKind, Means, FitsObjects, Stage, local_array, place_after, Laid}
+use Rattle.pk_visits.proofs.Slots.{Draft, Memory}
+use Rattle.pk_visits.proofs.Stands.{Whole, Proper, context_of, led_to, Held, around, AreCalm, Means, FitsObjects, Stage, local_array, place_after, Laid}
 use Rattle.pk_visits.proofs.Follow.{Answers, config, still}
 use Rattle.pk_visits.proofs.Starts.{for_begun}
 use Rattle.pk_visits.proofs.Stages.{In, all_called, part_first, part_second, stage_at}
@@ -125,9 +125,20 @@ next_declared g proper chosen p m k h vs s b x hs xs v is a (plain, (d, n, mark,
     let w = work.Go (work.Rest ys is a) in
     subst (λ q. Answers g chosen k h q m (step_of g.program chosen (config k h (work.Go (work.Rest xs (tree.declared_before v is) a)) vs s b) (work.Go (work.Rest xs (tree.declared_before v is) a)))) at'
     (declared_follows h g chosen m k (place h.at xs) x v n d vs s b (work.Go (work.Rest xs (tree.declared_before v is) a)) w hs fits.0 calm
-    (part_first g OnPath k (place d.here.at xs) (calls_in_declared v) (calls_in_items is) d e (lowered_items c is x e) t rest) shown
-    (calm_plain e.variables hs calm_e, (e, n + 1, mark, refl, fits.1, calm_e,
-    part_second g k _ (place e.here.at ys) (calls_in_declared v) (calls_in_items is) d e (lowered_items c is x e) t le (shown_behind g proper k (place h.at xs) v d shown), marking, l)) means same f)
+    (part_first g OnPath k (place d.here.at xs) (calls_in_declared v) (calls_in_items is) d e (lowered_items c is x e) t rest) shown (
+      calm_plain e.variables hs calm_e,
+      (
+        e,
+        n + 1,
+        mark,
+        refl,
+        fits.1,
+        calm_e,
+        part_second g k _ (place e.here.at ys) (calls_in_declared v) (calls_in_items is) d e (lowered_items c is x e) t le (shown_behind g proper k (place h.at xs) v d shown),
+        marking,
+        l,
+      ),
+    ) means same f)
 
 -- ---- declarations at the start of a `for`
 
@@ -159,9 +170,15 @@ all_declared_next g proper chosen p m k h vs s b x hs v ds w (d, n, at', fits, c
     let here = subst (λ ys. g.shows e.here k (place e.here.at ys)) (scope_then g k v h) (shown_behind g proper k h v d shown) in
     subst (λ q. Answers g chosen k h q m (step_of g.program chosen (config k h (work.Declare (v ∷ ds) w) vs s b) (work.Declare (v ∷ ds) w))) at'
     (declared_follows h g chosen m k h x v n d vs s b (work.Declare (v ∷ ds) w) (work.Declare ds w) hs fits.0 calm
-    (part_first g OnPath k (place d.here.at h.scope) (calls_in_declared v) (calls_in_all_declared ds) d e end t rest) shown
-    (e, n + 1, refl, fits.1, calm_more d.variables e.variables hs lv calm, part_second g k _ (place e.here.at j.scope) (calls_in_declared v) (calls_in_all_declared ds) d e end t le here,
-    subst (λ i. Laid g k i x w end.point hs) (place_then g k v ds h) l) means same f)
+    (part_first g OnPath k (place d.here.at h.scope) (calls_in_declared v) (calls_in_all_declared ds) d e end t rest) shown (
+      e,
+      n + 1,
+      refl,
+      fits.1,
+      calm_more d.variables e.variables hs lv calm,
+      part_second g k _ (place e.here.at j.scope) (calls_in_declared v) (calls_in_all_declared ds) d e end t le here,
+      subst (λ i. Laid g k i x w end.point hs) (place_then g k v ds h) l,
+    ) means same f)
 
 -- a `for` that declares, where a point behind its names shows them
 pub for_declared : (g : Whole) (proper : Proper g) (chosen : Numbers) (p : ℕ) (m : Memory) (k : ℕ) (h : Place) (vs : Numbers) (s : Objects) (b : Bool) (x : Exits) (hs : List Held) (q : Pos) (ds : List DeclaredTree) (v : Option ValueTree) (third : Option EffectTree) (r : StatementTree) (a : Ahead)
