@@ -33,6 +33,7 @@ mod Fills
 mod Firsts
 mod Starts
 mod Declared
+mod Choices
 mod Going
 mod Followed
 mod Journeys

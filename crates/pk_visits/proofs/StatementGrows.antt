@@ -283,7 +283,7 @@ for_adds ms C p test third s x ht h3 hs b k e d =
 
 -- ---- switches
 
-case_adds : (ms : List ℕ) (C : ℕ → Type 0) (s : Site) (t : IntType) (r : SlotTree) (zs : List ℤ) (p : ℕ) (d : Draft) → Adds ms C d (case_tests s t r zs p d)
+pub case_adds : (ms : List ℕ) (C : ℕ → Type 0) (s : Site) (t : IntType) (r : SlotTree) (zs : List ℤ) (p : ℕ) (d : Draft) → Adds ms C d (case_tests s t r zs p d)
 unfolding case_tests
 case_adds ms C s t r [] p d = nothing_adds ms C d
 case_adds ms C s t r (z ∷ zs) p d =
