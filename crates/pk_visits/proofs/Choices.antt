@@ -15,14 +15,20 @@ use Rattle.pk_draft.specs.Drafts.{fresh, link, go, away}
 use Rattle.pk_draft.specs.Folding.{binary_tree}
 use Rattle.pk_lower_statement.specs.declared.statements.Exits.{Exits}
 use Rattle.pk_lower_statement.specs.Statements.{in_switch, case_test, case_tests, lowered}
+use Rattle.pk_ctypes.specs.declared.places.Pos.{Pos}
+use Rattle.pk_typed.specs.Trees as tree
 use Rattle.pk_welltyped.specs.Listed.{Numbered, calls_in_statement}
+use Rattle.pk_welltyped.specs.WellTyped
+use Rattle.pk_welltyped.specs.WellTyped.{Marks, IsStatement}
+use Rattle.pk_visits.proofs.Doom.{calm_plain}
+use Rattle.pk_visits.proofs.Returns.{jump_edge}
 use Rattle.pk_meaning.specs.Objects.{Objects}
 use Rattle.pk_meaning.specs.Work as work
-use Rattle.pk_meaning.specs.Work.{Place, Work, Ahead, Lost}
+use Rattle.pk_meaning.specs.Work.{Place, Work, Ahead, Way, Onward, Refused, Lost}
 use Rattle.pk_meaning.specs.Steps as meaning
 use Rattle.pk_meaning.specs.Steps.{step_of}
 use Rattle.pk_visits.proofs.Slots.{Slot, SlotTree, Draft, Memory, memory, Among, edge, front_among, last_among}
-use Rattle.pk_visits.proofs.Stands.{Whole, context_of, Held, Means, FitsObjects, ShowsAt, Leads, Stage, switch_from, LaidWay, Laid}
+use Rattle.pk_visits.proofs.Stands.{Whole, context_of, around, Marking, Held, Means, FitsObjects, ShowsAt, Leads, Stage, switch_from, LaidWay, Laid}
 use Rattle.pk_visits.proofs.Follow.{Answers, config, moved}
 use Rattle.pk_visits.proofs.Tests.{passes, along}
 use Rattle.pk_visits.proofs.Values.{binary_is}
@@ -114,3 +120,49 @@ choose_test g chosen p m k h j t z zs i has body a v vs s b x top hs (d, n, mark
         else meaning.comes (config k h (work.Choose t (z ∷ zs) i has body j a) (v ∷ vs) s b) j (work.Choose t zs (i + 1) has body j a) (v ∷ vs))
   by true is = along g chosen p (e + 1 + i) m k h (work.Choose t (z ∷ zs) i has body j a) (v ∷ vs) vs s b T (truth (int_eq v z)) true _ hs yes value (true_of (int_eq v z) ∙ is) way means.2 same f
   by false is = moved g chosen p d.points m m (Guard T false) k j (work.Choose t zs (i + 1) has body j a) (v ∷ vs) s true x (top ∷ hs) not (passes chosen T (truth (int_eq v z)) false m value (true_of (int_eq v z) ∙ is)) (refl, next) laid means same f
+
+-- over an edge that does nothing, along a way
+jump_along : (g : Whole) (chosen : Numbers) (p q : ℕ) (m : Memory) (k : ℕ) (h : Place) (w : Work) (us vs : Numbers) (s : Objects) (b : Bool) (y : Way) (hs : List Held)
+    → Among (edge p Skip q) g.edges → LaidWay g k y q hs → Means m hs vs → m.objects ≡ s → FitsObjects g.program s → Answers g chosen k h p m (meaning.takes (config k h w us s b) y vs)
+jump_along g chosen p q m k h w us vs s b (Onward j v) hs there (shown, (x, l)) e same f = moved g chosen p q m m Skip k j v vs s true x hs there refl (refl, shown) l e same f
+jump_along g chosen p q m k h w us vs s b Refused hs there l e same f = tt
+jump_along g chosen p q m k h w us vs s b Lost hs there l e same f = tt
+
+-- where no case holds: to the default or behind the switch
+none_edge : (g : Whole) (k : ℕ) (j : Place) (t : IntType) (i total e : ℕ) (has : Bool) (body : StatementTree) (x : Exits) (tr : SlotTree) (r : Site) (d : Draft) (n : ℕ) (mark : Marks) (u : Stage g k j (calls_in_statement body) d (switch_from (context_of g k) r t tr [] i total e has body x d))
+    → IsStatement (around g k n) (WellTyped.in_switch total has mark) body → Marking (in_switch e total x) (WellTyped.in_switch total has mark) u.marks
+    → Among (edge d.point Skip (if has then e + 1 + total else e)) g.edges
+unfolding case_tests
+none_edge g k j t i total e has body x tr r d n mark u fits marking =
+    let c = context_of g k in
+    let U = λ (q : ℕ). Unit {0} in
+    let q = if has then e + 1 + total else e in
+    let rest = stays_then (statement U c _ _ body (in_switch e total x) u.marks fits marking (any_called c (calls_in_statement body)) (away q d)) (link_adds u.marks U Skip e (lowered c body (in_switch e total x) (away q d))) in
+    u.leads.edges _ (rest.edges _ (last_among d.edges (edge d.point Skip q)))
+
+pub choose_default : (g : Whole) (chosen : Numbers) (p : ℕ) (m : Memory) (k : ℕ) (h j : Place) (t : IntType) (i : ℕ) (body : StatementTree) (a : Ahead) (v : ℤ) (vs : Numbers) (s : Objects) (b : Bool) (x : Exits) (top : Held) (hs : List Held)
+    → (l : Laid g k h x (work.Choose t [] i true body j a) p (top ∷ hs)) → LaidWay g k (meaning.found g.program k meaning.otherwise j.scope body (work.Close j a) Lost) (l.5 + 1 + l.4) hs
+    → Means m (top ∷ hs) (v ∷ vs) → m.objects ≡ s → FitsObjects g.program s
+    → Answers g chosen k h p m (step_of g.program chosen (config k h (work.Choose t [] i true body j a) (v ∷ vs) s b) (work.Choose t [] i true body j a))
+choose_default g chosen p m k h j t i body a v vs s b x top hs (d, n, mark, r, total, e, at', types, many, fits, calm, u, marking, shown, l) way means same f =
+    let there = none_edge g k j t i total e true body x top.tree r d n mark u fits marking in
+    jump_along g chosen p (e + 1 + total) m k h (work.Choose t [] i true body j a) (v ∷ vs) vs s b (meaning.found g.program k meaning.otherwise j.scope body (work.Close j a) Lost) hs
+    (subst (λ q. Among (edge q Skip (e + 1 + total)) g.edges) at' there) way means.2 same f
+
+pub choose_none : (g : Whole) (chosen : Numbers) (p : ℕ) (m : Memory) (k : ℕ) (h j : Place) (t : IntType) (i : ℕ) (body : StatementTree) (a : Ahead) (v : ℤ) (vs : Numbers) (s : Objects) (b : Bool) (x : Exits) (top : Held) (hs : List Held)
+    → Laid g k h x (work.Choose t [] i false body j a) p (top ∷ hs) → Means m (top ∷ hs) (v ∷ vs) → m.objects ≡ s → FitsObjects g.program s
+    → Answers g chosen k h p m (step_of g.program chosen (config k h (work.Choose t [] i false body j a) (v ∷ vs) s b) (work.Choose t [] i false body j a))
+choose_none g chosen p m k h j t i body a v vs s b x top hs (d, n, mark, r, total, e, at', types, many, fits, calm, u, marking, shown, l) means same f =
+    let there = none_edge g k j t i total e false body x top.tree r d n mark u fits marking in
+    moved g chosen p e m m Skip k j (work.Go a) vs s true x hs (subst (λ q. Among (edge q Skip e) g.edges) at' there) refl (refl, shown) (calm_plain d.variables hs calm.1, l) means.2 same f
+
+-- ---- jumps to marks
+
+-- `goto`, where the way to its label is laid
+pub goto_followed : (g : Whole) (chosen : Numbers) (p : ℕ) (m : Memory) (k : ℕ) (h : Place) (vs : Numbers) (s : Objects) (b : Bool) (x : Exits) (hs : List Held) (q : Pos) (n : ℕ) (a : Ahead)
+    → Laid g k h x (work.Do (tree.goto q n) a) p hs → LaidWay g k (meaning.gone_to g.program k n a) (x.labels + n) hs → Means m hs vs → m.objects ≡ s → FitsObjects g.program s
+    → Answers g chosen k h p m (step_of g.program chosen (config k h (work.Do (tree.goto q n) a) vs s b) (work.Do (tree.goto q n) a))
+unfolding lowered
+goto_followed g chosen p m k h vs s b x hs q n a (d, o, mark, at', fits, calm, t, marking, l) way means same f =
+    jump_along g chosen p (x.labels + n) m k h (work.Do (tree.goto q n) a) vs vs s b (meaning.gone_to g.program k n a) hs
+    (subst (λ i. Among (edge i Skip (x.labels + n)) g.edges) at' (jump_edge g k _ _ q (x.labels + n) d t)) way means same f
