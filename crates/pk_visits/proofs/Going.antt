@@ -5,7 +5,7 @@ use Rattle.pk_ctypes.specs.declared.types.IntType.{IntType}
 use Rattle.pk_typed.specs.Trees.{ValueTree, ValueTrees, EffectTree, StatementTree, ItemTrees}
 use Rattle.pk_typed.specs.Trees as tree
 use Rattle.pk_welltyped.specs.Listed.{calls_in_effect_if, calls_in, calls_if, calls_in_statement}
-use Rattle.pk_welltyped.specs.WellTyped.{IsValueIf, IsStatement, Marks}
+use Rattle.pk_welltyped.specs.WellTyped.{Around, IsValueIf, IsReturned, IsStatement, Marks}
 use Rattle.pk_graph.specs.Trees.{Skip}
 use Rattle.pk_graph.specs.Steps.{Numbers}
 use Rattle.pk_draft.specs.Drafts.{on, fresh}
@@ -98,11 +98,17 @@ return_by g proper chosen m k h x q None a n d vs s b w hs (Some i) is fits calm
 return_by g proper chosen m k h x q (Some v) a n d vs s b w hs (Some i) is fits calm t l e same f =
     still g chosen d.point m k (place q h.scope) (work.Evaluate v (work.Put i (result k) (work.Leave (caller_of a)))) vs s x hs (value_laid g proper k h x q i v a n d hs is fits calm t l) e same f
 
+value_if : (a : Around) (r : Option IntType) (v : Option ValueTree) → IsReturned a r v → IsValueIf a v
+value_if a None None is = is
+value_if a None (Some v) is = absurd is
+value_if a (Some i) None is = absurd is
+value_if a (Some i) (Some v) is = is
+
 pub return_followed : (q : Pos) (v : Option ValueTree) (a : Ahead) → IsFollowed (work.Do (tree.return q v) a)
 unfolding lowered IsStatement calls_in_statement
 return_followed q v a g proper chosen p m k h vs s b x hs (d, n, marks, at', fits, calm, t, marking, l) e same f =
     subst (λ i. Answers g chosen k h i m (step_of g.program chosen (config k h (work.Do (tree.return q v) a) vs s b) (work.Do (tree.return q v) a))) at'
-    (return_by g proper chosen m k h x q v a n d vs s b (work.Do (tree.return q v) a) hs (function_of g.program k).returns refl fits calm t l e same f)
+    (return_by g proper chosen m k h x q v a n d vs s b (work.Do (tree.return q v) a) hs (function_of g.program k).returns refl (value_if (around g k n) marks.returns v fits) calm t l e same f)
 
 pub continue_followed : (q : Pos) (a : Ahead) → IsFollowed (work.Do (tree.continue q) a)
 continue_followed q a g proper chosen p m k h vs s b x hs l e same f =

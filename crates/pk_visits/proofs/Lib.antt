@@ -36,4 +36,13 @@ mod Declared
 mod Choices
 mod Going
 mod Followed
+mod NumberedEdges
+mod NumberedStores
+mod NumberedCopies
+mod NumberedRuns
+mod NumberedStarts
 mod Journeys
+mod NumberedVisits
+mod NumberedNames
+mod NumberedRows
+mod NumberedForms

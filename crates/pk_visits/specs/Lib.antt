@@ -1,3 +1,2 @@
 pub mod GraphVisits
-pub mod Marks
 pub mod SameVisits

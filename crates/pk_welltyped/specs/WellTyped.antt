@@ -154,14 +154,22 @@ IsForStart a (tree.expression e) = IsEffectIf a e
 
 -- ---- statements
 
--- how many labels the function has, and of the innermost `switch` how many cases, and whether there is a default
+-- how many labels the function has, and what it returns; of the innermost `switch` how many cases, and whether there is a default
 pub record Marks : Type 0 where
   pub labels : ℕ
+  pub returns : Option IntType
   pub cases : ℕ
   pub has_default : Bool
 
 abbrev pub in_switch : ℕ → Bool → Marks → Marks
-in_switch n b m = record { labels = m.labels; cases = n; has_default = b }
+in_switch n b m = record { labels = m.labels; returns = m.returns; cases = n; has_default = b }
+
+-- a value where the function returns one, and else none
+abbrev pub IsReturned : Around → Option IntType → Option ValueTree → Type 0
+IsReturned a None None = Unit {0}
+IsReturned a None (Some e) = ⊥
+IsReturned a (Some t) None = ⊥
+IsReturned a (Some t) (Some e) = IsValue a e
 
 unfoldable mutual
   pub IsStatement : Around → Marks → StatementTree → Type 0
@@ -181,7 +189,7 @@ unfoldable mutual
   IsStatement a m (tree.goto at l) = l < m.labels
   IsStatement a m (tree.continue at) = Unit {0}
   IsStatement a m (tree.break at) = Unit {0}
-  IsStatement a m (tree.return at e) = IsValueIf a e
+  IsStatement a m (tree.return at e) = IsReturned a m.returns e
 
   pub AreItems : Around → Marks → ItemTrees → Type 0
   AreItems a m tree.no_items = Unit {0}
@@ -200,7 +208,7 @@ AreParameters (t ∷ ts) (x ∷ xs) = (x.int_type ≡ t) × (x.length ≡ None) 
 pub record IsBody (u : UnitTree) (f : FunctionTree) (b : BodyTree) : Type 0 where
   pub visible : b.visible ≤ length u.objects
   pub parameters : AreParameters f.parameters b.locals
-  pub items : AreItems (record { unit = u; locals = b.locals; objects = length f.parameters }) (record { labels = b.labels; cases = 0; has_default = false }) b.items
+  pub items : AreItems (record { unit = u; locals = b.locals; objects = length f.parameters }) (record { labels = b.labels; returns = f.returns; cases = 0; has_default = false }) b.items
   pub calls : calls_in_items b.items ≡ numbered 0 b.calls
 
 abbrev pub IsBodyIf : UnitTree → FunctionTree → Option BodyTree → Type 0

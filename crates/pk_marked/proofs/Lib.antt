@@ -1,0 +1,4 @@
+pub mod Counts
+pub mod Listed
+pub mod Statements
+pub mod Units

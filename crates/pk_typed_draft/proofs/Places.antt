@@ -1,0 +1,293 @@
+-- A part of a draft that is made while the kinds of all variables are known: what holds of the draft before and after a step.
+use Rattle.std.proofs.Common.{◌≡◌, ℕ, ◌+◌, ◌<◌, ◌≤◌, ◌⊎◌, inl, inr, List, [], ◌∷◌, Option, Some, None, length, ap, sym, subst, ◌∙◌, arith, slice_index_or}
+use Rattle.std.specs.Prelude.{All, slice_get}
+use Rattle.std.specs.Option.{option_and_then}
+use Rattle.pk_ctypes.specs.declared.types.IntType.{IntType}
+use Rattle.pk_typed.specs.Trees.{FunctionTree, UnitTree}
+use Rattle.pk_graph.specs.declared.graphs.Scope.{Scope}
+use Rattle.pk_graph.specs.Kinds.{Kinds, kind_at, IsTypedInstr}
+use Rattle.pk_graph.specs.Graphs.{VariableOf, no_variable}
+use Rattle.pk_graph.specs.WellMade.{IsStartOf}
+use Rattle.pk_draft.specs.declared.drafts.Region.{Region}
+use Rattle.pk_draft.specs.declared.drafts.Label.{Label}
+use Rattle.pk_draft.specs.Drafts.{DraftOf, EdgeFrom, by_number, no_region}
+use Rattle.pk_lower_row.specs.Contexts.{Context, size_in, parameters_of}
+use Rattle.pk_welltyped.specs.WellTyped as good
+
+abbrev pub D : Type 0
+D = DraftOf ℕ
+
+-- The path whose part is made, the kinds that all variables have in the end, how many points and paths there are, the function of each path, where the path's region of variables ends, and how many objects the file has.
+pub record Place : Type 0 where
+  pub context : Context
+  pub kinds : Kinds
+  pub points : ℕ
+  pub paths : ℕ
+  pub function : ℕ → ℕ
+  pub limit : ℕ
+  pub files : ℕ
+
+-- ---- variables
+
+-- a variable of the kind
+pub record Has (ks : Kinds) (x : ℕ) (t : IntType) (n : Option ℕ) : Type 0 where
+  pub there : x < length ks
+  pub kind : kind_at ks x ≡ record { int_type = t; length = n }
+
+abbrev pub HasIf : Kinds → ℕ → Option IntType → Type 0
+HasIf ks x None = Unit {0}
+HasIf ks x (Some t) = Has ks x t None
+
+-- scalars of the types, from x on
+abbrev pub HasAll : Kinds → ℕ → List IntType → Type 0
+HasAll ks x [] = Unit {0}
+HasAll ks x (t ∷ ts) = Has ks x t None × HasAll ks (x + 1) ts
+
+abbrev pub returned_by : UnitTree → ℕ → Option IntType
+returned_by u f = option_and_then (λ (g : FunctionTree). g.returns) (slice_get u.functions f)
+
+-- what the callers of a function of a path rely on, whose variables begin at v
+pub record Promised (w : Place) (f v : ℕ) : Type 0 where
+  pub parameters : HasAll w.kinds v (parameters_of w.context.unit f)
+  pub result : HasIf w.kinds (v + length (parameters_of w.context.unit f)) (returned_by w.context.unit f)
+
+-- ---- what has been made of variables and regions
+
+abbrev pub region_at : List Region → ℕ → Region
+region_at rs j = slice_index_or rs j no_region
+
+abbrev pub IsKept : List Region → ℕ → Type 0
+IsKept rs j = 0 < (region_at rs j).points
+
+-- variable y is kept for the path
+pub record In (w : Place) (rs : List Region) (j y : ℕ) : Type 0 where
+  pub kept : IsKept rs j
+  pub from : (region_at rs j).variables ≤ y
+  pub to : y < (region_at rs j).variables + (size_in w.context.sizes (w.function j)).variables
+
+abbrev pub variable_in : List VariableOf → ℕ → VariableOf
+variable_in ms y = slice_index_or ms y no_variable
+
+abbrev pub IsFresh : List VariableOf → ℕ → Type 0
+IsFresh ms y = (variable_in ms y).path ≡ None
+
+-- The variables from v on to the region's end are free, and those that are kept for later paths, none twice.
+pub record Laid (w : Place) (v : ℕ) (ms : List VariableOf) (rs : List Region) : Type 0 where
+  pub many : length ms ≡ length w.kinds
+  pub count : length rs ≡ w.paths
+  pub free : (y : ℕ) → v ≤ y → y < w.limit → IsFresh ms y
+  pub pending : (j y : ℕ) → w.context.path < j → In w rs j y → IsFresh ms y × (y < length w.kinds) × ((y < v) ⊎ (w.limit ≤ y))
+  pub apart : (i j y : ℕ) → w.context.path < i → w.context.path < j → In w rs i y → In w rs j y → i ≡ j
+
+-- what is known of the end: the kinds of what has been made, and what later paths make
+pub record Foreseen (w : Place) (ms : List VariableOf) (rs : List Region) : Type 0 where
+  pub made : (y k : ℕ) → (variable_in ms y).path ≡ Some k → kind_at w.kinds y ≡ (variable_in ms y).kind
+  pub regions : (j : ℕ) → w.context.path < j → IsKept rs j → Promised w (w.function j) (region_at rs j).variables × ((region_at rs j).points < w.points)
+
+-- ---- what has been made of points and edges
+
+pub record EdgeIs (w : Place) (e : EdgeFrom ℕ) : Type 0 where
+  pub from : e.from < w.points
+  pub to : e.to < w.points
+  pub typed : IsTypedInstr w.kinds e.instr
+
+pub record LabelsAre (w : Place) (ls : List Label) : Type 0 where
+  pub many : length ls ≡ w.points
+  pub paths : All (λ (l : Label). l.path < w.paths) ls
+
+-- how many objects are declared, and of which type the result is, where it is made
+pub record Stage : Type 0 where
+  pub objects : ℕ
+  pub result : Option IntType
+
+-- the objects of the function so far, and its result
+pub record ObjectsAre (w : Place) (s : Stage) (os : List ℕ) : Type 0 where
+  pub many : length os ≡ length w.context.locals + 1
+  pub each : (i : ℕ) → i < s.objects → (k : good.Kind) → good.kind_among w.context.locals i ≡ Some k → Has w.kinds (slice_index_or os i 0) k.int_type k.length
+  pub result : HasIf w.kinds (slice_index_or os (length w.context.locals) 0) s.result
+
+-- the points where regions are entered are there
+abbrev pub PlacesAre : Place → List Region → Type 0
+PlacesAre w rs = (j : ℕ) → IsKept rs j → (region_at rs j).at < w.points
+
+pub record Typed (w : Place) (n : Stage) (d : D) : Type 0 where
+  pub names : d.names ≡ by_number
+  pub point : d.point < w.points
+  pub here : d.here.path ≡ w.context.path
+  pub labels : LabelsAre w d.labels
+  pub scopes : All (λ (s : Scope). s.variable < length w.kinds) d.scopes
+  pub starts : All (λ (x : VariableOf). IsStartOf x x.start) d.made
+  pub edges : All (EdgeIs w) d.edges
+  pub objects : ObjectsAre w n d.objects
+  pub places : PlacesAre w d.regions
+
+-- what is so all along
+pub record Proper (w : Place) : Type 0 where
+  pub path : w.context.path < w.paths
+  pub limit : w.limit ≤ length w.kinds
+  pub points : 0 < w.points
+  pub files : (i : ℕ) (k : good.Kind) → good.kind_in_file w.context.unit i ≡ Some k → Has w.kinds i k.int_type k.length
+
+-- ---- steps
+
+abbrev pub Below : Place → D → Type 0
+Below w d = (d.variables ≤ w.limit) × (d.points ≤ w.points)
+
+-- calls m to n of the function aren't made yet
+abbrev pub NotMade : Place → (m n : ℕ) → List Region → Type 0
+NotMade w m n rs = (i : ℕ) → m ≤ i → i < n → IsKept rs (w.context.first + i) → ⊥
+
+pub record Before (w : Place) (m n : ℕ) (d : D) : Type 0 where
+  pub laid : Laid w d.variables d.made d.regions
+  pub not_made : NotMade w m n d.regions
+  pub positive : 0 < d.points
+  pub files : w.files ≤ d.variables
+
+-- a region that is kept for a path, inside those that are there
+pub record IsMade (w : Place) (j : ℕ) (r : Region) : Type 0 where
+  pub kept : 0 < r.points
+  pub points : r.points + (size_in w.context.sizes (w.function j)).points ≤ w.points
+  pub variables : r.variables + (size_in w.context.sizes (w.function j)).variables ≤ length w.kinds
+  pub files : w.files ≤ r.variables
+
+pub record After (w : Place) (m n : ℕ) (d e : D) : Type 0 where
+  pub laid : Laid w e.variables e.made e.regions
+  pub same : (j : ℕ) → (j < w.context.first + m) ⊎ (w.context.first + n ≤ j) → region_at e.regions j ≡ region_at d.regions j
+  pub made : (i : ℕ) → m ≤ i → i < n → IsMade w (w.context.first + i) (region_at e.regions (w.context.first + i))
+  pub low : (y : ℕ) → y < d.variables → variable_in e.made y ≡ variable_in d.made y
+  pub old : (y k : ℕ) → (variable_in d.made y).path ≡ Some k → variable_in e.made y ≡ variable_in d.made y
+
+-- From d to e calls m to n are made, and objects i to k declared; P is asked, Q is given.
+pub record Step (w : Place) (m n : ℕ) (i k : Stage) (d e : D) (P Q : Type 0) : Type 0 where
+  pub order : m ≤ n
+  pub variables : d.variables ≤ e.variables
+  pub points : d.points ≤ e.points
+  pub after : Before w m n d → Below w e → After w m n d e
+  pub before : Before w m n d → Below w e → Foreseen w e.made e.regions → Foreseen w d.made d.regions
+  pub typed : Before w m n d → Below w e → Foreseen w e.made e.regions → Typed w i d → P → Typed w k e × Q
+
+below_before : (w : Place) (d e : D) → d.variables ≤ e.variables → d.points ≤ e.points → Below w e → Below w d
+below_before w d e v p b = (omega (v, b.0, arith), omega (p, b.1, arith))
+
+before_first : (w : Place) (m l n : ℕ) (d : D) → l ≤ n → Before w m n d → Before w m l d
+before_first w m l n d o b = record { laid = b.laid; not_made = λ i a c k. b.not_made i a (omega (c, o, arith)) k; positive = b.positive; files = b.files }
+
+before_second : (w : Place) (m l n : ℕ) (d e : D) → m ≤ l → d.variables ≤ e.variables → d.points ≤ e.points → Before w m n d → After w m l d e → Before w l n e
+before_second w m l n d e o v p b a = record {
+  laid = a.laid;
+  not_made = λ i c f k. b.not_made i (omega (o, c, arith)) f (subst (λ (r : Region). 0 < r.points) (a.same (w.context.first + i) (inr (omega (c, arith)))) k);
+  positive = omega (b.positive, p, arith);
+  files = omega (b.files, v, arith);
+}
+
+after_both : (w : Place) (m l n : ℕ) (d e g : D) → m ≤ l → l ≤ n → d.variables ≤ e.variables → After w m l d e → After w l n e g → After w m n d g
+after_both w m l n d e g o p v a b = record {
+  laid = b.laid;
+  same = λ j c. both j c;
+  made = λ i x y. made i x y;
+  low = λ y x. b.low y (omega (x, v, arith)) ∙ a.low y x;
+  old = λ y k x. let o = a.old y k x in b.old y k (ap (λ (v : VariableOf). v.path) o ∙ x) ∙ o;
+}
+  where
+    both : (j : ℕ) → (j < w.context.first + m) ⊎ (w.context.first + n ≤ j) → region_at g.regions j ≡ region_at d.regions j
+    both j (inl c) = b.same j (inl (omega (c, o, arith))) ∙ a.same j (inl c)
+    both j (inr c) = b.same j (inr c) ∙ a.same j (inr (omega (c, p, arith)))
+
+    which : (i : ℕ) → (i < l) ⊎ (l ≤ i) → m ≤ i → i < n → IsMade w (w.context.first + i) (region_at g.regions (w.context.first + i))
+    which i (inl c) x y = subst (IsMade w (w.context.first + i)) (sym (b.same (w.context.first + i) (inl (omega (c, arith))))) (a.made i x c)
+    which i (inr c) x y = b.made i c y
+
+    made : (i : ℕ) → m ≤ i → i < n → IsMade w (w.context.first + i) (region_at g.regions (w.context.first + i))
+    made i x y = which i (split i l) x y
+      where
+        split : (i l : ℕ) → (i < l) ⊎ (l ≤ i)
+        split i l = grind arith
+
+pub step : (w : Place) (m l n : ℕ) (i j k : Stage) (d e g : D) (P Q R : Type 0) → Step w m l i j d e P Q → Step w l n j k e g Q R → Step w m n i k d g P R
+step w m l n i j k d e g P Q R a b = record {
+  order = omega (a.order, b.order, arith);
+  variables = omega (a.variables, b.variables, arith);
+  points = omega (a.points, b.points, arith);
+  after = λ x y. let be = below_before w e g b.variables b.points y in let f = a.after (before_first w m l n d b.order x) be in
+      after_both w m l n d e g a.order b.order a.variables f (b.after (before_second w m l n d e a.order a.variables a.points x f) y);
+  before = λ x y z. let be = below_before w e g b.variables b.points y in let f = a.after (before_first w m l n d b.order x) be in
+      a.before (before_first w m l n d b.order x) be (b.before (before_second w m l n d e a.order a.variables a.points x f) y z);
+  typed = λ x y z t p. let be = below_before w e g b.variables b.points y in let x1 = before_first w m l n d b.order x in let f = a.after x1 be in let x2 = before_second w m l n d e a.order a.variables a.points x f in
+      let r = a.typed x1 be (b.before x2 y z) t p in b.typed x2 y z r.0 r.1;
+}
+
+-- what is given and asked otherwise
+pub step_for : (w : Place) (m n : ℕ) (i k : Stage) (d e : D) (P Q R S : Type 0) → (R → P) → (Q → S) → Step w m n i k d e P Q → Step w m n i k d e R S
+step_for w m n i k d e P Q R S f g a = record {
+  order = a.order;
+  variables = a.variables;
+  points = a.points;
+  after = a.after;
+  before = a.before;
+  typed = λ x y z t p. let r = a.typed x y z t (f p) in (r.0, g r.1);
+}
+
+-- and what is known beside it
+pub step_beside : (w : Place) (m n : ℕ) (i k : Stage) (d e : D) (P Q R : Type 0) → Step w m n i k d e P Q → Step w m n i k d e (P × R) (Q × R)
+step_beside w m n i k d e P Q R a = record {
+  order = a.order;
+  variables = a.variables;
+  points = a.points;
+  after = a.after;
+  before = a.before;
+  typed = λ x y z t p. let r = a.typed x y z t p.0 in (r.0, (r.1, p.1));
+}
+
+-- no variable and no region is made
+pub quiet : (w : Place) (m : ℕ) (i k : Stage) (d e : D) (P Q : Type 0) → e.variables ≡ d.variables → e.made ≡ d.made → e.regions ≡ d.regions → d.points ≤ e.points
+    → (0 < d.points → Below w e → Typed w i d → P → Typed w k e × Q) → Step w m m i k d e P Q
+quiet w m i k d e P Q v s r p t = record {
+  order = omega arith;
+  variables = omega (v, arith);
+  points = p;
+  after = λ x y. record { laid = rw (v, s, r) x.laid; same = λ j c. ap (λ (rs : List Region). region_at rs j) r; made = λ j a b. absurd (omega (a, b, arith)); low = λ j l. ap (λ (ms : List VariableOf). variable_in ms j) s; old = λ j l c. ap (λ (ms : List VariableOf). variable_in ms j) s };
+  before = λ x y z. rw (s, r) at z;
+  typed = λ x y z f q. t x.positive y f q;
+}
+
+-- steps of which the first makes the later calls
+pub step_back : (w : Place) (m l n : ℕ) (i j k : Stage) (d e g : D) (P Q R : Type 0) → Step w l n i j d e P Q → Step w m l j k e g Q R → Step w m n i k d g P R
+step_back w m l n i j k d e g P Q R a b = record {
+  order = omega (a.order, b.order, arith);
+  variables = omega (a.variables, b.variables, arith);
+  points = omega (a.points, b.points, arith);
+  after = λ x y. let f = a.after (inner x) (below_before w e g b.variables b.points y) in let h = b.after (own x f) y in record {
+    laid = h.laid;
+    same = λ q c. elim c [
+      | inl o ↦ h.same q (inl o) ∙ f.same q (inl (omega (o, b.order, arith)))
+      | inr o ↦ h.same q (inr (omega (o, a.order, arith))) ∙ f.same q (inr o)
+    ];
+    made = λ q o c. which q (split q l) o c f h;
+    low = λ q o. h.low q (omega (o, a.variables, arith)) ∙ f.low q o;
+    old = λ q o c. let u = f.old q o c in h.old q o (ap (λ (v : VariableOf). v.path) u ∙ c) ∙ u;
+  };
+  before = λ x y z. let be = below_before w e g b.variables b.points y in let f = a.after (inner x) be in a.before (inner x) be (b.before (own x f) y z);
+  typed = λ x y z t p. let be = below_before w e g b.variables b.points y in let f = a.after (inner x) be in let r = a.typed (inner x) be (b.before (own x f) y z) t p in b.typed (own x f) y z r.0 r.1;
+}
+  where
+    split : (i l : ℕ) → (i < l) ⊎ (l ≤ i)
+    split i l = grind arith
+
+    inner : Before w m n d → Before w l n d
+    inner x = record { laid = x.laid; not_made = λ q o c. x.not_made q (omega (o, b.order, arith)) c; positive = x.positive; files = x.files }
+
+    own : Before w m n d → After w l n d e → Before w m l e
+    own x f = record {
+      laid = f.laid;
+      not_made = λ q o c h. x.not_made q o (omega (c, a.order, arith)) (subst (λ (r : Region). 0 < r.points) (f.same (w.context.first + q) (inl (omega (c, arith)))) h);
+      positive = omega (x.positive, a.points, arith);
+      files = omega (x.files, a.variables, arith);
+    }
+
+    which : (q : ℕ) → (q < l) ⊎ (l ≤ q) → m ≤ q → q < n → After w l n d e → After w m l e g → IsMade w (w.context.first + q) (region_at g.regions (w.context.first + q))
+    which q (inl o) c r f h = h.made q c o
+    which q (inr o) c r f h = subst (IsMade w (w.context.first + q)) (sym (h.same (w.context.first + q) (inr (omega (o, arith))))) (f.made q o r)
+
+-- a call whose arguments have later calls
+pub step_around : (w : Place) (m n : ℕ) (i j k : Stage) (d e g : D) (P Q R : Type 0) → Step w (m + 1) n i j d e P Q → Step w m (m + 1) j k e g Q R → Step w m n i k d g P R
+step_around w m n i j k d e g P Q R a b = step_back w m (m + 1) n i j k d e g P Q R a b

@@ -1,0 +1,380 @@
+-- All parts: regions don't meet, and what callers rely on is made.
+use Rattle.std.proofs.Common.{◌≡◌, ℕ, ◌+◌, zero, suc, ◌<◌, ◌≤◌, ◌⊎◌, inl, inr, false, List, [], ◌∷◌, Option, Some, None, length, refl, ap, sym, subst, ◌∙◌, arith, slice_index_or}
+use Rattle.std.proofs.lemmas.Option.{slice_get_within, get_or_from_slice_get}
+use Rattle.std.specs.Prelude.{slice_get, unwrap_or, All, replicate}
+use Rattle.std.specs.Option.{option_map, option_and_then}
+use Rattle.pk_ctypes.specs.declared.types.IntType.{IntType}
+use Rattle.pk_typed.specs.declared.units.CallSite.{CallSite}
+use Rattle.pk_typed.specs.Trees.{BodyTree, FunctionTree, UnitTree}
+use Rattle.pk_calls.specs.declared.listings.Caller.{Caller}
+use Rattle.pk_calls.specs.declared.listings.CallPath.{CallPath}
+use Rattle.pk_calls.specs.Calls as calls
+use Rattle.pk_calls.specs.Calls.{calls_of}
+use Rattle.pk_calls.specs.Paths.{entry_path, path_by}
+use Rattle.pk_graph.specs.declared.graphs.Scope.{Scope}
+use Rattle.pk_graph.specs.Kinds.{Kinds, kind_at}
+use Rattle.pk_graph.specs.Graphs.{VariableOf}
+use Rattle.pk_graph.specs.WellMade.{IsStartOf}
+use Rattle.pk_draft.specs.declared.drafts.Region.{Region}
+use Rattle.pk_draft.specs.declared.drafts.Size.{Size}
+use Rattle.pk_draft.specs.Drafts.{by_number}
+use Rattle.pk_lower_row.specs.Contexts.{size_in, parameters_of}
+use Rattle.pk_lower.specs.Parts as part
+use Rattle.pk_part.specs.Listed.{CallsLeadBehind, IsListed}
+use Rattle.pk_part.proofs.Measures.{parts_fill_regions}
+use Rattle.pk_welltyped.specs.Listed.{Numbered, numbered}
+use Rattle.pk_welltyped.specs.WellTyped as good
+use Rattle.pk_welltyped.specs.WellTyped.{IsBody, AreParameters, AreItems, Marks}
+use Rattle.pk_typed_draft.proofs.Places.{D, Place, Has, returned_by, Promised, region_at, IsKept, In, variable_in, IsFresh, Foreseen, EdgeIs, LabelsAre, Stage, PlacesAre, Typed, Below, IsMade, Before, After}
+use Rattle.pk_typed_draft.proofs.Verbs.{IsCallee}
+use Rattle.pk_typed_draft.proofs.Expressions.{CallsAre}
+use Rattle.pk_typed_draft.proofs.Parts.{parameters_at, AreWritten, IsWrittenIf, Stays, all_stay, if_stays, begun_here, PartIs, made_part, ends, part_step, part_points, part_made}
+
+-- the unit and its call paths, the kinds of the variables in the end, how many points there are, and how many objects the file has
+pub record World : Type 0 where
+  pub unit : UnitTree
+  pub paths : List CallPath
+  pub kinds : Kinds
+  pub points : ℕ
+  pub files : ℕ
+
+abbrev pub sizes : World → List (Option Size)
+sizes W = part.sizes_of W.unit W.paths
+
+abbrev pub function_of : World → ℕ → ℕ
+function_of W j = (slice_index_or W.paths j (entry_path 0)).function
+
+abbrev pub size_of : World → ℕ → Size
+size_of W j = size_in (sizes W) (function_of W j)
+
+-- path k, whose first call leads to path n, with its region
+abbrev pub place : World → (k n f limit : ℕ) → Place
+place W k n f limit = record {
+  context = part.context W.unit (sizes W) k n f;
+  kinds = W.kinds;
+  points = W.points;
+  paths = length W.paths;
+  function = function_of W;
+  limit = limit;
+  files = W.files;
+}
+
+abbrev pub base : World → Place
+base W = place W 0 0 0 0
+
+-- what is so of the unit and its paths
+pub record Lasting (W : World) : Type 0 where
+  pub points : 0 < W.points
+  pub files : (i : ℕ) (k : good.Kind) → good.kind_in_file W.unit i ≡ Some k → Has W.kinds i k.int_type k.length
+  pub behind : CallsLeadBehind W.unit W.paths
+  pub listed : (k : ℕ) (p : CallPath) → slice_get W.paths k ≡ Some p → IsListed W.paths p.function
+
+-- before the part of path k is made, where the paths before n have their regions
+pub record Plan (W : World) (k n : ℕ) (d : D) : Type 0 where
+  pub many : length d.made ≡ length W.kinds
+  pub count : length d.regions ≡ length W.paths
+  pub kept : (j : ℕ) → j < n → IsMade (base W) j (region_at d.regions j)
+  pub unkept : (j : ℕ) → n ≤ j → IsKept d.regions j → ⊥
+  pub pending : (j y : ℕ) → k ≤ j → In (base W) d.regions j y → IsFresh d.made y × (y < length W.kinds)
+  pub apart : (i j y : ℕ) → k ≤ i → k ≤ j → In (base W) d.regions i y → In (base W) d.regions j y → i ≡ j
+
+-- path k is of a function with a body, and its calls lead to paths from n on
+pub record PathIs (W : World) (k n : ℕ) (p : CallPath) : Type 0 where
+  pub path : slice_get W.paths k ≡ Some p
+  pub function : FunctionTree
+  pub body : BodyTree
+  pub there : slice_get W.unit.functions p.function ≡ Some function
+  pub has : function.body ≡ Some body
+  pub is_body : IsBody W.unit function body
+  pub below : k < n
+  pub leads : (i : ℕ) (c : CallSite) → slice_get body.calls i ≡ Some c → slice_get W.paths (n + i) ≡ Some (path_by k i c.function)
+
+-- ---- one part
+
+pub function_is : (W : World) (k : ℕ) (p : CallPath) → slice_get W.paths k ≡ Some p → function_of W k ≡ p.function
+function_is W k p h = ap (λ (q : CallPath). q.function) (get_or_from_slice_get W.paths k p (entry_path 0) h)
+
+its_function : (u : UnitTree) (f : ℕ) (g : FunctionTree) → slice_get u.functions f ≡ Some g → part.function_at u f ≡ g
+its_function u f g h = get_or_from_slice_get u.functions f g part.no_function h
+
+its_body : (u : UnitTree) (f : ℕ) (g : FunctionTree) (b : BodyTree) → slice_get u.functions f ≡ Some g → g.body ≡ Some b → calls.body_of u f ≡ Some b
+unfolding calls.body_of
+its_body u f g b h k = ap (option_and_then (λ (x : FunctionTree). x.body)) h ∙ k
+
+body_at_is : (u : UnitTree) (f : ℕ) (g : FunctionTree) (b : BodyTree) → slice_get u.functions f ≡ Some g → g.body ≡ Some b → part.body_at u f ≡ b
+body_at_is u f g b h k = ap (λ (o : Option BodyTree). unwrap_or o part.no_body) (its_body u f g b h k)
+
+calls_from : (w : Place) (m : ℕ) (cs : List CallSite) → ((i : ℕ) (c : CallSite) → slice_get cs i ≡ Some c → IsCallee w (w.context.first + (m + i)) c.function) → CallsAre w m (numbered m cs) (m + length cs)
+calls_from w m [] h = omega arith
+calls_from w m (c ∷ cs) h =
+    let at : m + zero ≡ m = omega arith in
+    let next : (i : ℕ) → m + suc i ≡ m + 1 + i = λ i. omega arith in
+    let end : m + 1 + length cs ≡ m + length (c ∷ cs) = omega arith in (
+      refl,
+      subst (λ (q : ℕ). IsCallee w (w.context.first + q) c.function) at (h zero c refl),
+      subst (CallsAre w (m + 1) (numbered (m + 1) cs)) end (calls_from w (m + 1) cs (λ i d e. subst (λ (q : ℕ). IsCallee w (w.context.first + q) d.function) (next i) (h (suc i) d e))),
+    )
+
+-- the region of a path in a plan
+abbrev pub limit_of : World → ℕ → Region → ℕ
+limit_of W k r = r.variables + (size_of W k).variables
+
+abbrev pub place_at : World → (k n : ℕ) → CallPath → Region → Place
+place_at W k n p r = place W k n p.function (limit_of W k r)
+
+pub part_is : (W : World) → Lasting W → (k n : ℕ) (p : CallPath) (r : Region) → (h : PathIs W k n p) → IsMade (base W) k r → PartIs (place_at W k n p r) (length h.body.calls) h.function h.body
+part_is W l k n p r h made =
+    let w = place_at W k n p r in
+    let f = p.function in
+    let bodies : part.body_at W.unit f ≡ h.body = body_at_is W.unit f h.function h.body h.there h.has in
+    let locals : w.context.locals ≡ h.body.locals = ap (λ (b : BodyTree). b.locals) bodies in
+    let callee : (i : ℕ) (c : CallSite) → slice_get h.body.calls i ≡ Some c → IsCallee w (n + (0 + i)) c.function = λ i c e.
+    let q = h.leads i c e in
+    let at : 0 + i ≡ i = omega arith in
+    subst (λ (j : ℕ). IsCallee w (n + j) c.function) (sym at) (record { behind = omega (h.below, arith); there = slice_get_within W.paths (n + i) (path_by k i c.function) q; function = function_is W (n + i) (path_by k i c.function) q }) in
+    let end : 0 + length h.body.calls ≡ length h.body.calls = omega arith in
+    record {
+      proper = record { path = slice_get_within W.paths k p h.path; limit = made.variables; points = l.points; files = l.files };
+      locals = locals;
+      returns = ap (λ (g : FunctionTree). g.returns) (sym (its_function W.unit f h.function h.there));
+      parameters = parameters_at w.context.locals h.function.parameters (subst (AreParameters h.function.parameters) (sym locals) h.is_body.parameters);
+      items = subst (λ (xs : _). AreItems (record { unit = W.unit; locals = xs; objects = length h.function.parameters }) (record { labels = h.body.labels; returns = h.function.returns; cases = 0; has_default = false }) h.body.items) (sym locals) h.is_body.items;
+      calls = subst (λ (xs : List Numbered). CallsAre w 0 xs (length h.body.calls)) (sym h.is_body.calls) (subst (CallsAre w 0 (numbered 0 h.body.calls)) end (calls_from w 0 h.body.calls callee));
+    }
+
+-- the part as it is made
+pub part_made_is : (W : World) (k n : ℕ) (p : CallPath) (h : PathIs W k n p) (from : Option Caller) (r : Region) (d : D)
+    → part.part (part.context W.unit (sizes W) k n p.function) p.function from r d ≡ made_part (place_at W k n p r) h.function h.body from r d
+unfolding part.part
+part_made_is W k n p h from r d =
+    let c = part.context W.unit (sizes W) k n p.function in
+    ap (λ (g : FunctionTree). part.part_of c g (calls.body_of W.unit p.function) from r d) (its_function W.unit p.function h.function h.there)
+    ∙ ap (λ (o : Option BodyTree). part.part_of c h.function o from r d) (its_body W.unit p.function h.function h.body h.there h.has)
+
+in_place : (W : World) (k n : ℕ) (p : CallPath) (r : Region) (rs : List Region) (j y : ℕ) → In (place_at W k n p r) rs j y → In (base W) rs j y
+in_place W k n p r rs j y i = record { kept = i.kept; from = i.from; to = i.to }
+
+from_place : (W : World) (k n : ℕ) (p : CallPath) (r : Region) (rs : List Region) (j y : ℕ) → In (base W) rs j y → In (place_at W k n p r) rs j y
+from_place W k n p r rs j y i = record { kept = i.kept; from = i.from; to = i.to }
+
+made_in : (W : World) (k n : ℕ) (p : CallPath) (r : Region) (j : ℕ) (q : Region) → IsMade (place_at W k n p r) j q → IsMade (base W) j q
+made_in W k n p r j q m = record { kept = m.kept; points = m.points; variables = m.variables; files = m.files }
+
+where_is : (y v l : ℕ) → (y < v) ⊎ ((v ≤ y) × (y < l)) ⊎ (l ≤ y)
+where_is y v l = elim (split y v) [ inl a ↦ inl a | inr a ↦ elim (split y l) [ inl b ↦ inr (inl (a, b)) | inr b ↦ inr (inr b) ] ]
+  where
+    split : (i l : ℕ) → (i < l) ⊎ (l ≤ i)
+    split i l = grind arith
+
+-- what a number is more than another
+more_by : (n j : ℕ) → n ≤ j → (i : ℕ) × (j ≡ n + i)
+more_by zero j h = (j, omega arith)
+more_by (suc n) zero h = absurd (omega (h, arith))
+more_by (suc n) (suc j) h = let r = more_by n j (omega (h, arith)) in (r.0, omega (r.1, arith))
+
+-- what holds before the part
+pub before_part : (W : World) (k n : ℕ) (p : CallPath) (h : PathIs W k n p) (d : D) → Plan W k n d
+    → Before (place_at W k n p (region_at d.regions k)) 0 (length h.body.calls) (begun_here (place_at W k n p (region_at d.regions k)) h.body (region_at d.regions k) d)
+before_part W k n p h d plan =
+    let r = region_at d.regions k in
+    let w = place_at W k n p r in
+    let made = plan.kept k h.below in
+    record {
+      laid = record {
+        many = plan.many;
+        count = plan.count;
+        free = λ y l m. (plan.pending k y (omega arith) (record { kept = made.kept; from = l; to = m })).0;
+        pending = λ j y l i. let q = in_place W k n p r d.regions j y i in let a = plan.pending j y (omega (l, arith)) q in (
+          a.0,
+          a.1,
+          elim (where_is y r.variables (limit_of W k r)) [
+            | inl o ↦ inl o
+            | inr o ↦ elim o [ inl c ↦ absurd (omega (plan.apart k j y (omega arith) (omega (l, arith)) (record { kept = made.kept; from = c.0; to = c.1 }) q, l, arith)) | inr c ↦ inr c ]
+          ],
+        );
+        apart = λ i j y l m a b. plan.apart i j y (omega (l, arith)) (omega (m, arith)) (in_place W k n p r d.regions i y a) (in_place W k n p r d.regions j y b);
+      };
+      not_made = λ i l m q. plan.unkept (n + i) (omega arith) q;
+      positive = made.kept;
+      files = made.files;
+    }
+
+-- the part ends inside its region
+pub below_part : (W : World) → Lasting W → (k n : ℕ) (p : CallPath) (h : PathIs W k n p) (d : D) → Plan W k n d
+    → (let r = region_at d.regions k in let e = made_part (place_at W k n p r) h.function h.body p.caller r d in Below (place_at W k n p r) e)
+below_part W l k n p h d plan =
+    let r = region_at d.regions k in
+    let made = plan.kept k h.below in
+    let f = p.function in
+    let e = part_made_is W k n p h p.caller r d in
+    let law = parts_fill_regions ℕ in
+    let same : function_of W k ≡ f = function_is W k p h.path in
+    let size : size_in (sizes W) f ≡ size_of W k = ap (size_in (sizes W)) (sym same) in
+    let v = law.variables W.unit W.paths k n f p.caller r d l.behind (l.listed k p h.path) in
+    let q = law.points W.unit W.paths k n f p.caller r d l.behind (l.listed k p h.path) in
+    (omega (ap (λ (x : D). x.variables) e, v, ap (λ (s : Size). s.variables) size, arith), omega (ap (λ (x : D). x.points) e, q, ap (λ (s : Size). s.points) size, made.points, arith))
+
+pub plan_next : (W : World) → Lasting W → (k n : ℕ) (p : CallPath) (h : PathIs W k n p) (d : D) → Plan W k n d
+    → (let r = region_at d.regions k in let e = made_part (place_at W k n p r) h.function h.body p.caller r d in Plan W (k + 1) (n + length h.body.calls) e)
+plan_next W l k n p h d plan =
+    let r = region_at d.regions k in
+    let w = place_at W k n p r in
+    let e = made_part w h.function h.body p.caller r d in
+    let m = length h.body.calls in
+    let s = part_step w m h.function h.body (part_is W l k n p r h (plan.kept k h.below)) p.caller r d in
+    let a = s.after (before_part W k n p h d plan) (below_part W l k n p h d plan) in
+    record {
+      many = a.laid.many;
+      count = a.laid.count;
+      kept = λ j c. which j (split j n) c a;
+      unkept = λ j c q. plan.unkept j (omega (c, arith)) (subst (λ (x : Region). 0 < x.points) (a.same j (inr (omega (c, arith)))) q);
+      pending = λ j y c i. let q = a.laid.pending j y (omega (c, arith)) (from_place W k n p r e.regions j y i) in (q.0, q.1);
+      apart = λ i j y c o x z. a.laid.apart i j y (omega (c, arith)) (omega (o, arith)) (from_place W k n p r e.regions i y x) (from_place W k n p r e.regions j y z);
+    }
+  where
+    split : (i l : ℕ) → (i < l) ⊎ (l ≤ i)
+    split i l = grind arith
+
+    which : (j : ℕ) → (j < n) ⊎ (n ≤ j) → j < n + length h.body.calls
+        → After (place_at W k n p (region_at d.regions k)) 0 (length h.body.calls) (begun_here (place_at W k n p (region_at d.regions k)) h.body (region_at d.regions k) d) (made_part (place_at W k n p (region_at d.regions k)) h.function h.body p.caller (region_at d.regions k) d)
+        → IsMade (base W) j (region_at (made_part (place_at W k n p (region_at d.regions k)) h.function h.body p.caller (region_at d.regions k) d).regions j)
+    which j (inl o) c a = subst (IsMade (base W) j) (sym (a.same j (inl (omega (o, arith))))) (plan.kept j o)
+    which j (inr o) c a =
+        let q = more_by n j o in
+        let r = region_at d.regions k in
+        let e = made_part (place_at W k n p r) h.function h.body p.caller r d in
+        subst (λ (x : ℕ). IsMade (base W) x (region_at e.regions x)) (sym q.1) (made_in W k n p r (n + q.0) (region_at e.regions (n + q.0)) (a.made q.0 (omega arith) (omega (q.1, c, arith))))
+
+-- ---- what callers rely on
+
+-- what has been made for the callers of a path
+pub record PathMade (W : World) (j : ℕ) (p : CallPath) (d : D) : Type 0 where
+  pub parameters : AreWritten j d.made (region_at d.regions j).variables (parameters_of W.unit p.function)
+  pub result : IsWrittenIf j d.made ((region_at d.regions j).variables + length (parameters_of W.unit p.function)) (returned_by W.unit p.function)
+  pub points : (region_at d.regions j).points < W.points
+
+pub path_stays : (W : World) (j : ℕ) (p : CallPath) (d e : D) → Stays d.made e.made → region_at e.regions j ≡ region_at d.regions j → PathMade W j p d → PathMade W j p e
+path_stays W j p d e s r h =
+    let v : (region_at e.regions j).variables ≡ (region_at d.regions j).variables = ap (λ (x : Region). x.variables) r in
+    let ts = parameters_of W.unit p.function in
+    record {
+      parameters = subst (λ (x : ℕ). AreWritten j e.made x ts) (sym v) (all_stay j d.made e.made (region_at d.regions j).variables ts s h.parameters);
+      result = subst (λ (x : ℕ). IsWrittenIf j e.made (x + length ts) (returned_by W.unit p.function)) (sym v) (if_stays j d.made e.made ((region_at d.regions j).variables + length ts) (returned_by W.unit p.function) s h.result);
+      points = subst (λ (x : Region). x.points < W.points) (sym r) h.points;
+    }
+
+pub path_made : (W : World) → Lasting W → (k n : ℕ) (p : CallPath) (h : PathIs W k n p) (d : D) → Plan W k n d
+    → (let r = region_at d.regions k in let e = made_part (place_at W k n p r) h.function h.body p.caller r d in PathMade W k p e)
+path_made W l k n p h d plan =
+    let r = region_at d.regions k in
+    let w = place_at W k n p r in
+    let e = made_part w h.function h.body p.caller r d in
+    let m = length h.body.calls in
+    let is = part_is W l k n p r h (plan.kept k h.below) in
+    let b = before_part W k n p h d plan in
+    let y = below_part W l k n p h d plan in
+    let s = part_step w m h.function h.body is p.caller r d in
+    let a = s.after b y in
+    let made = part_made w m h.function h.body is p.caller r d b y in
+    let same : region_at e.regions k ≡ r = a.same k (inl (omega (h.below, arith))) in
+    let ts : h.function.parameters ≡ parameters_of W.unit p.function = sym (ap (λ (o : Option FunctionTree). unwrap_or (option_map (λ (g : FunctionTree). g.parameters) o) []) h.there) in
+    let rs : h.function.returns ≡ returned_by W.unit p.function = sym (ap (option_and_then (λ (g : FunctionTree). g.returns)) h.there) in
+    record {
+      parameters = subst (λ (x : Region). AreWritten k e.made x.variables (parameters_of W.unit p.function)) (sym same) (subst (AreWritten k e.made r.variables) ts made.parameters);
+      result = subst (λ (x : Region). IsWrittenIf k e.made (x.variables + length (parameters_of W.unit p.function)) (returned_by W.unit p.function)) (sym same)
+          (subst (λ (x : List IntType). IsWrittenIf k e.made (r.variables + length x) (returned_by W.unit p.function)) ts (subst (IsWrittenIf k e.made (r.variables + length h.function.parameters)) rs made.result));
+      points = subst (λ (x : Region). x.points < W.points) (sym same) (omega (part_points w m h.function h.body is p.caller r d, y.1, arith));
+    }
+
+-- ---- drafts between parts
+
+pub record Foreknown (W : World) (ms : List VariableOf) (rs : List Region) : Type 0 where
+  pub made : (y k : ℕ) → (variable_in ms y).path ≡ Some k → kind_at W.kinds y ≡ (variable_in ms y).kind
+  pub regions : (j : ℕ) → IsKept rs j → Promised (base W) (function_of W j) (region_at rs j).variables × ((region_at rs j).points < W.points)
+
+pub record AllTyped (W : World) (d : D) : Type 0 where
+  pub names : d.names ≡ by_number
+  pub labels : LabelsAre (base W) d.labels
+  pub scopes : All (λ (s : Scope). s.variable < length W.kinds) d.scopes
+  pub starts : All (λ (x : VariableOf). IsStartOf x x.start) d.made
+  pub edges : All (EdgeIs (base W)) d.edges
+  pub places : PlacesAre (base W) d.regions
+
+pub all_map : {A : Type 0} (P Q : A → Type 0) (xs : List A) → ((x : A) → P x → Q x) → All P xs → All Q xs
+all_map P Q xs f h k d l = f (slice_index_or xs k d) (h k d l)
+
+pub replicated : {A : Type 0} (n : ℕ) (x : A) → length (replicate n x) ≡ n
+replicated zero x = refl
+replicated (suc n) x = ap suc (replicated n x)
+
+begins_typed : (W : World) (k n : ℕ) (p : CallPath) (r : Region) (b : BodyTree) (d : D) → r.at < W.points → AllTyped W d → Typed (place_at W k n p r) (record { objects = 0; result = None }) (begun_here (place_at W k n p r) b r d)
+begins_typed W k n p r b d l t =
+    let w = place_at W k n p r in
+    record {
+      names = t.names;
+      point = l;
+      here = refl;
+      labels = record { many = t.labels.many; paths = t.labels.paths };
+      scopes = t.scopes;
+      starts = t.starts;
+      edges = all_map (EdgeIs (base W)) (EdgeIs w) d.edges (λ e h. record { from = h.from; to = h.to; typed = h.typed }) t.edges;
+      objects = record { many = replicated (length w.context.locals + 1) 0; each = λ i c. absurd (omega (c, arith)); result = tt };
+      places = t.places;
+    }
+
+ends_typed : (W : World) (k n : ℕ) (p : CallPath) (r : Region) (s : Stage) (d : D) → Typed (place_at W k n p r) s d → AllTyped W d
+ends_typed W k n p r s d t =
+    let w = place_at W k n p r in
+    record {
+      names = t.names;
+      labels = record { many = t.labels.many; paths = t.labels.paths };
+      scopes = t.scopes;
+      starts = t.starts;
+      edges = all_map (EdgeIs w) (EdgeIs (base W)) d.edges (λ e h. record { from = h.from; to = h.to; typed = h.typed }) t.edges;
+      places = t.places;
+    }
+
+promised_at : (W : World) (k n : ℕ) (p : CallPath) (r : Region) (f v : ℕ) → Promised (base W) f v → Promised (place_at W k n p r) f v
+promised_at W k n p r f v h = record { parameters = h.parameters; result = h.result }
+
+promised_in : (W : World) (k n : ℕ) (p : CallPath) (r : Region) (f v : ℕ) → Promised (place_at W k n p r) f v → Promised (base W) f v
+promised_in W k n p r f v h = record { parameters = h.parameters; result = h.result }
+
+-- from before the part of a path to behind it
+pub record OnePart (W : World) (n : ℕ) (d e : D) : Type 0 where
+  pub regions : (j : ℕ) → j < n → region_at e.regions j ≡ region_at d.regions j
+  pub low : (y : ℕ) → y < W.files → variable_in e.made y ≡ variable_in d.made y
+  pub stays : Stays d.made e.made
+  pub foreknown : Foreknown W e.made e.regions → Foreknown W d.made d.regions
+  pub typed : Foreknown W e.made e.regions → AllTyped W d → AllTyped W e
+
+pub one_part : (W : World) → Lasting W → (k n : ℕ) (p : CallPath) (h : PathIs W k n p) (d : D) → Plan W k n d
+    → (let r = region_at d.regions k in let e = made_part (place_at W k n p r) h.function h.body p.caller r d in OnePart W n d e)
+one_part W l k n p h d plan =
+    let r = region_at d.regions k in
+    let w = place_at W k n p r in
+    let e = made_part w h.function h.body p.caller r d in
+    let m = length h.body.calls in
+    let is = part_is W l k n p r h (plan.kept k h.below) in
+    let b = before_part W k n p h d plan in
+    let y = below_part W l k n p h d plan in
+    let s = part_step w m h.function h.body is p.caller r d in
+    let a = s.after b y in
+    let seen : Foreknown W e.made e.regions → Foreseen w e.made e.regions = λ f. record { made = f.made; regions = λ j c q. let z = f.regions j q in (promised_at W k n p r (function_of W j) (region_at e.regions j).variables z.0, z.1) } in
+    record {
+      regions = λ j c. a.same j (inl (omega (c, arith)));
+      low = λ i c. a.low i (omega (c, (plan.kept k h.below).files, arith));
+      stays = a.old;
+      foreknown = λ f. let g = s.before b y (seen f) in record {
+        made = g.made;
+        regions = λ j q. elim (split k j) [
+          | inl c ↦ (let z = g.regions j c q in (promised_in W k n p r (function_of W j) (region_at d.regions j).variables z.0, z.1))
+          | inr c ↦ (let same : region_at e.regions j ≡ region_at d.regions j = a.same j (inl (omega (c, h.below, arith))) in
+              subst (λ (x : Region). Promised (base W) (function_of W j) x.variables × (x.points < W.points)) same (f.regions j (subst (λ (x : Region). 0 < x.points) (sym same) q)))
+        ];
+      };
+      typed = λ f t. ends_typed W k n p r (ends h.function h.body) e (s.typed b y (seen f) (begins_typed W k n p r h.body d (t.places k (plan.kept k h.below).kept) t) tt).0;
+    }
+  where
+    split : (i l : ℕ) → (i < l) ⊎ (l ≤ i)
+    split i l = grind arith
