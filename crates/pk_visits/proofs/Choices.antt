@@ -1,5 +1,5 @@
 -- The graph follows the program at the tests of a `switch`, where the way to the case that holds is laid.
-use Rattle.std.proofs.Common.{◌≡◌, ℕ, ◌+◌, ◌<◌, ◌≤◌, List, [], ◌∷◌, length, Bool, true, false, if◌then◌else◌, refl, sym, ap, ◌∙◌, subst, arith, ℤ}
+use Rattle.std.proofs.Common.{◌≡◌, ℕ, ◌+◌, ◌≤◌, List, [], ◌∷◌, length, Bool, true, false, if◌then◌else◌, refl, ap, ◌∙◌, subst, arith, ℤ}
 use Rattle.std.specs.Prelude.{Ok}
 use Rattle.std.specs.Ordering.{int_eq}
 use Rattle.pk_ctypes.specs.declared.types.IntType.{IntType}
@@ -27,7 +27,7 @@ use Rattle.pk_meaning.specs.Work as work
 use Rattle.pk_meaning.specs.Work.{Place, Work, Ahead, Way, Onward, Refused, Lost}
 use Rattle.pk_meaning.specs.Steps as meaning
 use Rattle.pk_meaning.specs.Steps.{step_of}
-use Rattle.pk_visits.proofs.Slots.{Slot, SlotTree, Draft, Memory, memory, Among, edge, front_among, last_among}
+use Rattle.pk_visits.proofs.Slots.{SlotTree, Draft, Memory, memory, Among, edge, front_among, last_among}
 use Rattle.pk_visits.proofs.Stands.{Whole, context_of, around, Marking, Held, Means, FitsObjects, ShowsAt, Leads, Stage, switch_from, LaidWay, Laid}
 use Rattle.pk_visits.proofs.Follow.{Answers, config, moved}
 use Rattle.pk_visits.proofs.Tests.{passes, along}
@@ -110,14 +110,29 @@ choose_test g chosen p m k h j t z zs i has body a v vs s b x top hs (d, n, mark
   next = part_point g Stays U k j j (calls_in_statement body) d (fresh 1 d) F d.points d.here u grow (omega arith) (omega arith) (fresh_one d room) here
 
   laid : Laid g k j x (work.Choose t zs (i + 1) has body j a) d.points (top ∷ hs)
-  laid = (d1, n, mark, r, total, e, refl, types, omega (arith, many), fits, calm_more d.variables d1.variables (top ∷ hs) (omega arith) calm,
-      stage_to g k j (calls_in_statement body) d1 F (switch_from (context_of g k) r t top.tree zs (i + 1) total e has body x d1)
-      (ap (λ q. go Skip e (lowered (context_of g k) body (in_switch e total x) (away (if has then e + 1 + total else e) (case_tests r t top.tree zs q d1)))) (omega arith))
-      (stage_at g k j j (calls_in_statement body) d d1 F u (omega arith) here), marking, shown, l)
+  laid = (
+    d1,
+    n,
+    mark,
+    r,
+    total,
+    e,
+    refl,
+    types,
+    omega (arith, many),
+    fits,
+    calm_more d.variables d1.variables (top ∷ hs) (omega arith) calm,
+    stage_to g k j (calls_in_statement body) d1 F (switch_from (context_of g k) r t top.tree zs (i + 1) total e has body x d1)
+        (ap (λ q. go Skip e (lowered (context_of g k) body (in_switch e total x) (away (if has then e + 1 + total else e) (case_tests r t top.tree zs q d1)))) (omega arith))
+        (stage_at g k j j (calls_in_statement body) d d1 F u (omega arith) here),
+    marking,
+    shown,
+    l,
+  )
 
   by : (q : Bool) → int_eq v z ≡ q
       → Answers g chosen k h p m (if q then meaning.takes (config k h (work.Choose t (z ∷ zs) i has body j a) (v ∷ vs) s b) (meaning.found g.program k (meaning.numbered i) j.scope body (work.Close j a) Lost) vs
-        else meaning.comes (config k h (work.Choose t (z ∷ zs) i has body j a) (v ∷ vs) s b) j (work.Choose t zs (i + 1) has body j a) (v ∷ vs))
+      else meaning.comes (config k h (work.Choose t (z ∷ zs) i has body j a) (v ∷ vs) s b) j (work.Choose t zs (i + 1) has body j a) (v ∷ vs))
   by true is = along g chosen p (e + 1 + i) m k h (work.Choose t (z ∷ zs) i has body j a) (v ∷ vs) vs s b T (truth (int_eq v z)) true _ hs yes value (true_of (int_eq v z) ∙ is) way means.2 same f
   by false is = moved g chosen p d.points m m (Guard T false) k j (work.Choose t zs (i + 1) has body j a) (v ∷ vs) s true x (top ∷ hs) not (passes chosen T (truth (int_eq v z)) false m value (true_of (int_eq v z) ∙ is)) (refl, next) laid means same f
 
