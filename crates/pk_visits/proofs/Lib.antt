@@ -34,6 +34,7 @@ mod Firsts
 mod Starts
 mod Declared
 mod Choices
+mod Cases
 mod Going
 mod Followed
 mod NumberedEdges
