@@ -1,10 +1,10 @@
 -- From steps to runs: the graph over slots follows each run of the program, and faults where it does.
-use Rattle.std.proofs.Common.{◌≡◌, ℕ, List, [], ◌∷◌, Bool, true, false, if◌then◌else◌, refl, sym, subst, inl, inr, ◌⊎◌}
+use Rattle.std.proofs.Common.{◌≡◌, ℕ, List, [], ◌∷◌, if◌then◌else◌, sym, subst, inl, inr}
 use Rattle.pk_ctypes.specs.declared.faults.Fault.{Fault}
 use Rattle.pk_graph.specs.declared.trees.Site.{Site}
 use Rattle.pk_graph.specs.Steps as steps
 use Rattle.pk_graph.specs.Steps.{Numbers}
-use Rattle.pk_meaning.specs.Steps.{Config, To, Faulted, step}
+use Rattle.pk_meaning.specs.Steps.{Config, Faulted, step}
 use Rattle.pk_meaning.specs.Runs.{Visit, visit_of, visits_if, Runs}
 use Rattle.pk_visits.proofs.Slots.{Memory}
 use Rattle.pk_visits.proofs.Stands.{Whole, Proper, BodiesStand, StandsAt}

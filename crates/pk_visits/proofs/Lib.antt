@@ -31,8 +31,10 @@ mod Returns
 mod Thirds
 mod Fills
 mod Firsts
-mod Declared
 mod Starts
+mod Declared
+mod Choices
+mod Cases
 mod Going
 mod Followed
 mod NumberedEdges

@@ -1,16 +1,16 @@
 -- A graph over slots, and a draft by number whose numbered graph is its copy: what is seen at its points.
-use Rattle.std.proofs.Common.{◌≡◌, ℕ, ◌<◌, ◌⊎◌, List, [], ◌∷◌, length, map, Bool, true, false, ◌||◌, ◌&&◌, not, nat_eq, if◌then◌else◌, refl, sym, ap, ◌∙◌, subst, inl, inr, slice_index_or, ℤ}
+use Rattle.std.proofs.Common.{◌≡◌, ℕ, ◌⊎◌, List, [], ◌∷◌, length, map, Bool, true, false, ◌||◌, ◌&&◌, not, nat_eq, if◌then◌else◌, refl, sym, ap, ◌∙◌, subst, inl, inr, slice_index_or, ℤ}
 use Rattle.std.specs.Prelude.{Option, Some, None, unwrap_or}
 use Rattle.std.proofs.lemmas.Bool.{eq-eqb}
 use Rattle.std.proofs.lemmas.Bool.Decides.{eqb_tells}
 use Rattle.pk_ctypes.specs.declared.places.Pos.{Pos}
-use Rattle.pk_graph.specs.Trees.{InstrOf, Skip, Set, Havoc, Clear, Load, Store, Guard, Check}
+use Rattle.pk_graph.specs.Trees.{Skip, Set, Havoc, Clear, Load, Store, Guard, Check}
 use Rattle.pk_graph.specs.Graphs.{PathOf, PointOf, GraphOf, no_variable, point_at, scope_at}
 use Rattle.pk_graph.specs.Stores.{Stored, numbers_of}
 use Rattle.pk_draft.specs.declared.drafts.Label.{Label}
 use Rattle.pk_draft.specs.Drafts.{EdgeFrom, DraftOf, nowhere}
 use Rattle.pk_number.specs.Preorders.{is_among}
-use Rattle.pk_number.specs.Numbering.{no_label, reached, edge_of, point_of, numbered}
+use Rattle.pk_number.specs.Numbering.{no_label, reached, edge_of, numbered}
 use Rattle.pk_meaning.specs.Objects.{Object, file, local, result, Scope, Objects, is_same}
 use Rattle.pk_meaning.specs.Objects as objects
 use Rattle.pk_meaning.specs.Programs.{Program, name_of}
@@ -24,7 +24,7 @@ use Rattle.pk_visits.proofs.Slots.{Slot, own, temporary, Instr, Edge, edge, Memo
 use Rattle.pk_visits.proofs.Stands.{Whole, ShowsAt}
 use Rattle.pk_visits.proofs.Follow.{written, Seen}
 use Rattle.pk_visits.proofs.NumberedEdges.{IsFound, number_of, point_shown}
-use Rattle.pk_visits.proofs.NumberedStores.{Naming, renamed_instr, IsNaming, IsArrayOver, IsInstrOver, Mirrors}
+use Rattle.pk_visits.proofs.NumberedStores.{Naming, renamed_instr, IsNaming, IsInstrOver, Mirrors}
 
 -- The label is a path's place: the names in scope there are the variables of the place's objects.
 pub record IsShown (f : Naming) (Made : Slot → Type 0) (p : Program) (d : DraftOf ℕ) (l : Label) (k : ℕ) (h : Place) : Type 0 where

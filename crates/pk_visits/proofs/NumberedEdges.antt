@@ -1,9 +1,9 @@
 -- Edges of a draft by number are edges of its numbered graph.
-use Rattle.std.proofs.Common.{◌≡◌, ℕ, suc, ◌<◌, ◌⊎◌, List, [], ◌∷◌, length, map, Bool, true, false, not, ◌&&◌, cond, nat_eq, refl, sym, ap, ◌∙◌, subst, inl, inr, arith, slice_index_or}
+use Rattle.std.proofs.Common.{◌≡◌, ℕ, suc, ◌<◌, ◌⊎◌, List, [], ◌∷◌, map, Bool, true, false, not, ◌&&◌, cond, nat_eq, refl, sym, ap, ◌∙◌, subst, inl, inr, arith}
 use Rattle.std.specs.List.{Contains}
 use Rattle.std.proofs.lemmas.List.{length-map, get_or-map}
 use Rattle.std.proofs.lemmas.Bool.Decides.{eqb_tells}
-use Rattle.pk_graph.specs.Graphs.{PathOf, GraphOf, no_point, point_at}
+use Rattle.pk_graph.specs.Graphs.{PathOf, no_point, point_at}
 use Rattle.pk_draft.specs.Drafts.{EdgeFrom, DraftOf, nowhere}
 use Rattle.pk_number.specs.Preorders.{is_among, place_among}
 use Rattle.pk_number.specs.Numbering.{entry_point, is_from, edges_from, ends, reached, edge_of, point_of, numbered}

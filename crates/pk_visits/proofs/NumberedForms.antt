@@ -1,5 +1,5 @@
 -- Expressions whose variables are renamed: assignments, choices and calls make the same of them.
-use Rattle.std.proofs.Common.{◌≡◌, ℕ, ◌+◌, List, [], ◌∷◌, map, length, Bool, true, false, if◌then◌else◌, refl, sym, ap, ◌∙◌, pos}
+use Rattle.std.proofs.Common.{◌≡◌, ℕ, ◌+◌, List, [], ◌∷◌, map, length, Bool, true, false, refl, ap, ◌∙◌, pos}
 use Rattle.pk_ctypes.specs.declared.types.IntType.{IntType}
 use Rattle.pk_ctypes.specs.declared.types.IntType.TheVariants.{Int}
 use Rattle.pk_ctypes.specs.declared.types.Op.{Op}
@@ -9,12 +9,12 @@ use Rattle.pk_draft.specs.declared.drafts.Size.{Size}
 use Rattle.pk_draft.specs.Drafts.{DraftOf, Given, nowhere, at, fresh, with_temporary, next_temporary, emit, stored, entered}
 use Rattle.pk_draft.specs.Folding.{conversion, updated_tree}
 use Rattle.pk_lower_row.specs.declared.shapes.Shape.{Shape}
-use Rattle.pk_lower_row.specs.declared.shapes.Shape.TheVariants.{Fixed, Temporary, Named}
+use Rattle.pk_lower_row.specs.declared.shapes.Shape.TheVariants.{Temporary, Named}
 use Rattle.pk_lower_row.specs.declared.shapes.Waiting.TheVariants.{Weak}
 use Rattle.pk_lower_row.specs.Shapes.{strong_if, strong_or_weak}
 use Rattle.pk_lower_row.specs.Rows as rows
 use Rattle.pk_lower_row.specs.Rows.{Ways, Operand, Target, Two, Loaded, Passed}
-use Rattle.pk_visits.proofs.NumberedNames.{tree_by, array_by, draft_by, given_by, conversion_by, updated_by, link_by, emit_by, stored_by}
+use Rattle.pk_visits.proofs.NumberedNames.{tree_by, array_by, draft_by, given_by, conversion_by, updated_by, emit_by, stored_by}
 use Rattle.pk_visits.proofs.NumberedRows.{Works, Gives, WaysBy, beside, TargetsBy, scalars, elements, two_by, held_by, both_by, value_by, choice_by, pair_by, convert_by, between_by}
 
 -- ---- assignments

@@ -1,22 +1,19 @@
 -- Expressions whose variables are renamed: each row of the lowering makes the same of them.
-use Rattle.std.proofs.Common.{◌≡◌, ℕ, ◌+◌, List, [], ◌∷◌, map, length, Bool, true, false, if◌then◌else◌, refl, sym, ap, ◌∙◌, pos}
+use Rattle.std.proofs.Common.{◌≡◌, ℕ, Bool, true, false, if◌then◌else◌, refl, ap, ◌∙◌}
 use Rattle.pk_ctypes.specs.declared.types.IntType.{IntType}
-use Rattle.pk_ctypes.specs.declared.types.IntType.TheVariants.{Int}
 use Rattle.pk_ctypes.specs.declared.types.Op.{Op}
 use Rattle.pk_ctypes.specs.Operators.{result_type}
 use Rattle.pk_graph.specs.declared.trees.Site.{Site}
-use Rattle.pk_graph.specs.Trees.{TreeOf, constant, variable, ArrayOf, Set, Havoc, Load, Store, Guard, Check}
-use Rattle.pk_draft.specs.declared.drafts.Size.{Size}
-use Rattle.pk_draft.specs.Drafts.{DraftOf, Given, at, fresh, with_temporary, next_temporary, link, emit, stored, entered}
+use Rattle.pk_graph.specs.Trees.{TreeOf, variable, ArrayOf, Set, Havoc, Load, Guard}
+use Rattle.pk_draft.specs.Drafts.{DraftOf, Given, at, fresh, with_temporary, next_temporary, link}
 use Rattle.pk_draft.specs.Folding.{conversion, unary_tree}
 use Rattle.pk_lower_row.specs.declared.shapes.Shape.{Shape}
-use Rattle.pk_lower_row.specs.declared.shapes.Shape.TheVariants.{Fixed, Temporary, Named}
+use Rattle.pk_lower_row.specs.declared.shapes.Shape.TheVariants.{Temporary, Named}
 use Rattle.pk_lower_row.specs.declared.shapes.Waiting.{Waiting}
-use Rattle.pk_lower_row.specs.declared.shapes.Waiting.TheVariants.{Weak}
-use Rattle.pk_lower_row.specs.Shapes.{converted_shape, unary_shape, operated_shape, is_plain, strong_if, strong_or_weak, stays}
+use Rattle.pk_lower_row.specs.Shapes.{converted_shape, unary_shape, operated_shape, is_plain, strong_if, stays}
 use Rattle.pk_lower_row.specs.Rows as rows
 use Rattle.pk_lower_row.specs.Rows.{Ways, Operand, Target, scalar, element, Two, Loaded, Passed}
-use Rattle.pk_visits.proofs.NumberedNames.{tree_by, array_by, instr_by, draft_by, given_by, conversion_by, unary_by, operated_by, updated_by, link_by, emit_by, stored_by}
+use Rattle.pk_visits.proofs.NumberedNames.{tree_by, array_by, draft_by, given_by, conversion_by, unary_by, operated_by, link_by, emit_by, stored_by}
 
 -- what these make of a renamed draft is what those make, renamed
 abbrev pub Works : {V W : Type 0} → (V → W) → (DraftOf V → DraftOf V) → (DraftOf W → DraftOf W) → Type 0

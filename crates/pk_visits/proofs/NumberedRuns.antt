@@ -1,16 +1,16 @@
 -- Where a graph over slots moves or faults, the numbered graph that is its copy does.
-use Rattle.std.proofs.Common.{◌≡◌, ℕ, ◌<◌, ◌⊎◌, List, [], ◌∷◌, length, Bool, true, false, not, refl, sym, ap, ◌∙◌, subst, inl, inr, arith, ℤ}
-use Rattle.std.specs.Prelude.{Result, Ok, Err, Some, None}
+use Rattle.std.proofs.Common.{◌≡◌, ℕ, ◌<◌, ◌⊎◌, List, [], ◌∷◌, length, Bool, true, false, not, refl, sym, ap, subst, inl, inr, arith, ℤ}
+use Rattle.std.specs.Prelude.{Result, Ok, Err}
 use Rattle.pk_graph.specs.Kinds.{count_of}
 use Rattle.pk_graph.specs.Trees.{Skip, Set, Havoc, Clear, Load, Store, Guard, Check}
-use Rattle.pk_graph.specs.Graphs.{PathOf, EdgeOf}
+use Rattle.pk_graph.specs.Graphs.{PathOf}
 use Rattle.pk_graph.specs.Steps as steps
 use Rattle.pk_graph.specs.Steps.{Numbers, Failure, After, tree_value, is_true, with_value, effect}
-use Rattle.pk_graph.specs.Stores.{Stored, storing}
+use Rattle.pk_graph.specs.Stores.{Stored}
 use Rattle.pk_draft.specs.Drafts.{DraftOf, nowhere}
 use Rattle.pk_number.specs.Numbering.{reached, edge_of, numbered}
 use Rattle.pk_welltyped.specs.WellTyped.{Kind}
-use Rattle.pk_meaning.specs.Objects.{Object, numbers_of, with_numbers, is_in_scope}
+use Rattle.pk_meaning.specs.Objects.{Object, numbers_of, with_numbers}
 use Rattle.pk_meaning.specs.Programs.{Program}
 use Rattle.pk_meaning.specs.Work as work
 use Rattle.pk_meaning.specs.Work.{Place}
@@ -20,12 +20,12 @@ use Rattle.pk_meaning.specs.Runs as runs
 use Rattle.pk_visits.specs.GraphVisits as graph
 use Rattle.pk_visits.specs.GraphVisits.{GraphRuns}
 use Rattle.pk_visits.specs.SameVisits.{FailsAt}
-use Rattle.pk_visits.proofs.Slots.{Slot, own, temporary, Instr, edge, Memory, memory, with_memory, SlotTree, Among}
-use Rattle.pk_visits.proofs.Stands.{Whole, ShowsAt, HasKind, FitsObjects}
+use Rattle.pk_visits.proofs.Slots.{Slot, own, temporary, Instr, edge, Memory, memory, with_memory, Among}
+use Rattle.pk_visits.proofs.Stands.{Whole, HasKind, FitsObjects}
 use Rattle.pk_visits.proofs.Stores.{decided, same_object, other_object}
 use Rattle.pk_visits.proofs.Follow.{written, Seen, Moves, Doomed, now, later, config, set_does}
 use Rattle.pk_visits.proofs.NumberedEdges.{IsFound, number_of, end_found, edge_shown}
-use Rattle.pk_visits.proofs.NumberedStores.{Naming, renamed_instr, IsNaming, IsInstrOver, Mirrors, AreThere, goes_same, faults_same}
+use Rattle.pk_visits.proofs.NumberedStores.{Naming, IsNaming, Mirrors, AreThere, goes_same, faults_same}
 use Rattle.pk_visits.proofs.NumberedCopies.{renamed_edge, HasOtherWay, IsCopy, visits_same}
 
 -- ---- objects that are there

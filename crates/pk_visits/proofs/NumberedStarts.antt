@@ -1,7 +1,7 @@
 -- Where runs of a numbered graph begin, and where those of the graph over slots do.
-use Rattle.std.proofs.Common.{◌≡◌, ℕ, zero, suc, ◌<◌, ◌-◌, List, [], ◌∷◌, ◌++◌, length, refl, sym, ap, ◌∙◌, subst, arith, pos, slice_index_or, replicate}
+use Rattle.std.proofs.Common.{◌≡◌, ℕ, zero, suc, ◌<◌, ◌-◌, List, [], ◌∷◌, length, refl, sym, ap, subst, arith, pos, slice_index_or, replicate}
 use Rattle.pk_graph.specs.Kinds.{count_of}
-use Rattle.pk_graph.specs.Graphs.{PathOf, VariableOf, StartOf, number_start, no_variable, variable_at}
+use Rattle.pk_graph.specs.Graphs.{PathOf, VariableOf, number_start, no_variable}
 use Rattle.pk_graph.specs.Steps.{Numbers, number_at}
 use Rattle.pk_graph.specs.Stores.{Stored, numbers_of}
 use Rattle.pk_draft.specs.Drafts.{DraftOf}

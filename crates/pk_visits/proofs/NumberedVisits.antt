@@ -1,12 +1,11 @@
 -- Where each step of a program is answered by a graph over slots, the numbered graph that is its copy has each run's visits and failure.
-use Rattle.std.proofs.Common.{◌≡◌, ℕ, List, [], ◌∷◌, length, refl, sym, ap, ◌∙◌, subst}
+use Rattle.std.proofs.Common.{◌≡◌, ℕ, List, [], ◌∷◌, length, sym, ap, ◌∙◌, subst}
 use Rattle.std.specs.Prelude.{Option, Some, None}
 use Rattle.pk_graph.specs.Graphs.{PathOf, GraphOf}
 use Rattle.pk_graph.specs.Steps.{Numbers, Failure}
 use Rattle.pk_graph.specs.Stores.{Stored}
 use Rattle.pk_draft.specs.Drafts.{DraftOf}
 use Rattle.pk_number.specs.Numbering.{entry_point, numbered}
-use Rattle.pk_meaning.specs.Objects.{Objects}
 use Rattle.pk_meaning.specs.Steps.{Config}
 use Rattle.pk_meaning.specs.Runs.{Visit, visit_of, start}
 use Rattle.pk_visits.specs.GraphVisits.{GraphRuns, visit_at, ends, steps}

@@ -197,11 +197,11 @@ items_adds C c i j (tree.value_before e es) d h =
     grows_trans ((values C c e (front_called C c (calls_in e) (calls_in_values es) h)).value d) (grows_trans (emit_grows C _ r.1)
     (items_adds C c i (j + 1) es (item c i j (type_of e) (ways c e) d) (back_called C c (calls_in e) (calls_in_values es) h)))
 
-scalar_first_grows : (C : ℕ → Type 0) (c : Context) (i : ℕ) (e : Option ValueTree) (d : Draft) → AllCalled C c (calls_if e) → Grows C d (statements.scalar_first c i e d)
+pub scalar_first_grows : (C : ℕ → Type 0) (c : Context) (i : ℕ) (e : Option ValueTree) (d : Draft) → AllCalled C c (calls_if e) → Grows C d (statements.scalar_first c i e d)
 scalar_first_grows C c i None d h = emit_grows C _ d
 scalar_first_grows C c i (Some e) d h = grows_trans ((values C c e h).value d) (emit_grows C _ ((ways c e).value d).1)
 
-array_first_grows : (C : ℕ → Type 0) (c : Context) (i : ℕ) (es : Option ValueTrees) (d : Draft) → AllCalled C c (calls_in_values_if es) → Grows C d (statements.array_first c i es d)
+pub array_first_grows : (C : ℕ → Type 0) (c : Context) (i : ℕ) (es : Option ValueTrees) (d : Draft) → AllCalled C c (calls_in_values_if es) → Grows C d (statements.array_first c i es d)
 array_first_grows C c i None d h = emit_grows C _ d
 array_first_grows C c i (Some es) d h = grows_trans (emit_grows C (Clear (array_of c (Local i) d)) d) (items_adds C c i 0 es (emit (Clear (array_of c (Local i) d)) d) h)
 
@@ -283,7 +283,7 @@ for_adds ms C p test third s x ht h3 hs b k e d =
 
 -- ---- switches
 
-case_adds : (ms : List ℕ) (C : ℕ → Type 0) (s : Site) (t : IntType) (r : SlotTree) (zs : List ℤ) (p : ℕ) (d : Draft) → Adds ms C d (case_tests s t r zs p d)
+pub case_adds : (ms : List ℕ) (C : ℕ → Type 0) (s : Site) (t : IntType) (r : SlotTree) (zs : List ℤ) (p : ℕ) (d : Draft) → Adds ms C d (case_tests s t r zs p d)
 unfolding case_tests
 case_adds ms C s t r [] p d = nothing_adds ms C d
 case_adds ms C s t r (z ∷ zs) p d =

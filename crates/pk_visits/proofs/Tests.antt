@@ -21,7 +21,7 @@ use Rattle.pk_visits.proofs.Values.{conversion_value}
 use Rattle.pk_visits.proofs.Follow.{now, Answers, config, still, moved}
 
 -- a guard that passes
-passes : (chosen : Numbers) (e : SlotTree) (v : ℤ) (sense : Bool) (m : Memory) → tree_value memory e m ≡ Ok v → is_true v ≡ sense → effect memory chosen (Guard e sense) m ≡ steps.To m
+pub passes : (chosen : Numbers) (e : SlotTree) (v : ℤ) (sense : Bool) (m : Memory) → tree_value memory e m ≡ Ok v → is_true v ≡ sense → effect memory chosen (Guard e sense) m ≡ steps.To m
 passes chosen e v true m k t = ap (λ r. with_value r (λ w. steps.passed (is_true w) true m)) k ∙ ap (λ b. steps.passed b true m) t
 passes chosen e v false m k t = ap (λ r. with_value r (λ w. steps.passed (is_true w) false m)) k ∙ ap (λ b. steps.passed b false m) t
 
