@@ -1,12 +1,18 @@
 // Laws of existence: reports, orders, replies, answers.
 
 ghost use Rattle.pk_answered.specs.Analyses.{EveryGraphIsOrdered, EveryGraphIsReported, EveryGraphIsSummed};
+ghost use Rattle.pk_answered.specs.Rooms.{ShortGraphsHaveRoom};
 ghost use Rattle.pk_answered.specs.Answers.{CommandsAreAnswered, OrdersAreAnswered, WordsAreAnswered, WordsForOrdersAreAnswered};
 
 use pk_command::taken_asks;
 use pk_exists::every_digraph_has_an_order;
 use pk_top::graphs_are_well_made;
 use pk_total::every_text_ends;
+
+/// Memory has room for every graph with no list as long as 2^63.
+pub fn short_graphs_have_room()
+    ensures { ShortGraphsHaveRoom }
+{}
 
 /// Every graph has an order.
 pub fn every_graph_is_ordered()
