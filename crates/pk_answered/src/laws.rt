@@ -2,7 +2,7 @@
 
 ghost use Rattle.pk_answered.specs.Analyses.{EveryGraphIsOrdered, EveryGraphIsReported, EveryGraphIsSummed};
 ghost use Rattle.pk_answered.specs.Rooms.{ShortGraphsHaveRoom};
-ghost use Rattle.pk_answered.specs.Answers.{CommandsAreAnswered, OrdersAreAnswered, WordsAreAnswered, WordsForOrdersAreAnswered};
+ghost use Rattle.pk_answered.specs.Answers.{CommandsAreAnswered, OrdersAreAnswered, ShortGraphsAreAnswered, WordsAreAnswered, WordsForOrdersAreAnswered};
 
 use pk_command::taken_asks;
 use pk_exists::every_digraph_has_an_order;
@@ -68,4 +68,13 @@ pub fn words_for_orders_are_answered()
     ensures { WordsForOrdersAreAnswered }
 {
     orders_are_answered();
+}
+
+/// So have words and a text whose graphs have no list as long as 2^63.
+pub fn short_graphs_are_answered()
+    ensures { ShortGraphsAreAnswered }
+{
+    words_are_answered();
+    short_graphs_have_room();
+    graphs_are_well_made();
 }
