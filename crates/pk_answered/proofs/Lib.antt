@@ -1,3 +1,4 @@
+mod Rooms
 mod Stops
 mod Analysing
 mod Replying

@@ -8,6 +8,7 @@ use Rattle.pk_front.specs.declared.status.Status.{Status}
 use Rattle.pk_graph.specs.Graphs.{GraphOf}
 use Rattle.pk_top.specs.Answers.{HasGraph, IsReply, IsAnswer}
 use Rattle.pk_answered.specs.Analyses.{HasRoom}
+use Rattle.pk_answered.specs.Rooms.{IsShortGraph}
 
 -- memory has room for the text's graph, whatever its runs begin with
 abbrev pub GraphsHaveRoom : List ℕ → Type 0
@@ -39,3 +40,10 @@ WordsAreAnswered = (words : List (List ℕ)) (text : List ℕ) → GraphsHaveRoo
 -- words that ask for an order, whatever the text
 abbrev pub WordsForOrdersAreAnswered : Type 0
 WordsForOrdersAreAnswered = (words : List (List ℕ)) (text : List ℕ) (o : OrderOptions) → AsksFor words (Order o) → HasAnswer words text
+
+-- no graph of the text has a list as long as 2^63
+abbrev pub GraphsAreShort : List ℕ → Type 0
+GraphsAreShort text = (entry : List ℕ) (g : GraphOf) → HasGraph text entry g → IsShortGraph g
+
+abbrev pub ShortGraphsAreAnswered : Type 0
+ShortGraphsAreAnswered = (words : List (List ℕ)) (text : List ℕ) → GraphsAreShort text → HasAnswer words text

@@ -1,2 +1,3 @@
 pub mod Analyses
 pub mod Answers
+pub mod Rooms

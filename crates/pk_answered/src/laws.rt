@@ -1,12 +1,18 @@
 // Laws of existence: reports, orders, replies, answers.
 
 ghost use Rattle.pk_answered.specs.Analyses.{EveryGraphIsOrdered, EveryGraphIsReported, EveryGraphIsSummed};
-ghost use Rattle.pk_answered.specs.Answers.{CommandsAreAnswered, OrdersAreAnswered, WordsAreAnswered, WordsForOrdersAreAnswered};
+ghost use Rattle.pk_answered.specs.Rooms.{ShortGraphsHaveRoom};
+ghost use Rattle.pk_answered.specs.Answers.{CommandsAreAnswered, OrdersAreAnswered, ShortGraphsAreAnswered, WordsAreAnswered, WordsForOrdersAreAnswered};
 
 use pk_command::taken_asks;
 use pk_exists::every_digraph_has_an_order;
 use pk_top::graphs_are_well_made;
 use pk_total::every_text_ends;
+
+/// Memory has room for every graph with no list as long as 2^63.
+pub fn short_graphs_have_room()
+    ensures { ShortGraphsHaveRoom }
+{}
 
 /// Every graph has an order.
 pub fn every_graph_is_ordered()
@@ -62,4 +68,13 @@ pub fn words_for_orders_are_answered()
     ensures { WordsForOrdersAreAnswered }
 {
     orders_are_answered();
+}
+
+/// So have words and a text whose graphs have no list as long as 2^63.
+pub fn short_graphs_are_answered()
+    ensures { ShortGraphsAreAnswered }
+{
+    words_are_answered();
+    short_graphs_have_room();
+    graphs_are_well_made();
 }

@@ -5,5 +5,6 @@ mod laws;
 
 pub use laws::{
     commands_are_answered, every_graph_is_ordered, every_graph_is_reported, every_graph_is_summed,
-    orders_are_answered, words_are_answered, words_for_orders_are_answered,
+    orders_are_answered, short_graphs_are_answered, short_graphs_have_room, words_are_answered,
+    words_for_orders_are_answered,
 };
