@@ -1,5 +1,5 @@
 -- The analysis of a graph, and how it ends.
-use Rattle.std.proofs.Common.{◌≡◌, ◌⊎◌, inl, inr, ℕ, zero, suc, ◌+◌, ◌*◌, ◌<◌, ◌≤◌, ◌^◌, Bool, List, [], ◌∷◌, ◌++◌, length, map, refl, sym, ap, subst, ◌∙◌, arith, zero-add, Contains, All}
+use Rattle.std.proofs.Common.{◌≡◌, ◌⊎◌, inl, inr, ℕ, zero, suc, ◌+◌, ◌*◌, ◌<◌, ◌^◌, List, [], ◌∷◌, ◌++◌, length, map, refl, sym, ap, subst, ◌∙◌, arith, zero-add, Contains, All}
 use Rattle.std.specs.Prelude.{take}
 use Rattle.std.specs.List.{slice_index_or, range_with_len}
 use Rattle.std.proofs.lemmas.List.{map-append, length-map, get_or-map}
@@ -11,7 +11,7 @@ use Rattle.pk_graph.specs.WellMade.{IsGraph, IsPointOf, IsEdgeOf}
 use Rattle.pk_state.specs.Facts.{Stated}
 use Rattle.pk_transfer.specs.Graphs.{layout_of}
 use Rattle.pk_plan.specs.declared.places.Place.{Place}
-use Rattle.pk_plan.specs.declared.places.Role.TheVariants.{Vertex, Head, Exit}
+use Rattle.pk_plan.specs.declared.places.Role.TheVariants.{Exit}
 use Rattle.pk_plan.specs.Digraphs.{IsClosed}
 use Rattle.pk_plan.specs.Order.{Level, Empty, Vertex_then, Component_then, places_of}
 use Rattle.pk_plan.specs.Plans.{PlanView}
@@ -36,7 +36,7 @@ use Rattle.pk_analysis.specs.Flows.{Flow, equations_of, reduced_cell}
 use Rattle.pk_analysis.specs.Made.{IsAnalysisOf}
 use Rattle.pk_analysis.specs.Parts.{part_in, AreParts}
 use Rattle.pk_report.specs.Reports.{report_text, summary_text, unknown_in}
-use Rattle.pk_answer.specs.Reported.{AreStates, IsReport, IsSummary, IsOver, verdicts_of}
+use Rattle.pk_answer.specs.Reported.{AreStates, IsOver, verdicts_of}
 use Rattle.pk_answered.specs.Analyses.{HasRoom, EveryGraphIsReported, EveryGraphIsSummed, EveryGraphIsOrdered}
 use Rattle.pk_answered.proofs.Stops.{thresholds_of, are_thresholds}
 

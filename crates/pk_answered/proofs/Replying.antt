@@ -1,11 +1,10 @@
 -- From the end of a text to the reply, and from the words to the answer.
-use Rattle.std.proofs.Common.{◌≡◌, ◌≢◌, ◌⊎◌, inl, inr, ℕ, ◌<◌, ◌≤◌, ◌++◌, Bool, true, false, List, [], length, codes, refl, sym, subst, IsTrue}
+use Rattle.std.proofs.Common.{◌≢◌, ◌⊎◌, inl, inr, ℕ, ◌++◌, List, [], length, codes, refl}
 use Rattle.std.proofs.lemmas.Bool.{cases_Bool, cases_lt}
 use Rattle.pk_ctypes.specs.declared.words.Quantity.TheVariants.{Points, Text}
 use Rattle.pk_command.specs.declared.asked.Command.{Command}
 use Rattle.pk_command.specs.declared.asked.Command.TheVariants.{Run, Order, Gen}
 use Rattle.pk_command.specs.declared.asked.RunOptions.{RunOptions}
-use Rattle.pk_command.specs.declared.asked.OrderOptions.{OrderOptions}
 use Rattle.pk_command.specs.declared.asked.GenOptions.{GenOptions}
 use Rattle.pk_command.specs.CommandLine.{is_taken}
 use Rattle.pk_command.specs.Laws.{TakenAsks}
@@ -17,8 +16,8 @@ use Rattle.pk_total.specs.Ends.{EveryTextEnds}
 use Rattle.pk_lower.specs.Parts.{point_count}
 use Rattle.pk_graph.specs.Graphs.{GraphOf}
 use Rattle.pk_top.specs.Answers.{HasGraph, GraphsAreWellMade, IsShort, IsLong, entry_of, graph_of, text_limit, point_limit, options_of, default_options, default_runs}
-use Rattle.pk_answered.specs.Analyses.{HasRoom, EveryGraphIsReported, EveryGraphIsSummed, EveryGraphIsOrdered}
-use Rattle.pk_answered.specs.Answers.{GraphsHaveRoom, HasReply, HasAnswer, OrdersAreAnswered, CommandsAreAnswered, WordsAreAnswered, WordsForOrdersAreAnswered}
+use Rattle.pk_answered.specs.Analyses.{EveryGraphIsReported, EveryGraphIsSummed, EveryGraphIsOrdered}
+use Rattle.pk_answered.specs.Answers.{GraphsHaveRoom, HasReply, OrdersAreAnswered, CommandsAreAnswered, WordsAreAnswered, WordsForOrdersAreAnswered}
 
 short_or_long : (command : Command) (text : List ℕ) → IsShort text command ⊎ IsLong text command
 short_or_long (Run o) text = elim (cases_lt text_limit (length text)) [ inl long ↦ inr long | inr short ↦ inl short ]

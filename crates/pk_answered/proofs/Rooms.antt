@@ -1,29 +1,21 @@
 -- Values that show graphs.
-use Rattle.std.proofs.Common.{◌≡◌, append-nil, append_assoc, ℕ, suc, ◌+◌, ◌<◌, ◌≤◌, ◌^◌, List, [], ◌∷◌, ◌++◌, length, map, refl, sym, ap, ap₂, subst, ◌∙◌, arith, All, Vec, Box, Global, get_or}
+use Rattle.std.proofs.Common.{◌≡◌, append-nil, append_assoc, ℕ, ◌+◌, ◌<◌, ◌^◌, List, [], ◌∷◌, ◌++◌, length, map, refl, sym, ap, ap₂, subst, ◌∙◌, arith, All, Vec, Box, Global}
 use Rattle.std.specs.List.{slice_index_or}
 use Rattle.std.proofs.lemmas.List.{length-map, length-append, get_or_append_left, get_or_push, length_push}
 use Rattle.std.proofs.lemmas.List.Elements.{All-head, All-tail}
 use denote.RawPtr.{null_ptr}
-use Rattle.pk_graph.specs.declared.graphs.Graph.{Graph}
-use Rattle.pk_graph.specs.declared.graphs.Path.{Path}
-use Rattle.pk_graph.specs.declared.graphs.Start.{Start}
 use Rattle.pk_graph.specs.declared.graphs.Start.TheVariants as starts
-use Rattle.pk_graph.specs.declared.graphs.Variable.{Variable}
 use Rattle.pk_graph.specs.declared.graphs.Scope.{Scope}
 use Rattle.pk_graph.specs.declared.graphs.Edge.{Edge}
 use Rattle.pk_graph.specs.declared.graphs.Point.{Point}
-use Rattle.pk_graph.specs.declared.trees.Tree.{Tree}
 use Rattle.pk_graph.specs.declared.trees.Tree.TheVariants as trees
 use Rattle.pk_graph.specs.declared.instructions.Array.{Array}
-use Rattle.pk_graph.specs.declared.instructions.Instr.{Instr}
 use Rattle.pk_graph.specs.declared.instructions.Instr.TheVariants as instructions
-use Rattle.pk_graph.specs.Graphs.{graph_of, PathOf, StartOf, any_start, number_start, VariableOf, EdgeOf, PointOf, GraphOf, path_view, start_view, variable_view, edge_view, point_view, chained}
+use Rattle.pk_graph.specs.Graphs.{graph_of, PathOf, StartOf, any_start, number_start, VariableOf, EdgeOf, PointOf, path_view, start_view, variable_view, edge_view, point_view, chained}
 use Rattle.pk_graph.specs.Trees as tree
 use Rattle.pk_graph.specs.Trees.{TreeOf, ArrayOf, InstrOf}
-use Rattle.pk_graph.specs.Shown.{graph_view}
-use Rattle.pk_graph.specs.Views.{tree_view, array_view, instr_view}
+use Rattle.pk_graph.specs.Views.{tree_view, instr_view}
 use Rattle.pk_graph.specs.WellMade.{IsGraph}
-use Rattle.pk_answered.specs.Analyses.{HasRoom}
 use Rattle.pk_answered.specs.Rooms.{IsShortStart, names_in_scope, ShortGraphsHaveRoom}
 
 heap : Global

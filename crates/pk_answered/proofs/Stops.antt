@@ -1,5 +1,5 @@
 -- Numbers in rising order, each once: the thresholds of a graph.
-use Rattle.std.proofs.Common.{◌≡◌, ◌⊎◌, inl, inr, ℕ, ◌+◌, ◌<◌, ℤ, List, [], ◌∷◌, refl, sym, ap, subst, ◌∙◌, arith, Contains, int_cmp, is_lt, get_or}
+use Rattle.std.proofs.Common.{◌≡◌, ◌⊎◌, inl, inr, ◌+◌, ℤ, List, [], ◌∷◌, refl, sym, ap, subst, ◌∙◌, arith, Contains, int_cmp, is_lt, get_or}
 use Rattle.std.specs.Ordering.{ordering_reverse}
 use Rattle.std.specs.declared.cmp.Ordering.{Ordering}
 use Rattle.std.specs.declared.cmp.Ordering.TheVariants.{Less, Equal, Greater}

@@ -1,7 +1,7 @@
 -- Words and a text have an answer.
 use Rattle.std.specs.Prelude.{ℕ, List}
 use Rattle.pk_command.specs.declared.asked.Command.{Command}
-use Rattle.pk_command.specs.declared.asked.Command.TheVariants.{Run, Order, Gen}
+use Rattle.pk_command.specs.declared.asked.Command.TheVariants.{Order}
 use Rattle.pk_command.specs.declared.asked.OrderOptions.{OrderOptions}
 use Rattle.pk_command.specs.Given.{AsksFor}
 use Rattle.pk_front.specs.declared.status.Status.{Status}
