@@ -55,25 +55,25 @@ pub drafts_are_typed : DraftsAreTyped
 drafts_are_typed u entry paths h has l are few =
     let b = listings_lead_behind u entry paths has l are (calls_are_noted u h) in
     let d0 = begins u paths in
-    let D0 = program_draft by_number u paths in
+    let whole = program_draft by_number u paths in
     let m = (whole_size (sizes_of u paths) paths).variables in
     let k0 = first_many u paths in
-    let W0 = world u paths (kinds_of d0.made) in
+    let first_world = world u paths (kinds_of d0.made) in
     let c0 = counted u entry paths (kinds_of d0.made) l (length-map d0.made (λ (x : VariableOf). x.kind) ∙ k0) in
-    let all0 = wholes W0 (lasting u paths d0.made b k0 (λ y q. refl)) 0 1 paths (listing_paths W0 entry h l b) d0 (first_plan W0 c0) in
-    let many : length D0.made ≡ length u.objects + m = all0.many ∙ (length-map d0.made (λ (x : VariableOf). x.kind) ∙ k0) in
-    let W = world u paths (kinds_of D0.made) in
-    let c = counted u entry paths (kinds_of D0.made) l (length-map D0.made (λ (x : VariableOf). x.kind) ∙ many) in
-    let all = wholes W (lasting u paths D0.made b many (λ y q. all0.part.low y q)) 0 1 paths (listing_paths W entry h l b) d0 (first_plan W c) in
-    let known = foreknown W 1 d0 D0 refl all in
+    let first_all = wholes first_world (lasting u paths d0.made b k0 (λ y q. refl)) 0 1 paths (listing_paths first_world entry h l b) d0 (first_plan first_world c0) in
+    let many : length whole.made ≡ length u.objects + m = first_all.many ∙ (length-map d0.made (λ (x : VariableOf). x.kind) ∙ k0) in
+    let W = world u paths (kinds_of whole.made) in
+    let c = counted u entry paths (kinds_of whole.made) l (length-map whole.made (λ (x : VariableOf). x.kind) ∙ many) in
+    let all = wholes W (lasting u paths whole.made b many (λ y q. first_all.part.low y q)) 0 1 paths (listing_paths W entry h l b) d0 (first_plan W c) in
+    let known = foreknown W 1 d0 whole refl all in
     let t = all.part.typed known (first_typed W c h.objects) in
     let big : 2147483648 ≡ 2 ^ 31 = refl in
-    let labels : length D0.labels ≡ (whole_size (sizes_of u paths) paths).points + 2 = t.labels.many in
+    let labels : length whole.labels ≡ (whole_size (sizes_of u paths) paths).points + 2 = t.labels.many in
     record {
       entry = omega (labels, arith);
       few = omega (labels, few, big, arith);
       labels = t.labels.paths;
-      scopes = subst (λ (n : ℕ). All (λ (s : Scope). s.variable < n) D0.scopes) (length-map D0.made (λ (x : VariableOf). x.kind)) t.scopes;
+      scopes = subst (λ (n : ℕ). All (λ (s : Scope). s.variable < n) whole.scopes) (length-map whole.made (λ (x : VariableOf). x.kind)) t.scopes;
       starts = t.starts;
-      edges = all_map (EdgeIs (base W)) (IsTypedEdge D0) D0.edges (typed_edge D0 W refl labels) t.edges;
+      edges = all_map (EdgeIs (base W)) (IsTypedEdge whole) whole.edges (typed_edge whole W refl labels) t.edges;
     }
