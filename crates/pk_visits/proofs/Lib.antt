@@ -1,4 +1,5 @@
 mod Slots
+mod Settled
 mod Grows
 mod Growing
 mod Values

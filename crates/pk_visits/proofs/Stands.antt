@@ -32,6 +32,7 @@ use Rattle.pk_meaning.specs.Programs.{Program, function_number, function_of, blo
 use Rattle.pk_meaning.specs.Work as work
 use Rattle.pk_meaning.specs.Work.{Place, Loop, While, DoWhile, For, Way, Onward, Refused, Lost, Caller, Nobody, Path, Ahead, Rest, Join, Again, Close, End, Work, Go, Do, Declare, Perform, Evaluate, Test, Keep, Branch, Apply, Operate, Convert, Settle, Truth, Drop, Assign, Put, Update, Advance, Fetch, Reload, StoreKept, Renew, Renewed, Replace, Fill, Item, Claim, Pass, Bind, Enter, Leave, Return, Turn, Back, Choose}
 use Rattle.pk_meaning.specs.Steps.{Config, place, body_place}
+use Rattle.pk_visits.proofs.Settled.{Final}
 use Rattle.pk_visits.proofs.Slots.{Slot, own, temporary, slots, Draft, SlotTree, Instr, Edge, edge, Memory, memory, Among, label_at, region_at, Scoping, Extends}
 
 -- A graph over slots, its points' labels and its paths' regions; the sizes of functions, and of each path the one by its function's first call; when a label is a path's place.
@@ -44,6 +45,9 @@ pub record Whole : Type 1 where
   pub regions : List Region
   pub scopes : Scoping
   pub shows : Label → ℕ → Place → Type 0
+  -- of each path the variable of each of its objects, and how many points its region has
+  pub numbers : (path object : ℕ) → ℕ
+  pub spans : ℕ → ℕ
 
 -- in which context a path is lowered
 abbrev pub context_of : Whole → ℕ → Context
@@ -55,6 +59,10 @@ context_of g k = record {
   returns = (function_of g.program k).returns;
   sizes = g.sizes;
 }
+
+-- what is known in the end of a path
+abbrev pub final : Whole → ℕ → Final
+final g k = record { numbers = g.numbers k; labels = g.labels }
 
 -- the point is at the path's place
 abbrev pub ShowsAt : Whole → ℕ → ℕ → Place → Type 0
