@@ -1,5 +1,5 @@
 -- Declarations and marks in a tree as it is lowered from a draft: each object has the variable that the graph says of it, each mark's point the label that it gets here.
-use Rattle.std.specs.Prelude.{◌≡◌, ℕ, ◌+◌, List, [], ◌∷◌, length}
+use Rattle.std.specs.Prelude.{◌≡◌, ℕ, ◌+◌, ◌<◌, List, [], ◌∷◌, length}
 use Rattle.pk_typed.specs.Trees.{ValueTree, EffectTree, DeclaredTree, ForStartTree, StatementTree, ItemTrees}
 use Rattle.pk_typed.specs.Trees as tree
 use Rattle.pk_draft.specs.declared.drafts.Label.{Label}
@@ -12,8 +12,9 @@ use Rattle.pk_lower_statement.specs.Statements.{inside, in_switch, branching, lo
 use Rattle.pk_meaning.specs.Work.{Loop, While, DoWhile, For}
 use Rattle.pk_visits.proofs.Slots.{Slot, Draft, label_at}
 
--- what is known in the end of a path: the variable of each of its objects, the label of each point
+-- what is known in the end of a path: how many objects it declares, the variable of each, the label of each point
 pub record Final : Type 0 where
+  pub objects : ℕ
   pub numbers : ℕ → ℕ
   pub labels : List Label
 
@@ -21,10 +22,13 @@ pub record Final : Type 0 where
 abbrev pub IsMarkedAt : Final → ℕ → Draft → Type 0
 IsMarkedAt o p d = label_at o.labels p ≡ d.here
 
--- the next object is this one
+-- the next variable is the declared object's
+abbrev pub IsNext : Final → ℕ → Draft → Type 0
+IsNext o i d = (i < o.objects) × (o.numbers i ≡ d.variables)
+
 abbrev pub IsSettled : Final → DeclaredTree → Draft → Type 0
-IsSettled o (tree.scalar_object i q e) d = o.numbers i ≡ d.variables
-IsSettled o (tree.array_object i q es) d = o.numbers i ≡ d.variables
+IsSettled o (tree.scalar_object i q e) d = IsNext o i d
+IsSettled o (tree.array_object i q es) d = IsNext o i d
 
 unfoldable pub AreAllSettled : Final → Context → List DeclaredTree → Draft → Type 0
 AreAllSettled o c [] d = Unit {0}

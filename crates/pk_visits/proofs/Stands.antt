@@ -45,7 +45,8 @@ pub record Whole : Type 1 where
   pub regions : List Region
   pub scopes : Scoping
   pub shows : Label → ℕ → Place → Type 0
-  -- of each path the variable of each of its objects, and how many points its region has
+  -- of each path how many objects it declares, the variable of each, and how many points its region has
+  pub objects : ℕ → ℕ
   pub numbers : (path object : ℕ) → ℕ
   pub spans : ℕ → ℕ
 
@@ -62,7 +63,7 @@ context_of g k = record {
 
 -- what is known in the end of a path
 abbrev pub final : Whole → ℕ → Final
-final g k = record { numbers = g.numbers k; labels = g.labels }
+final g k = record { objects = g.objects k; numbers = g.numbers k; labels = g.labels }
 
 -- the point is at the path's place
 abbrev pub ShowsAt : Whole → ℕ → ℕ → Place → Type 0
@@ -139,6 +140,9 @@ pub record Proper (g : Whole) : Type 0 where
   -- the position of a label may change
   pub positions : (l : Label) (k : ℕ) (xs : Scope) (q : Pos) → g.shows l k (place l.at xs) → g.shows (record { at = q; path = l.path; scope = l.scope }) k (place q xs)
   pub scopes : (l : Label) (k m i : ℕ) (h : Place) → g.shows l k h → k < m → is_in_scope (local m i) h.scope ≡ false
+  -- the name of an object comes into scope
+  pub enters : (l : Label) (k i n : ℕ) (h : Place) → g.shows l k h → k < length g.program.paths → i < g.objects k → slice_get g.scopes n ≡ Some (record { variable = g.numbers k i; outer = l.scope })
+      → g.shows (record { at = l.at; path = l.path; scope = n + 1 }) k (place h.at (local k i ∷ h.scope))
   pub parameters : (m i : ℕ) (t : IntType) → m < length g.program.paths → slice_get (function_of g.program m).parameters i ≡ Some t → HasKind g.program (local m i) (scalar t)
 
 -- ---- values that wait
