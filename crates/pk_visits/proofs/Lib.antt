@@ -52,3 +52,5 @@ mod NumberedExpressions
 mod NumberedStatements
 mod NumberedLoops
 mod NumberedSwitches
+mod NumberedForLoops
+mod NumberedParts
