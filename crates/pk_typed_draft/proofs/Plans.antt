@@ -94,10 +94,10 @@ pub record PathIs (W : World) (k n : ℕ) (p : CallPath) : Type 0 where
 pub function_is : (W : World) (k : ℕ) (p : CallPath) → slice_get W.paths k ≡ Some p → function_of W k ≡ p.function
 function_is W k p h = ap (λ (q : CallPath). q.function) (get_or_from_slice_get W.paths k p (entry_path 0) h)
 
-its_function : (u : UnitTree) (f : ℕ) (g : FunctionTree) → slice_get u.functions f ≡ Some g → part.function_at u f ≡ g
+pub its_function : (u : UnitTree) (f : ℕ) (g : FunctionTree) → slice_get u.functions f ≡ Some g → part.function_at u f ≡ g
 its_function u f g h = get_or_from_slice_get u.functions f g part.no_function h
 
-its_body : (u : UnitTree) (f : ℕ) (g : FunctionTree) (b : BodyTree) → slice_get u.functions f ≡ Some g → g.body ≡ Some b → calls.body_of u f ≡ Some b
+pub its_body : (u : UnitTree) (f : ℕ) (g : FunctionTree) (b : BodyTree) → slice_get u.functions f ≡ Some g → g.body ≡ Some b → calls.body_of u f ≡ Some b
 unfolding calls.body_of
 its_body u f g b h k = ap (option_and_then (λ (x : FunctionTree). x.body)) h ∙ k
 
