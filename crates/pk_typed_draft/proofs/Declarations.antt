@@ -1,5 +1,5 @@
 -- Well-typed declarations are lowered typed.
-use Rattle.std.proofs.Common.{◌≡◌, false, ℕ, ◌+◌, ◌<◌, ◌≤◌, List, [], ◌∷◌, Option, Some, None, length, refl, ap, sym, subst, ◌∙◌, arith}
+use Rattle.std.proofs.Common.{◌≡◌, inl, inr, false, ℕ, ◌+◌, ◌<◌, ◌≤◌, List, [], ◌∷◌, Option, Some, None, length, refl, ap, sym, subst, ◌∙◌, arith}
 use Rattle.std.proofs.lemmas.Int.{ints}
 use Rattle.std.proofs.lemmas.Option.{none-some, get_or_from_slice_get}
 use Rattle.std.specs.Prelude.{pos, slice_get, unwrap_or}
@@ -11,6 +11,7 @@ use Rattle.pk_typed.specs.declared.values.Variable.TheVariants.{Local}
 use Rattle.pk_typed.specs.Trees.{ValueTree, ValueTrees, DeclaredTree, LocalTree}
 use Rattle.pk_typed.specs.Trees as tree
 use Rattle.pk_typed.specs.Types.{type_of}
+use Rattle.pk_graph.specs.Graphs.{VariableOf}
 use Rattle.pk_graph.specs.Kinds.{Kind, count_of}
 use Rattle.pk_typed_draft.proofs.Tables.{IsOfType}
 use Rattle.pk_graph.specs.Trees.{constant, variable, Havoc, Clear, Store}
@@ -23,7 +24,7 @@ use Rattle.pk_lower_statement.specs.Statements as form
 use Rattle.pk_welltyped.specs.Listed.{calls_in, calls_in_values, calls_in_declared, calls_in_all_declared}
 use Rattle.pk_welltyped.specs.WellTyped as good
 use Rattle.pk_welltyped.specs.WellTyped.{IsValue, AreValues, kind_among, HasRoom, IsDeclared, AreDeclared}
-use Rattle.pk_typed_draft.proofs.Places.{D, Place, Has, Stage, Typed, Proper, Step}
+use Rattle.pk_typed_draft.proofs.Places.{D, Place, Has, IsObjectOf, Stage, Typed, Proper, Step}
 use Rattle.pk_typed_draft.proofs.Verbs.{with_objects, object_step}
 use Rattle.pk_typed_draft.proofs.Trees.{constant_is, conversion_is}
 use Rattle.pk_typed_draft.proofs.Rows.{Works, HasArray, array_is, type_is, store_is, inner_start, idle, seen, then_emit, knowing}
@@ -42,17 +43,20 @@ local_type w i k e = known (slice_get w.context.locals i) refl e
     known None is e = absurd (none-some k e)
     known (Some x) is e = ap (λ (l : LocalTree). l.int_type) (get_or_from_slice_get w.context.locals i x no_local is) ∙ ap (λ (q : Option good.Kind). (unwrap_or q k).int_type) e
 
--- the kind of a local as the lowering looks it up
-local_kind : (w : Place) (i : ℕ) (k : good.Kind) → kind_among w.context.locals i ≡ Some k → kind_among w.context.locals i ≡ Some (record { int_type = (local_at w.context i).int_type; length = (local_at w.context i).length })
-local_kind w i k e =
-    e ∙ (ap (λ (t : IntType). Some (record { int_type = t; length = k.length })) (sym (local_type w i k e)) ∙ ap (λ (n : Option ℕ). Some (record { int_type = (local_at w.context i).int_type; length = n })) (sym (local_length w i k e)))
+-- an object's variable has its kind
+pub object_kind : (w : Place) (i : ℕ) (k : good.Kind) (x : VariableOf) → kind_among w.context.locals i ≡ Some k → IsObjectOf w i x → x.kind ≡ record { int_type = k.int_type; length = k.length }
+object_kind w i k x e b =
+    let y = local_at w.context i in
+    let same : record { int_type = y.int_type; length = y.length } ≡ record { int_type = k.int_type; length = k.length } =
+    ap (λ (t : IntType). record { int_type = t; length = y.length }) (local_type w i k e) ∙ ap (λ (n : Option ℕ). record { int_type = k.int_type; length = n }) (local_length w i k e) in
+    elim b [ inl is ↦ ap (λ (v : VariableOf). v.kind) is ∙ same | inr is ↦ ap (λ (v : VariableOf). v.kind) is.1 ∙ same ]
 
 -- the next object comes into scope
 pub introduced_step : (w : Place) → Proper w → (m : ℕ) (s : Stage) (k : good.Kind) → kind_among w.context.locals s.objects ≡ Some k → (d : D w) → Step w m m s (more 1 s) d (form.introduced w.context s.objects d) (Unit {0}) (Unit {0})
 introduced_step w g m s k e d =
     let x = local_at w.context s.objects in
     let v = inner x.name x.int_type x.length w.context.path in
-    chain (object_step w g m s v d refl (inner_start x.name x.int_type x.length w.context.path) (local_kind w s.objects k e)) (named_step w m (more 1 s) x.name d.variables (with_object s.objects v d))
+    chain (object_step w g m s v d refl (inner_start x.name x.int_type x.length w.context.path) k e (inl refl)) (named_step w m (more 1 s) x.name d.variables (with_object s.objects v d))
 
 -- object i, which is declared
 there : (w : Place) → Proper w → (s : Stage) (i : ℕ) (k : good.Kind) → i < s.objects → kind_among w.context.locals i ≡ Some k → (d : D w) → Typed w s d → Has w.table (own w.context i d) k.int_type k.length

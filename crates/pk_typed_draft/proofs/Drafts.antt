@@ -24,8 +24,9 @@ use Rattle.pk_typed_draft.proofs.Tables.{IsTypedInstr, numbers, numbered_instr}
 use Rattle.pk_typed_draft.proofs.Noted.{calls_are_noted}
 use Rattle.pk_typed_draft.proofs.Places.{Ends, EdgeIs, ResultIs, own_number, region_at, variable_in}
 use Rattle.pk_typed_draft.proofs.Parts.{made_part}
-use Rattle.pk_typed_draft.proofs.Plans.{World, Draft, sizes, base, Lasting, PathIs, its_function, body_at_is, place_at, part_made_is, EndsAre, all_map, replicated}
-use Rattle.pk_typed_draft.proofs.Wholes.{Paths, HaveEnds, wholes, kinds_of, foreknown}
+use Rattle.pk_typed_draft.proofs.Plans.{World, Draft, sizes, place, base, Lasting, PathIs, its_function, body_at_is, place_at, part_made_is, EndsAre, all_map, replicated}
+use Rattle.pk_typed_draft.proofs.Wholes.{Paths, HaveEnds, wholes, kinds_of, kind_is, foreknown}
+use Rattle.pk_typed_draft.proofs.Declarations.{object_kind}
 use Rattle.pk_typed_draft.proofs.Firsts.{first, files_are, Counted, first_plan, first_typed}
 use Rattle.pk_typed_draft.proofs.Listings.{listed, listing_paths}
 
@@ -104,11 +105,12 @@ world u paths ms = record {
   paths = paths;
   table = numbers (kinds_of ms);
   kinds = kinds_of ms;
-  owner = λ y. (variable_in ms y).path;
+  final = variable_in ms;
   IsEdge = λ e. Unit {0};
   ends = λ k. ends_in u (function_from paths k) (behind_part u (sizes_of u paths) 0 1 paths (begins u paths) k);
   CanBeNamed = λ y. Unit {0};
   CanBegin = λ y. Unit {0};
+  FromOutside = λ k i. Unit {0};
   points = (whole_size (sizes_of u paths) paths).points + 2;
   files = length u.objects;
 }
@@ -131,11 +133,12 @@ lasting u paths ms b k low = record {
   files = λ i q h. let f = files_are u (whole_size (sizes_of u paths) paths) ms (omega (k, arith)) low i q h in record { there = omega (f.0, k, length-map ms (λ (x : VariableOf). x.kind), arith); kind = f.1 };
   behind = b;
   listed = listed paths;
-  temporaries = λ k n f l q y t m o e. record { there = o.there; kind = o.kind };
-  objects = λ k n l q p i h m e f o. record { there = o.there; kind = o.kind };
-  results = λ k n f l q t m o. record { there = o.there; kind = o.kind };
+  temporaries = λ k n f l q y t m o e. record { there = o.there; kind = kind_is ms y ∙ ap (λ (v : VariableOf). v.kind) o.is };
+  objects = λ k n l q p i h x m e f o b. record { there = o.there; kind = kind_is ms _ ∙ (ap (λ (v : VariableOf). v.kind) o.is ∙ object_kind (place (world u paths ms) k n p.function l q) i h x f b) };
+  results = λ k n l q p t m r o. record { there = o.there; kind = kind_is ms _ ∙ ap (λ (v : VariableOf). v.kind) o.is };
   named = λ k i l m. tt;
   begun = λ k i l m. tt;
+  outside = λ k i p h e l. tt;
 }
 
 typed_edge : (d : DraftOf ℕ) (W : World) (ks : Kinds) → ks ≡ kinds_of d.made → length d.labels ≡ W.points → (e : EdgeFrom ℕ) → (e.from < W.points) × (e.to < W.points) × IsTypedInstr (numbers ks) e.instr → IsTypedEdge d e
@@ -158,7 +161,7 @@ drafts_are_typed u entry paths h has l are few =
     let lasts = lasting u paths whole.made b many (λ y q. first_all.part.low y q) in
     let ps = listing_paths W entry h l b in
     let all = wholes W lasts 0 1 paths ps d0 (first_plan W c) (have_ends W 0 1 paths ps d0 (λ i q. let at : 0 + i ≡ i = omega arith in ap W.ends at)) in
-    let known = foreknown W lasts 1 ps d0 whole (record { kinds = refl; owner = λ y. refl }) (λ k x q. tt) all in
+    let known = foreknown W lasts 1 ps d0 whole (record { many = length-map whole.made (λ (x : VariableOf). x.kind); final = λ y. refl }) (λ k x q. tt) all in
     let t = all.part.typed known (first_typed W c h.objects (λ i q. tt) (λ i q. tt)) in
     let big : 2147483648 ≡ 2 ^ 31 = refl in
     let labels : length whole.labels ≡ (whole_size (sizes_of u paths) paths).points + 2 = t.labels.many in

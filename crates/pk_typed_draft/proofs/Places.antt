@@ -3,16 +3,17 @@ use Rattle.std.proofs.Common.{◌≡◌, ℕ, zero, ◌+◌, ◌<◌, ◌≤◌,
 use Rattle.std.specs.Prelude.{All, slice_get}
 use Rattle.std.specs.Option.{option_and_then}
 use Rattle.pk_ctypes.specs.declared.types.IntType.{IntType}
-use Rattle.pk_typed.specs.Trees.{FunctionTree, UnitTree}
+use Rattle.pk_typed.specs.Trees.{LocalTree, FunctionTree, UnitTree}
 use Rattle.pk_graph.specs.declared.graphs.Scope.{Scope}
-use Rattle.pk_graph.specs.Kinds.{Kinds, kind_at}
+use Rattle.pk_graph.specs.Kinds.{Kinds}
 use Rattle.pk_graph.specs.Graphs.{VariableOf, no_variable, number_start}
 use Rattle.pk_graph.specs.Trees.{InstrOf, Skip, Set, Havoc, Clear, Load, Store, Guard, Check}
 use Rattle.pk_graph.specs.WellMade.{IsStartOf}
 use Rattle.pk_draft.specs.declared.drafts.Region.{Region}
 use Rattle.pk_draft.specs.declared.drafts.Label.{Label}
-use Rattle.pk_draft.specs.Drafts.{DraftOf, EdgeFrom, no_region, nowhere}
-use Rattle.pk_lower_row.specs.Contexts.{Context, size_in, parameters_of}
+use Rattle.pk_draft.specs.Drafts.{DraftOf, EdgeFrom, no_region, nowhere, inner}
+use Rattle.pk_lower_row.specs.Contexts.{Context, no_local, size_in, parameters_of}
+use Rattle.pk_lower.specs.Parts.{entry_parameter}
 use Rattle.pk_welltyped.specs.WellTyped as good
 use Rattle.pk_typed_draft.proofs.Tables.{Table, IsTypedInstr}
 
@@ -22,12 +23,12 @@ pub record Ends : Type 0 where
   pub numbers : ℕ → ℕ
   pub result : ℕ
 
--- The path whose part is made; the table of the variables, and by their numbers the kinds that they have in the end and the paths that they are of; the edges of the whole draft; how many points and paths there are, the function of each path, where the path's regions of variables and of points end, and how many objects the file has; what becomes of the path's objects; which variables may come into scope, and which may begin with something else than 0.
+-- The path whose part is made; the table of the variables, and by their numbers what they are in the end and their kinds; the edges of the whole draft; how many points and paths there are, the function of each path, where the path's regions of variables and of points end, and how many objects the file has; what becomes of the path's objects; which variables may come into scope, and which may begin with something else than 0; which objects get any value from outside.
 pub record Place : Type 1 where
   pub context : Context
   pub table : Table
   pub kinds : Kinds
-  pub owner : ℕ → Option ℕ
+  pub final : ℕ → VariableOf
   pub IsEdge : EdgeFrom table.Variable → Type 0
   pub points : ℕ
   pub paths : ℕ
@@ -38,6 +39,7 @@ pub record Place : Type 1 where
   pub ends : Ends
   pub CanBeNamed : ℕ → Type 0
   pub CanBegin : ℕ → Type 0
+  pub FromOutside : ℕ → Type 0
 
 abbrev pub D : Place → Type 0
 D w = DraftOf w.table.Variable
@@ -58,11 +60,20 @@ abbrev pub HasAll : (ks : Table) → (j i x : ℕ) → List IntType → Type 0
 HasAll ks j i x [] = Unit {0}
 HasAll ks j i x (t ∷ ts) = Has ks (ks.names.object j i x) t None × HasAll ks j (i + 1) (x + 1) ts
 
--- by its number: of the kind, and of the path
-pub record IsOwn (w : Place) (y : ℕ) (t : IntType) (n : Option ℕ) : Type 0 where
+-- what an object of a path is as a variable: it holds 0 when a run begins, or any number from outside
+abbrev pub inner_object : List LocalTree → (path i : ℕ) → VariableOf
+inner_object xs k i = let x = slice_index_or xs i no_local in inner x.name x.int_type x.length k
+
+abbrev pub outer_object : List LocalTree → (path i : ℕ) → VariableOf
+outer_object xs k i = let x = slice_index_or xs i no_local in entry_parameter x.name x.int_type x.length k
+
+abbrev pub IsObjectOf : Place → ℕ → VariableOf → Type 0
+IsObjectOf w i x = (x ≡ inner_object w.context.locals w.context.path i) ⊎ (w.FromOutside i × (x ≡ outer_object w.context.locals w.context.path i))
+
+-- by its number: this in the end
+pub record IsOwn (w : Place) (y : ℕ) (x : VariableOf) : Type 0 where
   pub there : y < length w.kinds
-  pub kind : kind_at w.kinds y ≡ record { int_type = t; length = n }
-  pub owner : w.owner y ≡ Some w.context.path
+  pub is : w.final y ≡ x
 
 abbrev pub returned_by : UnitTree → ℕ → Option IntType
 returned_by u f = option_and_then (λ (g : FunctionTree). g.returns) (slice_get u.functions f)
@@ -149,6 +160,8 @@ pub record ObjectsAre (w : Place) (s : Stage) (v : ℕ) (os : List ℕ) : Type 0
   pub each : (i : ℕ) → i < s.objects → (k : good.Kind) → good.kind_among w.context.locals i ≡ Some k → Has w.table (w.table.names.object w.context.path i (own_number os i)) k.int_type k.length
   pub result : HasIf w.table (w.table.names.result w.context.path (own_number os (length w.context.locals))) s.result
   pub below : (i : ℕ) → i < s.objects → own_number os i < v
+  pub rising : (i j : ℕ) → i < j → j < s.objects → own_number os i < own_number os j
+  pub result_apart : (i : ℕ) → i < s.objects → ResultIs s.result (λ y. own_number os i ≡ y → ⊥) (own_number os (length w.context.locals))
   pub result_below : ResultIs s.result (λ y. y < v) (own_number os (length w.context.locals))
 
 -- the points where regions are entered are there
@@ -175,9 +188,9 @@ pub record ObjectsForeseen (w : Place) (s : Stage) (v : ℕ) (os : List ℕ) : T
   pub later : (i : ℕ) → s.objects ≤ i → i < w.ends.objects → v ≤ w.ends.numbers i
   pub result_later : s.result ≡ None → v ≤ w.ends.result
 
--- of the variables that have been made: their kinds and paths
+-- of the variables of paths that have been made: they stay so
 abbrev pub MadeIs : Place → List VariableOf → Type 0
-MadeIs w ms = (y k : ℕ) → (variable_in ms y).path ≡ Some k → (kind_at w.kinds y ≡ (variable_in ms y).kind) × (w.owner y ≡ Some k)
+MadeIs w ms = (y k : ℕ) → (variable_in ms y).path ≡ Some k → w.final y ≡ variable_in ms y
 
 -- of the later paths: what they make
 abbrev pub RegionsForeseen : Place → List Region → Type 0
@@ -202,9 +215,10 @@ pub record Proper (w : Place) : Type 0 where
   pub points : 0 < w.points
   pub last : w.last ≤ w.points
   pub files : (i : ℕ) (k : good.Kind) → good.kind_in_file w.context.unit i ≡ Some k → Has w.table (w.table.names.file i) k.int_type k.length
-  pub temporaries : (y : ℕ) (t : IntType) → IsOwn w y t None → IsNoObject w y → Has w.table (w.table.names.temporary y) t None
-  pub objects : (i : ℕ) (k : good.Kind) → i < w.ends.objects → good.kind_among w.context.locals i ≡ Some k → IsOwn w (w.ends.numbers i) k.int_type k.length → Has w.table (w.table.names.object w.context.path i (w.ends.numbers i)) k.int_type k.length
-  pub results : (t : IntType) → IsOwn w w.ends.result t None → Has w.table (w.table.names.result w.context.path w.ends.result) t None
+  pub temporaries : (y : ℕ) (t : IntType) → IsOwn w y (inner None t None w.context.path) → IsNoObject w y → Has w.table (w.table.names.temporary y) t None
+  pub objects : (i : ℕ) (k : good.Kind) (x : VariableOf) → i < w.ends.objects → good.kind_among w.context.locals i ≡ Some k → IsOwn w (w.ends.numbers i) x → IsObjectOf w i x
+      → Has w.table (w.table.names.object w.context.path i (w.ends.numbers i)) k.int_type k.length
+  pub results : (t : IntType) → w.context.returns ≡ Some t → IsOwn w w.ends.result (inner None t None w.context.path) → Has w.table (w.table.names.result w.context.path w.ends.result) t None
   pub named : (i : ℕ) → i < w.ends.objects → w.CanBeNamed (w.ends.numbers i)
   pub begun : (i : ℕ) → i < w.ends.objects → w.CanBegin (w.ends.numbers i)
 

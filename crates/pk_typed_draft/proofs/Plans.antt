@@ -18,7 +18,7 @@ use Rattle.pk_graph.specs.Trees.{InstrOf, Skip, Set, Havoc, Clear, Load, Store, 
 use Rattle.pk_graph.specs.WellMade.{IsStartOf}
 use Rattle.pk_draft.specs.declared.drafts.Region.{Region}
 use Rattle.pk_draft.specs.declared.drafts.Size.{Size}
-use Rattle.pk_draft.specs.Drafts.{DraftOf, EdgeFrom}
+use Rattle.pk_draft.specs.Drafts.{DraftOf, EdgeFrom, inner}
 use Rattle.pk_lower_row.specs.Contexts.{size_in, parameters_of}
 use Rattle.pk_lower.specs.Parts as part
 use Rattle.pk_part.specs.Listed.{CallsLeadBehind, IsListed}
@@ -27,22 +27,23 @@ use Rattle.pk_welltyped.specs.Listed.{Numbered, numbered}
 use Rattle.pk_welltyped.specs.WellTyped as good
 use Rattle.pk_welltyped.specs.WellTyped.{IsBody, AreParameters, AreItems, Marks}
 use Rattle.pk_typed_draft.proofs.Tables.{Table}
-use Rattle.pk_typed_draft.proofs.Places.{Place, Ends, Has, IsOwn, IsNoObject, returned_by, Promised, region_at, IsKept, In, Holds, variable_in, IsFresh, MadeIs, Foreseen, ResultIs, ObjectsForeseen, HasOtherWay, EdgeIs, LabelsAre, Stage, PlacesAre, Typed, Below, IsMade, Before, After}
+use Rattle.pk_typed_draft.proofs.Places.{Place, Ends, Has, IsOwn, IsObjectOf, IsNoObject, returned_by, Promised, region_at, IsKept, In, Holds, variable_in, IsFresh, MadeIs, Foreseen, ResultIs, ObjectsForeseen, HasOtherWay, EdgeIs, LabelsAre, Stage, PlacesAre, Typed, Below, IsMade, Before, After}
 use Rattle.pk_typed_draft.proofs.Verbs.{IsCallee}
 use Rattle.pk_typed_draft.proofs.Expressions.{CallsAre}
-use Rattle.pk_typed_draft.proofs.Parts.{ParametersAt, parameters_at, AreWritten, IsWrittenIf, Stays, all_stay, if_stays, begun_here, PartIs, made_part, ends, part_step, part_points, part_made}
+use Rattle.pk_typed_draft.proofs.Parts.{ParametersAt, ComeFromOutside, parameters_at, AreWritten, IsWrittenIf, Stays, all_stay, if_stays, begun_here, PartIs, made_part, ends, part_step, part_points, part_made}
 
--- The unit and its call paths; the table of the variables, and by their numbers their kinds in the end and the paths that they are of; the edges of the whole draft; what becomes of the objects of each path; which variables may come into scope, and which may begin with something else than 0; how many points there are, and how many objects the file has.
+-- The unit and its call paths; the table of the variables, and by their numbers what they are in the end and their kinds; the edges of the whole draft; what becomes of the objects of each path; which variables may come into scope, and which may begin with something else than 0; which objects of a path get any value from outside; how many points there are, and how many objects the file has.
 pub record World : Type 1 where
   pub unit : UnitTree
   pub paths : List CallPath
   pub table : Table
   pub kinds : Kinds
-  pub owner : ℕ → Option ℕ
+  pub final : ℕ → VariableOf
   pub IsEdge : EdgeFrom table.Variable → Type 0
   pub ends : (path : ℕ) → Ends
   pub CanBeNamed : ℕ → Type 0
   pub CanBegin : ℕ → Type 0
+  pub FromOutside : (path : ℕ) → ℕ → Type 0
   pub points : ℕ
   pub files : ℕ
 
@@ -64,7 +65,7 @@ place W k n f limit last = record {
   context = part.context W.unit (sizes W) k n f;
   table = W.table;
   kinds = W.kinds;
-  owner = W.owner;
+  final = W.final;
   IsEdge = W.IsEdge;
   points = W.points;
   paths = length W.paths;
@@ -75,6 +76,7 @@ place W k n f limit last = record {
   ends = W.ends k;
   CanBeNamed = W.CanBeNamed;
   CanBegin = W.CanBegin;
+  FromOutside = W.FromOutside k;
 }
 
 abbrev pub base : World → Place
@@ -86,12 +88,14 @@ pub record Lasting (W : World) : Type 0 where
   pub files : (i : ℕ) (k : good.Kind) → good.kind_in_file W.unit i ≡ Some k → Has W.table (W.table.names.file i) k.int_type k.length
   pub behind : CallsLeadBehind W.unit W.paths
   pub listed : (k : ℕ) (p : CallPath) → slice_get W.paths k ≡ Some p → IsListed W.paths p.function
-  pub temporaries : (k n f l q : ℕ) (y : ℕ) (t : IntType) → k < length W.paths → IsOwn (place W k n f l q) y t None → IsNoObject (place W k n f l q) y → Has W.table (W.table.names.temporary y) t None
-  pub objects : (k n l q : ℕ) (p : CallPath) (i : ℕ) (h : good.Kind) → slice_get W.paths k ≡ Some p → i < (W.ends k).objects → good.kind_among (part.body_at W.unit p.function).locals i ≡ Some h
-      → IsOwn (place W k n p.function l q) ((W.ends k).numbers i) h.int_type h.length → Has W.table (W.table.names.object k i ((W.ends k).numbers i)) h.int_type h.length
-  pub results : (k n f l q : ℕ) (t : IntType) → k < length W.paths → IsOwn (place W k n f l q) (W.ends k).result t None → Has W.table (W.table.names.result k (W.ends k).result) t None
+  pub temporaries : (k n f l q : ℕ) (y : ℕ) (t : IntType) → k < length W.paths → IsOwn (place W k n f l q) y (inner None t None k) → IsNoObject (place W k n f l q) y → Has W.table (W.table.names.temporary y) t None
+  pub objects : (k n l q : ℕ) (p : CallPath) (i : ℕ) (h : good.Kind) (x : VariableOf) → slice_get W.paths k ≡ Some p → i < (W.ends k).objects → good.kind_among (part.body_at W.unit p.function).locals i ≡ Some h
+      → IsOwn (place W k n p.function l q) ((W.ends k).numbers i) x → IsObjectOf (place W k n p.function l q) i x → Has W.table (W.table.names.object k i ((W.ends k).numbers i)) h.int_type h.length
+  pub results : (k n l q : ℕ) (p : CallPath) (t : IntType) → slice_get W.paths k ≡ Some p → (part.function_at W.unit p.function).returns ≡ Some t → IsOwn (place W k n p.function l q) (W.ends k).result (inner None t None k)
+      → Has W.table (W.table.names.result k (W.ends k).result) t None
   pub named : (k i : ℕ) → k < length W.paths → i < (W.ends k).objects → W.CanBeNamed ((W.ends k).numbers i)
   pub begun : (k i : ℕ) → k < length W.paths → i < (W.ends k).objects → W.CanBegin ((W.ends k).numbers i)
+  pub outside : (k i : ℕ) (p : CallPath) → slice_get W.paths k ≡ Some p → p.caller ≡ None → i < length (parameters_of W.unit p.function) → W.FromOutside k i
 
 -- before the part of path k is made, where the paths before n have their regions
 pub record Plan (W : World) (k n : ℕ) (d : Draft W) : Type 0 where
@@ -150,7 +154,14 @@ last_of W k r = r.points + (size_of W k).points
 abbrev pub place_at : World → (k n : ℕ) → CallPath → Region → Place
 place_at W k n p r = place W k n p.function (limit_of W k r) (last_of W k r)
 
-pub part_is : (W : World) → Lasting W → (k n : ℕ) (p : CallPath) (r : Region) → (h : PathIs W k n p) → IsMade (base W) k r → PartIs (place_at W k n p r) (length h.body.calls) h.function h.body
+its_types : (u : UnitTree) (f : ℕ) (g : FunctionTree) → slice_get u.functions f ≡ Some g → g.parameters ≡ parameters_of u f
+its_types u f g h = sym (ap (λ (o : Option FunctionTree). unwrap_or (option_map (λ (x : FunctionTree). x.parameters) o) []) h)
+
+from_outside : (W : World) → Lasting W → (k n : ℕ) (p : CallPath) (r : Region) → slice_get W.paths k ≡ Some p → (i : ℕ) (ts : List IntType) → i + length ts ≤ length (parameters_of W.unit p.function) → ComeFromOutside (place_at W k n p r) p.caller i ts
+from_outside W l k n p r h i [] m = tt
+from_outside W l k n p r h i (t ∷ ts) m = (λ e. l.outside k i p h e (omega (m, arith)), from_outside W l k n p r h (i + 1) ts (omega (m, arith)))
+
+pub part_is : (W : World) → Lasting W → (k n : ℕ) (p : CallPath) (r : Region) → (h : PathIs W k n p) → IsMade (base W) k r → PartIs (place_at W k n p r) (length h.body.calls) h.function h.body p.caller
 part_is W l k n p r h made =
     let w = place_at W k n p r in
     let f = p.function in
@@ -169,13 +180,14 @@ part_is W l k n p r h made =
         last = made.points;
         files = l.files;
         temporaries = λ y t o e. l.temporaries k n p.function (limit_of W k r) (last_of W k r) y t there o e;
-        objects = λ i q m e o. l.objects k n (limit_of W k r) (last_of W k r) p i q h.path m e o;
-        results = λ t o. l.results k n p.function (limit_of W k r) (last_of W k r) t there o;
+        objects = λ i q x m e o b. l.objects k n (limit_of W k r) (last_of W k r) p i q x h.path m e o b;
+        results = λ t e o. l.results k n (limit_of W k r) (last_of W k r) p t h.path e o;
         named = λ i m. l.named k i there m;
         begun = λ i m. l.begun k i there m;
       };
       locals = locals;
       returns = ap (λ (g : FunctionTree). g.returns) (sym (its_function W.unit f h.function h.there));
+      outside = from_outside W l k n p r h.path 0 h.function.parameters (let z = ap length (its_types W.unit p.function h.function h.there) in omega (z, arith));
       parameters = parameters_at w.context.locals h.function.parameters (subst (AreParameters h.function.parameters) (sym locals) h.is_body.parameters);
       items = subst (λ (xs : _). AreItems (record { unit = W.unit; locals = xs; objects = length h.function.parameters }) (record { labels = h.body.labels; returns = h.function.returns; cases = 0; has_default = false }) h.body.items) (sym locals) h.is_body.items;
       calls = subst (λ (xs : List Numbered). CallsAre w 0 xs (length h.body.calls)) (sym h.is_body.calls) (subst (CallsAre w 0 (numbered 0 h.body.calls)) end (calls_from w 0 h.body.calls callee));
@@ -283,7 +295,7 @@ plan_next W l k n p h d plan =
     let w = place_at W k n p r in
     let e = made_part w h.function h.body p.caller r d in
     let m = length h.body.calls in
-    let s = part_step w m h.function h.body (part_is W l k n p r h (plan.kept k h.below)) p.caller r d in
+    let s = part_step w m h.function h.body p.caller (part_is W l k n p r h (plan.kept k h.below)) r d in
     let a = s.after (before_part W k n p h d plan) (below_part W l k n p h d plan) in
     record {
       many = a.laid.many;
@@ -359,7 +371,7 @@ begins_typed W k n p r b d l t =
       starts = t.starts;
       zeros = t.zeros;
       edges = all_map (EdgeIs (base W)) (EdgeIs w) d.edges (λ e h. record { from = h.from; to = h.to; typed = h.typed; other = λ z. other_in W k n p r e.from e.instr (h.other z) }) t.edges;
-      objects = record { many = replicated (length w.context.locals + 1) 0; each = λ i c. absurd (omega (c, arith)); result = tt; below = λ i c. absurd (omega (c, arith)); result_below = tt };
+      objects = record { many = replicated (length w.context.locals + 1) 0; each = λ i c. absurd (omega (c, arith)); result = tt; below = λ i c. absurd (omega (c, arith)); result_below = tt; rising = λ i j a c. absurd (omega (c, arith)); result_apart = λ i c. absurd (omega (c, arith)) };
       places = t.places;
     }
 
@@ -390,7 +402,7 @@ EndsAre W k n p r g b e = ObjectsForeseen (place_at W k n p r) (ends g b) e.vari
 
 -- what has been made for the callers of a path
 pub record PathMade (W : World) (j : ℕ) (p : CallPath) (d : Draft W) : Type 0 where
-  pub parameters : AreWritten j d.made (region_at d.regions j).variables (parameters_of W.unit p.function)
+  pub parameters : AreWritten (part.body_at W.unit p.function).locals j p.caller d.made 0 (region_at d.regions j).variables (parameters_of W.unit p.function)
   pub result : IsWrittenIf j d.made ((region_at d.regions j).variables + length (parameters_of W.unit p.function)) (returned_by W.unit p.function)
   pub points : (region_at d.regions j).points < W.points
   pub declared : length (parameters_of W.unit p.function) ≤ (W.ends j).objects
@@ -402,7 +414,7 @@ path_stays W j p d e s r h =
     let v : (region_at e.regions j).variables ≡ (region_at d.regions j).variables = ap (λ (x : Region). x.variables) r in
     let ts = parameters_of W.unit p.function in
     record {
-      parameters = subst (λ (x : ℕ). AreWritten j e.made x ts) (sym v) (all_stay j d.made e.made (region_at d.regions j).variables ts s h.parameters);
+      parameters = subst (λ (x : ℕ). AreWritten (part.body_at W.unit p.function).locals j p.caller e.made 0 x ts) (sym v) (all_stay (part.body_at W.unit p.function).locals j p.caller d.made e.made 0 (region_at d.regions j).variables ts s h.parameters);
       result = subst (λ (x : ℕ). IsWrittenIf j e.made (x + length ts) (returned_by W.unit p.function)) (sym v) (if_stays j d.made e.made ((region_at d.regions j).variables + length ts) (returned_by W.unit p.function) s h.result);
       points = subst (λ (x : Region). x.points < W.points) (sym r) h.points;
       declared = h.declared;
@@ -420,17 +432,17 @@ path_made W l k n p h d plan = λ o.
     let is = part_is W l k n p r h (plan.kept k h.below) in
     let b = before_part W k n p h d plan in
     let y = below_part W l k n p h d plan in
-    let s = part_step w m h.function h.body is p.caller r d in
+    let s = part_step w m h.function h.body p.caller is r d in
     let a = s.after b y in
-    let made = part_made w m h.function h.body is p.caller r d b y o in
+    let made = part_made w m h.function h.body p.caller is r d b y o in
     let same : region_at e.regions k ≡ r = a.same k (inl (omega (h.below, arith))) in
     let ts : h.function.parameters ≡ parameters_of W.unit p.function = sym (ap (λ (o : Option FunctionTree). unwrap_or (option_map (λ (g : FunctionTree). g.parameters) o) []) h.there) in
     let rs : h.function.returns ≡ returned_by W.unit p.function = sym (ap (option_and_then (λ (g : FunctionTree). g.returns)) h.there) in
     record {
-      parameters = subst (λ (x : Region). AreWritten k e.made x.variables (parameters_of W.unit p.function)) (sym same) (subst (AreWritten k e.made r.variables) ts made.parameters);
+      parameters = subst (λ (x : Region). AreWritten w.context.locals k p.caller e.made 0 x.variables (parameters_of W.unit p.function)) (sym same) (subst (AreWritten w.context.locals k p.caller e.made 0 r.variables) ts made.parameters);
       result = subst (λ (x : Region). IsWrittenIf k e.made (x.variables + length (parameters_of W.unit p.function)) (returned_by W.unit p.function)) (sym same)
           (subst (λ (x : List IntType). IsWrittenIf k e.made (r.variables + length x) (returned_by W.unit p.function)) ts (subst (IsWrittenIf k e.made (r.variables + length h.function.parameters)) rs made.result));
-      points = subst (λ (x : Region). x.points < W.points) (sym same) (omega (part_points w m h.function h.body is p.caller r d, y.1, arith));
+      points = subst (λ (x : Region). x.points < W.points) (sym same) (omega (part_points w m h.function h.body p.caller is r d, y.1, arith));
       declared = subst (λ (x : List IntType). length x ≤ (W.ends k).objects) ts made.declared;
       numbers = λ i c.
           let q : (W.ends k).numbers i ≡ r.variables + i = made.numbers i (subst (λ (x : List IntType). i < length x) (sym ts) c) in
@@ -466,7 +478,7 @@ one_part W l k n p h d plan = λ end.
     let is = part_is W l k n p r h (plan.kept k h.below) in
     let b = before_part W k n p h d plan in
     let y = below_part W l k n p h d plan in
-    let s = part_step w m h.function h.body is p.caller r d in
+    let s = part_step w m h.function h.body p.caller is r d in
     let a = s.after b y in
     let seen : Foreknown W e → Foreseen w (ends h.function h.body) e = seen_at W k n p r h.function h.body e end in
     record {

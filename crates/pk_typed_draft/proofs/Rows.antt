@@ -13,7 +13,7 @@ use Rattle.pk_lower_row.specs.declared.shapes.Waiting.{Waiting}
 use Rattle.pk_lower_row.specs.Shapes.{is_plain, stays}
 use Rattle.pk_lower_row.specs.Rows.{Ways, Operand, stored_unless, dropped, guards, by_both, by_value, by_choice, two}
 use Rattle.pk_typed_draft.proofs.Places.{D, Place, Has, Stage, Typed, Proper, Step, step, step_for, step_beside, quiet}
-use Rattle.pk_typed_draft.proofs.Verbs.{all_shorter, the_last, typed_link, emit_step, variable_step}
+use Rattle.pk_typed_draft.proofs.Verbs.{all_shorter, the_last, typed_link, emit_step, temporary_made}
 
 abbrev pub Gives : (w : Place) → (m n : ℕ) → Stage → IntType → (D w → Given w.table.Variable) → Type 0
 Gives w m n s t f = (d : D w) → Step w m n s s d (f d).1 (Unit {0}) (IsOfType w.table t (f d).0)
@@ -75,7 +75,7 @@ inner_start name t n k = (omega arith, λ i d l. absurd (omega (l, arith)))
 -- a new temporary
 pub temporary_step : (w : Place) → Proper w → (m : ℕ) (s : Stage) (t : IntType) (d : D w) → Step w m m s s d (with_temporary t d) (Unit {0}) (Has w.table (next_temporary d) t None)
 temporary_step w g m s t d =
-    let v = variable_step w g m s t (inner None t None d.here.path) d (λ h. ap Some h) (inner_start None t None d.here.path) refl refl in
+    let v = temporary_made w g m s t d in
     record {
       order = v.order;
       variables = v.variables;

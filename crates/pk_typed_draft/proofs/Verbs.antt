@@ -7,17 +7,16 @@ use Rattle.std.specs.Option.{option_map}
 use Rattle.pk_ctypes.specs.declared.types.IntType.{IntType}
 use Rattle.pk_typed.specs.Trees.{LocalTree}
 use Rattle.pk_graph.specs.Trees.{InstrOf, Skip}
-use Rattle.pk_graph.specs.Kinds.{Kind}
 use Rattle.pk_typed_draft.proofs.Tables.{IsTypedInstr}
 use Rattle.pk_graph.specs.Graphs.{VariableOf, no_variable, number_start}
 use Rattle.pk_graph.specs.WellMade.{IsStartOf}
 use Rattle.pk_draft.specs.declared.drafts.Region.{Region}
 use Rattle.pk_draft.specs.declared.drafts.Label.{Label}
 use Rattle.pk_draft.specs.declared.drafts.Size.{Size}
-use Rattle.pk_draft.specs.Drafts.{no_region, nowhere, at, standing, placed, all_placed, fresh, with_variable, with_object, link, emit, away, come, entered}
+use Rattle.pk_draft.specs.Drafts.{no_region, nowhere, at, standing, placed, all_placed, fresh, inner, with_variable, with_temporary, with_object, link, emit, away, come, entered}
 use Rattle.pk_lower_row.specs.Contexts.{size_in}
 use Rattle.pk_welltyped.specs.WellTyped as good
-use Rattle.pk_typed_draft.proofs.Places.{D, Place, Has, HasIf, Promised, IsOwn, region_at, IsKept, In, Holds, variable_in, Laid, MadeIs, RegionsForeseen, ObjectsForeseen, Foreseen, EdgeIs, HasOtherWay, IsNoObject, Stage, ResultIs, own_number, ObjectsAre, Typed, Proper, Below, IsMade, PlacesAre, Before, Step, quiet}
+use Rattle.pk_typed_draft.proofs.Places.{D, Place, Has, HasIf, Promised, IsOwn, IsObjectOf, region_at, IsKept, In, Holds, variable_in, Laid, MadeIs, RegionsForeseen, ObjectsForeseen, Foreseen, EdgeIs, HasOtherWay, IsNoObject, Stage, ResultIs, own_number, ObjectsAre, Typed, Proper, Below, IsMade, PlacesAre, Before, Step, quiet}
 
 pub all_last : {A : Type 0} (Q : A → Type 0) (xs : List A) (x : A) → All Q xs → Q x → All Q (xs ++ x ∷ [])
 all_last Q [] x h k zero d l = k
@@ -147,20 +146,17 @@ made_with : (w : Place) (v p : ℕ) (ms : List VariableOf) (rs : List Region) (x
 made_with w v p ms rs x b h f y k e =
     let other : y ≢ v = λ q. absurd (none-some k (sym (h.free v (omega arith) (omega (b, arith))) ∙ (ap (λ (z : ℕ). (variable_in ms z).path) (sym q) ∙ e))) in
     let same : variable_in (slice_set ms v x) y ≡ variable_in ms y = get_or-set_other ms v y x no_variable other in
-    let is = f y k (ap (λ (o : VariableOf). o.path) same ∙ e) in
-    (is.0 ∙ ap (λ (o : VariableOf). o.kind) same, is.1)
+    f y k (ap (λ (o : VariableOf). o.path) same ∙ e) ∙ same
 
--- a variable of the path has its kind in the end
-has_kind : (w : Place) → Proper w → (v p : ℕ) (ms : List VariableOf) (rs : List Region) (x : VariableOf) → x.path ≡ Some w.context.path → v + 1 ≤ w.limit → Laid w v p ms rs → MadeIs w (slice_set ms v x)
-    → IsOwn w v x.kind.int_type x.kind.length
-has_kind w g v p ms rs x q b h f =
+-- a variable of the path is so in the end
+is_own : (w : Place) → Proper w → (v p : ℕ) (ms : List VariableOf) (rs : List Region) (x : VariableOf) → x.path ≡ Some w.context.path → v + 1 ≤ w.limit → Laid w v p ms rs → MadeIs w (slice_set ms v x) → IsOwn w v x
+is_own w g v p ms rs x q b h f =
     let there : v < length w.kinds = omega (b, g.limit, arith) in
     let is : variable_in (slice_set ms v x) v ≡ x = get_or-set_same ms v x no_variable (omega (there, h.many, arith)) in
-    let known = f v w.context.path (ap (λ (o : VariableOf). o.path) is ∙ q) in
-    record { there = there; kind = known.0 ∙ ap (λ (o : VariableOf). o.kind) is; owner = known.1 }
+    record { there = there; is = f v w.context.path (ap (λ (o : VariableOf). o.path) is ∙ q) ∙ is }
 
 objects_later : (w : Place) (s : Stage) (v u : ℕ) (os : List ℕ) → v ≤ u → ObjectsAre w s v os → ObjectsAre w s u os
-objects_later w s v u os o h = record { many = h.many; each = h.each; result = h.result; below = λ i l. omega (h.below i l, o, arith); result_below = result_more s.result (own_number os (length w.context.locals)) h.result_below }
+objects_later w s v u os o h = record { many = h.many; each = h.each; result = h.result; rising = h.rising; result_apart = h.result_apart; below = λ i l. omega (h.below i l, o, arith); result_below = result_more s.result (own_number os (length w.context.locals)) h.result_below }
   where
     result_more : (r : Option IntType) (y : ℕ) → ResultIs r (λ z. z < v) y → ResultIs r (λ z. z < u) y
     result_more None y h = tt
@@ -186,7 +182,7 @@ zeros_with w v ms x l z h y = elim (either y v) [
 making : (w : Place) → Proper w → (m : ℕ) (s k : Stage) (x : VariableOf) (d : D w) (os : List ℕ) (R : Type 0)
     → (length d.objects ≡ length w.context.locals + 1 → ObjectsForeseen w k (d.variables + 1) os → ObjectsForeseen w s d.variables d.objects) → length os ≡ length d.objects
     → (d.here.path ≡ w.context.path → x.path ≡ Some w.context.path) → IsStartOf x x.start → (length d.objects ≡ length w.context.locals + 1 → ObjectsForeseen w k (d.variables + 1) os → (x.start ≡ number_start []) ⊎ w.CanBegin d.variables)
-    → (ObjectsForeseen w k (d.variables + 1) os → IsOwn w d.variables x.kind.int_type x.kind.length → ObjectsAre w s d.variables d.objects → d.names ≡ w.table.names → ObjectsAre w k (d.variables + 1) os × R)
+    → (ObjectsForeseen w k (d.variables + 1) os → IsOwn w d.variables x → ObjectsAre w s d.variables d.objects → d.here.path ≡ w.context.path → ObjectsAre w k (d.variables + 1) os × R)
     → Step w m m s k d (record (with_variable x d) { objects = os }) (Unit {0}) R
 making w g m s k x d os R back many p st z t = record {
   order = omega arith;
@@ -203,7 +199,7 @@ making w g m s k x d os R back many p st z t = record {
   objects = λ b y f. back b.slots f;
   before = λ b y f. record { made = made_with w d.variables d.points d.made d.regions x y.0 b.laid f.made; regions = f.regions; objects = back b.slots f.objects; edges = f.edges };
   typed = λ b y f h q.
-      let r = t f.objects (has_kind w g d.variables d.points d.made d.regions x (p h.here) y.0 b.laid f.made) h.objects h.names in (
+      let r = t f.objects (is_own w g d.variables d.points d.made d.regions x (p h.here) y.0 b.laid f.made) h.objects h.here in (
         record {
           names = h.names;
           point = h.point;
@@ -236,14 +232,15 @@ no_object w s v os f h = record {
   by None is a b e = let z = f.result_later is in absurd (omega (z, e, arith))
   by (Some t) is a b e = absurd (omega (a, b, e, arith))
 
-pub variable_step : (w : Place) → Proper w → (m : ℕ) (s : Stage) (t : IntType) (x : VariableOf) (d : D w) → (d.here.path ≡ w.context.path → x.path ≡ Some w.context.path) → IsStartOf x x.start → x.start ≡ number_start [] → x.kind ≡ record { int_type = t; length = None }
-    → Step w m m s s d (with_variable x d) (Unit {0}) (Has w.table (w.table.names.temporary d.variables) t None)
-variable_step w g m s t x d p st z k =
+-- a new temporary
+pub temporary_made : (w : Place) → Proper w → (m : ℕ) (s : Stage) (t : IntType) (d : D w) → Step w m m s s d (with_temporary t d) (Unit {0}) (Has w.table (w.table.names.temporary d.variables) t None)
+temporary_made w g m s t d =
+    let x = inner None t None d.here.path in
     making w g m s s x d d.objects (Has w.table (w.table.names.temporary d.variables) t None)
-    (λ e f. objects_before w s d.variables (d.variables + 1) d.objects (omega arith) f) refl p st (λ e f. inl z)
+    (λ e f. objects_before w s d.variables (d.variables + 1) d.objects (omega arith) f) refl (λ h. ap Some h) (omega arith, λ i z l. absurd (omega (l, arith))) (λ e f. inl refl)
     (λ f o h n. (
       objects_later w s d.variables (d.variables + 1) d.objects (omega arith) h,
-      g.temporaries d.variables t (subst (λ (q : Kind). IsOwn w d.variables q.int_type q.length) k o) (no_object w s d.variables d.objects f h),
+      g.temporaries d.variables t (subst (λ (k : ℕ). IsOwn w d.variables (inner None t None k)) n o) (no_object w s d.variables d.objects f h),
     ))
 
 abbrev pub with_objects : ℕ → Stage → Stage
@@ -294,8 +291,20 @@ object_more w s os v k is h o =
         | inr not ↦ (let z = get_or-set_other os i j v 0 not in omega (z, o.below j (smaller j not l), arith))
       ];
       result_below = subst (λ (x : ℕ). ResultIs s.result (λ z. z < v + 1) x) (sym other) (more s.result (own_number os (length w.context.locals)) o.result_below);
+      rising = λ a j l m. let before = get_or-set_other os i a v 0 (λ e. absurd (omega (e, l, m, arith))) in elim (either j i) [
+        | inl at ↦ (let z : own_number (slice_set os i v) j ≡ own_number (slice_set os i v) i = ap (own_number (slice_set os i v)) at in let low = o.below a (omega (l, m, arith)) in omega (z, same, before, low, arith))
+        | inr not ↦ (let z = get_or-set_other os i j v 0 not in let low = o.rising a j l (smaller j not m) in omega (z, before, low, arith))
+      ];
+      result_apart = λ j l. subst (λ (x : ℕ). ResultIs s.result (λ y. own_number (slice_set os i v) j ≡ y → ⊥) x) (sym other) (elim (either j i) [
+        | inl at ↦ (let z : own_number (slice_set os i v) j ≡ own_number (slice_set os i v) i = ap (own_number (slice_set os i v)) at in new s.result (own_number (slice_set os i v) j) (own_number os (length w.context.locals)) (z ∙ same) o.result_below)
+        | inr not ↦ subst (λ (x : ℕ). ResultIs s.result (λ y. x ≡ y → ⊥) (own_number os (length w.context.locals))) (sym (get_or-set_other os i j v 0 not)) (o.result_apart j (smaller j not l))
+      ]);
     }
   where
+    new : (r : Option IntType) (n y : ℕ) → n ≡ v → ResultIs r (λ z. z < v) y → ResultIs r (λ z. n ≡ z → ⊥) y
+    new None n y e h = tt
+    new (Some t) n y e h = λ q. absurd (omega (e, h, q, arith))
+
     smaller : (j : ℕ) → j ≢ s.objects → j < s.objects + 1 → j < s.objects
     smaller j other l = omega (other, l, arith)
 
@@ -310,24 +319,24 @@ object_more w s os v k is h o =
         (subst (λ (x : ℕ). Has w.table (w.table.names.object w.context.path s.objects x) q.int_type q.length) (sym same) (subst (λ (a : good.Kind). Has w.table (w.table.names.object w.context.path s.objects v) a.int_type a.length) kind h))
 
 -- The next object's variable is made, which may begin with something else than 0 where it is so said.
-pub object_step : (w : Place) → Proper w → (m : ℕ) (s : Stage) (x : VariableOf) (d : D w) → x.path ≡ Some w.context.path → IsStartOf x x.start → good.kind_among w.context.locals s.objects ≡ Some (record { int_type = x.kind.int_type; length = x.kind.length })
+pub object_step : (w : Place) → Proper w → (m : ℕ) (s : Stage) (x : VariableOf) (d : D w) → x.path ≡ Some w.context.path → IsStartOf x x.start → (k : good.Kind) → good.kind_among w.context.locals s.objects ≡ Some k → IsObjectOf w s.objects x
     → Step w m m s (with_objects (s.objects + 1) s) d (with_object s.objects x d) (Unit {0}) ((d.variables < length w.kinds) × w.CanBeNamed d.variables)
-object_step w g m s x d p st is =
-    let k : good.Kind = record { int_type = x.kind.int_type; length = x.kind.length } in
+object_step w g m s x d p st k is ob =
     let l = within w.context.locals s.objects is in
     making w g m s (with_objects (s.objects + 1) s) x d (slice_set d.objects s.objects d.variables) ((d.variables < length w.kinds) × w.CanBeNamed d.variables)
     (λ n f. object_back w s d.variables d.objects l n f) (length-set d.objects s.objects d.variables) (λ e. p) st
     (λ n f. let q = object_is_next w s d.variables d.objects l n f in inr (subst w.CanBegin q.1 (g.begun s.objects q.0)))
     (λ f o h n. let q = object_is_next w s d.variables d.objects l h.many f in (
       object_more w s d.objects d.variables k is
-      (subst (λ (y : ℕ). Has w.table (w.table.names.object w.context.path s.objects y) k.int_type k.length) q.1 (g.objects s.objects k q.0 is (subst (λ (y : ℕ). IsOwn w y k.int_type k.length) (sym q.1) o))) h,
+      (subst (λ (y : ℕ). Has w.table (w.table.names.object w.context.path s.objects y) k.int_type k.length) q.1 (g.objects s.objects k x q.0 is (subst (λ (y : ℕ). IsOwn w y x) (sym q.1) o) ob)) h,
       (o.there, subst w.CanBeNamed q.1 (g.named s.objects q.0)),
     ))
 
 -- the result of the function
-pub result_step : (w : Place) → Proper w → (m n : ℕ) (t : IntType) (x : VariableOf) (d : D w) → n ≤ length w.context.locals → x.path ≡ Some w.context.path → IsStartOf x x.start → x.start ≡ number_start [] → x.kind ≡ record { int_type = t; length = None }
-    → Step w m m (record { objects = n; result = None }) (record { objects = n; result = Some t }) d (with_object (length w.context.locals) x d) (Unit {0}) (Unit {0})
-result_step w g m n t x d few p st z is =
+pub result_step : (w : Place) → Proper w → (m n : ℕ) (t : IntType) (d : D w) → n ≤ length w.context.locals → w.context.returns ≡ Some t
+    → Step w m m (record { objects = n; result = None }) (record { objects = n; result = Some t }) d (with_object (length w.context.locals) (inner None t None w.context.path) d) (Unit {0}) (Unit {0})
+result_step w g m n t d few ret =
+    let x = inner None t None w.context.path in
     let i = length w.context.locals in
     let s : Stage = record { objects = n; result = None } in
     let k : Stage = record { objects = n; result = Some t } in
@@ -339,18 +348,19 @@ result_step w g m n t x d few p st z is =
       result = tt;
       later = λ j a b. omega (f.later j a b, arith);
       result_later = λ q. omega (f.result, same, arith);
-    }) (length-set d.objects i d.variables) (λ e. p) st (λ e f. inl z)
+    }) (length-set d.objects i d.variables) (λ e. refl) (omega arith, λ a b l. absurd (omega (l, arith))) (λ e f. inl refl)
     (λ f o h q.
     let same : own_number os i ≡ d.variables = get_or-set_same d.objects i d.variables 0 (omega (h.many, arith)) in
-    let at : w.ends.result ≡ d.variables = f.result ∙ same in
-    let own : IsOwn w d.variables t None = subst (λ (a : Kind). IsOwn w d.variables a.int_type a.length) is o in (
+    let at : w.ends.result ≡ d.variables = f.result ∙ same in (
       record {
         many = length-set d.objects i d.variables ∙ h.many;
         each = λ j l a e. let b = within w.context.locals j e in
             subst (λ (y : ℕ). Has w.table (w.table.names.object w.context.path j y) a.int_type a.length) (sym (get_or-set_other d.objects i j d.variables 0 (λ c. absurd (omega (c, b, arith))))) (h.each j l a e);
-        result = subst (λ (y : ℕ). Has w.table (w.table.names.result w.context.path y) t None) (at ∙ sym same) (g.results t (subst (λ (y : ℕ). IsOwn w y t None) (sym at) own));
+        result = subst (λ (y : ℕ). Has w.table (w.table.names.result w.context.path y) t None) (at ∙ sym same) (g.results t ret (subst (λ (y : ℕ). IsOwn w y x) (sym at) o));
         below = λ j l. let a = get_or-set_other d.objects i j d.variables 0 (λ c. absurd (omega (c, l, few, arith))) in omega (a, h.below j l, arith);
         result_below = omega (same, arith);
+        rising = λ a j l c. let y = get_or-set_other d.objects i a d.variables 0 (λ q. absurd (omega (q, l, c, few, arith))) in let z = get_or-set_other d.objects i j d.variables 0 (λ q. absurd (omega (q, c, few, arith))) in let low = h.rising a j l c in omega (y, z, low, arith);
+        result_apart = λ j l e. let y = get_or-set_other d.objects i j d.variables 0 (λ q. absurd (omega (q, l, few, arith))) in let low = h.below j l in absurd (omega (y, low, e, same, arith));
       },
       tt,
     ))

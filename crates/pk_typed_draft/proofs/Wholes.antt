@@ -1,21 +1,23 @@
 -- All parts in order, from the first draft on.
 use Rattle.std.proofs.Common.{◌≡◌, ℕ, ◌+◌, zero, suc, ◌<◌, ◌≤◌, ◌⊎◌, inl, inr, List, [], ◌∷◌, Option, Some, None, length, map, refl, ap, sym, subst, ◌∙◌, arith}
-use Rattle.std.proofs.lemmas.Option.{none-some, slice_get_within}
+use Rattle.std.proofs.lemmas.Option.{none-some}
+use Rattle.std.proofs.lemmas.List.{length-map}
 use Rattle.std.specs.Prelude.{All, slice_get, unwrap_or}
-use Rattle.std.specs.Option.{option_map}
+use Rattle.std.specs.Option.{option_map, option_and_then}
 use Rattle.pk_ctypes.specs.declared.types.IntType.{IntType}
-use Rattle.pk_typed.specs.Trees.{BodyTree, UnitTree}
+use Rattle.pk_typed.specs.Trees.{BodyTree, FunctionTree, UnitTree}
 use Rattle.pk_calls.specs.declared.listings.CallPath.{CallPath}
 use Rattle.pk_calls.specs.Calls as calls
 use Rattle.pk_calls.specs.Calls.{calls_of}
 use Rattle.pk_graph.specs.Kinds.{Kinds, kind_at}
 use Rattle.pk_graph.specs.Graphs.{VariableOf}
+use Rattle.pk_draft.specs.Drafts.{inner}
 use Rattle.pk_lower_row.specs.Contexts.{parameters_of}
 use Rattle.pk_lower.specs.Parts as part
 use Rattle.pk_welltyped.specs.WellTyped as good
 use Rattle.pk_typed_draft.proofs.Places.{Has, HasIf, HasAll, IsOwn, returned_by, ResultIs, Promised, region_at, IsKept, variable_in}
-use Rattle.pk_typed_draft.proofs.Parts.{ParametersAt, IsWritten, AreWritten, IsWrittenIf, made_part}
-use Rattle.pk_typed_draft.proofs.Plans.{World, Draft, sizes, function_of, place, base, Lasting, Plan, PathIs, function_is, its_parameters, place_at, part_made_is, plan_next, EndsAre, PathMade, path_stays, path_made, Foreknown, OnePart, one_part}
+use Rattle.pk_typed_draft.proofs.Parts.{ParametersAt, parameter_in, parameter_path, object_is, AreWritten, IsWrittenIf, made_part}
+use Rattle.pk_typed_draft.proofs.Plans.{World, Draft, sizes, function_of, place, base, Lasting, Plan, PathIs, function_is, its_function, its_parameters, place_at, part_made_is, plan_next, EndsAre, PathMade, path_stays, path_made, Foreknown, OnePart, one_part}
 
 -- the paths from k on, whose calls lead to paths from n on, to the last
 abbrev pub Paths : World → (k n : ℕ) → List CallPath → Type 0
@@ -103,47 +105,41 @@ inside [] y k h = absurd (none-some k h)
 inside (m ∷ ms) zero k h = omega arith
 inside (m ∷ ms) (suc y) k h = let r = inside ms y k h in omega (r, arith)
 
--- by its number, of path j and the kind
-abbrev IsMadeBy : (W : World) → (j y : ℕ) → IntType → Type 0
-IsMadeBy W j y t = (y < length W.kinds) × (kind_at W.kinds y ≡ record { int_type = t; length = None }) × (W.owner y ≡ Some j)
-
--- what is known of the kinds and paths of the variables that are made in the end
+-- what is known of the variables in the end
 pub record AreKnown (W : World) (d : Draft W) : Type 0 where
-  pub kinds : W.kinds ≡ kinds_of d.made
-  pub owner : (y : ℕ) → W.owner y ≡ (variable_in d.made y).path
-
-written_by : (W : World) (d : Draft W) → AreKnown W d → (j y : ℕ) (t : IntType) → IsWritten j d.made y t → IsMadeBy W j y t
-written_by W d is j y t h = (
-  subst (λ (ks : Kinds). y < length ks) (sym is.kinds) (inside d.made y j h.path),
-  ap (λ (ks : Kinds). kind_at ks y) is.kinds ∙ (kind_is d.made y ∙ h.kind),
-  is.owner y ∙ h.path,
-)
+  pub many : length W.kinds ≡ length d.made
+  pub final : (y : ℕ) → W.final y ≡ variable_in d.made y
 
 -- parameters from number i on, whose variables are those from v on
 parameters_made : (W : World) → Lasting W → (d : Draft W) → AreKnown W d → (j n : ℕ) (p : CallPath) (h : PathIs W j n p) (i v : ℕ) (ts : List IntType) → ParametersAt (part.body_at W.unit p.function).locals i ts → i + length ts ≤ (W.ends j).objects
-    → ((q : ℕ) → q < length ts → (W.ends j).numbers (i + q) ≡ v + q) → AreWritten j d.made v ts → HasAll W.table j i v ts
-parameters_made W l d is j n p h i v [] k m e a = tt
-parameters_made W l d is j n p h i v (t ∷ ts) k m e a =
+    → i + length ts ≤ length (parameters_of W.unit p.function) → ((q : ℕ) → q < length ts → (W.ends j).numbers (i + q) ≡ v + q) → AreWritten (part.body_at W.unit p.function).locals j p.caller d.made i v ts → HasAll W.table j i v ts
+parameters_made W l d is j n p h i v [] k m o e a = tt
+parameters_made W l d is j n p h i v (t ∷ ts) k m o e a =
     let at : (W.ends j).numbers i ≡ v = subst (λ (x : ℕ). (W.ends j).numbers x ≡ v) (omega arith) (e 0 (omega arith) ∙ omega arith) in
-    let w = written_by W d is j v t a.0 in
-    let own : IsOwn (place W j n p.function 0 0) ((W.ends j).numbers i) t None = subst (λ (x : ℕ). IsOwn (place W j n p.function 0 0) x t None) (sym at) (record { there = w.0; kind = w.1; owner = w.2 }) in (
-      subst (λ (x : ℕ). Has W.table (W.table.names.object j i x) t None) at (l.objects j n 0 0 p i (good.scalar t) h.path (omega (m, arith)) k.0 own),
-      parameters_made W l d is j n p h (i + 1) (v + 1) ts k.1 (omega (m, arith)) (λ q c. let z : i + 1 + q ≡ i + (1 + q) = omega arith in ap (W.ends j).numbers z ∙ (e (1 + q) (omega (c, arith)) ∙ omega arith)) a.1,
+    let xs = (part.body_at W.unit p.function).locals in
+    let x = parameter_in xs j p.caller i in
+    let there = inside d.made v j (ap (λ (q : VariableOf). q.path) a.0 ∙ parameter_path xs j p.caller i) in
+    let own : IsOwn (place W j n p.function 0 0) ((W.ends j).numbers i) x = subst (λ (z : ℕ). IsOwn (place W j n p.function 0 0) z x) (sym at) (record { there = omega (there, is.many, length-map d.made (λ (q : VariableOf). q.kind), arith); is = is.final v ∙ a.0 }) in
+    let ob = object_is (place W j n p.function 0 0) p.caller i (λ q. l.outside j i p h.path q (omega (o, arith))) in (
+      subst (λ (z : ℕ). Has W.table (W.table.names.object j i z) t None) at (l.objects j n 0 0 p i (good.scalar t) x h.path (omega (m, arith)) k.0 own ob),
+      parameters_made W l d is j n p h (i + 1) (v + 1) ts k.1 (omega (m, arith)) (omega (o, arith)) (λ q c. let z : i + 1 + q ≡ i + (1 + q) = omega arith in ap (W.ends j).numbers z ∙ (e (1 + q) (omega (c, arith)) ∙ omega arith)) a.1,
     )
 
-result_made : (W : World) → Lasting W → (d : Draft W) → AreKnown W d → (j n f v : ℕ) → j < length W.paths → (t : Option IntType) → ResultIs t (λ y. (W.ends j).result ≡ y) v → IsWrittenIf j d.made v t → HasIf W.table (W.table.names.result j v) t
-result_made W l d is j n f v m None e a = tt
-result_made W l d is j n f v m (Some t) e a =
-    let w = written_by W d is j v t a in
-    subst (λ (x : ℕ). Has W.table (W.table.names.result j x) t None) e (l.results j n f 0 0 t m (subst (λ (x : ℕ). IsOwn (place W j n f 0 0) x t None) (sym e) (record { there = w.0; kind = w.1; owner = w.2 })))
+result_made : (W : World) → Lasting W → (d : Draft W) → AreKnown W d → (j n v : ℕ) (p : CallPath) → slice_get W.paths j ≡ Some p → (t : Option IntType) → (part.function_at W.unit p.function).returns ≡ t → ResultIs t (λ y. (W.ends j).result ≡ y) v → IsWrittenIf j d.made v t
+    → HasIf W.table (W.table.names.result j v) t
+result_made W l d is j n v p h None r e a = tt
+result_made W l d is j n v p h (Some t) r e a =
+    let there = inside d.made v j (ap (λ (q : VariableOf). q.path) a) in
+    let own : IsOwn (place W j n p.function 0 0) (W.ends j).result (inner None t None j) = subst (λ (x : ℕ). IsOwn (place W j n p.function 0 0) x (inner None t None j)) (sym e) (record { there = omega (there, is.many, length-map d.made (λ (q : VariableOf). q.kind), arith); is = is.final v ∙ a }) in
+    subst (λ (x : ℕ). Has W.table (W.table.names.result j x) t None) e (l.results j n 0 0 p t h r own)
 
 promised : (W : World) → Lasting W → (d : Draft W) → AreKnown W d → (j n : ℕ) (p : CallPath) → PathIs W j n p → PathMade W j p d → Promised (base W) j p.function (region_at d.regions j).variables
 promised W l d is j n p h m =
     let v = (region_at d.regions j).variables in
     let ts = parameters_of W.unit p.function in
     record {
-      parameters = parameters_made W l d is j n p h 0 v ts (its_parameters W j n p h) (let z = m.declared in omega (z, arith)) (λ q c. let zero_more : 0 + q ≡ q = omega arith in ap (W.ends j).numbers zero_more ∙ m.numbers q c) m.parameters;
-      result = result_made W l d is j n p.function (v + length ts) (slice_get_within W.paths j p h.path) (returned_by W.unit p.function) m.result_number m.result;
+      parameters = parameters_made W l d is j n p h 0 v ts (its_parameters W j n p h) (let z = m.declared in omega (z, arith)) (omega arith) (λ q c. let zero_more : 0 + q ≡ q = omega arith in ap (W.ends j).numbers zero_more ∙ m.numbers q c) m.parameters;
+      result = result_made W l d is j n (v + length ts) p h.path (returned_by W.unit p.function) (ap (λ (g : FunctionTree). g.returns) (its_function W.unit p.function h.function h.there) ∙ sym (ap (option_and_then (λ (g : FunctionTree). g.returns)) h.there)) m.result_number m.result;
     }
 
 -- ---- each path of a list is among those from its beginning
@@ -164,7 +160,7 @@ path_of W k n (q ∷ ps) h j p (inr i) = path_of W (k + 1) (n + length (calls_of
 -- The kinds of all variables that are made in the end are known, and what all paths make.
 pub foreknown : (W : World) → Lasting W → (n : ℕ) → Paths W 0 n W.paths → (d e : Draft W) → AreKnown W e → All W.IsEdge e.edges → Whole W 0 n W.paths d e → Foreknown W e
 foreknown W l n ps d e is edges h = record {
-  made = λ y k q. (ap (λ (ks : Kinds). kind_at ks y) is.kinds ∙ kind_is e.made y, is.owner y ∙ q);
+  made = λ y k q. is.final y;
   regions = λ j q. known j q (slice_get W.paths j) refl;
   edges = edges;
 }
