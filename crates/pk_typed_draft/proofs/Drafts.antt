@@ -6,7 +6,8 @@ use Rattle.std.specs.Prelude.{All, replicate}
 use Rattle.pk_ctypes.specs.declared.types.IntType.{IntType}
 use Rattle.pk_typed.specs.Trees.{BodyTree, FunctionTree, UnitTree}
 use Rattle.pk_calls.specs.declared.listings.CallPath.{CallPath}
-use Rattle.pk_calls.specs.Calls.{calls_of}
+use Rattle.pk_calls.specs.Calls.{HasBody, calls_of}
+use Rattle.pk_calls.specs.Laws.{AreCallPaths}
 use Rattle.pk_calls.specs.Paths.{entry_path, IsListing}
 use Rattle.pk_graph.specs.declared.graphs.Scope.{Scope}
 use Rattle.pk_graph.specs.Kinds.{Kinds}
@@ -19,6 +20,7 @@ use Rattle.pk_number.specs.Typed.{IsTypedEdge}
 use Rattle.pk_part.specs.Listed.{CallsLeadBehind}
 use Rattle.pk_part.proofs.Leading.{listings_lead_behind}
 use Rattle.pk_welltyped.specs.Listed.{objects_in_items}
+use Rattle.pk_welltyped.specs.WellTyped.{IsUnit}
 use Rattle.pk_typed_draft.specs.Laws.{DraftsAreTyped}
 use Rattle.pk_typed_draft.proofs.Tables.{IsTypedInstr, numbers, numbered_instr}
 use Rattle.pk_typed_draft.proofs.Noted.{calls_are_noted}
@@ -27,7 +29,7 @@ use Rattle.pk_typed_draft.proofs.Parts.{made_part}
 use Rattle.pk_typed_draft.proofs.Plans.{World, Draft, sizes, place, base, Lasting, PathIs, its_function, body_at_is, place_at, part_made_is, EndsAre, all_map, replicated}
 use Rattle.pk_typed_draft.proofs.Wholes.{Paths, HaveEnds, wholes, kinds_of, kind_is, foreknown}
 use Rattle.pk_typed_draft.proofs.Declarations.{object_kind}
-use Rattle.pk_typed_draft.proofs.Firsts.{first, files_are, Counted, first_plan, first_typed}
+use Rattle.pk_typed_draft.proofs.Firsts.{first, first_made, files_are, Counted, first_plan, first_typed}
 use Rattle.pk_typed_draft.proofs.Listings.{listed, listing_paths}
 
 -- ---- what becomes of the objects of each path
@@ -144,21 +146,28 @@ lasting u paths ms b k low = record {
 typed_edge : (d : DraftOf ℕ) (W : World) (ks : Kinds) → ks ≡ kinds_of d.made → length d.labels ≡ W.points → (e : EdgeFrom ℕ) → (e.from < W.points) × (e.to < W.points) × IsTypedInstr (numbers ks) e.instr → IsTypedEdge d e
 typed_edge d W ks is many e h = record { from = omega (h.0, many, arith); to = omega (h.1, many, arith); typed = numbered_instr (kinds_of d.made) e.instr (subst (λ (xs : Kinds). IsTypedInstr (numbers xs) e.instr) is h.2) }
 
+-- how many variables the whole draft makes, of which the first are the file's objects
+pub whole_made : (u : UnitTree) (entry : ℕ) (paths : List CallPath) → IsUnit u → HasBody u entry → IsListing u entry paths → AreCallPaths u entry paths
+    → (let whole = program_draft by_number u paths in (length whole.made ≡ length u.objects + (whole_size (sizes_of u paths) paths).variables) × ((y : ℕ) → y < length u.objects → variable_in whole.made y ≡ variable_in (first_made u (whole_size (sizes_of u paths) paths)) y))
+whole_made u entry paths h has l are =
+    let b = listings_lead_behind u entry paths has l are (calls_are_noted u h) in
+    let d0 = begins u paths in
+    let k0 = first_many u paths in
+    let W = world u paths d0.made in
+    let ps = listing_paths W entry h l b in
+    let all = wholes W (lasting u paths d0.made b k0 (λ y q. refl)) 0 1 paths ps d0 (first_plan W (counted u entry paths d0.made l k0)) (have_ends W 0 1 paths ps d0 (λ i q. let at : 0 + i ≡ i = omega arith in ap W.ends at)) in
+    (all.many ∙ (length-map d0.made (λ (x : VariableOf). x.kind) ∙ k0), λ y q. all.part.low y q)
+
 pub drafts_are_typed : DraftsAreTyped
 drafts_are_typed u entry paths h has l are few =
     let b = listings_lead_behind u entry paths has l are (calls_are_noted u h) in
     let d0 = begins u paths in
     let whole = program_draft by_number u paths in
-    let m = (whole_size (sizes_of u paths) paths).variables in
-    let k0 = first_many u paths in
-    let first_world = world u paths d0.made in
-    let c0 = counted u entry paths d0.made l k0 in
-    let ps0 = listing_paths first_world entry h l b in
-    let first_all = wholes first_world (lasting u paths d0.made b k0 (λ y q. refl)) 0 1 paths ps0 d0 (first_plan first_world c0) (have_ends first_world 0 1 paths ps0 d0 (λ i q. let at : 0 + i ≡ i = omega arith in ap first_world.ends at)) in
-    let many : length whole.made ≡ length u.objects + m = first_all.many ∙ (length-map d0.made (λ (x : VariableOf). x.kind) ∙ k0) in
+    let made = whole_made u entry paths h has l are in
+    let many = made.0 in
     let W = world u paths whole.made in
     let c = counted u entry paths whole.made l many in
-    let lasts = lasting u paths whole.made b many (λ y q. first_all.part.low y q) in
+    let lasts = lasting u paths whole.made b many made.1 in
     let ps = listing_paths W entry h l b in
     let all = wholes W lasts 0 1 paths ps d0 (first_plan W c) (have_ends W 0 1 paths ps d0 (λ i q. let at : 0 + i ≡ i = omega arith in ap W.ends at)) in
     let known = foreknown W lasts 1 ps d0 whole (record { many = length-map whole.made (λ (x : VariableOf). x.kind); final = λ y. refl }) (λ k x q. tt) all in
