@@ -1,1 +1,2 @@
 mod Paths
+mod Pairs

@@ -371,7 +371,7 @@ begins_typed W k n p r b d l t =
       starts = t.starts;
       zeros = t.zeros;
       edges = all_map (EdgeIs (base W)) (EdgeIs w) d.edges (λ e h. record { from = h.from; to = h.to; typed = h.typed; other = λ z. other_in W k n p r e.from e.instr (h.other z) }) t.edges;
-      objects = record { many = replicated (length w.context.locals + 1) 0; each = λ i c. absurd (omega (c, arith)); result = tt; below = λ i c. absurd (omega (c, arith)); result_below = tt; rising = λ i j a c. absurd (omega (c, arith)); result_apart = λ i c. absurd (omega (c, arith)) };
+      objects = record { many = replicated (length w.context.locals + 1) 0; each = λ i c. absurd (omega (c, arith)); result = tt; kinds = λ i c. absurd (omega (c, arith)); below = λ i c. absurd (omega (c, arith)); result_below = tt; rising = λ i j a c. absurd (omega (c, arith)); result_apart = λ i c. absurd (omega (c, arith)) };
       places = t.places;
     }
 

@@ -156,7 +156,7 @@ is_own w g v p ms rs x q b h f =
     record { there = there; is = f v w.context.path (ap (λ (o : VariableOf). o.path) is ∙ q) ∙ is }
 
 objects_later : (w : Place) (s : Stage) (v u : ℕ) (os : List ℕ) → v ≤ u → ObjectsAre w s v os → ObjectsAre w s u os
-objects_later w s v u os o h = record { many = h.many; each = h.each; result = h.result; rising = h.rising; result_apart = h.result_apart; below = λ i l. omega (h.below i l, o, arith); result_below = result_more s.result (own_number os (length w.context.locals)) h.result_below }
+objects_later w s v u os o h = record { many = h.many; each = h.each; result = h.result; kinds = h.kinds; rising = h.rising; result_apart = h.result_apart; below = λ i l. omega (h.below i l, o, arith); result_below = result_more s.result (own_number os (length w.context.locals)) h.result_below }
   where
     result_more : (r : Option IntType) (y : ℕ) → ResultIs r (λ z. z < v) y → ResultIs r (λ z. z < u) y
     result_more None y h = tt
@@ -286,6 +286,10 @@ object_more w s os v k is h o =
         | inr not ↦ subst (λ (x : ℕ). Has w.table (w.table.names.object w.context.path j x) q.int_type q.length) (sym (get_or-set_other os i j v 0 not)) (o.each j (smaller j not l) q e)
       ];
       result = subst (λ (x : ℕ). HasIf w.table (w.table.names.result w.context.path x) s.result) (sym other) o.result;
+      kinds = λ j l. elim (either j i) [
+        | inl at ↦ (k, ap (good.kind_among w.context.locals) at ∙ is)
+        | inr not ↦ o.kinds j (smaller j not l)
+      ];
       below = λ j l. elim (either j i) [
         | inl at ↦ (let z : own_number (slice_set os i v) j ≡ own_number (slice_set os i v) i = ap (own_number (slice_set os i v)) at in omega (z, same, arith))
         | inr not ↦ (let z = get_or-set_other os i j v 0 not in omega (z, o.below j (smaller j not l), arith))
@@ -357,6 +361,7 @@ result_step w g m n t d few ret =
         each = λ j l a e. let b = within w.context.locals j e in
             subst (λ (y : ℕ). Has w.table (w.table.names.object w.context.path j y) a.int_type a.length) (sym (get_or-set_other d.objects i j d.variables 0 (λ c. absurd (omega (c, b, arith))))) (h.each j l a e);
         result = subst (λ (y : ℕ). Has w.table (w.table.names.result w.context.path y) t None) (at ∙ sym same) (g.results t ret (subst (λ (y : ℕ). IsOwn w y x) (sym at) o));
+        kinds = h.kinds;
         below = λ j l. let a = get_or-set_other d.objects i j d.variables 0 (λ c. absurd (omega (c, l, few, arith))) in omega (a, h.below j l, arith);
         result_below = omega (same, arith);
         rising = λ a j l c. let y = get_or-set_other d.objects i a d.variables 0 (λ q. absurd (omega (q, l, c, few, arith))) in let z = get_or-set_other d.objects i j d.variables 0 (λ q. absurd (omega (q, c, few, arith))) in let low = h.rising a j l c in omega (y, z, low, arith);
