@@ -1,2 +1,3 @@
 mod Paths
 mod Pairs
+mod Naming

@@ -131,7 +131,7 @@ world u paths = record {
 
 -- ---- what is so of it
 
-function_at_path : (paths : List CallPath) (k : ℕ) (p : CallPath) → slice_get paths k ≡ Some p → function_from paths k ≡ p.function
+pub function_at_path : (paths : List CallPath) (k : ℕ) (p : CallPath) → slice_get paths k ≡ Some p → function_from paths k ≡ p.function
 function_at_path paths k p h = ap (λ (q : CallPath). q.function) (get_or_from_slice_get paths k p (entry_path 0) h)
 
 own_local : (u : UnitTree) (paths : List CallPath) (k n l q : ℕ) (p : CallPath) (i : ℕ) (h : good.Kind) (x : VariableOf) → slice_get paths k ≡ Some p → i < (ends_of u paths k).objects → good.kind_among (body_at u p.function).locals i ≡ Some h
