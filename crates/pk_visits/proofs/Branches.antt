@@ -4,7 +4,7 @@ use Rattle.pk_ctypes.specs.declared.places.Pos.{Pos}
 use Rattle.pk_typed.specs.Trees.{ValueTree, StatementTree}
 use Rattle.pk_typed.specs.Trees as tree
 use Rattle.pk_welltyped.specs.Listed.{Numbered, calls_in, calls_in_statement}
-use Rattle.pk_welltyped.specs.WellTyped.{IsStatement}
+use Rattle.pk_welltyped.specs.WellTyped.{IsValue, IsStatement}
 use Rattle.pk_graph.specs.Trees.{Skip}
 use Rattle.pk_draft.specs.declared.drafts.Label.{Label}
 use Rattle.pk_draft.specs.Drafts.{on, at, fresh, link}
@@ -16,6 +16,7 @@ use Rattle.pk_meaning.specs.Work.{Place, Work, Ahead, Onward}
 use Rattle.pk_meaning.specs.Steps.{place}
 use Rattle.pk_visits.proofs.Slots.{Draft, Among, edge, last_among, front_among}
 use Rattle.pk_visits.proofs.Stands.{Whole, Proper, context_of, Held, around, AreCalm, ShowsAt, Stage, led_to, Marking, LaidAhead, LaidWay, Laid}
+use Rattle.pk_visits.proofs.Settled.{Settles}
 use Rattle.pk_visits.proofs.Stages.{In, all_called, ways_grow, part_first, part_second, part_until, stage_at, part_point, part_room, fresh_first, fresh_second, fresh_one}
 use Rattle.pk_visits.proofs.Grows.{fresh_one_grows}
 use Rattle.pk_visits.proofs.Tells.{sane, any_called}
@@ -117,10 +118,18 @@ parts g proper k h choice a b p xs ys zs d s hc ha hb ac aa ab =
       more_too = v2;
     }
 
+-- a test that decides between two works at its place, in the same exits
+abbrev pub ChoiceLaid : Whole → ℕ → Place → Exits → ValueTree → (yes no : Work) → ℕ → List Held → Type 0
+ChoiceLaid g k h x e v w p hs = (d : Draft) × (n : ℕ) × (i : ℕ) × (j : ℕ) × (d.point ≡ p) × IsValue (around g k n) e × AreCalm d.variables hs × Stage g k h (calls_in e) d ((ways (context_of g k) e).choice i j d)
+    × ShowsAt g i k h × Laid g k h x v i hs × ShowsAt g j k h × Laid g k h x w j hs
+
+pub choice_laid : (g : Whole) (k : ℕ) (h : Place) (x : Exits) (e : ValueTree) (v w : Work) (p : ℕ) (hs : List Held) → ChoiceLaid g k h x e v w p hs → Laid g k h x (work.Test e (Onward h v) (Onward h w)) p hs
+choice_laid g k h x e v w p hs (d, n, i, j, is, fits, calm, t, there, first, other, second) = (d, n, i, j, is, fits, calm, t, (there, (x, first)), (other, (x, second)))
+
 pub if_else_laid : (g : Whole) (proper : Proper g) (k : ℕ) (h : Place) (x : Exits) (p : Pos) (e : ValueTree) (s r : StatementTree) (a : Ahead) (pt : ℕ) (hs : List Held) → Laid g k h x (work.Do (tree.if_else p e s r) a) pt hs
-    → Laid g k (place p h.scope) x (work.Test e (Onward (place p h.scope) (work.Do s (work.Join (place p h.scope) a))) (Onward (place p h.scope) (work.Do r (work.Join (place p h.scope) a)))) pt hs
-unfolding lowered IsStatement calls_in_statement
-if_else_laid g proper k h x p e s r a pt hs (d, n, m, is, fits, calm, t, marking, l) =
+    → ChoiceLaid g k (place p h.scope) x e (work.Do s (work.Join (place p h.scope) a)) (work.Do r (work.Join (place p h.scope) a)) pt hs
+unfolding lowered IsStatement calls_in_statement Settles
+if_else_laid g proper k h x p e s r a pt hs (d, n, m, is, fits, calm, t, marking, settled, l) =
     let c = context_of g k in
     let choice = (ways c e).choice in
     let fa = lowered c s x in
@@ -143,39 +152,31 @@ if_else_laid g proper k h x p e s r a pt hs (d, n, m, is, fits, calm, t, marking
       fits.0,
       calm,
       q.test,
+      q.yes,
       (
-        q.yes,
-        (
-          x,
-          (
-            at d.points (chosen choice p d),
-            n,
-            m,
-            refl,
-            fits.1,
-            calm_more d.variables (chosen choice p d).variables hs v1 calm,
-            q.first,
-            subst (Marking x m) (sym q.first_marks) marking,
-            ((second_end choice fa fb p d).points, q.meets, q.join, l),
-          ),
-        ),
+        at d.points (chosen choice p d),
+        n,
+        m,
+        refl,
+        fits.1,
+        calm_more d.variables (chosen choice p d).variables hs v1 calm,
+        q.first,
+        subst (Marking x m) (sym q.first_marks) marking,
+        settled.0,
+        ((second_end choice fa fb p d).points, q.meets, q.join, l),
       ),
+      q.no,
       (
-        q.no,
-        (
-          x,
-          (
-            at (d.points + 1) (first_end choice fa p d),
-            _,
-            m,
-            refl,
-            fits.2,
-            calm_more d.variables (first_end choice fa p d).variables hs v2 calm,
-            q.second,
-            subst (Marking x m) (sym q.second_marks) marking,
-            ((second_end choice fa fb p d).points, q.meets_too, q.join, l),
-          ),
-        ),
+        at (d.points + 1) (first_end choice fa p d),
+        _,
+        m,
+        refl,
+        fits.2,
+        calm_more d.variables (first_end choice fa p d).variables hs v2 calm,
+        q.second,
+        subst (Marking x m) (sym q.second_marks) marking,
+        settled.1,
+        ((second_end choice fa fb p d).points, q.meets_too, q.join, l),
       ),
     )
 
@@ -198,9 +199,9 @@ with_none g k h xs d f s = record {
 }
 
 pub if_then_laid : (g : Whole) (proper : Proper g) (k : ℕ) (h : Place) (x : Exits) (p : Pos) (e : ValueTree) (s : StatementTree) (a : Ahead) (pt : ℕ) (hs : List Held) → Laid g k h x (work.Do (tree.if_then p e s) a) pt hs
-    → Laid g k (place p h.scope) x (work.Test e (Onward (place p h.scope) (work.Do s (work.Join (place p h.scope) a))) (Onward (place p h.scope) (work.Go (work.Join (place p h.scope) a)))) pt hs
-unfolding lowered IsStatement calls_in_statement
-if_then_laid g proper k h x p e s a pt hs (d, n, m, is, fits, calm, t, marking, l) =
+    → ChoiceLaid g k (place p h.scope) x e (work.Do s (work.Join (place p h.scope) a)) (work.Go (work.Join (place p h.scope) a)) pt hs
+unfolding lowered IsStatement calls_in_statement Settles
+if_then_laid g proper k h x p e s a pt hs (d, n, m, is, fits, calm, t, marking, settled, l) =
     let c = context_of g k in
     let choice = (ways c e).choice in
     let fa = lowered c s x in
@@ -222,22 +223,19 @@ if_then_laid g proper k h x p e s a pt hs (d, n, m, is, fits, calm, t, marking, 
       fits.0,
       calm,
       q.test,
+      q.yes,
       (
-        q.yes,
-        (
-          x,
-          (
-            at d.points (chosen choice p d),
-            n,
-            m,
-            refl,
-            fits.1,
-            calm_more d.variables (chosen choice p d).variables hs v1 calm,
-            q.first,
-            subst (Marking x m) (sym q.first_marks) marking,
-            ((second_end choice fa fb p d).points, q.meets, q.join, l),
-          ),
-        ),
+        at d.points (chosen choice p d),
+        n,
+        m,
+        refl,
+        fits.1,
+        calm_more d.variables (chosen choice p d).variables hs v1 calm,
+        q.first,
+        subst (Marking x m) (sym q.first_marks) marking,
+        settled,
+        ((second_end choice fa fb p d).points, q.meets, q.join, l),
       ),
-      (q.no, (x, (calm_plain d.variables hs calm, ((second_end choice fa fb p d).points, q.meets_too, q.join, l)))),
+      q.no,
+      (calm_plain d.variables hs calm, ((second_end choice fa fb p d).points, q.meets_too, q.join, l)),
     )

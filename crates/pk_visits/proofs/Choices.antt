@@ -28,7 +28,8 @@ use Rattle.pk_meaning.specs.Work.{Place, Work, Ahead, Way, Onward, Refused, Lost
 use Rattle.pk_meaning.specs.Steps as meaning
 use Rattle.pk_meaning.specs.Steps.{step_of}
 use Rattle.pk_visits.proofs.Slots.{SlotTree, Draft, Memory, memory, Among, edge, front_among, last_among}
-use Rattle.pk_visits.proofs.Stands.{Whole, context_of, around, Marking, Held, Means, FitsObjects, ShowsAt, Leads, Stage, switch_from, LaidWay, Laid}
+use Rattle.pk_visits.proofs.Settled.{Settles}
+use Rattle.pk_visits.proofs.Stands.{Whole, context_of, final, around, Marking, Held, Means, FitsObjects, ShowsAt, Leads, Stage, switch_from, LaidWay, Laid}
 use Rattle.pk_visits.proofs.Follow.{Answers, config, moved}
 use Rattle.pk_visits.proofs.Tests.{passes, along}
 use Rattle.pk_visits.proofs.Values.{binary_is}
@@ -67,7 +68,7 @@ pub choose_test : (g : Whole) (chosen : Numbers) (p : ℕ) (m : Memory) (k : ℕ
     → Means m (top ∷ hs) (v ∷ vs) → m.objects ≡ s → FitsObjects g.program s
     → Answers g chosen k h p m (step_of g.program chosen (config k h (work.Choose t (z ∷ zs) i has body j a) (v ∷ vs) s b) (work.Choose t (z ∷ zs) i has body j a))
 unfolding case_tests
-choose_test g chosen p m k h j t z zs i has body a v vs s b x top hs (d, n, mark, r, total, e, at', types, many, fits, calm, u, marking, shown, l) way means same f = by (int_eq v z) refl where
+choose_test g chosen p m k h j t z zs i has body a v vs s b x top hs (d, n, mark, r, total, e, at', types, many, fits, calm, u, marking, settled, shown, l) way means same f = by (int_eq v z) refl where
   T : SlotTree
   T = binary_tree Eq r t top.tree (constant t z)
 
@@ -109,6 +110,9 @@ choose_test g chosen p m k h j t z zs i has body a v vs s b x top hs (d, n, mark
   next : ShowsAt g d.points k j
   next = part_point g Stays U k j j (calls_in_statement body) d (fresh 1 d) F d.points d.here u grow (omega arith) (omega arith) (fresh_one d room) here
 
+  settled_next : Settles (final g k) (context_of g k) body (in_switch e total x) (away (if has then e + 1 + total else e) (case_tests r t top.tree zs (e + 1 + (i + 1)) d1))
+  settled_next = subst (λ q. Settles (final g k) (context_of g k) body (in_switch e total x) (away (if has then e + 1 + total else e) (case_tests r t top.tree zs q d1))) (omega arith) settled
+
   laid : Laid g k j x (work.Choose t zs (i + 1) has body j a) d.points (top ∷ hs)
   laid = (
     d1,
@@ -126,6 +130,7 @@ choose_test g chosen p m k h j t z zs i has body a v vs s b x top hs (d, n, mark
         (ap (λ q. go Skip e (lowered (context_of g k) body (in_switch e total x) (away (if has then e + 1 + total else e) (case_tests r t top.tree zs q d1)))) (omega arith))
         (stage_at g k j j (calls_in_statement body) d d1 F u (omega arith) here),
     marking,
+    settled_next,
     shown,
     l,
   )
@@ -159,7 +164,7 @@ pub choose_default : (g : Whole) (chosen : Numbers) (p : ℕ) (m : Memory) (k : 
     → (l : Laid g k h x (work.Choose t [] i true body j a) p (top ∷ hs)) → LaidWay g k (meaning.found g.program k meaning.otherwise j.scope body (work.Close j a) Lost) (l.5 + 1 + l.4) hs
     → Means m (top ∷ hs) (v ∷ vs) → m.objects ≡ s → FitsObjects g.program s
     → Answers g chosen k h p m (step_of g.program chosen (config k h (work.Choose t [] i true body j a) (v ∷ vs) s b) (work.Choose t [] i true body j a))
-choose_default g chosen p m k h j t i body a v vs s b x top hs (d, n, mark, r, total, e, at', types, many, fits, calm, u, marking, shown, l) way means same f =
+choose_default g chosen p m k h j t i body a v vs s b x top hs (d, n, mark, r, total, e, at', types, many, fits, calm, u, marking, settled, shown, l) way means same f =
     let there = none_edge g k j t i total e true body x top.tree r d n mark u fits marking in
     jump_along g chosen p (e + 1 + total) m k h (work.Choose t [] i true body j a) (v ∷ vs) vs s b (meaning.found g.program k meaning.otherwise j.scope body (work.Close j a) Lost) hs
     (subst (λ q. Among (edge q Skip (e + 1 + total)) g.edges) at' there) way means.2 same f
@@ -167,7 +172,7 @@ choose_default g chosen p m k h j t i body a v vs s b x top hs (d, n, mark, r, t
 pub choose_none : (g : Whole) (chosen : Numbers) (p : ℕ) (m : Memory) (k : ℕ) (h j : Place) (t : IntType) (i : ℕ) (body : StatementTree) (a : Ahead) (v : ℤ) (vs : Numbers) (s : Objects) (b : Bool) (x : Exits) (top : Held) (hs : List Held)
     → Laid g k h x (work.Choose t [] i false body j a) p (top ∷ hs) → Means m (top ∷ hs) (v ∷ vs) → m.objects ≡ s → FitsObjects g.program s
     → Answers g chosen k h p m (step_of g.program chosen (config k h (work.Choose t [] i false body j a) (v ∷ vs) s b) (work.Choose t [] i false body j a))
-choose_none g chosen p m k h j t i body a v vs s b x top hs (d, n, mark, r, total, e, at', types, many, fits, calm, u, marking, shown, l) means same f =
+choose_none g chosen p m k h j t i body a v vs s b x top hs (d, n, mark, r, total, e, at', types, many, fits, calm, u, marking, settled, shown, l) means same f =
     let there = none_edge g k j t i total e false body x top.tree r d n mark u fits marking in
     moved g chosen p e m m Skip k j (work.Go a) vs s true x hs (subst (λ q. Among (edge q Skip e) g.edges) at' there) refl (refl, shown) (calm_plain d.variables hs calm.1, l) means.2 same f
 
@@ -178,6 +183,6 @@ pub goto_followed : (g : Whole) (chosen : Numbers) (p : ℕ) (m : Memory) (k : �
     → Laid g k h x (work.Do (tree.goto q n) a) p hs → LaidWay g k (meaning.gone_to g.program k n a) (x.labels + n) hs → Means m hs vs → m.objects ≡ s → FitsObjects g.program s
     → Answers g chosen k h p m (step_of g.program chosen (config k h (work.Do (tree.goto q n) a) vs s b) (work.Do (tree.goto q n) a))
 unfolding lowered
-goto_followed g chosen p m k h vs s b x hs q n a (d, o, mark, at', fits, calm, t, marking, l) way means same f =
+goto_followed g chosen p m k h vs s b x hs q n a (d, o, mark, at', fits, calm, t, marking, settled, l) way means same f =
     jump_along g chosen p (x.labels + n) m k h (work.Do (tree.goto q n) a) vs vs s b (meaning.gone_to g.program k n a) hs
     (subst (λ i. Among (edge i Skip (x.labels + n)) g.edges) at' (jump_edge g k _ _ q (x.labels + n) d t)) way means same f

@@ -1,7 +1,5 @@
 -- The graph follows the program at each step of all work but declarations, marks and jumps to them.
 use Rattle.std.proofs.Common.{◌≡◌, ℕ, List, [], ◌∷◌, Bool, Some, None}
-use Rattle.pk_ctypes.specs.declared.types.IntType.TheVariants.{Int}
-use Rattle.pk_ctypes.specs.Types.{InType}
 use Rattle.pk_typed.specs.Trees.{StatementTree}
 use Rattle.pk_typed.specs.Trees as tree
 use Rattle.pk_graph.specs.Steps.{Numbers}
@@ -78,7 +76,7 @@ IsReady (work.Renewed op q o t w) = Unit {0}
 IsReady (work.Replace op q o r a w) = Unit {0}
 IsReady (work.Item a j w) = Unit {0}
 IsReady (work.Claim q w) = Unit {0}
-IsReady (work.Truth z w) = InType Int z
+IsReady (work.Truth z w) = Unit {0}
 IsReady (work.Fill d j es w) = Unit {0}
 IsReady (work.Pass es w) = Unit {0}
 IsReady (work.Bind j i ts w) = Unit {0}
@@ -200,7 +198,7 @@ followed (work.Choose t zs i d r j a) ready g proper bodies chosen p m k h vs s 
 followed (work.Perform d w) ready g proper bodies chosen p m k h vs s b x hs l e same f = perform g proper chosen p m k h d w vs s b x hs l e same f
 followed (work.Evaluate v w) ready g proper bodies chosen p m k h vs s b x hs l e same f = evaluate g proper chosen p m k h v w vs s b x hs l e same f
 followed (work.Test v y n) ready g proper bodies chosen p m k h vs s b x hs l e same f = test g chosen p m k h v y n vs s b x hs l e same f
-followed (work.Truth z w) ready g proper bodies chosen p m k h vs s b x hs l e same f = truth g chosen p m k h z w vs s b x hs ready l e same f
+followed (work.Truth z w) ready g proper bodies chosen p m k h vs s b x hs l e same f = truth g chosen p m k h z w vs s b x hs l e same f
 followed (work.Fill d j es w) ready g proper bodies chosen p m k h vs s b x hs l e same f = fill_followed d j es w g proper chosen p m k h vs s b x hs l e same f
 followed (work.Pass es w) ready g proper bodies chosen p m k h vs s b x hs l e same f = pass g chosen p m k h es w vs s b x hs l e same f
 followed (work.Bind j i ts w) ready g proper bodies chosen p m k h vs s b x hs l e same f = bind g chosen p m k h j i ts w vs s b x hs l e same f

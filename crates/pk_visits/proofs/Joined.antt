@@ -1,8 +1,9 @@
 -- From the work of `&&`, `||` and `?:` as values to that of their tests and arms, and from a test to its parts.
-use Rattle.std.proofs.Common.{◌≡◌, ℕ, ◌+◌, ◌≤◌, List, [], ◌∷◌, ◌++◌, refl, sym, ap, ◌∙◌, subst, arith, length}
+use Rattle.std.proofs.Common.{◌≡◌, ℕ, ◌+◌, ◌≤◌, List, [], ◌∷◌, ◌++◌, refl, sym, ap, ◌∙◌, subst, arith, length, true, false}
 use Rattle.std.specs.Prelude.{pos}
 use Rattle.pk_ctypes.specs.declared.types.IntType.{IntType}
 use Rattle.pk_ctypes.specs.declared.types.IntType.TheVariants.{Int}
+use Rattle.pk_ctypes.proofs.Values.{truth_in}
 use Rattle.pk_typed.specs.Trees.{ValueTree, EffectTree}
 use Rattle.pk_typed.specs.Trees as tree
 use Rattle.pk_typed.specs.Types.{type_of}
@@ -201,8 +202,8 @@ truths_laid g k h x e w choice n d hs same gc any_c fits calm s l =
       fits,
       calm_more d.variables (begun Int d).variables hs (omega arith) calm,
       subst (λ (ch : (p q : ℕ) → Draft → Draft). Stage g k h xs (begun Int d) (ch d.points (d.points + 1) (begun Int d))) same q.test,
-      (shows_first g k h (xs ++ [] ++ []) Int d f split q.after, (x, (d.points + 2, d.variables, q.sets, l'))),
-      (shows_second g k h (xs ++ [] ++ []) Int d f split q.after, (x, (d.points + 2, d.variables, q.sets_too, l'))),
+      (shows_first g k h (xs ++ [] ++ []) Int d f split q.after, (x, (d.points + 2, d.variables, q.sets, truth_in Int true, l'))),
+      (shows_second g k h (xs ++ [] ++ []) Int d f split q.after, (x, (d.points + 2, d.variables, q.sets_too, truth_in Int false, l'))),
     )
 
 pub and_laid : (g : Whole) (k : ℕ) (h : Place) (x : Exits) (a b : ValueTree) (w : Work) (p : ℕ) (hs : List Held) → Laid g k h x (work.Evaluate (tree.and a b) w) p hs

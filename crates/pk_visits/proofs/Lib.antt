@@ -32,6 +32,7 @@ mod Returns
 mod Thirds
 mod Fills
 mod Firsts
+mod Shown
 mod Starts
 mod Declared
 mod Choices

@@ -43,7 +43,7 @@ both_true false b h = absurd (grind (arith, h))
 
 -- what waits for the function's end, from any place in its body
 pub caller_laid : (g : Whole) (k : ℕ) (x : Exits) (a : Ahead) (p : ℕ) (hs : List Held) → LaidAhead g k x a p hs → ShowsAt g x.left k (meaning.body_place g.program k) × LaidCaller g k (caller_of a) x.left hs
-caller_laid g k x (work.Rest xs is a) p hs (d, n, m, is', fits, calm, s, marking, l) = caller_laid g k x a _ hs l
+caller_laid g k x (work.Rest xs is a) p hs (d, n, m, is', fits, calm, s, marking, settled, l) = caller_laid g k x a _ hs l
 caller_laid g k x (work.Join h a) p hs (q, there, shown, l) = caller_laid g k x a q hs l
 caller_laid g k x (work.Again h loop e a) p hs (y, b, there, shown, same, loops, cont, behind, l) =
     subst (λ (z : Exits). ShowsAt g z.left k (meaning.body_place g.program k) × LaidCaller g k (caller_of a) z.left hs) (sym same) (caller_laid g k y a _ hs l)
@@ -93,7 +93,7 @@ pub jump_edge : (g : Whole) (k : ℕ) (h : Place) (xs : List Numbered) (p : Pos)
 jump_edge g k h xs p q d s = s.leads.edges _ (last_among d.edges (edge d.point Skip q))
 
 pub broken_laid : (g : Whole) (k : ℕ) (x : Exits) (a : Ahead) (p : ℕ) (hs : List Held) → ArePlain hs → LaidAhead g k x a p hs → LaidWay g k (meaning.broken a) x.broken hs
-broken_laid g k x (work.Rest xs is a) p hs plain (d, n, m, is', fits, calm, s, marking, l) = broken_laid g k x a _ hs plain l
+broken_laid g k x (work.Rest xs is a) p hs plain (d, n, m, is', fits, calm, s, marking, settled, l) = broken_laid g k x a _ hs plain l
 broken_laid g k x (work.Join h a) p hs plain (q, there, shown, l) = broken_laid g k x a q hs plain l
 broken_laid g k x (work.Again h loop e a) p hs plain (y, b, there, shown, same, loops, cont, behind, l) = (behind, (y, (plain, l)))
 broken_laid g k x (work.Close h a) p hs plain (y, there, shown, same, l) = (shown, (y, (plain, l)))
@@ -103,7 +103,7 @@ broken_laid g k x (work.End c) p hs plain l = tt
 pub break_laid : (g : Whole) (k : ℕ) (h : Place) (x : Exits) (p : Pos) (a : Ahead) (pt : ℕ) (hs : List Held) → Laid g k h x (work.Do (tree.break p) a) pt hs
     → Among (edge pt Skip x.broken) g.edges × LaidWay g k (meaning.broken a) x.broken hs
 unfolding lowered
-break_laid g k h x p a pt hs (d, n, m, is, fits, calm, s, marking, l) =
+break_laid g k h x p a pt hs (d, n, m, is, fits, calm, s, marking, settled, l) =
     (subst (λ q. Among (edge q Skip x.broken) g.edges) is (jump_edge g k _ _ p x.broken d s), broken_laid g k x a _ hs (calm_plain d.variables hs calm) l)
 
 -- `return` without a value

@@ -16,6 +16,7 @@ use Rattle.pk_meaning.specs.Work.{Place, Work, Ahead, Loop, Onward, While, DoWhi
 use Rattle.pk_meaning.specs.Steps.{place}
 use Rattle.pk_visits.proofs.Slots.{Draft, Among, edge, last_among, Keeps}
 use Rattle.pk_visits.proofs.Stands.{Whole, Proper, context_of, Held, ArePlain, ShowsAt, Stage, led_to, Loops, ContinuesAt, LaidAhead, Laid}
+use Rattle.pk_visits.proofs.Settled.{Settles}
 use Rattle.pk_visits.proofs.Stages.{In, all_called, ways_grow, part_first, part_second, part_until, stage_at, part_point, part_room, three_first, three_second, three_third}
 use Rattle.pk_visits.proofs.Grows.{fresh_three_grows}
 use Rattle.pk_visits.proofs.Tells.{sane, any_called}
@@ -48,8 +49,8 @@ begun g R C k h j xs d0 d f s le u shows =
 -- `while`: the edge to its head, and the work there
 pub while_laid : (g : Whole) (proper : Proper g) (k : ℕ) (h : Place) (x : Exits) (p : Pos) (e : ValueTree) (s : StatementTree) (a : Ahead) (pt : ℕ) (hs : List Held) → Laid g k h x (work.Do (tree.while p e s) a) pt hs
     → (q : ℕ) × Among (edge pt Skip q) g.edges × ShowsAt g q k (place p h.scope) × Laid g k (place p h.scope) x (work.Turn (place p h.scope) (While e s) (place p h.scope) a) q hs
-unfolding lowered IsStatement calls_in_statement
-while_laid g proper k h x p e s a pt hs (d, n, m, is, fits, calm, t, marking, l) =
+unfolding lowered IsStatement calls_in_statement Settles
+while_laid g proper k h x p e s a pt hs (d, n, m, is, fits, calm, t, marking, settled, l) =
     let c = context_of g k in
     let j = place p h.scope in
     let o = on p d in
@@ -77,6 +78,7 @@ while_laid g proper k h x p e s a pt hs (d, n, m, is, fits, calm, t, marking, l)
           fits = fits;
           stage = part_until g Stays k j (calls_in e ++ calls_in_statement s) b f (at (o.points + 2) f) s0 (record { edges = λ v w. w; names = refl; variables = omega arith; points = omega arith; size = refl; labels = λ v w. inr refl; regions = λ v. inr refl; paths = refl; scopes = λ n z h. h; here = (refl, refl) });
           marking = marking;
+          settled = settled;
           calm = calm;
           heads = z.first;
           begins = z.second;
@@ -91,8 +93,8 @@ while_laid g proper k h x p e s a pt hs (d, n, m, is, fits, calm, t, marking, l)
 -- `do`: the edge to its body
 pub do_laid : (g : Whole) (proper : Proper g) (k : ℕ) (h : Place) (x : Exits) (p : Pos) (s : StatementTree) (e : ValueTree) (a : Ahead) (pt : ℕ) (hs : List Held) → Laid g k h x (work.Do (tree.do_while p s e) a) pt hs
     → (q : ℕ) × Among (edge pt Skip q) g.edges × ShowsAt g q k (place p h.scope) × Laid g k (place p h.scope) x (work.Turn (place p h.scope) (DoWhile s e) (place p h.scope) a) q hs
-unfolding lowered IsStatement calls_in_statement
-do_laid g proper k h x p s e a pt hs (d, n, m, is, fits, calm, t, marking, l) =
+unfolding lowered IsStatement calls_in_statement Settles
+do_laid g proper k h x p s e a pt hs (d, n, m, is, fits, calm, t, marking, settled, l) =
     let c = context_of g k in
     let j = place p h.scope in
     let o = on p d in
@@ -120,6 +122,7 @@ do_laid g proper k h x p s e a pt hs (d, n, m, is, fits, calm, t, marking, l) =
           fits = fits;
           stage = part_until g Stays k j (calls_in_statement s ++ calls_in e) b f (at (o.points + 2) f) s0 (record { edges = λ v w. w; names = refl; variables = omega arith; points = omega arith; size = refl; labels = λ v w. inr refl; regions = λ v. inr refl; paths = refl; scopes = λ n z h. h; here = (refl, refl) });
           marking = marking;
+          settled = settled;
           calm = calm;
           heads = z.first;
           begins = z.first;
@@ -138,10 +141,10 @@ pub again : (g : Whole) (k : ℕ) (h : Place) (x : Exits) (l : Loop) (e : Place)
     → LaidAhead g k x a o hs → LaidAhead g k (inside o c x) (work.Again h l e a) t hs
 again g k h x l e a p c o t hs loop cont there shown z = (x, p, there, loop.continues, refl, loop, cont, shown, z)
 
--- a `while` where it begins again: its test, then the body or what is behind
-pub turn_while : (g : Whole) (proper : Proper g) (k : ℕ) (h i : Place) (x : Exits) (e : ValueTree) (s : StatementTree) (o : Place) (a : Ahead) (p : ℕ) (hs : List Held) → Laid g k i x (work.Turn h (While e s) o a) p hs
-    → Laid g k h x (work.Test e (Onward h (work.Do s (work.Again h (While e s) o a))) (Onward o (work.Go a))) p hs
-turn_while g proper k h i x e s o a p hs (is, plain, c, b, loop, cont, shown, z) =
+-- the test of a `while` where it begins again, and its body
+pub while_parts : (g : Whole) (proper : Proper g) (k : ℕ) (h : Place) (x : Exits) (e : ValueTree) (s : StatementTree) (o : Place) (a : Ahead) (p c b : ℕ) (hs : List Held) → (loop : Loops g k h x (While e s) p c b hs) → p ≡ c → ShowsAt g b k o → LaidAhead g k x a b hs
+    → Stage g k h (calls_in e) loop.draft ((ways (context_of g k) e).choice loop.begin b loop.draft) × Laid g k h (inside b loop.draft.point x) (work.Do s (work.Again h (While e s) o a)) loop.begin hs
+while_parts g proper k h x e s o a p c b hs loop cont shown z =
     let ctx = context_of g k in
     let d = loop.draft in
     let t = loop.stage in
@@ -160,37 +163,31 @@ turn_while g proper k h i x e s o a p hs (is, plain, c, b, loop, cont, shown, z)
     let sd = part_until g Stays k _ (calls_in_statement s) (at loop.begin d1) d2 f ss (link_adds t.marks (In []) Skip d.point d2) in
     let back = t.leads.edges _ (last_among d2.edges (edge d2.point Skip d.point)) in
     let same : d.point ≡ c = loop.at ∙ cont in (
-      d,
-      loop.objects,
-      loop.begin,
-      b,
-      loop.at,
-      loop.fits.0,
-      loop.calm,
       se,
       (
-        loop.begins,
-        (
-          y,
-          (
-            at loop.begin d1,
-            loop.objects,
-            loop.mark,
-            refl,
-            loop.fits.1,
-            calm_more d.variables d1.variables hs ve loop.calm,
-            sd,
-            marking_inside x loop.mark t.marks b d.point loop.marking,
-            subst (λ q. LaidAhead g k (inside b q x) (work.Again h (While e s) o a) d2.point hs) (sym same) (again g k h x (While e s) o a p c b d2.point hs loop cont (subst (λ q. Among (edge d2.point Skip q) g.edges) same back) shown z),
-          ),
-        ),
+        at loop.begin d1,
+        loop.objects,
+        loop.mark,
+        refl,
+        loop.fits.1,
+        calm_more d.variables d1.variables hs ve loop.calm,
+        sd,
+        marking_inside x loop.mark t.marks b d.point loop.marking,
+        loop.settled,
+        subst (λ q. LaidAhead g k (inside b q x) (work.Again h (While e s) o a) d2.point hs) (sym same) (again g k h x (While e s) o a p c b d2.point hs loop cont (subst (λ q. Among (edge d2.point Skip q) g.edges) same back) shown z),
       ),
-      (shown, (x, (plain, z))),
     )
+
+-- a `while` where it begins again: its test, then the body or what is behind
+pub turn_while : (g : Whole) (proper : Proper g) (k : ℕ) (h i : Place) (x : Exits) (e : ValueTree) (s : StatementTree) (o : Place) (a : Ahead) (p : ℕ) (hs : List Held) → Laid g k i x (work.Turn h (While e s) o a) p hs
+    → Laid g k h x (work.Test e (Onward h (work.Do s (work.Again h (While e s) o a))) (Onward o (work.Go a))) p hs
+turn_while g proper k h i x e s o a p hs (is, plain, c, b, loop, cont, shown, z) =
+    let parts = while_parts g proper k h x e s o a p c b hs loop cont shown z in
+    (loop.draft, loop.objects, loop.begin, b, loop.at, loop.fits.0, loop.calm, parts.0, (loop.begins, (inside b loop.draft.point x, parts.1)), (shown, (x, (plain, z))))
 
 -- a `do` where it begins again: its body
 pub turn_do : (g : Whole) (proper : Proper g) (k : ℕ) (h i : Place) (x : Exits) (e : ValueTree) (s : StatementTree) (o : Place) (a : Ahead) (p : ℕ) (hs : List Held) → Laid g k i x (work.Turn h (DoWhile s e) o a) p hs
-    → (y : Exits) × Laid g k h y (work.Do s (work.Again h (DoWhile s e) o a)) p hs
+    → (b : ℕ) × (c : ℕ) × Laid g k h (inside b c x) (work.Do s (work.Again h (DoWhile s e) o a)) p hs
 turn_do g proper k h i x e s o a p hs (is, plain, c, b, loop, cont, shown, z) =
     let ctx = context_of g k in
     let d = loop.draft in
@@ -205,7 +202,8 @@ turn_do g proper k h i x e s o a p hs (is, plain, c, b, loop, cont, shown, z) =
     let first = part_first g Stays k h (calls_in_statement s) (calls_in e) d d2 f t last in
     let ss = stage_at g k h (place d.here.at h.scope) (calls_in_statement s) d (at d.point d) d2 first (omega arith)
     (subst (λ q. g.shows d.here k (place q h.scope)) (proper.at_positions d.here k h t.here) t.here) in (
-      y,
+      b,
+      c,
       (
         at d.point d,
         loop.objects,
@@ -215,6 +213,7 @@ turn_do g proper k h i x e s o a p hs (is, plain, c, b, loop, cont, shown, z) =
         loop.calm,
         ss,
         marking_inside x loop.mark t.marks b c loop.marking,
+        loop.settled,
         again g k h x (DoWhile s e) o a p c b d2.point hs loop cont (t.leads.edges _ (ge.edges _ (last_among d2.edges (edge d2.point Skip c)))) shown z,
       ),
     )

@@ -8,17 +8,19 @@ use Rattle.pk_welltyped.specs.WellTyped.{IsStatement, Marks}
 use Rattle.pk_draft.specs.Drafts.{on, at, fresh, in_scope}
 use Rattle.pk_lower_statement.specs.declared.statements.Exits.{Exits}
 use Rattle.pk_lower_statement.specs.Statements.{inside, for_from, for_start, for_test, loop_begun, performed_if, lowered}
-use Rattle.pk_meaning.specs.Objects.{Scope}
 use Rattle.pk_meaning.specs.Work as work
 use Rattle.pk_meaning.specs.Work.{Place, Work, Ahead, For}
+use Rattle.pk_meaning.specs.Steps as meaning
 use Rattle.pk_meaning.specs.Steps.{place}
 use Rattle.pk_visits.proofs.Slots.{Draft, Among}
-use Rattle.pk_visits.proofs.Stands.{Whole, Proper, context_of, Held, around, AreCalm, ShowsAt, Stage, led_to, Marking, Distinct, LaidAhead, Laid}
+use Rattle.pk_visits.proofs.Settled.{Settles}
+use Rattle.pk_visits.proofs.Stands.{Whole, Proper, context_of, final, Held, around, AreCalm, ShowsAt, Stage, led_to, Marking, Distinct, LaidAhead, Laid}
 use Rattle.pk_visits.proofs.Stages.{In, all_called, part_first, part_second, part_until, stage_at, part_point, part_room, fresh_one}
 use Rattle.pk_visits.proofs.Growing.{front_called, back_called}
 use Rattle.pk_visits.proofs.Tells.{any_called}
 use Rattle.pk_visits.proofs.StatementGrows.{OnPath, Enlarges, enlarges, stays_then, path_then, on_adds, fresh_adds, begun_adds, for_adds, test_adds, third_adds, start_enlarges, statement, marking_inside}
 use Rattle.pk_visits.proofs.Operands.{calm_more}
+use Rattle.pk_visits.proofs.Shown.{start_shown}
 use Rattle.pk_visits.proofs.Thirds.{scope_enlarges}
 use Rattle.pk_visits.proofs.Rounds.{begun}
 use Rattle.pk_visits.proofs.Doom.{calm_plain}
@@ -41,16 +43,15 @@ stage_as g k h xs ys d e is s = record {
   noted = λ z a. s.noted z (subst (Among z) (sym is) a);
 }
 
--- A `for` from its first part: where names are in scope as inner says behind that, the loop begins there.
-pub for_begun : (g : Whole) (proper : Proper g) (k : ℕ) (h : Place) (names : Scope) (x : Exits) (q : Pos) (start : ForStartTree) (v : Option ValueTree) (third : Option EffectTree) (s : StatementTree) (a : Ahead) (hs : List Held) (d : Draft) (n : ℕ) (m : Marks)
+-- A `for` from its first part, behind which the loop begins.
+pub for_begun : (g : Whole) (proper : Proper g) (k : ℕ) (h : Place) (x : Exits) (q : Pos) (start : ForStartTree) (v : Option ValueTree) (third : Option EffectTree) (s : StatementTree) (a : Ahead) (hs : List Held) (d : Draft) (n : ℕ) (m : Marks)
     → IsStatement (around g k n) m (tree.for_loop q start v third s) → AreCalm d.variables hs → (t : Stage g k (place d.here.at h.scope) (calls_in_statement (tree.for_loop q start v third s)) d (lowered (context_of g k) (tree.for_loop q start v third s) x d))
-    → Marking x m t.marks → LaidAhead g k x a (lowered (context_of g k) (tree.for_loop q start v third s) x d).point hs
-    → g.shows (on q (for_start (context_of g k) start (fresh 1 (on q d)))).here k (place q names)
+    → Marking x m t.marks → Settles (final g k) (context_of g k) (tree.for_loop q start v third s) x d → LaidAhead g k x a (lowered (context_of g k) (tree.for_loop q start v third s) x d).point hs
     → Stage g k (place q h.scope) (calls_at_start start) (fresh 1 (on q d)) (for_start (context_of g k) start (fresh 1 (on q d)))
-    × Laid g k (place q names) x (work.Back (place q names) (For v third s) (place q h.scope) a) (for_start (context_of g k) start (fresh 1 (on q d))).point hs
-unfolding lowered IsStatement calls_in_statement
-for_begun g proper k h names x q start v third s a hs d n m fits calm t marking l shows =
-    let inner = place q names in
+    × Laid g k (place q (meaning.for_scope g.program k start h.scope)) x (work.Back (place q (meaning.for_scope g.program k start h.scope)) (For v third s) (place q h.scope) a) (for_start (context_of g k) start (fresh 1 (on q d))).point hs
+unfolding lowered IsStatement calls_in_statement Settles
+for_begun g proper k h x q start v third s a hs d n m fits calm t marking settled l =
+    let inner = place q (meaning.for_scope g.program k start h.scope) in
     let c = context_of g k in
     let o = on q d in
     let d0 = fresh 1 o in
@@ -75,6 +76,8 @@ for_begun g proper k h names x q start v third s a hs d n m fits calm t marking 
     let from_b : Enlarges ms C b W = path_then (enlarges ms C b F loops) (scope_enlarges ms C o.here.scope (at e F)) in
     let from_f : Enlarges ms C f0 W = path_then (enlarges ms C f0 b (stays_then (on_adds ms C q f0) (begun_adds ms C f1))) from_b in
     let first = start_enlarges ms (In (led_to c xs)) c start d0 (all_called c xs) in
+    let st = part_first g OnPath k j xs ys d0 f0 W t0 from_f in
+    let shows = start_shown g proper k h.scope q start d t.here settled.0 st in
     let z = begun g OnPath C k j inner (xs ++ ys) d0 f1 W t0 first.points from_b shows in
     let U = λ (r : ℕ). Unit {0} in
     let all : Enlarges ms U d0 W = path_then (start_enlarges ms U c start d0 (any_called c xs)) (widen ms C f0 W from_f) in
@@ -85,7 +88,7 @@ for_begun g proper k h names x q start v third s a hs d n m fits calm t marking 
     let lv = first.variables in
     let sb = part_until g OnPath k inner ys b F W (part_second g k j inner xs ys d0 b W t0 (omega (arith, le)) shows) (scope_enlarges ms (In []) o.here.scope (at e F)) in
     let calm_b = calm_more d.variables b.variables hs (omega (arith, lv)) calm in (
-      part_first g OnPath k j xs ys d0 f0 W t0 from_f,
+      st,
       (
         calm_plain d.variables hs calm,
         hp,
@@ -102,6 +105,7 @@ for_begun g proper k h names x q start v third s a hs d n m fits calm t marking 
           fits = (fits.1, fits.2, fits.3);
           stage = sb;
           marking = marking;
+          settled = settled.1;
           calm = calm_b;
           heads = z.first;
           begins = z.second;

@@ -133,7 +133,7 @@ for_parts g proper k h x v third s o a p c b hs loop shown z =
     let sd = part_first g OnPath k (place d1.here.at h.scope) (calls_in_statement s) (calls_in_effect_if third) (at loop.begin d1) d2 f ss after in
     let ve = test.variables in
     let there = t.leads.edges _ (behind.edges _ (last_among d2.edges (edge d2.point Skip c))) in
-    (se, (at loop.begin d1, loop.objects, loop.mark, refl, loop.fits.2, calm_more d.variables d1.variables hs ve loop.calm, sd, marks, again g k h x (For v third s) o a p c b d2.point hs loop tt there shown z))
+    (se, (at loop.begin d1, loop.objects, loop.mark, refl, loop.fits.2, calm_more d.variables d1.variables hs ve loop.calm, sd, marks, loop.settled, again g k h x (For v third s) o a p c b d2.point hs loop tt there shown z))
 
 -- a `for` where it begins again: its test, then the body or what is behind
 pub turn_for : (g : Whole) (proper : Proper g) (k : ℕ) (h i : Place) (x : Exits) (e : ValueTree) (third : Option EffectTree) (s : StatementTree) (o : Place) (a : Ahead) (p : ℕ) (hs : List Held)
@@ -223,7 +223,7 @@ resumed_laid g proper k h x (work.DoWhile s e) o a p hs plain l = again_do g pro
 resumed_laid g proper k h x (For v third s) o a p hs plain l = third_laid g proper k h x v third s o a p hs plain l
 
 continued_laid : (g : Whole) (proper : Proper g) (k : ℕ) (x : Exits) (a : Ahead) (p : ℕ) (hs : List Held) → ArePlain hs → LaidAhead g k x a p hs → LaidWay g k (meaning.continued a) x.continued hs
-continued_laid g proper k x (work.Rest xs is a) p hs plain (d, n, m, is', fits, calm, s, marking, l) = continued_laid g proper k x a _ hs plain l
+continued_laid g proper k x (work.Rest xs is a) p hs plain (d, n, m, is', fits, calm, s, marking, settled, l) = continued_laid g proper k x a _ hs plain l
 continued_laid g proper k x (work.Join h a) p hs plain (q, there, shown, l) = continued_laid g proper k x a q hs plain l
 continued_laid g proper k x (work.Again h u o a) p hs plain l = (l.3, resumed_laid g proper k h x u o a p hs plain l)
 continued_laid g proper k x (work.Close h a) p hs plain (y, there, shown, same, l) =
@@ -234,5 +234,5 @@ continued_laid g proper k x (work.End c) p hs plain l = tt
 pub continue_laid : (g : Whole) (proper : Proper g) (k : ℕ) (h : Place) (x : Exits) (p : Pos) (a : Ahead) (pt : ℕ) (hs : List Held) → Laid g k h x (work.Do (tree.continue p) a) pt hs
     → Among (edge pt Skip x.continued) g.edges × LaidWay g k (meaning.continued a) x.continued hs
 unfolding lowered
-continue_laid g proper k h x p a pt hs (d, n, m, is, fits, calm, s, marking, l) =
+continue_laid g proper k h x p a pt hs (d, n, m, is, fits, calm, s, marking, settled, l) =
     (subst (λ q. Among (edge q Skip x.continued) g.edges) is (jump_edge g k _ _ p x.continued d s), continued_laid g proper k x a _ hs (calm_plain d.variables hs calm) l)
