@@ -8,25 +8,23 @@ use Rattle.pk_welltyped.specs.WellTyped.{IsValue, IsStatement}
 use Rattle.pk_graph.specs.Trees.{Skip}
 use Rattle.pk_draft.specs.declared.drafts.Label.{Label}
 use Rattle.pk_draft.specs.Drafts.{on, at, fresh, link}
+use Rattle.pk_draft.specs.declared.drafts.Size.{Size}
 use Rattle.pk_lower_expression.specs.Expressions.{ways}
 use Rattle.pk_lower_statement.specs.declared.statements.Exits.{Exits}
 use Rattle.pk_lower_statement.specs.Statements.{meeting, lowered}
 use Rattle.pk_meaning.specs.Work as work
 use Rattle.pk_meaning.specs.Work.{Place, Work, Ahead, Onward}
 use Rattle.pk_meaning.specs.Steps.{place}
-use Rattle.pk_visits.proofs.Slots.{Draft, Among, edge, last_among, front_among}
-use Rattle.pk_visits.proofs.Stands.{Whole, Proper, context_of, Held, around, AreCalm, ShowsAt, Stage, led_to, Marking, LaidAhead, LaidWay, Laid}
+use Rattle.pk_visits.proofs.Slots.{Draft, Among, edge, last_among, front_among, Uncalled}
+use Rattle.pk_visits.proofs.Stands.{Whole, Proper, context_of, Held, around, AreCalm, ShowsAt, Stage, led_to, Marking, LaidAhead, LaidWay, Laid, IsCalled}
 use Rattle.pk_visits.proofs.Settled.{Settles}
 use Rattle.pk_visits.proofs.Stages.{In, all_called, ways_grow, part_first, part_second, part_until, stage_at, part_point, part_room, fresh_first, fresh_second, fresh_one}
 use Rattle.pk_visits.proofs.Grows.{fresh_one_grows}
-use Rattle.pk_visits.proofs.Tells.{sane, any_called}
-use Rattle.pk_visits.proofs.StatementGrows.{Stays, Adds, adds, on_adds, stays_then, statement, choice_adds, link_adds, fresh_adds, nothing_adds}
+use Rattle.pk_visits.proofs.Tells.{sane, any_called, Any}
+use Rattle.pk_visits.proofs.StatementGrows.{Stays, Adds, adds, on_adds, stays_then, statement, choice_adds, link_adds, fresh_adds, nothing_adds, Free}
 use Rattle.pk_visits.proofs.Operands.{calm_more}
 use Rattle.pk_visits.proofs.Statements.{shows_on}
 use Rattle.pk_visits.proofs.Doom.{calm_plain}
-
-abbrev Any : ℕ → Type 0
-Any z = Unit {0}
 
 -- the draft with two new points, behind the choice, behind each branch, and where both meet
 abbrev opened : Pos → Draft → Draft
@@ -60,17 +58,17 @@ record Parts (g : Whole) (k : ℕ) (j : Place) (choice : (i j : ℕ) → Draft �
   pub more_too : d.variables ≤ (first_end choice a p d).variables
 
 -- the end where both meet
-meeting_adds : (ms : List ℕ) (C : ℕ → Type 0) (p : Pos) (t : ℕ) (u : Draft) → Adds ms C u (meeting p t u)
+meeting_adds : (ms : List ℕ) (C : ℕ → Size → Type 0) (p : Pos) (t : ℕ) (u : Draft) → Adds ms Free C u (meeting p t u)
 meeting_adds ms C p t u =
     let j = fresh 1 (on p u) in
     let l = link Skip u.points (at t j) in
-    stays_then (on_adds ms C p u) (stays_then (fresh_adds ms C 1 (on p u)) (stays_then (link_adds ms C Skip u.points (at t j)) (link_adds ms C Skip u.points (at u.point l))))
+    stays_then (on_adds ms Free C p u) (stays_then (fresh_adds ms Free C 1 (on p u)) (stays_then (link_adds ms Free C Skip u.points (at t j)) (link_adds ms Free C Skip u.points (at u.point l))))
 
 parts : (g : Whole) (proper : Proper g) (k : ℕ) (h : Place) (choice : (i j : ℕ) → Draft → Draft) (a b : Draft → Draft) (p : Pos) (xs ys zs : List Numbered) (d : Draft)
     → (s : Stage g k (place d.here.at h.scope) (xs ++ ys ++ zs) d (met choice a b p d))
-    → Adds s.marks (In (led_to (context_of g k) xs)) (opened p d) (chosen choice p d) → Adds s.marks (In (led_to (context_of g k) ys)) (at d.points (chosen choice p d)) (first_end choice a p d)
-    → Adds s.marks (In (led_to (context_of g k) zs)) (at (d.points + 1) (first_end choice a p d)) (second_end choice a b p d)
-    → Adds s.marks Any (opened p d) (chosen choice p d) → Adds s.marks Any (at d.points (chosen choice p d)) (first_end choice a p d) → Adds s.marks Any (at (d.points + 1) (first_end choice a p d)) (second_end choice a b p d)
+    → Adds s.marks Free (IsCalled (context_of g k) xs) (opened p d) (chosen choice p d) → Adds s.marks Free (IsCalled (context_of g k) ys) (at d.points (chosen choice p d)) (first_end choice a p d)
+    → Adds s.marks Free (IsCalled (context_of g k) zs) (at (d.points + 1) (first_end choice a p d)) (second_end choice a b p d)
+    → Adds s.marks Free Any (opened p d) (chosen choice p d) → Adds s.marks Free Any (at d.points (chosen choice p d)) (first_end choice a p d) → Adds s.marks Free Any (at (d.points + 1) (first_end choice a p d)) (second_end choice a b p d)
     → Parts g k (place p h.scope) choice a b p xs ys zs d s.marks h.scope
 parts g proper k h choice a b p xs ys zs d s hc ha hb ac aa ab =
     let j = place p h.scope in
@@ -80,13 +78,13 @@ parts g proper k h choice a b p xs ys zs d s hc ha hb ac aa ab =
     let u = second_end choice a b p d in
     let f = met choice a b p d in
     let at_on = proper.positions d.here k h.scope p s.here in
-    let opens : Adds s.marks Any (on p d) o = fresh_adds s.marks Any 2 (on p d) in
-    let from_o : Adds s.marks Any o f = stays_then ac (stays_then aa (stays_then ab (meeting_adds s.marks Any p t.point u))) in
+    let opens : Adds s.marks Free Any (on p d) o = fresh_adds s.marks Free Any 2 (on p d) in
+    let from_o : Adds s.marks Free Any o f = stays_then ac (stays_then aa (stays_then ab (meeting_adds s.marks Any p t.point u))) in
     let room = part_room g Stays (In s.marks) Any k _ (xs ++ ys ++ zs) d o f s from_o in
     let size = opens.size in
     let r : (on p d).points + 2 ≤ length (on p d).labels = omega (arith, room, size) in
     let so = stage_at g k (place d.here.at h.scope) j (xs ++ ys ++ zs) d o f s (omega arith) (subst (λ (l : Label). g.shows l k j) (sym (Rattle.pk_visits.proofs.StatementGrows.fresh_grows Any 2 (on p d)).here) at_on) in
-    let su = part_until g Stays k j (xs ++ ys ++ zs) o u f so (meeting_adds s.marks (In []) p t.point u) in
+    let su = part_until g Stays k j (xs ++ ys ++ zs) o u f so (meeting_adds s.marks Uncalled p t.point u) in
     let st = part_first g Stays k j (xs ++ ys) zs o t u su hb in
     let test = part_first g Stays k j xs ys o c t st ha in
     let shows_c = shows_on g proper k h.scope (on p d).here c.here at_on (stays_then opens ac).here in
@@ -96,8 +94,8 @@ parts g proper k h choice a b p xs ys zs d s hc ha hb ac aa ab =
     let second = part_second g k j (place t.here.at h.scope) (xs ++ ys) zs o (at (d.points + 1) t) u su le shows_t in
     let e1 = fresh 1 (on p u) in
     let l1 = link Skip u.points (at t.point e1) in
-    let uj = shows_on g proper k h.scope (on p d).here (on p u).here at_on (stays_then opens (stays_then ac (stays_then aa (stays_then ab (on_adds s.marks Any p u))))).here in
-    let from_e : Adds s.marks Any e1 f = stays_then (link_adds s.marks Any Skip u.points (at t.point e1)) (link_adds s.marks Any Skip u.points (at u.point l1)) in
+    let uj = shows_on g proper k h.scope (on p d).here (on p u).here at_on (stays_then opens (stays_then ac (stays_then aa (stays_then ab (on_adds s.marks Free Any p u))))).here in
+    let from_e : Adds s.marks Free Any e1 f = stays_then (link_adds s.marks Free Any Skip u.points (at t.point e1)) (link_adds s.marks Free Any Skip u.points (at u.point l1)) in
     let room_e = part_room g Stays (In s.marks) Any k _ (xs ++ ys ++ zs) d e1 f s from_e in
     let size_e = (fresh_one_grows Any (on p u)).size in
     let lu = (stays_then opens (stays_then ac (stays_then aa ab))).points in
@@ -138,10 +136,10 @@ if_else_laid g proper k h x p e s r a pt hs (d, n, m, is, fits, calm, t, marking
     let ys = calls_in_statement s in
     let zs = calls_in_statement r in
     let q = parts g proper k h choice fa fb p xs ys zs d t
-    (choice_adds t.marks (In (led_to c xs)) (ways c e) (ways_grow c e) d.points (d.points + 1) (opened p d)) (statement (In (led_to c ys)) c _ m s x t.marks fits.1 marking (all_called c ys) (at d.points (chosen choice p d)))
-    (statement (In (led_to c zs)) c _ m r x t.marks fits.2 marking (all_called c zs) (at (d.points + 1) (first_end choice fa p d)))
-    (choice_adds t.marks Any (ways c e) (sane c e) d.points (d.points + 1) (opened p d)) (statement Any c _ m s x t.marks fits.1 marking (any_called c ys) (at d.points (chosen choice p d)))
-    (statement Any c _ m r x t.marks fits.2 marking (any_called c zs) (at (d.points + 1) (first_end choice fa p d))) in
+    (choice_adds t.marks Free (IsCalled c xs) (ways c e) (ways_grow c e) d.points (d.points + 1) (opened p d)) (statement (IsCalled c ys) c _ m s x t.marks Free (λ i o. tt) fits.1 marking (all_called c ys) (at d.points (chosen choice p d)))
+    (statement (IsCalled c zs) c _ m r x t.marks Free (λ i o. tt) fits.2 marking (all_called c zs) (at (d.points + 1) (first_end choice fa p d)))
+    (choice_adds t.marks Free Any (ways c e) (sane c e) d.points (d.points + 1) (opened p d)) (statement Any c _ m s x t.marks Free (λ i o. tt) fits.1 marking (any_called c ys) (at d.points (chosen choice p d)))
+    (statement Any c _ m r x t.marks Free (λ i o. tt) fits.2 marking (any_called c zs) (at (d.points + 1) (first_end choice fa p d))) in
     let v1 = q.more in
     let v2 = q.more_too in (
       opened p d,
@@ -210,10 +208,10 @@ if_then_laid g proper k h x p e s a pt hs (d, n, m, is, fits, calm, t, marking, 
     let ys = calls_in_statement s in
     let split : Stage g k (place d.here.at h.scope) (xs ++ ys ++ []) d (met choice fa fb p d) = with_none g k (place d.here.at h.scope) (xs ++ ys) d (met choice fa fb p d) t in
     let q = parts g proper k h choice fa fb p xs ys [] d split
-    (choice_adds t.marks (In (led_to c xs)) (ways c e) (ways_grow c e) d.points (d.points + 1) (opened p d)) (statement (In (led_to c ys)) c _ m s x t.marks fits.1 marking (all_called c ys) (at d.points (chosen choice p d)))
-    (nothing_adds t.marks (In []) (first_end choice fa p d))
-    (choice_adds t.marks Any (ways c e) (sane c e) d.points (d.points + 1) (opened p d)) (statement Any c _ m s x t.marks fits.1 marking (any_called c ys) (at d.points (chosen choice p d)))
-    (nothing_adds t.marks Any (first_end choice fa p d)) in
+    (choice_adds t.marks Free (IsCalled c xs) (ways c e) (ways_grow c e) d.points (d.points + 1) (opened p d)) (statement (IsCalled c ys) c _ m s x t.marks Free (λ i o. tt) fits.1 marking (all_called c ys) (at d.points (chosen choice p d)))
+    (nothing_adds t.marks Free (IsCalled c []) (first_end choice fa p d))
+    (choice_adds t.marks Free Any (ways c e) (sane c e) d.points (d.points + 1) (opened p d)) (statement Any c _ m s x t.marks Free (λ i o. tt) fits.1 marking (any_called c ys) (at d.points (chosen choice p d)))
+    (nothing_adds t.marks Free Any (first_end choice fa p d)) in
     let v1 = q.more in (
       opened p d,
       n,

@@ -13,6 +13,7 @@ use Rattle.pk_ctypes.specs.declared.faults.Fault.TheVariants.{Overflow}
 use Rattle.pk_ctypes.proofs.Values.{fitted_inside, truth_in}
 use Rattle.pk_draft.specs.Drafts.{fresh, link, go, away}
 use Rattle.pk_draft.specs.Folding.{binary_tree}
+use Rattle.pk_draft.specs.declared.drafts.Size.{Size}
 use Rattle.pk_lower_statement.specs.declared.statements.Exits.{Exits}
 use Rattle.pk_lower_statement.specs.Statements.{in_switch, case_test, case_tests, lowered}
 use Rattle.pk_ctypes.specs.declared.places.Pos.{Pos}
@@ -34,8 +35,8 @@ use Rattle.pk_visits.proofs.Follow.{Answers, config, moved}
 use Rattle.pk_visits.proofs.Tests.{passes, along}
 use Rattle.pk_visits.proofs.Values.{binary_is}
 use Rattle.pk_visits.proofs.Stages.{In, part_point, part_room, stage_at, fresh_one}
-use Rattle.pk_visits.proofs.StatementGrows.{Stays, Adds, stays_then, link_adds, away_adds, case_adds, fresh_adds, statement}
-use Rattle.pk_visits.proofs.Tells.{any_called}
+use Rattle.pk_visits.proofs.StatementGrows.{Stays, Adds, stays_then, link_adds, away_adds, case_adds, fresh_adds, statement, Free}
+use Rattle.pk_visits.proofs.Tells.{any_called, Any}
 use Rattle.pk_visits.proofs.Operands.{calm_more}
 
 true_of : (b : Bool) → is_true (truth b) ≡ b
@@ -75,19 +76,19 @@ choose_test g chosen p m k h j t z zs i has body a v vs s b x top hs (d, n, mark
   d1 : Draft
   d1 = case_test r t top.tree z (e + 1 + i) d
 
-  U : ℕ → Type 0
-  U q = Unit {0}
+  U : ℕ → Size → Type 0
+  U = Any
 
   F : Draft
   F = switch_from (context_of g k) r t top.tree (z ∷ zs) i total e has body x d
 
-  rest : Adds u.marks U d1 F
+  rest : Adds u.marks Free U d1 F
   rest =
       let c = context_of g k in
       let w = case_tests r t top.tree zs (e + 1 + i + 1) d1 in
       let q = if has then e + 1 + total else e in
-      stays_then (case_adds u.marks U r t top.tree zs (e + 1 + i + 1) d1) (stays_then (away_adds u.marks U q w)
-      (stays_then (statement U c _ _ body (in_switch e total x) u.marks fits marking (any_called c (calls_in_statement body)) (away q w)) (link_adds u.marks U Skip e (lowered c body (in_switch e total x) (away q w)))))
+      stays_then (case_adds u.marks Free U r t top.tree zs (e + 1 + i + 1) d1) (stays_then (away_adds u.marks Free U q w)
+      (stays_then (statement U c _ _ body (in_switch e total x) u.marks Free (λ i o. tt) fits marking (any_called c (calls_in_statement body)) (away q w)) (link_adds u.marks Free U Skip e (lowered c body (in_switch e total x) (away q w)))))
 
   yes : Among (edge p (Guard T true) (e + 1 + i)) g.edges
   yes = subst (λ q. Among (edge q (Guard T true) (e + 1 + i)) g.edges) at' (u.leads.edges _ (rest.edges _ (front_among _ _ _ (last_among d.edges (edge d.point (Guard T true) (e + 1 + i))))))
@@ -101,11 +102,11 @@ choose_test g chosen p m k h j t z zs i has body a v vs s b x top hs (d, n, mark
   here : g.shows d.here k j
   here = u.here
 
-  grow : Adds u.marks U (fresh 1 d) F
-  grow = stays_then (link_adds u.marks U (Guard T true) (e + 1 + i) (fresh 1 d)) (stays_then (link_adds u.marks U (Guard T false) d.points (link (Guard T true) (e + 1 + i) (fresh 1 d))) rest)
+  grow : Adds u.marks Free U (fresh 1 d) F
+  grow = stays_then (link_adds u.marks Free U (Guard T true) (e + 1 + i) (fresh 1 d)) (stays_then (link_adds u.marks Free U (Guard T false) d.points (link (Guard T true) (e + 1 + i) (fresh 1 d))) rest)
 
   room : d.points + 1 ≤ length d.labels
-  room = let q = part_room g Stays (In u.marks) U k j (calls_in_statement body) d (fresh 1 d) F u grow in let w = (fresh_adds [] U 1 d).size in omega (arith, q, w)
+  room = let q = part_room g Stays (In u.marks) U k j (calls_in_statement body) d (fresh 1 d) F u grow in let w = (fresh_adds [] Free U 1 d).size in omega (arith, q, w)
 
   next : ShowsAt g d.points k j
   next = part_point g Stays U k j j (calls_in_statement body) d (fresh 1 d) F d.points d.here u grow (omega arith) (omega arith) (fresh_one d room) here
@@ -155,9 +156,9 @@ none_edge : (g : Whole) (k : ℕ) (j : Place) (t : IntType) (i total e : ℕ) (h
 unfolding case_tests
 none_edge g k j t i total e has body x tr r d n mark u fits marking =
     let c = context_of g k in
-    let U = λ (q : ℕ). Unit {0} in
+    let U = Any in
     let q = if has then e + 1 + total else e in
-    let rest = stays_then (statement U c _ _ body (in_switch e total x) u.marks fits marking (any_called c (calls_in_statement body)) (away q d)) (link_adds u.marks U Skip e (lowered c body (in_switch e total x) (away q d))) in
+    let rest = stays_then (statement U c _ _ body (in_switch e total x) u.marks Free (λ i o. tt) fits marking (any_called c (calls_in_statement body)) (away q d)) (link_adds u.marks Free U Skip e (lowered c body (in_switch e total x) (away q d))) in
     u.leads.edges _ (rest.edges _ (last_among d.edges (edge d.point Skip q)))
 
 pub choose_default : (g : Whole) (chosen : Numbers) (p : ℕ) (m : Memory) (k : ℕ) (h j : Place) (t : IntType) (i : ℕ) (body : StatementTree) (a : Ahead) (v : ℤ) (vs : Numbers) (s : Objects) (b : Bool) (x : Exits) (top : Held) (hs : List Held)

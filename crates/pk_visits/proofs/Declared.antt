@@ -23,14 +23,14 @@ use Rattle.pk_meaning.specs.Steps as meaning
 use Rattle.pk_meaning.specs.Steps.{place, step_of}
 use Rattle.pk_visits.proofs.Slots.{Draft, Memory}
 use Rattle.pk_visits.proofs.Settled.{Settles, SettleAll, AreAllSettled}
-use Rattle.pk_visits.proofs.Stands.{Whole, Proper, context_of, led_to, Held, around, AreCalm, Means, FitsObjects, Stage, local_array, place_after, Laid}
+use Rattle.pk_visits.proofs.Stands.{Whole, Proper, context_of, led_to, Held, around, AreCalm, Means, FitsObjects, Stage, local_array, place_after, Laid, IsCalled}
 use Rattle.pk_visits.proofs.Follow.{Answers, config, still}
 use Rattle.pk_visits.proofs.Shown.{ShowsName, shown_behind, shows_name}
 use Rattle.pk_visits.proofs.Starts.{for_begun}
 use Rattle.pk_visits.proofs.Stages.{In, all_called, part_first, part_second, stage_at}
-use Rattle.pk_visits.proofs.Tells.{any_called}
+use Rattle.pk_visits.proofs.Tells.{any_called, Any}
 use Rattle.pk_visits.proofs.Doom.{calm_plain}
-use Rattle.pk_visits.proofs.StatementGrows.{OnPath, introduced_enlarges, scalar_first_grows, array_first_grows, declared_enlarges, all_declared_enlarges, block}
+use Rattle.pk_visits.proofs.StatementGrows.{OnPath, introduced_enlarges, scalar_first_grows, array_first_grows, declared_enlarges, all_declared_enlarges, block, Free, all_free}
 use Rattle.pk_visits.proofs.ElementTrees.{local_length}
 use Rattle.pk_visits.proofs.Operands.{calm_more}
 use Rattle.pk_visits.proofs.Firsts.{scalar_follows, array_follows}
@@ -59,7 +59,7 @@ pub declared_follows : (y : Place) (g : Whole) (chosen : Numbers) (m : Memory) (
 declared_follows y g chosen m k h x (tree.scalar_object i q e) o d vs s b u w hs fits calm st shown l means same f =
     let c = context_of g k in
     let e0 = introduced c i (on q d) in
-    let grow = introduced_enlarges st.marks (λ z. Unit {0}) c i (on q d) in
+    let grow = introduced_enlarges st.marks Free Any c i (on q d) tt in
     let j = place q (with_local g.program k i h.scope) in
     let gp = grow.points in
     let gv = grow.variables in
@@ -72,7 +72,7 @@ declared_follows y g chosen m k h x (tree.scalar_object i q e) o d vs s b u w hs
 declared_follows y g chosen m k h x (tree.array_object i q es) o d vs s b u w hs fits calm st shown l means same f =
     let c = context_of g k in
     let e0 = introduced c i (on q d) in
-    let grow = introduced_enlarges st.marks (λ z. Unit {0}) c i (on q d) in
+    let grow = introduced_enlarges st.marks Free Any c i (on q d) tt in
     let j = place q (with_local g.program k i h.scope) in
     let gp = grow.points in
     let gv = grow.variables in
@@ -95,8 +95,8 @@ unfolding lowered_items AreItems calls_in_items SettleAll
 next_declared g proper chosen p m k h vs s b x hs xs v is a (plain, (d, n, mark, at', fits, calm, t, marking, settled, l)) means same f =
     let c = context_of g k in
     let e = declared c v d in
-    let rest = block (In (led_to c (calls_in_items is))) c _ mark is x t.marks fits.1 marking (all_called c (calls_in_items is)) e in
-    let first = declared_enlarges t.marks (λ z. Unit {0}) c v d (any_called c (calls_in_declared v)) in
+    let rest = block (IsCalled c (calls_in_items is)) c _ mark is x t.marks Free (λ i o. tt) fits.1 marking (all_called c (calls_in_items is)) e in
+    let first = declared_enlarges t.marks Free Any c v d tt (any_called c (calls_in_declared v)) in
     let le = first.points in
     let lv = first.variables in
     let calm_e = calm_more d.variables e.variables hs lv calm in
@@ -145,8 +145,8 @@ all_declared_next g proper chosen p m k h vs s b x hs v ds w (d, n, at', fits, c
     let e = declared c v d in
     let end = all_declared c ds e in
     let j = place_after g.program k (v ∷ []) h in
-    let rest = all_declared_enlarges t.marks (In (led_to c (calls_in_all_declared ds))) c ds e (all_called c (calls_in_all_declared ds)) in
-    let first = declared_enlarges t.marks (λ z. Unit {0}) c v d (any_called c (calls_in_declared v)) in
+    let rest = all_declared_enlarges t.marks Free (IsCalled c (calls_in_all_declared ds)) c ds e (all_free ds) (all_called c (calls_in_all_declared ds)) in
+    let first = declared_enlarges t.marks Free Any c v d tt (any_called c (calls_in_declared v)) in
     let le = first.points in
     let lv = first.variables in
     let st = part_first g OnPath k (place d.here.at h.scope) (calls_in_declared v) (calls_in_all_declared ds) d e end t rest in

@@ -20,7 +20,7 @@ use Rattle.pk_meaning.specs.Work as work
 use Rattle.pk_meaning.specs.Work.{Place, Work}
 use Rattle.pk_visits.proofs.Slots.{Slot, Among, edge}
 use Rattle.pk_visits.proofs.Grows.{grows_trans, emit_grows}
-use Rattle.pk_visits.proofs.Stands.{Whole, context_of, Held, IsArrayOf, local_array, cells, led_to, Laid}
+use Rattle.pk_visits.proofs.Stands.{Whole, context_of, Held, IsArrayOf, local_array, cells, led_to, Laid, IsCalled}
 use Rattle.pk_visits.proofs.Stages.{In, all_called, ways_grow, stage_first, stage_second, stage_edge}
 use Rattle.pk_visits.proofs.StatementGrows.{items_adds}
 use Rattle.pk_visits.proofs.Tells.{Any, sane, any_called}
@@ -46,8 +46,8 @@ item_laid g k h x a j e es w p hs (d, n, i, at, same, fine, fits, bound, calm, s
     let f = items c i (j + 1) es f1 in
     let v = conversion (type_of e) b.int_type r.0 in
     let I = Store (lower.array_of c (Local i) d) (site c d.here.at) false (constant Int (pos j)) v in
-    let C = In (led_to c (calls_in e)) in
-    let D = In (led_to c (calls_in_values es)) in
+    let C = IsCalled c (calls_in e) in
+    let D = IsCalled c (calls_in_values es) in
     let ge = (ways_grow c e).value d in
     let rest = items_adds D c i (j + 1) es f1 (all_called c (calls_in_values es)) in
     let z = stage_edge g k h C D (calls_in e ++ calls_in_values es) d r.1 f I s ge rest in

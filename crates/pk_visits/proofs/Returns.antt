@@ -26,8 +26,8 @@ use Rattle.pk_meaning.specs.Work as work
 use Rattle.pk_meaning.specs.Work.{Place, Caller, Ahead}
 use Rattle.pk_meaning.specs.Steps as meaning
 use Rattle.pk_meaning.specs.Steps.{place, step_of, caller_of}
-use Rattle.pk_visits.proofs.Slots.{Slot, own, Draft, Memory, with_memory, Among, edge, last_among}
-use Rattle.pk_visits.proofs.Stands.{Whole, Proper, context_of, Held, around, ArePlain, AreCalm, ShowsAt, Means, FitsObjects, Writes, EndedBy, end_place, Stage, led_to, LaidWay, LaidAhead, LaidCaller, Laid}
+use Rattle.pk_visits.proofs.Slots.{Slot, own, Draft, Memory, with_memory, Among, edge, last_among, Uncalled}
+use Rattle.pk_visits.proofs.Stands.{Whole, Proper, context_of, Held, around, ArePlain, AreCalm, ShowsAt, Means, FitsObjects, Writes, EndedBy, end_place, Stage, led_to, LaidWay, LaidAhead, LaidCaller, Laid, IsCalled}
 use Rattle.pk_visits.proofs.Stores.{Fitting, fits_written, means_apart}
 use Rattle.pk_visits.proofs.Follow.{Answers, config, still, moved, kind_is, scalar_written}
 use Rattle.pk_visits.proofs.Stages.{In, ways_grow, stage_at, stage_until, stage_edge}
@@ -130,17 +130,17 @@ value_laid g proper k h x p t e a n d hs is fits calm s l =
     let so = stage_at g k _ j (calls_in e) d o f s (omega arith) (proper.positions d.here k h.scope p s.here) in
     let ge = (ways_grow c e).value o in
     let away_grows = grows_trans (link_grows Any Skip x.left u) (fresh_one_grows Any (link Skip x.left u)) in
-    let none = grows_trans (link_grows (In []) Skip x.left u) (fresh_one_grows (In []) (link Skip x.left u)) in
+    let none = grows_trans (link_grows Uncalled Skip x.left u) (fresh_one_grows Uncalled (link Skip x.left u)) in
     let ns = stage_names g k j (calls_in e) Any o f so (grows_trans ((sane c e).value o) (grows_trans (emit_grows Any i r.1) away_grows)) in
     let same : v ≡ own (result k) = ap (λ (b : Names Slot). b.result k (object_number (length c.locals) o)) ns in
-    let z = stage_edge g k j (In (led_to c (calls_in e))) (In []) (calls_in e) o r.1 f i so ge none in
+    let z = stage_edge g k j (IsCalled c (calls_in e)) Uncalled (calls_in e) o r.1 f i so ge none in
     let w = caller_laid g k x a f.point hs l in (
       o,
       n,
       refl,
       fits,
       (λ m. calm),
-      stage_until g k j (calls_in e) o r.1 f so (grows_trans (emit_grows (In []) i r.1) none),
+      stage_until g k j (calls_in e) o r.1 f so (grows_trans (emit_grows Uncalled i r.1) none),
       (
         r.1.points,
         (s.path, t, is, refl),

@@ -20,8 +20,8 @@ use Rattle.pk_meaning.specs.Steps.{place}
 use Rattle.pk_visits.proofs.Slots.{Draft, Scoping, Extends}
 use Rattle.pk_visits.proofs.Stands.{Whole, Proper, context_of, final, Stage}
 use Rattle.pk_visits.proofs.Settled.{IsSettled, AreAllSettled, IsSettledStart}
-use Rattle.pk_visits.proofs.Tells.{any_called}
-use Rattle.pk_visits.proofs.StatementGrows.{stays_then, on_adds, fresh_adds, third_adds, scalar_first_grows, array_first_grows, all_declared_enlarges}
+use Rattle.pk_visits.proofs.Tells.{any_called, Any}
+use Rattle.pk_visits.proofs.StatementGrows.{stays_then, on_adds, fresh_adds, third_adds, scalar_first_grows, array_first_grows, all_declared_enlarges, Free, all_free}
 use Rattle.pk_visits.proofs.Statements.{shows_on}
 
 -- behind the name of the declared object a point shows it in scope
@@ -36,14 +36,14 @@ shown_behind g proper k h (tree.scalar_object i q e) d shown =
     let c = context_of g k in
     let e0 = introduced c i (on q d) in
     let f = declared c (tree.scalar_object i q e) d in
-    let same = (scalar_first_grows (λ z. Unit {0}) c i e e0 (any_called c (calls_if e))).here in
+    let same = (scalar_first_grows Any c i e e0 (any_called c (calls_if e))).here in
     let there : g.shows f.here k (place q (with_local g.program k i h.scope)) = subst (λ (l : Label). g.shows l k (place q (with_local g.program k i h.scope))) (sym same) shown in
     subst (λ z. g.shows f.here k (place z (with_local g.program k i h.scope))) (proper.at_positions f.here k _ there) there
 shown_behind g proper k h (tree.array_object i q es) d shown =
     let c = context_of g k in
     let e0 = introduced c i (on q d) in
     let f = declared c (tree.array_object i q es) d in
-    let same = (array_first_grows (λ z. Unit {0}) c i es e0 (any_called c (calls_in_values_if es))).here in
+    let same = (array_first_grows Any c i es e0 (any_called c (calls_in_values_if es))).here in
     let there : g.shows f.here k (place q (with_local g.program k i h.scope)) = subst (λ (l : Label). g.shows l k (place q (with_local g.program k i h.scope))) (sym same) shown in
     subst (λ z. g.shows f.here k (place z (with_local g.program k i h.scope))) (proper.at_positions f.here k _ there) there
 
@@ -65,13 +65,13 @@ pub shows_name : (g : Whole) (proper : Proper g) (k : ℕ) (h : Place) (v : Decl
 shows_name g proper k h (tree.scalar_object i q e) d shows path settled scopes =
     let c = context_of g k in
     let x = local_at c i in
-    let first = (scalar_first_grows (λ z. Unit {0}) c i e (introduced c i (on q d)) (any_called c (calls_if e))).scopes in
+    let first = (scalar_first_grows Any c i e (introduced c i (on q d)) (any_called c (calls_if e))).scopes in
     name_shown g proper k i (place q h.scope) x.name d.variables (with_object i (inner x.name x.int_type x.length c.path) (on q d)) (proper.positions d.here k h.scope q shows) path settled.0 settled.1
     (λ n z y. scopes n z (first n z y))
 shows_name g proper k h (tree.array_object i q es) d shows path settled scopes =
     let c = context_of g k in
     let x = local_at c i in
-    let first = (array_first_grows (λ z. Unit {0}) c i es (introduced c i (on q d)) (any_called c (calls_in_values_if es))).scopes in
+    let first = (array_first_grows Any c i es (introduced c i (on q d)) (any_called c (calls_in_values_if es))).scopes in
     name_shown g proper k i (place q h.scope) x.name d.variables (with_object i (inner x.name x.int_type x.length c.path) (on q d)) (proper.positions d.here k h.scope q shows) path settled.0 settled.1
     (λ n z y. scopes n z (first n z y))
 
@@ -83,7 +83,7 @@ all_shown g proper k xs [] d shows path settled scopes = shows
 all_shown g proper k xs (v ∷ vs) d shows path settled scopes =
     let c = context_of g k in
     let e = declared c v d in
-    let rest = (all_declared_enlarges [] (λ z. Unit {0}) c vs e (any_called c (calls_in_all_declared vs))).scopes in
+    let rest = (all_declared_enlarges [] Free Any c vs e (all_free vs) (any_called c (calls_in_all_declared vs))).scopes in
     let name = shows_name g proper k (place d.here.at xs) v d shows path settled.0 (λ n z y. scopes n z (rest n z y)) in
     all_shown g proper k (with_declared g.program k v xs) vs e (shown_behind g proper k (place d.here.at xs) v d name) path settled.1 scopes
 
@@ -93,10 +93,10 @@ all_shown g proper k xs (v ∷ vs) d shows path settled scopes =
 started : (g : Whole) (proper : Proper g) (k : ℕ) (xs : objects.Scope) (q : Pos) (v : Option EffectTree) (d : Draft) → g.shows d.here k (place d.here.at xs) → g.shows (on q (performed_if (context_of g k) v (fresh 1 (on q d)))).here k (place q xs)
 started g proper k xs q v d shows =
     let c = context_of g k in
-    let U = λ (r : ℕ). Unit {0} in
+    let U = Any in
     let e = fresh 1 (on q d) in
-    let first = third_adds [] U c v (any_called c (calls_in_effect_if v)) e in
-    let all = stays_then (stays_then (on_adds [] U q d) (fresh_adds [] U 1 (on q d))) (stays_then first (on_adds [] U q (performed_if c v e))) in
+    let first = third_adds [] Free U c v (any_called c (calls_in_effect_if v)) e in
+    let all = stays_then (stays_then (on_adds [] Free U q d) (fresh_adds [] Free U 1 (on q d))) (stays_then first (on_adds [] Free U q (performed_if c v e))) in
     shows_on g proper k xs d.here (on q (performed_if c v e)).here shows all.here
 
 -- the names in scope in a `for`, behind its first part

@@ -6,13 +6,14 @@ use Rattle.pk_typed.specs.Trees.{ValueTree, EffectTree, ValueTrees}
 use Rattle.pk_welltyped.specs.Listed.{Numbered, calls_in, calls_in_effect, calls_in_values}
 use Rattle.pk_draft.specs.declared.drafts.Label.{Label}
 use Rattle.pk_draft.specs.Drafts.{no_label, emit, fresh}
+use Rattle.pk_draft.specs.declared.drafts.Size.{Size}
 use Rattle.pk_lower_row.specs.Contexts.{Context, callee}
 use Rattle.pk_lower_expression.specs.Expressions.{ways, performed, passed}
 use Rattle.pk_meaning.specs.Work.{Place}
-use Rattle.pk_visits.proofs.Slots.{Draft, Instr, edge, Among, Keeps, Grows, label_at, front_among, last_among}
+use Rattle.pk_visits.proofs.Slots.{Draft, Instr, edge, Among, Keeps, Grows, label_at, front_among, last_among, Uncalled}
 use Rattle.pk_visits.proofs.Grows.{WaysGrow, Makes, PassGrows}
 use Rattle.pk_visits.proofs.Growing.{AllCalled, values, effects, arguments}
-use Rattle.pk_visits.proofs.Stands.{Whole, context_of, ShowsAt, Leads, led_to, Distinct, Stage}
+use Rattle.pk_visits.proofs.Stands.{Whole, context_of, ShowsAt, Leads, led_to, Distinct, Stage, IsCalled}
 
 -- ---- lists
 
@@ -59,22 +60,30 @@ led_both c (x ∷ xs) ys = ap (λ zs. callee c x.number ∷ zs) (led_both c xs y
 abbrev pub In : List ℕ → ℕ → Type 0
 In xs m = Among m xs
 
-called_more : (c : Context) (ys : List ℕ) (y : ℕ) (xs : List Numbered) → AllCalled (In ys) c xs → AllCalled (In (y ∷ ys)) c xs
+called_more : (c : Context) (ys : List Numbered) (y : Numbered) (xs : List Numbered) → AllCalled (IsCalled c ys) c xs → AllCalled (IsCalled c (y ∷ ys)) c xs
 called_more c ys y [] h = tt
-called_more c ys y (x ∷ xs) h = (inr h.0, called_more c ys y xs h.1)
+called_more c ys y (x ∷ xs) ((z, a, m, n), h) = ((z, inr a, m, n), called_more c ys y xs h)
 
-pub all_called : (c : Context) (xs : List Numbered) → AllCalled (In (led_to c xs)) c xs
+pub all_called : (c : Context) (xs : List Numbered) → AllCalled (IsCalled c xs) c xs
 all_called c [] = tt
-all_called c (x ∷ xs) = (inl refl, called_more c (led_to c xs) (callee c x.number) xs (all_called c xs))
+all_called c (x ∷ xs) = ((x, inl refl, refl, refl), called_more c xs x xs (all_called c xs))
 
-pub ways_grow : (c : Context) (e : ValueTree) → WaysGrow (In (led_to c (calls_in e))) (ways c e)
-ways_grow c e = values (In (led_to c (calls_in e))) c e (all_called c (calls_in e))
+-- the path is one that calls lead to
+pub led_called : (c : Context) (xs : List Numbered) (m : ℕ) (s : Size) → IsCalled c xs m s → In (led_to c xs) m
+led_called c xs m s (z, a, e, n) = subst (λ i. Among i (led_to c xs)) (sym e) (led_among xs z a) where
+  led_among : (xs : List Numbered) (z : Numbered) → Among z xs → Among (callee c z.number) (led_to c xs)
+  led_among [] z h = absurd h
+  led_among (x ∷ xs) z (inl e) = inl (ap (λ (y : Numbered). callee c y.number) e)
+  led_among (x ∷ xs) z (inr h) = inr (led_among xs z h)
 
-pub effect_grows : (c : Context) (e : EffectTree) → Makes (In (led_to c (calls_in_effect e))) (performed c e)
-effect_grows c e = effects (In (led_to c (calls_in_effect e))) c e (all_called c (calls_in_effect e))
+pub ways_grow : (c : Context) (e : ValueTree) → WaysGrow (IsCalled c (calls_in e)) (ways c e)
+ways_grow c e = values (IsCalled c (calls_in e)) c e (all_called c (calls_in e))
 
-pub passed_grows : (c : Context) (es : ValueTrees) → PassGrows (In (led_to c (calls_in_values es))) (passed c es)
-passed_grows c es = arguments (In (led_to c (calls_in_values es))) c es (all_called c (calls_in_values es))
+pub effect_grows : (c : Context) (e : EffectTree) → Makes (IsCalled c (calls_in_effect e)) (performed c e)
+effect_grows c e = effects (IsCalled c (calls_in_effect e)) c e (all_called c (calls_in_effect e))
+
+pub passed_grows : (c : Context) (es : ValueTrees) → PassGrows (IsCalled c (calls_in_values es)) (passed c es)
+passed_grows c es = arguments (IsCalled c (calls_in_values es)) c es (all_called c (calls_in_values es))
 
 -- ---- stages
 
@@ -83,28 +92,28 @@ composed (inl h) b = absurd h
 composed (inr a) (inl h) = inl h
 composed (inr a) (inr b) = inr (b ∙ a)
 
-regional : {A : Type 0} {x y z : A} (xs ys : List ℕ) (m : ℕ) → Among m xs ⊎ (y ≡ x) → Among m ys ⊎ (z ≡ y) → Among m (xs ++ ys) ⊎ (z ≡ x)
-regional xs ys m (inl h) b = inl (among_front xs ys m h)
-regional xs ys m (inr a) (inl h) = inl (among_back xs ys m h)
-regional xs ys m (inr a) (inr b) = inr (b ∙ a)
+regional : {B A : Type 0} {x y z : A} (xs ys : List ℕ) (m : ℕ) → (B → Among m xs) → B ⊎ (y ≡ x) → Among m ys ⊎ (z ≡ y) → Among m (xs ++ ys) ⊎ (z ≡ x)
+regional xs ys m t (inl h) b = inl (among_front xs ys m (t h))
+regional xs ys m t (inr a) (inl h) = inl (among_back xs ys m h)
+regional xs ys m t (inr a) (inr b) = inr (b ∙ a)
 
 -- an earlier stage leads to the graph too
-pub leads_back : (g : Whole) (marks later cs : List ℕ) (d e : Draft) → Grows (In cs) d e → Leads g marks later e → Leads g marks (cs ++ later) d
-leads_back g marks later cs d e s l = record {
+pub leads_back : (g : Whole) (C : ℕ → Size → Type 0) (marks later cs : List ℕ) (d e : Draft) → ((m : ℕ) (z : Size) → C m z → In cs m) → Grows C d e → Leads g marks later e → Leads g marks (cs ++ later) d
+leads_back g C marks later cs d e paths s l = record {
   edges = λ x h. l.edges x (s.edges x h);
   names = sym s.names ∙ l.names;
   room = let a = s.points in let b = l.room in let c = s.size in omega (arith, a, b, c);
   labels = λ q h. composed (s.labels q h) (l.labels q (let a = s.points in omega (arith, h, a)));
-  regions = λ k. regional cs later k (s.regions k) (l.regions k);
+  regions = λ k. regional cs later k (λ t. paths k t.0 t.1) (s.regions k) (l.regions k);
   paths = sym s.paths ∙ l.paths;
   scopes = λ n z h. l.scopes n z (s.scopes n z h);
 }
 
-pub stage_first : (g : Whole) (k : ℕ) (h : Place) (xs ys : List Numbered) (d e f : Draft) → Stage g k h (xs ++ ys) d f → Grows (In (led_to (context_of g k) ys)) e f → Stage g k h xs d e
+pub stage_first : (g : Whole) (k : ℕ) (h : Place) (xs ys : List Numbered) (d e f : Draft) → Stage g k h (xs ++ ys) d f → Grows (IsCalled (context_of g k) ys) e f → Stage g k h xs d e
 stage_first g k h xs ys d e f s t = record {
   marks = s.marks;
   later = led ys ++ s.later;
-  leads = leads_back g s.marks s.later (led ys) e f t s.leads;
+  leads = leads_back g (IsCalled (context_of g k) ys) s.marks s.later (led ys) e f (led_called (context_of g k) ys) t s.leads;
   bounded = s.bounded;
   here = s.here;
   apart = λ m a b. by m a (among_either (led ys) s.later m b);
@@ -122,7 +131,7 @@ stage_first g k h xs ys d e f s t = record {
   by m a (inl b) = distinct_between (led_to (context_of g k) xs) (led_to (context_of g k) ys) m both a b
   by m a (inr b) = s.apart m (subst (Among m) (sym (led_both (context_of g k) xs ys)) (among_front (led_to (context_of g k) xs) (led_to (context_of g k) ys) m a)) b
 
-pub stage_second : (g : Whole) (k : ℕ) (h : Place) (C : ℕ → Type 0) (xs ys : List Numbered) (d e f : Draft) → Stage g k h (xs ++ ys) d f → Grows C d e → Stage g k h ys e f
+pub stage_second : (g : Whole) (k : ℕ) (h : Place) (C : ℕ → Size → Type 0) (xs ys : List Numbered) (d e f : Draft) → Stage g k h (xs ++ ys) d f → Grows C d e → Stage g k h ys e f
 stage_second g k h C xs ys d e f s t = record {
   marks = s.marks;
   later = s.later;
@@ -136,11 +145,11 @@ stage_second g k h C xs ys d e f s t = record {
 }
 
 -- up to a draft behind which the first calls are made
-pub stage_last : (g : Whole) (k : ℕ) (h : Place) (xs ys : List Numbered) (d e f : Draft) → Stage g k h (xs ++ ys) d f → Grows (In (led_to (context_of g k) xs)) e f → Stage g k h ys d e
+pub stage_last : (g : Whole) (k : ℕ) (h : Place) (xs ys : List Numbered) (d e f : Draft) → Stage g k h (xs ++ ys) d f → Grows (IsCalled (context_of g k) xs) e f → Stage g k h ys d e
 stage_last g k h xs ys d e f s t = record {
   marks = s.marks;
   later = led_to (context_of g k) xs ++ s.later;
-  leads = leads_back g s.marks s.later (led_to (context_of g k) xs) e f t s.leads;
+  leads = leads_back g (IsCalled (context_of g k) xs) s.marks s.later (led_to (context_of g k) xs) e f (led_called (context_of g k) xs) t s.leads;
   bounded = s.bounded;
   here = s.here;
   apart = λ m a b. by m a (among_either (led_to (context_of g k) xs) s.later m b);
@@ -156,11 +165,11 @@ stage_last g k h xs ys d e f s t = record {
   by m a (inr b) = s.apart m (subst (Among m) (sym (led_both (context_of g k) xs ys)) (among_back (led_to (context_of g k) xs) (led_to (context_of g k) ys) m a)) b
 
 -- the same calls, up to an earlier draft; and from a later one
-pub stage_until : (g : Whole) (k : ℕ) (h : Place) (xs : List Numbered) (d e f : Draft) → Stage g k h xs d f → Grows (In []) e f → Stage g k h xs d e
+pub stage_until : (g : Whole) (k : ℕ) (h : Place) (xs : List Numbered) (d e f : Draft) → Stage g k h xs d f → Grows Uncalled e f → Stage g k h xs d e
 stage_until g k h xs d e f s t = record {
   marks = s.marks;
   later = s.later;
-  leads = leads_back g s.marks s.later [] e f t s.leads;
+  leads = leads_back g Uncalled s.marks s.later [] e f (λ m z h. h) t s.leads;
   bounded = s.bounded;
   here = s.here;
   apart = s.apart;
@@ -169,7 +178,7 @@ stage_until g k h xs d e f s t = record {
   noted = s.noted;
 }
 
-pub stage_from : (g : Whole) (k : ℕ) (h : Place) (C : ℕ → Type 0) (xs : List Numbered) (d e f : Draft) → Stage g k h xs d f → Grows C d e → Stage g k h xs e f
+pub stage_from : (g : Whole) (k : ℕ) (h : Place) (C : ℕ → Size → Type 0) (xs : List Numbered) (d e f : Draft) → Stage g k h xs d f → Grows C d e → Stage g k h xs e f
 stage_from g k h C xs d e f s t = record {
   marks = s.marks;
   later = s.later;
@@ -189,7 +198,7 @@ same_label n (inr a) (inl h) = absurd (n h)
 same_label n (inr a) (inr b) = b ∙ a
 
 -- an edge that a stage made, with its end
-pub stage_edge : (g : Whole) (k : ℕ) (h : Place) (C E : ℕ → Type 0) (xs : List Numbered) (d e f : Draft) (i : Instr) → Stage g k h xs d f → Grows C d e → Grows E (emit i e) f
+pub stage_edge : (g : Whole) (k : ℕ) (h : Place) (C E : ℕ → Size → Type 0) (xs : List Numbered) (d e f : Draft) (i : Instr) → Stage g k h xs d f → Grows C d e → Grows E (emit i e) f
     → Among (edge e.point i e.points) g.edges × ShowsAt g e.points k h
 stage_edge g k h C E xs d e f i s t u = (there, shown) where
   there : Among (edge e.point i e.points) g.edges
@@ -210,7 +219,7 @@ stage_edge g k h C E xs d e f i s t u = (there, shown) where
 -- ---- points
 
 -- a point that was made at the stage's place shows it
-pub stage_point : (g : Whole) (k : ℕ) (h : Place) (E : ℕ → Type 0) (xs : List Numbered) (d e f : Draft) (q : ℕ) → Stage g k h xs d f → Grows E e f → d.points ≤ q → q < e.points → label_at e.labels q ≡ d.here → ShowsAt g q k h
+pub stage_point : (g : Whole) (k : ℕ) (h : Place) (E : ℕ → Size → Type 0) (xs : List Numbered) (d e f : Draft) (q : ℕ) → Stage g k h xs d f → Grows E e f → d.points ≤ q → q < e.points → label_at e.labels q ≡ d.here → ShowsAt g q k h
 stage_point g k h E xs d e f q s u from to is = subst (λ (l : Label). g.shows l k h) (sym (label ∙ is)) s.here where
   unmarked : Among q s.marks → ⊥
   unmarked a = let b = s.bounded q a in absurd (omega (arith, b, from))
@@ -219,7 +228,7 @@ stage_point g k h E xs d e f q s u from to is = subst (λ (l : Label). g.shows l
   label = same_label unmarked (u.labels q to) (s.leads.labels q (let a = u.points in omega (arith, a, to)))
 
 -- there is room for the points of a stage
-pub stage_room : (g : Whole) (k : ℕ) (h : Place) (C : ℕ → Type 0) (xs : List Numbered) (d e f : Draft) → Stage g k h xs d f → Grows C e f → e.points ≤ length e.labels
+pub stage_room : (g : Whole) (k : ℕ) (h : Place) (C : ℕ → Size → Type 0) (xs : List Numbered) (d e f : Draft) → Stage g k h xs d f → Grows C e f → e.points ≤ length e.labels
 stage_room g k h C xs d e f s u = let a = u.points in let b = s.leads.room in let c = u.size in omega (arith, a, b, c)
 
 set_same : (ls : List Label) (q : ℕ) (l : Label) → q < length ls → label_at (slice_set ls q l) q ≡ l
@@ -261,23 +270,23 @@ marked (inl h) b = inl h
 marked (inr a) (inl h) = inl h
 marked (inr a) (inr b) = inr (b ∙ a)
 
-pub leads_behind : (g : Whole) (R : Label → Label → Type 0) (marks later cs : List ℕ) (d e : Draft) → Keeps R (In marks) (In cs) d e → Leads g marks later e → Leads g marks (cs ++ later) d
-leads_behind g R marks later cs d e s l = record {
+pub leads_behind : (g : Whole) (R : Label → Label → Type 0) (S : ℕ → Type 0) (C : ℕ → Size → Type 0) (marks later cs : List ℕ) (d e : Draft) → ((m : ℕ) (z : Size) → C m z → In cs m) → Keeps R (In marks) S C d e → Leads g marks later e → Leads g marks (cs ++ later) d
+leads_behind g R S C marks later cs d e paths s l = record {
   edges = λ x h. l.edges x (s.edges x h);
   names = sym s.names ∙ l.names;
   room = let a = s.points in let b = l.room in let c = s.size in omega (arith, a, b, c);
   labels = λ q h. marked (s.labels q h) (l.labels q (let a = s.points in omega (arith, h, a)));
-  regions = λ k. regional cs later k (s.regions k) (l.regions k);
+  regions = λ k. regional cs later k (λ t. paths k t.0 t.1) (s.regions k) (l.regions k);
   paths = sym s.paths ∙ l.paths;
   scopes = λ n z h. l.scopes n z (s.scopes n z h);
 }
 
 -- up to a draft behind which the later calls are made
-abbrev pub part_first : (g : Whole) (R : Label → Label → Type 0) (k : ℕ) (h : Place) (xs ys : List Numbered) (d e f : Draft) (s : Stage g k h (xs ++ ys) d f) → Keeps R (In s.marks) (In (led_to (context_of g k) ys)) e f → Stage g k h xs d e
-part_first g R k h xs ys d e f s t = record {
+abbrev pub part_first : {S : ℕ → Type 0} (g : Whole) (R : Label → Label → Type 0) (k : ℕ) (h : Place) (xs ys : List Numbered) (d e f : Draft) (s : Stage g k h (xs ++ ys) d f) → Keeps R (In s.marks) S (IsCalled (context_of g k) ys) e f → Stage g k h xs d e
+part_first {S} g R k h xs ys d e f s t = record {
   marks = s.marks;
   later = led_to (context_of g k) ys ++ s.later;
-  leads = leads_behind g R s.marks s.later (led_to (context_of g k) ys) e f t s.leads;
+  leads = leads_behind g R S (IsCalled (context_of g k) ys) s.marks s.later (led_to (context_of g k) ys) e f (led_called (context_of g k) ys) t s.leads;
   bounded = s.bounded;
   here = s.here;
   apart = λ m a b. by m a (among_either (led_to (context_of g k) ys) s.later m b);
@@ -311,11 +320,11 @@ abbrev pub stage_at : (g : Whole) (k : ℕ) (h j : Place) (xs : List Numbered) (
 stage_at g k h j xs d e f s le here = part_second g k h j [] xs d e f s le here
 
 -- up to a draft behind which no calls are made
-abbrev pub part_until : (g : Whole) (R : Label → Label → Type 0) (k : ℕ) (h : Place) (xs : List Numbered) (d e f : Draft) (s : Stage g k h xs d f) → Keeps R (In s.marks) (In []) e f → Stage g k h xs d e
-part_until g R k h xs d e f s t = record {
+abbrev pub part_until : {S : ℕ → Type 0} (g : Whole) (R : Label → Label → Type 0) (k : ℕ) (h : Place) (xs : List Numbered) (d e f : Draft) (s : Stage g k h xs d f) → Keeps R (In s.marks) S Uncalled e f → Stage g k h xs d e
+part_until {S} g R k h xs d e f s t = record {
   marks = s.marks;
   later = s.later;
-  leads = leads_behind g R s.marks s.later [] e f t s.leads;
+  leads = leads_behind g R S Uncalled s.marks s.later [] e f (λ m z h. h) t s.leads;
   bounded = s.bounded;
   here = s.here;
   apart = s.apart;
@@ -330,7 +339,7 @@ unless no_mark (inr a) (inl b) = absurd (no_mark b)
 unless no_mark (inr a) (inr b) = b ∙ a
 
 -- a point that was made behind the stage's begin shows what its label does
-pub part_point : (g : Whole) (R : Label → Label → Type 0) (C : ℕ → Type 0) (k : ℕ) (h j : Place) (xs : List Numbered) (d e f : Draft) (q : ℕ) (l : Label) (s : Stage g k h xs d f) → Keeps R (In s.marks) C e f → d.points ≤ q → q < e.points
+pub part_point : {S : ℕ → Type 0} (g : Whole) (R : Label → Label → Type 0) (C : ℕ → Size → Type 0) (k : ℕ) (h j : Place) (xs : List Numbered) (d e f : Draft) (q : ℕ) (l : Label) (s : Stage g k h xs d f) → Keeps R (In s.marks) S C e f → d.points ≤ q → q < e.points
     → label_at e.labels q ≡ l → g.shows l k j → ShowsAt g q k j
 part_point g R C k h j xs d e f q l s u from to is shows = subst (λ (m : Label). g.shows m k j) (sym (label ∙ is)) shows where
   unmarked : Among q s.marks → ⊥
@@ -339,5 +348,5 @@ part_point g R C k h j xs d e f q l s u from to is shows = subst (λ (m : Label)
   label : label_at g.labels q ≡ label_at e.labels q
   label = unless unmarked (u.labels q to) (s.leads.labels q (let a = u.points in omega (arith, a, to)))
 
-pub part_room : (g : Whole) (R : Label → Label → Type 0) (M C : ℕ → Type 0) (k : ℕ) (h : Place) (xs : List Numbered) (d e f : Draft) → Stage g k h xs d f → Keeps R M C e f → e.points ≤ length e.labels
+pub part_room : {S : ℕ → Type 0} (g : Whole) (R : Label → Label → Type 0) (M : ℕ → Type 0) (C : ℕ → Size → Type 0) (k : ℕ) (h : Place) (xs : List Numbered) (d e f : Draft) → Stage g k h xs d f → Keeps R M S C e f → e.points ≤ length e.labels
 part_room g R M C k h xs d e f s u = let a = u.points in let b = s.leads.room in let c = u.size in omega (arith, a, b, c)

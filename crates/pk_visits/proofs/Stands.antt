@@ -21,7 +21,7 @@ use Rattle.pk_draft.specs.declared.drafts.Size.{Size}
 use Rattle.pk_draft.specs.Drafts.{nowhere, go, away}
 use Rattle.pk_draft.specs.Folding.{conversion, unary_tree, operated_tree, updated_tree}
 use Rattle.pk_lower_row.specs.Shapes.{makes, makes_effect, any_makes}
-use Rattle.pk_lower_row.specs.Contexts.{Context, callee}
+use Rattle.pk_lower_row.specs.Contexts.{Context, callee, size_in}
 use Rattle.pk_lower_row.specs.Rows.{one_tree}
 use Rattle.pk_lower_expression.specs.Expressions.{ways, performed, passed}
 use Rattle.pk_lower_statement.specs.declared.statements.Exits.{Exits}
@@ -84,6 +84,10 @@ pub record Leads (g : Whole) (marks later : List ℕ) (d : Draft) : Type 0 where
 -- the paths that calls lead to
 abbrev pub led_to : Context → List Numbered → List ℕ
 led_to c xs = map (λ (x : Numbered). callee c x.number) xs
+
+-- to such a path one of these calls leads, of a function of this size
+abbrev pub IsCalled : Context → List Numbered → ℕ → Size → Type 0
+IsCalled c xs m s = (z : Numbered) × Among z xs × (m ≡ callee c z.number) × (s ≡ size_in c.sizes z.call.function)
 
 abbrev pub Distinct : List ℕ → Type 0
 Distinct [] = Unit {0}

@@ -6,24 +6,26 @@ use Rattle.pk_typed.specs.Trees as tree
 use Rattle.pk_welltyped.specs.Listed.{Numbered, calls_if, calls_at_start, calls_in_effect_if, calls_in_statement, objects_at_start}
 use Rattle.pk_welltyped.specs.WellTyped.{IsStatement, Marks}
 use Rattle.pk_draft.specs.Drafts.{on, at, fresh, in_scope}
+use Rattle.pk_draft.specs.declared.drafts.Size.{Size}
 use Rattle.pk_lower_statement.specs.declared.statements.Exits.{Exits}
 use Rattle.pk_lower_statement.specs.Statements.{inside, for_from, for_start, for_test, loop_begun, performed_if, lowered}
 use Rattle.pk_meaning.specs.Work as work
 use Rattle.pk_meaning.specs.Work.{Place, Work, Ahead, For}
 use Rattle.pk_meaning.specs.Steps as meaning
 use Rattle.pk_meaning.specs.Steps.{place}
-use Rattle.pk_visits.proofs.Slots.{Draft, Among}
+use Rattle.pk_visits.proofs.Slots.{Draft, Among, Uncalled}
 use Rattle.pk_visits.proofs.Settled.{Settles}
-use Rattle.pk_visits.proofs.Stands.{Whole, Proper, context_of, final, Held, around, AreCalm, ShowsAt, Stage, led_to, Marking, Distinct, LaidAhead, Laid}
+use Rattle.pk_visits.proofs.Stands.{Whole, Proper, context_of, final, Held, around, AreCalm, ShowsAt, Stage, led_to, Marking, Distinct, LaidAhead, Laid, IsCalled}
 use Rattle.pk_visits.proofs.Stages.{In, all_called, part_first, part_second, part_until, stage_at, part_point, part_room, fresh_one}
 use Rattle.pk_visits.proofs.Growing.{front_called, back_called}
-use Rattle.pk_visits.proofs.Tells.{any_called}
-use Rattle.pk_visits.proofs.StatementGrows.{OnPath, Enlarges, enlarges, stays_then, path_then, on_adds, fresh_adds, begun_adds, for_adds, test_adds, third_adds, start_enlarges, statement, marking_inside}
+use Rattle.pk_visits.proofs.Tells.{any_called, Any}
+use Rattle.pk_visits.proofs.StatementGrows.{OnPath, Enlarges, enlarges, stays_then, path_then, on_adds, fresh_adds, begun_adds, for_adds, test_adds, third_adds, start_enlarges, statement, marking_inside, Free, start_free}
 use Rattle.pk_visits.proofs.Operands.{calm_more}
 use Rattle.pk_visits.proofs.Shown.{start_shown}
 use Rattle.pk_visits.proofs.Thirds.{scope_enlarges}
 use Rattle.pk_visits.proofs.Rounds.{begun}
 use Rattle.pk_visits.proofs.Doom.{calm_plain}
+use Rattle.pk_visits.proofs.Grows.{loosened}
 
 -- the calls of a first part before those of the loop
 apart : {A : Type 0} (ws xs ys zs : List A) → ((ws ++ xs) ++ ys) ++ zs ≡ ws ++ ((xs ++ ys) ++ zs)
@@ -68,25 +70,25 @@ for_begun g proper k h x q start v third s a hs d n m fits calm t marking settle
     let t1 = stage_as g k (place d.here.at h.scope) (xs ++ calls_if v ++ calls_in_effect_if third ++ calls_in_statement s) (xs ++ ys) d W (apart xs (calls_if v) (calls_in_effect_if third) (calls_in_statement s)) t in
     let t0 = stage_at g k (place d.here.at h.scope) j (xs ++ ys) d d0 W t1 (omega arith) (proper.positions d.here k h.scope q t.here) in
     let ms = t.marks in
-    let C = In (led_to c ys) in
+    let C = IsCalled c ys in
     let two = calls_if v ++ calls_in_effect_if third in
     let k2 = front_called C c two (calls_in_statement s) (all_called c ys) in
-    let loops = for_adds ms C q (for_test c v) (performed_if c third) (lowered c s) x (test_adds ms C c v (front_called C c (calls_if v) (calls_in_effect_if third) k2)) (third_adds ms C c third (back_called C c (calls_if v) (calls_in_effect_if third) k2))
-    (λ w i r. statement C c _ m s (inside w i x) ms fits.3 (marking_inside x m ms w i marking) (back_called C c two (calls_in_statement s) (all_called c ys)) r) (hp + 1) (hp + 2) e b in
-    let from_b : Enlarges ms C b W = path_then (enlarges ms C b F loops) (scope_enlarges ms C o.here.scope (at e F)) in
-    let from_f : Enlarges ms C f0 W = path_then (enlarges ms C f0 b (stays_then (on_adds ms C q f0) (begun_adds ms C f1))) from_b in
-    let first = start_enlarges ms (In (led_to c xs)) c start d0 (all_called c xs) in
+    let loops = for_adds ms Free C q (for_test c v) (performed_if c third) (lowered c s) x (test_adds ms Free C c v (front_called C c (calls_if v) (calls_in_effect_if third) k2)) (third_adds ms Free C c third (back_called C c (calls_if v) (calls_in_effect_if third) k2))
+    (λ w i r. statement C c _ m s (inside w i x) ms Free (λ i o. tt) fits.3 (marking_inside x m ms w i marking) (back_called C c two (calls_in_statement s) (all_called c ys)) r) (hp + 1) (hp + 2) e b in
+    let from_b : Enlarges ms Free C b W = path_then (enlarges ms Free C b F loops) (scope_enlarges ms C o.here.scope (at e F)) in
+    let from_f : Enlarges ms Free C f0 W = path_then (enlarges ms Free C f0 b (stays_then (on_adds ms Free C q f0) (begun_adds ms Free C f1))) from_b in
+    let first = start_enlarges ms Free (IsCalled c xs) c start d0 (start_free start) (all_called c xs) in
     let st = part_first g OnPath k j xs ys d0 f0 W t0 from_f in
     let shows = start_shown g proper k h.scope q start d t.here settled.0 st in
     let z = begun g OnPath C k j inner (xs ++ ys) d0 f1 W t0 first.points from_b shows in
-    let U = λ (r : ℕ). Unit {0} in
-    let all : Enlarges ms U d0 W = path_then (start_enlarges ms U c start d0 (any_called c xs)) (widen ms C f0 W from_f) in
+    let U = Any in
+    let all : Enlarges ms Free U d0 W = path_then (start_enlarges ms Free U c start d0 (start_free start) (any_called c xs)) (widen ms C f0 W from_f) in
     let room = part_room g OnPath (In ms) U k j (xs ++ ys) d0 d0 W t0 all in
-    let size = (fresh_adds ms U 1 o).size in
+    let size = (fresh_adds ms Free U 1 o).size in
     let behind : ShowsAt g e k j = part_point g OnPath U k (place d.here.at h.scope) j (xs ++ ys) d d0 W e o.here t1 all (omega arith) (omega arith) (fresh_one o (omega (arith, room, size))) (proper.positions d.here k h.scope q t.here) in
     let le = first.points in
     let lv = first.variables in
-    let sb = part_until g OnPath k inner ys b F W (part_second g k j inner xs ys d0 b W t0 (omega (arith, le)) shows) (scope_enlarges ms (In []) o.here.scope (at e F)) in
+    let sb = part_until g OnPath k inner ys b F W (part_second g k j inner xs ys d0 b W t0 (omega (arith, le)) shows) (scope_enlarges ms Uncalled o.here.scope (at e F)) in
     let calm_b = calm_more d.variables b.variables hs (omega (arith, lv)) calm in (
       st,
       (
@@ -116,5 +118,5 @@ for_begun g proper k h x q start v third s a hs d n m fits calm t marking settle
         l,
       ),
     ) where
-      widen : (ms : List ℕ) (C : ℕ → Type 0) (d e : Draft) → Enlarges ms C d e → Enlarges ms (λ r. Unit {0}) d e
-      widen ms C d e r = record { edges = r.edges; names = r.names; variables = r.variables; points = r.points; size = r.size; labels = r.labels; regions = λ i. inl tt; paths = r.paths; scopes = r.scopes; here = r.here }
+      widen : (ms : List ℕ) (C : ℕ → Size → Type 0) (d e : Draft) → Enlarges ms Free C d e → Enlarges ms Free Any d e
+      widen ms C d e r = loosened (λ j z i. tt) r

@@ -14,11 +14,11 @@ use Rattle.pk_meaning.specs.Objects.{Scope}
 use Rattle.pk_meaning.specs.Work as work
 use Rattle.pk_meaning.specs.Work.{Place, Work, Ahead, Onward}
 use Rattle.pk_meaning.specs.Steps.{place}
-use Rattle.pk_visits.proofs.Slots.{Slot, Draft, Memory, Among, edge, last_among}
-use Rattle.pk_visits.proofs.Stands.{Whole, Proper, context_of, Held, ShowsAt, led_to, LaidAhead, Laid}
+use Rattle.pk_visits.proofs.Slots.{Slot, Draft, Memory, Among, edge, last_among, Uncalled}
+use Rattle.pk_visits.proofs.Stands.{Whole, Proper, context_of, Held, ShowsAt, led_to, LaidAhead, Laid, IsCalled}
 use Rattle.pk_visits.proofs.Settled.{Settles, SettleAll}
 use Rattle.pk_visits.proofs.Stages.{In, all_called, part_first, part_second, part_until, stage_at}
-use Rattle.pk_visits.proofs.StatementGrows.{Stays, OnPath, statement, block}
+use Rattle.pk_visits.proofs.StatementGrows.{Stays, OnPath, statement, block, Free}
 use Rattle.pk_visits.proofs.Operands.{calm_more}
 use Rattle.pk_visits.proofs.Doom.{calm_plain}
 
@@ -37,8 +37,8 @@ pub block_laid : (g : Whole) (k : ℕ) (h : Place) (x : Exits) (p : Pos) (is : I
 unfolding lowered IsStatement calls_in_statement Settles
 block_laid g k h x p is a pt hs (d, n, m, at', fits, calm, s, marking, settled, l) =
     (calm_plain d.variables hs calm, (d, n, m, at', fits, calm, part_until g OnPath k _ _ d (lowered_items (context_of g k) is x d) _ s unscoped, marking, settled, l)) where
-      unscoped : Rattle.pk_visits.proofs.Slots.Keeps OnPath (In s.marks) (In []) (lowered_items (context_of g k) is x d) (in_scope d.here.scope (lowered_items (context_of g k) is x d))
-      unscoped = record { edges = λ e z. z; names = refl; variables = omega arith; points = omega arith; size = refl; labels = λ q z. inr refl; regions = λ j. inr refl; paths = refl; scopes = λ n z h. h; here = refl }
+      unscoped : Rattle.pk_visits.proofs.Slots.Keeps OnPath (In s.marks) Free Uncalled (lowered_items (context_of g k) is x d) (in_scope d.here.scope (lowered_items (context_of g k) is x d))
+      unscoped = record { edges = λ e z. z; names = refl; variables = omega arith; points = omega arith; size = refl; labels = λ q z. inr refl; beyond = λ q z. inr refl; regions = λ j. inr refl; paths = refl; scopes = λ n z h. h; here = refl; many = refl; made = λ n z. refl; unmade = λ n z. refl; slots = refl; objects = λ n. inr refl }
 
 -- the next statement of a block, behind which is the rest
 pub next_laid : (g : Whole) (proper : Proper g) (k : ℕ) (h : Place) (x : Exits) (xs : Scope) (s : StatementTree) (is : ItemTrees) (a : Ahead) (p : ℕ) (hs : List Held) (q : Pos)
@@ -47,8 +47,8 @@ unfolding lowered_items AreItems calls_in_items SettleAll
 next_laid g proper k h x xs s is a p hs q (plain, (d, n, m, at', fits, calm, t, marking, settled, l)) =
     let c = context_of g k in
     let e = lowered c s x d in
-    let rest = block (In (led_to c (calls_in_items is))) c _ m is x t.marks fits.1 marking (all_called c (calls_in_items is)) e in
-    let first = statement (In (led_to c (calls_in_statement s))) c _ m s x t.marks fits.0 marking (all_called c (calls_in_statement s)) d in
+    let rest = block (IsCalled c (calls_in_items is)) c _ m is x t.marks Free (λ i o. tt) fits.1 marking (all_called c (calls_in_items is)) e in
+    let first = statement (IsCalled c (calls_in_statement s)) c _ m s x t.marks Free (λ i o. tt) fits.0 marking (all_called c (calls_in_statement s)) d in
     let le = first.points in
     let lv = first.variables in (
       d,
