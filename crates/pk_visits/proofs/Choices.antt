@@ -49,7 +49,7 @@ equal_value s t r v z m k =
     ∙ ap (λ q. at_site s q) (fitted_inside Overflow t (truth (int_eq v z)) (truth_in t (int_eq v z)))
 
 -- the same stage, to an equal draft
-abbrev stage_to : (g : Whole) (k : ℕ) (h : Place) (xs : List Numbered) (d e f : Draft) → e ≡ f → Stage g k h xs d e → Stage g k h xs d f
+abbrev pub stage_to : (g : Whole) (k : ℕ) (h : Place) (xs : List Numbered) (d e f : Draft) → e ≡ f → Stage g k h xs d e → Stage g k h xs d f
 stage_to g k h xs d e f is s = record {
   marks = s.marks;
   later = s.later;

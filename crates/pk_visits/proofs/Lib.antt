@@ -26,6 +26,7 @@ mod Entering
 mod Evaluations
 mod StatementGrows
 mod Statements
+mod Marked
 mod Rounds
 mod Branches
 mod Returns
@@ -37,6 +38,7 @@ mod Starts
 mod Declared
 mod Choices
 mod Cases
+mod Switches
 mod Going
 mod Followed
 mod NumberedEdges

@@ -5,7 +5,6 @@ use Rattle.pk_typed.specs.Trees.{ValueTree, EffectTree, StatementTree, ItemTrees
 use Rattle.pk_typed.specs.Trees as tree
 use Rattle.pk_welltyped.specs.Listed.{calls_in_effect, calls_in_statement, calls_in_items}
 use Rattle.pk_welltyped.specs.WellTyped.{IsStatement, AreItems}
-use Rattle.pk_graph.specs.Trees.{Skip}
 use Rattle.pk_draft.specs.declared.drafts.Label.{Label}
 use Rattle.pk_draft.specs.Drafts.{on, in_scope}
 use Rattle.pk_lower_statement.specs.declared.statements.Exits.{Exits}
@@ -89,10 +88,3 @@ pub effect_laid : (g : Whole) (proper : Proper g) (k : ℕ) (h : Place) (x : Exi
 unfolding lowered IsStatement calls_in_statement
 effect_laid g proper k h x p e a pt hs (d, n, m, at', fits, calm, s, marking, settled, l) =
     (on p d, n, at', fits, (λ q. calm), stage_at g k _ (place p h.scope) (calls_in_effect e) d (on p d) _ s (omega arith) (proper.positions d.here k h.scope p s.here), (calm_plain d.variables hs calm, l))
-
--- ---- labels
-
--- an edge to a mark, which shows its place
-record Comes (g : Whole) (k : ℕ) (p : Pos) (xs : Scope) (pt q : ℕ) : Type 0 where
-  pub there : Among (edge pt Skip q) g.edges
-  pub shown : ShowsAt g q k (place p xs)
