@@ -39,6 +39,7 @@ mod Declared
 mod Choices
 mod Cases
 mod Switches
+mod Found
 mod Going
 mod Followed
 mod NumberedEdges

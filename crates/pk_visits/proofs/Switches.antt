@@ -25,7 +25,7 @@ use Rattle.pk_meaning.specs.Work as work
 use Rattle.pk_meaning.specs.Work.{Place, Work, Ahead}
 use Rattle.pk_meaning.specs.Steps.{place}
 use Rattle.pk_visits.proofs.Slots.{Slot, Draft, Among, Grows, edge, last_among, label_at}
-use Rattle.pk_visits.proofs.Stands.{Whole, Proper, context_of, final, Held, held, around, IsCalm, AreCalm, ShowsAt, Stage, led_to, Marking, switch_from, LaidAhead, Laid}
+use Rattle.pk_visits.proofs.Stands.{Whole, Proper, context_of, final, Held, held, in_temporary, around, IsCalm, AreCalm, ShowsAt, Stage, led_to, Marking, switch_from, LaidAhead, Laid}
 use Rattle.pk_visits.proofs.Settled.{Settles}
 use Rattle.pk_visits.proofs.Grows.{grows_refl, grows_trans, held_grows}
 use Rattle.pk_visits.proofs.Stages.{In, all_called, ways_grow, among_either, part_first, part_second, part_until, stage_at, stage_until}
@@ -269,3 +269,15 @@ choose_body g proper k h j x t zs i b s a p v hs (d, n, m, r, total, e, at', typ
         (x, u.leads.edges _ (last_among r1.edges (edge r1.point Skip e)), shown, refl, l),
       ),
     )
+
+-- behind its value
+kept_body : (g : Whole) (proper : Proper g) (k : ℕ) (j : Place) (x : Exits) (t : IntType) (zs : List ℤ) (b : Bool) (s : StatementTree) (a : Ahead) (p : ℕ) (v : Held) (hs : List Held) → Laid g k j x (work.Keep (work.Choose t zs 0 b s j a)) p (v ∷ hs)
+    → (e : ℕ) × (n : ℕ) × (q : ℕ) × Laid g k j (in_switch e n x) (work.Do s (work.Close j a)) q hs
+kept_body g proper k j x t zs b s a p v hs (inl l) = let y = choose_body g proper k j j x t zs 0 b s a p v hs l in (l.5, l.4, y.0, y.1)
+kept_body g proper k j x t zs b s a p v hs (inr l) = let y = choose_body g proper k j j x t zs 0 b s a l.0 (in_temporary l.1 v.int_type) hs l.3 in (l.3.5, l.3.4, y.0, y.1)
+
+pub switch_body : (g : Whole) (proper : Proper g) (k : ℕ) (h : Place) (x : Exits) (q : Pos) (t : IntType) (e : ValueTree) (zs : List ℤ) (b : Bool) (s : StatementTree) (a : Ahead) (p : ℕ) (hs : List Held)
+    → Laid g k h x (work.Do (tree.switch q t e zs b s) a) p hs → (e : ℕ) × (n : ℕ) × (i : ℕ) × Laid g k (place q h.scope) (in_switch e n x) (work.Do s (work.Close (place q h.scope) a)) i hs
+switch_body g proper k h x q t e zs b s a p hs l =
+    let j = place q h.scope in
+    let y = switch_laid g proper k h x q t e zs b s a p hs l in kept_body g proper k j x t zs b s a _ _ hs y.6
