@@ -1,22 +1,24 @@
 -- The way to a mark in a statement that is laid is laid.
-use Rattle.std.proofs.Common.{◌≡◌, ℕ, ◌+◌, List, Bool, true, false, if◌then◌else◌, refl, sym, ap, ◌∙◌, subst, arith, nat_eq, eqb-true}
+use Rattle.std.proofs.Common.{◌≡◌, ℕ, ◌+◌, List, ◌∷◌, Bool, true, false, if◌then◌else◌, refl, sym, ap, ◌∙◌, subst, arith, nat_eq, eqb-true, ℤ}
+use Rattle.pk_ctypes.specs.declared.types.IntType.{IntType}
 use Rattle.pk_typed.specs.Trees.{StatementTree, ItemTrees}
 use Rattle.pk_typed.specs.Trees as tree
 use Rattle.pk_lower_statement.specs.declared.statements.Exits.{Exits}
 use Rattle.pk_lower_statement.specs.Statements.{inside, in_switch, declared}
 use Rattle.pk_meaning.specs.Objects.{Scope}
-use Rattle.pk_meaning.specs.Programs.{with_declared}
+use Rattle.pk_meaning.specs.Programs.{block_of, with_declared, body_scope}
 use Rattle.pk_meaning.specs.Work as work
 use Rattle.pk_meaning.specs.Work.{Place, Ahead, Way, Onward}
 use Rattle.pk_meaning.specs.Steps as meaning
-use Rattle.pk_meaning.specs.Steps.{Mark, labelled, numbered, otherwise, is_label, is_case, is_default, place, found, found_in}
-use Rattle.pk_visits.proofs.Stands.{Whole, Proper, context_of, Held, LaidWay, Laid}
+use Rattle.pk_meaning.specs.Steps.{Mark, labelled, numbered, otherwise, is_label, is_case, is_default, place, found, found_in, caller_of}
+use Rattle.pk_visits.proofs.Stands.{Whole, Proper, context_of, Held, LaidWay, LaidAhead, Laid}
+use Rattle.pk_visits.proofs.Doom.{calm_plain}
 use Rattle.pk_visits.proofs.Statements.{block_laid, next_laid}
 use Rattle.pk_visits.proofs.Branches.{if_else_laid, if_then_laid}
 use Rattle.pk_visits.proofs.Marked.{ComesTo, label_laid, case_laid, default_laid}
 use Rattle.pk_visits.proofs.Rounds.{while_round, do_round}
 use Rattle.pk_visits.proofs.Starts.{for_round}
-use Rattle.pk_visits.proofs.Switches.{switch_body}
+use Rattle.pk_visits.proofs.Switches.{choose_body, switch_body}
 use Rattle.pk_visits.proofs.Declared.{rest_declared}
 
 -- the point of a mark
@@ -107,3 +109,39 @@ mutual
       let j = place h.at xs in
       let y = next_laid g proper k h x xs s is a p hs h.at l in
       found_laid s g proper k m j x (work.Rest xs is a) p t hs (found_in g.program k m xs is a o) at' y (found_in_laid is g proper k m h x xs a _ t hs o at' (l.0, y.9) w)
+
+-- ---- labels of the function
+
+-- the function's items, from any place among them
+body_laid : (g : Whole) (k : ℕ) (h : Place) (x : Exits) (a : Ahead) (p : ℕ) (hs : List Held) → LaidAhead g k x a p hs
+    → (y : Exits) × (q : ℕ) × (y.labels ≡ x.labels) × Laid g k h y (work.Go (work.Rest (body_scope g.program k) (block_of g.program k).items (work.End (caller_of a)))) q hs
+body_laid g k h x (work.Rest xs is a) p hs (d, n, m, is', fits, calm, s, marking, settled, l) = body_laid g k h x a _ hs l
+body_laid g k h x (work.Join j a) p hs (q, there, shown, l) = body_laid g k h x a q hs l
+body_laid g k h x (work.Again j loop e a) p hs (y, b, there, shown, same, loops, cont, behind, l) =
+    let r = body_laid g k h y a x.broken hs l in (r.0, r.1, r.2 ∙ sym (ap (λ (z : Exits). z.labels) same), r.3)
+body_laid g k h x (work.Close j a) p hs (y, there, shown, same, l) =
+    let r = body_laid g k h y a x.broken hs l in (r.0, r.1, r.2 ∙ sym (ap (λ (z : Exits). z.labels) same), r.3)
+body_laid g k h x (work.End c) p hs (ended, body, caller) = (
+  x,
+  body.draft.point,
+  refl,
+  (calm_plain body.draft.variables hs body.calm, (body.draft, body.objects, body.mark, refl, body.fits, body.calm, body.stage, body.marking, body.settled, (body.ended, body, caller))),
+)
+
+pub gone_laid : (g : Whole) (proper : Proper g) (k : ℕ) (h : Place) (x : Exits) (n : ℕ) (a : Ahead) (p : ℕ) (hs : List Held) → LaidAhead g k x a p hs → LaidWay g k (meaning.gone_to g.program k n a) (x.labels + n) hs
+gone_laid g proper k h x n a p hs l =
+    let r = body_laid g k h x a p hs l in
+    found_in_laid (block_of g.program k).items g proper k (labelled n) h r.0 (body_scope g.program k) (work.End (caller_of a)) r.1 (x.labels + n) hs work.Lost (ap (λ i. i + n) r.2) r.3 tt
+
+-- ---- cases and the default of a switch
+
+-- a case of a switch, by its number; its default
+pub case_found : (g : Whole) (proper : Proper g) (k : ℕ) (h j : Place) (x : Exits) (t : IntType) (zs : List ℤ) (i n : ℕ) (b : Bool) (s : StatementTree) (a : Ahead) (p : ℕ) (v : Held) (hs : List Held)
+    → (l : Laid g k h x (work.Choose t zs i b s j a) p (v ∷ hs)) → LaidWay g k (found g.program k (numbered n) j.scope s (work.Close j a) work.Lost) (l.5 + 1 + n) hs
+case_found g proper k h j x t zs i n b s a p v hs l =
+    let y = choose_body g proper k h j x t zs i b s a p v hs l in found_laid s g proper k (numbered n) j (in_switch l.5 l.4 x) (work.Close j a) y.0 (l.5 + 1 + n) hs work.Lost refl y.1 tt
+
+pub default_found : (g : Whole) (proper : Proper g) (k : ℕ) (h j : Place) (x : Exits) (t : IntType) (zs : List ℤ) (i : ℕ) (b : Bool) (s : StatementTree) (a : Ahead) (p : ℕ) (v : Held) (hs : List Held)
+    → (l : Laid g k h x (work.Choose t zs i b s j a) p (v ∷ hs)) → LaidWay g k (found g.program k otherwise j.scope s (work.Close j a) work.Lost) (l.5 + 1 + l.4) hs
+default_found g proper k h j x t zs i b s a p v hs l =
+    let y = choose_body g proper k h j x t zs i b s a p v hs l in found_laid s g proper k otherwise j (in_switch l.5 l.4 x) (work.Close j a) y.0 (l.5 + 1 + l.4) hs work.Lost refl y.1 tt

@@ -41,6 +41,7 @@ mod Cases
 mod Switches
 mod Found
 mod Going
+mod Jumps
 mod Followed
 mod NumberedEdges
 mod NumberedStores
