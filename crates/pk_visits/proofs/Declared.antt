@@ -8,15 +8,14 @@ use Rattle.pk_typed.specs.Trees as tree
 use Rattle.pk_graph.specs.Kinds.{count_of}
 use Rattle.pk_graph.specs.Steps.{Numbers}
 use Rattle.pk_draft.specs.Drafts.{on, fresh}
-use Rattle.pk_draft.specs.declared.drafts.Label.{Label}
 use Rattle.pk_lower_row.specs.Contexts.{Context, local_at}
 use Rattle.pk_lower_statement.specs.declared.statements.Exits.{Exits}
-use Rattle.pk_lower_statement.specs.Statements.{named, introduced, declared, all_declared, for_start, lowered_items}
+use Rattle.pk_lower_statement.specs.Statements.{named, introduced, declared, all_declared, lowered_items}
 use Rattle.pk_welltyped.specs.Listed.{calls_in_declared, calls_if, calls_in_values_if, calls_in_all_declared, calls_in_items}
 use Rattle.pk_welltyped.specs.WellTyped.{Kind, scalar, array, kind_among, Marks, IsDeclared, IsStatement, AreItems}
 use Rattle.pk_meaning.specs.Objects.{Objects, Scope}
 use Rattle.pk_meaning.specs.Programs as program
-use Rattle.pk_meaning.specs.Programs.{local_of, with_local, with_declared, with_all_declared, block_of}
+use Rattle.pk_meaning.specs.Programs.{with_local, with_declared, with_all_declared, block_of}
 use Rattle.pk_meaning.specs.Work as work
 use Rattle.pk_meaning.specs.Work.{Place, Work, Ahead}
 use Rattle.pk_meaning.specs.Steps as meaning
@@ -30,7 +29,7 @@ use Rattle.pk_visits.proofs.Starts.{for_begun}
 use Rattle.pk_visits.proofs.Stages.{In, all_called, part_first, part_second, stage_at}
 use Rattle.pk_visits.proofs.Tells.{any_called}
 use Rattle.pk_visits.proofs.Doom.{calm_plain}
-use Rattle.pk_visits.proofs.StatementGrows.{OnPath, introduced_enlarges, scalar_first_grows, array_first_grows, declared_enlarges, all_declared_enlarges, block}
+use Rattle.pk_visits.proofs.StatementGrows.{OnPath, introduced_enlarges, declared_enlarges, all_declared_enlarges, block}
 use Rattle.pk_visits.proofs.ElementTrees.{local_length}
 use Rattle.pk_visits.proofs.Operands.{calm_more}
 use Rattle.pk_visits.proofs.Firsts.{scalar_follows, array_follows}

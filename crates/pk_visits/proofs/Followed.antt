@@ -5,7 +5,7 @@ use Rattle.pk_graph.specs.Steps.{Numbers}
 use Rattle.pk_lower_statement.specs.declared.statements.Exits.{Exits}
 use Rattle.pk_meaning.specs.Objects.{Objects}
 use Rattle.pk_meaning.specs.Work as work
-use Rattle.pk_meaning.specs.Work.{Place, Work, Ahead, While, DoWhile, For}
+use Rattle.pk_meaning.specs.Work.{Place, Work, While, DoWhile, For}
 use Rattle.pk_meaning.specs.Steps.{step_of}
 use Rattle.pk_visits.proofs.Slots.{Memory}
 use Rattle.pk_visits.proofs.Stands.{Whole, Proper, BodiesStand, Held, Means, FitsObjects, Laid}

@@ -4,13 +4,13 @@ use Rattle.pk_ctypes.specs.declared.places.Pos.{Pos}
 use Rattle.pk_ctypes.specs.declared.types.IntType.{IntType}
 use Rattle.pk_typed.specs.Trees.{ValueTree, ValueTrees, EffectTree, DeclaredTree, StatementTree, ItemTrees}
 use Rattle.pk_typed.specs.Trees as tree
-use Rattle.pk_welltyped.specs.Listed.{calls_in_effect_if, calls_in, calls_if, calls_in_statement}
+use Rattle.pk_welltyped.specs.Listed.{calls_in, calls_if, calls_in_statement}
 use Rattle.pk_welltyped.specs.WellTyped.{Around, IsValueIf, IsReturned, IsStatement, Marks}
 use Rattle.pk_graph.specs.Trees.{Skip}
 use Rattle.pk_graph.specs.Steps.{Numbers}
 use Rattle.pk_draft.specs.Drafts.{on, fresh}
 use Rattle.pk_lower_statement.specs.declared.statements.Exits.{Exits}
-use Rattle.pk_lower_statement.specs.Statements.{inside, lowered, returned, performed_if}
+use Rattle.pk_lower_statement.specs.Statements.{inside, lowered, returned}
 use Rattle.pk_meaning.specs.Objects.{Scope, Objects, Array, result}
 use Rattle.pk_meaning.specs.Programs.{function_of}
 use Rattle.pk_meaning.specs.Work as work
@@ -21,12 +21,10 @@ use Rattle.pk_visits.proofs.Slots.{Draft, Memory, Among, edge}
 use Rattle.pk_visits.proofs.Settled.{Settles}
 use Rattle.pk_visits.proofs.Stands.{Whole, Proper, context_of, final, Held, around, AreCalm, ShowsAt, Stage, Marking, Means, FitsObjects, LaidWay, LaidAhead, Laid}
 use Rattle.pk_visits.proofs.Follow.{Answers, Follows, config, still, moved}
-use Rattle.pk_visits.proofs.Tells.{any_called}
-use Rattle.pk_visits.proofs.StatementGrows.{stays_then, on_adds, fresh_adds, third_adds}
 use Rattle.pk_visits.proofs.Starts.{for_begun}
 use Rattle.pk_visits.proofs.Declared.{none_declared, all_declared_next}
 use Rattle.pk_visits.proofs.Fills.{filled_laid, item_laid}
-use Rattle.pk_visits.proofs.Statements.{shows_on, block_laid, next_laid, none_laid, empty_laid, effect_laid}
+use Rattle.pk_visits.proofs.Statements.{block_laid, next_laid, none_laid, empty_laid, effect_laid}
 use Rattle.pk_visits.proofs.Branches.{choice_laid, if_else_laid, if_then_laid}
 use Rattle.pk_visits.proofs.Rounds.{while_laid, do_laid, turn_while, turn_do}
 use Rattle.pk_visits.proofs.Thirds.{turn_for, turn_ever, resumed_laid, continue_laid}

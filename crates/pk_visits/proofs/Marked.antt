@@ -1,5 +1,5 @@
 -- From the work of a label, a case or a default to that of its statement, over the edge to the mark's point.
-use Rattle.std.proofs.Common.{◌≡◌, ℕ, ◌+◌, ◌≤◌, List, refl, sym, subst, arith}
+use Rattle.std.proofs.Common.{ℕ, ◌+◌, List, refl, sym, subst, arith}
 use Rattle.pk_ctypes.specs.declared.places.Pos.{Pos}
 use Rattle.pk_typed.specs.Trees.{StatementTree}
 use Rattle.pk_typed.specs.Trees as tree

@@ -1,7 +1,7 @@
 -- From the work of a statement to that of its parts.
 use Rattle.std.proofs.Common.{ℕ, List, [], refl, sym, subst, inr, arith}
 use Rattle.pk_ctypes.specs.declared.places.Pos.{Pos}
-use Rattle.pk_typed.specs.Trees.{ValueTree, EffectTree, StatementTree, ItemTrees}
+use Rattle.pk_typed.specs.Trees.{EffectTree, StatementTree, ItemTrees}
 use Rattle.pk_typed.specs.Trees as tree
 use Rattle.pk_welltyped.specs.Listed.{calls_in_effect, calls_in_statement, calls_in_items}
 use Rattle.pk_welltyped.specs.WellTyped.{IsStatement, AreItems}
@@ -11,10 +11,9 @@ use Rattle.pk_lower_statement.specs.declared.statements.Exits.{Exits}
 use Rattle.pk_lower_statement.specs.Statements.{lowered, lowered_items}
 use Rattle.pk_meaning.specs.Objects.{Scope}
 use Rattle.pk_meaning.specs.Work as work
-use Rattle.pk_meaning.specs.Work.{Place, Work, Ahead, Onward}
+use Rattle.pk_meaning.specs.Work.{Place, Ahead}
 use Rattle.pk_meaning.specs.Steps.{place}
-use Rattle.pk_visits.proofs.Slots.{Slot, Draft, Memory, Among, edge, last_among}
-use Rattle.pk_visits.proofs.Stands.{Whole, Proper, context_of, Held, ShowsAt, led_to, LaidAhead, Laid}
+use Rattle.pk_visits.proofs.Stands.{Whole, Proper, context_of, Held, led_to, LaidAhead, Laid}
 use Rattle.pk_visits.proofs.Settled.{Settles, SettleAll}
 use Rattle.pk_visits.proofs.Stages.{In, all_called, part_first, part_second, part_until, stage_at}
 use Rattle.pk_visits.proofs.StatementGrows.{Stays, OnPath, statement, block}

@@ -22,7 +22,7 @@ use Rattle.pk_lower_expression.specs.Expressions.{ways}
 use Rattle.pk_lower_statement.specs.declared.statements.Exits.{Exits}
 use Rattle.pk_lower_statement.specs.Statements.{in_switch, case_tests, tested, switch_begun, lowered}
 use Rattle.pk_meaning.specs.Work as work
-use Rattle.pk_meaning.specs.Work.{Place, Work, Ahead}
+use Rattle.pk_meaning.specs.Work.{Place, Ahead}
 use Rattle.pk_meaning.specs.Steps.{place}
 use Rattle.pk_visits.proofs.Slots.{Slot, Draft, Among, Grows, edge, last_among, label_at}
 use Rattle.pk_visits.proofs.Stands.{Whole, Proper, context_of, final, Held, held, in_temporary, around, IsCalm, AreCalm, ShowsAt, Stage, led_to, Marking, switch_from, LaidAhead, Laid}
@@ -30,7 +30,7 @@ use Rattle.pk_visits.proofs.Settled.{Settles}
 use Rattle.pk_visits.proofs.Grows.{grows_refl, grows_trans, held_grows}
 use Rattle.pk_visits.proofs.Stages.{In, all_called, ways_grow, among_either, part_first, part_second, part_until, stage_at, stage_until}
 use Rattle.pk_visits.proofs.Tells.{any_called, shapes, converted_tells}
-use Rattle.pk_visits.proofs.StatementGrows.{Stays, Adds, stays_then, placing, fresh_grows, fresh_adds, case_adds, away_adds, link_adds, inner_adds, begun_switch_adds, upto, upto_from, back_list, statement}
+use Rattle.pk_visits.proofs.StatementGrows.{Stays, Adds, stays_then, placing, fresh_grows, fresh_adds, case_adds, away_adds, link_adds, inner_adds, upto, upto_from, back_list, statement}
 use Rattle.pk_visits.proofs.Operands.{calm_more, held_calm, unless_more, keep_laid}
 use Rattle.pk_visits.proofs.Statements.{shows_on}
 use Rattle.pk_visits.proofs.Cases.{marking_cases, fresh_point}
