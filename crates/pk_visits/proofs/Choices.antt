@@ -50,7 +50,7 @@ equal_value s t r v z m k =
     ∙ ap (λ q. at_site s q) (fitted_inside Overflow t (truth (int_eq v z)) (truth_in t (int_eq v z)))
 
 -- the same stage, to an equal draft
-abbrev stage_to : (g : Whole) (k : ℕ) (h : Place) (xs : List Numbered) (d e f : Draft) → e ≡ f → Stage g k h xs d e → Stage g k h xs d f
+abbrev pub stage_to : (g : Whole) (k : ℕ) (h : Place) (xs : List Numbered) (d e f : Draft) → e ≡ f → Stage g k h xs d e → Stage g k h xs d f
 stage_to g k h xs d e f is s = record {
   marks = s.marks;
   later = s.later;
@@ -180,10 +180,10 @@ choose_none g chosen p m k h j t i body a v vs s b x top hs (d, n, mark, r, tota
 -- ---- jumps to marks
 
 -- `goto`, where the way to its label is laid
-pub goto_followed : (g : Whole) (chosen : Numbers) (p : ℕ) (m : Memory) (k : ℕ) (h : Place) (vs : Numbers) (s : Objects) (b : Bool) (x : Exits) (hs : List Held) (q : Pos) (n : ℕ) (a : Ahead)
+pub goto_by : (g : Whole) (chosen : Numbers) (p : ℕ) (m : Memory) (k : ℕ) (h : Place) (vs : Numbers) (s : Objects) (b : Bool) (x : Exits) (hs : List Held) (q : Pos) (n : ℕ) (a : Ahead)
     → Laid g k h x (work.Do (tree.goto q n) a) p hs → LaidWay g k (meaning.gone_to g.program k n a) (x.labels + n) hs → Means m hs vs → m.objects ≡ s → FitsObjects g.program s
     → Answers g chosen k h p m (step_of g.program chosen (config k h (work.Do (tree.goto q n) a) vs s b) (work.Do (tree.goto q n) a))
 unfolding lowered
-goto_followed g chosen p m k h vs s b x hs q n a (d, o, mark, at', fits, calm, t, marking, settled, l) way means same f =
+goto_by g chosen p m k h vs s b x hs q n a (d, o, mark, at', fits, calm, t, marking, settled, l) way means same f =
     jump_along g chosen p (x.labels + n) m k h (work.Do (tree.goto q n) a) vs vs s b (meaning.gone_to g.program k n a) hs
     (subst (λ i. Among (edge i Skip (x.labels + n)) g.edges) at' (jump_edge g k _ _ q (x.labels + n) d t)) way means same f

@@ -8,29 +8,28 @@ use Rattle.pk_typed.specs.Trees as tree
 use Rattle.pk_graph.specs.Kinds.{count_of}
 use Rattle.pk_graph.specs.Steps.{Numbers}
 use Rattle.pk_draft.specs.Drafts.{on, fresh}
-use Rattle.pk_draft.specs.declared.drafts.Label.{Label}
 use Rattle.pk_lower_row.specs.Contexts.{Context, local_at}
 use Rattle.pk_lower_statement.specs.declared.statements.Exits.{Exits}
-use Rattle.pk_lower_statement.specs.Statements.{named, introduced, declared, all_declared, for_start, lowered_items}
+use Rattle.pk_lower_statement.specs.Statements.{named, introduced, declared, all_declared, lowered_items}
 use Rattle.pk_welltyped.specs.Listed.{calls_in_declared, calls_if, calls_in_values_if, calls_in_all_declared, calls_in_items}
-use Rattle.pk_welltyped.specs.WellTyped.{Kind, scalar, array, kind_among, IsDeclared, IsStatement, AreItems}
+use Rattle.pk_welltyped.specs.WellTyped.{Kind, scalar, array, kind_among, Marks, IsDeclared, IsStatement, AreItems}
 use Rattle.pk_meaning.specs.Objects.{Objects, Scope}
 use Rattle.pk_meaning.specs.Programs as program
-use Rattle.pk_meaning.specs.Programs.{local_of, with_local, with_declared, with_all_declared, block_of}
+use Rattle.pk_meaning.specs.Programs.{with_local, with_declared, with_all_declared, block_of}
 use Rattle.pk_meaning.specs.Work as work
 use Rattle.pk_meaning.specs.Work.{Place, Work, Ahead}
 use Rattle.pk_meaning.specs.Steps as meaning
 use Rattle.pk_meaning.specs.Steps.{place, step_of}
 use Rattle.pk_visits.proofs.Slots.{Draft, Memory}
 use Rattle.pk_visits.proofs.Settled.{Settles, SettleAll, AreAllSettled}
-use Rattle.pk_visits.proofs.Stands.{Whole, Proper, context_of, led_to, Held, around, AreCalm, Means, FitsObjects, Stage, local_array, place_after, Laid, IsCalled}
+use Rattle.pk_visits.proofs.Stands.{Whole, Proper, context_of, final, led_to, Held, around, AreCalm, Means, FitsObjects, Stage, Marking, local_array, place_after, LaidAhead, Laid, IsCalled}
 use Rattle.pk_visits.proofs.Follow.{Answers, config, still}
 use Rattle.pk_visits.proofs.Shown.{ShowsName, shown_behind, shows_name}
 use Rattle.pk_visits.proofs.Starts.{for_begun}
 use Rattle.pk_visits.proofs.Stages.{In, all_called, part_first, part_second, stage_at}
 use Rattle.pk_visits.proofs.Tells.{any_called, Any}
 use Rattle.pk_visits.proofs.Doom.{calm_plain}
-use Rattle.pk_visits.proofs.StatementGrows.{OnPath, introduced_enlarges, scalar_first_grows, array_first_grows, declared_enlarges, all_declared_enlarges, block, Free, all_free}
+use Rattle.pk_visits.proofs.StatementGrows.{OnPath, introduced_enlarges, declared_enlarges, all_declared_enlarges, block, Free, all_free}
 use Rattle.pk_visits.proofs.ElementTrees.{local_length}
 use Rattle.pk_visits.proofs.Operands.{calm_more}
 use Rattle.pk_visits.proofs.Firsts.{scalar_follows, array_follows}
@@ -87,40 +86,54 @@ declared_follows y g chosen m k h x (tree.array_object i q es) o d vs s b u w hs
     (array_follows y g chosen m k j x i es (o + 1) e0 vs s b u w hs (array t n) (st.path, is) types lengths (ap (λ z. array z n) (sym types) ∙ ap (λ z. array (local_array g k i).int_type z) (sym many)) fits.2 (subst (λ z. _ ≤ z) (sym many) room.3)
     (calm_more d.variables e0.variables hs gv calm) (stage_at g k _ j (calls_in_values_if es) d e0 _ st gp shown) l means same f)
 
--- the next declaration of a block, behind which is the rest
-pub next_declared : (g : Whole) (proper : Proper g) (chosen : Numbers) (p : ℕ) (m : Memory) (k : ℕ) (h : Place) (vs : Numbers) (s : Objects) (b : Bool) (x : Exits) (hs : List Held) (xs : Scope) (v : DeclaredTree) (is : ItemTrees) (a : Ahead)
-    → Laid g k h x (work.Go (work.Rest xs (tree.declared_before v is) a)) p hs → Means m hs vs → m.objects ≡ s → FitsObjects g.program s
-    → Answers g chosen k h p m (step_of g.program chosen (config k h (work.Go (work.Rest xs (tree.declared_before v is) a)) vs s b) (work.Go (work.Rest xs (tree.declared_before v is) a)))
+-- what is known of a declaration in a block: its stage, its name behind it, and the rest
+pub rest_declared : (g : Whole) (proper : Proper g) (k : ℕ) (h : Place) (x : Exits) (xs : Scope) (v : DeclaredTree) (is : ItemTrees) (a : Ahead) (hs : List Held) (d : Draft) (n : ℕ) (m : Marks)
+    → AreItems (around g k n) m (tree.declared_before v is) → AreCalm d.variables hs
+    → (t : Stage g k (place d.here.at xs) (calls_in_items (tree.declared_before v is)) d (lowered_items (context_of g k) (tree.declared_before v is) x d)) → Marking x m t.marks
+    → SettleAll (final g k) (context_of g k) (tree.declared_before v is) x d → LaidAhead g k x a (lowered_items (context_of g k) (tree.declared_before v is) x d).point hs
+    → Stage g k (place d.here.at xs) (calls_in_declared v) d (declared (context_of g k) v d) × ShowsName g k (place h.at xs) v d
+    × Laid g k h x (work.Go (work.Rest (with_declared g.program k v xs) is a)) (declared (context_of g k) v d).point hs
 unfolding lowered_items AreItems calls_in_items SettleAll
-next_declared g proper chosen p m k h vs s b x hs xs v is a (plain, (d, n, mark, at', fits, calm, t, marking, settled, l)) means same f =
+rest_declared g proper k h x xs v is a hs d n m fits calm t marking settled l =
     let c = context_of g k in
     let e = declared c v d in
-    let rest = block (IsCalled c (calls_in_items is)) c _ mark is x t.marks Free (λ i o. tt) fits.1 marking (all_called c (calls_in_items is)) e in
+    let rest = block (IsCalled c (calls_in_items is)) c _ m is x t.marks Free (λ i o. tt) fits.1 marking (all_called c (calls_in_items is)) e in
     let first = declared_enlarges t.marks Free Any c v d tt (any_called c (calls_in_declared v)) in
     let le = first.points in
     let lv = first.variables in
     let calm_e = calm_more d.variables e.variables hs lv calm in
     let ys = with_declared g.program k v xs in
-    let w = work.Go (work.Rest ys is a) in
     let st = part_first g OnPath k (place d.here.at xs) (calls_in_declared v) (calls_in_items is) d e (lowered_items c is x e) t rest in
-    let shown = shows_name g proper k (place h.at xs) v d st.here st.path settled.0 st.leads.scopes in
-    subst (λ q. Answers g chosen k h q m (step_of g.program chosen (config k h (work.Go (work.Rest xs (tree.declared_before v is) a)) vs s b) (work.Go (work.Rest xs (tree.declared_before v is) a)))) at'
-    (declared_follows h g chosen m k (place h.at xs) x v n d vs s b (work.Go (work.Rest xs (tree.declared_before v is) a)) w hs fits.0 calm
-    st shown (
-      calm_plain e.variables hs calm_e,
+    let shown = shows_name g proper k (place h.at xs) v d st.here st.path settled.0 st.leads.scopes in (
+      st,
+      shown,
       (
-        e,
-        n + 1,
-        mark,
-        refl,
-        fits.1,
-        calm_e,
-        part_second g k _ (place e.here.at ys) (calls_in_declared v) (calls_in_items is) d e (lowered_items c is x e) t le (shown_behind g proper k (place h.at xs) v d shown),
-        marking,
-        settled.1,
-        l,
+        calm_plain e.variables hs calm_e,
+        (
+          e,
+          n + 1,
+          m,
+          refl,
+          fits.1,
+          calm_e,
+          part_second g k _ (place e.here.at ys) (calls_in_declared v) (calls_in_items is) d e (lowered_items c is x e) t le (shown_behind g proper k (place h.at xs) v d shown),
+          marking,
+          settled.1,
+          l,
+        ),
       ),
-    ) means same f)
+    )
+
+-- the next declaration of a block, behind which is the rest
+pub next_declared : (g : Whole) (proper : Proper g) (chosen : Numbers) (p : ℕ) (m : Memory) (k : ℕ) (h : Place) (vs : Numbers) (s : Objects) (b : Bool) (x : Exits) (hs : List Held) (xs : Scope) (v : DeclaredTree) (is : ItemTrees) (a : Ahead)
+    → Laid g k h x (work.Go (work.Rest xs (tree.declared_before v is) a)) p hs → Means m hs vs → m.objects ≡ s → FitsObjects g.program s
+    → Answers g chosen k h p m (step_of g.program chosen (config k h (work.Go (work.Rest xs (tree.declared_before v is) a)) vs s b) (work.Go (work.Rest xs (tree.declared_before v is) a)))
+unfolding AreItems
+next_declared g proper chosen p m k h vs s b x hs xs v is a (plain, (d, n, mark, at', fits, calm, t, marking, settled, l)) means same f =
+    let u = work.Go (work.Rest xs (tree.declared_before v is) a) in
+    let z = rest_declared g proper k h x xs v is a hs d n mark fits calm t marking settled l in
+    subst (λ q. Answers g chosen k h q m (step_of g.program chosen (config k h u vs s b) u)) at'
+    (declared_follows h g chosen m k (place h.at xs) x v n d vs s b u (work.Go (work.Rest (with_declared g.program k v xs) is a)) hs fits.0 calm z.0 z.1 z.2 means same f)
 
 -- ---- declarations at the start of a `for`
 

@@ -1,16 +1,16 @@
 -- The graph follows the program at statements, and behind them.
-use Rattle.std.proofs.Common.{◌≡◌, ℕ, ◌+◌, List, [], Bool, true, refl, sym, subst, Option, Some, None}
+use Rattle.std.proofs.Common.{◌≡◌, ℕ, ◌+◌, List, [], ◌∷◌, Bool, true, refl, sym, subst, Option, Some, None}
 use Rattle.pk_ctypes.specs.declared.places.Pos.{Pos}
 use Rattle.pk_ctypes.specs.declared.types.IntType.{IntType}
-use Rattle.pk_typed.specs.Trees.{ValueTree, ValueTrees, EffectTree, StatementTree, ItemTrees}
+use Rattle.pk_typed.specs.Trees.{ValueTree, ValueTrees, EffectTree, DeclaredTree, StatementTree, ItemTrees}
 use Rattle.pk_typed.specs.Trees as tree
-use Rattle.pk_welltyped.specs.Listed.{calls_in_effect_if, calls_in, calls_if, calls_in_statement}
+use Rattle.pk_welltyped.specs.Listed.{calls_in, calls_if, calls_in_statement}
 use Rattle.pk_welltyped.specs.WellTyped.{Around, IsValueIf, IsReturned, IsStatement, Marks}
 use Rattle.pk_graph.specs.Trees.{Skip}
 use Rattle.pk_graph.specs.Steps.{Numbers}
 use Rattle.pk_draft.specs.Drafts.{on, fresh}
 use Rattle.pk_lower_statement.specs.declared.statements.Exits.{Exits}
-use Rattle.pk_lower_statement.specs.Statements.{inside, lowered, returned, performed_if}
+use Rattle.pk_lower_statement.specs.Statements.{inside, lowered, returned}
 use Rattle.pk_meaning.specs.Objects.{Scope, Objects, Array, result}
 use Rattle.pk_meaning.specs.Programs.{function_of}
 use Rattle.pk_meaning.specs.Work as work
@@ -21,11 +21,10 @@ use Rattle.pk_visits.proofs.Slots.{Draft, Memory, Among, edge}
 use Rattle.pk_visits.proofs.Settled.{Settles}
 use Rattle.pk_visits.proofs.Stands.{Whole, Proper, context_of, final, Held, around, AreCalm, ShowsAt, Stage, Marking, Means, FitsObjects, LaidWay, LaidAhead, Laid}
 use Rattle.pk_visits.proofs.Follow.{Answers, Follows, config, still, moved}
-use Rattle.pk_visits.proofs.Tells.{any_called}
-use Rattle.pk_visits.proofs.StatementGrows.{stays_then, on_adds, fresh_adds, third_adds}
 use Rattle.pk_visits.proofs.Starts.{for_begun}
+use Rattle.pk_visits.proofs.Declared.{none_declared, all_declared_next}
 use Rattle.pk_visits.proofs.Fills.{filled_laid, item_laid}
-use Rattle.pk_visits.proofs.Statements.{shows_on, block_laid, next_laid, none_laid, empty_laid, effect_laid}
+use Rattle.pk_visits.proofs.Statements.{block_laid, next_laid, none_laid, empty_laid, effect_laid}
 use Rattle.pk_visits.proofs.Branches.{choice_laid, if_else_laid, if_then_laid}
 use Rattle.pk_visits.proofs.Rounds.{while_laid, do_laid, turn_while, turn_do}
 use Rattle.pk_visits.proofs.Thirds.{turn_for, turn_ever, resumed_laid, continue_laid}
@@ -44,7 +43,7 @@ along g chosen p q m k h w vs s b Refused hs there l e same f = tt
 along g chosen p q m k h w vs s b Lost hs there l e same f = tt
 
 -- that the graph follows the program at this work, at each place
-abbrev IsFollowed : Work → Type 1
+abbrev pub IsFollowed : Work → Type 1
 IsFollowed w = (g : Whole) (proper : Proper g) (chosen : Numbers) (p : ℕ) (m : Memory) (k : ℕ) (h : Place) (vs : Numbers) (s : Objects) (b : Bool) (x : Exits) (hs : List Held)
     → Laid g k h x w p hs → Means m hs vs → m.objects ≡ s → FitsObjects g.program s → Answers g chosen k h p m (step_of g.program chosen (config k h w vs s b) w)
 
@@ -188,3 +187,9 @@ pub fill_followed : (d : Array) (j : ℕ) (es : ValueTrees) (w : Work) → IsFol
 fill_followed d j tree.no_values w g proper chosen p m k h vs s b x hs l e same f = still g chosen p m k h w vs s x hs (filled_laid g k h x d j w p hs l) e same f
 fill_followed d j (tree.value_before v es) w g proper chosen p m k h vs s b x hs l e same f =
     still g chosen p m k h (work.Evaluate v (work.Item d j (work.Fill d (j + 1) es w))) vs s x hs (item_laid g k h x d j v es w p hs l) e same f
+
+-- ---- declarations at the start of a `for`
+
+pub declare_followed : (vs : List DeclaredTree) (w : Work) → IsFollowed (work.Declare vs w)
+declare_followed [] w g proper chosen p m k h us s b x hs l e same f = still g chosen p m k h w us s x hs (none_declared g k h x w p hs l) e same f
+declare_followed (v ∷ vs) w g proper chosen p m k h us s b x hs l e same f = all_declared_next g proper chosen p m k h us s b x hs v vs w l e same f

@@ -26,6 +26,7 @@ mod Entering
 mod Evaluations
 mod StatementGrows
 mod Statements
+mod Marked
 mod Rounds
 mod Branches
 mod Returns
@@ -37,7 +38,10 @@ mod Starts
 mod Declared
 mod Choices
 mod Cases
+mod Switches
+mod Found
 mod Going
+mod Jumps
 mod Followed
 mod NumberedEdges
 mod NumberedStores

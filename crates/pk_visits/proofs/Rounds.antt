@@ -219,6 +219,28 @@ turn_do g proper k h i x e s o a p hs (is, plain, c, b, loop, cont, shown, z) =
       ),
     )
 
+-- ---- bodies
+
+-- a loop's body, in its exits
+abbrev pub RoundLaid : Whole → ℕ → Place → Exits → StatementTree → Loop → (behind : Place) → Ahead → List Held → Type 0
+RoundLaid g k h x s l o a hs = (b : ℕ) × (c : ℕ) × (p : ℕ) × Laid g k h (inside b c x) (work.Do s (work.Again h l o a)) p hs
+
+turn_round : (g : Whole) (proper : Proper g) (k : ℕ) (h i : Place) (x : Exits) (e : ValueTree) (s : StatementTree) (o : Place) (a : Ahead) (p : ℕ) (hs : List Held) → Laid g k i x (work.Turn h (While e s) o a) p hs → RoundLaid g k h x s (While e s) o a hs
+turn_round g proper k h i x e s o a p hs (is, plain, c, b, loop, cont, shown, z) = (b, loop.draft.point, loop.begin, (while_parts g proper k h x e s o a p c b hs loop cont shown z).1)
+
+pub while_round : (g : Whole) (proper : Proper g) (k : ℕ) (h : Place) (x : Exits) (p : Pos) (e : ValueTree) (s : StatementTree) (a : Ahead) (pt : ℕ) (hs : List Held) → Laid g k h x (work.Do (tree.while p e s) a) pt hs
+    → RoundLaid g k (place p h.scope) x s (While e s) (place p h.scope) a hs
+while_round g proper k h x p e s a pt hs l =
+    let j = place p h.scope in
+    let z = while_laid g proper k h x p e s a pt hs l in turn_round g proper k j j x e s j a z.0 hs z.3
+
+pub do_round : (g : Whole) (proper : Proper g) (k : ℕ) (h : Place) (x : Exits) (p : Pos) (s : StatementTree) (e : ValueTree) (a : Ahead) (pt : ℕ) (hs : List Held) → Laid g k h x (work.Do (tree.do_while p s e) a) pt hs
+    → RoundLaid g k (place p h.scope) x s (DoWhile s e) (place p h.scope) a hs
+do_round g proper k h x p s e a pt hs l =
+    let j = place p h.scope in
+    let z = do_laid g proper k h x p s e a pt hs l in
+    let r = turn_do g proper k j j x e s j a z.0 hs z.3 in (r.0, r.1, z.0, r.2)
+
 -- ---- the end of a body
 
 -- of a `while`: at its head again

@@ -69,7 +69,7 @@ all_called c [] = tt
 all_called c (x ∷ xs) = ((x, inl refl, refl, refl), called_more c xs x xs (all_called c xs))
 
 -- the path is one that calls lead to
-pub led_called : (c : Context) (xs : List Numbered) (m : ℕ) (s : Size) → IsCalled c xs m s → In (led_to c xs) m
+pub led_called : (c : Context) (xs : List Numbered) (m : ℕ) (s : Size) → IsCalled c xs m s → Among m (led_to c xs)
 led_called c xs m s (z, a, e, n) = subst (λ i. Among i (led_to c xs)) (sym e) (led_among xs z a) where
   led_among : (xs : List Numbered) (z : Numbered) → Among z xs → Among (callee c z.number) (led_to c xs)
   led_among [] z h = absurd h

@@ -22,8 +22,8 @@ use Rattle.pk_visits.proofs.Tells.{any_called, Any}
 use Rattle.pk_visits.proofs.StatementGrows.{OnPath, Enlarges, enlarges, stays_then, path_then, on_adds, fresh_adds, begun_adds, for_adds, test_adds, third_adds, start_enlarges, statement, marking_inside, Free, start_free}
 use Rattle.pk_visits.proofs.Operands.{calm_more}
 use Rattle.pk_visits.proofs.Shown.{start_shown}
-use Rattle.pk_visits.proofs.Thirds.{scope_enlarges}
-use Rattle.pk_visits.proofs.Rounds.{begun}
+use Rattle.pk_visits.proofs.Thirds.{scope_enlarges, for_parts}
+use Rattle.pk_visits.proofs.Rounds.{RoundLaid, begun}
 use Rattle.pk_visits.proofs.Doom.{calm_plain}
 use Rattle.pk_visits.proofs.Grows.{loosened}
 
@@ -120,3 +120,14 @@ for_begun g proper k h x q start v third s a hs d n m fits calm t marking settle
     ) where
       widen : (ms : List ℕ) (C : ℕ → Size → Type 0) (d e : Draft) → Enlarges ms Free C d e → Enlarges ms Free Any d e
       widen ms C d e r = loosened (λ j z i. tt) r
+
+back_round : (g : Whole) (proper : Proper g) (k : ℕ) (i j : Place) (x : Exits) (v : Option ValueTree) (third : Option EffectTree) (s : StatementTree) (o : Place) (a : Ahead) (p : ℕ) (hs : List Held) → Laid g k i x (work.Back j (For v third s) o a) p hs
+    → RoundLaid g k j x s (For v third s) o a hs
+back_round g proper k i j x v third s o a p hs (plain, b, c, e, there, shown, loop, cont, behind, l) = (e, c, loop.begin, (for_parts g proper k j x v third s o a b c e hs loop behind l).1)
+
+-- the body of a `for`, in its exits
+pub for_round : (g : Whole) (proper : Proper g) (k : ℕ) (h : Place) (x : Exits) (q : Pos) (start : ForStartTree) (v : Option ValueTree) (third : Option EffectTree) (s : StatementTree) (a : Ahead) (p : ℕ) (hs : List Held)
+    → Laid g k h x (work.Do (tree.for_loop q start v third s) a) p hs → RoundLaid g k (place q (meaning.for_scope g.program k start h.scope)) x s (For v third s) (place q h.scope) a hs
+for_round g proper k h x q start v third s a p hs (d, n, m, is, fits, calm, t, marking, settled, l) =
+    let j = place q (meaning.for_scope g.program k start h.scope) in
+    back_round g proper k j j x v third s (place q h.scope) a _ hs (for_begun g proper k h x q start v third s a hs d n m fits calm t marking settled l).1

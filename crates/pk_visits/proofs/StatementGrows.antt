@@ -151,7 +151,7 @@ all_here : (n p : ℕ) (d : Draft) → (all_placed n p d).here ≡ d.here
 all_here zero p d = refl
 all_here (suc n) p d = all_here n (p + 1) (placed p d)
 
-record Placing (n p : ℕ) (d : Draft) : Type 0 where
+pub record Placing (n p : ℕ) (d : Draft) : Type 0 where
   pub edges : (all_placed n p d).edges ≡ d.edges
   pub names : (all_placed n p d).names ≡ d.names
   pub variables : (all_placed n p d).variables ≡ d.variables
@@ -164,7 +164,7 @@ record Placing (n p : ℕ) (d : Draft) : Type 0 where
   pub labels : (q : ℕ) → q < p → label_at (all_placed n p d).labels q ≡ label_at d.labels q
   pub beyond : (q : ℕ) → p + n ≤ q → label_at (all_placed n p d).labels q ≡ label_at d.labels q
 
-placing : (n p : ℕ) (d : Draft) → Placing n p d
+pub placing : (n p : ℕ) (d : Draft) → Placing n p d
 placing zero p d = record { edges = refl; names = refl; variables = refl; regions = refl; scopes = refl; here = refl; made = refl; objects = refl; size = refl; labels = λ q h. refl; beyond = λ q h. refl }
 placing (suc n) p d =
     let r = placing n (p + 1) (placed p d) in
@@ -420,7 +420,7 @@ either_list (x ∷ xs) ys m (inr h) = by (either_list xs ys m h) where
   by (inr k) = inr k
 
 -- marks that were made behind a draft are none of its points
-inner_adds : (ms ys : List ℕ) (S : ℕ → Type 0) (C : ℕ → Size → Type 0) (d e f : Draft) → ((q : ℕ) → Among q ys → (d.points ≤ q) × (q < e.points)) → Adds ms S C d e → Adds (ys ++ ms) S C e f → Adds ms S C d f
+pub inner_adds : (ms ys : List ℕ) (S : ℕ → Type 0) (C : ℕ → Size → Type 0) (d e f : Draft) → ((q : ℕ) → Among q ys → (d.points ≤ q) × (q < e.points)) → Adds ms S C d e → Adds (ys ++ ms) S C e f → Adds ms S C d f
 inner_adds ms ys S C d e f from a b =
     let first : Adds (ys ++ ms) S C d e = record { edges = a.edges; names = a.names; variables = a.variables; points = a.points; size = a.size; labels = (λ q h. more q (a.labels q h)); beyond = (λ q h. more q (a.beyond q h)); regions = a.regions; paths = a.paths; scopes = a.scopes; many = a.many; made = a.made; unmade = a.unmade; slots = a.slots; objects = a.objects; here = a.here } in
     let whole : Adds (ys ++ ms) S C d f = stays_then first b in

@@ -1,26 +1,25 @@
 -- From the work of a statement to that of its parts.
 use Rattle.std.proofs.Common.{ℕ, List, [], refl, sym, subst, inr, arith}
 use Rattle.pk_ctypes.specs.declared.places.Pos.{Pos}
-use Rattle.pk_typed.specs.Trees.{ValueTree, EffectTree, StatementTree, ItemTrees}
+use Rattle.pk_typed.specs.Trees.{EffectTree, StatementTree, ItemTrees}
 use Rattle.pk_typed.specs.Trees as tree
 use Rattle.pk_welltyped.specs.Listed.{calls_in_effect, calls_in_statement, calls_in_items}
 use Rattle.pk_welltyped.specs.WellTyped.{IsStatement, AreItems}
-use Rattle.pk_graph.specs.Trees.{Skip}
 use Rattle.pk_draft.specs.declared.drafts.Label.{Label}
 use Rattle.pk_draft.specs.Drafts.{on, in_scope}
 use Rattle.pk_lower_statement.specs.declared.statements.Exits.{Exits}
 use Rattle.pk_lower_statement.specs.Statements.{lowered, lowered_items}
 use Rattle.pk_meaning.specs.Objects.{Scope}
 use Rattle.pk_meaning.specs.Work as work
-use Rattle.pk_meaning.specs.Work.{Place, Work, Ahead, Onward}
+use Rattle.pk_meaning.specs.Work.{Place, Ahead}
 use Rattle.pk_meaning.specs.Steps.{place}
-use Rattle.pk_visits.proofs.Slots.{Slot, Draft, Memory, Among, edge, last_among, Uncalled}
-use Rattle.pk_visits.proofs.Stands.{Whole, Proper, context_of, Held, ShowsAt, led_to, LaidAhead, Laid, IsCalled}
+use Rattle.pk_visits.proofs.Stands.{Whole, Proper, context_of, Held, led_to, LaidAhead, Laid, IsCalled}
 use Rattle.pk_visits.proofs.Settled.{Settles, SettleAll}
 use Rattle.pk_visits.proofs.Stages.{In, all_called, part_first, part_second, part_until, stage_at}
 use Rattle.pk_visits.proofs.StatementGrows.{Stays, OnPath, statement, block, Free}
 use Rattle.pk_visits.proofs.Operands.{calm_more}
 use Rattle.pk_visits.proofs.Doom.{calm_plain}
+use Rattle.pk_visits.proofs.Slots.{Uncalled}
 
 -- ---- places
 
@@ -89,10 +88,3 @@ pub effect_laid : (g : Whole) (proper : Proper g) (k : ℕ) (h : Place) (x : Exi
 unfolding lowered IsStatement calls_in_statement
 effect_laid g proper k h x p e a pt hs (d, n, m, at', fits, calm, s, marking, settled, l) =
     (on p d, n, at', fits, (λ q. calm), stage_at g k _ (place p h.scope) (calls_in_effect e) d (on p d) _ s (omega arith) (proper.positions d.here k h.scope p s.here), (calm_plain d.variables hs calm, l))
-
--- ---- labels
-
--- an edge to a mark, which shows its place
-record Comes (g : Whole) (k : ℕ) (p : Pos) (xs : Scope) (pt q : ℕ) : Type 0 where
-  pub there : Among (edge pt Skip q) g.edges
-  pub shown : ShowsAt g q k (place p xs)

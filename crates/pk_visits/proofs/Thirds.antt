@@ -103,7 +103,7 @@ after_link g k ms h third n q r =
       all_called_if c t = all_called c (calls_in_effect_if t)
 
 -- the test of a `for` where it begins again, and its body
-for_parts : (g : Whole) (proper : Proper g) (k : ℕ) (h : Place) (x : Exits) (v : Option ValueTree) (third : Option EffectTree) (s : StatementTree) (o : Place) (a : Ahead) (p c b : ℕ) (hs : List Held)
+pub for_parts : (g : Whole) (proper : Proper g) (k : ℕ) (h : Place) (x : Exits) (v : Option ValueTree) (third : Option EffectTree) (s : StatementTree) (o : Place) (a : Ahead) (p c b : ℕ) (hs : List Held)
     → (loop : Loops g k h x (For v third s) p c b hs) → ShowsAt g b k o → LaidAhead g k x a b hs
     → Stage g k h (calls_if v) loop.draft (for_test (context_of g k) v loop.begin b loop.draft) × Laid g k h (inside b c x) (work.Do s (work.Again h (For v third s) o a)) loop.begin hs
 for_parts g proper k h x v third s o a p c b hs loop shown z =
