@@ -9,6 +9,7 @@ use Rattle.pk_lower_row.specs.Rows.{operand}
 use Rattle.pk_lower_expression.specs.Expressions.{ways}
 use Rattle.pk_lower_statement.specs.declared.statements.Exits.{Exits}
 use Rattle.pk_lower_statement.specs.Statements.{inside, in_switch, branching, loop_begun, tested, switch_begun, for_start, for_test, declared, lowered}
+use Rattle.pk_meaning.specs.Steps.{Mark, labelled, numbered, otherwise}
 use Rattle.pk_meaning.specs.Work.{Loop, While, DoWhile, For}
 use Rattle.pk_visits.proofs.Slots.{Draft, label_at}
 
@@ -17,6 +18,12 @@ pub record Final : Type 0 where
   pub objects : ℕ
   pub numbers : ℕ → ℕ
   pub labels : List Label
+
+-- the point of a mark
+abbrev pub mark_point : Mark → Exits → ℕ
+mark_point (labelled l) x = x.labels + l
+mark_point (numbered i) x = x.cases + i
+mark_point otherwise x = x.otherwise
 
 -- point p of a mark is here
 abbrev pub IsMarkedAt : Final → ℕ → Draft → Type 0

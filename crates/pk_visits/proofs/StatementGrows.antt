@@ -1,5 +1,6 @@
 -- What declarations and statements add to a draft: points but marks keep their labels, and the names in scope stay behind a statement.
-use Rattle.std.proofs.Common.{◌≡◌, ℕ, zero, suc, ◌+◌, ◌<◌, ◌≤◌, ◌⊎◌, List, [], ◌∷◌, ◌++◌, length, Bool, if◌then◌else◌, refl, sym, ap, ◌∙◌, subst, inl, inr, arith, ◌≢◌, ℤ, Option, Some, None}
+use Rattle.std.proofs.Common.{◌≡◌, ℕ, zero, suc, ◌+◌, ◌<◌, ◌≤◌, ◌⊎◌, List, [], ◌∷◌, ◌++◌, length, Bool, if◌then◌else◌, refl, sym, ap, ◌∙◌, subst, inl, inr, arith, eq-eqb, ◌≢◌, ℤ, true, Option, Some, None}
+use Rattle.std.proofs.lemmas.Bool.Decides.{nat_tests}
 use Rattle.std.specs.Prelude.{slice_set, slice_get}
 use Rattle.std.proofs.lemmas.List.{get_or-set_other, length-set}
 use Rattle.pk_ctypes.specs.declared.places.Pos.{Pos}
@@ -29,6 +30,10 @@ use Rattle.pk_lower_expression.specs.Expressions.{ways, performed}
 use Rattle.pk_lower_statement.specs.declared.statements.Exits.{Exits}
 use Rattle.pk_lower_statement.specs.Statements as statements
 use Rattle.pk_lower_statement.specs.Statements.{named, introduced, item, items, declared, all_declared, inside, branching, meeting, if_draft, round, while_from, do_from, for_from, loop_begun, case_test, case_tests, in_switch, switch_begun, returned, performed_if, for_start, for_test, lowered, lowered_items}
+use Rattle.pk_marks.specs.Marks as Marks
+use Rattle.pk_marks.specs.Marks.{one_if, times, times_in}
+use Rattle.pk_meaning.specs.Steps.{Mark, labelled, numbered, otherwise, is_label, is_case, is_default}
+use Rattle.pk_visits.proofs.Settled.{mark_point}
 use Rattle.pk_visits.proofs.Slots.{Slot, SlotTree, Draft, Instr, KeepsBy, Keeps, Grows, Scoping, Extends, front_among, Among, label_at, region_at, made_at, object_at, Edge}
 use Rattle.pk_visits.proofs.Grows.{keeps_trans, grows_refl, grows_trans, link_grows, emit_grows, fresh_one_grows, held_grows, guards_grow, WaysGrow}
 use Rattle.pk_visits.proofs.Growing.{AllCalled, values, effects, front_called, back_called}
@@ -441,12 +446,44 @@ inner_adds ms ys S C d e f from a b =
 pub marking_inside : (x : Exits) (m : Marks) (ms : List ℕ) (b k : ℕ) → Marking x m ms → Marking (inside b k x) m ms
 marking_inside x m ms b k h = record { labels = h.labels; cases = h.cases; default = h.default }
 
-pub marking_switch : (x : Exits) (m : Marks) (ms : List ℕ) (e n : ℕ) (b : Bool) → Marking x m ms → Marking (in_switch e n x) (WellTyped.in_switch n b m) (upto (n + 1) (e + 1) ++ ms)
-marking_switch x m ms e n b h = record {
-  labels = λ l k. back_list (upto (n + 1) (e + 1)) ms (x.labels + l) (h.labels l k);
-  cases = λ i k. front_list (upto (n + 1) (e + 1)) ms (e + 1 + i) (upto_has (n + 1) (e + 1) i (omega (arith, k)));
-  default = λ k. front_list (upto (n + 1) (e + 1)) ms (e + 1 + n) (upto_has (n + 1) (e + 1) n (omega arith));
-}
+-- a mark of the function, or of the switch at hand
+abbrev pub IsMark : Marks → Mark → Type 0
+IsMark m (labelled l) = l < m.labels
+IsMark m (numbered i) = i < m.cases
+IsMark m otherwise = m.has_default ≡ true
+
+-- the points of the marks that stand as often as t says
+abbrev pub Covers : Exits → Marks → (Mark → ℕ) → List ℕ → Type 0
+Covers x m t ms = (b : Mark) → IsMark m b → (t b ≡ 0 → ⊥) → Among (mark_point b x) ms
+
+-- those of all marks
+pub covers_all : (x : Exits) (m : Marks) (t : Mark → ℕ) (ms : List ℕ) → Marking x m ms → Covers x m t ms
+covers_all x m t ms h (labelled l) is some = h.labels l is
+covers_all x m t ms h (numbered i) is some = h.cases i is
+covers_all x m t ms h otherwise is some = h.default is
+
+covers_first : (x : Exits) (m : Marks) (t u : Mark → ℕ) (ms : List ℕ) → Covers x m (λ b. t b + u b) ms → Covers x m t ms
+covers_first x m t u ms h b is some = h b is (λ e. some (omega (arith, e)))
+
+covers_second : (x : Exits) (m : Marks) (t u : Mark → ℕ) (ms : List ℕ) → Covers x m (λ b. t b + u b) ms → Covers x m u ms
+covers_second x m t u ms h b is some = h b is (λ e. some (omega (arith, e)))
+
+covers_inside : (x : Exits) (m : Marks) (t : Mark → ℕ) (ms : List ℕ) (b k : ℕ) → Covers x m t ms → Covers (inside b k x) m t ms
+covers_inside x m t ms b k h (labelled l) is some = h (labelled l) is some
+covers_inside x m t ms b k h (numbered i) is some = h (numbered i) is some
+covers_inside x m t ms b k h otherwise is some = h otherwise is some
+
+covers_switch : (x : Exits) (m : Marks) (t : Mark → ℕ) (ms : List ℕ) (e n : ℕ) (b : Bool) → Covers x m (λ k. Marks.in_switch k (t k)) ms → Covers (in_switch e n x) (WellTyped.in_switch n b m) t (upto (n + 1) (e + 1) ++ ms)
+covers_switch x m t ms e n b h (labelled l) is some = back_list (upto (n + 1) (e + 1)) ms (x.labels + l) (h (labelled l) is some)
+covers_switch x m t ms e n b h (numbered i) is some = front_list (upto (n + 1) (e + 1)) ms (e + 1 + i) (upto_has (n + 1) (e + 1) i (omega (arith, is)))
+covers_switch x m t ms e n b h otherwise is some = front_list (upto (n + 1) (e + 1)) ms (e + 1 + n) (upto_has (n + 1) (e + 1) n (omega arith))
+
+-- a mark stands where it is
+label_stands : (l n : ℕ) → one_if (is_label (labelled l) l) + n ≡ 0 → ⊥
+label_stands l n h = absurd (let e = eq-eqb l l refl in grind (arith, nat_tests, h, e))
+
+case_stands : (i n : ℕ) → one_if (is_case (numbered i) i) + n ≡ 0 → ⊥
+case_stands i n h = absurd (let e = eq-eqb i i refl in grind (arith, nat_tests, h, e))
 
 pub choice_adds : (ms : List ℕ) (S : ℕ → Type 0) (C : ℕ → Size → Type 0) (w : Ways Slot) → WaysGrow C w → ChoiceAdds ms S C w.choice
 choice_adds ms S C w g p q d = adds ms S C d (w.choice p q d) (g.choice p q d)
@@ -515,53 +552,60 @@ for_draft_adds ms S C p c f e third s x o hf he h3 hs d =
     (for_adds ms S C p (for_test c e) (performed_if c third) s x (test_adds ms S C c e he) (third_adds ms S C c third h3) hs (h + 1) (h + 2) d.points b))))))
 
 mutual
-  unfolding lowered lowered_items IsStatement AreItems calls_in_statement calls_in_items
+  unfolding lowered lowered_items IsStatement AreItems calls_in_statement calls_in_items times times_in
 
-  pub statement : (C : ℕ → Size → Type 0) (c : Context) (a : Around) (m : Marks) (s : StatementTree) (x : Exits) (ms : List ℕ) (S : ℕ → Type 0) → ((i : ℕ) → a.objects ≤ i → S i) → IsStatement a m s → Marking x m ms → AllCalled C c (calls_in_statement s) → AddsTo ms S C (lowered c s x)
-  statement C c a m (tree.block p is) x ms S from f h k d = scope_adds ms S C d (lowered_items c is x d) (block C c a m is x ms S from f h k d)
-  statement C c a m (tree.empty p) x ms S from f h k d = nothing_adds ms S C d
-  statement C c a m (tree.effect p e) x ms S from f h k d = stays_then (on_adds ms S C p d) (adds ms S C (on p d) (performed c e (on p d)) (effects C c e k (on p d)))
-  statement C c a m (tree.label p l s) x ms S from f h k d =
-      stays_then (on_adds ms S C p d) (stays_then (come_adds ms S C (x.labels + l) (on p d) (h.labels l f.0)) (statement C c a m s x ms S from f.1 h k (come (x.labels + l) (on p d))))
-  statement C c a m (tree.case p i s) x ms S from f h k d =
-      stays_then (on_adds ms S C p d) (stays_then (come_adds ms S C (x.cases + i) (on p d) (h.cases i f.0)) (statement C c a m s x ms S from f.1 h k (come (x.cases + i) (on p d))))
-  statement C c a m (tree.default p s) x ms S from f h k d =
-      stays_then (on_adds ms S C p d) (stays_then (come_adds ms S C x.otherwise (on p d) (h.default f.0)) (statement C c a m s x ms S from f.1 h k (come x.otherwise (on p d))))
-  statement C c a m (tree.if_then p e s) x ms S from f h k d =
+  pub statement_adds : (C : ℕ → Size → Type 0) (c : Context) (a : Around) (m : Marks) (s : StatementTree) (x : Exits) (ms : List ℕ) (S : ℕ → Type 0) → ((i : ℕ) → a.objects ≤ i → S i) → IsStatement a m s → Covers x m (λ b. times b s) ms → AllCalled C c (calls_in_statement s) → AddsTo ms S C (lowered c s x)
+  statement_adds C c a m (tree.block p is) x ms S from f h k d = scope_adds ms S C d (lowered_items c is x d) (block_enlarges C c a m is x ms S from f h k d)
+  statement_adds C c a m (tree.empty p) x ms S from f h k d = nothing_adds ms S C d
+  statement_adds C c a m (tree.effect p e) x ms S from f h k d = stays_then (on_adds ms S C p d) (adds ms S C (on p d) (performed c e (on p d)) (effects C c e k (on p d)))
+  statement_adds C c a m (tree.label p l s) x ms S from f h k d =
+      stays_then (on_adds ms S C p d) (stays_then (come_adds ms S C (x.labels + l) (on p d) (h (labelled l) f.0 (label_stands l (times (labelled l) s)))) (statement_adds C c a m s x ms S from f.1 (covers_second x m (λ b. one_if (is_label b l)) (λ b. times b s) ms h) k (come (x.labels + l) (on p d))))
+  statement_adds C c a m (tree.case p i s) x ms S from f h k d =
+      stays_then (on_adds ms S C p d) (stays_then (come_adds ms S C (x.cases + i) (on p d) (h (numbered i) f.0 (case_stands i (times (numbered i) s)))) (statement_adds C c a m s x ms S from f.1 (covers_second x m (λ b. one_if (is_case b i)) (λ b. times b s) ms h) k (come (x.cases + i) (on p d))))
+  statement_adds C c a m (tree.default p s) x ms S from f h k d =
+      stays_then (on_adds ms S C p d) (stays_then (come_adds ms S C x.otherwise (on p d) (h otherwise f.0 (λ e. absurd (omega (arith, e))))) (statement_adds C c a m s x ms S from f.1 (covers_second x m (λ b. one_if (is_default b)) (λ b. times b s) ms h) k (come x.otherwise (on p d))))
+  statement_adds C c a m (tree.if_then p e s) x ms S from f h k d =
       if_adds ms S C p (ways c e) (lowered c s x) (λ r. r) (choice_adds ms S C (ways c e) (values C c e (front_called C c (calls_in e) (calls_in_statement s) k)))
-      (statement C c a m s x ms S from f.1 h (back_called C c (calls_in e) (calls_in_statement s) k)) (nothing_adds ms S C) d
-  statement C c a m (tree.if_else p e s r) x ms S from f h k d =
+      (statement_adds C c a m s x ms S from f.1 h (back_called C c (calls_in e) (calls_in_statement s) k)) (nothing_adds ms S C) d
+  statement_adds C c a m (tree.if_else p e s r) x ms S from f h k d =
       let k1 = front_called C c (calls_in e ++ calls_in_statement s) (calls_in_statement r) k in
       if_adds ms S C p (ways c e) (lowered c s x) (lowered c r x) (choice_adds ms S C (ways c e) (values C c e (front_called C c (calls_in e) (calls_in_statement s) k1)))
-      (statement C c a m s x ms S from f.1 h (back_called C c (calls_in e) (calls_in_statement s) k1)) (statement C c _ m r x ms S (λ i o. from i (omega (arith, o))) f.2 h (back_called C c (calls_in e ++ calls_in_statement s) (calls_in_statement r) k)) d
-  statement C c a m (tree.switch p t e zs b s) x ms S from f h k d =
+      (statement_adds C c a m s x ms S from f.1 (covers_first x m (λ b. times b s) (λ b. times b r) ms h) (back_called C c (calls_in e) (calls_in_statement s) k1)) (statement_adds C c _ m r x ms S (λ i o. from i (omega (arith, o))) f.2 (covers_second x m (λ b. times b s) (λ b. times b r) ms h) (back_called C c (calls_in e ++ calls_in_statement s) (calls_in_statement r) k)) d
+  statement_adds C c a m (tree.switch p t e zs b s) x ms S from f h k d =
       stays_then (on_adds ms S C p d) (switch_adds ms S C (site c p) t c e zs b (lowered c s) x (values C c e (front_called C c (calls_in e) (calls_in_statement s) k))
-      (λ q r. statement C c a (WellTyped.in_switch (length zs) b m) s (in_switch q (length zs) x) (upto (length zs + 1) (q + 1) ++ ms) S from f.2 (marking_switch x m ms q (length zs) b h) (back_called C c (calls_in e) (calls_in_statement s) k) r) (on p d))
-  statement C c a m (tree.while p e s) x ms S from f h k d =
+      (λ q r. statement_adds C c a (WellTyped.in_switch (length zs) b m) s (in_switch q (length zs) x) (upto (length zs + 1) (q + 1) ++ ms) S from f.2 (covers_switch x m (λ k. times k s) ms q (length zs) b h) (back_called C c (calls_in e) (calls_in_statement s) k) r) (on p d))
+  statement_adds C c a m (tree.while p e s) x ms S from f h k d =
       let o = on p d in
       stays_then (on_adds ms S C p d) (stays_then (begun_adds ms S C o)
       (while_adds ms S C (ways c e) (lowered c s) x (choice_adds ms S C (ways c e) (values C c e (front_called C c (calls_in e) (calls_in_statement s) k)))
-      (λ b q r. statement C c a m s (inside b q x) ms S from f.1 (marking_inside x m ms b q h) (back_called C c (calls_in e) (calls_in_statement s) k) r) (o.points + 1) (o.points + 2) (loop_begun o)))
-  statement C c a m (tree.do_while p s e) x ms S from f h k d =
+      (λ b q r. statement_adds C c a m s (inside b q x) ms S from f.1 (covers_inside x m (λ k. times k s) ms b q h) (back_called C c (calls_in e) (calls_in_statement s) k) r) (o.points + 1) (o.points + 2) (loop_begun o)))
+  statement_adds C c a m (tree.do_while p s e) x ms S from f h k d =
       let o = on p d in
       stays_then (on_adds ms S C p d) (stays_then (begun_adds ms S C o)
       (do_adds ms S C p (ways c e) (lowered c s) x (choice_adds ms S C (ways c e) (values C c e (back_called C c (calls_in_statement s) (calls_in e) k)))
-      (λ b q r. statement C c a m s (inside b q x) ms S from f.0 (marking_inside x m ms b q h) (front_called C c (calls_in_statement s) (calls_in e) k) r) (o.points + 1) (o.points + 2) (loop_begun o)))
-  statement C c a m (tree.for_loop p g e third s) x ms S from f h k d =
+      (λ b q r. statement_adds C c a m s (inside b q x) ms S from f.0 (covers_inside x m (λ k. times k s) ms b q h) (front_called C c (calls_in_statement s) (calls_in e) k) r) (o.points + 1) (o.points + 2) (loop_begun o)))
+  statement_adds C c a m (tree.for_loop p g e third s) x ms S from f h k d =
       let k1 = front_called C c (calls_at_start g ++ calls_if e ++ calls_in_effect_if third) (calls_in_statement s) k in
       let k2 = front_called C c (calls_at_start g ++ calls_if e) (calls_in_effect_if third) k1 in
       stays_then (on_adds ms S C p d) (for_draft_adds ms S C p c g e third (lowered c s) x (start_among S a g f.0 from) (front_called C c (calls_at_start g) (calls_if e) k2) (back_called C c (calls_at_start g) (calls_if e) k2)
       (back_called C c (calls_at_start g ++ calls_if e) (calls_in_effect_if third) k1)
-      (λ b q r. statement C c _ m s (inside b q x) ms S (λ i o. from i (omega (arith, o))) f.3 (marking_inside x m ms b q h) (back_called C c (calls_at_start g ++ calls_if e ++ calls_in_effect_if third) (calls_in_statement s) k) r) (on p d))
-  statement C c a m (tree.goto p l) x ms S from f h k d = stays_then (on_adds ms S C p d) (away_adds ms S C (x.labels + l) (on p d))
-  statement C c a m (tree.continue p) x ms S from f h k d = stays_then (on_adds ms S C p d) (away_adds ms S C x.continued (on p d))
-  statement C c a m (tree.break p) x ms S from f h k d = stays_then (on_adds ms S C p d) (away_adds ms S C x.broken (on p d))
-  statement C c a m (tree.return p e) x ms S from f h k d = stays_then (on_adds ms S C p d) (returned_adds ms S C c x.left c.returns e k (on p d))
+      (λ b q r. statement_adds C c _ m s (inside b q x) ms S (λ i o. from i (omega (arith, o))) f.3 (covers_inside x m (λ k. times k s) ms b q h) (back_called C c (calls_at_start g ++ calls_if e ++ calls_in_effect_if third) (calls_in_statement s) k) r) (on p d))
+  statement_adds C c a m (tree.goto p l) x ms S from f h k d = stays_then (on_adds ms S C p d) (away_adds ms S C (x.labels + l) (on p d))
+  statement_adds C c a m (tree.continue p) x ms S from f h k d = stays_then (on_adds ms S C p d) (away_adds ms S C x.continued (on p d))
+  statement_adds C c a m (tree.break p) x ms S from f h k d = stays_then (on_adds ms S C p d) (away_adds ms S C x.broken (on p d))
+  statement_adds C c a m (tree.return p e) x ms S from f h k d = stays_then (on_adds ms S C p d) (returned_adds ms S C c x.left c.returns e k (on p d))
 
-  pub block : (C : ℕ → Size → Type 0) (c : Context) (a : Around) (m : Marks) (is : ItemTrees) (x : Exits) (ms : List ℕ) (S : ℕ → Type 0) → ((i : ℕ) → a.objects ≤ i → S i) → AreItems a m is → Marking x m ms → AllCalled C c (calls_in_items is) → (d : Draft) → Enlarges ms S C d (lowered_items c is x d)
-  block C c a m tree.no_items x ms S from f h k d = enlarges ms S C d d (nothing_adds ms S C d)
-  block C c a m (tree.declared_before v is) x ms S from f h k d =
-      path_then (declared_enlarges ms S C c v d (declared_among S a v f.0 from) (front_called C c (calls_in_declared v) (calls_in_items is) k)) (block C c _ m is x ms S (λ i o. from i (omega (arith, o))) f.1 h (back_called C c (calls_in_declared v) (calls_in_items is) k) (declared c v d))
-  block C c a m (tree.statement_before s is) x ms S from f h k d =
-      path_then (enlarges ms S C d (lowered c s x d) (statement C c a m s x ms S from f.0 h (front_called C c (calls_in_statement s) (calls_in_items is) k) d))
-      (block C c _ m is x ms S (λ i o. from i (omega (arith, o))) f.1 h (back_called C c (calls_in_statement s) (calls_in_items is) k) (lowered c s x d))
+  pub block_enlarges : (C : ℕ → Size → Type 0) (c : Context) (a : Around) (m : Marks) (is : ItemTrees) (x : Exits) (ms : List ℕ) (S : ℕ → Type 0) → ((i : ℕ) → a.objects ≤ i → S i) → AreItems a m is → Covers x m (λ b. times_in b is) ms → AllCalled C c (calls_in_items is) → (d : Draft) → Enlarges ms S C d (lowered_items c is x d)
+  block_enlarges C c a m tree.no_items x ms S from f h k d = enlarges ms S C d d (nothing_adds ms S C d)
+  block_enlarges C c a m (tree.declared_before v is) x ms S from f h k d =
+      path_then (declared_enlarges ms S C c v d (declared_among S a v f.0 from) (front_called C c (calls_in_declared v) (calls_in_items is) k)) (block_enlarges C c _ m is x ms S (λ i o. from i (omega (arith, o))) f.1 h (back_called C c (calls_in_declared v) (calls_in_items is) k) (declared c v d))
+  block_enlarges C c a m (tree.statement_before s is) x ms S from f h k d =
+      path_then (enlarges ms S C d (lowered c s x d) (statement_adds C c a m s x ms S from f.0 (covers_first x m (λ b. times b s) (λ b. times_in b is) ms h) (front_called C c (calls_in_statement s) (calls_in_items is) k) d))
+      (block_enlarges C c _ m is x ms S (λ i o. from i (omega (arith, o))) f.1 (covers_second x m (λ b. times b s) (λ b. times_in b is) ms h) (back_called C c (calls_in_statement s) (calls_in_items is) k) (lowered c s x d))
+
+-- with all marks of the function and of the switch at hand
+pub statement : (C : ℕ → Size → Type 0) (c : Context) (a : Around) (m : Marks) (s : StatementTree) (x : Exits) (ms : List ℕ) (S : ℕ → Type 0) → ((i : ℕ) → a.objects ≤ i → S i) → IsStatement a m s → Marking x m ms → AllCalled C c (calls_in_statement s) → AddsTo ms S C (lowered c s x)
+statement C c a m s x ms S from f h k = statement_adds C c a m s x ms S from f (covers_all x m (λ b. times b s) ms h) k
+
+pub block : (C : ℕ → Size → Type 0) (c : Context) (a : Around) (m : Marks) (is : ItemTrees) (x : Exits) (ms : List ℕ) (S : ℕ → Type 0) → ((i : ℕ) → a.objects ≤ i → S i) → AreItems a m is → Marking x m ms → AllCalled C c (calls_in_items is) → (d : Draft) → Enlarges ms S C d (lowered_items c is x d)
+block C c a m is x ms S from f h k = block_enlarges C c a m is x ms S from f (covers_all x m (λ b. times_in b is) ms h) k
