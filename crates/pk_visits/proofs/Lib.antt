@@ -26,17 +26,22 @@ mod Entering
 mod Evaluations
 pub mod StatementGrows
 mod Statements
+mod Marked
 mod Rounds
 mod Branches
 mod Returns
 mod Thirds
 mod Fills
 mod Firsts
+mod Shown
 mod Starts
 mod Declared
 mod Choices
 mod Cases
+mod Switches
+mod Found
 mod Going
+mod Jumps
 mod Followed
 pub mod NumberedEdges
 pub mod NumberedStores

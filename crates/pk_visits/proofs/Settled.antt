@@ -1,22 +1,29 @@
 -- Declarations and marks in a tree as it is lowered from a draft: each object has the variable that the graph says of it, each mark's point the label that it gets here.
 use Rattle.std.specs.Prelude.{◌≡◌, ℕ, ◌+◌, ◌<◌, List, [], ◌∷◌, length}
-use Rattle.pk_typed.specs.Trees.{ValueTree, EffectTree, DeclaredTree, ForStartTree, StatementTree, ItemTrees}
+use Rattle.pk_typed.specs.Trees.{DeclaredTree, ForStartTree, StatementTree, ItemTrees}
 use Rattle.pk_typed.specs.Trees as tree
 use Rattle.pk_draft.specs.declared.drafts.Label.{Label}
-use Rattle.pk_draft.specs.Drafts.{Given, on, at, come, fresh}
+use Rattle.pk_draft.specs.Drafts.{on, at, come, fresh}
 use Rattle.pk_lower_row.specs.Contexts.{Context, site}
 use Rattle.pk_lower_row.specs.Rows.{operand}
 use Rattle.pk_lower_expression.specs.Expressions.{ways}
 use Rattle.pk_lower_statement.specs.declared.statements.Exits.{Exits}
 use Rattle.pk_lower_statement.specs.Statements.{inside, in_switch, branching, loop_begun, tested, switch_begun, for_start, for_test, declared, lowered}
+use Rattle.pk_meaning.specs.Steps.{Mark, labelled, numbered, otherwise}
 use Rattle.pk_meaning.specs.Work.{Loop, While, DoWhile, For}
-use Rattle.pk_visits.proofs.Slots.{Slot, Draft, label_at}
+use Rattle.pk_visits.proofs.Slots.{Draft, label_at}
 
 -- what is known in the end of a path: how many objects it declares, the variable of each, the label of each point
 pub record Final : Type 0 where
   pub objects : ℕ
   pub numbers : ℕ → ℕ
   pub labels : List Label
+
+-- the point of a mark
+abbrev pub mark_point : Mark → Exits → ℕ
+mark_point (labelled l) x = x.labels + l
+mark_point (numbered i) x = x.cases + i
+mark_point otherwise x = x.otherwise
 
 -- point p of a mark is here
 abbrev pub IsMarkedAt : Final → ℕ → Draft → Type 0
