@@ -1,3 +1,4 @@
 mod Paths
 mod Pairs
 mod Naming
+mod Graphs
