@@ -2,3 +2,4 @@ mod Paths
 mod Pairs
 mod Naming
 mod Graphs
+mod Copies
