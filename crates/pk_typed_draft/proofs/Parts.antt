@@ -129,7 +129,7 @@ parameter_step w g s from t k o d =
     let i = s.objects in
     let v = parameter_variable w from i in
     subst (λ (e : D w). Step w 0 0 s (more 1 s) d e (Unit {0}) (Unit {0})) (sym (introduced w from i d))
-    (chain (object_step w g 0 s v d (parameter_path w.context.locals w.context.path from i) (its_start w from i) (good.scalar t) k (object_is w from i o)) (named_step w 0 (more 1 s) (local_at w.context i).name d.variables (with_object i v d)))
+    (chain (object_step w g 0 s v d (parameter_path w.context.locals w.context.path from i) (its_start w from i) (good.scalar t) k (omega arith) (object_is w from i o)) (named_step w 0 (more 1 s) (local_at w.context i).name d.variables (with_object i v d)))
 
 parameter_variables : (w : Place) (from : Option Caller) (i : ℕ) (d : D w) → (part.introduced_parameter w.context from i d).variables ≡ d.variables + 1
 parameter_variables w from i d = ap (λ (q : D w). q.variables) (introduced w from i d) ∙ (named_made w (local_at w.context i).name d.variables (with_object i (parameter_variable w from i) d)).1

@@ -5,7 +5,7 @@ use Rattle.std.specs.Option.{option_and_then}
 use Rattle.pk_ctypes.specs.declared.types.IntType.{IntType}
 use Rattle.pk_typed.specs.Trees.{LocalTree, FunctionTree, UnitTree}
 use Rattle.pk_graph.specs.declared.graphs.Scope.{Scope}
-use Rattle.pk_graph.specs.Kinds.{Kinds}
+use Rattle.pk_graph.specs.Kinds.{Kinds, count_of}
 use Rattle.pk_graph.specs.Graphs.{VariableOf, no_variable, number_start}
 use Rattle.pk_graph.specs.Trees.{InstrOf, Skip, Set, Havoc, Clear, Load, Store, Guard, Check}
 use Rattle.pk_graph.specs.WellMade.{IsStartOf}
@@ -159,7 +159,7 @@ pub record ObjectsAre (w : Place) (s : Stage) (v : ℕ) (os : List ℕ) : Type 0
   pub many : length os ≡ length w.context.locals + 1
   pub each : (i : ℕ) → i < s.objects → (k : good.Kind) → good.kind_among w.context.locals i ≡ Some k → Has w.table (w.table.names.object w.context.path i (own_number os i)) k.int_type k.length
   pub result : HasIf w.table (w.table.names.result w.context.path (own_number os (length w.context.locals))) s.result
-  pub kinds : (i : ℕ) → i < s.objects → (k : good.Kind) × (good.kind_among w.context.locals i ≡ Some k)
+  pub kinds : (i : ℕ) → i < s.objects → (k : good.Kind) × (good.kind_among w.context.locals i ≡ Some k) × (0 < count_of k.length)
   pub below : (i : ℕ) → i < s.objects → own_number os i < v
   pub rising : (i j : ℕ) → i < j → j < s.objects → own_number os i < own_number os j
   pub result_apart : (i : ℕ) → i < s.objects → ResultIs s.result (λ y. own_number os i ≡ y → ⊥) (own_number os (length w.context.locals))

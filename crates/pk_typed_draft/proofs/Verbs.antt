@@ -8,6 +8,7 @@ use Rattle.pk_ctypes.specs.declared.types.IntType.{IntType}
 use Rattle.pk_typed.specs.Trees.{LocalTree}
 use Rattle.pk_graph.specs.Trees.{InstrOf, Skip}
 use Rattle.pk_typed_draft.proofs.Tables.{IsTypedInstr}
+use Rattle.pk_graph.specs.Kinds.{count_of}
 use Rattle.pk_graph.specs.Graphs.{VariableOf, no_variable, number_start}
 use Rattle.pk_graph.specs.WellMade.{IsStartOf}
 use Rattle.pk_draft.specs.declared.drafts.Region.{Region}
@@ -279,9 +280,9 @@ object_is_next : (w : Place) (s : Stage) (v : ℕ) (os : List ℕ) → s.objects
     → (s.objects < w.ends.objects) × (w.ends.numbers s.objects ≡ v)
 object_is_next w s v os l n f = (omega (f.declared, arith), f.objects s.objects (omega arith) ∙ get_or-set_same os s.objects v 0 (omega (n, l, arith)))
 
-object_more : (w : Place) (s : Stage) (os : List ℕ) (v : ℕ) (k : good.Kind) → good.kind_among w.context.locals s.objects ≡ Some k → Has w.table (w.table.names.object w.context.path s.objects v) k.int_type k.length → ObjectsAre w s v os
+object_more : (w : Place) (s : Stage) (os : List ℕ) (v : ℕ) (k : good.Kind) → good.kind_among w.context.locals s.objects ≡ Some k → 0 < count_of k.length → Has w.table (w.table.names.object w.context.path s.objects v) k.int_type k.length → ObjectsAre w s v os
     → ObjectsAre w (with_objects (s.objects + 1) s) (v + 1) (slice_set os s.objects v)
-object_more w s os v k is h o =
+object_more w s os v k is some h o =
     let i = s.objects in
     let inside : i < length w.context.locals = within w.context.locals i is in
     let same : own_number (slice_set os i v) i ≡ v = get_or-set_same os i v 0 (omega (inside, o.many, arith)) in
@@ -294,7 +295,7 @@ object_more w s os v k is h o =
       ];
       result = subst (λ (x : ℕ). HasIf w.table (w.table.names.result w.context.path x) s.result) (sym other) o.result;
       kinds = λ j l. elim (either j i) [
-        | inl at ↦ (k, ap (good.kind_among w.context.locals) at ∙ is)
+        | inl at ↦ (k, ap (good.kind_among w.context.locals) at ∙ is, some)
         | inr not ↦ o.kinds j (smaller j not l)
       ];
       below = λ j l. elim (either j i) [
@@ -330,15 +331,15 @@ object_more w s os v k is h o =
         (subst (λ (x : ℕ). Has w.table (w.table.names.object w.context.path s.objects x) q.int_type q.length) (sym same) (subst (λ (a : good.Kind). Has w.table (w.table.names.object w.context.path s.objects v) a.int_type a.length) kind h))
 
 -- The next object's variable is made, which may begin with something else than 0 where it is so said.
-pub object_step : (w : Place) → Proper w → (m : ℕ) (s : Stage) (x : VariableOf) (d : D w) → x.path ≡ Some w.context.path → IsStartOf x x.start → (k : good.Kind) → good.kind_among w.context.locals s.objects ≡ Some k → IsObjectOf w s.objects x
+pub object_step : (w : Place) → Proper w → (m : ℕ) (s : Stage) (x : VariableOf) (d : D w) → x.path ≡ Some w.context.path → IsStartOf x x.start → (k : good.Kind) → good.kind_among w.context.locals s.objects ≡ Some k → 0 < count_of k.length → IsObjectOf w s.objects x
     → Step w m m s (with_objects (s.objects + 1) s) d (with_object s.objects x d) (Unit {0}) ((d.variables < length w.kinds) × w.CanBeNamed d.variables)
-object_step w g m s x d p st k is ob =
+object_step w g m s x d p st k is some ob =
     let l = within w.context.locals s.objects is in
     making w g m s (with_objects (s.objects + 1) s) x d (slice_set d.objects s.objects d.variables) ((d.variables < length w.kinds) × w.CanBeNamed d.variables)
     (λ n f. object_back w s d.variables d.objects l n f) (length-set d.objects s.objects d.variables) (λ e. p) st
     (λ n f. let q = object_is_next w s d.variables d.objects l n f in inr (subst w.CanBegin q.1 (g.begun s.objects q.0)))
     (λ f o h n. let q = object_is_next w s d.variables d.objects l h.many f in (
-      object_more w s d.objects d.variables k is
+      object_more w s d.objects d.variables k is some
       (subst (λ (y : ℕ). Has w.table (w.table.names.object w.context.path s.objects y) k.int_type k.length) q.1 (g.objects s.objects k x q.0 is (subst (λ (y : ℕ). IsOwn w y x) (sym q.1) o) ob)) h,
       (o.there, subst w.CanBeNamed q.1 (g.named s.objects q.0)),
     ))
