@@ -3,3 +3,4 @@ mod Pairs
 mod Naming
 mod Graphs
 mod Copies
+mod Starts
