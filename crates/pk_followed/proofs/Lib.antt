@@ -4,3 +4,4 @@ mod Naming
 mod Graphs
 mod Copies
 mod Starts
+mod Propers

@@ -44,7 +44,7 @@ all_get P (y ∷ xs) zero x h e = subst P (head_is y x e) (h 0 y (omega arith))
 all_get P (y ∷ xs) (suc i) x h e = all_get P xs i x (λ k d l. h (suc k) d (omega (l, arith))) e
 
 -- the objects of a path's function, as its context and its block have them
-locals_same : (u : UnitTree) (paths : List CallPath) (k : ℕ) (p : PartOf (world u paths) (whole u paths) k) → (body_at u p.path.function).locals ≡ (block_of (program_of u paths) k).locals
+pub locals_same : (u : UnitTree) (paths : List CallPath) (k : ℕ) (p : PartOf (world u paths) (whole u paths) k) → (body_at u p.path.function).locals ≡ (block_of (program_of u paths) k).locals
 locals_same u paths k p =
     ap (λ (b : BodyTree). b.locals) (body_at_is u p.path.function p.place.function p.place.body p.place.there p.place.has) ∙ sym (ap (λ (b : BodyTree). b.locals) (block_is (world u paths) k p.first p.path p.place))
 
