@@ -43,6 +43,7 @@ mod Found
 mod Going
 mod Jumps
 mod Followed
+mod PartGrows
 mod NumberedEdges
 mod NumberedStores
 mod NumberedCopies
