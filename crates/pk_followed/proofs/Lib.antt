@@ -1,0 +1,4 @@
+mod Paths
+mod Pairs
+mod Naming
+mod Graphs
