@@ -2,3 +2,5 @@ mod Paths
 mod Pairs
 mod Naming
 mod Graphs
+mod PartAdds
+mod Pending
