@@ -15,7 +15,7 @@ use Rattle.pk_lower_row.specs.Contexts.{Context, size_in}
 use Rattle.pk_lower.specs.Parts as part
 use Rattle.pk_part.proofs.Measures.{parts_fill_regions}
 use Rattle.pk_typed_draft.proofs.Plans.{World, Draft, sizes, size_of, function_of, Lasting, PathIs, function_is, its_function, its_body}
-use Rattle.pk_visits.proofs.Slots.{Slot, Takes, Among, label_at, region_at}
+use Rattle.pk_visits.proofs.Slots.{Slot, Edge, Extends, Takes, Among, label_at, region_at}
 use Rattle.pk_visits.proofs.Stands.{IsCalled}
 use Rattle.pk_visits.proofs.Stages.{all_called}
 use Rattle.pk_visits.proofs.StatementGrows.{Enlarges, Free}
@@ -53,28 +53,35 @@ part_grows W f k n p h d =
     subst (Enlarges (entry_marks p.caller r) Free C (first_of c h.body r D)) (sym (body_part W k n p h p.caller r D) ∙ part_by W.table.Variable Slot f c p.function p.caller r d)
     (part_enlarges C c h.function h.body p.caller r a m D h.is_body.items refl refl refl (all_called c (calls_in_items h.body.items)))
 
--- a path that is called is a later one, of the size of the function that is called
-pub called_size : (W : World) (k n : ℕ) (p : CallPath) (h : PathIs W k n p) (j : ℕ) (s : Size) → IsCalled (context_at W k n p) (calls_in_items h.body.items) j s → (k < j) × (s ≡ size_of W j)
+-- a path that is called is one from n on, of the size of the function that is called
+pub called_size : (W : World) (k n : ℕ) (p : CallPath) (h : PathIs W k n p) (j : ℕ) (s : Size) → IsCalled (context_at W k n p) (calls_in_items h.body.items) j s → (n ≤ j) × (s ≡ size_of W j)
 called_size W k n p h j s (z, a, e, is) =
     let r = numbered_at 0 h.body.calls z (subst (Among z) h.is_body.calls a) in
     let at = r.1 in
-    let low = h.below in
     let there : slice_get W.paths (n + r.0) ≡ Some (path_by k r.0 z.call.function) = h.leads r.0 z.call r.2 in
     let same : n + r.0 ≡ j = omega (e, at, arith) in
     let function : function_of W j ≡ z.call.function =
     ap (function_of W) (sym same) ∙ ap (λ (q : CallPath). q.function) (get_or_from_slice_get W.paths (n + r.0) (path_by k r.0 z.call.function) (entry_path 0) there) in
-    (omega (e, low, arith), is ∙ ap (size_in (sizes W)) (sym function))
+    (omega (e, arith), is ∙ ap (size_in (sizes W)) (sym function))
 
--- what the part adds to the draft d
-pub record PartAdds (W : World) (k : ℕ) (p : CallPath) (d e : Draft W) : Type 0 where
+-- what the part adds to the draft d, where variables have slots by f
+pub record PartAdds (W : World) (f : W.table.Variable → Slot) (k n : ℕ) (p : CallPath) (d e : Draft W) : Type 0 where
+  pub edges : (x : Edge) → Among x (draft_by f d).edges → Among x (draft_by f e).edges
+  pub scopes : Extends d.scopes e.scopes
+  pub size : length e.labels ≡ length d.labels
+  pub paths : length e.regions ≡ length d.regions
   pub labels : (q : ℕ) → (q < (region_at d.regions k).points) ⊎ ((region_at d.regions k).points + (size_of W k).points ≤ q) → Among q (entry_marks p.caller (region_at d.regions k)) ⊎ (label_at e.labels q ≡ label_at d.labels q)
-  pub regions : (j : ℕ) → ((k < j) × ((region_at d.regions k).points ≤ (region_at e.regions j).points) × ((region_at e.regions j).points + (size_of W j).points ≤ (region_at d.regions k).points + (size_of W k).points))
+  pub regions : (j : ℕ) → ((n ≤ j) × ((region_at d.regions k).points ≤ (region_at e.regions j).points) × ((region_at e.regions j).points + (size_of W j).points ≤ (region_at d.regions k).points + (size_of W k).points))
       ⊎ (region_at e.regions j ≡ region_at d.regions j)
 
-pub part_adds : (W : World) → Lasting W → (f : W.table.Variable → Slot) (k n : ℕ) (p : CallPath) (h : PathIs W k n p) (d : Draft W) → PartAdds W k p d (part_at W k n p d)
+pub part_adds : (W : World) → Lasting W → (f : W.table.Variable → Slot) (k n : ℕ) (p : CallPath) (h : PathIs W k n p) (d : Draft W) → PartAdds W f k n p d (part_at W k n p d)
 part_adds W l f k n p h d =
     let a = part_grows W f k n p h d in
     record {
+      edges = a.edges;
+      scopes = a.scopes;
+      size = a.size;
+      paths = a.paths;
       labels = λ q o. outside q o;
       regions = λ j. taken j (region_at e.regions j) (region_at d.regions j) (called_size W k n p h j) (a.regions j);
     }
@@ -95,7 +102,7 @@ part_adds W l f k n p h d =
     outside q (inl o) = (part_grows W f k n p h d).labels q o
     outside q (inr o) = (part_grows W f k n p h d).beyond q (omega (o, ends, arith))
 
-    taken : {C : Size → Type 0} {v w : ℕ} (j : ℕ) (t o : Region) → ((s : Size) → C s → (k < j) × (s ≡ size_of W j)) → Takes C r.points e.points v w t ⊎ (t ≡ o)
-        → ((k < j) × (r.points ≤ t.points) × (t.points + (size_of W j).points ≤ r.points + (size_of W k).points)) ⊎ (t ≡ o)
+    taken : {C : Size → Type 0} {v w : ℕ} (j : ℕ) (t o : Region) → ((s : Size) → C s → (n ≤ j) × (s ≡ size_of W j)) → Takes C r.points e.points v w t ⊎ (t ≡ o)
+        → ((n ≤ j) × (r.points ≤ t.points) × (t.points + (size_of W j).points ≤ r.points + (size_of W k).points)) ⊎ (t ≡ o)
     taken j t o is (inl (s, c, from, to, x, y)) = let z = is s c in let same = ap (λ (s : Size). s.points) z.1 in inl (z.0, from, omega (to, same, ends, arith))
     taken j t o is (inr m) = inr m
