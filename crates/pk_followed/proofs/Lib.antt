@@ -5,3 +5,5 @@ mod Graphs
 mod Copies
 mod Starts
 mod Propers
+mod PartAdds
+mod Pending

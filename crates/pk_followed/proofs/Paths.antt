@@ -67,29 +67,29 @@ longer_caller : (u : UnitTree) (a n : ℕ) (ps : List CallPath) (j : ℕ) (q : C
 longer_caller u a n [] j q k c e h = absurd (none-some q e)
 longer_caller u a n (p ∷ ps) j q k c e h =
     by (either_list (paths_by a 0 (calls_of u p.function)) (longer u (a + 1) ps) j q e) (λ i f. longer_caller u (a + 1) (n + length (calls_of u p.function)) ps i q k c f h) where
-  m : ℕ
-  m = n + length (calls_of u p.function)
+      m : ℕ
+      m = n + length (calls_of u p.function)
 
-  rest : ℕ → Type 0
-  rest i = (a + 1 ≤ k) × (n + length (calls_of u p.function) + i ≡ slice_index_or (firsts_from u (n + length (calls_of u p.function)) ps) (k - (a + 1)) 0 + c)
+      rest : ℕ → Type 0
+      rest i = (a + 1 ≤ k) × (n + length (calls_of u p.function) + i ≡ slice_index_or (firsts_from u (n + length (calls_of u p.function)) ps) (k - (a + 1)) 0 + c)
 
-  by : ((j < length (paths_by a 0 (calls_of u p.function))) × (slice_get (paths_by a 0 (calls_of u p.function)) j ≡ Some q))
-      ⊎ ((i : ℕ) × (j ≡ length (paths_by a 0 (calls_of u p.function)) + i) × (slice_get (longer u (a + 1) ps) i ≡ Some q))
-      → ((i : ℕ) → slice_get (longer u (a + 1) ps) i ≡ Some q → rest i) → (a ≤ k) × (n + j ≡ slice_index_or (n ∷ firsts_from u m ps) (k - a) 0 + c)
-  by (inl l) f =
-      let r = by_caller a 0 (calls_of u p.function) j q k c l.1 h in
-      let x = r.0 in
-      let y = r.1 in
-      let none : 0 ≡ k - a = omega (x, arith) in
-      (omega (x, arith), subst (λ (i : ℕ). n + j ≡ slice_index_or (n ∷ firsts_from u m ps) i 0 + c) none (omega (y, arith)))
-  by (inr l) f =
-      let r = f l.0 l.2 in
-      let x = r.0 in
-      let y = r.1 in
-      let at = l.1 in
-      let many = by_many a 0 (calls_of u p.function) in
-      let one : suc (k - (a + 1)) ≡ k - a = omega (x, arith) in
-      (omega (x, arith), subst (λ (i : ℕ). n + j ≡ slice_index_or (n ∷ firsts_from u m ps) i 0 + c) one (omega (y, at, many, arith)))
+      by : ((j < length (paths_by a 0 (calls_of u p.function))) × (slice_get (paths_by a 0 (calls_of u p.function)) j ≡ Some q))
+          ⊎ ((i : ℕ) × (j ≡ length (paths_by a 0 (calls_of u p.function)) + i) × (slice_get (longer u (a + 1) ps) i ≡ Some q))
+          → ((i : ℕ) → slice_get (longer u (a + 1) ps) i ≡ Some q → rest i) → (a ≤ k) × (n + j ≡ slice_index_or (n ∷ firsts_from u m ps) (k - a) 0 + c)
+      by (inl l) f =
+          let r = by_caller a 0 (calls_of u p.function) j q k c l.1 h in
+          let x = r.0 in
+          let y = r.1 in
+          let none : 0 ≡ k - a = omega (x, arith) in
+          (omega (x, arith), subst (λ (i : ℕ). n + j ≡ slice_index_or (n ∷ firsts_from u m ps) i 0 + c) none (omega (y, arith)))
+      by (inr l) f =
+          let r = f l.0 l.2 in
+          let x = r.0 in
+          let y = r.1 in
+          let at = l.1 in
+          let many = by_many a 0 (calls_of u p.function) in
+          let one : suc (k - (a + 1)) ≡ k - a = omega (x, arith) in
+          (omega (x, arith), subst (λ (i : ℕ). n + j ≡ slice_index_or (n ∷ firsts_from u m ps) i 0 + c) one (omega (y, at, many, arith)))
 
 -- in a listing each path but the first is by a call, and stands where the calls of its caller lead
 pub caller_at : (u : UnitTree) (entry : ℕ) (paths : List CallPath) → IsListing u entry paths → (j : ℕ) (q : CallPath) (k c : ℕ) → slice_get paths j ≡ Some q → q.caller ≡ Some (record { path = k; call = c }) → j ≡ first_of u paths k + c
@@ -148,7 +148,7 @@ block_is W k n p h =
     ∙ ap (λ (o : Option BodyTree). unwrap_or o program.no_body) (its_body W.unit p.function h.function h.body h.there h.has)
 
 -- a call among those that are numbered from n on
-numbered_at : (n : ℕ) (cs : List CallSite) (z : Numbered) → Among z (numbered n cs) → (i : ℕ) × (z.number ≡ n + i) × (slice_get cs i ≡ Some z.call)
+pub numbered_at : (n : ℕ) (cs : List CallSite) (z : Numbered) → Among z (numbered n cs) → (i : ℕ) × (z.number ≡ n + i) × (slice_get cs i ≡ Some z.call)
 numbered_at n [] z h = absurd h
 numbered_at n (c ∷ cs) z (inl e) = let a = ap (λ (x : Numbered). x.number) e in (0, omega (a, arith), ap (λ (x : Numbered). Some x.call) (sym e))
 numbered_at n (c ∷ cs) z (inr h) = let r = numbered_at (n + 1) cs z h in let a = r.1 in (suc r.0, omega (a, arith), r.2)

@@ -43,6 +43,7 @@ mod Found
 mod Going
 mod Jumps
 mod Followed
+pub mod PartGrows
 pub mod NumberedEdges
 pub mod NumberedStores
 pub mod NumberedCopies

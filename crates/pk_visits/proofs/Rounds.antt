@@ -1,5 +1,5 @@
 -- From the work of a loop to that of its test and body.
-use Rattle.std.proofs.Common.{◌≡◌, ℕ, ◌+◌, ◌≤◌, List, ◌++◌, length, refl, sym, ◌∙◌, subst, inr, arith}
+use Rattle.std.proofs.Common.{◌≡◌, ℕ, ◌+◌, ◌≤◌, List, ◌++◌, length, refl, sym, ◌∙◌, subst, inr, arith, inl}
 use Rattle.pk_ctypes.specs.declared.places.Pos.{Pos}
 use Rattle.pk_typed.specs.Trees.{ValueTree, EffectTree, StatementTree}
 use Rattle.pk_typed.specs.Trees as tree
@@ -77,7 +77,7 @@ while_laid g proper k h x p e s a pt hs (d, n, m, is, fits, calm, t, marking, se
           draft = b;
           at = refl;
           fits = fits;
-          stage = part_until {S = Free} g Stays k j (calls_in e ++ calls_in_statement s) b f (at (o.points + 2) f) s0 (record { edges = λ v w. w; names = refl; variables = omega arith; points = omega arith; size = refl; labels = λ v w. inr refl; beyond = λ v w. inr refl; regions = λ v. inr refl; paths = refl; scopes = λ n z h. h; here = (refl, refl); many = refl; made = λ n z. refl; unmade = λ n z. refl; slots = refl; objects = λ n. inr refl });
+          stage = part_until {S = Free} g Stays k j (calls_in e ++ calls_in_statement s) b f (at (o.points + 2) f) s0 (record { edges = λ v w. w; names = refl; variables = omega arith; points = omega arith; size = refl; labels = λ v w. inr refl; beyond = λ v w. inr refl; regions = λ v. inr refl; apart = λ m o w. inl refl; paths = refl; scopes = λ n z h. h; here = (refl, refl); many = refl; made = λ n z. refl; unmade = λ n z. refl; slots = refl; objects = λ n. inr refl });
           marking = marking;
           settled = settled;
           calm = calm;
@@ -121,7 +121,7 @@ do_laid g proper k h x p s e a pt hs (d, n, m, is, fits, calm, t, marking, settl
           draft = b;
           at = refl;
           fits = fits;
-          stage = part_until {S = Free} g Stays k j (calls_in_statement s ++ calls_in e) b f (at (o.points + 2) f) s0 (record { edges = λ v w. w; names = refl; variables = omega arith; points = omega arith; size = refl; labels = λ v w. inr refl; beyond = λ v w. inr refl; regions = λ v. inr refl; paths = refl; scopes = λ n z h. h; here = (refl, refl); many = refl; made = λ n z. refl; unmade = λ n z. refl; slots = refl; objects = λ n. inr refl });
+          stage = part_until {S = Free} g Stays k j (calls_in_statement s ++ calls_in e) b f (at (o.points + 2) f) s0 (record { edges = λ v w. w; names = refl; variables = omega arith; points = omega arith; size = refl; labels = λ v w. inr refl; beyond = λ v w. inr refl; regions = λ v. inr refl; apart = λ m o w. inl refl; paths = refl; scopes = λ n z h. h; here = (refl, refl); many = refl; made = λ n z. refl; unmade = λ n z. refl; slots = refl; objects = λ n. inr refl });
           marking = marking;
           settled = settled;
           calm = calm;

@@ -76,6 +76,7 @@ adds ms S C d e g = record {
   labels = λ n h. no_matter (g.labels n h);
   beyond = λ n h. no_matter (g.beyond n h);
   regions = g.regions;
+  apart = g.apart;
   paths = g.paths;
   scopes = g.scopes;
   here = (ap (λ (l : Label). l.path) g.here, ap (λ (l : Label). l.scope) g.here);
@@ -87,7 +88,7 @@ adds ms S C d e g = record {
 }
 
 pub enlarges : (ms : List ℕ) (S : ℕ → Type 0) (C : ℕ → Size → Type 0) (d e : Draft) → Adds ms S C d e → Enlarges ms S C d e
-enlarges ms S C d e g = record { edges = g.edges; names = g.names; variables = g.variables; points = g.points; size = g.size; labels = g.labels; beyond = g.beyond; regions = g.regions; paths = g.paths; scopes = g.scopes; many = g.many; made = g.made; unmade = g.unmade; slots = g.slots; objects = g.objects; here = g.here.0 }
+enlarges ms S C d e g = record { edges = g.edges; names = g.names; variables = g.variables; points = g.points; size = g.size; labels = g.labels; beyond = g.beyond; regions = g.regions; apart = g.apart; paths = g.paths; scopes = g.scopes; many = g.many; made = g.made; unmade = g.unmade; slots = g.slots; objects = g.objects; here = g.here.0 }
 
 -- one after the other
 pub stays_then : {M S : ℕ → Type 0} {C : ℕ → Size → Type 0} {es fs gs : List Edge} {ns ms os : Names Slot} {v w x p q r : ℕ} {ls ks js : List Label} {rs ts us : List Region} {aa bb cc : Scoping} {h i j : Label} {xs ys zs : List VariableOf} {ps qs bs : List ℕ}
@@ -108,6 +109,7 @@ on_adds ms S C p d = record {
   labels = λ n h. inr refl;
   beyond = λ n h. inr refl;
   regions = λ k. inr refl;
+  apart = λ j k n. inl refl;
   paths = refl;
   scopes = λ n z h. h;
   here = (refl, refl);
@@ -121,7 +123,7 @@ on_adds ms S C p d = record {
 pub link_adds : (ms : List ℕ) (S : ℕ → Type 0) (C : ℕ → Size → Type 0) (i : Instr) (q : ℕ) (d : Draft) → Adds ms S C d (link i q d)
 link_adds ms S C i q d = adds ms S C d (link i q d) (link_grows C i q d)
 
-emit_adds : (ms : List ℕ) (S : ℕ → Type 0) (C : ℕ → Size → Type 0) (i : Instr) (d : Draft) → Adds ms S C d (emit i d)
+pub emit_adds : (ms : List ℕ) (S : ℕ → Type 0) (C : ℕ → Size → Type 0) (i : Instr) (d : Draft) → Adds ms S C d (emit i d)
 emit_adds ms S C i d = adds ms S C d (emit i d) (emit_grows C i d)
 
 pub away_adds : (ms : List ℕ) (S : ℕ → Type 0) (C : ℕ → Size → Type 0) (q : ℕ) (d : Draft) → Adds ms S C d (away q d)
@@ -138,6 +140,7 @@ come_adds ms S C p d m = record {
   labels = λ n h. by n (decided n p);
   beyond = λ n h. by n (decided n p);
   regions = λ k. inr refl;
+  apart = λ j k n. inl refl;
   paths = refl;
   scopes = λ n z h. h;
   here = (refl, refl);
@@ -199,6 +202,7 @@ fresh_grows C n d =
       labels = λ q h. inr (r.labels q h);
       beyond = λ q h. inr (r.beyond q h);
       regions = λ k. inr (ap (λ rs. region_at rs k) r.regions);
+      apart = λ j k n. inl (ap (λ rs. region_at rs j) r.regions);
       paths = ap length r.regions;
       scopes = λ i z h. subst (λ ss. slice_get ss i ≡ Some z) (sym r.scopes) h;
       here = r.here;
@@ -217,11 +221,11 @@ extended [] z n y h = absurd (grind (arith, h))
 extended (s ∷ ss) z zero y h = h
 extended (s ∷ ss) z (suc n) y h = extended ss z n y h
 
-named_enlarges : (ms : List ℕ) (S : ℕ → Type 0) (C : ℕ → Size → Type 0) (o : Option (List ℕ)) (x : ℕ) (d : Draft) → Enlarges ms S C d (named o x d)
-named_enlarges ms S C None x d = record { edges = λ e h. h; names = refl; variables = omega arith; points = omega arith; size = refl; labels = λ n h. inr refl; beyond = λ n h. inr refl; regions = λ k. inr refl; paths = refl; scopes = λ n z h. h; here = refl; many = refl; made = λ n h. refl; unmade = λ n h. refl; slots = refl; objects = λ n. inr refl }
-named_enlarges ms S C (Some name) x d = record { edges = λ e h. h; names = refl; variables = omega arith; points = omega arith; size = refl; labels = λ n h. inr refl; beyond = λ n h. inr refl; regions = λ k. inr refl; paths = refl; scopes = extended d.scopes (record { variable = x; outer = d.here.scope }); here = refl; many = refl; made = λ n h. refl; unmade = λ n h. refl; slots = refl; objects = λ n. inr refl }
+pub named_enlarges : (ms : List ℕ) (S : ℕ → Type 0) (C : ℕ → Size → Type 0) (o : Option (List ℕ)) (x : ℕ) (d : Draft) → Enlarges ms S C d (named o x d)
+named_enlarges ms S C None x d = record { edges = λ e h. h; names = refl; variables = omega arith; points = omega arith; size = refl; labels = λ n h. inr refl; beyond = λ n h. inr refl; regions = λ k. inr refl; apart = λ j k n. inl refl; paths = refl; scopes = λ n z h. h; here = refl; many = refl; made = λ n h. refl; unmade = λ n h. refl; slots = refl; objects = λ n. inr refl }
+named_enlarges ms S C (Some name) x d = record { edges = λ e h. h; names = refl; variables = omega arith; points = omega arith; size = refl; labels = λ n h. inr refl; beyond = λ n h. inr refl; regions = λ k. inr refl; apart = λ j k n. inl refl; paths = refl; scopes = extended d.scopes (record { variable = x; outer = d.here.scope }); here = refl; many = refl; made = λ n h. refl; unmade = λ n h. refl; slots = refl; objects = λ n. inr refl }
 
-object_enlarges : (ms : List ℕ) (S : ℕ → Type 0) (C : ℕ → Size → Type 0) (i : ℕ) (x : VariableOf) (d : Draft) → S i → Enlarges ms S C d (with_object i x d)
+pub object_enlarges : (ms : List ℕ) (S : ℕ → Type 0) (C : ℕ → Size → Type 0) (i : ℕ) (x : VariableOf) (d : Draft) → S i → Enlarges ms S C d (with_object i x d)
 object_enlarges ms S C i x d h = record {
   edges = λ e h. h;
   names = refl;
@@ -231,6 +235,7 @@ object_enlarges ms S C i x d h = record {
   labels = λ n h. inr refl;
   beyond = λ n h. inr refl;
   regions = λ k. inr refl;
+  apart = λ j k n. inl refl;
   paths = refl;
   scopes = λ n z h. h;
   here = refl;
@@ -365,7 +370,7 @@ do_adds ms S C p c s x hc hs k e d =
     stays_then (round_adds ms S C x s hs d.point e k d) (stays_then (on_adds ms S C p r) (hc d.point e (on p r)))
 
 pub scope_adds : (ms : List ℕ) (S : ℕ → Type 0) (C : ℕ → Size → Type 0) (d e : Draft) → Enlarges ms S C d e → Adds ms S C d (in_scope d.here.scope e)
-scope_adds ms S C d e g = record { edges = g.edges; names = g.names; variables = g.variables; points = g.points; size = g.size; labels = g.labels; beyond = g.beyond; regions = g.regions; paths = g.paths; scopes = g.scopes; many = g.many; made = g.made; unmade = g.unmade; slots = g.slots; objects = g.objects; here = (g.here, refl) }
+scope_adds ms S C d e g = record { edges = g.edges; names = g.names; variables = g.variables; points = g.points; size = g.size; labels = g.labels; beyond = g.beyond; regions = g.regions; apart = g.apart; paths = g.paths; scopes = g.scopes; many = g.many; made = g.made; unmade = g.unmade; slots = g.slots; objects = g.objects; here = (g.here, refl) }
 
 -- the names in scope are those of an earlier draft
 pub scoped_adds : (ms : List ℕ) (S : ℕ → Type 0) (C : ℕ → Size → Type 0) (k : ℕ) (d e : Draft) → Adds ms S C d e → Adds ms S C d (in_scope d.here.scope e)
@@ -424,24 +429,62 @@ either_list (x ∷ xs) ys m (inr h) = by (either_list xs ys m h) where
   by (inl k) = inl (inr k)
   by (inr k) = inr k
 
--- marks that were made behind a draft are none of its points
+-- marks of points that were made behind a draft are no marks for it
+pub fewer_marks : {R : Label → Label → Type 0} {S : ℕ → Type 0} {C : ℕ → Size → Type 0} (ms ys : List ℕ) (d f : Draft) → ((q : ℕ) → Among q ys → (d.points ≤ q) × (q < f.points)) → Keeps R (Marked (ys ++ ms)) S C d f → Keeps R (Marked ms) S C d f
+fewer_marks ms ys d f from a = record {
+  edges = a.edges;
+  names = a.names;
+  variables = a.variables;
+  points = a.points;
+  size = a.size;
+  labels = λ q h. less q (inl h) (a.labels q h);
+  beyond = λ q h. less q (inr h) (a.beyond q h);
+  regions = a.regions;
+  apart = a.apart;
+  paths = a.paths;
+  scopes = a.scopes;
+  here = a.here;
+  many = a.many;
+  made = a.made;
+  unmade = a.unmade;
+  slots = a.slots;
+  objects = a.objects;
+} where
+  by : (q : ℕ) → (q < d.points) ⊎ (f.points ≤ q) → Among q ys ⊎ Among q ms → Among q ms
+  by q (inl h) (inl k) = let z = (from q k).0 in absurd (omega (arith, h, z))
+  by q (inr h) (inl k) = let z = (from q k).1 in absurd (omega (arith, h, z))
+  by q h (inr k) = k
+
+  less : (q : ℕ) {A : Type 0} → (q < d.points) ⊎ (f.points ≤ q) → Among q (ys ++ ms) ⊎ A → Among q ms ⊎ A
+  less q h (inl k) = inl (by q h (either_list ys ms q k))
+  less q h (inr z) = inr z
+
+more_marks : {R : Label → Label → Type 0} {S : ℕ → Type 0} {C : ℕ → Size → Type 0} (ms ys : List ℕ) (d f : Draft) → Keeps R (Marked ms) S C d f → Keeps R (Marked (ys ++ ms)) S C d f
+more_marks ms ys d f a = record {
+  edges = a.edges;
+  names = a.names;
+  variables = a.variables;
+  points = a.points;
+  size = a.size;
+  labels = λ q h. more q (a.labels q h);
+  beyond = λ q h. more q (a.beyond q h);
+  regions = a.regions;
+  apart = a.apart;
+  paths = a.paths;
+  scopes = a.scopes;
+  here = a.here;
+  many = a.many;
+  made = a.made;
+  unmade = a.unmade;
+  slots = a.slots;
+  objects = a.objects;
+} where
+  more : (q : ℕ) {A : Type 0} → Among q ms ⊎ A → Among q (ys ++ ms) ⊎ A
+  more q (inl h) = inl (back_list ys ms q h)
+  more q (inr z) = inr z
+
 pub inner_adds : (ms ys : List ℕ) (S : ℕ → Type 0) (C : ℕ → Size → Type 0) (d e f : Draft) → ((q : ℕ) → Among q ys → (d.points ≤ q) × (q < e.points)) → Adds ms S C d e → Adds (ys ++ ms) S C e f → Adds ms S C d f
-inner_adds ms ys S C d e f from a b =
-    let first : Adds (ys ++ ms) S C d e = record { edges = a.edges; names = a.names; variables = a.variables; points = a.points; size = a.size; labels = (λ q h. more q (a.labels q h)); beyond = (λ q h. more q (a.beyond q h)); regions = a.regions; paths = a.paths; scopes = a.scopes; many = a.many; made = a.made; unmade = a.unmade; slots = a.slots; objects = a.objects; here = a.here } in
-    let whole : Adds (ys ++ ms) S C d f = stays_then first b in
-    record { edges = whole.edges; names = whole.names; variables = whole.variables; points = whole.points; size = whole.size; labels = (λ q h. less q (inl h) (whole.labels q h)); beyond = (λ q h. less q (inr h) (whole.beyond q h)); regions = whole.regions; paths = whole.paths; scopes = whole.scopes; many = whole.many; made = whole.made; unmade = whole.unmade; slots = whole.slots; objects = whole.objects; here = whole.here } where
-      more : (q : ℕ) {A : Type 0} → Among q ms ⊎ A → Among q (ys ++ ms) ⊎ A
-      more q (inl h) = inl (back_list ys ms q h)
-      more q (inr z) = inr z
-
-      by : (q : ℕ) → (q < d.points) ⊎ (f.points ≤ q) → Among q ys ⊎ Among q ms → Among q ms
-      by q (inl h) (inl k) = let z = (from q k).0 in absurd (omega (arith, h, z))
-      by q (inr h) (inl k) = let z = (from q k).1 in let y = b.points in absurd (omega (arith, h, z, y))
-      by q h (inr k) = k
-
-      less : (q : ℕ) {A : Type 0} → (q < d.points) ⊎ (f.points ≤ q) → Among q (ys ++ ms) ⊎ A → Among q ms ⊎ A
-      less q h (inl k) = inl (by q h (either_list ys ms q k))
-      less q h (inr z) = inr z
+inner_adds ms ys S C d e f from a b = fewer_marks ms ys d f (λ q h. ((from q h).0, let x = (from q h).1 in let y = b.points in omega (arith, x, y))) (stays_then (more_marks ms ys d e a) b)
 
 pub marking_inside : (x : Exits) (m : Marks) (ms : List ℕ) (b k : ℕ) → Marking x m ms → Marking (inside b k x) m ms
 marking_inside x m ms b k h = record { labels = h.labels; cases = h.cases; default = h.default }

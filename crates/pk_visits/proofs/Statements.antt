@@ -1,5 +1,5 @@
 -- From the work of a statement to that of its parts.
-use Rattle.std.proofs.Common.{ℕ, List, refl, sym, subst, inr, arith}
+use Rattle.std.proofs.Common.{ℕ, List, refl, sym, subst, inr, arith, inl}
 use Rattle.pk_ctypes.specs.declared.places.Pos.{Pos}
 use Rattle.pk_typed.specs.Trees.{EffectTree, StatementTree, ItemTrees}
 use Rattle.pk_typed.specs.Trees as tree
@@ -37,7 +37,7 @@ unfolding lowered IsStatement calls_in_statement Settles
 block_laid g k h x p is a pt hs (d, n, m, at', fits, calm, s, marking, settled, l) =
     (calm_plain d.variables hs calm, (d, n, m, at', fits, calm, part_until g OnPath k _ _ d (lowered_items (context_of g k) is x d) _ s unscoped, marking, settled, l)) where
       unscoped : Rattle.pk_visits.proofs.Slots.Keeps OnPath (In s.marks) Free Uncalled (lowered_items (context_of g k) is x d) (in_scope d.here.scope (lowered_items (context_of g k) is x d))
-      unscoped = record { edges = λ e z. z; names = refl; variables = omega arith; points = omega arith; size = refl; labels = λ q z. inr refl; beyond = λ q z. inr refl; regions = λ j. inr refl; paths = refl; scopes = λ n z h. h; here = refl; many = refl; made = λ n z. refl; unmade = λ n z. refl; slots = refl; objects = λ n. inr refl }
+      unscoped = record { edges = λ e z. z; names = refl; variables = omega arith; points = omega arith; size = refl; labels = λ q z. inr refl; beyond = λ q z. inr refl; regions = λ j. inr refl; apart = λ m o w. inl refl; paths = refl; scopes = λ n z h. h; here = refl; many = refl; made = λ n z. refl; unmade = λ n z. refl; slots = refl; objects = λ n. inr refl }
 
 -- the next statement of a block, behind which is the rest
 pub next_laid : (g : Whole) (proper : Proper g) (k : ℕ) (h : Place) (x : Exits) (xs : Scope) (s : StatementTree) (is : ItemTrees) (a : Ahead) (p : ℕ) (hs : List Held) (q : Pos)

@@ -89,7 +89,7 @@ stage_other g k h xs ys zs d e s = record {
 
 -- in another block's scope
 pub scope_enlarges : (ms : List ℕ) (C : ℕ → Size → Type 0) (n : ℕ) (d : Draft) → Enlarges ms Free C d (in_scope n d)
-scope_enlarges ms C n d = record { edges = λ e z. z; names = refl; variables = omega arith; points = omega arith; size = refl; labels = λ q z. inr refl; beyond = λ q z. inr refl; regions = λ j. inr refl; paths = refl; scopes = λ n z h. h; here = refl; many = refl; made = λ n z. refl; unmade = λ n z. refl; slots = refl; objects = λ n. inr refl }
+scope_enlarges ms C n d = record { edges = λ e z. z; names = refl; variables = omega arith; points = omega arith; size = refl; labels = λ q z. inr refl; beyond = λ q z. inr refl; regions = λ j. inr refl; apart = λ m o w. inl refl; paths = refl; scopes = λ n z h. h; here = refl; many = refl; made = λ n z. refl; unmade = λ n z. refl; slots = refl; objects = λ n. inr refl }
 
 -- behind the way from the body's end: the third part, and back
 after_link : (g : Whole) (k : ℕ) (ms : List ℕ) (h : Place) (third : Option EffectTree) (n q : ℕ) (r : Draft)
