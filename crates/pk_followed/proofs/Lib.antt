@@ -7,3 +7,4 @@ mod Starts
 mod Propers
 mod PartAdds
 mod Pending
+mod Arguments
