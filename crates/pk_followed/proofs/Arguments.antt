@@ -10,6 +10,7 @@ use Rattle.pk_ctypes.proofs.Wrapped.{zero_in}
 use Rattle.pk_typed.specs.Trees.{LocalTree, FileObjectTree, StartTree, scalar_start, array_start, UnitTree}
 use Rattle.pk_calls.specs.declared.listings.CallPath.{CallPath}
 use Rattle.pk_calls.specs.Calls.{body_of}
+use Rattle.pk_calls.specs.Paths.{entry_path}
 use Rattle.pk_graph.specs.Kinds.{count_of}
 use Rattle.pk_graph.specs.Steps.{Numbers, all_in_type}
 use Rattle.pk_welltyped.specs.WellTyped.{Kind, scalar, kind_in_file, kind_among, length_at_start, IsStart, IsUnit}
@@ -19,6 +20,7 @@ use Rattle.pk_meaning.specs.Programs.{Program, block_of, start_of, zeros_of, fir
 use Rattle.pk_meaning.specs.Runs.{with_arguments}
 use Rattle.pk_visits.proofs.Stands.{HasKind, FitsObjects}
 use Rattle.pk_visits.proofs.Stores.{same_object, other_object}
+use Rattle.pk_visits.proofs.Follow.{kind_is}
 
 -- ---- arguments of the entry
 
@@ -110,3 +112,83 @@ all_get : {A : Type 0} (P : A → Type 0) (xs : List A) (i : ℕ) (x : A) → Al
 all_get P [] i x h e = absurd (none-some x e)
 all_get {A = A} P (y ∷ xs) zero x h e = subst P (ap (λ (o : Option A). unwrap_or o x) e) (h 0 y (omega arith))
 all_get P (y ∷ xs) (suc i) x h e = all_get P xs i x (λ k d l. h (suc k) d (omega (l, arith))) e
+
+-- ---- the first objects fit
+
+abbrev first_locals : UnitTree → CallPath → List LocalTree
+first_locals u q = (unwrap_or (body_of u q.function) program.no_body).locals
+
+some_at : {A : Type 0} (xs : List A) (k : ℕ) → k < length xs → (x : A) × (slice_get xs k ≡ Some x)
+some_at [] k h = absurd (omega (h, arith))
+some_at (x ∷ xs) zero h = (x, refl)
+some_at (x ∷ xs) (suc k) h = some_at xs k (omega (h, arith))
+
+block_at : (u : UnitTree) (paths : List CallPath) (k : ℕ) (q : CallPath) → slice_get paths k ≡ Some q → (block_of (record { unit = u; paths = paths }) k).locals ≡ first_locals u q
+block_at u paths k q e = ap (λ (r : CallPath). first_locals u r) (get_or_from_slice_get paths k q (entry_path 0) e)
+
+first_local : (u : UnitTree) (paths : List CallPath) (k i : ℕ) (q : CallPath) (y : LocalTree) → slice_get paths k ≡ Some q → slice_get (first_locals u q) i ≡ Some y → numbers_of (local k i) (first_objects (record { unit = u; paths = paths })) ≡ zeros_of y
+first_local u paths k i q y e h = ap (λ (rows : List Numbers). slice_index_or rows i []) (mapped (λ (r : CallPath). map zeros_of (first_locals u r)) paths k [] q e) ∙ mapped zeros_of (first_locals u q) i [] y h
+
+pub first_file : (u : UnitTree) (paths : List CallPath) (i : ℕ) (x : FileObjectTree) → slice_get u.objects i ≡ Some x → numbers_of (file i) (first_objects (record { unit = u; paths = paths })) ≡ start_of x.start
+first_file u paths i x e = mapped (λ (y : FileObjectTree). start_of y.start) u.objects i [] x e
+
+pub first_result : (u : UnitTree) (paths : List CallPath) (k : ℕ) → k < length paths → numbers_of (result k) (first_objects (record { unit = u; paths = paths })) ≡ pos 0 ∷ []
+first_result u paths k h = let q = some_at paths k h in mapped (λ (r : CallPath). pos 0 ∷ []) paths k [] q.0 q.1
+
+-- a local object holds as many zeros as it has elements
+pub first_zeros : (u : UnitTree) (paths : List CallPath) (k i : ℕ) (n : Kind) → HasKind (record { unit = u; paths = paths }) (local k i) n → numbers_of (local k i) (first_objects (record { unit = u; paths = paths })) ≡ replicate (count_of n.length) (pos 0)
+first_zeros u paths k i n h = by (slice_get (first_locals u q.0) i) refl where
+  q : (r : CallPath) × (slice_get paths k ≡ Some r)
+  q = some_at paths k h.0
+
+  kind : option_map (λ (x : LocalTree). record { int_type = x.int_type; length = x.length }) (slice_get (first_locals u q.0) i) ≡ Some n
+  kind = ap (λ (xs : List LocalTree). kind_among xs i) (sym (block_at u paths k q.0 q.1)) ∙ h.1
+
+  by : (o : Option LocalTree) → slice_get (first_locals u q.0) i ≡ o → numbers_of (local k i) (first_objects (record { unit = u; paths = paths })) ≡ replicate (count_of n.length) (pos 0)
+  by None e = absurd (none-some n (sym (ap (option_map (λ (x : LocalTree). record { int_type = x.int_type; length = x.length })) e) ∙ kind))
+  by (Some y) e =
+      let is : Some (record { int_type = y.int_type; length = y.length }) ≡ Some n = sym (ap (option_map (λ (x : LocalTree). record { int_type = x.int_type; length = x.length })) e) ∙ kind in
+      first_local u paths k i q.0 y q.1 e ∙ ap (λ (m : Option Kind). replicate (count_of (unwrap_or m n).length) (pos 0)) is
+
+pub first_fits : (u : UnitTree) (paths : List CallPath) → IsUnit u → FitsObjects (record { unit = u; paths = paths }) (first_objects (record { unit = u; paths = paths }))
+first_fits u paths unit (file i) n h = by (slice_get u.objects i) refl where
+  by : (o : Option FileObjectTree) → slice_get u.objects i ≡ o → (length (numbers_of (file i) (first_objects (record { unit = u; paths = paths }))) ≡ count_of n.length) × (all_in_type n.int_type (numbers_of (file i) (first_objects (record { unit = u; paths = paths }))) ≡ true)
+  by None e = absurd (none-some n (sym (ap (option_map (λ (x : FileObjectTree). record { int_type = x.int_type; length = length_at_start x.start })) e) ∙ h))
+  by (Some x) e =
+      let is : Some (record { int_type = x.int_type; length = length_at_start x.start }) ≡ Some n = sym (ap (option_map (λ (y : FileObjectTree). record { int_type = y.int_type; length = length_at_start y.start })) e) ∙ h in
+      let f = start_fits x.int_type x.start (all_get (λ (y : FileObjectTree). IsStart y.int_type y.start) u.objects i x unit.objects e) in
+      let same = first_file u paths i x e in (
+        ap length same ∙ (f.0 ∙ ap (λ (m : Option Kind). count_of (unwrap_or m n).length) is),
+        ap (λ (zs : Numbers). all_in_type n.int_type zs) same ∙ (ap (λ (m : Option Kind). all_in_type (unwrap_or m n).int_type (start_of x.start)) (sym is) ∙ f.1),
+      )
+first_fits u paths unit (local k i) n h =
+    let same = first_zeros u paths k i n h in
+    (ap length same ∙ replicated (count_of n.length) (pos 0), ap (all_in_type n.int_type) same ∙ zeros_in n.int_type (count_of n.length))
+first_fits u paths unit (result k) n h =
+    let same = first_result u paths k h.0 in
+    let t = h.1 in (
+      ap length same ∙ ap (λ (m : Kind). count_of m.length) (sym h.3),
+      ap (all_in_type n.int_type) same ∙ zeros_in n.int_type 1,
+    )
+
+-- and so do the objects with the arguments
+pub given_fits : (p : Program) (ts : List IntType) (s o : Objects) → Given 0 ts s o → ((j : ℕ) (t : IntType) → slice_get ts j ≡ Some t → HasKind p (local 0 j) (scalar t)) → FitsObjects p s → FitsObjects p o
+given_fits p ts s o g k f (file i) n h = subst (λ (zs : Numbers). (length zs ≡ count_of n.length) × (all_in_type n.int_type zs ≡ true)) (sym (g.files i)) (f (file i) n h)
+given_fits p ts s o g k f (result m) n h = subst (λ (zs : Numbers). (length zs ≡ count_of n.length) × (all_in_type n.int_type zs ≡ true)) (sym (g.results m)) (f (result m) n h)
+given_fits p ts s o g k f (local m i) n h = by m refl (slice_get ts i) refl where
+  other : (m ≡ 0 → i < length ts → ⊥) → (length (numbers_of (local m i) o) ≡ count_of n.length) × (all_in_type n.int_type (numbers_of (local m i) o) ≡ true)
+  other never = subst (λ (zs : Numbers). (length zs ≡ count_of n.length) × (all_in_type n.int_type zs ≡ true)) (sym (g.others m i (λ a b c. never a (omega (c, arith))))) (f (local m i) n h)
+
+  by : (c : ℕ) → m ≡ c → (q : Option IntType) → slice_get ts i ≡ q → (length (numbers_of (local m i) o) ≡ count_of n.length) × (all_in_type n.int_type (numbers_of (local m i) o) ≡ true)
+  by (suc c) e q is = other (λ a b. absurd (omega (e, a, arith)))
+  by zero e None is = other (λ a b. let r = some_at ts i b in absurd (none-some r.0 (sym is ∙ r.1)))
+  by zero e (Some t) is =
+      let at : 0 + i ≡ i = omega arith in
+      let h0 : HasKind p (local 0 i) n = subst (λ (x : ℕ). HasKind p (local x i) n) e h in
+      let kind : scalar t ≡ n = kind_is p (local 0 i) (scalar t) n (k i t is) h0 in
+      let size = (f (local 0 i) (scalar t) (k i t is)).0 in
+      let there : 0 < length (numbers_of (local 0 (0 + i)) s) = subst (λ (x : ℕ). 0 < length (numbers_of (local 0 x) s)) (sym at) (omega (size, arith)) in
+      let z = g.given i t is there in
+      let same : numbers_of (local m i) o ≡ z.0 ∷ [] = ap (λ (x : ℕ). numbers_of (local x i) o) e ∙ (ap (λ (x : ℕ). numbers_of (local 0 x) o) (sym at) ∙ z.1) in
+      subst (λ (zs : Numbers). (length zs ≡ count_of n.length) × (all_in_type n.int_type zs ≡ true)) (sym same)
+      (subst (λ (x : Kind). (1 ≡ count_of x.length) × (all_in_type x.int_type (z.0 ∷ []) ≡ true)) kind (refl, ap (λ (b : Bool). b && true) z.2))
