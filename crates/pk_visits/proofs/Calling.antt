@@ -25,10 +25,10 @@ use Rattle.pk_meaning.specs.Work as work
 use Rattle.pk_meaning.specs.Work.{Place, Work}
 use Rattle.pk_meaning.specs.Steps as meaning
 use Rattle.pk_visits.proofs.Slots.{Slot, Draft, Among, Grows, region_at}
-use Rattle.pk_visits.proofs.Grows.{grows_trans, bound_grows, entered_grows, held_grows}
+use Rattle.pk_visits.proofs.Grows.{grows_trans, bound_grows, entered_grows, held_grows, loosened}
 use Rattle.pk_visits.proofs.Tells.{Any, sane, shapes}
-use Rattle.pk_visits.proofs.Stands.{Whole, Proper, context_of, Held, held, around, AreCalm, AreQuiet, IsScalar, Binds, Stage, led_to, Laid}
-use Rattle.pk_visits.proofs.Stages.{In, ways_grow, passed_grows, stage_first, stage_second, stage_last}
+use Rattle.pk_visits.proofs.Stands.{Whole, Proper, context_of, Held, held, around, AreCalm, AreQuiet, IsScalar, Binds, Stage, Laid, IsCalled}
+use Rattle.pk_visits.proofs.Stages.{ways_grow, passed_grows, stage_first, stage_second, stage_last, first_called, second_called}
 use Rattle.pk_visits.proofs.Operands.{UnlessLoose, all_own, calm_more, keep_laid, first_calm, unless_more}
 use Rattle.pk_visits.proofs.Trees.{stage_names, or_first, or_second}
 use Rattle.pk_visits.proofs.Passing.{pushed_is, binds_laid}
@@ -75,9 +75,9 @@ called_laid g proper k h x z r es w n d hs fits takes calm s l =
     let behind = proper.behind k z s.path noted in
     let from : (m ≡ k → ⊥) = λ e. absurd (omega (arith, e, behind)) in
     let g1 = passed_grows c es d in
-    let b2 : Grows (In (led_to c (z ∷ []))) d1 d2 = bound_grows (In (led_to c (z ∷ []))) m 0 d1.variables ts us q.trees d1 in
-    let b3 : Grows (In (led_to c (z ∷ []))) d2 f = entered_grows (In (led_to c (z ∷ []))) m size (inl refl) d2 in
-    let weak1 : Grows Any d d1 = record { edges = g1.edges; names = g1.names; variables = g1.variables; points = g1.points; size = g1.size; labels = g1.labels; regions = λ j. inl tt; paths = g1.paths; scopes = g1.scopes; here = g1.here } in
+    let b2 : Grows (IsCalled c (z ∷ [])) d1 d2 = bound_grows (IsCalled c (z ∷ [])) m 0 d1.variables ts us q.trees d1 in
+    let b3 : Grows (IsCalled c (z ∷ [])) d2 f = entered_grows (IsCalled c (z ∷ [])) m size (z, inl refl, refl, refl) d2 in
+    let weak1 : Grows Any d d1 = loosened (λ j z i. tt) g1 in
     let weak3 = entered_grows Any m size tt d2 in
     let ns = stage_names g k h (z ∷ calls_in_values es) Any d f s (grows_trans weak1 (grows_trans (bound_grows Any m 0 d1.variables ts us q.trees d1) weak3)) in
     let s1 = stage_last g k h (z ∷ []) (calls_in_values es) d d1 f s (grows_trans b2 b3) in
@@ -95,10 +95,10 @@ called_laid g proper k h x z r es w n d hs fits takes calm s l =
       (λ i. calm),
       s1,
       subst (λ js. Binds g k h m 0 ts (Laid g k h x (work.Enter m w)) d1.point js) (sym (pushed_is es q.trees hs))
-          (binds_laid g k h m 0 d1.variables ts us q.trees (Laid g k h x (work.Enter m w)) d d1 f hs Any (z ∷ calls_in_values es) many (passed_many c es d)
+          (binds_laid g k h m 0 d1.variables ts us q.trees (Laid g k h x (work.Enter m w)) d d1 f hs (z ∷ calls_in_values es) many (passed_many c es d)
           (λ j t is. subst (λ i. IsScalar g (local m i) t) (omega arith) (proper.parameters m j t there (subst (λ ps. slice_get ps j ≡ Some t) (parameters_at noted) is)))
           (λ j. proper.scopes d.here k m j h s.here behind) (λ j. passed_apart c m j es d from ns) (λ j. all_own d.variables (local m j) hs calm) (calm_plain d.variables hs calm) (g1.names ∙ ns)
-          s weak1 weak3 (
+          s (loosened (second_called c (z ∷ []) (calls_in_values es)) g1) weak3 (
             there,
             ap (λ (t : Region). t.at) region,
             subst (λ i. AreCalm i hs) (sym (ap (λ (t : Region). t.variables) region)) (calm_more d.variables d2.variables hs (omega (arith, v1, v2)) calm),
@@ -136,7 +136,7 @@ call_laid g proper k h x t f n at es w p hs (d, i, is, fits, quiet, s, l) =
     let there = proper.there k z s.path noted in
     let g1 = passed_grows c es d in
     let F = (rows.call_after m (size_in g.sizes f) (parameters_of g.program.unit f) (types_of es) q).1 in
-    let weak1 : Grows Any d q.draft = record { edges = g1.edges; names = g1.names; variables = g1.variables; points = g1.points; size = g1.size; labels = g1.labels; regions = λ j. inl tt; paths = g1.paths; scopes = g1.scopes; here = g1.here } in
+    let weak1 : Grows Any d q.draft = loosened (λ j z i. tt) g1 in
     let d2 = rows.bound m 0 q.draft.variables (parameters_of g.program.unit f) (types_of es) q.trees q.draft in
     let ns = stage_names g k h (z ∷ calls_in_values es) Any d F s (grows_trans weak1 (grows_trans (bound_grows Any m 0 q.draft.variables (parameters_of g.program.unit f) (types_of es) q.trees q.draft) (entered_grows Any m (size_in g.sizes f) tt d2))) in
     let kind : IsScalar g (result m) t = (
@@ -179,11 +179,11 @@ pass_laid g k h x (tree.value_before e es) w p hs (d, n, is, fits, quiet, s, l) 
     let ge = (ways_grow c e).value d in
     let f = (passed c es v.1).draft in
     let gp = passed_grows c es v.1 in
-    let kept = held_grows (In (led_to c (calls_in_values es))) how (shape_of e) (type_of e) r in
-    let kept_e = held_grows (In (led_to c (calls_in e))) how (shape_of e) (type_of e) r in
+    let kept = held_grows (IsCalled c (calls_in_values es)) how (shape_of e) (type_of e) r in
+    let kept_e = held_grows (IsCalled c (calls_in e)) how (shape_of e) (type_of e) r in
     let any_e = (sane c e).value d in
     let any_kept = held_grows Any how (shape_of e) (type_of e) r in
-    let any_p : Grows Any v.1 f = record { edges = gp.edges; names = gp.names; variables = gp.variables; points = gp.points; size = gp.size; labels = gp.labels; regions = λ j. inl tt; paths = gp.paths; scopes = gp.scopes; here = gp.here } in
+    let any_p : Grows Any v.1 f = loosened (λ j z i. tt) gp in
     let ns = stage_names g k h (calls_in e ++ calls_in_values es) Any d f s (grows_trans any_e (grows_trans any_kept any_p)) in
     let nr = ge.names ∙ ns in
     let q = λ (m : any_makes es ≡ true). quiet (or_second (makes e) (any_makes es) m) in
@@ -195,14 +195,14 @@ pass_laid g k h x (tree.value_before e es) w p hs (d, n, is, fits, quiet, s, l) 
       fits.0,
       (λ m. quiet (or_first (makes e) (any_makes es) m)),
       stage_first g k h (calls_in e) (calls_in_values es) d r.1 f s (grows_trans kept gp),
-      keep_laid g k h x (work.Pass es w) how (shape_of e) (type_of e) r hs (In (led_to c (calls_in e))) (In (led_to c (calls_in_values es))) (calls_in e ++ calls_in_values es) d f s ge gp nr
+      keep_laid g k h x (work.Pass es w) how (shape_of e) (type_of e) r hs (IsCalled c (calls_in_values es)) (calls_in e ++ calls_in_values es) d f s (loosened (first_called c (calls_in e) (calls_in_values es)) ge) gp nr
           (unless_more how d.variables r.1.variables hs va (quiet_loose (any_makes es) d.variables hs q)) (
             v.1,
             n,
             refl,
             fits.1,
             (λ m. (first_calm how (shape_of e) (type_of e) r (ap strong_if m) nr (shapes c e d ns), calm_more d.variables v.1.variables hs (omega (arith, va, vb)) (q m))),
-            stage_second g k h (In (led_to c (calls_in e))) (calls_in e) (calls_in_values es) d v.1 f s (grows_trans ge kept_e),
+            stage_second g k h (calls_in e) (calls_in_values es) d v.1 f s (grows_trans ge kept_e),
             l,
           ),
     )

@@ -1,11 +1,11 @@
 -- What a switch's body needs of its begin: its marks as many as they are, and the points that are made for them.
-use Rattle.std.proofs.Common.{◌≡◌, ℕ, zero, suc, ◌+◌, ◌<◌, ◌≤◌, List, ◌++◌, Bool, true, false, if◌then◌else◌, refl, sym, ap, ◌∙◌, subst, arith}
+use Rattle.std.proofs.Common.{◌≡◌, ℕ, zero, suc, ◌+◌, ◌<◌, List, ◌++◌, Bool, true, false, if◌then◌else◌, refl, arith}
 use Rattle.pk_draft.specs.Drafts.{all_placed, placed, fresh}
 use Rattle.pk_lower_statement.specs.declared.statements.Exits.{Exits}
 use Rattle.pk_lower_statement.specs.Statements.{in_switch}
 use Rattle.pk_welltyped.specs.WellTyped
 use Rattle.pk_welltyped.specs.WellTyped.{Marks}
-use Rattle.pk_visits.proofs.Slots.{Draft, Among}
+use Rattle.pk_visits.proofs.Slots.{Draft}
 use Rattle.pk_visits.proofs.Stands.{Marking}
 use Rattle.pk_visits.proofs.StatementGrows.{upto, upto_has, front_list, back_list}
 

@@ -1,5 +1,5 @@
 -- The graph follows the program at the tests of a `switch`, where the way to the case that holds is laid.
-use Rattle.std.proofs.Common.{◌≡◌, ℕ, ◌+◌, ◌≤◌, List, [], ◌∷◌, length, Bool, true, false, if◌then◌else◌, refl, ap, ◌∙◌, subst, arith, ℤ}
+use Rattle.std.proofs.Common.{◌≡◌, ℕ, ◌+◌, ◌<◌, ◌≤◌, ◌⊎◌, List, [], ◌∷◌, length, Bool, true, false, if◌then◌else◌, refl, ap, ◌∙◌, subst, inr, arith, ℤ}
 use Rattle.std.specs.Prelude.{Ok}
 use Rattle.std.specs.Ordering.{int_eq}
 use Rattle.pk_ctypes.specs.declared.types.IntType.{IntType}
@@ -13,6 +13,7 @@ use Rattle.pk_ctypes.specs.declared.faults.Fault.TheVariants.{Overflow}
 use Rattle.pk_ctypes.proofs.Values.{fitted_inside, truth_in}
 use Rattle.pk_draft.specs.Drafts.{fresh, link, go, away}
 use Rattle.pk_draft.specs.Folding.{binary_tree}
+use Rattle.pk_draft.specs.declared.drafts.Size.{Size}
 use Rattle.pk_lower_statement.specs.declared.statements.Exits.{Exits}
 use Rattle.pk_lower_statement.specs.Statements.{in_switch, case_test, case_tests, lowered}
 use Rattle.pk_ctypes.specs.declared.places.Pos.{Pos}
@@ -27,14 +28,15 @@ use Rattle.pk_meaning.specs.Work as work
 use Rattle.pk_meaning.specs.Work.{Place, Work, Ahead, Way, Onward, Refused, Lost}
 use Rattle.pk_meaning.specs.Steps as meaning
 use Rattle.pk_meaning.specs.Steps.{step_of}
-use Rattle.pk_visits.proofs.Slots.{SlotTree, Draft, Memory, memory, Among, edge, front_among, last_among}
-use Rattle.pk_visits.proofs.Stands.{Whole, context_of, around, Marking, Held, Means, FitsObjects, ShowsAt, Leads, Stage, switch_from, LaidWay, Laid}
+use Rattle.pk_visits.proofs.Slots.{SlotTree, Draft, Memory, memory, Among, edge, front_among, last_among, region_at}
+use Rattle.pk_visits.proofs.Settled.{Settles}
+use Rattle.pk_visits.proofs.Stands.{Whole, context_of, final, around, Marking, Held, Means, FitsObjects, ShowsAt, Leads, Stage, switch_from, LaidWay, Laid, IsReserved}
 use Rattle.pk_visits.proofs.Follow.{Answers, config, moved}
 use Rattle.pk_visits.proofs.Tests.{passes, along}
 use Rattle.pk_visits.proofs.Values.{binary_is}
-use Rattle.pk_visits.proofs.Stages.{In, part_point, part_room, stage_at, fresh_one}
-use Rattle.pk_visits.proofs.StatementGrows.{Stays, Adds, stays_then, link_adds, away_adds, case_adds, fresh_adds, statement}
-use Rattle.pk_visits.proofs.Tells.{any_called}
+use Rattle.pk_visits.proofs.Stages.{In, part_point, part_room, stage_at, fresh_one, forth_here}
+use Rattle.pk_visits.proofs.StatementGrows.{Stays, Adds, stays_then, link_adds, away_adds, case_adds, fresh_adds, statement, Free}
+use Rattle.pk_visits.proofs.Tells.{any_called, Any}
 use Rattle.pk_visits.proofs.Operands.{calm_more}
 
 true_of : (b : Bool) → is_true (truth b) ≡ b
@@ -48,12 +50,14 @@ equal_value s t r v z m k =
     ∙ ap (λ q. at_site s q) (fitted_inside Overflow t (truth (int_eq v z)) (truth_in t (int_eq v z)))
 
 -- the same stage, to an equal draft
-abbrev stage_to : (g : Whole) (k : ℕ) (h : Place) (xs : List Numbered) (d e f : Draft) → e ≡ f → Stage g k h xs d e → Stage g k h xs d f
+abbrev pub stage_to : (g : Whole) (k : ℕ) (h : Place) (xs : List Numbered) (d e f : Draft) → e ≡ f → Stage g k h xs d e → Stage g k h xs d f
 stage_to g k h xs d e f is s = record {
   marks = s.marks;
   later = s.later;
   leads = subst (λ q. Leads g s.marks s.later q) is s.leads;
-  bounded = s.bounded;
+  bounded = subst (λ q. (n : ℕ) → Among n s.marks → d.points ≤ n → n < q.points → IsReserved g k q.regions n) is s.bounded;
+  free = subst (λ q. (m : ℕ) → k < m → ((region_at d.regions m).points ≡ 0) ⊎ ((region_at d.regions m).points + g.spans m ≤ d.points) ⊎ (q.points ≤ (region_at d.regions m).points)) is s.free;
+  spans = s.spans;
   here = s.here;
   apart = s.apart;
   distinct = s.distinct;
@@ -67,26 +71,26 @@ pub choose_test : (g : Whole) (chosen : Numbers) (p : ℕ) (m : Memory) (k : ℕ
     → Means m (top ∷ hs) (v ∷ vs) → m.objects ≡ s → FitsObjects g.program s
     → Answers g chosen k h p m (step_of g.program chosen (config k h (work.Choose t (z ∷ zs) i has body j a) (v ∷ vs) s b) (work.Choose t (z ∷ zs) i has body j a))
 unfolding case_tests
-choose_test g chosen p m k h j t z zs i has body a v vs s b x top hs (d, n, mark, r, total, e, at', types, many, fits, calm, u, marking, shown, l) way means same f = by (int_eq v z) refl where
+choose_test g chosen p m k h j t z zs i has body a v vs s b x top hs (d, n, mark, r, total, e, at', types, many, fits, calm, u, marking, settled, shown, l) way means same f = by (int_eq v z) refl where
   T : SlotTree
   T = binary_tree Eq r t top.tree (constant t z)
 
   d1 : Draft
   d1 = case_test r t top.tree z (e + 1 + i) d
 
-  U : ℕ → Type 0
-  U q = Unit {0}
+  U : ℕ → Size → Type 0
+  U = Any
 
   F : Draft
   F = switch_from (context_of g k) r t top.tree (z ∷ zs) i total e has body x d
 
-  rest : Adds u.marks U d1 F
+  rest : Adds u.marks Free U d1 F
   rest =
       let c = context_of g k in
       let w = case_tests r t top.tree zs (e + 1 + i + 1) d1 in
       let q = if has then e + 1 + total else e in
-      stays_then (case_adds u.marks U r t top.tree zs (e + 1 + i + 1) d1) (stays_then (away_adds u.marks U q w)
-      (stays_then (statement U c _ _ body (in_switch e total x) u.marks fits marking (any_called c (calls_in_statement body)) (away q w)) (link_adds u.marks U Skip e (lowered c body (in_switch e total x) (away q w)))))
+      stays_then (case_adds u.marks Free U r t top.tree zs (e + 1 + i + 1) d1) (stays_then (away_adds u.marks Free U q w)
+      (stays_then (statement U c _ _ body (in_switch e total x) u.marks Free (λ i o. tt) fits marking (any_called c (calls_in_statement body)) (away q w)) (link_adds u.marks Free U Skip e (lowered c body (in_switch e total x) (away q w)))))
 
   yes : Among (edge p (Guard T true) (e + 1 + i)) g.edges
   yes = subst (λ q. Among (edge q (Guard T true) (e + 1 + i)) g.edges) at' (u.leads.edges _ (rest.edges _ (front_among _ _ _ (last_among d.edges (edge d.point (Guard T true) (e + 1 + i))))))
@@ -100,14 +104,17 @@ choose_test g chosen p m k h j t z zs i has body a v vs s b x top hs (d, n, mark
   here : g.shows d.here k j
   here = u.here
 
-  grow : Adds u.marks U (fresh 1 d) F
-  grow = stays_then (link_adds u.marks U (Guard T true) (e + 1 + i) (fresh 1 d)) (stays_then (link_adds u.marks U (Guard T false) d.points (link (Guard T true) (e + 1 + i) (fresh 1 d))) rest)
+  grow : Adds u.marks Free U (fresh 1 d) F
+  grow = stays_then (link_adds u.marks Free U (Guard T true) (e + 1 + i) (fresh 1 d)) (stays_then (link_adds u.marks Free U (Guard T false) d.points (link (Guard T true) (e + 1 + i) (fresh 1 d))) rest)
 
   room : d.points + 1 ≤ length d.labels
-  room = let q = part_room g Stays (In u.marks) U k j (calls_in_statement body) d (fresh 1 d) F u grow in let w = (fresh_adds [] U 1 d).size in omega (arith, q, w)
+  room = let q = part_room g Stays (In u.marks) U k j (calls_in_statement body) d (fresh 1 d) F u grow in let w = (fresh_adds [] Free U 1 d).size in omega (arith, q, w)
 
   next : ShowsAt g d.points k j
-  next = part_point g Stays U k j j (calls_in_statement body) d (fresh 1 d) F d.points d.here u grow (omega arith) (omega arith) (fresh_one d room) here
+  next = part_point g Stays U k j j (calls_in_statement body) d d (fresh 1 d) F d.points d.here u (forth_here g d.points d.regions) refl grow (omega arith) (omega arith) (fresh_one d room) here
+
+  settled_next : Settles (final g k) (context_of g k) body (in_switch e total x) (away (if has then e + 1 + total else e) (case_tests r t top.tree zs (e + 1 + (i + 1)) d1))
+  settled_next = subst (λ q. Settles (final g k) (context_of g k) body (in_switch e total x) (away (if has then e + 1 + total else e) (case_tests r t top.tree zs q d1))) (omega arith) settled
 
   laid : Laid g k j x (work.Choose t zs (i + 1) has body j a) d.points (top ∷ hs)
   laid = (
@@ -124,8 +131,9 @@ choose_test g chosen p m k h j t z zs i has body a v vs s b x top hs (d, n, mark
     calm_more d.variables d1.variables (top ∷ hs) (omega arith) calm,
     stage_to g k j (calls_in_statement body) d1 F (switch_from (context_of g k) r t top.tree zs (i + 1) total e has body x d1)
         (ap (λ q. go Skip e (lowered (context_of g k) body (in_switch e total x) (away (if has then e + 1 + total else e) (case_tests r t top.tree zs q d1)))) (omega arith))
-        (stage_at g k j j (calls_in_statement body) d d1 F u (omega arith) here),
+        (stage_at g k j j (calls_in_statement body) d d1 F u (record { points = omega arith; regions = λ q. inr refl }) here),
     marking,
+    settled_next,
     shown,
     l,
   )
@@ -150,16 +158,16 @@ none_edge : (g : Whole) (k : ℕ) (j : Place) (t : IntType) (i total e : ℕ) (h
 unfolding case_tests
 none_edge g k j t i total e has body x tr r d n mark u fits marking =
     let c = context_of g k in
-    let U = λ (q : ℕ). Unit {0} in
+    let U = Any in
     let q = if has then e + 1 + total else e in
-    let rest = stays_then (statement U c _ _ body (in_switch e total x) u.marks fits marking (any_called c (calls_in_statement body)) (away q d)) (link_adds u.marks U Skip e (lowered c body (in_switch e total x) (away q d))) in
+    let rest = stays_then (statement U c _ _ body (in_switch e total x) u.marks Free (λ i o. tt) fits marking (any_called c (calls_in_statement body)) (away q d)) (link_adds u.marks Free U Skip e (lowered c body (in_switch e total x) (away q d))) in
     u.leads.edges _ (rest.edges _ (last_among d.edges (edge d.point Skip q)))
 
 pub choose_default : (g : Whole) (chosen : Numbers) (p : ℕ) (m : Memory) (k : ℕ) (h j : Place) (t : IntType) (i : ℕ) (body : StatementTree) (a : Ahead) (v : ℤ) (vs : Numbers) (s : Objects) (b : Bool) (x : Exits) (top : Held) (hs : List Held)
     → (l : Laid g k h x (work.Choose t [] i true body j a) p (top ∷ hs)) → LaidWay g k (meaning.found g.program k meaning.otherwise j.scope body (work.Close j a) Lost) (l.5 + 1 + l.4) hs
     → Means m (top ∷ hs) (v ∷ vs) → m.objects ≡ s → FitsObjects g.program s
     → Answers g chosen k h p m (step_of g.program chosen (config k h (work.Choose t [] i true body j a) (v ∷ vs) s b) (work.Choose t [] i true body j a))
-choose_default g chosen p m k h j t i body a v vs s b x top hs (d, n, mark, r, total, e, at', types, many, fits, calm, u, marking, shown, l) way means same f =
+choose_default g chosen p m k h j t i body a v vs s b x top hs (d, n, mark, r, total, e, at', types, many, fits, calm, u, marking, settled, shown, l) way means same f =
     let there = none_edge g k j t i total e true body x top.tree r d n mark u fits marking in
     jump_along g chosen p (e + 1 + total) m k h (work.Choose t [] i true body j a) (v ∷ vs) vs s b (meaning.found g.program k meaning.otherwise j.scope body (work.Close j a) Lost) hs
     (subst (λ q. Among (edge q Skip (e + 1 + total)) g.edges) at' there) way means.2 same f
@@ -167,17 +175,17 @@ choose_default g chosen p m k h j t i body a v vs s b x top hs (d, n, mark, r, t
 pub choose_none : (g : Whole) (chosen : Numbers) (p : ℕ) (m : Memory) (k : ℕ) (h j : Place) (t : IntType) (i : ℕ) (body : StatementTree) (a : Ahead) (v : ℤ) (vs : Numbers) (s : Objects) (b : Bool) (x : Exits) (top : Held) (hs : List Held)
     → Laid g k h x (work.Choose t [] i false body j a) p (top ∷ hs) → Means m (top ∷ hs) (v ∷ vs) → m.objects ≡ s → FitsObjects g.program s
     → Answers g chosen k h p m (step_of g.program chosen (config k h (work.Choose t [] i false body j a) (v ∷ vs) s b) (work.Choose t [] i false body j a))
-choose_none g chosen p m k h j t i body a v vs s b x top hs (d, n, mark, r, total, e, at', types, many, fits, calm, u, marking, shown, l) means same f =
+choose_none g chosen p m k h j t i body a v vs s b x top hs (d, n, mark, r, total, e, at', types, many, fits, calm, u, marking, settled, shown, l) means same f =
     let there = none_edge g k j t i total e false body x top.tree r d n mark u fits marking in
     moved g chosen p e m m Skip k j (work.Go a) vs s true x hs (subst (λ q. Among (edge q Skip e) g.edges) at' there) refl (refl, shown) (calm_plain d.variables hs calm.1, l) means.2 same f
 
 -- ---- jumps to marks
 
 -- `goto`, where the way to its label is laid
-pub goto_followed : (g : Whole) (chosen : Numbers) (p : ℕ) (m : Memory) (k : ℕ) (h : Place) (vs : Numbers) (s : Objects) (b : Bool) (x : Exits) (hs : List Held) (q : Pos) (n : ℕ) (a : Ahead)
+pub goto_by : (g : Whole) (chosen : Numbers) (p : ℕ) (m : Memory) (k : ℕ) (h : Place) (vs : Numbers) (s : Objects) (b : Bool) (x : Exits) (hs : List Held) (q : Pos) (n : ℕ) (a : Ahead)
     → Laid g k h x (work.Do (tree.goto q n) a) p hs → LaidWay g k (meaning.gone_to g.program k n a) (x.labels + n) hs → Means m hs vs → m.objects ≡ s → FitsObjects g.program s
     → Answers g chosen k h p m (step_of g.program chosen (config k h (work.Do (tree.goto q n) a) vs s b) (work.Do (tree.goto q n) a))
 unfolding lowered
-goto_followed g chosen p m k h vs s b x hs q n a (d, o, mark, at', fits, calm, t, marking, l) way means same f =
+goto_by g chosen p m k h vs s b x hs q n a (d, o, mark, at', fits, calm, t, marking, settled, l) way means same f =
     jump_along g chosen p (x.labels + n) m k h (work.Do (tree.goto q n) a) vs vs s b (meaning.gone_to g.program k n a) hs
     (subst (λ i. Among (edge i Skip (x.labels + n)) g.edges) at' (jump_edge g k _ _ q (x.labels + n) d t)) way means same f

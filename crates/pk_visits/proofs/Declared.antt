@@ -1,4 +1,4 @@
--- The graph follows the program at declarations, where a point behind the name shows it.
+-- The graph follows the program at declarations.
 use Rattle.std.proofs.Common.{◌≡◌, ℕ, zero, suc, ◌+◌, ◌≤◌, List, [], ◌∷◌, Bool, refl, sym, ap, ◌∙◌, subst, arith, Option, Some, None}
 use Rattle.std.specs.Prelude.{slice_index_or}
 use Rattle.pk_ctypes.specs.declared.places.Pos.{Pos}
@@ -8,27 +8,27 @@ use Rattle.pk_typed.specs.Trees as tree
 use Rattle.pk_graph.specs.Kinds.{count_of}
 use Rattle.pk_graph.specs.Steps.{Numbers}
 use Rattle.pk_draft.specs.Drafts.{on, fresh}
-use Rattle.pk_draft.specs.declared.drafts.Label.{Label}
 use Rattle.pk_lower_row.specs.Contexts.{Context, local_at}
 use Rattle.pk_lower_statement.specs.declared.statements.Exits.{Exits}
-use Rattle.pk_lower_statement.specs.Statements.{named, introduced, declared, all_declared, for_start, lowered_items}
+use Rattle.pk_lower_statement.specs.Statements.{named, introduced, declared, all_declared, lowered_items}
 use Rattle.pk_welltyped.specs.Listed.{calls_in_declared, calls_if, calls_in_values_if, calls_in_all_declared, calls_in_items}
-use Rattle.pk_welltyped.specs.WellTyped.{Kind, scalar, array, kind_among, IsDeclared, IsStatement, AreItems}
+use Rattle.pk_welltyped.specs.WellTyped.{Kind, scalar, array, kind_among, Marks, IsDeclared, IsStatement, AreItems}
 use Rattle.pk_meaning.specs.Objects.{Objects, Scope}
 use Rattle.pk_meaning.specs.Programs as program
-use Rattle.pk_meaning.specs.Programs.{local_of, with_local, with_declared, with_all_declared, block_of}
+use Rattle.pk_meaning.specs.Programs.{with_local, with_declared, with_all_declared, block_of}
 use Rattle.pk_meaning.specs.Work as work
 use Rattle.pk_meaning.specs.Work.{Place, Work, Ahead}
 use Rattle.pk_meaning.specs.Steps as meaning
 use Rattle.pk_meaning.specs.Steps.{place, step_of}
-use Rattle.pk_visits.proofs.Slots.{Draft, Memory}
-use Rattle.pk_visits.proofs.Stands.{Whole, Proper, context_of, led_to, Held, around, AreCalm, Means, FitsObjects, Stage, local_array, place_after, Laid}
+use Rattle.pk_visits.proofs.Slots.{Draft, Memory, Uncalled}
+use Rattle.pk_visits.proofs.Settled.{Settles, SettleAll, AreAllSettled}
+use Rattle.pk_visits.proofs.Stands.{Whole, Proper, context_of, final, Held, around, AreCalm, Means, FitsObjects, Stage, Marking, local_array, place_after, LaidAhead, Laid, IsCalled}
 use Rattle.pk_visits.proofs.Follow.{Answers, config, still}
+use Rattle.pk_visits.proofs.Shown.{ShowsName, shown_behind, shows_name}
 use Rattle.pk_visits.proofs.Starts.{for_begun}
-use Rattle.pk_visits.proofs.Stages.{In, all_called, part_first, part_second, stage_at}
-use Rattle.pk_visits.proofs.Tells.{any_called}
+use Rattle.pk_visits.proofs.Stages.{all_called, part_first, part_second, stage_at, forth_none, forth_first}
 use Rattle.pk_visits.proofs.Doom.{calm_plain}
-use Rattle.pk_visits.proofs.StatementGrows.{OnPath, introduced_enlarges, scalar_first_grows, array_first_grows, declared_enlarges, all_declared_enlarges, block}
+use Rattle.pk_visits.proofs.StatementGrows.{OnPath, introduced_enlarges, declared_enlarges, all_declared_enlarges, block, Free, all_free}
 use Rattle.pk_visits.proofs.ElementTrees.{local_length}
 use Rattle.pk_visits.proofs.Operands.{calm_more}
 use Rattle.pk_visits.proofs.Firsts.{scalar_follows, array_follows}
@@ -50,11 +50,6 @@ named_point (Some name) v d = refl
 introduced_point : (c : Context) (i : ℕ) (d : Draft) → (introduced c i d).point ≡ d.point
 introduced_point c i d = named_point (local_at c i).name d.variables _
 
--- behind the name of the declared object a point shows it in scope
-abbrev pub ShowsName : Whole → (k : ℕ) → Place → DeclaredTree → Draft → Type 0
-ShowsName g k h (tree.scalar_object i q e) d = g.shows (introduced (context_of g k) i (on q d)).here k (place q (with_local g.program k i h.scope))
-ShowsName g k h (tree.array_object i q es) d = g.shows (introduced (context_of g k) i (on q d)).here k (place q (with_local g.program k i h.scope))
-
 pub declared_follows : (y : Place) (g : Whole) (chosen : Numbers) (m : Memory) (k : ℕ) (h : Place) (x : Exits) (v : DeclaredTree) (o : ℕ) (d : Draft) (vs : Numbers) (s : Objects) (b : Bool) (u w : Work) (hs : List Held)
     → IsDeclared (around g k o) v → AreCalm d.variables hs → Stage g k (place d.here.at h.scope) (calls_in_declared v) d (declared (context_of g k) v d) → ShowsName g k h v d
     → Laid g k (place_after g.program k (v ∷ []) h) x w (declared (context_of g k) v d).point hs → Means m hs vs → m.objects ≡ s → FitsObjects g.program s
@@ -62,9 +57,9 @@ pub declared_follows : (y : Place) (g : Whole) (chosen : Numbers) (m : Memory) (
 declared_follows y g chosen m k h x (tree.scalar_object i q e) o d vs s b u w hs fits calm st shown l means same f =
     let c = context_of g k in
     let e0 = introduced c i (on q d) in
-    let grow = introduced_enlarges st.marks (λ z. Unit {0}) c i (on q d) in
+    let grow = introduced_enlarges st.marks Free Uncalled c i (on q d) tt in
     let j = place q (with_local g.program k i h.scope) in
-    let gp = grow.points in
+    let gp = forth_none g grow in
     let gv = grow.variables in
     let t = fits.1.0 in
     let is = fits.1.1 in
@@ -75,9 +70,9 @@ declared_follows y g chosen m k h x (tree.scalar_object i q e) o d vs s b u w hs
 declared_follows y g chosen m k h x (tree.array_object i q es) o d vs s b u w hs fits calm st shown l means same f =
     let c = context_of g k in
     let e0 = introduced c i (on q d) in
-    let grow = introduced_enlarges st.marks (λ z. Unit {0}) c i (on q d) in
+    let grow = introduced_enlarges st.marks Free Uncalled c i (on q d) tt in
     let j = place q (with_local g.program k i h.scope) in
-    let gp = grow.points in
+    let gp = forth_none g grow in
     let gv = grow.variables in
     let room = fits.1 in
     let t = room.0 in
@@ -90,55 +85,54 @@ declared_follows y g chosen m k h x (tree.array_object i q es) o d vs s b u w hs
     (array_follows y g chosen m k j x i es (o + 1) e0 vs s b u w hs (array t n) (st.path, is) types lengths (ap (λ z. array z n) (sym types) ∙ ap (λ z. array (local_array g k i).int_type z) (sym many)) fits.2 (subst (λ z. _ ≤ z) (sym many) room.3)
     (calm_more d.variables e0.variables hs gv calm) (stage_at g k _ j (calls_in_values_if es) d e0 _ st gp shown) l means same f)
 
--- the place behind the name is that behind the whole declaration
-shown_behind : (g : Whole) (proper : Proper g) (k : ℕ) (h : Place) (v : DeclaredTree) (d : Draft) → ShowsName g k h v d
-    → g.shows (declared (context_of g k) v d).here k (place (declared (context_of g k) v d).here.at (with_declared g.program k v h.scope))
-shown_behind g proper k h (tree.scalar_object i q e) d shown =
-    let c = context_of g k in
-    let e0 = introduced c i (on q d) in
-    let f = declared c (tree.scalar_object i q e) d in
-    let same = (scalar_first_grows (λ z. Unit {0}) c i e e0 (any_called c (calls_if e))).here in
-    let there : g.shows f.here k (place q (with_local g.program k i h.scope)) = subst (λ (l : Label). g.shows l k (place q (with_local g.program k i h.scope))) (sym same) shown in
-    subst (λ z. g.shows f.here k (place z (with_local g.program k i h.scope))) (proper.at_positions f.here k _ there) there
-shown_behind g proper k h (tree.array_object i q es) d shown =
-    let c = context_of g k in
-    let e0 = introduced c i (on q d) in
-    let f = declared c (tree.array_object i q es) d in
-    let same = (array_first_grows (λ z. Unit {0}) c i es e0 (any_called c (calls_in_values_if es))).here in
-    let there : g.shows f.here k (place q (with_local g.program k i h.scope)) = subst (λ (l : Label). g.shows l k (place q (with_local g.program k i h.scope))) (sym same) shown in
-    subst (λ z. g.shows f.here k (place z (with_local g.program k i h.scope))) (proper.at_positions f.here k _ there) there
-
--- the next declaration of a block, behind which is the rest
-pub next_declared : (g : Whole) (proper : Proper g) (chosen : Numbers) (p : ℕ) (m : Memory) (k : ℕ) (h : Place) (vs : Numbers) (s : Objects) (b : Bool) (x : Exits) (hs : List Held) (xs : Scope) (v : DeclaredTree) (is : ItemTrees) (a : Ahead)
-    → (l : Laid g k h x (work.Go (work.Rest xs (tree.declared_before v is) a)) p hs) → ShowsName g k (place h.at xs) v l.1.0 → Means m hs vs → m.objects ≡ s → FitsObjects g.program s
-    → Answers g chosen k h p m (step_of g.program chosen (config k h (work.Go (work.Rest xs (tree.declared_before v is) a)) vs s b) (work.Go (work.Rest xs (tree.declared_before v is) a)))
-unfolding lowered_items AreItems calls_in_items
-next_declared g proper chosen p m k h vs s b x hs xs v is a (plain, (d, n, mark, at', fits, calm, t, marking, l)) shown means same f =
+-- what is known of a declaration in a block: its stage, its name behind it, and the rest
+pub rest_declared : (g : Whole) (proper : Proper g) (k : ℕ) (h : Place) (x : Exits) (xs : Scope) (v : DeclaredTree) (is : ItemTrees) (a : Ahead) (hs : List Held) (d : Draft) (n : ℕ) (m : Marks)
+    → AreItems (around g k n) m (tree.declared_before v is) → AreCalm d.variables hs
+    → (t : Stage g k (place d.here.at xs) (calls_in_items (tree.declared_before v is)) d (lowered_items (context_of g k) (tree.declared_before v is) x d)) → Marking x m t.marks
+    → SettleAll (final g k) (context_of g k) (tree.declared_before v is) x d → LaidAhead g k x a (lowered_items (context_of g k) (tree.declared_before v is) x d).point hs
+    → Stage g k (place d.here.at xs) (calls_in_declared v) d (declared (context_of g k) v d) × ShowsName g k (place h.at xs) v d
+    × Laid g k h x (work.Go (work.Rest (with_declared g.program k v xs) is a)) (declared (context_of g k) v d).point hs
+unfolding lowered_items AreItems calls_in_items SettleAll
+rest_declared g proper k h x xs v is a hs d n m fits calm t marking settled l =
     let c = context_of g k in
     let e = declared c v d in
-    let rest = block (In (led_to c (calls_in_items is))) c _ mark is x t.marks fits.1 marking (all_called c (calls_in_items is)) e in
-    let first = declared_enlarges t.marks (λ z. Unit {0}) c v d (any_called c (calls_in_declared v)) in
-    let le = first.points in
+    let rest = block (IsCalled c (calls_in_items is)) c _ m is x t.marks Free (λ i o. tt) fits.1 marking (all_called c (calls_in_items is)) e in
+    let first = declared_enlarges t.marks Free (IsCalled c (calls_in_declared v)) c v d tt (all_called c (calls_in_declared v)) in
+    let le = forth_first g k (place d.here.at xs) (calls_in_declared v) (calls_in_items is) d (lowered_items c is x e) t first in
     let lv = first.variables in
     let calm_e = calm_more d.variables e.variables hs lv calm in
     let ys = with_declared g.program k v xs in
-    let w = work.Go (work.Rest ys is a) in
-    subst (λ q. Answers g chosen k h q m (step_of g.program chosen (config k h (work.Go (work.Rest xs (tree.declared_before v is) a)) vs s b) (work.Go (work.Rest xs (tree.declared_before v is) a)))) at'
-    (declared_follows h g chosen m k (place h.at xs) x v n d vs s b (work.Go (work.Rest xs (tree.declared_before v is) a)) w hs fits.0 calm
-    (part_first g OnPath k (place d.here.at xs) (calls_in_declared v) (calls_in_items is) d e (lowered_items c is x e) t rest) shown (
-      calm_plain e.variables hs calm_e,
+    let st = part_first g OnPath k (place d.here.at xs) (calls_in_declared v) (calls_in_items is) d e (lowered_items c is x e) t rest in
+    let shown = shows_name g proper k (place h.at xs) v d st.here st.path settled.0 st.leads.scopes in (
+      st,
+      shown,
       (
-        e,
-        n + 1,
-        mark,
-        refl,
-        fits.1,
-        calm_e,
-        part_second g k _ (place e.here.at ys) (calls_in_declared v) (calls_in_items is) d e (lowered_items c is x e) t le (shown_behind g proper k (place h.at xs) v d shown),
-        marking,
-        l,
+        calm_plain e.variables hs calm_e,
+        (
+          e,
+          n + 1,
+          m,
+          refl,
+          fits.1,
+          calm_e,
+          part_second g k _ (place e.here.at ys) (calls_in_declared v) (calls_in_items is) d e (lowered_items c is x e) t le (shown_behind g proper k (place h.at xs) v d shown),
+          marking,
+          settled.1,
+          l,
+        ),
       ),
-    ) means same f)
+    )
+
+-- the next declaration of a block, behind which is the rest
+pub next_declared : (g : Whole) (proper : Proper g) (chosen : Numbers) (p : ℕ) (m : Memory) (k : ℕ) (h : Place) (vs : Numbers) (s : Objects) (b : Bool) (x : Exits) (hs : List Held) (xs : Scope) (v : DeclaredTree) (is : ItemTrees) (a : Ahead)
+    → Laid g k h x (work.Go (work.Rest xs (tree.declared_before v is) a)) p hs → Means m hs vs → m.objects ≡ s → FitsObjects g.program s
+    → Answers g chosen k h p m (step_of g.program chosen (config k h (work.Go (work.Rest xs (tree.declared_before v is) a)) vs s b) (work.Go (work.Rest xs (tree.declared_before v is) a)))
+unfolding AreItems
+next_declared g proper chosen p m k h vs s b x hs xs v is a (plain, (d, n, mark, at', fits, calm, t, marking, settled, l)) means same f =
+    let u = work.Go (work.Rest xs (tree.declared_before v is) a) in
+    let z = rest_declared g proper k h x xs v is a hs d n mark fits calm t marking settled l in
+    subst (λ q. Answers g chosen k h q m (step_of g.program chosen (config k h u vs s b) u)) at'
+    (declared_follows h g chosen m k (place h.at xs) x v n d vs s b u (work.Go (work.Rest (with_declared g.program k v xs) is a)) hs fits.0 calm z.0 z.1 z.2 means same f)
 
 -- ---- declarations at the start of a `for`
 
@@ -152,44 +146,46 @@ scope_then g k (tree.array_object i q es) h = refl
 
 pub none_declared : (g : Whole) (k : ℕ) (h : Place) (x : Exits) (w : Work) (p : ℕ) (hs : List Held) → Laid g k h x (work.Declare [] w) p hs → Laid g k h x w p hs
 unfolding all_declared
-none_declared g k h x w p hs (d, n, at', fits, calm, t, l) = subst (λ q. Laid g k h x w q hs) at' l
+none_declared g k h x w p hs (d, n, at', fits, calm, t, settled, l) = subst (λ q. Laid g k h x w q hs) at' l
 
 pub all_declared_next : (g : Whole) (proper : Proper g) (chosen : Numbers) (p : ℕ) (m : Memory) (k : ℕ) (h : Place) (vs : Numbers) (s : Objects) (b : Bool) (x : Exits) (hs : List Held) (v : DeclaredTree) (ds : List DeclaredTree) (w : Work)
-    → (l : Laid g k h x (work.Declare (v ∷ ds) w) p hs) → ShowsName g k h v l.0 → Means m hs vs → m.objects ≡ s → FitsObjects g.program s
+    → Laid g k h x (work.Declare (v ∷ ds) w) p hs → Means m hs vs → m.objects ≡ s → FitsObjects g.program s
     → Answers g chosen k h p m (step_of g.program chosen (config k h (work.Declare (v ∷ ds) w) vs s b) (work.Declare (v ∷ ds) w))
-unfolding all_declared
-all_declared_next g proper chosen p m k h vs s b x hs v ds w (d, n, at', fits, calm, t, l) shown means same f =
+unfolding all_declared AreAllSettled
+all_declared_next g proper chosen p m k h vs s b x hs v ds w (d, n, at', fits, calm, t, settled, l) means same f =
     let c = context_of g k in
     let e = declared c v d in
     let end = all_declared c ds e in
     let j = place_after g.program k (v ∷ []) h in
-    let rest = all_declared_enlarges t.marks (In (led_to c (calls_in_all_declared ds))) c ds e (all_called c (calls_in_all_declared ds)) in
-    let first = declared_enlarges t.marks (λ z. Unit {0}) c v d (any_called c (calls_in_declared v)) in
-    let le = first.points in
+    let rest = all_declared_enlarges t.marks Free (IsCalled c (calls_in_all_declared ds)) c ds e (all_free ds) (all_called c (calls_in_all_declared ds)) in
+    let first = declared_enlarges t.marks Free (IsCalled c (calls_in_declared v)) c v d tt (all_called c (calls_in_declared v)) in
+    let le = forth_first g k (place d.here.at h.scope) (calls_in_declared v) (calls_in_all_declared ds) d end t first in
     let lv = first.variables in
+    let st = part_first g OnPath k (place d.here.at h.scope) (calls_in_declared v) (calls_in_all_declared ds) d e end t rest in
+    let shown = shows_name g proper k h v d st.here st.path settled.0 st.leads.scopes in
     let here = subst (λ ys. g.shows e.here k (place e.here.at ys)) (scope_then g k v h) (shown_behind g proper k h v d shown) in
     subst (λ q. Answers g chosen k h q m (step_of g.program chosen (config k h (work.Declare (v ∷ ds) w) vs s b) (work.Declare (v ∷ ds) w))) at'
     (declared_follows h g chosen m k h x v n d vs s b (work.Declare (v ∷ ds) w) (work.Declare ds w) hs fits.0 calm
-    (part_first g OnPath k (place d.here.at h.scope) (calls_in_declared v) (calls_in_all_declared ds) d e end t rest) shown (
+    st shown (
       e,
       n + 1,
       refl,
       fits.1,
       calm_more d.variables e.variables hs lv calm,
       part_second g k _ (place e.here.at j.scope) (calls_in_declared v) (calls_in_all_declared ds) d e end t le here,
+      settled.1,
       subst (λ i. Laid g k i x w end.point hs) (place_then g k v ds h) l,
     ) means same f)
 
--- a `for` that declares, where a point behind its names shows them
+-- a `for` that declares
 pub for_declared : (g : Whole) (proper : Proper g) (chosen : Numbers) (p : ℕ) (m : Memory) (k : ℕ) (h : Place) (vs : Numbers) (s : Objects) (b : Bool) (x : Exits) (hs : List Held) (q : Pos) (ds : List DeclaredTree) (v : Option ValueTree) (third : Option EffectTree) (r : StatementTree) (a : Ahead)
-    → (l : Laid g k h x (work.Do (tree.for_loop q (tree.declarations ds) v third r) a) p hs) → g.shows (on q (for_start (context_of g k) (tree.declarations ds) (fresh 1 (on q l.0)))).here k (place q (with_all_declared g.program k ds h.scope))
-    → Means m hs vs → m.objects ≡ s → FitsObjects g.program s
+    → Laid g k h x (work.Do (tree.for_loop q (tree.declarations ds) v third r) a) p hs → Means m hs vs → m.objects ≡ s → FitsObjects g.program s
     → Answers g chosen k h p m (step_of g.program chosen (config k h (work.Do (tree.for_loop q (tree.declarations ds) v third r) a) vs s b) (work.Do (tree.for_loop q (tree.declarations ds) v third r) a))
-unfolding IsStatement
-for_declared g proper chosen p m k h vs s b x hs q ds v third r a (d, n, mark, at', fits, calm, t, marking, l) shown means same f =
+unfolding IsStatement Settles
+for_declared g proper chosen p m k h vs s b x hs q ds v third r a (d, n, mark, at', fits, calm, t, marking, settled, l) means same f =
     let w = work.Do (tree.for_loop q (tree.declarations ds) v third r) a in
     let names = with_all_declared g.program k ds h.scope in
-    let parts = for_begun g proper k h names x q (tree.declarations ds) v third r a hs d n mark fits calm t marking l shown in
+    let parts = for_begun g proper k h x q (tree.declarations ds) v third r a hs d n mark fits calm t marking settled l in
     subst (λ i. Answers g chosen k h i m (step_of g.program chosen (config k h w vs s b) w)) at'
     (still g chosen d.point m k (place q h.scope) (work.Declare ds (work.Back (place q names) (work.For v third r) (place q h.scope) a)) vs s x hs
-    (fresh 1 (on q d), n, refl, fits.0, calm, parts.0, parts.1) means same f)
+    (fresh 1 (on q d), n, refl, fits.0, calm, parts.0, settled.0, parts.1) means same f)

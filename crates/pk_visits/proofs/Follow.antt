@@ -163,11 +163,11 @@ drop g chosen p m k h w v vs s b x a hs (inr l) e same f =
     l.2.there (set_does chosen (temporary l.1) a.tree v m e.0) refl l.3 (means_apart (temporary l.1) (v ∷ []) m hs vs l.2.apart e.2) same f
 
 pub truth : (g : Whole) (chosen : Numbers) (p : ℕ) (m : Memory) (k : ℕ) (h : Place) (z : ℤ) (w : Work) (vs : Numbers) (s : Objects) (b : Bool) (x : Exits) (hs : List Held)
-    → InType Int z → Laid g k h x (work.Truth z w) p hs → Means m hs vs → m.objects ≡ s → FitsObjects g.program s
+    → Laid g k h x (work.Truth z w) p hs → Means m hs vs → m.objects ≡ s → FitsObjects g.program s
     → Answers g chosen k h p m (step_of g.program chosen (config k h (work.Truth z w) vs s b) (work.Truth z w))
-truth g chosen p m k h z w vs s b x hs i l e same f =
+truth g chosen p m k h z w vs s b x hs l e same f =
     moved g chosen p l.0 m (with_memory (temporary l.1) (z ∷ []) m) (Set (temporary l.1) (constant Int z)) k h w (z ∷ vs) s false x (in_temporary l.1 Int ∷ hs)
-    l.2.there refl refl l.3 (temporary_value l.1 z m, i, means_apart (temporary l.1) (z ∷ []) m hs vs l.2.apart e) same f
+    l.2.there refl refl l.4 (temporary_value l.1 z m, l.3, means_apart (temporary l.1) (z ∷ []) m hs vs l.2.apart e) same f
 
 pub put : (g : Whole) (chosen : Numbers) (p : ℕ) (m : Memory) (k : ℕ) (h : Place) (t : IntType) (y : Object) (w : Work) (v : ℤ) (vs : Numbers) (s : Objects) (b : Bool) (x : Exits) (a : Held) (hs : List Held)
     → Laid g k h x (work.Put t y w) p (a ∷ hs) → Means m (a ∷ hs) (v ∷ vs) → m.objects ≡ s → FitsObjects g.program s

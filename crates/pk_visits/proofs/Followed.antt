@@ -1,14 +1,11 @@
--- The graph follows the program at each step of all work but declarations, marks and jumps to them.
+-- The graph follows the program at each step.
 use Rattle.std.proofs.Common.{◌≡◌, ℕ, List, [], ◌∷◌, Bool, Some, None}
-use Rattle.pk_ctypes.specs.declared.types.IntType.TheVariants.{Int}
-use Rattle.pk_ctypes.specs.Types.{InType}
-use Rattle.pk_typed.specs.Trees.{StatementTree}
 use Rattle.pk_typed.specs.Trees as tree
 use Rattle.pk_graph.specs.Steps.{Numbers}
 use Rattle.pk_lower_statement.specs.declared.statements.Exits.{Exits}
 use Rattle.pk_meaning.specs.Objects.{Objects}
 use Rattle.pk_meaning.specs.Work as work
-use Rattle.pk_meaning.specs.Work.{Place, Work, Ahead, While, DoWhile, For}
+use Rattle.pk_meaning.specs.Work.{Place, Work, While, DoWhile, For}
 use Rattle.pk_meaning.specs.Steps.{step_of}
 use Rattle.pk_visits.proofs.Slots.{Memory}
 use Rattle.pk_visits.proofs.Stands.{Whole, Proper, BodiesStand, Held, Means, FitsObjects, Laid}
@@ -19,196 +16,130 @@ use Rattle.pk_visits.proofs.Tests.{branch, claim, leave, return}
 use Rattle.pk_visits.proofs.Evaluations.{evaluate, perform, test, pass}
 use Rattle.pk_visits.proofs.Entering.{bind, enter}
 use Rattle.pk_visits.proofs.Returns.{fall}
-use Rattle.pk_visits.proofs.Going.{block_followed, empty_followed, effect_followed, if_then_followed, if_else_followed, while_followed, do_followed, for_followed, break_followed, continue_followed, return_followed, next_followed, none_followed, join_followed, close_followed, again_followed, turn_while_followed, turn_do_followed, turn_for_followed, turn_ever_followed, back_followed, fill_followed}
+use Rattle.pk_visits.proofs.Declared.{next_declared, for_declared}
+use Rattle.pk_visits.proofs.Jumps.{label_followed, case_followed, default_followed, goto_followed, switch_followed, choose_followed}
+use Rattle.pk_visits.proofs.Going.{declare_followed, block_followed, empty_followed, effect_followed, if_then_followed, if_else_followed, while_followed, do_followed, for_followed, break_followed, continue_followed, return_followed, next_followed, none_followed, join_followed, close_followed, again_followed, turn_while_followed, turn_do_followed, turn_for_followed, turn_ever_followed, back_followed, fill_followed}
 
--- the work of which it is proved: all but declarations, marks and jumps to them
-abbrev pub IsReadyAhead : Ahead → Type 0
-IsReadyAhead (work.Rest xs tree.no_items a) = Unit {0}
-IsReadyAhead (work.Rest xs (tree.statement_before r is) a) = Unit {0}
-IsReadyAhead (work.Rest xs (tree.declared_before d is) a) = ⊥
-IsReadyAhead (work.Join j a) = Unit {0}
-IsReadyAhead (work.Again j u o a) = Unit {0}
-IsReadyAhead (work.Close j a) = Unit {0}
-IsReadyAhead (work.End c) = Unit {0}
-
-abbrev pub IsReadyStatement : StatementTree → Type 0
-IsReadyStatement (tree.block q is) = Unit {0}
-IsReadyStatement (tree.empty q) = Unit {0}
-IsReadyStatement (tree.effect q d) = Unit {0}
-IsReadyStatement (tree.label q n r) = ⊥
-IsReadyStatement (tree.case q n r) = ⊥
-IsReadyStatement (tree.default q r) = ⊥
-IsReadyStatement (tree.if_then q v r) = Unit {0}
-IsReadyStatement (tree.if_else q v r t) = Unit {0}
-IsReadyStatement (tree.switch q t v zs d r) = ⊥
-IsReadyStatement (tree.while q v r) = Unit {0}
-IsReadyStatement (tree.do_while q r v) = Unit {0}
-IsReadyStatement (tree.for_loop q (tree.declarations ds) t third r) = ⊥
-IsReadyStatement (tree.for_loop q (tree.expression v) t third r) = Unit {0}
-IsReadyStatement (tree.goto q n) = ⊥
-IsReadyStatement (tree.continue q) = Unit {0}
-IsReadyStatement (tree.break q) = Unit {0}
-IsReadyStatement (tree.return q v) = Unit {0}
-
-abbrev pub IsReady : Work → Type 0
-IsReady (work.Go a) = IsReadyAhead a
-IsReady (work.Do r a) = IsReadyStatement r
-IsReady (work.Declare ds w) = ⊥
-IsReady (work.Perform d w) = Unit {0}
-IsReady (work.Evaluate v w) = Unit {0}
-IsReady (work.Test v y n) = Unit {0}
-IsReady (work.Keep w) = Unit {0}
-IsReady (work.Branch y n) = Unit {0}
-IsReady (work.Apply op q t w) = Unit {0}
-IsReady (work.Operate op q t w) = Unit {0}
-IsReady (work.Convert t w) = Unit {0}
-IsReady (work.Settle t w) = Unit {0}
-IsReady (work.Drop w) = Unit {0}
-IsReady (work.Assign t y w) = Unit {0}
-IsReady (work.Put t y w) = Unit {0}
-IsReady (work.Update op q o t y w) = Unit {0}
-IsReady (work.Advance op q o t y w) = Unit {0}
-IsReady (work.Fetch t y w) = Unit {0}
-IsReady (work.Load q a w) = Unit {0}
-IsReady (work.Reload q a w) = Unit {0}
-IsReady (work.Store q a w) = Unit {0}
-IsReady (work.StoreKept q a w) = Unit {0}
-IsReady (work.Renew op q o r a w) = Unit {0}
-IsReady (work.Renewed op q o t w) = Unit {0}
-IsReady (work.Replace op q o r a w) = Unit {0}
-IsReady (work.Item a j w) = Unit {0}
-IsReady (work.Claim q w) = Unit {0}
-IsReady (work.Truth z w) = InType Int z
-IsReady (work.Fill d j es w) = Unit {0}
-IsReady (work.Pass es w) = Unit {0}
-IsReady (work.Bind j i ts w) = Unit {0}
-IsReady (work.Enter j w) = Unit {0}
-IsReady (work.Leave c) = Unit {0}
-IsReady (work.Return c) = Unit {0}
-IsReady (work.Turn j u o a) = Unit {0}
-IsReady (work.Back j u o a) = Unit {0}
-IsReady (work.Choose t zs i d r j a) = ⊥
-
-pub followed : (w : Work) → IsReady w → (g : Whole) (proper : Proper g) (bodies : BodiesStand g) (chosen : Numbers) (p : ℕ) (m : Memory) (k : ℕ) (h : Place) (vs : Numbers) (s : Objects) (b : Bool) (x : Exits) (hs : List Held)
+pub followed : (w : Work) (g : Whole) (proper : Proper g) (bodies : BodiesStand g) (chosen : Numbers) (p : ℕ) (m : Memory) (k : ℕ) (h : Place) (vs : Numbers) (s : Objects) (b : Bool) (x : Exits) (hs : List Held)
     → Laid g k h x w p hs → Means m hs vs → m.objects ≡ s → FitsObjects g.program s → Answers g chosen k h p m (step_of g.program chosen (config k h w vs s b) w)
-followed (work.Keep w) ready g proper bodies chosen p m k h [] s b x [] l e same f = absurd l
-followed (work.Keep w) ready g proper bodies chosen p m k h [] s b x (c ∷ hs) l e same f = absurd e
-followed (work.Keep w) ready g proper bodies chosen p m k h (v ∷ vs) s b x [] l e same f = absurd l
-followed (work.Keep w) ready g proper bodies chosen p m k h (v ∷ vs) s b x (c ∷ hs) l e same f = keep g chosen p m k h w v vs s b x c hs l e same f
-followed (work.Branch y n) ready g proper bodies chosen p m k h [] s b x hs l e same f = tt
-followed (work.Branch y n) ready g proper bodies chosen p m k h (v ∷ vs) s b x [] l e same f = absurd l
-followed (work.Branch y n) ready g proper bodies chosen p m k h (v ∷ vs) s b x (c ∷ hs) l e same f = branch g chosen p m k h y n v vs s b x c hs l e same f
-followed (work.Apply op q t w) ready g proper bodies chosen p m k h [] s b x hs l e same f = tt
-followed (work.Apply op q t w) ready g proper bodies chosen p m k h (v ∷ vs) s b x [] l e same f = absurd l
-followed (work.Apply op q t w) ready g proper bodies chosen p m k h (v ∷ vs) s b x (c ∷ hs) l e same f = apply g chosen p m k h op q t w v vs s b x c hs l e same f
-followed (work.Operate op q t w) ready g proper bodies chosen p m k h [] s b x hs l e same f = tt
-followed (work.Operate op q t w) ready g proper bodies chosen p m k h (v ∷ []) s b x hs l e same f = tt
-followed (work.Operate op q t w) ready g proper bodies chosen p m k h (v ∷ u ∷ vs) s b x [] l e same f = absurd l
-followed (work.Operate op q t w) ready g proper bodies chosen p m k h (v ∷ u ∷ vs) s b x (d ∷ []) l e same f = absurd l
-followed (work.Operate op q t w) ready g proper bodies chosen p m k h (v ∷ u ∷ vs) s b x (d ∷ c ∷ hs) l e same f = operate g chosen p m k h op q t w u v vs s b x c d hs l e same f
-followed (work.Convert t w) ready g proper bodies chosen p m k h [] s b x hs l e same f = tt
-followed (work.Convert t w) ready g proper bodies chosen p m k h (v ∷ vs) s b x [] l e same f = absurd l
-followed (work.Convert t w) ready g proper bodies chosen p m k h (v ∷ vs) s b x (c ∷ hs) l e same f = convert g chosen p m k h t w v vs s b x c hs l e same f
-followed (work.Settle t w) ready g proper bodies chosen p m k h [] s b x hs l e same f = tt
-followed (work.Settle t w) ready g proper bodies chosen p m k h (v ∷ vs) s b x [] l e same f = absurd l
-followed (work.Settle t w) ready g proper bodies chosen p m k h (v ∷ vs) s b x (c ∷ hs) l e same f = settle g chosen p m k h t w v vs s b x c hs l e same f
-followed (work.Drop w) ready g proper bodies chosen p m k h [] s b x hs l e same f = tt
-followed (work.Drop w) ready g proper bodies chosen p m k h (v ∷ vs) s b x [] l e same f = absurd l
-followed (work.Drop w) ready g proper bodies chosen p m k h (v ∷ vs) s b x (c ∷ hs) l e same f = drop g chosen p m k h w v vs s b x c hs l e same f
-followed (work.Assign t y w) ready g proper bodies chosen p m k h [] s b x hs l e same f = tt
-followed (work.Assign t y w) ready g proper bodies chosen p m k h (v ∷ vs) s b x [] l e same f = absurd l
-followed (work.Assign t y w) ready g proper bodies chosen p m k h (v ∷ vs) s b x (c ∷ hs) l e same f = assign g chosen p m k h t y w v vs s b x c hs l e same f
-followed (work.Put t y w) ready g proper bodies chosen p m k h [] s b x hs l e same f = tt
-followed (work.Put t y w) ready g proper bodies chosen p m k h (v ∷ vs) s b x [] l e same f = absurd l
-followed (work.Put t y w) ready g proper bodies chosen p m k h (v ∷ vs) s b x (c ∷ hs) l e same f = put g chosen p m k h t y w v vs s b x c hs l e same f
-followed (work.Update op q o t y w) ready g proper bodies chosen p m k h [] s b x hs l e same f = tt
-followed (work.Update op q o t y w) ready g proper bodies chosen p m k h (v ∷ vs) s b x [] l e same f = absurd l
-followed (work.Update op q o t y w) ready g proper bodies chosen p m k h (v ∷ vs) s b x (c ∷ hs) l e same f = update g chosen p m k h op q o t y w v vs s b x c hs l e same f
-followed (work.Advance op q o t y w) ready g proper bodies chosen p m k h vs s b x hs l e same f = advance g chosen p m k h op q o t y w vs s b x hs l e same f
-followed (work.Fetch t y w) ready g proper bodies chosen p m k h vs s b x hs l e same f = fetched g chosen p m k h t y w vs s b x hs l e same f
-followed (work.Load q a w) ready g proper bodies chosen p m k h [] s b x hs l e same f = tt
-followed (work.Load q a w) ready g proper bodies chosen p m k h (v ∷ vs) s b x [] l e same f = absurd l
-followed (work.Load q a w) ready g proper bodies chosen p m k h (v ∷ vs) s b x (c ∷ hs) l e same f = load g chosen p m k h q a w v vs s b x c hs l e same f
-followed (work.Reload q a w) ready g proper bodies chosen p m k h [] s b x hs l e same f = tt
-followed (work.Reload q a w) ready g proper bodies chosen p m k h (v ∷ []) s b x hs l e same f = tt
-followed (work.Reload q a w) ready g proper bodies chosen p m k h (v ∷ u ∷ vs) s b x [] l e same f = absurd l
-followed (work.Reload q a w) ready g proper bodies chosen p m k h (v ∷ u ∷ vs) s b x (d ∷ []) l e same f = absurd l
-followed (work.Reload q a w) ready g proper bodies chosen p m k h (v ∷ u ∷ vs) s b x (d ∷ c ∷ hs) l e same f = reload g chosen p m k h q a w u v vs s b x c d hs l e same f
-followed (work.Store q a w) ready g proper bodies chosen p m k h [] s b x hs l e same f = tt
-followed (work.Store q a w) ready g proper bodies chosen p m k h (v ∷ []) s b x hs l e same f = tt
-followed (work.Store q a w) ready g proper bodies chosen p m k h (v ∷ u ∷ vs) s b x [] l e same f = absurd l
-followed (work.Store q a w) ready g proper bodies chosen p m k h (v ∷ u ∷ vs) s b x (d ∷ []) l e same f = absurd l
-followed (work.Store q a w) ready g proper bodies chosen p m k h (v ∷ u ∷ vs) s b x (d ∷ c ∷ hs) l e same f = store g chosen p m k h q a w u v vs s b x c d hs l e same f
-followed (work.StoreKept q a w) ready g proper bodies chosen p m k h [] s b x hs l e same f = tt
-followed (work.StoreKept q a w) ready g proper bodies chosen p m k h (v ∷ []) s b x hs l e same f = tt
-followed (work.StoreKept q a w) ready g proper bodies chosen p m k h (v ∷ u ∷ vs) s b x [] l e same f = absurd l
-followed (work.StoreKept q a w) ready g proper bodies chosen p m k h (v ∷ u ∷ vs) s b x (d ∷ []) l e same f = absurd l
-followed (work.StoreKept q a w) ready g proper bodies chosen p m k h (v ∷ u ∷ vs) s b x (d ∷ c ∷ hs) l e same f = store_kept g chosen p m k h q a w u v vs s b x c d hs l e same f
-followed (work.Renew op q o r a w) ready g proper bodies chosen p m k h [] s b x hs l e same f = tt
-followed (work.Renew op q o r a w) ready g proper bodies chosen p m k h (v ∷ []) s b x hs l e same f = tt
-followed (work.Renew op q o r a w) ready g proper bodies chosen p m k h (v ∷ u ∷ []) s b x hs l e same f = tt
-followed (work.Renew op q o r a w) ready g proper bodies chosen p m k h (v ∷ u ∷ i ∷ vs) s b x [] l e same f = absurd l
-followed (work.Renew op q o r a w) ready g proper bodies chosen p m k h (v ∷ u ∷ i ∷ vs) s b x (d ∷ []) l e same f = absurd l
-followed (work.Renew op q o r a w) ready g proper bodies chosen p m k h (v ∷ u ∷ i ∷ vs) s b x (d ∷ c ∷ []) l e same f = absurd l
-followed (work.Renew op q o r a w) ready g proper bodies chosen p m k h (v ∷ u ∷ i ∷ vs) s b x (d ∷ c ∷ n ∷ hs) l e same f = renew g chosen p m k h op q o r a w i u v vs s b x n c d hs l e same f
-followed (work.Renewed op q o t w) ready g proper bodies chosen p m k h [] s b x hs l e same f = tt
-followed (work.Renewed op q o t w) ready g proper bodies chosen p m k h (v ∷ []) s b x hs l e same f = tt
-followed (work.Renewed op q o t w) ready g proper bodies chosen p m k h (v ∷ u ∷ []) s b x hs l e same f = tt
-followed (work.Renewed op q o t w) ready g proper bodies chosen p m k h (v ∷ u ∷ i ∷ vs) s b x [] l e same f = absurd l
-followed (work.Renewed op q o t w) ready g proper bodies chosen p m k h (v ∷ u ∷ i ∷ vs) s b x (d ∷ []) l e same f = absurd l
-followed (work.Renewed op q o t w) ready g proper bodies chosen p m k h (v ∷ u ∷ i ∷ vs) s b x (d ∷ c ∷ []) l e same f = absurd l
-followed (work.Renewed op q o t w) ready g proper bodies chosen p m k h (v ∷ u ∷ i ∷ vs) s b x (d ∷ c ∷ n ∷ hs) l e same f = renewed g chosen p m k h op q o t w i u v vs s b x n c d hs l e same f
-followed (work.Replace op q o r a w) ready g proper bodies chosen p m k h [] s b x hs l e same f = tt
-followed (work.Replace op q o r a w) ready g proper bodies chosen p m k h (v ∷ []) s b x hs l e same f = tt
-followed (work.Replace op q o r a w) ready g proper bodies chosen p m k h (v ∷ u ∷ []) s b x hs l e same f = tt
-followed (work.Replace op q o r a w) ready g proper bodies chosen p m k h (v ∷ u ∷ i ∷ vs) s b x [] l e same f = absurd l
-followed (work.Replace op q o r a w) ready g proper bodies chosen p m k h (v ∷ u ∷ i ∷ vs) s b x (d ∷ []) l e same f = absurd l
-followed (work.Replace op q o r a w) ready g proper bodies chosen p m k h (v ∷ u ∷ i ∷ vs) s b x (d ∷ c ∷ []) l e same f = absurd l
-followed (work.Replace op q o r a w) ready g proper bodies chosen p m k h (v ∷ u ∷ i ∷ vs) s b x (d ∷ c ∷ n ∷ hs) l e same f = replace g chosen p m k h op q o r a w i u v vs s b x n c d hs l e same f
-followed (work.Item a j w) ready g proper bodies chosen p m k h [] s b x hs l e same f = tt
-followed (work.Item a j w) ready g proper bodies chosen p m k h (v ∷ vs) s b x [] l e same f = absurd l
-followed (work.Item a j w) ready g proper bodies chosen p m k h (v ∷ vs) s b x (c ∷ hs) l e same f = item g chosen p m k h a j w v vs s b x c hs l e same f
-followed (work.Claim q w) ready g proper bodies chosen p m k h [] s b x hs l e same f = tt
-followed (work.Claim q w) ready g proper bodies chosen p m k h (v ∷ vs) s b x [] l e same f = absurd l
-followed (work.Claim q w) ready g proper bodies chosen p m k h (v ∷ vs) s b x (c ∷ hs) l e same f = claim g chosen p m k h q w v vs s b x c hs l e same f
-followed (work.Go (work.Rest xs tree.no_items a)) ready g proper bodies chosen p m k h vs s b x hs l e same f = none_followed xs a g proper chosen p m k h vs s b x hs l e same f
-followed (work.Go (work.Rest xs (tree.statement_before r is) a)) ready g proper bodies chosen p m k h vs s b x hs l e same f = next_followed xs r is a g proper chosen p m k h vs s b x hs l e same f
-followed (work.Go (work.Rest xs (tree.declared_before r is) a)) ready g proper bodies chosen p m k h vs s b x hs l e same f = absurd ready
-followed (work.Go (work.Join j a)) ready g proper bodies chosen p m k h vs s b x hs l e same f = join_followed j a g proper chosen p m k h vs s b x hs l e same f
-followed (work.Go (work.Again j u o a)) ready g proper bodies chosen p m k h vs s b x hs l e same f = again_followed j u o a g proper chosen p m k h vs s b x hs l e same f
-followed (work.Go (work.Close j a)) ready g proper bodies chosen p m k h vs s b x hs l e same f = close_followed j a g proper chosen p m k h vs s b x hs l e same f
-followed (work.Go (work.End c)) ready g proper bodies chosen p m k h vs s b x hs l e same f = fall g chosen p m k h c vs s b x hs l e same f
-followed (work.Do (tree.block q is) a) ready g proper bodies chosen p m k h vs s b x hs l e same f = block_followed q is a g proper chosen p m k h vs s b x hs l e same f
-followed (work.Do (tree.empty q) a) ready g proper bodies chosen p m k h vs s b x hs l e same f = empty_followed q a g proper chosen p m k h vs s b x hs l e same f
-followed (work.Do (tree.effect q d) a) ready g proper bodies chosen p m k h vs s b x hs l e same f = effect_followed q d a g proper chosen p m k h vs s b x hs l e same f
-followed (work.Do (tree.if_then q v r) a) ready g proper bodies chosen p m k h vs s b x hs l e same f = if_then_followed q v r a g proper chosen p m k h vs s b x hs l e same f
-followed (work.Do (tree.if_else q v r t) a) ready g proper bodies chosen p m k h vs s b x hs l e same f = if_else_followed q v r t a g proper chosen p m k h vs s b x hs l e same f
-followed (work.Do (tree.while q v r) a) ready g proper bodies chosen p m k h vs s b x hs l e same f = while_followed q v r a g proper chosen p m k h vs s b x hs l e same f
-followed (work.Do (tree.do_while q r v) a) ready g proper bodies chosen p m k h vs s b x hs l e same f = do_followed q r v a g proper chosen p m k h vs s b x hs l e same f
-followed (work.Do (tree.continue q) a) ready g proper bodies chosen p m k h vs s b x hs l e same f = continue_followed q a g proper chosen p m k h vs s b x hs l e same f
-followed (work.Do (tree.break q) a) ready g proper bodies chosen p m k h vs s b x hs l e same f = break_followed q a g proper chosen p m k h vs s b x hs l e same f
-followed (work.Do (tree.return q v) a) ready g proper bodies chosen p m k h vs s b x hs l e same f = return_followed q v a g proper chosen p m k h vs s b x hs l e same f
-followed (work.Do (tree.for_loop q (tree.expression v) t third r) a) ready g proper bodies chosen p m k h vs s b x hs l e same f = for_followed q v t third r a g proper chosen p m k h vs s b x hs l e same f
-followed (work.Do (tree.for_loop q (tree.declarations ds) t third r) a) ready g proper bodies chosen p m k h vs s b x hs l e same f = absurd ready
-followed (work.Do (tree.label q n r) a) ready g proper bodies chosen p m k h vs s b x hs l e same f = absurd ready
-followed (work.Do (tree.case q n r) a) ready g proper bodies chosen p m k h vs s b x hs l e same f = absurd ready
-followed (work.Do (tree.default q r) a) ready g proper bodies chosen p m k h vs s b x hs l e same f = absurd ready
-followed (work.Do (tree.switch q t v zs d r) a) ready g proper bodies chosen p m k h vs s b x hs l e same f = absurd ready
-followed (work.Do (tree.goto q n) a) ready g proper bodies chosen p m k h vs s b x hs l e same f = absurd ready
-followed (work.Declare ds w) ready g proper bodies chosen p m k h vs s b x hs l e same f = absurd ready
-followed (work.Choose t zs i d r j a) ready g proper bodies chosen p m k h vs s b x hs l e same f = absurd ready
-followed (work.Perform d w) ready g proper bodies chosen p m k h vs s b x hs l e same f = perform g proper chosen p m k h d w vs s b x hs l e same f
-followed (work.Evaluate v w) ready g proper bodies chosen p m k h vs s b x hs l e same f = evaluate g proper chosen p m k h v w vs s b x hs l e same f
-followed (work.Test v y n) ready g proper bodies chosen p m k h vs s b x hs l e same f = test g chosen p m k h v y n vs s b x hs l e same f
-followed (work.Truth z w) ready g proper bodies chosen p m k h vs s b x hs l e same f = truth g chosen p m k h z w vs s b x hs ready l e same f
-followed (work.Fill d j es w) ready g proper bodies chosen p m k h vs s b x hs l e same f = fill_followed d j es w g proper chosen p m k h vs s b x hs l e same f
-followed (work.Pass es w) ready g proper bodies chosen p m k h vs s b x hs l e same f = pass g chosen p m k h es w vs s b x hs l e same f
-followed (work.Bind j i ts w) ready g proper bodies chosen p m k h vs s b x hs l e same f = bind g chosen p m k h j i ts w vs s b x hs l e same f
-followed (work.Enter j w) ready g proper bodies chosen p m k h vs s b x hs l e same f = enter g bodies chosen p m k h j w vs s b x hs l e same f
-followed (work.Leave c) ready g proper bodies chosen p m k h vs s b x hs l e same f = leave g chosen p m k h c vs s b x hs l e same f
-followed (work.Return c) ready g proper bodies chosen p m k h vs s b x hs l e same f = return g chosen p m k h c vs s b x hs l e same f
-followed (work.Turn j (While v r) o a) ready g proper bodies chosen p m k h vs s b x hs l e same f = turn_while_followed j v r o a g proper chosen p m k h vs s b x hs l e same f
-followed (work.Turn j (DoWhile r v) o a) ready g proper bodies chosen p m k h vs s b x hs l e same f = turn_do_followed j r v o a g proper chosen p m k h vs s b x hs l e same f
-followed (work.Turn j (For (Some v) third r) o a) ready g proper bodies chosen p m k h vs s b x hs l e same f = turn_for_followed j v third r o a g proper chosen p m k h vs s b x hs l e same f
-followed (work.Turn j (For None third r) o a) ready g proper bodies chosen p m k h vs s b x hs l e same f = turn_ever_followed j third r o a g proper chosen p m k h vs s b x hs l e same f
-followed (work.Back j u o a) ready g proper bodies chosen p m k h vs s b x hs l e same f = back_followed j u o a g proper chosen p m k h vs s b x hs l e same f
+followed (work.Keep w) g proper bodies chosen p m k h [] s b x [] l e same f = absurd l
+followed (work.Keep w) g proper bodies chosen p m k h [] s b x (c ∷ hs) l e same f = absurd e
+followed (work.Keep w) g proper bodies chosen p m k h (v ∷ vs) s b x [] l e same f = absurd l
+followed (work.Keep w) g proper bodies chosen p m k h (v ∷ vs) s b x (c ∷ hs) l e same f = keep g chosen p m k h w v vs s b x c hs l e same f
+followed (work.Branch y n) g proper bodies chosen p m k h [] s b x hs l e same f = tt
+followed (work.Branch y n) g proper bodies chosen p m k h (v ∷ vs) s b x [] l e same f = absurd l
+followed (work.Branch y n) g proper bodies chosen p m k h (v ∷ vs) s b x (c ∷ hs) l e same f = branch g chosen p m k h y n v vs s b x c hs l e same f
+followed (work.Apply op q t w) g proper bodies chosen p m k h [] s b x hs l e same f = tt
+followed (work.Apply op q t w) g proper bodies chosen p m k h (v ∷ vs) s b x [] l e same f = absurd l
+followed (work.Apply op q t w) g proper bodies chosen p m k h (v ∷ vs) s b x (c ∷ hs) l e same f = apply g chosen p m k h op q t w v vs s b x c hs l e same f
+followed (work.Operate op q t w) g proper bodies chosen p m k h [] s b x hs l e same f = tt
+followed (work.Operate op q t w) g proper bodies chosen p m k h (v ∷ []) s b x hs l e same f = tt
+followed (work.Operate op q t w) g proper bodies chosen p m k h (v ∷ u ∷ vs) s b x [] l e same f = absurd l
+followed (work.Operate op q t w) g proper bodies chosen p m k h (v ∷ u ∷ vs) s b x (d ∷ []) l e same f = absurd l
+followed (work.Operate op q t w) g proper bodies chosen p m k h (v ∷ u ∷ vs) s b x (d ∷ c ∷ hs) l e same f = operate g chosen p m k h op q t w u v vs s b x c d hs l e same f
+followed (work.Convert t w) g proper bodies chosen p m k h [] s b x hs l e same f = tt
+followed (work.Convert t w) g proper bodies chosen p m k h (v ∷ vs) s b x [] l e same f = absurd l
+followed (work.Convert t w) g proper bodies chosen p m k h (v ∷ vs) s b x (c ∷ hs) l e same f = convert g chosen p m k h t w v vs s b x c hs l e same f
+followed (work.Settle t w) g proper bodies chosen p m k h [] s b x hs l e same f = tt
+followed (work.Settle t w) g proper bodies chosen p m k h (v ∷ vs) s b x [] l e same f = absurd l
+followed (work.Settle t w) g proper bodies chosen p m k h (v ∷ vs) s b x (c ∷ hs) l e same f = settle g chosen p m k h t w v vs s b x c hs l e same f
+followed (work.Drop w) g proper bodies chosen p m k h [] s b x hs l e same f = tt
+followed (work.Drop w) g proper bodies chosen p m k h (v ∷ vs) s b x [] l e same f = absurd l
+followed (work.Drop w) g proper bodies chosen p m k h (v ∷ vs) s b x (c ∷ hs) l e same f = drop g chosen p m k h w v vs s b x c hs l e same f
+followed (work.Assign t y w) g proper bodies chosen p m k h [] s b x hs l e same f = tt
+followed (work.Assign t y w) g proper bodies chosen p m k h (v ∷ vs) s b x [] l e same f = absurd l
+followed (work.Assign t y w) g proper bodies chosen p m k h (v ∷ vs) s b x (c ∷ hs) l e same f = assign g chosen p m k h t y w v vs s b x c hs l e same f
+followed (work.Put t y w) g proper bodies chosen p m k h [] s b x hs l e same f = tt
+followed (work.Put t y w) g proper bodies chosen p m k h (v ∷ vs) s b x [] l e same f = absurd l
+followed (work.Put t y w) g proper bodies chosen p m k h (v ∷ vs) s b x (c ∷ hs) l e same f = put g chosen p m k h t y w v vs s b x c hs l e same f
+followed (work.Update op q o t y w) g proper bodies chosen p m k h [] s b x hs l e same f = tt
+followed (work.Update op q o t y w) g proper bodies chosen p m k h (v ∷ vs) s b x [] l e same f = absurd l
+followed (work.Update op q o t y w) g proper bodies chosen p m k h (v ∷ vs) s b x (c ∷ hs) l e same f = update g chosen p m k h op q o t y w v vs s b x c hs l e same f
+followed (work.Advance op q o t y w) g proper bodies chosen p m k h vs s b x hs l e same f = advance g chosen p m k h op q o t y w vs s b x hs l e same f
+followed (work.Fetch t y w) g proper bodies chosen p m k h vs s b x hs l e same f = fetched g chosen p m k h t y w vs s b x hs l e same f
+followed (work.Load q a w) g proper bodies chosen p m k h [] s b x hs l e same f = tt
+followed (work.Load q a w) g proper bodies chosen p m k h (v ∷ vs) s b x [] l e same f = absurd l
+followed (work.Load q a w) g proper bodies chosen p m k h (v ∷ vs) s b x (c ∷ hs) l e same f = load g chosen p m k h q a w v vs s b x c hs l e same f
+followed (work.Reload q a w) g proper bodies chosen p m k h [] s b x hs l e same f = tt
+followed (work.Reload q a w) g proper bodies chosen p m k h (v ∷ []) s b x hs l e same f = tt
+followed (work.Reload q a w) g proper bodies chosen p m k h (v ∷ u ∷ vs) s b x [] l e same f = absurd l
+followed (work.Reload q a w) g proper bodies chosen p m k h (v ∷ u ∷ vs) s b x (d ∷ []) l e same f = absurd l
+followed (work.Reload q a w) g proper bodies chosen p m k h (v ∷ u ∷ vs) s b x (d ∷ c ∷ hs) l e same f = reload g chosen p m k h q a w u v vs s b x c d hs l e same f
+followed (work.Store q a w) g proper bodies chosen p m k h [] s b x hs l e same f = tt
+followed (work.Store q a w) g proper bodies chosen p m k h (v ∷ []) s b x hs l e same f = tt
+followed (work.Store q a w) g proper bodies chosen p m k h (v ∷ u ∷ vs) s b x [] l e same f = absurd l
+followed (work.Store q a w) g proper bodies chosen p m k h (v ∷ u ∷ vs) s b x (d ∷ []) l e same f = absurd l
+followed (work.Store q a w) g proper bodies chosen p m k h (v ∷ u ∷ vs) s b x (d ∷ c ∷ hs) l e same f = store g chosen p m k h q a w u v vs s b x c d hs l e same f
+followed (work.StoreKept q a w) g proper bodies chosen p m k h [] s b x hs l e same f = tt
+followed (work.StoreKept q a w) g proper bodies chosen p m k h (v ∷ []) s b x hs l e same f = tt
+followed (work.StoreKept q a w) g proper bodies chosen p m k h (v ∷ u ∷ vs) s b x [] l e same f = absurd l
+followed (work.StoreKept q a w) g proper bodies chosen p m k h (v ∷ u ∷ vs) s b x (d ∷ []) l e same f = absurd l
+followed (work.StoreKept q a w) g proper bodies chosen p m k h (v ∷ u ∷ vs) s b x (d ∷ c ∷ hs) l e same f = store_kept g chosen p m k h q a w u v vs s b x c d hs l e same f
+followed (work.Renew op q o r a w) g proper bodies chosen p m k h [] s b x hs l e same f = tt
+followed (work.Renew op q o r a w) g proper bodies chosen p m k h (v ∷ []) s b x hs l e same f = tt
+followed (work.Renew op q o r a w) g proper bodies chosen p m k h (v ∷ u ∷ []) s b x hs l e same f = tt
+followed (work.Renew op q o r a w) g proper bodies chosen p m k h (v ∷ u ∷ i ∷ vs) s b x [] l e same f = absurd l
+followed (work.Renew op q o r a w) g proper bodies chosen p m k h (v ∷ u ∷ i ∷ vs) s b x (d ∷ []) l e same f = absurd l
+followed (work.Renew op q o r a w) g proper bodies chosen p m k h (v ∷ u ∷ i ∷ vs) s b x (d ∷ c ∷ []) l e same f = absurd l
+followed (work.Renew op q o r a w) g proper bodies chosen p m k h (v ∷ u ∷ i ∷ vs) s b x (d ∷ c ∷ n ∷ hs) l e same f = renew g chosen p m k h op q o r a w i u v vs s b x n c d hs l e same f
+followed (work.Renewed op q o t w) g proper bodies chosen p m k h [] s b x hs l e same f = tt
+followed (work.Renewed op q o t w) g proper bodies chosen p m k h (v ∷ []) s b x hs l e same f = tt
+followed (work.Renewed op q o t w) g proper bodies chosen p m k h (v ∷ u ∷ []) s b x hs l e same f = tt
+followed (work.Renewed op q o t w) g proper bodies chosen p m k h (v ∷ u ∷ i ∷ vs) s b x [] l e same f = absurd l
+followed (work.Renewed op q o t w) g proper bodies chosen p m k h (v ∷ u ∷ i ∷ vs) s b x (d ∷ []) l e same f = absurd l
+followed (work.Renewed op q o t w) g proper bodies chosen p m k h (v ∷ u ∷ i ∷ vs) s b x (d ∷ c ∷ []) l e same f = absurd l
+followed (work.Renewed op q o t w) g proper bodies chosen p m k h (v ∷ u ∷ i ∷ vs) s b x (d ∷ c ∷ n ∷ hs) l e same f = renewed g chosen p m k h op q o t w i u v vs s b x n c d hs l e same f
+followed (work.Replace op q o r a w) g proper bodies chosen p m k h [] s b x hs l e same f = tt
+followed (work.Replace op q o r a w) g proper bodies chosen p m k h (v ∷ []) s b x hs l e same f = tt
+followed (work.Replace op q o r a w) g proper bodies chosen p m k h (v ∷ u ∷ []) s b x hs l e same f = tt
+followed (work.Replace op q o r a w) g proper bodies chosen p m k h (v ∷ u ∷ i ∷ vs) s b x [] l e same f = absurd l
+followed (work.Replace op q o r a w) g proper bodies chosen p m k h (v ∷ u ∷ i ∷ vs) s b x (d ∷ []) l e same f = absurd l
+followed (work.Replace op q o r a w) g proper bodies chosen p m k h (v ∷ u ∷ i ∷ vs) s b x (d ∷ c ∷ []) l e same f = absurd l
+followed (work.Replace op q o r a w) g proper bodies chosen p m k h (v ∷ u ∷ i ∷ vs) s b x (d ∷ c ∷ n ∷ hs) l e same f = replace g chosen p m k h op q o r a w i u v vs s b x n c d hs l e same f
+followed (work.Item a j w) g proper bodies chosen p m k h [] s b x hs l e same f = tt
+followed (work.Item a j w) g proper bodies chosen p m k h (v ∷ vs) s b x [] l e same f = absurd l
+followed (work.Item a j w) g proper bodies chosen p m k h (v ∷ vs) s b x (c ∷ hs) l e same f = item g chosen p m k h a j w v vs s b x c hs l e same f
+followed (work.Claim q w) g proper bodies chosen p m k h [] s b x hs l e same f = tt
+followed (work.Claim q w) g proper bodies chosen p m k h (v ∷ vs) s b x [] l e same f = absurd l
+followed (work.Claim q w) g proper bodies chosen p m k h (v ∷ vs) s b x (c ∷ hs) l e same f = claim g chosen p m k h q w v vs s b x c hs l e same f
+followed (work.Go (work.Rest xs tree.no_items a)) g proper bodies chosen p m k h vs s b x hs l e same f = none_followed xs a g proper chosen p m k h vs s b x hs l e same f
+followed (work.Go (work.Rest xs (tree.statement_before r is) a)) g proper bodies chosen p m k h vs s b x hs l e same f = next_followed xs r is a g proper chosen p m k h vs s b x hs l e same f
+followed (work.Go (work.Rest xs (tree.declared_before r is) a)) g proper bodies chosen p m k h vs s b x hs l e same f = next_declared g proper chosen p m k h vs s b x hs xs r is a l e same f
+followed (work.Go (work.Join j a)) g proper bodies chosen p m k h vs s b x hs l e same f = join_followed j a g proper chosen p m k h vs s b x hs l e same f
+followed (work.Go (work.Again j u o a)) g proper bodies chosen p m k h vs s b x hs l e same f = again_followed j u o a g proper chosen p m k h vs s b x hs l e same f
+followed (work.Go (work.Close j a)) g proper bodies chosen p m k h vs s b x hs l e same f = close_followed j a g proper chosen p m k h vs s b x hs l e same f
+followed (work.Go (work.End c)) g proper bodies chosen p m k h vs s b x hs l e same f = fall g chosen p m k h c vs s b x hs l e same f
+followed (work.Do (tree.block q is) a) g proper bodies chosen p m k h vs s b x hs l e same f = block_followed q is a g proper chosen p m k h vs s b x hs l e same f
+followed (work.Do (tree.empty q) a) g proper bodies chosen p m k h vs s b x hs l e same f = empty_followed q a g proper chosen p m k h vs s b x hs l e same f
+followed (work.Do (tree.effect q d) a) g proper bodies chosen p m k h vs s b x hs l e same f = effect_followed q d a g proper chosen p m k h vs s b x hs l e same f
+followed (work.Do (tree.if_then q v r) a) g proper bodies chosen p m k h vs s b x hs l e same f = if_then_followed q v r a g proper chosen p m k h vs s b x hs l e same f
+followed (work.Do (tree.if_else q v r t) a) g proper bodies chosen p m k h vs s b x hs l e same f = if_else_followed q v r t a g proper chosen p m k h vs s b x hs l e same f
+followed (work.Do (tree.while q v r) a) g proper bodies chosen p m k h vs s b x hs l e same f = while_followed q v r a g proper chosen p m k h vs s b x hs l e same f
+followed (work.Do (tree.do_while q r v) a) g proper bodies chosen p m k h vs s b x hs l e same f = do_followed q r v a g proper chosen p m k h vs s b x hs l e same f
+followed (work.Do (tree.continue q) a) g proper bodies chosen p m k h vs s b x hs l e same f = continue_followed q a g proper chosen p m k h vs s b x hs l e same f
+followed (work.Do (tree.break q) a) g proper bodies chosen p m k h vs s b x hs l e same f = break_followed q a g proper chosen p m k h vs s b x hs l e same f
+followed (work.Do (tree.return q v) a) g proper bodies chosen p m k h vs s b x hs l e same f = return_followed q v a g proper chosen p m k h vs s b x hs l e same f
+followed (work.Do (tree.for_loop q (tree.expression v) t third r) a) g proper bodies chosen p m k h vs s b x hs l e same f = for_followed q v t third r a g proper chosen p m k h vs s b x hs l e same f
+followed (work.Do (tree.for_loop q (tree.declarations ds) t third r) a) g proper bodies chosen p m k h vs s b x hs l e same f = for_declared g proper chosen p m k h vs s b x hs q ds t third r a l e same f
+followed (work.Do (tree.label q n r) a) g proper bodies chosen p m k h vs s b x hs l e same f = label_followed q n r a g proper chosen p m k h vs s b x hs l e same f
+followed (work.Do (tree.case q n r) a) g proper bodies chosen p m k h vs s b x hs l e same f = case_followed q n r a g proper chosen p m k h vs s b x hs l e same f
+followed (work.Do (tree.default q r) a) g proper bodies chosen p m k h vs s b x hs l e same f = default_followed q r a g proper chosen p m k h vs s b x hs l e same f
+followed (work.Do (tree.switch q t v zs d r) a) g proper bodies chosen p m k h vs s b x hs l e same f = switch_followed q t v zs d r a g proper chosen p m k h vs s b x hs l e same f
+followed (work.Do (tree.goto q n) a) g proper bodies chosen p m k h vs s b x hs l e same f = goto_followed q n a g proper chosen p m k h vs s b x hs l e same f
+followed (work.Declare ds w) g proper bodies chosen p m k h vs s b x hs l e same f = declare_followed ds w g proper chosen p m k h vs s b x hs l e same f
+followed (work.Choose t zs i d r j a) g proper bodies chosen p m k h vs s b x hs l e same f = choose_followed t zs i d r j a g proper chosen p m k h vs s b x hs l e same f
+followed (work.Perform d w) g proper bodies chosen p m k h vs s b x hs l e same f = perform g proper chosen p m k h d w vs s b x hs l e same f
+followed (work.Evaluate v w) g proper bodies chosen p m k h vs s b x hs l e same f = evaluate g proper chosen p m k h v w vs s b x hs l e same f
+followed (work.Test v y n) g proper bodies chosen p m k h vs s b x hs l e same f = test g chosen p m k h v y n vs s b x hs l e same f
+followed (work.Truth z w) g proper bodies chosen p m k h vs s b x hs l e same f = truth g chosen p m k h z w vs s b x hs l e same f
+followed (work.Fill d j es w) g proper bodies chosen p m k h vs s b x hs l e same f = fill_followed d j es w g proper chosen p m k h vs s b x hs l e same f
+followed (work.Pass es w) g proper bodies chosen p m k h vs s b x hs l e same f = pass g chosen p m k h es w vs s b x hs l e same f
+followed (work.Bind j i ts w) g proper bodies chosen p m k h vs s b x hs l e same f = bind g chosen p m k h j i ts w vs s b x hs l e same f
+followed (work.Enter j w) g proper bodies chosen p m k h vs s b x hs l e same f = enter g bodies chosen p m k h j w vs s b x hs l e same f
+followed (work.Leave c) g proper bodies chosen p m k h vs s b x hs l e same f = leave g chosen p m k h c vs s b x hs l e same f
+followed (work.Return c) g proper bodies chosen p m k h vs s b x hs l e same f = return g chosen p m k h c vs s b x hs l e same f
+followed (work.Turn j (While v r) o a) g proper bodies chosen p m k h vs s b x hs l e same f = turn_while_followed j v r o a g proper chosen p m k h vs s b x hs l e same f
+followed (work.Turn j (DoWhile r v) o a) g proper bodies chosen p m k h vs s b x hs l e same f = turn_do_followed j r v o a g proper chosen p m k h vs s b x hs l e same f
+followed (work.Turn j (For (Some v) third r) o a) g proper bodies chosen p m k h vs s b x hs l e same f = turn_for_followed j v third r o a g proper chosen p m k h vs s b x hs l e same f
+followed (work.Turn j (For None third r) o a) g proper bodies chosen p m k h vs s b x hs l e same f = turn_ever_followed j third r o a g proper chosen p m k h vs s b x hs l e same f
+followed (work.Back j u o a) g proper bodies chosen p m k h vs s b x hs l e same f = back_followed j u o a g proper chosen p m k h vs s b x hs l e same f

@@ -1,16 +1,16 @@
 -- The graph follows the program at statements, and behind them.
-use Rattle.std.proofs.Common.{◌≡◌, ℕ, ◌+◌, List, [], Bool, true, refl, sym, subst, Option, Some, None}
+use Rattle.std.proofs.Common.{◌≡◌, ℕ, ◌+◌, List, [], ◌∷◌, Bool, true, refl, sym, subst, Option, Some, None}
 use Rattle.pk_ctypes.specs.declared.places.Pos.{Pos}
 use Rattle.pk_ctypes.specs.declared.types.IntType.{IntType}
-use Rattle.pk_typed.specs.Trees.{ValueTree, ValueTrees, EffectTree, StatementTree, ItemTrees}
+use Rattle.pk_typed.specs.Trees.{ValueTree, ValueTrees, EffectTree, DeclaredTree, StatementTree, ItemTrees}
 use Rattle.pk_typed.specs.Trees as tree
-use Rattle.pk_welltyped.specs.Listed.{calls_in_effect_if, calls_in, calls_if, calls_in_statement}
+use Rattle.pk_welltyped.specs.Listed.{calls_in, calls_if, calls_in_statement}
 use Rattle.pk_welltyped.specs.WellTyped.{Around, IsValueIf, IsReturned, IsStatement, Marks}
 use Rattle.pk_graph.specs.Trees.{Skip}
 use Rattle.pk_graph.specs.Steps.{Numbers}
 use Rattle.pk_draft.specs.Drafts.{on, fresh}
 use Rattle.pk_lower_statement.specs.declared.statements.Exits.{Exits}
-use Rattle.pk_lower_statement.specs.Statements.{lowered, returned, performed_if}
+use Rattle.pk_lower_statement.specs.Statements.{inside, lowered, returned}
 use Rattle.pk_meaning.specs.Objects.{Scope, Objects, Array, result}
 use Rattle.pk_meaning.specs.Programs.{function_of}
 use Rattle.pk_meaning.specs.Work as work
@@ -18,20 +18,20 @@ use Rattle.pk_meaning.specs.Work.{Place, Work, Ahead, Way, Onward, Refused, Lost
 use Rattle.pk_meaning.specs.Steps as meaning
 use Rattle.pk_meaning.specs.Steps.{place, step_of, caller_of}
 use Rattle.pk_visits.proofs.Slots.{Draft, Memory, Among, edge}
-use Rattle.pk_visits.proofs.Stands.{Whole, Proper, context_of, Held, around, AreCalm, ShowsAt, Stage, Marking, Means, FitsObjects, LaidWay, LaidAhead, Laid}
+use Rattle.pk_visits.proofs.Settled.{Settles}
+use Rattle.pk_visits.proofs.Stands.{Whole, Proper, context_of, final, Held, around, AreCalm, ShowsAt, Stage, Marking, Means, FitsObjects, LaidWay, LaidAhead, Laid}
 use Rattle.pk_visits.proofs.Follow.{Answers, Follows, config, still, moved}
-use Rattle.pk_visits.proofs.Tells.{any_called}
-use Rattle.pk_visits.proofs.StatementGrows.{stays_then, on_adds, fresh_adds, third_adds}
 use Rattle.pk_visits.proofs.Starts.{for_begun}
+use Rattle.pk_visits.proofs.Declared.{none_declared, all_declared_next}
 use Rattle.pk_visits.proofs.Fills.{filled_laid, item_laid}
-use Rattle.pk_visits.proofs.Statements.{shows_on, block_laid, next_laid, none_laid, empty_laid, effect_laid}
-use Rattle.pk_visits.proofs.Branches.{if_else_laid, if_then_laid}
+use Rattle.pk_visits.proofs.Statements.{block_laid, next_laid, none_laid, empty_laid, effect_laid}
+use Rattle.pk_visits.proofs.Branches.{choice_laid, if_else_laid, if_then_laid}
 use Rattle.pk_visits.proofs.Rounds.{while_laid, do_laid, turn_while, turn_do}
 use Rattle.pk_visits.proofs.Thirds.{turn_for, turn_ever, resumed_laid, continue_laid}
 use Rattle.pk_visits.proofs.Returns.{break_laid, leave_laid, value_laid}
 
 -- over an edge that does nothing
-jump : (g : Whole) (chosen : Numbers) (p q : ℕ) (m : Memory) (k : ℕ) (h : Place) (w : Work) (vs : Numbers) (s : Objects) (x : Exits) (hs : List Held)
+pub jump : (g : Whole) (chosen : Numbers) (p q : ℕ) (m : Memory) (k : ℕ) (h : Place) (w : Work) (vs : Numbers) (s : Objects) (x : Exits) (hs : List Held)
     → Among (edge p Skip q) g.edges → ShowsAt g q k h → Laid g k h x w q hs → Means m hs vs → m.objects ≡ s → FitsObjects g.program s → Follows g chosen p m (config k h w vs s true)
 jump g chosen p q m k h w vs s x hs there shown l e same f = moved g chosen p q m m Skip k h w vs s true x hs there refl (refl, shown) l e same f
 
@@ -43,7 +43,7 @@ along g chosen p q m k h w vs s b Refused hs there l e same f = tt
 along g chosen p q m k h w vs s b Lost hs there l e same f = tt
 
 -- that the graph follows the program at this work, at each place
-abbrev IsFollowed : Work → Type 1
+abbrev pub IsFollowed : Work → Type 1
 IsFollowed w = (g : Whole) (proper : Proper g) (chosen : Numbers) (p : ℕ) (m : Memory) (k : ℕ) (h : Place) (vs : Numbers) (s : Objects) (b : Bool) (x : Exits) (hs : List Held)
     → Laid g k h x w p hs → Means m hs vs → m.objects ≡ s → FitsObjects g.program s → Answers g chosen k h p m (step_of g.program chosen (config k h w vs s b) w)
 
@@ -62,12 +62,12 @@ effect_followed q d a g proper chosen p m k h vs s b x hs l e same f =
 pub if_then_followed : (q : Pos) (c : ValueTree) (r : StatementTree) (a : Ahead) → IsFollowed (work.Do (tree.if_then q c r) a)
 if_then_followed q c r a g proper chosen p m k h vs s b x hs l e same f =
     let j = place q h.scope in
-    still g chosen p m k j (work.Test c (Onward j (work.Do r (work.Join j a))) (Onward j (work.Go (work.Join j a)))) vs s x hs (if_then_laid g proper k h x q c r a p hs l) e same f
+    still g chosen p m k j (work.Test c (Onward j (work.Do r (work.Join j a))) (Onward j (work.Go (work.Join j a)))) vs s x hs (choice_laid g k j x c (work.Do r (work.Join j a)) (work.Go (work.Join j a)) p hs (if_then_laid g proper k h x q c r a p hs l)) e same f
 
 pub if_else_followed : (q : Pos) (c : ValueTree) (r t : StatementTree) (a : Ahead) → IsFollowed (work.Do (tree.if_else q c r t) a)
 if_else_followed q c r t a g proper chosen p m k h vs s b x hs l e same f =
     let j = place q h.scope in
-    still g chosen p m k j (work.Test c (Onward j (work.Do r (work.Join j a))) (Onward j (work.Do t (work.Join j a)))) vs s x hs (if_else_laid g proper k h x q c r t a p hs l) e same f
+    still g chosen p m k j (work.Test c (Onward j (work.Do r (work.Join j a))) (Onward j (work.Do t (work.Join j a)))) vs s x hs (choice_laid g k j x c (work.Do r (work.Join j a)) (work.Do t (work.Join j a)) p hs (if_else_laid g proper k h x q c r t a p hs l)) e same f
 
 pub while_followed : (q : Pos) (c : ValueTree) (r : StatementTree) (a : Ahead) → IsFollowed (work.Do (tree.while q c r) a)
 while_followed q c r a g proper chosen p m k h vs s b x hs l e same f =
@@ -106,7 +106,7 @@ value_if a (Some i) (Some v) is = is
 
 pub return_followed : (q : Pos) (v : Option ValueTree) (a : Ahead) → IsFollowed (work.Do (tree.return q v) a)
 unfolding lowered IsStatement calls_in_statement
-return_followed q v a g proper chosen p m k h vs s b x hs (d, n, marks, at', fits, calm, t, marking, l) e same f =
+return_followed q v a g proper chosen p m k h vs s b x hs (d, n, marks, at', fits, calm, t, marking, settled, l) e same f =
     subst (λ i. Answers g chosen k h i m (step_of g.program chosen (config k h (work.Do (tree.return q v) a) vs s b) (work.Do (tree.return q v) a))) at'
     (return_by g proper chosen m k h x q v a n d vs s b (work.Do (tree.return q v) a) hs (function_of g.program k).returns refl (value_if (around g k n) marks.returns v fits) calm t l e same f)
 
@@ -153,7 +153,8 @@ turn_ever_followed j third r o a g proper chosen p m k h vs s b x hs l e same f 
 pub turn_do_followed : (j : Place) (r : StatementTree) (c : ValueTree) (o : Place) (a : Ahead) → IsFollowed (work.Turn j (DoWhile r c) o a)
 turn_do_followed j r c o a g proper chosen p m k h vs s b x hs l e same f =
     let w = work.Do r (work.Again j (DoWhile r c) o a) in
-    let z = turn_do g proper k j h x c r o a p hs l in still g chosen p m k h w vs s z.0 hs (subst (λ i. Laid g k i z.0 w p hs) (sym l.0) z.1) e same f
+    let z = turn_do g proper k j h x c r o a p hs l in
+    let y = inside z.0 z.1 x in still g chosen p m k h w vs s y hs (subst (λ i. Laid g k i y w p hs) (sym l.0) z.2) e same f
 
 pub back_followed : (j : Place) (u : work.Loop) (o : Place) (a : Ahead) → IsFollowed (work.Back j u o a)
 back_followed j u o a g proper chosen p m k h vs s b x hs (plain, q, c, i, there, shown, loop, cont, behind, l) e same f =
@@ -161,34 +162,24 @@ back_followed j u o a g proper chosen p m k h vs s b x hs (plain, q, c, i, there
 
 -- ---- a `for` whose first part is no declaration
 
--- behind such a first part names are in scope as before
-started : (g : Whole) (proper : Proper g) (k : ℕ) (xs : Scope) (q : Pos) (v : Option EffectTree) (d : Draft) → g.shows d.here k (place d.here.at xs) → g.shows (on q (performed_if (context_of g k) v (fresh 1 (on q d)))).here k (place q xs)
-started g proper k xs q v d shows =
-    let c = context_of g k in
-    let U = λ (r : ℕ). Unit {0} in
-    let e = fresh 1 (on q d) in
-    let first = third_adds [] U c v (any_called c (calls_in_effect_if v)) e in
-    let all = stays_then (stays_then (on_adds [] U q d) (fresh_adds [] U 1 (on q d))) (stays_then first (on_adds [] U q (performed_if c v e))) in
-    shows_on g proper k xs d.here (on q (performed_if c v e)).here shows all.here
-
 for_by : (g : Whole) (proper : Proper g) (chosen : Numbers) (m : Memory) (k : ℕ) (h : Place) (x : Exits) (q : Pos) (v : Option EffectTree) (t : Option ValueTree) (third : Option EffectTree) (r : StatementTree) (a : Ahead) (d : Draft) (n : ℕ) (mark : Marks) (vs : Numbers) (s : Objects) (b : Bool) (w : Work) (hs : List Held)
     → IsStatement (around g k n) mark (tree.for_loop q (tree.expression v) t third r) → AreCalm d.variables hs
     → (z : Stage g k (place d.here.at h.scope) (calls_in_statement (tree.for_loop q (tree.expression v) t third r)) d (lowered (context_of g k) (tree.for_loop q (tree.expression v) t third r) x d))
-    → Marking x mark z.marks → LaidAhead g k x a (lowered (context_of g k) (tree.for_loop q (tree.expression v) t third r) x d).point hs → Means m hs vs → m.objects ≡ s → FitsObjects g.program s
+    → Marking x mark z.marks → Settles (final g k) (context_of g k) (tree.for_loop q (tree.expression v) t third r) x d → LaidAhead g k x a (lowered (context_of g k) (tree.for_loop q (tree.expression v) t third r) x d).point hs → Means m hs vs → m.objects ≡ s → FitsObjects g.program s
     → Answers g chosen k h d.point m (meaning.for_start (meaning.standing (place q h.scope) (config k h w vs s b)) (tree.expression v) (work.Back (place q h.scope) (For t third r) (place q h.scope) a))
 unfolding IsStatement
-for_by g proper chosen m k h x q None t third r a d n mark vs s b w hs fits calm z marking l e same f =
-    let parts = for_begun g proper k h h.scope x q (tree.expression None) t third r a hs d n mark fits calm z marking l (started g proper k h.scope q None d z.here) in
+for_by g proper chosen m k h x q None t third r a d n mark vs s b w hs fits calm z marking settled l e same f =
+    let parts = for_begun g proper k h x q (tree.expression None) t third r a hs d n mark fits calm z marking settled l in
     still g chosen d.point m k (place q h.scope) (work.Back (place q h.scope) (For t third r) (place q h.scope) a) vs s x hs parts.1 e same f
-for_by g proper chosen m k h x q (Some v) t third r a d n mark vs s b w hs fits calm z marking l e same f =
-    let parts = for_begun g proper k h h.scope x q (tree.expression (Some v)) t third r a hs d n mark fits calm z marking l (started g proper k h.scope q (Some v) d z.here) in
+for_by g proper chosen m k h x q (Some v) t third r a d n mark vs s b w hs fits calm z marking settled l e same f =
+    let parts = for_begun g proper k h x q (tree.expression (Some v)) t third r a hs d n mark fits calm z marking settled l in
     still g chosen d.point m k (place q h.scope) (work.Perform v (work.Back (place q h.scope) (For t third r) (place q h.scope) a)) vs s x hs
     (fresh 1 (on q d), n, refl, fits.0, (λ y. calm), parts.0, parts.1) e same f
 
 pub for_followed : (q : Pos) (v : Option EffectTree) (t : Option ValueTree) (third : Option EffectTree) (r : StatementTree) (a : Ahead) → IsFollowed (work.Do (tree.for_loop q (tree.expression v) t third r) a)
-for_followed q v t third r a g proper chosen p m k h vs s b x hs (d, n, marks, at', fits, calm, z, marking, l) e same f =
+for_followed q v t third r a g proper chosen p m k h vs s b x hs (d, n, marks, at', fits, calm, z, marking, settled, l) e same f =
     let w = work.Do (tree.for_loop q (tree.expression v) t third r) a in
-    subst (λ i. Answers g chosen k h i m (step_of g.program chosen (config k h w vs s b) w)) at' (for_by g proper chosen m k h x q v t third r a d n marks vs s b w hs fits calm z marking l e same f)
+    subst (λ i. Answers g chosen k h i m (step_of g.program chosen (config k h w vs s b) w)) at' (for_by g proper chosen m k h x q v t third r a d n marks vs s b w hs fits calm z marking settled l e same f)
 
 -- ---- braced lists
 
@@ -196,3 +187,9 @@ pub fill_followed : (d : Array) (j : ℕ) (es : ValueTrees) (w : Work) → IsFol
 fill_followed d j tree.no_values w g proper chosen p m k h vs s b x hs l e same f = still g chosen p m k h w vs s x hs (filled_laid g k h x d j w p hs l) e same f
 fill_followed d j (tree.value_before v es) w g proper chosen p m k h vs s b x hs l e same f =
     still g chosen p m k h (work.Evaluate v (work.Item d j (work.Fill d (j + 1) es w))) vs s x hs (item_laid g k h x d j v es w p hs l) e same f
+
+-- ---- declarations at the start of a `for`
+
+pub declare_followed : (vs : List DeclaredTree) (w : Work) → IsFollowed (work.Declare vs w)
+declare_followed [] w g proper chosen p m k h us s b x hs l e same f = still g chosen p m k h w us s x hs (none_declared g k h x w p hs l) e same f
+declare_followed (v ∷ vs) w g proper chosen p m k h us s b x hs l e same f = all_declared_next g proper chosen p m k h us s b x hs v vs w l e same f

@@ -9,7 +9,7 @@ use Rattle.pk_meaning.specs.Runs.{Visit, visit_of, visits_if, Runs}
 use Rattle.pk_visits.proofs.Slots.{Memory}
 use Rattle.pk_visits.proofs.Stands.{Whole, Proper, BodiesStand, StandsAt}
 use Rattle.pk_visits.proofs.Follow.{Answers, Follows, Moves, Doomed}
-use Rattle.pk_visits.proofs.Followed.{IsReady, followed}
+use Rattle.pk_visits.proofs.Followed.{followed}
 
 -- The graph goes from a point with a memory to where a configuration stands: over edges that move as the program does, with its visits in order.
 pub data Journeys (g : Whole) (end : Config) : ℕ → Memory → List Visit → Type 0 where
@@ -20,18 +20,18 @@ pub data Journeys (g : Whole) (end : Config) : ℕ → Memory → List Visit →
 abbrev pub IsLaw : Whole → Type 0
 IsLaw g = (chosen : Numbers) (p : ℕ) (m : Memory) (c : Config) → StandsAt g c p m → Answers g chosen c.path c.here p m (step g.program chosen c)
 
--- that it is where the work is ready
-pub ready_law : (g : Whole) (proper : Proper g) (bodies : BodiesStand g) (chosen : Numbers) (p : ℕ) (m : Memory) (c : Config) → IsReady c.work → StandsAt g c p m → Answers g chosen c.path c.here p m (step g.program chosen c)
-ready_law g proper bodies chosen p m c ready z = followed c.work ready g proper bodies chosen p m c.path c.here c.values c.objects c.is_visit z.exits z.waiting z.laid z.means z.same z.fits
+-- that it is, where the bodies of all paths stand
+pub law : (g : Whole) → Proper g → BodiesStand g → IsLaw g
+law g proper bodies chosen p m c z = followed c.work g proper bodies chosen p m c.path c.here c.values c.objects c.is_visit z.exits z.waiting z.laid z.means z.same z.fits
 
 -- a run of the program is followed by the graph
 pub journey : (g : Whole) → IsLaw g → (p : ℕ) (m : Memory) (c d : Config) (vs : List Visit) → Runs g.program c vs d → StandsAt g c p m → Journeys g d p m vs
-journey g law p m c d vs Runs.ends z = ends z
-journey g law p m c e vs (Runs.steps {d = d} {vs = us} chosen is rest) z = by (subst (Answers g chosen c.path c.here p m) is (law chosen p m c z)) (λ q n y. journey g law q n d e us rest y) where
+journey g answers p m c d vs Runs.ends z = ends z
+journey g answers p m c e vs (Runs.steps {d = d} {vs = us} chosen is rest) z = by (subst (Answers g chosen c.path c.here p m) is (answers chosen p m c z)) (λ q n y. journey g answers q n d e us rest y) where
   by : Follows g chosen p m d → ((q : ℕ) (n : Memory) → StandsAt g d q n → Journeys g e q n us) → Journeys g e p m (visits_if g.program d us)
   by (inl a) f = subst (λ b. Journeys g e p m (if b then visit_of g.program d ∷ us else us)) (sym a.0) (f p m a.1)
   by (inr a) f = goes chosen a (f a.to a.after a.stands)
 
 -- where its next step faults the graph faults
 pub doomed_behind : (g : Whole) → IsLaw g → (chosen : Numbers) (p : ℕ) (m : Memory) (c : Config) (f : Fault) (at : Site) → step g.program chosen c ≡ Faulted f at → StandsAt g c p m → Doomed g chosen c.path c.here (steps.failure f at) p m
-doomed_behind g law chosen p m c f at is z = subst (Answers g chosen c.path c.here p m) is (law chosen p m c z)
+doomed_behind g answers chosen p m c f at is z = subst (Answers g chosen c.path c.here p m) is (answers chosen p m c z)

@@ -1,17 +1,18 @@
-mod Slots
-mod Grows
-mod Growing
+pub mod Slots
+pub mod Settled
+pub mod Grows
+pub mod Growing
 mod Values
 mod Tells
 mod Silent
-mod Stands
-mod Stores
-mod Follow
+pub mod Stands
+pub mod Stores
+pub mod Follow
 mod Doom
 mod Operators
 mod Elements
 mod Tests
-mod Stages
+pub mod Stages
 mod Operands
 mod Trees
 mod Joined
@@ -23,31 +24,39 @@ mod OwnReads
 mod Calling
 mod Entering
 mod Evaluations
-mod StatementGrows
+pub mod StatementGrows
 mod Statements
+mod Marked
 mod Rounds
 mod Branches
 mod Returns
 mod Thirds
 mod Fills
 mod Firsts
+mod Shown
 mod Starts
 mod Declared
 mod Choices
 mod Cases
+mod Switches
+mod Found
 mod Going
+mod Jumps
 mod Followed
-mod NumberedEdges
-mod NumberedStores
-mod NumberedCopies
-mod NumberedRuns
-mod NumberedStarts
-mod Journeys
-mod NumberedVisits
-mod NumberedNames
-mod NumberedRows
-mod NumberedForms
-mod NumberedExpressions
-mod NumberedStatements
-mod NumberedLoops
-mod NumberedSwitches
+pub mod PartGrows
+pub mod NumberedEdges
+pub mod NumberedStores
+pub mod NumberedCopies
+pub mod NumberedRuns
+pub mod NumberedStarts
+pub mod Journeys
+pub mod NumberedVisits
+pub mod NumberedNames
+pub mod NumberedRows
+pub mod NumberedForms
+pub mod NumberedExpressions
+pub mod NumberedStatements
+pub mod NumberedLoops
+pub mod NumberedSwitches
+pub mod NumberedForLoops
+pub mod NumberedParts

@@ -26,11 +26,11 @@ use Rattle.pk_meaning.specs.Work as work
 use Rattle.pk_meaning.specs.Work.{Place, Caller, Ahead}
 use Rattle.pk_meaning.specs.Steps as meaning
 use Rattle.pk_meaning.specs.Steps.{place, step_of, caller_of}
-use Rattle.pk_visits.proofs.Slots.{Slot, own, Draft, Memory, with_memory, Among, edge, last_among}
-use Rattle.pk_visits.proofs.Stands.{Whole, Proper, context_of, Held, around, ArePlain, AreCalm, ShowsAt, Means, FitsObjects, Writes, EndedBy, end_place, Stage, led_to, LaidWay, LaidAhead, LaidCaller, Laid}
+use Rattle.pk_visits.proofs.Slots.{Slot, own, Draft, Memory, with_memory, Among, edge, last_among, Uncalled}
+use Rattle.pk_visits.proofs.Stands.{Whole, Proper, context_of, Held, around, ArePlain, AreCalm, ShowsAt, Means, FitsObjects, Writes, EndedBy, end_place, Stage, LaidWay, LaidAhead, LaidCaller, Laid}
 use Rattle.pk_visits.proofs.Stores.{Fitting, fits_written, means_apart}
 use Rattle.pk_visits.proofs.Follow.{Answers, config, still, moved, kind_is, scalar_written}
-use Rattle.pk_visits.proofs.Stages.{In, ways_grow, stage_at, stage_until, stage_edge}
+use Rattle.pk_visits.proofs.Stages.{ways_grow, stage_at, stage_until, stage_edge, forth_here}
 use Rattle.pk_visits.proofs.Grows.{grows_trans, emit_grows, link_grows, fresh_one_grows}
 use Rattle.pk_visits.proofs.Tells.{Any, sane}
 use Rattle.pk_visits.proofs.Trees.{stage_names}
@@ -43,7 +43,7 @@ both_true false b h = absurd (grind (arith, h))
 
 -- what waits for the function's end, from any place in its body
 pub caller_laid : (g : Whole) (k : ℕ) (x : Exits) (a : Ahead) (p : ℕ) (hs : List Held) → LaidAhead g k x a p hs → ShowsAt g x.left k (meaning.body_place g.program k) × LaidCaller g k (caller_of a) x.left hs
-caller_laid g k x (work.Rest xs is a) p hs (d, n, m, is', fits, calm, s, marking, l) = caller_laid g k x a _ hs l
+caller_laid g k x (work.Rest xs is a) p hs (d, n, m, is', fits, calm, s, marking, settled, l) = caller_laid g k x a _ hs l
 caller_laid g k x (work.Join h a) p hs (q, there, shown, l) = caller_laid g k x a q hs l
 caller_laid g k x (work.Again h loop e a) p hs (y, b, there, shown, same, loops, cont, behind, l) =
     subst (λ (z : Exits). ShowsAt g z.left k (meaning.body_place g.program k) × LaidCaller g k (caller_of a) z.left hs) (sym same) (caller_laid g k y a _ hs l)
@@ -93,7 +93,7 @@ pub jump_edge : (g : Whole) (k : ℕ) (h : Place) (xs : List Numbered) (p : Pos)
 jump_edge g k h xs p q d s = s.leads.edges _ (last_among d.edges (edge d.point Skip q))
 
 pub broken_laid : (g : Whole) (k : ℕ) (x : Exits) (a : Ahead) (p : ℕ) (hs : List Held) → ArePlain hs → LaidAhead g k x a p hs → LaidWay g k (meaning.broken a) x.broken hs
-broken_laid g k x (work.Rest xs is a) p hs plain (d, n, m, is', fits, calm, s, marking, l) = broken_laid g k x a _ hs plain l
+broken_laid g k x (work.Rest xs is a) p hs plain (d, n, m, is', fits, calm, s, marking, settled, l) = broken_laid g k x a _ hs plain l
 broken_laid g k x (work.Join h a) p hs plain (q, there, shown, l) = broken_laid g k x a q hs plain l
 broken_laid g k x (work.Again h loop e a) p hs plain (y, b, there, shown, same, loops, cont, behind, l) = (behind, (y, (plain, l)))
 broken_laid g k x (work.Close h a) p hs plain (y, there, shown, same, l) = (shown, (y, (plain, l)))
@@ -103,7 +103,7 @@ broken_laid g k x (work.End c) p hs plain l = tt
 pub break_laid : (g : Whole) (k : ℕ) (h : Place) (x : Exits) (p : Pos) (a : Ahead) (pt : ℕ) (hs : List Held) → Laid g k h x (work.Do (tree.break p) a) pt hs
     → Among (edge pt Skip x.broken) g.edges × LaidWay g k (meaning.broken a) x.broken hs
 unfolding lowered
-break_laid g k h x p a pt hs (d, n, m, is, fits, calm, s, marking, l) =
+break_laid g k h x p a pt hs (d, n, m, is, fits, calm, s, marking, settled, l) =
     (subst (λ q. Among (edge q Skip x.broken) g.edges) is (jump_edge g k _ _ p x.broken d s), broken_laid g k x a _ hs (calm_plain d.variables hs calm) l)
 
 -- `return` without a value
@@ -127,20 +127,20 @@ value_laid g proper k h x p t e a n d hs is fits calm s l =
     let i = Set v (conversion (type_of e) t r.0) in
     let u = emit i r.1 in
     let f = away x.left u in
-    let so = stage_at g k _ j (calls_in e) d o f s (omega arith) (proper.positions d.here k h.scope p s.here) in
+    let so = stage_at g k _ j (calls_in e) d o f s (forth_here g d.points d.regions) (proper.positions d.here k h.scope p s.here) in
     let ge = (ways_grow c e).value o in
     let away_grows = grows_trans (link_grows Any Skip x.left u) (fresh_one_grows Any (link Skip x.left u)) in
-    let none = grows_trans (link_grows (In []) Skip x.left u) (fresh_one_grows (In []) (link Skip x.left u)) in
+    let none = grows_trans (link_grows Uncalled Skip x.left u) (fresh_one_grows Uncalled (link Skip x.left u)) in
     let ns = stage_names g k j (calls_in e) Any o f so (grows_trans ((sane c e).value o) (grows_trans (emit_grows Any i r.1) away_grows)) in
     let same : v ≡ own (result k) = ap (λ (b : Names Slot). b.result k (object_number (length c.locals) o)) ns in
-    let z = stage_edge g k j (In (led_to c (calls_in e))) (In []) (calls_in e) o r.1 f i so ge none in
+    let z = stage_edge g k j Uncalled (calls_in e) o r.1 f i so ge none in
     let w = caller_laid g k x a f.point hs l in (
       o,
       n,
       refl,
       fits,
       (λ m. calm),
-      stage_until g k j (calls_in e) o r.1 f so (grows_trans (emit_grows (In []) i r.1) none),
+      stage_until g k j (calls_in e) o r.1 f so (grows_trans (emit_grows Uncalled i r.1) none),
       (
         r.1.points,
         (s.path, t, is, refl),

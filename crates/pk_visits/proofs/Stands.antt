@@ -21,7 +21,7 @@ use Rattle.pk_draft.specs.declared.drafts.Size.{Size}
 use Rattle.pk_draft.specs.Drafts.{nowhere, go, away}
 use Rattle.pk_draft.specs.Folding.{conversion, unary_tree, operated_tree, updated_tree}
 use Rattle.pk_lower_row.specs.Shapes.{makes, makes_effect, any_makes}
-use Rattle.pk_lower_row.specs.Contexts.{Context, callee}
+use Rattle.pk_lower_row.specs.Contexts.{Context, callee, size_in}
 use Rattle.pk_lower_row.specs.Rows.{one_tree}
 use Rattle.pk_lower_expression.specs.Expressions.{ways, performed, passed}
 use Rattle.pk_lower_statement.specs.declared.statements.Exits.{Exits}
@@ -32,6 +32,7 @@ use Rattle.pk_meaning.specs.Programs.{Program, function_number, function_of, blo
 use Rattle.pk_meaning.specs.Work as work
 use Rattle.pk_meaning.specs.Work.{Place, Loop, While, DoWhile, For, Way, Onward, Refused, Lost, Caller, Nobody, Path, Ahead, Rest, Join, Again, Close, End, Work, Go, Do, Declare, Perform, Evaluate, Test, Keep, Branch, Apply, Operate, Convert, Settle, Truth, Drop, Assign, Put, Update, Advance, Fetch, Reload, StoreKept, Renew, Renewed, Replace, Fill, Item, Claim, Pass, Bind, Enter, Leave, Return, Turn, Back, Choose}
 use Rattle.pk_meaning.specs.Steps.{Config, place, body_place}
+use Rattle.pk_visits.proofs.Settled.{Final, AreAllSettled, Settles, SettleAll, LoopSettles}
 use Rattle.pk_visits.proofs.Slots.{Slot, own, temporary, slots, Draft, SlotTree, Instr, Edge, edge, Memory, memory, Among, label_at, region_at, Scoping, Extends}
 
 -- A graph over slots, its points' labels and its paths' regions; the sizes of functions, and of each path the one by its function's first call; when a label is a path's place.
@@ -44,6 +45,10 @@ pub record Whole : Type 1 where
   pub regions : List Region
   pub scopes : Scoping
   pub shows : Label → ℕ → Place → Type 0
+  -- of each path how many objects it declares, the variable of each, and how many points its region has
+  pub objects : ℕ → ℕ
+  pub numbers : (path object : ℕ) → ℕ
+  pub spans : ℕ → ℕ
 
 -- in which context a path is lowered
 abbrev pub context_of : Whole → ℕ → Context
@@ -55,6 +60,10 @@ context_of g k = record {
   returns = (function_of g.program k).returns;
   sizes = g.sizes;
 }
+
+-- what is known in the end of a path
+abbrev pub final : Whole → ℕ → Final
+final g k = record { objects = g.objects k; numbers = g.numbers k; labels = g.labels }
 
 -- the point is at the path's place
 abbrev pub ShowsAt : Whole → ℕ → ℕ → Place → Type 0
@@ -76,16 +85,28 @@ pub record Leads (g : Whole) (marks later : List ℕ) (d : Draft) : Type 0 where
 abbrev pub led_to : Context → List Numbered → List ℕ
 led_to c xs = map (λ (x : Numbered). callee c x.number) xs
 
+-- to such a path one of these calls leads, of a function of this size
+abbrev pub IsCalled : Context → List Numbered → ℕ → Size → Type 0
+IsCalled c xs m s = (z : Numbered) × Among z xs × (m ≡ callee c z.number) × (s ≡ size_in c.sizes z.call.function)
+
 abbrev pub Distinct : List ℕ → Type 0
 Distinct [] = Unit {0}
 Distinct (x ∷ xs) = (Among x xs → ⊥) × Distinct xs
+
+-- the point is one of the region of a path later than k
+abbrev pub IsReserved : Whole → ℕ → List Region → ℕ → Type 0
+IsReserved g k rs q = (m : ℕ) × (k < m) × (0 < (region_at rs m).points) × ((region_at rs m).points ≤ q) × (q < (region_at rs m).points + g.spans m)
 
 -- A tree with these calls is lowered on path k, at a place, from the draft d to e.
 pub record Stage (g : Whole) (k : ℕ) (h : Place) (calls : List Numbered) (d e : Draft) : Type 0 where
   pub marks : List ℕ
   pub later : List ℕ
   pub leads : Leads g marks later e
-  pub bounded : (q : ℕ) → Among q marks → q < d.points
+  -- of its own points, marks are reserved for later paths
+  pub bounded : (q : ℕ) → Among q marks → d.points ≤ q → q < e.points → IsReserved g k e.regions q
+  -- regions of later paths that were taken before lie before it or behind it
+  pub free : (m : ℕ) → k < m → ((region_at d.regions m).points ≡ 0) ⊎ ((region_at d.regions m).points + g.spans m ≤ d.points) ⊎ (e.points ≤ (region_at d.regions m).points)
+  pub spans : (z : Numbered) → Among z calls → (size_in g.sizes z.call.function).points ≡ g.spans (callee (context_of g k) z.number)
   pub here : g.shows d.here k h
   pub apart : (m : ℕ) → Among m (led_to (context_of g k) calls) → Among m later → ⊥
   pub distinct : Distinct (led_to (context_of g k) calls)
@@ -131,6 +152,9 @@ pub record Proper (g : Whole) : Type 0 where
   -- the position of a label may change
   pub positions : (l : Label) (k : ℕ) (xs : Scope) (q : Pos) → g.shows l k (place l.at xs) → g.shows (record { at = q; path = l.path; scope = l.scope }) k (place q xs)
   pub scopes : (l : Label) (k m i : ℕ) (h : Place) → g.shows l k h → k < m → is_in_scope (local m i) h.scope ≡ false
+  -- the name of an object comes into scope
+  pub enters : (l : Label) (k i n : ℕ) (h : Place) → g.shows l k h → k < length g.program.paths → i < g.objects k → slice_get g.scopes n ≡ Some (record { variable = g.numbers k i; outer = l.scope })
+      → g.shows (record { at = l.at; path = l.path; scope = n + 1 }) k (place h.at (local k i ∷ h.scope))
   pub parameters : (m i : ℕ) (t : IntType) → m < length g.program.paths → slice_get (function_of g.program m).parameters i ≡ Some t → HasKind g.program (local m i) (scalar t)
 
 -- ---- values that wait
@@ -288,6 +312,7 @@ pub record Loops (g : Whole) (k : ℕ) (h : Place) (x : Exits) (l : Loop) (p c e
   pub fits : IsLoop (around g k objects) mark l
   pub stage : Stage g k h (calls_in_loop l) draft (loop_from (context_of g k) h.at l x begin c e draft)
   pub marking : Marking x mark stage.marks
+  pub settled : LoopSettles (final g k) (context_of g k) l x begin c e draft
   pub calm : AreCalm draft.variables hs
   pub heads : ShowsAt g p k h
   pub begins : ShowsAt g begin k h
@@ -339,6 +364,7 @@ pub record Body (g : Whole) (k : ℕ) (x : Exits) (hs : List Held) : Type 0 wher
   pub calm : AreCalm draft.variables hs
   pub stage : Stage g k (place draft.here.at (body_scope g.program k)) (calls_in_items (block_of g.program k).items) draft (lowered_items (context_of g k) (block_of g.program k).items x draft)
   pub marking : Marking x mark stage.marks
+  pub settled : SettleAll (final g k) (context_of g k) (block_of g.program k).items x draft
   pub ended : Ended g k x (lowered_items (context_of g k) (block_of g.program k).items x draft).point hs
 
 -- The body of a path stands in the graph: from where the path is entered to its exit.
@@ -353,6 +379,7 @@ pub record BodyOf (g : Whole) (m : ℕ) : Type 0 where
   pub fits : AreItems (around g m objects) mark (block_of g.program m).items
   pub stage : Stage g m (place draft.here.at (body_scope g.program m)) (calls_in_items (block_of g.program m).items) draft (lowered_items (context_of g m) (block_of g.program m).items exits draft)
   pub marking : Marking exits mark stage.marks
+  pub settled : SettleAll (final g m) (context_of g m) (block_of g.program m).items exits draft
   pub ended : (hs : List Held) → AreCalm draft.variables hs → Ended g m exits (lowered_items (context_of g m) (block_of g.program m).items exits draft).point hs
 
 abbrev pub BodiesStand : Whole → Type 0
@@ -378,6 +405,7 @@ abbrev mutual
   pub LaidAhead : Whole → (k : ℕ) → Exits → Ahead → (p : ℕ) → List Held → Type 0
   LaidAhead g k x (Rest xs is a) p hs = (d : Draft) × (n : ℕ) × (m : Marks) × (d.point ≡ p) × AreItems (around g k n) m is × AreCalm d.variables hs
       × (s : Stage g k (place d.here.at xs) (calls_in_items is) d (lowered_items (context_of g k) is x d)) × Marking x m s.marks
+      × SettleAll (final g k) (context_of g k) is x d
       × LaidAhead g k x a (lowered_items (context_of g k) is x d).point hs
   LaidAhead g k x (Join h a) p hs = (q : ℕ) × Among (edge p Skip q) g.edges × ShowsAt g q k h × LaidAhead g k x a q hs
   LaidAhead g k x (Again h l e a) p hs = (y : Exits) × (b : ℕ) × Among (edge p Skip x.continued) g.edges × ShowsAt g x.continued k h × (x ≡ inside x.broken x.continued y)
@@ -391,9 +419,11 @@ abbrev mutual
   Laid g k h x (Go a) p hs = ArePlain hs × LaidAhead g k x a p hs
   Laid g k h x (Do s a) p hs = (d : Draft) × (n : ℕ) × (m : Marks) × (d.point ≡ p) × IsStatement (around g k n) m s × AreCalm d.variables hs
       × (t : Stage g k (place d.here.at h.scope) (calls_in_statement s) d (lowered (context_of g k) s x d)) × Marking x m t.marks
+      × Settles (final g k) (context_of g k) s x d
       × LaidAhead g k x a (lowered (context_of g k) s x d).point hs
   Laid g k h x (Declare ds w) p hs = (d : Draft) × (n : ℕ) × (d.point ≡ p) × AreDeclared (around g k n) ds × AreCalm d.variables hs
       × Stage g k (place d.here.at h.scope) (calls_in_all_declared ds) d (all_declared (context_of g k) ds d)
+      × AreAllSettled (final g k) (context_of g k) ds d
       × Laid g k (place_after g.program k ds h) x w (all_declared (context_of g k) ds d).point hs
   Laid g k h x (Perform e w) p hs = (d : Draft) × (n : ℕ) × (d.point ≡ p) × IsEffect (around g k n) e × AreQuiet (makes_effect e) d.variables hs
       × Stage g k h (calls_in_effect e) d (performed (context_of g k) e d) × Laid g k h x w (performed (context_of g k) e d).point hs
@@ -412,7 +442,7 @@ abbrev mutual
   Laid g k h x (Convert t w) p hs = OnTop hs (λ a rest. Laid g k h x w p (held (conversion a.int_type t a.tree) t ∷ rest))
   Laid g k h x (Settle t w) p hs = OnTop hs (λ a rest. (q : ℕ) × (n : ℕ) × Sets g p (temporary n) (Set (temporary n) (conversion a.int_type t a.tree)) q rest
       × Laid g k h x w q (in_temporary n t ∷ rest))
-  Laid g k h x (Truth z w) p hs = (q : ℕ) × (n : ℕ) × Sets g p (temporary n) (Set (temporary n) (constant Int z)) q hs × Laid g k h x w q (in_temporary n Int ∷ hs)
+  Laid g k h x (Truth z w) p hs = (q : ℕ) × (n : ℕ) × Sets g p (temporary n) (Set (temporary n) (constant Int z)) q hs × InType Int z × Laid g k h x w q (in_temporary n Int ∷ hs)
   -- a variable or constant is dropped at once
   Laid g k h x (Drop w) p hs = OnTop hs (λ a rest. (IsPlain a.tree × Laid g k h x w p rest) ⊎ ((q : ℕ) × (n : ℕ) × Writes g k h p (temporary n) (Set (temporary n) a.tree) q rest × Laid g k h x w q rest))
   Laid g k h x (Assign t y w) p hs = OnTop hs (λ a rest. (q : ℕ) × IsScalar g y t × Writes g k h p (own y) (Set (own y) (conversion a.int_type t a.tree)) q rest
@@ -455,7 +485,8 @@ abbrev mutual
   Laid g k h x (Choose t zs i b s j a) p hs = OnTop hs (λ v rest. (d : Draft) × (n : ℕ) × (m : Marks) × (r : Site) × (total : ℕ) × (e : ℕ) × (d.point ≡ p) × (v.int_type ≡ t) × (total ≡ i + length zs)
       × IsStatement (around g k n) (WellTyped.in_switch total b m) s × AreCalm d.variables (v ∷ rest)
       × (u : Stage g k j (calls_in_statement s) d (switch_from (context_of g k) r t v.tree zs i total e b s x d))
-      × Marking (in_switch e total x) (WellTyped.in_switch total b m) u.marks × ShowsAt g e k j × LaidAhead g k x a e rest)
+      × Marking (in_switch e total x) (WellTyped.in_switch total b m) u.marks
+      × Settles (final g k) (context_of g k) s (in_switch e total x) (away (if b then e + 1 + total else e) (case_tests r t v.tree zs (e + 1 + i) d)) × ShowsAt g e k j × LaidAhead g k x a e rest)
 
 -- The configuration stands at a point with a memory: the graph does its work from there, and has its objects.
 pub record StandsAt (g : Whole) (c : Config) (p : ℕ) (m : Memory) : Type 0 where

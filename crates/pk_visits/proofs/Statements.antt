@@ -1,25 +1,25 @@
 -- From the work of a statement to that of its parts.
-use Rattle.std.proofs.Common.{ℕ, List, [], refl, sym, subst, inr, arith}
+use Rattle.std.proofs.Common.{ℕ, List, refl, sym, subst, inr, arith, inl}
 use Rattle.pk_ctypes.specs.declared.places.Pos.{Pos}
-use Rattle.pk_typed.specs.Trees.{ValueTree, EffectTree, StatementTree, ItemTrees}
+use Rattle.pk_typed.specs.Trees.{EffectTree, StatementTree, ItemTrees}
 use Rattle.pk_typed.specs.Trees as tree
 use Rattle.pk_welltyped.specs.Listed.{calls_in_effect, calls_in_statement, calls_in_items}
 use Rattle.pk_welltyped.specs.WellTyped.{IsStatement, AreItems}
-use Rattle.pk_graph.specs.Trees.{Skip}
 use Rattle.pk_draft.specs.declared.drafts.Label.{Label}
 use Rattle.pk_draft.specs.Drafts.{on, in_scope}
 use Rattle.pk_lower_statement.specs.declared.statements.Exits.{Exits}
 use Rattle.pk_lower_statement.specs.Statements.{lowered, lowered_items}
 use Rattle.pk_meaning.specs.Objects.{Scope}
 use Rattle.pk_meaning.specs.Work as work
-use Rattle.pk_meaning.specs.Work.{Place, Work, Ahead, Onward}
+use Rattle.pk_meaning.specs.Work.{Place, Ahead}
 use Rattle.pk_meaning.specs.Steps.{place}
-use Rattle.pk_visits.proofs.Slots.{Slot, Draft, Memory, Among, edge, last_among}
-use Rattle.pk_visits.proofs.Stands.{Whole, Proper, context_of, Held, ShowsAt, led_to, LaidAhead, Laid}
-use Rattle.pk_visits.proofs.Stages.{In, all_called, part_first, part_second, part_until, stage_at}
-use Rattle.pk_visits.proofs.StatementGrows.{Stays, OnPath, statement, block}
+use Rattle.pk_visits.proofs.Stands.{Whole, Proper, context_of, Held, LaidAhead, Laid, IsCalled}
+use Rattle.pk_visits.proofs.Settled.{Settles, SettleAll}
+use Rattle.pk_visits.proofs.Stages.{In, all_called, part_first, part_second, part_until, stage_at, forth_here, forth_first}
+use Rattle.pk_visits.proofs.StatementGrows.{Stays, OnPath, statement, block, Free}
 use Rattle.pk_visits.proofs.Operands.{calm_more}
 use Rattle.pk_visits.proofs.Doom.{calm_plain}
+use Rattle.pk_visits.proofs.Slots.{Uncalled}
 
 -- ---- places
 
@@ -33,21 +33,21 @@ shows_on g proper k xs l m s h =
 
 pub block_laid : (g : Whole) (k : ℕ) (h : Place) (x : Exits) (p : Pos) (is : ItemTrees) (a : Ahead) (pt : ℕ) (hs : List Held) → Laid g k h x (work.Do (tree.block p is) a) pt hs
     → Laid g k h x (work.Go (work.Rest h.scope is a)) pt hs
-unfolding lowered IsStatement calls_in_statement
-block_laid g k h x p is a pt hs (d, n, m, at', fits, calm, s, marking, l) =
-    (calm_plain d.variables hs calm, (d, n, m, at', fits, calm, part_until g OnPath k _ _ d (lowered_items (context_of g k) is x d) _ s unscoped, marking, l)) where
-      unscoped : Rattle.pk_visits.proofs.Slots.Keeps OnPath (In s.marks) (In []) (lowered_items (context_of g k) is x d) (in_scope d.here.scope (lowered_items (context_of g k) is x d))
-      unscoped = record { edges = λ e z. z; names = refl; variables = omega arith; points = omega arith; size = refl; labels = λ q z. inr refl; regions = λ j. inr refl; paths = refl; scopes = λ n z h. h; here = refl }
+unfolding lowered IsStatement calls_in_statement Settles
+block_laid g k h x p is a pt hs (d, n, m, at', fits, calm, s, marking, settled, l) =
+    (calm_plain d.variables hs calm, (d, n, m, at', fits, calm, part_until g OnPath k _ _ d (lowered_items (context_of g k) is x d) _ s unscoped, marking, settled, l)) where
+      unscoped : Rattle.pk_visits.proofs.Slots.Keeps OnPath (In s.marks) Free Uncalled (lowered_items (context_of g k) is x d) (in_scope d.here.scope (lowered_items (context_of g k) is x d))
+      unscoped = record { edges = λ e z. z; names = refl; variables = omega arith; points = omega arith; size = refl; labels = λ q z. inr refl; beyond = λ q z. inr refl; regions = λ j. inr refl; apart = λ m o w. inl refl; paths = refl; scopes = λ n z h. h; here = refl; many = refl; made = λ n z. refl; unmade = λ n z. refl; slots = refl; objects = λ n. inr refl }
 
 -- the next statement of a block, behind which is the rest
 pub next_laid : (g : Whole) (proper : Proper g) (k : ℕ) (h : Place) (x : Exits) (xs : Scope) (s : StatementTree) (is : ItemTrees) (a : Ahead) (p : ℕ) (hs : List Held) (q : Pos)
     → Laid g k h x (work.Go (work.Rest xs (tree.statement_before s is) a)) p hs → Laid g k (place q xs) x (work.Do s (work.Rest xs is a)) p hs
-unfolding lowered_items AreItems calls_in_items
-next_laid g proper k h x xs s is a p hs q (plain, (d, n, m, at', fits, calm, t, marking, l)) =
+unfolding lowered_items AreItems calls_in_items SettleAll
+next_laid g proper k h x xs s is a p hs q (plain, (d, n, m, at', fits, calm, t, marking, settled, l)) =
     let c = context_of g k in
     let e = lowered c s x d in
-    let rest = block (In (led_to c (calls_in_items is))) c _ m is x t.marks fits.1 marking (all_called c (calls_in_items is)) e in
-    let first = statement (In (led_to c (calls_in_statement s))) c _ m s x t.marks fits.0 marking (all_called c (calls_in_statement s)) d in
+    let rest = block (IsCalled c (calls_in_items is)) c _ m is x t.marks Free (λ i o. tt) fits.1 marking (all_called c (calls_in_items is)) e in
+    let first = statement (IsCalled c (calls_in_statement s)) c _ m s x t.marks Free (λ i o. tt) fits.0 marking (all_called c (calls_in_statement s)) d in
     let le = first.points in
     let lv = first.variables in (
       d,
@@ -58,6 +58,7 @@ next_laid g proper k h x xs s is a p hs q (plain, (d, n, m, at', fits, calm, t, 
       calm,
       part_first g OnPath k _ (calls_in_statement s) (calls_in_items is) d e (lowered_items c is x e) t rest,
       marking,
+      settled.0,
       (
         e,
         _,
@@ -65,31 +66,25 @@ next_laid g proper k h x xs s is a p hs q (plain, (d, n, m, at', fits, calm, t, 
         refl,
         fits.1,
         calm_more d.variables e.variables hs lv calm,
-        part_second g k _ (place e.here.at xs) (calls_in_statement s) (calls_in_items is) d e (lowered_items c is x e) t le (shows_on g proper k xs d.here e.here t.here first.here),
+        part_second g k _ (place e.here.at xs) (calls_in_statement s) (calls_in_items is) d e (lowered_items c is x e) t (forth_first g k (place d.here.at xs) (calls_in_statement s) (calls_in_items is) d (lowered_items c is x e) t first) (shows_on g proper k xs d.here e.here t.here first.here),
         marking,
+        settled.1,
         l,
       ),
     )
 
 pub none_laid : (g : Whole) (k : ℕ) (h : Place) (x : Exits) (xs : Scope) (a : Ahead) (p : ℕ) (hs : List Held) → Laid g k h x (work.Go (work.Rest xs tree.no_items a)) p hs → Laid g k h x (work.Go a) p hs
 unfolding lowered_items
-none_laid g k h x xs a p hs (plain, (d, n, m, at', fits, calm, t, marking, l)) = (plain, subst (λ q. LaidAhead g k x a q hs) at' l)
+none_laid g k h x xs a p hs (plain, (d, n, m, at', fits, calm, t, marking, settled, l)) = (plain, subst (λ q. LaidAhead g k x a q hs) at' l)
 
 -- ---- statements of one expression
 
 pub empty_laid : (g : Whole) (k : ℕ) (h : Place) (x : Exits) (p : Pos) (a : Ahead) (pt : ℕ) (hs : List Held) → Laid g k h x (work.Do (tree.empty p) a) pt hs → Laid g k h x (work.Go a) pt hs
 unfolding lowered
-empty_laid g k h x p a pt hs (d, n, m, at', fits, calm, s, marking, l) = (calm_plain d.variables hs calm, subst (λ q. LaidAhead g k x a q hs) at' l)
+empty_laid g k h x p a pt hs (d, n, m, at', fits, calm, s, marking, settled, l) = (calm_plain d.variables hs calm, subst (λ q. LaidAhead g k x a q hs) at' l)
 
 pub effect_laid : (g : Whole) (proper : Proper g) (k : ℕ) (h : Place) (x : Exits) (p : Pos) (e : EffectTree) (a : Ahead) (pt : ℕ) (hs : List Held) → Laid g k h x (work.Do (tree.effect p e) a) pt hs
     → Laid g k (place p h.scope) x (work.Perform e (work.Go a)) pt hs
 unfolding lowered IsStatement calls_in_statement
-effect_laid g proper k h x p e a pt hs (d, n, m, at', fits, calm, s, marking, l) =
-    (on p d, n, at', fits, (λ q. calm), stage_at g k _ (place p h.scope) (calls_in_effect e) d (on p d) _ s (omega arith) (proper.positions d.here k h.scope p s.here), (calm_plain d.variables hs calm, l))
-
--- ---- labels
-
--- an edge to a mark, which shows its place
-record Comes (g : Whole) (k : ℕ) (p : Pos) (xs : Scope) (pt q : ℕ) : Type 0 where
-  pub there : Among (edge pt Skip q) g.edges
-  pub shown : ShowsAt g q k (place p xs)
+effect_laid g proper k h x p e a pt hs (d, n, m, at', fits, calm, s, marking, settled, l) =
+    (on p d, n, at', fits, (λ q. calm), stage_at g k _ (place p h.scope) (calls_in_effect e) d (on p d) _ s (forth_here g d.points d.regions) (proper.positions d.here k h.scope p s.here), (calm_plain d.variables hs calm, l))

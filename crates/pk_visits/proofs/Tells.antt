@@ -16,6 +16,7 @@ use Rattle.pk_graph.specs.declared.trees.Site.{Site}
 use Rattle.pk_graph.specs.Trees.{constant, variable, unary, binary}
 use Rattle.pk_draft.specs.Drafts.{Given, Names, at, fresh, with_temporary, next_temporary, object_number}
 use Rattle.pk_draft.specs.Folding.{conversion, kept_if, folded, unary_tree, binary_tree, right_type}
+use Rattle.pk_draft.specs.declared.drafts.Size.{Size}
 use Rattle.pk_lower_row.specs.declared.shapes.Shape.{Shape}
 use Rattle.pk_lower_row.specs.declared.shapes.Shape.TheVariants.{Fixed, Temporary, Named, Other}
 use Rattle.pk_lower_row.specs.declared.shapes.Waiting.{Waiting}
@@ -149,12 +150,12 @@ named_tells m c x d n = (object_of c.path x, ap variable (variable_is c x d n))
 
 -- ---- expressions
 
-pub any_called : (c : Context) (xs : List Numbered) → AllCalled (λ k. Unit {0}) c xs
+pub any_called : (c : Context) (xs : List Numbered) → AllCalled (λ k s. Unit {0}) c xs
 any_called c [] = tt
 any_called c (x ∷ xs) = (tt, any_called c xs)
 
-abbrev pub Any : ℕ → Type 0
-Any k = Unit {0}
+abbrev pub Any : ℕ → Size → Type 0
+Any k s = Unit {0}
 
 pub sane : (c : Context) (e : ValueTree) → WaysGrow Any (ways c e)
 sane c e = values Any c e (any_called c (calls_in e))

@@ -6,17 +6,18 @@ use Rattle.pk_typed.specs.Trees as tree
 use Rattle.pk_welltyped.specs.Listed.{Numbered, calls_if, calls_in_effect_if, calls_in_statement}
 use Rattle.pk_graph.specs.Trees.{Skip}
 use Rattle.pk_draft.specs.Drafts.{on, at, link, go, in_scope}
+use Rattle.pk_draft.specs.declared.drafts.Size.{Size}
 use Rattle.pk_lower_statement.specs.declared.statements.Exits.{Exits}
 use Rattle.pk_lower_statement.specs.Statements.{inside, for_test, performed_if, lowered}
 use Rattle.pk_meaning.specs.Work as work
 use Rattle.pk_meaning.specs.Work.{Place, Work, Ahead, For, Onward}
 use Rattle.pk_meaning.specs.Steps as meaning
 use Rattle.pk_meaning.specs.Steps.{place}
-use Rattle.pk_visits.proofs.Slots.{Draft, Among, edge, last_among, front_among}
-use Rattle.pk_visits.proofs.Stands.{Whole, Proper, context_of, Held, around, ArePlain, ShowsAt, Distinct, Stage, led_to, Loops, LaidAhead, LaidWay, Laid}
-use Rattle.pk_visits.proofs.Stages.{In, all_called, back_among, among_front, among_back, among_either, distinct_front, distinct_back, distinct_between, led_both, part_first, part_second, part_until}
+use Rattle.pk_visits.proofs.Slots.{Draft, Among, edge, last_among, front_among, Uncalled}
+use Rattle.pk_visits.proofs.Stands.{Whole, Proper, context_of, Held, around, ArePlain, ShowsAt, Distinct, Stage, led_to, Loops, LaidAhead, LaidWay, Laid, IsCalled}
+use Rattle.pk_visits.proofs.Stages.{all_called, back_among, among_front, among_back, among_either, distinct_front, distinct_back, distinct_between, led_both, part_first, part_second, part_until, forth_all, forth_first}
 use Rattle.pk_visits.proofs.Growing.{front_called, back_called}
-use Rattle.pk_visits.proofs.StatementGrows.{Stays, OnPath, Adds, Enlarges, enlarges, stays_then, path_then, on_adds, link_adds, test_adds, third_adds, scoped_adds, statement, marking_inside}
+use Rattle.pk_visits.proofs.StatementGrows.{Stays, OnPath, Adds, Enlarges, enlarges, stays_then, path_then, on_adds, link_adds, test_adds, third_adds, scoped_adds, statement, marking_inside, Free}
 use Rattle.pk_visits.proofs.Operands.{calm_more}
 use Rattle.pk_visits.proofs.Statements.{shows_on}
 use Rattle.pk_visits.proofs.Rounds.{again, again_while, again_do}
@@ -67,6 +68,8 @@ stage_other g k h xs ys zs d e s = record {
   later = s.later;
   leads = s.leads;
   bounded = s.bounded;
+  free = s.free;
+  spans = λ z a. s.spans z (other_order xs ys zs z a);
   here = s.here;
   apart = λ m a. s.apart m (subst (Among m) (sym first) (other_order (led xs) (led ys) (led zs) m (subst (Among m) second a)));
   distinct = subst Distinct (sym second) (distinct_other (led xs) (led ys) (led zs) (subst Distinct first s.distinct));
@@ -85,24 +88,24 @@ stage_other g k h xs ys zs d e s = record {
 -- ---- the drafts of a `for`
 
 -- in another block's scope
-pub scope_enlarges : (ms : List ℕ) (C : ℕ → Type 0) (n : ℕ) (d : Draft) → Enlarges ms C d (in_scope n d)
-scope_enlarges ms C n d = record { edges = λ e z. z; names = refl; variables = omega arith; points = omega arith; size = refl; labels = λ q z. inr refl; regions = λ j. inr refl; paths = refl; scopes = λ n z h. h; here = refl }
+pub scope_enlarges : (ms : List ℕ) (C : ℕ → Size → Type 0) (n : ℕ) (d : Draft) → Enlarges ms Free C d (in_scope n d)
+scope_enlarges ms C n d = record { edges = λ e z. z; names = refl; variables = omega arith; points = omega arith; size = refl; labels = λ q z. inr refl; beyond = λ q z. inr refl; regions = λ j. inr refl; apart = λ m o w. inl refl; paths = refl; scopes = λ n z h. h; here = refl; many = refl; made = λ n z. refl; unmade = λ n z. refl; slots = refl; objects = λ n. inr refl }
 
 -- behind the way from the body's end: the third part, and back
 after_link : (g : Whole) (k : ℕ) (ms : List ℕ) (h : Place) (third : Option EffectTree) (n q : ℕ) (r : Draft)
-    → Enlarges ms (In (led_to (context_of g k) (calls_in_effect_if third))) r (go Skip q (performed_if (context_of g k) third (in_scope n (on h.at r))))
+    → Enlarges ms Free (IsCalled (context_of g k) (calls_in_effect_if third)) r (go Skip q (performed_if (context_of g k) third (in_scope n (on h.at r))))
 after_link g k ms h third n q r =
     let c = context_of g k in
-    let C = In (led_to c (calls_in_effect_if third)) in
+    let C = IsCalled c (calls_in_effect_if third) in
     let u = in_scope n (on h.at r) in
     let v = performed_if c third u in
-    path_then (enlarges ms C r (on h.at r) (on_adds ms C h.at r)) (path_then (scope_enlarges ms C n (on h.at r))
-    (enlarges ms C u (go Skip q v) (stays_then (third_adds ms C c third (all_called_if c third) u) (link_adds ms C Skip q v)))) where
-      all_called_if : (c : Rattle.pk_lower_row.specs.Contexts.Context) (t : Option EffectTree) → Rattle.pk_visits.proofs.Growing.AllCalled (In (led_to c (calls_in_effect_if t))) c (calls_in_effect_if t)
+    path_then (enlarges ms Free C r (on h.at r) (on_adds ms Free C h.at r)) (path_then (scope_enlarges ms C n (on h.at r))
+    (enlarges ms Free C u (go Skip q v) (stays_then (third_adds ms Free C c third (all_called_if c third) u) (link_adds ms Free C Skip q v)))) where
+      all_called_if : (c : Rattle.pk_lower_row.specs.Contexts.Context) (t : Option EffectTree) → Rattle.pk_visits.proofs.Growing.AllCalled (IsCalled c (calls_in_effect_if t)) c (calls_in_effect_if t)
       all_called_if c t = all_called c (calls_in_effect_if t)
 
 -- the test of a `for` where it begins again, and its body
-for_parts : (g : Whole) (proper : Proper g) (k : ℕ) (h : Place) (x : Exits) (v : Option ValueTree) (third : Option EffectTree) (s : StatementTree) (o : Place) (a : Ahead) (p c b : ℕ) (hs : List Held)
+pub for_parts : (g : Whole) (proper : Proper g) (k : ℕ) (h : Place) (x : Exits) (v : Option ValueTree) (third : Option EffectTree) (s : StatementTree) (o : Place) (a : Ahead) (p c b : ℕ) (hs : List Held)
     → (loop : Loops g k h x (For v third s) p c b hs) → ShowsAt g b k o → LaidAhead g k x a b hs
     → Stage g k h (calls_if v) loop.draft (for_test (context_of g k) v loop.begin b loop.draft) × Laid g k h (inside b c x) (work.Do s (work.Again h (For v third s) o a)) loop.begin hs
 for_parts g proper k h x v third s o a p c b hs loop shown z =
@@ -114,26 +117,26 @@ for_parts g proper k h x v third s o a p c b hs loop shown z =
     let r = go Skip c d2 in
     let f = go Skip d.point (performed_if ctx third (in_scope d.here.scope (on h.at r))) in
     let t = stage_other g k h (calls_if v) (calls_in_effect_if third) (calls_in_statement s) d f loop.stage in
-    let three = led_to ctx (calls_in_effect_if third) in
+    let three = IsCalled ctx (calls_in_effect_if third) in
     let both = calls_in_statement s ++ calls_in_effect_if third in
-    let C = In (led_to ctx both) in
+    let C = IsCalled ctx both in
     let marks = marking_inside x loop.mark t.marks b c loop.marking in
-    let test = test_adds t.marks (In (led_to ctx (calls_if v))) ctx v (all_called ctx (calls_if v)) loop.begin b d in
+    let test = test_adds t.marks Free (IsCalled ctx (calls_if v)) ctx v (all_called ctx (calls_if v)) loop.begin b d in
     let behind = after_link g k t.marks h third d.here.scope d.point r in
-    let after : Enlarges t.marks (In three) d2 f = path_then (enlarges t.marks (In three) d2 r (link_adds t.marks (In three) Skip c d2)) behind in
-    let body = statement C ctx _ loop.mark s w t.marks loop.fits.2 marks (front_called C ctx (calls_in_statement s) (calls_in_effect_if third) (all_called ctx both)) (at loop.begin d1) in
+    let after : Enlarges t.marks Free three d2 f = path_then (enlarges t.marks Free three d2 r (link_adds t.marks Free three Skip c d2)) behind in
+    let body = statement C ctx _ loop.mark s w t.marks Free (λ i o. tt) loop.fits.2 marks (front_called C ctx (calls_in_statement s) (calls_in_effect_if third) (all_called ctx both)) (at loop.begin d1) in
     let third_called = back_called C ctx (calls_in_statement s) (calls_in_effect_if third) (all_called ctx both) in
     let u = in_scope d.here.scope (on h.at r) in
-    let end : Enlarges t.marks C r f = path_then (enlarges t.marks C r (on h.at r) (on_adds t.marks C h.at r)) (path_then (scope_enlarges t.marks C d.here.scope (on h.at r))
-    (enlarges t.marks C u f (stays_then (third_adds t.marks C ctx third third_called u) (link_adds t.marks C Skip d.point (performed_if ctx third u))))) in
-    let rest : Enlarges t.marks C d1 f = path_then (enlarges t.marks C d1 r (stays_then body (link_adds t.marks C Skip c d2))) end in
+    let end : Enlarges t.marks Free C r f = path_then (enlarges t.marks Free C r (on h.at r) (on_adds t.marks Free C h.at r)) (path_then (scope_enlarges t.marks C d.here.scope (on h.at r))
+    (enlarges t.marks Free C u f (stays_then (third_adds t.marks Free C ctx third third_called u) (link_adds t.marks Free C Skip d.point (performed_if ctx third u))))) in
+    let rest : Enlarges t.marks Free C d1 f = path_then (enlarges t.marks Free C d1 r (stays_then body (link_adds t.marks Free C Skip c d2))) end in
     let se = part_first g OnPath k h (calls_if v) both d d1 f t rest in
     let first = subst (λ q. g.shows d.here k (place q h.scope)) (proper.at_positions d.here k h t.here) t.here in
-    let ss = part_second g k h (place d1.here.at h.scope) (calls_if v) both d (at loop.begin d1) f t test.points (shows_on g proper k h.scope d.here d1.here first test.here) in
+    let ss = part_second g k h (place d1.here.at h.scope) (calls_if v) both d (at loop.begin d1) f t (forth_first g k h (calls_if v) both d f t test) (shows_on g proper k h.scope d.here d1.here first test.here) in
     let sd = part_first g OnPath k (place d1.here.at h.scope) (calls_in_statement s) (calls_in_effect_if third) (at loop.begin d1) d2 f ss after in
     let ve = test.variables in
     let there = t.leads.edges _ (behind.edges _ (last_among d2.edges (edge d2.point Skip c))) in
-    (se, (at loop.begin d1, loop.objects, loop.mark, refl, loop.fits.2, calm_more d.variables d1.variables hs ve loop.calm, sd, marks, again g k h x (For v third s) o a p c b d2.point hs loop tt there shown z))
+    (se, (at loop.begin d1, loop.objects, loop.mark, refl, loop.fits.2, calm_more d.variables d1.variables hs ve loop.calm, sd, marks, loop.settled, again g k h x (For v third s) o a p c b d2.point hs loop tt there shown z))
 
 -- a `for` where it begins again: its test, then the body or what is behind
 pub turn_for : (g : Whole) (proper : Proper g) (k : ℕ) (h i : Place) (x : Exits) (e : ValueTree) (third : Option EffectTree) (s : StatementTree) (o : Place) (a : Ahead) (p : ℕ) (hs : List Held)
@@ -178,24 +181,24 @@ third_laid g proper k h x v third s o a p hs plain (y, b, there, shown, same, lo
   first : g.shows d.here k (place d.here.at h.scope)
   first = subst (λ q. g.shows d.here k (place q h.scope)) (proper.at_positions d.here k h t.here) t.here
 
-  C : ℕ → Type 0
-  C = In (led_to (context_of g k) (calls_if v ++ (calls_in_statement s ++ calls_in_effect_if third)))
+  C : ℕ → Size → Type 0
+  C = IsCalled (context_of g k) (calls_if v ++ (calls_in_statement s ++ calls_in_effect_if third))
 
-  test : Adds t.marks C d d1
-  test = test_adds t.marks C (context_of g k) v (front_called C (context_of g k) (calls_if v) (calls_in_statement s ++ calls_in_effect_if third) (all_called (context_of g k) _)) loop.begin x.broken d
+  test : Adds t.marks Free C d d1
+  test = test_adds t.marks Free C (context_of g k) v (front_called C (context_of g k) (calls_if v) (calls_in_statement s ++ calls_in_effect_if third) (all_called (context_of g k) _)) loop.begin x.broken d
 
-  body : Adds t.marks C d1 d2
-  body = statement C (context_of g k) _ loop.mark s (inside x.broken c y) t.marks loop.fits.2 (marking_inside y loop.mark t.marks x.broken c loop.marking)
+  body : Adds t.marks Free C d1 d2
+  body = statement C (context_of g k) _ loop.mark s (inside x.broken c y) t.marks Free (λ i o. tt) loop.fits.2 (marking_inside y loop.mark t.marks x.broken c loop.marking)
       (front_called C (context_of g k) (calls_in_statement s) (calls_in_effect_if third) (back_called C (context_of g k) (calls_if v) (calls_in_statement s ++ calls_in_effect_if third) (all_called (context_of g k) _))) (at loop.begin d1)
 
-  round : Adds t.marks C d u
-  round = scoped_adds t.marks C 0 d (on h.at (go Skip c d2)) (stays_then test (stays_then body (stays_then (link_adds t.marks C Skip c d2) (on_adds t.marks C h.at (go Skip c d2)))))
+  round : Adds t.marks Free C d u
+  round = scoped_adds t.marks Free C 0 d (on h.at (go Skip c d2)) (stays_then test (stays_then body (stays_then (link_adds t.marks Free C Skip c d2) (on_adds t.marks Free C h.at (go Skip c d2)))))
 
   stands : Stage g k h (calls_in_effect_if third) u (go Skip d.point (performed_if (context_of g k) third u))
   stands =
-      let rest = stays_then body (stays_then (link_adds t.marks C Skip c d2) (on_adds t.marks C h.at (go Skip c d2))) in
-      let ss = part_second g k h (place d1.here.at h.scope) (calls_if v) (calls_in_statement s ++ calls_in_effect_if third) d d1 (go Skip d.point (performed_if (context_of g k) third u)) t test.points (shows_on g proper k h.scope d.here d1.here first test.here) in
-      part_second g k (place d1.here.at h.scope) h (calls_in_statement s) (calls_in_effect_if third) d1 u (go Skip d.point (performed_if (context_of g k) third u)) ss rest.points (shows_on g proper k h.scope d.here u.here first round.here)
+      let rest = stays_then body (stays_then (link_adds t.marks Free C Skip c d2) (on_adds t.marks Free C h.at (go Skip c d2))) in
+      let ss = part_second g k h (place d1.here.at h.scope) (calls_if v) (calls_in_statement s ++ calls_in_effect_if third) d d1 (go Skip d.point (performed_if (context_of g k) third u)) t (forth_all g k h (calls_if v ++ (calls_in_statement s ++ calls_in_effect_if third)) d (go Skip d.point (performed_if (context_of g k) third u)) t test) (shows_on g proper k h.scope d.here d1.here first test.here) in
+      part_second g k (place d1.here.at h.scope) h (calls_in_statement s) (calls_in_effect_if third) d1 u (go Skip d.point (performed_if (context_of g k) third u)) ss (forth_all g k h (calls_if v ++ (calls_in_statement s ++ calls_in_effect_if third)) d (go Skip d.point (performed_if (context_of g k) third u)) t rest) (shows_on g proper k h.scope d.here u.here first round.here)
 
   by : (w : Option EffectTree) → w ≡ third → Laid g k h y (meaning.performed_if w (work.Back h (For v third s) o a)) c hs
   by None e = back u (t.leads.edges _ (subst (λ (w : Option EffectTree). Among (edge c Skip d.point) (link Skip d.point (performed_if (context_of g k) w u)).edges) e (last_among u.edges (edge c Skip d.point))))
@@ -209,7 +212,7 @@ third_laid g proper k h x v third s o a p hs plain (y, b, there, shown, same, lo
         refl,
         fits,
         (λ q. calm_more d.variables u.variables hs vr loop.calm),
-        part_until g Stays k h (calls_in_effect_if (Some q)) u w (go Skip d.point w) st (link_adds st.marks (In []) Skip d.point w),
+        part_until g Stays k h (calls_in_effect_if (Some q)) u w (go Skip d.point w) st (link_adds st.marks Free Uncalled Skip d.point w),
         back w (st.leads.edges _ (last_among w.edges (edge w.point Skip d.point))),
       )
 
@@ -223,7 +226,7 @@ resumed_laid g proper k h x (work.DoWhile s e) o a p hs plain l = again_do g pro
 resumed_laid g proper k h x (For v third s) o a p hs plain l = third_laid g proper k h x v third s o a p hs plain l
 
 continued_laid : (g : Whole) (proper : Proper g) (k : ℕ) (x : Exits) (a : Ahead) (p : ℕ) (hs : List Held) → ArePlain hs → LaidAhead g k x a p hs → LaidWay g k (meaning.continued a) x.continued hs
-continued_laid g proper k x (work.Rest xs is a) p hs plain (d, n, m, is', fits, calm, s, marking, l) = continued_laid g proper k x a _ hs plain l
+continued_laid g proper k x (work.Rest xs is a) p hs plain (d, n, m, is', fits, calm, s, marking, settled, l) = continued_laid g proper k x a _ hs plain l
 continued_laid g proper k x (work.Join h a) p hs plain (q, there, shown, l) = continued_laid g proper k x a q hs plain l
 continued_laid g proper k x (work.Again h u o a) p hs plain l = (l.3, resumed_laid g proper k h x u o a p hs plain l)
 continued_laid g proper k x (work.Close h a) p hs plain (y, there, shown, same, l) =
@@ -234,5 +237,5 @@ continued_laid g proper k x (work.End c) p hs plain l = tt
 pub continue_laid : (g : Whole) (proper : Proper g) (k : ℕ) (h : Place) (x : Exits) (p : Pos) (a : Ahead) (pt : ℕ) (hs : List Held) → Laid g k h x (work.Do (tree.continue p) a) pt hs
     → Among (edge pt Skip x.continued) g.edges × LaidWay g k (meaning.continued a) x.continued hs
 unfolding lowered
-continue_laid g proper k h x p a pt hs (d, n, m, is, fits, calm, s, marking, l) =
+continue_laid g proper k h x p a pt hs (d, n, m, is, fits, calm, s, marking, settled, l) =
     (subst (λ q. Among (edge q Skip x.continued) g.edges) is (jump_edge g k _ _ p x.continued d s), continued_laid g proper k x a _ hs (calm_plain d.variables hs calm) l)

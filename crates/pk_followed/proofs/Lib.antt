@@ -1,0 +1,10 @@
+mod Paths
+mod Pairs
+mod Naming
+mod Graphs
+mod Copies
+mod Starts
+mod Propers
+mod PartAdds
+mod Pending
+mod Arguments
