@@ -9,6 +9,7 @@ use Rattle.pk_graph.specs.Trees.{Skip}
 use Rattle.pk_draft.specs.declared.drafts.Label.{Label}
 use Rattle.pk_draft.specs.Drafts.{on, at, fresh, link}
 use Rattle.pk_draft.specs.declared.drafts.Size.{Size}
+use Rattle.pk_lower_row.specs.Contexts.{callee, size_in}
 use Rattle.pk_lower_expression.specs.Expressions.{ways}
 use Rattle.pk_lower_statement.specs.declared.statements.Exits.{Exits}
 use Rattle.pk_lower_statement.specs.Statements.{meeting, lowered}
@@ -18,7 +19,7 @@ use Rattle.pk_meaning.specs.Steps.{place}
 use Rattle.pk_visits.proofs.Slots.{Draft, Among, edge, last_among, front_among, Uncalled}
 use Rattle.pk_visits.proofs.Stands.{Whole, Proper, context_of, Held, around, AreCalm, ShowsAt, Stage, led_to, Marking, LaidAhead, LaidWay, Laid, IsCalled}
 use Rattle.pk_visits.proofs.Settled.{Settles}
-use Rattle.pk_visits.proofs.Stages.{In, all_called, ways_grow, part_first, part_second, part_until, stage_at, part_point, part_room, fresh_first, fresh_second, fresh_one}
+use Rattle.pk_visits.proofs.Stages.{In, all_called, ways_grow, part_first, part_second, part_until, stage_at, part_point, part_room, fresh_first, fresh_second, fresh_one, forth_here, forth_none, forth_first, forth_second, forth_then}
 use Rattle.pk_visits.proofs.Grows.{fresh_one_grows}
 use Rattle.pk_visits.proofs.Tells.{sane, any_called, Any}
 use Rattle.pk_visits.proofs.StatementGrows.{Stays, Adds, adds, on_adds, stays_then, statement, choice_adds, link_adds, fresh_adds, nothing_adds, Free}
@@ -83,14 +84,15 @@ parts g proper k h choice a b p xs ys zs d s hc ha hb ac aa ab =
     let room = part_room g Stays (In s.marks) Any k _ (xs ++ ys ++ zs) d o f s from_o in
     let size = opens.size in
     let r : (on p d).points + 2 ≤ length (on p d).labels = omega (arith, room, size) in
-    let so = stage_at g k (place d.here.at h.scope) j (xs ++ ys ++ zs) d o f s (omega arith) (subst (λ (l : Label). g.shows l k j) (sym (Rattle.pk_visits.proofs.StatementGrows.fresh_grows Any 2 (on p d)).here) at_on) in
+    let so = stage_at g k (place d.here.at h.scope) j (xs ++ ys ++ zs) d o f s (forth_none g (fresh_adds s.marks Free Uncalled 2 (on p d))) (subst (λ (l : Label). g.shows l k j) (sym (Rattle.pk_visits.proofs.StatementGrows.fresh_grows Any 2 (on p d)).here) at_on) in
     let su = part_until g Stays k j (xs ++ ys ++ zs) o u f so (meeting_adds s.marks Uncalled p t.point u) in
     let st = part_first g Stays k j (xs ++ ys) zs o t u su hb in
     let test = part_first g Stays k j xs ys o c t st ha in
     let shows_c = shows_on g proper k h.scope (on p d).here c.here at_on (stays_then opens ac).here in
     let shows_t = shows_on g proper k h.scope (on p d).here t.here at_on (stays_then opens (stays_then ac aa)).here in
-    let first = part_second g k j (place c.here.at h.scope) xs ys o (at d.points c) t st hc.points shows_c in
-    let le = (stays_then ac aa).points in
+    let first = part_second g k j (place c.here.at h.scope) xs ys o (at d.points c) t st (forth_first g k j xs ys o t st hc) shows_c in
+    let le = forth_then g (forth_first g k j xs ys o t st hc) (forth_second g k j xs ys o t st ha) in
+    let all = forth_then g (forth_none g (fresh_adds s.marks Free Uncalled 2 (on p d))) (forth_then g le (forth_second g k j (xs ++ ys) zs o u su hb)) in
     let second = part_second g k j (place t.here.at h.scope) (xs ++ ys) zs o (at (d.points + 1) t) u su le shows_t in
     let e1 = fresh 1 (on p u) in
     let l1 = link Skip u.points (at t.point e1) in
@@ -105,13 +107,13 @@ parts g proper k h choice a b p xs ys zs d s hc ha hb ac aa ab =
       test = test;
       first = first;
       second = second;
-      first_marks = refl;
-      second_marks = refl;
-      yes = part_point g Stays Any k _ j (xs ++ ys ++ zs) d o f d.points (on p d).here s from_o (omega arith) (omega arith) (fresh_first (on p d) r) at_on;
-      no = part_point g Stays Any k _ j (xs ++ ys ++ zs) d o f (d.points + 1) (on p d).here s from_o (omega arith) (omega arith) (fresh_second (on p d) r) at_on;
+      first_marks = refl {a = s.marks};
+      second_marks = refl {a = s.marks};
+      yes = part_point g Stays Any k _ j (xs ++ ys ++ zs) d (on p d) o f d.points (on p d).here s (forth_here g d.points d.regions) refl from_o (omega arith) (omega arith) (fresh_first (on p d) r) at_on;
+      no = part_point g Stays Any k _ j (xs ++ ys ++ zs) d (on p d) o f (d.points + 1) (on p d).here s (forth_here g d.points d.regions) refl from_o (omega arith) (omega arith) (fresh_second (on p d) r) at_on;
       meets = s.leads.edges _ (front_among l1.edges _ _ (last_among e1.edges (edge t.point Skip u.points)));
       meets_too = s.leads.edges _ (last_among l1.edges (edge u.point Skip u.points));
-      join = part_point g Stays Any k _ j (xs ++ ys ++ zs) d e1 f u.points (on p u).here s from_e (omega (arith, lu)) (omega arith) (fresh_one (on p u) (omega (arith, room_e, size_e))) uj;
+      join = part_point g Stays Any k _ j (xs ++ ys ++ zs) d u e1 f u.points (on p u).here s all (refl {a = u.regions}) from_e (omega arith) (omega arith) (fresh_one (on p u) (omega (arith, room_e, size_e))) uj;
       more = v1;
       more_too = v2;
     }
@@ -189,6 +191,8 @@ with_none g k h xs d f s = record {
   later = s.later;
   leads = s.leads;
   bounded = s.bounded;
+  free = s.free;
+  spans = subst (λ ys. (z : Numbered) → Among z ys → (size_in g.sizes z.call.function).points ≡ g.spans (callee (context_of g k) z.number)) (sym (nothing_behind xs)) s.spans;
   here = s.here;
   apart = subst (λ ys. (m : ℕ) → Among m (led_to (context_of g k) ys) → Among m s.later → ⊥) (sym (nothing_behind xs)) s.apart;
   distinct = subst (λ ys. Rattle.pk_visits.proofs.Stands.Distinct (led_to (context_of g k) ys)) (sym (nothing_behind xs)) s.distinct;

@@ -27,8 +27,8 @@ use Rattle.pk_meaning.specs.Steps as meaning
 use Rattle.pk_visits.proofs.Slots.{Slot, Draft, Among, Grows, region_at}
 use Rattle.pk_visits.proofs.Grows.{grows_trans, bound_grows, entered_grows, held_grows, loosened}
 use Rattle.pk_visits.proofs.Tells.{Any, sane, shapes}
-use Rattle.pk_visits.proofs.Stands.{Whole, Proper, context_of, Held, held, around, AreCalm, AreQuiet, IsScalar, Binds, Stage, led_to, Laid, IsCalled}
-use Rattle.pk_visits.proofs.Stages.{In, ways_grow, passed_grows, stage_first, stage_second, stage_last}
+use Rattle.pk_visits.proofs.Stands.{Whole, Proper, context_of, Held, held, around, AreCalm, AreQuiet, IsScalar, Binds, Stage, Laid, IsCalled}
+use Rattle.pk_visits.proofs.Stages.{ways_grow, passed_grows, stage_first, stage_second, stage_last, first_called, second_called}
 use Rattle.pk_visits.proofs.Operands.{UnlessLoose, all_own, calm_more, keep_laid, first_calm, unless_more}
 use Rattle.pk_visits.proofs.Trees.{stage_names, or_first, or_second}
 use Rattle.pk_visits.proofs.Passing.{pushed_is, binds_laid}
@@ -95,10 +95,10 @@ called_laid g proper k h x z r es w n d hs fits takes calm s l =
       (λ i. calm),
       s1,
       subst (λ js. Binds g k h m 0 ts (Laid g k h x (work.Enter m w)) d1.point js) (sym (pushed_is es q.trees hs))
-          (binds_laid g k h m 0 d1.variables ts us q.trees (Laid g k h x (work.Enter m w)) d d1 f hs Any (z ∷ calls_in_values es) many (passed_many c es d)
+          (binds_laid g k h m 0 d1.variables ts us q.trees (Laid g k h x (work.Enter m w)) d d1 f hs (z ∷ calls_in_values es) many (passed_many c es d)
           (λ j t is. subst (λ i. IsScalar g (local m i) t) (omega arith) (proper.parameters m j t there (subst (λ ps. slice_get ps j ≡ Some t) (parameters_at noted) is)))
           (λ j. proper.scopes d.here k m j h s.here behind) (λ j. passed_apart c m j es d from ns) (λ j. all_own d.variables (local m j) hs calm) (calm_plain d.variables hs calm) (g1.names ∙ ns)
-          s weak1 weak3 (
+          s (loosened (second_called c (z ∷ []) (calls_in_values es)) g1) weak3 (
             there,
             ap (λ (t : Region). t.at) region,
             subst (λ i. AreCalm i hs) (sym (ap (λ (t : Region). t.variables) region)) (calm_more d.variables d2.variables hs (omega (arith, v1, v2)) calm),
@@ -195,14 +195,14 @@ pass_laid g k h x (tree.value_before e es) w p hs (d, n, is, fits, quiet, s, l) 
       fits.0,
       (λ m. quiet (or_first (makes e) (any_makes es) m)),
       stage_first g k h (calls_in e) (calls_in_values es) d r.1 f s (grows_trans kept gp),
-      keep_laid g k h x (work.Pass es w) how (shape_of e) (type_of e) r hs (IsCalled c (calls_in e)) (IsCalled c (calls_in_values es)) (calls_in e ++ calls_in_values es) d f s ge gp nr
+      keep_laid g k h x (work.Pass es w) how (shape_of e) (type_of e) r hs (IsCalled c (calls_in_values es)) (calls_in e ++ calls_in_values es) d f s (loosened (first_called c (calls_in e) (calls_in_values es)) ge) gp nr
           (unless_more how d.variables r.1.variables hs va (quiet_loose (any_makes es) d.variables hs q)) (
             v.1,
             n,
             refl,
             fits.1,
             (λ m. (first_calm how (shape_of e) (type_of e) r (ap strong_if m) nr (shapes c e d ns), calm_more d.variables v.1.variables hs (omega (arith, va, vb)) (q m))),
-            stage_second g k h (IsCalled c (calls_in e)) (calls_in e) (calls_in_values es) d v.1 f s (grows_trans ge kept_e),
+            stage_second g k h (calls_in e) (calls_in_values es) d v.1 f s (grows_trans ge kept_e),
             l,
           ),
     )

@@ -1,5 +1,5 @@
 -- The graph follows the program at the tests of a `switch`, where the way to the case that holds is laid.
-use Rattle.std.proofs.Common.{◌≡◌, ℕ, ◌+◌, ◌≤◌, List, [], ◌∷◌, length, Bool, true, false, if◌then◌else◌, refl, ap, ◌∙◌, subst, arith, ℤ}
+use Rattle.std.proofs.Common.{◌≡◌, ℕ, ◌+◌, ◌<◌, ◌≤◌, ◌⊎◌, List, [], ◌∷◌, length, Bool, true, false, if◌then◌else◌, refl, ap, ◌∙◌, subst, inr, arith, ℤ}
 use Rattle.std.specs.Prelude.{Ok}
 use Rattle.std.specs.Ordering.{int_eq}
 use Rattle.pk_ctypes.specs.declared.types.IntType.{IntType}
@@ -28,13 +28,13 @@ use Rattle.pk_meaning.specs.Work as work
 use Rattle.pk_meaning.specs.Work.{Place, Work, Ahead, Way, Onward, Refused, Lost}
 use Rattle.pk_meaning.specs.Steps as meaning
 use Rattle.pk_meaning.specs.Steps.{step_of}
-use Rattle.pk_visits.proofs.Slots.{SlotTree, Draft, Memory, memory, Among, edge, front_among, last_among}
+use Rattle.pk_visits.proofs.Slots.{SlotTree, Draft, Memory, memory, Among, edge, front_among, last_among, region_at}
 use Rattle.pk_visits.proofs.Settled.{Settles}
-use Rattle.pk_visits.proofs.Stands.{Whole, context_of, final, around, Marking, Held, Means, FitsObjects, ShowsAt, Leads, Stage, switch_from, LaidWay, Laid}
+use Rattle.pk_visits.proofs.Stands.{Whole, context_of, final, around, Marking, Held, Means, FitsObjects, ShowsAt, Leads, Stage, switch_from, LaidWay, Laid, IsReserved}
 use Rattle.pk_visits.proofs.Follow.{Answers, config, moved}
 use Rattle.pk_visits.proofs.Tests.{passes, along}
 use Rattle.pk_visits.proofs.Values.{binary_is}
-use Rattle.pk_visits.proofs.Stages.{In, part_point, part_room, stage_at, fresh_one}
+use Rattle.pk_visits.proofs.Stages.{In, part_point, part_room, stage_at, fresh_one, forth_here}
 use Rattle.pk_visits.proofs.StatementGrows.{Stays, Adds, stays_then, link_adds, away_adds, case_adds, fresh_adds, statement, Free}
 use Rattle.pk_visits.proofs.Tells.{any_called, Any}
 use Rattle.pk_visits.proofs.Operands.{calm_more}
@@ -55,7 +55,9 @@ stage_to g k h xs d e f is s = record {
   marks = s.marks;
   later = s.later;
   leads = subst (λ q. Leads g s.marks s.later q) is s.leads;
-  bounded = s.bounded;
+  bounded = subst (λ q. (n : ℕ) → Among n s.marks → d.points ≤ n → n < q.points → IsReserved g k q.regions n) is s.bounded;
+  free = subst (λ q. (m : ℕ) → k < m → ((region_at d.regions m).points ≡ 0) ⊎ ((region_at d.regions m).points + g.spans m ≤ d.points) ⊎ (q.points ≤ (region_at d.regions m).points)) is s.free;
+  spans = s.spans;
   here = s.here;
   apart = s.apart;
   distinct = s.distinct;
@@ -109,7 +111,7 @@ choose_test g chosen p m k h j t z zs i has body a v vs s b x top hs (d, n, mark
   room = let q = part_room g Stays (In u.marks) U k j (calls_in_statement body) d (fresh 1 d) F u grow in let w = (fresh_adds [] Free U 1 d).size in omega (arith, q, w)
 
   next : ShowsAt g d.points k j
-  next = part_point g Stays U k j j (calls_in_statement body) d (fresh 1 d) F d.points d.here u grow (omega arith) (omega arith) (fresh_one d room) here
+  next = part_point g Stays U k j j (calls_in_statement body) d d (fresh 1 d) F d.points d.here u (forth_here g d.points d.regions) refl grow (omega arith) (omega arith) (fresh_one d room) here
 
   settled_next : Settles (final g k) (context_of g k) body (in_switch e total x) (away (if has then e + 1 + total else e) (case_tests r t top.tree zs (e + 1 + (i + 1)) d1))
   settled_next = subst (λ q. Settles (final g k) (context_of g k) body (in_switch e total x) (away (if has then e + 1 + total else e) (case_tests r t top.tree zs q d1))) (omega arith) settled
@@ -129,7 +131,7 @@ choose_test g chosen p m k h j t z zs i has body a v vs s b x top hs (d, n, mark
     calm_more d.variables d1.variables (top ∷ hs) (omega arith) calm,
     stage_to g k j (calls_in_statement body) d1 F (switch_from (context_of g k) r t top.tree zs (i + 1) total e has body x d1)
         (ap (λ q. go Skip e (lowered (context_of g k) body (in_switch e total x) (away (if has then e + 1 + total else e) (case_tests r t top.tree zs q d1)))) (omega arith))
-        (stage_at g k j j (calls_in_statement body) d d1 F u (omega arith) here),
+        (stage_at g k j j (calls_in_statement body) d d1 F u (record { points = omega arith; regions = λ q. inr refl }) here),
     marking,
     settled_next,
     shown,

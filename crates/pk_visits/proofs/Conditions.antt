@@ -1,5 +1,5 @@
 -- From a test to its parts.
-use Rattle.std.proofs.Common.{◌≡◌, ℕ, List, [], ◌++◌, true, false, refl, subst, arith}
+use Rattle.std.proofs.Common.{◌≡◌, ℕ, List, ◌++◌, true, false, refl, subst, arith}
 use Rattle.pk_ctypes.specs.declared.places.Pos.{Pos}
 use Rattle.pk_ctypes.specs.declared.types.IntType.{IntType}
 use Rattle.pk_ctypes.specs.declared.types.Op.{Op}
@@ -19,8 +19,8 @@ use Rattle.pk_meaning.specs.Steps as meaning
 use Rattle.pk_visits.proofs.Slots.{Draft, edge, Grows, last_among, Uncalled}
 use Rattle.pk_visits.proofs.Grows.{grows_trans, fresh_one_grows, link_grows, guards_grow}
 use Rattle.pk_visits.proofs.Tells.{sane, Any}
-use Rattle.pk_visits.proofs.Stands.{Whole, context_of, Held, around, AreCalm, ShowsAt, Stage, led_to, LaidWay, Laid, IsCalled}
-use Rattle.pk_visits.proofs.Stages.{In, ways_grow, effect_grows, stage_first, stage_second, stage_until, stage_from, stage_point, stage_room, fresh_one}
+use Rattle.pk_visits.proofs.Stands.{Whole, context_of, Held, around, AreCalm, ShowsAt, Stage, LaidWay, Laid}
+use Rattle.pk_visits.proofs.Stages.{ways_grow, effect_grows, stage_first, stage_second, stage_until, stage_from, stage_point, stage_room, fresh_one}
 use Rattle.pk_visits.proofs.Operands.{calm_more}
 use Rattle.pk_visits.proofs.Doom.{calm_plain}
 
@@ -80,7 +80,7 @@ pub shows_fresh : (g : Whole) (k : ℕ) (h : Place) (xs : List Numbered) (d f : 
 shows_fresh g k h xs d f s u =
     let a = stage_room g k h Any xs d (fresh 1 d) f s u in
     let q = (fresh_one_grows Uncalled d).size in
-    stage_point g k h Any xs d (fresh 1 d) f d.points s u (omega arith) (omega arith) (fresh_one d (omega (arith, a, q)))
+    stage_point g k h Any xs d (fresh 1 d) f d.points s refl u (omega arith) (omega arith) (fresh_one d (omega (arith, a, q)))
 
 pub both_laid : (g : Whole) (k : ℕ) (h : Place) (x : Exits) (a b : ValueTree) (y n : Way) (p : ℕ) (hs : List Held) → Laid g k h x (work.Test (tree.and a b) y n) p hs
     → Laid g k h x (work.Test a (Onward h (work.Test b y n)) n) p hs
@@ -91,7 +91,7 @@ both_laid g k h x a b y n p hs (d, m, i, j, is, fits, calm, s, ly, ln) =
     let f = (ways c b).choice i j (at d.points e) in
     let ga = (ways_grow c a).choice d.points j (fresh 1 d) in
     let gb = (ways_grow c b).choice i j (at d.points e) in
-    let s0 = stage_from g k h Uncalled (calls_in a ++ calls_in b) d (fresh 1 d) f s (fresh_one_grows Uncalled d) in
+    let s0 = stage_from g k h (calls_in a ++ calls_in b) d (fresh 1 d) f s (fresh_one_grows Uncalled d) in
     let va = ga.variables in (
       fresh 1 d,
       m,
@@ -103,7 +103,7 @@ both_laid g k h x a b y n p hs (d, m, i, j, is, fits, calm, s, ly, ln) =
       stage_first g k h (calls_in a) (calls_in b) (fresh 1 d) e f s0 gb,
       (
         shows_fresh g k h _ d f s (grows_trans ((sane c a).choice d.points j (fresh 1 d)) ((sane c b).choice i j (at d.points e))),
-        (x, (at d.points e, m, i, j, refl, fits.1, calm_more d.variables e.variables hs va calm, stage_second g k h (IsCalled c (calls_in a)) (calls_in a) (calls_in b) (fresh 1 d) (at d.points e) f s0 ga, ly, ln)),
+        (x, (at d.points e, m, i, j, refl, fits.1, calm_more d.variables e.variables hs va calm, stage_second g k h (calls_in a) (calls_in b) (fresh 1 d) (at d.points e) f s0 ga, ly, ln)),
       ),
       ln,
     )
@@ -117,7 +117,7 @@ either_laid g k h x a b y n p hs (d, m, i, j, is, fits, calm, s, ly, ln) =
     let f = (ways c b).choice i j (at d.points e) in
     let ga = (ways_grow c a).choice i d.points (fresh 1 d) in
     let gb = (ways_grow c b).choice i j (at d.points e) in
-    let s0 = stage_from g k h Uncalled (calls_in a ++ calls_in b) d (fresh 1 d) f s (fresh_one_grows Uncalled d) in
+    let s0 = stage_from g k h (calls_in a ++ calls_in b) d (fresh 1 d) f s (fresh_one_grows Uncalled d) in
     let va = ga.variables in (
       fresh 1 d,
       m,
@@ -130,7 +130,7 @@ either_laid g k h x a b y n p hs (d, m, i, j, is, fits, calm, s, ly, ln) =
       ly,
       (
         shows_fresh g k h _ d f s (grows_trans ((sane c a).choice i d.points (fresh 1 d)) ((sane c b).choice i j (at d.points e))),
-        (x, (at d.points e, m, i, j, refl, fits.1, calm_more d.variables e.variables hs va calm, stage_second g k h (IsCalled c (calls_in a)) (calls_in a) (calls_in b) (fresh 1 d) (at d.points e) f s0 ga, ly, ln)),
+        (x, (at d.points e, m, i, j, refl, fits.1, calm_more d.variables e.variables hs va calm, stage_second g k h (calls_in a) (calls_in b) (fresh 1 d) (at d.points e) f s0 ga, ly, ln)),
       ),
     )
 
@@ -156,7 +156,7 @@ comma_laid g k h x f v y n p hs (d, m, i, j, is, fits, calm, s, ly, ln) =
         refl,
         fits.1,
         calm_more d.variables e.variables hs gf.variables calm,
-        stage_second g k h (IsCalled c (calls_in_effect f)) (calls_in_effect f) (calls_in v) d e ((ways c v).choice i j e) s gf,
+        stage_second g k h (calls_in_effect f) (calls_in v) d e ((ways c v).choice i j e) s gf,
         ly,
         ln,
       ),

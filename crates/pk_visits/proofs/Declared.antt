@@ -20,14 +20,13 @@ use Rattle.pk_meaning.specs.Work as work
 use Rattle.pk_meaning.specs.Work.{Place, Work, Ahead}
 use Rattle.pk_meaning.specs.Steps as meaning
 use Rattle.pk_meaning.specs.Steps.{place, step_of}
-use Rattle.pk_visits.proofs.Slots.{Draft, Memory}
+use Rattle.pk_visits.proofs.Slots.{Draft, Memory, Uncalled}
 use Rattle.pk_visits.proofs.Settled.{Settles, SettleAll, AreAllSettled}
-use Rattle.pk_visits.proofs.Stands.{Whole, Proper, context_of, final, led_to, Held, around, AreCalm, Means, FitsObjects, Stage, Marking, local_array, place_after, LaidAhead, Laid, IsCalled}
+use Rattle.pk_visits.proofs.Stands.{Whole, Proper, context_of, final, Held, around, AreCalm, Means, FitsObjects, Stage, Marking, local_array, place_after, LaidAhead, Laid, IsCalled}
 use Rattle.pk_visits.proofs.Follow.{Answers, config, still}
 use Rattle.pk_visits.proofs.Shown.{ShowsName, shown_behind, shows_name}
 use Rattle.pk_visits.proofs.Starts.{for_begun}
-use Rattle.pk_visits.proofs.Stages.{In, all_called, part_first, part_second, stage_at}
-use Rattle.pk_visits.proofs.Tells.{any_called, Any}
+use Rattle.pk_visits.proofs.Stages.{all_called, part_first, part_second, stage_at, forth_none, forth_first}
 use Rattle.pk_visits.proofs.Doom.{calm_plain}
 use Rattle.pk_visits.proofs.StatementGrows.{OnPath, introduced_enlarges, declared_enlarges, all_declared_enlarges, block, Free, all_free}
 use Rattle.pk_visits.proofs.ElementTrees.{local_length}
@@ -58,9 +57,9 @@ pub declared_follows : (y : Place) (g : Whole) (chosen : Numbers) (m : Memory) (
 declared_follows y g chosen m k h x (tree.scalar_object i q e) o d vs s b u w hs fits calm st shown l means same f =
     let c = context_of g k in
     let e0 = introduced c i (on q d) in
-    let grow = introduced_enlarges st.marks Free Any c i (on q d) tt in
+    let grow = introduced_enlarges st.marks Free Uncalled c i (on q d) tt in
     let j = place q (with_local g.program k i h.scope) in
-    let gp = grow.points in
+    let gp = forth_none g grow in
     let gv = grow.variables in
     let t = fits.1.0 in
     let is = fits.1.1 in
@@ -71,9 +70,9 @@ declared_follows y g chosen m k h x (tree.scalar_object i q e) o d vs s b u w hs
 declared_follows y g chosen m k h x (tree.array_object i q es) o d vs s b u w hs fits calm st shown l means same f =
     let c = context_of g k in
     let e0 = introduced c i (on q d) in
-    let grow = introduced_enlarges st.marks Free Any c i (on q d) tt in
+    let grow = introduced_enlarges st.marks Free Uncalled c i (on q d) tt in
     let j = place q (with_local g.program k i h.scope) in
-    let gp = grow.points in
+    let gp = forth_none g grow in
     let gv = grow.variables in
     let room = fits.1 in
     let t = room.0 in
@@ -98,8 +97,8 @@ rest_declared g proper k h x xs v is a hs d n m fits calm t marking settled l =
     let c = context_of g k in
     let e = declared c v d in
     let rest = block (IsCalled c (calls_in_items is)) c _ m is x t.marks Free (λ i o. tt) fits.1 marking (all_called c (calls_in_items is)) e in
-    let first = declared_enlarges t.marks Free Any c v d tt (any_called c (calls_in_declared v)) in
-    let le = first.points in
+    let first = declared_enlarges t.marks Free (IsCalled c (calls_in_declared v)) c v d tt (all_called c (calls_in_declared v)) in
+    let le = forth_first g k (place d.here.at xs) (calls_in_declared v) (calls_in_items is) d (lowered_items c is x e) t first in
     let lv = first.variables in
     let calm_e = calm_more d.variables e.variables hs lv calm in
     let ys = with_declared g.program k v xs in
@@ -159,8 +158,8 @@ all_declared_next g proper chosen p m k h vs s b x hs v ds w (d, n, at', fits, c
     let end = all_declared c ds e in
     let j = place_after g.program k (v ∷ []) h in
     let rest = all_declared_enlarges t.marks Free (IsCalled c (calls_in_all_declared ds)) c ds e (all_free ds) (all_called c (calls_in_all_declared ds)) in
-    let first = declared_enlarges t.marks Free Any c v d tt (any_called c (calls_in_declared v)) in
-    let le = first.points in
+    let first = declared_enlarges t.marks Free (IsCalled c (calls_in_declared v)) c v d tt (all_called c (calls_in_declared v)) in
+    let le = forth_first g k (place d.here.at h.scope) (calls_in_declared v) (calls_in_all_declared ds) d end t first in
     let lv = first.variables in
     let st = part_first g OnPath k (place d.here.at h.scope) (calls_in_declared v) (calls_in_all_declared ds) d e end t rest in
     let shown = shows_name g proper k h v d st.here st.path settled.0 st.leads.scopes in

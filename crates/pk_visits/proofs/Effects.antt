@@ -16,7 +16,6 @@ use Rattle.pk_welltyped.specs.WellTyped.{scalar, IsPlace, IsValue, IsEffect}
 use Rattle.pk_graph.specs.Trees.{variable, Set, Check}
 use Rattle.pk_draft.specs.Drafts.{Given, at, fresh, emit, with_temporary, next_temporary}
 use Rattle.pk_draft.specs.Folding.{conversion, updated_tree}
-use Rattle.pk_draft.specs.declared.drafts.Size.{Size}
 use Rattle.pk_lower_row.specs.declared.shapes.Shape.{Shape}
 use Rattle.pk_lower_row.specs.declared.shapes.Shape.TheVariants.{Fixed, Temporary, Named, Other}
 use Rattle.pk_lower_row.specs.Shapes.{makes, makes_effect, shape_of, is_plain}
@@ -34,8 +33,8 @@ use Rattle.pk_visits.proofs.Slots.{Slot, slots, SlotTree, Draft, Grows, Uncalled
 use Rattle.pk_visits.proofs.Grows.{grows_refl, grows_trans, emit_grows, fresh_one_grows, unless_grows}
 use Rattle.pk_visits.proofs.Growing.{lowered}
 use Rattle.pk_visits.proofs.Tells.{Tells, shapes, sane}
-use Rattle.pk_visits.proofs.Stands.{Whole, context_of, Held, held, around, AreCalm, AreQuiet, IsPlain, Stage, led_to, Laid, IsCalled}
-use Rattle.pk_visits.proofs.Stages.{In, ways_grow, effect_grows, stage_first, stage_second, stage_until, stage_from, stage_edge}
+use Rattle.pk_visits.proofs.Stands.{Whole, context_of, Held, held, around, AreCalm, AreQuiet, IsPlain, Stage, Laid, IsCalled}
+use Rattle.pk_visits.proofs.Stages.{ways_grow, effect_grows, stage_first, stage_second, stage_until, stage_from, stage_edge}
 use Rattle.pk_visits.proofs.Operands.{calm_more}
 use Rattle.pk_visits.proofs.Trees.{stage_names, has_kind, or_first, or_second, writes_scalar}
 use Rattle.pk_visits.proofs.ElementTrees.{writes_temporary, put_laid, renew_laid}
@@ -51,12 +50,12 @@ plain_shape n Named e h k = subst IsPlain (sym h.1) tt
 plain_shape n Other e h k = absurd (grind (arith, k))
 
 -- what waits is dropped, or put in a temporary
-drop_unless : (g : Whole) (k : ℕ) (h : Place) (x : Exits) (w : Work) (b : Bool) (t : IntType) (d : Draft) (r : Given Slot) (hs : List Held) (C : ℕ → Size → Type 0) (xs : List Numbered)
-    → r.1.names ≡ slots → (b ≡ true → IsPlain r.0) → (b ≡ false → AreCalm r.1.variables hs) → Grows C d r.1 → Stage g k h xs d (stored_unless b t r).1 → Laid g k h x w (stored_unless b t r).1.point hs
+drop_unless : (g : Whole) (k : ℕ) (h : Place) (x : Exits) (w : Work) (b : Bool) (t : IntType) (d : Draft) (r : Given Slot) (hs : List Held) (xs : List Numbered)
+    → r.1.names ≡ slots → (b ≡ true → IsPlain r.0) → (b ≡ false → AreCalm r.1.variables hs) → Grows (IsCalled (context_of g k) xs) d r.1 → Stage g k h xs d (stored_unless b t r).1 → Laid g k h x w (stored_unless b t r).1.point hs
     → Laid g k h x (work.Drop w) r.1.point (held r.0 t ∷ hs)
-drop_unless g k h x w true t d r hs C xs ns plain calm z s l = inl (plain refl, l)
-drop_unless g k h x w false t d r hs C xs ns plain calm z s l =
-    inr (r.1.points, r.1.variables, writes_temporary g k h r.1.variables t (λ y. Set y r.0) d r.1 (emit (Set (next_temporary r.1) r.0) (with_temporary t r.1)) hs C Uncalled xs ns s z (grows_refl Uncalled (emit (Set (next_temporary r.1) r.0) (with_temporary t r.1))) (omega arith) (calm refl), l)
+drop_unless g k h x w true t d r hs xs ns plain calm z s l = inl (plain refl, l)
+drop_unless g k h x w false t d r hs xs ns plain calm z s l =
+    inr (r.1.points, r.1.variables, writes_temporary g k h r.1.variables t (λ y. Set y r.0) d r.1 (emit (Set (next_temporary r.1) r.0) (with_temporary t r.1)) hs Uncalled xs ns s z (grows_refl Uncalled (emit (Set (next_temporary r.1) r.0) (with_temporary t r.1))) (omega arith) (calm refl), l)
 
 not_true : (b : Bool) → b ≡ false → not b ≡ true
 not_true true h = absurd (grind (arith, h))
@@ -82,7 +81,7 @@ drop_laid g k h x v w n d hs same fits quiet s l =
       fits,
       (λ m. quiet (or_first (makes v) (not (is_plain (shape_of v))) m)),
       stage_until g k h _ d r.1 f s' (unless_grows Uncalled (is_plain (shape_of v)) (type_of v) r),
-      drop_unless g k h x w (is_plain (shape_of v)) (type_of v) d r hs (IsCalled c (calls_in v)) _ (gv.names ∙ ns) (plain_shape r.1.variables (shape_of v) r.0 (shapes c v d ns))
+      drop_unless g k h x w (is_plain (shape_of v)) (type_of v) d r hs _ (gv.names ∙ ns) (plain_shape r.1.variables (shape_of v) r.0 (shapes c v d ns))
           (λ m. calm_more d.variables r.1.variables hs le (quiet (or_second (makes v) (not (is_plain (shape_of v))) (not_true (is_plain (shape_of v)) m)))) gv s' l',
     )
 
@@ -105,7 +104,7 @@ advance_laid g k h x op at' o t y true w p hs (d, n, is, fits, quiet, s, l) =
     subst (λ q. Laid g k h x (work.Advance op at' o t (object_of k y) w) q hs) is (
       d.points,
       has_kind g k n (scalar t) y s.path fits.1,
-      writes_scalar g k h d.variables y (λ u. updated_tree op (site c at') o t Int (variable u) one_tree) d d hs Uncalled _ ns s (grows_refl Uncalled d) (quiet refl),
+      writes_scalar g k h d.variables y (λ u. updated_tree op (site c at') o t Int (variable u) one_tree) d d hs _ ns s (grows_refl _ d) (quiet refl),
       l,
     )
 advance_laid g k h x op at' o t y false w p hs (d, n, is, fits, quiet, s, l) =
@@ -115,7 +114,7 @@ advance_laid g k h x op at' o t y false w p hs (d, n, is, fits, quiet, s, l) =
     subst (λ q. Laid g k h x (work.Advance op at' o t (object_of k y) w) q hs) is (
       d.points,
       has_kind g k n (scalar t) y s.path fits.1,
-      writes_scalar g k h d.variables y (λ u. updated_tree op (site c at') o t Int (variable u) one_tree) d d hs Uncalled _ ns s (grows_refl Uncalled d) (quiet refl),
+      writes_scalar g k h d.variables y (λ u. updated_tree op (site c at') o t Int (variable u) one_tree) d d hs _ ns s (grows_refl _ d) (quiet refl),
       l,
     )
 
@@ -172,7 +171,7 @@ unused_laid g k h x (tree.then_value f v) w p hs (d, n, is, fits, quiet, s, l) =
         refl,
         fits.1,
         (λ m. calm_more d.variables e.variables hs gf.variables (quiet (regroup (makes_effect f) (makes v) rest m))),
-        stage_second g k h (IsCalled c (calls_in_effect f)) (calls_in_effect f) (calls_in v) d e ((ways c v).unused e) s gf,
+        stage_second g k h (calls_in_effect f) (calls_in v) d e ((ways c v).unused e) s gf,
         l,
       ),
     ) where
@@ -190,7 +189,7 @@ assert_laid g k h x q v w p hs (d, n, is, fits, quiet, s, l) =
     let r = (ways c v).value d in
     let gv = (ways_grow c v).value d in
     let i = Check (site c q) (conversion (type_of v) Int r.0) in
-    let z = stage_edge g k h (IsCalled c (calls_in v)) Uncalled _ d r.1 (emit i r.1) i s gv (grows_refl Uncalled (emit i r.1)) in
+    let z = stage_edge g k h Uncalled _ d r.1 (emit i r.1) i s gv (grows_refl Uncalled (emit i r.1)) in
     (d, n, is, fits, (λ m. quiet refl), stage_until g k h _ d r.1 (emit i r.1) s (emit_grows Uncalled i r.1), (calm_plain d.variables hs (quiet refl), r.1.points, z.0, z.1, l))
 
 pub then_effect_laid : (g : Whole) (k : ℕ) (h : Place) (x : Exits) (a b : EffectTree) (w : Work) (p : ℕ) (hs : List Held) → Laid g k h x (work.Perform (tree.then_effect a b) w) p hs
@@ -213,7 +212,7 @@ then_effect_laid g k h x a b w p hs (d, n, is, fits, quiet, s, l) =
         refl,
         fits.1,
         (λ m. calm_more d.variables e.variables hs ga.variables (quiet (or_second (makes_effect a) (makes_effect b) m))),
-        stage_second g k h (IsCalled c (calls_in_effect a)) (calls_in_effect a) (calls_in_effect b) d e (performed c b e) s ga,
+        stage_second g k h (calls_in_effect a) (calls_in_effect b) d e (performed c b e) s ga,
         l,
       ),
     )
@@ -224,7 +223,7 @@ assumed_laid : (g : Whole) (k : ℕ) (h : Place) (x : Exits) (v : ValueTree) (w 
 assumed_laid g k h x v w n d hs fits calm s l =
     let c = context_of g k in
     let e = (ways c v).choice d.points 0 (fresh 1 d) in
-    let s0 = stage_from g k h Uncalled _ d (fresh 1 d) (at d.points e) s (fresh_one_grows Uncalled d) in (
+    let s0 = stage_from g k h _ d (fresh 1 d) (at d.points e) s (fresh_one_grows Uncalled d) in (
       fresh 1 d,
       n,
       d.points,

@@ -38,10 +38,10 @@ use Rattle.pk_meaning.specs.Work.{Place, Work}
 use Rattle.pk_meaning.specs.Steps as meaning
 use Rattle.pk_visits.proofs.Slots.{Slot, own, temporary, slots, SlotTree, Draft, Instr, Among, edge, Grows, Uncalled}
 use Rattle.pk_visits.proofs.Grows.{grows_refl, grows_trans, emit_grows, temporary_grows, made_grows, two_grows, held_grows, loaded_grows}
-use Rattle.pk_visits.proofs.Growing.{lowered}
+use Rattle.pk_visits.proofs.Growing.{lowered, front_called, back_called, values}
 use Rattle.pk_visits.proofs.Tells.{Tells, variable_is, shapes, sane, Any}
-use Rattle.pk_visits.proofs.Stands.{Whole, context_of, Held, held, in_temporary, around, IsApart, AreCalm, IsPlain, HasKind, IsScalar, IsArrayOf, cells, Writes, Stage, led_to, Laid, IsCalled}
-use Rattle.pk_visits.proofs.Stages.{In, ways_grow, stage_until, stage_edge}
+use Rattle.pk_visits.proofs.Stands.{Whole, context_of, Held, held, in_temporary, around, IsApart, AreCalm, IsPlain, HasKind, IsScalar, IsArrayOf, cells, Writes, Stage, Laid, IsCalled}
+use Rattle.pk_visits.proofs.Stages.{ways_grow, stage_until, stage_edge, all_called}
 use Rattle.pk_visits.proofs.Operands.{UnlessLoose, all_own, all_temporary, next_is, keep_laid, two_laid}
 use Rattle.pk_visits.proofs.Trees.{stage_names, has_kind, writes_scalar}
 use Rattle.pk_visits.proofs.Operators.{one_in}
@@ -49,11 +49,11 @@ use Rattle.pk_visits.proofs.Doom.{calm_plain}
 
 -- ---- an edge that writes a new temporary
 
-pub writes_temporary : (g : Whole) (k : ℕ) (h : Place) (n : ℕ) (t : IntType) (i : Slot → Instr) (d r f : Draft) (hs : List Held) (C E : ℕ → Size → Type 0) (xs : List Numbered)
-    → r.names ≡ slots → Stage g k h xs d f → Grows C d r → Grows E (emit (i (next_temporary r)) (with_temporary t r)) f → n ≤ r.variables → AreCalm n hs
+pub writes_temporary : (g : Whole) (k : ℕ) (h : Place) (n : ℕ) (t : IntType) (i : Slot → Instr) (d r f : Draft) (hs : List Held) (E : ℕ → Size → Type 0) (xs : List Numbered)
+    → r.names ≡ slots → Stage g k h xs d f → Grows (IsCalled (context_of g k) xs) d r → Grows E (emit (i (next_temporary r)) (with_temporary t r)) f → n ≤ r.variables → AreCalm n hs
     → Writes g k h r.point (temporary r.variables) (i (temporary r.variables)) r.points hs
-writes_temporary g k h n t i d r f hs C E xs ns s z u le calm =
-    let a = stage_edge g k h C E xs d (with_temporary t r) f (i (next_temporary r)) s (grows_trans z (temporary_grows C t r)) u in
+writes_temporary g k h n t i d r f hs E xs ns s z u le calm =
+    let a = stage_edge g k h E xs d (with_temporary t r) f (i (next_temporary r)) s (grows_trans z (temporary_grows (IsCalled (context_of g k) xs) t r)) u in
     record {
       there = subst (λ y. Among (edge r.point (i y) r.points) g.edges) (next_is r ns) a.0;
       shown = a.1;
@@ -71,7 +71,7 @@ any_laid g k h x t at w p hs (d, n, is, fits, quiet, s, l) =
       d.points,
       d.variables,
       subst (λ q. Writes g k h q (temporary d.variables) (Havoc (temporary d.variables) t 1) d.points hs) is
-          (writes_temporary g k h d.variables t (λ y. Havoc y t 1) d d f hs Uncalled Uncalled _ ns s (grows_refl Uncalled d) (grows_refl Uncalled f) (omega arith) (quiet refl)),
+          (writes_temporary g k h d.variables t (λ y. Havoc y t 1) d d f hs Uncalled _ ns s (grows_refl _ d) (grows_refl Uncalled f) (omega arith) (quiet refl)),
       subst (λ y. Laid g k h x w d.points (held (variable y) t ∷ hs)) (next_is d ns) l,
     )
 
@@ -132,7 +132,7 @@ element_laid g k h x t y at i w p hs (d, n, is, fits, quiet, s, l) =
     let ns = stage_names g k h _ Any d f s (grows_trans ((sane c i).value d) (made_grows Any (j (next_temporary r.1)) t r.1)) in
     let nr = gi.names ∙ ns in
     let v = gi.variables in
-    let z = writes_temporary g k h d.variables t j d r.1 f hs (IsCalled c (calls_in i)) Uncalled _ nr s gi (grows_refl Uncalled f) v (quiet refl) in (
+    let z = writes_temporary g k h d.variables t j d r.1 f hs Uncalled _ nr s gi (grows_refl Uncalled f) v (quiet refl) in (
       d,
       n,
       is,
@@ -166,7 +166,7 @@ step_laid g k h x op at o t y w p hs (d, n, is, fits, quiet, s, l) =
       (
         d.points,
         has_kind g k n (scalar t) y s.path fits.1,
-        writes_scalar g k h d.variables y (λ u. updated_tree op (site c at) o t Int (variable u) one_tree) d d hs Uncalled _ ns s (grows_refl Uncalled d) (quiet refl),
+        writes_scalar g k h d.variables y (λ u. updated_tree op (site c at) o t Int (variable u) one_tree) d d hs _ ns s (grows_refl _ d) (quiet refl),
         subst (λ u. Laid g k h x w d.points (held (variable u) t ∷ hs)) (variable_is c y d ns) l,
       ),
     )
@@ -186,8 +186,8 @@ after_laid g k h x op at o t y w p hs (d, n, is, fits, quiet, s, l) =
     let ge = made_grows Uncalled (Set (next_temporary d) (variable v)) t d in
     let ns = stage_names g k h _ Uncalled d (emit i e) s (grows_trans ge last) in
     let kind = has_kind g k n (scalar t) y s.path fits.1 in
-    let z = writes_temporary g k h d.variables t (λ u. Set u (variable v)) d d (emit i e) hs Uncalled Uncalled _ ns s (grows_refl Uncalled d) last (omega arith) (quiet refl) in
-    let b = writes_scalar g k h d.variables y (λ u. updated_tree op (site c at) o t Int (variable u) one_tree) d e hs Uncalled _ ns s ge (quiet refl) in (
+    let z = writes_temporary g k h d.variables t (λ u. Set u (variable v)) d d (emit i e) hs Uncalled _ ns s (grows_refl _ d) last (omega arith) (quiet refl) in
+    let b = writes_scalar g k h d.variables y (λ u. updated_tree op (site c at) o t Int (variable u) one_tree) d e hs _ ns s (made_grows (IsCalled c []) (Set (next_temporary d) (variable v)) t d) (quiet refl) in (
       kind,
       (
         d.points,
@@ -286,6 +286,19 @@ two_names c how a b d ns = (two_grows Any how (lowered c a) (lowered c b) (sane 
 
 -- ---- a[i] = e
 
+-- two operands call what both call
+two_called : (c : Context) (how : Waiting) (a b : ValueTree) (d : Draft) → Grows (IsCalled c (calls_in a ++ calls_in b)) d (two how (lowered c a) (lowered c b) d).draft
+two_called c how a b d =
+    let C = IsCalled c (calls_in a ++ calls_in b) in
+    let k = all_called c (calls_in a ++ calls_in b) in
+    two_grows C how (lowered c a) (lowered c b) (values C c a (front_called C c (calls_in a) (calls_in b) k)) (values C c b (back_called C c (calls_in a) (calls_in b) k)) d
+
+loaded_called : (c : Context) (t : IntType) (s : Site) (a : ArrayOf Slot) (i e : ValueTree) (d : Draft) → Grows (IsCalled c (calls_in i ++ calls_in e)) d (rows.loaded t s a (lowered c i) (lowered c e) d).draft
+loaded_called c t s a i e d =
+    let C = IsCalled c (calls_in i ++ calls_in e) in
+    let k = all_called c (calls_in i ++ calls_in e) in
+    loaded_grows C t s a (lowered c i) (lowered c e) (values C c i (front_called C c (calls_in i) (calls_in e) k)) (values C c e (back_called C c (calls_in i) (calls_in e) k)) d
+
 store_strong : (m : Bool) → m ≡ true → strong_or_weak m ≡ Strong
 store_strong m h = ap strong_or_weak h
 
@@ -307,9 +320,10 @@ put_laid g k h x at t y i e w n d hs fa fi fe calm s l =
     let b = program.array_of g.program k t y in
     let j = λ (q : ArrayOf Slot). Store q (site c at) true p.first (conversion (type_of e) t p.second) in
     let f = emit (j a) p.draft in
-    let any2 = two_grows Any how (lowered c i) (lowered c e) (sane c i) (sane c e) d in
-    let ns = stage_names g k h _ Any d f s (grows_trans any2 (emit_grows Any (j a) p.draft)) in
-    let z = stage_edge g k h Any Uncalled _ d p.draft f (j a) s any2 (grows_refl Uncalled f) in
+    let C = IsCalled c (calls_in i ++ calls_in e) in
+    let both = two_called c how i e d in
+    let ns = stage_names g k h _ C d f s (grows_trans both (emit_grows C (j a) p.draft)) in
+    let z = stage_edge g k h Uncalled _ d p.draft f (j a) s both (grows_refl Uncalled f) in
     two_laid g k h x (work.Store at b w) how i e n d f hs ns (λ m. ap strong_if m) (quiet_loose (makes e) d.variables hs calm) (λ m. calm) fi (λ m. calm) fe s (emit_grows Uncalled (j a) p.draft) (
       p.draft.points,
       is_array g k n t y s.path fa,
@@ -337,15 +351,16 @@ kept_laid g k h x q at t y i e w pt hs (d, n, is, fits, quiet, s, l) =
     let m = emit (Set (next_temporary p.draft) v) (with_temporary t p.draft) in
     let j = λ (r : ArrayOf Slot) (u : Slot). Store r (site c at) true p.first (variable u) in
     let f = emit (j a (next_temporary p.draft)) m in
-    let any2 = two_grows Any how (lowered c i) (lowered c e) (sane c i) (sane c e) d in
-    let set_grows = made_grows Any (Set (next_temporary p.draft) v) t p.draft in
+    let C = IsCalled c (calls_in i ++ calls_in e) in
+    let both = two_called c how i e d in
+    let set_grows = made_grows C (Set (next_temporary p.draft) v) t p.draft in
     let last = emit_grows Uncalled (j a (next_temporary p.draft)) m in
-    let ns = stage_names g k h _ Any d f s (grows_trans any2 (grows_trans set_grows (emit_grows Any (j a (next_temporary p.draft)) m))) in
+    let ns = stage_names g k h _ C d f s (grows_trans both (grows_trans set_grows (emit_grows C (j a (next_temporary p.draft)) m))) in
     let np = two_names c how i e d ns in
     let calm = quiet refl in
-    let le = any2.variables in
-    let set_edge = stage_edge g k h Any Uncalled _ d (with_temporary t p.draft) f (Set (next_temporary p.draft) v) s (grows_trans any2 (temporary_grows Any t p.draft)) last in
-    let put_edge = stage_edge g k h Any Uncalled _ d m f (j a (next_temporary p.draft)) s (grows_trans any2 set_grows) (grows_refl Uncalled f) in
+    let le = both.variables in
+    let set_edge = stage_edge g k h Uncalled _ d (with_temporary t p.draft) f (Set (next_temporary p.draft) v) s (grows_trans both (temporary_grows C t p.draft)) last in
+    let put_edge = stage_edge g k h Uncalled _ d m f (j a (next_temporary p.draft)) s (grows_trans both set_grows) (grows_refl Uncalled f) in
     let old = two_old c how i e d (not_loose (makes e)) ns in
     subst (λ o. Laid g k h x (work.Evaluate i (work.Keep (work.Evaluate e (work.Settle t (work.StoreKept at b w))))) o hs) is
     (two_laid g k h x (work.Settle t (work.StoreKept at b w)) how i e n d f hs ns (store_strong (makes e)) (calm_unless how d.variables hs calm) (λ z. calm) fits.0.1 (λ z. calm) fits.1 s
@@ -394,23 +409,24 @@ reload_laid g k h x at t y i e w n d f hs ns fa fi fe calm s after l =
     let b = program.array_of g.program k t y in
     let j = λ (q : ArrayOf Slot) (u : Slot). Load u q (site c at) true p.first in
     let a = lower.array_of c y d in
-    let any2 = two_grows Any how (lowered c i) (lowered c e) (sane c i) (sane c e) d in
-    let kept = held_grows Any Weak (shape_of e) (type_of e) r in
+    let C = IsCalled c (calls_in i ++ calls_in e) in
+    let both = two_called c how i e d in
+    let kept = held_grows C Weak (shape_of e) (type_of e) r in
     let np = two_names c how i e d ns in
     let nv = kept.names ∙ np in
     let load_grows = made_grows Uncalled (j a (next_temporary v.1)) t v.1 in
     let kept_after : Grows Uncalled v.1 f = grows_trans load_grows after in
     let behind : Grows Uncalled p.draft f = grows_trans (held_grows Uncalled Weak (shape_of e) (type_of e) r) kept_after in
-    let edge' = stage_edge g k h Any Uncalled _ d (with_temporary t v.1) f (j a (next_temporary v.1)) s (grows_trans any2 (grows_trans kept (temporary_grows Any t v.1))) after in
+    let edge' = stage_edge g k h Uncalled _ d (with_temporary t v.1) f (j a (next_temporary v.1)) s (grows_trans both (grows_trans kept (temporary_grows C t v.1))) after in
     let old = two_old c how i e d (not_loose (makes e)) ns in
     let z = rows.held how (shape_of i) (type_of i) ((ways c i).value d) in
-    let nz = (held_grows Any how (shape_of i) (type_of i) ((ways c i).value d)).names ∙ ((sane c i).value d).names ∙ ns in
+    let nz = (held_grows C how (shape_of i) (type_of i) ((ways c i).value d)).names ∙ ((sane c i).value d).names ∙ ns in
     let right = held_old Weak (shape_of e) (type_of e) r refl np (shapes c e z.1 nz) in
-    let le = any2.variables in
+    let le = both.variables in
     let le2 = kept.variables in
     let old2 = old_more p.draft.variables v.1.variables p.first le2 old in
     two_laid g k h x (work.Keep (work.Reload at b w)) how i e n d f hs ns (store_strong (makes e)) (calm_unless how d.variables hs calm) (λ m. calm) fi (λ m. calm) fe s behind
-    (keep_laid g k h x (work.Reload at b w) Weak (shape_of e) (type_of e) r (held p.first (type_of i) ∷ hs) Any Uncalled _ d f s any2 kept_after np
+    (keep_laid g k h x (work.Reload at b w) Weak (shape_of e) (type_of e) r (held p.first (type_of i) ∷ hs) Uncalled _ d f s both kept_after np
     ((old_apart p.draft.variables p.draft.variables p.first (omega arith) old, all_temporary d.variables p.draft.variables hs le calm), (old_plain p.draft.variables p.first old, calm_plain d.variables hs calm)) (
       v.1.points,
       v.1.variables,
@@ -454,9 +470,6 @@ olds c t s a i e d ns =
       more = omega (arith, le, le2);
     }
 
-loaded_any : (c : Context) (t : IntType) (s : Site) (a : ArrayOf Slot) (i e : ValueTree) (d : Draft) → Grows Any d (rows.loaded t s a (lowered c i) (lowered c e) d).draft
-loaded_any c t s a i e d = loaded_grows Any t s a (lowered c i) (lowered c e) (sane c i) (sane c e) d
-
 -- not used
 pub renew_laid : (g : Whole) (k : ℕ) (h : Place) (x : Exits) (op : Op) (q : Pos) (o : IntType) (at : Pos) (t : IntType) (y : Variable) (i e : ValueTree) (w : Work) (n : ℕ) (d : Draft) (hs : List Held)
     → IsArray (around g k n) t y → IsValue (around g k n) i → IsValue (around g k n) e → AreCalm d.variables hs
@@ -471,9 +484,10 @@ renew_laid g k h x op q o at t y i e w n d hs fa fi fe calm s l =
     let p = rows.loaded t (site c at) a (lowered c i) (lowered c e) d in
     let j = λ (r : ArrayOf Slot). Store r (site c at) false p.index (rows.renewed_tree op (site c q) o t (type_of e) p) in
     let f = emit (j a) p.draft in
-    let any2 = loaded_any c t (site c at) a i e d in
-    let ns = stage_names g k h _ Any d f s (grows_trans any2 (emit_grows Any (j a) p.draft)) in
-    let z = stage_edge g k h Any Uncalled _ d p.draft f (j a) s any2 (grows_refl Uncalled f) in
+    let C = IsCalled c (calls_in i ++ calls_in e) in
+    let both = loaded_called c t (site c at) a i e d in
+    let ns = stage_names g k h _ C d f s (grows_trans both (emit_grows C (j a) p.draft)) in
+    let z = stage_edge g k h Uncalled _ d p.draft f (j a) s both (grows_refl Uncalled f) in
     let u = olds c t (site c at) a i e d ns in
     reload_laid g k h x at t y i e (work.Renew op q o at b w) n d f hs ns fa fi fe calm s (emit_grows Uncalled (j a) p.draft) (
       p.draft.points,
@@ -506,12 +520,13 @@ replace_laid g k h x op q o at t y i w pt hs (d, n, is, fits, quiet, s, l) =
     let p = rows.loaded t (site c at) a (lowered c i) (lowered c e) d in
     let j = λ (r : ArrayOf Slot). Store r (site c at) false p.index (rows.renewed_tree op (site c q) o t Int p) in
     let f = emit (j a) p.draft in
-    let any2 = loaded_any c t (site c at) a i e d in
+    let C = IsCalled c (calls_in i ++ calls_in e) in
+    let both = loaded_called c t (site c at) a i e d in
     let calm = quiet refl in
     let v = rows.held Weak (shape_of e) Int ((two (strong_or_weak false) (lowered c i) (lowered c e) d).second, (two (strong_or_weak false) (lowered c i) (lowered c e) d).draft) in
     let s' = subst (λ zs. Stage g k h zs d f) (sym (nothing_behind (calls_in i))) s in
-    let ns = stage_names g k h _ Any d f s (grows_trans any2 (emit_grows Any (j a) p.draft)) in
-    let z = stage_edge g k h Any Uncalled _ d p.draft f (j a) s any2 (grows_refl Uncalled f) in
+    let ns = stage_names g k h _ C d f s (grows_trans both (emit_grows C (j a) p.draft)) in
+    let z = stage_edge g k h Uncalled _ d p.draft f (j a) s' both (grows_refl Uncalled f) in
     let u = olds c t (site c at) a i e d ns in
     subst (λ m. Laid g k h x (meaning.reload at b i e (work.Replace op q o at b w)) m hs) is
     (reload_laid g k h x at t y i e (work.Replace op q o at b w) n d f hs ns fits.1.0 fits.1.1 one_in calm s' (emit_grows Uncalled (j a) p.draft) (
@@ -548,14 +563,15 @@ renewed_laid g k h x op q o at t y i e w n d hs fa fi fe calm s l =
     let m = emit (Set (next_temporary p.draft) v) (with_temporary t p.draft) in
     let j = λ (r : ArrayOf Slot) (u : Slot). Store r (site c at) false p.index (variable u) in
     let f = emit (j a (next_temporary p.draft)) m in
-    let any2 = loaded_any c t (site c at) a i e d in
-    let set_grows = made_grows Any (Set (next_temporary p.draft) v) t p.draft in
+    let C = IsCalled c (calls_in i ++ calls_in e) in
+    let both = loaded_called c t (site c at) a i e d in
+    let set_grows = made_grows C (Set (next_temporary p.draft) v) t p.draft in
     let last = emit_grows Uncalled (j a (next_temporary p.draft)) m in
-    let ns = stage_names g k h _ Any d f s (grows_trans any2 (grows_trans set_grows (emit_grows Any (j a (next_temporary p.draft)) m))) in
+    let ns = stage_names g k h _ C d f s (grows_trans both (grows_trans set_grows (emit_grows C (j a (next_temporary p.draft)) m))) in
     let u = olds c t (site c at) a i e d ns in
     let le = u.more in
-    let set_edge = stage_edge g k h Any Uncalled _ d (with_temporary t p.draft) f (Set (next_temporary p.draft) v) s (grows_trans any2 (temporary_grows Any t p.draft)) last in
-    let put_edge = stage_edge g k h Any Uncalled _ d m f (j a (next_temporary p.draft)) s (grows_trans any2 set_grows) (grows_refl Uncalled f) in
+    let set_edge = stage_edge g k h Uncalled _ d (with_temporary t p.draft) f (Set (next_temporary p.draft) v) s (grows_trans both (temporary_grows C t p.draft)) last in
+    let put_edge = stage_edge g k h Uncalled _ d m f (j a (next_temporary p.draft)) s (grows_trans both set_grows) (grows_refl Uncalled f) in
     reload_laid g k h x at t y i e (work.Renewed op q o t (work.StoreKept at b w)) n d f hs ns fa fi fe calm s (grows_trans (made_grows Uncalled (Set (next_temporary p.draft) v) t p.draft) last) (
       p.draft.points,
       p.draft.variables,

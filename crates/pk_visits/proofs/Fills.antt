@@ -19,9 +19,9 @@ use Rattle.pk_meaning.specs.Objects.{Array}
 use Rattle.pk_meaning.specs.Work as work
 use Rattle.pk_meaning.specs.Work.{Place, Work}
 use Rattle.pk_visits.proofs.Slots.{Slot, Among, edge}
-use Rattle.pk_visits.proofs.Grows.{grows_trans, emit_grows}
-use Rattle.pk_visits.proofs.Stands.{Whole, context_of, Held, IsArrayOf, local_array, cells, led_to, Laid, IsCalled}
-use Rattle.pk_visits.proofs.Stages.{In, all_called, ways_grow, stage_first, stage_second, stage_edge}
+use Rattle.pk_visits.proofs.Grows.{grows_trans, emit_grows, loosened}
+use Rattle.pk_visits.proofs.Stands.{Whole, context_of, Held, IsArrayOf, local_array, cells, Laid, IsCalled}
+use Rattle.pk_visits.proofs.Stages.{all_called, ways_grow, stage_first, stage_second, stage_edge, first_called}
 use Rattle.pk_visits.proofs.StatementGrows.{items_adds}
 use Rattle.pk_visits.proofs.Tells.{Any, sane, any_called}
 use Rattle.pk_visits.proofs.ElementTrees.{array_is}
@@ -50,7 +50,7 @@ item_laid g k h x a j e es w p hs (d, n, i, at, same, fine, fits, bound, calm, s
     let D = IsCalled c (calls_in_values es) in
     let ge = (ways_grow c e).value d in
     let rest = items_adds D c i (j + 1) es f1 (all_called c (calls_in_values es)) in
-    let z = stage_edge g k h C D (calls_in e ++ calls_in_values es) d r.1 f I s ge rest in
+    let z = stage_edge g k h D (calls_in e ++ calls_in_values es) d r.1 f I s (loosened (first_called c (calls_in e) (calls_in_values es)) ge) rest in
     let whole = grows_trans ((sane c e).value d) (grows_trans (emit_grows Any I r.1) (items_adds Any c i (j + 1) es f1 (any_called c (calls_in_values es)))) in
     let ns = stage_names g k h (calls_in e ++ calls_in_values es) Any d f s whole in
     let cells_are : lower.array_of c (Local i) d ≡ cells b = array_is g k b.int_type (Local i) d ns in
@@ -85,7 +85,7 @@ item_laid g k h x a j e es w p hs (d, n, i, at, same, fine, fits, bound, calm, s
           fits.1,
           (let q = subst (λ (y : Array). j + (1 + count es) ≤ y.length) same bound in omega (arith, q)),
           calm_more d.variables f1.variables hs v2 calm,
-          stage_second g k h C (calls_in e) (calls_in_values es) d f1 f s first,
+          stage_second g k h (calls_in e) (calls_in_values es) d f1 f s first,
           l,
         ),
       ),

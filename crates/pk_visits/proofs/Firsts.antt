@@ -31,7 +31,7 @@ use Rattle.pk_visits.proofs.Slots.{Slot, own, slots, Draft, Memory, with_memory,
 use Rattle.pk_visits.proofs.Stands.{Whole, context_of, Held, held, around, local_array, cells, AreCalm, HasKind, Means, FitsObjects, Writes, Stage, led_to, Laid, IsCalled}
 use Rattle.pk_visits.proofs.Stores.{Fitting, fits_written, means_apart}
 use Rattle.pk_visits.proofs.Follow.{Answers, config, still, moved, kind_is}
-use Rattle.pk_visits.proofs.Stages.{In, all_called, ways_grow, stage_until, stage_from, stage_edge}
+use Rattle.pk_visits.proofs.Stages.{all_called, ways_grow, stage_until, stage_from, stage_edge}
 use Rattle.pk_visits.proofs.StatementGrows.{items_adds}
 use Rattle.pk_visits.proofs.ElementTrees.{array_is}
 use Rattle.pk_visits.proofs.Grows.{grows_refl, grows_trans, emit_grows}
@@ -67,7 +67,7 @@ anything_follows y g chosen m k j x i d vs s b u w hs n kind types lengths calm 
   is = variable_is (context_of g k) (Local i) d ns
 
   z : Among (edge d.point (Havoc (lower.own (context_of g k) i d) t c) d.points) g.edges × Rattle.pk_visits.proofs.Stands.ShowsAt g d.points k j
-  z = stage_edge g k j Uncalled Uncalled [] d d (statements.anything (context_of g k) i d) (Havoc (lower.own (context_of g k) i d) t c) st (grows_refl Uncalled d) (grows_refl Uncalled (statements.anything (context_of g k) i d))
+  z = stage_edge g k j Uncalled [] d d (statements.anything (context_of g k) i d) (Havoc (lower.own (context_of g k) i d) t c) st (grows_refl (IsCalled (context_of g k) []) d) (grows_refl Uncalled (statements.anything (context_of g k) i d))
 
   by : (r : Bool) → are_any t c chosen ≡ r
       → Answers g chosen k y d.point m (if r then meaning.writes (config k j u vs s b) (local k i) chosen w vs else meaning.Wants t c)
@@ -97,7 +97,7 @@ scalar_follows y g chosen m k j x i (Some v) o d vs s b u w hs n kind types leng
     let ge = (ways_grow c v).value d in
     let ns = stage_names g k j (calls_in v) Any d end st (grows_trans ((sane c v).value d) (emit_grows Any I r.1)) in
     let is : v0 ≡ own (local k i) = variable_is c (Local i) d ns in
-    let z = stage_edge g k j (IsCalled c (calls_in v)) Uncalled (calls_in v) d r.1 end I st ge (grows_refl Uncalled end) in
+    let z = stage_edge g k j Uncalled (calls_in v) d r.1 end I st ge (grows_refl Uncalled end) in
     still g chosen d.point m k j (work.Evaluate v (work.Put t (local k i) w)) vs s x hs (
       d,
       o,
@@ -139,11 +139,11 @@ array_follows y g chosen m k j x i (Some es) o d vs s b u w hs n kind types leng
     let rest = items_adds C c i 0 es d1 (all_called c (calls_in_values es)) in
     let ns = stage_names g k j (calls_in_values es) Any d end st (grows_trans (emit_grows Any I d) (items_adds Any c i 0 es d1 (any_called c (calls_in_values es)))) in
     let is : lower.array_of c (Local i) d ≡ cells a = array_is g k a.int_type (Local i) d ns in
-    let z = stage_edge g k j Uncalled C (calls_in_values es) d d end I st (grows_refl Uncalled d) rest in
+    let z = stage_edge g k j C (calls_in_values es) d d end I st (grows_refl C d) rest in
     let zs = replicate a.length (pos 0) in
     let here : HasKind g.program (local k i) (array a.int_type a.length) = subst (HasKind g.program (local k i)) one kind in
     moved g chosen d.point d.points m (with_memory (own (local k i)) zs m) (Clear (cells a)) k j (work.Fill a 0 es w) vs (with_numbers (local k i) zs s) (is_in_scope (local k i) j.scope) x hs
     (subst (λ (y : ArrayOf Slot). Among (edge d.point (Clear y) d.points) g.edges) is z.0) refl (refl, z.1)
-    (d1, o, i, refl, refl, here, fits, omega (arith, room), calm, stage_from g k j Uncalled (calls_in_values es) d d1 end st (emit_grows Uncalled I d), l)
+    (d1, o, i, refl, refl, here, fits, omega (arith, room), calm, stage_from g k j (calls_in_values es) d d1 end st (emit_grows Uncalled I d), l)
     (means_apart (own (local k i)) zs m hs vs (all_own d.variables (local k i) hs calm) e) (ap (with_numbers (local k i) zs) same)
     (fits_written g.program (local k i) zs s (λ q h. subst (λ (y : Kind). Fitting y zs) (kind_is g.program (local k i) (array a.int_type a.length) q here h) (length-replicate a.length (pos 0), zeros_in a.int_type a.length)) f)

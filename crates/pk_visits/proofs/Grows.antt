@@ -21,7 +21,7 @@ use Rattle.pk_lower_row.specs.declared.shapes.Waiting.TheVariants.{Weak}
 use Rattle.pk_lower_row.specs.Shapes.{is_plain, stays, strong_if, strong_or_weak}
 use Rattle.pk_lower_row.specs.Rows as rows
 use Rattle.pk_lower_row.specs.Rows.{Ways, Operand, Target, scalar, element, Two, Loaded, Passed, stored_unless, held, two, one}
-use Rattle.pk_visits.proofs.Slots.{Slot, Draft, Instr, Edge, Takes, KeepsBy, Grows, Never, Same, Scoping, front_among, label_at, region_at}
+use Rattle.pk_visits.proofs.Slots.{Slot, Draft, Instr, Edge, Takes, Divided, KeepsBy, Grows, Never, Same, Scoping, front_among, label_at, region_at}
 
 pub grows_refl : (C : ℕ → Size → Type 0) (d : Draft) → Grows C d d
 grows_refl C d = record {
@@ -33,6 +33,7 @@ grows_refl C d = record {
   labels = λ n h. inr refl;
   beyond = λ n h. inr refl;
   regions = λ k. inr refl;
+  apart = λ j k n. inl refl;
   paths = refl;
   scopes = λ n z h. h;
   here = refl;
@@ -55,6 +56,27 @@ taken {C} {p} {q} {r} {v} {w} {x} {f} {g} {h} a b m n (inl (s, c, i, j, y, z)) (
     inl (subst (Takes C p r v x) (sym e) (s, c, i, omega (arith, b, j), y, omega (arith, n, z)))
 taken a b m n (inr d) (inr e) = inr (e ∙ d)
 
+-- regions that are taken one after the other don't overlap
+pub divided : {C D : Size → Type 0} {p q r v w x : ℕ} (f g h i j l : Region) → Takes C p q v w g ⊎ (g ≡ f) → Takes C q r w x h ⊎ (h ≡ g) → Takes D p q v w j ⊎ (j ≡ i) → Takes D q r w x l ⊎ (l ≡ j)
+    → (g ≡ f) ⊎ (j ≡ i) ⊎ Divided C D g j → (h ≡ g) ⊎ (l ≡ j) ⊎ Divided C D h l → (h ≡ f) ⊎ (l ≡ i) ⊎ Divided C D h l
+divided f g h i j l a b c d e (inr (inr n)) = inr (inr n)
+divided f g h i j l (inl (s, m, a1, a2, a3, a4)) b c (inl (z, n, d1, d2, d3, d4)) e (inl y) =
+    let yp = ap (λ (o : Region). o.points) y in
+    let yv = ap (λ (o : Region). o.variables) y in
+    inr (inr (s, z, m, n, inl (omega (arith, a2, d1, yp), omega (arith, a4, d3, yv))))
+divided f g h i j l (inr a) b c (inl d) e (inl y) = inl (y ∙ a)
+divided f g h i j l a b c (inr d) (inl e) (inl y) = inl (y ∙ e)
+divided f g h i j l a b c (inr d) (inr (inl e)) (inl y) = inr (inl (d ∙ e))
+divided {C} {D} f g h i j l a b c (inr d) (inr (inr e)) (inl y) = inr (inr (subst (λ o. Divided C D o l) (sym y) (subst (λ o. Divided C D g o) (sym d) e)))
+divided f g h i j l a (inl (s, m, b1, b2, b3, b4)) (inl (z, n, c1, c2, c3, c4)) d e (inr (inl y)) =
+    let yp = ap (λ (o : Region). o.points) y in
+    let yv = ap (λ (o : Region). o.variables) y in
+    inr (inr (s, z, m, n, inr (omega (arith, c2, b1, yp), omega (arith, c4, b3, yv))))
+divided f g h i j l a (inl b) (inr c) d e (inr (inl y)) = inr (inl (y ∙ c))
+divided f g h i j l a (inr b) c d (inl e) (inr (inl y)) = inl (b ∙ e)
+divided f g h i j l a (inr b) c d (inr (inl e)) (inr (inl y)) = inr (inl (y ∙ e))
+divided {C} {D} f g h i j l a (inr b) c d (inr (inr e)) (inr (inl y)) = inr (inr (subst (λ o. Divided C D o l) (sym b) (subst (λ o. Divided C D g o) (sym y) e)))
+
 -- what is said of the paths that are called may be more
 pub loosened : {R : Label → Label → Type 0} {M S : ℕ → Type 0} {C D : ℕ → Size → Type 0} {es fs : List Edge} {ns ms : Names Slot} {v w p q : ℕ} {ls ks : List Label} {rs ts : List Region} {aa bb : Scoping} {h i : Label} {xs ys : List VariableOf} {ps qs : List ℕ}
     → ((k : ℕ) (s : Size) → C k s → D k s) → KeepsBy R M S C es ns v p ls rs aa h xs ps fs ms w q ks ts bb i ys qs → KeepsBy R M S D es ns v p ls rs aa h xs ps fs ms w q ks ts bb i ys qs
@@ -67,6 +89,7 @@ loosened {ts = ts} t a = record {
   labels = a.labels;
   beyond = a.beyond;
   regions = λ k. more (region_at ts k) (t k) (a.regions k);
+  apart = λ j k n. still (region_at ts j) (region_at ts k) (t j) (t k) (a.apart j k n);
   paths = a.paths;
   scopes = a.scopes;
   here = a.here;
@@ -80,10 +103,15 @@ loosened {ts = ts} t a = record {
   more r t (inl (s, c, i, j, y, z)) = inl (s, t s c, i, j, y, z)
   more r t (inr e) = inr e
 
+  still : {C D E F : Size → Type 0} {A B : Type 0} (r o : Region) → ((s : Size) → C s → E s) → ((s : Size) → D s → F s) → A ⊎ B ⊎ Divided C D r o → A ⊎ B ⊎ Divided E F r o
+  still r o t u (inl e) = inl e
+  still r o t u (inr (inl e)) = inr (inl e)
+  still r o t u (inr (inr (s, z, c, d, n))) = inr (inr (s, z, t s c, u z d, n))
+
 -- one after the other
 pub keeps_trans : {R : Label → Label → Type 0} {M S : ℕ → Type 0} {C : ℕ → Size → Type 0} {es fs gs : List Edge} {ns ms os : Names Slot} {v w x p q r : ℕ} {ls ks js : List Label} {rs ts us : List Region} {aa bb cc : Scoping} {h i j : Label} {xs ys zs : List VariableOf} {ps qs bs : List ℕ}
     → (R h i → R i j → R h j) → KeepsBy R M S C es ns v p ls rs aa h xs ps fs ms w q ks ts bb i ys qs → KeepsBy R M S C fs ms w q ks ts bb i ys qs gs os x r js us cc j zs bs → KeepsBy R M S C es ns v p ls rs aa h xs ps gs os x r js us cc j zs bs
-keeps_trans t a b = record {
+keeps_trans {rs = rs} {ts = ts} {us = us} t a b = record {
   edges = λ e h. b.edges e (a.edges e h);
   names = b.names ∙ a.names;
   variables = let m = a.variables in let n = b.variables in omega (arith, m, n);
@@ -92,6 +120,7 @@ keeps_trans t a b = record {
   labels = λ n h. linked (a.labels n h) (b.labels n (let m = a.points in omega (arith, h, m)));
   beyond = λ n h. linked (a.beyond n (let m = b.points in omega (arith, h, m))) (b.beyond n h);
   regions = λ k. taken a.points b.points a.variables b.variables (a.regions k) (b.regions k);
+  apart = λ j k n. divided (region_at rs j) (region_at ts j) (region_at us j) (region_at rs k) (region_at ts k) (region_at us k) (a.regions j) (b.regions j) (a.regions k) (b.regions k) (a.apart j k n) (b.apart j k n);
   paths = b.paths ∙ a.paths;
   scopes = λ n z h. b.scopes n z (a.scopes n z h);
   here = t a.here b.here;
@@ -127,6 +156,7 @@ link_grows C i q d = record {
   labels = λ n h. inr refl;
   beyond = λ n h. inr refl;
   regions = λ k. inr refl;
+  apart = λ j k n. inl refl;
   paths = refl;
   scopes = λ n z h. h;
   here = refl;
@@ -147,6 +177,7 @@ emit_grows C i d = record {
   labels = new_label Never d.labels d.points d.points d.here (omega arith);
   beyond = beyond_label Never d.labels d.points d.here;
   regions = λ k. inr refl;
+  apart = λ j k n. inl refl;
   paths = refl;
   scopes = λ n z h. h;
   here = refl;
@@ -167,6 +198,7 @@ temporary_grows C t d = record {
   labels = λ n h. inr refl;
   beyond = λ n h. inr refl;
   regions = λ k. inr refl;
+  apart = λ j k n. inl refl;
   paths = refl;
   scopes = λ n z h. h;
   here = refl;
@@ -191,6 +223,7 @@ fresh_one_grows C d = record {
   labels = new_label Never d.labels d.points d.points d.here (omega arith);
   beyond = beyond_label Never d.labels d.points d.here;
   regions = λ k. inr refl;
+  apart = λ j k n. inl refl;
   paths = refl;
   scopes = λ n z h. h;
   here = refl;
@@ -350,6 +383,7 @@ fresh_three_grows C d = record {
   beyond = λ n h. linked (beyond_label Never d.labels d.points d.here n (omega (arith, h)))
       (linked (beyond_label Never _ (d.points + 1) d.here n (omega (arith, h))) (beyond_label Never _ (d.points + 1 + 1) d.here n (omega (arith, h))));
   regions = λ k. inr refl;
+  apart = λ j k n. inl refl;
   paths = refl;
   scopes = λ n z h. h;
   here = refl;
@@ -442,6 +476,7 @@ entered_grows C k s c d = record {
   labels = λ n h. inr refl;
   beyond = λ n h. inr refl;
   regions = λ j. other_region C d.regions k s d.point d.points d.variables c j;
+  apart = λ i j n. only (decided i k) (decided j k) n;
   paths = length-set d.regions k _;
   scopes = λ n z h. h;
   here = refl;
@@ -450,7 +485,14 @@ entered_grows C k s c d = record {
   unmade = λ n h. refl;
   slots = refl;
   objects = λ n. inr refl;
-}
+} where
+  r : Region
+  r = record { at = d.point; points = d.points; variables = d.variables }
+
+  only : {A : Type 0} {i j : ℕ} → (i ≡ k) ⊎ (i ≢ k) → (j ≡ k) ⊎ (j ≢ k) → (i ≡ j → ⊥) → (region_at (slice_set d.regions k r) i ≡ region_at d.regions i) ⊎ (region_at (slice_set d.regions k r) j ≡ region_at d.regions j) ⊎ A
+  only (inr h) f n = inl (get_or-set_other d.regions k _ r no_region h)
+  only (inl e) (inr h) n = inr (inl (get_or-set_other d.regions k _ r no_region h))
+  only (inl e) (inl f) n = absurd (n (e ∙ sym f))
 
 abbrev pub PassGrows : (C : ℕ → Size → Type 0) → (Draft → Passed Slot) → Type 0
 PassGrows C f = (d : Draft) → Grows C d (f d).draft

@@ -18,11 +18,11 @@ use Rattle.pk_lower_statement.specs.declared.statements.Exits.{Exits}
 use Rattle.pk_meaning.specs.Work as work
 use Rattle.pk_meaning.specs.Work.{Place, Work, Way, Onward}
 use Rattle.pk_visits.proofs.Slots.{Slot, temporary, slots, SlotTree, Draft, edge, Among, Grows, last_among, Uncalled}
-use Rattle.pk_visits.proofs.Grows.{grows_refl, grows_trans, fresh_three_grows, temporary_grows, link_grows, Chooses, Gives}
+use Rattle.pk_visits.proofs.Grows.{grows_refl, grows_trans, fresh_three_grows, temporary_grows, link_grows, Chooses, Gives, loosened}
 use Rattle.pk_visits.proofs.Growing.{lowered}
 use Rattle.pk_visits.proofs.Tells.{sane, Any}
-use Rattle.pk_visits.proofs.Stands.{Whole, Leads, context_of, Held, held, around, AreCalm, ShowsAt, Sets, Stage, led_to, Laid, IsCalled}
-use Rattle.pk_visits.proofs.Stages.{In, ways_grow, stage_first, stage_second, stage_until, stage_from, stage_point, stage_room, three_first, three_second}
+use Rattle.pk_visits.proofs.Stands.{Whole, Leads, context_of, Held, held, around, AreCalm, ShowsAt, Sets, Stage, Laid, IsCalled}
+use Rattle.pk_visits.proofs.Stages.{ways_grow, stage_first, stage_second, stage_until, stage_from, stage_point, stage_room, three_first, three_second, first_called, second_called}
 use Rattle.pk_visits.proofs.Operands.{all_temporary, calm_more, next_is}
 use Rattle.pk_visits.proofs.Doom.{calm_plain}
 
@@ -84,13 +84,16 @@ parts g k h t a b xs ys zs d e hs ga gb any_a any_b ge any_e ns s calm =
     let sea = stage_first g k h (xs ++ ys) zs (begun t d) m rb.1 sb (gb m) in
     let sea' = stage_until g k h (xs ++ ys) (begun t d) ra.1 m sea (link_grows Uncalled (Set y ra.0) o ra.1) in
     let toward : Grows Any (begun t d) m = grows_trans any_e (grows_trans (any_a (at d.points e)) (link_grows Any (Set y ra.0) o ra.1)) in
+    let C = IsCalled (context_of g k) (xs ++ ys) in
+    let reached : Grows C (begun t d) m =
+    grows_trans (loosened (first_called (context_of g k) xs ys) ge) (grows_trans (loosened (second_called (context_of g k) xs ys) (ga (at d.points e))) (link_grows C (Set y ra.0) o ra.1)) in
     let va = ge.variables in
     let vb = toward.variables in
     record {
       test = stage_first g k h xs ys (begun t d) e ra.1 sea' (ga (at d.points e));
       after = grows_trans toward (grows_trans (any_b m) (link_grows Any (Set y rb.0) o rb.1));
-      first = stage_second g k h (IsCalled (context_of g k) xs) xs ys (begun t d) (at d.points e) ra.1 sea' ge;
-      second = stage_second g k h Any (xs ++ ys) zs (begun t d) m rb.1 sb toward;
+      first = stage_second g k h xs ys (begun t d) (at d.points e) ra.1 sea' ge;
+      second = stage_second g k h (xs ++ ys) zs (begun t d) m rb.1 sb reached;
       sets = sets_join g 0 d ra.1 lb ra.0 o hs Any s.marks s.later ns s.leads (grows_trans (any_b m) (link_grows Any (Set y rb.0) o rb.1)) calm;
       sets_too = sets_join g 0 d rb.1 lb rb.0 o hs Any s.marks s.later ns s.leads (grows_refl Any lb) calm;
       more = omega (arith, va);
@@ -106,11 +109,11 @@ join_room g k h xs t d f s u =
 
 shows_first : (g : Whole) (k : ℕ) (h : Place) (xs : List Numbered) (t : IntType) (d f : Draft) → Stage g k h xs d f → Grows Any (begun t d) f → ShowsAt g d.points k h
 shows_first g k h xs t d f s u =
-    stage_point g k h Any xs d (begun t d) f d.points s u (omega arith) (omega arith) (three_first d (join_room g k h xs t d f s u))
+    stage_point g k h Any xs d (begun t d) f d.points s refl u (omega arith) (omega arith) (three_first d (join_room g k h xs t d f s u))
 
 shows_second : (g : Whole) (k : ℕ) (h : Place) (xs : List Numbered) (t : IntType) (d f : Draft) → Stage g k h xs d f → Grows Any (begun t d) f → ShowsAt g (d.points + 1) k h
 shows_second g k h xs t d f s u =
-    stage_point g k h Any xs d (begun t d) f (d.points + 1) s u (omega arith) (omega arith) (three_second d (join_room g k h xs t d f s u))
+    stage_point g k h Any xs d (begun t d) f (d.points + 1) s refl u (omega arith) (omega arith) (three_second d (join_room g k h xs t d f s u))
 
 starts : (d : Draft) (t : IntType) → Grows Uncalled d (begun t d)
 starts d t = grows_trans (fresh_three_grows Uncalled d) (temporary_grows Uncalled t (fresh 3 d))
@@ -135,7 +138,7 @@ conditional_laid g k h x t e a b w p hs (d, n, is, fits, quiet, s, l) =
     let names = sym ns ∙ s.leads.names in
     let q = parts g k h t fa fb xs ys zs d (decided t choice d) hs (λ r. (ways_grow c a).value r) (λ r. (ways_grow c b).value r) (λ r. (sane c a).value r) (λ r. (sane c b).value r)
     ((ways_grow c e).choice d.points (d.points + 1) (begun t d)) ((sane c e).choice d.points (d.points + 1) (begun t d)) names
-    (stage_from g k h Uncalled (xs ++ ys ++ zs) d (begun t d) f split (starts d t)) calm in
+    (stage_from g k h (xs ++ ys ++ zs) d (begun t d) f split (starts d t)) calm in
     let va = q.more in
     let vb = q.more_too in
     let l' = subst (λ v. Laid g k h x w (d.points + 2) (held (variable v) t ∷ hs)) (next_is d names) l in (
@@ -191,7 +194,7 @@ truths_laid g k h x e w choice n d hs same gc any_c fits calm s l =
     let names = sym ns ∙ s.leads.names in
     let q = parts g k h Int fa fb xs [] [] d (decided Int choice d) hs (grows_refl (IsCalled (context_of g k) [])) (grows_refl (IsCalled (context_of g k) [])) (grows_refl Any) (grows_refl Any)
     (gc d.points (d.points + 1) (begun Int d)) (any_c d.points (d.points + 1) (begun Int d)) names
-    (stage_from g k h Uncalled (xs ++ [] ++ []) d (begun Int d) f split (starts d Int)) calm in
+    (stage_from g k h (xs ++ [] ++ []) d (begun Int d) f split (starts d Int)) calm in
     let l' = subst (λ v. Laid g k h x w (d.points + 2) (held (variable v) Int ∷ hs)) (next_is d names) l in (
       begun Int d,
       n,

@@ -1,5 +1,5 @@
 -- From the work of a label, a case or a default to that of its statement, over the edge to the mark's point.
-use Rattle.std.proofs.Common.{ℕ, ◌+◌, List, refl, sym, subst, arith}
+use Rattle.std.proofs.Common.{ℕ, ◌+◌, List, refl, sym, subst}
 use Rattle.pk_ctypes.specs.declared.places.Pos.{Pos}
 use Rattle.pk_typed.specs.Trees.{StatementTree}
 use Rattle.pk_typed.specs.Trees as tree
@@ -16,7 +16,7 @@ use Rattle.pk_meaning.specs.Steps.{place}
 use Rattle.pk_visits.proofs.Slots.{Draft, Among, edge, last_among}
 use Rattle.pk_visits.proofs.Stands.{Whole, Proper, context_of, final, Held, around, AreCalm, ShowsAt, Stage, Marking, LaidAhead, Laid}
 use Rattle.pk_visits.proofs.Settled.{IsMarkedAt, Settles}
-use Rattle.pk_visits.proofs.Stages.{stage_at}
+use Rattle.pk_visits.proofs.Stages.{stage_at, forth_here}
 use Rattle.pk_visits.proofs.Tells.{any_called, Any}
 use Rattle.pk_visits.proofs.StatementGrows.{statement, Free}
 
@@ -44,7 +44,7 @@ mark_laid g proper k h x q s a p hs d n m fits calm t marking is settled l =
         refl,
         fits,
         calm,
-        stage_at g k (place d.here.at h.scope) j (calls_in_statement s) d e (lowered c s x e) t (omega arith) here,
+        stage_at g k (place d.here.at h.scope) j (calls_in_statement s) d e (lowered c s x e) t (forth_here g d.points d.regions) here,
         marking,
         settled,
         l,

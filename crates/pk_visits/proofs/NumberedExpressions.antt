@@ -1,5 +1,5 @@
 -- Expressions whose variables are renamed: the lowering makes the same of them.
-use Rattle.std.proofs.Common.{◌≡◌, ℕ, List, [], ◌∷◌, length, Bool, true, false, if◌then◌else◌, refl, sym, ap, ◌∙◌, pos}
+use Rattle.std.proofs.Common.{◌≡◌, ℕ, List, Bool, true, false, if◌then◌else◌, refl, ap, ◌∙◌, pos}
 use Rattle.pk_ctypes.specs.declared.types.IntType.{IntType}
 use Rattle.pk_ctypes.specs.declared.types.IntType.TheVariants.{Int}
 use Rattle.pk_ctypes.specs.declared.types.Op.{Op}
@@ -13,15 +13,15 @@ use Rattle.pk_graph.specs.declared.trees.Site.{Site}
 use Rattle.pk_graph.specs.Trees.{constant, variable, ArrayOf}
 use Rattle.pk_graph.specs.Kinds.{count_of}
 use Rattle.pk_draft.specs.Drafts.{DraftOf, Given, stored}
-use Rattle.pk_lower_row.specs.declared.shapes.Shape.TheVariants.{Fixed, Temporary, Named}
+use Rattle.pk_lower_row.specs.declared.shapes.Shape.TheVariants.{Fixed, Named}
 use Rattle.pk_lower_row.specs.Shapes.{any_makes}
 use Rattle.pk_lower_row.specs.Contexts.{Context, site, callee, size_in, parameters_of, variable_of, array_of, length_of}
 use Rattle.pk_lower_row.specs.Rows as rows
 use Rattle.pk_lower_row.specs.Rows.{Ways, Operand, Target, operand, types_of}
 use Rattle.pk_lower_expression.specs.Expressions.{target, ways, performed, passed}
-use Rattle.pk_visits.proofs.NumberedNames.{array_by, draft_by, given_by, stored_by}
+use Rattle.pk_visits.proofs.NumberedNames.{array_by, draft_by, stored_by}
 use Rattle.pk_visits.proofs.NumberedRows.{Works, Gives, WaysBy, beside, TargetsBy, scalars, elements, both_by, value_by, read_by, any_by, convert_by, unary_ways_by, binary_ways_by, and_by, or_by, then_by}
-use Rattle.pk_visits.proofs.NumberedForms.{assign_by, update_scalar_by, update_by, loads_by, renew_old_by, renew_unused_by, given, truth_by, conditional_by, assumed_by, check_by, Passes, passed_by, call_after_by, passed_before_by}
+use Rattle.pk_visits.proofs.NumberedForms.{assign_by, update_scalar_by, update_by, loads_by, renew_old_by, renew_unused_by, given, truth_by, conditional_by, assumed_by, check_by, Passes, call_after_by, passed_before_by}
 
 -- ---- steps
 

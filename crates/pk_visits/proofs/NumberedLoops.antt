@@ -1,13 +1,13 @@
 -- Choices and loops whose variables are renamed: the lowering makes the same of them.
-use Rattle.std.proofs.Common.{◌≡◌, ℕ, ◌+◌, List, refl, sym, ap, ◌∙◌}
+use Rattle.std.proofs.Common.{ℕ, ◌+◌, ap, ◌∙◌}
 use Rattle.pk_ctypes.specs.declared.places.Pos.{Pos}
 use Rattle.pk_lower_statement.specs.declared.statements.Exits.{Exits}
 use Rattle.pk_graph.specs.Trees.{Skip}
-use Rattle.pk_draft.specs.Drafts.{DraftOf, at, on, in_scope, fresh, link, go}
+use Rattle.pk_draft.specs.Drafts.{DraftOf, at, on, fresh, link, go}
 use Rattle.pk_lower_row.specs.Rows.{Ways}
 use Rattle.pk_lower_statement.specs.Statements as statements
 use Rattle.pk_lower_statement.specs.Statements.{inside}
-use Rattle.pk_visits.proofs.NumberedNames.{draft_by, link_by, go_by}
+use Rattle.pk_visits.proofs.NumberedNames.{link_by, go_by}
 use Rattle.pk_visits.proofs.NumberedRows.{Works, WaysBy}
 
 branching_by : {V W : Type 0} (f : V → W) (p : Pos) (c : Ways V) (z : Ways W) → WaysBy f c z → Works f (statements.branching p c) (statements.branching p z)

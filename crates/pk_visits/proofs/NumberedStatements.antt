@@ -1,31 +1,27 @@
 -- Declarations and statements whose variables are renamed: the lowering makes the same of them.
-use Rattle.std.proofs.Common.{◌≡◌, ℕ, ◌+◌, List, [], ◌∷◌, length, Bool, true, false, if◌then◌else◌, refl, sym, ap, ◌∙◌, ℤ, pos}
+use Rattle.std.proofs.Common.{◌≡◌, ℕ, ◌+◌, List, [], ◌∷◌, false, refl, ap, ◌∙◌, pos}
 use Rattle.std.specs.Prelude.{Option, Some, None}
-use Rattle.pk_ctypes.specs.declared.places.Pos.{Pos}
 use Rattle.pk_ctypes.specs.declared.types.IntType.{IntType}
 use Rattle.pk_ctypes.specs.declared.types.IntType.TheVariants.{Int}
 use Rattle.pk_typed.specs.declared.values.Variable.TheVariants.{Local}
 use Rattle.pk_typed.specs.Trees.{ValueTree, EffectTree, ValueTrees, DeclaredTree, ForStartTree, StatementTree, ItemTrees}
 use Rattle.pk_typed.specs.Trees as tree
 use Rattle.pk_typed.specs.Types.{type_of}
-use Rattle.pk_lower_statement.specs.declared.statements.Exits.{Exits}
 use Rattle.pk_graph.specs.declared.trees.Site.{Site}
 use Rattle.pk_graph.specs.Kinds.{count_of}
-use Rattle.pk_graph.specs.Trees.{TreeOf, constant, ArrayOf, Skip, Havoc, Clear, Store}
-use Rattle.pk_draft.specs.Drafts.{DraftOf, Given, at, on, in_scope, fresh, inner, with_object, link, go, emit, away, come}
-use Rattle.pk_draft.specs.Folding.{conversion, binary_tree}
-use Rattle.pk_lower_row.specs.declared.shapes.Waiting.TheVariants.{Strong}
-use Rattle.pk_lower_row.specs.Shapes.{converted_shape}
-use Rattle.pk_lower_row.specs.Contexts.{Context, site, own, own_result, array_of, local_at}
+use Rattle.pk_graph.specs.Trees.{TreeOf, constant, ArrayOf, Havoc, Clear, Store}
+use Rattle.pk_draft.specs.Drafts.{Given, on, inner, with_object, emit}
+use Rattle.pk_draft.specs.Folding.{conversion}
+use Rattle.pk_lower_row.specs.Contexts.{Context, site, own, array_of, local_at}
 use Rattle.pk_lower_row.specs.Rows as rows
 use Rattle.pk_lower_row.specs.Rows.{Ways, Operand, operand}
-use Rattle.pk_lower_expression.specs.Expressions.{ways, performed}
+use Rattle.pk_lower_expression.specs.Expressions.{ways}
 use Rattle.pk_lower_statement.specs.Statements as statements
 use Rattle.pk_lower_statement.specs.Statements.{named, items, all_declared, case_tests, lowered, lowered_items}
-use Rattle.pk_visits.proofs.NumberedNames.{tree_by, array_by, draft_by, given_by, conversion_by, binary_by, link_by, go_by, emit_by, come_by, away_by, fresh_by}
+use Rattle.pk_visits.proofs.NumberedNames.{array_by, draft_by, given_by, conversion_by, emit_by}
 use Rattle.pk_visits.proofs.NumberedRows.{Works, WaysBy}
 use Rattle.pk_visits.proofs.NumberedForms.{set_after_by}
-use Rattle.pk_visits.proofs.NumberedExpressions.{array_of_by, ways_by, performed_by}
+use Rattle.pk_visits.proofs.NumberedExpressions.{array_of_by, ways_by}
 
 -- ---- declarations
 

@@ -1,19 +1,19 @@
 -- The loop `for`, and switches, whose variables are renamed: the lowering makes the same of them.
-use Rattle.std.proofs.Common.{◌≡◌, ℕ, ◌+◌, List, [], ◌∷◌, length, Bool, if◌then◌else◌, refl, sym, ap, ◌∙◌, ℤ}
+use Rattle.std.proofs.Common.{ℕ, ◌+◌, List, [], ◌∷◌, refl, ap, ◌∙◌, ℤ}
 use Rattle.pk_ctypes.specs.declared.places.Pos.{Pos}
 use Rattle.pk_ctypes.specs.declared.types.IntType.{IntType}
 use Rattle.pk_ctypes.specs.declared.types.Op.TheVariants.{Eq}
 use Rattle.pk_lower_statement.specs.declared.statements.Exits.{Exits}
 use Rattle.pk_graph.specs.declared.trees.Site.{Site}
 use Rattle.pk_graph.specs.Trees.{TreeOf, constant, Skip}
-use Rattle.pk_draft.specs.Drafts.{DraftOf, Given, at, on, in_scope, fresh, go, away}
+use Rattle.pk_draft.specs.Drafts.{DraftOf, at, on, in_scope, fresh, go}
 use Rattle.pk_draft.specs.Folding.{binary_tree}
 use Rattle.pk_lower_row.specs.Rows as rows
 use Rattle.pk_lower_statement.specs.Statements as statements
 use Rattle.pk_lower_statement.specs.Statements.{case_tests}
-use Rattle.pk_visits.proofs.NumberedNames.{tree_by, draft_by, given_by, binary_by, go_by, away_by, fresh_by}
+use Rattle.pk_visits.proofs.NumberedNames.{tree_by, draft_by, binary_by, go_by}
 use Rattle.pk_visits.proofs.NumberedRows.{Works, guards_by}
-use Rattle.pk_visits.proofs.NumberedLoops.{Does, round_by, begun_by}
+use Rattle.pk_visits.proofs.NumberedLoops.{Does, round_by}
 
 pub for_from_by : {V W : Type 0} (f : V → W) (p : Pos) (t : (p q : ℕ) → DraftOf V → DraftOf V) (u : (p q : ℕ) → DraftOf W → DraftOf W) (a : DraftOf V → DraftOf V) (b : DraftOf W → DraftOf W) (s : Exits → DraftOf V → DraftOf V) (r : Exits → DraftOf W → DraftOf W) (x : Exits) (i k e : ℕ)
     → ((p q : ℕ) → Works f (t p q) (u p q)) → Works f a b → Does f s r → Works f (statements.for_from p t a s x i k e) (statements.for_from p u b r x i k e)

@@ -20,11 +20,11 @@ use Rattle.pk_lower_statement.specs.declared.statements.Exits.{Exits}
 use Rattle.pk_meaning.specs.Objects.{Object}
 use Rattle.pk_meaning.specs.Work.{Place, Work, Keep, Evaluate}
 use Rattle.pk_visits.proofs.Slots.{Slot, own, temporary, slots, Draft, SlotTree, Grows, Uncalled}
-use Rattle.pk_visits.proofs.Grows.{grows_trans, temporary_grows, held_grows}
+use Rattle.pk_visits.proofs.Grows.{grows_trans, temporary_grows, held_grows, loosened}
 use Rattle.pk_visits.proofs.Growing.{lowered}
 use Rattle.pk_visits.proofs.Tells.{Tells, shapes}
-use Rattle.pk_visits.proofs.Stands.{Whole, context_of, Held, held, around, IsApart, AreApart, IsCalm, AreCalm, AreQuiet, ArePlain, Stage, led_to, Laid, IsCalled}
-use Rattle.pk_visits.proofs.Stages.{In, ways_grow, stage_first, stage_second, stage_until, stage_edge}
+use Rattle.pk_visits.proofs.Stands.{Whole, context_of, Held, held, around, IsApart, AreApart, IsCalm, AreCalm, AreQuiet, ArePlain, Stage, Laid, IsCalled}
+use Rattle.pk_visits.proofs.Stages.{ways_grow, stage_first, stage_second, stage_until, stage_edge, first_called}
 use Rattle.pk_visits.proofs.Doom.{calm_plain}
 
 -- ---- calm trees
@@ -91,12 +91,12 @@ UnlessLoose Loose A = Unit {0}
 UnlessLoose Strong A = A
 UnlessLoose Weak A = A
 
-keep_unless : (g : Whole) (k : ℕ) (h : Place) (x : Exits) (w : Work) (b : Bool) (t : IntType) (r : Given Slot) (hs : List Held) (C E : ℕ → Size → Type 0) (xs : List Numbered) (d f : Draft)
-    → Stage g k h xs d f → Grows C d r.1 → Grows E (stored_unless b t r).1 f → r.1.names ≡ slots → AreApart (temporary r.1.variables) hs × ArePlain hs
+keep_unless : (g : Whole) (k : ℕ) (h : Place) (x : Exits) (w : Work) (b : Bool) (t : IntType) (r : Given Slot) (hs : List Held) (E : ℕ → Size → Type 0) (xs : List Numbered) (d f : Draft)
+    → Stage g k h xs d f → Grows (IsCalled (context_of g k) xs) d r.1 → Grows E (stored_unless b t r).1 f → r.1.names ≡ slots → AreApart (temporary r.1.variables) hs × ArePlain hs
     → Laid g k h x w (stored_unless b t r).1.point (held (stored_unless b t r).0 t ∷ hs) → Laid g k h x (Keep w) r.1.point (held r.0 t ∷ hs)
-keep_unless g k h x w true t r hs C E xs d f s u v n c l = inl l
-keep_unless g k h x w false t r hs C E xs d f s u v n c l =
-    let e = stage_edge g k h C E xs d (with_temporary t r.1) f (Set (next_temporary r.1) r.0) s (grows_trans u (temporary_grows C t r.1)) v in
+keep_unless g k h x w true t r hs E xs d f s u v n c l = inl l
+keep_unless g k h x w false t r hs E xs d f s u v n c l =
+    let e = stage_edge g k h E xs d (with_temporary t r.1) f (Set (next_temporary r.1) r.0) s (grows_trans u (temporary_grows (IsCalled (context_of g k) xs) t r.1)) v in
     inr (
       r.1.points,
       r.1.variables,
@@ -109,12 +109,12 @@ keep_unless g k h x w false t r hs C E xs d f s u v n c l =
       subst (λ y. Laid g k h x w r.1.points (held (variable y) t ∷ hs)) (next_is r.1 n) l,
     )
 
-pub keep_laid : (g : Whole) (k : ℕ) (h : Place) (x : Exits) (w : Work) (how : Waiting) (s : Shape) (t : IntType) (r : Given Slot) (hs : List Held) (C E : ℕ → Size → Type 0) (xs : List Numbered) (d f : Draft)
-    → Stage g k h xs d f → Grows C d r.1 → Grows E (rows.held how s t r).1 f → r.1.names ≡ slots → UnlessLoose how (AreApart (temporary r.1.variables) hs × ArePlain hs)
+pub keep_laid : (g : Whole) (k : ℕ) (h : Place) (x : Exits) (w : Work) (how : Waiting) (s : Shape) (t : IntType) (r : Given Slot) (hs : List Held) (E : ℕ → Size → Type 0) (xs : List Numbered) (d f : Draft)
+    → Stage g k h xs d f → Grows (IsCalled (context_of g k) xs) d r.1 → Grows E (rows.held how s t r).1 f → r.1.names ≡ slots → UnlessLoose how (AreApart (temporary r.1.variables) hs × ArePlain hs)
     → Laid g k h x w (rows.held how s t r).1.point (held (rows.held how s t r).0 t ∷ hs) → Laid g k h x (Keep w) r.1.point (held r.0 t ∷ hs)
-keep_laid g k h x w Loose s t r hs C E xs d f st u v n c l = inl l
-keep_laid g k h x w Strong s t r hs C E xs d f st u v n c l = keep_unless g k h x w (stays Strong s) t r hs C E xs d f st u v n c l
-keep_laid g k h x w Weak s t r hs C E xs d f st u v n c l = keep_unless g k h x w (stays Weak s) t r hs C E xs d f st u v n c l
+keep_laid g k h x w Loose s t r hs E xs d f st u v n c l = inl l
+keep_laid g k h x w Strong s t r hs E xs d f st u v n c l = keep_unless g k h x w (stays Strong s) t r hs E xs d f st u v n c l
+keep_laid g k h x w Weak s t r hs E xs d f st u v n c l = keep_unless g k h x w (stays Weak s) t r hs E xs d f st u v n c l
 
 -- where the second makes an edge the first is held strongly, so that it is calm
 pub first_calm : (how : Waiting) (s : Shape) (t : IntType) (r : Given Slot) → how ≡ Strong → r.1.names ≡ slots → Tells r.1.variables s r.0 → IsCalm (rows.held how s t r).1.variables (rows.held how s t r).0
@@ -144,7 +144,7 @@ two_laid g k h x w how a b n d f hs ns strong kept quiet fa qa fb s z l =
     let more : Grows (IsCalled c (calls_in b)) r.1 q.1 = grows_trans (held_grows (IsCalled c (calls_in b)) how (shape_of a) (type_of a) r) gb in
     let sa = stage_first g k h (calls_in a) (calls_in b) d r.1 q.1 whole more in
     let kept_grows = held_grows (IsCalled c (calls_in a)) how (shape_of a) (type_of a) r in
-    let sb = stage_second g k h (IsCalled c (calls_in a)) (calls_in a) (calls_in b) d v.1 q.1 whole (grows_trans ga kept_grows) in
+    let sb = stage_second g k h (calls_in a) (calls_in b) d v.1 q.1 whole (grows_trans ga kept_grows) in
     let ra = ga.variables in
     let rb = kept_grows.variables in
     let names = ga.names ∙ ns in (
@@ -154,7 +154,7 @@ two_laid g k h x w how a b n d f hs ns strong kept quiet fa qa fb s z l =
       fa,
       qa,
       sa,
-      keep_laid g k h x (Evaluate b w) how (shape_of a) (type_of a) r hs (IsCalled c (calls_in a)) (IsCalled c (calls_in b)) (calls_in a ++ calls_in b) d q.1 whole ga gb names
+      keep_laid g k h x (Evaluate b w) how (shape_of a) (type_of a) r hs (IsCalled c (calls_in b)) (calls_in a ++ calls_in b) d q.1 whole (loosened (first_called c (calls_in a) (calls_in b)) ga) gb names
           (unless_more how d.variables r.1.variables hs ra kept) (
             v.1,
             n,

@@ -1,5 +1,5 @@
 -- From the work of a call to that of its arguments, its parameters and its body.
-use Rattle.std.proofs.Common.{◌≡◌, ℕ, suc, ◌+◌, List, [], ◌∷◌, ◌++◌, length, false, refl, ap, subst, inl, arith, Some}
+use Rattle.std.proofs.Common.{◌≡◌, ℕ, suc, ◌+◌, List, [], ◌∷◌, ◌++◌, length, false, refl, ap, subst, arith, Some}
 use Rattle.std.specs.Prelude.{slice_get}
 use Rattle.pk_ctypes.specs.declared.types.IntType.{IntType}
 use Rattle.pk_typed.specs.Trees.{ValueTree, EffectTree, ValueTrees, FunctionTree}
@@ -8,15 +8,14 @@ use Rattle.pk_typed.specs.Types.{type_of}
 use Rattle.pk_graph.specs.Trees.{Set}
 use Rattle.pk_draft.specs.Drafts.{Names, emit}
 use Rattle.pk_draft.specs.Folding.{conversion}
-use Rattle.pk_draft.specs.declared.drafts.Size.{Size}
 use Rattle.pk_lower_row.specs.Rows as rows
 use Rattle.pk_lower_row.specs.Rows.{types_of}
 use Rattle.pk_meaning.specs.Objects.{local, is_in_scope}
 use Rattle.pk_meaning.specs.Work.{Place}
 use Rattle.pk_welltyped.specs.Listed.{Numbered}
 use Rattle.pk_visits.proofs.Slots.{Slot, own, slots, SlotTree, Draft, Among, edge, Grows}
-use Rattle.pk_visits.proofs.Grows.{grows_trans, emit_grows, bound_grows, loosened}
-use Rattle.pk_visits.proofs.Stands.{Whole, Held, held, IsApart, AreApart, ArePlain, ArePlainUnder, IsScalar, Passes, picked, pushed, Binds, Stage}
+use Rattle.pk_visits.proofs.Grows.{grows_trans, emit_grows, bound_grows}
+use Rattle.pk_visits.proofs.Stands.{Whole, Held, held, IsApart, AreApart, ArePlain, ArePlainUnder, IsScalar, Passes, picked, pushed, Binds, Stage, context_of, IsCalled}
 use Rattle.pk_visits.proofs.Stages.{stage_edge}
 use Rattle.pk_visits.proofs.Tells.{Any}
 
@@ -75,20 +74,20 @@ apart_stacked x (u ∷ us) (r ∷ rs) hs a h = apart_stacked x us rs (held r u �
 -- ---- parameters
 
 -- The parameters' edges of path m from number i on.
-pub binds_laid : (g : Whole) (k : ℕ) (h : Place) (m i y : ℕ) (ts us : List IntType) (rs : List SlotTree) (rest : ℕ → List Held → Type 0) (d e f : Draft) (hs : List Held) (C : ℕ → Size → Type 0) (zs : List Numbered)
+pub binds_laid : (g : Whole) (k : ℕ) (h : Place) (m i y : ℕ) (ts us : List IntType) (rs : List SlotTree) (rest : ℕ → List Held → Type 0) (d e f : Draft) (hs : List Held) (zs : List Numbered)
     → length us ≡ length ts → AsMany us rs → ((j : ℕ) (t : IntType) → slice_get ts j ≡ Some t → IsScalar g (local m (i + j)) t) → ((j : ℕ) → is_in_scope (local m j) h.scope ≡ false)
     → ((j : ℕ) → AllApart (own (local m j)) rs) → ((j : ℕ) → AreApart (own (local m j)) hs) → ArePlain hs → e.names ≡ slots
-    → Stage g k h zs d f → Grows C d e → Grows Any (rows.bound m i y ts us rs e) f → rest (rows.bound m i y ts us rs e).point hs
+    → Stage g k h zs d f → Grows (IsCalled (context_of g k) zs) d e → Grows Any (rows.bound m i y ts us rs e) f → rest (rows.bound m i y ts us rs e).point hs
     → Binds g k h m i ts rest e.point (stacked us rs hs)
-binds_laid g k h m i y [] [] [] rest d e f hs C zs n a kinds hidden apart under plain ns s u v l = l
-binds_laid g k h m i y [] [] (r ∷ rs) rest d e f hs C zs n a kinds hidden apart under plain ns s u v l = absurd a
-binds_laid g k h m i y [] (w ∷ us) rs rest d e f hs C zs n a kinds hidden apart under plain ns s u v l = absurd (grind (arith, n))
-binds_laid g k h m i y (t ∷ ts) [] rs rest d e f hs C zs n a kinds hidden apart under plain ns s u v l = absurd (grind (arith, n))
-binds_laid g k h m i y (t ∷ ts) (w ∷ us) [] rest d e f hs C zs n a kinds hidden apart under plain ns s u v l = absurd a
-binds_laid g k h m i y (t ∷ ts) (w ∷ us) (r ∷ rs) rest d e f hs C zs n a kinds hidden apart under plain ns s u v l =
+binds_laid g k h m i y [] [] [] rest d e f hs zs n a kinds hidden apart under plain ns s u v l = l
+binds_laid g k h m i y [] [] (r ∷ rs) rest d e f hs zs n a kinds hidden apart under plain ns s u v l = absurd a
+binds_laid g k h m i y [] (w ∷ us) rs rest d e f hs zs n a kinds hidden apart under plain ns s u v l = absurd (grind (arith, n))
+binds_laid g k h m i y (t ∷ ts) [] rs rest d e f hs zs n a kinds hidden apart under plain ns s u v l = absurd (grind (arith, n))
+binds_laid g k h m i y (t ∷ ts) (w ∷ us) [] rest d e f hs zs n a kinds hidden apart under plain ns s u v l = absurd a
+binds_laid g k h m i y (t ∷ ts) (w ∷ us) (r ∷ rs) rest d e f hs zs n a kinds hidden apart under plain ns s u v l =
     let j = Set (e.names.object m i y) (conversion w t r) in
     let o = emit j e in
-    let z = stage_edge g k h C Any zs d e f j s u (grows_trans (bound_grows Any m (i + 1) (y + 1) ts us rs o) v) in
+    let z = stage_edge g k h Any zs d e f j s u (grows_trans (bound_grows Any m (i + 1) (y + 1) ts us rs o) v) in
     let same : e.names.object m i y ≡ own (local m i) = ap (λ (q : Names Slot). q.object m i y) ns in
     let len : length us ≡ length ts = omega (arith, n) in
     subst (λ c. picked c (stacked us rs (held r w ∷ hs)) (λ b hs. (q : ℕ) × IsScalar g (local m i) t × Passes g k h (length ts) e.point (local m i) (conversion b.int_type t b.tree) q hs × Binds g k h m (i + 1) ts rest q hs)) (omega (arith, len))
@@ -102,8 +101,6 @@ binds_laid g k h m i y (t ∷ ts) (w ∷ us) (r ∷ rs) rest d e f hs C zs n a k
         hidden = hidden i;
         plain = subst (λ c. ArePlainUnder c (stacked us rs hs)) (omega (arith, len)) (under_stacked us rs [] hs a plain);
       },
-      binds_laid g k h m (i + 1) (y + 1) ts us rs rest d o f hs Any zs len a (λ b q is. subst (λ c. IsScalar g (local m c) q) (omega arith) (kinds (suc b) q is)) hidden (λ b. (apart b).1) under plain ns s
-          (grows_trans (weaken u) (emit_grows Any j e)) v l,
-    )) where
-      weaken : Grows C d e → Grows Any d e
-      weaken q = loosened (λ j z i. tt) q
+      binds_laid g k h m (i + 1) (y + 1) ts us rs rest d o f hs zs len a (λ b q is. subst (λ c. IsScalar g (local m c) q) (omega arith) (kinds (suc b) q is)) hidden (λ b. (apart b).1) under plain ns s
+          (grows_trans u (emit_grows (IsCalled (context_of g k) zs) j e)) v l,
+    ))

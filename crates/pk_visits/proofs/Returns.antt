@@ -27,10 +27,10 @@ use Rattle.pk_meaning.specs.Work.{Place, Caller, Ahead}
 use Rattle.pk_meaning.specs.Steps as meaning
 use Rattle.pk_meaning.specs.Steps.{place, step_of, caller_of}
 use Rattle.pk_visits.proofs.Slots.{Slot, own, Draft, Memory, with_memory, Among, edge, last_among, Uncalled}
-use Rattle.pk_visits.proofs.Stands.{Whole, Proper, context_of, Held, around, ArePlain, AreCalm, ShowsAt, Means, FitsObjects, Writes, EndedBy, end_place, Stage, led_to, LaidWay, LaidAhead, LaidCaller, Laid, IsCalled}
+use Rattle.pk_visits.proofs.Stands.{Whole, Proper, context_of, Held, around, ArePlain, AreCalm, ShowsAt, Means, FitsObjects, Writes, EndedBy, end_place, Stage, LaidWay, LaidAhead, LaidCaller, Laid}
 use Rattle.pk_visits.proofs.Stores.{Fitting, fits_written, means_apart}
 use Rattle.pk_visits.proofs.Follow.{Answers, config, still, moved, kind_is, scalar_written}
-use Rattle.pk_visits.proofs.Stages.{In, ways_grow, stage_at, stage_until, stage_edge}
+use Rattle.pk_visits.proofs.Stages.{ways_grow, stage_at, stage_until, stage_edge, forth_here}
 use Rattle.pk_visits.proofs.Grows.{grows_trans, emit_grows, link_grows, fresh_one_grows}
 use Rattle.pk_visits.proofs.Tells.{Any, sane}
 use Rattle.pk_visits.proofs.Trees.{stage_names}
@@ -127,13 +127,13 @@ value_laid g proper k h x p t e a n d hs is fits calm s l =
     let i = Set v (conversion (type_of e) t r.0) in
     let u = emit i r.1 in
     let f = away x.left u in
-    let so = stage_at g k _ j (calls_in e) d o f s (omega arith) (proper.positions d.here k h.scope p s.here) in
+    let so = stage_at g k _ j (calls_in e) d o f s (forth_here g d.points d.regions) (proper.positions d.here k h.scope p s.here) in
     let ge = (ways_grow c e).value o in
     let away_grows = grows_trans (link_grows Any Skip x.left u) (fresh_one_grows Any (link Skip x.left u)) in
     let none = grows_trans (link_grows Uncalled Skip x.left u) (fresh_one_grows Uncalled (link Skip x.left u)) in
     let ns = stage_names g k j (calls_in e) Any o f so (grows_trans ((sane c e).value o) (grows_trans (emit_grows Any i r.1) away_grows)) in
     let same : v ≡ own (result k) = ap (λ (b : Names Slot). b.result k (object_number (length c.locals) o)) ns in
-    let z = stage_edge g k j (IsCalled c (calls_in e)) Uncalled (calls_in e) o r.1 f i so ge none in
+    let z = stage_edge g k j Uncalled (calls_in e) o r.1 f i so ge none in
     let w = caller_laid g k x a f.point hs l in (
       o,
       n,

@@ -1,5 +1,5 @@
 -- From the work of a loop to that of its test and body.
-use Rattle.std.proofs.Common.{◌≡◌, ℕ, ◌+◌, ◌≤◌, List, [], ◌++◌, length, refl, sym, ◌∙◌, subst, inr, arith}
+use Rattle.std.proofs.Common.{◌≡◌, ℕ, ◌+◌, ◌≤◌, List, ◌++◌, length, refl, sym, ◌∙◌, subst, inr, arith, inl}
 use Rattle.pk_ctypes.specs.declared.places.Pos.{Pos}
 use Rattle.pk_typed.specs.Trees.{ValueTree, EffectTree, StatementTree}
 use Rattle.pk_typed.specs.Trees as tree
@@ -16,12 +16,12 @@ use Rattle.pk_meaning.specs.Work as work
 use Rattle.pk_meaning.specs.Work.{Place, Work, Ahead, Loop, Onward, While, DoWhile}
 use Rattle.pk_meaning.specs.Steps.{place}
 use Rattle.pk_visits.proofs.Slots.{Draft, Among, edge, last_among, Keeps, Uncalled}
-use Rattle.pk_visits.proofs.Stands.{Whole, Proper, context_of, Held, ArePlain, ShowsAt, Stage, led_to, Loops, ContinuesAt, LaidAhead, Laid, IsCalled}
+use Rattle.pk_visits.proofs.Stands.{Whole, Proper, context_of, Held, ArePlain, ShowsAt, Stage, Loops, ContinuesAt, LaidAhead, Laid, IsCalled}
 use Rattle.pk_visits.proofs.Settled.{Settles}
-use Rattle.pk_visits.proofs.Stages.{In, all_called, ways_grow, part_first, part_second, part_until, stage_at, part_point, part_room, three_first, three_second, three_third}
+use Rattle.pk_visits.proofs.Stages.{In, all_called, ways_grow, part_first, part_second, part_until, stage_at, part_point, part_room, three_first, three_second, three_third, Forth, forth_here, forth_none, forth_first}
 use Rattle.pk_visits.proofs.Grows.{fresh_three_grows}
 use Rattle.pk_visits.proofs.Tells.{sane, any_called, Any}
-use Rattle.pk_visits.proofs.StatementGrows.{Stays, Adds, adds, on_adds, stays_then, statement, while_adds, do_adds, choice_adds, link_adds, marking_inside, Free}
+use Rattle.pk_visits.proofs.StatementGrows.{Stays, Adds, adds, on_adds, stays_then, statement, while_adds, do_adds, choice_adds, link_adds, marking_inside, Free, begun_adds}
 use Rattle.pk_visits.proofs.Operands.{calm_more}
 use Rattle.pk_visits.proofs.Statements.{shows_on}
 use Rattle.pk_visits.proofs.Doom.{calm_plain}
@@ -35,16 +35,16 @@ pub record Begun (g : Whole) (k : ℕ) (h : Place) (d : Draft) : Type 0 where
   pub second : ShowsAt g (d.points + 1) k h
   pub third : ShowsAt g (d.points + 2) k h
 
-pub begun : (g : Whole) (R : Label → Label → Type 0) (C : ℕ → Size → Type 0) (k : ℕ) (h j : Place) (xs : List Numbered) (d0 d f : Draft) (s : Stage g k h xs d0 f) → d0.points ≤ d.points → Keeps R (In s.marks) Free C (loop_begun d) f → g.shows d.here k j → Begun g k j d
+pub begun : (g : Whole) (R : Label → Label → Type 0) (C : ℕ → Size → Type 0) (k : ℕ) (h j : Place) (xs : List Numbered) (d0 d f : Draft) (s : Stage g k h xs d0 f) → Forth g d0 d → Keeps R (In s.marks) Free C (loop_begun d) f → g.shows d.here k j → Begun g k j d
 begun g R C k h j xs d0 d f s le u shows =
     let room = part_room g R (In s.marks) C k h xs d0 (loop_begun d) f s u in
     let size = (fresh_three_grows Uncalled d).size in
     let r : d.points + 3 ≤ length d.labels = omega (arith, room, size) in
     record {
       there = s.leads.edges _ (u.edges _ (last_among d.edges (edge d.point Skip d.points)));
-      first = part_point g R C k h j xs d0 (loop_begun d) f d.points d.here s u le (omega arith) (three_first d r) shows;
-      second = part_point g R C k h j xs d0 (loop_begun d) f (d.points + 1) d.here s u (omega (arith, le)) (omega arith) (three_second d r) shows;
-      third = subst (λ q. ShowsAt g q k j) (omega arith) (part_point g R C k h j xs d0 (loop_begun d) f (d.points + 1 + 1) d.here s u (omega (arith, le)) (omega arith) (three_third d r) shows);
+      first = part_point g R C k h j xs d0 d (loop_begun d) f d.points d.here s le refl u (omega arith) (omega arith) (three_first d r) shows;
+      second = part_point g R C k h j xs d0 d (loop_begun d) f (d.points + 1) d.here s le refl u (omega arith) (omega arith) (three_second d r) shows;
+      third = subst (λ q. ShowsAt g q k j) (omega arith) (part_point g R C k h j xs d0 d (loop_begun d) f (d.points + 1 + 1) d.here s le refl u (omega arith) (omega arith) (three_third d r) shows);
     }
 
 -- `while`: the edge to its head, and the work there
@@ -60,8 +60,8 @@ while_laid g proper k h x p e s a pt hs (d, n, m, is, fits, calm, t, marking, se
     let here = proper.positions d.here k h.scope p t.here in
     let grow = while_adds t.marks Free Any (ways c e) (lowered c s) x (choice_adds t.marks Free Any (ways c e) (sane c e))
     (λ q w r. statement Any c _ m s (inside q w x) t.marks Free (λ i o. tt) fits.1 (marking_inside x m t.marks q w marking) (any_called c (calls_in_statement s)) r) (o.points + 1) (o.points + 2) b in
-    let z = begun g Stays Any k _ j (calls_in e ++ calls_in_statement s) d o (at (o.points + 2) f) t (omega arith) grow here in
-    let s0 = stage_at g k _ j (calls_in e ++ calls_in_statement s) d b (at (o.points + 2) f) t (omega arith) here in (
+    let z = begun g Stays Any k _ j (calls_in e ++ calls_in_statement s) d o (at (o.points + 2) f) t (forth_here g d.points d.regions) grow here in
+    let s0 = stage_at g k _ j (calls_in e ++ calls_in_statement s) d b (at (o.points + 2) f) t (forth_none g (begun_adds t.marks Free Uncalled o)) here in (
       o.points,
       subst (λ q. Among (edge q Skip o.points) g.edges) is z.there,
       z.first,
@@ -77,7 +77,7 @@ while_laid g proper k h x p e s a pt hs (d, n, m, is, fits, calm, t, marking, se
           draft = b;
           at = refl;
           fits = fits;
-          stage = part_until {S = Free} g Stays k j (calls_in e ++ calls_in_statement s) b f (at (o.points + 2) f) s0 (record { edges = λ v w. w; names = refl; variables = omega arith; points = omega arith; size = refl; labels = λ v w. inr refl; beyond = λ v w. inr refl; regions = λ v. inr refl; paths = refl; scopes = λ n z h. h; here = (refl, refl); many = refl; made = λ n z. refl; unmade = λ n z. refl; slots = refl; objects = λ n. inr refl });
+          stage = part_until {S = Free} g Stays k j (calls_in e ++ calls_in_statement s) b f (at (o.points + 2) f) s0 (record { edges = λ v w. w; names = refl; variables = omega arith; points = omega arith; size = refl; labels = λ v w. inr refl; beyond = λ v w. inr refl; regions = λ v. inr refl; apart = λ m o w. inl refl; paths = refl; scopes = λ n z h. h; here = (refl, refl); many = refl; made = λ n z. refl; unmade = λ n z. refl; slots = refl; objects = λ n. inr refl });
           marking = marking;
           settled = settled;
           calm = calm;
@@ -104,8 +104,8 @@ do_laid g proper k h x p s e a pt hs (d, n, m, is, fits, calm, t, marking, settl
     let here = proper.positions d.here k h.scope p t.here in
     let grow = do_adds t.marks Free Any p (ways c e) (lowered c s) x (choice_adds t.marks Free Any (ways c e) (sane c e))
     (λ q w r. statement Any c _ m s (inside q w x) t.marks Free (λ i o. tt) fits.0 (marking_inside x m t.marks q w marking) (any_called c (calls_in_statement s)) r) (o.points + 1) (o.points + 2) b in
-    let z = begun g Stays Any k _ j (calls_in_statement s ++ calls_in e) d o (at (o.points + 2) f) t (omega arith) grow here in
-    let s0 = stage_at g k _ j (calls_in_statement s ++ calls_in e) d b (at (o.points + 2) f) t (omega arith) here in (
+    let z = begun g Stays Any k _ j (calls_in_statement s ++ calls_in e) d o (at (o.points + 2) f) t (forth_here g d.points d.regions) grow here in
+    let s0 = stage_at g k _ j (calls_in_statement s ++ calls_in e) d b (at (o.points + 2) f) t (forth_none g (begun_adds t.marks Free Uncalled o)) here in (
       o.points,
       subst (λ q. Among (edge q Skip o.points) g.edges) is z.there,
       z.first,
@@ -121,7 +121,7 @@ do_laid g proper k h x p s e a pt hs (d, n, m, is, fits, calm, t, marking, settl
           draft = b;
           at = refl;
           fits = fits;
-          stage = part_until {S = Free} g Stays k j (calls_in_statement s ++ calls_in e) b f (at (o.points + 2) f) s0 (record { edges = λ v w. w; names = refl; variables = omega arith; points = omega arith; size = refl; labels = λ v w. inr refl; beyond = λ v w. inr refl; regions = λ v. inr refl; paths = refl; scopes = λ n z h. h; here = (refl, refl); many = refl; made = λ n z. refl; unmade = λ n z. refl; slots = refl; objects = λ n. inr refl });
+          stage = part_until {S = Free} g Stays k j (calls_in_statement s ++ calls_in e) b f (at (o.points + 2) f) s0 (record { edges = λ v w. w; names = refl; variables = omega arith; points = omega arith; size = refl; labels = λ v w. inr refl; beyond = λ v w. inr refl; regions = λ v. inr refl; apart = λ m o w. inl refl; paths = refl; scopes = λ n z h. h; here = (refl, refl); many = refl; made = λ n z. refl; unmade = λ n z. refl; slots = refl; objects = λ n. inr refl });
           marking = marking;
           settled = settled;
           calm = calm;
@@ -159,7 +159,7 @@ while_parts g proper k h x e s o a p c b hs loop cont shown z =
     let ve = ge.variables in
     let se = part_first g Stays k h (calls_in e) (calls_in_statement s) d d1 f t last in
     let here = subst (λ (m : Label). g.shows m k h) (sym ge.here) t.here in
-    let ss = part_second g k h (place d1.here.at h.scope) (calls_in e) (calls_in_statement s) d (at loop.begin d1) f t ge.points
+    let ss = part_second g k h (place d1.here.at h.scope) (calls_in e) (calls_in_statement s) d (at loop.begin d1) f t (forth_first g k h (calls_in e) (calls_in_statement s) d f t ge)
     (subst (λ q. g.shows d1.here k (place q h.scope)) (proper.at_positions d1.here k h here) here) in
     let sd = part_until g Stays k _ (calls_in_statement s) (at loop.begin d1) d2 f ss (link_adds t.marks Free Uncalled Skip d.point d2) in
     let back = t.leads.edges _ (last_among d2.edges (edge d2.point Skip d.point)) in
@@ -201,7 +201,7 @@ turn_do g proper k h i x e s o a p hs (is, plain, c, b, loop, cont, shown, z) =
     let last : Adds t.marks Free (IsCalled ctx (calls_in e)) d2 f =
     stays_then (link_adds t.marks Free (IsCalled ctx (calls_in e)) Skip c d2) (stays_then (on_adds t.marks Free (IsCalled ctx (calls_in e)) h.at r) (adds t.marks Free (IsCalled ctx (calls_in e)) (on h.at r) f ge)) in
     let first = part_first g Stays k h (calls_in_statement s) (calls_in e) d d2 f t last in
-    let ss = stage_at g k h (place d.here.at h.scope) (calls_in_statement s) d (at d.point d) d2 first (omega arith)
+    let ss = stage_at g k h (place d.here.at h.scope) (calls_in_statement s) d (at d.point d) d2 first (forth_here g d.points d.regions)
     (subst (λ q. g.shows d.here k (place q h.scope)) (proper.at_positions d.here k h t.here) t.here) in (
       b,
       c,
@@ -265,7 +265,7 @@ again_do g proper k h x e s o a p hs plain (y, b, there, shown, same, loop, cont
     let round = stays_then body (stays_then (link_adds t.marks Free (IsCalled ctx (calls_in_statement s)) Skip x.continued d2) (on_adds t.marks Free (IsCalled ctx (calls_in_statement s)) h.at r)) in
     let first = subst (λ q. g.shows d.here k (place q h.scope)) (proper.at_positions d.here k h t.here) t.here in
     let here : g.shows u.here k h = shows_on g proper k h.scope d.here u.here first round.here in
-    let tests = part_second g k h h (calls_in_statement s) (calls_in e) d u f t round.points here in
+    let tests = part_second g k h h (calls_in_statement s) (calls_in e) d u f t (forth_first g k h (calls_in_statement s) (calls_in e) d f t round) here in
     let vr = round.variables in (
       y,
       (

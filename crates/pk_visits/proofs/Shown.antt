@@ -1,5 +1,5 @@
 -- Behind a declaration that is settled a point shows its name.
-use Rattle.std.proofs.Common.{◌≡◌, ℕ, ◌+◌, ◌<◌, List, [], ◌∷◌, ◌++◌, length, refl, sym, subst, Option, Some, None}
+use Rattle.std.proofs.Common.{◌≡◌, ℕ, ◌<◌, List, [], ◌∷◌, ◌++◌, length, refl, sym, subst, Option, Some, None}
 use Rattle.std.specs.Prelude.{slice_get}
 use Rattle.pk_ctypes.specs.declared.places.Pos.{Pos}
 use Rattle.pk_typed.specs.Trees.{EffectTree, DeclaredTree, ForStartTree}

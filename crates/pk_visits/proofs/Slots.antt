@@ -91,7 +91,15 @@ Extends ss us = (n : ℕ) (z : Scope) → slice_get ss n ≡ Some z → slice_ge
 abbrev pub Takes : (Size → Type 0) → (p q v w : ℕ) → Region → Type 0
 Takes C p q v w r = (s : Size) × C s × (p ≤ r.points) × (r.points + s.points ≤ q) × (v ≤ r.variables) × (r.variables + s.variables ≤ w)
 
--- Edges, points and variables are only added, scopes too, points keep their labels unless they are marks, the function's objects but some keep their variables; paths that are called take regions of what is added, and all others keep theirs. What a point made here is goes over by R.
+-- the region with this size ends where the other begins, or before
+abbrev pub Before : Size → Region → Region → Type 0
+Before s r o = (r.points + s.points ≤ o.points) × (r.variables + s.variables ≤ o.variables)
+
+-- two regions with such sizes don't overlap
+abbrev pub Divided : (C D : Size → Type 0) → Region → Region → Type 0
+Divided C D r o = (s : Size) × (z : Size) × C s × D z × (Before s r o ⊎ Before z o r)
+
+-- Edges, points and variables are only added, scopes too, points keep their labels unless they are marks, the function's objects but some keep their variables; paths that are called take regions of what is added, which don't overlap, and all others keep theirs. What a point made here is goes over by R.
 pub record KeepsBy (R : Label → Label → Type 0) (Mark Sets : ℕ → Type 0) (Called : ℕ → Size → Type 0) (es : List Edge) (ns : Names Slot) (v p : ℕ) (ls : List Label) (rs : List Region) (ss : Scoping) (h : Label) (xs : List VariableOf) (os : List ℕ) (fs : List Edge) (ms : Names Slot) (w q : ℕ) (ks : List Label) (ts : List Region) (us : Scoping) (i : Label) (ys : List VariableOf) (qs : List ℕ) : Type 0 where
   pub edges : (e : Edge) → Among e es → Among e fs
   pub names : ms ≡ ns
@@ -101,6 +109,7 @@ pub record KeepsBy (R : Label → Label → Type 0) (Mark Sets : ℕ → Type 0)
   pub labels : (n : ℕ) → n < p → Mark n ⊎ (label_at ks n ≡ label_at ls n)
   pub beyond : (n : ℕ) → q ≤ n → Mark n ⊎ (label_at ks n ≡ label_at ls n)
   pub regions : (k : ℕ) → Takes (Called k) p q v w (region_at ts k) ⊎ (region_at ts k ≡ region_at rs k)
+  pub apart : (j k : ℕ) → (j ≡ k → ⊥) → (region_at ts j ≡ region_at rs j) ⊎ (region_at ts k ≡ region_at rs k) ⊎ Divided (Called j) (Called k) (region_at ts j) (region_at ts k)
   pub paths : length ts ≡ length rs
   pub scopes : Extends ss us
   pub here : R h i

@@ -93,12 +93,20 @@ abbrev pub Distinct : List ℕ → Type 0
 Distinct [] = Unit {0}
 Distinct (x ∷ xs) = (Among x xs → ⊥) × Distinct xs
 
+-- the point is one of the region of a path later than k
+abbrev pub IsReserved : Whole → ℕ → List Region → ℕ → Type 0
+IsReserved g k rs q = (m : ℕ) × (k < m) × (0 < (region_at rs m).points) × ((region_at rs m).points ≤ q) × (q < (region_at rs m).points + g.spans m)
+
 -- A tree with these calls is lowered on path k, at a place, from the draft d to e.
 pub record Stage (g : Whole) (k : ℕ) (h : Place) (calls : List Numbered) (d e : Draft) : Type 0 where
   pub marks : List ℕ
   pub later : List ℕ
   pub leads : Leads g marks later e
-  pub bounded : (q : ℕ) → Among q marks → q < d.points
+  -- of its own points, marks are reserved for later paths
+  pub bounded : (q : ℕ) → Among q marks → d.points ≤ q → q < e.points → IsReserved g k e.regions q
+  -- regions of later paths that were taken before lie before it or behind it
+  pub free : (m : ℕ) → k < m → ((region_at d.regions m).points ≡ 0) ⊎ ((region_at d.regions m).points + g.spans m ≤ d.points) ⊎ (e.points ≤ (region_at d.regions m).points)
+  pub spans : (z : Numbered) → Among z calls → (size_in g.sizes z.call.function).points ≡ g.spans (callee (context_of g k) z.number)
   pub here : g.shows d.here k h
   pub apart : (m : ℕ) → Among m (led_to (context_of g k) calls) → Among m later → ⊥
   pub distinct : Distinct (led_to (context_of g k) calls)

@@ -1,5 +1,5 @@
 -- From the work of a `for` to that of its first part, and to where it begins.
-use Rattle.std.proofs.Common.{◌≡◌, ℕ, ◌+◌, List, [], ◌∷◌, inl, ◌++◌, refl, sym, ap, subst, arith, Option}
+use Rattle.std.proofs.Common.{◌≡◌, ℕ, ◌+◌, List, [], ◌∷◌, ◌++◌, refl, sym, ap, subst, arith, Option}
 use Rattle.pk_ctypes.specs.declared.places.Pos.{Pos}
 use Rattle.pk_typed.specs.Trees.{ValueTree, EffectTree, StatementTree, ForStartTree}
 use Rattle.pk_typed.specs.Trees as tree
@@ -16,7 +16,7 @@ use Rattle.pk_meaning.specs.Steps.{place}
 use Rattle.pk_visits.proofs.Slots.{Draft, Among, Uncalled}
 use Rattle.pk_visits.proofs.Settled.{Settles}
 use Rattle.pk_visits.proofs.Stands.{Whole, Proper, context_of, final, Held, around, AreCalm, ShowsAt, Stage, led_to, Marking, Distinct, LaidAhead, Laid, IsCalled}
-use Rattle.pk_visits.proofs.Stages.{In, all_called, part_first, part_second, part_until, stage_at, part_point, part_room, fresh_one}
+use Rattle.pk_visits.proofs.Stages.{In, all_called, part_first, part_second, part_until, stage_at, part_point, part_room, fresh_one, forth_here, forth_none, forth_first, forth_then}
 use Rattle.pk_visits.proofs.Growing.{front_called, back_called}
 use Rattle.pk_visits.proofs.Tells.{any_called, Any}
 use Rattle.pk_visits.proofs.StatementGrows.{OnPath, Enlarges, enlarges, stays_then, path_then, on_adds, fresh_adds, begun_adds, for_adds, test_adds, third_adds, start_enlarges, statement, marking_inside, Free, start_free}
@@ -38,6 +38,8 @@ stage_as g k h xs ys d e is s = record {
   later = s.later;
   leads = s.leads;
   bounded = s.bounded;
+  free = s.free;
+  spans = λ z a. s.spans z (subst (Among z) (sym is) a);
   here = s.here;
   apart = λ m a. s.apart m (subst (λ l. Among m (led_to (context_of g k) l)) (sym is) a);
   distinct = subst (λ l. Distinct (led_to (context_of g k) l)) is s.distinct;
@@ -68,7 +70,7 @@ for_begun g proper k h x q start v third s a hs d n m fits calm t marking settle
     let ys = calls_if v ++ calls_in_effect_if third ++ calls_in_statement s in
     let j = place q h.scope in
     let t1 = stage_as g k (place d.here.at h.scope) (xs ++ calls_if v ++ calls_in_effect_if third ++ calls_in_statement s) (xs ++ ys) d W (apart xs (calls_if v) (calls_in_effect_if third) (calls_in_statement s)) t in
-    let t0 = stage_at g k (place d.here.at h.scope) j (xs ++ ys) d d0 W t1 (omega arith) (proper.positions d.here k h.scope q t.here) in
+    let t0 = stage_at g k (place d.here.at h.scope) j (xs ++ ys) d d0 W t1 (forth_none g (fresh_adds t.marks Free Uncalled 1 o)) (proper.positions d.here k h.scope q t.here) in
     let ms = t.marks in
     let C = IsCalled c ys in
     let two = calls_if v ++ calls_in_effect_if third in
@@ -80,15 +82,15 @@ for_begun g proper k h x q start v third s a hs d n m fits calm t marking settle
     let first = start_enlarges ms Free (IsCalled c xs) c start d0 (start_free start) (all_called c xs) in
     let st = part_first g OnPath k j xs ys d0 f0 W t0 from_f in
     let shows = start_shown g proper k h.scope q start d t.here settled.0 st in
-    let z = begun g OnPath C k j inner (xs ++ ys) d0 f1 W t0 first.points from_b shows in
+    let le = forth_first g k j xs ys d0 W t0 first in
+    let z = begun g OnPath C k j inner (xs ++ ys) d0 f1 W t0 le from_b shows in
     let U = Any in
     let all : Enlarges ms Free U d0 W = path_then (start_enlarges ms Free U c start d0 (start_free start) (any_called c xs)) (widen ms C f0 W from_f) in
     let room = part_room g OnPath (In ms) U k j (xs ++ ys) d0 d0 W t0 all in
     let size = (fresh_adds ms Free U 1 o).size in
-    let behind : ShowsAt g e k j = part_point g OnPath U k (place d.here.at h.scope) j (xs ++ ys) d d0 W e o.here t1 all (omega arith) (omega arith) (fresh_one o (omega (arith, room, size))) (proper.positions d.here k h.scope q t.here) in
-    let le = first.points in
+    let behind : ShowsAt g e k j = part_point g OnPath U k (place d.here.at h.scope) j (xs ++ ys) d o d0 W e o.here t1 (forth_here g d.points d.regions) refl all (omega arith) (omega arith) (fresh_one o (omega (arith, room, size))) (proper.positions d.here k h.scope q t.here) in
     let lv = first.variables in
-    let sb = part_until g OnPath k inner ys b F W (part_second g k j inner xs ys d0 b W t0 (omega (arith, le)) shows) (scope_enlarges ms Uncalled o.here.scope (at e F)) in
+    let sb = part_until g OnPath k inner ys b F W (part_second g k j inner xs ys d0 b W t0 (forth_then g le (forth_none g (stays_then (on_adds ms Free Uncalled q f0) (begun_adds ms Free Uncalled f1)))) shows) (scope_enlarges ms Uncalled o.here.scope (at e F)) in
     let calm_b = calm_more d.variables b.variables hs (omega (arith, lv)) calm in (
       st,
       (

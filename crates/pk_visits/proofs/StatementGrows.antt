@@ -76,6 +76,7 @@ adds ms S C d e g = record {
   labels = λ n h. no_matter (g.labels n h);
   beyond = λ n h. no_matter (g.beyond n h);
   regions = g.regions;
+  apart = g.apart;
   paths = g.paths;
   scopes = g.scopes;
   here = (ap (λ (l : Label). l.path) g.here, ap (λ (l : Label). l.scope) g.here);
@@ -87,7 +88,7 @@ adds ms S C d e g = record {
 }
 
 pub enlarges : (ms : List ℕ) (S : ℕ → Type 0) (C : ℕ → Size → Type 0) (d e : Draft) → Adds ms S C d e → Enlarges ms S C d e
-enlarges ms S C d e g = record { edges = g.edges; names = g.names; variables = g.variables; points = g.points; size = g.size; labels = g.labels; beyond = g.beyond; regions = g.regions; paths = g.paths; scopes = g.scopes; many = g.many; made = g.made; unmade = g.unmade; slots = g.slots; objects = g.objects; here = g.here.0 }
+enlarges ms S C d e g = record { edges = g.edges; names = g.names; variables = g.variables; points = g.points; size = g.size; labels = g.labels; beyond = g.beyond; regions = g.regions; apart = g.apart; paths = g.paths; scopes = g.scopes; many = g.many; made = g.made; unmade = g.unmade; slots = g.slots; objects = g.objects; here = g.here.0 }
 
 -- one after the other
 pub stays_then : {M S : ℕ → Type 0} {C : ℕ → Size → Type 0} {es fs gs : List Edge} {ns ms os : Names Slot} {v w x p q r : ℕ} {ls ks js : List Label} {rs ts us : List Region} {aa bb cc : Scoping} {h i j : Label} {xs ys zs : List VariableOf} {ps qs bs : List ℕ}
@@ -108,6 +109,7 @@ on_adds ms S C p d = record {
   labels = λ n h. inr refl;
   beyond = λ n h. inr refl;
   regions = λ k. inr refl;
+  apart = λ j k n. inl refl;
   paths = refl;
   scopes = λ n z h. h;
   here = (refl, refl);
@@ -138,6 +140,7 @@ come_adds ms S C p d m = record {
   labels = λ n h. by n (decided n p);
   beyond = λ n h. by n (decided n p);
   regions = λ k. inr refl;
+  apart = λ j k n. inl refl;
   paths = refl;
   scopes = λ n z h. h;
   here = (refl, refl);
@@ -199,6 +202,7 @@ fresh_grows C n d =
       labels = λ q h. inr (r.labels q h);
       beyond = λ q h. inr (r.beyond q h);
       regions = λ k. inr (ap (λ rs. region_at rs k) r.regions);
+      apart = λ j k n. inl (ap (λ rs. region_at rs j) r.regions);
       paths = ap length r.regions;
       scopes = λ i z h. subst (λ ss. slice_get ss i ≡ Some z) (sym r.scopes) h;
       here = r.here;
@@ -218,8 +222,8 @@ extended (s ∷ ss) z zero y h = h
 extended (s ∷ ss) z (suc n) y h = extended ss z n y h
 
 named_enlarges : (ms : List ℕ) (S : ℕ → Type 0) (C : ℕ → Size → Type 0) (o : Option (List ℕ)) (x : ℕ) (d : Draft) → Enlarges ms S C d (named o x d)
-named_enlarges ms S C None x d = record { edges = λ e h. h; names = refl; variables = omega arith; points = omega arith; size = refl; labels = λ n h. inr refl; beyond = λ n h. inr refl; regions = λ k. inr refl; paths = refl; scopes = λ n z h. h; here = refl; many = refl; made = λ n h. refl; unmade = λ n h. refl; slots = refl; objects = λ n. inr refl }
-named_enlarges ms S C (Some name) x d = record { edges = λ e h. h; names = refl; variables = omega arith; points = omega arith; size = refl; labels = λ n h. inr refl; beyond = λ n h. inr refl; regions = λ k. inr refl; paths = refl; scopes = extended d.scopes (record { variable = x; outer = d.here.scope }); here = refl; many = refl; made = λ n h. refl; unmade = λ n h. refl; slots = refl; objects = λ n. inr refl }
+named_enlarges ms S C None x d = record { edges = λ e h. h; names = refl; variables = omega arith; points = omega arith; size = refl; labels = λ n h. inr refl; beyond = λ n h. inr refl; regions = λ k. inr refl; apart = λ j k n. inl refl; paths = refl; scopes = λ n z h. h; here = refl; many = refl; made = λ n h. refl; unmade = λ n h. refl; slots = refl; objects = λ n. inr refl }
+named_enlarges ms S C (Some name) x d = record { edges = λ e h. h; names = refl; variables = omega arith; points = omega arith; size = refl; labels = λ n h. inr refl; beyond = λ n h. inr refl; regions = λ k. inr refl; apart = λ j k n. inl refl; paths = refl; scopes = extended d.scopes (record { variable = x; outer = d.here.scope }); here = refl; many = refl; made = λ n h. refl; unmade = λ n h. refl; slots = refl; objects = λ n. inr refl }
 
 object_enlarges : (ms : List ℕ) (S : ℕ → Type 0) (C : ℕ → Size → Type 0) (i : ℕ) (x : VariableOf) (d : Draft) → S i → Enlarges ms S C d (with_object i x d)
 object_enlarges ms S C i x d h = record {
@@ -231,6 +235,7 @@ object_enlarges ms S C i x d h = record {
   labels = λ n h. inr refl;
   beyond = λ n h. inr refl;
   regions = λ k. inr refl;
+  apart = λ j k n. inl refl;
   paths = refl;
   scopes = λ n z h. h;
   here = refl;
@@ -369,7 +374,7 @@ do_adds ms S C p c s x hc hs k e d =
     stays_then (round_adds ms S C x s hs d.point e k d) (stays_then (on_adds ms S C p r) (hc d.point e (on p r)))
 
 pub scope_adds : (ms : List ℕ) (S : ℕ → Type 0) (C : ℕ → Size → Type 0) (d e : Draft) → Enlarges ms S C d e → Adds ms S C d (in_scope d.here.scope e)
-scope_adds ms S C d e g = record { edges = g.edges; names = g.names; variables = g.variables; points = g.points; size = g.size; labels = g.labels; beyond = g.beyond; regions = g.regions; paths = g.paths; scopes = g.scopes; many = g.many; made = g.made; unmade = g.unmade; slots = g.slots; objects = g.objects; here = (g.here, refl) }
+scope_adds ms S C d e g = record { edges = g.edges; names = g.names; variables = g.variables; points = g.points; size = g.size; labels = g.labels; beyond = g.beyond; regions = g.regions; apart = g.apart; paths = g.paths; scopes = g.scopes; many = g.many; made = g.made; unmade = g.unmade; slots = g.slots; objects = g.objects; here = (g.here, refl) }
 
 -- the names in scope are those of an earlier draft
 pub scoped_adds : (ms : List ℕ) (S : ℕ → Type 0) (C : ℕ → Size → Type 0) (k : ℕ) (d e : Draft) → Adds ms S C d e → Adds ms S C d (in_scope d.here.scope e)
@@ -431,9 +436,9 @@ either_list (x ∷ xs) ys m (inr h) = by (either_list xs ys m h) where
 -- marks that were made behind a draft are none of its points
 pub inner_adds : (ms ys : List ℕ) (S : ℕ → Type 0) (C : ℕ → Size → Type 0) (d e f : Draft) → ((q : ℕ) → Among q ys → (d.points ≤ q) × (q < e.points)) → Adds ms S C d e → Adds (ys ++ ms) S C e f → Adds ms S C d f
 inner_adds ms ys S C d e f from a b =
-    let first : Adds (ys ++ ms) S C d e = record { edges = a.edges; names = a.names; variables = a.variables; points = a.points; size = a.size; labels = (λ q h. more q (a.labels q h)); beyond = (λ q h. more q (a.beyond q h)); regions = a.regions; paths = a.paths; scopes = a.scopes; many = a.many; made = a.made; unmade = a.unmade; slots = a.slots; objects = a.objects; here = a.here } in
+    let first : Adds (ys ++ ms) S C d e = record { edges = a.edges; names = a.names; variables = a.variables; points = a.points; size = a.size; labels = (λ q h. more q (a.labels q h)); beyond = (λ q h. more q (a.beyond q h)); regions = a.regions; apart = a.apart; paths = a.paths; scopes = a.scopes; many = a.many; made = a.made; unmade = a.unmade; slots = a.slots; objects = a.objects; here = a.here } in
     let whole : Adds (ys ++ ms) S C d f = stays_then first b in
-    record { edges = whole.edges; names = whole.names; variables = whole.variables; points = whole.points; size = whole.size; labels = (λ q h. less q (inl h) (whole.labels q h)); beyond = (λ q h. less q (inr h) (whole.beyond q h)); regions = whole.regions; paths = whole.paths; scopes = whole.scopes; many = whole.many; made = whole.made; unmade = whole.unmade; slots = whole.slots; objects = whole.objects; here = whole.here } where
+    record { edges = whole.edges; names = whole.names; variables = whole.variables; points = whole.points; size = whole.size; labels = (λ q h. less q (inl h) (whole.labels q h)); beyond = (λ q h. less q (inr h) (whole.beyond q h)); regions = whole.regions; apart = whole.apart; paths = whole.paths; scopes = whole.scopes; many = whole.many; made = whole.made; unmade = whole.unmade; slots = whole.slots; objects = whole.objects; here = whole.here } where
       more : (q : ℕ) {A : Type 0} → Among q ms ⊎ A → Among q (ys ++ ms) ⊎ A
       more q (inl h) = inl (back_list ys ms q h)
       more q (inr z) = inr z

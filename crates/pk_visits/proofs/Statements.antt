@@ -1,5 +1,5 @@
 -- From the work of a statement to that of its parts.
-use Rattle.std.proofs.Common.{ℕ, List, [], refl, sym, subst, inr, arith}
+use Rattle.std.proofs.Common.{ℕ, List, refl, sym, subst, inr, arith, inl}
 use Rattle.pk_ctypes.specs.declared.places.Pos.{Pos}
 use Rattle.pk_typed.specs.Trees.{EffectTree, StatementTree, ItemTrees}
 use Rattle.pk_typed.specs.Trees as tree
@@ -13,9 +13,9 @@ use Rattle.pk_meaning.specs.Objects.{Scope}
 use Rattle.pk_meaning.specs.Work as work
 use Rattle.pk_meaning.specs.Work.{Place, Ahead}
 use Rattle.pk_meaning.specs.Steps.{place}
-use Rattle.pk_visits.proofs.Stands.{Whole, Proper, context_of, Held, led_to, LaidAhead, Laid, IsCalled}
+use Rattle.pk_visits.proofs.Stands.{Whole, Proper, context_of, Held, LaidAhead, Laid, IsCalled}
 use Rattle.pk_visits.proofs.Settled.{Settles, SettleAll}
-use Rattle.pk_visits.proofs.Stages.{In, all_called, part_first, part_second, part_until, stage_at}
+use Rattle.pk_visits.proofs.Stages.{In, all_called, part_first, part_second, part_until, stage_at, forth_here, forth_first}
 use Rattle.pk_visits.proofs.StatementGrows.{Stays, OnPath, statement, block, Free}
 use Rattle.pk_visits.proofs.Operands.{calm_more}
 use Rattle.pk_visits.proofs.Doom.{calm_plain}
@@ -37,7 +37,7 @@ unfolding lowered IsStatement calls_in_statement Settles
 block_laid g k h x p is a pt hs (d, n, m, at', fits, calm, s, marking, settled, l) =
     (calm_plain d.variables hs calm, (d, n, m, at', fits, calm, part_until g OnPath k _ _ d (lowered_items (context_of g k) is x d) _ s unscoped, marking, settled, l)) where
       unscoped : Rattle.pk_visits.proofs.Slots.Keeps OnPath (In s.marks) Free Uncalled (lowered_items (context_of g k) is x d) (in_scope d.here.scope (lowered_items (context_of g k) is x d))
-      unscoped = record { edges = λ e z. z; names = refl; variables = omega arith; points = omega arith; size = refl; labels = λ q z. inr refl; beyond = λ q z. inr refl; regions = λ j. inr refl; paths = refl; scopes = λ n z h. h; here = refl; many = refl; made = λ n z. refl; unmade = λ n z. refl; slots = refl; objects = λ n. inr refl }
+      unscoped = record { edges = λ e z. z; names = refl; variables = omega arith; points = omega arith; size = refl; labels = λ q z. inr refl; beyond = λ q z. inr refl; regions = λ j. inr refl; apart = λ m o w. inl refl; paths = refl; scopes = λ n z h. h; here = refl; many = refl; made = λ n z. refl; unmade = λ n z. refl; slots = refl; objects = λ n. inr refl }
 
 -- the next statement of a block, behind which is the rest
 pub next_laid : (g : Whole) (proper : Proper g) (k : ℕ) (h : Place) (x : Exits) (xs : Scope) (s : StatementTree) (is : ItemTrees) (a : Ahead) (p : ℕ) (hs : List Held) (q : Pos)
@@ -66,7 +66,7 @@ next_laid g proper k h x xs s is a p hs q (plain, (d, n, m, at', fits, calm, t, 
         refl,
         fits.1,
         calm_more d.variables e.variables hs lv calm,
-        part_second g k _ (place e.here.at xs) (calls_in_statement s) (calls_in_items is) d e (lowered_items c is x e) t le (shows_on g proper k xs d.here e.here t.here first.here),
+        part_second g k _ (place e.here.at xs) (calls_in_statement s) (calls_in_items is) d e (lowered_items c is x e) t (forth_first g k (place d.here.at xs) (calls_in_statement s) (calls_in_items is) d (lowered_items c is x e) t first) (shows_on g proper k xs d.here e.here t.here first.here),
         marking,
         settled.1,
         l,
@@ -87,4 +87,4 @@ pub effect_laid : (g : Whole) (proper : Proper g) (k : ℕ) (h : Place) (x : Exi
     → Laid g k (place p h.scope) x (work.Perform e (work.Go a)) pt hs
 unfolding lowered IsStatement calls_in_statement
 effect_laid g proper k h x p e a pt hs (d, n, m, at', fits, calm, s, marking, settled, l) =
-    (on p d, n, at', fits, (λ q. calm), stage_at g k _ (place p h.scope) (calls_in_effect e) d (on p d) _ s (omega arith) (proper.positions d.here k h.scope p s.here), (calm_plain d.variables hs calm, l))
+    (on p d, n, at', fits, (λ q. calm), stage_at g k _ (place p h.scope) (calls_in_effect e) d (on p d) _ s (forth_here g d.points d.regions) (proper.positions d.here k h.scope p s.here), (calm_plain d.variables hs calm, l))

@@ -1,5 +1,5 @@
 -- From the work of a `switch` to that of its value and the choice behind it, and from the choice to its body.
-use Rattle.std.proofs.Common.{◌≡◌, ℕ, zero, suc, ◌+◌, ◌<◌, ◌≤◌, ◌⊎◌, List, [], ◌∷◌, ◌++◌, length, Bool, if◌then◌else◌, refl, sym, ap, ◌∙◌, subst, inl, inr, arith, ℤ}
+use Rattle.std.proofs.Common.{◌≡◌, ℕ, suc, ◌+◌, ◌<◌, ◌≤◌, ◌⊎◌, List, ◌∷◌, ◌++◌, length, Bool, if◌then◌else◌, refl, sym, ap, ◌∙◌, subst, inl, inr, arith, ℤ}
 use Rattle.std.proofs.lemmas.List.{get_or-set_same}
 use Rattle.pk_ctypes.specs.declared.places.Pos.{Pos}
 use Rattle.pk_ctypes.specs.declared.types.IntType.{IntType}
@@ -26,10 +26,10 @@ use Rattle.pk_meaning.specs.Work as work
 use Rattle.pk_meaning.specs.Work.{Place, Ahead}
 use Rattle.pk_meaning.specs.Steps.{place}
 use Rattle.pk_visits.proofs.Slots.{Slot, Draft, Among, Grows, edge, last_among, label_at, Uncalled}
-use Rattle.pk_visits.proofs.Stands.{Whole, Proper, context_of, final, Held, held, in_temporary, around, IsCalm, AreCalm, ShowsAt, Stage, led_to, Marking, switch_from, LaidAhead, Laid, IsCalled}
+use Rattle.pk_visits.proofs.Stands.{Whole, Proper, context_of, final, Held, held, in_temporary, around, IsCalm, AreCalm, ShowsAt, Stage, Marking, switch_from, LaidAhead, Laid, IsCalled, IsReserved}
 use Rattle.pk_visits.proofs.Settled.{Settles}
 use Rattle.pk_visits.proofs.Grows.{grows_refl, grows_trans, held_grows}
-use Rattle.pk_visits.proofs.Stages.{In, all_called, ways_grow, among_either, part_first, part_second, part_until, stage_at, stage_until}
+use Rattle.pk_visits.proofs.Stages.{all_called, ways_grow, among_either, part_first, part_second, part_until, stage_at, stage_until, made_unmarked, later_of, ForthBy, Forth, forth_here, forth_none, forth_first, forth_then}
 use Rattle.pk_visits.proofs.Tells.{any_called, shapes, converted_tells, Any}
 use Rattle.pk_visits.proofs.StatementGrows.{Stays, Adds, stays_then, placing, fresh_grows, fresh_adds, case_adds, away_adds, link_adds, inner_adds, upto, upto_from, upto_before, back_list, statement, Free}
 use Rattle.pk_visits.proofs.Operands.{calm_more, held_calm, unless_more, keep_laid}
@@ -57,7 +57,9 @@ with_marks g k h xs d f ys below s = record {
     paths = s.leads.paths;
     scopes = s.leads.scopes;
   };
-  bounded = λ q m. either q (among_either ys s.marks q m);
+  bounded = λ q m from to. either q from to (among_either ys s.marks q m);
+  free = s.free;
+  spans = s.spans;
   here = s.here;
   apart = s.apart;
   distinct = s.distinct;
@@ -68,9 +70,9 @@ with_marks g k h xs d f ys below s = record {
   more q (inl m) = inl (back_list ys s.marks q m)
   more q (inr z) = inr z
 
-  either : (q : ℕ) → Among q ys ⊎ Among q s.marks → q < d.points
-  either q (inl m) = below q m
-  either q (inr m) = s.bounded q m
+  either : (q : ℕ) → d.points ≤ q → q < f.points → Among q ys ⊎ Among q s.marks → IsReserved g k f.regions q
+  either q from to (inl m) = let z = below q m in absurd (omega (arith, from, z))
+  either q from to (inr m) = s.bounded q m from to
 
 -- ---- the drafts of a switch
 
@@ -111,7 +113,7 @@ valued_adds g k C ms r t zs b s x v body =
 
 -- behind the value, which is calm
 choose_begun : (g : Whole) (k : ℕ) (j : Place) (x : Exits) (r : Site) (t : IntType) (zs : List ℤ) (b : Bool) (s : StatementTree) (a : Ahead) (v : Given Slot) (n : ℕ) (m : Marks) (hs : List Held) (xs : List Numbered) (d : Draft)
-    → (st : Stage g k j (xs ++ calls_in_statement s) d (ended (context_of g k) r t zs b s x v)) → d.points ≤ v.1.points → g.shows v.1.here k j
+    → (st : Stage g k j (xs ++ calls_in_statement s) d (ended (context_of g k) r t zs b s x v)) → Forth g d v.1 → g.shows v.1.here k j
     → IsStatement (around g k n) (WellTyped.in_switch (length zs) b m) s → IsCalm v.1.variables v.0 → AreCalm v.1.variables hs → Marking x m st.marks
     → Settles (final g k) (context_of g k) s (in_switch v.1.points (length zs) x) (switch_begun r t zs b v) → LaidAhead g k x a v.1.points hs
     → Laid g k j x (work.Choose t zs 0 b s j a) v.1.point (held v.0 t ∷ hs)
@@ -162,7 +164,7 @@ choose_begun g k j x r t zs b s a v n m hs xs d st le here fits calm_v calm mark
 
   stands : Stage g k j (calls_in_statement s) D F
   stands = with_marks g k j (calls_in_statement s) D F ys (λ q h. let z = upto_before (length zs + (if b then 1 else 0)) (e + 1) q h in omega (arith, z))
-      (part_second g k j j xs (calls_in_statement s) d D F st (let z = opens.points in omega (arith, le, z)) D_here)
+      (part_second g k j j xs (calls_in_statement s) d D F st (forth_then g le (forth_none g (fresh_grows Uncalled (1 + length zs + (if b then 1 else 0)) v.1))) D_here)
 
   marks : Marking y (WellTyped.in_switch (length zs) b m) (ys ++ st.marks)
   marks = marking_cases x m st.marks e (length zs) b marking
@@ -170,11 +172,14 @@ choose_begun g k j x r t zs b s a v n m hs xs d st le here fits calm_v calm mark
   rest : Adds (ys ++ st.marks) Free Any D F
   rest = opened_adds g k Any st.marks r t zs b s x v (λ f. statement Any (context_of g k) _ _ s y (ys ++ st.marks) Free (λ i o. tt) fits marks (any_called (context_of g k) (calls_in_statement s)) f)
 
+  same_regions : ForthBy g d.points v.1.points d.regions D.regions
+  same_regions = subst (ForthBy g d.points v.1.points d.regions) (sym (placing (1 + length zs + (if b then 1 else 0)) v.1.points v.1).regions) le
+
   unmarked : Among e (ys ++ st.marks) → ⊥
   unmarked h = by (among_either ys st.marks e h) where
     by : Among e ys ⊎ Among e st.marks → ⊥
     by (inl h) = let z = upto_from (length zs + (if b then 1 else 0)) (e + 1) e h in absurd (omega (arith, z))
-    by (inr h) = let z = st.bounded e h in absurd (omega (arith, z, le))
+    by (inr h) = made_unmarked g k j (xs ++ calls_in_statement s) d F e D.points D.regions e st same_regions rest.points (later_of D.regions F.regions rest.regions) (omega arith) (omega arith) h
 
   unless : {A : Type 0} {p q : Label} → (A → ⊥) → A ⊎ (q ≡ p) → q ≡ p
   unless none (inl a) = absurd (none a)
@@ -210,13 +215,13 @@ switch_laid g proper k h x q t e zs b s a p hs (d, n, m, at', fits, calm, t0, ma
     let gh = held_grows (IsCalled c xs) Strong shape t w in
     let valued : Grows (IsCalled c xs) o v.1 = grows_trans ge gh in
     let marks = marking_cases x m t0.marks v.1.points (length zs) b marking in
-    let so = stage_at g k (place d.here.at h.scope) j (xs ++ ys) d o F t0 (omega arith) (proper.positions d.here k h.scope q t0.here) in
+    let so = stage_at g k (place d.here.at h.scope) j (xs ++ ys) d o F t0 (forth_here g d.points d.regions) (proper.positions d.here k h.scope q t0.here) in
     let rest = valued_adds g k (IsCalled c ys) t0.marks (site c q) t zs b s x v
     (λ f. statement (IsCalled c ys) c _ _ s y (points_of (length zs) v.1.points b ++ t0.marks) Free (λ i o. tt) fits.2 marks (all_called c ys) f) in
     let se = part_first g Stays k j xs ys o v.1 F so rest in
     let ns = sym valued.names ∙ se.leads.names in
     let here = subst (λ (i : Label). g.shows i k j) (sym valued.here) so.here in
-    let le = valued.points in
+    let le = forth_first g k j xs ys o F so valued in
     let lr = ge.variables in
     let lv = valued.variables in
     subst (λ i. Laid g k j x (work.Evaluate e (work.Convert t (work.Keep (work.Choose t zs 0 b s j a)))) i hs) at' (
@@ -226,7 +231,7 @@ switch_laid g proper k h x q t e zs b s a p hs (d, n, m, at', fits, calm, t0, ma
       fits.0,
       (λ z. calm),
       stage_until g k j xs o r.1 v.1 se (held_grows Uncalled Strong shape t w),
-      keep_laid g k j x (work.Choose t zs 0 b s j a) Strong shape t w hs (IsCalled c xs) Uncalled xs o v.1 se ge (grows_refl Uncalled v.1) (ge.names ∙ ns) (unless_more Strong d.variables r.1.variables hs lr calm)
+      keep_laid g k j x (work.Choose t zs 0 b s j a) Strong shape t w hs Uncalled xs o v.1 se ge (grows_refl Uncalled v.1) (ge.names ∙ ns) (unless_more Strong d.variables r.1.variables hs lr calm)
           (choose_begun g k j x (site c q) t zs b s a v n m hs xs o so le here fits.2
           (held_calm shape t w (ge.names ∙ ns) (converted_tells r.1.variables (type_of e) t (shape_of e) r.0 (shapes c e o ns))) (calm_more d.variables v.1.variables hs lv calm) marking settled l),
     )
@@ -246,9 +251,8 @@ choose_body g proper k h j x t zs i b s a p v hs (d, n, m, r, total, e, at', typ
     let F = go Skip e r1 in
     let before : Adds u.marks Free Any d o = stays_then (case_adds u.marks Free Any r t v.tree zs (e + 1 + i) d) (away_adds u.marks Free Any to f) in
     let first = subst (λ q. g.shows d.here k (place q j.scope)) (proper.at_positions d.here k j u.here) u.here in
-    let le = before.points in
     let lv = before.variables in
-    let st = stage_at g k j (place o.here.at j.scope) (calls_in_statement s) d o F u le (shows_on g proper k j.scope d.here o.here first before.here) in (
+    let st = stage_at g k j (place o.here.at j.scope) (calls_in_statement s) d o F u (forth_none g (stays_then (case_adds u.marks Free Uncalled r t v.tree zs (e + 1 + i) d) (away_adds u.marks Free Uncalled to f))) (shows_on g proper k j.scope d.here o.here first before.here) in (
       o.point,
       (
         o,

@@ -15,7 +15,7 @@ use Rattle.pk_meaning.specs.Steps as meaning
 use Rattle.pk_meaning.specs.Steps.{place}
 use Rattle.pk_visits.proofs.Slots.{Draft, Among, edge, last_among, front_among, Uncalled}
 use Rattle.pk_visits.proofs.Stands.{Whole, Proper, context_of, Held, around, ArePlain, ShowsAt, Distinct, Stage, led_to, Loops, LaidAhead, LaidWay, Laid, IsCalled}
-use Rattle.pk_visits.proofs.Stages.{In, all_called, back_among, among_front, among_back, among_either, distinct_front, distinct_back, distinct_between, led_both, part_first, part_second, part_until}
+use Rattle.pk_visits.proofs.Stages.{all_called, back_among, among_front, among_back, among_either, distinct_front, distinct_back, distinct_between, led_both, part_first, part_second, part_until, forth_all, forth_first}
 use Rattle.pk_visits.proofs.Growing.{front_called, back_called}
 use Rattle.pk_visits.proofs.StatementGrows.{Stays, OnPath, Adds, Enlarges, enlarges, stays_then, path_then, on_adds, link_adds, test_adds, third_adds, scoped_adds, statement, marking_inside, Free}
 use Rattle.pk_visits.proofs.Operands.{calm_more}
@@ -68,6 +68,8 @@ stage_other g k h xs ys zs d e s = record {
   later = s.later;
   leads = s.leads;
   bounded = s.bounded;
+  free = s.free;
+  spans = λ z a. s.spans z (other_order xs ys zs z a);
   here = s.here;
   apart = λ m a. s.apart m (subst (Among m) (sym first) (other_order (led xs) (led ys) (led zs) m (subst (Among m) second a)));
   distinct = subst Distinct (sym second) (distinct_other (led xs) (led ys) (led zs) (subst Distinct first s.distinct));
@@ -87,7 +89,7 @@ stage_other g k h xs ys zs d e s = record {
 
 -- in another block's scope
 pub scope_enlarges : (ms : List ℕ) (C : ℕ → Size → Type 0) (n : ℕ) (d : Draft) → Enlarges ms Free C d (in_scope n d)
-scope_enlarges ms C n d = record { edges = λ e z. z; names = refl; variables = omega arith; points = omega arith; size = refl; labels = λ q z. inr refl; beyond = λ q z. inr refl; regions = λ j. inr refl; paths = refl; scopes = λ n z h. h; here = refl; many = refl; made = λ n z. refl; unmade = λ n z. refl; slots = refl; objects = λ n. inr refl }
+scope_enlarges ms C n d = record { edges = λ e z. z; names = refl; variables = omega arith; points = omega arith; size = refl; labels = λ q z. inr refl; beyond = λ q z. inr refl; regions = λ j. inr refl; apart = λ m o w. inl refl; paths = refl; scopes = λ n z h. h; here = refl; many = refl; made = λ n z. refl; unmade = λ n z. refl; slots = refl; objects = λ n. inr refl }
 
 -- behind the way from the body's end: the third part, and back
 after_link : (g : Whole) (k : ℕ) (ms : List ℕ) (h : Place) (third : Option EffectTree) (n q : ℕ) (r : Draft)
@@ -130,7 +132,7 @@ for_parts g proper k h x v third s o a p c b hs loop shown z =
     let rest : Enlarges t.marks Free C d1 f = path_then (enlarges t.marks Free C d1 r (stays_then body (link_adds t.marks Free C Skip c d2))) end in
     let se = part_first g OnPath k h (calls_if v) both d d1 f t rest in
     let first = subst (λ q. g.shows d.here k (place q h.scope)) (proper.at_positions d.here k h t.here) t.here in
-    let ss = part_second g k h (place d1.here.at h.scope) (calls_if v) both d (at loop.begin d1) f t test.points (shows_on g proper k h.scope d.here d1.here first test.here) in
+    let ss = part_second g k h (place d1.here.at h.scope) (calls_if v) both d (at loop.begin d1) f t (forth_first g k h (calls_if v) both d f t test) (shows_on g proper k h.scope d.here d1.here first test.here) in
     let sd = part_first g OnPath k (place d1.here.at h.scope) (calls_in_statement s) (calls_in_effect_if third) (at loop.begin d1) d2 f ss after in
     let ve = test.variables in
     let there = t.leads.edges _ (behind.edges _ (last_among d2.edges (edge d2.point Skip c))) in
@@ -195,8 +197,8 @@ third_laid g proper k h x v third s o a p hs plain (y, b, there, shown, same, lo
   stands : Stage g k h (calls_in_effect_if third) u (go Skip d.point (performed_if (context_of g k) third u))
   stands =
       let rest = stays_then body (stays_then (link_adds t.marks Free C Skip c d2) (on_adds t.marks Free C h.at (go Skip c d2))) in
-      let ss = part_second g k h (place d1.here.at h.scope) (calls_if v) (calls_in_statement s ++ calls_in_effect_if third) d d1 (go Skip d.point (performed_if (context_of g k) third u)) t test.points (shows_on g proper k h.scope d.here d1.here first test.here) in
-      part_second g k (place d1.here.at h.scope) h (calls_in_statement s) (calls_in_effect_if third) d1 u (go Skip d.point (performed_if (context_of g k) third u)) ss rest.points (shows_on g proper k h.scope d.here u.here first round.here)
+      let ss = part_second g k h (place d1.here.at h.scope) (calls_if v) (calls_in_statement s ++ calls_in_effect_if third) d d1 (go Skip d.point (performed_if (context_of g k) third u)) t (forth_all g k h (calls_if v ++ (calls_in_statement s ++ calls_in_effect_if third)) d (go Skip d.point (performed_if (context_of g k) third u)) t test) (shows_on g proper k h.scope d.here d1.here first test.here) in
+      part_second g k (place d1.here.at h.scope) h (calls_in_statement s) (calls_in_effect_if third) d1 u (go Skip d.point (performed_if (context_of g k) third u)) ss (forth_all g k h (calls_if v ++ (calls_in_statement s ++ calls_in_effect_if third)) d (go Skip d.point (performed_if (context_of g k) third u)) t rest) (shows_on g proper k h.scope d.here u.here first round.here)
 
   by : (w : Option EffectTree) → w ≡ third → Laid g k h y (meaning.performed_if w (work.Back h (For v third s) o a)) c hs
   by None e = back u (t.leads.edges _ (subst (λ (w : Option EffectTree). Among (edge c Skip d.point) (link Skip d.point (performed_if (context_of g k) w u)).edges) e (last_among u.edges (edge c Skip d.point))))

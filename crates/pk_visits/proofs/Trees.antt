@@ -1,5 +1,5 @@
 -- From the work of an expression to that of its parts: names and operators.
-use Rattle.std.proofs.Common.{◌≡◌, ℕ, ◌<◌, List, [], ◌∷◌, Bool, true, false, ◌||◌, refl, sym, ap, ◌∙◌, subst, arith, length}
+use Rattle.std.proofs.Common.{◌≡◌, ℕ, ◌<◌, List, ◌∷◌, Bool, true, false, ◌||◌, refl, sym, ap, ◌∙◌, subst, arith, length}
 use Rattle.pk_ctypes.specs.declared.places.Pos.{Pos}
 use Rattle.pk_ctypes.specs.declared.types.IntType.{IntType}
 use Rattle.pk_ctypes.specs.declared.types.Op.{Op}
@@ -28,8 +28,8 @@ use Rattle.pk_visits.proofs.Slots.{Slot, own, slots, SlotTree, Draft, Among, edg
 use Rattle.pk_visits.proofs.Grows.{grows_refl, grows_trans, emit_grows, two_grows}
 use Rattle.pk_visits.proofs.Growing.{lowered}
 use Rattle.pk_visits.proofs.Tells.{variable_is, sane, Any}
-use Rattle.pk_visits.proofs.Stands.{Whole, context_of, Held, held, around, AreCalm, AreQuiet, HasKind, IsScalar, Writes, Stage, led_to, Laid, IsCalled}
-use Rattle.pk_visits.proofs.Stages.{In, ways_grow, effect_grows, stage_first, stage_second, stage_until, stage_edge}
+use Rattle.pk_visits.proofs.Stands.{Whole, context_of, Held, held, around, AreCalm, AreQuiet, HasKind, IsScalar, Writes, Stage, Laid, IsCalled}
+use Rattle.pk_visits.proofs.Stages.{ways_grow, effect_grows, stage_first, stage_second, stage_until, stage_edge}
 use Rattle.pk_visits.proofs.Operands.{UnlessLoose, all_own, calm_more, two_laid}
 use Rattle.pk_visits.proofs.Doom.{calm_plain}
 
@@ -51,13 +51,13 @@ or_second false b h = h
 
 -- ---- a scalar that is written by an edge
 
-pub writes_scalar : (g : Whole) (k : ℕ) (h : Place) (n : ℕ) (y : Variable) (e : Slot → SlotTree) (d r : Draft) (hs : List Held) (C : ℕ → Size → Type 0) (xs : List Numbered)
-    → d.names ≡ slots → Stage g k h xs d (emit (Set (variable_of (context_of g k) y d) (e (variable_of (context_of g k) y d))) r) → Grows C d r → AreCalm n hs
+pub writes_scalar : (g : Whole) (k : ℕ) (h : Place) (n : ℕ) (y : Variable) (e : Slot → SlotTree) (d r : Draft) (hs : List Held) (xs : List Numbered)
+    → d.names ≡ slots → Stage g k h xs d (emit (Set (variable_of (context_of g k) y d) (e (variable_of (context_of g k) y d))) r) → Grows (IsCalled (context_of g k) xs) d r → AreCalm n hs
     → Writes g k h r.point (own (object_of k y)) (Set (own (object_of k y)) (e (own (object_of k y)))) r.points hs
-writes_scalar g k h n y e d r hs C xs ns s z calm =
+writes_scalar g k h n y e d r hs xs ns s z calm =
     let v = variable_of (context_of g k) y d in
     let i = Set v (e v) in
-    let a = stage_edge g k h C Uncalled xs d r (emit i r) i s z (grows_refl Uncalled (emit i r)) in
+    let a = stage_edge g k h Uncalled xs d r (emit i r) i s z (grows_refl Uncalled (emit i r)) in
     record {
       there = subst (λ u. Among (edge r.point (Set u (e u)) r.points) g.edges) (variable_is (context_of g k) y d ns) a.0;
       shown = a.1;
@@ -125,7 +125,7 @@ then_laid g k h x f v w p hs (d, n, is, fits, quiet, s, l) =
         refl,
         fits.1,
         (λ m. calm_more d.variables e.variables hs gf.variables (quiet (or_second (makes_effect f) (makes v) m))),
-        stage_second g k h (IsCalled c (calls_in_effect f)) (calls_in_effect f) (calls_in v) d e ((ways c v).value e).1 s gf,
+        stage_second g k h (calls_in_effect f) (calls_in v) d e ((ways c v).value e).1 s gf,
         l,
       ),
     )
@@ -151,7 +151,7 @@ assign_laid g k h x at t y e w p hs (d, n, is, fits, quiet, s, l) =
       (
         r.1.points,
         has_kind g k n (scalar t) y s.path fits.0,
-        writes_scalar g k h d.variables y (λ u. conversion (type_of e) t r.0) d r.1 hs (IsCalled c (calls_in e)) _ ns s ge (quiet refl),
+        writes_scalar g k h d.variables y (λ u. conversion (type_of e) t r.0) d r.1 hs _ ns s ge (quiet refl),
         subst (λ u. Laid g k h x w r.1.points (held (variable u) t ∷ hs)) (variable_is c y d ns) l,
       ),
     )
@@ -174,7 +174,7 @@ update_laid g k h x op at o t y e w p hs (d, n, is, fits, quiet, s, l) =
       (
         r.1.points,
         has_kind g k n (scalar t) y s.path fits.1,
-        writes_scalar g k h d.variables y (λ u. updated_tree op (site c at) o t (type_of e) (variable u) r.0) d r.1 hs (IsCalled c (calls_in e)) _ ns s ge (quiet refl),
+        writes_scalar g k h d.variables y (λ u. updated_tree op (site c at) o t (type_of e) (variable u) r.0) d r.1 hs _ ns s ge (quiet refl),
         subst (λ u. Laid g k h x w r.1.points (held (variable u) t ∷ hs)) (variable_is c y d ns) l,
       ),
     )
