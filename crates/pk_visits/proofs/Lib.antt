@@ -25,6 +25,8 @@ mod Calling
 mod Entering
 mod Evaluations
 mod StatementGrows
+mod Kept
+mod Settling
 mod Statements
 mod Marked
 mod Rounds

@@ -19,7 +19,7 @@ use Rattle.pk_graph.specs.Trees.{constant, Skip, Clear}
 use Rattle.pk_draft.specs.declared.drafts.Label.{Label}
 use Rattle.pk_draft.specs.declared.drafts.Region.{Region}
 use Rattle.pk_draft.specs.declared.drafts.Size.{Size}
-use Rattle.pk_draft.specs.Drafts.{Names, Given, no_label, at, on, in_scope, placed, all_placed, fresh, inner, with_object, link, emit, away, come}
+use Rattle.pk_draft.specs.Drafts.{Names, Given, no_label, at, on, in_scope, placed, all_placed, fresh, inner, with_object, link, go, emit, away, come}
 use Rattle.pk_draft.specs.Folding.{conversion, binary_tree}
 use Rattle.pk_lower_row.specs.declared.shapes.Waiting.TheVariants.{Strong}
 use Rattle.pk_lower_row.specs.Shapes.{converted_shape, shape_of}
@@ -373,6 +373,10 @@ do_adds ms S C p c s x hc hs k e d =
     let r = round x s d.point e k d in
     stays_then (round_adds ms S C x s hs d.point e k d) (stays_then (on_adds ms S C p r) (hc d.point e (on p r)))
 
+-- in another block's scope
+pub scope_enlarges : (ms : List ℕ) (S : ℕ → Type 0) (C : ℕ → Size → Type 0) (n : ℕ) (d : Draft) → Enlarges ms S C d (in_scope n d)
+scope_enlarges ms S C n d = record { edges = λ e z. z; names = refl; variables = omega arith; points = omega arith; size = refl; labels = λ q z. inr refl; beyond = λ q z. inr refl; regions = λ j. inr refl; apart = λ m o w. inl refl; paths = refl; scopes = λ n z h. h; here = refl; many = refl; made = λ n z. refl; unmade = λ n z. refl; slots = refl; objects = λ n. inr refl }
+
 pub scope_adds : (ms : List ℕ) (S : ℕ → Type 0) (C : ℕ → Size → Type 0) (d e : Draft) → Enlarges ms S C d e → Adds ms S C d (in_scope d.here.scope e)
 scope_adds ms S C d e g = record { edges = g.edges; names = g.names; variables = g.variables; points = g.points; size = g.size; labels = g.labels; beyond = g.beyond; regions = g.regions; apart = g.apart; paths = g.paths; scopes = g.scopes; many = g.many; made = g.made; unmade = g.unmade; slots = g.slots; objects = g.objects; here = (g.here, refl) }
 
@@ -543,6 +547,13 @@ returned_adds ms S C c left (Some t) (Some e) h d =
 pub third_adds : (ms : List ℕ) (S : ℕ → Type 0) (C : ℕ → Size → Type 0) (c : Context) (e : Option EffectTree) → AllCalled C c (calls_in_effect_if e) → AddsTo ms S C (performed_if c e)
 third_adds ms S C c None h d = nothing_adds ms S C d
 third_adds ms S C c (Some e) h d = adds ms S C d (performed c e d) (effects C c e h d)
+
+-- from the end of a `for`'s body: the third part, and back
+pub third_enlarges : (ms : List ℕ) (S : ℕ → Type 0) (C : ℕ → Size → Type 0) (c : Context) (p : Pos) (e : Option EffectTree) → AllCalled C c (calls_in_effect_if e) → (n h : ℕ) (d : Draft) → Enlarges ms S C d (go Skip h (performed_if c e (in_scope n (on p d))))
+third_enlarges ms S C c p e called n h d =
+    let o = on p d in
+    let u = in_scope n o in
+    path_then (enlarges ms S C d o (on_adds ms S C p d)) (path_then (scope_enlarges ms S C n o) (enlarges ms S C u (go Skip h (performed_if c e u)) (stays_then (third_adds ms S C c e called u) (link_adds ms S C Skip h (performed_if c e u)))))
 
 pub test_adds : (ms : List ℕ) (S : ℕ → Type 0) (C : ℕ → Size → Type 0) (c : Context) (e : Option ValueTree) → AllCalled C c (calls_if e) → ChoiceAdds ms S C (for_test c e)
 test_adds ms S C c None h p q d = link_adds ms S C Skip p d
