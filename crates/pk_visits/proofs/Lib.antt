@@ -45,6 +45,7 @@ mod Found
 mod Going
 mod Jumps
 mod Followed
+mod PartGrows
 mod NumberedEdges
 mod NumberedStores
 mod NumberedCopies

@@ -123,7 +123,7 @@ on_adds ms S C p d = record {
 pub link_adds : (ms : List ℕ) (S : ℕ → Type 0) (C : ℕ → Size → Type 0) (i : Instr) (q : ℕ) (d : Draft) → Adds ms S C d (link i q d)
 link_adds ms S C i q d = adds ms S C d (link i q d) (link_grows C i q d)
 
-emit_adds : (ms : List ℕ) (S : ℕ → Type 0) (C : ℕ → Size → Type 0) (i : Instr) (d : Draft) → Adds ms S C d (emit i d)
+pub emit_adds : (ms : List ℕ) (S : ℕ → Type 0) (C : ℕ → Size → Type 0) (i : Instr) (d : Draft) → Adds ms S C d (emit i d)
 emit_adds ms S C i d = adds ms S C d (emit i d) (emit_grows C i d)
 
 pub away_adds : (ms : List ℕ) (S : ℕ → Type 0) (C : ℕ → Size → Type 0) (q : ℕ) (d : Draft) → Adds ms S C d (away q d)
@@ -221,11 +221,11 @@ extended [] z n y h = absurd (grind (arith, h))
 extended (s ∷ ss) z zero y h = h
 extended (s ∷ ss) z (suc n) y h = extended ss z n y h
 
-named_enlarges : (ms : List ℕ) (S : ℕ → Type 0) (C : ℕ → Size → Type 0) (o : Option (List ℕ)) (x : ℕ) (d : Draft) → Enlarges ms S C d (named o x d)
+pub named_enlarges : (ms : List ℕ) (S : ℕ → Type 0) (C : ℕ → Size → Type 0) (o : Option (List ℕ)) (x : ℕ) (d : Draft) → Enlarges ms S C d (named o x d)
 named_enlarges ms S C None x d = record { edges = λ e h. h; names = refl; variables = omega arith; points = omega arith; size = refl; labels = λ n h. inr refl; beyond = λ n h. inr refl; regions = λ k. inr refl; apart = λ j k n. inl refl; paths = refl; scopes = λ n z h. h; here = refl; many = refl; made = λ n h. refl; unmade = λ n h. refl; slots = refl; objects = λ n. inr refl }
 named_enlarges ms S C (Some name) x d = record { edges = λ e h. h; names = refl; variables = omega arith; points = omega arith; size = refl; labels = λ n h. inr refl; beyond = λ n h. inr refl; regions = λ k. inr refl; apart = λ j k n. inl refl; paths = refl; scopes = extended d.scopes (record { variable = x; outer = d.here.scope }); here = refl; many = refl; made = λ n h. refl; unmade = λ n h. refl; slots = refl; objects = λ n. inr refl }
 
-object_enlarges : (ms : List ℕ) (S : ℕ → Type 0) (C : ℕ → Size → Type 0) (i : ℕ) (x : VariableOf) (d : Draft) → S i → Enlarges ms S C d (with_object i x d)
+pub object_enlarges : (ms : List ℕ) (S : ℕ → Type 0) (C : ℕ → Size → Type 0) (i : ℕ) (x : VariableOf) (d : Draft) → S i → Enlarges ms S C d (with_object i x d)
 object_enlarges ms S C i x d h = record {
   edges = λ e h. h;
   names = refl;
@@ -437,24 +437,62 @@ either_list (x ∷ xs) ys m (inr h) = by (either_list xs ys m h) where
   by (inl k) = inl (inr k)
   by (inr k) = inr k
 
--- marks that were made behind a draft are none of its points
+-- marks of points that were made behind a draft are no marks for it
+pub fewer_marks : {R : Label → Label → Type 0} {S : ℕ → Type 0} {C : ℕ → Size → Type 0} (ms ys : List ℕ) (d f : Draft) → ((q : ℕ) → Among q ys → (d.points ≤ q) × (q < f.points)) → Keeps R (Marked (ys ++ ms)) S C d f → Keeps R (Marked ms) S C d f
+fewer_marks ms ys d f from a = record {
+  edges = a.edges;
+  names = a.names;
+  variables = a.variables;
+  points = a.points;
+  size = a.size;
+  labels = λ q h. less q (inl h) (a.labels q h);
+  beyond = λ q h. less q (inr h) (a.beyond q h);
+  regions = a.regions;
+  apart = a.apart;
+  paths = a.paths;
+  scopes = a.scopes;
+  here = a.here;
+  many = a.many;
+  made = a.made;
+  unmade = a.unmade;
+  slots = a.slots;
+  objects = a.objects;
+} where
+  by : (q : ℕ) → (q < d.points) ⊎ (f.points ≤ q) → Among q ys ⊎ Among q ms → Among q ms
+  by q (inl h) (inl k) = let z = (from q k).0 in absurd (omega (arith, h, z))
+  by q (inr h) (inl k) = let z = (from q k).1 in absurd (omega (arith, h, z))
+  by q h (inr k) = k
+
+  less : (q : ℕ) {A : Type 0} → (q < d.points) ⊎ (f.points ≤ q) → Among q (ys ++ ms) ⊎ A → Among q ms ⊎ A
+  less q h (inl k) = inl (by q h (either_list ys ms q k))
+  less q h (inr z) = inr z
+
+more_marks : {R : Label → Label → Type 0} {S : ℕ → Type 0} {C : ℕ → Size → Type 0} (ms ys : List ℕ) (d f : Draft) → Keeps R (Marked ms) S C d f → Keeps R (Marked (ys ++ ms)) S C d f
+more_marks ms ys d f a = record {
+  edges = a.edges;
+  names = a.names;
+  variables = a.variables;
+  points = a.points;
+  size = a.size;
+  labels = λ q h. more q (a.labels q h);
+  beyond = λ q h. more q (a.beyond q h);
+  regions = a.regions;
+  apart = a.apart;
+  paths = a.paths;
+  scopes = a.scopes;
+  here = a.here;
+  many = a.many;
+  made = a.made;
+  unmade = a.unmade;
+  slots = a.slots;
+  objects = a.objects;
+} where
+  more : (q : ℕ) {A : Type 0} → Among q ms ⊎ A → Among q (ys ++ ms) ⊎ A
+  more q (inl h) = inl (back_list ys ms q h)
+  more q (inr z) = inr z
+
 pub inner_adds : (ms ys : List ℕ) (S : ℕ → Type 0) (C : ℕ → Size → Type 0) (d e f : Draft) → ((q : ℕ) → Among q ys → (d.points ≤ q) × (q < e.points)) → Adds ms S C d e → Adds (ys ++ ms) S C e f → Adds ms S C d f
-inner_adds ms ys S C d e f from a b =
-    let first : Adds (ys ++ ms) S C d e = record { edges = a.edges; names = a.names; variables = a.variables; points = a.points; size = a.size; labels = (λ q h. more q (a.labels q h)); beyond = (λ q h. more q (a.beyond q h)); regions = a.regions; apart = a.apart; paths = a.paths; scopes = a.scopes; many = a.many; made = a.made; unmade = a.unmade; slots = a.slots; objects = a.objects; here = a.here } in
-    let whole : Adds (ys ++ ms) S C d f = stays_then first b in
-    record { edges = whole.edges; names = whole.names; variables = whole.variables; points = whole.points; size = whole.size; labels = (λ q h. less q (inl h) (whole.labels q h)); beyond = (λ q h. less q (inr h) (whole.beyond q h)); regions = whole.regions; apart = whole.apart; paths = whole.paths; scopes = whole.scopes; many = whole.many; made = whole.made; unmade = whole.unmade; slots = whole.slots; objects = whole.objects; here = whole.here } where
-      more : (q : ℕ) {A : Type 0} → Among q ms ⊎ A → Among q (ys ++ ms) ⊎ A
-      more q (inl h) = inl (back_list ys ms q h)
-      more q (inr z) = inr z
-
-      by : (q : ℕ) → (q < d.points) ⊎ (f.points ≤ q) → Among q ys ⊎ Among q ms → Among q ms
-      by q (inl h) (inl k) = let z = (from q k).0 in absurd (omega (arith, h, z))
-      by q (inr h) (inl k) = let z = (from q k).1 in let y = b.points in absurd (omega (arith, h, z, y))
-      by q h (inr k) = k
-
-      less : (q : ℕ) {A : Type 0} → (q < d.points) ⊎ (f.points ≤ q) → Among q (ys ++ ms) ⊎ A → Among q ms ⊎ A
-      less q h (inl k) = inl (by q h (either_list ys ms q k))
-      less q h (inr z) = inr z
+inner_adds ms ys S C d e f from a b = fewer_marks ms ys d f (λ q h. ((from q h).0, let x = (from q h).1 in let y = b.points in omega (arith, x, y))) (stays_then (more_marks ms ys d e a) b)
 
 pub marking_inside : (x : Exits) (m : Marks) (ms : List ℕ) (b k : ℕ) → Marking x m ms → Marking (inside b k x) m ms
 marking_inside x m ms b k h = record { labels = h.labels; cases = h.cases; default = h.default }
