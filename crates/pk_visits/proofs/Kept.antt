@@ -117,8 +117,8 @@ pub record KnownBy (g : Whole) (o : Final) (x : Exits) (m : Marks) (t : Mark →
 abbrev pub Known : Whole → Final → Exits → Marks → (Mark → ℕ) → (n k : ℕ) → Draft → Draft → Type 0
 Known g o x m t n k d e = KnownBy g o x m t n k d.points d.regions e.points e.labels e.regions e.objects
 
-later_then : (c p q : ℕ) (ts us vs : List Region) → c ≤ p → Later c ts us → Later p us vs → Later c ts vs
-later_then c p q ts us vs le a b m = by (a m) (b m) where
+later_then : (c p : ℕ) (ts us vs : List Region) → c ≤ p → Later c ts us → Later p us vs → Later c ts vs
+later_then c p ts us vs le a b m = by (a m) (b m) where
   by : (c ≤ (region_at us m).points) ⊎ (region_at us m ≡ region_at ts m) → (p ≤ (region_at vs m).points) ⊎ (region_at vs m ≡ region_at us m) → (c ≤ (region_at vs m).points) ⊎ (region_at vs m ≡ region_at ts m)
   by y (inl h) = inl (omega (arith, le, h))
   by (inl h) (inr e) = let z = ap (λ (r : Region). r.points) e in inl (omega (arith, h, z))
@@ -133,7 +133,7 @@ part_known {R} g o x m w t u n k l j d b e f h each from to before le rest = rec
   below = λ c is. let y = h.below c is in let z = before.points in omega (arith, y, z);
   labels = λ c is some. h.labels c is (λ e. some (let z = each c in omega (arith, e, z))) ∙ mark_stays c is some;
   points = λ i c ts q first last later low high.
-      h.points i c ts q (forth_then g before first) (let z = end.points in omega (arith, last, z)) (later_then c e.points e.points ts e.regions f.regions last later (later_of e.regions f.regions end.regions)) low high
+      h.points i c ts q (forth_then g before first) (let z = end.points in omega (arith, last, z)) (later_then c e.points ts e.regions f.regions last later (later_of e.regions f.regions end.regions)) low high
       ∙ stays q (λ c is some at'. let z = h.below c is in let y = before.points in let v = first.points in absurd (omega (arith, z, at', low, y, v))) (omega (arith, high, last));
   objects = λ i low high. let z = h.objects i (omega (arith, low, from)) (omega (arith, high, to)) in (z.0, z.1 ∙ object_stays i high (end.objects i));
   room = let z = h.room in let y = end.points in let v = end.size in omega (arith, z, y, v);
