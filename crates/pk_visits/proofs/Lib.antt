@@ -26,6 +26,7 @@ mod Entering
 mod Evaluations
 mod StatementGrows
 mod Kept
+mod Locals
 mod Settling
 mod Statements
 mod Marked

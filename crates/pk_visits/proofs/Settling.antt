@@ -25,6 +25,7 @@ use Rattle.pk_lower_statement.specs.Statements as statements
 use Rattle.pk_lower_statement.specs.Statements.{named, introduced, declared, all_declared, inside, in_switch, branching, meeting, if_draft, loop_begun, case_tests, tested, switch_begun, performed_if, for_start, for_test, lowered, lowered_items}
 use Rattle.pk_marks.specs.Marks as Marks
 use Rattle.pk_marks.specs.Marks.{one_if, times, times_in, IsSwitch, HasCases, HaveCases, IsMarked}
+use Rattle.pk_meaning.specs.Programs.{block_of}
 use Rattle.pk_meaning.specs.Work.{Place}
 use Rattle.pk_meaning.specs.Steps.{Mark, labelled, numbered, otherwise, is_label, is_case, is_default}
 use Rattle.pk_visits.proofs.Slots.{Slot, Draft, Keeps, Grows, Among, label_at, object_at}
@@ -34,6 +35,7 @@ use Rattle.pk_visits.proofs.Grows.{WaysGrow, grows_trans, held_grows}
 use Rattle.pk_visits.proofs.Growing.{AllCalled, values, front_called, back_called}
 use Rattle.pk_visits.proofs.Stages.{Forth, forth, forth_here, forth_then, Later, later_of, made_unmarked}
 use Rattle.pk_visits.proofs.StatementGrows.{OnPath, Stays, Marked, Adds, enlarges, stays_then, path_then, Free, IsMark, number_of, declared_number, all_among, start_free, on_adds, fresh_adds, begun_adds, link_adds, away_adds, case_adds, choice_adds, meeting_adds, placing, scalar_first_grows, array_first_grows, declared_enlarges, all_declared_enlarges, start_enlarges, third_enlarges, test_adds, label_once, case_once, begun_switch_adds, begun_switch_points, upto}
+use Rattle.pk_visits.proofs.Locals.{items_fit}
 use Rattle.pk_visits.proofs.Kept.{others, Sized, Spares, AreBelow, statement_spares, block_spares, statement_grown, statement_forth, nothing_spares, Known, part_known, rest_known, known_inside, below_inside, marked_here}
 
 -- ---- declared objects
@@ -463,10 +465,13 @@ labels_of b r = record { labels = b.labels; returns = r; cases = 0; has_default 
 
 -- a function's body, each of whose labels stands once
 pub settled_function : (g : Whole) (k : ℕ) (h : Place) (x : Exits) (n : ℕ) (r : Option IntType) (b : BodyTree) (d : Draft) → AreItems (around g k n) (labels_of b r) b.items → IsMarked b
-    → Stage g k h (calls_in_items b.items) d (lowered_items (context_of g k) b.items x d) → x.labels + b.labels ≤ d.points → n + objects_in_items b.items ≤ length d.objects
+    → Stage g k h (calls_in_items b.items) d (lowered_items (context_of g k) b.items x d) → x.labels + b.labels ≤ d.points → n ≤ length (block_of g.program k).locals → length (block_of g.program k).locals ≤ length d.objects
     → ((i : ℕ) → n ≤ i → i < n + objects_in_items b.items → (i < g.objects k) × (g.numbers k i ≡ object_at (lowered_items (context_of g k) b.items x d).objects i))
     → ((l : ℕ) → l < b.labels → label_at g.labels (x.labels + l) ≡ label_at (lowered_items (context_of g k) b.items x d).labels (x.labels + l)) → SettleAll (final g k) (context_of g k) b.items x d
-settled_function g k h x n r b d fits marked s before room objects labels = settled_body g k h x n m b.items d fits s apart below once marked.cases room objects marks where
+settled_function g k h x n r b d fits marked s before first room objects labels = settled_body g k h x n m b.items d fits s apart below once marked.cases slots objects marks where
+  slots : n + objects_in_items b.items ≤ length d.objects
+  slots = let z = items_fit b.items (around g k n) (labels_of b r) fits (omega (arith, first)) in omega (arith, z, room)
+
   m : Marks
   m = labels_of b r
 
