@@ -6,51 +6,52 @@ use Rattle.pk_graph.specs.Trees.{Skip}
 use Rattle.pk_draft.specs.Drafts.{on, in_scope, with_name, fresh, link, go}
 use Rattle.pk_lower_statement.specs.Statements.{named, loop_begun}
 use Rattle.pk_typed_draft.proofs.Places.{D, Place, Stage, Proper, Step, step, step_for, step_beside, quiet}
-use Rattle.pk_typed_draft.proofs.Verbs.{all_last, typed_at, typed_standing, typed_link, typed_fresh}
+use Rattle.pk_typed_draft.proofs.Verbs.{all_last, all_shorter, typed_at, typed_standing, typed_link, typed_fresh}
 
-pub chain : {w : Place} {m l n : ℕ} {i j k : Stage} {d e g : D} {P Q R : Type 0} → Step w m l i j d e P Q → Step w l n j k e g Q R → Step w m n i k d g P R
+pub chain : {w : Place} {m l n : ℕ} {i j k : Stage} {d e g : D w} {P Q R : Type 0} → Step w m l i j d e P Q → Step w l n j k e g Q R → Step w m n i k d g P R
 chain {w = w} {m = m} {l = l} {n = n} {i = i} {j = j} {k = k} {d = d} {e = e} {g = g} {P = P} {Q = Q} {R = R} a b = step w m l n i j k d e g P Q R a b
 
 -- where nothing is asked or given, all stays known
-pub run : {w : Place} {m n : ℕ} {i k : Stage} {d e : D} (R : Type 0) → Step w m n i k d e (Unit {0}) (Unit {0}) → Step w m n i k d e R R
+pub run : {w : Place} {m n : ℕ} {i k : Stage} {d e : D w} (R : Type 0) → Step w m n i k d e (Unit {0}) (Unit {0}) → Step w m n i k d e R R
 run {w = w} {m = m} {n = n} {i = i} {k = k} {d = d} {e = e} R a = step_for w m n i k d e (Unit {0} × R) (Unit {0} × R) R R (λ q. (tt, q)) (λ q. q.1) (step_beside w m n i k d e (Unit {0}) (Unit {0}) R a)
 
 -- what is asked is known
-pub use_it : {w : Place} {m n : ℕ} {i k : Stage} {d e : D} {P : Type 0} (R : Type 0) → (R → P) → Step w m n i k d e P (Unit {0}) → Step w m n i k d e R R
+pub use_it : {w : Place} {m n : ℕ} {i k : Stage} {d e : D w} {P : Type 0} (R : Type 0) → (R → P) → Step w m n i k d e P (Unit {0}) → Step w m n i k d e R R
 use_it {w = w} {m = m} {n = n} {i = i} {k = k} {d = d} {e = e} {P = P} R f a = step_for w m n i k d e (P × R) (Unit {0} × R) R R (λ q. (f q, q)) (λ q. q.1) (step_beside w m n i k d e P (Unit {0}) R a)
 
 -- what is given is known beside the rest
-pub gain : {w : Place} {m n : ℕ} {i k : Stage} {d e : D} {Q : Type 0} (R : Type 0) → Step w m n i k d e (Unit {0}) Q → Step w m n i k d e R (R × Q)
+pub gain : {w : Place} {m n : ℕ} {i k : Stage} {d e : D w} {Q : Type 0} (R : Type 0) → Step w m n i k d e (Unit {0}) Q → Step w m n i k d e R (R × Q)
 gain {w = w} {m = m} {n = n} {i = i} {k = k} {d = d} {e = e} {Q = Q} R a = step_for w m n i k d e (Unit {0} × R) (Q × R) R (R × Q) (λ q. (tt, q)) (λ q. (q.1, q.0)) (step_beside w m n i k d e (Unit {0}) Q R a)
 
-pub given : {w : Place} {m n : ℕ} {i k : Stage} {d e : D} {P Q : Type 0} (R : Type 0) → (Q → R) → Step w m n i k d e P Q → Step w m n i k d e P R
+pub given : {w : Place} {m n : ℕ} {i k : Stage} {d e : D w} {P Q : Type 0} (R : Type 0) → (Q → R) → Step w m n i k d e P Q → Step w m n i k d e P R
 given {w = w} {m = m} {n = n} {i = i} {k = k} {d = d} {e = e} {P = P} {Q = Q} R f a = step_for w m n i k d e P Q P R (λ q. q) f a
 
-pub on_step : (w : Place) (m : ℕ) (s : Stage) (p : Pos) (d : D) → Step w m m s s d (on p d) (Unit {0}) (Unit {0})
-on_step w m s p d = quiet w m s s d (on p d) (Unit {0}) (Unit {0}) refl refl refl (omega arith) (λ o b t q. (typed_standing w s (record { at = p; path = d.here.path; scope = d.here.scope }) d refl t, tt))
+pub on_step : (w : Place) (m : ℕ) (s : Stage) (p : Pos) (d : D w) → Step w m m s s d (on p d) (Unit {0}) (Unit {0})
+on_step w m s p d = quiet w m s d (on p d) (Unit {0}) (Unit {0}) refl refl refl refl (λ z. z) (omega arith) (λ o b z t q. (typed_standing w s (record { at = p; path = d.here.path; scope = d.here.scope }) d refl t, tt))
 
-pub scope_step : (w : Place) (m : ℕ) (s : Stage) (k : ℕ) (d : D) → Step w m m s s d (in_scope k d) (Unit {0}) (Unit {0})
-scope_step w m s k d = quiet w m s s d (in_scope k d) (Unit {0}) (Unit {0}) refl refl refl (omega arith) (λ o b t q. (typed_standing w s (record { at = d.here.at; path = d.here.path; scope = k }) d refl t, tt))
+pub scope_step : (w : Place) (m : ℕ) (s : Stage) (k : ℕ) (d : D w) → Step w m m s s d (in_scope k d) (Unit {0}) (Unit {0})
+scope_step w m s k d = quiet w m s d (in_scope k d) (Unit {0}) (Unit {0}) refl refl refl refl (λ z. z) (omega arith) (λ o b z t q. (typed_standing w s (record { at = d.here.at; path = d.here.path; scope = k }) d refl t, tt))
 
-pub go_step : (w : Place) (m : ℕ) (s : Stage) (q : ℕ) (d : D) → Step w m m s s d (go Skip q d) (q < w.points) (Unit {0})
-go_step w m s q d = quiet w m s s d (go Skip q d) (q < w.points) (Unit {0}) refl refl refl (omega arith) (λ o b t k. (typed_at w s q (link Skip q d) k (typed_link w s Skip q d k tt t), tt))
+pub go_step : (w : Place) (m : ℕ) (s : Stage) (q : ℕ) (d : D w) → Step w m m s s d (go Skip q d) (q < w.points) (Unit {0})
+go_step w m s q d = quiet w m s d (go Skip q d) (q < w.points) (Unit {0}) refl refl refl refl (all_shorter w.IsEdge d.edges _) (omega arith) (λ o b z t k. (typed_at w s q (link Skip q d) k (typed_link w s Skip q d k tt (λ e. tt) t), tt))
 
-pub begun_step : (w : Place) → Proper w → (m : ℕ) (s : Stage) (d : D) → Step w m m s s d (loop_begun d) (Unit {0}) (d.points + 3 ≤ w.points)
-begun_step w g m s d = quiet w m s s d (loop_begun d) (Unit {0}) (d.points + 3 ≤ w.points) refl refl refl (omega arith)
-    (λ o b t k. let q : d.points < w.points = omega (b.1, arith) in
-    (typed_at w s d.points (link Skip d.points (fresh 3 d)) q (typed_link w s Skip d.points (fresh 3 d) q tt (typed_fresh w g s 3 d t)), b.1))
+pub begun_step : (w : Place) → Proper w → (m : ℕ) (s : Stage) (d : D w) → Step w m m s s d (loop_begun d) (Unit {0}) (d.points + 3 ≤ w.points)
+begun_step w g m s d = quiet w m s d (loop_begun d) (Unit {0}) (d.points + 3 ≤ w.points) refl refl refl refl (all_shorter w.IsEdge d.edges _) (omega arith)
+    (λ o b z t k. let q : d.points < w.points = omega (b.1, arith) in
+    (typed_at w s d.points (link Skip d.points (fresh 3 d)) q (typed_link w s Skip d.points (fresh 3 d) q tt (λ e. tt) (typed_fresh w g s 3 d t)), b.1))
 
-pub named_step : (w : Place) (m : ℕ) (s : Stage) (name : Option (List ℕ)) (x : ℕ) (d : D) → Step w m m s s d (named name x d) (x < length w.kinds) (Unit {0})
-named_step w m s None x d = quiet w m s s d d (x < length w.kinds) (Unit {0}) refl refl refl (omega arith) (λ o b t k. (t, tt))
-named_step w m s (Some name) x d = quiet w m s s d (with_name x d) (x < length w.kinds) (Unit {0}) refl refl refl (omega arith)
-    (λ o b t k. (
+pub named_step : (w : Place) (m : ℕ) (s : Stage) (name : Option (List ℕ)) (x : ℕ) (d : D w) → Step w m m s s d (named name x d) ((x < length w.kinds) × w.CanBeNamed x) (Unit {0})
+named_step w m s None x d = quiet w m s d d ((x < length w.kinds) × w.CanBeNamed x) (Unit {0}) refl refl refl refl (λ z. z) (omega arith) (λ o b z t k. (t, tt))
+named_step w m s (Some name) x d = quiet w m s d (with_name x d) ((x < length w.kinds) × w.CanBeNamed x) (Unit {0}) refl refl refl refl (λ z. z) (omega arith)
+    (λ o b z t k. (
       record {
         names = t.names;
         point = t.point;
         here = t.here;
         labels = t.labels;
-        scopes = all_last (λ (c : Scope). c.variable < length w.kinds) d.scopes (record { variable = x; outer = d.here.scope }) t.scopes k;
+        scopes = all_last (λ (c : Scope). (c.variable < length w.kinds) × w.CanBeNamed c.variable) d.scopes (record { variable = x; outer = d.here.scope }) t.scopes k;
         starts = t.starts;
+        zeros = t.zeros;
         edges = t.edges;
         objects = t.objects;
         places = t.places;

@@ -1,5 +1,5 @@
 -- Well-typed declarations are lowered typed.
-use Rattle.std.proofs.Common.{◌≡◌, false, ℕ, ◌+◌, ◌<◌, ◌≤◌, List, [], ◌∷◌, Option, Some, None, length, refl, ap, sym, subst, ◌∙◌, arith}
+use Rattle.std.proofs.Common.{◌≡◌, inl, inr, false, ℕ, ◌+◌, ◌<◌, ◌≤◌, List, [], ◌∷◌, Option, Some, None, length, refl, ap, sym, subst, ◌∙◌, arith}
 use Rattle.std.proofs.lemmas.Int.{ints}
 use Rattle.std.proofs.lemmas.Option.{none-some, get_or_from_slice_get}
 use Rattle.std.specs.Prelude.{pos, slice_get, unwrap_or}
@@ -11,7 +11,9 @@ use Rattle.pk_typed.specs.declared.values.Variable.TheVariants.{Local}
 use Rattle.pk_typed.specs.Trees.{ValueTree, ValueTrees, DeclaredTree, LocalTree}
 use Rattle.pk_typed.specs.Trees as tree
 use Rattle.pk_typed.specs.Types.{type_of}
-use Rattle.pk_graph.specs.Kinds.{Kind, count_of, IsOfType}
+use Rattle.pk_graph.specs.Graphs.{VariableOf}
+use Rattle.pk_graph.specs.Kinds.{Kind, count_of}
+use Rattle.pk_typed_draft.proofs.Tables.{IsOfType}
 use Rattle.pk_graph.specs.Trees.{constant, variable, Havoc, Clear, Store}
 use Rattle.pk_draft.specs.Drafts.{inner, on, with_object, emit}
 use Rattle.pk_draft.specs.Folding.{conversion}
@@ -22,7 +24,7 @@ use Rattle.pk_lower_statement.specs.Statements as form
 use Rattle.pk_welltyped.specs.Listed.{calls_in, calls_in_values, calls_in_declared, calls_in_all_declared}
 use Rattle.pk_welltyped.specs.WellTyped as good
 use Rattle.pk_welltyped.specs.WellTyped.{IsValue, AreValues, kind_among, HasRoom, IsDeclared, AreDeclared}
-use Rattle.pk_typed_draft.proofs.Places.{D, Place, Has, Stage, Typed, Proper, Step}
+use Rattle.pk_typed_draft.proofs.Places.{D, Place, Has, IsObjectOf, Stage, Typed, Proper, Step}
 use Rattle.pk_typed_draft.proofs.Verbs.{with_objects, object_step}
 use Rattle.pk_typed_draft.proofs.Trees.{constant_is, conversion_is}
 use Rattle.pk_typed_draft.proofs.Rows.{Works, HasArray, array_is, type_is, store_is, inner_start, idle, seen, then_emit, knowing}
@@ -41,32 +43,33 @@ local_type w i k e = known (slice_get w.context.locals i) refl e
     known None is e = absurd (none-some k e)
     known (Some x) is e = ap (λ (l : LocalTree). l.int_type) (get_or_from_slice_get w.context.locals i x no_local is) ∙ ap (λ (q : Option good.Kind). (unwrap_or q k).int_type) e
 
--- the kind of a local as the lowering looks it up
-local_kind : (w : Place) (i : ℕ) (k : good.Kind) → kind_among w.context.locals i ≡ Some k → kind_among w.context.locals i ≡ Some (record { int_type = (local_at w.context i).int_type; length = (local_at w.context i).length })
-local_kind w i k e =
-    e ∙ (ap (λ (t : IntType). Some (record { int_type = t; length = k.length })) (sym (local_type w i k e)) ∙ ap (λ (n : Option ℕ). Some (record { int_type = (local_at w.context i).int_type; length = n })) (sym (local_length w i k e)))
+-- an object's variable has its kind
+pub object_kind : (w : Place) (i : ℕ) (k : good.Kind) (x : VariableOf) → kind_among w.context.locals i ≡ Some k → IsObjectOf w i x → x.kind ≡ record { int_type = k.int_type; length = k.length }
+object_kind w i k x e b =
+    let y = local_at w.context i in
+    let same : record { int_type = y.int_type; length = y.length } ≡ record { int_type = k.int_type; length = k.length } =
+    ap (λ (t : IntType). record { int_type = t; length = y.length }) (local_type w i k e) ∙ ap (λ (n : Option ℕ). record { int_type = k.int_type; length = n }) (local_length w i k e) in
+    elim b [ inl is ↦ ap (λ (v : VariableOf). v.kind) is ∙ same | inr is ↦ ap (λ (v : VariableOf). v.kind) is.1 ∙ same ]
 
 -- the next object comes into scope
-pub introduced_step : (w : Place) → Proper w → (m : ℕ) (s : Stage) (k : good.Kind) → kind_among w.context.locals s.objects ≡ Some k → (d : D) → Step w m m s (more 1 s) d (form.introduced w.context s.objects d) (Unit {0}) (Unit {0})
+pub introduced_step : (w : Place) → Proper w → (m : ℕ) (s : Stage) (k : good.Kind) → kind_among w.context.locals s.objects ≡ Some k → (d : D w) → Step w m m s (more 1 s) d (form.introduced w.context s.objects d) (Unit {0}) (Unit {0})
 introduced_step w g m s k e d =
     let x = local_at w.context s.objects in
     let v = inner x.name x.int_type x.length w.context.path in
-    let a = object_step w g m s v d refl (inner_start x.name x.int_type x.length w.context.path) (local_kind w s.objects k e) in
-    let there = d.variables < length w.kinds in
-    chain (given there (λ (h : Has w.kinds d.variables x.int_type x.length). h.there) a) (named_step w m (more 1 s) x.name d.variables (with_object s.objects v d))
+    chain (object_step w g m s v d refl (inner_start x.name x.int_type x.length w.context.path) k e (inl refl)) (named_step w m (more 1 s) x.name d.variables (with_object s.objects v d))
 
 -- object i, which is declared
-there : (w : Place) → Proper w → (s : Stage) (i : ℕ) (k : good.Kind) → i < s.objects → kind_among w.context.locals i ≡ Some k → (d : D) → Typed w s d → Has w.kinds (own w.context i d) k.int_type k.length
+there : (w : Place) → Proper w → (s : Stage) (i : ℕ) (k : good.Kind) → i < s.objects → kind_among w.context.locals i ≡ Some k → (d : D w) → Typed w s d → Has w.table (own w.context i d) k.int_type k.length
 there w g s i k l e d t = object_is w g s k (Local i) (l, e) d t
 
 anything_works : (w : Place) → Proper w → (m : ℕ) (s : Stage) (i : ℕ) (k : good.Kind) → i < s.objects → kind_among w.context.locals i ≡ Some k → Works w m m s (form.anything w.context i)
 anything_works w g m s i k l e d =
     let x = local_at w.context i in
     let y = own w.context i d in
-    let h = Has w.kinds y k.int_type k.length in
+    let h = Has w.table y k.int_type k.length in
     given (Unit {0}) (λ (q : h). tt)
     (then_emit w g m m s d d (Havoc y x.int_type (count_of x.length)) (Unit {0}) h (seen w m s d (Unit {0}) h (λ t q. there w g s i k l e d t))
-    (λ q. (q.there, type_is w.kinds y k.int_type k.length q ∙ sym (local_type w i k e), ap (λ (a : Kind). count_of a.length) q.kind ∙ ap count_of (sym (local_length w i k e)))))
+    (λ q. (q.there, type_is w.table y k.int_type k.length q ∙ sym (local_type w i k e), ap (λ (a : Kind). count_of a.length) q.kind ∙ ap count_of (sym (local_length w i k e)))))
 
 -- ---- scalars
 
@@ -76,9 +79,9 @@ scalar_works w g m n s i t l k None h c d = subst (λ (j : ℕ). Works w m j s (
 scalar_works w g m n s i t l k (Some e) h c d =
     let u = (local_at w.context i).int_type in
     let y = own w.context i d in
-    given (Unit {0}) (λ (q : IsOfType w.kinds u (variable y)). tt)
+    given (Unit {0}) (λ (q : IsOfType w.table u (variable y)). tt)
     (set_step w g m n s u y (operand e (ways w.context e)) (values w g m n s e h c) d
-    (λ z. subst (λ (v : IntType). Has w.kinds y v None) (sym (local_type w i (good.scalar t) k)) (there w g s i (good.scalar t) l k d z)))
+    (λ z. subst (λ (v : IntType). Has w.table y v None) (sym (local_type w i (good.scalar t) k)) (there w g s i (good.scalar t) l k d z)))
 
 -- ---- arrays
 
@@ -92,13 +95,13 @@ item_works w g m n s i j t k l is few e h c d =
     let a = array_of w.context (Local i) d in
     let o = site w.context d.here.at in
     let r = (ways w.context e).value d in
-    let x = IsOfType w.kinds (type_of e) r.0 in
-    let y = HasArray w.kinds a t in
+    let x = IsOfType w.table (type_of e) r.0 in
+    let y = HasArray w.table a t in
     given (Unit {0}) (λ (q : x × y). tt)
     (then_emit w g m n s d r.1 (Store a o false (constant Int (pos j)) (conversion (type_of e) v r.0)) (Unit {0}) (x × y)
     (knowing w m n s d r.1 y x (λ z. array_there w g s t (Local i) (k, (l, is)) d z) ((values w g m n s e h c).value d))
-    (λ q. store_is w.kinds a t Int o false (constant Int (pos j)) (conversion (type_of e) v r.0) q.1 (constant_is w.kinds Int (pos j) (place_in j few))
-    (subst (λ (u : IntType). IsOfType w.kinds u (conversion (type_of e) v r.0)) (local_type w i (good.array t k) is) (conversion_is w.kinds (type_of e) v r.0 q.0))))
+    (λ q. store_is w.table a t Int o false (constant Int (pos j)) (conversion (type_of e) v r.0) q.1 (constant_is w.table Int (pos j) (place_in j few))
+    (subst (λ (u : IntType). IsOfType w.table u (conversion (type_of e) v r.0)) (local_type w i (good.array t k) is) (conversion_is w.table (type_of e) v r.0 q.0))))
 
 items_work : (w : Place) → Proper w → (m n : ℕ) (s : Stage) (i j : ℕ) (t : IntType) (k : ℕ) → i < s.objects → kind_among w.context.locals i ≡ Some (good.array t k) → (es : ValueTrees) → j + good.count es ≤ 1048576
     → AreValues (around w s) es → CallsAre w m (calls_in_values es) n
@@ -116,13 +119,13 @@ array_works : (w : Place) → Proper w → (m n : ℕ) (s : Stage) (i : ℕ) (t 
 array_works w g m n s i t k l is few None room h c d = subst (λ (j : ℕ). Works w m j s (form.array_first w.context i None)) c (anything_works w g m s i (good.array t k) l is) d
 array_works w g m n s i t k l is few (Some es) room h c d =
     let a = array_of w.context (Local i) d in
-    let y = HasArray w.kinds a t in
-    let clear = given (Unit {0}) (λ (q : y). tt) (then_emit w g m m s d d (Clear a) (Unit {0}) y (seen w m s d (Unit {0}) y (λ z q. array_there w g s t (Local i) (k, (l, is)) d z)) (λ q. array_is w.kinds a t q)) in
+    let y = HasArray w.table a t in
+    let clear = given (Unit {0}) (λ (q : y). tt) (then_emit w g m m s d d (Clear a) (Unit {0}) y (seen w m s d (Unit {0}) y (λ z q. array_there w g s t (Local i) (k, (l, is)) d z)) (λ q. array_is w.table a t q)) in
     chain clear (items_work w g m n s i 0 t k l is es (omega (room, few, arith)) h c (emit (Clear a) d))
 
 -- ---- declared objects
 
-pub declared_works : (w : Place) → Proper w → (m n : ℕ) (s : Stage) (x : DeclaredTree) → IsDeclared (around w s) x → CallsAre w m (calls_in_declared x) n → (d : D) → Step w m n s (more 1 s) d (form.declared w.context x d) (Unit {0}) (Unit {0})
+pub declared_works : (w : Place) → Proper w → (m n : ℕ) (s : Stage) (x : DeclaredTree) → IsDeclared (around w s) x → CallsAre w m (calls_in_declared x) n → (d : D w) → Step w m n s (more 1 s) d (form.declared w.context x d) (Unit {0}) (Unit {0})
 declared_works w g m n s (tree.scalar_object i p e) h c d =
     let k = good.scalar h.1.0 in
     let o = on p d in
@@ -138,7 +141,7 @@ declared_works w g m n s (tree.array_object i p es) h c d =
     (chain (chain (on_step w m s p d) (introduced_step w g m s k is o))
     (array_works w g m n (more 1 s) s.objects r.0 r.1 (omega arith) is r.4 es r.3 h.2 c (form.introduced w.context s.objects o)))
 
-pub all_declared_work : (w : Place) → Proper w → (m n : ℕ) (s : Stage) (xs : List DeclaredTree) → AreDeclared (around w s) xs → CallsAre w m (calls_in_all_declared xs) n → (d : D)
+pub all_declared_work : (w : Place) → Proper w → (m n : ℕ) (s : Stage) (xs : List DeclaredTree) → AreDeclared (around w s) xs → CallsAre w m (calls_in_all_declared xs) n → (d : D w)
     → Step w m n s (more (length xs) s) d (form.all_declared w.context xs d) (Unit {0}) (Unit {0})
 unfolding form.all_declared
 all_declared_work w g m n s [] h c d =

@@ -30,7 +30,7 @@ use Rattle.pk_typed_draft.proofs.Calls.{Passes, passing, called_gives, called_wo
 -- ---- calls in order
 
 -- the calls have the numbers from m to n, and lead to paths of their functions
-abbrev pub CallsAre : Place → ℕ → List Numbered → ℕ → Type 0
+abbrev pub CallsAre : (w : Place) → ℕ → List Numbered → ℕ → Type 0
 CallsAre w m [] n = m ≡ n
 CallsAre w m (x ∷ xs) n = (x.number ≡ m) × IsCallee w (w.context.first + m) x.call.function × CallsAre w (m + 1) xs n
 
@@ -46,12 +46,12 @@ split w m n (x ∷ xs) ys h = let k = split w (m + 1) n xs ys h.2 in record { mi
 -- ---- objects
 
 -- what is declared around the place
-abbrev pub around : Place → Stage → Around
+abbrev pub around : (w : Place) → Stage → Around
 around w s = record { unit = w.context.unit; locals = w.context.locals; objects = s.objects }
 
-pub object_is : (w : Place) → Proper w → (s : Stage) (k : good.Kind) (x : Variable) → IsObject (around w s) k x → (d : D) → Typed w s d → Has w.kinds (variable_of w.context x d) k.int_type k.length
-object_is w g s k (File i) h d t = subst (λ (n : Names ℕ). Has w.kinds (n.file i) k.int_type k.length) (sym t.names) (g.files i k h)
-object_is w g s k (Local i) h d t = subst (λ (n : Names ℕ). Has w.kinds (n.object w.context.path i (slice_index_or d.objects i 0)) k.int_type k.length) (sym t.names) (t.objects.each i h.0 k h.1)
+pub object_is : (w : Place) → Proper w → (s : Stage) (k : good.Kind) (x : Variable) → IsObject (around w s) k x → (d : D w) → Typed w s d → Has w.table (variable_of w.context x d) k.int_type k.length
+object_is w g s k (File i) h d t = subst (λ (n : Names w.table.Variable). Has w.table (n.file i) k.int_type k.length) (sym t.names) (g.files i k h)
+object_is w g s k (Local i) h d t = subst (λ (n : Names w.table.Variable). Has w.table (n.object w.context.path i (slice_index_or d.objects i 0)) k.int_type k.length) (sym t.names) (t.objects.each i h.0 k h.1)
 
 pub same_length : (s : StartTree) → length_at_start s ≡ length_of_start s
 same_length (scalar_start z) = refl
@@ -73,16 +73,16 @@ array_length : (w : Place) (s : Stage) (t : IntType) (n : ℕ) (x : Variable) �
 array_length w s t n (File i) h = file_length t n (slice_get w.context.unit.objects i) h
 array_length w s t n (Local i) h = ap count_of (local_length w i (good.array t n) h.1)
 
-pub array_there : (w : Place) → Proper w → (s : Stage) (t : IntType) (x : Variable) → good.IsArray (around w s) t x → (d : D) → Typed w s d → HasArray w.kinds (array_of w.context x d) t
+pub array_there : (w : Place) → Proper w → (s : Stage) (t : IntType) (x : Variable) → good.IsArray (around w s) t x → (d : D w) → Typed w s d → HasArray w.table (array_of w.context x d) t
 array_there w g s t x h d z =
-    record { array = subst (λ (n : ℕ). Has w.kinds (variable_of w.context x d) t (Some n)) (sym (array_length w s t h.0 x h.1)) (object_is w g s (good.array t h.0) x h.1 d z) }
+    record { array = subst (λ (n : ℕ). Has w.table (variable_of w.context x d) t (Some n)) (sym (array_length w s t h.0 x h.1)) (object_is w g s (good.array t h.0) x h.1 d z) }
 
 -- ---- ranges
 
-to_end : (w : Place) (m n : ℕ) (s : Stage) (t : IntType) (f : Ways ℕ) → m ≡ n → WaysAre w m m s t f → WaysAre w m n s t f
+to_end : (w : Place) (m n : ℕ) (s : Stage) (t : IntType) (f : Ways w.table.Variable) → m ≡ n → WaysAre w m m s t f → WaysAre w m n s t f
 to_end w m n s t f e h = subst (λ (k : ℕ). WaysAre w m k s t f) e h
 
-abbrev lowered : Place → ValueTree → Operand ℕ
+abbrev lowered : (w : Place) → ValueTree → Operand w.table.Variable
 lowered w e = operand e (ways w.context e)
 
 mutual
@@ -92,7 +92,7 @@ mutual
   targets w g m n s (tree.scalar t x) h c = (c, object_is w g s (good.scalar t) x h)
   targets w g m n s (tree.element t x o i) h c = (values w g m n s i h.1 c, array_there w g s t x h.0)
 
-  same_type : (w : Place) (p : PlaceTree) → type_of_target (target {V = ℕ} w.context p) ≡ type_of_place p
+  same_type : (w : Place) (p : PlaceTree) → type_of_target (target {V = w.table.Variable} w.context p) ≡ type_of_place p
   same_type w (tree.scalar t x) = refl
   same_type w (tree.element t x o i) = refl
 

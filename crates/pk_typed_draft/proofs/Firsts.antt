@@ -1,5 +1,5 @@
 -- The draft before the first part.
-use Rattle.std.proofs.Common.{◌≡◌, ◌≢◌, ℕ, ◌+◌, zero, suc, ◌<◌, ◌≤◌, inl, inr, List, [], ◌∷◌, ◌++◌, Option, Some, None, length, map, refl, ap, sym, subst, ◌∙◌, arith, slice_index_or, length-set, length-append}
+use Rattle.std.proofs.Common.{◌≡◌, ◌≢◌, ℕ, ◌+◌, zero, suc, ◌<◌, ◌≤◌, ◌⊎◌, inl, inr, List, [], ◌∷◌, ◌++◌, Option, Some, None, length, map, refl, ap, sym, subst, ◌∙◌, arith, slice_index_or, length-set, length-append}
 use Rattle.std.proofs.lemmas.List.{get_or-set_same, get_or-set_other, length-map}
 use Rattle.std.proofs.lemmas.List.Elements.{All-append}
 use Rattle.std.proofs.lemmas.Option.{none-some, slice_get_within}
@@ -16,16 +16,16 @@ use Rattle.pk_graph.specs.WellMade.{IsStartOf}
 use Rattle.pk_draft.specs.declared.drafts.Region.{Region}
 use Rattle.pk_draft.specs.declared.drafts.Label.{Label}
 use Rattle.pk_draft.specs.declared.drafts.Size.{Size}
-use Rattle.pk_draft.specs.Drafts.{by_number, no_label, no_region, file_scopes, first_draft, entry_point}
+use Rattle.pk_draft.specs.Drafts.{Names, DraftOf, no_label, no_region, file_scopes, first_draft, entry_point}
 use Rattle.pk_lower_row.specs.Contexts.{length_of_start}
 use Rattle.pk_lower.specs.Parts as part
 use Rattle.pk_lower.specs.Parts.{file_variable, whole_size}
 use Rattle.pk_welltyped.specs.WellTyped as good
 use Rattle.pk_welltyped.specs.WellTyped.{IsStart, kind_in_file, length_at_start}
-use Rattle.pk_typed_draft.proofs.Places.{D, Has, region_at, IsKept, In, IsMade, variable_in}
+use Rattle.pk_typed_draft.proofs.Places.{region_at, IsKept, In, Holds, IsMade, variable_in}
 use Rattle.pk_typed_draft.proofs.Verbs.{all_last, either}
 use Rattle.pk_typed_draft.proofs.Expressions.{same_length}
-use Rattle.pk_typed_draft.proofs.Plans.{World, sizes, base, size_of, Plan, AllTyped, replicated}
+use Rattle.pk_typed_draft.proofs.Plans.{World, Draft, sizes, base, size_of, Plan, AllTyped, replicated}
 use Rattle.pk_typed_draft.proofs.Wholes.{kinds_of, kind_is}
 
 -- ---- lists
@@ -73,30 +73,31 @@ starts_are [] h k d l = absurd (omega (l, arith))
 starts_are (x ∷ xs) h zero d l = start_is x (h 0 x (omega arith))
 starts_are (x ∷ xs) h (suc k) d l = starts_are xs (λ i e m. h (suc i) e (omega (m, arith))) k d (omega (l, arith))
 
-scopes_are : (m n : ℕ) → n ≤ m → All (λ (s : Scope). s.variable < m) (file_scopes n)
-scopes_are m zero h = λ k d l. absurd (omega (l, arith))
-scopes_are m (suc n) h = all_last (λ (s : Scope). s.variable < m) (file_scopes n) (record { variable = n; outer = n }) (scopes_are m n (omega (h, arith))) (omega (h, arith))
+scopes_are : (P : ℕ → Type 0) (m n : ℕ) → n ≤ m → ((i : ℕ) → i < n → P i) → All (λ (s : Scope). (s.variable < m) × P s.variable) (file_scopes n)
+scopes_are P m zero h f = λ k d l. absurd (omega (l, arith))
+scopes_are P m (suc n) h f = all_last (λ (s : Scope). (s.variable < m) × P s.variable) (file_scopes n) (record { variable = n; outer = n }) (scopes_are P m n (omega (h, arith)) (λ i l. f i (omega (l, arith)))) (omega (h, arith), f n (omega arith))
 
 -- the draft before the first part
-abbrev pub first : UnitTree → List CallPath → Size → D
-first u paths s = first_draft by_number (map file_variable u.objects) (length paths) s
+abbrev pub first : {V : Type 0} → Names V → UnitTree → List CallPath → Size → DraftOf V
+first names u paths s = first_draft names (map file_variable u.objects) (length paths) s
+
+-- what its variables are
+abbrev pub first_made : UnitTree → Size → List VariableOf
+first_made u s = map file_variable u.objects ++ replicate s.variables no_variable
 
 -- the kinds of variables of which the first are the file's objects
-pub files_are : (u : UnitTree) (paths : List CallPath) (s : Size) (ms : List VariableOf) → length u.objects ≤ length ms → ((y : ℕ) → y < length u.objects → variable_in ms y ≡ variable_in (first u paths s).made y)
-    → (i : ℕ) (k : good.Kind) → kind_in_file u i ≡ Some k → Has (kinds_of ms) i k.int_type k.length
-files_are u paths s ms few low i k h = known (slice_get u.objects i) refl h
+pub files_are : (u : UnitTree) (s : Size) (ms : List VariableOf) → length u.objects ≤ length ms → ((y : ℕ) → y < length u.objects → variable_in ms y ≡ variable_in (first_made u s) y)
+    → (i : ℕ) (k : good.Kind) → kind_in_file u i ≡ Some k → (i < length u.objects) × (kind_at (kinds_of ms) i ≡ record { int_type = k.int_type; length = k.length })
+files_are u s ms few low i k h = known (slice_get u.objects i) refl h
   where
-    known : (o : Option FileObjectTree) → slice_get u.objects i ≡ o → option_map (λ (x : FileObjectTree). record { int_type = x.int_type; length = length_at_start x.start }) o ≡ Some k → Has (kinds_of ms) i k.int_type k.length
+    known : (o : Option FileObjectTree) → slice_get u.objects i ≡ o → option_map (λ (x : FileObjectTree). record { int_type = x.int_type; length = length_at_start x.start }) o ≡ Some k → (i < length u.objects) × (kind_at (kinds_of ms) i ≡ record { int_type = k.int_type; length = k.length })
     known None at e = absurd (none-some k e)
     known (Some x) at e =
         let there = slice_get_within u.objects i x at in
         let is : record { int_type = x.int_type; length = length_at_start x.start } ≡ k = ap (λ (o : Option good.Kind). unwrap_or o k) e in
-        let v : variable_in (first u paths s).made i ≡ file_variable x = before_at (map file_variable u.objects) (replicate s.variables no_variable) i no_variable (file_variable x) (mapped_at u.objects i x at) in
+        let v : variable_in (first_made u s) i ≡ file_variable x = before_at (map file_variable u.objects) (replicate s.variables no_variable) i no_variable (file_variable x) (mapped_at u.objects i x at) in
         let kind : kind_at (kinds_of ms) i ≡ record { int_type = x.int_type; length = length_of_start x.start } = kind_is ms i ∙ ap (λ (y : VariableOf). y.kind) (low i there ∙ v) in
-        record {
-          there = omega (there, few, length-map ms (λ (y : VariableOf). y.kind), arith);
-          kind = kind ∙ (ap (λ (n : Option ℕ). record { int_type = x.int_type; length = n }) (sym (same_length x.start)) ∙ ap (λ (q : good.Kind). record { int_type = q.int_type; length = q.length }) is);
-        }
+        (there, kind ∙ (ap (λ (n : Option ℕ). record { int_type = x.int_type; length = n }) (sym (same_length x.start)) ∙ ap (λ (q : good.Kind). record { int_type = q.int_type; length = q.length }) is))
 
 -- ---- the plan before the first part
 
@@ -117,8 +118,8 @@ whole_is W h = by_paths W.paths h
 abbrev entry_region : ℕ → Region
 entry_region n = record { at = entry_point; points = entry_point + 1; variables = n }
 
-abbrev start : World → D
-start W = first W.unit W.paths (whole_size (sizes W) W.paths)
+abbrev pub start : (W : World) → Draft W
+start W = first W.table.names W.unit W.paths (whole_size (sizes W) W.paths)
 
 many_objects : (W : World) → length (map file_variable W.unit.objects) ≡ length W.unit.objects
 many_objects W = length-map W.unit.objects file_variable
@@ -162,22 +163,33 @@ first_plan W c =
         | inr o ↦ absurd (no_other W i o a.kept)
         | inl e ↦ elim (either j 0) [ inr o ↦ absurd (no_other W j o b.kept) | inl f ↦ e ∙ sym f ]
       ];
+      parted = λ i j y l m a b. elim (either i 0) [
+        | inr o ↦ absurd (no_other W i o a.kept)
+        | inl e ↦ elim (either j 0) [ inr o ↦ absurd (no_other W j o b.kept) | inl f ↦ e ∙ sym f ]
+      ];
     }
 
-pub first_typed : (W : World) → Counted W → All (λ (x : FileObjectTree). IsStart x.int_type x.start) W.unit.objects → AllTyped W (start W)
-first_typed W c h =
+pub first_typed : (W : World) → Counted W → All (λ (x : FileObjectTree). IsStart x.int_type x.start) W.unit.objects → ((i : ℕ) → i < W.files → W.CanBeNamed i) → ((i : ℕ) → i < W.files → W.CanBegin i) → AllTyped W (start W)
+first_typed W c h named begun =
     let xs = map file_variable W.unit.objects in
     let s = whole_size (sizes W) W.paths in
     let many : length xs ≡ W.files = many_objects W ∙ sym c.files in
     record {
       names = refl;
       labels = record { many = replicated (s.points + (entry_point + 1)) no_label ∙ omega (c.points, arith); paths = all_replicate (λ (l : Label). l.path < length W.paths) (s.points + (entry_point + 1)) no_label c.some };
-      scopes = scopes_are (length W.kinds) (length xs) (omega (many, c.kinds, arith));
+      scopes = scopes_are W.CanBeNamed (length W.kinds) (length xs) (omega (many, c.kinds, arith)) (λ i l. named i (omega (l, many, arith)));
       starts = All-append (λ (x : VariableOf). IsStartOf x x.start) xs (replicate s.variables no_variable) (starts_are W.unit.objects h)
           (all_replicate (λ (x : VariableOf). IsStartOf x x.start) s.variables no_variable (omega arith, λ k d l. absurd (omega (l, arith))));
+      zeros = λ y. elim (split y (length xs)) [
+        | inl l ↦ inr (begun y (omega (l, many, arith)))
+        | inr l ↦ inl (ap (λ (v : VariableOf). v.start) (behind_at xs s.variables y no_variable l))
+      ];
       edges = λ k d l. absurd (omega (l, arith));
       places = λ j k. elim (either j 0) [
         | inr o ↦ absurd (no_other W j o k)
         | inl e ↦ subst (λ (i : ℕ). (region_at (start W).regions i).at < W.points) (sym e) (subst (λ (r : Region). r.at < W.points) (sym (first_region W c.some)) (omega (c.points, arith)))
       ];
     }
+  where
+    split : (i l : ℕ) → (i < l) ⊎ (l ≤ i)
+    split i l = grind arith

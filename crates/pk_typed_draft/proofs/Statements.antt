@@ -10,7 +10,7 @@ use Rattle.pk_typed.specs.Trees.{ValueTree, EffectTree, ForStartTree, StatementT
 use Rattle.pk_typed.specs.Trees as tree
 use Rattle.pk_typed.specs.Types.{type_of}
 use Rattle.pk_graph.specs.declared.trees.Site.{Site}
-use Rattle.pk_graph.specs.Kinds.{IsOfType}
+use Rattle.pk_typed_draft.proofs.Tables.{IsOfType}
 use Rattle.pk_graph.specs.Trees.{TreeOf, constant, variable, Skip}
 use Rattle.pk_draft.specs.Drafts.{Names, at, on, in_scope, fresh, link, go, away, come}
 use Rattle.pk_draft.specs.Folding.{binary_tree}
@@ -27,9 +27,9 @@ use Rattle.pk_welltyped.specs.Listed.{calls_in, calls_if, calls_in_effect_if, ca
 use Rattle.pk_welltyped.specs.WellTyped as good
 use Rattle.pk_welltyped.specs.WellTyped.{Marks, IsReturned, IsValueIf, IsEffectIf, IsForStart, IsStatement, AreItems}
 use Rattle.pk_typed_draft.proofs.Places.{D, Place, Has, HasIf, Stage, Typed, Proper, Step, step_for, step_beside, step_back, quiet}
-use Rattle.pk_typed_draft.proofs.Verbs.{with_objects, typed_at, typed_standing, typed_link, typed_fresh, fresh_step, at_step, link_step, away_step, come_step}
+use Rattle.pk_typed_draft.proofs.Verbs.{all_shorter, with_objects, typed_at, typed_standing, typed_link, typed_fresh, fresh_step, fresh_behind, at_step, link_step, away_step, come_step}
 use Rattle.pk_typed_draft.proofs.Trees.{constant_is, binary_is}
-use Rattle.pk_typed_draft.proofs.Rows.{Works, Chooses, WaysAre, idle, seen, unless_step, guards_step}
+use Rattle.pk_typed_draft.proofs.Rows.{Works, Reaches, Chooses, WaysAre, idle, seen, unless_step, guards_step}
 use Rattle.pk_typed_draft.proofs.Targets.{set_step}
 use Rattle.pk_typed_draft.proofs.Operators.{convert_gives}
 use Rattle.pk_typed_draft.proofs.Expressions.{CallsAre, split, around, values, effects}
@@ -47,33 +47,33 @@ pub record ExitsAre (w : Place) (m : Marks) (x : Exits) : Type 0 where
   pub otherwise : m.has_default ≡ true → x.otherwise < w.points
 
 -- a statement wherever its jumps lead
-abbrev pub BodyIs : Place → (m n : ℕ) → (s k : Stage) → Marks → (Exits → D → D) → Type 0
-BodyIs w m n s k marks f = (x : Exits) (d : D) → Step w m n s k d (f x d) (ExitsAre w marks x) (Unit {0})
+abbrev pub BodyIs : (w : Place) → (m n : ℕ) → (s k : Stage) → Marks → (Exits → D w → D w) → Type 0
+BodyIs w m n s k marks f = (x : Exits) (d : D w) → Step w m n s k d (f x d) (ExitsAre w marks x) (Unit {0})
 
 -- ---- choices
 
-pub branching_step : (w : Place) → Proper w → (m n : ℕ) (s : Stage) (p : Pos) (c : Ways ℕ) → Chooses w m n s c.choice → (d : D) → Step w m n s s d (form.branching p c d) (Unit {0}) (d.points + 2 ≤ w.points)
+pub branching_step : (w : Place) → Proper w → (m n : ℕ) (s : Stage) (p : Pos) (c : Ways w.table.Variable) → Chooses w m n s c.choice → (d : D w) → Step w m n s s d (form.branching p c d) (Unit {0}) (d.points + 2 ≤ w.points)
 branching_step w g m n s p c h d =
     let o = on p d in
     let few = d.points + 2 ≤ w.points in
     let e = c.choice d.points (d.points + 1) (fresh 2 o) in
-    chain (chain (chain (on_step w m s p d) (fresh_step w g m 2 s o)) (use_it few (λ f. (omega (f, arith), omega (f, arith))) (h d.points (d.points + 1) (fresh 2 o)))) (use_it few (λ f. omega (f, arith)) (at_step w n s d.points e))
+    chain (chain (chain (on_step w m s p d) (fresh_step w g m 2 s o)) (use_it few (λ f. (omega (f, arith), omega (f, arith), λ a b. absurd (omega (b, arith)))) (h d.points (d.points + 1) (fresh 2 o)))) (use_it few (λ f. omega (f, arith)) (at_step w n s d.points e))
 
-meeting_step : (w : Place) → Proper w → (m : ℕ) (s : Stage) (p : Pos) (e : ℕ) (d : D) → Step w m m s s d (form.meeting p e d) (e < w.points) (Unit {0})
-meeting_step w g m s p e d = quiet w m s s d (form.meeting p e d) (e < w.points) (Unit {0}) refl refl refl (omega arith)
-    (λ o b t k.
+meeting_step : (w : Place) → Proper w → (m : ℕ) (s : Stage) (p : Pos) (e : ℕ) (d : D w) → Step w m m s s d (form.meeting p e d) (e < w.points) (Unit {0})
+meeting_step w g m s p e d = quiet w m s d (form.meeting p e d) (e < w.points) (Unit {0}) refl refl refl refl (λ z. all_shorter w.IsEdge d.edges _ (all_shorter w.IsEdge (d.edges ++ _ ∷ []) _ z)) (omega arith)
+    (λ o b z t k.
     let q : d.points < w.points = omega (b.1, arith) in
     let d1 = on p d in
     let d2 = fresh 1 d1 in
     let d3 = link Skip d.points (at e d2) in
     let d4 = at d.point d3 in
     let t2 = typed_fresh w g s 1 d1 (typed_standing w s (record { at = p; path = d.here.path; scope = d.here.scope }) d refl t) in
-    let t3 = typed_link w s Skip d.points (at e d2) q tt (typed_at w s e d2 k t2) in
+    let t3 = typed_link w s Skip d.points (at e d2) q tt (λ c. tt) (typed_at w s e d2 k t2) in
     let t4 = typed_at w s d.point d3 t.point t3 in
-    (typed_at w s d.points (link Skip d.points d4) q (typed_link w s Skip d.points d4 q tt t4), tt))
+    (typed_at w s d.points (link Skip d.points d4) q (typed_link w s Skip d.points d4 q tt (λ c. tt) t4), tt))
 
-pub if_works : (w : Place) → Proper w → (m l j n : ℕ) (s t u : Stage) (marks : Marks) (x : Exits) (p : Pos) (c : Ways ℕ) (a b : D → D) → Chooses w m l s c.choice
-    → ((d : D) → Step w l j s t d (a d) (ExitsAre w marks x) (Unit {0})) → ((d : D) → Step w j n t u d (b d) (ExitsAre w marks x) (Unit {0})) → (d : D) → Step w m n s u d (form.if_draft p c a b d) (ExitsAre w marks x) (Unit {0})
+pub if_works : (w : Place) → Proper w → (m l j n : ℕ) (s t u : Stage) (marks : Marks) (x : Exits) (p : Pos) (c : Ways w.table.Variable) (a b : D w → D w) → Chooses w m l s c.choice
+    → ((d : D w) → Step w l j s t d (a d) (ExitsAre w marks x) (Unit {0})) → ((d : D w) → Step w j n t u d (b d) (ExitsAre w marks x) (Unit {0})) → (d : D w) → Step w m n s u d (form.if_draft p c a b d) (ExitsAre w marks x) (Unit {0})
 if_works w g m l j n s t u marks x p c a b h i k d =
     let R = ExitsAre w marks x in
     let few = d.points + 2 ≤ w.points in
@@ -96,7 +96,7 @@ if_works w g m l j n s t u marks x p c a b h i k d =
 inside_are : (w : Place) (marks : Marks) (x : Exits) (e k : ℕ) → ExitsAre w marks x → e < w.points → k < w.points → ExitsAre w marks (form.inside e k x)
 inside_are w marks x e k h a b = record { broken = a; continued = b; left = h.left; labels = h.labels; cases = h.cases; otherwise = h.otherwise }
 
-pub while_works : (w : Place) → Proper w → (m l n : ℕ) (s t : Stage) (marks : Marks) (c : Ways ℕ) (f : Exits → D → D) → Chooses w m l s c.choice → BodyIs w l n s t marks f → BodyIs w m n s t marks (form.while_draft c f)
+pub while_works : (w : Place) → Proper w → (m l n : ℕ) (s t : Stage) (marks : Marks) (c : Ways w.table.Variable) (f : Exits → D w → D w) → Chooses w m l s c.choice → BodyIs w l n s t marks f → BodyIs w m n s t marks (form.while_draft c f)
 while_works w g m l n s t marks c f h i x d =
     let R = ExitsAre w marks x in
     let q = d.points in
@@ -106,11 +106,11 @@ while_works w g m l n s t marks c f h i x d =
     let e = at (q + 1) b in
     let y = f (form.inside (q + 2) q x) e in
     let z = go Skip q y in
-    chain (chain (chain (chain (chain (gain R (begun_step w g m s d)) (use_it F (λ r. (omega (r.1, arith), omega (r.1, arith))) (h (q + 1) (q + 2) a))) (use_it F (λ r. omega (r.1, arith)) (at_step w l s (q + 1) b)))
+    chain (chain (chain (chain (chain (gain R (begun_step w g m s d)) (use_it F (λ r. (omega (r.1, arith), omega (r.1, arith), λ x y. absurd (omega (x, arith)))) (h (q + 1) (q + 2) a))) (use_it F (λ r. omega (r.1, arith)) (at_step w l s (q + 1) b)))
     (use_it F (λ r. inside_are w marks x (q + 2) q r.0 (omega (r.1, arith)) (omega (r.1, arith))) (i (form.inside (q + 2) q x) e))) (use_it F (λ r. omega (r.1, arith)) (go_step w n t q y)))
     (given (Unit {0}) (λ r. tt) (use_it F (λ r. omega (r.1, arith)) (at_step w n t (q + 2) z)))
 
-pub do_works : (w : Place) → Proper w → (m l n : ℕ) (s t : Stage) (marks : Marks) (p : Pos) (c : Ways ℕ) (f : Exits → D → D) → BodyIs w m l s t marks f → Chooses w l n t c.choice → BodyIs w m n s t marks (form.do_draft p c f)
+pub do_works : (w : Place) → Proper w → (m l n : ℕ) (s t : Stage) (marks : Marks) (p : Pos) (c : Ways w.table.Variable) (f : Exits → D w → D w) → BodyIs w m l s t marks f → Chooses w l n t c.choice → BodyIs w m n s t marks (form.do_draft p c f)
 do_works w g m l n s t marks p c f i h x d =
     let R = ExitsAre w marks x in
     let q = d.points in
@@ -123,11 +123,11 @@ do_works w g m l n s t marks p c f i h x d =
     let v = c.choice q (q + 2) o in
     chain (chain (chain (chain (chain (chain (gain R (begun_step w g m s d)) (use_it F (λ r. omega (r.1, arith)) (at_step w m s q a)))
     (use_it F (λ r. inside_are w marks x (q + 2) (q + 1) r.0 (omega (r.1, arith)) (omega (r.1, arith))) (i (form.inside (q + 2) (q + 1) x) e))) (use_it F (λ r. omega (r.1, arith)) (go_step w l t (q + 1) y))) (run F (on_step w l t p z)))
-    (use_it F (λ r. (omega (r.1, arith), omega (r.1, arith))) (h q (q + 2) o))) (given (Unit {0}) (λ r. tt) (use_it F (λ r. omega (r.1, arith)) (at_step w n t (q + 2) v)))
+    (use_it F (λ r. (omega (r.1, arith), omega (r.1, arith), λ x y. absurd (omega (y, arith)))) (h q (q + 2) o))) (given (Unit {0}) (λ r. tt) (use_it F (λ r. omega (r.1, arith)) (at_step w n t (q + 2) v)))
 
 -- The third part's calls stand before those of the body, which is made first.
-pub for_works : (w : Place) → Proper w → (m a b l n : ℕ) (s t u : Stage) (marks : Marks) (p : Pos) (first : D → D) (test : (p q : ℕ) → D → D) (third : D → D) (f : Exits → D → D)
-    → ((d : D) → Step w m a s t d (first d) (Unit {0}) (Unit {0})) → Chooses w a b t test → Works w b l u third → BodyIs w l n t u marks f → BodyIs w m n s u marks (form.for_draft p first test third f)
+pub for_works : (w : Place) → Proper w → (m a b l n : ℕ) (s t u : Stage) (marks : Marks) (p : Pos) (first : D w → D w) (test : (p q : ℕ) → D w → D w) (third : D w → D w) (f : Exits → D w → D w)
+    → ((d : D w) → Step w m a s t d (first d) (Unit {0}) (Unit {0})) → Chooses w a b t test → Works w b l u third → BodyIs w l n t u marks f → BodyIs w m n s u marks (form.for_draft p first test third f)
 for_works w g m a b l n s t u marks p first test third f hf ht hl hb x d =
     let R = ExitsAre w marks x in
     let e = d.points in
@@ -148,7 +148,7 @@ for_works w g m a b l n s t u marks p first test third f hf ht hl hb x d =
     let one = e + 1 ≤ w.points in
     let F = (R × one) × (h + 3 ≤ w.points) in
     let begin = chain (chain (chain (gain R (fresh_step w g m 1 s d)) (run (R × one) (hf d1))) (run (R × one) (on_step w a t p d2))) (gain (R × one) (begun_step w g a t d3)) in
-    let tested = chain (chain begin (use_it F (λ r. (omega (r.1, arith), omega (r.0.1, arith))) (ht (h + 1) e d4))) (use_it F (λ r. omega (r.1, arith)) (at_step w b t (h + 1) d5)) in
+    let tested = chain (chain begin (use_it F (λ r. (omega (r.1, arith), omega (r.0.1, arith), λ x y. absurd (omega (x, arith)))) (ht (h + 1) e d4))) (use_it F (λ r. omega (r.1, arith)) (at_step w b t (h + 1) d5)) in
     let round = chain (chain (chain (use_it F (λ r. inside_are w marks x e (h + 2) r.0.0 (omega (r.0.1, arith)) (omega (r.1, arith))) (hb (form.inside e (h + 2) x) d6)) (use_it F (λ r. omega (r.1, arith)) (go_step w n u (h + 2) d7))) (run F (on_step w n u p d8))) (run F (scope_step w n u d3.here.scope d9)) in
     let last = chain (chain (chain (run F (hl d10)) (use_it F (λ r. omega (r.1, arith)) (go_step w l u h d11))) (use_it F (λ r. omega (r.0.1, arith)) (at_step w l u e d12))) (given (Unit {0}) (λ r. tt) (run F (scope_step w l u d.here.scope d13))) in
     chain tested (step_back w b l n t u u d6 d10 (in_scope d.here.scope d13) F F (Unit {0}) round last)
@@ -163,17 +163,17 @@ all_in : (t : IntType) (zs : List ℤ) → All (InType t) zs → AllIn t zs
 all_in t [] h = tt
 all_in t (z ∷ zs) h = (h 0 z (omega arith), all_in t zs (λ k d l. h (suc k) d (omega (l, arith))))
 
-case_step : (w : Place) → Proper w → (m : ℕ) (s : Stage) (o : Site) (t : IntType) (r : TreeOf ℕ) (z : ℤ) (p : ℕ) (d : D) (R : Type 0) → (R → IsOfType w.kinds t r × InType t z × (p < w.points)) → Step w m m s s d (form.case_test o t r z p d) R R
+case_step : (w : Place) → Proper w → (m : ℕ) (s : Stage) (o : Site) (t : IntType) (r : TreeOf w.table.Variable) (z : ℤ) (p : ℕ) (d : D w) (R : Type 0) → (R → IsOfType w.table t r × InType t z × (p < w.points)) → Step w m m s s d (form.case_test o t r z p d) R R
 case_step w g m s o t r z p d R f =
     let e = fresh 1 d in
     let c = binary_tree Eq o t r (constant t z) in
-    let few = d.points + 1 ≤ w.points in
+    let few = (d.points + 1 ≤ w.points) × (0 < d.points) in
     let F = R × few in
     let x = guards p d.points (c, e) in
-    let is : F → IsOfType w.kinds Int c = λ q. let k = f q.0 in binary_is w.kinds Eq o t t r (constant t z) refl k.0 (constant_is w.kinds t z k.1) in
-    chain (chain (gain R (fresh_step w g m 1 s d)) (use_it F (λ q. (is q, ((f q.0).2, omega (q.1, arith)))) (guards_step w m s Int p d.points (c, e)))) (given R (λ q. q.0) (use_it F (λ q. omega (q.1, arith)) (at_step w m s d.points x)))
+    let is : F → IsOfType w.table Int c = λ q. let k = f q.0 in binary_is w.table Eq o t t r (constant t z) refl k.0 (constant_is w.table t z k.1) in
+    chain (chain (gain R (fresh_behind w g m 1 s d)) (use_it F (λ q. (is q, ((f q.0).2, omega (q.1.0, arith), λ a b. absurd (omega (b, q.1.1, arith))))) (guards_step w m s Int p d.points (c, e)))) (given R (λ q. q.0) (use_it F (λ q. omega (q.1.0, arith)) (at_step w m s d.points x)))
 
-cases_step : (w : Place) → Proper w → (m : ℕ) (s : Stage) (o : Site) (t : IntType) (r : TreeOf ℕ) (zs : List ℤ) (p : ℕ) (d : D) (R : Type 0) → AllIn t zs → (R → IsOfType w.kinds t r × (p + length zs ≤ w.points))
+cases_step : (w : Place) → Proper w → (m : ℕ) (s : Stage) (o : Site) (t : IntType) (r : TreeOf w.table.Variable) (zs : List ℤ) (p : ℕ) (d : D w) (R : Type 0) → AllIn t zs → (R → IsOfType w.table t r × (p + length zs ≤ w.points))
     → Step w m m s s d (form.case_tests o t r zs p d) R R
 unfolding form.case_tests
 cases_step w g m s o t r [] p d R h f = idle w m s d R
@@ -198,7 +198,7 @@ away_where : (e n : ℕ) (b : Bool) (q : ℕ) → e + (1 + n + (if b then 1 else
 away_where e n true q h = omega (h, arith)
 away_where e n false q h = omega (h, arith)
 
-pub switch_works : (w : Place) → Proper w → (m l n : ℕ) (s u : Stage) (marks : Marks) (o : Site) (t : IntType) (v : Operand ℕ) (zs : List ℤ) (b : Bool) (f : Exits → D → D) → WaysAre w m l s v.int_type v.ways → AllIn t zs
+pub switch_works : (w : Place) → Proper w → (m l n : ℕ) (s u : Stage) (marks : Marks) (o : Site) (t : IntType) (v : Operand w.table.Variable) (zs : List ℤ) (b : Bool) (f : Exits → D w → D w) → WaysAre w m l s v.int_type v.ways → AllIn t zs
     → BodyIs w l n s u (good.in_switch (length zs) b marks) f → BodyIs w m n s u marks (form.switch_draft o t v zs b f)
 switch_works w g m l n s u marks o t v zs b f h zin i x d =
     let R = ExitsAre w marks x in
@@ -213,22 +213,22 @@ switch_works w g m l n s u marks o t v zs b f h zin i x d =
     let q = if b then e + 1 + len else e in
     let d4 = away q d3 in
     let y = f (form.in_switch e len x) d4 in
-    let is = IsOfType w.kinds t k.0 in
+    let is = IsOfType w.table t k.0 in
     let few = e + many ≤ w.points in
     let F = (R × is) × few in
     let value = gain R (convert_gives w m l s t v h d) in
-    let wait = step_for w l l s s c.1 k.1 (IsOfType w.kinds t c.0 × R) (is × R) (R × IsOfType w.kinds t c.0) (R × is) (λ z. (z.1, z.0)) (λ z. (z.1, z.0)) (step_beside w l l s s c.1 k.1 (IsOfType w.kinds t c.0) is R (unless_step w g l s stay t c)) in
+    let wait = step_for w l l s s c.1 k.1 (IsOfType w.table t c.0 × R) (is × R) (R × IsOfType w.table t c.0) (R × is) (λ z. (z.1, z.0)) (λ z. (z.1, z.0)) (step_beside w l l s s c.1 k.1 (IsOfType w.table t c.0) is R (unless_step w g l s stay t c)) in
     let begin = chain (chain (chain value wait) (gain (R × is) (fresh_step w g l many s k.1))) (cases_step w g l s o t k.0 zs (e + 1) d2 F zin (λ z. (z.0.1, omega (z.1, arith)))) in
     chain (chain (chain begin (use_it F (λ z. away_where e len b w.points z.1) (away_step w g l s q d3))) (use_it F (λ z. in_switch_are w marks x e len b z.0.0 z.1) (i (form.in_switch e len x) d4)))
     (given (Unit {0}) (λ z. tt) (use_it F (λ z. omega (z.1, arith)) (go_step w n u e y)))
 
 -- ---- the forms
 
-pub result_there : (w : Place) (s : Stage) (t : IntType) (d : D) → s.result ≡ Some t → Typed w s d → Has w.kinds (own_result w.context d) t None
+pub result_there : (w : Place) (s : Stage) (t : IntType) (d : D w) → s.result ≡ Some t → Typed w s d → Has w.table (own_result w.context d) t None
 result_there w s t d r z =
-    subst (λ (n : Names ℕ). Has w.kinds (n.result w.context.path (slice_index_or d.objects (length w.context.locals) 0)) t None) (sym z.names) (subst (HasIf w.kinds (slice_index_or d.objects (length w.context.locals) 0)) r z.objects.result)
+    subst (λ (n : Names w.table.Variable). Has w.table (n.result w.context.path (slice_index_or d.objects (length w.context.locals) 0)) t None) (sym z.names) (subst (HasIf w.table (w.table.names.result w.context.path (slice_index_or d.objects (length w.context.locals) 0))) r z.objects.result)
 
-returned_works : (w : Place) → Proper w → (m n : ℕ) (s : Stage) (q : ℕ) (r : Option IntType) (e : Option ValueTree) → s.result ≡ r → IsReturned (around w s) r e → CallsAre w m (calls_if e) n → (d : D)
+returned_works : (w : Place) → Proper w → (m n : ℕ) (s : Stage) (q : ℕ) (r : Option IntType) (e : Option ValueTree) → s.result ≡ r → IsReturned (around w s) r e → CallsAre w m (calls_if e) n → (d : D w)
     → Step w m n s s d (form.returned w.context q r e d) (q < w.points) (Unit {0})
 returned_works w g m n s q None None h k c d = subst (λ (j : ℕ). Step w m j s s d (away q d) (q < w.points) (Unit {0})) c (away_step w g m s q d)
 returned_works w g m n s q None (Some e) h k c d = absurd k
@@ -237,17 +237,17 @@ returned_works w g m n s q (Some t) (Some e) h k c d =
     let P = q < w.points in
     let y = own_result w.context d in
     let f = row.set_after t (type_of e) y ((ways w.context e).value d) in
-    chain (run P (given (Unit {0}) (λ (z : IsOfType w.kinds t (variable y)). tt) (set_step w g m n s t y (operand e (ways w.context e)) (values w g m n s e k c) d (result_there w s t d h)))) (away_step w g n s q f)
+    chain (run P (given (Unit {0}) (λ (z : IsOfType w.table t (variable y)). tt) (set_step w g m n s t y (operand e (ways w.context e)) (values w g m n s e k c) d (result_there w s t d h)))) (away_step w g n s q f)
 
 value_if : (w : Place) → Proper w → (m n : ℕ) (s : Stage) (e : Option ValueTree) → IsValueIf (around w s) e → CallsAre w m (calls_if e) n → Chooses w m n s (form.for_test w.context e)
-value_if w g m n s None h c p q d = subst (λ (j : ℕ). Step w m j s s d (link Skip p d) ((p < w.points) × (q < w.points)) (Unit {0})) c (step_for w m m s s d (link Skip p d) ((p < w.points) × Unit {0}) (Unit {0}) ((p < w.points) × (q < w.points)) (Unit {0}) (λ x. (x.0, tt)) (λ x. x) (link_step w m s Skip p d))
+value_if w g m n s None h c p q d = subst (λ (j : ℕ). Step w m j s s d (link Skip p d) (Reaches w p q) (Unit {0})) c (step_for w m m s s d (link Skip p d) (p < w.points) (Unit {0}) (Reaches w p q) (Unit {0}) (λ x. x.0) (λ x. x) (link_step w m s p d))
 value_if w g m n s (Some e) h c p q d = (values w g m n s e h c).choice p q d
 
 effect_if : (w : Place) → Proper w → (m n : ℕ) (s : Stage) (e : Option EffectTree) → IsEffectIf (around w s) e → CallsAre w m (calls_in_effect_if e) n → Works w m n s (form.performed_if w.context e)
 effect_if w g m n s None h c d = subst (λ (j : ℕ). Step w m j s s d d (Unit {0}) (Unit {0})) c (idle w m s d (Unit {0}))
 effect_if w g m n s (Some e) h c d = effects w g m n s e h c d
 
-start_works : (w : Place) → Proper w → (m n : ℕ) (s : Stage) (x : ForStartTree) → IsForStart (around w s) x → CallsAre w m (calls_at_start x) n → (d : D)
+start_works : (w : Place) → Proper w → (m n : ℕ) (s : Stage) (x : ForStartTree) → IsForStart (around w s) x → CallsAre w m (calls_at_start x) n → (d : D w)
     → Step w m n s (more (objects_at_start x) s) d (form.for_start w.context x d) (Unit {0}) (Unit {0})
 start_works w g m n s (tree.declarations ds) h c d = all_declared_work w g m n s ds h c d
 start_works w g m n s (tree.expression e) h c d =
@@ -255,16 +255,16 @@ start_works w g m n s (tree.expression e) h c d =
     subst (λ (q : ℕ). Step w m n s (with_objects q s) d (form.performed_if w.context e d) (Unit {0}) (Unit {0})) same (effect_if w g m n s e h c d)
 
 -- a statement that declares as many objects
-to_objects : (w : Place) (m n : ℕ) (s : Stage) (marks : Marks) (f : Exits → D → D) (j k : ℕ) → j ≡ k → BodyIs w m n s (with_objects j s) marks f → BodyIs w m n s (with_objects k s) marks f
+to_objects : (w : Place) (m n : ℕ) (s : Stage) (marks : Marks) (f : Exits → D w → D w) (j k : ℕ) → j ≡ k → BodyIs w m n s (with_objects j s) marks f → BodyIs w m n s (with_objects k s) marks f
 to_objects w m n s marks f j k e h = subst (λ (q : ℕ). BodyIs w m n s (with_objects q s) marks f) e h
 
 -- one that makes no calls and declares nothing
-to_end : (w : Place) (m n : ℕ) (s : Stage) (marks : Marks) (f : Exits → D → D) → m ≡ n → BodyIs w m m s s marks f → BodyIs w m n s (more 0 s) marks f
+to_end : (w : Place) (m n : ℕ) (s : Stage) (marks : Marks) (f : Exits → D w → D w) → m ≡ n → BodyIs w m m s s marks f → BodyIs w m n s (more 0 s) marks f
 to_end w m n s marks f c h =
     let same : s.objects ≡ s.objects + 0 = omega arith in
     subst (λ (q : ℕ). BodyIs w m q s (more 0 s) marks f) c (to_objects w m m s marks f s.objects (s.objects + 0) same h)
 
-none_more : (w : Place) (m n : ℕ) (s : Stage) (marks : Marks) (f : Exits → D → D) → BodyIs w m n s s marks f → BodyIs w m n s (more 0 s) marks f
+none_more : (w : Place) (m n : ℕ) (s : Stage) (marks : Marks) (f : Exits → D w → D w) → BodyIs w m n s s marks f → BodyIs w m n s (more 0 s) marks f
 none_more w m n s marks f h = let same : s.objects ≡ s.objects + 0 = omega arith in to_objects w m n s marks f s.objects (s.objects + 0) same h
 
 mutual

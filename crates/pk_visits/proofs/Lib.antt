@@ -1,18 +1,18 @@
-mod Slots
-mod Settled
-mod Grows
-mod Growing
+pub mod Slots
+pub mod Settled
+pub mod Grows
+pub mod Growing
 mod Values
 mod Tells
 mod Silent
-mod Stands
-mod Stores
-mod Follow
+pub mod Stands
+pub mod Stores
+pub mod Follow
 mod Doom
 mod Operators
 mod Elements
 mod Tests
-mod Stages
+pub mod Stages
 mod Operands
 mod Trees
 mod Joined
@@ -24,10 +24,10 @@ mod OwnReads
 mod Calling
 mod Entering
 mod Evaluations
-mod StatementGrows
+pub mod StatementGrows
 mod Kept
 mod Locals
-mod Settling
+pub mod Settling
 mod Statements
 mod Marked
 mod Rounds
@@ -46,18 +46,20 @@ mod Found
 mod Going
 mod Jumps
 mod Followed
-mod PartGrows
-mod NumberedEdges
-mod NumberedStores
-mod NumberedCopies
-mod NumberedRuns
-mod NumberedStarts
-mod Journeys
-mod NumberedVisits
-mod NumberedNames
-mod NumberedRows
-mod NumberedForms
-mod NumberedExpressions
-mod NumberedStatements
-mod NumberedLoops
-mod NumberedSwitches
+pub mod PartGrows
+pub mod NumberedEdges
+pub mod NumberedStores
+pub mod NumberedCopies
+pub mod NumberedRuns
+pub mod NumberedStarts
+pub mod Journeys
+pub mod NumberedVisits
+pub mod NumberedNames
+pub mod NumberedRows
+pub mod NumberedForms
+pub mod NumberedExpressions
+pub mod NumberedStatements
+pub mod NumberedLoops
+pub mod NumberedSwitches
+pub mod NumberedForLoops
+pub mod NumberedParts

@@ -1,0 +1,6 @@
+mod Paths
+mod Pairs
+mod Naming
+mod Graphs
+mod PartAdds
+mod Pending

@@ -1,0 +1,2 @@
+//! Graphs follow their programs.
+#![tactic(auto)]
