@@ -8,3 +8,4 @@ mod Propers
 mod PartAdds
 mod Pending
 mod Arguments
+mod Beginnings

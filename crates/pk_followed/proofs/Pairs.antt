@@ -21,8 +21,8 @@ use Rattle.pk_meaning.specs.Objects.{Object, file, local, result}
 use Rattle.pk_typed_draft.proofs.Tables.{Table}
 use Rattle.pk_typed_draft.proofs.Noted.{calls_are_noted}
 use Rattle.pk_typed_draft.proofs.Places.{Place, Ends, Has, IsOwn, IsObjectOf, inner_object, outer_object, variable_in}
-use Rattle.pk_typed_draft.proofs.Plans.{World, Draft, place, Lasting, AllTyped, Foreknown}
-use Rattle.pk_typed_draft.proofs.Wholes.{Paths, kinds_of, kind_is, wholes, foreknown}
+use Rattle.pk_typed_draft.proofs.Plans.{World, Draft, place, Lasting, PathMade, AllTyped, Foreknown}
+use Rattle.pk_typed_draft.proofs.Wholes.{Paths, IsAmong, among, kinds_of, kind_is, wholes, foreknown}
 use Rattle.pk_typed_draft.proofs.Firsts.{first, first_made, files_are, Counted, first_plan, first_typed}
 use Rattle.pk_typed_draft.proofs.Listings.{listed, listing_paths}
 use Rattle.pk_typed_draft.proofs.Declarations.{object_kind}
@@ -202,6 +202,7 @@ pub record AreTyped (u : UnitTree) (paths : List CallPath) : Type 1 where
   pub many : length u.objects ≤ length (whole u paths).made
   pub low : (y : ℕ) → y < length u.objects → final u paths y ≡ variable_in (first_made u (whole_size (sizes_of u paths) paths)) y
   pub parts : (j : ℕ) → j < length paths → PartOf (world u paths) (whole u paths) j
+  pub made : (j : ℕ) (p : CallPath) → slice_get paths j ≡ Some p → PathMade (world u paths) j p (whole u paths)
 
 pub pairs_are_typed : (u : UnitTree) (entry : ℕ) (paths : List CallPath) → IsUnit u → HasBody u entry → IsListing u entry paths → AreCallPaths u entry paths → AreTyped u paths
 pairs_are_typed u entry paths h has l are =
@@ -227,5 +228,6 @@ pairs_are_typed u entry paths h has l are =
       typed = all.part.typed known start;
       many = omega (many, arith);
       low = λ y q. ap (λ (xs : List VariableOf). variable_in xs y) (pair_made u paths) ∙ made.1 y q;
+      made = λ j p e. let at : 0 + j ≡ j = omega arith in all.made j p (subst (λ (i : ℕ). IsAmong 0 paths i p) at (among 0 paths j p e));
       parts = λ j b. let at : 0 + j ≡ j = omega arith in subst (PartOf W g) at (part_of W lasts 0 1 paths ps d0 plan o start known j b);
     }
