@@ -205,7 +205,7 @@ pub file_made : (u : UnitTree) (paths : List CallPath) → AreTyped u paths → 
 file_made u paths h i b = (let z = h.many in omega (z, b, arith), (refl, b))
 
 -- the number of a name in scope is an object's
-named_object : (u : UnitTree) (paths : List CallPath) → AreTyped u paths → (y : ℕ) → IsObjects u paths y → (x : Object) × Made u paths (own x) × (y ≡ naming u paths (own x))
+pub named_object : (u : UnitTree) (paths : List CallPath) → AreTyped u paths → (y : ℕ) → IsObjects u paths y → (x : Object) × Made u paths (own x) × (y ≡ naming u paths (own x))
 named_object u paths h y (inl b) = (file y, file_made u paths h y b, refl)
 named_object u paths h y (inr (k, i, b, c, e)) = (local k i, local_made u paths h k i b c, e)
 

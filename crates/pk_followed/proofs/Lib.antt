@@ -9,3 +9,4 @@ mod PartAdds
 mod Pending
 mod Arguments
 mod Beginnings
+mod Starting

@@ -163,11 +163,11 @@ parameter_kind xs j (u ∷ ts) h zero t e =
     ap (kind_among xs) at ∙ (h.0 ∙ ap (λ (o : Option IntType). Some (scalar (unwrap_or o u))) e)
 parameter_kind xs j (u ∷ ts) h (suc i) t e = let at : j + suc i ≡ j + 1 + i = omega arith in ap (kind_among xs) at ∙ parameter_kind xs (j + 1) ts h.1 i t e
 
-its_types : (u : UnitTree) (paths : List CallPath) (m : ℕ) (p : PartOf (world u paths) (whole u paths) m) → (function_of (program_of u paths) m).parameters ≡ parameters_of u p.path.function
+pub its_types : (u : UnitTree) (paths : List CallPath) (m : ℕ) (p : PartOf (world u paths) (whole u paths) m) → (function_of (program_of u paths) m).parameters ≡ parameters_of u p.path.function
 its_types u paths m p =
     ap (λ (g : FunctionTree). g.parameters) (function_is (world u paths) m p.first p.path p.place) ∙ sym (ap (λ (o : Option FunctionTree). unwrap_or (option_map (λ (g : FunctionTree). g.parameters) o) []) p.place.there)
 
-parameter_there : (u : UnitTree) (paths : List CallPath) (h : AreTyped u paths) (m i : ℕ) (t : IntType) → m < length paths → slice_get (function_of (program_of u paths) m).parameters i ≡ Some t → HasKind (program_of u paths) (local m i) (scalar t)
+pub parameter_there : (u : UnitTree) (paths : List CallPath) (h : AreTyped u paths) (m i : ℕ) (t : IntType) → m < length paths → slice_get (function_of (program_of u paths) m).parameters i ≡ Some t → HasKind (program_of u paths) (local m i) (scalar t)
 parameter_there u paths h m i t b e =
     let p = h.parts m b in
     let at : 0 + i ≡ i = omega arith in
