@@ -4,3 +4,5 @@ mod Naming
 mod Graphs
 mod PartAdds
 mod Pending
+mod KeptPoints
+mod Bodies

@@ -160,7 +160,7 @@ standing_enlarges ms C l d e is a = record {
 }
 
 -- behind its items, to its exit
-closed_adds : (ms : List ℕ) (C : ℕ → Size → Type 0) (c : Context) (g : FunctionTree) (b : BodyTree) (q : ℕ) (d : Draft) → Adds ms Free C d (go Skip q (ended c g.name g.returns (on b.closed d)))
+pub closed_adds : (ms : List ℕ) (C : ℕ → Size → Type 0) (c : Context) (g : FunctionTree) (b : BodyTree) (q : ℕ) (d : Draft) → Adds ms Free C d (go Skip q (ended c g.name g.returns (on b.closed d)))
 closed_adds ms C c g b q d =
     let o = on b.closed d in
     stays_then (on_adds ms Free C b.closed d) (stays_then (ended_adds ms C c g.name g.returns o) (link_adds ms Free C Skip q (ended c g.name g.returns o)))
