@@ -6,3 +6,4 @@ mod PartAdds
 mod Pending
 mod KeptPoints
 mod Bodies
+mod BodyStages
