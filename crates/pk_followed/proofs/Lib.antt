@@ -7,3 +7,4 @@ mod Pending
 mod KeptPoints
 mod Bodies
 mod BodyStages
+mod WholeGraph

@@ -1,5 +1,5 @@
 -- Parts change labels only where a region is kept for them.
-use Rattle.std.proofs.Common.{◌≡◌, ℕ, zero, suc, ◌+◌, ◌<◌, ◌≤◌, ◌⊎◌, inl, inr, List, [], ◌∷◌, Option, Some, None, length, refl, ap, sym, subst, ◌∙◌, arith}
+use Rattle.std.proofs.Common.{◌≡◌, ℕ, zero, suc, ◌+◌, ◌<◌, ◌≤◌, ◌⊎◌, inl, inr, List, [], ◌∷◌, Option, Some, None, length, refl, ap, sym, subst, ◌∙◌, arith, slice_index_or}
 use Rattle.pk_calls.specs.declared.listings.Caller.{Caller}
 use Rattle.pk_calls.specs.declared.listings.CallPath.{CallPath}
 use Rattle.pk_calls.specs.Calls.{calls_of}
@@ -11,6 +11,7 @@ use Rattle.pk_typed_draft.proofs.Wholes.{Paths, next_plan}
 use Rattle.pk_visits.proofs.Slots.{Slot, slots, Edge, Extends, Among, label_at, region_at}
 use Rattle.pk_visits.proofs.PartGrows.{entry_marks}
 use Rattle.pk_visits.proofs.NumberedNames.{names_by, draft_by}
+use Rattle.pk_followed.proofs.Paths.{firsts_from, first_of}
 use Rattle.pk_followed.proofs.PartAdds.{part_at, PartAdds, part_adds}
 
 -- each of these paths is entered by a call
@@ -99,6 +100,7 @@ pub record PathAt (W : World) (f : W.table.Variable → Slot) (g : Draft W) (j :
   pub before : Draft W
   pub plan : Plan W j first before
   pub names : names_by f before.names ≡ slots
+  pub first_is : first ≡ first_of W.unit W.paths j
   pub others : List CallPath
   pub paths : Paths W (j + 1) (first + length (calls_of W.unit path.function)) others
   pub callers : HaveCallers others
@@ -113,14 +115,14 @@ callers_behind : (ps : List CallPath) → HaveCallers ps → HaveCallersBehind p
 callers_behind [] h = tt
 callers_behind (p ∷ ps) h = h.1
 
-pub path_at : (W : World) → Lasting W → (f : W.table.Variable → Slot) (k n : ℕ) (ps : List CallPath) → Paths W k n ps → HaveCallersBehind ps → (d : Draft W) → Plan W k n d → names_by f d.names ≡ slots → (i : ℕ) → i < length ps → PathAt W f (part.parts_from W.unit (sizes W) k n ps d) (k + i)
+pub path_at : (W : World) → Lasting W → (f : W.table.Variable → Slot) (k n : ℕ) (ps : List CallPath) → Paths W k n ps → HaveCallersBehind ps → (d : Draft W) → Plan W k n d → names_by f d.names ≡ slots → ((i : ℕ) → slice_index_or (firsts_from W.unit n ps) i 0 ≡ first_of W.unit W.paths (k + i)) → (i : ℕ) → i < length ps → PathAt W f (part.parts_from W.unit (sizes W) k n ps d) (k + i)
 unfolding part.parts_from
-path_at W l f k n [] h o d plan ns i low = absurd (omega (low, arith))
-path_at W l f k n (p ∷ ps) h o d plan ns zero low =
+path_at W l f k n [] h o d plan ns ones i low = absurd (omega (low, arith))
+path_at W l f k n (p ∷ ps) h o d plan ns ones zero low =
     let at : k ≡ k + zero = omega arith in
     subst (PathAt W f (part.parts_from W.unit (sizes W) (k + 1) (n + length (calls_of W.unit p.function)) ps (part_at W k n p d))) at
-    (record { first = n; path = p; place = h.0; before = d; plan = plan; names = ns; others = ps; paths = h.1; callers = o; rest = refl })
-path_at W l f k n (p ∷ ps) h o d plan ns (suc i) low =
+    (record { first = n; path = p; place = h.0; before = d; plan = plan; names = ns; first_is = ones zero ∙ ap (first_of W.unit W.paths) (sym at); others = ps; paths = h.1; callers = o; rest = refl })
+path_at W l f k n (p ∷ ps) h o d plan ns ones (suc i) low =
     let at : k + 1 + i ≡ k + suc i = omega arith in
     let m = n + length (calls_of W.unit p.function) in
-    subst (PathAt W f (part.parts_from W.unit (sizes W) (k + 1) m ps (part_at W k n p d))) at (path_at W l f (k + 1) m ps h.1 (callers_behind ps o) (part_at W k n p d) (next_part W l k n p h.0 d plan) ((part_adds W l f k n p h.0 d).names ∙ ns) i (omega (low, arith)))
+    subst (PathAt W f (part.parts_from W.unit (sizes W) (k + 1) m ps (part_at W k n p d))) at (path_at W l f (k + 1) m ps h.1 (callers_behind ps o) (part_at W k n p d) (next_part W l k n p h.0 d plan) ((part_adds W l f k n p h.0 d).names ∙ ns) (λ j. ones (suc j) ∙ ap (first_of W.unit W.paths) (omega arith)) i (omega (low, arith)))
