@@ -69,7 +69,7 @@ apart_from a s b t p q none = by (split b (a + s)) (split a (b + t)) (split a b)
   by (inl x) (inl y) (inr z) = absurd (none a (omega arith) (omega (p, arith)) z y)
 
 -- up to where it begins no region is taken
-begun_grows : (W : World) (f : W.table.Variable → Slot) (k n : ℕ) (p : CallPath) (h : PathIs W k n p) (d : Draft W)
+pub begun_grows : (W : World) (f : W.table.Variable → Slot) (k n : ℕ) (p : CallPath) (h : PathIs W k n p) (d : Draft W)
     → Enlarges (entry_marks p.caller (region_at d.regions k)) Free Uncalled (first_of (context_at W k n p) h.body (region_at d.regions k) (draft_by f d)) (body_begun W f k n p h d)
 begun_grows W f k n p h d = opened_enlarges Uncalled (context_at W k n p) h.function h.body p.caller (region_at d.regions k) (draft_by f d)
 
@@ -173,3 +173,8 @@ body_stage W l f d g is k q there h here = record {
       let j = callee c z.number in
       let s = called_size W k q.first q.path q.place j (size_in (sizes W) z.call.function) (z, a, refl, refl) in
       ap (λ (x : Context). (size_in x.sizes z.call.function).points) same ∙ (ap (λ (x : Size). x.points) s.1 ∙ (sym (is.spans j) ∙ ap (λ (x : Context). g.spans (callee x z.number)) (sym same)))
+
+pub stage_marks : (W : World) (l : Lasting W) (f : W.table.Variable → Slot) (d : Draft W) (g : Whole) (is : IsWholeOf W f d g) (k : ℕ) (q : PathAt W f d k) (there : k < length W.paths) (h : Place) (here : g.shows (body_begun W f k q.first q.path q.place q.before).here k h)
+    → (body_stage W l f d g is k q there h here).marks ≡ body_marks W f d k q
+unfolding body_stage
+stage_marks W l f d g is k q there h here = refl

@@ -8,3 +8,4 @@ mod KeptPoints
 mod Bodies
 mod BodyStages
 mod WholeGraph
+mod BodiesStand

@@ -37,7 +37,7 @@ mod Shown
 mod Starts
 mod Declared
 mod Choices
-mod Cases
+pub mod Cases
 mod Switches
 mod Found
 mod Going
