@@ -9,3 +9,4 @@ mod Bodies
 mod BodyStages
 mod WholeGraph
 mod BodiesStand
+mod BodyEnds

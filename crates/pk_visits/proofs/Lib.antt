@@ -8,12 +8,12 @@ mod Silent
 pub mod Stands
 pub mod Stores
 pub mod Follow
-mod Doom
+pub mod Doom
 mod Operators
 mod Elements
 mod Tests
 pub mod Stages
-mod Operands
+pub mod Operands
 mod Trees
 mod Joined
 mod Conditions
@@ -38,7 +38,7 @@ mod Starts
 mod Declared
 mod Choices
 pub mod Cases
-mod Switches
+pub mod Switches
 mod Found
 mod Going
 mod Jumps
