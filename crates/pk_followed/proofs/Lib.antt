@@ -10,3 +10,4 @@ mod BodyStages
 mod WholeGraph
 mod BodiesStand
 mod BodyEnds
+mod BodyCloses

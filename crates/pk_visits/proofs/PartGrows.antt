@@ -57,13 +57,13 @@ begun_enlarges ms C c g b from r d =
     let f = first_of c b r d in
     path_then (parameters_enlarge ms C c from 0 g.parameters f) (result_enlarges ms C c g.returns (all_introduced c from 0 g.parameters f))
 
--- names and objects leave the point, and how many there are
+-- names and objects leave the point, how many there are, and the position
 abbrev Stays : Draft → Draft → Type 0
-Stays d e = (e.point ≡ d.point) × (e.points ≡ d.points)
+Stays d e = (e.point ≡ d.point) × (e.points ≡ d.points) × (e.here.at ≡ d.here.at)
 
 named_stays : (o : Option (List ℕ)) (x : ℕ) (d : Draft) → Stays d (named o x d)
-named_stays None x d = (refl, refl)
-named_stays (Some n) x d = (refl, refl)
+named_stays None x d = (refl, refl, refl)
+named_stays (Some n) x d = (refl, refl, refl)
 
 parameter_stays : (c : Context) (from : Option Caller) (i : ℕ) (d : Draft) → Stays d (introduced_parameter c from i d)
 parameter_stays c None i d = let x = local_at c i in named_stays x.name d.variables (with_object i (entry_parameter x.name x.int_type x.length c.path) d)
@@ -71,15 +71,15 @@ parameter_stays c (Some caller) i d = let x = local_at c i in named_stays x.name
 
 parameters_stay : (c : Context) (from : Option Caller) (i : ℕ) (ts : List IntType) (d : Draft) → Stays d (all_introduced c from i ts d)
 unfolding all_introduced
-parameters_stay c from i [] d = (refl, refl)
+parameters_stay c from i [] d = (refl, refl, refl)
 parameters_stay c from i (t ∷ ts) d =
     let a = parameter_stays c from i d in
     let b = parameters_stay c from (i + 1) ts (introduced_parameter c from i d) in
-    (b.0 ∙ a.0, b.1 ∙ a.1)
+    (b.0 ∙ a.0, b.1 ∙ a.1, b.2 ∙ a.2)
 
 result_stays : (c : Context) (t : Option IntType) (d : Draft) → Stays d (with_result c t d)
-result_stays c None d = (refl, refl)
-result_stays c (Some t) d = (refl, refl)
+result_stays c None d = (refl, refl, refl)
+result_stays c (Some t) d = (refl, refl, refl)
 
 pub begun_point : (c : Context) (g : FunctionTree) (b : BodyTree) (from : Option Caller) (r : Region) (d : Draft) → (begun c g b from r d).point ≡ r.at
 begun_point c g b from r d =
@@ -90,6 +90,15 @@ pub begun_points : (c : Context) (g : FunctionTree) (b : BodyTree) (from : Optio
 begun_points c g b from r d =
     let f = first_of c b r d in
     (result_stays c g.returns (all_introduced c from 0 g.parameters f)).1 ∙ (parameters_stay c from 0 g.parameters f).1
+
+pub begun_position : (c : Context) (g : FunctionTree) (b : BodyTree) (from : Option Caller) (r : Region) (d : Draft) → (begun c g b from r d).here.at ≡ b.opened
+begun_position c g b from r d =
+    let f = first_of c b r d in
+    (result_stays c g.returns (all_introduced c from 0 g.parameters f)).2 ∙ (parameters_stay c from 0 g.parameters f).2
+
+pub placed_here : (from : Option Caller) (d : Draft) → (placed_entry from d).here ≡ d.here
+placed_here None d = refl
+placed_here (Some c) d = refl
 
 pub placed_point : (from : Option Caller) (d : Draft) → (placed_entry from d).point ≡ d.point
 placed_point None d = refl
