@@ -25,6 +25,11 @@ use Rattle.pk_visits.proofs.Stands.{Whole, context_of, final, around, Held, AreC
 use Rattle.pk_visits.proofs.Cases.{fresh_point}
 use Rattle.pk_visits.proofs.PartGrows.{begun_point, begun_points, placed_point, placed_points}
 use Rattle.pk_visits.proofs.NumberedNames.{draft_by}
+use Rattle.pk_ctypes.specs.declared.places.Pos.{Pos}
+use Rattle.pk_draft.specs.declared.drafts.Label.{Label}
+use Rattle.pk_meaning.specs.Objects.{Scope}
+use Rattle.pk_followed.proofs.Paths.{function_is}
+use Rattle.pk_followed.proofs.BodyCloses.{body_closes}
 use Rattle.pk_followed.proofs.Pairs.{slot_of, whole, world, AreTyped}
 use Rattle.pk_followed.proofs.Graphs.{graph}
 use Rattle.pk_followed.proofs.PartAdds.{context_at, part_at, body_begun, body_exit, body_ended, part_adds}
@@ -112,3 +117,22 @@ body_stands W l f d g is unit k q there here settled ended = record {
 
   marked : Marked g k h x m o (block_of g.program k) (context_of g k)
   marked = subst (λ y. Marked g k h x m o (block_of g.program k) y) (sym (is.contexts k q)) (subst (λ y. Marked g k h x m o y c) (sym (is.blocks k q)) (body_stage W l f d g is k q there h here, subst (Marking x m) (sym (stage_marks W l f d g is k q there h here)) (body_marking W f d k q)))
+
+-- The body of path k stands in the graph of its unit, where its first point shows its place and what it declares is settled.
+pub path_body : (u : UnitTree) (paths : List CallPath) → AreTyped u paths → IsWholeOf (world u paths) slot_of (whole u paths) (graph u paths)
+    → ((i : Label) (k : ℕ) (xs : Scope) (p : Pos) → (graph u paths).shows i k (place i.at xs) → (graph u paths).shows (record { at = p; path = i.path; scope = i.scope }) k (place p xs))
+    → (k : ℕ) (q : PathAt (world u paths) slot_of (whole u paths) k) → k < length paths
+    → (let o = body_begun (world u paths) slot_of k q.first q.path q.place q.before in let x = exits_of (world u paths) slot_of (whole u paths) k q in
+    (graph u paths).shows o.here k (place o.here.at (body_scope (graph u paths).program k)) → SettleAll (final (graph u paths) k) (context_of (graph u paths) k) (block_of (graph u paths).program k).items x o → BodyOf (graph u paths) k)
+path_body u paths a is positions k q there here settled =
+    let W = world u paths in
+    let f = slot_of in
+    let d = whole u paths in
+    let g = graph u paths in
+    let o = body_begun W f k q.first q.path q.place q.before in
+    let x = exits_of W f d k q in
+    let functions = λ (j : ℕ) (r : PathAt W f d j). function_is W j r.first r.path r.place in
+    body_stands W a.lasts f d g is refl k q there here settled
+    (λ hs calm. subst (λ (c : Context). Ended g k x (lowered_items c (block_of g.program k).items x o).point hs) (sym (is.contexts k q))
+    (subst (λ (b : BodyTree). Ended g k x (lowered_items (context_at W k q.first q.path) b.items x o).point hs) (sym (is.blocks k q))
+    (body_closes W a.lasts f d g is functions positions k q here o.variables hs calm)))

@@ -8,6 +8,6 @@ mod KeptPoints
 mod Bodies
 mod BodyStages
 mod WholeGraph
-mod BodiesStand
 mod BodyEnds
 mod BodyCloses
+mod BodiesStand
