@@ -162,12 +162,12 @@ later_length e w = later w (after_value noted e w) _ (later_value e w) (later_fa
 
 -- an array's length that is known
 abbrev pub KnownLength : Option ℕ → Type 0
-KnownLength o = (n : ℕ) × (o ≡ Some n) × (n ≤ 1048576)
+KnownLength o = (n : ℕ) × (o ≡ Some n) × (n ≤ 1048576) × (1 ≤ n)
 
-magnitude_in : (z : ℤ) → pos 1 ≤ℤ z → z ≤ℤ pos 1048576 → unsigned_abs z ≤ 1048576
-magnitude_in z l h = omega (l, h, arith, ints)
+magnitude_in : (z : ℤ) → pos 1 ≤ℤ z → z ≤ℤ pos 1048576 → (unsigned_abs z ≤ 1048576) × (1 ≤ unsigned_abs z)
+magnitude_in z l h = (omega (l, h, arith, ints), omega (l, h, arith, ints))
 
-in_bounds : (z : ℤ) → is_length z ≡ true → unsigned_abs z ≤ 1048576
+in_bounds : (z : ℤ) → is_length z ≡ true → (unsigned_abs z ≤ 1048576) × (1 ≤ unsigned_abs z)
 in_bounds z h =
     let low : pos 1 ≤ℤ z = test_le (pos 1) z (first (int_le (pos 1) z) (int_le z (pos 1048576)) h) in
     let high : z ≤ℤ pos 1048576 = test_le z (pos 1048576) (second (int_le (pos 1) z) (int_le z (pos 1048576)) h) in
@@ -182,7 +182,7 @@ in_bounds z h =
     second false b h = absurd (false≢true h)
 
 length_of_number : (c : Constant) → is_outside c ≡ false → Gives c → KnownLength (magnitude (number_of c))
-length_of_number (Number z) h g = (unsigned_abs z, refl, in_bounds z (negated (is_length z) h))
+length_of_number (Number z) h g = let b = in_bounds z (negated (is_length z) h) in (unsigned_abs z, refl, b.0, b.1)
   where
     negated : (b : Bool) → not b ≡ false → b ≡ true
     negated true h = refl
@@ -354,12 +354,12 @@ scalar_declared u ls w v x t (Some (tree.array_object i at es)) k s p = absurd p
 scalar_declared u ls w v x t (Some (tree.scalar_object i at e)) k s p =
     ((p.0, (t, ap (kind_among ls) p.0 ∙ k), subst (λ (n : ℕ). IsValueIf (record { unit = u; locals = ls; objects = n }) e) s.objects p.1), steps w v x [] (calls_in_declared (tree.scalar_object i at e)) 1 0 s p.2)
 
-array_declared : (u : UnitTree) (ls : List LocalTree) (w v x : W) (t : IntType) (n : ℕ) (o : Option DeclaredTree) → kind_among ls (length w.locals) ≡ Some (good.array t n) → n ≤ 1048576 → Steps w v [] 1
+array_declared : (u : UnitTree) (ls : List LocalTree) (w v x : W) (t : IntType) (n : ℕ) (o : Option DeclaredTree) → kind_among ls (length w.locals) ≡ Some (good.array t n) → n ≤ 1048576 → 1 ≤ n → Steps w v [] 1
     → ArrayPart u ls v x (length w.locals) n o → DeclaredPart u ls w x o
-array_declared u ls w v x t n None k few s p = tt
-array_declared u ls w v x t n (Some (tree.scalar_object i at e)) k few s p = absurd p
-array_declared u ls w v x t n (Some (tree.array_object i at es)) k few s p =
-    ((p.0, (t, n, ap (kind_among ls) p.0 ∙ k, p.1, few), subst (λ (m : ℕ). AreValuesIf (record { unit = u; locals = ls; objects = m }) es) s.objects p.2), steps w v x [] (calls_in_declared (tree.array_object i at es)) 1 0 s p.3)
+array_declared u ls w v x t n None k few some s p = tt
+array_declared u ls w v x t n (Some (tree.scalar_object i at e)) k few some s p = absurd p
+array_declared u ls w v x t n (Some (tree.array_object i at es)) k few some s p =
+    ((p.0, (t, n, ap (kind_among ls) p.0 ∙ k, p.1, few, some), subst (λ (m : ℕ). AreValuesIf (record { unit = u; locals = ls; objects = m }) es) s.objects p.2), steps w v x [] (calls_in_declared (tree.array_object i at es)) 1 0 s p.3)
 
 initial_names : (u : UnitTree) (ls : List LocalTree) (x : Option InitializerTree) (w : W) → NamesAre (around u ls w) (here w) → NamesAre (around u ls (after_initializer noted x w)) (here (after_initializer noted x w))
 initial_names u ls None w h = h
@@ -407,7 +407,7 @@ declarator_of u ls words x (Some e) i w n unknown ke ki begins h =
     let kind : kind_among ls (length w.locals) ≡ Some (good.array (type_or_int words.typing) k.0) = o.kind ∙ ap (λ (q : Option ℕ). Some (record { int_type = type_or_int words.typing; length = length_or_1 true q })) k.1 in
     record {
       names = initial_names u ls i v1 o.names;
-      part = array_declared u ls w v1 (after_initializer noted i v1) (type_or_int words.typing) k.0 (array_tree noted (length w.locals) x.at i v1) kind k.2 (steps w w1 v1 [] [] 0 1 s1 s)
+      part = array_declared u ls w v1 (after_initializer noted i v1) (type_or_int words.typing) k.0 (array_tree noted (length w.locals) x.at i v1) kind k.2 k.3 (steps w w1 v1 [] [] 0 1 s1 s)
           (array_part u ls v1 (length w.locals) k.0 x.at i o.names ki fits h);
     }
 

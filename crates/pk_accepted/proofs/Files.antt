@@ -204,12 +204,12 @@ given_fit (Some (braced o e es)) n at k h = room (expression_then e es) n h
 abbrev RoomIn : Bool → Option ℕ → ℕ → Type 0
 RoomIn false n k = Unit {0}
 RoomIn true None k = k ≤ 1
-RoomIn true (Some m) k = k ≤ m
+RoomIn true (Some m) k = (k ≤ m) × (1 ≤ m)
 
 start_is : (t : IntType) (b : Bool) (n : Option ℕ) (zs : List ℤ) → All (InType t) zs → RoomIn b n (length zs) → IsStart t (start_of (length_or_1 b n) zs)
 start_is t false n zs h k = first_in t zs h
-start_is t true None zs h k = (k, h)
-start_is t true (Some m) zs h k = (k, h)
+start_is t true None zs h k = (k, h, omega arith)
+start_is t true (Some m) zs h k = (k.0, h, k.1)
 
 start_length : (b : Bool) (n : Option ℕ) (zs : List ℤ) → length_at_start (start_of (length_or_1 b n) zs) ≡ length_or_1 b n
 start_length false n zs = refl
@@ -322,7 +322,7 @@ one_object u storage words x (Some e) i f unknown h s k =
     let void : is_void words.typing ≡ false = holds_not _ _ _ (void_row (redeclared w.scoping x) (extern_object storage x) (void_object words.typing x.at) (special_object w.scoping x) k2.1) in
     let m = length_known u [] f.walked e (names_from_file u [] (length f.walked.locals) (here f.walked) h.names) k2.0 in
     let fits : count (given i) ≤ m.0 = given_fit i m.0 x.at (none_before (braces true i x.at) (surplus n i) k1.1) (rw m.1 at (none_after (braces true i x.at) (surplus n i) k1.1)) in
-    object_made u words true n x i f w rows fs (text_of f.walked.scoping x) refl refl void unknown h (subst (λ (o : Option ℕ). RoomIn true o (count (given i))) (sym m.1) fits) s
+    object_made u words true n x i f w rows fs (text_of f.walked.scoping x) refl refl void unknown h (subst (λ (o : Option ℕ). RoomIn true o (count (given i))) (sym m.1) (fits, m.3)) s
 
 all_objects : (u : UnitTree) (storage : Option Storage) (words : Words) (ds : List DeclaratorTree) (f : F) → is_unknown words.typing ≡ false → FileIs u f → Stands u (after_objects noted storage words ds f)
     → (after_objects noted storage words ds f).walked.found ≡ None

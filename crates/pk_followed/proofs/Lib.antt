@@ -2,6 +2,9 @@ mod Paths
 mod Pairs
 mod Naming
 mod Graphs
+mod Copies
+mod Starts
+mod Propers
 mod PartAdds
 mod Pending
 mod KeptPoints
@@ -11,3 +14,5 @@ mod WholeGraph
 mod BodyEnds
 mod BodyCloses
 mod BodiesStand
+mod Arguments
+mod Beginnings

@@ -81,7 +81,7 @@ ends_many u paths k h =
     ∙ (ap (λ (x : FunctionTree). length x.parameters + objects_in_items (body_at u h.path.function).items) (its_function u h.path.function h.place.function h.place.there)
     ∙ ap (λ (x : BodyTree). length h.place.function.parameters + objects_in_items x.items) (body_at_is u h.path.function h.place.function h.place.body h.place.there h.place.has))
 
-returns_is : (u : UnitTree) (paths : List CallPath) (k : ℕ) (h : PartOf (world u paths) (whole u paths) k) → (function_at u (function_from paths k)).returns ≡ h.place.function.returns
+pub returns_is : (u : UnitTree) (paths : List CallPath) (k : ℕ) (h : PartOf (world u paths) (whole u paths) k) → (function_at u (function_from paths k)).returns ≡ h.place.function.returns
 returns_is u paths k h =
     ap (λ (j : ℕ). (function_at u j).returns) (function_at_path paths k h.path h.place.path) ∙ ap (λ (x : FunctionTree). x.returns) (its_function u h.path.function h.place.function h.place.there)
 

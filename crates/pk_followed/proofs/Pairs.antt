@@ -1,5 +1,5 @@
 -- The draft of a unit over pairs: each variable by its slot and by its number, which belong together.
-use Rattle.std.proofs.Common.{◌≡◌, ℕ, zero, suc, ◌+◌, ◌<◌, ◌⊎◌, inl, inr, List, [], ◌∷◌, ◌++◌, length, map, Option, Some, None, refl, sym, ap, subst, ◌∙◌, arith}
+use Rattle.std.proofs.Common.{◌≡◌, ℕ, zero, suc, ◌+◌, ◌<◌, ◌≤◌, ◌⊎◌, inl, inr, List, [], ◌∷◌, ◌++◌, length, map, Option, Some, None, refl, sym, ap, subst, ◌∙◌, arith}
 use Rattle.std.proofs.lemmas.List.{length-map}
 use Rattle.std.proofs.lemmas.Option.{slice_get_within, get_or_from_slice_get}
 use Rattle.std.specs.Prelude.{slice_get, All, replicate}
@@ -21,8 +21,8 @@ use Rattle.pk_meaning.specs.Objects.{Object, file, local, result}
 use Rattle.pk_typed_draft.proofs.Tables.{Table}
 use Rattle.pk_typed_draft.proofs.Noted.{calls_are_noted}
 use Rattle.pk_typed_draft.proofs.Places.{Place, Ends, Has, IsOwn, IsObjectOf, inner_object, outer_object, variable_in}
-use Rattle.pk_typed_draft.proofs.Plans.{World, Draft, place, Lasting, AllTyped, Foreknown}
-use Rattle.pk_typed_draft.proofs.Wholes.{Paths, kinds_of, kind_is, wholes, foreknown}
+use Rattle.pk_typed_draft.proofs.Plans.{World, Draft, place, Lasting, PathMade, AllTyped, Foreknown}
+use Rattle.pk_typed_draft.proofs.Wholes.{Paths, IsAmong, among, kinds_of, kind_is, wholes, foreknown}
 use Rattle.pk_typed_draft.proofs.Firsts.{first, first_made, files_are, Counted, first_plan, first_typed}
 use Rattle.pk_typed_draft.proofs.Listings.{listed, listing_paths}
 use Rattle.pk_typed_draft.proofs.Declarations.{object_kind}
@@ -171,6 +171,7 @@ lasting u entry paths h has l are =
     record {
       points = omega arith;
       files = λ i k e. let f = files_are u size ms (omega (many, arith)) low i k e in record { there = (omega (f.0, many, arith), (refl, f.0)); kind = f.1 };
+      objects_of_file = refl;
       behind = listings_lead_behind u entry paths has l are (calls_are_noted u h);
       listed = listed paths;
       temporaries = λ k n f l q y t m o e. record {
@@ -198,8 +199,10 @@ pub record AreTyped (u : UnitTree) (paths : List CallPath) : Type 1 where
   pub paths_are : Paths (world u paths) 0 1 paths
   pub known : Foreknown (world u paths) (whole u paths)
   pub typed : AllTyped (world u paths) (whole u paths)
+  pub many : length u.objects ≤ length (whole u paths).made
   pub low : (y : ℕ) → y < length u.objects → final u paths y ≡ variable_in (first_made u (whole_size (sizes_of u paths) paths)) y
   pub parts : (j : ℕ) → j < length paths → PartOf (world u paths) (whole u paths) j
+  pub made : (j : ℕ) (p : CallPath) → slice_get paths j ≡ Some p → PathMade (world u paths) j p (whole u paths)
 
 pub pairs_are_typed : (u : UnitTree) (entry : ℕ) (paths : List CallPath) → IsUnit u → HasBody u entry → IsListing u entry paths → AreCallPaths u entry paths → AreTyped u paths
 pairs_are_typed u entry paths h has l are =
@@ -223,6 +226,8 @@ pairs_are_typed u entry paths h has l are =
       paths_are = ps;
       known = known;
       typed = all.part.typed known start;
+      many = omega (many, arith);
       low = λ y q. ap (λ (xs : List VariableOf). variable_in xs y) (pair_made u paths) ∙ made.1 y q;
+      made = λ j p e. let at : 0 + j ≡ j = omega arith in all.made j p (subst (λ (i : ℕ). IsAmong 0 paths i p) at (among 0 paths j p e));
       parts = λ j b. let at : 0 + j ≡ j = omega arith in subst (PartOf W g) at (part_of W lasts 0 1 paths ps d0 plan o start known j b);
     }

@@ -82,6 +82,7 @@ call_step w g m s f us rs d c =
       order = both.order;
       variables = both.variables;
       points = both.points;
+      scopes = both.scopes;
       after = both.after;
       objects = both.objects;
       before = both.before;

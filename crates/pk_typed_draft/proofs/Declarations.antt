@@ -52,11 +52,11 @@ object_kind w i k x e b =
     elim b [ inl is ↦ ap (λ (v : VariableOf). v.kind) is ∙ same | inr is ↦ ap (λ (v : VariableOf). v.kind) is.1 ∙ same ]
 
 -- the next object comes into scope
-pub introduced_step : (w : Place) → Proper w → (m : ℕ) (s : Stage) (k : good.Kind) → kind_among w.context.locals s.objects ≡ Some k → (d : D w) → Step w m m s (more 1 s) d (form.introduced w.context s.objects d) (Unit {0}) (Unit {0})
-introduced_step w g m s k e d =
+pub introduced_step : (w : Place) → Proper w → (m : ℕ) (s : Stage) (k : good.Kind) → kind_among w.context.locals s.objects ≡ Some k → 0 < count_of k.length → (d : D w) → Step w m m s (more 1 s) d (form.introduced w.context s.objects d) (Unit {0}) (Unit {0})
+introduced_step w g m s k e some d =
     let x = local_at w.context s.objects in
     let v = inner x.name x.int_type x.length w.context.path in
-    chain (object_step w g m s v d refl (inner_start x.name x.int_type x.length w.context.path) k e (inl refl)) (named_step w m (more 1 s) x.name d.variables (with_object s.objects v d))
+    chain (object_step w g m s v d refl (inner_start x.name x.int_type x.length w.context.path) k e some (inl refl)) (named_step w m (more 1 s) x.name d.variables (with_object s.objects v d))
 
 -- object i, which is declared
 there : (w : Place) → Proper w → (s : Stage) (i : ℕ) (k : good.Kind) → i < s.objects → kind_among w.context.locals i ≡ Some k → (d : D w) → Typed w s d → Has w.table (own w.context i d) k.int_type k.length
@@ -130,7 +130,7 @@ declared_works w g m n s (tree.scalar_object i p e) h c d =
     let k = good.scalar h.1.0 in
     let o = on p d in
     subst (λ (j : ℕ). Step w m n s (more 1 s) d (form.scalar_first w.context j e (form.introduced w.context j o)) (Unit {0}) (Unit {0})) (sym h.0)
-    (chain (chain (on_step w m s p d) (introduced_step w g m s k (ap (kind_among w.context.locals) (sym h.0) ∙ h.1.1) o))
+    (chain (chain (on_step w m s p d) (introduced_step w g m s k (ap (kind_among w.context.locals) (sym h.0) ∙ h.1.1) (omega arith) o))
     (scalar_works w g m n (more 1 s) s.objects h.1.0 (omega arith) (ap (kind_among w.context.locals) (sym h.0) ∙ h.1.1) e h.2 c (form.introduced w.context s.objects o)))
 declared_works w g m n s (tree.array_object i p es) h c d =
     let r = h.1 in
@@ -138,7 +138,7 @@ declared_works w g m n s (tree.array_object i p es) h c d =
     let o = on p d in
     let is = ap (kind_among w.context.locals) (sym h.0) ∙ r.2 in
     subst (λ (j : ℕ). Step w m n s (more 1 s) d (form.array_first w.context j es (form.introduced w.context j o)) (Unit {0}) (Unit {0})) (sym h.0)
-    (chain (chain (on_step w m s p d) (introduced_step w g m s k is o))
+    (chain (chain (on_step w m s p d) (introduced_step w g m s k is r.5 o))
     (array_works w g m n (more 1 s) s.objects r.0 r.1 (omega arith) is r.4 es r.3 h.2 c (form.introduced w.context s.objects o)))
 
 pub all_declared_work : (w : Place) → Proper w → (m n : ℕ) (s : Stage) (xs : List DeclaredTree) → AreDeclared (around w s) xs → CallsAre w m (calls_in_all_declared xs) n → (d : D w)

@@ -133,6 +133,7 @@ lasting : (u : UnitTree) (paths : List CallPath) (ms : List VariableOf) → Call
 lasting u paths ms b k low = record {
   points = omega arith;
   files = λ i q h. let f = files_are u (whole_size (sizes_of u paths) paths) ms (omega (k, arith)) low i q h in record { there = omega (f.0, k, length-map ms (λ (x : VariableOf). x.kind), arith); kind = f.1 };
+  objects_of_file = refl;
   behind = b;
   listed = listed paths;
   temporaries = λ k n f l q y t m o e. record { there = o.there; kind = kind_is ms y ∙ ap (λ (v : VariableOf). v.kind) o.is };

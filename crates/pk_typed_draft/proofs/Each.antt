@@ -61,7 +61,7 @@ objects_of W l g j h =
     let e = made_part w h.place.function h.place.body h.path.caller r h.before in
     let s = part_step w m h.place.function h.place.body h.path.caller (part_is W l j h.first h.path r h.place made) r h.before in
     let f = seen_at W j h.first h.path r h.place.function h.place.body e h.ends h.known in
-    (s.typed (before_part W j h.first h.path h.place h.before h.plan) (below_part W l j h.first h.path h.place h.before h.plan) f (begins_typed W j h.first h.path r h.place.body h.before (h.typed.places j made.kept) h.typed) tt).0.objects
+    (s.typed (before_part W j h.first h.path h.place h.before h.plan) (below_part W l j h.first h.path h.place h.before h.plan) f (begins_typed W j h.first h.path r h.place.body h.before (h.typed.places j made.kept) (let z = h.place.is_body.visible in let q = l.objects_of_file in omega (z, q, arith)) h.typed) tt).0.objects
 
 -- later objects have later variables
 pub numbers_rise : (W : World) → Lasting W → (g : Draft W) (j : ℕ) (h : PartOf W g j) → (a b : ℕ) → a < b → b < (ends h.place.function h.place.body).objects → (W.ends j).numbers a < (W.ends j).numbers b

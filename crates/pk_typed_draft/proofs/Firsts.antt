@@ -22,8 +22,9 @@ use Rattle.pk_lower.specs.Parts as part
 use Rattle.pk_lower.specs.Parts.{file_variable, whole_size}
 use Rattle.pk_welltyped.specs.WellTyped as good
 use Rattle.pk_welltyped.specs.WellTyped.{IsStart, kind_in_file, length_at_start}
-use Rattle.pk_typed_draft.proofs.Places.{region_at, IsKept, In, Holds, IsMade, variable_in}
+use Rattle.pk_typed_draft.proofs.Places.{region_at, IsKept, In, Holds, IsMade, variable_in, AreChained}
 use Rattle.pk_typed_draft.proofs.Verbs.{all_last, either}
+use Rattle.pk_typed_draft.proofs.Chains.{chained_last}
 use Rattle.pk_typed_draft.proofs.Expressions.{same_length}
 use Rattle.pk_typed_draft.proofs.Plans.{World, Draft, sizes, base, size_of, Plan, AllTyped, replicated}
 use Rattle.pk_typed_draft.proofs.Wholes.{kinds_of, kind_is}
@@ -76,6 +77,14 @@ starts_are (x ∷ xs) h (suc k) d l = starts_are xs (λ i e m. h (suc i) e (omeg
 scopes_are : (P : ℕ → Type 0) (m n : ℕ) → n ≤ m → ((i : ℕ) → i < n → P i) → All (λ (s : Scope). (s.variable < m) × P s.variable) (file_scopes n)
 scopes_are P m zero h f = λ k d l. absurd (omega (l, arith))
 scopes_are P m (suc n) h f = all_last (λ (s : Scope). (s.variable < m) × P s.variable) (file_scopes n) (record { variable = n; outer = n }) (scopes_are P m n (omega (h, arith)) (λ i l. f i (omega (l, arith)))) (omega (h, arith), f n (omega arith))
+
+pub scopes_many : (n : ℕ) → length (file_scopes n) ≡ n
+scopes_many zero = refl
+scopes_many (suc n) = let z = scopes_many n in let q = length-append (file_scopes n) (record { variable = n; outer = n } ∷ []) in omega (z, q, arith)
+
+chain_of : (n : ℕ) → AreChained (file_scopes n)
+chain_of zero = λ k z h. absurd (none-some z h)
+chain_of (suc n) = let z = scopes_many n in chained_last (file_scopes n) (record { variable = n; outer = n }) (chain_of n) (omega (z, arith))
 
 -- the draft before the first part
 abbrev pub first : {V : Type 0} → Names V → UnitTree → List CallPath → Size → DraftOf V
@@ -180,6 +189,8 @@ first_typed W c h named begun =
       scopes = scopes_are W.CanBeNamed (length W.kinds) (length xs) (omega (many, c.kinds, arith)) (λ i l. named i (omega (l, many, arith)));
       starts = All-append (λ (x : VariableOf). IsStartOf x x.start) xs (replicate s.variables no_variable) (starts_are W.unit.objects h)
           (all_replicate (λ (x : VariableOf). IsStartOf x x.start) s.variables no_variable (omega arith, λ k d l. absurd (omega (l, arith))));
+      chain = chain_of (length xs);
+      files = let z = scopes_many (length xs) in omega (z, many, arith);
       zeros = λ y. elim (split y (length xs)) [
         | inl l ↦ inr (begun y (omega (l, many, arith)))
         | inr l ↦ inl (ap (λ (v : VariableOf). v.start) (behind_at xs s.variables y no_variable l))

@@ -19,7 +19,7 @@ use Rattle.pk_lower_row.specs.Shapes.{strong_if, converted_shape, unary_shape, o
 use Rattle.pk_lower_row.specs.Rows as row
 use Rattle.pk_lower_row.specs.Rows.{Ways, Operand, two, guards, is_not}
 use Rattle.pk_welltyped.specs.WellTyped.{operands}
-use Rattle.pk_typed_draft.proofs.Places.{D, Place, Has, Stage, Proper, Step, step, step_for, step_beside, quiet}
+use Rattle.pk_typed_draft.proofs.Places.{D, Place, Has, Stage, Proper, Step, step, step_for, step_beside, quiet, same_scopes}
 use Rattle.pk_typed_draft.proofs.Trees.{constant_is, conversion_is, unary_is, operated_is}
 use Rattle.pk_typed_draft.proofs.Verbs.{all_shorter, typed_at, typed_link, fresh_step, fresh_behind, at_step}
 use Rattle.pk_typed_draft.proofs.Rows.{Gives, Works, Reaches, Chooses, WaysAre, OperandIs, seen, type_is, variable_is, set_is, temporary_step, choice_of, value_are, choice_are, two_step, then_emit, weaker}
@@ -96,7 +96,7 @@ or_chooses w g m l n s a b h k p q d =
 
 -- a tree put into a variable on the way
 between_step : (w : Place) (m : ℕ) (s : Stage) (t : IntType) (x : w.table.Variable) (p q : ℕ) (r : Given w.table.Variable) (R : Type 0) → (R → Has w.table x t None × (p < w.points) × (q < w.points) × (p ≡ nowhere → ⊥)) → Step w m m s s r.1 (row.set_between x p q r) (IsOfType w.table t r.0 × R) R
-between_step w m s t x p q r R f = quiet w m s r.1 (row.set_between x p q r) (IsOfType w.table t r.0 × R) R refl refl refl refl (all_shorter w.IsEdge r.1.edges _) (omega arith)
+between_step w m s t x p q r R f = quiet w m s r.1 (row.set_between x p q r) (IsOfType w.table t r.0 × R) R refl refl refl refl (all_shorter w.IsEdge r.1.edges _) (same_scopes _ _ refl) (omega arith)
     (λ o b e z k. let c = f k.1 in (typed_at w s q (link (Set x r.0) p r.1) c.2 (typed_link w s (Set x r.0) p r.1 c.1 (set_is w.table x t r.0 c.0 k.0) (λ a. absurd (c.3 a)) z), k.1))
 
 pub joined_gives : (w : Place) → Proper w → (m l k n : ℕ) (s : Stage) (t : IntType) (c : (p q : ℕ) → D w → D w) (a b : D w → Given w.table.Variable) → Chooses w m l s c → Gives w l k s t a → Gives w k n s t b → Gives w m n s t (row.joined t c a b)

@@ -22,7 +22,7 @@ use Rattle.pk_lower.specs.Parts as part
 use Rattle.pk_welltyped.specs.Listed.{calls_in_items, objects_in_items}
 use Rattle.pk_welltyped.specs.WellTyped as good
 use Rattle.pk_welltyped.specs.WellTyped.{Marks, AreParameters, AreItems, kind_among}
-use Rattle.pk_typed_draft.proofs.Places.{D, Place, Has, inner_object, outer_object, IsObjectOf, Stage, ResultIs, own_number, ObjectsForeseen, Proper, Below, Before, Step, step_for, step_beside, variable_in, quiet}
+use Rattle.pk_typed_draft.proofs.Places.{D, Place, Has, inner_object, outer_object, IsObjectOf, Stage, ResultIs, own_number, ObjectsForeseen, Proper, Below, Before, Step, step_for, step_beside, variable_in, quiet, same_scopes}
 use Rattle.pk_typed_draft.proofs.Verbs.{with_objects, within, typed_standing, typed_placed, object_step, result_step, fresh_step}
 use Rattle.pk_typed_draft.proofs.Trees.{constant_is}
 use Rattle.pk_typed_draft.proofs.Rows.{Works, idle, seen, type_is, set_is, inner_start, then_emit}
@@ -129,7 +129,7 @@ parameter_step w g s from t k o d =
     let i = s.objects in
     let v = parameter_variable w from i in
     subst (λ (e : D w). Step w 0 0 s (more 1 s) d e (Unit {0}) (Unit {0})) (sym (introduced w from i d))
-    (chain (object_step w g 0 s v d (parameter_path w.context.locals w.context.path from i) (its_start w from i) (good.scalar t) k (object_is w from i o)) (named_step w 0 (more 1 s) (local_at w.context i).name d.variables (with_object i v d)))
+    (chain (object_step w g 0 s v d (parameter_path w.context.locals w.context.path from i) (its_start w from i) (good.scalar t) k (omega arith) (object_is w from i o)) (named_step w 0 (more 1 s) (local_at w.context i).name d.variables (with_object i v d)))
 
 parameter_variables : (w : Place) (from : Option Caller) (i : ℕ) (d : D w) → (part.introduced_parameter w.context from i d).variables ≡ d.variables + 1
 parameter_variables w from i d = ap (λ (q : D w). q.variables) (introduced w from i d) ∙ (named_made w (local_at w.context i).name d.variables (with_object i (parameter_variable w from i) d)).1
@@ -223,7 +223,7 @@ result_written w g None d m y = tt
 result_written w g (Some t) d m y = get_or-set_same d.made d.variables (inner None t None w.context.path) no_variable (omega (m, y.0, g.limit, arith))
 
 entry_step : (w : Place) → Proper w → (s : Stage) (from : Option Caller) (d : D w) → Step w 0 0 s s d (part.placed_entry from d) (Unit {0}) (Unit {0})
-entry_step w g s None d = quiet w 0 s d (placed d.point d) (Unit {0}) (Unit {0}) refl refl refl refl (λ z. z) (omega arith) (λ o b z t q. (typed_placed w g s d.point d t, tt))
+entry_step w g s None d = quiet w 0 s d (placed d.point d) (Unit {0}) (Unit {0}) refl refl refl refl (λ z. z) (same_scopes _ _ refl) (omega arith) (λ o b z t q. (typed_placed w g s d.point d t, tt))
 entry_step w g s (Some c) d = idle w 0 s d (Unit {0})
 
 entry_made : (w : Place) (from : Option Caller) (d : D w) → (part.placed_entry from d).made ≡ d.made
@@ -260,26 +260,28 @@ exits_are w g b d h = record {
   otherwise = λ k. absurd (false≢true k);
 }
 
-standing_step : (w : Place) (m : ℕ) (s : Stage) (l : Label) (d : D w) → Step w m m s s d (standing l d) (l.path ≡ w.context.path) (Unit {0})
-standing_step w m s l d = quiet w m s d (standing l d) (l.path ≡ w.context.path) (Unit {0}) refl refl refl refl (λ z. z) (omega arith) (λ o b z t k. (typed_standing w s l d (k ∙ sym t.here) t, tt))
+standing_step : (w : Place) (m : ℕ) (s : Stage) (l : Label) (d : D w) → Step w m m s s d (standing l d) ((l.path ≡ w.context.path) × (l.scope ≤ length d.scopes)) (Unit {0})
+standing_step w m s l d = quiet w m s d (standing l d) ((l.path ≡ w.context.path) × (l.scope ≤ length d.scopes)) (Unit {0}) refl refl refl refl (λ z. z) (same_scopes _ _ refl) (omega arith) (λ o b z t k. (typed_standing w s l d (k.0 ∙ sym t.here) k.1 t, tt))
 
 -- from the exit on
 abbrev BodySteps : (w : Place) → ℕ → Stage → Stage → FunctionTree → BodyTree → D w → Type 0
-BodySteps w n s u g b d = Step w 0 n s u (with_exits b d) (part.body_draft w.context g b d) ((d.points + (b.labels + 1) ≤ w.points) × (d.here.path ≡ w.context.path)) (Unit {0})
+BodySteps w n s u g b d = Step w 0 n s u (with_exits b d) (part.body_draft w.context g b d) ((d.points + (b.labels + 1) ≤ w.points) × (d.here.path ≡ w.context.path) × (d.here.scope ≤ length d.scopes)) (Unit {0})
 
 body_steps : (w : Place) → Proper w → (n : ℕ) (s : Stage) (g : FunctionTree) (b : BodyTree) → s.result ≡ w.context.returns → g.returns ≡ w.context.returns → AreItems (around w s) (record { labels = b.labels; returns = g.returns; cases = 0; has_default = false }) b.items
     → CallsAre w 0 (calls_in_items b.items) n → (d : D w) → BodySteps w n s (more (objects_in_items b.items) s) g b d
 unfolding part.body_draft
 body_steps w p n s g b r q h c d =
     let u = more (objects_in_items b.items) s in
-    let R = (d.points + (b.labels + 1) ≤ w.points) × (d.here.path ≡ w.context.path) in
+    let R = (d.points + (b.labels + 1) ≤ w.points) × (d.here.path ≡ w.context.path) × (d.here.scope ≤ length d.scopes) in
     let d1 = with_exits b d in
     let d2 = lowered_items w.context b.items (part.start_exits d.points) d1 in
     let d3 = standing d.here d2 in
     let d4 = on b.closed d3 in
     let d5 = part.ended w.context g.name g.returns d4 in
-    chain (chain (chain (chain (use_it R (λ z. exits_are w g b d z.0) (items w p 0 n s (record { labels = b.labels; returns = g.returns; cases = 0; has_default = false }) r q b.items h c (part.start_exits d.points) d1))
-    (use_it R (λ z. z.1) (standing_step w n u d.here d2))) (run R (on_step w n u b.closed d3))) (run R (ended_works w p n u g.name g.returns (r ∙ sym q) d4))) (given (Unit {0}) (λ z. tt) (use_it R (λ z. omega (z.0, arith)) (go_step w n u d.points d5)))
+    let begin = fresh_step w p 0 (b.labels + 1) s d in
+    let body = items w p 0 n s (record { labels = b.labels; returns = g.returns; cases = 0; has_default = false }) r q b.items h c (part.start_exits d.points) d1 in
+    chain (chain (chain (chain (use_it R (λ z. exits_are w g b d z.0) body)
+    (use_it R (λ z. (z.1, let x = begin.scopes.many in let y = body.scopes.many in let k = z.2 in omega (x, y, k, arith))) (standing_step w n u d.here d2))) (run R (on_step w n u b.closed d3))) (run R (ended_works w p n u g.name g.returns (r ∙ sym q) d4))) (given (Unit {0}) (λ z. tt) (use_it R (λ z. omega (z.0, arith)) (go_step w n u d.points d5)))
 
 -- where a part begins
 abbrev pub begun_here : (w : Place) → BodyTree → Region → D w → D w
@@ -312,12 +314,12 @@ part_step w n g b from h r d =
     let d4 = with_exits b d3 in
     let s : Stage = record { objects = k; result = g.returns } in
     let few = d3.points + (b.labels + 1) ≤ w.points in
-    let named = d3.here.path ≡ w.context.path in
+    let named = (d3.here.path ≡ w.context.path) × (d3.here.scope ≤ length d3.scopes) in
     let zero_more : 0 + k ≡ k = omega arith in
     let one = to_objects w start (0 + k) k d0 d1 zero_more (parameters_step w p start from g.parameters h.parameters h.outside d0) in
     let two = chain one (with_result_step w p k g.returns d1 (let z = few_parameters w.context.locals 0 g.parameters (omega arith) h.parameters in omega (z, arith)) h.returns) in
     let three = chain two (entry_step w p s from d2) in
-    let four = chain three (chain (seen w 0 s d3 (Unit {0}) named (λ t q. t.here)) (step_for w 0 0 s s d3 d4 (Unit {0} × named) (few × named) named (few × named) (λ z. (tt, z)) (λ z. z) (step_beside w 0 0 s s d3 d4 (Unit {0}) few named (fresh_step w p 0 (b.labels + 1) s d3)))) in
+    let four = chain three (chain (seen w 0 s d3 (Unit {0}) named (λ t q. (t.here, t.scope))) (step_for w 0 0 s s d3 d4 (Unit {0} × named) (few × named) named (few × (d3.here.path ≡ w.context.path) × (d3.here.scope ≤ length d3.scopes)) (λ z. (tt, z)) (λ z. (z.0, z.1.0, z.1.1)) (step_beside w 0 0 s s d3 d4 (Unit {0}) few named (fresh_step w p 0 (b.labels + 1) s d3)))) in
     chain four (body_steps w p n s g b h.returns h.returns h.items h.calls d3)
 
 -- ---- what a part makes of its parameters and its result
@@ -374,12 +376,12 @@ part_made w n g b from h r d x y o =
     let e = made_part w g b from r d in
     let s : Stage = record { objects = k; result = g.returns } in
     let few = d3.points + (b.labels + 1) ≤ w.points in
-    let named = d3.here.path ≡ w.context.path in
+    let named = (d3.here.path ≡ w.context.path) × (d3.here.scope ≤ length d3.scopes) in
     let zero_more : 0 + k ≡ k = omega arith in
     let one = to_objects w start (0 + k) k d0 d1 zero_more (parameters_step w p start from g.parameters h.parameters h.outside d0) in
     let two = with_result_step w p k g.returns d1 (let z = few_parameters w.context.locals 0 g.parameters (omega arith) h.parameters in omega (z, arith)) h.returns in
     let three = entry_step w p s from d2 in
-    let four = chain (seen w 0 s d3 (Unit {0}) named (λ t q. t.here)) (step_for w 0 0 s s d3 d4 (Unit {0} × named) (few × named) named (few × named) (λ z. (tt, z)) (λ z. z) (step_beside w 0 0 s s d3 d4 (Unit {0}) few named (fresh_step w p 0 (b.labels + 1) s d3))) in
+    let four = chain (seen w 0 s d3 (Unit {0}) named (λ t q. (t.here, t.scope))) (step_for w 0 0 s s d3 d4 (Unit {0} × named) (few × named) named (few × (d3.here.path ≡ w.context.path) × (d3.here.scope ≤ length d3.scopes)) (λ z. (tt, z)) (λ z. (z.0, z.1.0, z.1.1)) (step_beside w 0 0 s s d3 d4 (Unit {0}) few named (fresh_step w p 0 (b.labels + 1) s d3))) in
     let from_two = chain three (chain four (body_steps w p n s g b h.returns h.returns h.items h.calls d3)) in
     let from_one = chain two from_two in
     let y2 : Below w d2 = (omega (from_two.variables, y.0, arith), omega (from_two.points, y.1, arith), omega (from_two.points, y.2, arith)) in

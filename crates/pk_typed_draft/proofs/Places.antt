@@ -5,7 +5,7 @@ use Rattle.std.specs.Option.{option_and_then}
 use Rattle.pk_ctypes.specs.declared.types.IntType.{IntType}
 use Rattle.pk_typed.specs.Trees.{LocalTree, FunctionTree, UnitTree}
 use Rattle.pk_graph.specs.declared.graphs.Scope.{Scope}
-use Rattle.pk_graph.specs.Kinds.{Kinds}
+use Rattle.pk_graph.specs.Kinds.{Kinds, count_of}
 use Rattle.pk_graph.specs.Graphs.{VariableOf, no_variable, number_start}
 use Rattle.pk_graph.specs.Trees.{InstrOf, Skip, Set, Havoc, Clear, Load, Store, Guard, Check}
 use Rattle.pk_graph.specs.WellMade.{IsStartOf}
@@ -159,7 +159,7 @@ pub record ObjectsAre (w : Place) (s : Stage) (v : ℕ) (os : List ℕ) : Type 0
   pub many : length os ≡ length w.context.locals + 1
   pub each : (i : ℕ) → i < s.objects → (k : good.Kind) → good.kind_among w.context.locals i ≡ Some k → Has w.table (w.table.names.object w.context.path i (own_number os i)) k.int_type k.length
   pub result : HasIf w.table (w.table.names.result w.context.path (own_number os (length w.context.locals))) s.result
-  pub kinds : (i : ℕ) → i < s.objects → (k : good.Kind) × (good.kind_among w.context.locals i ≡ Some k)
+  pub kinds : (i : ℕ) → i < s.objects → (k : good.Kind) × (good.kind_among w.context.locals i ≡ Some k) × (0 < count_of k.length)
   pub below : (i : ℕ) → i < s.objects → own_number os i < v
   pub rising : (i j : ℕ) → i < j → j < s.objects → own_number os i < own_number os j
   pub result_apart : (i : ℕ) → i < s.objects → ResultIs s.result (λ y. own_number os i ≡ y → ⊥) (own_number os (length w.context.locals))
@@ -169,10 +169,27 @@ pub record ObjectsAre (w : Place) (s : Stage) (v : ℕ) (os : List ℕ) : Type 0
 abbrev pub PlacesAre : Place → List Region → Type 0
 PlacesAre w rs = (j : ℕ) → IsKept rs j → (region_at rs j).at < w.points
 
+-- a scope is around earlier ones alone
+abbrev pub AreChained : List Scope → Type 0
+AreChained ss = (n : ℕ) (z : Scope) → slice_get ss n ≡ Some z → z.outer ≤ n
+
+-- scopes are only added
+pub record Grown (ss us : List Scope) : Type 0 where
+  pub many : length ss ≤ length us
+  pub stay : (n : ℕ) (z : Scope) → slice_get ss n ≡ Some z → slice_get us n ≡ Some z
+
+pub same_scopes : (ss us : List Scope) → us ≡ ss → Grown ss us
+same_scopes ss us e = record { many = let z = ap length e in omega (z, arith); stay = λ n z h. ap (λ (xs : List Scope). slice_get xs n) e ∙ h }
+
+pub grown_both : (ss us vs : List Scope) → Grown ss us → Grown us vs → Grown ss vs
+grown_both ss us vs a b = record { many = let x = a.many in let y = b.many in omega (x, y, arith); stay = λ n z h. b.stay n z (a.stay n z h) }
+
 pub record Typed (w : Place) (n : Stage) (d : D w) : Type 0 where
   pub names : d.names ≡ w.table.names
   pub point : d.point < w.points
   pub here : d.here.path ≡ w.context.path
+  pub scope : d.here.scope ≤ length d.scopes
+  pub chain : AreChained d.scopes
   pub labels : LabelsAre w d.labels
   pub scopes : All (λ (s : Scope). (s.variable < length w.kinds) × w.CanBeNamed s.variable) d.scopes
   pub starts : All (λ (x : VariableOf). IsStartOf x x.start) d.made
@@ -259,6 +276,7 @@ pub record Step (w : Place) (m n : ℕ) (i k : Stage) (d e : D w) (P Q : Type 0)
   pub order : m ≤ n
   pub variables : d.variables ≤ e.variables
   pub points : d.points ≤ e.points
+  pub scopes : Grown d.scopes e.scopes
   pub after : Before w m n d → Below w e → After w m n d e
   pub objects : Before w m n d → Below w e → ObjectsForeseen w k e.variables e.objects → ObjectsForeseen w i d.variables d.objects
   pub before : Before w m n d → Below w e → Foreseen w k e → Foreseen w i d
@@ -308,6 +326,7 @@ step w m l n i j k d e g P Q R a b = record {
   order = omega (a.order, b.order, arith);
   variables = omega (a.variables, b.variables, arith);
   points = omega (a.points, b.points, arith);
+  scopes = grown_both d.scopes e.scopes g.scopes a.scopes b.scopes;
   after = λ x y. let be = below_before w e g b.variables b.points y in let f = a.after (before_first w m l n d b.order x) be in
       after_both w m l n d e g a.order b.order a.variables f (b.after (before_second w m l n d e a.order a.variables a.points x f) y);
   objects = λ x y z. let be = below_before w e g b.variables b.points y in let f = a.after (before_first w m l n d b.order x) be in
@@ -324,6 +343,7 @@ step_for w m n i k d e P Q R S f g a = record {
   order = a.order;
   variables = a.variables;
   points = a.points;
+  scopes = a.scopes;
   after = a.after;
   objects = a.objects;
   before = a.before;
@@ -336,6 +356,7 @@ step_beside w m n i k d e P Q R a = record {
   order = a.order;
   variables = a.variables;
   points = a.points;
+  scopes = a.scopes;
   after = a.after;
   objects = a.objects;
   before = a.before;
@@ -354,12 +375,13 @@ laid_more w v p q ms rs o h = record {
 }
 
 -- no variable, no region and no object is made
-pub quiet : (w : Place) (m : ℕ) (i : Stage) (d e : D w) (P Q : Type 0) → e.variables ≡ d.variables → e.made ≡ d.made → e.regions ≡ d.regions → e.objects ≡ d.objects → (All w.IsEdge e.edges → All w.IsEdge d.edges) → d.points ≤ e.points
+pub quiet : (w : Place) (m : ℕ) (i : Stage) (d e : D w) (P Q : Type 0) → e.variables ≡ d.variables → e.made ≡ d.made → e.regions ≡ d.regions → e.objects ≡ d.objects → (All w.IsEdge e.edges → All w.IsEdge d.edges) → Grown d.scopes e.scopes → d.points ≤ e.points
     → (0 < d.points → Below w e → All w.IsEdge e.edges → Typed w i d → P → Typed w i e × Q) → Step w m m i i d e P Q
-quiet w m i d e P Q v s r o a p t = record {
+quiet w m i d e P Q v s r o a u p t = record {
   order = omega arith;
   variables = omega (v, arith);
   points = p;
+  scopes = u;
   after = λ x y. record {
     laid = laid_more w e.variables d.points e.points e.made e.regions p (rw (v, s, r) x.laid);
     same = λ j c. ap (λ (rs : List Region). region_at rs j) r;
@@ -384,6 +406,7 @@ step_back w m l n i j k d e g P Q R a b = record {
   order = omega (a.order, b.order, arith);
   variables = omega (a.variables, b.variables, arith);
   points = omega (a.points, b.points, arith);
+  scopes = grown_both d.scopes e.scopes g.scopes a.scopes b.scopes;
   after = λ x y. let f = a.after (inner x) (below_before w e g b.variables b.points y) in let h = b.after (own x f) y in record {
     laid = h.laid;
     same = λ q c. elim c [

@@ -27,7 +27,7 @@ use Rattle.pk_welltyped.specs.Listed.{Numbered, numbered}
 use Rattle.pk_welltyped.specs.WellTyped as good
 use Rattle.pk_welltyped.specs.WellTyped.{IsBody, AreParameters, AreItems, Marks}
 use Rattle.pk_typed_draft.proofs.Tables.{Table}
-use Rattle.pk_typed_draft.proofs.Places.{Place, Ends, Has, IsOwn, IsObjectOf, IsNoObject, returned_by, Promised, region_at, IsKept, In, Holds, variable_in, IsFresh, MadeIs, Foreseen, ResultIs, ObjectsForeseen, HasOtherWay, EdgeIs, LabelsAre, Stage, PlacesAre, Typed, Below, IsMade, Before, After}
+use Rattle.pk_typed_draft.proofs.Places.{Place, Ends, Has, IsOwn, IsObjectOf, IsNoObject, returned_by, Promised, region_at, IsKept, In, Holds, variable_in, IsFresh, MadeIs, Foreseen, ResultIs, ObjectsForeseen, HasOtherWay, EdgeIs, LabelsAre, AreChained, Grown, Stage, PlacesAre, Typed, Below, IsMade, Before, After}
 use Rattle.pk_typed_draft.proofs.Verbs.{IsCallee}
 use Rattle.pk_typed_draft.proofs.Expressions.{CallsAre}
 use Rattle.pk_typed_draft.proofs.Parts.{ParametersAt, ComeFromOutside, parameters_at, AreWritten, IsWrittenIf, Stays, all_stay, if_stays, begun_here, PartIs, made_part, ends, part_step, part_points, part_made}
@@ -86,6 +86,7 @@ base W = place W 0 0 0 0 0
 pub record Lasting (W : World) : Type 0 where
   pub points : 0 < W.points
   pub files : (i : ℕ) (k : good.Kind) → good.kind_in_file W.unit i ≡ Some k → Has W.table (W.table.names.file i) k.int_type k.length
+  pub objects_of_file : W.files ≡ length W.unit.objects
   pub behind : CallsLeadBehind W.unit W.paths
   pub listed : (k : ℕ) (p : CallPath) → slice_get W.paths k ≡ Some p → IsListed W.paths p.function
   pub temporaries : (k n f l q : ℕ) (y : ℕ) (t : IntType) → k < length W.paths → IsOwn (place W k n f l q) y (inner None t None k) → IsNoObject (place W k n f l q) y → Has W.table (W.table.names.temporary y) t None
@@ -331,6 +332,8 @@ pub record AllTyped (W : World) (d : Draft W) : Type 0 where
   pub names : d.names ≡ W.table.names
   pub labels : LabelsAre (base W) d.labels
   pub scopes : All (λ (s : Scope). (s.variable < length W.kinds) × W.CanBeNamed s.variable) d.scopes
+  pub chain : AreChained d.scopes
+  pub files : W.files ≤ length d.scopes
   pub starts : All (λ (x : VariableOf). IsStartOf x x.start) d.made
   pub zeros : (y : ℕ) → ((variable_in d.made y).start ≡ number_start []) ⊎ W.CanBegin y
   pub edges : All (EdgeIs (base W)) d.edges
@@ -359,13 +362,15 @@ other_from W k n p r q (Store a s b i e) h = absurd h
 other_from W k n p r q (Guard e b) h = h
 other_from W k n p r q (Check s e) h = absurd h
 
-pub begins_typed : (W : World) (k n : ℕ) (p : CallPath) (r : Region) (b : BodyTree) (d : Draft W) → r.at < W.points → AllTyped W d → Typed (place_at W k n p r) (record { objects = 0; result = None }) (begun_here (place_at W k n p r) b r d)
-begins_typed W k n p r b d l t =
+pub begins_typed : (W : World) (k n : ℕ) (p : CallPath) (r : Region) (b : BodyTree) (d : Draft W) → r.at < W.points → b.visible ≤ W.files → AllTyped W d → Typed (place_at W k n p r) (record { objects = 0; result = None }) (begun_here (place_at W k n p r) b r d)
+begins_typed W k n p r b d l visible t =
     let w = place_at W k n p r in
     record {
       names = t.names;
       point = l;
       here = refl;
+      scope = let z = t.files in omega (z, visible, arith);
+      chain = t.chain;
       labels = record { many = t.labels.many; paths = t.labels.paths };
       scopes = t.scopes;
       starts = t.starts;
@@ -375,13 +380,15 @@ begins_typed W k n p r b d l t =
       places = t.places;
     }
 
-ends_typed : (W : World) (k n : ℕ) (p : CallPath) (r : Region) (s : Stage) (d : Draft W) → Typed (place_at W k n p r) s d → AllTyped W d
-ends_typed W k n p r s d t =
+ends_typed : (W : World) (k n : ℕ) (p : CallPath) (r : Region) (s : Stage) (d : Draft W) → W.files ≤ length d.scopes → Typed (place_at W k n p r) s d → AllTyped W d
+ends_typed W k n p r s d many t =
     let w = place_at W k n p r in
     record {
       names = t.names;
       labels = record { many = t.labels.many; paths = t.labels.paths };
       scopes = t.scopes;
+      chain = t.chain;
+      files = many;
       starts = t.starts;
       zeros = t.zeros;
       edges = all_map (EdgeIs w) (EdgeIs (base W)) d.edges (λ e h. record { from = h.from; to = h.to; typed = h.typed; other = λ z. other_from W k n p r e.from e.instr (h.other z) }) t.edges;
@@ -465,6 +472,7 @@ pub record OnePart (W : World) (n : ℕ) (d e : Draft W) : Type 0 where
   pub regions : (j : ℕ) → j < n → region_at e.regions j ≡ region_at d.regions j
   pub low : (y : ℕ) → y < W.files → variable_in e.made y ≡ variable_in d.made y
   pub stays : Stays d.made e.made
+  pub scopes : Grown d.scopes e.scopes
   pub foreknown : Foreknown W e → Foreknown W d
   pub typed : Foreknown W e → AllTyped W d → AllTyped W e
 
@@ -485,6 +493,7 @@ one_part W l k n p h d plan = λ end.
       regions = λ j c. a.same j (inl (omega (c, arith)));
       low = λ i c. a.low i (omega (c, (plan.kept k h.below).files, arith));
       stays = a.old;
+      scopes = s.scopes;
       foreknown = λ f. let g = s.before b y (seen f) in record {
         made = g.made;
         regions = λ j q. elim (split k j) [
@@ -494,7 +503,7 @@ one_part W l k n p h d plan = λ end.
         ];
         edges = g.edges;
       };
-      typed = λ f t. ends_typed W k n p r (ends h.function h.body) e (s.typed b y (seen f) (begins_typed W k n p r h.body d (t.places k (plan.kept k h.below).kept) t) tt).0;
+      typed = λ f t. ends_typed W k n p r (ends h.function h.body) e (let x = s.scopes.many in let z = t.files in omega (x, z, arith)) (s.typed b y (seen f) (begins_typed W k n p r h.body d (t.places k (plan.kept k h.below).kept) (let z = h.is_body.visible in let q = l.objects_of_file in omega (z, q, arith)) t) tt).0;
     }
   where
     split : (i l : ℕ) → (i < l) ⊎ (l ≤ i)

@@ -12,7 +12,7 @@ use Rattle.pk_lower_row.specs.declared.shapes.Shape.{Shape}
 use Rattle.pk_lower_row.specs.declared.shapes.Waiting.{Waiting}
 use Rattle.pk_lower_row.specs.Shapes.{is_plain, stays}
 use Rattle.pk_lower_row.specs.Rows.{Ways, Operand, stored_unless, dropped, guards, by_both, by_value, by_choice, two}
-use Rattle.pk_typed_draft.proofs.Places.{D, Place, Has, Stage, Typed, Proper, Step, step, step_for, step_beside, quiet}
+use Rattle.pk_typed_draft.proofs.Places.{D, Place, Has, Stage, Typed, Proper, Step, step, step_for, step_beside, quiet, same_scopes}
 use Rattle.pk_typed_draft.proofs.Verbs.{all_shorter, the_last, typed_link, emit_step, temporary_made}
 
 abbrev pub Gives : (w : Place) → (m n : ℕ) → Stage → IntType → (D w → Given w.table.Variable) → Type 0
@@ -36,11 +36,11 @@ pub record WaysAre (w : Place) (m n : ℕ) (s : Stage) (t : IntType) (f : Ways w
 -- ---- steps that stay, and that look
 
 pub idle : (w : Place) (m : ℕ) (s : Stage) (d : D w) (P : Type 0) → Step w m m s s d d P P
-idle w m s d P = quiet w m s d d P P refl refl refl refl (λ z. z) (omega arith) (λ o b z t p. (t, p))
+idle w m s d P = quiet w m s d d P P refl refl refl refl (λ z. z) (same_scopes _ _ refl) (omega arith) (λ o b z t p. (t, p))
 
 -- what is known where the draft is typed
 pub seen : (w : Place) (m : ℕ) (s : Stage) (d : D w) (P Q : Type 0) → (Typed w s d → P → Q) → Step w m m s s d d P Q
-seen w m s d P Q f = quiet w m s d d P Q refl refl refl refl (λ z. z) (omega arith) (λ o b z t p. (t, f t p))
+seen w m s d P Q f = quiet w m s d d P Q refl refl refl refl (λ z. z) (same_scopes _ _ refl) (omega arith) (λ o b z t p. (t, f t p))
 
 -- ---- variables
 
@@ -80,6 +80,7 @@ temporary_step w g m s t d =
       order = v.order;
       variables = v.variables;
       points = v.points;
+      scopes = v.scopes;
       after = v.after;
       objects = v.objects;
       before = v.before;
@@ -107,7 +108,7 @@ pub guards_step : (w : Place) (m : ℕ) (s : Stage) (t : IntType) (p q : ℕ) (r
 guards_step w m s t p q r =
     let yes : EdgeFrom w.table.Variable = record { from = r.1.point; instr = Guard r.0 true; to = p } in
     let no : EdgeFrom w.table.Variable = record { from = r.1.point; instr = Guard r.0 false; to = q } in
-    quiet w m s r.1 (guards p q r) (IsOfType w.table t r.0 × Reaches w p q) (Unit {0}) refl refl refl refl (λ z. all_shorter w.IsEdge r.1.edges yes (all_shorter w.IsEdge (r.1.edges ++ yes ∷ []) no z)) (omega arith)
+    quiet w m s r.1 (guards p q r) (IsOfType w.table t r.0 × Reaches w p q) (Unit {0}) refl refl refl refl (λ z. all_shorter w.IsEdge r.1.edges yes (all_shorter w.IsEdge (r.1.edges ++ yes ∷ []) no z)) (same_scopes _ _ refl) (omega arith)
     (λ o b e z k. (
       typed_link w s (Guard r.0 false) q (link (Guard r.0 true) p r.1) k.1.1 k.0.typed (λ a. (p, the_last w.IsEdge r.1.edges yes (all_shorter w.IsEdge (r.1.edges ++ yes ∷ []) no e), λ c. k.1.2 c a))
           (typed_link w s (Guard r.0 true) p r.1 k.1.0 k.0.typed (λ a. (q, the_last w.IsEdge (r.1.edges ++ yes ∷ []) no e, λ c. k.1.2 a c)) z),

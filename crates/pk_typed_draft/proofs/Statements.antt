@@ -26,7 +26,7 @@ use Rattle.pk_lower_statement.specs.declared.statements.Exits.{Exits}
 use Rattle.pk_welltyped.specs.Listed.{calls_in, calls_if, calls_in_effect_if, calls_in_declared, calls_at_start, calls_in_statement, calls_in_items, objects_at_start, objects_in, objects_in_items}
 use Rattle.pk_welltyped.specs.WellTyped as good
 use Rattle.pk_welltyped.specs.WellTyped.{Marks, IsReturned, IsValueIf, IsEffectIf, IsForStart, IsStatement, AreItems}
-use Rattle.pk_typed_draft.proofs.Places.{D, Place, Has, HasIf, Stage, Typed, Proper, Step, step_for, step_beside, step_back, quiet}
+use Rattle.pk_typed_draft.proofs.Places.{D, Place, Has, HasIf, Stage, Typed, Proper, Step, step_for, step_beside, step_back, quiet, same_scopes}
 use Rattle.pk_typed_draft.proofs.Verbs.{all_shorter, with_objects, typed_at, typed_standing, typed_link, typed_fresh, fresh_step, fresh_behind, at_step, link_step, away_step, come_step}
 use Rattle.pk_typed_draft.proofs.Trees.{constant_is, binary_is}
 use Rattle.pk_typed_draft.proofs.Rows.{Works, Reaches, Chooses, WaysAre, idle, seen, unless_step, guards_step}
@@ -60,14 +60,14 @@ branching_step w g m n s p c h d =
     chain (chain (chain (on_step w m s p d) (fresh_step w g m 2 s o)) (use_it few (λ f. (omega (f, arith), omega (f, arith), λ a b. absurd (omega (b, arith)))) (h d.points (d.points + 1) (fresh 2 o)))) (use_it few (λ f. omega (f, arith)) (at_step w n s d.points e))
 
 meeting_step : (w : Place) → Proper w → (m : ℕ) (s : Stage) (p : Pos) (e : ℕ) (d : D w) → Step w m m s s d (form.meeting p e d) (e < w.points) (Unit {0})
-meeting_step w g m s p e d = quiet w m s d (form.meeting p e d) (e < w.points) (Unit {0}) refl refl refl refl (λ z. all_shorter w.IsEdge d.edges _ (all_shorter w.IsEdge (d.edges ++ _ ∷ []) _ z)) (omega arith)
+meeting_step w g m s p e d = quiet w m s d (form.meeting p e d) (e < w.points) (Unit {0}) refl refl refl refl (λ z. all_shorter w.IsEdge d.edges _ (all_shorter w.IsEdge (d.edges ++ _ ∷ []) _ z)) (same_scopes _ _ refl) (omega arith)
     (λ o b z t k.
     let q : d.points < w.points = omega (b.1, arith) in
     let d1 = on p d in
     let d2 = fresh 1 d1 in
     let d3 = link Skip d.points (at e d2) in
     let d4 = at d.point d3 in
-    let t2 = typed_fresh w g s 1 d1 (typed_standing w s (record { at = p; path = d.here.path; scope = d.here.scope }) d refl t) in
+    let t2 = typed_fresh w g s 1 d1 (typed_standing w s (record { at = p; path = d.here.path; scope = d.here.scope }) d refl t.scope t) in
     let t3 = typed_link w s Skip d.points (at e d2) q tt (λ c. tt) (typed_at w s e d2 k t2) in
     let t4 = typed_at w s d.point d3 t.point t3 in
     (typed_at w s d.points (link Skip d.points d4) q (typed_link w s Skip d.points d4 q tt (λ c. tt) t4), tt))
@@ -146,11 +146,20 @@ for_works w g m a b l n s t u marks p first test third f hf ht hl hb x d =
     let d12 = go Skip h d11 in
     let d13 = at e d12 in
     let one = e + 1 ≤ w.points in
-    let F = (R × one) × (h + 3 ≤ w.points) in
-    let begin = chain (chain (chain (gain R (fresh_step w g m 1 s d)) (run (R × one) (hf d1))) (run (R × one) (on_step w a t p d2))) (gain (R × one) (begun_step w g a t d3)) in
-    let tested = chain (chain begin (use_it F (λ r. (omega (r.1, arith), omega (r.0.1, arith), λ x y. absurd (omega (x, arith)))) (ht (h + 1) e d4))) (use_it F (λ r. omega (r.1, arith)) (at_step w b t (h + 1) d5)) in
-    let round = chain (chain (chain (use_it F (λ r. inside_are w marks x e (h + 2) r.0.0 (omega (r.0.1, arith)) (omega (r.1, arith))) (hb (form.inside e (h + 2) x) d6)) (use_it F (λ r. omega (r.1, arith)) (go_step w n u (h + 2) d7))) (run F (on_step w n u p d8))) (run F (scope_step w n u d3.here.scope d9)) in
-    let last = chain (chain (chain (run F (hl d10)) (use_it F (λ r. omega (r.1, arith)) (go_step w l u h d11))) (use_it F (λ r. omega (r.0.1, arith)) (at_step w l u e d12))) (given (Unit {0}) (λ r. tt) (run F (scope_step w l u d.here.scope d13))) in
+    let S = (R × one) × (d.here.scope ≤ length d.scopes) in
+    let T = S × (d3.here.scope ≤ length d3.scopes) in
+    let F = T × (h + 3 ≤ w.points) in
+    let started = hf d1 in
+    let testing = ht (h + 1) e d4 in
+    let body = hb (form.inside e (h + 2) x) d6 in
+    let behind = hl d10 in
+    let begin = chain (chain (chain (chain (gain R (fresh_step w g m 1 s d)) (seen w m s d1 (R × one) S (λ t r. (r, t.scope)))) (run S started)) (run S (on_step w a t p d2)))
+    (chain (seen w a t d3 S T (λ y r. (r, y.scope))) (gain T (begun_step w g a t d3))) in
+    let tested = chain (chain begin (use_it F (λ r. (omega (r.1, arith), omega (r.0.0.0.1, arith), λ x y. absurd (omega (x, arith)))) testing)) (use_it F (λ r. omega (r.1, arith)) (at_step w b t (h + 1) d5)) in
+    let round = chain (chain (chain (use_it F (λ r. inside_are w marks x e (h + 2) r.0.0.0.0 (omega (r.0.0.0.1, arith)) (omega (r.1, arith))) body) (use_it F (λ r. omega (r.1, arith)) (go_step w n u (h + 2) d7))) (run F (on_step w n u p d8)))
+    (use_it F (λ r. let i = testing.scopes.many in let j = body.scopes.many in let k = r.0.1 in omega (i, j, k, arith)) (scope_step w n u d3.here.scope d9)) in
+    let last = chain (chain (chain (run F behind) (use_it F (λ r. omega (r.1, arith)) (go_step w l u h d11))) (use_it F (λ r. omega (r.0.0.0.1, arith)) (at_step w l u e d12)))
+    (given (Unit {0}) (λ r. tt) (use_it F (λ r. let o = started.scopes.many in let i = testing.scopes.many in let j = body.scopes.many in let z = behind.scopes.many in let k = r.0.0.1 in omega (o, i, j, z, k, arith)) (scope_step w l u d.here.scope d13))) in
     chain tested (step_back w b l n t u u d6 d10 (in_scope d.here.scope d13) F F (Unit {0}) round last)
 
 -- ---- switches
@@ -272,7 +281,12 @@ mutual
 
   pub statements : (w : Place) → Proper w → (m n : ℕ) (s : Stage) (marks : Marks) → s.result ≡ w.context.returns → marks.returns ≡ w.context.returns → (t : StatementTree) → IsStatement (around w s) marks t → CallsAre w m (calls_in_statement t) n
       → BodyIs w m n s (more (objects_in t) s) marks (lowered w.context t)
-  statements w g m n s marks r q (tree.block p is) h c = λ x d. chain (items w g m n s marks r q is h c x d) (scope_step w n (more (objects_in_items is) s) d.here.scope (lowered_items w.context is x d))
+  statements w g m n s marks r q (tree.block p is) h c = λ x d.
+      let R = ExitsAre w marks x in
+      let F = R × (d.here.scope ≤ length d.scopes) in
+      let a = items w g m n s marks r q is h c x d in
+      chain (chain (seen w m s d R F (λ t z. (z, t.scope))) (use_it F (λ z. z.0) a))
+      (given (Unit {0}) (λ z. tt) (use_it F (λ z. let x = a.scopes.many in let y = z.1 in omega (x, y, arith)) (scope_step w n (more (objects_in_items is) s) d.here.scope (lowered_items w.context is x d))))
   statements w g m n s marks r q (tree.empty p) h c = to_end w m n s marks (lowered w.context (tree.empty p)) c (λ x d. given (Unit {0}) (λ z. tt) (idle w m s d (ExitsAre w marks x)))
   statements w g m n s marks r q (tree.effect p e) h c =
       none_more w m n s marks (lowered w.context (tree.effect p e)) (λ x d. given (Unit {0}) (λ z. tt) (run (ExitsAre w marks x) (chain (on_step w m s p d) (effects w g m n s e h c (on p d)))))

@@ -8,6 +8,7 @@ use Rattle.pk_ctypes.specs.declared.types.IntType.{IntType}
 use Rattle.pk_typed.specs.Trees.{LocalTree}
 use Rattle.pk_graph.specs.Trees.{InstrOf, Skip}
 use Rattle.pk_typed_draft.proofs.Tables.{IsTypedInstr}
+use Rattle.pk_graph.specs.Kinds.{count_of}
 use Rattle.pk_graph.specs.Graphs.{VariableOf, no_variable, number_start}
 use Rattle.pk_graph.specs.WellMade.{IsStartOf}
 use Rattle.pk_draft.specs.declared.drafts.Region.{Region}
@@ -16,7 +17,7 @@ use Rattle.pk_draft.specs.declared.drafts.Size.{Size}
 use Rattle.pk_draft.specs.Drafts.{no_region, nowhere, at, standing, placed, all_placed, fresh, inner, with_variable, with_temporary, with_object, link, emit, away, come, entered}
 use Rattle.pk_lower_row.specs.Contexts.{size_in}
 use Rattle.pk_welltyped.specs.WellTyped as good
-use Rattle.pk_typed_draft.proofs.Places.{D, Place, Has, HasIf, Promised, IsOwn, IsObjectOf, region_at, IsKept, In, Holds, variable_in, Laid, MadeIs, RegionsForeseen, ObjectsForeseen, Foreseen, EdgeIs, HasOtherWay, IsNoObject, Stage, ResultIs, own_number, ObjectsAre, Typed, Proper, Below, IsMade, PlacesAre, Before, Step, quiet}
+use Rattle.pk_typed_draft.proofs.Places.{D, Place, Has, HasIf, Promised, IsOwn, IsObjectOf, region_at, IsKept, In, Holds, variable_in, Laid, MadeIs, RegionsForeseen, ObjectsForeseen, Foreseen, EdgeIs, HasOtherWay, IsNoObject, Stage, ResultIs, own_number, ObjectsAre, Typed, Proper, Below, IsMade, PlacesAre, Before, Step, quiet, same_scopes}
 
 pub all_last : {A : Type 0} (Q : A → Type 0) (xs : List A) (x : A) → All Q xs → Q x → All Q (xs ++ x ∷ [])
 all_last Q [] x h k zero d l = k
@@ -49,16 +50,18 @@ either (suc i) (suc j) = elim (either i j) [ inl h ↦ inl (ap suc h) | inr h �
 -- ---- points and edges
 
 pub typed_at : (w : Place) (s : Stage) (p : ℕ) (d : D w) → p < w.points → Typed w s d → Typed w s (at p d)
-typed_at w s p d h t = record { names = t.names; point = h; here = t.here; labels = t.labels; scopes = t.scopes; starts = t.starts; zeros = t.zeros; edges = t.edges; objects = t.objects; places = t.places }
+typed_at w s p d h t = record { names = t.names; point = h; here = t.here; scope = t.scope; chain = t.chain; labels = t.labels; scopes = t.scopes; starts = t.starts; zeros = t.zeros; edges = t.edges; objects = t.objects; places = t.places }
 
-pub typed_standing : (w : Place) (s : Stage) (l : Label) (d : D w) → l.path ≡ d.here.path → Typed w s d → Typed w s (standing l d)
-typed_standing w s l d h t = record { names = t.names; point = t.point; here = h ∙ t.here; labels = t.labels; scopes = t.scopes; starts = t.starts; zeros = t.zeros; edges = t.edges; objects = t.objects; places = t.places }
+pub typed_standing : (w : Place) (s : Stage) (l : Label) (d : D w) → l.path ≡ d.here.path → l.scope ≤ length d.scopes → Typed w s d → Typed w s (standing l d)
+typed_standing w s l d h q t = record { names = t.names; point = t.point; here = h ∙ t.here; scope = q; chain = t.chain; labels = t.labels; scopes = t.scopes; starts = t.starts; zeros = t.zeros; edges = t.edges; objects = t.objects; places = t.places }
 
 pub typed_link : (w : Place) (s : Stage) (i : InstrOf w.table.Variable) (q : ℕ) (d : D w) → q < w.points → IsTypedInstr w.table i → (q ≡ nowhere → HasOtherWay w d.point i) → Typed w s d → Typed w s (link i q d)
 typed_link w s i q d h k n t = record {
   names = t.names;
   point = t.point;
   here = t.here;
+  scope = t.scope;
+  chain = t.chain;
   labels = t.labels;
   scopes = t.scopes;
   starts = t.starts;
@@ -73,6 +76,8 @@ typed_placed w g s p d t = record {
   names = t.names;
   point = t.point;
   here = t.here;
+  scope = t.scope;
+  chain = t.chain;
   labels = record { many = length-set d.labels p d.here ∙ t.labels.many; paths = all_set (λ (l : Label). l.path < w.paths) d.labels p d.here t.labels.paths (omega (t.here, g.path, arith)) };
   scopes = t.scopes;
   starts = t.starts;
@@ -89,42 +94,42 @@ typed_all_placed w g s (suc n) p d t = typed_all_placed w g s n (p + 1) (placed 
 pub typed_fresh : (w : Place) → Proper w → (s : Stage) (n : ℕ) (d : D w) → Typed w s d → Typed w s (fresh n d)
 typed_fresh w g s n d t =
     let e = typed_all_placed w g s n d.points d t in
-    record { names = e.names; point = e.point; here = e.here; labels = e.labels; scopes = e.scopes; starts = e.starts; zeros = e.zeros; edges = e.edges; objects = e.objects; places = e.places }
+    record { names = e.names; point = e.point; here = e.here; scope = e.scope; chain = e.chain; labels = e.labels; scopes = e.scopes; starts = e.starts; zeros = e.zeros; edges = e.edges; objects = e.objects; places = e.places }
 
 -- n points, where n isn't known
 placed_same : (w : Place) (n p : ℕ) (d : D w)
-    → ((all_placed n p d).variables ≡ d.variables) × ((all_placed n p d).made ≡ d.made) × ((all_placed n p d).regions ≡ d.regions) × ((all_placed n p d).objects ≡ d.objects) × ((all_placed n p d).edges ≡ d.edges)
-placed_same w zero p d = (refl, refl, refl, refl, refl)
+    → ((all_placed n p d).variables ≡ d.variables) × ((all_placed n p d).made ≡ d.made) × ((all_placed n p d).regions ≡ d.regions) × ((all_placed n p d).objects ≡ d.objects) × ((all_placed n p d).edges ≡ d.edges) × ((all_placed n p d).scopes ≡ d.scopes)
+placed_same w zero p d = (refl, refl, refl, refl, refl, refl)
 placed_same w (suc n) p d = placed_same w n (p + 1) (placed p d)
 
 pub fresh_step : (w : Place) → Proper w → (m n : ℕ) (s : Stage) (d : D w) → Step w m m s s d (fresh n d) (Unit {0}) (d.points + n ≤ w.points)
 fresh_step w g m n s d =
     let k = placed_same w n d.points d in
-    quiet w m s d (fresh n d) (Unit {0}) (d.points + n ≤ w.points) k.0 k.1 k.2 k.3 (subst (All w.IsEdge) k.4) (omega arith) (λ p b z t u. (typed_fresh w g s n d t, b.1))
+    quiet w m s d (fresh n d) (Unit {0}) (d.points + n ≤ w.points) k.0 k.1 k.2 k.3 (subst (All w.IsEdge) k.4) (same_scopes _ _ k.5) (omega arith) (λ p b z t u. (typed_fresh w g s n d t, b.1))
 
 -- and the first of them isn't nowhere
 pub fresh_behind : (w : Place) → Proper w → (m n : ℕ) (s : Stage) (d : D w) → Step w m m s s d (fresh n d) (Unit {0}) ((d.points + n ≤ w.points) × (0 < d.points))
 fresh_behind w g m n s d =
     let k = placed_same w n d.points d in
-    quiet w m s d (fresh n d) (Unit {0}) ((d.points + n ≤ w.points) × (0 < d.points)) k.0 k.1 k.2 k.3 (subst (All w.IsEdge) k.4) (omega arith) (λ p b z t u. (typed_fresh w g s n d t, (b.1, p)))
+    quiet w m s d (fresh n d) (Unit {0}) ((d.points + n ≤ w.points) × (0 < d.points)) k.0 k.1 k.2 k.3 (subst (All w.IsEdge) k.4) (same_scopes _ _ k.5) (omega arith) (λ p b z t u. (typed_fresh w g s n d t, (b.1, p)))
 
 pub emit_step : (w : Place) → Proper w → (m : ℕ) (s : Stage) (i : InstrOf w.table.Variable) (d : D w) → Step w m m s s d (emit i d) (IsTypedInstr w.table i) (Unit {0})
-emit_step w g m s i d = quiet w m s d (emit i d) (IsTypedInstr w.table i) (Unit {0}) refl refl refl refl (all_shorter w.IsEdge d.edges _) (omega arith)
+emit_step w g m s i d = quiet w m s d (emit i d) (IsTypedInstr w.table i) (Unit {0}) refl refl refl refl (all_shorter w.IsEdge d.edges _) (same_scopes _ _ refl) (omega arith)
     (λ p b z t k. let q : d.points < w.points = omega (b.1, arith) in
     (typed_at w s d.points (link i d.points (fresh 1 d)) q (typed_link w s i d.points (fresh 1 d) q k (λ e. absurd (omega (e, p, arith))) (typed_fresh w g s 1 d t)), tt))
 
 pub at_step : (w : Place) (m : ℕ) (s : Stage) (p : ℕ) (d : D w) → Step w m m s s d (at p d) (p < w.points) (Unit {0})
-at_step w m s p d = quiet w m s d (at p d) (p < w.points) (Unit {0}) refl refl refl refl (λ z. z) (omega arith) (λ o b z t k. (typed_at w s p d k t, tt))
+at_step w m s p d = quiet w m s d (at p d) (p < w.points) (Unit {0}) refl refl refl refl (λ z. z) (same_scopes _ _ refl) (omega arith) (λ o b z t k. (typed_at w s p d k t, tt))
 
 pub link_step : (w : Place) (m : ℕ) (s : Stage) (q : ℕ) (d : D w) → Step w m m s s d (link Skip q d) (q < w.points) (Unit {0})
-link_step w m s q d = quiet w m s d (link Skip q d) (q < w.points) (Unit {0}) refl refl refl refl (all_shorter w.IsEdge d.edges _) (omega arith) (λ o b z t k. (typed_link w s Skip q d k tt (λ e. tt) t, tt))
+link_step w m s q d = quiet w m s d (link Skip q d) (q < w.points) (Unit {0}) refl refl refl refl (all_shorter w.IsEdge d.edges _) (same_scopes _ _ refl) (omega arith) (λ o b z t k. (typed_link w s Skip q d k tt (λ e. tt) t, tt))
 
 pub away_step : (w : Place) → Proper w → (m : ℕ) (s : Stage) (q : ℕ) (d : D w) → Step w m m s s d (away q d) (q < w.points) (Unit {0})
-away_step w g m s q d = quiet w m s d (away q d) (q < w.points) (Unit {0}) refl refl refl refl (all_shorter w.IsEdge d.edges _) (omega arith)
+away_step w g m s q d = quiet w m s d (away q d) (q < w.points) (Unit {0}) refl refl refl refl (all_shorter w.IsEdge d.edges _) (same_scopes _ _ refl) (omega arith)
     (λ o b z t k. (typed_at w s d.points (fresh 1 (link Skip q d)) (omega (b.1, arith)) (typed_fresh w g s 1 (link Skip q d) (typed_link w s Skip q d k tt (λ e. tt) t)), tt))
 
 pub come_step : (w : Place) → Proper w → (m : ℕ) (s : Stage) (p : ℕ) (d : D w) → Step w m m s s d (come p d) (p < w.points) (Unit {0})
-come_step w g m s p d = quiet w m s d (come p d) (p < w.points) (Unit {0}) refl refl refl refl (all_shorter w.IsEdge d.edges _) (omega arith)
+come_step w g m s p d = quiet w m s d (come p d) (p < w.points) (Unit {0}) refl refl refl refl (all_shorter w.IsEdge d.edges _) (same_scopes _ _ refl) (omega arith)
     (λ o b z t k. (typed_at w s p (link Skip p (placed p d)) k (typed_link w s Skip p (placed p d) k tt (λ e. tt) (typed_placed w g s p d t)), tt))
 
 -- ---- variables
@@ -188,6 +193,7 @@ making w g m s k x d os R back many p st z t = record {
   order = omega arith;
   variables = omega arith;
   points = omega arith;
+  scopes = same_scopes _ _ refl;
   after = λ b y. record {
     laid = laid_with w d.variables d.points d.made d.regions x y.0 b.laid;
     same = λ j c. refl;
@@ -204,6 +210,8 @@ making w g m s k x d os R back many p st z t = record {
           names = h.names;
           point = h.point;
           here = h.here;
+          scope = h.scope;
+          chain = h.chain;
           labels = h.labels;
           scopes = h.scopes;
           starts = all_set (λ (o : VariableOf). IsStartOf o o.start) d.made d.variables x h.starts st;
@@ -272,9 +280,9 @@ object_is_next : (w : Place) (s : Stage) (v : ℕ) (os : List ℕ) → s.objects
     → (s.objects < w.ends.objects) × (w.ends.numbers s.objects ≡ v)
 object_is_next w s v os l n f = (omega (f.declared, arith), f.objects s.objects (omega arith) ∙ get_or-set_same os s.objects v 0 (omega (n, l, arith)))
 
-object_more : (w : Place) (s : Stage) (os : List ℕ) (v : ℕ) (k : good.Kind) → good.kind_among w.context.locals s.objects ≡ Some k → Has w.table (w.table.names.object w.context.path s.objects v) k.int_type k.length → ObjectsAre w s v os
+object_more : (w : Place) (s : Stage) (os : List ℕ) (v : ℕ) (k : good.Kind) → good.kind_among w.context.locals s.objects ≡ Some k → 0 < count_of k.length → Has w.table (w.table.names.object w.context.path s.objects v) k.int_type k.length → ObjectsAre w s v os
     → ObjectsAre w (with_objects (s.objects + 1) s) (v + 1) (slice_set os s.objects v)
-object_more w s os v k is h o =
+object_more w s os v k is some h o =
     let i = s.objects in
     let inside : i < length w.context.locals = within w.context.locals i is in
     let same : own_number (slice_set os i v) i ≡ v = get_or-set_same os i v 0 (omega (inside, o.many, arith)) in
@@ -287,7 +295,7 @@ object_more w s os v k is h o =
       ];
       result = subst (λ (x : ℕ). HasIf w.table (w.table.names.result w.context.path x) s.result) (sym other) o.result;
       kinds = λ j l. elim (either j i) [
-        | inl at ↦ (k, ap (good.kind_among w.context.locals) at ∙ is)
+        | inl at ↦ (k, ap (good.kind_among w.context.locals) at ∙ is, some)
         | inr not ↦ o.kinds j (smaller j not l)
       ];
       below = λ j l. elim (either j i) [
@@ -323,15 +331,15 @@ object_more w s os v k is h o =
         (subst (λ (x : ℕ). Has w.table (w.table.names.object w.context.path s.objects x) q.int_type q.length) (sym same) (subst (λ (a : good.Kind). Has w.table (w.table.names.object w.context.path s.objects v) a.int_type a.length) kind h))
 
 -- The next object's variable is made, which may begin with something else than 0 where it is so said.
-pub object_step : (w : Place) → Proper w → (m : ℕ) (s : Stage) (x : VariableOf) (d : D w) → x.path ≡ Some w.context.path → IsStartOf x x.start → (k : good.Kind) → good.kind_among w.context.locals s.objects ≡ Some k → IsObjectOf w s.objects x
+pub object_step : (w : Place) → Proper w → (m : ℕ) (s : Stage) (x : VariableOf) (d : D w) → x.path ≡ Some w.context.path → IsStartOf x x.start → (k : good.Kind) → good.kind_among w.context.locals s.objects ≡ Some k → 0 < count_of k.length → IsObjectOf w s.objects x
     → Step w m m s (with_objects (s.objects + 1) s) d (with_object s.objects x d) (Unit {0}) ((d.variables < length w.kinds) × w.CanBeNamed d.variables)
-object_step w g m s x d p st k is ob =
+object_step w g m s x d p st k is some ob =
     let l = within w.context.locals s.objects is in
     making w g m s (with_objects (s.objects + 1) s) x d (slice_set d.objects s.objects d.variables) ((d.variables < length w.kinds) × w.CanBeNamed d.variables)
     (λ n f. object_back w s d.variables d.objects l n f) (length-set d.objects s.objects d.variables) (λ e. p) st
     (λ n f. let q = object_is_next w s d.variables d.objects l n f in inr (subst w.CanBegin q.1 (g.begun s.objects q.0)))
     (λ f o h n. let q = object_is_next w s d.variables d.objects l h.many f in (
-      object_more w s d.objects d.variables k is
+      object_more w s d.objects d.variables k is some
       (subst (λ (y : ℕ). Has w.table (w.table.names.object w.context.path s.objects y) k.int_type k.length) q.1 (g.objects s.objects k x q.0 is (subst (λ (y : ℕ). IsOwn w y x) (sym q.1) o) ob)) h,
       (o.there, subst w.CanBeNamed q.1 (g.named s.objects q.0)),
     ))
@@ -479,6 +487,7 @@ entered_step w g m s f d c =
       order = omega arith;
       variables = omega arith;
       points = omega arith;
+      scopes = same_scopes _ _ refl;
       after = λ b y. record {
         laid = laid_entered w g d.variables d.points d.made d.regions j f r c refl refl y.0 y.2 b.laid;
         same = λ i q. get_or-set_other d.regions j i r no_region (λ e. elim q [ inl a ↦ absurd (omega (e, a, arith)) | inr a ↦ absurd (omega (e, a, arith)) ]);
@@ -498,7 +507,7 @@ entered_step w g m s f d c =
             subst (λ (x : Region). Promised w i (w.function i) x.variables × (x.points < w.points)) same (z.regions i l (subst (λ (x : Region). 0 < x.points) (sym same) k));
       };
       typed = λ b y z t q. (
-        record { names = t.names; point = (entered_promised w m f d c b z.regions).1; here = t.here; labels = t.labels; scopes = t.scopes; starts = t.starts; zeros = t.zeros; edges = t.edges; objects = objects_later w s d.variables (d.variables + (size_in w.context.sizes f).variables) d.objects (omega arith) t.objects; places = entered_places w d.regions j r (omega (b.laid.count, c.there, arith)) t.point t.places },
+        record { names = t.names; point = (entered_promised w m f d c b z.regions).1; here = t.here; scope = t.scope; chain = t.chain; labels = t.labels; scopes = t.scopes; starts = t.starts; zeros = t.zeros; edges = t.edges; objects = objects_later w s d.variables (d.variables + (size_in w.context.sizes f).variables) d.objects (omega arith) t.objects; places = entered_places w d.regions j r (omega (b.laid.count, c.there, arith)) t.point t.places },
         (entered_promised w m f d c b z.regions).0,
       );
     }

@@ -15,7 +15,7 @@ use Rattle.pk_draft.specs.Drafts.{inner}
 use Rattle.pk_lower_row.specs.Contexts.{parameters_of}
 use Rattle.pk_lower.specs.Parts as part
 use Rattle.pk_welltyped.specs.WellTyped as good
-use Rattle.pk_typed_draft.proofs.Places.{Has, HasIf, HasAll, IsOwn, returned_by, ResultIs, Promised, region_at, IsKept, variable_in}
+use Rattle.pk_typed_draft.proofs.Places.{Has, HasIf, HasAll, IsOwn, returned_by, ResultIs, Promised, region_at, IsKept, variable_in, same_scopes, grown_both}
 use Rattle.pk_typed_draft.proofs.Parts.{ParametersAt, parameter_in, parameter_path, object_is, AreWritten, IsWrittenIf, made_part}
 use Rattle.pk_typed_draft.proofs.Plans.{World, Draft, sizes, function_of, place, base, Lasting, Plan, PathIs, function_is, its_function, its_parameters, place_at, part_made_is, plan_next, EndsAre, PathMade, path_stays, path_made, Foreknown, OnePart, one_part}
 
@@ -51,6 +51,7 @@ both : (W : World) (m n : ℕ) (d e g : Draft W) → m ≤ n → OnePart W m d e
 both W m n d e g l a b = record {
   regions = λ j c. b.regions j (omega (c, l, arith)) ∙ a.regions j c;
   low = λ y c. b.low y c ∙ a.low y c;
+  scopes = grown_both d.scopes e.scopes g.scopes a.scopes b.scopes;
   stays = λ y k h. let o = a.stays y k h in b.stays y k (ap (λ (v : VariableOf). v.path) o ∙ h) ∙ o;
   foreknown = λ f. a.foreknown (b.foreknown f);
   typed = λ f t. b.typed f (a.typed (b.foreknown f) t);
@@ -65,7 +66,7 @@ next_plan W l k n p h d plan =
 pub wholes : (W : World) → Lasting W → (k n : ℕ) (ps : List CallPath) (h : Paths W k n ps) (d : Draft W) → Plan W k n d → HaveEnds W k n ps h d → Whole W k n ps d (part.parts_from W.unit (sizes W) k n ps d)
 unfolding part.parts_from
 wholes W l k n [] h d plan o = record {
-  part = record { regions = λ j c. refl; low = λ y c. refl; stays = λ y k h. refl; foreknown = λ f. f; typed = λ f t. t };
+  part = record { regions = λ j c. refl; low = λ y c. refl; stays = λ y k h. refl; scopes = same_scopes _ _ refl; foreknown = λ f. f; typed = λ f t. t };
   made = λ j p i. absurd i;
   many = plan.many;
   unkept = λ j c q. plan.unkept j (omega (h, c, arith)) q;
@@ -144,7 +145,7 @@ promised W l d is j n p h m =
 
 -- ---- each path of a list is among those from its beginning
 
-among : (k : ℕ) (ps : List CallPath) (i : ℕ) (p : CallPath) → slice_get ps i ≡ Some p → IsAmong k ps (k + i) p
+pub among : (k : ℕ) (ps : List CallPath) (i : ℕ) (p : CallPath) → slice_get ps i ≡ Some p → IsAmong k ps (k + i) p
 among k [] i p h = absurd (none-some p h)
 among k (q ∷ ps) zero p h = inl (omega arith, ap (λ (o : Option CallPath). unwrap_or o p) h)
 among k (q ∷ ps) (suc i) p h =

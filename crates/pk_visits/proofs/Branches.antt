@@ -8,7 +8,6 @@ use Rattle.pk_welltyped.specs.WellTyped.{IsValue, IsStatement}
 use Rattle.pk_graph.specs.Trees.{Skip}
 use Rattle.pk_draft.specs.declared.drafts.Label.{Label}
 use Rattle.pk_draft.specs.Drafts.{on, at, fresh, link}
-use Rattle.pk_draft.specs.declared.drafts.Size.{Size}
 use Rattle.pk_lower_row.specs.Contexts.{callee, size_in}
 use Rattle.pk_lower_expression.specs.Expressions.{ways}
 use Rattle.pk_lower_statement.specs.declared.statements.Exits.{Exits}
@@ -22,7 +21,7 @@ use Rattle.pk_visits.proofs.Settled.{Settles}
 use Rattle.pk_visits.proofs.Stages.{In, all_called, ways_grow, part_first, part_second, part_until, stage_at, part_point, part_room, fresh_first, fresh_second, fresh_one, forth_here, forth_none, forth_first, forth_second, forth_then}
 use Rattle.pk_visits.proofs.Grows.{fresh_one_grows}
 use Rattle.pk_visits.proofs.Tells.{sane, any_called, Any}
-use Rattle.pk_visits.proofs.StatementGrows.{Stays, Adds, adds, on_adds, stays_then, statement, choice_adds, link_adds, fresh_adds, nothing_adds, Free}
+use Rattle.pk_visits.proofs.StatementGrows.{Stays, Adds, adds, on_adds, stays_then, statement, choice_adds, link_adds, fresh_adds, nothing_adds, meeting_adds, Free}
 use Rattle.pk_visits.proofs.Operands.{calm_more}
 use Rattle.pk_visits.proofs.Statements.{shows_on}
 use Rattle.pk_visits.proofs.Doom.{calm_plain}
@@ -58,13 +57,6 @@ record Parts (g : Whole) (k : ℕ) (j : Place) (choice : (i j : ℕ) → Draft �
   pub more : d.variables ≤ (chosen choice p d).variables
   pub more_too : d.variables ≤ (first_end choice a p d).variables
 
--- the end where both meet
-meeting_adds : (ms : List ℕ) (C : ℕ → Size → Type 0) (p : Pos) (t : ℕ) (u : Draft) → Adds ms Free C u (meeting p t u)
-meeting_adds ms C p t u =
-    let j = fresh 1 (on p u) in
-    let l = link Skip u.points (at t j) in
-    stays_then (on_adds ms Free C p u) (stays_then (fresh_adds ms Free C 1 (on p u)) (stays_then (link_adds ms Free C Skip u.points (at t j)) (link_adds ms Free C Skip u.points (at u.point l))))
-
 parts : (g : Whole) (proper : Proper g) (k : ℕ) (h : Place) (choice : (i j : ℕ) → Draft → Draft) (a b : Draft → Draft) (p : Pos) (xs ys zs : List Numbered) (d : Draft)
     → (s : Stage g k (place d.here.at h.scope) (xs ++ ys ++ zs) d (met choice a b p d))
     → Adds s.marks Free (IsCalled (context_of g k) xs) (opened p d) (chosen choice p d) → Adds s.marks Free (IsCalled (context_of g k) ys) (at d.points (chosen choice p d)) (first_end choice a p d)
@@ -80,12 +72,12 @@ parts g proper k h choice a b p xs ys zs d s hc ha hb ac aa ab =
     let f = met choice a b p d in
     let at_on = proper.positions d.here k h.scope p s.here in
     let opens : Adds s.marks Free Any (on p d) o = fresh_adds s.marks Free Any 2 (on p d) in
-    let from_o : Adds s.marks Free Any o f = stays_then ac (stays_then aa (stays_then ab (meeting_adds s.marks Any p t.point u))) in
+    let from_o : Adds s.marks Free Any o f = stays_then ac (stays_then aa (stays_then ab (meeting_adds s.marks Free Any p t.point u))) in
     let room = part_room g Stays (In s.marks) Any k _ (xs ++ ys ++ zs) d o f s from_o in
     let size = opens.size in
     let r : (on p d).points + 2 ≤ length (on p d).labels = omega (arith, room, size) in
     let so = stage_at g k (place d.here.at h.scope) j (xs ++ ys ++ zs) d o f s (forth_none g (fresh_adds s.marks Free Uncalled 2 (on p d))) (subst (λ (l : Label). g.shows l k j) (sym (Rattle.pk_visits.proofs.StatementGrows.fresh_grows Any 2 (on p d)).here) at_on) in
-    let su = part_until g Stays k j (xs ++ ys ++ zs) o u f so (meeting_adds s.marks Uncalled p t.point u) in
+    let su = part_until g Stays k j (xs ++ ys ++ zs) o u f so (meeting_adds s.marks Free Uncalled p t.point u) in
     let st = part_first g Stays k j (xs ++ ys) zs o t u su hb in
     let test = part_first g Stays k j xs ys o c t st ha in
     let shows_c = shows_on g proper k h.scope (on p d).here c.here at_on (stays_then opens ac).here in

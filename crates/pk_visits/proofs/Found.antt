@@ -13,6 +13,7 @@ use Rattle.pk_meaning.specs.Steps as meaning
 use Rattle.pk_meaning.specs.Steps.{Mark, labelled, numbered, otherwise, is_label, is_case, is_default, place, found, found_in, caller_of}
 use Rattle.pk_visits.proofs.Stands.{Whole, Proper, context_of, Held, LaidWay, LaidAhead, Laid}
 use Rattle.pk_visits.proofs.Settled.{mark_point}
+use Rattle.pk_visits.proofs.StatementGrows.{point_inside}
 use Rattle.pk_visits.proofs.Doom.{calm_plain}
 use Rattle.pk_visits.proofs.Statements.{block_laid, next_laid}
 use Rattle.pk_visits.proofs.Branches.{if_else_laid, if_then_laid}
@@ -21,11 +22,6 @@ use Rattle.pk_visits.proofs.Rounds.{while_round, do_round}
 use Rattle.pk_visits.proofs.Starts.{for_round}
 use Rattle.pk_visits.proofs.Switches.{choose_body, switch_body}
 use Rattle.pk_visits.proofs.Declared.{rest_declared}
-
-point_inside : (m : Mark) (b c : ℕ) (x : Exits) → mark_point m (inside b c x) ≡ mark_point m x
-point_inside (labelled l) b c x = refl
-point_inside (numbered i) b c x = refl
-point_inside otherwise b c x = refl
 
 label_point : (m : Mark) (l : ℕ) (x : Exits) → is_label m l ≡ true → x.labels + l ≡ mark_point m x
 label_point (labelled n) l x is = ap (λ i. x.labels + i) (sym (eqb-true n l is))

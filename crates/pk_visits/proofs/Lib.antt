@@ -25,6 +25,9 @@ mod Calling
 mod Entering
 mod Evaluations
 pub mod StatementGrows
+mod Kept
+mod Locals
+pub mod Settling
 mod Statements
 mod Marked
 mod Rounds

@@ -352,7 +352,7 @@ stage_point g k h E xs d e f q s same u from to is = subst (λ (l : Label). g.sh
 pub stage_room : (g : Whole) (k : ℕ) (h : Place) (C : ℕ → Size → Type 0) (xs : List Numbered) (d e f : Draft) → Stage g k h xs d f → Grows C e f → e.points ≤ length e.labels
 stage_room g k h C xs d e f s u = let a = u.points in let b = s.leads.room in let c = u.size in omega (arith, a, b, c)
 
-set_same : (ls : List Label) (q : ℕ) (l : Label) → q < length ls → label_at (slice_set ls q l) q ≡ l
+pub set_same : (ls : List Label) (q : ℕ) (l : Label) → q < length ls → label_at (slice_set ls q l) q ≡ l
 set_same ls q l h = get_or-set_same ls q l no_label h
 
 set_other : (ls : List Label) (q n : ℕ) (l : Label) → (n ≡ q → ⊥) → label_at (slice_set ls q l) n ≡ label_at ls n

@@ -19,10 +19,10 @@ use Rattle.pk_visits.proofs.Stands.{Whole, Proper, context_of, final, Held, arou
 use Rattle.pk_visits.proofs.Stages.{In, all_called, part_first, part_second, part_until, stage_at, part_point, part_room, fresh_one, forth_here, forth_none, forth_first, forth_then}
 use Rattle.pk_visits.proofs.Growing.{front_called, back_called}
 use Rattle.pk_visits.proofs.Tells.{any_called, Any}
-use Rattle.pk_visits.proofs.StatementGrows.{OnPath, Enlarges, enlarges, stays_then, path_then, on_adds, fresh_adds, begun_adds, for_adds, test_adds, third_adds, start_enlarges, statement, marking_inside, Free, start_free}
+use Rattle.pk_visits.proofs.StatementGrows.{OnPath, scope_enlarges, Enlarges, enlarges, stays_then, path_then, on_adds, fresh_adds, begun_adds, for_adds, test_adds, third_adds, start_enlarges, statement, marking_inside, Free, start_free}
 use Rattle.pk_visits.proofs.Operands.{calm_more}
 use Rattle.pk_visits.proofs.Shown.{start_shown}
-use Rattle.pk_visits.proofs.Thirds.{scope_enlarges, for_parts}
+use Rattle.pk_visits.proofs.Thirds.{for_parts}
 use Rattle.pk_visits.proofs.Rounds.{RoundLaid, begun}
 use Rattle.pk_visits.proofs.Doom.{calm_plain}
 use Rattle.pk_visits.proofs.Grows.{loosened}
@@ -77,7 +77,7 @@ for_begun g proper k h x q start v third s a hs d n m fits calm t marking settle
     let k2 = front_called C c two (calls_in_statement s) (all_called c ys) in
     let loops = for_adds ms Free C q (for_test c v) (performed_if c third) (lowered c s) x (test_adds ms Free C c v (front_called C c (calls_if v) (calls_in_effect_if third) k2)) (third_adds ms Free C c third (back_called C c (calls_if v) (calls_in_effect_if third) k2))
     (λ w i r. statement C c _ m s (inside w i x) ms Free (λ i o. tt) fits.3 (marking_inside x m ms w i marking) (back_called C c two (calls_in_statement s) (all_called c ys)) r) (hp + 1) (hp + 2) e b in
-    let from_b : Enlarges ms Free C b W = path_then (enlarges ms Free C b F loops) (scope_enlarges ms C o.here.scope (at e F)) in
+    let from_b : Enlarges ms Free C b W = path_then (enlarges ms Free C b F loops) (scope_enlarges ms Free C o.here.scope (at e F)) in
     let from_f : Enlarges ms Free C f0 W = path_then (enlarges ms Free C f0 b (stays_then (on_adds ms Free C q f0) (begun_adds ms Free C f1))) from_b in
     let first = start_enlarges ms Free (IsCalled c xs) c start d0 (start_free start) (all_called c xs) in
     let st = part_first g OnPath k j xs ys d0 f0 W t0 from_f in
@@ -90,7 +90,7 @@ for_begun g proper k h x q start v third s a hs d n m fits calm t marking settle
     let size = (fresh_adds ms Free U 1 o).size in
     let behind : ShowsAt g e k j = part_point g OnPath U k (place d.here.at h.scope) j (xs ++ ys) d o d0 W e o.here t1 (forth_here g d.points d.regions) refl all (omega arith) (omega arith) (fresh_one o (omega (arith, room, size))) (proper.positions d.here k h.scope q t.here) in
     let lv = first.variables in
-    let sb = part_until g OnPath k inner ys b F W (part_second g k j inner xs ys d0 b W t0 (forth_then g le (forth_none g (stays_then (on_adds ms Free Uncalled q f0) (begun_adds ms Free Uncalled f1)))) shows) (scope_enlarges ms Uncalled o.here.scope (at e F)) in
+    let sb = part_until g OnPath k inner ys b F W (part_second g k j inner xs ys d0 b W t0 (forth_then g le (forth_none g (stays_then (on_adds ms Free Uncalled q f0) (begun_adds ms Free Uncalled f1)))) shows) (scope_enlarges ms Free Uncalled o.here.scope (at e F)) in
     let calm_b = calm_more d.variables b.variables hs (omega (arith, lv)) calm in (
       st,
       (

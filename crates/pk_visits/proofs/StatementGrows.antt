@@ -19,7 +19,7 @@ use Rattle.pk_graph.specs.Trees.{constant, Skip, Clear}
 use Rattle.pk_draft.specs.declared.drafts.Label.{Label}
 use Rattle.pk_draft.specs.declared.drafts.Region.{Region}
 use Rattle.pk_draft.specs.declared.drafts.Size.{Size}
-use Rattle.pk_draft.specs.Drafts.{Names, Given, no_label, at, on, in_scope, placed, all_placed, fresh, inner, with_object, link, emit, away, come}
+use Rattle.pk_draft.specs.Drafts.{Names, Given, no_label, at, on, in_scope, placed, all_placed, fresh, inner, with_object, link, go, emit, away, come}
 use Rattle.pk_draft.specs.Folding.{conversion, binary_tree}
 use Rattle.pk_lower_row.specs.declared.shapes.Waiting.TheVariants.{Strong}
 use Rattle.pk_lower_row.specs.Shapes.{converted_shape, shape_of}
@@ -294,7 +294,7 @@ start_free (tree.declarations vs) = all_free vs
 start_free (tree.expression e) = tt
 
 -- objects are declared in order
-declared_number : (a : Around) (v : DeclaredTree) → IsDeclared a v → number_of v ≡ a.objects
+pub declared_number : (a : Around) (v : DeclaredTree) → IsDeclared a v → number_of v ≡ a.objects
 declared_number a (tree.scalar_object i p e) h = h.0
 declared_number a (tree.array_object i p es) h = h.0
 
@@ -343,6 +343,13 @@ fresh_adds ms S C n d = adds ms S C d (fresh n d) (fresh_grows C n d)
 pub nothing_adds : (ms : List ℕ) (S : ℕ → Type 0) (C : ℕ → Size → Type 0) (d : Draft) → Adds ms S C d d
 nothing_adds ms S C d = adds ms S C d d (grows_refl C d)
 
+-- two ends meet at a new point
+pub meeting_adds : (ms : List ℕ) (S : ℕ → Type 0) (C : ℕ → Size → Type 0) (p : Pos) (t : ℕ) (u : Draft) → Adds ms S C u (meeting p t u)
+meeting_adds ms S C p t u =
+    let j = fresh 1 (on p u) in
+    let l = link Skip (on p u).points (at t j) in
+    stays_then (on_adds ms S C p u) (stays_then (fresh_adds ms S C 1 (on p u)) (stays_then (link_adds ms S C Skip (on p u).points (at t j)) (link_adds ms S C Skip (on p u).points (at u.point l))))
+
 if_adds : (ms : List ℕ) (S : ℕ → Type 0) (C : ℕ → Size → Type 0) (p : Pos) (c : Ways Slot) (a b : Draft → Draft) → ChoiceAdds ms S C c.choice → AddsTo ms S C a → AddsTo ms S C b → AddsTo ms S C (if_draft p c a b)
 if_adds ms S C p c a b hc ha hb d =
     let d0 = on p d in
@@ -350,10 +357,7 @@ if_adds ms S C p c a b hc ha hb d =
     let d2 = c.choice d0.points (d0.points + 1) d1 in
     let t = a (at d0.points d2) in
     let u = b (at (d.points + 1) t) in
-    let j = fresh 1 (on p u) in
-    let l = link Skip (on p u).points (at t.point j) in
-    stays_then (on_adds ms S C p d) (stays_then (fresh_adds ms S C 2 d0) (stays_then (hc d0.points (d0.points + 1) d1) (stays_then (ha (at d0.points d2)) (stays_then (hb (at (d.points + 1) t))
-    (stays_then (on_adds ms S C p u) (stays_then (fresh_adds ms S C 1 (on p u)) (stays_then (link_adds ms S C Skip (on p u).points (at t.point j)) (link_adds ms S C Skip (on p u).points (at u.point l)))))))))
+    stays_then (on_adds ms S C p d) (stays_then (fresh_adds ms S C 2 d0) (stays_then (hc d0.points (d0.points + 1) d1) (stays_then (ha (at d0.points d2)) (stays_then (hb (at (d.points + 1) t)) (meeting_adds ms S C p t.point u)))))
 
 pub round_adds : (ms : List ℕ) (S : ℕ → Type 0) (C : ℕ → Size → Type 0) (x : Exits) (s : Exits → Draft → Draft) → BodyAdds ms S C x s → (b e k : ℕ) (d : Draft) → Adds ms S C d (round x s b e k d)
 round_adds ms S C x s h b e k d = stays_then (h e k (at b d)) (link_adds ms S C Skip k (s (inside e k x) (at b d)))
@@ -368,6 +372,10 @@ pub do_adds : (ms : List ℕ) (S : ℕ → Type 0) (C : ℕ → Size → Type 0)
 do_adds ms S C p c s x hc hs k e d =
     let r = round x s d.point e k d in
     stays_then (round_adds ms S C x s hs d.point e k d) (stays_then (on_adds ms S C p r) (hc d.point e (on p r)))
+
+-- in another block's scope
+pub scope_enlarges : (ms : List ℕ) (S : ℕ → Type 0) (C : ℕ → Size → Type 0) (n : ℕ) (d : Draft) → Enlarges ms S C d (in_scope n d)
+scope_enlarges ms S C n d = record { edges = λ e z. z; names = refl; variables = omega arith; points = omega arith; size = refl; labels = λ q z. inr refl; beyond = λ q z. inr refl; regions = λ j. inr refl; apart = λ m o w. inl refl; paths = refl; scopes = λ n z h. h; here = refl; many = refl; made = λ n z. refl; unmade = λ n z. refl; slots = refl; objects = λ n. inr refl }
 
 pub scope_adds : (ms : List ℕ) (S : ℕ → Type 0) (C : ℕ → Size → Type 0) (d e : Draft) → Enlarges ms S C d e → Adds ms S C d (in_scope d.here.scope e)
 scope_adds ms S C d e g = record { edges = g.edges; names = g.names; variables = g.variables; points = g.points; size = g.size; labels = g.labels; beyond = g.beyond; regions = g.regions; apart = g.apart; paths = g.paths; scopes = g.scopes; many = g.many; made = g.made; unmade = g.unmade; slots = g.slots; objects = g.objects; here = (g.here, refl) }
@@ -511,10 +519,14 @@ covers_first x m t u ms h b is some = h b is (λ e. some (omega (arith, e)))
 covers_second : (x : Exits) (m : Marks) (t u : Mark → ℕ) (ms : List ℕ) → Covers x m (λ b. t b + u b) ms → Covers x m u ms
 covers_second x m t u ms h b is some = h b is (λ e. some (omega (arith, e)))
 
+-- a loop has no marks of its own
+pub point_inside : (m : Mark) (b c : ℕ) (x : Exits) → mark_point m (inside b c x) ≡ mark_point m x
+point_inside (labelled l) b c x = refl
+point_inside (numbered i) b c x = refl
+point_inside otherwise b c x = refl
+
 covers_inside : (x : Exits) (m : Marks) (t : Mark → ℕ) (ms : List ℕ) (b k : ℕ) → Covers x m t ms → Covers (inside b k x) m t ms
-covers_inside x m t ms b k h (labelled l) is some = h (labelled l) is some
-covers_inside x m t ms b k h (numbered i) is some = h (numbered i) is some
-covers_inside x m t ms b k h otherwise is some = h otherwise is some
+covers_inside x m t ms b k h c is some = subst (λ q. Among q ms) (sym (point_inside c b k x)) (h c is some)
 
 covers_switch : (x : Exits) (m : Marks) (t : Mark → ℕ) (ms : List ℕ) (e n : ℕ) (b : Bool) → Covers x m (λ k. Marks.in_switch k (t k)) ms → Covers (in_switch e n x) (WellTyped.in_switch n b m) t (upto (n + 1) (e + 1) ++ ms)
 covers_switch x m t ms e n b h (labelled l) is some = back_list (upto (n + 1) (e + 1)) ms (x.labels + l) (h (labelled l) is some)
@@ -522,11 +534,11 @@ covers_switch x m t ms e n b h (numbered i) is some = front_list (upto (n + 1) (
 covers_switch x m t ms e n b h otherwise is some = front_list (upto (n + 1) (e + 1)) ms (e + 1 + n) (upto_has (n + 1) (e + 1) n (omega arith))
 
 -- a mark stands where it is
-label_stands : (l n : ℕ) → one_if (is_label (labelled l) l) + n ≡ 0 → ⊥
-label_stands l n h = absurd (let e = eq-eqb l l refl in grind (arith, nat_tests, h, e))
+pub label_once : (l n : ℕ) → one_if (is_label (labelled l) l) + n ≡ 1 + n
+label_once l n = let e = eq-eqb l l refl in grind (arith, nat_tests, e)
 
-case_stands : (i n : ℕ) → one_if (is_case (numbered i) i) + n ≡ 0 → ⊥
-case_stands i n h = absurd (let e = eq-eqb i i refl in grind (arith, nat_tests, h, e))
+pub case_once : (i n : ℕ) → one_if (is_case (numbered i) i) + n ≡ 1 + n
+case_once i n = let e = eq-eqb i i refl in grind (arith, nat_tests, e)
 
 pub choice_adds : (ms : List ℕ) (S : ℕ → Type 0) (C : ℕ → Size → Type 0) (w : Ways Slot) → WaysGrow C w → ChoiceAdds ms S C w.choice
 choice_adds ms S C w g p q d = adds ms S C d (w.choice p q d) (g.choice p q d)
@@ -540,7 +552,7 @@ begun_switch_adds ms S C s t zs b k =
     stays_then (fresh_adds ms S C (1 + n + (if b then 1 else 0)) k.1) (stays_then (case_adds ms S C s t k.0 zs (e + 1) f) (away_adds ms S C (if b then e + 1 + n else e) (case_tests s t k.0 zs (e + 1) f)))
 
 -- all of its points are made
-begun_switch_points : (ms : List ℕ) (S : ℕ → Type 0) (C : ℕ → Size → Type 0) (s : Site) (t : IntType) (zs : List ℤ) (b : Bool) (k : Given Slot) → k.1.points + length zs + 1 < (switch_begun s t zs b k).points
+pub begun_switch_points : (ms : List ℕ) (S : ℕ → Type 0) (C : ℕ → Size → Type 0) (s : Site) (t : IntType) (zs : List ℤ) (b : Bool) (k : Given Slot) → k.1.points + length zs + 1 < (switch_begun s t zs b k).points
 begun_switch_points ms S C s t zs b k =
     let n = length zs in
     let f = fresh (1 + n + (if b then 1 else 0)) k.1 in
@@ -574,6 +586,13 @@ pub third_adds : (ms : List ℕ) (S : ℕ → Type 0) (C : ℕ → Size → Type
 third_adds ms S C c None h d = nothing_adds ms S C d
 third_adds ms S C c (Some e) h d = adds ms S C d (performed c e d) (effects C c e h d)
 
+-- from the end of a `for`'s body: the third part, and back
+pub third_enlarges : (ms : List ℕ) (S : ℕ → Type 0) (C : ℕ → Size → Type 0) (c : Context) (p : Pos) (e : Option EffectTree) → AllCalled C c (calls_in_effect_if e) → (n h : ℕ) (d : Draft) → Enlarges ms S C d (go Skip h (performed_if c e (in_scope n (on p d))))
+third_enlarges ms S C c p e called n h d =
+    let o = on p d in
+    let u = in_scope n o in
+    path_then (enlarges ms S C d o (on_adds ms S C p d)) (path_then (scope_enlarges ms S C n o) (enlarges ms S C u (go Skip h (performed_if c e u)) (stays_then (third_adds ms S C c e called u) (link_adds ms S C Skip h (performed_if c e u)))))
+
 pub test_adds : (ms : List ℕ) (S : ℕ → Type 0) (C : ℕ → Size → Type 0) (c : Context) (e : Option ValueTree) → AllCalled C c (calls_if e) → ChoiceAdds ms S C (for_test c e)
 test_adds ms S C c None h p q d = link_adds ms S C Skip p d
 test_adds ms S C c (Some e) h p q d = adds ms S C d ((ways c e).choice p q d) ((values C c e h).choice p q d)
@@ -602,9 +621,9 @@ mutual
   statement_adds C c a m (tree.empty p) x ms S from f h k d = nothing_adds ms S C d
   statement_adds C c a m (tree.effect p e) x ms S from f h k d = stays_then (on_adds ms S C p d) (adds ms S C (on p d) (performed c e (on p d)) (effects C c e k (on p d)))
   statement_adds C c a m (tree.label p l s) x ms S from f h k d =
-      stays_then (on_adds ms S C p d) (stays_then (come_adds ms S C (x.labels + l) (on p d) (h (labelled l) f.0 (label_stands l (times (labelled l) s)))) (statement_adds C c a m s x ms S from f.1 (covers_second x m (λ b. one_if (is_label b l)) (λ b. times b s) ms h) k (come (x.labels + l) (on p d))))
+      stays_then (on_adds ms S C p d) (stays_then (come_adds ms S C (x.labels + l) (on p d) (h (labelled l) f.0 (λ e. let z = label_once l (times (labelled l) s) in absurd (omega (arith, e, z))))) (statement_adds C c a m s x ms S from f.1 (covers_second x m (λ b. one_if (is_label b l)) (λ b. times b s) ms h) k (come (x.labels + l) (on p d))))
   statement_adds C c a m (tree.case p i s) x ms S from f h k d =
-      stays_then (on_adds ms S C p d) (stays_then (come_adds ms S C (x.cases + i) (on p d) (h (numbered i) f.0 (case_stands i (times (numbered i) s)))) (statement_adds C c a m s x ms S from f.1 (covers_second x m (λ b. one_if (is_case b i)) (λ b. times b s) ms h) k (come (x.cases + i) (on p d))))
+      stays_then (on_adds ms S C p d) (stays_then (come_adds ms S C (x.cases + i) (on p d) (h (numbered i) f.0 (λ e. let z = case_once i (times (numbered i) s) in absurd (omega (arith, e, z))))) (statement_adds C c a m s x ms S from f.1 (covers_second x m (λ b. one_if (is_case b i)) (λ b. times b s) ms h) k (come (x.cases + i) (on p d))))
   statement_adds C c a m (tree.default p s) x ms S from f h k d =
       stays_then (on_adds ms S C p d) (stays_then (come_adds ms S C x.otherwise (on p d) (h otherwise f.0 (λ e. absurd (omega (arith, e))))) (statement_adds C c a m s x ms S from f.1 (covers_second x m (λ b. one_if (is_default b)) (λ b. times b s) ms h) k (come x.otherwise (on p d))))
   statement_adds C c a m (tree.if_then p e s) x ms S from f h k d =

@@ -1,12 +1,12 @@
 -- From the work of a statement to that of its parts.
-use Rattle.std.proofs.Common.{ℕ, List, refl, sym, subst, inr, arith, inl}
+use Rattle.std.proofs.Common.{ℕ, List, refl, sym, subst}
 use Rattle.pk_ctypes.specs.declared.places.Pos.{Pos}
 use Rattle.pk_typed.specs.Trees.{EffectTree, StatementTree, ItemTrees}
 use Rattle.pk_typed.specs.Trees as tree
 use Rattle.pk_welltyped.specs.Listed.{calls_in_effect, calls_in_statement, calls_in_items}
 use Rattle.pk_welltyped.specs.WellTyped.{IsStatement, AreItems}
 use Rattle.pk_draft.specs.declared.drafts.Label.{Label}
-use Rattle.pk_draft.specs.Drafts.{on, in_scope}
+use Rattle.pk_draft.specs.Drafts.{on}
 use Rattle.pk_lower_statement.specs.declared.statements.Exits.{Exits}
 use Rattle.pk_lower_statement.specs.Statements.{lowered, lowered_items}
 use Rattle.pk_meaning.specs.Objects.{Scope}
@@ -15,8 +15,8 @@ use Rattle.pk_meaning.specs.Work.{Place, Ahead}
 use Rattle.pk_meaning.specs.Steps.{place}
 use Rattle.pk_visits.proofs.Stands.{Whole, Proper, context_of, Held, LaidAhead, Laid, IsCalled}
 use Rattle.pk_visits.proofs.Settled.{Settles, SettleAll}
-use Rattle.pk_visits.proofs.Stages.{In, all_called, part_first, part_second, part_until, stage_at, forth_here, forth_first}
-use Rattle.pk_visits.proofs.StatementGrows.{Stays, OnPath, statement, block, Free}
+use Rattle.pk_visits.proofs.Stages.{all_called, part_first, part_second, part_until, stage_at, forth_here, forth_first}
+use Rattle.pk_visits.proofs.StatementGrows.{Stays, OnPath, scope_enlarges, statement, block, Free}
 use Rattle.pk_visits.proofs.Operands.{calm_more}
 use Rattle.pk_visits.proofs.Doom.{calm_plain}
 use Rattle.pk_visits.proofs.Slots.{Uncalled}
@@ -35,9 +35,7 @@ pub block_laid : (g : Whole) (k : ℕ) (h : Place) (x : Exits) (p : Pos) (is : I
     → Laid g k h x (work.Go (work.Rest h.scope is a)) pt hs
 unfolding lowered IsStatement calls_in_statement Settles
 block_laid g k h x p is a pt hs (d, n, m, at', fits, calm, s, marking, settled, l) =
-    (calm_plain d.variables hs calm, (d, n, m, at', fits, calm, part_until g OnPath k _ _ d (lowered_items (context_of g k) is x d) _ s unscoped, marking, settled, l)) where
-      unscoped : Rattle.pk_visits.proofs.Slots.Keeps OnPath (In s.marks) Free Uncalled (lowered_items (context_of g k) is x d) (in_scope d.here.scope (lowered_items (context_of g k) is x d))
-      unscoped = record { edges = λ e z. z; names = refl; variables = omega arith; points = omega arith; size = refl; labels = λ q z. inr refl; beyond = λ q z. inr refl; regions = λ j. inr refl; apart = λ m o w. inl refl; paths = refl; scopes = λ n z h. h; here = refl; many = refl; made = λ n z. refl; unmade = λ n z. refl; slots = refl; objects = λ n. inr refl }
+    (calm_plain d.variables hs calm, (d, n, m, at', fits, calm, part_until g OnPath k _ _ d (lowered_items (context_of g k) is x d) _ s (scope_enlarges s.marks Free Uncalled d.here.scope (lowered_items (context_of g k) is x d)), marking, settled, l))
 
 -- the next statement of a block, behind which is the rest
 pub next_laid : (g : Whole) (proper : Proper g) (k : ℕ) (h : Place) (x : Exits) (xs : Scope) (s : StatementTree) (is : ItemTrees) (a : Ahead) (p : ℕ) (hs : List Held) (q : Pos)

@@ -1,5 +1,5 @@
 -- From the work of a `for`, where it begins again and at the end of its body, to that of its parts.
-use Rattle.std.proofs.Common.{◌≡◌, ℕ, ◌⊎◌, List, [], ◌∷◌, ◌++◌, refl, sym, ap, ◌∙◌, subst, inl, inr, arith, Option, Some, None}
+use Rattle.std.proofs.Common.{◌≡◌, ℕ, ◌⊎◌, List, [], ◌∷◌, ◌++◌, refl, sym, ap, ◌∙◌, subst, inl, inr, Option, Some, None}
 use Rattle.pk_ctypes.specs.declared.places.Pos.{Pos}
 use Rattle.pk_typed.specs.Trees.{ValueTree, EffectTree, StatementTree}
 use Rattle.pk_typed.specs.Trees as tree
@@ -17,7 +17,7 @@ use Rattle.pk_visits.proofs.Slots.{Draft, Among, edge, last_among, front_among, 
 use Rattle.pk_visits.proofs.Stands.{Whole, Proper, context_of, Held, around, ArePlain, ShowsAt, Distinct, Stage, led_to, Loops, LaidAhead, LaidWay, Laid, IsCalled}
 use Rattle.pk_visits.proofs.Stages.{all_called, back_among, among_front, among_back, among_either, distinct_front, distinct_back, distinct_between, led_both, part_first, part_second, part_until, forth_all, forth_first}
 use Rattle.pk_visits.proofs.Growing.{front_called, back_called}
-use Rattle.pk_visits.proofs.StatementGrows.{Stays, OnPath, Adds, Enlarges, enlarges, stays_then, path_then, on_adds, link_adds, test_adds, third_adds, scoped_adds, statement, marking_inside, Free}
+use Rattle.pk_visits.proofs.StatementGrows.{Stays, OnPath, Adds, Enlarges, enlarges, stays_then, path_then, on_adds, link_adds, test_adds, third_enlarges, scoped_adds, statement, marking_inside, Free}
 use Rattle.pk_visits.proofs.Operands.{calm_more}
 use Rattle.pk_visits.proofs.Statements.{shows_on}
 use Rattle.pk_visits.proofs.Rounds.{again, again_while, again_do}
@@ -87,23 +87,6 @@ stage_other g k h xs ys zs d e s = record {
 
 -- ---- the drafts of a `for`
 
--- in another block's scope
-pub scope_enlarges : (ms : List ℕ) (C : ℕ → Size → Type 0) (n : ℕ) (d : Draft) → Enlarges ms Free C d (in_scope n d)
-scope_enlarges ms C n d = record { edges = λ e z. z; names = refl; variables = omega arith; points = omega arith; size = refl; labels = λ q z. inr refl; beyond = λ q z. inr refl; regions = λ j. inr refl; apart = λ m o w. inl refl; paths = refl; scopes = λ n z h. h; here = refl; many = refl; made = λ n z. refl; unmade = λ n z. refl; slots = refl; objects = λ n. inr refl }
-
--- behind the way from the body's end: the third part, and back
-after_link : (g : Whole) (k : ℕ) (ms : List ℕ) (h : Place) (third : Option EffectTree) (n q : ℕ) (r : Draft)
-    → Enlarges ms Free (IsCalled (context_of g k) (calls_in_effect_if third)) r (go Skip q (performed_if (context_of g k) third (in_scope n (on h.at r))))
-after_link g k ms h third n q r =
-    let c = context_of g k in
-    let C = IsCalled c (calls_in_effect_if third) in
-    let u = in_scope n (on h.at r) in
-    let v = performed_if c third u in
-    path_then (enlarges ms Free C r (on h.at r) (on_adds ms Free C h.at r)) (path_then (scope_enlarges ms C n (on h.at r))
-    (enlarges ms Free C u (go Skip q v) (stays_then (third_adds ms Free C c third (all_called_if c third) u) (link_adds ms Free C Skip q v)))) where
-      all_called_if : (c : Rattle.pk_lower_row.specs.Contexts.Context) (t : Option EffectTree) → Rattle.pk_visits.proofs.Growing.AllCalled (IsCalled c (calls_in_effect_if t)) c (calls_in_effect_if t)
-      all_called_if c t = all_called c (calls_in_effect_if t)
-
 -- the test of a `for` where it begins again, and its body
 pub for_parts : (g : Whole) (proper : Proper g) (k : ℕ) (h : Place) (x : Exits) (v : Option ValueTree) (third : Option EffectTree) (s : StatementTree) (o : Place) (a : Ahead) (p c b : ℕ) (hs : List Held)
     → (loop : Loops g k h x (For v third s) p c b hs) → ShowsAt g b k o → LaidAhead g k x a b hs
@@ -122,13 +105,11 @@ for_parts g proper k h x v third s o a p c b hs loop shown z =
     let C = IsCalled ctx both in
     let marks = marking_inside x loop.mark t.marks b c loop.marking in
     let test = test_adds t.marks Free (IsCalled ctx (calls_if v)) ctx v (all_called ctx (calls_if v)) loop.begin b d in
-    let behind = after_link g k t.marks h third d.here.scope d.point r in
+    let behind = third_enlarges t.marks Free three ctx h.at third (all_called ctx (calls_in_effect_if third)) d.here.scope d.point r in
     let after : Enlarges t.marks Free three d2 f = path_then (enlarges t.marks Free three d2 r (link_adds t.marks Free three Skip c d2)) behind in
     let body = statement C ctx _ loop.mark s w t.marks Free (λ i o. tt) loop.fits.2 marks (front_called C ctx (calls_in_statement s) (calls_in_effect_if third) (all_called ctx both)) (at loop.begin d1) in
     let third_called = back_called C ctx (calls_in_statement s) (calls_in_effect_if third) (all_called ctx both) in
-    let u = in_scope d.here.scope (on h.at r) in
-    let end : Enlarges t.marks Free C r f = path_then (enlarges t.marks Free C r (on h.at r) (on_adds t.marks Free C h.at r)) (path_then (scope_enlarges t.marks C d.here.scope (on h.at r))
-    (enlarges t.marks Free C u f (stays_then (third_adds t.marks Free C ctx third third_called u) (link_adds t.marks Free C Skip d.point (performed_if ctx third u))))) in
+    let end : Enlarges t.marks Free C r f = third_enlarges t.marks Free C ctx h.at third third_called d.here.scope d.point r in
     let rest : Enlarges t.marks Free C d1 f = path_then (enlarges t.marks Free C d1 r (stays_then body (link_adds t.marks Free C Skip c d2))) end in
     let se = part_first g OnPath k h (calls_if v) both d d1 f t rest in
     let first = subst (λ q. g.shows d.here k (place q h.scope)) (proper.at_positions d.here k h t.here) t.here in

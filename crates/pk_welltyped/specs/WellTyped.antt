@@ -135,9 +135,9 @@ abbrev pub count_if : Option ValueTrees → ℕ
 count_if None = 0
 count_if (Some es) = count es
 
--- an array of at most 1048576 elements that has room for so many items
+-- an array of 1 to 1048576 elements that has room for so many items (C99 6.7.5.2, 6.7.8)
 abbrev pub HasRoom : List LocalTree → (i items : ℕ) → Type 0
-HasRoom xs i m = (t : IntType) × (n : ℕ) × (kind_among xs i ≡ Some (array t n)) × (m ≤ n) × (n ≤ 1048576)
+HasRoom xs i m = (t : IntType) × (n : ℕ) × (kind_among xs i ≡ Some (array t n)) × (m ≤ n) × (n ≤ 1048576) × (1 ≤ n)
 
 -- The next object of its function. What it begins with stands in its scope (C99 6.2.1).
 abbrev pub IsDeclared : Around → DeclaredTree → Type 0
@@ -215,10 +215,10 @@ abbrev pub IsBodyIf : UnitTree → FunctionTree → Option BodyTree → Type 0
 IsBodyIf u f None = Unit {0}
 IsBodyIf u f (Some b) = IsBody u f b
 
--- numbers of the type, of an array no more than its elements
+-- numbers of the type, of an array no more than its elements, of which there is one at least
 abbrev pub IsStart : IntType → StartTree → Type 0
 IsStart t (tree.scalar_start z) = InType t z
-IsStart t (tree.array_start n zs) = (length zs ≤ n) × All (InType t) zs
+IsStart t (tree.array_start n zs) = (length zs ≤ n) × All (InType t) zs × (1 ≤ n)
 
 -- every tree of the unit agrees with what it names
 pub record IsUnit (u : UnitTree) : Type 0 where
