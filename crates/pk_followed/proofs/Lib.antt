@@ -7,6 +7,13 @@ mod Starts
 mod Propers
 mod PartAdds
 mod Pending
+mod KeptPoints
+mod Bodies
+mod BodyStages
+mod WholeGraph
+mod BodyEnds
+mod BodyCloses
+mod BodiesStand
 mod Arguments
 mod Beginnings
 mod Starting

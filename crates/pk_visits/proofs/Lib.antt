@@ -8,12 +8,12 @@ mod Silent
 pub mod Stands
 pub mod Stores
 pub mod Follow
-mod Doom
+pub mod Doom
 mod Operators
 mod Elements
 mod Tests
 pub mod Stages
-mod Operands
+pub mod Operands
 mod Trees
 mod Joined
 mod Conditions
@@ -40,8 +40,8 @@ mod Shown
 mod Starts
 mod Declared
 mod Choices
-mod Cases
-mod Switches
+pub mod Cases
+pub mod Switches
 mod Found
 mod Going
 mod Jumps

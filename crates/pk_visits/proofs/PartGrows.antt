@@ -57,28 +57,56 @@ begun_enlarges ms C c g b from r d =
     let f = first_of c b r d in
     path_then (parameters_enlarge ms C c from 0 g.parameters f) (result_enlarges ms C c g.returns (all_introduced c from 0 g.parameters f))
 
--- names and objects leave the point
-named_point : (o : Option (List ℕ)) (x : ℕ) (d : Draft) → (named o x d).point ≡ d.point
-named_point None x d = refl
-named_point (Some n) x d = refl
+-- names and objects leave the point, how many there are, and the position
+abbrev Stays : Draft → Draft → Type 0
+Stays d e = (e.point ≡ d.point) × (e.points ≡ d.points) × (e.here.at ≡ d.here.at)
 
-parameter_point : (c : Context) (from : Option Caller) (i : ℕ) (d : Draft) → (introduced_parameter c from i d).point ≡ d.point
-parameter_point c None i d = let x = local_at c i in named_point x.name d.variables (with_object i (entry_parameter x.name x.int_type x.length c.path) d)
-parameter_point c (Some caller) i d = let x = local_at c i in named_point x.name d.variables (with_object i (inner x.name x.int_type x.length c.path) d)
+named_stays : (o : Option (List ℕ)) (x : ℕ) (d : Draft) → Stays d (named o x d)
+named_stays None x d = (refl, refl, refl)
+named_stays (Some n) x d = (refl, refl, refl)
 
-parameters_point : (c : Context) (from : Option Caller) (i : ℕ) (ts : List IntType) (d : Draft) → (all_introduced c from i ts d).point ≡ d.point
+parameter_stays : (c : Context) (from : Option Caller) (i : ℕ) (d : Draft) → Stays d (introduced_parameter c from i d)
+parameter_stays c None i d = let x = local_at c i in named_stays x.name d.variables (with_object i (entry_parameter x.name x.int_type x.length c.path) d)
+parameter_stays c (Some caller) i d = let x = local_at c i in named_stays x.name d.variables (with_object i (inner x.name x.int_type x.length c.path) d)
+
+parameters_stay : (c : Context) (from : Option Caller) (i : ℕ) (ts : List IntType) (d : Draft) → Stays d (all_introduced c from i ts d)
 unfolding all_introduced
-parameters_point c from i [] d = refl
-parameters_point c from i (t ∷ ts) d = parameters_point c from (i + 1) ts (introduced_parameter c from i d) ∙ parameter_point c from i d
+parameters_stay c from i [] d = (refl, refl, refl)
+parameters_stay c from i (t ∷ ts) d =
+    let a = parameter_stays c from i d in
+    let b = parameters_stay c from (i + 1) ts (introduced_parameter c from i d) in
+    (b.0 ∙ a.0, b.1 ∙ a.1, b.2 ∙ a.2)
 
-result_point : (c : Context) (t : Option IntType) (d : Draft) → (with_result c t d).point ≡ d.point
-result_point c None d = refl
-result_point c (Some t) d = refl
+result_stays : (c : Context) (t : Option IntType) (d : Draft) → Stays d (with_result c t d)
+result_stays c None d = (refl, refl, refl)
+result_stays c (Some t) d = (refl, refl, refl)
 
 pub begun_point : (c : Context) (g : FunctionTree) (b : BodyTree) (from : Option Caller) (r : Region) (d : Draft) → (begun c g b from r d).point ≡ r.at
 begun_point c g b from r d =
     let f = first_of c b r d in
-    result_point c g.returns (all_introduced c from 0 g.parameters f) ∙ parameters_point c from 0 g.parameters f
+    (result_stays c g.returns (all_introduced c from 0 g.parameters f)).0 ∙ (parameters_stay c from 0 g.parameters f).0
+
+pub begun_points : (c : Context) (g : FunctionTree) (b : BodyTree) (from : Option Caller) (r : Region) (d : Draft) → (begun c g b from r d).points ≡ r.points
+begun_points c g b from r d =
+    let f = first_of c b r d in
+    (result_stays c g.returns (all_introduced c from 0 g.parameters f)).1 ∙ (parameters_stay c from 0 g.parameters f).1
+
+pub begun_position : (c : Context) (g : FunctionTree) (b : BodyTree) (from : Option Caller) (r : Region) (d : Draft) → (begun c g b from r d).here.at ≡ b.opened
+begun_position c g b from r d =
+    let f = first_of c b r d in
+    (result_stays c g.returns (all_introduced c from 0 g.parameters f)).2 ∙ (parameters_stay c from 0 g.parameters f).2
+
+pub placed_here : (from : Option Caller) (d : Draft) → (placed_entry from d).here ≡ d.here
+placed_here None d = refl
+placed_here (Some c) d = refl
+
+pub placed_point : (from : Option Caller) (d : Draft) → (placed_entry from d).point ≡ d.point
+placed_point None d = refl
+placed_point (Some c) d = refl
+
+pub placed_points : (from : Option Caller) (d : Draft) → (placed_entry from d).points ≡ d.points
+placed_points None d = refl
+placed_points (Some c) d = refl
 
 -- a point that is placed is a mark
 placed_enlarges : (ms : List ℕ) (C : ℕ → Size → Type 0) (p : ℕ) (d : Draft) → Among p ms → Enlarges ms Free C d (placed p d)
@@ -160,7 +188,7 @@ standing_enlarges ms C l d e is a = record {
 }
 
 -- behind its items, to its exit
-closed_adds : (ms : List ℕ) (C : ℕ → Size → Type 0) (c : Context) (g : FunctionTree) (b : BodyTree) (q : ℕ) (d : Draft) → Adds ms Free C d (go Skip q (ended c g.name g.returns (on b.closed d)))
+pub closed_adds : (ms : List ℕ) (C : ℕ → Size → Type 0) (c : Context) (g : FunctionTree) (b : BodyTree) (q : ℕ) (d : Draft) → Adds ms Free C d (go Skip q (ended c g.name g.returns (on b.closed d)))
 closed_adds ms C c g b q d =
     let o = on b.closed d in
     stays_then (on_adds ms Free C b.closed d) (stays_then (ended_adds ms C c g.name g.returns o) (link_adds ms Free C Skip q (ended c g.name g.returns o)))
