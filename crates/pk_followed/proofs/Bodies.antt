@@ -1,18 +1,16 @@
 -- How the lowering of a path's body goes on to the whole graph: which points later parts place again, which regions they take.
-use Rattle.std.proofs.Common.{◌≡◌, ℕ, zero, suc, ◌+◌, ◌<◌, ◌≤◌, ◌⊎◌, inl, inr, List, [], ◌∷◌, ◌++◌, length, refl, ap, sym, subst, ◌∙◌, arith}
+use Rattle.std.proofs.Common.{◌≡◌, ℕ, zero, suc, ◌+◌, ◌<◌, ◌≤◌, ◌⊎◌, inl, inr, List, [], ◌++◌, length, ap, sym, subst, ◌∙◌, arith}
 use Rattle.std.specs.Prelude.{slice_set, Option}
-use Rattle.std.proofs.lemmas.List.{get_or_past, get_or-set_other}
+use Rattle.std.proofs.lemmas.List.{get_or_past}
 use Rattle.pk_calls.specs.declared.listings.CallPath.{CallPath}
 use Rattle.pk_calls.specs.Calls.{calls_of}
-use Rattle.pk_draft.specs.declared.drafts.Label.{Label}
 use Rattle.pk_draft.specs.declared.drafts.Region.{Region}
-use Rattle.pk_draft.specs.Drafts.{DraftOf, no_label, no_region, standing}
+use Rattle.pk_draft.specs.Drafts.{DraftOf, no_region, standing}
 use Rattle.pk_lower.specs.Parts as part
-use Rattle.pk_typed_draft.proofs.Places.{Holds}
-use Rattle.pk_typed_draft.proofs.Plans.{World, Draft, base, sizes, size_of, Lasting, Plan, PathIs}
-use Rattle.pk_visits.proofs.Slots.{Slot, slots, Edge, Among, label_at, region_at, Uncalled, Keeps, Never}
-use Rattle.pk_visits.proofs.StatementGrows.{Adds, Free, upto, upto_from, upto_before, upto_has}
-use Rattle.pk_visits.proofs.Stages.{among_front, among_back, among_either}
+use Rattle.pk_typed_draft.proofs.Plans.{World, Draft, Lasting, Plan, PathIs}
+use Rattle.pk_visits.proofs.Slots.{Slot, Among, label_at, region_at, Uncalled}
+use Rattle.pk_visits.proofs.StatementGrows.{Adds, Free, upto, upto_has}
+use Rattle.pk_visits.proofs.Stages.{among_front, among_back}
 use Rattle.pk_visits.proofs.Stands.{Whole, Leads}
 use Rattle.pk_visits.proofs.PartGrows.{closed_adds}
 use Rattle.pk_visits.proofs.NumberedNames.{names_by, draft_by}

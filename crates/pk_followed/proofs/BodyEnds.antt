@@ -1,17 +1,13 @@
 -- Points that a path's part makes outside its calls' regions keep their labels to the end: its exit, and what closes its body.
-use Rattle.std.proofs.Common.{◌≡◌, ℕ, suc, ◌+◌, ◌<◌, ◌≤◌, ◌⊎◌, inl, inr, List, [], ◌∷◌, length, false, refl, ap, sym, subst, ◌∙◌, arith}
+use Rattle.std.proofs.Common.{◌≡◌, ℕ, ◌+◌, ◌<◌, ◌≤◌, ◌⊎◌, inl, inr, [], length, false, refl, ap, sym, ◌∙◌, arith}
 use Rattle.pk_calls.specs.declared.listings.CallPath.{CallPath}
-use Rattle.pk_calls.specs.Calls.{calls_of}
-use Rattle.pk_welltyped.specs.Listed.{Numbered, calls_in_items}
+use Rattle.pk_welltyped.specs.Listed.{calls_in_items}
 use Rattle.pk_welltyped.specs.WellTyped.{Around, Marks}
-use Rattle.pk_draft.specs.declared.drafts.Label.{Label}
 use Rattle.pk_draft.specs.declared.drafts.Region.{Region}
 use Rattle.pk_draft.specs.declared.drafts.Size.{Size}
 use Rattle.pk_draft.specs.Drafts.{DraftOf, fresh}
-use Rattle.pk_lower_row.specs.Contexts.{Context}
 use Rattle.pk_lower.specs.Parts as part
-use Rattle.pk_typed_draft.proofs.Places.{Holds}
-use Rattle.pk_typed_draft.proofs.Plans.{World, Draft, base, sizes, size_of, Lasting, Plan, PathIs}
+use Rattle.pk_typed_draft.proofs.Plans.{World, Draft, size_of, Lasting, PathIs}
 use Rattle.pk_visits.proofs.Slots.{Slot, Among, Takes, label_at, region_at, Uncalled}
 use Rattle.pk_visits.proofs.StatementGrows.{Enlarges, Free, upto, upto_from, upto_has, fresh_grows, block}
 use Rattle.pk_visits.proofs.Stages.{all_called}

@@ -16,3 +16,4 @@ mod BodyCloses
 mod BodiesStand
 mod Arguments
 mod Beginnings
+mod EntryPoint
