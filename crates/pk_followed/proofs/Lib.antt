@@ -17,3 +17,4 @@ mod BodiesStand
 mod Arguments
 mod Beginnings
 mod EntryPoint
+mod BodiesSettled
