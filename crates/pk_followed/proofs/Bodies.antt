@@ -8,7 +8,7 @@ use Rattle.pk_draft.specs.declared.drafts.Region.{Region}
 use Rattle.pk_draft.specs.Drafts.{DraftOf, no_region, standing}
 use Rattle.pk_lower.specs.Parts as part
 use Rattle.pk_typed_draft.proofs.Plans.{World, Draft, Lasting, Plan, PathIs}
-use Rattle.pk_visits.proofs.Slots.{Slot, Among, label_at, region_at, Uncalled}
+use Rattle.pk_visits.proofs.Slots.{Slot, Among, label_at, region_at, Uncalled, Never}
 use Rattle.pk_visits.proofs.StatementGrows.{Adds, Free, upto, upto_has}
 use Rattle.pk_visits.proofs.Stages.{among_front, among_back}
 use Rattle.pk_visits.proofs.Stands.{Whole, Leads}
@@ -20,11 +20,11 @@ use Rattle.pk_followed.proofs.KeptPoints.{kept_points, keeps_point, listed_or_no
 
 -- from the end of the body to that of the part
 pub part_closes : (W : World) (f : W.table.Variable → Slot) (k n : ℕ) (p : CallPath) (h : PathIs W k n p) (d : Draft W)
-    → Adds [] Free Uncalled (standing (part.placed_entry p.caller (part.begun (context_at W k n p) h.function h.body p.caller (region_at d.regions k) (draft_by f d))).here (body_ended W f k n p h d)) (draft_by f (part_at W k n p d))
+    → Adds [] Never Uncalled (standing (part.placed_entry p.caller (part.begun (context_at W k n p) h.function h.body p.caller (region_at d.regions k) (draft_by f d))).here (body_ended W f k n p h d)) (draft_by f (part_at W k n p d))
 part_closes W f k n p h d =
     let l = (part.placed_entry p.caller (part.begun (context_at W k n p) h.function h.body p.caller (region_at d.regions k) (draft_by f d))).here in
-    subst (Adds [] Free Uncalled (standing l (body_ended W f k n p h d))) (closed_is W f k n p h d)
-    (closed_adds [] Uncalled (context_at W k n p) h.function h.body (body_exit W f k n p h d) (standing l (body_ended W f k n p h d)))
+    subst (Adds [] Never Uncalled (standing l (body_ended W f k n p h d))) (closed_is W f k n p h d)
+    (closed_adds [] Never Uncalled (context_at W k n p) h.function h.body (body_exit W f k n p h d) (standing l (body_ended W f k n p h d)))
 
 -- the draft behind the part, and the part of those behind it
 abbrev pub behind : (W : World) (f : W.table.Variable → Slot) (g : Draft W) (k : ℕ) → PathAt W f g k → Draft W
@@ -91,7 +91,7 @@ body_leads W l f d g is k q = record {
   rest : PartsAdd W f (k + 1) n e d
   rest = rest_adds W l f d k q
 
-  close : Adds [] Free Uncalled (standing (part.placed_entry q.path.caller (part.begun (context_at W k q.first q.path) q.place.function q.place.body q.path.caller (region_at q.before.regions k) (draft_by f q.before))).here Z) (draft_by f e)
+  close : Adds [] Never Uncalled (standing (part.placed_entry q.path.caller (part.begun (context_at W k q.first q.path) q.place.function q.place.body q.path.caller (region_at q.before.regions k) (draft_by f q.before))).here Z) (draft_by f e)
   close = part_closes W f k q.first q.path q.place q.before
 
   plan : Plan W (k + 1) n e

@@ -119,7 +119,7 @@ exit_label W l f d g is k q = own_label W l f d g is k q p (inl (omega (exit, ar
       kept : 0 < (region_at q.before.regions k).points
       kept = (q.plan.kept k q.place.below).kept
 
-      close : Rattle.pk_visits.proofs.StatementGrows.Adds [] Free Uncalled (Rattle.pk_draft.specs.Drafts.standing o.here (body_ended W f k q.first q.path q.place q.before)) (draft_by f (part_at W k q.first q.path q.before))
+      close : Rattle.pk_visits.proofs.StatementGrows.Adds [] Rattle.pk_visits.proofs.Slots.Never Uncalled (Rattle.pk_draft.specs.Drafts.standing o.here (body_ended W f k q.first q.path q.place q.before)) (draft_by f (part_at W k q.first q.path q.before))
       close = part_closes W f k q.first q.path q.place q.before
 
       items : Enlarges (upto q.place.body.labels (p + 1)) Free (IsCalled (context_at W k q.first q.path) (calls_in_items q.place.body.items)) (body_begun W f k q.first q.path q.place q.before) (body_ended W f k q.first q.path q.place q.before)

@@ -64,7 +64,7 @@ entry_label W l f d g is k q first none pos low =
       o : DraftOf Slot
       o = part.placed_entry q.path.caller b
 
-      close : Rattle.pk_visits.proofs.StatementGrows.Adds [] Rattle.pk_visits.proofs.StatementGrows.Free Uncalled (Rattle.pk_draft.specs.Drafts.standing o.here (body_ended W f k q.first q.path q.place q.before)) (draft_by f (part_at W k q.first q.path q.before))
+      close : Rattle.pk_visits.proofs.StatementGrows.Adds [] Rattle.pk_visits.proofs.Slots.Never Uncalled (Rattle.pk_draft.specs.Drafts.standing o.here (body_ended W f k q.first q.path q.place q.before)) (draft_by f (part_at W k q.first q.path q.before))
       close = part_closes W f k q.first q.path q.place q.before
 
       items : Rattle.pk_visits.proofs.StatementGrows.Enlarges (upto q.place.body.labels (body_exit W f k q.first q.path q.place q.before + 1)) Rattle.pk_visits.proofs.StatementGrows.Free (Rattle.pk_visits.proofs.Stands.IsCalled (context_at W k q.first q.path) (calls_in_items q.place.body.items)) (body_begun W f k q.first q.path q.place q.before) (body_ended W f k q.first q.path q.place q.before)

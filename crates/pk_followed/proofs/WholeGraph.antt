@@ -59,7 +59,7 @@ paths_at u entry paths h has l are a k low =
     let same = length-map g.made (λ (v : VariableOf). v.kind) in
     let c : Counted W = record { some = (let z = ap length l.in_order in omega (z, arith)); files = refl; kinds = omega (same, many, arith); points = refl } in
     let at : 0 + k ≡ k = omega arith in
-    subst (PathAt W slot_of g) at (path_at W a.lasts slot_of 0 1 paths a.paths_are (callers_in u entry paths l) (begins u paths) (first_plan W c) refl (λ i. ap (first_of u paths) (omega arith)) k low)
+    subst (PathAt W slot_of g) at (path_at W a.lasts slot_of 0 1 paths a.paths_are (callers_in u entry paths l) (begins u paths) (first_plan W c) refl (λ i. ap (first_of u paths) (omega arith)) (λ i b. let at : 0 + i ≡ i = omega arith in ap W.ends at) k low)
 
 -- ---- the graph
 
