@@ -18,3 +18,4 @@ mod Arguments
 mod Beginnings
 mod EntryPoint
 mod BodiesSettled
+mod PathBodies
