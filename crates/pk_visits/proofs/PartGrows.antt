@@ -36,7 +36,7 @@ parameter_enlarges ms C c None i d =
     path_then (object_enlarges ms Free C i (entry_parameter x.name x.int_type x.length c.path) d tt) (named_enlarges ms Free C x.name d.variables e)
 parameter_enlarges ms C c (Some caller) i d = introduced_enlarges ms Free C c i d tt
 
-parameters_enlarge : (ms : List ℕ) (C : ℕ → Size → Type 0) (c : Context) (from : Option Caller) (i : ℕ) (ts : List IntType) (d : Draft) → Enlarges ms Free C d (all_introduced c from i ts d)
+pub parameters_enlarge : (ms : List ℕ) (C : ℕ → Size → Type 0) (c : Context) (from : Option Caller) (i : ℕ) (ts : List IntType) (d : Draft) → Enlarges ms Free C d (all_introduced c from i ts d)
 unfolding all_introduced
 parameters_enlarge ms C c from i [] d = enlarges ms Free C d d (nothing_adds ms Free C d)
 parameters_enlarge ms C c from i (t ∷ ts) d = path_then (parameter_enlarges ms C c from i d) (parameters_enlarge ms C c from (i + 1) ts (introduced_parameter c from i d))
