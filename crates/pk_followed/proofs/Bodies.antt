@@ -9,7 +9,7 @@ use Rattle.pk_draft.specs.Drafts.{DraftOf, no_region, standing}
 use Rattle.pk_lower.specs.Parts as part
 use Rattle.pk_typed_draft.proofs.Plans.{World, Draft, Lasting, Plan, PathIs}
 use Rattle.pk_visits.proofs.Slots.{Slot, Among, label_at, region_at, Uncalled, Never}
-use Rattle.pk_visits.proofs.StatementGrows.{Adds, Free, upto, upto_has}
+use Rattle.pk_visits.proofs.StatementGrows.{Adds, upto, upto_has}
 use Rattle.pk_visits.proofs.Stages.{among_front, among_back}
 use Rattle.pk_visits.proofs.Stands.{Whole, Leads}
 use Rattle.pk_visits.proofs.PartGrows.{closed_adds}

@@ -1,6 +1,5 @@
 -- What a path's body declares is settled in the whole graph, where its objects have their variables in the end.
-use Rattle.std.proofs.Common.{◌≡◌, ℕ, ◌+◌, ◌<◌, ◌≤◌, ◌⊎◌, inl, inr, List, [], ◌∷◌, length, Option, refl, ap, sym, subst, ◌∙◌, arith}
-use Rattle.std.specs.Prelude.{replicate}
+use Rattle.std.proofs.Common.{◌≡◌, ℕ, ◌+◌, ◌<◌, ◌≤◌, ◌⊎◌, inl, inr, List, [], ◌∷◌, length, ap, sym, subst, ◌∙◌, arith}
 use Rattle.pk_ctypes.specs.declared.types.IntType.{IntType}
 use Rattle.pk_typed.specs.Trees.{BodyTree, LocalTree}
 use Rattle.pk_welltyped.specs.Listed.{calls_in_items, objects_in_items}
@@ -8,7 +7,6 @@ use Rattle.pk_welltyped.specs.WellTyped.{AreParameters, AreItems}
 use Rattle.pk_marks.specs.Marks.{IsMarked}
 use Rattle.pk_draft.specs.Drafts.{DraftOf}
 use Rattle.pk_lower_row.specs.Contexts.{Context}
-use Rattle.pk_lower.specs.Parts as part
 use Rattle.pk_lower_statement.specs.Statements.{lowered_items}
 use Rattle.pk_meaning.specs.Programs.{block_of}
 use Rattle.pk_meaning.specs.Work.{Place}
