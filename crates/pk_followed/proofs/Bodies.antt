@@ -1,18 +1,16 @@
 -- How the lowering of a path's body goes on to the whole graph: which points later parts place again, which regions they take.
-use Rattle.std.proofs.Common.{◌≡◌, ℕ, zero, suc, ◌+◌, ◌<◌, ◌≤◌, ◌⊎◌, inl, inr, List, [], ◌∷◌, ◌++◌, length, refl, ap, sym, subst, ◌∙◌, arith}
+use Rattle.std.proofs.Common.{◌≡◌, ℕ, zero, suc, ◌+◌, ◌<◌, ◌≤◌, ◌⊎◌, inl, inr, List, [], ◌++◌, length, ap, sym, subst, ◌∙◌, arith}
 use Rattle.std.specs.Prelude.{slice_set, Option}
-use Rattle.std.proofs.lemmas.List.{get_or_past, get_or-set_other}
+use Rattle.std.proofs.lemmas.List.{get_or_past}
 use Rattle.pk_calls.specs.declared.listings.CallPath.{CallPath}
 use Rattle.pk_calls.specs.Calls.{calls_of}
-use Rattle.pk_draft.specs.declared.drafts.Label.{Label}
 use Rattle.pk_draft.specs.declared.drafts.Region.{Region}
-use Rattle.pk_draft.specs.Drafts.{DraftOf, no_label, no_region, standing}
+use Rattle.pk_draft.specs.Drafts.{DraftOf, no_region, standing}
 use Rattle.pk_lower.specs.Parts as part
-use Rattle.pk_typed_draft.proofs.Places.{Holds}
-use Rattle.pk_typed_draft.proofs.Plans.{World, Draft, base, sizes, size_of, Lasting, Plan, PathIs}
-use Rattle.pk_visits.proofs.Slots.{Slot, slots, Edge, Among, label_at, region_at, Uncalled, Keeps, Never}
-use Rattle.pk_visits.proofs.StatementGrows.{Adds, Free, upto, upto_from, upto_before, upto_has}
-use Rattle.pk_visits.proofs.Stages.{among_front, among_back, among_either}
+use Rattle.pk_typed_draft.proofs.Plans.{World, Draft, Lasting, Plan, PathIs}
+use Rattle.pk_visits.proofs.Slots.{Slot, Among, label_at, region_at, Uncalled, Never}
+use Rattle.pk_visits.proofs.StatementGrows.{Adds, upto, upto_has}
+use Rattle.pk_visits.proofs.Stages.{among_front, among_back}
 use Rattle.pk_visits.proofs.Stands.{Whole, Leads}
 use Rattle.pk_visits.proofs.PartGrows.{closed_adds}
 use Rattle.pk_visits.proofs.NumberedNames.{names_by, draft_by}
@@ -22,11 +20,11 @@ use Rattle.pk_followed.proofs.KeptPoints.{kept_points, keeps_point, listed_or_no
 
 -- from the end of the body to that of the part
 pub part_closes : (W : World) (f : W.table.Variable → Slot) (k n : ℕ) (p : CallPath) (h : PathIs W k n p) (d : Draft W)
-    → Adds [] Free Uncalled (standing (part.placed_entry p.caller (part.begun (context_at W k n p) h.function h.body p.caller (region_at d.regions k) (draft_by f d))).here (body_ended W f k n p h d)) (draft_by f (part_at W k n p d))
+    → Adds [] Never Uncalled (standing (part.placed_entry p.caller (part.begun (context_at W k n p) h.function h.body p.caller (region_at d.regions k) (draft_by f d))).here (body_ended W f k n p h d)) (draft_by f (part_at W k n p d))
 part_closes W f k n p h d =
     let l = (part.placed_entry p.caller (part.begun (context_at W k n p) h.function h.body p.caller (region_at d.regions k) (draft_by f d))).here in
-    subst (Adds [] Free Uncalled (standing l (body_ended W f k n p h d))) (closed_is W f k n p h d)
-    (closed_adds [] Uncalled (context_at W k n p) h.function h.body (body_exit W f k n p h d) (standing l (body_ended W f k n p h d)))
+    subst (Adds [] Never Uncalled (standing l (body_ended W f k n p h d))) (closed_is W f k n p h d)
+    (closed_adds [] Never Uncalled (context_at W k n p) h.function h.body (body_exit W f k n p h d) (standing l (body_ended W f k n p h d)))
 
 -- the draft behind the part, and the part of those behind it
 abbrev pub behind : (W : World) (f : W.table.Variable → Slot) (g : Draft W) (k : ℕ) → PathAt W f g k → Draft W
@@ -93,7 +91,7 @@ body_leads W l f d g is k q = record {
   rest : PartsAdd W f (k + 1) n e d
   rest = rest_adds W l f d k q
 
-  close : Adds [] Free Uncalled (standing (part.placed_entry q.path.caller (part.begun (context_at W k q.first q.path) q.place.function q.place.body q.path.caller (region_at q.before.regions k) (draft_by f q.before))).here Z) (draft_by f e)
+  close : Adds [] Never Uncalled (standing (part.placed_entry q.path.caller (part.begun (context_at W k q.first q.path) q.place.function q.place.body q.path.caller (region_at q.before.regions k) (draft_by f q.before))).here Z) (draft_by f e)
   close = part_closes W f k q.first q.path q.place q.before
 
   plan : Plan W (k + 1) n e

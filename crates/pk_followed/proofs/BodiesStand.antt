@@ -1,12 +1,9 @@
 -- Each path's body stands in the graph of its unit, where its first point shows its place, what it declares is settled, and its end is closed.
-use Rattle.std.proofs.Common.{◌≡◌, ℕ, zero, suc, ◌+◌, ◌<◌, ◌≤◌, ◌⊎◌, inl, inr, List, [], ◌∷◌, ◌++◌, length, Option, false, refl, ap, sym, subst, ◌∙◌, arith}
+use Rattle.std.proofs.Common.{◌≡◌, ℕ, ◌+◌, ◌<◌, ◌⊎◌, inl, inr, List, length, false, refl, ap, sym, subst, ◌∙◌, arith}
 use Rattle.pk_typed.specs.Trees.{BodyTree, UnitTree}
 use Rattle.pk_calls.specs.declared.listings.CallPath.{CallPath}
-use Rattle.pk_calls.specs.Calls.{HasBody, calls_of}
-use Rattle.pk_calls.specs.Paths.{IsListing}
-use Rattle.pk_calls.specs.Laws.{AreCallPaths}
 use Rattle.pk_welltyped.specs.Listed.{calls_in_items}
-use Rattle.pk_welltyped.specs.WellTyped.{IsUnit, Marks, AreItems}
+use Rattle.pk_welltyped.specs.WellTyped.{Marks, AreItems}
 use Rattle.pk_draft.specs.declared.drafts.Region.{Region}
 use Rattle.pk_draft.specs.Drafts.{DraftOf}
 use Rattle.pk_lower_row.specs.Contexts.{Context}
@@ -16,12 +13,12 @@ use Rattle.pk_lower_statement.specs.Statements.{lowered_items}
 use Rattle.pk_meaning.specs.Programs.{block_of, body_scope}
 use Rattle.pk_meaning.specs.Work.{Place}
 use Rattle.pk_meaning.specs.Steps.{place}
-use Rattle.pk_typed_draft.proofs.Plans.{World, Draft, Lasting, PathIs}
+use Rattle.pk_typed_draft.proofs.Plans.{World, Draft, Lasting}
 use Rattle.pk_visits.proofs.Slots.{Slot, Among, region_at}
 use Rattle.pk_visits.proofs.Settled.{SettleAll}
 use Rattle.pk_visits.proofs.StatementGrows.{upto, upto_has}
 use Rattle.pk_visits.proofs.Stages.{among_front}
-use Rattle.pk_visits.proofs.Stands.{Whole, context_of, final, around, Held, AreCalm, Stage, Marking, Ended, BodyOf}
+use Rattle.pk_visits.proofs.Stands.{Whole, context_of, final, Held, AreCalm, Stage, Marking, Ended, BodyOf}
 use Rattle.pk_visits.proofs.Cases.{fresh_point}
 use Rattle.pk_visits.proofs.PartGrows.{begun_point, begun_points, placed_point, placed_points}
 use Rattle.pk_visits.proofs.NumberedNames.{draft_by}
@@ -32,7 +29,7 @@ use Rattle.pk_followed.proofs.Paths.{function_is}
 use Rattle.pk_followed.proofs.BodyCloses.{body_closes}
 use Rattle.pk_followed.proofs.Pairs.{slot_of, whole, world, AreTyped}
 use Rattle.pk_followed.proofs.Graphs.{graph}
-use Rattle.pk_followed.proofs.PartAdds.{context_at, part_at, body_begun, body_exit, body_ended, part_adds}
+use Rattle.pk_followed.proofs.PartAdds.{context_at, body_begun, body_exit, part_adds}
 use Rattle.pk_followed.proofs.Pending.{PathAt}
 use Rattle.pk_followed.proofs.KeptPoints.{kept_points}
 use Rattle.pk_followed.proofs.Bodies.{behind, body_marks, rest_adds}

@@ -1,6 +1,6 @@
 -- The end of a path's body: what falling off it does, and the way to its exit.
-use Rattle.std.proofs.Common.{◌≡◌, ℕ, ◌+◌, ◌<◌, ◌≤◌, ◌⊎◌, inl, inr, List, [], ◌∷◌, length, Bool, true, false, Option, Some, None, if◌then◌else◌, refl, ap, sym, subst, ◌∙◌, arith, pos}
-use Rattle.std.proofs.lemmas.List.{get_or-set_same, length-set}
+use Rattle.std.proofs.Common.{◌≡◌, ℕ, ◌+◌, ◌<◌, ◌≤◌, inr, List, length, Bool, true, false, Option, Some, None, if◌then◌else◌, refl, ap, sym, subst, ◌∙◌, arith, pos}
+use Rattle.std.proofs.lemmas.List.{get_or-set_same}
 use Rattle.pk_ctypes.specs.declared.places.Pos.{Pos}
 use Rattle.pk_ctypes.specs.declared.types.IntType.{IntType}
 use Rattle.pk_typed.specs.Trees.{BodyTree, FunctionTree}
@@ -10,17 +10,17 @@ use Rattle.pk_draft.specs.Drafts.{Names, DraftOf, no_label, on, standing, go, em
 use Rattle.pk_lower_row.specs.Contexts.{Context, own_result}
 use Rattle.pk_lower.specs.Parts as part
 use Rattle.pk_meaning.specs.Objects.{Scope, result}
-use Rattle.pk_meaning.specs.Programs.{function_of, block_of, body_scope, is_main}
+use Rattle.pk_meaning.specs.Programs.{function_of, block_of, body_scope}
 use Rattle.pk_meaning.specs.Steps.{place, body_place}
-use Rattle.pk_typed_draft.proofs.Plans.{World, Draft, size_of, Lasting}
+use Rattle.pk_typed_draft.proofs.Plans.{World, Draft, Lasting}
 use Rattle.pk_visits.proofs.Slots.{Slot, own, slots, Edge, edge, Among, label_at, front_among, last_among, Uncalled}
 use Rattle.pk_visits.proofs.StatementGrows.{fresh_grows}
-use Rattle.pk_visits.proofs.Stands.{Whole, Held, AreCalm, EndedBy, Ended, ShowsAt, end_place}
+use Rattle.pk_visits.proofs.Stands.{Whole, Held, AreCalm, EndedBy, Ended, end_place}
 use Rattle.pk_visits.proofs.Doom.{calm_plain}
 use Rattle.pk_visits.proofs.Operands.{all_own}
 use Rattle.pk_visits.proofs.PartGrows.{begun_position, placed_here}
-use Rattle.pk_visits.proofs.NumberedNames.{draft_by, names_by}
-use Rattle.pk_followed.proofs.PartAdds.{context_at, part_at, body_begun, body_exit, body_ended, body_closed, closed_is, part_adds, part_ends}
+use Rattle.pk_visits.proofs.NumberedNames.{draft_by}
+use Rattle.pk_followed.proofs.PartAdds.{context_at, part_at, body_begun, body_exit, body_ended, closed_is, part_adds, part_ends}
 use Rattle.pk_followed.proofs.Pending.{PathAt}
 use Rattle.pk_followed.proofs.Bodies.{behind, rest_adds, part_closes}
 use Rattle.pk_followed.proofs.BodyStages.{IsWholeOf}

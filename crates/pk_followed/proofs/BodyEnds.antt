@@ -1,17 +1,13 @@
 -- Points that a path's part makes outside its calls' regions keep their labels to the end: its exit, and what closes its body.
-use Rattle.std.proofs.Common.{◌≡◌, ℕ, suc, ◌+◌, ◌<◌, ◌≤◌, ◌⊎◌, inl, inr, List, [], ◌∷◌, length, false, refl, ap, sym, subst, ◌∙◌, arith}
+use Rattle.std.proofs.Common.{◌≡◌, ℕ, ◌+◌, ◌<◌, ◌≤◌, ◌⊎◌, inl, inr, [], length, false, refl, ap, sym, ◌∙◌, arith}
 use Rattle.pk_calls.specs.declared.listings.CallPath.{CallPath}
-use Rattle.pk_calls.specs.Calls.{calls_of}
-use Rattle.pk_welltyped.specs.Listed.{Numbered, calls_in_items}
+use Rattle.pk_welltyped.specs.Listed.{calls_in_items}
 use Rattle.pk_welltyped.specs.WellTyped.{Around, Marks}
-use Rattle.pk_draft.specs.declared.drafts.Label.{Label}
 use Rattle.pk_draft.specs.declared.drafts.Region.{Region}
 use Rattle.pk_draft.specs.declared.drafts.Size.{Size}
 use Rattle.pk_draft.specs.Drafts.{DraftOf, fresh}
-use Rattle.pk_lower_row.specs.Contexts.{Context}
 use Rattle.pk_lower.specs.Parts as part
-use Rattle.pk_typed_draft.proofs.Places.{Holds}
-use Rattle.pk_typed_draft.proofs.Plans.{World, Draft, base, sizes, size_of, Lasting, Plan, PathIs}
+use Rattle.pk_typed_draft.proofs.Plans.{World, Draft, size_of, Lasting, PathIs}
 use Rattle.pk_visits.proofs.Slots.{Slot, Among, Takes, label_at, region_at, Uncalled}
 use Rattle.pk_visits.proofs.StatementGrows.{Enlarges, Free, upto, upto_from, upto_has, fresh_grows, block}
 use Rattle.pk_visits.proofs.Stages.{all_called}
@@ -123,7 +119,7 @@ exit_label W l f d g is k q = own_label W l f d g is k q p (inl (omega (exit, ar
       kept : 0 < (region_at q.before.regions k).points
       kept = (q.plan.kept k q.place.below).kept
 
-      close : Rattle.pk_visits.proofs.StatementGrows.Adds [] Free Uncalled (Rattle.pk_draft.specs.Drafts.standing o.here (body_ended W f k q.first q.path q.place q.before)) (draft_by f (part_at W k q.first q.path q.before))
+      close : Rattle.pk_visits.proofs.StatementGrows.Adds [] Rattle.pk_visits.proofs.Slots.Never Uncalled (Rattle.pk_draft.specs.Drafts.standing o.here (body_ended W f k q.first q.path q.place q.before)) (draft_by f (part_at W k q.first q.path q.before))
       close = part_closes W f k q.first q.path q.place q.before
 
       items : Enlarges (upto q.place.body.labels (p + 1)) Free (IsCalled (context_at W k q.first q.path) (calls_in_items q.place.body.items)) (body_begun W f k q.first q.path q.place q.before) (body_ended W f k q.first q.path q.place q.before)

@@ -1,5 +1,5 @@
 -- The stage of a path's body in the whole graph.
-use Rattle.std.proofs.Common.{◌≡◌, ℕ, zero, suc, ◌+◌, ◌<◌, ◌≤◌, ◌⊎◌, inl, inr, List, [], ◌∷◌, length, refl, ap, sym, subst, ◌∙◌, arith}
+use Rattle.std.proofs.Common.{◌≡◌, ℕ, ◌+◌, ◌<◌, ◌≤◌, ◌⊎◌, inl, inr, List, [], ◌∷◌, length, refl, ap, sym, subst, ◌∙◌, arith}
 use Rattle.std.proofs.lemmas.List.{get_or_past}
 use Rattle.std.proofs.lemmas.Option.{slice_get_within}
 use Rattle.pk_typed.specs.declared.units.CallSite.{CallSite}
@@ -18,7 +18,7 @@ use Rattle.pk_typed_draft.proofs.Wholes.{same_calls}
 use Rattle.pk_visits.proofs.Slots.{Slot, Among, region_at, Uncalled}
 use Rattle.pk_visits.proofs.StatementGrows.{upto, upto_from, upto_before, Enlarges, Free}
 use Rattle.pk_visits.proofs.Stages.{among_either}
-use Rattle.pk_visits.proofs.Stands.{Whole, context_of, led_to, Distinct, IsCalled, IsReserved, Stage}
+use Rattle.pk_visits.proofs.Stands.{Whole, context_of, led_to, Distinct, IsReserved, Stage}
 use Rattle.pk_visits.proofs.PartGrows.{entry_marks, first_of, opened_enlarges}
 use Rattle.pk_visits.proofs.NumberedNames.{draft_by}
 use Rattle.pk_followed.proofs.Paths.{numbered_at}

@@ -1,5 +1,5 @@
 -- Points of regions that are kept for later paths, as a list.
-use Rattle.std.proofs.Common.{◌≡◌, ℕ, zero, suc, ◌+◌, ◌<◌, ◌≤◌, ◌⊎◌, inl, inr, List, [], ◌∷◌, ◌++◌, refl, subst, arith}
+use Rattle.std.proofs.Common.{◌≡◌, ℕ, zero, suc, ◌+◌, ◌<◌, ◌≤◌, ◌⊎◌, inl, inr, List, [], ◌∷◌, ◌++◌, subst, arith}
 use Rattle.pk_draft.specs.declared.drafts.Region.{Region}
 use Rattle.pk_typed_draft.proofs.Places.{Holds}
 use Rattle.pk_typed_draft.proofs.Plans.{World, base, size_of}

@@ -18,3 +18,6 @@ mod Arguments
 mod Beginnings
 mod Starting
 mod Followed
+mod EntryPoint
+mod BodiesSettled
+mod PathBodies

@@ -7,6 +7,7 @@ use Rattle.pk_draft.specs.declared.drafts.Region.{Region}
 use Rattle.pk_lower.specs.Parts as part
 use Rattle.pk_typed_draft.proofs.Places.{Holds}
 use Rattle.pk_typed_draft.proofs.Plans.{World, Draft, base, sizes, size_of, Lasting, Plan, PathIs, part_made_is}
+use Rattle.pk_typed_draft.proofs.Drafts.{behind_part, ends_in, function_from}
 use Rattle.pk_typed_draft.proofs.Wholes.{Paths, next_plan}
 use Rattle.pk_visits.proofs.Slots.{Slot, slots, Edge, Extends, Among, label_at, region_at}
 use Rattle.pk_visits.proofs.PartGrows.{entry_marks}
@@ -101,6 +102,7 @@ pub record PathAt (W : World) (f : W.table.Variable → Slot) (g : Draft W) (j :
   pub plan : Plan W j first before
   pub names : names_by f before.names ≡ slots
   pub first_is : first ≡ first_of W.unit W.paths j
+  pub ends : W.ends j ≡ ends_in W.unit path.function (part_at W j first path before)
   pub others : List CallPath
   pub paths : Paths W (j + 1) (first + length (calls_of W.unit path.function)) others
   pub callers : HaveCallers others
@@ -115,14 +117,14 @@ callers_behind : (ps : List CallPath) → HaveCallers ps → HaveCallersBehind p
 callers_behind [] h = tt
 callers_behind (p ∷ ps) h = h.1
 
-pub path_at : (W : World) → Lasting W → (f : W.table.Variable → Slot) (k n : ℕ) (ps : List CallPath) → Paths W k n ps → HaveCallersBehind ps → (d : Draft W) → Plan W k n d → names_by f d.names ≡ slots → ((i : ℕ) → slice_index_or (firsts_from W.unit n ps) i 0 ≡ first_of W.unit W.paths (k + i)) → (i : ℕ) → i < length ps → PathAt W f (part.parts_from W.unit (sizes W) k n ps d) (k + i)
-unfolding part.parts_from
-path_at W l f k n [] h o d plan ns ones i low = absurd (omega (low, arith))
-path_at W l f k n (p ∷ ps) h o d plan ns ones zero low =
+pub path_at : (W : World) → Lasting W → (f : W.table.Variable → Slot) (k n : ℕ) (ps : List CallPath) → Paths W k n ps → HaveCallersBehind ps → (d : Draft W) → Plan W k n d → names_by f d.names ≡ slots → ((i : ℕ) → slice_index_or (firsts_from W.unit n ps) i 0 ≡ first_of W.unit W.paths (k + i)) → ((i : ℕ) → i < length ps → W.ends (k + i) ≡ ends_in W.unit (function_from ps i) (behind_part W.unit (sizes W) k n ps d i)) → (i : ℕ) → i < length ps → PathAt W f (part.parts_from W.unit (sizes W) k n ps d) (k + i)
+unfolding part.parts_from behind_part
+path_at W l f k n [] h o d plan ns ones ends i low = absurd (omega (low, arith))
+path_at W l f k n (p ∷ ps) h o d plan ns ones ends zero low =
     let at : k ≡ k + zero = omega arith in
     subst (PathAt W f (part.parts_from W.unit (sizes W) (k + 1) (n + length (calls_of W.unit p.function)) ps (part_at W k n p d))) at
-    (record { first = n; path = p; place = h.0; before = d; plan = plan; names = ns; first_is = ones zero ∙ ap (first_of W.unit W.paths) (sym at); others = ps; paths = h.1; callers = o; rest = refl })
-path_at W l f k n (p ∷ ps) h o d plan ns ones (suc i) low =
+    (record { first = n; path = p; place = h.0; before = d; plan = plan; names = ns; first_is = ones zero ∙ ap (first_of W.unit W.paths) (sym at); ends = ap W.ends at ∙ ends zero low; others = ps; paths = h.1; callers = o; rest = refl })
+path_at W l f k n (p ∷ ps) h o d plan ns ones ends (suc i) low =
     let at : k + 1 + i ≡ k + suc i = omega arith in
     let m = n + length (calls_of W.unit p.function) in
-    subst (PathAt W f (part.parts_from W.unit (sizes W) (k + 1) m ps (part_at W k n p d))) at (path_at W l f (k + 1) m ps h.1 (callers_behind ps o) (part_at W k n p d) (next_part W l k n p h.0 d plan) ((part_adds W l f k n p h.0 d).names ∙ ns) (λ j. ones (suc j) ∙ ap (first_of W.unit W.paths) (omega arith)) i (omega (low, arith)))
+    subst (PathAt W f (part.parts_from W.unit (sizes W) (k + 1) m ps (part_at W k n p d))) at (path_at W l f (k + 1) m ps h.1 (callers_behind ps o) (part_at W k n p d) (next_part W l k n p h.0 d plan) ((part_adds W l f k n p h.0 d).names ∙ ns) (λ j. ones (suc j) ∙ ap (first_of W.unit W.paths) (omega arith)) (λ j b. let next : k + 1 + j ≡ k + suc j = omega arith in ap W.ends next ∙ ends (suc j) (omega (b, arith))) i (omega (low, arith)))

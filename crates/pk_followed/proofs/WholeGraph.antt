@@ -1,14 +1,12 @@
 -- The graph of a unit over slots is made of the parts of its paths.
-use Rattle.std.proofs.Common.{◌≡◌, ℕ, zero, suc, ◌+◌, ◌<◌, ◌≤◌, List, [], ◌∷◌, ◌++◌, length, map, Option, Some, None, refl, ap, sym, subst, ◌∙◌, arith, slice_index_or}
+use Rattle.std.proofs.Common.{◌≡◌, ℕ, ◌+◌, ◌<◌, List, [], ◌∷◌, ◌++◌, length, Option, refl, ap, sym, subst, ◌∙◌, arith}
 use Rattle.std.proofs.lemmas.List.{length-map, get_or-set_other}
-use Rattle.std.specs.Prelude.{unwrap_or}
 use Rattle.pk_ctypes.specs.declared.types.IntType.{IntType}
 use Rattle.pk_typed.specs.declared.units.CallSite.{CallSite}
 use Rattle.pk_typed.specs.Trees.{BodyTree, FunctionTree, LocalTree, UnitTree}
-use Rattle.pk_calls.specs.declared.listings.Caller.{Caller}
 use Rattle.pk_calls.specs.declared.listings.CallPath.{CallPath}
 use Rattle.pk_calls.specs.Calls.{HasBody, calls_of}
-use Rattle.pk_calls.specs.Paths.{entry_path, paths_by, longer, IsListing}
+use Rattle.pk_calls.specs.Paths.{paths_by, longer, IsListing}
 use Rattle.pk_calls.specs.Laws.{AreCallPaths}
 use Rattle.pk_welltyped.specs.WellTyped.{IsUnit}
 use Rattle.pk_graph.specs.Graphs.{VariableOf}
@@ -17,19 +15,18 @@ use Rattle.pk_lower_row.specs.Contexts.{Context}
 use Rattle.pk_lower.specs.Parts as part
 use Rattle.pk_lower.specs.Parts.{whole_size, sizes_of, program_draft}
 use Rattle.pk_meaning.specs.Programs.{function_of, block_of}
-use Rattle.pk_typed_draft.proofs.Plans.{World, Lasting, Plan, PathIs, size_of, sizes, place_at, part_is, part_made_is, its_function, body_at_is}
+use Rattle.pk_typed_draft.proofs.Plans.{Lasting, size_of, place_at, part_is, part_made_is, its_function, body_at_is}
 use Rattle.pk_typed_draft.proofs.Parts.{part_points}
-use Rattle.pk_typed_draft.proofs.Wholes.{Paths}
 use Rattle.pk_typed_draft.proofs.Firsts.{Counted, first_plan}
 use Rattle.pk_typed_draft.proofs.Drafts.{whole_made}
-use Rattle.pk_visits.proofs.Slots.{Slot, slots, label_at, region_at}
+use Rattle.pk_visits.proofs.Slots.{Slot, label_at, region_at}
 use Rattle.pk_visits.proofs.Stands.{context_of}
 use Rattle.pk_visits.proofs.NumberedNames.{draft_by}
 use Rattle.pk_visits.proofs.NumberedParts.{program_by}
 use Rattle.pk_followed.proofs.Paths.{first_of, block_is, function_is}
 use Rattle.pk_followed.proofs.Pairs.{Pair, pairs, slot_of, whole, begins, world, pair_made, AreTyped}
 use Rattle.pk_followed.proofs.Graphs.{graph, nobody, over_slots, program_of}
-use Rattle.pk_followed.proofs.PartAdds.{context_at, part_at, part_ends}
+use Rattle.pk_followed.proofs.PartAdds.{context_at, part_ends}
 use Rattle.pk_followed.proofs.Pending.{HaveCallers, HaveCallersBehind, PathAt, path_at}
 use Rattle.pk_followed.proofs.Bodies.{IsGraphOf}
 use Rattle.pk_followed.proofs.BodyStages.{IsWholeOf}
@@ -62,7 +59,7 @@ paths_at u entry paths h has l are a k low =
     let same = length-map g.made (λ (v : VariableOf). v.kind) in
     let c : Counted W = record { some = (let z = ap length l.in_order in omega (z, arith)); files = refl; kinds = omega (same, many, arith); points = refl } in
     let at : 0 + k ≡ k = omega arith in
-    subst (PathAt W slot_of g) at (path_at W a.lasts slot_of 0 1 paths a.paths_are (callers_in u entry paths l) (begins u paths) (first_plan W c) refl (λ i. ap (first_of u paths) (omega arith)) k low)
+    subst (PathAt W slot_of g) at (path_at W a.lasts slot_of 0 1 paths a.paths_are (callers_in u entry paths l) (begins u paths) (first_plan W c) refl (λ i. ap (first_of u paths) (omega arith)) (λ i b. let at : 0 + i ≡ i = omega arith in ap W.ends at) k low)
 
 -- ---- the graph
 

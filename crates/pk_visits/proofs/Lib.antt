@@ -36,7 +36,7 @@ mod Returns
 mod Thirds
 mod Fills
 mod Firsts
-mod Shown
+pub mod Shown
 mod Starts
 mod Declared
 mod Choices
@@ -47,6 +47,7 @@ mod Going
 mod Jumps
 mod Followed
 pub mod PartGrows
+pub mod ParametersShown
 pub mod NumberedEdges
 pub mod NumberedStores
 pub mod NumberedCopies

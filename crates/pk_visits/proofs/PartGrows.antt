@@ -36,7 +36,7 @@ parameter_enlarges ms C c None i d =
     path_then (object_enlarges ms Free C i (entry_parameter x.name x.int_type x.length c.path) d tt) (named_enlarges ms Free C x.name d.variables e)
 parameter_enlarges ms C c (Some caller) i d = introduced_enlarges ms Free C c i d tt
 
-parameters_enlarge : (ms : List ℕ) (C : ℕ → Size → Type 0) (c : Context) (from : Option Caller) (i : ℕ) (ts : List IntType) (d : Draft) → Enlarges ms Free C d (all_introduced c from i ts d)
+pub parameters_enlarge : (ms : List ℕ) (C : ℕ → Size → Type 0) (c : Context) (from : Option Caller) (i : ℕ) (ts : List IntType) (d : Draft) → Enlarges ms Free C d (all_introduced c from i ts d)
 unfolding all_introduced
 parameters_enlarge ms C c from i [] d = enlarges ms Free C d d (nothing_adds ms Free C d)
 parameters_enlarge ms C c from i (t ∷ ts) d = path_then (parameter_enlarges ms C c from i d) (parameters_enlarge ms C c from (i + 1) ts (introduced_parameter c from i d))
@@ -158,12 +158,12 @@ marking_body m n p ms labels cases default = record {
   default = λ h. absurd (let e = sym default ∙ h in grind (arith, e));
 }
 
-ended_adds : (ms : List ℕ) (C : ℕ → Size → Type 0) (c : Context) (name : List ℕ) (t : Option IntType) (d : Draft) → Adds ms Free C d (ended c name t d)
-ended_adds ms C c name None d = nothing_adds ms Free C d
-ended_adds ms C c name (Some t) d = by (is_main name) where
-  by : (b : Bool) → Adds ms Free C d (if b then emit (Set (own_result c d) (constant t (pos 0))) d else emit (Havoc (own_result c d) t 1) d)
-  by true = emit_adds ms Free C (Set (own_result c d) (constant t (pos 0))) d
-  by false = emit_adds ms Free C (Havoc (own_result c d) t 1) d
+ended_adds : (ms : List ℕ) (S : ℕ → Type 0) (C : ℕ → Size → Type 0) (c : Context) (name : List ℕ) (t : Option IntType) (d : Draft) → Adds ms S C d (ended c name t d)
+ended_adds ms S C c name None d = nothing_adds ms S C d
+ended_adds ms S C c name (Some t) d = by (is_main name) where
+  by : (b : Bool) → Adds ms S C d (if b then emit (Set (own_result c d) (constant t (pos 0))) d else emit (Havoc (own_result c d) t 1) d)
+  by true = emit_adds ms S C (Set (own_result c d) (constant t (pos 0))) d
+  by false = emit_adds ms S C (Havoc (own_result c d) t 1) d
 
 -- at another label of the path
 standing_enlarges : (ms : List ℕ) (C : ℕ → Size → Type 0) (l : Label) (d e : Draft) → l.path ≡ d.here.path → Enlarges ms Free C d e → Enlarges ms Free C d (standing l e)
@@ -188,10 +188,10 @@ standing_enlarges ms C l d e is a = record {
 }
 
 -- behind its items, to its exit
-pub closed_adds : (ms : List ℕ) (C : ℕ → Size → Type 0) (c : Context) (g : FunctionTree) (b : BodyTree) (q : ℕ) (d : Draft) → Adds ms Free C d (go Skip q (ended c g.name g.returns (on b.closed d)))
-closed_adds ms C c g b q d =
+pub closed_adds : (ms : List ℕ) (S : ℕ → Type 0) (C : ℕ → Size → Type 0) (c : Context) (g : FunctionTree) (b : BodyTree) (q : ℕ) (d : Draft) → Adds ms S C d (go Skip q (ended c g.name g.returns (on b.closed d)))
+closed_adds ms S C c g b q d =
     let o = on b.closed d in
-    stays_then (on_adds ms Free C b.closed d) (stays_then (ended_adds ms C c g.name g.returns o) (link_adds ms Free C Skip q (ended c g.name g.returns o)))
+    stays_then (on_adds ms S C b.closed d) (stays_then (ended_adds ms S C c g.name g.returns o) (link_adds ms S C Skip q (ended c g.name g.returns o)))
 
 -- a body from between its braces
 body_enlarges : (ms : List ℕ) (C : ℕ → Size → Type 0) (c : Context) (g : FunctionTree) (b : BodyTree) (a : Around) (m : Marks) (d : Draft) → AreItems a m b.items → m.labels ≡ b.labels → m.cases ≡ 0 → m.has_default ≡ false → AllCalled C c (calls_in_items b.items)
@@ -207,7 +207,7 @@ body_enlarges ms C c g b a m d fits labels cases default called =
     let opens : Enlarges all Free C d o = enlarges all Free C d o (fresh_adds all Free C (b.labels + 1) d) in
     let items : Enlarges all Free C o e = block C c a m b.items x all Free (λ i h. tt) fits (marking_body m b.labels d.points ms labels cases default) called o in
     let back : Enlarges all Free C d f = standing_enlarges all C d.here d e refl (path_then opens items) in
-    let rest : Enlarges all Free C f (body_draft c g b d) = enlarges all Free C f (body_draft c g b d) (closed_adds all C c g b d.points f) in
+    let rest : Enlarges all Free C f (body_draft c g b d) = enlarges all Free C f (body_draft c g b d) (closed_adds all Free C c g b d.points f) in
     let whole : Enlarges all Free C d (body_draft c g b d) = path_then back rest in
     let i = items.points in
     let j = rest.points in
