@@ -17,6 +17,7 @@ mod BodiesStand
 mod Arguments
 mod Beginnings
 mod Starting
+mod Begins
 mod Followed
 mod EntryPoint
 mod BodiesSettled

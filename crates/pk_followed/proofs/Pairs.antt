@@ -20,7 +20,7 @@ use Rattle.pk_welltyped.specs.WellTyped.{IsUnit}
 use Rattle.pk_meaning.specs.Objects.{Object, file, local, result}
 use Rattle.pk_typed_draft.proofs.Tables.{Table}
 use Rattle.pk_typed_draft.proofs.Noted.{calls_are_noted}
-use Rattle.pk_typed_draft.proofs.Places.{Place, Ends, Has, IsOwn, IsObjectOf, inner_object, outer_object, variable_in}
+use Rattle.pk_typed_draft.proofs.Places.{Place, Ends, Has, IsOwn, IsObjectOf, inner_object, outer_object, variable_in, Grown, region_at}
 use Rattle.pk_typed_draft.proofs.Plans.{World, Draft, place, Lasting, PathMade, AllTyped, Foreknown}
 use Rattle.pk_typed_draft.proofs.Wholes.{Paths, IsAmong, among, kinds_of, kind_is, wholes, foreknown}
 use Rattle.pk_typed_draft.proofs.Firsts.{first, first_made, files_are, Counted, first_plan, first_typed}
@@ -199,6 +199,8 @@ pub record AreTyped (u : UnitTree) (paths : List CallPath) : Type 1 where
   pub paths_are : Paths (world u paths) 0 1 paths
   pub known : Foreknown (world u paths) (whole u paths)
   pub typed : AllTyped (world u paths) (whole u paths)
+  pub scopes : Grown (begins u paths).scopes (whole u paths).scopes
+  pub entry : region_at (whole u paths).regions 0 ≡ region_at (begins u paths).regions 0
   pub many : length u.objects ≤ length (whole u paths).made
   pub low : (y : ℕ) → y < length u.objects → final u paths y ≡ variable_in (first_made u (whole_size (sizes_of u paths) paths)) y
   pub parts : (j : ℕ) → j < length paths → PartOf (world u paths) (whole u paths) j
@@ -226,6 +228,8 @@ pairs_are_typed u entry paths h has l are =
       paths_are = ps;
       known = known;
       typed = all.part.typed known start;
+      scopes = all.part.scopes;
+      entry = all.part.regions 0 (omega arith);
       many = omega (many, arith);
       low = λ y q. ap (λ (xs : List VariableOf). variable_in xs y) (pair_made u paths) ∙ made.1 y q;
       made = λ j p e. let at : 0 + j ≡ j = omega arith in all.made j p (subst (λ (i : ℕ). IsAmong 0 paths i p) at (among 0 paths j p e));

@@ -75,6 +75,10 @@ chained_at (y ∷ ss) known (suc n) s e h =
     let at : length known + suc n ≡ length (known ++ l ∷ []) + n = omega (z, arith) in
     ap (λ (i : ℕ). slice_index_or (chained known (y ∷ ss)) i []) at ∙ chained_at ss (known ++ l ∷ []) n s e (omega (h, z, arith))
 
+-- nothing is in scope at place 0
+pub scope_nothing : (ss : List Scope) → scope_at ss 0 ≡ []
+scope_nothing ss = chained_same ss ([] ∷ []) 0 (omega arith)
+
 -- place n + 1 adds the variable of entry n to those of the place around it
 pub scope_behind : (ss : List Scope) → AreChained ss → (n : ℕ) (s : Scope) → slice_get ss n ≡ Some s → scope_at ss (n + 1) ≡ s.variable ∷ scope_at ss s.outer
 scope_behind ss h n s e =
