@@ -1,31 +1,28 @@
 -- Where a path's body begins, its point shows the names of the file's objects and of the parameters.
 use Rattle.std.proofs.Common.{◌≡◌, ℕ, zero, suc, ◌+◌, ◌<◌, ◌≤◌, ◌⊎◌, inl, inr, List, [], ◌∷◌, ◌++◌, length, map, Option, Some, None, refl, ap, sym, subst, ◌∙◌, arith, slice_index_or}
-use Rattle.std.proofs.lemmas.List.{length-map, length-replicate, get_or-set_same}
-use Rattle.std.specs.Prelude.{slice_get, option_map, unwrap_or, replicate}
+use Rattle.std.proofs.lemmas.List.{length-map}
+use Rattle.std.specs.Prelude.{slice_get, option_map, unwrap_or}
 use Rattle.pk_ctypes.specs.declared.types.IntType.{IntType}
 use Rattle.pk_ctypes.specs.declared.places.Pos.{Pos}
-use Rattle.pk_typed.specs.Trees.{LocalTree, BodyTree, FunctionTree, FileObjectTree, UnitTree}
+use Rattle.pk_typed.specs.Trees.{BodyTree, FunctionTree, FileObjectTree, UnitTree}
 use Rattle.pk_calls.specs.declared.listings.CallPath.{CallPath}
-use Rattle.pk_calls.specs.Paths.{IsListing}
 use Rattle.pk_calls.proofs.LeadLemmas.{slice_get_left}
 use Rattle.pk_graph.specs.declared.graphs.Scope.{Scope}
 use Rattle.pk_graph.specs.Graphs.{VariableOf, scope_at, no_variable}
 use Rattle.pk_draft.specs.declared.drafts.Label.{Label}
 use Rattle.pk_draft.specs.declared.drafts.Region.{Region}
-use Rattle.pk_draft.specs.Drafts.{DraftOf, no_region, file_scopes}
-use Rattle.pk_number.specs.Numbering.{entry_point}
+use Rattle.pk_draft.specs.Drafts.{DraftOf, file_scopes}
 use Rattle.pk_calls.specs.declared.listings.Caller.{Caller}
 use Rattle.pk_lower_row.specs.Contexts.{Context, no_local, local_at, parameters_of}
 use Rattle.pk_lower.specs.Parts as part
 use Rattle.pk_lower.specs.Parts.{file_variable, begun, all_introduced, with_result}
 use Rattle.pk_meaning.specs.Objects.{Object, file}
 use Rattle.pk_meaning.specs.Objects as objects
-use Rattle.pk_meaning.specs.Programs as program
-use Rattle.pk_meaning.specs.Programs.{function_of, block_of, local_of, name_of, file_scope, with_parameters, body_scope}
-use Rattle.pk_meaning.specs.Steps.{place, body_place}
+use Rattle.pk_meaning.specs.Programs.{block_of, local_of, name_of, file_scope, with_parameters, body_scope}
+use Rattle.pk_meaning.specs.Steps.{place}
 use Rattle.pk_typed_draft.proofs.Firsts.{scopes_many}
 use Rattle.pk_typed_draft.proofs.Places.{AreChained}
-use Rattle.pk_typed_draft.proofs.Plans.{World, PathIs, body_at_is}
+use Rattle.pk_typed_draft.proofs.Plans.{World, body_at_is}
 use Rattle.pk_visits.proofs.Slots.{Slot, own, Among, Extends, Uncalled, Grows, region_at}
 use Rattle.pk_visits.proofs.StatementGrows.{fresh_grows}
 use Rattle.pk_visits.proofs.Stands.{Proper}
@@ -35,8 +32,8 @@ use Rattle.pk_visits.proofs.PartGrows.{first_of, placed_here, begun_position}
 use Rattle.pk_followed.proofs.Paths.{block_is, function_is}
 use Rattle.pk_followed.proofs.Pairs.{slot_of, whole, world, AreTyped}
 use Rattle.pk_followed.proofs.Naming.{naming, Made, file_is}
-use Rattle.pk_followed.proofs.Graphs.{program_of, by_numbers, over_slots, IsOf, Shows, graph}
-use Rattle.pk_followed.proofs.Copies.{slots_are, numbers_are, file_made}
+use Rattle.pk_followed.proofs.Graphs.{program_of, by_numbers, IsOf, Shows, graph}
+use Rattle.pk_followed.proofs.Copies.{numbers_are, file_made}
 use Rattle.pk_followed.proofs.Propers.{scope_nothing, scope_behind}
 use Rattle.pk_followed.proofs.PartAdds.{context_at, body_begun}
 use Rattle.pk_followed.proofs.Pending.{PathAt}
@@ -153,8 +150,8 @@ module _ (u : UnitTree) (paths : List CallPath) (h : AreTyped u paths) (is : IsW
   here_is : O.here ≡ ready.here
   here_is = opened.here ∙ (placed_here q.path.caller begins_here ∙ result_here c q.place.function.returns ready)
 
-  position_is : O.here.at ≡ q.place.body.opened
-  position_is = ap (λ (l : Label). l.at) (opened.here ∙ placed_here q.path.caller begins_here) ∙ begun_position c q.place.function q.place.body q.path.caller r (draft_by slot_of q.before)
+  pub opened_position : O.here.at ≡ q.place.body.opened
+  opened_position = ap (λ (l : Label). l.at) (opened.here ∙ placed_here q.path.caller begins_here) ∙ begun_position c q.place.function q.place.body q.path.caller r (draft_by slot_of q.before)
 
   scopes_stay : Extends ready.scopes (graph u paths).scopes
   scopes_stay n z m =

@@ -19,6 +19,7 @@ mod Beginnings
 mod Starting
 mod Begins
 mod Followed
+mod Standing
 mod EntryPoint
 mod BodiesSettled
 mod PathBodies

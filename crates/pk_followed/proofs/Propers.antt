@@ -1,10 +1,10 @@
 -- What is known of a unit and its paths, as the graph over slots asks it.
-use Rattle.std.proofs.Common.{◌≡◌, ℕ, zero, suc, ◌+◌, ◌<◌, ◌≤◌, ◌⊎◌, inl, inr, List, [], ◌∷◌, ◌++◌, length, map, Bool, true, false, ◌&&◌, ◌||◌, nat_eq, Option, Some, None, refl, sym, ap, subst, ◌∙◌, arith, slice_index_or}
+use Rattle.std.proofs.Common.{◌≡◌, ℕ, zero, suc, ◌+◌, ◌<◌, inl, inr, List, [], ◌∷◌, ◌++◌, length, Bool, true, false, ◌&&◌, ◌||◌, nat_eq, Option, Some, refl, sym, ap, subst, ◌∙◌, arith, slice_index_or}
 use Rattle.std.proofs.lemmas.Bool.Decides.{eqb_tells}
-use Rattle.std.proofs.lemmas.Option.{none-some, slice_get_within, get_or_from_slice_get}
+use Rattle.std.proofs.lemmas.Option.{none-some, get_or_from_slice_get}
 use Rattle.std.specs.Prelude.{slice_get, option_map, unwrap_or}
 use Rattle.pk_ctypes.specs.declared.types.IntType.{IntType}
-use Rattle.pk_typed.specs.Trees.{LocalTree, BodyTree, FunctionTree, UnitTree}
+use Rattle.pk_typed.specs.Trees.{LocalTree, FunctionTree, UnitTree}
 use Rattle.pk_calls.specs.declared.listings.CallPath.{CallPath}
 use Rattle.pk_calls.specs.Paths.{entry_path, path_by, IsListing}
 use Rattle.pk_graph.specs.declared.graphs.Scope.{Scope}
@@ -16,8 +16,7 @@ use Rattle.pk_lower.specs.Parts.{body_at}
 use Rattle.pk_welltyped.specs.WellTyped.{kind_among, scalar}
 use Rattle.pk_meaning.specs.Objects.{Object, file, local, result, is_same}
 use Rattle.pk_meaning.specs.Objects as objects
-use Rattle.pk_meaning.specs.Programs as program
-use Rattle.pk_meaning.specs.Programs.{function_number, function_of, block_of, local_of, name_of}
+use Rattle.pk_meaning.specs.Programs.{function_of, block_of, name_of}
 use Rattle.pk_meaning.specs.Work.{Place}
 use Rattle.pk_meaning.specs.Steps.{place}
 use Rattle.pk_typed_draft.proofs.Places.{AreChained}
@@ -26,7 +25,7 @@ use Rattle.pk_typed_draft.proofs.Plans.{its_parameters}
 use Rattle.pk_typed_draft.proofs.Each.{PartOf}
 use Rattle.pk_visits.proofs.Slots.{own, Among, Draft}
 use Rattle.pk_visits.proofs.Stands.{Proper, HasKind}
-use Rattle.pk_followed.proofs.Paths.{first_of, call_is, callee_is, function_is, block_is}
+use Rattle.pk_followed.proofs.Paths.{first_of, call_is, callee_is, function_is}
 use Rattle.pk_followed.proofs.Pairs.{whole, final, ends_of, IsLocal, locals_at, world, function_at_path, AreTyped}
 use Rattle.pk_followed.proofs.Naming.{naming, Made}
 use Rattle.pk_followed.proofs.Graphs.{program_of, by_numbers, over_slots, IsOf, Shows, graph}
