@@ -15,7 +15,7 @@ use Rattle.pk_front.specs.Laws.{HasEnd, analysed, is_left}
 use Rattle.pk_total.specs.Ends.{EveryTextEnds}
 use Rattle.pk_lower.specs.Parts.{point_count}
 use Rattle.pk_graph.specs.Graphs.{GraphOf}
-use Rattle.pk_top.specs.Answers.{HasGraph, GraphsAreWellMade, IsShort, IsLong, entry_of, graph_of, text_limit, point_limit, options_of, default_options, default_runs}
+use Rattle.pk_told.specs.Answers.{HasGraph, GraphsAreWellMade, IsShort, IsLong, entry_of, graph_of, text_limit, point_limit, options_of, default_options, default_runs}
 use Rattle.pk_answered.specs.Analyses.{EveryGraphIsReported, EveryGraphIsSummed, EveryGraphIsOrdered}
 use Rattle.pk_answered.specs.Answers.{GraphsHaveRoom, HasReply, OrdersAreAnswered, CommandsAreAnswered, WordsAreAnswered, WordsForOrdersAreAnswered}
 

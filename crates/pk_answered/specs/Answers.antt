@@ -6,7 +6,7 @@ use Rattle.pk_command.specs.declared.asked.OrderOptions.{OrderOptions}
 use Rattle.pk_command.specs.Given.{AsksFor}
 use Rattle.pk_front.specs.declared.status.Status.{Status}
 use Rattle.pk_graph.specs.Graphs.{GraphOf}
-use Rattle.pk_top.specs.Answers.{HasGraph, IsReply, IsAnswer}
+use Rattle.pk_told.specs.Answers.{HasGraph, IsReply, IsAnswer}
 use Rattle.pk_answered.specs.Analyses.{HasRoom}
 use Rattle.pk_answered.specs.Rooms.{IsShortGraph}
 

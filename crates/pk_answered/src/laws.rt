@@ -6,7 +6,7 @@ ghost use Rattle.pk_answered.specs.Answers.{CommandsAreAnswered, OrdersAreAnswer
 
 use pk_command::taken_asks;
 use pk_exists::every_digraph_has_an_order;
-use pk_top::graphs_are_well_made;
+use pk_told::graphs_are_well_made;
 use pk_total::every_text_ends;
 
 /// Memory has room for every graph with no list as long as 2^63.

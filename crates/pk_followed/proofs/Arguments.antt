@@ -1,7 +1,6 @@
 -- What the objects hold when a run begins.
-use Rattle.std.proofs.Common.{◌≡◌, ◌≢◌, ℕ, zero, suc, ◌+◌, ◌-◌, ◌<◌, ◌≤◌, ◌⊎◌, inl, inr, List, [], ◌∷◌, ◌++◌, length, map, Bool, true, false, ◌&&◌, nat_eq, if◌then◌else◌, Option, Some, None, refl, sym, ap, subst, ◌∙◌, arith, ℤ, pos, replicate, slice_index_or, length-append}
-use Rattle.std.proofs.lemmas.Option.{none-some, slice_get_within, get_or_from_slice_get}
-use Rattle.std.proofs.lemmas.List.{length-map}
+use Rattle.std.proofs.Common.{◌≡◌, ℕ, zero, suc, ◌+◌, ◌-◌, ◌<◌, ◌≤◌, List, [], ◌∷◌, ◌++◌, length, map, Bool, true, false, ◌&&◌, if◌then◌else◌, Option, Some, None, refl, sym, ap, subst, ◌∙◌, arith, ℤ, pos, replicate, slice_index_or, length-append}
+use Rattle.std.proofs.lemmas.Option.{none-some, get_or_from_slice_get}
 use Rattle.std.specs.Prelude.{All, slice_get, option_map, unwrap_or}
 use Rattle.pk_ctypes.specs.declared.types.IntType.{IntType}
 use Rattle.pk_ctypes.specs.Types.{InType, is_in_type}
@@ -13,8 +12,8 @@ use Rattle.pk_calls.specs.Calls.{body_of}
 use Rattle.pk_calls.specs.Paths.{entry_path}
 use Rattle.pk_graph.specs.Kinds.{count_of}
 use Rattle.pk_graph.specs.Steps.{Numbers, all_in_type}
-use Rattle.pk_welltyped.specs.WellTyped.{Kind, scalar, kind_in_file, kind_among, length_at_start, IsStart, IsUnit}
-use Rattle.pk_meaning.specs.Objects.{Object, file, local, result, Objects, locals_of, numbers_of, with_numbers}
+use Rattle.pk_welltyped.specs.WellTyped.{Kind, scalar, kind_among, length_at_start, IsStart, IsUnit}
+use Rattle.pk_meaning.specs.Objects.{Object, file, local, result, Objects, numbers_of, with_numbers}
 use Rattle.pk_meaning.specs.Programs as program
 use Rattle.pk_meaning.specs.Programs.{Program, block_of, start_of, zeros_of, first_objects}
 use Rattle.pk_meaning.specs.Runs.{with_arguments}

@@ -1,9 +1,9 @@
 -- The draft of a unit by number has the edges and names of its graph over slots.
-use Rattle.std.proofs.Common.{◌≡◌, ℕ, zero, suc, ◌+◌, ◌<◌, ◌⊎◌, inl, inr, List, [], ◌∷◌, ◌++◌, length, map, Bool, true, false, ◌||◌, not, nat_eq, Option, Some, None, refl, sym, ap, subst, ◌∙◌, arith, slice_index_or, slice_set}
+use Rattle.std.proofs.Common.{◌≡◌, ℕ, zero, suc, ◌<◌, ◌⊎◌, inl, inr, List, [], ◌∷◌, ◌++◌, length, map, Bool, true, false, ◌||◌, not, nat_eq, Some, None, refl, sym, ap, subst, ◌∙◌, arith, slice_index_or, slice_set}
 use Rattle.std.proofs.lemmas.Bool.Decides.{eqb_tells}
-use Rattle.std.proofs.lemmas.List.{get_or-set_same, get_or-set_other, length-set, length-map}
+use Rattle.std.proofs.lemmas.List.{get_or-set_same, get_or-set_other}
 use Rattle.std.proofs.lemmas.Option.{none-some}
-use Rattle.std.specs.Prelude.{slice_get, All, unwrap_or}
+use Rattle.std.specs.Prelude.{All}
 use Rattle.pk_typed.specs.Trees.{UnitTree}
 use Rattle.pk_calls.specs.declared.listings.CallPath.{CallPath}
 use Rattle.pk_graph.specs.declared.graphs.Scope.{Scope}
@@ -22,13 +22,12 @@ use Rattle.pk_typed_draft.proofs.Plans.{base}
 use Rattle.pk_typed_draft.proofs.Each.{objects_of}
 use Rattle.pk_typed_draft.proofs.Wholes.{kinds_of, kind_is}
 use Rattle.pk_visits.proofs.Slots.{Slot, own, temporary, Draft, Edge, edge, Among, label_at}
-use Rattle.pk_visits.proofs.Stands.{Whole}
 use Rattle.pk_visits.proofs.NumberedNames.{tree_by, array_by, instr_by, edge_by, draft_by}
 use Rattle.pk_visits.proofs.NumberedParts.{program_by}
 use Rattle.pk_visits.proofs.NumberedStores.{renamed, renamed_array, renamed_instr, IsOver, IsArrayOver, IsInstrOver, IsNaming}
 use Rattle.pk_visits.proofs.NumberedCopies as copies
 use Rattle.pk_visits.proofs.NumberedCopies.{renamed_edge, IsCopy}
-use Rattle.pk_followed.proofs.Pairs.{Pair, slot_of, number_of, pairs, whole, final, ends_of, IsTemporary, AreOne, IsObjects, pair_table, world, AreTyped}
+use Rattle.pk_followed.proofs.Pairs.{Pair, slot_of, number_of, pairs, whole, ends_of, AreOne, IsObjects, pair_table, world, AreTyped}
 use Rattle.pk_followed.proofs.Naming.{naming, Made, one_number, ends_many, is_naming}
 use Rattle.pk_followed.proofs.Graphs.{Shows, over_slots, by_numbers, nobody, graph}
 
@@ -205,7 +204,7 @@ pub file_made : (u : UnitTree) (paths : List CallPath) → AreTyped u paths → 
 file_made u paths h i b = (let z = h.many in omega (z, b, arith), (refl, b))
 
 -- the number of a name in scope is an object's
-named_object : (u : UnitTree) (paths : List CallPath) → AreTyped u paths → (y : ℕ) → IsObjects u paths y → (x : Object) × Made u paths (own x) × (y ≡ naming u paths (own x))
+pub named_object : (u : UnitTree) (paths : List CallPath) → AreTyped u paths → (y : ℕ) → IsObjects u paths y → (x : Object) × Made u paths (own x) × (y ≡ naming u paths (own x))
 named_object u paths h y (inl b) = (file y, file_made u paths h y b, refl)
 named_object u paths h y (inr (k, i, b, c, e)) = (local k i, local_made u paths h k i b c, e)
 

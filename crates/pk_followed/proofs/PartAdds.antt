@@ -1,26 +1,28 @@
 -- What the part of one path adds: labels outside its region stay, and so do regions but those of its calls, which lie in it.
-use Rattle.std.proofs.Common.{◌≡◌, ℕ, ◌+◌, ◌<◌, ◌≤◌, ◌⊎◌, inl, inr, List, Option, Some, length, false, refl, ap, sym, subst, ◌∙◌, arith}
+use Rattle.std.proofs.Common.{◌≡◌, ℕ, ◌+◌, ◌<◌, ◌≤◌, ◌⊎◌, inl, inr, Option, Some, length, false, refl, ap, sym, subst, ◌∙◌, arith}
 use Rattle.std.proofs.lemmas.Option.{get_or_from_slice_get}
 use Rattle.std.specs.Prelude.{slice_get}
 use Rattle.pk_calls.specs.declared.listings.Caller.{Caller}
 use Rattle.pk_calls.specs.declared.listings.CallPath.{CallPath}
 use Rattle.pk_calls.specs.Calls as calls
 use Rattle.pk_calls.specs.Paths.{entry_path, path_by}
-use Rattle.pk_welltyped.specs.Listed.{Numbered, numbered, calls_in_items}
+use Rattle.pk_welltyped.specs.Listed.{calls_in_items}
 use Rattle.pk_welltyped.specs.WellTyped.{Around, Marks}
 use Rattle.pk_draft.specs.declared.drafts.Region.{Region}
 use Rattle.pk_draft.specs.declared.drafts.Size.{Size}
-use Rattle.pk_draft.specs.Drafts.{DraftOf}
+use Rattle.pk_graph.specs.Trees.{Skip}
+use Rattle.pk_draft.specs.Drafts.{DraftOf, on, standing, go}
 use Rattle.pk_lower_row.specs.Contexts.{Context, size_in}
 use Rattle.pk_lower.specs.Parts as part
+use Rattle.pk_lower_statement.specs.Statements.{lowered_items}
 use Rattle.pk_part.proofs.Measures.{parts_fill_regions}
 use Rattle.pk_typed_draft.proofs.Plans.{World, Draft, sizes, size_of, function_of, Lasting, PathIs, function_is, its_function, its_body}
 use Rattle.pk_visits.proofs.Slots.{Slot, Edge, Extends, Takes, Among, label_at, region_at}
 use Rattle.pk_visits.proofs.Stands.{IsCalled}
 use Rattle.pk_visits.proofs.Stages.{all_called}
 use Rattle.pk_visits.proofs.StatementGrows.{Enlarges, Free}
-use Rattle.pk_visits.proofs.PartGrows.{entry_marks, first_of, part_enlarges}
-use Rattle.pk_visits.proofs.NumberedNames.{draft_by}
+use Rattle.pk_visits.proofs.PartGrows.{entry_marks, first_of, opened_of, part_enlarges}
+use Rattle.pk_visits.proofs.NumberedNames.{names_by, draft_by}
 use Rattle.pk_visits.proofs.NumberedParts.{part_by}
 use Rattle.pk_followed.proofs.Paths.{numbered_at}
 
@@ -53,6 +55,28 @@ part_grows W f k n p h d =
     subst (Enlarges (entry_marks p.caller r) Free C (first_of c h.body r D)) (sym (body_part W k n p h p.caller r D) ∙ part_by W.table.Variable Slot f c p.function p.caller r d)
     (part_enlarges C c h.function h.body p.caller r a m D h.is_body.items refl refl refl (all_called c (calls_in_items h.body.items)))
 
+-- the drafts over slots in which path k's body begins and ends, and the number of its exit
+abbrev pub body_begun : (W : World) → (f : W.table.Variable → Slot) → (k n : ℕ) (p : CallPath) → PathIs W k n p → Draft W → DraftOf Slot
+body_begun W f k n p h d = opened_of (context_at W k n p) h.function h.body p.caller (region_at d.regions k) (draft_by f d)
+
+abbrev pub body_exit : (W : World) → (f : W.table.Variable → Slot) → (k n : ℕ) (p : CallPath) → PathIs W k n p → Draft W → ℕ
+body_exit W f k n p h d = (part.placed_entry p.caller (part.begun (context_at W k n p) h.function h.body p.caller (region_at d.regions k) (draft_by f d))).points
+
+abbrev pub body_ended : (W : World) → (f : W.table.Variable → Slot) → (k n : ℕ) (p : CallPath) → PathIs W k n p → Draft W → DraftOf Slot
+body_ended W f k n p h d = lowered_items (context_at W k n p) h.body.items (part.start_exits (body_exit W f k n p h d)) (body_begun W f k n p h d)
+
+-- and what closes it
+abbrev pub body_closed : (W : World) → (f : W.table.Variable → Slot) → (k n : ℕ) (p : CallPath) → PathIs W k n p → Draft W → DraftOf Slot
+body_closed W f k n p h d =
+    go Skip (body_exit W f k n p h d)
+    (part.ended (context_at W k n p) h.function.name h.function.returns (on h.body.closed (standing (part.placed_entry p.caller (part.begun (context_at W k n p) h.function h.body p.caller (region_at d.regions k) (draft_by f d))).here (body_ended W f k n p h d))))
+
+pub closed_is : (W : World) (f : W.table.Variable → Slot) (k n : ℕ) (p : CallPath) (h : PathIs W k n p) (d : Draft W) → body_closed W f k n p h d ≡ draft_by f (part_at W k n p d)
+unfolding part.body_draft
+closed_is W f k n p h d =
+    let r = region_at d.regions k in
+    sym (body_part W k n p h p.caller r (draft_by f d)) ∙ part_by W.table.Variable Slot f (context_at W k n p) p.function p.caller r d
+
 -- a path that is called is one from n on, of the size of the function that is called
 pub called_size : (W : World) (k n : ℕ) (p : CallPath) (h : PathIs W k n p) (j : ℕ) (s : Size) → IsCalled (context_at W k n p) (calls_in_items h.body.items) j s → (n ≤ j) × (s ≡ size_of W j)
 called_size W k n p h j s (z, a, e, is) =
@@ -64,8 +88,16 @@ called_size W k n p h j s (z, a, e, is) =
     ap (function_of W) (sym same) ∙ ap (λ (q : CallPath). q.function) (get_or_from_slice_get W.paths (n + r.0) (path_by k r.0 z.call.function) (entry_path 0) there) in
     (omega (e, arith), is ∙ ap (size_in (sizes W)) (sym function))
 
+-- it ends where its region does
+pub part_ends : (W : World) → Lasting W → (k n : ℕ) (p : CallPath) (h : PathIs W k n p) (d : Draft W) → (part_at W k n p d).points ≡ (region_at d.regions k).points + (size_of W k).points
+part_ends W l k n p h d =
+    let law = parts_fill_regions W.table.Variable in
+    law.points W.unit W.paths k n p.function p.caller (region_at d.regions k) d l.behind (l.listed k p h.path)
+    ∙ ap (λ (g : ℕ). (region_at d.regions k).points + (size_in (sizes W) g).points) (sym (function_is W k p h.path))
+
 -- what the part adds to the draft d, where variables have slots by f
 pub record PartAdds (W : World) (f : W.table.Variable → Slot) (k n : ℕ) (p : CallPath) (d e : Draft W) : Type 0 where
+  pub names : names_by f e.names ≡ names_by f d.names
   pub edges : (x : Edge) → Among x (draft_by f d).edges → Among x (draft_by f e).edges
   pub scopes : Extends d.scopes e.scopes
   pub size : length e.labels ≡ length d.labels
@@ -78,6 +110,7 @@ pub part_adds : (W : World) → Lasting W → (f : W.table.Variable → Slot) (k
 part_adds W l f k n p h d =
     let a = part_grows W f k n p h d in
     record {
+      names = a.names;
       edges = a.edges;
       scopes = a.scopes;
       size = a.size;
@@ -93,10 +126,7 @@ part_adds W l f k n p h d =
     e = part_at W k n p d
 
     ends : e.points ≡ r.points + (size_of W k).points
-    ends =
-        let law = parts_fill_regions W.table.Variable in
-        law.points W.unit W.paths k n p.function p.caller r d l.behind (l.listed k p h.path)
-        ∙ ap (λ (g : ℕ). r.points + (size_in (sizes W) g).points) (sym (function_is W k p h.path))
+    ends = part_ends W l k n p h d
 
     outside : (q : ℕ) → (q < r.points) ⊎ (r.points + (size_of W k).points ≤ q) → Among q (entry_marks p.caller r) ⊎ (label_at e.labels q ≡ label_at d.labels q)
     outside q (inl o) = (part_grows W f k n p h d).labels q o

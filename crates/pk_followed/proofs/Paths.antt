@@ -4,16 +4,14 @@ use Rattle.std.proofs.lemmas.Bool.{eq-eqb}
 use Rattle.std.proofs.lemmas.Bool.Decides.{eqb_tells}
 use Rattle.std.proofs.lemmas.Option.{none-some, slice_get_within, get_or_from_slice_get}
 use Rattle.std.specs.Prelude.{slice_get, unwrap_or}
-use Rattle.std.specs.Option.{option_map, option_and_then}
 use Rattle.pk_typed.specs.declared.units.CallSite.{CallSite}
-use Rattle.pk_typed.specs.Trees.{BodyTree, FunctionTree, UnitTree}
+use Rattle.pk_typed.specs.Trees.{BodyTree, UnitTree}
 use Rattle.pk_calls.specs.declared.listings.Caller.{Caller}
 use Rattle.pk_calls.specs.declared.listings.CallPath.{CallPath}
 use Rattle.pk_calls.specs.Calls.{calls_of}
 use Rattle.pk_calls.specs.Paths.{entry_path, path_by, paths_by, longer, IsListing}
 use Rattle.pk_welltyped.specs.Listed.{Numbered, numbered, calls_in_items}
-use Rattle.pk_welltyped.specs.WellTyped.{IsUnit}
-use Rattle.pk_typed_draft.proofs.Plans.{World, PathIs, its_function, its_body}
+use Rattle.pk_typed_draft.proofs.Plans.{World, PathIs, its_body}
 use Rattle.pk_typed_draft.proofs.Wholes.{Paths}
 use Rattle.pk_meaning.specs.Programs as program
 use Rattle.pk_meaning.specs.Programs.{Program, is_by, number_by, callee, function_number, function_of, block_of}

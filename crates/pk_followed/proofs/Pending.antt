@@ -1,5 +1,5 @@
 -- Parts change labels only where a region is kept for them.
-use Rattle.std.proofs.Common.{◌≡◌, ℕ, zero, suc, ◌+◌, ◌<◌, ◌≤◌, ◌⊎◌, inl, inr, List, [], ◌∷◌, Option, Some, None, length, refl, ap, sym, subst, ◌∙◌, arith}
+use Rattle.std.proofs.Common.{◌≡◌, ℕ, zero, suc, ◌+◌, ◌<◌, ◌≤◌, ◌⊎◌, inl, inr, List, [], ◌∷◌, Option, Some, None, length, refl, ap, sym, subst, ◌∙◌, arith, slice_index_or}
 use Rattle.pk_calls.specs.declared.listings.Caller.{Caller}
 use Rattle.pk_calls.specs.declared.listings.CallPath.{CallPath}
 use Rattle.pk_calls.specs.Calls.{calls_of}
@@ -7,10 +7,12 @@ use Rattle.pk_draft.specs.declared.drafts.Region.{Region}
 use Rattle.pk_lower.specs.Parts as part
 use Rattle.pk_typed_draft.proofs.Places.{Holds}
 use Rattle.pk_typed_draft.proofs.Plans.{World, Draft, base, sizes, size_of, Lasting, Plan, PathIs, part_made_is}
+use Rattle.pk_typed_draft.proofs.Drafts.{behind_part, ends_in, function_from}
 use Rattle.pk_typed_draft.proofs.Wholes.{Paths, next_plan}
-use Rattle.pk_visits.proofs.Slots.{Slot, Edge, Extends, Among, label_at, region_at}
+use Rattle.pk_visits.proofs.Slots.{Slot, slots, Edge, Extends, Among, label_at, region_at}
 use Rattle.pk_visits.proofs.PartGrows.{entry_marks}
-use Rattle.pk_visits.proofs.NumberedNames.{draft_by}
+use Rattle.pk_visits.proofs.NumberedNames.{names_by, draft_by}
+use Rattle.pk_followed.proofs.Paths.{firsts_from, first_of}
 use Rattle.pk_followed.proofs.PartAdds.{part_at, PartAdds, part_adds}
 
 -- each of these paths is entered by a call
@@ -59,6 +61,7 @@ either_is (inr y) n = y
 
 -- What the parts of paths from k on add, whose calls lead to paths from n on: a point that is in no region which is kept for one of them keeps its label.
 pub record PartsAdd (W : World) (f : W.table.Variable → Slot) (k n : ℕ) (d g : Draft W) : Type 0 where
+  pub names : names_by f g.names ≡ names_by f d.names
   pub edges : (x : Edge) → Among x (draft_by f d).edges → Among x (draft_by f g).edges
   pub scopes : Extends d.scopes g.scopes
   pub size : length g.labels ≡ length d.labels
@@ -71,7 +74,7 @@ next_part W l k n p h d plan = subst (Plan W (k + 1) (n + length (calls_of W.uni
 
 pub parts_add : (W : World) → Lasting W → (f : W.table.Variable → Slot) (k n : ℕ) (ps : List CallPath) → Paths W k n ps → HaveCallers ps → (d : Draft W) → Plan W k n d → PartsAdd W f k n d (part.parts_from W.unit (sizes W) k n ps d)
 unfolding part.parts_from
-parts_add W l f k n [] h o d plan = record { edges = λ x m. m; scopes = λ i z m. m; size = refl; paths = refl; labels = λ q m. refl; regions = λ j m. refl }
+parts_add W l f k n [] h o d plan = record { names = refl; edges = λ x m. m; scopes = λ i z m. m; size = refl; paths = refl; labels = λ q m. refl; regions = λ j m. refl }
 parts_add W l f k n (p ∷ ps) h o d plan =
     let one = h.0 in
     let e = part_at W k n p d in
@@ -79,6 +82,7 @@ parts_add W l f k n (p ∷ ps) h o d plan =
     let a = part_adds W l f k n p one d in
     let b = parts_add W l f (k + 1) m ps h.1 o.1 e (next_part W l k n p one d plan) in
     record {
+      names = b.names ∙ a.names;
       edges = λ x y. b.edges x (a.edges x y);
       scopes = λ i z y. b.scopes i z (a.scopes i z y);
       size = b.size ∙ a.size;
@@ -90,12 +94,15 @@ parts_add W l f k n (p ∷ ps) h o d plan =
 -- ---- each path
 
 -- Path j, the draft before its part, and the parts behind it, up to the draft g.
-pub record PathAt (W : World) (g : Draft W) (j : ℕ) : Type 1 where
+pub record PathAt (W : World) (f : W.table.Variable → Slot) (g : Draft W) (j : ℕ) : Type 1 where
   pub first : ℕ
   pub path : CallPath
   pub place : PathIs W j first path
   pub before : Draft W
   pub plan : Plan W j first before
+  pub names : names_by f before.names ≡ slots
+  pub first_is : first ≡ first_of W.unit W.paths j
+  pub ends : W.ends j ≡ ends_in W.unit path.function (part_at W j first path before)
   pub others : List CallPath
   pub paths : Paths W (j + 1) (first + length (calls_of W.unit path.function)) others
   pub callers : HaveCallers others
@@ -110,14 +117,14 @@ callers_behind : (ps : List CallPath) → HaveCallers ps → HaveCallersBehind p
 callers_behind [] h = tt
 callers_behind (p ∷ ps) h = h.1
 
-pub path_at : (W : World) → Lasting W → (k n : ℕ) (ps : List CallPath) → Paths W k n ps → HaveCallersBehind ps → (d : Draft W) → Plan W k n d → (i : ℕ) → i < length ps → PathAt W (part.parts_from W.unit (sizes W) k n ps d) (k + i)
-unfolding part.parts_from
-path_at W l k n [] h o d plan i low = absurd (omega (low, arith))
-path_at W l k n (p ∷ ps) h o d plan zero low =
+pub path_at : (W : World) → Lasting W → (f : W.table.Variable → Slot) (k n : ℕ) (ps : List CallPath) → Paths W k n ps → HaveCallersBehind ps → (d : Draft W) → Plan W k n d → names_by f d.names ≡ slots → ((i : ℕ) → slice_index_or (firsts_from W.unit n ps) i 0 ≡ first_of W.unit W.paths (k + i)) → ((i : ℕ) → i < length ps → W.ends (k + i) ≡ ends_in W.unit (function_from ps i) (behind_part W.unit (sizes W) k n ps d i)) → (i : ℕ) → i < length ps → PathAt W f (part.parts_from W.unit (sizes W) k n ps d) (k + i)
+unfolding part.parts_from behind_part
+path_at W l f k n [] h o d plan ns ones ends i low = absurd (omega (low, arith))
+path_at W l f k n (p ∷ ps) h o d plan ns ones ends zero low =
     let at : k ≡ k + zero = omega arith in
-    subst (PathAt W (part.parts_from W.unit (sizes W) (k + 1) (n + length (calls_of W.unit p.function)) ps (part_at W k n p d))) at
-    (record { first = n; path = p; place = h.0; before = d; plan = plan; others = ps; paths = h.1; callers = o; rest = refl })
-path_at W l k n (p ∷ ps) h o d plan (suc i) low =
+    subst (PathAt W f (part.parts_from W.unit (sizes W) (k + 1) (n + length (calls_of W.unit p.function)) ps (part_at W k n p d))) at
+    (record { first = n; path = p; place = h.0; before = d; plan = plan; names = ns; first_is = ones zero ∙ ap (first_of W.unit W.paths) (sym at); ends = ap W.ends at ∙ ends zero low; others = ps; paths = h.1; callers = o; rest = refl })
+path_at W l f k n (p ∷ ps) h o d plan ns ones ends (suc i) low =
     let at : k + 1 + i ≡ k + suc i = omega arith in
     let m = n + length (calls_of W.unit p.function) in
-    subst (PathAt W (part.parts_from W.unit (sizes W) (k + 1) m ps (part_at W k n p d))) at (path_at W l (k + 1) m ps h.1 (callers_behind ps o) (part_at W k n p d) (next_part W l k n p h.0 d plan) i (omega (low, arith)))
+    subst (PathAt W f (part.parts_from W.unit (sizes W) (k + 1) m ps (part_at W k n p d))) at (path_at W l f (k + 1) m ps h.1 (callers_behind ps o) (part_at W k n p d) (next_part W l k n p h.0 d plan) ((part_adds W l f k n p h.0 d).names ∙ ns) (λ j. ones (suc j) ∙ ap (first_of W.unit W.paths) (omega arith)) (λ j b. let next : k + 1 + j ≡ k + suc j = omega arith in ap W.ends next ∙ ends (suc j) (omega (b, arith))) i (omega (low, arith)))

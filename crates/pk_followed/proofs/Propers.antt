@@ -1,10 +1,10 @@
 -- What is known of a unit and its paths, as the graph over slots asks it.
-use Rattle.std.proofs.Common.{◌≡◌, ℕ, zero, suc, ◌+◌, ◌<◌, ◌≤◌, ◌⊎◌, inl, inr, List, [], ◌∷◌, ◌++◌, length, map, Bool, true, false, ◌&&◌, ◌||◌, nat_eq, Option, Some, None, refl, sym, ap, subst, ◌∙◌, arith, slice_index_or}
+use Rattle.std.proofs.Common.{◌≡◌, ℕ, zero, suc, ◌+◌, ◌<◌, inl, inr, List, [], ◌∷◌, ◌++◌, length, Bool, true, false, ◌&&◌, ◌||◌, nat_eq, Option, Some, refl, sym, ap, subst, ◌∙◌, arith, slice_index_or}
 use Rattle.std.proofs.lemmas.Bool.Decides.{eqb_tells}
-use Rattle.std.proofs.lemmas.Option.{none-some, slice_get_within, get_or_from_slice_get}
+use Rattle.std.proofs.lemmas.Option.{none-some, get_or_from_slice_get}
 use Rattle.std.specs.Prelude.{slice_get, option_map, unwrap_or}
 use Rattle.pk_ctypes.specs.declared.types.IntType.{IntType}
-use Rattle.pk_typed.specs.Trees.{LocalTree, BodyTree, FunctionTree, UnitTree}
+use Rattle.pk_typed.specs.Trees.{LocalTree, FunctionTree, UnitTree}
 use Rattle.pk_calls.specs.declared.listings.CallPath.{CallPath}
 use Rattle.pk_calls.specs.Paths.{entry_path, path_by, IsListing}
 use Rattle.pk_graph.specs.declared.graphs.Scope.{Scope}
@@ -16,8 +16,7 @@ use Rattle.pk_lower.specs.Parts.{body_at}
 use Rattle.pk_welltyped.specs.WellTyped.{kind_among, scalar}
 use Rattle.pk_meaning.specs.Objects.{Object, file, local, result, is_same}
 use Rattle.pk_meaning.specs.Objects as objects
-use Rattle.pk_meaning.specs.Programs as program
-use Rattle.pk_meaning.specs.Programs.{function_number, function_of, block_of, local_of, name_of}
+use Rattle.pk_meaning.specs.Programs.{function_of, block_of, name_of}
 use Rattle.pk_meaning.specs.Work.{Place}
 use Rattle.pk_meaning.specs.Steps.{place}
 use Rattle.pk_typed_draft.proofs.Places.{AreChained}
@@ -26,7 +25,7 @@ use Rattle.pk_typed_draft.proofs.Plans.{its_parameters}
 use Rattle.pk_typed_draft.proofs.Each.{PartOf}
 use Rattle.pk_visits.proofs.Slots.{own, Among, Draft}
 use Rattle.pk_visits.proofs.Stands.{Proper, HasKind}
-use Rattle.pk_followed.proofs.Paths.{first_of, call_is, callee_is, function_is, block_is}
+use Rattle.pk_followed.proofs.Paths.{first_of, call_is, callee_is, function_is}
 use Rattle.pk_followed.proofs.Pairs.{whole, final, ends_of, IsLocal, locals_at, world, function_at_path, AreTyped}
 use Rattle.pk_followed.proofs.Naming.{naming, Made}
 use Rattle.pk_followed.proofs.Graphs.{program_of, by_numbers, over_slots, IsOf, Shows, graph}
@@ -74,6 +73,10 @@ chained_at (y ∷ ss) known (suc n) s e h =
     let z = more_one known l in
     let at : length known + suc n ≡ length (known ++ l ∷ []) + n = omega (z, arith) in
     ap (λ (i : ℕ). slice_index_or (chained known (y ∷ ss)) i []) at ∙ chained_at ss (known ++ l ∷ []) n s e (omega (h, z, arith))
+
+-- nothing is in scope at place 0
+pub scope_nothing : (ss : List Scope) → scope_at ss 0 ≡ []
+scope_nothing ss = chained_same ss ([] ∷ []) 0 (omega arith)
 
 -- place n + 1 adds the variable of entry n to those of the place around it
 pub scope_behind : (ss : List Scope) → AreChained ss → (n : ℕ) (s : Scope) → slice_get ss n ≡ Some s → scope_at ss (n + 1) ≡ s.variable ∷ scope_at ss s.outer
@@ -163,11 +166,11 @@ parameter_kind xs j (u ∷ ts) h zero t e =
     ap (kind_among xs) at ∙ (h.0 ∙ ap (λ (o : Option IntType). Some (scalar (unwrap_or o u))) e)
 parameter_kind xs j (u ∷ ts) h (suc i) t e = let at : j + suc i ≡ j + 1 + i = omega arith in ap (kind_among xs) at ∙ parameter_kind xs (j + 1) ts h.1 i t e
 
-its_types : (u : UnitTree) (paths : List CallPath) (m : ℕ) (p : PartOf (world u paths) (whole u paths) m) → (function_of (program_of u paths) m).parameters ≡ parameters_of u p.path.function
+pub its_types : (u : UnitTree) (paths : List CallPath) (m : ℕ) (p : PartOf (world u paths) (whole u paths) m) → (function_of (program_of u paths) m).parameters ≡ parameters_of u p.path.function
 its_types u paths m p =
     ap (λ (g : FunctionTree). g.parameters) (function_is (world u paths) m p.first p.path p.place) ∙ sym (ap (λ (o : Option FunctionTree). unwrap_or (option_map (λ (g : FunctionTree). g.parameters) o) []) p.place.there)
 
-parameter_there : (u : UnitTree) (paths : List CallPath) (h : AreTyped u paths) (m i : ℕ) (t : IntType) → m < length paths → slice_get (function_of (program_of u paths) m).parameters i ≡ Some t → HasKind (program_of u paths) (local m i) (scalar t)
+pub parameter_there : (u : UnitTree) (paths : List CallPath) (h : AreTyped u paths) (m i : ℕ) (t : IntType) → m < length paths → slice_get (function_of (program_of u paths) m).parameters i ≡ Some t → HasKind (program_of u paths) (local m i) (scalar t)
 parameter_there u paths h m i t b e =
     let p = h.parts m b in
     let at : 0 + i ≡ i = omega arith in

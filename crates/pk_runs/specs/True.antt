@@ -17,7 +17,7 @@ use Rattle.pk_sound.specs.Runs.{Reaches}
 use Rattle.pk_sound.specs.Held.{Agrees}
 use Rattle.pk_sound.specs.Verdicts.{FaultsIn, IsEvaluatedIn}
 use Rattle.pk_sound.specs.Faults.{IsHidden, IsFailing}
-use Rattle.pk_top.specs.Answers.{IsRun}
+use Rattle.pk_told.specs.Answers.{IsRun}
 
 -- the verdict on an access of point p is that nothing is known
 abbrev pub IsUnknownIn : List Stated → ℕ → AccessOf → Type 0

@@ -3,7 +3,7 @@
 ghost use Rattle.pk_runs.specs.True.{AnswersAreTrue, ReportsAreTrue};
 
 use pk_sound::{faults_are_unknown, result_holds_runs, verdicts_hold};
-use pk_top::graphs_are_well_made;
+use pk_told::graphs_are_well_made;
 
 /// The states that a report tells of a graph hold each of its runs, and the verdicts are right.
 pub fn reports_are_true()

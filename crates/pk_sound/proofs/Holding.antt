@@ -1,5 +1,5 @@
 -- No run leaves the result.
-use Rattle.std.proofs.Common.{◌≡◌, ◌<◌, ◌/◌, ◌%◌, ◌==◌, if◌then◌else◌, Bool, true, false, inl, inr, ℕ, ℤ, ◌-ℤ◌, neg_ℤ, ap, ◌∙◌, sym, subst, refl, Option, Some, None, List, [], ◌∷◌, map, length, slice_get, slice_index_or, All, Contains, arith}
+use Rattle.std.proofs.Common.{◌≡◌, ◌<◌, ◌/◌, ◌%◌, ◌==◌, if◌then◌else◌, Bool, true, false, inl, inr, ℕ, zero, suc, ℤ, ◌-ℤ◌, neg_ℤ, ap, ◌∙◌, sym, subst, refl, Option, Some, None, List, [], ◌∷◌, map, length, slice_get, slice_index_or, All, Contains, arith}
 use Rattle.std.proofs.Math.ListN.{get_or-map}
 use Rattle.std.proofs.lemmas.List.{get_or_default, length-map}
 use Rattle.std.proofs.lemmas.List.Elements.{All-head, All-tail}
@@ -155,10 +155,16 @@ number_same : (s : Stored) (o : Option ℕ) → number_if (pad s) o ≡ number_i
 number_same s None = refl
 number_same s (Some x) = numbers_at s x 0
 
-agrees : (ks : Kinds) (l : Layout) (f : Option Facts) (s : Stored) → IsLayout l → IsOver ks l → IsStore ks s → Member l f (pad s) → Agrees l f s
-agrees ks l None s lay over st m = m
-agrees ks l (Some f) s lay over st m = record {
-  values = λ x i p q. subst (IsOf (known_at f.values x)) (numbers_at s x i) (m.values.each x i p (omega (arith, q, numbers_longer s x)));
+-- a variable with numbers is one of the store's
+some_below : (s : Stored) (x : ℕ) → 0 < length (numbers_of s x) → x < length s
+some_below [] x h = absurd (omega (h, arith))
+some_below (n ∷ s) zero h = omega arith
+some_below (n ∷ s) (suc x) h = let l = some_below s x h in omega (l, arith)
+
+agrees : (ks : Kinds) (l : Layout) (f : Option Facts) (s : Stored) → IsLayout l → IsOver ks l → IsStore ks s → AreFactsIf l f → Member l f (pad s) → Agrees l f s
+agrees ks l None s lay over st h m = m
+agrees ks l (Some f) s lay over st h m = record {
+  values = λ x i q. subst (IsOf (known_at f.values x)) (numbers_at s x i) (m.values.each x i (omega (arith, some_below s x (omega (arith, q)), st.size, over.size, h.values.size)) (omega (arith, q, numbers_longer s x)));
   scalars = λ k p. st.counts (chosen_at l k) (omega (arith, lay.there k p, over.size)) ∙ ap count_of (over.scalars k p);
   octagon = meets_same (entry f.octagon) (selected l.chosen (pad s)) (selected l.chosen s) (λ k. number_same s (slice_get l.chosen k)) m.octagon;
 }
@@ -177,10 +183,11 @@ result_holds_runs g o p order a most it is v s run =
     let over : IsOver (kinds_of g) a.layout = subst (IsOver (kinds_of g)) (sym is.analysis.layout) (graphs_over.over g o.oct) in
     let solved = result_is_solved g o p order a most it is in
     let at = reached g a it is.graph lay over solved v s run in
-    let kept = states_sound.kept a.layout (known_at_point a it v) (pad s) lay (solved v at.point).known at.member in
+    let known = (solved v at.point).known in
+    let kept = states_sound.kept a.layout (known_at_point a it v) (pad s) lay known at.member in
     record {
-      known = agrees (kinds_of g) a.layout (known_at_point a it v) s lay over at.store at.member;
-      reduced = agrees (kinds_of g) a.layout (reduced_at_point a it v) s lay over at.store kept;
+      known = agrees (kinds_of g) a.layout (known_at_point a it v) s lay over at.store known at.member;
+      reduced = agrees (kinds_of g) a.layout (reduced_at_point a it v) s lay over at.store (facts_stay.reductions a.layout (known_at_point a it v) lay known) kept;
       member = λ some. subst (Member a.layout (known_at_point a it v)) (nothing_padded g s some at.store) at.member;
       reduced_member = λ some. subst (Member a.layout (reduced_at_point a it v)) (nothing_padded g s some at.store) kept;
     }

@@ -19,7 +19,7 @@ use Rattle.pk_sound.specs.Results.{IsAnalysed, known_at_point, reduced_at_point}
 
 -- each number of each variable is one that is known of it, the octagon's variables are scalars, and their numbers meet its bounds
 pub record AgreesWith (l : Layout) (f : Facts) (s : Stored) : Type 0 where
-  pub values : (x i : ℕ) → x < length f.values → i < length (numbers_of s x) → IsOf (known_at f.values x) (number_at (numbers_of s x) i)
+  pub values : (x i : ℕ) → i < length (numbers_of s x) → IsOf (known_at f.values x) (number_at (numbers_of s x) i)
   pub scalars : (k : ℕ) → k < length l.chosen → length (numbers_of s (chosen_at l k)) ≡ 1
   pub octagon : Meets (entry f.octagon) (selected l.chosen s)
 

@@ -1,3 +1,1 @@
-pub mod Replies
-pub mod Answering
-pub mod Typing
+mod Replies

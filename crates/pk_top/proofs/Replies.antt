@@ -6,14 +6,12 @@ use Rattle.std.specs.Io.KnownBytes.{Appends, Keeps}
 use Rattle.pk_command.specs.declared.asked.Command.{Command}
 use Rattle.pk_command.specs.CommandLine.{is_taken}
 use Rattle.pk_command.specs.Given.{AsksFor}
-use Rattle.pk_command.proofs.Asking.{asked_taken, one_asked}
+use Rattle.pk_command.proofs.Asking.{one_asked}
 use Rattle.pk_front.specs.declared.status.Status.{Status}
 use Rattle.pk_front.specs.declared.status.Status.TheVariants as status
-use Rattle.pk_top.specs.Answers.{IsAnswer, IsTold, IsShort, IsMaking, AskAbout, AskNoSource, text_of}
-use Rattle.pk_top.specs.Headline.{Answers, Gives, IsStopped, IsTextless, IsUntold}
-
-pub not_taken : (words : List (List ℕ)) (command : Command) → AsksFor words command → is_taken words ≡ false → ⊥
-not_taken words command asks refused = let taken = asked_taken words command asks in cc
+use Rattle.pk_told.specs.Answers.{IsAnswer, IsTold, IsShort, IsStopped, IsMaking, AskAbout, AskNoSource, text_of}
+use Rattle.pk_told.proofs.Answering.{not_taken}
+use Rattle.pk_top.specs.Headline.{Answers, Gives, IsTextless, IsUntold}
 
 -- what a command's text is, where the words ask about it
 asked_text : (words : List (List ℕ)) (left : Option (List ℕ)) (c : Command) (P : List ℕ → Type 0) → AsksFor words c → (text : List ℕ) → AskAbout words left text → (text_of c left ≡ Some text → P text) → P text

@@ -6,8 +6,7 @@ use Rattle.pk_front.specs.declared.status.Status.{Status}
 use Rattle.pk_front.specs.declared.status.Status.TheVariants.{Ok, Usage, Refused, Limit, RunLimit, ReadFault, WriteFault, Memory}
 use Rattle.pk_ctypes.specs.declared.words.Quantity.TheVariants.{Text}
 use Rattle.pk_command.specs.declared.asked.Command.{Command}
-use Rattle.pk_front.specs.Texts.{IsLeft}
-use Rattle.pk_top.specs.Answers.{IsAnswer, HasNoGraph, IsCutOff, IsLong, entry_of, text_limit}
+use Rattle.pk_told.specs.Answers.{IsAnswer, IsLong, text_limit}
 
 abbrev pub IsSuccess : Status → Type 0
 IsSuccess (Ok unknown) = Unit {0}
@@ -56,17 +55,6 @@ KeepsUnlessTold ReadFault before after = Keeps before after
 KeepsUnlessTold Memory before after = Keeps before after
 
 -- ---- without a report
-
--- a command about a text ends so without telling anything, or for want of memory
-abbrev pub IsStopped : List ℕ → Command → Status → Type 0
-IsStopped text command (Ok unknown) = ⊥
-IsStopped text command Usage = ⊥
-IsStopped text command (Refused refusal) = IsLeft text (entry_of command) (Refused refusal)
-IsStopped text command (Limit what number) = HasNoGraph text (entry_of command) (Limit what number)
-IsStopped text command (RunLimit max_runs) = IsCutOff text command max_runs
-IsStopped text command ReadFault = ⊥
-IsStopped text command (WriteFault sent) = ⊥
-IsStopped text command Memory = Unit {0}
 
 -- the answer is this status with nothing told, unless a read or the memory failed
 abbrev pub IsUntold : List (List ℕ) → List ℕ → Status → Type 0

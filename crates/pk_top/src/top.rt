@@ -5,15 +5,15 @@ ghost use Rattle.std.specs.Io.KnownBytes.{Keeps, IsAtEnd};
 ghost use Rattle.pk_command.specs.CommandLine.{is_taken};
 ghost use Rattle.pk_command.specs.Given.{AsksFor, IsInRange};
 ghost use Rattle.pk_io.specs.Causes.{Rose};
-ghost use Rattle.pk_top.specs.Answers.{IsAnswer, IsShort, AskAbout, AskNoSource, IsMaking, text_of, text_limit};
+ghost use Rattle.pk_told.specs.Answers.{IsAnswer, IsShort, AskAbout, AskNoSource, IsMaking, text_of, text_limit};
 ghost use Rattle.pk_top.specs.Headline.{Answers, Gives, IsStop, IsSuccess, IsTextless, IsUnread, IsUntold, KeepsUnlessTold};
 
-use crate::answers::told;
 use pk_command::{Command, WordsError, read_words};
 use pk_ctypes::Quantity;
 use pk_front::Status;
 use pk_gen::generate;
 use pk_io::{ReadError, Sink, Source, read_all, write_all};
+use pk_told::told;
 use std::alloc::Global;
 
 /// The greatest number of bytes of a text.

@@ -14,7 +14,7 @@ use Rattle.pk_meaning.specs.Runs.{Visit}
 use Rattle.pk_visits.specs.GraphVisits.{visit_at}
 use Rattle.pk_visits.specs.SameVisits.{ProgramVisits, ProgramsAreFollowed}
 use Rattle.pk_runs.specs.True.{IsUnknownIn}
-use Rattle.pk_top.specs.Answers.{IsRun}
+use Rattle.pk_told.specs.Answers.{IsRun}
 
 -- A visit is that of a point of the graph, and what the names in scope hold there agrees with the point's state: each number lies in the interval and the congruence that are known of its name, and the octagon's bounds are met.
 pub record IsToldVisit (g : GraphOf) (states : List Stated) (v : Visit) : Type 0 where

@@ -33,7 +33,7 @@ by_many k m [] = refl
 by_many k m (c ∷ cs) = ap suc (by_many k (m + 1) cs)
 
 -- a path that a call of path k or of a later one leads to
-abbrev Later : ℕ → CallPath → Type 0
+abbrev pub Later : ℕ → CallPath → Type 0
 Later k q = (i : ℕ) × (c : ℕ) × (q.caller ≡ Some (record { path = i; call = c })) × (k ≤ i)
 
 by_later : (k m : ℕ) (cs : List CallSite) (i : ℕ) (q : CallPath) → slice_get (paths_by k m cs) i ≡ Some q → Later k q
@@ -46,7 +46,7 @@ append_later k [] ys f g i q h = g i q h
 append_later k (x ∷ xs) ys f g zero q h = f zero q h
 append_later k (x ∷ xs) ys f g (suc i) q h = append_later k xs ys (λ j r e. f (suc j) r e) g i q h
 
-longer_later : (u : UnitTree) (k : ℕ) (ps : List CallPath) (i : ℕ) (q : CallPath) → slice_get (longer u k ps) i ≡ Some q → Later k q
+pub longer_later : (u : UnitTree) (k : ℕ) (ps : List CallPath) (i : ℕ) (q : CallPath) → slice_get (longer u k ps) i ≡ Some q → Later k q
 longer_later u k [] i q h = absurd (none-some q h)
 longer_later u k (p ∷ ps) i q h =
     append_later k (paths_by k 0 (calls_of u p.function)) (longer u (k + 1) ps) (by_later k 0 (calls_of u p.function)) (λ j r e. let l = longer_later u (k + 1) ps j r e in (l.0, l.1, l.2, omega (l.3, arith))) i q h

@@ -145,7 +145,7 @@ promised W l d is j n p h m =
 
 -- ---- each path of a list is among those from its beginning
 
-among : (k : ℕ) (ps : List CallPath) (i : ℕ) (p : CallPath) → slice_get ps i ≡ Some p → IsAmong k ps (k + i) p
+pub among : (k : ℕ) (ps : List CallPath) (i : ℕ) (p : CallPath) → slice_get ps i ≡ Some p → IsAmong k ps (k + i) p
 among k [] i p h = absurd (none-some p h)
 among k (q ∷ ps) zero p h = inl (omega arith, ap (λ (o : Option CallPath). unwrap_or o p) h)
 among k (q ∷ ps) (suc i) p h =

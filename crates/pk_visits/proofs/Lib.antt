@@ -8,12 +8,12 @@ mod Silent
 pub mod Stands
 pub mod Stores
 pub mod Follow
-mod Doom
+pub mod Doom
 mod Operators
 mod Elements
 mod Tests
 pub mod Stages
-mod Operands
+pub mod Operands
 mod Trees
 mod Joined
 mod Conditions
@@ -36,17 +36,18 @@ mod Returns
 mod Thirds
 mod Fills
 mod Firsts
-mod Shown
+pub mod Shown
 mod Starts
 mod Declared
 mod Choices
-mod Cases
-mod Switches
+pub mod Cases
+pub mod Switches
 mod Found
 mod Going
 mod Jumps
 mod Followed
 pub mod PartGrows
+pub mod ParametersShown
 pub mod NumberedEdges
 pub mod NumberedStores
 pub mod NumberedCopies

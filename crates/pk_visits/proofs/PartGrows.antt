@@ -36,7 +36,7 @@ parameter_enlarges ms C c None i d =
     path_then (object_enlarges ms Free C i (entry_parameter x.name x.int_type x.length c.path) d tt) (named_enlarges ms Free C x.name d.variables e)
 parameter_enlarges ms C c (Some caller) i d = introduced_enlarges ms Free C c i d tt
 
-parameters_enlarge : (ms : List ℕ) (C : ℕ → Size → Type 0) (c : Context) (from : Option Caller) (i : ℕ) (ts : List IntType) (d : Draft) → Enlarges ms Free C d (all_introduced c from i ts d)
+pub parameters_enlarge : (ms : List ℕ) (C : ℕ → Size → Type 0) (c : Context) (from : Option Caller) (i : ℕ) (ts : List IntType) (d : Draft) → Enlarges ms Free C d (all_introduced c from i ts d)
 unfolding all_introduced
 parameters_enlarge ms C c from i [] d = enlarges ms Free C d d (nothing_adds ms Free C d)
 parameters_enlarge ms C c from i (t ∷ ts) d = path_then (parameter_enlarges ms C c from i d) (parameters_enlarge ms C c from (i + 1) ts (introduced_parameter c from i d))
@@ -57,28 +57,56 @@ begun_enlarges ms C c g b from r d =
     let f = first_of c b r d in
     path_then (parameters_enlarge ms C c from 0 g.parameters f) (result_enlarges ms C c g.returns (all_introduced c from 0 g.parameters f))
 
--- names and objects leave the point
-named_point : (o : Option (List ℕ)) (x : ℕ) (d : Draft) → (named o x d).point ≡ d.point
-named_point None x d = refl
-named_point (Some n) x d = refl
+-- names and objects leave the point, how many there are, and the position
+abbrev Stays : Draft → Draft → Type 0
+Stays d e = (e.point ≡ d.point) × (e.points ≡ d.points) × (e.here.at ≡ d.here.at)
 
-parameter_point : (c : Context) (from : Option Caller) (i : ℕ) (d : Draft) → (introduced_parameter c from i d).point ≡ d.point
-parameter_point c None i d = let x = local_at c i in named_point x.name d.variables (with_object i (entry_parameter x.name x.int_type x.length c.path) d)
-parameter_point c (Some caller) i d = let x = local_at c i in named_point x.name d.variables (with_object i (inner x.name x.int_type x.length c.path) d)
+named_stays : (o : Option (List ℕ)) (x : ℕ) (d : Draft) → Stays d (named o x d)
+named_stays None x d = (refl, refl, refl)
+named_stays (Some n) x d = (refl, refl, refl)
 
-parameters_point : (c : Context) (from : Option Caller) (i : ℕ) (ts : List IntType) (d : Draft) → (all_introduced c from i ts d).point ≡ d.point
+parameter_stays : (c : Context) (from : Option Caller) (i : ℕ) (d : Draft) → Stays d (introduced_parameter c from i d)
+parameter_stays c None i d = let x = local_at c i in named_stays x.name d.variables (with_object i (entry_parameter x.name x.int_type x.length c.path) d)
+parameter_stays c (Some caller) i d = let x = local_at c i in named_stays x.name d.variables (with_object i (inner x.name x.int_type x.length c.path) d)
+
+parameters_stay : (c : Context) (from : Option Caller) (i : ℕ) (ts : List IntType) (d : Draft) → Stays d (all_introduced c from i ts d)
 unfolding all_introduced
-parameters_point c from i [] d = refl
-parameters_point c from i (t ∷ ts) d = parameters_point c from (i + 1) ts (introduced_parameter c from i d) ∙ parameter_point c from i d
+parameters_stay c from i [] d = (refl, refl, refl)
+parameters_stay c from i (t ∷ ts) d =
+    let a = parameter_stays c from i d in
+    let b = parameters_stay c from (i + 1) ts (introduced_parameter c from i d) in
+    (b.0 ∙ a.0, b.1 ∙ a.1, b.2 ∙ a.2)
 
-result_point : (c : Context) (t : Option IntType) (d : Draft) → (with_result c t d).point ≡ d.point
-result_point c None d = refl
-result_point c (Some t) d = refl
+result_stays : (c : Context) (t : Option IntType) (d : Draft) → Stays d (with_result c t d)
+result_stays c None d = (refl, refl, refl)
+result_stays c (Some t) d = (refl, refl, refl)
 
 pub begun_point : (c : Context) (g : FunctionTree) (b : BodyTree) (from : Option Caller) (r : Region) (d : Draft) → (begun c g b from r d).point ≡ r.at
 begun_point c g b from r d =
     let f = first_of c b r d in
-    result_point c g.returns (all_introduced c from 0 g.parameters f) ∙ parameters_point c from 0 g.parameters f
+    (result_stays c g.returns (all_introduced c from 0 g.parameters f)).0 ∙ (parameters_stay c from 0 g.parameters f).0
+
+pub begun_points : (c : Context) (g : FunctionTree) (b : BodyTree) (from : Option Caller) (r : Region) (d : Draft) → (begun c g b from r d).points ≡ r.points
+begun_points c g b from r d =
+    let f = first_of c b r d in
+    (result_stays c g.returns (all_introduced c from 0 g.parameters f)).1 ∙ (parameters_stay c from 0 g.parameters f).1
+
+pub begun_position : (c : Context) (g : FunctionTree) (b : BodyTree) (from : Option Caller) (r : Region) (d : Draft) → (begun c g b from r d).here.at ≡ b.opened
+begun_position c g b from r d =
+    let f = first_of c b r d in
+    (result_stays c g.returns (all_introduced c from 0 g.parameters f)).2 ∙ (parameters_stay c from 0 g.parameters f).2
+
+pub placed_here : (from : Option Caller) (d : Draft) → (placed_entry from d).here ≡ d.here
+placed_here None d = refl
+placed_here (Some c) d = refl
+
+pub placed_point : (from : Option Caller) (d : Draft) → (placed_entry from d).point ≡ d.point
+placed_point None d = refl
+placed_point (Some c) d = refl
+
+pub placed_points : (from : Option Caller) (d : Draft) → (placed_entry from d).points ≡ d.points
+placed_points None d = refl
+placed_points (Some c) d = refl
 
 -- a point that is placed is a mark
 placed_enlarges : (ms : List ℕ) (C : ℕ → Size → Type 0) (p : ℕ) (d : Draft) → Among p ms → Enlarges ms Free C d (placed p d)
@@ -130,12 +158,12 @@ marking_body m n p ms labels cases default = record {
   default = λ h. absurd (let e = sym default ∙ h in grind (arith, e));
 }
 
-ended_adds : (ms : List ℕ) (C : ℕ → Size → Type 0) (c : Context) (name : List ℕ) (t : Option IntType) (d : Draft) → Adds ms Free C d (ended c name t d)
-ended_adds ms C c name None d = nothing_adds ms Free C d
-ended_adds ms C c name (Some t) d = by (is_main name) where
-  by : (b : Bool) → Adds ms Free C d (if b then emit (Set (own_result c d) (constant t (pos 0))) d else emit (Havoc (own_result c d) t 1) d)
-  by true = emit_adds ms Free C (Set (own_result c d) (constant t (pos 0))) d
-  by false = emit_adds ms Free C (Havoc (own_result c d) t 1) d
+ended_adds : (ms : List ℕ) (S : ℕ → Type 0) (C : ℕ → Size → Type 0) (c : Context) (name : List ℕ) (t : Option IntType) (d : Draft) → Adds ms S C d (ended c name t d)
+ended_adds ms S C c name None d = nothing_adds ms S C d
+ended_adds ms S C c name (Some t) d = by (is_main name) where
+  by : (b : Bool) → Adds ms S C d (if b then emit (Set (own_result c d) (constant t (pos 0))) d else emit (Havoc (own_result c d) t 1) d)
+  by true = emit_adds ms S C (Set (own_result c d) (constant t (pos 0))) d
+  by false = emit_adds ms S C (Havoc (own_result c d) t 1) d
 
 -- at another label of the path
 standing_enlarges : (ms : List ℕ) (C : ℕ → Size → Type 0) (l : Label) (d e : Draft) → l.path ≡ d.here.path → Enlarges ms Free C d e → Enlarges ms Free C d (standing l e)
@@ -160,10 +188,10 @@ standing_enlarges ms C l d e is a = record {
 }
 
 -- behind its items, to its exit
-closed_adds : (ms : List ℕ) (C : ℕ → Size → Type 0) (c : Context) (g : FunctionTree) (b : BodyTree) (q : ℕ) (d : Draft) → Adds ms Free C d (go Skip q (ended c g.name g.returns (on b.closed d)))
-closed_adds ms C c g b q d =
+pub closed_adds : (ms : List ℕ) (S : ℕ → Type 0) (C : ℕ → Size → Type 0) (c : Context) (g : FunctionTree) (b : BodyTree) (q : ℕ) (d : Draft) → Adds ms S C d (go Skip q (ended c g.name g.returns (on b.closed d)))
+closed_adds ms S C c g b q d =
     let o = on b.closed d in
-    stays_then (on_adds ms Free C b.closed d) (stays_then (ended_adds ms C c g.name g.returns o) (link_adds ms Free C Skip q (ended c g.name g.returns o)))
+    stays_then (on_adds ms S C b.closed d) (stays_then (ended_adds ms S C c g.name g.returns o) (link_adds ms S C Skip q (ended c g.name g.returns o)))
 
 -- a body from between its braces
 body_enlarges : (ms : List ℕ) (C : ℕ → Size → Type 0) (c : Context) (g : FunctionTree) (b : BodyTree) (a : Around) (m : Marks) (d : Draft) → AreItems a m b.items → m.labels ≡ b.labels → m.cases ≡ 0 → m.has_default ≡ false → AllCalled C c (calls_in_items b.items)
@@ -179,7 +207,7 @@ body_enlarges ms C c g b a m d fits labels cases default called =
     let opens : Enlarges all Free C d o = enlarges all Free C d o (fresh_adds all Free C (b.labels + 1) d) in
     let items : Enlarges all Free C o e = block C c a m b.items x all Free (λ i h. tt) fits (marking_body m b.labels d.points ms labels cases default) called o in
     let back : Enlarges all Free C d f = standing_enlarges all C d.here d e refl (path_then opens items) in
-    let rest : Enlarges all Free C f (body_draft c g b d) = enlarges all Free C f (body_draft c g b d) (closed_adds all C c g b d.points f) in
+    let rest : Enlarges all Free C f (body_draft c g b d) = enlarges all Free C f (body_draft c g b d) (closed_adds all Free C c g b d.points f) in
     let whole : Enlarges all Free C d (body_draft c g b d) = path_then back rest in
     let i = items.points in
     let j = rest.points in

@@ -52,7 +52,7 @@ last_entry [] z = refl
 last_entry (s ∷ ss) z = last_entry ss z
 
 -- behind the name of the path's object, if it has one
-name_shown : (g : Whole) (proper : Proper g) (k i : ℕ) (h : Place) (o : Option (List ℕ)) (x : ℕ) (d : Draft) → g.shows d.here k h → k < length g.program.paths → i < g.objects k → g.numbers k i ≡ x → Extends (named o x d).scopes g.scopes
+pub name_shown : (g : Whole) (proper : Proper g) (k i : ℕ) (h : Place) (o : Option (List ℕ)) (x : ℕ) (d : Draft) → g.shows d.here k h → k < length g.program.paths → i < g.objects k → g.numbers k i ≡ x → Extends (named o x d).scopes g.scopes
     → g.shows (named o x d).here k (place h.at (program.named o (local k i) h.scope))
 name_shown g proper k i h None x d shows path less is scopes = shows
 name_shown g proper k i h (Some name) x d shows path less is scopes =

@@ -344,10 +344,6 @@ EndedBy g k b None p q hs = p ≡ q
 EndedBy g k true (Some t) p q hs = Writes g k (end_place g.program k) p (own (result k)) (Set (own (result k)) (constant t (pos 0))) q hs
 EndedBy g k false (Some t) p q hs = Writes g k (end_place g.program k) p (own (result k)) (Havoc (own (result k)) t 1) q hs
 
--- no edge begins here
-abbrev pub IsLast : Whole → ℕ → Type 0
-IsLast g p = (i : Instr) (q : ℕ) → Among (edge p i q) g.edges → ⊥
-
 -- the end of a path's function, and the way to its exit
 pub record Ended (g : Whole) (k : ℕ) (x : Exits) (p : ℕ) (hs : List Held) : Type 0 where
   pub to : ℕ
@@ -399,7 +395,7 @@ abbrev mutual
   LaidWay g k Lost p hs = Unit {0}
 
   pub LaidCaller : Whole → (k : ℕ) → Caller → (p : ℕ) → List Held → Type 0
-  LaidCaller g k Nobody p hs = (hs ≡ []) × IsLast g p
+  LaidCaller g k Nobody p hs = hs ≡ []
   LaidCaller g k (Path j h w) p hs = (x : Exits) × Laid g j h x w p hs
 
   pub LaidAhead : Whole → (k : ℕ) → Exits → Ahead → (p : ℕ) → List Held → Type 0

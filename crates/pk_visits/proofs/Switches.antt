@@ -77,7 +77,7 @@ with_marks g k h xs d f ys below s = record {
 -- ---- the drafts of a switch
 
 -- the first of new points is here
-first_label : (i n : ℕ) (d : Draft) → suc n ≡ i → d.points < length d.labels → label_at (fresh i d).labels d.points ≡ d.here
+pub first_label : (i n : ℕ) (d : Draft) → suc n ≡ i → d.points < length d.labels → label_at (fresh i d).labels d.points ≡ d.here
 first_label i n d is r =
     subst (λ q. label_at (fresh q d).labels d.points ≡ d.here) is ((placing n (d.points + 1) (placed d.points d)).labels d.points (omega arith) ∙ get_or-set_same d.labels d.points d.here no_label r)
 

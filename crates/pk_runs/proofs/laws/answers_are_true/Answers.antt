@@ -1,4 +1,4 @@
-use Rattle.pk_top.specs.Answers.{options_of}
+use Rattle.pk_told.specs.Answers.{options_of}
 use Rattle.pk_runs.proofs.laws.answers_are_true.Goals as goal
 
 pub returns : goal.returns

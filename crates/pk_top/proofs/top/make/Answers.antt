@@ -1,7 +1,8 @@
 use Rattle.std.proofs.Common.{map, string_bytes, ℕ, List, sym, subst, ◌∙◌}
-use Rattle.pk_top.specs.Answers.{IsShort}
+use Rattle.pk_told.specs.Answers.{IsShort}
 use Rattle.pk_top.specs.Headline.{IsUntold}
-use Rattle.pk_top.proofs.Replies.{handed_on, if_ok, if_err, not_taken, told_so, textless_so, stopped_so, no_source}
+use Rattle.pk_told.proofs.Answering.{not_taken}
+use Rattle.pk_top.proofs.Replies.{handed_on, if_ok, if_err, told_so, textless_so, stopped_so, no_source}
 use Rattle.pk_top.proofs.top.make.Goals as goal
 
 pub returns-in_err-text-clause-untold : goal.returns-in_err-text-clause-untold

@@ -1,11 +1,14 @@
 -- Words and a text have at most one answer, and the number of workers tells nothing.
-use Rattle.std.specs.Prelude.{◌≡◌, ℕ, ◌++◌, List, codes, length}
+use Rattle.std.specs.Prelude.{◌≡◌, ℕ, ◌++◌, List, codes, length, false}
 use Rattle.std.proofs.Common.{sym, ap, subst, ◌∙◌, inl, inr, arith}
 use Rattle.pk_ctypes.specs.declared.words.Quantity.{Quantity}
 use Rattle.pk_command.specs.declared.asked.RunOptions.{RunOptions}
 use Rattle.pk_command.specs.declared.asked.Command.{Command}
 use Rattle.pk_command.specs.declared.asked.Command.TheVariants.{Run, Order, Gen}
+use Rattle.pk_command.specs.CommandLine.{is_taken}
+use Rattle.pk_command.specs.Given.{AsksFor}
 use Rattle.pk_command.specs.Laws.{OneCommand}
+use Rattle.pk_command.proofs.Asking.{asked_taken}
 use Rattle.pk_typed.specs.Trees.{UnitTree}
 use Rattle.pk_front.specs.declared.status.Status.{Status}
 use Rattle.pk_front.specs.declared.status.Status.TheVariants as status
@@ -16,8 +19,10 @@ use Rattle.pk_graph.specs.Graphs.{GraphOf}
 use Rattle.pk_lower.specs.Parts.{point_count}
 use Rattle.pk_analysis.specs.declared.analysis.Options.{Options}
 use Rattle.pk_answer.specs.Reported.{IsReport, IsSummary, IsOrderText, IsOver, OneReport}
-use Rattle.pk_top.specs.Answers.{IsReply, IsTold, IsShort, IsLong, IsCutOff, HasGraph, HasManyPoints, HasNoGraph, PassesLimit, graph_of, entry_of, options_of, default_options, default_runs, OneAnswer, DifferInWorkers, WorkersTellNothing}
-use Rattle.pk_top.proofs.Replies.{not_taken}
+use Rattle.pk_told.specs.Answers.{IsReply, IsTold, IsShort, IsLong, IsCutOff, HasGraph, HasManyPoints, HasNoGraph, PassesLimit, graph_of, entry_of, options_of, default_options, default_runs, OneAnswer, DifferInWorkers, WorkersTellNothing}
+
+pub not_taken : (words : List (List ℕ)) (command : Command) → AsksFor words command → is_taken words ≡ false → ⊥
+not_taken words command asks refused = let taken = asked_taken words command asks in cc
 
 -- ---- graphs
 

@@ -1,6 +1,6 @@
 // Laws of the answer.
 
-ghost use Rattle.pk_top.specs.Answers.{GraphsAreWellMade, OneAnswer, WorkersTellNothing};
+ghost use Rattle.pk_told.specs.Answers.{GraphsAreWellMade, OneAnswer, WorkersTellNothing};
 
 use pk_answer::one_report;
 use pk_command::one_command;

@@ -5,8 +5,7 @@ ghost use Rattle.pk_command.specs.Given.{IsInRange};
 ghost use Rattle.pk_command.specs.declared.asked.Command.TheVariants as commands;
 ghost use Rattle.pk_ctypes.specs.declared.words.Quantity.TheVariants.{Points};
 ghost use Rattle.pk_graph.specs.Shown.{graph_view};
-ghost use Rattle.pk_top.specs.Answers.{HasGraph, HasNoGraph, IsRun, IsOrder, IsMade, IsTold, options_of, point_limit};
-ghost use Rattle.pk_top.specs.Headline.{IsStopped};
+ghost use Rattle.pk_told.specs.Answers.{HasGraph, HasNoGraph, IsRun, IsOrder, IsMade, IsStopped, IsTold, options_of, point_limit};
 
 use pk_answer::{Failure, Options, order_of, report_of, summary_of};
 use pk_command::{Command, GenOptions, OrderOptions, RunOptions};

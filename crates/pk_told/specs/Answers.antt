@@ -182,6 +182,19 @@ pub record Replies (words : List (List ℕ)) (text : List ℕ) (status : Status)
 abbrev pub IsAnswer : List (List ℕ) → List ℕ → Status → List ℕ → Type 0
 IsAnswer words text status bytes = IsUsage words status bytes ⊎ Replies words text status bytes
 
+-- ---- without a report
+
+-- a command about a text ends so without telling anything, or for want of memory
+abbrev pub IsStopped : List ℕ → Command → Status → Type 0
+IsStopped text command (Ok unknown) = ⊥
+IsStopped text command Usage = ⊥
+IsStopped text command (Refused refusal) = IsLeft text (entry_of command) (Refused refusal)
+IsStopped text command (Limit what number) = HasNoGraph text (entry_of command) (Limit what number)
+IsStopped text command (RunLimit max_runs) = IsCutOff text command max_runs
+IsStopped text command ReadFault = ⊥
+IsStopped text command (WriteFault sent) = ⊥
+IsStopped text command Memory = Unit {0}
+
 -- ---- laws
 
 -- there is at most one answer

@@ -1,7 +1,7 @@
 use Rattle.pk_typed.specs.Views.{unit_tree}
 use Rattle.pk_draft.specs.Shown.{drafted}
-use Rattle.pk_top.proofs.Typing.{typed_of}
-use Rattle.pk_top.proofs.answers.graph_of_text.Goals as goal
+use Rattle.pk_told.proofs.Typing.{typed_of}
+use Rattle.pk_told.proofs.answers.graph_of_text.Goals as goal
 
 pub number-requires : goal.number-requires
 number-requires c =

@@ -5,7 +5,7 @@ use Rattle.pk_draft.specs.Drafts.{by_number}
 use Rattle.pk_lower.specs.Parts.{program_draft}
 use Rattle.pk_lower.specs.Paths.{path_of}
 use Rattle.pk_number.specs.Typed.{IsTypedDraft}
-use Rattle.pk_top.proofs.laws.graphs_are_well_made.Goals as goal
+use Rattle.pk_told.proofs.laws.graphs_are_well_made.Goals as goal
 
 pub returns : goal.returns
 returns c = λ text entry g h.

@@ -1,0 +1,8 @@
+//! What is told of a text.
+#![tactic(auto)]
+
+mod answers;
+mod laws;
+
+pub use answers::told;
+pub use laws::{answer_law, graphs_are_well_made, workers_law};
