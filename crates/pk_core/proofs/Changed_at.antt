@@ -88,9 +88,12 @@ written new items long ys is as_many =
     let same : length new ≡ long = sym (length-map new standing_of) ∙ ap length is ∙ as_many in
     ap (λ n. map standing_of (take n (new ++ drop (length new) items))) (sym same) ∙ ap (map standing_of) (take-append_seam new (drop (length new) items)) ∙ is
 
+pub written_all : {C : Type 0} (new items : List (Entry C)) (long : ℕ) (ys : List (Standing C)) → map standing_of new ≡ ys → length ys ≡ length (map standing_of items) → length items ≡ long → map standing_of (take long (new ++ drop (length new) items)) ≡ ys
+written_all new items long ys is as_many in_all = written new items long ys is (as_many ∙ length-map items standing_of ∙ in_all)
+
 pub kept_written : {C : Type 0} (b : Behaviour C) (may_hold : ℕ → C → Type 0) (n : ℕ) (new items : List (Entry C)) (long : ℕ) (ys : List (Standing C)) → map standing_of new ≡ ys → length ys ≡ length (map standing_of items) → length items ≡ long → AreKept b may_hold n ys → AreKept b may_hold n (map standing_of (take long (new ++ drop (length new) items)))
 kept_written b may_hold n new items long ys is as_many in_all kept =
-    subst (λ zs. AreKept b may_hold n zs) (sym (written new items long ys is (as_many ∙ length-map items standing_of ∙ in_all))) kept
+    subst (λ zs. AreKept b may_hold n zs) (sym (written_all new items long ys is as_many in_all)) kept
 
 -- a bound on run numbers, among the entries
 pub room_at : {C : Type 0} (xs : List (Entry C)) (ys : List (Standing C)) (e most : ℕ) → map standing_of xs ≡ ys → ((x : Standing C) → slice_get ys e ≡ Some x → x.run < most) → (x : Entry C) → slice_get xs e ≡ Some x → x.run < most

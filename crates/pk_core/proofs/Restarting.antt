@@ -1,16 +1,17 @@
 -- A component that is gone through again.
-use Rattle.std.proofs.Common.{◌≡◌, ℕ, ◌+◌, ◌-◌, ◌<◌, ◌≤◌, ◌&&◌, List, [], ◌∷◌, ◌++◌, length, take, get_or, Bool, true, false, refl, sym, ap, ◌∙◌, arith}
+use Rattle.std.proofs.Common.{◌≡◌, ℕ, ◌+◌, ◌-◌, ◌<◌, ◌≤◌, ◌&&◌, List, [], ◌∷◌, ◌++◌, length, take, get_or, Bool, true, false, refl, sym, ap, subst, ◌∙◌, arith, Contains}
 use Rattle.std.proofs.Math.Dec.{leb, ltb}
 use Rattle.std.proofs.lemmas.Bool.Decides.{nat_tests}
 use Rattle.std.proofs.lemmas.List.{take_more, take_all, get_or_default}
+use Rattle.std.proofs.lemmas.List.Elements.{Contains-get_or}
 use Rattle.pk_plan.specs.declared.components.Component.{Component}
-use Rattle.pk_plan.specs.Plans.{PlanView, end_of}
+use Rattle.pk_plan.specs.Plans.{PlanView, end_of, members_of}
 use Rattle.pk_plan.specs.Axioms.{Axioms as PlanAxioms}
 use Rattle.pk_plan.specs.Shape.{component_of, exits}
-use Rattle.pk_plan.proofs.PlanLemmas.{Of, exit_at}
+use Rattle.pk_plan.proofs.PlanLemmas.{Of, exit_at, stands_inside}
 use Rattle.pk_core.specs.declared.events.Status.{Status}
-use Rattle.pk_core.specs.Shown.{Standing}
-use Rattle.pk_core.specs.Entries.{changed, with_new_status, after_run, armed, rearmed, AreKept}
+use Rattle.pk_core.specs.Shown.{Standing, CoreView}
+use Rattle.pk_core.specs.Entries.{changed, with_new_status, after_run, armed, rearmed, restarted, AreKept}
 use Rattle.pk_iterate.specs.Behaviour.{Behaviour}
 use Rattle.pk_core.proofs.Changed_at.{length_changed, kept_changed}
 
@@ -46,6 +47,9 @@ exit_is p x axioms h =
 
 -- ---- one member more
 
+pub member_below : (p : PlanView) (c : Component) (items : List ℕ) (i : ℕ) → PlanAxioms p → Of p c → items ≡ members_of p c → i < length items → get_or items i 0 < p.elements
+member_below p c items i axioms of same in_range = (stands_inside p c (get_or items i 0) axioms of (subst (λ (es : List ℕ). Contains es (get_or items i 0)) same (Contains-get_or items i 0 in_range))).within
+
 rearmed_more : {C : Type 0} (p : PlanView) (c : Component) (es : List ℕ) (e : ℕ) (xs : List (Standing C)) → rearmed p c (es ++ e ∷ []) xs ≡ changed (rearmed p c es xs) e (with_new_status (armed p c e))
 rearmed_more p c [] e xs = refl
 rearmed_more p c (k ∷ es) e xs = rearmed_more p c es e (changed xs k (with_new_status (armed p c k)))
@@ -58,6 +62,23 @@ rearm_step p c ms items i xs now status same in_range so_far is =
     ∙ ap (λ (st : Status). changed (rearmed p c (take i ms) xs) e (with_new_status st)) is
     ∙ sym (rearmed_more p c (take i ms) e xs)
     ∙ ap (λ (l : List ℕ). rearmed p c l xs) (sym more)
+
+-- ---- a core that has gone back
+
+pub gone_back : {C : Type 0} (p : PlanView) (c : Component) (cell : C) (xs ys now : List (Standing C)) → now ≡ restarted p c cell ys → ys ≡ xs → now ≡ restarted p c cell xs
+gone_back {C} p c cell xs ys now gone same = gone ∙ ap (λ (zs : List (Standing C)). restarted p c cell zs) same
+
+abbrev pub seen : {Y C : Type 0} → Y → PlanView → List (Standing C) → CoreView Y C
+seen y p xs = record { system = y; plan = p; elements = xs }
+
+abbrev pub back_at : {Y C : Type 0} → ℕ → C → CoreView Y C → CoreView Y C
+back_at x cell v = seen v.system v.plan (restarted v.plan (component_of v.plan x) cell v.elements)
+
+pub went_back : {Y C : Type 0} (y : Y) (p : PlanView) (c : Component) (x : ℕ) (cell : C) (xs now : List (Standing C)) (old : CoreView Y C) → seen y p xs ≡ old → now ≡ restarted p c cell xs → c ≡ component_of p x → seen y p now ≡ back_at x cell old
+went_back {Y} {C} y p c x cell xs now old is gone at =
+    let back : now ≡ restarted p (component_of p x) cell xs = gone ∙ ap (λ (d : Component). restarted p d cell xs) at in
+    let here : seen y p now ≡ back_at x cell (seen y p xs) = ap (seen y p) back in
+    here ∙ ap (back_at x cell) is
 
 -- ---- what is kept
 

@@ -16,7 +16,7 @@ use Rattle.pk_core.specs.States.{Made, Element, State, inputs_of}
 use Rattle.pk_core.specs.Events.{with_status, without, arrived, inner, after_run_at, after_send_at, applied, decided, after}
 use Rattle.pk_core.specs.Shown.{Standing, CoreView, StandsAs, StandAs, Shows}
 use Rattle.pk_core.specs.Steps.{IsStep}
-use Rattle.pk_core.specs.Entries.{changed, with_new_status, without_send, with_arrival, with_sends, after_run, armed, rearmed}
+use Rattle.pk_core.specs.Entries.{changed, with_new_status, without_send, with_arrival, with_sends, after_run, armed, rearmed, restarted}
 use Rattle.pk_core.proofs.Basics.{neq, same, itself, counted_same}
 use Rattle.pk_core.proofs.Keeps.{run_else}
 use Rattle.pk_core.proofs.Plan_shapes.{has_of, of_has}
@@ -137,9 +137,9 @@ stand_rearmed {C} b n p c (e ∷ es) xs s all =
     at u false true q r = rw (r, q) refl
     at u false false q r = rw (r, q) refl
 
-restarted : {C : Type 0} (b : Behaviour C) (p : PlanView) (xs : List (Standing C)) (s : State C) (x : ℕ) (r : Made C) (cell : C) → PlanAxioms p → exits p x ≡ true → cell ≡ r.gave → StandAs b p.elements xs s
+restart_shown : {C : Type 0} (b : Behaviour C) (p : PlanView) (xs : List (Standing C)) (s : State C) (x : ℕ) (r : Made C) (cell : C) → PlanAxioms p → exits p x ≡ true → cell ≡ r.gave → StandAs b p.elements xs s
     → StandAs b p.elements (rearmed p (component_of p x) (members_of p (component_of p x)) (changed xs x (after_run (Waiting (inner_count p (component_of p x) x)) cell))) (λ u. after_run_at (shape_of p) x true r u (s u))
-restarted {C} b p xs s x r cell axioms exit gave all =
+restart_shown {C} b p xs s x r cell axioms exit gave all =
     let c = component_of p x in
     stand_same b p.elements (rearmed p c (members_of p c) (changed xs x (after_run (Waiting (inner_count p c x)) cell))) (armed_state p c (members_of p c) (ran_state s x (Waiting (inner_count p c x)) r)) (λ u. after_run_at (shape_of p) x true r u (s u))
     (stand_rearmed b p.elements p c (members_of p c) (changed xs x (after_run (Waiting (inner_count p c x)) cell)) (ran_state s x (Waiting (inner_count p c x)) r) (ran_once b p.elements xs s x (Waiting (inner_count p c x)) r cell gave all))
@@ -162,7 +162,8 @@ restarted {C} b p xs s x r cell axioms exit gave all =
         rw (k, q, outside) refl
 
 pub step_again : {Y C : Type 0} (b : Behaviour C) (v w : CoreView Y C) (x : ℕ) (cell : C) → PlanAxioms v.plan → exits v.plan x ≡ true → ((s : State C) → Shows b v s → cell ≡ decided_cell (b.decide x (inputs_of b s x)))
-    → w ≡ with_elements v (rearmed v.plan (component_of v.plan x) (members_of v.plan (component_of v.plan x)) (changed v.elements x (after_run (Waiting (inner_count v.plan (component_of v.plan x) x)) cell))) → IsStep b v (Again x) w
+    → w ≡ with_elements v (restarted v.plan (component_of v.plan x) cell v.elements) → IsStep b v (Again x) w
 step_again b v w x cell axioms exit gave is =
-    step_of b v w (Again x) (rearmed v.plan (component_of v.plan x) (members_of v.plan (component_of v.plan x)) (changed v.elements x (after_run (Waiting (inner_count v.plan (component_of v.plan x) x)) cell))) is
-    (λ s old. restarted b v.plan v.elements s x (decided b s x) cell axioms exit (gave s old) old)
+    step_of b v w (Again x) (restarted v.plan (component_of v.plan x) cell v.elements) is
+    (λ s old. subst (λ (e : ℕ). StandAs b v.plan.elements (rearmed v.plan (component_of v.plan x) (members_of v.plan (component_of v.plan x)) (changed v.elements e (after_run (Waiting (inner_count v.plan (component_of v.plan x) e)) cell))) (after b (shape_of v.plan) s (Again x)))
+    (sym (exit_is v.plan x axioms exit)) (restart_shown b v.plan v.elements s x (decided b s x) cell axioms exit (gave s old) old))

@@ -2,7 +2,7 @@
 use Rattle.std.specs.Prelude.{◌≡◌, ℕ, zero, suc, ◌+◌, ◌==◌, List, [], ◌∷◌, length, map, slice_get, Some, if◌then◌else◌}
 use Rattle.std.specs.Arc.{arc_value}
 use Rattle.pk_plan.specs.declared.components.Component.{Component}
-use Rattle.pk_plan.specs.Plans.{PlanView, predecessors_of, inner_count}
+use Rattle.pk_plan.specs.Plans.{PlanView, predecessors_of, members_of, inner_count}
 use Rattle.pk_iterate.specs.Behaviour.{Behaviour, ReadsWithin}
 use Rattle.pk_core.specs.declared.events.Status.{Status}
 use Rattle.pk_core.specs.declared.events.Status.TheVariants.{Waiting, Held}
@@ -50,6 +50,10 @@ armed p c e = if e == c.head then Held else Waiting (inner_count p c e)
 abbrev pub rearmed : {C : Type 0} → PlanView → Component → List ℕ → List (Standing C) → List (Standing C)
 rearmed p c [] xs = xs
 rearmed p c (e ∷ es) xs = rearmed p c es (changed xs e (with_new_status (armed p c e)))
+
+-- after a run of its exit, which gave this cell, a component is gone through again: its exit and its members wait for one another, but the head is held
+abbrev pub restarted : {C : Type 0} → PlanView → Component → C → List (Standing C) → List (Standing C)
+restarted p c cell xs = rearmed p c (members_of p c) (changed xs c.exit (after_run (Waiting (inner_count p c c.exit)) cell))
 
 -- so many, each with a cell that it may hold; and the elements read elements alone
 pub record AreKept {C : Type 0} (b : Behaviour C) (may_hold : ℕ → C → Type 0) (elements : ℕ) (xs : List (Standing C)) : Type 0 where

@@ -23,13 +23,17 @@ IsHeld p s e = ((s e).status ≡ Held) × (e < p.elements)
 abbrev pub decides_again : {C : Type 0} → Behaviour C → State C → ℕ → Bool
 decides_again b s x = is_again (b.decide x (inputs_of b s x))
 
+-- the exit is held, and decides that its component is gone through again, or that it is not
+abbrev pub Decides : {C : Type 0} → Behaviour C → Shape → State C → ℕ → Bool → Type 0
+Decides b p s x again = IsHeld p s x × (p.is_exit x ≡ true) × (decides_again b s x ≡ again)
+
 abbrev pub Enabled : {C : Type 0} → Behaviour C → Shape → State C → Event → Type 0
 Enabled b p s (Offer e) = IsHeld p s e
 Enabled b p s (Claim e) = ((s e).status ≡ Open) × (e < p.elements)
 Enabled b p s (Finish e) = IsHeld p s e × (p.is_exit e ≡ false)
 Enabled b p s (Send u v) = (u < p.elements) × (v < p.elements) × (has v (s u).sends ≡ true)
-Enabled b p s (Stable x) = IsHeld p s x × (p.is_exit x ≡ true) × (decides_again b s x ≡ false)
-Enabled b p s (Again x) = IsHeld p s x × (p.is_exit x ≡ true) × (decides_again b s x ≡ true)
+Enabled b p s (Stable x) = Decides b p s x false
+Enabled b p s (Again x) = Decides b p s x true
 
 abbrev pub with_status : {C : Type 0} → Status → Element C → Element C
 with_status status x = record { status = status; made = x.made; sends = x.sends }

@@ -2,12 +2,12 @@
 
 ghost use Rattle.std.specs.Prelude.{◌≡◌, ◌-◌, ◌^◌, ◌<◌, IsTrue, OnOk, OnErr, Some, slice_get};
 ghost use Rattle.std.specs.Arc.{arc_value};
-ghost use Rattle.pk_plan.specs.Plans.{successors_of, members_of, inner_count};
+ghost use Rattle.pk_plan.specs.Plans.{successors_of};
 ghost use Rattle.pk_plan.specs.Axioms.{Axioms};
 ghost use Rattle.pk_plan.specs.Shape.{component_of, exits};
-ghost use Rattle.pk_core.specs.declared.events.Status.TheVariants.{Waiting, Done};
+ghost use Rattle.pk_core.specs.declared.events.Status.TheVariants.{Done};
 ghost use Rattle.pk_core.specs.Shown.{Standing};
-ghost use Rattle.pk_core.specs.Entries.{changed, with_new_status, without_send, with_arrival, with_sends, after_run, rearmed};
+ghost use Rattle.pk_core.specs.Entries.{changed, with_new_status, without_send, with_arrival, with_sends, after_run, restarted};
 
 use crate::cores::Core;
 use crate::entries::{finish, send, set_status};
@@ -52,7 +52,7 @@ impl<'a, Y: System> Core<'a, Y> {
         requires room { (y : Standing Y.Cell) → slice_get self.old.elements x ≡ Some y → y.run < 2 ^ 64 - 1 }
         requires held { Y.may_hold self.old.system x (arc_value cell) }
         ensures axioms { Axioms self.old.plan }
-        ensures new { self.new ≡ record self.old { elements = rearmed self.old.plan (component_of self.old.plan x) (members_of self.old.plan (component_of self.old.plan x)) (changed self.old.elements x (after_run (Waiting (inner_count self.old.plan (component_of self.old.plan x) x)) (arc_value cell))) } }
+        ensures new { self.new ≡ record self.old { elements = restarted self.old.plan (component_of self.old.plan x) (arc_value cell) self.old.elements } }
     {
         self.plan.axioms();
         let component = component_of(self.plan, x);

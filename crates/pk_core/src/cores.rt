@@ -100,7 +100,8 @@ impl<'a, Y: System> Core<'a, Y> {
     /// The cell of an element.
     pub fn cell(&self, e: u32) -> &Arc<Y::Cell>
         requires { e < self.now.plan.elements }
-        ensures { (s : State Y.Cell) → Shows (Y.meaning self.now.system) self.now s → arc_value result.now ≡ cell_in (Y.meaning self.now.system) s e }
+        ensures cell { (s : State Y.Cell) → Shows (Y.meaning self.now.system) self.now s → arc_value result.now ≡ cell_in (Y.meaning self.now.system) s e }
+        ensures held { Y.may_hold self.now.system e (arc_value result.now) }
     {
         &self.entries[e as usize].cell
     }

@@ -1,12 +1,12 @@
 // What is asked of a core's elements.
 
-ghost use Rattle.std.specs.Prelude.{◌≡◌, ◌↔◌, ◌<◌, IsTrue, IfOk, map, true};
+ghost use Rattle.std.specs.Prelude.{◌≡◌, ◌↔◌, ◌<◌, IsTrue, IfOk, map};
 ghost use Rattle.std.specs.Arc.{arc_value};
-ghost use Rattle.pk_plan.specs.Shape.{shape_of, exits};
+ghost use Rattle.pk_plan.specs.Shape.{shape_of};
 ghost use Rattle.pk_iterate.specs.Behaviour.{HoldEach, inputs_in, decided_cell, is_again};
 ghost use Rattle.pk_core.specs.declared.events.Event.TheVariants.{Claim, Send};
 ghost use Rattle.pk_core.specs.States.{State, inputs_of};
-ghost use Rattle.pk_core.specs.Events.{IsHeld, Enabled, decides_again};
+ghost use Rattle.pk_core.specs.Events.{IsHeld, Decides, Enabled};
 ghost use Rattle.pk_core.specs.Shown.{Shows};
 ghost use Rattle.pk_core.specs.Entries.{cells_of};
 
@@ -83,7 +83,7 @@ impl<'a, Y: System> Core<'a, Y> {
     }
 
     pub(crate) fn decides(&self, x: u32, again: bool) -> Result<bool, AllocError>
-        ensures { IfOk result (λ yes. (s : State Y.Cell) → Shows (Y.meaning self.now.system) self.now s → (IsTrue yes ↔ (IsHeld (shape_of self.now.plan) s x × (exits self.now.plan x ≡ true) × (decides_again (Y.meaning self.now.system) s x ≡ again)))) }
+        ensures { IfOk result (λ yes. (s : State Y.Cell) → Shows (Y.meaning self.now.system) self.now s → (IsTrue yes ↔ Decides (Y.meaning self.now.system) (shape_of self.now.plan) s x again)) }
     {
         if !self.holds(x) {
             return Ok(false);

@@ -3,10 +3,9 @@
 ghost use Rattle.std.specs.Prelude.{◌≡◌, ◌-◌, ◌^◌, ◌<◌, IsTrue, Contains, Some, length, map, slice_get};
 ghost use Rattle.std.specs.Arc.{arc_value};
 ghost use Rattle.pk_core.specs.declared.entries.Entry.{Entry};
-ghost use Rattle.pk_core.specs.declared.events.Status.TheVariants.{Waiting};
-ghost use Rattle.pk_plan.specs.Plans.{members_of, inner_count};
+ghost use Rattle.pk_plan.specs.Plans.{members_of};
 ghost use Rattle.pk_plan.specs.Shape.{component_of, exits};
-ghost use Rattle.pk_core.specs.Entries.{standing_of, changed, after_run, armed, rearmed};
+ghost use Rattle.pk_core.specs.Entries.{standing_of, armed, rearmed, restarted};
 
 use crate::entries::{Entry, run, set_status};
 use crate::events::Status;
@@ -61,7 +60,7 @@ pub fn restart<C: Drop>(entries: &mut [Entry<C>], plan: &Plan, component: &Compo
     requires long { length entries.old ≡ plan.now.elements }
     requires component { Contains plan.now.components component.now }
     requires room { (x : Entry C) → slice_get entries.old component.now.exit ≡ Some x → x.run < 2 ^ 64 - 1 }
-    ensures { map standing_of entries.new ≡ rearmed plan.now component.now (members_of plan.now component.now) (changed (map standing_of entries.old) component.now.exit (after_run (Waiting (inner_count plan.now component.now component.now.exit)) (arc_value cell))) }
+    ensures { map standing_of entries.new ≡ restarted plan.now component.now (arc_value cell) (map standing_of entries.old) }
 {
     plan.axioms();
     let inner = plan.inner(component, component.exit);

@@ -3,17 +3,16 @@ use Rattle.std.specs.Arc.{arc_value}
 use Rattle.std.specs.declared.sync.Arc.{Arc}
 use Rattle.std.specs.declared.alloc.Global.{Global}
 use Rattle.std.proofs.lemmas.List.{drop_more, get_or-map, length-map}
-use Rattle.std.proofs.Common.{◌≡◌, ℕ, zero, suc, List, [], ◌∷◌, All, map, drop, get_or, length, ap, ◌+◌, ◌-◌, ◌^◌, ◌<◌, ◌≤◌, ◌↔◌, ◌∙◌, Bool, true, sym, subst, arith, IsTrue}
+use Rattle.std.proofs.Common.{◌≡◌, ℕ, List, ◌∷◌, map, drop, get_or, length, ap, ◌+◌, ◌-◌, ◌^◌, ◌<◌, ◌≤◌, ◌↔◌, ◌∙◌, Bool, true, sym, subst, arith, IsTrue}
 use Rattle.pk_plan.specs.Plans.{PlanView}
 use Rattle.pk_plan.specs.Shape.{shape_of}
-use Rattle.std.specs.List.{slice_index_or}
-use Rattle.pk_iterate.specs.Behaviour.{Behaviour, ReadsWithin}
+use Rattle.pk_iterate.specs.Behaviour.{Behaviour}
 use Rattle.pk_core.specs.declared.events.Event.{Event}
 use Rattle.pk_core.specs.States.{State, run_number}
 use Rattle.pk_core.specs.Events.{start, Enabled, after}
 use Rattle.pk_core.specs.Shown.{CoreView, Shows}
 use Rattle.pk_core.specs.Steps.{IsAbout, CanStep, IsStep}
-use Rattle.pk_core_tests.specs.Mixing.{mixed_more, mixed_from, mixing}
+use Rattle.pk_core_tests.specs.Mixing.{mixed_more, mixed_from}
 use Rattle.pk_core.proofs.Listed.{one_run, has_room}
 
 pub record Driven {Y C : Type 0} (m : Y → Behaviour C) (y : Y) (p : PlanView) (n : ℕ) (c : CoreView Y C) : Type 0 where
@@ -45,15 +44,6 @@ driven_next {Y} {C} m y p n c d event so step = record {
   shown = subst (λ (k : Y). Shows (m k) d (after (m c.system) (shape_of c.plan) so.state event)) (sym step.about.system) (step.shown so.state so.shown);
   few = λ u. omega (arith, one_run (m c.system) (shape_of c.plan) so.state event u, so.few u);
 }
-
--- rows of elements alone
-rows_at : (rows : List (List ℕ)) (n e : ℕ) → All (All (λ u. u < n)) rows → All (λ u. u < n) (slice_index_or rows e [])
-rows_at [] n e all = λ k d below. absurd (omega (arith, below))
-rows_at (row ∷ rows) n zero all = all 0 [] (omega arith)
-rows_at (row ∷ rows) n (suc e) all = rows_at rows n e (λ k d below. all (suc k) d (omega (arith, below)))
-
-pub reads_of_rows : (rows : List (List ℕ)) (n : ℕ) → All (All (λ u. u < n)) rows → ReadsWithin (mixing rows) n
-reads_of_rows rows n all = λ e below. rows_at rows n e all
 
 -- one cell more is mixed
 pub mixed_step : (cells : List (Arc ℕ Global)) (i first so_far next : ℕ) (cell : Arc ℕ Global) → i < length cells → cell ≡ get_or cells i cell → next ≡ mixed_more so_far (arc_value cell) → mixed_from first (map arc_value cells) ≡ mixed_from so_far (drop i (map arc_value cells)) → mixed_from first (map arc_value cells) ≡ mixed_from next (drop (i + 1) (map arc_value cells))

@@ -1,7 +1,6 @@
-//! The tests of the scheduler's core.
+//! The tests of the scheduler's core, and lists of events that are drawn.
 #![tactic(auto)]
 
-#[cfg(test)]
 mod drives;
 #[cfg(test)]
 mod lists;
@@ -9,3 +8,5 @@ mod lists;
 mod mixing;
 #[cfg(test)]
 mod plans;
+
+pub use drives::{Drive, driven, reads_within};

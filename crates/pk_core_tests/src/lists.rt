@@ -121,9 +121,9 @@ fn driven_as_iterated(
     let (plan, order) = ordered(alloc, &graph)?;
     let system = mixing_over(rt, alloc, &graph, &plan)?;
     let cells = iterated(alloc, &system, &order).ok().ok_or("no end")?;
-    for seed in 1..21u64 {
-        let core = driven(alloc, &system, &plan, seed)?.ok_or("no end")?;
-        assert!(rt; same(&core, &cells, plan.elements()));
+    for seed in 1..21u32 {
+        let drive = driven(alloc, &system, &plan, seed)?.ok_or("no end")?;
+        assert!(rt; same(&drive.core, &cells, plan.elements()));
     }
     Ok(most_runs(&cells, plan.elements()))
 }

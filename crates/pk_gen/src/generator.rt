@@ -6,7 +6,8 @@ ghost use Rattle.pk_gen.specs.Generator.{next_state, drawn as drawn_at, block_li
 
 use std::alloc::{AllocError, Global};
 
-fn next(state: u32) -> u32
+/// The state after a draw.
+pub fn next(state: u32) -> u32
     requires { state < 2147483648 }
     ensures state { result ≡ next_state state }
     ensures range { result < 2147483648 }
@@ -14,7 +15,8 @@ fn next(state: u32) -> u32
     ((state as u64 * 1103515245 + 12345) % 2147483648) as u32
 }
 
-fn drawn(state: u32) -> u32
+/// What is drawn as a state is reached.
+pub fn drawn(state: u32) -> u32
     ensures { result ≡ drawn_at state }
 {
     state / 65536

@@ -3,4 +3,4 @@
 
 mod generator;
 
-pub use generator::generate;
+pub use generator::{drawn, generate, next};

@@ -1,4 +1,4 @@
-use Rattle.std.proofs.Common.{◌≡◌, ◌∙◌, ◌^◌, ◌-◌, ap, sym, length, map, rules, subst}
+use Rattle.std.proofs.Common.{◌≡◌, ◌∙◌, ◌^◌, ◌-◌, ap, sym, length, map, subst, arith}
 use Rattle.std.specs.Arc.{arc_value}
 use Rattle.pk_core.specs.declared.events.Status.TheVariants.{Done}
 use Rattle.pk_core.specs.Entries.{standing_of, changed, after_run, with_sends}
@@ -12,10 +12,10 @@ finish-requires-clause-room g c =
 pub invariant_of-self : goal.invariant_of-self
 invariant_of-self g c =
     let items = c.self.inside.entries.items in
+    let in_all : length items ≡ c.self.inside.entries.len = omega (arith, c.self.inside.entries.ok.0) in
     let run = after_run Done (arc_value c.args.cell) in
     let leave = with_sends c.in_ok-sends.sends.items in
     let ran = changed (map standing_of items) c.args.e run in
-    let in_all : length items ≡ c.self.inside.entries.len = search rules in
     let held = subst (λ v. g.Y.System.may_hold v.system c.args.e (arc_value c.args.cell)) (sym c.self.view_is) c.requires.held in
     kept_written _ _ _ c.finish.new.entries items c.self.inside.entries.len (changed ran c.args.e leave)
     (c.finish.ensures ∙ ap (λ xs. changed (changed (map standing_of xs) c.args.e run) c.args.e leave) c.deref_mut.ensures.value)

@@ -1,5 +1,5 @@
 use Rattle.std.proofs.Common.{length}
-use Rattle.pk_core_tests.proofs.plans.+row_within.Given as goal
+use Rattle.pk_core_tests.proofs.drives.+row_within.Given as goal
 
 abbrev pub decreases-row_within : goal.decreases-row_within
 decreases-row_within l = length l.row.now
