@@ -20,6 +20,7 @@ use Rattle.pk_meaning.specs.Runs.{with_arguments}
 use Rattle.pk_visits.proofs.Stands.{HasKind, FitsObjects}
 use Rattle.pk_visits.proofs.Stores.{same_object, other_object}
 use Rattle.pk_visits.proofs.Follow.{kind_is}
+use Rattle.pk_followed.proofs.Basics.{some_at, all_get}
 
 -- ---- arguments of the entry
 
@@ -107,20 +108,10 @@ mapped f [] i d x e = absurd (none-some x e)
 mapped {A = A} f (y ∷ xs) zero d x e = ap (λ (o : Option A). f (unwrap_or o x)) e
 mapped f (y ∷ xs) (suc i) d x e = mapped f xs i d x e
 
-all_get : {A : Type 0} (P : A → Type 0) (xs : List A) (i : ℕ) (x : A) → All P xs → slice_get xs i ≡ Some x → P x
-all_get P [] i x h e = absurd (none-some x e)
-all_get {A = A} P (y ∷ xs) zero x h e = subst P (ap (λ (o : Option A). unwrap_or o x) e) (h 0 y (omega arith))
-all_get P (y ∷ xs) (suc i) x h e = all_get P xs i x (λ k d l. h (suc k) d (omega (l, arith))) e
-
 -- ---- the first objects fit
 
 abbrev first_locals : UnitTree → CallPath → List LocalTree
 first_locals u q = (unwrap_or (body_of u q.function) program.no_body).locals
-
-some_at : {A : Type 0} (xs : List A) (k : ℕ) → k < length xs → (x : A) × (slice_get xs k ≡ Some x)
-some_at [] k h = absurd (omega (h, arith))
-some_at (x ∷ xs) zero h = (x, refl)
-some_at (x ∷ xs) (suc k) h = some_at xs k (omega (h, arith))
 
 block_at : (u : UnitTree) (paths : List CallPath) (k : ℕ) (q : CallPath) → slice_get paths k ≡ Some q → (block_of (record { unit = u; paths = paths }) k).locals ≡ first_locals u q
 block_at u paths k q e = ap (λ (r : CallPath). first_locals u r) (get_or_from_slice_get paths k q (entry_path 0) e)

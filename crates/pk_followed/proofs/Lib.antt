@@ -1,3 +1,4 @@
+mod Basics
 mod Paths
 mod Pairs
 mod Naming

@@ -67,11 +67,6 @@ one_path u paths x y k m e p q = let z : Some k ≡ Some m = sym p ∙ (ap (λ (
 
 -- ---- objects of one path
 
-some_path : (paths : List CallPath) (k : ℕ) → k < length paths → (p : CallPath) × (slice_get paths k ≡ Some p)
-some_path [] k h = absurd (omega (h, arith))
-some_path (p ∷ ps) zero h = (p, refl)
-some_path (p ∷ ps) (suc k) h = some_path ps k (omega (h, arith))
-
 -- as many as its function declares
 pub ends_many : (u : UnitTree) (paths : List CallPath) (k : ℕ) (h : PartOf (world u paths) (whole u paths) k) → (ends_of u paths k).objects ≡ (ends h.place.function h.place.body).objects
 ends_many u paths k h =

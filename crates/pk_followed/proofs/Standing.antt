@@ -30,7 +30,7 @@ use Rattle.pk_followed.proofs.WholeGraph.{paths_at, whole_is}
 use Rattle.pk_followed.proofs.PathBodies.{path_stands}
 use Rattle.pk_followed.proofs.EntryPoint.{entry_label}
 use Rattle.pk_followed.proofs.Begins.{body_shows, opened_position}
-use Rattle.pk_followed.proofs.Starts.{all_get}
+use Rattle.pk_followed.proofs.Basics.{all_get}
 use Rattle.pk_followed.proofs.Starting.{first_path}
 use Rattle.pk_followed.proofs.Followed.{Stand, graph_visits}
 

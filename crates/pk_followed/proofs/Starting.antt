@@ -26,6 +26,7 @@ use Rattle.pk_visits.proofs.Slots.{own}
 use Rattle.pk_visits.proofs.Stands.{HasKind}
 use Rattle.pk_visits.proofs.Follow.{kind_is}
 use Rattle.pk_visits.proofs.NumberedStarts.{StartsWith}
+use Rattle.pk_followed.proofs.Basics.{some_at}
 use Rattle.pk_followed.proofs.Pairs.{whole, final, ends_of, IsOutside, IsLocal, locals_at, world, function_at_path, AreTyped}
 use Rattle.pk_followed.proofs.Naming.{naming, Made, file_is}
 use Rattle.pk_followed.proofs.Graphs.{program_of, by_numbers}
@@ -103,11 +104,6 @@ entry_types u entry paths l h b =
     let p = h.parts 0 b in
     let same : Some p.path ≡ Some (entry_path entry) = sym p.place.path ∙ first_path u entry paths l in
     its_types u paths 0 p ∙ ap (λ (o : Option CallPath). parameters_of u (unwrap_or o p.path).function) same
-
-some_at : {A : Type 0} (xs : List A) (k : ℕ) → k < length xs → (x : A) × (slice_get xs k ≡ Some x)
-some_at [] k h = absurd (omega (h, arith))
-some_at (x ∷ xs) zero h = (x, refl)
-some_at (x ∷ xs) (suc k) h = some_at xs k (omega (h, arith))
 
 -- a parameter of the entry holds any number of its type
 outer_begins : (u : UnitTree) (entry : ℕ) (paths : List CallPath) (unit : IsUnit u) (l : IsListing u entry paths) (h : AreTyped u paths) (o : Objects) → AreFirst u paths o → (i x : ℕ) (m : IsLocal u paths 0 i x) → i < length (parameters_of u entry)
