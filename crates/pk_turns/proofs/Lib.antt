@@ -1,0 +1,3 @@
+pub mod Begun_classes
+pub mod Cells
+pub mod Ending
