@@ -1,6 +1,6 @@
-//! The analysis of every graph ends, and heads are run only so often.
+//! The analysis of every graph ends, and elements are run only so often.
 #![tactic(auto)]
 
 mod laws;
 
-pub use laws::{analyses_end, cells_are_states};
+pub use laws::{analyses_end, cells_are_states, limits_are_low, runs_are_few};
