@@ -1,9 +1,11 @@
 -- The analysis of a graph ends.
-use Rattle.std.specs.Prelude.{ℕ, ◌<◌, ◌^◌, List, map, Option}
+use Rattle.std.specs.Prelude.{◌≡◌, ℕ, ◌<◌, ◌≤◌, ◌^◌, ℤ, List, map, length, Option}
 use Rattle.pk_graph.specs.Graphs.{GraphOf}
 use Rattle.pk_graph.specs.WellMade.{IsGraph}
 use Rattle.pk_state.specs.Facts.{Facts, Stated}
-use Rattle.pk_thresh.specs.Chains.{IsChainBound}
+use Rattle.pk_transfer.specs.Graphs.{layout_of}
+use Rattle.pk_thresh.specs.Thresholds.{AreThresholds}
+use Rattle.pk_thresh.specs.Chains.{chain_bound_of, IsChainBound}
 use Rattle.pk_plan.specs.Order.{Level}
 use Rattle.pk_plan.specs.Plans.{PlanView}
 use Rattle.pk_iterate.specs.Iteration.{cell_after, progress}
@@ -15,7 +17,12 @@ use Rattle.pk_analysis.specs.declared.analysis.Options.{Options}
 use Rattle.pk_analysis.specs.Flows.{Flow, equations_of}
 use Rattle.pk_analysis.specs.Made.{IsAnalysisOf}
 use Rattle.pk_answer.specs.Reported.{IsSystem}
-use Rattle.pk_ranks.specs.States.{IsStateOf}
+use Rattle.pk_ranks.specs.States.{IsStateOf, IsChain}
+
+-- No list of widening steps of states over a graph is longer than its bound.
+abbrev pub GraphChainsEnd : Type 0
+GraphChainsEnd =
+    (g : GraphOf) (oct chain : ℕ) (thresholds : List ℤ) (h : Option Facts) (ns : List (Option Facts)) → IsChainBound g oct chain → AreThresholds g thresholds → IsStateOf (layout_of g oct) h → IsChain (layout_of g oct) thresholds h ns → length ns ≤ chain
 
 -- what is known at an element after these runs; nothing at an exit
 abbrev pub known_after : Flow → List (ℕ × Cell Stated) → ℕ → Option Facts
@@ -39,3 +46,8 @@ abbrev pub AnalysesEnd : Type 0
 AnalysesEnd =
     (g : GraphOf) (o : Options) (p : PlanView) (order : Level) (a : Flow) (chain : ℕ) → IsGraph g → o.oct < 2 ^ 31 → IsSystem g o p order a → IsChainBound g o.oct chain
     → EndsWithin (behaviour_of (equations_of a)) order (turn_bound chain o.narrow)
+
+-- two scalars, seven thresholds and one variable in the octagon, with two runs that narrow
+pub record SmallBounds : Type 0 where
+  pub chain : chain_bound_of 2 7 1 ≡ 169
+  pub turns : turn_bound 169 2 ≡ 342

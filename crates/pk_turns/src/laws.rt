@@ -1,9 +1,19 @@
 // How often elements are run, and that the analysis ends.
 
-ghost use Rattle.pk_turns.specs.Ended.{AnalysesEnd, CellsAreStates};
+ghost use Rattle.pk_turns.specs.Ended.{AnalysesEnd, CellsAreStates, GraphChainsEnd, SmallBounds};
 ghost use Rattle.pk_turns.specs.Counted.{LimitsAreLow, RunsAreFew};
 
 use pk_iterate::System;
+
+/// No list of widening steps of states over a graph is longer than its bound on chains.
+pub fn graph_chains_end()
+    ensures { GraphChainsEnd }
+{}
+
+/// The bounds in numbers, for two scalars, seven thresholds and one variable in the octagon.
+pub fn small_bounds()
+    ensures { SmallBounds }
+{}
 
 /// What is known at each element, and what its equation gives, are states in which classes are of their variables' types.
 pub fn cells_are_states()

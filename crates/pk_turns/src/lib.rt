@@ -3,4 +3,6 @@
 
 mod laws;
 
-pub use laws::{analyses_end, cells_are_states, limits_are_low, runs_are_few};
+pub use laws::{
+    analyses_end, cells_are_states, graph_chains_end, limits_are_low, runs_are_few, small_bounds,
+};
