@@ -5,5 +5,5 @@ mod ReadLemmas
 mod StartLemmas
 mod LayoutLemmas
 mod FlowLemmas
-mod OrderLemmas
+pub mod OrderLemmas
 mod ReducedLemmas

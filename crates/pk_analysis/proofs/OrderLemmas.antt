@@ -73,7 +73,7 @@ module _ (l : Layout) (a b : Facts) (f : AreFacts l a) (g : AreFacts l b) where
         (cells_below (2 * a.octagon.vars) a.octagon.cells b.octagon.cells (length a.octagon.cells) f.octagon.whole.size (omega arith) (λ k h. bounds_from a.octagon.cells b.octagon.cells k as_large e h) i j);
   }
 
-  octagon_to : tables.IsBelow a.octagon b.octagon → bounds_within a.octagon.cells b.octagon.cells ≡ true
+  pub octagon_to : tables.IsBelow a.octagon b.octagon → bounds_within a.octagon.cells b.octagon.cells ≡ true
   octagon_to h = bounds_to a.octagon.cells b.octagon.cells as_large
       (λ k l. cells_at (2 * a.octagon.vars) a.octagon.cells b.octagon.cells k f.octagon.whole.size l (λ i j. subst (λ (o : Option ℤ). AtMost (entry a.octagon i j) o) (entry_is i j) (h.each i j)))
 

@@ -1,6 +1,6 @@
 mod Reading
 mod Solving
 mod Told
-mod Sorting
+pub mod Sorting
 mod Determined
 mod Telling

@@ -2,3 +2,4 @@ mod Rooms
 mod Stops
 mod Analysing
 mod Replying
+mod Limiting

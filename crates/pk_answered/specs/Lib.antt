@@ -1,3 +1,4 @@
 pub mod Analyses
 pub mod Answers
 pub mod Rooms
+pub mod Limits

@@ -1,13 +1,16 @@
 // Laws of existence: reports, orders, replies, answers.
 
 ghost use Rattle.pk_answered.specs.Analyses.{EveryGraphIsOrdered, EveryGraphIsReported, EveryGraphIsSummed};
+ghost use Rattle.pk_answered.specs.Limits.{CutOffsAreLow, EnoughIsReported, EnoughIsSummed, EveryGraphHasLimits};
 ghost use Rattle.pk_answered.specs.Rooms.{ShortGraphsHaveRoom};
 ghost use Rattle.pk_answered.specs.Answers.{CommandsAreAnswered, OrdersAreAnswered, ShortGraphsAreAnswered, WordsAreAnswered, WordsForOrdersAreAnswered};
 
 use pk_command::taken_asks;
 use pk_exists::every_digraph_has_an_order;
+use pk_order::order_is_determined;
 use pk_told::graphs_are_well_made;
 use pk_total::every_text_ends;
+use pk_turns::limits_are_low;
 
 /// Memory has room for every graph with no list as long as 2^63.
 pub fn short_graphs_have_room()
@@ -33,6 +36,38 @@ pub fn every_graph_is_summed()
     ensures { EveryGraphIsSummed }
 {
     every_digraph_has_an_order();
+}
+
+/// Where the run limit is enough, it has a report.
+pub fn enough_is_reported()
+    ensures { EnoughIsReported }
+{
+    every_graph_is_reported();
+    limits_are_low();
+}
+
+/// So it has a summary.
+pub fn enough_is_summed()
+    ensures { EnoughIsSummed }
+{
+    every_graph_is_summed();
+    limits_are_low();
+}
+
+/// For every graph some limit is enough, and so is each greater one.
+pub fn every_graph_has_limits()
+    ensures { EveryGraphHasLimits }
+{
+    every_digraph_has_an_order();
+    order_is_determined();
+}
+
+/// So the run limit is told of a text only where it isn't enough for the text's graph.
+pub fn cut_offs_are_low()
+    ensures { CutOffsAreLow }
+{
+    limits_are_low();
+    graphs_are_well_made();
 }
 
 /// An order asked of whatever text has a reply.

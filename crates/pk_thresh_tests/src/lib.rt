@@ -1,0 +1,5 @@
+//! Tests of the bound on chains of widening steps.
+#![tactic(auto)]
+
+#[cfg(test)]
+mod chains;
