@@ -12,7 +12,7 @@ use Rattle.pk_analysis.specs.declared.analysis.Options.{Options}
 use Rattle.pk_analysis.specs.Digraphs.{digraph_of}
 use Rattle.pk_answer.specs.Reported.{IsOver}
 use Rattle.pk_turns.specs.Counted.{LimitsAreLow, depth_of}
-use Rattle.pk_top.specs.Answers.{GraphsAreWellMade}
+use Rattle.pk_told.specs.Answers.{GraphsAreWellMade}
 use Rattle.pk_answered.specs.Analyses.{EveryGraphIsReported, EveryGraphIsSummed}
 use Rattle.pk_answered.specs.Limits.{IsEnough, EnoughIsReported, EnoughIsSummed, EveryGraphHasLimits, CutOffsAreLow}
 use Rattle.pk_answered.proofs.Stops.{thresholds_of, are_thresholds}

@@ -10,7 +10,7 @@ use Rattle.pk_phases.specs.Turns.{turn_bound}
 use Rattle.pk_analysis.specs.declared.analysis.Options.{Options}
 use Rattle.pk_analysis.specs.Digraphs.{digraph_of}
 use Rattle.pk_answer.specs.Reported.{IsReport, IsSummary}
-use Rattle.pk_top.specs.Answers.{IsTooLong}
+use Rattle.pk_told.specs.Answers.{IsTooLong}
 use Rattle.pk_turns.specs.Counted.{depth_of}
 use Rattle.pk_answered.specs.Analyses.{HasRoom}
 

@@ -34,7 +34,7 @@ use Rattle.pk_sound.proofs.Systems.{system_of}
 use Rattle.pk_ranks.specs.States.{IsStateOf}
 use Rattle.pk_ranks.proofs.Staying.{states_stay}
 use Rattle.pk_turns.specs.Ended.{CellsAreStates}
-use Rattle.pk_turns.proofs.Begun_classes.{start_state}
+use Rattle.pk_turns.proofs.BegunClasses.{start_state}
 
 -- a point's value is a state of the layout
 abbrev pub KnowsState : Layout → ℕ → Stated → Type 0

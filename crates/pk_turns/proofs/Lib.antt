@@ -1,4 +1,4 @@
-pub mod Begun_classes
+pub mod BegunClasses
 pub mod Cells
 pub mod Ending
 pub mod Counting
