@@ -87,16 +87,20 @@ instr_copied u paths (Load x a s b i) h =
     let f = naming u paths in
     let m = pair_made u paths x h.0.there in
     let n = array_copied u paths a h.1 in
-    let o = tree_copied u paths i h.3 in
-    (ap (λ (y : ℕ). Load y (renamed_array f (array_by slot_of a)) s b (renamed f (tree_by slot_of i))) m.0
-    ∙ (ap (λ (y : ArrayOf ℕ). Load x.1 y s b (renamed f (tree_by slot_of i))) n.0 ∙ ap (λ (y : TreeOf ℕ). Load x.1 (array_by number_of a) s b y) o.0), (m.1, n.1, o.1))
+    let o = tree_copied u paths i h.3 in (
+      ap (λ (y : ℕ). Load y (renamed_array f (array_by slot_of a)) s b (renamed f (tree_by slot_of i))) m.0
+          ∙ (ap (λ (y : ArrayOf ℕ). Load x.1 y s b (renamed f (tree_by slot_of i))) n.0 ∙ ap (λ (y : TreeOf ℕ). Load x.1 (array_by number_of a) s b y) o.0),
+      (m.1, n.1, o.1),
+    )
 instr_copied u paths (Store a s b i e) h =
     let f = naming u paths in
     let m = array_copied u paths a h.0 in
     let n = tree_copied u paths i h.1 in
-    let o = tree_copied u paths e h.2.typed in
-    (ap (λ (y : ArrayOf ℕ). Store y s b (renamed f (tree_by slot_of i)) (renamed f (tree_by slot_of e))) m.0
-    ∙ (ap (λ (y : TreeOf ℕ). Store (array_by number_of a) s b y (renamed f (tree_by slot_of e))) n.0 ∙ ap (λ (y : TreeOf ℕ). Store (array_by number_of a) s b (tree_by number_of i) y) o.0), (m.1, n.1, o.1))
+    let o = tree_copied u paths e h.2.typed in (
+      ap (λ (y : ArrayOf ℕ). Store y s b (renamed f (tree_by slot_of i)) (renamed f (tree_by slot_of e))) m.0
+          ∙ (ap (λ (y : TreeOf ℕ). Store (array_by number_of a) s b y (renamed f (tree_by slot_of e))) n.0 ∙ ap (λ (y : TreeOf ℕ). Store (array_by number_of a) s b (tree_by number_of i) y) o.0),
+      (m.1, n.1, o.1),
+    )
 instr_copied u paths (Guard e b) h = let m = tree_copied u paths e h in (ap (λ (y : TreeOf ℕ). Guard y b) m.0, m.1)
 instr_copied u paths (Check s e) h = let m = tree_copied u paths e h in (ap (λ (y : TreeOf ℕ). Check s y) m.0, m.1)
 

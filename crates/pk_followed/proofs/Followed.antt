@@ -51,11 +51,25 @@ stands_first g s q at fits =
     record {
       exits = q.exits;
       waiting = [];
-      laid = (tt, (q.draft, q.objects, q.mark, q.enters ∙ at, q.fits, tt, q.stage, q.marking, q.settled, (
-        end,
-        record { draft = q.draft; objects = q.objects; mark = q.mark; fits = q.fits; calm = tt; stage = q.stage; marking = q.marking; settled = q.settled; ended = end },
-        refl,
-      )));
+      laid = (
+        tt,
+        (
+          q.draft,
+          q.objects,
+          q.mark,
+          q.enters ∙ at,
+          q.fits,
+          tt,
+          q.stage,
+          q.marking,
+          q.settled,
+          (
+            end,
+            record { draft = q.draft; objects = q.objects; mark = q.mark; fits = q.fits; calm = tt; stage = q.stage; marking = q.marking; settled = q.settled; ended = end },
+            refl,
+          ),
+        ),
+      );
       means = tt;
       same = refl;
       fits = fits;
