@@ -1,10 +1,10 @@
-mod Basics
+pub mod Basics
 mod Paths
 pub mod Pairs
 mod Naming
 pub mod Graphs
 mod Copies
-pub mod Starts
+mod Starts
 mod Propers
 pub mod PartAdds
 pub mod Pending

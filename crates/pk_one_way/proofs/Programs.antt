@@ -18,7 +18,7 @@ use Rattle.pk_visits.proofs.Slots.{Never, region_at}
 use Rattle.pk_visits.proofs.Stands.{IsCalled}
 use Rattle.pk_visits.proofs.Stages.{all_called}
 use Rattle.pk_visits.proofs.Growing.{AllCalled}
-use Rattle.pk_followed.proofs.Starts.{all_get}
+use Rattle.pk_followed.proofs.Basics.{all_get}
 use Rattle.pk_followed.proofs.Pairs.{whole, begins, world, AreTyped}
 use Rattle.pk_followed.proofs.PartAdds.{context_at, part_at, body_part, called_size, called_within, part_ends}
 use Rattle.pk_followed.proofs.Pending.{next_part}
