@@ -1,14 +1,17 @@
 -- From runs of a program to runs of its graph, and to what is told of it.
 use Rattle.std.specs.Prelude.{◌≡◌, ◌⊎◌, ℕ, ◌<◌, Bool, true, false, if◌then◌else◌, List, [], ◌∷◌, length, All, Contains, Option, Some, None}
-use Rattle.std.proofs.Common.{refl, sym, subst, inl, inr}
+use Rattle.std.proofs.Common.{◌∙◌, refl, sym, subst, inl, inr}
 use Rattle.std.proofs.lemmas.List.Elements.{All-nil, All-cons, All-get_or, All-contains}
-use Rattle.pk_graph.specs.Accesses.{AccessOf}
+use Rattle.pk_graph.specs.Accesses.{OperationOf, Index, Divisor, Negation, Result, Shift, Assertion, AccessOf}
 use Rattle.pk_graph.specs.Graphs.{EdgeOf, GraphOf, no_point, point_at}
 use Rattle.pk_graph.specs.Steps.{Failure}
 use Rattle.pk_graph.specs.Stores.{Stored}
 use Rattle.pk_graph.specs.WellMade.{IsGraph, IsPointOf, IsEdgeOf}
 use Rattle.pk_state.specs.Facts.{Stated}
 use Rattle.pk_sound.specs.Runs.{Reaches, begins, steps as step_of}
+use Rattle.pk_report.specs.Reports as report
+use Rattle.pk_report.specs.Reports.{state_at}
+use Rattle.pk_sound.specs.Faults as sound
 use Rattle.pk_sound.specs.Faults.{IsHidden, IsFailing}
 use Rattle.pk_runs.specs.True.{AreTrueOf, IsUnknownIn}
 use Rattle.pk_meaning.specs.Programs.{Program}
@@ -16,6 +19,15 @@ use Rattle.pk_meaning.specs.Runs.{Visit}
 use Rattle.pk_visits.specs.GraphVisits.{GraphRuns, ends, steps, is_visit, visit_at, visits_if}
 use Rattle.pk_visits.specs.SameVisits.{ProgramVisits, GraphVisits, FailsAt, EndsAt, HaveSameVisits}
 use Rattle.pk_true.specs.ToldOfPrograms.{IsToldVisit, IsToldFault, IsHiddenFault, IsToldEnd, IsTrueOfProgram}
+use Rattle.pk_true.proofs.Bounded.{store_told}
+
+same_kind : (o : OperationOf) → report.fault_of o ≡ sound.fault_of o
+same_kind (Index n i) = refl
+same_kind (Divisor a b) = refl
+same_kind (Negation t e) = refl
+same_kind (Result op t a b) = refl
+same_kind (Shift op t a b) = refl
+same_kind (Assertion e) = refl
 
 module _ (g : GraphOf) (states : List Stated) (made : IsGraph g) (t : AreTrueOf g states) where
   -- a run comes to points of the graph alone
@@ -26,7 +38,7 @@ module _ (g : GraphOf) (states : List Stated) (made : IsGraph g) (t : AreTrueOf 
       (All-contains (IsEdgeOf g) (point_at g p).edges e point.edges has).leads_to_a_point
 
   told : (v : ℕ) (s : Stored) → Reaches g v s → IsToldVisit g states (visit_at g v s)
-  told v s h = record { point = v; store = s; there = there v s h; visit_is = refl; agrees = t.holds v s h }
+  told v s h = record { point = v; there = there v s h; told = store_told g (state_at states v).layout (state_at states v).facts v s (t.holds v s h) }
 
   told_if : (e : EdgeOf) (s : Stored) (vs : List Visit) → Reaches g e.to s → All (IsToldVisit g states) vs → All (IsToldVisit g states) (visits_if g e s vs)
   told_if e s vs h all = by (is_visit g e)
@@ -46,7 +58,7 @@ module _ (g : GraphOf) (states : List Stated) (made : IsGraph g) (t : AreTrueOf 
   failing p s f h x = by (t.faults p s x.edge x.chosen f h x.there x.fails)
     where
       by : ((a : AccessOf) × IsFailing p x.edge.instr f s a × IsUnknownIn states p a) ⊎ IsHidden x.edge.instr f.site → IsToldFault g states f ⊎ IsHiddenFault g f
-      by (inl (a, is, unknown)) = inl (record { point = p; edge = x.edge; there = x.there; access = a; listed = is.listed; place = is.site; kind = is.fault; unknown = unknown })
+      by (inl (a, is, unknown)) = inl (record { point = p; edge = x.edge; there = x.there; access = a; listed = is.listed; place = is.site; kind = same_kind a.operation ∙ is.fault; unknown = unknown })
       by (inr hidden) = inr (record { point = p; edge = x.edge; there = x.there; hidden = hidden })
 
   ended : (p : ℕ) (s : Stored) (end : Option Failure) → Reaches g p s → EndsAt g p s end → IsToldEnd g states end

@@ -3,4 +3,4 @@
 
 mod laws;
 
-pub use laws::followed_programs_are_told;
+pub use laws::reports_are_true_of_programs;
