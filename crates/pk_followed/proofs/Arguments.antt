@@ -1,7 +1,6 @@
 -- What the objects hold when a run begins.
-use Rattle.std.proofs.Common.{◌≡◌, ◌≢◌, ℕ, zero, suc, ◌+◌, ◌-◌, ◌<◌, ◌≤◌, ◌⊎◌, inl, inr, List, [], ◌∷◌, ◌++◌, length, map, Bool, true, false, ◌&&◌, nat_eq, if◌then◌else◌, Option, Some, None, refl, sym, ap, subst, ◌∙◌, arith, ℤ, pos, replicate, slice_index_or, length-append}
-use Rattle.std.proofs.lemmas.Option.{none-some, slice_get_within, get_or_from_slice_get}
-use Rattle.std.proofs.lemmas.List.{length-map}
+use Rattle.std.proofs.Common.{◌≡◌, ℕ, zero, suc, ◌+◌, ◌-◌, ◌<◌, ◌≤◌, List, [], ◌∷◌, ◌++◌, length, map, Bool, true, false, ◌&&◌, if◌then◌else◌, Option, Some, None, refl, sym, ap, subst, ◌∙◌, arith, ℤ, pos, replicate, slice_index_or, length-append}
+use Rattle.std.proofs.lemmas.Option.{none-some, get_or_from_slice_get}
 use Rattle.std.specs.Prelude.{All, slice_get, option_map, unwrap_or}
 use Rattle.pk_ctypes.specs.declared.types.IntType.{IntType}
 use Rattle.pk_ctypes.specs.Types.{InType, is_in_type}
@@ -13,14 +12,15 @@ use Rattle.pk_calls.specs.Calls.{body_of}
 use Rattle.pk_calls.specs.Paths.{entry_path}
 use Rattle.pk_graph.specs.Kinds.{count_of}
 use Rattle.pk_graph.specs.Steps.{Numbers, all_in_type}
-use Rattle.pk_welltyped.specs.WellTyped.{Kind, scalar, kind_in_file, kind_among, length_at_start, IsStart, IsUnit}
-use Rattle.pk_meaning.specs.Objects.{Object, file, local, result, Objects, locals_of, numbers_of, with_numbers}
+use Rattle.pk_welltyped.specs.WellTyped.{Kind, scalar, kind_among, length_at_start, IsStart, IsUnit}
+use Rattle.pk_meaning.specs.Objects.{Object, file, local, result, Objects, numbers_of, with_numbers}
 use Rattle.pk_meaning.specs.Programs as program
 use Rattle.pk_meaning.specs.Programs.{Program, block_of, start_of, zeros_of, first_objects}
 use Rattle.pk_meaning.specs.Runs.{with_arguments}
 use Rattle.pk_visits.proofs.Stands.{HasKind, FitsObjects}
 use Rattle.pk_visits.proofs.Stores.{same_object, other_object}
 use Rattle.pk_visits.proofs.Follow.{kind_is}
+use Rattle.pk_followed.proofs.Basics.{some_at, all_get}
 
 -- ---- arguments of the entry
 
@@ -108,20 +108,10 @@ mapped f [] i d x e = absurd (none-some x e)
 mapped {A = A} f (y ∷ xs) zero d x e = ap (λ (o : Option A). f (unwrap_or o x)) e
 mapped f (y ∷ xs) (suc i) d x e = mapped f xs i d x e
 
-all_get : {A : Type 0} (P : A → Type 0) (xs : List A) (i : ℕ) (x : A) → All P xs → slice_get xs i ≡ Some x → P x
-all_get P [] i x h e = absurd (none-some x e)
-all_get {A = A} P (y ∷ xs) zero x h e = subst P (ap (λ (o : Option A). unwrap_or o x) e) (h 0 y (omega arith))
-all_get P (y ∷ xs) (suc i) x h e = all_get P xs i x (λ k d l. h (suc k) d (omega (l, arith))) e
-
 -- ---- the first objects fit
 
 abbrev first_locals : UnitTree → CallPath → List LocalTree
 first_locals u q = (unwrap_or (body_of u q.function) program.no_body).locals
-
-some_at : {A : Type 0} (xs : List A) (k : ℕ) → k < length xs → (x : A) × (slice_get xs k ≡ Some x)
-some_at [] k h = absurd (omega (h, arith))
-some_at (x ∷ xs) zero h = (x, refl)
-some_at (x ∷ xs) (suc k) h = some_at xs k (omega (h, arith))
 
 block_at : (u : UnitTree) (paths : List CallPath) (k : ℕ) (q : CallPath) → slice_get paths k ≡ Some q → (block_of (record { unit = u; paths = paths }) k).locals ≡ first_locals u q
 block_at u paths k q e = ap (λ (r : CallPath). first_locals u r) (get_or_from_slice_get paths k q (entry_path 0) e)

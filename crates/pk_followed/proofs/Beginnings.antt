@@ -1,14 +1,11 @@
 -- The unit's draft begins with what the objects hold: which slot each variable is, and what it starts with.
-use Rattle.std.proofs.Common.{◌≡◌, ◌≢◌, ℕ, zero, suc, ◌+◌, ◌-◌, ◌<◌, ◌≤◌, ◌⊎◌, inl, inr, List, [], ◌∷◌, ◌++◌, length, map, Bool, true, false, ◌&&◌, nat_eq, if◌then◌else◌, Option, Some, None, refl, sym, ap, subst, ◌∙◌, arith, ℤ, pos, replicate, slice_index_or}
+use Rattle.std.proofs.Common.{◌≡◌, ℕ, zero, suc, ◌<◌, ◌≤◌, ◌⊎◌, inl, inr, List, [], ◌∷◌, ◌++◌, length, Bool, true, false, nat_eq, if◌then◌else◌, Option, Some, None, refl, sym, ap, subst, ◌∙◌, arith}
 use Rattle.std.proofs.lemmas.Bool.{eq-eqb}
 use Rattle.std.proofs.lemmas.Bool.Decides.{eqb_tells}
-use Rattle.std.proofs.lemmas.Option.{none-some, slice_get_within, get_or_from_slice_get}
-use Rattle.std.specs.Prelude.{slice_get, option_map, unwrap_or}
+use Rattle.std.proofs.lemmas.Option.{none-some}
 use Rattle.pk_ctypes.specs.declared.types.IntType.{IntType}
-use Rattle.pk_typed.specs.Trees.{LocalTree, FunctionTree, FileObjectTree, StartTree, scalar_start, array_start, UnitTree}
+use Rattle.pk_typed.specs.Trees.{UnitTree}
 use Rattle.pk_calls.specs.declared.listings.CallPath.{CallPath}
-use Rattle.pk_graph.specs.Kinds.{count_of}
-use Rattle.pk_graph.specs.Graphs.{VariableOf, StartOf, any_start, number_start}
 use Rattle.pk_lower.specs.Parts.{function_at}
 use Rattle.pk_typed_draft.proofs.Tables.{Table}
 use Rattle.pk_typed_draft.proofs.Places.{HasIf, ResultIs}
@@ -16,7 +13,7 @@ use Rattle.pk_typed_draft.proofs.Drafts.{function_from}
 use Rattle.pk_typed_draft.proofs.Each.{objects_of}
 use Rattle.pk_meaning.specs.Objects.{Object, file, local, result}
 use Rattle.pk_visits.proofs.Slots.{Slot, own, temporary, Among}
-use Rattle.pk_followed.proofs.Pairs.{whole, final, ends_of, IsResult, AreOne, IsObjects, pair_table, world, AreTyped}
+use Rattle.pk_followed.proofs.Pairs.{whole, ends_of, pair_table, world, AreTyped}
 use Rattle.pk_followed.proofs.Naming.{naming, Made, returns_is, is_naming}
 use Rattle.pk_followed.proofs.Copies.{local_made, file_made}
 

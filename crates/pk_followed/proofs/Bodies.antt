@@ -14,6 +14,7 @@ use Rattle.pk_visits.proofs.Stages.{among_front, among_back}
 use Rattle.pk_visits.proofs.Stands.{Whole, Leads}
 use Rattle.pk_visits.proofs.PartGrows.{closed_adds}
 use Rattle.pk_visits.proofs.NumberedNames.{names_by, draft_by}
+use Rattle.pk_followed.proofs.Basics.{either_is, split}
 use Rattle.pk_followed.proofs.PartAdds.{context_at, part_at, body_begun, body_exit, body_ended, body_closed, closed_is}
 use Rattle.pk_followed.proofs.Pending.{IsOutside, PartsAdd, parts_add, PathAt, next_part}
 use Rattle.pk_followed.proofs.KeptPoints.{kept_points, keeps_point, listed_or_not}
@@ -51,13 +52,6 @@ pub record IsGraphOf (W : World) (f : W.table.Variable → Slot) (d : Draft W) (
   pub scopes : g.scopes ≡ d.scopes
   pub paths : g.program.paths ≡ W.paths
   pub room : length d.labels ≡ W.points
-
-split : (i l : ℕ) → (i < l) ⊎ (l ≤ i)
-split i l = grind arith
-
-either_is : {A B : Type 0} → A ⊎ B → (A → ⊥) → B
-either_is (inl x) n = absurd (n x)
-either_is (inr y) n = y
 
 -- a region that is kept is one of the list
 kept_there : (rs : List Region) (j : ℕ) → 0 < (region_at rs j).points → j < length rs

@@ -1,5 +1,5 @@
 -- What a path's body declares is settled in the whole graph, where its objects have their variables in the end.
-use Rattle.std.proofs.Common.{◌≡◌, ℕ, ◌+◌, ◌<◌, ◌≤◌, ◌⊎◌, inl, inr, List, [], ◌∷◌, length, ap, sym, subst, ◌∙◌, arith}
+use Rattle.std.proofs.Common.{◌≡◌, ℕ, ◌+◌, ◌<◌, ◌≤◌, inl, List, [], ◌∷◌, length, ap, sym, subst, ◌∙◌, arith}
 use Rattle.pk_ctypes.specs.declared.types.IntType.{IntType}
 use Rattle.pk_typed.specs.Trees.{BodyTree, LocalTree}
 use Rattle.pk_welltyped.specs.Listed.{calls_in_items, objects_in_items}
@@ -15,6 +15,7 @@ use Rattle.pk_visits.proofs.Slots.{Slot, label_at, object_at}
 use Rattle.pk_visits.proofs.Settled.{SettleAll}
 use Rattle.pk_visits.proofs.Settling.{settled_function}
 use Rattle.pk_visits.proofs.Stands.{Whole, context_of, final, around, Stage}
+use Rattle.pk_followed.proofs.Basics.{either_is}
 use Rattle.pk_followed.proofs.PartAdds.{context_at, body_begun, body_exit, body_ended}
 use Rattle.pk_followed.proofs.Pending.{PathAt}
 use Rattle.pk_followed.proofs.Bodies.{part_closes}
@@ -27,10 +28,6 @@ few : (ts : List IntType) (xs : List LocalTree) → AreParameters ts xs → leng
 few [] xs h = omega arith
 few (t ∷ ts) [] h = absurd h
 few (t ∷ ts) (x ∷ xs) h = let z = few ts xs h.2 in omega (z, arith)
-
-either_is : {A B : Type 0} → A ⊎ B → (A → ⊥) → B
-either_is (inl x) n = absurd (n x)
-either_is (inr y) n = y
 
 pub body_settled : (W : World) (l : Lasting W) (f : W.table.Variable → Slot) (d : Draft W) (g : Whole) → IsWholeOf W f d g → g.program.unit ≡ W.unit → (k : ℕ) (q : PathAt W f d k) → k < length W.paths → (h : Place) → g.shows (body_begun W f k q.first q.path q.place q.before).here k h
     → IsMarked q.place.body

@@ -1,5 +1,5 @@
 -- Each path's body stands in the graph of its unit, where its first point shows its place, what it declares is settled, and its end is closed.
-use Rattle.std.proofs.Common.{◌≡◌, ℕ, ◌+◌, ◌<◌, ◌⊎◌, inl, inr, List, length, false, refl, ap, sym, subst, ◌∙◌, arith}
+use Rattle.std.proofs.Common.{◌≡◌, ℕ, ◌+◌, ◌<◌, List, length, false, refl, ap, sym, subst, ◌∙◌, arith}
 use Rattle.pk_typed.specs.Trees.{BodyTree, UnitTree}
 use Rattle.pk_calls.specs.declared.listings.CallPath.{CallPath}
 use Rattle.pk_welltyped.specs.Listed.{calls_in_items}
@@ -25,6 +25,7 @@ use Rattle.pk_visits.proofs.NumberedNames.{draft_by}
 use Rattle.pk_ctypes.specs.declared.places.Pos.{Pos}
 use Rattle.pk_draft.specs.declared.drafts.Label.{Label}
 use Rattle.pk_meaning.specs.Objects.{Scope}
+use Rattle.pk_followed.proofs.Basics.{either_is}
 use Rattle.pk_followed.proofs.Paths.{function_is}
 use Rattle.pk_followed.proofs.BodyCloses.{body_closes}
 use Rattle.pk_followed.proofs.Pairs.{slot_of, whole, world, AreTyped}
@@ -34,10 +35,6 @@ use Rattle.pk_followed.proofs.Pending.{PathAt}
 use Rattle.pk_followed.proofs.KeptPoints.{kept_points}
 use Rattle.pk_followed.proofs.Bodies.{behind, body_marks, rest_adds}
 use Rattle.pk_followed.proofs.BodyStages.{IsWholeOf, begun_grows, body_stage, stage_marks}
-
-either_is : {A B : Type 0} → A ⊎ B → (A → ⊥) → B
-either_is (inl x) n = absurd (n x)
-either_is (inr y) n = y
 
 -- a path's region is the one with which its part begins
 pub region_stays : (W : World) (l : Lasting W) (f : W.table.Variable → Slot) (d : Draft W) (g : Whole) → IsWholeOf W f d g → (k : ℕ) (q : PathAt W f d k) → region_at g.regions k ≡ region_at q.before.regions k

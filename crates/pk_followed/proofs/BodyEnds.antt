@@ -15,6 +15,7 @@ use Rattle.pk_visits.proofs.Stands.{Whole, IsCalled, Marking}
 use Rattle.pk_visits.proofs.Switches.{first_label}
 use Rattle.pk_visits.proofs.PartGrows.{begun_points, placed_points}
 use Rattle.pk_visits.proofs.NumberedNames.{draft_by}
+use Rattle.pk_followed.proofs.Basics.{either_is}
 use Rattle.pk_followed.proofs.PartAdds.{context_at, part_at, body_begun, body_exit, body_ended, called_size, part_ends}
 use Rattle.pk_followed.proofs.Pending.{IsOutside, PathAt}
 use Rattle.pk_followed.proofs.Bodies.{IsGraphOf, behind, rest_adds, part_closes}
@@ -43,10 +44,6 @@ exit_is W f k n p h d =
     let c = context_at W k n p in
     let r = region_at d.regions k in
     placed_points p.caller (part.begun c h.function h.body p.caller r (draft_by f d)) ∙ begun_points c h.function h.body p.caller r (draft_by f d)
-
-either_is : {A B : Type 0} → A ⊎ B → (A → ⊥) → B
-either_is (inl x) n = absurd (n x)
-either_is (inr y) n = y
 
 -- a point that the part makes before its body or behind it
 abbrev pub IsOwnPoint : (W : World) (f : W.table.Variable → Slot) (d : Draft W) (k : ℕ) → PathAt W f d k → ℕ → Type 0

@@ -21,6 +21,7 @@ use Rattle.pk_visits.proofs.Stages.{among_either}
 use Rattle.pk_visits.proofs.Stands.{Whole, context_of, led_to, Distinct, IsReserved, Stage}
 use Rattle.pk_visits.proofs.PartGrows.{entry_marks, first_of, opened_enlarges}
 use Rattle.pk_visits.proofs.NumberedNames.{draft_by}
+use Rattle.pk_followed.proofs.Basics.{either_is, split}
 use Rattle.pk_followed.proofs.Paths.{numbered_at}
 use Rattle.pk_followed.proofs.PartAdds.{context_at, body_begun, body_ended, called_size, part_ends}
 use Rattle.pk_followed.proofs.Pending.{PathAt}
@@ -56,9 +57,6 @@ led_below W k n p h m a =
 
 -- ---- the body
 
-split : (i l : ℕ) → (i < l) ⊎ (l ≤ i)
-split i l = grind arith
-
 -- intervals without a common point
 pub apart_from : (a s b t : ℕ) → 0 < s → 0 < t → ((x : ℕ) → a ≤ x → x < a + s → b ≤ x → x < b + t → ⊥) → (a + s ≤ b) ⊎ (b + t ≤ a)
 apart_from a s b t p q none = by (split b (a + s)) (split a (b + t)) (split a b) where
@@ -72,10 +70,6 @@ apart_from a s b t p q none = by (split b (a + s)) (split a (b + t)) (split a b)
 pub begun_grows : (W : World) (f : W.table.Variable → Slot) (k n : ℕ) (p : CallPath) (h : PathIs W k n p) (d : Draft W)
     → Enlarges (entry_marks p.caller (region_at d.regions k)) Free Uncalled (first_of (context_at W k n p) h.body (region_at d.regions k) (draft_by f d)) (body_begun W f k n p h d)
 begun_grows W f k n p h d = opened_enlarges Uncalled (context_at W k n p) h.function h.body p.caller (region_at d.regions k) (draft_by f d)
-
-kept_same : {A B : Type 0} → A ⊎ B → (A → ⊥) → B
-kept_same (inl x) n = absurd (n x)
-kept_same (inr y) n = y
 
 -- its program, contexts and spans are the world's
 pub record IsWholeOf (W : World) (f : W.table.Variable → Slot) (d : Draft W) (g : Whole) : Type 1 where
@@ -123,10 +117,10 @@ body_stage W l f d g is k q there h here = record {
   same = is.contexts k q
 
   ended : (m : ℕ) → region_at e.regions m ≡ region_at Z.regions m
-  ended m = kept_same ((part_closes W f k q.first q.path q.place q.before).regions m) (λ t. absurd t.1)
+  ended m = either_is ((part_closes W f k q.first q.path q.place q.before).regions m) (λ t. absurd t.1)
 
   begun : (m : ℕ) → region_at O.regions m ≡ region_at q.before.regions m
-  begun m = kept_same ((begun_grows W f k q.first q.path q.place q.before).regions m) (λ t. absurd t.1)
+  begun m = either_is ((begun_grows W f k q.first q.path q.place q.before).regions m) (λ t. absurd t.1)
 
   held : (x m : ℕ) → k + 1 ≤ m → Holds (base W) e.regions m x → IsReserved g k Z.regions x
   held x m low s =

@@ -1,9 +1,8 @@
 -- The draft of a unit by number has the edges and names of its graph over slots.
-use Rattle.std.proofs.Common.{◌≡◌, ℕ, zero, suc, ◌+◌, ◌<◌, ◌⊎◌, inl, inr, List, [], ◌∷◌, ◌++◌, length, map, Bool, true, false, ◌||◌, not, nat_eq, Option, Some, None, refl, sym, ap, subst, ◌∙◌, arith, slice_index_or, slice_set}
-use Rattle.std.proofs.lemmas.Bool.Decides.{eqb_tells}
-use Rattle.std.proofs.lemmas.List.{get_or-set_same, get_or-set_other, length-set, length-map}
+use Rattle.std.proofs.Common.{◌≡◌, ℕ, zero, suc, ◌<◌, ◌⊎◌, inl, inr, List, [], ◌∷◌, ◌++◌, length, map, Bool, true, false, ◌||◌, not, nat_eq, Some, None, refl, sym, ap, subst, ◌∙◌, arith, slice_index_or, slice_set}
+use Rattle.std.proofs.lemmas.List.{get_or-set_same, get_or-set_other}
 use Rattle.std.proofs.lemmas.Option.{none-some}
-use Rattle.std.specs.Prelude.{slice_get, All, unwrap_or}
+use Rattle.std.specs.Prelude.{All}
 use Rattle.pk_typed.specs.Trees.{UnitTree}
 use Rattle.pk_calls.specs.declared.listings.CallPath.{CallPath}
 use Rattle.pk_graph.specs.declared.graphs.Scope.{Scope}
@@ -22,13 +21,13 @@ use Rattle.pk_typed_draft.proofs.Plans.{base}
 use Rattle.pk_typed_draft.proofs.Each.{objects_of}
 use Rattle.pk_typed_draft.proofs.Wholes.{kinds_of, kind_is}
 use Rattle.pk_visits.proofs.Slots.{Slot, own, temporary, Draft, Edge, edge, Among, label_at}
-use Rattle.pk_visits.proofs.Stands.{Whole}
 use Rattle.pk_visits.proofs.NumberedNames.{tree_by, array_by, instr_by, edge_by, draft_by}
 use Rattle.pk_visits.proofs.NumberedParts.{program_by}
 use Rattle.pk_visits.proofs.NumberedStores.{renamed, renamed_array, renamed_instr, IsOver, IsArrayOver, IsInstrOver, IsNaming}
 use Rattle.pk_visits.proofs.NumberedCopies as copies
 use Rattle.pk_visits.proofs.NumberedCopies.{renamed_edge, IsCopy}
-use Rattle.pk_followed.proofs.Pairs.{Pair, slot_of, number_of, pairs, whole, final, ends_of, IsTemporary, AreOne, IsObjects, pair_table, world, AreTyped}
+use Rattle.pk_followed.proofs.Basics.{number_is}
+use Rattle.pk_followed.proofs.Pairs.{Pair, slot_of, number_of, pairs, whole, ends_of, AreOne, IsObjects, pair_table, world, AreTyped}
 use Rattle.pk_followed.proofs.Naming.{naming, Made, one_number, ends_many, is_naming}
 use Rattle.pk_followed.proofs.Graphs.{Shows, over_slots, by_numbers, nobody, graph}
 
@@ -88,16 +87,20 @@ instr_copied u paths (Load x a s b i) h =
     let f = naming u paths in
     let m = pair_made u paths x h.0.there in
     let n = array_copied u paths a h.1 in
-    let o = tree_copied u paths i h.3 in
-    (ap (λ (y : ℕ). Load y (renamed_array f (array_by slot_of a)) s b (renamed f (tree_by slot_of i))) m.0
-    ∙ (ap (λ (y : ArrayOf ℕ). Load x.1 y s b (renamed f (tree_by slot_of i))) n.0 ∙ ap (λ (y : TreeOf ℕ). Load x.1 (array_by number_of a) s b y) o.0), (m.1, n.1, o.1))
+    let o = tree_copied u paths i h.3 in (
+      ap (λ (y : ℕ). Load y (renamed_array f (array_by slot_of a)) s b (renamed f (tree_by slot_of i))) m.0
+          ∙ (ap (λ (y : ArrayOf ℕ). Load x.1 y s b (renamed f (tree_by slot_of i))) n.0 ∙ ap (λ (y : TreeOf ℕ). Load x.1 (array_by number_of a) s b y) o.0),
+      (m.1, n.1, o.1),
+    )
 instr_copied u paths (Store a s b i e) h =
     let f = naming u paths in
     let m = array_copied u paths a h.0 in
     let n = tree_copied u paths i h.1 in
-    let o = tree_copied u paths e h.2.typed in
-    (ap (λ (y : ArrayOf ℕ). Store y s b (renamed f (tree_by slot_of i)) (renamed f (tree_by slot_of e))) m.0
-    ∙ (ap (λ (y : TreeOf ℕ). Store (array_by number_of a) s b y (renamed f (tree_by slot_of e))) n.0 ∙ ap (λ (y : TreeOf ℕ). Store (array_by number_of a) s b (tree_by number_of i) y) o.0), (m.1, n.1, o.1))
+    let o = tree_copied u paths e h.2.typed in (
+      ap (λ (y : ArrayOf ℕ). Store y s b (renamed f (tree_by slot_of i)) (renamed f (tree_by slot_of e))) m.0
+          ∙ (ap (λ (y : TreeOf ℕ). Store (array_by number_of a) s b y (renamed f (tree_by slot_of e))) n.0 ∙ ap (λ (y : TreeOf ℕ). Store (array_by number_of a) s b (tree_by number_of i) y) o.0),
+      (m.1, n.1, o.1),
+    )
 instr_copied u paths (Guard e b) h = let m = tree_copied u paths e h in (ap (λ (y : TreeOf ℕ). Guard y b) m.0, m.1)
 instr_copied u paths (Check s e) h = let m = tree_copied u paths e h in (ap (λ (y : TreeOf ℕ). Check s y) m.0, m.1)
 
@@ -176,9 +179,6 @@ none_known P (suc i) z a = absurd a
 
 scope_all : (P : ℕ → Type 0) (ss : List Scope) → All (λ (s : Scope). P s.variable) ss → (k z : ℕ) → Among z (scope_at ss k) → P z
 scope_all P ss h k z a = chained_all P ss ([] ∷ []) h (none_known P) k z a
-
-number_is : (m n : ℕ) → nat_eq m n ≡ true → m ≡ n
-number_is m n h = elim (eqb_tells m n) [ inl e ↦ e.1 | inr e ↦ absurd (cc (e.0, h)) ]
 
 or_true : (a b : Bool) → (a || b) ≡ true → (a ≡ true) ⊎ (b ≡ true)
 or_true true b h = inl refl

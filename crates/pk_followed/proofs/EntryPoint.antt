@@ -16,15 +16,12 @@ use Rattle.pk_visits.proofs.StatementGrows.{upto, upto_from, fresh_grows}
 use Rattle.pk_visits.proofs.Stands.{Whole}
 use Rattle.pk_visits.proofs.PartGrows.{begun_point, placed_here}
 use Rattle.pk_visits.proofs.NumberedNames.{draft_by}
+use Rattle.pk_followed.proofs.Basics.{either_is}
 use Rattle.pk_followed.proofs.PartAdds.{context_at, part_at, body_begun, body_exit, body_ended, part_adds, part_ends}
 use Rattle.pk_followed.proofs.Pending.{IsOutside, HaveCallersBehind, PathAt, parts_add, next_part}
 use Rattle.pk_followed.proofs.Bodies.{IsGraphOf, behind, rest_adds, part_closes}
 use Rattle.pk_followed.proofs.BodyStages.{begun_grows}
 use Rattle.pk_followed.proofs.BodyEnds.{items_grow, exit_is}
-
-either_is : {A B : Type 0} → A ⊎ B → (A → ⊥) → B
-either_is (inl x) n = absurd (n x)
-either_is (inr y) n = y
 
 -- the first path's region is that of the first draft
 pub first_region : (W : World) → Lasting W → (f : W.table.Variable → Slot) (ps : List CallPath) → Paths W 0 1 ps → HaveCallersBehind ps → (d : Draft W) → Plan W 0 1 d → region_at (part.parts_from W.unit (sizes W) 0 1 ps d).regions 0 ≡ region_at d.regions 0

@@ -1,8 +1,7 @@
 -- The graph of a unit follows its program, where each path's body stands.
-use Rattle.std.proofs.Common.{◌≡◌, ℕ, ◌+◌, ◌<◌, List, [], ◌∷◌, length, map, Option, Some, None, refl, sym, ap, subst, ◌∙◌, arith}
+use Rattle.std.proofs.Common.{◌≡◌, ℕ, ◌<◌, List, [], length, map, Option, Some, None, refl, sym, ap, subst, ◌∙◌}
 use Rattle.std.proofs.lemmas.Option.{none-some}
 use Rattle.std.specs.Prelude.{option_map, unwrap_or}
-use Rattle.pk_ctypes.specs.declared.types.IntType.{IntType}
 use Rattle.pk_typed.specs.Trees.{UnitTree}
 use Rattle.pk_calls.specs.declared.listings.CallPath.{CallPath}
 use Rattle.pk_calls.specs.Paths.{IsListing}
@@ -12,7 +11,6 @@ use Rattle.pk_lower.specs.Paths.{path_of}
 use Rattle.pk_welltyped.specs.WellTyped.{IsUnit}
 use Rattle.pk_meaning.specs.Objects.{Objects}
 use Rattle.pk_meaning.specs.Programs.{Program, function_of, first_objects}
-use Rattle.pk_meaning.specs.Work.{Nobody}
 use Rattle.pk_meaning.specs.Steps.{Config, body_place}
 use Rattle.pk_meaning.specs.Runs.{Visit, with_arguments, begins, start}
 use Rattle.pk_visits.specs.SameVisits.{ProgramVisits, GraphVisits, graph_of}
@@ -28,7 +26,7 @@ use Rattle.pk_followed.proofs.Copies.{is_copy}
 use Rattle.pk_followed.proofs.Starts.{have_kinds}
 use Rattle.pk_followed.proofs.Propers.{is_proper}
 use Rattle.pk_followed.proofs.Arguments.{Given, arguments_given, first_fits, given_fits}
-use Rattle.pk_followed.proofs.Starting.{AreFirst, starts_with}
+use Rattle.pk_followed.proofs.Starting.{starts_with}
 
 -- a run begins with objects, and these are the first with the arguments
 record BeginsAt (p : Program) (first : Config) : Type 0 where
@@ -53,11 +51,25 @@ stands_first g s q at fits =
     record {
       exits = q.exits;
       waiting = [];
-      laid = (tt, (q.draft, q.objects, q.mark, q.enters ∙ at, q.fits, tt, q.stage, q.marking, q.settled, (
-        end,
-        record { draft = q.draft; objects = q.objects; mark = q.mark; fits = q.fits; calm = tt; stage = q.stage; marking = q.marking; settled = q.settled; ended = end },
-        refl,
-      )));
+      laid = (
+        tt,
+        (
+          q.draft,
+          q.objects,
+          q.mark,
+          q.enters ∙ at,
+          q.fits,
+          tt,
+          q.stage,
+          q.marking,
+          q.settled,
+          (
+            end,
+            record { draft = q.draft; objects = q.objects; mark = q.mark; fits = q.fits; calm = tt; stage = q.stage; marking = q.marking; settled = q.settled; ended = end },
+            refl,
+          ),
+        ),
+      );
       means = tt;
       same = refl;
       fits = fits;

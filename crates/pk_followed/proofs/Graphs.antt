@@ -6,10 +6,10 @@ use Rattle.pk_draft.specs.declared.drafts.Label.{Label}
 use Rattle.pk_draft.specs.Drafts.{DraftOf, by_number}
 use Rattle.pk_lower_row.specs.Contexts.{size_in}
 use Rattle.pk_lower.specs.Parts.{sizes_of, program_draft, nowhere_in_text}
-use Rattle.pk_meaning.specs.Objects.{Object, file, local, result, Scope}
+use Rattle.pk_meaning.specs.Objects.{Object, file, local, result}
 use Rattle.pk_meaning.specs.Programs.{Program, function_number}
 use Rattle.pk_meaning.specs.Work.{Place}
-use Rattle.pk_visits.proofs.Slots.{Slot, slots, Draft, Among}
+use Rattle.pk_visits.proofs.Slots.{slots, Draft, Among}
 use Rattle.pk_visits.proofs.Stands.{Whole}
 use Rattle.pk_visits.proofs.NumberedCopies.{IsShown}
 use Rattle.pk_followed.proofs.Paths.{first_of}

@@ -1,3 +1,4 @@
+mod Basics
 mod Paths
 mod Pairs
 mod Naming
@@ -17,7 +18,9 @@ mod BodiesStand
 mod Arguments
 mod Beginnings
 mod Starting
+mod Begins
 mod Followed
+mod Standing
 mod EntryPoint
 mod BodiesSettled
 mod PathBodies

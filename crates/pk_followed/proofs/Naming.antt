@@ -1,17 +1,16 @@
 -- The number of each slot: no two of a unit's slots have the same.
-use Rattle.std.proofs.Common.{◌≡◌, ℕ, zero, suc, ◌+◌, ◌<◌, ◌≤◌, ◌⊎◌, inl, inr, List, [], ◌∷◌, ◌++◌, length, map, Option, Some, None, refl, sym, ap, subst, ◌∙◌, arith}
-use Rattle.std.proofs.lemmas.Option.{none-some, slice_get_within}
-use Rattle.std.specs.Prelude.{slice_get, replicate, option_map, unwrap_or}
+use Rattle.std.proofs.Common.{◌≡◌, ℕ, zero, suc, ◌+◌, ◌<◌, ◌⊎◌, inl, inr, List, [], ◌∷◌, ◌++◌, length, map, Option, Some, refl, sym, ap, subst, ◌∙◌, arith}
+use Rattle.std.proofs.lemmas.Option.{none-some}
+use Rattle.std.specs.Prelude.{slice_get, replicate, unwrap_or}
 use Rattle.pk_typed.specs.Trees.{BodyTree, FunctionTree, FileObjectTree, UnitTree}
 use Rattle.pk_calls.specs.declared.listings.CallPath.{CallPath}
 use Rattle.pk_graph.specs.Graphs.{VariableOf, no_variable}
 use Rattle.pk_lower.specs.Parts.{function_at, body_at, whole_size, sizes_of, file_variable}
 use Rattle.pk_welltyped.specs.Listed.{objects_in_items}
-use Rattle.pk_meaning.specs.Objects.{Object, file, local, result}
+use Rattle.pk_meaning.specs.Objects.{file, local, result}
 use Rattle.pk_typed_draft.proofs.Places.{variable_in}
 use Rattle.pk_typed_draft.proofs.Parts.{ends}
-use Rattle.pk_typed_draft.proofs.Plans.{PathIs, its_function, body_at_is}
-use Rattle.pk_typed_draft.proofs.Firsts.{first_made}
+use Rattle.pk_typed_draft.proofs.Plans.{its_function, body_at_is}
 use Rattle.pk_typed_draft.proofs.Drafts.{function_from}
 use Rattle.pk_typed_draft.proofs.Each.{PartOf, numbers_rise, result_is_apart}
 use Rattle.pk_visits.proofs.Slots.{Slot, own, temporary}
@@ -67,11 +66,6 @@ one_path : (u : UnitTree) (paths : List CallPath) (x y k m : ℕ) → x ≡ y �
 one_path u paths x y k m e p q = let z : Some k ≡ Some m = sym p ∙ (ap (λ (i : ℕ). (final u paths i).path) e ∙ q) in ap (λ (o : Option ℕ). unwrap_or o k) z
 
 -- ---- objects of one path
-
-some_path : (paths : List CallPath) (k : ℕ) → k < length paths → (p : CallPath) × (slice_get paths k ≡ Some p)
-some_path [] k h = absurd (omega (h, arith))
-some_path (p ∷ ps) zero h = (p, refl)
-some_path (p ∷ ps) (suc k) h = some_path ps k (omega (h, arith))
 
 -- as many as its function declares
 pub ends_many : (u : UnitTree) (paths : List CallPath) (k : ℕ) (h : PartOf (world u paths) (whole u paths) k) → (ends_of u paths k).objects ≡ (ends h.place.function h.place.body).objects

@@ -1,35 +1,34 @@
 -- The draft of a unit over pairs: each variable by its slot and by its number, which belong together.
-use Rattle.std.proofs.Common.{◌≡◌, ℕ, zero, suc, ◌+◌, ◌<◌, ◌≤◌, ◌⊎◌, inl, inr, List, [], ◌∷◌, ◌++◌, length, map, Option, Some, None, refl, sym, ap, subst, ◌∙◌, arith}
+use Rattle.std.proofs.Common.{◌≡◌, ℕ, zero, suc, ◌+◌, ◌<◌, ◌≤◌, ◌⊎◌, inl, inr, List, [], ◌∷◌, length, Some, None, refl, sym, ap, subst, ◌∙◌, arith}
 use Rattle.std.proofs.lemmas.List.{length-map}
 use Rattle.std.proofs.lemmas.Option.{slice_get_within, get_or_from_slice_get}
-use Rattle.std.specs.Prelude.{slice_get, All, replicate}
+use Rattle.std.specs.Prelude.{slice_get, All}
 use Rattle.pk_ctypes.specs.declared.types.IntType.{IntType}
-use Rattle.pk_typed.specs.Trees.{LocalTree, FunctionTree, UnitTree}
+use Rattle.pk_typed.specs.Trees.{LocalTree, UnitTree}
 use Rattle.pk_calls.specs.declared.listings.CallPath.{CallPath}
 use Rattle.pk_calls.specs.Calls.{HasBody}
 use Rattle.pk_calls.specs.Paths.{entry_path, IsListing}
 use Rattle.pk_calls.specs.Laws.{AreCallPaths}
-use Rattle.pk_graph.specs.Kinds.{Kind, Kinds, kind_at}
-use Rattle.pk_graph.specs.Graphs.{VariableOf, no_variable}
-use Rattle.pk_draft.specs.Drafts.{Names, DraftOf, EdgeFrom, by_number, inner}
+use Rattle.pk_graph.specs.Kinds.{kind_at}
+use Rattle.pk_graph.specs.Graphs.{VariableOf}
+use Rattle.pk_draft.specs.Drafts.{Names, DraftOf, by_number, inner}
 use Rattle.pk_lower_row.specs.Contexts.{parameters_of}
 use Rattle.pk_lower.specs.Parts.{function_at, body_at, whole_size, sizes_of, program_draft}
 use Rattle.pk_part.proofs.Leading.{listings_lead_behind}
 use Rattle.pk_welltyped.specs.WellTyped as good
 use Rattle.pk_welltyped.specs.WellTyped.{IsUnit}
-use Rattle.pk_meaning.specs.Objects.{Object, file, local, result}
+use Rattle.pk_meaning.specs.Objects.{file, local, result}
 use Rattle.pk_typed_draft.proofs.Tables.{Table}
 use Rattle.pk_typed_draft.proofs.Noted.{calls_are_noted}
-use Rattle.pk_typed_draft.proofs.Places.{Place, Ends, Has, IsOwn, IsObjectOf, inner_object, outer_object, variable_in}
-use Rattle.pk_typed_draft.proofs.Plans.{World, Draft, place, Lasting, PathMade, AllTyped, Foreknown}
+use Rattle.pk_typed_draft.proofs.Places.{Ends, IsOwn, IsObjectOf, inner_object, outer_object, variable_in, Grown, region_at}
+use Rattle.pk_typed_draft.proofs.Plans.{World, place, Lasting, PathMade, AllTyped, Foreknown}
 use Rattle.pk_typed_draft.proofs.Wholes.{Paths, IsAmong, among, kinds_of, kind_is, wholes, foreknown}
 use Rattle.pk_typed_draft.proofs.Firsts.{first, first_made, files_are, Counted, first_plan, first_typed}
 use Rattle.pk_typed_draft.proofs.Listings.{listed, listing_paths}
 use Rattle.pk_typed_draft.proofs.Declarations.{object_kind}
 use Rattle.pk_typed_draft.proofs.Drafts.{behind_part, ends_in, function_from, have_ends, whole_made}
 use Rattle.pk_typed_draft.proofs.Each.{PartOf, part_of}
-use Rattle.pk_visits.proofs.Slots.{Slot, own, temporary, slots, Among}
-use Rattle.pk_visits.proofs.NumberedNames.{draft_by}
+use Rattle.pk_visits.proofs.Slots.{Slot, own, temporary, Among}
 use Rattle.pk_visits.proofs.NumberedParts.{program_by}
 
 abbrev pub Pair : Type 0
@@ -199,6 +198,8 @@ pub record AreTyped (u : UnitTree) (paths : List CallPath) : Type 1 where
   pub paths_are : Paths (world u paths) 0 1 paths
   pub known : Foreknown (world u paths) (whole u paths)
   pub typed : AllTyped (world u paths) (whole u paths)
+  pub scopes : Grown (begins u paths).scopes (whole u paths).scopes
+  pub entry : region_at (whole u paths).regions 0 ≡ region_at (begins u paths).regions 0
   pub many : length u.objects ≤ length (whole u paths).made
   pub low : (y : ℕ) → y < length u.objects → final u paths y ≡ variable_in (first_made u (whole_size (sizes_of u paths) paths)) y
   pub parts : (j : ℕ) → j < length paths → PartOf (world u paths) (whole u paths) j
@@ -226,6 +227,8 @@ pairs_are_typed u entry paths h has l are =
       paths_are = ps;
       known = known;
       typed = all.part.typed known start;
+      scopes = all.part.scopes;
+      entry = all.part.regions 0 (omega arith);
       many = omega (many, arith);
       low = λ y q. ap (λ (xs : List VariableOf). variable_in xs y) (pair_made u paths) ∙ made.1 y q;
       made = λ j p e. let at : 0 + j ≡ j = omega arith in all.made j p (subst (λ (i : ℕ). IsAmong 0 paths i p) at (among 0 paths j p e));

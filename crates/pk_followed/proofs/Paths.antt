@@ -1,7 +1,6 @@
 -- Paths of a listing: where the calls of each lead.
 use Rattle.std.proofs.Common.{◌≡◌, ℕ, zero, suc, ◌+◌, ◌-◌, ◌<◌, ◌≤◌, ◌⊎◌, inl, inr, List, [], ◌∷◌, ◌++◌, length, Option, Some, None, Bool, true, false, ◌&&◌, nat_eq, if◌then◌else◌, refl, sym, ap, subst, ◌∙◌, arith, slice_index_or}
 use Rattle.std.proofs.lemmas.Bool.{eq-eqb}
-use Rattle.std.proofs.lemmas.Bool.Decides.{eqb_tells}
 use Rattle.std.proofs.lemmas.Option.{none-some, slice_get_within, get_or_from_slice_get}
 use Rattle.std.specs.Prelude.{slice_get, unwrap_or}
 use Rattle.pk_typed.specs.declared.units.CallSite.{CallSite}
@@ -16,6 +15,7 @@ use Rattle.pk_typed_draft.proofs.Wholes.{Paths}
 use Rattle.pk_meaning.specs.Programs as program
 use Rattle.pk_meaning.specs.Programs.{Program, is_by, number_by, callee, function_number, function_of, block_of}
 use Rattle.pk_visits.proofs.Slots.{Among}
+use Rattle.pk_followed.proofs.Basics.{both_true, number_is}
 
 -- the path that the first call of each listed path leads to
 abbrev pub firsts_from : UnitTree → ℕ → List CallPath → List ℕ
@@ -101,13 +101,6 @@ caller_at u entry paths l j q k c e h = by j (sym (ap (λ (xs : List CallPath). 
       subst (λ (i : ℕ). suc j ≡ slice_index_or (firsts_from u 1 paths) i 0 + c) none (omega (y, arith))
 
 -- the first path by a call, where one is
-both_true : (a b : Bool) → (a && b) ≡ true → (a ≡ true) × (b ≡ true)
-both_true true b h = (refl, h)
-both_true false b h = absurd (cc h)
-
-number_is : (m n : ℕ) → nat_eq m n ≡ true → m ≡ n
-number_is m n h = elim (eqb_tells m n) [ inl e ↦ e.1 | inr e ↦ absurd (cc (e.0, h)) ]
-
 caller_is : (k c : ℕ) (o : Option Caller) → is_by k c o ≡ true → o ≡ Some (record { path = k; call = c })
 caller_is k c None h = absurd (cc h)
 caller_is k c (Some r) h =

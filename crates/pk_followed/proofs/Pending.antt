@@ -12,6 +12,7 @@ use Rattle.pk_typed_draft.proofs.Wholes.{Paths, next_plan}
 use Rattle.pk_visits.proofs.Slots.{Slot, slots, Edge, Extends, Among, label_at, region_at}
 use Rattle.pk_visits.proofs.PartGrows.{entry_marks}
 use Rattle.pk_visits.proofs.NumberedNames.{names_by, draft_by}
+use Rattle.pk_followed.proofs.Basics.{either_is}
 use Rattle.pk_followed.proofs.Paths.{firsts_from, first_of}
 use Rattle.pk_followed.proofs.PartAdds.{part_at, PartAdds, part_adds}
 
@@ -54,10 +55,6 @@ outside_next W f k n p d e q a side out j low h = by side (a.regions j) where
       let from = h.from in
       let to = h.to in
       out j (omega (low, arith)) (record { kept = omega (kept, n, arith); from = omega (from, n, arith); to = omega (to, n, arith) })
-
-either_is : {A B : Type 0} → A ⊎ B → (A → ⊥) → B
-either_is (inl x) n = absurd (n x)
-either_is (inr y) n = y
 
 -- What the parts of paths from k on add, whose calls lead to paths from n on: a point that is in no region which is kept for one of them keeps its label.
 pub record PartsAdd (W : World) (f : W.table.Variable → Slot) (k n : ℕ) (d g : Draft W) : Type 0 where

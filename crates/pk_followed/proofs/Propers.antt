@@ -1,10 +1,9 @@
 -- What is known of a unit and its paths, as the graph over slots asks it.
-use Rattle.std.proofs.Common.{◌≡◌, ℕ, zero, suc, ◌+◌, ◌<◌, ◌≤◌, ◌⊎◌, inl, inr, List, [], ◌∷◌, ◌++◌, length, map, Bool, true, false, ◌&&◌, ◌||◌, nat_eq, Option, Some, None, refl, sym, ap, subst, ◌∙◌, arith, slice_index_or}
-use Rattle.std.proofs.lemmas.Bool.Decides.{eqb_tells}
-use Rattle.std.proofs.lemmas.Option.{none-some, slice_get_within, get_or_from_slice_get}
+use Rattle.std.proofs.Common.{◌≡◌, ℕ, zero, suc, ◌+◌, ◌<◌, inl, inr, List, [], ◌∷◌, ◌++◌, length, Bool, true, false, ◌||◌, nat_eq, Option, Some, refl, sym, ap, subst, ◌∙◌, arith, slice_index_or}
+use Rattle.std.proofs.lemmas.Option.{none-some, get_or_from_slice_get}
 use Rattle.std.specs.Prelude.{slice_get, option_map, unwrap_or}
 use Rattle.pk_ctypes.specs.declared.types.IntType.{IntType}
-use Rattle.pk_typed.specs.Trees.{LocalTree, BodyTree, FunctionTree, UnitTree}
+use Rattle.pk_typed.specs.Trees.{LocalTree, FunctionTree, UnitTree}
 use Rattle.pk_calls.specs.declared.listings.CallPath.{CallPath}
 use Rattle.pk_calls.specs.Paths.{entry_path, path_by, IsListing}
 use Rattle.pk_graph.specs.declared.graphs.Scope.{Scope}
@@ -16,8 +15,7 @@ use Rattle.pk_lower.specs.Parts.{body_at}
 use Rattle.pk_welltyped.specs.WellTyped.{kind_among, scalar}
 use Rattle.pk_meaning.specs.Objects.{Object, file, local, result, is_same}
 use Rattle.pk_meaning.specs.Objects as objects
-use Rattle.pk_meaning.specs.Programs as program
-use Rattle.pk_meaning.specs.Programs.{function_number, function_of, block_of, local_of, name_of}
+use Rattle.pk_meaning.specs.Programs.{function_of, block_of, name_of}
 use Rattle.pk_meaning.specs.Work.{Place}
 use Rattle.pk_meaning.specs.Steps.{place}
 use Rattle.pk_typed_draft.proofs.Places.{AreChained}
@@ -26,7 +24,8 @@ use Rattle.pk_typed_draft.proofs.Plans.{its_parameters}
 use Rattle.pk_typed_draft.proofs.Each.{PartOf}
 use Rattle.pk_visits.proofs.Slots.{own, Among, Draft}
 use Rattle.pk_visits.proofs.Stands.{Proper, HasKind}
-use Rattle.pk_followed.proofs.Paths.{first_of, call_is, callee_is, function_is, block_is}
+use Rattle.pk_followed.proofs.Basics.{both_true, number_is, some_at}
+use Rattle.pk_followed.proofs.Paths.{first_of, call_is, callee_is, function_is}
 use Rattle.pk_followed.proofs.Pairs.{whole, final, ends_of, IsLocal, locals_at, world, function_at_path, AreTyped}
 use Rattle.pk_followed.proofs.Naming.{naming, Made}
 use Rattle.pk_followed.proofs.Graphs.{program_of, by_numbers, over_slots, IsOf, Shows, graph}
@@ -75,6 +74,10 @@ chained_at (y ∷ ss) known (suc n) s e h =
     let at : length known + suc n ≡ length (known ++ l ∷ []) + n = omega (z, arith) in
     ap (λ (i : ℕ). slice_index_or (chained known (y ∷ ss)) i []) at ∙ chained_at ss (known ++ l ∷ []) n s e (omega (h, z, arith))
 
+-- nothing is in scope at place 0
+pub scope_nothing : (ss : List Scope) → scope_at ss 0 ≡ []
+scope_nothing ss = chained_same ss ([] ∷ []) 0 (omega arith)
+
 -- place n + 1 adds the variable of entry n to those of the place around it
 pub scope_behind : (ss : List Scope) → AreChained ss → (n : ℕ) (s : Scope) → slice_get ss n ≡ Some s → scope_at ss (n + 1) ≡ s.variable ∷ scope_at ss s.outer
 scope_behind ss h n s e =
@@ -84,13 +87,6 @@ scope_behind ss h n s e =
     ap (λ (i : ℕ). scope_at ss i) at ∙ chained_at ss ([] ∷ []) n s e (omega (low, arith))
 
 -- ---- the objects in scope
-
-both_true : (a b : Bool) → (a && b) ≡ true → (a ≡ true) × (b ≡ true)
-both_true true b h = (refl, h)
-both_true false b h = absurd (cc h)
-
-number_is : (m n : ℕ) → nat_eq m n ≡ true → m ≡ n
-number_is m n h = elim (eqb_tells m n) [ inl e ↦ e.1 | inr e ↦ absurd (cc (e.0, h)) ]
 
 is_false : (b : Bool) → (b ≡ true → ⊥) → b ≡ false
 is_false true h = absurd (h refl)
@@ -176,19 +172,14 @@ parameter_there u paths h m i t b e =
 
 -- ---- all of it
 
-some_path : (paths : List CallPath) (k : ℕ) → k < length paths → (p : CallPath) × (slice_get paths k ≡ Some p)
-some_path [] k h = absurd (omega (h, arith))
-some_path (p ∷ ps) zero h = (p, refl)
-some_path (p ∷ ps) (suc k) h = some_path ps k (omega (h, arith))
-
 pub is_proper : (u : UnitTree) (entry : ℕ) (paths : List CallPath) → IsListing u entry paths → AreTyped u paths → Proper (graph u paths)
 is_proper u entry paths l h = record {
-  callees = λ k z b a. let p = some_path paths k b in let c = call_is (world u paths) h.paths_are k p.0 p.1 z a in callee_is u entry paths l k z.number z.call.function c.leads;
-  there = λ k z b a. let p = some_path paths k b in (call_is (world u paths) h.paths_are k p.0 p.1 z a).there;
-  functions = λ k z b a. let p = some_path paths k b in
+  callees = λ k z b a. let p = some_at paths k b in let c = call_is (world u paths) h.paths_are k p.0 p.1 z a in callee_is u entry paths l k z.number z.call.function c.leads;
+  there = λ k z b a. let p = some_at paths k b in (call_is (world u paths) h.paths_are k p.0 p.1 z a).there;
+  functions = λ k z b a. let p = some_at paths k b in
       let c = call_is (world u paths) h.paths_are k p.0 p.1 z a in
       ap (λ (q : CallPath). q.function) (get_or_from_slice_get paths (first_of u paths k + z.number) (path_by k z.number z.call.function) (entry_path 0) c.leads);
-  behind = λ k z b a. let p = some_path paths k b in (call_is (world u paths) h.paths_are k p.0 p.1 z a).behind;
+  behind = λ k z b a. let p = some_at paths k b in (call_is (world u paths) h.paths_are k p.0 p.1 z a).behind;
   at_positions = λ m k j s. sym s.shown.at;
   positions = λ m k xs q s. record { path = s.path; shown = record { path = s.shown.path; at = refl; scope = s.shown.scope; made = s.shown.made; names = s.shown.names }; own = s.own };
   scopes = λ m k n i j s b. not_in_scope k n i j.scope b s.own;

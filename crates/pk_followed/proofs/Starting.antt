@@ -1,37 +1,36 @@
 -- A run of the unit's graph begins with what the objects of the program hold.
-use Rattle.std.proofs.Common.{◌≡◌, ℕ, zero, suc, ◌+◌, ◌-◌, ◌<◌, ◌≤◌, ◌⊎◌, inl, inr, List, [], ◌∷◌, ◌++◌, length, Bool, true, false, ◌&&◌, nat_eq, Option, Some, None, refl, sym, ap, subst, ◌∙◌, arith, ℤ, pos, replicate, slice_index_or}
+use Rattle.std.proofs.Common.{◌≡◌, ℕ, zero, suc, ◌+◌, ◌-◌, ◌<◌, ◌≤◌, ◌⊎◌, inl, inr, List, [], ◌∷◌, ◌++◌, length, Bool, true, ◌&&◌, Option, Some, None, refl, sym, ap, subst, ◌∙◌, arith, pos, replicate, slice_index_or}
 use Rattle.std.proofs.lemmas.Option.{none-some}
-use Rattle.std.specs.Prelude.{slice_get, option_map, unwrap_or}
+use Rattle.std.specs.Prelude.{slice_get, unwrap_or}
 use Rattle.pk_ctypes.specs.declared.types.IntType.{IntType}
-use Rattle.pk_ctypes.specs.Types.{is_in_type}
-use Rattle.pk_typed.specs.Trees.{LocalTree, FunctionTree, FileObjectTree, StartTree, scalar_start, array_start, UnitTree}
+use Rattle.pk_typed.specs.Trees.{LocalTree, FileObjectTree, StartTree, scalar_start, array_start, UnitTree}
 use Rattle.pk_calls.specs.declared.listings.CallPath.{CallPath}
 use Rattle.pk_calls.specs.Paths.{entry_path, longer, IsListing}
 use Rattle.pk_graph.specs.Kinds.{Kind, count_of}
 use Rattle.pk_graph.specs.Graphs.{VariableOf, StartOf, any_start, number_start, no_variable}
 use Rattle.pk_graph.specs.Steps.{Numbers, are_any}
-use Rattle.pk_draft.specs.Drafts.{DraftOf, inner}
+use Rattle.pk_draft.specs.Drafts.{DraftOf}
 use Rattle.pk_lower_row.specs.Contexts.{parameters_of}
 use Rattle.pk_lower.specs.Parts.{body_at, file_variable, start_of_object}
 use Rattle.pk_step.specs.Beginnings.{BeginsWith}
 use Rattle.pk_welltyped.specs.WellTyped as good
 use Rattle.pk_welltyped.specs.WellTyped.{kind_among, scalar, IsUnit}
 use Rattle.pk_meaning.specs.Objects.{Object, file, local, result, Objects, numbers_of}
-use Rattle.pk_meaning.specs.Programs.{function_of, block_of, start_of, first_objects}
+use Rattle.pk_meaning.specs.Programs.{function_of, start_of, first_objects}
 use Rattle.pk_typed_draft.proofs.Places.{inner_object, outer_object, variable_in}
 use Rattle.pk_typed_draft.proofs.Parts.{AreWritten}
-use Rattle.pk_typed_draft.proofs.Plans.{place, its_parameters}
+use Rattle.pk_typed_draft.proofs.Plans.{place}
 use Rattle.pk_typed_draft.proofs.Listings.{longer_later}
 use Rattle.pk_typed_draft.proofs.Declarations.{object_kind}
-use Rattle.pk_visits.proofs.Slots.{own, temporary}
+use Rattle.pk_visits.proofs.Slots.{own}
 use Rattle.pk_visits.proofs.Stands.{HasKind}
 use Rattle.pk_visits.proofs.Follow.{kind_is}
 use Rattle.pk_visits.proofs.NumberedStarts.{StartsWith}
+use Rattle.pk_followed.proofs.Basics.{some_at}
 use Rattle.pk_followed.proofs.Pairs.{whole, final, ends_of, IsOutside, IsLocal, locals_at, world, function_at_path, AreTyped}
 use Rattle.pk_followed.proofs.Naming.{naming, Made, file_is}
 use Rattle.pk_followed.proofs.Graphs.{program_of, by_numbers}
 use Rattle.pk_followed.proofs.Copies.{numbers_are, named_object}
-use Rattle.pk_followed.proofs.Starts.{locals_same}
 use Rattle.pk_followed.proofs.Propers.{locals_are, its_types, parameter_there}
 use Rattle.pk_followed.proofs.Arguments.{Given, first_file, first_result, first_zeros, first_fits}
 use Rattle.pk_followed.proofs.Beginnings.{slot_at, slot_back, slot_told, no_object}
@@ -54,7 +53,7 @@ entry_first u entry paths l (suc k) p e c =
     let r = longer_later u 0 paths k p at in
     absurd (none-some (record { path = r.0; call = r.1 }) (sym c ∙ r.2))
 
-first_path : (u : UnitTree) (entry : ℕ) (paths : List CallPath) → IsListing u entry paths → slice_get paths 0 ≡ Some (entry_path entry)
+pub first_path : (u : UnitTree) (entry : ℕ) (paths : List CallPath) → IsListing u entry paths → slice_get paths 0 ≡ Some (entry_path entry)
 first_path u entry paths l = ap (λ (xs : List CallPath). slice_get xs 0) l.in_order
 
 -- what a parameter of the entry is in the end
@@ -105,11 +104,6 @@ entry_types u entry paths l h b =
     let p = h.parts 0 b in
     let same : Some p.path ≡ Some (entry_path entry) = sym p.place.path ∙ first_path u entry paths l in
     its_types u paths 0 p ∙ ap (λ (o : Option CallPath). parameters_of u (unwrap_or o p.path).function) same
-
-some_at : {A : Type 0} (xs : List A) (k : ℕ) → k < length xs → (x : A) × (slice_get xs k ≡ Some x)
-some_at [] k h = absurd (omega (h, arith))
-some_at (x ∷ xs) zero h = (x, refl)
-some_at (x ∷ xs) (suc k) h = some_at xs k (omega (h, arith))
 
 -- a parameter of the entry holds any number of its type
 outer_begins : (u : UnitTree) (entry : ℕ) (paths : List CallPath) (unit : IsUnit u) (l : IsListing u entry paths) (h : AreTyped u paths) (o : Objects) → AreFirst u paths o → (i x : ℕ) (m : IsLocal u paths 0 i x) → i < length (parameters_of u entry)

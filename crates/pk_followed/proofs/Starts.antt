@@ -1,24 +1,20 @@
 -- Where runs begin: each variable of the unit's draft holds what its object does.
-use Rattle.std.proofs.Common.{◌≡◌, ◌≢◌, ℕ, zero, suc, ◌+◌, ◌-◌, ◌<◌, ◌≤◌, ◌⊎◌, inl, inr, List, [], ◌∷◌, ◌++◌, length, map, Bool, true, false, nat_eq, if◌then◌else◌, Option, Some, None, refl, sym, ap, subst, ◌∙◌, arith, slice_index_or, pos, replicate}
-use Rattle.std.proofs.lemmas.Option.{none-some, slice_get_within}
-use Rattle.std.specs.Prelude.{All, slice_get, option_map, unwrap_or}
+use Rattle.std.proofs.Common.{◌≡◌, ℕ, zero, suc, ◌<◌, List, [], ◌∷◌, length, Some, refl, sym, ap, subst, ◌∙◌, arith}
+use Rattle.std.specs.Prelude.{slice_get, option_map}
 use Rattle.pk_typed.specs.Trees.{LocalTree, BodyTree, FunctionTree, FileObjectTree, UnitTree, StartTree, scalar_start, array_start}
 use Rattle.pk_calls.specs.declared.listings.CallPath.{CallPath}
 use Rattle.pk_graph.specs.Kinds.{count_of}
-use Rattle.pk_graph.specs.Graphs.{VariableOf, number_start}
-use Rattle.pk_welltyped.specs.WellTyped.{Kind, scalar, kind_in_file, kind_among, length_at_start, IsStart, IsUnit}
-use Rattle.pk_meaning.specs.Objects.{Object, file, local, result}
+use Rattle.pk_welltyped.specs.WellTyped.{Kind, scalar, kind_among, length_at_start, IsStart, IsUnit}
+use Rattle.pk_meaning.specs.Objects.{file, local, result}
 use Rattle.pk_meaning.specs.Programs.{block_of}
 use Rattle.pk_lower.specs.Parts.{body_at}
-use Rattle.pk_typed_draft.proofs.Parts.{ends}
 use Rattle.pk_typed_draft.proofs.Plans.{body_at_is}
 use Rattle.pk_typed_draft.proofs.Each.{PartOf, objects_of}
-use Rattle.pk_visits.proofs.Slots.{Slot, own, temporary}
-use Rattle.pk_visits.proofs.Stands.{HasKind}
 use Rattle.pk_visits.proofs.NumberedRuns.{HaveKinds}
+use Rattle.pk_followed.proofs.Basics.{all_get}
 use Rattle.pk_followed.proofs.Paths.{function_is, block_is}
-use Rattle.pk_followed.proofs.Pairs.{whole, ends_of, AreOne, world, AreTyped}
-use Rattle.pk_followed.proofs.Naming.{naming, Made, ends_many, returns_is}
+use Rattle.pk_followed.proofs.Pairs.{whole, world, AreTyped}
+use Rattle.pk_followed.proofs.Naming.{Made, ends_many, returns_is}
 use Rattle.pk_followed.proofs.Graphs.{program_of}
 
 -- ---- kinds
@@ -34,14 +30,6 @@ some_file : (xs : List FileObjectTree) (i : ℕ) → i < length xs → (x : File
 some_file [] i h = absurd (omega (h, arith))
 some_file (x ∷ xs) zero h = (x, refl)
 some_file (x ∷ xs) (suc i) h = some_file xs i (omega (h, arith))
-
-head_is : {A : Type 0} (y x : A) → Some y ≡ Some x → y ≡ x
-head_is {A = A} y x e = ap (λ (o : Option A). unwrap_or o x) e
-
-all_get : {A : Type 0} (P : A → Type 0) (xs : List A) (i : ℕ) (x : A) → All P xs → slice_get xs i ≡ Some x → P x
-all_get P [] i x h e = absurd (none-some x e)
-all_get P (y ∷ xs) zero x h e = subst P (head_is y x e) (h 0 y (omega arith))
-all_get P (y ∷ xs) (suc i) x h e = all_get P xs i x (λ k d l. h (suc k) d (omega (l, arith))) e
 
 -- the objects of a path's function, as its context and its block have them
 pub locals_same : (u : UnitTree) (paths : List CallPath) (k : ℕ) (p : PartOf (world u paths) (whole u paths) k) → (body_at u p.path.function).locals ≡ (block_of (program_of u paths) k).locals

@@ -77,10 +77,10 @@ module _ (g : GraphOf) (o : Options) (most : ℕ) (p : PlanView) (states : List 
   unknown_is v a l (lo, hi, is) = (lo, hi, ap (λ (t : Stated). verdict_of t.layout t.facts a.operation) (state_is v l) ∙ is)
 
   faults : FaultsAreUnknown → (v : ℕ) (s : Stored) (e : EdgeOf) (chosen : Numbers) (w : Failure) → Reaches g v s → Contains (point_at g v).edges e → effect storing chosen e.instr s ≡ Faulted w
-      → ((a : AccessOf) × IsFailing v e.instr w s a × IsUnknownIn states v a) ⊎ IsHidden e.instr w.site
+      → ((a : AccessOf) × IsFailing v e.instr w s a × IsUnknownIn states v a) ⊎ IsHidden e.instr w.site s
   faults law v s e chosen w h has fails = by (law g o p x.order x.flow most x.outcome analysed v s e chosen w h has fails)
     where
-      by : ((a : AccessOf) × IsFailing v e.instr w s a × IsUnknownAt x.flow x.outcome v a) ⊎ IsHidden e.instr w.site → ((a : AccessOf) × IsFailing v e.instr w s a × IsUnknownIn states v a) ⊎ IsHidden e.instr w.site
+      by : ((a : AccessOf) × IsFailing v e.instr w s a × IsUnknownAt x.flow x.outcome v a) ⊎ IsHidden e.instr w.site s → ((a : AccessOf) × IsFailing v e.instr w s a × IsUnknownIn states v a) ⊎ IsHidden e.instr w.site s
       by (inl (a, f, u)) = inl (a, f, unknown_is v a (there g v s made h) u)
       by (inr hidden) = inr hidden
 

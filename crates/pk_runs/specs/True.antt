@@ -30,7 +30,7 @@ pub record AreTrueOf (g : GraphOf) (states : List Stated) : Type 0 where
   pub safe : (a : AccessOf) (s : Stored) → Contains (accesses_of g) a → Reaches g a.point s → verdict_at states a ≡ Safe → FaultsIn a.operation s → ⊥
   pub unreachable : (a : AccessOf) (s : Stored) → Contains (accesses_of g) a → Reaches g a.point s → verdict_at states a ≡ Unreachable → IsEvaluatedIn a.operation s → ⊥
   pub faults : (p : ℕ) (s : Stored) (e : EdgeOf) (chosen : Numbers) (w : Failure) → Reaches g p s → Contains (point_at g p).edges e → effect storing chosen e.instr s ≡ Faulted w
-      → ((a : AccessOf) × IsFailing p e.instr w s a × IsUnknownIn states p a) ⊎ IsHidden e.instr w.site
+      → ((a : AccessOf) × IsFailing p e.instr w s a × IsUnknownIn states p a) ⊎ IsHidden e.instr w.site s
 
 -- the states of a report on a graph that is well made
 abbrev pub ReportsAreTrue : Type 0

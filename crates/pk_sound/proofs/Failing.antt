@@ -163,16 +163,16 @@ tree_fails ks p (binary op at t a b) s w st h e = elim (value_err (tree_value st
 -- ---- instructions
 
 abbrev Fails : ℕ → InstrOf ℕ → Failure → Stored → Type 0
-Fails p i w s = ((one : AccessOf) × IsFailing p i w s one) ⊎ IsHidden i w.site
+Fails p i w s = ((one : AccessOf) × IsFailing p i w s one) ⊎ IsHidden i w.site s
 
 of_one : (p : ℕ) (i : InstrOf ℕ) (w : Failure) (s : Stored) (accesses : List AccessOf) → of_instr p i ≡ accesses → IsOne accesses w s → Fails p i w s
 of_one p i w s accesses is h = inl (h.one, record { listed = subst (λ (xs : List AccessOf). Contains xs h.one) (sym is) h.listed; site = h.site; fault = h.fault; faults = h.faults })
 
-index_fails : (p : ℕ) (b : Bool) (at : Site) (n : ℕ) (i : TreeOf ℕ) (s : Stored) (z : ℤ) (w : Failure) → tree_value storing i s ≡ Ok z → indexed at n z ≡ Err w → IsOne (of_index p b at n i) w s ⊎ ((b ≡ false) × (at ≡ w.site))
+index_fails : (p : ℕ) (b : Bool) (at : Site) (n : ℕ) (i : TreeOf ℕ) (s : Stored) (z : ℤ) (w : Failure) → tree_value storing i s ≡ Ok z → indexed at n z ≡ Err w → IsOne (of_index p b at n i) w s ⊎ ((b ≡ false) × (at ≡ w.site) × (x : ℤ) × (tree_value storing i s ≡ Ok x) × (is_index n x ≡ false))
 index_fails p true at n i s z w k e =
     let out = index_err at n z w e in
     inl (record { one = access p at (Index n i); listed = contains_here (access p at (Index n i)) []; site = ap (λ (x : Failure). x.site) out.1; fault = ap (λ (x : Failure). x.fault) out.1; faults = (z, k, out.0) })
-index_fails p false at n i s z w k e = inr (refl, ap (λ (x : Failure). x.site) (index_err at n z w e).1)
+index_fails p false at n i s z w k e = let out = index_err at n z w e in inr (refl, ap (λ (x : Failure). x.site) out.1, z, k, out.0)
 
 passed_on : (b c : Bool) (s : Stored) (w : Failure) → passed b c s ≡ Faulted w → ⊥
 passed_on true true s w e = cc

@@ -1,5 +1,5 @@
 -- Where runs fault.
-use Rattle.std.specs.Prelude.{◌≡◌, ◌⊎◌, ℕ, ℤ, false, Contains}
+use Rattle.std.specs.Prelude.{◌≡◌, ◌⊎◌, ℕ, ℤ, false, Contains, Ok}
 use Rattle.pk_ctypes.specs.declared.faults.Fault.{Fault}
 use Rattle.pk_ctypes.specs.declared.faults.Fault.TheVariants as faults
 use Rattle.pk_graph.specs.declared.verdicts.Verdict.TheVariants.{Unknown}
@@ -7,7 +7,7 @@ use Rattle.pk_graph.specs.declared.trees.Site.{Site}
 use Rattle.pk_graph.specs.Trees.{InstrOf, Skip, Set, Havoc, Clear, Load, Store, Guard, Check}
 use Rattle.pk_graph.specs.Kinds.{Kinds, IsTypedInstr}
 use Rattle.pk_graph.specs.Graphs.{EdgeOf, GraphOf, point_at}
-use Rattle.pk_graph.specs.Steps.{Numbers, Failure, Faulted, effect}
+use Rattle.pk_graph.specs.Steps.{Numbers, Failure, Faulted, effect, tree_value, is_index}
 use Rattle.pk_graph.specs.Stores.{Stored, storing, IsStore}
 use Rattle.pk_graph.specs.Accesses.{OperationOf, Index, Divisor, Negation, Result, Shift, Assertion, AccessOf, of_instr}
 use Rattle.pk_state.specs.Facts.{Stated}
@@ -30,16 +30,16 @@ fault_of (Result op t a b) = faults.Overflow
 fault_of (Shift op t a b) = faults.Shift
 fault_of (Assertion e) = faults.Assert
 
--- an index that is no access
-abbrev pub IsHidden : InstrOf ℕ → Site → Type 0
-IsHidden Skip at = ⊥
-IsHidden (Set x e) at = ⊥
-IsHidden (Havoc x t n) at = ⊥
-IsHidden (Clear a) at = ⊥
-IsHidden (Load x a s b i) at = (b ≡ false) × (s ≡ at)
-IsHidden (Store a s b i e) at = (b ≡ false) × (s ≡ at)
-IsHidden (Guard e b) at = ⊥
-IsHidden (Check s e) at = ⊥
+-- an index that is no access, and lies outside of the array
+abbrev pub IsHidden : InstrOf ℕ → Site → Stored → Type 0
+IsHidden Skip at s = ⊥
+IsHidden (Set x e) at s = ⊥
+IsHidden (Havoc x t n) at s = ⊥
+IsHidden (Clear a) at s = ⊥
+IsHidden (Load x a place b i) at s = (b ≡ false) × (place ≡ at) × (z : ℤ) × (tree_value storing i s ≡ Ok z) × (is_index a.length z ≡ false)
+IsHidden (Store a place b i e) at s = (b ≡ false) × (place ≡ at) × (z : ℤ) × (tree_value storing i s ≡ Ok z) × (is_index a.length z ≡ false)
+IsHidden (Guard e b) at s = ⊥
+IsHidden (Check place e) at s = ⊥
 
 -- an access of an instruction of point p that has this failure in the store
 pub record IsFailing (p : ℕ) (i : InstrOf ℕ) (w : Failure) (s : Stored) (access : AccessOf) : Type 0 where
@@ -52,7 +52,7 @@ pub record IsFailing (p : ℕ) (i : InstrOf ℕ) (w : Failure) (s : Stored) (acc
 abbrev pub FaultsAreAccesses : Type 0
 FaultsAreAccesses =
     (ks : Kinds) (p : ℕ) (i : InstrOf ℕ) (chosen : Numbers) (s : Stored) (w : Failure) → IsTypedInstr ks i → IsStore ks s → effect storing chosen i s ≡ Faulted w
-    → ((access : AccessOf) × IsFailing p i w s access) ⊎ IsHidden i w.site
+    → ((access : AccessOf) × IsFailing p i w s access) ⊎ IsHidden i w.site s
 
 -- the verdict on an access of point p is that nothing is known
 abbrev pub IsUnknownAt : Flow → Outcome (Cell Stated) → ℕ → AccessOf → Type 0
@@ -63,4 +63,4 @@ abbrev pub FaultsAreUnknown : Type 0
 FaultsAreUnknown =
     (g : GraphOf) (o : Options) (q : PlanView) (order : Level) (a : Flow) (most : ℕ) (it : Outcome (Cell Stated)) → IsAnalysed g o q order a most it
     → (p : ℕ) (s : Stored) (e : EdgeOf) (chosen : Numbers) (w : Failure) → Reaches g p s → Contains (point_at g p).edges e → effect storing chosen e.instr s ≡ Faulted w
-    → ((access : AccessOf) × IsFailing p e.instr w s access × IsUnknownAt a it p access) ⊎ IsHidden e.instr w.site
+    → ((access : AccessOf) × IsFailing p e.instr w s access × IsUnknownAt a it p access) ⊎ IsHidden e.instr w.site s

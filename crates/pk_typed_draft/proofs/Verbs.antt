@@ -340,7 +340,7 @@ object_step w g m s x d p st k is some ob =
     (λ n f. let q = object_is_next w s d.variables d.objects l n f in inr (subst w.CanBegin q.1 (g.begun s.objects q.0)))
     (λ f o h n. let q = object_is_next w s d.variables d.objects l h.many f in (
       object_more w s d.objects d.variables k is some
-      (subst (λ (y : ℕ). Has w.table (w.table.names.object w.context.path s.objects y) k.int_type k.length) q.1 (g.objects s.objects k x q.0 is (subst (λ (y : ℕ). IsOwn w y x) (sym q.1) o) ob)) h,
+          (subst (λ (y : ℕ). Has w.table (w.table.names.object w.context.path s.objects y) k.int_type k.length) q.1 (g.objects s.objects k x q.0 is (subst (λ (y : ℕ). IsOwn w y x) (sym q.1) o) ob)) h,
       (o.there, subst w.CanBeNamed q.1 (g.named s.objects q.0)),
     ))
 

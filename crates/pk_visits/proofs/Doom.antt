@@ -1,6 +1,7 @@
 -- Where a tree that waits faults, the graph faults from this point on: the program faults where it evaluates an operand, the graph where it uses the tree.
-use Rattle.std.proofs.Common.{◌≡◌, ℕ, zero, suc, ◌+◌, ◌⊎◌, List, [], ◌∷◌, length, Bool, true, false, if◌then◌else◌, refl, ap, ◌∙◌, subst, inl, inr, arith, ℤ}
-use Rattle.std.specs.Prelude.{pos, Ok, Err, slice_set}
+use Rattle.std.proofs.Common.{◌≡◌, ℕ, zero, suc, ◌+◌, ◌⊎◌, List, [], ◌∷◌, length, Bool, true, false, if◌then◌else◌, refl, ap, ◌∙◌, subst, inl, inr, arith, ◌<◌, ℤ}
+use Rattle.std.specs.Prelude.{pos, Result, Ok, Err, slice_set}
+use Rattle.std.proofs.lemmas.Int.{ints}
 use Rattle.pk_ctypes.specs.declared.types.IntType.{IntType}
 use Rattle.pk_ctypes.specs.declared.types.IntType.TheVariants.{Int}
 use Rattle.pk_ctypes.specs.Operators.{result_type}
@@ -10,7 +11,7 @@ use Rattle.pk_ctypes.specs.declared.faults.Fault.TheVariants as faults
 use Rattle.pk_graph.specs.declared.trees.Site.{Site}
 use Rattle.pk_graph.specs.Trees.{constant, variable, converted, unary, binary, ArrayOf, Set, Load, Store, Guard, Check}
 use Rattle.pk_graph.specs.Steps as steps
-use Rattle.pk_graph.specs.Steps.{Numbers, Failure, tree_value, effect, with_value, and_then, indexed}
+use Rattle.pk_graph.specs.Steps.{Numbers, Failure, tree_value, effect, with_value, and_then, indexed, is_index}
 use Rattle.pk_draft.specs.Folding.{conversion, unary_tree, operated_tree}
 use Rattle.pk_lower_row.specs.Shapes.{makes, makes_effect, any_makes}
 use Rattle.pk_lower_row.specs.Contexts.{Context}
@@ -146,7 +147,7 @@ doomed_binds g chosen k h f j i (t ∷ ts) rest next p hs m l bad =
     (λ q m. doomed_binds g chosen k h f j (i + 1) ts rest next q r.1 m) where
       by : (a : Held) (hs : List Held) (q : ℕ) → Passes g k h (length ts) p (local j i) (conversion a.int_type t a.tree) q hs → Binds g k h j (i + 1) ts rest q hs
           → Case m f (length ts) a hs → ((q : ℕ) (m : Memory) → Binds g k h j (i + 1) ts rest q hs → Faulty m f hs → Doomed g chosen k h f q m) → Doomed g chosen k h f p m
-      by a hs q w b (itself e) more = now q (Set (own (local j i)) (conversion a.int_type t a.tree)) w.there (set_fails chosen (own (local j i)) (conversion a.int_type t a.tree) f m (conversion_fault a.int_type t a.tree f m e))
+      by a hs q w b (itself e) more = now q (Set (own (local j i)) (conversion a.int_type t a.tree)) w.there (set_fails chosen (own (local j i)) (conversion a.int_type t a.tree) f m (conversion_fault a.int_type t a.tree f m e)) tt
       by a hs q w b (above v e k) more =
           let z = conversion_ok a.int_type t a.tree v m e in
           later q (local j i) (conversion a.int_type t a.tree) z.0 w.there z.1 w.hidden w.shown
@@ -176,6 +177,15 @@ store_value_fails chosen a s b i e z f m k l =
     ∙ ap (λ r. with_value r (λ v. with_value (indexed s a.length z) (λ j. steps.To (with_memory a.variable (slice_set (memory_numbers a.variable m) j v) m)))) l
 
 -- the tree on top gives no number, where its work uses it at once
+-- an item of a braced list is one of the array
+item_inside : (n j : ℕ) → j < n → (z : ℤ) → (let x : Result ℤ Failure = Ok (pos j) in x) ≡ Ok z → is_index n z ≡ true
+item_inside n j h z e = subst (λ x. is_index n x ≡ true) (same z e) (below n j h) where
+  same : (z : ℤ) → (let x : Result ℤ Failure = Ok (pos j) in x) ≡ Ok z → pos j ≡ z
+  same z e = cc e
+
+  below : (n j : ℕ) → j < n → is_index n (pos j) ≡ true
+  below n j h = grind (arith, ints, h)
+
 pub doom : (g : Whole) (chosen : Numbers) (k : ℕ) (h : Place) (x : Exits) (f : Failure) (w : Work) (p : ℕ) (hs : List Held) (m : Memory) → Laid g k h x w p hs → Faulty m f hs → Doomed g chosen k h f p m
 doom g chosen k h x f (work.Go a) p hs m l b = absurd (plain_sound m f hs l.0 b)
 doom g chosen k h x f (work.Do s a) p hs m l b = absurd (calm_sound l.0.variables m f hs l.5 b)
@@ -190,10 +200,10 @@ doom g chosen k h x f (work.Evaluate e w) p hs m l b = both_bools (Doomed g chos
 doom g chosen k h x f (work.Test e y n) p hs m l b = absurd (calm_sound l.0.variables m f hs l.6 b)
 doom g chosen k h x f (work.Keep w) p [] m l b = absurd l
 doom g chosen k h x f (work.Keep w) p (a ∷ hs) m (inl l) b = doom g chosen k h x f w p (a ∷ hs) m l b
-doom g chosen k h x f (work.Keep w) p (a ∷ hs) m (inr l) (inl b) = now l.0 (Set (temporary l.1) a.tree) l.2.there (set_fails chosen (temporary l.1) a.tree f m b.0)
+doom g chosen k h x f (work.Keep w) p (a ∷ hs) m (inr l) (inl b) = now l.0 (Set (temporary l.1) a.tree) l.2.there (set_fails chosen (temporary l.1) a.tree f m b.0) tt
 doom g chosen k h x f (work.Keep w) p (a ∷ hs) m (inr l) (inr b) = absurd (plain_sound m f hs l.2.plain b)
 doom g chosen k h x f (work.Branch y n) p [] m l b = absurd l
-doom g chosen k h x f (work.Branch y n) p (a ∷ hs) m l (inl b) = now l.1 (Guard a.tree true) l.3 (ap (λ r. with_value r (λ v. steps.passed (steps.is_true v) true m)) b.0)
+doom g chosen k h x f (work.Branch y n) p (a ∷ hs) m l (inl b) = now l.1 (Guard a.tree true) l.3 (ap (λ r. with_value r (λ v. steps.passed (steps.is_true v) true m)) b.0) tt
 doom g chosen k h x f (work.Branch y n) p (a ∷ hs) m l (inr b) = absurd (plain_sound m f hs l.0 b)
 doom g chosen k h x f (work.Apply op at t w) p [] m l b = absurd l
 doom g chosen k h x f (work.Apply op at t w) p (a ∷ hs) m l (inl b) =
@@ -217,32 +227,32 @@ doom g chosen k h x f (work.Convert t w) p (a ∷ hs) m l (inl b) =
 doom g chosen k h x f (work.Convert t w) p (a ∷ hs) m l (inr b) = doom g chosen k h x f w p (held (conversion a.int_type t a.tree) t ∷ hs) m l (inr b)
 doom g chosen k h x f (work.Settle t w) p [] m l b = absurd l
 doom g chosen k h x f (work.Settle t w) p (a ∷ hs) m l (inl b) =
-    now l.0 (Set (temporary l.1) (conversion a.int_type t a.tree)) l.2.there (set_fails chosen (temporary l.1) (conversion a.int_type t a.tree) f m (conversion_fault a.int_type t a.tree f m b.0))
+    now l.0 (Set (temporary l.1) (conversion a.int_type t a.tree)) l.2.there (set_fails chosen (temporary l.1) (conversion a.int_type t a.tree) f m (conversion_fault a.int_type t a.tree f m b.0)) tt
 doom g chosen k h x f (work.Settle t w) p (a ∷ hs) m l (inr b) = absurd (plain_sound m f hs l.2.plain b)
 doom g chosen k h x f (work.Truth z w) p hs m l b = absurd (plain_sound m f hs l.2.plain b)
 doom g chosen k h x f (work.Drop w) p [] m l b = absurd l
 doom g chosen k h x f (work.Drop w) p (a ∷ hs) m (inl l) (inl b) = absurd (plain_tree m f a.tree l.0 b.0)
 doom g chosen k h x f (work.Drop w) p (a ∷ hs) m (inl l) (inr b) = doom g chosen k h x f w p hs m l.1 b
-doom g chosen k h x f (work.Drop w) p (a ∷ hs) m (inr l) (inl b) = now l.0 (Set (temporary l.1) a.tree) l.2.there (set_fails chosen (temporary l.1) a.tree f m b.0)
+doom g chosen k h x f (work.Drop w) p (a ∷ hs) m (inr l) (inl b) = now l.0 (Set (temporary l.1) a.tree) l.2.there (set_fails chosen (temporary l.1) a.tree f m b.0) tt
 doom g chosen k h x f (work.Drop w) p (a ∷ hs) m (inr l) (inr b) = absurd (plain_sound m f hs l.2.plain b)
 doom g chosen k h x f (work.Assign t y w) p [] m l b = absurd l
 doom g chosen k h x f (work.Assign t y w) p (a ∷ hs) m l (inl b) =
-    now l.0 (Set (own y) (conversion a.int_type t a.tree)) l.2.there (set_fails chosen (own y) (conversion a.int_type t a.tree) f m (conversion_fault a.int_type t a.tree f m b.0))
+    now l.0 (Set (own y) (conversion a.int_type t a.tree)) l.2.there (set_fails chosen (own y) (conversion a.int_type t a.tree) f m (conversion_fault a.int_type t a.tree f m b.0)) tt
 doom g chosen k h x f (work.Assign t y w) p (a ∷ hs) m l (inr b) = absurd (plain_sound m f hs l.2.plain b)
 doom g chosen k h x f (work.Put t y w) p [] m l b = absurd l
 doom g chosen k h x f (work.Put t y w) p (a ∷ hs) m l (inl b) =
-    now l.0 (Set (own y) (conversion a.int_type t a.tree)) l.2.there (set_fails chosen (own y) (conversion a.int_type t a.tree) f m (conversion_fault a.int_type t a.tree f m b.0))
+    now l.0 (Set (own y) (conversion a.int_type t a.tree)) l.2.there (set_fails chosen (own y) (conversion a.int_type t a.tree) f m (conversion_fault a.int_type t a.tree f m b.0)) tt
 doom g chosen k h x f (work.Put t y w) p (a ∷ hs) m l (inr b) = absurd (plain_sound m f hs l.2.plain b)
 doom g chosen k h x f (work.Update op at o t y w) p [] m l b = absurd l
 doom g chosen k h x f (work.Update op at o t y w) p (a ∷ hs) m l (inl b) =
     let e = operated_tree op (site_at k at) o t a.int_type (variable (own y)) a.tree in
     now l.0 (Set (own y) (conversion (result_type op o) t e)) l.2.there (set_fails chosen (own y) (conversion (result_type op o) t e) f m
-    (conversion_fault (result_type op o) t e f m (operated_right op (site_at k at) o t a.int_type (variable (own y)) a.tree _ f m refl b.0)))
+    (conversion_fault (result_type op o) t e f m (operated_right op (site_at k at) o t a.int_type (variable (own y)) a.tree _ f m refl b.0))) tt
 doom g chosen k h x f (work.Update op at o t y w) p (a ∷ hs) m l (inr b) = absurd (plain_sound m f hs l.2.plain b)
 doom g chosen k h x f (work.Advance op at o t y w) p hs m l b = absurd (plain_sound m f hs l.2.plain b)
 doom g chosen k h x f (work.Fetch t y w) p hs m l b = doom g chosen k h x f w p (held (variable (own y)) t ∷ hs) m l.1 (inr b)
 doom g chosen k h x f (work.Load at a w) p [] m l b = absurd l
-doom g chosen k h x f (work.Load at a w) p (i ∷ hs) m l (inl b) = now l.0 (Load (temporary l.1) (cells a) (site_at k at) true i.tree) l.3.there (load_fails chosen (temporary l.1) (cells a) (site_at k at) true i.tree f m b.0)
+doom g chosen k h x f (work.Load at a w) p (i ∷ hs) m l (inl b) = now l.0 (Load (temporary l.1) (cells a) (site_at k at) true i.tree) l.3.there (load_fails chosen (temporary l.1) (cells a) (site_at k at) true i.tree f m b.0) (λ q. absurd (cc q))
 doom g chosen k h x f (work.Load at a w) p (i ∷ hs) m l (inr b) = absurd (plain_sound m f hs l.3.plain b)
 doom g chosen k h x f (work.Reload at a w) p [] m l b = absurd l
 doom g chosen k h x f (work.Reload at a w) p (c ∷ []) m l b = absurd l
@@ -251,16 +261,16 @@ doom g chosen k h x f (work.Store at a w) p [] m l b = absurd l
 doom g chosen k h x f (work.Store at a w) p (c ∷ []) m l b = absurd l
 doom g chosen k h x f (work.Store at a w) p (c ∷ i ∷ hs) m l (inl b) =
     let e = conversion c.int_type a.int_type c.tree in
-    now l.0 (Store (cells a) (site_at k at) true i.tree e) l.2.there (store_value_fails chosen (cells a) (site_at k at) true i.tree e b.1.0.0 f m b.1.0.1 (conversion_fault c.int_type a.int_type c.tree f m b.0))
+    now l.0 (Store (cells a) (site_at k at) true i.tree e) l.2.there (store_value_fails chosen (cells a) (site_at k at) true i.tree e b.1.0.0 f m b.1.0.1 (conversion_fault c.int_type a.int_type c.tree f m b.0)) (λ q. absurd (cc q))
 doom g chosen k h x f (work.Store at a w) p (c ∷ i ∷ hs) m l (inr (inl b)) =
     let e = conversion c.int_type a.int_type c.tree in
-    now l.0 (Store (cells a) (site_at k at) true i.tree e) l.2.there (store_index_fails chosen (cells a) (site_at k at) true i.tree e f m b.0)
+    now l.0 (Store (cells a) (site_at k at) true i.tree e) l.2.there (store_index_fails chosen (cells a) (site_at k at) true i.tree e f m b.0) (λ q. absurd (cc q))
 doom g chosen k h x f (work.Store at a w) p (c ∷ i ∷ hs) m l (inr (inr b)) = absurd (plain_sound m f hs l.2.plain b)
 doom g chosen k h x f (work.StoreKept at a w) p [] m l b = absurd l
 doom g chosen k h x f (work.StoreKept at a w) p (c ∷ []) m l b = absurd l
 doom g chosen k h x f (work.StoreKept at a w) p (c ∷ i ∷ hs) m l (inl b) = absurd (plain_tree m f c.tree l.4.plain.0 b.0)
 doom g chosen k h x f (work.StoreKept at a w) p (c ∷ i ∷ hs) m l (inr (inl b)) =
-    now l.0 (Store (cells a) (site_at k at) l.1 i.tree c.tree) l.4.there (store_index_fails chosen (cells a) (site_at k at) l.1 i.tree c.tree f m b.0)
+    now l.0 (Store (cells a) (site_at k at) l.1 i.tree c.tree) l.4.there (store_index_fails chosen (cells a) (site_at k at) l.1 i.tree c.tree f m b.0) (λ q z u. absurd (cc (b.0, u)))
 doom g chosen k h x f (work.StoreKept at a w) p (c ∷ i ∷ hs) m l (inr (inr b)) = absurd (plain_sound m f hs l.4.plain.1 b)
 doom g chosen k h x f (work.Renew op at o r a w) p [] m l b = absurd l
 doom g chosen k h x f (work.Renew op at o r a w) p (e ∷ []) m l b = absurd l
@@ -278,12 +288,12 @@ doom g chosen k h x f (work.Fill a j es w) p hs m l b = absurd (calm_sound l.0.v
 doom g chosen k h x f (work.Item a j w) p [] m l b = absurd l
 doom g chosen k h x f (work.Item a j w) p (c ∷ hs) m l (inl b) =
     let e = conversion c.int_type a.int_type c.tree in
-    now l.0 (Store (cells a) l.1 false (constant Int (pos j)) e) l.4.there (store_value_fails chosen (cells a) l.1 false (constant Int (pos j)) e (pos j) f m refl (conversion_fault c.int_type a.int_type c.tree f m b.0))
+    now l.0 (Store (cells a) l.1 false (constant Int (pos j)) e) l.4.there (store_value_fails chosen (cells a) l.1 false (constant Int (pos j)) e (pos j) f m refl (conversion_fault c.int_type a.int_type c.tree f m b.0)) (λ q z u. item_inside a.length j l.2 z u)
 doom g chosen k h x f (work.Item a j w) p (c ∷ hs) m l (inr b) = absurd (plain_sound m f hs l.4.plain b)
 doom g chosen k h x f (work.Claim at w) p [] m l b = absurd l
 doom g chosen k h x f (work.Claim at w) p (a ∷ hs) m l (inl b) =
     now l.1 (Check (site_at k at) (conversion a.int_type Int a.tree)) l.2
-    (ap (λ r. with_value r (λ v. if steps.is_true v then steps.To m else steps.Faulted (steps.failure faults.Assert (site_at k at)))) (conversion_fault a.int_type Int a.tree f m b.0))
+    (ap (λ r. with_value r (λ v. if steps.is_true v then steps.To m else steps.Faulted (steps.failure faults.Assert (site_at k at)))) (conversion_fault a.int_type Int a.tree f m b.0)) tt
 doom g chosen k h x f (work.Claim at w) p (a ∷ hs) m l (inr b) = absurd (plain_sound m f hs l.0 b)
 doom g chosen k h x f (work.Pass es w) p hs m l b = both_bools (Doomed g chosen k h f p m) (any_makes es)
     (λ is. absurd (calm_sound l.0.variables m f hs (l.4 is) b))

@@ -40,7 +40,7 @@ use Rattle.pk_visits.proofs.Slots.{Slot, own, temporary, slots, SlotTree, Draft,
 use Rattle.pk_visits.proofs.Grows.{grows_refl, grows_trans, emit_grows, temporary_grows, made_grows, two_grows, held_grows, loaded_grows}
 use Rattle.pk_visits.proofs.Growing.{lowered, front_called, back_called, values}
 use Rattle.pk_visits.proofs.Tells.{Tells, variable_is, shapes, sane, Any}
-use Rattle.pk_visits.proofs.Stands.{Whole, context_of, Held, held, in_temporary, around, IsApart, AreCalm, IsPlain, HasKind, IsScalar, IsArrayOf, cells, Writes, Stage, Laid, IsCalled}
+use Rattle.pk_visits.proofs.Stands.{Whole, context_of, Held, held, tested, in_temporary, around, IsApart, AreCalm, IsPlain, HasKind, IsScalar, IsArrayOf, cells, Writes, Stage, Laid, IsCalled}
 use Rattle.pk_visits.proofs.Stages.{ways_grow, stage_until, stage_edge, all_called}
 use Rattle.pk_visits.proofs.Operands.{UnlessLoose, all_own, all_temporary, next_is, keep_laid, two_laid}
 use Rattle.pk_visits.proofs.Trees.{stage_names, has_kind, writes_scalar}
@@ -385,6 +385,7 @@ kept_laid g k h x q at t y i e w pt hs (d, n, is, fits, quiet, s, l) =
           plain = (tt, calm_plain d.variables hs calm);
         },
         subst (λ u. Laid g k h x w m.points (held (variable u) t ∷ hs)) (next_is p.draft np) l,
+        tt,
       ),
     ))
 
@@ -398,7 +399,7 @@ reload_laid : (g : Whole) (k : ℕ) (h : Place) (x : Exits) (at : Pos) (t : IntT
     → Laid g k h x w (rows.loaded t (site (context_of g k) at) (lower.array_of (context_of g k) y d) (lowered (context_of g k) i) (lowered (context_of g k) e) d).draft.point
     (held (rows.loaded t (site (context_of g k) at) (lower.array_of (context_of g k) y d) (lowered (context_of g k) i) (lowered (context_of g k) e) d).element t
     ∷ held (rows.loaded t (site (context_of g k) at) (lower.array_of (context_of g k) y d) (lowered (context_of g k) i) (lowered (context_of g k) e) d).right (type_of e)
-    ∷ held (rows.loaded t (site (context_of g k) at) (lower.array_of (context_of g k) y d) (lowered (context_of g k) i) (lowered (context_of g k) e) d).index (type_of i) ∷ hs)
+    ∷ tested (program.array_of g.program k t y).length (held (rows.loaded t (site (context_of g k) at) (lower.array_of (context_of g k) y d) (lowered (context_of g k) i) (lowered (context_of g k) e) d).index (type_of i)) ∷ hs)
     → Laid g k h x (meaning.reload at (program.array_of g.program k t y) i e w) d.point hs
 reload_laid g k h x at t y i e w n d f hs ns fa fi fe calm s after l =
     let c = context_of g k in
@@ -438,7 +439,7 @@ reload_laid g k h x at t y i e w n d f hs ns fa fi fe calm s after l =
         apart = (old_apart v.1.variables v.1.variables v.0 (omega arith) right, (old_apart v.1.variables v.1.variables p.first (omega arith) old2, all_temporary d.variables v.1.variables hs (omega (arith, le, le2)) calm));
         plain = (old_plain v.1.variables v.0 right, (old_plain v.1.variables p.first old2, calm_plain d.variables hs calm));
       },
-      subst (λ u. Laid g k h x w v.1.points (held (variable u) t ∷ held v.0 (type_of e) ∷ held p.first (type_of i) ∷ hs)) (next_is v.1 nv) l,
+      subst (λ u. Laid g k h x w v.1.points (held (variable u) t ∷ held v.0 (type_of e) ∷ tested b.length (held p.first (type_of i)) ∷ hs)) (next_is v.1 nv) l,
     ))
 
 -- what waits behind the load is old
@@ -501,6 +502,7 @@ renew_laid g k h x op q o at t y i e w n d hs fa fi fe calm s l =
         plain = calm_plain d.variables hs calm;
       },
       l,
+      refl,
     )
 
 -- an old tree that isn't an object is apart from objects
@@ -541,6 +543,7 @@ replace_laid g k h x op q o at t y i w pt hs (d, n, is, fits, quiet, s, l) =
         plain = (old_plain p.draft.variables p.element u.element, calm_plain d.variables hs calm);
       },
       l,
+      refl,
     )) where
       nothing_behind : {A : Type 0} (xs : List A) → xs ++ [] ≡ xs
       nothing_behind [] = refl
@@ -596,5 +599,6 @@ renewed_laid g k h x op q o at t y i e w n d hs fa fi fe calm s l =
           plain = (tt, calm_plain d.variables hs calm);
         },
         subst (λ z. Laid g k h x w m.points (held (variable z) t ∷ hs)) (next_is p.draft u.names) l,
+        refl,
       ),
     )

@@ -1,6 +1,6 @@
 -- The graph follows the program at elements, their faults included.
 use Rattle.std.proofs.Common.{◌≡◌, ℕ, zero, suc, ◌<◌, List, [], ◌∷◌, Bool, true, false, ◌&&◌, if◌then◌else◌, refl, sym, ap, ◌∙◌, subst, arith, ℤ}
-use Rattle.std.specs.Prelude.{pos, Ok, Err, slice_set, unsigned_abs}
+use Rattle.std.specs.Prelude.{pos, Result, Ok, Err, Some, slice_set, unsigned_abs}
 use Rattle.std.proofs.lemmas.Int.{ints}
 use Rattle.std.proofs.lemmas.List.{length-set}
 use Rattle.pk_ctypes.specs.declared.places.Pos.{Pos}
@@ -27,10 +27,10 @@ use Rattle.pk_meaning.specs.Work.{Place, Work, Way, Onward, Refused, Lost}
 use Rattle.pk_meaning.specs.Steps as meaning
 use Rattle.pk_meaning.specs.Steps.{Config, Next, step_of, operated}
 use Rattle.pk_visits.proofs.Slots.{Slot, own, temporary, Memory, memory, memory_numbers, with_memory, SlotTree}
-use Rattle.pk_visits.proofs.Stands.{Whole, Held, in_temporary, Means, HasKind, IsArrayOf, FitsObjects, Writes, site_at, cells, Laid}
+use Rattle.pk_visits.proofs.Stands.{Whole, Held, in_temporary, tested, IsBelow, IsTested, Means, HasKind, IsArrayOf, FitsObjects, Writes, site_at, cells, Laid}
 use Rattle.pk_visits.proofs.Stores.{Fitting, fits_written, means_apart, temporary_value}
 use Rattle.pk_visits.proofs.Values.{conversion_value, conversion_fault, operated_value, value_in}
-use Rattle.pk_visits.proofs.Follow.{Doomed, now, Answers, Follows, config, moved, set_does, kind_is}
+use Rattle.pk_visits.proofs.Follow.{Doomed, IsInside, now, Answers, Follows, config, moved, set_does, kind_is}
 use Rattle.pk_visits.proofs.Doom.{set_fails, store_value_fails}
 use Rattle.pk_visits.proofs.Operators.{by_result, in_type}
 
@@ -123,9 +123,9 @@ load g chosen p m k h at a w i vs s b x c hs l e same f =
     (λ is. let j = unsigned_abs i in let v = number_at (memory_numbers (own a.object) m) j in
     moved g chosen p l.0 m (with_memory (temporary l.1) (v ∷ []) m) (Load (temporary l.1) (cells a) (site_at k at) true c.tree) k h w (meaning.element_of a j s ∷ vs) s false x (in_temporary l.1 a.int_type ∷ hs)
     l.3.there (by ∙ ap (λ r. with_value r (λ j. steps.To (loaded (cells a) (temporary l.1) j m))) (index_in (site_at k at) a.length i is)) refl l.4
-    (temporary_value l.1 v m ∙ ap Ok (element_same a j s m same), element_in g.program a j s l.2 f, means_apart (temporary l.1) (v ∷ []) m hs vs l.3.apart e.2) same f)
+    (temporary_value l.1 v m ∙ ap Ok (element_same a j s m same), element_in g.program a j s l.2 f, means_apart (temporary l.1) (v ∷ []) m hs vs l.3.apart e.2, tt) same f)
     (λ is. now l.0 (Load (temporary l.1) (cells a) (site_at k at) true c.tree) l.3.there
-    (by ∙ ap (λ r. with_value r (λ j. steps.To (loaded (cells a) (temporary l.1) j m))) (index_out (site_at k at) a.length i is)))
+    (by ∙ ap (λ r. with_value r (λ j. steps.To (loaded (cells a) (temporary l.1) j m))) (index_out (site_at k at) a.length i is)) (λ b. absurd (cc b)))
 
 pub reload : (g : Whole) (chosen : Numbers) (p : ℕ) (m : Memory) (k : ℕ) (h : Place) (at : Pos) (a : Array) (w : Work) (i v : ℤ) (vs : Numbers) (s : Objects) (b : Bool) (x : Exits) (c d : Held) (hs : List Held)
     → Laid g k h x (work.Reload at a w) p (d ∷ c ∷ hs) → Means m (d ∷ c ∷ hs) (v ∷ i ∷ vs) → m.objects ≡ s → FitsObjects g.program s
@@ -134,12 +134,13 @@ reload g chosen p m k h at a w i v vs s b x c d hs l e same f =
     let by = load_by chosen (temporary l.1) (cells a) (site_at k at) true c.tree i m e.2.0 in
     by_index g chosen p m (config k h (work.Reload at a w) (v ∷ i ∷ vs) s b) at a i (λ j. meaning.on (config k h (work.Reload at a w) (v ∷ i ∷ vs) s b) w (meaning.element_of a j s ∷ v ∷ i ∷ vs))
     (λ is. let j = unsigned_abs i in let z = number_at (memory_numbers (own a.object) m) j in
+    let y = means_apart (temporary l.1) (z ∷ []) m (d ∷ c ∷ hs) (v ∷ i ∷ vs) l.3.apart e in
     moved g chosen p l.0 m (with_memory (temporary l.1) (z ∷ []) m) (Load (temporary l.1) (cells a) (site_at k at) true c.tree) k h w (meaning.element_of a j s ∷ v ∷ i ∷ vs) s false x
-    (in_temporary l.1 a.int_type ∷ d ∷ c ∷ hs)
+    (in_temporary l.1 a.int_type ∷ d ∷ tested a.length c ∷ hs)
     l.3.there (by ∙ ap (λ r. with_value r (λ j. steps.To (loaded (cells a) (temporary l.1) j m))) (index_in (site_at k at) a.length i is)) refl l.4
-    (temporary_value l.1 z m ∙ ap Ok (element_same a j s m same), element_in g.program a j s l.2 f, means_apart (temporary l.1) (z ∷ []) m (d ∷ c ∷ hs) (v ∷ i ∷ vs) l.3.apart e) same f)
+    (temporary_value l.1 z m ∙ ap Ok (element_same a j s m same), element_in g.program a j s l.2 f, (y.0, y.1, (y.2.0, y.2.1, y.2.2, is), y.3), tt) same f)
     (λ is. now l.0 (Load (temporary l.1) (cells a) (site_at k at) true c.tree) l.3.there
-    (by ∙ ap (λ r. with_value r (λ j. steps.To (loaded (cells a) (temporary l.1) j m))) (index_out (site_at k at) a.length i is)))
+    (by ∙ ap (λ r. with_value r (λ j. steps.To (loaded (cells a) (temporary l.1) j m))) (index_out (site_at k at) a.length i is)) (λ b. absurd (cc b)))
 
 -- a number goes into an element of an object
 pub stored_follows : (g : Whole) (chosen : Numbers) (p q : ℕ) (m : Memory) (k : ℕ) (h : Place) (s : Objects) (x : Exits) (w : Work) (a : Array) (r : Site) (f : Bool) (c e : SlotTree) (i v : ℤ) (hs : List Held) (vs : Numbers)
@@ -153,11 +154,17 @@ stored_follows g chosen p q m k h s x w a r f c e i v hs vs is t d n o z l y sam
     z.there (store_by chosen (cells a) r f c e i v m d n ∙ ap (λ u. with_value u (λ j. steps.To (stored (cells a) j v m))) (index_in r a.length i o)) (refl, z.shown) l y
     (ap (λ u. with_numbers a.object (slice_set (numbers_of a.object u) j v) u) same) (element_written g.program a j v s is t fit)
 
+-- an index that was tested lies below the length
+inside : (n : ℕ) (c : Held) (m : Memory) (i : ℤ) → tree_value memory c.tree m ≡ Ok i → IsBelow c.below i → c.below ≡ Some n → (z : ℤ) → tree_value memory c.tree m ≡ Ok z → is_index n z ≡ true
+inside n c m i d t is z e = subst (λ x. is_index n x ≡ true) (same i z (sym d ∙ e)) (subst (λ o. IsBelow o i) is t) where
+  same : (i z : ℤ) → (let x : Result ℤ steps.Failure = Ok i in x) ≡ Ok z → i ≡ z
+  same i z e = cc e
+
 store_out : (g : Whole) (chosen : Numbers) (p q : ℕ) (m : Memory) (k : ℕ) (h : Place) (a : Array) (r : Site) (f : Bool) (c e : SlotTree) (i v : ℤ) (hs : List Held)
-    → tree_value memory c m ≡ Ok i → tree_value memory e m ≡ Ok v → is_index a.length i ≡ false → Writes g k h p (own a.object) (Store (cells a) r f c e) q hs
+    → tree_value memory c m ≡ Ok i → tree_value memory e m ≡ Ok v → is_index a.length i ≡ false → Writes g k h p (own a.object) (Store (cells a) r f c e) q hs → IsInside (Store (cells a) r f c e) m
     → Doomed g chosen k h (steps.failure faults.Index r) p m
-store_out g chosen p q m k h a r f c e i v hs d n o z =
-    now q (Store (cells a) r f c e) z.there (store_by chosen (cells a) r f c e i v m d n ∙ ap (λ u. with_value u (λ j. steps.To (stored (cells a) j v m))) (index_out r a.length i o))
+store_out g chosen p q m k h a r f c e i v hs d n o z y =
+    now q (Store (cells a) r f c e) z.there (store_by chosen (cells a) r f c e i v m d n ∙ ap (λ u. with_value u (λ j. steps.To (stored (cells a) j v m))) (index_out r a.length i o)) y
 
 pub store : (g : Whole) (chosen : Numbers) (p : ℕ) (m : Memory) (k : ℕ) (h : Place) (at : Pos) (a : Array) (w : Work) (i v : ℤ) (vs : Numbers) (s : Objects) (b : Bool) (x : Exits) (c d : Held) (hs : List Held)
     → Laid g k h x (work.Store at a w) p (d ∷ c ∷ hs) → Means m (d ∷ c ∷ hs) (v ∷ i ∷ vs) → m.objects ≡ s → FitsObjects g.program s
@@ -168,7 +175,7 @@ store g chosen p m k h at a w i v vs s b x c d hs l e same f =
     by_index g chosen p m (config k h (work.Store at a w) (v ∷ i ∷ vs) s b) at a i (λ j. meaning.stores (config k h (work.Store at a w) (v ∷ i ∷ vs) s b) a j (wrapped a.int_type v) w vs)
     (λ o. stored_follows g chosen p l.0 m k h s x w a (site_at k at) true c.tree n i (wrapped a.int_type v) hs vs l.1 (wrapped_in a.int_type v) e.2.0 is o l.2 l.3
     (means_apart (own a.object) _ m hs vs l.2.apart e.2.2) same f)
-    (λ o. store_out g chosen p l.0 m k h a (site_at k at) true c.tree n i (wrapped a.int_type v) hs e.2.0 is o l.2)
+    (λ o. store_out g chosen p l.0 m k h a (site_at k at) true c.tree n i (wrapped a.int_type v) hs e.2.0 is o l.2 (λ b. absurd (cc b)))
 
 pub store_kept : (g : Whole) (chosen : Numbers) (p : ℕ) (m : Memory) (k : ℕ) (h : Place) (at : Pos) (a : Array) (w : Work) (i v : ℤ) (vs : Numbers) (s : Objects) (b : Bool) (x : Exits) (c d : Held) (hs : List Held)
     → Laid g k h x (work.StoreKept at a w) p (d ∷ c ∷ hs) → Means m (d ∷ c ∷ hs) (v ∷ i ∷ vs) → m.objects ≡ s → FitsObjects g.program s
@@ -176,8 +183,8 @@ pub store_kept : (g : Whole) (chosen : Numbers) (p : ℕ) (m : Memory) (k : ℕ)
 store_kept g chosen p m k h at a w i v vs s b x c d hs l e same f =
     by_index g chosen p m (config k h (work.StoreKept at a w) (v ∷ i ∷ vs) s b) at a i (λ j. meaning.stores (config k h (work.StoreKept at a w) (v ∷ i ∷ vs) s b) a j v w (v ∷ vs))
     (λ o. stored_follows g chosen p l.0 m k h s x w a (site_at k at) l.1 c.tree d.tree i v (d ∷ hs) (v ∷ vs) l.2 (subst (λ t. InType t v) l.3 e.1) e.2.0 e.0 o l.4 l.5
-    (means_apart (own a.object) _ m (d ∷ hs) (v ∷ vs) l.4.apart (e.0, e.1, e.2.2)) same f)
-    (λ o. store_out g chosen p l.0 m k h a (site_at k at) l.1 c.tree d.tree i v (d ∷ hs) e.2.0 e.0 o l.4)
+    (means_apart (own a.object) _ m (d ∷ hs) (v ∷ vs) l.4.apart (e.0, e.1, e.2.2, e.3)) same f)
+    (λ o. store_out g chosen p l.0 m k h a (site_at k at) l.1 c.tree d.tree i v (d ∷ hs) e.2.0 e.0 o l.4 (λ b. inside a.length c m i e.2.0 e.2.3 (subst (λ t. IsTested t c.below a.length) b l.6)))
 
 pub item : (g : Whole) (chosen : Numbers) (p : ℕ) (m : Memory) (k : ℕ) (h : Place) (a : Array) (j : ℕ) (w : Work) (v : ℤ) (vs : Numbers) (s : Objects) (b : Bool) (x : Exits) (d : Held) (hs : List Held)
     → Laid g k h x (work.Item a j w) p (d ∷ hs) → Means m (d ∷ hs) (v ∷ vs) → m.objects ≡ s → FitsObjects g.program s
@@ -204,8 +211,8 @@ renewed_fault op at o t d c u v n m is i k j l err =
     (operated_value op at o t c.int_type d.tree c.tree u v m (subst (λ q. InType q u) (sym is) i) k j l ∙ ap (at_site at) err)
 
 store_tree_fails : (g : Whole) (chosen : Numbers) (p q : ℕ) (m : Memory) (k : ℕ) (h : Place) (a : Array) (r : Site) (f : Bool) (c e : SlotTree) (i : ℤ) (n : steps.Failure) (hs : List Held)
-    → tree_value memory c m ≡ Ok i → tree_value memory e m ≡ Err n → Writes g k h p (own a.object) (Store (cells a) r f c e) q hs → Doomed g chosen k h n p m
-store_tree_fails g chosen p q m k h a r f c e i n hs d l z = now q (Store (cells a) r f c e) z.there (store_value_fails chosen (cells a) r f c e i n m d l)
+    → tree_value memory c m ≡ Ok i → tree_value memory e m ≡ Err n → Writes g k h p (own a.object) (Store (cells a) r f c e) q hs → IsInside (Store (cells a) r f c e) m → Doomed g chosen k h n p m
+store_tree_fails g chosen p q m k h a r f c e i n hs d l z y = now q (Store (cells a) r f c e) z.there (store_value_fails chosen (cells a) r f c e i n m d l) y
 
 pub renew : (g : Whole) (chosen : Numbers) (p : ℕ) (m : Memory) (k : ℕ) (h : Place) (op : Op) (at : Pos) (o : IntType) (r : Pos) (a : Array) (w : Work) (i v u : ℤ) (vs : Numbers) (s : Objects) (b : Bool) (x : Exits) (n c d : Held) (hs : List Held)
     → Laid g k h x (work.Renew op at o r a w) p (d ∷ c ∷ n ∷ hs) → Means m (d ∷ c ∷ n ∷ hs) (u ∷ v ∷ i ∷ vs) → m.objects ≡ s → FitsObjects g.program s
@@ -218,9 +225,9 @@ renew g chosen p m k h op at o r a w i v u vs s b x n c d hs l e same f =
     by_index g chosen p m con r a i (λ j. meaning.stores con a j (wrapped a.int_type z) w vs)
     (λ t. stored_follows g chosen p l.0 m k h s x w a (site_at k r) false n.tree y i (wrapped a.int_type z) hs vs l.2 (wrapped_in a.int_type z) e.2.2.0 is t l.4 l.5
     (means_apart (own a.object) _ m hs vs l.4.apart e.2.2.2) same f)
-    (λ t. store_out g chosen p l.0 m k h a (site_at k r) false n.tree y i (wrapped a.int_type z) hs e.2.2.0 is t l.4))
+    (λ t. store_out g chosen p l.0 m k h a (site_at k r) false n.tree y i (wrapped a.int_type z) hs e.2.2.0 is t l.4 (λ b. inside a.length n m i e.2.2.0 e.2.2.3 l.6)))
     (λ q err. store_tree_fails g chosen p l.0 m k h a (site_at k r) false n.tree y i (steps.failure q (site_at k at)) hs e.2.2.0
-    (renewed_fault op (site_at k at) o a.int_type d c u v q m (sym l.3) e.1 e.0 e.2.1 e.2.0 err) l.4)
+    (renewed_fault op (site_at k at) o a.int_type d c u v q m (sym l.3) e.1 e.0 e.2.1 e.2.0 err) l.4 (λ b. inside a.length n m i e.2.2.0 e.2.2.3 l.6))
 
 pub replace : (g : Whole) (chosen : Numbers) (p : ℕ) (m : Memory) (k : ℕ) (h : Place) (op : Op) (at : Pos) (o : IntType) (r : Pos) (a : Array) (w : Work) (i v u : ℤ) (vs : Numbers) (s : Objects) (b : Bool) (x : Exits) (n c d : Held) (hs : List Held)
     → Laid g k h x (work.Replace op at o r a w) p (d ∷ c ∷ n ∷ hs) → Means m (d ∷ c ∷ n ∷ hs) (u ∷ v ∷ i ∷ vs) → m.objects ≡ s → FitsObjects g.program s
@@ -232,10 +239,10 @@ replace g chosen p m k h op at o r a w i v u vs s b x n c d hs l e same f =
     (λ z ok. let is = renewed_value op (site_at k at) o a.int_type d c u v z m (sym l.3) e.1 e.0 e.2.1 e.2.0 ok in
     by_index g chosen p m con r a i (λ j. meaning.stores con a j (wrapped a.int_type z) w (u ∷ vs))
     (λ t. stored_follows g chosen p l.0 m k h s x w a (site_at k r) false n.tree y i (wrapped a.int_type z) (d ∷ hs) (u ∷ vs) l.2 (wrapped_in a.int_type z) e.2.2.0 is t l.4 l.5
-    (means_apart (own a.object) _ m (d ∷ hs) (u ∷ vs) l.4.apart (e.0, e.1, e.2.2.2)) same f)
-    (λ t. store_out g chosen p l.0 m k h a (site_at k r) false n.tree y i (wrapped a.int_type z) (d ∷ hs) e.2.2.0 is t l.4))
+    (means_apart (own a.object) _ m (d ∷ hs) (u ∷ vs) l.4.apart (e.0, e.1, e.2.2.2, e.3)) same f)
+    (λ t. store_out g chosen p l.0 m k h a (site_at k r) false n.tree y i (wrapped a.int_type z) (d ∷ hs) e.2.2.0 is t l.4 (λ b. inside a.length n m i e.2.2.0 e.2.2.3 l.6)))
     (λ q err. store_tree_fails g chosen p l.0 m k h a (site_at k r) false n.tree y i (steps.failure q (site_at k at)) (d ∷ hs) e.2.2.0
-    (renewed_fault op (site_at k at) o a.int_type d c u v q m (sym l.3) e.1 e.0 e.2.1 e.2.0 err) l.4)
+    (renewed_fault op (site_at k at) o a.int_type d c u v q m (sym l.3) e.1 e.0 e.2.1 e.2.0 err) l.4 (λ b. inside a.length n m i e.2.2.0 e.2.2.3 l.6))
 
 pub renewed : (g : Whole) (chosen : Numbers) (p : ℕ) (m : Memory) (k : ℕ) (h : Place) (op : Op) (at : Pos) (o t : IntType) (w : Work) (i v u : ℤ) (vs : Numbers) (s : Objects) (b : Bool) (x : Exits) (n c d : Held) (hs : List Held)
     → Laid g k h x (work.Renewed op at o t w) p (d ∷ c ∷ n ∷ hs) → Means m (d ∷ c ∷ n ∷ hs) (u ∷ v ∷ i ∷ vs) → m.objects ≡ s → FitsObjects g.program s
@@ -247,5 +254,5 @@ renewed g chosen p m k h op at o t w i v u vs s b x n c d hs l e same f =
     (λ z ok. let q = wrapped t z in
     moved g chosen p l.0 m (with_memory (temporary l.1) (q ∷ []) m) (Set (temporary l.1) y) k h w (q ∷ i ∷ vs) s false x (in_temporary l.1 t ∷ n ∷ hs)
     l.4.there (set_does chosen (temporary l.1) y q m (renewed_value op (site_at k at) o t d c u v z m (sym l.3) e.1 e.0 e.2.1 e.2.0 ok)) refl l.5
-    (temporary_value l.1 q m, wrapped_in t z, means_apart (temporary l.1) (q ∷ []) m (n ∷ hs) (i ∷ vs) l.4.apart (e.2.2.0, e.2.2.1, e.2.2.2)) same f)
-    (λ q err. now l.0 (Set (temporary l.1) y) l.4.there (set_fails chosen (temporary l.1) y (steps.failure q (site_at k at)) m (renewed_fault op (site_at k at) o t d c u v q m (sym l.3) e.1 e.0 e.2.1 e.2.0 err)))
+    (temporary_value l.1 q m, wrapped_in t z, means_apart (temporary l.1) (q ∷ []) m (n ∷ hs) (i ∷ vs) l.4.apart e.2.2, tt) same f)
+    (λ q err. now l.0 (Set (temporary l.1) y) l.4.there (set_fails chosen (temporary l.1) y (steps.failure q (site_at k at)) m (renewed_fault op (site_at k at) o t d c u v q m (sym l.3) e.1 e.0 e.2.1 e.2.0 err)) tt)

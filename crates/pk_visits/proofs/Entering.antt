@@ -40,7 +40,7 @@ find m zero (a ∷ hs) (v ∷ vs) F l e = record { tree = a; trees = hs; value =
 find m (suc n) (b ∷ hs) [] F l e = absurd e
 find m (suc n) (b ∷ hs) (u ∷ us) F l e =
     let r = find m n hs us (λ a rest. F a (b ∷ rest)) l e.2 in
-    record { tree = r.tree; trees = b ∷ r.trees; value = r.value; values = u ∷ r.values; goes_on = r.goes_on; gives = r.gives; inside = r.inside; means = (e.0, e.1, r.means); below = λ f. r.below (λ w rest. f w (u ∷ rest)) }
+    record { tree = r.tree; trees = b ∷ r.trees; value = r.value; values = u ∷ r.values; goes_on = r.goes_on; gives = r.gives; inside = r.inside; means = (e.0, e.1, r.means, e.3); below = λ f. r.below (λ w rest. f w (u ∷ rest)) }
 
 pub bind : (g : Whole) (chosen : Numbers) (p : ℕ) (m : Memory) (k : ℕ) (h : Place) (j i : ℕ) (ts : List IntType) (w : Work) (vs : Numbers) (s : Objects) (b : Bool) (x : Exits) (hs : List Held)
     → Laid g k h x (work.Bind j i ts w) p hs → Means m hs vs → m.objects ≡ s → FitsObjects g.program s

@@ -40,7 +40,7 @@ constant_follows : (g : Whole) (chosen : Numbers) (p : ℕ) (m : Memory) (k : �
     → Laid g k h x (work.Evaluate (tree.constant t z) w) p hs → Means m hs vs → m.objects ≡ s → FitsObjects g.program s → Follows g chosen p m (config k h w (z ∷ vs) s false)
 unfolding ways IsValue type_of
 constant_follows g chosen p m k h t z w vs s x hs (d, n, is, fits, quiet, st, l) e same f =
-    still g chosen p m k h w (z ∷ vs) s x (held (constant t z) t ∷ hs) (subst (λ q. Laid g k h x w q (held (constant t z) t ∷ hs)) is l) (refl, fits, e) same f
+    still g chosen p m k h w (z ∷ vs) s x (held (constant t z) t ∷ hs) (subst (λ q. Laid g k h x w q (held (constant t z) t ∷ hs)) is l) (refl, fits, e, tt) same f
 
 both_true : (a b : Bool) → (a && b) ≡ true → (a ≡ true) × (b ≡ true)
 both_true true b h = (refl, h)
@@ -58,7 +58,7 @@ any_follows g chosen p m k h t at w vs s b x hs l e same f = by (are_any t 1 cho
       let i = number_in_type t chosen (eqb-true (length chosen) 1 a.0) a.1 in
       moved g chosen p r.0 m (with_memory (temporary r.1) chosen m) (Havoc (temporary r.1) t 1) k h w (number_at chosen 0 ∷ vs) s false x (in_temporary r.1 t ∷ hs)
       r.2.there (ap (λ c. if c then steps.To (with_memory (temporary r.1) chosen m) else steps.Wants t 1) is) refl r.3
-      (temporary_value r.1 (number_at chosen 0) m, in_type t (number_at chosen 0) i, means_apart (temporary r.1) chosen m hs vs r.2.apart e) same f
+      (temporary_value r.1 (number_at chosen 0) m, in_type t (number_at chosen 0) i, means_apart (temporary r.1) chosen m hs vs r.2.apart e, tt) same f
 
 -- `x++` used
 after_follows : (g : Whole) (chosen : Numbers) (p : ℕ) (m : Memory) (k : ℕ) (h : Place) (op : Op) (at : Pos) (o t : IntType) (y : Variable) (w : Work) (vs : Numbers) (s : Objects) (x : Exits) (hs : List Held)
@@ -70,13 +70,13 @@ after_follows g chosen p m k h op at o t y w vs s x hs l e same f =
     let v = number_of (object_of k y) s in
     moved g chosen p q.0 m (with_memory (temporary q.1) (v ∷ []) m) (Set (temporary q.1) (variable (own (object_of k y)))) k h (work.Advance op at o t (object_of k y) w) (v ∷ vs) s false x (in_temporary q.1 t ∷ hs)
     q.2.there (set_does chosen (temporary q.1) (variable (own (object_of k y))) v m (object_value (object_of k y) s m same)) refl q.3
-    (temporary_value q.1 v m, object_in g.program (object_of k y) t s r.0 f, means_apart (temporary q.1) (v ∷ []) m hs vs q.2.apart e) same f
+    (temporary_value q.1 v m, object_in g.program (object_of k y) t s r.0 f, means_apart (temporary q.1) (v ∷ []) m hs vs q.2.apart e, tt) same f
 
 scalar_follows : (g : Whole) (chosen : Numbers) (p : ℕ) (m : Memory) (k : ℕ) (h : Place) (t : IntType) (y : Variable) (w : Work) (vs : Numbers) (s : Objects) (x : Exits) (hs : List Held)
     → Laid g k h x (work.Evaluate (tree.read (tree.scalar t y)) w) p hs → Means m hs vs → m.objects ≡ s → FitsObjects g.program s → Follows g chosen p m (config k h w (number_of (object_of k y) s ∷ vs) s false)
 scalar_follows g chosen p m k h t y w vs s x hs l e same f =
     let r = scalar_laid g k h x t y w p hs l in
-    still g chosen p m k h w (number_of (object_of k y) s ∷ vs) s x (held (variable (own (object_of k y))) t ∷ hs) r.1 (object_value (object_of k y) s m same, object_in g.program (object_of k y) t s r.0 f, e) same f
+    still g chosen p m k h w (number_of (object_of k y) s ∷ vs) s x (held (variable (own (object_of k y))) t ∷ hs) r.1 (object_value (object_of k y) s m same, object_in g.program (object_of k y) t s r.0 f, e, tt) same f
 
 -- an element with an operator, whose value is used
 updated_laid : (g : Whole) (k : ℕ) (h : Place) (x : Exits) (op : Op) (q : Pos) (o : IntType) (at : Pos) (t : IntType) (y : Variable) (i e : ValueTree) (w : Work) (p : ℕ) (hs : List Held)

@@ -8,7 +8,7 @@ use Rattle.pk_ctypes.proofs.Wrapped.{wrapped_in}
 use Rattle.pk_ctypes.proofs.Values.{in_type_test}
 use Rattle.pk_graph.specs.Trees.{constant, variable, Skip, Set, Havoc, Clear, Load, Store, Guard, Check}
 use Rattle.pk_graph.specs.Steps as steps
-use Rattle.pk_graph.specs.Steps.{Numbers, number_at, tree_value, effect, with_value, all_in_type}
+use Rattle.pk_graph.specs.Steps.{Numbers, number_at, tree_value, effect, with_value, all_in_type, is_index}
 use Rattle.pk_draft.specs.Folding.{conversion}
 use Rattle.pk_lower_statement.specs.declared.statements.Exits.{Exits}
 use Rattle.pk_welltyped.specs.WellTyped.{Kind, scalar}
@@ -54,8 +54,19 @@ abbrev pub Follows : Whole → Numbers → (p : ℕ) → Memory → Config → T
 Follows g chosen p m d = ((d.is_visit ≡ false) × StandsAt g d p m) ⊎ Moves g chosen p m d
 
 -- The graph faults from a point on, behind edges that set objects which aren't in scope: the parameters of a call, where a later argument faults.
+-- an index without a test of its own, if it has a value, lies below the array's length
+abbrev pub IsInside : Instr → Memory → Type 0
+IsInside Skip m = Unit {0}
+IsInside (Set x e) m = Unit {0}
+IsInside (Havoc x t n) m = Unit {0}
+IsInside (Clear a) m = Unit {0}
+IsInside (Load x a s b i) m = b ≡ false → (z : ℤ) → tree_value memory i m ≡ Ok z → is_index a.length z ≡ true
+IsInside (Store a s b i e) m = b ≡ false → (z : ℤ) → tree_value memory i m ≡ Ok z → is_index a.length z ≡ true
+IsInside (Guard e b) m = Unit {0}
+IsInside (Check s e) m = Unit {0}
+
 pub data Doomed (g : Whole) (chosen : Numbers) (k : ℕ) (h : Place) (f : steps.Failure) : ℕ → Memory → Type 0 where
-  now : {p : ℕ} {m : Memory} (q : ℕ) (i : Instr) → Among (edge p i q) g.edges → effect memory chosen i m ≡ steps.Faulted f → Doomed g chosen k h f p m
+  now : {p : ℕ} {m : Memory} (q : ℕ) (i : Instr) → Among (edge p i q) g.edges → effect memory chosen i m ≡ steps.Faulted f → IsInside i m → Doomed g chosen k h f p m
   later : {p : ℕ} {m : Memory} (q : ℕ) (x : Object) (e : SlotTree) (v : ℤ) → Among (edge p (Set (own x) e) q) g.edges → tree_value memory e m ≡ Ok v → is_in_scope x h.scope ≡ false → ShowsAt g q k h
       → Doomed g chosen k h f q (with_memory (own x) (v ∷ []) m) → Doomed g chosen k h f p m
 
@@ -133,7 +144,7 @@ pub convert : (g : Whole) (chosen : Numbers) (p : ℕ) (m : Memory) (k : ℕ) (h
     → Laid g k h x (work.Convert t w) p (a ∷ hs) → Means m (a ∷ hs) (v ∷ vs) → m.objects ≡ s → FitsObjects g.program s
     → Answers g chosen k h p m (step_of g.program chosen (config k h (work.Convert t w) (v ∷ vs) s b) (work.Convert t w))
 convert g chosen p m k h t w v vs s b x a hs l e same f =
-    still g chosen p m k h w (wrapped t v ∷ vs) s x (held (conversion a.int_type t a.tree) t ∷ hs) l (conversion_value a.int_type t a.tree v m e.1 e.0, wrapped_in t v, e.2) same f
+    still g chosen p m k h w (wrapped t v ∷ vs) s x (held (conversion a.int_type t a.tree) t ∷ hs) l (conversion_value a.int_type t a.tree v m e.1 e.0, wrapped_in t v, e.2, tt) same f
 
 pub settle : (g : Whole) (chosen : Numbers) (p : ℕ) (m : Memory) (k : ℕ) (h : Place) (t : IntType) (w : Work) (v : ℤ) (vs : Numbers) (s : Objects) (b : Bool) (x : Exits) (a : Held) (hs : List Held)
     → Laid g k h x (work.Settle t w) p (a ∷ hs) → Means m (a ∷ hs) (v ∷ vs) → m.objects ≡ s → FitsObjects g.program s
@@ -143,7 +154,7 @@ settle g chosen p m k h t w v vs s b x a hs l e same f =
     let i = conversion a.int_type t a.tree in
     moved g chosen p l.0 m (with_memory (temporary l.1) (y ∷ []) m) (Set (temporary l.1) i) k h w (y ∷ vs) s false x (in_temporary l.1 t ∷ hs)
     l.2.there (set_does chosen (temporary l.1) i y m (conversion_value a.int_type t a.tree v m e.1 e.0)) refl l.3
-    (temporary_value l.1 y m, wrapped_in t v, means_apart (temporary l.1) (y ∷ []) m hs vs l.2.apart e.2) same f
+    (temporary_value l.1 y m, wrapped_in t v, means_apart (temporary l.1) (y ∷ []) m hs vs l.2.apart e.2, tt) same f
 
 pub keep : (g : Whole) (chosen : Numbers) (p : ℕ) (m : Memory) (k : ℕ) (h : Place) (w : Work) (v : ℤ) (vs : Numbers) (s : Objects) (b : Bool) (x : Exits) (a : Held) (hs : List Held)
     → Laid g k h x (work.Keep w) p (a ∷ hs) → Means m (a ∷ hs) (v ∷ vs) → m.objects ≡ s → FitsObjects g.program s
@@ -152,7 +163,7 @@ keep g chosen p m k h w v vs s b x a hs (inl l) e same f = still g chosen p m k 
 keep g chosen p m k h w v vs s b x a hs (inr l) e same f =
     moved g chosen p l.0 m (with_memory (temporary l.1) (v ∷ []) m) (Set (temporary l.1) a.tree) k h w (v ∷ vs) s false x (in_temporary l.1 a.int_type ∷ hs)
     l.2.there (set_does chosen (temporary l.1) a.tree v m e.0) refl l.3
-    (temporary_value l.1 v m, e.1, means_apart (temporary l.1) (v ∷ []) m hs vs l.2.apart e.2) same f
+    (temporary_value l.1 v m, e.1, means_apart (temporary l.1) (v ∷ []) m hs vs l.2.apart e.2, tt) same f
 
 pub drop : (g : Whole) (chosen : Numbers) (p : ℕ) (m : Memory) (k : ℕ) (h : Place) (w : Work) (v : ℤ) (vs : Numbers) (s : Objects) (b : Bool) (x : Exits) (a : Held) (hs : List Held)
     → Laid g k h x (work.Drop w) p (a ∷ hs) → Means m (a ∷ hs) (v ∷ vs) → m.objects ≡ s → FitsObjects g.program s
@@ -167,7 +178,7 @@ pub truth : (g : Whole) (chosen : Numbers) (p : ℕ) (m : Memory) (k : ℕ) (h :
     → Answers g chosen k h p m (step_of g.program chosen (config k h (work.Truth z w) vs s b) (work.Truth z w))
 truth g chosen p m k h z w vs s b x hs l e same f =
     moved g chosen p l.0 m (with_memory (temporary l.1) (z ∷ []) m) (Set (temporary l.1) (constant Int z)) k h w (z ∷ vs) s false x (in_temporary l.1 Int ∷ hs)
-    l.2.there refl refl l.4 (temporary_value l.1 z m, l.3, means_apart (temporary l.1) (z ∷ []) m hs vs l.2.apart e) same f
+    l.2.there refl refl l.4 (temporary_value l.1 z m, l.3, means_apart (temporary l.1) (z ∷ []) m hs vs l.2.apart e, tt) same f
 
 pub put : (g : Whole) (chosen : Numbers) (p : ℕ) (m : Memory) (k : ℕ) (h : Place) (t : IntType) (y : Object) (w : Work) (v : ℤ) (vs : Numbers) (s : Objects) (b : Bool) (x : Exits) (a : Held) (hs : List Held)
     → Laid g k h x (work.Put t y w) p (a ∷ hs) → Means m (a ∷ hs) (v ∷ vs) → m.objects ≡ s → FitsObjects g.program s
@@ -187,5 +198,5 @@ assign g chosen p m k h t y w v vs s b x a hs l e same f =
     let i = conversion a.int_type t a.tree in
     moved g chosen p l.0 m (with_memory (own y) (z ∷ []) m) (Set (own y) i) k h w (z ∷ vs) (with_numbers y (z ∷ []) s) (is_in_scope y h.scope) x (held (variable (own y)) t ∷ hs)
     l.2.there (set_does chosen (own y) i z m (conversion_value a.int_type t a.tree v m e.1 e.0)) (refl, l.2.shown) l.3
-    (own_value y z m (subst (λ o. 0 < length (numbers_of y o)) (sym same) (is_there g.program y t s l.1 f)), wrapped_in t v, means_apart (own y) (z ∷ []) m hs vs l.2.apart e.2)
+    (own_value y z m (subst (λ o. 0 < length (numbers_of y o)) (sym same) (is_there g.program y t s l.1 f)), wrapped_in t v, means_apart (own y) (z ∷ []) m hs vs l.2.apart e.2, tt)
     (ap (with_numbers y (z ∷ [])) same) (scalar_written g.program y t z s l.1 (wrapped_in t v) f)

@@ -23,9 +23,9 @@ use Rattle.pk_visits.specs.SameVisits.{FailsAt}
 use Rattle.pk_visits.proofs.Slots.{Slot, own, temporary, Instr, edge, Memory, memory, with_memory, Among}
 use Rattle.pk_visits.proofs.Stands.{Whole, HasKind, FitsObjects}
 use Rattle.pk_visits.proofs.Stores.{decided, same_object, other_object}
-use Rattle.pk_visits.proofs.Follow.{written, Seen, Moves, Doomed, now, later, config, set_does}
+use Rattle.pk_visits.proofs.Follow.{written, Seen, Moves, Doomed, IsInside, now, later, config, set_does}
 use Rattle.pk_visits.proofs.NumberedEdges.{IsFound, number_of, end_found, edge_shown}
-use Rattle.pk_visits.proofs.NumberedStores.{Naming, IsNaming, Mirrors, AreThere, goes_same, faults_same}
+use Rattle.pk_visits.proofs.NumberedStores.{Naming, IsNaming, Mirrors, AreThere, goes_same, faults_same, inside_same}
 use Rattle.pk_visits.proofs.NumberedCopies.{renamed_edge, HasOtherWay, IsCopy, visits_same}
 
 -- ---- objects that are there
@@ -103,20 +103,21 @@ guard_fails (Ok v) b m x e = by (is_true v) b e where
 guard_fails (Err y) b m x e = e
 
 fails_now : (f : Naming) (M : Slot → Type 0) (paths : List PathOf) (g : Whole) (d : DraftOf ℕ) (chosen : Numbers) (p q : ℕ) (i : Instr) (m : Memory) (s : Stored) (x : Failure)
-    → IsCopy f M g d → IsFound d p → AreThere M m → Mirrors f M (length d.made) m s → Among (edge p i q) g.edges → (q ≡ nowhere → ⊥) → effect memory chosen i m ≡ steps.Faulted x
+    → IsCopy f M g d → IsFound d p → AreThere M m → Mirrors f M (length d.made) m s → Among (edge p i q) g.edges → (q ≡ nowhere → ⊥) → effect memory chosen i m ≡ steps.Faulted x → IsInside i m
     → FailsAt (numbered paths d) (number_of d p) s x
-fails_now f M paths g d ch p q i m s x c found t h a n e = record {
+fails_now f M paths g d ch p q i m s x c found t h a n e inside = record {
   chosen = ch;
   edge = edge_of (reached d.edges) (renamed_edge f (edge p i q));
   there = edge_shown paths d (renamed_edge f (edge p i q)) (c.edges (edge p i q) a) n found;
   fails = faults_same f M (length d.made) m s ch i x c.naming (c.over (edge p i q) a) t h e;
+  inside = inside_same f M (length d.made) m s i c.naming (c.over (edge p i q) a) t h inside;
 }
 
 -- Where the graph over slots faults from a point on, the numbered graph does.
 pub doomed_shown : (f : Naming) (M : Slot → Type 0) (paths : List PathOf) (g : Whole) (d : DraftOf ℕ) (chosen : Numbers) (k : ℕ) (h : Place) (x : Failure) (p : ℕ) (m : Memory) (s : Stored)
     → IsCopy f M g d → IsFound d p → AreThere M m → Mirrors f M (length d.made) m s → Doomed g chosen k h x p m
     → (r : ℕ) × (u : Stored) × GraphRuns (numbered paths d) (number_of d p) s [] r u × FailsAt (numbered paths d) r u x
-doomed_shown f M paths g d ch k h x p m s c found t mirrors (now q i a e) = by (decided q nowhere) where
+doomed_shown f M paths g d ch k h x p m s c found t mirrors (now q i a e inside) = by (decided q nowhere) where
   other : (j : Instr) → HasOtherWay g p j → effect memory ch j m ≡ steps.Faulted x → FailsAt (numbered paths d) (number_of d p) s x
   other Skip o w = absurd (cc w)
   other (Set y v) o w = absurd o
@@ -124,12 +125,12 @@ doomed_shown f M paths g d ch k h x p m s c found t mirrors (now q i a e) = by (
   other (Clear y) o w = absurd o
   other (Load y v n b z) o w = absurd o
   other (Store y v n b z) o w = absurd o
-  other (Guard y b) o w = fails_now f M paths g d ch p o.0 (Guard y (not b)) m s x c found t mirrors o.1 o.2 (guard_fails (tree_value memory y m) b m x w)
+  other (Guard y b) o w = fails_now f M paths g d ch p o.0 (Guard y (not b)) m s x c found t mirrors o.1 o.2 (guard_fails (tree_value memory y m) b m x w) tt
   other (Check v y) o w = absurd o
 
   by : (q ≡ nowhere) ⊎ (q ≡ nowhere → ⊥) → (r : ℕ) × (u : Stored) × GraphRuns (numbered paths d) (number_of d p) s [] r u × FailsAt (numbered paths d) r u x
   by (inl n) = (number_of d p, s, graph.ends, other i (c.other_ways (edge p i q) a n) e)
-  by (inr n) = (number_of d p, s, graph.ends, fails_now f M paths g d ch p q i m s x c found t mirrors a n e)
+  by (inr n) = (number_of d p, s, graph.ends, fails_now f M paths g d ch p q i m s x c found t mirrors a n e inside)
 doomed_shown f M paths g d ch k h x p m s c found t mirrors (later q y e v a value hidden shown rest) =
     let made = (c.over (edge p (Set (own y) e) q) a).0 in
     let after = with_memory (own y) (v ∷ []) m in

@@ -12,6 +12,8 @@ use Rattle.pk_graph.specs.Steps.{Numbers, number_at, Failure, failure, and_then,
 use Rattle.pk_graph.specs.Stores.{Stored, numbers_of, storing}
 use Rattle.pk_meaning.specs.Objects.{Object}
 use Rattle.pk_meaning.specs.Objects as objects
+use Rattle.pk_visits.specs.SameVisits as graphs
+use Rattle.pk_visits.proofs.Follow.{IsInside}
 use Rattle.pk_visits.proofs.Slots.{Slot, own, temporary, Instr, Memory, memory, memory_numbers, with_memory, SlotTree}
 use Rattle.pk_visits.proofs.Stores.{decided, same_object, slot_other}
 
@@ -239,3 +241,15 @@ faults_same f M n m s ch i x g o a h e = by (effect_same f M n m s ch i g o a h)
   by blocked q = absurd (subst is_fault (sym q) tt)
   by wants q = absurd (subst is_fault (sym q) tt)
   by fails q = ap Faulted (ap inner q)
+
+-- an index that lies inside does so there
+pub inside_same : (f : Naming) (M : Slot → Type 0) (n : ℕ) (m : Memory) (s : Stored) (i : Instr) → IsNaming f M n → IsInstrOver M i → AreThere M m → Mirrors f M n m s
+    → IsInside i m → graphs.IsInside (renamed_instr f i) s
+inside_same f M n m s Skip g o a h k = tt
+inside_same f M n m s (Set x e) g o a h k = tt
+inside_same f M n m s (Havoc x t c) g o a h k = tt
+inside_same f M n m s (Clear y) g o a h k = tt
+inside_same f M n m s (Load x y at b i) g o a h k = λ q z u. k q z (sym (tree_same f M n m s i o.2 h) ∙ u)
+inside_same f M n m s (Store y at b i e) g o a h k = λ q z u. k q z (sym (tree_same f M n m s i o.1 h) ∙ u)
+inside_same f M n m s (Guard e b) g o a h k = tt
+inside_same f M n m s (Check at e) g o a h k = tt

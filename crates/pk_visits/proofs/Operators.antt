@@ -55,7 +55,7 @@ apply g chosen p m k h op at t w v vs s b x a hs l e same f =
     let i = unary_tree op (site_at k at) t (conversion a.int_type t a.tree) in
     let is = unary_value op (site_at k at) t a.int_type a.tree v m e.1 e.0 in
     by_result g chosen p m (config k h (work.Apply op at t w) (v ∷ vs) s b) at (value_of op t y y) _
-    (λ z ok. still g chosen p m k h w (z ∷ vs) s x (held i (result_type op t) ∷ hs) l (is ∙ ap (at_site (site_at k at)) ok, value_in op t y y z ok, e.2) same f)
+    (λ z ok. still g chosen p m k h w (z ∷ vs) s x (held i (result_type op t) ∷ hs) l (is ∙ ap (at_site (site_at k at)) ok, value_in op t y y z ok, e.2, tt) same f)
     (λ n err. doom g chosen k h x (steps.failure n (site_at k at)) w p (held i (result_type op t) ∷ hs) m l (inl (is ∙ ap (at_site (site_at k at)) err, sound_means m hs vs e.2)))
 
 pub operate : (g : Whole) (chosen : Numbers) (p : ℕ) (m : Memory) (k : ℕ) (h : Place) (op : Op) (at : Pos) (t : IntType) (w : Work) (u v : ℤ) (vs : Numbers) (s : Objects) (b : Bool) (x : Exits) (a c : Held) (hs : List Held)
@@ -65,7 +65,7 @@ operate g chosen p m k h op at t w u v vs s b x a c hs l e same f =
     let i = operated_tree op (site_at k at) t a.int_type c.int_type a.tree c.tree in
     let is = operated_value op (site_at k at) t a.int_type c.int_type a.tree c.tree u v m e.2.1 e.2.0 e.1 e.0 in
     by_result g chosen p m (config k h (work.Operate op at t w) (v ∷ u ∷ vs) s b) at (operated op t u v) _
-    (λ z ok. still g chosen p m k h w (z ∷ vs) s x (held i (result_type op t) ∷ hs) l (is ∙ ap (at_site (site_at k at)) ok, value_in op t (wrapped t u) (meaning.right_number op t v) z ok, e.2.2) same f)
+    (λ z ok. still g chosen p m k h w (z ∷ vs) s x (held i (result_type op t) ∷ hs) l (is ∙ ap (at_site (site_at k at)) ok, value_in op t (wrapped t u) (meaning.right_number op t v) z ok, e.2.2, tt) same f)
     (λ n err. doom g chosen k h x (steps.failure n (site_at k at)) w p (held i (result_type op t) ∷ hs) m l (inl (is ∙ ap (at_site (site_at k at)) err, sound_means m hs vs e.2.2)))
 
 -- ---- scalars
@@ -90,7 +90,7 @@ pub fetched : (g : Whole) (chosen : Numbers) (p : ℕ) (m : Memory) (k : ℕ) (h
     → Laid g k h x (work.Fetch t y w) p hs → Means m hs vs → m.objects ≡ s → FitsObjects g.program s
     → Answers g chosen k h p m (step_of g.program chosen (config k h (work.Fetch t y w) vs s b) (work.Fetch t y w))
 fetched g chosen p m k h t y w vs s b x hs l e same f =
-    still g chosen p m k h w (number_of y s ∷ vs) s x (held (variable (own y)) t ∷ hs) l.1 (object_value y s m same, object_in g.program y t s l.0 f, e) same f
+    still g chosen p m k h w (number_of y s ∷ vs) s x (held (variable (own y)) t ∷ hs) l.1 (object_value y s m same, object_in g.program y t s l.0 f, e, tt) same f
 
 pub update : (g : Whole) (chosen : Numbers) (p : ℕ) (m : Memory) (k : ℕ) (h : Place) (op : Op) (at : Pos) (o t : IntType) (y : Object) (w : Work) (v : ℤ) (vs : Numbers) (s : Objects) (b : Bool) (x : Exits) (a : Held) (hs : List Held)
     → Laid g k h x (work.Update op at o t y w) p (a ∷ hs) → Means m (a ∷ hs) (v ∷ vs) → m.objects ≡ s → FitsObjects g.program s
@@ -105,10 +105,10 @@ update g chosen p m k h op at o t y w v vs s b x a hs l e same f =
     moved g chosen p l.0 m (with_memory (own y) (q ∷ []) m) (Set (own y) j) k h w (q ∷ vs) (with_numbers y (q ∷ []) s) (is_in_scope y h.scope) x (held (variable (own y)) t ∷ hs)
     l.2.there (set_does chosen (own y) j q m (conversion_value (result_type op o) t i z m (value_in op o (wrapped o n) (meaning.right_number op o v) z ok) (is ∙ ap (at_site (site_at k at)) ok)))
     (refl, l.2.shown) l.3
-    (own_value y q m (subst (λ o. 0 < length (numbers_of y o)) (sym same) (is_there g.program y t s l.1 f)), wrapped_in t z, means_apart (own y) (q ∷ []) m hs vs l.2.apart e.2)
+    (own_value y q m (subst (λ o. 0 < length (numbers_of y o)) (sym same) (is_there g.program y t s l.1 f)), wrapped_in t z, means_apart (own y) (q ∷ []) m hs vs l.2.apart e.2, tt)
     (ap (with_numbers y (q ∷ [])) same) (scalar_written g.program y t q s l.1 (wrapped_in t z) f))
     (λ c err. now l.0 (Set (own y) j) l.2.there (set_fails chosen (own y) j (steps.failure c (site_at k at)) m
-    (conversion_fault (result_type op o) t i (steps.failure c (site_at k at)) m (is ∙ ap (at_site (site_at k at)) err))))
+    (conversion_fault (result_type op o) t i (steps.failure c (site_at k at)) m (is ∙ ap (at_site (site_at k at)) err))) tt)
 
 pub advance : (g : Whole) (chosen : Numbers) (p : ℕ) (m : Memory) (k : ℕ) (h : Place) (op : Op) (at : Pos) (o t : IntType) (y : Object) (w : Work) (vs : Numbers) (s : Objects) (b : Bool) (x : Exits) (hs : List Held)
     → Laid g k h x (work.Advance op at o t y w) p hs → Means m hs vs → m.objects ≡ s → FitsObjects g.program s
@@ -125,4 +125,4 @@ advance g chosen p m k h op at o t y w vs s b x hs l e same f =
     (refl, l.2.shown) l.3 (means_apart (own y) (q ∷ []) m hs vs l.2.apart e)
     (ap (with_numbers y (q ∷ [])) same) (scalar_written g.program y t q s l.1 (wrapped_in t z) f))
     (λ c err. now l.0 (Set (own y) j) l.2.there (set_fails chosen (own y) j (steps.failure c (site_at k at)) m
-    (conversion_fault (result_type op o) t i (steps.failure c (site_at k at)) m (is ∙ ap (at_site (site_at k at)) err))))
+    (conversion_fault (result_type op o) t i (steps.failure c (site_at k at)) m (is ∙ ap (at_site (site_at k at)) err))) tt)

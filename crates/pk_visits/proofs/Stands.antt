@@ -14,7 +14,7 @@ use Rattle.pk_welltyped.specs.WellTyped.{count, Around, Kind, scalar, array, kin
 use Rattle.pk_graph.specs.declared.trees.Site.{Site}
 use Rattle.pk_graph.specs.Kinds.{count_of}
 use Rattle.pk_graph.specs.Trees.{constant, variable, converted, unary, binary, Skip, Set, Havoc, Load, Store, Guard, Check, ArrayOf}
-use Rattle.pk_graph.specs.Steps.{Numbers, tree_value, all_in_type}
+use Rattle.pk_graph.specs.Steps.{Numbers, tree_value, all_in_type, is_index}
 use Rattle.pk_draft.specs.declared.drafts.Label.{Label}
 use Rattle.pk_draft.specs.declared.drafts.Region.{Region}
 use Rattle.pk_draft.specs.declared.drafts.Size.{Size}
@@ -163,9 +163,19 @@ pub record Proper (g : Whole) : Type 0 where
 pub record Held : Type 0 where
   pub tree : SlotTree
   pub int_type : IntType
+  -- an index that was tested lies below
+  pub below : Option ℕ
 
 abbrev pub held : SlotTree → IntType → Held
-held e t = record { tree = e; int_type = t }
+held e t = record { tree = e; int_type = t; below = None }
+
+-- a tested index of an array of so many elements
+abbrev pub tested : ℕ → Held → Held
+tested n h = record h { below = Some n }
+
+abbrev pub IsBelow : Option ℕ → ℤ → Type 0
+IsBelow None v = Unit {0}
+IsBelow (Some n) v = is_index n v ≡ true
 
 abbrev pub in_temporary : ℕ → IntType → Held
 in_temporary n t = held (variable (temporary n)) t
@@ -204,7 +214,7 @@ abbrev pub Means : Memory → List Held → Numbers → Type 0
 Means m [] [] = Unit {0}
 Means m [] (v ∷ vs) = ⊥
 Means m (h ∷ hs) [] = ⊥
-Means m (h ∷ hs) (v ∷ vs) = (tree_value memory h.tree m ≡ Ok v) × InType h.int_type v × Means m hs vs
+Means m (h ∷ hs) (v ∷ vs) = (tree_value memory h.tree m ≡ Ok v) × InType h.int_type v × Means m hs vs × IsBelow h.below v
 
 -- a constant or a variable, which never faults
 abbrev pub IsPlain : SlotTree → Type 0
@@ -387,6 +397,11 @@ place_after p k [] h = h
 place_after p k (tree.scalar_object i at e ∷ ds) h = place_after p k ds (place at (with_local p k i h.scope))
 place_after p k (tree.array_object i at es ∷ ds) h = place_after p k ds (place at (with_local p k i h.scope))
 
+-- an index without a test here was tested before
+abbrev pub IsTested : Bool → Option ℕ → ℕ → Type 0
+IsTested true o n = Unit {0}
+IsTested false o n = o ≡ Some n
+
 -- From point p, where the trees hs wait, the graph does the work of path k at place h; x are the exits of the statement that it is in.
 abbrev mutual
   pub LaidWay : Whole → (k : ℕ) → Way → (p : ℕ) → List Held → Type 0
@@ -452,17 +467,17 @@ abbrev mutual
   Laid g k h x (work.Load at a w) p hs = OnTop hs (λ i rest. (q : ℕ) × (n : ℕ) × IsArrayOf g a
       × Writes g k h p (temporary n) (Load (temporary n) (cells a) (site_at k at) true i.tree) q rest × Laid g k h x w q (in_temporary n a.int_type ∷ rest))
   Laid g k h x (Reload at a w) p hs = OnTwo hs (λ i b rest. (q : ℕ) × (n : ℕ) × IsArrayOf g a
-      × Writes g k h p (temporary n) (Load (temporary n) (cells a) (site_at k at) true i.tree) q (b ∷ i ∷ rest) × Laid g k h x w q (in_temporary n a.int_type ∷ b ∷ i ∷ rest))
+      × Writes g k h p (temporary n) (Load (temporary n) (cells a) (site_at k at) true i.tree) q (b ∷ i ∷ rest) × Laid g k h x w q (in_temporary n a.int_type ∷ b ∷ tested a.length i ∷ rest))
   Laid g k h x (work.Store at a w) p hs = OnTwo hs (λ i b rest. (q : ℕ) × IsArrayOf g a
       × Writes g k h p (own a.object) (Store (cells a) (site_at k at) true i.tree (conversion b.int_type a.int_type b.tree)) q rest × Laid g k h x w q rest)
   Laid g k h x (StoreKept at a w) p hs = OnTwo hs (λ i b rest. (q : ℕ) × (f : Bool) × IsArrayOf g a × (b.int_type ≡ a.int_type)
-      × Writes g k h p (own a.object) (Store (cells a) (site_at k at) f i.tree b.tree) q (b ∷ rest) × Laid g k h x w q (b ∷ rest))
+      × Writes g k h p (own a.object) (Store (cells a) (site_at k at) f i.tree b.tree) q (b ∷ rest) × Laid g k h x w q (b ∷ rest) × IsTested f i.below a.length)
   Laid g k h x (Renew op at o r a w) p hs = OnThree hs (λ i b e rest. (q : ℕ) × ArePlain (e ∷ b ∷ i ∷ rest) × IsArrayOf g a × (e.int_type ≡ a.int_type)
-      × Writes g k h p (own a.object) (Store (cells a) (site_at k r) false i.tree (updated_tree op (site_at k at) o a.int_type b.int_type e.tree b.tree)) q rest × Laid g k h x w q rest)
+      × Writes g k h p (own a.object) (Store (cells a) (site_at k r) false i.tree (updated_tree op (site_at k at) o a.int_type b.int_type e.tree b.tree)) q rest × Laid g k h x w q rest × (i.below ≡ Some a.length))
   Laid g k h x (Renewed op at o t w) p hs = OnThree hs (λ i b e rest. (q : ℕ) × (n : ℕ) × ArePlain (e ∷ b ∷ i ∷ rest) × (e.int_type ≡ t)
       × Writes g k h p (temporary n) (Set (temporary n) (updated_tree op (site_at k at) o t b.int_type e.tree b.tree)) q (i ∷ rest) × Laid g k h x w q (in_temporary n t ∷ i ∷ rest))
   Laid g k h x (Replace op at o r a w) p hs = OnThree hs (λ i b e rest. (q : ℕ) × ArePlain (e ∷ b ∷ i ∷ rest) × IsArrayOf g a × (e.int_type ≡ a.int_type)
-      × Writes g k h p (own a.object) (Store (cells a) (site_at k r) false i.tree (updated_tree op (site_at k at) o a.int_type b.int_type e.tree b.tree)) q (e ∷ rest) × Laid g k h x w q (e ∷ rest))
+      × Writes g k h p (own a.object) (Store (cells a) (site_at k r) false i.tree (updated_tree op (site_at k at) o a.int_type b.int_type e.tree b.tree)) q (e ∷ rest) × Laid g k h x w q (e ∷ rest) × (i.below ≡ Some a.length))
   Laid g k h x (Fill a j es w) p hs = (d : Draft) × (n : ℕ) × (i : ℕ) × (d.point ≡ p) × (a ≡ local_array g k i) × IsArrayOf g a × AreValues (around g k n) es × (j + count es ≤ a.length)
       × AreCalm d.variables hs × Stage g k h (calls_in_values es) d (items (context_of g k) i j es d) × Laid g k h x w (items (context_of g k) i j es d).point hs
   Laid g k h x (Item a j w) p hs = OnTop hs (λ b rest. (q : ℕ) × (s : Site) × (j < a.length) × IsArrayOf g a

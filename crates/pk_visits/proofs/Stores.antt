@@ -169,7 +169,7 @@ pub means_apart : (x : Slot) (zs : Numbers) (m : Memory) (hs : List Held) (vs : 
 means_apart x zs m [] [] a k = tt
 means_apart x zs m [] (v ∷ vs) a k = absurd k
 means_apart x zs m (h ∷ hs) [] a k = absurd k
-means_apart x zs m (h ∷ hs) (v ∷ vs) a k = (apart_value x zs m h.tree a.0 ∙ k.0, k.1, means_apart x zs m hs vs a.1 k.2)
+means_apart x zs m (h ∷ hs) (v ∷ vs) a k = (apart_value x zs m h.tree a.0 ∙ k.0, k.1, means_apart x zs m hs vs a.1 k.2, k.3)
 
 -- a temporary that was written has that value, and so has an object
 pub temporary_value : (n : ℕ) (v : ℤ) (m : Memory) → tree_value memory (variable (temporary n)) (with_memory (temporary n) (v ∷ []) m) ≡ Ok v

@@ -278,4 +278,4 @@ pub switch_body : (g : Whole) (proper : Proper g) (k : ℕ) (h : Place) (x : Exi
     → Laid g k h x (work.Do (tree.switch q t e zs b s) a) p hs → (e : ℕ) × (n : ℕ) × (i : ℕ) × Laid g k (place q h.scope) (in_switch e n x) (work.Do s (work.Close (place q h.scope) a)) i hs
 switch_body g proper k h x q t e zs b s a p hs l =
     let j = place q h.scope in
-    let y = switch_laid g proper k h x q t e zs b s a p hs l in kept_body g proper k j x t zs b s a _ _ hs y.6
+    let y = switch_laid g proper k h x q t e zs b s a p hs l in kept_body g proper k j x t zs b s a _ (held (conversion (type_of e) t ((ways (context_of g k) e).value y.0).0) t) hs y.6

@@ -56,7 +56,7 @@ claim g chosen p m k h at w v vs s b x a hs l e same f = by (is_true (wrapped In
       → Answers g chosen k h p m (if c then meaning.comes (config k h (work.Claim at w) (v ∷ vs) s b) h w vs else meaning.fails (config k h (work.Claim at w) (v ∷ vs) s b) faults.Assert at)
   by true t = moved g chosen p l.1 m m (Check (site_at k at) tree) k h w vs s true x hs l.2
       (does ∙ ap (λ c. if c then steps.To m else steps.Faulted (steps.failure faults.Assert (site_at k at))) t) (refl, l.3) l.4 e.2 same f
-  by false t = now l.1 (Check (site_at k at) tree) l.2 (does ∙ ap (λ c. if c then steps.To m else steps.Faulted (steps.failure faults.Assert (site_at k at))) t)
+  by false t = now l.1 (Check (site_at k at) tree) l.2 (does ∙ ap (λ c. if c then steps.To m else steps.Faulted (steps.failure faults.Assert (site_at k at))) t) tt
 
 -- ---- ends
 

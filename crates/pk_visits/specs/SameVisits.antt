@@ -1,11 +1,12 @@
 -- A program and its graph have the same visits.
-use Rattle.std.specs.Prelude.{◌≡◌, ℕ, ◌≤◌, List, ◌∷◌, map, Contains, Option, Some, None}
+use Rattle.std.specs.Prelude.{◌≡◌, ℕ, ◌≤◌, ℤ, false, true, List, ◌∷◌, map, Contains, Option, Some, None, Ok}
 use Rattle.pk_typed.specs.Trees.{UnitTree}
 use Rattle.pk_calls.specs.declared.listings.CallPath.{CallPath}
 use Rattle.pk_calls.specs.Answers.{HasPaths}
 use Rattle.pk_graph.specs.Graphs.{EdgeOf, GraphOf, point_at}
 use Rattle.pk_graph.specs.Steps as graph
-use Rattle.pk_graph.specs.Steps.{Numbers, Failure, effect}
+use Rattle.pk_graph.specs.Steps.{Numbers, Failure, effect, tree_value, is_index}
+use Rattle.pk_graph.specs.Trees.{InstrOf, Skip, Set, Havoc, Clear, Load, Store, Guard, Check}
 use Rattle.pk_graph.specs.Stores.{Stored, storing}
 use Rattle.pk_draft.specs.Drafts.{by_number}
 use Rattle.pk_lower.specs.Parts.{point_count, program_draft}
@@ -34,12 +35,24 @@ pub record ProgramVisits (p : Program) (visits : List Visit) (end : Option Failu
   pub visits_are : visits ≡ visit_of p first ∷ others
   pub ends : Ends p last end
 
--- some edge of the point fails
+-- An index without a test of its own (of an item of a braced list, or of an element that was read with it before) lies below the array's length, if it has a value.
+abbrev pub IsInside : InstrOf ℕ → Stored → Type 0
+IsInside Skip s = Unit {0}
+IsInside (Set x e) s = Unit {0}
+IsInside (Havoc x t n) s = Unit {0}
+IsInside (Clear a) s = Unit {0}
+IsInside (Load x a at b i) s = b ≡ false → (z : ℤ) → tree_value storing i s ≡ Ok z → is_index a.length z ≡ true
+IsInside (Store a at b i e) s = b ≡ false → (z : ℤ) → tree_value storing i s ≡ Ok z → is_index a.length z ≡ true
+IsInside (Guard e b) s = Unit {0}
+IsInside (Check at e) s = Unit {0}
+
+-- some edge of the point fails, though not at an index without a test of its own
 pub record FailsAt (g : GraphOf) (point : ℕ) (s : Stored) (f : Failure) : Type 0 where
   pub chosen : Numbers
   pub edge : EdgeOf
   pub there : Contains (point_at g point).edges edge
   pub fails : effect storing chosen edge.instr s ≡ graph.Faulted f
+  pub inside : IsInside edge.instr s
 
 abbrev pub EndsAt : GraphOf → ℕ → Stored → Option Failure → Type 0
 EndsAt g p s None = Unit {0}
