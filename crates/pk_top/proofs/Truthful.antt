@@ -1,15 +1,15 @@
 -- What is told at a success is true.
-use Rattle.std.specs.Prelude.{◌≡◌, ◌≤◌, ◌<◌, ◌^◌, ℕ, List, Option, OnOk, codes}
+use Rattle.std.specs.Prelude.{◌≡◌, ℕ, List, Option, OnOk, codes}
 use Rattle.std.specs.declared.result.Result.{Result}
 use Rattle.std.specs.Io.KnownBytes.{Appends}
-use Rattle.std.proofs.Common.{arith, refl, sym, subst, lit<, inl, inr, Ok, Err}
+use Rattle.std.proofs.Common.{arith, subst, lit<, inl, inr, Ok, Err}
 use Rattle.pk_command.specs.declared.asked.Command.{Command}
 use Rattle.pk_command.specs.declared.asked.Command.TheVariants.{Run, Order, Gen}
-use Rattle.pk_command.specs.Given.{AsksFor, IsInRange}
+use Rattle.pk_command.specs.Given.{IsInRange}
 use Rattle.pk_command.proofs.Asking.{one_asked}
 use Rattle.pk_front.specs.declared.status.Status.TheVariants as status
 use Rattle.pk_front.specs.declared.status.Status.{Status}
-use Rattle.pk_told.specs.Answers.{IsAnswer, IsTold, Replies, default_options, default_runs, options_of}
+use Rattle.pk_told.specs.Answers.{IsAnswer, IsTold, default_options, default_runs, options_of}
 use Rattle.pk_true.specs.ToldOfPrograms.{ReportsAreTrueOfPrograms}
 use Rattle.pk_top.specs.Headline.{IsStop}
 use Rattle.pk_top.specs.Truth.{AskInRange, IsTrueTold, TellsTruth}

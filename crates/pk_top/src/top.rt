@@ -8,7 +8,6 @@ ghost use Rattle.pk_io.specs.Causes.{Rose};
 ghost use Rattle.pk_told.specs.Answers.{IsAnswer, IsShort, AskAbout, AskNoSource, IsMaking, text_of, text_limit};
 ghost use Rattle.pk_top.specs.Headline.{Answers, Gives, IsStop, IsSuccess, IsTextless, IsUnread, IsUntold, KeepsUnlessTold};
 ghost use Rattle.pk_top.specs.Truth.{AskInRange, TellsTruth};
-ghost use Rattle.pk_visits.specs.SameVisits.{ProgramsAreFollowed};
 
 use pk_command::{Command, WordsError, read_words};
 use pk_ctypes::Quantity;
@@ -105,8 +104,8 @@ pub fn pikos<S: Source, K: Sink>(
     ensures answer { (text : List ℕ) → AskAbout (map string_bytes words.now) (S.left src.old) text →
         Answers (map string_bytes words.now) text result (K.written out.old) (K.written out.new) }
 
-    // At a success what was written is true of every run of the C program that the text is: of each point, name, number and fault on its way.
-    ensures truth { ProgramsAreFollowed → (text : List ℕ) → AskAbout (map string_bytes words.now) (S.left src.old) text → (unknown : ℕ) → result ≡ Status.Ok unknown →
+    // At a success what was written is true of every run of the C program that the text is: of what its visits know, and of the fault at its end.
+    ensures truth { (text : List ℕ) → AskAbout (map string_bytes words.now) (S.left src.old) text → (unknown : ℕ) → result ≡ Status.Ok unknown →
         TellsTruth (map string_bytes words.now) text unknown (K.written out.old) (K.written out.new) }
 
     // A fault of reading or writing is told only where the device has counted one in this call.

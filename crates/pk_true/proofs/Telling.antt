@@ -1,10 +1,12 @@
 -- From runs of a program to runs of its graph, and to what is told of it.
-use Rattle.std.specs.Prelude.{◌≡◌, ◌⊎◌, ℕ, ◌<◌, Bool, true, false, if◌then◌else◌, List, [], ◌∷◌, length, All, Contains, Option, Some, None}
+use Rattle.std.specs.Prelude.{◌≡◌, ◌⊎◌, ℕ, ◌<◌, Bool, true, false, if◌then◌else◌, List, ◌∷◌, length, All, Option, Some, None}
 use Rattle.std.proofs.Common.{◌∙◌, refl, sym, subst, inl, inr}
 use Rattle.std.proofs.lemmas.List.Elements.{All-nil, All-cons, All-get_or, All-contains}
 use Rattle.pk_graph.specs.Accesses.{OperationOf, Index, Divisor, Negation, Result, Shift, Assertion, AccessOf}
 use Rattle.pk_graph.specs.Graphs.{EdgeOf, GraphOf, no_point, point_at}
-use Rattle.pk_graph.specs.Steps.{Failure}
+use Rattle.pk_graph.specs.declared.trees.Site.{Site}
+use Rattle.pk_graph.specs.Trees.{InstrOf, Skip, Set, Havoc, Clear, Load, Store, Guard, Check}
+use Rattle.pk_graph.specs.Steps.{Failure, is_index}
 use Rattle.pk_graph.specs.Stores.{Stored}
 use Rattle.pk_graph.specs.WellMade.{IsGraph, IsPointOf, IsEdgeOf}
 use Rattle.pk_state.specs.Facts.{Stated}
@@ -17,8 +19,8 @@ use Rattle.pk_runs.specs.True.{AreTrueOf, IsUnknownIn}
 use Rattle.pk_meaning.specs.Programs.{Program}
 use Rattle.pk_meaning.specs.Runs.{Visit}
 use Rattle.pk_visits.specs.GraphVisits.{GraphRuns, ends, steps, is_visit, visit_at, visits_if}
-use Rattle.pk_visits.specs.SameVisits.{ProgramVisits, GraphVisits, FailsAt, EndsAt, HaveSameVisits}
-use Rattle.pk_true.specs.ToldOfPrograms.{IsToldVisit, IsToldFault, IsHiddenFault, IsToldEnd, IsTrueOfProgram}
+use Rattle.pk_visits.specs.SameVisits.{ProgramVisits, GraphVisits, FailsAt, EndsAt, IsInside}
+use Rattle.pk_true.specs.ToldOfPrograms.{IsToldVisit, IsToldFault, IsToldEnd, IsTrueOfProgram}
 use Rattle.pk_true.proofs.Bounded.{store_told}
 
 same_kind : (o : OperationOf) → report.fault_of o ≡ sound.fault_of o
@@ -28,6 +30,20 @@ same_kind (Negation t e) = refl
 same_kind (Result op t a b) = refl
 same_kind (Shift op t a b) = refl
 same_kind (Assertion e) = refl
+
+-- an index that lies inside doesn't fault
+not_inside : (b : Bool) → b ≡ true → b ≡ false → ⊥
+not_inside b left right = cc
+
+not_hidden : (i : InstrOf ℕ) (at : Site) (s : Stored) → IsInside i s → IsHidden i at s → ⊥
+not_hidden Skip at s inside h = h
+not_hidden (Set x e) at s inside h = h
+not_hidden (Havoc x t n) at s inside h = h
+not_hidden (Clear a) at s inside h = h
+not_hidden (Load x a place b i) at s inside h = not_inside (is_index a.length h.2) (inside h.0 h.2 h.3) h.4
+not_hidden (Store a place b i e) at s inside h = not_inside (is_index a.length h.2) (inside h.0 h.2 h.3) h.4
+not_hidden (Guard e b) at s inside h = h
+not_hidden (Check place e) at s inside h = h
 
 module _ (g : GraphOf) (states : List Stated) (made : IsGraph g) (t : AreTrueOf g states) where
   -- a run comes to points of the graph alone
@@ -54,12 +70,12 @@ module _ (g : GraphOf) (states : List Stated) (made : IsGraph g) (t : AreTrueOf 
       let more = reached e.to u vs q r rest next in
       (told_if e u vs next more.0, more.1)
 
-  failing : (p : ℕ) (s : Stored) (f : Failure) → Reaches g p s → FailsAt g p s f → IsToldFault g states f ⊎ IsHiddenFault g f
+  failing : (p : ℕ) (s : Stored) (f : Failure) → Reaches g p s → FailsAt g p s f → IsToldFault g states f
   failing p s f h x = by (t.faults p s x.edge x.chosen f h x.there x.fails)
     where
-      by : ((a : AccessOf) × IsFailing p x.edge.instr f s a × IsUnknownIn states p a) ⊎ IsHidden x.edge.instr f.site → IsToldFault g states f ⊎ IsHiddenFault g f
-      by (inl (a, is, unknown)) = inl (record { point = p; edge = x.edge; there = x.there; access = a; listed = is.listed; place = is.site; kind = same_kind a.operation ∙ is.fault; unknown = unknown })
-      by (inr hidden) = inr (record { point = p; edge = x.edge; there = x.there; hidden = hidden })
+      by : ((a : AccessOf) × IsFailing p x.edge.instr f s a × IsUnknownIn states p a) ⊎ IsHidden x.edge.instr f.site s → IsToldFault g states f
+      by (inl (a, is, unknown)) = record { point = p; edge = x.edge; there = x.there; access = a; listed = is.listed; place = is.site; kind = same_kind a.operation ∙ is.fault; unknown = unknown }
+      by (inr hidden) = absurd (not_hidden x.edge.instr f.site s x.inside hidden)
 
   ended : (p : ℕ) (s : Stored) (end : Option Failure) → Reaches g p s → EndsAt g p s end → IsToldEnd g states end
   ended p s None h x = tt

@@ -1,5 +1,5 @@
 -- What a report tells is true of every run of the C program.
-use Rattle.std.specs.Prelude.{◌≡◌, ◌⊎◌, ℕ, ◌<◌, ◌^◌, ℤ, pos, ◌+ℤ◌, ◌-ℤ◌, List, [], ◌∷◌, length, slice_get, Contains, All, Option, Some, None, option_map}
+use Rattle.std.specs.Prelude.{◌≡◌, ℕ, ◌<◌, ◌^◌, ℤ, pos, ◌+ℤ◌, ◌-ℤ◌, List, [], ◌∷◌, length, slice_get, Contains, All, Option, Some, None, option_map}
 use Rattle.std.specs.List.{AllZip}
 use Rattle.pk_graph.specs.Accesses.{AccessOf, of_instr}
 use Rattle.pk_graph.specs.Graphs.{EdgeOf, GraphOf, point_at}
@@ -14,10 +14,9 @@ use Rattle.pk_analysis.specs.declared.analysis.Options.{Options}
 use Rattle.pk_report.specs.Values.{name_of, bounds_of}
 use Rattle.pk_report.specs.Reports.{fault_of, state_at}
 use Rattle.pk_answer.specs.Reported.{AreStates}
-use Rattle.pk_sound.specs.Faults.{IsHidden}
 use Rattle.pk_meaning.specs.Programs.{Program}
 use Rattle.pk_meaning.specs.Runs.{Known, Visit}
-use Rattle.pk_visits.specs.SameVisits.{ProgramVisits, ProgramsAreFollowed}
+use Rattle.pk_visits.specs.SameVisits.{ProgramVisits}
 use Rattle.pk_runs.specs.True.{IsUnknownIn}
 use Rattle.pk_told.specs.Answers.{HasGraph}
 
@@ -72,16 +71,9 @@ pub record IsToldFault (g : GraphOf) (states : List Stated) (f : Failure) : Type
   pub kind : fault_of access.operation ≡ f.fault
   pub unknown : IsUnknownIn states point access
 
--- its place is that of an index that is no access: of an item of a braced list, or of an element that is stored after it was read with the same index
-pub record IsHiddenFault (g : GraphOf) (f : Failure) : Type 0 where
-  pub point : ℕ
-  pub edge : EdgeOf
-  pub there : Contains (point_at g point).edges edge
-  pub hidden : IsHidden edge.instr f.site
-
 abbrev pub IsToldEnd : GraphOf → List Stated → Option Failure → Type 0
 IsToldEnd g states None = Unit {0}
-IsToldEnd g states (Some f) = IsToldFault g states f ⊎ IsHiddenFault g f
+IsToldEnd g states (Some f) = IsToldFault g states f
 
 -- ---- runs
 
@@ -99,6 +91,3 @@ abbrev pub ReportsAreTrueOfPrograms : Type 0
 ReportsAreTrueOfPrograms =
     (text entry : List ℕ) (g : GraphOf) (h : HasGraph text entry g) (o : Options) (most : ℕ) (p : PlanView) (states : List Stated) → o.oct < 2 ^ 31 → AreStates g o most p states
     → IsTrueOfProgram (program_of h) g states
-
-abbrev pub ReportsAreTrueWhereFollowed : Type 0
-ReportsAreTrueWhereFollowed = ProgramsAreFollowed → ReportsAreTrueOfPrograms

@@ -1,18 +1,20 @@
 // Laws of reports, over runs of C programs.
 
-ghost use Rattle.pk_true.specs.ToldOfPrograms.{ReportsAreTrueWhereFollowed};
+ghost use Rattle.pk_true.specs.ToldOfPrograms.{ReportsAreTrueOfPrograms};
 
+use pk_followed::programs_are_followed;
 use pk_marked::units_are_marked;
 use pk_runs::reports_are_true;
 use pk_told::graphs_are_well_made;
 use pk_welltyped_texts::texts_are_well_typed;
 
-/// What is told of a text's graph holds each visit of each run of the program, and each fault, where graphs follow their programs.
+/// What is told of a text's graph holds each visit of each run of the program, and each fault.
 pub fn reports_are_true_of_programs()
-    ensures { ReportsAreTrueWhereFollowed }
+    ensures { ReportsAreTrueOfPrograms }
 {
     texts_are_well_typed();
     units_are_marked();
     graphs_are_well_made();
     reports_are_true();
+    programs_are_followed();
 }

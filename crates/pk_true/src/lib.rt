@@ -1,4 +1,4 @@
-//! What is told of a text is true of every run of the program that it is, where its graph follows it.
+//! What is told of a text is true of every run of the program that it is.
 #![tactic(auto)]
 
 mod laws;

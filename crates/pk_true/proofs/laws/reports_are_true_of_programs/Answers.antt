@@ -6,11 +6,11 @@ use Rattle.pk_true.proofs.Telling.{true_of}
 use Rattle.pk_true.proofs.laws.reports_are_true_of_programs.Goals as goal
 
 pub returns : goal.returns
-returns c = λ followed text entry g h o most p states few are.
+returns c = λ text entry g h o most p states few are.
     let typed = h.called.typed in
     let unit = c.texts_are_well_typed.ensures text h.unit typed in
     let marked = subst AreMarked (sym typed.unit) (c.units_are_marked.ensures text typed.all typed.accepted) in
-    let forward = followed h.unit entry h.paths unit marked h.called.called.0 h.few in
+    let forward = c.programs_are_followed.ensures h.unit entry h.paths unit marked h.called.called.0 h.few in
     let made = c.graphs_are_well_made.ensures text entry g h in
     true_of g states (program_of h) made (c.reports_are_true.ensures g o most p states made few are)
     (λ visits end x. subst (λ g. GraphVisits g visits end) (sym h.graph) (forward visits end x))
