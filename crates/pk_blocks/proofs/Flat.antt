@@ -1,9 +1,10 @@
 -- Reading, writing and merging lists in rows.
-use Rattle.std.specs.Prelude.{◌≡◌, ℕ, zero, suc, ◌+◌, ◌-◌, ◌*◌, ◌/◌, ◌<◌, ◌≤◌, List, [], ◌∷◌, ◌++◌, length, slice_get, Some, replicate}
-use Rattle.std.proofs.Common.{◌∙◌, ap, refl, sym, subst, arith, get_or, set, take, length-append, append_assoc}
+use Rattle.std.specs.Prelude.{◌≡◌, ◌⊎◌, Bool, true, false, if◌then◌else◌, nat_lt, ℕ, zero, suc, ◌+◌, ◌-◌, ◌*◌, ◌/◌, ◌%◌, ◌<◌, ◌≤◌, List, [], ◌∷◌, ◌++◌, length, slice_get, Some, replicate}
+use Rattle.std.proofs.Common.{◌∙◌, ap, refl, sym, subst, inl, inr, arith, get_or, set, take, length-append, append_assoc}
 use Rattle.std.proofs.lemmas.List.{set-append_left, set-append_right, append-nil, length-take, take_more, take_all}
 use Rattle.std.proofs.lemmas.List.Elements.{All-head, All-tail, All-set, All-nil, All-cons, All-append, All-take}
-use Rattle.pk_blocks.specs.Rows.{flat, AreRows, merged_from}
+use Rattle.std.proofs.lemmas.Bool.Decides.{nat_tests}
+use Rattle.pk_blocks.specs.Rows.{flat, AreRows, merged_from, group_size}
 use Rattle.pk_blocks.proofs.Merging.{merged-append, merged_length}
 
 -- the rows are of n items
@@ -137,8 +138,66 @@ set_taken (suc n) [] i x = refl
 set_taken (suc n) (y ∷ xs) zero x = refl
 set_taken (suc n) (y ∷ xs) (suc i) x = ap (λ t. y ∷ t) (set_taken n xs i x)
 
-pub taken_size : {A : Type 0} (count : ℕ) (bs : List (List A)) → AreRows 512 bs → length bs ≡ count / 512 + 1 → length (take count (flat bs)) ≡ count
-taken_size count bs h e = omega (arith, length-take count (flat bs), flat_length 512 bs h, e)
+-- ---- groups
+
+-- few items are in one group, and more in groups of 512
+one_or_full : (n : ℕ) → ((n < 512) × (group_size n ≡ (n / 16 + 1) * 16)) ⊎ ((512 ≤ n) × (group_size n ≡ 512))
+one_or_full n = by (nat_lt n 512) refl
+  where
+    by : (b : Bool) → nat_lt n 512 ≡ b → ((n < 512) × ((if b then (n / 16 + 1) * 16 else 512) ≡ (n / 16 + 1) * 16)) ⊎ ((512 ≤ n) × ((if b then (n / 16 + 1) * 16 else 512) ≡ 512))
+    by true e = inl (grind (arith, nat_tests), refl)
+    by false e = inr (grind (arith, nat_tests), refl)
+
+-- where an item stands: its group, and its place there
+pub record IsPlaced (n i : ℕ) : Type 0 where
+  pub at : i ≡ i / 512 * group_size n + i % 512
+  pub group : i / 512 < n / 512 + 1
+  pub place : i % 512 < group_size n
+
+pub placed : (n i : ℕ) → i < n → IsPlaced n i
+placed n i p = record { at = at (one_or_full n); group = omega (arith, p); place = place (one_or_full n) }
+  where
+    at : ((n < 512) × (group_size n ≡ (n / 16 + 1) * 16)) ⊎ ((512 ≤ n) × (group_size n ≡ 512)) → i ≡ i / 512 * group_size n + i % 512
+    at (inl h) =
+        let none : i / 512 ≡ 0 = omega (arith, p, h.0) in
+        let own : i ≡ 0 * group_size n + i % 512 = omega (arith, p, h.0) in
+        own ∙ ap (λ q. q * group_size n + i % 512) (sym none)
+    at (inr h) = let own : i ≡ i / 512 * 512 + i % 512 = omega arith in own ∙ ap (λ s. i / 512 * s + i % 512) (sym h.1)
+
+    place : ((n < 512) × (group_size n ≡ (n / 16 + 1) * 16)) ⊎ ((512 ≤ n) × (group_size n ≡ 512)) → i % 512 < group_size n
+    place (inl h) = omega (arith, p, h.0, h.1)
+    place (inr h) = omega (arith, h.1)
+
+-- the groups have room for all
+pub enough : (n : ℕ) → n ≤ (n / 512 + 1) * group_size n
+enough n = by (one_or_full n)
+  where
+    by : ((n < 512) × (group_size n ≡ (n / 16 + 1) * 16)) ⊎ ((512 ≤ n) × (group_size n ≡ 512)) → n ≤ (n / 512 + 1) * group_size n
+    by (inl h) =
+        let one : n / 512 + 1 ≡ 1 = omega (arith, h.0) in
+        let own : n ≤ 1 * group_size n = omega (arith, h.0, h.1) in
+        subst (λ k. n ≤ k * group_size n) (sym one) own
+    by (inr h) = let own : n ≤ (n / 512 + 1) * 512 = omega arith in subst (λ s. n ≤ (n / 512 + 1) * s) (sym h.1) own
+
+-- where a group begins
+pub begins : (n k : ℕ) → k < n / 512 + 1 → k * 512 ≡ 0 + k * group_size n
+begins n k p = by (one_or_full n)
+  where
+    by : ((n < 512) × (group_size n ≡ (n / 16 + 1) * 16)) ⊎ ((512 ≤ n) × (group_size n ≡ 512)) → k * 512 ≡ 0 + k * group_size n
+    by (inl h) = let none : k ≡ 0 = omega (arith, p, h.0) in let own : 0 * 512 ≡ 0 + 0 * group_size n = omega arith in subst (λ j. j * 512 ≡ 0 + j * group_size n) (sym none) own
+    by (inr h) = let own : k * 512 ≡ 0 + k * 512 = omega arith in own ∙ ap (λ s. 0 + k * s) (sym h.1)
+
+pub most : (n : ℕ) → group_size n ≤ 512
+most n = by (one_or_full n)
+  where
+    by : ((n < 512) × (group_size n ≡ (n / 16 + 1) * 16)) ⊎ ((512 ≤ n) × (group_size n ≡ 512)) → group_size n ≤ 512
+    by (inl h) = omega (arith, h.0, h.1)
+    by (inr h) = omega (arith, h.1)
+
+pub taken_size : {A : Type 0} (count : ℕ) (bs : List (List A)) → AreRows (group_size count) bs → length bs ≡ count / 512 + 1 → length (take count (flat bs)) ≡ count
+taken_size count bs h e =
+    let size : length (flat bs) ≡ (count / 512 + 1) * group_size count = flat_length (group_size count) bs h ∙ ap (λ k. k * group_size count) e in
+    omega (arith, length-take count (flat bs), size, enough count)
 
 pub replicate_taken : {A : Type 0} (n m : ℕ) (x : A) → n ≤ m → take n (replicate m x) ≡ replicate n x
 replicate_taken zero m x p = refl

@@ -27,13 +27,14 @@ impl<T: Item> Model for Block<T> {
     ghost invariant = { λ b. length (arc_value b.items).items ≡ 16 };
 }
 
-// Whether two lists of items are the same.
-fn same_items<T: Item>(a: &[T], b: &[T]) -> bool
-    requires { length a.now ≡ length b.now }
-    ensures { result ≡ true → a.now ≡ b.now }
+// Whether merging leaves the left items as they are.
+fn stay<T: Item, M: Merge<T>>(a: &[T], b: &[T], by: &M, from: usize) -> bool
+    requires same { length a.now ≡ length b.now }
+    requires room { from + length a.now < 2 ^ 62 }
+    ensures { result ≡ true → merged_from (M.merged by.now) from a.now b.now ≡ a.now }
 {
     for k in 0..a.len() {
-        if !a[k].same(&b[k]) {
+        if !by.keeps(from + k, &a[k], &b[k]) {
             return false;
         }
     }
@@ -81,6 +82,7 @@ impl<T: Item> Block<T> {
         made(alloc, items)
     }
 
+    #[inline]
     pub(crate) fn get(&self, i: usize) -> T
         requires { i < 16 }
         ensures { slice_get self.now i ≡ Some result }
@@ -117,11 +119,10 @@ impl<T: Item> Block<T> {
         ensures value { IfOk result (λ p. p.0 ≡ merged_from (M.merged by.now) from self.now other.now) }
         ensures same { IfOk result (λ p. p.1 ≡ true → p.0 ≡ self.now) }
     {
-        let items = merge_items(alloc, &self.items, &other.items, by, from)?;
-        if same_items(&self.items, &items) {
-            Ok((self.share()?, true))
-        } else {
-            Ok((made(alloc, items)?, false))
+        if stay(&self.items, &other.items, by, from) {
+            return Ok((self.share()?, true));
         }
+        let items = merge_items(alloc, &self.items, &other.items, by, from)?;
+        Ok((made(alloc, items)?, false))
     }
 }

@@ -1,31 +1,33 @@
 // Lists in groups of blocks.
 
 ghost use Rattle.std.specs.Prelude.{◌≡◌, ◌<◌, ◌≤◌, ◌+◌, ◌*◌, ◌/◌, ◌%◌, ◌^◌, ℕ, true, IfOk, OnOk, OnErr, length, take, slice_get, slice_set, Some, replicate};
-ghost use Rattle.pk_blocks.specs.Rows.{flat, AreRows, merged_from, below};
+ghost use Rattle.pk_blocks.specs.Rows.{flat, AreRows, merged_from, below, group_size};
 
 use crate::block::{Block, ITEMS};
 use crate::group::{GROUP, Group};
 use crate::item::{Item, Merge};
 use std::alloc::{AllocError, Global};
 use std::marker::Model;
+use std::sync::Arc;
 
 /// A list. Copies share what they have in common.
 #[derive(Drop)]
 pub struct Blocks<T: Item> {
-    // Each has 512 items; those past the length are any.
-    groups: Vec<Group<T>>,
+    // Each has 512 items, but where there is one alone; those past the length are any.
+    groups: Arc<Vec<Group<T>>>,
     count: usize,
 }
 
 impl<T: Item> Model for Blocks<T> {
     ghost use Rattle.std.specs.Prelude.{◌≡◌, ◌<◌, ◌+◌, ◌/◌, ◌^◌, List, length, take};
-    ghost use Rattle.pk_blocks.specs.Rows.{flat, AreRows};
+    ghost use Rattle.std.specs.Arc.{arc_value};
+    ghost use Rattle.pk_blocks.specs.Rows.{flat, AreRows, group_size};
 
     ghost Value = { List T };
 
-    ghost view = { λ b. take b.count (flat b.groups.items) };
+    ghost view = { λ b. take b.count (flat (arc_value b.groups).items) };
 
-    ghost invariant = { λ b. AreRows 512 b.groups.items × (length b.groups.items ≡ b.count / 512 + 1) × (b.count < 2 ^ 60) };
+    ghost invariant = { λ b. AreRows (group_size b.count) (arc_value b.groups).items × (length (arc_value b.groups).items ≡ b.count / 512 + 1) × (b.count < 2 ^ 60) };
 }
 
 // The same groups, shared once more.
@@ -54,21 +56,50 @@ fn filled_groups<T: Item>(
     Ok(out)
 }
 
-// The items below the limit merged.
+// The same groups but one.
+fn with_group<T: Item>(
+    alloc: Global,
+    groups: &[Group<T>],
+    k: usize,
+    group: Group<T>,
+) -> Result<Vec<Group<T>>, AllocError>
+    requires { k < length groups.now }
+    ensures { IfOk result (λ v. v.items ≡ slice_set groups.now k group) }
+{
+    let mut out = shared(alloc, groups)?;
+    out[k] = group;
+    Ok(out)
+}
+
+// How many blocks a group of a list of so many items has.
+fn group_blocks(count: usize) -> usize
+    ensures value { result * 16 ≡ group_size count }
+    ensures most { result ≤ 32 }
+{
+    if count < GROUP {
+        count / ITEMS + 1
+    } else {
+        GROUP / ITEMS
+    }
+}
+
+// The items below the limit merged, of lists of so many.
 fn merge_groups<T: Item, M: Merge<T>>(
     alloc: Global,
     a: &[Group<T>],
     b: &[Group<T>],
     by: &M,
+    size: usize,
     limit: usize,
 ) -> Result<Vec<Group<T>>, AllocError>
-    requires rows { AreRows 512 a.now }
-    requires others { AreRows 512 b.now }
-    requires count { length a.now ≡ length b.now }
-    requires room { length a.now * 512 < 2 ^ 61 }
+    requires rows { AreRows (group_size size) a.now }
+    requires others { AreRows (group_size size) b.now }
+    requires count { length a.now ≡ size / 512 + 1 }
+    requires counted { length b.now ≡ size / 512 + 1 }
+    requires room { size < 2 ^ 60 }
     requires whole { limit % 16 ≡ 0 }
     ensures value { IfOk result (λ v. flat v.items ≡ merged_from (below limit (M.merged by.now)) 0 (flat a.now) (flat b.now)) }
-    ensures rows { IfOk result (λ v. AreRows 512 v.items) }
+    ensures rows { IfOk result (λ v. AreRows (group_size size) v.items) }
     ensures count { IfOk result (λ v. length v.items ≡ length a.now) }
 {
     let mut out = Vec::with_capacity(alloc, a.len())?;
@@ -88,9 +119,10 @@ impl<T: Item> Blocks<T> {
             return Err(AllocError);
         }
         let block = Block::filled(alloc, item)?;
-        let group = Group::filled(alloc, &block)?;
+        let group = Group::filled(alloc, &block, group_blocks(count))?;
+        let groups = filled_groups(alloc, &group, count / GROUP + 1)?;
         Ok(Blocks {
-            groups: filled_groups(alloc, &group, count / GROUP + 1)?,
+            groups: Arc::new(alloc, groups)?,
             count,
         })
     }
@@ -104,6 +136,7 @@ impl<T: Item> Blocks<T> {
     }
 
     /// The item of a place.
+    #[inline]
     pub fn get(&self, i: usize) -> T
         requires { i < length self.now }
         ensures { slice_get self.now i ≡ Some result }
@@ -119,16 +152,18 @@ impl<T: Item> Blocks<T> {
     {
         let k = i / GROUP;
         let group = self.groups[k].with(alloc, i % GROUP, item)?;
-        self.groups[k] = group;
+        let groups = with_group(alloc, &self.groups, k, group)?;
+        self.groups = Arc::new(alloc, groups)?;
         Ok(())
     }
 
-    /// The same list, which shares each block.
+    /// The same list, which shares all.
     pub fn copy(&self, alloc: Global) -> Result<Blocks<T>, AllocError>
         ensures { IfOk result (λ b. b ≡ self.now) }
     {
+        let _ = alloc;
         Ok(Blocks {
-            groups: shared(alloc, &self.groups)?,
+            groups: Arc::try_clone(&self.groups)?,
             count: self.count,
         })
     }
@@ -145,8 +180,9 @@ impl<T: Item> Blocks<T> {
     {
         // Blocks past the last item are left as they are.
         let limit = (self.count + ITEMS - 1) / ITEMS * ITEMS;
+        let groups = merge_groups(alloc, &self.groups, &other.groups, by, self.count, limit)?;
         Ok(Blocks {
-            groups: merge_groups(alloc, &self.groups, &other.groups, by, limit)?,
+            groups: Arc::new(alloc, groups)?,
             count: self.count,
         })
     }

@@ -1,6 +1,6 @@
-// Thirty-two blocks behind one pointer.
+// Up to thirty-two blocks behind one pointer.
 
-ghost use Rattle.std.specs.Prelude.{◌≡◌, ◌<◌, ◌^◌, ◌+◌, ◌%◌, ℕ, true, IfOk, length, slice_get, slice_set, Some, replicate};
+ghost use Rattle.std.specs.Prelude.{◌≡◌, ◌<◌, ◌^◌, ◌+◌, ◌*◌, ◌%◌, ℕ, true, IfOk, length, slice_get, slice_set, Some, replicate};
 ghost use Rattle.pk_blocks.specs.Rows.{flat, AreRows, merged_from, below};
 
 use crate::block::{Block, ITEMS};
@@ -9,10 +9,7 @@ use std::alloc::{AllocError, Global};
 use std::marker::Model;
 use std::sync::Arc;
 
-/// How many blocks a group has.
-const BLOCKS: usize = 32;
-
-/// How many items a group has.
+/// How many items a group has at most.
 pub(crate) const GROUP: usize = 512;
 
 #[derive(Drop)]
@@ -21,7 +18,7 @@ pub(crate) struct Group<T: Item> {
 }
 
 impl<T: Item> Model for Group<T> {
-    ghost use Rattle.std.specs.Prelude.{◌≡◌, List, length};
+    ghost use Rattle.std.specs.Prelude.{List};
     ghost use Rattle.std.specs.Arc.{arc_value};
     ghost use Rattle.pk_blocks.specs.Rows.{flat, AreRows};
 
@@ -29,13 +26,12 @@ impl<T: Item> Model for Group<T> {
 
     ghost view = { λ g. flat (arc_value g.blocks).items };
 
-    ghost invariant = { λ g. AreRows 16 (arc_value g.blocks).items × (length (arc_value g.blocks).items ≡ 32) };
+    ghost invariant = { λ g. AreRows 16 (arc_value g.blocks).items };
 }
 
 // A group of these blocks.
 fn made<T: Item>(alloc: Global, blocks: Vec<Block<T>>) -> Result<Group<T>, AllocError>
-    requires rows { AreRows 16 blocks.items }
-    requires count { length blocks.items ≡ 32 }
+    requires { AreRows 16 blocks.items }
     ensures { IfOk result (λ g. g ≡ flat blocks.items) }
 {
     Ok(Group {
@@ -103,19 +99,17 @@ fn merge_blocks<T: Item, M: Merge<T>>(
 ) -> Result<(Vec<Block<T>>, bool), AllocError>
     requires rows { AreRows 16 a.now }
     requires others { AreRows 16 b.now }
-    requires count { length a.now ≡ 32 }
-    requires counted { length b.now ≡ 32 }
-    requires room { from + 512 < 2 ^ 62 }
+    requires count { length a.now ≡ length b.now }
+    requires room { from + length a.now * 16 < 2 ^ 62 }
     requires place { from % 16 ≡ 0 }
     requires whole { limit % 16 ≡ 0 }
     ensures value { IfOk result (λ p. flat p.0.items ≡ merged_from (below limit (M.merged by.now)) from (flat a.now) (flat b.now)) }
     ensures rows { IfOk result (λ p. AreRows 16 p.0.items) }
-    ensures count { IfOk result (λ p. length p.0.items ≡ 32) }
     ensures same { IfOk result (λ p. p.1 ≡ true → p.0.items ≡ a.now) }
 {
-    let mut out = Vec::with_capacity(alloc, BLOCKS)?;
+    let mut out = Vec::with_capacity(alloc, a.len())?;
     let mut same = true;
-    for k in 0..BLOCKS {
+    for k in 0..a.len() {
         let pair = merge_block(alloc, &a[k], &b[k], by, from + k * ITEMS, limit)?;
         same = same && pair.1;
         out.push(pair.0)?;
@@ -124,19 +118,24 @@ fn merge_blocks<T: Item, M: Merge<T>>(
 }
 
 impl<T: Item> Group<T> {
-    pub(crate) fn filled(alloc: Global, block: &Block<T>) -> Result<Group<T>, AllocError>
+    pub(crate) fn filled(
+        alloc: Global,
+        block: &Block<T>,
+        count: usize,
+    ) -> Result<Group<T>, AllocError>
         requires { length block.now ≡ 16 }
-        ensures { IfOk result (λ g. g ≡ flat (replicate 32 block.now)) }
+        ensures { IfOk result (λ g. g ≡ flat (replicate count block.now)) }
     {
-        let mut blocks = Vec::with_capacity(alloc, BLOCKS)?;
-        for _ in 0..BLOCKS {
+        let mut blocks = Vec::with_capacity(alloc, count)?;
+        for _ in 0..count {
             blocks.push(block.share()?)?;
         }
         made(alloc, blocks)
     }
 
+    #[inline]
     pub(crate) fn get(&self, i: usize) -> T
-        requires { i < 512 }
+        requires { i < length self.now }
         ensures { slice_get self.now i ≡ Some result }
     {
         self.blocks[i / ITEMS].get(i % ITEMS)
@@ -151,7 +150,7 @@ impl<T: Item> Group<T> {
     }
 
     pub(crate) fn with(&self, alloc: Global, i: usize, item: T) -> Result<Group<T>, AllocError>
-        requires { i < 512 }
+        requires { i < length self.now }
         ensures { IfOk result (λ g. g ≡ slice_set self.now i item) }
     {
         let k = i / ITEMS;
@@ -168,7 +167,8 @@ impl<T: Item> Group<T> {
         from: usize,
         limit: usize,
     ) -> Result<(Group<T>, bool), AllocError>
-        requires room { from + 512 < 2 ^ 62 }
+        requires count { length self.now ≡ length other.now }
+        requires room { from + length self.now < 2 ^ 62 }
         requires place { from % 16 ≡ 0 }
         requires whole { limit % 16 ≡ 0 }
         ensures value { IfOk result (λ p. p.0 ≡ merged_from (below limit (M.merged by.now)) from self.now other.now) }

@@ -13,6 +13,11 @@ pub trait Item: Copy {
 pub trait Merge<T> {
     ghost merged: { Self → ℕ → T → T → T };
 
+    /// The item that both make.
     fn merge(&self, i: usize, a: &T, b: &T) -> T
         ensures { result ≡ merged self.now i a.now b.now };
+
+    /// Whether that is surely the left one.
+    fn keeps(&self, i: usize, a: &T, b: &T) -> bool
+        ensures { result ≡ true → merged self.now i a.now b.now ≡ a.now };
 }

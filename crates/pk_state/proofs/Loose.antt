@@ -3,14 +3,10 @@ use Rattle.std.specs.Prelude.{◌≡◌, ◌≢◌, ◌⊎◌, ℕ, zero, suc, �
 use Rattle.std.proofs.Common.{◌∙◌, ap, refl, sym, subst, arith, inl, inr, set, drop, length-set}
 use Rattle.std.proofs.lemmas.List.{drop_more}
 use Rattle.std.proofs.lemmas.Bool.{cases_eq}
-use Rattle.std.proofs.lemmas.Int.{ints, clamps}
-use Rattle.std.specs.Int.{int_min, int_max}
+use Rattle.std.proofs.lemmas.Int.{ints}
 use Rattle.pk_value.specs.Known.{Known, red_known, joined}
 use Rattle.pk_value.specs.Laws.{IsTight}
-use Rattle.pk_interval.specs.Ranges.{Range}
-use Rattle.pk_interval.specs.Ranges as ranges
-use Rattle.pk_congr.specs.Classes.{Class, IsReduced}
-use Rattle.pk_congr.proofs.Keeping.{unchanged}
+use Rattle.pk_congr.specs.Classes.{IsReduced}
 use Rattle.pk_value.proofs.Tight.{tight_is_reduced}
 use Rattle.pk_blocks.specs.Rows.{merged_from}
 use Rattle.pk_blocks.proofs.Merging.{merged_length}
@@ -34,11 +30,6 @@ listed_right (x ∷ xs) ys y h = inr (listed_right xs ys y h)
 
 pub listed_last : (xs : List ℕ) (y : ℕ) → IsListed (xs ++ y ∷ []) y
 listed_last xs y = listed_right xs (y ∷ []) y (inl refl)
-
-pub listed_at : (xs : List ℕ) (k d : ℕ) → k < length xs → IsListed xs (slice_index_or xs k d)
-listed_at [] k d p = absurd (omega arith)
-listed_at (x ∷ xs) zero d p = inl refl
-listed_at (x ∷ xs) (suc k) d p = inr (listed_at xs k d (omega arith))
 
 -- what is left is the next one or among the rest
 pub listed_next : (xs : List ℕ) (k d y : ℕ) → k < length xs → IsListed (drop k xs) y → (slice_index_or xs k d ≡ y) ⊎ IsListed (drop (k + 1) xs) y
@@ -75,25 +66,6 @@ marked_put vs loose x v h y p = by (cases_eq y x)
     by (inl e) = inr (rw e (listed_last loose x))
     by (inr n) = other n (h y (omega (arith, p, length-set vs x v)))
 
--- or is listed already
-pub marked_listed : (vs : List Known) (loose : List ℕ) (x : ℕ) (v : Known) → IsListed loose x → AreMarked vs loose → AreMarked (set vs x v) loose
-marked_listed vs loose x v l h y p = by (cases_eq y x)
-  where
-    other : y ≢ x → IsTight (known_at vs y) ⊎ IsListed loose y → IsTight (known_at (set vs x v) y) ⊎ IsListed loose y
-    other n (inl t) = inl (rw (known_other vs x y v n) t)
-    other n (inr l) = inr l
-
-    by : (y ≡ x) ⊎ (y ≢ x) → IsTight (known_at (set vs x v) y) ⊎ IsListed loose y
-    by (inl e) = inr (subst (λ z. IsListed loose z) (sym e) l)
-    by (inr n) = other n (h y (omega (arith, p, length-set vs x v)))
-
-pub marked_more : (vs : List Known) (loose : List ℕ) → AreMarked vs [] → AreMarked vs loose
-marked_more vs loose h x p = by (h x p)
-  where
-    by : IsTight (known_at vs x) ⊎ ⊥ → IsTight (known_at vs x) ⊎ IsListed loose x
-    by (inl t) = inl t
-    by (inr b) = absurd b
-
 -- those of a list that has those of another
 pub marked_in : (vs : List Known) (loose more : List ℕ) → ((y : ℕ) → y < length vs → IsListed loose y → IsListed more y) → AreMarked vs loose → AreMarked vs more
 marked_in vs loose more f h x p = by (h x p)
@@ -128,21 +100,6 @@ marked_either l us vs a b c d all n size first second f h k m o = marked_join l 
     by : (y : ℕ) → IsListed a y ⊎ IsListed b y → IsListed c y ⊎ IsListed d y
     by y (inl e) = inl (subst (λ zs. IsListed zs y) (sym first) e)
     by y (inr e) = inr (subst (λ zs. IsListed zs y) (sym second) e)
-
--- a join with itself changes nothing
-pub join_own : (k : Known) → IsReduced k.class.m k.class.r → joined k k ≡ k
-join_own k h =
-    ap (λ (c : Class). let j : Known = record { range = ranges.joined k.range k.range; class = c } in j) (unchanged.joins k.class k.class h (unchanged.within_itself k.class))
-    ∙ ap (λ (r : Range). let j : Known = record { range = r; class = k.class } in j) same
-  where
-    low : int_min k.range.lo k.range.lo ≡ k.range.lo
-    low = omega (arith, ints, clamps)
-
-    high : int_max k.range.hi k.range.hi ≡ k.range.hi
-    high = omega (arith, ints, clamps)
-
-    same : ranges.joined k.range k.range ≡ k.range
-    same = ap (λ (z : ℤ). let r : Range = record { lo = z; hi = int_max k.range.hi k.range.hi } in r) low ∙ ap (λ (z : ℤ). let r : Range = record { lo = k.range.lo; hi = z } in r) high
 
 -- ---- reducing those that are listed
 

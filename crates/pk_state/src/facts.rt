@@ -196,10 +196,11 @@ fn with_octagon(
     requires closed { IsClosedIf true (arc_value octagon) }
     ensures { IfOk result (λ o. o ≡ with_closed frame.now values (arc_value octagon)) }
 {
-    if !bound_values(alloc, &mut values, &octagon, frame)? {
+    let mut loose = Vec::new(alloc);
+    if !bound_values(alloc, &mut values, &mut loose, &octagon, frame)? {
         return Ok(None);
     }
-    if !reduce_values(alloc, &mut values, frame.all_chosen(), frame)? {
+    if !reduce_values(alloc, &mut values, &loose, frame)? {
         return Ok(None);
     }
     Ok(Some(Facts {

@@ -63,13 +63,6 @@ impl Frame {
         self.chosen[k]
     }
 
-    /// The variables of the octagon's places.
-    pub fn all_chosen(&self) -> &[usize]
-        ensures { result.now ≡ self.now.chosen }
-    {
-        &self.chosen
-    }
-
     /// The place of a variable in the octagon, if that is over it.
     pub fn place(&self, x: usize) -> Option<u32>
         ensures value { result ≡ place_in self.now.chosen x }

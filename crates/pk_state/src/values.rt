@@ -30,10 +30,13 @@ impl Merge<Value> for Joining {
 
     ghost merged = { λ s i a b. joined a b };
 
-    // Most of the values of two states are the same.
     fn merge(&self, _: usize, a: &Value, b: &Value) -> Value {
+        a.join(b)
+    }
+
+    fn keeps(&self, _: usize, a: &Value, b: &Value) -> bool {
         reduced_law(&a.congr);
-        if a.equals(b) { *a } else { a.join(b) }
+        b.leq(a)
     }
 }
 
@@ -224,14 +227,16 @@ fn bound(m: &Matrix, k: u32, value: &Value) -> Option<Value>
 pub(crate) fn bound_values(
     alloc: Global,
     values: &mut Blocks<Value>,
+    loose: &mut Vec<usize>,
     m: &Matrix,
     frame: &Frame,
 ) -> Result<bool, AllocError>
     requires values { AreValues frame.now values.old }
     requires vars { m.now.vars ≡ length frame.now.chosen }
+    requires marked { AreMarked values.old loose.old.items }
     ensures value { IfOk result (λ b. kept_if b values.new ≡ bounded_all frame.now m.now (length frame.now.chosen) values.old) }
     ensures stays { IfOk result (λ b. b ≡ true → AreValues frame.now values.new) }
-    ensures others { IfOk result (λ b. b ≡ true → AreMarked values.old [] → AreMarked values.new frame.now.chosen) }
+    ensures marked { IfOk result (λ b. b ≡ true → AreMarked values.new loose.new.items) }
 {
     frame.is_layout();
     for k in 0..frame.octagon_len() {
@@ -239,7 +244,7 @@ pub(crate) fn bound_values(
         let old = values.get(x);
         match bound(m, k as u32, &old) {
             None => return Ok(false),
-            Some(new) => put(alloc, values, x, &old, new)?,
+            Some(new) => put_loose(alloc, values, loose, x, &old, new)?,
         }
     }
     Ok(true)

@@ -1,18 +1,20 @@
 -- What is tight, and its reduction.
-use Rattle.std.specs.Prelude.{◌≡◌, ◌⊎◌, Bool, true, false, if◌then◌else◌, ℤ, pos, ◌≤ℤ◌, int_lt, Option, Some, None}
+use Rattle.std.specs.Prelude.{◌≡◌, ◌⊎◌, Bool, true, false, if◌then◌else◌, ℤ, pos, ◌+ℤ◌, ◌-ℤ◌, ◌*ℤ◌, ◌≤ℤ◌, ◌<ℤ◌, int_lt, Option, Some, None, IfSome}
 use Rattle.std.specs.Int.{int_min, int_max}
 use Rattle.std.proofs.Common.{arith, refl, ap, sym, subst, ◌∙◌, inl, inr}
 use Rattle.std.proofs.lemmas.Int.{ints, clamps}
-use Rattle.pk_interval.specs.Ranges.{Range, single}
+use Rattle.pk_ctypes.specs.declared.types.IntType.{IntType}
+use Rattle.pk_interval.specs.Ranges.{Range, single, IsIn}
 use Rattle.pk_congr.specs.Classes.{Class, IsMember, IsReduced, constant, next_up_of, next_down_of}
 use Rattle.pk_congr.specs.Classes as classes
+use Rattle.pk_congr.specs.Laws.{IsOf}
 use Rattle.pk_congr.proofs.Next.{next_members}
 use Rattle.pk_congr.proofs.Order.{join_is_least}
 use Rattle.pk_congr.proofs.Keeping.{unchanged}
 use Rattle.pk_value.specs.Reduction.{red, reduced_at, reduced_if}
 use Rattle.pk_value.specs.Known.{Known, known_of, red_known, joined}
 use Rattle.pk_value.specs.Laws.{IsTight, TightIsReduced}
-use Rattle.pk_value.proofs.Reducing.{exact as reduction}
+use Rattle.pk_value.proofs.Reducing.{exact as reduction, red_class}
 
 -- a member is the next one to itself
 own_up : (c : Class) (x : ℤ) → pos 0 ≤ℤ c.m → IsMember c x → next_up_of c x ≡ Some x
@@ -128,3 +130,29 @@ joins_tight a b f h k = record {
 
 pub tight_is_reduced : TightIsReduced
 tight_is_reduced = record { again = again; tight = tight; joins = joins_tight }
+
+-- a tight value in a type has a class of it
+pub class_of_tight : (t : IntType) (k : Known) → IsIn t k.range → IsReduced k.class.m k.class.r → IsTight k → IsOf t k.class
+class_of_tight t k i r h = go (red k.range k.class) refl (again k r.from h)
+  where
+    go : (o : Option (Range × Class)) → red k.range k.class ≡ o → known_of o ≡ Some k → IsOf t k.class
+    go None f g = absurd (cc)
+    go (Some p) f g =
+        let l : Known = record { range = p.0; class = p.1 } in
+        let same : l ≡ k = cc in
+        let class : IsOf t p.1 = subst (λ o. IfSome o (λ q. IsOf t q.1)) f (red_class t k.range k.class i r) in
+        subst (λ (q : Known). IsOf t q.class) same class
+
+-- all numbers between two
+pub all_tight : (k : Known) → k.class.m ≡ pos 1 → k.range.lo <ℤ k.range.hi → IsTight k
+all_tight k one less = record { some = omega (arith, ints, less); least = every k.class k.range.lo one; greatest = every k.class k.range.hi one; one = λ e. absurd (omega (arith, ints, e, less)) }
+  where
+    every : (c : Class) (x : ℤ) → c.m ≡ pos 1 → IsMember c x
+    every c x e = (x -ℤ c.r, let own : x ≡ c.r +ℤ (x -ℤ c.r) *ℤ pos 1 = omega (arith, ints) in own ∙ ap (λ m. c.r +ℤ (x -ℤ c.r) *ℤ m) (sym e))
+
+-- one number
+pub one_tight : (k : Known) → k.class.m ≡ pos 0 → k.class.r ≡ k.range.lo → k.range.lo ≡ k.range.hi → IsTight k
+one_tight k none rest same = record { some = omega (arith, ints, same); least = own k.class k.range.lo rest; greatest = own k.class k.range.hi (rest ∙ same); one = λ _. ap (λ (m : ℤ). let c : Class = record { m = m; r = k.class.r } in c) none ∙ ap constant rest }
+  where
+    own : (c : Class) (x : ℤ) → c.r ≡ x → IsMember c x
+    own c x e = (pos 0, omega (arith, ints, e))

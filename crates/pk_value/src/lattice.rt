@@ -4,10 +4,27 @@ ghost use Rattle.std.specs.Prelude.{◌≡◌};
 ghost use Rattle.std.specs.List.Sorted.{IsSorted};
 ghost use Rattle.std.specs.Ordering.{int_cmp};
 ghost use Rattle.pk_interval.specs.Ranges.{IsIn};
+ghost use Rattle.pk_congr.specs.Classes.{joined as joined_classes, is_within as is_class_within};
 ghost use Rattle.pk_value.specs.Known.{joined, is_within, widened, narrowed};
 
 use crate::value::Value;
+use pk_congr::{Congr, reduced_law};
 use pk_ctypes::IntType;
+
+// The join of two congruences, which are mostly the same.
+fn join_classes(a: &Congr, b: &Congr) -> Congr
+    ensures { result ≡ joined_classes a.now b.now }
+{
+    reduced_law(a);
+    if a.equals(b) { *a } else { a.join(b) }
+}
+
+// The order of two congruences, which are mostly the same.
+fn is_below(a: &Congr, b: &Congr) -> bool
+    ensures { result ≡ is_class_within a.now b.now }
+{
+    if a.equals(b) { true } else { a.leq(b) }
+}
 
 impl Value {
     /// What is known of a number that is one of either.
@@ -16,7 +33,7 @@ impl Value {
     {
         Value {
             interval: self.interval.join(&other.interval),
-            congr: self.congr.join(&other.congr),
+            congr: join_classes(&self.congr, &other.congr),
         }
     }
 
@@ -24,7 +41,7 @@ impl Value {
     pub fn leq(&self, other: &Value) -> bool
         ensures { result ≡ is_within self.now other.now }
     {
-        self.interval.leq(&other.interval) && self.congr.leq(&other.congr)
+        self.interval.leq(&other.interval) && is_below(&self.congr, &other.congr)
     }
 
     /// This one widened by `next`: the interval with thresholds in rising order, the congruence by a join.
@@ -37,7 +54,7 @@ impl Value {
     {
         Value {
             interval: self.interval.widen(&next.interval, t, thresholds),
-            congr: self.congr.widen(&next.congr),
+            congr: join_classes(&self.congr, &next.congr),
         }
     }
 

@@ -1,9 +1,10 @@
 // What is known of a number.
 
-ghost use Rattle.std.specs.Prelude.{◌≡◌, ◌↔◌, true, ◌<◌, ◌≤ℤ◌, ◌^◌, IfSome, unsigned_abs};
+ghost use Rattle.std.specs.Prelude.{◌≡◌, ◌↔◌, true, pos, ◌<◌, ◌<ℤ◌, ◌≤ℤ◌, ◌^◌, IfSome, unsigned_abs};
 ghost use Rattle.pk_interval.specs.Ranges.{IsIn};
 ghost use Rattle.pk_congr.specs.Laws.{IsOf};
 ghost use Rattle.pk_value.specs.Known.{Known, any_of, exactly, red_known};
+ghost use Rattle.pk_value.specs.Laws.{IsTight};
 
 use crate::reduction::reduce;
 use pk_blocks::Item;
@@ -27,6 +28,31 @@ impl Model for Value {
     ghost view = { λ v. record { range = v.interval; class = v.congr } };
 
     ghost inverse = { λ k. record { interval = k.range; congr = k.class } };
+}
+
+// Whether a value has all numbers between two.
+fn has_all(interval: &Interval, congr: &Congr) -> bool
+    ensures { result ≡ true → (congr.now.m ≡ pos 1) × (interval.now.lo <ℤ interval.now.hi) }
+{
+    congr.m == 1 && interval.lo < interval.hi
+}
+
+// Whether a value has one number, and says so.
+fn has_one(interval: &Interval, congr: &Congr) -> bool
+    ensures { result ≡ true → (congr.now.m ≡ pos 0) × (congr.now.r ≡ interval.now.lo) × (interval.now.lo ≡ interval.now.hi) }
+{
+    congr.m == 0 && congr.r == interval.lo && interval.lo == interval.hi
+}
+
+// Whether a value is plainly tight.
+fn is_plain(interval: &Interval, congr: &Congr) -> bool
+    ensures { result ≡ true → IsTight (record { range = interval.now; class = congr.now }) }
+{
+    if has_all(interval, congr) {
+        true
+    } else {
+        has_one(interval, congr)
+    }
 }
 
 impl Value {
@@ -60,6 +86,9 @@ impl Value {
         ensures some { IfSome result (λ k. k.range.lo ≤ℤ k.range.hi) }
     {
         reduced_law(&self.congr);
+        if is_plain(&self.interval, &self.congr) {
+            return Some(*self);
+        }
         match reduce(t, &self.interval, &self.congr) {
             None => None,
             Some(both) => Some(Value {
