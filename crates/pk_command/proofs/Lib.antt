@@ -2,3 +2,4 @@ mod Rows
 mod Taken
 mod Settings
 pub mod Asking
+mod Adding

@@ -1,7 +1,10 @@
 -- The command line, as a value of clap's: the commands, their options, and which words are taken.
-use Rattle.std.specs.Prelude.{ℕ, Bool, true, false, pos, List, [], ◌∷◌, ◌++◌, codes, fold, Some}
-use Rattle.clap.specs.Words.{App, Rule, Shape, Text, fault_of, new_app, new_rule, with_rule, with_subcommand}
+use Rattle.std.specs.Prelude.{◌≡◌, ℕ, Bool, true, false, pos, List, [], ◌∷◌, ◌++◌, codes, fold, Some}
+use Rattle.clap.specs.Words.{App, Rule, Shape, Text, app_of, fault_of, new_app, new_rule, rule_of, with_rule, with_subcommand}
 use Rattle.clap.specs.Kinds.{Kinds}
+use Rattle.clap.specs.declared.builder.arg.Arg.{Arg}
+use Rattle.clap.specs.declared.builder.command.Command.{Command}
+use Rattle.clap.specs.declared.builder.command.Command.TheViews.{out-Command as fields_of}
 use Rattle.clap.specs.declared.builder.ArgAction.TheVariants.{Set, SetTrue}
 use Rattle.clap.specs.declared.builder.value_parser.ValueParser.TheVariants as parser
 
@@ -76,3 +79,13 @@ is_empty (fault ∷ faults) = false
 -- the words are taken: clap's definition finds no fault in them
 unfoldable pub is_taken : List Text → Bool
 is_taken words = is_empty (fault_of pikos_app words)
+
+-- a command of clap's takes what this definition says, and has no global option
+pub record IsCommand (app : App) (c : Command) : Type 0 where
+  pub is : app_of c ≡ app
+  pub local : (fields_of c).has_globals ≡ false
+
+-- an option of clap's has this rule, and isn't global
+pub record IsOption (rule : Rule) (o : Arg) : Type 0 where
+  pub is : rule_of o ≡ rule
+  pub local : o.global ≡ false

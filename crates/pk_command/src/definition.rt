@@ -1,9 +1,9 @@
 // The command line, as clap takes it.
 
-ghost use Rattle.std.specs.Prelude.{◌≡◌, IfOk, codes, false};
-ghost use Rattle.clap.specs.Words.{app_of, rule_of};
+ghost use Rattle.std.specs.Prelude.{◌≡◌, IfOk, Ok, codes, false};
+ghost use Rattle.clap.specs.Words.{App, Rule, app_of, rule_of, with_rule, with_subcommand};
 ghost use Rattle.clap.specs.declared.Command.TheViews.{out-Command as fields_of};
-ghost use Rattle.pk_command.specs.CommandLine.{number_option, required_number, text_option, flag, command, run_number_options, run_app, order_app, gen_app, program_app, pikos_app};
+ghost use Rattle.pk_command.specs.CommandLine.{IsCommand, IsOption, number_option, required_number, text_option, flag, command, run_number_options, run_app, order_app, gen_app, program_app, pikos_app};
 
 use clap::{Arg, ArgAction, Command};
 use std::alloc::{AllocError, Global};
@@ -67,29 +67,68 @@ fn points<'a>(alloc: Global) -> Arg<'a>
         .action(ArgAction::SetTrue)
 }
 
+// A command with one more option.
+fn with<'a>(
+    command: Result<Command<'a>, AllocError>,
+    option: Arg<'a>,
+) -> Result<Command<'a>, AllocError>
+    ensures { (app : App) (rule : Rule) → IfOk command.entry (IsCommand app) → IsOption rule option.entry → IfOk result (IsCommand (with_rule app rule)) }
+{
+    match command {
+        Ok(command) => command.arg(option),
+        Err(error) => Err(error),
+    }
+}
+
+// Two that are made. Generic, so that what is dropped where one isn't made is one value to the prover.
+fn both<T: Drop, U: Drop>(
+    first: Result<T, AllocError>,
+    second: Result<U, AllocError>,
+) -> Result<(T, U), AllocError>
+    ensures { IfOk result (λ r. (first ≡ Ok r.0) × (second ≡ Ok r.1)) }
+{
+    match first {
+        Ok(first) => match second {
+            Ok(second) => Ok((first, second)),
+            Err(error) => Err(error),
+        },
+        Err(error) => Err(error),
+    }
+}
+
+// A command with one more command behind it.
+fn before<'a>(
+    command: Result<Command<'a>, AllocError>,
+    behind: Result<Command<'a>, AllocError>,
+) -> Result<Command<'a>, AllocError>
+    ensures { (app sub : App) → IfOk command.entry (IsCommand app) → IfOk behind.entry (IsCommand sub) → IfOk result (IsCommand (with_subcommand app sub.top)) }
+{
+    let (command, behind) = both(command, behind)?;
+    command.subcommand(behind)
+}
+
 // The options of `run` that are numbers.
 fn run_numbers<'a>(alloc: Global) -> Result<Command<'a>, AllocError>
-    ensures app { IfOk result (λ c. app_of c ≡ command (codes "run") run_number_options) }
-    ensures local { IfOk result (λ c. (fields_of c).has_globals ≡ false) }
+    ensures { IfOk result (IsCommand (command (codes "run") run_number_options)) }
 {
-    let run = Command::new(alloc, "run");
-    let run = run.arg(workers(alloc))?.arg(narrow(alloc))?;
-    run.arg(oct(alloc))?.arg(max_runs(alloc))
+    let run = Ok(Command::new(alloc, "run"));
+    let run = with(run, workers(alloc));
+    let run = with(run, narrow(alloc));
+    let run = with(run, oct(alloc));
+    with(run, max_runs(alloc))
 }
 
 fn run_command<'a>(alloc: Global) -> Result<Command<'a>, AllocError>
-    ensures app { IfOk result (λ c. app_of c ≡ run_app) }
-    ensures local { IfOk result (λ c. (fields_of c).has_globals ≡ false) }
+    ensures { IfOk result (IsCommand run_app) }
 {
-    let run = run_numbers(alloc)?;
-    run.arg(entry(alloc))?.arg(points(alloc))
+    let run = with(run_numbers(alloc), entry(alloc));
+    with(run, points(alloc))
 }
 
 fn order_command<'a>(alloc: Global) -> Result<Command<'a>, AllocError>
-    ensures app { IfOk result (λ c. app_of c ≡ order_app) }
-    ensures local { IfOk result (λ c. (fields_of c).has_globals ≡ false) }
+    ensures { IfOk result (IsCommand order_app) }
 {
-    Command::new(alloc, "order").arg(entry(alloc))
+    with(Ok(Command::new(alloc, "order")), entry(alloc))
 }
 
 fn seed<'a>(alloc: Global) -> Arg<'a>
@@ -115,13 +154,11 @@ fn size<'a>(alloc: Global) -> Arg<'a>
 }
 
 fn gen_command<'a>(alloc: Global) -> Result<Command<'a>, AllocError>
-    ensures app { IfOk result (λ c. app_of c ≡ gen_app) }
-    ensures local { IfOk result (λ c. (fields_of c).has_globals ≡ false) }
+    ensures { IfOk result (IsCommand gen_app) }
 {
-    Command::new(alloc, "gen")
-        .arg(seed(alloc))?
-        .arg(size(alloc))?
-        .arg(workers(alloc))
+    let made = with(Ok(Command::new(alloc, "gen")), seed(alloc));
+    let made = with(made, size(alloc));
+    with(made, workers(alloc))
 }
 
 fn program<'a>(alloc: Global) -> Command<'a>
@@ -140,8 +177,8 @@ fn program<'a>(alloc: Global) -> Command<'a>
 pub fn command_line<'a>(alloc: Global) -> Result<Command<'a>, AllocError>
     ensures { IfOk result (λ c. app_of c ≡ pikos_app) }
 {
-    program(alloc)
-        .subcommand(run_command(alloc)?)?
-        .subcommand(order_command(alloc)?)?
-        .subcommand(gen_command(alloc)?)
+    let program = before(Ok(program(alloc)), run_command(alloc));
+    let program = before(program, order_command(alloc));
+    let program = before(program, gen_command(alloc));
+    program
 }

@@ -1,17 +1,17 @@
-mod Basics
+pub mod Basics
 mod Paths
-mod Pairs
+pub mod Pairs
 mod Naming
-mod Graphs
+pub mod Graphs
 mod Copies
 mod Starts
 mod Propers
-mod PartAdds
-mod Pending
+pub mod PartAdds
+pub mod Pending
 mod KeptPoints
 mod Bodies
 mod BodyStages
-mod WholeGraph
+pub mod WholeGraph
 mod BodyEnds
 mod BodyCloses
 mod BodiesStand

@@ -1,6 +1,6 @@
 -- What the part of one path adds: labels outside its region stay, and so do regions but those of its calls, which lie in it.
 use Rattle.std.proofs.Common.{◌≡◌, ℕ, ◌+◌, ◌<◌, ◌≤◌, ◌⊎◌, inl, inr, Option, Some, length, false, refl, ap, sym, subst, ◌∙◌, arith}
-use Rattle.std.proofs.lemmas.Option.{get_or_from_slice_get}
+use Rattle.std.proofs.lemmas.Option.{get_or_from_slice_get, slice_get_within}
 use Rattle.std.specs.Prelude.{slice_get}
 use Rattle.pk_calls.specs.declared.listings.Caller.{Caller}
 use Rattle.pk_calls.specs.declared.listings.CallPath.{CallPath}
@@ -35,7 +35,7 @@ abbrev pub part_at : (W : World) → (k n : ℕ) → CallPath → Draft W → Dr
 part_at W k n p d = part.part (context_at W k n p) p.function p.caller (region_at d.regions k) d
 
 -- the part of a function with a body
-body_part : {V : Type 0} (W : World) (k n : ℕ) (p : CallPath) (h : PathIs W k n p) (from : Option Caller) (r : Region) (d : DraftOf V) → part.part (context_at W k n p) p.function from r d ≡ part.part_of (context_at W k n p) h.function (Some h.body) from r d
+pub body_part : {V : Type 0} (W : World) (k n : ℕ) (p : CallPath) (h : PathIs W k n p) (from : Option Caller) (r : Region) (d : DraftOf V) → part.part (context_at W k n p) p.function from r d ≡ part.part_of (context_at W k n p) h.function (Some h.body) from r d
 unfolding part.part
 body_part W k n p h from r d =
     let c = context_at W k n p in
@@ -87,6 +87,14 @@ called_size W k n p h j s (z, a, e, is) =
     let function : function_of W j ≡ z.call.function =
     ap (function_of W) (sym same) ∙ ap (λ (q : CallPath). q.function) (get_or_from_slice_get W.paths (n + r.0) (path_by k r.0 z.call.function) (entry_path 0) there) in
     (omega (e, arith), is ∙ ap (size_in (sizes W)) (sym function))
+
+-- and one of the list
+pub called_within : (W : World) (k n : ℕ) (p : CallPath) (h : PathIs W k n p) (j : ℕ) (s : Size) → IsCalled (context_at W k n p) (calls_in_items h.body.items) j s → j < length W.paths
+called_within W k n p h j s (z, a, e, is) =
+    let r = numbered_at 0 h.body.calls z (subst (Among z) h.is_body.calls a) in
+    let at = r.1 in
+    let within = slice_get_within W.paths (n + r.0) (path_by k r.0 z.call.function) (h.leads r.0 z.call r.2) in
+    omega (e, at, within, arith)
 
 -- it ends where its region does
 pub part_ends : (W : World) → Lasting W → (k n : ℕ) (p : CallPath) (h : PathIs W k n p) (d : Draft W) → (part_at W k n p d).points ≡ (region_at d.regions k).points + (size_of W k).points

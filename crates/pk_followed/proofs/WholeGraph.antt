@@ -15,7 +15,7 @@ use Rattle.pk_lower_row.specs.Contexts.{Context}
 use Rattle.pk_lower.specs.Parts as part
 use Rattle.pk_lower.specs.Parts.{whole_size, sizes_of, program_draft}
 use Rattle.pk_meaning.specs.Programs.{function_of, block_of}
-use Rattle.pk_typed_draft.proofs.Plans.{Lasting, size_of, place_at, part_is, part_made_is, its_function, body_at_is}
+use Rattle.pk_typed_draft.proofs.Plans.{Plan, Lasting, size_of, place_at, part_is, part_made_is, its_function, body_at_is}
 use Rattle.pk_typed_draft.proofs.Parts.{part_points}
 use Rattle.pk_typed_draft.proofs.Firsts.{Counted, first_plan}
 use Rattle.pk_typed_draft.proofs.Drafts.{whole_made}
@@ -48,9 +48,9 @@ longer_have u k (p ∷ ps) = both_have (paths_by k 0 (calls_of u p.function)) (l
 callers_in : (u : UnitTree) (entry : ℕ) (paths : List CallPath) → IsListing u entry paths → HaveCallersBehind paths
 callers_in u entry paths l = subst HaveCallersBehind (sym l.in_order) (longer_have u 0 paths)
 
--- each path's part in the unit's draft
-pub paths_at : (u : UnitTree) (entry : ℕ) (paths : List CallPath) → IsUnit u → HasBody u entry → IsListing u entry paths → AreCallPaths u entry paths → AreTyped u paths → (k : ℕ) → k < length paths → PathAt (world u paths) slot_of (whole u paths) k
-paths_at u entry paths h has l are a k low =
+-- before the first part
+pub begins_plan : (u : UnitTree) (entry : ℕ) (paths : List CallPath) → IsUnit u → HasBody u entry → IsListing u entry paths → AreCallPaths u entry paths → AreTyped u paths → Plan (world u paths) 0 1 (begins u paths)
+begins_plan u entry paths h has l are a =
     let W = world u paths in
     let g = whole u paths in
     let made = whole_made u entry paths h has l are in
@@ -58,8 +58,14 @@ paths_at u entry paths h has l are a k low =
     let many : length g.made ≡ length u.objects + size.variables = ap length (pair_made u paths) ∙ made.0 in
     let same = length-map g.made (λ (v : VariableOf). v.kind) in
     let c : Counted W = record { some = (let z = ap length l.in_order in omega (z, arith)); files = refl; kinds = omega (same, many, arith); points = refl } in
+    first_plan W c
+
+-- each path's part in the unit's draft
+pub paths_at : (u : UnitTree) (entry : ℕ) (paths : List CallPath) → IsUnit u → HasBody u entry → IsListing u entry paths → AreCallPaths u entry paths → AreTyped u paths → (k : ℕ) → k < length paths → PathAt (world u paths) slot_of (whole u paths) k
+paths_at u entry paths h has l are a k low =
+    let W = world u paths in
     let at : 0 + k ≡ k = omega arith in
-    subst (PathAt W slot_of g) at (path_at W a.lasts slot_of 0 1 paths a.paths_are (callers_in u entry paths l) (begins u paths) (first_plan W c) refl (λ i. ap (first_of u paths) (omega arith)) (λ i b. let at : 0 + i ≡ i = omega arith in ap W.ends at) k low)
+    subst (PathAt W slot_of (whole u paths)) at (path_at W a.lasts slot_of 0 1 paths a.paths_are (callers_in u entry paths l) (begins u paths) (begins_plan u entry paths h has l are a) refl (λ i. ap (first_of u paths) (omega arith)) (λ i b. let at : 0 + i ≡ i = omega arith in ap W.ends at) k low)
 
 -- ---- the graph
 
@@ -92,7 +98,7 @@ context_same u paths k q =
     ∙ ap (λ (r : Option IntType). with_parts u paths k q.first (part.body_at u f).locals r) returns)
 
 -- a part has its exit
-part_some : (u : UnitTree) (paths : List CallPath) → Lasting (world u paths) → (k : ℕ) → PathAt (world u paths) slot_of (whole u paths) k → 0 < (size_of (world u paths) k).points
+pub part_some : (u : UnitTree) (paths : List CallPath) → Lasting (world u paths) → (k : ℕ) → PathAt (world u paths) slot_of (whole u paths) k → 0 < (size_of (world u paths) k).points
 part_some u paths l k q =
     let W = world u paths in
     let r = region_at q.before.regions k in

@@ -7,6 +7,7 @@ ghost use Rattle.pk_command.specs.Given.{AsksFor, IsInRange};
 ghost use Rattle.pk_io.specs.Causes.{Rose};
 ghost use Rattle.pk_told.specs.Answers.{IsAnswer, IsShort, AskAbout, AskNoSource, IsMaking, text_of, text_limit};
 ghost use Rattle.pk_top.specs.Headline.{Answers, Gives, IsStop, IsSuccess, IsTextless, IsUnread, IsUntold, KeepsUnlessTold};
+ghost use Rattle.pk_top.specs.Truth.{AskInRange, TellsTruth};
 
 use pk_command::{Command, WordsError, read_words};
 use pk_ctypes::Quantity;
@@ -14,6 +15,7 @@ use pk_front::Status;
 use pk_gen::generate;
 use pk_io::{ReadError, Sink, Source, read_all, write_all};
 use pk_told::told;
+use pk_true::reports_are_true_of_programs;
 use std::alloc::Global;
 
 /// The greatest number of bytes of a text.
@@ -78,6 +80,7 @@ fn make<S: Source>(alloc: Global, words: &[String], src: &mut S) -> Result<(Vec<
     ensures made { (text : List ℕ) → AskAbout (map string_bytes words.now) (S.left src.old) text → IfOk result (λ made.
         IsAnswer (map string_bytes words.now) text (Status.Ok made.1) made.0.items) }
     ensures untold { (text : List ℕ) → AskAbout (map string_bytes words.now) (S.left src.old) text → IfErr result (IsUntold (map string_bytes words.now) text) }
+    ensures range { OnOk result (AskInRange (map string_bytes words.now)) }
     ensures stop { IfErr result IsStop }
     ensures usage { result ≡ Err Status.Usage → is_taken (map string_bytes words.now) ≡ false }
     ensures refused { is_taken (map string_bytes words.now) ≡ false → (result ≡ Err Status.Usage) ⊎ (result ≡ Err Status.Memory) }
@@ -101,6 +104,10 @@ pub fn pikos<S: Source, K: Sink>(
     ensures answer { (text : List ℕ) → AskAbout (map string_bytes words.now) (S.left src.old) text →
         Answers (map string_bytes words.now) text result (K.written out.old) (K.written out.new) }
 
+    // At a success what was written is true of every run of the C program that the text is: of what its visits know, and of the fault at its end.
+    ensures truth { (text : List ℕ) → AskAbout (map string_bytes words.now) (S.left src.old) text → (unknown : ℕ) → result ≡ Status.Ok unknown →
+        TellsTruth (map string_bytes words.now) text unknown (K.written out.old) (K.written out.new) }
+
     // A fault of reading or writing is told only where the device has counted one in this call.
     ensures read_fault { result ≡ Status.ReadFault → Rose (S.faults src.old) (S.faults src.new) }
     ensures write_fault { (sent : ℕ) → result ≡ Status.WriteFault sent → Rose (K.faults out.old) (K.faults out.new) }
@@ -123,6 +130,7 @@ pub fn pikos<S: Source, K: Sink>(
     // At a success a source that was asked was read to its end.
     ensures whole { IsSuccess result → AskNoSource (map string_bytes words.now) ⊎ IsAtEnd (S.left src.new) }
 {
+    reports_are_true_of_programs();
     let (bytes, unknown) = match make(alloc, words, src) {
         Ok(made) => made,
         Err(status) => return status,

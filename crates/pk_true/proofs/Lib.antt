@@ -1,1 +1,3 @@
+mod Bounded
+mod Listed
 mod Telling

@@ -1,23 +1,56 @@
 -- From runs of a program to runs of its graph, and to what is told of it.
-use Rattle.std.specs.Prelude.{◌≡◌, ◌⊎◌, ℕ, ◌<◌, Bool, true, false, if◌then◌else◌, List, [], ◌∷◌, length, All, Contains, Option, Some, None}
-use Rattle.std.proofs.Common.{refl, sym, subst, inl, inr}
+use Rattle.std.specs.Prelude.{◌≡◌, ◌⊎◌, ℕ, ◌<◌, Bool, true, false, if◌then◌else◌, List, ◌∷◌, length, All, Option, Some, None}
+use Rattle.std.proofs.Common.{◌∙◌, refl, sym, subst, inl, inr}
 use Rattle.std.proofs.lemmas.List.Elements.{All-nil, All-cons, All-get_or, All-contains}
-use Rattle.pk_graph.specs.Accesses.{AccessOf}
-use Rattle.pk_graph.specs.Graphs.{EdgeOf, GraphOf, no_point, point_at}
-use Rattle.pk_graph.specs.Steps.{Failure}
+use Rattle.pk_graph.specs.declared.verdicts.Verdict.TheVariants.{Unknown}
+use Rattle.pk_graph.specs.Accesses.{OperationOf, Index, Divisor, Negation, Result, Shift, Assertion, AccessOf, of_instr}
+use Rattle.pk_graph.specs.Graphs.{EdgeOf, GraphOf, no_point, point_at, kinds_of}
+use Rattle.pk_graph.specs.declared.trees.Site.{Site}
+use Rattle.pk_graph.specs.Trees.{InstrOf, Skip, Set, Havoc, Clear, Load, Store, Guard, Check}
+use Rattle.pk_graph.specs.Steps.{Failure, is_index}
 use Rattle.pk_graph.specs.Stores.{Stored}
 use Rattle.pk_graph.specs.WellMade.{IsGraph, IsPointOf, IsEdgeOf}
 use Rattle.pk_state.specs.Facts.{Stated}
 use Rattle.pk_sound.specs.Runs.{Reaches, begins, steps as step_of}
+use Rattle.pk_report.specs.Reports as report
+use Rattle.pk_report.specs.Reports.{state_at}
+use Rattle.pk_sound.specs.Faults as sound
 use Rattle.pk_sound.specs.Faults.{IsHidden, IsFailing}
 use Rattle.pk_runs.specs.True.{AreTrueOf, IsUnknownIn}
 use Rattle.pk_meaning.specs.Programs.{Program}
 use Rattle.pk_meaning.specs.Runs.{Visit}
 use Rattle.pk_visits.specs.GraphVisits.{GraphRuns, ends, steps, is_visit, visit_at, visits_if}
-use Rattle.pk_visits.specs.SameVisits.{ProgramVisits, GraphVisits, FailsAt, EndsAt, HaveSameVisits}
-use Rattle.pk_true.specs.ToldOfPrograms.{IsToldVisit, IsToldFault, IsHiddenFault, IsToldEnd, IsTrueOfProgram}
+use Rattle.pk_visits.specs.SameVisits.{ProgramVisits, GraphVisits, FailsAt, EndsAt, IsInside}
+use Rattle.pk_true.specs.ToldOfPrograms.{IsToldVisit, IsToldFault, IsToldEnd, IsTrueOfProgram}
+use Rattle.pk_verdict.specs.Verdicts.{verdict_of}
+use Rattle.pk_sound.proofs.Accesses.{IsAccessAt, in_instr}
+use Rattle.pk_one_way.specs.OneWay.{SharesAccesses}
+use Rattle.pk_true.proofs.Bounded.{store_told}
+use Rattle.pk_true.proofs.Listed.{listed_access}
 
-module _ (g : GraphOf) (states : List Stated) (made : IsGraph g) (t : AreTrueOf g states) where
+same_kind : (o : OperationOf) → report.fault_of o ≡ sound.fault_of o
+same_kind (Index n i) = refl
+same_kind (Divisor a b) = refl
+same_kind (Negation t e) = refl
+same_kind (Result op t a b) = refl
+same_kind (Shift op t a b) = refl
+same_kind (Assertion e) = refl
+
+-- an index that lies inside doesn't fault
+not_inside : (b : Bool) → b ≡ true → b ≡ false → ⊥
+not_inside b left right = cc
+
+not_hidden : (i : InstrOf ℕ) (at : Site) (s : Stored) → IsInside i s → IsHidden i at s → ⊥
+not_hidden Skip at s inside h = h
+not_hidden (Set x e) at s inside h = h
+not_hidden (Havoc x t n) at s inside h = h
+not_hidden (Clear a) at s inside h = h
+not_hidden (Load x a place b i) at s inside h = not_inside (is_index a.length h.2) (inside h.0 h.2 h.3) h.4
+not_hidden (Store a place b i e) at s inside h = not_inside (is_index a.length h.2) (inside h.0 h.2 h.3) h.4
+not_hidden (Guard e b) at s inside h = h
+not_hidden (Check place e) at s inside h = h
+
+module _ (g : GraphOf) (states : List Stated) (made : IsGraph g) (t : AreTrueOf g states) (share : (p : ℕ) → SharesAccesses p (point_at g p).edges) where
   -- a run comes to points of the graph alone
   there : (v : ℕ) (s : Stored) → Reaches g v s → v < length g.points
   there v s (begins h) = made.entry
@@ -26,7 +59,7 @@ module _ (g : GraphOf) (states : List Stated) (made : IsGraph g) (t : AreTrueOf 
       (All-contains (IsEdgeOf g) (point_at g p).edges e point.edges has).leads_to_a_point
 
   told : (v : ℕ) (s : Stored) → Reaches g v s → IsToldVisit g states (visit_at g v s)
-  told v s h = record { point = v; store = s; there = there v s h; visit_is = refl; agrees = t.holds v s h }
+  told v s h = record { point = v; there = there v s h; told = store_told g (state_at states v).layout (state_at states v).facts v s (t.holds v s h) }
 
   told_if : (e : EdgeOf) (s : Stored) (vs : List Visit) → Reaches g e.to s → All (IsToldVisit g states) vs → All (IsToldVisit g states) (visits_if g e s vs)
   told_if e s vs h all = by (is_visit g e)
@@ -42,12 +75,24 @@ module _ (g : GraphOf) (states : List Stated) (made : IsGraph g) (t : AreTrueOf 
       let more = reached e.to u vs q r rest next in
       (told_if e u vs next more.0, more.1)
 
-  failing : (p : ℕ) (s : Stored) (f : Failure) → Reaches g p s → FailsAt g p s f → IsToldFault g states f ⊎ IsHiddenFault g f
+  failing : (p : ℕ) (s : Stored) (f : Failure) → Reaches g p s → FailsAt g p s f → IsToldFault g states f
   failing p s f h x = by (t.faults p s x.edge x.chosen f h x.there x.fails)
     where
-      by : ((a : AccessOf) × IsFailing p x.edge.instr f s a × IsUnknownIn states p a) ⊎ IsHidden x.edge.instr f.site → IsToldFault g states f ⊎ IsHiddenFault g f
-      by (inl (a, is, unknown)) = inl (record { point = p; edge = x.edge; there = x.there; access = a; listed = is.listed; place = is.site; kind = is.fault; unknown = unknown })
-      by (inr hidden) = inr (record { point = p; edge = x.edge; there = x.there; hidden = hidden })
+      by : ((a : AccessOf) × IsFailing p x.edge.instr f s a × IsUnknownIn states p a) ⊎ IsHidden x.edge.instr f.site s → IsToldFault g states f
+      by (inl (a, is, (lo, hi, unknown))) =
+          let point = All-get_or (IsPointOf g) g.points p no_point (there p s h) made.points in
+          let edge = All-contains (IsEdgeOf g) (point_at g p).edges x.edge point.edges x.there in
+          let at = (All-contains (IsAccessAt (kinds_of g) p) (of_instr p x.edge.instr) a (in_instr (kinds_of g) p x.edge.instr edge.typed) is.listed).point in
+          record {
+            access = a;
+            listed = listed_access g p x.edge a (there p s h) x.there (share p) is.listed;
+            place = is.site;
+            kind = same_kind a.operation ∙ is.fault;
+            lo = lo;
+            hi = hi;
+            unknown = subst (λ (v : ℕ). verdict_of (state_at states v).layout (state_at states v).facts a.operation ≡ Unknown lo hi) (sym at) unknown;
+          }
+      by (inr hidden) = absurd (not_hidden x.edge.instr f.site s x.inside hidden)
 
   ended : (p : ℕ) (s : Stored) (end : Option Failure) → Reaches g p s → EndsAt g p s end → IsToldEnd g states end
   ended p s None h x = tt
@@ -59,8 +104,10 @@ module _ (g : GraphOf) (states : List Stated) (made : IsGraph g) (t : AreTrueOf 
       let all = reached 0 x.first x.others x.point x.last x.runs first in
       (subst (All (IsToldVisit g states)) (sym x.visits_are) (All-cons (IsToldVisit g states) (visit_at g 0 x.first) x.others (told 0 x.first first) all.0), ended x.point x.last end all.1 x.ends)
 
-pub true_of : (g : GraphOf) (states : List Stated) (p : Program) → IsGraph g → AreTrueOf g states → ((visits : List Visit) (end : Option Failure) → ProgramVisits p visits end → GraphVisits g visits end) → IsTrueOfProgram p g states
-true_of g states p made t forward = record {
-  visits = λ visits end x. (of_graph g states made t visits end (forward visits end x)).0;
-  faults = λ visits end x. (of_graph g states made t visits end (forward visits end x)).1;
+pub true_of : (g : GraphOf) (states : List Stated) (p : Program) → IsGraph g → AreTrueOf g states → ((v : ℕ) → SharesAccesses v (point_at g v).edges) → ((visits : List Visit) (end : Option Failure) → ProgramVisits p visits end → GraphVisits g visits end) → IsTrueOfProgram p g states
+true_of g states p made t share forward = record {
+  runs = forward;
+  points = t;
+  visits = λ visits end x. (of_graph g states made t share visits end (forward visits end x)).0;
+  faults = λ visits end x. (of_graph g states made t share visits end (forward visits end x)).1;
 }

@@ -1,18 +1,22 @@
 // Laws of reports, over runs of C programs.
 
-ghost use Rattle.pk_true.specs.ToldOfPrograms.{ToldWhereFollowed};
+ghost use Rattle.pk_true.specs.ToldOfPrograms.{ReportsAreTrueOfPrograms};
 
+use pk_followed::programs_are_followed;
 use pk_marked::units_are_marked;
-use pk_runs::answers_are_true;
+use pk_one_way::points_share_accesses;
+use pk_runs::reports_are_true;
 use pk_told::graphs_are_well_made;
 use pk_welltyped_texts::texts_are_well_typed;
 
-/// The report on a text holds each visit of each run of the program, and tells of each fault, where graphs follow their programs.
-pub fn followed_programs_are_told()
-    ensures { ToldWhereFollowed }
+/// What is told of a text's graph holds each visit of each run of the program, and each fault has a line that says unknown.
+pub fn reports_are_true_of_programs()
+    ensures { ReportsAreTrueOfPrograms }
 {
     texts_are_well_typed();
     units_are_marked();
     graphs_are_well_made();
-    answers_are_true();
+    reports_are_true();
+    programs_are_followed();
+    points_share_accesses();
 }

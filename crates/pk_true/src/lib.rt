@@ -1,6 +1,6 @@
-//! What is told of a text is true of every run of the program that it is, where its graph follows it.
+//! What is told of a text is true of every run of the program that it is.
 #![tactic(auto)]
 
 mod laws;
 
-pub use laws::followed_programs_are_told;
+pub use laws::reports_are_true_of_programs;

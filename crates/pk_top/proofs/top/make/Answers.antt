@@ -3,6 +3,7 @@ use Rattle.pk_told.specs.Answers.{IsShort}
 use Rattle.pk_top.specs.Headline.{IsUntold}
 use Rattle.pk_told.proofs.Answering.{not_taken}
 use Rattle.pk_top.proofs.Replies.{handed_on, if_ok, if_err, told_so, textless_so, stopped_so, no_source}
+use Rattle.pk_top.proofs.Truthful.{told_if_ok}
 use Rattle.pk_top.proofs.top.make.Goals as goal
 
 pub returns-in_err-text-clause-untold : goal.returns-in_err-text-clause-untold
@@ -31,3 +32,6 @@ returns-clause-refused g c = λ refused. absurd (not_taken (map string_bytes c.a
 
 pub returns-clause-unread : goal.returns-clause-unread
 returns-clause-unread g c = λ none. c.in_ok-text.ensures.unread (no_source (map string_bytes c.args.words.now) c.in_ok-command.command c.in_ok-command.ensures.asked none)
+
+pub returns-clause-range : goal.returns-clause-range
+returns-clause-range g c = told_if_ok c.told.result (c.in_ok-command.command, c.in_ok-command.ensures.asked, c.in_ok-command.ensures.range)

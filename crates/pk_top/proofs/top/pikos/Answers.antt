@@ -1,5 +1,6 @@
 use Rattle.std.proofs.Common.{map, string_bytes, ap, Err}
 use Rattle.pk_top.proofs.Replies.{ended_so, complete_so}
+use Rattle.pk_top.proofs.Truthful.{no_success, truthful}
 use Rattle.pk_top.proofs.top.pikos.Goals as goal
 
 pub returns-in-Err-clause-answer : goal.returns-in-Err-clause-answer
@@ -18,3 +19,14 @@ returns-clause-answer g c = λ text about. record {
   fewer = rw c.deref.ensures.value at c.in-Err-write_all.ensures.part;
   written = rw c.deref.ensures.value at c.in-Err-write_all.ensures.sent;
 }
+
+pub returns-in-Err-clause-truth : goal.returns-in-Err-clause-truth
+returns-in-Err-clause-truth g c = λ text about unknown is. absurd (no_success c.in-Err.status unknown c.in-Err.ensures.stop is)
+
+pub returns-clause-truth : goal.returns-clause-truth
+returns-clause-truth g c = λ text about unknown is. absurd (cc)
+
+pub returns-in-Ok-write_all-clause-truth : goal.returns-in-Ok-write_all-clause-truth
+returns-in-Ok-write_all-clause-truth g c = λ text about unknown is.
+    truthful c.reports_are_true_of_programs.ensures (map string_bytes c.args.words.now) text c.in-Ok.made.1 unknown c.in-Ok.made.0.items c.deref.result.now (g.K.Sink.written c.args.out.now) (g.K.Sink.written c.write_all.new.out)
+    is c.in-Ok.ensures.range (c.in-Ok.ensures.made text about) c.deref.ensures.value c.in-Ok-write_all.ensures.all

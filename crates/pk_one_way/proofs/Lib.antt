@@ -1,0 +1,17 @@
+mod Ways
+mod Adding
+mod Spans
+mod Goes
+mod Rows
+mod Expressions
+mod Loops
+mod Declarations
+mod MarkPoints
+mod Statements
+mod Parts
+mod Regions
+mod Programs
+mod Renamed
+mod Numbers
+mod Graphs
+mod Shared

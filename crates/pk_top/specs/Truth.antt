@@ -1,0 +1,28 @@
+-- At a success what is told is true of every run of the C program.
+use Rattle.std.specs.Prelude.{ℕ, List}
+use Rattle.std.specs.declared.option.Option.{Option}
+use Rattle.std.specs.Io.KnownBytes.{Appends}
+use Rattle.pk_command.specs.declared.asked.Command.{Command}
+use Rattle.pk_command.specs.declared.asked.Command.TheVariants.{Run, Order, Gen}
+use Rattle.pk_command.specs.Given.{AsksFor, IsInRange}
+use Rattle.pk_told.specs.Answers.{IsTold}
+use Rattle.pk_true.specs.ToldOfPrograms.{IsTrueOfProgram, program_of}
+
+-- the words ask for a command, whose numbers lie in their ranges
+abbrev pub AskInRange : List (List ℕ) → Type 0
+AskInRange words = (command : Command) × AsksFor words command × IsInRange command
+
+-- A report and a summary are true of every run of the C program that the text is; an order tells nothing of runs.
+abbrev pub IsTrueTold : (text : List ℕ) (command : Command) (unknown : ℕ) (bytes : List ℕ) → IsTold text command unknown bytes → Type 0
+IsTrueTold text (Run options) unknown bytes told = IsTrueOfProgram (program_of told.has_graph) told.graph told.report.states
+IsTrueTold text (Order options) unknown bytes told = Unit {0}
+IsTrueTold text (Gen options) unknown bytes told = IsTrueOfProgram (program_of told.has_graph) told.graph told.summary.states
+
+-- The words ask for a command, exactly the bytes of what it tells of the text were written, and that is true.
+pub record TellsTruth (words : List (List ℕ)) (text : List ℕ) (unknown : ℕ) (before after : Option (List ℕ)) : Type 0 where
+  pub command : Command
+  pub asked : AsksFor words command
+  pub bytes : List ℕ
+  pub told : IsTold text command unknown bytes
+  pub written : Appends before after bytes
+  pub holds : IsTrueTold text command unknown bytes told
