@@ -1,5 +1,5 @@
 -- The part of each path, where it stands between the first draft and the last.
-use Rattle.std.proofs.Common.{◌≡◌, ℕ, zero, suc, ◌+◌, ◌<◌, List, [], ◌∷◌, length, refl, ap, sym, subst, ◌∙◌, arith}
+use Rattle.std.proofs.Common.{◌≡◌, ℕ, zero, suc, ◌+◌, ◌<◌, List, [], ◌∷◌, length, sym, subst, ◌∙◌, arith}
 use Rattle.pk_calls.specs.declared.listings.CallPath.{CallPath}
 use Rattle.pk_calls.specs.Calls.{calls_of}
 use Rattle.pk_lower.specs.Parts as part
@@ -8,7 +8,7 @@ use Rattle.pk_ctypes.specs.declared.types.IntType.{IntType}
 use Rattle.pk_typed_draft.proofs.Places.{region_at, ResultIs, own_number, ObjectsAre}
 use Rattle.pk_typed_draft.proofs.Parts.{made_part, ends, part_step}
 use Rattle.pk_typed_draft.proofs.Plans.{World, Draft, sizes, Lasting, Plan, PathIs, place_at, part_is, part_made_is, before_part, below_part, EndsAre, Foreknown, AllTyped, begins_typed, seen_at, OnePart, one_part}
-use Rattle.pk_typed_draft.proofs.Wholes.{Paths, HaveEnds, Whole, next_plan, wholes}
+use Rattle.pk_typed_draft.proofs.Wholes.{Paths, HaveEnds, next_plan, wholes}
 
 -- Path j, the draft before its part, and what is known of that part and of what comes behind it, up to the draft g.
 pub record PartOf (W : World) (g : Draft W) (j : ℕ) : Type 1 where

@@ -22,7 +22,7 @@ use Rattle.pk_lower.specs.Parts as part
 use Rattle.pk_lower.specs.Parts.{file_variable, whole_size}
 use Rattle.pk_welltyped.specs.WellTyped as good
 use Rattle.pk_welltyped.specs.WellTyped.{IsStart, kind_in_file, length_at_start}
-use Rattle.pk_typed_draft.proofs.Places.{region_at, IsKept, In, Holds, IsMade, variable_in, AreChained}
+use Rattle.pk_typed_draft.proofs.Places.{region_at, IsKept, In, IsMade, variable_in, AreChained}
 use Rattle.pk_typed_draft.proofs.Verbs.{all_last, either}
 use Rattle.pk_typed_draft.proofs.Chains.{chained_last}
 use Rattle.pk_typed_draft.proofs.Expressions.{same_length}

@@ -26,9 +26,9 @@ use Rattle.pk_typed_draft.proofs.Places.{D, Place, Has, inner_object, outer_obje
 use Rattle.pk_typed_draft.proofs.Verbs.{with_objects, within, typed_standing, typed_placed, object_step, result_step, fresh_step}
 use Rattle.pk_typed_draft.proofs.Trees.{constant_is}
 use Rattle.pk_typed_draft.proofs.Rows.{Works, idle, seen, type_is, set_is, inner_start, then_emit}
-use Rattle.pk_typed_draft.proofs.Expressions.{CallsAre, around, local_length}
+use Rattle.pk_typed_draft.proofs.Expressions.{CallsAre, around}
 use Rattle.pk_typed_draft.proofs.Chains.{chain, run, use_it, given, on_step, go_step, named_step}
-use Rattle.pk_typed_draft.proofs.Declarations.{more, local_type}
+use Rattle.pk_typed_draft.proofs.Declarations.{more}
 use Rattle.pk_typed_draft.proofs.Statements.{ExitsAre, items, result_there}
 
 -- ---- parameters

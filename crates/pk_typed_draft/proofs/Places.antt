@@ -1,5 +1,5 @@
 -- A part of a draft that is made while what becomes of all variables is known: what holds of the draft before and after a step.
-use Rattle.std.proofs.Common.{◌≡◌, ℕ, zero, ◌+◌, ◌<◌, ◌≤◌, ◌⊎◌, inl, inr, List, [], ◌∷◌, Option, Some, None, length, ap, sym, subst, ◌∙◌, arith, slice_index_or, Bool, not}
+use Rattle.std.proofs.Common.{◌≡◌, ℕ, ◌+◌, ◌<◌, ◌≤◌, ◌⊎◌, inl, inr, List, [], ◌∷◌, Option, Some, None, length, ap, sym, subst, ◌∙◌, arith, slice_index_or, not}
 use Rattle.std.specs.Prelude.{All, slice_get}
 use Rattle.std.specs.Option.{option_and_then}
 use Rattle.pk_ctypes.specs.declared.types.IntType.{IntType}

@@ -1,5 +1,5 @@
 -- The verbs of a draft as steps.
-use Rattle.std.proofs.Common.{◌≡◌, ◌≢◌, ℕ, ◌+◌, zero, suc, ◌<◌, ◌≤◌, ◌⊎◌, inl, inr, List, [], ◌∷◌, ◌++◌, Option, Some, None, length, refl, ap, sym, subst, ◌∙◌, arith, slice_index_or, slice_set, length-set}
+use Rattle.std.proofs.Common.{◌≡◌, ◌≢◌, ℕ, ◌+◌, zero, suc, ◌<◌, ◌≤◌, ◌⊎◌, inl, inr, List, [], ◌∷◌, ◌++◌, Option, Some, None, length, refl, ap, sym, subst, ◌∙◌, arith, slice_set, length-set}
 use Rattle.std.proofs.lemmas.List.{get_or-set_same, get_or-set_other}
 use Rattle.std.proofs.lemmas.Option.{none-some, slice_get_within}
 use Rattle.std.specs.Prelude.{All, slice_get, unwrap_or}
@@ -17,7 +17,7 @@ use Rattle.pk_draft.specs.declared.drafts.Size.{Size}
 use Rattle.pk_draft.specs.Drafts.{no_region, nowhere, at, standing, placed, all_placed, fresh, inner, with_variable, with_temporary, with_object, link, emit, away, come, entered}
 use Rattle.pk_lower_row.specs.Contexts.{size_in}
 use Rattle.pk_welltyped.specs.WellTyped as good
-use Rattle.pk_typed_draft.proofs.Places.{D, Place, Has, HasIf, Promised, IsOwn, IsObjectOf, region_at, IsKept, In, Holds, variable_in, Laid, MadeIs, RegionsForeseen, ObjectsForeseen, Foreseen, EdgeIs, HasOtherWay, IsNoObject, Stage, ResultIs, own_number, ObjectsAre, Typed, Proper, Below, IsMade, PlacesAre, Before, Step, quiet, same_scopes}
+use Rattle.pk_typed_draft.proofs.Places.{D, Place, Has, HasIf, Promised, IsOwn, IsObjectOf, region_at, IsKept, In, Holds, variable_in, Laid, MadeIs, RegionsForeseen, ObjectsForeseen, EdgeIs, HasOtherWay, IsNoObject, Stage, ResultIs, own_number, ObjectsAre, Typed, Proper, Below, IsMade, PlacesAre, Before, Step, quiet, same_scopes}
 
 pub all_last : {A : Type 0} (Q : A → Type 0) (xs : List A) (x : A) → All Q xs → Q x → All Q (xs ++ x ∷ [])
 all_last Q [] x h k zero d l = k

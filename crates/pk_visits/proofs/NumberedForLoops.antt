@@ -1,5 +1,5 @@
 -- Loops `for` and switches as a whole, returns, and all statements, whose variables are renamed: the lowering makes the same of them.
-use Rattle.std.proofs.Common.{◌≡◌, ℕ, ◌+◌, List, [], ◌∷◌, length, Bool, true, false, if◌then◌else◌, refl, sym, ap, ◌∙◌, ℤ}
+use Rattle.std.proofs.Common.{◌≡◌, ℕ, ◌+◌, List, length, Bool, if◌then◌else◌, refl, ap, ◌∙◌, ℤ}
 use Rattle.std.specs.Prelude.{Option, Some, None}
 use Rattle.pk_ctypes.specs.declared.places.Pos.{Pos}
 use Rattle.pk_ctypes.specs.declared.types.IntType.{IntType}
@@ -9,17 +9,17 @@ use Rattle.pk_typed.specs.Types.{type_of}
 use Rattle.pk_lower_statement.specs.declared.statements.Exits.{Exits}
 use Rattle.pk_graph.specs.declared.trees.Site.{Site}
 use Rattle.pk_graph.specs.Trees.{Skip}
-use Rattle.pk_draft.specs.Drafts.{DraftOf, Given, at, on, in_scope, fresh, link, go, away, come}
+use Rattle.pk_draft.specs.Drafts.{DraftOf, Given, at, on, in_scope, fresh, go, away, come}
 use Rattle.pk_lower_row.specs.declared.shapes.Waiting.TheVariants.{Strong}
 use Rattle.pk_lower_row.specs.Shapes.{converted_shape}
 use Rattle.pk_lower_row.specs.Contexts.{Context, site, own_result}
 use Rattle.pk_lower_row.specs.Rows as rows
 use Rattle.pk_lower_row.specs.Rows.{Ways, Operand, operand}
-use Rattle.pk_lower_expression.specs.Expressions.{ways, performed}
+use Rattle.pk_lower_expression.specs.Expressions.{ways}
 use Rattle.pk_lower_statement.specs.Statements as statements
 use Rattle.pk_lower_statement.specs.Statements.{in_switch, case_tests, lowered, lowered_items}
 use Rattle.pk_visits.proofs.NumberedNames.{tree_by, draft_by, given_by, conversion_by, link_by, go_by, away_by, come_by, fresh_by}
-use Rattle.pk_visits.proofs.NumberedRows.{Works, Gives, WaysBy, beside, held_by}
+use Rattle.pk_visits.proofs.NumberedRows.{Works, WaysBy, beside, held_by}
 use Rattle.pk_visits.proofs.NumberedForms.{set_after_by}
 use Rattle.pk_visits.proofs.NumberedExpressions.{ways_by, performed_by}
 use Rattle.pk_visits.proofs.NumberedStatements.{declared_by, all_declared_by}

@@ -1,5 +1,5 @@
 -- Parts of paths and whole drafts whose variables are renamed: the lowering makes the same of them.
-use Rattle.std.proofs.Common.{◌≡◌, ℕ, ◌+◌, List, [], ◌∷◌, length, map, Bool, true, false, if◌then◌else◌, refl, sym, ap, ◌∙◌, pos}
+use Rattle.std.proofs.Common.{◌≡◌, ℕ, ◌+◌, List, [], ◌∷◌, length, map, Bool, true, false, if◌then◌else◌, refl, ap, ◌∙◌, pos}
 use Rattle.std.specs.Prelude.{Option, Some, None}
 use Rattle.pk_ctypes.specs.declared.types.IntType.{IntType}
 use Rattle.pk_typed.specs.Trees.{BodyTree, FunctionTree, UnitTree}
@@ -7,13 +7,12 @@ use Rattle.pk_calls.specs.declared.listings.Caller.{Caller}
 use Rattle.pk_calls.specs.declared.listings.CallPath.{CallPath}
 use Rattle.pk_calls.specs.Calls.{body_of, calls_of}
 use Rattle.pk_graph.specs.Trees.{constant, Set, Havoc, Skip}
-use Rattle.pk_graph.specs.Graphs.{VariableOf}
 use Rattle.pk_draft.specs.declared.drafts.Region.{Region}
 use Rattle.pk_draft.specs.declared.drafts.Size.{Size}
 use Rattle.pk_draft.specs.declared.drafts.Label.{Label}
-use Rattle.pk_draft.specs.Drafts.{Names, DraftOf, first_draft, region_of, begun_at, on, standing, fresh, placed, with_object, go, emit}
+use Rattle.pk_draft.specs.Drafts.{Names, DraftOf, first_draft, region_of, begun_at, on, standing, fresh, with_object, go, emit}
 use Rattle.pk_lower_row.specs.Contexts.{Context, own_result, local_at}
-use Rattle.pk_lower_statement.specs.Statements.{introduced, lowered_items}
+use Rattle.pk_lower_statement.specs.Statements.{lowered_items}
 use Rattle.pk_lower.specs.Parts as parts
 use Rattle.pk_lower.specs.Parts.{context, start_exits, body_draft, part_of, part, parts_from, program_draft, sizes_of, function_at, file_variable, whole_size}
 use Rattle.pk_visits.proofs.NumberedNames.{names_by, draft_by, go_by, emit_by, fresh_by}
