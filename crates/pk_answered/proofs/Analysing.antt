@@ -15,7 +15,7 @@ use Rattle.pk_plan.specs.declared.places.Role.TheVariants.{Exit}
 use Rattle.pk_plan.specs.Digraphs.{IsClosed}
 use Rattle.pk_plan.specs.Order.{Level, Empty, Vertex_then, Component_then, places_of}
 use Rattle.pk_plan.specs.Plans.{PlanView}
-use Rattle.pk_linear.specs.Linear.{elements_of}
+use Rattle.pk_plan.specs.Linear.{elements_of}
 use Rattle.pk_linear.specs.Texts.{order_text}
 use Rattle.pk_order.specs.Ordered.{IsOrdered, heads_of}
 use Rattle.pk_exists.specs.Digraphs.{EveryDigraphHasAnOrder}

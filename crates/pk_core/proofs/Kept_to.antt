@@ -10,7 +10,7 @@ use Rattle.pk_core.specs.declared.events.Event.{Event}
 use Rattle.pk_core.specs.States.{State}
 use Rattle.pk_core.specs.Events.{start, AllEnabled, played}
 use Rattle.pk_core.specs.Orders.{IsOrderOf}
-use Rattle.pk_core.specs.Fits.{FitsPlan}
+use Rattle.pk_iterate.specs.Fits.{FitsPlan}
 use Rattle.pk_core.specs.Promises.{runs_in, KeepsTo, EveryListKeeps}
 use Rattle.pk_core.proofs.Plan_shapes.{plan_shape, comparable, has_of}
 use Rattle.pk_core.proofs.Plays.{Agrees, every_play}

@@ -12,7 +12,7 @@ use Rattle.pk_plan.specs.Shape.{has, holds, shape_of}
 use Rattle.pk_iterate.specs.Iteration.{Task, Run, Exit, to_do, progress}
 use Rattle.pk_iterate.specs.Ending.{Ends}
 use Rattle.pk_core.specs.Orders.{IsPlaced, IsOrderOf}
-use Rattle.pk_core.specs.Fits.{FitsPlan, IsHeadOver}
+use Rattle.pk_iterate.specs.Fits.{FitsPlan, IsHeadOver}
 use Rattle.pk_core.specs.Nested.{nested_plan, nested_order, nested_system, NestedMeetsAll}
 use Rattle.pk_core.proofs.Basics.{neq}
 use Rattle.pk_core.proofs.Sequence.{drop_short}

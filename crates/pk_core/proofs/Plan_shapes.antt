@@ -8,7 +8,7 @@ use Rattle.pk_plan.specs.Shape.{has, Before, one, more, shape_of}
 use Rattle.pk_plan.proofs.PlanLemmas.{head_inside}
 use Rattle.pk_plan.proofs.Shapes.{shapes}
 use Rattle.pk_iterate.specs.Behaviour.{Behaviour}
-use Rattle.pk_core.specs.Fits.{FitsPlan, IsHeadOver}
+use Rattle.pk_iterate.specs.Fits.{FitsPlan, IsHeadOver}
 use Rattle.pk_core.proofs.Basics.{same, itself, neq, or_right, count_cons}
 use Rattle.pk_core.proofs.Moves.{Axioms, Comparable}
 

@@ -1,49 +1,17 @@
 -- A component that is gone through again.
-use Rattle.std.proofs.Common.{◌≡◌, ℕ, ◌+◌, ◌-◌, ◌<◌, ◌≤◌, ◌&&◌, List, [], ◌∷◌, ◌++◌, length, take, get_or, Bool, true, false, refl, sym, ap, subst, ◌∙◌, arith, Contains}
-use Rattle.std.proofs.Math.Dec.{leb, ltb}
-use Rattle.std.proofs.lemmas.Bool.Decides.{nat_tests}
-use Rattle.std.proofs.lemmas.List.{take_more, take_all, get_or_default}
+use Rattle.std.proofs.Common.{◌≡◌, ℕ, ◌+◌, ◌<◌, ◌≤◌, List, [], ◌∷◌, ◌++◌, length, take, get_or, refl, sym, ap, subst, ◌∙◌, arith, Contains}
+use Rattle.std.proofs.lemmas.List.{take_more, take_all}
 use Rattle.std.proofs.lemmas.List.Elements.{Contains-get_or}
 use Rattle.pk_plan.specs.declared.components.Component.{Component}
-use Rattle.pk_plan.specs.Plans.{PlanView, end_of, members_of}
+use Rattle.pk_plan.specs.Plans.{PlanView, members_of}
 use Rattle.pk_plan.specs.Axioms.{Axioms as PlanAxioms}
-use Rattle.pk_plan.specs.Shape.{component_of, exits}
-use Rattle.pk_plan.proofs.PlanLemmas.{Of, exit_at, stands_inside}
+use Rattle.pk_plan.specs.Shape.{component_of}
+use Rattle.pk_plan.proofs.PlanLemmas.{Of, stands_inside}
 use Rattle.pk_core.specs.declared.events.Status.{Status}
 use Rattle.pk_core.specs.Shown.{Standing, CoreView}
 use Rattle.pk_core.specs.Entries.{changed, with_new_status, after_run, armed, rearmed, restarted, AreKept}
 use Rattle.pk_iterate.specs.Behaviour.{Behaviour}
 use Rattle.pk_core.proofs.Changed_at.{length_changed, kept_changed}
-
--- ---- the component of an exit
-
-and_both : (s t : Bool) → (s && t) ≡ true → (s ≡ true) × (t ≡ true)
-and_both true t h = (refl, h)
-and_both false t h = absurd (cc)
-
-below_tells : (a b : ℕ) → ltb a b ≡ true → a < b
-below_tells a b h = grind (arith, nat_tests)
-
-most_tells : (a b : ℕ) → leb a b ≡ true → a ≤ b
-most_tells a b h = grind (arith, nat_tests)
-
-pub exit_range : (p : PlanView) (x : ℕ) → exits p x ≡ true → (p.points ≤ x) × (x < end_of p)
-exit_range p x h =
-    let b = and_both (leb p.points x) (ltb x (end_of p)) h in
-    (most_tells p.points x b.0, below_tells x (end_of p) b.1)
-
-pub of_exit : (p : PlanView) (x : ℕ) → exits p x ≡ true → Of p (component_of p x)
-of_exit p x h =
-    let r = exit_range p x h in
-    let in_range : x - p.points < length p.components = omega (arith, r.0, r.1) in
-    (x - p.points, in_range, get_or_default p.components (x - p.points) _ _ in_range)
-
-pub exit_is : (p : PlanView) (x : ℕ) → PlanAxioms p → (h : exits p x ≡ true) → (component_of p x).exit ≡ x
-unfolding of_exit
-exit_is p x axioms h =
-    let r = exit_range p x h in
-    let at : (component_of p x).exit ≡ p.points + (x - p.points) = exit_at p (component_of p x) axioms (of_exit p x h) in
-    omega (arith, r.0, at)
 
 -- ---- one member more
 

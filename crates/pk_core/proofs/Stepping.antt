@@ -21,7 +21,7 @@ use Rattle.pk_core.proofs.Basics.{neq, same, itself, counted_same}
 use Rattle.pk_core.proofs.Keeps.{run_else}
 use Rattle.pk_core.proofs.Plan_shapes.{has_of, of_has}
 use Rattle.pk_core.proofs.Changed_at.{stand_changed, stand_same}
-use Rattle.pk_core.proofs.Restarting.{of_exit, exit_is}
+use Rattle.pk_plan.proofs.Shapes.{of_exit, exit_is}
 
 abbrev pub with_elements : {Y C : Type 0} → CoreView Y C → List (Standing C) → CoreView Y C
 with_elements v xs = record { system = v.system; plan = v.plan; elements = xs }

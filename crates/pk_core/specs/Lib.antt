@@ -1,7 +1,6 @@
 pub mod States
 pub mod Events
 pub mod Orders
-pub mod Fits
 pub mod Promises
 pub mod Nested
 pub mod Shown

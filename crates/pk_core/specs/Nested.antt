@@ -9,7 +9,7 @@ use Rattle.pk_iterate.specs.declared.systems.Decision.TheVariants.{Stable, Again
 use Rattle.pk_iterate.specs.Behaviour.{Behaviour}
 use Rattle.pk_iterate.specs.Ending.{Ends}
 use Rattle.pk_core.specs.Orders.{IsOrderOf}
-use Rattle.pk_core.specs.Fits.{FitsPlan}
+use Rattle.pk_iterate.specs.Fits.{FitsPlan}
 
 -- 0 and 1 are points, each the head of a component, 2 is the exit of 0's, 3 that of 1's, which lies in 0's, and 4 is END
 abbrev pub nested_plan : PlanView

@@ -13,7 +13,7 @@ use Rattle.pk_core.specs.declared.events.Event.TheVariants.{Offer, Claim, Finish
 use Rattle.pk_core.specs.States.{State, cell_in, inputs_of, run_number}
 use Rattle.pk_core.specs.Events.{start, Enabled, AllEnabled, played}
 use Rattle.pk_core.specs.Orders.{IsOrderOf}
-use Rattle.pk_core.specs.Fits.{FitsPlan}
+use Rattle.pk_iterate.specs.Fits.{FitsPlan}
 
 -- how many events of a list are runs
 abbrev pub is_run : Event → Bool

@@ -12,7 +12,7 @@ ghost use Rattle.pk_core.specs.Entries.{changed, with_new_status, without_send, 
 use crate::cores::Core;
 use crate::entries::{finish, send, set_status};
 use crate::events::Status;
-use crate::restarts::{component_of, restart};
+use crate::restarts::restart;
 use pk_iterate::System;
 use std::alloc::AllocError;
 use std::sync::Arc;
@@ -55,7 +55,7 @@ impl<'a, Y: System> Core<'a, Y> {
         ensures new { self.new ≡ record self.old { elements = restarted self.old.plan (component_of self.old.plan x) (arc_value cell) self.old.elements } }
     {
         self.plan.axioms();
-        let component = component_of(self.plan, x);
+        let component = self.plan.component_of(x);
         restart(&mut self.entries, self.plan, component, cell);
     }
 }

@@ -11,7 +11,6 @@ ghost use Rattle.pk_core.specs.Steps.{CanStep, IsStep, IsAbout};
 
 use crate::entries::Entry;
 use crate::events::{Event, Status};
-use crate::restarts::is_exit;
 use crate::starts::first_entries;
 use pk_iterate::System;
 use pk_plan::Plan;
@@ -64,7 +63,7 @@ impl<'a, Y: System> Core<'a, Y> {
         match event {
             Event::Offer(e) => Ok(self.holds(e)),
             Event::Claim(e) => Ok(self.leaves_open(e)),
-            Event::Finish(e) => Ok(self.holds(e) && !is_exit(self.plan, e)),
+            Event::Finish(e) => Ok(self.holds(e) && !self.plan.is_exit(e)),
             Event::Send(u, v) => Ok(self.owes(u, v)),
             Event::Stable(x) => self.decides(x, false),
             Event::Again(x) => self.decides(x, true),

@@ -12,7 +12,6 @@ ghost use Rattle.pk_core.specs.Entries.{cells_of};
 
 use crate::cores::Core;
 use crate::entries::{is_held, is_open, shared};
-use crate::restarts::is_exit;
 use pk_iterate::{Decision, System};
 use std::alloc::AllocError;
 use std::sync::Arc;
@@ -88,7 +87,7 @@ impl<'a, Y: System> Core<'a, Y> {
         if !self.holds(x) {
             return Ok(false);
         }
-        if !is_exit(self.plan, x) {
+        if !self.plan.is_exit(x) {
             return Ok(false);
         }
         let decision = self.decision(x)?;

@@ -4,32 +4,12 @@ ghost use Rattle.std.specs.Prelude.{◌≡◌, ◌-◌, ◌^◌, ◌<◌, IsTrue
 ghost use Rattle.std.specs.Arc.{arc_value};
 ghost use Rattle.pk_core.specs.declared.entries.Entry.{Entry};
 ghost use Rattle.pk_plan.specs.Plans.{members_of};
-ghost use Rattle.pk_plan.specs.Shape.{component_of, exits};
 ghost use Rattle.pk_core.specs.Entries.{standing_of, armed, rearmed, restarted};
 
 use crate::entries::{Entry, run, set_status};
 use crate::events::Status;
 use pk_plan::{Component, Plan};
 use std::sync::Arc;
-
-/// Whether an element is the exit of a component.
-pub fn is_exit(plan: &Plan, x: u32) -> bool
-    ensures { result ≡ exits plan.now x }
-{
-    plan.axioms();
-    plan.points() <= x && x < plan.elements() - 1
-}
-
-/// The component of an exit.
-pub fn component_of(plan: &Plan, x: u32) -> &Component
-    requires { IsTrue (exits plan.now x) }
-    ensures component { result.now ≡ component_of plan.now x }
-    ensures of { Contains plan.now.components result.now }
-    ensures exit { result.now.exit ≡ x }
-{
-    plan.axioms();
-    &plan.components()[(x - plan.points()) as usize]
-}
 
 /// The status of a member of a component that is gone through again.
 fn armed(plan: &Plan, component: &Component, e: u32) -> Status

@@ -5,7 +5,7 @@ use Rattle.std.proofs.lemmas.List.Elements.{Contains-append_left, Contains-appen
 use Rattle.pk_plan.specs.declared.places.Role.TheVariants.{Exit}
 use Rattle.pk_plan.specs.declared.places.Place.{Place}
 use Rattle.pk_plan.specs.Order.{Level, Empty, Vertex_then, Component_then, places_of}
-use Rattle.pk_linear.specs.Linear.{elements_of, Item, vertex_item, component_item, items_of}
+use Rattle.pk_plan.specs.Linear.{elements_of, Item, vertex_item, component_item, items_of}
 use Rattle.pk_linear.specs.Steps.{elements_at}
 use Rattle.pk_linear.proofs.ListLemmas.{contains_none, contains_here, contains_there, contains_cases}
 

@@ -5,7 +5,7 @@ use Rattle.pk_plan.specs.Order.{Level}
 use Rattle.pk_plan.specs.Plans.{PlanView}
 use Rattle.pk_plan.specs.Axioms.{Axioms}
 use Rattle.pk_wpo.specs.Made.{IsPlanOf}
-use Rattle.pk_linear.specs.Linear.{IsLinear}
+use Rattle.pk_plan.specs.Linear.{IsLinear}
 use Rattle.pk_exists.specs.Digraphs.{EveryDigraphHasAnOrder}
 use Rattle.pk_exists.proofs.Nesting.{every_digraph_has_a_nest}
 use Rattle.pk_exists.proofs.Drawing.{every_nest_has_a_plan}

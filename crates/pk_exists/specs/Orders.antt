@@ -2,7 +2,7 @@
 use Rattle.pk_plan.specs.Order.{Level}
 use Rattle.pk_plan.specs.Plans.{PlanView}
 use Rattle.pk_plan.specs.Axioms.{Axioms}
-use Rattle.pk_linear.specs.Linear.{IsLinear}
+use Rattle.pk_plan.specs.Linear.{IsLinear}
 
 abbrev pub EveryPlanHasALinearOrder : Type 0
 EveryPlanHasALinearOrder = (p : PlanView) → Axioms p → (order : Level) × IsLinear p order

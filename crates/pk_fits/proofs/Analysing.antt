@@ -18,7 +18,7 @@ use Rattle.pk_analysis.specs.Flows.{Flow, equations_of}
 use Rattle.pk_analysis.specs.Parts.{part_in, part_at}
 use Rattle.pk_sound.proofs.Arrows_at.{origin_edge}
 use Rattle.pk_sound.proofs.Fitting.{plan_fits}
-use Rattle.pk_core.specs.Fits.{IsHeadOver}
+use Rattle.pk_iterate.specs.Fits.{IsHeadOver}
 use Rattle.pk_fits.specs.Analyses.{behaviour_in, AnalysesFit, AnalysesKeep}
 use Rattle.pk_fits.proofs.Scheduling.{every_order, as_iterated}
 

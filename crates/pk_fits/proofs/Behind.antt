@@ -3,7 +3,7 @@ use Rattle.std.proofs.Common.{◌≡◌, ◌≢◌, ℕ, zero, suc, ◌⊎◌, i
 use Rattle.std.proofs.lemmas.List.Elements.{Contains-append_left, Contains-append_right}
 use Rattle.pk_plan.specs.Order.{Level, Empty, Vertex_then, Component_then}
 use Rattle.pk_plan.specs.Shape.{has}
-use Rattle.pk_linear.specs.Linear.{elements_of}
+use Rattle.pk_plan.specs.Linear.{elements_of}
 use Rattle.pk_linear.proofs.ListLemmas.{contains_none, contains_here, contains_there, contains_cases}
 use Rattle.pk_iterate.specs.Settled.{In, Ahead}
 use Rattle.pk_sound.proofs.Ahead.{in_contains}

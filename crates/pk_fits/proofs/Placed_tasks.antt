@@ -11,7 +11,7 @@ use Rattle.pk_plan.specs.Axioms.{Axioms}
 use Rattle.pk_plan.specs.Plans.{One}
 use Rattle.pk_plan.specs.Shape.{has, component_of, exits, holds, shape_of}
 use Rattle.pk_plan.proofs.PlanLemmas.{exit_at, same_exit, stands_inside}
-use Rattle.pk_linear.specs.Linear.{elements_of, Bracket, brackets_of, IsLinear}
+use Rattle.pk_plan.specs.Linear.{elements_of, Bracket, brackets_of, IsLinear}
 use Rattle.pk_linear.proofs.ListLemmas.{contains_here, contains_there}
 use Rattle.pk_iterate.specs.Iteration.{Task, Run, Exit, to_do, element_of}
 use Rattle.pk_iterate.specs.Settled.{In, Once, IsExit}

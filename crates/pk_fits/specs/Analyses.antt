@@ -20,7 +20,7 @@ use Rattle.pk_core.specs.declared.events.Event.{Event}
 use Rattle.pk_core.specs.declared.events.Status.TheVariants.{Done}
 use Rattle.pk_core.specs.States.{State}
 use Rattle.pk_core.specs.Events.{start, AllEnabled, played}
-use Rattle.pk_core.specs.Fits.{FitsPlan}
+use Rattle.pk_iterate.specs.Fits.{FitsPlan}
 use Rattle.pk_core.specs.Promises.{KeepsTo}
 use Rattle.pk_fits.specs.Systems.{IsAsIterated}
 

@@ -5,7 +5,7 @@ use Rattle.pk_plan.specs.Order.{Level}
 use Rattle.pk_plan.specs.Plans.{PlanView}
 use Rattle.pk_plan.specs.Axioms.{Axioms}
 use Rattle.pk_plan.specs.Shape.{shape_of}
-use Rattle.pk_linear.specs.Linear.{IsLinear}
+use Rattle.pk_plan.specs.Linear.{IsLinear}
 use Rattle.pk_order.specs.Ordered.{IsOrdered}
 use Rattle.pk_core.specs.Orders.{IsOrderOf}
 

@@ -12,7 +12,7 @@ use Rattle.pk_core.specs.declared.events.Event.{Event}
 use Rattle.pk_core.specs.declared.events.Status.TheVariants.{Done}
 use Rattle.pk_core.specs.States.{State, cell_in, run_number}
 use Rattle.pk_core.specs.Events.{start, AllEnabled, played}
-use Rattle.pk_core.specs.Fits.{FitsPlan}
+use Rattle.pk_iterate.specs.Fits.{FitsPlan}
 use Rattle.pk_core.specs.Promises.{runs_in, KeepsTo}
 
 -- Over the plan of a digraph, where the recursion over the digraph's order ends: each state that a list of events reaches keeps to

@@ -1,4 +1,5 @@
 pub mod Behaviour
+pub mod Fits
 pub mod Iteration
 pub mod Recursion
 pub mod Runs

@@ -6,7 +6,7 @@ use Rattle.pk_plan.specs.Order.{Level, Empty, Vertex_then, Component_then}
 use Rattle.pk_plan.specs.Plans.{PlanView, Inside}
 use Rattle.pk_plan.specs.Axioms.{Axioms}
 use Rattle.pk_plan.proofs.PlanLemmas.{Of, same_head}
-use Rattle.pk_linear.specs.Linear.{elements_of, Item, vertex_item, component_item, items_of, Bracket, brackets_of, IsNext, TakesLeastReady, Encloses, IsLinear}
+use Rattle.pk_plan.specs.Linear.{elements_of, Item, vertex_item, component_item, items_of, Bracket, brackets_of, IsNext, TakesLeastReady, Encloses, IsLinear}
 use Rattle.pk_linear.proofs.ListLemmas.{contains_none, contains_here, contains_there, contains_cases}
 use Rattle.pk_linear.proofs.LevelLemmas.{in_rest, in_exit, in_more, component_cases, item_cases, item_rest, item_exit}
 

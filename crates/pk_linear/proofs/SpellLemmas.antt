@@ -12,7 +12,7 @@ use Rattle.pk_plan.specs.Plans.{PlanView, Constrains, place_of, Inside}
 use Rattle.pk_plan.specs.Axioms.{Axioms}
 use Rattle.pk_plan.proofs.PlanLemmas.{Of, first_at, end_at, first_before_end, end_within, exit_within, exit_at, head_within, head_is_point, head_inside, inside_by_place, stands_inside, same_place, same_head, same_exit, constrains_from}
 use Rattle.pk_linear.specs.Waits.{AreLasts, WaitsFor}
-use Rattle.pk_linear.specs.Linear.{elements_of, Item, vertex_item, component_item, items_of, Bracket, brackets_of, IsReady, IsNext, TakesLeastReady, Encloses, IsLinear, GoesForward}
+use Rattle.pk_plan.specs.Linear.{elements_of, Item, vertex_item, component_item, items_of, Bracket, brackets_of, IsReady, IsNext, TakesLeastReady, Encloses, IsLinear, GoesForward}
 use Rattle.pk_linear.specs.Steps.{elements_at, Stands, IsOpen, IsFree, Follows, HasRole, IsStep, AreSteps, Start, Then}
 use Rattle.pk_linear.proofs.ListLemmas.{contains_none, contains_here, contains_there, contains_cases, is_or_is_not, push_split, push_append, nil_of_append, nil_is_not, pairs_push}
 use Rattle.pk_linear.proofs.LevelLemmas.{elements_at-places_of, in_rest, in_exit, in_more, component_cases, item_cases, item_rest, item_exit, item_elements, item_number}

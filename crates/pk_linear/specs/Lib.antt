@@ -1,4 +1,3 @@
-pub mod Linear
 pub mod Waits
 pub mod Steps
 pub mod Progress

@@ -1,6 +1,6 @@
 // What the definition of the linear order comes to.
 
-ghost use Rattle.pk_linear.specs.Linear.{LinearIsDetermined};
+ghost use Rattle.pk_plan.specs.Linear.{LinearIsDetermined};
 
 use pk_plan::Plan;
 

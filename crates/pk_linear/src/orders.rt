@@ -1,7 +1,7 @@
 // The linear order of a plan.
 
 ghost use Rattle.std.specs.Prelude.{◌≡◌, IfOk};
-ghost use Rattle.pk_linear.specs.Linear.{IsLinear, GoesForward};
+ghost use Rattle.pk_plan.specs.Linear.{IsLinear, GoesForward};
 
 use crate::progress::Progress;
 use pk_plan::{Order, Plan};

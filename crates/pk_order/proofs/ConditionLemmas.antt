@@ -9,7 +9,7 @@ use Rattle.pk_plan.specs.Plans.{PlanView, Constrains, Precedes, One, More, Insid
 use Rattle.pk_plan.specs.Axioms.{Axioms}
 use Rattle.pk_plan.proofs.PlanLemmas.{Of, acyclic, precedes_trans, stands_inside}
 use Rattle.pk_wpo.specs.Made.{Fits}
-use Rattle.pk_linear.specs.Linear.{elements_of, IsLinear, GoesForward}
+use Rattle.pk_plan.specs.Linear.{elements_of, IsLinear, GoesForward}
 use Rattle.pk_linear.proofs.ListLemmas.{split_at}
 use Rattle.pk_order.specs.Condition.{StandsBefore, IsHeadAround, IsWeakTopologicalOrder}
 

@@ -4,7 +4,7 @@ use Rattle.pk_plan.specs.declared.components.Component.{Component}
 use Rattle.pk_plan.specs.Order.{Level, Empty, Vertex_then, Component_then}
 use Rattle.pk_plan.specs.Plans.{PlanView, Constrains, Inside}
 use Rattle.pk_plan.proofs.PlanLemmas.{Of}
-use Rattle.pk_linear.specs.Linear.{elements_of, Item, vertex_item, component_item, IsNext, TakesLeastReady, Bracket, Encloses, IsLinear}
+use Rattle.pk_plan.specs.Linear.{elements_of, Item, vertex_item, component_item, IsNext, TakesLeastReady, Bracket, Encloses, IsLinear}
 
 -- a component of one plan has the head, the exit and the members of one of the other plan
 pub record IsSame (p q : PlanView) (c d : Component) : Type 0 where

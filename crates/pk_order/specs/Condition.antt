@@ -2,7 +2,7 @@
 use Rattle.std.specs.Prelude.{◌≡◌, ℕ, ◌⊎◌, List, ◌∷◌, ◌++◌, Contains}
 use Rattle.pk_plan.specs.Digraphs.{Edge}
 use Rattle.pk_plan.specs.Order.{Level}
-use Rattle.pk_linear.specs.Linear.{elements_of, Bracket, brackets_of}
+use Rattle.pk_plan.specs.Linear.{elements_of, Bracket, brackets_of}
 
 -- a stands to the left of b
 pub record StandsBefore (order : Level) (a b : ℕ) : Type 0 where

@@ -7,7 +7,7 @@ use Rattle.pk_plan.specs.Order.{Level}
 use Rattle.pk_plan.specs.Plans.{PlanView}
 use Rattle.pk_plan.specs.Axioms.{Axioms}
 use Rattle.pk_wpo.specs.Made.{IsPlanOf}
-use Rattle.pk_linear.specs.Linear.{IsLinear}
+use Rattle.pk_plan.specs.Linear.{IsLinear}
 
 -- the plan of the digraph's nest, and the plan's linear order
 pub record IsOrdered (g : List (List ℕ)) (plan : PlanView) (order : Level) : Type 0 where

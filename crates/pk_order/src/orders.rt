@@ -2,7 +2,7 @@
 
 ghost use Rattle.std.specs.Prelude.{◌≡◌, ◌+◌, ◌<◌, ◌^◌, All, length, IfOk};
 ghost use Rattle.pk_wpo.specs.Made.{Fits};
-ghost use Rattle.pk_linear.specs.Linear.{GoesForward};
+ghost use Rattle.pk_plan.specs.Linear.{GoesForward};
 ghost use Rattle.pk_order.specs.Condition.{IsWeakTopologicalOrder};
 ghost use Rattle.pk_order.specs.Ordered.{IsOrdered, OrderIsDetermined, heads_of};
 

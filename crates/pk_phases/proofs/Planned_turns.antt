@@ -7,7 +7,7 @@ use Rattle.pk_plan.specs.declared.places.Role.TheVariants.{Exit as AtExit}
 use Rattle.pk_plan.specs.declared.places.Place.{Place}
 use Rattle.pk_plan.specs.Order.{Level, Empty, Vertex_then, Component_then, places_of}
 use Rattle.pk_plan.specs.Plans.{PlanView}
-use Rattle.pk_linear.specs.Linear.{elements_of, Bracket, brackets_of, IsLinear}
+use Rattle.pk_plan.specs.Linear.{elements_of, Bracket, brackets_of, IsLinear}
 use Rattle.pk_iterate.specs.Settled.{Once}
 use Rattle.pk_iterate.specs.BoundedTurns.{HasComponent}
 use Rattle.pk_iterate.proofs.Once_each.{different_once}

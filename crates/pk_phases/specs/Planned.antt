@@ -3,7 +3,7 @@ use Rattle.std.specs.Prelude.{◌≡◌, ℕ, Contains}
 use Rattle.pk_plan.specs.declared.components.Component.{Component}
 use Rattle.pk_plan.specs.Order.{Level}
 use Rattle.pk_plan.specs.Plans.{PlanView}
-use Rattle.pk_linear.specs.Linear.{IsLinear}
+use Rattle.pk_plan.specs.Linear.{IsLinear}
 use Rattle.pk_iterate.specs.BoundedTurns.{EndsWithin}
 use Rattle.pk_phases.specs.declared.equations.Part.TheVariants.{HeadOf, ExitOf}
 use Rattle.pk_phases.specs.Values.{IsRank}

@@ -61,7 +61,7 @@ most_tells a b h = grind (arith, nat_tests)
 tells_most : (a b : ℕ) → a ≤ b → leb a b ≡ true
 tells_most a b h = grind (arith, nat_tests)
 
-of_exit : (p : PlanView) (x : ℕ) → exits p x ≡ true → Of p (component_of p x)
+pub of_exit : (p : PlanView) (x : ℕ) → exits p x ≡ true → Of p (component_of p x)
 of_exit p x h =
     let b = and_both (leb p.points x) (ltb x (end_of p)) h in
     let from = most_tells p.points x b.0 in
@@ -69,7 +69,7 @@ of_exit p x h =
     let in_range : x - p.points < length p.components = omega (arith, from, before) in
     (x - p.points, in_range, get_or_default p.components (x - p.points) _ _ in_range)
 
-exit_is : (p : PlanView) (x : ℕ) → Axioms p → (h : exits p x ≡ true) → (component_of p x).exit ≡ x
+pub exit_is : (p : PlanView) (x : ℕ) → Axioms p → (h : exits p x ≡ true) → (component_of p x).exit ≡ x
 unfolding of_exit
 exit_is p x axioms h =
     let b = and_both (leb p.points x) (ltb x (end_of p)) h in

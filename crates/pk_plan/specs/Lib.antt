@@ -8,3 +8,4 @@ pub mod Nests
 pub mod NestPlaces
 pub mod NestCode
 pub mod Shape
+pub mod Linear

@@ -3,6 +3,7 @@
 ghost use Rattle.std.specs.Prelude.{◌≡◌, ◌<◌, ◌≤◌, ◌^◌, ◌↔◌, ◌&&◌, nat_le, nat_lt, IsTrue, Contains};
 ghost use Rattle.pk_plan.specs.Plans.{plan_of, predecessors_of, successors_of, place_of, members_of, Inside, is_inside, full_count, inner_count};
 ghost use Rattle.pk_plan.specs.Axioms.{Axioms};
+ghost use Rattle.pk_plan.specs.Shape.{component_of, exits};
 
 use crate::components::Component;
 use crate::digraphs::Digraph;
@@ -116,6 +117,25 @@ impl Plan {
         ensures { result.now ≡ self.now.components }
     {
         &self.components
+    }
+
+    /// Whether an element is the exit of a component.
+    pub fn is_exit(&self, x: u32) -> bool
+        ensures { result ≡ exits self.now x }
+    {
+        self.axioms();
+        self.points <= x && x < self.elements - 1
+    }
+
+    /// The component of an exit.
+    pub fn component_of(&self, x: u32) -> &Component
+        requires { IsTrue (exits self.now x) }
+        ensures component { result.now ≡ component_of self.now x }
+        ensures of { Contains self.now.components result.now }
+        ensures exit { result.now.exit ≡ x }
+    {
+        self.axioms();
+        &self.components()[(x - self.points()) as usize]
     }
 
     /// The members of a component, its head first.

@@ -10,7 +10,7 @@ use Rattle.pk_plan.specs.Order.{Level, Empty, Vertex_then, Component_then, place
 use Rattle.pk_plan.specs.Plans.{PlanView, Constrains, Precedes, One, More, Inside}
 use Rattle.pk_plan.specs.Axioms.{Axioms}
 use Rattle.pk_plan.proofs.PlanLemmas.{acyclic, constrains_from}
-use Rattle.pk_linear.specs.Linear.{elements_of, component_item, Bracket, brackets_of, Encloses, TakesLeastReady, IsLinear}
+use Rattle.pk_plan.specs.Linear.{elements_of, component_item, Bracket, brackets_of, Encloses, TakesLeastReady, IsLinear}
 use Rattle.pk_linear.proofs.ListLemmas.{contains_none, contains_here, contains_there, contains_cases}
 use Rattle.pk_iterate.specs.Settled.{In, Once, Ahead}
 use Rattle.pk_iterate.specs.BoundedTurns.{HasComponent}

@@ -9,7 +9,7 @@ use Rattle.pk_plan.specs.Plans.{PlanView}
 use Rattle.pk_plan.specs.Axioms.{Axioms}
 use Rattle.pk_plan.proofs.PlanLemmas.{head_is_point, head_within, exit_at, exit_within, same_head, same_exit}
 use Rattle.pk_wpo.specs.Made.{Fits}
-use Rattle.pk_linear.specs.Linear.{IsLinear}
+use Rattle.pk_plan.specs.Linear.{IsLinear}
 use Rattle.pk_linear.proofs.ListLemmas.{contains_none, contains_here, contains_there, contains_cases}
 use Rattle.pk_iterate.specs.Settled.{In, Ahead}
 use Rattle.pk_iterate.specs.BoundedTurns.{HasComponent}

@@ -8,7 +8,7 @@ use Rattle.pk_plan.specs.declared.places.Place.{Place}
 use Rattle.pk_plan.specs.Plans.{PlanView}
 use Rattle.pk_plan.specs.Axioms.{Axioms}
 use Rattle.pk_plan.proofs.Levels.{IsBracketed-from_level, level_of-from_level}
-use Rattle.pk_linear.specs.Linear.{IsLinear, GoesForward}
+use Rattle.pk_plan.specs.Linear.{IsLinear, GoesForward}
 use Rattle.pk_linear.specs.Steps.{elements_at, Stands}
 use Rattle.pk_linear.specs.Progress.{IsKnown}
 use Rattle.pk_linear.specs.declared.progress.Progress.{Progress}

@@ -1,8 +1,0 @@
-use Rattle.pk_core.proofs.Restarting.{of_exit, exit_is}
-use Rattle.pk_core.proofs.restarts.component_of.Goals as goal
-
-pub returns-clause-of : goal.returns-clause-of
-returns-clause-of c = rw (c.components.ensures, c.points.ensures) (of_exit c.args.plan.now c.args.x c.requires)
-
-pub returns-clause-exit : goal.returns-clause-exit
-returns-clause-exit c = rw (c.components.ensures, c.points.ensures) (exit_is c.args.plan.now c.args.x c.axioms.ensures.axioms c.requires)
