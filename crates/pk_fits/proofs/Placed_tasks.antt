@@ -20,7 +20,7 @@ use Rattle.pk_sound.proofs.Ahead.{order_once, has_component, precedes_ahead}
 use Rattle.pk_core.specs.Orders.{elements_left, IsTask, IsPlaced, IsOrderOf}
 use Rattle.pk_core.proofs.Basics.{not_true}
 use Rattle.pk_core.proofs.Plan_shapes.{has_of, of_has}
-use Rattle.pk_core.proofs.Restarting.{of_exit, exit_is}
+use Rattle.pk_plan.proofs.Shapes.{of_exit, exit_is}
 use Rattle.pk_core.proofs.Stepping.{holds_is, members_are}
 use Rattle.pk_fits.specs.Orders.{LinearOrdersAreOrders}
 use Rattle.pk_fits.proofs.Behind.{Apart, apart_by, ahead_after, gone, once_at}
