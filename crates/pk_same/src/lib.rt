@@ -1,0 +1,2 @@
+//! A program and its graph have the same visits.
+#![tactic(auto)]
