@@ -66,7 +66,8 @@ stands_first g s q at fits =
           (
             end,
             record { draft = q.draft; objects = q.objects; mark = q.mark; fits = q.fits; calm = tt; stage = q.stage; marking = q.marking; settled = q.settled; ended = end },
-            refl,
+            (refl, q.leaves),
+            q.bare,
           ),
         ),
       );
