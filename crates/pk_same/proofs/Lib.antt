@@ -1,3 +1,5 @@
 pub mod Weights
 pub mod Falling
 pub mod Pausing
+pub mod Edges
+pub mod Backward
