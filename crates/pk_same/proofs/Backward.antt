@@ -61,7 +61,7 @@ kept g law ch = record {
   enters = λ c j w k e. enters_behind g c j w k.0 k.1 k.2 e;
 }
 
-pauses_there : (g : Whole) → IsLaw g → (ch : Numbers) (c : Config) (p : ℕ) (m : Memory) → StandsAt g c p m → Pauses g.program ch c
+pub pauses_there : (g : Whole) → IsLaw g → (ch : Numbers) (c : Config) (p : ℕ) (m : Memory) → StandsAt g c p m → Pauses g.program ch c
 pauses_there g law ch c p m z = pausing g.program ch (length g.program.paths) (Stands g) (kept g law ch) c (p, m, z)
 
 -- ---- what runs come to
@@ -105,13 +105,13 @@ comes_behind : {f : Naming} {M : Slot → Type 0} {g : Whole} {d : DraftOf ℕ} 
 comes_behind ch c e vs is (inl r) = inl (record { last = r.last; runs = runs.steps ch is r.runs; point = r.point; memory = r.memory; number = r.number; found = r.found; mirrors = r.mirrors; stands = r.stands })
 comes_behind ch c e vs is (inr r) = inr (record { last = r.last; runs = runs.steps ch is r.runs; chosen = r.chosen; failure = r.failure; fails = r.fails; behind = r.behind })
 
-unseen : (p : Program) (e : Config) (vs : List Visit) → e.is_visit ≡ false → runs.visits_if p e vs ≡ vs
+pub unseen : (p : Program) (e : Config) (vs : List Visit) → e.is_visit ≡ false → runs.visits_if p e vs ≡ vs
 unseen p e vs h = ap (λ b. if b then visit_of p e ∷ vs else vs) h
 
 -- ---- edges of a point, over slots and by number
 
 -- an edge over slots from the point is one of the draft's
-slot_edge : (f : Naming) (M : Slot → Type 0) (g : Whole) (d : DraftOf ℕ) (p q : ℕ) (i : Instr) (x : EdgeFrom ℕ) → IsSetting f M g d → Among (edge p i q) g.edges → Among x d.edges → x.from ≡ p → (x ≡ renamed_edge f (edge p i q)) ⊎ AreOpposite x (renamed_edge f (edge p i q))
+pub slot_edge : (f : Naming) (M : Slot → Type 0) (g : Whole) (d : DraftOf ℕ) (p q : ℕ) (i : Instr) (x : EdgeFrom ℕ) → IsSetting f M g d → Among (edge p i q) g.edges → Among x d.edges → x.from ≡ p → (x ≡ renamed_edge f (edge p i q)) ⊎ AreOpposite x (renamed_edge f (edge p i q))
 slot_edge f M g d p q i x h a b e = one_way_at d p x (renamed_edge f (edge p i q)) (h.ways p) b e (h.copy.edges (edge p i q) a) refl
 
 -- where both lead on, they are one, to one store
@@ -132,7 +132,7 @@ not_failing f M g d ch p q i m s t y x h a b e there mirrors fails goes =
     goes_or_fails ch s t y x (renamed_edge f (edge p i q)) (slot_edge f M g d p q i x h a b e) goes (faults_same f M (length d.made) m s ch i y h.copy.naming (h.copy.over (edge p i q) a) there mirrors fails)
 
 -- a failure needs no numbers
-fails_always : (ch us : Numbers) (i : Instr) (m : Memory) (x : Failure) → effect memory ch i m ≡ steps.Faulted x → effect memory us i m ≡ steps.Faulted x
+pub fails_always : (ch us : Numbers) (i : Instr) (m : Memory) (x : Failure) → effect memory ch i m ≡ steps.Faulted x → effect memory us i m ≡ steps.Faulted x
 fails_always ch us Skip m x e = absurd (cc e)
 fails_always ch us (Set y v) m x e = e
 fails_always ch us (Havoc y t n) m x e = absurd (by (are_any t n ch) e) where
@@ -146,7 +146,7 @@ fails_always ch us (Guard v b) m x e = e
 fails_always ch us (Check s v) m x e = e
 
 -- numbers that are no choice
-waits : (ch : Numbers) (x : ℕ) (t : IntType) (n : ℕ) (s : Stored) → are_any t n ch ≡ false → effect storing ch (Havoc x t n) s ≡ steps.Wants t n
+pub waits : (ch : Numbers) (x : ℕ) (t : IntType) (n : ℕ) (s : Stored) → are_any t n ch ≡ false → effect storing ch (Havoc x t n) s ≡ steps.Wants t n
 waits ch x t n s e = ap (λ b. if b then steps.To (storing.with_numbers x ch s) else steps.Wants t n) e
 
 -- ---- one step of the graph

@@ -3,3 +3,4 @@ pub mod Falling
 pub mod Pausing
 pub mod Edges
 pub mod Backward
+pub mod Failing
