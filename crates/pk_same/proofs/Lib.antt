@@ -4,3 +4,4 @@ pub mod Pausing
 pub mod Edges
 pub mod Backward
 pub mod Failing
+pub mod Beginning

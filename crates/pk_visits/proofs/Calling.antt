@@ -37,7 +37,7 @@ use Rattle.pk_visits.proofs.Doom.{calm_plain}
 
 -- ---- functions by their numbers
 
-parameters_same : (fs : List FunctionTree) (f : ℕ) → unwrap_or (option_map (λ (g : FunctionTree). g.parameters) (slice_get fs f)) [] ≡ (slice_index_or fs f program.no_function).parameters
+pub parameters_same : (fs : List FunctionTree) (f : ℕ) → unwrap_or (option_map (λ (g : FunctionTree). g.parameters) (slice_get fs f)) [] ≡ (slice_index_or fs f program.no_function).parameters
 parameters_same [] f = refl
 parameters_same (g ∷ fs) zero = refl
 parameters_same (g ∷ fs) (suc f) = parameters_same fs f
