@@ -1,10 +1,9 @@
 -- Each run of the numbered graph is that of a run of the program that it follows.
-use Rattle.std.proofs.Common.{◌≡◌, ℕ, ◌+◌, ◌<◌, ◌⊎◌, List, [], ◌∷◌, length, Bool, true, false, refl, sym, ap, ◌∙◌, subst, inl, inr, if◌then◌else◌}
-use Rattle.std.specs.Prelude.{Option, Some, None}
+use Rattle.std.proofs.Common.{◌≡◌, ℕ, ◌<◌, ◌⊎◌, List, [], ◌∷◌, length, Bool, true, false, refl, sym, ap, ◌∙◌, subst, inl, inr, if◌then◌else◌}
 use Rattle.std.specs.List.{Contains}
 use Rattle.pk_ctypes.specs.declared.types.IntType.{IntType}
-use Rattle.pk_graph.specs.Trees.{Skip, Set, Havoc, Clear, Load, Store, Guard, Check, InstrOf}
-use Rattle.pk_graph.specs.Graphs.{PathOf, EdgeOf, GraphOf, point_at}
+use Rattle.pk_graph.specs.Trees.{Skip, Set, Havoc, Clear, Load, Store, Guard, Check}
+use Rattle.pk_graph.specs.Graphs.{PathOf, EdgeOf, point_at}
 use Rattle.pk_graph.specs.Steps as steps
 use Rattle.pk_graph.specs.Steps.{Numbers, Failure, After, effect, with_value, tree_value, are_any}
 use Rattle.pk_graph.specs.Stores.{Stored, storing}
@@ -19,19 +18,18 @@ use Rattle.pk_meaning.specs.Runs.{Visit, visit_of, Runs}
 use Rattle.pk_meaning.specs.Runs as runs
 use Rattle.pk_visits.specs.GraphVisits as graph
 use Rattle.pk_visits.specs.GraphVisits.{GraphRuns}
-use Rattle.pk_visits.specs.SameVisits.{FailsAt}
 use Rattle.pk_visits.proofs.Slots.{Slot, own, Instr, edge, Memory, memory, with_memory, Among, region_at}
-use Rattle.pk_visits.proofs.Stands.{Whole, ShowsAt, Laid, StandsAt}
-use Rattle.pk_visits.proofs.Follow.{Answers, Follows, Moves, Doomed, now, later, config, set_does}
+use Rattle.pk_visits.proofs.Stands.{Whole, Laid, StandsAt}
+use Rattle.pk_visits.proofs.Follow.{Answers, Follows, Doomed, now, later, config, set_does}
 use Rattle.pk_visits.proofs.Journeys.{IsLaw}
 use Rattle.pk_visits.proofs.NumberedEdges.{IsFound, number_of, end_found}
-use Rattle.pk_visits.proofs.NumberedStores.{Naming, IsInstrOver, renamed_instr, AreThere, Mirrors, goes_same, faults_same}
+use Rattle.pk_visits.proofs.NumberedStores.{Naming, AreThere, Mirrors, goes_same, faults_same}
 use Rattle.pk_visits.proofs.NumberedCopies.{renamed_edge, IsCopy, visits_same}
 use Rattle.pk_visits.proofs.NumberedRuns.{HaveKinds, there_written}
 use Rattle.pk_visits.proofs.NumberedVisits.{stands_there}
 use Rattle.pk_one_way.proofs.Ways.{from, IsWay}
 use Rattle.pk_same.proofs.Pausing.{Pauses, pauses, IsKept, pausing}
-use Rattle.pk_same.proofs.Edges.{IsMadeFrom, edge_back, AreOpposite, one_way_at, no_way, both_go, goes_or_fails, both_fail, turned}
+use Rattle.pk_same.proofs.Edges.{IsMadeFrom, edge_back, AreOpposite, one_way_at, no_way, both_go, goes_or_fails}
 
 -- A program that its graph follows, and a draft by number that is a copy, whose points have one way each and the entry's exit none.
 pub record IsSetting (f : Naming) (Made : Slot → Type 0) (g : Whole) (d : DraftOf ℕ) : Type 0 where
@@ -232,43 +230,43 @@ up_to : (f : Naming) (M : Slot → Type 0) (paths : List PathOf) (g : Whole) (d 
     → {c : Config} → Pauses g.program ch c → (p : ℕ) (m : Memory) → IsFound d p → Mirrors f M (length d.made) m s → Leads d p e ch s t → StandsAt g c p m → Comes f M g d c (graph.visits_if (numbered paths d) e t vs) r u
 up_to f M paths g d set ch e s t vs r u rest {c} (pauses next) p m found mirrors l z =
     by (step g.program ch c) refl (set.law ch p m c z) (λ b is no q n found' mirrors' l' z'. up_to f M paths g d set ch e s t vs r u rest (next b is no) q n found' mirrors' l' z') where
-  ws : List Visit
-  ws = graph.visits_if (numbered paths d) e t vs
+      ws : List Visit
+      ws = graph.visits_if (numbered paths d) e t vs
 
-  there : AreThere M m
-  there = stands_there M g c p m set.kinds z
+      there : AreThere M m
+      there = stands_there M g c p m set.kinds z
 
-  Again : Type 0
-  Again = (b : Config) → step g.program ch c ≡ meaning.To b → b.is_visit ≡ false → (q : ℕ) (n : Memory) → IsFound d q → Mirrors f M (length d.made) n s → Leads d q e ch s t → StandsAt g b q n → Comes f M g d b ws r u
+      Again : Type 0
+      Again = (b : Config) → step g.program ch c ≡ meaning.To b → b.is_visit ≡ false → (q : ℕ) (n : Memory) → IsFound d q → Mirrors f M (length d.made) n s → Leads d q e ch s t → StandsAt g b q n → Comes f M g d b ws r u
 
-  on : (b : Config) → step g.program ch c ≡ meaning.To b → Follows g ch p m b → Again → Comes f M g d c ws r u
-  on b is (inl a) again = subst (λ ys. Comes f M g d c ys r u) (unseen g.program b ws a.0) (comes_behind ch c b ws is (again b is a.0 p m found mirrors l a.1))
-  on b is (inr a) again =
-      let o = meets f M g d ch p a.to a.instr m a.after s t e set a.there found l there mirrors a.does in
-      let v = visits_same f M paths g d b p a.to a.instr a.after t vs set.copy o.found (set.copy.over (edge p a.instr a.to) a.there) a.seen o.mirrors a.stands.same in
-      subst (λ ys. Comes f M g d c ys r u) (sym v ∙ ap (λ y. graph.visits_if (numbered paths d) y t vs) o.is)
-      (comes_behind ch c b vs is (rest.on b a.to a.after o.number o.found o.mirrors a.stands))
+      on : (b : Config) → step g.program ch c ≡ meaning.To b → Follows g ch p m b → Again → Comes f M g d c ws r u
+      on b is (inl a) again = subst (λ ys. Comes f M g d c ys r u) (unseen g.program b ws a.0) (comes_behind ch c b ws is (again b is a.0 p m found mirrors l a.1))
+      on b is (inr a) again =
+          let o = meets f M g d ch p a.to a.instr m a.after s t e set a.there found l there mirrors a.does in
+          let v = visits_same f M paths g d b p a.to a.instr a.after t vs set.copy o.found (set.copy.over (edge p a.instr a.to) a.there) a.seen o.mirrors a.stands.same in
+          subst (λ ys. Comes f M g d c ys r u) (sym v ∙ ap (λ y. graph.visits_if (numbered paths d) y t vs) o.is)
+          (comes_behind ch c b vs is (rest.on b a.to a.after o.number o.found o.mirrors a.stands))
 
-  falls : (x : Failure) → step g.program ch c ≡ meaning.Faulted x.fault x.site → Doomed g ch c.path c.here x p m → Comes f M g d c ws r u
-  falls x is (now q i a fails inside) = absurd (not_failing f M g d ch p q i m s t x l.made.made set a l.made.there l.made.from there mirrors fails l.goes)
-  falls x is (later q y v w a value hidden shown behind) =
-      let after = with_memory (own y) (w ∷ []) m in
-      let o = meets f M g d ch p q (Set (own y) v) m after s t e set a found l there mirrors (set_does ch (own y) v w m value) in
-      let made = (set.copy.over (edge p (Set (own y) v) q) a).0 in
-      let n = there_written f M (length d.made) m y w set.copy.naming made there in
-      let k = rest.doomed ch c.path c.here x q after o.number o.found n o.mirrors behind in
-      let seen = config c.path c.here (work.Return work.Nobody) [] after.objects false in
-      let none : ws ≡ [] = ap (λ b. graph.visits_if (numbered paths d) b t vs) (sym o.is)
+      falls : (x : Failure) → step g.program ch c ≡ meaning.Faulted x.fault x.site → Doomed g ch c.path c.here x p m → Comes f M g d c ws r u
+      falls x is (now q i a fails inside) = absurd (not_failing f M g d ch p q i m s t x l.made.made set a l.made.there l.made.from there mirrors fails l.goes)
+      falls x is (later q y v w a value hidden shown behind) =
+          let after = with_memory (own y) (w ∷ []) m in
+          let o = meets f M g d ch p q (Set (own y) v) m after s t e set a found l there mirrors (set_does ch (own y) v w m value) in
+          let made = (set.copy.over (edge p (Set (own y) v) q) a).0 in
+          let n = there_written f M (length d.made) m y w set.copy.naming made there in
+          let k = rest.doomed ch c.path c.here x q after o.number o.found n o.mirrors behind in
+          let seen = config c.path c.here (work.Return work.Nobody) [] after.objects false in
+          let none : ws ≡ [] = ap (λ b. graph.visits_if (numbered paths d) b t vs) (sym o.is)
           ∙ visits_same f M paths g d seen p q (Set (own y) v) after t vs set.copy o.found (set.copy.over (edge p (Set (own y) v) q) a) (sym hidden, shown) o.mirrors refl ∙ k.0 in
-      subst (λ ys. Comes f M g d c ys r u) (sym none) (inr (record { last = c; runs = runs.ends; chosen = ch; failure = x; fails = is; behind = k.1 }))
+          subst (λ ys. Comes f M g d c ys r u) (sym none) (inr (record { last = c; runs = runs.ends; chosen = ch; failure = x; fails = is; behind = k.1 }))
 
-  by : (b : Next) → step g.program ch c ≡ b → Answers g ch c.path c.here p m b → Again → Comes f M g d c ws r u
-  by (meaning.To b) is a again = on b is a again
-  by (meaning.Faulted x at) is a again = falls (steps.failure x at) is a
-  by meaning.Assumed is a again = absurd (not_nowhere f M g d ch p a.0 m m s t e set a.1 l there mirrors a.2)
-  by (meaning.Returned v) is a again = absurd (no_way d (region_at g.regions 0).points l.made.made set.exit l.made.there (l.made.from ∙ a))
-  by (meaning.Wants y n) is a again = absurd (not_waiting f M g d ch p a.0 a.1 y n s t e set a.2 l a.3)
-  by meaning.Stuck is a again = absurd a
+      by : (b : Next) → step g.program ch c ≡ b → Answers g ch c.path c.here p m b → Again → Comes f M g d c ws r u
+      by (meaning.To b) is a again = on b is a again
+      by (meaning.Faulted x at) is a again = falls (steps.failure x at) is a
+      by meaning.Assumed is a again = absurd (not_nowhere f M g d ch p a.0 m m s t e set a.1 l there mirrors a.2)
+      by (meaning.Returned v) is a again = absurd (no_way d (region_at g.regions 0).points l.made.made set.exit l.made.there (l.made.from ∙ a))
+      by (meaning.Wants y n) is a again = absurd (not_waiting f M g d ch p a.0 a.1 y n s t e set a.2 l a.3)
+      by meaning.Stuck is a again = absurd a
 
 -- ---- runs
 

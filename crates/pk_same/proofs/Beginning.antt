@@ -1,5 +1,5 @@
 -- Each store with which a run of the graph begins is that of a run of the program: its arguments are what the entry's parameters hold.
-use Rattle.std.proofs.Common.{◌≡◌, ℕ, zero, suc, ◌+◌, ◌-◌, ◌<◌, ◌≤◌, ◌⊎◌, inl, inr, List, [], ◌∷◌, ◌++◌, length, Bool, true, false, ◌&&◌, if◌then◌else◌, nat_eq, Option, Some, None, refl, sym, ap, subst, ◌∙◌, arith, ℤ, pos, replicate, slice_index_or, eqb-true}
+use Rattle.std.proofs.Common.{◌≡◌, ℕ, zero, suc, ◌+◌, ◌-◌, ◌<◌, ◌≤◌, ◌⊎◌, inl, inr, List, [], ◌∷◌, ◌++◌, length, Bool, true, false, ◌&&◌, if◌then◌else◌, nat_eq, Option, Some, None, refl, sym, ap, subst, ◌∙◌, arith, ℤ, pos, replicate, eqb-true}
 use Rattle.std.proofs.lemmas.List.{get_or_past}
 use Rattle.std.proofs.lemmas.Option.{none-some, slice_get_within}
 use Rattle.std.specs.Prelude.{slice_get, unwrap_or}
@@ -16,14 +16,13 @@ use Rattle.pk_graph.specs.Stores.{Stored}
 use Rattle.pk_draft.specs.Drafts.{DraftOf}
 use Rattle.pk_number.specs.Numbering.{numbered}
 use Rattle.pk_lower_row.specs.Contexts.{parameters_of}
-use Rattle.pk_lower.specs.Parts.{function_at, body_at, file_variable, start_of_object}
+use Rattle.pk_lower.specs.Parts.{function_at, body_at, start_of_object}
 use Rattle.pk_step.specs.Beginnings.{BeginsWith, Begins}
-use Rattle.pk_welltyped.specs.WellTyped as good
 use Rattle.pk_welltyped.specs.WellTyped.{kind_among, scalar, IsUnit}
 use Rattle.pk_meaning.specs.Objects.{Object, file, local, result, Objects, numbers_of, with_numbers}
 use Rattle.pk_meaning.specs.Programs.{function_of, first_objects}
 use Rattle.pk_meaning.specs.Runs.{with_arguments}
-use Rattle.pk_typed_draft.proofs.Places.{inner_object, outer_object, variable_in}
+use Rattle.pk_typed_draft.proofs.Places.{outer_object, variable_in}
 use Rattle.pk_visits.proofs.Slots.{Slot, own, temporary, memory_numbers}
 use Rattle.pk_visits.proofs.Stores.{same_object, other_object}
 use Rattle.pk_visits.proofs.Follow.{number_in_type}
@@ -32,7 +31,7 @@ use Rattle.pk_visits.proofs.NumberedStores.{AsMuch, Mirrors}
 use Rattle.pk_followed.proofs.Basics.{some_at}
 use Rattle.pk_typed_draft.proofs.Drafts.{function_from}
 use Rattle.pk_visits.proofs.Calling.{parameters_same}
-use Rattle.pk_followed.proofs.Pairs.{whole, final, ends_of, IsOutside, IsLocal, locals_at, world, function_at_path, AreTyped}
+use Rattle.pk_followed.proofs.Pairs.{whole, final, IsLocal, locals_at, function_at_path, AreTyped}
 use Rattle.pk_followed.proofs.Naming.{naming, Made, file_is}
 use Rattle.pk_followed.proofs.Graphs.{program_of, by_numbers}
 use Rattle.pk_followed.proofs.Copies.{numbers_are}
@@ -167,9 +166,9 @@ fixed_or_parameter : (u : UnitTree) (entry : ℕ) (paths : List CallPath) (l : I
 fixed_or_parameter u entry paths l h (file i) m =
     let f = file_is u paths h i m.1.1 in
     let z = fixed f.0.start in inl (z.0, ap (λ (v : VariableOf). v.start) f.2 ∙ z.1) where
-  fixed : (s : StartTree) → (ns : Numbers) × (start_of_object s ≡ number_start ns)
-  fixed (scalar_start z) = (z ∷ [], refl)
-  fixed (array_start n zs) = (zs, refl)
+      fixed : (s : StartTree) → (ns : Numbers) × (start_of_object s ≡ number_start ns)
+      fixed (scalar_start z) = (z ∷ [], refl)
+      fixed (array_start n zs) = (zs, refl)
 fixed_or_parameter u entry paths l h (result k) m = inl ([], ap (λ (v : VariableOf). v.start) m.1.final)
 fixed_or_parameter u entry paths l h (local k i) m = elim m.1.final [
   | inl e ↦ inl ([], ap (λ (v : VariableOf). v.start) e)

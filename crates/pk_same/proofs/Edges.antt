@@ -1,5 +1,5 @@
 -- An edge of a numbered graph is one of its draft; a point's edges that both lead on, or both fail, do so alike.
-use Rattle.std.proofs.Common.{◌≡◌, ℕ, zero, suc, ◌<◌, ◌⊎◌, List, [], ◌∷◌, length, Bool, true, false, not, ◌&&◌, cond, nat_eq, refl, sym, ap, ◌∙◌, subst, inl, inr, arith, if◌then◌else◌}
+use Rattle.std.proofs.Common.{◌≡◌, ℕ, zero, suc, ◌⊎◌, List, [], ◌∷◌, Bool, true, false, not, ◌&&◌, nat_eq, refl, sym, ap, ◌∙◌, subst, inl, inr, arith, if◌then◌else◌}
 use Rattle.std.specs.Prelude.{Result, Ok, Err, map, ℤ}
 use Rattle.std.specs.List.{Contains, filter}
 use Rattle.std.proofs.lemmas.Bool.Decides.{nat_tests}

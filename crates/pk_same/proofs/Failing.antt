@@ -1,5 +1,5 @@
 -- Where the numbered graph fails the program does, at the same place.
-use Rattle.std.proofs.Common.{◌≡◌, ℕ, ◌⊎◌, List, [], ◌∷◌, length, Bool, true, false, refl, sym, ap, ◌∙◌, subst, inl, inr}
+use Rattle.std.proofs.Common.{◌≡◌, ℕ, ◌⊎◌, List, [], ◌∷◌, length, false, refl, sym, ap, ◌∙◌, subst, inl, inr}
 use Rattle.std.specs.Prelude.{Option, Some, None}
 use Rattle.std.specs.List.{Contains}
 use Rattle.pk_ctypes.specs.declared.types.IntType.{IntType}
@@ -26,7 +26,7 @@ use Rattle.pk_visits.proofs.NumberedCopies.{renamed_edge}
 use Rattle.pk_visits.proofs.NumberedVisits.{stands_there}
 use Rattle.pk_same.proofs.Pausing.{Pauses, pauses}
 use Rattle.pk_same.proofs.Edges.{IsMadeFrom, edge_back, AreOpposite, no_way, goes_or_fails, both_fail, turned}
-use Rattle.pk_same.proofs.Backward.{IsSetting, slot_edge, fails_always, waits, pauses_there, unseen, IsDoomed, Comes}
+use Rattle.pk_same.proofs.Backward.{IsSetting, slot_edge, fails_always, waits, pauses_there, unseen, Comes}
 
 -- an edge that fails: what the draft has of it
 record Fails (d : DraftOf ℕ) (p : ℕ) (ch : Numbers) (s : Stored) (x : Failure) : Type 0 where

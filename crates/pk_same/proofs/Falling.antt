@@ -1,6 +1,6 @@
 -- A step that is no visit leads to lighter work, into a part that is called, or back from one.
-use Rattle.std.proofs.Common.{◌≡◌, ℕ, zero, suc, ◌+◌, ◌<◌, ◌≤◌, ◌⊎◌, List, [], ◌∷◌, length, Bool, true, false, refl, sym, ap, subst, ◌∙◌, inl, inr, arith, ℤ, pos, Option, Some, None}
-use Rattle.std.specs.Prelude.{Result, Ok, Err, if◌then◌else◌, slice_set, replicate, unsigned_abs}
+use Rattle.std.proofs.Common.{◌≡◌, ℕ, zero, suc, ◌+◌, ◌<◌, ◌≤◌, ◌⊎◌, List, [], ◌∷◌, length, Bool, true, false, refl, inl, inr, arith, ℤ, pos, Option, Some, None}
+use Rattle.std.specs.Prelude.{Result, Ok, Err, if◌then◌else◌, unsigned_abs}
 use Rattle.std.specs.Ordering.{int_eq}
 use Rattle.pk_ctypes.specs.declared.places.Pos.{Pos}
 use Rattle.pk_ctypes.specs.declared.types.IntType.{IntType}
@@ -14,13 +14,13 @@ use Rattle.pk_typed.specs.Trees.{PlaceTree, ValueTree, EffectTree, ValueTrees, D
 use Rattle.pk_typed.specs.Trees as tree
 use Rattle.pk_typed.specs.Types.{type_of}
 use Rattle.pk_graph.specs.Steps.{Numbers, is_true, is_index, are_any}
-use Rattle.pk_meaning.specs.Objects.{Object, Scope, Array, Objects, with_numbers, number_of}
+use Rattle.pk_meaning.specs.Objects.{Scope, Array, Objects, number_of}
 use Rattle.pk_meaning.specs.Programs.{Program, function_of, is_main}
 use Rattle.pk_meaning.specs.Work as work
 use Rattle.pk_meaning.specs.Work.{Place, Loop, Way, Caller, Ahead, Work}
 use Rattle.pk_meaning.specs.Steps as steps
 use Rattle.pk_meaning.specs.Steps.{Config, Next, To, Faulted, Assumed, Returned, Wants, Stuck, step_of}
-use Rattle.pk_same.proofs.Weights.{passes, place, value, test, effect, values, declared, all_declared, first_part, value_if, statement, items, turn, ahead, weight, returns}
+use Rattle.pk_same.proofs.Weights.{value, test, declared, weight, returns}
 
 abbrev pub config : ℕ → Place → Work → Numbers → Objects → Bool → Config
 config k h w vs s b = record { path = k; here = h; work = w; values = vs; objects = s; is_visit = b }
@@ -345,12 +345,12 @@ falling p ch k h v vs s b (work.StoreKept at a w) =
     on_two p k (work.StoreKept at a w) vs _ (λ i z us. indexed p k (work.StoreKept at a w) (config k h v vs s b) at a i (λ j. steps.stores (config k h v vs s b) a j z w (z ∷ us)) (λ j. lighter p k (work.StoreKept at a w) w h _ _ _ (same (returns w)) (omega arith)))
 falling p ch k h v vs s b (work.Renew op at o r a w) =
     on_three p k (work.Renew op at o r a w) vs _ (λ i z u us. valued p k (work.Renew op at o r a w) (config k h v vs s b) at (steps.operated op o u z) (λ y. steps.with_index (config k h v vs s b) r a i (λ j. steps.stores (config k h v vs s b) a j (wrapped a.int_type y) w us))
-        (λ y. indexed p k (work.Renew op at o r a w) (config k h v vs s b) r a i (λ j. steps.stores (config k h v vs s b) a j (wrapped a.int_type y) w us) (λ j. lighter p k (work.Renew op at o r a w) w h _ _ _ (same (returns w)) (omega arith))))
+    (λ y. indexed p k (work.Renew op at o r a w) (config k h v vs s b) r a i (λ j. steps.stores (config k h v vs s b) a j (wrapped a.int_type y) w us) (λ j. lighter p k (work.Renew op at o r a w) w h _ _ _ (same (returns w)) (omega arith))))
 falling p ch k h v vs s b (work.Renewed op at o t w) =
     on_three p k (work.Renewed op at o t w) vs _ (λ i z u us. valued p k (work.Renewed op at o t w) (config k h v vs s b) at (steps.operated op o u z) (λ y. steps.on (config k h v vs s b) w (wrapped t y ∷ i ∷ us)) (λ y. lighter p k (work.Renewed op at o t w) w h _ s false (same (returns w)) (omega arith)))
 falling p ch k h v vs s b (work.Replace op at o r a w) =
     on_three p k (work.Replace op at o r a w) vs _ (λ i z u us. valued p k (work.Replace op at o r a w) (config k h v vs s b) at (steps.operated op o u z) (λ y. steps.with_index (config k h v vs s b) r a i (λ j. steps.stores (config k h v vs s b) a j (wrapped a.int_type y) w (u ∷ us)))
-        (λ y. indexed p k (work.Replace op at o r a w) (config k h v vs s b) r a i (λ j. steps.stores (config k h v vs s b) a j (wrapped a.int_type y) w (u ∷ us)) (λ j. lighter p k (work.Replace op at o r a w) w h _ _ _ (same (returns w)) (omega arith))))
+    (λ y. indexed p k (work.Replace op at o r a w) (config k h v vs s b) r a i (λ j. steps.stores (config k h v vs s b) a j (wrapped a.int_type y) w (u ∷ us)) (λ j. lighter p k (work.Replace op at o r a w) w h _ _ _ (same (returns w)) (omega arith))))
 falling p ch k h v vs s b (work.Fill a j tree.no_values w) = lighter p k (work.Fill a j tree.no_values w) w h _ s false (same (returns w)) (omega arith)
 falling p ch k h v vs s b (work.Fill a j (tree.value_before e es) w) = lighter p k (work.Fill a j (tree.value_before e es) w) _ h _ s false (same (returns w)) (omega arith)
 falling p ch k h v vs s b (work.Item a j w) = on_one p k (work.Item a j w) vs _ (λ z us. lighter p k (work.Item a j w) w h _ _ _ (same (returns w)) (omega arith))

@@ -5,3 +5,4 @@ pub mod Edges
 pub mod Backward
 pub mod Failing
 pub mod Beginning
+pub mod Same

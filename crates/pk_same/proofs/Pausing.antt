@@ -1,10 +1,10 @@
 -- A run comes to a visit, or ends, after finitely many steps.
-use Rattle.std.proofs.Common.{◌≡◌, ℕ, zero, suc, ◌+◌, ◌<◌, ◌≤◌, ◌⊎◌, false, refl, sym, ap, subst, ◌∙◌, inl, inr, arith}
+use Rattle.std.proofs.Common.{◌≡◌, ℕ, zero, suc, ◌+◌, ◌<◌, ◌≤◌, false, sym, subst, inl, inr, arith}
 use Rattle.pk_graph.specs.Steps.{Numbers}
 use Rattle.pk_meaning.specs.Programs.{Program}
 use Rattle.pk_meaning.specs.Work as work
 use Rattle.pk_meaning.specs.Work.{Work}
-use Rattle.pk_meaning.specs.Steps.{Config, Next, To, step}
+use Rattle.pk_meaning.specs.Steps.{Config, To, step}
 use Rattle.pk_same.proofs.Weights.{weight, returns}
 use Rattle.pk_same.proofs.Falling.{Falls, Falling, falling}
 
@@ -31,15 +31,15 @@ by_weight : (p : Program) (ch : Numbers) (n : ℕ) (Keeps : Config → Type 0) �
 by_weight p ch n Keeps kept r m deeper fewer zero c k a b l = absurd (omega (arith, l))
 by_weight p ch n Keeps kept r m deeper fewer (suc w) c k a b l =
     pauses (λ d e v. next (λ j f g h. by_weight p ch n Keeps kept r m deeper fewer w d j f g h) (kept.steps c d k e) (falls p ch c d e v)) where
-  next : {d : Config} → (Keeps d → returns d.work ≤ r → n ≤ d.path + m → weight p d.path d.work < w → Pauses p ch d) → Keeps d → Falls p c.path c.work d → Pauses p ch d
-  next {d} lighter j (inl f) =
-      let same = f.path in
-      let light : weight p d.path d.work < weight p c.path c.work = subst (λ i. weight p i d.work < weight p c.path c.work) (sym same) f.weight in
-      lighter j (omega (arith, a, f.returns)) (omega (arith, b, same)) (omega (arith, l, light))
-  next {d} lighter j (inr (inl f)) =
-      let at = kept.enters c f.callee f.behind k f.enters in
-      deeper d j (omega (arith, f.returns)) (omega (arith, at.0, at.1, b, f.path)) (omega (arith, at.1, f.path))
-  next {d} lighter j (inr (inr f)) = fewer d j (omega (arith, f, a))
+      next : {d : Config} → (Keeps d → returns d.work ≤ r → n ≤ d.path + m → weight p d.path d.work < w → Pauses p ch d) → Keeps d → Falls p c.path c.work d → Pauses p ch d
+      next {d} lighter j (inl f) =
+          let same = f.path in
+          let light : weight p d.path d.work < weight p c.path c.work = subst (λ i. weight p i d.work < weight p c.path c.work) (sym same) f.weight in
+          lighter j (omega (arith, a, f.returns)) (omega (arith, b, same)) (omega (arith, l, light))
+      next {d} lighter j (inr (inl f)) =
+          let at = kept.enters c f.callee f.behind k f.enters in
+          deeper d j (omega (arith, f.returns)) (omega (arith, at.0, at.1, b, f.path)) (omega (arith, at.1, f.path))
+      next {d} lighter j (inr (inr f)) = fewer d j (omega (arith, f, a))
 
 by_path : (p : Program) (ch : Numbers) (n : ℕ) (Keeps : Config → Type 0) → IsKept p ch n Keeps → (r : ℕ)
     → ((c : Config) → Keeps c → returns c.work < r → Pauses p ch c)

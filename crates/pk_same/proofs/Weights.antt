@@ -1,5 +1,5 @@
 -- How many steps a run makes at most until one is a visit, or a part of a call is entered, or one returns.
-use Rattle.std.proofs.Common.{ℕ, zero, suc, ◌+◌, List, [], ◌∷◌, length, Option, Some, None}
+use Rattle.std.proofs.Common.{ℕ, ◌+◌, List, [], ◌∷◌, length, Option, Some, None}
 use Rattle.pk_typed.specs.Trees.{PlaceTree, ValueTree, EffectTree, ValueTrees, DeclaredTree, ForStartTree, StatementTree, ItemTrees}
 use Rattle.pk_typed.specs.Trees as tree
 use Rattle.pk_meaning.specs.Programs.{Program, function_of, callee}

@@ -318,10 +318,12 @@ mutual
       let y = in_switch v.1.points (length zs) x in
       let k = WellTyped.in_switch (length zs) b m in
       let f = lowered c s y i in
-      let valued = value_forth g c t e u called_e in
-      (cases.0, settles s g o c a k y i fits.2 cases.1 true cs ts (jumps_in_switch o x m bs cs b v.1.points (length zs) (let z = h.left in let w = valued.points in omega (arith, z, w)) js) called_s
-      (switch_known g o x m (λ n. times n s) a.objects (objects_in s) (site c q) t zs b d v f h cases.0.each cases.0.default valued
-      (λ below. statement_grown g c a k s y i fits.2 below called_s)))
+      let valued = value_forth g c t e u called_e in (
+        cases.0,
+        settles s g o c a k y i fits.2 cases.1 true cs ts (jumps_in_switch o x m bs cs b v.1.points (length zs) (let z = h.left in let w = valued.points in omega (arith, z, w)) js) called_s
+            (switch_known g o x m (λ n. times n s) a.objects (objects_in s) (site c q) t zs b d v f h cases.0.each cases.0.default valued
+            (λ below. statement_grown g c a k s y i fits.2 below called_s)),
+      )
   settles (tree.while q e s) g o c a m x d fits cases bs cs ts js called h =
       let u = on q d in
       let w = ways c e in
@@ -443,36 +445,36 @@ pub settled_body : (g : Whole) (k : ℕ) (h : Place) (x : Exits) (n : ℕ) (m : 
     → ((b : Mark) → IsMark m b → (times_in b is ≡ 0 → ⊥) → label_at g.labels (mark_point b x) ≡ label_at (lowered_items (context_of g k) is x d).labels (mark_point b x)) → SettleAll (final g k) (context_of g k) is x d
 settled_body g k h x n m is d fits s apart below once cases targets left marked room objects labels =
     settle_all is g (final g k) c (around g k n) m x d fits cases false false targets (record { broken = λ e. absurd (cc e); continued = λ e. absurd (cc e); labels = marked }) called known where
-  c : Context
-  c = context_of g k
+      c : Context
+      c = context_of g k
 
-  f : Draft
-  f = lowered_items c is x d
+      f : Draft
+      f = lowered_items c is x d
 
-  called : AllCalled (Sized g) c (calls_in_items is)
-  called = sized_calls g k (calls_in_items is) s.spans
+      called : AllCalled (Sized g) c (calls_in_items is)
+      called = sized_calls g k (calls_in_items is) s.spans
 
-  stays : (q : ℕ) → (Among q s.marks → ⊥) → q < f.points → label_at g.labels q ≡ label_at f.labels q
-  stays q unmarked lt = by (s.leads.labels q lt) where
-    by : {A : Type 0} → Among q s.marks ⊎ A → A
-    by (inl a) = absurd (unmarked a)
-    by (inr a) = a
+      stays : (q : ℕ) → (Among q s.marks → ⊥) → q < f.points → label_at g.labels q ≡ label_at f.labels q
+      stays q unmarked lt = by (s.leads.labels q lt) where
+        by : {A : Type 0} → Among q s.marks ⊎ A → A
+        by (inl a) = absurd (unmarked a)
+        by (inr a) = a
 
-  grown : Keeps OnPath (Marked (others d.points d.points)) (λ i. n ≤ i) (Sized g) d f
-  grown = block_spares g c (around g k n) m is x d.points fits below called d d.points (λ b is some same. let z = below b is in absurd (omega (arith, z, same)))
+      grown : Keeps OnPath (Marked (others d.points d.points)) (λ i. n ≤ i) (Sized g) d f
+      grown = block_spares g c (around g k n) m is x d.points fits below called d d.points (λ b is some same. let z = below b is in absurd (omega (arith, z, same)))
 
-  known : Known g (final g k) x m (λ b. times_in b is) n (objects_in_items is) d f
-  known = record {
-    once = once;
-    apart = apart;
-    below = below;
-    labels = labels;
-    points = λ b e ts q first last later low high. stays q (made_unmarked g k h (calls_in_items is) d f b e ts q s first last later low high) (omega (arith, high, last));
-    objects = objects;
-    room = s.leads.room;
-    slots = let z = grown.slots in omega (arith, room, z);
-    left = left;
-  }
+      known : Known g (final g k) x m (λ b. times_in b is) n (objects_in_items is) d f
+      known = record {
+        once = once;
+        apart = apart;
+        below = below;
+        labels = labels;
+        points = λ b e ts q first last later low high. stays q (made_unmarked g k h (calls_in_items is) d f b e ts q s first last later low high) (omega (arith, high, last));
+        objects = objects;
+        room = s.leads.room;
+        slots = let z = grown.slots in omega (arith, room, z);
+        left = left;
+      }
 
 -- the marks of a function outside its switches: its labels
 abbrev pub labels_of : BodyTree → Option IntType → Marks
@@ -485,33 +487,33 @@ pub settled_function : (g : Whole) (k : ℕ) (h : Place) (x : Exits) (n : ℕ) (
     → ((l : ℕ) → l < b.labels → label_at g.labels (x.labels + l) ≡ label_at (lowered_items (context_of g k) b.items x d).labels (x.labels + l)) → SettleAll (final g k) (context_of g k) b.items x d
 settled_function g k h x n r b d fits marked same s left before first room objects labels =
     settled_body g k h x n m b.items d fits s apart below once marked.cases marked.targets left (λ l low. subst (λ (y : BodyTree). times_in (labelled l) y.items ≡ 1) (sym same) (marked.labels l low)) slots objects marks where
-  slots : n + objects_in_items b.items ≤ length d.objects
-  slots = let z = items_fit b.items (around g k n) (labels_of b r) fits (omega (arith, first)) in omega (arith, z, room)
+      slots : n + objects_in_items b.items ≤ length d.objects
+      slots = let z = items_fit b.items (around g k n) (labels_of b r) fits (omega (arith, first)) in omega (arith, z, room)
 
-  m : Marks
-  m = labels_of b r
+      m : Marks
+      m = labels_of b r
 
-  e : Draft
-  e = lowered_items (context_of g k) b.items x d
+      e : Draft
+      e = lowered_items (context_of g k) b.items x d
 
-  apart : (i j : Mark) → IsMark m i → IsMark m j → mark_point i x ≡ mark_point j x → i ≡ j
-  apart (labelled i) (labelled j) is also same = ap (λ l. labelled l) (omega (arith, same))
-  apart (labelled i) (numbered j) is also same = absurd (omega (arith, also))
-  apart (labelled i) otherwise is also same = absurd (grind (arith, also))
-  apart (numbered i) j is also same = absurd (omega (arith, is))
-  apart otherwise j is also same = absurd (grind (arith, is))
+      apart : (i j : Mark) → IsMark m i → IsMark m j → mark_point i x ≡ mark_point j x → i ≡ j
+      apart (labelled i) (labelled j) is also same = ap (λ l. labelled l) (omega (arith, same))
+      apart (labelled i) (numbered j) is also same = absurd (omega (arith, also))
+      apart (labelled i) otherwise is also same = absurd (grind (arith, also))
+      apart (numbered i) j is also same = absurd (omega (arith, is))
+      apart otherwise j is also same = absurd (grind (arith, is))
 
-  below : AreBelow x m d.points
-  below (labelled l) is = omega (arith, is, before)
-  below (numbered i) is = absurd (omega (arith, is))
-  below otherwise is = absurd (grind (arith, is))
+      below : AreBelow x m d.points
+      below (labelled l) is = omega (arith, is, before)
+      below (numbered i) is = absurd (omega (arith, is))
+      below otherwise is = absurd (grind (arith, is))
 
-  once : (i : Mark) → IsMark m i → times_in i b.items ≤ 1
-  once (labelled l) is = let z = marked.labels l is in omega (arith, z)
-  once (numbered i) is = absurd (omega (arith, is))
-  once otherwise is = absurd (grind (arith, is))
+      once : (i : Mark) → IsMark m i → times_in i b.items ≤ 1
+      once (labelled l) is = let z = marked.labels l is in omega (arith, z)
+      once (numbered i) is = absurd (omega (arith, is))
+      once otherwise is = absurd (grind (arith, is))
 
-  marks : (i : Mark) → IsMark m i → (times_in i b.items ≡ 0 → ⊥) → label_at g.labels (mark_point i x) ≡ label_at e.labels (mark_point i x)
-  marks (labelled l) is some = labels l is
-  marks (numbered i) is some = absurd (omega (arith, is))
-  marks otherwise is some = absurd (grind (arith, is))
+      marks : (i : Mark) → IsMark m i → (times_in i b.items ≡ 0 → ⊥) → label_at g.labels (mark_point i x) ≡ label_at e.labels (mark_point i x)
+      marks (labelled l) is some = labels l is
+      marks (numbered i) is some = absurd (omega (arith, is))
+      marks otherwise is some = absurd (grind (arith, is))
