@@ -31,7 +31,7 @@ pub record Given (i : ℕ) (ts : List IntType) (s o : Objects) : Type 0 where
   pub others : (k j : ℕ) → (k ≡ 0 → i ≤ j → j < i + length ts → ⊥) → numbers_of (local k j) o ≡ numbers_of (local k j) s
   pub given : (j : ℕ) (t : IntType) → slice_get ts j ≡ Some t → 0 < length (numbers_of (local 0 (i + j)) s) → (z : ℤ) × (numbers_of (local 0 (i + j)) o ≡ z ∷ []) × (is_in_type t z ≡ true)
 
-local_number : (k m i j : ℕ) → local k i ≡ local m j → (k ≡ m) × (i ≡ j)
+pub local_number : (k m i j : ℕ) → local k i ≡ local m j → (k ≡ m) × (i ≡ j)
 local_number k m i j e = (ap path e, ap number e) where
   path : Object → ℕ
   path (file n) = 0

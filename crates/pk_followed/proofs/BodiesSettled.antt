@@ -35,7 +35,7 @@ pub body_settled : (W : World) (l : Lasting W) (f : W.table.Variable → Slot) (
     → SettleAll (final g k) (context_of g k) (block_of g.program k).items (exits_of W f d k q) (body_begun W f k q.first q.path q.place q.before)
 body_settled W l f d g is unit k q there h here marked objects =
     subst (λ (y : BodyTree). SettleAll (final g k) (context_of g k) y.items x o) (sym (is.blocks k q))
-    (settled_function g k h x n q.place.function.returns b o fits marked stage (omega arith) (subst (λ (y : BodyTree). n ≤ length y.locals) (sym (is.blocks k q)) (few q.place.function.parameters b.locals q.place.is_body.parameters))
+    (settled_function g k h x n q.place.function.returns b o fits marked (is.blocks k q) stage (omega arith) (omega arith) (subst (λ (y : BodyTree). n ≤ length y.locals) (sym (is.blocks k q)) (few q.place.function.parameters b.locals q.place.is_body.parameters))
     (subst (λ (y : BodyTree). length y.locals ≤ length o.objects) (sym (is.blocks k q)) (omega (slots, arith)))
     (λ i from to. subst (λ (y : Context). (i < g.objects k) × (g.numbers k i ≡ object_at (lowered_items y b.items x o).objects i)) (sym (is.contexts k q)) (objects i from to))
     (λ i low. subst (λ (y : Context). label_at g.labels (p + 1 + i) ≡ label_at (lowered_items y b.items x o).labels (p + 1 + i)) (sym (is.contexts k q)) (labelled i low))) where

@@ -76,6 +76,7 @@ body_stands W l f d g is unit k q there here settled ended = record {
   objects = length q.place.function.parameters;
   mark = m;
   enters = fresh_point (q.place.body.labels + 1) (part.placed_entry q.path.caller b) ∙ (placed_point q.path.caller b ∙ (begun_point c q.place.function q.place.body q.path.caller r (draft_by f q.before) ∙ ap (λ (z : Region). z.at) (sym same)));
+  bare = record { broken = refl; continued = refl };
   leaves = placed_points q.path.caller b ∙ (begun_points c q.place.function q.place.body q.path.caller r (draft_by f q.before) ∙ ap (λ (z : Region). z.points) (sym same));
   variables = let v = (begun_grows W f k q.first q.path q.place q.before).variables in let z = ap (λ (y : Region). y.variables) same in omega (v, z, arith);
   fits = subst (λ u. AreItems (record { unit = u; locals = (block_of g.program k).locals; objects = length q.place.function.parameters }) m (block_of g.program k).items) (sym unit)

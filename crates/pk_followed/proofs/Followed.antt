@@ -1,5 +1,5 @@
 -- The graph of a unit follows its program, where each path's body stands.
-use Rattle.std.proofs.Common.{◌≡◌, ℕ, ◌<◌, List, [], length, map, Option, Some, None, refl, sym, ap, subst, ◌∙◌}
+use Rattle.std.proofs.Common.{◌≡◌, ℕ, ◌+◌, ◌<◌, List, [], length, map, Option, Some, None, refl, sym, ap, subst, ◌∙◌}
 use Rattle.std.proofs.lemmas.Option.{none-some}
 use Rattle.std.specs.Prelude.{option_map, unwrap_or}
 use Rattle.pk_typed.specs.Trees.{UnitTree}
@@ -29,7 +29,7 @@ use Rattle.pk_followed.proofs.Arguments.{Given, arguments_given, first_fits, giv
 use Rattle.pk_followed.proofs.Starting.{starts_with}
 
 -- a run begins with objects, and these are the first with the arguments
-record BeginsAt (p : Program) (first : Config) : Type 0 where
+pub record BeginsAt (p : Program) (first : Config) : Type 0 where
   objects : Objects
   is : begins p objects ≡ first
   given : Given 0 (function_of p 0).parameters (first_objects p) objects
@@ -45,7 +45,7 @@ begun p choice first e = by (with_arguments 0 (function_of p 0).parameters choic
   }
 
 -- the first configuration stands where its body begins
-stands_first : (g : Whole) (s : Objects) → BodyOf g 0 → (region_at g.regions 0).at ≡ entry_point → FitsObjects g.program s → StandsAt g (begins g.program s) entry_point (first_memory s)
+pub stands_first : (g : Whole) (s : Objects) → BodyOf g 0 → (region_at g.regions 0).at ≡ entry_point → FitsObjects g.program s → StandsAt g (begins g.program s) entry_point (first_memory s)
 stands_first g s q at fits =
     let end = q.ended [] tt in
     record {
@@ -66,7 +66,8 @@ stands_first g s q at fits =
           (
             end,
             record { draft = q.draft; objects = q.objects; mark = q.mark; fits = q.fits; calm = tt; stage = q.stage; marking = q.marking; settled = q.settled; ended = end },
-            refl,
+            (refl, q.leaves),
+            q.bare,
           ),
         ),
       );
@@ -80,6 +81,7 @@ pub record Stand (u : UnitTree) (paths : List CallPath) : Type 0 where
   pub some : 0 < length paths
   pub bodies : BodiesStand (graph u paths)
   pub entry : (region_at (graph u paths).regions 0).at ≡ entry_point
+  pub exit : (region_at (graph u paths).regions 0).points ≡ entry_point + 1
   pub shown : ShowsAt (graph u paths) entry_point 0 (body_place (program_of u paths) 0)
 
 pub is_followed : (u : UnitTree) (entry : ℕ) (paths : List CallPath) → IsUnit u → IsListing u entry paths → AreTyped u paths → Stand u paths → IsFollowed (naming u paths) (Made u paths) (graph u paths) (by_numbers u paths)

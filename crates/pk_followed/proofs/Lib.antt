@@ -1,26 +1,26 @@
 pub mod Basics
-mod Paths
+pub mod Paths
 pub mod Pairs
-mod Naming
+pub mod Naming
 pub mod Graphs
-mod Copies
-mod Starts
-mod Propers
+pub mod Copies
+pub mod Starts
+pub mod Propers
 pub mod PartAdds
 pub mod Pending
-mod KeptPoints
-mod Bodies
-mod BodyStages
+pub mod KeptPoints
+pub mod Bodies
+pub mod BodyStages
 pub mod WholeGraph
-mod BodyEnds
-mod BodyCloses
-mod BodiesStand
-mod Arguments
-mod Beginnings
-mod Starting
-mod Begins
-mod Followed
-mod Standing
-mod EntryPoint
-mod BodiesSettled
-mod PathBodies
+pub mod BodyEnds
+pub mod BodyCloses
+pub mod BodiesStand
+pub mod Arguments
+pub mod Beginnings
+pub mod Starting
+pub mod Begins
+pub mod Followed
+pub mod Standing
+pub mod EntryPoint
+pub mod BodiesSettled
+pub mod PathBodies

@@ -39,7 +39,7 @@ marked_body u paths h k q = subst IsMarkedIf q.place.has (all_get (λ (f : Funct
 
 -- ---- the entry
 
-some_paths : (u : UnitTree) (entry : ℕ) (paths : List CallPath) → IsListing u entry paths → 0 < length paths
+pub some_paths : (u : UnitTree) (entry : ℕ) (paths : List CallPath) → IsListing u entry paths → 0 < length paths
 some_paths u entry paths l = let z = ap length l.in_order in omega (z, arith)
 
 first_region_is : (u : UnitTree) (paths : List CallPath) → 0 < length paths → region_at (begins u paths).regions 0 ≡ record { at = entry_point; points = entry_point + 1; variables = length (Rattle.std.specs.Prelude.map file_variable u.objects) }
@@ -77,6 +77,7 @@ unit_stands u entry paths unit marked has l are h =
       some = some;
       bodies = λ k b. path_stands u paths h is proper.positions k (at k b) b (marked_body u paths marked k (at k b)) (body_shows u paths h is k (at k b) proper b);
       entry = ap (λ (r : Region). r.at) (there ∙ entry_region);
+      exit = ap (λ (r : Region). r.points) (there ∙ entry_region);
       shown = subst (λ (n : ℕ). ShowsAt g n 0 (body_place (program_of u paths) 0)) enters
           (subst (λ (i : Label). Shows u paths i 0 (body_place (program_of u paths) 0)) (sym label)
           (subst (λ p. Shows u paths (body_begun W slot_of 0 q.first q.path q.place q.before).here 0 (place p (body_scope (program_of u paths) 0))) position shown));

@@ -65,7 +65,7 @@ written_at xs ms i v (t ∷ ts) h (suc j) l =
     let b : i + 1 + j ≡ i + suc j = omega arith in
     ap (variable_in ms) a ∙ (written_at xs ms (i + 1) (v + 1) ts h.1 j (omega (l, arith)) ∙ ap (outer_object xs 0) b)
 
-entry_outer : (u : UnitTree) (entry : ℕ) (paths : List CallPath) (l : IsListing u entry paths) (h : AreTyped u paths) (i : ℕ) → i < length (parameters_of u entry) → final u paths ((ends_of u paths 0).numbers i) ≡ outer_object (body_at u entry).locals 0 i
+pub entry_outer : (u : UnitTree) (entry : ℕ) (paths : List CallPath) (l : IsListing u entry paths) (h : AreTyped u paths) (i : ℕ) → i < length (parameters_of u entry) → final u paths ((ends_of u paths 0).numbers i) ≡ outer_object (body_at u entry).locals 0 i
 entry_outer u entry paths l h i b =
     let m = h.made 0 (entry_path entry) (first_path u entry paths l) in
     let zero_more : 0 + i ≡ i = omega arith in
@@ -77,11 +77,11 @@ entry_outer u entry paths l h i b =
 pub record AreFirst (u : UnitTree) (paths : List CallPath) (o : Objects) : Type 0 where
   pub given : Given 0 (function_of (program_of u paths) 0).parameters (first_objects (program_of u paths)) o
 
-local_kind : (u : UnitTree) (paths : List CallPath) (h : AreTyped u paths) (k i x : ℕ) (m : IsLocal u paths k i x) → HasKind (program_of u paths) (local k i) m.kind
+pub local_kind : (u : UnitTree) (paths : List CallPath) (h : AreTyped u paths) (k i x : ℕ) (m : IsLocal u paths k i x) → HasKind (program_of u paths) (local k i) m.kind
 local_kind u paths h k i x m = (m.path, ap (λ (xs : List LocalTree). kind_among xs i) (sym (locals_are u paths k (h.parts k m.path))) ∙ m.is)
 
 -- the kind of a local in the end
-final_kind : (u : UnitTree) (paths : List CallPath) (h : AreTyped u paths) (k i x : ℕ) (m : IsLocal u paths k i x) → (final u paths x).kind ≡ record { int_type = m.kind.int_type; length = m.kind.length }
+pub final_kind : (u : UnitTree) (paths : List CallPath) (h : AreTyped u paths) (k i x : ℕ) (m : IsLocal u paths k i x) → (final u paths x).kind ≡ record { int_type = m.kind.int_type; length = m.kind.length }
 final_kind u paths h k i x m =
     let p = h.parts k m.path in
     let w = place (world u paths) k p.first p.path.function 0 0 in
@@ -92,14 +92,14 @@ final_kind u paths h k i x m =
       | inr e ↦ inr (e.0, e.1 ∙ ap (λ (xs : List LocalTree). outer_object xs k i) same)
     ])
 
-is_parameter : (u : UnitTree) (entry : ℕ) (paths : List CallPath) → IsListing u entry paths → (k i : ℕ) → IsOutside u paths k i → (k ≡ 0) × (i < length (parameters_of u entry))
+pub is_parameter : (u : UnitTree) (entry : ℕ) (paths : List CallPath) → IsListing u entry paths → (k i : ℕ) → IsOutside u paths k i → (k ≡ 0) × (i < length (parameters_of u entry))
 is_parameter u entry paths l k i h =
     let z = entry_first u entry paths l k h.path h.there h.entry in
     let same : Some h.path ≡ Some (entry_path entry) = sym h.there ∙ (ap (λ (n : ℕ). slice_get paths n) z ∙ first_path u entry paths l) in
     let f : h.path.function ≡ entry = ap (λ (o : Option CallPath). (unwrap_or o h.path).function) same in
     (z, subst (λ (n : ℕ). i < length (parameters_of u n)) f h.parameter)
 
-entry_types : (u : UnitTree) (entry : ℕ) (paths : List CallPath) (l : IsListing u entry paths) (h : AreTyped u paths) (b : 0 < length paths) → (function_of (program_of u paths) 0).parameters ≡ parameters_of u entry
+pub entry_types : (u : UnitTree) (entry : ℕ) (paths : List CallPath) (l : IsListing u entry paths) (h : AreTyped u paths) (b : 0 < length paths) → (function_of (program_of u paths) 0).parameters ≡ parameters_of u entry
 entry_types u entry paths l h b =
     let p = h.parts 0 b in
     let same : Some p.path ≡ Some (entry_path entry) = sym p.place.path ∙ first_path u entry paths l in

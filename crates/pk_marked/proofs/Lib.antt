@@ -1,4 +1,5 @@
 pub mod Counts
 pub mod Listed
 pub mod Statements
+pub mod Targets
 pub mod Units

@@ -32,14 +32,15 @@ use Rattle.pk_accepted.proofs.Units.{new_entries, updated, externals_later}
 use Rattle.pk_marked.specs.Laws.{AcceptedUnitsAreMarked}
 use Rattle.pk_marked.proofs.Listed.{none_before, none_after}
 use Rattle.pk_marked.proofs.Statements.{ItemsMarkedIf, walk_items}
+use Rattle.pk_marked.proofs.Targets.{ItemTargetsIf, reaches_all}
 
 none_at : (r : Rule) (xs : List Pos) → each_at r xs ≡ [] → xs ≡ []
 none_at r [] h = refl
 none_at r (x ∷ xs) h = absurd (cc)
 
-made : (b : BlockTree) (visible count n : ℕ) (y : Bool) (x : W) (is : Option tree.ItemTrees) → ItemsMarkedIf 0 count 0 n false y is → IsMarkedIf (option_map (body_of b visible count x) is)
-made b visible count n y x None h = tt
-made b visible count n y x (Some is) h = record { labels = λ l k. (h.labels l).inside (omega arith) k; cases = h.all }
+made : (b : BlockTree) (visible count n : ℕ) (y : Bool) (x : W) (is : Option tree.ItemTrees) → ItemsMarkedIf 0 count 0 n false y is → ItemTargetsIf false false is → IsMarkedIf (option_map (body_of b visible count x) is)
+made b visible count n y x None h t = tt
+made b visible count n y x (Some is) h t = record { labels = λ l k. (h.labels l).inside (omega arith) k; cases = h.all; targets = t }
 
 body : (r : Typing) (visible : ℕ) (b : BlockTree) (w : W) → (after_body noted r b w).found ≡ None → IsMarkedIf (body_at noted r visible b w)
 body r visible b w h =
@@ -54,6 +55,7 @@ body r visible b w h =
     let placed : jumps.misplaced ≡ [] = none_at rule.Jump jumps.misplaced (none_after (each_at rule.Label labels.repeated ++ each_at rule.Label jumps.unknown) (each_at rule.Jump jumps.misplaced) rows) in
     made b visible labels.count (length q.cases) q.has_default (after_body noted r b w) (typed_items noted r labels.labels start b.items)
     (walk_items text labels.labels r around_body nothing_jumped outermost nothing_listed start b.items refl repeated (λ x l e. e) refl placed)
+    (reaches_all text labels.labels r around_body nothing_jumped start b.items placed)
 
 -- ---- the file
 

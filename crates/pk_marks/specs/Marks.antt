@@ -1,5 +1,5 @@
--- Labels, cases and defaults, each of which stands once where it belongs (C99 6.8.1).
-use Rattle.std.specs.Prelude.{◌≡◌, ℕ, ◌+◌, ◌<◌, Bool, if◌then◌else◌, length, All, Option, Some, None}
+-- Labels, cases and defaults, each of which stands once where it belongs (C99 6.8.1), and jumps out of loops and switches.
+use Rattle.std.specs.Prelude.{◌≡◌, ℕ, ◌+◌, ◌<◌, Bool, true, false, if◌then◌else◌, length, All, Option, Some, None}
 use Rattle.pk_typed.specs.Trees.{StatementTree, ItemTrees, BodyTree, FunctionTree, UnitTree, no_items, declared_before, statement_before}
 use Rattle.pk_typed.specs.Trees as tree
 use Rattle.pk_meaning.specs.Steps.{Mark, labelled, numbered, otherwise, is_label, is_case, is_default}
@@ -68,9 +68,35 @@ unfoldable mutual
   HaveCases (declared_before d is) = HaveCases is
   HaveCases (statement_before s is) = HasCases s × HaveCases is
 
+unfoldable mutual
+  -- Each `break` has a loop or a switch around it, in the statement or outside, each `continue` a loop (C99 6.8.6.2, 6.8.6.3).
+  pub HasTargets : (breaks continues : Bool) → StatementTree → Type 0
+  HasTargets b c (tree.block at is) = HaveTargets b c is
+  HasTargets b c (tree.empty at) = Unit {0}
+  HasTargets b c (tree.effect at e) = Unit {0}
+  HasTargets b c (tree.label at l s) = HasTargets b c s
+  HasTargets b c (tree.case at i s) = HasTargets b c s
+  HasTargets b c (tree.default at s) = HasTargets b c s
+  HasTargets b c (tree.if_then at e s) = HasTargets b c s
+  HasTargets b c (tree.if_else at e s r) = HasTargets b c s × HasTargets b c r
+  HasTargets b c (tree.switch at t e zs d s) = HasTargets true c s
+  HasTargets b c (tree.while at e s) = HasTargets true true s
+  HasTargets b c (tree.do_while at s e) = HasTargets true true s
+  HasTargets b c (tree.for_loop at f e i s) = HasTargets true true s
+  HasTargets b c (tree.goto at l) = Unit {0}
+  HasTargets b c (tree.continue at) = c ≡ true
+  HasTargets b c (tree.break at) = b ≡ true
+  HasTargets b c (tree.return at e) = Unit {0}
+
+  pub HaveTargets : (breaks continues : Bool) → ItemTrees → Type 0
+  HaveTargets b c no_items = Unit {0}
+  HaveTargets b c (declared_before d is) = HaveTargets b c is
+  HaveTargets b c (statement_before s is) = HasTargets b c s × HaveTargets b c is
+
 pub record IsMarked (b : BodyTree) : Type 0 where
   pub labels : (l : ℕ) → l < b.labels → times_in (labelled l) b.items ≡ 1
   pub cases : HaveCases b.items
+  pub targets : HaveTargets false false b.items
 
 abbrev pub IsMarkedIf : Option BodyTree → Type 0
 IsMarkedIf None = Unit {0}

@@ -1,4 +1,4 @@
-mod Ways
+pub mod Ways
 mod Adding
 mod Spans
 mod Goes
@@ -9,9 +9,9 @@ mod Declarations
 mod MarkPoints
 mod Statements
 mod Parts
-mod Regions
-mod Programs
-mod Renamed
+pub mod Regions
+pub mod Programs
+pub mod Renamed
 mod Numbers
 mod Graphs
 mod Shared

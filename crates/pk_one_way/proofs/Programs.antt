@@ -28,7 +28,7 @@ use Rattle.pk_one_way.proofs.Goes.{GoesBy}
 use Rattle.pk_one_way.proofs.Rows.{Fits}
 use Rattle.pk_one_way.proofs.Expressions.{Sized}
 use Rattle.pk_one_way.proofs.Parts.{part_goes}
-use Rattle.pk_one_way.proofs.Regions.{IsTidy, tidy_part, tidy_first}
+use Rattle.pk_one_way.proofs.Regions.{exit_point, IsTidy, tidy_part, tidy_first}
 
 all_fit : (C D : ℕ → Size → Type 0) (c : Context) (xs : List Numbered) → ((k : ℕ) (s : Size) → C k s → D k s) → AllCalled C c xs → AllCalled D c xs
 all_fit C D c [] more h = tt
@@ -67,9 +67,23 @@ parts_way W l some marked k n [] h d plan t x = t.ways x
 parts_way W l some marked k n (p ∷ ps) h d plan t x =
     parts_way W l some marked (k + 1) (n + length (calls_of W.unit p.function)) ps h.1 (part_at W k n p d) (next_part W l k n p h.0 d plan) (next_tidy W l some marked k n p h.0 d plan t) x
 
+parts_exit : (W : World) → Lasting W → HaveExits W → AreMarked W.unit → (k n : ℕ) (ps : List CallPath) → Paths W k n ps → (d : Draft W) → Plan W k n d → IsTidy (points_of W) k d.edges d.regions
+    → from exit_point (part.parts_from W.unit (sizes W) k n ps d).edges ≡ []
+unfolding part.parts_from
+parts_exit W l some marked k n [] h d plan t = t.exit
+parts_exit W l some marked k n (p ∷ ps) h d plan t =
+    parts_exit W l some marked (k + 1) (n + length (calls_of W.unit p.function)) ps h.1 (part_at W k n p d) (next_part W l k n p h.0 d plan) (next_tidy W l some marked k n p h.0 d plan t)
+
 -- In the draft of a unit.
 pub whole_way : (u : UnitTree) (entry : ℕ) (paths : List CallPath) → IsUnit u → AreMarked u → HasBody u entry → IsListing u entry paths → AreCallPaths u entry paths → AreTyped u paths → (x : ℕ) → IsWay (from x (whole u paths).edges)
 whole_way u entry paths unit marked has l are a x =
     let W = world u paths in
     parts_way W a.lasts (λ j low. part_some u paths a.lasts j (paths_at u entry paths unit has l are a j low)) marked 0 1 paths a.paths_are (begins u paths) (begins_plan u entry paths unit has l are a)
     (tidy_first (points_of W) (length (map part.file_variable u.objects)) (length paths)) x
+
+-- the exit of the entry's part has no edges
+pub whole_exit : (u : UnitTree) (entry : ℕ) (paths : List CallPath) → IsUnit u → AreMarked u → HasBody u entry → IsListing u entry paths → AreCallPaths u entry paths → AreTyped u paths → from exit_point (whole u paths).edges ≡ []
+whole_exit u entry paths unit marked has l are a =
+    let W = world u paths in
+    parts_exit W a.lasts (λ j low. part_some u paths a.lasts j (paths_at u entry paths unit has l are a j low)) marked 0 1 paths a.paths_are (begins u paths) (begins_plan u entry paths unit has l are a)
+    (tidy_first (points_of W) (length (map part.file_variable u.objects)) (length paths))

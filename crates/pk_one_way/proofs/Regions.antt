@@ -5,10 +5,14 @@ use Rattle.pk_draft.specs.declared.drafts.Region.{Region}
 use Rattle.pk_draft.specs.Drafts.{EdgeFrom, no_region, first_regions, entry_point}
 use Rattle.pk_visits.proofs.Slots.{region_at, Never}
 use Rattle.pk_one_way.proofs.Ways.{from, IsWay}
-use Rattle.pk_one_way.proofs.Adding.{Kept, Left, Spent, Holds}
+use Rattle.pk_one_way.proofs.Adding.{Kept, Left, Spent, HoldsIn, Holds}
 use Rattle.pk_one_way.proofs.Spans.{Span}
 use Rattle.pk_one_way.proofs.Goes.{AreRooted, GoesBy}
 use Rattle.pk_one_way.proofs.Rows.{region_set}
+
+-- where the entry's part ends
+abbrev pub exit_point : ℕ
+exit_point = entry_point + 1
 
 -- before the part of path k
 pub record IsTidy {V : Type 0} (z : ℕ → ℕ) (k : ℕ) (es : List (EdgeFrom V)) (rs : List Region) : Type 0 where
@@ -16,6 +20,9 @@ pub record IsTidy {V : Type 0} (z : ℕ → ℕ) (k : ℕ) (es : List (EdgeFrom 
   pub free : (j x : ℕ) → k ≤ j → Holds z rs j x → from x es ≡ []
   pub one : (i j x : ℕ) → k ≤ i → k ≤ j → Holds z rs i x → Holds z rs j x → i ≡ j
   pub rooted : AreRooted rs
+  -- the exit of the entry's part has no edges, and no path holds it
+  pub exit : from exit_point es ≡ []
+  pub unheld : (j : ℕ) → k ≤ j → Holds z rs j exit_point → ⊥
 
 pub tidy_part : {V : Type 0} {z : ℕ → ℕ} {k m : ℕ} {es fs : List (EdgeFrom V)} {rs ts : List Region} → 0 < (region_at rs k).points → m ≡ (region_at rs k).points + z k → IsTidy z k es rs
     → GoesBy z Never (region_at rs k).at (region_at rs k).points es rs (region_at rs k).points m fs ts → IsTidy z (k + 1) fs ts
@@ -24,6 +31,8 @@ tidy_part {V} {z} {k} {m} {es} {fs} {rs} {ts} kept ends h a = record {
   free = λ j x le holds. free j x le holds (adds x);
   one = λ i j x le lt holds also. one i j x le lt holds also (adds x);
   rooted = a.rooted low (λ x i. absurd i) h.rooted;
+  exit = (kept_exit (adds exit_point)).edges ∙ h.exit;
+  unheld = λ j le holds. h.unheld j (omega (arith, le)) ((kept_exit (adds exit_point)).held j holds);
 } where
   r : Region
   r = region_at rs k
@@ -42,6 +51,10 @@ tidy_part {V} {z} {k} {m} {es} {fs} {rs} {ts} kept ends h a = record {
   mine x (inl e, other) = (kept, inl e)
   mine x (inr (inl s), other) = let i = s.0 in let j = s.1 in (kept, inr (omega (arith, i, other), omega (arith, j, ends)))
   mine x (inr (inr n), other) = absurd n
+
+  kept_exit : Kept z exit_point es rs fs ts ⊎ (Taken exit_point × Spent z exit_point es rs fs ts) → Kept z exit_point es rs fs ts
+  kept_exit (inl b) = b
+  kept_exit (inr (t, b)) = absurd (h.unheld k (omega arith) (mine exit_point t))
 
   none : (x : ℕ) → Taken x → from x es ≡ []
   none x t = h.free k x (omega arith) (mine x t)
@@ -81,6 +94,8 @@ tidy_first {V} z objects paths = record {
   free = λ j x le holds. refl;
   one = λ i j x le lt holds also. first i holds.0 ∙ sym (first j also.0);
   rooted = λ k some. root k some (region_set none 0 k r);
+  exit = refl;
+  unheld = λ j le holds. not_held j holds (region_set none 0 j r);
 } where
   r : Region
   r = record { at = entry_point; points = entry_point + 1; variables = objects }
@@ -93,6 +108,14 @@ tidy_first {V} z objects paths = record {
     by : (region_at (first_regions objects paths) k ≡ region_at none k) ⊎ ((k ≡ 0) × (region_at (first_regions objects paths) k ≡ r)) → k ≡ 0
     by (inl e) = let i = ap (λ (r : Region). r.points) (e ∙ no_regions paths k) in absurd (omega (arith, i, some))
     by (inr e) = e.0
+
+  not_in : (n : ℕ) → HoldsIn n r exit_point → ⊥
+  not_in n (some, inl e) = absurd (omega (arith, e))
+  not_in n (some, inr i) = absurd (omega (arith, i.0))
+
+  not_held : (j : ℕ) → Holds z (first_regions objects paths) j exit_point → (region_at (first_regions objects paths) j ≡ region_at none j) ⊎ ((j ≡ 0) × (region_at (first_regions objects paths) j ≡ r)) → ⊥
+  not_held j holds (inl e) = let i = ap (λ (r : Region). r.points) (e ∙ no_regions paths j) in absurd (omega (arith, i, holds.0))
+  not_held j holds (inr e) = not_in (z j) (subst (λ (o : Region). HoldsIn (z j) o exit_point) e.1 holds)
 
   root : (k : ℕ) → 0 < (region_at (first_regions objects paths) k).points → (region_at (first_regions objects paths) k ≡ region_at none k) ⊎ ((k ≡ 0) × (region_at (first_regions objects paths) k ≡ r)) → (region_at (first_regions objects paths) k).at < (region_at (first_regions objects paths) k).points
   root k some (inl e) = let i = ap (λ (r : Region). r.points) (e ∙ no_regions paths k) in absurd (omega (arith, i, some))

@@ -37,7 +37,7 @@ use Rattle.pk_visits.proofs.Doom.{calm_plain}
 
 -- ---- functions by their numbers
 
-parameters_same : (fs : List FunctionTree) (f : ℕ) → unwrap_or (option_map (λ (g : FunctionTree). g.parameters) (slice_get fs f)) [] ≡ (slice_index_or fs f program.no_function).parameters
+pub parameters_same : (fs : List FunctionTree) (f : ℕ) → unwrap_or (option_map (λ (g : FunctionTree). g.parameters) (slice_get fs f)) [] ≡ (slice_index_or fs f program.no_function).parameters
 parameters_same [] f = refl
 parameters_same (g ∷ fs) zero = refl
 parameters_same (g ∷ fs) (suc f) = parameters_same fs f
@@ -103,6 +103,7 @@ called_laid g proper k h x z r es w n d hs fits takes calm s l =
             ap (λ (t : Region). t.at) region,
             subst (λ i. AreCalm i hs) (sym (ap (λ (t : Region). t.variables) region)) (calm_more d.variables d2.variables hs (omega (arith, v1, v2)) calm),
             subst (λ i. Laid g k h x w i hs) (sym (ap (λ (t : Region). t.points) region)) l,
+            behind,
           )),
     ) where
       by : (later : List ℕ) (m : ℕ) (e : Draft) (size : Size) → Among m later ⊎ (region_at g.regions m ≡ region_at (entered m size e).regions m) → (Among m later → ⊥) → m < length e.regions

@@ -71,7 +71,7 @@ pub choose_test : (g : Whole) (chosen : Numbers) (p : ℕ) (m : Memory) (k : ℕ
     → Means m (top ∷ hs) (v ∷ vs) → m.objects ≡ s → FitsObjects g.program s
     → Answers g chosen k h p m (step_of g.program chosen (config k h (work.Choose t (z ∷ zs) i has body j a) (v ∷ vs) s b) (work.Choose t (z ∷ zs) i has body j a))
 unfolding case_tests
-choose_test g chosen p m k h j t z zs i has body a v vs s b x top hs (d, n, mark, r, total, e, at', types, many, fits, calm, u, marking, settled, shown, l) way means same f = by (int_eq v z) refl where
+choose_test g chosen p m k h j t z zs i has body a v vs s b x top hs (d, n, mark, r, total, e, at', types, many, fits, calm, u, marking, settled, shown, l, sw) way means same f = by (int_eq v z) refl where
   T : SlotTree
   T = binary_tree Eq r t top.tree (constant t z)
 
@@ -136,6 +136,7 @@ choose_test g chosen p m k h j t z zs i has body a v vs s b x top hs (d, n, mark
     settled_next,
     shown,
     l,
+    sw,
   )
 
   by : (q : Bool) → int_eq v z ≡ q
@@ -148,8 +149,8 @@ choose_test g chosen p m k h j t z zs i has body a v vs s b x top hs (d, n, mark
 jump_along : (g : Whole) (chosen : Numbers) (p q : ℕ) (m : Memory) (k : ℕ) (h : Place) (w : Work) (us vs : Numbers) (s : Objects) (b : Bool) (y : Way) (hs : List Held)
     → Among (edge p Skip q) g.edges → LaidWay g k y q hs → Means m hs vs → m.objects ≡ s → FitsObjects g.program s → Answers g chosen k h p m (meaning.takes (config k h w us s b) y vs)
 jump_along g chosen p q m k h w us vs s b (Onward j v) hs there (shown, (x, l)) e same f = moved g chosen p q m m Skip k j v vs s true x hs there refl (refl, shown) l e same f
-jump_along g chosen p q m k h w us vs s b Refused hs there l e same f = tt
-jump_along g chosen p q m k h w us vs s b Lost hs there l e same f = tt
+jump_along g chosen p q m k h w us vs s b Refused hs there l e same f = (Skip, subst (λ j. Among (edge p Skip j) g.edges) l there, refl)
+jump_along g chosen p q m k h w us vs s b Lost hs there l e same f = absurd l
 
 -- where no case holds: to the default or behind the switch
 none_edge : (g : Whole) (k : ℕ) (j : Place) (t : IntType) (i total e : ℕ) (has : Bool) (body : StatementTree) (x : Exits) (tr : SlotTree) (r : Site) (d : Draft) (n : ℕ) (mark : Marks) (u : Stage g k j (calls_in_statement body) d (switch_from (context_of g k) r t tr [] i total e has body x d))
@@ -167,7 +168,7 @@ pub choose_default : (g : Whole) (chosen : Numbers) (p : ℕ) (m : Memory) (k : 
     → (l : Laid g k h x (work.Choose t [] i true body j a) p (top ∷ hs)) → LaidWay g k (meaning.found g.program k meaning.otherwise j.scope body (work.Close j a) Lost) (l.5 + 1 + l.4) hs
     → Means m (top ∷ hs) (v ∷ vs) → m.objects ≡ s → FitsObjects g.program s
     → Answers g chosen k h p m (step_of g.program chosen (config k h (work.Choose t [] i true body j a) (v ∷ vs) s b) (work.Choose t [] i true body j a))
-choose_default g chosen p m k h j t i body a v vs s b x top hs (d, n, mark, r, total, e, at', types, many, fits, calm, u, marking, settled, shown, l) way means same f =
+choose_default g chosen p m k h j t i body a v vs s b x top hs (d, n, mark, r, total, e, at', types, many, fits, calm, u, marking, settled, shown, l, sw) way means same f =
     let there = none_edge g k j t i total e true body x top.tree r d n mark u fits marking in
     jump_along g chosen p (e + 1 + total) m k h (work.Choose t [] i true body j a) (v ∷ vs) vs s b (meaning.found g.program k meaning.otherwise j.scope body (work.Close j a) Lost) hs
     (subst (λ q. Among (edge q Skip (e + 1 + total)) g.edges) at' there) way means.2 same f
@@ -175,7 +176,7 @@ choose_default g chosen p m k h j t i body a v vs s b x top hs (d, n, mark, r, t
 pub choose_none : (g : Whole) (chosen : Numbers) (p : ℕ) (m : Memory) (k : ℕ) (h j : Place) (t : IntType) (i : ℕ) (body : StatementTree) (a : Ahead) (v : ℤ) (vs : Numbers) (s : Objects) (b : Bool) (x : Exits) (top : Held) (hs : List Held)
     → Laid g k h x (work.Choose t [] i false body j a) p (top ∷ hs) → Means m (top ∷ hs) (v ∷ vs) → m.objects ≡ s → FitsObjects g.program s
     → Answers g chosen k h p m (step_of g.program chosen (config k h (work.Choose t [] i false body j a) (v ∷ vs) s b) (work.Choose t [] i false body j a))
-choose_none g chosen p m k h j t i body a v vs s b x top hs (d, n, mark, r, total, e, at', types, many, fits, calm, u, marking, settled, shown, l) means same f =
+choose_none g chosen p m k h j t i body a v vs s b x top hs (d, n, mark, r, total, e, at', types, many, fits, calm, u, marking, settled, shown, l, sw) means same f =
     let there = none_edge g k j t i total e false body x top.tree r d n mark u fits marking in
     moved g chosen p e m m Skip k j (work.Go a) vs s true x hs (subst (λ q. Among (edge q Skip e) g.edges) at' there) refl (refl, shown) (calm_plain d.variables hs calm.1, l) means.2 same f
 

@@ -82,6 +82,7 @@ enter g bodies chosen p m k h j w vs s b x hs l e same f =
           end,
           record { draft = q.draft; objects = q.objects; mark = q.mark; fits = q.fits; calm = calm; stage = q.stage; marking = q.marking; settled = q.settled; ended = end },
           (x, subst (λ o. Laid g k h x w o hs) (sym q.leaves) l.3),
+          q.bare,
         ),
       ),
     ) e same f

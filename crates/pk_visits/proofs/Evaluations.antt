@@ -51,7 +51,7 @@ any_follows : (g : Whole) (chosen : Numbers) (p : ℕ) (m : Memory) (k : ℕ) (h
     → Answers g chosen k h p m (step_of g.program chosen (config k h (work.Evaluate (tree.any t at) w) vs s b) (work.Evaluate (tree.any t at) w))
 any_follows g chosen p m k h t at w vs s b x hs l e same f = by (are_any t 1 chosen) refl where
   by : (c : Bool) → are_any t 1 chosen ≡ c → Answers g chosen k h p m (if c then meaning.on (config k h (work.Evaluate (tree.any t at) w) vs s b) w (number_at chosen 0 ∷ vs) else meaning.Wants t 1)
-  by false is = tt
+  by false is = let r = any_laid g k h x t at w p hs l in (r.0, temporary r.1, r.2.there, is)
   by true is =
       let r = any_laid g k h x t at w p hs l in
       let a = both_true (nat_eq (length chosen) 1) (all_in_type t chosen) is in

@@ -71,7 +71,7 @@ anything_follows y g chosen m k j x i d vs s b u w hs n kind types lengths calm 
 
   by : (r : Bool) → are_any t c chosen ≡ r
       → Answers g chosen k y d.point m (if r then meaning.writes (config k j u vs s b) (local k i) chosen w vs else meaning.Wants t c)
-  by false none = tt
+  by false none = (d.points, own (local k i), subst (λ (y : Slot). Among (edge d.point (Havoc y t c) d.points) g.edges) is z.0, none)
   by true choice =
       let a = both_true (nat_eq (length chosen) c) (all_in_type t chosen) choice in
       let many : length chosen ≡ c = eqb-true (length chosen) c a.0 in

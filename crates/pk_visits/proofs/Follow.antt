@@ -8,7 +8,8 @@ use Rattle.pk_ctypes.proofs.Wrapped.{wrapped_in}
 use Rattle.pk_ctypes.proofs.Values.{in_type_test}
 use Rattle.pk_graph.specs.Trees.{constant, variable, Skip, Set, Havoc, Clear, Load, Store, Guard, Check}
 use Rattle.pk_graph.specs.Steps as steps
-use Rattle.pk_graph.specs.Steps.{Numbers, number_at, tree_value, effect, with_value, all_in_type, is_index}
+use Rattle.pk_graph.specs.Steps.{Numbers, number_at, tree_value, effect, with_value, all_in_type, is_index, are_any}
+use Rattle.pk_draft.specs.Drafts.{nowhere}
 use Rattle.pk_draft.specs.Folding.{conversion}
 use Rattle.pk_lower_statement.specs.declared.statements.Exits.{Exits}
 use Rattle.pk_welltyped.specs.WellTyped.{Kind, scalar}
@@ -17,7 +18,7 @@ use Rattle.pk_meaning.specs.Programs.{Program}
 use Rattle.pk_meaning.specs.Work as work
 use Rattle.pk_meaning.specs.Work.{Place, Work}
 use Rattle.pk_meaning.specs.Steps.{Config, Next, To, Faulted, Assumed, Returned, Wants, Stuck, step_of}
-use Rattle.pk_visits.proofs.Slots.{Slot, own, temporary, Instr, edge, Memory, memory, with_memory, SlotTree, Among}
+use Rattle.pk_visits.proofs.Slots.{Slot, own, temporary, Instr, edge, Memory, memory, with_memory, SlotTree, Among, region_at}
 use Rattle.pk_visits.proofs.Stands.{Whole, ShowsAt, Held, held, in_temporary, Means, HasKind, FitsObjects, Laid, StandsAt}
 use Rattle.pk_visits.proofs.Stores.{Fitting, fits_written, means_apart, temporary_value, own_value}
 use Rattle.pk_visits.proofs.Values.{conversion_value}
@@ -70,14 +71,22 @@ pub data Doomed (g : Whole) (chosen : Numbers) (k : ℕ) (h : Place) (f : steps.
   later : {p : ℕ} {m : Memory} (q : ℕ) (x : Object) (e : SlotTree) (v : ℤ) → Among (edge p (Set (own x) e) q) g.edges → tree_value memory e m ≡ Ok v → is_in_scope x h.scope ≡ false → ShowsAt g q k h
       → Doomed g chosen k h f q (with_memory (own x) (v ∷ []) m) → Doomed g chosen k h f p m
 
+-- It goes nowhere.
+abbrev pub Refuses : Whole → Numbers → (p : ℕ) → Memory → Type 0
+Refuses g chosen p m = (i : Instr) × Among (edge p i nowhere) g.edges × (effect memory chosen i m ≡ steps.To m)
+
+-- It waits for numbers too.
+abbrev pub Awaits : Whole → Numbers → (p : ℕ) → IntType → ℕ → Type 0
+Awaits g chosen p t n = (q : ℕ) × (x : Slot) × Among (edge p (Havoc x t n) q) g.edges × (are_any t n chosen ≡ false)
+
 -- What the graph does where the program makes this step, from a configuration of path k at place h.
 abbrev pub Answers : Whole → Numbers → ℕ → Place → (p : ℕ) → Memory → Next → Type 0
 Answers g chosen k h p m (To d) = Follows g chosen p m d
 Answers g chosen k h p m (Faulted f at) = Doomed g chosen k h (steps.failure f at) p m
-Answers g chosen k h p m Assumed = Unit {0}
-Answers g chosen k h p m (Returned v) = Unit {0}
-Answers g chosen k h p m (Wants t n) = Unit {0}
-Answers g chosen k h p m Stuck = Unit {0}
+Answers g chosen k h p m Assumed = Refuses g chosen p m
+Answers g chosen k h p m (Returned v) = p ≡ (region_at g.regions 0).points
+Answers g chosen k h p m (Wants t n) = Awaits g chosen p t n
+Answers g chosen k h p m Stuck = ⊥
 
 abbrev pub config : ℕ → Place → Work → Numbers → Objects → Bool → Config
 config k h w vs s b = record { path = k; here = h; work = w; values = vs; objects = s; is_visit = b }

@@ -39,8 +39,8 @@ jump g chosen p q m k h w vs s x hs there shown l e same f = moved g chosen p q 
 along : (g : Whole) (chosen : Numbers) (p q : ℕ) (m : Memory) (k : ℕ) (h : Place) (w : Work) (vs : Numbers) (s : Objects) (b : Bool) (y : Way) (hs : List Held)
     → Among (edge p Skip q) g.edges → LaidWay g k y q hs → Means m hs vs → m.objects ≡ s → FitsObjects g.program s → Answers g chosen k h p m (meaning.takes (config k h w vs s b) y vs)
 along g chosen p q m k h w vs s b (Onward j v) hs there (shown, (x, l)) e same f = jump g chosen p q m k j v vs s x hs there shown l e same f
-along g chosen p q m k h w vs s b Refused hs there l e same f = tt
-along g chosen p q m k h w vs s b Lost hs there l e same f = tt
+along g chosen p q m k h w vs s b Refused hs there l e same f = (Skip, subst (λ j. Among (edge p Skip j) g.edges) l there, refl)
+along g chosen p q m k h w vs s b Lost hs there l e same f = absurd l
 
 -- that the graph follows the program at this work, at each place
 abbrev pub IsFollowed : Work → Type 1

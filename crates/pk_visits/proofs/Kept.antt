@@ -113,6 +113,7 @@ pub record KnownBy (g : Whole) (o : Final) (x : Exits) (m : Marks) (t : Mark →
   pub objects : (i : ℕ) → n ≤ i → i < n + k → (i < o.objects) × (o.numbers i ≡ object_at zs i)
   pub room : r ≤ length js
   pub slots : n + k ≤ length zs
+  pub left : x.left < p
 
 abbrev pub Known : Whole → Final → Exits → Marks → (Mark → ℕ) → (n k : ℕ) → Draft → Draft → Type 0
 Known g o x m t n k d e = KnownBy g o x m t n k d.points d.regions e.points e.labels e.regions e.objects
@@ -138,6 +139,7 @@ part_known {R} g o x m w t u n k l j d b e f h each from to before le rest = rec
   objects = λ i low high. let z = h.objects i (omega (arith, low, from)) (omega (arith, high, to)) in (z.0, z.1 ∙ object_stays i high (end.objects i));
   room = let z = h.room in let y = end.points in let v = end.size in omega (arith, z, y, v);
   slots = let z = h.slots in let y = end.slots in omega (arith, z, to, y);
+  left = let z = h.left in let y = before.points in omega (arith, z, y);
 } where
   stays : (q : ℕ) → IsUnset x m u q → q < e.points → label_at f.labels q ≡ label_at e.labels q
   stays q unset lt = spared (λ i. n + k ≤ i) (Sized g) d.points q e f (rest q unset) lt
@@ -177,6 +179,7 @@ known_inside g o x m t n k i j d e h = record {
   objects = h.objects;
   room = h.room;
   slots = h.slots;
+  left = h.left;
 }
 
 -- the label of a mark that stands nowhere behind

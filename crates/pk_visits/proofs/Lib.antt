@@ -21,7 +21,7 @@ mod ElementTrees
 mod Effects
 mod Passing
 mod OwnReads
-mod Calling
+pub mod Calling
 mod Entering
 mod Evaluations
 pub mod StatementGrows

@@ -41,7 +41,7 @@ abbrev IsThere : Memory → Slot → Type 0
 IsThere m (own z) = 0 < length (numbers_of z m.objects)
 IsThere m (temporary k) = Unit {0}
 
-there_written : (f : Naming) (M : Slot → Type 0) (n : ℕ) (m : Memory) (x : Object) (v : ℤ) → IsNaming f M n → M (own x) → AreThere M m → AreThere M (with_memory (own x) (v ∷ []) m)
+pub there_written : (f : Naming) (M : Slot → Type 0) (n : ℕ) (m : Memory) (x : Object) (v : ℤ) → IsNaming f M n → M (own x) → AreThere M m → AreThere M (with_memory (own x) (v ∷ []) m)
 there_written f M n m x v g i t y j = by (decided (f (own x)) (f (own y))) where
   one : (zs : Numbers) → zs ≡ v ∷ [] → 0 < length zs
   one zs e = subst (λ ys. 0 < length ys) (sym e) (omega arith)

@@ -21,7 +21,7 @@ use Rattle.pk_visits.proofs.NumberedRuns.{HaveKinds, are_there, moves_shown, doo
 use Rattle.pk_visits.proofs.NumberedStarts.{StartsWith, first_memory, first_store}
 
 -- a run without visits behind another
-behind : {g : GraphOf} {p q r : ℕ} {s t u : Stored} {vs : List Visit} → GraphRuns g p s vs q t → GraphRuns g q t [] r u → GraphRuns g p s vs r u
+pub behind : {g : GraphOf} {p q r : ℕ} {s t u : Stored} {vs : List Visit} → GraphRuns g p s vs q t → GraphRuns g q t [] r u → GraphRuns g p s vs r u
 behind ends k = k
 behind (steps chosen there does rest) k = steps chosen there does (behind rest k)
 
@@ -36,7 +36,7 @@ pub record Arrives (f : Naming) (Made : Slot → Type 0) (paths : List PathOf) (
   pub mirrors : Mirrors f Made (length d.made) memory store
   pub stands : StandsAt g end point memory
 
-stands_there : (M : Slot → Type 0) (g : Whole) (c : Config) (p : ℕ) (m : Memory) → HaveKinds M g.program → StandsAt g c p m → AreThere M m
+pub stands_there : (M : Slot → Type 0) (g : Whole) (c : Config) (p : ℕ) (m : Memory) → HaveKinds M g.program → StandsAt g c p m → AreThere M m
 stands_there M g c p m k z = are_there M g.program m k (subst (FitsObjects g.program) (sym z.same) z.fits)
 
 pub journey_shown : (f : Naming) (M : Slot → Type 0) (paths : List PathOf) (g : Whole) (d : DraftOf ℕ) (end : Config) (p : ℕ) (m : Memory) (s : Stored) (vs : List Visit) → IsCopy f M g d → HaveKinds M g.program

@@ -26,6 +26,7 @@ use Rattle.pk_meaning.specs.Work as work
 use Rattle.pk_meaning.specs.Work.{Place, Caller, Ahead}
 use Rattle.pk_meaning.specs.Steps as meaning
 use Rattle.pk_meaning.specs.Steps.{place, step_of, caller_of}
+use Rattle.pk_visits.proofs.Settled.{Settles}
 use Rattle.pk_visits.proofs.Slots.{Slot, own, Draft, Memory, with_memory, Among, edge, last_among, Uncalled}
 use Rattle.pk_visits.proofs.Stands.{Whole, Proper, context_of, Held, around, ArePlain, AreCalm, ShowsAt, Means, FitsObjects, Writes, EndedBy, end_place, Stage, LaidWay, LaidAhead, LaidCaller, Laid}
 use Rattle.pk_visits.proofs.Stores.{Fitting, fits_written, means_apart}
@@ -49,7 +50,7 @@ caller_laid g k x (work.Again h loop e a) p hs (y, b, there, shown, same, loops,
     subst (λ (z : Exits). ShowsAt g z.left k (meaning.body_place g.program k) × LaidCaller g k (caller_of a) z.left hs) (sym same) (caller_laid g k y a _ hs l)
 caller_laid g k x (work.Close h a) p hs (y, there, shown, same, l) =
     subst (λ (z : Exits). ShowsAt g z.left k (meaning.body_place g.program k) × LaidCaller g k (caller_of a) z.left hs) (sym same) (caller_laid g k y a _ hs l)
-caller_laid g k x (work.End c) p hs (ended, body, l) = (ended.exit, l)
+caller_laid g k x (work.End c) p hs (ended, body, l, bare) = (ended.exit, l)
 
 -- ---- the end of a body
 
@@ -62,7 +63,7 @@ end_follows j g chosen p q m k w c vs s b x hs None there is l plain way shown c
 end_follows j g chosen p q m k w c vs s b x hs (Some t) there is l plain way shown caller e same f = by (is_main g.program k) l where
   any : (y : Bool) → are_any t 1 chosen ≡ y → Writes g k (end_place g.program k) p (own (result k)) (Havoc (own (result k)) t 1) q hs
       → Answers g chosen k j p m (if y then meaning.writes (config k (end_place g.program k) w vs s b) (result k) chosen (work.Leave c) vs else meaning.Wants t 1)
-  any false no_choice z = tt
+  any false no_choice z = (q, own (result k), z.there, no_choice)
   any true choice z =
       let a = both_true (nat_eq (length chosen) 1) (all_in_type t chosen) choice in
       let one : length chosen ≡ 1 = eqb-true (length chosen) 1 a.0 in
@@ -83,7 +84,7 @@ end_follows j g chosen p q m k w c vs s b x hs (Some t) there is l plain way sho
 pub fall : (g : Whole) (chosen : Numbers) (p : ℕ) (m : Memory) (k : ℕ) (h : Place) (c : Caller) (vs : Numbers) (s : Objects) (b : Bool) (x : Exits) (hs : List Held)
     → Laid g k h x (work.Go (work.End c)) p hs → Means m hs vs → m.objects ≡ s → FitsObjects g.program s
     → Answers g chosen k h p m (step_of g.program chosen (config k h (work.Go (work.End c)) vs s b) (work.Go (work.End c)))
-fall g chosen p m k h c vs s b x hs (plain, (ended, body, caller)) e same f =
+fall g chosen p m k h c vs s b x hs (plain, (ended, body, caller, bare)) e same f =
     end_follows h g chosen p ended.to m k (work.Go (work.End c)) c vs s b x hs (function_of g.program k).returns body.stage.path refl ended.falls plain ended.leaves ended.exit caller e same f
 
 -- ---- jumps
@@ -92,19 +93,19 @@ fall g chosen p m k h c vs s b x hs (plain, (ended, body, caller)) e same f =
 pub jump_edge : (g : Whole) (k : ℕ) (h : Place) (xs : List Numbered) (p : Pos) (q : ℕ) (d : Draft) → Stage g k h xs d (away q (on p d)) → Among (edge d.point Skip q) g.edges
 jump_edge g k h xs p q d s = s.leads.edges _ (last_among d.edges (edge d.point Skip q))
 
-pub broken_laid : (g : Whole) (k : ℕ) (x : Exits) (a : Ahead) (p : ℕ) (hs : List Held) → ArePlain hs → LaidAhead g k x a p hs → LaidWay g k (meaning.broken a) x.broken hs
-broken_laid g k x (work.Rest xs is a) p hs plain (d, n, m, is', fits, calm, s, marking, settled, l) = broken_laid g k x a _ hs plain l
-broken_laid g k x (work.Join h a) p hs plain (q, there, shown, l) = broken_laid g k x a q hs plain l
-broken_laid g k x (work.Again h loop e a) p hs plain (y, b, there, shown, same, loops, cont, behind, l) = (behind, (y, (plain, l)))
-broken_laid g k x (work.Close h a) p hs plain (y, there, shown, same, l) = (shown, (y, (plain, l)))
-broken_laid g k x (work.End c) p hs plain l = tt
+pub broken_laid : (g : Whole) (k : ℕ) (x : Exits) (a : Ahead) (p : ℕ) (hs : List Held) → (x.broken ≡ x.left → ⊥) → ArePlain hs → LaidAhead g k x a p hs → LaidWay g k (meaning.broken a) x.broken hs
+broken_laid g k x (work.Rest xs is a) p hs none plain (d, n, m, is', fits, calm, s, marking, settled, l) = broken_laid g k x a _ hs none plain l
+broken_laid g k x (work.Join h a) p hs none plain (q, there, shown, l) = broken_laid g k x a q hs none plain l
+broken_laid g k x (work.Again h loop e a) p hs none plain (y, b, there, shown, same, loops, cont, behind, l) = (behind, (y, (plain, l)))
+broken_laid g k x (work.Close h a) p hs none plain (y, there, shown, same, l) = (shown, (y, (plain, l)))
+broken_laid g k x (work.End c) p hs none plain l = absurd (none l.3.broken)
 
 -- `break`: the edge, and what is behind
 pub break_laid : (g : Whole) (k : ℕ) (h : Place) (x : Exits) (p : Pos) (a : Ahead) (pt : ℕ) (hs : List Held) → Laid g k h x (work.Do (tree.break p) a) pt hs
     → Among (edge pt Skip x.broken) g.edges × LaidWay g k (meaning.broken a) x.broken hs
-unfolding lowered
+unfolding lowered Settles
 break_laid g k h x p a pt hs (d, n, m, is, fits, calm, s, marking, settled, l) =
-    (subst (λ q. Among (edge q Skip x.broken) g.edges) is (jump_edge g k _ _ p x.broken d s), broken_laid g k x a _ hs (calm_plain d.variables hs calm) l)
+    (subst (λ q. Among (edge q Skip x.broken) g.edges) is (jump_edge g k _ _ p x.broken d s), broken_laid g k x a _ hs settled (calm_plain d.variables hs calm) l)
 
 -- `return` without a value
 pub leave_laid : (g : Whole) (k : ℕ) (h : Place) (x : Exits) (p : Pos) (e : Option ValueTree) (a : Ahead) (pt : ℕ) (hs : List Held) (d : Draft) (xs : List Numbered) → d.point ≡ pt → AreCalm d.variables hs → Stage g k h xs d (away x.left (on p d))

@@ -1,4 +1,4 @@
--- Declarations and marks in a tree as it is lowered from a draft: each object has the variable that the graph says of it, each mark's point the label that it gets here.
+-- Declarations, marks and jumps in a tree as it is lowered from a draft: each object has the variable that the graph says of it, each mark's point the label that it gets here, each jump its target.
 use Rattle.std.specs.Prelude.{◌≡◌, ℕ, ◌+◌, ◌<◌, List, [], ◌∷◌, length}
 use Rattle.pk_typed.specs.Trees.{DeclaredTree, ForStartTree, StatementTree, ItemTrees}
 use Rattle.pk_typed.specs.Trees as tree
@@ -9,12 +9,14 @@ use Rattle.pk_lower_row.specs.Rows.{operand}
 use Rattle.pk_lower_expression.specs.Expressions.{ways}
 use Rattle.pk_lower_statement.specs.declared.statements.Exits.{Exits}
 use Rattle.pk_lower_statement.specs.Statements.{inside, in_switch, branching, loop_begun, tested, switch_begun, for_start, for_test, declared, lowered}
+use Rattle.pk_marks.specs.Marks.{times_in, IsSwitch}
 use Rattle.pk_meaning.specs.Steps.{Mark, labelled, numbered, otherwise}
 use Rattle.pk_meaning.specs.Work.{Loop, While, DoWhile, For}
 use Rattle.pk_visits.proofs.Slots.{Draft, label_at}
 
--- what is known in the end of a path: how many objects it declares, the variable of each, the label of each point
+-- what is known in the end of a path: how many objects it declares, the variable of each, the label of each point; its items
 pub record Final : Type 0 where
+  pub items : ItemTrees
   pub objects : ℕ
   pub numbers : ℕ → ℕ
   pub labels : List Label
@@ -60,16 +62,16 @@ unfoldable mutual
   Settles o c (tree.if_then q e s) x d = Settles o c s x (branching q (ways c e) d)
   Settles o c (tree.if_else q e s r) x d = Settles o c s x (branching q (ways c e) d) × Settles o c r x (at (d.points + 1) (lowered c s x (branching q (ways c e) d)))
   Settles o c (tree.switch q t e zs b s) x d =
-      let k = tested t (operand e (ways c e)) (on q d) in Settles o c s (in_switch k.1.points (length zs) x) (switch_begun (site c q) t zs b k)
+      let k = tested t (operand e (ways c e)) (on q d) in IsSwitch (length zs) b s × Settles o c s (in_switch k.1.points (length zs) x) (switch_begun (site c q) t zs b k)
   Settles o c (tree.while q e s) x d = Settles o c s (inside (d.points + 2) d.points x) (at (d.points + 1) ((ways c e).choice (d.points + 1) (d.points + 2) (loop_begun (on q d))))
   Settles o c (tree.do_while q s e) x d = Settles o c s (inside (d.points + 2) (d.points + 1) x) (at d.points (loop_begun (on q d)))
   Settles o c (tree.for_loop q start e third s) x d =
       let f = on q (for_begun c start (on q d)) in
       IsSettledStart o c start (fresh 1 (on q d))
       × Settles o c s (inside d.points (f.points + 2) x) (at (f.points + 1) (for_test c e (f.points + 1) d.points (loop_begun f)))
-  Settles o c (tree.goto q l) x d = Unit {0}
-  Settles o c (tree.continue q) x d = Unit {0}
-  Settles o c (tree.break q) x d = Unit {0}
+  Settles o c (tree.goto q l) x d = times_in (labelled l) o.items ≡ 1
+  Settles o c (tree.continue q) x d = x.continued ≡ x.left → ⊥
+  Settles o c (tree.break q) x d = x.broken ≡ x.left → ⊥
   Settles o c (tree.return q e) x d = Unit {0}
 
   pub SettleAll : Final → Context → ItemTrees → Exits → Draft → Type 0

@@ -26,6 +26,7 @@ use Rattle.pk_lower_row.specs.Rows.{one_tree}
 use Rattle.pk_lower_expression.specs.Expressions.{ways, performed, passed}
 use Rattle.pk_lower_statement.specs.declared.statements.Exits.{Exits}
 use Rattle.pk_lower_statement.specs.Statements.{inside, in_switch, while_from, do_from, for_from, for_test, performed_if, lowered, lowered_items, all_declared, items, case_tests}
+use Rattle.pk_marks.specs.Marks.{IsSwitch}
 use Rattle.pk_meaning.specs.Objects.{Object, Scope, file, local, result, Array, Objects, numbers_of, is_in_scope}
 use Rattle.pk_meaning.specs.Programs as program
 use Rattle.pk_meaning.specs.Programs.{Program, function_number, function_of, block_of, local_of, with_local, body_scope, is_main}
@@ -63,7 +64,7 @@ context_of g k = record {
 
 -- what is known in the end of a path
 abbrev pub final : Whole → ℕ → Final
-final g k = record { objects = g.objects k; numbers = g.numbers k; labels = g.labels }
+final g k = record { items = (block_of g.program k).items; objects = g.objects k; numbers = g.numbers k; labels = g.labels }
 
 -- the point is at the path's place
 abbrev pub ShowsAt : Whole → ℕ → ℕ → Place → Type 0
@@ -354,6 +355,11 @@ EndedBy g k b None p q hs = p ≡ q
 EndedBy g k true (Some t) p q hs = Writes g k (end_place g.program k) p (own (result k)) (Set (own (result k)) (constant t (pos 0))) q hs
 EndedBy g k false (Some t) p q hs = Writes g k (end_place g.program k) p (own (result k)) (Havoc (own (result k)) t 1) q hs
 
+-- outside loops and switches, jumps out of them would lead to the function's exit
+pub record IsBare (x : Exits) : Type 0 where
+  pub broken : x.broken ≡ x.left
+  pub continued : x.continued ≡ x.left
+
 -- the end of a path's function, and the way to its exit
 pub record Ended (g : Whole) (k : ℕ) (x : Exits) (p : ℕ) (hs : List Held) : Type 0 where
   pub to : ℕ
@@ -381,6 +387,7 @@ pub record BodyOf (g : Whole) (m : ℕ) : Type 0 where
   pub mark : Marks
   pub enters : draft.point ≡ (region_at g.regions m).at
   pub leaves : exits.left ≡ (region_at g.regions m).points
+  pub bare : IsBare exits
   pub variables : (region_at g.regions m).variables ≤ draft.variables
   pub fits : AreItems (around g m objects) mark (block_of g.program m).items
   pub stage : Stage g m (place draft.here.at (body_scope g.program m)) (calls_in_items (block_of g.program m).items) draft (lowered_items (context_of g m) (block_of g.program m).items exits draft)
@@ -407,10 +414,10 @@ abbrev mutual
   pub LaidWay : Whole → (k : ℕ) → Way → (p : ℕ) → List Held → Type 0
   LaidWay g k (Onward h w) p hs = ShowsAt g p k h × ((x : Exits) × Laid g k h x w p hs)
   LaidWay g k Refused p hs = p ≡ nowhere
-  LaidWay g k Lost p hs = Unit {0}
+  LaidWay g k Lost p hs = ⊥
 
   pub LaidCaller : Whole → (k : ℕ) → Caller → (p : ℕ) → List Held → Type 0
-  LaidCaller g k Nobody p hs = hs ≡ []
+  LaidCaller g k Nobody p hs = (hs ≡ []) × (p ≡ (region_at g.regions 0).points)
   LaidCaller g k (Path j h w) p hs = (x : Exits) × Laid g j h x w p hs
 
   pub LaidAhead : Whole → (k : ℕ) → Exits → Ahead → (p : ℕ) → List Held → Type 0
@@ -424,7 +431,7 @@ abbrev mutual
   LaidAhead g k x (Close h a) p hs = (y : Exits) × Among (edge p Skip x.broken) g.edges × ShowsAt g x.broken k h
       × (x ≡ record y { broken = x.broken; cases = x.cases; otherwise = x.otherwise }) × LaidAhead g k y a x.broken hs
   -- at its end, and from each of its labels
-  LaidAhead g k x (End c) p hs = Ended g k x p hs × Body g k x hs × LaidCaller g k c x.left hs
+  LaidAhead g k x (End c) p hs = Ended g k x p hs × Body g k x hs × LaidCaller g k c x.left hs × IsBare x
 
   pub Laid : Whole → (k : ℕ) → Place → Exits → Work → (p : ℕ) → List Held → Type 0
   Laid g k h x (Go a) p hs = ArePlain hs × LaidAhead g k x a p hs
@@ -488,7 +495,7 @@ abbrev mutual
       × Laid g k h x w (passed (context_of g k) es d).draft.point (pushed es (passed (context_of g k) es d).trees hs)
   Laid g k h x (Bind m i ts w) p hs = Binds g k h m i ts (Laid g k h x w) p hs
   Laid g k h x (Enter m w) p hs = (m < length g.program.paths) × ((region_at g.regions m).at ≡ p) × AreCalm (region_at g.regions m).variables hs
-      × Laid g k h x w (region_at g.regions m).points hs
+      × Laid g k h x w (region_at g.regions m).points hs × (k < m)
   Laid g k h x (Leave c) p hs = ArePlain hs × Among (edge p Skip x.left) g.edges × ShowsAt g x.left k (body_place g.program k) × LaidCaller g k c x.left hs
   Laid g k h x (Return c) p hs = ArePlain hs × LaidCaller g k c p hs
   Laid g k h x (Turn j l e a) p hs = (h ≡ j) × ArePlain hs × (c : ℕ) × (o : ℕ) × Loops g k j x l p c o hs × ContinuesAt l p c × ShowsAt g o k e × LaidAhead g k x a o hs
@@ -497,7 +504,7 @@ abbrev mutual
       × IsStatement (around g k n) (WellTyped.in_switch total b m) s × AreCalm d.variables (v ∷ rest)
       × (u : Stage g k j (calls_in_statement s) d (switch_from (context_of g k) r t v.tree zs i total e b s x d))
       × Marking (in_switch e total x) (WellTyped.in_switch total b m) u.marks
-      × Settles (final g k) (context_of g k) s (in_switch e total x) (away (if b then e + 1 + total else e) (case_tests r t v.tree zs (e + 1 + i) d)) × ShowsAt g e k j × LaidAhead g k x a e rest)
+      × Settles (final g k) (context_of g k) s (in_switch e total x) (away (if b then e + 1 + total else e) (case_tests r t v.tree zs (e + 1 + i) d)) × ShowsAt g e k j × LaidAhead g k x a e rest × IsSwitch total b s)
 
 -- The configuration stands at a point with a memory: the graph does its work from there, and has its objects.
 pub record StandsAt (g : Whole) (c : Config) (p : ℕ) (m : Memory) : Type 0 where

@@ -22,6 +22,7 @@ use Rattle.pk_lower_row.specs.Rows.{operand}
 use Rattle.pk_lower_expression.specs.Expressions.{ways}
 use Rattle.pk_lower_statement.specs.declared.statements.Exits.{Exits}
 use Rattle.pk_lower_statement.specs.Statements.{in_switch, case_tests, tested, switch_begun, lowered}
+use Rattle.pk_marks.specs.Marks.{IsSwitch}
 use Rattle.pk_meaning.specs.Work as work
 use Rattle.pk_meaning.specs.Work.{Place, Ahead}
 use Rattle.pk_meaning.specs.Steps.{place}
@@ -115,9 +116,9 @@ valued_adds g k C ms r t zs b s x v body =
 choose_begun : (g : Whole) (k : ℕ) (j : Place) (x : Exits) (r : Site) (t : IntType) (zs : List ℤ) (b : Bool) (s : StatementTree) (a : Ahead) (v : Given Slot) (n : ℕ) (m : Marks) (hs : List Held) (xs : List Numbered) (d : Draft)
     → (st : Stage g k j (xs ++ calls_in_statement s) d (ended (context_of g k) r t zs b s x v)) → Forth g d v.1 → g.shows v.1.here k j
     → IsStatement (around g k n) (WellTyped.in_switch (length zs) b m) s → IsCalm v.1.variables v.0 → AreCalm v.1.variables hs → Marking x m st.marks
-    → Settles (final g k) (context_of g k) s (in_switch v.1.points (length zs) x) (switch_begun r t zs b v) → LaidAhead g k x a v.1.points hs
+    → Settles (final g k) (context_of g k) s (in_switch v.1.points (length zs) x) (switch_begun r t zs b v) → LaidAhead g k x a v.1.points hs → IsSwitch (length zs) b s
     → Laid g k j x (work.Choose t zs 0 b s j a) v.1.point (held v.0 t ∷ hs)
-choose_begun g k j x r t zs b s a v n m hs xs d st le here fits calm_v calm marking settled l = (
+choose_begun g k j x r t zs b s a v n m hs xs d st le here fits calm_v calm marking settled l each = (
   D,
   n,
   m,
@@ -134,6 +135,7 @@ choose_begun g k j x r t zs b s a v n m hs xs d st le here fits calm_v calm mark
   subst (λ q. Settles (final g k) (context_of g k) s y (away to (case_tests r t v.0 zs q D))) (omega arith) settled,
   shown,
   l,
+  each,
 ) where
   e : ℕ
   e = v.1.points
@@ -233,7 +235,7 @@ switch_laid g proper k h x q t e zs b s a p hs (d, n, m, at', fits, calm, t0, ma
       stage_until g k j xs o r.1 v.1 se (held_grows Uncalled Strong shape t w),
       keep_laid g k j x (work.Choose t zs 0 b s j a) Strong shape t w hs Uncalled xs o v.1 se ge (grows_refl Uncalled v.1) (ge.names ∙ ns) (unless_more Strong d.variables r.1.variables hs lr calm)
           (choose_begun g k j x (site c q) t zs b s a v n m hs xs o so le here fits.2
-          (held_calm shape t w (ge.names ∙ ns) (converted_tells r.1.variables (type_of e) t (shape_of e) r.0 (shapes c e o ns))) (calm_more d.variables v.1.variables hs lv calm) marking settled l),
+          (held_calm shape t w (ge.names ∙ ns) (converted_tells r.1.variables (type_of e) t (shape_of e) r.0 (shapes c e o ns))) (calm_more d.variables v.1.variables hs lv calm) marking settled.1 l settled.0),
     )
 
 -- ---- the body
@@ -241,7 +243,7 @@ switch_laid g proper k h x q t e zs b s a p hs (d, n, m, at', fits, calm, t0, ma
 -- a switch's body, in its exits
 pub choose_body : (g : Whole) (proper : Proper g) (k : ℕ) (h j : Place) (x : Exits) (t : IntType) (zs : List ℤ) (i : ℕ) (b : Bool) (s : StatementTree) (a : Ahead) (p : ℕ) (v : Held) (hs : List Held)
     → (l : Laid g k h x (work.Choose t zs i b s j a) p (v ∷ hs)) → (q : ℕ) × Laid g k j (in_switch l.5 l.4 x) (work.Do s (work.Close j a)) q hs
-choose_body g proper k h j x t zs i b s a p v hs (d, n, m, r, total, e, at', types, many, fits, calm, u, marking, settled, shown, l) =
+choose_body g proper k h j x t zs i b s a p v hs (d, n, m, r, total, e, at', types, many, fits, calm, u, marking, settled, shown, l, each) =
     let c = context_of g k in
     let y = in_switch e total x in
     let to = if b then e + 1 + total else e in

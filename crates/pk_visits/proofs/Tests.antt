@@ -1,5 +1,5 @@
 -- The graph follows the program at tests, assertions, and the ends of branches, switches and functions.
-use Rattle.std.proofs.Common.{◌≡◌, ℕ, List, ◌∷◌, Bool, true, false, if◌then◌else◌, refl, ap, ◌∙◌, ℤ}
+use Rattle.std.proofs.Common.{subst, ◌≡◌, ℕ, List, ◌∷◌, Bool, true, false, if◌then◌else◌, refl, ap, ◌∙◌, ℤ}
 use Rattle.std.specs.Prelude.{Ok}
 use Rattle.pk_ctypes.specs.declared.places.Pos.{Pos}
 use Rattle.pk_ctypes.specs.declared.types.IntType.TheVariants.{Int}
@@ -31,8 +31,8 @@ pub along : (g : Whole) (chosen : Numbers) (p q : ℕ) (m : Memory) (k : ℕ) (h
     → Answers g chosen k h p m (meaning.takes (config k h w vs s b) y rest)
 along g chosen p q m k h w vs rest s b e v sense (Onward j z) hs a k1 t l n same f =
     moved g chosen p q m m (Guard e sense) k j z rest s true l.1.0 hs a (passes chosen e v sense m k1 t) (refl, l.0) l.1.1 n same f
-along g chosen p q m k h w vs rest s b e v sense Refused hs a k1 t l n same f = tt
-along g chosen p q m k h w vs rest s b e v sense Lost hs a k1 t l n same f = tt
+along g chosen p q m k h w vs rest s b e v sense Refused hs a k1 t l n same f = (Guard e sense, subst (λ j. Among (edge p (Guard e sense) j) g.edges) l a, passes chosen e v sense m k1 t)
+along g chosen p q m k h w vs rest s b e v sense Lost hs a k1 t l n same f = absurd l
 
 pub branch : (g : Whole) (chosen : Numbers) (p : ℕ) (m : Memory) (k : ℕ) (h : Place) (y n : Way) (v : ℤ) (vs : Numbers) (s : Objects) (b : Bool) (x : Exits) (a : Held) (hs : List Held)
     → Laid g k h x (work.Branch y n) p (a ∷ hs) → Means m (a ∷ hs) (v ∷ vs) → m.objects ≡ s → FitsObjects g.program s
@@ -79,5 +79,5 @@ leave g chosen p m k h c vs s b x hs l e same f =
 pub return : (g : Whole) (chosen : Numbers) (p : ℕ) (m : Memory) (k : ℕ) (h : Place) (c : Caller) (vs : Numbers) (s : Objects) (b : Bool) (x : Exits) (hs : List Held)
     → Laid g k h x (work.Return c) p hs → Means m hs vs → m.objects ≡ s → FitsObjects g.program s
     → Answers g chosen k h p m (step_of g.program chosen (config k h (work.Return c) vs s b) (work.Return c))
-return g chosen p m k h work.Nobody vs s b x hs l e same f = tt
+return g chosen p m k h work.Nobody vs s b x hs l e same f = l.1.1
 return g chosen p m k h (work.Path j i w) vs s b x hs l e same f = still g chosen p m j i w vs s l.1.0 hs l.1.1 e same f

@@ -13,6 +13,7 @@ use Rattle.pk_meaning.specs.Work as work
 use Rattle.pk_meaning.specs.Work.{Place, Work, Ahead, For, Onward}
 use Rattle.pk_meaning.specs.Steps as meaning
 use Rattle.pk_meaning.specs.Steps.{place}
+use Rattle.pk_visits.proofs.Settled.{Settles}
 use Rattle.pk_visits.proofs.Slots.{Draft, Among, edge, last_among, front_among, Uncalled}
 use Rattle.pk_visits.proofs.Stands.{Whole, Proper, context_of, Held, around, ArePlain, ShowsAt, Distinct, Stage, led_to, Loops, LaidAhead, LaidWay, Laid, IsCalled}
 use Rattle.pk_visits.proofs.Stages.{all_called, back_among, among_front, among_back, among_either, distinct_front, distinct_back, distinct_between, led_both, part_first, part_second, part_until, forth_all, forth_first}
@@ -206,17 +207,17 @@ resumed_laid g proper k h x (work.While e s) o a p hs plain l = again_while g k 
 resumed_laid g proper k h x (work.DoWhile s e) o a p hs plain l = again_do g proper k h x e s o a p hs plain l
 resumed_laid g proper k h x (For v third s) o a p hs plain l = third_laid g proper k h x v third s o a p hs plain l
 
-continued_laid : (g : Whole) (proper : Proper g) (k : ℕ) (x : Exits) (a : Ahead) (p : ℕ) (hs : List Held) → ArePlain hs → LaidAhead g k x a p hs → LaidWay g k (meaning.continued a) x.continued hs
-continued_laid g proper k x (work.Rest xs is a) p hs plain (d, n, m, is', fits, calm, s, marking, settled, l) = continued_laid g proper k x a _ hs plain l
-continued_laid g proper k x (work.Join h a) p hs plain (q, there, shown, l) = continued_laid g proper k x a q hs plain l
-continued_laid g proper k x (work.Again h u o a) p hs plain l = (l.3, resumed_laid g proper k h x u o a p hs plain l)
-continued_laid g proper k x (work.Close h a) p hs plain (y, there, shown, same, l) =
-    subst (λ (z : Exits). LaidWay g k (meaning.continued a) z.continued hs) (sym same) (continued_laid g proper k y a _ hs plain l)
-continued_laid g proper k x (work.End c) p hs plain l = tt
+continued_laid : (g : Whole) (proper : Proper g) (k : ℕ) (x : Exits) (a : Ahead) (p : ℕ) (hs : List Held) → (x.continued ≡ x.left → ⊥) → ArePlain hs → LaidAhead g k x a p hs → LaidWay g k (meaning.continued a) x.continued hs
+continued_laid g proper k x (work.Rest xs is a) p hs none plain (d, n, m, is', fits, calm, s, marking, settled, l) = continued_laid g proper k x a _ hs none plain l
+continued_laid g proper k x (work.Join h a) p hs none plain (q, there, shown, l) = continued_laid g proper k x a q hs none plain l
+continued_laid g proper k x (work.Again h u o a) p hs none plain l = (l.3, resumed_laid g proper k h x u o a p hs plain l)
+continued_laid g proper k x (work.Close h a) p hs none plain (y, there, shown, same, l) =
+    subst (λ (z : Exits). LaidWay g k (meaning.continued a) z.continued hs) (sym same) (continued_laid g proper k y a _ hs (subst (λ (z : Exits). z.continued ≡ z.left → ⊥) same none) plain l)
+continued_laid g proper k x (work.End c) p hs none plain l = absurd (none l.3.continued)
 
 -- `continue`: the edge, and the end of the body
 pub continue_laid : (g : Whole) (proper : Proper g) (k : ℕ) (h : Place) (x : Exits) (p : Pos) (a : Ahead) (pt : ℕ) (hs : List Held) → Laid g k h x (work.Do (tree.continue p) a) pt hs
     → Among (edge pt Skip x.continued) g.edges × LaidWay g k (meaning.continued a) x.continued hs
-unfolding lowered
+unfolding lowered Settles
 continue_laid g proper k h x p a pt hs (d, n, m, is, fits, calm, s, marking, settled, l) =
-    (subst (λ q. Among (edge q Skip x.continued) g.edges) is (jump_edge g k _ _ p x.continued d s), continued_laid g proper k x a _ hs (calm_plain d.variables hs calm) l)
+    (subst (λ q. Among (edge q Skip x.continued) g.edges) is (jump_edge g k _ _ p x.continued d s), continued_laid g proper k x a _ hs settled (calm_plain d.variables hs calm) l)
