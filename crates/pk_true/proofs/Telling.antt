@@ -20,7 +20,7 @@ use Rattle.pk_runs.specs.True.{AreTrueOf, IsUnknownIn}
 use Rattle.pk_meaning.specs.Programs.{Program}
 use Rattle.pk_meaning.specs.Runs.{Visit}
 use Rattle.pk_visits.specs.GraphVisits.{GraphRuns, ends, steps, is_visit, visit_at, visits_if}
-use Rattle.pk_visits.specs.SameVisits.{ProgramVisits, GraphVisits, FailsAt, EndsAt, IsInside}
+use Rattle.pk_visits.specs.SameVisits.{ProgramVisits, GraphVisits, HaveSameVisits, FailsAt, EndsAt, IsInside}
 use Rattle.pk_true.specs.ToldOfPrograms.{IsToldVisit, IsToldFault, IsToldEnd, IsTrueOfProgram}
 use Rattle.pk_verdict.specs.Verdicts.{verdict_of}
 use Rattle.pk_sound.proofs.Accesses.{IsAccessAt, in_instr}
@@ -104,10 +104,10 @@ module _ (g : GraphOf) (states : List Stated) (made : IsGraph g) (t : AreTrueOf 
       let all = reached 0 x.first x.others x.point x.last x.runs first in
       (subst (All (IsToldVisit g states)) (sym x.visits_are) (All-cons (IsToldVisit g states) (visit_at g 0 x.first) x.others (told 0 x.first first) all.0), ended x.point x.last end all.1 x.ends)
 
-pub true_of : (g : GraphOf) (states : List Stated) (p : Program) → IsGraph g → AreTrueOf g states → ((v : ℕ) → SharesAccesses v (point_at g v).edges) → ((visits : List Visit) (end : Option Failure) → ProgramVisits p visits end → GraphVisits g visits end) → IsTrueOfProgram p g states
-true_of g states p made t share forward = record {
-  runs = forward;
+pub true_of : (g : GraphOf) (states : List Stated) (p : Program) → IsGraph g → AreTrueOf g states → ((v : ℕ) → SharesAccesses v (point_at g v).edges) → HaveSameVisits p g → IsTrueOfProgram p g states
+true_of g states p made t share same = record {
+  runs = same;
   points = t;
-  visits = λ visits end x. (of_graph g states made t share visits end (forward visits end x)).0;
-  faults = λ visits end x. (of_graph g states made t share visits end (forward visits end x)).1;
+  visits = λ visits end x. (of_graph g states made t share visits end (same.forward visits end x)).0;
+  faults = λ visits end x. (of_graph g states made t share visits end (same.forward visits end x)).1;
 }

@@ -17,7 +17,7 @@ use Rattle.pk_report.specs.Reports.{fault_of, state_at}
 use Rattle.pk_answer.specs.Reported.{AreStates, verdict_at}
 use Rattle.pk_meaning.specs.Programs.{Program}
 use Rattle.pk_meaning.specs.Runs.{Known, Visit}
-use Rattle.pk_visits.specs.SameVisits.{ProgramVisits, GraphVisits}
+use Rattle.pk_visits.specs.SameVisits.{ProgramVisits, HaveSameVisits}
 use Rattle.pk_runs.specs.True.{AreTrueOf}
 use Rattle.pk_told.specs.Answers.{HasGraph}
 
@@ -77,10 +77,10 @@ IsToldEnd g states (Some f) = IsToldFault g states f
 
 -- ---- runs
 
--- Each run of the program is followed by a run of the graph, visit by visit, and no run of the graph leaves what is told of the points that it comes to.
+-- The program and its graph have the same visits, and no run of the graph leaves what is told of the points that it comes to.
 -- So each visit of each run is told, and the fault at its end if there is one. Several points can have one place: the run of the graph tells which of them a visit is at.
 pub record IsTrueOfProgram (p : Program) (g : GraphOf) (states : List Stated) : Type 0 where
-  pub runs : (visits : List Visit) (end : Option Failure) → ProgramVisits p visits end → GraphVisits g visits end
+  pub runs : HaveSameVisits p g
   pub points : AreTrueOf g states
   pub visits : (visits : List Visit) (end : Option Failure) → ProgramVisits p visits end → All (IsToldVisit g states) visits
   pub faults : (visits : List Visit) (end : Option Failure) → ProgramVisits p visits end → IsToldEnd g states end

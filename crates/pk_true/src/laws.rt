@@ -2,10 +2,10 @@
 
 ghost use Rattle.pk_true.specs.ToldOfPrograms.{ReportsAreTrueOfPrograms};
 
-use pk_followed::programs_are_followed;
 use pk_marked::units_are_marked;
 use pk_one_way::points_share_accesses;
 use pk_runs::reports_are_true;
+use pk_same::graphs_have_program_visits;
 use pk_told::graphs_are_well_made;
 use pk_welltyped_texts::texts_are_well_typed;
 
@@ -17,6 +17,6 @@ pub fn reports_are_true_of_programs()
     units_are_marked();
     graphs_are_well_made();
     reports_are_true();
-    programs_are_followed();
+    graphs_have_program_visits();
     points_share_accesses();
 }

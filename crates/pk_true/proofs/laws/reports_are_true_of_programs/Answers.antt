@@ -3,7 +3,7 @@ use Rattle.std.specs.Prelude.{ℕ}
 use Rattle.pk_graph.specs.Graphs.{GraphOf, point_at}
 use Rattle.pk_one_way.specs.OneWay.{SharesAccesses}
 use Rattle.pk_marks.specs.Marks.{AreMarked}
-use Rattle.pk_visits.specs.SameVisits.{GraphVisits}
+use Rattle.pk_visits.specs.SameVisits.{HaveSameVisits}
 use Rattle.pk_true.specs.ToldOfPrograms.{program_of}
 use Rattle.pk_true.proofs.Telling.{true_of}
 use Rattle.pk_true.proofs.laws.reports_are_true_of_programs.Goals as goal
@@ -13,8 +13,8 @@ returns c = λ text entry g h o most p states few are.
     let typed = h.called.typed in
     let unit = c.texts_are_well_typed.ensures text h.unit typed in
     let marked = subst AreMarked (sym typed.unit) (c.units_are_marked.ensures text typed.all typed.accepted) in
-    let forward = c.programs_are_followed.ensures h.unit entry h.paths unit marked h.called.called.0 h.few in
+    let both = c.graphs_have_program_visits.ensures h.unit entry h.paths unit marked h.called.called.0 h.few in
     let made = c.graphs_are_well_made.ensures text entry g h in
     true_of g states (program_of h) made (c.reports_are_true.ensures g o most p states made few are)
     (subst (λ (x : GraphOf). (v : ℕ) → SharesAccesses v (point_at x v).edges) (sym h.graph) (c.points_share_accesses.ensures h.unit entry h.paths unit marked h.called.called.0 h.few))
-    (λ visits end x. subst (λ g. GraphVisits g visits end) (sym h.graph) (forward visits end x))
+    (subst (λ (x : GraphOf). HaveSameVisits (program_of h) x) (sym h.graph) both)
