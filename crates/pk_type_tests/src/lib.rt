@@ -2,4 +2,10 @@
 #![tactic(auto)]
 
 #[cfg(test)]
+mod bad;
+#[cfg(test)]
+mod places;
+#[cfg(test)]
+mod types;
+#[cfg(test)]
 mod typing;

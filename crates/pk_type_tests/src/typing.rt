@@ -3,6 +3,7 @@
 use pk_lex::lex;
 use pk_parse::parse;
 use pk_type::{Refusal, check};
+use pk_typed::Unit;
 use std::alloc::Global;
 use std::test::Fail;
 
@@ -16,11 +17,17 @@ fn printed(alloc: Global, refusal: Option<Refusal>) -> Result<String, Fail> {
     Ok(text)
 }
 
-// What typing refuses of a text.
-fn answer(alloc: Global, text: &[u8]) -> Result<Option<Refusal>, Fail> {
+// The typed tree of a text, or what typing refuses.
+pub(crate) fn typed(alloc: Global, text: &[u8]) -> Result<Result<Unit, Refusal>, Fail> {
     let tokens = lex(alloc, text)?;
     let unit = parse(alloc, tokens.as_slice())?;
-    Ok(check(alloc, text, &unit).err())
+    Ok(check(alloc, text, &unit))
+}
+
+// What typing refuses of a text.
+fn answer(alloc: Global, text: &[u8]) -> Result<Option<Refusal>, Fail> {
+    let unit = typed(alloc, text)?;
+    Ok(unit.err())
 }
 
 // A text in each line, and behind an arrow what is refused of it.
@@ -465,7 +472,7 @@ int a;int t[3];const int k=1;const int c[2]={1,2};void v(void);int f(int p);int 
 int a;int t[3];const int k=1;const int c[2]={1,2};void v(void);int f(int p);int g(int p,int q);void h(void){{int b;(a=1)+(b=1);}}",
 ];
 
-fn is_told(alloc: Global, text: &str, wanted: &str) -> Result<bool, Fail> {
+pub(crate) fn is_told(alloc: Global, text: &str, wanted: &str) -> Result<bool, Fail> {
     let refusal = answer(alloc, text.as_bytes())?;
     let got = printed(alloc, refusal)?;
     Ok(got.as_str() == wanted)

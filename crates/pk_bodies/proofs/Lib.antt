@@ -1,0 +1,4 @@
+pub mod Parts
+pub mod Labels
+pub mod Statements
+pub mod Units

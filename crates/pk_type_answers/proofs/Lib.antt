@@ -1,0 +1,4 @@
+pub mod Walks
+pub mod Statements
+pub mod Files
+pub mod Answers
