@@ -20,7 +20,7 @@ use pk_iterate::Cells;
 use pk_lower::{draft, graph_paths};
 use pk_number::number_if_typed;
 use pk_order::ordered;
-use pk_phases::Cell;
+use pk_phases::{Cell, Phase};
 use pk_plan::{Order, Plan};
 use pk_state::State;
 use pk_typed::Unit;
@@ -44,8 +44,23 @@ const LIST: [Event; 12] = [
     Finish(5),
 ];
 
+// A text whose narrowed value fails its test. While x may be any number, x * y is a multiple of 3 * 2^62, and so of 2^62 when it is wrapped, and the loop sets x to 0 or to
+// 3 * 2^62 alone. That is what the narrowing keeps; but then the class of x times that of y passes 2^127, nothing is known of the product, and the loop may set x to 1.
+const FAILING: &str = "extern unsigned long __VERIFIER_nondet_ulong(void);
+int main(void){
+unsigned long x=0;
+unsigned long y=0;
+if(__VERIFIER_nondet_ulong())y=13835058055282163712u;
+while(__VERIFIER_nondet_ulong()){
+if(x*y%4611686018427387904u)x=1;
+else if(__VERIFIER_nondet_ulong())x=13835058055282163712u;
+else x=0;
+}
+return 0;
+}";
+
 // Texts, each with a list that ends with END done, if one is given, and how often Finish, Again and Stable come in such a list, if that is known.
-const TEXTS: [(&str, &[Event], Option<(u32, u32, u32)>); 5] = [
+const TEXTS: [(&str, &[Event], Option<(u32, u32, u32)>); 6] = [
     (
         "int main(void){unsigned u=0;u=u-1;return 0;}",
         &LIST,
@@ -88,6 +103,7 @@ return 0;
         &[],
         None,
     ),
+    (FAILING, &[], Some((77, 4, 1))),
 ];
 
 fn graph_from(alloc: Global, unit: &Unit, paths: &Paths) -> Option<Graph> {
@@ -230,5 +246,57 @@ fn texts_lead_to_the_iteration(rt: HostRuntime) -> Result<(), Fail> {
     for (text, list, runs) in &TEXTS {
         text_as_iterated(&rt, rt.alloc(), text, list, *runs)?;
     }
+    Ok(())
+}
+
+// The phase to which a list that ends with Again brings its exit.
+fn phase_after(
+    alloc: Global,
+    analysis: &Analysis,
+    plan: &Plan,
+    list: &[Event],
+) -> Result<Option<Phase>, Fail>
+    requires { ReadsWithin (behaviour_of (equations_of analysis.now)) plan.now.elements }
+{
+    let core = play(alloc, analysis, plan, list).ok().ok_or("refused")?;
+    match list.last() {
+        Some(Again(exit)) if *exit < plan.elements() => match &**core.cell(*exit) {
+            Cell::Exit(phase) => Ok(Some(*phase)),
+            Cell::Value(_) => Ok(None),
+        },
+        _ => Ok(None),
+    }
+}
+
+// The phases to which a drawn list brings the exits, each where it decides to go on.
+fn phases(alloc: Global, analysis: &Analysis, plan: &Plan) -> Result<String, Fail>
+    requires { ReadsWithin (behaviour_of (equations_of analysis.now)) plan.now.elements }
+{
+    let drive = driven(alloc, analysis, plan, 1)?.ok_or("no end")?;
+    let mut text = String::new(alloc);
+    for many in 0..drive.events.len() {
+        let list = &drive.events[..many];
+        match phase_after(alloc, analysis, plan, list)? {
+            None => (),
+            Some(Phase::Up) => text.push_str("Up ")?,
+            Some(Phase::Down(k)) => write!(text, "Down {k} ")?,
+            Some(Phase::Last) => text.push_str("Last ")?,
+        }
+    }
+    Ok(text)
+}
+
+#[test]
+fn a_narrowed_value_fails_its_test(rt: HostRuntime) -> Result<(), Fail> {
+    let alloc = rt.alloc();
+    let graph = graph_of(alloc, FAILING).ok_or("no graph")?;
+    let points = digraph(alloc, &graph)?;
+    assert!(rt; points.vertices() < 1000);
+    let (plan, _) = ordered(alloc, &points)?;
+    assert!(rt; plan.points() as usize == graph.points());
+    let options = Options { narrow: 2, oct: 16 };
+    let analysis = Analysis::new(alloc, &graph, &plan, options)?;
+    assert!(rt; reads_within(&analysis, plan.elements()));
+    assert!(rt; phases(alloc, &analysis, &plan)?.as_str() == "Up Up Down 1 Last ");
     Ok(())
 }

@@ -1,0 +1,67 @@
+// What is known at the end of a line of instructions.
+
+ghost use Rattle.std.specs.Prelude.{◌≡◌, ◌<◌, ◌^◌, length, IfOk};
+ghost use Rattle.std.specs.Arc.{arc_value};
+ghost use Rattle.pk_graph.specs.Shown.{graph_view};
+ghost use Rattle.pk_transfer.specs.Graphs.{layout_of};
+
+use pk_graph::{Graph, octagon_variables};
+use pk_state::{Frame, State};
+use pk_transfer::{graphs_law, transfer};
+use std::alloc::{AllocError, Global};
+use std::sync::Arc;
+use std::test::Fail;
+
+/// The graph's variables, with an octagon over the first of them.
+#[tactic(auto, unfolding(pk_graph::specs::Graphs::variable_view))]
+pub fn frame(alloc: Global, graph: &Graph, oct: usize) -> Result<Frame, AllocError>
+    requires { oct < 2 ^ 31 }
+    ensures { IfOk result (λ f. f ≡ layout_of (graph_view graph.now) oct) }
+{
+    graphs_law();
+    let chosen = octagon_variables(alloc, graph, oct)?;
+    let variables = graph.variables();
+    let mut types = Vec::with_capacity(alloc, variables.len())?;
+    for variable in variables {
+        types.push(variable.int_type)?;
+    }
+    Ok(Frame::new(types, chosen))
+}
+
+// What is known after the one edge of a point, which leads to the next point.
+fn passed(
+    alloc: Global,
+    graph: &Graph,
+    oct: usize,
+    point: usize,
+    state: &State,
+) -> Result<State, Fail>
+    requires point { point < length (graph_view graph.now).points }
+    requires layout { state.now.layout ≡ layout_of (graph_view graph.now) oct }
+    ensures { IfOk result (λ s. s.layout ≡ state.now.layout) }
+{
+    let _ = oct;
+    graphs_law();
+    graph.well_made();
+    let edges = graph.edges(point);
+    if edges.len() != 1 {
+        return Err("no line".into());
+    }
+    let edge = &edges[0];
+    if edge.to != point.wrapping_add(1) {
+        return Err("no line".into());
+    }
+    Ok(transfer(alloc, &edge.instr, state)?)
+}
+
+/// What is known before the result of the main function is set, which is three points before the end, reduced. Nothing is known at the start.
+pub fn along(alloc: Global, graph: &Graph, oct: usize, frame: &Arc<Frame>) -> Result<State, Fail>
+    requires { arc_value frame.now ≡ layout_of (graph_view graph.now) oct }
+    ensures { IfOk result (λ s. s.layout ≡ arc_value frame.now) }
+{
+    let mut state = State::top(alloc, Arc::try_clone(frame)?)?;
+    for point in 0..graph.points().saturating_sub(3) {
+        state = passed(alloc, graph, oct, point, &state)?;
+    }
+    Ok(state.reduce(alloc)?)
+}
