@@ -3,3 +3,4 @@ pub mod Counting
 pub mod Sound
 pub mod Along
 pub mod Kept
+pub mod Crossed

@@ -72,21 +72,48 @@ fn gained(bound: Bound, k: usize, c: i128, i: usize, j: usize) -> Bound
     bound.plus(change(k, near, i, j)).capped()
 }
 
-/// Writes the bounds of a matrix with c added along, after an exchange where t is the negative of x_k.
+/// Writes one bound of a matrix with c added along, after an exchange where t is the negative of x_k.
+fn move_cell(
+    cells: &mut [Bound],
+    old: &[Bound],
+    d: usize,
+    k: usize,
+    t: usize,
+    c: i128,
+    i: usize,
+    j: usize,
+)
+    requires size { length cells.old ≡ d * d }
+    requires old { IsMatrix d old.now }
+    requires pairs { d % 2 ≡ 0 }
+    requires room { d < 2 ^ 33 }
+    requires variable { 2 * k < d }
+    requires row { i < d }
+    requires column { j < d }
+    ensures size { length cells.new ≡ d * d }
+    ensures here { cell_at d cells.new i j ≡ moved (cell_at d old.now) k t c i j }
+    ensures others { (a b : ℕ) → ((a ≡ i) → (b ≡ j) → ⊥) → cell_at d cells.new a b ≡ cell_at d cells.old a b }
+{
+    let bound = old[source(k, t, i) * d + source(k, t, j)];
+    cells[i * d + j] = gained(bound, k, c, i, j);
+}
+
+/// Writes the bounds of a matrix with c added along, over a copy of it: those on x_k alone change.
 fn move_cells(cells: &mut [Bound], old: &[Bound], d: usize, k: usize, t: usize, c: i128)
     requires size { length cells.old ≡ d * d }
     requires old { IsMatrix d old.now }
+    requires same { cells.old ≡ old.now }
     requires pairs { d % 2 ≡ 0 }
     requires room { d < 2 ^ 33 }
     requires variable { 2 * k < d }
     ensures value { (i j : ℕ) → i < d → j < d → cell_at d cells.new i j ≡ moved (cell_at d old.now) k t c i j }
     ensures whole { IsMatrix d cells.new }
 {
-    for i in 0..d {
-        for j in 0..d {
-            let bound = old[source(k, t, i) * d + source(k, t, j)];
-            cells[i * d + j] = gained(bound, k, c, i, j);
-        }
+    for j in 0..d {
+        move_cell(cells, old, d, k, t, c, 2 * k, j);
+        move_cell(cells, old, d, k, t, c, 2 * k + 1, j);
+        move_cell(cells, old, d, k, t, c, j, 2 * k);
+        move_cell(cells, old, d, k, t, c, j, 2 * k + 1);
     }
 }
 

@@ -214,13 +214,13 @@ fn with_octagon(
 /// The reduction, or none where nothing is left.
 pub(crate) fn reduce_facts(
     alloc: Global,
-    f: &Facts,
+    f: Facts,
     frame: &Frame,
 ) -> Result<Option<Facts>, AllocError>
-    requires { AreFacts frame.now f.now }
-    ensures { IfOk result (λ o. o ≡ reduced_facts frame.now f.now) }
+    requires { AreFacts frame.now f }
+    ensures { IfOk result (λ o. o ≡ reduced_facts frame.now f) }
 {
-    let mut values = f.values.copy(alloc)?;
+    let mut values = f.values;
     if !reduce_values(alloc, &mut values, &f.loose, frame)? {
         return Ok(None);
     }

@@ -119,11 +119,11 @@ fn narrow_if(
 
 fn reduce_if(
     alloc: Global,
-    facts: &Option<Facts>,
+    facts: Option<Facts>,
     frame: &Frame,
 ) -> Result<Option<Facts>, AllocError>
-    requires { AreFactsIf frame.now facts.now }
-    ensures { IfOk result (λ f. f ≡ reduced frame.now facts.now) }
+    requires { AreFactsIf frame.now facts }
+    ensures { IfOk result (λ f. f ≡ reduced frame.now facts) }
 {
     match facts {
         None => Ok(None),
@@ -258,7 +258,18 @@ impl State {
     pub fn reduce(&self, alloc: Global) -> Result<State, AllocError>
         ensures { IfOk result (λ s. s ≡ record { layout = self.now.layout; facts = reduced self.now.layout self.now.facts }) }
     {
-        let facts = reduce_if(alloc, &self.facts, &self.frame)?;
-        with_facts(self, facts)
+        let state = self.copy(alloc)?;
+        state.into_reduced(alloc)
+    }
+
+    /// The same of a state that isn't used any more.
+    pub fn into_reduced(self, alloc: Global) -> Result<State, AllocError>
+        ensures { IfOk result (λ s. s ≡ record { layout = self.layout; facts = reduced self.layout self.facts }) }
+    {
+        let facts = reduce_if(alloc, self.facts, &self.frame)?;
+        Ok(State {
+            frame: self.frame,
+            facts,
+        })
     }
 }

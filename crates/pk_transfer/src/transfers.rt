@@ -215,5 +215,5 @@ pub fn transfer(alloc: Global, instr: &Instr, state: &State) -> Result<State, Al
     let before = state.reduce(alloc)?;
     let after = apply(alloc, before, instr)?;
     after.is_stated();
-    after.reduce(alloc)
+    after.into_reduced(alloc)
 }

@@ -1,41 +1,32 @@
 use Rattle.pk_octmat.proofs.Bars.{pairs_of}
-use Rattle.std.proofs.Common.{ap, ◌∙◌}
+use Rattle.std.specs.Prelude.{ℕ, ◌<◌}
+use Rattle.std.proofs.Common.{ap, ◌∙◌, ◌≡◌, to_z, of_z}
 use Rattle.std.specs.Int.{w128}
 use Rattle.std.proofs.lemmas.Int.{to_z-of_z}
 use Rattle.pk_octmat.specs.Octagon.{cell_at}
-use Rattle.pk_octmat.proofs.Cells.{cell_read, place_in}
-use Rattle.pk_octmat.proofs.Swept.{swept_all, swept_more, swept_row}
 use Rattle.pk_octops.specs.Assigns.{moved}
-use Rattle.pk_octops.proofs.Along.{moved_is, moved_matrix, source_in, source_read}
+use Rattle.pk_octops.proofs.Along.{moved_matrix}
+use Rattle.pk_octops.proofs.Crossed.{crossed_none, crossed_more, crossed_all}
 use Rattle.pk_octops.proofs.assigns.move_cells.Goals as goal
+use Rattle.pk_octops.proofs.assigns.move_cells.Goals.{After-loop-j}
 
-pub bounds-old-source : goal.bounds-old-source
-bounds-old-source c =
-    place_in c.args.d c.args.old.now c.source.result c.source-in-loop-j.result c.requires.old.size
-    (source_in _ _ _ _ _ _ (pairs_of _ c.requires.pairs) c.loop-i-test.true c.source.ensures) (source_in _ _ _ _ _ _ (pairs_of _ c.requires.pairs) c.loop-j-test.true c.source-in-loop-j.ensures)
-
-pub gained-requires-clause-near : goal.gained-requires-clause-near
-gained-requires-clause-near c =
-    rw (cell_read _ _ _ _ _ c.requires.old.size (source_in _ _ _ _ _ _ (pairs_of _ c.requires.pairs) c.loop-i-test.true c.source.ensures) (source_in _ _ _ _ _ _ (pairs_of _ c.requires.pairs) c.loop-j-test.true c.source-in-loop-j.ensures) c.index-old-source.is)
-    (c.requires.old.near c.source.result c.source-in-loop-j.result)
+pub loop-j-init : goal.loop-j-init
+loop-j-init c = rw c.requires.same (crossed_none c.args.d c.args.k (moved (cell_at c.args.d c.args.old.now) c.args.k c.args.t (to_z w128 (of_z w128 c.args.c))) c.args.old.now c.requires.old.size)
 
 pub loop-j-preserved : goal.loop-j-preserved
 loop-j-preserved c =
-    swept_more _ _ _ _ _ _ _ c.loop-j.invariant c.loop-i-test.true c.loop-j-test.true
-    (moved_is _ _ _ _ _ _ _ _
-    (source_read c.args.d c.args.k c.args.t c.loop-i.i c.loop-j.j c.source.result c.source-in-loop-j.result c.args.old.now c.index-old-source.result c.source.ensures c.source-in-loop-j.ensures
-    (cell_read _ _ _ _ _ c.requires.old.size (source_in _ _ _ _ _ _ (pairs_of _ c.requires.pairs) c.loop-i-test.true c.source.ensures) (source_in _ _ _ _ _ _ (pairs_of _ c.requires.pairs) c.loop-j-test.true c.source-in-loop-j.ensures) c.index-old-source.is))
-    c.gained.ensures.value)
+    crossed_more _ _ _ _ _ _ _ _ _ _ c.loop-j.invariant
+    (record { size = c.move_cell.ensures.size; here = c.move_cell.ensures.here; others = c.move_cell.ensures.others })
+    (record { size = c.move_cell-in-loop-j.ensures.size; here = c.move_cell-in-loop-j.ensures.here; others = c.move_cell-in-loop-j.ensures.others })
+    (record { size = c.move_cell-in-loop-j-2.ensures.size; here = c.move_cell-in-loop-j-2.ensures.here; others = c.move_cell-in-loop-j-2.ensures.others })
+    (record { size = c.move_cell-in-loop-j-3.ensures.size; here = c.move_cell-in-loop-j-3.ensures.here; others = c.move_cell-in-loop-j-3.ensures.others })
 
-pub loop-i-preserved : goal.loop-i-preserved
-loop-i-preserved c = swept_row _ _ _ _ _ _ c.loop-j.invariant c.loop-j-test.false
+-- every bound at the end
+bounds : (c : After-loop-j) (i j : ℕ) → i < c.args.d → j < c.args.d → cell_at c.args.d c.loop-j.cells i j ≡ moved (cell_at c.args.d c.args.old.now) c.args.k c.args.t (to_z w128 (of_z w128 c.args.c)) i j
+bounds c = crossed_all _ _ _ _ _ _ _ c.loop-j.invariant c.loop-j-test.false c.requires.old.near
 
 pub returns-clause-value : goal.returns-clause-value
-returns-clause-value c = λ i j id jd.
-    swept_all _ _ _ _ _ _ c.loop-i.invariant c.loop-i-test.false i j id jd ∙ ap (λ z. moved (cell_at c.args.d c.args.old.now) c.args.k c.args.t z i j) (to_z-of_z w128 c.args.c c.ranges.c)
+returns-clause-value c = λ i j id jd. bounds c i j id jd ∙ ap (λ z. moved (cell_at c.args.d c.args.old.now) c.args.k c.args.t z i j) (to_z-of_z w128 c.args.c c.ranges.c)
 
 pub returns-clause-whole : goal.returns-clause-whole
-returns-clause-whole c = moved_matrix _ _ _ _ _ c.args.old.now c.loop-i.cells (pairs_of _ c.requires.pairs) c.requires.old c.loop-i.invariant.size (swept_all _ _ _ _ _ _ c.loop-i.invariant c.loop-i-test.false)
-
-pub bounds-cells-i : goal.bounds-cells-i
-bounds-cells-i c = place_in c.args.d c.loop-j.cells c.loop-i.i c.loop-j.j c.loop-j.invariant.size c.loop-i-test.true c.loop-j-test.true
+returns-clause-whole c = moved_matrix _ _ _ _ _ c.args.old.now c.loop-j.cells (pairs_of _ c.requires.pairs) c.requires.old c.loop-j.invariant.size (bounds c)
