@@ -1,12 +1,12 @@
 -- Octagons that stay closed.
-use Rattle.std.specs.Prelude.{◌≡◌, ◌≢◌, ◌⊎◌, ℕ, suc, ◌/◌, ◌%◌, ◌==◌, if◌then◌else◌, pos, neg_ℤ, ◌-ℤ◌, Bool, false, ◌<◌, ◌≤◌, ◌+◌, ◌*◌, ℤ, List, true, Option, Some, None}
+use Rattle.std.specs.Prelude.{◌≡◌, ◌≢◌, ◌⊎◌, ℕ, suc, ◌/◌, ◌%◌, ◌==◌, if◌then◌else◌, pos, neg_ℤ, ◌-ℤ◌, Bool, false, ◌<◌, ◌+◌, ◌*◌, ℤ, List, true, Option, Some, None}
 use Rattle.std.proofs.Common.{◌∙◌, ap, sym, subst, refl, arith, length, inl, inr}
 use Rattle.std.proofs.lemmas.Bool.{cases_eq}
 use Rattle.std.proofs.lemmas.Bool.Decides.{nat_tests}
 use Rattle.pk_octmat.specs.Bounds.{greater, plus, capped}
 use Rattle.pk_octmat.specs.Octagon.{Octagon, entry, cell_at, bar, forgotten, IsOctagon}
 use Rattle.pk_octmat.proofs.Tabled.{octagon_entries}
-use Rattle.pk_octclose.specs.Closing.{IsClosed, IsClosing}
+use Rattle.pk_octclose.specs.Closing.{IsClosing}
 use Rattle.pk_octclose.specs.Places.{closing_of}
 use Rattle.pk_octclose.proofs.Again.{closing_again}
 use Rattle.pk_octclose.proofs.Floyd.{closing_right}
@@ -17,7 +17,7 @@ use Rattle.pk_octops.proofs.Along.{gain_bar}
 use Rattle.pk_octclose.specs.Laws.{IsInside}
 use Rattle.pk_octops.proofs.Kept.{values_kept}
 use Rattle.pk_state.specs.Layouts.{Layout, chosen_at}
-use Rattle.pk_state.specs.Facts.{Facts, AreFacts, known_at}
+use Rattle.pk_state.specs.Facts.{known_at}
 use Rattle.pk_state.specs.Reduced.{by_range, by_ranges}
 use Rattle.pk_value.specs.Known.{Known}
 use Rattle.pk_state.proofs.Octs.{by_ranges_vars, by_ranges_octagon}

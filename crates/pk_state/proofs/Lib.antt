@@ -4,6 +4,7 @@ pub mod Octs
 pub mod Bounded
 pub mod Sound
 pub mod Stays
+pub mod Settled
 pub mod Held
 pub mod Tops
 pub mod Changed

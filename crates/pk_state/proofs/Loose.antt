@@ -1,14 +1,11 @@
 -- Which values may be loose.
-use Rattle.std.specs.Prelude.{◌≡◌, ◌≢◌, ◌⊎◌, ℕ, zero, suc, ◌+◌, ◌<◌, ◌≤◌, Bool, true, false, not, List, [], ◌∷◌, ◌++◌, length, slice_index_or, Option, Some, None, ℤ, pos, ◌≤ℤ◌}
+use Rattle.std.specs.Prelude.{◌≡◌, ◌≢◌, ◌⊎◌, ℕ, zero, suc, ◌+◌, ◌<◌, ◌≤◌, Bool, true, false, not, List, [], ◌∷◌, ◌++◌, length, slice_index_or, Option, Some, None, pos, ◌≤ℤ◌}
 use Rattle.std.proofs.Common.{◌∙◌, ap, refl, sym, subst, arith, inl, inr, set, drop, length-set}
 use Rattle.std.proofs.lemmas.List.{drop_more}
 use Rattle.std.proofs.lemmas.Bool.{cases_eq}
-use Rattle.std.proofs.lemmas.Int.{ints}
 use Rattle.pk_value.specs.Known.{Known, red_known, joined}
 use Rattle.pk_value.specs.Laws.{IsTight}
-use Rattle.pk_congr.specs.Classes.{IsReduced}
 use Rattle.pk_value.proofs.Tight.{tight_is_reduced}
-use Rattle.pk_blocks.specs.Rows.{merged_from}
 use Rattle.pk_blocks.proofs.Merging.{merged_length}
 use Rattle.pk_state.specs.Layouts.{Layout}
 use Rattle.pk_state.specs.Facts.{known_at, AreValues, joined_values}

@@ -1,5 +1,5 @@
 -- Lowering an octagon by ranges.
-use Rattle.std.specs.Prelude.{◌≡◌, ◌⊎◌, ℕ, zero, suc, ◌+◌, ◌*◌, ◌/◌, ◌%◌, ◌==◌, ◌&&◌, ◌||◌, if◌then◌else◌, Bool, true, false, ◌<◌, ◌≤◌, ◌^◌, ℤ, pos, neg_ℤ, ◌+ℤ◌, ◌-ℤ◌, ◌≤ℤ◌, List, Option, Some, None}
+use Rattle.std.specs.Prelude.{◌≡◌, ◌⊎◌, ℕ, zero, suc, ◌+◌, ◌*◌, ◌/◌, ◌%◌, ◌==◌, ◌&&◌, ◌||◌, if◌then◌else◌, Bool, true, false, ◌<◌, ◌≤◌, ◌^◌, ℤ, pos, neg_ℤ, ◌+ℤ◌, ◌-ℤ◌, ◌≤ℤ◌, int_lt, List, Option, Some, None}
 use Rattle.std.proofs.Common.{◌∙◌, ap, refl, sym, subst, arith, inl, inr}
 use Rattle.std.proofs.lemmas.Bool.{cases_lt}
 use Rattle.std.proofs.lemmas.Bool.Decides.{nat_tests}
@@ -19,7 +19,7 @@ use Rattle.pk_octmat.specs.declared.shape.Shape.TheVariants.{Kept, Empty}
 use Rattle.pk_octmat.proofs.Cells.{cell_row_out, cell_column_out}
 use Rattle.pk_octmat.proofs.Tabled.{octagon_entries, octagon_is}
 use Rattle.pk_octmat.proofs.Tropical.{at_most_trans, lesser_left}
-use Rattle.pk_octops.specs.Guards.{guarded}
+use Rattle.pk_octops.specs.Guards.{guarded, guard_of}
 use Rattle.pk_octops.proofs.Along.{lowered_holds, one_term}
 use Rattle.pk_octops.proofs.Kept.{values_kept, written_below}
 use Rattle.pk_octops.proofs.Sound.{meets_from}
@@ -130,6 +130,21 @@ at_most_same m a c h e =
       vars = refl;
       each = λ i j p q. sym (ap (λ b. written (entry m) (bar a) a b i j) e ∙ written_own (entry m) (bar a) a i j (h.whole.coherent.turned (bar a) a));
     }))
+
+pub guard_same : (m : Octagon) (a b : ℕ) (c : ℤ) → IsOctagon m → lesser (entry m (bar b) a) (capped (Some c)) ≡ entry m (bar b) a → guard_of m (Some a) (Some b) c ≡ Some m
+guard_same m a b c h e =
+    ap (λ (o : Octagon). Some o)
+    (sym (octagon_is m.vars (guarded (entry m) (Some a) (Some b) c) m h (record {
+      vars = refl;
+      each = λ i j p q. sym (ap (λ x. written (entry m) (bar b) a x i j) e ∙ written_own (entry m) (bar b) a i j (h.whole.coherent.turned (bar b) a));
+    })))
+
+pub guard_free : (m : Octagon) (b : Option ℕ) (c : ℤ) → pos 0 ≤ℤ c → guard_of m None b c ≡ Some m
+guard_free m b c h = by (int_lt c (pos 0)) refl
+  where
+    by : (t : Bool) → int_lt c (pos 0) ≡ t → (if t then None else Some m) ≡ Some m
+    by true e = absurd (omega (arith, ints, e, h))
+    by false e = refl
 
 pub by_range_same : (m : Octagon) (k : ℕ) (r : Range) → IsOctagon m → lesser (entry m (2 * k + 1) (2 * k)) (capped (Some (r.hi +ℤ r.hi))) ≡ entry m (2 * k + 1) (2 * k)
     → lesser (entry m (2 * k) (2 * k + 1)) (capped (Some (neg_ℤ r.lo +ℤ neg_ℤ r.lo))) ≡ entry m (2 * k) (2 * k + 1) → by_range m k r ≡ m

@@ -1,5 +1,6 @@
 -- The places of variables in an octagon.
-use Rattle.std.specs.Prelude.{◌≡◌, ◌≢◌, ℕ, zero, suc, ◌<◌, ◌==◌, Bool, true, false, if◌then◌else◌, List, [], ◌∷◌, length, slice_index_or, Option, Some, None, option_map}
+use Rattle.std.specs.Prelude.{◌≡◌, ◌≢◌, ℕ, zero, suc, ◌<◌, ◌==◌, Bool, true, false, if◌then◌else◌, List, [], ◌∷◌, length, slice_index_or, Option, Some, None, option_map, not}
+use Rattle.std.specs.Option.{is_some}
 use Rattle.std.proofs.Common.{arith, ap, refl, ◌∙◌}
 use Rattle.std.proofs.lemmas.Bool.Decides.{nat_tests}
 use Rattle.pk_state.specs.Layouts.{place_in}
@@ -26,3 +27,26 @@ found_at (y ∷ ys) x (suc k) h e n = later y x ys (Some k) (n 0 (omega arith)) 
 pub found_none : (ys : List ℕ) (x : ℕ) → ((j : ℕ) → j < length ys → slice_index_or ys j 0 ≢ x) → place_in ys x ≡ None
 found_none [] x n = refl
 found_none (y ∷ ys) x n = later y x ys None (n 0 (omega arith)) (found_none ys x (λ j l. n (suc j) (omega (arith, l))))
+
+none_later : (o : Option ℕ) → option_map suc o ≡ None → o ≡ None
+none_later None f = refl
+none_later (Some k) f = absurd (cc)
+
+-- a variable that has no place isn't the first, and has none among the others
+none_first : (y x : ℕ) (ys : List ℕ) → place_in (y ∷ ys) x ≡ None → (y ≢ x) × (place_in ys x ≡ None)
+none_first y x ys e = by (y == x) refl e
+  where
+    by : (t : Bool) → (y == x) ≡ t → (if t then Some 0 else option_map suc (place_in ys x)) ≡ None → (y ≢ x) × (place_in ys x ≡ None)
+    by true f g = absurd (cc)
+    by false f g = (λ h. absurd (grind (arith, f, h, nat_tests)), none_later (place_in ys x) g)
+
+pub none_apart : (ys : List ℕ) (x : ℕ) → place_in ys x ≡ None → (j : ℕ) → j < length ys → slice_index_or ys j 0 ≢ x
+none_apart [] x e j p = absurd (omega (arith, p))
+none_apart (y ∷ ys) x e zero p = (none_first y x ys e).0
+none_apart (y ∷ ys) x e (suc j) p = none_apart ys x (none_first y x ys e).1 j (omega (arith, p))
+
+-- an option that is none, by its test
+pub no_place : (o : Option ℕ) (b : Bool) → is_some o ≡ not b → b ≡ true → o ≡ None
+no_place None b e f = refl
+no_place (Some k) true e f = absurd (cc)
+no_place (Some k) false e f = absurd (cc)

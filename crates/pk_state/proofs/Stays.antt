@@ -17,7 +17,7 @@ use Rattle.pk_octops.specs.Values.{least_of}
 use Rattle.pk_state.specs.Layouts.{Layout, type_at, chosen_at}
 use Rattle.pk_state.specs.Facts.{known_at, AreValues}
 use Rattle.pk_blocks.specs.Rows.{merged_from}
-use Rattle.pk_state.specs.Reduced.{then_with, with_first, red_all, with_range, raised_low, lowered_high, bounded_by, bounded_at, bounded_all}
+use Rattle.pk_state.specs.Reduced.{then_with, with_range, raised_low, lowered_high, bounded_by, bounded_at, bounded_all}
 use Rattle.pk_state.specs.Changes.{IsValue}
 use Rattle.pk_state.proofs.Bounded.{known_same, known_other, low_rises, high_falls}
 

@@ -5,7 +5,9 @@ use Rattle.pk_value.specs.Laws.{IsTight}
 use Rattle.pk_octmat.specs.Octagon.{Octagon, entry}
 use Rattle.pk_octclose.specs.Closing.{IsClosed}
 use Rattle.pk_octclose.specs.Laws.{IsInside}
-use Rattle.pk_state.specs.Facts.{known_at}
+use Rattle.pk_state.specs.Layouts.{Layout, chosen_at}
+use Rattle.pk_state.specs.Facts.{Facts, known_at}
+use Rattle.pk_state.specs.Reduced.{by_range, bounded_by}
 
 abbrev pub IsListed : List ℕ → ℕ → Type 0
 IsListed [] y = ⊥
@@ -27,3 +29,23 @@ IsFar m k = (j : ℕ) → j < 2 * m.vars → IsInside (entry m (2 * k) j) × IsI
 abbrev pub KeepsClosed : Octagon → ℕ → Option ℕ → Type 0
 KeepsClosed m k None = Unit {0}
 KeepsClosed m k (Some t) = (t ≡ 2 * k) × IsFar m k
+
+-- the octagon and the value of its variable k leave each other as they are
+pub record AreAtRest (m : Octagon) (k : ℕ) (v : Known) : Type 0 where
+  pub lowered : by_range m k v.range ≡ m
+  pub bounded : bounded_by m k v ≡ Some v
+
+-- Facts that are their own reduction: the values are tight, the octagon is closed, and it and its variables' values leave each other as they are.
+pub record IsSettled (l : Layout) (f : Facts) : Type 0 where
+  pub tight : AreMarked f.values []
+  pub closed : IsClosedIf true f.octagon
+  pub rest : (k : ℕ) → k < length l.chosen → AreAtRest f.octagon k (known_at f.values (chosen_at l k))
+
+-- where there are facts, they are settled
+abbrev pub AreSettled : Layout → Option Facts → Type 0
+AreSettled l None = Unit {0}
+AreSettled l (Some f) = IsSettled l f
+
+-- facts that are marked as settled are so
+abbrev pub IsSettledIf : Bool → Layout → Option Facts → Type 0
+IsSettledIf mark l o = mark ≡ true → AreSettled l o

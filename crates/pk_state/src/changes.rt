@@ -4,15 +4,16 @@ ghost use Rattle.std.specs.Prelude.{◌≡◌, ◌<◌, ◌*◌, true, IfOk, IfS
 ghost use Rattle.pk_octops.specs.Guards.{IsGuard};
 ghost use Rattle.pk_state.specs.Layouts.{type_at, place_in};
 ghost use Rattle.pk_state.specs.Facts.{AreFactsIf};
-ghost use Rattle.pk_state.specs.Changes.{IsValue, known_in, bound_in, with_known, assigned_in, guarded_in};
+ghost use Rattle.pk_value.specs.Laws.{IsTight};
+ghost use Rattle.pk_state.specs.Changes.{IsValue, IsApart, known_in, bound_in, with_known, assigned_in, guarded_in};
 
 use crate::facts::Facts;
 use crate::frame::Frame;
-use crate::marks::put_loose;
-use crate::octagons::{keeps_closed, shared};
+use crate::marks::{is_tight, put_marked};
+use crate::octagons::{is_obeyed, keeps_closed, shared};
 use crate::state::State;
 use pk_ctypes::IntType;
-use pk_octmat::{Matrix, Shape};
+use pk_octmat::Shape;
 use pk_octops::{assign, guard};
 use pk_value::Value;
 use std::alloc::{AllocError, Global};
@@ -31,15 +32,18 @@ fn value_if(facts: &Option<Facts>, x: usize, frame: &Frame) -> Option<Value>
     }
 }
 
+// Writes a value, of which is known whether it is tight.
 fn write_if(
     alloc: Global,
     facts: Option<Facts>,
     x: usize,
     value: Value,
+    tight: bool,
     frame: &Frame,
 ) -> Result<Option<Facts>, AllocError>
     requires facts { AreFactsIf frame.now facts }
     requires place { x < length frame.now.types }
+    requires tight { tight ≡ true → IsTight value }
     ensures { IfOk result (λ f. f ≡ with_known facts x value) }
 {
     let _ = frame;
@@ -48,8 +52,7 @@ fn write_if(
         Some(facts) => {
             let mut values = facts.values;
             let mut loose = facts.loose;
-            let old = values.get(x);
-            put_loose(alloc, &mut values, &mut loose, x, &old, value)?;
+            put_marked(alloc, &mut values, &mut loose, x, value, tight)?;
             Ok(Some(Facts {
                 values,
                 octagon: facts.octagon,
@@ -60,11 +63,23 @@ fn write_if(
     }
 }
 
-// Whether an octagon is closed that comes of one that is closed or not: where it is the same.
-fn is_closed_still(closed: bool, old: &Matrix, new: &Matrix) -> bool
-    ensures { result ≡ true → (closed ≡ true) × (new.now ≡ old.now) }
+// Whether this is what is known of a variable already.
+fn is_known(facts: &Option<Facts>, x: usize, value: &Value, frame: &Frame) -> bool
+    requires facts { AreFactsIf frame.now facts.now }
+    requires place { x < length frame.now.types }
+    ensures { result ≡ true → with_known facts.now x value.now ≡ facts.now }
 {
-    closed && new.equals(old)
+    match value_if(facts, x, frame) {
+        None => true,
+        Some(old) => old.equals(value),
+    }
+}
+
+// Whether facts that are settled or not stay so where a value is written: where it is tight, and the octagon isn't over its variable.
+fn stays_settled(settled: bool, tight: bool, x: usize, frame: &Frame) -> bool
+    ensures { result ≡ true → (settled ≡ true) × (tight ≡ true) × IsApart frame.now x }
+{
+    settled && tight && frame.place(x).is_none()
 }
 
 fn assign_if(
@@ -115,17 +130,33 @@ fn guard_if(
             let mut m = facts.octagon.copy()?;
             match guard(&mut m, a, b, c) {
                 Shape::Empty => Ok(None),
-                Shape::Kept => {
-                    let closed = is_closed_still(facts.closed, &facts.octagon, &m);
-                    Ok(Some(Facts {
-                        closed,
-                        octagon: shared(alloc, &facts.octagon, m)?,
-                        values: facts.values,
-                        loose: facts.loose,
-                    }))
-                }
+                Shape::Kept => Ok(Some(Facts {
+                    closed: false,
+                    octagon: Arc::new(alloc, m)?,
+                    values: facts.values,
+                    loose: facts.loose,
+                })),
             }
         }
+    }
+}
+
+// Whether a guard changes nothing.
+fn is_obeyed_by(
+    facts: &Option<Facts>,
+    a: Option<u32>,
+    b: Option<u32>,
+    c: i128,
+    frame: &Frame,
+) -> bool
+    requires facts { AreFactsIf frame.now facts.now }
+    requires terms { IsGuard (length frame.now.chosen) a b }
+    ensures { result ≡ true → guarded_in facts.now a b c ≡ facts.now }
+{
+    let _ = frame;
+    match facts {
+        None => true,
+        Some(facts) => is_obeyed(&facts.octagon, a, b, c),
     }
 }
 
@@ -190,10 +221,16 @@ impl State {
         requires value { IsValue (type_at self.layout x) value }
         ensures { IfOk result (λ s. s ≡ record { layout = self.layout; facts = with_known self.facts x value }) }
     {
-        let facts = write_if(alloc, self.facts, x, value, &self.frame)?;
+        if is_known(&self.facts, x, &value, &self.frame) {
+            return Ok(self);
+        }
+        let tight = is_tight(&value, self.frame.int_type(x));
+        let settled = stays_settled(self.settled, tight, x, &self.frame);
+        let facts = write_if(alloc, self.facts, x, value, tight, &self.frame)?;
         Ok(State {
             frame: self.frame,
             facts,
+            settled,
         })
     }
 
@@ -213,6 +250,7 @@ impl State {
         Ok(State {
             frame: self.frame,
             facts,
+            settled: false,
         })
     }
 
@@ -227,10 +265,14 @@ impl State {
         requires { IsGuard (length self.layout.chosen) a b }
         ensures { IfOk result (λ s. s ≡ record { layout = self.layout; facts = guarded_in self.facts a b c }) }
     {
+        if is_obeyed_by(&self.facts, a, b, c, &self.frame) {
+            return Ok(self);
+        }
         let facts = guard_if(alloc, self.facts, a, b, c, &self.frame)?;
         Ok(State {
             frame: self.frame,
             facts,
+            settled: false,
         })
     }
 }

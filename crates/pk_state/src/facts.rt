@@ -1,6 +1,6 @@
 // What is known where a run may come: a value of each variable, and an octagon.
 
-ghost use Rattle.std.specs.Prelude.{◌≡◌, ◌↔◌, ◌<◌, ◌^◌, true, [], IfOk, length, map, Some};
+ghost use Rattle.std.specs.Prelude.{◌≡◌, ◌↔◌, ◌<◌, ◌^◌, ℕ, true, [], IfOk, length, map, Some};
 ghost use Rattle.std.specs.Arc.{arc_value};
 ghost use Rattle.std.specs.List.Sorted.{IsSorted};
 ghost use Rattle.std.specs.Ordering.{int_cmp};
@@ -8,12 +8,14 @@ ghost use Rattle.pk_octops.specs.Tables.{join_of, widening_of, narrowing_of};
 ghost use Rattle.pk_state.specs.Facts.{AreFacts, AreValues, AreWithin, joined_values, widened_values, narrowed_values, top_facts as top_of};
 ghost use Rattle.pk_octmat.specs.Octagon.{octagon_of, top_bound};
 ghost use Rattle.pk_value.specs.Known.{any_of};
-ghost use Rattle.pk_state.specs.Marks.{AreMarked, IsClosedIf};
-ghost use Rattle.pk_state.specs.Reduced.{reduced_facts, with_closed};
+ghost use Rattle.pk_state.specs.Layouts.{chosen_at};
+ghost use Rattle.pk_state.specs.Facts.{known_at};
+ghost use Rattle.pk_state.specs.Marks.{AreMarked, IsClosedIf, IsSettledIf};
+ghost use Rattle.pk_state.specs.Reduced.{by_range, reduced_facts, with_closed};
 
 use crate::frame::Frame;
-use crate::marks::{at_most, either, every};
-use crate::octagons::{close_by, join_shared, narrow_shared, widen_shared};
+use crate::marks::{at_most, either, every, is_none_listed};
+use crate::octagons::{are_lowered, close_lowered, join_shared, narrow_shared, widen_shared};
 use crate::values::{
     bound_values, join_values, leq_values, narrow_values, reduce_values, same_values, widen_values,
 };
@@ -183,49 +185,81 @@ pub(crate) fn same_facts(a: &Facts, b: &Facts) -> bool
     same_values(&a.values, &b.values) && a.octagon.equals(&b.octagon)
 }
 
-// The values that a closed octagon leaves, reduced once more, with it.
+// The values that a closed octagon leaves, reduced once more, with it, and whether what is left is marked as settled: where the values lower none of its bounds, and it
+// bounds none of them.
 fn with_octagon(
     alloc: Global,
     mut values: Blocks<Value>,
     octagon: Arc<Matrix>,
+    rests: bool,
     frame: &Frame,
-) -> Result<Option<Facts>, AllocError>
+) -> Result<(Option<Facts>, bool), AllocError>
     requires values { AreValues frame.now values }
     requires vars { (arc_value octagon).vars ≡ length frame.now.chosen }
     requires tight { AreMarked values [] }
     requires closed { IsClosedIf true (arc_value octagon) }
-    ensures { IfOk result (λ o. o ≡ with_closed frame.now values (arc_value octagon)) }
+    requires rests { rests ≡ true → (k : ℕ) → k < length frame.now.chosen → by_range (arc_value octagon) k (known_at values (chosen_at frame.now k)).range ≡ arc_value octagon }
+    ensures value { IfOk result (λ r. r.0 ≡ with_closed frame.now values (arc_value octagon)) }
+    ensures settled { IfOk result (λ r. IsSettledIf r.1 frame.now r.0) }
 {
     let mut loose = Vec::new(alloc);
     if !bound_values(alloc, &mut values, &mut loose, &octagon, frame)? {
-        return Ok(None);
+        return Ok((None, true));
+    }
+    if rests && is_none_listed(&loose) {
+        return Ok((
+            Some(Facts {
+                values,
+                octagon,
+                loose,
+                closed: true,
+            }),
+            true,
+        ));
     }
     if !reduce_values(alloc, &mut values, &loose, frame)? {
-        return Ok(None);
+        return Ok((None, true));
     }
-    Ok(Some(Facts {
-        values,
-        octagon,
-        loose: Vec::new(alloc),
-        closed: true,
-    }))
+    Ok((
+        Some(Facts {
+            values,
+            octagon,
+            loose: Vec::new(alloc),
+            closed: true,
+        }),
+        false,
+    ))
 }
 
-/// The reduction, or none where nothing is left.
+// Whether an octagon is closed, and the values lower none of its bounds.
+fn is_at_rest(octagon: &Matrix, closed: bool, values: &Blocks<Value>, frame: &Frame) -> bool
+    requires vars { octagon.now.vars ≡ length frame.now.chosen }
+    requires values { AreValues frame.now values.now }
+    ensures { result ≡ true → (closed ≡ true) × ((k : ℕ) → k < length frame.now.chosen → by_range octagon.now k (known_at values.now (chosen_at frame.now k)).range ≡ octagon.now) }
+{
+    closed && are_lowered(octagon, values, frame)
+}
+
+/// The reduction, or none where nothing is left; and whether it is marked as settled.
 pub(crate) fn reduce_facts(
     alloc: Global,
     f: Facts,
     frame: &Frame,
-) -> Result<Option<Facts>, AllocError>
+) -> Result<(Option<Facts>, bool), AllocError>
     requires { AreFacts frame.now f }
-    ensures { IfOk result (λ o. o ≡ reduced_facts frame.now f) }
+    ensures value { IfOk result (λ r. r.0 ≡ reduced_facts frame.now f) }
+    ensures settled { IfOk result (λ r. IsSettledIf r.1 frame.now r.0) }
 {
     let mut values = f.values;
     if !reduce_values(alloc, &mut values, &f.loose, frame)? {
-        return Ok(None);
+        return Ok((None, true));
     }
-    match close_by(alloc, &f.octagon, f.closed, &values, frame)? {
-        None => Ok(None),
-        Some(octagon) => with_octagon(alloc, values, octagon, frame),
+    f.octagon.is_octagon();
+    if is_at_rest(&f.octagon, f.closed, &values, frame) {
+        return with_octagon(alloc, values, f.octagon, true, frame);
+    }
+    match close_lowered(alloc, &f.octagon, &values, frame)? {
+        None => Ok((None, true)),
+        Some(octagon) => with_octagon(alloc, values, octagon, false, frame),
     }
 }

@@ -1,10 +1,13 @@
 // Which values may be loose: the others are their own reductions.
 
-ghost use Rattle.std.specs.Prelude.{◌≡◌, ◌⊎◌, ◌<◌, ℕ, IfOk, OnOk, length, slice_set};
+ghost use Rattle.std.specs.Prelude.{◌≡◌, ◌⊎◌, ◌<◌, ℕ, true, [], IfOk, OnOk, length, slice_set};
+ghost use Rattle.pk_value.specs.Laws.{IsTight};
 ghost use Rattle.pk_state.specs.Facts.{known_at};
+ghost use Rattle.pk_state.specs.Changes.{IsValue};
 ghost use Rattle.pk_state.specs.Marks.{IsListed, AreMarked};
 
 use pk_blocks::Blocks;
+use pk_ctypes::IntType;
 use pk_value::Value;
 use std::alloc::{AllocError, Global};
 
@@ -43,6 +46,16 @@ pub(crate) fn either(
     at_most(alloc, out, n)
 }
 
+/// Whether none is listed.
+pub(crate) fn is_none_listed(loose: &[usize]) -> bool
+    ensures { result ≡ true → loose.now ≡ [] }
+{
+    match loose {
+        [] => true,
+        [_, ..] => false,
+    }
+}
+
 /// Writes a value that may be loose, if it isn't there.
 pub(crate) fn put_loose(
     alloc: Global,
@@ -57,11 +70,45 @@ pub(crate) fn put_loose(
     requires marked { AreMarked values.old loose.old.items }
     ensures value { OnOk result (values.new ≡ slice_set values.old x new) }
     ensures marked { OnOk result (AreMarked values.new loose.new.items) }
+    ensures still { OnOk result (loose.new.items ≡ [] → (loose.old.items ≡ []) × (new ≡ old.now)) }
 {
     if new.equals(old) {
         return Ok(());
     }
     values.set(alloc, x, new)?;
     loose.push(x)?;
+    Ok(())
+}
+
+/// Whether a value is its own reduction.
+pub(crate) fn is_tight(value: &Value, t: IntType) -> bool
+    requires { IsValue t value.now }
+    ensures { result ≡ true → IsTight value.now }
+{
+    match value.reduced(t) {
+        None => false,
+        Some(reduced) => reduced.equals(value),
+    }
+}
+
+/// Writes a value, which is listed where it may be loose.
+pub(crate) fn put_marked(
+    alloc: Global,
+    values: &mut Blocks<Value>,
+    loose: &mut Vec<usize>,
+    x: usize,
+    new: Value,
+    tight: bool,
+) -> Result<(), AllocError>
+    requires place { x < length values.old }
+    requires marked { AreMarked values.old loose.old.items }
+    requires tight { tight ≡ true → IsTight new }
+    ensures value { OnOk result (values.new ≡ slice_set values.old x new) }
+    ensures marked { OnOk result (AreMarked values.new loose.new.items) }
+{
+    values.set(alloc, x, new)?;
+    if !tight {
+        loose.push(x)?;
+    }
     Ok(())
 }

@@ -4,9 +4,11 @@ ghost use Rattle.std.specs.Prelude.{◌≡◌, ◌<◌, ◌*◌, ◌+ℤ◌, ℕ
 ghost use Rattle.std.specs.Arc.{arc_value};
 ghost use Rattle.pk_interval.specs.Ranges.{IsIn};
 ghost use Rattle.pk_octops.specs.Tables.{join_of, widening_of, narrowing_of};
-ghost use Rattle.pk_state.specs.Facts.{AreValues};
+ghost use Rattle.pk_state.specs.Layouts.{chosen_at};
+ghost use Rattle.pk_state.specs.Facts.{AreValues, known_at};
 ghost use Rattle.pk_octmat.specs.Bounds.{lesser, capped};
-ghost use Rattle.pk_octmat.specs.Octagon.{entry};
+ghost use Rattle.pk_octmat.specs.Octagon.{entry, bar as other};
+ghost use Rattle.pk_octops.specs.Guards.{IsGuard, guard_of};
 ghost use Rattle.pk_octclose.specs.Laws.{IsInside};
 ghost use Rattle.pk_octclose.specs.Places.{closing_of};
 ghost use Rattle.pk_state.specs.Marks.{IsClosedIf, IsFar, KeepsClosed};
@@ -17,7 +19,7 @@ use pk_blocks::Blocks;
 use pk_ctypes::IntType;
 use pk_interval::Interval;
 use pk_octclose::close;
-use pk_octmat::{Bound, Matrix, Shape};
+use pk_octmat::{Bound, Matrix, Shape, bar};
 use pk_octops::{guard, join, leq, narrow, widen};
 use pk_value::Value;
 use std::alloc::{AllocError, Global};
@@ -111,6 +113,36 @@ fn is_within(m: &Matrix, i: u32, j: u32, c: i128) -> bool
     bound.lesser(Bound::of(Some(twice(c)))).equals(bound)
 }
 
+// Whether a bound is at most a number already.
+fn is_at_most(m: &Matrix, i: u32, j: u32, c: i128) -> bool
+    requires row { i < 2 * m.now.vars }
+    requires column { j < 2 * m.now.vars }
+    ensures { result ≡ true → lesser (entry m.now i j) (capped (Some c)) ≡ entry m.now i j }
+{
+    let bound = m.bound(i, j);
+    bound.lesser(Bound::of(Some(c))).equals(bound)
+}
+
+// The place of the negative.
+fn opposite(i: u32) -> u32
+    ensures { result ≡ other i }
+{
+    bar(i as usize) as u32
+}
+
+/// Whether a guard lowers no bound.
+pub(crate) fn is_obeyed(m: &Matrix, a: Option<u32>, b: Option<u32>, c: i128) -> bool
+    requires { IsGuard m.now.vars a b }
+    ensures { result ≡ true → guard_of m.now a b c ≡ Some m.now }
+{
+    m.is_octagon();
+    match (a, b) {
+        (None, _) => 0 <= c,
+        (Some(a), None) => is_within(m, opposite(a), a, c),
+        (Some(a), Some(b)) => is_at_most(m, opposite(b), a, c),
+    }
+}
+
 // Whether the bounds on one variable are within its range already.
 fn is_lowered(m: &Matrix, k: u32, t: IntType, range: &Interval) -> bool
     requires place { k < m.now.vars }
@@ -122,11 +154,11 @@ fn is_lowered(m: &Matrix, k: u32, t: IntType, range: &Interval) -> bool
     is_within(m, 2 * k + 1, 2 * k, range.hi) && is_within(m, 2 * k, 2 * k + 1, -range.lo)
 }
 
-// Whether the bounds on all variables are within their ranges already.
-fn are_lowered(m: &Matrix, values: &Blocks<Value>, frame: &Frame) -> bool
+/// Whether the bounds on all variables are within their ranges already.
+pub(crate) fn are_lowered(m: &Matrix, values: &Blocks<Value>, frame: &Frame) -> bool
     requires vars { m.now.vars ≡ length frame.now.chosen }
     requires values { AreValues frame.now values.now }
-    ensures { result ≡ true → by_ranges frame.now values.now (length frame.now.chosen) m.now ≡ m.now }
+    ensures { result ≡ true → (k : ℕ) → k < length frame.now.chosen → by_range m.now k (known_at values.now (chosen_at frame.now k)).range ≡ m.now }
 {
     frame.is_layout();
     for k in 0..frame.octagon_len() {
@@ -153,8 +185,8 @@ pub(crate) fn shared(
     Ok(Arc::new(alloc, new)?)
 }
 
-// The closing of an octagon lowered by the ranges, if it has one.
-fn close_lowered(
+/// The closing of an octagon lowered by the ranges, if it has one.
+pub(crate) fn close_lowered(
     alloc: Global,
     octagon: &Arc<Matrix>,
     values: &Blocks<Value>,
@@ -170,26 +202,6 @@ fn close_lowered(
         Shape::Empty => Ok(None),
         Shape::Kept => Ok(Some(shared(alloc, octagon, m)?)),
     }
-}
-
-/// The closing of an octagon lowered by the ranges, if it has one: the octagon itself, shared, where it is closed and they lower nothing.
-pub(crate) fn close_by(
-    alloc: Global,
-    octagon: &Arc<Matrix>,
-    closed: bool,
-    values: &Blocks<Value>,
-    frame: &Frame,
-) -> Result<Option<Arc<Matrix>>, AllocError>
-    requires vars { (arc_value octagon.now).vars ≡ length frame.now.chosen }
-    requires values { AreValues frame.now values.now }
-    requires closed { IsClosedIf closed (arc_value octagon.now) }
-    ensures { IfOk result (λ o. option_map arc_value o ≡ closing_of (by_ranges frame.now values.now (length frame.now.chosen) (arc_value octagon.now))) }
-{
-    octagon.is_octagon();
-    if closed && are_lowered(octagon, values, frame) {
-        return Ok(Some(Arc::try_clone(octagon)?));
-    }
-    close_lowered(alloc, octagon, values, frame)
 }
 
 /// The join of two octagons: the first one, shared, where the other is below it.

@@ -6,6 +6,7 @@ ghost use Rattle.std.specs.List.Sorted.{IsSorted};
 ghost use Rattle.std.specs.Ordering.{int_cmp};
 ghost use Rattle.pk_state.specs.Layouts.{IsLayout};
 ghost use Rattle.pk_state.specs.Facts.{AreFactsIf, joined, widened, narrowed, IsBelow, top_facts as top_of};
+ghost use Rattle.pk_state.specs.Marks.{IsSettledIf};
 ghost use Rattle.pk_state.specs.Reduced.{reduced};
 
 use crate::facts::{
@@ -23,18 +24,21 @@ use std::sync::Arc;
 pub struct State {
     pub(crate) frame: Arc<Frame>,
     pub(crate) facts: Option<Facts>,
+    // Whether the facts are known to be their own reduction.
+    pub(crate) settled: bool,
 }
 
 impl Model for State {
     ghost use Rattle.std.specs.Arc.{arc_value};
     ghost use Rattle.pk_state.specs.Layouts.{IsLayout};
     ghost use Rattle.pk_state.specs.Facts.{Stated, AreFactsIf};
+    ghost use Rattle.pk_state.specs.Marks.{IsSettledIf};
 
     ghost Value = { Stated };
 
     ghost view = { λ s. record { layout = arc_value s.frame; facts = s.facts } };
 
-    ghost invariant = { λ s. IsLayout (arc_value s.frame) × AreFactsIf (arc_value s.frame) s.facts };
+    ghost invariant = { λ s. IsLayout (arc_value s.frame) × AreFactsIf (arc_value s.frame) s.facts × IsSettledIf s.settled (arc_value s.frame) s.facts };
 }
 
 // A state of these facts over the frame of another.
@@ -46,6 +50,7 @@ fn with_facts(state: &State, facts: Option<Facts>) -> Result<State, AllocError>
     Ok(State {
         frame: Arc::try_clone(&state.frame)?,
         facts,
+        settled: false,
     })
 }
 
@@ -121,12 +126,13 @@ fn reduce_if(
     alloc: Global,
     facts: Option<Facts>,
     frame: &Frame,
-) -> Result<Option<Facts>, AllocError>
+) -> Result<(Option<Facts>, bool), AllocError>
     requires { AreFactsIf frame.now facts }
-    ensures { IfOk result (λ f. f ≡ reduced frame.now facts) }
+    ensures value { IfOk result (λ r. r.0 ≡ reduced frame.now facts) }
+    ensures settled { IfOk result (λ r. IsSettledIf r.1 frame.now r.0) }
 {
     match facts {
-        None => Ok(None),
+        None => Ok((None, true)),
         Some(facts) => reduce_facts(alloc, facts, frame),
     }
 }
@@ -167,7 +173,11 @@ impl State {
         ensures { result ≡ record { layout = arc_value frame; facts = None } }
     {
         frame.is_layout();
-        State { frame, facts: None }
+        State {
+            frame,
+            facts: None,
+            settled: true,
+        }
     }
 
     /// Each variable may have any number of its type.
@@ -179,6 +189,7 @@ impl State {
         Ok(State {
             frame,
             facts: Some(facts),
+            settled: false,
         })
     }
 
@@ -202,7 +213,11 @@ impl State {
         ensures { IfOk result (λ s. s ≡ self.now) }
     {
         let facts = copy_if(alloc, &self.facts)?;
-        with_facts(self, facts)
+        Ok(State {
+            frame: Arc::try_clone(&self.frame)?,
+            facts,
+            settled: self.settled,
+        })
     }
 
     /// What is known where either is.
@@ -266,10 +281,14 @@ impl State {
     pub fn into_reduced(self, alloc: Global) -> Result<State, AllocError>
         ensures { IfOk result (λ s. s ≡ record { layout = self.layout; facts = reduced self.layout self.facts }) }
     {
-        let facts = reduce_if(alloc, self.facts, &self.frame)?;
+        if self.settled {
+            return Ok(self);
+        }
+        let (facts, settled) = reduce_if(alloc, self.facts, &self.frame)?;
         Ok(State {
             frame: self.frame,
             facts,
+            settled,
         })
     }
 }

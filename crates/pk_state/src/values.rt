@@ -1,12 +1,13 @@
 // The values of all variables: joined, widened, narrowed, compared, reduced, bounded.
 
-ghost use Rattle.std.specs.Prelude.{◌≡◌, ◌↔◌, ◌<◌, ℕ, true, IfOk, OnOk, [], length, slice_set};
+ghost use Rattle.std.specs.Prelude.{◌≡◌, ◌↔◌, ◌<◌, ℕ, true, IfOk, OnOk, Some, [], length, slice_set};
 ghost use Rattle.std.specs.List.Sorted.{IsSorted};
 ghost use Rattle.std.specs.Ordering.{int_cmp};
 ghost use Rattle.pk_value.specs.Known.{is_within};
 ghost use Rattle.pk_octmat.specs.Octagon.{entry};
 ghost use Rattle.pk_octmat.specs.Bounds.{halved};
 ghost use Rattle.pk_octops.specs.Values.{least_of};
+ghost use Rattle.pk_state.specs.Layouts.{chosen_at};
 ghost use Rattle.pk_state.specs.Facts.{known_at, AreValues, joined_values, widened_values, narrowed_values};
 ghost use Rattle.pk_state.specs.Marks.{AreMarked};
 ghost use Rattle.pk_state.specs.Reduced.{red_all, with_range, raised_low, lowered_high, bounded_by, bounded_all, kept_if};
@@ -237,6 +238,7 @@ pub(crate) fn bound_values(
     ensures value { IfOk result (λ b. kept_if b values.new ≡ bounded_all frame.now m.now (length frame.now.chosen) values.old) }
     ensures stays { IfOk result (λ b. b ≡ true → AreValues frame.now values.new) }
     ensures marked { IfOk result (λ b. b ≡ true → AreMarked values.new loose.new.items) }
+    ensures still { IfOk result (λ b. b ≡ true → loose.new.items ≡ [] → (values.new ≡ values.old) × ((k : ℕ) → k < length frame.now.chosen → bounded_by m.now k (known_at values.old (chosen_at frame.now k)) ≡ Some (known_at values.old (chosen_at frame.now k)))) }
 {
     frame.is_layout();
     for k in 0..frame.octagon_len() {

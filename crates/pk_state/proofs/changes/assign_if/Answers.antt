@@ -1,9 +1,9 @@
-use Rattle.std.proofs.Common.{ap, sym, ◌∙◌, ◌<◌, subst, refl, arith, length, true, to_z, of_z}
+use Rattle.std.proofs.Common.{ap, sym, ◌∙◌, subst, refl, arith, true, to_z, of_z}
 use Rattle.std.specs.Int.{w128}
 use Rattle.pk_octmat.specs.Octagon.{Octagon}
 use Rattle.std.specs.Arc.{arc_value}
 use Rattle.pk_octops.specs.Assigns.{assignment_of}
-use Rattle.pk_state.specs.Facts.{Facts, AreFacts, AreFactsIf}
+use Rattle.pk_state.specs.Facts.{AreFacts, AreFactsIf}
 use Rattle.pk_state.specs.Marks.{IsClosedIf, KeepsClosed}
 use Rattle.pk_state.proofs.Closings.{closed_assign}
 use Rattle.pk_state.proofs.changes.assign_if.Goals as goal

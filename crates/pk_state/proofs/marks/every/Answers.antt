@@ -1,5 +1,3 @@
-use Rattle.std.proofs.Common.{ℕ, ◌<◌, ◌++◌, ◌∷◌, []}
-use Rattle.pk_state.specs.Marks.{IsListed}
 use Rattle.pk_state.proofs.Loose.{listed_more}
 use Rattle.pk_state.proofs.marks.every.Goals as goal
 

@@ -1,5 +1,3 @@
-use Rattle.std.proofs.Common.{ap}
-use Rattle.pk_state.specs.Marks.{AreMarked}
 use Rattle.pk_state.proofs.Loose.{marked_put}
 use Rattle.pk_state.proofs.marks.put_loose.Goals as goal
 

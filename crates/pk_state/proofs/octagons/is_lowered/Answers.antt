@@ -1,4 +1,4 @@
-use Rattle.std.proofs.Common.{◌≡◌, ap, sym, ◌∙◌, subst, rules, ◌+◌, ◌*◌, to_z, of_z, FitsSigned, Some}
+use Rattle.std.proofs.Common.{◌≡◌, ap, ◌∙◌, subst, rules, ◌+◌, ◌*◌, to_z, of_z, FitsSigned, Some}
 use Rattle.std.specs.Prelude.{ℤ, pos, neg_ℤ, ◌+ℤ◌, ◌-ℤ◌}
 use Rattle.std.specs.Int.{w128}
 use Rattle.std.proofs.lemmas.Int.{to_z-of_z}

@@ -2,6 +2,7 @@ use Rattle.std.proofs.Common.{◌<◌, sym, subst, ◌∙◌, arith, length}
 use Rattle.pk_state.specs.Layouts.{type_at}
 use Rattle.pk_state.specs.Changes.{IsValue}
 use Rattle.pk_state.proofs.Stays.{value_at, bounded_value, write_values, get_known, bounded_more, bounded_stop}
+use Rattle.pk_state.proofs.Settled.{none_bound_here, none_bound_next}
 use Rattle.pk_state.proofs.values.bound_values.Goals as goal
 
 pub returns-in-None-clause-value : goal.returns-in-None-clause-value
@@ -31,4 +32,9 @@ loop-k-preserved c =
       write_values l vs x c.in-Some.new place is c.loop-k.invariant.0,
       bounded_more l c.args.m.now k c.args.values.now vs x c.get-old.result c.in-Some.new c.loop-k.invariant.1 c.chosen-x.ensures.value old (sym c.in-Some.is ∙ c.bound.ensures),
       rw c.in_ok-put_loose-in-Some.ensures.value at c.in_ok-put_loose-in-Some.ensures.marked,
+      λ none.
+          let was = c.in_ok-put_loose-in-Some.ensures.still none in
+          let before = c.loop-k.invariant.3 was.0 in
+          let here = none_bound_here l c.args.m.now k c.args.values.now vs x c.get-old.result c.in-Some.new before.0 c.chosen-x.ensures.value old was.1 (sym c.bound.ensures ∙ c.in-Some.is) in
+          (here.0, none_bound_next l c.args.m.now k c.args.values.now before.1 here.1),
     )

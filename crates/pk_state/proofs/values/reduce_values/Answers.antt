@@ -3,7 +3,7 @@ use Rattle.std.proofs.Math.ListN.{drop_of_length-le}
 use Rattle.pk_state.specs.Layouts.{type_at}
 use Rattle.pk_state.specs.Changes.{IsValue}
 use Rattle.pk_state.proofs.Stays.{value_at, red_value, write_values, get_known}
-use Rattle.pk_state.proofs.Loose.{halfway_start, halfway_step, halfway_past, halfway_stop, halfway_end}
+use Rattle.pk_state.proofs.Loose.{halfway_step, halfway_past, halfway_stop, halfway_end}
 use Rattle.pk_state.proofs.values.reduce_values.Goals as goal
 use Rattle.pk_state.proofs.values.reduce_values.Goals.{then-x-len+in-Some+in_ok-put-in-Some, else-x-len}
 

@@ -14,5 +14,5 @@ returns-clause-sound c =
     let after = c.in_ok-after.after in
     let is = c.in_ok-after.ensures ∙ ap (λ (b : Stated). record { layout = b.layout; facts = applied b.layout b.facts i }) c.in_ok-before.ensures in
     let facts = subst (λ (a : Stated). AreFactsIf a.layout a.facts) is c.is_stated-2.ensures.facts in
-    facts_have c.reduce-2.result after.layout (reduced after.layout after.facts) (IsKept y f i) c.reduce-2.ensures
+    facts_have c.into_reduced.result after.layout (reduced after.layout after.facts) (IsKept y f i) c.into_reduced.ensures
     (subst (λ (a : Stated). IsKept y f i (reduced a.layout a.facts)) (sym is) (transferred_keeps y f i c.is_stated.ensures.layout c.is_stated.ensures.facts facts))

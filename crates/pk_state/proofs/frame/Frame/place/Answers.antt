@@ -1,5 +1,5 @@
 use Rattle.std.specs.Prelude.{◌≡◌, ◌<◌, length}
-use Rattle.std.proofs.Common.{arith, sym, ◌∙◌}
+use Rattle.std.proofs.Common.{arith, sym}
 use Rattle.pk_state.specs.Layouts.{chosen_at}
 use Rattle.pk_state.proofs.Places.{found_at, found_none}
 use Rattle.pk_state.proofs.frame.Frame.place.Goals as goal

@@ -6,4 +6,4 @@ pub invariant_of-result : goal.invariant_of-result
 invariant_of-result c =
     let layout = rw c.deref.ensures at c.is_layout.ensures in
     let is = rw c.deref-2.ensures at c.in_ok-facts.ensures in
-    (layout, rw is (top_stays (arc_value c.args.frame) layout))
+    (layout, rw is (top_stays (arc_value c.args.frame) layout), λ e. absurd (cc))

@@ -14,4 +14,5 @@ invariant_of-result c =
       c.self.invariant.0,
       rw c.in_ok-facts.ensures (changes_stay.assigned l c.self.inside.facts c.args.k c.args.term (to_z w128 (of_z w128 c.args.c)) c.self.invariant.1 (subst (λ (k : Layout). c.args.k < length k.chosen) mine c.requires.variable)
           (term_of (length l.chosen) c.args.term (subst (λ (k : Layout). IfSome c.args.term (λ t. t < 2 * length k.chosen)) mine c.requires.term))),
+      λ e. absurd (cc),
     )

@@ -12,4 +12,4 @@ pub invariant_of-result : goal.invariant_of-result
 invariant_of-result c =
     let l = arc_value c.self.inside.frame in
     let mine : c.args.self.layout ≡ l = sym (ap (λ (s : Stated). s.layout) c.self.view_is) in
-    (c.self.invariant.0, rw c.in_ok-facts.ensures (changes_stay.guarded l c.self.inside.facts c.args.a c.args.b (to_z w128 (of_z w128 c.args.c)) c.self.invariant.1 (subst (λ (k : Layout). IsGuard (length k.chosen) c.args.a c.args.b) mine c.requires)))
+    (c.self.invariant.0, rw c.in_ok-facts.ensures (changes_stay.guarded l c.self.inside.facts c.args.a c.args.b (to_z w128 (of_z w128 c.args.c)) c.self.invariant.1 (subst (λ (k : Layout). IsGuard (length k.chosen) c.args.a c.args.b) mine c.requires)), λ e. absurd (cc))
