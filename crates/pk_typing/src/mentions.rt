@@ -115,8 +115,8 @@ impl Before {
     }
 }
 
-// Whether the object is among these.
-fn is_among(xs: &[Variable], x: Variable) -> bool
+/// Whether the object is among these.
+pub(crate) fn is_among(xs: &[Variable], x: Variable) -> bool
     ensures { result ≡ definitions.is_among xs.now x }
 {
     for y in xs {
@@ -201,13 +201,6 @@ impl Mentions {
         let left = meet(alloc, &self.changed, &other.named)?;
         let right = meet(alloc, &other.changed, &self.named)?;
         Ok(left || right)
-    }
-
-    /// Whether the object is among those that are changed.
-    pub(crate) fn changes(&self, x: Variable) -> bool
-        ensures { result ≡ definitions.is_among self.now.changed.items x }
-    {
-        is_among(&self.changed, x)
     }
 }
 
