@@ -1,4 +1,4 @@
-use Rattle.std.proofs.Common.{◌≡◌, ap, subst, sym, ◌∙◌, ℕ, IfSome}
+use Rattle.std.proofs.Common.{ap, subst, sym, ◌∙◌, ℕ, IfSome}
 use Rattle.pk_ctypes.specs.declared.types.IntType.{IntType}
 use Rattle.pk_ctypes.specs.Types.{InType}
 use Rattle.pk_ctypes.specs.Operators.{HasRight}
