@@ -1,6 +1,9 @@
 -- The number of each form of tree.
 use Rattle.std.proofs.Common.{◌≡◌, ℕ, ap, sym, subst, refl, Bool, true, false, Option, Some, None, IfSome}
-use Rattle.std.specs.Prelude.{ℤ}
+use Rattle.std.specs.Prelude.{ℤ, Result, Ok, IfOk}
+use Rattle.std.specs.declared.alloc.AllocError.{AllocError}
+use Rattle.std.specs.declared.alloc.Global.{Global}
+use Rattle.std.specs.declared.boxed.Box.{Box}
 use Rattle.pk_ctypes.specs.declared.types.Op.TheVariants.{Add, Sub, Mul, Div, Rem, Shl, Shr, And, Or, Xor, Lt, Gt, Le, Ge, Eq, Ne, Neg, BitNot, Not}
 use Rattle.pk_ctypes.specs.Types.{InType, represents}
 use Rattle.pk_ctypes.specs.Operators.{HasRight}
@@ -79,3 +82,7 @@ some_right (Some z) op v t h = right_number op v t z h
 -- a right operand's number is one that the operator takes
 pub of_right : (op : Op) (v t : IntType) (e : TreeOf ℕ) → IfSome (folding.number_in (folding.conversion v (folding.right_type op v t) e)) (HasRight op t)
 of_right op v t e = some_right _ op v t (of_conversion v (folding.right_type op v t) e)
+
+-- what was made, where there was memory
+pub made : (r : Result (Box Tree Global) AllocError) (e : Box Tree Global) (t : TreeOf ℕ) → IfOk r (λ b. tree_view b.value ≡ t) → r ≡ Ok e → tree_view e.value ≡ t
+made r e t h is = subst (λ (s : Result (Box Tree Global) AllocError). IfOk s (λ b. tree_view b.value ≡ t)) is h

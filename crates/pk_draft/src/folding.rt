@@ -1,6 +1,6 @@
 // Trees as the lowering makes them.
 
-ghost use Rattle.std.specs.Prelude.{◌≡◌, IfSome, IfOk};
+ghost use Rattle.std.specs.Prelude.{◌≡◌, Ok, IfSome, IfOk};
 ghost use Rattle.pk_graph.specs.Trees as tree;
 ghost use Rattle.pk_graph.specs.Views.{tree_view};
 ghost use Rattle.pk_ctypes.specs.Types.{InType, represents};
@@ -74,6 +74,27 @@ pub fn conversion(from: IntType, to: IntType, tree: Box<Tree>) -> Tree
     }
 }
 
+/// The same on the heap, where the tree stays if no conversion is needed.
+pub fn boxed_conversion(
+    alloc: Global,
+    u: IntType,
+    t: IntType,
+    tree: Box<Tree>,
+) -> Result<Box<Tree>, AllocError>
+    ensures { IfOk result (λ e. tree_view e.value ≡ folding.conversion u t (tree_view tree.value)) }
+{
+    match number_in(&tree) {
+        Some(number) => constant_boxed(alloc, t, &convert(t, number)),
+        None => {
+            if represents(t, u) {
+                Ok(tree)
+            } else {
+                boxed(alloc, Tree::converted(t, tree))
+            }
+        }
+    }
+}
+
 /// An operator with one operand in a type, whose operand has been converted to it.
 pub fn unary_tree(op: Op, site: Site, int_type: IntType, operand: Box<Tree>) -> Tree
     requires { IfSome (folding.number_in (tree_view operand.value)) (InType int_type) }
@@ -117,23 +138,22 @@ pub fn operated_tree(
 ) -> Result<Tree, AllocError>
     ensures { IfOk result (λ e. tree_view e ≡ folding.operated_tree op site int_type u v (tree_view left.value) (tree_view right.value)) }
 {
-    let a = conversion(u, int_type, left);
-    let b = conversion(v, right_type(op, v, int_type), right);
-    let (a, b) = both_boxed(alloc, a, b)?;
+    let a = boxed_conversion(alloc, u, int_type, left);
+    let b = boxed_conversion(alloc, v, right_type(op, v, int_type), right);
+    let (a, b) = both(a, b)?;
     Ok(binary_tree(op, site, int_type, a, b))
 }
 
-// Two values on the heap. It is generic, so that what is dropped where memory ends is one value to the prover, and not each variant of a tree.
-fn both_boxed<A: Drop, B: Drop>(
-    alloc: Global,
-    first: A,
-    second: B,
-) -> Result<(Box<A>, Box<B>), AllocError>
-    ensures first { IfOk result (λ r. r.0.value ≡ first) }
-    ensures second { IfOk result (λ r. r.1.value ≡ second) }
+// Two values, where there was memory for both. It is generic, so that what is dropped where memory ends is one value to the prover, and not each variant of a tree.
+fn both<A: Drop, B: Drop>(
+    first: Result<A, AllocError>,
+    second: Result<B, AllocError>,
+) -> Result<(A, B), AllocError>
+    ensures first { IfOk result (λ r. first ≡ Ok r.0) }
+    ensures second { IfOk result (λ r. second ≡ Ok r.1) }
 {
-    let first = Box::new(alloc, first)?;
-    let second = Box::new(alloc, second)?;
+    let first = first?;
+    let second = second?;
     Ok((first, second))
 }
 

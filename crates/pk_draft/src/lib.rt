@@ -8,5 +8,6 @@ mod folding;
 pub use drafts::{Draft, DraftEdge, Label, NOWHERE, Parts, Region, Size, inner, no_region};
 pub use failures::LowerError;
 pub use folding::{
-    binary_tree, conversion, equals, operated_tree, represents, right_type, unary_tree,
+    binary_tree, boxed_conversion, conversion, equals, operated_tree, represents, right_type,
+    unary_tree,
 };

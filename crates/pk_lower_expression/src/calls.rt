@@ -7,13 +7,14 @@ ghost use Rattle.pk_graph.specs.Views.{tree_view};
 ghost use Rattle.pk_draft.specs.Drafts as drafts;
 ghost use Rattle.pk_draft.specs.Shown.{drafted};
 ghost use Rattle.pk_lower_row.specs.Rows as rows;
-ghost use Rattle.pk_lower_row.specs.Shapes.{any_makes};
+ghost use Rattle.pk_lower_row.specs.Shapes.{any_makes, shape_of};
 ghost use Rattle.pk_lower_row.specs.Views.{given};
 
 use pk_ctypes::IntType;
 use pk_draft::{Draft, Size};
 use pk_graph::Tree;
-use pk_lower_row::{boxed, makes, set};
+use pk_lower_row as rows;
+use pk_lower_row::{Waiting, boxed, makes, set, shape_of};
 use pk_typed::Value;
 use std::alloc::{AllocError, Global};
 
@@ -29,6 +30,35 @@ pub fn last_making(values: &[Value]) -> usize
         last -= 1;
     }
     0
+}
+
+/// The tree of a value waits for a later operand. What it is is looked up only where it may have to go into a temporary.
+pub(crate) fn held(
+    alloc: Global,
+    draft: &mut Draft,
+    how: Waiting,
+    value: &Value,
+    tree: Box<Tree>,
+) -> Result<Box<Tree>, AllocError>
+    ensures { IfOk result (λ e. given e.value draft.new ≡ rows.held how (shape_of (value_tree value.now)) (type_of (value_tree value.now)) (given tree.value draft.old)) }
+{
+    match how {
+        Waiting::Loose => Ok(tree),
+        Waiting::Strong => held_as(alloc, draft, how, value, tree),
+        Waiting::Weak => held_as(alloc, draft, how, value, tree),
+    }
+}
+
+fn held_as(
+    alloc: Global,
+    draft: &mut Draft,
+    how: Waiting,
+    value: &Value,
+    tree: Box<Tree>,
+) -> Result<Box<Tree>, AllocError>
+    ensures { IfOk result (λ e. given e.value draft.new ≡ rows.held how (shape_of (value_tree value.now)) (type_of (value_tree value.now)) (given tree.value draft.old)) }
+{
+    rows::held(alloc, draft, how, shape_of(value), value.int_type(), tree)
 }
 
 // A parameter gets a tree of a value.

@@ -12,7 +12,7 @@ ghost use Rattle.pk_lower_row.specs.Contexts as contexts;
 ghost use Rattle.pk_lower_row.specs.Shapes.{shape_of};
 ghost use Rattle.pk_lower_row.specs.Views.{context_in, given, loaded_in, passed_in};
 
-use crate::calls::{enter, last_making};
+use crate::calls::{enter, held, last_making};
 use pk_ctypes::{IntType, Op};
 use pk_draft::{Draft, NOWHERE, represents};
 use pk_graph::{Array, Site, Tree};
@@ -32,14 +32,7 @@ fn waiting(
     ensures { IfOk result (λ e. given e.value draft.new ≡ rows.held how (shape_of (value_tree expression.now)) (type_of (value_tree expression.now)) ((ways (context_in context.now) (value_tree expression.now)).value (drafted draft.old))) }
 {
     let tree = value(context, draft, expression)?;
-    rows::held(
-        context.alloc,
-        draft,
-        how,
-        shape_of(expression),
-        expression.int_type(),
-        tree,
-    )
+    held(context.alloc, draft, how, expression, tree)
 }
 // The tree of an operand, converted.
 #[cycle(expressions)]

@@ -13,7 +13,7 @@ ghost use Rattle.pk_lower_row.specs.Views.{given, two_in, loaded_in};
 use crate::boxes::boxed;
 use crate::shapes::{Shape, Waiting, is_plain, stays};
 use pk_ctypes::{IntType, Op, result_type};
-use pk_draft::{Draft, NOWHERE, conversion, operated_tree, unary_tree};
+use pk_draft::{Draft, NOWHERE, boxed_conversion, conversion, operated_tree, unary_tree};
 use pk_graph::{Array, Instr, Site, Tree};
 use std::alloc::{AllocError, Global};
 
@@ -512,7 +512,7 @@ pub fn converted(
 ) -> Result<Box<Tree>, AllocError>
     ensures { IfOk result (λ e. tree_view e.value ≡ folding.conversion from to (tree_view tree.value)) }
 {
-    boxed(alloc, conversion(from, to, tree))
+    boxed_conversion(alloc, from, to, tree)
 }
 
 /// An operator with one operand, of a type.

@@ -11,10 +11,16 @@ use std::alloc::{AllocError, Global};
 // Where an edge that isn't made leads to.
 const NOWHERE: usize = 0;
 
+// So many items get room one by one: few points have more edges.
+const FEW: usize = 2;
+
 // One item more. It is generic, so that what is dropped where memory ends is one value to the prover, and not each variant.
 fn push<T: Drop>(row: &mut Vec<T>, item: T) -> Result<(), AllocError>
     ensures { OnOk result (row.new.items ≡ row.old.items ++ item ∷ []) }
 {
+    if row.len() < FEW {
+        row.reserve_exact(1)?;
+    }
     row.push(item)?;
     Ok(())
 }

@@ -1,6 +1,6 @@
 // Scopes: which declaration a name has (C99 6.2.1).
 
-ghost use Rattle.std.specs.Prelude.{◌≡◌, ◌++◌, ◌∷◌, ◌<◌, [], ℕ, List, None, Some, is_some, IfOk, OnOk, length};
+ghost use Rattle.std.specs.Prelude.{◌≡◌, ◌++◌, ◌∷◌, ◌<◌, [], ℕ, List, None, Some, is_some, IfOk, OnOk, length, map};
 ghost use Rattle.pk_scope.specs.Declarations.{Names};
 ghost use Rattle.pk_scope.specs.Scopes as scopes;
 ghost use Rattle.pk_scope.specs.Scopes.{Layer, Scoping, layer_of, scoping_of};
@@ -70,15 +70,6 @@ pub fn spelling(text: &[u8], name: Identifier) -> &[u8]
     }
 }
 
-fn first_of(declared: Option<Declaration>, other: Option<Declaration>) -> Option<Declaration>
-    ensures { result ≡ scopes.first_of declared other }
-{
-    match declared {
-        Some(d) => Some(d),
-        None => other,
-    }
-}
-
 impl<'a> Scope<'a> {
     /// The scope of a text before its first declaration.
     pub fn new(alloc: Global, text: &'a [u8]) -> Scope<'a>
@@ -97,12 +88,24 @@ impl<'a> Scope<'a> {
         ensures { result ≡ scopes.names_in (scoping_of self.now) name }
     {
         let bytes = spelling(self.text, name);
-        let mut found = None;
-        for frame in &self.outer {
-            let declared = frame.get(bytes);
-            found = first_of(declared, found);
+        match self.inner.get(bytes) {
+            Some(declared) => Some(declared),
+            None => self.lookup_around(bytes),
         }
-        first_of(self.inner.get(bytes), found)
+    }
+
+    // The declaration of a name around the innermost scope, from the inside out.
+    fn lookup_around(&self, bytes: &[u8]) -> Option<Declaration>
+        ensures { result ≡ scopes.found_up (map layer_of self.now.outer.items) bytes.now None }
+    {
+        let mut left = self.outer.len();
+        while left > 0 {
+            left -= 1;
+            if let Some(declared) = self.outer[left].get(bytes) {
+                return Some(declared);
+            }
+        }
+        None
     }
 
     /// Declares a name in the innermost scope, and answers whether that scope had declared it before.

@@ -4,6 +4,8 @@ use Rattle.pk_typed.specs.declared.statements.Declared.{Declared}
 use Rattle.pk_typed.specs.declared.statements.Item.{Item}
 use Rattle.pk_typed.specs.declared.statements.Item.TheVariants as items
 use Rattle.pk_typed.specs.declared.statements.Statement.{Statement}
+use Rattle.pk_ctypes.specs.declared.places.Pos.{Pos}
+use Rattle.pk_typed.specs.Trees as trees
 use Rattle.pk_typed.specs.Trees.{ItemTrees, no_items, declared_before, statement_before}
 use Rattle.pk_typed.specs.Views.{declared_tree, declared_trees, statement_tree, item_trees}
 use Rattle.pk_statement.specs.Items.{append_items}
@@ -23,3 +25,6 @@ objects_added xs ds = items_append xs (map items.Declared ds) ∙ ap (append_ite
 
 pub statement_added : (xs : List Item) (s : Statement) → item_trees (xs ++ items.Statement s ∷ []) ≡ append_items (item_trees xs) (statement_before (statement_tree s) no_items)
 statement_added xs s = items_append xs (items.Statement s ∷ [])
+
+pub empty_added : (xs : List Item) (s : Statement) (at : Pos) → statement_tree s ≡ trees.empty at → item_trees (xs ++ items.Statement s ∷ []) ≡ append_items (item_trees xs) (statement_before (trees.empty at) no_items)
+empty_added xs s at e = statement_added xs s ∙ ap (λ t. append_items (item_trees xs) (statement_before t no_items)) e

@@ -4,7 +4,7 @@ use Rattle.std.proofs.lemmas.List.{drop_all}
 use Rattle.std.proofs.Common.{◌≡◌, ℕ, suc, ◌+◌, ◌<◌, ◌≤◌, Bool, List, [], ◌∷◌, ◌++◌, Option, Some, None, drop, get_or, length, length-append, add-one, refl, ap, sym, ◌∙◌, arith}
 use Rattle.pk_ctypes.specs.declared.places.Pos.{Pos}
 use Rattle.pk_ast.specs.declared.statements.BlockItem.{BlockItem}
-use Rattle.pk_ast.specs.Trees.{ExpressionTree, ForStartTree, DeclarationTree, StatementTree, ItemTrees, no_items, declaration_then, statement_then, switch, for_loop}
+use Rattle.pk_ast.specs.Trees.{ExpressionTree, ForStartTree, DeclarationTree, StatementTree, ItemTrees, no_items, declaration_then, statement_then, empty, switch, for_loop}
 use Rattle.pk_ast.specs.Views.{item_trees}
 use Rattle.pk_typed.specs.Trees as tree
 use Rattle.pk_typed.specs.Trees.{DeclaredTree, ValueTree}
@@ -145,6 +145,14 @@ declaration_passed r w v all now rest d c p q k h =
 pub statement_passed : (r : Typing) (w v all : State) (now rest : ItemTrees) (s : StatementTree) → now ≡ statement_then s rest → v ≡ after noted r w s → after_items noted r w now ≡ all → after_items noted r v rest ≡ all
 unfolding after_items
 statement_passed r w v all now rest s p k h = ap (λ x. after_items noted r x rest) k ∙ (ap (λ n. after_items noted r w n) (sym p) ∙ h)
+
+pub empty_passed : (r : Typing) (w v : State) (s : StatementTree) (at : Pos) → s ≡ empty at → v ≡ w → v ≡ after noted r w s
+unfolding after
+empty_passed r w v s at e h = h ∙ ap (λ t. after noted r w t) (sym e)
+
+pub empty_typed : (r : Typing) (labels : Labels) (w : State) (s : StatementTree) (at : Pos) → s ≡ empty at → Some (tree.empty at) ≡ typed noted r labels w s
+unfolding typed
+empty_typed r labels w s at e = ap (λ t. typed noted r labels w t) (sym e)
 
 pub end_passed : (r : Typing) (w all : State) (now : ItemTrees) → now ≡ no_items → after_items noted r w now ≡ all → w ≡ all
 unfolding after_items

@@ -13,7 +13,7 @@ ghost use Rattle.pk_statement.specs.Views.{passed_in, statement_in};
 use crate::boxes::boxed;
 use crate::cases::switch;
 use crate::heads::for_loop;
-use crate::items::{add_objects, add_statement};
+use crate::items::{add_empty, add_objects, add_statement, empty_at};
 use crate::statements::Statements;
 use crate::trees;
 use pk_ast::{BlockItem, Expression, ForHead, Statement};
@@ -198,10 +198,13 @@ pub fn body_items(
                 let objects = to.declaration(alloc, d)?;
                 add_objects(&mut all, alloc, objects)?;
             }
-            BlockItem::Statement(s) => {
-                let one = statement(to, around, s)?;
-                add_statement(&mut all, one)?;
-            }
+            BlockItem::Statement(s) => match empty_at(s) {
+                Some(at) => add_empty(&mut all, at)?,
+                None => {
+                    let one = statement(to, around, s)?;
+                    add_statement(&mut all, one)?;
+                }
+            },
         }
     }
     Ok(all.whole())

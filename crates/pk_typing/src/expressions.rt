@@ -25,8 +25,9 @@ fn note_void(notes: &mut Notes, is_used: bool, checked: &Checked, e: &Expression
     ensures { noted_in notes.new ≡ with_failures (noted_in notes.old)
         (fails_if (is_used && is_void checked.now.typing) rule.Void (first_place_of (expression_tree e.now))) }
 {
-    let is_void = checked.typing.is_void();
-    notes.fail_if(is_used && is_void, Rule::Void, e.first_place());
+    if is_used && checked.typing.is_void() {
+        notes.fail_if(true, Rule::Void, e.first_place());
+    }
 }
 
 /// Checks an expression: notes what fails in it and its calls, and gives what is known of it.

@@ -18,6 +18,9 @@ pub struct Mentions {
     pub changed: Vec<Variable>,
 }
 
+// So many objects are compared one by one with others.
+const FEW: usize = 16;
+
 // A set of objects.
 #[derive(Drop)]
 struct Objects {
@@ -112,12 +115,36 @@ impl Before {
     }
 }
 
-// Whether one of the second is among the first. Mostly the first are none, and nothing is looked at.
+/// Whether the object is among these.
+pub(crate) fn is_among(xs: &[Variable], x: Variable) -> bool
+    ensures { result ≡ definitions.is_among xs.now x }
+{
+    for y in xs {
+        if is_same(x, *y) {
+            return true;
+        }
+    }
+    false
+}
+
+// Whether one of the second is among the first, by comparing each with each.
+fn meet_directly(first: &[Variable], second: &[Variable]) -> bool
+    ensures { result ≡ definitions.meet first.now second.now }
+{
+    for y in second {
+        if is_among(first, *y) {
+            return true;
+        }
+    }
+    false
+}
+
+// Whether one of the second is among the first. Mostly one of them has few, and nothing is made.
 fn meet(alloc: Global, first: &[Variable], second: &[Variable]) -> Result<bool, AllocError>
     ensures { IfOk result (λ r. r ≡ definitions.meet first.now second.now) }
 {
-    if first.is_empty() {
-        return Ok(false);
+    if first.len() <= FEW || second.len() <= FEW {
+        return Ok(meet_directly(first, second));
     }
     let mut objects = Objects::new(alloc);
     objects.add_all(first)?;
@@ -174,18 +201,6 @@ impl Mentions {
         let left = meet(alloc, &self.changed, &other.named)?;
         let right = meet(alloc, &other.changed, &self.named)?;
         Ok(left || right)
-    }
-
-    /// Whether the object is among those that are changed.
-    pub(crate) fn changes(&self, x: Variable) -> bool
-        ensures { result ≡ definitions.is_among self.now.changed.items x }
-    {
-        for y in &self.changed {
-            if is_same(x, *y) {
-                return true;
-            }
-        }
-        false
     }
 }
 

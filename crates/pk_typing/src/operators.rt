@@ -16,7 +16,7 @@ ghost use Rattle.pk_typing.specs.Views.{evaluated_tree, operand_tree, mentioned_
 use crate::boxes::{both, boxed_option};
 use crate::checked::{Checked, Operand, operand_of};
 use crate::evaluated::{Evaluated, effect_of, place_of, value_of, valued, without_value};
-use crate::mentions::Mentions;
+use crate::mentions::{Mentions, is_among};
 use crate::names::{Target, is_array, is_object, is_scalar, typing_of};
 use pk_ast::{AssignmentOperator, BinaryOperator, StepOperator, UnaryOperator};
 use pk_ctypes::{IntType, Op, Pos, Rule, promote, result_type, usual};
@@ -504,7 +504,7 @@ fn assignment_clash(
         None => Ok(false),
         Some(t) => {
             let clash = left.clash(alloc, right)?;
-            Ok(clash || left.changes(t.variable))
+            Ok(clash || is_among(&left.changed, t.variable))
         }
     }
 }

@@ -56,10 +56,7 @@ makes_at v = makes (value_tree v)
 
 pub waiting-returns : goal.waiting-returns
 waiting-returns t c =
-    if_ok c.held.result (λ e h. h
-    ∙ (ap (λ (s : Shape). rows.held c.args.how s c.int_type.result (tree_view c.in_ok-tree.tree.value, drafted c.value.new.draft)) c.shape_of.ensures
-    ∙ (ap (λ (u : IntType). rows.held c.args.how (shape_of (value_tree c.args.expression.now)) u (tree_view c.in_ok-tree.tree.value, drafted c.value.new.draft)) c.int_type.ensures
-    ∙ ap (rows.held c.args.how (shape_of (value_tree c.args.expression.now)) (type_of (value_tree c.args.expression.now))) c.in_ok-tree.ensures))) c.held.ensures
+    if_ok c.held.result (λ e h. h ∙ ap (rows.held c.args.how (shape_of (value_tree c.args.expression.now)) (type_of (value_tree c.args.expression.now))) c.in_ok-tree.ensures) c.held.ensures
 
 pub converted-returns : goal.converted-returns
 converted-returns t c =

@@ -5,9 +5,9 @@ use Rattle.pk_jump.specs.Views.{labels_in}
 use Rattle.pk_declare.specs.Parts.{parts_in}
 use Rattle.pk_declare.proofs.PartLemmas.{map_twice}
 use Rattle.pk_statement.specs.Views.{passed_in, items_in}
-use Rattle.pk_statement.proofs.WalkLemmas.{items_left, left_positive, items_passed, for_left, for_passed, for_typed, switch_passed, switch_typed, next, at_end, declaration_passed, statement_passed, end_passed, declaration_typed, statement_typed, end_typed}
+use Rattle.pk_statement.proofs.WalkLemmas.{items_left, left_positive, items_passed, for_left, for_passed, for_typed, switch_passed, switch_typed, next, at_end, declaration_passed, statement_passed, empty_passed, empty_typed, end_passed, declaration_typed, statement_typed, end_typed}
 use Rattle.pk_statement.proofs.walk.+walk.Goals as goal
-use Rattle.pk_statement.proofs.walk.+walk.Goals.{body_items-in-Declaration+in_ok-objects-in-Declaration+in_ok-add_objects-in-Declaration, body_items-in-Statement+in_ok-one-in-Statement+in_ok-add_statement-in-Statement}
+use Rattle.pk_statement.proofs.walk.+walk.Goals.{body_items-in-Declaration+in_ok-objects-in-Declaration+in_ok-add_objects-in-Declaration, body_items-in-Statement+in-Some+in_ok-add_empty-in-Some, body_items-in-Statement+in-None+in_ok-one-in-None+in_ok-add_statement-in-None}
 
 pub block_items-leave-requires : goal.block_items-leave-requires
 block_items-leave-requires t c =
@@ -34,13 +34,20 @@ body_items-loop-item-preserved t c =
             passed = declaration_passed r _ _ _ _ _ _ _ now d k i.passed;
             trees = declaration_typed r labels _ _ _ _ _ _ _ _ _ _ now d k e.trees (ap items_in w.all-is ∙ w.in_ok-add_objects-in-Declaration.ensures) i.trees;
           }
-      | body_items-in-Statement+in_ok-one-in-Statement+in_ok-add_statement-in-Statement w ↦
+      | body_items-in-Statement+in-Some+in_ok-add_empty-in-Some w ↦
           let now = item _ c.loop-item-test.true c.item-item.is w.in-Statement.is in
-          let e = w.in_ok-one-in-Statement.ensures in
+          let k = empty_passed r _ _ _ _ w.in-Some.ensures (ap passed_in w.to-is) in
+          record {
+            passed = statement_passed r _ _ _ _ _ _ now k i.passed;
+            trees = statement_typed r labels _ _ _ _ _ _ _ _ _ now k (empty_typed r labels _ _ _ w.in-Some.ensures) (ap items_in w.all-is ∙ w.in_ok-add_empty-in-Some.ensures) i.trees;
+          }
+      | body_items-in-Statement+in-None+in_ok-one-in-None+in_ok-add_statement-in-None w ↦
+          let now = item _ c.loop-item-test.true c.item-item.is w.in-Statement.is in
+          let e = w.in_ok-one-in-None.ensures in
           let k = ap passed_in w.to-is ∙ e.passed in
           record {
             passed = statement_passed r _ _ _ _ _ _ now k i.passed;
-            trees = statement_typed r labels _ _ _ _ _ _ _ _ _ now k e.tree (ap items_in w.all-is ∙ w.in_ok-add_statement-in-Statement.ensures) i.trees;
+            trees = statement_typed r labels _ _ _ _ _ _ _ _ _ now k e.tree (ap items_in w.all-is ∙ w.in_ok-add_statement-in-None.ensures) i.trees;
           }
     ]
 
