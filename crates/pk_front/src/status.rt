@@ -1,4 +1,9 @@
 // How a command ends.
+
+ghost use Rattle.std.specs.Fmt.{WritesOnOk};
+ghost use Rattle.pk_front.specs.declared.status.Refusal.TheVariants as refusals;
+ghost use Rattle.pk_front.specs.Statuses.{refusal_text};
+
 use pk_ctypes::{Construct, Name, Names, Pos, Quantity, Rule};
 use pk_lex::LexicalKind;
 use std::alloc::{AllocError, AllocFailed};
@@ -23,21 +28,56 @@ pub enum Refusal {
     UndefinedCall { name: Name, at: Pos },
 }
 
+// Why no token begins at a place.
+fn write_lexical<W: fmt::Write>(
+    f: &mut fmt::Formatter<W>,
+    kind: &LexicalKind,
+    at: &Pos,
+) -> fmt::Result
+    ensures { WritesOnOk W.write_str_gives f.old result (refusal_text (refusals.Lexical kind.now at.now)) f.new }
+{
+    write!(f, "lexical {kind} at {at}")
+}
+
+// A construct that isn't analysed, at a place.
+fn write_unsupported<W: fmt::Write>(
+    f: &mut fmt::Formatter<W>,
+    construct: &Construct,
+    at: &Pos,
+) -> fmt::Result
+    ensures { WritesOnOk W.write_str_gives f.old result (refusal_text (refusals.Unsupported construct.now at.now)) f.new }
+{
+    write!(f, "unsupported {construct} at {at}")
+}
+
+// A rule that fails at a place.
+fn write_typing<W: fmt::Write>(f: &mut fmt::Formatter<W>, rule: &Rule, at: &Pos) -> fmt::Result
+    ensures { WritesOnOk W.write_str_gives f.old result (refusal_text (refusals.Typing rule.now at.now)) f.new }
+{
+    write!(f, "typing {rule} at {at}")
+}
+
+// A call at a place.
+fn write_undefined<W: fmt::Write>(f: &mut fmt::Formatter<W>, name: &Name, at: &Pos) -> fmt::Result
+    ensures { WritesOnOk W.write_str_gives f.old result (refusal_text (refusals.UndefinedCall name.now at.now)) f.new }
+{
+    write!(f, "undefined call {name} at {at}")
+}
+
 impl fmt::Display for Refusal {
     ghost use Rattle.std.specs.declared.option.Option.TheVariants.{Some};
-    ghost use Rattle.pk_front.specs.Statuses.{refusal_text};
 
     ghost output = { λ r. Some (refusal_text r) };
 
     fn fmt<W: fmt::Write>(&self, f: &mut fmt::Formatter<W>) -> fmt::Result {
         match self {
-            Refusal::Lexical { kind, at } => write!(f, "lexical {kind} at {at}"),
-            Refusal::Unsupported { construct, at } => write!(f, "unsupported {construct} at {at}"),
+            Refusal::Lexical { kind, at } => write_lexical(f, kind, at),
+            Refusal::Unsupported { construct, at } => write_unsupported(f, construct, at),
             Refusal::Syntax { at } => write!(f, "syntax at {at}"),
-            Refusal::Typing { rule, at } => write!(f, "typing {rule} at {at}"),
+            Refusal::Typing { rule, at } => write_typing(f, rule, at),
             Refusal::NoEntry { name } => write!(f, "no entry {name}"),
             Refusal::Recursion { cycle } => write!(f, "recursion {cycle}"),
-            Refusal::UndefinedCall { name, at } => write!(f, "undefined call {name} at {at}"),
+            Refusal::UndefinedCall { name, at } => write_undefined(f, name, at),
         }
     }
 }
