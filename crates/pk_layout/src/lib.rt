@@ -1,0 +1,6 @@
+// Which slots a board has, and whose cell each of them holds.
+#![tactic(auto)]
+
+mod layouts;
+
+pub use layouts::Layout;
