@@ -1,0 +1,4 @@
+pub mod Lists
+pub mod Counting
+pub mod Giving_more
+pub mod Laying
