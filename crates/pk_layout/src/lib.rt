@@ -3,6 +3,8 @@
 
 mod gathering;
 mod giving;
+mod laws;
 mod layouts;
 
+pub use laws::{every_plan_is_wired, fits_read_within};
 pub use layouts::Layout;
