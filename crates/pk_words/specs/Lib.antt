@@ -1,0 +1,7 @@
+pub mod Tokens
+pub mod Held
+pub mod Views
+pub mod Subjects
+pub mod Board
+pub mod Reads
+pub mod Told

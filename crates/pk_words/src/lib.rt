@@ -1,0 +1,19 @@
+// The words of a board, its slots, and the rule that they keep.
+#![tactic(auto)]
+
+mod plays;
+mod rule;
+mod subject;
+mod tokens;
+mod view;
+mod why;
+
+pub use plays::{
+    Parts, Tells, decrement_told, exchange_told, give_told, input_told, load_told, store_told,
+    take_told,
+};
+pub use rule::Rule;
+pub use subject::Subject;
+pub use tokens::{Finished, Hold, Resetting, Sending, Stopped};
+pub use view::View;
+pub use why::Why;
