@@ -124,7 +124,7 @@ pending_is {C} {S} {b} {w} {value} {core} {st} wired sh e some_e =
     let t = (sh.restarts a.0 a.1 a.2 r.0 r.1).2 in
     record { id = a.0; view = a.1; at = a.2; exit = r.0; resetting = r.1; member = member_in wired r.0 e t.exit r.2; restarting = t }
 
-zero_or : (n : ℕ) → (n ≡ 0) ⊎ (0 < n)
+pub zero_or : (n : ℕ) → (n ≡ 0) ⊎ (0 < n)
 zero_or zero = inl refl
 zero_or (suc n) = inr (omega arith)
 

@@ -3,6 +3,9 @@ pub mod Wired
 pub mod Stays
 pub mod Facts
 pub mod Restarts
+pub mod Quiet
 pub mod Numbers
 pub mod Statuses
 pub mod Slots
+pub mod Sends
+pub mod Runs

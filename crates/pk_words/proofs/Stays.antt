@@ -1,5 +1,5 @@
 -- What a step changes, and that the rest is still shown.
-use Rattle.std.proofs.Common.{◌≡◌, ◌≢◌, ℕ, zero, suc, ◌+◌, ◌<◌, ◌≤◌, ◌==◌, List, [], ◌∷◌, ◌++◌, length, drop, get_or, set, true, false, refl, sym, ap, subst, ◌∙◌, arith, inl, inr, ◌⊎◌, Some, get_or-set_same, get_or-set_other, length-set}
+use Rattle.std.proofs.Common.{◌≡◌, ◌≢◌, ℕ, zero, suc, ◌+◌, ◌*◌, ◌<◌, ◌≤◌, ◌==◌, List, [], ◌∷◌, ◌++◌, length, drop, get_or, set, true, false, refl, sym, ap, subst, ◌∙◌, arith, inl, inr, ◌⊎◌, Some, get_or-set_same, get_or-set_other, length-set}
 use mathlib.Core.Option.{Option, some, none}
 use lib.ListN.{get_elem?}
 use Rattle.atomic_table.specs.Table.{State as TableState}
@@ -9,7 +9,7 @@ use Rattle.pk_core.specs.declared.events.Status.{Status}
 use Rattle.pk_core.specs.declared.events.Status.TheVariants.{Waiting, Open, Held, Done}
 use Rattle.pk_plan.specs.Plans.{end_of, successors_of}
 use Rattle.pk_plan.specs.Shape.{has, shape_of}
-use Rattle.pk_core.specs.States.{State, run_number, cell_in}
+use Rattle.pk_core.specs.States.{Element, State, run_number, cell_in}
 use Rattle.pk_core.specs.Events.{start, Enabled, after, played}
 use Rattle.pk_core.proofs.Listed.{played_more, all_more}
 use Rattle.pk_core.proofs.Basics.{cases, same}
@@ -19,13 +19,18 @@ use Rattle.pk_layout.specs.Wirings.{Wiring, IsWired}
 use Rattle.pk_words.specs.declared.view.View.{View}
 use Rattle.pk_words.specs.declared.why.Why.{Why}
 use Rattle.pk_words.specs.Tokens.{times, number_of, heading, pending, seen_run, total, one_if_held, one_if_any}
-use Rattle.pk_words.specs.Board.{word_shown, head_of, members_at, IsRestarting, why_of, IsCause, Shows, IsBoard}
+use Rattle.pk_words.specs.Board.{low, word_shown, head_of, members_at, IsRestarting, why_of, IsCause, Shows, IsBoard}
 use Rattle.pk_words.proofs.Lists.{total_set, parts, elem_set, heading_some}
 use Rattle.pk_words.proofs.Wired.{head_below}
 
 -- how often an element is still to be armed, by all views
 abbrev pub armings : {S : Type 0} → Wiring → TableState S View → ℕ → ℕ
 armings w s e = total (λ (v : View). pending (members_at w.plan) e v.resets) s.views
+
+-- a word shows the status and the run number alone
+pub word_same : {C : Type 0} (left : ℕ) (x y : Element C) → x.status ≡ y.status → run_number x ≡ run_number y → word_shown left x ≡ word_shown left y
+word_same zero x y status run = ap (λ (r : ℕ). r * 1048576 + low x.status) run ∙ ap (λ (st : Status). run_number y * 1048576 + low st) status
+word_same (suc left) x y status run = ap (λ (r : ℕ). r * 1048576 + 262145) run
 
 -- The core goes on from s to t, armings from `left` to `left'`, the word of e becomes n, and the view v of the stepping pass becomes v'.
 pub record Changes {C : Type 0} (w : Wiring) (s t : State C) (left left' : ℕ → ℕ) (e n : ℕ) (v v' : View) : Type 0 where
