@@ -9,3 +9,5 @@ pub mod Statuses
 pub mod Slots
 pub mod Sends
 pub mod Runs
+pub mod Steps
+pub mod Whole
