@@ -8,6 +8,7 @@ pub mod Numbers
 pub mod Statuses
 pub mod Slots
 pub mod Sends
+pub mod Members
 pub mod Runs
 pub mod Steps
 pub mod Whole
