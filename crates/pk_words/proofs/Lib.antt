@@ -10,5 +10,6 @@ pub mod Slots
 pub mod Sends
 pub mod Members
 pub mod Runs
+pub mod Again
 pub mod Steps
 pub mod Whole
