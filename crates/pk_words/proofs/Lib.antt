@@ -11,5 +11,6 @@ pub mod Sends
 pub mod Members
 pub mod Runs
 pub mod Again
+pub mod Arm
 pub mod Steps
 pub mod Whole
