@@ -13,4 +13,6 @@ pub mod Runs
 pub mod Again
 pub mod Arm
 pub mod Steps
+pub mod Restart_steps
+pub mod Stops
 pub mod Whole
