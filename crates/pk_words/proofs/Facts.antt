@@ -35,7 +35,7 @@ kept_all b p s (ev ∷ evs) ax k all = kept_all b p (after b p s ev) evs ax (kep
 pub kept : {C : Type 0} (b : Behaviour C) (p : Shape) (evs : List Event) → Axioms p → AllEnabled b p (start p) evs → Kept p (settled (played b p (start p) evs))
 kept b p evs ax all = kept_all b p (start p) evs ax (kept_start p) all
 
-count_most : (f : ℕ → Bool) (xs : List ℕ) → count_by f xs ≤ length xs
+pub count_most : (f : ℕ → Bool) (xs : List ℕ) → count_by f xs ≤ length xs
 count_most f [] = omega arith
 count_most f (x ∷ xs) = head (f x) refl (count_most f xs)
   where

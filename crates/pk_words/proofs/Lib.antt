@@ -8,4 +8,11 @@ pub mod Numbers
 pub mod Statuses
 pub mod Slots
 pub mod Sends
+pub mod Members
 pub mod Runs
+pub mod Again
+pub mod Arm
+pub mod Steps
+pub mod Restart_steps
+pub mod Stops
+pub mod Whole

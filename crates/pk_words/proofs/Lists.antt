@@ -171,3 +171,13 @@ seen_next run e n ns u here there = by_test (e == u) refl
     by_test : (c : Bool) → (e == u) ≡ c → seen_run u ((e, n) ∷ ns) ≤ run u
     by_test true q = rw q (omega (arith, there, here, ap run (same e u q)))
     by_test false q = rw q there
+
+pub heading_most : (head : ℕ → ℕ) (x : ℕ) (rs : List (ℕ × ℕ)) → times x rs ≤ heading head (head x) rs
+heading_most head x [] = omega arith
+heading_most head x (r ∷ rs) = by_test (r.0 == x) refl (heading_most head x rs)
+  where
+    by_test : (c : Bool) → (r.0 == x) ≡ c → times x rs ≤ heading head (head x) rs → (if c then 1 else 0) + times x rs ≤ (if head r.0 == head x then 1 else 0) + heading head (head x) rs
+    by_test true q ih =
+        let e : (head r.0 == head x) ≡ true = ap (λ (j : ℕ). head j == head x) (same r.0 x q) ∙ itself (head x) in
+        rw e (omega (arith, ih))
+    by_test false q ih = omega (arith, ih)

@@ -56,7 +56,7 @@ rest_has_none v xs h = elim (cases (has v xs)) [
       )
 ]
 
-has_get : (xs : List ℕ) (i : ℕ) → i < length xs → has (get_or xs i 0) xs ≡ true
+pub has_get : (xs : List ℕ) (i : ℕ) → i < length xs → has (get_or xs i 0) xs ≡ true
 has_get [] i h = absurd (omega arith)
 has_get (x ∷ xs) zero h = let r = itself x in rw r refl
 has_get (x ∷ xs) (suc i) h = or_right (get_or xs i 0 == x) (has (get_or xs i 0) xs) (has_get xs i (omega arith))

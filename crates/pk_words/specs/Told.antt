@@ -1,5 +1,5 @@
 -- What the steps tell: the view and the slots after, from those before and the word found.
-use Rattle.std.specs.Prelude.{◌≡◌, ◌≢◌, ℕ, ◌+◌, ◌-◌, ◌/◌, ◌%◌, ◌<◌, ◌≤◌, ◌==◌, [], ◌∷◌, drop, slice_index, Some, None}
+use Rattle.std.specs.Prelude.{◌≡◌, ◌≢◌, ℕ, ◌+◌, ◌-◌, ◌/◌, ◌%◌, ◌<◌, ◌≤◌, ◌==◌, [], ◌∷◌, drop, length, slice_index, Some, true}
 use Rattle.std.specs.Bool.{MatchBool}
 use Rattle.atomic_table.specs.Table.{Me}
 use Rattle.pk_plan.specs.Order.{Level}
@@ -66,3 +66,24 @@ Finished p e me stored new = new ≡ (done_view e stored (successors_of p e) me.
 -- the word of the last element was found, done or not
 abbrev pub Ended : {S : Type 0} → ℕ → Me S View → ℕ → Me S View → Type 0
 Ended last me found new = MatchBool (found % 1048576 == 262145) (new ≡ (end_view last found me.0, [])) (new ≡ (note_view last found me.0, [])) × IsLater last me found
+
+-- the exit was run, and its component is to be gone through again
+abbrev pub Restarted : {S : Type 0} → PlanView → ℕ → Me S View → ℕ → Me S View → Type 0
+Restarted p x me stored new = new ≡ (again_view x stored (length (members_at p x)) me.0, [])
+
+-- the member e was armed, and so many are left
+abbrev pub Armed : {S : Type 0} → (x left e : ℕ) → Me S View → ℕ → Me S View → Type 0
+Armed x left e me found new = (new ≡ (arm_view x left e found me.0, [])) × (found % 1048576 ≡ 262145) × IsLater e me found
+
+-- the head e was armed, and the pass has its Hold
+abbrev pub HeadArmed : {C S : Type 0} → Behaviour C → Wiring → (x e : ℕ) → Me S View → ℕ → Me S View → Type 0
+HeadArmed b w x e me found new = (new ≡ (head_view x e found me.0, [])) × (found % 1048576 ≡ 262145) × Counts b w e (found / 1048576) × IsLater e me found
+
+abbrev pub Stopping : {S : Type 0} → Me S View → ℕ → Me S View → Type 0
+Stopping me stored new = new ≡ (stop_view me.0, [])
+
+-- The stop word was found: 0, if the pass hasn't seen the board stopped, or why it is stopped.
+abbrev pub StopFound : {C S : Type 0} → Behaviour C → Wiring → Me S View → ℕ → Me S View → Type 0
+StopFound b w me found new =
+    MatchBool (found == 0) (new ≡ (idle me.0, [])) (new ≡ (stop_view me.0, []))
+    × ((why : Why) → why_of w.limit found ≡ Some why → IsCause b w why) × (me.0.stopped ≡ true → found ≢ 0)

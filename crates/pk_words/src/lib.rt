@@ -9,7 +9,7 @@ mod view;
 mod why;
 
 pub use plays::{
-    Parts, Tells, decrement_told, exchange_told, give_told, input_told, load_told, store_told,
+    Parts, Tells, arm_told, decrement_told, exchange_told, give_told, input_told, load_told, store_told,
     take_told,
 };
 pub use rule::Rule;
