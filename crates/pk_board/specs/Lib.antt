@@ -1,2 +1,4 @@
+pub mod Copies
 pub mod Boards
 pub mod Calls
+pub mod Writing

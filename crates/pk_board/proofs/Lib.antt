@@ -1,0 +1,4 @@
+pub mod Asking
+pub mod Telling
+pub mod Sending_told
+pub mod Writing_slots
