@@ -1,20 +1,19 @@
 -- The members of a component are armed, one after another, the head last.
-use Rattle.std.proofs.Common.{◌≡◌, ◌≢◌, ℕ, zero, suc, ◌+◌, ◌*◌, ◌/◌, ◌%◌, ◌<◌, ◌≤◌, ◌==◌, List, [], ◌∷◌, length, take, drop, get_or, set, count_by, cond, Bool, true, false, if◌then◌else◌, refl, sym, ap, subst, ◌∙◌, arith, inl, inr, ◌⊎◌}
+use Rattle.std.proofs.Common.{◌≡◌, ◌≢◌, ℕ, suc, ◌+◌, ◌*◌, ◌/◌, ◌<◌, ◌≤◌, ◌==◌, List, [], ◌∷◌, length, take, drop, get_or, set, count_by, cond, Bool, true, false, if◌then◌else◌, refl, sym, ap, subst, ◌∙◌, arith, inl, inr}
 use mathlib.Core.Option.{some}
 use lib.ListN.{get_elem?}
 use Rattle.atomic_table.specs.Table.{State as TableState}
 use Rattle.pk_plan.specs.Plans.{successors_of}
-use Rattle.pk_plan.specs.Shape.{shape_of, exits, holds}
+use Rattle.pk_plan.specs.Shape.{shape_of, holds}
 use Rattle.pk_iterate.specs.Behaviour.{Behaviour}
 use Rattle.pk_core.specs.declared.events.Status.{Status}
-use Rattle.pk_core.specs.declared.events.Status.TheVariants.{Waiting, Held}
 use Rattle.pk_core.specs.States.{State, run_number}
 use Rattle.pk_core.specs.Events.{start, inner, played}
 use Rattle.pk_core.proofs.Basics.{cases, same, itself, neq}
 use Rattle.pk_core.proofs.Keeps.{apart_of}
 use Rattle.pk_layout.specs.Wirings.{Wiring, IsWired}
 use Rattle.pk_words.specs.declared.view.View.{View}
-use Rattle.pk_words.specs.Tokens.{times, number_of, drop_one, heading, pending, seen_run, one_if_held, one_if_any}
+use Rattle.pk_words.specs.Tokens.{times, number_of, drop_one, heading, pending, seen_run, one_if_any}
 use Rattle.pk_words.specs.Views.{arm_view, head_view}
 use Rattle.pk_words.specs.Board.{low, word_of, word_shown, head_of, members_at, IsRestarting, Shows, IsBoard}
 use Rattle.pk_words.proofs.Lists.{part, times_other, number_other, times_own, times_more, number_own, number_more, heading_own, heading_more, heading_drop, heading_other, heading_most, pending_drop, times_gone}
@@ -23,7 +22,7 @@ use Rattle.pk_words.proofs.Stays.{armings, held_most, Changes, stays}
 use Rattle.pk_words.proofs.Facts.{narrow}
 use Rattle.pk_words.proofs.Numbers.{run_shown}
 use Rattle.pk_words.proofs.Statuses.{no_moves, found_noted}
-use Rattle.pk_words.proofs.Members.{counted_more, head_first, head_holds, later_member}
+use Rattle.pk_words.proofs.Members.{counted_more, head_first, later_member}
 
 -- how often an element is still to be armed, once e is
 abbrev pub armings_less : {S : Type 0} → Wiring → TableState S View → ℕ → ℕ → ℕ

@@ -5,7 +5,7 @@ use mathlib.Core.Option.{some}
 use lib.ListN.{get_elem?}
 use Rattle.atomic_table.specs.Table.{State as TableState}
 use Rattle.pk_plan.specs.Plans.{end_of, successors_of}
-use Rattle.pk_plan.specs.Shape.{has, shape_of, holds}
+use Rattle.pk_plan.specs.Shape.{has, shape_of}
 use Rattle.pk_iterate.specs.Behaviour.{Behaviour}
 use Rattle.pk_core.specs.declared.events.Event.TheVariants.{Send}
 use Rattle.pk_core.specs.declared.events.Status.{Status}

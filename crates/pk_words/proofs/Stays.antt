@@ -1,5 +1,5 @@
 -- What a step changes, and that the rest is still shown.
-use Rattle.std.proofs.Common.{◌≡◌, ◌≢◌, ℕ, zero, suc, ◌+◌, ◌*◌, ◌<◌, ◌≤◌, ◌==◌, List, [], ◌∷◌, ◌++◌, length, drop, get_or, set, true, false, refl, sym, ap, subst, ◌∙◌, arith, inl, inr, ◌⊎◌, Some, get_or-set_same, get_or-set_other, length-set}
+use Rattle.std.proofs.Common.{◌≡◌, ◌≢◌, ℕ, zero, suc, ◌+◌, ◌*◌, ◌<◌, ◌≤◌, ◌==◌, List, [], ◌∷◌, ◌++◌, length, drop, get_or, set, true, false, refl, sym, ap, subst, ◌∙◌, arith, inl, inr, ◌⊎◌, get_or-set_same, get_or-set_other, length-set}
 use mathlib.Core.Option.{Option, some, none}
 use lib.ListN.{get_elem?}
 use Rattle.atomic_table.specs.Table.{State as TableState}
@@ -17,9 +17,8 @@ use Rattle.pk_core.proofs.Keeps.{apart_of}
 use Rattle.pk_layout.specs.Layouts.{owner_of, reader_of}
 use Rattle.pk_layout.specs.Wirings.{Wiring, IsWired}
 use Rattle.pk_words.specs.declared.view.View.{View}
-use Rattle.pk_words.specs.declared.why.Why.{Why}
 use Rattle.pk_words.specs.Tokens.{times, number_of, heading, pending, seen_run, total, one_if_held, one_if_any}
-use Rattle.pk_words.specs.Board.{low, word_shown, head_of, members_at, IsRestarting, why_of, IsCause, Shows, IsBoard}
+use Rattle.pk_words.specs.Board.{low, word_shown, head_of, members_at, IsRestarting, why_of, Shows, IsBoard}
 use Rattle.pk_words.proofs.Lists.{total_set, parts, elem_set, heading_some}
 use Rattle.pk_words.proofs.Wired.{head_below}
 

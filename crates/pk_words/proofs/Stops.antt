@@ -1,18 +1,16 @@
 -- The stop word.
-use Rattle.std.proofs.Common.{◌≡◌, ◌≢◌, ℕ, zero, suc, ◌+◌, ◌<◌, ◌≤◌, ◌==◌, List, [], ◌∷◌, length, drop, get_or, set, Bool, true, false, refl, sym, ap, subst, ◌∙◌, arith, inl, inr, ◌⊎◌, Some, get_or-set_same, get_or-set_other, length-set}
+use Rattle.std.proofs.Common.{◌≡◌, ◌≢◌, ℕ, ◌+◌, ◌<◌, ◌≤◌, ◌==◌, List, [], length, drop, get_or, set, Bool, true, false, refl, sym, ap, subst, ◌∙◌, arith, inl, inr, Some, get_or-set_same, get_or-set_other, length-set}
 use Rattle.std.specs.Bool.{MatchBool}
-use mathlib.Core.Option.{Option, some, none}
+use mathlib.Core.Option.{some}
 use lib.ListN.{get_elem?}
 use Rattle.atomic_table.specs.Table.{State as TableState, Me, Act, keeps, carried_after, homes_after, Valid, Allows}
-use Rattle.pk_plan.specs.Plans.{end_of, successors_of}
+use Rattle.pk_plan.specs.Plans.{successors_of}
 use Rattle.pk_plan.specs.Shape.{has, shape_of}
 use Rattle.pk_iterate.specs.Behaviour.{Behaviour}
 use Rattle.pk_core.specs.States.{State, run_number}
 use Rattle.pk_core.specs.Events.{start, played}
-use Rattle.pk_core.proofs.Basics.{same}
 use Rattle.pk_core.proofs.Keeps.{apart_of}
-use Rattle.pk_layout.specs.Layouts.{owner_of, reader_of}
-use Rattle.pk_layout.specs.Wirings.{Wiring, IsWired}
+use Rattle.pk_layout.specs.Wirings.{Wiring}
 use Rattle.pk_words.specs.declared.view.View.{View}
 use Rattle.pk_words.specs.declared.why.Why.{Why}
 use Rattle.pk_words.specs.Tokens.{times, number_of, heading, pending, seen_run, total}

@@ -1,26 +1,22 @@
 -- The start, a pass more, and the end.
-use Rattle.std.proofs.Common.{◌≡◌, ◌≢◌, ℕ, zero, suc, ◌+◌, ◌*◌, ◌/◌, ◌<◌, ◌≤◌, List, [], ◌∷◌, ◌++◌, map, length, get_or, set, true, false, refl, sym, ap, subst, ◌∙◌, arith, inl, inr, ◌⊎◌, Some}
+use Rattle.std.proofs.Common.{◌≡◌, ℕ, zero, suc, ◌+◌, ◌/◌, ◌<◌, ◌≤◌, List, [], ◌∷◌, ◌++◌, map, length, get_or, set, true, false, refl, sym, ap, subst, ◌∙◌, arith, inl, inr, ◌⊎◌, Some}
 use mathlib.Core.Option.{Option, some, none}
 use lib.ListN.{get_elem?}
 use Rattle.atomic_table.specs.Table.{State as TableState, opening, Final, Seen, Splits}
-use Rattle.pk_plan.specs.Order.{Level}
-use Rattle.pk_plan.specs.Plans.{end_of, predecessors_of}
+use Rattle.pk_plan.specs.Plans.{predecessors_of}
 use Rattle.pk_plan.specs.Shape.{has, shape_of}
 use Rattle.pk_iterate.specs.Behaviour.{Behaviour}
-use Rattle.pk_iterate.specs.Ending.{Ends, result_cell, result_count}
-use Rattle.pk_core.specs.declared.events.Status.{Status}
+use Rattle.pk_iterate.specs.Ending.{result_cell, result_count}
 use Rattle.pk_core.specs.declared.events.Status.TheVariants.{Done}
 use Rattle.pk_core.specs.States.{State, run_number, cell_in}
 use Rattle.pk_core.specs.Events.{start, start_status, played}
-use Rattle.pk_core.specs.Orders.{IsOrderOf}
 use Rattle.pk_layout.specs.Layouts.{slots_of, first_of, owner_of, reader_of}
 use Rattle.pk_layout.specs.Wirings.{Wiring, IsWired}
 use Rattle.pk_words.specs.declared.view.View.{View}
-use Rattle.pk_words.specs.declared.why.Why.{Why}
-use Rattle.pk_words.specs.Tokens.{times, number_of, heading, pending, seen_run, total, one_if_held}
+use Rattle.pk_words.specs.Tokens.{times, heading, pending, seen_run, total, one_if_held}
 use Rattle.pk_words.specs.Views.{first_view, new_view}
-use Rattle.pk_words.specs.Board.{low, word_shown, head_of, members_at, IsRestarting, why_of, IsCause, Shows, IsBoard}
-use Rattle.pk_words.specs.Reads.{IsResult, AreResult}
+use Rattle.pk_words.specs.Board.{low, word_shown, head_of, members_at, why_of, Shows, IsBoard}
+use Rattle.pk_words.specs.Reads.{AreResult}
 use Rattle.pk_words.proofs.Stays.{armings}
 use Rattle.pk_words.proofs.Numbers.{run_shown}
 use Rattle.pk_words.proofs.Facts.{held, narrow}

@@ -5,7 +5,7 @@ use lib.ListN.{get_elem?}
 use Rattle.atomic_table.specs.Table.{State as TableState}
 use Rattle.pk_plan.specs.Order.{Level}
 use Rattle.pk_plan.specs.Plans.{PlanView, end_of, successors_of, members_of}
-use Rattle.pk_plan.specs.Shape.{Shape, has, shape_of, component_of, holds, exits}
+use Rattle.pk_plan.specs.Shape.{has, shape_of, component_of, holds, exits}
 use Rattle.pk_iterate.specs.Behaviour.{Behaviour}
 use Rattle.pk_iterate.specs.Ending.{Ends, result_count}
 use Rattle.pk_core.specs.declared.events.Event.{Event}
@@ -55,6 +55,11 @@ abbrev pub why_of : (limit word : ℕ) → Option Why
 why_of limit zero = None
 why_of limit (suc zero) = Some Memory
 why_of limit (suc (suc e)) = Some (RunLimit e (limit + 1))
+
+-- a run that is named is the first beyond the limit
+abbrev pub NamesLimit : ℕ → Why → Type 0
+NamesLimit limit Memory = Unit {0}
+NamesLimit limit (RunLimit element run) = run ≡ limit + 1
 
 -- The run is the first beyond the limit, and the recursion makes it.
 abbrev pub IsCause : {C : Type 0} → Behaviour C → Wiring → Why → Type 0

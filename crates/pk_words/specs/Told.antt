@@ -1,9 +1,9 @@
 -- What the steps tell: the view and the slots after, from those before and the word found.
-use Rattle.std.specs.Prelude.{◌≡◌, ◌≢◌, ℕ, ◌+◌, ◌-◌, ◌/◌, ◌%◌, ◌<◌, ◌≤◌, ◌==◌, [], ◌∷◌, drop, length, slice_index, Some, true}
+use Rattle.std.specs.Prelude.{◌≡◌, ◌≢◌, ℕ, ◌+◌, ◌/◌, ◌%◌, ◌<◌, ◌≤◌, ◌==◌, [], ◌∷◌, drop, length, slice_index, Some, true}
 use Rattle.std.specs.Bool.{MatchBool}
 use Rattle.atomic_table.specs.Table.{Me}
 use Rattle.pk_plan.specs.Order.{Level}
-use Rattle.pk_plan.specs.Plans.{PlanView, end_of, successors_of}
+use Rattle.pk_plan.specs.Plans.{PlanView, successors_of}
 use Rattle.pk_plan.specs.Shape.{shape_of}
 use Rattle.pk_iterate.specs.Behaviour.{Behaviour}
 use Rattle.pk_iterate.specs.Runs.{run_value}
