@@ -1,8 +1,13 @@
 // The slots of a board.
 
-ghost use Rattle.std.specs.Prelude.{◌≡◌, ◌+◌, ◌<◌, length, slice_index};
-ghost use Rattle.pk_layout.specs.Layouts.{slots_of, first_of, owner_of, reader_of, input_of};
+ghost use Rattle.std.specs.Prelude.{◌≡◌, ◌+◌, ◌<◌, IfOk, length, slice_index};
+ghost use Rattle.pk_iterate.specs.Behaviour.{ReadsWithin};
+ghost use Rattle.pk_layout.specs.Layouts.{IsLaidOut, slots_of, first_of, owner_of, reader_of, input_of};
 
+use crate::gathering::{counted, gather, own_slots};
+use crate::giving::give;
+use pk_iterate::System;
+use std::alloc::{AllocError, Global};
 use std::marker::Model;
 
 /// The slots of a board's elements. Each element has one for its own cell, the first, and one for each time that an element reads
@@ -25,6 +30,29 @@ impl Model for Layout {
 }
 
 impl Layout {
+    /// The slots of so many elements, in time and memory linear in elements and reads.
+    pub fn new<Y: System>(
+        alloc: Global,
+        system: &Y,
+        elements: u32,
+    ) -> Result<Layout, AllocError>
+        requires { ReadsWithin (Y.meaning system.now) elements }
+        ensures { IfOk result (IsLaidOut (Y.meaning system.now) elements) }
+    {
+        let reads = gather(alloc, system, elements)?;
+        let counts = counted(alloc, &reads.targets, elements)?;
+        let slots = own_slots(alloc, &counts, elements)?;
+        let mut readers = Vec::from_slice(alloc, &slots.owners)?;
+        let inputs = give(alloc, &slots.first, &reads.targets, &reads.sources, &mut readers)?;
+        Ok(Layout {
+            first: slots.first,
+            owners: slots.owners,
+            readers,
+            inputs,
+            inputs_from: reads.from,
+        })
+    }
+
     /// How many slots there are.
     pub fn slots(&self) -> usize
         ensures { result ≡ slots_of self.now }

@@ -1,0 +1,82 @@
+// The board, and its calls that ask for no run.
+
+ghost use Rattle.std.specs.Prelude.{◌≡◌, ◌<◌, IfOk, IfErr, OnOk, OnErr};
+ghost use Rattle.pk_board.specs.Calls.{IsClaimed, IsSeen, IsEnd, IsNoEnd};
+
+use crate::answers::Seen;
+use crate::passes::Pass;
+use atomic_table::Table;
+use pk_iterate::System;
+use pk_words::{Finished, Hold, Rule, Subject, View, exchange_told, load_told};
+use std::alloc::Global;
+use std::marker::{Brand, Model};
+use std::sync::Arc;
+
+const RUN: u64 = 1048576;
+
+const OPEN: u64 = 262144;
+
+const DONE: u64 = 262145;
+
+/// A word for each element of a plan, and a slot for each cell that an element writes or reads. Any number of passes may call it at once.
+pub struct Board<'a, Y: System> {
+    pub(crate) subject: Subject<'a, Y>,
+    pub(crate) table: Table<Arc<Y::Cell>, View, Subject<'a, Y>, Rule, Global>,
+}
+
+impl<'a, Y: System> Model for Board<'a, Y> {
+    ghost use Rattle.pk_board.specs.Boards.{BoardView, IsKept};
+
+    ghost Value = { BoardView Y };
+
+    ghost view = { λ b. record { subject = b.subject; table = b.table.shared.table_id } };
+
+    ghost invariant = { λ b. IsKept (Y.meaning b.subject.system) b.subject b.table.shared.key b.table.shared.table_id };
+}
+
+impl<'a, Y: System> Board<'a, Y> {
+    /// Claims an open element, or tells the word that was found.
+    pub fn claim(&self, pass: &mut Pass<Y::Cell>, e: u32) -> Result<Hold, Seen>
+        requires of_board { pass.old.table ≡ self.now.table }
+        requires element { e < self.now.subject.wiring.plan.elements }
+        ensures of_board { pass.new.table ≡ pass.old.table }
+        ensures held { IfOk result (λ hold. IsClaimed (Y.meaning self.now.subject.system) self.now.subject.wiring e hold pass.old.view pass.new.view) }
+        ensures seen { IfErr result (λ seen. IsSeen e seen.word pass.old.view pass.new.view) }
+    {
+        let word = e as usize + 2;
+        let found = load_told::<_, _, _, Brand>(&self.table.shared, &mut pass.seat, word);
+        if found % RUN != OPEN {
+            return Err(Seen { word: found });
+        }
+        let seen = exchange_told::<_, _, _, Brand>(
+            &self.table.shared,
+            &mut pass.seat,
+            word,
+            found,
+            found - OPEN,
+            e,
+        );
+        if seen == found {
+            Ok(Hold::new(e, found / RUN))
+        } else {
+            Err(Seen { word: seen })
+        }
+    }
+
+    /// Whether the last element is done, or else its word.
+    pub fn finished(&self, pass: &mut Pass<Y::Cell>) -> Result<Finished, Seen>
+        requires of_board { pass.old.table ≡ self.now.table }
+        ensures of_board { pass.new.table ≡ pass.old.table }
+        ensures finished { OnOk result (IsEnd self.now.subject.wiring.plan pass.old.view pass.new.view) }
+        ensures seen { IfErr result (λ seen. IsNoEnd self.now.subject.wiring.plan seen.word pass.old.view pass.new.view) }
+    {
+        let last = self.subject.plan().elements() - 1;
+        let word = last as usize + 2;
+        let found = load_told::<_, _, _, Brand>(&self.table.shared, &mut pass.seat, word);
+        if found % RUN == DONE {
+            Ok(Finished::new())
+        } else {
+            Err(Seen { word: found })
+        }
+    }
+}

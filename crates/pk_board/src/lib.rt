@@ -1,0 +1,10 @@
+// A board on which passes run the elements of a plan, from threads of their own.
+#![tactic(auto)]
+
+mod answers;
+mod boards;
+mod passes;
+
+pub use answers::Seen;
+pub use boards::Board;
+pub use passes::Pass;
