@@ -14,7 +14,7 @@ use Rattle.pk_core.proofs.Keeps.{apart_of}
 use Rattle.pk_layout.specs.Wirings.{Wiring, IsWired}
 use Rattle.pk_words.specs.declared.view.View.{View}
 use Rattle.pk_words.specs.Tokens.{times, number_of, drop_one, heading, pending, seen_run, one_if_any}
-use Rattle.pk_words.specs.Views.{arm_view, head_view}
+use Rattle.pk_words.specs.Views.{arm_view, head_view, knows_stop}
 use Rattle.pk_words.specs.Board.{low, word_of, word_shown, head_of, members_at, IsRestarting, Shows, IsBoard}
 use Rattle.pk_words.proofs.Lists.{part, times_other, number_other, times_own, times_more, number_own, number_more, heading_own, heading_more, heading_drop, heading_other, heading_most, pending_drop, times_gone}
 use Rattle.pk_words.proofs.Wired.{member_below, head_below}
@@ -52,7 +52,7 @@ arm_changes : {C S : Type 0} {b : Behaviour C} {w : Wiring} {value : S → C} {s
     → ((u : ℕ) → times u v'.holds + heading (head_of w.plan) u v'.resets ≡ times u v.holds + heading (head_of w.plan) u v.resets)
     → ((u : ℕ) → u < w.plan.elements → 0 < times u v'.holds → number_of u v'.holds ≡ run_number (s u))
     → ((y : ℕ) → 0 < times y v'.resets → (0 < number_of y v'.resets) × (number_of y v'.resets ≤ length (members_at w.plan y)) × IsRestarting w.plan s y)
-    → v'.sends ≡ v.sends → v'.ended ≡ v.ended → v'.stopped ≡ v.stopped
+    → v'.sends ≡ v.sends → v'.ended ≡ v.ended → knows_stop v' ≡ knows_stop v
     → ((u : ℕ) → u < w.plan.elements → seen_run u v'.notes ≤ run_number (s u))
     → Changes w s s (armings w ts) (armings_less w ts (get_or (members_at w.plan x) left 0)) (get_or (members_at w.plan x) left 0) n v v'
 arm_changes {C} {S} {b} {w} {value} {s} {ts} id x left n v v' sh at mine number n_is pend holds' runs' restarts' same_sends same_ended same_stopped notes = record {

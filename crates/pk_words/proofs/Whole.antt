@@ -14,7 +14,7 @@ use Rattle.pk_layout.specs.Layouts.{slots_of, first_of, owner_of, reader_of}
 use Rattle.pk_layout.specs.Wirings.{Wiring, IsWired}
 use Rattle.pk_words.specs.declared.view.View.{View}
 use Rattle.pk_words.specs.Tokens.{times, heading, pending, seen_run, total, one_if_held}
-use Rattle.pk_words.specs.Views.{first_view, new_view}
+use Rattle.pk_words.specs.Views.{first_view, new_view, knows_stop}
 use Rattle.pk_words.specs.Board.{low, word_shown, head_of, members_at, why_of, Shows, IsBoard}
 use Rattle.pk_words.specs.Reads.{AreResult}
 use Rattle.pk_words.proofs.Stays.{armings}
@@ -79,7 +79,7 @@ more_shown b w value core s id v sh at = record {
   ];
   told = λ j x here saw. elim (elem_more s.views j (new_view v) x here) [
     | inl old ↦ sh.told j x old saw
-    | inr q ↦ sh.told id v at (ap (λ (y : View). y.stopped) q ∙ saw)
+    | inr q ↦ sh.told id v at (ap knows_stop q ∙ saw)
   ];
 }
   where
@@ -125,7 +125,7 @@ opens {C} {S} b w value words slots wired long going words_are slots_are = recor
     bounded = λ e. omega arith;
     noted = λ id v at e below. let q = only id v at in let z : seen_run e v.notes ≡ 0 = ap (λ (x : View). seen_run e x.notes) q in omega (arith, z);
     over = λ id v at saw. absurd (let q = only id v at in let z : v.ended ≡ false = ap (λ (x : View). x.ended) q in cc);
-    told = λ id v at saw. absurd (let q = only id v at in let z : v.stopped ≡ false = ap (λ (x : View). x.stopped) q in cc);
+    told = λ id v at saw. absurd (let q = only id v at in let z : knows_stop v ≡ false = ap knows_stop q in cc);
   };
 }
   where
