@@ -4,6 +4,7 @@
 mod answers;
 mod boards;
 mod passes;
+mod stops;
 
 pub use answers::Seen;
 pub use boards::Board;

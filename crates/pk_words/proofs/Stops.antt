@@ -1,5 +1,5 @@
 -- The stop word.
-use Rattle.std.proofs.Common.{◌||◌, not, ◌∷◌, ◌≡◌, ◌≢◌, ℕ, ◌+◌, ◌<◌, ◌≤◌, ◌==◌, List, [], length, drop, get_or, set, Bool, true, false, refl, sym, ap, subst, ◌∙◌, arith, inl, inr, Some, get_or-set_same, get_or-set_other, length-set}
+use Rattle.std.proofs.Common.{◌^◌, zero, suc, ◌||◌, not, ◌∷◌, ◌≡◌, ◌≢◌, ℕ, ◌+◌, ◌<◌, ◌≤◌, ◌==◌, List, [], length, drop, get_or, set, Bool, true, false, refl, sym, ap, subst, ◌∙◌, arith, inl, inr, Some, get_or-set_same, get_or-set_other, length-set}
 use mathlib.Core.Option.{some}
 use lib.ListN.{get_elem?}
 use Rattle.atomic_table.specs.Table.{State as TableState, Me, keeps, Allows}
@@ -9,9 +9,10 @@ use Rattle.pk_iterate.specs.Behaviour.{Behaviour}
 use Rattle.pk_core.specs.States.{State, run_number}
 use Rattle.pk_core.specs.Events.{start, played}
 use Rattle.pk_core.proofs.Keeps.{apart_of}
-use Rattle.pk_layout.specs.Wirings.{Wiring}
+use Rattle.pk_layout.specs.Wirings.{Wiring, IsWired}
 use Rattle.pk_words.specs.declared.view.View.{View}
 use Rattle.pk_words.specs.declared.why.Why.{Why}
+use Rattle.pk_words.specs.declared.why.Why.TheVariants.{RunLimit}
 use Rattle.pk_words.specs.Tokens.{times, number_of, heading, pending, seen_run, total}
 use Rattle.pk_words.specs.Views.{stop_view, stop_note_view, any_stop, knows_stop}
 use Rattle.pk_words.specs.Board.{word_shown, head_of, members_at, IsRestarting, why_of, IsCause, Shows, IsBoard}
@@ -129,3 +130,11 @@ stop_loads {C} {S} b w value slots id me no_slot s board long at fits = (
     by_found : (t : Bool) → (found == 0) ≡ t → (any_stop me.0.stops || (not t || any_stop me.0.stop_notes)) ≡ true → found ≢ 0
     by_found true q h = board.shows.told id me.0 at h
     by_found false q h = apart_of found 0 q
+
+-- a stop word that names an element fits 33 bits
+pub word_fits : {C : Type 0} (b : Behaviour C) (w : Wiring) (found : ℕ) → IsWired b w → ((why : Why) → why_of w.limit found ≡ Some why → IsCause b w why) → found < 2 ^ 32 + 2
+word_fits b w zero wired cause = omega arith
+word_fits b w (suc zero) wired cause = omega arith
+word_fits b w (suc (suc e)) wired cause =
+    let below = (cause (RunLimit e (w.limit + 1)) refl).0 in
+    omega (arith, below, wired.few)
