@@ -1,1 +1,5 @@
 pub mod Stopping
+pub mod Asking
+pub mod Telling
+pub mod Sending_told
+pub mod Writing_slots

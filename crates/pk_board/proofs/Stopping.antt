@@ -16,16 +16,6 @@ use Rattle.pk_words.proofs.Stops.{stops, stop_loads, word_fits}
 use Rattle.pk_board.specs.Boards.{BoardView, PassView, IsKept}
 use Rattle.pk_board.specs.Stops.{IsStop, IsStopped, IsGoing}
 
--- a board's invariant, at what a contract sees of it
-pub at_board : {Y C : Type 0} (meaning : Y → Behaviour C) (board : BoardView Y) (subject key : SubjectView Y) (table : TableId) → (record { subject = subject; table = table }) ≡ board
-    → IsKept (meaning subject.system) subject key table → IsKept (meaning board.subject.system) board.subject key table
-at_board meaning board subject key table is kept = subst (λ v. IsKept (meaning v.subject.system) v.subject key table) is kept
-
--- a pass of the board is of its table
-pub own_table : {Y : Type 0} (board : BoardView Y) (pass : PassView) (subject : SubjectView Y) (table id : TableId) (view : View) → (record { subject = subject; table = table }) ≡ board → (record { table = id; view = view }) ≡ pass
-    → pass.table ≡ board.table → id ≡ table
-own_table board pass subject table id view is at of = ap (λ (p : PassView). p.table) at ∙ of ∙ sym (ap (λ (b : BoardView _). b.table) is)
-
 pub names_limit : {C : Type 0} (b : Behaviour C) (w : Wiring) (why : Why) → IsCause b w why → NamesLimit w.limit why
 names_limit b w Memory cause = tt
 names_limit b w (RunLimit element run) cause = cause.1

@@ -1,22 +1,26 @@
 // The board, and its calls that ask for no run.
 
-ghost use Rattle.std.specs.Prelude.{◌≡◌, ◌<◌, IfOk, IfErr, OnOk, OnErr};
+ghost use Rattle.std.specs.Prelude.{◌≡◌, ◌<◌, ◌≤◌, IfOk, IfErr, OnOk};
+ghost use Rattle.pk_words.specs.Views.{HasHold, new_view, offer_view};
 ghost use Rattle.pk_board.specs.Calls.{IsClaimed, IsSeen, IsEnd, IsNoEnd};
 
 use crate::answers::Seen;
 use crate::passes::Pass;
 use atomic_table::Table;
 use pk_iterate::System;
-use pk_words::{Finished, Hold, Rule, Subject, View, exchange_told, load_told};
+use pk_words::{
+    Finished, Hold, Parts, Rule, Subject, View, exchange_told, load_told, store_told,
+};
 use std::alloc::Global;
 use std::marker::{Brand, Model};
 use std::sync::Arc;
 
-const RUN: u64 = 1048576;
+// A word is a run number times RUN, and a low part.
+pub const RUN: u64 = 1048576;
 
-const OPEN: u64 = 262144;
+pub const OPEN: u64 = 262144;
 
-const DONE: u64 = 262145;
+pub const DONE: u64 = 262145;
 
 /// A word for each element of a plan, and a slot for each cell that an element writes or reads. Any number of passes may call it at once.
 pub struct Board<'a, Y: System> {
@@ -35,6 +39,36 @@ impl<'a, Y: System> Model for Board<'a, Y> {
 }
 
 impl<'a, Y: System> Board<'a, Y> {
+    /// A pass for another thread. It has no token, and has seen what this one has.
+    pub fn split(&self, pass: &mut Pass<Y::Cell>) -> Pass<Y::Cell>
+        requires of_board { pass.old.table ≡ self.now.table }
+        ensures same { pass.new ≡ pass.old }
+        ensures other { result ≡ record { table = pass.old.table; view = new_view pass.old.view } }
+    {
+        Pass {
+            seat: self.table.shared.split_seat::<Parts>(&mut pass.seat),
+        }
+    }
+
+    /// Opens the element of a Hold, so that any pass may claim it.
+    pub fn offer(&self, pass: &mut Pass<Y::Cell>, hold: Hold)
+        requires of_board { pass.old.table ≡ self.now.table }
+        requires element { hold.element < self.now.subject.wiring.plan.elements }
+        requires held { HasHold pass.old.view hold.element hold.run }
+        requires within { hold.run ≤ self.now.subject.wiring.limit }
+        ensures of_board { pass.new.table ≡ pass.old.table }
+        ensures view { pass.new.view ≡ offer_view hold.element pass.old.view }
+    {
+        let element = hold.element();
+        store_told::<_, _, _, Brand>(
+            &self.table.shared,
+            &mut pass.seat,
+            element as usize + 2,
+            hold.run() * RUN + OPEN,
+            element,
+        );
+    }
+
     /// Claims an open element, or tells the word that was found.
     pub fn claim(&self, pass: &mut Pass<Y::Cell>, e: u32) -> Result<Hold, Seen>
         requires of_board { pass.old.table ≡ self.now.table }
@@ -56,11 +90,10 @@ impl<'a, Y: System> Board<'a, Y> {
             found - OPEN,
             e,
         );
-        if seen == found {
-            Ok(Hold::new(e, found / RUN))
-        } else {
-            Err(Seen { word: seen })
+        if seen != found {
+            return Err(Seen { word: seen });
         }
+        Ok(Hold::new(e, found / RUN))
     }
 
     /// Whether the last element is done, or else its word.
@@ -73,10 +106,9 @@ impl<'a, Y: System> Board<'a, Y> {
         let last = self.subject.plan().elements() - 1;
         let word = last as usize + 2;
         let found = load_told::<_, _, _, Brand>(&self.table.shared, &mut pass.seat, word);
-        if found % RUN == DONE {
-            Ok(Finished::new())
-        } else {
-            Err(Seen { word: found })
+        if found % RUN != DONE {
+            return Err(Seen { word: found });
         }
+        Ok(Finished::new())
     }
 }

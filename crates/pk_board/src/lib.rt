@@ -3,9 +3,14 @@
 
 mod answers;
 mod boards;
+mod copies;
 mod passes;
+mod runs;
+mod sends;
+mod starts;
 mod stops;
 
-pub use answers::Seen;
+pub use answers::{Armed, Arrived, Got, Seen};
 pub use boards::Board;
+pub use copies::Copies;
 pub use passes::Pass;

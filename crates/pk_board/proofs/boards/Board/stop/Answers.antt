@@ -1,7 +1,8 @@
 use Rattle.std.proofs.Common.{◌≡◌, ◌∙◌, ap, sym, subst, Some}
 use Rattle.std.specs.Arc.{arc_value}
 use Rattle.pk_words.specs.Board.{why_of, NamesLimit}
-use Rattle.pk_board.proofs.Stopping.{at_board, own_table, names_limit, stop_asked, stop_idle, is_stop}
+use Rattle.pk_board.proofs.Asking.{at_board, own_table}
+use Rattle.pk_board.proofs.Stopping.{names_limit, stop_asked, stop_idle, is_stop}
 use Rattle.pk_board.proofs.boards.Board.stop.Goals as goal
 
 pub stop_word-word-requires : goal.stop_word-word-requires

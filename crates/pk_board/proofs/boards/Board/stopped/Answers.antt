@@ -1,6 +1,7 @@
 use Rattle.std.proofs.Common.{◌≡◌, ◌∙◌, ap, sym, subst, Some}
 use Rattle.std.specs.Arc.{arc_value}
-use Rattle.pk_board.proofs.Stopping.{at_board, own_table, stopped_asked, word_asked}
+use Rattle.pk_board.proofs.Asking.{at_board, own_table}
+use Rattle.pk_board.proofs.Stopping.{stopped_asked, word_asked}
 use Rattle.pk_board.proofs.boards.Board.stopped.Goals as goal
 
 pub load_told-word-requires : goal.load_told-word-requires
