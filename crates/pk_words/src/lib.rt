@@ -12,8 +12,8 @@ mod words;
 
 pub use laws::every_board_keeps;
 pub use plays::{
-    Parts, Tells, arm_told, decrement_told, exchange_told, give_told, input_told, load_told,
-    store_told, take_told,
+    Parts, Tells, arm_head_told, arm_told, decrement_told, exchange_told, give_told, input_told,
+    load_told, store_told, take_told,
 };
 pub use rule::Rule;
 pub use subject::Subject;
