@@ -1,3 +1,4 @@
+pub mod Stopping
 pub mod Asking
 pub mod Telling
 pub mod Sending_told

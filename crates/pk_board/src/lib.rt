@@ -8,6 +8,7 @@ mod passes;
 mod runs;
 mod sends;
 mod starts;
+mod stops;
 
 pub use answers::{Armed, Arrived, Got, Seen};
 pub use boards::Board;

@@ -1,10 +1,10 @@
 -- A run after which a component is gone through again.
-use Rattle.std.proofs.Common.{◌≡◌, ◌≢◌, ℕ, zero, suc, ◌+◌, ◌*◌, ◌/◌, ◌<◌, ◌≤◌, ◌==◌, ◌&&◌, not, List, [], ◌∷◌, length, take, drop, set, count_by, Bool, true, false, if◌then◌else◌, refl, sym, ap, subst, ◌∙◌, arith, inl, inr, ◌⊎◌}
+use Rattle.std.proofs.Common.{◌≡◌, ◌≢◌, ℕ, zero, suc, ◌+◌, ◌*◌, ◌<◌, ◌≤◌, ◌==◌, ◌&&◌, not, List, [], ◌∷◌, length, set, count_by, Bool, true, false, refl, sym, ap, subst, ◌∙◌, arith, inl, inr}
 use Rattle.std.proofs.lemmas.List.{take_all}
 use mathlib.Core.Option.{some}
 use lib.ListN.{get_elem?}
 use Rattle.atomic_table.specs.Table.{State as TableState, homes_after}
-use Rattle.pk_plan.specs.Plans.{end_of, successors_of}
+use Rattle.pk_plan.specs.Plans.{end_of}
 use Rattle.pk_plan.specs.Shape.{Shape, has, shape_of, exits, holds}
 use Rattle.pk_iterate.specs.Behaviour.{Behaviour}
 use Rattle.pk_core.specs.declared.events.Event.TheVariants.{Again}
@@ -18,12 +18,12 @@ use Rattle.pk_core.proofs.Settled.{settle, settled}
 use Rattle.pk_layout.specs.Layouts.{slots_of, owner_of}
 use Rattle.pk_layout.specs.Wirings.{Wiring, IsWired}
 use Rattle.pk_words.specs.declared.view.View.{View}
-use Rattle.pk_words.specs.Tokens.{times, number_of, drop_one, heading, pending, seen_run, one_if_held, one_if_any}
+use Rattle.pk_words.specs.Tokens.{times, number_of, drop_one, heading, one_if_held, one_if_any}
 use Rattle.pk_words.specs.Views.{AllRight, slots_in, again_view, IsGiven}
 use Rattle.pk_words.specs.Board.{low, word_of, word_shown, head_of, members_at, IsRestarting, Shows, IsBoard}
-use Rattle.pk_words.proofs.Lists.{times_drop, times_other, number_other, times_more, number_own, number_more, heading_own, heading_more, seen_next}
+use Rattle.pk_words.proofs.Lists.{times_drop, times_other, number_other, times_more, heading_own, heading_more, seen_next}
 use Rattle.pk_words.proofs.Wired.{axioms_of, member_of, member_in, last_outside}
-use Rattle.pk_words.proofs.Stays.{armings, word_same, Changes, Moves, makes}
+use Rattle.pk_words.proofs.Stays.{armings, Changes, makes}
 use Rattle.pk_words.proofs.Facts.{kept, held, one_hold, own_free, hold_armed, not_pending}
 use Rattle.pk_words.proofs.Slots.{gives_all, given_moves}
 use Rattle.pk_words.proofs.Members.{member_once, some_members, counted_some, counted_none, head_holds, exit_no_member, inner_small}

@@ -1,21 +1,20 @@
 -- The members of a component are armed, one after another, the head last.
-use Rattle.std.proofs.Common.{◌≡◌, ◌≢◌, ℕ, zero, suc, ◌+◌, ◌*◌, ◌/◌, ◌%◌, ◌<◌, ◌≤◌, ◌==◌, List, [], ◌∷◌, length, take, drop, get_or, set, count_by, cond, Bool, true, false, if◌then◌else◌, refl, sym, ap, subst, ◌∙◌, arith, inl, inr, ◌⊎◌}
+use Rattle.std.proofs.Common.{◌≡◌, ◌≢◌, ℕ, suc, ◌+◌, ◌*◌, ◌/◌, ◌<◌, ◌≤◌, ◌==◌, List, [], ◌∷◌, length, take, drop, get_or, set, count_by, cond, Bool, true, false, if◌then◌else◌, refl, sym, ap, subst, ◌∙◌, arith, inl, inr}
 use mathlib.Core.Option.{some}
 use lib.ListN.{get_elem?}
 use Rattle.atomic_table.specs.Table.{State as TableState}
 use Rattle.pk_plan.specs.Plans.{successors_of}
-use Rattle.pk_plan.specs.Shape.{shape_of, exits, holds}
+use Rattle.pk_plan.specs.Shape.{shape_of, holds}
 use Rattle.pk_iterate.specs.Behaviour.{Behaviour}
 use Rattle.pk_core.specs.declared.events.Status.{Status}
-use Rattle.pk_core.specs.declared.events.Status.TheVariants.{Waiting, Held}
 use Rattle.pk_core.specs.States.{State, run_number}
 use Rattle.pk_core.specs.Events.{start, inner, played}
 use Rattle.pk_core.proofs.Basics.{cases, same, itself, neq}
 use Rattle.pk_core.proofs.Keeps.{apart_of}
 use Rattle.pk_layout.specs.Wirings.{Wiring, IsWired}
 use Rattle.pk_words.specs.declared.view.View.{View}
-use Rattle.pk_words.specs.Tokens.{times, number_of, drop_one, heading, pending, seen_run, one_if_held, one_if_any}
-use Rattle.pk_words.specs.Views.{arm_view, head_view}
+use Rattle.pk_words.specs.Tokens.{times, number_of, drop_one, heading, pending, seen_run, one_if_any}
+use Rattle.pk_words.specs.Views.{arm_view, head_view, knows_stop}
 use Rattle.pk_words.specs.Board.{low, word_of, word_shown, head_of, members_at, IsRestarting, Shows, IsBoard}
 use Rattle.pk_words.proofs.Lists.{part, times_other, number_other, times_own, times_more, number_own, number_more, heading_own, heading_more, heading_drop, heading_other, heading_most, pending_drop, times_gone}
 use Rattle.pk_words.proofs.Wired.{member_below, head_below}
@@ -23,7 +22,7 @@ use Rattle.pk_words.proofs.Stays.{armings, held_most, Changes, stays}
 use Rattle.pk_words.proofs.Facts.{narrow}
 use Rattle.pk_words.proofs.Numbers.{run_shown}
 use Rattle.pk_words.proofs.Statuses.{no_moves, found_noted}
-use Rattle.pk_words.proofs.Members.{counted_more, head_first, head_holds, later_member}
+use Rattle.pk_words.proofs.Members.{counted_more, head_first, later_member}
 
 -- how often an element is still to be armed, once e is
 abbrev pub armings_less : {S : Type 0} → Wiring → TableState S View → ℕ → ℕ → ℕ
@@ -53,7 +52,7 @@ arm_changes : {C S : Type 0} {b : Behaviour C} {w : Wiring} {value : S → C} {s
     → ((u : ℕ) → times u v'.holds + heading (head_of w.plan) u v'.resets ≡ times u v.holds + heading (head_of w.plan) u v.resets)
     → ((u : ℕ) → u < w.plan.elements → 0 < times u v'.holds → number_of u v'.holds ≡ run_number (s u))
     → ((y : ℕ) → 0 < times y v'.resets → (0 < number_of y v'.resets) × (number_of y v'.resets ≤ length (members_at w.plan y)) × IsRestarting w.plan s y)
-    → v'.sends ≡ v.sends → v'.ended ≡ v.ended → v'.stopped ≡ v.stopped
+    → v'.sends ≡ v.sends → v'.ended ≡ v.ended → knows_stop v' ≡ knows_stop v
     → ((u : ℕ) → u < w.plan.elements → seen_run u v'.notes ≤ run_number (s u))
     → Changes w s s (armings w ts) (armings_less w ts (get_or (members_at w.plan x) left 0)) (get_or (members_at w.plan x) left 0) n v v'
 arm_changes {C} {S} {b} {w} {value} {s} {ts} id x left n v v' sh at mine number n_is pend holds' runs' restarts' same_sends same_ended same_stopped notes = record {

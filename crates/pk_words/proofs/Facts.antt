@@ -1,16 +1,16 @@
 -- What the rule tells a pass.
-use Rattle.std.proofs.Common.{◌≡◌, ◌≢◌, ℕ, zero, suc, ◌+◌, ◌<◌, ◌≤◌, ◌==◌, ◌||◌, List, [], ◌∷◌, length, take, count_by, cond, Bool, true, false, refl, sym, ap, subst, ◌∙◌, arith, inl, inr, ◌⊎◌}
+use Rattle.std.proofs.Common.{◌≡◌, ◌≢◌, ℕ, zero, suc, ◌+◌, ◌<◌, ◌≤◌, ◌==◌, List, [], ◌∷◌, length, take, count_by, cond, Bool, true, false, refl, sym, ap, subst, ◌∙◌, arith, inl, inr, ◌⊎◌}
 use mathlib.Core.Option.{Option, some, none}
 use lib.ListN.{get_elem?}
 use Rattle.atomic_table.specs.Table.{State as TableState}
-use Rattle.pk_plan.specs.Plans.{end_of, predecessors_of}
+use Rattle.pk_plan.specs.Plans.{predecessors_of}
 use Rattle.pk_plan.specs.Shape.{Shape, has, shape_of, holds}
 use Rattle.pk_iterate.specs.Behaviour.{Behaviour}
 use Rattle.pk_core.specs.declared.events.Event.{Event}
 use Rattle.pk_core.specs.declared.events.Status.{Status}
 use Rattle.pk_core.specs.declared.events.Status.TheVariants.{Waiting, Open, Held, Done}
-use Rattle.pk_core.specs.States.{State, cell_in, run_number}
-use Rattle.pk_core.specs.Events.{start, inner, AllEnabled, after, played}
+use Rattle.pk_core.specs.States.{State, cell_in}
+use Rattle.pk_core.specs.Events.{start, AllEnabled, after, played}
 use Rattle.pk_core.proofs.Basics.{cases, same, itself, count_cons, or_right}
 use Rattle.pk_core.proofs.Moves.{Axioms}
 use Rattle.pk_core.proofs.Keeps.{Kept, Due, kept_moved, apart_of, missing, owing, before_done, is_waiting, is_done}
@@ -18,7 +18,7 @@ use Rattle.pk_core.proofs.Settled.{settle, settled, Does, does, nothing, move, k
 use Rattle.pk_layout.specs.Layouts.{slots_of, owner_of, reader_of}
 use Rattle.pk_layout.specs.Wirings.{Wiring, IsWired}
 use Rattle.pk_words.specs.declared.view.View.{View}
-use Rattle.pk_words.specs.Tokens.{times, number_of, heading, pending, total, one_if_held}
+use Rattle.pk_words.specs.Tokens.{times, heading, pending, total, one_if_held}
 use Rattle.pk_words.specs.Board.{head_of, members_at, IsRestarting, Shows, IsBoard}
 use Rattle.pk_words.proofs.Lists.{part, parts, must_be_held, heading_some}
 use Rattle.pk_words.proofs.Wired.{axioms_of, fits_of, few_before, slot_read, member_in, head_below}

@@ -16,3 +16,4 @@ pub mod Steps
 pub mod Restart_steps
 pub mod Stops
 pub mod Whole
+pub mod Keeping

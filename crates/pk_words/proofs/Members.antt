@@ -1,5 +1,5 @@
 -- The members of a component, one after another.
-use Rattle.std.proofs.Common.{◌≡◌, ◌≢◌, ℕ, zero, suc, ◌+◌, ◌-◌, ◌<◌, ◌≤◌, ◌==◌, ◌||◌, List, [], ◌∷◌, length, take, drop, count_by, cond, get_or, Bool, true, false, refl, sym, ap, subst, ◌∙◌, arith, inl, inr, ◌⊎◌}
+use Rattle.std.proofs.Common.{◌≡◌, ◌≢◌, ℕ, zero, suc, ◌+◌, ◌-◌, ◌<◌, ◌≤◌, ◌==◌, ◌||◌, List, [], ◌∷◌, length, take, drop, count_by, cond, get_or, Bool, true, false, refl, sym, ap, subst, ◌∙◌, arith}
 use Rattle.std.proofs.lemmas.List.{get_or-take, get_or-drop, length-take, length-drop}
 use Rattle.pk_plan.specs.Plans.{place_of, predecessors_of, Inside}
 use Rattle.pk_plan.specs.Shape.{has, shape_of, component_of, exits, holds}
@@ -7,7 +7,7 @@ use Rattle.pk_plan.proofs.PlanLemmas.{first_at, first_before_end, end_within, he
 use Rattle.pk_plan.proofs.Shapes.{of_exit, exit_is}
 use Rattle.pk_iterate.specs.Behaviour.{Behaviour}
 use Rattle.pk_core.specs.Events.{inner}
-use Rattle.pk_core.proofs.Basics.{cases, same, itself, neq, count_cons}
+use Rattle.pk_core.proofs.Basics.{same, itself, neq, count_cons}
 use Rattle.pk_core.proofs.Plan_shapes.{of_has}
 use Rattle.pk_layout.specs.Wirings.{Wiring, IsWired}
 use Rattle.pk_words.specs.Board.{head_of, members_at}

@@ -3,7 +3,7 @@ use Rattle.std.proofs.Common.{◌≡◌, ℕ, zero, suc, ◌+◌, ◌*◌, ◌/�
 use Rattle.pk_core.specs.declared.events.Status.{Status}
 use Rattle.pk_core.specs.declared.events.Status.TheVariants.{Waiting, Open, Held, Done}
 use Rattle.pk_core.specs.States.{Element, run_number}
-use Rattle.pk_words.specs.Board.{low, word_of, word_shown}
+use Rattle.pk_words.specs.Board.{low, word_shown}
 use Rattle.pk_words.proofs.Facts.{Narrow}
 
 pub low_part : (r l : ℕ) → l < 1048576 → (r * 1048576 + l) % 1048576 ≡ l

@@ -1,10 +1,8 @@
 -- What the steps of a restart keep and tell.
-use Rattle.std.proofs.Common.{◌≡◌, ℕ, zero, suc, ◌+◌, ◌-◌, ◌*◌, ◌/◌, ◌%◌, ◌^◌, ◌<◌, ◌≤◌, ◌&&◌, List, [], ◌∷◌, length, count_by, get_or, set, Bool, true, false, refl, sym, ap, subst, ◌∙◌, arith}
-use Rattle.std.proofs.Math.Dec.{leb, ltb}
+use Rattle.std.proofs.Common.{◌≡◌, ℕ, ◌+◌, ◌-◌, ◌*◌, ◌/◌, ◌%◌, ◌^◌, ◌<◌, List, length, get_or, true, refl, sym, ap, subst, ◌∙◌, arith}
+use Rattle.std.proofs.Math.Dec.{ltb}
 use Rattle.std.proofs.lemmas.Bool.Decides.{nat_tests}
-use mathlib.Core.Option.{some}
-use lib.ListN.{get_elem?}
-use Rattle.atomic_table.specs.Table.{State as TableState, Me, keeps, Allows}
+use Rattle.atomic_table.specs.Table.{Me, keeps, Allows}
 use Rattle.pk_plan.specs.Order.{Level}
 use Rattle.pk_plan.specs.Plans.{predecessors_of, is_inside, inner_count}
 use Rattle.pk_plan.specs.Shape.{has, shape_of, component_of, exits, holds}
@@ -15,12 +13,11 @@ use Rattle.pk_core.specs.States.{State, run_number}
 use Rattle.pk_core.specs.Events.{start, inner, played}
 use Rattle.pk_core.specs.Orders.{IsOrderOf}
 use Rattle.pk_core.proofs.Basics.{counted_same}
-use Rattle.pk_core.proofs.Plan_shapes.{of_has}
 use Rattle.pk_layout.specs.Layouts.{slots_of, owner_of}
 use Rattle.pk_layout.specs.Wirings.{Wiring, IsWired}
 use Rattle.pk_words.specs.declared.view.View.{View}
 use Rattle.pk_words.specs.Views.{HasHold, HasResetting, AllRight, slots_in, again_view, arm_view, head_view, IsGiven}
-use Rattle.pk_words.specs.Board.{head_of, members_at, IsRestarting, IsBoard}
+use Rattle.pk_words.specs.Board.{head_of, members_at, IsBoard}
 use Rattle.pk_words.specs.Told.{IsIdle, Restarted, Armed, HeadArmed}
 use Rattle.pk_words.proofs.Wired.{axioms_of, member_below, head_below}
 use Rattle.pk_words.proofs.Numbers.{low_part, high_part}

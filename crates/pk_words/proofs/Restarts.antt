@@ -1,13 +1,11 @@
 -- Components that are to be gone through again, while other elements are changed.
-use Rattle.std.proofs.Common.{◌≡◌, ◌≢◌, ℕ, ◌+◌, ◌<◌, ◌≤◌, List, length, true, false, refl, sym, ap, subst, ◌∙◌, arith}
+use Rattle.std.proofs.Common.{◌≡◌, ◌≢◌, ℕ, ◌<◌, ◌≤◌, List, length, true, false, sym, ap, subst, ◌∙◌}
 use mathlib.Core.Option.{some}
 use lib.ListN.{get_elem?}
 use Rattle.atomic_table.specs.Table.{State as TableState}
 use Rattle.pk_plan.specs.Plans.{PlanView}
 use Rattle.pk_plan.specs.Shape.{holds}
 use Rattle.pk_iterate.specs.Behaviour.{Behaviour}
-use Rattle.pk_core.specs.declared.events.Status.{Status}
-use Rattle.pk_core.specs.declared.events.Status.TheVariants.{Waiting}
 use Rattle.pk_core.specs.States.{State}
 use Rattle.pk_core.proofs.Keeps.{is_waiting}
 use Rattle.pk_layout.specs.Wirings.{Wiring, IsWired}

@@ -1,5 +1,5 @@
 -- A run that doesn't go through a component again.
-use Rattle.std.proofs.Common.{◌≡◌, ◌≢◌, ℕ, ◌+◌, ◌*◌, ◌/◌, ◌<◌, ◌≤◌, ◌==◌, List, [], ◌∷◌, length, drop, set, Bool, true, false, refl, sym, ap, subst, ◌∙◌, arith, inl, inr}
+use Rattle.std.proofs.Common.{◌≡◌, ◌≢◌, ℕ, ◌+◌, ◌*◌, ◌<◌, ◌≤◌, ◌==◌, List, [], ◌∷◌, length, drop, set, Bool, true, false, refl, sym, ap, subst, ◌∙◌, arith, inl, inr}
 use mathlib.Core.Option.{some}
 use lib.ListN.{get_elem?}
 use Rattle.atomic_table.specs.Table.{State as TableState, homes_after}
@@ -18,9 +18,9 @@ use Rattle.pk_core.proofs.Settled.{settle, settled}
 use Rattle.pk_layout.specs.Layouts.{slots_of, owner_of}
 use Rattle.pk_layout.specs.Wirings.{Wiring, IsWired}
 use Rattle.pk_words.specs.declared.view.View.{View}
-use Rattle.pk_words.specs.Tokens.{times, number_of, drop_one, heading, pending, seen_run, one_if_held, one_if_any}
+use Rattle.pk_words.specs.Tokens.{times, number_of, drop_one, heading, seen_run, one_if_held, one_if_any}
 use Rattle.pk_words.specs.Views.{AllRight, slots_in, begun, done_view, IsGiven}
-use Rattle.pk_words.specs.Board.{word_of, word_shown, head_of, members_at, IsRestarting, Shows, IsBoard}
+use Rattle.pk_words.specs.Board.{word_of, word_shown, head_of, IsRestarting, Shows, IsBoard}
 use Rattle.pk_words.proofs.Lists.{times_drop, times_other, number_other, times_own, times_more, number_own, number_more, part, seen_next}
 use Rattle.pk_words.proofs.Wired.{axioms_of}
 use Rattle.pk_words.proofs.Stays.{armings, Changes, Moves, makes}

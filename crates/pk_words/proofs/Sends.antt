@@ -5,7 +5,7 @@ use mathlib.Core.Option.{some}
 use lib.ListN.{get_elem?}
 use Rattle.atomic_table.specs.Table.{State as TableState}
 use Rattle.pk_plan.specs.Plans.{end_of, successors_of}
-use Rattle.pk_plan.specs.Shape.{has, shape_of, holds}
+use Rattle.pk_plan.specs.Shape.{has, shape_of}
 use Rattle.pk_iterate.specs.Behaviour.{Behaviour}
 use Rattle.pk_core.specs.declared.events.Event.TheVariants.{Send}
 use Rattle.pk_core.specs.declared.events.Status.{Status}
@@ -18,7 +18,7 @@ use Rattle.pk_core.proofs.Settled.{settle, settled}
 use Rattle.pk_layout.specs.Wirings.{Wiring, IsWired}
 use Rattle.pk_words.specs.declared.view.View.{View}
 use Rattle.pk_words.specs.Tokens.{times, number_of, drop_one, heading, pending, seen_run, one_if_held, one_if_any}
-use Rattle.pk_words.specs.Views.{sent_on, gained, arrive_view}
+use Rattle.pk_words.specs.Views.{sent_on, gained, arrive_view, knows_stop}
 use Rattle.pk_words.specs.Board.{low, word_shown, head_of, members_at, IsRestarting, Shows, IsBoard}
 use Rattle.pk_words.proofs.Lists.{times_drop, times_other, number_other, times_own, times_more, number_own, number_more, part}
 use Rattle.pk_words.proofs.Wired.{axioms_of, once_after}
@@ -87,7 +87,7 @@ send_changes : {C S : Type 0} {b : Behaviour C} {w : Wiring} {value : S → C} {
     → v'.sends ≡ sent_on a i left v.sends
     → v'.resets ≡ v.resets
     → v'.ended ≡ v.ended
-    → v'.stopped ≡ v.stopped
+    → knows_stop v' ≡ knows_stop v
     → arrived (s tgt).status ≡ st
     → n ≡ run_number (s tgt) * 1048576 + low st
     → times tgt v'.holds + one_if_held (s tgt).status ≡ times tgt v.holds + one_if_held st
@@ -284,7 +284,7 @@ sent_is {C} {S} b w value ts id a i n v board at low_a mine i_is in_range no_out
         → ((u : ℕ) → u < w.plan.elements → 0 < times u hs → number_of u hs ≡ run_number (core u))
         → IsBoard b w value (record { words = set ts.words (tgt + 2) n; homes = ts.homes; views = set ts.views id (arrive_view a i left tgt found v) })
     done_by st st_is n_st hs hs_is own others runs =
-        let v' : List (ℕ × ℕ) → View = λ ys. record { holds = ys; sends = sent_on a i left v.sends; resets = v.resets; out = []; notes = (tgt, found) ∷ v.notes; ended = v.ended; stopped = v.stopped } in
+        let v' : List (ℕ × ℕ) → View = λ ys. record { holds = ys; sends = sent_on a i left v.sends; resets = v.resets; out = []; notes = (tgt, found) ∷ v.notes; ended = v.ended; stops = v.stops; stop_notes = v.stop_notes } in
         subst (λ (ys : List (ℕ × ℕ)). IsBoard b w value (record { words = set ts.words (tgt + 2) n; homes = ts.homes; views = set ts.views id (v' ys) })) (sym hs_is)
         (makes b w value ts (armings w ts) ts.homes id tgt n v (v' hs) (Send a tgt) low_t board at (low_a, low_t, has_tgt)
         (send_changes st id a i tgt n left v (v' hs) board.wired board.shows k at low_a (waits_now (core tgt).status waits) mine sends_a less refl refl refl refl refl st_is n_st own others runs (found_noted b w value ts id tgt v board at low_t))

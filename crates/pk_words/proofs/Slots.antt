@@ -1,5 +1,5 @@
 -- Slots that are taken, and given back.
-use Rattle.std.proofs.Common.{◌≡◌, ℕ, zero, suc, ◌+◌, ◌*◌, ◌<◌, ◌≤◌, ◌==◌, List, [], ◌∷◌, length, get_or, set, Bool, true, false, ◌||◌, refl, sym, ap, subst, ◌∙◌, arith, inl, inr, ◌⊎◌, length-set}
+use Rattle.std.proofs.Common.{◌≡◌, ℕ, zero, suc, ◌+◌, ◌<◌, ◌≤◌, ◌==◌, List, [], ◌∷◌, length, get_or, set, Bool, true, false, ◌||◌, refl, sym, ap, subst, ◌∙◌, arith, inl, inr, ◌⊎◌, length-set}
 use mathlib.Core.Option.{Option, some, none}
 use lib.ListN.{get_elem?}
 use Rattle.atomic_table.specs.Table.{State as TableState, Act, keeps, gives, chain, put_back, rest, carried_after, homes_after, Valid}
@@ -13,7 +13,7 @@ use Rattle.pk_layout.specs.Layouts.{slots_of, owner_of, reader_of}
 use Rattle.pk_layout.specs.Wirings.{Wiring}
 use Rattle.pk_words.specs.declared.view.View.{View}
 use Rattle.pk_words.specs.Tokens.{times, seen_run}
-use Rattle.pk_words.specs.Views.{AllRight, slots_in, idle}
+use Rattle.pk_words.specs.Views.{AllRight, slots_in, idle, knows_stop}
 use Rattle.pk_words.specs.Board.{Shows, IsBoard}
 use Rattle.pk_words.proofs.Lists.{elem_set, elem_set_other}
 use Rattle.pk_words.proofs.Stays.{armings, Moves, stays}
@@ -95,7 +95,7 @@ given_moves {C} {S} {b} {w} {value} {s} {ts} t v v' xs sh long out out' all rest
 
 -- a load takes a slot of a Hold's element, and may note something that is so
 pub taken : {C S : Type 0} (b : Behaviour C) (w : Wiring) (value : S → C) (ts : TableState S View) (id e k : ℕ) (v v' : View) → (board : IsBoard b w value ts) → get_elem? ts.views id ≡ some v → e < w.plan.elements → 0 < times e v.holds → (owner_of w.layout k ≡ e) ⊎ (reader_of w.layout k ≡ e)
-    → v'.holds ≡ v.holds → v'.sends ≡ v.sends → v'.resets ≡ v.resets → v'.out ≡ k ∷ v.out → v'.ended ≡ v.ended → v'.stopped ≡ v.stopped
+    → v'.holds ≡ v.holds → v'.sends ≡ v.sends → v'.resets ≡ v.resets → v'.out ≡ k ∷ v.out → v'.ended ≡ v.ended → knows_stop v' ≡ knows_stop v
     → ((u : ℕ) → u < w.plan.elements → seen_run u v'.notes ≤ run_number (played b (shape_of w.plan) (start (shape_of w.plan)) board.events u))
     → IsBoard b w value (record { words = set ts.words (e + 2) (get_or ts.words (e + 2) 0); homes = set ts.homes k none; views = set ts.views id v' })
 taken {C} {S} b w value ts id e k v v' board at below mine of_e same_holds same_sends same_resets out_is same_ended same_stopped notes =

@@ -1,5 +1,5 @@
 -- Steps after which one element has another status, and steps that change no element.
-use Rattle.std.proofs.Common.{◌≡◌, ◌≢◌, ℕ, ◌+◌, ◌*◌, ◌/◌, ◌%◌, ◌<◌, ◌≤◌, ◌==◌, List, [], ◌∷◌, length, drop, get_or, set, Bool, true, false, if◌then◌else◌, refl, sym, ap, subst, ◌∙◌, arith, inl, inr, ◌⊎◌}
+use Rattle.std.proofs.Common.{◌≡◌, ◌≢◌, ℕ, ◌+◌, ◌*◌, ◌/◌, ◌<◌, ◌≤◌, ◌==◌, List, [], ◌∷◌, length, drop, get_or, set, Bool, true, false, if◌then◌else◌, refl, sym, ap, subst, ◌∙◌, arith, inl, inr, ◌⊎◌}
 use mathlib.Core.Option.{some}
 use lib.ListN.{get_elem?}
 use Rattle.atomic_table.specs.Table.{State as TableState}
@@ -17,7 +17,7 @@ use Rattle.pk_layout.specs.Layouts.{owner_of}
 use Rattle.pk_layout.specs.Wirings.{Wiring, IsWired}
 use Rattle.pk_words.specs.declared.view.View.{View}
 use Rattle.pk_words.specs.Tokens.{times, number_of, drop_one, heading, pending, seen_run, one_if_held, one_if_any}
-use Rattle.pk_words.specs.Views.{note_view, offer_view, claim_view, end_view}
+use Rattle.pk_words.specs.Views.{note_view, offer_view, claim_view, end_view, knows_stop}
 use Rattle.pk_words.specs.Board.{low, word_shown, head_of, members_at, IsRestarting, Shows, IsBoard}
 use Rattle.pk_words.proofs.Lists.{times_drop, times_other, number_other, times_own, times_more, number_own, number_more, seen_next}
 use Rattle.pk_words.proofs.Wired.{last_in}
@@ -44,7 +44,7 @@ pub status_changes : {C S : Type 0} {b : Behaviour C} {w : Wiring} {value : S �
     → v'.sends ≡ v.sends
     → v'.resets ≡ v.resets
     → v'.ended ≡ v.ended
-    → v'.stopped ≡ v.stopped
+    → knows_stop v' ≡ knows_stop v
     → (s e).status ≢ Done
     → is_waiting (s e).status ≡ false
     → ((x : ℕ) → IsRestarting w.plan s x → times (head_of w.plan x) v.holds ≡ 0 → e ≢ head_of w.plan x)
@@ -171,7 +171,7 @@ claimed {C} {S} b w value ts id e v board at below is_open run_is no_out =
 
 -- a step that changes no element
 pub same_changes : {C S : Type 0} {b : Behaviour C} {w : Wiring} {value : S → C} {s : State C} {ts : TableState S View} (id e n : ℕ) (v v' : View) → IsWired b w → Shows b w value s ts → get_elem? ts.views id ≡ some v → n ≡ word_shown (armings w ts e) (s e)
-    → v'.holds ≡ v.holds → v'.sends ≡ v.sends → v'.resets ≡ v.resets → v'.ended ≡ v.ended ⊎ ((s (end_of w.plan)).status ≡ Done) → v'.stopped ≡ v.stopped
+    → v'.holds ≡ v.holds → v'.sends ≡ v.sends → v'.resets ≡ v.resets → v'.ended ≡ v.ended ⊎ ((s (end_of w.plan)).status ≡ Done) → knows_stop v' ≡ knows_stop v
     → ((u : ℕ) → u < w.plan.elements → seen_run u v'.notes ≤ run_number (s u))
     → Changes w s s (armings w ts) (armings w ts) e n v v'
 same_changes {C} {S} {b} {w} {value} {s} {ts} id e n v v' wired sh at is h x same_resets end same_stopped notes = record {

@@ -1,5 +1,5 @@
 -- What a step changes, and that the rest is still shown.
-use Rattle.std.proofs.Common.{◌≡◌, ◌≢◌, ℕ, zero, suc, ◌+◌, ◌*◌, ◌<◌, ◌≤◌, ◌==◌, List, [], ◌∷◌, ◌++◌, length, drop, get_or, set, true, false, refl, sym, ap, subst, ◌∙◌, arith, inl, inr, ◌⊎◌, Some, get_or-set_same, get_or-set_other, length-set}
+use Rattle.std.proofs.Common.{◌≡◌, ◌≢◌, ℕ, zero, suc, ◌+◌, ◌*◌, ◌<◌, ◌≤◌, ◌==◌, List, [], ◌∷◌, ◌++◌, length, drop, get_or, set, true, false, refl, sym, ap, subst, ◌∙◌, arith, inl, inr, ◌⊎◌, get_or-set_same, get_or-set_other, length-set}
 use mathlib.Core.Option.{Option, some, none}
 use lib.ListN.{get_elem?}
 use Rattle.atomic_table.specs.Table.{State as TableState}
@@ -17,9 +17,9 @@ use Rattle.pk_core.proofs.Keeps.{apart_of}
 use Rattle.pk_layout.specs.Layouts.{owner_of, reader_of}
 use Rattle.pk_layout.specs.Wirings.{Wiring, IsWired}
 use Rattle.pk_words.specs.declared.view.View.{View}
-use Rattle.pk_words.specs.declared.why.Why.{Why}
 use Rattle.pk_words.specs.Tokens.{times, number_of, heading, pending, seen_run, total, one_if_held, one_if_any}
-use Rattle.pk_words.specs.Board.{low, word_shown, head_of, members_at, IsRestarting, why_of, IsCause, Shows, IsBoard}
+use Rattle.pk_words.specs.Views.{knows_stop}
+use Rattle.pk_words.specs.Board.{low, word_shown, head_of, members_at, IsRestarting, why_of, Shows, IsBoard}
 use Rattle.pk_words.proofs.Lists.{total_set, parts, elem_set, heading_some}
 use Rattle.pk_words.proofs.Wired.{head_below}
 
@@ -51,7 +51,7 @@ pub record Changes {C : Type 0} (w : Wiring) (s t : State C) (left left' : ℕ �
   pub notes : (u : ℕ) → u < w.plan.elements → seen_run u v'.notes ≤ run_number (t u)
   pub over_stays : (s (end_of w.plan)).status ≡ Done → (t (end_of w.plan)).status ≡ Done
   pub over : v'.ended ≡ true → (v.ended ≡ true) ⊎ ((t (end_of w.plan)).status ≡ Done)
-  pub stopped : v'.stopped ≡ v.stopped
+  pub stopped : knows_stop v' ≡ knows_stop v
 
 -- The slots at home become hs'.
 pub record Moves {C S : Type 0} (b : Behaviour C) (w : Wiring) (value : S → C) (t : State C) (hs hs' : List (Option S)) (v v' : View) : Type 0 where
@@ -142,7 +142,7 @@ shows_step {C} {S} b w value s t st left' hs' id e n v v' wired below sh at ch m
     | inr q ↦ ch.over_stays (sh.over j x q.1 saw)
   ];
   told = λ j x has_x saw zero_now. elim (elem_set st.views id j v' x has_x) [
-    | inl q ↦ sh.told id v at (sym ch.stopped ∙ ap (λ (y : View). y.stopped) q.1 ∙ saw) (sym stop_word ∙ zero_now)
+    | inl q ↦ sh.told id v at (sym ch.stopped ∙ ap knows_stop q.1 ∙ saw) (sym stop_word ∙ zero_now)
     | inr q ↦ sh.told j x q.1 saw (sym stop_word ∙ zero_now)
   ];
 }

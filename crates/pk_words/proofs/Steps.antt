@@ -1,5 +1,5 @@
 -- What each kind of step keeps and tells.
-use Rattle.std.proofs.Common.{◌≡◌, ◌≢◌, ℕ, zero, suc, ◌+◌, ◌-◌, ◌*◌, ◌/◌, ◌%◌, ◌^◌, ◌<◌, ◌≤◌, ◌==◌, List, [], ◌∷◌, length, drop, get_or, map, set, Bool, true, false, refl, sym, ap, subst, ◌∙◌, arith, inl, inr, ◌⊎◌, slice_get, Some}
+use Rattle.std.proofs.Common.{◌≡◌, ◌≢◌, ℕ, zero, suc, ◌+◌, ◌-◌, ◌*◌, ◌/◌, ◌%◌, ◌^◌, ◌<◌, ◌==◌, List, [], ◌∷◌, length, drop, get_or, map, set, Bool, true, false, refl, sym, ap, subst, ◌∙◌, arith, inl, inr, ◌⊎◌, slice_get, Some}
 use Rattle.std.specs.Bool.{MatchBool}
 use prog.Atomic.{either}
 use mathlib.Core.Option.{some}
@@ -10,7 +10,7 @@ use Rattle.pk_plan.specs.Plans.{end_of, successors_of}
 use Rattle.pk_plan.specs.Shape.{has, shape_of, exits}
 use Rattle.pk_iterate.specs.Behaviour.{Behaviour}
 use Rattle.pk_iterate.specs.Runs.{values_read}
-use Rattle.pk_iterate.specs.Ending.{Ends, trace, result_count}
+use Rattle.pk_iterate.specs.Ending.{Ends, trace}
 use Rattle.pk_core.specs.declared.events.Status.TheVariants.{Done}
 use Rattle.pk_core.specs.States.{State, run_number, cell_in, inputs_of}
 use Rattle.pk_core.specs.Events.{start, played}
@@ -18,9 +18,9 @@ use Rattle.pk_core.specs.Orders.{IsOrderOf}
 use Rattle.pk_core.proofs.Basics.{same}
 use Rattle.pk_core.proofs.Plays.{Agrees, every_play}
 use Rattle.pk_layout.specs.Layouts.{slots_of, owner_of, reader_of, IsInputSlot}
-use Rattle.pk_layout.specs.Wirings.{Wiring, IsWired}
+use Rattle.pk_layout.specs.Wirings.{Wiring}
 use Rattle.pk_words.specs.declared.view.View.{View}
-use Rattle.pk_words.specs.Tokens.{times, seen_run}
+use Rattle.pk_words.specs.Tokens.{times}
 use Rattle.pk_words.specs.Views.{HasHold, HasSending, AllRight, slots_in, note_view, offer_view, claim_view, take_view, read_view, idle, arrive_view, done_view, end_view, IsGiven}
 use Rattle.pk_words.specs.Board.{IsBoard}
 use Rattle.pk_words.specs.Reads.{HasEnd, IsReadAt, Counts}

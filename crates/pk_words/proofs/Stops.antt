@@ -1,37 +1,35 @@
 -- The stop word.
-use Rattle.std.proofs.Common.{◌≡◌, ◌≢◌, ℕ, zero, suc, ◌+◌, ◌<◌, ◌≤◌, ◌==◌, List, [], ◌∷◌, length, drop, get_or, set, Bool, true, false, refl, sym, ap, subst, ◌∙◌, arith, inl, inr, ◌⊎◌, Some, get_or-set_same, get_or-set_other, length-set}
-use Rattle.std.specs.Bool.{MatchBool}
-use mathlib.Core.Option.{Option, some, none}
+use Rattle.std.proofs.Common.{◌^◌, zero, suc, ◌||◌, not, ◌∷◌, ◌≡◌, ◌≢◌, ℕ, ◌+◌, ◌<◌, ◌≤◌, ◌==◌, List, [], length, drop, get_or, set, Bool, true, false, refl, sym, ap, subst, ◌∙◌, arith, inl, inr, Some, get_or-set_same, get_or-set_other, length-set}
+use mathlib.Core.Option.{some}
 use lib.ListN.{get_elem?}
-use Rattle.atomic_table.specs.Table.{State as TableState, Me, Act, keeps, carried_after, homes_after, Valid, Allows}
-use Rattle.pk_plan.specs.Plans.{end_of, successors_of}
+use Rattle.atomic_table.specs.Table.{State as TableState, Me, keeps, Allows}
+use Rattle.pk_plan.specs.Plans.{successors_of}
 use Rattle.pk_plan.specs.Shape.{has, shape_of}
 use Rattle.pk_iterate.specs.Behaviour.{Behaviour}
 use Rattle.pk_core.specs.States.{State, run_number}
 use Rattle.pk_core.specs.Events.{start, played}
-use Rattle.pk_core.proofs.Basics.{same}
 use Rattle.pk_core.proofs.Keeps.{apart_of}
-use Rattle.pk_layout.specs.Layouts.{owner_of, reader_of}
 use Rattle.pk_layout.specs.Wirings.{Wiring, IsWired}
 use Rattle.pk_words.specs.declared.view.View.{View}
 use Rattle.pk_words.specs.declared.why.Why.{Why}
+use Rattle.pk_words.specs.declared.why.Why.TheVariants.{RunLimit}
 use Rattle.pk_words.specs.Tokens.{times, number_of, heading, pending, seen_run, total}
-use Rattle.pk_words.specs.Views.{idle, stop_view}
+use Rattle.pk_words.specs.Views.{stop_view, stop_note_view, any_stop, knows_stop}
 use Rattle.pk_words.specs.Board.{word_shown, head_of, members_at, IsRestarting, why_of, IsCause, Shows, IsBoard}
 use Rattle.pk_words.specs.Told.{IsIdle, Stopping, StopFound}
 use Rattle.pk_words.proofs.Lists.{total_set, elem_set, elem_set_other}
 
--- the view, if the board is known to be stopped or not
-abbrev pub stop_seen : Bool → View → View
-stop_seen stopped v = record { holds = v.holds; sends = v.sends; resets = v.resets; out = []; notes = v.notes; ended = v.ended; stopped = stopped }
+-- the view with other stop words
+abbrev pub stop_seen : (stops stop_notes : List ℕ) → View → View
+stop_seen stops stop_notes v = record { holds = v.holds; sends = v.sends; resets = v.resets; out = []; notes = v.notes; ended = v.ended; stops = stops; stop_notes = stop_notes }
 
--- the stop word becomes n, and the pass knows whether it is 0
-shows_stop : {C S : Type 0} (b : Behaviour C) (w : Wiring) (value : S → C) (core : State C) (s : TableState S View) (id n : ℕ) (v : View) (stopped : Bool) → Shows b w value core s → get_elem? s.views id ≡ some v → v.out ≡ []
+-- the stop word becomes n
+shows_stop : {C S : Type 0} (b : Behaviour C) (w : Wiring) (value : S → C) (core : State C) (s : TableState S View) (id n : ℕ) (v : View) (stops stop_notes : List ℕ) → Shows b w value core s → get_elem? s.views id ≡ some v → v.out ≡ []
     → ((why : Why) → why_of w.limit n ≡ Some why → IsCause b w why)
     → (get_or s.words 1 0 ≢ 0 → n ≢ 0)
-    → (stopped ≡ true → n ≢ 0)
-    → Shows b w value core (record { words = set s.words 1 n; homes = s.homes; views = set s.views id (stop_seen stopped v) })
-shows_stop {C} {S} b w value core s id n v stopped sh at no_out cause still seen = record {
+    → (knows_stop (stop_seen stops stop_notes v) ≡ true → n ≢ 0)
+    → Shows b w value core (record { words = set s.words 1 n; homes = s.homes; views = set s.views id (stop_seen stops stop_notes v) })
+shows_stop {C} {S} b w value core s id n v stops stop_notes sh at no_out cause still seen = record {
   long = length-set s.words 1 n ∙ sh.long;
   words_are = λ e below.
       let other : e + 2 ≢ 1 = λ h. absurd (omega (arith, h)) in
@@ -78,70 +76,65 @@ shows_stop {C} {S} b w value core s id n v stopped sh at no_out cause still seen
     | inr q ↦ sh.over j x q.1 saw
   ];
   told = λ j x here saw zero_now. elim (elem_set s.views id j v' x here) [
-    | inl q ↦ seen (ap (λ (y : View). y.stopped) q.1 ∙ saw) (sym word_now ∙ zero_now)
+    | inl q ↦ seen (ap knows_stop q.1 ∙ saw) (sym word_now ∙ zero_now)
     | inr q ↦ still (sh.told j x q.1 saw) (sym word_now ∙ zero_now)
   ];
 }
   where
     v' : View
-    v' = stop_seen stopped v
+    v' = stop_seen stops stop_notes v
 
     word_now : get_or (set s.words 1 n) 1 0 ≡ n
     word_now =
         let in_range : 1 < length s.words = omega (arith, sh.long) in
         rw get_or-set_same refl
 
-    same_total : (f : View → ℕ) → f (stop_seen stopped v) ≡ f v → total f (set s.views id (stop_seen stopped v)) ≡ total f s.views
-    same_total f q = omega (arith, total_set f s.views id v (stop_seen stopped v) at, q)
+    same_total : (f : View → ℕ) → f (stop_seen stops stop_notes v) ≡ f v → total f (set s.views id (stop_seen stops stop_notes v)) ≡ total f s.views
+    same_total f q = omega (arith, total_set f s.views id v (stop_seen stops stop_notes v) at, q)
 
-stop_board : {C S : Type 0} (b : Behaviour C) (w : Wiring) (value : S → C) (s : TableState S View) (id n : ℕ) (v : View) (stopped : Bool) → (board : IsBoard b w value s) → get_elem? s.views id ≡ some v → v.out ≡ []
+stop_board : {C S : Type 0} (b : Behaviour C) (w : Wiring) (value : S → C) (s : TableState S View) (id n : ℕ) (v : View) (stops stop_notes : List ℕ) → (board : IsBoard b w value s) → get_elem? s.views id ≡ some v → v.out ≡ []
     → ((why : Why) → why_of w.limit n ≡ Some why → IsCause b w why)
     → (get_or s.words 1 0 ≢ 0 → n ≢ 0)
-    → (stopped ≡ true → n ≢ 0)
-    → IsBoard b w value (record { words = set s.words 1 n; homes = s.homes; views = set s.views id (stop_seen stopped v) })
-stop_board {C} {S} b w value s id n v stopped board at no_out cause still seen = record {
+    → (knows_stop (stop_seen stops stop_notes v) ≡ true → n ≢ 0)
+    → IsBoard b w value (record { words = set s.words 1 n; homes = s.homes; views = set s.views id (stop_seen stops stop_notes v) })
+stop_board {C} {S} b w value s id n v stops stop_notes board at no_out cause still seen = record {
   wired = board.wired;
   events = board.events;
   enabled = board.enabled;
-  shows = shows_stop b w value (played b (shape_of w.plan) (start (shape_of w.plan)) board.events) s id n v stopped board.shows at no_out cause still seen;
+  shows = shows_stop b w value (played b (shape_of w.plan) (start (shape_of w.plan)) board.events) s id n v stops stop_notes board.shows at no_out cause still seen;
 }
 
 -- a store of why
 pub stops : {C S : Type 0} (b : Behaviour C) (w : Wiring) (value : S → C) (slots id n : ℕ) (me : Me S View) → IsIdle me → n ≢ 0 → ((why : Why) → why_of w.limit n ≡ Some why → IsCause b w why) → Allows (IsBoard b w value) slots id me 1 (λ _. n) (λ _. Stopping me n)
 stops {C} {S} b w value slots id n me no_slot some_n cause s board long at fits = (
-  stop_view me.0,
+  stop_view n me.0,
   keeps,
   tt,
-  stop_board b w value s id n me.0 true board at no_slot.1 cause (λ h. some_n) (λ h. some_n),
-  ap (λ (xs : List (ℕ × S)). (stop_view me.0, xs)) no_slot.0,
+  stop_board b w value s id n me.0 (n ∷ me.0.stops) me.0.stop_notes board at no_slot.1 cause (λ h. some_n) (λ h. some_n),
+  ap (λ (xs : List (ℕ × S)). (stop_view n me.0, xs)) no_slot.0,
 )
 
 -- a load of the stop word
 pub stop_loads : {C S : Type 0} (b : Behaviour C) (w : Wiring) (value : S → C) (slots id : ℕ) (me : Me S View) → IsIdle me → Allows (IsBoard b w value) slots id me 1 (λ n. n) (StopFound b w me)
-stop_loads {C} {S} b w value slots id me no_slot s board long at fits = by_found (found == 0) refl
+stop_loads {C} {S} b w value slots id me no_slot s board long at fits = (
+  stop_note_view found me.0,
+  keeps,
+  tt,
+  stop_board b w value s id found me.0 me.0.stops (found ∷ me.0.stop_notes) board at no_slot.1 board.shows.stop_is (λ h. h) (by_found (found == 0) refl),
+  (ap (λ (xs : List (ℕ × S)). (stop_note_view found me.0, xs)) no_slot.0, board.shows.stop_is, board.shows.told id me.0 at),
+)
   where
     found : ℕ
     found = get_or s.words 1 0
 
-    pair : View → Act S → Me S View
-    pair v a = (v, carried_after me.1 a)
+    by_found : (t : Bool) → (found == 0) ≡ t → (any_stop me.0.stops || (not t || any_stop me.0.stop_notes)) ≡ true → found ≢ 0
+    by_found true q h = board.shows.told id me.0 at h
+    by_found false q h = apart_of found 0 q
 
-    Goal : Bool → Type 0
-    Goal t = (v : View) × (a : Act S) × Valid s.homes me.1 a × IsBoard b w value (record { words = set s.words 1 found; homes = homes_after s.homes me.1 a; views = set s.views id v })
-        × (MatchBool t (pair v a ≡ (idle me.0, [])) (pair v a ≡ (stop_view me.0, [])) × ((why : Why) → why_of w.limit found ≡ Some why → IsCause b w why) × (me.0.stopped ≡ true → found ≢ 0))
-
-    by_found : (t : Bool) → (found == 0) ≡ t → Goal (found == 0)
-    by_found true q = subst Goal (sym q) (
-      idle me.0,
-      keeps,
-      tt,
-      stop_board b w value s id found me.0 me.0.stopped board at no_slot.1 board.shows.stop_is (λ h. h) (board.shows.told id me.0 at),
-      (ap (λ (xs : List (ℕ × S)). (idle me.0, xs)) no_slot.0, board.shows.stop_is, board.shows.told id me.0 at),
-    )
-    by_found false q = subst Goal (sym q) (
-      stop_view me.0,
-      keeps,
-      tt,
-      stop_board b w value s id found me.0 true board at no_slot.1 board.shows.stop_is (λ h. h) (λ h. apart_of found 0 q),
-      (ap (λ (xs : List (ℕ × S)). (stop_view me.0, xs)) no_slot.0, board.shows.stop_is, board.shows.told id me.0 at),
-    )
+-- a stop word that names an element fits 33 bits
+pub word_fits : {C : Type 0} (b : Behaviour C) (w : Wiring) (found : ℕ) → IsWired b w → ((why : Why) → why_of w.limit found ≡ Some why → IsCause b w why) → found < 2 ^ 32 + 2
+word_fits b w zero wired cause = omega arith
+word_fits b w (suc zero) wired cause = omega arith
+word_fits b w (suc (suc e)) wired cause =
+    let below = (cause (RunLimit e (w.limit + 1)) refl).0 in
+    omega (arith, below, wired.few)

@@ -1,26 +1,22 @@
 -- The start, a pass more, and the end.
-use Rattle.std.proofs.Common.{◌≡◌, ◌≢◌, ℕ, zero, suc, ◌+◌, ◌*◌, ◌/◌, ◌<◌, ◌≤◌, List, [], ◌∷◌, ◌++◌, map, length, get_or, set, true, false, refl, sym, ap, subst, ◌∙◌, arith, inl, inr, ◌⊎◌, Some}
+use Rattle.std.proofs.Common.{◌≡◌, ℕ, zero, suc, ◌+◌, ◌/◌, ◌<◌, ◌≤◌, List, [], ◌∷◌, ◌++◌, map, length, get_or, set, true, false, refl, sym, ap, subst, ◌∙◌, arith, inl, inr, ◌⊎◌, Some}
 use mathlib.Core.Option.{Option, some, none}
 use lib.ListN.{get_elem?}
 use Rattle.atomic_table.specs.Table.{State as TableState, opening, Final, Seen, Splits}
-use Rattle.pk_plan.specs.Order.{Level}
-use Rattle.pk_plan.specs.Plans.{end_of, predecessors_of}
+use Rattle.pk_plan.specs.Plans.{predecessors_of}
 use Rattle.pk_plan.specs.Shape.{has, shape_of}
 use Rattle.pk_iterate.specs.Behaviour.{Behaviour}
-use Rattle.pk_iterate.specs.Ending.{Ends, result_cell, result_count}
-use Rattle.pk_core.specs.declared.events.Status.{Status}
+use Rattle.pk_iterate.specs.Ending.{result_cell, result_count}
 use Rattle.pk_core.specs.declared.events.Status.TheVariants.{Done}
 use Rattle.pk_core.specs.States.{State, run_number, cell_in}
 use Rattle.pk_core.specs.Events.{start, start_status, played}
-use Rattle.pk_core.specs.Orders.{IsOrderOf}
 use Rattle.pk_layout.specs.Layouts.{slots_of, first_of, owner_of, reader_of}
 use Rattle.pk_layout.specs.Wirings.{Wiring, IsWired}
 use Rattle.pk_words.specs.declared.view.View.{View}
-use Rattle.pk_words.specs.declared.why.Why.{Why}
-use Rattle.pk_words.specs.Tokens.{times, number_of, heading, pending, seen_run, total, one_if_held}
-use Rattle.pk_words.specs.Views.{first_view, new_view}
-use Rattle.pk_words.specs.Board.{low, word_shown, head_of, members_at, IsRestarting, why_of, IsCause, Shows, IsBoard}
-use Rattle.pk_words.specs.Reads.{IsResult, AreResult}
+use Rattle.pk_words.specs.Tokens.{times, heading, pending, seen_run, total, one_if_held}
+use Rattle.pk_words.specs.Views.{first_view, new_view, knows_stop}
+use Rattle.pk_words.specs.Board.{low, word_shown, head_of, members_at, why_of, Shows, IsBoard}
+use Rattle.pk_words.specs.Reads.{AreResult}
 use Rattle.pk_words.proofs.Stays.{armings}
 use Rattle.pk_words.proofs.Numbers.{run_shown}
 use Rattle.pk_words.proofs.Facts.{held, narrow}
@@ -83,7 +79,7 @@ more_shown b w value core s id v sh at = record {
   ];
   told = λ j x here saw. elim (elem_more s.views j (new_view v) x here) [
     | inl old ↦ sh.told j x old saw
-    | inr q ↦ sh.told id v at (ap (λ (y : View). y.stopped) q ∙ saw)
+    | inr q ↦ sh.told id v at (ap knows_stop q ∙ saw)
   ];
 }
   where
@@ -129,7 +125,7 @@ opens {C} {S} b w value words slots wired long going words_are slots_are = recor
     bounded = λ e. omega arith;
     noted = λ id v at e below. let q = only id v at in let z : seen_run e v.notes ≡ 0 = ap (λ (x : View). seen_run e x.notes) q in omega (arith, z);
     over = λ id v at saw. absurd (let q = only id v at in let z : v.ended ≡ false = ap (λ (x : View). x.ended) q in cc);
-    told = λ id v at saw. absurd (let q = only id v at in let z : v.stopped ≡ false = ap (λ (x : View). x.stopped) q in cc);
+    told = λ id v at saw. absurd (let q = only id v at in let z : knows_stop v ≡ false = ap knows_stop q in cc);
   };
 }
   where

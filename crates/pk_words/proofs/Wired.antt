@@ -1,17 +1,15 @@
 -- What follows of a plan that a system fits, and of its slots.
-use Rattle.std.proofs.Common.{◌≡◌, ◌≢◌, ℕ, zero, suc, ◌+◌, ◌-◌, ◌<◌, ◌≤◌, ◌==◌, ◌||◌, ◌&&◌, List, [], ◌∷◌, length, count_by, get_or, take, drop, cond, Bool, true, false, refl, sym, ap, subst, ◌∙◌, arith, inl, inr, ◌⊎◌, All, Contains}
+use Rattle.std.proofs.Common.{◌≡◌, ℕ, zero, suc, ◌+◌, ◌<◌, ◌≤◌, ◌==◌, ◌&&◌, List, [], ◌∷◌, length, count_by, get_or, cond, Bool, true, false, refl, ap, subst, ◌∙◌, arith, inl, inr, ◌⊎◌, All}
 use Rattle.std.proofs.Math.Dec.{leb, ltb}
 use Rattle.std.proofs.lemmas.Bool.Decides.{nat_tests}
-use Rattle.std.proofs.lemmas.List.{get_or_default, get_or-take, get_or-drop, length-take, length-drop}
 use Rattle.std.specs.List.{slice_index_or}
 use Rattle.std.specs.List.Sorted.{IsStrictlyIncreasing}
-use Rattle.pk_plan.specs.Plans.{PlanView, end_of, predecessors_of, successors_of, place_of, members_of, is_inside, Inside}
-use Rattle.pk_plan.specs.Axioms.{Axioms as PlanAxioms}
-use Rattle.pk_plan.specs.Shape.{has, Before, shape_of, component_of, exits, holds}
-use Rattle.pk_plan.proofs.PlanLemmas.{length-rising, predecessor_within, first_at, first_before_end, end_within, head_within, stands_inside, inside_by_place, is_inside_tells}
-use Rattle.pk_plan.proofs.Shapes.{of_exit, exit_is}
+use Rattle.pk_plan.specs.Plans.{end_of, predecessors_of, successors_of, is_inside}
+use Rattle.pk_plan.specs.Shape.{has, shape_of, component_of, exits, holds}
+use Rattle.pk_plan.proofs.PlanLemmas.{length-rising, predecessor_within, head_within, stands_inside, is_inside_tells}
+use Rattle.pk_plan.proofs.Shapes.{of_exit}
 use Rattle.pk_iterate.specs.Behaviour.{Behaviour}
-use Rattle.pk_core.proofs.Basics.{same, itself, neq, or_right, count_cons, cases}
+use Rattle.pk_core.proofs.Basics.{same, neq, count_cons}
 use Rattle.pk_core.proofs.Moves.{Axioms, Comparable}
 use Rattle.pk_core.proofs.Plan_shapes.{plan_shape, comparable, has_of, of_has}
 use Rattle.pk_layout.specs.Layouts.{slots_of, owner_of, reader_of}

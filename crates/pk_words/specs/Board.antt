@@ -5,7 +5,7 @@ use lib.ListN.{get_elem?}
 use Rattle.atomic_table.specs.Table.{State as TableState}
 use Rattle.pk_plan.specs.Order.{Level}
 use Rattle.pk_plan.specs.Plans.{PlanView, end_of, successors_of, members_of}
-use Rattle.pk_plan.specs.Shape.{Shape, has, shape_of, component_of, holds, exits}
+use Rattle.pk_plan.specs.Shape.{has, shape_of, component_of, holds, exits}
 use Rattle.pk_iterate.specs.Behaviour.{Behaviour}
 use Rattle.pk_iterate.specs.Ending.{Ends, result_count}
 use Rattle.pk_core.specs.declared.events.Event.{Event}
@@ -19,6 +19,7 @@ use Rattle.pk_layout.specs.Wirings.{Wiring, IsWired}
 use Rattle.pk_words.specs.declared.view.View.{View}
 use Rattle.pk_words.specs.declared.why.Why.{Why}
 use Rattle.pk_words.specs.declared.why.Why.TheVariants.{Memory, RunLimit}
+use Rattle.pk_words.specs.Views.{knows_stop}
 use Rattle.pk_words.specs.Tokens.{times, number_of, heading, pending, seen_run, total, one_if_held, one_if_any}
 
 -- the low 20 bits of a word; the others are the run number
@@ -56,6 +57,11 @@ why_of limit zero = None
 why_of limit (suc zero) = Some Memory
 why_of limit (suc (suc e)) = Some (RunLimit e (limit + 1))
 
+-- a run that is named is the first beyond the limit
+abbrev pub NamesLimit : ℕ → Why → Type 0
+NamesLimit limit Memory = Unit {0}
+NamesLimit limit (RunLimit element run) = run ≡ limit + 1
+
 -- The run is the first beyond the limit, and the recursion makes it.
 abbrev pub IsCause : {C : Type 0} → Behaviour C → Wiring → Why → Type 0
 IsCause b w Memory = Unit {0}
@@ -85,9 +91,9 @@ pub record Shows {C S : Type 0} (b : Behaviour C) (w : Wiring) (value : S → C)
   pub bounded : (e : ℕ) → run_number (core e) ≤ w.limit
   -- the words that were found have no later runs
   pub noted : (id : ℕ) (v : View) → get_elem? s.views id ≡ some v → (e : ℕ) → e < w.plan.elements → seen_run e v.notes ≤ run_number (core e)
-  -- who saw the last element done was right, and who saw the board stopped
+  -- who saw the last element done was right, and who stopped the board or saw it stopped
   pub over : (id : ℕ) (v : View) → get_elem? s.views id ≡ some v → v.ended ≡ true → (core (end_of w.plan)).status ≡ Done
-  pub told : (id : ℕ) (v : View) → get_elem? s.views id ≡ some v → v.stopped ≡ true → slice_index s.words 1 ≢ 0
+  pub told : (id : ℕ) (v : View) → get_elem? s.views id ≡ some v → knows_stop v ≡ true → slice_index s.words 1 ≢ 0
 
 -- A list of enabled events exists, and the state after it is shown.
 pub record IsBoard {C S : Type 0} (b : Behaviour C) (w : Wiring) (value : S → C) (s : TableState S View) : Type 0 where

@@ -5,3 +5,4 @@ pub mod Subjects
 pub mod Board
 pub mod Reads
 pub mod Told
+pub mod Laws

@@ -1,9 +1,9 @@
 -- What the steps tell: the view and the slots after, from those before and the word found.
-use Rattle.std.specs.Prelude.{◌≡◌, ◌≢◌, ℕ, ◌+◌, ◌-◌, ◌/◌, ◌%◌, ◌<◌, ◌≤◌, ◌==◌, [], ◌∷◌, drop, length, slice_index, Some, true}
+use Rattle.std.specs.Prelude.{◌≡◌, ◌≢◌, ℕ, ◌+◌, ◌/◌, ◌%◌, ◌<◌, ◌≤◌, ◌==◌, [], ◌∷◌, drop, length, slice_index, Some, true}
 use Rattle.std.specs.Bool.{MatchBool}
 use Rattle.atomic_table.specs.Table.{Me}
 use Rattle.pk_plan.specs.Order.{Level}
-use Rattle.pk_plan.specs.Plans.{PlanView, end_of, successors_of}
+use Rattle.pk_plan.specs.Plans.{PlanView, successors_of}
 use Rattle.pk_plan.specs.Shape.{shape_of}
 use Rattle.pk_iterate.specs.Behaviour.{Behaviour}
 use Rattle.pk_iterate.specs.Runs.{run_value}
@@ -13,7 +13,7 @@ use Rattle.pk_layout.specs.Wirings.{Wiring}
 use Rattle.pk_words.specs.declared.view.View.{View}
 use Rattle.pk_words.specs.declared.why.Why.{Why}
 use Rattle.pk_words.specs.Tokens.{seen_run}
-use Rattle.pk_words.specs.Views.{idle, note_view, offer_view, claim_view, take_view, read_view, arrive_view, done_view, again_view, arm_view, head_view, end_view, stop_view}
+use Rattle.pk_words.specs.Views.{idle, note_view, offer_view, claim_view, take_view, read_view, arrive_view, done_view, again_view, arm_view, head_view, end_view, stop_view, stop_note_view, knows_stop}
 use Rattle.pk_words.specs.Board.{why_of, IsCause, members_at}
 use Rattle.pk_words.specs.Reads.{Counts, IsReadAt}
 
@@ -80,10 +80,9 @@ abbrev pub HeadArmed : {C S : Type 0} → Behaviour C → Wiring → (x e : ℕ)
 HeadArmed b w x e me found new = (new ≡ (head_view x e found me.0, [])) × (found % 1048576 ≡ 262145) × Counts b w e (found / 1048576) × IsLater e me found
 
 abbrev pub Stopping : {S : Type 0} → Me S View → ℕ → Me S View → Type 0
-Stopping me stored new = new ≡ (stop_view me.0, [])
+Stopping me stored new = new ≡ (stop_view stored me.0, [])
 
--- The stop word was found: 0, if the pass hasn't seen the board stopped, or why it is stopped.
+-- The stop word was found: it is 0, or says why the board is stopped; where the pass knows of a stop it isn't 0.
 abbrev pub StopFound : {C S : Type 0} → Behaviour C → Wiring → Me S View → ℕ → Me S View → Type 0
 StopFound b w me found new =
-    MatchBool (found == 0) (new ≡ (idle me.0, [])) (new ≡ (stop_view me.0, []))
-    × ((why : Why) → why_of w.limit found ≡ Some why → IsCause b w why) × (me.0.stopped ≡ true → found ≢ 0)
+    (new ≡ (stop_note_view found me.0, [])) × ((why : Why) → why_of w.limit found ≡ Some why → IsCause b w why) × (knows_stop me.0 ≡ true → found ≢ 0)

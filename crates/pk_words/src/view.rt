@@ -16,6 +16,8 @@ pub struct View {
     pub notes: LinkedList<(u32, u64)>,
     /// Whether it found the last element done.
     pub ended: bool,
-    /// Whether it found the board stopped, or stopped it.
-    pub stopped: bool,
+    /// The stop words that it stored, the newest first.
+    pub stops: LinkedList<u64>,
+    /// The stop words that it found, the newest first.
+    pub stop_notes: LinkedList<u64>,
 }
