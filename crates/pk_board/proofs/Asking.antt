@@ -7,11 +7,11 @@ use Rattle.pk_plan.specs.Plans.{end_of, successors_of}
 use Rattle.pk_plan.specs.Shape.{has}
 use Rattle.pk_plan.specs.Axioms.{Axioms}
 use Rattle.pk_iterate.specs.Behaviour.{Behaviour}
-use Rattle.pk_layout.specs.Layouts.{owner_of, slots_of, IsInputSlot}
+use Rattle.pk_layout.specs.Layouts.{first_of, owner_of, slots_of, IsInputSlot}
 use Rattle.pk_layout.specs.Wirings.{Wiring, IsWired}
 use Rattle.pk_words.specs.declared.view.View.{View}
 use Rattle.pk_words.specs.Subjects.{SubjectView}
-use Rattle.pk_words.specs.Tokens.{times}
+use Rattle.pk_words.specs.Tokens.{times, number_of}
 use Rattle.pk_words.specs.Views.{HasHold, HasSending, new_view}
 use Rattle.pk_words.specs.Board.{IsBoard}
 use Rattle.pk_words.specs.Reads.{IsReadAt}
@@ -20,6 +20,8 @@ use Rattle.pk_words.proofs.Steps.{loads, offers, claims, sends_to, ends_at, take
 use Rattle.pk_words.proofs.Whole.{splits}
 use Rattle.pk_words.proofs.Sends.{target_low}
 use Rattle.pk_words.proofs.Wired.{last_in}
+use Rattle.pk_board.specs.Calls.{IsRunCell}
+use Rattle.pk_board.specs.Writing.{IsWriting}
 use Rattle.pk_board.specs.Boards.{BoardView, PassView, IsKept}
 
 -- a board's invariant, at what a contract sees of it
@@ -115,6 +117,19 @@ module _ {Y C S : Type 0} (meaning : Y → Behaviour C) (value : S → C) (board
     subst (λ s. Allows (IsBoard (meaning s.system) s.wiring value) table.slots id me (e + 2) (λ n. n) (GivenBack me)) (sym kept.about)
         (gives_slot (meaning board.subject.system) board.subject.wiring value table.slots id e run place k x me kept.slots below hold slot_is out_is input.1 kept.ends read),
   )
+
+  pub done_asked : (id e run : ℕ) (c : C) (old : View) (me : Me S View) → IsKept (meaning board.subject.system) board.subject key table → own ≡ table → e < board.subject.wiring.plan.elements → HasHold old e run → run < board.subject.wiring.limit
+      → IsWriting value board.subject.wiring e c (first_of board.subject.wiring.layout e) old me → IsRunCell (meaning board.subject.system) board.subject.wiring.plan (record { element = e; run = run }) false c
+      → (own ≡ table) × (e + 2 < table.words) × Allows (IsBoard (meaning key.system) key.wiring value) table.slots id me (e + 2) (λ _. (run + 1) * 1048576 + 262145) (λ _. Finished key.wiring.plan e me ((run + 1) * 1048576 + 262145))
+  done_asked id e run c old me kept of below hold room writing cell =
+      let hold' : HasHold me.0 e run = subst (λ (v : View). (0 < times e v.holds) × (number_of e v.holds ≡ run)) (sym writing.rest) hold in (
+        of,
+        omega (arith, kept.words, below),
+        subst (λ s. Allows (IsBoard (meaning s.system) s.wiring value) table.slots id me (e + 2) (λ _. (run + 1) * 1048576 + 262145) (λ _. Finished s.wiring.plan e me ((run + 1) * 1048576 + 262145))) (sym kept.about)
+            (finishes (meaning board.subject.system) board.subject.wiring value table.slots id e run c me kept.slots below hold' room writing.out writing.right
+                (λ k in_slots own. let r = kept.wired.laid_out.no_more e k below in_slots own in writing.every k r.0 r.1)
+                kept.ends.0 kept.ends.1 kept.ends.2 (cell kept.ends.0 kept.ends.1 kept.ends.2)),
+      )
 
 pub last_is : {Y C : Type 0} {b : Behaviour C} {subject key : SubjectView Y} {table : TableId} {n : ℕ} → IsKept b subject key table → n ≡ subject.wiring.plan.elements → n - 1 ≡ end_of subject.wiring.plan
 last_is kept is = omega (arith, is, kept.wired.axioms.counted)

@@ -154,9 +154,8 @@ impl<'a, Y: System> Board<'a, Y> {
             element,
         );
         if self.subject.plan().successors(element).is_empty() {
-            None
-        } else {
-            Some(Sending::new(element, 0))
+            return None;
         }
+        Some(Sending::new(element, 0))
     }
 }
