@@ -1,5 +1,5 @@
 -- What the steps of a restart ask of the table, and what the calls tell.
-use Rattle.std.proofs.Common.{◌≡◌, ◌≢◌, ℕ, zero, suc, ◌+◌, ◌-◌, ◌*◌, ◌/◌, ◌%◌, ◌^◌, ◌<◌, ◌≤◌, List, [], ◌∷◌, length, get_or, Bool, true, false, refl, sym, ap, subst, ◌∙◌, arith}
+use Rattle.std.proofs.Common.{◌≡◌, ◌≢◌, ℕ, zero, suc, ◌+◌, ◌-◌, ◌*◌, ◌/◌, ◌%◌, ◌^◌, ◌<◌, ◌≤◌, List, [], ◌∷◌, length, map, replicate, All, get_or, Bool, true, false, refl, sym, ap, subst, ◌∙◌, arith}
 use Rattle.atomic_table.specs.Table.{Me, Allows}
 use Rattle.atomic_table.specs.Seated.{TableId}
 use Rattle.pk_plan.specs.declared.components.Component.{Component}
@@ -14,16 +14,16 @@ use Rattle.pk_layout.specs.Wirings.{Wiring, IsWired}
 use Rattle.pk_layout.specs.Layouts.{first_of, owner_of, slots_of}
 use Rattle.pk_words.specs.declared.view.View.{View}
 use Rattle.pk_words.specs.Subjects.{SubjectView}
-use Rattle.pk_words.specs.Held.{HoldView}
+use Rattle.pk_words.specs.Held.{HoldView, ResettingView}
 use Rattle.pk_words.specs.Views.{HasHold, HasResetting, IsGiven, again_view, arm_view, head_view}
 use Rattle.pk_words.specs.Board.{head_of, members_at, IsBoard}
 use Rattle.pk_words.specs.Told.{IsIdle, Restarted, Armed, HeadArmed}
 use Rattle.pk_words.proofs.Sends.{has_get}
 use Rattle.pk_words.proofs.Wired.{member_in, member_below}
-use Rattle.pk_words.proofs.Members.{inner_small}
+use Rattle.pk_words.proofs.Members.{inner_small, some_members}
 use Rattle.pk_words.proofs.Restart_steps.{inner_is, restarts, arms, arms_head}
 use Rattle.pk_board.specs.Boards.{BoardView, IsKept}
-use Rattle.pk_board.specs.Calls.{IsRunCell}
+use Rattle.pk_board.specs.Calls.{IsResetting, IsRunCell}
 use Rattle.pk_board.specs.Writing.{IsWriting}
 
 module _ {Y C S : Type 0} (meaning : Y → Behaviour C) (value : S → C) (subject key : SubjectView Y) (table own : TableId) where
@@ -105,3 +105,13 @@ pub exit_count : {C : Type 0} (b : Behaviour C) (w : Wiring) (plan : PlanView) (
 exit_count b w plan component x e wired plan_is component_is exit =
     subst (λ (k : Component). inner_count plan k e ≡ inner (shape_of w.plan) x e) (sym component_is)
     (subst (λ (p : PlanView). inner_count p (component_of p x) e ≡ inner (shape_of w.plan) x e) (sym plan_is) (sym (inner_is wired x e exit)))
+
+pub copies_same : {A C : Type 0} (f : A → C) (c : C) (xs : List A) → All (λ x. f x ≡ c) xs → map f xs ≡ replicate (length xs) c
+copies_same f c [] all = refl
+copies_same f c (x ∷ xs) all =
+    let here : f x ≡ c = all 0 x (omega arith) in
+    let later = copies_same f c xs (λ k d l. all (suc k) d (omega (arith, l))) in
+    rw here (ap (λ ys. c ∷ ys) later)
+
+pub is_resetting : {C : Type 0} {b : Behaviour C} {w : Wiring} (x left : ℕ) → IsWired b w → exits w.plan x ≡ true → left ≡ length (members_at w.plan x) → IsResetting w.plan (record { exit = x; left = left })
+is_resetting {C} {b} {w} x left wired exit all = record { exit = exit; some_left = omega (arith, all, some_members wired x exit); within = omega (arith, all) }

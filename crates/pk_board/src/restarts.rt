@@ -2,7 +2,7 @@
 
 ghost use Rattle.std.specs.Prelude.{◌≡◌, ℕ, ◌+◌, ◌*◌, ◌<◌, slice_index, length, true};
 ghost use Rattle.std.specs.Arc.{arc_value};
-ghost use Rattle.pk_plan.specs.Shape.{shape_of, exits};
+ghost use Rattle.pk_plan.specs.Shape.{shape_of};
 ghost use Rattle.pk_core.specs.Events.{inner};
 ghost use Rattle.pk_words.specs.Board.{head_of, members_at};
 ghost use Rattle.pk_words.specs.Views.{HasHold, HasResetting, again_view};
@@ -105,8 +105,8 @@ impl<'a, Y: System> Board<'a, Y> {
         requires room { run < self.now.subject.wiring.limit }
         requires written { (c : Y.Cell) × (old : View) × IsWriting arc_value self.now.subject.wiring exit c (first_of self.now.subject.wiring.layout exit) old seat.old.me × IsRunCell (Y.meaning self.now.subject.system) self.now.subject.wiring.plan (record { element = exit; run = run }) true c }
         ensures same { (seat.new.table_id ≡ seat.old.table_id) × (seat.new.id ≡ seat.old.id) }
-        ensures exit { exits self.now.subject.wiring.plan exit ≡ true }
         ensures members { result ≡ length (members_at self.now.subject.wiring.plan exit) }
+        ensures resetting { IsResetting self.now.subject.wiring.plan (record { exit = exit; left = result }) }
         ensures told { Restarted self.now.subject.wiring.plan exit seat.old.me ((run + 1) * 1048576 + inner (shape_of self.now.subject.wiring.plan) exit exit) seat.new.me }
     {
         let plan = self.subject.plan();
