@@ -14,6 +14,7 @@ use Rattle.pk_words.specs.Subjects.{SubjectView}
 use Rattle.pk_words.specs.Tokens.{times}
 use Rattle.pk_words.specs.Views.{HasHold, HasSending, new_view}
 use Rattle.pk_words.specs.Board.{IsBoard}
+use Rattle.pk_words.specs.Reads.{IsReadAt}
 use Rattle.pk_words.specs.Told.{IsIdle, Noted, Offered, Claimed, Sent, Ended, Taken, InputTaken, GivenBack, Finished}
 use Rattle.pk_words.proofs.Steps.{loads, offers, claims, sends_to, ends_at, takes_slot, takes_input, gives_slot, finishes}
 use Rattle.pk_words.proofs.Whole.{splits}
@@ -103,6 +104,16 @@ module _ {Y C S : Type 0} (meaning : Y → Behaviour C) (value : S → C) (board
     omega (arith, kept.words, below),
     subst (λ s. Allows (IsBoard (meaning s.system) s.wiring value) table.slots id me (e + 2) (λ n. n) (InputTaken (meaning s.system) s.wiring value e run place (owner_of s.wiring.layout k) k me)) (sym kept.about)
         (takes_input (meaning board.subject.system) board.subject.wiring value table.slots id e run place k me kept.slots below hold input (ap (has k) no_slot.1)),
+  )
+
+  pub give_asked : (id e run place k : ℕ) (x : S) (me : Me S View) → IsKept (meaning board.subject.system) board.subject key table → own ≡ table → e < board.subject.wiring.plan.elements → HasHold me.0 e run
+      → me.1 ≡ (k, x) ∷ [] → me.0.out ≡ k ∷ [] → IsInputSlot (meaning board.subject.system) board.subject.wiring.layout e place k → IsReadAt (meaning board.subject.system) board.subject.wiring.plan e (run + 1) place (value x)
+      → (own ≡ table) × (e + 2 < table.words) × Allows (IsBoard (meaning key.system) key.wiring value) table.slots id me (e + 2) (λ n. n) (GivenBack me)
+  give_asked id e run place k x me kept of below hold slot_is out_is input read = (
+    of,
+    omega (arith, kept.words, below),
+    subst (λ s. Allows (IsBoard (meaning s.system) s.wiring value) table.slots id me (e + 2) (λ n. n) (GivenBack me)) (sym kept.about)
+        (gives_slot (meaning board.subject.system) board.subject.wiring value table.slots id e run place k x me kept.slots below hold slot_is out_is input.1 kept.ends read),
   )
 
 pub last_is : {Y C : Type 0} {b : Behaviour C} {subject key : SubjectView Y} {table : TableId} {n : ℕ} → IsKept b subject key table → n ≡ subject.wiring.plan.elements → n - 1 ≡ end_of subject.wiring.plan

@@ -4,3 +4,5 @@ pub mod Asking
 pub mod Telling
 pub mod Sending_told
 pub mod Writing_slots
+pub mod Starting
+pub mod Reading_told

@@ -1,6 +1,7 @@
 -- How the slots of an element are written.
-use Rattle.std.proofs.Common.{◌≡◌, ◌≢◌, ℕ, ◌+◌, ◌<◌, ◌≤◌, ◌==◌, ◌⊎◌, inl, inr, List, [], ◌∷◌, map, true, false, refl, sym, ap, subst, ◌∙◌, arith, cond}
+use Rattle.std.proofs.Common.{◌≡◌, ◌≢◌, ℕ, ◌+◌, ◌<◌, ◌≤◌, ◌==◌, ◌⊎◌, inl, inr, List, [], ◌∷◌, ◌++◌, map, length, drop, get_or, replicate, All, true, false, refl, sym, ap, subst, ◌∙◌, arith, cond}
 use Rattle.std.proofs.lemmas.Bool.Decides.{eqb_tells}
+use Rattle.std.proofs.lemmas.List.Elements.{All-head, All-tail}
 use Rattle.atomic_table.specs.Table.{Me}
 use Rattle.pk_plan.specs.Shape.{has}
 use Rattle.pk_layout.specs.Layouts.{first_of, owner_of}
@@ -36,3 +37,19 @@ writes_none {C} {S} value w e from c me idle end = record {
   every = λ k from_k below. absurd (omega (arith, end, from_k, below));
   none_before = λ k before. ap (λ (xs : List (ℕ × S)). has k (slots_in xs)) idle.0;
 }
+
+-- of copies of a cell, the last and the others
+pub copies_less : {A B : Type 0} (f : A → B) (xs : List A) (y : A) (v : B) → map f (xs ++ y ∷ []) ≡ replicate (length (xs ++ y ∷ [])) v → (map f xs ≡ replicate (length xs) v) × (f y ≡ v)
+copies_less f [] y v h = (refl, ap (λ zs. get_or zs 0 v) h)
+copies_less {A} {B} f (x ∷ xs) y v h =
+    let less = copies_less f xs y v (ap (drop 1) h) in
+    (ap (λ (z : B). z ∷ map f xs) (ap (λ zs. get_or zs 0 v) h) ∙ ap (λ (zs : List B). v ∷ zs) less.0, less.1)
+
+-- copies that are all equal to a cell
+pub copies_are : {A B : Type 0} (f : A → B) (xs : List A) (v : B) → All (λ x. f x ≡ v) xs → map f xs ≡ replicate (length xs) v
+copies_are f [] v h = refl
+copies_are {A} {B} f (x ∷ xs) v h = ap (λ (z : B). z ∷ map f xs) (All-head (λ x. f x ≡ v) x xs h) ∙ ap (λ (zs : List B). v ∷ zs) (copies_are f xs v (All-tail (λ x. f x ≡ v) x xs h))
+
+-- one slot less is left
+pub writing_at : {C S : Type 0} (value : S → C) (w : Wiring) (e from from' : ℕ) (c c' : C) (old : View) (me : Me S View) → from ≡ from' → c ≡ c' → IsWriting value w e c from old me → IsWriting value w e c' from' old me
+writing_at value w e from from' c c' old me same equal h = subst (λ (k : ℕ). IsWriting value w e c' k old me) same (subst (λ d. IsWriting value w e d from old me) equal h)
