@@ -1,4 +1,5 @@
 pub mod Stopping
+pub mod Restarting
 pub mod Asking
 pub mod Telling
 pub mod Sending_told

@@ -5,6 +5,7 @@ mod answers;
 mod boards;
 mod copies;
 mod passes;
+mod restarts;
 mod runs;
 mod sends;
 mod starts;
