@@ -1,4 +1,5 @@
 pub mod Copies
+pub mod Results
 pub mod Boards
 pub mod Calls
 pub mod Stops

@@ -6,6 +6,7 @@ ghost use Rattle.pk_board.specs.Calls.{IsClaimed, IsSeen, IsEnd, IsNoEnd};
 
 use crate::answers::Seen;
 use crate::passes::Pass;
+use crate::results::Results;
 use atomic_table::Table;
 use pk_iterate::System;
 use pk_words::{
@@ -26,16 +27,18 @@ pub const DONE: u64 = 262145;
 pub struct Board<'a, Y: System> {
     pub(crate) subject: Subject<'a, Y>,
     pub(crate) table: Table<Arc<Y::Cell>, View, Subject<'a, Y>, Rule, Global>,
+    // The room that the end needs.
+    pub(crate) results: Results<Y::Cell>,
 }
 
 impl<'a, Y: System> Model for Board<'a, Y> {
-    ghost use Rattle.pk_board.specs.Boards.{BoardView, IsKept};
+    ghost use Rattle.pk_board.specs.Boards.{BoardView, IsWhole};
 
     ghost Value = { BoardView Y };
 
     ghost view = { λ b. record { subject = b.subject; table = b.table.shared.table_id } };
 
-    ghost invariant = { λ b. IsKept (Y.meaning b.subject.system) b.subject b.table.shared.key b.table.shared.table_id };
+    ghost invariant = { λ b. IsWhole (Y.meaning b.subject.system) b.subject b.table.shared.key b.table.shared.table_id b.results };
 }
 
 impl<'a, Y: System> Board<'a, Y> {

@@ -4,8 +4,10 @@
 mod answers;
 mod boards;
 mod copies;
+mod ends;
 mod passes;
 mod restarts;
+mod results;
 mod runs;
 mod sends;
 mod starts;

@@ -16,6 +16,7 @@ ghost use Rattle.pk_words.specs.Views.{first_view};
 
 use crate::boards::{Board, OPEN};
 use crate::passes::Pass;
+use crate::results::reserved;
 use atomic_table::Table;
 use pk_iterate::System;
 use pk_layout::Layout;
@@ -82,9 +83,17 @@ impl<'a, Y: System> Board<'a, Y> {
         let layout = Layout::new(alloc, system, plan.elements())?;
         let words = start_words(alloc, plan)?;
         let slots = start_slots(alloc, system, plan.elements(), &layout)?;
+        let results = reserved(alloc, plan.elements())?;
         let subject = Subject::new(system, plan, layout, max_runs);
         match Table::new(alloc, &words, slots, &subject) {
-            Ok((table, seat)) => Ok((Board { subject, table }, Pass { seat })),
+            Ok((table, seat)) => {
+                let board = Board {
+                    subject,
+                    table,
+                    results,
+                };
+                Ok((board, Pass { seat }))
+            }
             Err(_) => Err(AllocError),
         }
     }

@@ -41,7 +41,12 @@ impl<'a, Y: System> Board<'a, Y> {
         ensures why { result ≡ stopped }
         ensures cause { IsCause (Y.meaning self.entry.subject.system) self.entry.subject.wiring result }
     {
-        let Board { subject, table } = self;
+        let Board {
+            subject,
+            table,
+            results,
+        } = self;
+        drop(results);
         drop(table);
         drop(subject);
         stopped.why()

@@ -11,7 +11,7 @@ arm_head-run-requires-clause-head g c κs within =
     let board = c.args.self.now in
     let meaning = g.Y.System.meaning in
     let inside = c.self.inside in
-    let kept = at_board meaning board inside.subject inside.table.shared.key inside.table.shared.table_id c.self.view_is c.self.invariant in
+    let kept = at_board meaning board inside.subject inside.table.shared.key inside.table.shared.table_id c.self.view_is c.self.invariant.kept in
     let exit = subst (λ (j : ℕ). exits board.subject.wiring.plan j ≡ true) (sym c.exit-exit.ensures) c.requires.resetting.exit in
     let in_range : c.left-left.result - 1 < length (members_at board.subject.wiring.plan c.exit-exit.result) =
         omega (arith, c.left-left.ensures, c.requires.resetting.some_left, c.requires.resetting.within, ap (λ (j : ℕ). length (members_at board.subject.wiring.plan j)) c.exit-exit.ensures) in
@@ -24,7 +24,7 @@ inner-requires g c =
     let board = c.args.self.now in
     let meaning = g.Y.System.meaning in
     let inside = c.self.inside in
-    let kept = at_board meaning board inside.subject inside.table.shared.key inside.table.shared.table_id c.self.view_is c.self.invariant in
+    let kept = at_board meaning board inside.subject inside.table.shared.key inside.table.shared.table_id c.self.view_is c.self.invariant.kept in
     let exit = subst (λ (j : ℕ). exits board.subject.wiring.plan j ≡ true) (sym c.exit-exit.ensures) c.requires.resetting.exit in
     let in_range : c.left-left.result - 1 < length (members_at board.subject.wiring.plan c.exit-exit.result) =
         omega (arith, c.left-left.ensures, c.requires.resetting.some_left, c.requires.resetting.within, ap (λ (j : ℕ). length (members_at board.subject.wiring.plan j)) c.exit-exit.ensures) in
@@ -37,7 +37,7 @@ overflow_sub-amount g c =
     let board = c.args.self.now in
     let meaning = g.Y.System.meaning in
     let inside = c.self.inside in
-    let kept = at_board meaning board inside.subject inside.table.shared.key inside.table.shared.table_id c.self.view_is c.self.invariant in
+    let kept = at_board meaning board inside.subject inside.table.shared.key inside.table.shared.table_id c.self.view_is c.self.invariant.kept in
     let exit = subst (λ (j : ℕ). exits board.subject.wiring.plan j ≡ true) (sym c.exit-exit.ensures) c.requires.resetting.exit in
     let in_range : c.left-left.result - 1 < length (members_at board.subject.wiring.plan c.exit-exit.result) =
         omega (arith, c.left-left.ensures, c.requires.resetting.some_left, c.requires.resetting.within, ap (λ (j : ℕ). length (members_at board.subject.wiring.plan j)) c.exit-exit.ensures) in
@@ -50,7 +50,7 @@ arm_member-requires-clause-below g c κs within =
     let board = c.args.self.now in
     let meaning = g.Y.System.meaning in
     let inside = c.self.inside in
-    let kept = at_board meaning board inside.subject inside.table.shared.key inside.table.shared.table_id c.self.view_is c.self.invariant in
+    let kept = at_board meaning board inside.subject inside.table.shared.key inside.table.shared.table_id c.self.view_is c.self.invariant.kept in
     let exit = subst (λ (j : ℕ). exits board.subject.wiring.plan j ≡ true) (sym c.exit-exit.ensures) c.requires.resetting.exit in
     let in_range : c.left-left.result - 1 < length (members_at board.subject.wiring.plan c.exit-exit.result) =
         omega (arith, c.left-left.ensures, c.requires.resetting.some_left, c.requires.resetting.within, ap (λ (j : ℕ). length (members_at board.subject.wiring.plan j)) c.exit-exit.ensures) in
@@ -63,7 +63,7 @@ arm_member-requires-clause-amount g c κs within =
     let board = c.args.self.now in
     let meaning = g.Y.System.meaning in
     let inside = c.self.inside in
-    let kept = at_board meaning board inside.subject inside.table.shared.key inside.table.shared.table_id c.self.view_is c.self.invariant in
+    let kept = at_board meaning board inside.subject inside.table.shared.key inside.table.shared.table_id c.self.view_is c.self.invariant.kept in
     let exit = subst (λ (j : ℕ). exits board.subject.wiring.plan j ≡ true) (sym c.exit-exit.ensures) c.requires.resetting.exit in
     let in_range : c.left-left.result - 1 < length (members_at board.subject.wiring.plan c.exit-exit.result) =
         omega (arith, c.left-left.ensures, c.requires.resetting.some_left, c.requires.resetting.within, ap (λ (j : ℕ). length (members_at board.subject.wiring.plan j)) c.exit-exit.ensures) in

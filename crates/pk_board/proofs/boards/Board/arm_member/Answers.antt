@@ -11,5 +11,5 @@ arm_told-requires g c =
     let board = c.args.self.now in
     let meaning = g.Y.System.meaning in
     let seat = c.args.seat.now in
-    arm_asked meaning arc_value board.subject inside.table.shared.key table seat.table_id seat.id c.args.exit c.args.left c.args.member c.args.amount seat.me (at_board meaning board inside.subject inside.table.shared.key table c.self.view_is c.self.invariant)
+    arm_asked meaning arc_value board.subject inside.table.shared.key table seat.table_id seat.id c.args.exit c.args.left c.args.member c.args.amount seat.me (at_board meaning board inside.subject inside.table.shared.key table c.self.view_is c.self.invariant.kept)
     (c.requires.of_board ∙ sym (ap (λ b. b.table) c.self.view_is)) c.requires.idle c.requires.resets c.requires.some_left c.requires.below c.requires.member c.requires.amount

@@ -22,7 +22,7 @@ decrement_told-found-requires g c =
     let below : a < p.elements = subst (λ (j : ℕ). j < p.elements) (sym c.element-element.ensures) c.requires.sending.element in
     let in_range : i < length (successors_of p a) = omega (arith, c.requires.sending.some_left, c.sent-sent.ensures, ap (λ (j : ℕ). length (successors_of p j)) c.element-element.ensures) in
     let has = subst (λ v. HasSending v a i) (sym (ap (λ q. q.view) c.pass.view_is)) (subst (λ (j : ℕ). HasSending c.args.pass.now.view j i) (sym c.element-element.ensures) (subst (λ (k : ℕ). HasSending c.args.pass.now.view c.args.sending.element k) (sym c.sent-sent.ensures) c.requires.sends)) in
-    send_asked meaning arc_value board inside.table.shared.key table seat.table_id seat.id a i (get_or c.successors-targets.result.now i 0) seat.me (at_board meaning board inside.subject inside.table.shared.key table c.self.view_is c.self.invariant)
+    send_asked meaning arc_value board inside.table.shared.key table seat.table_id seat.id a i (get_or c.successors-targets.result.now i 0) seat.me (at_board meaning board inside.subject inside.table.shared.key table c.self.view_is c.self.invariant.kept)
     (own_table board c.args.pass.now inside.subject table seat.table_id seat.me.0 c.self.view_is c.pass.view_is c.requires.of_board)
     below in_range (ap (λ (xs : List ℕ). get_or xs i 0) targets) c.pass.invariant has
 
@@ -32,7 +32,7 @@ returns-then-sent-targets-clause-arrived g c =
     let i = c.sent-sent.result in
     let w = c.args.self.now.subject.wiring in
     let p = w.plan in
-    let back = subst (λ k. Sent (g.Y.System.meaning k.system) k.wiring a i c.pass.inside.seat.me c.decrement_told-found.result c.decrement_told-found.new.seat.me) (c.self.invariant.about ∙ ap (λ b. b.subject) c.self.view_is) c.decrement_told-found.ensures.2 in
+    let back = subst (λ k. Sent (g.Y.System.meaning k.system) k.wiring a i c.pass.inside.seat.me c.decrement_told-found.result c.decrement_told-found.new.seat.me) (c.self.invariant.kept.about ∙ ap (λ b. b.subject) c.self.view_is) c.decrement_told-found.ensures.2 in
     let plan : c.plan.result.now ≡ p = c.plan.ensures ∙ ap (λ b. b.subject.wiring.plan) c.self.view_is in
     let targets : c.successors-targets.result.now ≡ successors_of p a = c.successors-targets.ensures ∙ ap (λ (q : PlanView). successors_of q a) plan in
     let long : length c.successors-targets.result.now ≡ length (successors_of p c.args.sending.element) = ap length targets ∙ ap (λ (j : ℕ). length (successors_of p j)) c.element-element.ensures in (
@@ -48,7 +48,7 @@ returns-clause-arrived g c =
     let i = c.sent-sent.result in
     let w = c.args.self.now.subject.wiring in
     let p = w.plan in
-    let back = subst (λ k. Sent (g.Y.System.meaning k.system) k.wiring a i c.pass.inside.seat.me c.decrement_told-found.result c.decrement_told-found.new.seat.me) (c.self.invariant.about ∙ ap (λ b. b.subject) c.self.view_is) c.decrement_told-found.ensures.2 in
+    let back = subst (λ k. Sent (g.Y.System.meaning k.system) k.wiring a i c.pass.inside.seat.me c.decrement_told-found.result c.decrement_told-found.new.seat.me) (c.self.invariant.kept.about ∙ ap (λ b. b.subject) c.self.view_is) c.decrement_told-found.ensures.2 in
     let plan : c.plan.result.now ≡ p = c.plan.ensures ∙ ap (λ b. b.subject.wiring.plan) c.self.view_is in
     let targets : c.successors-targets.result.now ≡ successors_of p a = c.successors-targets.ensures ∙ ap (λ (q : PlanView). successors_of q a) plan in
     let long : length c.successors-targets.result.now ≡ length (successors_of p c.args.sending.element) = ap length targets ∙ ap (λ (j : ℕ). length (successors_of p j)) c.element-element.ensures in (

@@ -21,7 +21,7 @@ store_told-requires g c =
     let next = c.put_all.new.seat in
     let board = c.args.self.now in
     let meaning = g.Y.System.meaning in
-    let kept = at_board meaning board inside.subject inside.table.shared.key table c.self.view_is c.self.invariant in
+    let kept = at_board meaning board inside.subject inside.table.shared.key table c.self.view_is c.self.invariant.kept in
     let e = c.element-element.result in
     let run = c.run.result in
     let b = meaning board.subject.system in
@@ -39,7 +39,7 @@ returns-then-is_empty-clause-end g c =
     let board = c.args.self.now in
     let inside = c.self.inside in
     let p = board.subject.wiring.plan in
-    let kept = at_board g.Y.System.meaning board inside.subject inside.table.shared.key inside.table.shared.table_id c.self.view_is c.self.invariant in
+    let kept = at_board g.Y.System.meaning board inside.subject inside.table.shared.key inside.table.shared.table_id c.self.view_is c.self.invariant.kept in
     let plan : c.plan.result.now ≡ p = c.plan.ensures ∙ ap (λ b. b.subject.wiring.plan) c.self.view_is in
     let targets : c.successors.result.now ≡ successors_of p c.args.hold.element = c.successors.ensures ∙ ap (λ (q : PlanView). successors_of q c.element-element.result) plan ∙ ap (successors_of p) c.element-element.ensures in
     (λ _. is_end p c.args.hold.element kept.wired.axioms c.requires.element (sym (ap length targets) ∙ empty_is (length c.successors.result.now) c.if-is_empty.ensures), λ _. refl)
@@ -49,7 +49,7 @@ returns-clause-end g c =
     let board = c.args.self.now in
     let inside = c.self.inside in
     let p = board.subject.wiring.plan in
-    let kept = at_board g.Y.System.meaning board inside.subject inside.table.shared.key inside.table.shared.table_id c.self.view_is c.self.invariant in
+    let kept = at_board g.Y.System.meaning board inside.subject inside.table.shared.key inside.table.shared.table_id c.self.view_is c.self.invariant.kept in
     let plan : c.plan.result.now ≡ p = c.plan.ensures ∙ ap (λ b. b.subject.wiring.plan) c.self.view_is in
     let targets : c.successors.result.now ≡ successors_of p c.args.hold.element = c.successors.ensures ∙ ap (λ (q : PlanView). successors_of q c.element-element.result) plan ∙ ap (successors_of p) c.element-element.ensures in
     (λ h. absurd (cc), λ e. absurd (some_is (length c.successors.result.now) c.if-is_empty.ensures (ap length targets ∙ ap (λ (j : ℕ). length (successors_of p j)) e ∙ has_none p kept.wired.axioms)))

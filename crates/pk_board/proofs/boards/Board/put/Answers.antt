@@ -15,7 +15,7 @@ take_told-requires g c =
     let table = inside.table.shared.table_id in
     let board = c.args.self.now in
     let meaning = g.Y.System.meaning in
-    let kept = at_board meaning board inside.subject inside.table.shared.key table c.self.view_is c.self.invariant in
+    let kept = at_board meaning board inside.subject inside.table.shared.key table c.self.view_is c.self.invariant.kept in
     let mine = kept.wired.laid_out.together c.args.e c.args.slot c.requires.element c.requires.slot.0 c.requires.slot.1 in
     let writing = c.requires.writing in
     let out : has c.args.slot c.args.seat.now.me.0.out ≡ false = ap (has c.args.slot) writing.2.out ∙ writing.2.none_before c.args.slot (omega arith) in
@@ -34,7 +34,7 @@ returns-clause-writing g c = λ v h.
     let x = c.exchange.ensures in
     let inside = c.self.inside in
     let w = c.args.self.now.subject.wiring in
-    let kept = at_board g.Y.System.meaning c.args.self.now inside.subject inside.table.shared.key inside.table.shared.table_id c.self.view_is c.self.invariant in
+    let kept = at_board g.Y.System.meaning c.args.self.now inside.subject inside.table.shared.key inside.table.shared.table_id c.self.view_is c.self.invariant.kept in
     let mine = kept.wired.laid_out.together c.args.e c.args.slot c.requires.element c.requires.slot.0 c.requires.slot.1 in
     let me = x.3 ∙ ap (λ n. (n.0, (c.args.slot, c.args.cell) ∷ rest n.1)) t.2.1 in
     subst (λ n. IsWriting arc_value w c.args.e (arc_value c.args.cell) c.args.slot v n) (sym me) (writes_one arc_value w c.args.e c.args.slot (arc_value c.args.cell) v c.args.seat.now.me c.args.cell h refl mine.1)

@@ -16,7 +16,7 @@ component_of-component-requires g c =
     let board = c.args.self.now in
     let meaning = g.Y.System.meaning in
     let key = inside.table.shared.key in
-    let kept = at_board meaning board inside.subject key table c.self.view_is c.self.invariant in
+    let kept = at_board meaning board inside.subject key table c.self.view_is c.self.invariant.kept in
     let written = c.requires.written in
     let exit = exit_again (meaning board.subject.system) board.subject key table (record { element = c.args.exit; run = c.args.run }) written.0 kept written.3 in
     let plan_is = c.plan-plan.ensures ∙ ap (λ b. b.subject.wiring.plan) c.self.view_is in
@@ -29,7 +29,7 @@ store_told-requires g c =
     let board = c.args.self.now in
     let meaning = g.Y.System.meaning in
     let key = inside.table.shared.key in
-    let kept = at_board meaning board inside.subject key table c.self.view_is c.self.invariant in
+    let kept = at_board meaning board inside.subject key table c.self.view_is c.self.invariant.kept in
     let written = c.requires.written in
     let exit = exit_again (meaning board.subject.system) board.subject key table (record { element = c.args.exit; run = c.args.run }) written.0 kept written.3 in
     let plan_is = c.plan-plan.ensures ∙ ap (λ b. b.subject.wiring.plan) c.self.view_is in
@@ -46,14 +46,14 @@ returns-clause-told g c =
     let board = c.args.self.now in
     let meaning = g.Y.System.meaning in
     let key = inside.table.shared.key in
-    let kept = at_board meaning board inside.subject key table c.self.view_is c.self.invariant in
+    let kept = at_board meaning board inside.subject key table c.self.view_is c.self.invariant.kept in
     let written = c.requires.written in
     let exit = exit_again (meaning board.subject.system) board.subject key table (record { element = c.args.exit; run = c.args.run }) written.0 kept written.3 in
     let plan_is = c.plan-plan.ensures ∙ ap (λ b. b.subject.wiring.plan) c.self.view_is in
     let count = exit_count (meaning board.subject.system) board.subject.wiring c.plan-plan.result.now c.component_of-component.result.now c.args.exit c.args.exit kept.wired plan_is c.component_of-component.ensures.component exit in
     let word = (c.args.run + 1) * 1048576 + c.inner-waits.result in
     let word_is : word ≡ (c.args.run + 1) * 1048576 + inner (shape_of board.subject.wiring.plan) c.args.exit c.args.exit = ap (λ (n : ℕ). (c.args.run + 1) * 1048576 + n) (c.inner-waits.ensures ∙ count) in
-    let told = subst (λ k. Restarted k.wiring.plan c.args.exit c.args.seat.now.me word c.store_told.new.seat.me) (c.self.invariant.about ∙ ap (λ b. b.subject) c.self.view_is) c.store_told.ensures.2 in
+    let told = subst (λ k. Restarted k.wiring.plan c.args.exit c.args.seat.now.me word c.store_told.new.seat.me) (c.self.invariant.kept.about ∙ ap (λ b. b.subject) c.self.view_is) c.store_told.ensures.2 in
     subst (λ (n : ℕ). Restarted board.subject.wiring.plan c.args.exit c.args.seat.now.me n c.store_told.new.seat.me) word_is told
 
 pub returns-clause-resetting : goal.returns-clause-resetting
@@ -63,7 +63,7 @@ returns-clause-resetting g c =
     let board = c.args.self.now in
     let meaning = g.Y.System.meaning in
     let key = inside.table.shared.key in
-    let kept = at_board meaning board inside.subject key table c.self.view_is c.self.invariant in
+    let kept = at_board meaning board inside.subject key table c.self.view_is c.self.invariant.kept in
     let written = c.requires.written in
     let exit = exit_again (meaning board.subject.system) board.subject key table (record { element = c.args.exit; run = c.args.run }) written.0 kept written.3 in
     let plan_is = c.plan-plan.ensures ∙ ap (λ b. b.subject.wiring.plan) c.self.view_is in

@@ -9,5 +9,5 @@ split_seat-requires g c =
     let seat = c.pass.inside.seat in
     let board = c.args.self.now in
     let meaning = g.Y.System.meaning in
-    split_asked meaning arc_value board inside.table.shared.key table seat.table_id seat.id seat.me.0 (at_board meaning board inside.subject inside.table.shared.key table c.self.view_is c.self.invariant)
+    split_asked meaning arc_value board inside.table.shared.key table seat.table_id seat.id seat.me.0 (at_board meaning board inside.subject inside.table.shared.key table c.self.view_is c.self.invariant.kept)
     (own_table board c.args.pass.now inside.subject table seat.table_id seat.me.0 c.self.view_is c.pass.view_is c.requires.of_board)

@@ -19,7 +19,7 @@ store_told-requires g c =
     let board = c.args.self.now in
     let meaning = g.Y.System.meaning in
     let same : c.limit.result ≡ board.subject.wiring.limit = c.limit.ensures ∙ ap (λ b. b.subject.wiring.limit) c.self.view_is in
-    stop_asked meaning arc_value board.subject inside.table.shared.key table seat.table_id seat.id c.stop_word-word.result c.args.why seat.me (at_board meaning board inside.subject inside.table.shared.key table c.self.view_is c.self.invariant)
+    stop_asked meaning arc_value board.subject inside.table.shared.key table seat.table_id seat.id c.stop_word-word.result c.args.why seat.me (at_board meaning board inside.subject inside.table.shared.key table c.self.view_is c.self.invariant.kept)
     (own_table board c.args.pass.now inside.subject table seat.table_id seat.me.0 c.self.view_is c.pass.view_is c.requires.of_board) c.pass.invariant
     (subst (λ n. why_of n c.stop_word-word.result ≡ Some c.args.why) same c.stop_word-word.ensures) c.requires.cause
 

@@ -11,10 +11,10 @@ load_told-word-requires g c =
     let seat = c.pass.inside.seat in
     let board = c.args.self.now in
     let meaning = g.Y.System.meaning in
-    stopped_asked meaning arc_value board.subject inside.table.shared.key table seat.table_id seat.id seat.me (at_board meaning board inside.subject inside.table.shared.key table c.self.view_is c.self.invariant)
+    stopped_asked meaning arc_value board.subject inside.table.shared.key table seat.table_id seat.id seat.me (at_board meaning board inside.subject inside.table.shared.key table c.self.view_is c.self.invariant.kept)
     (own_table board c.args.pass.now inside.subject table seat.table_id seat.me.0 c.self.view_is c.pass.view_is c.requires.of_board) c.pass.invariant
 
 pub why_in-requires : goal.why_in-requires
 why_in-requires g c =
     let inside = c.self.inside in
-    word_asked g.Y.System.meaning inside.subject inside.table.shared.key inside.table.shared.table_id c.limit.result c.load_told-word.result c.pass.inside.seat.me c.load_told-word.new.seat.me c.self.invariant c.load_told-word.ensures.2 c.limit.ensures
+    word_asked g.Y.System.meaning inside.subject inside.table.shared.key inside.table.shared.table_id c.limit.result c.load_told-word.result c.pass.inside.seat.me c.load_told-word.new.seat.me c.self.invariant.kept c.load_told-word.ensures.2 c.limit.ensures
