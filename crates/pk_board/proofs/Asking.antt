@@ -1,14 +1,12 @@
 -- What calls ask of the table, over a board.
-use Rattle.std.proofs.Common.{◌≡◌, ◌≢◌, ℕ, ◌+◌, ◌-◌, ◌*◌, ◌%◌, ◌^◌, ◌<◌, ◌≤◌, ◌==◌, List, [], ◌∷◌, length, get_or, Bool, false, refl, sym, ap, subst, ◌∙◌, arith, ◌⊎◌, inl, inr}
+use Rattle.std.proofs.Common.{◌≡◌, ℕ, ◌+◌, ◌-◌, ◌*◌, ◌%◌, ◌^◌, ◌<◌, ◌==◌, [], ◌∷◌, length, get_or, false, sym, ap, subst, ◌∙◌, arith, inl}
 use prog.Atomic.{either}
 use Rattle.atomic_table.specs.Table.{Me, Allows, Splits}
 use Rattle.atomic_table.specs.Seated.{TableId}
 use Rattle.pk_plan.specs.Plans.{end_of, successors_of}
 use Rattle.pk_plan.specs.Shape.{has}
-use Rattle.pk_plan.specs.Axioms.{Axioms}
 use Rattle.pk_iterate.specs.Behaviour.{Behaviour}
 use Rattle.pk_layout.specs.Layouts.{first_of, owner_of, slots_of, IsInputSlot}
-use Rattle.pk_layout.specs.Wirings.{Wiring, IsWired}
 use Rattle.pk_words.specs.declared.view.View.{View}
 use Rattle.pk_words.specs.Subjects.{SubjectView}
 use Rattle.pk_words.specs.Tokens.{times, number_of}
@@ -127,8 +125,8 @@ module _ {Y C S : Type 0} (meaning : Y → Behaviour C) (value : S → C) (board
         omega (arith, kept.words, below),
         subst (λ s. Allows (IsBoard (meaning s.system) s.wiring value) table.slots id me (e + 2) (λ _. (run + 1) * 1048576 + 262145) (λ _. Finished s.wiring.plan e me ((run + 1) * 1048576 + 262145))) (sym kept.about)
             (finishes (meaning board.subject.system) board.subject.wiring value table.slots id e run c me kept.slots below hold' room writing.out writing.right
-                (λ k in_slots own. let r = kept.wired.laid_out.no_more e k below in_slots own in writing.every k r.0 r.1)
-                kept.ends.0 kept.ends.1 kept.ends.2 (cell kept.ends.0 kept.ends.1 kept.ends.2)),
+            (λ k in_slots own. let r = kept.wired.laid_out.no_more e k below in_slots own in writing.every k r.0 r.1)
+            kept.ends.0 kept.ends.1 kept.ends.2 (cell kept.ends.0 kept.ends.1 kept.ends.2)),
       )
 
 pub last_is : {Y C : Type 0} {b : Behaviour C} {subject key : SubjectView Y} {table : TableId} {n : ℕ} → IsKept b subject key table → n ≡ subject.wiring.plan.elements → n - 1 ≡ end_of subject.wiring.plan

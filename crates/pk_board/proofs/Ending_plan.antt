@@ -1,10 +1,9 @@
 -- END alone has no successor.
-use Rattle.std.proofs.Common.{◌≡◌, ℕ, ◌+◌, ◌<◌, ◌≤◌, ◌==◌, Bool, true, false, length, get_or, arith, sym, subst, inl, inr, ap, ◌∙◌}
+use Rattle.std.proofs.Common.{◌≡◌, ℕ, ◌<◌, ◌==◌, true, false, length, get_or, arith, inl, inr, ◌∙◌}
 use Rattle.std.proofs.lemmas.Bool.{cases_lt}
 use Rattle.std.proofs.lemmas.Bool.Decides.{eqb_tells}
 use Rattle.std.proofs.lemmas.List.Elements.{Contains-get_or}
-
-use Rattle.pk_plan.specs.Plans.{PlanView, end_of, successors_of, Constrains, Precedes, One, More}
+use Rattle.pk_plan.specs.Plans.{PlanView, end_of, successors_of, Precedes, One, More}
 use Rattle.pk_plan.specs.Axioms.{Axioms}
 
 first_step : (p : PlanView) (a b : ℕ) → Precedes p a b → 0 < length (successors_of p a)
@@ -24,7 +23,7 @@ has_none p axioms = elim (cases_lt 0 (length (successors_of p (end_of p)))) [
 ]
 
 pub empty_is : (n : ℕ) → true ≡ (n == 0) → n ≡ 0
-empty_is n h = elim (eqb_tells n 0) [ | inl same ↦ same.1 | inr other ↦ absurd (let is : true ≡ false = h ∙ other.0 in cc) ]
+empty_is n h = elim (eqb_tells n 0) [ inl same ↦ same.1 | inr other ↦ absurd (let is : true ≡ false = h ∙ other.0 in cc) ]
 
 pub some_is : (n : ℕ) → false ≡ (n == 0) → n ≡ 0 → ⊥
-some_is n h e = elim (eqb_tells n 0) [ | inl same ↦ absurd (let is : false ≡ true = h ∙ same.0 in cc) | inr other ↦ other.1 e ]
+some_is n h e = elim (eqb_tells n 0) [ inl same ↦ absurd (let is : false ≡ true = h ∙ same.0 in cc) | inr other ↦ other.1 e ]

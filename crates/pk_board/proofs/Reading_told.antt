@@ -1,5 +1,5 @@
 -- What a look at a slot tells.
-use Rattle.std.proofs.Common.{◌≡◌, ℕ, ◌+◌, ◌≤◌, List, [], ◌∷◌, refl, sym, ap, subst, ◌∙◌, slice_get, Some}
+use Rattle.std.proofs.Common.{◌≡◌, ℕ, ◌+◌, ◌≤◌, ◌∷◌, sym, ap, subst, ◌∙◌, slice_get, Some}
 use Rattle.std.specs.Prelude.{Result, Ok, Err, IfOk}
 use Rattle.atomic_table.specs.Table.{Me}
 use Rattle.pk_iterate.specs.Behaviour.{Behaviour}

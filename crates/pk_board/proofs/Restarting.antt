@@ -1,28 +1,27 @@
 -- What the steps of a restart ask of the table, and what the calls tell.
-use Rattle.std.proofs.Common.{◌≡◌, ◌≢◌, ℕ, zero, suc, ◌+◌, ◌-◌, ◌*◌, ◌/◌, ◌%◌, ◌^◌, ◌<◌, ◌≤◌, List, [], ◌∷◌, length, map, replicate, All, get_or, Bool, true, false, refl, sym, ap, subst, ◌∙◌, arith}
+use Rattle.std.proofs.Common.{◌≡◌, ℕ, suc, ◌+◌, ◌-◌, ◌*◌, ◌/◌, ◌%◌, ◌^◌, ◌<◌, List, [], ◌∷◌, length, map, replicate, All, get_or, Bool, true, false, refl, sym, ap, subst, arith}
 use Rattle.atomic_table.specs.Table.{Me, Allows}
 use Rattle.atomic_table.specs.Seated.{TableId}
 use Rattle.pk_plan.specs.declared.components.Component.{Component}
 use Rattle.pk_plan.specs.Plans.{PlanView, inner_count, members_of}
-use Rattle.pk_plan.specs.Shape.{has, shape_of, component_of, exits}
+use Rattle.pk_plan.specs.Shape.{shape_of, component_of, exits}
 use Rattle.pk_iterate.specs.Behaviour.{Behaviour}
 use Rattle.pk_iterate.specs.Runs.{values_read}
 use Rattle.pk_iterate.specs.Ending.{trace}
 use Rattle.pk_core.specs.Events.{inner}
-use Rattle.pk_core.proofs.Basics.{cases}
 use Rattle.pk_layout.specs.Wirings.{Wiring, IsWired}
-use Rattle.pk_layout.specs.Layouts.{first_of, owner_of, slots_of}
+use Rattle.pk_layout.specs.Layouts.{first_of}
 use Rattle.pk_words.specs.declared.view.View.{View}
 use Rattle.pk_words.specs.Subjects.{SubjectView}
-use Rattle.pk_words.specs.Held.{HoldView, ResettingView}
-use Rattle.pk_words.specs.Views.{HasHold, HasResetting, IsGiven, again_view, arm_view, head_view}
+use Rattle.pk_words.specs.Held.{HoldView}
+use Rattle.pk_words.specs.Views.{HasHold, HasResetting, IsGiven}
 use Rattle.pk_words.specs.Board.{head_of, members_at, IsBoard}
 use Rattle.pk_words.specs.Told.{IsIdle, Restarted, Armed, HeadArmed}
 use Rattle.pk_words.proofs.Sends.{has_get}
 use Rattle.pk_words.proofs.Wired.{member_in, member_below}
 use Rattle.pk_words.proofs.Members.{inner_small, some_members}
 use Rattle.pk_words.proofs.Restart_steps.{inner_is, restarts, arms, arms_head}
-use Rattle.pk_board.specs.Boards.{BoardView, IsKept}
+use Rattle.pk_board.specs.Boards.{IsKept}
 use Rattle.pk_board.specs.Calls.{IsResetting, IsRunCell}
 use Rattle.pk_board.specs.Writing.{IsWriting}
 

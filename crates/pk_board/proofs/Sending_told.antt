@@ -1,5 +1,5 @@
 -- What a send tells.
-use Rattle.std.proofs.Common.{◌≡◌, ℕ, ◌+◌, ◌/◌, ◌%◌, ◌<◌, ◌≤◌, List, [], length, drop, get_or, refl, sym, ap, subst, ◌∙◌, arith}
+use Rattle.std.proofs.Common.{◌≡◌, ℕ, ◌+◌, drop, get_or, refl, sym, ap, subst}
 use Rattle.atomic_table.specs.Table.{Me}
 use Rattle.pk_plan.specs.Plans.{successors_of}
 use Rattle.pk_iterate.specs.Behaviour.{Behaviour}

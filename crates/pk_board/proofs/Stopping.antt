@@ -1,20 +1,19 @@
 -- What stopping a board asks of the table and tells.
-use Rattle.std.proofs.Common.{◌≡◌, ◌≢◌, ℕ, zero, suc, ◌+◌, ◌^◌, ◌-◌, ◌<◌, [], Bool, true, false, refl, sym, ap, subst, ◌∙◌, arith, Option, Some, None}
+use Rattle.std.proofs.Common.{◌≡◌, ◌≢◌, ℕ, zero, suc, ◌+◌, ◌^◌, ◌-◌, ◌<◌, refl, sym, ap, subst, ◌∙◌, arith, Some}
 use Rattle.atomic_table.specs.Table.{Me, Allows}
 use Rattle.atomic_table.specs.Seated.{TableId}
 use Rattle.pk_iterate.specs.Behaviour.{Behaviour}
-use Rattle.pk_core.proofs.Basics.{not_true}
-use Rattle.pk_layout.specs.Wirings.{Wiring, IsWired}
+use Rattle.pk_layout.specs.Wirings.{Wiring}
 use Rattle.pk_words.specs.declared.view.View.{View}
 use Rattle.pk_words.specs.declared.why.Why.{Why}
 use Rattle.pk_words.specs.declared.why.Why.TheVariants.{Memory, RunLimit}
 use Rattle.pk_words.specs.Subjects.{SubjectView}
-use Rattle.pk_words.specs.Views.{knows_stop, stop_view, stop_note_view}
+use Rattle.pk_words.specs.Views.{stop_view}
 use Rattle.pk_words.specs.Board.{why_of, NamesLimit, IsCause, IsBoard}
 use Rattle.pk_words.specs.Told.{IsIdle, Stopping, StopFound}
 use Rattle.pk_words.proofs.Stops.{stops, stop_loads, word_fits}
-use Rattle.pk_board.specs.Boards.{BoardView, PassView, IsKept}
-use Rattle.pk_board.specs.Stops.{IsStop, IsStopped, IsGoing}
+use Rattle.pk_board.specs.Boards.{IsKept}
+use Rattle.pk_board.specs.Stops.{IsStop}
 
 pub names_limit : {C : Type 0} (b : Behaviour C) (w : Wiring) (why : Why) → IsCause b w why → NamesLimit w.limit why
 names_limit b w Memory cause = tt

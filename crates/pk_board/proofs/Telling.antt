@@ -1,17 +1,17 @@
 -- What calls tell, from what their steps told.
-use Rattle.std.proofs.Common.{◌≡◌, ◌≢◌, ℕ, ◌+◌, ◌-◌, ◌*◌, ◌/◌, ◌%◌, ◌<◌, ◌≤◌, ◌==◌, List, [], ◌∷◌, length, drop, max, Bool, true, false, refl, sym, ap, subst, ◌∙◌, arith, ◌⊎◌, inl, inr}
+use Rattle.std.proofs.Common.{◌≡◌, ◌≢◌, ℕ, ◌+◌, ◌-◌, ◌*◌, ◌/◌, ◌%◌, ◌≤◌, ◌==◌, [], max, Bool, refl, ap, subst, ◌∙◌, arith, inl, inr}
 use Rattle.std.specs.Bool.{MatchBool}
 use Rattle.std.proofs.lemmas.Bool.Decides.{eqb_tells}
 use Rattle.atomic_table.specs.Table.{Me}
-use Rattle.pk_plan.specs.Plans.{PlanView, end_of, successors_of}
+use Rattle.pk_plan.specs.Plans.{PlanView, end_of}
 use Rattle.pk_iterate.specs.Behaviour.{Behaviour}
 use Rattle.pk_layout.specs.Wirings.{Wiring}
 use Rattle.pk_words.specs.declared.view.View.{View}
 use Rattle.pk_words.specs.Tokens.{seen_run}
-use Rattle.pk_words.specs.Views.{note_view, claim_view, end_view, new_view}
-use Rattle.pk_words.specs.Told.{IsIdle, IsLater, Noted, Claimed, Ended}
+use Rattle.pk_words.specs.Views.{note_view, claim_view, end_view}
+use Rattle.pk_words.specs.Told.{IsIdle, Noted, Claimed, Ended}
 use Rattle.pk_words.specs.Reads.{Counts}
-use Rattle.pk_board.specs.Calls.{IsLate, IsClaimed, IsSeen, IsEnd, IsNoEnd}
+use Rattle.pk_board.specs.Calls.{IsClaimed, IsSeen, IsEnd, IsNoEnd}
 
 pub idle_at : {S : Type 0} (v : View) (new : Me S View) → new ≡ (v, []) → v.out ≡ [] → IsIdle new
 idle_at v new e h = (ap (λ (m : Me _ View). m.1) e, ap (λ (m : Me _ View). m.0.out) e ∙ h)
@@ -44,8 +44,8 @@ seen_first {S} e word me new old told is ne =
 later_than : (e word found : ℕ) (v : View) → seen_run e (note_view e word v).notes ≤ found / 1048576 → word / 1048576 ≤ found / 1048576
 later_than e word found v h = elim (eqb_tells e e) [
   | inl same ↦ (
-    let is : seen_run e (note_view e word v).notes ≡ max (word / 1048576) (seen_run e v.notes) = rw same.0 refl in
-    omega (arith, h, is))
+      let is : seen_run e (note_view e word v).notes ≡ max (word / 1048576) (seen_run e v.notes) = rw same.0 refl in
+      omega (arith, h, is))
   | inr other ↦ absurd (other.1 refl)
 ]
 

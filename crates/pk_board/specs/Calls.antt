@@ -1,5 +1,5 @@
 -- What the calls answer, by the words that they find and the views before and after.
-use Rattle.std.specs.Prelude.{◌≡◌, ◌≢◌, ℕ, ◌+◌, ◌-◌, ◌*◌, ◌/◌, ◌%◌, ◌<◌, ◌≤◌, ◌⊎◌, length, map, drop, slice_get, slice_index, Some, false, true, Bool}
+use Rattle.std.specs.Prelude.{◌≡◌, ◌≢◌, ℕ, ◌+◌, ◌-◌, ◌*◌, ◌/◌, ◌%◌, ◌<◌, ◌≤◌, ◌⊎◌, length, map, drop, slice_get, slice_index, Some, true, Bool}
 use Rattle.std.specs.List.{range_with_len}
 use Rattle.pk_plan.specs.Order.{Level}
 use Rattle.pk_plan.specs.Plans.{PlanView, end_of, successors_of}
@@ -8,9 +8,8 @@ use Rattle.pk_iterate.specs.Behaviour.{Behaviour}
 use Rattle.pk_iterate.specs.Runs.{values_read}
 use Rattle.pk_iterate.specs.Ending.{Ends, trace, result_cell, result_count}
 use Rattle.pk_iterate.specs.Outcome.{Outcome}
-use Rattle.pk_core.specs.Events.{inner}
 use Rattle.pk_core.specs.Orders.{IsOrderOf}
-use Rattle.pk_layout.specs.Layouts.{LayoutView, first_of}
+use Rattle.pk_layout.specs.Layouts.{first_of}
 use Rattle.pk_layout.specs.Wirings.{Wiring}
 use Rattle.pk_words.specs.declared.view.View.{View}
 use Rattle.pk_words.specs.Tokens.{seen_run}
@@ -115,7 +114,7 @@ abbrev pub IsArmed : {C : Type 0} → Behaviour C → Wiring → ResettingView �
 IsArmed b w r old new (More rest) =
     (rest ≡ record { exit = r.exit; left = r.left - 1 }) × (1 < r.left)
     × ((word : ℕ) × (word % 1048576 ≡ 262145) × IsLate (slice_index (members_at w.plan r.exit) (r.left - 1)) word old
-        × (new ≡ arm_view r.exit (r.left - 1) (slice_index (members_at w.plan r.exit) (r.left - 1)) word old))
+    × (new ≡ arm_view r.exit (r.left - 1) (slice_index (members_at w.plan r.exit) (r.left - 1)) word old))
 IsArmed b w r old new (Head hold) =
     (r.left ≡ 1) × (hold.element ≡ slice_index (members_at w.plan r.exit) 0) × Counts b w hold.element hold.run × (seen_run hold.element old.notes ≤ hold.run)
     × (new ≡ head_view r.exit hold.element (hold.run * 1048576 + 262145) old)

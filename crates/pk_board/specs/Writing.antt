@@ -5,8 +5,7 @@ use Rattle.pk_plan.specs.Shape.{has}
 use Rattle.pk_layout.specs.Layouts.{first_of, owner_of}
 use Rattle.pk_layout.specs.Wirings.{Wiring}
 use Rattle.pk_words.specs.declared.view.View.{View}
-use Rattle.pk_words.specs.Views.{AllRight, slots_in, take_view}
-use Rattle.pk_words.specs.Tokens.{times}
+use Rattle.pk_words.specs.Views.{AllRight, slots_in}
 
 -- The pass is writing e's slots, of which those from `from` on are out with the new cell; all else that it knows is as it was.
 pub record IsWriting {C S : Type 0} (value : S → C) (w : Wiring) (e : ℕ) (c : C) (from : ℕ) (old : View) (me : Me S View) : Type 0 where

@@ -9,9 +9,7 @@ use crate::passes::Pass;
 use crate::results::Results;
 use atomic_table::Table;
 use pk_iterate::System;
-use pk_words::{
-    Finished, Hold, Parts, Rule, Subject, View, exchange_told, load_told, store_told,
-};
+use pk_words::{Finished, Hold, Parts, Rule, Subject, View, exchange_told, load_told, store_told};
 use std::alloc::Global;
 use std::marker::{Brand, Model};
 use std::sync::Arc;

@@ -19,11 +19,7 @@ use std::alloc::Global;
 use std::sync::Arc;
 
 // Takes the cells out of some slots, of which the first is kept.
-fn take_slots<C: Drop>(
-    closed: &mut Closed<Arc<C>, Global>,
-    from: usize,
-    end: usize,
-) -> Arc<C>
+fn take_slots<C: Drop>(closed: &mut Closed<Arc<C>, Global>, from: usize, end: usize) -> Arc<C>
     requires some { from < end }
     requires within { end ≤ slots_len closed.old.slots }
     requires full { (k : ℕ) → from ≤ k → k < end → slice_index_or (slots_filled closed.old.slots) k false ≡ true }

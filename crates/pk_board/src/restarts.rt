@@ -123,12 +123,7 @@ impl<'a, Y: System> Board<'a, Y> {
     }
 
     /// Ends a run of an exit whose component is to be gone through again.
-    pub fn again(
-        &self,
-        pass: &mut Pass<Y::Cell>,
-        hold: Hold,
-        copies: Copies<Y::Cell>,
-    ) -> Resetting
+    pub fn again(&self, pass: &mut Pass<Y::Cell>, hold: Hold, copies: Copies<Y::Cell>) -> Resetting
         requires of_board { pass.old.table ≡ self.now.table }
         requires element { hold.element < self.now.subject.wiring.plan.elements }
         requires held { HasHold pass.old.view hold.element hold.run }

@@ -144,7 +144,11 @@ impl<'a, Y: System> Board<'a, Y> {
         ensures view { pass.new.view ≡ done_view hold.element ((hold.run + 1) * 1048576 + 262145) (successors_of self.now.subject.wiring.plan hold.element) pass.old.view }
     {
         let element = hold.element();
-        let Copies { element: _, first, further } = copies;
+        let Copies {
+            element: _,
+            first,
+            further,
+        } = copies;
         self.put_all(&mut pass.seat, element, first, further);
         store_told::<_, _, _, Brand>(
             &self.table.shared,

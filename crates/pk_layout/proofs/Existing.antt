@@ -1,18 +1,16 @@
 -- Each plan that a system fits has slots.
-use Rattle.std.proofs.Common.{◌≡◌, ◌≢◌, ℕ, zero, suc, ◌+◌, ◌<◌, ◌≤◌, ◌⊎◌, inl, inr, ◌^◌, List, [], ◌∷◌, ◌++◌, length, get_or, refl, sym, ap, subst, ◌∙◌, arith, All, Contains, add-one}
+use Rattle.std.proofs.Common.{◌≡◌, ℕ, zero, suc, ◌+◌, ◌<◌, ◌≤◌, ◌⊎◌, inl, inr, List, [], ◌∷◌, ◌++◌, length, get_or, refl, ap, subst, ◌∙◌, arith, add-one}
 use lib.ListN.{set}
-use Rattle.std.proofs.lemmas.List.Elements.{All-from_get_or, Contains-get_or, All-contains}
-use Rattle.pk_plan.specs.declared.components.Component.{Component}
-use Rattle.pk_plan.specs.Plans.{PlanView, Constrains, Precedes, One, More}
+use Rattle.std.proofs.lemmas.List.Elements.{All-from_get_or, Contains-get_or}
+use Rattle.pk_plan.specs.Plans.{PlanView, Precedes, One, More}
 use Rattle.pk_plan.specs.Axioms.{Axioms}
-use Rattle.pk_plan.proofs.PlanLemmas.{Stands, stands_inside, exit_within, constrains_from}
+use Rattle.pk_plan.proofs.PlanLemmas.{stands_inside, exit_within, constrains_from}
 use Rattle.pk_iterate.specs.Behaviour.{Behaviour, ReadsWithin}
-use Rattle.pk_iterate.specs.Fits.{FitsPlan, IsHeadOver}
+use Rattle.pk_iterate.specs.Fits.{IsHeadOver}
 use Rattle.pk_layout.specs.Gathered.{gathered, AreStarts, as_often, owned_by, times, slot_of_read, AreGiven, HaveSlots}
 use Rattle.pk_layout.specs.Layouts.{LayoutView, IsLaidOut}
-use Rattle.pk_layout.specs.Wirings.{IsWired}
 use Rattle.pk_layout.specs.Exists.{FitsReadWithin, EveryPlanIsWired}
-use Rattle.pk_layout.proofs.Lists.{gathered_more, length_more, starts_none, starts_more, stands_at}
+use Rattle.pk_layout.proofs.Lists.{length_more, starts_none, starts_more, stands_at}
 use Rattle.pk_layout.proofs.Giving_more.{given_none, given_more}
 use Rattle.pk_layout.proofs.Laying.{AreParts, have_slots, laid_out}
 

@@ -1,9 +1,9 @@
 -- Lists of the elements, one after another: where each one's items stand.
-use Rattle.std.proofs.Common.{◌≡◌, ◌≢◌, ℕ, zero, suc, ◌+◌, ◌-◌, ◌<◌, ◌≤◌, ◌==◌, List, [], ◌∷◌, ◌++◌, length, take, get_or, replicate, slice_index, count_by, Bool, true, false, refl, sym, ap, subst, ◌∙◌, arith, inl, inr, ◌⊎◌, All, add-one, length-append}
-use Rattle.std.proofs.lemmas.List.{get_or-append-add, get_or_append_left, length-replicate, get_or-replicate, replicate_more, append-nil}
+use Rattle.std.proofs.Common.{◌≡◌, ℕ, zero, suc, ◌+◌, ◌<◌, ◌≤◌, List, [], ◌∷◌, ◌++◌, length, get_or, refl, sym, ap, ◌∙◌, arith, inl, inr, ◌⊎◌, All, add-one, length-append}
+use Rattle.std.proofs.lemmas.List.{get_or-append-add, get_or_append_left}
 use Rattle.std.proofs.lemmas.Bool.{cases_lt}
 use Rattle.std.proofs.lemmas.List.Elements.{All-append, All-nil}
-use Rattle.pk_layout.specs.Gathered.{gathered, AreStarts, as_often, owned_by, times}
+use Rattle.pk_layout.specs.Gathered.{gathered, AreStarts}
 
 pub gathered_more : (lists : ℕ → List ℕ) (n : ℕ) → gathered lists (n + 1) ≡ gathered lists n ++ lists n
 gathered_more lists n = ap (gathered lists) (add-one n)
@@ -23,11 +23,11 @@ pub stands_at : (lists : ℕ → List ℕ) (n e i d : ℕ) → e < n → i < len
 stands_at lists zero e i d h g = absurd (omega (arith, h))
 stands_at lists (suc n) e i d h g = elim (cases_lt e n) [
   | inl below ↦ (
-    let more = no_longer lists (e + 1) n (omega (arith, below)) in
-    get_or_append_left (gathered lists n) (lists n) d (length (gathered lists e) + i) (omega (arith, more, length_more lists e, g)) ∙ stands_at lists n e i d below g)
+      let more = no_longer lists (e + 1) n (omega (arith, below)) in
+      get_or_append_left (gathered lists n) (lists n) d (length (gathered lists e) + i) (omega (arith, more, length_more lists e, g)) ∙ stands_at lists n e i d below g)
   | inr above ↦ (
-    let same : e ≡ n = omega (arith, h, above) in
-    ap (λ (k : ℕ). get_or (gathered lists n ++ lists n) (length (gathered lists k) + i) d) same ∙ get_or-append-add (gathered lists n) (lists n) i d ∙ ap (λ (k : ℕ). get_or (lists k) i d) (sym same))
+      let same : e ≡ n = omega (arith, h, above) in
+      ap (λ (k : ℕ). get_or (gathered lists n ++ lists n) (length (gathered lists k) + i) d) same ∙ get_or-append-add (gathered lists n) (lists n) i d ∙ ap (λ (k : ℕ). get_or (lists k) i d) (sym same))
 ]
 
 -- each place lies in the list of some element

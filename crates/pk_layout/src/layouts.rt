@@ -31,11 +31,7 @@ impl Model for Layout {
 
 impl Layout {
     /// The slots of so many elements, in time and memory linear in elements and reads.
-    pub fn new<Y: System>(
-        alloc: Global,
-        system: &Y,
-        elements: u32,
-    ) -> Result<Layout, AllocError>
+    pub fn new<Y: System>(alloc: Global, system: &Y, elements: u32) -> Result<Layout, AllocError>
         requires { ReadsWithin (Y.meaning system.now) elements }
         ensures { IfOk result (IsLaidOut (Y.meaning system.now) elements) }
     {
@@ -43,7 +39,13 @@ impl Layout {
         let counts = counted(alloc, &reads.targets, elements)?;
         let slots = own_slots(alloc, &counts, elements)?;
         let mut readers = Vec::from_slice(alloc, &slots.owners)?;
-        let inputs = give(alloc, &slots.first, &reads.targets, &reads.sources, &mut readers)?;
+        let inputs = give(
+            alloc,
+            &slots.first,
+            &reads.targets,
+            &reads.sources,
+            &mut readers,
+        )?;
         Ok(Layout {
             first: slots.first,
             owners: slots.owners,

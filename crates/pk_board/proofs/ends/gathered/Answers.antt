@@ -1,14 +1,14 @@
-use Rattle.std.proofs.Common.{◌≡◌, ℕ, ◌+◌, ◌/◌, ◌<◌, ◌≤◌, ◌⊎◌, inl, inr, List, [], ◌∷◌, ◌++◌, length, map, get_or, true, false, refl, sym, ap, subst, ◌∙◌, arith, length-append}
+use Rattle.std.proofs.Common.{◌≡◌, ℕ, ◌+◌, ◌/◌, ◌<◌, inl, inr, [], ◌∷◌, length, map, sym, ap, ◌∙◌, arith, length-append}
 use Rattle.std.specs.Arc.{arc_value}
 use Rattle.std.specs.List.{range_with_len}
-use Rattle.std.specs.Mem.Slots.{slots_items, slots_filled, slots_len}
+use Rattle.std.specs.Mem.Slots.{slots_items}
 use Rattle.std.proofs.lemmas.Bool.{cases_lt}
 use mathlib.Core.Option.{some}
 use lib.ListN.{get_elem?}
 use Rattle.pk_plan.specs.Plans.{PlanView}
 use Rattle.pk_iterate.specs.Ending.{result_cell, result_count}
 use Rattle.pk_iterate.proofs.Lists.{map_more}
-use Rattle.pk_layout.specs.Layouts.{LayoutView, first_of, slots_of}
+use Rattle.pk_layout.specs.Layouts.{LayoutView, first_of}
 use Rattle.pk_board.proofs.Ending_board.{ends_within}
 use Rattle.pk_board.proofs.ends.gathered.Goals as goal
 
@@ -40,9 +40,9 @@ loop-e-preserved g c =
     let cells = ap (λ r. r.cells) c.add.ensures in
     let runs = ap (λ r. r.runs) c.add.ensures in
     let cell_at : get_elem? (slots_items c.args.closed.slots) (first_of l e) ≡ some c.take_slots-cell.result =
-        ap (λ (k : ℕ). get_elem? (slots_items c.args.closed.slots) k) (sym start) ∙ ap (λ xs. get_elem? xs c.first_slot-from.result) (sym i.items) ∙ took.cell in
+    ap (λ (k : ℕ). get_elem? (slots_items c.args.closed.slots) k) (sym start) ∙ ap (λ xs. get_elem? xs c.first_slot-from.result) (sym i.items) ∙ took.cell in
     let word_at : get_elem? (slots_items c.args.closed.words) (e + 2) ≡ some c.word-run.result =
-        ap (λ ws. get_elem? (slots_items ws) (e + 2)) (sym (took.words ∙ i.words)) ∙ c.word-run.ensures in
+    ap (λ ws. get_elem? (slots_items ws) (e + 2)) (sym (took.words ∙ i.words)) ∙ c.word-run.ensures in
     record {
       items = took.items ∙ i.items;
       long = took.long ∙ i.long;

@@ -1,10 +1,9 @@
-use Rattle.std.proofs.Common.{◌≡◌, ℕ, ◌+◌, ◌<◌, ◌≤◌, ◌==◌, length, get_or, take, ◌∙◌, arith}
+use Rattle.std.proofs.Common.{◌≡◌, ◌+◌, ◌<◌, ◌==◌, length, get_or, take, ◌∙◌, arith}
 use Rattle.std.proofs.lemmas.Grind.{get_or_default_zero}
 use Rattle.std.proofs.lemmas.List.{length-set, length-take-le}
 use Rattle.std.proofs.lemmas.List.Elements.{All-get_or}
 use Rattle.std.proofs.lemmas.List.Sums.{count_by-le-length}
-use Rattle.pk_layout.specs.Gathered.{times}
-use Rattle.pk_layout.proofs.Counting.{counted_more, times_all}
+use Rattle.pk_layout.proofs.Counting.{counted_more}
 use Rattle.pk_layout.proofs.gathering.counted.Goals as goal
 
 pub overflow_add-index_mut : goal.overflow_add-index_mut
@@ -29,8 +28,8 @@ loop-u-preserved c =
     let at = get_or_default_zero c.loop-u.counts.items u c.index_mut.result.now within in
     let is : c.index_mut.result.now + 1 ≡ get_or c.loop-u.counts.items u 0 + 1 = omega (arith, c.index_mut.ensures.value, at) in
     record {
-  long = length-set c.loop-u.counts.items u (c.index_mut.result.now + 1) ∙ long;
-  each = λ v in_range. (
-    let r = counted_more (λ _. 0) c.loop-u.counts.items xs i (c.index_mut.result.now + 1) c.loop-u-test.true within (λ w h. omega (arith, c.loop-u.invariant.each w (omega (arith, h, long)))) is v (omega (arith, in_range, long)) in
-    omega (arith, r));
-}
+      long = length-set c.loop-u.counts.items u (c.index_mut.result.now + 1) ∙ long;
+      each = λ v in_range. (
+          let r = counted_more (λ _. 0) c.loop-u.counts.items xs i (c.index_mut.result.now + 1) c.loop-u-test.true within (λ w h. omega (arith, c.loop-u.invariant.each w (omega (arith, h, long)))) is v (omega (arith, in_range, long)) in
+          omega (arith, r));
+    }

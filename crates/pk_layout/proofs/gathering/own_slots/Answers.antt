@@ -10,13 +10,13 @@ loop-e-preserved c =
     let e = c.loop-e.e in
     let count = get_or c.args.counts.now e 0 in
     let owners : c.push-in-loop-e.new.self.items ≡ gathered lists (e + 1) =
-        c.in_ok-push-2.ensures.items
-        ∙ ap (λ (xs : List ℕ). xs ++ e ∷ []) c.in_ok-push_times.ensures
-        ∙ append_assoc c.loop-e.owners.items (replicate count e) (e ∷ [])
-        ∙ ap (λ (xs : List ℕ). c.loop-e.owners.items ++ xs) (replicate_more count e)
-        ∙ ap (λ (xs : List ℕ). xs ++ replicate (count + 1) e) c.loop-e.invariant.owners
-        ∙ sym (gathered_more lists e) in
+    c.in_ok-push-2.ensures.items
+    ∙ ap (λ (xs : List ℕ). xs ++ e ∷ []) c.in_ok-push_times.ensures
+    ∙ append_assoc c.loop-e.owners.items (replicate count e) (e ∷ [])
+    ∙ ap (λ (xs : List ℕ). c.loop-e.owners.items ++ xs) (replicate_more count e)
+    ∙ ap (λ (xs : List ℕ). xs ++ replicate (count + 1) e) c.loop-e.invariant.owners
+    ∙ sym (gathered_more lists e) in
     record {
-  owners = owners;
-  first = subst (AreStarts lists (e + 1)) (sym c.in_ok-push-3.ensures.items) (starts_more lists e c.loop-e.first.items c.len.result c.loop-e.invariant.first (c.len.ensures ∙ c.push-in-loop-e.new.self.ok.0 ∙ ap length owners));
-}
+      owners = owners;
+      first = subst (AreStarts lists (e + 1)) (sym c.in_ok-push-3.ensures.items) (starts_more lists e c.loop-e.first.items c.len.result c.loop-e.invariant.first (c.len.ensures ∙ c.push-in-loop-e.new.self.ok.0 ∙ ap length owners));
+    }

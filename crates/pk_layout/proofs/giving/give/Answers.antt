@@ -1,4 +1,4 @@
-use Rattle.std.proofs.Common.{◌≡◌, ℕ, ◌+◌, ◌<◌, ◌++◌, List, [], ◌∷◌, length, get_or, take, sym, ap, subst, ◌∙◌, arith}
+use Rattle.std.proofs.Common.{◌≡◌, ℕ, ◌+◌, ◌<◌, List, length, get_or, sym, ap, subst, ◌∙◌, arith}
 use lib.ListN.{set}
 use Rattle.std.proofs.lemmas.Grind.{get_or_default_zero}
 use Rattle.std.proofs.lemmas.List.{length-set}
@@ -22,11 +22,11 @@ loop-j-preserved c =
     let found : c.index.result.now ≡ get_or next u 0 = c.index.ensures ∙ at in
     let is : slot ≡ slot_of_read first targets j = omega (arith, found, c.loop-j.invariant.next u low, times_next targets j c.loop-j-test.true) in
     record {
-  as_many = length-set next u slot ∙ many;
-  next = λ v in_range. counted_more (λ w. get_or first w 0) next targets j slot c.loop-j-test.true (omega (arith, low, many)) (λ w h. c.loop-j.invariant.next w (omega (arith, h, many))) (ap (λ (k : ℕ). k + 1) found) v (omega (arith, in_range, many));
-  given = subst (λ (xs : List ℕ). AreGiven first targets sources c.args.readers.now.items (j + 1) xs (set c.loop-j.readers.items slot (get_or sources j 0))) (sym c.in_ok-push.ensures.items)
-    (given_more first targets sources c.args.readers.now.items j slot c.loop-j.inputs.items c.loop-j.readers.items c.requires c.loop-j-test.true is c.loop-j.invariant.given);
-}
+      as_many = length-set next u slot ∙ many;
+      next = λ v in_range. counted_more (λ w. get_or first w 0) next targets j slot c.loop-j-test.true (omega (arith, low, many)) (λ w h. c.loop-j.invariant.next w (omega (arith, h, many))) (ap (λ (k : ℕ). k + 1) found) v (omega (arith, in_range, many));
+      given = subst (λ (xs : List ℕ). AreGiven first targets sources c.args.readers.now.items (j + 1) xs (set c.loop-j.readers.items slot (get_or sources j 0))) (sym c.in_ok-push.ensures.items)
+          (given_more first targets sources c.args.readers.now.items j slot c.loop-j.inputs.items c.loop-j.readers.items c.requires c.loop-j-test.true is c.loop-j.invariant.given);
+    }
 
 pub returns : goal.returns
 returns c =

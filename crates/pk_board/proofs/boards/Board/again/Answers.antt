@@ -1,4 +1,4 @@
-use Rattle.std.proofs.Common.{◌≡◌, sym, subst}
+use Rattle.std.proofs.Common.{sym, subst}
 use Rattle.std.specs.Arc.{arc_value}
 use Rattle.pk_board.specs.Calls.{IsResetting}
 use Rattle.pk_board.proofs.Restarting.{copies_same}

@@ -1,4 +1,4 @@
-use Rattle.std.proofs.Common.{◌≡◌, ◌∙◌, ap, sym}
+use Rattle.std.proofs.Common.{◌∙◌, ap, sym}
 use Rattle.std.specs.Arc.{arc_value}
 use Rattle.pk_board.proofs.Asking.{at_board}
 use Rattle.pk_board.proofs.Restarting.{arm_asked}

@@ -1,4 +1,4 @@
-use Rattle.std.proofs.Common.{◌≡◌, ℕ, ◌∙◌, ◌+◌, ◌<◌, List, length, get_or, ap, sym, subst, refl, arith}
+use Rattle.std.proofs.Common.{◌≡◌, ℕ, ◌∙◌, ◌+◌, ◌<◌, List, length, get_or, ap, sym, subst, arith}
 use Rattle.std.specs.Arc.{arc_value}
 use Rattle.pk_plan.specs.Plans.{PlanView, successors_of}
 use Rattle.pk_words.specs.Views.{HasSending}

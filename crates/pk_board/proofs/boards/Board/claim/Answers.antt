@@ -1,9 +1,9 @@
-use Rattle.std.proofs.Common.{◌≡◌, ◌∙◌, ◌%◌, ap, sym, subst, rules}
+use Rattle.std.proofs.Common.{◌∙◌, ap, sym, subst, rules}
 use Rattle.std.specs.Arc.{arc_value}
 use Rattle.pk_words.specs.Told.{Claimed}
 use Rattle.pk_board.specs.Calls.{IsClaimed}
 use Rattle.pk_board.proofs.Asking.{at_board, own_table, load_asked, claim_asked}
-use Rattle.pk_board.proofs.Telling.{note_idle, claim_idle, seen_first, seen_second, is_claimed}
+use Rattle.pk_board.proofs.Telling.{note_idle, seen_first, is_claimed}
 use Rattle.pk_board.proofs.boards.Board.claim.Goals as goal
 
 pub load_told-found-requires : goal.load_told-found-requires

@@ -1,10 +1,8 @@
-use Rattle.std.proofs.Common.{◌≡◌, ℕ, ◌∙◌, ◌<◌, List, length, rules, ap, sym, subst, refl, false}
+use Rattle.std.proofs.Common.{◌≡◌, ℕ, ◌∙◌, ◌<◌, length, ap, sym, subst, refl, false}
 use Rattle.std.specs.Arc.{arc_value}
-use Rattle.pk_layout.specs.Layouts.{first_of}
-use Rattle.pk_plan.specs.Plans.{PlanView, end_of, successors_of}
+use Rattle.pk_plan.specs.Plans.{PlanView, successors_of}
 use Rattle.pk_words.specs.Views.{HasHold}
 use Rattle.pk_board.specs.Calls.{IsRunCell}
-use Rattle.pk_board.specs.Writing.{IsWriting}
 use Rattle.pk_board.proofs.Asking.{at_board, own_table, done_asked}
 use Rattle.pk_board.proofs.Ending_plan.{is_end, has_none, empty_is, some_is}
 use Rattle.pk_board.proofs.Writing_slots.{copies_are}

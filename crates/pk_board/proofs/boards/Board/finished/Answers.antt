@@ -1,4 +1,4 @@
-use Rattle.std.proofs.Common.{◌≡◌, ◌∙◌, ◌+◌, ◌%◌, ap, sym, subst, rules, ◌-◌}
+use Rattle.std.proofs.Common.{◌∙◌, ap, subst, rules, ◌-◌}
 use Rattle.std.specs.Arc.{arc_value}
 use Rattle.pk_plan.specs.Plans.{PlanView, end_of}
 use Rattle.pk_words.specs.Told.{Ended}

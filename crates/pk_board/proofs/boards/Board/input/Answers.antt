@@ -1,11 +1,10 @@
-use Rattle.std.proofs.Common.{◌≡◌, ℕ, ◌+◌, ◌<◌, List, [], ◌∷◌, sym, ap, ◌∙◌, subst, arith, slice_get, Some}
+use Rattle.std.proofs.Common.{◌≡◌, ℕ, ◌+◌, ◌<◌, List, ◌∷◌, sym, ap, ◌∙◌, subst, slice_get, Some}
 use Rattle.std.specs.Arc.{arc_value}
 use Rattle.pk_layout.specs.Layouts.{LayoutView, IsInputSlot, input_of, owner_of}
 use Rattle.pk_words.specs.Views.{HasHold}
 use Rattle.pk_words.specs.Reads.{IsReadAt}
-use Rattle.pk_board.specs.Calls.{IsInput}
 use Rattle.pk_board.proofs.Asking.{at_board, own_table, input_asked, give_asked}
-use Rattle.pk_board.proofs.Reading_told.{TookInput, if_ok, is_glance, is_input}
+use Rattle.pk_board.proofs.Reading_told.{TookInput, if_ok, is_input}
 use Rattle.pk_board.proofs.boards.Board.input.Goals as goal
 
 pub input_told-requires : goal.input_told-requires
@@ -78,9 +77,9 @@ returns-clause-input g c =
     let there = c.input_told.ensures.2 in
     let told' = subst (λ k. TookInput (g.Y.System.meaning k.system) k.wiring arc_value c.element-element.result c.run.result c.args.place (owner_of k.wiring.layout slot) slot x seen seat.me c.input_told.new.seat.me) kept.about (there.2, there.3, there.4, there.5) in
     let told = subst (λ (j : ℕ). TookInput b w arc_value j hold.run c.args.place u slot x seen seat.me c.input_told.new.seat.me) c.element-element.ensures
-        (subst (λ (r : ℕ). TookInput b w arc_value c.element-element.result r c.args.place u slot x seen seat.me c.input_told.new.seat.me) c.run.ensures told') in
+    (subst (λ (r : ℕ). TookInput b w arc_value c.element-element.result r c.args.place u slot x seen seat.me c.input_told.new.seat.me) c.run.ensures told') in
     let at : slot ≡ input_of w.layout hold.element c.args.place = c.input_slot-slot.ensures ∙ ap (λ (m : LayoutView). input_of m c.element-element.result c.args.place) (c.layout.ensures ∙ ap (λ d. d.subject.wiring.layout) c.self.view_is) ∙ ap (λ (j : ℕ). input_of w.layout j c.args.place) c.element-element.ensures in
     let input : slice_get (b.reads hold.element) c.args.place ≡ Some u = (kept.wired.laid_out.inputs hold.element c.args.place c.requires.element c.requires.place).1 ∙ ap (λ (k : ℕ). Some (owner_of w.layout k)) (sym at) in
     let slots = ap (λ m. m.1) c.input_told.ensures.2.2 ∙ ap (λ xs. (slot, c.input_told.ensures.2.0) ∷ xs) c.pass.invariant.0 in
     if_ok _ _ c.read_slot-cell.result (λ a h. is_input b w arc_value hold c.args.place u slot c.give_told.result x seen seat.me c.input_told.new.seat.me c.read_slot-cell.new.seat.me c.give_told.new.seat.me c.args.pass.now.view (arc_value a)
-        told c.read_slot-cell.ensures.same.2 c.give_told.ensures.2 (ap (λ p. p.view) c.pass.view_is) input (h x slots)) c.read_slot-cell.ensures.value
+    told c.read_slot-cell.ensures.same.2 c.give_told.ensures.2 (ap (λ p. p.view) c.pass.view_is) input (h x slots)) c.read_slot-cell.ensures.value

@@ -1,4 +1,4 @@
-use Rattle.std.proofs.Common.{◌≡◌, ℕ, ◌∙◌, ◌<◌, ap, sym, subst, refl}
+use Rattle.std.proofs.Common.{ℕ, ◌∙◌, ◌<◌, ap, sym, subst, refl}
 use Rattle.std.specs.Arc.{arc_value}
 use Rattle.pk_words.specs.Views.{HasHold, offer_view}
 use Rattle.pk_board.proofs.Asking.{at_board, own_table, offer_asked}

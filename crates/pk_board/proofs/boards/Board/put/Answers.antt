@@ -1,4 +1,4 @@
-use Rattle.std.proofs.Common.{◌≡◌, ◌+◌, ◌<◌, ◌≤◌, ◌∷◌, sym, ap, ◌∙◌, refl, subst, arith, false}
+use Rattle.std.proofs.Common.{◌≡◌, ◌<◌, ◌∷◌, sym, ap, ◌∙◌, refl, subst, arith, false}
 use Rattle.std.specs.Arc.{arc_value}
 use Rattle.atomic_table.specs.Table.{rest}
 use Rattle.pk_plan.specs.Shape.{has}

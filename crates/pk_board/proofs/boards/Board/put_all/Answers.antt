@@ -1,9 +1,7 @@
-use Rattle.std.proofs.Common.{◌≡◌, ◌+◌, ◌-◌, ◌<◌, [], ◌∷◌, map, length, replicate, sym, ap, ◌∙◌, refl, subst, arith}
+use Rattle.std.proofs.Common.{◌≡◌, ◌+◌, ◌-◌, [], ◌∷◌, map, length, replicate, sym, ap, ◌∙◌, refl, subst, arith}
 use Rattle.std.proofs.lemmas.List.{length-append}
 use Rattle.std.specs.Arc.{arc_value}
 use Rattle.pk_layout.specs.Layouts.{LayoutView, first_of}
-use Rattle.pk_words.specs.declared.view.View.{View}
-use Rattle.pk_words.specs.Tokens.{times}
 use Rattle.pk_board.proofs.Writing_slots.{writes_none, copies_less, writing_at}
 use Rattle.pk_board.proofs.boards.Board.put_all.Goals as goal
 

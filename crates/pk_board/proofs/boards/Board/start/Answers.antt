@@ -1,8 +1,8 @@
-use Rattle.std.proofs.Common.{rules, ◌≡◌, ℕ, sym, subst, ap, ◌∙◌, arith}
+use Rattle.std.proofs.Common.{ℕ, sym, subst, arith}
 use Rattle.std.specs.Arc.{arc_value}
 use Rattle.atomic_table.specs.Table.{opening}
 use Rattle.pk_iterate.specs.Behaviour.{ReadsWithin}
-use Rattle.pk_layout.specs.Layouts.{IsLaidOut, owner_of}
+use Rattle.pk_layout.specs.Layouts.{IsLaidOut}
 use Rattle.pk_layout.specs.Wirings.{Wiring, IsWired}
 use Rattle.pk_layout.proofs.Existing.{reads_within}
 use Rattle.pk_words.specs.Board.{IsBoard}

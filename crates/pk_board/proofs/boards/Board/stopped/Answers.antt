@@ -1,4 +1,3 @@
-use Rattle.std.proofs.Common.{◌≡◌, ◌∙◌, ap, sym, subst, Some}
 use Rattle.std.specs.Arc.{arc_value}
 use Rattle.pk_board.proofs.Asking.{at_board, own_table}
 use Rattle.pk_board.proofs.Stopping.{stopped_asked, word_asked}
