@@ -9,17 +9,13 @@ use crate::passes::Pass;
 use crate::results::Results;
 use atomic_table::Table;
 use pk_iterate::System;
-use pk_words::{Finished, Hold, Parts, Rule, Subject, View, exchange_told, load_told, store_told};
+use pk_words::{
+    DONE, Finished, Hold, OPEN, Parts, RUN, Rule, Subject, View, exchange_told, load_told,
+    store_told,
+};
 use std::alloc::Global;
 use std::marker::{Brand, Model};
 use std::sync::Arc;
-
-// A word is a run number times RUN, and a low part.
-pub const RUN: u64 = 1048576;
-
-pub const OPEN: u64 = 262144;
-
-pub const DONE: u64 = 262145;
 
 /// A word for each element of a plan, and a slot for each cell that an element writes or reads. Any number of passes may call it at once.
 pub struct Board<'a, Y: System> {

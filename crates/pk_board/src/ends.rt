@@ -9,12 +9,12 @@ ghost use Rattle.pk_layout.specs.Layouts.{slots_of};
 ghost use Rattle.pk_words.specs.Reads.{AreResult};
 ghost use Rattle.pk_board.specs.Calls.{IsOutcome};
 
-use crate::boards::{Board, RUN};
+use crate::boards::Board;
 use crate::passes::Pass;
 use crate::results::Results;
 use atomic_table::Closed;
 use pk_iterate::{Cells, System};
-use pk_words::{Finished, Subject};
+use pk_words::{Finished, RUN, Subject};
 use std::alloc::Global;
 use std::sync::Arc;
 

@@ -13,12 +13,12 @@ ghost use Rattle.pk_board.specs.Calls.{AreCopies, IsRunCell, IsResetting, IsArme
 ghost use Rattle.pk_board.specs.Writing.{IsWriting};
 
 use crate::answers::Armed;
-use crate::boards::{Board, DONE, RUN};
+use crate::boards::Board;
 use crate::copies::Copies;
 use crate::passes::Pass;
 use atomic_table::Seat;
 use pk_iterate::System;
-use pk_words::{Hold, Resetting, View, arm_head_told, arm_told, store_told};
+use pk_words::{DONE, Hold, RUN, Resetting, View, arm_head_told, arm_told, store_told};
 use std::marker::Brand;
 use std::sync::Arc;
 

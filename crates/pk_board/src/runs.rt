@@ -12,12 +12,12 @@ ghost use Rattle.pk_words.specs.Views.{HasHold, done_view};
 ghost use Rattle.pk_board.specs.Calls.{AreCopies, IsGlance, IsInput, IsRunCell};
 ghost use Rattle.pk_board.specs.Writing.{IsWriting};
 
-use crate::boards::{Board, DONE, RUN};
+use crate::boards::Board;
 use crate::copies::{Copies, copied};
 use crate::passes::Pass;
 use atomic_table::Seat;
 use pk_iterate::System;
-use pk_words::{Hold, Sending, View, give_told, input_told, store_told, take_told};
+use pk_words::{DONE, Hold, RUN, Sending, View, give_told, input_told, store_told, take_told};
 use std::alloc::{AllocError, Global};
 use std::marker::Brand;
 use std::sync::Arc;

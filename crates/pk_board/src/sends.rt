@@ -5,10 +5,10 @@ ghost use Rattle.pk_words.specs.Views.{HasSending};
 ghost use Rattle.pk_board.specs.Calls.{IsArrived, IsGotOf, IsSending};
 
 use crate::answers::{Arrived, Got};
-use crate::boards::{Board, RUN};
+use crate::boards::Board;
 use crate::passes::Pass;
 use pk_iterate::System;
-use pk_words::{Hold, Sending, decrement_told};
+use pk_words::{Hold, RUN, Sending, decrement_told};
 use std::marker::Brand;
 
 impl<'a, Y: System> Board<'a, Y> {

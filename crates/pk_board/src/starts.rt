@@ -14,14 +14,14 @@ ghost use Rattle.pk_words.specs.Board.{low};
 ghost use Rattle.pk_words.specs.Reads.{HasEnd};
 ghost use Rattle.pk_words.specs.Views.{first_view};
 
-use crate::boards::{Board, OPEN};
+use crate::boards::Board;
 use crate::passes::Pass;
 use crate::results::reserved;
 use atomic_table::Table;
 use pk_iterate::System;
 use pk_layout::Layout;
 use pk_plan::Plan;
-use pk_words::Subject;
+use pk_words::{OPEN, Subject};
 use std::alloc::{AllocError, Global};
 use std::sync::Arc;
 
