@@ -25,6 +25,17 @@ use pk_words::{OPEN, Subject};
 use std::alloc::{AllocError, Global};
 use std::sync::Arc;
 
+/// The word of an element at the start.
+fn start_word(plan: &Plan, e: u32) -> u64
+    requires { e < plan.now.elements }
+    ensures { result ≡ low (start_status (predecessors_of plan.now e)) }
+{
+    match plan.full(e) {
+        0 => OPEN,
+        count => count as u64,
+    }
+}
+
 /// The words at the start: an element without predecessors is open, any other waits for all of them.
 fn start_words(alloc: Global, plan: &Plan) -> Result<Vec<u64>, AllocError>
     ensures long { IfOk result (λ v. length v.items ≡ plan.now.elements + 2) }
@@ -35,8 +46,7 @@ fn start_words(alloc: Global, plan: &Plan) -> Result<Vec<u64>, AllocError>
     words.push(0)?;
     words.push(0)?;
     for e in 0..plan.elements() {
-        let count = plan.full(e);
-        words.push(if count == 0 { OPEN } else { count as u64 })?;
+        words.push(start_word(plan, e))?;
     }
     Ok(words)
 }
