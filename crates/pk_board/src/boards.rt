@@ -18,6 +18,7 @@ use std::marker::{Brand, Model};
 use std::sync::Arc;
 
 /// A word for each element of a plan, and a slot for each cell that an element writes or reads. Any number of passes may call it at once.
+#[derive(Drop)]
 pub struct Board<'a, Y: System> {
     pub(crate) subject: Subject<'a, Y>,
     pub(crate) table: Table<Arc<Y::Cell>, View, Subject<'a, Y>, Rule, Global>,

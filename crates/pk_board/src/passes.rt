@@ -6,6 +6,7 @@ use std::marker::Model;
 use std::sync::Arc;
 
 /// What a thread calls a board with. It has the Holds and Sendings that calls gave with it.
+#[derive(Drop)]
 pub struct Pass<C> {
     pub(crate) seat: Seat<Arc<C>, View>,
 }
