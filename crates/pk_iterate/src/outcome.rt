@@ -34,6 +34,14 @@ impl<C> Cells<C> {
         Cells { cells, runs }
     }
 
+    /// These cells and numbers of runs, one for each element.
+    pub fn of(cells: Vec<Arc<C>>, runs: Vec<u64>) -> Self
+        ensures cells { result.cells ≡ map arc_value cells.items }
+        ensures runs { result.runs ≡ runs.items }
+    {
+        Cells { cells, runs }
+    }
+
     /// The cell of an element.
     pub fn cell(&self, e: u32) -> &Arc<C>
         requires { e < length self.now.cells }

@@ -1,0 +1,116 @@
+-- What the steps of a restart ask of the table, and what the calls tell.
+use Rattle.std.proofs.Common.{◌≡◌, ℕ, suc, ◌+◌, ◌-◌, ◌*◌, ◌/◌, ◌%◌, ◌^◌, ◌<◌, List, [], ◌∷◌, length, map, replicate, All, get_or, Bool, true, false, refl, sym, ap, subst, arith}
+use Rattle.atomic_table.specs.Table.{Me, Allows}
+use Rattle.atomic_table.specs.Seated.{TableId}
+use Rattle.pk_plan.specs.declared.components.Component.{Component}
+use Rattle.pk_plan.specs.Plans.{PlanView, inner_count, members_of}
+use Rattle.pk_plan.specs.Shape.{shape_of, component_of, exits}
+use Rattle.pk_iterate.specs.Behaviour.{Behaviour}
+use Rattle.pk_iterate.specs.Runs.{values_read}
+use Rattle.pk_iterate.specs.Ending.{trace}
+use Rattle.pk_core.specs.Events.{inner}
+use Rattle.pk_layout.specs.Wirings.{Wiring, IsWired}
+use Rattle.pk_layout.specs.Layouts.{first_of}
+use Rattle.pk_words.specs.declared.view.View.{View}
+use Rattle.pk_words.specs.Subjects.{SubjectView}
+use Rattle.pk_words.specs.Held.{HoldView}
+use Rattle.pk_words.specs.Views.{HasHold, HasResetting, IsGiven}
+use Rattle.pk_words.specs.Board.{head_of, members_at, IsBoard}
+use Rattle.pk_words.specs.Told.{IsIdle, Restarted, Armed, HeadArmed}
+use Rattle.pk_words.proofs.Sends.{has_get}
+use Rattle.pk_words.proofs.Wired.{member_in, member_below}
+use Rattle.pk_words.proofs.Members.{inner_small, some_members}
+use Rattle.pk_words.proofs.Restart_steps.{inner_is, restarts, arms, arms_head}
+use Rattle.pk_board.specs.Boards.{IsKept}
+use Rattle.pk_board.specs.Calls.{IsResetting, IsRunCell}
+use Rattle.pk_board.specs.Writing.{IsWriting}
+
+module _ {Y C S : Type 0} (meaning : Y → Behaviour C) (value : S → C) (subject key : SubjectView Y) (table own : TableId) where
+  pub arm_asked : (id x left e amount : ℕ) (me : Me S View) → IsKept (meaning subject.system) subject key table → own ≡ table → IsIdle me → HasResetting me.0 x (left + 1) → 0 < left → e < subject.wiring.plan.elements
+      → e ≡ get_or (members_at subject.wiring.plan x) left 0 → amount + inner (shape_of subject.wiring.plan) x e ≡ 262145
+      → (own ≡ table) × (e + 2 < table.words) × Allows (IsBoard (meaning key.system) key.wiring value) table.slots id me (e + 2) (λ n. (n + (2 ^ 64 - amount)) % 2 ^ 64) (Armed x left e me)
+  arm_asked id x left e amount me kept of no_slot reset some_left below e_is amount_is = (
+    of,
+    omega (arith, kept.words, below),
+    subst (λ k. Allows (IsBoard (meaning k.system) k.wiring value) table.slots id me (e + 2) (λ n. (n + (2 ^ 64 - amount)) % 2 ^ 64) (Armed x left e me)) (sym kept.about)
+        (arms (meaning subject.system) subject.wiring value table.slots id x left e amount me no_slot reset some_left e_is amount_is),
+  )
+
+  pub head_asked : (id x e : ℕ) (me : Me S View) → IsKept (meaning subject.system) subject key table → own ≡ table → IsIdle me → HasResetting me.0 x 1 → e < subject.wiring.plan.elements → e ≡ head_of subject.wiring.plan x
+      → (own ≡ table) × (e + 2 < table.words) × Allows (IsBoard (meaning key.system) key.wiring value) table.slots id me (e + 2) (λ n. (n + (2 ^ 64 - 262145)) % 2 ^ 64) (HeadArmed (meaning key.system) key.wiring x e me)
+  head_asked id x e me kept of no_slot reset below e_is = (
+    of,
+    omega (arith, kept.words, below),
+    subst (λ k. Allows (IsBoard (meaning k.system) k.wiring value) table.slots id me (e + 2) (λ n. (n + (2 ^ 64 - 262145)) % 2 ^ 64) (HeadArmed (meaning k.system) k.wiring x e me)) (sym kept.about)
+        (arms_head (meaning subject.system) subject.wiring value table.slots id x e me no_slot reset e_is),
+  )
+
+-- a run that goes through a component again is an exit's
+pub exit_again : {Y C : Type 0} (b : Behaviour C) (subject key : SubjectView Y) (table : TableId) (hold : HoldView) (c : C) → IsKept b subject key table → IsRunCell b subject.wiring.plan hold true c → exits subject.wiring.plan hold.element ≡ true
+exit_again {Y} {C} b subject key table hold c kept cell = by_exit (exits subject.wiring.plan hold.element) refl (cell kept.ends.0 kept.ends.1 kept.ends.2)
+  where
+    by_exit : (t : Bool) → exits subject.wiring.plan hold.element ≡ t → IsGiven b t true hold.element (values_read b (trace kept.ends.1) hold.element (hold.run + 1)) c → exits subject.wiring.plan hold.element ≡ true
+    by_exit true q h = q
+    by_exit false q h = absurd (let t = h.1 in cc)
+
+-- a member of a component, by what the plan tells of it
+pub record AtMember (w : Wiring) (plan : PlanView) (component : Component) (x left e : ℕ) : Type 0 where
+  pub below : e < w.plan.elements
+  pub listed : e < plan.elements
+  pub member : e ≡ get_or (members_at w.plan x) left 0
+  pub count : inner_count plan component e ≡ inner (shape_of w.plan) x e
+  pub small : inner_count plan component e < 262144
+
+pub at_member : {C : Type 0} (b : Behaviour C) (w : Wiring) (plan : PlanView) (component : Component) (ms : List ℕ) (x left : ℕ) → IsWired b w → plan ≡ w.plan → component ≡ component_of plan x → ms ≡ members_of plan component → exits w.plan x ≡ true → left < length (members_at w.plan x)
+    → AtMember w plan component x left (get_or ms left 0)
+at_member b w plan component ms x left wired plan_is component_is ms_is exit in_range =
+    subst (λ (l : List ℕ). AtMember w plan component x left (get_or l left 0)) (sym ms_is)
+    (subst (λ (k : Component). AtMember w plan k x left (get_or (members_of plan k) left 0)) (sym component_is)
+    (subst (λ (p : PlanView). AtMember w p (component_of p x) x left (get_or (members_of p (component_of p x)) left 0)) (sym plan_is)
+    (let below = member_below wired x (get_or (members_at w.plan x) left 0) (member_in wired x (get_or (members_at w.plan x) left 0) exit (has_get (members_at w.plan x) left in_range)) in
+    let count = inner_is wired x (get_or (members_at w.plan x) left 0) exit in
+    record {
+      below = below;
+      listed = below;
+      member = refl;
+      count = sym count;
+      small = omega (arith, count, inner_small wired x (get_or (members_at w.plan x) left 0));
+    })))
+
+pub arm_amount : (n i : ℕ) → n ≡ i → i < 262144 → 262145 - n + i ≡ 262145
+arm_amount n i same small = omega (arith, same, small)
+
+pub same_word : (word : ℕ) → word % 1048576 ≡ 262145 → word ≡ word / 1048576 * 1048576 + 262145
+same_word word is = omega (arith, is)
+
+module _ {Y C S : Type 0} (meaning : Y → Behaviour C) (value : S → C) (subject key : SubjectView Y) (table own : TableId) where
+  pub restart_asked : (id x run word : ℕ) (c : C) (old : View) (me : Me S View) → IsKept (meaning subject.system) subject key table → own ≡ table → x < subject.wiring.plan.elements → HasHold me.0 x run → run < subject.wiring.limit
+      → IsWriting value subject.wiring x c (first_of subject.wiring.layout x) old me → IsRunCell (meaning subject.system) subject.wiring.plan (record { element = x; run = run }) true c
+      → word ≡ (run + 1) * 1048576 + inner (shape_of subject.wiring.plan) x x
+      → (own ≡ table) × (x + 2 < table.words) × Allows (IsBoard (meaning key.system) key.wiring value) table.slots id me (x + 2) (λ _. word) (λ _. Restarted key.wiring.plan x me word)
+  restart_asked id x run word c old me kept of below hold room written cell word_is =
+      let exit = exit_again (meaning subject.system) subject key table (record { element = x; run = run }) c kept cell in
+      let given = subst (λ (t : Bool). IsGiven (meaning subject.system) t true x (values_read (meaning subject.system) (trace kept.ends.1) x (run + 1)) c) exit (cell kept.ends.0 kept.ends.1 kept.ends.2) in (
+        of,
+        omega (arith, kept.words, below),
+        subst (λ k. Allows (IsBoard (meaning k.system) k.wiring value) table.slots id me (x + 2) (λ _. word) (λ _. Restarted k.wiring.plan x me word)) (sym kept.about)
+            (subst (λ (n : ℕ). Allows (IsBoard (meaning subject.system) subject.wiring value) table.slots id me (x + 2) (λ _. n) (λ _. Restarted subject.wiring.plan x me n)) (sym word_is)
+            (restarts (meaning subject.system) subject.wiring value table.slots id x run c me kept.slots below exit hold room written.out written.right
+            (λ k in_slots own. let r = kept.wired.laid_out.no_more x k below in_slots own in written.every k r.0 r.1)
+            kept.ends.0 kept.ends.1 kept.ends.2 given)),
+      )
+
+pub exit_count : {C : Type 0} (b : Behaviour C) (w : Wiring) (plan : PlanView) (component : Component) (x e : ℕ) → IsWired b w → plan ≡ w.plan → component ≡ component_of plan x → exits w.plan x ≡ true → inner_count plan component e ≡ inner (shape_of w.plan) x e
+exit_count b w plan component x e wired plan_is component_is exit =
+    subst (λ (k : Component). inner_count plan k e ≡ inner (shape_of w.plan) x e) (sym component_is)
+    (subst (λ (p : PlanView). inner_count p (component_of p x) e ≡ inner (shape_of w.plan) x e) (sym plan_is) (sym (inner_is wired x e exit)))
+
+pub copies_same : {A C : Type 0} (f : A → C) (c : C) (xs : List A) → All (λ x. f x ≡ c) xs → map f xs ≡ replicate (length xs) c
+copies_same f c [] all = refl
+copies_same f c (x ∷ xs) all =
+    let here : f x ≡ c = all 0 x (omega arith) in
+    let later = copies_same f c xs (λ k d l. all (suc k) d (omega (arith, l))) in
+    rw here (ap (λ ys. c ∷ ys) later)
+
+pub is_resetting : {C : Type 0} {b : Behaviour C} {w : Wiring} (x left : ℕ) → IsWired b w → exits w.plan x ≡ true → left ≡ length (members_at w.plan x) → IsResetting w.plan (record { exit = x; left = left })
+is_resetting {C} {b} {w} x left wired exit all = record { exit = exit; some_left = omega (arith, all, some_members wired x exit); within = omega (arith, all) }

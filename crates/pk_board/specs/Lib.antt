@@ -1,0 +1,6 @@
+pub mod Copies
+pub mod Results
+pub mod Boards
+pub mod Calls
+pub mod Stops
+pub mod Writing

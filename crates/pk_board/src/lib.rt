@@ -1,0 +1,19 @@
+// A board on which passes run the elements of a plan, from threads of their own.
+#![tactic(auto)]
+
+mod answers;
+mod boards;
+mod copies;
+mod ends;
+mod passes;
+mod restarts;
+mod results;
+mod runs;
+mod sends;
+mod starts;
+mod stops;
+
+pub use answers::{Armed, Arrived, Got, Seen};
+pub use boards::Board;
+pub use copies::Copies;
+pub use passes::Pass;

@@ -1,0 +1,50 @@
+-- How often an element stands in the first items of a list.
+use Rattle.std.proofs.Common.{◌≡◌, ◌≢◌, ℕ, zero, suc, ◌+◌, ◌<◌, ◌≤◌, ◌==◌, List, [], ◌∷◌, length, take, get_or, true, false, cond, refl, sym, arith, inl, inr, ◌⊎◌, get_or-set_other, get_or-set_same}
+use lib.ListN.{set}
+use Rattle.std.proofs.lemmas.Bool.Decides.{eqb_tells}
+use Rattle.std.proofs.lemmas.List.Sums.{count_by_more_yes, count_by_more_no, sum_by-cons, sum_by-take-le}
+use Rattle.pk_layout.specs.Gathered.{times}
+
+pub same_or_not : (m n : ℕ) → (m ≡ n) ⊎ (m ≢ n)
+same_or_not m n = elim (eqb_tells m n) [ inl same ↦ inl same.1 | inr other ↦ inr other.1 ]
+
+equals_itself : (n : ℕ) → (n == n) ≡ true
+equals_itself n = elim (eqb_tells n n) [ inl same ↦ same.0 | inr other ↦ absurd (other.1 refl) ]
+
+differs : (m n : ℕ) → m ≢ n → (m == n) ≡ false
+differs m n h = elim (eqb_tells m n) [ inl same ↦ absurd (h same.1) | inr other ↦ other.0 ]
+
+pub times_up : (e : ℕ) (xs : List ℕ) (i j : ℕ) → i ≤ j → times e (take i xs) ≤ times e (take j xs)
+times_up e [] zero j h = omega arith
+times_up e [] (suc i) zero h = absurd (omega (arith, h))
+times_up e [] (suc i) (suc j) h = omega arith
+times_up e (x ∷ xs) zero j h = omega arith
+times_up e (x ∷ xs) (suc i) zero h = absurd (omega (arith, h))
+times_up e (x ∷ xs) (suc i) (suc j) h =
+    let one : ℕ → ℕ = λ y. cond (y == e) 1 0 in
+    omega (arith, sum_by-cons one x (take i xs), sum_by-cons one x (take j xs), times_up e xs i j (omega (arith, h)))
+
+pub times_all : (e : ℕ) (xs : List ℕ) (i : ℕ) → i ≤ length xs → times e (take i xs) ≤ times e xs
+times_all e xs i h = sum_by-take-le (λ y. cond (y == e) 1 0) xs i
+
+pub times_next : (xs : List ℕ) (i : ℕ) → i < length xs → times (get_or xs i 0) (take (i + 1) xs) ≡ times (get_or xs i 0) (take i xs) + 1
+times_next xs i h = count_by_more_yes (λ x. x == get_or xs i 0) xs i 0 h (equals_itself (get_or xs i 0))
+
+-- one item more is counted
+pub counted_more : (base : ℕ → ℕ) (counts targets : List ℕ) (j m : ℕ) → j < length targets → get_or targets j 0 < length counts
+    → ((u : ℕ) → u < length counts → get_or counts u 0 ≡ base u + times u (take j targets)) → m ≡ get_or counts (get_or targets j 0) 0 + 1
+    → (u : ℕ) → u < length counts → get_or (set counts (get_or targets j 0) m) u 0 ≡ base u + times u (take (j + 1) targets)
+counted_more base counts targets j m h low each is u in_range = elim (same_or_not u (get_or targets j 0)) [
+  | inl same ↦ (
+      let t = get_or targets j 0 in
+      let at : get_or (set counts t m) t 0 ≡ m = get_or-set_same counts t m 0 low in
+      let before = each t low in
+      let after = times_next targets j h in
+      let whole : get_or (set counts t m) t 0 ≡ base t + times t (take (j + 1) targets) = omega (arith, at, before, after, is) in
+      rw same whole)
+  | inr other ↦ (
+      let t = get_or targets j 0 in
+      let kept : get_or (set counts t m) u 0 ≡ get_or counts u 0 = get_or-set_other counts t u m 0 other in
+      let none = count_by_more_no (λ x. x == u) targets j 0 h (differs t u (λ e. other (sym e))) in
+      omega (arith, kept, each u in_range, none))
+]

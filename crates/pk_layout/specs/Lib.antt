@@ -1,0 +1,4 @@
+pub mod Layouts
+pub mod Wirings
+pub mod Gathered
+pub mod Exists

@@ -1,0 +1,121 @@
+-- How the views change.
+use Rattle.std.specs.Prelude.{◌≡◌, ℕ, ◌+◌, ◌*◌, ◌/◌, ◌%◌, ◌<◌, ◌==◌, ◌||◌, not, List, [], ◌∷◌, map, Bool, true, false}
+use Rattle.pk_iterate.specs.Behaviour.{Behaviour, decided_cell, is_again}
+use Rattle.pk_words.specs.declared.view.View.{View}
+use Rattle.pk_words.specs.Tokens.{times, number_of, drop_one}
+
+-- The pass has the Hold of e with this run number.
+abbrev pub HasHold : View → ℕ → ℕ → Type 0
+HasHold v e run = (0 < times e v.holds) × (number_of e v.holds ≡ run)
+
+-- The pass has the Sending of e with so many sends made.
+abbrev pub HasSending : View → ℕ → ℕ → Type 0
+HasSending v e i = (0 < times e v.sends) × (number_of e v.sends ≡ i)
+
+-- The pass has the Resetting of the exit x with so many members to be armed.
+abbrev pub HasResetting : View → ℕ → ℕ → Type 0
+HasResetting v x left = (0 < times x v.resets) × (number_of x v.resets ≡ left)
+
+-- A pass without tokens at the start, and one more.
+abbrev pub first_view : View
+first_view = record { holds = []; sends = []; resets = []; out = []; notes = []; ended = false; stops = []; stop_notes = [] }
+
+abbrev pub new_view : View → View
+new_view v = record { holds = []; sends = []; resets = []; out = []; notes = v.notes; ended = v.ended; stops = v.stops; stop_notes = v.stop_notes }
+
+abbrev pub idle : View → View
+idle v = record { holds = v.holds; sends = v.sends; resets = v.resets; out = []; notes = v.notes; ended = v.ended; stops = v.stops; stop_notes = v.stop_notes }
+
+-- The word of e was found.
+abbrev pub note_view : (e word : ℕ) → View → View
+note_view e word v = record { holds = v.holds; sends = v.sends; resets = v.resets; out = []; notes = (e, word) ∷ v.notes; ended = v.ended; stops = v.stops; stop_notes = v.stop_notes }
+
+abbrev pub offer_view : ℕ → View → View
+offer_view e v = record { holds = drop_one e v.holds; sends = v.sends; resets = v.resets; out = []; notes = v.notes; ended = v.ended; stops = v.stops; stop_notes = v.stop_notes }
+
+-- The open word of e was found and taken.
+abbrev pub claim_view : (e word : ℕ) → View → View
+claim_view e word v = record { holds = (e, word / 1048576) ∷ v.holds; sends = v.sends; resets = v.resets; out = []; notes = (e, word) ∷ v.notes; ended = v.ended; stops = v.stops; stop_notes = v.stop_notes }
+
+abbrev pub take_view : ℕ → View → View
+take_view k v = record { holds = v.holds; sends = v.sends; resets = v.resets; out = k ∷ v.out; notes = v.notes; ended = v.ended; stops = v.stops; stop_notes = v.stop_notes }
+
+-- The slot k is taken, whose owner u had this run number.
+abbrev pub read_view : (k u run : ℕ) → View → View
+read_view k u run v = record { holds = v.holds; sends = v.sends; resets = v.resets; out = k ∷ v.out; notes = (u, run * 1048576) ∷ v.notes; ended = v.ended; stops = v.stops; stop_notes = v.stop_notes }
+
+-- A Sending after one send more, of which `left` are left.
+abbrev pub sent_on : ℕ → ℕ → List ℕ → List (ℕ × ℕ) → List (ℕ × ℕ)
+sent_on a i [] xs = drop_one a xs
+sent_on a i (t ∷ ts) xs = (a, i + 1) ∷ drop_one a xs
+
+abbrev pub gained : Bool → ℕ → ℕ → List (ℕ × ℕ) → List (ℕ × ℕ)
+gained true e run hs = (e, run) ∷ hs
+gained false e run hs = hs
+
+-- the view after a send by a to target, whose word was found
+abbrev pub arrive_view : (a i : ℕ) → List ℕ → (target found : ℕ) → View → View
+arrive_view a i left target found v = record {
+  holds = gained (found % 1048576 == 1) target (found / 1048576) v.holds;
+  sends = sent_on a i left v.sends;
+  resets = v.resets;
+  out = [];
+  notes = (target, found) ∷ v.notes;
+  ended = v.ended;
+  stops = v.stops;
+  stop_notes = v.stop_notes;
+}
+
+-- A Sending of all successors, if there are any.
+abbrev pub begun : ℕ → List ℕ → List (ℕ × ℕ) → List (ℕ × ℕ)
+begun e [] xs = xs
+begun e (t ∷ ts) xs = (e, 0) ∷ xs
+
+-- e was run, which left its word
+abbrev pub done_view : (e word : ℕ) → List ℕ → View → View
+done_view e word ts v = record { holds = drop_one e v.holds; sends = begun e ts v.sends; resets = v.resets; out = []; notes = (e, word) ∷ v.notes; ended = v.ended; stops = v.stops; stop_notes = v.stop_notes }
+
+-- the exit x was run, which left its word, and so many members are to be armed
+abbrev pub again_view : (x word members : ℕ) → View → View
+again_view x word members v = record { holds = drop_one x v.holds; sends = v.sends; resets = (x, members) ∷ v.resets; out = []; notes = (x, word) ∷ v.notes; ended = v.ended; stops = v.stops; stop_notes = v.stop_notes }
+
+-- the member e was armed, whose done word was found, and so many are left
+abbrev pub arm_view : (x left e found : ℕ) → View → View
+arm_view x left e found v = record { holds = v.holds; sends = v.sends; resets = (x, left) ∷ drop_one x v.resets; out = []; notes = (e, found) ∷ v.notes; ended = v.ended; stops = v.stops; stop_notes = v.stop_notes }
+
+-- the head e was armed, the last of the members
+abbrev pub head_view : (x e found : ℕ) → View → View
+head_view x e found v = record { holds = (e, found / 1048576) ∷ v.holds; sends = v.sends; resets = drop_one x v.resets; out = []; notes = (e, found) ∷ v.notes; ended = v.ended; stops = v.stops; stop_notes = v.stop_notes }
+
+-- The pass found the last element done.
+abbrev pub end_view : (last found : ℕ) → View → View
+end_view last found v = record { holds = v.holds; sends = v.sends; resets = v.resets; out = []; notes = (last, found) ∷ v.notes; ended = true; stops = v.stops; stop_notes = v.stop_notes }
+
+-- The pass stopped the board with this stop word.
+abbrev pub stop_view : ℕ → View → View
+stop_view word v = record { holds = v.holds; sends = v.sends; resets = v.resets; out = []; notes = v.notes; ended = v.ended; stops = word ∷ v.stops; stop_notes = v.stop_notes }
+
+-- This stop word was found.
+abbrev pub stop_note_view : ℕ → View → View
+stop_note_view word v = record { holds = v.holds; sends = v.sends; resets = v.resets; out = []; notes = v.notes; ended = v.ended; stops = v.stops; stop_notes = word ∷ v.stop_notes }
+
+-- The pass knows that the board is stopped.
+abbrev pub any_stop : List ℕ → Bool
+any_stop [] = false
+any_stop (n ∷ ns) = not (n == 0) || any_stop ns
+
+abbrev pub knows_stop : View → Bool
+knows_stop v = any_stop v.stops || any_stop v.stop_notes
+
+-- A run's cell: of an exit the decided one, which goes through its component again or doesn't.
+abbrev pub IsGiven : {C : Type 0} → Behaviour C → (exit again : Bool) → ℕ → List C → C → Type 0
+IsGiven b true again e inputs c = (decided_cell (b.decide e inputs) ≡ c) × (is_again (b.decide e inputs) ≡ again)
+IsGiven b false again e inputs c = (b.apply e inputs ≡ c) × (again ≡ false)
+
+abbrev pub slots_in : {S : Type 0} → List (ℕ × S) → List ℕ
+slots_in xs = map (λ x. x.0) xs
+
+-- each carried value is right for its slot
+abbrev pub AllRight : {S : Type 0} → (ℕ → S → Type 0) → List (ℕ × S) → Type 0
+AllRight right [] = Unit {0}
+AllRight right (x ∷ xs) = right x.0 x.1 × AllRight right xs

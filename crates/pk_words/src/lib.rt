@@ -1,0 +1,23 @@
+// The words of a board, its slots, and the rule that they keep.
+#![tactic(auto)]
+
+mod laws;
+mod plays;
+mod rule;
+mod subject;
+mod tokens;
+mod view;
+mod why;
+mod words;
+
+pub use laws::every_board_keeps;
+pub use plays::{
+    Parts, Tells, arm_head_told, arm_told, decrement_told, exchange_told, give_told, input_told,
+    load_told, store_told, take_told,
+};
+pub use rule::Rule;
+pub use subject::Subject;
+pub use tokens::{Finished, Hold, Resetting, Sending, Stopped};
+pub use view::View;
+pub use why::Why;
+pub use words::{DONE, OPEN, RUN, is_done, is_open, low_in, run_in, stop_word, why_in, word_with};
