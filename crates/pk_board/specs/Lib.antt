@@ -4,3 +4,4 @@ pub mod Boards
 pub mod Calls
 pub mod Stops
 pub mod Writing
+pub mod Nested
