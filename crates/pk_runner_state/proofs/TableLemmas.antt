@@ -1,0 +1,2 @@
+-- Rows of the table.
+use Rattle.std.proofs.Common.{◌≡◌, ℕ}

@@ -1,0 +1,7 @@
+//! Runs of texts.
+#![tactic(auto)]
+
+#[cfg(test)]
+mod rows;
+#[cfg(test)]
+mod running;
