@@ -1,4 +1,4 @@
 pub mod ProgramLemmas
 pub mod ObjectLemmas
 pub mod ValueLemmas
-pub mod TableLemmas
+pub mod RowLemmas

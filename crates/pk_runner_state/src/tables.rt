@@ -1,11 +1,12 @@
 // Scopes: a row of the table is an object of a function, before the scope behind it.
 
-ghost use Rattle.std.specs.Prelude.{◌≡◌, ◌↔◌, ◌∷◌, IfOk, IsTrue, true};
+ghost use Rattle.std.specs.Prelude.{◌≡◌, ◌≤◌, ◌↔◌, ◌∷◌, ◌++◌, [], length, IfOk, OnOk, IsTrue, true};
 ghost use Rattle.pk_typed.specs.Views.{declared_tree, declared_trees};
 ghost use Rattle.pk_meaning.specs.Objects.{local};
 ghost use Rattle.pk_meaning.specs.Programs as programs;
 ghost use Rattle.pk_runner_frame.specs.Frames.{Reading, scope_in};
 ghost use Rattle.pk_runner_state.specs.Shown.{program_in, Agrees};
+ghost use Rattle.pk_runner_state.specs.Rows.{rows_of_scope, IsOrderly, reading_of};
 
 use crate::programs::{Program, has_name, parameters, visible};
 use pk_runner_frame::Scope;
@@ -26,6 +27,7 @@ pub struct Row {
 pub struct Table {
     pub rows: Vec<Row>,
     pub lasts: Vec<Vec<usize>>,
+    ghost orderly: { IsOrderly rows.items },
 }
 
 fn is_same_scope(a: Scope, b: Scope) -> bool
@@ -68,6 +70,38 @@ fn set_last(lasts: &mut Vec<Vec<usize>>, path: usize, local: usize, number: usiz
     }
 }
 
+// A row behind the others.
+fn add(table: &mut Table, row: Row) -> Result<(), AllocError>
+    requires { rows_of_scope row.parent ≤ length table.old.rows.items }
+    ensures rows { OnOk result (table.new.rows.items ≡ table.old.rows.items ++ row ∷ []) }
+    ensures before { (s : Reading) → Agrees s table.new.rows.items → Agrees s table.old.rows.items }
+{
+    table.rows.push(row)?;
+    Ok(())
+}
+
+const FILLER: Row = Row {
+    path: 0,
+    local: 0,
+    parent: Scope::File(0),
+};
+
+// Rows as far as that of a scope, which is there in every run.
+fn reach(table: &mut Table, scope: Scope) -> Result<(), AllocError>
+    ensures there { OnOk result (rows_of_scope scope ≤ length table.new.rows.items) }
+    ensures before { (s : Reading) → Agrees s table.new.rows.items → Agrees s table.old.rows.items }
+{
+    match scope {
+        Scope::File(_) => {}
+        Scope::Row(number) => {
+            while table.rows.len() <= number {
+                add(table, FILLER)?;
+            }
+        }
+    }
+    Ok(())
+}
+
 // An object comes into scope. The row that was made of it last stands for the same, if it has the same scope behind it.
 fn extend(table: &mut Table, path: usize, object: usize, scope: Scope) -> Result<Scope, AllocError>
     ensures scope { (s : Reading) → Agrees s table.new.rows.items → IfOk result (λ x. scope_in s x ≡ local path object ∷ scope_in s scope) }
@@ -79,12 +113,14 @@ fn extend(table: &mut Table, path: usize, object: usize, scope: Scope) -> Result
             return Ok(Scope::Row(last));
         }
     }
+    reach(table, scope)?;
     let number = table.rows.len();
-    table.rows.push(Row {
+    let row = Row {
         path,
         local: object,
         parent: scope,
-    })?;
+    };
+    add(table, row)?;
     set_last(&mut table.lasts, path, object, number);
     Ok(Scope::Row(number))
 }
@@ -196,6 +232,12 @@ fn no_rows(alloc: Global, program: &Program<'_>) -> Result<Vec<Vec<usize>>, Allo
 }
 
 impl Table {
+    /// What each row stands for.
+    pub fn is_readable(&self)
+        ensures { Agrees (reading_of self.now.rows.items) self.now.rows.items }
+    {
+    }
+
     pub fn new(alloc: Global, program: &Program<'_>) -> Result<Table, AllocError> {
         Ok(Table {
             rows: Vec::new(alloc),

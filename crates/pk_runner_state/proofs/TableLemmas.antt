@@ -1,2 +1,0 @@
--- Rows of the table.
-use Rattle.std.proofs.Common.{◌≡◌, ℕ}
