@@ -33,6 +33,16 @@ unfolding unit_tree
 object_past u n h =
     sym (ap (option_and_then (λ (y : FileObjectTree). length_of_start y.start)) (slice_get-map file_object_tree u.objects.items n ∙ ap (option_map file_object_tree) (slice_get_past u.objects.items n h)))
 
+pub name_read : (u : declared_unit.Unit) (n : ℕ) (x : FileObject) → n < length u.objects.items → x ≡ get_or u.objects.items n x → (file_object_tree x).name ≡ unwrap_or (option_map (λ (y : FileObjectTree). y.name) (slice_get (unit_tree u).objects n)) []
+unfolding unit_tree
+name_read u n x h e =
+    sym (ap (λ (o : Option FileObjectTree). unwrap_or (option_map (λ (y : FileObjectTree). y.name) o) []) (slice_get-map file_object_tree u.objects.items n ∙ ap (option_map file_object_tree) (slice_get_read u.objects.items (length u.objects.items) n x refl h e)))
+
+pub name_past : (u : declared_unit.Unit) (n : ℕ) → length u.objects.items ≤ n → [] ≡ unwrap_or (option_map (λ (y : FileObjectTree). y.name) (slice_get (unit_tree u).objects n)) []
+unfolding unit_tree
+name_past u n h =
+    sym (ap (λ (o : Option FileObjectTree). unwrap_or (option_map (λ (y : FileObjectTree). y.name) o) []) (slice_get-map file_object_tree u.objects.items n ∙ ap (option_map file_object_tree) (slice_get_past u.objects.items n h)))
+
 pub local_read : (o : Option BodyTree) (b : Body) (n : ℕ) (x : Local) → Some (body_tree b) ≡ o → n < length b.locals.items → x ≡ get_or b.locals.items n x → local_tree x ≡ slice_index_or (unwrap_or o no_body).locals n no_local
 unfolding body_tree
 local_read o b n x e h f =

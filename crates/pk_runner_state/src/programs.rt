@@ -178,6 +178,44 @@ pub fn has_name(program: &Program<'_>, path: usize, number: usize) -> bool
     }
 }
 
+#[tactic(auto, unfolding(pk_typed::specs::Views::local_tree))]
+fn local_name<'a>(program: &Program<'a>, path: usize, number: usize) -> &'a str
+    ensures { result.now ≡ unwrap_or (programs.local_of (program_in program.now) path number).name [] }
+{
+    match local(program, path, number) {
+        Some(local) => match &local.name {
+            Some(name) => name.as_str(),
+            None => "",
+        },
+        None => "",
+    }
+}
+
+ghost use Rattle.std.specs.Prelude.{[]};
+ghost use Rattle.pk_meaning.specs.Objects.{file};
+
+#[tactic(auto, unfolding(pk_typed::specs::Views::file_object_tree))]
+fn file_name<'a>(program: &Program<'a>, number: usize) -> &'a str
+    ensures { result.now ≡ programs.name_of (program_in program.now) (file number) }
+{
+    if number < program.unit.objects.len() {
+        program.unit.objects[number].name.as_str()
+    } else {
+        ""
+    }
+}
+
+/// The name of an object, empty where it has none.
+pub fn name_of<'a>(program: &Program<'a>, object: Object) -> &'a str
+    ensures { result.now ≡ programs.name_of (program_in program.now) (object_in object) }
+{
+    match object {
+        Object::File(number) => file_name(program, number),
+        Object::Local(path, number) => local_name(program, path, number),
+        Object::Result(_) => "",
+    }
+}
+
 pub fn count_of(length: Option<usize>) -> usize
     ensures { result ≡ kinds.count_of length }
 {

@@ -86,8 +86,8 @@ const FILLER: Row = Row {
     parent: Scope::File(0),
 };
 
-// Rows as far as that of a scope, which is there in every run.
-fn reach(table: &mut Table, scope: Scope) -> Result<(), AllocError>
+/// Rows as far as that of a scope, which is there in every run.
+pub fn reach(table: &mut Table, scope: Scope) -> Result<(), AllocError>
     ensures there { OnOk result (rows_of_scope scope ≤ length table.new.rows.items) }
     ensures before { (s : Reading) → Agrees s table.new.rows.items → Agrees s table.old.rows.items }
 {
