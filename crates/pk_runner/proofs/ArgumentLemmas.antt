@@ -12,7 +12,8 @@ use Rattle.pk_meaning.specs.Runs.{with_arguments, begins}
 use Rattle.pk_meaning.specs.Work.{Work, Nobody}
 use Rattle.pk_meaning.specs.Steps.{Config, place, body_work}
 
-pub next_argument : (k i : ℕ) (ts : List IntType) (zs : Numbers) (t : IntType) (z : ℤ) (s : Objects) → i < length ts → i < length zs → is_in_type (get_or ts i t) (get_or zs i z) ≡ true → with_arguments k (drop i ts) (drop i zs) s ≡ with_arguments (k + 1) (drop (i + 1) ts) (drop (i + 1) zs) (with_numbers (local 0 k) (get_or zs i z ∷ []) s)
+pub next_argument : (k i : ℕ) (ts : List IntType) (zs : Numbers) (t : IntType) (z : ℤ) (s : Objects) → i < length ts → i < length zs → is_in_type (get_or ts i t) (get_or zs i z) ≡ true →
+    with_arguments k (drop i ts) (drop i zs) s ≡ with_arguments (k + 1) (drop (i + 1) ts) (drop (i + 1) zs) (with_numbers (local 0 k) (get_or zs i z ∷ []) s)
 next_argument k i ts zs t z s l m e =
     ap (λ (us : List IntType). with_arguments k us (drop i zs) s) (drop_more ts i t l)
     ∙ (ap (λ (vs : Numbers). with_arguments k (get_or ts i t ∷ drop (i + 1) ts) vs s) (drop_more zs i z m)

@@ -5,6 +5,7 @@ ghost use Rattle.pk_meaning.specs.Runs as meaning;
 ghost use Rattle.pk_meaning.specs.Steps as definition;
 ghost use Rattle.pk_runner_frame.specs.Frames.{Reading};
 ghost use Rattle.pk_runner_state.specs.Shown.{program_in, objects_in, told, outcome, Agrees};
+ghost use Rattle.pk_runner_state.specs.Rows.{reading_of};
 ghost use Rattle.pk_runner.specs.Ran.{rows_of, config_in, picked, ran};
 
 use crate::steps::step_state;
@@ -19,8 +20,15 @@ use std::alloc::AllocError;
 /// Where a run is.
 #[derive(Drop)]
 pub struct Config<'a> {
-    state: State<'a>,
-    table: Table,
+    pub(crate) state: State<'a>,
+    pub(crate) table: Table,
+}
+
+/// The rows of scopes of every run have a reading, by which the clauses here can be read: that of the last configuration is one for all before it.
+pub fn is_readable(config: &Config<'_>)
+    ensures { Agrees (reading_of (rows_of config.now)) (rows_of config.now) }
+{
+    config.table.is_readable();
 }
 
 // The entry's parameters hold these numbers, one of each type.
@@ -78,7 +86,8 @@ pub fn step<'a>(
     config: &mut Config<'a>,
     chosen: &[i128],
 ) -> Result<Answer, AllocError>
-    ensures told { (s : Reading) → Agrees s (rows_of config.new) → IfOk result (λ r. told r (config_in s config.new) ≡ outcome (definition.step (program_in program.now) chosen.now (config_in s config.old)) (config_in s config.old)) }
+    ensures told { (s : Reading) → Agrees s (rows_of config.new) → IfOk result (λ r. told r (config_in s config.new)
+        ≡ outcome (definition.step (program_in program.now) chosen.now (config_in s config.old)) (config_in s config.old)) }
     ensures before { (s : Reading) → Agrees s (rows_of config.new) → Agrees s (rows_of config.old) }
 {
     step_state(program, &mut config.state, &mut config.table, chosen)
@@ -98,8 +107,10 @@ fn step_on<'a>(
     choices: &[&[i128]],
     taken: usize,
 ) -> Result<(Answer, usize), AllocError>
-    ensures told { (s : Reading) → Agrees s (rows_of config.new) → IfOk result (λ r. told r.0 (config_in s config.new) ≡ outcome (picked (program_in program.now) (drop taken (map (λ zs. zs.now) choices.now)) (config_in s config.old)).0 (config_in s config.old)) }
-    ensures left { (s : Reading) → Agrees s (rows_of config.new) → IfOk result (λ r. drop r.1 (map (λ zs. zs.now) choices.now) ≡ (picked (program_in program.now) (drop taken (map (λ zs. zs.now) choices.now)) (config_in s config.old)).1) }
+    ensures told { (s : Reading) → Agrees s (rows_of config.new) → IfOk result (λ r. told r.0 (config_in s config.new)
+        ≡ outcome (picked (program_in program.now) (drop taken (map (λ zs. zs.now) choices.now)) (config_in s config.old)).0 (config_in s config.old)) }
+    ensures left { (s : Reading) → Agrees s (rows_of config.new) → IfOk result (λ r. drop r.1 (map (λ zs. zs.now) choices.now)
+        ≡ (picked (program_in program.now) (drop taken (map (λ zs. zs.now) choices.now)) (config_in s config.old)).1) }
     ensures before { (s : Reading) → Agrees s (rows_of config.new) → Agrees s (rows_of config.old) }
 {
     let answer = step(program, config, &[])?;

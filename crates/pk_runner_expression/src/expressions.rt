@@ -7,12 +7,11 @@ ghost use Rattle.pk_meaning.specs.Steps as steps;
 ghost use Rattle.pk_runner_frame.specs.Frames.{Reading, held, work_at, work_in, way_in, place_in, object_in, array_in, expression_in, task_in};
 ghost use Rattle.pk_runner_state.specs.Shown.{program_in, shown, Told};
 
-use pk_runner_frame::{known, take, then};
-use pk_runner_state::{Program, array_of, callee, object_of, parameters};
-use pk_runner_state::{Answer, State, give, go_on};
-use pk_runner_state::are_chosen;
-use pk_runner_frame::{Array, Expression, Frame, Object, Spot, Task, Way, Work};
 use pk_ctypes::{IntType, Op, Pos, range};
+use pk_runner_frame::{Array, Expression, Frame, Object, Spot, Task, Way, Work, known, take, then};
+use pk_runner_state::{
+    Answer, Program, State, are_chosen, array_of, callee, give, go_on, object_of, parameters,
+};
 use pk_typed::{Effect, Place, Value};
 use std::alloc::AllocError;
 
@@ -107,7 +106,14 @@ fn updated<'a>(
         Place::Scalar(int_type, variable) => {
             let last = then(
                 frames,
-                Work::Update(op, at, in_type, *int_type, object_of(path, *variable), number),
+                Work::Update(
+                    op,
+                    at,
+                    in_type,
+                    *int_type,
+                    object_of(path, *variable),
+                    number,
+                ),
             )?;
             Ok(Work::Evaluate(right, last))
         }
@@ -152,10 +158,7 @@ fn put_place<'a>(
         Place::Element(int_type, variable, at, index) => {
             let array = array_of(program, path, *int_type, *variable);
             let last = then(frames, Work::Store(*at, array, number))?;
-            let second = then(
-                frames,
-                Work::Evaluate(Expression::Tree(right, false), last),
-            )?;
+            let second = then(frames, Work::Evaluate(Expression::Tree(right, false), last))?;
             let keep = then(frames, Work::Keep(second))?;
             Ok(Work::Evaluate(Expression::Tree(index, false), keep))
         }
@@ -409,16 +412,8 @@ fn both<'a>(
 {
     let no = known_way(frames, no)?;
     let second = frames.len();
-    frames.push(Frame::Work(Work::Test(
-        Expression::Tree(right, false),
-        yes,
-        no,
-    )))?;
-    Ok(Work::Test(
-        Expression::Tree(left, false),
-        Way::Onward(here, second),
-        no,
-    ))
+    frames.push(Frame::Work(Work::Test(Expression::Tree(right, false), yes, no)))?;
+    Ok(Work::Test(Expression::Tree(left, false), Way::Onward(here, second), no))
 }
 
 ghost use Rattle.pk_typed.specs.Trees as tree;
@@ -436,11 +431,7 @@ fn either<'a>(
 {
     let yes = known_way(frames, yes)?;
     let second = frames.len();
-    frames.push(Frame::Work(Work::Test(
-        Expression::Tree(right, false),
-        yes,
-        no,
-    )))?;
+    frames.push(Frame::Work(Work::Test(Expression::Tree(right, false), yes, no)))?;
     Ok(Work::Test(
         Expression::Tree(left, false),
         yes,
@@ -470,10 +461,7 @@ fn tested_tree<'a>(
         Value::And { left, right } => both(frames, here, left, right, yes, no),
         Value::Or { left, right } => either(frames, here, left, right, yes, no),
         Value::Then(first, second) => {
-            let last = then(
-                frames,
-                Work::Test(Expression::Tree(second, false), yes, no),
-            )?;
+            let last = then(frames, Work::Test(Expression::Tree(second, false), yes, no))?;
             Ok(Work::Perform(Task::Tree(first), last))
         }
         Value::Constant(_, _) => decided(frames, expression, yes, no),
@@ -525,10 +513,7 @@ pub fn passed<'a>(
     } else {
         let pass = then(frames, Work::Pass(&arguments[1..], number))?;
         let keep = then(frames, Work::Keep(pass))?;
-        Ok(Work::Evaluate(
-            Expression::Tree(&arguments[0], false),
-            keep,
-        ))
+        Ok(Work::Evaluate(Expression::Tree(&arguments[0], false), keep))
     }
 }
 
@@ -570,10 +555,7 @@ fn read<'a>(
         Place::Element(int_type, variable, at, index) => {
             let array = array_of(program, state.path, *int_type, *variable);
             let last = then(&mut state.frames, Work::Load(*at, array, number))?;
-            Ok(go_on(
-                state,
-                Work::Evaluate(Expression::Tree(index, false), last),
-            ))
+            Ok(go_on(state, Work::Evaluate(Expression::Tree(index, false), last)))
         }
     }
 }
@@ -672,11 +654,7 @@ fn any(
 }
 
 // `a && b`, `a || b` as a value.
-fn truth<'a>(
-    state: &mut State<'a>,
-    value: &'a Value,
-    number: usize,
-) -> Result<Answer, AllocError>
+fn truth<'a>(state: &mut State<'a>, value: &'a Value, number: usize) -> Result<Answer, AllocError>
     ensures { (s : Reading) → IfOk result (λ r. Told s state.old state.new r (steps.on (shown s state.old) (works.Test (value_tree value.now) (works.Onward (shown s state.old).here (works.Truth (pos 1) (work_at (held s state.old.frames.items) number))) (works.Onward (shown s state.old).here (works.Truth (pos 0) (work_at (held s state.old.frames.items) number)))) (shown s state.old).values)) }
 {
     let here = state.here;
@@ -774,10 +752,7 @@ fn evaluate_tree<'a>(
             arguments,
         } => {
             let result = Object::Result(callee(program, path, *site));
-            let fetch = then(
-                &mut state.frames,
-                Work::Fetch(*int_type, result, number),
-            )?;
+            let fetch = then(&mut state.frames, Work::Fetch(*int_type, result, number))?;
             let work = called(
                 program,
                 &mut state.frames,
@@ -819,10 +794,7 @@ fn evaluate_tree<'a>(
                 Work::Evaluate(Expression::Tree(right, false), last),
             )?;
             let keep = then(&mut state.frames, Work::Keep(second))?;
-            Ok(go_on(
-                state,
-                Work::Evaluate(Expression::Tree(left, false), keep),
-            ))
+            Ok(go_on(state, Work::Evaluate(Expression::Tree(left, false), keep)))
         }
         Value::And { .. } => truth(state, value, number),
         Value::Or { .. } => truth(state, value, number),
@@ -857,10 +829,7 @@ pub fn evaluate<'a>(
         Expression::Tree(value, is_int) => {
             if *is_int {
                 let last = then(&mut state.frames, Work::Convert(IntType::Int, number))?;
-                Ok(go_on(
-                    state,
-                    Work::Evaluate(Expression::Tree(value, false), last),
-                ))
+                Ok(go_on(state, Work::Evaluate(Expression::Tree(value, false), last)))
             } else {
                 evaluate_tree(program, state, chosen, value, number)
             }

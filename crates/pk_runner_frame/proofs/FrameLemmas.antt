@@ -59,7 +59,7 @@ top_is s fs f n d e =
 pub frame_is : (s : Reading) (fs : List Frame) (n : ℕ) (f : Frame) (d : Held) → n < length fs → f ≡ get_or fs n f → get_or (held s fs) n d ≡ held_in s (held s (take n fs)) f
 frame_is s fs n f d h e =
     let split : fs ≡ (take n fs ++ f ∷ []) ++ drop (n + 1) fs =
-        sym (take-append-drop n fs) ∙ (ap (λ (gs : List Frame). take n fs ++ gs) (drop_more fs n f h ∙ ap (λ (g : Frame). g ∷ drop (n + 1) fs) (sym e)) ∙ sym (append_assoc (take n fs) (f ∷ []) (drop (n + 1) fs))) in
+    sym (take-append-drop n fs) ∙ (ap (λ (gs : List Frame). take n fs ++ gs) (drop_more fs n f h ∙ ap (λ (g : Frame). g ∷ drop (n + 1) fs) (sym e)) ∙ sym (append_assoc (take n fs) (f ∷ []) (drop (n + 1) fs))) in
     let count : length (take n fs) ≡ n = length-take-le n fs (omega (arith, h)) in
     let more : length (take n fs ++ f ∷ []) ≡ length (take n fs) + 1 = length-append (take n fs) (f ∷ []) in
     ap (λ (gs : List Frame). get_or (held s gs) n d) split
@@ -119,13 +119,15 @@ pub taken_work : (s : Reading) (fs gs : List Frame) (n : ℕ) (f : Frame) (w : c
 taken_work s fs gs n f w h e g k =
     ap (λ (xs : List Frame). work_in s (held s xs) w) k ∙ sym (ap work_of (frame_is s fs n f nothing h e ∙ ap (held_in s (held s (take n fs))) g))
 
-pub taken_way : (s : Reading) (fs gs : List Frame) (n : ℕ) (f : Frame) (a : code_ahead.Ahead) → n < length fs → f ≡ get_or fs n f → f ≡ frames.Ahead a → gs ≡ take (n + 1) fs → work.Go (ahead_at (held s gs) n) ≡ work_at (held s fs) n
+pub taken_way : (s : Reading) (fs gs : List Frame) (n : ℕ) (f : Frame) (a : code_ahead.Ahead) → n < length fs → f ≡ get_or fs n f → f ≡ frames.Ahead a → gs ≡ take (n + 1) fs →
+    work.Go (ahead_at (held s gs) n) ≡ work_at (held s fs) n
 taken_way s fs gs n f a h e g k =
     let same : get_or (held s fs) n nothing ≡ held_in s (held s (take n fs)) (frames.Ahead a) = frame_is s fs n f nothing h e ∙ ap (held_in s (held s (take n fs))) g in
     ap (λ (xs : List Frame). work.Go (ahead_at (held s xs) n)) k
     ∙ (ap (λ (x : Held). work.Go (ahead_of x)) (take_stays s fs (n + 1) n nothing (omega arith) (omega (arith, h)) ∙ same) ∙ sym (ap work_of same))
 
-pub taken_ahead : (s : Reading) (fs gs : List Frame) (n : ℕ) (f : Frame) (a : code_ahead.Ahead) → n < length fs → f ≡ get_or fs n f → f ≡ frames.Ahead a → gs ≡ take n fs → ahead_in s (held s gs) a ≡ ahead_at (held s fs) n
+pub taken_ahead : (s : Reading) (fs gs : List Frame) (n : ℕ) (f : Frame) (a : code_ahead.Ahead) → n < length fs → f ≡ get_or fs n f → f ≡ frames.Ahead a → gs ≡ take n fs →
+    ahead_in s (held s gs) a ≡ ahead_at (held s fs) n
 taken_ahead s fs gs n f a h e g k =
     ap (λ (xs : List Frame). ahead_in s (held s xs) a) k ∙ sym (ap ahead_of (frame_is s fs n f nothing h e ∙ ap (held_in s (held s (take n fs))) g))
 

@@ -17,10 +17,7 @@ fn lay<'a>(frames: &mut Vec<Frame<'a>>, frame: Frame<'a>) -> Result<usize, Alloc
 }
 
 /// Work on top; what stands below stays.
-pub fn then<'a>(
-    frames: &mut Vec<Frame<'a>>,
-    work: Work<'a>,
-) -> Result<usize, AllocError>
+pub fn then<'a>(frames: &mut Vec<Frame<'a>>, work: Work<'a>) -> Result<usize, AllocError>
     ensures work { (s : Reading) → IfOk result (λ n. work_at (held s frames.new.items) n ≡ work_in s (held s frames.old.items) work.entry) }
     ensures below { (s : Reading) (i : ℕ) → i < length frames.old.items → OnOk result (work_at (held s frames.new.items) i ≡ work_at (held s frames.old.items) i) }
     ensures number { IfOk result (λ n. n ≡ length frames.old.items) }
@@ -30,10 +27,7 @@ pub fn then<'a>(
 }
 
 /// What comes behind a statement on top; as work it is the way there.
-pub fn before<'a>(
-    frames: &mut Vec<Frame<'a>>,
-    ahead: Ahead<'a>,
-) -> Result<usize, AllocError>
+pub fn before<'a>(frames: &mut Vec<Frame<'a>>, ahead: Ahead<'a>) -> Result<usize, AllocError>
     ensures ahead { (s : Reading) → IfOk result (λ n. ahead_at (held s frames.new.items) n ≡ ahead_in s (held s frames.old.items) ahead.entry) }
     ensures work { (s : Reading) → IfOk result (λ n. work_at (held s frames.new.items) n ≡ work.Go (ahead_in s (held s frames.old.items) ahead.entry)) }
     ensures number { IfOk result (λ n. n ≡ length frames.old.items) }
@@ -109,11 +103,7 @@ pub fn known(frames: &mut Vec<Frame<'_>>, number: usize) -> Result<usize, AllocE
 }
 
 /// A number of a frame below another, as it stands there.
-pub fn below(
-    frames: &mut Vec<Frame<'_>>,
-    number: usize,
-    limit: usize,
-) -> Result<usize, AllocError>
+pub fn below(frames: &mut Vec<Frame<'_>>, number: usize, limit: usize) -> Result<usize, AllocError>
     ensures same { (s : Reading) (i : ℕ) → OnOk result (slice_index_or (held s frames.new.items) i nothing ≡ slice_index_or (held s frames.old.items) i nothing) }
     ensures number { (s : Reading) → IfOk result (λ n. slice_index_or (held s frames.new.items) n nothing ≡ slice_index_or (held s (take limit frames.old.items)) number nothing) }
     ensures there { IfOk result (λ n. n < length frames.new.items) }
@@ -246,7 +236,8 @@ fn loop_in_ahead<'a>(ahead: Ahead<'a>) -> Option<LoopEnd<'a>>
 
 /// The loop whose end of the body a number stands for.
 pub fn loop_at<'a>(frames: &[Frame<'a>], number: usize) -> Option<LoopEnd<'a>>
-    ensures { MatchOption result ((s : Reading) → NoLoop (ahead_at (held s frames.now) number)) (λ x. (number < length frames.now) × ((s : Reading) → ahead_at (held s frames.now) number ≡ end_in s (held s (take number frames.now)) x)) }
+    ensures { MatchOption result ((s : Reading) → NoLoop (ahead_at (held s frames.now) number)) (λ x. (number < length frames.now) × ((s : Reading) → ahead_at (held s frames.now) number
+        ≡ end_in s (held s (take number frames.now)) x)) }
 {
     if number < frames.len() {
         let ahead = ahead_in_frame(frames[number]);

@@ -65,7 +65,8 @@ rest_of xs n = take_all (length xs - n) (drop n xs) (let e : length (drop n xs) 
 drop_next : (is : List Item) (n : ℕ) (i j : Item) → n < length is → i ≡ get_or is n i → i ≡ j → item_trees (drop n is) ≡ item_trees (j ∷ drop (n + 1) is)
 drop_next is n i j h e f = ap item_trees (drop_more is n i h) ∙ ap (λ (k : Item). item_trees (k ∷ drop (n + 1) is)) (sym e ∙ f)
 
-pub after_declared : (p : Program) (k : ℕ) (m : Mark) (xs ys : Scope) (is : List Item) (n : ℕ) (i : Item) (d : Declared) (a : Ahead) (o q : Way) → n < length is → i ≡ get_or is n i → i ≡ items.Declared d → ys ≡ with_declared p k (declared_tree d) xs
+pub after_declared : (p : Program) (k : ℕ) (m : Mark) (xs ys : Scope) (is : List Item) (n : ℕ) (i : Item) (d : Declared) (a : Ahead) (o q : Way) → n < length is → i ≡ get_or is n i → i
+    ≡ items.Declared d → ys ≡ with_declared p k (declared_tree d) xs
     → steps.found_in p k m xs (item_trees (drop n is)) a o ≡ q → steps.found_in p k m ys (item_trees (drop (n + 1) is)) a o ≡ q
 after_declared p k m xs ys is n i d a o q h e f g inv =
     ap (λ (zs : Scope). steps.found_in p k m zs (item_trees (drop (n + 1) is)) a o) g

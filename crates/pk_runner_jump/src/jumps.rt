@@ -108,7 +108,8 @@ fn find_behind<'a>(
     statement: &'a Statement,
     ahead: Ahead<'a>,
 ) -> Result<Option<Found<'a>>, AllocError>
-    ensures found { (s : Reading) → Agrees s table.new.rows.items → (o : work.Way) → IfOk result (λ r. found_in s (held s frames.new.items) r o ≡ steps.found (program_in program.now) path (mark_in mark) (scope_in s scope) (statement_tree statement.now) (ahead_in s (held s frames.old.items) ahead.entry) o) }
+    ensures found { (s : Reading) → Agrees s table.new.rows.items → (o : work.Way) → IfOk result (λ r. found_in s (held s frames.new.items) r o
+        ≡ steps.found (program_in program.now) path (mark_in mark) (scope_in s scope) (statement_tree statement.now) (ahead_in s (held s frames.old.items) ahead.entry) o) }
     ensures before { (s : Reading) → Agrees s table.new.rows.items → Agrees s table.old.rows.items }
     ensures kept { IfOk result (λ r. r ≡ None → frames.new.items ≡ frames.old.items) }
 {
@@ -135,7 +136,8 @@ fn find<'a>(
     statement: &'a Statement,
     ahead: usize,
 ) -> Result<Option<Found<'a>>, AllocError>
-    ensures found { (s : Reading) → Agrees s table.new.rows.items → (o : work.Way) → IfOk result (λ r. found_in s (held s frames.new.items) r o ≡ steps.found (program_in program.now) path (mark_in mark) (scope_in s scope) (statement_tree statement.now) (ahead_at (held s frames.old.items) ahead) o) }
+    ensures found { (s : Reading) → Agrees s table.new.rows.items → (o : work.Way) → IfOk result (λ r. found_in s (held s frames.new.items) r o
+        ≡ steps.found (program_in program.now) path (mark_in mark) (scope_in s scope) (statement_tree statement.now) (ahead_at (held s frames.old.items) ahead) o) }
     ensures before { (s : Reading) → Agrees s table.new.rows.items → Agrees s table.old.rows.items }
     ensures kept { IfOk result (λ r. r ≡ None → frames.new.items ≡ frames.old.items) }
 {
@@ -312,7 +314,8 @@ fn find_in<'a>(
     items: &'a [Item],
     ahead: usize,
 ) -> Result<Option<Found<'a>>, AllocError>
-    ensures found { (s : Reading) → Agrees s table.new.rows.items → (o : work.Way) → IfOk result (λ r. found_in s (held s frames.new.items) r o ≡ steps.found_in (program_in program.now) path (mark_in mark) (scope_in s scope) (item_trees items.now) (ahead_at (held s frames.old.items) ahead) o) }
+    ensures found { (s : Reading) → Agrees s table.new.rows.items → (o : work.Way) → IfOk result (λ r. found_in s (held s frames.new.items) r o
+        ≡ steps.found_in (program_in program.now) path (mark_in mark) (scope_in s scope) (item_trees items.now) (ahead_at (held s frames.old.items) ahead) o) }
     ensures before { (s : Reading) → Agrees s table.new.rows.items → Agrees s table.old.rows.items }
     ensures kept { IfOk result (λ r. r ≡ None → frames.new.items ≡ frames.old.items) }
 {
@@ -363,7 +366,9 @@ pub fn go_to<'a>(
     label: usize,
     ahead: usize,
 ) -> Result<Answer, AllocError>
-    ensures told { (s : Reading) → Agrees s table.new.rows.items → IfOk result (λ r. Told s state.old state.new r (steps.takes (shown s state.old) (steps.gone_to (program_in program.now) state.old.path label (ahead_at (held s state.old.frames.items) ahead)) (shown s state.old).values)) }
+    ensures told { (s : Reading) → Agrees s table.new.rows.items →
+        IfOk result (λ r. Told s state.old state.new r (steps.takes (shown s state.old) (steps.gone_to (program_in program.now) state.old.path label (ahead_at
+        (held s state.old.frames.items) ahead)) (shown s state.old).values)) }
     ensures before { (s : Reading) → Agrees s table.new.rows.items → Agrees s table.old.rows.items }
 {
     let path = state.path;
@@ -393,7 +398,9 @@ pub fn go_to_case<'a>(
     body: &'a Statement,
     ahead: usize,
 ) -> Result<Answer, AllocError>
-    ensures told { (s : Reading) → Agrees s table.new.rows.items → IfOk result (λ r. Told s state.old state.new r (steps.takes (shown s state.old) (steps.found (program_in program.now) state.old.path (mark_in mark) (scope_in s here.scope) (statement_tree body.now) (work.Close (place_in s here) (ahead_at (held s state.old.frames.items) ahead)) work.Lost) (shown s state.old).values)) }
+    ensures told { (s : Reading) → Agrees s table.new.rows.items →
+        IfOk result (λ r. Told s state.old state.new r (steps.takes (shown s state.old) (steps.found (program_in program.now) state.old.path (mark_in mark) (scope_in s here.scope)
+        (statement_tree body.now) (work.Close (place_in s here) (ahead_at (held s state.old.frames.items) ahead)) work.Lost) (shown s state.old).values)) }
     ensures before { (s : Reading) → Agrees s table.new.rows.items → Agrees s table.old.rows.items }
 {
     let path = state.path;
@@ -534,7 +541,8 @@ ghost use Rattle.pk_runner_jump.specs.Marks.{past};
 // The end of a switch, and what comes behind it.
 #[tactic(auto, unfolding(pk_runner_frame::specs::Frames::ahead_in))]
 fn switch_in_ahead(ahead: Ahead<'_>) -> Option<(Spot, usize)>
-    ensures { MatchOption result ((s : Reading) (hs : List Held) → past (ahead_in s hs ahead.entry) ≡ behind (ahead_in s hs ahead.entry)) (λ x. (s : Reading) (hs : List Held) → ahead_in s hs ahead.entry ≡ work.Close (place_in s x.0) (ahead_at hs x.1)) }
+    ensures { MatchOption result ((s : Reading) (hs : List Held) → past (ahead_in s hs ahead.entry) ≡ behind (ahead_in s hs ahead.entry)) (λ x. (s : Reading) (hs : List Held) →
+        ahead_in s hs ahead.entry ≡ work.Close (place_in s x.0) (ahead_at hs x.1)) }
 {
     match ahead {
         Ahead::Close(here, next) => Some((here, next)),
@@ -547,7 +555,8 @@ fn switch_in_ahead(ahead: Ahead<'_>) -> Option<(Spot, usize)>
 
 // The end of a switch that a number stands for.
 fn switch_at(frames: &[Frame<'_>], number: usize) -> Option<(Spot, usize)>
-    ensures { MatchOption result ((s : Reading) → past (ahead_at (held s frames.now) number) ≡ behind (ahead_at (held s frames.now) number)) (λ x. (s : Reading) → ahead_at (held s frames.now) number ≡ work.Close (place_in s x.0) (ahead_at (held s (take number frames.now)) x.1)) }
+    ensures { MatchOption result ((s : Reading) → past (ahead_at (held s frames.now) number) ≡ behind (ahead_at (held s frames.now) number)) (λ x. (s : Reading) →
+        ahead_at (held s frames.now) number ≡ work.Close (place_in s x.0) (ahead_at (held s (take number frames.now)) x.1)) }
 {
     if number < frames.len() {
         switch_in_ahead(ahead_in_frame(frames[number]))

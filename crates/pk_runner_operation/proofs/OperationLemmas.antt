@@ -28,7 +28,8 @@ by_value P c at r f z e p = subst (λ (q : Result ℤ Fault). P (with_value c at
 pub by_fault : (P : Next → Type 0) (c : Config) (at : Pos) (r : Result ℤ Fault) (f : ℤ → Next) (x : Fault) → Err x ≡ r → P (fails c x at) → P (with_value c at r f)
 by_fault P c at r f x e p = subst (λ (q : Result ℤ Fault). P (with_value c at q f)) e p
 
-pub by_index : (P : Next → Type 0) (count : ℕ) (i : ℤ) (n m : Next) (j : ℕ) → SFits w128 i → (is_index count (to_z w128 (of_z w128 i)) ≡ true) × (j ≡ unsigned_abs (to_z w128 (of_z w128 i))) → P n → P (if is_index count i then n else m)
+pub by_index : (P : Next → Type 0) (count : ℕ) (i : ℤ) (n m : Next) (j : ℕ) → SFits w128 i → (is_index count (to_z w128 (of_z w128 i)) ≡ true) × (j
+    ≡ unsigned_abs (to_z w128 (of_z w128 i))) → P n → P (if is_index count i then n else m)
 by_index P count i n m j fits h p = subst (λ (b : Bool). P (if b then n else m)) (sym h.0 ∙ ap (is_index count) (to_z-of_z w128 i fits)) p
 
 pub index_is : (count : ℕ) (i : ℤ) (j : ℕ) → SFits w128 i → (is_index count (to_z w128 (of_z w128 i)) ≡ true) × (j ≡ unsigned_abs (to_z w128 (of_z w128 i))) → j ≡ unsigned_abs i
@@ -39,7 +40,8 @@ no_index P count i n m fits e p = subst (λ (b : Bool). P (if b then n else m)) 
 
 -- ---- numbers that are read again
 
-pub applied_same : (r : Result ℤ Fault) (op : Op) (t : IntType) (v : ℤ) → SFits w128 v → r ≡ value_of op t (wrapped t (to_z w128 (of_z w128 v))) (wrapped t (to_z w128 (of_z w128 v))) → r ≡ value_of op t (wrapped t v) (wrapped t v)
+pub applied_same : (r : Result ℤ Fault) (op : Op) (t : IntType) (v : ℤ) → SFits w128 v → r ≡ value_of op t (wrapped t (to_z w128 (of_z w128 v))) (wrapped t (to_z w128 (of_z w128 v))) → r
+    ≡ value_of op t (wrapped t v) (wrapped t v)
 applied_same r op t v f e = e ∙ ap (λ (y : ℤ). value_of op t (wrapped t y) (wrapped t y)) (to_z-of_z w128 v f)
 
 pub operated_same : (r : Result ℤ Fault) (op : Op) (t : IntType) (u v : ℤ) → SFits w128 u → SFits w128 v → r ≡ operated op t (to_z w128 (of_z w128 u)) (to_z w128 (of_z w128 v)) → r ≡ operated op t u v
@@ -62,17 +64,20 @@ no_two P f ds xs e d p = subst (λ (vs : Numbers). P (on_two (reverse vs) f)) d 
 pub no_three : (P : Next → Type 0) (f : ℤ → ℤ → ℤ → Numbers → Next) (ds xs : List ℤ) → ((g : ℤ → ℤ → ℤ → Numbers → Next) → on_three (reverse ds) g ≡ Stuck) → ds ≡ xs → P Stuck → P (on_three (reverse xs) f)
 no_three P f ds xs e d p = subst (λ (vs : Numbers). P (on_three (reverse vs) f)) d (subst P (sym (e f)) p)
 
-pub by_top : (P : Next → Type 0) (f : ℤ → Numbers → Next) (ds xs ys : List ℤ) (v : ℤ) → reverse ds ≡ v ∷ reverse (take (length ds - 1) ds) → ds ≡ xs → ys ≡ take (length xs - 1) xs → P (f v (reverse ys)) → P (on_top (reverse xs) f)
+pub by_top : (P : Next → Type 0) (f : ℤ → Numbers → Next) (ds xs ys : List ℤ) (v : ℤ) → reverse ds ≡ v ∷ reverse (take (length ds - 1) ds) → ds ≡ xs → ys ≡ take (length xs - 1) xs →
+    P (f v (reverse ys)) → P (on_top (reverse xs) f)
 by_top P f ds xs ys v e d w p =
     let same : v ∷ reverse ys ≡ reverse xs = ap (λ (zs : List ℤ). v ∷ reverse zs) w ∙ (ap (λ (zs : List ℤ). v ∷ reverse (take (length zs - 1) zs)) (sym d) ∙ (sym e ∙ ap reverse d)) in
     subst (λ (vs : Numbers). P (on_top vs f)) same p
 
-pub by_two : (P : Next → Type 0) (f : ℤ → ℤ → Numbers → Next) (ds xs ys : List ℤ) (u v : ℤ) → reverse ds ≡ v ∷ u ∷ reverse (take (length ds - 2) ds) → ds ≡ xs → ys ≡ take (length xs - 2) xs → P (f u v (reverse ys)) → P (on_two (reverse xs) f)
+pub by_two : (P : Next → Type 0) (f : ℤ → ℤ → Numbers → Next) (ds xs ys : List ℤ) (u v : ℤ) → reverse ds ≡ v ∷ u ∷ reverse (take (length ds - 2) ds) → ds ≡ xs → ys
+    ≡ take (length xs - 2) xs → P (f u v (reverse ys)) → P (on_two (reverse xs) f)
 by_two P f ds xs ys u v e d w p =
     let same : v ∷ u ∷ reverse ys ≡ reverse xs = ap (λ (zs : List ℤ). v ∷ u ∷ reverse zs) w ∙ (ap (λ (zs : List ℤ). v ∷ u ∷ reverse (take (length zs - 2) zs)) (sym d) ∙ (sym e ∙ ap reverse d)) in
     subst (λ (vs : Numbers). P (on_two vs f)) same p
 
-pub by_three : (P : Next → Type 0) (f : ℤ → ℤ → ℤ → Numbers → Next) (ds xs ys : List ℤ) (u v w : ℤ) → reverse ds ≡ w ∷ v ∷ u ∷ reverse (take (length ds - 3) ds) → ds ≡ xs → ys ≡ take (length xs - 3) xs → P (f u v w (reverse ys)) → P (on_three (reverse xs) f)
+pub by_three : (P : Next → Type 0) (f : ℤ → ℤ → ℤ → Numbers → Next) (ds xs ys : List ℤ) (u v w : ℤ) → reverse ds ≡ w ∷ v ∷ u ∷ reverse (take (length ds - 3) ds) → ds ≡ xs → ys
+    ≡ take (length xs - 3) xs → P (f u v w (reverse ys)) → P (on_three (reverse xs) f)
 by_three P f ds xs ys u v w e d t p =
     let same : w ∷ v ∷ u ∷ reverse ys ≡ reverse xs = ap (λ (zs : List ℤ). w ∷ v ∷ u ∷ reverse zs) t ∙ (ap (λ (zs : List ℤ). w ∷ v ∷ u ∷ reverse (take (length zs - 3) zs)) (sym d) ∙ (sym e ∙ ap reverse d)) in
     subst (λ (vs : Numbers). P (on_three vs f)) same p
@@ -110,19 +115,22 @@ by_falsity P z y first second e t p = subst (λ (b : Bool). P (if b then first e
 
 -- ---- parameters
 
-pub by_bind : (P : Next → Type 0) (c : Config) (k i : ℕ) (ts : List IntType) (w : Work) (d : IntType) → (length ts ≡ 0 → ⊥) → P (on_below (length ts - 1) c.values (λ v vs. writes c (local k i) (wrapped (get_or ts 0 d) v ∷ []) (Bind k (i + 1) (drop 1 ts) w) vs)) → P (bind c k i ts w)
+pub by_bind : (P : Next → Type 0) (c : Config) (k i : ℕ) (ts : List IntType) (w : Work) (d : IntType) → (length ts ≡ 0 → ⊥) →
+    P (on_below (length ts - 1) c.values (λ v vs. writes c (local k i) (wrapped (get_or ts 0 d) v ∷ []) (Bind k (i + 1) (drop 1 ts) w) vs)) → P (bind c k i ts w)
 by_bind P c k i [] w d h p = absurd (h refl)
 by_bind P c k i (u ∷ us) w d h p =
     let count : length (u ∷ us) - 1 ≡ length us = omega arith in
     subst (λ (n : ℕ). P (on_below n c.values (λ v vs. writes c (local k i) (wrapped u v ∷ []) (Bind k (i + 1) us w) vs))) count p
 
-pub by_below : (P : Next → Type 0) (n : ℕ) (f : ℤ → Numbers → Next) (ds xs ys : List ℤ) (k : ℕ) → ((g : ℤ → Numbers → Next) → on_below n (reverse ds) g ≡ g (number_at ds k) (reverse (without_one k ds))) → ds ≡ xs → ys ≡ without_one k xs → P (f (number_at xs k) (reverse ys)) → P (on_below n (reverse xs) f)
+pub by_below : (P : Next → Type 0) (n : ℕ) (f : ℤ → Numbers → Next) (ds xs ys : List ℤ) (k : ℕ) → ((g : ℤ → Numbers → Next) → on_below n (reverse ds) g
+    ≡ g (number_at ds k) (reverse (without_one k ds))) → ds ≡ xs → ys ≡ without_one k xs → P (f (number_at xs k) (reverse ys)) → P (on_below n (reverse xs) f)
 by_below P n f ds xs ys k e d w p =
     let there : on_below n (reverse xs) f ≡ f (number_at xs k) (reverse ys) =
     ap (λ (zs : List ℤ). on_below n (reverse zs) f) (sym d) ∙ (e f ∙ (ap (λ (zs : List ℤ). f (number_at zs k) (reverse (without_one k zs))) d ∙ ap (λ (zs : List ℤ). f (number_at xs k) (reverse zs)) (sym w))) in
     subst P (sym there) p
 
-pub no_bind : (P : Next → Type 0) (c : Config) (k i : ℕ) (ts : List IntType) (w : Work) (ds : List ℤ) → (length ts ≡ 0 → ⊥) → ((f : ℤ → Numbers → Next) → on_below (length ts - 1) (reverse ds) f ≡ Stuck) → reverse ds ≡ c.values → P Stuck → P (bind c k i ts w)
+pub no_bind : (P : Next → Type 0) (c : Config) (k i : ℕ) (ts : List IntType) (w : Work) (ds : List ℤ) → (length ts ≡ 0 → ⊥) → ((f : ℤ → Numbers → Next) →
+    on_below (length ts - 1) (reverse ds) f ≡ Stuck) → reverse ds ≡ c.values → P Stuck → P (bind c k i ts w)
 no_bind P c k i [] w ds h e d p = absurd (h refl)
 no_bind P c k i (u ∷ us) w ds h e d p =
     let f : ℤ → Numbers → Next = λ v vs. writes c (local k i) (wrapped u v ∷ []) (Bind k (i + 1) us w) vs in
@@ -166,7 +174,8 @@ along c us vs Refused n = absurd (n refl)
 along c us vs Lost n = refl
 
 -- a way that isn't refused is taken alike whatever values waited
-pub taken : (s : Reading) (hs : List Held) (c : Config) (us vs : Numbers) (w x : code_way.Way) → (w ≡ ways.Refused → ⊥) → w ≡ x → outcome (takes (record c { values = us }) (way_in s hs w) vs) (record c { values = us }) ≡ outcome (takes c (way_in s hs x) vs) c
+pub taken : (s : Reading) (hs : List Held) (c : Config) (us vs : Numbers) (w x : code_way.Way) → (w ≡ ways.Refused → ⊥) → w ≡ x →
+    outcome (takes (record c { values = us }) (way_in s hs w) vs) (record c { values = us }) ≡ outcome (takes c (way_in s hs x) vs) c
 taken s hs c us vs w x n e = along c us vs (way_in s hs w) (no_refused s hs w n) ∙ ap (λ (y : code_way.Way). outcome (takes c (way_in s hs y) vs) c) e
 
 -- ---- what is left of parameters

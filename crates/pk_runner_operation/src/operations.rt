@@ -18,7 +18,8 @@ use pk_runner_state::{
 use std::alloc::AllocError;
 
 pub fn branch(state: &mut State<'_>, yes: Way, no: Way) -> Answer
-    ensures { (s : Reading) (p : Program) (ch : Numbers) → Told s state.old state.new result (step_of p ch (shown s state.old) (work.Branch (way_in s (held s state.old.frames.items) yes) (way_in s (held s state.old.frames.items) no))) }
+    ensures { (s : Reading) (p : Program) (ch : Numbers) → Told s state.old state.new result (step_of p ch (shown s state.old) (work.Branch (way_in s (held s state.old.frames.items) yes)
+        (way_in s (held s state.old.frames.items) no))) }
 {
     match top(&state.values) {
         None => Answer::Stuck,
@@ -63,7 +64,8 @@ pub fn operate(
     int_type: IntType,
     number: usize,
 ) -> Result<Answer, AllocError>
-    ensures { (s : Reading) (p : Program) (ch : Numbers) → IfOk result (λ r. Told s state.old state.new r (step_of p ch (shown s state.old) (work.Operate op at int_type (work_at (held s state.old.frames.items) number)))) }
+    ensures { (s : Reading) (p : Program) (ch : Numbers) → IfOk result (λ r. Told s state.old state.new r (step_of p ch (shown s state.old) (work.Operate op at int_type (work_at
+        (held s state.old.frames.items) number)))) }
 {
     match top_two(&state.values) {
         None => Ok(Answer::Stuck),
@@ -112,7 +114,8 @@ pub fn assign(
     object: Object,
     number: usize,
 ) -> Result<Answer, AllocError>
-    ensures { (s : Reading) (p : Program) (ch : Numbers) → IfOk result (λ r. Told s state.old state.new r (step_of p ch (shown s state.old) (work.Assign int_type (object_in object) (work_at (held s state.old.frames.items) number)))) }
+    ensures { (s : Reading) (p : Program) (ch : Numbers) → IfOk result (λ r. Told s state.old state.new r (step_of p ch (shown s state.old) (work.Assign int_type (object_in object) (work_at
+        (held s state.old.frames.items) number)))) }
 {
     match top(&state.values) {
         None => Ok(Answer::Stuck),
@@ -131,7 +134,8 @@ pub fn put(
     object: Object,
     number: usize,
 ) -> Result<Answer, AllocError>
-    ensures { (s : Reading) (p : Program) (ch : Numbers) → IfOk result (λ r. Told s state.old state.new r (step_of p ch (shown s state.old) (work.Put int_type (object_in object) (work_at (held s state.old.frames.items) number)))) }
+    ensures { (s : Reading) (p : Program) (ch : Numbers) → IfOk result (λ r. Told s state.old state.new r (step_of p ch (shown s state.old) (work.Put int_type (object_in object) (work_at
+        (held s state.old.frames.items) number)))) }
 {
     match top(&state.values) {
         None => Ok(Answer::Stuck),
@@ -151,7 +155,8 @@ pub fn update(
     object: Object,
     number: usize,
 ) -> Result<Answer, AllocError>
-    ensures { (s : Reading) (p : Program) (ch : Numbers) → IfOk result (λ r. Told s state.old state.new r (step_of p ch (shown s state.old) (work.Update op at in_type int_type (object_in object) (work_at (held s state.old.frames.items) number)))) }
+    ensures { (s : Reading) (p : Program) (ch : Numbers) → IfOk result (λ r. Told s state.old state.new r (step_of p ch (shown s state.old) (work.Update op at in_type int_type
+        (object_in object) (work_at (held s state.old.frames.items) number)))) }
 {
     match top(&state.values) {
         None => Ok(Answer::Stuck),
@@ -179,7 +184,8 @@ pub fn advance(
     object: Object,
     number: usize,
 ) -> Result<Answer, AllocError>
-    ensures { (s : Reading) (p : Program) (ch : Numbers) → IfOk result (λ r. Told s state.old state.new r (step_of p ch (shown s state.old) (work.Advance op at in_type int_type (object_in object) (work_at (held s state.old.frames.items) number)))) }
+    ensures { (s : Reading) (p : Program) (ch : Numbers) → IfOk result (λ r. Told s state.old state.new r (step_of p ch (shown s state.old) (work.Advance op at in_type int_type
+        (object_in object) (work_at (held s state.old.frames.items) number)))) }
 {
     let left = state.objects.number(object);
     match operated(op, in_type, &left, &1) {
@@ -194,7 +200,8 @@ pub fn load(
     array: Array,
     number: usize,
 ) -> Result<Answer, AllocError>
-    ensures { (s : Reading) (p : Program) (ch : Numbers) → IfOk result (λ r. Told s state.old state.new r (step_of p ch (shown s state.old) (work.Load at (array_in array) (work_at (held s state.old.frames.items) number)))) }
+    ensures { (s : Reading) (p : Program) (ch : Numbers) → IfOk result (λ r. Told s state.old state.new r (step_of p ch (shown s state.old) (work.Load at (array_in array) (work_at
+        (held s state.old.frames.items) number)))) }
 {
     match top(&state.values) {
         None => Ok(Answer::Stuck),
@@ -215,7 +222,8 @@ pub fn reload(
     array: Array,
     number: usize,
 ) -> Result<Answer, AllocError>
-    ensures { (s : Reading) (p : Program) (ch : Numbers) → IfOk result (λ r. Told s state.old state.new r (step_of p ch (shown s state.old) (work.Reload at (array_in array) (work_at (held s state.old.frames.items) number)))) }
+    ensures { (s : Reading) (p : Program) (ch : Numbers) → IfOk result (λ r. Told s state.old state.new r (step_of p ch (shown s state.old) (work.Reload at (array_in array) (work_at
+        (held s state.old.frames.items) number)))) }
 {
     match top_two(&state.values) {
         None => Ok(Answer::Stuck),
@@ -250,7 +258,8 @@ pub fn store_kept(
     array: Array,
     number: usize,
 ) -> Result<Answer, AllocError>
-    ensures { (s : Reading) (p : Program) (ch : Numbers) → IfOk result (λ r. Told s state.old state.new r (step_of p ch (shown s state.old) (work.StoreKept at (array_in array) (work_at (held s state.old.frames.items) number)))) }
+    ensures { (s : Reading) (p : Program) (ch : Numbers) → IfOk result (λ r. Told s state.old state.new r (step_of p ch (shown s state.old) (work.StoreKept at (array_in array) (work_at
+        (held s state.old.frames.items) number)))) }
 {
     match top_two(&state.values) {
         None => Ok(Answer::Stuck),
@@ -274,7 +283,8 @@ pub fn renew(
     array: Array,
     number: usize,
 ) -> Answer
-    ensures { (s : Reading) (p : Program) (ch : Numbers) → Told s state.old state.new result (step_of p ch (shown s state.old) (work.Renew op at in_type bracket (array_in array) (work_at (held s state.old.frames.items) number))) }
+    ensures { (s : Reading) (p : Program) (ch : Numbers) → Told s state.old state.new result (step_of p ch (shown s state.old) (work.Renew op at in_type bracket (array_in array) (work_at
+        (held s state.old.frames.items) number))) }
 {
     match top_three(&state.values) {
         None => Answer::Stuck,
@@ -299,7 +309,8 @@ pub fn renewed(
     int_type: IntType,
     number: usize,
 ) -> Result<Answer, AllocError>
-    ensures { (s : Reading) (p : Program) (ch : Numbers) → IfOk result (λ r. Told s state.old state.new r (step_of p ch (shown s state.old) (work.Renewed op at in_type int_type (work_at (held s state.old.frames.items) number)))) }
+    ensures { (s : Reading) (p : Program) (ch : Numbers) → IfOk result (λ r. Told s state.old state.new r (step_of p ch (shown s state.old) (work.Renewed op at in_type int_type (work_at
+        (held s state.old.frames.items) number)))) }
 {
     match top_three(&state.values) {
         None => Ok(Answer::Stuck),
@@ -322,7 +333,8 @@ pub fn replace(
     array: Array,
     number: usize,
 ) -> Result<Answer, AllocError>
-    ensures { (s : Reading) (p : Program) (ch : Numbers) → IfOk result (λ r. Told s state.old state.new r (step_of p ch (shown s state.old) (work.Replace op at in_type bracket (array_in array) (work_at (held s state.old.frames.items) number)))) }
+    ensures { (s : Reading) (p : Program) (ch : Numbers) → IfOk result (λ r. Told s state.old state.new r (step_of p ch (shown s state.old) (work.Replace op at in_type bracket
+        (array_in array) (work_at (held s state.old.frames.items) number)))) }
 {
     match top_three(&state.values) {
         None => Ok(Answer::Stuck),

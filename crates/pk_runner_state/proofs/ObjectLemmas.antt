@@ -75,4 +75,5 @@ pub local_past : (x : Objects) (k i : ℕ) (zs : Numbers) → length x.locals.it
 unfolding objects_in
 local_past x k i zs h =
     ap (λ (ls : List (List Numbers)). record (objects_in x) { locals = ls })
-    (sym (set_past (locals_in x.locals.items) k (slice_set (slice_index_or (locals_in x.locals.items) k []) i zs) (subst (λ (n : ℕ). n ≤ k) (sym (length-map x.locals.items (λ (w : Vec (Vec ℤ Global) Global). rows_of w.items))) h)))
+    (sym (set_past (locals_in x.locals.items) k (slice_set (slice_index_or (locals_in x.locals.items) k []) i zs) (subst (λ (n : ℕ). n ≤ k) (sym (length-map x.locals.items (λ (w : Vec
+    (Vec ℤ Global) Global). rows_of w.items))) h)))

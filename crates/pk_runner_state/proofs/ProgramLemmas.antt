@@ -23,27 +23,33 @@ pub function_past : (u : declared_unit.Unit) (n : ℕ) → length u.functions.it
 unfolding unit_tree
 function_past u n h = sym (get_or_past (unit_tree u).functions n no_function (subst (λ (m : ℕ). m ≤ n) (sym (length-map u.functions.items function_tree)) h))
 
-pub object_read : (u : declared_unit.Unit) (n : ℕ) (x : FileObject) → n < length u.objects.items → x ≡ get_or u.objects.items n x → length_of_start (file_object_tree x).start ≡ option_and_then (λ (y : FileObjectTree). length_of_start y.start) (slice_get (unit_tree u).objects n)
+pub object_read : (u : declared_unit.Unit) (n : ℕ) (x : FileObject) → n < length u.objects.items → x ≡ get_or u.objects.items n x → length_of_start (file_object_tree x).start
+    ≡ option_and_then (λ (y : FileObjectTree). length_of_start y.start) (slice_get (unit_tree u).objects n)
 unfolding unit_tree
 object_read u n x h e =
-    sym (ap (option_and_then (λ (y : FileObjectTree). length_of_start y.start)) (slice_get-map file_object_tree u.objects.items n ∙ ap (option_map file_object_tree) (slice_get_read u.objects.items (length u.objects.items) n x refl h e)))
+    sym (ap (option_and_then (λ (y : FileObjectTree). length_of_start y.start)) (slice_get-map file_object_tree u.objects.items n
+    ∙ ap (option_map file_object_tree) (slice_get_read u.objects.items (length u.objects.items) n x refl h e)))
 
 pub object_past : (u : declared_unit.Unit) (n : ℕ) → length u.objects.items ≤ n → None ≡ option_and_then (λ (y : FileObjectTree). length_of_start y.start) (slice_get (unit_tree u).objects n)
 unfolding unit_tree
 object_past u n h =
     sym (ap (option_and_then (λ (y : FileObjectTree). length_of_start y.start)) (slice_get-map file_object_tree u.objects.items n ∙ ap (option_map file_object_tree) (slice_get_past u.objects.items n h)))
 
-pub name_read : (u : declared_unit.Unit) (n : ℕ) (x : FileObject) → n < length u.objects.items → x ≡ get_or u.objects.items n x → (file_object_tree x).name ≡ unwrap_or (option_map (λ (y : FileObjectTree). y.name) (slice_get (unit_tree u).objects n)) []
+pub name_read : (u : declared_unit.Unit) (n : ℕ) (x : FileObject) → n < length u.objects.items → x ≡ get_or u.objects.items n x → (file_object_tree x).name
+    ≡ unwrap_or (option_map (λ (y : FileObjectTree). y.name) (slice_get (unit_tree u).objects n)) []
 unfolding unit_tree
 name_read u n x h e =
-    sym (ap (λ (o : Option FileObjectTree). unwrap_or (option_map (λ (y : FileObjectTree). y.name) o) []) (slice_get-map file_object_tree u.objects.items n ∙ ap (option_map file_object_tree) (slice_get_read u.objects.items (length u.objects.items) n x refl h e)))
+    sym (ap (λ (o : Option FileObjectTree). unwrap_or (option_map (λ (y : FileObjectTree). y.name) o) []) (slice_get-map file_object_tree u.objects.items n
+    ∙ ap (option_map file_object_tree) (slice_get_read u.objects.items (length u.objects.items) n x refl h e)))
 
 pub name_past : (u : declared_unit.Unit) (n : ℕ) → length u.objects.items ≤ n → [] ≡ unwrap_or (option_map (λ (y : FileObjectTree). y.name) (slice_get (unit_tree u).objects n)) []
 unfolding unit_tree
 name_past u n h =
-    sym (ap (λ (o : Option FileObjectTree). unwrap_or (option_map (λ (y : FileObjectTree). y.name) o) []) (slice_get-map file_object_tree u.objects.items n ∙ ap (option_map file_object_tree) (slice_get_past u.objects.items n h)))
+    sym (ap (λ (o : Option FileObjectTree). unwrap_or (option_map (λ (y : FileObjectTree). y.name) o) []) (slice_get-map file_object_tree u.objects.items n
+    ∙ ap (option_map file_object_tree) (slice_get_past u.objects.items n h)))
 
-pub local_read : (o : Option BodyTree) (b : Body) (n : ℕ) (x : Local) → Some (body_tree b) ≡ o → n < length b.locals.items → x ≡ get_or b.locals.items n x → local_tree x ≡ slice_index_or (unwrap_or o no_body).locals n no_local
+pub local_read : (o : Option BodyTree) (b : Body) (n : ℕ) (x : Local) → Some (body_tree b) ≡ o → n < length b.locals.items → x ≡ get_or b.locals.items n x → local_tree x
+    ≡ slice_index_or (unwrap_or o no_body).locals n no_local
 unfolding body_tree
 local_read o b n x e h f =
     ap local_tree f ∙ (sym (get_or-map local_tree b.locals.items n x no_local h) ∙ ap (λ (p : Option BodyTree). slice_index_or (unwrap_or p no_body).locals n no_local) e)
@@ -76,7 +82,8 @@ function_at : (u : declared_unit.Unit) (f : ℕ) (g : Function) → f < length u
 unfolding unit_tree
 function_at u f g lt at = slice_get-map function_tree u.functions.items f ∙ ap (option_map function_tree) (slice_get_read u.functions.items (length u.functions.items) f g refl lt at)
 
-pub block_is : (u : declared_unit.Unit) (f : ℕ) (g : Function) → f < length u.functions.items → g ≡ get_or u.functions.items f g → unwrap_or (option_map body_tree g.body) no_body ≡ unwrap_or (body_of (unit_tree u) f) no_body
+pub block_is : (u : declared_unit.Unit) (f : ℕ) (g : Function) → f < length u.functions.items → g ≡ get_or u.functions.items f g → unwrap_or (option_map body_tree g.body) no_body
+    ≡ unwrap_or (body_of (unit_tree u) f) no_body
 unfolding body_of function_tree
 block_is u f g lt at = sym (ap (λ (o : Option FunctionTree). unwrap_or (option_and_then (λ (h : FunctionTree). h.body) o) no_body) (function_at u f g lt at))
 
@@ -87,7 +94,8 @@ path_at (p ∷ ps) (suc i) q e = path_at ps i q e
 
 -- ---- lists that are made one by one
 
-pub made_next : {A B C : Type 0} (f : A → C) (g : B → C) (rows new : List A) (xs : List B) (k : ℕ) (r : A) (x : B) → k < length xs → new ≡ rows ++ r ∷ [] → x ≡ get_or xs k x → f r ≡ g x → map f rows ≡ map g (take k xs) → map f new ≡ map g (take (k + 1) xs)
+pub made_next : {A B C : Type 0} (f : A → C) (g : B → C) (rows new : List A) (xs : List B) (k : ℕ) (r : A) (x : B) → k < length xs → new ≡ rows ++ r ∷ [] → x ≡ get_or xs k x → f r ≡ g x →
+    map f rows ≡ map g (take k xs) → map f new ≡ map g (take (k + 1) xs)
 made_next f g rows new xs k r x h e i j inv =
     ap (map f) e
     ∙ (map_push f rows r

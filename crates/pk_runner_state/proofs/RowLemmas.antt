@@ -16,11 +16,12 @@ same_scope a b j (scopes.Row k) h l = h k (omega (arith, l))
 same_row : (a b : Reading) (j : ℕ) (rows : List Row) → IsOrderly rows → ((k : ℕ) → k < j → a k ≡ b k) → by_row (slice_get rows j) a ≡ by_row (slice_get rows j) b
 same_row a b j rows o h =
     elim (slice_get_cases rows j).1 [
-        inl (r, l, e, g) ↦
-            ap (λ (x : Option Row). by_row x a) e
-            ∙ (ap (λ (xs : Scope). local r.path r.local ∷ xs) (same_scope a b j r.parent h (o j r l g))
-            ∙ sym (ap (λ (x : Option Row). by_row x b) e))
-      | inr (l, e) ↦ ap (λ (x : Option Row). by_row x a) e ∙ sym (ap (λ (x : Option Row). by_row x b) e) ]
+      | inl (r, l, e, g) ↦
+          ap (λ (x : Option Row). by_row x a) e
+          ∙ (ap (λ (xs : Scope). local r.path r.local ∷ xs) (same_scope a b j r.parent h (o j r l g))
+          ∙ sym (ap (λ (x : Option Row). by_row x b) e))
+      | inr (l, e) ↦ ap (λ (x : Option Row). by_row x a) e ∙ sym (ap (λ (x : Option Row). by_row x b) e)
+    ]
 
 deep_enough : (n m j : ℕ) (rows : List Row) → IsOrderly rows → j < n → j < m → read_through n rows j ≡ read_through m rows j
 deep_enough zero m j rows o h g = absurd (omega (arith, h))

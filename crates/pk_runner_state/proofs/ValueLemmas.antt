@@ -50,7 +50,7 @@ left_of zs m n e =
     let short : length a ≡ m = length-take-le m zs (omega (arith, e)) in
     let long : length (reverse b) ≡ n = length-reverse b ∙ (length-drop (m + 1) zs ∙ omega (arith, e)) in
     let turned : reverse (a ++ z ∷ b) ≡ reverse b ++ z ∷ reverse a =
-        reverse-append a (z ∷ b) ∙ (ap (λ (ys : List ℤ). ys ++ reverse a) (reverse-append (z ∷ []) b) ∙ append_assoc (reverse b) (z ∷ []) (reverse a)) in
+    reverse-append a (z ∷ b) ∙ (ap (λ (ys : List ℤ). ys ++ reverse a) (reverse-append (z ∷ []) b) ∙ append_assoc (reverse b) (z ∷ []) (reverse a)) in
     ap (λ (ys : List ℤ). without_one n (reverse ys)) split
     ∙ (ap (without_one n) turned
     ∙ (place_at (reverse b) z (reverse a) n long

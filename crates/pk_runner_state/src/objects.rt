@@ -79,7 +79,11 @@ impl Objects {
         ensures { result ≡ element_of (array_in array) place (objects_in self.now) }
     {
         let numbers = self.numbers(array.object);
-        if place < numbers.len() { numbers[place] } else { 0 }
+        if place < numbers.len() {
+            numbers[place]
+        } else {
+            0
+        }
     }
 
     /// An object holds these numbers from here on.
@@ -232,10 +236,7 @@ fn zeros_of(
     }
 }
 
-fn first_locals(
-    alloc: Global,
-    program: &Program<'_>,
-) -> Result<Vec<Vec<Vec<i128>>>, AllocError>
+fn first_locals(alloc: Global, program: &Program<'_>) -> Result<Vec<Vec<Vec<i128>>>, AllocError>
     ensures { IfOk result (λ rows. map (λ vs. map (λ v. v.items) vs.items) rows.items ≡ (programs.first_objects (program_in program.now)).locals) }
 {
     let mut rows = Vec::new(alloc);

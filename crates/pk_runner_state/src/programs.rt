@@ -9,9 +9,9 @@ ghost use Rattle.pk_graph.specs.Kinds as kinds;
 ghost use Rattle.pk_runner_frame.specs.Frames.{object_in, array_in};
 ghost use Rattle.pk_runner_state.specs.Shown.{program_in, is_named};
 
-use pk_runner_frame::{Array, Object};
 use pk_calls::{CallPath, Paths};
 use pk_ctypes::{IntType, Pos};
+use pk_runner_frame::{Array, Object};
 use pk_typed::{Body, FileObject, Function, Item, Local, Start, Unit, Variable};
 use std::alloc::Global;
 
@@ -96,10 +96,7 @@ pub fn items<'a>(program: &Program<'a>, path: usize) -> &'a [Item]
     }
 }
 
-const NOWHERE: Pos = Pos {
-    line: 0,
-    column: 0,
-};
+const NOWHERE: Pos = Pos { line: 0, column: 0 };
 
 #[tactic(auto, unfolding(pk_typed::specs::Views::body_tree))]
 pub fn opened(program: &Program<'_>, path: usize) -> Pos
@@ -272,12 +269,7 @@ pub fn object_of(path: usize, variable: Variable) -> Object
     }
 }
 
-pub fn array_of(
-    program: &Program<'_>,
-    path: usize,
-    int_type: IntType,
-    variable: Variable,
-) -> Array
+pub fn array_of(program: &Program<'_>, path: usize, int_type: IntType, variable: Variable) -> Array
     ensures { array_in result ≡ programs.array_of (program_in program.now) path int_type variable }
 {
     Array {

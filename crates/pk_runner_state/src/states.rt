@@ -7,11 +7,10 @@ ghost use Rattle.pk_meaning.specs.Steps.{on, comes, takes, writes, fails};
 ghost use Rattle.pk_runner_frame.specs.Frames.{Reading, held, work_at, work_in, way_in, place_in, object_in, array_in};
 ghost use Rattle.pk_runner_state.specs.Shown.{shown, Told};
 
-use pk_runner_frame::{loop_at, take};
 use crate::objects::Objects;
-use pk_runner_frame::{Array, Frame, Object, Spot, Way, Work};
 use pk_ctypes::{Fault, IntType, Pos};
 use pk_graph::Site;
+use pk_runner_frame::{Array, Frame, Object, Spot, Way, Work, loop_at, take};
 use std::alloc::AllocError;
 
 /// What a step answers.
@@ -94,7 +93,11 @@ pub fn come<'a>(state: &mut State<'a>, here: Spot, work: Work<'a>) -> Answer
 // An object was written: on with what a frame holds.
 #[tactic(auto, unfolding(crate::specs::Shown::shown))]
 pub fn wrote(state: &mut State<'_>, object: Object, number: usize) -> Answer
-    ensures { (s : Reading) → Told s state.old state.new result (steps.To (record (shown s state.old) { work = work_at (held s state.old.frames.items) number; is_visit = is_in_scope (object_in object) (shown s state.old).here.scope })) }
+    ensures { (s : Reading) → Told s state.old state.new result (steps.To (record (shown s state.old) {
+      work = work_at (held s state.old.frames.items) number;
+      is_visit = is_in_scope
+          (object_in object) (shown s state.old).here.scope;
+    })) }
 {
     state.work = take(&mut state.frames, number);
     state.visited = Visited::Wrote(object);
@@ -119,12 +122,7 @@ ghost use Rattle.std.specs.Prelude.{[]};
 
 // An object gets numbers.
 #[tactic(auto, unfolding(crate::specs::Shown::shown))]
-pub fn write_all(
-    state: &mut State<'_>,
-    object: Object,
-    numbers: Vec<i128>,
-    number: usize,
-) -> Answer
+pub fn write_all(state: &mut State<'_>, object: Object, numbers: Vec<i128>, number: usize) -> Answer
     ensures { (s : Reading) → Told s state.old state.new result (writes (shown s state.old) (object_in object) numbers.items (work_at (held s state.old.frames.items) number) (shown s state.old).values) }
 {
     state.objects.set_numbers(object, numbers);

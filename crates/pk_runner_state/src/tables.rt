@@ -9,8 +9,8 @@ ghost use Rattle.pk_runner_state.specs.Shown.{program_in, Agrees};
 ghost use Rattle.pk_runner_state.specs.Rows.{rows_of_scope, IsOrderly, reading_of};
 
 use crate::programs::{Program, has_name, parameters, visible};
-use pk_runner_frame::Scope;
 use pk_ctypes::IntType;
+use pk_runner_frame::Scope;
 use pk_typed::Declared;
 use std::alloc::{AllocError, Global};
 
@@ -235,8 +235,7 @@ impl Table {
     /// What each row stands for.
     pub fn is_readable(&self)
         ensures { Agrees (reading_of self.now.rows.items) self.now.rows.items }
-    {
-    }
+    {}
 
     pub fn new(alloc: Global, program: &Program<'_>) -> Result<Table, AllocError> {
         Ok(Table {

@@ -53,7 +53,8 @@ pub fn without(values: &mut Vec<i128>, count: usize)
 
 /// Where the value under so many others is.
 pub fn below(values: &[i128], count: usize) -> Option<usize>
-    ensures { MatchOption result ((f : ℤ → Numbers → Next) → steps.on_below count (reverse values.now) f ≡ steps.Stuck) (λ k. (k < length values.now) × ((f : ℤ → Numbers → Next) → steps.on_below count (reverse values.now) f ≡ f (number_at values.now k) (reverse (without_one k values.now)))) }
+    ensures { MatchOption result ((f : ℤ → Numbers → Next) → steps.on_below count (reverse values.now) f ≡ steps.Stuck) (λ k. (k < length values.now) × ((f : ℤ → Numbers → Next) →
+        steps.on_below count (reverse values.now) f ≡ f (number_at values.now k) (reverse (without_one k values.now)))) }
 {
     if count < values.len() {
         Some(values.len() - 1 - count)

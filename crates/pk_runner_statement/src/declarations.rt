@@ -47,7 +47,8 @@ fn anything<'a>(
     object: usize,
     after: After<'a>,
 ) -> Result<Answer, AllocError>
-    ensures { (s : Reading) → IfOk result (λ r. Told s state.old state.new r (steps.anything (program_in program.now) chosen.now (steps.standing (place_in s here) (shown s state.old)) object (after_in s (held s state.old.frames.items) (scope_in s here.scope) after.entry))) }
+    ensures { (s : Reading) → IfOk result (λ r. Told s state.old state.new r (steps.anything (program_in program.now) chosen.now (steps.standing (place_in s here)
+        (shown s state.old)) object (after_in s (held s state.old.frames.items) (scope_in s here.scope) after.entry))) }
 {
     let int_type = local_type(program, state.path, object);
     let count = local_count(program, state.path, object);
@@ -70,7 +71,8 @@ fn begin_scalar<'a>(
     first: &'a Option<Value>,
     after: After<'a>,
 ) -> Result<Answer, AllocError>
-    ensures { (s : Reading) → IfOk result (λ r. Told s state.old state.new r (steps.scalar_first (program_in program.now) chosen.now (steps.standing (place_in s here) (shown s state.old)) object (option_map value_tree first.now) (after_in s (held s state.old.frames.items) (scope_in s here.scope) after.entry))) }
+    ensures { (s : Reading) → IfOk result (λ r. Told s state.old state.new r (steps.scalar_first (program_in program.now) chosen.now (steps.standing (place_in s here)
+        (shown s state.old)) object (option_map value_tree first.now) (after_in s (held s state.old.frames.items) (scope_in s here.scope) after.entry))) }
 {
     match first {
         None => anything(program, state, chosen, here, object, after),
@@ -99,7 +101,8 @@ fn begin_array<'a>(
     list: &'a Option<Vec<Value>>,
     after: After<'a>,
 ) -> Result<Answer, AllocError>
-    ensures { (s : Reading) → IfOk result (λ r. Told s state.old state.new r (steps.array_first (program_in program.now) chosen.now (steps.standing (place_in s here) (shown s state.old)) object (optional_values list.now) (after_in s (held s state.old.frames.items) (scope_in s here.scope) after.entry))) }
+    ensures { (s : Reading) → IfOk result (λ r. Told s state.old state.new r (steps.array_first (program_in program.now) chosen.now (steps.standing (place_in s here)
+        (shown s state.old)) object (optional_values list.now) (after_in s (held s state.old.frames.items) (scope_in s here.scope) after.entry))) }
 {
     match list {
         None => anything(program, state, chosen, here, object, after),
@@ -130,7 +133,10 @@ fn declare<'a>(
     declared: &'a Declared,
     after: After<'a>,
 ) -> Result<Answer, AllocError>
-    ensures told { (s : Reading) (at : Pos) → Agrees s table.new.rows.items → IfOk result (λ r. Told s state.old state.new r (steps.declares (program_in program.now) chosen.now (steps.standing (steps.place at (scope_in s scope)) (shown s state.old)) (declared_tree declared.now) (after_in s (held s state.old.frames.items) (programs.with_declared (program_in program.now) state.old.path (declared_tree declared.now) (scope_in s scope)) after.entry))) }
+    ensures told { (s : Reading) (at : Pos) → Agrees s table.new.rows.items →
+        IfOk result (λ r. Told s state.old state.new r (steps.declares (program_in program.now) chosen.now (steps.standing (steps.place at (scope_in s scope)) (shown s state.old))
+        (declared_tree declared.now) (after_in s (held s state.old.frames.items) (programs.with_declared (program_in program.now) state.old.path (declared_tree declared.now)
+        (scope_in s scope)) after.entry))) }
     ensures before { (s : Reading) → Agrees s table.new.rows.items → Agrees s table.old.rows.items }
 {
     let inner = with_declared(program, table, state.path, declared, scope)?;
@@ -163,7 +169,9 @@ pub fn declare_all<'a>(
     objects: &'a [Declared],
     number: usize,
 ) -> Result<Answer, AllocError>
-    ensures told { (s : Reading) → Agrees s table.new.rows.items → IfOk result (λ r. Told s state.old state.new r (steps.all_declared (program_in program.now) chosen.now (shown s state.old) (declared_trees objects.now) (work_at (held s state.old.frames.items) number))) }
+    ensures told { (s : Reading) → Agrees s table.new.rows.items →
+        IfOk result (λ r. Told s state.old state.new r (steps.all_declared (program_in program.now) chosen.now (shown s state.old) (declared_trees objects.now) (work_at
+        (held s state.old.frames.items) number))) }
     ensures before { (s : Reading) → Agrees s table.new.rows.items → Agrees s table.old.rows.items }
 {
     if objects.len() == 0 {
@@ -191,7 +199,9 @@ pub fn rest<'a>(
     items: &'a [Item],
     ahead: usize,
 ) -> Result<Answer, AllocError>
-    ensures told { (s : Reading) → Agrees s table.new.rows.items → IfOk result (λ r. Told s state.old state.new r (steps.rest (program_in program.now) chosen.now (shown s state.old) (scope_in s scope) (item_trees items.now) (ahead_at (held s state.old.frames.items) ahead))) }
+    ensures told { (s : Reading) → Agrees s table.new.rows.items →
+        IfOk result (λ r. Told s state.old state.new r (steps.rest (program_in program.now) chosen.now (shown s state.old) (scope_in s scope) (item_trees items.now) (ahead_at
+        (held s state.old.frames.items) ahead))) }
     ensures before { (s : Reading) → Agrees s table.new.rows.items → Agrees s table.old.rows.items }
 {
     if items.len() == 0 {

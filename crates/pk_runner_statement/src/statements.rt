@@ -26,7 +26,10 @@ fn begin_for<'a>(
     head: &'a ForHead,
     ahead: usize,
 ) -> Result<Answer, AllocError>
-    ensures told { (s : Reading) (l : work.Loop) → Agrees s table.new.rows.items → loop_of (statement_tree statement.now) ≡ Some l → IfOk result (λ r. Told s state.old state.new r (steps.for_start (steps.standing_at at (shown s state.old)) (for_start_tree head.now.start) (work.Back (steps.place at (steps.for_scope (program_in program.now) state.old.path (for_start_tree head.now.start) (scope_in s state.old.here.scope))) l (steps.place at (scope_in s state.old.here.scope)) (ahead_at (held s state.old.frames.items) ahead)))) }
+    ensures told { (s : Reading) (l : work.Loop) → Agrees s table.new.rows.items → loop_of (statement_tree statement.now) ≡ Some l →
+        IfOk result (λ r. Told s state.old state.new r (steps.for_start (steps.standing_at at (shown s state.old)) (for_start_tree head.now.start) (work.Back (steps.place at
+        (steps.for_scope (program_in program.now) state.old.path (for_start_tree head.now.start) (scope_in s state.old.here.scope))) l (steps.place at (scope_in s state.old.here.scope))
+        (ahead_at (held s state.old.frames.items) ahead)))) }
     ensures before { (s : Reading) → Agrees s table.new.rows.items → Agrees s table.old.rows.items }
 {
     let here = Spot {
@@ -60,7 +63,9 @@ pub fn execute<'a>(
     statement: &'a Statement,
     ahead: usize,
 ) -> Result<Answer, AllocError>
-    ensures told { (s : Reading) → Agrees s table.new.rows.items → IfOk result (λ r. Told s state.old state.new r (steps.does (program_in program.now) (shown s state.old) (statement_tree statement.now) (ahead_at (held s state.old.frames.items) ahead))) }
+    ensures told { (s : Reading) → Agrees s table.new.rows.items →
+        IfOk result (λ r. Told s state.old state.new r (steps.does (program_in program.now) (shown s state.old) (statement_tree statement.now) (ahead_at
+        (held s state.old.frames.items) ahead))) }
     ensures before { (s : Reading) → Agrees s table.new.rows.items → Agrees s table.old.rows.items }
 {
     let scope = state.here.scope;
@@ -131,7 +136,8 @@ pub fn proceed<'a>(
     chosen: &[i128],
     number: usize,
 ) -> Result<Answer, AllocError>
-    ensures told { (s : Reading) → Agrees s table.new.rows.items → IfOk result (λ r. Told s state.old state.new r (steps.goes (program_in program.now) chosen.now (shown s state.old) (ahead_at (held s state.old.frames.items) number))) }
+    ensures told { (s : Reading) → Agrees s table.new.rows.items →
+        IfOk result (λ r. Told s state.old state.new r (steps.goes (program_in program.now) chosen.now (shown s state.old) (ahead_at (held s state.old.frames.items) number))) }
     ensures before { (s : Reading) → Agrees s table.new.rows.items → Agrees s table.old.rows.items }
 {
     if number < state.frames.len() {
@@ -188,7 +194,9 @@ pub fn choose<'a>(
     here: Spot,
     ahead: usize,
 ) -> Result<Answer, AllocError>
-    ensures told { (s : Reading) → Agrees s table.new.rows.items → IfOk result (λ r. Told s state.old state.new r (steps.on_top (shown s state.old).values (λ v vs. steps.chooses (program_in program.now) (shown s state.old) int_type cases.now number has_default (statement_tree body.now) (place_in s here) (ahead_at (held s state.old.frames.items) ahead) v vs))) }
+    ensures told { (s : Reading) → Agrees s table.new.rows.items →
+        IfOk result (λ r. Told s state.old state.new r (steps.on_top (shown s state.old).values (λ v vs. steps.chooses (program_in program.now)
+        (shown s state.old) int_type cases.now number has_default (statement_tree body.now) (place_in s here) (ahead_at (held s state.old.frames.items) ahead) v vs))) }
     ensures before { (s : Reading) → Agrees s table.new.rows.items → Agrees s table.old.rows.items }
 {
     match top(&state.values) {

@@ -41,7 +41,8 @@ pub fn begin_if<'a>(
     body: &'a Statement,
     ahead: usize,
 ) -> Result<Answer, AllocError>
-    ensures { (s : Reading) (p : programs.Program) → IfOk result (λ r. Told s state.old state.new r (steps.does p (shown s state.old) (tree.if_then at (value_tree condition.now) (statement_tree body.now)) (ahead_at (held s state.old.frames.items) ahead))) }
+    ensures { (s : Reading) (p : programs.Program) → IfOk result (λ r. Told s state.old state.new r (steps.does p (shown s state.old) (tree.if_then at (value_tree condition.now)
+        (statement_tree body.now)) (ahead_at (held s state.old.frames.items) ahead))) }
 {
     let here = Spot {
         at,
@@ -69,7 +70,8 @@ pub fn begin_if_else<'a>(
     if_false: &'a Statement,
     ahead: usize,
 ) -> Result<Answer, AllocError>
-    ensures { (s : Reading) (p : programs.Program) → IfOk result (λ r. Told s state.old state.new r (steps.does p (shown s state.old) (tree.if_else at (value_tree condition.now) (statement_tree if_true.now) (statement_tree if_false.now)) (ahead_at (held s state.old.frames.items) ahead))) }
+    ensures { (s : Reading) (p : programs.Program) → IfOk result (λ r. Told s state.old state.new r (steps.does p (shown s state.old) (tree.if_else at (value_tree condition.now)
+        (statement_tree if_true.now) (statement_tree if_false.now)) (ahead_at (held s state.old.frames.items) ahead))) }
 {
     let here = Spot {
         at,
@@ -99,7 +101,8 @@ pub fn begin_switch<'a>(
     body: &'a Statement,
     ahead: usize,
 ) -> Result<Answer, AllocError>
-    ensures { (s : Reading) (p : programs.Program) → IfOk result (λ r. Told s state.old state.new r (steps.does p (shown s state.old) (tree.switch at int_type (value_tree value.now) cases.now has_default (statement_tree body.now)) (ahead_at (held s state.old.frames.items) ahead))) }
+    ensures { (s : Reading) (p : programs.Program) → IfOk result (λ r. Told s state.old state.new r (steps.does p (shown s state.old) (tree.switch at int_type
+        (value_tree value.now) cases.now has_default (statement_tree body.now)) (ahead_at (held s state.old.frames.items) ahead))) }
 {
     let here = Spot {
         at,
@@ -125,7 +128,9 @@ pub fn begin_loop<'a>(
     statement: &'a Statement,
     ahead: usize,
 ) -> Result<Answer, AllocError>
-    ensures { (s : Reading) (l : work.Loop) → loop_of (statement_tree statement.now) ≡ Some l → IfOk result (λ r. Told s state.old state.new r (steps.comes (shown s state.old) (steps.place at (scope_in s state.old.here.scope)) (work.Turn (steps.place at (scope_in s state.old.here.scope)) l (steps.place at (scope_in s state.old.here.scope)) (ahead_at (held s state.old.frames.items) ahead)) (shown s state.old).values)) }
+    ensures { (s : Reading) (l : work.Loop) → loop_of (statement_tree statement.now) ≡ Some l →
+        IfOk result (λ r. Told s state.old state.new r (steps.comes (shown s state.old) (steps.place at (scope_in s state.old.here.scope)) (work.Turn (steps.place at
+        (scope_in s state.old.here.scope)) l (steps.place at (scope_in s state.old.here.scope)) (ahead_at (held s state.old.frames.items) ahead)) (shown s state.old).values)) }
 {
     let here = Spot {
         at,
@@ -145,7 +150,8 @@ pub fn return_value<'a>(
     value: &'a Option<Value>,
     ahead: usize,
 ) -> Result<Answer, AllocError>
-    ensures { (s : Reading) → IfOk result (λ r. Told s state.old state.new r (steps.returns (steps.standing_at at (shown s state.old)) (programs.function_of (program_in program.now) state.old.path).returns (option_map value_tree value.now) (steps.caller_of (ahead_at (held s state.old.frames.items) ahead)))) }
+    ensures { (s : Reading) → IfOk result (λ r. Told s state.old state.new r (steps.returns (steps.standing_at at (shown s state.old)) (programs.function_of
+        (program_in program.now) state.old.path).returns (option_map value_tree value.now) (steps.caller_of (ahead_at (held s state.old.frames.items) ahead)))) }
 {
     let path = state.path;
     let caller = take_caller(&mut state.frames, ahead);
@@ -178,7 +184,9 @@ pub fn fall<'a>(
     number: usize,
     caller: Caller,
 ) -> Result<Answer, AllocError>
-    ensures told { (s : Reading) → Agrees s table.new.rows.items → IfOk result (λ r. Told s state.old state.new r (steps.goes (program_in program.now) chosen.now (shown s state.old) (work.End (caller_in s (held s (take number state.old.frames.items)) caller)))) }
+    ensures told { (s : Reading) → Agrees s table.new.rows.items →
+        IfOk result (λ r. Told s state.old state.new r (steps.goes (program_in program.now) chosen.now (shown s state.old) (work.End (caller_in s (held s
+        (take number state.old.frames.items)) caller)))) }
     ensures before { (s : Reading) → Agrees s table.new.rows.items → Agrees s table.old.rows.items }
 {
     let path = state.path;
@@ -218,7 +226,8 @@ pub fn enter<'a>(
     path: usize,
     number: usize,
 ) -> Result<Answer, AllocError>
-    ensures told { (s : Reading) → Agrees s table.new.rows.items → IfOk result (λ r. Told s state.old state.new r (steps.enters (program_in program.now) (shown s state.old) path (work_at (held s state.old.frames.items) number))) }
+    ensures told { (s : Reading) → Agrees s table.new.rows.items →
+        IfOk result (λ r. Told s state.old state.new r (steps.enters (program_in program.now) (shown s state.old) path (work_at (held s state.old.frames.items) number))) }
     ensures before { (s : Reading) → Agrees s table.new.rows.items → Agrees s table.old.rows.items }
 {
     let scope = body_scope(program, table, path)?;
@@ -243,7 +252,9 @@ pub fn leave<'a>(
     table: &mut Table,
     caller: Caller,
 ) -> Result<Answer, AllocError>
-    ensures told { (s : Reading) → Agrees s table.new.rows.items → IfOk result (λ r. Told s state.old state.new r (steps.comes (shown s state.old) (steps.body_place (program_in program.now) state.old.path) (work.Return (caller_in s (held s state.old.frames.items) caller)) (shown s state.old).values)) }
+    ensures told { (s : Reading) → Agrees s table.new.rows.items →
+        IfOk result (λ r. Told s state.old state.new r (steps.comes (shown s state.old) (steps.body_place (program_in program.now) state.old.path) (work.Return (caller_in s
+        (held s state.old.frames.items) caller)) (shown s state.old).values)) }
     ensures before { (s : Reading) → Agrees s table.new.rows.items → Agrees s table.old.rows.items }
 {
     let path = state.path;
@@ -282,7 +293,8 @@ pub fn go_back<'a>(program: &Program<'a>, state: &mut State<'a>, caller: Caller)
 
 /// A loop where it begins again.
 pub fn turn_loop<'a>(program: &Program<'a>, state: &mut State<'a>, number: usize) -> Answer
-    ensures { (s : Reading) (p : programs.Program) (ch : Numbers) → p ≡ program_in program.now → Told s state.old state.new result (steps.step_of p ch (shown s state.old) (turn (ahead_at (held s state.old.frames.items) number))) }
+    ensures { (s : Reading) (p : programs.Program) (ch : Numbers) → p ≡ program_in program.now →
+        Told s state.old state.new result (steps.step_of p ch (shown s state.old) (turn (ahead_at (held s state.old.frames.items) number))) }
 {
     match loop_at(&state.frames, number) {
         Some(end) => match end.kind {
@@ -315,7 +327,8 @@ ghost use Rattle.pk_graph.specs.Steps.{Numbers};
 
 /// The way to where a loop begins again.
 pub fn go_back_to_loop<'a>(program: &Program<'a>, state: &mut State<'a>, number: usize) -> Answer
-    ensures { (s : Reading) (p : programs.Program) (ch : Numbers) → p ≡ program_in program.now → Told s state.old state.new result (steps.step_of p ch (shown s state.old) (back (ahead_at (held s state.old.frames.items) number))) }
+    ensures { (s : Reading) (p : programs.Program) (ch : Numbers) → p ≡ program_in program.now →
+        Told s state.old state.new result (steps.step_of p ch (shown s state.old) (back (ahead_at (held s state.old.frames.items) number))) }
 {
     match loop_at(&state.frames, number) {
         Some(end) => come(state, end.here, Work::Turn(number)),

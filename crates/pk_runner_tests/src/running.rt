@@ -7,12 +7,7 @@ use std::alloc::Global;
 use std::test::Fail;
 
 // How a run of so many steps ends.
-fn ending(
-    alloc: Global,
-    text: &[u8],
-    choices: &[&[i128]],
-    steps: u64,
-) -> Result<String, Fail> {
+fn ending(alloc: Global, text: &[u8], choices: &[&[i128]], steps: u64) -> Result<String, Fail> {
     let Ok((unit, paths)) = front(alloc, text, "main") else {
         let mut text = String::new(alloc);
         write!(text, "no unit")?;
@@ -68,7 +63,8 @@ fn texts_end_so(rt: HostRuntime) -> Result<(), Fail> {
 }
 
 // An array of 1048576 elements is written and read for a million steps.
-const BIG: &[u8] = b"int a[1048576];int main(void){unsigned i=0;for(;;){a[i%1048576u]=(int)(i%1000u);i=i+1;}return 0;}";
+const BIG: &[u8] =
+    b"int a[1048576];int main(void){unsigned i=0;for(;;){a[i%1048576u]=(int)(i%1000u);i=i+1;}return 0;}";
 
 #[test]
 fn a_million_steps(rt: HostRuntime) -> Result<(), Fail> {

@@ -24,5 +24,6 @@ loop-number-preserved c =
     let fits : SFits w128 (get_or zs n (pos 0)) = search rules in
     let number : to_z w128 (of_z w128 (get_or zs n (pos 0))) ≡ get_or zs n (pos 0) = to_z-of_z w128 (get_or zs n (pos 0)) fits in
     ap (λ (o : Objects). with_arguments (n + 1) (drop (n + 1) ts) (drop (n + 1) zs) o) c.in_ok-set_number.ensures
-    ∙ (sym (next_argument n n ts zs Char (pos 0) (objects_in c.loop-number.objects) (omega (arith, c.loop-number-test.true)) (omega (arith, c.loop-number-test.true, c.if-types-numbers.false)) (ap (is_in_type (get_or ts n Char)) (sym number) ∙ (sym c.fits.ensures ∙ c.if-not-fits.false)))
+    ∙ (sym (next_argument n n ts zs Char (pos 0) (objects_in c.loop-number.objects) (omega (arith, c.loop-number-test.true)) (omega
+    (arith, c.loop-number-test.true, c.if-types-numbers.false)) (ap (is_in_type (get_or ts n Char)) (sym number) ∙ (sym c.fits.ensures ∙ c.if-not-fits.false)))
     ∙ c.loop-number.invariant)

@@ -40,7 +40,8 @@ returns-in_ok-next-in-Perform-clause-told c = λ s agrees.
     let p : Program = program_in c.args.program.now in
     let ch : Numbers = c.args.chosen.now in
     let old : Config = shown s c.args.state.now in
-    by_work (λ (n : Next). Told s c.args.state.now c.go_on.new.state c.go_on.result n) p ch s c.args.state.now _ c.in-Perform.is (c.go_on.ensures s ∙ ap (λ (v : Work). outcome (on old v old.values) old) (c.in_ok-next-in-Perform.ensures s))
+    by_work (λ (n : Next). Told s c.args.state.now c.go_on.new.state c.go_on.result n) p ch s c.args.state.now _ c.in-Perform.is (c.go_on.ensures s
+    ∙ ap (λ (v : Work). outcome (on old v old.values) old) (c.in_ok-next-in-Perform.ensures s))
 
 pub returns-in-Evaluate-clause-told : goal.returns-in-Evaluate-clause-told
 unfolding shown work_in
@@ -55,7 +56,8 @@ returns-in_ok-next-in-Test-clause-told c = λ s agrees.
     let p : Program = program_in c.args.program.now in
     let ch : Numbers = c.args.chosen.now in
     let old : Config = shown s c.args.state.now in
-    by_work (λ (n : Next). Told s c.args.state.now c.go_on-in-Test.new.state c.go_on-in-Test.result n) p ch s c.args.state.now _ c.in-Test.is (c.go_on-in-Test.ensures s ∙ ap (λ (v : Work). outcome (on old v old.values) old) (c.in_ok-next-in-Test.ensures s))
+    by_work (λ (n : Next). Told s c.args.state.now c.go_on-in-Test.new.state c.go_on-in-Test.result n) p ch s c.args.state.now _ c.in-Test.is (c.go_on-in-Test.ensures s
+    ∙ ap (λ (v : Work). outcome (on old v old.values) old) (c.in_ok-next-in-Test.ensures s))
 
 pub returns-in-Keep-clause-told : goal.returns-in-Keep-clause-told
 unfolding shown work_in
@@ -104,7 +106,8 @@ unfolding shown work_in
 returns-in-Truth-clause-told c = λ s agrees.
     let p : Program = program_in c.args.program.now in
     let ch : Numbers = c.args.chosen.now in
-    by_work (λ (n : Next). IfOk c.give.result (λ r. Told s c.args.state.now c.give.new.state r n)) p ch s c.args.state.now _ c.in-Truth.is (let fv : SFits w128 c.in-Truth.value = search rules in rw (to_z-of_z w128 c.in-Truth.value fv) at c.give.ensures s)
+    by_work (λ (n : Next). IfOk c.give.result (λ r. Told s c.args.state.now c.give.new.state r n)) p ch s c.args.state.now _ c.in-Truth.is
+    (let fv : SFits w128 c.in-Truth.value = search rules in rw (to_z-of_z w128 c.in-Truth.value fv) at c.give.ensures s)
 
 pub returns-in-Discard-clause-told : goal.returns-in-Discard-clause-told
 unfolding shown work_in
@@ -146,7 +149,9 @@ unfolding shown work_in
 returns-in-Fetch-clause-told c = λ s agrees.
     let p : Program = program_in c.args.program.now in
     let ch : Numbers = c.args.chosen.now in
-    by_work (λ (n : Next). IfOk c.give-in-Fetch.result (λ r. Told s c.args.state.now c.give-in-Fetch.new.state r n)) p ch s c.args.state.now _ c.in-Fetch.is (let value : to_z w128 (of_z w128 c.number-value.result) ≡ number_of (object_in c.in-Fetch.object) (objects_in c.args.state.now.objects) = to_z-of_z w128 c.number-value.result (record { sfits = c.number-value.type_inv }) ∙ c.number-value.ensures in rw value at (c.give-in-Fetch.ensures s))
+    by_work (λ (n : Next). IfOk c.give-in-Fetch.result (λ r. Told s c.args.state.now c.give-in-Fetch.new.state r n)) p ch s c.args.state.now _ c.in-Fetch.is (let value : to_z w128
+    (of_z w128 c.number-value.result) ≡ number_of (object_in c.in-Fetch.object) (objects_in c.args.state.now.objects) = to_z-of_z w128 c.number-value.result
+    (record { sfits = c.number-value.type_inv }) ∙ c.number-value.ensures in rw value at (c.give-in-Fetch.ensures s))
 
 pub returns-in-Load-clause-told : goal.returns-in-Load-clause-told
 unfolding shown work_in
@@ -203,7 +208,8 @@ returns-in_ok-next-in-Fill-clause-told c = λ s agrees.
     let p : Program = program_in c.args.program.now in
     let ch : Numbers = c.args.chosen.now in
     let old : Config = shown s c.args.state.now in
-    by_work (λ (n : Next). Told s c.args.state.now c.go_on-in-Fill.new.state c.go_on-in-Fill.result n) p ch s c.args.state.now _ c.in-Fill.is (c.go_on-in-Fill.ensures s ∙ ap (λ (v : Work). outcome (on old v old.values) old) (c.in_ok-next-in-Fill.ensures s))
+    by_work (λ (n : Next). Told s c.args.state.now c.go_on-in-Fill.new.state c.go_on-in-Fill.result n) p ch s c.args.state.now _ c.in-Fill.is (c.go_on-in-Fill.ensures s
+    ∙ ap (λ (v : Work). outcome (on old v old.values) old) (c.in_ok-next-in-Fill.ensures s))
 
 pub returns-in-Item-clause-told : goal.returns-in-Item-clause-told
 unfolding shown work_in
@@ -225,7 +231,8 @@ returns-in_ok-next-in-Pass-clause-told c = λ s agrees.
     let p : Program = program_in c.args.program.now in
     let ch : Numbers = c.args.chosen.now in
     let old : Config = shown s c.args.state.now in
-    by_work (λ (n : Next). Told s c.args.state.now c.go_on-in-Pass.new.state c.go_on-in-Pass.result n) p ch s c.args.state.now _ c.in-Pass.is (c.go_on-in-Pass.ensures s ∙ ap (λ (v : Work). outcome (on old v old.values) old) (c.in_ok-next-in-Pass.ensures s))
+    by_work (λ (n : Next). Told s c.args.state.now c.go_on-in-Pass.new.state c.go_on-in-Pass.result n) p ch s c.args.state.now _ c.in-Pass.is (c.go_on-in-Pass.ensures s
+    ∙ ap (λ (v : Work). outcome (on old v old.values) old) (c.in_ok-next-in-Pass.ensures s))
 
 pub returns-in-Bind-clause-told : goal.returns-in-Bind-clause-told
 unfolding shown work_in

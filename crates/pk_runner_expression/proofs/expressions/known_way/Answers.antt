@@ -20,4 +20,3 @@ returns-in_ok-known-in-Head-clause-stays c = λ s f. ap (λ (x : Held). head (ah
 
 pub returns-in_ok-known-in-Behind-clause-stays : goal.returns-in_ok-known-in-Behind-clause-stays
 returns-in_ok-known-in-Behind-clause-stays c = λ s f. ap (λ (x : Held). behind (ahead_of x)) (below_stays s c.known-in-Behind.new.frames.items (f ∷ []) c.in_ok-known-in-Behind.field-0 nothing c.in_ok-known-in-Behind.ensures.there)
-

@@ -11,4 +11,5 @@ returns-clause-same c = λ s i. on_map c.lay.result _ _ (λ e. ap (λ (xs : List
 
 pub returns-clause-empty : goal.returns-clause-empty
 unfolding work_in
-returns-clause-empty c = λ s. if_both c.lay.result _ _ _ (λ n e f. ap (λ (xs : List Frame). slice_index_or (held s xs) n nothing) e ∙ top_is s c.args.frames.now.items _ n nothing f) c.lay.ensures.frames c.lay.ensures.number
+returns-clause-empty c = λ s. if_both c.lay.result _ _ _ (λ n e f. ap (λ (xs : List Frame). slice_index_or (held s xs) n nothing) e
+    ∙ top_is s c.args.frames.now.items _ n nothing f) c.lay.ensures.frames c.lay.ensures.number

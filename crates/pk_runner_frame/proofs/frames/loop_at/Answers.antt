@@ -8,7 +8,8 @@ use Rattle.pk_runner_frame.proofs.frames.loop_at.Goals as goal
 pub returns-then-number-frames : goal.returns-then-number-frames
 returns-then-number-frames c =
     let same : (s : Reading) → ahead_at (held s c.args.frames.now) c.args.number ≡ ahead_in s (held s (take c.args.number c.args.frames.now)) c.ahead_in_frame-ahead.result =
-        λ s. ap ahead_of (frame_is s c.args.frames.now c.args.number c.index-frames-number.result nothing c.if-number-frames.true c.index-frames-number.is) ∙ sym (c.ahead_in_frame-ahead.ensures s (held s (take c.args.number c.args.frames.now))) in
+    λ s. ap ahead_of (frame_is s c.args.frames.now c.args.number c.index-frames-number.result nothing c.if-number-frames.true c.index-frames-number.is)
+    ∙ sym (c.ahead_in_frame-ahead.ensures s (held s (take c.args.number c.args.frames.now))) in
     match_map c.loop_in_ahead.result _ _ _ _ (λ p s. subst NoLoop (sym (same s)) (p s (held s (take c.args.number c.args.frames.now))))
     (λ x q. (c.if-number-frames.true, λ s. same s ∙ q s (held s (take c.args.number c.args.frames.now)))) c.loop_in_ahead.ensures
 

@@ -11,7 +11,8 @@ loop-number-preserved c = record {
   same = λ s.
       c.in-On.ensures s (held s (take c.loop-number.number c.args.frames.now))
       ∙ (ap continued (c.ahead_in_frame-ahead.ensures s (held s (take c.loop-number.number c.args.frames.now)))
-      ∙ (sym (ap continued (seen s c.args.frames.now c.loop-number.limit c.loop-number.number c.index-frames-number.result c.loop-number-test.true c.loop-number.invariant.within c.index-frames-number.is)) ∙ c.loop-number.invariant.same s));
+      ∙ (sym (ap continued (seen s c.args.frames.now c.loop-number.limit c.loop-number.number c.index-frames-number.result c.loop-number-test.true c.loop-number.invariant.within
+      c.index-frames-number.is)) ∙ c.loop-number.invariant.same s));
 }
 
 pub returns-in-Here : goal.returns-in-Here
@@ -20,14 +21,16 @@ returns-in-Here c = λ s.
     ∙ (sym (ap again (c.ahead_in_frame-ahead.ensures s (held s (take c.loop-number.number c.args.frames.now))))
     ∙ (c.in-Here.ensures s (held s (take c.loop-number.number c.args.frames.now))
     ∙ (ap continued (c.ahead_in_frame-ahead.ensures s (held s (take c.loop-number.number c.args.frames.now)))
-    ∙ (sym (ap continued (seen s c.args.frames.now c.loop-number.limit c.loop-number.number c.index-frames-number.result c.loop-number-test.true c.loop-number.invariant.within c.index-frames-number.is)) ∙ c.loop-number.invariant.same s))))
+    ∙ (sym (ap continued (seen s c.args.frames.now c.loop-number.limit c.loop-number.number c.index-frames-number.result c.loop-number-test.true c.loop-number.invariant.within
+    c.index-frames-number.is)) ∙ c.loop-number.invariant.same s))))
 
 pub returns-in-Nowhere : goal.returns-in-Nowhere
 returns-in-Nowhere c = λ s.
     sym (ap again (no_ahead s c.args.frames.now (length c.args.frames.now) (omega arith)))
     ∙ (c.in-Nowhere.ensures s (held s (take c.loop-number.number c.args.frames.now))
     ∙ (ap continued (c.ahead_in_frame-ahead.ensures s (held s (take c.loop-number.number c.args.frames.now)))
-    ∙ (sym (ap continued (seen s c.args.frames.now c.loop-number.limit c.loop-number.number c.index-frames-number.result c.loop-number-test.true c.loop-number.invariant.within c.index-frames-number.is)) ∙ c.loop-number.invariant.same s)))
+    ∙ (sym (ap continued (seen s c.args.frames.now c.loop-number.limit c.loop-number.number c.index-frames-number.result c.loop-number-test.true c.loop-number.invariant.within
+    c.index-frames-number.is)) ∙ c.loop-number.invariant.same s)))
 
 pub returns : goal.returns
 returns c = λ s.

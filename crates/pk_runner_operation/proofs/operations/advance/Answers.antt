@@ -13,10 +13,13 @@ pub returns-in-Ok : goal.returns-in-Ok
 unfolding shown
 returns-in-Ok c = λ s p ch.
     let fz : SFits w128 c.in-Ok.value = search rules in
-    by_value (λ (n : Next). IfOk c.write.result (λ r. Told s c.args.state.now c.write.new.state r n)) (shown s c.args.state.now) _ _ _ _ (c.in-Ok.ensures ∙ ap (λ y. steps.operated c.args.op c.args.in_type y (pos 1)) (to_z-of_z w128 c.number-left.result (record { sfits = c.number-left.type_inv }) ∙ c.number-left.ensures))
+    by_value (λ (n : Next). IfOk c.write.result (λ r. Told s c.args.state.now c.write.new.state r n)) (shown s c.args.state.now) _ _ _ _ (c.in-Ok.ensures
+    ∙ ap (λ y. steps.operated c.args.op c.args.in_type y (pos 1)) (to_z-of_z w128 c.number-left.result (record { sfits = c.number-left.type_inv }) ∙ c.number-left.ensures))
     (rw (converted_same _ _ _ (record { sfits = c.convert.type_inv }) fz c.convert.ensures) at c.write.ensures s)
 
 pub returns-in-Err : goal.returns-in-Err
 unfolding shown
 returns-in-Err c = λ s p ch.
-    by_fault (λ (n : Next). Told s c.args.state.now c.args.state.now c.fail.result n) (shown s c.args.state.now) _ _ _ _ (c.in-Err.ensures ∙ ap (λ y. steps.operated c.args.op c.args.in_type y (pos 1)) (to_z-of_z w128 c.number-left.result (record { sfits = c.number-left.type_inv }) ∙ c.number-left.ensures)) (c.fail.ensures s)
+    by_fault (λ (n : Next). Told s c.args.state.now c.args.state.now c.fail.result n) (shown s c.args.state.now) _ _ _ _ (c.in-Err.ensures
+    ∙ ap (λ y. steps.operated c.args.op c.args.in_type y (pos 1)) (to_z-of_z w128 c.number-left.result (record { sfits = c.number-left.type_inv })
+    ∙ c.number-left.ensures)) (c.fail.ensures s)

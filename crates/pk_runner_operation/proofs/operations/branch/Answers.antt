@@ -23,8 +23,10 @@ returns-in-Refused c = λ s p ch.
     let fv : SFits w128 c.in-Some.value = search rules in
     by_top (λ (n : Next). Told s c.args.state.now c.args.state.now answers.Assumed n) _ _ _ _ _ c.in-Some.ensures c.deref.ensures.value refl
     (elim c.if-is_nonzero.branch [
-      | then-is_nonzero w ↦ by_truth (λ (n : Next). Told s c.args.state.now c.args.state.now answers.Assumed n) c.in-Some.value c.in-Some.value _ _ (to_z-of_z w128 c.in-Some.value fv) (sym w.if-is_nonzero.true ∙ c.is_nonzero.ensures) (rw (sym w.way'-is ∙ c.in-Refused.is) refl)
-      | else-is_nonzero w ↦ by_falsity (λ (n : Next). Told s c.args.state.now c.args.state.now answers.Assumed n) c.in-Some.value c.in-Some.value _ _ (to_z-of_z w128 c.in-Some.value fv) (sym w.if-is_nonzero.false ∙ c.is_nonzero.ensures) (rw (sym w.way'-is ∙ c.in-Refused.is) refl)
+      | then-is_nonzero w ↦ by_truth (λ (n : Next). Told s c.args.state.now c.args.state.now answers.Assumed n) c.in-Some.value c.in-Some.value _ _ (to_z-of_z w128 c.in-Some.value fv)
+          (sym w.if-is_nonzero.true ∙ c.is_nonzero.ensures) (rw (sym w.way'-is ∙ c.in-Refused.is) refl)
+      | else-is_nonzero w ↦ by_falsity (λ (n : Next). Told s c.args.state.now c.args.state.now answers.Assumed n) c.in-Some.value c.in-Some.value _ _ (to_z-of_z w128 c.in-Some.value fv)
+          (sym w.if-is_nonzero.false ∙ c.is_nonzero.ensures) (rw (sym w.way'-is ∙ c.in-Refused.is) refl)
     ])
 
 pub returns-in_default : goal.returns-in_default
@@ -33,6 +35,14 @@ returns-in_default c = λ s p ch.
     let fv : SFits w128 c.in-Some.value = search rules in
     by_top (λ (n : Next). Told s c.args.state.now c.follow.new.state c.follow.result n) _ _ _ _ _ c.in-Some.ensures c.deref.ensures.value c.without.ensures
     (elim c.if-is_nonzero.branch [
-      | then-is_nonzero w ↦ by_truth (λ (n : Next). Told s c.args.state.now c.follow.new.state c.follow.result n) c.in-Some.value c.in-Some.value (steps.takes (shown s c.args.state.now) (way_in s (held s c.args.state.now.frames.items) c.args.yes) (reverse c.without.new.values.items)) (steps.takes (shown s c.args.state.now) (way_in s (held s c.args.state.now.frames.items) c.args.no) (reverse c.without.new.values.items)) (to_z-of_z w128 c.in-Some.value fv) (sym w.if-is_nonzero.true ∙ c.is_nonzero.ensures) (c.follow.ensures s ∙ taken s (held s c.args.state.now.frames.items) (shown s c.args.state.now) (reverse c.without.new.values.items) (reverse c.without.new.values.items) c.if-is_nonzero.way' _ c.in_default.not-Refused w.way'-is)
-      | else-is_nonzero w ↦ by_falsity (λ (n : Next). Told s c.args.state.now c.follow.new.state c.follow.result n) c.in-Some.value c.in-Some.value (steps.takes (shown s c.args.state.now) (way_in s (held s c.args.state.now.frames.items) c.args.yes) (reverse c.without.new.values.items)) (steps.takes (shown s c.args.state.now) (way_in s (held s c.args.state.now.frames.items) c.args.no) (reverse c.without.new.values.items)) (to_z-of_z w128 c.in-Some.value fv) (sym w.if-is_nonzero.false ∙ c.is_nonzero.ensures) (c.follow.ensures s ∙ taken s (held s c.args.state.now.frames.items) (shown s c.args.state.now) (reverse c.without.new.values.items) (reverse c.without.new.values.items) c.if-is_nonzero.way' _ c.in_default.not-Refused w.way'-is)
+      | then-is_nonzero w ↦ by_truth (λ (n : Next). Told s c.args.state.now c.follow.new.state c.follow.result n) c.in-Some.value c.in-Some.value (steps.takes (shown s c.args.state.now)
+          (way_in s (held s c.args.state.now.frames.items) c.args.yes) (reverse c.without.new.values.items)) (steps.takes (shown s c.args.state.now) (way_in s
+          (held s c.args.state.now.frames.items) c.args.no) (reverse c.without.new.values.items)) (to_z-of_z w128 c.in-Some.value fv) (sym w.if-is_nonzero.true
+          ∙ c.is_nonzero.ensures) (c.follow.ensures s ∙ taken s (held s c.args.state.now.frames.items) (shown s c.args.state.now) (reverse c.without.new.values.items)
+          (reverse c.without.new.values.items) c.if-is_nonzero.way' _ c.in_default.not-Refused w.way'-is)
+      | else-is_nonzero w ↦ by_falsity (λ (n : Next). Told s c.args.state.now c.follow.new.state c.follow.result n) c.in-Some.value c.in-Some.value (steps.takes (shown s c.args.state.now)
+          (way_in s (held s c.args.state.now.frames.items) c.args.yes) (reverse c.without.new.values.items)) (steps.takes (shown s c.args.state.now) (way_in s
+          (held s c.args.state.now.frames.items) c.args.no) (reverse c.without.new.values.items)) (to_z-of_z w128 c.in-Some.value fv) (sym w.if-is_nonzero.false
+          ∙ c.is_nonzero.ensures) (c.follow.ensures s ∙ taken s (held s c.args.state.now.frames.items) (shown s c.args.state.now) (reverse c.without.new.values.items)
+          (reverse c.without.new.values.items) c.if-is_nonzero.way' _ c.in_default.not-Refused w.way'-is)
     ])

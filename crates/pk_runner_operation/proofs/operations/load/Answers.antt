@@ -19,7 +19,11 @@ returns-in-Some-place_of c = λ s p ch.
     let fi : SFits w128 c.in-Some.index = search rules in
     by_top (λ (n : Next). IfOk c.give.result (λ r. Told s c.args.state.now c.give.new.state r n)) _ _ _ _ _ c.in-Some.ensures c.deref.ensures.value c.without.ensures
     (by_index (λ (n : Next). IfOk c.give.result (λ r. Told s c.args.state.now c.give.new.state r n)) c.args.array.length c.in-Some.index _ _ _ fi c.in-Some-place_of.ensures
-    (rw ((to_z-of_z w128 c.element-value.result (record { sfits = c.element-value.type_inv }) ∙ c.element-value.ensures), index_is c.args.array.length c.in-Some.index c.in-Some-place_of.place fi c.in-Some-place_of.ensures) at c.give.ensures s))
+    (rw (
+      (to_z-of_z w128 c.element-value.result (record { sfits = c.element-value.type_inv })
+          ∙ c.element-value.ensures),
+      index_is c.args.array.length c.in-Some.index c.in-Some-place_of.place fi c.in-Some-place_of.ensures,
+    ) at c.give.ensures s))
 
 pub returns-in-None-place_of : goal.returns-in-None-place_of
 unfolding shown

@@ -20,7 +20,8 @@ returns-in-Ok c = λ s p ch.
     let fv : SFits w128 c.in-Some.right = search rules in
     let fz : SFits w128 c.in-Ok.value = search rules in
     by_two (λ (n : Next). IfOk c.give.result (λ r. Told s c.args.state.now c.give.new.state r n)) _ _ _ _ _ _ c.in-Some.ensures c.deref.ensures.value c.without.ensures
-    (by_value (λ (n : Next). IfOk c.give.result (λ r. Told s c.args.state.now c.give.new.state r n)) (shown s c.args.state.now) _ _ _ _ (operated_same _ c.args.op c.args.int_type c.in-Some.left c.in-Some.right fu fv c.in-Ok.ensures)
+    (by_value (λ (n : Next). IfOk c.give.result (λ r. Told s c.args.state.now c.give.new.state r n)) (shown s c.args.state.now) _ _ _ _
+    (operated_same _ c.args.op c.args.int_type c.in-Some.left c.in-Some.right fu fv c.in-Ok.ensures)
     (rw (to_z-of_z w128 c.in-Ok.value fz) at c.give.ensures s))
 
 pub returns-in-Err : goal.returns-in-Err
@@ -29,4 +30,5 @@ returns-in-Err c = λ s p ch.
     let fu : SFits w128 c.in-Some.left = search rules in
     let fv : SFits w128 c.in-Some.right = search rules in
     by_two (λ (n : Next). Told s c.args.state.now c.args.state.now c.fail.result n) _ _ _ _ _ _ c.in-Some.ensures c.deref.ensures.value refl
-    (by_fault (λ (n : Next). Told s c.args.state.now c.args.state.now c.fail.result n) (shown s c.args.state.now) _ _ _ _ (operated_same _ c.args.op c.args.int_type c.in-Some.left c.in-Some.right fu fv c.in-Err.ensures) (c.fail.ensures s))
+    (by_fault (λ (n : Next). Told s c.args.state.now c.args.state.now c.fail.result n) (shown s c.args.state.now) _ _ _ _
+    (operated_same _ c.args.op c.args.int_type c.in-Some.left c.in-Some.right fu fv c.in-Err.ensures) (c.fail.ensures s))

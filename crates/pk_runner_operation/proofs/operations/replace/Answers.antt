@@ -21,9 +21,15 @@ returns-in_ok-push-in-Some-place_of c = λ s p ch.
     let fv : SFits w128 c.in-Some.right = search rules in
     let fz : SFits w128 c.in-Ok.value = search rules in
     by_three (λ (n : Next). Told s c.args.state.now c.write_element.new.state c.write_element.result n) _ _ _ _ _ _ _ c.in-Some.ensures c.deref.ensures.value c.without.ensures
-    (by_value (λ (n : Next). Told s c.args.state.now c.write_element.new.state c.write_element.result n) (shown s c.args.state.now) _ _ _ _ (operated_same _ c.args.op c.args.in_type c.in-Some.left c.in-Some.right fu fv c.in-Ok.ensures)
+    (by_value (λ (n : Next). Told s c.args.state.now c.write_element.new.state c.write_element.result n) (shown s c.args.state.now) _ _ _ _
+    (operated_same _ c.args.op c.args.in_type c.in-Some.left c.in-Some.right fu fv c.in-Ok.ensures)
     (by_index (λ (n : Next). Told s c.args.state.now c.write_element.new.state c.write_element.result n) c.args.array.length c.in-Some.index _ _ _ fi c.in-Some-place_of.ensures
-    (rw ((converted_same _ _ _ (record { sfits = c.convert.type_inv }) fz c.convert.ensures), laid _ _ _ c.in_ok-push-in-Some-place_of.ensures.items, (to_z-of_z w128 c.in-Some.left fu), index_is c.args.array.length c.in-Some.index c.in-Some-place_of.place fi c.in-Some-place_of.ensures) at c.write_element.ensures s)))
+    (rw (
+      (converted_same _ _ _ (record { sfits = c.convert.type_inv }) fz c.convert.ensures),
+      laid _ _ _ c.in_ok-push-in-Some-place_of.ensures.items,
+      (to_z-of_z w128 c.in-Some.left fu),
+      index_is c.args.array.length c.in-Some.index c.in-Some-place_of.place fi c.in-Some-place_of.ensures,
+    ) at c.write_element.ensures s)))
 
 pub returns-in-None-place_of : goal.returns-in-None-place_of
 unfolding shown
@@ -41,4 +47,5 @@ returns-in-Err c = λ s p ch.
     let fu : SFits w128 c.in-Some.left = search rules in
     let fv : SFits w128 c.in-Some.right = search rules in
     by_three (λ (n : Next). Told s c.args.state.now c.args.state.now c.fail-in-Err.result n) _ _ _ _ _ _ _ c.in-Some.ensures c.deref.ensures.value refl
-    (by_fault (λ (n : Next). Told s c.args.state.now c.args.state.now c.fail-in-Err.result n) (shown s c.args.state.now) _ _ _ _ (operated_same _ c.args.op c.args.in_type c.in-Some.left c.in-Some.right fu fv c.in-Err.ensures) (c.fail-in-Err.ensures s))
+    (by_fault (λ (n : Next). Told s c.args.state.now c.args.state.now c.fail-in-Err.result n) (shown s c.args.state.now) _ _ _ _
+    (operated_same _ c.args.op c.args.in_type c.in-Some.left c.in-Some.right fu fv c.in-Err.ensures) (c.fail-in-Err.ensures s))

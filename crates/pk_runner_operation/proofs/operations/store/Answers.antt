@@ -18,7 +18,11 @@ returns-in-Some-place_of c = λ s p ch.
     let fv : SFits w128 c.in-Some.value = search rules in
     by_two (λ (n : Next). Told s c.args.state.now c.write_element.new.state c.write_element.result n) _ _ _ _ _ _ c.in-Some.ensures c.deref.ensures.value c.without.ensures
     (by_index (λ (n : Next). Told s c.args.state.now c.write_element.new.state c.write_element.result n) c.args.array.length c.in-Some.index _ _ _ fi c.in-Some-place_of.ensures
-    (rw ((converted_same _ _ _ (record { sfits = c.convert.type_inv }) fv c.convert.ensures), index_is c.args.array.length c.in-Some.index c.in-Some-place_of.place fi c.in-Some-place_of.ensures) at c.write_element.ensures s))
+    (rw (
+      (converted_same _ _ _ (record { sfits = c.convert.type_inv }) fv c.convert.ensures),
+      index_is c.args.array.length c.in-Some.index c.in-Some-place_of.place fi
+          c.in-Some-place_of.ensures,
+    ) at c.write_element.ensures s))
 
 pub returns-in-None-place_of : goal.returns-in-None-place_of
 unfolding shown

@@ -19,7 +19,9 @@ returns-in_ok-push-in-Ok c = λ s p ch.
     let fr : SFits w128 c.in-Some.right = search rules in
     let fz : SFits w128 c.in-Ok.value = search rules in
     by_top (λ (n : Next). IfOk c.write.result (λ r. Told s c.args.state.now c.write.new.state r n)) _ _ _ _ _ c.in-Some.ensures c.deref.ensures.value c.without.ensures
-    (by_value (λ (n : Next). IfOk c.write.result (λ r. Told s c.args.state.now c.write.new.state r n)) (shown s c.args.state.now) _ _ _ _ (operated_read _ c.args.op c.args.in_type c.number-left.result _ c.in-Some.right (to_z-of_z w128 c.number-left.result (record { sfits = c.number-left.type_inv }) ∙ c.number-left.ensures) fr c.in-Ok.ensures)
+    (by_value (λ (n : Next). IfOk c.write.result (λ r. Told s c.args.state.now c.write.new.state r n)) (shown s c.args.state.now) _ _ _ _
+    (operated_read _ c.args.op c.args.in_type c.number-left.result _ c.in-Some.right (to_z-of_z w128 c.number-left.result (record { sfits = c.number-left.type_inv })
+    ∙ c.number-left.ensures) fr c.in-Ok.ensures)
     (rw (laid _ _ _ c.in_ok-push-in-Ok.ensures.items, (converted_same _ _ _ (record { sfits = c.convert-value.type_inv }) fz c.convert-value.ensures)) at c.write.ensures s))
 
 pub returns-in-Err : goal.returns-in-Err
@@ -27,4 +29,6 @@ unfolding shown
 returns-in-Err c = λ s p ch.
     let fr : SFits w128 c.in-Some.right = search rules in
     by_top (λ (n : Next). Told s c.args.state.now c.args.state.now c.fail.result n) _ _ _ _ _ c.in-Some.ensures c.deref.ensures.value refl
-    (by_fault (λ (n : Next). Told s c.args.state.now c.args.state.now c.fail.result n) (shown s c.args.state.now) _ _ _ _ (operated_read _ c.args.op c.args.in_type c.number-left.result _ c.in-Some.right (to_z-of_z w128 c.number-left.result (record { sfits = c.number-left.type_inv }) ∙ c.number-left.ensures) fr c.in-Err.ensures) (c.fail.ensures s))
+    (by_fault (λ (n : Next). Told s c.args.state.now c.args.state.now c.fail.result n) (shown s c.args.state.now) _ _ _ _
+    (operated_read _ c.args.op c.args.in_type c.number-left.result _ c.in-Some.right (to_z-of_z w128 c.number-left.result (record { sfits = c.number-left.type_inv })
+    ∙ c.number-left.ensures) fr c.in-Err.ensures) (c.fail.ensures s))

@@ -22,13 +22,13 @@ use Rattle.pk_runner_state.proofs.objects.zeros_of.Goals as goal
 pub returns-in-Some : goal.returns-in-Some
 returns-in-Some c =
     let same : body_tree c.in-Some.body ≡ unwrap_or (body_of (unit_tree c.args.program.now.unit.now) c.args.function) no_body =
-        ap (λ (o : Option Body). unwrap_or (option_map body_tree o) no_body) (sym c.in-Some.is) ∙ block_is c.args.program.now.unit.now c.args.function c.index.result.now (omega arith) c.index.ensures in
+    ap (λ (o : Option Body). unwrap_or (option_map body_tree o) no_body) (sym c.in-Some.is) ∙ block_is c.args.program.now.unit.now c.args.function c.index.result.now (omega arith) c.index.ensures in
     subst (λ (b : BodyTree). IfOk c.zeros_of_body.result (λ rows. rows_of rows.items ≡ map zeros_of b.locals)) same c.zeros_of_body.ensures
 
 pub returns-in-None : goal.returns-in-None
 returns-in-None c =
     let same : no_body ≡ unwrap_or (body_of (unit_tree c.args.program.now.unit.now) c.args.function) no_body =
-        ap (λ (o : Option Body). unwrap_or (option_map body_tree o) no_body) (sym c.in-None.is) ∙ block_is c.args.program.now.unit.now c.args.function c.index.result.now (omega arith) c.index.ensures in
+    ap (λ (o : Option Body). unwrap_or (option_map body_tree o) no_body) (sym c.in-None.is) ∙ block_is c.args.program.now.unit.now c.args.function c.index.result.now (omega arith) c.index.ensures in
     ap rows_of c.new.ensures.items ∙ ap (λ (b : BodyTree). map zeros_of b.locals) same
 
 pub returns-else-function-len : goal.returns-else-function-len

@@ -18,8 +18,11 @@ use Rattle.pk_runner_state.proofs.objects.zeros_of_body.Goals as goal
 pub loop-local-preserved : goal.loop-local-preserved
 unfolding local_tree
 loop-local-preserved c =
-    made_next (λ (v : Vec ℤ Global). v.items) (λ (x : Local). zeros_of (local_tree x)) c.loop-local.rows.items c.push.new.self.items c.args.body.now.locals.items c.loop-local.local-index c.in_ok-zeros.field-0 c.local-item.result (omega arith) c.in_ok-push.ensures.items
-    (c.local-item.is ∙ ap (λ (xs : List Local). get_or xs c.loop-local.local-index c.local-item.result) c.deref-local-items.ensures.value) (c.in_ok-zeros.ensures ∙ ap (λ (n : ℕ). replicate n (pos 0)) c.count_of.ensures) c.loop-local.invariant
+    made_next (λ (v : Vec ℤ Global). v.items) (λ (x : Local). zeros_of
+    (local_tree x)) c.loop-local.rows.items c.push.new.self.items c.args.body.now.locals.items c.loop-local.local-index c.in_ok-zeros.field-0 c.local-item.result
+    (omega arith) c.in_ok-push.ensures.items
+    (c.local-item.is ∙ ap (λ (xs : List Local). get_or xs c.loop-local.local-index c.local-item.result) c.deref-local-items.ensures.value) (c.in_ok-zeros.ensures
+    ∙ ap (λ (n : ℕ). replicate n (pos 0)) c.count_of.ensures) c.loop-local.invariant
 
 pub returns : goal.returns
 unfolding body_tree

@@ -14,15 +14,18 @@ pub loop-number-preserved : goal.loop-number-preserved
 loop-number-preserved c = record {
   scope = λ s a.
       ap (with_all_declared (program_in c.args.program.now) c.args.path (declared_trees (drop (c.loop-number.number + 1) c.args.objects.now))) (c.in_ok-inner.ensures.scope s a)
-      ∙ (ap (λ (d : Declared). with_all_declared (program_in c.args.program.now) c.args.path (declared_trees (drop (c.loop-number.number + 1) c.args.objects.now)) (with_declared (program_in c.args.program.now) c.args.path (declared_tree d) (scope_in s c.loop-number.inner))) c.index-objects-number.is
-      ∙ (sym (ap (λ (ds : List Declared). with_all_declared (program_in c.args.program.now) c.args.path (declared_trees ds) (scope_in s c.loop-number.inner)) (drop_more c.args.objects.now c.loop-number.number c.index-objects-number.result c.loop-number-test.true))
+      ∙ (ap (λ (d : Declared). with_all_declared (program_in c.args.program.now) c.args.path (declared_trees (drop (c.loop-number.number + 1) c.args.objects.now)) (with_declared
+      (program_in c.args.program.now) c.args.path (declared_tree d) (scope_in s c.loop-number.inner))) c.index-objects-number.is
+      ∙ (sym (ap (λ (ds : List Declared). with_all_declared (program_in c.args.program.now) c.args.path (declared_trees ds) (scope_in s c.loop-number.inner))
+      (drop_more c.args.objects.now c.loop-number.number c.index-objects-number.result c.loop-number-test.true))
       ∙ c.loop-number.invariant.scope s (c.with_declared.ensures.before s a)));
   before = λ s a. c.loop-number.invariant.before s (c.with_declared.ensures.before s a);
 }
 
 pub returns-clause-scope : goal.returns-clause-scope
 returns-clause-scope c = λ s a.
-    sym (ap (λ (ds : List Declared). with_all_declared (program_in c.args.program.now) c.args.path (declared_trees ds) (scope_in s c.loop-number.inner)) (drop_all c.loop-number.number c.args.objects.now c.loop-number-test.false)) ∙ c.loop-number.invariant.scope s a
+    sym (ap (λ (ds : List Declared). with_all_declared (program_in c.args.program.now) c.args.path (declared_trees ds) (scope_in s c.loop-number.inner))
+    (drop_all c.loop-number.number c.args.objects.now c.loop-number-test.false)) ∙ c.loop-number.invariant.scope s a
 
 pub returns-clause-before : goal.returns-clause-before
 returns-clause-before c = λ s a. c.loop-number.invariant.before s a

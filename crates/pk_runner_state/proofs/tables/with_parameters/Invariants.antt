@@ -7,6 +7,7 @@ use Rattle.pk_runner_state.proofs.tables.with_parameters.Given as goal
 
 abbrev pub invariant-loop-number : goal.invariant-loop-number
 invariant-loop-number l = record {
-  scope : (s : Reading) → Agrees s l.table.rows.items → with_parameters (program_in l.program) l.path l.number (drop l.number l.types) (scope_in s l.inner) ≡ with_parameters (program_in l.program) l.path 0 l.types (scope_in s l.fn.scope);
+  scope : (s : Reading) → Agrees s l.table.rows.items → with_parameters (program_in l.program) l.path l.number (drop l.number l.types) (scope_in s l.inner)
+      ≡ with_parameters (program_in l.program) l.path 0 l.types (scope_in s l.fn.scope);
   before : (s : Reading) → Agrees s l.table.rows.items → Agrees s l.fn.table.rows.items;
 }

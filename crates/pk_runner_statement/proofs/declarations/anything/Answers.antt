@@ -25,7 +25,9 @@ returns-in_ok-number c = λ s.
     c.write_all.ensures s
     ∙ (ap (λ (zs : Numbers). outcome (writes d y zs (work_at (held s c.lay_after.new.frames.items) c.in_ok-number.number) d.values) old) c.in_ok-numbers.ensures.items
     ∙ (ap (λ (v : Work). outcome (writes d y ch v d.values) old) (c.in_ok-number.ensures s)
-    ∙ sym (ap (λ (b : Bool). outcome (if b then writes d y ch w d.values else steps.Wants x.int_type (count_of x.length)) old) (sym (c.are_chosen.ensures ∙ (ap (λ (t : IntType). are_any t c.local_count-count.result ch) c.local_type-int_type.ensures ∙ ap (λ (n : ℕ). are_any x.int_type n ch) c.local_count-count.ensures)) ∙ c.if-are_chosen.true))))
+    ∙ sym (ap (λ (b : Bool). outcome (if b then writes d y ch w d.values else steps.Wants x.int_type (count_of x.length)) old) (sym (c.are_chosen.ensures
+    ∙ (ap (λ (t : IntType). are_any t c.local_count-count.result ch) c.local_type-int_type.ensures ∙ ap (λ (n : ℕ). are_any x.int_type n ch) c.local_count-count.ensures))
+    ∙ c.if-are_chosen.true))))
 
 pub returns-else-are_chosen : goal.returns-else-are_chosen
 unfolding shown
@@ -38,4 +40,6 @@ returns-else-are_chosen c = λ s.
     let y : Object = local c.args.state.now.path c.args.object in
     ap (λ (t : IntType). outcome (steps.Wants t c.local_count-count.result) old) c.local_type-int_type.ensures
     ∙ (ap (λ (n : ℕ). outcome (steps.Wants x.int_type n) old) c.local_count-count.ensures
-    ∙ sym (ap (λ (b : Bool). outcome (if b then writes d y ch w d.values else steps.Wants x.int_type (count_of x.length)) old) (sym (c.are_chosen.ensures ∙ (ap (λ (t : IntType). are_any t c.local_count-count.result ch) c.local_type-int_type.ensures ∙ ap (λ (n : ℕ). are_any x.int_type n ch) c.local_count-count.ensures)) ∙ c.if-are_chosen.false)))
+    ∙ sym (ap (λ (b : Bool). outcome (if b then writes d y ch w d.values else steps.Wants x.int_type (count_of x.length)) old) (sym (c.are_chosen.ensures
+    ∙ (ap (λ (t : IntType). are_any t c.local_count-count.result ch) c.local_type-int_type.ensures ∙ ap (λ (n : ℕ). are_any x.int_type n ch) c.local_count-count.ensures))
+    ∙ c.if-are_chosen.false)))

@@ -14,6 +14,7 @@ unfolding shown
 returns-else-objects-eq0-clause-told c = λ s agrees.
     let p : Program = program_in c.args.program.now in
     let hs : List Held = held s c.args.state.now.frames.items in
-    subst (λ (ds : List Declared). IfOk c.declare.result (λ r. Told s c.args.state.now c.declare.new.state r (steps.all_declared p c.args.chosen.now (shown s c.args.state.now) (declared_trees ds) (work_at hs c.args.number))))
+    subst (λ (ds : List Declared). IfOk c.declare.result (λ r. Told s c.args.state.now c.declare.new.state r (steps.all_declared p c.args.chosen.now (shown s c.args.state.now)
+    (declared_trees ds) (work_at hs c.args.number))))
     (sym (at_front c.args.objects.now c.index-objects-0.result (omega (arith, c.if-objects-eq0.false)) c.index-objects-0.is))
     (c.declare.ensures.told s c.args.state.now.here.at agrees)

@@ -7,7 +7,8 @@ use Rattle.pk_runner_statement.proofs.declarations.lay_after.Goals as goal
 pub returns-in-Items : goal.returns-in-Items
 unfolding ahead_in
 returns-in-Items c = λ s.
-    subst (λ (a : After). IfOk c.before-in-Items.result (λ n. work_at (held s c.before-in-Items.new.frames.items) n ≡ after_in s (held s c.args.frames.now.items) (scope_in s c.args.scope) a)) (sym c.in-Items.is) (c.before-in-Items.ensures.work s)
+    subst (λ (a : After). IfOk c.before-in-Items.result (λ n. work_at (held s c.before-in-Items.new.frames.items) n
+    ≡ after_in s (held s c.args.frames.now.items) (scope_in s c.args.scope) a)) (sym c.in-Items.is) (c.before-in-Items.ensures.work s)
 
 pub returns-in-Objects : goal.returns-in-Objects
 unfolding work_in

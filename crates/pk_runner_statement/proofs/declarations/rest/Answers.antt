@@ -18,14 +18,16 @@ returns-then-items-eq0-clause-told c = λ s agrees.
     let p : Program = program_in c.args.program.now in
     let hs : List Held = held s c.args.state.now.frames.items in
     c.go_on.ensures s
-    ∙ sym (ap (λ (is : List Item). outcome (steps.rest p c.args.chosen.now (shown s c.args.state.now) (scope_in s c.args.scope) (item_trees is) (ahead_at hs c.args.ahead)) (shown s c.args.state.now)) (none_there c.args.items.now c.if-items-eq0.true))
+    ∙ sym (ap (λ (is : List Item). outcome (steps.rest p c.args.chosen.now (shown s c.args.state.now) (scope_in s c.args.scope) (item_trees is) (ahead_at hs c.args.ahead))
+    (shown s c.args.state.now)) (none_there c.args.items.now c.if-items-eq0.true))
 
 pub returns-in-Declared-clause-told : goal.returns-in-Declared-clause-told
 unfolding shown
 returns-in-Declared-clause-told c = λ s agrees.
     let p : Program = program_in c.args.program.now in
     let hs : List Held = held s c.args.state.now.frames.items in
-    subst (λ (is : List Item). IfOk c.declare.result (λ r. Told s c.args.state.now c.declare.new.state r (steps.rest p c.args.chosen.now (shown s c.args.state.now) (scope_in s c.args.scope) (item_trees is) (ahead_at hs c.args.ahead))))
+    subst (λ (is : List Item). IfOk c.declare.result (λ r. Told s c.args.state.now c.declare.new.state r (steps.rest p c.args.chosen.now (shown s c.args.state.now) (scope_in s c.args.scope)
+    (item_trees is) (ahead_at hs c.args.ahead))))
     (sym (at_front c.args.items.now c.index-items-0.result (omega (arith, c.if-items-eq0.false)) c.index-items-0.is ∙ ap (λ (i : Item). i ∷ tail c.args.items.now) c.in-Declared.is))
     (c.declare.ensures.told s c.args.state.now.here.at agrees)
 

@@ -98,7 +98,9 @@ returns-then-is_same-clause-told c = λ s agrees.
     (ap (λ (us : Numbers). outcome (takes (record old { values = us }) way us) (record old { values = us })) (ap reverse c.without-then-is_same.ensures)
     ∙ (same_takes old way left left (not_refused p c.args.state.now.path (numbered c.args.number) h.scope b (work.Close h a) work.Lost refl)
     ∙ sym (top ∙ (ap (λ (zs : List ℤ). outcome (choose zs c.args.has_default c.in-Some.value left) old) (front c.args.cases.now (pos 0) (omega (arith, c.if-cases-eq0.false)))
-    ∙ ap (λ (e : Bool). outcome (if e then takes old (found p c.args.state.now.path (numbered c.args.number) h.scope b (work.Close h a) work.Lost) left else comes old h (work.Choose c.args.int_type (tail c.args.cases.now) (c.args.number + 1) c.args.has_default b h a) (c.in-Some.value ∷ left)) old) (ap (λ (z : ℤ). int_eq z (get_or c.args.cases.now 0 (pos 0))) (sym (to_z-of_z w128 c.in-Some.value (record { sfits = (rw c.in-Some.is at c.top.type_inv).1.1.1.1.0.1 }))) ∙ (sym c.is_same.ensures ∙ c.if-is_same.true))))))
+    ∙ ap (λ (e : Bool). outcome (if e then takes old (found p c.args.state.now.path (numbered c.args.number) h.scope b (work.Close h a) work.Lost) left else comes old h
+    (work.Choose c.args.int_type (tail c.args.cases.now) (c.args.number + 1) c.args.has_default b h a) (c.in-Some.value ∷ left)) old) (ap (λ (z : ℤ). int_eq z (get_or c.args.cases.now 0
+    (pos 0))) (sym (to_z-of_z w128 c.in-Some.value (record { sfits = (rw c.in-Some.is at c.top.type_inv).1.1.1.1.0.1 }))) ∙ (sym c.is_same.ensures ∙ c.if-is_same.true))))))
     (c.go_to_case-then-is_same.ensures.told s agrees)
 
 pub returns-in_ok-next-in-Some-clause-told : goal.returns-in_ok-next-in-Some-clause-told
@@ -119,6 +121,9 @@ returns-in_ok-next-in-Some-clause-told c = λ s agrees.
     let next : c.in_ok-next-in-Some.next ≡ c.args.number + 1 = some_is _ _ _ _ c.checked_add.ensures c.in_ok-next-in-Some.ensures.ok_part in
     c.come-else-is_same.ensures s
     ∙ (ap (λ (i : ℕ). outcome (comes old h (work.Choose c.args.int_type (tail c.args.cases.now) i c.args.has_default b h a) old.values) old) next
-    ∙ (ap (λ (us : Numbers). outcome (comes old h (work.Choose c.args.int_type (tail c.args.cases.now) (c.args.number + 1) c.args.has_default b h a) us) old) (ap reverse (sym c.deref.ensures.value) ∙ (c.in-Some.ensures ∙ ap (λ (us : Numbers). c.in-Some.value ∷ reverse (take (length us - 1) us)) c.deref.ensures.value))
+    ∙ (ap (λ (us : Numbers). outcome (comes old h (work.Choose c.args.int_type (tail c.args.cases.now) (c.args.number + 1) c.args.has_default b h a) us) old) (ap reverse
+    (sym c.deref.ensures.value) ∙ (c.in-Some.ensures ∙ ap (λ (us : Numbers). c.in-Some.value ∷ reverse (take (length us - 1) us)) c.deref.ensures.value))
     ∙ sym (top ∙ (ap (λ (zs : List ℤ). outcome (choose zs c.args.has_default c.in-Some.value left) old) (front c.args.cases.now (pos 0) (omega (arith, c.if-cases-eq0.false)))
-    ∙ ap (λ (e : Bool). outcome (if e then takes old (found p c.args.state.now.path (numbered c.args.number) h.scope b (work.Close h a) work.Lost) left else comes old h (work.Choose c.args.int_type (tail c.args.cases.now) (c.args.number + 1) c.args.has_default b h a) (c.in-Some.value ∷ left)) old) (ap (λ (z : ℤ). int_eq z (get_or c.args.cases.now 0 (pos 0))) (sym (to_z-of_z w128 c.in-Some.value (record { sfits = (rw c.in-Some.is at c.top.type_inv).1.1.1.1.0.1 }))) ∙ (sym c.is_same.ensures ∙ c.if-is_same.false))))))
+    ∙ ap (λ (e : Bool). outcome (if e then takes old (found p c.args.state.now.path (numbered c.args.number) h.scope b (work.Close h a) work.Lost) left else comes old h
+    (work.Choose c.args.int_type (tail c.args.cases.now) (c.args.number + 1) c.args.has_default b h a) (c.in-Some.value ∷ left)) old) (ap (λ (z : ℤ). int_eq z (get_or c.args.cases.now 0
+    (pos 0))) (sym (to_z-of_z w128 c.in-Some.value (record { sfits = (rw c.in-Some.is at c.top.type_inv).1.1.1.1.0.1 }))) ∙ (sym c.is_same.ensures ∙ c.if-is_same.false))))))

@@ -112,7 +112,8 @@ returns-in-IfElse-clause-told c = λ s agrees.
     let xs : Scope = old.here.scope in
     subst (λ (t : StatementTree). IfOk c.begin_if_else.result (λ r. Told s c.args.state.now c.begin_if_else.new.state r (steps.does p old t a)))
     (ap (λ (u : Statement). tree.if_else c.in-IfElse.at (value_tree c.in-IfElse.condition) (statement_tree u) (statement_tree c.deref-in-IfElse-2.result.now)) c.deref-in-IfElse.ensures
-    ∙ (ap (λ (u : Statement). tree.if_else c.in-IfElse.at (value_tree c.in-IfElse.condition) (statement_tree c.in-IfElse.if_true.value) (statement_tree u)) c.deref-in-IfElse-2.ensures ∙ sym (ap statement_tree c.in-IfElse.is)))
+    ∙ (ap (λ (u : Statement). tree.if_else c.in-IfElse.at (value_tree c.in-IfElse.condition) (statement_tree c.in-IfElse.if_true.value) (statement_tree u)) c.deref-in-IfElse-2.ensures
+    ∙ sym (ap statement_tree c.in-IfElse.is)))
     (c.begin_if_else.ensures s p)
 
 pub returns-in-Switch-clause-told : goal.returns-in-Switch-clause-told
@@ -125,7 +126,8 @@ returns-in-Switch-clause-told c = λ s agrees.
     let xs : Scope = old.here.scope in
     subst (λ (t : StatementTree). IfOk c.begin_switch.result (λ r. Told s c.args.state.now c.begin_switch.new.state r (steps.does p old t a)))
     (ap (λ (zs : List ℤ). tree.switch c.in-Switch.at c.in-Switch.int_type (value_tree c.in-Switch.value) zs c.in-Switch.has_default (statement_tree c.deref-in-Switch.result.now)) c.as_slice-in-Switch.ensures.value
-    ∙ (ap (λ (u : Statement). tree.switch c.in-Switch.at c.in-Switch.int_type (value_tree c.in-Switch.value) c.in-Switch.cases.items c.in-Switch.has_default (statement_tree u)) c.deref-in-Switch.ensures ∙ sym (ap statement_tree c.in-Switch.is)))
+    ∙ (ap (λ (u : Statement). tree.switch c.in-Switch.at c.in-Switch.int_type (value_tree c.in-Switch.value) c.in-Switch.cases.items c.in-Switch.has_default
+    (statement_tree u)) c.deref-in-Switch.ensures ∙ sym (ap statement_tree c.in-Switch.is)))
     (c.begin_switch.ensures s p)
 
 pub returns-in-While-clause-told : goal.returns-in-While-clause-told
@@ -168,7 +170,8 @@ returns-in-For-clause-told c = λ s agrees.
     let is : loop_of (statement_tree c.args.statement.now) ≡ Some l = ap (λ (u : Statement). loop_of (statement_tree u)) c.in-For.is in
     subst (λ (t : StatementTree). IfOk c.begin_for.result (λ r. Told s c.args.state.now c.begin_for.new.state r (steps.does p old t a)))
     (sym (ap statement_tree c.in-For.is))
-    (subst (λ (g : ForHead). IfOk c.begin_for.result (λ r. Told s c.args.state.now c.begin_for.new.state r (steps.for_start (steps.standing_at c.in-For.at old) (for_start_tree g.start) (work.Back (place c.in-For.at (steps.for_scope p c.args.state.now.path (for_start_tree g.start) xs)) l (place c.in-For.at xs) a)))) c.deref-in-For.ensures
+    (subst (λ (g : ForHead). IfOk c.begin_for.result (λ r. Told s c.args.state.now c.begin_for.new.state r (steps.for_start (steps.standing_at c.in-For.at old) (for_start_tree g.start)
+    (work.Back (place c.in-For.at (steps.for_scope p c.args.state.now.path (for_start_tree g.start) xs)) l (place c.in-For.at xs) a)))) c.deref-in-For.ensures
     (c.begin_for.ensures.told s l agrees is))
 
 pub returns-in-Goto-clause-told : goal.returns-in-Goto-clause-told

@@ -27,7 +27,9 @@ returns-after-next-number-clause-told c = λ s agrees.
     let ch : Numbers = c.args.chosen.now in
     let n : ℕ = c.args.number in
     let under : List Held = held s (take n fs) in
-    let at : work.Rest (scope_in s c.in-Rest.scope) (item_trees c.in-Rest.items.now) (ahead_at under c.in-Rest.next) ≡ ahead_at hs n = taken_ahead s fs (take n fs) n c.index-frame.result.now (aheads.Rest c.in-Rest.scope c.in-Rest.items c.in-Rest.next) (omega arith) c.index-frame.ensures (c.in-Ahead.is ∙ ap frames.Ahead c.in-Rest.is) refl in
+    let at : work.Rest (scope_in s c.in-Rest.scope) (item_trees c.in-Rest.items.now) (ahead_at under c.in-Rest.next)
+    ≡ ahead_at hs n = taken_ahead s fs (take n fs) n c.index-frame.result.now (aheads.Rest c.in-Rest.scope c.in-Rest.items c.in-Rest.next) (omega arith) c.index-frame.ensures
+    (c.in-Ahead.is ∙ ap frames.Ahead c.in-Rest.is) refl in
     let next : ahead_at hs c.if-next-number.next ≡ ahead_at under c.in-Rest.next =
     elim c.if-next-number.branch [
       | then-next-number w ↦ ap (λ (i : ℕ). ahead_at hs i) w.next-is ∙ sym (ap ahead_of (take_stays s fs n c.in-Rest.next nothing (omega arith) (omega arith)))
@@ -46,7 +48,9 @@ returns-in-Join-clause-told c = λ s agrees.
     let ch : Numbers = c.args.chosen.now in
     let n : ℕ = c.args.number in
     let under : List Held = held s (take n fs) in
-    let at : work.Join (place_in s c.in-Join.here) (ahead_at under c.in-Join.next) ≡ ahead_at hs n = taken_ahead s fs (take n fs) n c.index-frame.result.now (aheads.Join c.in-Join.here c.in-Join.next) (omega arith) c.index-frame.ensures (c.in-Ahead.is ∙ ap frames.Ahead c.in-Join.is) refl in
+    let at : work.Join (place_in s c.in-Join.here) (ahead_at under c.in-Join.next)
+    ≡ ahead_at hs n = taken_ahead s fs (take n fs) n c.index-frame.result.now (aheads.Join c.in-Join.here c.in-Join.next) (omega arith) c.index-frame.ensures (c.in-Ahead.is
+    ∙ ap frames.Ahead c.in-Join.is) refl in
     c.come.ensures s
     ∙ (ap (λ (gs : List Frame). outcome (comes old (place_in s c.in-Join.here) (work.Go (ahead_at (held s gs) c.in-Join.next)) old.values) old) c.truncate.ensures.items
     ∙ ap (λ (b : Ahead). outcome (steps.goes p ch old b) old) at)
@@ -61,7 +65,9 @@ returns-in-Close-clause-told c = λ s agrees.
     let ch : Numbers = c.args.chosen.now in
     let n : ℕ = c.args.number in
     let under : List Held = held s (take n fs) in
-    let at : work.Close (place_in s c.in-Close.here) (ahead_at under c.in-Close.next) ≡ ahead_at hs n = taken_ahead s fs (take n fs) n c.index-frame.result.now (aheads.Close c.in-Close.here c.in-Close.next) (omega arith) c.index-frame.ensures (c.in-Ahead.is ∙ ap frames.Ahead c.in-Close.is) refl in
+    let at : work.Close (place_in s c.in-Close.here) (ahead_at under c.in-Close.next)
+    ≡ ahead_at hs n = taken_ahead s fs (take n fs) n c.index-frame.result.now (aheads.Close c.in-Close.here c.in-Close.next) (omega arith) c.index-frame.ensures (c.in-Ahead.is
+    ∙ ap frames.Ahead c.in-Close.is) refl in
     c.come-in-Close.ensures s
     ∙ (ap (λ (gs : List Frame). outcome (comes old (place_in s c.in-Close.here) (work.Go (ahead_at (held s gs) c.in-Close.next)) old.values) old) c.truncate-in-Close.ensures.items
     ∙ ap (λ (b : Ahead). outcome (steps.goes p ch old b) old) at)
@@ -79,7 +85,9 @@ returns-in-Some-clause-told c = λ s agrees.
     let h : Place = place_in s c.in-Again.field-0 in
     let e : Place = place_in s c.in-Again.field-2 in
     let a : Ahead = ahead_at under c.in-Again.field-3 in
-    let seen_at : again_of (loop_of (statement_tree c.in-Again.statement.now)) h e a ≡ ahead_at hs n = taken_ahead s fs (take n fs) n c.index-frame.result.now (aheads.Again c.in-Again.field-0 c.in-Again.statement c.in-Again.field-2 c.in-Again.field-3) (omega arith) c.index-frame.ensures (c.in-Ahead.is ∙ ap frames.Ahead c.in-Again.is) refl in
+    let seen_at : again_of (loop_of (statement_tree c.in-Again.statement.now)) h e a
+    ≡ ahead_at hs n = taken_ahead s fs (take n fs) n c.index-frame.result.now (aheads.Again c.in-Again.field-0 c.in-Again.statement c.in-Again.field-2 c.in-Again.field-3)
+    (omega arith) c.index-frame.ensures (c.in-Ahead.is ∙ ap frames.Ahead c.in-Again.is) refl in
     let l : Loop = loop_in c.in-Some.field-0 in
     let at : work.Again h l e a ≡ ahead_at hs n = ap (λ (o : Option Loop). again_of o h e a) c.in-Some.ensures ∙ seen_at in
     subst (λ (b : Ahead). IfOk c.loop_again.result (λ r. Told s c.args.state.now c.loop_again.new.state r (steps.goes p ch old b))) at
@@ -98,7 +106,9 @@ returns-in-None-clause-told c = λ s agrees.
     let h : Place = place_in s c.in-Again.field-0 in
     let e : Place = place_in s c.in-Again.field-2 in
     let a : Ahead = ahead_at under c.in-Again.field-3 in
-    let seen_at : again_of (loop_of (statement_tree c.in-Again.statement.now)) h e a ≡ ahead_at hs n = taken_ahead s fs (take n fs) n c.index-frame.result.now (aheads.Again c.in-Again.field-0 c.in-Again.statement c.in-Again.field-2 c.in-Again.field-3) (omega arith) c.index-frame.ensures (c.in-Ahead.is ∙ ap frames.Ahead c.in-Again.is) refl in
+    let seen_at : again_of (loop_of (statement_tree c.in-Again.statement.now)) h e a
+    ≡ ahead_at hs n = taken_ahead s fs (take n fs) n c.index-frame.result.now (aheads.Again c.in-Again.field-0 c.in-Again.statement c.in-Again.field-2 c.in-Again.field-3)
+    (omega arith) c.index-frame.ensures (c.in-Ahead.is ∙ ap frames.Ahead c.in-Again.is) refl in
     let at : work.End work.Nobody ≡ ahead_at hs n = ap (λ (o : Option Loop). again_of o h e a) c.in-None.ensures ∙ seen_at in
     subst (λ (b : Ahead). IfOk c.fall.result (λ r. Told s c.args.state.now c.fall.new.state r (steps.goes p ch old b))) at (c.fall.ensures.told s agrees)
 
@@ -112,7 +122,8 @@ returns-in-End-clause-told c = λ s agrees.
     let ch : Numbers = c.args.chosen.now in
     let n : ℕ = c.args.number in
     let under : List Held = held s (take n fs) in
-    let at : work.End (caller_in s under c.in-End.caller) ≡ ahead_at hs n = taken_ahead s fs (take n fs) n c.index-frame.result.now (aheads.End c.in-End.caller) (omega arith) c.index-frame.ensures (c.in-Ahead.is ∙ ap frames.Ahead c.in-End.is) refl in
+    let at : work.End (caller_in s under c.in-End.caller) ≡ ahead_at hs n = taken_ahead s fs (take n fs) n c.index-frame.result.now (aheads.End c.in-End.caller)
+    (omega arith) c.index-frame.ensures (c.in-Ahead.is ∙ ap frames.Ahead c.in-End.is) refl in
     subst (λ (b : Ahead). IfOk c.fall-in-End.result (λ r. Told s c.args.state.now c.fall-in-End.new.state r (steps.goes p ch old b))) at (c.fall-in-End.ensures.told s agrees)
 
 pub returns-in-Work-clause-told : goal.returns-in-Work-clause-told

@@ -48,9 +48,11 @@ returns-in_ok-leave-in-Some-clause-told c = λ s agrees.
     let at : there ≡ here = ap (λ (xs : Scope). place c.closed.result xs) (c.in_ok-body_scope.ensures.scope s agrees) ∙ ap (λ (q : Pos). place q (body_scope p c.args.state.now.path)) c.closed.ensures in
     let d : Config = standing here old in
     subst (λ (o : Outcome). IfOk c.write.result (λ r. told r (shown s c.write.new.state) ≡ o))
-    (ap (λ (v : Work). outcome (writes (standing there old) x (pos 0 ∷ []) v old.values) old) (c.in_ok-leave-in-Some.ensures.work s ∙ ap (λ (fs : List Frame). work.Leave (caller_in s (held s fs) c.args.caller)) c.truncate-then-is_main.ensures.items)
+    (ap (λ (v : Work). outcome (writes (standing there old) x (pos 0 ∷ []) v old.values) old) (c.in_ok-leave-in-Some.ensures.work s
+    ∙ ap (λ (fs : List Frame). work.Leave (caller_in s (held s fs) c.args.caller)) c.truncate-then-is_main.ensures.items)
     ∙ (ap (λ (q : Place). outcome (writes (standing q old) x (pos 0 ∷ []) (work.Leave k) old.values) old) at
-    ∙ (ap (λ (b : Bool). outcome (if b then writes d x (pos 0 ∷ []) (work.Leave k) d.values else steps.with_choice c.in-Some.int_type 1 ch (writes d x ch (work.Leave k) d.values)) old) (sym c.if-is_main.true ∙ c.is_main.ensures)
+    ∙ (ap (λ (b : Bool). outcome (if b then writes d x (pos 0 ∷ []) (work.Leave k) d.values else steps.with_choice c.in-Some.int_type 1 ch (writes d x ch (work.Leave k) d.values)) old)
+    (sym c.if-is_main.true ∙ c.is_main.ensures)
     ∙ ap (λ (t : Option IntType). outcome (steps.falls p ch d t k) old) (sym c.in-Some.is ∙ c.returns.ensures))))
     (c.write.ensures s)
 
@@ -69,11 +71,14 @@ returns-in_ok-leave-in-Some-2-clause-told c = λ s agrees.
     let d : Config = standing here old in
     let any : are_any c.in-Some.int_type 1 ch ≡ true = sym c.are_chosen.ensures ∙ c.if-are_chosen.true in
     subst (λ (o : Outcome). IfOk c.write-then-are_chosen.result (λ r. told r (shown s c.write-then-are_chosen.new.state) ≡ o))
-    (ap (λ (zs : Numbers). outcome (writes (standing there old) x zs (work_at (held s c.then-then-are_chosen.new.frames.items) c.in_ok-leave-in-Some-2.leave) old.values) old) (one_chosen c.in-Some.int_type ch (pos 0) any)
-    ∙ (ap (λ (v : Work). outcome (writes (standing there old) x ch v old.values) old) (c.in_ok-leave-in-Some-2.ensures.work s ∙ ap (λ (fs : List Frame). work.Leave (caller_in s (held s fs) c.args.caller)) c.truncate-then-are_chosen.ensures.items)
+    (ap (λ (zs : Numbers). outcome (writes (standing there old) x zs (work_at (held s c.then-then-are_chosen.new.frames.items) c.in_ok-leave-in-Some-2.leave) old.values) old)
+    (one_chosen c.in-Some.int_type ch (pos 0) any)
+    ∙ (ap (λ (v : Work). outcome (writes (standing there old) x ch v old.values) old) (c.in_ok-leave-in-Some-2.ensures.work s
+    ∙ ap (λ (fs : List Frame). work.Leave (caller_in s (held s fs) c.args.caller)) c.truncate-then-are_chosen.ensures.items)
     ∙ (ap (λ (q : Place). outcome (writes (standing q old) x ch (work.Leave k) old.values) old) at
     ∙ (ap (λ (b : Bool). outcome (if b then writes d x ch (work.Leave k) d.values else steps.Wants c.in-Some.int_type 1) old) (sym c.if-are_chosen.true ∙ c.are_chosen.ensures)
-    ∙ (ap (λ (b : Bool). outcome (if b then writes d x (pos 0 ∷ []) (work.Leave k) d.values else steps.with_choice c.in-Some.int_type 1 ch (writes d x ch (work.Leave k) d.values)) old) (sym c.if-is_main.false ∙ c.is_main.ensures)
+    ∙ (ap (λ (b : Bool). outcome (if b then writes d x (pos 0 ∷ []) (work.Leave k) d.values else steps.with_choice c.in-Some.int_type 1 ch (writes d x ch (work.Leave k) d.values)) old)
+    (sym c.if-is_main.false ∙ c.is_main.ensures)
     ∙ ap (λ (t : Option IntType). outcome (steps.falls p ch d t k) old) (sym c.in-Some.is ∙ c.returns.ensures))))))
     (c.write-then-are_chosen.ensures s)
 
@@ -91,5 +96,6 @@ returns-else-are_chosen-clause-told c = λ s agrees.
     let at : there ≡ here = ap (λ (xs : Scope). place c.closed.result xs) (c.in_ok-body_scope.ensures.scope s agrees) ∙ ap (λ (q : Pos). place q (body_scope p c.args.state.now.path)) c.closed.ensures in
     let d : Config = standing here old in
     (ap (λ (b : Bool). outcome (if b then writes d x ch (work.Leave k) d.values else steps.Wants c.in-Some.int_type 1) old) (sym c.if-are_chosen.false ∙ c.are_chosen.ensures)
-    ∙ (ap (λ (b : Bool). outcome (if b then writes d x (pos 0 ∷ []) (work.Leave k) d.values else steps.with_choice c.in-Some.int_type 1 ch (writes d x ch (work.Leave k) d.values)) old) (sym c.if-is_main.false ∙ c.is_main.ensures)
+    ∙ (ap (λ (b : Bool). outcome (if b then writes d x (pos 0 ∷ []) (work.Leave k) d.values else steps.with_choice c.in-Some.int_type 1 ch (writes d x ch (work.Leave k) d.values)) old)
+    (sym c.if-is_main.false ∙ c.is_main.ensures)
     ∙ ap (λ (t : Option IntType). outcome (steps.falls p ch d t k) old) (sym c.in-Some.is ∙ c.returns.ensures)))

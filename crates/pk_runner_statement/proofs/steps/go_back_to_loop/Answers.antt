@@ -16,7 +16,8 @@ returns-in-Some c = λ s p ch is.
     let a : Ahead = ahead_at (held s (take c.args.number c.args.state.now.frames.items)) c.in-Some.end.ahead in
     let at : ahead_at hs c.args.number ≡ work.Again (place_in s c.in-Some.end.here) (loop_in c.in-Some.end.kind) (place_in s c.in-Some.end.end) a =
     ap (λ (fs : List Frame). ahead_at (held s fs) c.args.number) (sym c.deref.ensures.value)
-    ∙ (c.in-Some.ensures.1 s ∙ ap (λ (fs : List Frame). work.Again (place_in s c.in-Some.end.here) (loop_in c.in-Some.end.kind) (place_in s c.in-Some.end.end) (ahead_at (held s (take c.args.number fs)) c.in-Some.end.ahead)) c.deref.ensures.value) in
+    ∙ (c.in-Some.ensures.1 s ∙ ap (λ (fs : List Frame). work.Again (place_in s c.in-Some.end.here) (loop_in c.in-Some.end.kind) (place_in s c.in-Some.end.end) (ahead_at (held s
+    (take c.args.number fs)) c.in-Some.end.ahead)) c.deref.ensures.value) in
     c.come.ensures s
     ∙ (ap (λ (b : Ahead). outcome (comes old (place_in s c.in-Some.end.here) (turn b) old.values) old) at
     ∙ sym (ap (λ (b : Ahead). outcome (steps.step_of p ch old (back b)) old) at))

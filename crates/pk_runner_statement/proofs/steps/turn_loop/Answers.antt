@@ -22,7 +22,8 @@ returns-in-While c = λ s p ch is.
     let a : Ahead = ahead_at (held s (take c.args.number c.args.state.now.frames.items)) c.in-Some.end.ahead in
     let at : ahead_at hs c.args.number ≡ work.Again (place_in s c.in-Some.end.here) (loop_in c.in-Some.end.kind) (place_in s c.in-Some.end.end) a =
     ap (λ (fs : List Frame). ahead_at (held s fs) c.args.number) (sym c.deref.ensures.value)
-    ∙ (c.in-Some.ensures.1 s ∙ ap (λ (fs : List Frame). work.Again (place_in s c.in-Some.end.here) (loop_in c.in-Some.end.kind) (place_in s c.in-Some.end.end) (ahead_at (held s (take c.args.number fs)) c.in-Some.end.ahead)) c.deref.ensures.value) in
+    ∙ (c.in-Some.ensures.1 s ∙ ap (λ (fs : List Frame). work.Again (place_in s c.in-Some.end.here) (loop_in c.in-Some.end.kind) (place_in s c.in-Some.end.end) (ahead_at (held s
+    (take c.args.number fs)) c.in-Some.end.ahead)) c.deref.ensures.value) in
     let same : ahead_at hs c.args.number ≡ work.Again (place_in s c.in-Some.end.here) (loop_in (loops.While c.in-While.test c.in-While.field-1)) (place_in s c.in-Some.end.end) a =
     at ∙ ap (λ (l : code_loop.Loop). work.Again (place_in s c.in-Some.end.here) (loop_in l) (place_in s c.in-Some.end.end) a) c.in-While.is in
     c.go_on.ensures s
@@ -37,7 +38,8 @@ returns-in-DoWhile c = λ s p ch is.
     let a : Ahead = ahead_at (held s (take c.args.number c.args.state.now.frames.items)) c.in-Some.end.ahead in
     let at : ahead_at hs c.args.number ≡ work.Again (place_in s c.in-Some.end.here) (loop_in c.in-Some.end.kind) (place_in s c.in-Some.end.end) a =
     ap (λ (fs : List Frame). ahead_at (held s fs) c.args.number) (sym c.deref.ensures.value)
-    ∙ (c.in-Some.ensures.1 s ∙ ap (λ (fs : List Frame). work.Again (place_in s c.in-Some.end.here) (loop_in c.in-Some.end.kind) (place_in s c.in-Some.end.end) (ahead_at (held s (take c.args.number fs)) c.in-Some.end.ahead)) c.deref.ensures.value) in
+    ∙ (c.in-Some.ensures.1 s ∙ ap (λ (fs : List Frame). work.Again (place_in s c.in-Some.end.here) (loop_in c.in-Some.end.kind) (place_in s c.in-Some.end.end) (ahead_at (held s
+    (take c.args.number fs)) c.in-Some.end.ahead)) c.deref.ensures.value) in
     let same : ahead_at hs c.args.number ≡ work.Again (place_in s c.in-Some.end.here) (loop_in (loops.DoWhile c.in-DoWhile.body c.in-DoWhile.field-1)) (place_in s c.in-Some.end.end) a =
     at ∙ ap (λ (l : code_loop.Loop). work.Again (place_in s c.in-Some.end.here) (loop_in l) (place_in s c.in-Some.end.end) a) c.in-DoWhile.is in
     c.go_on-in-DoWhile.ensures s
@@ -52,7 +54,8 @@ returns-in-None-test c = λ s p ch is.
     let a : Ahead = ahead_at (held s (take c.args.number c.args.state.now.frames.items)) c.in-Some.end.ahead in
     let at : ahead_at hs c.args.number ≡ work.Again (place_in s c.in-Some.end.here) (loop_in c.in-Some.end.kind) (place_in s c.in-Some.end.end) a =
     ap (λ (fs : List Frame). ahead_at (held s fs) c.args.number) (sym c.deref.ensures.value)
-    ∙ (c.in-Some.ensures.1 s ∙ ap (λ (fs : List Frame). work.Again (place_in s c.in-Some.end.here) (loop_in c.in-Some.end.kind) (place_in s c.in-Some.end.end) (ahead_at (held s (take c.args.number fs)) c.in-Some.end.ahead)) c.deref.ensures.value) in
+    ∙ (c.in-Some.ensures.1 s ∙ ap (λ (fs : List Frame). work.Again (place_in s c.in-Some.end.here) (loop_in c.in-Some.end.kind) (place_in s c.in-Some.end.end) (ahead_at (held s
+    (take c.args.number fs)) c.in-Some.end.ahead)) c.deref.ensures.value) in
     let same : ahead_at hs c.args.number ≡ work.Again (place_in s c.in-Some.end.here) (loop_in (loops.For c.in-For.test c.in-For.field-1 c.in-For.body)) (place_in s c.in-Some.end.end) a =
     at ∙ ap (λ (l : code_loop.Loop). work.Again (place_in s c.in-Some.end.here) (loop_in l) (place_in s c.in-Some.end.end) a) c.in-For.is in
     let third = c.in-For.field-1.now in
@@ -71,7 +74,8 @@ returns-in-Some-test c = λ s p ch is.
     let a : Ahead = ahead_at (held s (take c.args.number c.args.state.now.frames.items)) c.in-Some.end.ahead in
     let at : ahead_at hs c.args.number ≡ work.Again (place_in s c.in-Some.end.here) (loop_in c.in-Some.end.kind) (place_in s c.in-Some.end.end) a =
     ap (λ (fs : List Frame). ahead_at (held s fs) c.args.number) (sym c.deref.ensures.value)
-    ∙ (c.in-Some.ensures.1 s ∙ ap (λ (fs : List Frame). work.Again (place_in s c.in-Some.end.here) (loop_in c.in-Some.end.kind) (place_in s c.in-Some.end.end) (ahead_at (held s (take c.args.number fs)) c.in-Some.end.ahead)) c.deref.ensures.value) in
+    ∙ (c.in-Some.ensures.1 s ∙ ap (λ (fs : List Frame). work.Again (place_in s c.in-Some.end.here) (loop_in c.in-Some.end.kind) (place_in s c.in-Some.end.end) (ahead_at (held s
+    (take c.args.number fs)) c.in-Some.end.ahead)) c.deref.ensures.value) in
     let same : ahead_at hs c.args.number ≡ work.Again (place_in s c.in-Some.end.here) (loop_in (loops.For c.in-For.test c.in-For.field-1 c.in-For.body)) (place_in s c.in-Some.end.end) a =
     at ∙ ap (λ (l : code_loop.Loop). work.Again (place_in s c.in-Some.end.here) (loop_in l) (place_in s c.in-Some.end.end) a) c.in-For.is in
     let third = c.in-For.field-1.now in
