@@ -112,8 +112,7 @@ fn ending<'a>(
 }
 
 // For each text how many of forty runs went on, ended, and faulted; none leaves what its report says.
-fn counts(alloc: Global, text: &str) -> Result<[usize; 4], Fail> {
-    let report = report(alloc, text.as_bytes())?;
+fn counts(alloc: Global, text: &str, report: &str) -> Result<[usize; 4], Fail> {
     let Ok((unit, paths)) = front(alloc, text.as_bytes(), "main") else {
         return Err("no unit".into());
     };
@@ -125,7 +124,7 @@ fn counts(alloc: Global, text: &str) -> Result<[usize; 4], Fail> {
     };
     let mut counts = [0usize; 4];
     for seed in 0..40u64 {
-        let end = ending(&program, &report, &texts, seed)? as usize;
+        let end = ending(&program, report, &texts, seed)? as usize;
         if end < 4 {
             counts[end] = counts[end].saturating_add(1);
         }
@@ -137,10 +136,30 @@ fn counts(alloc: Global, text: &str) -> Result<[usize; 4], Fail> {
 fn runs_stay_within_their_reports(rt: HostRuntime) -> Result<(), Fail> {
     let mut faults = 0usize;
     for text in &TEXTS {
-        let counts = counts(rt.alloc(), text)?;
+        let report = report(rt.alloc(), text.as_bytes())?;
+        let counts = counts(rt.alloc(), text, &report)?;
         assert!(rt; counts[3] == 0, "{text}");
         faults = faults.saturating_add(counts[2]);
     }
     assert!(rt; 50 < faults);
+    Ok(())
+}
+
+// The report with another line for `i [1,10] 1Z+0`.
+fn altered(alloc: Global, report: &str, line: &str) -> Result<String, Fail> {
+    let (before, after) = report.split_once("i [1,10] 1Z+0").ok_or("no line")?;
+    Ok(format!(in alloc; "{before}{line}{after}")?)
+}
+
+// A range that is cut short by one is found out, and so is a class that leaves a number out.
+#[test]
+fn false_lines_are_found(rt: HostRuntime) -> Result<(), Fail> {
+    let alloc = rt.alloc();
+    let report = report(alloc, TEXTS[0].as_bytes())?;
+    let short = altered(alloc, &report, "i [1,9] 1Z+0")?;
+    let even = altered(alloc, &report, "i [1,10] 2Z+0")?;
+    assert!(rt; counts(alloc, TEXTS[0], &report)? == [0, 40, 0, 0]);
+    assert!(rt; counts(alloc, TEXTS[0], &short)? == [0, 0, 0, 40]);
+    assert!(rt; counts(alloc, TEXTS[0], &even)? == [0, 0, 0, 40]);
     Ok(())
 }

@@ -11,7 +11,7 @@ use Rattle.pk_runner_state.specs.declared.states.Answer.TheVariants as answers
 use Rattle.pk_runner_state.specs.Shown.{Outcome, outcome, told}
 use Rattle.pk_runner.specs.Ran.{is_wanting, on_from, picked, ran}
 
-answer_is : (r : Answer) (c : Config) → (told r c).answer ≡ r
+pub answer_is : (r : Answer) (c : Config) → (told r c).answer ≡ r
 answer_is answers.Next c = refl
 answer_is (answers.Faulted f at) c = refl
 answer_is answers.Assumed c = refl

@@ -3,8 +3,7 @@
 
 mod runs;
 mod steps;
-mod visits;
 
 pub use pk_runner_state::{Answer, Program};
-pub use runs::{Config, is_readable, run, start, step};
-pub use visits::{Known, Visit, visit};
+pub use pk_runner_visit::{Known, Visit};
+pub use runs::{Config, is_readable, run, start, step, visit};

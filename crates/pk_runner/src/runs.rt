@@ -6,6 +6,7 @@ ghost use Rattle.pk_meaning.specs.Steps as definition;
 ghost use Rattle.pk_runner_frame.specs.Frames.{Reading};
 ghost use Rattle.pk_runner_state.specs.Shown.{program_in, objects_in, told, outcome, Agrees};
 ghost use Rattle.pk_runner_state.specs.Rows.{reading_of};
+ghost use Rattle.pk_runner_visit.specs.Seen.{visit_in, visit_if};
 ghost use Rattle.pk_runner.specs.Ran.{rows_of, config_in, picked, ran};
 
 use crate::steps::step_state;
@@ -13,15 +14,16 @@ use pk_ctypes::{IntType, fits};
 use pk_runner_frame::{Ahead, Caller, Object, Spot, Work, before};
 use pk_runner_state::{
     Answer, Objects, Program, State, Table, Visited, body_scope, first_objects, items, opened,
-    parameters,
+    parameters, reach,
 };
+use pk_runner_visit::{Visit, seen};
 use std::alloc::AllocError;
 
 /// Where a run is.
 #[derive(Drop)]
 pub struct Config<'a> {
-    pub(crate) state: State<'a>,
-    pub(crate) table: Table,
+    state: State<'a>,
+    table: Table,
 }
 
 /// The rows of scopes of every run have a reading, by which the clauses here can be read: that of the last configuration is one for all before it.
@@ -146,4 +148,17 @@ pub fn run<'a>(
         }
     }
     Ok(Answer::Next)
+}
+
+/// What is seen where a run is, if the last step came to a visit. The configuration stays.
+pub fn visit<'a>(
+    program: &Program<'a>,
+    config: &mut Config<'a>,
+) -> Result<Option<Visit<'a>>, AllocError>
+    ensures seen { (s : Reading) → Agrees s (rows_of config.new) → IfOk result (λ v. option_map visit_in v ≡ visit_if (program_in program.now) (config_in s config.new)) }
+    ensures same { (s : Reading) → config_in s config.new ≡ config_in s config.old }
+    ensures before { (s : Reading) → Agrees s (rows_of config.new) → Agrees s (rows_of config.old) }
+{
+    reach(&mut config.table, config.state.here.scope)?;
+    seen(program, &config.state, &config.table)
 }

@@ -63,7 +63,8 @@ fn assigned<'a>(
     right: &'a Value,
     number: usize,
 ) -> Result<Work<'a>, AllocError>
-    ensures { (s : Reading) → IfOk result (λ w. work_in s (held s frames.new.items) w ≡ steps.assigned (program_in program.now) path (place_tree place.now) (value_tree right.now) (work_at (held s frames.old.items) number)) }
+    ensures { (s : Reading) → IfOk result (λ w. work_in s (held s frames.new.items) w
+        ≡ steps.assigned (program_in program.now) path (place_tree place.now) (value_tree right.now) (work_at (held s frames.old.items) number)) }
 {
     match place {
         Place::Scalar(int_type, variable) => {
@@ -100,7 +101,8 @@ fn updated<'a>(
     right: Expression<'a>,
     number: usize,
 ) -> Result<Work<'a>, AllocError>
-    ensures { (s : Reading) → IfOk result (λ w. work_in s (held s frames.new.items) w ≡ steps.updated (program_in program.now) path op at in_type (place_tree place.now) (expression_in right.entry) (work_at (held s frames.old.items) number)) }
+    ensures { (s : Reading) → IfOk result (λ w. work_in s (held s frames.new.items) w
+        ≡ steps.updated (program_in program.now) path op at in_type (place_tree place.now) (expression_in right.entry) (work_at (held s frames.old.items) number)) }
 {
     match place {
         Place::Scalar(int_type, variable) => {
@@ -151,7 +153,8 @@ fn put_place<'a>(
     right: &'a Value,
     number: usize,
 ) -> Result<Work<'a>, AllocError>
-    ensures { (s : Reading) → IfOk result (λ w. work_in s (held s frames.new.items) w ≡ steps.put_place (program_in program.now) path (place_tree place.now) (value_tree whole.now) (value_tree right.now) (work_at (held s frames.old.items) number)) }
+    ensures { (s : Reading) → IfOk result (λ w. work_in s (held s frames.new.items) w
+        ≡ steps.put_place (program_in program.now) path (place_tree place.now) (value_tree whole.now) (value_tree right.now) (work_at (held s frames.old.items) number)) }
 {
     match place {
         Place::Scalar(_, _) => dropped(frames, whole, number),
@@ -179,7 +182,8 @@ fn renew<'a>(
     right: &'a Value,
     number: usize,
 ) -> Result<Work<'a>, AllocError>
-    ensures { (s : Reading) → IfOk result (λ w. work_in s (held s frames.new.items) w ≡ steps.renew_place (program_in program.now) path op at in_type (place_tree place.now) (value_tree whole.now) (value_tree right.now) (work_at (held s frames.old.items) number)) }
+    ensures { (s : Reading) → IfOk result (λ w. work_in s (held s frames.new.items) w
+        ≡ steps.renew_place (program_in program.now) path op at in_type (place_tree place.now) (value_tree whole.now) (value_tree right.now) (work_at (held s frames.old.items) number)) }
 {
     match place {
         Place::Scalar(_, _) => dropped(frames, whole, number),
@@ -308,7 +312,8 @@ fn performed_tree<'a>(
     effect: &'a Effect,
     number: usize,
 ) -> Result<Work<'a>, AllocError>
-    ensures { (s : Reading) → IfOk result (λ w. work_in s (held s frames.new.items) w ≡ steps.performed (program_in program.now) path (place_in s here) (effect_tree effect.now) (work_at (held s frames.old.items) number)) }
+    ensures { (s : Reading) → IfOk result (λ w. work_in s (held s frames.new.items) w
+        ≡ steps.performed (program_in program.now) path (place_in s here) (effect_tree effect.now) (work_at (held s frames.old.items) number)) }
 {
     match effect {
         Effect::Unused(value) => unused(program, frames, path, value, number),
@@ -364,7 +369,8 @@ fn decided<'a>(
     yes: Way,
     no: Way,
 ) -> Result<Work<'a>, AllocError>
-    ensures { (s : Reading) → IfOk result (λ w. work_in s (held s frames.new.items) w ≡ works.Evaluate (expression_in expression.entry) (works.Branch (way_in s (held s frames.old.items) yes) (way_in s (held s frames.old.items) no))) }
+    ensures { (s : Reading) → IfOk result (λ w. work_in s (held s frames.new.items) w
+        ≡ works.Evaluate (expression_in expression.entry) (works.Branch (way_in s (held s frames.old.items) yes) (way_in s (held s frames.old.items) no))) }
 {
     let branch = then(frames, Work::Branch(yes, no))?;
     Ok(Work::Evaluate(expression, branch))
@@ -408,7 +414,8 @@ fn both<'a>(
     yes: Way,
     no: Way,
 ) -> Result<Work<'a>, AllocError>
-    ensures { (s : Reading) → IfOk result (λ w. work_in s (held s frames.new.items) w ≡ steps.tested (place_in s here) (tree.and (value_tree left.now) (value_tree right.now)) (way_in s (held s frames.old.items) yes) (way_in s (held s frames.old.items) no)) }
+    ensures { (s : Reading) → IfOk result (λ w. work_in s (held s frames.new.items) w
+        ≡ steps.tested (place_in s here) (tree.and (value_tree left.now) (value_tree right.now)) (way_in s (held s frames.old.items) yes) (way_in s (held s frames.old.items) no)) }
 {
     let no = known_way(frames, no)?;
     let second = frames.len();
@@ -427,7 +434,8 @@ fn either<'a>(
     yes: Way,
     no: Way,
 ) -> Result<Work<'a>, AllocError>
-    ensures { (s : Reading) → IfOk result (λ w. work_in s (held s frames.new.items) w ≡ steps.tested (place_in s here) (tree.or (value_tree left.now) (value_tree right.now)) (way_in s (held s frames.old.items) yes) (way_in s (held s frames.old.items) no)) }
+    ensures { (s : Reading) → IfOk result (λ w. work_in s (held s frames.new.items) w
+        ≡ steps.tested (place_in s here) (tree.or (value_tree left.now) (value_tree right.now)) (way_in s (held s frames.old.items) yes) (way_in s (held s frames.old.items) no)) }
 {
     let yes = known_way(frames, yes)?;
     let second = frames.len();
@@ -447,7 +455,8 @@ fn tested_tree<'a>(
     yes: Way,
     no: Way,
 ) -> Result<Work<'a>, AllocError>
-    ensures { (s : Reading) → IfOk result (λ w. work_in s (held s frames.new.items) w ≡ steps.tested (place_in s here) (value_tree value.now) (way_in s (held s frames.old.items) yes) (way_in s (held s frames.old.items) no)) }
+    ensures { (s : Reading) → IfOk result (λ w. work_in s (held s frames.new.items) w
+        ≡ steps.tested (place_in s here) (value_tree value.now) (way_in s (held s frames.old.items) yes) (way_in s (held s frames.old.items) no)) }
 {
     let expression = Expression::Tree(value, false);
     match value {
@@ -486,7 +495,8 @@ pub fn tested<'a>(
     yes: Way,
     no: Way,
 ) -> Result<Work<'a>, AllocError>
-    ensures { (s : Reading) → IfOk result (λ w. work_in s (held s frames.new.items) w ≡ steps.tested (place_in s here) (expression_in expression.entry) (way_in s (held s frames.old.items) yes) (way_in s (held s frames.old.items) no)) }
+    ensures { (s : Reading) → IfOk result (λ w. work_in s (held s frames.new.items) w
+        ≡ steps.tested (place_in s here) (expression_in expression.entry) (way_in s (held s frames.old.items) yes) (way_in s (held s frames.old.items) no)) }
 {
     match expression {
         Expression::Tree(value, is_int) => {
@@ -571,7 +581,8 @@ fn stepped<'a>(
     place: &'a Place,
     number: usize,
 ) -> Result<Answer, AllocError>
-    ensures { (s : Reading) → IfOk result (λ r. Told s state.old state.new r (steps.stepped (program_in program.now) (shown s state.old) op at in_type (place_tree place.now) (work_at (held s state.old.frames.items) number))) }
+    ensures { (s : Reading) → IfOk result (λ r. Told s state.old state.new r (steps.stepped (program_in program.now) (shown s state.old) op at in_type (place_tree place.now) (work_at
+        (held s state.old.frames.items) number))) }
 {
     match place {
         Place::Scalar(int_type, variable) => {
@@ -614,7 +625,8 @@ fn step_value<'a>(
     is_prefix: bool,
     number: usize,
 ) -> Result<Answer, AllocError>
-    ensures { (s : Reading) → IfOk result (λ r. Told s state.old state.new r (steps.evaluate (program_in program.now) [] (shown s state.old) (tree.step op at in_type (place_tree place.now) is_prefix) (work_at (held s state.old.frames.items) number))) }
+    ensures { (s : Reading) → IfOk result (λ r. Told s state.old state.new r (steps.evaluate (program_in program.now) [] (shown s state.old) (tree.step op at in_type
+        (place_tree place.now) is_prefix) (work_at (held s state.old.frames.items) number))) }
 {
     if is_prefix {
         let work = updated(
@@ -644,7 +656,8 @@ fn any(
     int_type: IntType,
     number: usize,
 ) -> Result<Answer, AllocError>
-    ensures { (s : Reading) → IfOk result (λ r. Told s state.old state.new r (steps.with_choice int_type 1 chosen.now (steps.on (shown s state.old) (work_at (held s state.old.frames.items) number) (number_at chosen.now 0 ∷ (shown s state.old).values)))) }
+    ensures { (s : Reading) → IfOk result (λ r. Told s state.old state.new r (steps.with_choice int_type 1 chosen.now (steps.on (shown s state.old) (work_at
+        (held s state.old.frames.items) number) (number_at chosen.now 0 ∷ (shown s state.old).values)))) }
 {
     if are_chosen(int_type, 1, chosen) {
         give(state, &chosen[0], number)
@@ -655,7 +668,9 @@ fn any(
 
 // `a && b`, `a || b` as a value.
 fn truth<'a>(state: &mut State<'a>, value: &'a Value, number: usize) -> Result<Answer, AllocError>
-    ensures { (s : Reading) → IfOk result (λ r. Told s state.old state.new r (steps.on (shown s state.old) (works.Test (value_tree value.now) (works.Onward (shown s state.old).here (works.Truth (pos 1) (work_at (held s state.old.frames.items) number))) (works.Onward (shown s state.old).here (works.Truth (pos 0) (work_at (held s state.old.frames.items) number)))) (shown s state.old).values)) }
+    ensures { (s : Reading) → IfOk result (λ r. Told s state.old state.new r (steps.on (shown s state.old) (works.Test (value_tree value.now) (works.Onward (shown s state.old).here
+        (works.Truth (pos 1) (work_at (held s state.old.frames.items) number))) (works.Onward (shown s state.old).here (works.Truth (pos 0) (work_at
+        (held s state.old.frames.items) number)))) (shown s state.old).values)) }
 {
     let here = state.here;
     let number = known(&mut state.frames, number)?;
@@ -680,7 +695,9 @@ fn conditional<'a>(
     if_false: &'a Value,
     number: usize,
 ) -> Result<Answer, AllocError>
-    ensures { (s : Reading) → IfOk result (λ r. Told s state.old state.new r (steps.on (shown s state.old) (works.Test (value_tree condition.now) (works.Onward (shown s state.old).here (works.Evaluate (value_tree if_true.now) (works.Settle int_type (work_at (held s state.old.frames.items) number)))) (works.Onward (shown s state.old).here (works.Evaluate (value_tree if_false.now) (works.Settle int_type (work_at (held s state.old.frames.items) number))))) (shown s state.old).values)) }
+    ensures { (s : Reading) → IfOk result (λ r. Told s state.old state.new r (steps.on (shown s state.old) (works.Test (value_tree condition.now) (works.Onward (shown s state.old).here
+        (works.Evaluate (value_tree if_true.now) (works.Settle int_type (work_at (held s state.old.frames.items) number)))) (works.Onward (shown s state.old).here (works.Evaluate
+        (value_tree if_false.now) (works.Settle int_type (work_at (held s state.old.frames.items) number))))) (shown s state.old).values)) }
 {
     let here = state.here;
     let settle = then(&mut state.frames, Work::Settle(int_type, number))?;
@@ -710,7 +727,8 @@ fn evaluate_tree<'a>(
     value: &'a Value,
     number: usize,
 ) -> Result<Answer, AllocError>
-    ensures { (s : Reading) → IfOk result (λ r. Told s state.old state.new r (steps.evaluate (program_in program.now) chosen.now (shown s state.old) (value_tree value.now) (work_at (held s state.old.frames.items) number))) }
+    ensures { (s : Reading) → IfOk result (λ r. Told s state.old state.new r (steps.evaluate (program_in program.now) chosen.now (shown s state.old) (value_tree value.now) (work_at
+        (held s state.old.frames.items) number))) }
 {
     let path = state.path;
     match value {
@@ -823,7 +841,8 @@ pub fn evaluate<'a>(
     expression: Expression<'a>,
     number: usize,
 ) -> Result<Answer, AllocError>
-    ensures { (s : Reading) → IfOk result (λ r. Told s state.old state.new r (steps.evaluate (program_in program.now) chosen.now (shown s state.old) (expression_in expression.entry) (work_at (held s state.old.frames.items) number))) }
+    ensures { (s : Reading) → IfOk result (λ r. Told s state.old state.new r (steps.evaluate (program_in program.now) chosen.now (shown s state.old) (expression_in expression.entry)
+        (work_at (held s state.old.frames.items) number))) }
 {
     match &expression {
         Expression::Tree(value, is_int) => {

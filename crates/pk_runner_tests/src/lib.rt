@@ -5,3 +5,6 @@
 mod rows;
 #[cfg(test)]
 mod running;
+mod whole;
+
+pub use whole::run_from_start;

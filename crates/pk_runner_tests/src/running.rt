@@ -1,8 +1,9 @@
 // Runs of texts.
 
 use crate::rows::ROWS;
+use crate::whole::run_from_start;
 use pk_front::front;
-use pk_runner::{Answer, Program, run, start};
+use pk_runner::{Answer, Program};
 use std::alloc::Global;
 use std::test::Fail;
 
@@ -18,12 +19,9 @@ fn ending(alloc: Global, text: &[u8], choices: &[&[i128]], steps: u64) -> Result
         unit: &unit,
         paths: &paths,
     };
-    match start(&program, &[])? {
+    match run_from_start(&program, &[], choices, steps)? {
         None => Err("no start".into()),
-        Some(mut config) => {
-            let answer = run(&program, &mut config, choices, steps)?;
-            Ok(words(alloc, answer)?)
-        }
+        Some(answer) => Ok(words(alloc, answer)?),
     }
 }
 

@@ -20,5 +20,8 @@ returns c = λ s.
     let no : work_at (held s c.then-3.new.frames.items) c.in_ok-no.no ≡ works.Evaluate (value_tree c.args.if_false.now) (works.Settle c.args.int_type (work_at (held s c.args.state.now.frames.items) c.args.number)) =
     c.in_ok-no.ensures.work s ∙ ap (works.Evaluate (value_tree c.args.if_false.now)) (c.in_ok-yes.ensures.below s c.in_ok-settle.settle there ∙ c.in_ok-settle.ensures.work s) in
     c.go_on.ensures s
-    ∙ (ap (λ (w : Work). outcome (steps.on (shown s c.args.state.now) (works.Test (value_tree c.args.condition.now) (works.Onward (shown s c.args.state.now).here w) (works.Onward (shown s c.args.state.now).here (work_at (held s c.then-3.new.frames.items) c.in_ok-no.no))) (shown s c.args.state.now).values) (shown s c.args.state.now)) yes
-    ∙ ap (λ (w : Work). outcome (steps.on (shown s c.args.state.now) (works.Test (value_tree c.args.condition.now) (works.Onward (shown s c.args.state.now).here (works.Evaluate (value_tree c.args.if_true.now) (works.Settle c.args.int_type (work_at (held s c.args.state.now.frames.items) c.args.number)))) (works.Onward (shown s c.args.state.now).here w)) (shown s c.args.state.now).values) (shown s c.args.state.now)) no)
+    ∙ (ap (λ (w : Work). outcome (steps.on (shown s c.args.state.now) (works.Test (value_tree c.args.condition.now) (works.Onward (shown s c.args.state.now).here w) (works.Onward
+    (shown s c.args.state.now).here (work_at (held s c.then-3.new.frames.items) c.in_ok-no.no))) (shown s c.args.state.now).values) (shown s c.args.state.now)) yes
+    ∙ ap (λ (w : Work). outcome (steps.on (shown s c.args.state.now) (works.Test (value_tree c.args.condition.now) (works.Onward (shown s c.args.state.now).here (works.Evaluate
+    (value_tree c.args.if_true.now) (works.Settle c.args.int_type (work_at (held s c.args.state.now.frames.items) c.args.number)))) (works.Onward (shown s c.args.state.now).here w))
+    (shown s c.args.state.now).values) (shown s c.args.state.now)) no)

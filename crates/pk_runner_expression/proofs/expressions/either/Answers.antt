@@ -14,5 +14,8 @@ unfolding work_in expression_in
 returns c = λ s.
     ap (λ (w : Work). works.Test (value_tree c.args.left.now) (way_in s (held s c.push.new.self.items) c.in_ok-yes.yes) (works.Onward (place_in s c.args.here) w))
     (laid_work s c.known_way.new.frames.items c.push.new.self.items _ c.len-second.result c.in_ok-push.ensures.items (omega arith)
-    ∙ (ap (λ (y : Way). works.Test (value_tree c.args.right.now) y (way_in s (held s c.known_way.new.frames.items) c.args.no)) (c.in_ok-yes.ensures.way s) ∙ ap (works.Test (value_tree c.args.right.now) (way_in s (held s c.args.frames.now.items) c.args.yes)) (c.in_ok-yes.ensures.same s c.args.no)))
-    ∙ ap (λ (y : Way). works.Test (value_tree c.args.left.now) y (works.Onward (place_in s c.args.here) (works.Test (value_tree c.args.right.now) (way_in s (held s c.args.frames.now.items) c.args.yes) (way_in s (held s c.args.frames.now.items) c.args.no)))) (ap (λ (fs : List Frame). way_in s (held s fs) c.in_ok-yes.yes) c.in_ok-push.ensures.items ∙ (c.in_ok-yes.ensures.stays s _ ∙ c.in_ok-yes.ensures.way s))
+    ∙ (ap (λ (y : Way). works.Test (value_tree c.args.right.now) y (way_in s (held s c.known_way.new.frames.items) c.args.no)) (c.in_ok-yes.ensures.way s)
+    ∙ ap (works.Test (value_tree c.args.right.now) (way_in s (held s c.args.frames.now.items) c.args.yes)) (c.in_ok-yes.ensures.same s c.args.no)))
+    ∙ ap (λ (y : Way). works.Test (value_tree c.args.left.now) y (works.Onward (place_in s c.args.here) (works.Test (value_tree c.args.right.now) (way_in s
+    (held s c.args.frames.now.items) c.args.yes) (way_in s (held s c.args.frames.now.items) c.args.no)))) (ap (λ (fs : List Frame). way_in s
+    (held s fs) c.in_ok-yes.yes) c.in_ok-push.ensures.items ∙ (c.in_ok-yes.ensures.stays s _ ∙ c.in_ok-yes.ensures.way s))

@@ -20,6 +20,9 @@ returns-in_ok-work-in-Call c = λ s.
     c.go_on-in-Call.ensures s
     ∙ (ap (λ (w : Work). outcome (steps.on (shown s c.args.state.now) w (shown s c.args.state.now).values) (shown s c.args.state.now))
     (c.in_ok-work-in-Call.ensures s
-    ∙ (ap (λ (vs : List Value). steps.called (program_in c.args.program.now) (shown s c.args.state.now).path c.in-Call.site (value_trees vs) (work_at (held s c.then.new.frames.items) c.in_ok-fetch-in-Call.fetch)) c.as_slice.ensures.value
-    ∙ ap (steps.called (program_in c.args.program.now) (shown s c.args.state.now).path c.in-Call.site (value_trees c.in-Call.arguments.items)) (c.in_ok-fetch-in-Call.ensures.work s ∙ ap (λ (m : ℕ). works.Fetch c.in-Call.int_type (objects.result m) (work_at (held s c.args.state.now.frames.items) c.args.number)) c.callee.ensures)))
-    ∙ sym (ap (λ (t : ValueTree). outcome (steps.evaluate (program_in c.args.program.now) c.args.chosen.now (shown s c.args.state.now) t (work_at (held s c.args.state.now.frames.items) c.args.number)) (shown s c.args.state.now)) (ap value_tree c.in-Call.is ∙ tree_of_call _ _ _ _ c.in-Call.arguments)))
+    ∙ (ap (λ (vs : List Value). steps.called (program_in c.args.program.now) (shown s c.args.state.now).path c.in-Call.site (value_trees vs) (work_at
+    (held s c.then.new.frames.items) c.in_ok-fetch-in-Call.fetch)) c.as_slice.ensures.value
+    ∙ ap (steps.called (program_in c.args.program.now) (shown s c.args.state.now).path c.in-Call.site (value_trees c.in-Call.arguments.items)) (c.in_ok-fetch-in-Call.ensures.work s
+    ∙ ap (λ (m : ℕ). works.Fetch c.in-Call.int_type (objects.result m) (work_at (held s c.args.state.now.frames.items) c.args.number)) c.callee.ensures)))
+    ∙ sym (ap (λ (t : ValueTree). outcome (steps.evaluate (program_in c.args.program.now) c.args.chosen.now (shown s c.args.state.now) t (work_at
+    (held s c.args.state.now.frames.items) c.args.number)) (shown s c.args.state.now)) (ap value_tree c.in-Call.is ∙ tree_of_call _ _ _ _ c.in-Call.arguments)))

@@ -19,4 +19,5 @@ pub returns-in-Call : goal.returns-in-Call
 returns-in-Call c = λ s.
     if_map c.called.result _ _ (λ w e. e
     ∙ (ap (λ (vs : List Value). steps.called (program_in c.args.program.now) c.args.path c.in-Call.site (value_trees vs) (work_at (held s c.args.frames.now.items) c.args.number)) c.as_slice.ensures.value
-    ∙ sym (ap (λ (t : EffectTree). steps.performed (program_in c.args.program.now) c.args.path (place_in s c.args.here) t (work_at (held s c.args.frames.now.items) c.args.number)) (ap effect_tree c.in-Call.is ∙ tree_of_run _ _ _ c.in-Call.arguments)))) (c.called.ensures s)
+    ∙ sym (ap (λ (t : EffectTree). steps.performed (program_in c.args.program.now) c.args.path (place_in s c.args.here) t (work_at (held s c.args.frames.now.items) c.args.number))
+    (ap effect_tree c.in-Call.is ∙ tree_of_run _ _ _ c.in-Call.arguments)))) (c.called.ensures s)

@@ -20,5 +20,7 @@ returns c = λ s.
     let last : work_at (held s c.then-2.new.frames.items) c.in_ok-last.last ≡ works.Truth (pos 0) (work_at (held s c.args.state.now.frames.items) c.args.number) =
     c.in_ok-first.ensures.below s c.in_ok-last.last there ∙ (c.in_ok-last.ensures.work s ∙ ap (works.Truth (pos 0)) known) in
     c.go_on.ensures s
-    ∙ (ap (λ (w : Work). outcome (steps.on (shown s c.args.state.now) (works.Test (value_tree c.args.value.now) (works.Onward (shown s c.args.state.now).here w) (works.Onward (shown s c.args.state.now).here (work_at (held s c.then-2.new.frames.items) c.in_ok-last.last))) (shown s c.args.state.now).values) (shown s c.args.state.now)) first
-    ∙ ap (λ (w : Work). outcome (steps.on (shown s c.args.state.now) (works.Test (value_tree c.args.value.now) (works.Onward (shown s c.args.state.now).here (works.Truth (pos 1) (work_at (held s c.args.state.now.frames.items) c.args.number))) (works.Onward (shown s c.args.state.now).here w)) (shown s c.args.state.now).values) (shown s c.args.state.now)) last)
+    ∙ (ap (λ (w : Work). outcome (steps.on (shown s c.args.state.now) (works.Test (value_tree c.args.value.now) (works.Onward (shown s c.args.state.now).here w) (works.Onward
+    (shown s c.args.state.now).here (work_at (held s c.then-2.new.frames.items) c.in_ok-last.last))) (shown s c.args.state.now).values) (shown s c.args.state.now)) first
+    ∙ ap (λ (w : Work). outcome (steps.on (shown s c.args.state.now) (works.Test (value_tree c.args.value.now) (works.Onward (shown s c.args.state.now).here (works.Truth (pos 1) (work_at
+    (held s c.args.state.now.frames.items) c.args.number))) (works.Onward (shown s c.args.state.now).here w)) (shown s c.args.state.now).values) (shown s c.args.state.now)) last)

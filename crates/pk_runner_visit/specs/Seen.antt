@@ -4,8 +4,8 @@ use Rattle.pk_meaning.specs.Programs.{Program}
 use Rattle.pk_meaning.specs.Steps.{Config}
 use Rattle.pk_meaning.specs.Runs as definition
 use Rattle.pk_meaning.specs.Runs.{visit_of}
-use Rattle.pk_runner.specs.declared.visits.Known.{Known}
-use Rattle.pk_runner.specs.declared.visits.Visit.{Visit}
+use Rattle.pk_runner_visit.specs.declared.visits.Known.{Known}
+use Rattle.pk_runner_visit.specs.declared.visits.Visit.{Visit}
 
 abbrev pub known_in : Known → definition.Known
 known_in k = record { name = k.name.now; numbers = k.numbers.items }

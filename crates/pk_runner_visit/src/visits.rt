@@ -8,13 +8,11 @@ ghost use Rattle.pk_runner_frame.specs.Frames.{Reading, object_in, scope_in};
 ghost use Rattle.pk_runner_state.specs.declared.states.State as state;
 ghost use Rattle.pk_runner_state.specs.Rows.{rows_of_scope};
 ghost use Rattle.pk_runner_state.specs.Shown.{program_in, objects_in, shown, is_visit, Agrees};
-ghost use Rattle.pk_runner.specs.Ran.{rows_of, config_in};
-ghost use Rattle.pk_runner.specs.Seen.{known_in, visit_in, visit_if};
+ghost use Rattle.pk_runner_visit.specs.Seen.{known_in, visit_in, visit_if};
 
-use crate::runs::Config;
 use pk_ctypes::Pos;
 use pk_runner_frame::{Object, Scope};
-use pk_runner_state::{Objects, Program, State, Table, Visited, name_of, reach};
+use pk_runner_state::{Objects, Program, State, Table, Visited, name_of};
 use std::alloc::{AllocError, Global};
 
 /// A name in scope, and what its object holds.
@@ -117,7 +115,7 @@ fn is_seen(visited: Visited, list: &[Object]) -> bool
     }
 }
 
-fn known<'a>(
+fn all_known<'a>(
     program: &Program<'a>,
     objects: &Objects,
     list: &[Object],
@@ -135,8 +133,9 @@ fn known<'a>(
     Ok(known)
 }
 
+/// What is seen where a run is, if the last step came to a visit.
 #[tactic(auto, unfolding(pk_runner_state::specs::Shown::shown))]
-fn seen<'a>(
+pub fn seen<'a>(
     program: &Program<'a>,
     state: &State<'a>,
     table: &Table,
@@ -149,22 +148,9 @@ fn seen<'a>(
         Ok(Some(Visit {
             path: state.path,
             at: state.here.at,
-            known: known(program, &state.objects, &list)?,
+            known: all_known(program, &state.objects, &list)?,
         }))
     } else {
         Ok(None)
     }
-}
-
-/// What is seen where a run is, if the last step came to a visit. The configuration stays.
-pub fn visit<'a>(
-    program: &Program<'a>,
-    config: &mut Config<'a>,
-) -> Result<Option<Visit<'a>>, AllocError>
-    ensures seen { (s : Reading) → Agrees s (rows_of config.new) → IfOk result (λ v. option_map visit_in v ≡ visit_if (program_in program.now) (config_in s config.new)) }
-    ensures same { (s : Reading) → config_in s config.new ≡ config_in s config.old }
-    ensures before { (s : Reading) → Agrees s (rows_of config.new) → Agrees s (rows_of config.old) }
-{
-    reach(&mut config.table, config.state.here.scope)?;
-    seen(program, &config.state, &config.table)
 }
