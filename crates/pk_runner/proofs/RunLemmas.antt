@@ -1,6 +1,6 @@
 -- What an answer says of the step that gave it.
-use Rattle.std.proofs.Common.{◌≡◌, ◌≢◌, ◌<◌, ◌+◌, ℕ, suc, refl, ap, ◌∙◌, sym, List, [], ◌∷◌, length, drop, get_or, Bool, true, Some}
-use Rattle.std.specs.Prelude.{if◌then◌else◌}
+use Rattle.std.proofs.Common.{◌≡◌, ◌≢◌, ◌<◌, ◌+◌, ℕ, suc, refl, ap, ◌∙◌, sym, List, [], ◌∷◌, length, drop, get_or, subst, Bool, true, Option, Some, None}
+use Rattle.std.specs.Prelude.{if◌then◌else◌, option_map, IfSome}
 use Rattle.pk_ctypes.specs.declared.types.IntType.{IntType}
 use Rattle.pk_graph.specs.Steps.{Numbers}
 use Rattle.pk_meaning.specs.Programs.{Program}
@@ -8,8 +8,10 @@ use Rattle.std.proofs.lemmas.List.{drop_more}
 use Rattle.pk_meaning.specs.Steps.{Config, Next, To, Faulted, Assumed, Returned, Wants, Stuck, step}
 use Rattle.pk_runner_state.specs.declared.states.Answer.{Answer}
 use Rattle.pk_runner_state.specs.declared.states.Answer.TheVariants as answers
-use Rattle.pk_runner_state.specs.Shown.{Outcome, outcome, told}
-use Rattle.pk_runner.specs.Ran.{is_wanting, on_from, picked, ran}
+use Rattle.pk_runner_frame.specs.Frames.{Reading}
+use Rattle.pk_runner_state.specs.Shown.{Outcome, outcome, told, Agrees}
+use Rattle.pk_runner.specs.declared.runs.Config as code_config
+use Rattle.pk_runner.specs.Ran.{rows_of, config_in, is_wanting, on_from, picked, ran}
 
 pub answer_is : (r : Answer) (c : Config) → (told r c).answer ≡ r
 answer_is answers.Next c = refl
@@ -57,3 +59,17 @@ with_next p chs i d c l w =
 -- one step more
 pub one_more : (p : Program) (m n : ℕ) (chs : List Numbers) (c : Config) → m ≡ suc n → ran p m chs c ≡ on_from (picked p chs c).0 c (λ d. ran p n (picked p chs c).1 d)
 one_more p m n chs c e = ap (λ (k : ℕ). ran p k chs c) e
+
+-- where a run begins, or doesn't
+pub not_begun : (o : Option code_config.Config) (m : Option Config) (f : Config → Answer) → ((s : Reading) → IfSome o (λ d. Agrees s (rows_of d)) → option_map (config_in s) o ≡ m) → o ≡ None
+    → None ≡ option_map f m
+not_begun o m f h e =
+    let s : Reading = λ i. [] in
+    let P : Option code_config.Config → Type 0 = λ x. IfSome x (λ d. Agrees s (rows_of d)) in
+    ap (λ (x : Option code_config.Config). option_map f (option_map (config_in s) x)) (sym e) ∙ ap (option_map f) (h s (subst P (sym e) tt))
+
+pub begun_so : (o : Option code_config.Config) (m : Option Config) (f : Config → Answer) (d : code_config.Config) (s : Reading) → ((r : Reading) → IfSome o (λ e. Agrees r (rows_of e)) → option_map (config_in r) o ≡ m)
+    → o ≡ Some d → Agrees s (rows_of d) → Some (f (config_in s d)) ≡ option_map f m
+begun_so o m f d s h e a =
+    let P : Option code_config.Config → Type 0 = λ x. IfSome x (λ b. Agrees s (rows_of b)) in
+    ap (λ (x : Option code_config.Config). option_map f (option_map (config_in s) x)) (sym e) ∙ ap (option_map f) (h s (subst P (sym e) a))

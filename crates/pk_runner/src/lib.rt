@@ -6,4 +6,4 @@ mod steps;
 
 pub use pk_runner_state::{Answer, Program};
 pub use pk_runner_visit::{Known, Visit};
-pub use runs::{Config, is_readable, run, start, step, visit};
+pub use runs::{Config, is_readable, run, run_from_start, start, step, visit};

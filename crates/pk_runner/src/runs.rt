@@ -150,6 +150,27 @@ pub fn run<'a>(
     Ok(Answer::Next)
 }
 
+/// How a run goes that begins with these numbers of the entry's parameters, if they are such: what the definition says, by the contracts of the calls above alone.
+pub fn run_from_start<'a>(
+    program: &Program<'a>,
+    chosen: &[i128],
+    choices: &[&[i128]],
+    steps: u64,
+) -> Result<Option<Answer>, AllocError>
+    ensures { IfOk result (λ answer. answer
+        ≡ option_map (λ c. (ran (program_in program.now) steps (map (λ zs. zs.now) choices.now) c).answer) (meaning.start (program_in program.now) chosen.now)) }
+{
+    match start(program, chosen)? {
+        None => Ok(None),
+        Some(begun) => {
+            let mut config = begun;
+            let answer = run(program, &mut config, choices, steps)?;
+            is_readable(&config);
+            Ok(Some(answer))
+        }
+    }
+}
+
 /// What is seen where a run is, if the last step came to a visit. The configuration stays.
 pub fn visit<'a>(
     program: &Program<'a>,

@@ -5,6 +5,3 @@
 mod rows;
 #[cfg(test)]
 mod running;
-mod whole;
-
-pub use whole::run_from_start;

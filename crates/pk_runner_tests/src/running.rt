@@ -1,9 +1,8 @@
 // Runs of texts.
 
 use crate::rows::ROWS;
-use crate::whole::run_from_start;
 use pk_front::front;
-use pk_runner::{Answer, Program};
+use pk_runner::{Answer, Program, run_from_start};
 use std::alloc::Global;
 use std::test::Fail;
 
