@@ -4,7 +4,6 @@ use Rattle.pk_meaning.specs.Programs.{Program}
 use Rattle.pk_meaning.specs.Runs as meaning
 use Rattle.pk_meaning.specs.Steps.{Config}
 use Rattle.pk_runner_frame.specs.Frames.{Reading}
-use Rattle.pk_runner_state.specs.declared.states.Answer.{Answer}
 use Rattle.pk_runner_state.specs.Rows.{reading_of}
 use Rattle.pk_runner_state.specs.Shown.{program_in, Outcome}
 use Rattle.pk_runner.specs.Ran.{rows_of, config_in, ran}
