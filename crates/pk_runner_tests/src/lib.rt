@@ -1,7 +1,0 @@
-//! Runs of texts.
-#![tactic(auto)]
-
-#[cfg(test)]
-mod rows;
-#[cfg(test)]
-mod running;
