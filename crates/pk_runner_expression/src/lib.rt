@@ -1,0 +1,6 @@
+//! What begins with an expression of a run.
+#![tactic(auto)]
+
+mod expressions;
+
+pub use expressions::{evaluate, filled, passed, performed, tested};

@@ -1,0 +1,20 @@
+use Rattle.std.proofs.Common.{rules, refl}
+use Rattle.std.specs.Prelude.{IfOk}
+use Rattle.pk_meaning.specs.Steps.{Next}
+use Rattle.pk_runner_state.specs.declared.states.Answer.TheVariants as answers
+use Rattle.pk_runner_state.specs.Shown.{shown, Told}
+use Rattle.pk_runner_operation.proofs.OperationLemmas.{no_top, by_top, laid, converted_same}
+use mir.Syntax.{w128}
+use mir.Val.{SFits}
+use Rattle.pk_runner_operation.proofs.operations.assign.Goals as goal
+
+pub returns-in-None : goal.returns-in-None
+unfolding shown
+returns-in-None c = λ s p ch. no_top (λ (n : Next). Told s c.args.state.now c.args.state.now answers.Stuck n) _ _ _ c.in-None.ensures c.deref.ensures.value refl
+
+pub returns-in_ok-push-in-Some : goal.returns-in_ok-push-in-Some
+unfolding shown
+returns-in_ok-push-in-Some c = λ s p ch.
+    let fv : SFits w128 c.in-Some.value = search rules in
+    by_top (λ (n : Next). IfOk c.write.result (λ r. Told s c.args.state.now c.write.new.state r n)) _ _ _ _ _ c.in-Some.ensures c.deref.ensures.value c.without.ensures
+    (rw (laid _ _ _ c.in_ok-push-in-Some.ensures.items, (converted_same _ _ _ (record { sfits = c.convert-value.type_inv }) fv c.convert-value.ensures)) at c.write.ensures s)

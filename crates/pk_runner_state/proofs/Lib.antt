@@ -1,0 +1,4 @@
+pub mod ProgramLemmas
+pub mod ObjectLemmas
+pub mod ValueLemmas
+pub mod RowLemmas
