@@ -1,5 +1,5 @@
 -- Where rules fail in statements (C99 6.8), and what stands after them: scopes, calls, objects, and the cases of a `switch`. Labels and jumps are a matter of their own.
-use Rattle.std.specs.Prelude.{ℕ, ℤ, int_lt, Bool, true, false, not, is_some, Option, Some, None, option_map, List, [], ◌∷◌, ◌++◌, length, if◌then◌else◌}
+use Rattle.std.specs.Prelude.{ℤ, Bool, true, false, not, is_some, Option, Some, None, List, [], ◌∷◌, ◌++◌, if◌then◌else◌}
 use Rattle.std.specs.Ordering.{int_eq}
 use Rattle.pk_ctypes.specs.declared.places.Pos.{Pos}
 use Rattle.pk_ctypes.specs.declared.types.IntType.{IntType}

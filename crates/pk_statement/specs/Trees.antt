@@ -19,7 +19,7 @@ use Rattle.pk_declare.specs.Declarations.{after_declaration, declaration_trees_a
 use Rattle.pk_declare.specs.Walks.{Walked, Adding, here, after_value, value_at, effect_at}
 use Rattle.pk_jump.specs.declared.labels.Label.{Label}
 use Rattle.pk_statement.specs.declared.statements.Case.{Case}
-use Rattle.pk_statement.specs.Statements.{Passed, on, inside, after, after_items, with_case, with_default, in_switch, after_start, after_optional_value, after_head}
+use Rattle.pk_statement.specs.Statements.{Passed, on, inside, after, with_case, with_default, in_switch, after_start, after_optional_value, after_head}
 
 abbrev pub Labels : Type 0
 Labels = List ℕ → Option Label

@@ -1,8 +1,7 @@
-use Rattle.std.proofs.Common.{◌≡◌, ◌∙◌, ap, option_map}
+use Rattle.std.proofs.Common.{◌∙◌, ap, option_map}
 use Rattle.pk_ast.specs.Views.{declaration_tree}
 use Rattle.pk_typed.specs.Views.{statement_tree, item_trees}
 use Rattle.pk_jump.specs.Views.{labels_in}
-use Rattle.pk_declare.specs.Parts.{parts_in}
 use Rattle.pk_declare.proofs.PartLemmas.{map_twice}
 use Rattle.pk_statement.specs.Views.{passed_in, items_in}
 use Rattle.pk_statement.proofs.WalkLemmas.{items_left, left_positive, items_passed, for_left, for_passed, for_typed, switch_passed, switch_typed, next, at_end, declaration_passed, statement_passed, empty_passed, empty_typed, end_passed, declaration_typed, statement_typed, end_typed}
