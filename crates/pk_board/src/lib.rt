@@ -1,6 +1,7 @@
 // A board on which passes run the elements of a plan, from threads of their own.
 #![tactic(auto)]
 
+mod about;
 mod answers;
 mod boards;
 mod copies;
