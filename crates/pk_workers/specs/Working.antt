@@ -1,0 +1,82 @@
+-- What a worker has, and what it leaves.
+use Rattle.std.specs.Prelude.{◌≡◌, ℕ, ◌+◌, ◌<◌, List, [], ◌∷◌, Option, Some, None, All, true}
+use Rattle.atomic_table.specs.Seated.{TableId}
+use Rattle.pk_plan.specs.Order.{Level}
+use Rattle.pk_plan.specs.Plans.{PlanView}
+use Rattle.pk_plan.specs.Shape.{shape_of}
+use Rattle.pk_iterate.specs.Behaviour.{Behaviour}
+use Rattle.pk_iterate.specs.Runs.{values_read}
+use Rattle.pk_iterate.specs.Ending.{Ends, trace}
+use Rattle.pk_core.specs.Orders.{IsOrderOf}
+use Rattle.pk_layout.specs.Wirings.{Wiring}
+use Rattle.pk_words.specs.declared.view.View.{View}
+use Rattle.pk_words.specs.Board.{IsCause}
+use Rattle.pk_words.specs.Held.{HoldView, SendingView, ResettingView}
+use Rattle.pk_words.specs.Reads.{Counts}
+use Rattle.pk_board.specs.declared.answers.Got.{Got}
+use Rattle.pk_board.specs.declared.answers.Got.TheVariants.{Ready, Waiting}
+use Rattle.pk_workers.specs.declared.workers.Job.{Job}
+use Rattle.pk_workers.specs.declared.turns.Ending.{Ending}
+use Rattle.pk_workers.specs.declared.turns.Ending.TheVariants.{Finished, Stopped}
+
+-- the tokens of a pass that has one of a kind at most
+abbrev pub holds_of : Option HoldView → List (ℕ × ℕ)
+holds_of None = []
+holds_of (Some h) = (h.element, h.run) ∷ []
+
+abbrev pub sends_of : Option SendingView → List (ℕ × ℕ)
+sends_of None = []
+sends_of (Some s) = (s.element, s.sent) ∷ []
+
+abbrev pub resets_of : Option ResettingView → List (ℕ × ℕ)
+resets_of None = []
+resets_of (Some r) = (r.exit, r.left) ∷ []
+
+-- the pass has these tokens and no others
+pub record HasJust (v : View) (hold : Option HoldView) (sending : Option SendingView) (resetting : Option ResettingView) : Type 0 where
+  pub holds : v.holds ≡ holds_of hold
+  pub sends : v.sends ≡ sends_of sending
+  pub resets : v.resets ≡ resets_of resetting
+
+-- the Holds of a pass that told an element
+abbrev pub got_holds : Got → List (ℕ × ℕ) → List (ℕ × ℕ)
+got_holds (Ready h) hs = (h.element, h.run) ∷ hs
+got_holds (Waiting left) hs = hs
+
+-- the pass has the tokens that it had
+pub record HasSame (old new : View) : Type 0 where
+  pub holds : new.holds ≡ old.holds
+  pub sends : new.sends ≡ old.sends
+  pub resets : new.resets ≡ old.resets
+
+-- The recursion runs the Hold's element once more.
+pub record IsRunnable {C : Type 0} (b : Behaviour C) (w : Wiring) (h : HoldView) : Type 0 where
+  pub element : h.element < w.plan.elements
+  pub counts : Counts b w h.element h.run
+
+abbrev pub IsGotRunnable : {C : Type 0} → Behaviour C → Wiring → Got → Type 0
+IsGotRunnable b w (Ready h) = IsRunnable b w h
+IsGotRunnable b w (Waiting left) = Unit {0}
+
+-- The pass told an element, which got something; else it has this Hold and this Sending.
+pub record HasGot {C : Type 0} (b : Behaviour C) (w : Wiring) (v : View) (kept : Option HoldView) (got : Got) (rest : Option SendingView) : Type 0 where
+  pub holds : v.holds ≡ got_holds got (holds_of kept)
+  pub sends : v.sends ≡ sends_of rest
+  pub resets : v.resets ≡ []
+  pub runnable : IsGotRunnable b w got
+
+-- the cells that the Hold's run reads in the recursion
+abbrev pub AreInputs : {C : Type 0} → Behaviour C → PlanView → HoldView → List C → Type 0
+AreInputs b p hold cells = (order : Level) (ends : Ends b order) → IsOrderOf (shape_of p) order → cells ≡ values_read b (trace ends) hold.element (hold.run + 1)
+
+-- The pass found the last element done, or the board was stopped for this cause.
+abbrev pub IsEnding : {C D : Type 0} → Behaviour C → Wiring → TableId → Ending D → Type 0
+IsEnding b w table (Finished pass finished) = (pass.table ≡ table) × (pass.view.ended ≡ true)
+IsEnding b w table (Stopped why) = IsCause b w why
+
+abbrev pub AreEndings : {C D : Type 0} → Behaviour C → Wiring → TableId → List (Ending D) → Type 0
+AreEndings {C} {D} b w table endings = All (λ (e : Ending D). IsEnding b w table e) endings
+
+-- passes of the board, without tokens
+abbrev pub AreJobs : {D : Type 0} → TableId → List (Job D) → Type 0
+AreJobs {D} table jobs = All (λ (j : Job D). (j.pass.table ≡ table) × HasJust j.pass.view None None None) jobs

@@ -1,0 +1,103 @@
+// How a worker spends its tokens.
+
+ghost use Rattle.std.specs.Prelude.{◌≡◌, ◌+◌, None, Some, IfSome};
+ghost use Rattle.pk_board.specs.Calls.{IsSending, IsResetting};
+ghost use Rattle.pk_workers.specs.Working.{HasJust, IsRunnable, HasGot};
+
+use pk_board::{Armed, Arrived, Board, Got, Pass};
+use pk_iterate::System;
+use pk_words::{Hold, Resetting, Sending};
+
+/// What is kept once an element was told: the Hold that there was, or else that of the element, if it is ready.
+fn keep<Y: System>(
+    board: &Board<Y>,
+    pass: &mut Pass<Y::Cell>,
+    kept: Option<Hold>,
+    got: Got,
+    rest: Option<Sending>,
+) -> (Option<Sending>, Option<Hold>)
+    requires of_board { pass.old.table ≡ board.now.table }
+    requires tokens { HasGot (Y.meaning board.now.subject.system) board.now.subject.wiring pass.old.view kept got rest }
+    requires runnable { IfSome kept (IsRunnable (Y.meaning board.now.subject.system) board.now.subject.wiring) }
+    ensures of_board { pass.new.table ≡ pass.old.table }
+    ensures rest { result.0 ≡ rest }
+    ensures tokens { HasJust pass.new.view result.1 rest None }
+    ensures runnable { IfSome result.1 (IsRunnable (Y.meaning board.now.subject.system) board.now.subject.wiring) }
+{
+    let Got::Ready(hold) = got else {
+        return (rest, kept);
+    };
+    if kept.is_none() {
+        return (rest, Some(hold));
+    }
+    board.offer(pass, hold);
+    (rest, kept)
+}
+
+/// Tells the next successor. There is a Sending of those that are left, and the Hold that is kept.
+fn tell_next<Y: System>(
+    board: &Board<Y>,
+    pass: &mut Pass<Y::Cell>,
+    sending: Sending,
+    kept: Option<Hold>,
+) -> (Option<Sending>, Option<Hold>)
+    requires of_board { pass.old.table ≡ board.now.table }
+    requires sending { IsSending board.now.subject.wiring.plan sending }
+    requires tokens { HasJust pass.old.view kept (Some sending) None }
+    requires runnable { IfSome kept (IsRunnable (Y.meaning board.now.subject.system) board.now.subject.wiring) }
+    ensures of_board { pass.new.table ≡ pass.old.table }
+    ensures rest { IfSome result.0 (λ s. s ≡ record { element = sending.element; sent = sending.sent + 1 }) }
+    ensures sending { IfSome result.0 (IsSending board.now.subject.wiring.plan) }
+    ensures tokens { HasJust pass.new.view result.1 result.0 None }
+    ensures runnable { IfSome result.1 (IsRunnable (Y.meaning board.now.subject.system) board.now.subject.wiring) }
+{
+    board.subject().wired();
+    match board.arrive(pass, sending) {
+        Arrived::Next { rest, got } => keep(board, pass, kept, got, Some(rest)),
+        Arrived::Sent { got } => keep(board, pass, kept, got, None),
+    }
+}
+
+/// Tells all successors. Of the elements that become ready the first is kept, and each other one is offered.
+pub(crate) fn tell_all<Y: System>(
+    board: &Board<Y>,
+    pass: &mut Pass<Y::Cell>,
+    sending: Sending,
+) -> Option<Hold>
+    requires of_board { pass.old.table ≡ board.now.table }
+    requires sending { IsSending board.now.subject.wiring.plan sending }
+    requires tokens { HasJust pass.old.view None (Some sending) None }
+    ensures of_board { pass.new.table ≡ pass.old.table }
+    ensures tokens { HasJust pass.new.view result None None }
+    ensures runnable { IfSome result (IsRunnable (Y.meaning board.now.subject.system) board.now.subject.wiring) }
+{
+    let mut kept = None;
+    let mut left = Some(sending);
+    while let Some(now) = left {
+        (left, kept) = tell_next(board, pass, now, kept);
+    }
+    kept
+}
+
+/// Arms all members of a component. The Hold is that of its head.
+pub(crate) fn arm_all<Y: System>(
+    board: &Board<Y>,
+    pass: &mut Pass<Y::Cell>,
+    resetting: Resetting,
+) -> Hold
+    requires of_board { pass.old.table ≡ board.now.table }
+    requires resetting { IsResetting board.now.subject.wiring.plan resetting }
+    requires tokens { HasJust pass.old.view None None (Some resetting) }
+    ensures of_board { pass.new.table ≡ pass.old.table }
+    ensures tokens { HasJust pass.new.view (Some result) None None }
+    ensures runnable { IsRunnable (Y.meaning board.now.subject.system) board.now.subject.wiring result }
+{
+    board.subject().wired();
+    let mut left = resetting;
+    loop {
+        match board.arm(pass, left) {
+            Armed::More(rest) => left = rest,
+            Armed::Head(hold) => return hold,
+        }
+    }
+}

@@ -1,0 +1,119 @@
+// Workers on threads of their own.
+
+ghost use Rattle.std.specs.Prelude.{◌≡◌, ◌<◌, ◌≤◌, None, IfOk, IfErr, length};
+ghost use Rattle.pk_iterate.specs.Fits.{FitsPlan};
+ghost use Rattle.pk_words.specs.Reads.{HasEnd};
+ghost use Rattle.pk_words.specs.Views.{first_view};
+ghost use Rattle.pk_workers.specs.Working.{HasJust, IsEnding, AreJobs, AreEndings};
+ghost use Rattle.pk_workers.specs.Answers.{failure_of, IsResultOf, IsExceeded};
+
+use crate::gates::Gate;
+use crate::turns::{Ending, work};
+use pk_board::{Board, Pass};
+use pk_iterate::{Cells, Solve, System};
+use pk_plan::Plan;
+use pk_words::Why;
+use std::alloc::{AllocError, Global};
+use std::sync::Wait;
+use std::thread;
+use std::thread::Threads;
+
+/// A worker's number, and its pass.
+#[derive(Drop)]
+pub struct Job<C> {
+    pub worker: u32,
+    pub pass: Pass<C>,
+}
+
+/// A job for each worker.
+fn jobs<Y: System>(
+    alloc: Global,
+    board: &Board<Y>,
+    pass: Pass<Y::Cell>,
+    workers: u32,
+) -> Result<Vec<Job<Y::Cell>>, AllocError>
+    requires workers { 0 < workers }
+    requires pass { pass ≡ record { table = board.now.table; view = first_view } }
+    ensures some { IfOk result (λ v. 0 < length v.items) }
+    ensures jobs { IfOk result (λ v. AreJobs board.now.table v.items) }
+{
+    let mut own = pass;
+    let mut jobs = Vec::new(alloc);
+    for worker in 1..workers {
+        let pass = board.split(&mut own);
+        jobs.push(Job { worker, pass })?;
+    }
+    jobs.push(Job {
+        worker: 0,
+        pass: own,
+    })?;
+    Ok(jobs)
+}
+
+/// The ending of a worker that found the last element done, if there is one, or else that of another.
+fn best<Y: System>(board: &Board<Y>, endings: Vec<Ending<Y::Cell>>) -> Ending<Y::Cell>
+    requires some { 0 < length endings.items }
+    requires each { AreEndings (Y.meaning board.now.subject.system) board.now.subject.wiring board.now.table endings.items }
+    ensures { IsEnding (Y.meaning board.now.subject.system) board.now.subject.wiring board.now.table result }
+{
+    let mut rest = endings;
+    while let Some(ending) = rest.pop() {
+        if rest.is_empty() || matches!(ending, Ending::Finished { .. }) {
+            return ending;
+        }
+    }
+    unreachable!()
+}
+
+/// The failure that a stop is.
+fn failure(why: Why) -> Solve
+    ensures { result ≡ failure_of why }
+{
+    match why {
+        Why::Memory => Solve::Memory,
+        Why::RunLimit { element, run } => Solve::RunLimit { element, run },
+    }
+}
+
+/// What the workers leave, by how one of them ended.
+fn answer<Y: System>(board: Board<Y>, ending: Ending<Y::Cell>) -> Result<Cells<Y::Cell>, Solve>
+    requires { IsEnding (Y.meaning board.subject.system) board.subject.wiring board.table ending }
+    ensures ok { IfOk result (IsResultOf (Y.meaning board.entry.subject.system) board.entry.subject.wiring.plan board.entry.subject.wiring.limit) }
+    ensures err { IfErr result (IsExceeded (Y.meaning board.entry.subject.system) board.entry.subject.wiring.plan board.entry.subject.wiring.limit) }
+{
+    board.subject().wired();
+    match ending {
+        Ending::Finished { pass, finished } => Ok(board.close(pass, finished)),
+        Ending::Stopped(stopped) => Err(failure(board.abandon(stopped))),
+    }
+}
+
+/// The result of the recursion over the plan, by so many workers, or the first run of an element beyond the limit.
+pub fn run_workers<R: Threads + Wait + Sync, Y: System + Sync, G: Gate + Sync>(
+    rt: &R,
+    alloc: Global,
+    gate: &G,
+    system: &Y,
+    plan: &Plan,
+    workers: u32,
+    max_runs: u64,
+) -> Result<Cells<Y::Cell>, Solve>
+    requires fits { FitsPlan (Y.meaning system.now) plan.now }
+    requires ends { HasEnd (Y.meaning system.now) plan.now }
+    requires few { plan.now.elements ≤ 131073 }
+    requires workers { (1 ≤ workers) × (workers ≤ 64) }
+    requires most { max_runs ≤ 549755813888 }
+    ensures ok { IfOk result (IsResultOf (Y.meaning system.now) plan.now max_runs) }
+    ensures err { IfErr result (IsExceeded (Y.meaning system.now) plan.now max_runs) }
+{
+    let (board, pass) = Board::start(alloc, system, plan, max_runs)?;
+    let jobs = jobs(alloc, &board, pass, workers)?;
+    let shared = &board;
+    let run = |job: Job<Y::Cell>| -> Ending<Y::Cell>
+        requires { (job.pass.table ≡ shared.now.table) × HasJust job.pass.view None None None }
+        ensures { IsEnding (Y.meaning shared.entry.now.subject.system) shared.entry.now.subject.wiring shared.entry.now.table result }
+    { work(rt, alloc, gate, job.worker, shared, job.pass) };
+    let endings = thread::map_vec(rt, jobs, &run)?;
+    let ending = best(&board, endings);
+    answer(board, ending)
+}
