@@ -27,11 +27,13 @@ fn keep<Y: System>(
     let Got::Ready(hold) = got else {
         return (rest, kept);
     };
-    if kept.is_none() {
-        return (rest, Some(hold));
+    match kept {
+        None => (rest, Some(hold)),
+        Some(first) => {
+            board.offer(pass, hold);
+            (rest, Some(first))
+        }
     }
-    board.offer(pass, hold);
-    (rest, kept)
 }
 
 /// Tells the next successor. There is a Sending of those that are left, and the Hold that is kept.

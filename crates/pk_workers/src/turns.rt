@@ -59,6 +59,27 @@ fn claim_any<Y: System>(board: &Board<Y>, pass: &mut Pass<Y::Cell>, from: u32) -
     }
 }
 
+/// The Hold that was kept, or else that of an open element.
+fn next_hold<Y: System>(
+    board: &Board<Y>,
+    pass: &mut Pass<Y::Cell>,
+    kept: Option<Hold>,
+    from: u32,
+) -> Option<Hold>
+    requires of_board { pass.old.table ≡ board.now.table }
+    requires tokens { HasJust pass.old.view kept None None }
+    requires runnable { IfSome kept (IsRunnable (Y.meaning board.now.subject.system) board.now.subject.wiring) }
+    requires from { from ≤ board.now.subject.wiring.plan.elements }
+    ensures of_board { pass.new.table ≡ pass.old.table }
+    ensures tokens { HasJust pass.new.view result None None }
+    ensures runnable { IfSome result (IsRunnable (Y.meaning board.now.subject.system) board.now.subject.wiring) }
+{
+    match kept {
+        None => claim_any(board, pass, from),
+        hold => hold,
+    }
+}
+
 /// Stops the board.
 fn stop<Y: System>(board: &Board<Y>, pass: &mut Pass<Y::Cell>, why: Why) -> Stopped
     requires of_board { pass.old.table ≡ board.now.table }
@@ -95,23 +116,16 @@ pub fn work<R: Threads + Wait, Y: System, G: Gate>(
         if let Ok(finished) = board.finished(&mut pass) {
             return Ending::Finished { pass, finished };
         }
-        let next = match kept {
-            None => claim_any(board, &mut pass, from),
-            hold => hold,
+        let Some(hold) = next_hold(board, &mut pass, kept, from) else {
+            kept = None;
+            thread::yield_now();
+            continue;
         };
-        kept = match next {
-            None => {
-                thread::yield_now();
-                None
-            }
-            Some(hold) => {
-                from = hold.element();
-                match run_one(rt, alloc, gate, worker, board, &mut pass, hold) {
-                    Ok(ready) => ready,
-                    Err(why) => return Ending::Stopped(stop(board, &mut pass, why)),
-                }
-            }
-        };
+        from = hold.element();
+        match run_one(rt, alloc, gate, worker, board, &mut pass, hold) {
+            Ok(ready) => kept = ready,
+            Err(why) => return Ending::Stopped(stop(board, &mut pass, why)),
+        }
     }
     unreachable!()
 }
