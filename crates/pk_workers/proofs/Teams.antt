@@ -1,5 +1,5 @@
 -- The jobs and the endings of workers.
-use Rattle.std.proofs.Common.{◌≡◌, ◌<◌, List, [], ◌∷◌, ◌++◌, length, length-append, sym, ap, subst, ◌∙◌, arith}
+use Rattle.std.proofs.Common.{◌≡◌, ℕ, ◌+◌, List, [], ◌∷◌, ◌++◌, length, length-append, sym, ap, subst, ◌∙◌, arith}
 use Rattle.std.specs.Prelude.{None}
 use Rattle.std.proofs.lemmas.List.Elements.{All-nil, All-push}
 use Rattle.atomic_table.specs.Seated.{TableId}
@@ -26,5 +26,5 @@ more_jobs {D} table jobs more job each is pass =
     subst (λ (js : List (Job D)). AreJobs table js) (sym is)
     (All-push (IsJob {D = D} table) jobs job each (ap (λ p. p.table) pass, record { holds = ap (λ p. p.view.holds) pass; sends = ap (λ p. p.view.sends) pass; resets = ap (λ p. p.view.resets) pass }))
 
-pub some_jobs : {D : Type 0} (jobs more : List (Job D)) (job : Job D) → more ≡ jobs ++ job ∷ [] → 0 < length more
-some_jobs {D} jobs more job is = subst (λ (js : List (Job D)). 0 < length js) (sym is) (omega (arith, length-append jobs (job ∷ [])))
+pub one_more : {X : Type 0} (xs ys : List X) (x : X) (n : ℕ) → ys ≡ xs ++ x ∷ [] → length xs ≡ n → length ys ≡ n + 1
+one_more {X} xs ys x n is long = subst (λ (zs : List X). length zs ≡ n + 1) (sym is) (omega (arith, long, length-append xs (x ∷ [])))

@@ -25,28 +25,22 @@ pub struct Job<C> {
     pub pass: Pass<C>,
 }
 
-/// A job for each worker.
+/// A job for each worker, with passes that are split from this one.
 fn jobs<Y: System>(
     alloc: Global,
     board: &Board<Y>,
-    pass: Pass<Y::Cell>,
+    pass: &mut Pass<Y::Cell>,
     workers: u32,
 ) -> Result<Vec<Job<Y::Cell>>, AllocError>
-    requires workers { 0 < workers }
-    requires pass { pass ≡ record { table = board.now.table; view = first_view } }
-    ensures some { IfOk result (λ v. 0 < length v.items) }
+    requires pass { pass.old ≡ record { table = board.now.table; view = first_view } }
+    ensures each { IfOk result (λ v. length v.items ≡ workers) }
     ensures jobs { IfOk result (λ v. AreJobs board.now.table v.items) }
 {
-    let mut own = pass;
     let mut jobs = Vec::new(alloc);
-    for worker in 1..workers {
-        let pass = board.split(&mut own);
+    for worker in 0..workers {
+        let pass = board.split(pass);
         jobs.push(Job { worker, pass })?;
     }
-    jobs.push(Job {
-        worker: 0,
-        pass: own,
-    })?;
     Ok(jobs)
 }
 
@@ -63,6 +57,29 @@ fn best<Y: System>(board: &Board<Y>, endings: Vec<Ending<Y::Cell>>) -> Ending<Y:
         }
     }
     unreachable!()
+}
+
+/// How a worker ended, of so many that began with this pass.
+fn ended<R: Threads + Wait + Sync, Y: System + Sync, G: Gate + Sync>(
+    rt: &R,
+    alloc: Global,
+    gate: &G,
+    board: &Board<Y>,
+    pass: Pass<Y::Cell>,
+    workers: u32,
+) -> Result<Ending<Y::Cell>, AllocError>
+    requires workers { 0 < workers }
+    requires pass { pass ≡ record { table = board.now.table; view = first_view } }
+    ensures { IfOk result (IsEnding (Y.meaning board.now.subject.system) board.now.subject.wiring board.now.table) }
+{
+    let mut first = pass;
+    let jobs = jobs(alloc, board, &mut first, workers)?;
+    let run = |job: Job<Y::Cell>| -> Ending<Y::Cell>
+        requires { (job.pass.table ≡ board.now.table) × HasJust job.pass.view None None None }
+        ensures { IsEnding (Y.meaning board.entry.now.subject.system) board.entry.now.subject.wiring board.entry.now.table result }
+    { work(rt, alloc, gate, job.worker, board, job.pass) };
+    let endings = thread::map_vec(rt, jobs, &run)?;
+    Ok(best(board, endings))
 }
 
 /// The failure that a stop is.
@@ -107,13 +124,6 @@ pub fn run_workers<R: Threads + Wait + Sync, Y: System + Sync, G: Gate + Sync>(
     ensures err { IfErr result (IsExceeded (Y.meaning system.now) plan.now max_runs) }
 {
     let (board, pass) = Board::start(alloc, system, plan, max_runs)?;
-    let jobs = jobs(alloc, &board, pass, workers)?;
-    let shared = &board;
-    let run = |job: Job<Y::Cell>| -> Ending<Y::Cell>
-        requires { (job.pass.table ≡ shared.now.table) × HasJust job.pass.view None None None }
-        ensures { IsEnding (Y.meaning shared.entry.now.subject.system) shared.entry.now.subject.wiring shared.entry.now.table result }
-    { work(rt, alloc, gate, job.worker, shared, job.pass) };
-    let endings = thread::map_vec(rt, jobs, &run)?;
-    let ending = best(&board, endings);
+    let ending = ended(rt, alloc, gate, &board, pass, workers)?;
     answer(board, ending)
 }

@@ -1,25 +1,25 @@
-use Rattle.std.proofs.Common.{◌∙◌}
-use Rattle.pk_workers.proofs.Teams.{split_start, no_jobs, more_jobs, some_jobs}
+use Rattle.std.proofs.Common.{◌∙◌, length, ap, arith}
+use Rattle.pk_workers.proofs.Teams.{split_start, no_jobs, more_jobs, one_more}
 use Rattle.pk_workers.proofs.workers.jobs.Goals as goal
 
 pub loop-worker-init : goal.loop-worker-init
-loop-worker-init g c = record { own = c.requires.pass; jobs = no_jobs c.args.board.now.table c.new-jobs.result.items c.new-jobs.ensures.items }
+loop-worker-init g c =
+    let none = c.new-jobs.ensures.items in
+    record { pass = c.requires.pass; each = ap length none; jobs = no_jobs c.args.board.now.table c.new-jobs.result.items none }
 
 pub loop-worker-preserved : goal.loop-worker-preserved
 loop-worker-preserved g c =
     let table = c.args.board.now.table in
     let i = c.loop-worker.invariant in
     let s = c.split-pass.ensures in
+    let items = c.in_ok-push.ensures.items in
     record {
-      own = s.same ∙ i.own;
-      jobs = more_jobs table c.loop-worker.jobs.items c.push.new.self.items (record { worker = c.loop-worker.worker; pass = c.split-pass.result }) i.jobs c.in_ok-push.ensures.items (split_start table c.loop-worker.own c.split-pass.result i.own s.other);
+      pass = s.same ∙ i.pass;
+      each = one_more c.loop-worker.jobs.items c.push.new.self.items (record { worker = c.loop-worker.worker; pass = c.split-pass.result }) c.loop-worker.worker items i.each;
+      jobs = more_jobs table c.loop-worker.jobs.items c.push.new.self.items (record { worker = c.loop-worker.worker; pass = c.split-pass.result }) i.jobs items (split_start table c.loop-worker.pass c.split-pass.result i.pass s.other);
     }
 
 pub returns : goal.returns
 returns g c =
     let i = c.loop-worker.invariant in
-    let items = c.in_ok-push-2.ensures.items in
-    record {
-      some = some_jobs c.loop-worker.jobs.items c.push-2.new.self.items (record { worker = 0; pass = c.loop-worker.own }) items;
-      jobs = more_jobs c.args.board.now.table c.loop-worker.jobs.items c.push-2.new.self.items (record { worker = 0; pass = c.loop-worker.own }) i.jobs items i.own;
-    }
+    record { each = omega (arith, i.each, c.loop-worker-test.false, c.loop-worker.auto.worker-end); jobs = i.jobs }
