@@ -1,7 +1,6 @@
 -- A plan, a system over it, and what the iteration leaves.
 use Rattle.std.specs.Prelude.{◌≡◌, ℕ, ◌≤◌, ◌⊎◌, List, length}
 use Rattle.pk_plan.specs.Plans.{PlanView, Precedes}
-use Rattle.pk_iterate.specs.Behaviour.{Behaviour}
 use Rattle.pk_iterate.specs.Fits.{FitsPlan, IsHeadOver}
 use Rattle.pk_iterate.specs.Outcome.{Outcome}
 use Rattle.pk_words.specs.Reads.{HasEnd}

@@ -22,7 +22,7 @@ fn closed<'a>(board: Board<'a, Summing>, pass: Pass<u64>, finished: Finished) ->
 }
 
 // Whether the cells and the numbers of runs are the same.
-fn same(one: &Cells<u64>, other: &Cells<u64>, elements: u32) -> bool
+pub fn same(one: &Cells<u64>, other: &Cells<u64>, elements: u32) -> bool
     requires one { HasEach elements one.now }
     requires other { HasEach elements other.now }
 {

@@ -1,4 +1,4 @@
-use Rattle.std.proofs.Common.{◌≡◌, ℕ, ◌+◌, take, map}
+use Rattle.std.proofs.Common.{◌≡◌, ◌+◌, take, map}
 use Rattle.std.specs.Arc.{arc_value}
 use Rattle.pk_plan.specs.Digraphs.{lists_of}
 use Rattle.pk_plan.specs.Order.{Level}
