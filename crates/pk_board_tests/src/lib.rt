@@ -2,6 +2,18 @@
 #![tactic(auto)]
 
 #[cfg(test)]
+mod ends;
+#[cfg(test)]
 mod nested;
 #[cfg(test)]
+mod plans;
+#[cfg(test)]
+mod runs;
+#[cfg(test)]
 mod steps;
+#[cfg(test)]
+mod summing;
+#[cfg(test)]
+mod threads;
+#[cfg(test)]
+mod walks;

@@ -13,7 +13,7 @@ use std::sync::Arc;
 #[derive(Drop)]
 pub struct Nested {}
 
-fn total(cells: &[Arc<u64>]) -> Result<u64, AllocError>
+pub fn total(cells: &[Arc<u64>]) -> Result<u64, AllocError>
     ensures { IfOk result (λ n. n ≡ total (map arc_value cells.now)) }
 {
     match cells {

@@ -1,0 +1,3 @@
+pub mod Summing
+pub mod Tokens
+pub mod Prepared

@@ -1,0 +1,70 @@
+// A system over any elements.
+
+ghost use Rattle.std.specs.Prelude.{◌≡◌, IfOk, map};
+ghost use Rattle.std.specs.Arc.{arc_value};
+ghost use Rattle.pk_core.specs.Nested.{total, turn_of};
+
+use crate::nested::total;
+use pk_iterate::{Decision, System};
+use std::alloc::{AllocError, Global};
+use std::sync::Arc;
+
+// For each element those that it reads.
+#[derive(Drop)]
+pub struct Summing {
+    pub rows: Vec<Vec<u32>>,
+}
+
+impl System for Summing {
+    ghost use Rattle.pk_plan.specs.Digraphs.{lists_of};
+    ghost use Rattle.pk_board_tests.specs.Summing.{summing};
+
+    type Cell = u64;
+
+    ghost meaning = { λ s. summing (lists_of s.rows.items) };
+
+    ghost may_hold = { λ _ e c. Unit {0} };
+
+    ghost first_held = { λ s e. tt };
+
+    ghost apply_held = { λ s e cells h. tt };
+
+    ghost decide_held = { λ s x cells h. tt };
+
+    fn reads(&self, e: u32) -> &[u32] {
+        match self.rows.get(e as usize) {
+            None => &[],
+            Some(row) => row.as_slice(),
+        }
+    }
+
+    fn first(&self, _alloc: Global, _e: u32) -> Result<u64, AllocError> {
+        Ok(0)
+    }
+
+    fn apply(&self, _alloc: Global, _e: u32, inputs: &[Arc<u64>]) -> Result<u64, AllocError>
+        ensures { IfOk result (λ c. c ≡ total (map arc_value inputs.now)) }
+    {
+        total(inputs)
+    }
+
+    fn decide(
+        &self,
+        _alloc: Global,
+        _x: u32,
+        inputs: &[Arc<u64>],
+    ) -> Result<Decision<u64>, AllocError>
+        ensures { IfOk result (λ d. d ≡ turn_of (map arc_value inputs.now)) }
+    {
+        match inputs {
+            [] => Ok(Decision::Stable(0)),
+            [own, ..] => {
+                if **own == 0 {
+                    Ok(Decision::Again(1))
+                } else {
+                    Ok(Decision::Stable(0))
+                }
+            }
+        }
+    }
+}
