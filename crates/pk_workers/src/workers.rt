@@ -109,11 +109,11 @@ fn answer<Y: System>(board: Board<Y>, ending: Ending<Y::Cell>) -> Result<Cells<Y
 pub fn run_workers<R: Threads + Wait + Sync, Y: System + Sync, G: Gate + Sync>(
     rt: &R,
     alloc: Global,
-    gate: &G,
     system: &Y,
     plan: &Plan,
     workers: u32,
     max_runs: u64,
+    gate: &G,
 ) -> Result<Cells<Y::Cell>, Solve>
     requires fits { FitsPlan (Y.meaning system.now) plan.now }
     requires ends { HasEnd (Y.meaning system.now) plan.now }
