@@ -17,3 +17,5 @@ mod summing;
 mod threads;
 #[cfg(test)]
 mod walks;
+#[cfg(test)]
+mod workers;

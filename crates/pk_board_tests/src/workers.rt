@@ -1,0 +1,146 @@
+// Workers run a plan on threads of their own.
+
+ghost use Rattle.std.specs.Prelude.{◌≡◌, ◌≤◌, IfOk};
+ghost use Rattle.pk_plan.specs.Digraphs.{lists_of};
+ghost use Rattle.pk_iterate.specs.Fits.{FitsPlan};
+ghost use Rattle.pk_words.specs.Reads.{HasEnd};
+ghost use Rattle.pk_board_tests.specs.Summing.{summing};
+ghost use Rattle.pk_board_tests.specs.Prepared.{HasEach};
+
+use crate::ends::same;
+use crate::plans::prepared;
+use crate::summing::Summing;
+use pk_iterate::{Cells, Solve};
+use pk_plan::Plan;
+use pk_words::Hold;
+use pk_workers::{Gate, NoGate, run_workers};
+use std::alloc::Global;
+use std::process::Abort;
+use std::sync::Wait;
+use std::sync::atomic::{AtomicBool, Ordering};
+use std::test::Fail;
+use std::thread;
+use std::thread::Threads;
+
+// What so many workers leave.
+fn left<R: Threads + Wait + Sync, G: Gate + Sync>(
+    rt: &R,
+    alloc: Global,
+    gate: &G,
+    system: &Summing,
+    plan: &Plan,
+    workers: u32,
+    max_runs: u64,
+) -> Result<Cells<u64>, Solve>
+    requires fits { FitsPlan (summing (lists_of system.now.rows.items)) plan.now }
+    requires ends { HasEnd (summing (lists_of system.now.rows.items)) plan.now }
+    requires few { plan.now.elements ≤ 131073 }
+    requires workers { (1 ≤ workers) × (workers ≤ 64) }
+    requires most { max_runs ≤ 549755813888 }
+    ensures { IfOk result (HasEach plan.now.elements) }
+{
+    run_workers(rt, alloc, system, plan, workers, max_runs, gate)
+}
+
+// Holds two runs until both have begun.
+#[derive(Drop)]
+struct Both {
+    one: u32,
+    other: u32,
+    one_begun: AtomicBool,
+    other_begun: AtomicBool,
+}
+
+fn wait_for<R: Wait>(rt: &R, flag: &AtomicBool) {
+    for _ in rt.forever() {
+        if flag.load(Ordering::SeqCst) {
+            return;
+        }
+        thread::yield_now();
+    }
+    unreachable!()
+}
+
+impl Gate for Both {
+    fn before<R: Threads + Wait>(&self, rt: &R, _worker: u32, hold: &Hold) {
+        if hold.element() == self.one {
+            self.one_begun.store(true, Ordering::SeqCst);
+            wait_for(rt, &self.other_begun);
+        }
+        if hold.element() == self.other {
+            self.other_begun.store(true, Ordering::SeqCst);
+            wait_for(rt, &self.one_begun);
+        }
+    }
+
+    fn after<R: Threads + Wait>(&self, _rt: &R, _worker: u32, _hold: &Hold) {}
+}
+
+const DIAMOND: [(u32, u32); 4] = [(0, 1), (0, 2), (1, 3), (2, 3)];
+
+const NESTED: [(u32, u32); 12] = [
+    (0, 1),
+    (1, 2),
+    (2, 3),
+    (3, 2),
+    (3, 1),
+    (1, 4),
+    (4, 5),
+    (5, 4),
+    (2, 6),
+    (6, 1),
+    (4, 7),
+    (0, 7),
+];
+
+#[test]
+fn workers_leave_what_the_iteration_leaves(rt: HostRuntime) -> Result<(), Fail> {
+    let made = prepared(&rt, rt.alloc(), 8, &NESTED)?;
+    for workers in [1, 2, 4, 8, 2, 4] {
+        let cells = left(
+            &rt,
+            rt.alloc(),
+            &NoGate {},
+            &made.system,
+            &made.plan,
+            workers,
+            1000,
+        );
+        let cells = cells.ok().ok_or("no result")?;
+        assert!(rt; same(&cells, &made.cells, made.plan.elements()));
+    }
+    Ok(())
+}
+
+#[test]
+fn a_run_beyond_the_limit_is_told(rt: HostRuntime) -> Result<(), Fail> {
+    let made = prepared(&rt, rt.alloc(), 8, &NESTED)?;
+    for workers in [1, 2, 4] {
+        let cells = left(
+            &rt,
+            rt.alloc(),
+            &NoGate {},
+            &made.system,
+            &made.plan,
+            workers,
+            1,
+        );
+        assert!(rt; matches!(cells, Err(Solve::RunLimit { run: 2, .. })));
+    }
+    Ok(())
+}
+
+#[test]
+fn two_elements_run_at_once(rt: HostRuntime) -> Result<(), Fail> {
+    let made = prepared(&rt, rt.alloc(), 4, &DIAMOND)?;
+    let both = Both {
+        one: 1,
+        other: 2,
+        one_begun: AtomicBool::new(false),
+        other_begun: AtomicBool::new(false),
+    };
+    let cells = left(&rt, rt.alloc(), &both, &made.system, &made.plan, 2, 1000);
+    let cells = cells.ok().ok_or("no result")?;
+    assert!(rt; same(&cells, &made.cells, made.plan.elements()));
+    Ok(())
+}
