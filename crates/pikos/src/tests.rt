@@ -3,9 +3,13 @@
 ghost use Rattle.std.specs.Prelude.{◌<◌};
 
 use pk_io::{MemSink, MemSource};
-use pk_top::pikos;
+use pk_top::{Gate, NoGate, pikos};
+use pk_words::Hold;
 use std::alloc::Global;
+use std::sync::Wait;
+use std::sync::atomic::{AtomicU64, Ordering};
 use std::test::Fail;
+use std::thread::Threads;
 
 const NEVER: u64 = 1000000000;
 
@@ -15,7 +19,8 @@ const REPORT: &str =
     "pikos 1 entry main points 8 elements 10\nhead 2 main 1:24\n  i [0,10] 1Z+0\naccess main 1:38 overflow safe\nresult safe 1 unknown 0 unreachable 0\n";
 
 // The code, the bytes that were written and the line on standard error, for a source and a sink that give and take pieces and fail at one call.
-fn outcome(
+fn outcome<R: Threads + Wait + Sync>(
+    rt: &R,
     alloc: Global,
     words: &str,
     text: &[u8],
@@ -31,15 +36,15 @@ fn outcome(
     }
     let mut src = MemSource::new(text.to_vec(alloc)?, piece, [read].to_vec(alloc)?);
     let mut out = MemSink::new(alloc, piece, [write].to_vec(alloc)?);
-    let status = pikos(alloc, &list, &mut src, &mut out);
+    let status = pikos(rt, alloc, &list, &mut src, &mut out, &NoGate {});
     let line = format!(in alloc; "{status}")?;
     let bytes = String::from_utf8(out.bytes().to_vec(alloc)?).map_err(|_| "not a text")?;
     Ok((status.code(), bytes, line))
 }
 
 // Whether the words, parted by blanks, are refused as usage. The source would fail at its first read: it isn't asked.
-fn is_usage(alloc: Global, words: &str) -> Result<bool, Fail> {
-    let (code, bytes, line) = outcome(alloc, words, b"", 1, 0, 0)?;
+fn is_usage<R: Threads + Wait + Sync>(rt: &R, alloc: Global, words: &str) -> Result<bool, Fail> {
+    let (code, bytes, line) = outcome(rt, alloc, words, b"", 1, 0, 0)?;
     Ok(code == 2 && bytes.is_empty() && line.as_str() == "pikos: usage")
 }
 
@@ -60,7 +65,7 @@ fn other_words_are_usage(rt: HostRuntime) -> Result<(), Fail> {
         "gen --seed 1 --size 0",
         "gen --seed 1 --size 1001",
     ] {
-        assert!(rt; is_usage(rt.alloc(), words)?, "{words}");
+        assert!(rt; is_usage(&rt, rt.alloc(), words)?, "{words}");
     }
     Ok(())
 }
@@ -70,16 +75,16 @@ fn other_words_are_usage(rt: HostRuntime) -> Result<(), Fail> {
 fn faults_are_told(rt: HostRuntime) -> Result<(), Fail> {
     let alloc = rt.alloc();
     for read in 0..3 {
-        let (code, bytes, line) = outcome(alloc, "run", WORKED.as_bytes(), 30, read, NEVER)?;
+        let (code, bytes, line) = outcome(&rt, alloc, "run", WORKED.as_bytes(), 30, read, NEVER)?;
         assert!(rt;
             code == 5 && bytes.is_empty() && line.as_str() == "pikos: read fault",
             "{read}"
         );
     }
-    let (code, bytes, _) = outcome(alloc, "run", WORKED.as_bytes(), 30, 3, NEVER)?;
+    let (code, bytes, _) = outcome(&rt, alloc, "run", WORKED.as_bytes(), 30, 3, NEVER)?;
     assert!(rt; code == 0 && bytes.as_str() == REPORT);
     for write in 0..5u64 {
-        let (code, bytes, line) = outcome(alloc, "run", WORKED.as_bytes(), 30, NEVER, write)?;
+        let (code, bytes, line) = outcome(&rt, alloc, "run", WORKED.as_bytes(), 30, NEVER, write)?;
         let sent = 30 * write;
         assert!(rt; code == 6 && bytes.len() as u64 == sent, "{write}: {bytes}");
         assert!(rt; REPORT.starts_with(bytes.as_str()), "{write}: {bytes}");
@@ -92,7 +97,7 @@ fn faults_are_told(rt: HostRuntime) -> Result<(), Fail> {
 // A program that asks for a made text never reads.
 #[test]
 fn gen_reads_nothing(rt: HostRuntime) -> Result<(), Fail> {
-    let (code, bytes, _) = outcome(rt.alloc(), "gen --seed 1 --size 1", b"", 100, 0, NEVER)?;
+    let (code, bytes, _) = outcome(&rt, rt.alloc(), "gen --seed 1 --size 1", b"", 100, 0, NEVER)?;
     assert!(rt; code == 0, "{code}");
     assert!(rt;
         bytes.as_str()
@@ -107,36 +112,40 @@ fn a_text_may_have_so_many_bytes(rt: HostRuntime) -> Result<(), Fail> {
     let alloc = rt.alloc();
     let mut text = b"int main(void){}".to_vec(alloc)?;
     text.resize(4194304, b' ')?;
-    let (code, bytes, _) = outcome(alloc, "run", &text, 4096, NEVER, NEVER)?;
+    let (code, bytes, _) = outcome(&rt, alloc, "run", &text, 4096, NEVER, NEVER)?;
     assert!(rt;
         code == 0
             && bytes.as_str()
                 == "pikos 1 entry main points 3 elements 4\nresult safe 0 unknown 0 unreachable 0\n"
     );
     text.push(b' ')?;
-    let (code, bytes, line) = outcome(alloc, "run", &text, 4096, NEVER, NEVER)?;
+    let (code, bytes, line) = outcome(&rt, alloc, "run", &text, 4096, NEVER, NEVER)?;
     assert!(rt; code == 4 && bytes.is_empty() && line.as_str() == "pikos: limit text 4194304");
     Ok(())
 }
 
 // The first line of the report on a function of so many statements.
-fn first_line(alloc: Global, statements: usize) -> Result<(u8, String, String), Fail> {
+fn first_line<R: Threads + Wait + Sync>(
+    rt: &R,
+    alloc: Global,
+    statements: usize,
+) -> Result<(u8, String, String), Fail> {
     let mut text = b"int i;int main(void){".to_vec(alloc)?;
     for _ in 0..statements {
         text.extend_from_slice(b"i=0;")?;
     }
     text.push(b'}')?;
-    outcome(alloc, "run", &text, 4096, NEVER, NEVER)
+    outcome(rt, alloc, "run", &text, 4096, NEVER, NEVER)
 }
 
 #[test]
 fn a_graph_may_have_so_many_points(rt: HostRuntime) -> Result<(), Fail> {
-    let (code, bytes, _) = first_line(rt.alloc(), 65533)?;
+    let (code, bytes, _) = first_line(&rt, rt.alloc(), 65533)?;
     assert!(rt;
         code == 0 && bytes.starts_with("pikos 1 entry main points 65536 elements 65537\n"),
         "{code}"
     );
-    let (code, bytes, line) = first_line(rt.alloc(), 65534)?;
+    let (code, bytes, line) = first_line(&rt, rt.alloc(), 65534)?;
     assert!(rt;
         code == 4 && bytes.is_empty() && line.as_str() == "pikos: limit points 65536",
         "{line}"
@@ -159,7 +168,7 @@ fn objects(alloc: Global, count: usize) -> Result<Vec<u8>, Fail> {
 fn a_text_may_declare_so_many_objects(rt: HostRuntime) -> Result<(), Fail> {
     let alloc = rt.alloc();
     let text = objects(alloc, 20000)?;
-    let (code, bytes, _) = outcome(alloc, "run", &text, 4096, NEVER, NEVER)?;
+    let (code, bytes, _) = outcome(&rt, alloc, "run", &text, 4096, NEVER, NEVER)?;
     assert!(rt;
         code == 0
             && bytes.as_str()
@@ -191,12 +200,62 @@ fn chain(alloc: Global) -> Result<Vec<u8>, Fail> {
 fn a_program_may_have_so_many_call_paths(rt: HostRuntime) -> Result<(), Fail> {
     let alloc = rt.alloc();
     let text = chain(alloc)?;
-    let (code, bytes, _) = outcome(alloc, "run", &text, 4096, NEVER, NEVER)?;
+    let (code, bytes, _) = outcome(&rt, alloc, "run", &text, 4096, NEVER, NEVER)?;
     assert!(rt;
         code == 0
             && bytes.starts_with("pikos 1 entry main points 14335 elements 14336\n")
             && bytes.ends_with("result safe 2047 unknown 0 unreachable 0\n"),
         "{code}"
     );
+    Ok(())
+}
+
+// Two runs that wait for one another: each counts that it has begun, and looks for so long whether the other has.
+#[derive(Drop)]
+struct Meeting {
+    one: u32,
+    other: u32,
+    begun: AtomicU64,
+    alone: AtomicU64,
+}
+
+impl Gate for Meeting {
+    fn before<R: Threads + Wait>(&self, _rt: &R, _worker: u32, hold: &Hold) {
+        if hold.run() == 0 && (hold.element() == self.one || hold.element() == self.other) {
+            self.begun.fetch_add(1, Ordering::SeqCst);
+            for _ in 0..100000000u32 {
+                if self.begun.load(Ordering::SeqCst) == 2 {
+                    return;
+                }
+            }
+            self.alone.fetch_add(1, Ordering::SeqCst);
+        }
+    }
+
+    fn after<R: Threads + Wait>(&self, _rt: &R, _worker: u32, _hold: &Hold) {}
+}
+
+// Both branches of a choice have a loop, whose heads are elements 5 and 13: neither waits for the other, so two workers run them at once.
+#[test]
+fn two_workers_run_at_once(rt: HostRuntime) -> Result<(), Fail> {
+    let alloc = rt.alloc();
+    let text =
+        b"extern int __VERIFIER_nondet_int(void);int main(void){int i=0;int j=0;if(__VERIFIER_nondet_int())while(i<5)i=i+1;else while(j<7)j=j+1;return 0;}";
+    let meeting = Meeting {
+        one: 5,
+        other: 13,
+        begun: AtomicU64::new(0),
+        alone: AtomicU64::new(0),
+    };
+    let mut src = MemSource::new(text.to_vec(alloc)?, 4096, Vec::new(alloc));
+    let mut out = MemSink::new(alloc, 4096, Vec::new(alloc));
+    let words = vec![in alloc;
+        String::from_str(alloc, "run")?,
+        String::from_str(alloc, "--workers=2")?,
+    ]?;
+    let status = pikos(&rt, alloc, &words, &mut src, &mut out, &meeting);
+    assert!(rt; status.code() == 0);
+    assert!(rt; meeting.begun.load(Ordering::SeqCst) == 2);
+    assert!(rt; meeting.alone.load(Ordering::SeqCst) == 0);
     Ok(())
 }

@@ -7,3 +7,4 @@ mod LayoutLemmas
 mod FlowLemmas
 pub mod OrderLemmas
 mod ReducedLemmas
+pub mod Shared

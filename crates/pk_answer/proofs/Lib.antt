@@ -1,5 +1,5 @@
 mod Reading
-mod Solving
+pub mod Solving
 mod Told
 pub mod Sorting
 mod Determined

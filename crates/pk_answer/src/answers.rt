@@ -1,6 +1,6 @@
 // What is told of a graph.
 
-ghost use Rattle.std.specs.Prelude.{◌≡◌, ◌+◌, ◌<◌, ◌≤◌, ◌^◌, IfOk, IfErr, length};
+ghost use Rattle.std.specs.Prelude.{◌≡◌, ℕ, ◌+◌, ◌<◌, ◌≤◌, ◌^◌, IfOk, IfErr, length};
 ghost use Rattle.pk_graph.specs.AccessViews.{access_view, access_views, operation_view};
 ghost use Rattle.pk_graph.specs.Shown.{graph_view};
 ghost use Rattle.pk_graph.specs.Accesses.{accesses_of};
@@ -53,8 +53,8 @@ fn heads(alloc: Global, plan: &Plan) -> Result<Vec<u32>, AllocError>
     Ok(heads)
 }
 
-// What the iteration leaves at each point, reduced.
-fn solve(
+/// What the iteration leaves at each point, reduced, on one thread.
+pub fn solve(
     alloc: Global,
     graph: &Graph,
     options: Options,
@@ -79,25 +79,6 @@ fn solve(
         Err(Solve::RunLimit { .. }) => Err(Failure::RunLimit),
         Err(Solve::Memory) => Err(Failure::Memory),
     }
-}
-
-// The plan of a graph, and the reduced state of each point.
-fn states(
-    alloc: Global,
-    graph: &Graph,
-    options: Options,
-    max_runs: u64,
-) -> Result<(Plan, Vec<State>), Failure>
-    requires oct { options.oct < 2 ^ 31 }
-    requires most { max_runs ≤ 549755813888 }
-    ensures ok { IfOk result (λ r. AreStates (graph_view graph.now) options max_runs r.0 r.1.items) }
-    ensures over { IfOk result (λ r. AreOver (graph_view graph.now) options r.1.items) }
-    ensures err { IfErr result (IsCause (graph_view graph.now) options max_runs) }
-{
-    graph.well_made();
-    let (plan, order) = ordered(alloc, &digraph(alloc, graph)?)?;
-    let states = solve(alloc, graph, options, &plan, &order, max_runs)?;
-    Ok((plan, states))
 }
 
 // The verdict on an access, by the state of its point.
@@ -131,29 +112,27 @@ fn verdicts(
     Ok(list)
 }
 
-/// The report on a graph, of every point or of its heads, and its number of unknown verdicts.
+/// The report on a graph by the reduced state of each point, of every point or of its heads, and its number of unknown verdicts.
 pub fn report_of(
     alloc: Global,
     graph: &Graph,
     options: Options,
-    max_runs: u64,
+    plan: &Plan,
+    states: &[State],
     all: bool,
-) -> Result<(Vec<u8>, usize), Failure>
-    requires oct { options.oct < 2 ^ 31 }
-    requires most { max_runs ≤ 549755813888 }
-    ensures ok { IfOk result (λ r. IsReport (graph_view graph.now) options max_runs all r.1 r.0.items) }
-    ensures err { IfErr result (IsCause (graph_view graph.now) options max_runs) }
+) -> Result<(Vec<u8>, usize), AllocError>
+    requires over { AreOver (graph_view graph.now) options states.now }
+    ensures { IfOk result (λ r. (most : ℕ) → AreStates (graph_view graph.now) options most plan.now states.now → IsReport (graph_view graph.now) options most all r.1 r.0.items) }
 {
-    let (plan, states) = states(alloc, graph, options, max_runs)?;
     let accesses = accesses(alloc, graph)?;
-    let verdicts = verdicts(alloc, graph, options, &states, &accesses)?;
-    let heads = heads(alloc, &plan)?;
+    let verdicts = verdicts(alloc, graph, options, states, &accesses)?;
+    let heads = heads(alloc, plan)?;
     let bytes = report(
         alloc,
         graph,
         &heads,
         plan.elements() as usize,
-        &states,
+        states,
         &accesses,
         &verdicts,
         all,
@@ -161,24 +140,22 @@ pub fn report_of(
     Ok((bytes, unknown_count(&verdicts)))
 }
 
-/// The summary of a made text of `text_length` bytes, and its number of unknown verdicts.
+/// The summary of a made text of `text_length` bytes by the reduced state of each point, and its number of unknown verdicts.
 pub fn summary_of(
     alloc: Global,
     graph: &Graph,
     options: Options,
-    max_runs: u64,
+    plan: &Plan,
+    states: &[State],
     seed: usize,
     size: usize,
     text_length: usize,
-) -> Result<(Vec<u8>, usize), Failure>
-    requires oct { options.oct < 2 ^ 31 }
-    requires most { max_runs ≤ 549755813888 }
-    ensures ok { IfOk result (λ r. IsSummary (graph_view graph.now) options max_runs seed size text_length r.1 r.0.items) }
-    ensures err { IfErr result (IsCause (graph_view graph.now) options max_runs) }
+) -> Result<(Vec<u8>, usize), AllocError>
+    requires over { AreOver (graph_view graph.now) options states.now }
+    ensures { IfOk result (λ r. (most : ℕ) → AreStates (graph_view graph.now) options most plan.now states.now → IsSummary (graph_view graph.now) options most seed size text_length r.1 r.0.items) }
 {
-    let (plan, states) = states(alloc, graph, options, max_runs)?;
     let accesses = accesses(alloc, graph)?;
-    let verdicts = verdicts(alloc, graph, options, &states, &accesses)?;
+    let verdicts = verdicts(alloc, graph, options, states, &accesses)?;
     let bytes = summary(
         alloc,
         seed,

@@ -4,6 +4,6 @@
 mod answers;
 mod laws;
 
-pub use answers::{Failure, order_of, report_of, summary_of};
+pub use answers::{Failure, order_of, report_of, solve, summary_of};
 pub use laws::one_report;
 pub use pk_analysis::Options;

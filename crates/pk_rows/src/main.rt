@@ -3,13 +3,20 @@
 #![tactic(auto)]
 
 use pk_io::{MemSink, MemSource};
-use pk_top::pikos;
+use pk_top::{NoGate, pikos};
 use std::alloc::Global;
 use std::io;
 use std::io::Read;
+use std::sync::Wait;
 use std::test::Fail;
+use std::thread::Threads;
 
-fn answer(rt: &HostRuntime, alloc: Global, words: &str, text: &str) -> Result<(), Fail> {
+fn answer<R: Threads + Wait + Sync + Print>(
+    rt: &R,
+    alloc: Global,
+    words: &str,
+    text: &str,
+) -> Result<(), Fail> {
     let mut list = Vec::new(alloc);
     for word in words.split(' ') {
         if !word.is_empty() {
@@ -18,7 +25,7 @@ fn answer(rt: &HostRuntime, alloc: Global, words: &str, text: &str) -> Result<()
     }
     let mut src = MemSource::new(text.as_bytes().to_vec(alloc)?, 4096, Vec::new(alloc));
     let mut out = MemSink::new(alloc, 4096, Vec::new(alloc));
-    let status = pikos(alloc, &list, &mut src, &mut out);
+    let status = pikos(rt, alloc, &list, &mut src, &mut out, &NoGate {});
     let bytes = String::from_utf8(out.bytes().to_vec(alloc)?).map_err(|_| "not a text")?;
     print!(rt; "==== {words}\n{bytes}---- {} {status}\n", status.code())?;
     Ok(())

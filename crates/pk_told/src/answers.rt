@@ -5,9 +5,9 @@ ghost use Rattle.pk_command.specs.Given.{IsInRange};
 ghost use Rattle.pk_command.specs.declared.asked.Command.TheVariants as commands;
 ghost use Rattle.pk_ctypes.specs.declared.words.Quantity.TheVariants.{Points};
 ghost use Rattle.pk_graph.specs.Shown.{graph_view};
-ghost use Rattle.pk_told.specs.Answers.{HasGraph, HasNoGraph, IsRun, IsOrder, IsMade, IsStopped, IsTold, options_of, point_limit};
+ghost use Rattle.pk_told.specs.Answers.{HasGraph, HasNoGraph, IsRun, IsOrder, IsMade, IsStopped, IsTold, default_options, options_of, point_limit};
 
-use pk_answer::{Failure, Options, order_of, report_of, summary_of};
+use pk_answer::{Failure, Options, order_of};
 use pk_command::{Command, GenOptions, OrderOptions, RunOptions};
 use pk_ctypes::Quantity;
 use pk_draft::LowerError;
@@ -15,8 +15,12 @@ use pk_front::{Status, front};
 use pk_graph::Graph;
 use pk_lower::{draft, graph_paths};
 use pk_number::number;
+use pk_solver::{report_by, summary_by};
 use pk_welltyped_texts::drafts_of_texts_are_typed;
+use pk_workers::Gate;
 use std::alloc::{AllocError, Global};
+use std::sync::Wait;
+use std::thread::Threads;
 
 // A graph would have too many points.
 fn too_many_points() -> Status
@@ -36,6 +40,13 @@ fn analysis_of(options: &RunOptions) -> Options
         narrow: options.narrow,
         oct: options.oct,
     }
+}
+
+// How a graph is analysed where the words don't say.
+fn default_analysis() -> Options
+    ensures { result ≡ default_options }
+{
+    Options { narrow: 2, oct: 16 }
 }
 
 // A line, of its text.
@@ -74,14 +85,30 @@ fn graph_of_text(alloc: Global, text: &[u8], entry: &str) -> Result<Graph, Statu
 }
 
 // The report on a text.
-fn run_told(alloc: Global, options: &RunOptions, text: &[u8]) -> Result<(Vec<u8>, u64), Status>
+fn run_told<R: Threads + Wait + Sync, G: Gate + Sync>(
+    rt: &R,
+    alloc: Global,
+    gate: &G,
+    options: &RunOptions,
+    text: &[u8],
+) -> Result<(Vec<u8>, u64), Status>
     requires range { IsInRange (commands.Run options.now) }
     ensures told { IfOk result (λ made. IsRun text.now options.now made.1 made.0.items) }
     ensures stopped { IfErr result (IsStopped text.now (commands.Run options.now)) }
 {
     let graph = graph_of_text(alloc, text, options.entry.as_str())?;
     let analysis = analysis_of(options);
-    match report_of(alloc, &graph, analysis, options.max_runs, options.points) {
+    let (workers, runs) = (options.workers, options.max_runs);
+    match report_by(
+        rt,
+        alloc,
+        gate,
+        &graph,
+        analysis,
+        workers,
+        runs,
+        options.points,
+    ) {
         Ok((bytes, unknown)) => Ok((bytes, unknown as u64)),
         Err(Failure::RunLimit) => Err(Status::RunLimit {
             max_runs: options.max_runs,
@@ -101,14 +128,24 @@ fn order_told(alloc: Global, options: &OrderOptions, text: &[u8]) -> Result<(Vec
 }
 
 // The summary of a made text.
-fn gen_told(alloc: Global, options: &GenOptions, text: &[u8]) -> Result<(Vec<u8>, u64), Status>
+fn gen_told<R: Threads + Wait + Sync, G: Gate + Sync>(
+    rt: &R,
+    alloc: Global,
+    gate: &G,
+    options: &GenOptions,
+    text: &[u8],
+) -> Result<(Vec<u8>, u64), Status>
+    requires range { IsInRange (commands.Gen options.now) }
     ensures told { IfOk result (λ made. IsMade text.now options.now made.1 made.0.items) }
     ensures stopped { IfErr result (IsStopped text.now (commands.Gen options.now)) }
 {
     let graph = graph_of_text(alloc, text, "main")?;
-    let analysis = Options { narrow: 2, oct: 16 };
+    let analysis = default_analysis();
     let (seed, size) = made_from(options);
-    match summary_of(alloc, &graph, analysis, 1000000, seed, size, text.len()) {
+    let (workers, length) = (options.workers, text.len());
+    match summary_by(
+        rt, alloc, gate, &graph, analysis, workers, 1000000, seed, size, length,
+    ) {
         Ok((bytes, unknown)) => Ok((bytes, unknown as u64)),
         Err(Failure::RunLimit) => Err(Status::RunLimit { max_runs: 1000000 }),
         Err(Failure::Memory) => Err(Status::Memory),
@@ -116,14 +153,20 @@ fn gen_told(alloc: Global, options: &GenOptions, text: &[u8]) -> Result<(Vec<u8>
 }
 
 /// The bytes to write and the number of unknown verdicts, or the status in their place.
-pub fn told(alloc: Global, command: &Command, text: &[u8]) -> Result<(Vec<u8>, u64), Status>
+pub fn told<R: Threads + Wait + Sync, G: Gate + Sync>(
+    rt: &R,
+    alloc: Global,
+    gate: &G,
+    command: &Command,
+    text: &[u8],
+) -> Result<(Vec<u8>, u64), Status>
     requires range { IsInRange command.now }
     ensures told { IfOk result (λ made. IsTold text.now command.now made.1 made.0.items) }
     ensures stopped { IfErr result (IsStopped text.now command.now) }
 {
     match command {
-        Command::Run(options) => run_told(alloc, options, text),
+        Command::Run(options) => run_told(rt, alloc, gate, options, text),
         Command::Order(options) => order_told(alloc, options, text),
-        Command::Gen(options) => gen_told(alloc, options, text),
+        Command::Gen(options) => gen_told(rt, alloc, gate, options, text),
     }
 }

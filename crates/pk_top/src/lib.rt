@@ -4,4 +4,5 @@
 mod top;
 
 pub use pk_front::{Refusal, Status};
+pub use pk_workers::{Gate, NoGate};
 pub use top::pikos;

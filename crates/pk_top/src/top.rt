@@ -16,7 +16,10 @@ use pk_gen::generate;
 use pk_io::{ReadError, Sink, Source, read_all, write_all};
 use pk_told::told;
 use pk_true::reports_are_true_of_programs;
+use pk_workers::Gate;
 use std::alloc::Global;
+use std::sync::Wait;
+use std::thread::Threads;
 
 /// The greatest number of bytes of a text.
 pub const TEXT_LIMIT: usize = 4194304;
@@ -76,7 +79,13 @@ fn text<S: Source>(alloc: Global, command: &Command, src: &mut S) -> Result<Vec<
 }
 
 // What `told` gives for the text that the words ask about. It has no sink, so it writes nothing.
-fn make<S: Source>(alloc: Global, words: &[String], src: &mut S) -> Result<(Vec<u8>, u64), Status>
+fn make<R: Threads + Wait + Sync, S: Source, G: Gate + Sync>(
+    rt: &R,
+    alloc: Global,
+    words: &[String],
+    src: &mut S,
+    gate: &G,
+) -> Result<(Vec<u8>, u64), Status>
     ensures made { (text : List ℕ) → AskAbout (map string_bytes words.now) (S.left src.old) text → IfOk result (λ made.
         IsAnswer (map string_bytes words.now) text (Status.Ok made.1) made.0.items) }
     ensures untold { (text : List ℕ) → AskAbout (map string_bytes words.now) (S.left src.old) text → IfErr result (IsUntold (map string_bytes words.now) text) }
@@ -90,15 +99,17 @@ fn make<S: Source>(alloc: Global, words: &[String], src: &mut S) -> Result<(Vec<
 {
     let command = command(alloc, words)?;
     let text = text(alloc, &command, src)?;
-    told(alloc, &command, &text)
+    told(rt, alloc, gate, &command, &text)
 }
 
 /// Answers the words, which are those after the program's name, and the text of `src`, and writes the answer to `out`.
-pub fn pikos<S: Source, K: Sink>(
+pub fn pikos<R: Threads + Wait + Sync, S: Source, K: Sink, G: Gate + Sync>(
+    rt: &R,
     alloc: Global,
     words: &[String],
     src: &mut S,
     out: &mut K,
+    gate: &G,
 ) -> Status
     // Where the words ask about a text, the status and the bytes are the answer's, unless a device or the memory failed.
     ensures answer { (text : List ℕ) → AskAbout (map string_bytes words.now) (S.left src.old) text →
@@ -131,7 +142,7 @@ pub fn pikos<S: Source, K: Sink>(
     ensures whole { IsSuccess result → AskNoSource (map string_bytes words.now) ⊎ IsAtEnd (S.left src.new) }
 {
     reports_are_true_of_programs();
-    let (bytes, unknown) = match make(alloc, words, src) {
+    let (bytes, unknown) = match make(rt, alloc, words, src, gate) {
         Ok(made) => made,
         Err(status) => return status,
     };
