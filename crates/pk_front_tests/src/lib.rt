@@ -1,8 +1,6 @@
-//! Tests of the crates that read: types and operators, tokens, constructs, trees and parsing, call paths, devices and the command line.
+//! Tests of the crates that read: types and operators, tokens, constructs, parsing, call paths, devices and the command line.
 #![tactic(auto)]
 
-#[cfg(test)]
-mod ast;
 #[cfg(test)]
 mod calls;
 #[cfg(test)]

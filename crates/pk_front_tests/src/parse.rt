@@ -1,10 +1,16 @@
 // Texts of C, their trees apart: what is accepted, and where the others are refused.
 
+use pk_ast::{BlockItem, Statement};
 use pk_ctypes::{Construct, Pos};
 use pk_lex::lex;
 use pk_parse::{ParseError, parse};
 use std::alloc::Global;
 use std::test::Fail;
+
+// A million statements take little memory.
+const _: () = prove!(size_of::<Statement>() <= 104);
+
+const _: () = prove!(size_of::<BlockItem>() <= 112);
 
 // Why a text has no tree.
 fn refused(alloc: Global, text: &str) -> Result<Option<ParseError>, Fail> {
