@@ -1,5 +1,5 @@
 -- From runs of a program to runs of its graph, and to what is told of it.
-use Rattle.std.specs.Prelude.{◌≡◌, ◌⊎◌, ℕ, ◌<◌, Bool, true, false, if◌then◌else◌, List, ◌∷◌, length, All, Option, Some, None}
+use Rattle.std.specs.Prelude.{◌≡◌, ◌⊎◌, ℕ, ◌<◌, Bool, true, false, if◌then◌else◌, List, ◌∷◌, length, All, Contains, Option, Some, None}
 use Rattle.std.proofs.Common.{◌∙◌, refl, sym, subst, inl, inr}
 use Rattle.std.proofs.lemmas.List.Elements.{All-nil, All-cons, All-get_or, All-contains}
 use Rattle.pk_graph.specs.declared.verdicts.Verdict.TheVariants.{Unknown}
@@ -21,7 +21,7 @@ use Rattle.pk_meaning.specs.Programs.{Program}
 use Rattle.pk_meaning.specs.Runs.{Visit}
 use Rattle.pk_visits.specs.GraphVisits.{GraphRuns, ends, steps, is_visit, visit_at, visits_if}
 use Rattle.pk_visits.specs.SameVisits.{ProgramVisits, GraphVisits, HaveSameVisits, FailsAt, EndsAt, IsInside}
-use Rattle.pk_true.specs.ToldOfPrograms.{IsToldVisit, IsToldFault, IsToldEnd, IsTrueOfProgram}
+use Rattle.pk_true.specs.ToldOfPrograms.{IsToldOf, IsToldVisit, AreToldAlong, ends as no_more, seen, passed, AreToldInOrder, IsToldFault, IsToldEnd, IsTrueOfProgram}
 use Rattle.pk_verdict.specs.Verdicts.{verdict_of}
 use Rattle.pk_sound.proofs.Accesses.{IsAccessAt, in_instr}
 use Rattle.pk_one_way.specs.OneWay.{SharesAccesses}
@@ -58,8 +58,11 @@ module _ (g : GraphOf) (states : List Stated) (made : IsGraph g) (t : AreTrueOf 
       let point = All-get_or (IsPointOf g) g.points p no_point (there p s h) made.points in
       (All-contains (IsEdgeOf g) (point_at g p).edges e point.edges has).leads_to_a_point
 
+  told_of : (v : ℕ) (s : Stored) → Reaches g v s → IsToldOf g states v (visit_at g v s)
+  told_of v s h = store_told g (state_at states v).layout (state_at states v).facts v s (t.holds v s h)
+
   told : (v : ℕ) (s : Stored) → Reaches g v s → IsToldVisit g states (visit_at g v s)
-  told v s h = record { point = v; there = there v s h; told = store_told g (state_at states v).layout (state_at states v).facts v s (t.holds v s h) }
+  told v s h = record { point = v; there = there v s h; told = told_of v s h }
 
   told_if : (e : EdgeOf) (s : Stored) (vs : List Visit) → Reaches g e.to s → All (IsToldVisit g states) vs → All (IsToldVisit g states) (visits_if g e s vs)
   told_if e s vs h all = by (is_visit g e)
@@ -74,6 +77,29 @@ module _ (g : GraphOf) (states : List Stated) (made : IsGraph g) (t : AreTrueOf 
       let next = step_of chosen h has goes in
       let more = reached e.to u vs q r rest next in
       (told_if e u vs next more.0, more.1)
+
+  -- one edge more
+  along_if : (p : ℕ) (e : EdgeOf) (s : Stored) (vs : List Visit) → Contains (point_at g p).edges e → Reaches g e.to s → AreToldAlong g states e.to vs → AreToldAlong g states p (visits_if g e s vs)
+  along_if p e s vs has h more = by (is_visit g e) refl
+    where
+      by : (b : Bool) → is_visit g e ≡ b → AreToldAlong g states p (if b then visit_at g e.to s ∷ vs else vs)
+      by true is = seen has is (told_of e.to s h) more
+      by false is = passed has is more
+
+  along : (p : ℕ) (s : Stored) (vs : List Visit) (q : ℕ) (r : Stored) → GraphRuns g p s vs q r → Reaches g p s → AreToldAlong g states p vs
+  along p s vs q r ends h = no_more
+  along p s ws q r (steps {t = u} {e = e} {vs = vs} chosen has goes rest) h =
+      let next = step_of chosen h has goes in
+      along_if p e u vs has next (along e.to u vs q r rest next)
+
+  walked : (visits : List Visit) (end : Option Failure) → GraphVisits g visits end → AreToldInOrder g states visits
+  walked visits end x = record {
+    first = visit_at g 0 x.first;
+    others = x.others;
+    visits_are = x.visits_are;
+    begins = told_of 0 x.first (begins x.begins);
+    goes_on = along 0 x.first x.others x.point x.last x.runs (begins x.begins);
+  }
 
   failing : (p : ℕ) (s : Stored) (f : Failure) → Reaches g p s → FailsAt g p s f → IsToldFault g states f
   failing p s f h x = by (t.faults p s x.edge x.chosen f h x.there x.fails)
@@ -108,6 +134,7 @@ pub true_of : (g : GraphOf) (states : List Stated) (p : Program) → IsGraph g �
 true_of g states p made t share same = record {
   runs = same;
   points = t;
+  walks = λ visits end x. walked g states made t share visits end (same.forward visits end x);
   visits = λ visits end x. (of_graph g states made t share visits end (same.forward visits end x)).0;
   faults = λ visits end x. (of_graph g states made t share visits end (same.forward visits end x)).1;
 }

@@ -1,9 +1,9 @@
 -- What a report tells is true of every run of the C program.
-use Rattle.std.specs.Prelude.{◌≡◌, ℕ, ◌<◌, ◌^◌, ℤ, pos, ◌+ℤ◌, ◌-ℤ◌, List, [], ◌∷◌, length, slice_get, Contains, All, Option, Some, None, option_map}
+use Rattle.std.specs.Prelude.{◌≡◌, ℕ, ◌<◌, ◌^◌, ℤ, pos, ◌+ℤ◌, ◌-ℤ◌, true, false, List, [], ◌∷◌, length, slice_get, Contains, All, Option, Some, None, option_map}
 use Rattle.std.specs.List.{AllZip}
 use Rattle.pk_graph.specs.declared.verdicts.Verdict.TheVariants.{Unknown}
 use Rattle.pk_graph.specs.Accesses.{AccessOf, accesses_of}
-use Rattle.pk_graph.specs.Graphs.{GraphOf, point_at}
+use Rattle.pk_graph.specs.Graphs.{EdgeOf, GraphOf, point_at}
 use Rattle.pk_graph.specs.Steps.{Failure}
 use Rattle.pk_value.specs.Known.{IsOf}
 use Rattle.pk_octmat.specs.Bounds.{AtMost}
@@ -17,6 +17,7 @@ use Rattle.pk_report.specs.Reports.{fault_of, state_at}
 use Rattle.pk_answer.specs.Reported.{AreStates, verdict_at}
 use Rattle.pk_meaning.specs.Programs.{Program}
 use Rattle.pk_meaning.specs.Runs.{Known, Visit}
+use Rattle.pk_visits.specs.GraphVisits.{is_visit}
 use Rattle.pk_visits.specs.SameVisits.{ProgramVisits, HaveSameVisits}
 use Rattle.pk_runs.specs.True.{AreTrueOf}
 use Rattle.pk_told.specs.Answers.{HasGraph}
@@ -54,10 +55,28 @@ abbrev pub IsToldIf : GraphOf → Layout → Option Facts → ℕ → Visit → 
 IsToldIf g l None point v = ⊥
 IsToldIf g l (Some f) point v = IsToldAt g l f point v
 
+-- a visit keeps to what is told of the point
+abbrev pub IsToldOf : GraphOf → List Stated → ℕ → Visit → Type 0
+IsToldOf g states point v = IsToldIf g (state_at states point).layout (state_at states point).facts point v
+
 pub record IsToldVisit (g : GraphOf) (states : List Stated) (v : Visit) : Type 0 where
   pub point : ℕ
   pub there : point < length g.points
-  pub told : IsToldIf g (state_at states point).layout (state_at states point).facts point v
+  pub told : IsToldOf g states point v
+
+-- Visits along edges from a point: the end of each edge is one, told there, unless the edge writes a variable that isn't in scope at its end.
+pub data AreToldAlong (g : GraphOf) (states : List Stated) : ℕ → List Visit → Type 0 where
+  ends : {p : ℕ} → AreToldAlong g states p []
+  seen : {p : ℕ} {e : EdgeOf} {v : Visit} {vs : List Visit} → Contains (point_at g p).edges e → is_visit g e ≡ true → IsToldOf g states e.to v → AreToldAlong g states e.to vs → AreToldAlong g states p (v ∷ vs)
+  passed : {p : ℕ} {e : EdgeOf} {vs : List Visit} → Contains (point_at g p).edges e → is_visit g e ≡ false → AreToldAlong g states e.to vs → AreToldAlong g states p vs
+
+-- The visits are those of a walk of the graph from point 0, each told of the point at which the walk is.
+pub record AreToldInOrder (g : GraphOf) (states : List Stated) (visits : List Visit) : Type 0 where
+  pub first : Visit
+  pub others : List Visit
+  pub visits_are : visits ≡ first ∷ others
+  pub begins : IsToldOf g states 0 first
+  pub goes_on : AreToldAlong g states 0 others
 
 -- ---- faults
 
@@ -78,10 +97,11 @@ IsToldEnd g states (Some f) = IsToldFault g states f
 -- ---- runs
 
 -- The program and its graph have the same visits, and no run of the graph leaves what is told of the points that it comes to.
--- So each visit of each run is told, and the fault at its end if there is one. Several points can have one place: the run of the graph tells which of them a visit is at.
+-- So each visit of each run is told, and the fault at its end if there is one. Several points can have one place: the walk along the graph's edges tells which of them a visit is at.
 pub record IsTrueOfProgram (p : Program) (g : GraphOf) (states : List Stated) : Type 0 where
   pub runs : HaveSameVisits p g
   pub points : AreTrueOf g states
+  pub walks : (visits : List Visit) (end : Option Failure) → ProgramVisits p visits end → AreToldInOrder g states visits
   pub visits : (visits : List Visit) (end : Option Failure) → ProgramVisits p visits end → All (IsToldVisit g states) visits
   pub faults : (visits : List Visit) (end : Option Failure) → ProgramVisits p visits end → IsToldEnd g states end
 
