@@ -5,7 +5,6 @@ use Rattle.std.proofs.lemmas.List.{length-map, get_or-map}
 use Rattle.pk_graph.specs.declared.graphs.Variable.{Variable}
 use Rattle.pk_graph.specs.Graphs.{VariableOf, GraphOf, kinds_of, variable_view}
 use Rattle.pk_graph.specs.Kinds.{Kind, no_kind, kind_at, type_at, count_of, count_at}
-use Rattle.pk_graph.specs.Steps.{Numbers}
 use Rattle.pk_graph.specs.Stores.{numbers_of}
 use Rattle.pk_runner_cases.specs.Places.{AreNumbers}
 

@@ -3,10 +3,9 @@ use Rattle.std.proofs.Common.{◌≡◌, ℕ, ◌<◌, ap, ◌∙◌, sym, subst
 use Rattle.std.proofs.lemmas.List.{length-map}
 use Rattle.pk_graph.specs.declared.graphs.Edge.{Edge}
 use Rattle.pk_graph.specs.Graphs.{GraphOf, EdgeOf, edge_view, point_at, no_point, kinds_of}
-use Rattle.pk_graph.specs.Kinds.{Kinds}
 use Rattle.pk_graph.specs.WellMade.{IsGraph, IsEdgeOf}
 use Rattle.pk_graph.specs.Steps.{Numbers, After, To, Blocked, Wants, Faulted, effect}
-use Rattle.pk_graph.specs.Stores.{Stored, storing, IsStore}
+use Rattle.pk_graph.specs.Stores.{Stored, storing}
 use Rattle.pk_step.specs.declared.answers.GraphStep.{GraphStep}
 use Rattle.pk_step.specs.declared.answers.GraphStep.TheVariants as answers
 use Rattle.pk_step.specs.GraphSteps.{no_edge, edge_at, answer_of, step_over}

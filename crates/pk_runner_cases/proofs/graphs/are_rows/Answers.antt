@@ -1,4 +1,4 @@
-use Rattle.std.proofs.Common.{rules, arith, below_more, subst}
+use Rattle.std.proofs.Common.{arith, below_more, subst}
 use Rattle.pk_graph.specs.Shown.{graph_view}
 use Rattle.pk_runner_cases.specs.Places.{AreNumbers}
 use Rattle.pk_runner_cases.proofs.Rows.{row_at}
