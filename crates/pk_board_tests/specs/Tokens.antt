@@ -1,12 +1,6 @@
 -- What a pass has between two calls, and what a run has read.
-use Rattle.std.specs.Prelude.{◌≡◌, ℕ, ◌+◌, ◌≤◌, List, [], ◌∷◌}
-use Rattle.pk_plan.specs.Order.{Level}
+use Rattle.std.specs.Prelude.{◌≡◌, ℕ, ◌≤◌, List, [], ◌∷◌}
 use Rattle.pk_plan.specs.Plans.{PlanView}
-use Rattle.pk_plan.specs.Shape.{shape_of}
-use Rattle.pk_iterate.specs.Behaviour.{Behaviour}
-use Rattle.pk_iterate.specs.Runs.{values_read}
-use Rattle.pk_iterate.specs.Ending.{Ends, trace}
-use Rattle.pk_core.specs.Orders.{IsOrderOf}
 use Rattle.pk_words.specs.declared.view.View.{View}
 use Rattle.pk_words.specs.Held.{HoldView, SendingView, ResettingView}
 use Rattle.pk_words.specs.Subjects.{SubjectView}
@@ -41,7 +35,3 @@ pub record IsAbout {Y : Type 0} (s : SubjectView Y) (y : Y) (p : PlanView) : Typ
   pub system : s.system ≡ y
   pub plan : s.wiring.plan ≡ p
   pub limit : s.wiring.limit ≡ 1000
-
--- these are the cells that the recursion's run reads
-abbrev pub AreRead : {C : Type 0} → Behaviour C → PlanView → HoldView → List C → Type 0
-AreRead b p hold cells = (order : Level) (ends : Ends b order) → IsOrderOf (shape_of p) order → cells ≡ values_read b (trace ends) hold.element (hold.run + 1)

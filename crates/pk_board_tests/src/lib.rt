@@ -4,8 +4,6 @@
 #[cfg(test)]
 mod ends;
 #[cfg(test)]
-mod nested;
-#[cfg(test)]
 mod plans;
 #[cfg(test)]
 mod runs;
@@ -13,8 +11,6 @@ mod runs;
 mod steps;
 #[cfg(test)]
 mod summing;
-#[cfg(test)]
-mod threads;
 #[cfg(test)]
 mod walks;
 #[cfg(test)]

@@ -1,20 +1,19 @@
 // Runs of elements by one pass, which offers each element that gets ready.
 
-ghost use Rattle.std.specs.Prelude.{◌≡◌, ◌+◌, ◌<◌, ◌≤◌, [], ◌∷◌, IfOk, OnOk, length, map, slice_index_or, false, true};
+ghost use Rattle.std.specs.Prelude.{◌≡◌, ◌<◌, ◌≤◌, [], IfOk, OnOk, map, false, true};
 ghost use Rattle.std.specs.Arc.{arc_value};
 ghost use Rattle.pk_plan.specs.Digraphs.{lists_of};
-ghost use Rattle.pk_plan.specs.Plans.{end_of, successors_of};
-ghost use Rattle.pk_plan.specs.Shape.{exits};
 ghost use Rattle.pk_words.specs.Views.{IsGiven};
 ghost use Rattle.pk_board.specs.Calls.{AreCopies, IsRunCell, IsSending, IsResetting};
 ghost use Rattle.pk_board_tests.specs.Summing.{summing};
-ghost use Rattle.pk_board_tests.specs.Tokens.{HasTokens, HasNone, HasOnlyHold, HasOnlySending, HasOnlyResetting, HasGot, IsAbout, AreRead};
+ghost use Rattle.pk_board_tests.specs.Tokens.{HasTokens, HasNone, HasOnlyHold, HasOnlySending, HasOnlyResetting, HasGot, IsAbout};
 
 use crate::summing::Summing;
 use pk_board::{Armed, Arrived, Board, Copies, Got, Pass};
 use pk_iterate::{Decision, System};
 use pk_plan::Plan;
 use pk_words::{Hold, Resetting, Sending};
+use pk_workers::read_all;
 use std::alloc::{AllocError, Global};
 use std::process::Abort;
 use std::sync::Arc;
@@ -25,29 +24,6 @@ pub enum Answer {
     Ready(u32),
     Waiting(u64),
     Again(u32),
-}
-
-// The cells that the Hold's run reads.
-fn read_all<'a>(
-    alloc: Global,
-    board: &Board<'a, Summing>,
-    pass: &mut Pass<u64>,
-    hold: &Hold,
-    places: usize,
-) -> Result<Vec<Arc<u64>>, AllocError>
-    requires of_board { pass.old.table ≡ board.now.table }
-    requires element { hold.now.element < board.now.subject.wiring.plan.elements }
-    requires held { HasOnlyHold pass.old.view hold.now }
-    requires places { places ≡ length (slice_index_or (lists_of board.now.subject.system.rows.items) hold.now.element []) }
-    ensures of_board { OnOk result (pass.new.table ≡ board.now.table) }
-    ensures held { OnOk result (HasOnlyHold pass.new.view hold.now) }
-    ensures read { IfOk result (λ v. AreRead (summing (lists_of board.now.subject.system.rows.items)) board.now.subject.wiring.plan hold.now (map arc_value v.items)) }
-{
-    let mut inputs = Vec::new(alloc);
-    for place in 0..places {
-        inputs.push(board.input(pass, hold, place)?)?;
-    }
-    Ok(inputs)
 }
 
 // The cell that a run gives, and whether its component is gone through again.
@@ -198,6 +174,30 @@ fn go_back<'a>(
     Vec::from_slice(alloc, &[Answer::Again(element)])
 }
 
+// Reads what a run reads, and makes its cell, with a copy for each slot of the element.
+fn copied<'a>(
+    alloc: Global,
+    board: &Board<'a, Summing>,
+    plan: &Plan,
+    system: &Summing,
+    pass: &mut Pass<u64>,
+    hold: &Hold,
+) -> Result<(Copies<u64>, bool), AllocError>
+    requires of_board { pass.old.table ≡ board.now.table }
+    requires about { IsAbout board.now.subject system.now plan.now }
+    requires element { hold.now.element < board.now.subject.wiring.plan.elements }
+    requires held { HasOnlyHold pass.old.view hold.now }
+    ensures of_board { OnOk result (pass.new.table ≡ board.now.table) }
+    ensures held { OnOk result (HasOnlyHold pass.new.view hold.now) }
+    ensures copies { IfOk result (λ r. AreCopies board.now.subject.wiring hold.now.element r.0) }
+    ensures cell { IfOk result (λ r. IsRunCell (summing (lists_of board.now.subject.system.rows.items)) board.now.subject.wiring.plan hold.now r.1 r.0.cell) }
+{
+    let element = hold.element();
+    let inputs = read_all(alloc, board, pass, hold)?;
+    let (cell, again) = made(alloc, system, plan.is_exit(element), element, &inputs)?;
+    Ok((board.copies(alloc, hold, Arc::new(alloc, cell)?)?, again))
+}
+
 // Runs the element of the pass's only Hold, and tells what came of it.
 pub fn run_held<'a>(
     rt: &impl Abort,
@@ -217,9 +217,7 @@ pub fn run_held<'a>(
     let element = hold.element();
     assert!(rt; element < plan.elements());
     assert!(rt; hold.run() < 1000);
-    let inputs = read_all(alloc, board, pass, &hold, system.reads(element).len())?;
-    let (cell, again) = made(alloc, system, plan.is_exit(element), element, &inputs)?;
-    let copies = board.copies(alloc, &hold, Arc::new(alloc, cell)?)?;
+    let (copies, again) = copied(alloc, board, plan, system, pass, &hold)?;
     if again {
         go_back(rt, alloc, board, plan, pass, hold, copies)
     } else {

@@ -1,35 +1,76 @@
-// Calls of a board, step by step.
+// Two passes of a board.
 
-use crate::nested::{Nested, plan};
-use pk_board::Board;
-use pk_core::nested_meets_all;
+ghost use Rattle.std.specs.Prelude.{◌≡◌};
+ghost use Rattle.pk_board_tests.specs.Tokens.{HasTokens, HasNone};
+
+use crate::plans::prepared;
+use crate::summing::Summing;
+use crate::walks::{last_word, word};
+use pk_board::{Board, Pass};
+use pk_plan::Plan;
 use pk_words::Why;
 use std::alloc::AllocError;
+use std::process::Abort;
 
-#[test]
-fn elements_are_claimed_and_offered(rt: HostRuntime) -> Result<(), AllocError> {
-    let alloc = rt.alloc();
-    let plan = plan(alloc)?;
-    let system = Nested {};
-    nested_meets_all();
-    let (board, pass) = Board::start(alloc, &system, &plan, 10)?;
-    let mut pass = pass;
-    let mut other = board.split(&mut pass);
-    assert!(rt; board.claim(&mut pass, 1).is_err_and(|seen| seen.word == 1));
-    match board.claim(&mut pass, 0) {
-        Err(_) => assert!(rt; false),
+// One pass claims the first element, and the other can't until it is offered.
+fn claim_first<'a>(
+    rt: &impl Abort,
+    board: &Board<'a, Summing>,
+    plan: &Plan,
+    pass: &mut Pass<u64>,
+    other: &mut Pass<u64>,
+)
+    requires of_board { pass.old.table ≡ board.now.table }
+    requires other_of_board { other.old.table ≡ board.now.table }
+    requires plan { board.now.subject.wiring.plan ≡ plan.now }
+    requires none { HasNone pass.old.view }
+    requires other_none { HasNone other.old.view }
+    ensures of_board { pass.new.table ≡ board.now.table }
+    ensures other_of_board { other.new.table ≡ board.now.table }
+    ensures none { HasNone pass.new.view }
+    ensures other_none { HasNone other.new.view }
+{
+    assert!(rt; plan.elements() > 0);
+    match board.claim(pass, 0) {
+        Err(_) => panic!(rt; "0 isn't open"),
         Ok(hold) => {
-            assert!(rt; board.claim(&mut other, 0).is_err_and(|seen| seen.word == 0));
-            board.offer(&mut pass, hold);
-            assert!(rt; board.claim(&mut other, 0).is_ok());
+            assert!(rt; word(rt, board, plan, other, 0) == 0);
+            board.offer(pass, hold);
         }
     }
-    assert!(rt; board.finished(&mut other).is_err_and(|seen| seen.word == 1));
-    assert!(rt; board.stopped(&mut other).is_none());
-    board.stop(&mut pass, Why::Memory);
-    match board.stopped(&mut other) {
-        None => assert!(rt; false),
+}
+
+// One pass stops the board, and the other sees it.
+fn stop<'a>(rt: &impl Abort, board: Board<'a, Summing>, pass: &mut Pass<u64>, other: &mut Pass<u64>)
+    requires of_board { pass.old.table ≡ board.table }
+    requires other_of_board { other.old.table ≡ board.table }
+{
+    assert!(rt; board.stopped(other).is_none());
+    board.stop(pass, Why::Memory);
+    match board.stopped(other) {
+        None => panic!(rt; "the stop isn't seen"),
         Some((_, token)) => assert!(rt; matches!(board.abandon(token), Why::Memory)),
     }
+}
+
+// Each pass claims the first element and offers it; the last waits for one; then the board is stopped.
+fn used<'a>(rt: &impl Abort, board: Board<'a, Summing>, plan: &Plan, pass: Pass<u64>)
+    requires of_board { pass.table ≡ board.table }
+    requires plan { board.subject.wiring.plan ≡ plan.now }
+    requires none { HasNone pass.view }
+{
+    let mut pass = pass;
+    let mut other = board.split(&mut pass);
+    claim_first(rt, &board, plan, &mut pass, &mut other);
+    claim_first(rt, &board, plan, &mut other, &mut pass);
+    assert!(rt; last_word(rt, &board, &mut other) == 1);
+    stop(rt, board, &mut pass, &mut other);
+}
+
+#[test]
+fn passes_claim_in_turn_and_see_a_stop(rt: HostRuntime) -> Result<(), AllocError> {
+    let made = prepared(&rt, rt.alloc(), 2, &[(0, 1)])?;
+    let (board, pass) = Board::start(rt.alloc(), &made.system, &made.plan, 10)?;
+    used(&rt, board, &made.plan, pass);
     Ok(())
 }

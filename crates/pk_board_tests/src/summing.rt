@@ -4,10 +4,19 @@ ghost use Rattle.std.specs.Prelude.{◌≡◌, IfOk, map};
 ghost use Rattle.std.specs.Arc.{arc_value};
 ghost use Rattle.pk_core.specs.Nested.{total, turn_of};
 
-use crate::nested::total;
 use pk_iterate::{Decision, System};
 use std::alloc::{AllocError, Global};
 use std::sync::Arc;
+
+// One more than the sum of the cells.
+fn total(cells: &[Arc<u64>]) -> Result<u64, AllocError>
+    ensures { IfOk result (λ n. n ≡ total (map arc_value cells.now)) }
+{
+    match cells {
+        [] => Ok(1),
+        [cell, rest @ ..] => (**cell).checked_add(total(rest)?).ok_or(AllocError),
+    }
+}
 
 // For each element those that it reads.
 #[derive(Drop)]

@@ -17,7 +17,7 @@ use std::alloc::{AllocError, Global};
 use std::process::Abort;
 
 // The word of an element that isn't open.
-fn word<'a>(
+pub fn word<'a>(
     rt: &impl Abort,
     board: &Board<'a, Summing>,
     plan: &Plan,
@@ -36,21 +36,15 @@ fn word<'a>(
     }
 }
 
-// The first element can be claimed once.
-fn claim_first<'a>(rt: &impl Abort, board: &Board<'a, Summing>, plan: &Plan, pass: &mut Pass<u64>)
+// The word of the last element, which isn't done.
+pub fn last_word<'a>(rt: &impl Abort, board: &Board<'a, Summing>, pass: &mut Pass<u64>) -> u64
     requires of_board { pass.old.table ≡ board.now.table }
-    requires plan { board.now.subject.wiring.plan ≡ plan.now }
-    requires none { HasNone pass.old.view }
     ensures of_board { pass.new.table ≡ board.now.table }
-    ensures none { HasNone pass.new.view }
+    ensures tokens { HasTokens pass.new.view pass.old.view.holds pass.old.view.sends pass.old.view.resets }
 {
-    assert!(rt; plan.elements() > 0);
-    match board.claim(pass, 0) {
-        Err(_) => panic!(rt; "0 isn't open"),
-        Ok(hold) => {
-            assert!(rt; word(rt, board, plan, pass, 0) == 0);
-            board.offer(pass, hold);
-        }
+    match board.finished(pass) {
+        Ok(_) => panic!(rt; "the last element is done"),
+        Err(seen) => seen.word,
     }
 }
 
@@ -73,10 +67,7 @@ fn run_last<'a>(
     match board.claim(pass, plan.elements() - 1) {
         Err(_) => panic!(rt; "the last element isn't open"),
         Ok(hold) => {
-            match board.finished(pass) {
-                Ok(_) => panic!(rt; "the last element is done"),
-                Err(seen) => assert!(rt; seen.word == 0),
-            }
+            assert!(rt; last_word(rt, board, pass) == 0);
             let answers = run_held(rt, alloc, board, plan, system, pass, hold)?;
             assert!(rt; answers.is_empty());
             Ok(())
@@ -128,22 +119,18 @@ fn ended<'a>(
     }
 }
 
-const DIAMOND: [(u32, u32); 4] = [(0, 1), (0, 2), (1, 3), (2, 3)];
+// The word of an element that isn't open, and the runs after it.
+type Stage = (u32, u64, &'static [(u32, &'static [Answer])]);
 
-const THROUGH_DIAMOND: [(u32, &[Answer]); 4] = [
-    (0, &[Ready(1), Ready(2)]),
-    (1, &[Waiting(1)]),
-    (2, &[Ready(3)]),
-    (3, &[Ready(4)]),
-];
-
-fn through_diamond<'a>(
+// Goes through the stages.
+fn staged<'a>(
     rt: &impl Abort,
     alloc: Global,
     board: &Board<'a, Summing>,
     plan: &Plan,
     system: &Summing,
     pass: &mut Pass<u64>,
+    stages: &[Stage],
 ) -> Result<(), AllocError>
     requires of_board { pass.old.table ≡ board.now.table }
     requires about { IsAbout board.now.subject system.now plan.now }
@@ -151,35 +138,76 @@ fn through_diamond<'a>(
     ensures of_board { OnOk result (pass.new.table ≡ board.now.table) }
     ensures none { OnOk result (HasNone pass.new.view) }
 {
-    claim_first(rt, board, plan, pass);
-    assert!(rt; word(rt, board, plan, pass, 3) == 2);
-    stepped(rt, alloc, board, plan, system, pass, &THROUGH_DIAMOND)?;
+    for (e, expected, steps) in stages {
+        assert!(rt; word(rt, board, plan, pass, *e) == *expected);
+        stepped(rt, alloc, board, plan, system, pass, steps)?;
+    }
+    Ok(())
+}
+
+// Goes through the stages and runs the last element. Then the first has been run once.
+fn walked<'a>(
+    rt: &impl Abort,
+    alloc: Global,
+    board: &Board<'a, Summing>,
+    plan: &Plan,
+    system: &Summing,
+    pass: &mut Pass<u64>,
+    stages: &[Stage],
+) -> Result<(), AllocError>
+    requires of_board { pass.old.table ≡ board.now.table }
+    requires about { IsAbout board.now.subject system.now plan.now }
+    requires none { HasNone pass.old.view }
+    ensures of_board { OnOk result (pass.new.table ≡ board.now.table) }
+{
+    staged(rt, alloc, board, plan, system, pass, stages)?;
     run_last(rt, alloc, board, plan, system, pass)?;
     assert!(rt; word(rt, board, plan, pass, 0) == 1310721);
     Ok(())
 }
 
-fn diamond(
+// A walk leaves what the iteration leaves.
+fn walk(
     rt: &impl Abort,
     alloc: Global,
     plan: &Plan,
     system: &Summing,
     cells: &Cells<u64>,
+    stages: &[Stage],
 ) -> Result<(), AllocError>
     requires { IsPrepared plan.now (lists_of system.now.rows.items) cells.now }
 {
-    assert!(rt; plan.elements() == 5);
     let (board, pass) = Board::start(alloc, system, plan, 1000)?;
     let mut pass = pass;
-    through_diamond(rt, alloc, &board, plan, system, &mut pass)?;
+    walked(rt, alloc, &board, plan, system, &mut pass, stages)?;
     ended(rt, board, pass, plan, system, cells);
     Ok(())
 }
 
+const DIAMOND: [(u32, u32); 4] = [(0, 1), (0, 2), (1, 3), (2, 3)];
+
+const THROUGH_DIAMOND: [Stage; 1] = [(
+    3,
+    2,
+    &[
+        (0, &[Ready(1), Ready(2)]),
+        (1, &[Waiting(1)]),
+        (2, &[Ready(3)]),
+        (3, &[Ready(4)]),
+    ],
+)];
+
 #[test]
 fn diamond_step_by_step(rt: HostRuntime) -> Result<(), AllocError> {
     let made = prepared(&rt, rt.alloc(), 4, &DIAMOND)?;
-    diamond(&rt, rt.alloc(), &made.plan, &made.system, &made.cells)
+    walk(
+        &rt,
+        rt.alloc(),
+        &made.plan,
+        &made.system,
+        &made.cells,
+        &THROUGH_DIAMOND,
+    )
 }
 
 const JUMP: [(u32, u32); 14] = [
@@ -199,73 +227,51 @@ const JUMP: [(u32, u32); 14] = [
     (12, 5),
 ];
 
-const INTO_THE_LOOP: [(u32, &[Answer]); 11] = [
-    (0, &[Ready(1)]),
-    (1, &[Ready(2), Ready(11)]),
-    (2, &[Ready(3)]),
-    (11, &[Ready(12)]),
-    (12, &[Waiting(1)]),
-    (3, &[Ready(4)]),
-    (4, &[Ready(5)]),
-    (5, &[Ready(6)]),
-    (6, &[Ready(7)]),
-    (7, &[Ready(13)]),
-    (13, &[Again(3)]),
-];
-
-const OUT_OF_THE_LOOP: [(u32, &[Answer]); 10] = [
-    (3, &[Ready(4)]),
-    (4, &[Ready(5)]),
-    (5, &[Ready(6)]),
-    (6, &[Ready(7)]),
-    (7, &[Ready(13)]),
-    (13, &[Ready(8)]),
-    (8, &[Ready(9)]),
-    (9, &[Ready(10)]),
-    (10, &[Ready(14)]),
-    (14, &[]),
-];
-
 // The loop's test waits for two elements at first, and for one when the loop is gone through again.
-fn through_loop<'a>(
-    rt: &impl Abort,
-    alloc: Global,
-    board: &Board<'a, Summing>,
-    plan: &Plan,
-    system: &Summing,
-    pass: &mut Pass<u64>,
-) -> Result<(), AllocError>
-    requires of_board { pass.old.table ≡ board.now.table }
-    requires about { IsAbout board.now.subject system.now plan.now }
-    requires none { HasNone pass.old.view }
-    ensures of_board { OnOk result (pass.new.table ≡ board.now.table) }
-    ensures none { OnOk result (HasNone pass.new.view) }
-{
-    assert!(rt; word(rt, board, plan, pass, 5) == 2);
-    stepped(rt, alloc, board, plan, system, pass, &INTO_THE_LOOP)?;
-    assert!(rt; word(rt, board, plan, pass, 5) == 1048577);
-    stepped(rt, alloc, board, plan, system, pass, &OUT_OF_THE_LOOP)
-}
-
-fn looped(
-    rt: &impl Abort,
-    alloc: Global,
-    plan: &Plan,
-    system: &Summing,
-    cells: &Cells<u64>,
-) -> Result<(), AllocError>
-    requires { IsPrepared plan.now (lists_of system.now.rows.items) cells.now }
-{
-    assert!(rt; plan.elements() == 15);
-    let (board, pass) = Board::start(alloc, system, plan, 1000)?;
-    let mut pass = pass;
-    through_loop(rt, alloc, &board, plan, system, &mut pass)?;
-    ended(rt, board, pass, plan, system, cells);
-    Ok(())
-}
+const THROUGH_LOOP: [Stage; 2] = [
+    (
+        5,
+        2,
+        &[
+            (0, &[Ready(1)]),
+            (1, &[Ready(2), Ready(11)]),
+            (2, &[Ready(3)]),
+            (11, &[Ready(12)]),
+            (12, &[Waiting(1)]),
+            (3, &[Ready(4)]),
+            (4, &[Ready(5)]),
+            (5, &[Ready(6)]),
+            (6, &[Ready(7)]),
+            (7, &[Ready(13)]),
+            (13, &[Again(3)]),
+        ],
+    ),
+    (
+        5,
+        1048577,
+        &[
+            (3, &[Ready(4)]),
+            (4, &[Ready(5)]),
+            (5, &[Ready(6)]),
+            (6, &[Ready(7)]),
+            (7, &[Ready(13)]),
+            (13, &[Ready(8)]),
+            (8, &[Ready(9)]),
+            (9, &[Ready(10)]),
+            (10, &[Ready(14)]),
+        ],
+    ),
+];
 
 #[test]
 fn loop_with_a_jump_into_it(rt: HostRuntime) -> Result<(), AllocError> {
     let made = prepared(&rt, rt.alloc(), 13, &JUMP)?;
-    looped(&rt, rt.alloc(), &made.plan, &made.system, &made.cells)
+    walk(
+        &rt,
+        rt.alloc(),
+        &made.plan,
+        &made.system,
+        &made.cells,
+        &THROUGH_LOOP,
+    )
 }

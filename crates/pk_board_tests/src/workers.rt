@@ -5,20 +5,19 @@ ghost use Rattle.pk_plan.specs.Digraphs.{lists_of};
 ghost use Rattle.pk_iterate.specs.Fits.{FitsPlan};
 ghost use Rattle.pk_words.specs.Reads.{HasEnd};
 ghost use Rattle.pk_board_tests.specs.Summing.{summing};
-ghost use Rattle.pk_board_tests.specs.Prepared.{HasEach};
+ghost use Rattle.pk_board_tests.specs.Prepared.{HasEach, IsPrepared};
 
 use crate::ends::same;
-use crate::plans::prepared;
+use crate::plans::{Scene, prepared};
 use crate::summing::Summing;
 use pk_iterate::{Cells, Solve};
 use pk_plan::Plan;
 use pk_words::Hold;
 use pk_workers::{Gate, NoGate, run_workers};
-use std::alloc::Global;
+use std::alloc::{AllocError, Global};
 use std::process::Abort;
 use std::sync::Wait;
 use std::sync::atomic::{AtomicBool, Ordering};
-use std::test::Fail;
 use std::thread;
 use std::thread::Threads;
 
@@ -76,6 +75,39 @@ impl Gate for Both {
     fn after<R: Threads + Wait>(&self, _rt: &R, _worker: u32, _hold: &Hold) {}
 }
 
+// So many workers leave what the iteration leaves.
+fn leave_the_same<R: Threads + Wait + Sync + Abort, G: Gate + Sync>(
+    rt: &R,
+    alloc: Global,
+    gate: &G,
+    made: &Scene,
+    workers: u32,
+)
+    requires prepared { IsPrepared made.now.plan (lists_of made.now.system.rows.items) made.now.cells }
+    requires workers { (1 ≤ workers) × (workers ≤ 64) }
+{
+    match left(rt, alloc, gate, &made.system, &made.plan, workers, 1000) {
+        Err(_) => panic!(rt; "no result"),
+        Ok(cells) => assert!(rt;
+            same(&cells, &made.cells, made.plan.elements()),
+            "{workers}"
+        ),
+    }
+}
+
+// One worker to eight, each number four times.
+fn each_leaves_the_same<R: Threads + Wait + Sync + Abort>(rt: &R, alloc: Global, made: &Scene)
+    requires { IsPrepared made.now.plan (lists_of made.now.system.rows.items) made.now.cells }
+{
+    for workers in 1..9 {
+        for _ in 0..4 {
+            leave_the_same(rt, alloc, &NoGate {}, made, workers);
+        }
+    }
+}
+
+const LINE: [(u32, u32); 4] = [(0, 1), (1, 2), (2, 3), (3, 4)];
+
 const DIAMOND: [(u32, u32); 4] = [(0, 1), (0, 2), (1, 3), (2, 3)];
 
 const NESTED: [(u32, u32); 12] = [
@@ -93,27 +125,39 @@ const NESTED: [(u32, u32); 12] = [
     (0, 7),
 ];
 
+// From the first vertex to eight, and from these to the last.
+const FAN: [(u32, u32); 16] = [
+    (0, 1),
+    (0, 2),
+    (0, 3),
+    (0, 4),
+    (0, 5),
+    (0, 6),
+    (0, 7),
+    (0, 8),
+    (1, 9),
+    (2, 9),
+    (3, 9),
+    (4, 9),
+    (5, 9),
+    (6, 9),
+    (7, 9),
+    (8, 9),
+];
+
+const DIGRAPHS: [(u32, &[(u32, u32)]); 3] = [(5, &LINE), (8, &NESTED), (10, &FAN)];
+
 #[test]
-fn workers_leave_what_the_iteration_leaves(rt: HostRuntime) -> Result<(), Fail> {
-    let made = prepared(&rt, rt.alloc(), 8, &NESTED)?;
-    for workers in [1, 2, 4, 8, 2, 4] {
-        let cells = left(
-            &rt,
-            rt.alloc(),
-            &NoGate {},
-            &made.system,
-            &made.plan,
-            workers,
-            1000,
-        );
-        let cells = cells.ok().ok_or("no result")?;
-        assert!(rt; same(&cells, &made.cells, made.plan.elements()));
+fn workers_leave_what_the_iteration_leaves(rt: HostRuntime) -> Result<(), AllocError> {
+    for (vertices, edges) in &DIGRAPHS {
+        let made = prepared(&rt, rt.alloc(), *vertices, edges)?;
+        each_leaves_the_same(&rt, rt.alloc(), &made);
     }
     Ok(())
 }
 
 #[test]
-fn a_run_beyond_the_limit_is_told(rt: HostRuntime) -> Result<(), Fail> {
+fn a_run_beyond_the_limit_is_told(rt: HostRuntime) -> Result<(), AllocError> {
     let made = prepared(&rt, rt.alloc(), 8, &NESTED)?;
     for workers in [1, 2, 4] {
         let cells = left(
@@ -131,7 +175,7 @@ fn a_run_beyond_the_limit_is_told(rt: HostRuntime) -> Result<(), Fail> {
 }
 
 #[test]
-fn two_elements_run_at_once(rt: HostRuntime) -> Result<(), Fail> {
+fn two_elements_run_at_once(rt: HostRuntime) -> Result<(), AllocError> {
     let made = prepared(&rt, rt.alloc(), 4, &DIAMOND)?;
     let both = Both {
         one: 1,
@@ -139,8 +183,6 @@ fn two_elements_run_at_once(rt: HostRuntime) -> Result<(), Fail> {
         one_begun: AtomicBool::new(false),
         other_begun: AtomicBool::new(false),
     };
-    let cells = left(&rt, rt.alloc(), &both, &made.system, &made.plan, 2, 1000);
-    let cells = cells.ok().ok_or("no result")?;
-    assert!(rt; same(&cells, &made.cells, made.plan.elements()));
+    leave_the_same(&rt, rt.alloc(), &both, &made, 2);
     Ok(())
 }

@@ -3,32 +3,71 @@
 #![tactic(auto)]
 
 use pk_io::{MemSink, MemSource};
-use pk_top::{NoGate, pikos};
-use std::alloc::Global;
+use pk_top::{NoGate, Status, pikos};
+use std::alloc::{AllocError, Global};
 use std::io;
 use std::io::Read;
 use std::sync::Wait;
 use std::test::Fail;
 use std::thread::Threads;
 
-fn answer<R: Threads + Wait + Sync + Print>(
-    rt: &R,
-    alloc: Global,
-    words: &str,
-    text: &str,
-) -> Result<(), Fail> {
+// The words, which are parted by blanks.
+fn list_of(alloc: Global, words: &str) -> Result<Vec<String>, AllocError> {
     let mut list = Vec::new(alloc);
     for word in words.split(' ') {
         if !word.is_empty() {
             list.push(String::from_str(alloc, word)?)?;
         }
     }
-    let mut src = MemSource::new(text.as_bytes().to_vec(alloc)?, 4096, Vec::new(alloc));
+    Ok(list)
+}
+
+fn source(alloc: Global, text: &str) -> Result<MemSource, AllocError> {
+    Ok(MemSource::new(text.as_bytes().to_vec(alloc)?, 4096, Vec::new(alloc)))
+}
+
+// The call alone: its clauses are dear to a function that does more.
+fn run<R: Threads + Wait + Sync>(
+    rt: &R,
+    alloc: Global,
+    words: &[String],
+    src: &mut MemSource,
+    out: &mut MemSink,
+) -> Status {
+    pikos(rt, alloc, words, src, out, &NoGate {})
+}
+
+// The status, and the sink with what was written.
+fn answer<R: Threads + Wait + Sync>(
+    rt: &R,
+    alloc: Global,
+    words: &str,
+    text: &str,
+) -> Result<(Status, MemSink), AllocError> {
+    let words = list_of(alloc, words)?;
+    let mut src = source(alloc, text)?;
     let mut out = MemSink::new(alloc, 4096, Vec::new(alloc));
-    let status = pikos(rt, alloc, &list, &mut src, &mut out, &NoGate {});
-    let bytes = String::from_utf8(out.bytes().to_vec(alloc)?).map_err(|_| "not a text")?;
-    print!(rt; "==== {words}\n{bytes}---- {} {status}\n", status.code())?;
-    Ok(())
+    let status = run(rt, alloc, &words, &mut src, &mut out);
+    Ok((status, out))
+}
+
+fn text_of(alloc: Global, out: &MemSink) -> Result<String, Fail> {
+    Ok(String::from_utf8(out.bytes().to_vec(alloc)?).map_err(|_| "not a text")?)
+}
+
+fn tell<R: Print>(rt: &R, words: &str, text: &str, status: &Status) -> io::Result<()> {
+    print!(rt; "==== {words}\n{text}---- {} {status}\n", status.code())
+}
+
+fn tell_answer<R: Threads + Wait + Sync + Print>(
+    rt: &R,
+    alloc: Global,
+    words: &str,
+    text: &str,
+) -> Result<(), Fail> {
+    let (status, out) = answer(rt, alloc, words, text)?;
+    let told = text_of(alloc, &out)?;
+    Ok(tell(rt, words, told.as_str(), &status)?)
 }
 
 fn main(rt: HostRuntime) -> Result<(), Fail> {
@@ -38,7 +77,7 @@ fn main(rt: HostRuntime) -> Result<(), Fail> {
     let text = String::from_utf8(bytes).map_err(|_| "not a text")?;
     for case in text.split("\n==== ") {
         if let Some((words, text)) = case.split_once('\n') {
-            answer(&rt, alloc, words, text)?;
+            tell_answer(&rt, alloc, words, text)?;
         }
     }
     Ok(())
