@@ -1,15 +1,116 @@
 // Tests over memory devices: words that aren't taken, devices that fail, the longest text and large ones.
 
-ghost use Rattle.std.specs.Prelude.{◌<◌};
-
 use pk_io::{MemSink, MemSource};
-use pk_top::{Gate, NoGate, pikos};
+use pk_top::{Gate, NoGate, Status, pikos};
 use pk_words::Hold;
-use std::alloc::Global;
+use std::alloc::{AllocError, Global};
 use std::sync::Wait;
 use std::sync::atomic::{AtomicU64, Ordering};
 use std::test::Fail;
 use std::thread::Threads;
+
+// The words, which are parted by blanks.
+fn list_of(alloc: Global, words: &str) -> Result<Vec<String>, AllocError> {
+    let mut list = Vec::new(alloc);
+    for word in words.split(' ') {
+        list.push(String::from_str(alloc, word)?)?;
+    }
+    Ok(list)
+}
+
+// A source that gives pieces and fails at one call.
+fn source(alloc: Global, text: &[u8], fails: u64) -> Result<MemSource, AllocError> {
+    Ok(MemSource::new(text.to_vec(alloc)?, 30, Vec::from_slice(alloc, &[fails])?))
+}
+
+// A sink that takes pieces and fails at one call.
+fn sink(alloc: Global, fails: u64) -> Result<MemSink, AllocError> {
+    Ok(MemSink::new(alloc, 30, Vec::from_slice(alloc, &[fails])?))
+}
+
+// The call alone: its clauses are dear to a function that does more.
+fn run<R: Threads + Wait + Sync, G: Gate + Sync>(
+    rt: &R,
+    alloc: Global,
+    gate: &G,
+    words: &[String],
+    src: &mut MemSource,
+    out: &mut MemSink,
+) -> Status {
+    pikos(rt, alloc, words, src, out, gate)
+}
+
+// The code, the sink with what was written, and the line on standard error.
+#[derive(Drop)]
+struct Answer {
+    code: u8,
+    out: MemSink,
+    line: String,
+}
+
+impl Answer {
+    // Whether so many bytes of a text were written.
+    fn is(&self, code: u8, text: &str, sent: usize, line: &str) -> bool {
+        self.code == code
+            && self.out.bytes().len() == sent
+            && text.as_bytes().starts_with(self.out.bytes())
+            && self.line.as_str() == line
+    }
+}
+
+// The status, and the sink with what was written.
+fn outcome<R: Threads + Wait + Sync, G: Gate + Sync>(
+    rt: &R,
+    alloc: Global,
+    gate: &G,
+    words: &[String],
+    text: &[u8],
+    read: u64,
+    write: u64,
+) -> Result<(Status, MemSink), AllocError> {
+    let mut src = source(alloc, text, read)?;
+    let mut out = sink(alloc, write)?;
+    let status = run(rt, alloc, gate, words, &mut src, &mut out);
+    Ok((status, out))
+}
+
+fn called<R: Threads + Wait + Sync, G: Gate + Sync>(
+    rt: &R,
+    alloc: Global,
+    gate: &G,
+    words: &str,
+    text: &[u8],
+    read: u64,
+    write: u64,
+) -> Result<Answer, AllocError> {
+    let words = list_of(alloc, words)?;
+    let (status, out) = outcome(rt, alloc, gate, &words, text, read, write)?;
+    Ok(Answer {
+        code: status.code(),
+        out,
+        line: format!(in alloc; "{status}")?,
+    })
+}
+
+// At a source and a sink of which a call fails.
+fn with_faults<R: Threads + Wait + Sync>(
+    rt: &R,
+    alloc: Global,
+    words: &str,
+    read: u64,
+    write: u64,
+) -> Result<Answer, AllocError> {
+    called(rt, alloc, &NoGate {}, words, WORKED.as_bytes(), read, write)
+}
+
+// Without a fault.
+fn analysed<R: Threads + Wait + Sync>(
+    rt: &R,
+    alloc: Global,
+    text: &[u8],
+) -> Result<Answer, AllocError> {
+    called(rt, alloc, &NoGate {}, "run", text, NEVER, NEVER)
+}
 
 const NEVER: u64 = 1000000000;
 
@@ -18,195 +119,150 @@ const WORKED: &str = "int main(void){int i=0;while(i<10)i=i+1;return i;}";
 const REPORT: &str =
     "pikos 1 entry main points 8 elements 10\nhead 2 main 1:24\n  i [0,10] 1Z+0\naccess main 1:38 overflow safe\nresult safe 1 unknown 0 unreachable 0\n";
 
-// The code, the bytes that were written and the line on standard error, for a source and a sink that give and take pieces and fail at one call.
-fn outcome<R: Threads + Wait + Sync>(
-    rt: &R,
-    alloc: Global,
-    words: &str,
-    text: &[u8],
-    piece: usize,
-    read: u64,
-    write: u64,
-) -> Result<(u8, String, String), Fail>
-    requires { 0 < piece }
-{
-    let mut list = Vec::new(alloc);
-    for word in words.split(' ') {
-        list.push(String::from_str(alloc, word)?)?;
-    }
-    let mut src = MemSource::new(text.to_vec(alloc)?, piece, [read].to_vec(alloc)?);
-    let mut out = MemSink::new(alloc, piece, [write].to_vec(alloc)?);
-    let status = pikos(rt, alloc, &list, &mut src, &mut out, &NoGate {});
-    let line = format!(in alloc; "{status}")?;
-    let bytes = String::from_utf8(out.bytes().to_vec(alloc)?).map_err(|_| "not a text")?;
-    Ok((status.code(), bytes, line))
-}
-
-// Whether the words, parted by blanks, are refused as usage. The source would fail at its first read: it isn't asked.
-fn is_usage<R: Threads + Wait + Sync>(rt: &R, alloc: Global, words: &str) -> Result<bool, Fail> {
-    let (code, bytes, line) = outcome(rt, alloc, words, b"", 1, 0, 0)?;
-    Ok(code == 2 && bytes.is_empty() && line.as_str() == "pikos: usage")
-}
+// The source would fail at its first read: it isn't asked.
+const OTHER_WORDS: [&str; 13] = [
+    "",
+    "order --points",
+    "run run",
+    "run --workers 0",
+    "run --workers 65",
+    "run --narrow 9",
+    "run --oct 65",
+    "run --max-runs 0",
+    "gen --seed 1",
+    "gen --size 1",
+    "gen --seed 2147483648 --size 1",
+    "gen --seed 1 --size 0",
+    "gen --seed 1 --size 1001",
+];
 
 #[test]
-fn other_words_are_usage(rt: HostRuntime) -> Result<(), Fail> {
-    for words in [
-        "",
-        "order --points",
-        "run run",
-        "run --workers 0",
-        "run --workers 65",
-        "run --narrow 9",
-        "run --oct 65",
-        "run --max-runs 0",
-        "gen --seed 1",
-        "gen --size 1",
-        "gen --seed 2147483648 --size 1",
-        "gen --seed 1 --size 0",
-        "gen --seed 1 --size 1001",
-    ] {
-        assert!(rt; is_usage(&rt, rt.alloc(), words)?, "{words}");
+fn other_words_are_usage(rt: HostRuntime) -> Result<(), AllocError> {
+    for words in &OTHER_WORDS {
+        assert!(rt;
+            with_faults(&rt, rt.alloc(), words, 0, 0)?.is(2, "", 0, "pikos: usage"),
+            "{words}"
+        );
     }
     Ok(())
 }
 
-// Each read of three is the one that fails, then each write.
+// Each read of three fails.
 #[test]
-fn faults_are_told(rt: HostRuntime) -> Result<(), Fail> {
-    let alloc = rt.alloc();
+fn read_faults_are_told(rt: HostRuntime) -> Result<(), AllocError> {
     for read in 0..3 {
-        let (code, bytes, line) = outcome(&rt, alloc, "run", WORKED.as_bytes(), 30, read, NEVER)?;
         assert!(rt;
-            code == 5 && bytes.is_empty() && line.as_str() == "pikos: read fault",
+            with_faults(&rt, rt.alloc(), "run", read, NEVER)?.is(5, "", 0, "pikos: read fault"),
             "{read}"
         );
     }
-    let (code, bytes, _) = outcome(&rt, alloc, "run", WORKED.as_bytes(), 30, 3, NEVER)?;
-    assert!(rt; code == 0 && bytes.as_str() == REPORT);
-    for write in 0..5u64 {
-        let (code, bytes, line) = outcome(&rt, alloc, "run", WORKED.as_bytes(), 30, NEVER, write)?;
-        let sent = 30 * write;
-        assert!(rt; code == 6 && bytes.len() as u64 == sent, "{write}: {bytes}");
-        assert!(rt; REPORT.starts_with(bytes.as_str()), "{write}: {bytes}");
-        let told = format!(in alloc; "pikos: write fault after {sent} bytes")?;
-        assert!(rt; line.as_str() == told.as_str(), "{write}: {line}");
+    assert!(rt; with_faults(&rt, rt.alloc(), "run", 3, NEVER)?.is(0, REPORT, REPORT.len(), ""));
+    Ok(())
+}
+
+// The write that fails, how many bytes were written before it, and the line.
+const WRITES: [(u64, usize, &str); 5] = [
+    (0, 0, "pikos: write fault after 0 bytes"),
+    (1, 30, "pikos: write fault after 30 bytes"),
+    (2, 60, "pikos: write fault after 60 bytes"),
+    (3, 90, "pikos: write fault after 90 bytes"),
+    (4, 120, "pikos: write fault after 120 bytes"),
+];
+
+#[test]
+fn write_faults_are_told(rt: HostRuntime) -> Result<(), AllocError> {
+    for (write, sent, line) in &WRITES {
+        assert!(rt;
+            with_faults(&rt, rt.alloc(), "run", NEVER, *write)?.is(6, REPORT, *sent, line),
+            "{write}"
+        );
     }
     Ok(())
 }
+
+const MADE: &str =
+    "gen seed 1 size 1 bytes 131\npikos 1 entry main points 16 elements 18\nresult safe 3 unknown 0 unreachable 0\n";
 
 // A program that asks for a made text never reads.
 #[test]
-fn gen_reads_nothing(rt: HostRuntime) -> Result<(), Fail> {
-    let (code, bytes, _) = outcome(&rt, rt.alloc(), "gen --seed 1 --size 1", b"", 100, 0, NEVER)?;
-    assert!(rt; code == 0, "{code}");
-    assert!(rt;
-        bytes.as_str()
-            == "gen seed 1 size 1 bytes 131\npikos 1 entry main points 16 elements 18\nresult safe 3 unknown 0 unreachable 0\n",
-        "{bytes}"
-    );
+fn gen_reads_nothing(rt: HostRuntime) -> Result<(), AllocError> {
+    let made = with_faults(&rt, rt.alloc(), "gen --seed 1 --size 1", 0, NEVER)?;
+    assert!(rt; made.is(0, MADE, MADE.len(), ""));
     Ok(())
+}
+
+const EMPTY: &str =
+    "pikos 1 entry main points 3 elements 4\nresult safe 0 unknown 0 unreachable 0\n";
+
+// A program of so many bytes.
+fn with_blanks(alloc: Global, length: usize) -> Result<Vec<u8>, AllocError> {
+    let mut text = b"int main(void){}".to_vec(alloc)?;
+    text.resize(length, b' ')?;
+    Ok(text)
 }
 
 #[test]
-fn a_text_may_have_so_many_bytes(rt: HostRuntime) -> Result<(), Fail> {
-    let alloc = rt.alloc();
-    let mut text = b"int main(void){}".to_vec(alloc)?;
-    text.resize(4194304, b' ')?;
-    let (code, bytes, _) = outcome(&rt, alloc, "run", &text, 4096, NEVER, NEVER)?;
-    assert!(rt;
-        code == 0
-            && bytes.as_str()
-                == "pikos 1 entry main points 3 elements 4\nresult safe 0 unknown 0 unreachable 0\n"
-    );
-    text.push(b' ')?;
-    let (code, bytes, line) = outcome(&rt, alloc, "run", &text, 4096, NEVER, NEVER)?;
-    assert!(rt; code == 4 && bytes.is_empty() && line.as_str() == "pikos: limit text 4194304");
+fn a_text_may_have_so_many_bytes(rt: HostRuntime) -> Result<(), AllocError> {
+    let longest = with_blanks(rt.alloc(), 4194304)?;
+    assert!(rt; analysed(&rt, rt.alloc(), &longest)?.is(0, EMPTY, EMPTY.len(), ""));
+    let longer = with_blanks(rt.alloc(), 4194305)?;
+    assert!(rt; analysed(&rt, rt.alloc(), &longer)?.is(4, "", 0, "pikos: limit text 4194304"));
     Ok(())
 }
 
-// The first line of the report on a function of so many statements.
-fn first_line<R: Threads + Wait + Sync>(
-    rt: &R,
-    alloc: Global,
-    statements: usize,
-) -> Result<(u8, String, String), Fail> {
+// A function of so many statements.
+fn statements(alloc: Global, count: usize) -> Result<Vec<u8>, AllocError> {
     let mut text = b"int i;int main(void){".to_vec(alloc)?;
-    for _ in 0..statements {
+    for _ in 0..count {
         text.extend_from_slice(b"i=0;")?;
     }
     text.push(b'}')?;
-    outcome(rt, alloc, "run", &text, 4096, NEVER, NEVER)
+    Ok(text)
 }
 
+const MANY_POINTS: &str =
+    "pikos 1 entry main points 65536 elements 65537\nresult safe 0 unknown 0 unreachable 0\n";
+
 #[test]
-fn a_graph_may_have_so_many_points(rt: HostRuntime) -> Result<(), Fail> {
-    let (code, bytes, _) = first_line(&rt, rt.alloc(), 65533)?;
-    assert!(rt;
-        code == 0 && bytes.starts_with("pikos 1 entry main points 65536 elements 65537\n"),
-        "{code}"
-    );
-    let (code, bytes, line) = first_line(&rt, rt.alloc(), 65534)?;
-    assert!(rt;
-        code == 4 && bytes.is_empty() && line.as_str() == "pikos: limit points 65536",
-        "{line}"
-    );
+fn a_graph_may_have_so_many_points(rt: HostRuntime) -> Result<(), AllocError> {
+    let largest = statements(rt.alloc(), 65533)?;
+    assert!(rt; analysed(&rt, rt.alloc(), &largest)?.is(0, MANY_POINTS, MANY_POINTS.len(), ""));
+    let larger = statements(rt.alloc(), 65534)?;
+    assert!(rt; analysed(&rt, rt.alloc(), &larger)?.is(4, "", 0, "pikos: limit points 65536"));
     Ok(())
 }
 
 // So many objects of the file, and a function that reads the last of them.
-fn objects(alloc: Global, count: usize) -> Result<Vec<u8>, Fail> {
-    let mut text = b"int g;".to_vec(alloc)?;
+fn objects(alloc: Global, count: usize) -> Result<String, Fail> {
+    let mut text = String::from_str(alloc, "int g;")?;
     for number in 1..count {
-        let declared = format!(in alloc; "int g{number};")?;
-        text.extend_from_slice(declared.as_bytes())?;
+        write!(text, "int g{number};")?;
     }
-    text.extend_from_slice(b"int main(void){g=g19999;return 0;}")?;
+    text.push_str("int main(void){g=g19999;return 0;}")?;
     Ok(text)
 }
 
+const OBJECTS: &str =
+    "pikos 1 entry main points 4 elements 5\nresult safe 0 unknown 0 unreachable 0\n";
+
 #[test]
 fn a_text_may_declare_so_many_objects(rt: HostRuntime) -> Result<(), Fail> {
-    let alloc = rt.alloc();
-    let text = objects(alloc, 20000)?;
-    let (code, bytes, _) = outcome(&rt, alloc, "run", &text, 4096, NEVER, NEVER)?;
-    assert!(rt;
-        code == 0
-            && bytes.as_str()
-                == "pikos 1 entry main points 4 elements 5\nresult safe 0 unknown 0 unreachable 0\n",
-        "{code}"
-    );
+    let text = objects(rt.alloc(), 20000)?;
+    assert!(rt; analysed(&rt, rt.alloc(), text.as_bytes())?.is(0, OBJECTS, OBJECTS.len(), ""));
     Ok(())
 }
 
 // Twelve functions, each of which but the first calls the one before it twice.
-fn chain(alloc: Global) -> Result<Vec<u8>, Fail> {
-    let mut text = b"int f0(int x){return x;}".to_vec(alloc)?;
-    for last in 0..11 {
-        let number = last + 1;
-        let head = format!(in alloc; "int f{number}(int x)")?;
-        let call = format!(in alloc; "f{last}(x)")?;
-        text.extend_from_slice(head.as_bytes())?;
-        text.extend_from_slice(b"{return ")?;
-        text.extend_from_slice(call.as_bytes())?;
-        text.push(b'+')?;
-        text.extend_from_slice(call.as_bytes())?;
-        text.extend_from_slice(b";}")?;
-    }
-    text.extend_from_slice(b"int main(void){return f11(1);}")?;
-    Ok(text)
-}
+const CHAIN: &str =
+    "int f0(int x){return x;}int f1(int x){return f0(x)+f0(x);}int f2(int x){return f1(x)+f1(x);}int f3(int x){return f2(x)+f2(x);}int f4(int x){return f3(x)+f3(x);}int f5(int x){return f4(x)+f4(x);}int f6(int x){return f5(x)+f5(x);}int f7(int x){return f6(x)+f6(x);}int f8(int x){return f7(x)+f7(x);}int f9(int x){return f8(x)+f8(x);}int f10(int x){return f9(x)+f9(x);}int f11(int x){return f10(x)+f10(x);}int main(void){return f11(1);}";
 
 #[test]
-fn a_program_may_have_so_many_call_paths(rt: HostRuntime) -> Result<(), Fail> {
-    let alloc = rt.alloc();
-    let text = chain(alloc)?;
-    let (code, bytes, _) = outcome(&rt, alloc, "run", &text, 4096, NEVER, NEVER)?;
-    assert!(rt;
-        code == 0
-            && bytes.starts_with("pikos 1 entry main points 14335 elements 14336\n")
-            && bytes.ends_with("result safe 2047 unknown 0 unreachable 0\n"),
-        "{code}"
-    );
+fn a_program_may_have_so_many_call_paths(rt: HostRuntime) -> Result<(), AllocError> {
+    let answer = analysed(&rt, rt.alloc(), CHAIN.as_bytes())?;
+    assert!(rt; answer.code == 0);
+    let bytes = answer.out.bytes();
+    assert!(rt; bytes.starts_with(b"pikos 1 entry main points 14335 elements 14336\n"));
+    assert!(rt; bytes.ends_with(b"result safe 2047 unknown 0 unreachable 0\n"));
     Ok(())
 }
 
@@ -236,25 +292,28 @@ impl Gate for Meeting {
 }
 
 // Both branches of a choice have a loop, whose heads are elements 5 and 13: neither waits for the other, so two workers run them at once.
+const CHOICE: &str =
+    "extern int __VERIFIER_nondet_int(void);int main(void){int i=0;int j=0;if(__VERIFIER_nondet_int())while(i<5)i=i+1;else while(j<7)j=j+1;return 0;}";
+
 #[test]
-fn two_workers_run_at_once(rt: HostRuntime) -> Result<(), Fail> {
-    let alloc = rt.alloc();
-    let text =
-        b"extern int __VERIFIER_nondet_int(void);int main(void){int i=0;int j=0;if(__VERIFIER_nondet_int())while(i<5)i=i+1;else while(j<7)j=j+1;return 0;}";
+fn two_workers_run_at_once(rt: HostRuntime) -> Result<(), AllocError> {
     let meeting = Meeting {
         one: 5,
         other: 13,
         begun: AtomicU64::new(0),
         alone: AtomicU64::new(0),
     };
-    let mut src = MemSource::new(text.to_vec(alloc)?, 4096, Vec::new(alloc));
-    let mut out = MemSink::new(alloc, 4096, Vec::new(alloc));
-    let words = vec![in alloc;
-        String::from_str(alloc, "run")?,
-        String::from_str(alloc, "--workers=2")?,
-    ]?;
-    let status = pikos(&rt, alloc, &words, &mut src, &mut out, &meeting);
-    assert!(rt; status.code() == 0);
+    let words = "run --workers=2";
+    let answer = called(
+        &rt,
+        rt.alloc(),
+        &meeting,
+        words,
+        CHOICE.as_bytes(),
+        NEVER,
+        NEVER,
+    )?;
+    assert!(rt; answer.code == 0);
     assert!(rt; meeting.begun.load(Ordering::SeqCst) == 2);
     assert!(rt; meeting.alone.load(Ordering::SeqCst) == 0);
     Ok(())
