@@ -1,8 +1,6 @@
 //! Prints each line of standard input, and behind one that has an entry and a text the graph of the text. Other lines are empty or say with `//` what a text shows.
 #![tactic(auto)]
 
-#[cfg(test)]
-mod counts;
 mod printed;
 mod ways;
 

@@ -3,8 +3,8 @@ use Rattle.pk_graph.specs.declared.graphs.Edge.{Edge}
 use Rattle.pk_graph.specs.Shown.{graph_view}
 use Rattle.pk_graph.specs.Views.{instr_view}
 use Rattle.pk_transfer.specs.Transfers.{IsInstrOver}
-use Rattle.pk_transfer_tests.proofs.OneEdge.{over_first}
-use Rattle.pk_transfer_tests.proofs.lines.passed.Goals as goal
+use Rattle.pk_graph_tests.proofs.OneEdge.{over_first}
+use Rattle.pk_graph_tests.proofs.lines.passed.Goals as goal
 
 pub transfer-requires : goal.transfer-requires
 transfer-requires c =

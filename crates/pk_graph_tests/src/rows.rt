@@ -5,10 +5,8 @@ ghost use Rattle.std.specs.Prelude.{◌<◌};
 
 use crate::lines::{along, frame};
 use crate::printing::print;
-use pk_front::front;
+use crate::ways::graph_of;
 use pk_graph::Graph;
-use pk_lower::{draft, graph_paths};
-use pk_number::number_if_typed;
 use std::alloc::Global;
 use std::process::Abort;
 use std::sync::Arc;
@@ -282,16 +280,6 @@ fn text_of(alloc: Global, body: &str) -> Result<String, Fail> {
     Ok(text)
 }
 
-fn graph_of(alloc: Global, text: &str) -> Result<Graph, Fail> {
-    let (unit, paths) = front(alloc, text.as_bytes(), "main").map_err(|_| "no unit")?;
-    let parts = draft(alloc, &unit, &paths).map_err(|_| "no draft")?;
-    let list = graph_paths(alloc, &unit, &paths)?;
-    match number_if_typed(alloc, list, parts)? {
-        Some(graph) => Ok(graph),
-        None => Err("not typed".into()),
-    }
-}
-
 fn known_after(alloc: Global, graph: &Graph, oct: usize) -> Result<String, Fail>
     requires { oct < 100 }
 {
@@ -304,7 +292,7 @@ fn row_holds(rt: &impl Abort, alloc: Global, row: &str) -> Result<(), Fail> {
     let (oct, rest) = row.split_once(": ").ok_or("no number")?;
     let (body, expected) = rest.split_once(" -> ").ok_or("no values")?;
     let text = text_of(alloc, body)?;
-    let graph = graph_of(alloc, text.as_str())?;
+    let graph = graph_of(alloc, text.as_str(), "main")?.ok_or("limit")?;
     let found = known_after(alloc, &graph, if oct == "0" { 0 } else { 8 })?;
     assert!(rt; found.as_str() == expected, "{body} -> {found}");
     Ok(())
