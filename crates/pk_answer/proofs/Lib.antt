@@ -4,3 +4,4 @@ mod Told
 pub mod Sorting
 mod Determined
 mod Telling
+pub mod Reporting

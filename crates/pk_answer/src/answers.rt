@@ -8,8 +8,8 @@ ghost use Rattle.pk_order.specs.Ordered.{IsOrdered, heads_of};
 ghost use Rattle.pk_analysis.specs.Digraphs.{digraph_of};
 ghost use Rattle.pk_transfer.specs.Trees.{kinds_of};
 ghost use Rattle.pk_verdict.specs.Verdicts.{IsTypedOperation};
-ghost use Rattle.pk_report.specs.Reports.{state_at};
-ghost use Rattle.pk_answer.specs.Reported.{AreStates, IsReport, IsSummary, IsOrderText, IsCause, verdict_at, verdicts_of};
+ghost use Rattle.pk_report.specs.Reports.{state_at, report_text, summary_text, unknown_in};
+ghost use Rattle.pk_answer.specs.Reported.{AreStates, IsOrderText, IsCause, verdict_at, verdicts_of};
 ghost use Rattle.pk_answer.specs.Made.{AreOver};
 
 use pk_analysis::{Analysis, Options, digraph, reduced};
@@ -122,7 +122,9 @@ pub fn report_of(
     all: bool,
 ) -> Result<(Vec<u8>, usize), AllocError>
     requires over { AreOver (graph_view graph.now) options states.now }
-    ensures { IfOk result (λ r. (most : ℕ) → AreStates (graph_view graph.now) options most plan.now states.now → IsReport (graph_view graph.now) options most all r.1 r.0.items) }
+    ensures bytes { IfOk result (λ r. r.0.items
+        ≡ report_text all (graph_view graph.now) (heads_of plan.now) plan.now.elements states.now (accesses_of (graph_view graph.now)) (verdicts_of (graph_view graph.now) states.now)) }
+    ensures unknown { IfOk result (λ r. r.1 ≡ unknown_in (verdicts_of (graph_view graph.now) states.now)) }
 {
     let accesses = accesses(alloc, graph)?;
     let verdicts = verdicts(alloc, graph, options, states, &accesses)?;
@@ -152,7 +154,9 @@ pub fn summary_of(
     text_length: usize,
 ) -> Result<(Vec<u8>, usize), AllocError>
     requires over { AreOver (graph_view graph.now) options states.now }
-    ensures { IfOk result (λ r. (most : ℕ) → AreStates (graph_view graph.now) options most plan.now states.now → IsSummary (graph_view graph.now) options most seed size text_length r.1 r.0.items) }
+    ensures bytes { IfOk result (λ r. r.0.items
+        ≡ summary_text seed size text_length (graph_view graph.now) plan.now.elements (verdicts_of (graph_view graph.now) states.now)) }
+    ensures unknown { IfOk result (λ r. r.1 ≡ unknown_in (verdicts_of (graph_view graph.now) states.now)) }
 {
     let accesses = accesses(alloc, graph)?;
     let verdicts = verdicts(alloc, graph, options, states, &accesses)?;

@@ -3,7 +3,6 @@
 ghost use Rattle.std.specs.Prelude.{◌≡◌, ◌+◌, ◌<◌, ◌≤◌, ◌^◌, IfOk, IfErr, length};
 ghost use Rattle.pk_graph.specs.Shown.{graph_view};
 ghost use Rattle.pk_order.specs.Ordered.{IsOrdered, heads_of};
-ghost use Rattle.pk_plan.specs.Order.{Level};
 ghost use Rattle.pk_analysis.specs.Digraphs.{digraph_of};
 ghost use Rattle.pk_answer.specs.Reported.{AreStates, IsCause, IsReport, IsSummary};
 ghost use Rattle.pk_answer.specs.Made.{AreOver};
