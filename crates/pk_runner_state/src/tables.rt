@@ -237,7 +237,9 @@ impl Table {
         ensures { Agrees (reading_of self.now.rows.items) self.now.rows.items }
     {}
 
-    pub fn new(alloc: Global, program: &Program<'_>) -> Result<Table, AllocError> {
+    pub fn new(alloc: Global, program: &Program<'_>) -> Result<Table, AllocError>
+        ensures { IfOk result (λ t. t.rows.items ≡ []) }
+    {
         Ok(Table {
             rows: Vec::new(alloc),
             lasts: no_rows(alloc, program)?,
