@@ -32,7 +32,7 @@ use Rattle.pk_typing.specs.Laws.{IsTreeOf}
 use Rattle.pk_typing.specs.Rules.{void, failures, used_failures, count}
 use Rattle.pk_typing.specs.Typed.{EvaluatedTree, value, effect, value_of, of_both, typed, calls}
 use Rattle.pk_typing.specs.Types.{type_of}
-use Rattle.pk_typing.proofs.TreeLemmas.{accepted_expressions_have_trees}
+use Rattle.pk_typing.proofs.TreeLemmas.{accepted_expressions_have_trees, none_before, none_after}
 use Rattle.pk_constant.specs.declared.constants.Constant.{Constant}
 use Rattle.pk_constant.specs.declared.constants.Constant.TheVariants.{Number, Faulty, NotConstant}
 use Rattle.pk_constant.specs.Forms.{is_constant_form}
@@ -42,10 +42,9 @@ use Rattle.pk_declare.specs.Declarations.{integer_in, type_or_int, object_at, at
 use Rattle.pk_declare.specs.Walks.{here, failing, after_value, after_values, value_at, values_at}
 use Rattle.pk_welltyped.specs.Listed.{numbered, calls_in, calls_in_values, calls_in_declared, calls_in_all_declared}
 use Rattle.pk_welltyped.specs.WellTyped as good
-use Rattle.pk_welltyped.specs.WellTyped.{Around, Kind, IsObject, IsValue, AreValues, kind_among, HasRoom, IsDeclared, AreDeclared, behind, IsValueIf, AreValuesIf}
+use Rattle.pk_welltyped.specs.WellTyped.{Around, Kind, IsObject, AreValues, kind_among, IsDeclared, AreDeclared, IsValueIf, AreValuesIf}
 use Rattle.pk_accepted.specs.Constants.{HasConstantsIf, InitializerHas, DeclaratorsHave, DeclarationHas}
 use Rattle.pk_accepted.specs.Names.{ObjectIs, CalleeIs, DeclarationIs, NamesAre}
-use Rattle.pk_accepted.proofs.Expressions.{none_before, none_after}
 use Rattle.pk_accepted.proofs.Forms.{no_calls, Gives, Numeric, numeric}
 use Rattle.pk_accepted.proofs.Walks.{W, around, none_found, Later, later_same, later, later_failing, later_value, later_values, Steps, steps_none, steps, steps_as, ValuePart, ValuesPart, value_part, values_part}
 
@@ -111,7 +110,7 @@ unfolding names_in
 names_declaring a s x o h k y =
     let q = spelled s.text y in picked a (bytes_eq (spelled s.text x) q) o (s.inner q) (found_up s.outer q None) k (h y)
 
-found_last : (ls : List Layer) (l : Layer) (q : List ℕ) (f : Option Declaration) → found_up (ls ++ l ∷ []) q f ≡ first_of (l q) (found_up ls q f)
+pub found_last : (ls : List Layer) (l : Layer) (q : List ℕ) (f : Option Declaration) → found_up (ls ++ l ∷ []) q f ≡ first_of (l q) (found_up ls q f)
 found_last [] l q f = refl
 found_last (m ∷ ls) l q f = found_last ls l q (first_of (m q) f)
 
@@ -201,7 +200,7 @@ value_gives (Integer t) (Some (value v)) h p n = n
 value_gives (Integer t) (Some (effect e)) h p n = absurd h
 value_gives Unknown (Some e) h p n = absurd h
 
-is_used : (d : Names) (e : ExpressionTree) → void d e ≡ [] → is_void (type_of d e) ≡ false
+pub is_used : (d : Names) (e : ExpressionTree) → void d e ≡ [] → is_void (type_of d e) ≡ false
 unfolding void
 is_used d e h = holds_not _ _ _ h
 

@@ -1,15 +1,13 @@
 -- The typed tree of an expression in which no rule fails is well typed, and its calls are those that are noted of it.
-use Rattle.std.proofs.Common.{◌≡◌, ℕ, ◌+◌, Bool, true, false, not, List, [], ◌∷◌, ◌++◌, Option, Some, None, length, refl, ap, sym, ◌∙◌, arith, nat_eq, length-append}
+use Rattle.std.proofs.Common.{◌≡◌, ℕ, ◌+◌, Bool, true, false, not, List, [], ◌∷◌, ◌++◌, Option, Some, None, length, refl, ap, sym, ◌∙◌, arith, length-append}
 use Rattle.std.specs.Prelude.{ℤ, pos, if◌then◌else◌, is_some, slice_get}
 use Rattle.std.proofs.Math.Nat.{add-zero, add_assoc}
-use Rattle.std.proofs.lemmas.Bool.Decides.{nat_tests}
 use Rattle.std.specs.Option.{option_map}
 use Rattle.pk_ctypes.specs.declared.places.Pos.{Pos}
 use Rattle.pk_ctypes.specs.declared.types.IntType.{IntType}
 use Rattle.pk_ctypes.specs.declared.types.IntType.TheVariants.{Int}
 use Rattle.pk_ctypes.specs.Types.{InType}
 use Rattle.pk_ctypes.specs.declared.types.Op.{Op}
-use Rattle.pk_ctypes.specs.declared.words.Rule.{Rule}
 use Rattle.pk_ast.specs.declared.expressions.Identifier.{Identifier}
 use Rattle.pk_ast.specs.declared.operators.BinaryOperator.{BinaryOperator}
 use Rattle.pk_ast.specs.declared.operators.BinaryOperator.TheVariants as binary
@@ -34,11 +32,11 @@ use Rattle.pk_scope.specs.declared.declarations.Typing.{Typing}
 use Rattle.pk_scope.specs.declared.declarations.Typing.TheVariants.{Void, Integer, Unknown}
 use Rattle.pk_scope.specs.declared.failures.Failure.{Failure}
 use Rattle.pk_scope.specs.Declarations.{Names, is_void, arguments_of, site_of, own_site}
-use Rattle.pk_scope.specs.Failures.{fails_if}
 use Rattle.pk_scope.specs.Specifiers.{type_named, specifiers}
 use Rattle.pk_typing.specs.Types.{type_of, of_object}
 use Rattle.pk_typing.specs.Typed.{EvaluatedTree, value, effect, value_of, effect_of, valued, OperandTree, operand_of, place_of, of_both, name_value, element_value, typed_call, call_of, if_none, only, step_value, unary_value, typed_cast, is_or, logical_value, binary_value, typed_conditional, assignment_value, comma_after, typed, typed_all, calls, calls_in_all, calls_after}
 use Rattle.pk_typing.specs.Rules.{when, count, takes_others, undeclared, void, array, place, constness, arguments, unsequenced, own, failures, failures_used}
+use Rattle.pk_typing.proofs.TreeLemmas.{none_before, none_after, holds_not, same_number}
 use Rattle.pk_welltyped.specs.Listed as listed
 use Rattle.pk_welltyped.specs.Listed.{Numbered, numbered, calls_at_place, calls_in, calls_in_effect, calls_in_values}
 use Rattle.pk_welltyped.specs.WellTyped as good
@@ -47,21 +45,6 @@ use Rattle.pk_accepted.specs.Constants.{HasConstants, HaveConstants}
 use Rattle.pk_accepted.specs.Names.{ObjectIs, CalleeIs, DeclarationIs, NamesAre}
 
 -- ---- lists of failures
-
-pub none_before : (fs gs : List Failure) → fs ++ gs ≡ [] → fs ≡ []
-none_before [] gs h = refl
-none_before (f ∷ fs) gs h = absurd (cc)
-
-pub none_after : (fs gs : List Failure) → fs ++ gs ≡ [] → gs ≡ []
-none_after [] gs h = h
-none_after (f ∷ fs) gs h = absurd (cc)
-
-holds_not : (b : Bool) (r : Rule) (at : Pos) → fails_if b r at ≡ [] → b ≡ false
-holds_not true r at h = absurd (cc)
-holds_not false r at h = refl
-
-same_number : (a b : ℕ) → not (nat_eq a b) ≡ false → a ≡ b
-same_number a b h = grind (arith, nat_tests)
 
 -- ---- lists of calls
 

@@ -1,5 +1,5 @@
 -- Objects and functions of the file in an accepted text.
-use Rattle.std.proofs.Common.{◌≡◌, ℕ, zero, suc, ◌≤◌, Bool, true, false, List, [], ◌∷◌, ◌++◌, Option, Some, None, length, refl, ap, sym, subst, ◌∙◌, arith, append_assoc, if◌then◌else◌}
+use Rattle.std.proofs.Common.{◌≡◌, ℕ, zero, suc, ◌≤◌, Bool, true, false, List, [], ◌∷◌, ◌++◌, Option, Some, None, length, refl, ap, sym, subst, ◌∙◌, arith, append_assoc, if◌then◌else◌, append-nil}
 use Rattle.std.proofs.lemmas.Bool.{false≢true}
 use Rattle.std.specs.Prelude.{ℤ, pos, All, slice_get, is_some}
 use Rattle.std.specs.Option.{option_map}
@@ -24,17 +24,17 @@ use Rattle.pk_scope.specs.Failures.{noted}
 use Rattle.pk_scope.specs.Scopes.{Scoping, names_in, declaring, first_of, found_up, spelled}
 use Rattle.pk_scope.specs.Specifiers.{specifiers, type_named}
 use Rattle.pk_typing.specs.Rules.{count}
+use Rattle.pk_typing.proofs.TreeLemmas.{none_before, none_after}
 use Rattle.pk_declare.specs.declared.words.Words.{Words}
 use Rattle.pk_declare.specs.Constants.{evaluated, number_in, after_constant, length_in}
 use Rattle.pk_declare.specs.Declarations.{words_of, integer_in, type_or_int, text_of, redeclared, void_object, special_object, braces, surplus, length_at, after_optional_length, length_or_1}
 use Rattle.pk_declare.specs.Walks.{here, failing, after_name}
-use Rattle.pk_type.specs.Files.{EntryTree, Filed, number_or_0, number_at, after_numbers, numbers_at, given, first_or_0, start_of, is_extern, extern_object, file_object, after_object, after_objects, without_calls, on, after_declaration}
+use Rattle.pk_type.specs.Files.{EntryTree, Filed, number_or_0, number_at, after_numbers, numbers_at, given, first_or_0, start_of, extern_object, file_object, after_object, after_objects, on, after_declaration}
 use Rattle.pk_type.specs.Files as files
 use Rattle.pk_type.specs.Units.{function_of}
 use Rattle.pk_welltyped.specs.WellTyped as good
-use Rattle.pk_welltyped.specs.WellTyped.{Around, IsObject, Kind, kind_in_file, length_at_start, Takes, IsStart, IsBody, IsBodyIf}
+use Rattle.pk_welltyped.specs.WellTyped.{Around, IsObject, Kind, kind_in_file, length_at_start, IsStart, IsBodyIf}
 use Rattle.pk_accepted.specs.Names.{ObjectIs, CalleeIs, DeclarationIs, NamesAre}
-use Rattle.pk_accepted.proofs.Expressions.{none_before, none_after}
 use Rattle.pk_accepted.proofs.Walks.{W, none_found, Later, later_same, later, later_failing}
 use Rattle.pk_accepted.proofs.Declarations.{holds_not, names_declaring, nth, later_constant, later_optional_length, length_known, room}
 use Rattle.pk_accepted.proofs.Functions.{Integers}
@@ -63,10 +63,6 @@ pub record LaterFile (f g : F) : Type 0 where
   pub objects : g.objects ≡ f.objects ++ more
   pub entries : Kept f.functions g.functions
 
-append_none : {A : Type 0} (xs : List A) → xs ≡ xs ++ []
-append_none [] = refl
-append_none (x ∷ xs) = ap (λ (l : List _). x ∷ l) (append_none xs)
-
 pub kept_same : (es : Entries) → Kept es es
 kept_same es n e h = subst (SameEntry e) (sym h) refl
 
@@ -82,7 +78,7 @@ kept_then es fs gs a b n e h = go (slice_get fs n) refl (a n e h)
         turned (Some y) s t = s ∙ t
 
 pub file_same : (f : F) → LaterFile f f
-file_same f = record { found = λ h. h; more = []; objects = append_none f.objects; entries = kept_same f.functions }
+file_same f = record { found = λ h. h; more = []; objects = sym (append-nil f.objects); entries = kept_same f.functions }
 
 pub file_later : (f g h : F) → LaterFile f g → LaterFile g h → LaterFile f h
 file_later f g h a b = record {
@@ -269,7 +265,7 @@ later_head storage words d f =
     let rows = redeclared w.scoping d.name ++ extern_object storage d.name ++ void_object words.typing d.name.at ++ special_object w.scoping d.name in
     let fs = braces (is_some d.length) d.initializer d.name.at ++ surplus (length_at f.walked d.length) d.initializer in
     let v : W = after_name d.name (file_object words (is_some d.length) f) (failing noted rows w) in
-    let named : Later (failing noted rows w) v = record { found = λ h. h; more = []; locals = append_none w.locals } in
+    let named : Later (failing noted rows w) v = record { found = λ h. h; more = []; locals = sym (append-nil w.locals) } in
     later f.walked w _ (later_optional_length d.length f.walked) (later w (failing noted rows w) _ (later_failing rows w) (later (failing noted rows w) v _ named (later_failing fs v)))
 
 later_object : (storage : Option Storage) (words : Words) (d : DeclaratorTree) (f : F) → LaterFile f (after_object noted storage words d f)

@@ -1,5 +1,5 @@
 -- Parameters and bodies of functions in which no rule fails.
-use Rattle.std.proofs.Common.{◌≡◌, ℕ, suc, ◌≤◌, true, false, List, [], ◌∷◌, ◌++◌, Option, Some, None, length, map, refl, ap, sym, subst, ◌∙◌, arith, append_assoc}
+use Rattle.std.proofs.Common.{◌≡◌, ℕ, suc, ◌≤◌, true, false, List, [], ◌∷◌, ◌++◌, Option, Some, None, length, map, refl, ap, sym, subst, ◌∙◌, arith, append_assoc, append-nil}
 use Rattle.std.proofs.lemmas.Bool.{false≢true}
 use Rattle.std.specs.Option.{option_map}
 use Rattle.pk_ctypes.specs.declared.places.Pos.{Pos}
@@ -9,7 +9,7 @@ use Rattle.pk_ctypes.specs.declared.words.Rule.TheVariants as rule
 use Rattle.pk_ast.specs.declared.expressions.Identifier.{Identifier}
 use Rattle.pk_ast.specs.Trees.{BlockTree, ParameterTree}
 use Rattle.pk_typed.specs.Trees as tree
-use Rattle.pk_typed.specs.Trees.{LocalTree, BodyTree, UnitTree}
+use Rattle.pk_typed.specs.Trees.{LocalTree, UnitTree}
 use Rattle.pk_scope.specs.declared.declarations.Typing.{Typing}
 use Rattle.pk_scope.specs.declared.declarations.Typing.TheVariants.{Void, Integer, Unknown}
 use Rattle.pk_scope.specs.Declarations.{is_void, is_unknown}
@@ -28,7 +28,7 @@ use Rattle.pk_welltyped.specs.WellTyped.{AreParameters, AreItems, IsBodyIf, Mark
 use Rattle.pk_accepted.specs.Constants.{ItemsHave}
 use Rattle.pk_accepted.specs.Names.{NamesAre}
 use Rattle.pk_accepted.proofs.Walks.{W, around, none_found, Later, later_same, later, later_failing}
-use Rattle.pk_accepted.proofs.Expressions as lists
+use Rattle.pk_typing.proofs.TreeLemmas.{none_after}
 use Rattle.pk_accepted.proofs.Declarations.{holds_not, names_later, Begins, begins_before, later_object, not_void, object_declared}
 use Rattle.pk_accepted.proofs.Statements.{Ends, items_part, later_items, ItemsPart}
 use Rattle.pk_accepted.proofs.Jumps.{labels_below, no_case, no_default}
@@ -136,14 +136,10 @@ pub record Parameters (u : UnitTree) (ls : List LocalTree) (w v : W) (ts : List 
   pub are : AreParameters (map type_or_int ts) more
   pub many : length more ≡ length (map type_or_int ts)
 
-append_none : {A : Type 0} (xs : List A) → xs ≡ xs ++ []
-append_none [] = refl
-append_none (x ∷ xs) = ap (λ (l : List _). x ∷ l) (append_none xs)
-
 pub parameters : (u : UnitTree) (ls : List LocalTree) (ps : List ParameterTree) (w : W) → NamesAre (around u ls w) (here w) → Begins ls (after_parameters noted ps w) → (after_parameters noted ps w).found ≡ None
     → Parameters u ls w (after_parameters noted ps w) (types_of ps)
 unfolding after_parameters
-parameters u ls [] w n b h = record { names = n; calls = refl; more = []; locals = append_none w.locals; are = tt; many = refl }
+parameters u ls [] w n b h = record { names = n; calls = refl; more = []; locals = sym (append-nil w.locals); are = tt; many = refl }
 parameters u ls (p ∷ ps) w n b h =
     let v = after_parameter noted p w in
     let l = later_parameters ps v in
@@ -203,10 +199,10 @@ body u g r visible b w s k p n ret known names has h =
     let x = after_body noted r b w in
     let f = none_found q.walked.found fs h in
     let rows : each_at rule.Label labels.repeated ++ each_at rule.Label jumps.unknown ++ each_at rule.Jump jumps.misplaced ≡ [] = f.1 in
-    let placed : jumps.misplaced ≡ [] = none_at rule.Jump jumps.misplaced (lists.none_after (each_at rule.Label labels.repeated ++ each_at rule.Label jumps.unknown) (each_at rule.Jump jumps.misplaced) rows) in
+    let placed : jumps.misplaced ≡ [] = none_at rule.Jump jumps.misplaced (none_after (each_at rule.Label labels.repeated ++ each_at rule.Label jumps.unknown) (each_at rule.Jump jumps.misplaced) rows) in
     let m : Marks = record { labels = labels.count; returns = g.returns; cases = 0; has_default = false } in
     let e : Ends x.locals m q = record {
-      begins = record { rest = []; is = append_none q.walked.locals };
+      begins = record { rest = []; is = sym (append-nil q.walked.locals) };
       found = f.0;
       cases = omega (ap length (no_case w.scoping.text labels.labels r start b.items placed), arith);
       default = λ t. absurd (false≢true (sym (no_default w.scoping.text labels.labels r start b.items placed) ∙ t));

@@ -18,14 +18,14 @@ use Rattle.pk_jump.specs.Labels.{Listed, nothing_listed, with_label, with_declar
 use Rattle.pk_jump.specs.Jumps as jump
 use Rattle.pk_jump.specs.Jumps.{Around, Jumped, at_if, misplaced_if, gone, holds, is_out_of_place, is_unbroken, with_default_flag, looped, switched, within_next, jumped, jumped_items}
 use Rattle.pk_statement.specs.Statements as statements
-use Rattle.pk_statement.specs.Statements.{on, with_case, in_switch, after_head, after, after_items}
+use Rattle.pk_statement.specs.Statements.{on, after_head, after, after_items}
 use Rattle.pk_accepted.proofs.Statements.{P, LabelBelow, Below}
 
-none_before : {A : Type 0} (xs ys : List A) → xs ++ ys ≡ [] → xs ≡ []
+pub none_before : {A : Type 0} (xs ys : List A) → xs ++ ys ≡ [] → xs ≡ []
 none_before [] ys h = refl
 none_before (x ∷ xs) ys h = absurd (cc)
 
-none_after : {A : Type 0} (xs ys : List A) → xs ++ ys ≡ [] → ys ≡ []
+pub none_after : {A : Type 0} (xs ys : List A) → xs ++ ys ≡ [] → ys ≡ []
 none_after [] ys h = h
 none_after (x ∷ xs) ys h = absurd (cc)
 

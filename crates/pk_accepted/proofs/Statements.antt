@@ -13,7 +13,7 @@ use Rattle.pk_ctypes.specs.Conversions.{promoted}
 use Rattle.pk_ctypes.proofs.Wrapped.{wrapped_in}
 use Rattle.pk_ast.specs.Places.{first_place_of}
 use Rattle.pk_ast.specs.Trees as ast
-use Rattle.pk_ast.specs.Trees.{ExpressionTree, DeclarationTree, ForStartTree, declaration, expression, StatementTree, ItemTrees, no_items, declaration_then, statement_then}
+use Rattle.pk_ast.specs.Trees.{ExpressionTree, ForStartTree, declaration, expression, StatementTree, ItemTrees, no_items, declaration_then, statement_then}
 use Rattle.pk_typed.specs.Trees as tree
 use Rattle.pk_typed.specs.Trees.{LocalTree, ValueTree, EffectTree, DeclaredTree, UnitTree}
 use Rattle.pk_scope.specs.declared.declarations.Typing.{Typing}
@@ -32,13 +32,13 @@ use Rattle.pk_statement.specs.declared.statements.Case.{Case}
 use Rattle.pk_statement.specs.Statements.{Passed, on, inside, outside, after_optional_value, after_optional_effect, returns_otherwise, after_return, with_case, with_default, repeated_cases, in_switch, after_switch, after_start, after_head, after, after_items}
 use Rattle.pk_statement.specs.Trees.{Labels, numbered, of_three, case_numbers, ended_as, ended, switch_of, optional_value_at, optional_effect_at, start_at, a_head, for_tree, declared_all, typed, typed_items}
 use Rattle.pk_welltyped.specs.Listed as listed
-use Rattle.pk_welltyped.specs.Listed.{Numbered, calls_in, calls_in_effect, calls_if, calls_in_effect_if, calls_in_declared, calls_in_all_declared, calls_at_start, calls_in_statement, calls_in_items, objects_at_start, objects_in, objects_in_items}
+use Rattle.pk_welltyped.specs.Listed.{Numbered, calls_in, calls_if, calls_in_effect_if, calls_in_declared, calls_in_all_declared, calls_at_start, calls_in_statement, calls_in_items, objects_at_start, objects_in, objects_in_items}
 use Rattle.pk_welltyped.specs.WellTyped as good
-use Rattle.pk_welltyped.specs.WellTyped.{Around, behind, IsValue, IsValueIf, IsEffect, IsEffectIf, AreDeclared, IsForStart, Marks, IsReturned, IsStatement, AreItems}
+use Rattle.pk_welltyped.specs.WellTyped.{Around, IsValueIf, IsEffectIf, AreDeclared, IsForStart, Marks, IsReturned, IsStatement, AreItems}
 use Rattle.pk_accepted.specs.Constants.{HasConstantsIf, StartHas, StatementHas, ItemsHave}
 use Rattle.pk_accepted.specs.Names.{NamesAre}
 use Rattle.pk_accepted.proofs.Walks.{none_found, W, around, Later, later_same, later, later_failing, later_value, later_effect, Steps, steps_none, steps, steps_as, ValuePart, EffectPart, value_part, effect_part}
-use Rattle.pk_accepted.proofs.Declarations.{names_later, names_opened, Begins, begins_before, constant_steps, later_constant, later_declaration, AllDeclaredPart, AllDeclaring}
+use Rattle.pk_accepted.proofs.Declarations.{names_later, names_opened, Begins, begins_before, constant_steps, later_constant, later_declaration, AllDeclaredPart}
 use Rattle.pk_accepted.proofs.Declarations as declarations
 
 abbrev pub P : Type 0
@@ -136,7 +136,7 @@ mutual
 
 -- ---- a statement declares no name
 
-same_scope : (r : Typing) (p : P) (s : StatementTree) → (after noted r p s).walked.scoping ≡ p.walked.scoping
+pub same_scope : (r : Typing) (p : P) (s : StatementTree) → (after noted r p s).walked.scoping ≡ p.walked.scoping
 unfolding after
 same_scope r p (ast.block opened items closed) = refl
 same_scope r p (ast.empty at) = refl

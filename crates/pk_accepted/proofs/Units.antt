@@ -1,5 +1,5 @@
 -- Functions and units of accepted texts are well typed.
-use Rattle.std.proofs.Common.{◌≡◌, ℕ, zero, suc, ◌≤◌, Bool, true, false, not, List, [], ◌∷◌, ◌++◌, Option, Some, None, length, map, refl, ap, sym, subst, ◌∙◌, arith, length-append, nat_eq, if◌then◌else◌}
+use Rattle.std.proofs.Common.{◌≡◌, ℕ, zero, suc, ◌≤◌, Bool, true, false, not, List, [], ◌∷◌, ◌++◌, Option, Some, None, length, map, refl, ap, sym, subst, ◌∙◌, arith, length-append, nat_eq, if◌then◌else◌, append-nil}
 use Rattle.std.proofs.lemmas.Bool.{false≢true}
 use Rattle.std.proofs.lemmas.Bool.Decides.{nat_tests}
 use Rattle.std.proofs.lemmas.Option.{none-some, slice_get-map, slice_get-get_or}
@@ -37,12 +37,12 @@ use Rattle.pk_type.specs.Units.{no_name, defined_in, after_external, after_exter
 use Rattle.pk_welltyped.specs.WellTyped.{Takes, AreParameters, IsBodyIf, IsStart, IsUnit}
 use Rattle.pk_accepted.specs.Constants.{BlockHas, ExternalHas, ExternalsHave}
 use Rattle.pk_accepted.specs.Names.{CalleeIs, DeclarationIs}
-use Rattle.pk_accepted.proofs.Expressions.{none_before, none_after}
 use Rattle.pk_accepted.proofs.Walks.{around, none_found}
 use Rattle.pk_accepted.proofs.Declarations.{holds_not, names_declaring, names_opened, Begins, nth}
 use Rattle.pk_accepted.proofs.Functions.{Integers, later_parameters, parameters, with_others, integers_of, later_body, body}
 use Rattle.pk_accepted.proofs.Files as files
 use Rattle.pk_accepted.proofs.Files.{F, in_file, SameEntry, Entries, Kept, LaterFile, kept_same, file_same, file_later, Stands, stands_before, KnownIn, EntryIs, FileIs, names_from_file, known_declaring}
+use Rattle.pk_typing.proofs.TreeLemmas.{none_before, none_after}
 
 -- ---- types of functions that don't differ
 
@@ -167,10 +167,6 @@ update_keeps b (suc n) (x ∷ es) (suc i) e is = update_keeps b n es i e is
 
 -- ---- the head of a function
 
-append_none : {A : Type 0} (xs : List A) → xs ≡ xs ++ []
-append_none [] = refl
-append_none (x ∷ xs) = ap (λ (l : List _). x ∷ l) (append_none xs)
-
 abbrev head_rows : FunctionTree → F → List Failure
 head_rows f file =
     let s = signature_of f in
@@ -181,7 +177,7 @@ later_head : (defined : List ℕ → Bool) (f : FunctionTree) (file : F) → Lat
 later_head defined f file = record {
   found = λ h. (none_found file.walked.found (head_rows f file) h).0;
   more = [];
-  objects = append_none file.objects;
+  objects = sym (append-nil file.objects);
   entries = λ i e h. let n = number_of file.functions (names_in file.walked.scoping f.name) in
       subst (SameEntry e) (sym (new_keeps file.functions n (text_of file.walked.scoping f.name) (signature_of f) i e h)) refl;
 }
@@ -290,7 +286,7 @@ later_optional_body r n None f = file_same f
 later_optional_body r n (Some b) f = record {
   found = λ h. (later_body r b f.walked).found h;
   more = [];
-  objects = append_none f.objects;
+  objects = sym (append-nil f.objects);
   entries = update_keeps (body_at noted r (length f.objects) b f.walked) n f.functions;
 }
 
@@ -416,7 +412,7 @@ nothing_is u text = record {
 }
 
 stands_whole : (f : F) → Stands (unit_of f) f
-stands_whole f = record { rest = []; objects = append_none f.objects; functions = λ n e h. (e, slice_get-map function_of f.functions n ∙ ap (option_map function_of) h, refl) }
+stands_whole f = record { rest = []; objects = sym (append-nil f.objects); functions = λ n e h. (e, slice_get-map function_of f.functions n ∙ ap (option_map function_of) h, refl) }
 
 functions_are : (f : F) → FileIs (unit_of f) f → All (λ (g : tree.FunctionTree). IsBodyIf (unit_of f) g g.body) (map function_of f.functions)
 functions_are f is k d l =

@@ -1,5 +1,5 @@
 -- What stands at a place of a function, and what expressions add to it, where no rule fails.
-use Rattle.std.proofs.Common.{◌≡◌, ℕ, ◌+◌, Bool, true, false, List, [], ◌∷◌, ◌++◌, Option, Some, None, length, refl, ap, sym, ◌∙◌, length-append, append_assoc, if◌then◌else◌}
+use Rattle.std.proofs.Common.{◌≡◌, ℕ, ◌+◌, Bool, true, false, List, [], ◌∷◌, ◌++◌, Option, Some, None, length, refl, ap, sym, ◌∙◌, length-append, append_assoc, if◌then◌else◌, append-nil}
 use Rattle.std.proofs.Math.Nat.{add-zero, add_assoc}
 use Rattle.std.proofs.lemmas.Option.{none-some}
 use Rattle.pk_ast.specs.Trees.{ExpressionTree, ExpressionTrees}
@@ -9,13 +9,14 @@ use Rattle.pk_scope.specs.declared.failures.Failure.{Failure}
 use Rattle.pk_scope.specs.Failures.{is_before, earlier, noted}
 use Rattle.pk_typing.specs.Rules.{void, count, failures, used_failures, failures_used}
 use Rattle.pk_typing.specs.Typed.{typed, calls, calls_in_all}
+use Rattle.pk_typing.proofs.TreeLemmas.{none_before}
 use Rattle.pk_declare.specs.Walks.{Walked, here, after_value, after_effect, after_values, value_at, effect_at, values_at, failing}
 use Rattle.pk_welltyped.specs.Listed.{Numbered, numbered, calls_in, calls_in_effect, calls_in_values}
 use Rattle.pk_welltyped.specs.WellTyped as good
 use Rattle.pk_welltyped.specs.WellTyped.{Around, IsValue, IsEffect, AreValues}
 use Rattle.pk_accepted.specs.Constants.{HasConstants, HaveConstants}
 use Rattle.pk_accepted.specs.Names.{NamesAre}
-use Rattle.pk_accepted.proofs.Expressions.{none_before, numbered_append, GoodValue, GoodEffect, GoodValues, good_value, good_effect, expressions, all_expressions}
+use Rattle.pk_accepted.proofs.Expressions.{numbered_append, GoodValue, GoodEffect, GoodValues, good_value, good_effect, expressions, all_expressions}
 
 abbrev pub W : Type 0
 W = Walked (Option Failure)
@@ -45,12 +46,8 @@ pub record Later (w v : W) : Type 0 where
   pub more : List LocalTree
   pub locals : v.locals ≡ w.locals ++ more
 
-append_none : {A : Type 0} (xs : List A) → xs ≡ xs ++ []
-append_none [] = refl
-append_none (x ∷ xs) = ap (λ (l : List _). x ∷ l) (append_none xs)
-
 pub later_same : (w : W) → Later w w
-later_same w = record { found = λ h. h; more = []; locals = append_none w.locals }
+later_same w = record { found = λ h. h; more = []; locals = sym (append-nil w.locals) }
 
 pub later : (w v u : W) → Later w v → Later v u → Later w u
 later w v u a b = record {
@@ -60,16 +57,16 @@ later w v u a b = record {
 }
 
 pub later_failing : (fs : List Failure) (w : W) → Later w (failing noted fs w)
-later_failing fs w = record { found = λ h. (none_found w.found fs h).0; more = []; locals = append_none w.locals }
+later_failing fs w = record { found = λ h. (none_found w.found fs h).0; more = []; locals = sym (append-nil w.locals) }
 
 pub later_value : (e : ExpressionTree) (w : W) → Later w (after_value noted e w)
-later_value e w = record { found = λ h. (none_found w.found (used_failures (here w) e) h).0; more = []; locals = append_none w.locals }
+later_value e w = record { found = λ h. (none_found w.found (used_failures (here w) e) h).0; more = []; locals = sym (append-nil w.locals) }
 
 pub later_effect : (e : ExpressionTree) (w : W) → Later w (after_effect noted e w)
-later_effect e w = record { found = λ h. (none_found w.found (failures (here w) e) h).0; more = []; locals = append_none w.locals }
+later_effect e w = record { found = λ h. (none_found w.found (failures (here w) e) h).0; more = []; locals = sym (append-nil w.locals) }
 
 pub later_values : (es : ExpressionTrees) (w : W) → Later w (after_values noted es w)
-later_values es w = record { found = λ h. (none_found w.found (failures_used (here w) es) h).0; more = []; locals = append_none w.locals }
+later_values es w = record { found = λ h. (none_found w.found (failures_used (here w) es) h).0; more = []; locals = sym (append-nil w.locals) }
 
 -- these calls are noted between them, and so many objects are declared
 pub record Steps (w v : W) (ns : List Numbered) (k : ℕ) : Type 0 where
@@ -79,7 +76,7 @@ pub record Steps (w v : W) (ns : List Numbered) (k : ℕ) : Type 0 where
   pub objects : length v.locals ≡ length w.locals + k
 
 pub steps_none : (w v : W) → v.calls ≡ w.calls → v.locals ≡ w.locals → Steps w v [] 0
-steps_none w v c l = record { sites = []; calls = c ∙ append_none w.calls; listed = refl; objects = ap length l ∙ sym (add-zero (length w.locals)) }
+steps_none w v c l = record { sites = []; calls = c ∙ sym (append-nil w.calls); listed = refl; objects = ap length l ∙ sym (add-zero (length w.locals)) }
 
 pub steps : (w v u : W) (ns ms : List Numbered) (k l : ℕ) → Steps w v ns k → Steps v u ms l → Steps w u (ns ++ ms) (k + l)
 steps w v u ns ms k l a b =

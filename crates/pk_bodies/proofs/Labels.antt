@@ -1,5 +1,5 @@
 -- Labels that are listed stay, and jumps to none are never taken back.
-use Rattle.std.proofs.Common.{◌≡◌, ℕ, Bool, true, false, List, [], ◌∷◌, ◌++◌, Option, Some, None, refl, sym, ◌∙◌, if◌then◌else◌}
+use Rattle.std.proofs.Common.{◌≡◌, ℕ, Bool, true, false, List, [], ◌∷◌, Option, Some, None, refl, sym, ◌∙◌, if◌then◌else◌}
 use Rattle.std.proofs.lemmas.Bool.{false≢true}
 use Rattle.std.proofs.lemmas.Slice.Eq.{bytes_eq-Decides}
 use Rattle.std.specs.Prelude.{is_some}
@@ -11,17 +11,10 @@ use Rattle.pk_ast.specs.Trees.{declaration, expression, StatementTree, ItemTrees
 use Rattle.pk_scope.specs.Scopes.{spelled}
 use Rattle.pk_jump.specs.declared.labels.Label.{Label}
 use Rattle.pk_jump.specs.declared.labels.Within.{Within}
-use Rattle.pk_jump.specs.Labels.{Listed, named, with_label, with_declaration, inside, listed, listed_items}
+use Rattle.pk_jump.specs.Labels.{Listed, with_label, with_declaration, inside, listed, listed_items}
 use Rattle.pk_jump.specs.Jumps as jump
-use Rattle.pk_jump.specs.Jumps.{Around, Jumped, misplaced_if, gone, holds, is_out_of_place, with_default_flag, looped, switched, within_next, jumped, jumped_items}
-
-none_before : {A : Type 0} (xs ys : List A) → xs ++ ys ≡ [] → xs ≡ []
-none_before [] ys h = refl
-none_before (x ∷ xs) ys h = absurd (cc)
-
-none_after : {A : Type 0} (xs ys : List A) → xs ++ ys ≡ [] → ys ≡ []
-none_after [] ys h = h
-none_after (x ∷ xs) ys h = absurd (cc)
+use Rattle.pk_jump.specs.Jumps.{Around, Jumped, misplaced_if, gone, is_out_of_place, with_default_flag, looped, switched, within_next, jumped, jumped_items}
+use Rattle.pk_accepted.proofs.Jumps.{none_before, none_after}
 
 -- ---- labels
 

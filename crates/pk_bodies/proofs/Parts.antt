@@ -1,34 +1,31 @@
 -- Expressions and declarations in which no rule fails have typed trees.
-use Rattle.std.proofs.Common.{◌≡◌, ℕ, Bool, true, false, not, List, [], ◌∷◌, ◌++◌, Option, Some, None, length, refl, ap, sym, subst, ◌∙◌, if◌then◌else◌}
+use Rattle.std.proofs.Common.{◌≡◌, ℕ, Bool, true, false, List, [], ◌∷◌, ◌++◌, Option, Some, None, length, refl, sym, subst, if◌then◌else◌}
 use Rattle.std.proofs.lemmas.Bool.{false≢true}
 use Rattle.std.specs.Prelude.{is_some}
 use Rattle.std.specs.Option.{option_map}
 use Rattle.std.specs.Str.{bytes_eq}
 use Rattle.pk_ctypes.specs.declared.places.Pos.{Pos}
 use Rattle.pk_ctypes.specs.declared.types.IntType.{IntType}
-use Rattle.pk_ctypes.specs.declared.words.Rule.TheVariants as rule
 use Rattle.pk_ast.specs.declared.expressions.Identifier.{Identifier}
 use Rattle.pk_ast.specs.Trees.{ExpressionTree, ExpressionTrees, no_expressions, expression_then, InitializerTree, single, braced, DeclaratorTree, DeclarationTree}
 use Rattle.pk_typed.specs.Trees as tree
-use Rattle.pk_typed.specs.Trees.{value_before, DeclaredTree}
+use Rattle.pk_typed.specs.Trees.{value_before}
 use Rattle.pk_scope.specs.declared.declarations.Declaration.{Declaration}
-use Rattle.pk_scope.specs.declared.declarations.Declaration.TheVariants as declared
 use Rattle.pk_scope.specs.declared.declarations.Typing.{Typing}
 use Rattle.pk_scope.specs.declared.declarations.Typing.TheVariants.{Void, Integer, Unknown}
 use Rattle.pk_scope.specs.Declarations.{Names, HasTypes, is_void, is_unknown}
-use Rattle.pk_scope.specs.Failures.{fails_if, noted}
-use Rattle.pk_scope.specs.Scopes.{Scoping, Layer, names_in, opened, declaring, first_of, found_up, spelled}
-use Rattle.pk_scope.specs.Specifiers.{specifiers, type_named}
+use Rattle.pk_scope.specs.Failures.{noted}
+use Rattle.pk_scope.specs.Scopes.{Scoping, names_in, opened, declaring, first_of, found_up, spelled}
+use Rattle.pk_scope.specs.Specifiers.{specifiers}
 use Rattle.pk_typing.specs.Laws.{IsTreeOf}
 use Rattle.pk_typing.specs.Rules.{void, failures, used_failures, failures_used}
 use Rattle.pk_typing.specs.Typed.{EvaluatedTree, value, effect, value_of, effect_of, of_both, typed, typed_all, calls_after}
 use Rattle.pk_typing.specs.Types.{type_of}
-use Rattle.pk_typing.proofs.TreeLemmas.{accepted_expressions_have_trees}
+use Rattle.pk_typing.proofs.TreeLemmas.{accepted_expressions_have_trees, none_before, none_after}
 use Rattle.pk_declare.specs.declared.words.Words.{Words}
 use Rattle.pk_declare.specs.Declarations.{integer_in, object_at, braces, surplus, after_initializer, length_at, after_optional_length, after_object, after_head, after_declarator, after_declarators, after_declaration, words_of, object_tree, declarator_tree_at, declarator_trees_at, declaration_trees_at}
-use Rattle.pk_declare.specs.Walks.{here, failing, after_value, after_effect, after_values, value_at, effect_at, values_at}
-use Rattle.pk_accepted.proofs.Declarations.{holds_not, not_void, later_declarators, later_declarator}
-use Rattle.pk_accepted.proofs.Expressions.{none_before, none_after}
+use Rattle.pk_declare.specs.Walks.{here, failing, after_value, after_effect, value_at, effect_at, values_at}
+use Rattle.pk_accepted.proofs.Declarations.{holds_not, not_void, later_declarators, found_last, is_used}
 use Rattle.pk_accepted.proofs.Walks.{W, none_found}
 
 -- ---- options that have something
@@ -55,10 +52,6 @@ pub known_declaring : (s : Scoping) (x : Identifier) (o : Declaration) → Known
 unfolding names_in
 known_declaring s x o h k y = let q = spelled s.text y in picked (bytes_eq (spelled s.text x) q) o (s.inner q) (found_up s.outer q None) k (h y)
 
-found_last : (ls : List Layer) (l : Layer) (q : List ℕ) (f : Option Declaration) → found_up (ls ++ l ∷ []) q f ≡ first_of (l q) (found_up ls q f)
-found_last [] l q f = refl
-found_last (m ∷ ls) l q f = found_last ls l q (first_of (m q) f)
-
 pub known_opened : (s : Scoping) → Known s → Known (opened s)
 unfolding names_in
 known_opened s h y = subst HasTypes (sym (found_last s.outer s.inner (spelled s.text y) None)) (h y)
@@ -76,10 +69,6 @@ value_there Unknown (Some e) h p = absurd h
 effect_there : (t : Typing) (e : Option EvaluatedTree) → IsTreeOf t e → is_some (effect_of e) ≡ true
 effect_there t None h = absurd h
 effect_there t (Some e) h = refl
-
-is_used : (d : Names) (e : ExpressionTree) → void d e ≡ [] → is_void (type_of d e) ≡ false
-unfolding void
-is_used d e h = holds_not _ _ _ h
 
 -- what is known of the type of an expression whose value is used
 pub used_integer : (w : W) (e : ExpressionTree) → Known w.scoping → (after_value noted e w).found ≡ None → (t : IntType) × (type_of (here w) e ≡ Integer t)

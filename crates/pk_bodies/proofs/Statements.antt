@@ -1,7 +1,7 @@
 -- Statements in which no rule fails have typed trees.
 use Rattle.std.proofs.Common.{◌≡◌, ℕ, Bool, true, false, not, List, [], ◌∷◌, ◌++◌, Option, Some, None, length, refl, ap, sym, subst, ◌∙◌, if◌then◌else◌}
 use Rattle.std.proofs.lemmas.Bool.{false≢true}
-use Rattle.std.specs.Prelude.{ℤ, is_some, ◌||◌}
+use Rattle.std.specs.Prelude.{is_some, ◌||◌}
 use Rattle.std.specs.Option.{option_map}
 use Rattle.pk_ctypes.specs.declared.places.Pos.{Pos}
 use Rattle.pk_ctypes.specs.declared.types.IntType.{IntType}
@@ -13,7 +13,6 @@ use Rattle.pk_ast.specs.Places.{first_place_of}
 use Rattle.pk_ast.specs.Trees as ast
 use Rattle.pk_ast.specs.Trees.{ExpressionTree, ForStartTree, declaration, expression, StatementTree, ItemTrees, no_items, declaration_then, statement_then}
 use Rattle.pk_typed.specs.Trees as tree
-use Rattle.pk_typed.specs.Trees.{ValueTree, EffectTree, DeclaredTree}
 use Rattle.pk_scope.specs.declared.declarations.Typing.{Typing}
 use Rattle.pk_scope.specs.declared.declarations.Typing.TheVariants.{Void, Integer, Unknown}
 use Rattle.pk_scope.specs.declared.failures.Failure.{Failure}
@@ -21,14 +20,14 @@ use Rattle.pk_scope.specs.Failures.{fails_if, noted}
 use Rattle.pk_scope.specs.Scopes.{Scoping, spelled}
 use Rattle.pk_typing.specs.Rules.{failures, used_failures}
 use Rattle.pk_typing.specs.Typed as expressions
-use Rattle.pk_typing.specs.Typed.{EvaluatedTree, value, effect, of_both, value_of}
+use Rattle.pk_typing.specs.Typed.{EvaluatedTree, value, effect, value_of}
 use Rattle.pk_typing.specs.Types.{type_of}
 use Rattle.pk_constant.specs.declared.constants.Constant.{Constant}
 use Rattle.pk_constant.specs.declared.constants.Constant.TheVariants.{Number, Faulty, NotConstant}
 use Rattle.pk_constant.specs.Forms.{is_constant_form}
 use Rattle.pk_declare.specs.Constants.{given_by, evaluated, is_faulty, is_refused, number_of, number_in, after_constant}
 use Rattle.pk_declare.specs.Declarations.{after_declaration, declaration_trees_at}
-use Rattle.pk_declare.specs.Walks.{here, failing, after_value, after_effect, value_at, effect_at}
+use Rattle.pk_declare.specs.Walks.{here, failing, after_value, value_at, effect_at}
 use Rattle.pk_jump.specs.declared.labels.Label.{Label}
 use Rattle.pk_jump.specs.declared.labels.Within.{Within}
 use Rattle.pk_jump.specs.Labels.{Listed, with_label, with_declaration, listed, listed_items}
@@ -36,12 +35,12 @@ use Rattle.pk_jump.specs.Labels as label
 use Rattle.pk_jump.specs.Jumps as jump
 use Rattle.pk_jump.specs.Jumps.{Around, Jumped, misplaced_if, is_out_of_place, with_default_flag, looped, switched, within_next, jumped, jumped_items}
 use Rattle.pk_statement.specs.declared.statements.Case.{Case}
-use Rattle.pk_statement.specs.Statements.{Passed, on, inside, outside, after, after_items, with_case, with_default, in_switch, after_switch, after_start, after_optional_value, after_optional_effect, after_head, after_return, returns_otherwise, repeated_cases}
-use Rattle.pk_statement.specs.Trees.{Labels, numbered, label_at, of_three, case_numbers, ended_as, ended, switch_of, optional_value_at, optional_effect_at, start_at, head_at, HeadTree, a_head, for_tree, declared_all, typed, typed_items}
+use Rattle.pk_statement.specs.Statements.{Passed, on, inside, after, after_items, with_case, with_default, in_switch, after_start, after_optional_value, after_optional_effect, after_head, after_return, returns_otherwise, repeated_cases}
+use Rattle.pk_statement.specs.Trees.{Labels, numbered, label_at, of_three, case_numbers, ended_as, ended, switch_of, optional_value_at, optional_effect_at, start_at, head_at, a_head, for_tree, declared_all, typed, typed_items}
 use Rattle.pk_statement.proofs.KeepLemmas.{kept_declaration, kept_head}
 use Rattle.pk_accepted.proofs.Declarations.{holds_not, or_left}
 use Rattle.pk_accepted.proofs.Forms.{Gives, Numeric, numeric}
-use Rattle.pk_accepted.proofs.Statements.{later_statement, later_items}
+use Rattle.pk_accepted.proofs.Statements.{later_statement, later_items, same_scope}
 use Rattle.pk_accepted.proofs.Walks.{W, none_found}
 use Rattle.pk_bodies.proofs.Labels.{Covers, labels_stay, items_stay, its_label, gone_there, unknown_before, items_unknown_before}
 use Rattle.pk_bodies.proofs.Parts.{mapped_there, both_there, Known, known_opened, used_integer, value_is, effect_is, declaration_there}
@@ -148,26 +147,6 @@ case_there w e k h =
     (number_given t (numeric (here w) (length w.calls) e (or_left (is_constant_form e) _ is)) (value_is w e k r.0))
 
 -- ---- a statement declares no name
-
-same_scope : (r : Typing) (p : P) (s : StatementTree) → (after noted r p s).walked.scoping ≡ p.walked.scoping
-unfolding after
-same_scope r p (ast.block opened items closed) = refl
-same_scope r p (ast.empty at) = refl
-same_scope r p (ast.expression_statement e) = refl
-same_scope r p (ast.label x s) = same_scope r p s
-same_scope r p (ast.case at e s) = same_scope r (with_case noted at e p) s
-same_scope r p (ast.default at s) = same_scope r (with_default p) s
-same_scope r p (ast.if_then at e s) = same_scope r (on (after_value noted e) p) s
-same_scope r p (ast.if_else at e s t) = let q = on (after_value noted e) p in same_scope r (after noted r q s) t ∙ same_scope r q s
-same_scope r p (ast.switch at e s) = same_scope r (in_switch (on (after_value noted e) p)) s
-same_scope r p (ast.while at e s) = same_scope r (on (after_value noted e) p) s
-same_scope r p (ast.do_while at s e) = same_scope r p s
-same_scope r p (ast.for_loop at start test step s) = refl
-same_scope r p (ast.goto at x) = refl
-same_scope r p (ast.continue at) = refl
-same_scope r p (ast.break at) = refl
-same_scope r p (ast.return at None) = refl
-same_scope r p (ast.return at (Some e)) = refl
 
 same_text : (text : List ℕ) (r : Typing) (p : P) (s : StatementTree) → p.walked.scoping.text ≡ text → (after noted r p s).walked.scoping.text ≡ text
 same_text text r p s e = ap (λ (c : Scoping). c.text) (same_scope r p s) ∙ e

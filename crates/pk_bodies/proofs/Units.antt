@@ -3,7 +3,6 @@ use Rattle.std.proofs.Common.{◌≡◌, ℕ, Bool, true, false, List, [], ◌�
 use Rattle.std.proofs.lemmas.Bool.{false≢true}
 use Rattle.std.proofs.lemmas.Option.{none-some}
 use Rattle.std.specs.Prelude.{is_some, slice_get}
-use Rattle.std.specs.Option.{option_map}
 use Rattle.std.specs.Str.{bytes_eq}
 use Rattle.pk_ctypes.specs.declared.places.Pos.{Pos}
 use Rattle.pk_ctypes.specs.declared.types.IntType.{IntType}
@@ -13,32 +12,30 @@ use Rattle.pk_ast.specs.declared.expressions.Identifier.{Identifier}
 use Rattle.pk_ast.specs.declared.units.Storage.{Storage}
 use Rattle.pk_ast.specs.Trees.{ExpressionTrees, no_expressions, expression_then, ParameterTree, BlockTree, FunctionTree, DeclaratorTree, DeclarationTree, ExternalTree, function, objects}
 use Rattle.pk_scope.specs.declared.declarations.Callee.{Callee}
-use Rattle.pk_scope.specs.declared.declarations.Callee.TheVariants.{Ordinary, Any, Assume, Assert, Abort}
 use Rattle.pk_scope.specs.declared.declarations.Declaration.TheVariants as declared
 use Rattle.pk_scope.specs.declared.declarations.Typing.{Typing}
 use Rattle.pk_scope.specs.declared.declarations.Typing.TheVariants.{Void, Integer, Unknown}
 use Rattle.pk_scope.specs.declared.failures.Failure.{Failure}
-use Rattle.pk_scope.specs.Declarations.{HasTypes, is_void, is_unknown, returned_by}
+use Rattle.pk_scope.specs.Declarations.{is_void, is_unknown, returned_by}
 use Rattle.pk_scope.specs.Failures.{fails_if, noted}
-use Rattle.pk_scope.specs.Scopes.{Scoping, names_in, spelled}
+use Rattle.pk_scope.specs.Scopes.{names_in, spelled}
 use Rattle.pk_scope.specs.Specifiers.{type_named, specifiers}
-use Rattle.pk_typing.specs.Rules.{used_failures}
+use Rattle.pk_typing.proofs.TreeLemmas.{none_before, none_after}
 use Rattle.pk_declare.specs.declared.words.Words.{Words}
-use Rattle.pk_declare.specs.Constants.{evaluated, is_refused, after_constant}
+use Rattle.pk_declare.specs.Constants.{after_constant}
 use Rattle.pk_declare.specs.Declarations.{at_name, words_of, text_of, integer_in, redeclared, void_object, special_object, braces, surplus, length_at, after_optional_length}
 use Rattle.pk_declare.specs.Specials.{special, specials, lookup}
-use Rattle.pk_declare.specs.Walks.{here, failing, after_name, entering, after_value}
+use Rattle.pk_declare.specs.Walks.{failing, entering}
 use Rattle.pk_jump.specs.Jumps.{around_body, nothing_jumped, jumps_of}
 use Rattle.pk_jump.specs.Labels.{nothing_listed, outermost, labels_of}
 use Rattle.pk_statement.specs.Statements.{after_items}
 use Rattle.pk_statement.specs.Trees.{typed_items}
-use Rattle.pk_type.specs.Files.{EntryTree, after_numbers, given, extern_object, file_object, after_object, after_objects, without_calls, after_declaration, on}
+use Rattle.pk_type.specs.Files.{EntryTree, after_numbers, given, extern_object, file_object, after_object, after_objects, after_declaration, on}
 use Rattle.pk_type.specs.Files as files
-use Rattle.pk_type.specs.Functions.{unnamed, after_parameter_name, after_parameter, after_parameters, is_redeclared, is_misused, number_of, ordinary, callee_of, after_head, each_at, about_jumps, before_body, after_body, body_of, body_at, with_body, after_optional_body, leaving_function, after_function}
+use Rattle.pk_type.specs.Functions.{after_parameter_name, after_parameter, after_parameters, is_redeclared, is_misused, number_of, callee_of, after_head, each_at, about_jumps, before_body, after_body, body_of, body_at, with_body, after_optional_body, after_function}
 use Rattle.pk_type.specs.Signatures.{SignatureTree, signature_of}
-use Rattle.pk_type.specs.Units.{no_name, defined_in, after_external, after_externals, nothing_filed, checked}
+use Rattle.pk_type.specs.Units.{no_name, defined_in, after_external, after_externals, nothing_filed}
 use Rattle.pk_accepted.proofs.Declarations.{holds_not, later_constant, later_optional_length}
-use Rattle.pk_accepted.proofs.Expressions.{none_before, none_after}
 use Rattle.pk_accepted.proofs.Files.{F}
 use Rattle.pk_accepted.proofs.Functions.{later_parameters, later_body}
 use Rattle.pk_accepted.proofs.Units.{new_entries, updated, externals_later}

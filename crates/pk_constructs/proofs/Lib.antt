@@ -1,3 +1,3 @@
-mod TableLemmas
-mod ScanLemmas
+pub mod TableLemmas
+pub mod ScanLemmas
 pub mod DeterminedLemmas

@@ -1,6 +1,7 @@
 pub mod Whole
 pub mod Wrapped
 pub mod Values
+pub mod Operator_values
 pub mod Bits
 pub mod Back
 pub mod Shifts

@@ -1,5 +1,5 @@
 -- What an operator gives at numbers, or the fault at which the run stops (C99 6.5).
-use Rattle.std.specs.Prelude.{ℕ, ◌-◌, ◌^◌, Bool, not, ◌&&◌, if◌then◌else◌, ℤ, pos, ◌+ℤ◌, ◌-ℤ◌, ◌*ℤ◌, neg_ℤ, int_lt, int_le, int_div, int_rem, unsigned_abs, bit_and, bit_or, bit_xor, Result, Ok, Err}
+use Rattle.std.specs.Prelude.{ℕ, ◌-◌, ◌^◌, Bool, true, false, not, ◌&&◌, if◌then◌else◌, ℤ, pos, ◌+ℤ◌, ◌-ℤ◌, ◌*ℤ◌, neg_ℤ, int_lt, int_le, int_div, int_rem, unsigned_abs, bit_and, bit_or, bit_xor, Result, Ok, Err}
 use Rattle.std.specs.Ordering.{int_eq}
 use Rattle.std.specs.Int.{int_rem_euclid, int_shr}
 use Rattle.pk_ctypes.specs.declared.types.IntType.{IntType}
@@ -13,6 +13,28 @@ use Rattle.pk_ctypes.specs.Types.{width_of, is_signed_of, size_of, InType, is_in
 -- 1 where the test holds
 abbrev pub truth : Bool → ℤ
 truth b = if b then pos 1 else pos 0
+
+-- `!` turns a truth round (C99 6.5.3.3)
+abbrev pub is_not : Op → Bool
+is_not Add = false
+is_not Sub = false
+is_not Mul = false
+is_not Div = false
+is_not Rem = false
+is_not Shl = false
+is_not Shr = false
+is_not And = false
+is_not Or = false
+is_not Xor = false
+is_not Lt = false
+is_not Gt = false
+is_not Le = false
+is_not Ge = false
+is_not Eq = false
+is_not Ne = false
+is_not Neg = false
+is_not BitNot = false
+is_not Not = true
 
 -- the divisor is not 0 (C99 6.5.5)
 abbrev pub divided : ℤ → Result ℤ Fault → Result ℤ Fault

@@ -9,7 +9,7 @@ use Rattle.pk_plan.proofs.PlanLemmas.{Of, first_at, end_at, first_before_end, en
 use Rattle.pk_linear.specs.Waits.{AreLasts}
 use Rattle.pk_linear.specs.Steps.{Stands, IsOpen, IsFree, Follows, AreSteps}
 use Rattle.pk_linear.proofs.ListLemmas.{contains_none, contains_here, contains_cases}
-use Rattle.pk_exists.proofs.StepLemmas.{last_inside, placed_free}
+use Rattle.pk_linear.proofs.StepLemmas.{last_inside, placed_free}
 use Rattle.pk_exists.proofs.Picking.{Picked, picked, least_of, below, below_has}
 use Rattle.pk_exists.proofs.Told.{Told, told_less}
 use Rattle.pk_exists.proofs.Telling.{told_stands, told_free, told_inside}

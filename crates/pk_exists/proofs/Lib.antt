@@ -5,9 +5,6 @@ pub mod Nesting
 mod Graphs
 mod Laying
 pub mod Drawing
-mod StepLemmas
-mod LevelLemmas
-mod SpellLemmas
 mod Telling
 mod Candidates
 mod Backs

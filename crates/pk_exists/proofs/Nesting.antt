@@ -10,7 +10,8 @@ use Rattle.pk_nest.proofs.NestLemmas.{nest_of_nothing, nest_alike, nest_joined, 
 use Rattle.pk_exists.specs.Nests.{EveryDigraphHasANest}
 use Rattle.pk_exists.proofs.Told.{Told, any_in}
 use Rattle.pk_exists.proofs.Picking.{Picked, picked, least_of, below, below_has, below_only}
-use Rattle.pk_exists.proofs.Reaching.{leaves, edge_or_none, others_of, reach_or_none, mutual_within}
+use Rattle.pk_nest.proofs.ComponentLemmas.{mutual_within}
+use Rattle.pk_exists.proofs.Reaching.{leaves, edge_or_none, others_of, reach_or_none}
 
 abbrev pub HasNest : List (List ℕ) → List ℕ → Type 0
 HasNest g xs = (items : Items) × IsNest g (Contains xs) items

@@ -12,8 +12,8 @@ use Rattle.pk_linear.specs.Waits.{AreLasts}
 use Rattle.pk_linear.specs.Steps.{Stands, IsStep, AreSteps, Start, Then}
 use Rattle.pk_linear.proofs.ListLemmas.{contains_none}
 use Rattle.pk_exists.specs.Orders.{EveryPlanHasALinearOrder}
-use Rattle.pk_exists.proofs.StepLemmas.{find_component, stands_more, stands_last}
-use Rattle.pk_exists.proofs.SpellLemmas.{SpellsOrder, steps_spell}
+use Rattle.pk_linear.proofs.StepLemmas.{find_component, stands_more, stands_last}
+use Rattle.pk_linear.proofs.SpellLemmas.{SpellsOrder, steps_spell}
 use Rattle.pk_exists.proofs.Picking.{Picked, below, below_has}
 use Rattle.pk_exists.proofs.Reaching.{others_of}
 use Rattle.pk_exists.proofs.Candidates.{Chain, next_candidate}

@@ -3,8 +3,8 @@ use Rattle.std.proofs.Common.{◌≢◌, ℕ, zero, suc, ◌<◌, ◌≤◌, Lis
 use Rattle.std.proofs.lemmas.Bool.{cases_eq}
 use Rattle.std.specs.List.{slice_index_or}
 use Rattle.pk_linear.proofs.ListLemmas.{is_or_is_not}
-use Rattle.pk_plan.specs.Digraphs.{Edge, Reach, Here, Then, Mutual}
-use Rattle.pk_nest.proofs.Paths.{reach_end, reach_start, reach_trans, reach_from, reach_wider}
+use Rattle.pk_plan.specs.Digraphs.{Edge, Reach, Here, Then}
+use Rattle.pk_nest.proofs.Paths.{reach_start, reach_from, reach_wider}
 use Rattle.pk_exists.proofs.Told.{Told, any_in, told_both}
 use Rattle.pk_exists.proofs.Picking.{Picked, picked}
 
@@ -42,20 +42,3 @@ reach_or_none g (suc n) xs short u v = elim (is_or_is_not xs u) [
         ]
   ]
 ]
-
--- a path from h to a vertex that leads back to h keeps to what h reaches and is reached from
-reach_mutual : (g : List (List ℕ)) (S T : ℕ → Type 0) (h u : ℕ) → ((v : ℕ) → Mutual g S h v → T v) → Reach g S h u → Reach g S u h → Reach g T h u
-reach_mutual g S T h u all (Here s) back = Here (all h (Here s, Here s))
-reach_mutual g S T h u all (Then {w} r e s) back =
-    let back' : Reach g S w h = reach_from g S w u h (reach_end g S h w r) e back in
-    Then (reach_mutual g S T h w all r back') e (all u (Then r e s, back))
-
--- and so does the way back
-reach_mutual_back : (g : List (List ℕ)) (S T : ℕ → Type 0) (h u v : ℕ) → ((w : ℕ) → Mutual g S h w → T w) → Reach g S h u → Reach g S v h → Reach g S u v → Reach g T u v
-reach_mutual_back g S T h u v all to back (Here s) = Here (all u (to, back))
-reach_mutual_back g S T h u v all to back (Then {w} r e s) =
-    let back' : Reach g S w h = reach_from g S w v h (reach_end g S u w r) e back in
-    Then (reach_mutual_back g S T h u w all to back' r) e (all v (reach_trans g S h u v to (Then r e s), back))
-
-pub mutual_within : (g : List (List ℕ)) (S T : ℕ → Type 0) (h u : ℕ) → ((v : ℕ) → Mutual g S h v → T v) → Mutual g S h u → Mutual g T h u
-mutual_within g S T h u all m = (reach_mutual g S T h u all m.0 m.1, reach_mutual_back g S T h u h all m.0 (Here (reach_start g S h u m.0)) m.1)

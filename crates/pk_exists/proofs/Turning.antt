@@ -11,7 +11,7 @@ use Rattle.pk_plan.proofs.PlanLemmas.{Of, first_at, end_at, exit_within, exit_at
 use Rattle.pk_linear.specs.Waits.{AreLasts}
 use Rattle.pk_linear.specs.Steps.{Stands, IsOpen, IsFree, Follows, HasRole, AreSteps}
 use Rattle.pk_linear.proofs.ListLemmas.{contains_none, contains_here, contains_there, contains_cases}
-use Rattle.pk_exists.proofs.StepLemmas.{stands_more, stands_last, stands_push_cases, precedes_free, precedes_placed, find_component}
+use Rattle.pk_linear.proofs.StepLemmas.{stands_more, stands_last, stands_push_cases, precedes_free, precedes_placed, find_component}
 use Rattle.pk_exists.proofs.Backs.{back_of, Back}
 use Rattle.pk_exists.proofs.Candidates.{Candidate, Chain}
 

@@ -1,5 +1,5 @@
 -- The tasks of a linear order are those of its plan.
-use Rattle.std.proofs.Common.{◌≡◌, ℕ, zero, suc, ◌<◌, ◌≤◌, ◌&&◌, ◌⊎◌, inl, inr, List, [], ◌∷◌, ◌++◌, drop, Bool, true, false, ap, sym, subst, ◌∙◌, refl, arith, Contains}
+use Rattle.std.proofs.Common.{◌≡◌, ℕ, zero, suc, ◌<◌, ◌≤◌, ◌&&◌, ◌⊎◌, inl, inr, List, [], ◌∷◌, ◌++◌, drop, Bool, true, false, ap, sym, subst, ◌∙◌, refl, arith, Contains, append-nil}
 use Rattle.std.proofs.Math.Dec.{leb, ltb}
 use Rattle.std.proofs.lemmas.Bool.Decides.{nat_tests}
 use Rattle.std.proofs.lemmas.List.{append_assoc}
@@ -36,12 +36,8 @@ elements_to_do (Component_then h x rest more) left =
     let outer = elements_to_do more left in
     ap (λ (us : List ℕ). h ∷ us) (inner ∙ ap (λ (us : List ℕ). elements_of rest ++ x ∷ us) outer ∙ sym (append_assoc (elements_of rest) (x ∷ elements_of more) (elements_left left)))
 
-append_none : (us : List ℕ) → us ++ [] ≡ us
-append_none [] = refl
-append_none (u ∷ us) = ap (λ (vs : List ℕ). u ∷ vs) (append_none us)
-
 pub level_to_do : (level : Level) → elements_left (to_do level []) ≡ elements_of level
-level_to_do level = elements_to_do level [] ∙ append_none (elements_of level)
+level_to_do level = elements_to_do level [] ∙ append-nil (elements_of level)
 
 -- a run that a level has to do
 abbrev Does : Level → Task → Type 0

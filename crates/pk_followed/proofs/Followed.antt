@@ -6,7 +6,6 @@ use Rattle.pk_typed.specs.Trees.{UnitTree}
 use Rattle.pk_calls.specs.declared.listings.CallPath.{CallPath}
 use Rattle.pk_calls.specs.Paths.{IsListing}
 use Rattle.pk_graph.specs.Steps.{Numbers, Failure}
-use Rattle.pk_number.specs.Numbering.{entry_point}
 use Rattle.pk_lower.specs.Paths.{path_of}
 use Rattle.pk_welltyped.specs.WellTyped.{IsUnit}
 use Rattle.pk_meaning.specs.Objects.{Objects}
@@ -27,6 +26,7 @@ use Rattle.pk_followed.proofs.Starts.{have_kinds}
 use Rattle.pk_followed.proofs.Propers.{is_proper}
 use Rattle.pk_followed.proofs.Arguments.{Given, arguments_given, first_fits, given_fits}
 use Rattle.pk_followed.proofs.Starting.{starts_with}
+use Rattle.pk_draft.specs.Drafts.{entry_point}
 
 -- a run begins with objects, and these are the first with the arguments
 pub record BeginsAt (p : Program) (first : Config) : Type 0 where

@@ -1,7 +1,7 @@
 -- Each path's body stands in the graph of its unit, and the entry's begins at the entry point; so the graph follows the program.
 use Rattle.std.proofs.Common.{◌≡◌, ℕ, ◌+◌, ◌<◌, List, [], ◌∷◌, length, Option, Some, None, refl, ap, sym, subst, ◌∙◌, arith, slice_index_or}
 use Rattle.std.proofs.lemmas.List.{length-replicate, get_or-set_same}
-use Rattle.std.specs.Prelude.{All, slice_get, unwrap_or, replicate}
+use Rattle.std.specs.Prelude.{unwrap_or, replicate}
 use Rattle.pk_typed.specs.Trees.{BodyTree, FunctionTree, UnitTree}
 use Rattle.pk_calls.specs.declared.listings.CallPath.{CallPath}
 use Rattle.pk_calls.specs.Calls.{HasBody}
@@ -9,8 +9,7 @@ use Rattle.pk_calls.specs.Paths.{entry_path, IsListing}
 use Rattle.pk_calls.specs.Laws.{AreCallPaths, PathsAreAll}
 use Rattle.pk_draft.specs.declared.drafts.Label.{Label}
 use Rattle.pk_draft.specs.declared.drafts.Region.{Region}
-use Rattle.pk_draft.specs.Drafts.{no_region}
-use Rattle.pk_number.specs.Numbering.{entry_point}
+use Rattle.pk_draft.specs.Drafts.{no_region, entry_point}
 use Rattle.pk_lower.specs.Parts.{file_variable}
 use Rattle.pk_welltyped.specs.WellTyped.{IsUnit}
 use Rattle.pk_marks.specs.Marks.{IsMarked, IsMarkedIf, AreMarked}

@@ -52,7 +52,7 @@ record ReadsName (s : State) (ms : List Marked) (rest : List Token) (d : Naming)
 abbrev naming : Declaring → Identifier → Option ExpressionTree → Naming
 naming d id l = record { declaring = d; name = id; length = l }
 
-step_length : (d : Declaring) (id : Identifier) (t : Token) → t.kind ≡ kind.Punctuator mark.OpenBracket →
+pub step_length : (d : Declaring) (id : Identifier) (t : Token) → t.kind ≡ kind.Punctuator mark.OpenBracket →
     step (after_name d id) t ≡ taken (site_nesting d.site + 1) (operand (site_nesting d.site + 1) (as_whole (as_length d id)))
 step_length d id t e = rw e
 
@@ -165,7 +165,7 @@ reads_items (expression_then e' es) e d at done s t rest ms same f fs h ends =
       goes_on = more.goes_on;
     }))
 
-step_last_comma : (d : Naming) (at : Pos) (e : ExpressionTree) (es : ExpressionTrees) (t : Token) → t.kind ≡ kind.Punctuator mark.CloseBrace →
+pub step_last_comma : (d : Naming) (at : Pos) (e : ExpressionTree) (es : ExpressionTrees) (t : Token) → t.kind ≡ kind.Punctuator mark.CloseBrace →
     step (after_item d at e es) t ≡ taken (naming_nesting d) (after_initializer (with_initializer d (Some (braced at e es))))
 step_last_comma d at e es t is = rw is
 
@@ -229,7 +229,7 @@ step_end_declaration : (d : Declared) (t : Token) → t.kind ≡ kind.Punctuator
     after_declarator d t ≡ taken (site_nesting d.site) (declared_at d.site (record { specifiers = d.specifiers; declarators = d.declarators }))
 step_end_declaration d t e = rw e
 
-step_next_name : (d : Declaring) (t : Token) → t.kind ≡ kind.Name → step (after_comma d) t ≡ taken (site_nesting d.site) (after_name d (identifier_of t))
+pub step_next_name : (d : Declaring) (t : Token) → t.kind ≡ kind.Name → step (after_comma d) t ≡ taken (site_nesting d.site) (after_name d (identifier_of t))
 step_next_name d t e = rw e
 
 -- these declarators and those that come after them

@@ -1,5 +1,7 @@
 -- The accesses of a graph: its operations that can fault, in order of evaluation.
 use Rattle.std.specs.Prelude.{ℕ, ◌+◌, Bool, true, false, List, [], ◌∷◌, ◌++◌}
+use Rattle.pk_ctypes.specs.declared.faults.Fault.{Fault}
+use Rattle.pk_ctypes.specs.declared.faults.Fault.TheVariants as faults
 use Rattle.pk_ctypes.specs.declared.types.IntType.{IntType}
 use Rattle.pk_ctypes.specs.declared.types.Op.{Op}
 use Rattle.pk_ctypes.specs.declared.types.Op.TheVariants.{Add, Sub, Mul, Div, Rem, Shl, Shr, And, Or, Xor, Lt, Gt, Le, Ge, Eq, Ne, Neg, BitNot, Not}
@@ -20,6 +22,15 @@ pub data OperationOf : Type 0 where
   -- a shift: the left operand and the count
   Shift : Op → IntType → TreeOf ℕ → TreeOf ℕ → OperationOf
   Assertion : TreeOf ℕ → OperationOf
+
+-- the fault that it can come to
+abbrev pub fault_of : OperationOf → Fault
+fault_of (Index n i) = faults.Index
+fault_of (Divisor a b) = faults.DivZero
+fault_of (Negation t e) = faults.Overflow
+fault_of (Result op t a b) = faults.Overflow
+fault_of (Shift op t a b) = faults.Shift
+fault_of (Assertion e) = faults.Assert
 
 -- an access of a point
 pub record AccessOf : Type 0 where

@@ -47,14 +47,14 @@ pub converts : Converts
 converts = record { holds = wraps; adds = adds; clamps = clamps_members }
 
 -- a fitted number is the number itself in a signed type, and its conversion in an unsigned one
-fitted_signed : (fault : Fault) (t : IntType) (u w : ℤ) → is_signed_of t ≡ true → fitted fault t u ≡ Ok w → InType t u × (u ≡ w)
+pub fitted_signed : (fault : Fault) (t : IntType) (u w : ℤ) → is_signed_of t ≡ true → fitted fault t u ≡ Ok w → InType t u × (u ≡ w)
 fitted_signed fault t u w s e = by (cases_of_type t u)
   where
     by : InType t u ⊎ ((is_in_type t u ≡ false) × (InType t u → ⊥)) → InType t u × (u ≡ w)
     by (inl h) = let same : u ≡ w = cc (fitted_inside fault t u h) in (h, same)
     by (inr o) = absurd (cc (fitted_past fault t u s o.1))
 
-fitted_unsigned : (fault : Fault) (t : IntType) (u w : ℤ) → is_signed_of t ≡ false → fitted fault t u ≡ Ok w → wrapped t u ≡ w
+pub fitted_unsigned : (fault : Fault) (t : IntType) (u w : ℤ) → is_signed_of t ≡ false → fitted fault t u ≡ Ok w → wrapped t u ≡ w
 fitted_unsigned fault t u w s e = cc (ap (λ b. if b then (if is_in_type t u then Ok u else Err fault) else Ok (wrapped t u)) s)
 
 within_sound : (fault : Fault) (t : IntType) (r : Range) (u w : ℤ) → Holds r u → fitted fault t u ≡ Ok w → (s : Bool) → is_signed_of t ≡ s → HeldBy (if s then clamped t r else Some (shifted t r).0) w

@@ -20,12 +20,13 @@ use Rattle.pk_plan.specs.declared.places.Place.{Place}
 use Rattle.pk_plan.specs.Plans.{PlanView, place_of, predecessors_of}
 use Rattle.pk_plan.specs.Axioms.{Axioms}
 use Rattle.pk_plan.proofs.PlanLemmas.{Of, first_at, end_at, first_before_end, end_within, exit_within, head_within, inside_by_place, stands_inside, same_place, constrains_from}
+use Rattle.pk_plan.specs.Digraphs.{lists_of}
 use Rattle.pk_linear.specs.declared.waits.Reading.{Reading}
 use Rattle.pk_linear.specs.declared.progress.Opened.{Opened}
 use Rattle.pk_linear.specs.declared.progress.Progress.{Progress}
 use Rattle.pk_linear.specs.Waits.{AreLasts, WaitsFor, IsPlaced, IsReadTo}
 use Rattle.pk_linear.specs.Steps.{elements_at, Stands, IsOpen, IsFree, Follows, AreSteps, Start, Then}
-use Rattle.pk_linear.specs.Progress.{IsCandidate, AreOpened, IsReadyAround, IsKnown, IsWaiting, IsLookedAt, Turns, reading_of, lists_in}
+use Rattle.pk_linear.specs.Progress.{IsCandidate, AreOpened, IsReadyAround, IsKnown, IsWaiting, IsLookedAt, Turns, reading_of}
 use Rattle.pk_linear.proofs.ListLemmas.{contains_none, contains_here, contains_cases, is_or_is_not, IsSplit, split_at}
 use Rattle.pk_linear.proofs.StepLemmas.{MapSplit, map_split, last_inside, stands_more, stands_last, stands_push_cases, placed_free}
 use Rattle.pk_linear.proofs.WaitLemmas.{read_nothing}
@@ -225,7 +226,7 @@ pub record IsKnownPlaced (p : PlanView) (s s' : Progress) (waited : List ℕ) : 
 
 placed_from : (p : PlanView) (s : Progress) (e : ℕ) (opened : Vec Opened Global) (ready : BTreeSet ℕ) (places : Vec Place Global) (empty : Vec ℕ Global) → Axioms p → IsNow p s e
     → IsPlacedNow p s e places.items opened.items ready.keys → empty.items ≡ []
-    → IsKnownPlaced p s (record { lasts = s.lasts; placed = with_item s.placed e true; readings = s.readings; waiting = with_item s.waiting e empty; ready = ready; opened = opened; places = places }) (get_or (lists_in s.waiting.items) e [])
+    → IsKnownPlaced p s (record { lasts = s.lasts; placed = with_item s.placed e true; readings = s.readings; waiting = with_item s.waiting e empty; ready = ready; opened = opened; places = places }) (get_or (lists_of s.waiting.items) e [])
 placed_from p s e opened ready places empty axioms now it nothing = record {
   known = record {
     lasts = known.lasts;
@@ -246,7 +247,7 @@ placed_from p s e opened ready places empty axioms now it nothing = record {
         | inl around ↦ kept f (it.turned.kept f within fresh (inr around))
         | inr last ↦ elim last [
           | inl waiting ↦ elim (cases_eq waiting.0 e) [
-            | inl same ↦ inr (inr (inr (subst (λ (x : ℕ). Contains (get_or (lists_in s.waiting.items) x []) f) same waiting.1)))
+            | inl same ↦ inr (inr (inr (subst (λ (x : ℕ). Contains (get_or (lists_of s.waiting.items) x []) f) same waiting.1)))
             | inr other ↦ inr (inr (inl (
               waiting.0,
               subst (λ (xs : List ℕ). Contains xs f) (sym (elsewhere waiting.0 other)) waiting.1,
@@ -282,11 +283,11 @@ placed_from p s e opened ready places empty axioms now it nothing = record {
     marks : length s.placed.items ≡ p.elements
     marks = now.known.marks
 
-    elsewhere : (a : ℕ) → a ≢ e → get_or (lists_in (set s.waiting.items e empty)) a [] ≡ get_or (lists_in s.waiting.items) a []
+    elsewhere : (a : ℕ) → a ≢ e → get_or (lists_of (set s.waiting.items e empty)) a [] ≡ get_or (lists_of s.waiting.items) a []
     elsewhere a other = list_elsewhere s.waiting.items e a empty other
 
     kept : (f : ℕ) → Contains ready.keys f ⊎ IsReadyAround opened.items f
-        → Contains ready.keys f ⊎ IsReadyAround opened.items f ⊎ ((a : ℕ) × Contains (get_or (lists_in (set s.waiting.items e empty)) a []) f × (Stands places.items a → ⊥)) ⊎ Contains (get_or (lists_in s.waiting.items) e []) f
+        → Contains ready.keys f ⊎ IsReadyAround opened.items f ⊎ ((a : ℕ) × Contains (get_or (lists_of (set s.waiting.items e empty)) a []) f × (Stands places.items a → ⊥)) ⊎ Contains (get_or (lists_of s.waiting.items) e []) f
     kept f it = elim it [ inl in_ready ↦ inl in_ready | inr around ↦ inr (inl around) ]
 
 -- what a turn leaves as it is
@@ -297,13 +298,13 @@ turn_keeps p s s' e (Exit back) turns = turns.0
 
 pub known_placed : (p : PlanView) (s s' : Progress) (e : ℕ) (role : Role) (places : Vec Place Global) (empty : Vec ℕ Global) → Axioms p → IsNow p s e → Turns p s s' e role
     → places.items ≡ s'.places.items ++ record { element = e; role = role } ∷ [] → empty.items ≡ []
-    → IsKnownPlaced p s (record { lasts = s'.lasts; placed = with_item s'.placed e true; readings = s'.readings; waiting = with_item s'.waiting e empty; ready = s'.ready; opened = s'.opened; places = places }) (get_or (lists_in s'.waiting.items) e [])
+    → IsKnownPlaced p s (record { lasts = s'.lasts; placed = with_item s'.placed e true; readings = s'.readings; waiting = with_item s'.waiting e empty; ready = s'.ready; opened = s'.opened; places = places }) (get_or (lists_of s'.waiting.items) e [])
 known_placed p s s' e role places empty axioms now turns pushed nothing =
     let keeps = turn_keeps p s s' e role turns in
     let it = placed_now p s s' e role axioms now turns in
     let pushed' : places.items ≡ s.places.items ++ record { element = e; role = role } ∷ [] = pushed ∙ ap (λ (x : Progress). x.places.items ++ record { element = e; role = role } ∷ []) keeps in
     let done = placed_from p s e s'.opened s'.ready places empty axioms now (subst (λ (ps : List Place). IsPlacedNow p s e ps s'.opened.items s'.ready.keys) (sym pushed') it) nothing in
-    subst (λ (x : Progress). IsKnownPlaced p s (record { lasts = x.lasts; placed = with_item x.placed e true; readings = x.readings; waiting = with_item x.waiting e empty; ready = s'.ready; opened = s'.opened; places = places }) (get_or (lists_in x.waiting.items) e [])) (sym keeps) done
+    subst (λ (x : Progress). IsKnownPlaced p s (record { lasts = x.lasts; placed = with_item x.placed e true; readings = x.readings; waiting = with_item x.waiting e empty; ready = s'.ready; opened = s'.opened; places = places }) (get_or (lists_of x.waiting.items) e [])) (sym keeps) done
 
 -- the first place of a stretch whose element isn't placed
 record IsFirstOpen (p : PlanView) (places : List Place) (low high : ℕ) : Type 0 where
@@ -402,7 +403,7 @@ all_placed p s axioms known = by_components known.components (reverse s.opened.i
 pub started : (p : PlanView) (s : Progress) → AreLasts p s.lasts.items
     → length s.placed.items ≡ p.elements → ((e : ℕ) → get_or s.placed.items e false ≡ false)
     → length s.readings.items ≡ p.elements → ((e : ℕ) → e < p.elements → reading_of s e ≡ record { place = place_of p e; read = 0 })
-    → length s.waiting.items ≡ p.elements → ((a : ℕ) → get_or (lists_in s.waiting.items) a [] ≡ [])
+    → length s.waiting.items ≡ p.elements → ((a : ℕ) → get_or (lists_of s.waiting.items) a [] ≡ [])
     → s.ready.keys ≡ [] → s.opened.items ≡ [] → s.places.items ≡ []
     → IsKnown p s s.ready.keys (λ e. e < p.elements)
 started p s lasts marks unmarked readings reading waiting empty ready opened places = record {
@@ -428,16 +429,16 @@ started p s lasts marks unmarked readings reading waiting empty ready opened pla
     none e stands = contains_none (subst (λ (ps : List Place). Stands ps e) places stands)
 
 -- one more empty list
-pub empties_push : (lists : List (Vec ℕ Global)) (v : Vec ℕ Global) (k : ℕ) → v.items ≡ [] → get_or (lists_in lists) k [] ≡ [] → get_or (lists_in (lists ++ v ∷ [])) k [] ≡ []
-empties_push lists v k nothing before = elim (cases_lt k (length (lists_in lists))) [
-  | inl inner ↦ is ∙ get_or_append_left (lists_in lists) (v.items ∷ []) [] k inner ∙ before
-  | inr later ↦ elim (cases_eq k (length (lists_in lists))) [
-    | inl at ↦ is ∙ get_or_push (lists_in lists) v.items [] k (sym at) ∙ nothing
-    | inr past ↦ is ∙ get_or_past (lists_in lists ++ v.items ∷ []) k [] (let long = length_push (lists_in lists) v.items in omega (arith, long, later, past))
+pub empties_push : (lists : List (Vec ℕ Global)) (v : Vec ℕ Global) (k : ℕ) → v.items ≡ [] → get_or (lists_of lists) k [] ≡ [] → get_or (lists_of (lists ++ v ∷ [])) k [] ≡ []
+empties_push lists v k nothing before = elim (cases_lt k (length (lists_of lists))) [
+  | inl inner ↦ is ∙ get_or_append_left (lists_of lists) (v.items ∷ []) [] k inner ∙ before
+  | inr later ↦ elim (cases_eq k (length (lists_of lists))) [
+    | inl at ↦ is ∙ get_or_push (lists_of lists) v.items [] k (sym at) ∙ nothing
+    | inr past ↦ is ∙ get_or_past (lists_of lists ++ v.items ∷ []) k [] (let long = length_push (lists_of lists) v.items in omega (arith, long, later, past))
   ]
 ]
   where
-    is : get_or (lists_in (lists ++ v ∷ [])) k [] ≡ get_or (lists_in lists ++ v.items ∷ []) k []
+    is : get_or (lists_of (lists ++ v ∷ [])) k [] ≡ get_or (lists_of lists ++ v.items ∷ []) k []
     is = ap (λ (ls : List (List ℕ)). get_or ls k []) (map-append (λ (x : Vec ℕ Global). x.items) lists (v ∷ []))
 
 -- one more reading

@@ -1,9 +1,9 @@
 pub mod ListLemmas
-mod StepLemmas
-mod LevelLemmas
+pub mod StepLemmas
+pub mod LevelLemmas
 mod WaitLemmas
 mod LookLemmas
-mod SpellLemmas
+pub mod SpellLemmas
 pub mod Determined
 mod TurnLemmas
 mod KnownLemmas

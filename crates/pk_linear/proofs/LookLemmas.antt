@@ -12,24 +12,25 @@ use Rattle.std.proofs.lemmas.Bool.Decides.{nat_tests}
 use Rattle.std.proofs.lemmas.List.{length-set, length-map, map-set, get_or-set_same, get_or-set_other}
 use Rattle.std.proofs.lemmas.List.Elements.{Contains-push, Contains-push_cases, Contains-append_left}
 use Rattle.pk_plan.specs.Plans.{PlanView}
+use Rattle.pk_plan.specs.Digraphs.{lists_of}
 use Rattle.pk_linear.specs.declared.waits.Reading.{Reading}
 use Rattle.pk_linear.specs.declared.progress.Progress.{Progress}
 use Rattle.pk_linear.specs.Waits.{WaitsFor, WaitsNoMore, IsReadTo}
-use Rattle.pk_linear.specs.Progress.{IsLookedAt, lists_in}
+use Rattle.pk_linear.specs.Progress.{IsLookedAt}
 use Rattle.pk_linear.proofs.ListLemmas.{contains_none, contains_here, contains_there, contains_cases}
 
 -- a written list among lists
-written_list : (lists : List (Vec ℕ Global)) (a : ℕ) (list : Vec ℕ Global) → lists_in (set lists a list) ≡ set (lists_in lists) a list.items
+written_list : (lists : List (Vec ℕ Global)) (a : ℕ) (list : Vec ℕ Global) → lists_of (set lists a list) ≡ set (lists_of lists) a list.items
 written_list lists a list = map-set (λ (v : Vec ℕ Global). v.items) lists a list
 
-pub list_there : (lists : List (Vec ℕ Global)) (a : ℕ) (list : Vec ℕ Global) → a < length lists → get_or (lists_in (set lists a list)) a [] ≡ list.items
+pub list_there : (lists : List (Vec ℕ Global)) (a : ℕ) (list : Vec ℕ Global) → a < length lists → get_or (lists_of (set lists a list)) a [] ≡ list.items
 list_there lists a list within =
     ap (λ (ls : List (List ℕ)). get_or ls a []) (written_list lists a list)
-    ∙ get_or-set_same (lists_in lists) a list.items [] (let long = length-map lists (λ (v : Vec ℕ Global). v.items) in omega (arith, long, within))
+    ∙ get_or-set_same (lists_of lists) a list.items [] (let long = length-map lists (λ (v : Vec ℕ Global). v.items) in omega (arith, long, within))
 
-pub list_elsewhere : (lists : List (Vec ℕ Global)) (a b : ℕ) (list : Vec ℕ Global) → b ≢ a → get_or (lists_in (set lists a list)) b [] ≡ get_or (lists_in lists) b []
+pub list_elsewhere : (lists : List (Vec ℕ Global)) (a b : ℕ) (list : Vec ℕ Global) → b ≢ a → get_or (lists_of (set lists a list)) b [] ≡ get_or (lists_of lists) b []
 list_elsewhere lists a b list other =
-    ap (λ (ls : List (List ℕ)). get_or ls b []) (written_list lists a list) ∙ get_or-set_other (lists_in lists) a b list.items [] other
+    ap (λ (ls : List (List ℕ)). get_or ls b []) (written_list lists a list) ∙ get_or-set_other (lists_of lists) a b list.items [] other
 
 -- a written reading
 read_kept : (p : PlanView) (placed : List Bool) (readings : List Reading) (item e : ℕ) (reading : Reading) → item < length readings → IsReadTo p placed item reading
@@ -45,7 +46,7 @@ read_kept p placed readings item e reading within now before =
 pub looked_waiting : (p : PlanView) (s : Progress) (item a : ℕ) (reading : Reading) (list : Vec ℕ Global)
     → length s.readings.items ≡ p.elements → length s.waiting.items ≡ p.elements → item < p.elements → a < p.elements
     → IsReadTo p s.placed.items item reading → WaitsFor p s.lasts.items item a → get_or s.placed.items a false ≡ false
-    → list.items ≡ get_or (lists_in s.waiting.items) a [] ++ item ∷ []
+    → list.items ≡ get_or (lists_of s.waiting.items) a [] ++ item ∷ []
     → IsLookedAt p s (record { lasts = s.lasts; placed = s.placed; readings = with_item s.readings item reading; waiting = with_item s.waiting a list; ready = s.ready; opened = s.opened; places = s.places }) item
 looked_waiting p s item a reading list readings waiting item_in a_in read waits unplaced pushed = record {
   same = refl;
@@ -56,24 +57,24 @@ looked_waiting p s item a reading list readings waiting item_in a_in read waits 
   ready_kept = λ e has. has;
   waits_from = λ b e has. elim (cases_eq b a) [
     | inl same ↦
-        let there : Contains (get_or (lists_in s.waiting.items) a [] ++ item ∷ []) e =
-        subst (λ (xs : List ℕ). Contains xs e) (list_there s.waiting.items a list long ∙ pushed) (subst (λ (x : ℕ). Contains (get_or (lists_in (set s.waiting.items a list)) x []) e) same has) in
-        elim (Contains-push_cases (get_or (lists_in s.waiting.items) a []) item e there) [
-          | inl old ↦ inl (subst (λ (x : ℕ). Contains (get_or (lists_in s.waiting.items) x []) e) (sym same) old)
+        let there : Contains (get_or (lists_of s.waiting.items) a [] ++ item ∷ []) e =
+        subst (λ (xs : List ℕ). Contains xs e) (list_there s.waiting.items a list long ∙ pushed) (subst (λ (x : ℕ). Contains (get_or (lists_of (set s.waiting.items a list)) x []) e) same has) in
+        elim (Contains-push_cases (get_or (lists_of s.waiting.items) a []) item e there) [
+          | inl old ↦ inl (subst (λ (x : ℕ). Contains (get_or (lists_of s.waiting.items) x []) e) (sym same) old)
           | inr new ↦ inr (sym new, subst (WaitsFor p s.lasts.items item) (sym same) waits)
         ]
     | inr other ↦ inl (subst (λ (xs : List ℕ). Contains xs e) (list_elsewhere s.waiting.items a b list other) has)
   ];
   waits_kept = λ b e has. elim (cases_eq b a) [
     | inl same ↦
-        subst (λ (x : ℕ). Contains (get_or (lists_in (set s.waiting.items a list)) x []) e) (sym same)
+        subst (λ (x : ℕ). Contains (get_or (lists_of (set s.waiting.items a list)) x []) e) (sym same)
         (subst (λ (xs : List ℕ). Contains xs e) (sym (list_there s.waiting.items a list long ∙ pushed))
-        (Contains-append_left (get_or (lists_in s.waiting.items) a []) (item ∷ []) e (subst (λ (x : ℕ). Contains (get_or (lists_in s.waiting.items) x []) e) same has)))
+        (Contains-append_left (get_or (lists_of s.waiting.items) a []) (item ∷ []) e (subst (λ (x : ℕ). Contains (get_or (lists_of s.waiting.items) x []) e) same has)))
     | inr other ↦ subst (λ (xs : List ℕ). Contains xs e) (sym (list_elsewhere s.waiting.items a b list other)) has
   ];
   seen = inr (
     a,
-    subst (λ (xs : List ℕ). Contains xs item) (sym (list_there s.waiting.items a list long ∙ pushed)) (Contains-push (get_or (lists_in s.waiting.items) a []) item),
+    subst (λ (xs : List ℕ). Contains xs item) (sym (list_there s.waiting.items a list long ∙ pushed)) (Contains-push (get_or (lists_of s.waiting.items) a []) item),
     (λ placed. absurd (let both : true ≡ false = sym placed ∙ unplaced in cc)),
   );
 }

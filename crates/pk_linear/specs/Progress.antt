@@ -1,28 +1,23 @@
 -- What is known while the elements of a plan are placed.
-use Rattle.std.specs.Prelude.{◌≡◌, ◌≢◌, ℕ, ◌+◌, ◌-◌, ◌<◌, ◌≤◌, ◌↔◌, ◌⊎◌, List, [], ◌∷◌, ◌++◌, length, reverse, map, slice_index, slice_index_or, Contains}
-use Rattle.std.specs.declared.vec.Vec.{Vec}
-use Rattle.std.specs.declared.alloc.Global.{Global}
+use Rattle.std.specs.Prelude.{◌≡◌, ◌≢◌, ℕ, ◌+◌, ◌-◌, ◌<◌, ◌≤◌, ◌↔◌, ◌⊎◌, List, [], ◌∷◌, ◌++◌, length, reverse, slice_index, slice_index_or, Contains}
 use Rattle.pk_plan.specs.declared.components.Component.{Component}
 use Rattle.pk_plan.specs.declared.places.Role.{Role}
 use Rattle.pk_plan.specs.declared.places.Role.TheVariants.{Vertex, Head, Exit}
 use Rattle.pk_plan.specs.declared.places.Place.{Place}
 use Rattle.pk_plan.specs.Plans.{PlanView, place_of}
+use Rattle.pk_plan.specs.Digraphs.{lists_of}
 use Rattle.pk_linear.specs.declared.waits.Reading.{Reading}
 use Rattle.pk_linear.specs.declared.progress.Opened.{Opened}
 use Rattle.pk_linear.specs.declared.progress.Progress.{Progress}
 use Rattle.pk_linear.specs.Waits.{AreLasts, WaitsFor, WaitsNoMore, IsPlaced, IsReadTo}
 use Rattle.pk_linear.specs.Steps.{Stands, IsOpen, IsFree, Follows, AreSteps}
 
--- the lists that vectors hold
-abbrev pub lists_in : List (Vec ℕ Global) → List (List ℕ)
-lists_in vectors = map (λ (v : Vec ℕ Global). v.items) vectors
-
 abbrev pub reading_of : Progress → ℕ → Reading
 reading_of s e = slice_index_or s.readings.items e (record { place = 0; read = 0 })
 
 -- e was made to wait for a
 abbrev pub IsWaiting : Progress → ℕ → ℕ → Type 0
-IsWaiting s a e = Contains (slice_index_or (lists_in s.waiting.items) a []) e
+IsWaiting s a e = Contains (slice_index_or (lists_of s.waiting.items) a []) e
 
 -- e is ready at the level inside these components
 pub record IsCandidate (p : PlanView) (lasts : List ℕ) (places : List Place) (around : List Component) (e : ℕ) : Type 0 where

@@ -6,9 +6,10 @@ use Rattle.pk_ctypes.specs.declared.types.IntType.{IntType}
 use Rattle.pk_ctypes.specs.declared.types.IntType.TheVariants.{Int}
 use Rattle.pk_ctypes.specs.declared.types.Op.{Op}
 use Rattle.pk_ctypes.specs.Types.{represents}
+use Rattle.pk_ctypes.specs.Operators.{is_not}
 use Rattle.pk_typed.specs.declared.values.Value.{Value}
 use Rattle.pk_typed.specs.declared.values.Variable.{Variable}
-use Rattle.pk_typed.specs.Trees.{PlaceTree, ValueTree, EffectTree, ValueTrees}
+use Rattle.pk_typed.specs.Trees.{PlaceTree, ValueTree, EffectTree}
 use Rattle.pk_typed.specs.Trees as tree
 use Rattle.pk_typed.specs.Types.{type_of}
 use Rattle.pk_typed.specs.Views.{value_trees}
@@ -350,7 +351,7 @@ not_chosen e f p q d b = if b then e.ways.choice q p d else rows.guards p q (f d
 
 -- the choice of `!a` is that of a, exchanged
 pub not_choice : (c : Context) (v : ValueTree) (op : Op) (o : Pos) (t : IntType) (a : ValueTree) (p q : ℕ) (d e : DraftOf ℕ)
-    → v ≡ tree.unary op o t a → rows.is_not op ≡ true → e ≡ (ways c a).choice q p d → e ≡ (ways c v).choice p q d
+    → v ≡ tree.unary op o t a → is_not op ≡ true → e ≡ (ways c a).choice q p d → e ≡ (ways c v).choice p q d
 not_choice c v op o t a p q d e is to h =
     choice_by c v _ _ p q d e is (ways_unary c op o t a)
     (h ∙ ap (not_chosen (lowered c a) (rows.unary_value op (site c o) t (lowered c a)) p q d) (sym to))

@@ -4,6 +4,7 @@ use Rattle.std.specs.Prelude.{ℤ}
 use Rattle.pk_ctypes.specs.declared.places.Pos.{Pos}
 use Rattle.pk_ctypes.specs.declared.types.IntType.{IntType}
 use Rattle.pk_ctypes.specs.declared.types.Op.{Op}
+use Rattle.pk_ctypes.specs.Operators.{is_not}
 use Rattle.pk_typed.specs.declared.values.Variable.{Variable}
 use Rattle.pk_typed.specs.Trees.{PlaceTree, ValueTree, EffectTree, ValueTrees}
 use Rattle.pk_typed.specs.Trees as tree
@@ -190,8 +191,8 @@ unary_decides : (b : Bool) (s : Shape) (t : IntType) (f : DraftOf ℕ → Given 
 unfolding Decides
 unary_decides b s t f choice is p q d = ap (λ (x : Bool). if x then choice q p d else rows.guards p q (f d)) (sym is)
 
-pub decides_unary : (c : Context) (v : ValueTree) (op : Op) (p : Pos) (t : IntType) (e : ValueTree) → v ≡ tree.unary op p t e → rows.is_not op ≡ false → Decides (ways c v)
-decides_unary c v op p t e is h = decides_by c v _ _ is (ways_unary c op p t e) (unary_decides (rows.is_not op) _ _ (rows.unary_value op (site c p) t (lowered c e)) (ways c e).choice h)
+pub decides_unary : (c : Context) (v : ValueTree) (op : Op) (p : Pos) (t : IntType) (e : ValueTree) → v ≡ tree.unary op p t e → is_not op ≡ false → Decides (ways c v)
+decides_unary c v op p t e is h = decides_by c v _ _ is (ways_unary c op p t e) (unary_decides (is_not op) _ _ (rows.unary_value op (site c p) t (lowered c e)) (ways c e).choice h)
 
 -- ---- an expression whose tree is dropped
 

@@ -3,10 +3,9 @@ use Rattle.std.specs.Prelude.{ℕ, ◌+◌, List, [], ◌∷◌, length, Bool, t
 use Rattle.pk_ctypes.specs.declared.types.IntType.{IntType}
 use Rattle.pk_ctypes.specs.declared.types.IntType.TheVariants.{Int}
 use Rattle.pk_ctypes.specs.declared.types.Op.{Op}
-use Rattle.pk_ctypes.specs.declared.types.Op.TheVariants.{Add, Sub, Mul, Div, Rem, Shl, Shr, And, Or, Xor, Lt, Gt, Le, Ge, Eq, Ne, Neg, BitNot, Not}
 use Rattle.pk_ctypes.specs.Types.{represents}
-use Rattle.pk_ctypes.specs.Operators.{result_type}
-use Rattle.pk_typed.specs.Trees.{PlaceTree, ValueTree, EffectTree, ValueTrees}
+use Rattle.pk_ctypes.specs.Operators.{result_type, is_not}
+use Rattle.pk_typed.specs.Trees.{ValueTree, ValueTrees}
 use Rattle.pk_typed.specs.Trees as tree
 use Rattle.pk_typed.specs.Types.{type_of}
 use Rattle.pk_graph.specs.declared.trees.Site.{Site}
@@ -228,27 +227,6 @@ unary_after op s u t r = (unary_tree op s t (conversion u t r.0), r.1)
 
 abbrev pub unary_value : {V : Type 0} → Op → Site → IntType → Operand V → DraftOf V → Given V
 unary_value op s t e d = unary_after op s e.int_type t (e.ways.value d)
-
-abbrev pub is_not : Op → Bool
-is_not Not = true
-is_not Neg = false
-is_not BitNot = false
-is_not Add = false
-is_not Sub = false
-is_not Mul = false
-is_not Div = false
-is_not Rem = false
-is_not Shl = false
-is_not Shr = false
-is_not And = false
-is_not Or = false
-is_not Xor = false
-is_not Lt = false
-is_not Gt = false
-is_not Le = false
-is_not Ge = false
-is_not Eq = false
-is_not Ne = false
 
 -- the choice of `!a` is that of a, exchanged
 abbrev pub unary_choice : {V : Type 0} → Op → Site → IntType → Operand V → (p q : ℕ) → DraftOf V → DraftOf V

@@ -2,6 +2,7 @@
 
 ghost use Rattle.std.specs.Prelude.{◌≡◌, ◌+◌, ◌<◌, ◌^◌, pos, IfOk, OnOk};
 ghost use Rattle.pk_ctypes.specs.declared.types.IntType.TheVariants.{Int};
+ghost use Rattle.pk_ctypes.specs.Operators.{is_not};
 ghost use Rattle.pk_graph.specs.Views.{tree_view, array_view};
 ghost use Rattle.pk_draft.specs.Drafts as drafts;
 ghost use Rattle.pk_draft.specs.Folding as folding;
@@ -625,7 +626,7 @@ pub fn end_join(
 }
 
 pub fn is_not(op: Op) -> bool
-    ensures { result ≡ rows.is_not op }
+    ensures { result ≡ is_not op }
 {
     match op {
         Op::Not => true,

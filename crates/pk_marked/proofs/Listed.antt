@@ -1,5 +1,5 @@
 -- Labels of a function in which none is repeated.
-use Rattle.std.proofs.Common.{◌≡◌, ℕ, ◌≤◌, Bool, true, false, List, [], ◌∷◌, ◌++◌, Option, Some, None, refl, ap, sym, ◌∙◌, arith, if◌then◌else◌}
+use Rattle.std.proofs.Common.{◌≡◌, ℕ, ◌≤◌, Bool, true, false, List, [], Option, Some, None, refl, ap, sym, ◌∙◌, arith, if◌then◌else◌}
 use Rattle.std.proofs.lemmas.Option.{none-some}
 use Rattle.std.proofs.lemmas.Slice.Eq.{bytes_eq-Decides}
 use Rattle.std.specs.Str.{bytes_eq}
@@ -11,14 +11,7 @@ use Rattle.pk_scope.specs.Scopes.{spelled}
 use Rattle.pk_jump.specs.declared.labels.Label.{Label}
 use Rattle.pk_jump.specs.declared.labels.Within.{Within}
 use Rattle.pk_jump.specs.Labels.{Listed, is_repeated, with_label, with_declaration, inside, listed, listed_items}
-
-pub none_before : {A : Type 0} (xs ys : List A) → xs ++ ys ≡ [] → xs ≡ []
-none_before [] ys h = refl
-none_before (x ∷ xs) ys h = absurd (cc)
-
-pub none_after : {A : Type 0} (xs ys : List A) → xs ++ ys ≡ [] → ys ≡ []
-none_after [] ys h = h
-none_after (x ∷ xs) ys h = absurd (cc)
+use Rattle.pk_accepted.proofs.Jumps.{none_before, none_after}
 
 -- what is listed stays, where no label is repeated
 pub record Stays (l m : Listed) : Type 0 where

@@ -29,16 +29,16 @@ use Rattle.pk_jump.specs.Jumps as jump
 use Rattle.pk_jump.specs.Jumps.{Around, Jumped, at_if, misplaced_if, is_out_of_place, with_default_flag, looped, switched, within_next, jumped, jumped_items}
 use Rattle.pk_statement.specs.declared.statements.Case.{Case}
 use Rattle.pk_statement.specs.Statements as statements
-use Rattle.pk_statement.specs.Statements.{Passed, on, outside, with_case, with_default, in_switch, after_switch, after_head, after, after_items}
+use Rattle.pk_statement.specs.Statements.{on, with_case, with_default, in_switch, after_head, after, after_items}
 use Rattle.pk_statement.specs.Trees.{numbered, label_at, of_three, case_numbers, ended_as, ended, switch_of, optional_value_at, HeadTree, head_at, for_tree, declared_all, typed, typed_items}
 use Rattle.pk_statement.proofs.KeepLemmas.{kept, kept_declaration, kept_head}
 use Rattle.pk_meaning.specs.Steps as mark
 use Rattle.pk_meaning.specs.Steps.{Mark, labelled, otherwise}
 use Rattle.pk_marks.specs.Marks.{one_if, times, times_in, HasCases, HaveCases}
-use Rattle.pk_accepted.proofs.Jumps.{before, items_before}
+use Rattle.pk_accepted.proofs.Jumps.{before, items_before, none_after}
 use Rattle.pk_accepted.proofs.Statements.{P}
 use Rattle.pk_marked.proofs.Counts.{Counts, none, both, one}
-use Rattle.pk_marked.proofs.Listed.{none_after, Stays, stays, items_stay, its_label}
+use Rattle.pk_marked.proofs.Listed.{Stays, stays, items_stay, its_label}
 
 -- ---- defaults: the walk of statements knows them as that of jumps does
 

@@ -20,14 +20,13 @@ use Rattle.pk_declare.specs.Declarations.{after_declaration, declaration_trees_a
 use Rattle.pk_declare.specs.Walks.{here, after_value, value_at, effect_at}
 use Rattle.pk_jump.specs.declared.labels.Label.{Label}
 use Rattle.pk_jump.specs.Jumps as jump
-use Rattle.pk_jump.specs.Jumps.{Around, Jumped, at_if, misplaced_if, is_out_of_place, is_unbroken, with_default_flag, looped, switched, within_next, jumped, jumped_items}
+use Rattle.pk_jump.specs.Jumps.{Around, Jumped, misplaced_if, is_out_of_place, with_default_flag, looped, switched, within_next, jumped, jumped_items}
 use Rattle.pk_statement.specs.Statements as statements
 use Rattle.pk_statement.specs.Statements.{on, with_case, with_default, in_switch, after_head, after, after_items}
 use Rattle.pk_statement.specs.Trees.{numbered, label_at, of_three, case_numbers, ended_as, ended, switch_of, optional_value_at, HeadTree, head_at, for_tree, declared_all, typed, typed_items}
 use Rattle.pk_marks.specs.Marks.{HasTargets, HaveTargets}
-use Rattle.pk_accepted.proofs.Jumps.{before, items_before}
+use Rattle.pk_accepted.proofs.Jumps.{before, items_before, none_after}
 use Rattle.pk_accepted.proofs.Statements.{P}
-use Rattle.pk_marked.proofs.Listed.{none_after}
 
 abbrev pub TargetsIf : (bs cs : Bool) → Option tree.StatementTree → Type 0
 TargetsIf bs cs None = Unit {0}

@@ -9,7 +9,6 @@ use Rattle.pk_ctypes.specs.declared.words.Rule.TheVariants as rule
 use Rattle.pk_ast.specs.declared.units.Storage.{Storage}
 use Rattle.pk_ast.specs.Trees.{BlockTree, FunctionTree, DeclaratorTree, DeclarationTree, ExternalTree, function, objects}
 use Rattle.pk_typed.specs.Trees as tree
-use Rattle.pk_typed.specs.Trees.{BodyTree}
 use Rattle.pk_scope.specs.declared.declarations.Typing.{Typing}
 use Rattle.pk_scope.specs.Failures.{noted}
 use Rattle.pk_scope.specs.Scopes.{names_in}
@@ -29,8 +28,8 @@ use Rattle.pk_marks.specs.Marks.{IsMarkedIf}
 use Rattle.pk_accepted.proofs.Walks.{W, none_found}
 use Rattle.pk_accepted.proofs.Files.{F}
 use Rattle.pk_accepted.proofs.Units.{new_entries, updated, externals_later}
+use Rattle.pk_accepted.proofs.Jumps.{none_before, none_after}
 use Rattle.pk_marked.specs.Laws.{AcceptedUnitsAreMarked}
-use Rattle.pk_marked.proofs.Listed.{none_before, none_after}
 use Rattle.pk_marked.proofs.Statements.{ItemsMarkedIf, walk_items}
 use Rattle.pk_marked.proofs.Targets.{ItemTargetsIf, reaches_all}
 

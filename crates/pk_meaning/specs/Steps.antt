@@ -9,7 +9,7 @@ use Rattle.pk_ctypes.specs.declared.types.Op.TheVariants.{Add, Sub, Mul, Div, Re
 use Rattle.pk_ctypes.specs.declared.faults.Fault.{Fault}
 use Rattle.pk_ctypes.specs.declared.faults.Fault.TheVariants as faults
 use Rattle.pk_ctypes.specs.Types.{represents, wrapped}
-use Rattle.pk_ctypes.specs.Operators.{value_of}
+use Rattle.pk_ctypes.specs.Operators.{value_of, is_not}
 use Rattle.pk_typed.specs.Trees.{PlaceTree, ValueTree, EffectTree, ValueTrees, DeclaredTree, ForStartTree, StatementTree, ItemTrees, no_values, value_before, no_items, declared_before, statement_before, scalar_object, array_object}
 use Rattle.pk_typed.specs.Trees as tree
 use Rattle.pk_typed.specs.Types.{type_of}
@@ -194,27 +194,6 @@ abbrev pub with_choice : IntType → ℕ → Numbers → Next → Next
 with_choice t n ch next = if are_any t n ch then next else Wants t n
 
 -- ---- operators (C99 6.5)
-
-abbrev pub is_not : Op → Bool
-is_not Not = true
-is_not Neg = false
-is_not BitNot = false
-is_not Add = false
-is_not Sub = false
-is_not Mul = false
-is_not Div = false
-is_not Rem = false
-is_not Shl = false
-is_not Shr = false
-is_not And = false
-is_not Or = false
-is_not Xor = false
-is_not Lt = false
-is_not Gt = false
-is_not Le = false
-is_not Ge = false
-is_not Eq = false
-is_not Ne = false
 
 -- the right operand, converted to the operator's type but for a shift's count (C99 6.5.7)
 abbrev pub right_number : Op → IntType → ℤ → ℤ

@@ -13,9 +13,9 @@ use Rattle.pk_graph.specs.declared.graphs.Variable.{Variable}
 use Rattle.pk_graph.specs.Graphs.{VariableOf, EdgeOf, PointOf, GraphOf, path_view, variable_view, scope_at, point_view, graph_of}
 use Rattle.pk_graph.specs.WellMade.{IsGraph}
 use Rattle.pk_draft.specs.declared.drafts.Label.{Label}
-use Rattle.pk_draft.specs.Drafts.{EdgeFrom, DraftOf, nowhere}
+use Rattle.pk_draft.specs.Drafts.{EdgeFrom, DraftOf, nowhere, no_label}
 use Rattle.pk_number.specs.Preorders.{is_among, preorder}
-use Rattle.pk_number.specs.Numbering.{is_from, edges_from, ends, reached, no_label, edge_of, point_of, numbered}
+use Rattle.pk_number.specs.Numbering.{is_from, edges_from, ends, reached, edge_of, point_of, numbered}
 use Rattle.pk_number.specs.Typed.{IsTypedEdge, IsTypedDraft}
 use Rattle.pk_number.specs.Rows.{bare, row_at, AreRows, ends_in, AreBelow, AreNumbers, renumbered, Placed, placed_view, placed}
 use Rattle.pk_number.proofs.AmongLemmas.{among_here, among_there}

@@ -9,9 +9,9 @@ use Rattle.pk_graph.specs.declared.graphs.Scope.{Scope}
 use Rattle.pk_graph.specs.Graphs.{PathOf, EdgeOf, PointOf, no_point, point_at, chained, scope_at}
 use Rattle.pk_graph.specs.WellMade.{IsEdgeOf, IsPointOf, IsGraph}
 use Rattle.pk_draft.specs.declared.drafts.Label.{Label}
-use Rattle.pk_draft.specs.Drafts.{EdgeFrom, DraftOf}
+use Rattle.pk_draft.specs.Drafts.{EdgeFrom, DraftOf, no_label, entry_point}
 use Rattle.pk_number.specs.Preorders.{is_among, place_among}
-use Rattle.pk_number.specs.Numbering.{entry_point, is_from, edges_from, ends, reached, no_label, edge_of, point_of, numbered}
+use Rattle.pk_number.specs.Numbering.{is_from, edges_from, ends, reached, edge_of, point_of, numbered}
 use Rattle.pk_number.specs.Typed.{IsTypedEdge, IsTypedDraft}
 use Rattle.pk_number.specs.Ways.{draft_way, graph_way, IsReached, at_entry, along, IsNumbered}
 use Rattle.pk_number.proofs.AmongLemmas.{among_there, among_at, at_place, place_at, place_inside}

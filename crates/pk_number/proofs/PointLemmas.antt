@@ -8,8 +8,8 @@ use Rattle.std.specs.declared.alloc.Global.{Global}
 use Rattle.std.proofs.lemmas.List.{take_more, map-append, map_push, get_or-set_other, length-set}
 use Rattle.pk_graph.specs.declared.graphs.Point.{Point}
 use Rattle.pk_draft.specs.declared.drafts.Label.{Label}
+use Rattle.pk_draft.specs.Drafts.{no_label}
 use Rattle.pk_number.specs.Preorders.{is_among}
-use Rattle.pk_number.specs.Numbering.{no_label}
 use Rattle.pk_number.specs.Rows.{rows_view, row_at, IsDistinct, renumbered, Placed, placed_view, placed}
 use Rattle.pk_number.proofs.AmongLemmas.{true_or_false, among_here, among_left, among_right, not_before}
 use Rattle.pk_number.proofs.RowLemmas.{row_set}

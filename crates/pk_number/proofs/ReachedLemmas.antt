@@ -3,9 +3,9 @@ use Rattle.std.proofs.Common.{◌≡◌, ◌<◌, ◌≤◌, ◌+◌, ℕ, zero,
 use Rattle.std.specs.List.{All, Contains}
 use Rattle.std.proofs.lemmas.List.Elements.{All-head, All-tail, All-filter}
 use Rattle.std.proofs.lemmas.Bool.Decides.{eqb_tells}
-use Rattle.pk_draft.specs.Drafts.{EdgeFrom, nowhere}
+use Rattle.pk_draft.specs.Drafts.{EdgeFrom, nowhere, entry_point}
 use Rattle.pk_number.specs.Preorders.{is_among, place_among, preorder}
-use Rattle.pk_number.specs.Numbering.{entry_point, is_from, edges_from, ends, reached}
+use Rattle.pk_number.specs.Numbering.{is_from, edges_from, ends, reached}
 use Rattle.pk_number.specs.Rows.{IsDistinct, AreBelow}
 use Rattle.pk_number.proofs.AmongLemmas.{among_here, among_there, among_cases, among_append, among_at, place_at, below_one, below_none, absent}
 use Rattle.pk_number.proofs.WalkLemmas.{seen_now, walk_distinct, walk_first, AreEndsBelow, walk_below, walk_count, AreLeft, walk_closed, AreAll, walk_all}

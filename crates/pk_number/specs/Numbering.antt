@@ -2,12 +2,8 @@
 use Rattle.std.specs.Prelude.{ℕ, ◌+◌, nat_eq, List, [], ◌∷◌, length, map, slice_index_or, Bool, not, ◌&&◌}
 use Rattle.std.specs.List.{filter}
 use Rattle.pk_graph.specs.Graphs.{PathOf, EdgeOf, PointOf, scope_at, GraphOf}
-use Rattle.pk_draft.specs.declared.drafts.Label.{Label}
-use Rattle.pk_draft.specs.Drafts.{EdgeFrom, DraftOf, nowhere}
+use Rattle.pk_draft.specs.Drafts.{EdgeFrom, DraftOf, nowhere, no_label, entry_point}
 use Rattle.pk_number.specs.Preorders.{place_among, preorder}
-
-abbrev pub entry_point : ℕ
-entry_point = 1
 
 -- an edge that is made from a point
 abbrev pub is_from : {V : Type 0} → ℕ → EdgeFrom V → Bool
@@ -24,9 +20,6 @@ ends es p = map (λ e. e.to) (edges_from p es)
 -- each edge is waited for once
 abbrev pub reached : {V : Type 0} → List (EdgeFrom V) → List ℕ
 reached es = preorder (ends es) (2 + length es) (entry_point ∷ []) []
-
-abbrev pub no_label : Label
-no_label = record { at = record { line = 0; column = 0 }; path = 0; scope = 0 }
 
 abbrev pub edge_of : List ℕ → EdgeFrom ℕ → EdgeOf
 edge_of order e = record { instr = e.instr; to = place_among order e.to }

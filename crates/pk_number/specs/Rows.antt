@@ -6,9 +6,9 @@ use Rattle.pk_graph.specs.declared.graphs.Edge.{Edge}
 use Rattle.pk_graph.specs.declared.graphs.Point.{Point}
 use Rattle.pk_graph.specs.Graphs.{EdgeOf, edge_view}
 use Rattle.pk_draft.specs.declared.drafts.Label.{Label}
-use Rattle.pk_draft.specs.Drafts.{EdgeFrom, nowhere}
+use Rattle.pk_draft.specs.Drafts.{EdgeFrom, nowhere, no_label}
 use Rattle.pk_number.specs.Preorders.{is_among, place_among}
-use Rattle.pk_number.specs.Numbering.{edges_from, no_label}
+use Rattle.pk_number.specs.Numbering.{edges_from}
 
 -- an edge without the point where it begins
 abbrev pub bare : EdgeFrom ℕ → EdgeOf

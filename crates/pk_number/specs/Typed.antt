@@ -5,8 +5,7 @@ use Rattle.pk_graph.specs.Graphs.{VariableOf}
 use Rattle.pk_graph.specs.WellMade.{IsStartOf}
 use Rattle.pk_graph.specs.declared.graphs.Scope.{Scope}
 use Rattle.pk_draft.specs.declared.drafts.Label.{Label}
-use Rattle.pk_draft.specs.Drafts.{EdgeFrom, DraftOf}
-use Rattle.pk_number.specs.Numbering.{entry_point}
+use Rattle.pk_draft.specs.Drafts.{EdgeFrom, DraftOf, entry_point}
 
 pub record IsTypedEdge (d : DraftOf ℕ) (e : EdgeFrom ℕ) : Type 0 where
   pub from : e.from < length d.labels

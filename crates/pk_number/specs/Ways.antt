@@ -4,8 +4,8 @@ use Rattle.std.specs.Option.{option_and_then}
 use Rattle.std.specs.List.{Contains}
 use Rattle.pk_graph.specs.Graphs.{PathOf, EdgeOf, GraphOf, point_at}
 use Rattle.pk_graph.specs.WellMade.{IsGraph}
-use Rattle.pk_draft.specs.Drafts.{EdgeFrom, DraftOf}
-use Rattle.pk_number.specs.Numbering.{entry_point, edges_from, reached, edge_of, numbered}
+use Rattle.pk_draft.specs.Drafts.{EdgeFrom, DraftOf, entry_point}
+use Rattle.pk_number.specs.Numbering.{edges_from, reached, edge_of, numbered}
 
 -- The edges of a way from point p that takes edge i of the point where it stands for each i of a list, if there are such edges.
 abbrev pub draft_way : List (EdgeFrom ℕ) → ℕ → List ℕ → Option (List (EdgeFrom ℕ))

@@ -5,7 +5,7 @@ use Rattle.std.proofs.lemmas.List.{get_or-set_same, get_or-set_other, set_past}
 use Rattle.pk_ctypes.specs.declared.types.IntType.{IntType}
 use Rattle.pk_ctypes.specs.declared.types.IntType.TheVariants.{Int}
 use Rattle.pk_ctypes.specs.declared.types.Op.{Op}
-use Rattle.pk_ctypes.specs.Operators.{result_type}
+use Rattle.pk_ctypes.specs.Operators.{result_type, is_not}
 use Rattle.pk_graph.specs.declared.trees.Site.{Site}
 use Rattle.pk_graph.specs.Trees.{TreeOf, InstrOf, constant, variable, ArrayOf, Set, Havoc, Load}
 use Rattle.pk_draft.specs.declared.drafts.Size.{Size}
@@ -175,7 +175,7 @@ unary_choosing z false e f d a b = b
 
 pub unary_goes : {V : Type 0} (z : ℕ → ℕ) (op : Op) (s : Site) (t : IntType) (a : Operand V) → WaysGo z a.ways → WaysGo z (rows.unary_ways op s t a)
 unary_goes z op s t a h = choosing z _ (result_type op t) (rows.unary_value op s t a) (rows.unary_choice op s t a) (λ d. h.value d)
-    (λ p q d. unary_choosing z (rows.is_not op) (a.ways.choice q p d) (rows.guards p q (rows.unary_value op s t a d)) d (h.choice q p d)
+    (λ p q d. unary_choosing z (is_not op) (a.ways.choice q p d) (rows.guards p q (rows.unary_value op s t a d)) d (h.choice q p d)
     (splits_trans (h.value d) (guards_split z p q (rows.unary_value op s t a d))))
 
 pub binary_goes : {V : Type 0} (z : ℕ → ℕ) (op : Op) (s : Site) (t : IntType) (a b : Operand V) → WaysGo z a.ways → WaysGo z b.ways → WaysGo z (rows.binary_ways op s t a b)

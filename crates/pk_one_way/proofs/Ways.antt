@@ -1,5 +1,5 @@
 -- The edges that a draft has from a point.
-use Rattle.std.proofs.Common.{◌≡◌, ℕ, List, [], ◌∷◌, ◌++◌, Bool, true, false, refl, sym, ap, ◌∙◌, subst, arith, nat_eq, eq-eqb, if◌then◌else◌}
+use Rattle.std.proofs.Common.{◌≡◌, ℕ, List, [], ◌∷◌, ◌++◌, Bool, true, false, refl, sym, ap, ◌∙◌, subst, arith, nat_eq, eq-eqb, if◌then◌else◌, append-nil}
 use Rattle.std.specs.List.{filter}
 use Rattle.std.proofs.lemmas.Bool.Decides.{nat_tests}
 use Rattle.std.proofs.lemmas.List.Elements.{filter-append}
@@ -22,16 +22,12 @@ IsWay (e ∷ f ∷ g ∷ es) = ⊥
 abbrev pub made : {V : Type 0} → ℕ → InstrOf V → ℕ → EdgeFrom V
 made p i q = record { from = p; instr = i; to = q }
 
-no_more : {A : Type 0} (xs : List A) → xs ++ [] ≡ xs
-no_more [] = refl
-no_more (x ∷ xs) = ap (λ ys. x ∷ ys) (no_more xs)
-
 single : {V : Type 0} (x p : ℕ) (i : InstrOf V) (q : ℕ) → (x ≡ p → ⊥) → from x (made p i q ∷ []) ≡ []
 single x p i q h = let e : nat_eq p x ≡ false = grind (arith, nat_tests, h) in ap (λ (b : Bool). if b then made p i q ∷ [] else []) e
 
 -- an edge from another point
 pub other_edge : {V : Type 0} (x p : ℕ) (i : InstrOf V) (q : ℕ) (es : List (EdgeFrom V)) → (x ≡ p → ⊥) → from x (es ++ made p i q ∷ []) ≡ from x es
-other_edge x p i q es h = filter-append (starts_at x) es (made p i q ∷ []) ∙ ap (λ fs. from x es ++ fs) (single x p i q h) ∙ no_more (from x es)
+other_edge x p i q es h = filter-append (starts_at x) es (made p i q ∷ []) ∙ ap (λ fs. from x es ++ fs) (single x p i q h) ∙ append-nil (from x es)
 
 -- an edge from this point
 pub own_edge : {V : Type 0} (p : ℕ) (i : InstrOf V) (q : ℕ) (es : List (EdgeFrom V)) → from p (es ++ made p i q ∷ []) ≡ from p es ++ made p i q ∷ []

@@ -22,7 +22,7 @@ use Rattle.pk_grammar.specs.Machine.Steps.{taken, refused, reduced, is_unary, go
 use Rattle.pk_grammar.specs.Machine.Running.{syntax, deep, first_of_all, run}
 use Rattle.pk_grammar.proofs.CompleteSigns.{strength_least}
 use Rattle.pk_grammar.proofs.CompleteOperands.{same_false, same_true}
-use Rattle.pk_grammar.proofs.CompleteDeclarations.{step_first_name}
+use Rattle.pk_grammar.proofs.CompleteDeclarations.{step_first_name, step_length, step_last_comma, step_next_name}
 use Rattle.pk_grammar.proofs.SpellsSigns.{is_this}
 use Rattle.pk_expression.specs.Parsing.{Begins, words, words_then, past_words, past_word, follows, EndsAt}
 use Rattle.pk_expression.proofs.RunLemmas.{run_takes, run_deep, run_refused, run_alike}
@@ -53,10 +53,6 @@ run_specifiers end s h ts specs = run_words end (λ q. after_specifiers s q) (si
 
 abbrev pub naming : Declaring → Identifier → Option ExpressionTree → Naming
 naming d id l = record { declaring = d; name = id; length = l }
-
-step_length : (d : Declaring) (id : Identifier) (t : Token) → t.kind ≡ kind.Punctuator mark.OpenBracket →
-    step (after_name d id) t ≡ taken (site_nesting d.site + 1) (operand (site_nesting d.site + 1) (as_whole (as_length d id)))
-step_length d id t e = rw e
 
 step_length_end : (m : ℕ) (e : ExpressionTree) (d : Declaring) (id : Identifier) (t : Token) → t.kind ≡ kind.Punctuator mark.CloseBracket →
     step (complete m e (as_whole (as_length d id))) t ≡ taken (site_nesting d.site) (after_length (naming d id (Some e)))
@@ -159,10 +155,6 @@ step_item_comma : (m : ℕ) (e : ExpressionTree) (d : Naming) (at : Pos) (es : E
 unfolding reduced
 step_item_comma m e d at es t is = rw is
 
-step_last_comma : (d : Naming) (at : Pos) (e : ExpressionTree) (es : ExpressionTrees) (t : Token) → t.kind ≡ kind.Punctuator mark.CloseBrace →
-    step (after_item d at e es) t ≡ taken (naming_nesting d) (after_initializer (with_initializer d (Some (braced at e es))))
-step_last_comma d at e es t is = rw is
-
 pub run_first_item : (end : Token) (d : Naming) (at : Pos) (ts : List Token) → run end (after_brace d at) ts ≡ run end (operand (naming_nesting d) (as_whole (as_item d at no_expressions))) ts
 run_first_item end d at ts = run_alike end (after_brace d at) (operand (naming_nesting d) (as_whole (as_item d at no_expressions))) ts refl
 
@@ -197,9 +189,6 @@ step_semicolon d t e = rw e
 
 step_comma : (d : Declared) (t : Token) → t.kind ≡ kind.Punctuator mark.Comma → step (after_initializer d) t ≡ taken (site_nesting d.site) (after_comma (goes_on_declaring d))
 step_comma d t e = rw e
-
-step_next_name : (d : Declaring) (t : Token) → t.kind ≡ kind.Name → step (after_comma d) t ≡ taken (site_nesting d.site) (after_name d (identifier_of t))
-step_next_name d t e = rw e
 
 module _ (end : Token) (d : Declared) (ts : List Token) where
   pub run_semicolon : (t : Token) (rest : List Token) → Begins fixed.Semicolon ts t rest → site_nesting d.site ≤ 128 → run end (after_initializer d) ts ≡ run end (after_declaration d) rest

@@ -4,7 +4,7 @@ use Rattle.std.specs.Prelude.{pos}
 use Rattle.pk_ctypes.specs.declared.types.IntType.{IntType}
 use Rattle.pk_ctypes.specs.declared.types.IntType.TheVariants.{Int}
 use Rattle.pk_ctypes.specs.declared.types.Op.{Op}
-use Rattle.pk_ctypes.specs.Operators.{result_type}
+use Rattle.pk_ctypes.specs.Operators.{result_type, is_not}
 use Rattle.pk_graph.specs.declared.trees.Site.{Site}
 use Rattle.pk_graph.specs.Trees.{TreeOf, constant, ArrayOf}
 use Rattle.pk_draft.specs.declared.drafts.Size.{Size}
@@ -121,7 +121,7 @@ pub unary_step : {V W : Type 0} (op : Op) (f g : Site) (t : IntType) (a : Operan
 unary_step op f g t a b same h = record {
   value = h.ways.value;
   choice = λ i j k l p v d e s.
-      either p v (rows.is_not op) (a.ways.choice j i d) (rows.guards i j (rows.unary_value op f t a d)) (b.ways.choice l k e) (rows.guards k l (rows.unary_value op g t b e))
+      either p v (is_not op) (a.ways.choice j i d) (rows.guards i j (rows.unary_value op f t a d)) (b.ways.choice l k e) (rows.guards k l (rows.unary_value op g t b e))
       (h.ways.choice j i l k p v d e s) (h.ways.value p v d e s);
   unused = dropping (unary_shape op t (converted_shape a.int_type t a.shape)) (unary_shape op t (converted_shape b.int_type t b.shape))
       (ap (λ (u : IntType). unary_shape op t (converted_shape u t a.shape)) same ∙ ap (λ (z : Shape). unary_shape op t (converted_shape b.int_type t z)) h.shape)

@@ -17,7 +17,7 @@ use Rattle.pk_phases.specs.Equations.{Equations, KeepHeld, PartsAreOf}
 use Rattle.pk_phases.proofs.Equation_turns.{equations_end}
 use Rattle.pk_phases.specs.Planned.{LinearOrderEnds}
 
-elements_of_places : (level : Level) → map (λ (p : Place). p.element) (places_of level) ≡ elements_of level
+pub elements_of_places : (level : Level) → map (λ (p : Place). p.element) (places_of level) ≡ elements_of level
 elements_of_places Empty = refl
 elements_of_places (Vertex_then v more) = ap (λ (xs : List ℕ). v ∷ xs) (elements_of_places more)
 elements_of_places (Component_then head exit rest more) =

@@ -3,13 +3,12 @@ use Rattle.std.specs.Prelude.{◌≡◌, ℕ, ◌<◌, nat_eq, Bool, true, false
 use Rattle.std.specs.Fmt.{decimal, signed_decimal}
 use Rattle.std.specs.List.{flat_map, list_any, range_with_len, zip}
 use Rattle.pk_ctypes.specs.declared.faults.Fault.{Fault}
-use Rattle.pk_ctypes.specs.declared.faults.Fault.TheVariants as faults
 use Rattle.pk_ctypes.specs.declared.places.Pos.{Pos}
 use Rattle.pk_ctypes.specs.Places.{pos_text}
 use Rattle.pk_ctypes.specs.Words.{fault_text}
 use Rattle.pk_graph.specs.declared.verdicts.Verdict.{Verdict}
 use Rattle.pk_graph.specs.declared.verdicts.Verdict.TheVariants.{Safe, Unknown, Unreachable}
-use Rattle.pk_graph.specs.Accesses.{OperationOf, Index, Divisor, Negation, Result, Shift, Assertion, AccessOf}
+use Rattle.pk_graph.specs.Accesses.{AccessOf, fault_of}
 use Rattle.pk_graph.specs.Graphs.{PathOf, GraphOf, point_at}
 use Rattle.pk_graph.specs.Visible.{visible_at}
 use Rattle.pk_state.specs.Facts.{Stated}
@@ -55,14 +54,6 @@ pub record AreHeads (n : ℕ) (heads : List ℕ) (marks : List Bool) : Type 0 wh
   pub each : (v : ℕ) → v < n → slice_index_or marks v false ≡ is_head heads v
 
 -- ---- accesses
-
-abbrev pub fault_of : OperationOf → Fault
-fault_of (Index n i) = faults.Index
-fault_of (Divisor a b) = faults.DivZero
-fault_of (Negation t e) = faults.Overflow
-fault_of (Result op t a b) = faults.Overflow
-fault_of (Shift op t a b) = faults.Shift
-fault_of (Assertion e) = faults.Assert
 
 abbrev pub verdict_text : Verdict → List ℕ
 verdict_text Safe = codes "safe"

@@ -5,7 +5,8 @@ ghost use Rattle.std.specs.Fmt.{signed_decimal};
 ghost use Rattle.std.specs.List.{flat_map, zip};
 ghost use Rattle.pk_graph.specs.Graphs.{path_view};
 ghost use Rattle.pk_graph.specs.AccessViews.{operation_view, access_view, access_views};
-ghost use Rattle.pk_report.specs.Reports.{fault_of, verdict_text, place_and_kind, access_line};
+ghost use Rattle.pk_report.specs.Reports.{verdict_text, place_and_kind, access_line};
+ghost use Rattle.pk_graph.specs.Accesses.{fault_of};
 
 use crate::paths::write_path;
 use crate::texts::{write_kind, write_number, write_place, write_text};

@@ -293,6 +293,7 @@ fn is_within_int(int_type: IntType) -> bool
 }
 
 ghost use Rattle.pk_ctypes.specs.Types.{represents};
+ghost use Rattle.pk_ctypes.specs.Operators.{is_not};
 ghost use Rattle.pk_ctypes.specs.declared.types.IntType.TheVariants.{Int};
 
 // Converted to int, where that changes a value.
@@ -377,7 +378,7 @@ fn decided<'a>(
 }
 
 fn is_not(op: Op) -> bool
-    ensures { result ≡ steps.is_not op }
+    ensures { result ≡ is_not op }
 {
     match op {
         Op::Not => true,

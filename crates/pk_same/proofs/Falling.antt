@@ -9,8 +9,8 @@ use Rattle.pk_ctypes.specs.declared.types.Op.{Op}
 use Rattle.pk_ctypes.specs.declared.faults.Fault.{Fault}
 use Rattle.pk_ctypes.specs.declared.faults.Fault.TheVariants as faults
 use Rattle.pk_ctypes.specs.Types.{represents, wrapped}
-use Rattle.pk_ctypes.specs.Operators.{value_of}
-use Rattle.pk_typed.specs.Trees.{PlaceTree, ValueTree, EffectTree, ValueTrees, DeclaredTree, ForStartTree, StatementTree, ItemTrees}
+use Rattle.pk_ctypes.specs.Operators.{value_of, is_not}
+use Rattle.pk_typed.specs.Trees.{PlaceTree, ValueTree, EffectTree, DeclaredTree, ForStartTree, StatementTree, ItemTrees}
 use Rattle.pk_typed.specs.Trees as tree
 use Rattle.pk_typed.specs.Types.{type_of}
 use Rattle.pk_graph.specs.Steps.{Numbers, is_true, is_index, are_any}
@@ -201,7 +201,7 @@ tests p k h vs s (tree.update op at o q e) y n = lighter p k _ _ h _ s false (om
 tests p k h vs s (tree.step op at o q prefix) y n = lighter p k _ _ h _ s false (omega arith) (omega arith)
 tests p k h vs s (tree.call t f m at es) y n = lighter p k _ _ h _ s false (omega arith) (omega arith)
 tests p k h vs s (tree.any t at) y n = lighter p k _ _ h _ s false (omega arith) (omega arith)
-tests p k h vs s (tree.unary op at t e) y n = by (steps.is_not op) where
+tests p k h vs s (tree.unary op at t e) y n = by (is_not op) where
   by : (b : Bool) → Falling p k (work.Test (tree.unary op at t e) y n) (To (config k h (if b then work.Test e n y else work.Evaluate (tree.unary op at t e) (work.Branch y n)) vs s false))
   by true = lighter p k _ _ h _ s false (omega arith) (omega arith)
   by false = lighter p k _ _ h _ s false (omega arith) (omega arith)

@@ -8,8 +8,8 @@ use Rattle.pk_calls.specs.Paths.{IsListing}
 use Rattle.pk_calls.specs.Laws.{AreCallPaths, PathsAreAll}
 use Rattle.pk_graph.specs.Graphs.{PathOf}
 use Rattle.pk_graph.specs.Steps.{Failure}
-use Rattle.pk_draft.specs.Drafts.{DraftOf}
-use Rattle.pk_number.specs.Numbering.{entry_point, numbered}
+use Rattle.pk_draft.specs.Drafts.{DraftOf, entry_point}
+use Rattle.pk_number.specs.Numbering.{numbered}
 use Rattle.pk_lower.specs.Paths.{path_of}
 use Rattle.pk_welltyped.specs.WellTyped.{IsUnit}
 use Rattle.pk_marks.specs.Marks.{AreMarked}

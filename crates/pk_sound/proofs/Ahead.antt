@@ -1,12 +1,9 @@
 -- What precedes an element of a plan stands ahead of it in the plan's linear order.
-use Rattle.std.proofs.Common.{◌≡◌, ◌≢◌, ℕ, ◌+◌, ◌<◌, ◌⊎◌, inl, inr, List, [], ◌∷◌, ◌++◌, map, length, sym, subst, ap, ◌∙◌, refl, Contains, AllPairs}
+use Rattle.std.proofs.Common.{◌≡◌, ◌≢◌, ℕ, ◌+◌, ◌<◌, ◌⊎◌, inl, inr, [], ◌∷◌, ◌++◌, sym, subst, ap, ◌∙◌, Contains, AllPairs}
 use Rattle.std.proofs.lemmas.Bool.{cases_eq}
-use Rattle.std.proofs.lemmas.List.{map-append}
 use Rattle.std.proofs.lemmas.List.Elements.{Contains-append_left, Contains-append_right, Contains-append_cases}
 use Rattle.pk_plan.specs.declared.components.Component.{Component}
-use Rattle.pk_plan.specs.declared.places.Role.TheVariants.{Exit as AtExit}
-use Rattle.pk_plan.specs.declared.places.Place.{Place}
-use Rattle.pk_plan.specs.Order.{Level, Empty, Vertex_then, Component_then, places_of}
+use Rattle.pk_plan.specs.Order.{Level, Empty, Vertex_then, Component_then}
 use Rattle.pk_plan.specs.Plans.{PlanView, Constrains, Precedes, One, More, Inside}
 use Rattle.pk_plan.specs.Axioms.{Axioms}
 use Rattle.pk_plan.proofs.PlanLemmas.{acyclic, constrains_from}
@@ -15,6 +12,7 @@ use Rattle.pk_linear.proofs.ListLemmas.{contains_none, contains_here, contains_t
 use Rattle.pk_iterate.specs.Settled.{In, Once, Ahead}
 use Rattle.pk_iterate.specs.BoundedTurns.{HasComponent}
 use Rattle.pk_iterate.proofs.Once_each.{different_once}
+use Rattle.pk_phases.proofs.Planned_turns.{elements_of_places}
 
 -- ---- the elements of a level
 
@@ -192,15 +190,6 @@ ahead_trans (Component_then h x rest more) u w e o (inr (inr (inr (inr q)))) r =
     by i (inr (inr (inr (inr s)))) f = inr (inr (inr (inr (f s))))
 
 -- ---- the linear order
-
-elements_of_places : (level : Level) → map (λ (p : Place). p.element) (places_of level) ≡ elements_of level
-elements_of_places Empty = refl
-elements_of_places (Vertex_then v more) = ap (λ (xs : List ℕ). v ∷ xs) (elements_of_places more)
-elements_of_places (Component_then head exit rest more) =
-    let place : Place = record { element = exit; role = AtExit (length (places_of rest) + 1) } in
-    let inner = elements_of_places rest in
-    let outer = elements_of_places more in
-    ap (λ (xs : List ℕ). head ∷ xs) (map-append (λ (p : Place). p.element) (places_of rest) (place ∷ places_of more) ∙ rw (inner, outer) refl)
 
 -- a component of the order is drawn by its brackets, and brackets are a component
 drawn_component : (order : Level) (head exit : ℕ) → HasComponent order head exit → (bracket : Bracket) × Contains (brackets_of order) bracket × (bracket.head ≡ head) × (bracket.exit ≡ exit)

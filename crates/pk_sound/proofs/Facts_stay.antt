@@ -1,11 +1,10 @@
 -- Of a layout's facts an instruction makes facts of the layout.
-use Rattle.std.specs.Prelude.{◌≡◌, ℕ, zero, suc, ◌<◌, ◌*◌, ◌/◌, ◌^◌, Bool, true, false, not, if◌then◌else◌, ℤ, pos, negsuc, ◌+ℤ◌, ◌-ℤ◌, ◌≤ℤ◌, int_le, unsigned_abs, List, [], ◌∷◌, length, Option, Some, None, IfSome}
+use Rattle.std.specs.Prelude.{◌≡◌, ℕ, zero, suc, ◌<◌, ◌*◌, ◌/◌, ◌^◌, Bool, true, false, if◌then◌else◌, ℤ, pos, negsuc, ◌+ℤ◌, ◌-ℤ◌, ◌≤ℤ◌, int_le, unsigned_abs, List, [], ◌∷◌, length, Option, Some, None, IfSome}
 use Rattle.std.specs.Ordering.{int_eq}
 use Rattle.std.specs.Int.{int_min, int_max}
 use Rattle.std.proofs.Common.{arith, refl, sym, subst, inr, ◌∙◌}
 use Rattle.std.proofs.lemmas.Int.{ints, clamps}
 use Rattle.pk_ctypes.specs.declared.types.IntType.{IntType}
-use Rattle.pk_ctypes.specs.declared.types.IntType.TheVariants.{Int}
 use Rattle.pk_ctypes.specs.declared.types.Op.{Op}
 use Rattle.pk_ctypes.specs.declared.types.Op.TheVariants.{Add, Sub, Mul, Div, Rem, Shl, Shr, And, Or, Xor, Lt, Gt, Le, Ge, Eq, Ne, Neg, BitNot, Not}
 use Rattle.pk_ctypes.specs.Types.{Represents}
@@ -24,14 +23,14 @@ use Rattle.pk_graph.specs.Kinds.{Kinds, type_of, IsTyped, IsTypedInstr}
 use Rattle.pk_value.specs.Known.{Known, any_of, exactly, joined}
 use Rattle.pk_state.specs.Layouts.{Layout, type_at, place_in}
 use Rattle.pk_state.specs.Facts.{Facts, AreFactsIf}
-use Rattle.pk_state.specs.Reduced.{reduced}
+use Rattle.pk_state.specs.Reduced.{reduced, with_range}
 use Rattle.pk_state.specs.Changes.{known_in, IsValue}
 use Rattle.pk_state.proofs.Changed.{changes_stay}
 use Rattle.pk_state.proofs.Held.{facts_stay}
 use Rattle.pk_octops.specs.Laws.{IsTerm}
 use Rattle.pk_transfer.specs.Trees.{tree_known, known_with, kinds_of, IsOver}
 use Rattle.pk_transfer.specs.Linear.{Linear, linear, difference, HasPlaces, ArePlaces, IsGuardOn}
-use Rattle.pk_transfer.specs.Guards.{is_not, is_comparison, is_zero, negated, flipped, condition_of, Condition, with_range, with_both, at_most, at_least, other_than, refined}
+use Rattle.pk_transfer.specs.Guards.{flipped, condition_of, Condition, with_both, at_most, at_least, other_than, refined}
 use Rattle.pk_transfer.specs.Assignments.{term_of, with_form, with_form_at, with_known_if, set_in}
 use Rattle.pk_transfer.specs.Assumptions.{places_in, le_in, compared_in, with_operand, if_some, refined_in, holds_in, guard_in}
 use Rattle.pk_transfer.specs.Transfers.{misses, at_index, forgotten_in, joined_if, applied}
@@ -39,6 +38,7 @@ use Rattle.pk_transfer.proofs.Told.{in_wider}
 use Rattle.pk_transfer.proofs.Over.{tree_over, fits_over}
 use Rattle.pk_transfer.proofs.Apart.{place_below, tree_places, differences_guards}
 use Rattle.pk_transfer.proofs.Refining.{part_in, met_in}
+use Rattle.pk_transfer.proofs.Passing.{condition_typed}
 use Rattle.pk_value.specs.Values.{is_constant}
 use Rattle.pk_sound.specs.Staying.{TransfersStay}
 use Rattle.pk_sound.proofs.Values_stay.{any_value, Reduced, if_reduced, exactly_value, variable_value, tree_stays}
@@ -276,27 +276,6 @@ holds_stay ks y f c over a h i =
     (type_of (kinds_of y) c.left) (type_of (kinds_of y) c.right) over
     (compared_stays c.op y f (linear y.chosen (known_in f) c.left) (linear y.chosen (known_in f) c.right) a (differences_guards y.chosen (known_in f) c.left c.right) (differences_guards y.chosen (known_in f) c.right c.left))
     h i (tree_stays y f c.left a (tree_over ks y c.left over h)) (tree_stays y f c.right a (tree_over ks y c.right over i))
-
-zero_typed : (ks : Kinds) → IsTyped ks (constant Int (pos 0))
-zero_typed ks = record { from = omega (arith, ints); to = omega (arith, ints) }
-
-abbrev AreTyped : Kinds → Condition → Type 0
-AreTyped ks c = IsTyped ks c.left × IsTyped ks c.right
-
-condition_typed : (ks : Kinds) (e : TreeOf ℕ) (b : Bool) → IsTyped ks e → AreTyped ks (condition_of e b)
-condition_typed ks (constant t n) b h = (h, zero_typed ks)
-condition_typed ks (variable x) b h = (h, zero_typed ks)
-condition_typed ks (converted t e) b h = (h, zero_typed ks)
-condition_typed ks (unary op p t e) b h = by (is_not op) (condition_typed ks e (not b) h.1)
-  where
-    by : (n : Bool) → AreTyped ks (condition_of e (not b)) → AreTyped ks (if n then condition_of e (not b) else is_zero (unary op p t e) b)
-    by true i = i
-    by false i = (h, zero_typed ks)
-condition_typed ks (binary op p t d e) b h = by (is_comparison op)
-  where
-    by : (n : Bool) → AreTyped ks (let c : Condition = record { op = if b then op else negated op; left = d; right = e } in if n then c else is_zero (binary op p t d e) b)
-    by true = (h.0, h.1)
-    by false = (h, zero_typed ks)
 
 pub guard_stays : (ks : Kinds) (y : Layout) (f : Option Facts) (e : TreeOf ℕ) (b : Bool) → IsOver ks y → AreFactsIf y f → IsTyped ks e → AreFactsIf y (guard_in y f e b)
 guard_stays ks y f e b over a h = let c = condition_typed ks e b h in holds_stay ks y f (condition_of e b) over a c.0 c.1

@@ -1,5 +1,5 @@
 -- No run leaves the result.
-use Rattle.std.proofs.Common.{◌≡◌, ◌<◌, ◌/◌, ◌%◌, ◌==◌, if◌then◌else◌, Bool, true, false, inl, inr, ℕ, zero, suc, ℤ, ◌-ℤ◌, neg_ℤ, ap, ◌∙◌, sym, subst, refl, Option, Some, None, List, [], ◌∷◌, map, length, slice_get, slice_index_or, All, Contains, arith}
+use Rattle.std.proofs.Common.{◌≡◌, ◌<◌, inl, inr, ℕ, zero, suc, ap, ◌∙◌, sym, subst, refl, Option, Some, None, List, [], ◌∷◌, map, length, slice_get, slice_index_or, All, Contains, arith}
 use Rattle.std.proofs.Math.ListN.{get_or-map}
 use Rattle.std.proofs.lemmas.List.{get_or_default, length-map}
 use Rattle.std.proofs.lemmas.List.Elements.{All-head, All-tail}
@@ -10,8 +10,7 @@ use Rattle.pk_graph.specs.Trees.{InstrOf}
 use Rattle.pk_graph.specs.WellMade.{IsGraph, IsEdgeOf}
 use Rattle.pk_graph.specs.Steps.{Numbers, To, effect}
 use Rattle.pk_graph.specs.Stores.{Stored, storing, numbers_of, IsStore}
-use Rattle.pk_octmat.specs.Bounds.{AtMost}
-use Rattle.pk_octmat.specs.Octagon.{entry, side, Meets}
+use Rattle.pk_octmat.specs.Octagon.{entry}
 use Rattle.pk_value.specs.Known.{IsOf}
 use Rattle.pk_linear.proofs.ListLemmas.{contains_none, contains_cases}
 use Rattle.pk_value.proofs.Sound.{value_in}
@@ -21,6 +20,7 @@ use Rattle.pk_state.specs.Members.{number_if, selected, Member}
 use Rattle.pk_state.specs.Reduced.{reduced}
 use Rattle.pk_state.proofs.Held.{facts_stay}
 use Rattle.pk_state.proofs.Sound.{states_sound}
+use Rattle.pk_state.proofs.Changed.{meets_same}
 use Rattle.pk_step.proofs.KeptLemmas.{steps_keep}
 use Rattle.pk_transfer.specs.Trees.{IsOver}
 use Rattle.pk_transfer.specs.Transfers.{transferred}
@@ -138,18 +138,6 @@ module _ (g : GraphOf) (a : Flow) (it : Outcome (Cell Stated)) (made : IsGraph g
   reached v s (steps {p = p} {s = before} {e = e} chosen earlier has goes) = gone p before s e chosen has goes (reached p before earlier)
 
 -- ---- without the elements that arrays don't have
-
-side_same : (x y : ℕ → ℤ) → ((k : ℕ) → x k ≡ y k) → (i : ℕ) → side x i ≡ side y i
-side_same x y h i = by (i % 2 == 0)
-  where
-    by : (b : Bool) → (if b then x (i / 2) else neg_ℤ (x (i / 2))) ≡ (if b then y (i / 2) else neg_ℤ (y (i / 2)))
-    by true = h (i / 2)
-    by false = ap neg_ℤ (h (i / 2))
-
-meets_same : (e : ℕ → ℕ → Option ℤ) (x y : ℕ → ℤ) → ((k : ℕ) → x k ≡ y k) → Meets e x → Meets e y
-meets_same e x y h m = record {
-  each = λ i j. subst (λ v. AtMost (Some (side y j -ℤ v)) (e i j)) (side_same x y h i) (subst (λ v. AtMost (Some (v -ℤ side x i)) (e i j)) (side_same x y h j) (m.each i j));
-}
 
 number_same : (s : Stored) (o : Option ℕ) → number_if (pad s) o ≡ number_if s o
 number_same s None = refl

@@ -1,5 +1,5 @@
 -- Arrays without elements, as if they had one that is 0: no step uses it.
-use Rattle.std.specs.Prelude.{◌≡◌, ◌⊎◌, ℕ, zero, suc, ◌<◌, ◌≤◌, nat_eq, Bool, true, false, if◌then◌else◌, ℤ, pos, [], ◌∷◌, map, length, replicate, slice_index_or, slice_set, Option, Some, None, Result, Ok, Err}
+use Rattle.std.specs.Prelude.{◌≡◌, ◌⊎◌, ℕ, zero, suc, ◌<◌, ◌≤◌, nat_eq, Bool, true, false, if◌then◌else◌, ℤ, pos, [], ◌∷◌, map, length, replicate, slice_index_or, slice_set, Option, Some, None, Result, Ok}
 use Rattle.std.proofs.Common.{arith, refl, ap, sym, subst, ◌∙◌, inl, inr, length-set}
 use Rattle.std.proofs.Math.ListN.{get_or-map}
 use Rattle.std.proofs.lemmas.Bool.{cases_lt}
@@ -15,7 +15,7 @@ use Rattle.pk_ctypes.proofs.Values as values
 use Rattle.pk_congr.proofs.Numbers.{both_true}
 use Rattle.pk_graph.specs.Trees.{TreeOf, constant, variable, converted, unary, binary, ArrayOf, InstrOf, Skip, Set, Havoc, Clear, Load, Store, Guard, Check}
 use Rattle.pk_graph.specs.Kinds.{Kind, Kinds, no_kind, kind_at, type_at, count_of, count_at, type_of, IsScalar, IsArray, IsRight, IsTyped, IsOfType, IsTypedInstr}
-use Rattle.pk_graph.specs.Steps.{Numbers, number_at, Failure, failure, at_site, and_then, tree_value, is_true, indexed, all_in_type, are_any, After, To, Wants, Faulted, with_value, passed, effect}
+use Rattle.pk_graph.specs.Steps.{Numbers, number_at, Failure, failure, at_site, and_then, tree_value, is_true, indexed, all_in_type, are_any, To, Wants, Faulted, with_value, passed, effect}
 use Rattle.pk_graph.specs.Stores.{Stored, storing, numbers_of, IsStore}
 use Rattle.pk_graph.specs.Accesses.{OperationOf, Index, Divisor, Negation, Result as Arithmetic, Shift, Assertion}
 use Rattle.pk_state.specs.Layouts.{Layout}
@@ -23,6 +23,7 @@ use Rattle.pk_state.specs.Facts.{Facts}
 use Rattle.pk_step.proofs.KeptLemmas.{place_in}
 use Rattle.pk_transfer.specs.Trees.{IsOver}
 use Rattle.pk_transfer.specs.Transfers.{applied}
+use Rattle.pk_transfer.proofs.Transferring.{value_ok, place_ok, then_place}
 use Rattle.pk_verdict.specs.Verdicts.{IsTypedOperation}
 use Rattle.pk_sound.specs.Verdicts.{IsEvaluatedIn, FaultsIn}
 
@@ -229,18 +230,6 @@ pub record IsPadded (ks : Kinds) (i : InstrOf ℕ) (s t : Stored) : Type 0 where
 
 to_is : (s t : Stored) → To s ≡ To t → s ≡ t
 to_is s t e = cc
-
-value_ok : (r : Result ℤ Failure) (g : ℤ → After Stored) (t : Stored) → with_value r g ≡ To t → (z : ℤ) × (r ≡ Ok z) × (g z ≡ To t)
-value_ok (Ok z) g t e = (z, refl, e)
-value_ok (Err f) g t e = absurd (cc)
-
-place_ok : (r : Result ℕ Failure) (g : ℕ → After Stored) (t : Stored) → with_value r g ≡ To t → (k : ℕ) × (r ≡ Ok k) × (g k ≡ To t)
-place_ok (Ok k) g t e = (k, refl, e)
-place_ok (Err f) g t e = absurd (cc)
-
-then_place : (r : Result ℤ Failure) (g : ℤ → Result ℕ Failure) (k : ℕ) → and_then r g ≡ Ok k → (z : ℤ) × (r ≡ Ok z) × (g z ≡ Ok k)
-then_place (Ok z) g k e = (z, refl, e)
-then_place (Err f) g k e = absurd (cc)
 
 -- a write, in a padded store
 pad_write : (s t : Stored) (x : ℕ) (zs ws : Numbers) → padded zs ≡ ws → To (slice_set s x zs) ≡ To t → To (slice_set (pad s) x ws) ≡ To (pad t)

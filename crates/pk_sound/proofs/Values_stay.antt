@@ -28,7 +28,7 @@ use Rattle.pk_graph.specs.Kinds.{type_of, IsTyped}
 use Rattle.pk_value.specs.Known.{Known, any_of, exactly, red_known}
 use Rattle.pk_value.specs.Values.{one_if, compared, red_as, fitted, from_table, is_constant, exact_if, operated, converted}
 use Rattle.pk_value.proofs.Reducing.{constant_of}
-use Rattle.pk_value.proofs.Sound.{value_in}
+use Rattle.pk_value.proofs.Sound.{value_in, natural}
 use Rattle.pk_state.specs.Layouts.{Layout, type_at}
 use Rattle.pk_state.specs.Facts.{Facts, AreFactsIf}
 use Rattle.pk_state.specs.Changes.{known_in, IsValue}
@@ -207,9 +207,6 @@ if_reduced m r h = by (is_held m && is_held r) refl
 either_reduced : (b : Bool) (c : Class) → Reduced c → Reduced (if b then c else every)
 either_reduced true c h = h
 either_reduced false c h = every_reduced
-
-natural : (n : ℕ) → pos 0 ≤ℤ pos n
-natural n = omega (arith, ints)
 
 product_natural : (z : ℤ) (n : ℕ) → pos 0 ≤ℤ z → pos 0 ≤ℤ (z *ℤ pos n)
 product_natural (pos k) n h = omega (arith, ints)

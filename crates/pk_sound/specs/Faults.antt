@@ -1,7 +1,5 @@
 -- Where runs fault.
 use Rattle.std.specs.Prelude.{◌≡◌, ◌⊎◌, ℕ, ℤ, false, Contains, Ok}
-use Rattle.pk_ctypes.specs.declared.faults.Fault.{Fault}
-use Rattle.pk_ctypes.specs.declared.faults.Fault.TheVariants as faults
 use Rattle.pk_graph.specs.declared.verdicts.Verdict.TheVariants.{Unknown}
 use Rattle.pk_graph.specs.declared.trees.Site.{Site}
 use Rattle.pk_graph.specs.Trees.{InstrOf, Skip, Set, Havoc, Clear, Load, Store, Guard, Check}
@@ -9,7 +7,7 @@ use Rattle.pk_graph.specs.Kinds.{Kinds, IsTypedInstr}
 use Rattle.pk_graph.specs.Graphs.{EdgeOf, GraphOf, point_at}
 use Rattle.pk_graph.specs.Steps.{Numbers, Failure, Faulted, effect, tree_value, is_index}
 use Rattle.pk_graph.specs.Stores.{Stored, storing, IsStore}
-use Rattle.pk_graph.specs.Accesses.{OperationOf, Index, Divisor, Negation, Result, Shift, Assertion, AccessOf, of_instr}
+use Rattle.pk_graph.specs.Accesses.{AccessOf, of_instr, fault_of}
 use Rattle.pk_state.specs.Facts.{Stated}
 use Rattle.pk_plan.specs.Order.{Level}
 use Rattle.pk_plan.specs.Plans.{PlanView}
@@ -21,14 +19,6 @@ use Rattle.pk_analysis.specs.Flows.{Flow}
 use Rattle.pk_sound.specs.Runs.{Reaches}
 use Rattle.pk_sound.specs.Results.{IsAnalysed, reduced_at_point}
 use Rattle.pk_sound.specs.Verdicts.{FaultsIn}
-
-abbrev pub fault_of : OperationOf → Fault
-fault_of (Index n i) = faults.Index
-fault_of (Divisor a b) = faults.DivZero
-fault_of (Negation t e) = faults.Overflow
-fault_of (Result op t a b) = faults.Overflow
-fault_of (Shift op t a b) = faults.Shift
-fault_of (Assertion e) = faults.Assert
 
 -- an index that is no access, and lies outside of the array
 abbrev pub IsHidden : InstrOf ℕ → Site → Stored → Type 0

@@ -77,7 +77,7 @@ some l None s x h m p = absurd m
 some l (Some f) s x h m p = m.values.some x (omega (arith, p, h.values.size))
 
 -- more or other is known of a variable
-refined_values : (vs : List Known) (s : Stored) (x : ℕ) (k : Known) → AreOf vs s → AreNumbersOf k (numbers_of s x) → AreOf (slice_set vs x k) s
+pub refined_values : (vs : List Known) (s : Stored) (x : ℕ) (k : Known) → AreOf vs s → AreNumbersOf k (numbers_of s x) → AreOf (slice_set vs x k) s
 refined_values vs s x k h n = record {
   each = λ y i p q. at y i (omega (arith, p, length-set vs x k)) q (cases_eq y x);
   some = λ y p. h.some y (omega (arith, p, length-set vs x k));
@@ -128,14 +128,14 @@ written_values vs s x k zs here h n = record {
 
 -- ---- the octagon's variables
 
-side_same : (x y : ℕ → ℤ) → ((k : ℕ) → x k ≡ y k) → (i : ℕ) → side x i ≡ side y i
+pub side_same : (x y : ℕ → ℤ) → ((k : ℕ) → x k ≡ y k) → (i : ℕ) → side x i ≡ side y i
 side_same x y h i = by (i % 2 == 0)
   where
     by : (b : Bool) → (if b then x (i / 2) else neg_ℤ (x (i / 2))) ≡ (if b then y (i / 2) else neg_ℤ (y (i / 2)))
     by true = h (i / 2)
     by false = ap neg_ℤ (h (i / 2))
 
-meets_same : (e : ℕ → ℕ → Option ℤ) (x y : ℕ → ℤ) → ((k : ℕ) → x k ≡ y k) → Meets e x → Meets e y
+pub meets_same : (e : ℕ → ℕ → Option ℤ) (x y : ℕ → ℤ) → ((k : ℕ) → x k ≡ y k) → Meets e x → Meets e y
 meets_same e x y h m = record {
   each = λ i j. subst (λ v. AtMost (Some (side y j -ℤ v)) (e i j)) (side_same x y h i) (subst (λ v. AtMost (Some (v -ℤ side x i)) (e i j)) (side_same x y h j) (m.each i j));
 }

@@ -1,31 +1,31 @@
 -- Guards keep the stores in which their trees have the wanted truth.
-use Rattle.std.specs.Prelude.{◌≡◌, ◌≢◌, ◌⊎◌, ℕ, ◌<◌, Bool, true, false, not, if◌then◌else◌, ℤ, pos, ◌+ℤ◌, ◌-ℤ◌, ◌≤ℤ◌, List, [], ◌∷◌, length, slice_set, Option, Some, None, Ok}
-use Rattle.std.proofs.Common.{arith, refl, ap, sym, subst, ◌∙◌, inl, inr, length-set}
+use Rattle.std.specs.Prelude.{◌≡◌, ℕ, ◌<◌, Bool, true, false, not, if◌then◌else◌, ℤ, pos, ◌+ℤ◌, ◌-ℤ◌, ◌≤ℤ◌, List, [], ◌∷◌, length, Option, Some, None, Ok}
+use Rattle.std.proofs.Common.{arith, refl, ap, sym, subst, ◌∙◌, length-set}
 use Rattle.std.proofs.lemmas.Int.{ints}
-use Rattle.std.proofs.lemmas.Bool.{cases_eq}
 use Rattle.pk_ctypes.specs.declared.types.IntType.TheVariants.{Int}
 use Rattle.pk_ctypes.specs.declared.types.Op.{Op}
 use Rattle.pk_ctypes.specs.declared.types.Op.TheVariants.{Add, Sub, Mul, Div, Rem, Shl, Shr, And, Or, Xor, Lt, Gt, Le, Ge, Eq, Ne, Neg, BitNot, Not}
+use Rattle.pk_ctypes.specs.Operators.{is_not}
 use Rattle.pk_graph.specs.Trees.{TreeOf, constant, variable, converted, unary, binary}
 use Rattle.pk_graph.specs.Kinds.{Kinds, count_of, IsTyped, IsScalar}
 use Rattle.pk_graph.specs.Steps.{number_at, tree_value}
 use Rattle.pk_graph.specs.Stores.{Stored, storing, numbers_of, number_of, IsStore}
 use Rattle.pk_value.specs.Known.{Known, IsOf, IsOneOf}
+use Rattle.pk_value.proofs.Sound.{equal_by_test}
 use Rattle.pk_state.specs.Layouts.{Layout}
 use Rattle.pk_state.specs.Facts.{Facts, known_at, AreFactsIf}
-use Rattle.pk_state.specs.Members.{AreOf, selected, Member}
+use Rattle.pk_state.specs.Members.{selected, Member}
 use Rattle.pk_state.specs.Changes.{known_in, with_known, AreNumbersOf}
-use Rattle.pk_state.proofs.Changed.{changes_sound, changes_stay}
-use Rattle.pk_state.proofs.Bounded.{known_same, known_other}
+use Rattle.pk_state.proofs.Changed.{changes_sound, changes_stay, refined_values}
 use Rattle.pk_transfer.specs.Trees.{tree_known, IsOver}
 use Rattle.pk_transfer.specs.Linear.{Linear, difference, linear, IsBounded, IsGuardOn}
-use Rattle.pk_transfer.specs.Guards.{is_not, is_comparison, is_zero, negated, condition_of, Condition, test_of, HoldsIn, flipped, refined}
+use Rattle.pk_transfer.specs.Guards.{is_comparison, is_zero, negated, condition_of, Condition, test_of, HoldsIn, flipped, refined}
 use Rattle.pk_transfer.specs.Assignments.{with_known_if}
 use Rattle.pk_transfer.specs.Assumptions.{places_in, le_in, compared_in, with_operand, if_some, refined_in, GuardsPass}
 use Rattle.pk_transfer.proofs.Told.{trees_sound}
 use Rattle.pk_transfer.proofs.Apart.{differences_guards}
 use Rattle.pk_transfer.proofs.Forms.{Tells, tree_tells, forms_exact}
-use Rattle.pk_transfer.proofs.Refining.{equal_by_test, turned, guards_keep}
+use Rattle.pk_transfer.proofs.Refining.{turned, guards_keep}
 
 -- ---- the octagon
 
@@ -75,18 +75,6 @@ compared_keep BitNot y f s o p v w a m g h = (a, m)
 compared_keep Not y f s o p v w a m g h = (a, m)
 
 -- ---- the operands
-
-refined_values : (vs : List Known) (s : Stored) (x : ℕ) (k : Known) → AreOf vs s → AreNumbersOf k (numbers_of s x) → AreOf (slice_set vs x k) s
-refined_values vs s x k h n = record {
-  each = λ y i p q. at y i (omega (arith, p, length-set vs x k)) q (cases_eq y x);
-  some = λ y p. h.some y (omega (arith, p, length-set vs x k));
-}
-  where
-    at : (y i : ℕ) → y < length vs → i < length (numbers_of s y) → (y ≡ x) ⊎ (y ≢ x) → IsOf (known_at (slice_set vs x k) y) (number_at (numbers_of s y) i)
-    at y i p q (inl e) =
-        let same : known_at (slice_set vs x k) y ≡ k = ap (known_at (slice_set vs x k)) e ∙ known_same vs x k (omega (arith, p, e)) in
-        rw same (subst (λ u. i < length (numbers_of s u) → IsOf k (number_at (numbers_of s u) i)) (sym e) (n.each i) q)
-    at y i p q (inr d) = rw (known_other vs x y k d) (h.each y i p q)
 
 refined_one : (y : Layout) (f : Option Facts) (s : Stored) (x : ℕ) (k : Known) → Member y f s → AreNumbersOf k (numbers_of s x) → Member y (with_known f x k) s
 refined_one y None s x k m n = absurd m
@@ -150,13 +138,13 @@ refined_keep ks y f s c (Some k) (Some v) h over st g m l r i j =
 
 -- ---- conditions
 
-zero_typed : (ks : Kinds) → IsTyped ks (constant Int (pos 0))
+pub zero_typed : (ks : Kinds) → IsTyped ks (constant Int (pos 0))
 zero_typed ks = record { from = omega (arith, ints); to = omega (arith, ints) }
 
-abbrev AreTyped : Kinds → Condition → Type 0
+abbrev pub AreTyped : Kinds → Condition → Type 0
 AreTyped ks c = IsTyped ks c.left × IsTyped ks c.right
 
-condition_typed : (ks : Kinds) (e : TreeOf ℕ) (b : Bool) → IsTyped ks e → AreTyped ks (condition_of e b)
+pub condition_typed : (ks : Kinds) (e : TreeOf ℕ) (b : Bool) → IsTyped ks e → AreTyped ks (condition_of e b)
 condition_typed ks (constant t n) b h = (h, zero_typed ks)
 condition_typed ks (variable x) b h = (h, zero_typed ks)
 condition_typed ks (converted t e) b h = (h, zero_typed ks)

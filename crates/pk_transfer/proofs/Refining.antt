@@ -20,16 +20,12 @@ use Rattle.pk_graph.specs.Steps.{is_true, at_site, and_then, tree_value}
 use Rattle.pk_graph.specs.Stores.{Stored, storing}
 use Rattle.pk_value.specs.Known.{Known, IsOf, IsOneOf}
 use Rattle.pk_value.specs.Values.{is_constant}
+use Rattle.pk_value.proofs.Sound.{equal_by_test}
 use Rattle.pk_transfer.proofs.Told.{then_ok, site_ok}
-use Rattle.pk_transfer.specs.Guards.{negated, flipped, is_comparison, is_zero, condition_of, test_of, HoldsIn, with_range, with_both, other_than, refined, GuardsKeep}
+use Rattle.pk_transfer.specs.Guards.{negated, flipped, is_comparison, is_zero, condition_of, test_of, HoldsIn, with_both, other_than, refined, GuardsKeep}
+use Rattle.pk_state.specs.Reduced.{with_range}
 
 -- ---- tests
-
-pub equal_by_test : (x y : ℤ) → int_eq x y ≡ true → x ≡ y
-equal_by_test x y e = go (Decides-int_eq x y)
-  where
-    go : (int_eq x y ≡ true → x ≡ y) × (x ≡ y → int_eq x y ≡ true) → x ≡ y
-    go d = d.0 e
 
 test_by_equal : (x y : ℤ) → x ≡ y → int_eq x y ≡ true
 test_by_equal x y e = go (Decides-int_eq x y)

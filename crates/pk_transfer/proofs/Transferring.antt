@@ -33,15 +33,15 @@ use Rattle.pk_transfer.proofs.Passing.{guards_pass}
 
 -- ---- what goes on
 
-value_ok : (r : Result ℤ Failure) (g : ℤ → After Stored) (t : Stored) → with_value r g ≡ To t → (z : ℤ) × (r ≡ Ok z) × (g z ≡ To t)
+pub value_ok : (r : Result ℤ Failure) (g : ℤ → After Stored) (t : Stored) → with_value r g ≡ To t → (z : ℤ) × (r ≡ Ok z) × (g z ≡ To t)
 value_ok (Ok z) g t e = (z, refl, e)
 value_ok (Err f) g t e = absurd (cc)
 
-place_ok : (r : Result ℕ Failure) (g : ℕ → After Stored) (t : Stored) → with_value r g ≡ To t → (k : ℕ) × (r ≡ Ok k) × (g k ≡ To t)
+pub place_ok : (r : Result ℕ Failure) (g : ℕ → After Stored) (t : Stored) → with_value r g ≡ To t → (k : ℕ) × (r ≡ Ok k) × (g k ≡ To t)
 place_ok (Ok k) g t e = (k, refl, e)
 place_ok (Err f) g t e = absurd (cc)
 
-then_place : (r : Result ℤ Failure) (g : ℤ → Result ℕ Failure) (k : ℕ) → and_then r g ≡ Ok k → (z : ℤ) × (r ≡ Ok z) × (g z ≡ Ok k)
+pub then_place : (r : Result ℤ Failure) (g : ℤ → Result ℕ Failure) (k : ℕ) → and_then r g ≡ Ok k → (z : ℤ) × (r ≡ Ok z) × (g z ≡ Ok k)
 then_place (Ok z) g k e = (z, refl, e)
 then_place (Err f) g k e = absurd (cc)
 

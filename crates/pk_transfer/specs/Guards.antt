@@ -5,6 +5,7 @@ use Rattle.std.specs.Int.{int_min, int_max}
 use Rattle.pk_ctypes.specs.declared.types.IntType.TheVariants.{Int}
 use Rattle.pk_ctypes.specs.declared.types.Op.{Op}
 use Rattle.pk_ctypes.specs.declared.types.Op.TheVariants.{Add, Sub, Mul, Div, Rem, Shl, Shr, And, Or, Xor, Lt, Gt, Le, Ge, Eq, Ne, Neg, BitNot, Not}
+use Rattle.pk_ctypes.specs.Operators.{is_not}
 use Rattle.pk_interval.specs.Ranges.{Range, range_from, met}
 use Rattle.pk_congr.specs.Classes.{Class, met as met_classes}
 use Rattle.pk_graph.specs.Trees.{TreeOf, constant, variable, converted, unary, binary}
@@ -12,6 +13,7 @@ use Rattle.pk_graph.specs.Steps.{is_true, tree_value}
 use Rattle.pk_graph.specs.Stores.{Stored, storing}
 use Rattle.pk_value.specs.Known.{Known, IsOf, IsOneOf}
 use Rattle.pk_value.specs.Values.{is_constant}
+use Rattle.pk_state.specs.Reduced.{with_range}
 
 -- ---- conditions
 
@@ -80,27 +82,6 @@ is_comparison Neg = false
 is_comparison BitNot = false
 is_comparison Not = false
 
-abbrev pub is_not : Op → Bool
-is_not Add = false
-is_not Sub = false
-is_not Mul = false
-is_not Div = false
-is_not Rem = false
-is_not Shl = false
-is_not Shr = false
-is_not And = false
-is_not Or = false
-is_not Xor = false
-is_not Lt = false
-is_not Gt = false
-is_not Le = false
-is_not Ge = false
-is_not Eq = false
-is_not Ne = false
-is_not Neg = false
-is_not BitNot = false
-is_not Not = true
-
 -- a comparison of two trees
 pub record Condition : Type 0 where
   pub op : Op
@@ -150,10 +131,6 @@ pub record HoldsIn (s : Stored) (c : Condition) : Type 0 where
   pub holds : test_of c.op x y ≡ true
 
 -- ---- refining
-
-abbrev pub with_range : Known → Option Range → Option Known
-with_range k None = None
-with_range k (Some r) = Some (record { range = r; class = k.class })
 
 abbrev pub with_both : Option Range → Option Class → Option Known
 with_both None c = None

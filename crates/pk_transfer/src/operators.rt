@@ -1,7 +1,8 @@
 // Comparisons, negated and with exchanged operands.
 
 ghost use Rattle.std.specs.Prelude.{◌≡◌};
-ghost use Rattle.pk_transfer.specs.Guards.{negated as negated_op, flipped as flipped_op, is_comparison as compares, is_not as negates};
+ghost use Rattle.pk_transfer.specs.Guards.{negated as negated_op, flipped as flipped_op, is_comparison as compares};
+ghost use Rattle.pk_ctypes.specs.Operators.{is_not as negates};
 
 use pk_ctypes::Op;
 

@@ -1,9 +1,9 @@
 -- From runs of a program to runs of its graph, and to what is told of it.
 use Rattle.std.specs.Prelude.{◌≡◌, ◌⊎◌, ℕ, ◌<◌, Bool, true, false, if◌then◌else◌, List, ◌∷◌, length, All, Contains, Option, Some, None}
-use Rattle.std.proofs.Common.{◌∙◌, refl, sym, subst, inl, inr}
+use Rattle.std.proofs.Common.{refl, sym, subst, inl, inr}
 use Rattle.std.proofs.lemmas.List.Elements.{All-nil, All-cons, All-get_or, All-contains}
 use Rattle.pk_graph.specs.declared.verdicts.Verdict.TheVariants.{Unknown}
-use Rattle.pk_graph.specs.Accesses.{OperationOf, Index, Divisor, Negation, Result, Shift, Assertion, AccessOf, of_instr}
+use Rattle.pk_graph.specs.Accesses.{AccessOf, of_instr}
 use Rattle.pk_graph.specs.Graphs.{EdgeOf, GraphOf, no_point, point_at, kinds_of}
 use Rattle.pk_graph.specs.declared.trees.Site.{Site}
 use Rattle.pk_graph.specs.Trees.{InstrOf, Skip, Set, Havoc, Clear, Load, Store, Guard, Check}
@@ -12,29 +12,19 @@ use Rattle.pk_graph.specs.Stores.{Stored}
 use Rattle.pk_graph.specs.WellMade.{IsGraph, IsPointOf, IsEdgeOf}
 use Rattle.pk_state.specs.Facts.{Stated}
 use Rattle.pk_sound.specs.Runs.{Reaches, begins, steps as step_of}
-use Rattle.pk_report.specs.Reports as report
 use Rattle.pk_report.specs.Reports.{state_at}
-use Rattle.pk_sound.specs.Faults as sound
 use Rattle.pk_sound.specs.Faults.{IsHidden, IsFailing}
 use Rattle.pk_runs.specs.True.{AreTrueOf, IsUnknownIn}
 use Rattle.pk_meaning.specs.Programs.{Program}
 use Rattle.pk_meaning.specs.Runs.{Visit}
 use Rattle.pk_visits.specs.GraphVisits.{GraphRuns, ends, steps, is_visit, visit_at, visits_if}
-use Rattle.pk_visits.specs.SameVisits.{ProgramVisits, GraphVisits, HaveSameVisits, FailsAt, EndsAt, IsInside}
+use Rattle.pk_visits.specs.SameVisits.{GraphVisits, HaveSameVisits, FailsAt, EndsAt, IsInside}
 use Rattle.pk_true.specs.ToldOfPrograms.{IsToldOf, IsToldVisit, AreToldAlong, ends as no_more, seen, passed, AreToldInOrder, IsToldFault, IsToldEnd, IsTrueOfProgram}
 use Rattle.pk_verdict.specs.Verdicts.{verdict_of}
 use Rattle.pk_sound.proofs.Accesses.{IsAccessAt, in_instr}
 use Rattle.pk_one_way.specs.OneWay.{SharesAccesses}
 use Rattle.pk_true.proofs.Bounded.{store_told}
 use Rattle.pk_true.proofs.Listed.{listed_access}
-
-same_kind : (o : OperationOf) → report.fault_of o ≡ sound.fault_of o
-same_kind (Index n i) = refl
-same_kind (Divisor a b) = refl
-same_kind (Negation t e) = refl
-same_kind (Result op t a b) = refl
-same_kind (Shift op t a b) = refl
-same_kind (Assertion e) = refl
 
 -- an index that lies inside doesn't fault
 not_inside : (b : Bool) → b ≡ true → b ≡ false → ⊥
@@ -113,7 +103,7 @@ module _ (g : GraphOf) (states : List Stated) (made : IsGraph g) (t : AreTrueOf 
             access = a;
             listed = listed_access g p x.edge a (there p s h) x.there (share p) is.listed;
             place = is.site;
-            kind = same_kind a.operation ∙ is.fault;
+            kind = is.fault;
             lo = lo;
             hi = hi;
             unknown = subst (λ (v : ℕ). verdict_of (state_at states v).layout (state_at states v).facts a.operation ≡ Unknown lo hi) (sym at) unknown;

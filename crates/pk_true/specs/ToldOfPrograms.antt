@@ -2,7 +2,7 @@
 use Rattle.std.specs.Prelude.{◌≡◌, ℕ, ◌<◌, ◌^◌, ℤ, pos, ◌+ℤ◌, ◌-ℤ◌, true, false, List, [], ◌∷◌, length, slice_get, Contains, All, Option, Some, None, option_map}
 use Rattle.std.specs.List.{AllZip}
 use Rattle.pk_graph.specs.declared.verdicts.Verdict.TheVariants.{Unknown}
-use Rattle.pk_graph.specs.Accesses.{AccessOf, accesses_of}
+use Rattle.pk_graph.specs.Accesses.{AccessOf, accesses_of, fault_of}
 use Rattle.pk_graph.specs.Graphs.{EdgeOf, GraphOf, point_at}
 use Rattle.pk_graph.specs.Steps.{Failure}
 use Rattle.pk_value.specs.Known.{IsOf}
@@ -13,7 +13,7 @@ use Rattle.pk_state.specs.Facts.{Facts, Stated, known_at}
 use Rattle.pk_plan.specs.Plans.{PlanView}
 use Rattle.pk_analysis.specs.declared.analysis.Options.{Options}
 use Rattle.pk_report.specs.Values.{name_of, bounds_of}
-use Rattle.pk_report.specs.Reports.{fault_of, state_at}
+use Rattle.pk_report.specs.Reports.{state_at}
 use Rattle.pk_answer.specs.Reported.{AreStates, verdict_at}
 use Rattle.pk_meaning.specs.Programs.{Program}
 use Rattle.pk_meaning.specs.Runs.{Known, Visit}

@@ -6,7 +6,7 @@ use Rattle.pk_ctypes.specs.declared.types.IntType.{IntType}
 use Rattle.pk_ctypes.specs.declared.types.IntType.TheVariants.{Int}
 use Rattle.pk_ctypes.specs.declared.types.Op.{Op}
 use Rattle.pk_ctypes.specs.Types.{InType, represents}
-use Rattle.pk_ctypes.specs.Operators.{result_type}
+use Rattle.pk_ctypes.specs.Operators.{result_type, is_not}
 use Rattle.pk_ctypes.proofs.Wrapped.{zero_in}
 use Rattle.pk_graph.specs.declared.trees.Site.{Site}
 use Rattle.pk_graph.specs.Trees.{constant, variable, Set, Havoc, Check}
@@ -17,7 +17,7 @@ use Rattle.pk_draft.specs.Folding.{conversion}
 use Rattle.pk_lower_row.specs.declared.shapes.Shape.TheVariants.{Temporary}
 use Rattle.pk_lower_row.specs.Shapes.{strong_if, converted_shape, unary_shape, operated_shape}
 use Rattle.pk_lower_row.specs.Rows as row
-use Rattle.pk_lower_row.specs.Rows.{Ways, Operand, two, guards, is_not}
+use Rattle.pk_lower_row.specs.Rows.{Ways, Operand, two, guards}
 use Rattle.pk_welltyped.specs.WellTyped.{operands}
 use Rattle.pk_typed_draft.proofs.Places.{D, Place, Has, Stage, Proper, Step, step, step_for, step_beside, quiet, same_scopes}
 use Rattle.pk_typed_draft.proofs.Trees.{constant_is, conversion_is, unary_is, operated_is}

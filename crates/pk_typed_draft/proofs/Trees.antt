@@ -1,17 +1,14 @@
 -- Trees that the lowering makes are typed where their parts are.
-use Rattle.std.proofs.Common.{◌≡◌, Bool, true, false, Option, Some, None, refl, subst, arith}
-use Rattle.std.specs.Prelude.{ℤ, pos, int_lt, int_le, not, Result, Ok, Err}
-use Rattle.std.specs.Ordering.{int_eq}
+use Rattle.std.proofs.Common.{◌≡◌, Bool, true, false, Option, Some, None, refl, arith}
+use Rattle.std.specs.Prelude.{ℤ, Result, Ok, Err}
 use Rattle.std.specs.Option.{option_map, option_and_then}
 use Rattle.pk_ctypes.specs.declared.types.IntType.{IntType}
-use Rattle.pk_ctypes.specs.declared.types.IntType.TheVariants.{Int}
 use Rattle.pk_ctypes.specs.declared.types.Op.{Op}
 use Rattle.pk_ctypes.specs.declared.types.Op.TheVariants.{Add, Sub, Mul, Div, Rem, Shl, Shr, And, Or, Xor, Lt, Gt, Le, Ge, Eq, Ne, Neg, BitNot, Not}
 use Rattle.pk_ctypes.specs.declared.faults.Fault.{Fault}
-use Rattle.pk_ctypes.specs.declared.faults.Fault.TheVariants.{Overflow, Shift}
 use Rattle.pk_ctypes.specs.Types.{InType, Represents, represents, wrapped}
-use Rattle.pk_ctypes.specs.Operators.{truth, exact, fitted, value_of, result_type}
-use Rattle.pk_ctypes.proofs.Values.{fitted_if_in, fitted_inside, truth_in}
+use Rattle.pk_ctypes.specs.Operators.{value_of, result_type}
+use Rattle.pk_ctypes.proofs.Operator_values.{value_in}
 use Rattle.pk_ctypes.proofs.Wrapped.{wrapped_in}
 use Rattle.pk_ctypes.proofs.Common.{test-Represents}
 use Rattle.pk_graph.specs.declared.trees.Site.{Site}
@@ -20,34 +17,6 @@ use Rattle.pk_typed_draft.proofs.Tables.{Table, type_of, IsOfType}
 use Rattle.pk_graph.specs.Trees.{TreeOf, constant, variable, converted, unary, binary}
 use Rattle.pk_draft.specs.Folding.{number_in, folded, kept_if, conversion, right_type, unary_tree, binary_tree, operated_tree, updated_tree}
 use Rattle.pk_welltyped.specs.WellTyped.{operands}
-
--- ---- values of operators
-
-compared : (t : IntType) (b : Bool) (z : ℤ) → fitted Overflow t (truth b) ≡ Ok z → InType Int z
-compared t b z e =
-    let same : truth b ≡ z = cc (fitted_inside Overflow t (truth b) (truth_in t b)) in
-    subst (InType Int) same (truth_in Int b)
-
-values : (op : Op) (t : IntType) (a b z : ℤ) → value_of op t a b ≡ Ok z → InType (result_type op t) z
-values Add t a b z e = fitted_if_in Overflow t (exact Add t a b) z e
-values Sub t a b z e = fitted_if_in Overflow t (exact Sub t a b) z e
-values Mul t a b z e = fitted_if_in Overflow t (exact Mul t a b) z e
-values Div t a b z e = fitted_if_in Overflow t (exact Div t a b) z e
-values Rem t a b z e = fitted_if_in Overflow t (exact Rem t a b) z e
-values Shl t a b z e = fitted_if_in Shift t (exact Shl t a b) z e
-values Shr t a b z e = fitted_if_in Shift t (exact Shr t a b) z e
-values And t a b z e = fitted_if_in Overflow t (exact And t a b) z e
-values Or t a b z e = fitted_if_in Overflow t (exact Or t a b) z e
-values Xor t a b z e = fitted_if_in Overflow t (exact Xor t a b) z e
-values Lt t a b z e = compared t (int_lt a b) z e
-values Gt t a b z e = compared t (int_lt b a) z e
-values Le t a b z e = compared t (int_le a b) z e
-values Ge t a b z e = compared t (int_le b a) z e
-values Eq t a b z e = compared t (int_eq a b) z e
-values Ne t a b z e = compared t (not (int_eq a b)) z e
-values Neg t a b z e = fitted_if_in Overflow t (exact Neg t a b) z e
-values BitNot t a b z e = fitted_if_in Overflow t (exact BitNot t a b) z e
-values Not t a b z e = compared t (int_eq a (pos 0)) z e
 
 -- ---- operators
 
@@ -120,7 +89,7 @@ unary_is ks op s t e h k = by_form e k
     plain e k = record { typed = (unary_operator op h, k.typed, k.fits); fits = λ z q. q }
 
     by_form : (e : TreeOf ks.Variable) → IsOfType ks t e → IsOfType ks (result_type op t) (unary_tree op s t e)
-    by_form (constant v z) k = folded_is ks (result_type op t) (unary op s t (constant v z)) (value_of op t z z) (plain (constant v z) k) (λ n e. values op t z z n e)
+    by_form (constant v z) k = folded_is ks (result_type op t) (unary op s t (constant v z)) (value_of op t z z) (plain (constant v z) k) (λ n e. value_in op t z z n e)
     by_form (variable x) k = plain (variable x) k
     by_form (converted v e) k = plain (converted v e) k
     by_form (unary o r v e) k = plain (unary o r v e) k
@@ -129,7 +98,7 @@ unary_is ks op s t e h k = by_form e k
 either_number : (ks : Table) (op : Op) (t : IntType) (e : TreeOf ks.Variable) → IsOfType ks (result_type op t) e → (a b : Option ℤ) → IsOfType ks (result_type op t) (folded (result_type op t) e (option_and_then (λ z. option_map (λ w. value_of op t z w) b) a))
 either_number ks op t e h None b = h
 either_number ks op t e h (Some z) None = h
-either_number ks op t e h (Some z) (Some w) = folded_is ks (result_type op t) e (value_of op t z w) h (λ n q. values op t z w n q)
+either_number ks op t e h (Some z) (Some w) = folded_is ks (result_type op t) e (value_of op t z w) h (λ n q. value_in op t z w n q)
 
 pub binary_is : (ks : Table) (op : Op) (s : Site) (t v : IntType) (a b : TreeOf ks.Variable) → operands op ≡ 2 → IsOfType ks t a → IsOfType ks (right_type op v t) b → IsOfType ks (result_type op t) (binary_tree op s t a b)
 binary_is ks op s t v a b h k l =

@@ -1,5 +1,5 @@
 -- What is noted after each form of expression, and what is known of it, by the steps in which the walk goes over it.
-use Rattle.std.proofs.Common.{◌≡◌, ℕ, ℤ, ◌+◌, Bool, true, false, not, ◌&&◌, pos, List, [], ◌∷◌, ◌++◌, Option, None, length, refl, ap, sym, ◌∙◌, append_assoc, length-append, arith}
+use Rattle.std.proofs.Common.{◌≡◌, ℕ, ℤ, ◌+◌, Bool, true, false, not, ◌&&◌, pos, List, ◌++◌, Option, None, length, refl, ap, sym, ◌∙◌, append_assoc, length-append, arith, append-nil}
 use Rattle.std.specs.Option.{is_some}
 use Rattle.pk_ctypes.specs.declared.places.Pos.{Pos}
 use Rattle.pk_ctypes.specs.declared.types.IntType.{IntType}
@@ -31,10 +31,6 @@ use Rattle.pk_typing.specs.Views.{Known, known, after, after_used, after_all}
 use Rattle.pk_scope.proofs.FailureLemmas.{noted_append, same_noted}
 use Rattle.pk_typing.proofs.FailureLemmas.{when_fails_if}
 
-append_nil : {A : Type 0} (xs : List A) → xs ++ [] ≡ xs
-append_nil [] = refl
-append_nil (x ∷ xs) = ap (λ ys. x ∷ ys) (append_nil xs)
-
 -- how many calls stand before the second of two operands
 calls_between : (d : Names) (a : ExpressionTree) (s t : Noted) → t ≡ after_used d a s → length t.calls ≡ length s.calls + length (calls d a)
 calls_between d a s t e = ap (λ u. length u.calls) e ∙ length-append s.calls (calls d a)
@@ -45,7 +41,7 @@ calls_between' d a s t e = ap (λ u. length u.calls) e ∙ length-append s.calls
 -- a name
 pub name_notes : (d : Names) (e : ExpressionTree) (x : Identifier) (o : Option Declaration) (s t : Noted) → e ≡ name x → o ≡ d x → t ≡ with_failures s (name_failures x.at o) → t ≡ after d e s
 unfolding failures undeclared array place constness arguments unsequenced calls
-name_notes d e x o s t is look h = rw (h, look, is) (same_noted _ _ _ _ (simp noted_append) (simp append_nil))
+name_notes d e x o s t is look h = rw (h, look, is) (same_noted _ _ _ _ (simp noted_append) (simp append-nil))
 
 pub name_known : (d : Names) (n : ℕ) (e : ExpressionTree) (x : Identifier) (o : Option Declaration) (c : Known) → e ≡ name x → o ≡ d x → c ≡ known_name o → c ≡ known d n e
 unfolding type_of target_of named changed typed
@@ -63,7 +59,7 @@ element_known d n e i x at o c k is look inner h = rw (h, inner, look, is) refl
 -- constants
 pub constant_notes : (d : Names) (e : ExpressionTree) (at : Pos) (t : IntType) (n : ℕ) (s : Noted) → e ≡ constant at t n → s ≡ after d e s
 unfolding failures calls
-constant_notes d e at t n s is = rw is (same_noted _ _ _ _ refl (sym (append_nil s.calls)))
+constant_notes d e at t n s is = rw is (same_noted _ _ _ _ refl (sym (append-nil s.calls)))
 
 pub constant_known : (d : Names) (m : ℕ) (e : ExpressionTree) (at : Pos) (t : IntType) (n : ℕ) (c : Known) → e ≡ constant at t n → c ≡ known_constant t (pos n) → c ≡ known d m e
 unfolding type_of target_of named changed typed
@@ -71,7 +67,7 @@ constant_known d m e at t n c is h = rw (h, is) refl
 
 pub character_notes : (d : Names) (e : ExpressionTree) (at : Pos) (n : ℤ) (s : Noted) → e ≡ character at n → s ≡ after d e s
 unfolding failures calls
-character_notes d e at n s is = rw is (same_noted _ _ _ _ refl (sym (append_nil s.calls)))
+character_notes d e at n s is = rw is (same_noted _ _ _ _ refl (sym (append-nil s.calls)))
 
 pub character_known : (d : Names) (m : ℕ) (e : ExpressionTree) (at : Pos) (n : ℤ) (c : Known) → e ≡ character at n → c ≡ known_constant Int n → c ≡ known d m e
 unfolding type_of target_of named changed typed

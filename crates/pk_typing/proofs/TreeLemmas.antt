@@ -34,11 +34,11 @@ use Rattle.pk_typing.proofs.FailureLemmas.{when_fails_if}
 use Rattle.pk_typing.specs.Laws.{IsTreeOf, AcceptedExpressionsHaveTrees}
 
 -- no failures of two lists
-none_before : (fs gs : List Failure) → fs ++ gs ≡ [] → fs ≡ []
+pub none_before : (fs gs : List Failure) → fs ++ gs ≡ [] → fs ≡ []
 none_before [] gs h = refl
 none_before (f ∷ fs) gs h = absurd (cc)
 
-none_after : (fs gs : List Failure) → fs ++ gs ≡ [] → gs ≡ []
+pub none_after : (fs gs : List Failure) → fs ++ gs ≡ [] → gs ≡ []
 none_after [] gs h = h
 none_after (f ∷ fs) gs h = absurd (cc)
 
@@ -72,7 +72,7 @@ OwnNone d e = NoneOfSix (undeclared d e) (array d e) (place d e) (constness d e)
 own_none : (d : Names) (e : ExpressionTree) → own d e ≡ [] → OwnNone d e
 own_none d e = none_of_six (undeclared d e) (array d e) (place d e) (constness d e) (arguments d e) (unsequenced d e)
 
-holds_not : (b : Bool) (r : Rule) (at : Pos) → fails_if b r at ≡ [] → b ≡ false
+pub holds_not : (b : Bool) (r : Rule) (at : Pos) → fails_if b r at ≡ [] → b ≡ false
 holds_not true r at h = absurd (cc)
 holds_not false r at h = refl
 
@@ -80,7 +80,7 @@ negated : (b : Bool) → not b ≡ false → b ≡ true
 negated true h = refl
 negated false h = absurd (cc)
 
-same_number : (a b : ℕ) → not (nat_eq a b) ≡ false → a ≡ b
+pub same_number : (a b : ℕ) → not (nat_eq a b) ≡ false → a ≡ b
 same_number a b h = grind (arith, nat_tests)
 
 -- a value of its type

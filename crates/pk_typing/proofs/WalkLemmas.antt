@@ -1,6 +1,6 @@
 -- One more of a list of expressions, each of which is used.
 use Rattle.std.proofs.Math.Seq.{drop-cons}
-use Rattle.std.proofs.Common.{◌≡◌, ℕ, zero, suc, ◌+◌, ◌<◌, ◌≤◌, drop, get_or, add-one, List, [], ◌∷◌, ◌++◌, Option, Some, None, refl, ap, sym, ◌∙◌, append_assoc, length, length-append, arith}
+use Rattle.std.proofs.Common.{◌≡◌, ℕ, zero, suc, ◌+◌, ◌<◌, ◌≤◌, drop, get_or, add-one, List, [], ◌∷◌, ◌++◌, Option, Some, None, refl, ap, sym, ◌∙◌, append_assoc, length, length-append, arith, append-nil}
 use Rattle.pk_ast.specs.declared.expressions.Expression.{Expression}
 use Rattle.pk_ast.specs.Trees.{ExpressionTree, ExpressionTrees, no_expressions, expression_then}
 use Rattle.pk_ast.specs.Views.{expression_tree, expression_trees}
@@ -18,10 +18,6 @@ use Rattle.pk_typing.proofs.ListLemmas.{append_values_none, append_values_assoc}
 -- values after values, where each list has them
 abbrev pub appended : Option ValueTrees → Option ValueTrees → Option ValueTrees
 appended vs ws = of_both append_values vs ws
-
-append_nil : {A : Type 0} (xs : List A) → xs ++ [] ≡ xs
-append_nil [] = refl
-append_nil (x ∷ xs) = ap (λ ys. x ∷ ys) (append_nil xs)
 
 -- what is left begins with the next one
 pub next : (list : List Expression) (i : ℕ) (e : Expression) → i < length list → e ≡ get_or list i e → expression_trees (drop i list) ≡ expression_then (expression_tree e) (expression_trees (drop (i + 1) list))
@@ -75,11 +71,11 @@ next_values d e now rest k s t vs ws all p q r known_e h =
 -- none more
 pub end_notes : (d : Names) (now : ExpressionTrees) (s all : Noted) → now ≡ no_expressions → after_all d now s ≡ all → s ≡ all
 unfolding failures_used calls_in_all
-end_notes d now s all p q = same_noted _ _ _ _ refl (sym (append_nil s.calls)) ∙ (ap (λ es. after_all d es s) (sym p) ∙ q)
+end_notes d now s all p q = same_noted _ _ _ _ refl (sym (append-nil s.calls)) ∙ (ap (λ es. after_all d es s) (sym p) ∙ q)
 
 pub end_mentions : (d : Names) (now : ExpressionTrees) (ms all : List Mentioned) → now ≡ no_expressions → ms ++ mentions_of_each d now ≡ all → ms ≡ all
 unfolding mentions_of_each
-end_mentions d now ms all p q = sym (append_nil ms) ∙ (ap (λ es. ms ++ mentions_of_each d es) (sym p) ∙ q)
+end_mentions d now ms all p q = sym (append-nil ms) ∙ (ap (λ es. ms ++ mentions_of_each d es) (sym p) ∙ q)
 
 appended_none : (vs : Option ValueTrees) → appended vs (Some no_values) ≡ vs
 appended_none None = refl

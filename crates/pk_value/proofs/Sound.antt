@@ -1,8 +1,8 @@
 -- What is known of an operator's result has the result.
-use Rattle.std.specs.Prelude.{◌≡◌, ◌⊎◌, ℕ, ◌-◌, ◌/◌, ◌^◌, ◌<◌, neg_ℤ, int_div, Bool, true, false, not, ◌&&◌, if◌then◌else◌, ℤ, pos, negsuc, ◌+ℤ◌, ◌-ℤ◌, ◌*ℤ◌, ◌≤ℤ◌, int_lt, unsigned_abs, Option, Some, None, Result, Ok, Err, IfSome}
+use Rattle.std.specs.Prelude.{◌≡◌, ℕ, ◌-◌, ◌/◌, ◌^◌, ◌<◌, neg_ℤ, int_div, Bool, true, false, not, ◌&&◌, if◌then◌else◌, ℤ, pos, negsuc, ◌+ℤ◌, ◌-ℤ◌, ◌*ℤ◌, ◌≤ℤ◌, int_lt, unsigned_abs, Option, Some, None, Result, Ok, Err, IfSome}
 use Rattle.std.specs.Ordering.{int_eq}
 use Rattle.std.specs.Int.{int_min, int_max}
-use Rattle.std.proofs.Common.{arith, refl, ap, sym, subst, inl, inr, ◌∙◌}
+use Rattle.std.proofs.Common.{arith, refl, ap, sym, subst, ◌∙◌}
 use Rattle.std.proofs.lemmas.Int.{ints, clamps}
 use Rattle.std.proofs.lemmas.Bool.Decides.{Decides-int_eq}
 use Rattle.pk_ctypes.specs.declared.types.IntType.{IntType}
@@ -11,17 +11,17 @@ use Rattle.pk_ctypes.specs.declared.types.Op.{Op}
 use Rattle.pk_ctypes.specs.declared.types.Op.TheVariants.{Add, Sub, Mul, Div, Rem, Shl, Shr, And, Or, Xor, Lt, Gt, Le, Ge, Eq, Ne, Neg, BitNot, Not}
 use Rattle.pk_ctypes.specs.declared.faults.Fault.{Fault}
 use Rattle.pk_ctypes.specs.declared.faults.Fault.TheVariants.{Overflow}
-use Rattle.pk_ctypes.specs.Types.{size_of, low_of, high_of, is_signed_of, InType, is_in_type, wrapped}
+use Rattle.pk_ctypes.specs.Types.{size_of, low_of, high_of, is_signed_of, InType, wrapped}
 use Rattle.pk_ctypes.specs.Operators.{exact, truth, fitted, fitted_if, fault_past, value_of, result_type}
 use Rattle.pk_ctypes.proofs.Wrapped.{sized}
-use Rattle.pk_ctypes.proofs.Values.{fitted_in, fitted_inside, fitted_past, cases_of_type, wrapped_inside, truth_in}
+use Rattle.pk_ctypes.proofs.Values.{fitted_in, fitted_inside, wrapped_inside, truth_in}
 use Rattle.pk_interval.specs.declared.outcome.Outcome.{Outcome}
 use Rattle.pk_interval.specs.declared.outcome.Outcome.TheVariants.{Empty, Within, TooLarge}
 use Rattle.pk_interval.specs.Ranges.{Range, Holds, HeldBy, IsIn, single, whole}
 use Rattle.pk_interval.specs.Fitting.{clamped, shifted, unmoved, finish_of}
 use Rattle.pk_interval.specs.Operators.{range_of, HasRightIn, CanWrap}
 use Rattle.pk_interval.specs.Laws.{KnownBy}
-use Rattle.pk_interval.proofs.Fits.{clamps_members, converts}
+use Rattle.pk_interval.proofs.Fits.{clamps_members, converts, fitted_signed, fitted_unsigned}
 use Rattle.pk_interval.proofs.Keeping.{stays}
 use Rattle.pk_interval.proofs.Moves.{from_in, shifted_in}
 use Rattle.pk_interval.proofs.Sound.{sound as ranges_sound}
@@ -47,23 +47,13 @@ pub knows_one : (t : IntType) (o : Option Known) (z : ℤ) → Knows t o z → I
 knows_one t None z h = h
 knows_one t (Some k) z h = h.0
 
-equal_by_test : (x y : ℤ) → int_eq x y ≡ true → x ≡ y
+pub equal_by_test : (x y : ℤ) → int_eq x y ≡ true → x ≡ y
 equal_by_test x y e = go (Decides-int_eq x y)
   where
     go : (int_eq x y ≡ true → x ≡ y) × (x ≡ y → int_eq x y ≡ true) → x ≡ y
     go d = d.0 e
 
 -- ---- fitted numbers
-
-fitted_signed : (fault : Fault) (t : IntType) (u w : ℤ) → is_signed_of t ≡ true → fitted fault t u ≡ Ok w → InType t u × (u ≡ w)
-fitted_signed fault t u w s e = by (cases_of_type t u)
-  where
-    by : InType t u ⊎ ((is_in_type t u ≡ false) × (InType t u → ⊥)) → InType t u × (u ≡ w)
-    by (inl h) = let same : u ≡ w = cc (fitted_inside fault t u h) in (h, same)
-    by (inr o) = absurd (cc (fitted_past fault t u s o.1))
-
-fitted_unsigned : (fault : Fault) (t : IntType) (u w : ℤ) → is_signed_of t ≡ false → fitted fault t u ≡ Ok w → wrapped t u ≡ w
-fitted_unsigned fault t u w s e = cc (ap (λ b. if b then (if is_in_type t u then Ok u else Err fault) else Ok (wrapped t u)) s)
 
 fitted_wraps : (fault : Fault) (t : IntType) (u w : ℤ) → fitted fault t u ≡ Ok w → wrapped t u ≡ w
 fitted_wraps fault t u w e = by (is_signed_of t) refl
@@ -173,11 +163,11 @@ if_from : (b : Bool) (c : Class) → pos 0 ≤ℤ c.m → pos 0 ≤ℤ (if b the
 if_from true c h = h
 if_from false c h = omega (arith, ints)
 
-product_from_zero : (z : ℤ) (n : ℕ) → pos 0 ≤ℤ z → pos 0 ≤ℤ (z *ℤ pos n)
+pub product_from_zero : (z : ℤ) (n : ℕ) → pos 0 ≤ℤ z → pos 0 ≤ℤ (z *ℤ pos n)
 product_from_zero (pos k) n h = omega (arith, ints)
 product_from_zero (negsuc k) n h = absurd (omega (arith, ints))
 
-natural : (n : ℕ) → pos 0 ≤ℤ pos n
+pub natural : (n : ℕ) → pos 0 ≤ℤ pos n
 natural n = omega (arith, ints)
 
 result_from : (op : Op) (t : IntType) (a b : Class) → pos 0 ≤ℤ a.m → pos 0 ≤ℤ (result_of op t a b).m

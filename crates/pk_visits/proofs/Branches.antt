@@ -1,5 +1,5 @@
 -- From the work of an `if` to that of its test and branches.
-use Rattle.std.proofs.Common.{◌≡◌, ℕ, ◌+◌, ◌≤◌, List, [], ◌∷◌, ◌++◌, length, refl, sym, ap, subst, arith}
+use Rattle.std.proofs.Common.{◌≡◌, ℕ, ◌+◌, ◌≤◌, List, [], ◌++◌, length, refl, sym, subst, arith, append-nil}
 use Rattle.pk_ctypes.specs.declared.places.Pos.{Pos}
 use Rattle.pk_typed.specs.Trees.{ValueTree, StatementTree}
 use Rattle.pk_typed.specs.Trees as tree
@@ -16,12 +16,12 @@ use Rattle.pk_meaning.specs.Work as work
 use Rattle.pk_meaning.specs.Work.{Place, Work, Ahead, Onward}
 use Rattle.pk_meaning.specs.Steps.{place}
 use Rattle.pk_visits.proofs.Slots.{Draft, Among, edge, last_among, front_among, Uncalled}
-use Rattle.pk_visits.proofs.Stands.{Whole, Proper, context_of, Held, around, AreCalm, ShowsAt, Stage, led_to, Marking, LaidAhead, LaidWay, Laid, IsCalled}
+use Rattle.pk_visits.proofs.Stands.{Whole, Proper, context_of, Held, around, AreCalm, ShowsAt, Stage, led_to, Marking, Laid, IsCalled}
 use Rattle.pk_visits.proofs.Settled.{Settles}
 use Rattle.pk_visits.proofs.Stages.{In, all_called, ways_grow, part_first, part_second, part_until, stage_at, part_point, part_room, fresh_first, fresh_second, fresh_one, forth_here, forth_none, forth_first, forth_second, forth_then}
 use Rattle.pk_visits.proofs.Grows.{fresh_one_grows}
 use Rattle.pk_visits.proofs.Tells.{sane, any_called, Any}
-use Rattle.pk_visits.proofs.StatementGrows.{Stays, Adds, adds, on_adds, stays_then, statement, choice_adds, link_adds, fresh_adds, nothing_adds, meeting_adds, Free}
+use Rattle.pk_visits.proofs.StatementGrows.{Stays, Adds, on_adds, stays_then, statement, choice_adds, link_adds, fresh_adds, nothing_adds, meeting_adds, Free}
 use Rattle.pk_visits.proofs.Operands.{calm_more}
 use Rattle.pk_visits.proofs.Statements.{shows_on}
 use Rattle.pk_visits.proofs.Doom.{calm_plain}
@@ -172,10 +172,6 @@ if_else_laid g proper k h x p e s r a pt hs (d, n, m, is, fits, calm, t, marking
       ),
     )
 
-nothing_behind : {A : Type 0} (xs : List A) → xs ++ [] ≡ xs
-nothing_behind [] = refl
-nothing_behind (x ∷ xs) = ap (λ ys. x ∷ ys) (nothing_behind xs)
-
 -- the same stage, with no calls behind its own
 abbrev with_none : (g : Whole) (k : ℕ) (h : Place) (xs : List Numbered) (d f : Draft) → Stage g k h xs d f → Stage g k h (xs ++ []) d f
 with_none g k h xs d f s = record {
@@ -184,12 +180,12 @@ with_none g k h xs d f s = record {
   leads = s.leads;
   bounded = s.bounded;
   free = s.free;
-  spans = subst (λ ys. (z : Numbered) → Among z ys → (size_in g.sizes z.call.function).points ≡ g.spans (callee (context_of g k) z.number)) (sym (nothing_behind xs)) s.spans;
+  spans = subst (λ ys. (z : Numbered) → Among z ys → (size_in g.sizes z.call.function).points ≡ g.spans (callee (context_of g k) z.number)) (sym (append-nil xs)) s.spans;
   here = s.here;
-  apart = subst (λ ys. (m : ℕ) → Among m (led_to (context_of g k) ys) → Among m s.later → ⊥) (sym (nothing_behind xs)) s.apart;
-  distinct = subst (λ ys. Rattle.pk_visits.proofs.Stands.Distinct (led_to (context_of g k) ys)) (sym (nothing_behind xs)) s.distinct;
+  apart = subst (λ ys. (m : ℕ) → Among m (led_to (context_of g k) ys) → Among m s.later → ⊥) (sym (append-nil xs)) s.apart;
+  distinct = subst (λ ys. Rattle.pk_visits.proofs.Stands.Distinct (led_to (context_of g k) ys)) (sym (append-nil xs)) s.distinct;
   path = s.path;
-  noted = subst (λ ys. (z : Numbered) → Among z ys → Among z (Rattle.pk_welltyped.specs.Listed.calls_in_items (Rattle.pk_meaning.specs.Programs.block_of g.program k).items)) (sym (nothing_behind xs)) s.noted;
+  noted = subst (λ ys. (z : Numbered) → Among z ys → Among z (Rattle.pk_welltyped.specs.Listed.calls_in_items (Rattle.pk_meaning.specs.Programs.block_of g.program k).items)) (sym (append-nil xs)) s.noted;
 }
 
 pub if_then_laid : (g : Whole) (proper : Proper g) (k : ℕ) (h : Place) (x : Exits) (p : Pos) (e : ValueTree) (s : StatementTree) (a : Ahead) (pt : ℕ) (hs : List Held) → Laid g k h x (work.Do (tree.if_then p e s) a) pt hs

@@ -1,5 +1,5 @@
 -- From the work of an expression whose value isn't used to that of its parts.
-use Rattle.std.proofs.Common.{◌≡◌, ℕ, List, [], ◌∷◌, ◌++◌, Bool, true, false, not, ◌||◌, if◌then◌else◌, refl, sym, ap, ◌∙◌, subst, inl, inr, arith}
+use Rattle.std.proofs.Common.{◌≡◌, ℕ, List, ◌∷◌, Bool, true, false, not, ◌||◌, if◌then◌else◌, refl, sym, ◌∙◌, subst, inl, inr, arith, append-nil}
 use Rattle.std.specs.Prelude.{pos}
 use Rattle.pk_ctypes.specs.declared.places.Pos.{Pos}
 use Rattle.pk_ctypes.specs.declared.types.IntType.{IntType}
@@ -118,10 +118,6 @@ advance_laid g k h x op at' o t y false w p hs (d, n, is, fits, quiet, s, l) =
       l,
     )
 
-nothing_behind : {A : Type 0} (xs : List A) → xs ++ [] ≡ xs
-nothing_behind [] = refl
-nothing_behind (x ∷ xs) = ap (λ ys. x ∷ ys) (nothing_behind xs)
-
 pub unused_laid : (g : Whole) (k : ℕ) (h : Place) (x : Exits) (v : ValueTree) (w : Work) (p : ℕ) (hs : List Held) → Laid g k h x (work.Perform (tree.unused v) w) p hs → Laid g k h x (meaning.unused g.program k v w) p hs
 unfolding target ways performed IsPlace IsValue IsEffect calls_at_place calls_in calls_in_effect type_of
 unused_laid g k h x (tree.constant t z) w p hs l = by_drop g k h x (tree.constant t z) w p hs (λ d. refl) l
@@ -139,11 +135,11 @@ unused_laid g k h x (tree.step op q o (tree.scalar t y) prefix) w p hs l = advan
 unused_laid g k h x (tree.step op q o (tree.element t y r i) true) w p hs (d, n, is, fits, quiet, s, l) =
     let b = program.array_of g.program k t y in
     subst (λ m. Laid g k h x (meaning.reload r b i meaning.one (work.Renew op q o r b w)) m hs) is
-    (renew_laid g k h x op q o r t y i meaning.one w n d hs fits.1.0 fits.1.1 one_in (quiet refl) (subst (λ zs. Stage g k h zs d (performed (context_of g k) (tree.unused (tree.step op q o (tree.element t y r i) true)) d)) (sym (nothing_behind (calls_in i))) s) l)
+    (renew_laid g k h x op q o r t y i meaning.one w n d hs fits.1.0 fits.1.1 one_in (quiet refl) (subst (λ zs. Stage g k h zs d (performed (context_of g k) (tree.unused (tree.step op q o (tree.element t y r i) true)) d)) (sym (append-nil (calls_in i))) s) l)
 unused_laid g k h x (tree.step op q o (tree.element t y r i) false) w p hs (d, n, is, fits, quiet, s, l) =
     let b = program.array_of g.program k t y in
     subst (λ m. Laid g k h x (meaning.reload r b i meaning.one (work.Renew op q o r b w)) m hs) is
-    (renew_laid g k h x op q o r t y i meaning.one w n d hs fits.1.0 fits.1.1 one_in (quiet refl) (subst (λ zs. Stage g k h zs d (performed (context_of g k) (tree.unused (tree.step op q o (tree.element t y r i) false)) d)) (sym (nothing_behind (calls_in i))) s) l)
+    (renew_laid g k h x op q o r t y i meaning.one w n d hs fits.1.0 fits.1.1 one_in (quiet refl) (subst (λ zs. Stage g k h zs d (performed (context_of g k) (tree.unused (tree.step op q o (tree.element t y r i) false)) d)) (sym (append-nil (calls_in i))) s) l)
 unused_laid g k h x (tree.call t f m q es) w p hs l = by_drop g k h x (tree.call t f m q es) w p hs (λ d. refl) l
 unused_laid g k h x (tree.any t q) w p hs l = by_drop g k h x (tree.any t q) w p hs (λ d. refl) l
 unused_laid g k h x (tree.unary op q t e) w p hs l = by_drop g k h x (tree.unary op q t e) w p hs (λ d. refl) l

@@ -1,5 +1,5 @@
 -- From the work of an expression to that of its parts: elements, `++` and `--`, and what holds any number.
-use Rattle.std.proofs.Common.{◌≡◌, ℕ, ◌+◌, ◌<◌, ◌≤◌, List, [], ◌∷◌, ◌++◌, Bool, true, false, refl, sym, ap, ◌∙◌, subst, arith, length, Option, Some, None}
+use Rattle.std.proofs.Common.{◌≡◌, ℕ, ◌+◌, ◌<◌, ◌≤◌, List, [], ◌∷◌, ◌++◌, Bool, true, false, refl, sym, ap, ◌∙◌, subst, arith, length, Option, Some, None, append-nil}
 use Rattle.std.specs.Prelude.{slice_get, slice_index_or, option_map}
 use Rattle.std.specs.Option.{option_and_then}
 use Rattle.pk_ctypes.specs.declared.places.Pos.{Pos}
@@ -25,7 +25,7 @@ use Rattle.pk_lower_row.specs.declared.shapes.Waiting.{Waiting}
 use Rattle.pk_lower_row.specs.declared.shapes.Waiting.TheVariants.{Loose, Strong, Weak}
 use Rattle.pk_lower_row.specs.Shapes.{makes, shape_of, strong_if, strong_or_weak}
 use Rattle.pk_lower_row.specs.Contexts as lower
-use Rattle.pk_lower_row.specs.Contexts.{Context, variable_of, site, length_of_start}
+use Rattle.pk_lower_row.specs.Contexts.{Context, variable_of, site}
 use Rattle.pk_lower_row.specs.Rows as rows
 use Rattle.pk_lower_row.specs.Rows.{two, one_tree}
 use Rattle.pk_lower_expression.specs.Expressions.{target, ways}
@@ -526,7 +526,7 @@ replace_laid g k h x op q o at t y i w pt hs (d, n, is, fits, quiet, s, l) =
     let both = loaded_called c t (site c at) a i e d in
     let calm = quiet refl in
     let v = rows.held Weak (shape_of e) Int ((two (strong_or_weak false) (lowered c i) (lowered c e) d).second, (two (strong_or_weak false) (lowered c i) (lowered c e) d).draft) in
-    let s' = subst (λ zs. Stage g k h zs d f) (sym (nothing_behind (calls_in i))) s in
+    let s' = subst (λ zs. Stage g k h zs d f) (sym (append-nil (calls_in i))) s in
     let ns = stage_names g k h _ C d f s (grows_trans both (emit_grows C (j a) p.draft)) in
     let z = stage_edge g k h Uncalled _ d p.draft f (j a) s' both (grows_refl Uncalled f) in
     let u = olds c t (site c at) a i e d ns in
@@ -544,10 +544,7 @@ replace_laid g k h x op q o at t y i w pt hs (d, n, is, fits, quiet, s, l) =
       },
       l,
       refl,
-    )) where
-      nothing_behind : {A : Type 0} (xs : List A) → xs ++ [] ≡ xs
-      nothing_behind [] = refl
-      nothing_behind (x ∷ xs) = ap (λ ys. x ∷ ys) (nothing_behind xs)
+    ))
 
 -- used: what is written is given
 pub renewed_laid : (g : Whole) (k : ℕ) (h : Place) (x : Exits) (op : Op) (q : Pos) (o : IntType) (at : Pos) (t : IntType) (y : Variable) (i e : ValueTree) (w : Work) (n : ℕ) (d : Draft) (hs : List Held)

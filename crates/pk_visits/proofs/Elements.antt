@@ -16,20 +16,21 @@ use Rattle.pk_ctypes.proofs.Values.{in_type_test}
 use Rattle.pk_graph.specs.declared.trees.Site.{Site}
 use Rattle.pk_graph.specs.Trees.{constant, ArrayOf, Set, Load, Store}
 use Rattle.pk_graph.specs.Steps as steps
-use Rattle.pk_graph.specs.Steps.{Numbers, number_at, tree_value, and_then, at_site, effect, with_value, all_in_type, is_index, is_true, indexed}
+use Rattle.pk_graph.specs.Steps.{Numbers, number_at, tree_value, and_then, at_site, effect, with_value, all_in_type, is_index, indexed}
 use Rattle.pk_draft.specs.Folding.{conversion, operated_tree, updated_tree}
 use Rattle.pk_lower_statement.specs.declared.statements.Exits.{Exits}
 use Rattle.pk_welltyped.specs.WellTyped.{Kind, array}
 use Rattle.pk_meaning.specs.Objects.{Array, Objects, numbers_of, with_numbers, is_in_scope}
 use Rattle.pk_meaning.specs.Programs.{Program}
 use Rattle.pk_meaning.specs.Work as work
-use Rattle.pk_meaning.specs.Work.{Place, Work, Way, Onward, Refused, Lost}
+use Rattle.pk_meaning.specs.Work.{Place, Work}
 use Rattle.pk_meaning.specs.Steps as meaning
 use Rattle.pk_meaning.specs.Steps.{Config, Next, step_of, operated}
 use Rattle.pk_visits.proofs.Slots.{Slot, own, temporary, Memory, memory, memory_numbers, with_memory, SlotTree}
 use Rattle.pk_visits.proofs.Stands.{Whole, Held, in_temporary, tested, IsBelow, IsTested, Means, HasKind, IsArrayOf, FitsObjects, Writes, site_at, cells, Laid}
 use Rattle.pk_visits.proofs.Stores.{Fitting, fits_written, means_apart, temporary_value}
-use Rattle.pk_visits.proofs.Values.{conversion_value, conversion_fault, operated_value, value_in}
+use Rattle.pk_visits.proofs.Values.{conversion_value, conversion_fault, operated_value}
+use Rattle.pk_ctypes.proofs.Operator_values.{value_in}
 use Rattle.pk_visits.proofs.Follow.{Doomed, IsInside, now, Answers, Follows, config, moved, set_does, kind_is}
 use Rattle.pk_visits.proofs.Doom.{set_fails, store_value_fails}
 use Rattle.pk_visits.proofs.Operators.{by_result, in_type}

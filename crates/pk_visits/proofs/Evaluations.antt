@@ -1,18 +1,18 @@
 -- The graph follows the program at every expression, test and effect.
-use Rattle.std.proofs.Common.{◌≡◌, ℕ, List, [], ◌∷◌, ◌++◌, length, Bool, true, false, ◌&&◌, nat_eq, if◌then◌else◌, refl, sym, ap, subst, arith, ℤ}
+use Rattle.std.proofs.Common.{◌≡◌, ℕ, List, [], ◌∷◌, length, Bool, true, false, ◌&&◌, nat_eq, if◌then◌else◌, refl, sym, ap, subst, arith, ℤ, append-nil}
 use Rattle.std.proofs.lemmas.Bool.{eqb-true}
 use Rattle.pk_ctypes.specs.declared.places.Pos.{Pos}
 use Rattle.pk_ctypes.specs.declared.types.IntType.{IntType}
 use Rattle.pk_ctypes.specs.declared.types.Op.{Op}
 use Rattle.pk_typed.specs.declared.values.Variable.{Variable}
-use Rattle.pk_typed.specs.Trees.{PlaceTree, ValueTree, EffectTree, ValueTrees}
+use Rattle.pk_typed.specs.Trees.{ValueTree, EffectTree, ValueTrees}
 use Rattle.pk_typed.specs.Trees as tree
 use Rattle.pk_typed.specs.Types.{type_of}
 use Rattle.pk_welltyped.specs.Listed.{calls_at_place, calls_in}
 use Rattle.pk_welltyped.specs.WellTyped.{IsPlace, IsValue}
 use Rattle.pk_graph.specs.Trees.{constant, variable, Set, Havoc}
 use Rattle.pk_graph.specs.Steps as steps
-use Rattle.pk_graph.specs.Steps.{Numbers, number_at, tree_value, effect, are_any, all_in_type}
+use Rattle.pk_graph.specs.Steps.{Numbers, number_at, are_any, all_in_type}
 use Rattle.pk_lower_expression.specs.Expressions.{target, ways}
 use Rattle.pk_lower_statement.specs.declared.statements.Exits.{Exits}
 use Rattle.pk_meaning.specs.Objects.{Objects, number_of}
@@ -87,10 +87,6 @@ updated_laid g k h x op q o at t y i e w p hs (d, n, is, fits, quiet, s, l) =
     subst (λ j. Laid g k h x (meaning.reload at (program.array_of g.program k t y) i e (work.Renewed op q o t (work.StoreKept at (program.array_of g.program k t y) w))) j hs) is
     (renewed_laid g k h x op q o at t y i e w n d hs fits.1.0 fits.1.1 fits.2 (quiet refl) s l)
 
-nothing_behind : {A : Type 0} (xs : List A) → xs ++ [] ≡ xs
-nothing_behind [] = refl
-nothing_behind (x ∷ xs) = ap (λ ys. x ∷ ys) (nothing_behind xs)
-
 stepped_laid : (g : Whole) (k : ℕ) (h : Place) (x : Exits) (op : Op) (q : Pos) (o : IntType) (at : Pos) (t : IntType) (y : Variable) (i : ValueTree) (w : Work) (p : ℕ) (hs : List Held)
     → Laid g k h x (work.Evaluate (tree.step op q o (tree.element t y at i) true) w) p hs
     → Laid g k h x (meaning.reload at (program.array_of g.program k t y) i meaning.one (work.Renewed op q o t (work.StoreKept at (program.array_of g.program k t y) w))) p hs
@@ -98,7 +94,7 @@ unfolding target ways IsPlace IsValue calls_at_place calls_in type_of
 stepped_laid g k h x op q o at t y i w p hs (d, n, is, fits, quiet, s, l) =
     subst (λ j. Laid g k h x (meaning.reload at (program.array_of g.program k t y) i meaning.one (work.Renewed op q o t (work.StoreKept at (program.array_of g.program k t y) w))) j hs) is
     (renewed_laid g k h x op q o at t y i meaning.one w n d hs fits.1.0 fits.1.1 one_in (quiet refl)
-    (subst (λ zs. Stage g k h zs d ((ways (context_of g k) (tree.step op q o (tree.element t y at i) true)).value d).1) (sym (nothing_behind (calls_in i))) s) l)
+    (subst (λ zs. Stage g k h zs d ((ways (context_of g k) (tree.step op q o (tree.element t y at i) true)).value d).1) (sym (append-nil (calls_in i))) s) l)
 
 -- ---- every expression
 

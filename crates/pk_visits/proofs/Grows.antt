@@ -5,7 +5,7 @@ use Rattle.std.proofs.lemmas.List.{get_or-set_same, get_or-set_other, set_past, 
 use Rattle.pk_ctypes.specs.declared.types.IntType.{IntType}
 use Rattle.pk_ctypes.specs.declared.types.IntType.TheVariants.{Int}
 use Rattle.pk_ctypes.specs.declared.types.Op.{Op}
-use Rattle.pk_ctypes.specs.Operators.{result_type}
+use Rattle.pk_ctypes.specs.Operators.{result_type, is_not}
 use Rattle.pk_graph.specs.declared.trees.Site.{Site}
 use Rattle.pk_graph.specs.Graphs.{VariableOf, no_variable}
 use Rattle.pk_graph.specs.Trees.{TreeOf, constant, variable, ArrayOf, Set, Havoc, Load, Guard}
@@ -20,7 +20,7 @@ use Rattle.pk_lower_row.specs.declared.shapes.Waiting.{Waiting}
 use Rattle.pk_lower_row.specs.declared.shapes.Waiting.TheVariants.{Weak}
 use Rattle.pk_lower_row.specs.Shapes.{is_plain, stays, strong_if, strong_or_weak}
 use Rattle.pk_lower_row.specs.Rows as rows
-use Rattle.pk_lower_row.specs.Rows.{Ways, Operand, Target, scalar, element, Two, Loaded, Passed, stored_unless, held, two, one}
+use Rattle.pk_lower_row.specs.Rows.{Ways, Operand, Target, scalar, element, Two, Passed, stored_unless, held, two, one}
 use Rattle.pk_visits.proofs.Slots.{Slot, Draft, Instr, Edge, Takes, Divided, KeepsBy, Grows, Never, Same, Scoping, front_among, label_at, region_at}
 
 pub grows_refl : (C : ℕ → Size → Type 0) (d : Draft) → Grows C d d
@@ -355,7 +355,7 @@ unary_choosing C false e f d a b = b
 
 pub unary_grows : (C : ℕ → Size → Type 0) (op : Op) (s : Site) (t : IntType) (a : Operand Slot) → WaysGrow C a.ways → WaysGrow C (rows.unary_ways op s t a)
 unary_grows C op s t a h = choosing C _ (result_type op t) (rows.unary_value op s t a) (rows.unary_choice op s t a) (λ d. h.value d)
-    (λ p q d. unary_choosing C (rows.is_not op) (a.ways.choice q p d) (rows.guards p q (rows.unary_value op s t a d)) d (h.choice q p d)
+    (λ p q d. unary_choosing C (is_not op) (a.ways.choice q p d) (rows.guards p q (rows.unary_value op s t a d)) d (h.choice q p d)
     (grows_trans (h.value d) (guards_grow C p q (rows.unary_value op s t a d))))
 
 pub binary_grows : (C : ℕ → Size → Type 0) (op : Op) (s : Site) (t : IntType) (a b : Operand Slot) → WaysGrow C a.ways → WaysGrow C b.ways → WaysGrow C (rows.binary_ways op s t a b)

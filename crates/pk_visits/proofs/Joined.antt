@@ -1,10 +1,10 @@
 -- From the work of `&&`, `||` and `?:` as values to that of their tests and arms, and from a test to its parts.
-use Rattle.std.proofs.Common.{◌≡◌, ℕ, ◌+◌, ◌≤◌, List, [], ◌∷◌, ◌++◌, refl, sym, ap, ◌∙◌, subst, arith, length, true, false}
+use Rattle.std.proofs.Common.{◌≡◌, ℕ, ◌+◌, ◌≤◌, List, [], ◌∷◌, ◌++◌, refl, sym, ◌∙◌, subst, arith, length, true, false, append-nil}
 use Rattle.std.specs.Prelude.{pos}
 use Rattle.pk_ctypes.specs.declared.types.IntType.{IntType}
 use Rattle.pk_ctypes.specs.declared.types.IntType.TheVariants.{Int}
 use Rattle.pk_ctypes.proofs.Values.{truth_in}
-use Rattle.pk_typed.specs.Trees.{ValueTree, EffectTree}
+use Rattle.pk_typed.specs.Trees.{ValueTree}
 use Rattle.pk_typed.specs.Trees as tree
 use Rattle.pk_typed.specs.Types.{type_of}
 use Rattle.pk_welltyped.specs.Listed.{Numbered, calls_in}
@@ -16,7 +16,7 @@ use Rattle.pk_lower_row.specs.Rows as rows
 use Rattle.pk_lower_expression.specs.Expressions.{ways}
 use Rattle.pk_lower_statement.specs.declared.statements.Exits.{Exits}
 use Rattle.pk_meaning.specs.Work as work
-use Rattle.pk_meaning.specs.Work.{Place, Work, Way, Onward}
+use Rattle.pk_meaning.specs.Work.{Place, Work, Onward}
 use Rattle.pk_visits.proofs.Slots.{Slot, temporary, slots, SlotTree, Draft, edge, Among, Grows, last_among, Uncalled}
 use Rattle.pk_visits.proofs.Grows.{grows_refl, grows_trans, fresh_three_grows, temporary_grows, link_grows, Chooses, Gives, loosened}
 use Rattle.pk_visits.proofs.Growing.{lowered}
@@ -173,10 +173,6 @@ conditional_laid g k h x t e a b w p hs (d, n, is, fits, quiet, s, l) =
 
 -- ---- truths
 
-nothing_behind : (xs : List Numbered) → xs ++ [] ≡ xs
-nothing_behind [] = refl
-nothing_behind (x ∷ xs) = ap (λ ys. x ∷ ys) (nothing_behind xs)
-
 -- a choice whose truth is the value
 truths_laid : (g : Whole) (k : ℕ) (h : Place) (x : Exits) (e : ValueTree) (w : Work) (choice : (p q : ℕ) → Draft → Draft) (n : ℕ) (d : Draft) (hs : List Held) → choice ≡ (ways (context_of g k) e).choice
     → Chooses (IsCalled (context_of g k) (calls_in e)) choice → Chooses Any choice → IsValue (around g k n) e → AreCalm d.variables hs
@@ -188,7 +184,7 @@ truths_laid g k h x e w choice n d hs same gc any_c fits calm s l =
     let fa : Draft → Given Slot = λ r. (constant Int (pos 1), r) in
     let fb : Draft → Given Slot = λ r. (constant Int (pos 0), r) in
     let f = (rows.joined Int choice fa fb d).1 in
-    let split = subst (λ qs. Stage g k h qs d f) (sym (nothing_behind (xs ++ []) ∙ nothing_behind xs)) s in
+    let split = subst (λ qs. Stage g k h qs d f) (sym (append-nil (xs ++ []) ∙ append-nil xs)) s in
     let ns = (grows_trans (grows_trans (fresh_three_grows Any d) (temporary_grows Any Int (fresh 3 d)))
     (joined_after Int choice fa fb any_c (grows_refl Any) (grows_refl Any) d)).names in
     let names = sym ns ∙ s.leads.names in

@@ -8,10 +8,10 @@ use Rattle.pk_graph.specs.Trees.{Skip, Set, Havoc, Clear, Load, Store, Guard, Ch
 use Rattle.pk_graph.specs.Graphs.{PathOf, PointOf, GraphOf, no_variable, point_at, scope_at}
 use Rattle.pk_graph.specs.Stores.{Stored, numbers_of}
 use Rattle.pk_draft.specs.declared.drafts.Label.{Label}
-use Rattle.pk_draft.specs.Drafts.{EdgeFrom, DraftOf, nowhere}
+use Rattle.pk_draft.specs.Drafts.{EdgeFrom, DraftOf, nowhere, no_label}
 use Rattle.pk_number.specs.Preorders.{is_among}
-use Rattle.pk_number.specs.Numbering.{no_label, reached, edge_of, numbered}
-use Rattle.pk_meaning.specs.Objects.{Object, file, local, result, Scope, Objects, is_same}
+use Rattle.pk_number.specs.Numbering.{reached, edge_of, numbered}
+use Rattle.pk_meaning.specs.Objects.{Object, file, local, result, Scope, is_same}
 use Rattle.pk_meaning.specs.Objects as objects
 use Rattle.pk_meaning.specs.Programs.{Program, name_of}
 use Rattle.pk_meaning.specs.Work.{Place}

@@ -4,9 +4,9 @@ use Rattle.std.specs.List.{Contains}
 use Rattle.std.proofs.lemmas.List.{length-map, get_or-map}
 use Rattle.std.proofs.lemmas.Bool.Decides.{eqb_tells}
 use Rattle.pk_graph.specs.Graphs.{PathOf, no_point, point_at}
-use Rattle.pk_draft.specs.Drafts.{EdgeFrom, DraftOf, nowhere}
+use Rattle.pk_draft.specs.Drafts.{EdgeFrom, DraftOf, nowhere, entry_point}
 use Rattle.pk_number.specs.Preorders.{is_among, place_among}
-use Rattle.pk_number.specs.Numbering.{entry_point, is_from, edges_from, ends, reached, edge_of, point_of, numbered}
+use Rattle.pk_number.specs.Numbering.{is_from, edges_from, ends, reached, edge_of, point_of, numbered}
 use Rattle.pk_number.proofs.AmongLemmas.{at_place, place_inside}
 use Rattle.pk_number.proofs.ReachedLemmas.{end_among, entry_reached, entry_place, reached_closed}
 use Rattle.pk_visits.proofs.Slots.{Among}

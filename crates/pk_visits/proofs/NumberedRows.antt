@@ -2,7 +2,7 @@
 use Rattle.std.proofs.Common.{◌≡◌, ℕ, Bool, true, false, if◌then◌else◌, refl, ap, ◌∙◌}
 use Rattle.pk_ctypes.specs.declared.types.IntType.{IntType}
 use Rattle.pk_ctypes.specs.declared.types.Op.{Op}
-use Rattle.pk_ctypes.specs.Operators.{result_type}
+use Rattle.pk_ctypes.specs.Operators.{result_type, is_not}
 use Rattle.pk_graph.specs.declared.trees.Site.{Site}
 use Rattle.pk_graph.specs.Trees.{TreeOf, variable, ArrayOf, Set, Havoc, Load, Guard}
 use Rattle.pk_draft.specs.Drafts.{DraftOf, Given, at, fresh, with_temporary, next_temporary, link}
@@ -12,7 +12,7 @@ use Rattle.pk_lower_row.specs.declared.shapes.Shape.TheVariants.{Temporary, Name
 use Rattle.pk_lower_row.specs.declared.shapes.Waiting.{Waiting}
 use Rattle.pk_lower_row.specs.Shapes.{converted_shape, unary_shape, operated_shape, is_plain, strong_if, stays}
 use Rattle.pk_lower_row.specs.Rows as rows
-use Rattle.pk_lower_row.specs.Rows.{Ways, Operand, Target, scalar, element, Two, Loaded, Passed}
+use Rattle.pk_lower_row.specs.Rows.{Ways, Operand, Target, scalar, element, Two}
 use Rattle.pk_visits.proofs.NumberedNames.{tree_by, array_by, draft_by, given_by, conversion_by, unary_by, operated_by, link_by, emit_by, stored_by}
 
 -- what these make of a renamed draft is what those make, renamed
@@ -118,7 +118,7 @@ pub unary_ways_by : {V W : Type 0} (f : V → W) (op : Op) (s : Site) (t : IntTy
 unary_ways_by f op s t a z h =
     choice_by f (unary_shape op t (converted_shape a.int_type t a.shape)) (result_type op t) (rows.unary_value op s t a) (rows.unary_value op s t (beside a z))
     (rows.unary_choice op s t a) (rows.unary_choice op s t (beside a z)) (unary_value_by f op s t a z h)
-    (λ p q d. either_by f (rows.is_not op) (a.ways.choice q p d) (rows.guards p q (rows.unary_value op s t a d)) (z.choice q p (draft_by f d)) (rows.guards p q (rows.unary_value op s t (beside a z) (draft_by f d)))
+    (λ p q d. either_by f (is_not op) (a.ways.choice q p d) (rows.guards p q (rows.unary_value op s t a d)) (z.choice q p (draft_by f d)) (rows.guards p q (rows.unary_value op s t (beside a z) (draft_by f d)))
     (h.choice q p d) (ap (rows.guards p q) (unary_value_by f op s t a z h d) ∙ guards_by f p q (rows.unary_value op s t a d)))
 
 pub binary_ways_by : {V W : Type 0} (f : V → W) (op : Op) (s : Site) (t : IntType) (a b : Operand V) (y z : Ways W) → WaysBy f a.ways y → WaysBy f b.ways z

@@ -4,8 +4,8 @@ use Rattle.std.specs.Prelude.{Option, Some, None}
 use Rattle.pk_graph.specs.Graphs.{PathOf, GraphOf}
 use Rattle.pk_graph.specs.Steps.{Numbers, Failure}
 use Rattle.pk_graph.specs.Stores.{Stored}
-use Rattle.pk_draft.specs.Drafts.{DraftOf}
-use Rattle.pk_number.specs.Numbering.{entry_point, numbered}
+use Rattle.pk_draft.specs.Drafts.{DraftOf, entry_point}
+use Rattle.pk_number.specs.Numbering.{numbered}
 use Rattle.pk_meaning.specs.Steps.{Config}
 use Rattle.pk_meaning.specs.Runs.{Visit, visit_of, start}
 use Rattle.pk_visits.specs.GraphVisits.{GraphRuns, visit_at, ends, steps}

@@ -13,7 +13,7 @@ use Rattle.pk_ctypes.proofs.Wrapped.{wrapped_in, zero_in, one_most}
 use Rattle.pk_ctypes.proofs.Values.{cases_of_type}
 use Rattle.pk_graph.specs.Trees.{variable, Set}
 use Rattle.pk_graph.specs.Steps as steps
-use Rattle.pk_graph.specs.Steps.{Numbers, number_at, tree_value, and_then, at_site, effect, with_value, all_in_type, is_index, is_true, indexed}
+use Rattle.pk_graph.specs.Steps.{Numbers, tree_value, at_site}
 use Rattle.pk_draft.specs.Folding.{conversion, unary_tree, operated_tree}
 use Rattle.pk_lower_row.specs.Rows.{one_tree}
 use Rattle.pk_lower_statement.specs.declared.statements.Exits.{Exits}
@@ -21,13 +21,14 @@ use Rattle.pk_welltyped.specs.WellTyped.{scalar}
 use Rattle.pk_meaning.specs.Objects.{Object, Objects, numbers_of, with_numbers, number_of, is_in_scope}
 use Rattle.pk_meaning.specs.Programs.{Program}
 use Rattle.pk_meaning.specs.Work as work
-use Rattle.pk_meaning.specs.Work.{Place, Work, Way, Onward, Refused, Lost}
+use Rattle.pk_meaning.specs.Work.{Place, Work}
 use Rattle.pk_meaning.specs.Steps as meaning
 use Rattle.pk_meaning.specs.Steps.{Config, Next, step_of, operated}
 use Rattle.pk_visits.proofs.Slots.{own, Memory, memory, with_memory}
 use Rattle.pk_visits.proofs.Stands.{Whole, Held, held, Means, HasKind, FitsObjects, site_at, Laid}
 use Rattle.pk_visits.proofs.Stores.{means_apart, own_value}
-use Rattle.pk_visits.proofs.Values.{conversion_value, conversion_fault, unary_value, operated_value, value_in}
+use Rattle.pk_visits.proofs.Values.{conversion_value, conversion_fault, unary_value, operated_value}
+use Rattle.pk_ctypes.proofs.Operator_values.{value_in}
 use Rattle.pk_visits.proofs.Follow.{Doomed, now, Answers, config, still, moved, set_does, scalar_written, is_there, number_in_type}
 use Rattle.pk_visits.proofs.Doom.{Sound, doom, set_fails}
 

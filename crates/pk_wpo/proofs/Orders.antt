@@ -8,7 +8,8 @@ use Rattle.pk_plan.specs.Nests.{Holds}
 use Rattle.pk_plan.proofs.DigraphLemmas.{edge_from_vertex}
 use Rattle.pk_wpo.specs.Constraints.{Top, itself, exit_of_outermost, Has, vertex, inner_exit, EdgeConstraint, forth, back, HeadConstraint, exit_of}
 use Rattle.pk_wpo.specs.Layouts.{Laid, IsLaid, IsHome, IsInnermost, end_number, place_in}
-use Rattle.pk_wpo.proofs.Connected.{connected, reach_start, reach_from}
+use Rattle.pk_nest.proofs.Paths.{reach_start, reach_from}
+use Rattle.pk_wpo.proofs.Connected.{connected}
 use Rattle.pk_wpo.proofs.Placed.{Hold, exit_in, held_vertex, holding_head, head_vertex, exit_number, exit_before_end, same_place, hold_from, hold_before, hold_by_place, exit_nested, hold_trans, hold_both, hold_same, hold_or_not, hold_or_none, edge_place, has_from, has_before, has_head, has_below, has_by_place}
 use Rattle.pk_wpo.proofs.Numbers.{exit_apart}
 

@@ -1,12 +1,12 @@
 use Rattle.std.proofs.Common.{◌≡◌, ◌<◌, ◌∙◌, ℕ, ap, sym, subst, length, map, All, slice_index_or, List, rules, arith}
 use Rattle.std.proofs.lemmas.List.{with_items_is}
 use Rattle.pk_graph.specs.Graphs.{EdgeOf, edge_view}
-use Rattle.pk_number.specs.Numbering.{no_label}
 use Rattle.pk_number.specs.Rows.{rows_view, row_at, renumbered, Placed}
 use Rattle.pk_number.proofs.AmongLemmas.{among_at}
 use Rattle.pk_number.proofs.RowLemmas.{row_got}
 use Rattle.pk_number.proofs.PointLemmas.{made_begin, row_left, made_next, made_end}
 use Rattle.pk_number.proofs.numbering.points_of.Goals as goal
+use Rattle.pk_draft.specs.Drafts.{no_label}
 
 pub loop-k-init : goal.loop-k-init
 loop-k-init c = made_begin c.args.labels.now c.args.numbers.now c.args.order.now c.args.rows.items c.in_ok-points.points.items c.requires.size c.in_ok-points.ensures.items

@@ -1,8 +1,8 @@
 use Rattle.std.proofs.Common.{◌≡◌, ◌<◌, ◌++◌, [], ◌∷◌, ℕ, Bool, false, List, Vec, Global, Option, IfSome, IfNone, get_or, arith, sym, ap, subst, ◌∙◌}
 use Rattle.std.proofs.lemmas.List.{get_or-map}
 use Rattle.pk_plan.proofs.PlanLemmas.{constrains_from}
+use Rattle.pk_plan.specs.Digraphs.{lists_of}
 use Rattle.pk_linear.specs.Waits.{WaitsFor, WaitsNoMore, IsReadTo}
-use Rattle.pk_linear.specs.Progress.{lists_in}
 use Rattle.pk_linear.proofs.LookLemmas.{looked_waiting, looked_ready}
 use Rattle.pk_linear.proofs.progress.Progress.look_at.Goals as goal
 
@@ -24,7 +24,7 @@ returns-in_ok-push-in-Some c =
     let unplaced : get_or s.placed.items a false ≡ false = subst (λ (xs : List Bool). get_or xs a false ≡ false) c.deref-2.ensures.value unplaced' in
     let below : a < p.elements = constrains_from p a waits.0 c.axioms.ensures.axioms waits.1 in
     let old : Vec ℕ Global = c.index_mut-in-Some.result.now in
-    let is : old.items ≡ get_or (lists_in s.waiting.items) a [] =
+    let is : old.items ≡ get_or (lists_of s.waiting.items) a [] =
     ap (λ (v : Vec ℕ Global). v.items) c.index_mut-in-Some.ensures.value
     ∙ sym (get_or-map (λ (v : Vec ℕ Global). v.items) s.waiting.items a old [] (omega (arith, below, c.requires.waiting))) in
     looked_waiting p s c.args.item a c.next_wait-wait.result.0 c.push.new.self c.requires.readings c.requires.waiting c.requires.item below reads waits unplaced

@@ -3,8 +3,8 @@ use Rattle.std.specs.Vec.{with_item}
 use Rattle.std.proofs.lemmas.List.{get_or-map, drop_all, length_push}
 use Rattle.std.proofs.lemmas.List.Elements.{Contains-get_or}
 use Rattle.pk_plan.specs.declared.places.Place.{Place}
+use Rattle.pk_plan.specs.Digraphs.{lists_of}
 use Rattle.pk_linear.specs.declared.progress.Progress.{Progress}
-use Rattle.pk_linear.specs.Progress.{lists_in}
 use Rattle.pk_linear.proofs.ListLemmas.{contains_none}
 use Rattle.pk_linear.proofs.TurnLemmas.{IsNow, now_candidate}
 use Rattle.pk_linear.proofs.KnownLemmas.{exit_closes, heads_within, turn_keeps, IsKnownPlaced, IsAwaited, known_placed, known_looked, known_less, awaited_next}
@@ -55,7 +55,7 @@ loop-item-init c =
     let long : length s'.waiting.items ≡ p.elements = ap (λ (x : Progress). length x.waiting.items) keeps ∙ c.requires.known.waiting in
     let below = it.within in
     let old : Vec ℕ Global = c.index_mut-2.result.now in
-    let waited : c.deref-item-items.result.now ≡ get_or (lists_in s'.waiting.items) e [] =
+    let waited : c.deref-item-items.result.now ≡ get_or (lists_of s'.waiting.items) e [] =
     c.deref-item-items.ensures.value
     ∙ ap (λ (v : Vec ℕ Global). v.items) (c.replace-items.ensures.value ∙ c.index_mut-2.ensures.value)
     ∙ sym (get_or-map (λ (v : Vec ℕ Global). v.items) s'.waiting.items e old [] (omega (arith, long, below))) in

@@ -1,8 +1,8 @@
 use Rattle.std.proofs.Common.{◌≡◌, ℕ, [], ◌∷◌, ◌++◌, List, Vec, Global, Bool, false, replicate, length, get_or, arith, sym, ap, ◌∙◌}
 use Rattle.std.proofs.lemmas.List.{length_push, length-replicate}
 use Rattle.pk_plan.specs.Plans.{place_of}
+use Rattle.pk_plan.specs.Digraphs.{lists_of}
 use Rattle.pk_linear.specs.declared.waits.Reading.{Reading}
-use Rattle.pk_linear.specs.Progress.{lists_in}
 use Rattle.pk_linear.proofs.KnownLemmas.{started, empties_push, readings_push, none_marked}
 use Rattle.pk_linear.proofs.progress.Progress.start.Goals as goal
 
@@ -20,7 +20,7 @@ loop-element-preserved c =
       ap (λ (xs : List Reading). length xs) pushed ∙ omega (arith, long, before.0),
       (λ k less. ap (λ (xs : List Reading). get_or xs k none) pushed ∙ readings_push f readings none (λ j in_range. before.1 j (omega (arith, in_range, before.0))) k (omega (arith, less, before.0))),
       ap (λ (xs : List (Vec ℕ Global)). length xs) c.in_ok-push-2.ensures.items ∙ omega (arith, long', before.2),
-      (λ k. ap (λ (xs : List (Vec ℕ Global)). get_or (lists_in xs) k []) c.in_ok-push-2.ensures.items ∙ empties_push c.loop-element.waiting.items c.new.result k c.new.ensures.items (before.3 k)),
+      (λ k. ap (λ (xs : List (Vec ℕ Global)). get_or (lists_of xs) k []) c.in_ok-push-2.ensures.items ∙ empties_push c.loop-element.waiting.items c.new.result k c.new.ensures.items (before.3 k)),
     )
 
 pub returns-clause-known : goal.returns-clause-known
