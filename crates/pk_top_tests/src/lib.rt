@@ -1,0 +1,5 @@
+//! Tests of the program's call over memory devices.
+#![tactic(auto)]
+
+#[cfg(test)]
+mod top;
