@@ -1,5 +1,5 @@
 -- What the steps of a restart ask of the table, and what the calls tell.
-use Rattle.std.proofs.Common.{◌≡◌, ℕ, suc, ◌+◌, ◌-◌, ◌*◌, ◌/◌, ◌%◌, ◌^◌, ◌<◌, List, [], ◌∷◌, length, map, replicate, All, get_or, Bool, true, false, refl, sym, ap, subst, arith}
+use Rattle.std.proofs.Common.{◌≡◌, ℕ, suc, ◌+◌, ◌-◌, ◌*◌, ◌/◌, ◌%◌, ◌^◌, ◌<◌, ◌≤◌, ◌∙◌, List, [], ◌∷◌, length, map, replicate, All, get_or, Bool, true, false, refl, sym, ap, subst, arith}
 use Rattle.atomic_table.specs.Table.{Me, Allows}
 use Rattle.atomic_table.specs.Seated.{TableId}
 use Rattle.pk_plan.specs.declared.components.Component.{Component}
@@ -13,8 +13,10 @@ use Rattle.pk_layout.specs.Wirings.{Wiring, IsWired}
 use Rattle.pk_layout.specs.Layouts.{first_of}
 use Rattle.pk_words.specs.declared.view.View.{View}
 use Rattle.pk_words.specs.Subjects.{SubjectView}
-use Rattle.pk_words.specs.Held.{HoldView}
-use Rattle.pk_words.specs.Views.{HasHold, HasResetting, IsGiven}
+use Rattle.pk_words.specs.Held.{HoldView, ResettingView}
+use Rattle.pk_words.specs.Tokens.{seen_run}
+use Rattle.pk_words.specs.Views.{HasHold, HasResetting, IsGiven, arm_view, head_view}
+use Rattle.pk_words.specs.Reads.{Counts}
 use Rattle.pk_words.specs.Board.{head_of, members_at, IsBoard}
 use Rattle.pk_words.specs.Told.{IsIdle, Restarted, Armed, HeadArmed}
 use Rattle.pk_words.proofs.Sends.{has_get}
@@ -22,7 +24,8 @@ use Rattle.pk_words.proofs.Wired.{member_in, member_below}
 use Rattle.pk_words.proofs.Members.{inner_small, some_members}
 use Rattle.pk_words.proofs.Restart_steps.{inner_is, restarts, arms, arms_head}
 use Rattle.pk_board.specs.Boards.{IsKept}
-use Rattle.pk_board.specs.Calls.{IsResetting, IsRunCell}
+use Rattle.pk_board.specs.Calls.{IsLate, IsResetting, IsRunCell, IsArmed}
+use Rattle.pk_board.specs.declared.answers.Armed.TheVariants.{More, Head}
 use Rattle.pk_board.specs.Writing.{IsWriting}
 
 module _ {Y C S : Type 0} (meaning : Y → Behaviour C) (value : S → C) (subject key : SubjectView Y) (table own : TableId) where
@@ -76,6 +79,59 @@ at_member b w plan component ms x left wired plan_is component_is ms_is exit in_
       count = sym count;
       small = omega (arith, count, inner_small wired x (get_or (members_at w.plan x) left 0));
     })))
+
+-- the next member that is armed, the last of those that are left
+next_in_range : (p : PlanView) (x left : ℕ) (r : ResettingView) → IsResetting p r → x ≡ r.exit → left ≡ r.left → left - 1 < length (members_at p x)
+next_in_range p x left r is exit left_is = subst (λ (j : ℕ). left - 1 < length (members_at p j)) (sym exit) (omega (arith, left_is, is.some_left, is.within))
+
+pub next_is : {C : Type 0} (b : Behaviour C) (w : Wiring) (r : ResettingView) (plan : PlanView) (component : Component) (ms : List ℕ) (x left : ℕ) → IsWired b w → IsResetting w.plan r → x ≡ r.exit → left ≡ r.left → plan ≡ w.plan → component ≡ component_of plan x → ms ≡ members_of plan component
+    → AtMember w plan component x (left - 1) (get_or ms (left - 1) 0)
+next_is b w r plan component ms x left wired is exit left_is plan_is component_is ms_is =
+    at_member b w plan component ms x (left - 1) wired plan_is component_is ms_is (subst (λ (j : ℕ). exits w.plan j ≡ true) (sym exit) is.exit) (next_in_range w.plan x left r is exit left_is)
+
+pub next_there : (p plan : PlanView) (r : ResettingView) (component : Component) (ms : List ℕ) (x left : ℕ) → IsResetting p r → x ≡ r.exit → left ≡ r.left → plan ≡ p → component ≡ component_of plan x → ms ≡ members_of plan component → left - 1 < length ms
+next_there p plan r component ms x left is exit left_is plan_is component_is ms_is =
+    subst (λ (l : List ℕ). left - 1 < length l) (sym (ms_is ∙ ap (members_of plan) component_is ∙ ap (λ (q : PlanView). members_of q (component_of q x)) plan_is)) (next_in_range p x left r is exit left_is)
+
+-- the Resetting that a pass has
+pub resetting_at : (v u : View) (r : ResettingView) (x n : ℕ) → HasResetting v r.exit r.left → u ≡ v → x ≡ r.exit → n ≡ r.left → HasResetting u x n
+resetting_at v u r x n has is exit left =
+    subst (λ (t : View). HasResetting t x n) (sym is) (subst (λ (j : ℕ). HasResetting v j n) (sym exit) (subst (λ (k : ℕ). HasResetting v r.exit k) (sym left) has))
+
+pub one_left : (left n : ℕ) → left ≡ n → 0 < n → left - 1 ≡ 0 → 1 ≡ n
+one_left left n same some none = omega (arith, same, some, none)
+
+pub more_left : (left n : ℕ) → left ≡ n → 0 < n → left - 1 + 1 ≡ n
+more_left left n same some = omega (arith, same, some)
+
+-- the answers of an armed head, and of another member
+pub head_told : {C S : Type 0} (b : Behaviour C) (w : Wiring) (r : ResettingView) (x e run : ℕ) (hold : HoldView) (me new : Me S View) (old : View) → HeadArmed b w x e me (run * 1048576 + 262145) new → me.0 ≡ old → x ≡ r.exit → 1 ≡ r.left → e ≡ get_or (members_at w.plan x) 0 0
+    → hold ≡ record { element = e; run = run } → IsArmed b w r old new.0 (Head hold)
+head_told {C} {S} b w r x e run hold me new old told is exit left first hold_is =
+    let word = run * 1048576 + 262145 in
+    let high : word / 1048576 ≡ run = omega arith in
+    subst (λ (h : HoldView). IsArmed b w r old new.0 (Head h)) (sym hold_is) (
+      sym left,
+      first ∙ ap (λ (j : ℕ). get_or (members_at w.plan j) 0 0) exit,
+      subst (λ (n : ℕ). Counts b w e n) high told.2,
+      subst (λ (n : ℕ). seen_run e old.notes ≤ n) high (subst (λ (v : View). seen_run e v.notes ≤ word / 1048576) is told.3),
+      ap (λ (m : Me S View). m.0) told.0 ∙ (λ k. head_view (exit k) e word (is k)),
+    )
+
+pub member_told : {C S : Type 0} (b : Behaviour C) (w : Wiring) (r rest : ResettingView) (x left e word : ℕ) (me new : Me S View) (old : View) → Armed x left e me word new → me.0 ≡ old → x ≡ r.exit → left + 1 ≡ r.left → 0 < left → e ≡ get_or (members_at w.plan x) left 0
+    → rest ≡ record { exit = x; left = left } → IsArmed b w r old new.0 (More rest)
+member_told {C} {S} b w r rest x left e word me new old told is exit left_is some e_is rest_is =
+    let fewer : left ≡ r.left - 1 = omega (arith, left_is) in
+    let at : e ≡ get_or (members_at w.plan r.exit) (r.left - 1) 0 = e_is ∙ (λ k. get_or (members_at w.plan (exit k)) (fewer k) 0) in (
+      rest_is ∙ (λ k. record { exit = exit k; left = fewer k }),
+      omega (arith, left_is, some),
+      (
+        word,
+        told.1,
+        subst (λ (j : ℕ). IsLate j word old) at (subst (λ (v : View). seen_run e v.notes ≤ word / 1048576) is told.2),
+        ap (λ (m : Me S View). m.0) told.0 ∙ (λ k. arm_view (exit k) (fewer k) (at k) word (is k)),
+      ),
+    )
 
 pub arm_amount : (n i : ℕ) → n ≡ i → i < 262144 → 262145 - n + i ≡ 262145
 arm_amount n i same small = omega (arith, same, small)

@@ -1,9 +1,20 @@
--- Lists that grow at their end.
-use Rattle.std.proofs.Common.{◌≡◌, ℕ, zero, suc, ◌+◌, ◌<◌, List, [], ◌∷◌, ◌++◌, length, get_or, refl, sym, ap, subst, ◌∙◌, ◌⊎◌, inl, inr, arith, length-append}
+-- How a board begins, and lists that grow at their end.
+use Rattle.std.proofs.Common.{◌≡◌, ℕ, zero, suc, ◌+◌, ◌<◌, ◌≤◌, List, [], ◌∷◌, ◌++◌, length, get_or, refl, sym, ap, subst, ◌∙◌, ◌⊎◌, inl, inr, arith, length-append}
 use Rattle.std.proofs.lemmas.Bool.{cases_lt}
 use Rattle.std.proofs.lemmas.List.{get_or_append_left, get_or-append-add}
 use mathlib.Core.Option.{some}
 use lib.ListN.{get_elem?}
+use Rattle.atomic_table.specs.Seated.{TableId}
+use Rattle.pk_plan.specs.Axioms.{Axioms}
+use Rattle.pk_plan.specs.Plans.{PlanView}
+use Rattle.pk_iterate.specs.Behaviour.{Behaviour}
+use Rattle.pk_iterate.specs.Fits.{FitsPlan}
+use Rattle.pk_layout.specs.Layouts.{LayoutView, IsLaidOut, slots_of}
+use Rattle.pk_layout.specs.Wirings.{IsWired}
+use Rattle.pk_words.specs.Subjects.{SubjectView}
+use Rattle.pk_words.specs.Reads.{HasEnd}
+use Rattle.pk_board.specs.Boards.{IsWhole}
+use Rattle.pk_board.specs.Results.{ResultsView}
 
 pub elem_last : {A : Type 0} (xs : List A) (k : ℕ) (y x : A) → get_elem? (xs ++ y ∷ []) k ≡ some x → (get_elem? xs k ≡ some x) ⊎ ((k ≡ length xs) × (y ≡ x))
 elem_last [] zero y x h = inr (refl, cc)
@@ -35,3 +46,17 @@ words_more word n m words words' h is next = subst (AreWords word (n + 1)) (sym 
         ap (λ (k : ℕ). get_or (words ++ m ∷ []) k 0) at ∙ get_or-append-add words (m ∷ []) 0 0 ∙ next ∙ ap word same)
   ];
 })
+
+-- ---- boards
+
+pub wired_from : {C : Type 0} (b : Behaviour C) (p : PlanView) (limit n : ℕ) (l : LayoutView) → Axioms p → FitsPlan b p → p.elements ≤ 131073 → limit ≤ 549755813888 → n ≡ p.elements → IsLaidOut b n l → IsWired b (record { plan = p; limit = limit; layout = l })
+wired_from b p limit n l axioms fits small most same laid = record { axioms = axioms; fits = fits; few = omega (arith, small); limited = omega (arith, most); laid_out = subst (λ (k : ℕ). IsLaidOut b k l) same laid }
+
+pub whole_from : {Y C : Type 0} (meaning : Y → Behaviour C) (subject made key : SubjectView Y) (table : TableId) (results : ResultsView C) (n : ℕ) → made ≡ subject → key ≡ made → table.words ≡ subject.wiring.plan.elements + 2 → table.slots ≡ slots_of subject.wiring.layout
+    → IsWired (meaning subject.system) subject.wiring → HasEnd (meaning subject.system) subject.wiring.plan → results ≡ record { cells = []; runs = []; room = n } → n ≡ subject.wiring.plan.elements → IsWhole (meaning made.system) made key table results
+whole_from {Y} meaning subject made key table results n same about words slots wired ends room all =
+    subst (λ (s : SubjectView Y). IsWhole (meaning s.system) s key table results) (sym same)
+    (record {
+      kept = record { about = about ∙ same; words = words; slots = slots; wired = wired; ends = ends };
+      room = room ∙ (λ k. record { cells = []; runs = []; room = all k });
+    })

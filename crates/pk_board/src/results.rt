@@ -1,6 +1,6 @@
 // The room for what a board ends with: the end takes no memory.
 
-ghost use Rattle.std.specs.Prelude.{◌≡◌, ◌<◌, ◌≤◌, ◌++◌, ◌∷◌, [], IfOk, length, vec_len, vec_capacity};
+ghost use Rattle.std.specs.Prelude.{◌≡◌, ◌<◌, ◌++◌, ◌∷◌, [], IfOk, length};
 ghost use Rattle.std.specs.Arc.{arc_value};
 
 use pk_iterate::Cells;
@@ -37,26 +37,14 @@ pub fn reserved<C: Drop>(alloc: Global, room: u32) -> Result<Results<C>, AllocEr
     Ok(Results { cells, runs, room })
 }
 
-// Appends where there is room.
-fn append<T: Drop>(list: &mut Vec<T>, x: T)
-    requires { vec_len list.old < vec_capacity list.old }
-    ensures items { list.new.items ≡ list.old.items ++ x ∷ [] }
-    ensures capacity { vec_capacity list.old ≤ vec_capacity list.new }
-{
-    match list.push(x) {
-        Ok(()) => {}
-        Err(_) => unreachable!(),
-    }
-}
-
 impl<C: Drop> Results<C> {
     /// One cell more, with its run number.
     pub fn add(&mut self, cell: Arc<C>, run: u64)
         requires { length self.old.cells < self.old.room }
         ensures { self.new ≡ record { cells = self.old.cells ++ arc_value cell ∷ []; runs = self.old.runs ++ run ∷ []; room = self.old.room } }
     {
-        append(&mut self.cells, cell);
-        append(&mut self.runs, run);
+        self.cells.push_reserved(cell);
+        self.runs.push_reserved(run);
     }
 
     /// All of them.

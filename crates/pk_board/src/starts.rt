@@ -90,10 +90,10 @@ impl<'a, Y: System> Board<'a, Y> {
         ensures pass { IfOk result (λ r. r.1 ≡ record { table = r.0.table; view = first_view }) }
     {
         plan.axioms();
-        let layout = Layout::new(alloc, system, plan.elements())?;
         let words = start_words(alloc, plan)?;
-        let slots = start_slots(alloc, system, plan.elements(), &layout)?;
         let results = reserved(alloc, plan.elements())?;
+        let layout = Layout::new(alloc, system, plan.elements())?;
+        let slots = start_slots(alloc, system, plan.elements(), &layout)?;
         let subject = Subject::new(system, plan, layout, max_runs);
         match Table::new(alloc, &words, slots, &subject) {
             Ok((table, seat)) => {

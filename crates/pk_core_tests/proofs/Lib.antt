@@ -1,1 +1,2 @@
-pub mod Driving
+mod Driving
+mod Same_layouts

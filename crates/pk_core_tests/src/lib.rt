@@ -1,6 +1,9 @@
-//! The tests of the scheduler's core, and lists of events that are drawn.
+//! The tests of the scheduler's core: lists of events, given and drawn, on plans and on texts.
 #![tactic(auto)]
 
+#[cfg(test)]
+mod agreeing;
+#[cfg(test)]
 mod drives;
 #[cfg(test)]
 mod lists;
@@ -8,5 +11,5 @@ mod lists;
 mod mixing;
 #[cfg(test)]
 mod plans;
-
-pub use drives::{Drive, driven, reads_within};
+#[cfg(test)]
+mod texts;

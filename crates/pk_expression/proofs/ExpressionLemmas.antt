@@ -22,7 +22,7 @@ use Rattle.pk_grammar.specs.Machine.Signs.{is_fixed, operand_start, specifier_wo
 use Rattle.pk_grammar.specs.Machine.States.{Context, in_index, in_prefix, in_unary, in_cast, in_binary, in_choice, in_alternative, in_assignment, in_comma, operand, named, cast_specifiers, complete}
 use Rattle.pk_grammar.specs.Machine.Steps.{operand_level, is_unary, one_more}
 use Rattle.pk_grammar.specs.Machine.Running.{first_of_all, run}
-use Rattle.pk_expression.specs.Parsing.{Begins, BeginsWith, words, past_words, EndsAt, CastsIf, Anywhere, UpTo, Reads, Refuses, specifiers_from}
+use Rattle.pk_expression.specs.Parsing.{Begins, BeginsWith, past_words, EndsAt, CastsIf, Anywhere, UpTo, Reads, Refuses, specifiers_from}
 use Rattle.pk_grammar.proofs.CompleteSigns.{strength_most}
 use Rattle.pk_expression.proofs.RunLemmas.{fails_as, fails_syntax, fails_nesting}
 use Rattle.pk_expression.proofs.RunOperators.{run_binary, deep_binary, run_question, run_assignment}

@@ -1,3 +1,4 @@
+pub mod KeptLemmas
 pub mod WordLemmas
 pub mod RunLemmas
 pub mod RunOperators

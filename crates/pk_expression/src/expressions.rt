@@ -10,6 +10,7 @@ ghost use Rattle.pk_grammar.specs.Machine.Steps as steps;
 ghost use Rattle.pk_grammar.specs.Outcomes.{nesting_limit};
 ghost use Rattle.pk_expression.specs.Parsing.{EndsAt, IsPrimary, IsOperand, CastsIf, Anywhere, UpTo, Reads, Refuses};
 
+use crate::kept::keeping;
 use crate::parser::{Parser, identifier, nested, strength};
 use pk_ast::{Expression, Identifier, Specifier};
 use pk_ctypes::Pos;
@@ -63,8 +64,8 @@ impl Parser {
             let Some((op, at, after)) = self.step_operator(rest) else {
                 return Ok((whole, rest));
             };
-            nested(at, outside, count + 1)?;
-            whole = Expression::postfix(self.alloc, op, at, whole)?;
+            let (_, operand) = keeping(nested(at, outside, count + 1), whole)?;
+            whole = Expression::postfix(self.alloc, op, at, operand)?;
             count += 1;
             rest = after;
         }
@@ -119,7 +120,7 @@ impl Parser {
         if let Some((open, after)) = self.take(tokens, Fixed::OpenBracket) {
             let inside = nested(open.at, outside, 1)?;
             let (index, rest) = self.expression(after, inside)?;
-            let (_, last) = self.expect(rest, Fixed::CloseBracket)?;
+            let ((_, last), index) = keeping(self.expect(rest, Fixed::CloseBracket), index)?;
             let element = Expression::index(self.alloc, name, open.at, index)?;
             return Ok((element, last));
         }
@@ -168,7 +169,7 @@ impl Parser {
             return Err(ParseError::Syntax { at: first.at });
         }
         let (inner, rest) = self.expression(tokens, outside + 1)?;
-        let (_, after) = self.expect(rest, Fixed::CloseParenthesis)?;
+        let ((_, after), inner) = keeping(self.expect(rest, Fixed::CloseParenthesis), inner)?;
         let whole = Expression::parenthesized(self.alloc, at, inner)?;
         self.postfixes(whole, after, outside)
     }
@@ -240,9 +241,12 @@ impl Parser {
             let Some((op, at, after)) = self.binary_operator(rest, level) else {
                 return Ok((left, count, rest));
             };
-            let inside = nested(at, outside, count + 1)?;
-            let (right, more, next) = self.binary(after, inside, strength(op) + 1)?;
-            left = Expression::binary(self.alloc, op, at, left, right)?;
+            let (inside, before) = keeping(nested(at, outside, count + 1), left)?;
+            let ((right, more, next), before) = keeping(
+                self.binary(after, inside, strength(op) + 1),
+                before,
+            )?;
+            left = Expression::binary(self.alloc, op, at, before, right)?;
             count += 1 + more;
             rest = next;
         }
@@ -264,10 +268,13 @@ impl Parser {
         let Some((at, after)) = self.question(rest) else {
             return Ok((test, rest));
         };
-        let inside = nested(at, outside, 1)?;
-        let (yes, before_colon) = self.expression(after, inside)?;
-        let (_, after_colon) = self.expect(before_colon, Fixed::Colon)?;
-        let (no, last) = self.conditional(after_colon, inside)?;
+        let (inside, test) = keeping(nested(at, outside, 1), test)?;
+        let ((yes, before_colon), test) = keeping(self.expression(after, inside), test)?;
+        let ((_, after_colon), held) = keeping(
+            self.expect(before_colon, Fixed::Colon),
+            (test, yes),
+        )?;
+        let ((no, last), (test, yes)) = keeping(self.conditional(after_colon, inside), held)?;
         let whole = Expression::conditional(self.alloc, at, test, yes, no)?;
         Ok((whole, last))
     }
@@ -289,10 +296,11 @@ impl Parser {
             return Ok((left, rest));
         };
         if !is_unary(&left) {
+            drop(left);
             return Err(ParseError::Syntax { at });
         }
-        let inside = nested(at, outside, 1)?;
-        let (right, last) = self.assignment(after, inside)?;
+        let (inside, left) = keeping(nested(at, outside, 1), left)?;
+        let ((right, last), left) = keeping(self.assignment(after, inside), left)?;
         let whole = Expression::assignment(self.alloc, op, at, left, right)?;
         Ok((whole, last))
     }
@@ -315,9 +323,9 @@ impl Parser {
             let Some((comma, after)) = self.take(rest, Fixed::Comma) else {
                 return Ok((left, rest));
             };
-            let inside = nested(comma.at, outside, count + 1)?;
-            let (right, next) = self.assignment(after, inside)?;
-            left = Expression::comma(self.alloc, comma.at, left, right)?;
+            let (inside, before) = keeping(nested(comma.at, outside, count + 1), left)?;
+            let ((right, next), before) = keeping(self.assignment(after, inside), before)?;
+            left = Expression::comma(self.alloc, comma.at, before, right)?;
             count += 1;
             rest = next;
         }

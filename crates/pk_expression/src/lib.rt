@@ -2,6 +2,8 @@
 #![tactic(auto)]
 
 mod expressions;
+mod kept;
 mod parser;
 
+pub use kept::keeping;
 pub use parser::{NESTING_LIMIT, Parser, identifier, nested};

@@ -174,3 +174,11 @@ negation_is Ne e h k = absurd (cc)
 negation_is Neg e h k = absurd (h refl)
 negation_is BitNot e h k = absurd (k refl)
 negation_is Not e h k = refl
+
+-- ---- orders
+
+pub most_most : (x y z : ℤ) → x ≤ℤ y → y ≤ℤ z → x ≤ℤ z
+most_most x y z h k = omega (arith, ints, h, k)
+
+pub most_below : (x y z : ℤ) → x ≤ℤ y → y <ℤ z → x <ℤ z
+most_below x y z h k = omega (arith, ints, h, k)

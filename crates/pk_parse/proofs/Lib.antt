@@ -1,4 +1,3 @@
-mod KeptLemmas
 mod RunDeclarations
 mod DeclarationLemmas
 mod RunExternals

@@ -12,11 +12,10 @@ ghost use Rattle.pk_parse.specs.Parts.{CanDeclare, IsInner, with_declarators, wi
 ghost use Rattle.pk_grammar.specs.Machine.States as states;
 ghost use Rattle.pk_grammar.specs.Machine.Steps as steps;
 
-use crate::kept::keeping;
 use pk_ast::{
     Declaration, Declarator, Declarators, Expression, Identifier, Initializer, Specifier,
 };
-use pk_expression::{Parser, identifier, nested};
+use pk_expression::{Parser, identifier, keeping, nested};
 use pk_grammar::{Fixed, ParseError};
 use pk_lex::Token;
 

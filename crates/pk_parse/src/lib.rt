@@ -3,7 +3,6 @@
 
 mod declarations;
 mod externals;
-mod kept;
 mod laws;
 mod statements;
 mod texts;

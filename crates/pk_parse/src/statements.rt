@@ -15,10 +15,9 @@ ghost use Rattle.pk_grammar.specs.Machine.States as states;
 ghost use Rattle.pk_grammar.specs.Machine.Steps as steps;
 
 use crate::declarations::declaration;
-use crate::kept::keeping;
 use pk_ast::{Block, BlockItem, Expression, ForHead, ForStart, Identifier, Statement};
 use pk_ctypes::Pos;
-use pk_expression::{Parser, identifier, nested};
+use pk_expression::{Parser, identifier, keeping, nested};
 use pk_grammar::{
     Fixed, OperandStart, ParseError, StatementStart, Testing, is, operand_start, statement_start,
 };
@@ -59,6 +58,23 @@ fn test<'a>(
     let (whole, rest) = parser.expression(after, inside)?;
     let ((_, last), whole) = keeping(parser.expect(rest, Fixed::CloseParenthesis), whole)?;
     Ok((whole, last))
+}
+
+// What follows the statement of a `do`, with the last `;`.
+fn until<'a>(
+    parser: Parser,
+    tokens: &'a [Token],
+    inside: u32,
+) -> Result<(Expression, &'a [Token]), ParseError>
+    requires { inside ≤ nesting_limit }
+    ensures { MatchResult result
+        (λ r. ((n : ℕ) (at : Pos) (s : tree.StatementTree) (o : states.Outer) → inside ≡ n + 1 → run parser.end (states.after_statement s (states.in_do n at o)) tokens.now ≡ run parser.end (states.after_statement (tree.do_while at s (expression_tree r.0)) o) r.1.now) × (length r.1.now ≤ length tokens.now))
+        (λ x. (n : ℕ) (at : Pos) (s : tree.StatementTree) (o : states.Outer) → inside ≡ n + 1 → Fails (run parser.end (states.after_statement s (states.in_do n at o)) tokens.now) x) }
+{
+    let (_, after) = parser.expect(tokens, Fixed::While)?;
+    let (test, end) = test(parser, after, inside)?;
+    let ((_, last), test) = keeping(parser.expect(end, Fixed::Semicolon), test)?;
+    Ok((test, last))
 }
 
 // What the parentheses of a `for` begin with, and its `;`.
@@ -264,8 +280,8 @@ fn choice<'a>(
         return Ok((whole, rest));
     };
     let (yes, test) = keeping(Box::new(parser.alloc, yes), test)?;
-    let (branch, (test, yes)) = keeping(nested(other.at, inside, 1), (test, yes))?;
-    let ((no, last), (test, yes)) = keeping(statement(parser, next, branch), (test, yes))?;
+    let (branch, held) = keeping(nested(other.at, inside, 1), (test, yes))?;
+    let ((no, last), (test, yes)) = keeping(statement(parser, next, branch), held)?;
     let whole = Statement::if_else(parser.alloc, at, test, yes, no)?;
     Ok((whole, last))
 }
@@ -308,9 +324,7 @@ fn repeated<'a>(
         (λ x. (n : ℕ) (o : states.Outer) → inside ≡ n + 1 → Fails (run parser.end (states.at_statement inside (states.in_do n at o)) tokens.now) x) }
 {
     let (body, rest) = statement(parser, tokens, inside)?;
-    let ((_, after), body) = keeping(parser.expect(rest, Fixed::While), body)?;
-    let ((test, end), body) = keeping(test(parser, after, inside), body)?;
-    let ((_, last), (body, test)) = keeping(parser.expect(end, Fixed::Semicolon), (body, test))?;
+    let ((test, last), body) = keeping(until(parser, rest, inside), body)?;
     let whole = Statement::do_while(parser.alloc, at, body, test)?;
     Ok((whole, last))
 }

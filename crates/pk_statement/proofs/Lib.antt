@@ -1,4 +1,5 @@
 pub mod CaseLemmas
+mod FormLemmas
 pub mod ItemLemmas
 pub mod KeepLemmas
 pub mod WalkLemmas

@@ -1,6 +1,5 @@
 use Rattle.std.proofs.Common.{◌≡◌, ◌∙◌, ap, sym, arith, ◌+◌, suc, ◌++◌, ◌∷◌, [], take}
 use Rattle.std.proofs.lemmas.List.{take_more}
-use Rattle.pk_blocks.specs.Rows.{merged_from}
 use Rattle.pk_blocks.proofs.Merging.{merged_more}
 use Rattle.pk_blocks.proofs.block.stay.Goals as goal
 

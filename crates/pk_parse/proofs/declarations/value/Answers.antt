@@ -6,7 +6,7 @@ use Rattle.pk_grammar.specs.Machine.States.{after_initializer}
 use Rattle.pk_grammar.specs.Machine.Steps.{with_initializer}
 use Rattle.pk_grammar.specs.Machine.Running.{run}
 use Rattle.pk_expression.proofs.RunLemmas.{passed, fails_as}
-use Rattle.pk_parse.proofs.KeptLemmas.{made, not_made}
+use Rattle.pk_expression.proofs.KeptLemmas.{made, not_made}
 use Rattle.pk_parse.proofs.DeclarationLemmas.{shorter, run_opened, run_first, fails_value, reads_value}
 use Rattle.pk_parse.proofs.declarations.value.Goals as goal
 

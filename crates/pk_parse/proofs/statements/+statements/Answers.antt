@@ -12,9 +12,9 @@ use Rattle.pk_grammar.specs.Machine.Steps.{tested}
 use Rattle.pk_grammar.specs.Machine.Running.{run}
 use Rattle.pk_expression.proofs.RunLemmas.{passed, fails_as}
 use Rattle.pk_parse.specs.Parts.{with_items, after_block}
-use Rattle.pk_parse.proofs.KeptLemmas.{made, not_made}
+use Rattle.pk_expression.proofs.KeptLemmas.{made, not_made}
 use Rattle.pk_parse.proofs.RunStatements.{run_statement_end, no_statement_end}
-use Rattle.pk_parse.proofs.StatementLemmas.{after_label, after_case, after_default, after_if, after_else, after_test_switch, after_test_while, after_for, run_while, no_while, run_else, deep_else, run_test, no_test, run_last_test, no_last_test, run_default, no_default, run_case, no_case, no_operand_begins, deep_operand, fails_expression, run_expression, no_label_name, run_label, no_label_colon, run_start, deep_start, goes_on, nesting_with_items, no_items_more, run_item_statement, run_item_word, after_item_statement, after_item_declaration, new_block_nesting, run_block_end}
+use Rattle.pk_parse.proofs.StatementLemmas.{after_label, after_case, after_default, after_if, after_else, after_test_switch, after_test_while, after_for, run_else, deep_else, run_test, no_test, run_default, no_default, run_case, no_case, no_operand_begins, deep_operand, fails_expression, run_expression, no_label_name, run_label, no_label_colon, run_start, deep_start, goes_on, nesting_with_items, no_items_more, run_item_statement, run_item_word, after_item_statement, after_item_declaration, new_block_nesting, run_block_end}
 use Rattle.pk_parse.proofs.statements.+statements.Goals as goal
 use Rattle.pk_parse.proofs.statements.+statements.Goals.{tested-in-Switch+in_ok-whole-in-Switch, tested-in_default+in_ok-whole-in_default}
 
@@ -209,45 +209,19 @@ pub repeated-returns-in_err-body : goal.repeated-returns-in_err-body
 repeated-returns-in_err-body t c =
     passed _ _ c.from_residual.result _ c.from_residual.ensures.1 (λ n o i. c.in_err-body.ensures (in_do n c.args.at o))
 
-pub repeated-returns-in_err-after : goal.repeated-returns-in_err-after
-repeated-returns-in_err-after t c =
-    passed _ _ c.from_residual-in_err-after.result _ c.from_residual-in_err-after.ensures.1
-    (λ n o i. fails_as _ _ _ (c.in_ok-body.ensures.0 (in_do n c.args.at o)) (no_while c.args.parser.end n o (statement_tree c.in_ok-body.body) c.in_ok-body.rest.now c.args.at _ (not_made _ _ _ _ c.expect.ensures c.in_err-after.ensures)))
-
 pub repeated-returns-in_err-test : goal.repeated-returns-in_err-test
 repeated-returns-in_err-test t c =
-    let s = statement_tree c.in_ok-body.body in
     passed _ _ c.from_residual-in_err-test.result _ c.from_residual-in_err-test.ensures.1
-    (λ n o i. fails_as _ _ _
-    (c.in_ok-body.ensures.0 (in_do n c.args.at o) ∙ run_while c.args.parser.end n o s c.in_ok-body.rest.now c.args.at _ _ (made _ _ _ _ c.expect.ensures c.in_ok-after.ensures.0) (let h = c.requires in omega arith))
-    (no_last_test c.args.parser.end n c.args.at o c.args.inside i s c.in_ok-after.after.now _ (not_made _ _ _ _ c.test.ensures c.in_err-test.ensures)))
-
-pub repeated-returns-in_err-last : goal.repeated-returns-in_err-last
-repeated-returns-in_err-last t c =
-    let s = statement_tree c.in_ok-body.body in
-    passed _ _ c.from_residual-in_err-last.result _ c.from_residual-in_err-last.ensures.1
-    (λ n o i. fails_as _ _ _
-    (c.in_ok-body.ensures.0 (in_do n c.args.at o)
-    ∙ run_while c.args.parser.end n o s c.in_ok-body.rest.now c.args.at _ _ (made _ _ _ _ c.expect.ensures c.in_ok-after.ensures.0) (let h = c.requires in omega arith)
-    ∙ run_last_test c.args.parser.end n c.args.at o c.args.inside i s c.in_ok-after.after.now (expression_tree c.in_ok-test.test) _ (made _ _ _ _ c.test.ensures c.in_ok-test.ensures.0).0)
-    (no_statement_end c.args.parser.end n (do_while c.args.at s (expression_tree c.in_ok-test.test)) o c.in_ok-test.end.now _ (not_made _ _ _ _ c.expect-2.ensures c.in_err-last.ensures)))
+    (λ n o i. fails_as _ _ _ (c.in_ok-body.ensures.0 (in_do n c.args.at o)) (not_made _ _ _ _ c.until.ensures c.in_err-test.ensures n c.args.at (statement_tree c.in_ok-body.body) o i))
 
 pub repeated-returns : goal.repeated-returns
 repeated-returns t c =
-    let s = statement_tree c.in_ok-body.body in
-    let word = made _ _ _ _ c.expect.ensures c.in_ok-after.ensures.0 in
-    let tested = made _ _ _ _ c.test.ensures c.in_ok-test.ensures.0 in
-    let ended = made _ _ _ _ c.expect-2.ensures c.in_ok-last.ensures.0 in (
+    let ended = made _ _ _ _ c.until.ensures c.in_ok-test.ensures.0 in (
       λ n o i.
           c.in_ok-body.ensures.0 (in_do n c.args.at o)
-          ∙ run_while c.args.parser.end n o s c.in_ok-body.rest.now c.args.at _ _ word (let h = c.requires in omega arith)
-          ∙ run_last_test c.args.parser.end n c.args.at o c.args.inside i s c.in_ok-after.after.now (expression_tree c.in_ok-test.test) _ tested.0
-          ∙ run_statement_end c.args.parser.end n (do_while c.args.at s (expression_tree c.in_ok-test.test)) o c.in_ok-test.end.now _ _ ended (let h = c.requires in omega arith)
-          ∙ ap (λ q. run c.args.parser.end (after_statement q o) c.in_ok-last.last.now)
-          (ap (λ b. do_while c.args.at (statement_tree b) (expression_tree c.in_ok-test.test)) (sym (c.in_ok-test.ensures.1 ∙ c.in_ok-after.ensures.1))
-          ∙ ap (λ q. do_while c.args.at (statement_tree q.0) (expression_tree q.1)) (sym c.in_ok-last.ensures.1)
-          ∙ sym c.in_ok-whole.ensures),
-      let g = c.in_ok-body.ensures.1 in let h = tested.1 in omega (arith, ap length word.cut, ap length ended.cut),
+          ∙ ended.0 n c.args.at (statement_tree c.in_ok-body.body) o i
+          ∙ ap (λ q. run c.args.parser.end (after_statement q o) c.in_ok-test.last.now) (ap (λ b. do_while c.args.at (statement_tree b) (expression_tree c.in_ok-test.test)) (sym c.in_ok-test.ensures.1) ∙ sym c.in_ok-whole.ensures),
+      let g = c.in_ok-body.ensures.1 in let h = ended.1 in omega arith,
     )
 
 pub for_loop-returns-in_err-head : goal.for_loop-returns-in_err-head

@@ -1,12 +1,13 @@
 use Rattle.std.proofs.Common.{◌+◌, ◌<◌, ◌≤◌, SFits, w8, length, refl, sym, ap, subst, ◌∙◌, arith, rules}
 use Rattle.std.proofs.lemmas.Int.{to_z-of_z}
-use Rattle.pk_ast.specs.Trees.{call, character}
+use Rattle.pk_ast.specs.Trees.{call, index, character, parenthesized, binary, conditional, assignment, comma}
 use Rattle.pk_ast.specs.Views.{expression_tree, expression_trees, specifiers_tree}
 use Rattle.pk_grammar.specs.Grammar.{operators_in, postfixes_in, commas_in}
 use Rattle.pk_grammar.specs.Machine.States.{Context, in_call, in_index, in_parentheses, in_cast, in_choice, in_alternative, in_assignment, in_comma, named, operand, complete}
 use Rattle.pk_grammar.specs.Machine.Steps.{operand_level}
 use Rattle.pk_grammar.specs.Machine.Running.{run}
 use Rattle.pk_expression.proofs.RunLemmas.{passed, handed, fails_as, fails_syntax, fails_nesting, no_more, below, outside_below, one_below}
+use Rattle.pk_expression.proofs.KeptLemmas.{made, not_made}
 use Rattle.pk_expression.proofs.WordLemmas.{no_longer}
 use Rattle.pk_expression.proofs.RunOperators.{follows_weaker, deep_question, deep_assignment, no_assignment}
 use Rattle.pk_expression.proofs.RunOperands.{run_no_arguments, run_arguments, run_called, run_argument, run_name_alone, run_call, deep_call, deep_index, run_indexed, run_inner, run_parenthesized, run_cast, no_cast, run_name, run_constant, run_character, run_open, deep_open, deep_prefix, deep_unary, no_operand, operand_at_end, deep_comma}
@@ -133,7 +134,7 @@ pub named-returns-in_err-last : goal.named-returns-in_err-last
 named-returns-in_err-last t c =
     let n = c.in_ok-inside.ensures in
     let x = c.in_ok-index.ensures in
-    let f = c.in_err-last.ensures in
+    let f = not_made _ _ _ _ c.expect.ensures c.in_err-last.ensures in
     passed _ _ c.from_residual-in_err-last.result _ c.from_residual-in_err-last.ensures.1
     (λ k h. fails_syntax _ _ _ f.1
     (indexes c.args.self.end c.args.outside c.args.name k c.args.tokens.now c.in-Some-take.open c.in-Some-take.after.now _ c.in-Some-take.ensures n.0 n.1
@@ -144,14 +145,15 @@ pub named-returns-in-Some-take : goal.named-returns-in-Some-take
 named-returns-in-Some-take t c =
     let n = c.in_ok-inside.ensures in
     let x = c.in_ok-index.ensures in
-    let w = c.in_ok-element.ensures in (
+    let closed = made _ _ _ _ c.expect.ensures c.in_ok-last.ensures.0 in
+    let w = c.in_ok-element.ensures ∙ ap (λ e. index c.args.name c.in-Some-take.open.at (expression_tree e)) c.in_ok-last.ensures.1 in (
       λ k h.
           indexes c.args.self.end c.args.outside c.args.name k c.args.tokens.now c.in-Some-take.open c.in-Some-take.after.now _ c.in-Some-take.ensures n.0 n.1
           ∙ x.0 (in_index c.args.outside c.args.name c.in-Some-take.open.at k) (no_more _)
-          ∙ run_indexed c.args.self.end c.args.outside c.in_ok-inside.inside c.in-Some-take.open.at (expression_tree c.in_ok-index.index) k _ _ _ c.args.name c.in_ok-last.ensures c.requires
+          ∙ run_indexed c.args.self.end c.args.outside c.in_ok-inside.inside c.in-Some-take.open.at (expression_tree c.in_ok-index.index) k _ _ _ c.args.name closed c.requires
           ∙ ap (λ q. run c.args.self.end (complete c.args.outside q k) c.in_ok-last.last.now) (sym w),
       record { postfixes = ap postfixes_in w; operators = ap operators_in w; commas = ap commas_in w },
-      (let p = x.2 in omega (arith, ap length c.in-Some-take.ensures.cut, ap length c.in_ok-last.ensures.cut)),
+      (let p = x.2 in omega (arith, ap length c.in-Some-take.ensures.cut, ap length closed.cut)),
     )
 
 -- A cast
@@ -202,7 +204,7 @@ opened-returns-in_err-inner t c =
 pub opened-returns-in_err-after : goal.opened-returns-in_err-after
 opened-returns-in_err-after t c =
     let x = c.in_ok-inner.ensures in
-    let f = c.in_err-after.ensures in
+    let f = not_made _ _ _ _ c.expect.ensures c.in_err-after.ensures in
     passed _ _ c.from_residual-in_err-after.result _ c.from_residual-in_err-after.ensures.1
     (λ k h. fails_syntax _ _ _ f.1
     (run_inner c.args.self.end c.args.outside c.args.at k c.args.tokens.now c.in_default.ensures
@@ -212,14 +214,15 @@ opened-returns-in_err-after t c =
 pub opened-returns : goal.opened-returns
 opened-returns t c =
     let x = c.in_ok-inner.ensures in
-    let w = c.in_ok-whole.ensures in
+    let closed = made _ _ _ _ c.expect.ensures c.in_ok-after.ensures.0 in
+    let w = c.in_ok-whole.ensures ∙ ap (λ e. parenthesized c.args.at (expression_tree e)) c.in_ok-after.ensures.1 in
     let closes = λ (k : Context).
     run_inner c.args.self.end c.args.outside c.args.at k c.args.tokens.now c.in_default.ensures
     ∙ x.0 (in_parentheses c.args.outside c.args.at k) (no_more _)
-    ∙ run_parenthesized c.args.self.end c.args.outside (c.args.outside + 1) c.args.at (expression_tree c.in_ok-inner.inner) k _ _ _ c.in_ok-after.ensures (outside_below _ c.requires)
+    ∙ run_parenthesized c.args.self.end c.args.outside (c.args.outside + 1) c.args.at (expression_tree c.in_ok-inner.inner) k _ _ _ closed (outside_below _ c.requires)
     ∙ ap (λ q. run c.args.self.end (complete c.args.outside q k) c.in_ok-after.after.now) (sym w) in
     handed _ _ _ _ c.postfixes.result c.postfixes.ensures
-    (λ r e. (λ k h. closes k ∙ e.0 k tt, e.1, (let p = e.2 in let q = x.2 in omega (arith, ap length c.in_ok-after.ensures.cut))))
+    (λ r e. (λ k h. closes k ∙ e.0 k tt, e.1, (let p = e.2 in let q = x.2 in omega (arith, ap length closed.cut))))
     (λ y e k h. fails_as _ _ _ (closes k) (e k tt))
 
 -- An operand
@@ -343,7 +346,7 @@ operand-returns-in_ok-whole-in-Unary t c =
 pub binary-returns-in_err-inside : goal.binary-returns-in_err-inside
 binary-returns-in_err-inside t c =
     let i = c.loop-op.invariant in
-    let f = c.in_err-inside.ensures in
+    let f = not_made _ _ _ _ c.nested.ensures c.in_err-inside.ensures in
     let b = c.in-Some.ensures in
     passed _ _ c.from_residual-in_err-inside.result _ c.from_residual-in_err-inside.ensures.1
     (sinks_binary c.args.self.end c.args.outside c.args.tokens.now c.args.level (expression_tree c.loop-op.left) c.loop-op.rest.now _ _ _ c.loop-op.count _ b.1 i.0 i.3 b.0 f.1 f.0)
@@ -351,19 +354,19 @@ binary-returns-in_err-inside t c =
 pub binary-returns-in_err-right : goal.binary-returns-in_err-right
 binary-returns-in_err-right t c =
     let i = c.loop-op.invariant in
-    let n = c.in_ok-inside.ensures in
+    let n = made _ _ _ _ c.nested.ensures c.in_ok-inside.ensures.0 in
     let b = c.in-Some.ensures in
     passed _ _ c.from_residual-in_err-right.result _ c.from_residual-in_err-right.ensures.1
     (fails_binary c.args.self.end c.args.outside c.args.tokens.now c.args.level (expression_tree c.loop-op.left) c.loop-op.rest.now c.in-Some.after.now c.in-Some.op c.in-Some.at c.loop-op.count c.in_ok-inside.inside _ b.1 i.0 i.3 b.0 n.0 n.1
-    (λ k h. c.in_err-right.ensures k (subst (λ s. operand_level k ≤ s + 1) (sym c.strength.ensures) h)))
+    (λ k h. not_made _ _ _ _ c.binary.ensures c.in_err-right.ensures k (subst (λ s. operand_level k ≤ s + 1) (sym c.strength.ensures) h)))
 
 pub binary-loop-op-preserved : goal.binary-loop-op-preserved
 binary-loop-op-preserved t c =
     let i = c.loop-op.invariant in
-    let n = c.in_ok-inside.ensures in
+    let n = made _ _ _ _ c.nested.ensures c.in_ok-inside.ensures.0 in
     let b = c.in-Some.ensures in
-    let r = c.in_ok-right.ensures in
-    let w = c.in_ok-left-2.ensures in
+    let r = made _ _ _ _ c.binary.ensures c.in_ok-right.ensures.0 in
+    let w = c.in_ok-left-2.ensures ∙ ap (λ e. binary c.in-Some.op c.in-Some.at (expression_tree e) (expression_tree c.in_ok-right.right)) (c.in_ok-right.ensures.1 ∙ c.in_ok-inside.ensures.1) in
     let s = c.strength.ensures in (
       reads_binary c.args.self.end c.args.outside c.args.tokens.now c.args.level (expression_tree c.loop-op.left) (expression_tree c.in_ok-right.right) (expression_tree c.in_ok-left-2.left) c.loop-op.rest.now c.in-Some.after.now c.in_ok-right.next.now
           c.in-Some.op c.in-Some.at c.loop-op.count c.in_ok-inside.inside b.1 i.0 i.3 b.0 n.0 n.1
@@ -390,23 +393,23 @@ binary-returns-in_default t c =
 
 pub conditional-returns-in_err-inside : goal.conditional-returns-in_err-inside
 conditional-returns-in_err-inside t c =
-    let f = c.in_err-inside.ensures in
+    let f = not_made _ _ _ _ c.nested.ensures c.in_err-inside.ensures in
     passed _ _ c.from_residual-in_err-inside.result _ c.from_residual-in_err-inside.ensures.1
     (λ k h. fails_nesting _ _ _ f.0 (c.in_ok-test.ensures.0 k (le_more 2 h) ∙ deep_question c.args.self.end c.args.outside (expression_tree c.in_ok-test.test) k c.in_ok-test.rest.now c.in-Some.at c.in-Some.after.now c.in-Some.ensures h f.1))
 
 pub conditional-returns-in_err-yes : goal.conditional-returns-in_err-yes
 conditional-returns-in_err-yes t c =
-    let n = c.in_ok-inside.ensures in
+    let n = made _ _ _ _ c.nested.ensures c.in_ok-inside.ensures.0 in
     passed _ _ c.from_residual-in_err-yes.result _ c.from_residual-in_err-yes.ensures.1
     (λ k h. fails_as _ _ _
     (asks c.args.self.end c.args.outside c.args.tokens.now (expression_tree c.in_ok-test.test) c.in_ok-test.rest.now c.in-Some.after.now c.in-Some.at c.in_ok-inside.inside c.in_ok-test.ensures.0 c.in-Some.ensures n.0 n.1 k h)
-    (c.in_err-yes.ensures (in_choice c.args.outside c.in-Some.at (expression_tree c.in_ok-test.test) k) (no_more _)))
+    (not_made _ _ _ _ c.expression.ensures c.in_err-yes.ensures (in_choice c.args.outside c.in-Some.at (expression_tree c.in_ok-test.test) k) (no_more _)))
 
 pub conditional-returns-in_err-after_colon : goal.conditional-returns-in_err-after_colon
 conditional-returns-in_err-after_colon t c =
-    let n = c.in_ok-inside.ensures in
-    let f = c.in_err-after_colon.ensures in
-    let y = c.in_ok-yes.ensures in
+    let n = made _ _ _ _ c.nested.ensures c.in_ok-inside.ensures.0 in
+    let f = not_made _ _ _ _ c.expect.ensures c.in_err-after_colon.ensures in
+    let y = made _ _ _ _ c.expression.ensures c.in_ok-yes.ensures.0 in
     let test = expression_tree c.in_ok-test.test in
     passed _ _ c.from_residual-in_err-after_colon.result _ c.from_residual-in_err-after_colon.ensures.1
     (λ k h. fails_syntax _ _ _ f.1
@@ -416,28 +419,32 @@ conditional-returns-in_err-after_colon t c =
 
 pub conditional-returns-in_err-no : goal.conditional-returns-in_err-no
 conditional-returns-in_err-no t c =
-    let n = c.in_ok-inside.ensures in
+    let n = made _ _ _ _ c.nested.ensures c.in_ok-inside.ensures.0 in
     let test = expression_tree c.in_ok-test.test in
     let chosen = expression_tree c.in_ok-yes.yes in
     passed _ _ c.from_residual-in_err-no.result _ c.from_residual-in_err-no.ensures.1
     (λ k h. fails_as _ _ _
     (chooses c.args.self.end c.args.outside c.args.tokens.now test chosen c.in_ok-test.rest.now c.in-Some.after.now c.in_ok-yes.before_colon.now c.in_ok-after_colon.after_colon.now c.in-Some.at _ c.in_ok-inside.inside
-    c.in_ok-test.ensures.0 c.in-Some.ensures n.0 n.1 c.in_ok-yes.ensures.0 c.in_ok-after_colon.ensures k h)
-    (c.in_err-no.ensures (in_alternative c.args.outside c.in-Some.at test chosen k) (no_more _)))
+    c.in_ok-test.ensures.0 c.in-Some.ensures n.0 n.1 (made _ _ _ _ c.expression.ensures c.in_ok-yes.ensures.0).0 (made _ _ _ _ c.expect.ensures c.in_ok-after_colon.ensures.0) k h)
+    (not_made _ _ _ _ c.conditional.ensures c.in_err-no.ensures (in_alternative c.args.outside c.in-Some.at test chosen k) (no_more _)))
 
 pub conditional-returns : goal.conditional-returns
 conditional-returns t c =
-    let n = c.in_ok-inside.ensures in
+    let n = made _ _ _ _ c.nested.ensures c.in_ok-inside.ensures.0 in
     let e = c.in_ok-test.ensures in
-    let y = c.in_ok-yes.ensures in
-    let o = c.in_ok-no.ensures in
-    let w = c.in_ok-whole.ensures in (
+    let y = made _ _ _ _ c.expression.ensures c.in_ok-yes.ensures.0 in
+    let colon = made _ _ _ _ c.expect.ensures c.in_ok-after_colon.ensures.0 in
+    let o = made _ _ _ _ c.conditional.ensures c.in_ok-no.ensures.0 in
+    let w =
+    c.in_ok-whole.ensures
+    ∙ ap (λ q. conditional c.in-Some.at (expression_tree q.0) (expression_tree q.1) (expression_tree c.in_ok-no.no)) (c.in_ok-no.ensures.1 ∙ c.in_ok-after_colon.ensures.1)
+    ∙ ap (λ e. conditional c.in-Some.at (expression_tree e) (expression_tree c.in_ok-yes.yes) (expression_tree c.in_ok-no.no)) (c.in_ok-yes.ensures.1 ∙ c.in_ok-inside.ensures.1) in (
       reads_conditional c.args.self.end c.args.outside c.args.tokens.now (expression_tree c.in_ok-test.test) (expression_tree c.in_ok-yes.yes) (expression_tree c.in_ok-no.no) (expression_tree c.in_ok-whole.whole)
           c.in_ok-test.rest.now c.in-Some.after.now c.in_ok-yes.before_colon.now c.in_ok-after_colon.after_colon.now c.in_ok-no.last.now c.in-Some.at _ c.in_ok-inside.inside
-          e.0 c.in-Some.ensures n.0 n.1 y.0 c.in_ok-after_colon.ensures o.0 o.1 w,
+          e.0 c.in-Some.ensures n.0 n.1 y.0 colon o.0 o.1 w,
       o.1,
       ap commas_in w,
-      (let p = e.5 in let q = y.2 in let r = o.3 in omega (arith, ap length c.in-Some.ensures.cut, ap length c.in_ok-after_colon.ensures.cut)),
+      (let p = e.5 in let q = y.2 in let r = o.3 in omega (arith, ap length c.in-Some.ensures.cut, ap length colon.cut)),
     )
 
 -- An assignment
@@ -448,7 +455,7 @@ assignment-returns-then-not-is_unary t c = λ k h.
 
 pub assignment-returns-in_err-inside : goal.assignment-returns-in_err-inside
 assignment-returns-in_err-inside t c =
-    let f = c.in_err-inside.ensures in
+    let f = not_made _ _ _ _ c.nested.ensures c.in_err-inside.ensures in
     passed _ _ c.from_residual-in_err-inside.result _ c.from_residual-in_err-inside.ensures.1
     (λ k h. fails_nesting _ _ _ f.0
     (c.in_ok-left.ensures.0 k (le_more 1 h)
@@ -456,19 +463,19 @@ assignment-returns-in_err-inside t c =
 
 pub assignment-returns-in_err-right : goal.assignment-returns-in_err-right
 assignment-returns-in_err-right t c =
-    let n = c.in_ok-inside.ensures in
+    let n = made _ _ _ _ c.nested.ensures c.in_ok-inside.ensures.0 in
     let left = expression_tree c.in_ok-left.left in
     passed _ _ c.from_residual-in_err-right.result _ c.from_residual-in_err-right.ensures.1
     (λ k h. fails_as _ _ _
     (assigns c.args.self.end c.args.outside c.args.tokens.now left c.in_ok-left.rest.now c.in-Some.after.now c.in-Some.op c.in-Some.at c.in_ok-inside.inside c.in_ok-left.ensures.0 c.in-Some.ensures (sym c.is_unary.ensures ∙ c.if-not-is_unary.false) n.0 n.1 k h)
-    (c.in_err-right.ensures (in_assignment c.args.outside c.in-Some.op c.in-Some.at left k) (no_more _)))
+    (not_made _ _ _ _ c.assignment.ensures c.in_err-right.ensures (in_assignment c.args.outside c.in-Some.op c.in-Some.at left k) (no_more _)))
 
 pub assignment-returns : goal.assignment-returns
 assignment-returns t c =
-    let n = c.in_ok-inside.ensures in
+    let n = made _ _ _ _ c.nested.ensures c.in_ok-inside.ensures.0 in
     let l = c.in_ok-left.ensures in
-    let r = c.in_ok-right.ensures in
-    let w = c.in_ok-whole.ensures in (
+    let r = made _ _ _ _ c.assignment.ensures c.in_ok-right.ensures.0 in
+    let w = c.in_ok-whole.ensures ∙ ap (λ e. assignment c.in-Some.op c.in-Some.at (expression_tree e) (expression_tree c.in_ok-right.right)) (c.in_ok-right.ensures.1 ∙ c.in_ok-inside.ensures.1) in (
       reads_assignment c.args.self.end c.args.outside c.args.tokens.now (expression_tree c.in_ok-left.left) (expression_tree c.in_ok-right.right) (expression_tree c.in_ok-whole.whole)
           c.in_ok-left.rest.now c.in-Some.after.now c.in_ok-right.last.now c.in-Some.op c.in-Some.at c.in_ok-inside.inside l.0 c.in-Some.ensures (sym c.is_unary.ensures ∙ c.if-not-is_unary.false) n.0 n.1 r.0 r.1 w,
       r.1,
@@ -481,7 +488,7 @@ assignment-returns t c =
 pub expression-returns-in_err-inside : goal.expression-returns-in_err-inside
 expression-returns-in_err-inside t c =
     let i = c.loop-comma.invariant in
-    let f = c.in_err-inside.ensures in
+    let f = not_made _ _ _ _ c.nested.ensures c.in_err-inside.ensures in
     passed _ _ c.from_residual-in_err-inside.result _ c.from_residual-in_err-inside.ensures.1
     (λ k h. fails_nesting _ _ _ f.0
     (i.0 k h
@@ -491,19 +498,19 @@ expression-returns-in_err-inside t c =
 pub expression-returns-in_err-right : goal.expression-returns-in_err-right
 expression-returns-in_err-right t c =
     let i = c.loop-comma.invariant in
-    let n = c.in_ok-inside.ensures in
+    let n = made _ _ _ _ c.nested.ensures c.in_ok-inside.ensures.0 in
     let left = expression_tree c.loop-comma.left in
     passed _ _ c.from_residual-in_err-right.result _ c.from_residual-in_err-right.ensures.1
     (λ k h. fails_as _ _ _
     (joins_comma c.args.self.end c.args.outside c.args.tokens.now left c.loop-comma.rest.now c.in-Some.after.now c.in-Some.comma c.loop-comma.count c.in_ok-inside.inside i.0 i.2 c.in-Some.ensures n.0 n.1 k h)
-    (c.in_err-right.ensures (in_comma c.args.outside c.in-Some.comma.at left k) (no_more _)))
+    (not_made _ _ _ _ c.assignment-in-loop-comma.ensures c.in_err-right.ensures (in_comma c.args.outside c.in-Some.comma.at left k) (no_more _)))
 
 pub expression-loop-comma-preserved : goal.expression-loop-comma-preserved
 expression-loop-comma-preserved t c =
     let i = c.loop-comma.invariant in
-    let n = c.in_ok-inside.ensures in
-    let r = c.in_ok-right.ensures in
-    let w = c.in_ok-left-2.ensures in (
+    let n = made _ _ _ _ c.nested.ensures c.in_ok-inside.ensures.0 in
+    let r = made _ _ _ _ c.assignment-in-loop-comma.ensures c.in_ok-right.ensures.0 in
+    let w = c.in_ok-left-2.ensures ∙ ap (λ e. comma c.in-Some.comma.at (expression_tree e) (expression_tree c.in_ok-right.right)) (c.in_ok-right.ensures.1 ∙ c.in_ok-inside.ensures.1) in (
       reads_comma c.args.self.end c.args.outside c.args.tokens.now (expression_tree c.loop-comma.left) (expression_tree c.in_ok-right.right) (expression_tree c.in_ok-left-2.left) c.loop-comma.rest.now c.in-Some.after.now c.in_ok-right.next.now
           c.in-Some.comma c.loop-comma.count c.in_ok-inside.inside i.0 i.2 c.in-Some.ensures n.0 n.1 r.0 r.1 w,
       r.1,
