@@ -13,8 +13,8 @@ use Rattle.pk_grammar.specs.declared.failure.ParseError.{ParseError}
 use Rattle.pk_grammar.specs.declared.failure.ParseError.TheVariants as parse_error
 use Rattle.pk_parse.specs.Refusals as trees
 use Rattle.pk_typed.specs.Trees.{UnitTree}
-use Rattle.pk_scope.specs.declared.failures.Failure.{Failure}
-use Rattle.pk_scope.specs.Failures.{noted}
+use Rattle.pk_type_scope.specs.declared.failures.Failure.{Failure}
+use Rattle.pk_type_scope.specs.Failures.{noted}
 use Rattle.pk_type.specs.Units.{checked, unit_of}
 use Rattle.pk_calls.specs.declared.listings.CallPath.{CallPath}
 use Rattle.pk_calls.specs.declared.failures.CallError.{CallError}

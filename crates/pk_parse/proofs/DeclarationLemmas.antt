@@ -20,10 +20,10 @@ use Rattle.pk_grammar.specs.Machine.Signs.{is_fixed, specifier_word}
 use Rattle.pk_grammar.specs.Machine.States.{Site, in_a_block, in_a_for, outside, Declaring, Naming, as_length, as_value, as_item, as_whole, after_specifiers, after_name, after_length, after_assign, after_brace, after_initializer, after_comma, operand, complete, Declared}
 use Rattle.pk_grammar.specs.Machine.Steps.{refused, site_nesting, naming_nesting, with_initializer, open_parameters, first_item, more_items, with_declarator, goes_on_declaring}
 use Rattle.pk_grammar.specs.Machine.Running.{first_of_all, run, Fails}
-use Rattle.pk_expression.specs.Parsing.{Begins, past_words, past_word, EndsAt, UpTo, Reads, Refuses, specifiers_from}
-use Rattle.pk_expression.proofs.RunLemmas.{fails_as, fails_syntax, fails_nesting}
-use Rattle.pk_expression.proofs.RunOperands.{no_word_past}
-use Rattle.pk_expression.proofs.ExpressionLemmas.{trees_push}
+use Rattle.pk_parse_expression.specs.Parsing.{Begins, past_words, past_word, EndsAt, UpTo, Reads, Refuses, specifiers_from}
+use Rattle.pk_parse_expression.proofs.RunLemmas.{fails_as, fails_syntax, fails_nesting}
+use Rattle.pk_parse_expression.proofs.RunOperands.{no_word_past}
+use Rattle.pk_parse_expression.proofs.ExpressionLemmas.{trees_push}
 use Rattle.pk_parse.specs.Parts.{CanDeclare, IsInner, with_declarators, after_declaration, item_state}
 use Rattle.pk_parse.proofs.RunDeclarations.{naming, run_specifiers, run_length, deep_length, run_length_end, no_length_end, run_assign, run_braced, run_value, run_value_end, run_first_item, run_item_end, run_item_comma, no_item_end, run_last_comma, run_next_item, run_semicolon, run_comma, no_comma, run_next_name, no_next_name, run_first_name, no_first_name}
 

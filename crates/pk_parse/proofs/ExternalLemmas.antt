@@ -23,9 +23,9 @@ use Rattle.pk_grammar.specs.Machine.Signs.{is_fixed, specifier_word, storage_wor
 use Rattle.pk_grammar.specs.Machine.States.{Head, outside, Declaring, top, after_specifiers, after_name, parameters_open, parameter_specifiers, parameter_name, parameter_comma, parameters_closed}
 use Rattle.pk_grammar.specs.Machine.Steps.{is_void, is_void_alone}
 use Rattle.pk_grammar.specs.Machine.Running.{syntax, first_of_all, run, Fails}
-use Rattle.pk_expression.specs.Parsing.{Begins, BeginsWithWord, past_words, specifiers_from}
-use Rattle.pk_expression.proofs.RunLemmas.{fails_as, fails_syntax}
-use Rattle.pk_expression.proofs.RunOperands.{no_word_past}
+use Rattle.pk_parse_expression.specs.Parsing.{Begins, BeginsWithWord, past_words, specifiers_from}
+use Rattle.pk_parse_expression.proofs.RunLemmas.{fails_as, fails_syntax}
+use Rattle.pk_parse_expression.proofs.RunOperands.{no_word_past}
 use Rattle.pk_parse.specs.Parts.{CanDeclare, with_all, after_declaration, after_parameter, EndsParameter, after_function, storage_state}
 use Rattle.pk_parse.proofs.DeclarationLemmas.{shorter, named_first, stops_first_name, run_named, past_words_shorter}
 use Rattle.pk_parse.proofs.RunExternals.{run_parameter, no_parameter, run_parameter_words, run_parameter_name, with_last, run_parameter_close, run_parameter_comma, no_parameter_end, run_function, run_first_word, no_first_word}

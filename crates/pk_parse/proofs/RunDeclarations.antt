@@ -1,7 +1,7 @@
 -- What is answered within declarations, token by token.
 use Rattle.std.proofs.Common.{◌≡◌, ℕ, ◌+◌, ◌<◌, ◌≤◌, List, [], ◌∷◌, Option, Some, None, Bool, true, false, refl, sym, ap, ◌∙◌, append_assoc, append-nil, arith}
 use Rattle.std.specs.Prelude.{if◌then◌else◌}
-use Rattle.pk_expression.proofs.RunOperands.{and_words}
+use Rattle.pk_parse_expression.proofs.RunOperands.{and_words}
 use Rattle.pk_ast.specs.Lists.{with_last}
 use Rattle.pk_ctypes.specs.declared.places.Pos.{Pos}
 use Rattle.pk_lex.specs.declared.token.Token.{Token}
@@ -24,9 +24,9 @@ use Rattle.pk_grammar.proofs.CompleteSigns.{strength_least}
 use Rattle.pk_grammar.proofs.CompleteOperands.{same_false, same_true}
 use Rattle.pk_grammar.proofs.CompleteDeclarations.{step_first_name, step_length, step_last_comma, step_next_name}
 use Rattle.pk_grammar.proofs.SpellsSigns.{is_this}
-use Rattle.pk_expression.specs.Parsing.{Begins, words, words_then, past_words, past_word, follows, EndsAt}
-use Rattle.pk_expression.proofs.RunLemmas.{run_takes, run_deep, run_refused, run_alike}
-use Rattle.pk_expression.proofs.RunOperators.{operator_kind, ends_other, follows_no_comma}
+use Rattle.pk_parse_expression.specs.Parsing.{Begins, words, words_then, past_words, past_word, follows, EndsAt}
+use Rattle.pk_parse_expression.proofs.RunLemmas.{run_takes, run_deep, run_refused, run_alike}
+use Rattle.pk_parse_expression.proofs.RunOperators.{operator_kind, ends_other, follows_no_comma}
 use Rattle.pk_parse.specs.Parts.{CanDeclare, after_declaration}
 
 -- the words of a type, one after another

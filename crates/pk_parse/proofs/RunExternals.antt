@@ -1,6 +1,6 @@
 -- What is answered within external definitions, token by token.
 use Rattle.std.proofs.Common.{◌≡◌, ◌≢◌, List, [], ◌∷◌, ◌++◌, Option, Some, None, Bool, true, false, refl, sym, ap, ◌∙◌, arith}
-use Rattle.pk_expression.proofs.RunOperands.{and_words}
+use Rattle.pk_parse_expression.proofs.RunOperands.{and_words}
 use Rattle.pk_ast.specs.Lists.{one}
 use Rattle.pk_lex.specs.declared.token.Token.{Token}
 use Rattle.pk_lex.specs.declared.token.Kind.{Kind}
@@ -20,8 +20,8 @@ use Rattle.pk_grammar.specs.Machine.Running.{trees, syntax, first_of_all, run}
 use Rattle.pk_grammar.proofs.CompleteSigns.{specifier_alone}
 use Rattle.pk_grammar.proofs.CompleteOperands.{same_false}
 use Rattle.pk_grammar.proofs.SpellsSigns.{is_this}
-use Rattle.pk_expression.specs.Parsing.{Begins, BeginsWithWord, words, past_words}
-use Rattle.pk_expression.proofs.RunLemmas.{run_takes, run_refused, run_alike}
+use Rattle.pk_parse_expression.specs.Parsing.{Begins, BeginsWithWord, words, past_words}
+use Rattle.pk_parse_expression.proofs.RunLemmas.{run_takes, run_refused, run_alike}
 use Rattle.pk_parse.specs.Parts.{EndsParameter, parameter_state, after_function, storage_state}
 use Rattle.pk_parse.proofs.RunDeclarations.{run_words}
 use Rattle.pk_parse.proofs.DeclarationLemmas.{named_first}

@@ -15,10 +15,10 @@ use Rattle.pk_grammar.specs.Machine.Signs.{is_fixed, operator_of, specifier_word
 use Rattle.pk_grammar.specs.Machine.States.{Outer, in_for, in_a_for, Purpose, as_first, as_second, as_third, as_result, as_whole, State, after_specifiers, at_statement, after_statement, for_first, for_second, for_third, goto_name, returning, statement_end, operand, complete}
 use Rattle.pk_grammar.specs.Machine.Steps.{taken, wanted, reduced, go_on, purpose_level, end_purpose, begin_for, specifier_at, step}
 use Rattle.pk_grammar.specs.Machine.Running.{first_of_all, run, Fails}
-use Rattle.pk_expression.specs.Parsing.{Begins, BeginsWithWord, follows, EndsAt, UpTo, Reads, Refuses}
+use Rattle.pk_parse_expression.specs.Parsing.{Begins, BeginsWithWord, follows, EndsAt, UpTo, Reads, Refuses}
 use Rattle.pk_grammar.proofs.CompleteOperands.{same_false, same_true}
-use Rattle.pk_expression.proofs.RunLemmas.{run_takes, run_deep, run_refused, run_alike, first_is, fails_as, fails_syntax, fails_nesting}
-use Rattle.pk_expression.proofs.RunOperators.{ends_other}
+use Rattle.pk_parse_expression.proofs.RunLemmas.{run_takes, run_deep, run_refused, run_alike, first_is, fails_as, fails_syntax, fails_nesting}
+use Rattle.pk_parse_expression.proofs.RunOperators.{ends_other}
 use Rattle.pk_parse.specs.Parts.{IsOptional, IsTest}
 
 -- a token of one kind alone is waited for

@@ -29,11 +29,11 @@ use Rattle.pk_grammar.specs.Machine.Signs.{is_fixed, operand_start, operator_of,
 use Rattle.pk_grammar.specs.Machine.States.{Context, OpenBlock, function_block, inner_block, Outer, in_block, in_label, in_case, in_default, in_if, in_else, in_switch, in_while, in_do, in_for, in_a_block, Purpose, as_statement, as_label, as_test, as_last_test, as_whole, State, after_specifiers, block_item, at_statement, after_statement, test_open, do_open, for_open, for_first, default_colon, statement_end, operand, complete}
 use Rattle.pk_grammar.specs.Machine.Steps.{taken, refused, wanted, reduced, go_on, begin_operand, labelled, tested, one_more_statement, one_more_declaration, block_nesting, with_statement, with_declaration, begin_statement, declaration_or_statement, end_block, resume, step}
 use Rattle.pk_grammar.specs.Machine.Running.{first_of_all, run, Fails}
-use Rattle.pk_expression.specs.Parsing.{Begins, BeginsWithWord, follows, EndsAt, UpTo, Reads, Refuses}
+use Rattle.pk_parse_expression.specs.Parsing.{Begins, BeginsWithWord, follows, EndsAt, UpTo, Reads, Refuses}
 use Rattle.pk_grammar.proofs.CompleteSigns.{strength_least}
 use Rattle.pk_grammar.proofs.CompleteOperands.{same_false, same_true}
 use Rattle.pk_grammar.proofs.SpellsSigns.{is_this}
-use Rattle.pk_expression.proofs.RunLemmas.{run_takes, run_deep, run_refused, run_alike, first_is, fails_as, fails_syntax, fails_nesting}
+use Rattle.pk_parse_expression.proofs.RunLemmas.{run_takes, run_deep, run_refused, run_alike, first_is, fails_as, fails_syntax, fails_nesting}
 use Rattle.pk_parse.specs.Parts.{IsTest, with_items, IsNewBlock, after_function, after_block}
 use Rattle.pk_parse.proofs.RunStatements.{run_wanted, deep_wanted, fails_wanted, step_ends, run_word}
 

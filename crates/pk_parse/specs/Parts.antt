@@ -13,7 +13,7 @@ use Rattle.pk_grammar.specs.Machine.Signs.{is_fixed, specifier_word}
 use Rattle.pk_grammar.specs.Machine.States.{Head, OpenBlock, function_block, inner_block, Site, in_a_block, in_a_for, outside, Declaring, Declared, Naming, Purpose, as_whole, State, top, after_storage, after_item, after_initializer, parameter_specifiers, parameter_name, after_statement, operand}
 use Rattle.pk_grammar.specs.Machine.Steps.{refused, taken, wanted, site_nesting, with_declarator, with_initializer, whole_declaration, declared_at, open_parameters, purpose_level, end_purpose, step}
 use Rattle.pk_grammar.specs.Machine.Running.{first_of_all}
-use Rattle.pk_expression.specs.Parsing.{EndsAt, UpTo, Reads}
+use Rattle.pk_parse_expression.specs.Parsing.{EndsAt, UpTo, Reads}
 
 -- A declaration at this nesting, of which a name was read; where a `(` follows, it isn't the name of a function.
 pub record CanDeclare (end : Token) (d : Declaring) (id : Identifier) (n : ℕ) (ts : List Token) : Type 0 where

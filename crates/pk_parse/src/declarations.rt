@@ -15,9 +15,9 @@ ghost use Rattle.pk_grammar.specs.Machine.Steps as steps;
 use pk_ast::{
     Declaration, Declarator, Declarators, Expression, Identifier, Initializer, Specifier,
 };
-use pk_expression::{Parser, identifier, keeping, nested};
 use pk_grammar::{Fixed, ParseError};
 use pk_lex::Token;
+use pk_parse_expression::{Parser, identifier, keeping, nested};
 
 // The length of an array, in its brackets.
 fn length<'a>(

@@ -13,9 +13,9 @@ ghost use Rattle.pk_parse.specs.Parts.{after_parameter, EndsParameter, after_fun
 use crate::declarations::declarators;
 use crate::statements::block;
 use pk_ast::{Block, Declaration, External, Function, Parameter, Specifier, Storage};
-use pk_expression::{Parser, identifier};
 use pk_grammar::{Fixed, ParseError, is, is_void_word, storage_word};
 use pk_lex::{Kind, Token};
+use pk_parse_expression::{Parser, identifier};
 
 // The word `void` and nothing else, which is no parameter.
 fn is_void_alone(p: &Parameter) -> bool

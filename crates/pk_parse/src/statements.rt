@@ -7,7 +7,7 @@ ghost use Rattle.pk_ast.specs.Views.{expression_tree, for_start_tree, statement_
 ghost use Rattle.pk_grammar.specs.Grammar.{any_expression};
 ghost use Rattle.pk_grammar.specs.Outcomes.{nesting_limit};
 ghost use Rattle.pk_grammar.specs.Machine.Running.{first_of_all, run, Fails};
-ghost use Rattle.pk_expression.specs.Parsing.{UpTo, Refuses};
+ghost use Rattle.pk_parse_expression.specs.Parsing.{UpTo, Refuses};
 ghost use Rattle.pk_parse.specs.Parts.{IsOptional, IsTest, with_items, IsNewBlock, after_block};
 ghost use Rattle.pk_grammar.specs.Machine.Signs as signs;
 ghost use Rattle.pk_grammar.specs.Machine.Signs.{is_fixed};
@@ -17,11 +17,11 @@ ghost use Rattle.pk_grammar.specs.Machine.Steps as steps;
 use crate::declarations::declaration;
 use pk_ast::{Block, BlockItem, Expression, ForHead, ForStart, Identifier, Statement};
 use pk_ctypes::Pos;
-use pk_expression::{Parser, identifier, keeping, nested};
 use pk_grammar::{
     Fixed, OperandStart, ParseError, StatementStart, Testing, is, operand_start, statement_start,
 };
 use pk_lex::Token;
+use pk_parse_expression::{Parser, identifier, keeping, nested};
 
 // An expression, unless this token comes first.
 fn optional<'a>(

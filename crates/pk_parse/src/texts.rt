@@ -9,9 +9,9 @@ ghost use Rattle.pk_parse.specs.Refusals.{IsAccepted, IsRefused};
 use crate::externals::externals;
 use pk_ast::Unit;
 use pk_constructs::first_unsupported;
-use pk_expression::Parser;
 use pk_grammar::ParseError;
 use pk_lex::Token;
+use pk_parse_expression::Parser;
 use std::alloc::Global;
 
 /// The trees of the tokens of a text, of which the last, and no other, is End. Otherwise the first construct that isn't analysed; else

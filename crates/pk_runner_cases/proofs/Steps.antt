@@ -6,10 +6,10 @@ use Rattle.pk_graph.specs.Graphs.{GraphOf, EdgeOf, edge_view, point_at, no_point
 use Rattle.pk_graph.specs.WellMade.{IsGraph, IsEdgeOf}
 use Rattle.pk_graph.specs.Steps.{Numbers, After, To, Blocked, Wants, Faulted, effect}
 use Rattle.pk_graph.specs.Stores.{Stored, storing}
-use Rattle.pk_step.specs.declared.answers.GraphStep.{GraphStep}
-use Rattle.pk_step.specs.declared.answers.GraphStep.TheVariants as answers
-use Rattle.pk_step.specs.GraphSteps.{no_edge, edge_at, answer_of, step_over}
-use Rattle.pk_step.specs.Laws.{StepsKeepStores}
+use Rattle.pk_graph_step.specs.declared.answers.GraphStep.{GraphStep}
+use Rattle.pk_graph_step.specs.declared.answers.GraphStep.TheVariants as answers
+use Rattle.pk_graph_step.specs.GraphSteps.{no_edge, edge_at, answer_of, step_over}
+use Rattle.pk_graph_step.specs.Laws.{StepsKeepStores}
 use Rattle.pk_runner_cases.specs.Places.{IsAt}
 
 abbrev pub LeadsOn : GraphOf → GraphStep → Type 0

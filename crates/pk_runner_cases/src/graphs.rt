@@ -12,8 +12,8 @@ ghost use Rattle.pk_runner_cases.specs.Places.{AreNumbers, IsAt};
 use crate::choices::taken;
 use pk_ctypes::{IntType, fits};
 use pk_graph::{Graph, Instr, Start, Variable};
+use pk_graph_step::{GraphStep, Store, graph_step, step_law};
 use pk_runner::{Answer, Visit};
-use pk_step::{GraphStep, Store, graph_step, step_law};
 use std::alloc::{AllocError, Global};
 
 /// Where a run is.

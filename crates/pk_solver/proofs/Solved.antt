@@ -21,8 +21,8 @@ use Rattle.pk_analysis.specs.Flows.{Flow, equations_of}
 use Rattle.pk_analysis.specs.Made.{IsAnalysisOf}
 use Rattle.pk_core.specs.Orders.{IsOrderOf}
 use Rattle.pk_words.specs.Reads.{HasEnd}
-use Rattle.pk_fits.specs.Orders.{LinearOrdersAreOrders}
-use Rattle.pk_turns.specs.Ended.{AnalysesEnd}
+use Rattle.pk_analysis_fits.specs.Orders.{LinearOrdersAreOrders}
+use Rattle.pk_analysis_laws.specs.Turns.Ended.{AnalysesEnd}
 use Rattle.pk_workers.specs.Answers.{IsResultOf, IsExceeded}
 use Rattle.std.specs.Prelude.{length}
 

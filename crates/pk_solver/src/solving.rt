@@ -4,18 +4,18 @@ ghost use Rattle.std.specs.Prelude.{◌≡◌, ◌+◌, ◌<◌, ◌≤◌, ◌^
 ghost use Rattle.pk_graph.specs.Shown.{graph_view};
 ghost use Rattle.pk_order.specs.Ordered.{IsOrdered, heads_of};
 ghost use Rattle.pk_analysis.specs.Digraphs.{digraph_of};
-ghost use Rattle.pk_answer.specs.Reported.{AreStates, IsCause, IsReport, IsSummary};
-ghost use Rattle.pk_answer.specs.Made.{AreOver};
+ghost use Rattle.pk_graph_report.specs.Reported.{AreStates, IsCause, IsReport, IsSummary};
+ghost use Rattle.pk_graph_report.specs.Made.{AreOver};
 
 use pk_analysis::{Analysis, Options, digraph, reduced};
-use pk_answer::{Failure, report_of, solve, summary_of};
-use pk_fits::{analyses_fit, linear_orders_are_orders};
+use pk_analysis_fits::{analyses_fit, linear_orders_are_orders};
+use pk_analysis_laws::analyses_end;
 use pk_graph::Graph;
+use pk_graph_report::{Failure, report_of, solve, summary_of};
 use pk_iterate::{Solve, cells_are_held};
 use pk_order::ordered;
 use pk_plan::{Order, Plan};
 use pk_state::State;
-use pk_turns::analyses_end;
 use pk_workers::{Gate, run_workers};
 use std::alloc::Global;
 use std::sync::Wait;

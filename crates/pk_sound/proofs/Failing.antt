@@ -19,7 +19,7 @@ use Rattle.pk_graph.specs.Steps.{Numbers, number_at, Failure, failure, at_site, 
 use Rattle.pk_graph.specs.Stores.{Stored, storing, numbers_of, IsStore}
 use Rattle.pk_graph.specs.Accesses.{Index, Divisor, Negation, Result as Arithmetic, Shift, Assertion, AccessOf, access, if_signed, of_unary, of_binary, of_tree, of_index, of_instr, fault_of}
 use Rattle.pk_linear.proofs.ListLemmas.{contains_here, contains_there}
-use Rattle.pk_step.proofs.TypedLemmas.{typed_value, unary_right, binary_right}
+use Rattle.pk_graph_step.proofs.TypedLemmas.{typed_value, unary_right, binary_right}
 use Rattle.pk_sound.specs.Verdicts.{FaultsIn}
 use Rattle.pk_sound.specs.Faults.{IsHidden, IsFailing, FaultsAreAccesses}
 use Rattle.pk_sound.proofs.Holding.{values_lie}

@@ -21,7 +21,7 @@ use Rattle.pk_state.specs.Reduced.{reduced}
 use Rattle.pk_state.proofs.Held.{facts_stay}
 use Rattle.pk_state.proofs.Sound.{states_sound}
 use Rattle.pk_state.proofs.Changed.{meets_same}
-use Rattle.pk_step.proofs.KeptLemmas.{steps_keep}
+use Rattle.pk_graph_step.proofs.KeptLemmas.{steps_keep}
 use Rattle.pk_transfer.specs.Trees.{IsOver}
 use Rattle.pk_transfer.specs.Transfers.{transferred}
 use Rattle.pk_transfer.proofs.Keeping.{transferred_keeps}

@@ -37,7 +37,7 @@ use Rattle.pk_state.specs.Members.{Member}
 use Rattle.pk_state.specs.Reduced.{reduced}
 use Rattle.pk_state.specs.Changes.{known_in, IsValue}
 use Rattle.pk_state.proofs.Held.{facts_stay}
-use Rattle.pk_step.proofs.TypedLemmas.{typed_value, binary_right as right_value}
+use Rattle.pk_graph_step.proofs.TypedLemmas.{typed_value, binary_right as right_value}
 use Rattle.pk_transfer.specs.Trees.{tree_known, IsOver}
 use Rattle.pk_transfer.specs.Transfers.{transferred}
 use Rattle.pk_transfer.proofs.Keeping.{transferred_keeps}

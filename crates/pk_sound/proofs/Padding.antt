@@ -20,7 +20,7 @@ use Rattle.pk_graph.specs.Stores.{Stored, storing, numbers_of, IsStore}
 use Rattle.pk_graph.specs.Accesses.{OperationOf, Index, Divisor, Negation, Result as Arithmetic, Shift, Assertion}
 use Rattle.pk_state.specs.Layouts.{Layout}
 use Rattle.pk_state.specs.Facts.{Facts}
-use Rattle.pk_step.proofs.KeptLemmas.{place_in}
+use Rattle.pk_graph_step.proofs.KeptLemmas.{place_in}
 use Rattle.pk_transfer.specs.Trees.{IsOver}
 use Rattle.pk_transfer.specs.Transfers.{applied}
 use Rattle.pk_transfer.proofs.Transferring.{value_ok, place_ok, then_place}

@@ -4,7 +4,7 @@ use Rattle.pk_graph.specs.Kinds.{count_of}
 use Rattle.pk_graph.specs.Graphs.{VariableOf, EdgeOf, GraphOf, point_at}
 use Rattle.pk_graph.specs.Steps.{Numbers, To, effect}
 use Rattle.pk_graph.specs.Stores.{Stored, storing}
-pub use Rattle.pk_step.specs.Beginnings.{BeginsWith, Begins}
+pub use Rattle.pk_graph_step.specs.Beginnings.{BeginsWith, Begins}
 
 -- each array has an element (C99 6.7.5.2)
 abbrev pub HasElements : GraphOf → Type 0

@@ -6,7 +6,7 @@ use Rattle.pk_front.specs.declared.status.Status.{Status}
 use Rattle.pk_front.specs.declared.status.Status.TheVariants.{Ok, Usage, Refused, Limit, RunLimit, ReadFault, WriteFault, Memory}
 use Rattle.pk_ctypes.specs.declared.words.Quantity.TheVariants.{Text}
 use Rattle.pk_command.specs.declared.asked.Command.{Command}
-use Rattle.pk_told.specs.Answers.{IsAnswer, IsLong, text_limit}
+use Rattle.pk_text_report.specs.Answers.{IsAnswer, IsLong, text_limit}
 
 abbrev pub IsSuccess : Status → Type 0
 IsSuccess (Ok unknown) = Unit {0}

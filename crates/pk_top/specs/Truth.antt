@@ -5,8 +5,8 @@ use Rattle.std.specs.Io.KnownBytes.{Appends}
 use Rattle.pk_command.specs.declared.asked.Command.{Command}
 use Rattle.pk_command.specs.declared.asked.Command.TheVariants.{Run, Order, Gen}
 use Rattle.pk_command.specs.Given.{AsksFor, IsInRange}
-use Rattle.pk_told.specs.Answers.{IsTold}
-use Rattle.pk_true.specs.ToldOfPrograms.{IsTrueOfProgram, program_of}
+use Rattle.pk_text_report.specs.Answers.{IsTold}
+use Rattle.pk_report_laws.specs.Programs.ToldOfPrograms.{IsTrueOfProgram, program_of}
 
 -- the words ask for a command, whose numbers lie in their ranges
 abbrev pub AskInRange : List (List ℕ) → Type 0

@@ -12,18 +12,18 @@ use Rattle.pk_ast.specs.Trees.{ExpressionTree, ExpressionTrees, no_expressions, 
 use Rattle.pk_ast.specs.Views.{expression_tree, expression_trees, declarator_tree, declarator_trees}
 use Rattle.pk_typed.specs.declared.units.FileObject.{FileObject}
 use Rattle.pk_typed.specs.Views.{file_object_tree}
-use Rattle.pk_scope.specs.declared.failures.Failure.{Failure}
-use Rattle.pk_scope.specs.declared.declarations.Declaration.{Declaration}
-use Rattle.pk_scope.specs.Declarations.{is_void}
-use Rattle.pk_scope.specs.Failures.{noted, fails_if}
-use Rattle.pk_scope.specs.Scopes.{declared_here, spelled}
-use Rattle.pk_scope.specs.Specifiers.{specifiers}
-use Rattle.pk_declare.specs.declared.words.Words.{Words}
-use Rattle.pk_declare.specs.Constants.{after_constant}
-use Rattle.pk_declare.specs.Declarations.{words_of, after_optional_length, length_at, braces, surplus}
-use Rattle.pk_declare.specs.Specials.{special}
-use Rattle.pk_declare.specs.Walks.{Walked, failing, after_name}
-use Rattle.pk_statement.proofs.CaseLemmas.{failing_twice}
+use Rattle.pk_type_scope.specs.declared.failures.Failure.{Failure}
+use Rattle.pk_type_scope.specs.declared.declarations.Declaration.{Declaration}
+use Rattle.pk_type_scope.specs.Declarations.{is_void}
+use Rattle.pk_type_scope.specs.Failures.{noted, fails_if}
+use Rattle.pk_type_scope.specs.Scopes.{declared_here, spelled}
+use Rattle.pk_type_scope.specs.Specifiers.{specifiers}
+use Rattle.pk_type_declaration.specs.declared.words.Words.{Words}
+use Rattle.pk_type_declaration.specs.Constants.{after_constant}
+use Rattle.pk_type_declaration.specs.Declarations.{words_of, after_optional_length, length_at, braces, surplus}
+use Rattle.pk_type_declaration.specs.Specials.{special}
+use Rattle.pk_type_declaration.specs.Walks.{Walked, failing, after_name}
+use Rattle.pk_type_statement.proofs.CaseLemmas.{failing_twice}
 use Rattle.pk_type.specs.Files.{Filed, is_extern, file_object, after_head, number_at, after_numbers, numbers_at, after_object, after_objects, after_declaration, without_calls, on}
 
 abbrev State : Type 0

@@ -7,17 +7,17 @@ use Rattle.pk_ast.specs.declared.expressions.Identifier.{Identifier}
 use Rattle.pk_ast.specs.Trees.{BlockTree, ParameterTree, FunctionTree}
 use Rattle.pk_ctypes.specs.declared.words.Rule.TheVariants as rule
 use Rattle.pk_typed.specs.Trees.{BodyTree}
-use Rattle.pk_scope.specs.declared.declarations.Callee.{Callee}
-use Rattle.pk_scope.specs.declared.declarations.Declaration.{Declaration}
-use Rattle.pk_scope.specs.declared.declarations.Declaration.TheVariants as declared
-use Rattle.pk_scope.specs.declared.declarations.Typing.{Typing}
-use Rattle.pk_scope.specs.declared.failures.Failure.{Failure}
-use Rattle.pk_scope.specs.Failures.{noted, fails_if}
-use Rattle.pk_scope.specs.Scopes.{Scoping, names_in, spelled}
-use Rattle.pk_scope.specs.Specifiers.{type_named, specifiers}
-use Rattle.pk_declare.specs.Specials.{special}
-use Rattle.pk_declare.specs.Walks.{Walked, entering, failing, after_name}
-use Rattle.pk_statement.proofs.KeepLemmas.{Kept, kept_items}
+use Rattle.pk_type_scope.specs.declared.declarations.Callee.{Callee}
+use Rattle.pk_type_scope.specs.declared.declarations.Declaration.{Declaration}
+use Rattle.pk_type_scope.specs.declared.declarations.Declaration.TheVariants as declared
+use Rattle.pk_type_scope.specs.declared.declarations.Typing.{Typing}
+use Rattle.pk_type_scope.specs.declared.failures.Failure.{Failure}
+use Rattle.pk_type_scope.specs.Failures.{noted, fails_if}
+use Rattle.pk_type_scope.specs.Scopes.{Scoping, names_in, spelled}
+use Rattle.pk_type_scope.specs.Specifiers.{type_named, specifiers}
+use Rattle.pk_type_declaration.specs.Specials.{special}
+use Rattle.pk_type_declaration.specs.Walks.{Walked, entering, failing, after_name}
+use Rattle.pk_type_statement.proofs.KeepLemmas.{Kept, kept_items}
 use Rattle.pk_type.specs.declared.files.Entry.{Entry}
 use Rattle.pk_type.specs.Files.{Filed, on}
 use Rattle.pk_type.specs.Functions.{after_parameter_name, after_parameter, after_parameters, before_body, after_optional_body, number_of, is_redeclared, is_misused, callee_of, and_entry, with_body, update_at, after_head, leaving_function, after_function}

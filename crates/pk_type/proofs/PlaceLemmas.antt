@@ -4,9 +4,9 @@ use Rattle.std.proofs.lemmas.List.{drop_all}
 use Rattle.std.proofs.Common.{◌≡◌, ℕ, ◌+◌, ◌<◌, ◌≤◌, true, List, ◌∷◌, Option, drop, get_or, length, add-one, ap, sym, ◌∙◌}
 use Rattle.pk_ctypes.specs.declared.places.Pos.{Pos}
 use Rattle.pk_ctypes.specs.declared.words.Rule.{Rule}
-use Rattle.pk_scope.specs.declared.failures.Failure.{Failure}
-use Rattle.pk_scope.specs.Failures.{noted, fails_if}
-use Rattle.pk_declare.specs.Walks.{Walked, failing}
+use Rattle.pk_type_scope.specs.declared.failures.Failure.{Failure}
+use Rattle.pk_type_scope.specs.Failures.{noted, fails_if}
+use Rattle.pk_type_declaration.specs.Walks.{Walked, failing}
 use Rattle.pk_type.specs.Functions.{each_at}
 
 abbrev State : Type 0

@@ -5,11 +5,11 @@ use Rattle.std.proofs.Common.{◌≡◌, ℕ, suc, ◌+◌, ◌<◌, ◌≤◌, 
 use Rattle.pk_ast.specs.declared.units.Parameter.{Parameter}
 use Rattle.pk_ast.specs.Trees.{ParameterTree}
 use Rattle.pk_ast.specs.Views.{specifiers_tree, parameter_tree, parameter_trees}
-use Rattle.pk_scope.specs.declared.declarations.Typing.{Typing}
-use Rattle.pk_scope.specs.declared.failures.Failure.{Failure}
-use Rattle.pk_scope.specs.Failures.{noted}
-use Rattle.pk_scope.specs.Specifiers.{type_named}
-use Rattle.pk_declare.specs.Walks.{Walked}
+use Rattle.pk_type_scope.specs.declared.declarations.Typing.{Typing}
+use Rattle.pk_type_scope.specs.declared.failures.Failure.{Failure}
+use Rattle.pk_type_scope.specs.Failures.{noted}
+use Rattle.pk_type_scope.specs.Specifiers.{type_named}
+use Rattle.pk_type_declaration.specs.Walks.{Walked}
 use Rattle.pk_type.specs.Functions.{after_parameter, after_parameters}
 use Rattle.pk_type.specs.Signatures.{types_of}
 

@@ -5,8 +5,8 @@ use Rattle.std.proofs.Common.{◌≡◌, ℕ, suc, ◌+◌, ◌<◌, ◌≤◌, 
 use Rattle.pk_ast.specs.declared.units.External.{External}
 use Rattle.pk_ast.specs.Trees.{ExternalTree}
 use Rattle.pk_ast.specs.Views.{external_tree, external_trees}
-use Rattle.pk_scope.specs.declared.failures.Failure.{Failure}
-use Rattle.pk_scope.specs.Failures.{noted}
+use Rattle.pk_type_scope.specs.declared.failures.Failure.{Failure}
+use Rattle.pk_type_scope.specs.Failures.{noted}
 use Rattle.pk_type.specs.Files.{Filed}
 use Rattle.pk_type.specs.Units.{and_defined, defined_in, after_external, after_externals}
 

@@ -9,15 +9,15 @@ use Rattle.pk_ast.specs.declared.units.StorageWord.TheVariants.{Static, Extern}
 use Rattle.pk_ast.specs.Trees.{ExpressionTree, ExpressionTrees, no_expressions, expression_then, InitializerTree, single, braced, DeclaratorTree, DeclarationTree}
 use Rattle.pk_typed.specs.declared.values.Variable.TheVariants.{File}
 use Rattle.pk_typed.specs.Trees.{BodyTree, FileObjectTree, StartTree, scalar_start, array_start}
-use Rattle.pk_scope.specs.declared.declarations.Declaration.{Declaration}
-use Rattle.pk_scope.specs.declared.declarations.Declaration.TheVariants as declared
-use Rattle.pk_scope.specs.declared.failures.Failure.{Failure}
-use Rattle.pk_scope.specs.Failures.{fails_if}
-use Rattle.pk_scope.specs.Specifiers.{specifiers}
-use Rattle.pk_declare.specs.declared.words.Words.{Words}
-use Rattle.pk_declare.specs.Constants.{evaluated, number_in, after_constant}
-use Rattle.pk_declare.specs.Declarations.{words_of, integer_in, type_or_int, text_of, redeclared, void_object, special_object, braces, surplus, length_at, after_optional_length, length_or_1}
-use Rattle.pk_declare.specs.Walks.{Walked, Adding, failing, after_name}
+use Rattle.pk_type_scope.specs.declared.declarations.Declaration.{Declaration}
+use Rattle.pk_type_scope.specs.declared.declarations.Declaration.TheVariants as declared
+use Rattle.pk_type_scope.specs.declared.failures.Failure.{Failure}
+use Rattle.pk_type_scope.specs.Failures.{fails_if}
+use Rattle.pk_type_scope.specs.Specifiers.{specifiers}
+use Rattle.pk_type_declaration.specs.declared.words.Words.{Words}
+use Rattle.pk_type_declaration.specs.Constants.{evaluated, number_in, after_constant}
+use Rattle.pk_type_declaration.specs.Declarations.{words_of, integer_in, type_or_int, text_of, redeclared, void_object, special_object, braces, surplus, length_at, after_optional_length, length_or_1}
+use Rattle.pk_type_declaration.specs.Walks.{Walked, Adding, failing, after_name}
 use Rattle.pk_type.specs.Signatures.{SignatureTree}
 
 -- a function that was declared: whether it was defined, and its body, where that has a tree

@@ -6,23 +6,23 @@ use Rattle.pk_ctypes.specs.declared.words.Rule.TheVariants as rule
 use Rattle.pk_ast.specs.declared.expressions.Identifier.{Identifier}
 use Rattle.pk_ast.specs.Trees.{BlockTree, ParameterTree, FunctionTree}
 use Rattle.pk_typed.specs.Trees.{BodyTree, ItemTrees}
-use Rattle.pk_scope.specs.declared.declarations.Callee.{Callee}
-use Rattle.pk_scope.specs.declared.declarations.Callee.TheVariants.{Ordinary}
-use Rattle.pk_scope.specs.declared.declarations.Declaration.{Declaration}
-use Rattle.pk_scope.specs.declared.declarations.Declaration.TheVariants as declared
-use Rattle.pk_scope.specs.declared.declarations.Typing.{Typing}
-use Rattle.pk_scope.specs.declared.failures.Failure.{Failure}
-use Rattle.pk_scope.specs.Declarations.{is_void}
-use Rattle.pk_scope.specs.Failures.{fails_if}
-use Rattle.pk_scope.specs.Scopes.{names_in, spelled}
-use Rattle.pk_scope.specs.Specifiers.{type_named, specifiers}
-use Rattle.pk_declare.specs.Declarations.{words_of, type_or_int, text_of, after_object}
-use Rattle.pk_declare.specs.Specials.{special}
-use Rattle.pk_declare.specs.Walks.{Walked, Adding, failing, after_name, with_local, entering}
-use Rattle.pk_jump.specs.Jumps.{Jumped, jumps_of}
-use Rattle.pk_jump.specs.Labels.{Listed, labels_of}
-use Rattle.pk_statement.specs.Statements.{Passed, after_items}
-use Rattle.pk_statement.specs.Trees.{typed_items}
+use Rattle.pk_type_scope.specs.declared.declarations.Callee.{Callee}
+use Rattle.pk_type_scope.specs.declared.declarations.Callee.TheVariants.{Ordinary}
+use Rattle.pk_type_scope.specs.declared.declarations.Declaration.{Declaration}
+use Rattle.pk_type_scope.specs.declared.declarations.Declaration.TheVariants as declared
+use Rattle.pk_type_scope.specs.declared.declarations.Typing.{Typing}
+use Rattle.pk_type_scope.specs.declared.failures.Failure.{Failure}
+use Rattle.pk_type_scope.specs.Declarations.{is_void}
+use Rattle.pk_type_scope.specs.Failures.{fails_if}
+use Rattle.pk_type_scope.specs.Scopes.{names_in, spelled}
+use Rattle.pk_type_scope.specs.Specifiers.{type_named, specifiers}
+use Rattle.pk_type_declaration.specs.Declarations.{words_of, type_or_int, text_of, after_object}
+use Rattle.pk_type_declaration.specs.Specials.{special}
+use Rattle.pk_type_declaration.specs.Walks.{Walked, Adding, failing, after_name, with_local, entering}
+use Rattle.pk_type_jump.specs.Jumps.{Jumped, jumps_of}
+use Rattle.pk_type_jump.specs.Labels.{Listed, labels_of}
+use Rattle.pk_type_statement.specs.Statements.{Passed, after_items}
+use Rattle.pk_type_statement.specs.Trees.{typed_items}
 use Rattle.pk_type.specs.Files.{EntryTree, Filed, on}
 use Rattle.pk_type.specs.Signatures.{SignatureTree, differs, is_wrong, signature_of}
 

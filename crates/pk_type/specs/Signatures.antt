@@ -4,11 +4,11 @@ use Rattle.std.specs.List.{list_all, list_any, zip}
 use Rattle.pk_ctypes.specs.declared.types.IntType.{IntType}
 use Rattle.pk_ctypes.specs.declared.types.IntType.TheVariants.{Char, SChar, UChar, Short, UShort, Int, UInt, Long, ULong, LLong, ULLong}
 use Rattle.pk_ast.specs.Trees.{ParameterTree, FunctionTree}
-use Rattle.pk_scope.specs.declared.declarations.Callee.{Callee}
-use Rattle.pk_scope.specs.declared.declarations.Callee.TheVariants.{Ordinary, Any, Assume, Assert, Abort}
-use Rattle.pk_scope.specs.declared.declarations.Typing.{Typing}
-use Rattle.pk_scope.specs.declared.declarations.Typing.TheVariants.{Void, Integer, Unknown}
-use Rattle.pk_scope.specs.Specifiers.{type_named}
+use Rattle.pk_type_scope.specs.declared.declarations.Callee.{Callee}
+use Rattle.pk_type_scope.specs.declared.declarations.Callee.TheVariants.{Ordinary, Any, Assume, Assert, Abort}
+use Rattle.pk_type_scope.specs.declared.declarations.Typing.{Typing}
+use Rattle.pk_type_scope.specs.declared.declarations.Typing.TheVariants.{Void, Integer, Unknown}
+use Rattle.pk_type_scope.specs.Specifiers.{type_named}
 
 pub record SignatureTree : Type 0 where
   pub returns : Typing

@@ -4,9 +4,9 @@ use Rattle.std.specs.Str.{bytes_eq}
 use Rattle.pk_ast.specs.Trees.{ExternalTree, function, objects}
 use Rattle.pk_typed.specs.Trees as typed
 use Rattle.pk_typed.specs.Trees.{UnitTree}
-use Rattle.pk_scope.specs.Scopes.{spelled, file_scope}
-use Rattle.pk_declare.specs.Declarations.{integer_in, type_or_int}
-use Rattle.pk_declare.specs.Walks.{Adding}
+use Rattle.pk_type_scope.specs.Scopes.{spelled, file_scope}
+use Rattle.pk_type_declaration.specs.Declarations.{integer_in, type_or_int}
+use Rattle.pk_type_declaration.specs.Walks.{Adding}
 use Rattle.pk_type.specs.Files.{EntryTree, Filed, after_declaration}
 use Rattle.pk_type.specs.Functions.{after_function}
 

@@ -3,8 +3,8 @@ use Rattle.std.specs.Prelude.{ℕ, Bool, List, Option, option_map, map}
 use Rattle.std.specs.HashSet.{contains_by}
 use Rattle.std.specs.Str.{bytes_eq}
 use Rattle.pk_typed.specs.Views.{body_tree, file_object_tree}
-use Rattle.pk_scope.specs.declared.failures.Failure.{Failure}
-use Rattle.pk_declare.specs.Views.{walked_in}
+use Rattle.pk_type_scope.specs.declared.failures.Failure.{Failure}
+use Rattle.pk_type_declaration.specs.Views.{walked_in}
 use Rattle.pk_type.specs.declared.defined.Defined as declared_defined
 use Rattle.pk_type.specs.declared.files.Entry.{Entry}
 use Rattle.pk_type.specs.declared.files.File as declared_file

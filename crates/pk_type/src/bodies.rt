@@ -3,21 +3,21 @@
 ghost use Rattle.std.specs.Prelude.{◌≡◌, option_map, OnOk, IfOk};
 ghost use Rattle.pk_ast.specs.Views.{block_tree};
 ghost use Rattle.pk_typed.specs.Views.{item_trees, body_tree};
-ghost use Rattle.pk_scope.specs.Failures.{noted};
-ghost use Rattle.pk_declare.specs.Views.{walked_in};
-ghost use Rattle.pk_declare.specs.Walks as walks;
-ghost use Rattle.pk_jump.specs.Labels.{labels_of};
-ghost use Rattle.pk_jump.specs.Views.{listed_in, jumped_in};
-ghost use Rattle.pk_statement.specs.Trees.{typed_items};
-ghost use Rattle.pk_statement.specs.Views.{passed_in};
+ghost use Rattle.pk_type_scope.specs.Failures.{noted};
+ghost use Rattle.pk_type_declaration.specs.Views.{walked_in};
+ghost use Rattle.pk_type_declaration.specs.Walks as walks;
+ghost use Rattle.pk_type_jump.specs.Labels.{labels_of};
+ghost use Rattle.pk_type_jump.specs.Views.{listed_in, jumped_in};
+ghost use Rattle.pk_type_statement.specs.Trees.{typed_items};
+ghost use Rattle.pk_type_statement.specs.Views.{passed_in};
 ghost use Rattle.pk_type.specs.Functions as definitions;
 
 use pk_ast::Block;
 use pk_ctypes::{Pos, Rule};
-use pk_declare::Walk;
-use pk_jump::{Jumps, Labels};
-use pk_scope::Typing;
-use pk_statement::{Around, Statements, body_items};
+use pk_type_declaration::Walk;
+use pk_type_jump::{Jumps, Labels};
+use pk_type_scope::Typing;
+use pk_type_statement::{Around, Statements, body_items};
 use pk_typed::{Body, Item};
 use std::alloc::{AllocError, Global};
 use std::mem;
@@ -31,7 +31,7 @@ fn note_all(walk: &mut Walk<'_>, rule: Rule, places: &[Pos])
 }
 
 // Notes the labels and jumps of a body that are out of place.
-#[tactic(auto, using(pk_statement::proofs::CaseLemmas::failing_twice))]
+#[tactic(auto, using(pk_type_statement::proofs::CaseLemmas::failing_twice))]
 fn note_jumps(walk: &mut Walk<'_>, labels: &Labels<'_>, jumps: &Jumps)
     ensures { walked_in walk.new
         ≡ walks.failing noted (definitions.about_jumps (listed_in labels.now) (jumped_in jumps.now)) (walked_in walk.old) }

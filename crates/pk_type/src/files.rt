@@ -4,12 +4,12 @@ ghost use Rattle.std.specs.Prelude.{◌≡◌, ◌++◌, ◌∷◌, [], None, is
 ghost use Rattle.pk_ast.specs.Views.{expression_tree, expression_trees, initializer_tree, specifiers_tree, declarator_tree, declarator_trees, declaration_tree};
 ghost use Rattle.pk_typed.specs.Views.{start_tree, file_object_tree};
 ghost use Rattle.pk_ctypes.specs.declared.words.Rule.TheVariants as rule;
-ghost use Rattle.pk_scope.specs.Failures.{fails_if, noted};
-ghost use Rattle.pk_scope.specs.Specifiers.{specifiers};
-ghost use Rattle.pk_declare.specs.Constants.{after_constant};
-ghost use Rattle.pk_declare.specs.Declarations.{length_or_1, length_at};
-ghost use Rattle.pk_declare.specs.Views.{walked_in};
-ghost use Rattle.pk_declare.specs.Walks as walks;
+ghost use Rattle.pk_type_scope.specs.Failures.{fails_if, noted};
+ghost use Rattle.pk_type_scope.specs.Specifiers.{specifiers};
+ghost use Rattle.pk_type_declaration.specs.Constants.{after_constant};
+ghost use Rattle.pk_type_declaration.specs.Declarations.{length_or_1, length_at};
+ghost use Rattle.pk_type_declaration.specs.Views.{walked_in};
+ghost use Rattle.pk_type_declaration.specs.Walks as walks;
 ghost use Rattle.pk_type.specs.Files as definitions;
 ghost use Rattle.pk_type.specs.Units.{nothing_filed};
 ghost use Rattle.pk_type.specs.Views.{filed_in};
@@ -20,11 +20,11 @@ use pk_ast::{
     StorageWord,
 };
 use pk_ctypes::{IntType, Name, Pos, Rule, convert};
-use pk_declare::{
+use pk_type_declaration::{
     Walk, Words, integer_in, length_or_1, note_braces, note_surplus, special, type_or_int,
 };
-use pk_scope::{Declaration, Notes, Object, Scope, note_specifiers, spelling};
-use pk_statement::Statements;
+use pk_type_scope::{Declaration, Notes, Object, Scope, note_specifiers, spelling};
+use pk_type_statement::Statements;
 use pk_typed::{Body, FileObject, Start, Variable};
 use std::alloc::{AllocError, Global};
 
@@ -149,7 +149,7 @@ fn given(
 }
 
 // Notes what fails at the name of an object.
-#[tactic(auto, using(pk_statement::proofs::CaseLemmas::failing_twice))]
+#[tactic(auto, using(pk_type_statement::proofs::CaseLemmas::failing_twice))]
 fn note_rows(
     walk: &mut Walk<'_>,
     is_again: bool,

@@ -4,13 +4,13 @@ ghost use Rattle.std.specs.Prelude.{◌≡◌, ◌<◌, ◌++◌, ◌∷◌, ◌
 ghost use Rattle.std.specs.Str.Lossy.{utf8_lossy};
 ghost use Rattle.pk_ast.specs.Views.{block_tree, specifiers_tree, parameter_tree, parameter_trees, function_tree};
 ghost use Rattle.pk_typed.specs.Views.{body_tree};
-ghost use Rattle.pk_scope.specs.declared.failures.Failure.{Failure};
+ghost use Rattle.pk_type_scope.specs.declared.failures.Failure.{Failure};
 ghost use Rattle.pk_ctypes.specs.declared.words.Rule.TheVariants as rule;
-ghost use Rattle.pk_scope.specs.Failures.{fails_if, noted};
-ghost use Rattle.pk_scope.specs.Scopes.{names_in};
-ghost use Rattle.pk_scope.specs.Specifiers.{specifiers};
-ghost use Rattle.pk_declare.specs.Views.{walked_in};
-ghost use Rattle.pk_declare.specs.Walks as walks;
+ghost use Rattle.pk_type_scope.specs.Failures.{fails_if, noted};
+ghost use Rattle.pk_type_scope.specs.Scopes.{names_in};
+ghost use Rattle.pk_type_scope.specs.Specifiers.{specifiers};
+ghost use Rattle.pk_type_declaration.specs.Views.{walked_in};
+ghost use Rattle.pk_type_declaration.specs.Walks as walks;
 ghost use Rattle.pk_type.specs.Files as files;
 ghost use Rattle.pk_type.specs.Files.{Filed};
 ghost use Rattle.pk_type.specs.Functions as definitions;
@@ -22,8 +22,8 @@ use crate::files::{Entry, File};
 use crate::signatures::Signature;
 use pk_ast::{Block, Function, Identifier, Parameter, Specifiers};
 use pk_ctypes::{Name, Pos, Rule};
-use pk_declare::{Walk, Words, special, type_or_int};
-use pk_scope::{
+use pk_type_declaration::{Walk, Words, special, type_or_int};
+use pk_type_scope::{
     Callee, Declaration, Function as Declared, Typing, note_specifiers, spelling, type_named,
 };
 use pk_typed::{Body, Local};
@@ -181,7 +181,7 @@ impl<'a> File<'a> {
     }
 
     // Notes what fails at the words and at the name of a function.
-    #[tactic(auto, using(pk_statement::proofs::CaseLemmas::failing_twice))]
+    #[tactic(auto, using(pk_type_statement::proofs::CaseLemmas::failing_twice))]
     fn note_rows(&mut self, words: &Specifiers, is_redeclared: bool, is_misused: bool, at: Pos)
         ensures { filed_in self.new ≡ files.on (walks.failing noted (specifiers (specifiers_tree words.now)
             ++ fails_if is_redeclared rule.Redeclared at ++ fails_if is_misused rule.Special at)) (filed_in self.old) }

@@ -8,7 +8,7 @@ ghost use Rattle.pk_type.specs.Views.{signature_tree};
 
 use pk_ast::Parameter;
 use pk_ctypes::IntType;
-use pk_scope::{Callee, Typing, type_named};
+use pk_type_scope::{Callee, Typing, type_named};
 use std::alloc::{AllocError, Global};
 
 /// What a function returns, and the types of its parameters.

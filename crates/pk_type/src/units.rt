@@ -4,9 +4,9 @@ ghost use Rattle.std.specs.Prelude.{◌≡◌, ◌⊎◌, ℕ, List, None, Some,
 ghost use Rattle.pk_ast.specs.Views as ast;
 ghost use Rattle.pk_ast.specs.Views.{external_tree, external_trees};
 ghost use Rattle.pk_typed.specs.Views.{function_tree, unit_tree};
-ghost use Rattle.pk_scope.specs.declared.failures.Failure.{Failure};
-ghost use Rattle.pk_scope.specs.Failures.{noted};
-ghost use Rattle.pk_declare.specs.Declarations as declarations;
+ghost use Rattle.pk_type_scope.specs.declared.failures.Failure.{Failure};
+ghost use Rattle.pk_type_scope.specs.Failures.{noted};
+ghost use Rattle.pk_type_declaration.specs.Declarations as declarations;
 ghost use Rattle.pk_type.specs.Units as definitions;
 ghost use Rattle.pk_type.specs.Views.{defined_names, entry_tree, filed_in};
 
@@ -14,8 +14,8 @@ use crate::defined::Defined;
 use crate::files::{Entry, File};
 use pk_ast::{External, Unit};
 use pk_ctypes::{IntType, Pos, Rule};
-use pk_declare::{integer_in, type_or_int};
-use pk_scope::{Typing, spelling};
+use pk_type_declaration::{integer_in, type_or_int};
+use pk_type_scope::{Typing, spelling};
 use pk_typed as typed;
 use std::alloc::{AllocError, Global};
 

@@ -25,14 +25,14 @@ use Rattle.pk_meaning.specs.Work as work
 use Rattle.pk_meaning.specs.Work.{Place, Work}
 use Rattle.pk_meaning.specs.Steps as meaning
 use Rattle.pk_visits.proofs.Slots.{Slot, Draft, Among, Grows, region_at}
-use Rattle.pk_visits.proofs.Grows.{grows_trans, bound_grows, entered_grows, held_grows, loosened}
-use Rattle.pk_visits.proofs.Tells.{Any, sane, shapes}
+use Rattle.pk_visits.proofs.Grows.Rows.{grows_trans, bound_grows, entered_grows, held_grows, loosened}
+use Rattle.pk_visits.proofs.Steps.Tells.{Any, sane, shapes}
 use Rattle.pk_visits.proofs.Stands.{Whole, Proper, context_of, Held, held, around, AreCalm, AreQuiet, IsScalar, Binds, Stage, Laid, IsCalled}
 use Rattle.pk_visits.proofs.Stages.{ways_grow, passed_grows, stage_first, stage_second, stage_last, first_called, second_called}
 use Rattle.pk_visits.proofs.Operands.{UnlessLoose, all_own, calm_more, keep_laid, first_calm, unless_more}
-use Rattle.pk_visits.proofs.Trees.{stage_names, or_first, or_second}
-use Rattle.pk_visits.proofs.Passing.{pushed_is, binds_laid}
-use Rattle.pk_visits.proofs.OwnReads.{passed_apart, passed_many}
+use Rattle.pk_visits.proofs.Steps.Trees.{stage_names, or_first, or_second}
+use Rattle.pk_visits.proofs.Steps.Passing.{pushed_is, binds_laid}
+use Rattle.pk_visits.proofs.Steps.OwnReads.{passed_apart, passed_many}
 use Rattle.pk_visits.proofs.Doom.{calm_plain}
 
 -- ---- functions by their numbers

@@ -7,7 +7,7 @@ use Rattle.pk_welltyped.specs.WellTyped
 use Rattle.pk_welltyped.specs.WellTyped.{Marks}
 use Rattle.pk_visits.proofs.Slots.{Draft}
 use Rattle.pk_visits.proofs.Stands.{Marking}
-use Rattle.pk_visits.proofs.StatementGrows.{upto, upto_has, front_list, back_list}
+use Rattle.pk_visits.proofs.Grows.Statements.{upto, upto_has, front_list, back_list}
 
 -- the cases, and the default where there is one
 pub marking_cases : (x : Exits) (m : Marks) (ms : List ℕ) (e n : ℕ) (b : Bool) → Marking x m ms → Marking (in_switch e n x) (WellTyped.in_switch n b m) (upto (n + (if b then 1 else 0)) (e + 1) ++ ms)

@@ -23,10 +23,10 @@ use Rattle.pk_meaning.specs.Work as work
 use Rattle.pk_meaning.specs.Work.{Place, Work}
 use Rattle.pk_visits.proofs.Slots.{Slot, own, temporary, Draft, SlotTree, Memory, memory, memory_numbers, with_memory}
 use Rattle.pk_visits.proofs.Stands.{Whole, context_of, Held, held, AreApart, IsCalm, AreCalm, IsPlain, ArePlain, ArePlainUnder, picked, pushed, Binds, Passes, site_at, cells, Laid}
-use Rattle.pk_visits.proofs.Values.{conversion_ok, conversion_fault, unary_fault, operated_left, operated_right}
+use Rattle.pk_visits.proofs.Steps.Values.{conversion_ok, conversion_fault, unary_fault, operated_left, operated_right}
 use Rattle.pk_visits.proofs.Stores.{apart_value}
-use Rattle.pk_visits.proofs.Silent.{silent, silent_effect, left_false, right_false}
-use Rattle.pk_visits.proofs.Growing.{lowered}
+use Rattle.pk_visits.proofs.Steps.Silent.{silent, silent_effect, left_false, right_false}
+use Rattle.pk_visits.proofs.Grows.Expressions.{lowered}
 use Rattle.pk_visits.proofs.Follow.{Doomed, now, later}
 
 -- each tree gives a number

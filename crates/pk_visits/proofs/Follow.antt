@@ -21,7 +21,7 @@ use Rattle.pk_meaning.specs.Steps.{Config, Next, To, Faulted, Assumed, Returned,
 use Rattle.pk_visits.proofs.Slots.{Slot, own, temporary, Instr, edge, Memory, memory, with_memory, SlotTree, Among, region_at}
 use Rattle.pk_visits.proofs.Stands.{Whole, ShowsAt, Held, held, in_temporary, Means, HasKind, FitsObjects, Laid, StandsAt}
 use Rattle.pk_visits.proofs.Stores.{Fitting, fits_written, means_apart, temporary_value, own_value}
-use Rattle.pk_visits.proofs.Values.{conversion_value}
+use Rattle.pk_visits.proofs.Steps.Values.{conversion_value}
 
 -- the slot that an instruction writes
 abbrev pub written : Instr → Option Slot

@@ -9,7 +9,7 @@ use Rattle.pk_meaning.specs.Runs.{Visit, visit_of, visits_if, Runs}
 use Rattle.pk_visits.proofs.Slots.{Memory}
 use Rattle.pk_visits.proofs.Stands.{Whole, Proper, BodiesStand, StandsAt}
 use Rattle.pk_visits.proofs.Follow.{Answers, Follows, Moves, Doomed}
-use Rattle.pk_visits.proofs.Followed.{followed}
+use Rattle.pk_visits.proofs.Steps.Followed.{followed}
 
 -- The graph goes from a point with a memory to where a configuration stands: over edges that move as the program does, with its visits in order.
 pub data Journeys (g : Whole) (end : Config) : ℕ → Memory → List Visit → Type 0 where

@@ -20,9 +20,9 @@ use Rattle.pk_lower_statement.specs.declared.statements.Exits.{Exits}
 use Rattle.pk_meaning.specs.Objects.{Object}
 use Rattle.pk_meaning.specs.Work.{Place, Work, Keep, Evaluate}
 use Rattle.pk_visits.proofs.Slots.{Slot, own, temporary, slots, Draft, SlotTree, Grows, Uncalled}
-use Rattle.pk_visits.proofs.Grows.{grows_trans, temporary_grows, held_grows, loosened}
-use Rattle.pk_visits.proofs.Growing.{lowered}
-use Rattle.pk_visits.proofs.Tells.{Tells, shapes}
+use Rattle.pk_visits.proofs.Grows.Rows.{grows_trans, temporary_grows, held_grows, loosened}
+use Rattle.pk_visits.proofs.Grows.Expressions.{lowered}
+use Rattle.pk_visits.proofs.Steps.Tells.{Tells, shapes}
 use Rattle.pk_visits.proofs.Stands.{Whole, context_of, Held, held, around, IsApart, AreApart, IsCalm, AreCalm, AreQuiet, ArePlain, Stage, Laid, IsCalled}
 use Rattle.pk_visits.proofs.Stages.{ways_grow, stage_first, stage_second, stage_until, stage_edge, first_called}
 use Rattle.pk_visits.proofs.Doom.{calm_plain}

@@ -13,8 +13,8 @@ use Rattle.pk_lower_row.specs.Contexts.{Context, callee, size_in}
 use Rattle.pk_lower_expression.specs.Expressions.{ways, performed, passed}
 use Rattle.pk_meaning.specs.Work.{Place}
 use Rattle.pk_visits.proofs.Slots.{Slot, Edge, Scoping, Takes, KeepsBy, region_at, Draft, Instr, edge, Among, Keeps, Grows, label_at, front_among, last_among, Uncalled}
-use Rattle.pk_visits.proofs.Grows.{WaysGrow, Makes, PassGrows}
-use Rattle.pk_visits.proofs.Growing.{AllCalled, values, effects, arguments}
+use Rattle.pk_visits.proofs.Grows.Rows.{WaysGrow, Makes, PassGrows}
+use Rattle.pk_visits.proofs.Grows.Expressions.{AllCalled, values, effects, arguments}
 use Rattle.pk_visits.proofs.Stands.{IsReserved, Whole, context_of, ShowsAt, Leads, led_to, Distinct, Stage, IsCalled}
 
 -- ---- lists

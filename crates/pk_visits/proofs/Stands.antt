@@ -26,14 +26,14 @@ use Rattle.pk_lower_row.specs.Rows.{one_tree}
 use Rattle.pk_lower_expression.specs.Expressions.{ways, performed, passed}
 use Rattle.pk_lower_statement.specs.declared.statements.Exits.{Exits}
 use Rattle.pk_lower_statement.specs.Statements.{inside, in_switch, while_from, do_from, for_from, for_test, performed_if, lowered, lowered_items, all_declared, items, case_tests}
-use Rattle.pk_marks.specs.Marks.{IsSwitch}
+use Rattle.pk_welltyped.specs.Marks.{IsSwitch}
 use Rattle.pk_meaning.specs.Objects.{Object, Scope, file, local, result, Array, Objects, numbers_of, is_in_scope}
 use Rattle.pk_meaning.specs.Programs as program
 use Rattle.pk_meaning.specs.Programs.{Program, function_number, function_of, block_of, local_of, with_local, body_scope, is_main}
 use Rattle.pk_meaning.specs.Work as work
 use Rattle.pk_meaning.specs.Work.{Place, Loop, While, DoWhile, For, Way, Onward, Refused, Lost, Caller, Nobody, Path, Ahead, Rest, Join, Again, Close, End, Work, Go, Do, Declare, Perform, Evaluate, Test, Keep, Branch, Apply, Operate, Convert, Settle, Truth, Drop, Assign, Put, Update, Advance, Fetch, Reload, StoreKept, Renew, Renewed, Replace, Fill, Item, Claim, Pass, Bind, Enter, Leave, Return, Turn, Back, Choose}
 use Rattle.pk_meaning.specs.Steps.{Config, place, body_place}
-use Rattle.pk_visits.proofs.Settled.{Final, AreAllSettled, Settles, SettleAll, LoopSettles}
+use Rattle.pk_visits.proofs.Settled.Trees.{Final, AreAllSettled, Settles, SettleAll, LoopSettles}
 use Rattle.pk_visits.proofs.Slots.{Slot, own, temporary, slots, Draft, SlotTree, Instr, Edge, edge, Memory, memory, Among, label_at, region_at, Scoping, Extends}
 
 -- A graph over slots, its points' labels and its paths' regions; the sizes of functions, and of each path the one by its function's first call; when a label is a path's place.

@@ -22,21 +22,21 @@ use Rattle.pk_lower_row.specs.Rows.{operand}
 use Rattle.pk_lower_expression.specs.Expressions.{ways}
 use Rattle.pk_lower_statement.specs.declared.statements.Exits.{Exits}
 use Rattle.pk_lower_statement.specs.Statements.{in_switch, case_tests, tested, switch_begun, lowered}
-use Rattle.pk_marks.specs.Marks.{IsSwitch}
+use Rattle.pk_welltyped.specs.Marks.{IsSwitch}
 use Rattle.pk_meaning.specs.Work as work
 use Rattle.pk_meaning.specs.Work.{Place, Ahead}
 use Rattle.pk_meaning.specs.Steps.{place}
 use Rattle.pk_visits.proofs.Slots.{Slot, Draft, Among, Grows, edge, last_among, label_at, Uncalled}
 use Rattle.pk_visits.proofs.Stands.{Whole, Proper, context_of, final, Held, held, in_temporary, around, IsCalm, AreCalm, ShowsAt, Stage, Marking, switch_from, LaidAhead, Laid, IsCalled, IsReserved}
-use Rattle.pk_visits.proofs.Settled.{Settles}
-use Rattle.pk_visits.proofs.Grows.{grows_refl, grows_trans, held_grows}
+use Rattle.pk_visits.proofs.Settled.Trees.{Settles}
+use Rattle.pk_visits.proofs.Grows.Rows.{grows_refl, grows_trans, held_grows}
 use Rattle.pk_visits.proofs.Stages.{all_called, ways_grow, among_either, part_first, part_second, part_until, stage_at, stage_until, made_unmarked, later_of, ForthBy, Forth, forth_here, forth_none, forth_first, forth_then}
-use Rattle.pk_visits.proofs.Tells.{any_called, shapes, converted_tells, Any}
-use Rattle.pk_visits.proofs.StatementGrows.{Stays, Adds, stays_then, placing, fresh_grows, fresh_adds, case_adds, away_adds, link_adds, inner_adds, upto, upto_from, upto_before, back_list, statement, Free}
+use Rattle.pk_visits.proofs.Steps.Tells.{any_called, shapes, converted_tells, Any}
+use Rattle.pk_visits.proofs.Grows.Statements.{Stays, Adds, stays_then, placing, fresh_grows, fresh_adds, case_adds, away_adds, link_adds, inner_adds, upto, upto_from, upto_before, back_list, statement, Free}
 use Rattle.pk_visits.proofs.Operands.{calm_more, held_calm, unless_more, keep_laid}
-use Rattle.pk_visits.proofs.Statements.{shows_on}
+use Rattle.pk_visits.proofs.Steps.Statements.{shows_on}
 use Rattle.pk_visits.proofs.Cases.{marking_cases, fresh_point}
-use Rattle.pk_visits.proofs.Choices.{stage_to}
+use Rattle.pk_visits.proofs.Steps.Choices.{stage_to}
 
 -- ---- marks of a switch
 

@@ -5,7 +5,7 @@ use Rattle.pk_graph.specs.Graphs.{EdgeOf, GraphOf, variable_at, point_at}
 use Rattle.pk_graph.specs.Steps.{Numbers, To, effect}
 use Rattle.pk_graph.specs.Stores.{Stored, storing, numbers_of}
 use Rattle.pk_number.specs.Preorders.{is_among}
-pub use Rattle.pk_step.specs.Beginnings.{BeginsWith, Begins}
+pub use Rattle.pk_graph_step.specs.Beginnings.{BeginsWith, Begins}
 use Rattle.pk_meaning.specs.Runs.{Known, Visit}
 
 -- the variable that an instruction writes

@@ -17,7 +17,7 @@ use Rattle.pk_meaning.specs.Programs.{Program}
 use Rattle.pk_meaning.specs.Steps.{Config, Faulted, step}
 use Rattle.pk_meaning.specs.Runs.{Visit, visit_of, start, Runs}
 use Rattle.pk_visits.specs.GraphVisits.{Begins, visit_at, GraphRuns}
-use Rattle.pk_marks.specs.Marks.{AreMarked}
+use Rattle.pk_welltyped.specs.Marks.{AreMarked}
 
 -- the run goes on or not, or its next step fails
 abbrev pub Ends : Program → Config → Option Failure → Type 0

@@ -1,2 +1,2 @@
-//! Typed units whose trees agree with the objects, functions and labels that they name. Definitions alone.
+//! Typed units whose trees agree with the objects, functions and labels that they name, and in which labels, cases and defaults stand once. Definitions alone.
 #![tactic(auto)]

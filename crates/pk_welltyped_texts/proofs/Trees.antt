@@ -8,7 +8,7 @@ use Rattle.pk_grammar.specs.Languages.{Marked, Language, One, ◌⊙◌}
 use Rattle.pk_grammar.specs.Grammar as grammar
 use Rattle.pk_grammar.specs.Grammar.{spelled, spelled_list, spelled_more, Expression, Items, optional, array_length, initializer, declarator, more_declarators, declared, test, for_start, statement, block_items, function_end, external, externals, text}
 use Rattle.pk_grammar.specs.Outcomes.{unmarked}
-use Rattle.pk_accepted.specs.Constants.{HasConstants, HaveConstants, HasConstantsIf, InitializerHas, DeclaratorHas, DeclaratorsHave, DeclarationHas, StartHas, StatementHas, ItemsHave, BlockHas, ExternalHas, ExternalsHave}
+use Rattle.pk_type_laws.specs.Accepted.Constants.{HasConstants, HaveConstants, HasConstantsIf, InitializerHas, DeclaratorHas, DeclaratorsHave, DeclarationHas, StartHas, StatementHas, ItemsHave, BlockHas, ExternalHas, ExternalsHave}
 use Rattle.pk_welltyped_texts.proofs.Tokens.{KindIs, TokensAre}
 
 abbrev pub Are : List Marked → Type 0

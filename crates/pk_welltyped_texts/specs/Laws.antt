@@ -8,7 +8,7 @@ use Rattle.pk_lower.specs.Parts.{point_count, program_draft}
 use Rattle.pk_number.specs.Typed.{IsTypedDraft}
 use Rattle.pk_front.specs.Texts.{HasTrees, HasUnit, HasPaths}
 use Rattle.pk_welltyped.specs.WellTyped.{IsUnit}
-use Rattle.pk_accepted.specs.Constants.{ExternalsHave}
+use Rattle.pk_type_laws.specs.Accepted.Constants.{ExternalsHave}
 
 -- constants of a text's trees are numbers of their types
 abbrev pub TextsHaveConstants : Type 0

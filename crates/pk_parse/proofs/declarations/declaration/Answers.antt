@@ -3,8 +3,8 @@ use Rattle.pk_ast.specs.Views.{specifiers_tree, declarators_tree}
 use Rattle.pk_grammar.specs.declared.signs.Fixed.TheVariants as fixed
 use Rattle.pk_grammar.specs.Machine.Steps.{declared_at}
 use Rattle.pk_grammar.specs.Machine.Running.{run}
-use Rattle.pk_expression.proofs.RunLemmas.{passed, fails_as}
-use Rattle.pk_expression.proofs.KeptLemmas.{made, not_made}
+use Rattle.pk_parse_expression.proofs.RunLemmas.{passed, fails_as}
+use Rattle.pk_parse_expression.proofs.KeptLemmas.{made, not_made}
 use Rattle.pk_parse.proofs.DeclarationLemmas.{shorter, named_first, can_declare_inner, stops_first_name, run_named, past_words_shorter}
 use Rattle.pk_parse.proofs.declarations.declaration.Goals as goal
 

@@ -1,10 +1,10 @@
 use Rattle.std.proofs.Common.{option_map, sym, ap, ◌∙◌, arith}
 use Rattle.pk_grammar.specs.Machine.States.{after_initializer}
 use Rattle.pk_grammar.specs.Machine.Running.{run}
-use Rattle.pk_expression.proofs.RunLemmas.{passed, fails_as}
+use Rattle.pk_parse_expression.proofs.RunLemmas.{passed, fails_as}
 use Rattle.pk_grammar.specs.Machine.Steps.{with_declarator}
 use Rattle.pk_ast.specs.Views.{expression_tree, initializer_tree}
-use Rattle.pk_expression.proofs.KeptLemmas.{made, not_made}
+use Rattle.pk_parse_expression.proofs.KeptLemmas.{made, not_made}
 use Rattle.pk_parse.proofs.RunDeclarations.{naming}
 use Rattle.pk_parse.proofs.declarations.declarator.Goals as goal
 

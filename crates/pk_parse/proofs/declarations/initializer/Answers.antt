@@ -1,6 +1,6 @@
 use Rattle.std.proofs.Common.{◌∙◌, arith}
 use Rattle.pk_grammar.specs.declared.signs.Fixed.TheVariants as fixed
-use Rattle.pk_expression.proofs.RunLemmas.{passed, fails_as}
+use Rattle.pk_parse_expression.proofs.RunLemmas.{passed, fails_as}
 use Rattle.pk_parse.proofs.RunDeclarations.{run_no_assign}
 use Rattle.pk_parse.proofs.DeclarationLemmas.{shorter, run_assigned}
 use Rattle.pk_parse.proofs.declarations.initializer.Goals as goal

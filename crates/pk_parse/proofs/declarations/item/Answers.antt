@@ -3,8 +3,8 @@ use Rattle.pk_lex.specs.declared.token.Token.{Token}
 use Rattle.pk_grammar.specs.declared.signs.Fixed.TheVariants as fixed
 use Rattle.pk_ast.specs.declared.expressions.Expression.{Expression}
 use Rattle.pk_ast.specs.Views.{expression_tree}
-use Rattle.pk_expression.proofs.RunLemmas.{passed}
-use Rattle.pk_expression.proofs.KeptLemmas.{made, not_made}
+use Rattle.pk_parse_expression.proofs.RunLemmas.{passed}
+use Rattle.pk_parse_expression.proofs.KeptLemmas.{made, not_made}
 use Rattle.pk_parse.proofs.DeclarationLemmas.{ReadsItem, shorter, fails_item, stops_item, reads_last_item, reads_item, reads_last_comma}
 use Rattle.pk_parse.specs.Parts.{GoesOn}
 use Rattle.pk_parse.proofs.declarations.item.Goals as goal

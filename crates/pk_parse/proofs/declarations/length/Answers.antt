@@ -3,8 +3,8 @@ use Rattle.pk_grammar.specs.declared.signs.Fixed.TheVariants as fixed
 use Rattle.pk_ast.specs.Views.{expression_tree}
 use Rattle.pk_grammar.specs.Machine.States.{after_length}
 use Rattle.pk_grammar.specs.Machine.Running.{run}
-use Rattle.pk_expression.proofs.RunLemmas.{passed}
-use Rattle.pk_expression.proofs.KeptLemmas.{made, not_made}
+use Rattle.pk_parse_expression.proofs.RunLemmas.{passed}
+use Rattle.pk_parse_expression.proofs.KeptLemmas.{made, not_made}
 use Rattle.pk_parse.proofs.RunDeclarations.{naming, run_no_length}
 use Rattle.pk_parse.proofs.DeclarationLemmas.{shorter, sinks_length, fails_length, stops_length, reads_length}
 use Rattle.pk_parse.proofs.declarations.length.Goals as goal

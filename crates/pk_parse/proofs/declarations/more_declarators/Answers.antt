@@ -2,7 +2,7 @@ use Rattle.std.proofs.Common.{List, sym, ap, subst, arith}
 use Rattle.pk_ast.specs.Trees.{DeclaratorTree}
 use Rattle.pk_ast.specs.Views.{declarator_trees}
 use Rattle.pk_grammar.specs.declared.signs.Fixed.TheVariants as fixed
-use Rattle.pk_expression.proofs.RunLemmas.{passed}
+use Rattle.pk_parse_expression.proofs.RunLemmas.{passed}
 use Rattle.pk_parse.proofs.DeclarationLemmas.{shorter, ReadsDeclarators, reads_no_declarator, reads_declarators, stops_declarators, stops_next_name, fails_declarator, reads_declarator}
 use Rattle.pk_parse.proofs.declarations.more_declarators.Goals as goal
 

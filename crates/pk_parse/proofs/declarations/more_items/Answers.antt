@@ -3,7 +3,7 @@ use Rattle.pk_ast.specs.Trees.{ExpressionTrees}
 use Rattle.pk_ast.specs.Views.{expression_trees}
 use Rattle.pk_grammar.specs.Machine.Running.{run}
 use Rattle.pk_parse.specs.Parts.{item_state}
-use Rattle.pk_expression.proofs.RunLemmas.{passed}
+use Rattle.pk_parse_expression.proofs.RunLemmas.{passed}
 use Rattle.pk_parse.proofs.DeclarationLemmas.{ReadsItems, fails_items, reads_items}
 use Rattle.pk_parse.proofs.declarations.more_items.Goals as goal
 

@@ -5,8 +5,8 @@ use Rattle.pk_grammar.specs.declared.signs.Fixed.TheVariants as fixed
 use Rattle.pk_grammar.specs.Machine.States.{after_initializer}
 use Rattle.pk_grammar.specs.Machine.Steps.{with_initializer}
 use Rattle.pk_grammar.specs.Machine.Running.{run}
-use Rattle.pk_expression.proofs.RunLemmas.{passed, fails_as}
-use Rattle.pk_expression.proofs.KeptLemmas.{made, not_made}
+use Rattle.pk_parse_expression.proofs.RunLemmas.{passed, fails_as}
+use Rattle.pk_parse_expression.proofs.KeptLemmas.{made, not_made}
 use Rattle.pk_parse.proofs.DeclarationLemmas.{shorter, run_opened, run_first, fails_value, reads_value}
 use Rattle.pk_parse.proofs.declarations.value.Goals as goal
 

@@ -2,7 +2,7 @@ use Rattle.std.proofs.Common.{refl, ◌∙◌, arith}
 use Rattle.pk_ast.specs.Trees.{no_items}
 use Rattle.pk_grammar.specs.declared.signs.Fixed.TheVariants as fixed
 use Rattle.pk_grammar.specs.Machine.States.{function_block}
-use Rattle.pk_expression.proofs.RunLemmas.{passed, fails_as, fails_syntax}
+use Rattle.pk_parse_expression.proofs.RunLemmas.{passed, fails_as, fails_syntax}
 use Rattle.pk_parse.proofs.DeclarationLemmas.{shorter}
 use Rattle.pk_parse.proofs.RunExternals.{run_prototype, run_body, no_body}
 use Rattle.pk_parse.proofs.externals.body.Goals as goal

@@ -2,8 +2,8 @@ use Rattle.std.proofs.Common.{length, sym, ap, ◌∙◌, arith}
 use Rattle.pk_ast.specs.Views.{declarators_tree}
 use Rattle.pk_grammar.specs.declared.signs.Fixed.TheVariants as fixed
 use Rattle.pk_grammar.specs.Machine.Running.{syntax}
-use Rattle.pk_expression.proofs.RunLemmas.{passed}
-use Rattle.pk_expression.proofs.WordLemmas as word_lemmas
+use Rattle.pk_parse_expression.proofs.RunLemmas.{passed}
+use Rattle.pk_parse_expression.proofs.WordLemmas as word_lemmas
 use Rattle.pk_parse.proofs.DeclarationLemmas.{shorter, past_words_shorter}
 use Rattle.pk_parse.proofs.ExternalLemmas.{no_longer, stops_word, stops_name, fails_declarators, reads_objects, fails_parameters, fails_body, reads_function}
 use Rattle.pk_parse.proofs.externals.external.Goals as goal

@@ -6,8 +6,8 @@ use Rattle.pk_ast.specs.Views.{parameter_trees}
 use Rattle.pk_grammar.specs.declared.signs.Fixed.TheVariants as fixed
 use Rattle.pk_grammar.specs.Machine.States.{parameters_closed}
 use Rattle.pk_grammar.specs.Machine.Running.{syntax, run}
-use Rattle.pk_expression.proofs.RunLemmas.{passed}
-use Rattle.pk_expression.proofs.WordLemmas as word_lemmas
+use Rattle.pk_parse_expression.proofs.RunLemmas.{passed}
+use Rattle.pk_parse_expression.proofs.WordLemmas as word_lemmas
 use Rattle.pk_parse.proofs.DeclarationLemmas.{shorter}
 use Rattle.pk_parse.proofs.RunExternals.{run_no_parameters, run_parameters}
 use Rattle.pk_parse.proofs.ExternalLemmas.{no_items, some_items, ReadsParameters, stops_parameters, fails_parameter, stops_parameter, reads_parameter, reads_last, reads_void}

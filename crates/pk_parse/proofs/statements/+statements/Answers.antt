@@ -10,9 +10,9 @@ use Rattle.pk_grammar.specs.Machine.Signs.{is_fixed, operand_start, statement_st
 use Rattle.pk_grammar.specs.Machine.States.{inner_block, in_block, in_label, in_case, in_default, in_if, in_else, in_do, in_for, in_a_block, as_label, as_whole, block_item, at_statement, after_statement, test_open, for_open, default_colon, goto_name, returning, statement_end, operand}
 use Rattle.pk_grammar.specs.Machine.Steps.{tested}
 use Rattle.pk_grammar.specs.Machine.Running.{run}
-use Rattle.pk_expression.proofs.RunLemmas.{passed, fails_as}
+use Rattle.pk_parse_expression.proofs.RunLemmas.{passed, fails_as}
 use Rattle.pk_parse.specs.Parts.{with_items, after_block}
-use Rattle.pk_expression.proofs.KeptLemmas.{made, not_made}
+use Rattle.pk_parse_expression.proofs.KeptLemmas.{made, not_made}
 use Rattle.pk_parse.proofs.RunStatements.{run_statement_end, no_statement_end}
 use Rattle.pk_parse.proofs.StatementLemmas.{after_label, after_case, after_default, after_if, after_else, after_test_switch, after_test_while, after_for, run_else, deep_else, run_test, no_test, run_default, no_default, run_case, no_case, no_operand_begins, deep_operand, fails_expression, run_expression, no_label_name, run_label, no_label_colon, run_start, deep_start, goes_on, nesting_with_items, no_items_more, run_item_statement, run_item_word, after_item_statement, after_item_declaration, new_block_nesting, run_block_end}
 use Rattle.pk_parse.proofs.statements.+statements.Goals as goal

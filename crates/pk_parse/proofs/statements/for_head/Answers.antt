@@ -3,8 +3,8 @@ use Rattle.pk_ast.specs.declared.statements.ForHead.{ForHead}
 use Rattle.pk_ast.specs.Views.{expression_tree, for_start_tree}
 use Rattle.pk_grammar.specs.Machine.States.{in_for, at_statement}
 use Rattle.pk_grammar.specs.Machine.Running.{run}
-use Rattle.pk_expression.proofs.RunLemmas.{passed, fails_as}
-use Rattle.pk_expression.proofs.KeptLemmas.{made, not_made}
+use Rattle.pk_parse_expression.proofs.RunLemmas.{passed, fails_as}
+use Rattle.pk_parse_expression.proofs.KeptLemmas.{made, not_made}
 use Rattle.pk_parse.proofs.StatementLemmas.{run_for_open, no_for_open, deep_for_open}
 use Rattle.pk_parse.proofs.statements.for_head.Goals as goal
 

@@ -3,8 +3,8 @@ use Rattle.pk_ast.specs.Trees.{expression}
 use Rattle.pk_ast.specs.Views.{expression_tree}
 use Rattle.pk_grammar.specs.Machine.States.{in_a_for, for_second}
 use Rattle.pk_grammar.specs.Machine.Running.{run}
-use Rattle.pk_expression.proofs.RunLemmas.{passed, fails_as}
-use Rattle.pk_expression.proofs.KeptLemmas.{made, not_made}
+use Rattle.pk_parse_expression.proofs.RunLemmas.{passed, fails_as}
+use Rattle.pk_parse_expression.proofs.KeptLemmas.{made, not_made}
 use Rattle.pk_parse.proofs.RunStatements.{first_part, fails_part, reads_part, unclosed_part, run_for_word}
 use Rattle.pk_parse.proofs.statements.for_start.Goals as goal
 

@@ -2,8 +2,8 @@ use Rattle.std.proofs.Common.{◌+◌, length, option_map, sym, ap, ◌∙◌, a
 use Rattle.pk_ast.specs.Views.{expression_tree}
 use Rattle.pk_grammar.specs.Machine.States.{in_for, at_statement}
 use Rattle.pk_grammar.specs.Machine.Running.{run}
-use Rattle.pk_expression.proofs.RunLemmas.{passed, fails_as}
-use Rattle.pk_expression.proofs.KeptLemmas.{made, not_made}
+use Rattle.pk_parse_expression.proofs.RunLemmas.{passed, fails_as}
+use Rattle.pk_parse_expression.proofs.KeptLemmas.{made, not_made}
 use Rattle.pk_parse.proofs.RunStatements.{second_part, third_part, fails_part, reads_part, unclosed_part}
 use Rattle.pk_parse.proofs.statements.for_tests.Goals as goal
 

@@ -3,7 +3,7 @@ use Rattle.pk_ast.specs.Trees.{goto}
 use Rattle.pk_grammar.specs.Languages.{identifier_of}
 use Rattle.pk_grammar.specs.Machine.States.{after_statement}
 use Rattle.pk_grammar.specs.Machine.Running.{run}
-use Rattle.pk_expression.proofs.RunLemmas.{passed, fails_as}
+use Rattle.pk_parse_expression.proofs.RunLemmas.{passed, fails_as}
 use Rattle.pk_parse.proofs.RunStatements.{run_goto_name, no_goto_name, run_statement_end, no_statement_end}
 use Rattle.pk_parse.proofs.statements.goto.Goals as goal
 

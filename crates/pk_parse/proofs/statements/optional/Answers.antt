@@ -1,6 +1,6 @@
 use Rattle.std.proofs.Common.{refl, ap, sym, ◌∙◌, arith}
 use Rattle.pk_grammar.specs.Machine.Signs.{is_fixed}
-use Rattle.pk_expression.proofs.RunLemmas.{passed}
+use Rattle.pk_parse_expression.proofs.RunLemmas.{passed}
 use Rattle.pk_parse.proofs.statements.optional.Goals as goal
 
 pub returns-then-is : goal.returns-then-is

@@ -3,8 +3,8 @@ use Rattle.pk_ast.specs.Trees.{do_while}
 use Rattle.pk_ast.specs.Views.{expression_tree}
 use Rattle.pk_grammar.specs.Machine.States.{after_statement}
 use Rattle.pk_grammar.specs.Machine.Running.{run}
-use Rattle.pk_expression.proofs.KeptLemmas.{made, not_made}
-use Rattle.pk_expression.proofs.RunLemmas.{passed, fails_as}
+use Rattle.pk_parse_expression.proofs.KeptLemmas.{made, not_made}
+use Rattle.pk_parse_expression.proofs.RunLemmas.{passed, fails_as}
 use Rattle.pk_parse.proofs.RunStatements.{run_statement_end, no_statement_end}
 use Rattle.pk_parse.proofs.StatementLemmas.{run_while, no_while, run_last_test, no_last_test}
 use Rattle.pk_parse.proofs.statements.until.Goals as goal

@@ -1,6 +1,6 @@
 use Rattle.std.proofs.Common.{sym, subst, ◌∙◌}
 use Rattle.pk_constructs.proofs.DeterminedLemmas.{first_is_not_supported}
-use Rattle.pk_expression.proofs.RunLemmas.{passed}
+use Rattle.pk_parse_expression.proofs.RunLemmas.{passed}
 use Rattle.pk_parse.specs.Refusals.{IsAccepted}
 use Rattle.pk_parse.proofs.TextLemmas.{passed_on, accepted, refused_by, only_memory, only_trees}
 use Rattle.pk_parse.proofs.texts.parse.Goals as goal

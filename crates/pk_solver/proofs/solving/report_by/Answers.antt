@@ -1,5 +1,5 @@
 use Rattle.pk_graph.specs.Shown.{graph_view}
-use Rattle.pk_answer.proofs.Reporting.{report_so}
+use Rattle.pk_graph_report.proofs.Reporting.{report_so}
 use Rattle.pk_solver.proofs.solving.report_by.Goals as goal
 
 pub returns-clause-ok : goal.returns-clause-ok

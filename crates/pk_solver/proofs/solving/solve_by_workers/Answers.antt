@@ -2,7 +2,7 @@ use denote.Param.Send.{sendable}
 use Rattle.std.proofs.Common.{arith, refl}
 use Rattle.pk_analysis.proofs.Shared.{analysis_sync}
 use Rattle.pk_graph.specs.Shown.{graph_view}
-use Rattle.pk_answer.proofs.Solving.{cells_over, points_so, states_so, over_so, limit_so}
+use Rattle.pk_graph_report.proofs.Solving.{cells_over, points_so, states_so, over_so, limit_so}
 use Rattle.pk_solver.proofs.Solved.{ends_so, order_so, has_end_so, result_so}
 use Rattle.pk_solver.proofs.solving.solve_by_workers.Goals as goal
 

@@ -1,7 +1,7 @@
 use Rattle.std.proofs.Common.{map, string_bytes, ℕ, List, sym, subst, ◌∙◌}
-use Rattle.pk_told.specs.Answers.{IsShort}
+use Rattle.pk_text_report.specs.Answers.{IsShort}
 use Rattle.pk_top.specs.Headline.{IsUntold}
-use Rattle.pk_told.proofs.Answering.{not_taken}
+use Rattle.pk_text_report.proofs.Answering.{not_taken}
 use Rattle.pk_top.proofs.Replies.{handed_on, if_ok, if_err, told_so, textless_so, stopped_so, no_source}
 use Rattle.pk_top.proofs.Truthful.{told_if_ok}
 use Rattle.pk_top.proofs.top.make.Goals as goal

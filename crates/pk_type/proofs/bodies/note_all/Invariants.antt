@@ -1,7 +1,7 @@
 use Rattle.std.proofs.Common.{◌≡◌, drop}
-use Rattle.pk_scope.specs.Failures.{noted}
-use Rattle.pk_declare.specs.Views.{walked_in}
-use Rattle.pk_declare.specs.Walks.{failing}
+use Rattle.pk_type_scope.specs.Failures.{noted}
+use Rattle.pk_type_declaration.specs.Views.{walked_in}
+use Rattle.pk_type_declaration.specs.Walks.{failing}
 use Rattle.pk_type.specs.Functions.{each_at}
 use Rattle.pk_type.proofs.bodies.note_all.Given as goal
 

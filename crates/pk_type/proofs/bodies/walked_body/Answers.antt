@@ -1,14 +1,14 @@
 use Rattle.std.proofs.Common.{◌∙◌, ap}
 use Rattle.pk_ast.specs.Views.{item_trees, block_tree}
-use Rattle.pk_scope.specs.Failures.{noted}
-use Rattle.pk_declare.specs.Views.{walked_in}
-use Rattle.pk_declare.specs.Walks.{failing}
-use Rattle.pk_jump.specs.Jumps.{jumps_of}
-use Rattle.pk_jump.specs.Labels.{Listed, labels_of}
-use Rattle.pk_jump.specs.Views.{jumped_in, listed_in}
-use Rattle.pk_statement.specs.Statements.{after_items}
-use Rattle.pk_statement.specs.Trees.{typed_items}
-use Rattle.pk_statement.specs.Views.{passed_in}
+use Rattle.pk_type_scope.specs.Failures.{noted}
+use Rattle.pk_type_declaration.specs.Views.{walked_in}
+use Rattle.pk_type_declaration.specs.Walks.{failing}
+use Rattle.pk_type_jump.specs.Jumps.{jumps_of}
+use Rattle.pk_type_jump.specs.Labels.{Listed, labels_of}
+use Rattle.pk_type_jump.specs.Views.{jumped_in, listed_in}
+use Rattle.pk_type_statement.specs.Statements.{after_items}
+use Rattle.pk_type_statement.specs.Trees.{typed_items}
+use Rattle.pk_type_statement.specs.Views.{passed_in}
 use Rattle.pk_type.specs.Functions.{about_jumps, before_body}
 use Rattle.pk_type.proofs.bodies.walked_body.Goals as goal
 

@@ -1,8 +1,8 @@
 -- What is left does what the whole does.
 use Rattle.std.proofs.Common.{◌≡◌, ◌++◌, drop}
 use Rattle.pk_ast.specs.Views.{expression_trees}
-use Rattle.pk_scope.specs.Failures.{noted}
-use Rattle.pk_declare.specs.Views.{walked_in}
+use Rattle.pk_type_scope.specs.Failures.{noted}
+use Rattle.pk_type_declaration.specs.Views.{walked_in}
 use Rattle.pk_type.specs.Files.{after_numbers, numbers_at}
 use Rattle.pk_type.proofs.files.numbers.Given as goal
 

@@ -1,7 +1,7 @@
 use Rattle.std.proofs.Common.{◌≡◌, drop}
 use Rattle.pk_ast.specs.Views.{parameter_trees}
-use Rattle.pk_scope.specs.Failures.{noted}
-use Rattle.pk_declare.specs.Views.{walked_in}
+use Rattle.pk_type_scope.specs.Failures.{noted}
+use Rattle.pk_type_declaration.specs.Views.{walked_in}
 use Rattle.pk_type.specs.Functions.{after_parameters}
 use Rattle.pk_type.proofs.functions.parameters.Given as goal
 

@@ -1,6 +1,6 @@
 use Rattle.std.proofs.Common.{◌≡◌, drop}
 use Rattle.pk_ast.specs.Views.{external_trees}
-use Rattle.pk_scope.specs.Failures.{noted}
+use Rattle.pk_type_scope.specs.Failures.{noted}
 use Rattle.pk_type.specs.Units.{after_externals}
 use Rattle.pk_type.specs.Views.{defined_names, filed_in}
 use Rattle.pk_type.proofs.units.externals.Given as goal

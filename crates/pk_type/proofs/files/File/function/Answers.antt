@@ -1,6 +1,6 @@
 use Rattle.std.proofs.Common.{◌∙◌, ap}
 use Rattle.pk_ast.specs.Views.{function_tree, parameter_trees}
-use Rattle.pk_scope.specs.Failures.{noted}
+use Rattle.pk_type_scope.specs.Failures.{noted}
 use Rattle.pk_type.specs.Files.{on}
 use Rattle.pk_type.specs.Functions.{after_parameters}
 use Rattle.pk_type.specs.Views.{defined_names, filed_in}

@@ -1,7 +1,7 @@
 use Rattle.std.proofs.Common.{◌∙◌, ap, sym}
 use Rattle.std.specs.Option.{is_some}
 use Rattle.pk_ast.specs.Views.{expression_tree, declarator_tree}
-use Rattle.pk_declare.specs.Specials.{special}
+use Rattle.pk_type_declaration.specs.Specials.{special}
 use Rattle.pk_type.specs.Views.{filed_in}
 use Rattle.pk_type.proofs.FileLemmas.{head_walked, is_some_map}
 use Rattle.pk_type.proofs.files.File.head.Goals as goal

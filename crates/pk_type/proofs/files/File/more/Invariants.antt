@@ -1,7 +1,7 @@
 -- What is left does what the whole does.
 use Rattle.std.proofs.Common.{◌≡◌, drop}
 use Rattle.pk_ast.specs.Views.{declarator_trees}
-use Rattle.pk_scope.specs.Failures.{noted}
+use Rattle.pk_type_scope.specs.Failures.{noted}
 use Rattle.pk_type.specs.Files.{after_objects}
 use Rattle.pk_type.specs.Views.{filed_in}
 use Rattle.pk_type.proofs.files.File.more.Given as goal

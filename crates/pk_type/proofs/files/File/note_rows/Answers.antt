@@ -1,11 +1,11 @@
 use Rattle.std.proofs.Common.{◌∙◌, ap, sym, ◌++◌}
 use Rattle.pk_ast.specs.Views.{specifiers_tree}
 use Rattle.pk_ctypes.specs.declared.words.Rule.TheVariants as rule
-use Rattle.pk_scope.specs.Failures.{noted, fails_if}
-use Rattle.pk_scope.specs.Specifiers.{specifiers}
-use Rattle.pk_declare.specs.Views.{walked_in}
-use Rattle.pk_declare.specs.Walks.{failing}
-use Rattle.pk_statement.proofs.CaseLemmas.{failing_twice}
+use Rattle.pk_type_scope.specs.Failures.{noted, fails_if}
+use Rattle.pk_type_scope.specs.Specifiers.{specifiers}
+use Rattle.pk_type_declaration.specs.Views.{walked_in}
+use Rattle.pk_type_declaration.specs.Walks.{failing}
+use Rattle.pk_type_statement.proofs.CaseLemmas.{failing_twice}
 use Rattle.pk_type.specs.Files.{on}
 use Rattle.pk_type.specs.Views.{filed_in}
 use Rattle.pk_type.proofs.FunctionLemmas.{on_walked}

@@ -1,0 +1,163 @@
+-- The rank of states.
+use Rattle.std.specs.Prelude.{◌≡◌, ◌⊎◌, ℕ, zero, suc, ◌+◌, ◌*◌, ◌<◌, ◌≤◌, ◌&&◌, Bool, true, false, ℤ, List, [], ◌∷◌, length, Option, Some, None}
+use Rattle.std.proofs.Common.{◌∙◌, refl, ap, sym, subst, arith, inl, inr}
+use Rattle.std.proofs.lemmas.Int.{ints}
+use Rattle.pk_interval.specs.Ranges as ranges
+use Rattle.pk_interval.proofs.Order.{within_ends}
+use Rattle.pk_congr.specs.Classes as classes
+use Rattle.pk_congr.proofs.Keeping.{unchanged}
+use Rattle.pk_congr.proofs.Numbers.{and_true}
+use Rattle.pk_value.specs.Known.{Known, is_within}
+use Rattle.pk_value.specs.Known as known
+use Rattle.pk_value.specs.Laws.{IsOfIts}
+use Rattle.pk_value.proofs.Orders.{rank, lattice}
+use Rattle.pk_octmat.specs.Octagon.{entry}
+use Rattle.pk_octmat.proofs.Tabled.{octagon_entries}
+use Rattle.pk_octops.specs.Tables.{widening_of}
+use Rattle.pk_octops.specs.Tables as tables
+use Rattle.pk_octops.specs.Chains.{IsWidening, numbers_of}
+use Rattle.pk_octops.proofs.Counting.{numbers_are_ranks}
+use Rattle.pk_octops.proofs.Kept.{values_kept}
+use Rattle.pk_blocks.specs.Rows.{merged_from}
+use Rattle.pk_state.specs.Layouts.{Layout, type_at}
+use Rattle.pk_state.specs.Facts.{Facts, known_at, IsBelow, widened, widened_values}
+use Rattle.pk_state.proofs.Lists.{merged_at}
+use Rattle.pk_analysis.specs.Orders.{values_within, bounds_within, is_below}
+use Rattle.pk_analysis.proofs.OrderLemmas.{octagon_to}
+use Rattle.pk_analysis_laws.specs.Ranks.States.{AreBoundedFacts, IsStateOf, moves_from, bound_of, rank_in, IsChain, StatesAreRanked, WideningChainsEnd}
+use Rattle.pk_analysis_laws.proofs.Ranks.Staying.{states_stay}
+
+one_fails : (a b : Bool) → (a && b) ≡ false → (a ≡ false) ⊎ (b ≡ false)
+one_fails true b e = inr e
+one_fails false b e = inl refl
+
+-- ---- the values of the variables from x on
+
+AreFrom : Layout → ℕ → List Known → Type 0
+AreFrom l x [] = Unit {0}
+AreFrom l x (k ∷ ks) = IsOfIts (type_at l x) k × AreFrom l (x + 1) ks
+
+are_from : (l : Layout) (x : ℕ) (ks : List Known) → ((i j : ℕ) → i < length ks → j ≡ x + i → IsOfIts (type_at l j) (known_at ks i)) → AreFrom l x ks
+unfolding AreFrom
+are_from l x [] h = tt
+are_from l x (k ∷ ks) h = (h zero x (omega arith) (omega arith), are_from l (x + 1) ks (λ i j p e. h (suc i) j (omega (arith, p)) (omega (arith, e))))
+
+module _ (l : Layout) (cs : List ℤ) where
+  abbrev step : ℕ → Known → Known → Known
+  step x = known.widened (type_at l x) cs
+
+  values_few : (c x : ℕ) (ks : List Known) → 2 * (length cs + 1) + 65 ≤ c → moves_from l cs x ks ≤ length ks * c
+  values_few c x [] h = omega arith
+  values_few c x (k ∷ ks) h =
+      let more : suc (length ks) * c ≡ c + length ks * c = omega arith in
+      omega (arith, more, h, rank.few (type_at l x) cs k, values_few c (x + 1) ks h)
+
+  values_stay : (x : ℕ) (hs ns : List Known) → AreFrom l x hs → AreFrom l x ns → length hs ≡ length ns → moves_from l cs x (merged_from step x hs ns) ≤ moves_from l cs x hs
+  unfolding AreFrom
+  values_stay x [] ns f g e = omega arith
+  values_stay x (h ∷ hs) [] f g e = absurd (omega (arith, e))
+  values_stay x (h ∷ hs) (n ∷ ns) f g e = omega (arith, rank.stays (type_at l x) cs h n f.0 g.0, values_stay (x + 1) hs ns f.1 g.1 (omega (arith, e)))
+
+  values_fall : (x : ℕ) (hs ns : List Known) → AreFrom l x hs → AreFrom l x ns → length hs ≡ length ns → values_within ns hs ≡ false → moves_from l cs x (merged_from step x hs ns) < moves_from l cs x hs
+  unfolding AreFrom
+  values_fall x [] [] f g e w = absurd (cc)
+  values_fall x [] (n ∷ ns) f g e w = absurd (omega (arith, e))
+  values_fall x (h ∷ hs) [] f g e w = absurd (omega (arith, e))
+  values_fall x (h ∷ hs) (n ∷ ns) f g e w =
+      let more : length hs ≡ length ns = omega (arith, e) in
+      elim (one_fails (is_within n h) (values_within ns hs) w) [
+        | inl not_in ↦ omega (arith, rank.falls (type_at l x) cs h n f.0 g.0 not_in, values_stay (x + 1) hs ns f.1 g.1 more)
+        | inr not_in ↦ omega (arith, rank.stays (type_at l x) cs h n f.0 g.0, values_fall (x + 1) hs ns f.1 g.1 more not_in)
+      ]
+
+-- ---- facts
+
+-- a state's values are of their types
+values_are : (l : Layout) (f : Facts) → AreBoundedFacts l f → AreFrom l 0 f.values
+values_are l f h = are_from l 0 f.values (λ i j p e. let same : i ≡ j = omega (arith, e) in subst (λ (y : ℕ). IsOfIts (type_at l y) (known_at f.values i)) same (record { inside = h.facts.values.inside i p; class = h.classes i p }))
+
+module _ (l : Layout) (cs : List ℤ) where
+  facts_few : (h : Facts) → AreBoundedFacts l h → rank_in l cs (Some h) < bound_of l cs
+  facts_few h f =
+      let c : ℕ = 2 * (length cs + 1) + 66 in
+      let few = values_few l cs c 0 h.values (omega arith) in
+      let size : length h.values ≡ length l.types = f.facts.values.size in
+      let numbers : numbers_of h.octagon ≤ 2 * length l.chosen * (2 * length l.chosen) = subst (λ (k : ℕ). numbers_of h.octagon ≤ 2 * k * (2 * k)) f.facts.vars (numbers_are_ranks.few h.octagon) in
+      let square : 2 * length l.chosen * (2 * length l.chosen) ≡ 4 * length l.chosen * length l.chosen = omega arith in
+      let moves : moves_from l cs 0 h.values ≤ length l.types * c = subst (λ (k : ℕ). moves_from l cs 0 h.values ≤ k * c) size few in
+      omega (arith, moves, numbers, square)
+
+  module _ (h n : Facts) (f : AreBoundedFacts l h) (g : AreBoundedFacts l n) where
+    same_size : length h.values ≡ length n.values
+    same_size = f.facts.values.size ∙ sym g.facts.values.size
+
+    same_vars : n.octagon.vars ≡ h.octagon.vars
+    same_vars = g.facts.vars ∙ sym f.facts.vars
+
+    is_widening : IsWidening h.octagon n.octagon (widening_of h.octagon n.octagon)
+    is_widening = octagon_entries h.octagon.vars (λ i j. tables.widened (entry h.octagon i j) (entry n.octagon i j))
+
+    moves_stay : moves_from l cs 0 (widened_values l cs h.values n.values) ≤ moves_from l cs 0 h.values
+    moves_stay = values_stay l cs 0 h.values n.values (values_are l h f) (values_are l n g) same_size
+
+    numbers_stay : numbers_of (widening_of h.octagon n.octagon) ≤ numbers_of h.octagon
+    numbers_stay = numbers_are_ranks.stays h.octagon n.octagon (widening_of h.octagon n.octagon) is_widening
+
+    facts_stay : rank_in l cs (widened l cs (Some h) (Some n)) ≤ rank_in l cs (Some h)
+    facts_stay = omega (arith, moves_stay, numbers_stay)
+
+    facts_fall : is_below (Some n) (Some h) ≡ false → rank_in l cs (widened l cs (Some h) (Some n)) < rank_in l cs (Some h)
+    facts_fall e = elim (one_fails (values_within n.values h.values) (bounds_within n.octagon.cells h.octagon.cells) e) [
+      | inl not_in ↦ omega (arith, values_fall l cs 0 h.values n.values (values_are l h f) (values_are l n g) same_size not_in, numbers_stay)
+      | inr not_in ↦
+          let above : tables.IsBelow n.octagon h.octagon → ⊥ = λ b. let is = octagon_to l n h g.facts f.facts b in cc in
+          omega (arith, moves_stay, numbers_are_ranks.falls h.octagon n.octagon (widening_of h.octagon n.octagon) same_vars above is_widening)
+    ]
+
+    facts_rise : IsBelow (Some h) (widened l cs (Some h) (Some n))
+    facts_rise = record {
+      values = λ x p. rw (merged_at (λ x. known.widened (type_at l x) cs) 0 h.values n.values x x p same_size (omega arith))
+          (lattice.widen_above (type_at l x) cs (known_at h.values x) (known_at n.values x) (f.facts.values.inside x p) (g.facts.values.inside x (omega (arith, p, same_size))));
+      octagon = values_kept.above_held h.octagon n.octagon;
+    }
+
+-- ---- states
+
+few : (l : Layout) (cs : List ℤ) (h : Option Facts) → IsStateOf l h → rank_in l cs h ≤ bound_of l cs
+few l cs None f = omega arith
+few l cs (Some h) f = omega (arith, facts_few l cs h f)
+
+stays : (l : Layout) (cs : List ℤ) (h n : Option Facts) → IsStateOf l h → IsStateOf l n → rank_in l cs (widened l cs h n) ≤ rank_in l cs h
+stays l cs None n f g = few l cs n g
+stays l cs (Some h) None f g = omega arith
+stays l cs (Some h) (Some n) f g = facts_stay l cs h n f g
+
+falls : (l : Layout) (cs : List ℤ) (h n : Option Facts) → IsStateOf l h → IsStateOf l n → is_below n h ≡ false → rank_in l cs (widened l cs h n) < rank_in l cs h
+falls l cs h None f g e = absurd (cc)
+falls l cs None (Some n) f g e = facts_few l cs n g
+falls l cs (Some h) (Some n) f g e = facts_fall l cs h n f g e
+
+pub states_are_ranked : StatesAreRanked
+states_are_ranked = record { few = few; stays = stays; falls = falls }
+
+-- ---- chains
+
+within_itself : (k : Known) → is_within k k ≡ true
+within_itself k = and_true (ranges.is_within k.range k.range) (classes.is_within k.class k.class) (within_ends k.range k.range (omega (arith, ints)) (omega (arith, ints))) (unchanged.within_itself k.class)
+
+rises : (l : Layout) (cs : List ℤ) (h n : Option Facts) → IsStateOf l h → IsStateOf l n → IsBelow h (widened l cs h n)
+rises l cs None n f g = tt
+rises l cs (Some h) None f g = record { values = λ x p. within_itself (known_at h.values x); octagon = values_kept.below_itself h.octagon }
+rises l cs (Some h) (Some n) f g = facts_rise l cs h n f g
+
+-- as long as the rank, and so as the bound
+chain_ranked : (l : Layout) (cs : List ℤ) (h : Option Facts) (ns : List (Option Facts)) → IsStateOf l h → IsChain l cs h ns → length ns ≤ rank_in l cs h
+chain_ranked l cs h [] f c = omega arith
+chain_ranked l cs h (n ∷ ns) f c = omega (arith, falls l cs h n f c.0 c.1, chain_ranked l cs (widened l cs h n) ns (states_stay.widenings l cs h n f c.0) c.2)
+
+pub widening_chains_end : WideningChainsEnd
+widening_chains_end = record {
+  above = rises;
+  differs = λ l cs h n f g e same. let less = falls l cs h n f g e in let equal : rank_in l cs (widened l cs h n) ≡ rank_in l cs h = ap (rank_in l cs) same in omega (arith, less, equal);
+  ends = λ l cs h ns f c. omega (arith, chain_ranked l cs h ns f c, few l cs h f);
+}

@@ -1,5 +1,0 @@
-use Rattle.pk_answer.proofs.Determined.{one_report}
-use Rattle.pk_answer.proofs.laws.one_report.Goals as goal
-
-pub returns : goal.returns
-returns c = one_report c.order_is_determined.ensures

@@ -1,5 +1,0 @@
-use Rattle.pk_answered.proofs.Limiting.{cut_offs}
-use Rattle.pk_answered.proofs.laws.cut_offs_are_low.Goals as goal
-
-pub returns : goal.returns
-returns c = cut_offs c.limits_are_low.ensures c.graphs_are_well_made.ensures

@@ -1,5 +1,0 @@
-use Rattle.pk_answered.proofs.Limiting.{enough_reported}
-use Rattle.pk_answered.proofs.laws.enough_is_reported.Goals as goal
-
-pub returns : goal.returns
-returns c = enough_reported c.every_graph_is_reported.ensures c.limits_are_low.ensures

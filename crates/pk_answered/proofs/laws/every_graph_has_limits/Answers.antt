@@ -1,5 +1,0 @@
-use Rattle.pk_answered.proofs.Limiting.{limits}
-use Rattle.pk_answered.proofs.laws.every_graph_has_limits.Goals as goal
-
-pub returns : goal.returns
-returns c = limits c.every_digraph_has_an_order.ensures c.order_is_determined.ensures

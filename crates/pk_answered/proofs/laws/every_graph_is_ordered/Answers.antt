@@ -1,5 +1,0 @@
-use Rattle.pk_answered.proofs.Analysing.{ordered}
-use Rattle.pk_answered.proofs.laws.every_graph_is_ordered.Goals as goal
-
-pub returns : goal.returns
-returns c = ordered c.every_digraph_has_an_order.ensures

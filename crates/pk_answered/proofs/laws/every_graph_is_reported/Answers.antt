@@ -1,5 +1,0 @@
-use Rattle.pk_answered.proofs.Analysing.{reported}
-use Rattle.pk_answered.proofs.laws.every_graph_is_reported.Goals as goal
-
-pub returns : goal.returns
-returns c = reported c.every_digraph_has_an_order.ensures

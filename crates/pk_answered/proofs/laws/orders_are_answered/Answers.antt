@@ -1,5 +1,0 @@
-use Rattle.pk_answered.proofs.Replying.{orders}
-use Rattle.pk_answered.proofs.laws.orders_are_answered.Goals as goal
-
-pub returns : goal.returns
-returns c = orders c.every_graph_is_ordered.ensures c.every_text_ends.ensures c.graphs_are_well_made.ensures

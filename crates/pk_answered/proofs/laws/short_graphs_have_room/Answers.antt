@@ -1,5 +1,0 @@
-use Rattle.pk_answered.proofs.Rooms.{have_room}
-use Rattle.pk_answered.proofs.laws.short_graphs_have_room.Goals as goal
-
-pub returns : goal.returns
-returns c = have_room

@@ -1,5 +1,0 @@
-use Rattle.pk_exists.proofs.Ordering.{every_digraph_has_an_order}
-use Rattle.pk_exists.proofs.laws.every_digraph_has_an_order.Goals as goal
-
-pub returns : goal.returns
-returns c = every_digraph_has_an_order

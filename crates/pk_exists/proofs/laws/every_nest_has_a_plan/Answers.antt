@@ -1,5 +1,0 @@
-use Rattle.pk_exists.proofs.Drawing.{every_nest_has_a_plan}
-use Rattle.pk_exists.proofs.laws.every_nest_has_a_plan.Goals as goal
-
-pub returns : goal.returns
-returns c = every_nest_has_a_plan

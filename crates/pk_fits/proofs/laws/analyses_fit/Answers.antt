@@ -1,5 +1,0 @@
-use Rattle.pk_fits.proofs.Analysing.{analyses}
-use Rattle.pk_fits.proofs.laws.analyses_fit.Goals as goal
-
-pub returns : goal.returns
-returns c = analyses

@@ -1,5 +1,0 @@
-use Rattle.pk_fits.proofs.Analysing.{analyses_kept}
-use Rattle.pk_fits.proofs.laws.analyses_keep.Goals as goal
-
-pub returns : goal.returns
-returns c = analyses_kept

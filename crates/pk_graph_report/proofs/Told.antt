@@ -1,0 +1,54 @@
+-- Verdicts access by access.
+use Rattle.std.specs.Prelude.{◌≡◌, ℕ, ◌<◌, List, length, slice_index_or, All}
+use Rattle.std.proofs.Common.{arith, subst, sym, ap, ◌∙◌, IfOk, Ok, Err}
+use Rattle.std.specs.declared.result.Result.{Result}
+use Rattle.std.proofs.lemmas.List.{length-map, get_or-map, get_or_default}
+use Rattle.std.proofs.lemmas.List.Elements.{All-get_or}
+use Rattle.pk_graph.specs.declared.operations.Access.{Access}
+use Rattle.pk_graph.specs.declared.verdicts.Verdict.{Verdict}
+use Rattle.pk_graph.specs.Accesses.{accesses_of}
+use Rattle.pk_graph.specs.AccessViews.{access_view, access_views, operation_view}
+use Rattle.pk_graph.specs.Graphs.{GraphOf}
+use Rattle.pk_graph.specs.WellMade.{IsGraph}
+use Rattle.pk_state.specs.Facts.{Stated}
+use Rattle.pk_transfer.specs.Graphs.{layout_of, GraphsAreOver}
+use Rattle.pk_state.specs.Layouts.{Layout}
+use Rattle.pk_transfer.specs.Trees as layouts
+use Rattle.pk_verdict.specs.Typed.{IsAccessOver, AccessesAreOver}
+use Rattle.pk_verdict.specs.Verdicts.{IsTypedOperation, verdict_of}
+use Rattle.pk_analysis.specs.declared.analysis.Options.{Options}
+use Rattle.pk_report.specs.Reports.{state_at, no_state}
+use Rattle.pk_graph_report.specs.Reported.{verdict_at}
+use Rattle.pk_graph_report.specs.Made.{AreOver}
+
+-- an access whose verdict may be asked for
+pub record IsThere (states : List Stated) (a : Access) : Type 0 where
+  pub point : a.point < length states
+  pub typed : IsTypedOperation (layouts.kinds_of (state_at states a.point).layout) (operation_view a.operation)
+
+state_there : (g : GraphOf) (o : Options) (states : List Stated) (p : ℕ) → AreOver g o states → p < length states → (state_at states p).layout ≡ layout_of g o.oct
+state_there g o states p over l = All-get_or (λ (s : Stated). s.layout ≡ layout_of g o.oct) states p no_state l over.each
+
+pub access_there : (g : GraphOf) (o : Options) (states : List Stated) (all : List Access) (k : ℕ) (a : Access)
+    → GraphsAreOver → AccessesAreOver → IsGraph g → AreOver g o states → access_views all ≡ accesses_of g → k < length all → a ≡ slice_index_or all k a → IsThere states a
+unfolding access_view
+access_there g o states all k a graphs accesses made over shown l is =
+    let each = subst (All (IsAccessOver g (layout_of g o.oct))) (sym shown) (accesses g (layout_of g o.oct) made (graphs.over g o.oct)) in
+    let here : IsAccessOver g (layout_of g o.oct) (access_view a) =
+    subst (IsAccessOver g (layout_of g o.oct)) (get_or-map access_view all k a (access_view a) l ∙ ap access_view (sym is))
+    (All-get_or (IsAccessOver g (layout_of g o.oct)) (access_views all) k (access_view a) (omega (arith, l, length-map all access_view)) each) in
+    let point : a.point < length states = omega (arith, here.point, over.size) in
+    record {
+      point = point;
+      typed = subst (λ (y : Layout). IsTypedOperation (layouts.kinds_of y) (operation_view a.operation)) (sym (state_there g o states a.point over point)) here.typed;
+    }
+
+pub verdict_so : (states : List Stated) (a : Access) (s : Stated) (v : Verdict) → a.point < length states → s ≡ slice_index_or states a.point s → v ≡ verdict_of s.layout s.facts (operation_view a.operation) → v ≡ verdict_at states (access_view a)
+unfolding access_view
+verdict_so states a s v l is told =
+    let same : s ≡ state_at states a.point = is ∙ get_or_default states a.point s no_state l in
+    told ∙ ap (λ (t : Stated). verdict_of t.layout t.facts (operation_view a.operation)) same
+
+pub if_ok : {A E : Type 0} {P Q : A → Type 0} (r : Result A E) → ((x : A) → P x → Q x) → IfOk r P → IfOk r Q
+if_ok (Ok x) f h = f x h
+if_ok (Err e) f h = tt

@@ -1,0 +1,5 @@
+use Rattle.pk_graph_report.proofs.Determined.{one_report}
+use Rattle.pk_graph_report.proofs.laws.one_report.Goals as goal
+
+pub returns : goal.returns
+returns c = one_report c.order_is_determined.ensures

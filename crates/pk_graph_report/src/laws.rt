@@ -1,0 +1,12 @@
+// Laws of what is told of a graph.
+
+ghost use Rattle.pk_graph_report.specs.Reported.{OneReport};
+
+use pk_order::order_is_determined;
+
+/// A graph has at most one report, summary and order, and a report only where no element is run too often.
+pub fn one_report()
+    ensures { OneReport }
+{
+    order_is_determined();
+}

@@ -1,5 +1,0 @@
-use Rattle.pk_names.proofs.Names.{names_stand}
-use Rattle.pk_names.proofs.laws.names_stand_in_texts.Goals as goal
-
-pub returns : goal.returns
-returns c = names_stand c.names_are_tokens.ensures

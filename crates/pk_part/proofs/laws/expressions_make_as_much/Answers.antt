@@ -1,5 +1,0 @@
-use Rattle.pk_part.proofs.Expressions.{expressions_make_as_much}
-use Rattle.pk_part.proofs.laws.expressions_make_as_much.Goals as goal
-
-pub returns : goal.returns
-returns g c = expressions_make_as_much g.row.V.Denot g.row.W.Denot

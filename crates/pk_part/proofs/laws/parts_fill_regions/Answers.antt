@@ -1,5 +1,0 @@
-use Rattle.pk_part.proofs.Measures.{parts_fill_regions}
-use Rattle.pk_part.proofs.laws.parts_fill_regions.Goals as goal
-
-pub returns : goal.returns
-returns g c = parts_fill_regions g.row.V.Denot

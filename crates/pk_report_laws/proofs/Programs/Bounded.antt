@@ -1,0 +1,105 @@
+-- What a visit knows keeps to what is told of its point.
+use Rattle.std.specs.Prelude.{◌≡◌, ℕ, suc, ◌+◌, ◌*◌, ◌/◌, ◌%◌, ◌==◌, Bool, true, false, if◌then◌else◌, ℤ, pos, neg_ℤ, ◌+ℤ◌, ◌-ℤ◌, List, [], ◌∷◌, map, slice_get, Option, Some, None, option_map}
+use Rattle.std.specs.List.{AllZip}
+use Rattle.std.proofs.Common.{◌∙◌, ap, refl, sym, subst, arith}
+use Rattle.std.proofs.lemmas.Bool.Decides.{nat_tests}
+use Rattle.std.proofs.lemmas.Int.{ints}
+use Rattle.std.proofs.lemmas.List.{get_or_default}
+use Rattle.std.proofs.lemmas.Option.{slice_get-map}
+use Rattle.pk_graph.specs.Graphs.{GraphOf, point_at}
+use Rattle.pk_graph.specs.Steps.{Numbers, number_at}
+use Rattle.pk_graph.specs.Stores.{Stored, numbers_of}
+use Rattle.pk_value.specs.Known.{IsOf}
+use Rattle.pk_octmat.specs.Bounds.{AtMost}
+use Rattle.pk_octmat.specs.Octagon.{entry, side, Meets}
+use Rattle.pk_state.specs.Layouts.{Layout, place_in}
+use Rattle.pk_state.specs.Facts.{Facts, known_at}
+use Rattle.pk_state.specs.Members.{number_if, selected}
+use Rattle.pk_sound.specs.Held.{Agrees, AgreesWith}
+use Rattle.pk_meaning.specs.Runs.{Known}
+use Rattle.pk_visits.specs.GraphVisits.{known_of, visit_at}
+use Rattle.pk_report_laws.specs.Programs.ToldOfPrograms.{IsKnownAs, IsPlacedAt, AreBounded, IsToldAt, IsToldIf}
+
+-- ---- ranges and classes
+
+known_as : (g : GraphOf) (l : Layout) (f : Facts) (s : Stored) (x : ℕ) → AgreesWith l f s → IsKnownAs g f x (known_of g s x)
+known_as g l f s x h = record {
+  name = refl;
+  numbers = λ i d below. subst (IsOf (known_at f.values x)) (get_or_default (numbers_of s x) i (pos 0) d below) (h.values x i below);
+}
+
+all_known : (g : GraphOf) (l : Layout) (f : Facts) (s : Stored) (xs : List ℕ) → AgreesWith l f s → AllZip (IsKnownAs g f) xs (map (known_of g s) xs)
+all_known g l f s [] h = tt
+all_known g l f s (x ∷ xs) h = (known_as g l f s x h, all_known g l f s xs h)
+
+-- ---- the octagon
+
+first_side : (x : ℕ → ℤ) (k : ℕ) → side x (2 * k) ≡ x k
+first_side x k =
+    let even : ((2 * k) % 2 == 0) ≡ true = grind (arith, nat_tests) in
+    let half : (2 * k) / 2 ≡ k = omega arith in
+    rw even (ap x half)
+
+second_side : (x : ℕ → ℤ) (k : ℕ) → side x (2 * k + 1) ≡ neg_ℤ (x k)
+second_side x k =
+    let odd : ((2 * k + 1) % 2 == 0) ≡ false = grind (arith, nat_tests) in
+    let half : (2 * k + 1) / 2 ≡ k = omega arith in
+    rw odd (ap (λ i. neg_ℤ (x i)) half)
+
+sum_is : (x y : ℤ) → (x -ℤ neg_ℤ y) ≡ (x +ℤ y)
+sum_is x y = omega (arith, ints)
+
+negated_is : (x y : ℤ) → (neg_ℤ x -ℤ y) ≡ ((pos 0 -ℤ x) -ℤ y)
+negated_is x y = omega (arith, ints)
+
+-- the bounds of numbers k and m
+bounded : (e : ℕ → ℕ → Option ℤ) (v : ℕ → ℤ) (k m : ℕ) → Meets e v → AreBounded e k m (v k) (v m)
+bounded e v k m h =
+    let at : (i j : ℕ) (a b c : ℤ) → side v j ≡ a → side v i ≡ b → (a -ℤ b) ≡ c → AtMost (Some c) (e i j) = λ i j a b c first second is.
+    subst (λ z. AtMost (Some z) (e i j)) (ap (λ z. z -ℤ side v i) first ∙ ap (λ z. a -ℤ z) second ∙ is) (h.each i j) in
+    record {
+      minus = at (2 * m) (2 * k) (v k) (v m) (v k -ℤ v m) (first_side v k) (first_side v m) refl;
+      turned = at (2 * k) (2 * m) (v m) (v k) (v m -ℤ v k) (first_side v m) (first_side v k) refl;
+      plus = at (2 * m + 1) (2 * k) (v k) (neg_ℤ (v m)) (v k +ℤ v m) (first_side v k) (second_side v m) (sum_is (v k) (v m));
+      negated = at (2 * m) (2 * k + 1) (neg_ℤ (v k)) (v m) ((pos 0 -ℤ v k) -ℤ v m) (second_side v k) (first_side v m) (negated_is (v k) (v m));
+    }
+
+-- a variable stands at its place
+placed_there : (ys : List ℕ) (x k : ℕ) → place_in ys x ≡ Some k → slice_get ys k ≡ Some x
+placed_there [] x k h = cc
+placed_there (y ∷ ys) x k h = by (placed_there ys x) (y == x) refl h
+  where
+    later : ((j : ℕ) → place_in ys x ≡ Some j → slice_get ys j ≡ Some x) → (o : Option ℕ) → place_in ys x ≡ o → option_map suc o ≡ Some k → slice_get (y ∷ ys) k ≡ Some x
+    later more None e is = cc
+    later more (Some j) e is =
+        let next : suc j ≡ k = cc in
+        subst (λ i. slice_get (y ∷ ys) i ≡ Some x) next (more j e)
+
+    by : ((j : ℕ) → place_in ys x ≡ Some j → slice_get ys j ≡ Some x) → (b : Bool) → (y == x) ≡ b → (if b then Some 0 else option_map suc (place_in ys x)) ≡ Some k → slice_get (y ∷ ys) k ≡ Some x
+    by more true e is =
+        let first : 0 ≡ k = cc in
+        let same : y ≡ x = grind (arith, nat_tests) in
+        subst (λ i. slice_get (y ∷ ys) i ≡ Some x) first (ap (λ z. Some z) same)
+    by more false e is = later more (place_in ys x) refl is
+
+-- the number of an octagon's variable is the one that a visit knows
+number_is : (g : GraphOf) (l : Layout) (p : ℕ) (s : Stored) (i k : ℕ) (z : ℤ) → IsPlacedAt g l p (visit_at g p s) i k z → selected l.chosen s k ≡ z
+number_is g l p s i k z h =
+    let numbers : Some (numbers_of s h.variable) ≡ Some (z ∷ []) =
+    sym (ap (λ (o : Option Known). option_map (λ (n : Known). n.numbers) o) (slice_get-map (known_of g s) (point_at g p).scope i ∙ ap (option_map (known_of g s)) h.in_scope)) ∙ h.holds in
+    let one : numbers_of s h.variable ≡ z ∷ [] = cc in
+    ap (number_if s) (placed_there l.chosen h.variable k h.place) ∙ ap (λ (zs : Numbers). number_at zs 0) one
+
+told_at : (g : GraphOf) (l : Layout) (f : Facts) (p : ℕ) (s : Stored) → AgreesWith l f s → IsToldAt g l f p (visit_at g p s)
+told_at g l f p s h = record {
+  path = refl;
+  place = refl;
+  values = all_known g l f s (point_at g p).scope h;
+  pairs = λ i j k m x y first second.
+      subst (λ b. AreBounded (entry f.octagon) k m x b) (number_is g l p s j m y second)
+      (subst (λ a. AreBounded (entry f.octagon) k m a (selected l.chosen s m)) (number_is g l p s i k x first) (bounded (entry f.octagon) (selected l.chosen s) k m h.octagon));
+}
+
+pub store_told : (g : GraphOf) (l : Layout) (f : Option Facts) (p : ℕ) (s : Stored) → Agrees l f s → IsToldIf g l f p (visit_at g p s)
+store_told g l None p s h = h
+store_told g l (Some f) p s h = told_at g l f p s h

@@ -1,0 +1,130 @@
+-- From runs of a program to runs of its graph, and to what is told of it.
+use Rattle.std.specs.Prelude.{◌≡◌, ◌⊎◌, ℕ, ◌<◌, Bool, true, false, if◌then◌else◌, List, ◌∷◌, length, All, Contains, Option, Some, None}
+use Rattle.std.proofs.Common.{refl, sym, subst, inl, inr}
+use Rattle.std.proofs.lemmas.List.Elements.{All-nil, All-cons, All-get_or, All-contains}
+use Rattle.pk_graph.specs.declared.verdicts.Verdict.TheVariants.{Unknown}
+use Rattle.pk_graph.specs.Accesses.{AccessOf, of_instr}
+use Rattle.pk_graph.specs.Graphs.{EdgeOf, GraphOf, no_point, point_at, kinds_of}
+use Rattle.pk_graph.specs.declared.trees.Site.{Site}
+use Rattle.pk_graph.specs.Trees.{InstrOf, Skip, Set, Havoc, Clear, Load, Store, Guard, Check}
+use Rattle.pk_graph.specs.Steps.{Failure, is_index}
+use Rattle.pk_graph.specs.Stores.{Stored}
+use Rattle.pk_graph.specs.WellMade.{IsGraph, IsPointOf, IsEdgeOf}
+use Rattle.pk_state.specs.Facts.{Stated}
+use Rattle.pk_sound.specs.Runs.{Reaches, begins, steps as step_of}
+use Rattle.pk_report.specs.Reports.{state_at}
+use Rattle.pk_sound.specs.Faults.{IsHidden, IsFailing}
+use Rattle.pk_report_laws.specs.Runs.True.{AreTrueOf, IsUnknownIn}
+use Rattle.pk_meaning.specs.Programs.{Program}
+use Rattle.pk_meaning.specs.Runs.{Visit}
+use Rattle.pk_visits.specs.GraphVisits.{GraphRuns, ends, steps, is_visit, visit_at, visits_if}
+use Rattle.pk_visits.specs.SameVisits.{GraphVisits, HaveSameVisits, FailsAt, EndsAt, IsInside}
+use Rattle.pk_report_laws.specs.Programs.ToldOfPrograms.{IsToldOf, IsToldVisit, AreToldAlong, ends as no_more, seen, passed, AreToldInOrder, IsToldFault, IsToldEnd, IsTrueOfProgram}
+use Rattle.pk_verdict.specs.Verdicts.{verdict_of}
+use Rattle.pk_sound.proofs.Accesses.{IsAccessAt, in_instr}
+use Rattle.pk_visits_laws.specs.Ways.OneWay.{SharesAccesses}
+use Rattle.pk_report_laws.proofs.Programs.Bounded.{store_told}
+use Rattle.pk_report_laws.proofs.Programs.Listed.{listed_access}
+
+-- an index that lies inside doesn't fault
+not_inside : (b : Bool) → b ≡ true → b ≡ false → ⊥
+not_inside b left right = cc
+
+not_hidden : (i : InstrOf ℕ) (at : Site) (s : Stored) → IsInside i s → IsHidden i at s → ⊥
+not_hidden Skip at s inside h = h
+not_hidden (Set x e) at s inside h = h
+not_hidden (Havoc x t n) at s inside h = h
+not_hidden (Clear a) at s inside h = h
+not_hidden (Load x a place b i) at s inside h = not_inside (is_index a.length h.2) (inside h.0 h.2 h.3) h.4
+not_hidden (Store a place b i e) at s inside h = not_inside (is_index a.length h.2) (inside h.0 h.2 h.3) h.4
+not_hidden (Guard e b) at s inside h = h
+not_hidden (Check place e) at s inside h = h
+
+module _ (g : GraphOf) (states : List Stated) (made : IsGraph g) (t : AreTrueOf g states) (share : (p : ℕ) → SharesAccesses p (point_at g p).edges) where
+  -- a run comes to points of the graph alone
+  there : (v : ℕ) (s : Stored) → Reaches g v s → v < length g.points
+  there v s (begins h) = made.entry
+  there v r (step_of {p = p} {s = s} {t = q} {e = e} chosen h has goes) =
+      let point = All-get_or (IsPointOf g) g.points p no_point (there p s h) made.points in
+      (All-contains (IsEdgeOf g) (point_at g p).edges e point.edges has).leads_to_a_point
+
+  told_of : (v : ℕ) (s : Stored) → Reaches g v s → IsToldOf g states v (visit_at g v s)
+  told_of v s h = store_told g (state_at states v).layout (state_at states v).facts v s (t.holds v s h)
+
+  told : (v : ℕ) (s : Stored) → Reaches g v s → IsToldVisit g states (visit_at g v s)
+  told v s h = record { point = v; there = there v s h; told = told_of v s h }
+
+  told_if : (e : EdgeOf) (s : Stored) (vs : List Visit) → Reaches g e.to s → All (IsToldVisit g states) vs → All (IsToldVisit g states) (visits_if g e s vs)
+  told_if e s vs h all = by (is_visit g e)
+    where
+      by : (b : Bool) → All (IsToldVisit g states) (if b then visit_at g e.to s ∷ vs else vs)
+      by true = All-cons (IsToldVisit g states) (visit_at g e.to s) vs (told e.to s h) all
+      by false = all
+
+  reached : (p : ℕ) (s : Stored) (vs : List Visit) (q : ℕ) (r : Stored) → GraphRuns g p s vs q r → Reaches g p s → All (IsToldVisit g states) vs × Reaches g q r
+  reached p s vs q r ends h = (All-nil (IsToldVisit g states), h)
+  reached p s ws q r (steps {t = u} {e = e} {vs = vs} chosen has goes rest) h =
+      let next = step_of chosen h has goes in
+      let more = reached e.to u vs q r rest next in
+      (told_if e u vs next more.0, more.1)
+
+  -- one edge more
+  along_if : (p : ℕ) (e : EdgeOf) (s : Stored) (vs : List Visit) → Contains (point_at g p).edges e → Reaches g e.to s → AreToldAlong g states e.to vs → AreToldAlong g states p (visits_if g e s vs)
+  along_if p e s vs has h more = by (is_visit g e) refl
+    where
+      by : (b : Bool) → is_visit g e ≡ b → AreToldAlong g states p (if b then visit_at g e.to s ∷ vs else vs)
+      by true is = seen has is (told_of e.to s h) more
+      by false is = passed has is more
+
+  along : (p : ℕ) (s : Stored) (vs : List Visit) (q : ℕ) (r : Stored) → GraphRuns g p s vs q r → Reaches g p s → AreToldAlong g states p vs
+  along p s vs q r ends h = no_more
+  along p s ws q r (steps {t = u} {e = e} {vs = vs} chosen has goes rest) h =
+      let next = step_of chosen h has goes in
+      along_if p e u vs has next (along e.to u vs q r rest next)
+
+  walked : (visits : List Visit) (end : Option Failure) → GraphVisits g visits end → AreToldInOrder g states visits
+  walked visits end x = record {
+    first = visit_at g 0 x.first;
+    others = x.others;
+    visits_are = x.visits_are;
+    begins = told_of 0 x.first (begins x.begins);
+    goes_on = along 0 x.first x.others x.point x.last x.runs (begins x.begins);
+  }
+
+  failing : (p : ℕ) (s : Stored) (f : Failure) → Reaches g p s → FailsAt g p s f → IsToldFault g states f
+  failing p s f h x = by (t.faults p s x.edge x.chosen f h x.there x.fails)
+    where
+      by : ((a : AccessOf) × IsFailing p x.edge.instr f s a × IsUnknownIn states p a) ⊎ IsHidden x.edge.instr f.site s → IsToldFault g states f
+      by (inl (a, is, (lo, hi, unknown))) =
+          let point = All-get_or (IsPointOf g) g.points p no_point (there p s h) made.points in
+          let edge = All-contains (IsEdgeOf g) (point_at g p).edges x.edge point.edges x.there in
+          let at = (All-contains (IsAccessAt (kinds_of g) p) (of_instr p x.edge.instr) a (in_instr (kinds_of g) p x.edge.instr edge.typed) is.listed).point in
+          record {
+            access = a;
+            listed = listed_access g p x.edge a (there p s h) x.there (share p) is.listed;
+            place = is.site;
+            kind = is.fault;
+            lo = lo;
+            hi = hi;
+            unknown = subst (λ (v : ℕ). verdict_of (state_at states v).layout (state_at states v).facts a.operation ≡ Unknown lo hi) (sym at) unknown;
+          }
+      by (inr hidden) = absurd (not_hidden x.edge.instr f.site s x.inside hidden)
+
+  ended : (p : ℕ) (s : Stored) (end : Option Failure) → Reaches g p s → EndsAt g p s end → IsToldEnd g states end
+  ended p s None h x = tt
+  ended p s (Some f) h x = failing p s f h x
+
+  of_graph : (visits : List Visit) (end : Option Failure) → GraphVisits g visits end → All (IsToldVisit g states) visits × IsToldEnd g states end
+  of_graph visits end x =
+      let first = begins x.begins in
+      let all = reached 0 x.first x.others x.point x.last x.runs first in
+      (subst (All (IsToldVisit g states)) (sym x.visits_are) (All-cons (IsToldVisit g states) (visit_at g 0 x.first) x.others (told 0 x.first first) all.0), ended x.point x.last end all.1 x.ends)
+
+pub true_of : (g : GraphOf) (states : List Stated) (p : Program) → IsGraph g → AreTrueOf g states → ((v : ℕ) → SharesAccesses v (point_at g v).edges) → HaveSameVisits p g → IsTrueOfProgram p g states
+true_of g states p made t share same = record {
+  runs = same;
+  points = t;
+  walks = λ visits end x. walked g states made t share visits end (same.forward visits end x);
+  visits = λ visits end x. (of_graph g states made t share visits end (same.forward visits end x)).0;
+  faults = λ visits end x. (of_graph g states made t share visits end (same.forward visits end x)).1;
+}

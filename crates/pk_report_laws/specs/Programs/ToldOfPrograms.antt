@@ -1,0 +1,116 @@
+-- What a report tells is true of every run of the C program.
+use Rattle.std.specs.Prelude.{◌≡◌, ℕ, ◌<◌, ◌^◌, ℤ, pos, ◌+ℤ◌, ◌-ℤ◌, true, false, List, [], ◌∷◌, length, slice_get, Contains, All, Option, Some, None, option_map}
+use Rattle.std.specs.List.{AllZip}
+use Rattle.pk_graph.specs.declared.verdicts.Verdict.TheVariants.{Unknown}
+use Rattle.pk_graph.specs.Accesses.{AccessOf, accesses_of, fault_of}
+use Rattle.pk_graph.specs.Graphs.{EdgeOf, GraphOf, point_at}
+use Rattle.pk_graph.specs.Steps.{Failure}
+use Rattle.pk_value.specs.Known.{IsOf}
+use Rattle.pk_octmat.specs.Bounds.{AtMost}
+use Rattle.pk_octmat.specs.Octagon.{entry}
+use Rattle.pk_state.specs.Layouts.{Layout, place_in}
+use Rattle.pk_state.specs.Facts.{Facts, Stated, known_at}
+use Rattle.pk_plan.specs.Plans.{PlanView}
+use Rattle.pk_analysis.specs.declared.analysis.Options.{Options}
+use Rattle.pk_report.specs.Values.{name_of, bounds_of}
+use Rattle.pk_report.specs.Reports.{state_at}
+use Rattle.pk_graph_report.specs.Reported.{AreStates, verdict_at}
+use Rattle.pk_meaning.specs.Programs.{Program}
+use Rattle.pk_meaning.specs.Runs.{Known, Visit}
+use Rattle.pk_visits.specs.GraphVisits.{is_visit}
+use Rattle.pk_visits.specs.SameVisits.{ProgramVisits, HaveSameVisits}
+use Rattle.pk_report_laws.specs.Runs.True.{AreTrueOf}
+use Rattle.pk_text_report.specs.Answers.{HasGraph}
+
+-- ---- visits
+
+-- What a visit knows of a name is what the line of its variable tells, `NAME [lo,hi] mZ+r`: each number lies in the range and in the class.
+pub record IsKnownAs (g : GraphOf) (f : Facts) (variable : ℕ) (k : Known) : Type 0 where
+  pub name : name_of g variable ≡ k.name
+  pub numbers : All (IsOf (known_at f.values variable)) k.numbers
+
+-- name i of a visit of the point is that of variable k of the octagon, and holds z
+pub record IsPlacedAt (g : GraphOf) (l : Layout) (point : ℕ) (v : Visit) (i k : ℕ) (z : ℤ) : Type 0 where
+  pub variable : ℕ
+  pub in_scope : slice_get (point_at g point).scope i ≡ Some variable
+  pub place : place_in l.chosen variable ≡ Some k
+  pub holds : option_map (λ (n : Known). n.numbers) (slice_get v.known i) ≡ Some (z ∷ [])
+
+-- The numbers of variables k and m keep to the bounds of the four forms of them, `x - y <= c`, `y - x <= c`, `x + y <= c` and `-x - y <= c`.
+pub record AreBounded (bound : ℕ → ℕ → Option ℤ) (k m : ℕ) (x y : ℤ) : Type 0 where
+  pub minus : AtMost (Some (x -ℤ y)) (bounds_of bound k m).minus
+  pub turned : AtMost (Some (y -ℤ x)) (bounds_of bound k m).turned
+  pub plus : AtMost (Some (x +ℤ y)) (bounds_of bound k m).plus
+  pub negated : AtMost (Some ((pos 0 -ℤ x) -ℤ y)) (bounds_of bound k m).negated
+
+-- A visit of a point: its path and its place are the point's, its names, newest first, are those of the variables in scope there, and their numbers keep to the lines of the variables and of their pairs.
+pub record IsToldAt (g : GraphOf) (l : Layout) (f : Facts) (point : ℕ) (v : Visit) : Type 0 where
+  pub path : (point_at g point).path ≡ v.path
+  pub place : (point_at g point).at ≡ v.at
+  pub values : AllZip (IsKnownAs g f) (point_at g point).scope v.known
+  pub pairs : (i j k m : ℕ) (x y : ℤ) → IsPlacedAt g l point v i k x → IsPlacedAt g l point v j m y → AreBounded (entry f.octagon) k m x y
+
+-- no visit is of a point that is told as unreachable
+abbrev pub IsToldIf : GraphOf → Layout → Option Facts → ℕ → Visit → Type 0
+IsToldIf g l None point v = ⊥
+IsToldIf g l (Some f) point v = IsToldAt g l f point v
+
+-- a visit keeps to what is told of the point
+abbrev pub IsToldOf : GraphOf → List Stated → ℕ → Visit → Type 0
+IsToldOf g states point v = IsToldIf g (state_at states point).layout (state_at states point).facts point v
+
+pub record IsToldVisit (g : GraphOf) (states : List Stated) (v : Visit) : Type 0 where
+  pub point : ℕ
+  pub there : point < length g.points
+  pub told : IsToldOf g states point v
+
+-- Visits along edges from a point: the end of each edge is one, told there, unless the edge writes a variable that isn't in scope at its end.
+pub data AreToldAlong (g : GraphOf) (states : List Stated) : ℕ → List Visit → Type 0 where
+  ends : {p : ℕ} → AreToldAlong g states p []
+  seen : {p : ℕ} {e : EdgeOf} {v : Visit} {vs : List Visit} → Contains (point_at g p).edges e → is_visit g e ≡ true → IsToldOf g states e.to v → AreToldAlong g states e.to vs → AreToldAlong g states p (v ∷ vs)
+  passed : {p : ℕ} {e : EdgeOf} {vs : List Visit} → Contains (point_at g p).edges e → is_visit g e ≡ false → AreToldAlong g states e.to vs → AreToldAlong g states p vs
+
+-- The visits are those of a walk of the graph from point 0, each told of the point at which the walk is.
+pub record AreToldInOrder (g : GraphOf) (states : List Stated) (visits : List Visit) : Type 0 where
+  pub first : Visit
+  pub others : List Visit
+  pub visits_are : visits ≡ first ∷ others
+  pub begins : IsToldOf g states 0 first
+  pub goes_on : AreToldAlong g states 0 others
+
+-- ---- faults
+
+-- A fault has a line, `access PATH L:C KIND unknown [lo,hi]`: an access of the graph with its calls, its place and its kind, whose verdict is unknown.
+pub record IsToldFault (g : GraphOf) (states : List Stated) (f : Failure) : Type 0 where
+  pub access : AccessOf
+  pub listed : Contains (accesses_of g) access
+  pub place : access.site ≡ f.site
+  pub kind : fault_of access.operation ≡ f.fault
+  pub lo : ℤ
+  pub hi : ℤ
+  pub unknown : verdict_at states access ≡ Unknown lo hi
+
+abbrev pub IsToldEnd : GraphOf → List Stated → Option Failure → Type 0
+IsToldEnd g states None = Unit {0}
+IsToldEnd g states (Some f) = IsToldFault g states f
+
+-- ---- runs
+
+-- The program and its graph have the same visits, and no run of the graph leaves what is told of the points that it comes to.
+-- So each visit of each run is told, and the fault at its end if there is one. Several points can have one place: the walk along the graph's edges tells which of them a visit is at.
+pub record IsTrueOfProgram (p : Program) (g : GraphOf) (states : List Stated) : Type 0 where
+  pub runs : HaveSameVisits p g
+  pub points : AreTrueOf g states
+  pub walks : (visits : List Visit) (end : Option Failure) → ProgramVisits p visits end → AreToldInOrder g states visits
+  pub visits : (visits : List Visit) (end : Option Failure) → ProgramVisits p visits end → All (IsToldVisit g states) visits
+  pub faults : (visits : List Visit) (end : Option Failure) → ProgramVisits p visits end → IsToldEnd g states end
+
+-- the program that a text is, with its call paths
+abbrev pub program_of : {text entry : List ℕ} {g : GraphOf} → HasGraph text entry g → Program
+program_of h = record { unit = h.unit; paths = h.paths }
+
+-- The states that are told of a text's graph are true of every run of the program that the text is.
+abbrev pub ReportsAreTrueOfPrograms : Type 0
+ReportsAreTrueOfPrograms =
+    (text entry : List ℕ) (g : GraphOf) (h : HasGraph text entry g) (o : Options) (most : ℕ) (p : PlanView) (states : List Stated) → o.oct < 2 ^ 31 → AreStates g o most p states
+    → IsTrueOfProgram (program_of h) g states

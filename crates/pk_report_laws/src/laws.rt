@@ -1,0 +1,39 @@
+// Laws of reports.
+
+ghost use Rattle.pk_report_laws.specs.Runs.True.{AnswersAreTrue, ReportsAreTrue};
+ghost use Rattle.pk_report_laws.specs.Programs.ToldOfPrograms.{ReportsAreTrueOfPrograms};
+
+use pk_sound::{faults_are_unknown, result_holds_runs, verdicts_hold};
+use pk_text_report::graphs_are_well_made;
+use pk_type_laws::units_are_marked;
+use pk_visits_laws::{graphs_have_program_visits, points_share_accesses};
+use pk_welltyped_texts::texts_are_well_typed;
+
+/// The states that a report tells of a graph hold each of its runs, and the verdicts are right.
+pub fn reports_are_true()
+    ensures { ReportsAreTrue }
+{
+    result_holds_runs();
+    verdicts_hold();
+    faults_are_unknown();
+}
+
+/// So do those of the report on a text.
+pub fn answers_are_true()
+    ensures { AnswersAreTrue }
+{
+    reports_are_true();
+    graphs_are_well_made();
+}
+
+/// What is told of a text's graph holds each visit of each run of the program, and each fault has a line that says unknown.
+pub fn reports_are_true_of_programs()
+    ensures { ReportsAreTrueOfPrograms }
+{
+    texts_are_well_typed();
+    units_are_marked();
+    graphs_are_well_made();
+    reports_are_true();
+    graphs_have_program_visits();
+    points_share_accesses();
+}

@@ -1,6 +1,0 @@
-//! A program and its graph have the same visits.
-#![tactic(auto)]
-
-mod laws;
-
-pub use laws::graphs_have_program_visits;

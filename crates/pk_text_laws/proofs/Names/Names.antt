@@ -1,0 +1,66 @@
+-- Reading a text token by token, each name stands in it.
+use Rattle.std.proofs.Common.{◌≡◌, ℕ, ◌+◌, ◌-◌, ◌≤◌, List, [], ◌∷◌, ◌++◌, Some, length, refl, ap, sym, subst, ◌∙◌, arith, length-append, append_assoc}
+use Rattle.std.proofs.Math.Seq.{drop-append_seam, take-append_seam}
+use Rattle.std.specs.Prelude.{take, drop, slice_range}
+use Rattle.pk_ctypes.specs.Places.{start_of_text, after_bytes}
+use Rattle.pk_lex.specs.declared.token.Kind.{Kind}
+use Rattle.pk_lex.specs.declared.token.Kind.TheVariants as kind
+use Rattle.pk_lex.specs.declared.token.Token.{Token}
+use Rattle.pk_lex.specs.Kinds.{kind_of}
+use Rattle.pk_lex.specs.Tokens.{IsToken, longest, directive, Reads, nothing, past_white, past_token, token_of, IsLexed}
+use Rattle.pk_ast.specs.declared.expressions.Identifier.{Identifier}
+use Rattle.pk_ast.specs.Names.{names_of}
+use Rattle.pk_ast.specs.Trees.{ExternalTree}
+use Rattle.pk_grammar.specs.Languages.{identifier_of}
+use Rattle.pk_grammar.specs.Names.{name_of, names_among, NamesAreTokens}
+use Rattle.pk_grammar.specs.Outcomes.{IsParsed}
+use Rattle.pk_text_laws.specs.Names.Laws.{StandsIn, AllStandIn, NamesStandInTexts}
+
+-- the bytes of a word between others
+word_of : (front word after : List ℕ) → slice_range (front ++ word ++ after) (length front) (length front + length word) ≡ word
+word_of front word after =
+    let less : length front + length word - length front ≡ length word = omega arith in
+    let whole : front ++ word ++ after ≡ front ++ (word ++ after) = append_assoc front word after in
+    let rest : drop (length front) (front ++ word ++ after) ≡ word ++ after = ap (drop (length front)) whole ∙ drop-append_seam front (word ++ after) in
+    ap (λ (n : ℕ). take n (drop (length front) (front ++ word ++ after))) less ∙ (ap (take (length word)) rest ∙ take-append_seam word after)
+
+before_of : (front word after : List ℕ) → take (length front) (front ++ word ++ after) ≡ front
+before_of front word after = ap (take (length front)) (append_assoc front word after) ∙ take-append_seam front (word ++ after)
+
+stands : (front word after : List ℕ) (k : Kind) → kind_of word ≡ Some kind.Name → StandsIn (front ++ word ++ after) (identifier_of (token_of front word k))
+stands front word after k is = record {
+  begins = omega arith;
+  ends = omega (length-append (front ++ word) after, length-append front word, arith);
+  is_name = ap kind_of (word_of front word after) ∙ is;
+  place = ap (after_bytes start_of_text) (sym (before_of front word after));
+}
+
+-- a name at a token, and those behind it
+one : (front word after : List ℕ) (k : Kind) (xs : List Identifier) → IsToken front word after k → AllStandIn (front ++ word ++ after) xs → AllStandIn (front ++ word ++ after) (name_of k (identifier_of (token_of front word k)) ++ xs)
+one front word after kind.Name xs (longest _ _ _ is) h = (stands front word after kind.Name is, h)
+one front word after (kind.Keyword x) xs t h = h
+one front word after (kind.Constant x v) xs t h = h
+one front word after (kind.Character v) xs t h = h
+one front word after kind.StringLiteral xs t h = h
+one front word after kind.Floating xs t h = h
+one front word after kind.Directive xs t h = h
+one front word after (kind.Punctuator p) xs t h = h
+one front word after kind.End xs t h = h
+
+none_at_end : (text : List ℕ) → AllStandIn text (names_among (token_of text [] kind.End ∷ []))
+none_at_end text = tt
+
+among : (text : List ℕ) {front rest end back : List ℕ} {ts : List Token} → Reads front rest ts end back → front ++ rest ≡ text → (more : List Token) → AllStandIn text (names_among more) → AllStandIn text (names_among (ts ++ more))
+among text nothing is more h = h
+among text (past_white {front = front} {piece = piece} {after = after} e w r) is more h =
+    among text r (append_assoc front piece after ∙ (ap (λ (l : List ℕ). front ++ l) (sym e) ∙ is)) more h
+among text (past_token {front = front} {word = word} {after = after} {k = k} {tokens = ts} e t r) is more h =
+    let whole : front ++ word ++ after ≡ text = append_assoc front word after ∙ (ap (λ (l : List ℕ). front ++ l) (sym e) ∙ is) in
+    let rest = among text r whole more h in
+    let xs = names_among (ts ++ more) in
+    subst (λ (l : List ℕ). AllStandIn l (name_of k (identifier_of (token_of front word k)) ++ xs)) whole (one front word after k xs t (subst (λ (l : List ℕ). AllStandIn l xs) (sym whole) rest))
+
+pub names_stand : (names : NamesAreTokens) → NamesStandInTexts
+names_stand names text tokens trees (words, (e, r)) p =
+    let all : AllStandIn text (names_among (words ++ token_of text [] kind.End ∷ [])) = among text r refl (token_of text [] kind.End ∷ []) (none_at_end text) in
+    subst (AllStandIn text) (sym (names tokens trees p ∙ ap names_among e)) all

@@ -1,0 +1,216 @@
+-- What is answered to the words and a text.
+use Rattle.std.specs.Prelude.{◌≡◌, ◌⊎◌, ℕ, ◌<◌, ◌≤◌, ◌++◌, List, [], codes, length, map, false, Option, Some}
+use Rattle.pk_ctypes.specs.declared.words.Quantity.{Quantity}
+use Rattle.pk_ctypes.specs.declared.words.Quantity.TheVariants.{Text, Points}
+use Rattle.pk_command.specs.declared.asked.RunOptions.{RunOptions}
+use Rattle.pk_command.specs.declared.asked.OrderOptions.{OrderOptions}
+use Rattle.pk_command.specs.declared.asked.GenOptions.{GenOptions}
+use Rattle.pk_command.specs.declared.asked.Command.{Command}
+use Rattle.pk_command.specs.declared.asked.Command.TheVariants.{Run, Order, Gen}
+use Rattle.pk_command.specs.CommandLine.{is_taken}
+use Rattle.pk_command.specs.Given.{AsksFor}
+use Rattle.pk_typed.specs.Trees.{UnitTree}
+use Rattle.pk_calls.specs.declared.listings.CallPath.{CallPath}
+use Rattle.pk_front.specs.declared.status.Status.{Status}
+use Rattle.pk_front.specs.declared.status.Status.TheVariants.{Ok, Usage, Refused, Limit, RunLimit, ReadFault, WriteFault, Memory}
+use Rattle.pk_front.specs.Texts.{HasPaths, IsLeft}
+use Rattle.pk_graph.specs.Graphs.{GraphOf}
+use Rattle.pk_graph.specs.WellMade.{IsGraph}
+use Rattle.pk_draft.specs.Drafts.{by_number}
+use Rattle.pk_lower.specs.Parts.{point_count, program_draft}
+use Rattle.pk_lower.specs.Paths.{path_of}
+use Rattle.pk_number.specs.Numbering.{numbered}
+use Rattle.pk_analysis.specs.declared.analysis.Options.{Options}
+use Rattle.pk_graph_report.specs.Reported.{IsReport, IsSummary, IsOrderText, IsOver}
+use Rattle.pk_gen.specs.Generator.{generated}
+
+-- the greatest numbers of bytes of a text and of points of a graph
+abbrev pub text_limit : ℕ
+text_limit = 4194304
+
+abbrev pub point_limit : ℕ
+point_limit = 65536
+
+-- ---- graphs of texts
+
+-- the graph of a typed text with these call paths: its draft, numbered
+abbrev pub graph_of : UnitTree → List CallPath → GraphOf
+graph_of u paths = numbered (map (path_of u paths) paths) (program_draft by_number u paths)
+
+-- the graph of a text whose runs begin with this function
+pub record HasGraph (text entry : List ℕ) (g : GraphOf) : Type 0 where
+  pub unit : UnitTree
+  pub paths : List CallPath
+  pub called : HasPaths text entry unit paths
+  pub few : point_count unit paths ≤ point_limit
+  pub graph : g ≡ graph_of unit paths
+
+-- it is well made
+abbrev pub GraphsAreWellMade : Type 0
+GraphsAreWellMade = (text entry : List ℕ) (g : GraphOf) → HasGraph text entry g → IsGraph g
+
+-- it would have too many points
+pub record HasManyPoints (text entry : List ℕ) : Type 0 where
+  pub unit : UnitTree
+  pub paths : List CallPath
+  pub called : HasPaths text entry unit paths
+  pub many : point_limit < point_count unit paths
+
+-- why a text has no graph: it is refused or passes a limit before its call paths are known, or has too many points
+abbrev pub HasNoGraph : (text entry : List ℕ) → Status → Type 0
+HasNoGraph text entry status = IsLeft text entry status ⊎ (HasManyPoints text entry × (status ≡ Limit Points point_limit))
+
+-- ---- commands
+
+-- how a graph is analysed where the words don't say otherwise
+abbrev pub default_options : Options
+default_options = record { narrow = 2; oct = 16 }
+
+abbrev pub default_runs : ℕ
+default_runs = 1000000
+
+abbrev pub options_of : RunOptions → Options
+options_of o = record { narrow = o.narrow; oct = o.oct }
+
+-- the text that a command is about: a made one, or what the source tells
+abbrev pub text_of : Command → Option (List ℕ) → Option (List ℕ)
+text_of (Run options) left = left
+text_of (Order options) left = left
+text_of (Gen options) left = Some (generated options.seed options.size)
+
+-- the words ask about this text; words that aren't taken about none
+abbrev pub AskAbout : List (List ℕ) → Option (List ℕ) → List ℕ → Type 0
+AskAbout words left text =
+    ((is_taken words ≡ false) × (text ≡ [])) ⊎ ((command : Command) × AsksFor words command × (text_of command left ≡ Some text))
+
+-- a command that makes its own text
+abbrev pub IsMaking : Command → Type 0
+IsMaking (Run options) = ⊥
+IsMaking (Order options) = ⊥
+IsMaking (Gen options) = Unit {0}
+
+-- the words aren't taken, or ask for such a command
+abbrev pub AskNoSource : List (List ℕ) → Type 0
+AskNoSource words = (is_taken words ≡ false) ⊎ ((command : Command) × AsksFor words command × IsMaking command)
+
+-- the report on the text's graph
+pub record IsRun (text : List ℕ) (options : RunOptions) (unknown : ℕ) (bytes : List ℕ) : Type 0 where
+  pub graph : GraphOf
+  pub has_graph : HasGraph text options.entry graph
+  pub report : IsReport graph (options_of options) options.max_runs options.points unknown bytes
+
+-- the linear order of the text's graph, as a line
+pub record IsOrder (text : List ℕ) (options : OrderOptions) (unknown : ℕ) (bytes : List ℕ) : Type 0 where
+  pub graph : GraphOf
+  pub has_graph : HasGraph text options.entry graph
+  pub line : List ℕ
+  pub order : IsOrderText graph line
+  pub told : bytes ≡ line ++ codes "\n"
+  pub none_unknown : unknown ≡ 0
+
+-- the summary of a made text
+pub record IsMade (text : List ℕ) (options : GenOptions) (unknown : ℕ) (bytes : List ℕ) : Type 0 where
+  pub graph : GraphOf
+  pub has_graph : HasGraph text (codes "main") graph
+  pub summary : IsSummary graph default_options default_runs options.seed options.size (length text) unknown bytes
+
+-- what is told of a text, and how many verdicts are unknown
+abbrev pub IsTold : (text : List ℕ) → Command → (unknown : ℕ) → List ℕ → Type 0
+IsTold text (Run options) unknown bytes = IsRun text options unknown bytes
+IsTold text (Order options) unknown bytes = IsOrder text options unknown bytes
+IsTold text (Gen options) unknown bytes = IsMade text options unknown bytes
+
+-- the function that runs begin with
+abbrev pub entry_of : Command → List ℕ
+entry_of (Run options) = options.entry
+entry_of (Order options) = options.entry
+entry_of (Gen options) = codes "main"
+
+-- some element of the text's graph would be run too often; an order runs none
+pub record IsTooLong (text entry : List ℕ) (options : Options) (max_runs : ℕ) : Type 0 where
+  pub graph : GraphOf
+  pub has_graph : HasGraph text entry graph
+  pub over : IsOver graph options max_runs
+
+abbrev pub IsCutOff : (text : List ℕ) → Command → ℕ → Type 0
+IsCutOff text (Run options) max_runs = IsTooLong text options.entry (options_of options) max_runs × (max_runs ≡ options.max_runs)
+IsCutOff text (Order options) max_runs = ⊥
+IsCutOff text (Gen options) max_runs = IsTooLong text (codes "main") default_options max_runs × (max_runs ≡ default_runs)
+
+-- a text from a source may be too long; a made one isn't asked
+abbrev pub IsShort : List ℕ → Command → Type 0
+IsShort text (Run options) = length text ≤ text_limit
+IsShort text (Order options) = length text ≤ text_limit
+IsShort text (Gen options) = Unit {0}
+
+abbrev pub IsLong : List ℕ → Command → Type 0
+IsLong text (Run options) = text_limit < length text
+IsLong text (Order options) = text_limit < length text
+IsLong text (Gen options) = ⊥
+
+-- ---- the answer
+
+-- the text is too long, or its graph has none or too many points
+abbrev pub PassesLimit : Command → List ℕ → Quantity → ℕ → Type 0
+PassesLimit command text what number =
+    (IsLong text command × (what ≡ Text) × (number ≡ text_limit)) ⊎ (IsShort text command × HasNoGraph text (entry_of command) (Limit what number))
+
+-- The reply to a command about a text, status by status. Nothing is told but a report, an order or a summary.
+abbrev pub IsReply : Command → List ℕ → Status → List ℕ → Type 0
+IsReply command text (Ok unknown) bytes = IsShort text command × IsTold text command unknown bytes
+IsReply command text Usage bytes = ⊥
+IsReply command text (Refused refusal) bytes = IsShort text command × IsLeft text (entry_of command) (Refused refusal) × (bytes ≡ [])
+IsReply command text (Limit what number) bytes = PassesLimit command text what number × (bytes ≡ [])
+IsReply command text (RunLimit max_runs) bytes = IsShort text command × IsCutOff text command max_runs × (bytes ≡ [])
+IsReply command text ReadFault bytes = ⊥
+IsReply command text (WriteFault sent) bytes = ⊥
+IsReply command text Memory bytes = ⊥
+
+-- words that aren't taken
+pub record IsUsage (words : List (List ℕ)) (status : Status) (bytes : List ℕ) : Type 0 where
+  pub refused : is_taken words ≡ false
+  pub status_is : status ≡ Usage
+  pub nothing : bytes ≡ []
+
+-- the reply to the command that the words ask for
+pub record Replies (words : List (List ℕ)) (text : List ℕ) (status : Status) (bytes : List ℕ) : Type 0 where
+  pub command : Command
+  pub asked : AsksFor words command
+  pub reply : IsReply command text status bytes
+
+-- the answer to the words and the text that they ask about
+abbrev pub IsAnswer : List (List ℕ) → List ℕ → Status → List ℕ → Type 0
+IsAnswer words text status bytes = IsUsage words status bytes ⊎ Replies words text status bytes
+
+-- ---- without a report
+
+-- a command about a text ends so without telling anything, or for want of memory
+abbrev pub IsStopped : List ℕ → Command → Status → Type 0
+IsStopped text command (Ok unknown) = ⊥
+IsStopped text command Usage = ⊥
+IsStopped text command (Refused refusal) = IsLeft text (entry_of command) (Refused refusal)
+IsStopped text command (Limit what number) = HasNoGraph text (entry_of command) (Limit what number)
+IsStopped text command (RunLimit max_runs) = IsCutOff text command max_runs
+IsStopped text command ReadFault = ⊥
+IsStopped text command (WriteFault sent) = ⊥
+IsStopped text command Memory = Unit {0}
+
+-- ---- laws
+
+-- there is at most one answer
+abbrev pub OneAnswer : Type 0
+OneAnswer = (words : List (List ℕ)) (text : List ℕ) (s t : Status) (a b : List ℕ) →
+    IsAnswer words text s a → IsAnswer words text t b → (s ≡ t) × (a ≡ b)
+
+-- two runs asked for, alike but for the number of workers
+pub record DifferInWorkers (a b : RunOptions) : Type 0 where
+  pub narrow : a.narrow ≡ b.narrow
+  pub oct : a.oct ≡ b.oct
+  pub max_runs : a.max_runs ≡ b.max_runs
+  pub entry : a.entry ≡ b.entry
+  pub points : a.points ≡ b.points
+
+-- words that differ in the number of workers alone have the same answers
+abbrev pub WorkersTellNothing : Type 0
+WorkersTellNothing = (words other : List (List ℕ)) (text : List ℕ) (o p : RunOptions) (s : Status) (bytes : List ℕ) →
+    AsksFor words (Run o) → AsksFor other (Run p) → DifferInWorkers o p → IsAnswer words text s bytes → IsAnswer other text s bytes

@@ -1,5 +1,0 @@
-use Rattle.pk_total.proofs.Parsing.{ended_are_accepted_or_refused}
-use Rattle.pk_total.proofs.laws.ended_tokens_are_accepted_or_refused.Goals as goal
-
-pub returns : goal.returns
-returns c = ended_are_accepted_or_refused

@@ -1,5 +1,0 @@
-use Rattle.pk_total.proofs.Lexing.{every_text_is_lexed_or_fails}
-use Rattle.pk_total.proofs.laws.every_text_is_lexed_or_fails.Goals as goal
-
-pub returns : goal.returns
-returns c = every_text_is_lexed_or_fails

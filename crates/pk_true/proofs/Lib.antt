@@ -1,3 +1,0 @@
-mod Bounded
-mod Listed
-mod Telling

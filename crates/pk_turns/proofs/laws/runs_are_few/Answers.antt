@@ -1,5 +1,0 @@
-use Rattle.pk_turns.proofs.Counting.{runs_are_few}
-use Rattle.pk_turns.proofs.laws.runs_are_few.Goals as goal
-
-pub returns : goal.returns
-returns g c = runs_are_few (g.Y.System.meaning c.args.system.now)

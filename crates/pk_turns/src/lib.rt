@@ -1,8 +1,0 @@
-//! The analysis of every graph ends, and elements are run only so often.
-#![tactic(auto)]
-
-mod laws;
-
-pub use laws::{
-    analyses_end, cells_are_states, graph_chains_end, limits_are_low, runs_are_few, small_bounds,
-};

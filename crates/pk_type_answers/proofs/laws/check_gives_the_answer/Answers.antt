@@ -1,5 +1,0 @@
-use Rattle.pk_type_answers.proofs.Answers.{check_gives_the_answer}
-use Rattle.pk_type_answers.proofs.laws.check_gives_the_answer.Goals as goal
-
-pub returns : goal.returns
-returns c = check_gives_the_answer

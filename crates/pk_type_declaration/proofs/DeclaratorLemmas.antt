@@ -1,0 +1,84 @@
+-- The declarators of a declaration from a place on.
+use Rattle.std.proofs.Math.Seq.{drop-cons}
+use Rattle.std.proofs.lemmas.List.{drop_all, map-append}
+use Rattle.std.proofs.Common.{◌≡◌, ℕ, suc, ◌+◌, ◌<◌, ◌≤◌, drop, get_or, add-one, List, [], ◌∷◌, ◌++◌, Option, Some, None, option_map, refl, ap, sym, ◌∙◌, length}
+use Rattle.pk_ast.specs.declared.declarations.Declarator.{Declarator}
+use Rattle.pk_ast.specs.Trees.{DeclaratorTree, DeclarationTree}
+use Rattle.pk_ast.specs.Views.{declarator_tree, declarator_trees}
+use Rattle.pk_typed.specs.declared.statements.Declared.{Declared}
+use Rattle.pk_typed.specs.Trees.{DeclaredTree}
+use Rattle.pk_typed.specs.Views.{declared_tree, declared_trees}
+use Rattle.pk_type_scope.specs.declared.failures.Failure.{Failure}
+use Rattle.pk_type_scope.specs.Failures.{noted}
+use Rattle.pk_type_scope.specs.Specifiers.{specifiers}
+use Rattle.pk_type_expression.specs.Typed.{of_both}
+use Rattle.pk_type_declaration.specs.declared.words.Words.{Words}
+use Rattle.pk_type_declaration.specs.Declarations.{words_of, after_declarator, after_declarators, after_declaration, declarator_tree_at, declarator_trees_at, declaration_trees_at}
+use Rattle.pk_type_declaration.specs.Parts.{joined}
+use Rattle.pk_type_declaration.specs.Walks.{Walked, failing}
+use Rattle.pk_type_declaration.proofs.PartLemmas.{joined_step, joined_none, none_joined}
+
+abbrev State : Type 0
+State = Walked (Option Failure)
+
+pub next : (list : List Declarator) (i : ℕ) (x : Declarator) → i < length list → x ≡ get_or list i x → declarator_trees (drop i list) ≡ declarator_tree x ∷ declarator_trees (drop (i + 1) list)
+next list i x h is = rw add-one (ap declarator_trees (drop-cons list i x h ∙ ap (λ z. z ∷ drop (suc i) list) (sym is)))
+
+pub at_end : (list : List Declarator) (i : ℕ) → length list ≤ i → declarator_trees (drop i list) ≡ []
+at_end list i h = ap declarator_trees (drop_all i list h)
+
+pub next_walked : (words : Words) (w v all : State) (now rest : List DeclaratorTree) (d : DeclaratorTree) → now ≡ d ∷ rest → v ≡ after_declarator noted words d w → after_declarators noted words now w ≡ all → after_declarators noted words rest v ≡ all
+unfolding after_declarators
+next_walked words w v all now rest d p q h = ap (after_declarators noted words rest) q ∙ (ap (λ n. after_declarators noted words n w) (sym p) ∙ h)
+
+pub end_walked : (words : Words) (w all : State) (now : List DeclaratorTree) → now ≡ [] → after_declarators noted words now w ≡ all → w ≡ all
+unfolding after_declarators
+end_walked words w all now p h = ap (λ n. after_declarators noted words n w) (sym p) ∙ h
+
+abbrev Trees : Type 0
+Trees = Option (List DeclaredTree)
+
+pub next_trees : (words : Words) (w v : State) (now rest : List DeclaratorTree) (d : DeclaratorTree) (xs ys all : Trees) (t : Option DeclaredTree) →
+    now ≡ d ∷ rest → v ≡ after_declarator noted words d w → t ≡ declarator_tree_at noted words d w → ys ≡ of_both (λ zs z. zs ++ z ∷ []) xs t →
+    joined xs (declarator_trees_at noted words now w) ≡ all → joined ys (declarator_trees_at noted words rest v) ≡ all
+unfolding declarator_trees_at
+next_trees words w v now rest d xs ys all t p q r s h =
+    ap (λ x. joined ys (declarator_trees_at noted words rest x)) q
+    ∙ (ap (λ y. joined y (declarator_trees_at noted words rest (after_declarator noted words d w))) (s ∙ ap (of_both (λ zs z. zs ++ z ∷ []) xs) r)
+    ∙ (sym (joined_step xs (declarator_tree_at noted words d w) (declarator_trees_at noted words rest (after_declarator noted words d w)))
+    ∙ (ap (λ n. joined xs (declarator_trees_at noted words n w)) (sym p) ∙ h)))
+
+pub end_trees : (words : Words) (w : State) (now : List DeclaratorTree) (xs all : Trees) → now ≡ [] → joined xs (declarator_trees_at noted words now w) ≡ all → xs ≡ all
+unfolding declarator_trees_at
+end_trees words w now xs all p h = sym (joined_none xs) ∙ (ap (λ n. joined xs (declarator_trees_at noted words n w)) (sym p) ∙ h)
+
+-- one part more
+pub declared_push : (xs : Option (List Declared)) (x : Option Declared) → option_map declared_trees (of_both (λ zs z. zs ++ z ∷ []) xs x) ≡ of_both (λ zs z. zs ++ z ∷ []) (option_map declared_trees xs) (option_map declared_tree x)
+declared_push None x = refl
+declared_push (Some xs) None = refl
+declared_push (Some xs) (Some x) = ap Some (map-append declared_tree xs (x ∷ []))
+
+-- a declaration, step by step
+pub declaration_walked : (d : DeclarationTree) (words : Words) (more : List DeclaratorTree) (w a b v : State) → words ≡ words_of d.specifiers → more ≡ d.declarators.more → a ≡ failing noted (specifiers d.specifiers) w →
+    b ≡ after_declarator noted words d.declarators.first a → v ≡ after_declarators noted words more b → v ≡ after_declaration noted d w
+unfolding after_declaration after_declarators
+declaration_walked d words more w a b v p q r s t =
+    let f = d.declarators.first in
+    t ∙ (ap (λ y. after_declarators noted words y b) q
+    ∙ (ap (after_declarators noted words d.declarators.more) (s ∙ ap (after_declarator noted words f) r)
+    ∙ ap (λ x. after_declarators noted x d.declarators.more (after_declarator noted x f (failing noted (specifiers d.specifiers) w))) p))
+
+pub declaration_trees : (d : DeclarationTree) (words : Words) (more : List DeclaratorTree) (w a b : State) (t : Option DeclaredTree) (xs all : Trees) → words ≡ words_of d.specifiers → more ≡ d.declarators.more →
+    a ≡ failing noted (specifiers d.specifiers) w → b ≡ after_declarator noted words d.declarators.first a → t ≡ declarator_tree_at noted words d.declarators.first a →
+    xs ≡ of_both (λ zs z. zs ++ z ∷ []) (Some []) t → all ≡ joined xs (declarator_trees_at noted words more b) → all ≡ declaration_trees_at noted d w
+unfolding declaration_trees_at declarator_trees_at
+declaration_trees d words more w a b t xs all p q r s e x h =
+    let f = d.declarators.first in
+    h ∙ (ap (λ y. joined y (declarator_trees_at noted words more b)) x
+    ∙ (sym (joined_step (Some []) t (declarator_trees_at noted words more b))
+    ∙ (none_joined (of_both (λ y ys. y ∷ ys) t (declarator_trees_at noted words more b))
+    ∙ (ap (λ y. of_both (λ z zs. z ∷ zs) t (declarator_trees_at noted words y b)) q
+    ∙ (ap (λ y. of_both (λ z zs. z ∷ zs) t (declarator_trees_at noted words d.declarators.more y)) s
+    ∙ (ap (λ y. of_both (λ z zs. z ∷ zs) y (declarator_trees_at noted words d.declarators.more (after_declarator noted words f a))) e
+    ∙ (ap (λ y. of_both (λ z zs. z ∷ zs) (declarator_tree_at noted words f y) (declarator_trees_at noted words d.declarators.more (after_declarator noted words f y))) r
+    ∙ ap (λ y. of_both (λ z zs. z ∷ zs) (declarator_tree_at noted y f (failing noted (specifiers d.specifiers) w)) (declarator_trees_at noted y d.declarators.more (after_declarator noted y f (failing noted (specifiers d.specifiers) w)))) p)))))))

@@ -1,0 +1,165 @@
+-- Declared objects of a function (C99 6.7, 6.7.8).
+use Rattle.std.specs.Prelude.{ℕ, zero, suc, Bool, true, false, not, is_some, Option, Some, None, option_map, List, [], ◌∷◌, ◌++◌, length, if◌then◌else◌}
+use Rattle.std.specs.Str.Lossy.{utf8_lossy}
+use Rattle.pk_ctypes.specs.declared.places.Pos.{Pos}
+use Rattle.pk_ctypes.specs.declared.types.IntType.{IntType}
+use Rattle.pk_ctypes.specs.declared.types.IntType.TheVariants.{Int}
+use Rattle.pk_ctypes.specs.declared.words.Rule.TheVariants as rule
+use Rattle.pk_ast.specs.declared.declarations.Specifier.{Specifier}
+use Rattle.pk_ast.specs.declared.expressions.Identifier.{Identifier}
+use Rattle.pk_ast.specs.Places.{first_place_of}
+use Rattle.pk_ast.specs.Trees.{OneOrMore, ExpressionTree, ExpressionTrees, no_expressions, expression_then, InitializerTree, single, braced, DeclaratorTree, DeclarationTree}
+use Rattle.pk_typed.specs.declared.values.Variable.TheVariants.{Local}
+use Rattle.pk_typed.specs.Trees as tree
+use Rattle.pk_typed.specs.Trees.{LocalTree, ValueTree, ValueTrees, value_before, DeclaredTree}
+use Rattle.pk_type_scope.specs.declared.declarations.Declaration.{Declaration}
+use Rattle.pk_type_scope.specs.declared.declarations.Declaration.TheVariants as declared
+use Rattle.pk_type_scope.specs.declared.declarations.Typing.{Typing}
+use Rattle.pk_type_scope.specs.declared.declarations.Typing.TheVariants.{Void, Integer, Unknown}
+use Rattle.pk_type_scope.specs.declared.failures.Failure.{Failure}
+use Rattle.pk_type_scope.specs.Declarations.{is_void}
+use Rattle.pk_type_scope.specs.Failures.{fails_if}
+use Rattle.pk_type_scope.specs.Scopes.{Scoping, declared_here, spelled}
+use Rattle.pk_type_scope.specs.Specifiers.{type_named, specifiers, names_const}
+use Rattle.pk_type_expression.specs.Typed.{of_both}
+use Rattle.pk_type_declaration.specs.declared.words.Words.{Words}
+use Rattle.pk_type_declaration.specs.Constants.{evaluated, length_in, after_length}
+use Rattle.pk_type_declaration.specs.Specials.{special}
+use Rattle.pk_type_declaration.specs.Walks.{Walked, Adding, failing, after_value, after_values, after_name, with_local, value_at, values_at}
+
+-- the words of a declaration, as far as its names ask for them
+abbrev pub words_of : OneOrMore Specifier → Words
+words_of words = record { typing = type_named words; is_const = names_const words }
+
+abbrev pub integer_in : Typing → Option IntType
+integer_in Void = None
+integer_in (Integer t) = Some t
+integer_in Unknown = None
+
+-- In the tables an int stands for a type that a failure leaves out, and 1 for a length.
+abbrev pub type_or_int : Typing → IntType
+type_or_int Void = Int
+type_or_int (Integer t) = t
+type_or_int Unknown = Int
+
+-- an object that is the next of its function
+abbrev pub object_at : {F : Type 0} → Words → Bool → Walked F → Declaration
+object_at words is_array w =
+    declared.Object (record { variable = Local (length w.locals); int_type = integer_in words.typing; is_array = is_array; is_const = words.is_const })
+
+-- the text of a name
+abbrev pub text_of : Scoping → Identifier → List ℕ
+text_of s x = utf8_lossy (spelled s.text x)
+
+-- redeclared: a second declaration in one scope; at the name
+abbrev pub redeclared : Scoping → Identifier → List Failure
+redeclared s x = fails_if (is_some (declared_here s x)) rule.Redeclared x.at
+
+-- void: an object of type void; at the name
+abbrev pub void_object : Typing → Pos → List Failure
+void_object t at = fails_if (is_void t) rule.Void at
+
+-- special: a special name has other types; an object has. At the name
+abbrev pub special_object : Scoping → Identifier → List Failure
+special_object s x = fails_if (is_some (special (spelled s.text x))) rule.Special x.at
+
+-- the rows at the name of a declared object
+abbrev pub at_name : Scoping → Typing → Identifier → List Failure
+at_name s t x = redeclared s x ++ void_object t x.at ++ special_object s x
+
+-- array: braces on a scalar, no braces on an array; at the name
+abbrev pub braces : Bool → Option InitializerTree → Pos → List Failure
+braces is_array None at = []
+braces is_array (Some (single e)) at = fails_if is_array rule.Array at
+braces is_array (Some (braced brace e es)) at = fails_if (not is_array) rule.Array at
+
+-- the expression of a number, counted from 0
+abbrev pub item_at : ExpressionTrees → ℕ → Option ExpressionTree
+item_at no_expressions n = None
+item_at (expression_then e es) zero = Some e
+item_at (expression_then e es) (suc n) = item_at es n
+
+abbrev pub surplus_item : Option ExpressionTree → List Failure
+surplus_item None = []
+surplus_item (Some e) = fails_if true rule.Initialiser (first_place_of e)
+
+-- initialiser: more items than the length; at the first one too many
+abbrev pub surplus : Option ℕ → Option InitializerTree → List Failure
+surplus None first = []
+surplus (Some n) None = []
+surplus (Some n) (Some (single e)) = []
+surplus (Some n) (Some (braced brace e es)) = surplus_item (item_at (expression_then e es) n)
+
+abbrev pub after_initializer : {F : Type 0} → Adding F → Option InitializerTree → Walked F → Walked F
+after_initializer add None w = w
+after_initializer add (Some (single e)) w = after_value add e w
+after_initializer add (Some (braced brace e es)) w = after_values add es (after_value add e w)
+
+-- the length of an array, where it has one; a scalar has none
+abbrev pub length_at : {F : Type 0} → Walked F → Option ExpressionTree → Option ℕ
+length_at w None = None
+length_at w (Some e) = length_in (evaluated w e)
+
+abbrev pub after_optional_length : {F : Type 0} → Adding F → Option ExpressionTree → Walked F → Walked F
+after_optional_length add None w = w
+after_optional_length add (Some e) w = after_length add e w
+
+abbrev pub length_or_1 : Bool → Option ℕ → Option ℕ
+length_or_1 false n = None
+length_or_1 true None = Some 1
+length_or_1 true (Some n) = Some n
+
+abbrev pub local_of : Typing → Scoping → Bool → Option ℕ → Identifier → LocalTree
+local_of t s is_array n x = record { name = Some (text_of s x); int_type = type_or_int t; length = length_or_1 is_array n }
+
+-- a declared name, in its scope
+abbrev pub after_object : {F : Type 0} → Adding F → Words → Bool → Option ℕ → Identifier → Walked F → Walked F
+after_object add words is_array n x w =
+    with_local (local_of words.typing w.scoping is_array n x) (after_name x (object_at words is_array w) (failing add (at_name w.scoping words.typing x) w))
+
+-- a declarator as far as what its name begins with: its length stands outside its scope
+abbrev pub after_head : {F : Type 0} → Adding F → Words → DeclaratorTree → Walked F → Walked F
+after_head add words d w =
+    let n = length_at w d.length in
+    failing add (braces (is_some d.length) d.initializer d.name.at ++ surplus n d.initializer)
+    (after_object add words (is_some d.length) n d.name (after_optional_length add d.length w))
+
+-- what it begins with stands inside its scope
+unfoldable pub after_declarator : {F : Type 0} → Adding F → Words → DeclaratorTree → Walked F → Walked F
+after_declarator add words d w = after_initializer add d.initializer (after_head add words d w)
+
+unfoldable pub after_declarators : {F : Type 0} → Adding F → Words → List DeclaratorTree → Walked F → Walked F
+after_declarators add words [] w = w
+after_declarators add words (d ∷ ds) w = after_declarators add words ds (after_declarator add words d w)
+
+-- specifiers: the words name no type; at the first word
+unfoldable pub after_declaration : {F : Type 0} → Adding F → DeclarationTree → Walked F → Walked F
+after_declaration add d w =
+    let words = words_of d.specifiers in after_declarators add words (d.declarators.first ∷ d.declarators.more) (failing add (specifiers d.specifiers) w)
+
+-- The typed tree of a declared object, by its number.
+
+abbrev pub scalar_tree : {F : Type 0} → ℕ → Pos → Option InitializerTree → Walked F → Option DeclaredTree
+scalar_tree n at None w = Some (tree.scalar_object n at None)
+scalar_tree n at (Some (single e)) w = option_map (λ v. tree.scalar_object n at (Some v)) (value_at w e)
+scalar_tree n at (Some (braced brace e es)) w = None
+
+abbrev pub array_tree : {F : Type 0} → Adding F → ℕ → Pos → Option InitializerTree → Walked F → Option DeclaredTree
+array_tree add n at None w = Some (tree.array_object n at None)
+array_tree add n at (Some (single e)) w = None
+array_tree add n at (Some (braced brace e es)) w =
+    option_map (λ vs. tree.array_object n at (Some vs)) (of_both value_before (value_at w e) (values_at (after_value add e w) es))
+
+abbrev pub object_tree : {F : Type 0} → Adding F → Bool → ℕ → Pos → Option InitializerTree → Walked F → Option DeclaredTree
+object_tree add is_array n at first w = if is_array then array_tree add n at first w else scalar_tree n at first w
+
+unfoldable pub declarator_tree_at : {F : Type 0} → Adding F → Words → DeclaratorTree → Walked F → Option DeclaredTree
+declarator_tree_at add words d w = object_tree add (is_some d.length) (length w.locals) d.name.at d.initializer (after_head add words d w)
+
+unfoldable pub declarator_trees_at : {F : Type 0} → Adding F → Words → List DeclaratorTree → Walked F → Option (List DeclaredTree)
+declarator_trees_at add words [] w = Some []
+declarator_trees_at add words (d ∷ ds) w = of_both (λ t ts. t ∷ ts) (declarator_tree_at add words d w) (declarator_trees_at add words ds (after_declarator add words d w))
+
+unfoldable pub declaration_trees_at : {F : Type 0} → Adding F → DeclarationTree → Walked F → Option (List DeclaredTree)
+declaration_trees_at add d w =
+    declarator_trees_at add (words_of d.specifiers) (d.declarators.first ∷ d.declarators.more) (failing add (specifiers d.specifiers) w)

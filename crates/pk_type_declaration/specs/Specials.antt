@@ -1,0 +1,24 @@
+-- The special names: functions that the analysis knows, where a text declares them (C99 has no such names but abort, 7.20.4.1).
+use Rattle.std.specs.Prelude.{ℕ, List, [], ◌∷◌, Option, Some, None, codes, if◌then◌else◌}
+use Rattle.std.specs.Str.{bytes_eq}
+use Rattle.pk_ctypes.specs.declared.types.IntType.TheVariants as ctype
+use Rattle.pk_type_scope.specs.declared.declarations.Callee.{Callee}
+use Rattle.pk_type_scope.specs.declared.declarations.Callee.TheVariants.{Any, Assume, Assert, Abort}
+
+-- what stands beside a spelling in a table
+abbrev pub lookup : {A : Type 0} → List (List ℕ × A) → List ℕ → Option A
+lookup [] name = None
+lookup (row ∷ rows) name = if bytes_eq row.0 name then Some row.1 else lookup rows name
+
+abbrev pub specials : List (List ℕ × Callee)
+specials =
+    (codes "abort", Abort) ∷ (codes "__VERIFIER_assume", Assume) ∷ (codes "__pikos_assert", Assert)
+    ∷ (codes "__VERIFIER_nondet_char", Any ctype.Char) ∷ (codes "__VERIFIER_nondet_uchar", Any ctype.UChar)
+    ∷ (codes "__VERIFIER_nondet_short", Any ctype.Short) ∷ (codes "__VERIFIER_nondet_ushort", Any ctype.UShort)
+    ∷ (codes "__VERIFIER_nondet_int", Any ctype.Int) ∷ (codes "__VERIFIER_nondet_uint", Any ctype.UInt)
+    ∷ (codes "__VERIFIER_nondet_long", Any ctype.Long) ∷ (codes "__VERIFIER_nondet_ulong", Any ctype.ULong)
+    ∷ (codes "__VERIFIER_nondet_longlong", Any ctype.LLong) ∷ (codes "__VERIFIER_nondet_ulonglong", Any ctype.ULLong) ∷ []
+
+-- what a call of a special name is, where the name is one
+unfoldable pub special : List ℕ → Option Callee
+special name = lookup specials name

@@ -1,0 +1,175 @@
+// Declared objects of a function.
+
+ghost use Rattle.std.specs.Prelude.{◌≡◌, option_map, IfOk, OnOk, length};
+ghost use Rattle.pk_ast.specs.Views.{expression_tree, specifiers_tree, declarator_tree, declarator_trees, declaration_tree};
+ghost use Rattle.pk_typed.specs.Views.{declared_tree, declared_trees};
+ghost use Rattle.pk_type_scope.specs.Failures.{noted};
+ghost use Rattle.pk_type_declaration.specs.Declarations as definitions;
+ghost use Rattle.pk_type_scope.specs.Specifiers.{specifiers};
+ghost use Rattle.pk_type_declaration.specs.Parts.{joined};
+ghost use Rattle.pk_type_declaration.specs.Views.{walked_in, declared_in};
+ghost use Rattle.pk_type_declaration.specs.Walks as walks;
+
+use crate::initializers::{first_value, note_braces, note_surplus};
+use crate::parts::Parts;
+use crate::specials::special;
+use crate::walk::Walk;
+use crate::words::{Words, integer_in, type_or_int};
+use pk_ast::{Declarator, Expression, Identifier, Specifiers};
+use pk_ctypes::{Name, Rule};
+use pk_type_scope::{Declaration, Object, note_specifiers, spelling};
+use pk_typed::{Declared, Local, Variable};
+use std::alloc::{AllocError, Global};
+
+impl<'a> Walk<'a> {
+    /// The length of an array, where it has one.
+    pub fn optional_length(
+        &mut self,
+        alloc: Global,
+        length: &Option<Expression>,
+    ) -> Result<Option<usize>, AllocError>
+        ensures walked { OnOk result (walked_in self.new
+            ≡ definitions.after_optional_length noted (option_map expression_tree length.now) (walked_in self.old)) }
+        ensures length { IfOk result (λ n. n ≡ definitions.length_at (walked_in self.old) (option_map expression_tree length.now)) }
+    {
+        match length {
+            None => Ok(None),
+            Some(e) => self.length(alloc, e),
+        }
+    }
+
+    /// Declares an object, the next of its function, and notes what fails at its name.
+    #[tactic(auto, unfolding(pk_typed::specs::Views::local_tree))]
+    pub fn object(
+        &mut self,
+        alloc: Global,
+        words: Words,
+        is_array: bool,
+        length: Option<usize>,
+        name: Identifier,
+    ) -> Result<(), AllocError>
+        ensures { OnOk result (walked_in self.new
+            ≡ definitions.after_object noted words is_array length name (walked_in self.old)) }
+    {
+        let bytes = spelling(self.scope.text, name);
+        let local = Local {
+            name: Some(Name::new(alloc, bytes)?),
+            int_type: type_or_int(words.typing),
+            length: length_or_1(is_array, length),
+        };
+        let is_special = special(bytes).is_some();
+        let object = Object {
+            variable: Variable::Local(self.locals.len()),
+            int_type: integer_in(words.typing),
+            is_array,
+            is_const: words.is_const,
+        };
+        let is_again = self.declare(name, Declaration::Object(object))?;
+        self.fail_if(is_again, Rule::Redeclared, name.at);
+        self.fail_if(words.typing.is_void(), Rule::Void, name.at);
+        self.fail_if(is_special, Rule::Special, name.at);
+        self.local(local)
+    }
+
+    // The part of a declarator before what its name begins with: gives its number.
+    #[tactic(auto, unfolding(pk_ast::specs::Views::declarator_tree))]
+    fn head(&mut self, alloc: Global, words: Words, d: &Declarator) -> Result<usize, AllocError>
+        ensures walked { OnOk result (walked_in self.new
+            ≡ definitions.after_head noted words (declarator_tree d.now) (walked_in self.old)) }
+        ensures number { IfOk result (λ n. n ≡ length (walked_in self.old).locals) }
+    {
+        let number = self.locals.len();
+        let is_array = d.length.is_some();
+        let length = self.optional_length(alloc, &d.length)?;
+        self.object(alloc, words, is_array, length, d.name)?;
+        note_braces(self, is_array, &d.initializer, d.name.at);
+        note_surplus(self, length, &d.initializer);
+        Ok(number)
+    }
+
+    // Checks a declarator, and gives the object that it declares.
+    #[tactic(auto, unfolding(pk_ast::specs::Views::declarator_tree, crate::specs::Declarations::after_declarator, crate::specs::Declarations::declarator_tree_at))]
+    fn declarator(
+        &mut self,
+        alloc: Global,
+        words: Words,
+        d: &Declarator,
+    ) -> Result<Option<Declared>, AllocError>
+        ensures walked { OnOk result (walked_in self.new
+            ≡ definitions.after_declarator noted words (declarator_tree d.now) (walked_in self.old)) }
+        ensures tree { IfOk result (λ t. option_map declared_tree t
+            ≡ definitions.declarator_tree_at noted words (declarator_tree d.now) (walked_in self.old)) }
+    {
+        let number = self.head(alloc, words, d)?;
+        first_value(
+            self,
+            alloc,
+            d.length.is_some(),
+            number,
+            d.name.at,
+            &d.initializer,
+        )
+    }
+
+    // Notes that the words name no type, where they don't.
+    fn note_words(&mut self, words: &Specifiers)
+        ensures { walked_in self.new
+            ≡ walks.failing noted (specifiers (specifiers_tree words.now)) (walked_in self.old) }
+    {
+        note_specifiers(&mut self.notes, words);
+    }
+
+    // Checks the other declarators of a declaration.
+    fn more(
+        &mut self,
+        alloc: Global,
+        words: Words,
+        list: &[Declarator],
+        all: &mut Parts<Declared>,
+    ) -> Result<(), AllocError>
+        ensures walked { OnOk result (walked_in self.new
+            ≡ definitions.after_declarators noted words (declarator_trees list.now) (walked_in self.old)) }
+        ensures trees { OnOk result (declared_in all.new
+            ≡ joined (declared_in all.old) (definitions.declarator_trees_at noted words (declarator_trees list.now) (walked_in self.old))) }
+    {
+        for d in list {
+            let one = self.declarator(alloc, words, d)?;
+            all.add(one)?;
+        }
+        Ok(())
+    }
+
+    /// Checks a declaration, and gives the objects that it declares.
+    #[tactic(auto, unfolding(pk_ast::specs::Views::declaration_tree, crate::specs::Declarations::after_declaration, crate::specs::Declarations::declaration_trees_at))]
+    pub fn declaration(
+        &mut self,
+        alloc: Global,
+        d: &pk_ast::Declaration,
+    ) -> Result<Option<Vec<Declared>>, AllocError>
+        ensures walked { OnOk result (walked_in self.new
+            ≡ definitions.after_declaration noted (declaration_tree d.now) (walked_in self.old)) }
+        ensures trees { IfOk result (λ t. option_map (λ v. declared_trees v.items) t
+            ≡ definitions.declaration_trees_at noted (declaration_tree d.now) (walked_in self.old)) }
+    {
+        self.note_words(&d.specifiers);
+        let words = Words::of(&d.specifiers);
+        let mut all = Parts::new(alloc);
+        let first = self.declarator(alloc, words, &d.declarators.first)?;
+        all.add(first)?;
+        self.more(alloc, words, &d.declarators.more, &mut all)?;
+        Ok(all.whole())
+    }
+}
+
+/// The length of an array, or 1 where a failure leaves it out.
+pub fn length_or_1(is_array: bool, length: Option<usize>) -> Option<usize>
+    ensures { result ≡ definitions.length_or_1 is_array length }
+{
+    if !is_array {
+        return None;
+    }
+    match length {
+        None => Some(1),
+        Some(length) => Some(length),
+    }
+}

@@ -1,0 +1,344 @@
+-- Objects and functions of the file in an accepted text.
+use Rattle.std.proofs.Common.{◌≡◌, ℕ, zero, suc, ◌≤◌, Bool, true, false, List, [], ◌∷◌, ◌++◌, Option, Some, None, length, refl, ap, sym, subst, ◌∙◌, arith, append_assoc, if◌then◌else◌, append-nil}
+use Rattle.std.proofs.lemmas.Bool.{false≢true}
+use Rattle.std.specs.Prelude.{ℤ, pos, All, slice_get, is_some}
+use Rattle.std.specs.Option.{option_map}
+use Rattle.std.specs.Str.{bytes_eq}
+use Rattle.pk_ctypes.specs.declared.types.IntType.{IntType}
+use Rattle.pk_ctypes.specs.Types.{InType}
+use Rattle.pk_ctypes.proofs.Wrapped.{wrapped_in, zero_in}
+use Rattle.pk_ast.specs.declared.expressions.Identifier.{Identifier}
+use Rattle.pk_ast.specs.declared.units.Storage.{Storage}
+use Rattle.pk_ast.specs.Trees.{ExpressionTree, ExpressionTrees, no_expressions, expression_then, InitializerTree, single, braced, DeclaratorTree, DeclarationTree}
+use Rattle.pk_typed.specs.declared.values.Variable.TheVariants.{File, Local}
+use Rattle.pk_typed.specs.Trees.{LocalTree, FileObjectTree, UnitTree}
+use Rattle.pk_type_scope.specs.declared.declarations.Callee.{Callee}
+use Rattle.pk_type_scope.specs.declared.declarations.Callee.TheVariants.{Ordinary, Any, Assume, Assert, Abort}
+use Rattle.pk_type_scope.specs.declared.declarations.Declaration.{Declaration}
+use Rattle.pk_type_scope.specs.declared.declarations.Declaration.TheVariants.{Object, Function}
+use Rattle.pk_type_scope.specs.declared.declarations.Typing.{Typing}
+use Rattle.pk_type_scope.specs.declared.declarations.Typing.TheVariants.{Void, Integer, Unknown}
+use Rattle.pk_type_scope.specs.declared.failures.Failure.{Failure}
+use Rattle.pk_type_scope.specs.Declarations.{Names, is_void, is_unknown}
+use Rattle.pk_type_scope.specs.Failures.{noted}
+use Rattle.pk_type_scope.specs.Scopes.{Scoping, names_in, declaring, first_of, found_up, spelled}
+use Rattle.pk_type_scope.specs.Specifiers.{specifiers, type_named}
+use Rattle.pk_type_expression.specs.Rules.{count}
+use Rattle.pk_type_expression.proofs.TreeLemmas.{none_before, none_after}
+use Rattle.pk_type_declaration.specs.declared.words.Words.{Words}
+use Rattle.pk_type_declaration.specs.Constants.{evaluated, number_in, after_constant, length_in}
+use Rattle.pk_type_declaration.specs.Declarations.{words_of, integer_in, type_or_int, text_of, redeclared, void_object, special_object, braces, surplus, length_at, after_optional_length, length_or_1}
+use Rattle.pk_type_declaration.specs.Walks.{here, failing, after_name}
+use Rattle.pk_type.specs.Files.{EntryTree, Filed, number_or_0, number_at, after_numbers, numbers_at, given, first_or_0, start_of, extern_object, file_object, after_object, after_objects, on, after_declaration}
+use Rattle.pk_type.specs.Files as files
+use Rattle.pk_type.specs.Units.{function_of}
+use Rattle.pk_welltyped.specs.WellTyped as good
+use Rattle.pk_welltyped.specs.WellTyped.{Around, IsObject, Kind, kind_in_file, length_at_start, IsStart, IsBodyIf}
+use Rattle.pk_type_laws.specs.Accepted.Names.{ObjectIs, CalleeIs, DeclarationIs, NamesAre}
+use Rattle.pk_type_laws.proofs.Accepted.Walks.{W, none_found, Later, later_same, later, later_failing}
+use Rattle.pk_type_laws.proofs.Accepted.Declarations.{holds_not, names_declaring, nth, later_constant, later_optional_length, length_known, room}
+use Rattle.pk_type_laws.proofs.Accepted.Functions.{Integers}
+
+abbrev pub F : Type 0
+F = Filed (Option Failure)
+
+-- what is declared around a place of the file
+abbrev pub in_file : UnitTree → Around
+in_file u = record { unit = u; locals = []; objects = 0 }
+
+abbrev pub SameEntry : EntryTree → Option EntryTree → Type 0
+SameEntry e None = ⊥
+SameEntry e (Some f) = f.signature ≡ e.signature
+
+abbrev pub Entries : Type 0
+Entries = List EntryTree
+
+abbrev pub Kept : Entries → Entries → Type 0
+Kept es fs = (n : ℕ) (e : EntryTree) → slice_get es n ≡ Some e → SameEntry e (slice_get fs n)
+
+-- a later place of the file
+pub record LaterFile (f g : F) : Type 0 where
+  pub found : g.walked.found ≡ None → f.walked.found ≡ None
+  pub more : List FileObjectTree
+  pub objects : g.objects ≡ f.objects ++ more
+  pub entries : Kept f.functions g.functions
+
+pub kept_same : (es : Entries) → Kept es es
+kept_same es n e h = subst (SameEntry e) (sym h) refl
+
+kept_then : (es fs gs : Entries) → Kept es fs → Kept fs gs → Kept es gs
+kept_then es fs gs a b n e h = go (slice_get fs n) refl (a n e h)
+  where
+    go : (o : Option EntryTree) → slice_get fs n ≡ o → SameEntry e o → SameEntry e (slice_get gs n)
+    go None is s = absurd s
+    go (Some x) is s = turned (slice_get gs n) (b n x is) s
+      where
+        turned : (o : Option EntryTree) → SameEntry x o → x.signature ≡ e.signature → SameEntry e o
+        turned None s t = absurd s
+        turned (Some y) s t = s ∙ t
+
+pub file_same : (f : F) → LaterFile f f
+file_same f = record { found = λ h. h; more = []; objects = sym (append-nil f.objects); entries = kept_same f.functions }
+
+pub file_later : (f g h : F) → LaterFile f g → LaterFile g h → LaterFile f h
+file_later f g h a b = record {
+  found = λ x. a.found (b.found x);
+  more = a.more ++ b.more;
+  objects = b.objects ∙ (ap (λ (xs : List FileObjectTree). xs ++ b.more) a.objects ∙ append_assoc f.objects a.more b.more);
+  entries = kept_then f.functions g.functions h.functions a.entries b.entries;
+}
+
+-- the unit has what stands before the place
+pub record Stands (u : UnitTree) (f : F) : Type 0 where
+  pub rest : List FileObjectTree
+  pub objects : u.objects ≡ f.objects ++ rest
+  pub functions : (n : ℕ) (e : EntryTree) → slice_get f.functions n ≡ Some e → (x : EntryTree) × (slice_get u.functions n ≡ Some (function_of x)) × (x.signature ≡ e.signature)
+
+pub stands_before : (u : UnitTree) (f g : F) → LaterFile f g → Stands u g → Stands u f
+stands_before u f g l s = record {
+  rest = l.more ++ s.rest;
+  objects = s.objects ∙ (ap (λ (xs : List FileObjectTree). xs ++ s.rest) l.objects ∙ append_assoc f.objects l.more s.rest);
+  functions = λ n e h. found n e (slice_get g.functions n) refl (l.entries n e h);
+}
+  where
+    found : (n : ℕ) (e : EntryTree) (o : Option EntryTree) → slice_get g.functions n ≡ o → SameEntry e o → (x : EntryTree) × (slice_get u.functions n ≡ Some (function_of x)) × (x.signature ≡ e.signature)
+    found n e None is h = absurd h
+    found n e (Some y) is h = let r = s.functions n y is in (r.0, r.1, r.2 ∙ h)
+
+abbrev pub KnownIn : Entries → Option Declaration → Type 0
+KnownIn es None = Unit {0}
+KnownIn es (Some (Object o)) = Unit {0}
+KnownIn es (Some (Function f)) = (e : EntryTree) × (slice_get es f.number ≡ Some e)
+
+pub record EntryIs (u : UnitTree) (e : EntryTree) : Type 0 where
+  pub body : IsBodyIf u (function_of e) e.body
+  pub integers : Integers e.signature.parameters
+  pub returns : is_unknown e.signature.returns ≡ false
+
+-- what holds at each place between external definitions
+pub record FileIs (u : UnitTree) (f : F) : Type 0 where
+  pub names : NamesAre (in_file u) (here f.walked)
+  pub known : (x : Identifier) → KnownIn f.functions (here f.walked x)
+  pub locals : f.walked.locals ≡ []
+  pub objects : All (λ (x : FileObjectTree). IsStart x.int_type x.start) f.objects
+  pub entries : (n : ℕ) (e : EntryTree) → slice_get f.functions n ≡ Some e → EntryIs u e
+
+-- names of the file, at a place of a function
+object_from_file : (u : UnitTree) (ls : List LocalTree) (n : ℕ) (k : Kind) (x : Rattle.pk_typed.specs.declared.values.Variable.Variable) → IsObject (in_file u) k x → IsObject (record { unit = u; locals = ls; objects = n }) k x
+object_from_file u ls n k (File i) h = h
+object_from_file u ls n k (Local i) h = absurd (omega (h.0, arith))
+
+objects_from_file : (u : UnitTree) (ls : List LocalTree) (n : ℕ) (b : Bool) (t : Option IntType) (x : Rattle.pk_typed.specs.declared.values.Variable.Variable) → ObjectIs (in_file u) b t x → ObjectIs (record { unit = u; locals = ls; objects = n }) b t x
+objects_from_file u ls n b None x h = absurd h
+objects_from_file u ls n false (Some t) x h = object_from_file u ls n (good.scalar t) x h
+objects_from_file u ls n true (Some t) x h = (h.0, object_from_file u ls n (good.array t h.0) x h.1)
+
+callee_from_file : (u : UnitTree) (ls : List LocalTree) (n f : ℕ) (c : Callee) → CalleeIs (in_file u) f c → CalleeIs (record { unit = u; locals = ls; objects = n }) f c
+callee_from_file u ls n f (Ordinary Void k) h = h
+callee_from_file u ls n f (Ordinary (Integer t) k) h = h
+callee_from_file u ls n f (Ordinary Unknown k) h = h
+callee_from_file u ls n f (Any t) h = h
+callee_from_file u ls n f Assume h = h
+callee_from_file u ls n f Assert h = h
+callee_from_file u ls n f Abort h = h
+
+from_file : (u : UnitTree) (ls : List LocalTree) (n : ℕ) (d : Option Declaration) → DeclarationIs (in_file u) d → DeclarationIs (record { unit = u; locals = ls; objects = n }) d
+from_file u ls n None h = tt
+from_file u ls n (Some (Object o)) h = objects_from_file u ls n o.is_array o.int_type o.variable h
+from_file u ls n (Some (Function f)) h = callee_from_file u ls n f.number f.callee h
+
+pub names_from_file : (u : UnitTree) (ls : List LocalTree) (n : ℕ) (d : Names) → NamesAre (in_file u) d → NamesAre (record { unit = u; locals = ls; objects = n }) d
+names_from_file u ls n d h x = from_file u ls n (d x) (h x)
+
+-- ---- objects
+
+later_numbers : (es : ExpressionTrees) (w : W) → Later w (after_numbers noted es w)
+unfolding after_numbers
+later_numbers no_expressions w = later_same w
+later_numbers (expression_then e es) w = later w (after_constant noted e w) _ (later_constant e w) (later_numbers es (after_constant noted e w))
+
+same_scope : (es : ExpressionTrees) (w : W) → (after_numbers noted es w).scoping ≡ w.scoping
+unfolding after_numbers
+same_scope no_expressions w = refl
+same_scope (expression_then e es) w = same_scope es (after_constant noted e w)
+
+same_locals : (es : ExpressionTrees) (w : W) → (after_numbers noted es w).locals ≡ w.locals
+unfolding after_numbers
+same_locals no_expressions w = refl
+same_locals (expression_then e es) w = same_locals es (after_constant noted e w)
+
+zero_is : (t : IntType) → InType t (pos 0)
+zero_is t = record { from = (zero_in t).0; to = (zero_in t).1 }
+
+number_in_type : (t : IntType) (o : Option ℤ) → InType t (number_or_0 t o)
+number_in_type t None = zero_is t
+number_in_type t (Some n) = wrapped_in t n
+
+all_first : (t : IntType) (z : ℤ) (zs : List ℤ) → InType t z → All (InType t) zs → All (InType t) (z ∷ zs)
+all_first t z zs h k zero d l = h
+all_first t z zs h k (suc i) d l = k i d (omega (l, arith))
+
+numbers_in_type : (t : IntType) (es : ExpressionTrees) (w : W) → All (InType t) (numbers_at noted t es w)
+unfolding numbers_at
+numbers_in_type t no_expressions w = λ k d l. absurd (omega (l, arith))
+numbers_in_type t (expression_then e es) w = all_first t (number_at t w e) (numbers_at noted t es (after_constant noted e w)) (number_in_type t (number_in (evaluated w e))) (numbers_in_type t es (after_constant noted e w))
+
+numbers_many : (t : IntType) (es : ExpressionTrees) (w : W) → length (numbers_at noted t es w) ≡ count es
+unfolding numbers_at
+numbers_many t no_expressions w = refl
+numbers_many t (expression_then e es) w = let h = numbers_many t es (after_constant noted e w) in omega (h, arith)
+
+first_in : (t : IntType) (zs : List ℤ) → All (InType t) zs → InType t (first_or_0 zs)
+first_in t [] h = zero_is t
+first_in t (z ∷ zs) h = h 0 z (omega arith)
+
+given_fit : (x : Option InitializerTree) (n : ℕ) (at : Rattle.pk_ctypes.specs.declared.places.Pos.Pos) → braces true x at ≡ [] → surplus (Some n) x ≡ [] → count (given x) ≤ n
+given_fit None n at k h = omega arith
+given_fit (Some (single e)) n at k h = absurd (cc)
+given_fit (Some (braced o e es)) n at k h = room (expression_then e es) n h
+
+abbrev RoomIn : Bool → Option ℕ → ℕ → Type 0
+RoomIn false n k = Unit {0}
+RoomIn true None k = k ≤ 1
+RoomIn true (Some m) k = (k ≤ m) × (1 ≤ m)
+
+start_is : (t : IntType) (b : Bool) (n : Option ℕ) (zs : List ℤ) → All (InType t) zs → RoomIn b n (length zs) → IsStart t (start_of (length_or_1 b n) zs)
+start_is t false n zs h k = first_in t zs h
+start_is t true None zs h k = (k, h, omega arith)
+start_is t true (Some m) zs h k = (k.0, h, k.1)
+
+start_length : (b : Bool) (n : Option ℕ) (zs : List ℤ) → length_at_start (start_of (length_or_1 b n) zs) ≡ length_or_1 b n
+start_length false n zs = refl
+start_length true None zs = refl
+start_length true (Some m) zs = refl
+
+object_is : (u : UnitTree) (k : ℕ) (t : Typing) (b : Bool) (n : Option ℕ) → is_void t ≡ false → is_unknown t ≡ false → kind_in_file u k ≡ Some (record { int_type = type_or_int t; length = length_or_1 b n }) → ObjectIs (in_file u) b (integer_in t) (File k)
+object_is u k Void b n p q h = absurd (false≢true (sym p))
+object_is u k Unknown b n p q h = absurd (false≢true (sym q))
+object_is u k (Integer t) false n p q h = h
+object_is u k (Integer t) true None p q h = (1, h)
+object_is u k (Integer t) true (Some n) p q h = (n, h)
+
+pub known_declaring : (es : Entries) (s : Scoping) (x : Identifier) (o : Declaration) → ((y : Identifier) → KnownIn es (names_in s y)) → KnownIn es (Some o) → (y : Identifier) → KnownIn es (names_in (declaring s x o) y)
+unfolding names_in
+known_declaring es s x o h k y = picked (bytes_eq (spelled s.text x) (spelled s.text y)) (s.inner (spelled s.text y)) (found_up s.outer (spelled s.text y) None) (h y)
+  where
+    picked : (b : Bool) (l other : Option Declaration) → KnownIn es (first_of l other) → KnownIn es (first_of (if b then Some o else l) other)
+    picked true l other h = k
+    picked false l other h = h
+
+all_last : {A : Type 0} (Q : A → Type 0) (xs : List A) (x : A) → All Q xs → Q x → All Q (xs ++ x ∷ [])
+all_last Q [] x h k zero d l = k
+all_last Q [] x h k (suc i) d l = absurd (omega (l, arith))
+all_last Q (y ∷ ys) x h k zero d l = h 0 d (omega arith)
+all_last Q (y ∷ ys) x h k (suc i) d l = all_last Q ys x (λ j e m. h (suc j) e (omega (m, arith))) k i d (omega (l, arith))
+
+-- an object, behind its length
+object_made : (u : UnitTree) (words : Words) (b : Bool) (n : Option ℕ) (x : Identifier) (i : Option InitializerTree) (f : F) (w : W) (rows fs : List Failure) (name : List ℕ) → w.scoping ≡ f.walked.scoping → w.locals ≡ f.walked.locals
+    → is_void words.typing ≡ false → is_unknown words.typing ≡ false → FileIs u f → RoomIn b n (count (given i))
+    → (let t = type_or_int words.typing in let v = failing noted fs (after_name x (file_object words b f) (failing noted rows w)) in
+    let g : F = record { walked = after_numbers noted (given i) v; objects = f.objects ++ record { name = name; int_type = t; start = start_of (length_or_1 b n) (numbers_at noted t (given i) v) } ∷ []; functions = f.functions } in
+    Stands u g → FileIs u g)
+object_made u words b n x i f w rows fs name sc lc void unknown h r s =
+    let t = type_or_int words.typing in
+    let v = failing noted fs (after_name x (file_object words b f) (failing noted rows w)) in
+    let zs = numbers_at noted t (given i) v in
+    let o : FileObjectTree = record { name = name; int_type = t; start = start_of (length_or_1 b n) zs } in
+    let q = after_numbers noted (given i) v in
+    let sq : q.scoping ≡ declaring w.scoping x (file_object words b f) = same_scope (given i) v in
+    let is : u.objects ≡ f.objects ++ o ∷ s.rest = s.objects ∙ append_assoc f.objects (o ∷ []) s.rest in
+    let there : slice_get u.objects (length f.objects) ≡ Some o = ap (λ (l : List FileObjectTree). slice_get l (length f.objects)) is ∙ nth f.objects o s.rest in
+    let kind : kind_in_file u (length f.objects) ≡ Some (record { int_type = t; length = length_or_1 b n }) =
+    ap (option_map (λ (y : FileObjectTree). record { int_type = y.int_type; length = length_at_start y.start })) there ∙ ap (λ (l : Option ℕ). Some (record { int_type = t; length = l })) (start_length b n zs) in
+    record {
+      names = subst (λ (c : Scoping). NamesAre (in_file u) (names_in c)) (sym sq) (names_declaring (in_file u) w.scoping x (file_object words b f) (subst (λ (c : Scoping). NamesAre (in_file u) (names_in c)) (sym sc) h.names)
+          (object_is u (length f.objects) words.typing b n void unknown kind));
+      known = subst (λ (c : Scoping). (y : Identifier) → KnownIn f.functions (names_in c y)) (sym sq) (known_declaring f.functions w.scoping x (file_object words b f) (subst (λ (c : Scoping). (y : Identifier) → KnownIn f.functions (names_in c y)) (sym sc) h.known) tt);
+      locals = same_locals (given i) v ∙ (lc ∙ h.locals);
+      objects = all_last (λ (y : FileObjectTree). IsStart y.int_type y.start) f.objects o h.objects (start_is t b n zs (numbers_in_type t (given i) v) (subst (RoomIn b n) (sym (numbers_many t (given i) v)) r));
+      entries = h.entries;
+    }
+
+later_head : (storage : Option Storage) (words : Words) (d : DeclaratorTree) (f : F) → Later f.walked (files.after_head noted storage words d f)
+later_head storage words d f =
+    let w = after_optional_length noted d.length f.walked in
+    let rows = redeclared w.scoping d.name ++ extern_object storage d.name ++ void_object words.typing d.name.at ++ special_object w.scoping d.name in
+    let fs = braces (is_some d.length) d.initializer d.name.at ++ surplus (length_at f.walked d.length) d.initializer in
+    let v : W = after_name d.name (file_object words (is_some d.length) f) (failing noted rows w) in
+    let named : Later (failing noted rows w) v = record { found = λ h. h; more = []; locals = sym (append-nil w.locals) } in
+    later f.walked w _ (later_optional_length d.length f.walked) (later w (failing noted rows w) _ (later_failing rows w) (later (failing noted rows w) v _ named (later_failing fs v)))
+
+later_object : (storage : Option Storage) (words : Words) (d : DeclaratorTree) (f : F) → LaterFile f (after_object noted storage words d f)
+unfolding after_object
+later_object storage words d f =
+    let w = files.after_head noted storage words d f in
+    let t = type_or_int words.typing in
+    record {
+      found = λ h. (later_head storage words d f).found ((later_numbers (given d.initializer) w).found h);
+      more = record { name = text_of f.walked.scoping d.name; int_type = t; start = start_of (length_or_1 (is_some d.length) (length_at f.walked d.length)) (numbers_at noted t (given d.initializer) w) } ∷ [];
+      objects = refl;
+      entries = kept_same f.functions;
+    }
+
+later_objects : (storage : Option Storage) (words : Words) (ds : List DeclaratorTree) (f : F) → LaterFile f (after_objects noted storage words ds f)
+unfolding after_objects
+later_objects storage words [] f = file_same f
+later_objects storage words (d ∷ ds) f = file_later f (after_object noted storage words d f) _ (later_object storage words d f) (later_objects storage words ds (after_object noted storage words d f))
+
+pub later_declaration : (storage : Option Storage) (d : DeclarationTree) (f : F) → LaterFile f (after_declaration noted storage d f)
+unfolding after_declaration
+later_declaration storage d f =
+    let g = on (failing noted (specifiers d.specifiers)) f in
+    let l = later_objects storage (words_of d.specifiers) (d.declarators.first ∷ d.declarators.more) g in
+    record { found = λ h. (later_failing (specifiers d.specifiers) f.walked).found (l.found h); more = l.more; objects = l.objects; entries = l.entries }
+
+void_row : (a b c d : List Failure) → a ++ b ++ c ++ d ≡ [] → c ≡ []
+void_row a b c d h = none_after (a ++ b) c (none_before (a ++ b ++ c) d h)
+
+one_object : (u : UnitTree) (storage : Option Storage) (words : Words) (x : Identifier) (e : Option ExpressionTree) (i : Option InitializerTree) (f : F) → is_unknown words.typing ≡ false → FileIs u f
+    → (let d : DeclaratorTree = record { name = x; length = e; initializer = i } in Stands u (after_object noted storage words d f) → (after_object noted storage words d f).walked.found ≡ None → FileIs u (after_object noted storage words d f))
+unfolding after_object
+one_object u storage words x None i f unknown h s k =
+    let w = f.walked in
+    let rows = redeclared w.scoping x ++ extern_object storage x ++ void_object words.typing x.at ++ special_object w.scoping x in
+    let fs = braces false i x.at ++ surplus None i in
+    let v = failing noted fs (after_name x (file_object words false f) (failing noted rows w)) in
+    let k1 = none_found (noted w.found rows) fs ((later_numbers (given i) v).found k) in
+    let k2 = none_found w.found rows k1.0 in
+    let void : is_void words.typing ≡ false = holds_not _ _ _ (void_row (redeclared w.scoping x) (extern_object storage x) (void_object words.typing x.at) (special_object w.scoping x) k2.1) in
+    object_made u words false None x i f w rows fs (text_of w.scoping x) refl refl void unknown h tt s
+one_object u storage words x (Some e) i f unknown h s k =
+    let w = after_optional_length noted (Some e) f.walked in
+    let n = length_in (evaluated f.walked e) in
+    let rows = redeclared w.scoping x ++ extern_object storage x ++ void_object words.typing x.at ++ special_object w.scoping x in
+    let fs = braces true i x.at ++ surplus n i in
+    let v = failing noted fs (after_name x (file_object words true f) (failing noted rows w)) in
+    let k1 = none_found (noted w.found rows) fs ((later_numbers (given i) v).found k) in
+    let k2 = none_found w.found rows k1.0 in
+    let void : is_void words.typing ≡ false = holds_not _ _ _ (void_row (redeclared w.scoping x) (extern_object storage x) (void_object words.typing x.at) (special_object w.scoping x) k2.1) in
+    let m = length_known u [] f.walked e (names_from_file u [] (length f.walked.locals) (here f.walked) h.names) k2.0 in
+    let fits : count (given i) ≤ m.0 = given_fit i m.0 x.at (none_before (braces true i x.at) (surplus n i) k1.1) (rw m.1 at (none_after (braces true i x.at) (surplus n i) k1.1)) in
+    object_made u words true n x i f w rows fs (text_of f.walked.scoping x) refl refl void unknown h (subst (λ (o : Option ℕ). RoomIn true o (count (given i))) (sym m.1) (fits, m.3)) s
+
+all_objects : (u : UnitTree) (storage : Option Storage) (words : Words) (ds : List DeclaratorTree) (f : F) → is_unknown words.typing ≡ false → FileIs u f → Stands u (after_objects noted storage words ds f)
+    → (after_objects noted storage words ds f).walked.found ≡ None
+    → FileIs u (after_objects noted storage words ds f)
+unfolding after_objects
+all_objects u storage words [] f unknown h s k = h
+all_objects u storage words (d ∷ ds) f unknown h s k =
+    let g = after_object noted storage words d f in
+    let l = later_objects storage words ds g in
+    all_objects u storage words ds g unknown (one_object u storage words d.name d.length d.initializer f unknown h (stands_before u g _ l s) (l.found k)) s k
+
+pub declaration : (u : UnitTree) (storage : Option Storage) (d : DeclarationTree) (f : F) → FileIs u f → Stands u (after_declaration noted storage d f) → (after_declaration noted storage d f).walked.found ≡ None
+    → FileIs u (after_declaration noted storage d f)
+unfolding after_declaration specifiers
+declaration u storage d f h s k =
+    let g = on (failing noted (specifiers d.specifiers)) f in
+    let ds = d.declarators.first ∷ d.declarators.more in
+    let r = after_objects noted storage (words_of d.specifiers) ds g in
+    let kg = (later_objects storage (words_of d.specifiers) ds g).found k in
+    let unknown : is_unknown (type_named d.specifiers) ≡ false = holds_not _ _ _ (none_found f.walked.found (specifiers d.specifiers) kg).1 in
+    let at : FileIs u g = record { names = h.names; known = h.known; locals = h.locals; objects = h.objects; entries = h.entries } in
+    let all = all_objects u storage (words_of d.specifiers) ds g unknown at (record { rest = s.rest; objects = s.objects; functions = s.functions }) k in
+    record { names = all.names; known = all.known; locals = all.locals; objects = all.objects; entries = all.entries }

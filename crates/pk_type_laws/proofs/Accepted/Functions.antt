@@ -1,0 +1,211 @@
+-- Parameters and bodies of functions in which no rule fails.
+use Rattle.std.proofs.Common.{◌≡◌, ℕ, suc, ◌≤◌, true, false, List, [], ◌∷◌, ◌++◌, Option, Some, None, length, map, refl, ap, sym, subst, ◌∙◌, arith, append_assoc, append-nil}
+use Rattle.std.proofs.lemmas.Bool.{false≢true}
+use Rattle.std.specs.Option.{option_map}
+use Rattle.pk_ctypes.specs.declared.places.Pos.{Pos}
+use Rattle.pk_ctypes.specs.declared.types.IntType.{IntType}
+use Rattle.pk_ctypes.specs.declared.words.Rule.{Rule}
+use Rattle.pk_ctypes.specs.declared.words.Rule.TheVariants as rule
+use Rattle.pk_ast.specs.declared.expressions.Identifier.{Identifier}
+use Rattle.pk_ast.specs.Trees.{BlockTree, ParameterTree}
+use Rattle.pk_typed.specs.Trees as tree
+use Rattle.pk_typed.specs.Trees.{LocalTree, UnitTree}
+use Rattle.pk_type_scope.specs.declared.declarations.Typing.{Typing}
+use Rattle.pk_type_scope.specs.declared.declarations.Typing.TheVariants.{Void, Integer, Unknown}
+use Rattle.pk_type_scope.specs.Declarations.{is_void, is_unknown}
+use Rattle.pk_type_scope.specs.Failures.{fails_if, noted}
+use Rattle.pk_type_scope.specs.Specifiers.{type_named, specifiers}
+use Rattle.pk_type_declaration.specs.Declarations.{words_of, type_or_int, local_of, integer_in}
+use Rattle.pk_type_declaration.specs.Walks.{here, failing, with_local}
+use Rattle.pk_type_jump.specs.Jumps.{jumps_of}
+use Rattle.pk_type_jump.specs.Labels.{labels_of}
+use Rattle.pk_type_statement.specs.Statements.{after_items}
+use Rattle.pk_type_statement.specs.Trees.{typed_items}
+use Rattle.pk_type.specs.Functions.{unnamed, after_parameter_name, after_parameter, after_parameters, each_at, about_jumps, before_body, after_body, body_of, body_at}
+use Rattle.pk_type.specs.Signatures.{is_integer, types_of}
+use Rattle.pk_welltyped.specs.Listed.{numbered}
+use Rattle.pk_welltyped.specs.WellTyped.{AreParameters, AreItems, IsBodyIf, Marks}
+use Rattle.pk_type_laws.specs.Accepted.Constants.{ItemsHave}
+use Rattle.pk_type_laws.specs.Accepted.Names.{NamesAre}
+use Rattle.pk_type_laws.proofs.Accepted.Walks.{W, around, none_found, Later, later_same, later, later_failing}
+use Rattle.pk_type_expression.proofs.TreeLemmas.{none_after}
+use Rattle.pk_type_laws.proofs.Accepted.Declarations.{holds_not, names_later, Begins, begins_before, later_object, not_void, object_declared}
+use Rattle.pk_type_laws.proofs.Accepted.Statements.{Ends, items_part, later_items, ItemsPart}
+use Rattle.pk_type_laws.proofs.Accepted.Jumps.{labels_below, no_case, no_default}
+
+-- ---- parameters
+
+later_local : (l : LocalTree) (w : W) → Later w (with_local l w)
+later_local l w = record { found = λ h. h; more = l ∷ []; locals = refl }
+
+later_parameter : (p : ParameterTree) (w : W) → Later w (after_parameter noted p w)
+later_parameter p w =
+    let v = failing noted (specifiers p.specifiers) w in
+    later w v _ (later_failing (specifiers p.specifiers) w) (named p.name v)
+  where
+    named : (x : Option Identifier) (v : W) → Later v (after_parameter_name noted p x v)
+    named None v =
+        let fs = fails_if (is_void (type_named p.specifiers)) rule.Void p.specifiers.first.at in
+        later v (failing noted fs v) _ (later_failing fs v) (later_local (record { name = None; int_type = type_or_int (type_named p.specifiers); length = None }) (failing noted fs v))
+    named (Some x) v = later_object (words_of p.specifiers) false None x v
+
+pub later_parameters : (ps : List ParameterTree) (w : W) → Later w (after_parameters noted ps w)
+unfolding after_parameters
+later_parameters [] w = later_same w
+later_parameters (p ∷ ps) w = later w (after_parameter noted p w) _ (later_parameter p w) (later_parameters ps (after_parameter noted p w))
+
+abbrev pub Integers : List Typing → Type 0
+Integers [] = Unit {0}
+Integers (t ∷ ts) = (is_integer t ≡ true) × Integers ts
+
+integer : (t : Typing) → is_void t ≡ false → is_unknown t ≡ false → is_integer t ≡ true
+integer Void h k = absurd (false≢true (sym h))
+integer (Integer t) h k = refl
+integer Unknown h k = absurd (false≢true (sym k))
+
+parameter_integer : (p : ParameterTree) (w : W) → (after_parameter noted p w).found ≡ None → is_integer (type_named p.specifiers) ≡ true
+unfolding specifiers
+parameter_integer p w h = named p.name h
+  where
+    named : (x : Option Identifier) → (after_parameter_name noted p x (failing noted (specifiers p.specifiers) w)).found ≡ None → is_integer (type_named p.specifiers) ≡ true
+    named None h =
+        let t = type_named p.specifiers in
+        let v = failing noted (specifiers p.specifiers) w in
+        let f = none_found v.found (fails_if (is_void t) rule.Void p.specifiers.first.at) h in
+        integer t (holds_not _ _ _ f.1) (holds_not _ _ _ (none_found w.found (specifiers p.specifiers) f.0).1)
+    named (Some x) h =
+        let t = type_named p.specifiers in
+        let v = failing noted (specifiers p.specifiers) w in
+        integer t (not_void (words_of p.specifiers) false None x v h) (holds_not _ _ _ (none_found w.found (specifiers p.specifiers) ((later_object (words_of p.specifiers) false None x v).found h)).1)
+
+pub integers_of : (ps : List ParameterTree) (w : W) → (after_parameters noted ps w).found ≡ None → Integers (types_of ps)
+unfolding after_parameters
+integers_of [] w h = tt
+integers_of (p ∷ ps) w h = (parameter_integer p w ((later_parameters ps (after_parameter noted p w)).found h), integers_of ps (after_parameter noted p w) h)
+
+record One (u : UnitTree) (ls : List LocalTree) (w v : W) (t : Typing) : Type 0 where
+  names : NamesAre (around u ls v) (here v)
+  calls : v.calls ≡ w.calls
+  local : LocalTree
+  locals : v.locals ≡ w.locals ++ local ∷ []
+  type_is : local.int_type ≡ type_or_int t
+  length_is : local.length ≡ None
+
+parameter : (u : UnitTree) (ls : List LocalTree) (p : ParameterTree) (w : W) → NamesAre (around u ls w) (here w) → Begins ls (after_parameter noted p w) → (after_parameter noted p w).found ≡ None
+    → One u ls w (after_parameter noted p w) (type_named p.specifiers)
+unfolding specifiers
+parameter u ls p w n b h = named p.name b h
+  where
+    named : (x : Option Identifier) → Begins ls (after_parameter_name noted p x (failing noted (specifiers p.specifiers) w)) → (after_parameter_name noted p x (failing noted (specifiers p.specifiers) w)).found ≡ None
+        → One u ls w (after_parameter_name noted p x (failing noted (specifiers p.specifiers) w)) (type_named p.specifiers)
+    named None b h =
+        let t = type_named p.specifiers in
+        let v = failing noted (specifiers p.specifiers) w in
+        let fs = fails_if (is_void t) rule.Void p.specifiers.first.at in
+        let f = none_found v.found fs h in
+        let x = unnamed noted p v in
+        let l = later w (failing noted fs v) x (later w v _ (later_failing (specifiers p.specifiers) w) (later_failing fs v)) (later_local (record { name = None; int_type = type_or_int t; length = None }) (failing noted fs v)) in
+        record {
+          names = names_later u ls w x (here w) l n;
+          calls = refl;
+          local = record { name = None; int_type = type_or_int t; length = None };
+          locals = refl;
+          type_is = refl;
+          length_is = refl;
+        }
+    named (Some x) b h =
+        let t = type_named p.specifiers in
+        let v = failing noted (specifiers p.specifiers) w in
+        let f = (later_object (words_of p.specifiers) false None x v).found h in
+        let unknown : is_unknown t ≡ false = holds_not _ _ _ (none_found w.found (specifiers p.specifiers) f).1 in
+        let o = object_declared u ls (words_of p.specifiers) false None x v n unknown b h in
+        record {
+          names = o.names;
+          calls = refl;
+          local = local_of t v.scoping false None x;
+          locals = refl;
+          type_is = refl;
+          length_is = refl;
+        }
+
+pub record Parameters (u : UnitTree) (ls : List LocalTree) (w v : W) (ts : List Typing) : Type 0 where
+  pub names : NamesAre (around u ls v) (here v)
+  pub calls : v.calls ≡ w.calls
+  pub more : List LocalTree
+  pub locals : v.locals ≡ w.locals ++ more
+  pub are : AreParameters (map type_or_int ts) more
+  pub many : length more ≡ length (map type_or_int ts)
+
+pub parameters : (u : UnitTree) (ls : List LocalTree) (ps : List ParameterTree) (w : W) → NamesAre (around u ls w) (here w) → Begins ls (after_parameters noted ps w) → (after_parameters noted ps w).found ≡ None
+    → Parameters u ls w (after_parameters noted ps w) (types_of ps)
+unfolding after_parameters
+parameters u ls [] w n b h = record { names = n; calls = refl; more = []; locals = sym (append-nil w.locals); are = tt; many = refl }
+parameters u ls (p ∷ ps) w n b h =
+    let v = after_parameter noted p w in
+    let l = later_parameters ps v in
+    let one = parameter u ls p w n (begins_before ls v _ l b) (l.found h) in
+    let all = parameters u ls ps v one.names b h in
+    record {
+      names = all.names;
+      calls = all.calls ∙ one.calls;
+      more = one.local ∷ all.more;
+      locals = all.locals ∙ (ap (λ (xs : List LocalTree). xs ++ all.more) one.locals ∙ append_assoc w.locals (one.local ∷ []) all.more);
+      are = (one.type_is, one.length_is, all.are);
+      many = ap suc all.many;
+    }
+
+-- and more objects behind them
+pub with_others : (ts : List IntType) (xs ys : List LocalTree) → AreParameters ts xs → AreParameters ts (xs ++ ys)
+with_others [] xs ys h = tt
+with_others (t ∷ ts) [] ys h = absurd h
+with_others (t ∷ ts) (x ∷ xs) ys h = (h.0, h.1, with_others ts xs ys h.2)
+
+-- ---- a body
+
+none_at : (r : Rule) (xs : List Pos) → each_at r xs ≡ [] → xs ≡ []
+none_at r [] h = refl
+none_at r (x ∷ xs) h = absurd (cc)
+
+pub later_body : (r : Typing) (b : BlockTree) (w : W) → Later w (after_body noted r b w)
+later_body r b w =
+    let labels = labels_of w.scoping.text b.items in
+    let fs = about_jumps labels (jumps_of w.scoping.text labels.labels b.items) in
+    let p = before_body w in
+    later w (after_items noted r p b.items).walked _ (later_items r p b.items).walked (later_failing fs (after_items noted r p b.items).walked)
+
+made : (u : UnitTree) (g : tree.FunctionTree) (m : Marks) (visible : ℕ) (b : BlockTree) (w v x : W) (is : Option tree.ItemTrees) → m ≡ record { labels = m.labels; returns = g.returns; cases = 0; has_default = false } → x.calls ≡ v.calls → x.locals ≡ v.locals
+    → visible ≤ length u.objects → w.calls ≡ [] → AreParameters g.parameters x.locals → length w.locals ≡ length g.parameters → ItemsPart u x.locals m w v is
+    → IsBodyIf u g (option_map (body_of b visible m.labels x) is)
+made u g m visible b w v x None im c l s k p n h = tt
+made u g m visible b w v x (Some is) im c l s k p n h = record {
+  visible = s;
+  parameters = p;
+  items = subst (λ (o : Marks). AreItems (record { unit = u; locals = x.locals; objects = length g.parameters }) o is) im (subst (λ (i : ℕ). AreItems (record { unit = u; locals = x.locals; objects = i }) m is) n h.0);
+  calls =
+      let at : numbered (length w.calls) h.1.sites ≡ numbered 0 h.1.sites = ap (λ (cs : List _). numbered (length cs) h.1.sites) k in
+      let is_them : x.calls ≡ h.1.sites = c ∙ (h.1.calls ∙ ap (λ (cs : List _). cs ++ h.1.sites) k) in
+      h.1.listed ∙ (at ∙ sym (ap (numbered 0) is_them));
+}
+
+pub body : (u : UnitTree) (g : tree.FunctionTree) (r : Typing) (visible : ℕ) (b : BlockTree) (w : W) → visible ≤ length u.objects → w.calls ≡ [] → AreParameters g.parameters (after_body noted r b w).locals
+    → length w.locals ≡ length g.parameters → g.returns ≡ integer_in r → is_unknown r ≡ false
+    → NamesAre (around u (after_body noted r b w).locals w) (here w) → ItemsHave b.items → (after_body noted r b w).found ≡ None → IsBodyIf u g (body_at noted r visible b w)
+body u g r visible b w s k p n ret known names has h =
+    let labels = labels_of w.scoping.text b.items in
+    let jumps = jumps_of w.scoping.text labels.labels b.items in
+    let fs = about_jumps labels jumps in
+    let start = before_body w in
+    let q = after_items noted r start b.items in
+    let x = after_body noted r b w in
+    let f = none_found q.walked.found fs h in
+    let rows : each_at rule.Label labels.repeated ++ each_at rule.Label jumps.unknown ++ each_at rule.Jump jumps.misplaced ≡ [] = f.1 in
+    let placed : jumps.misplaced ≡ [] = none_at rule.Jump jumps.misplaced (none_after (each_at rule.Label labels.repeated ++ each_at rule.Label jumps.unknown) (each_at rule.Jump jumps.misplaced) rows) in
+    let m : Marks = record { labels = labels.count; returns = g.returns; cases = 0; has_default = false } in
+    let e : Ends x.locals m q = record {
+      begins = record { rest = []; is = sym (append-nil q.walked.locals) };
+      found = f.0;
+      cases = omega (ap length (no_case w.scoping.text labels.labels r start b.items placed), arith);
+      default = λ t. absurd (false≢true (sym (no_default w.scoping.text labels.labels r start b.items placed) ∙ t));
+    } in
+    made u g m visible b w q.walked x (typed_items noted r labels.labels start b.items) refl refl refl s k p n
+    (items_part u x.locals r labels.labels m (labels_below w.scoping.text b.items, ret, known) start b.items names has e)

@@ -1,0 +1,179 @@
+-- The first failure so far is that of the list so far: after functions and objects of the file.
+use Rattle.std.proofs.Common.{◌≡◌, ℕ, ℤ, Bool, false, List, [], ◌∷◌, ◌++◌, Option, Some, None, refl, ap, sym, ◌∙◌, length}
+use Rattle.std.specs.Prelude.{is_some}
+use Rattle.std.specs.Option.{option_map}
+use Rattle.pk_ctypes.specs.declared.types.IntType.{IntType}
+use Rattle.pk_ctypes.specs.declared.words.Rule.TheVariants as rule
+use Rattle.pk_ast.specs.declared.expressions.Identifier.{Identifier}
+use Rattle.pk_ast.specs.declared.units.Storage.{Storage}
+use Rattle.pk_ast.specs.Trees.{ExpressionTree, ExpressionTrees, no_expressions, expression_then, InitializerTree, DeclaratorTree, DeclarationTree, ParameterTree, BlockTree, FunctionTree, ExternalTree, function, objects}
+use Rattle.pk_typed.specs.Trees.{BodyTree, FileObjectTree}
+use Rattle.pk_typed.specs.Trees as tree
+use Rattle.pk_type_scope.specs.declared.declarations.Declaration.{Declaration}
+use Rattle.pk_type_scope.specs.declared.declarations.Declaration.TheVariants as declared
+use Rattle.pk_type_scope.specs.declared.declarations.Typing.{Typing}
+use Rattle.pk_type_scope.specs.declared.failures.Failure.{Failure}
+use Rattle.pk_type_scope.specs.Declarations.{is_void}
+use Rattle.pk_type_scope.specs.Failures.{noted, fails_if}
+use Rattle.pk_type_scope.specs.Scopes.{names_in, spelled}
+use Rattle.pk_type_scope.specs.Specifiers.{type_named, specifiers}
+use Rattle.pk_type_declaration.specs.declared.words.Words.{Words}
+use Rattle.pk_type_declaration.specs.Constants.{after_constant}
+use Rattle.pk_type_declaration.specs.Declarations.{words_of, type_or_int, text_of, redeclared, void_object, special_object, braces, surplus, length_at, after_optional_length, length_or_1}
+use Rattle.pk_type_declaration.specs.Specials.{special}
+use Rattle.pk_type_declaration.specs.Walks.{Walked, failing, after_name, with_local, entering}
+use Rattle.pk_type_jump.specs.Jumps.{jumps_of}
+use Rattle.pk_type_jump.specs.Labels.{labels_of}
+use Rattle.pk_type_statement.specs.Statements.{Passed, after_items}
+use Rattle.pk_type_statement.specs.Trees.{typed_items}
+use Rattle.pk_type.specs.Files.{EntryTree, Filed, number_at, after_numbers, numbers_at, given, start_of, extern_object, file_object, after_head, after_object, after_objects, without_calls, on, after_declaration}
+use Rattle.pk_type.specs.Functions as functions
+use Rattle.pk_type.specs.Functions.{unnamed, after_parameter_name, after_parameter, after_parameters, is_redeclared, is_misused, number_of, callee_of, with_new, about_jumps, before_body, after_body, emptied, body_of, body_at, defining, leaving_function, after_optional_body, after_function}
+use Rattle.pk_type.specs.Signatures.{signature_of}
+use Rattle.pk_type.specs.Units.{no_name, defined_in, after_external, after_externals, nothing_filed, checked}
+use Rattle.pk_type_laws.specs.Answered.Failures.{appended, listing}
+use Rattle.pk_type_laws.proofs.Answered.Walks.{L, W, first, failing_first, constant_first, optional_length_first, length_at_first, object_first}
+use Rattle.pk_type_laws.proofs.Answered.Statements.{items_first, items_same}
+
+abbrev pub F : Type 0
+F = Filed (List Failure)
+
+abbrev pub G : Type 0
+G = Filed (Option Failure)
+
+abbrev with_walk : F → W → G
+with_walk f w = record { walked = w; objects = f.objects; functions = f.functions }
+
+-- with the first failure alone
+abbrev pub filed_first : F → G
+filed_first f = with_walk f (first f.walked)
+
+-- ---- objects
+
+numbers_first : (es : ExpressionTrees) (w : L) → after_numbers noted es (first w) ≡ first (after_numbers appended es w)
+unfolding after_numbers
+numbers_first no_expressions w = refl
+numbers_first (expression_then e es) w = ap (after_numbers noted es) (constant_first e w) ∙ numbers_first es (after_constant appended e w)
+
+numbers_same : (t : IntType) (es : ExpressionTrees) (w : L) → numbers_at noted t es (first w) ≡ numbers_at appended t es w
+unfolding numbers_at
+numbers_same t no_expressions w = refl
+numbers_same t (expression_then e es) w =
+    ap (λ (ns : List ℤ). number_at t w e ∷ ns) (ap (numbers_at noted t es) (constant_first e w) ∙ numbers_same t es (after_constant appended e w))
+
+head_first : (storage : Option Storage) (words : Words) (d : DeclaratorTree) (f : F) → after_head noted storage words d (filed_first f) ≡ first (after_head appended storage words d f)
+head_first storage words d f =
+    let v = after_optional_length appended d.length f.walked in
+    let rows = redeclared v.scoping d.name ++ extern_object storage d.name ++ void_object words.typing d.name.at ++ special_object v.scoping d.name in
+    let fs = braces (is_some d.length) d.initializer d.name.at ++ surplus (length_at f.walked d.length) d.initializer in
+    let o = file_object words (is_some d.length) f in
+    let begun : W → W = λ (w : W). after_name d.name o (failing noted (redeclared w.scoping d.name ++ extern_object storage d.name ++ void_object words.typing d.name.at ++ special_object w.scoping d.name) w) in
+    let same : after_head noted storage words d (filed_first f) ≡ failing noted fs (begun (after_optional_length noted d.length (first f.walked))) =
+    ap (λ (m : Option ℕ). failing noted (braces (is_some d.length) d.initializer d.name.at ++ surplus m d.initializer) (begun (after_optional_length noted d.length (first f.walked)))) (length_at_first d.length f.walked) in
+    same ∙ (ap (λ (w : W). failing noted fs (begun w)) (optional_length_first d.length f.walked)
+    ∙ (ap (λ (w : W). failing noted fs (after_name d.name o w)) (failing_first rows v) ∙ failing_first fs (after_name d.name o (failing appended rows v))))
+
+file_object_of : Words → DeclaratorTree → F → Option ℕ → List ℤ → FileObjectTree
+file_object_of words d f n ns = record { name = text_of f.walked.scoping d.name; int_type = type_or_int words.typing; start = start_of (length_or_1 (is_some d.length) n) ns }
+
+made : F → W → FileObjectTree → G
+made f w o = record { walked = w; objects = f.objects ++ o ∷ []; functions = f.functions }
+
+object_of_file_first : (storage : Option Storage) (words : Words) (d : DeclaratorTree) (f : F) → after_object noted storage words d (filed_first f) ≡ filed_first (after_object appended storage words d f)
+unfolding after_object made file_object_of
+object_of_file_first storage words d f =
+    let t = type_or_int words.typing in
+    let es = given d.initializer in
+    let v = after_head noted storage words d (filed_first f) in
+    let w = after_head appended storage words d f in
+    let same : v ≡ first w = head_first storage words d f in
+    let walk : after_numbers noted es v ≡ first (after_numbers appended es w) = ap (after_numbers noted es) same ∙ numbers_first es w in
+    let numbers : numbers_at noted t es v ≡ numbers_at appended t es w = ap (numbers_at noted t es) same ∙ numbers_same t es w in
+    ap (λ (x : W). made f x (file_object_of words d f (length_at (first f.walked) d.length) (numbers_at noted t es v))) walk
+    ∙ (ap (λ (n : Option ℕ). made f (first (after_numbers appended es w)) (file_object_of words d f n (numbers_at noted t es v))) (length_at_first d.length f.walked)
+    ∙ ap (λ (ns : List ℤ). made f (first (after_numbers appended es w)) (file_object_of words d f (length_at f.walked d.length) ns)) numbers)
+
+objects_first : (storage : Option Storage) (words : Words) (ds : List DeclaratorTree) (f : F) → after_objects noted storage words ds (filed_first f) ≡ filed_first (after_objects appended storage words ds f)
+unfolding after_objects
+objects_first storage words [] f = refl
+objects_first storage words (d ∷ ds) f = ap (after_objects noted storage words ds) (object_of_file_first storage words d f) ∙ objects_first storage words ds (after_object appended storage words d f)
+
+declaration_first : (storage : Option Storage) (d : DeclarationTree) (f : F) → after_declaration noted storage d (filed_first f) ≡ filed_first (after_declaration appended storage d f)
+unfolding after_declaration
+declaration_first storage d f =
+    let words = words_of d.specifiers in
+    let ds = d.declarators.first ∷ d.declarators.more in
+    ap (λ (w : W). without_calls (after_objects noted storage words ds (with_walk f w))) (failing_first (specifiers d.specifiers) f.walked)
+    ∙ ap without_calls (objects_first storage words ds (on (failing appended (specifiers d.specifiers)) f))
+
+-- ---- functions
+
+unnamed_first : (p : ParameterTree) (w : L) → unnamed noted p (first w) ≡ first (unnamed appended p w)
+unnamed_first p w =
+    ap (with_local (record { name = None; int_type = type_or_int (type_named p.specifiers); length = None }))
+    (failing_first (fails_if (is_void (type_named p.specifiers)) rule.Void p.specifiers.first.at) w)
+
+name_first : (p : ParameterTree) (x : Option Identifier) (w : L) → after_parameter_name noted p x (first w) ≡ first (after_parameter_name appended p x w)
+name_first p None w = unnamed_first p w
+name_first p (Some x) w = object_first (words_of p.specifiers) false None x w
+
+parameters_first : (ps : List ParameterTree) (w : L) → after_parameters noted ps (first w) ≡ first (after_parameters appended ps w)
+unfolding after_parameters
+parameters_first [] w = refl
+parameters_first (p ∷ ps) w =
+    ap (λ (v : W). after_parameters noted ps (after_parameter_name noted p p.name v)) (failing_first (specifiers p.specifiers) w)
+    ∙ (ap (after_parameters noted ps) (name_first p p.name (failing appended (specifiers p.specifiers) w)) ∙ parameters_first ps (after_parameter appended p w))
+
+function_head_first : (defined : List ℕ → Bool) (g : FunctionTree) (f : F) → functions.after_head noted defined g (filed_first f) ≡ filed_first (functions.after_head appended defined g f)
+function_head_first defined g f =
+    let s = signature_of g in
+    let w = f.walked in
+    let q = spelled w.scoping.text g.name in
+    let before = names_in w.scoping g.name in
+    let n = number_of f.functions before in
+    let rows = specifiers g.specifiers ++ fails_if (is_redeclared f.functions s (is_some g.body) before) rule.Redeclared g.name.at ++ fails_if (is_misused s (special q)) rule.Special g.name.at in
+    let declaration = declared.Function (record { number = n; callee = callee_of s (defined q) (special q) }) in
+    ap (λ (v : W). record { walked = after_name g.name declaration v; objects = f.objects; functions = with_new f.functions n (text_of w.scoping g.name) s }) (failing_first rows w)
+
+body_first : (r : Typing) (b : BlockTree) (w : L) → after_body noted r b (first w) ≡ first (after_body appended r b w)
+body_first r b w =
+    let labels = labels_of w.scoping.text b.items in
+    let fs = about_jumps labels (jumps_of w.scoping.text labels.labels b.items) in
+    ap (λ (p : Passed (Option Failure)). failing noted fs p.walked) (items_first r (before_body w) b.items) ∙ failing_first fs (after_items appended r (before_body w) b.items).walked
+
+body_same : (r : Typing) (visible : ℕ) (b : BlockTree) (w : L) → body_at noted r visible b (first w) ≡ body_at appended r visible b w
+body_same r visible b w =
+    let labels = labels_of w.scoping.text b.items in
+    ap (λ (v : W). option_map (body_of b visible labels.count v) (typed_items noted r labels.labels (before_body (first w)) b.items)) (body_first r b w)
+    ∙ ap (option_map (body_of b visible labels.count (after_body appended r b w))) (items_same r labels.labels (before_body w) b.items)
+
+optional_body_first : (r : Typing) (n : ℕ) (b : Option BlockTree) (f : F) → after_optional_body noted r n b (filed_first f) ≡ filed_first (after_optional_body appended r n b f)
+optional_body_first r n None f = refl
+optional_body_first r n (Some b) f =
+    ap (λ (t : Option BodyTree). defining n t (with_walk f (emptied (after_body noted r b (first f.walked))))) (body_same r (length f.objects) b f.walked)
+    ∙ ap (λ (w : W). defining n (body_at appended r (length f.objects) b f.walked) (with_walk f (emptied w))) (body_first r b f.walked)
+
+function_first : (defined : List ℕ → Bool) (g : FunctionTree) (f : F) → after_function noted defined g (filed_first f) ≡ filed_first (after_function appended defined g f)
+unfolding after_function
+function_first defined g f =
+    let n = number_of f.functions (names_in f.walked.scoping g.name) in
+    let r = type_named g.specifiers in
+    let h = functions.after_head appended defined g f in
+    let k = on entering h in
+    ap (λ (x : G). leaving_function x (after_optional_body noted r n g.body (on (after_parameters noted g.parameters) (on entering x)))) (function_head_first defined g f)
+    ∙ (ap (λ (w : W). leaving_function (filed_first h) (after_optional_body noted r n g.body (with_walk k w))) (parameters_first g.parameters k.walked)
+    ∙ ap (leaving_function (filed_first h)) (optional_body_first r n g.body (on (after_parameters appended g.parameters) k)))
+
+-- ---- texts
+
+external_first : (defined : List ℕ → Bool) (x : ExternalTree) (f : F) → after_external noted defined x (filed_first f) ≡ filed_first (after_external appended defined x f)
+external_first defined (function g) f = function_first defined g f
+external_first defined (objects storage d) f = declaration_first storage d f
+
+externals_first : (defined : List ℕ → Bool) (xs : List ExternalTree) (f : F) → after_externals noted defined xs (filed_first f) ≡ filed_first (after_externals appended defined xs f)
+unfolding after_externals
+externals_first defined [] f = refl
+externals_first defined (x ∷ xs) f = ap (after_externals noted defined xs) (external_first defined x f) ∙ externals_first defined xs (after_external appended defined x f)
+
+pub checked_first : (text : List ℕ) (xs : List ExternalTree) → checked noted None text xs ≡ filed_first (listing text xs)
+checked_first text xs = externals_first (defined_in text xs no_name) xs (nothing_filed [] text)

@@ -1,0 +1,247 @@
+-- Functions of accepted texts have their bodies.
+use Rattle.std.proofs.Common.{◌≡◌, ℕ, Bool, true, false, List, [], ◌∷◌, ◌++◌, Option, Some, None, length, refl, ap, sym, subst, ◌∙◌, if◌then◌else◌}
+use Rattle.std.proofs.lemmas.Bool.{false≢true}
+use Rattle.std.proofs.lemmas.Option.{none-some}
+use Rattle.std.specs.Prelude.{is_some, slice_get}
+use Rattle.std.specs.Str.{bytes_eq}
+use Rattle.pk_ctypes.specs.declared.places.Pos.{Pos}
+use Rattle.pk_ctypes.specs.declared.types.IntType.{IntType}
+use Rattle.pk_ctypes.specs.declared.words.Rule.{Rule}
+use Rattle.pk_ctypes.specs.declared.words.Rule.TheVariants as rule
+use Rattle.pk_ast.specs.declared.expressions.Identifier.{Identifier}
+use Rattle.pk_ast.specs.declared.units.Storage.{Storage}
+use Rattle.pk_ast.specs.Trees.{ExpressionTrees, no_expressions, expression_then, ParameterTree, BlockTree, FunctionTree, DeclaratorTree, DeclarationTree, ExternalTree, function, objects}
+use Rattle.pk_type_scope.specs.declared.declarations.Callee.{Callee}
+use Rattle.pk_type_scope.specs.declared.declarations.Declaration.TheVariants as declared
+use Rattle.pk_type_scope.specs.declared.declarations.Typing.{Typing}
+use Rattle.pk_type_scope.specs.declared.declarations.Typing.TheVariants.{Void, Integer, Unknown}
+use Rattle.pk_type_scope.specs.declared.failures.Failure.{Failure}
+use Rattle.pk_type_scope.specs.Declarations.{is_void, is_unknown, returned_by}
+use Rattle.pk_type_scope.specs.Failures.{fails_if, noted}
+use Rattle.pk_type_scope.specs.Scopes.{names_in, spelled}
+use Rattle.pk_type_scope.specs.Specifiers.{type_named, specifiers}
+use Rattle.pk_type_expression.proofs.TreeLemmas.{none_before, none_after}
+use Rattle.pk_type_declaration.specs.declared.words.Words.{Words}
+use Rattle.pk_type_declaration.specs.Constants.{after_constant}
+use Rattle.pk_type_declaration.specs.Declarations.{at_name, words_of, text_of, integer_in, redeclared, void_object, special_object, braces, surplus, length_at, after_optional_length}
+use Rattle.pk_type_declaration.specs.Specials.{special, specials, lookup}
+use Rattle.pk_type_declaration.specs.Walks.{failing, entering}
+use Rattle.pk_type_jump.specs.Jumps.{around_body, nothing_jumped, jumps_of}
+use Rattle.pk_type_jump.specs.Labels.{nothing_listed, outermost, labels_of}
+use Rattle.pk_type_statement.specs.Statements.{after_items}
+use Rattle.pk_type_statement.specs.Trees.{typed_items}
+use Rattle.pk_type.specs.Files.{EntryTree, after_numbers, given, extern_object, file_object, after_object, after_objects, after_declaration, on}
+use Rattle.pk_type.specs.Files as files
+use Rattle.pk_type.specs.Functions.{after_parameter_name, after_parameter, after_parameters, is_redeclared, is_misused, number_of, callee_of, after_head, each_at, about_jumps, before_body, after_body, body_of, body_at, with_body, after_optional_body, after_function}
+use Rattle.pk_type.specs.Signatures.{SignatureTree, signature_of}
+use Rattle.pk_type.specs.Units.{no_name, defined_in, after_external, after_externals, nothing_filed}
+use Rattle.pk_type_laws.proofs.Accepted.Declarations.{holds_not, later_constant, later_optional_length}
+use Rattle.pk_type_laws.proofs.Accepted.Files.{F}
+use Rattle.pk_type_laws.proofs.Accepted.Functions.{later_parameters, later_body}
+use Rattle.pk_type_laws.proofs.Accepted.Units.{new_entries, updated, externals_later}
+use Rattle.pk_type_laws.proofs.Accepted.Walks.{W, none_found}
+use Rattle.pk_type_laws.specs.Bodies.Laws.{FunctionsHaveBodies}
+use Rattle.pk_type_laws.proofs.Bodies.Parts.{mapped_there, Known, known_declaring, known_opened, object_known, length_scope}
+use Rattle.pk_type_laws.proofs.Bodies.Statements.{items_there}
+
+-- ---- objects of the file
+
+numbers_scope : (es : ExpressionTrees) (w : W) → (after_numbers noted es w).scoping ≡ w.scoping
+unfolding after_numbers
+numbers_scope no_expressions w = refl
+numbers_scope (expression_then e es) w = numbers_scope es (after_constant noted e w)
+
+numbers_before : (es : ExpressionTrees) (w : W) → (after_numbers noted es w).found ≡ None → w.found ≡ None
+unfolding after_numbers
+numbers_before no_expressions w h = h
+numbers_before (expression_then e es) w h = (later_constant e w).found (numbers_before es (after_constant noted e w) h)
+
+object_before : (storage : Option Storage) (words : Words) (d : DeclaratorTree) (f : F) → (after_object noted storage words d f).walked.found ≡ None → (files.after_head noted storage words d f).found ≡ None
+unfolding after_object
+object_before storage words d f h = numbers_before (given d.initializer) (files.after_head noted storage words d f) h
+
+head_before : (storage : Option Storage) (words : Words) (d : DeclaratorTree) (f : F) → (files.after_head noted storage words d f).found ≡ None → f.walked.found ≡ None
+head_before storage words d f h =
+    let v = after_optional_length noted d.length f.walked in
+    let rows = redeclared v.scoping d.name ++ extern_object storage d.name ++ void_object words.typing d.name.at ++ special_object v.scoping d.name in
+    let x = failing noted rows v in
+    (later_optional_length d.length f.walked).found (none_found v.found rows (none_found x.found (braces (is_some d.length) d.initializer d.name.at ++ surplus (length_at f.walked d.length) d.initializer) h).0).0
+
+objects_before : (storage : Option Storage) (words : Words) (ds : List DeclaratorTree) (f : F) → (after_objects noted storage words ds f).walked.found ≡ None → f.walked.found ≡ None
+unfolding after_objects
+objects_before storage words [] f h = h
+objects_before storage words (d ∷ ds) f h =
+    head_before storage words d f (object_before storage words d f (objects_before storage words ds (after_object noted storage words d f) h))
+
+integer_has : (t : Typing) → is_unknown t ≡ false → is_void t ≡ false → (u : IntType) × (integer_in t ≡ Some u)
+integer_has Void u v = absurd (false≢true (sym v))
+integer_has (Integer t) u v = (t, refl)
+integer_has Unknown u v = absurd (false≢true (sym u))
+
+object_is_known : (storage : Option Storage) (words : Words) (d : DeclaratorTree) (f : F) → is_unknown words.typing ≡ false → Known f.walked.scoping → (after_object noted storage words d f).walked.found ≡ None
+    → Known (after_object noted storage words d f).walked.scoping
+unfolding after_object
+object_is_known storage words d f u k h =
+    let v = after_optional_length noted d.length f.walked in
+    let first = redeclared v.scoping d.name ++ extern_object storage d.name in
+    let rows = redeclared v.scoping d.name ++ extern_object storage d.name ++ void_object words.typing d.name.at ++ special_object v.scoping d.name in
+    let x = failing noted rows v in
+    let fs = braces (is_some d.length) d.initializer d.name.at ++ surplus (length_at f.walked d.length) d.initializer in
+    let w = files.after_head noted storage words d f in
+    let hw : w.found ≡ None = numbers_before (given d.initializer) w h in
+    let none : rows ≡ [] = (none_found v.found rows (none_found x.found fs hw).0).1 in
+    let void : is_void words.typing ≡ false = holds_not _ _ _ (none_after first (void_object words.typing d.name.at) (none_before (first ++ void_object words.typing d.name.at) (special_object v.scoping d.name) none)) in
+    let kv : Known v.scoping = subst Known (sym (length_scope d.length f.walked)) k in
+    let o = file_object words (is_some d.length) f in
+    subst Known (sym (numbers_scope (given d.initializer) w)) (known_declaring v.scoping d.name o kv (integer_has words.typing u void))
+
+objects_known : (storage : Option Storage) (words : Words) (ds : List DeclaratorTree) (f : F) → is_unknown words.typing ≡ false → Known f.walked.scoping → (after_objects noted storage words ds f).walked.found ≡ None
+    → Known (after_objects noted storage words ds f).walked.scoping
+unfolding after_objects
+objects_known storage words [] f u k h = k
+objects_known storage words (d ∷ ds) f u k h =
+    let g = after_object noted storage words d f in
+    objects_known storage words ds g u (object_is_known storage words d f u k (objects_before storage words ds g h)) h
+
+declaration_known : (storage : Option Storage) (d : DeclarationTree) (f : F) → Known f.walked.scoping → (after_declaration noted storage d f).walked.found ≡ None → Known (after_declaration noted storage d f).walked.scoping
+unfolding after_declaration specifiers
+declaration_known storage d f k h =
+    let words = words_of d.specifiers in
+    let ds = d.declarators.first ∷ d.declarators.more in
+    let g = on (failing noted (specifiers d.specifiers)) f in
+    objects_known storage words ds g (holds_not _ _ _ (none_found f.walked.found (specifiers d.specifiers) (objects_before storage words ds g h)).1) k h
+
+objects_keep : (storage : Option Storage) (words : Words) (ds : List DeclaratorTree) (f : F) → (after_objects noted storage words ds f).functions ≡ f.functions
+unfolding after_objects after_object
+objects_keep storage words [] f = refl
+objects_keep storage words (d ∷ ds) f = objects_keep storage words ds (after_object noted storage words d f)
+
+declaration_keeps : (storage : Option Storage) (d : DeclarationTree) (f : F) → (after_declaration noted storage d f).functions ≡ f.functions
+unfolding after_declaration
+declaration_keeps storage d f = objects_keep storage (words_of d.specifiers) (d.declarators.first ∷ d.declarators.more) (on (failing noted (specifiers d.specifiers)) f)
+
+-- ---- parameters
+
+name_known : (p : ParameterTree) (x : Option Identifier) (w : W) → is_unknown (type_named p.specifiers) ≡ false → Known w.scoping → (after_parameter_name noted p x w).found ≡ None → Known (after_parameter_name noted p x w).scoping
+name_known p None w u k h = k
+name_known p (Some x) w u k h = object_known (words_of p.specifiers) false None x w u k h
+
+name_before : (p : ParameterTree) (x : Option Identifier) (w : W) → (after_parameter_name noted p x w).found ≡ None → w.found ≡ None
+name_before p None w h = (none_found w.found (fails_if (is_void (type_named p.specifiers)) rule.Void p.specifiers.first.at) h).0
+name_before p (Some x) w h = (none_found w.found (at_name w.scoping (type_named p.specifiers) x) h).0
+
+parameters_known : (ps : List ParameterTree) (w : W) → Known w.scoping → (after_parameters noted ps w).found ≡ None → Known (after_parameters noted ps w).scoping
+unfolding after_parameters specifiers
+parameters_known [] w k h = k
+parameters_known (p ∷ ps) w k h =
+    let x = failing noted (specifiers p.specifiers) w in
+    let v = after_parameter noted p w in
+    let hv : v.found ≡ None = (later_parameters ps v).found h in
+    let u = holds_not _ _ _ (none_found w.found (specifiers p.specifiers) (name_before p p.name x hv)).1 in
+    parameters_known ps v (name_known p p.name x u k hv) h
+
+-- ---- bodies
+
+none_at : (r : Rule) (xs : List Pos) → each_at r xs ≡ [] → xs ≡ []
+none_at r [] h = refl
+none_at r (x ∷ xs) h = absurd (cc)
+
+body_there : (r : Typing) (visible : ℕ) (b : BlockTree) (w : W) → Known w.scoping → (after_body noted r b w).found ≡ None → is_some (body_at noted r visible b w) ≡ true
+body_there r visible b w k h =
+    let text = w.scoping.text in
+    let labels = labels_of text b.items in
+    let jumps = jumps_of text labels.labels b.items in
+    let start = before_body w in
+    let q = after_items noted r start b.items in
+    let rows = none_found q.walked.found (about_jumps labels jumps) h in
+    let first : each_at rule.Label labels.repeated ++ each_at rule.Label jumps.unknown ≡ [] = none_before (each_at rule.Label labels.repeated ++ each_at rule.Label jumps.unknown) (each_at rule.Jump jumps.misplaced) rows.1 in
+    let unknown : jumps.unknown ≡ [] = none_at rule.Label jumps.unknown (none_after (each_at rule.Label labels.repeated) (each_at rule.Label jumps.unknown) first) in
+    let all = items_there text r labels.labels around_body nothing_jumped outermost nothing_listed start b.items refl k tt (λ y i. i) unknown rows.0 in
+    mapped_there (body_of b visible labels.count (after_body noted r b w)) (typed_items noted r labels.labels start b.items) all.there
+
+-- ---- functions
+
+abbrev KnownCallee : Option Callee → Type 0
+KnownCallee None = Unit {0}
+KnownCallee (Some c) = is_unknown (returned_by c) ≡ false
+
+row_known : (b : Bool) (c : Callee) (o : Option Callee) → is_unknown (returned_by c) ≡ false → KnownCallee o → KnownCallee (if b then Some c else o)
+row_known true c o h k = h
+row_known false c o h k = k
+
+abbrev AreKnown : List (List ℕ × Callee) → Type 0
+AreKnown [] = Unit {0}
+AreKnown (row ∷ rows) = (is_unknown (returned_by row.1) ≡ false) × AreKnown rows
+
+found_known : (rows : List (List ℕ × Callee)) (q : List ℕ) → AreKnown rows → KnownCallee (lookup rows q)
+found_known [] q h = tt
+found_known (row ∷ rows) q h = row_known (bytes_eq row.0 q) row.1 (lookup rows q) h.0 (found_known rows q h.1)
+
+special_known : (q : List ℕ) → KnownCallee (special q)
+unfolding special
+special_known q = found_known specials q (refl, (refl, (refl, (refl, (refl, (refl, (refl, (refl, (refl, (refl, (refl, (refl, (refl, tt)))))))))))))
+
+callee_known : (s : SignatureTree) (b : Bool) (o : Option Callee) → is_unknown s.returns ≡ false → KnownCallee o → is_unknown (returned_by (callee_of s b o)) ≡ false
+callee_known s b None h k = h
+callee_known s true (Some c) h k = h
+callee_known s false (Some c) h k = k
+
+abbrev HaveBodies : F → Type 0
+HaveBodies f = (i : ℕ) (e : EntryTree) → slice_get f.functions i ≡ Some e → is_some e.body ≡ e.is_defined
+
+with_block : (r : Typing) (n : ℕ) (b : Option BlockTree) (f : F) → Known f.walked.scoping → HaveBodies f → (after_optional_body noted r n b f).walked.found ≡ None → HaveBodies (after_optional_body noted r n b f)
+with_block r n None f k m h = m
+with_block r n (Some b) f k m h =
+    updated (λ e. is_some e.body ≡ e.is_defined) (with_body (body_at noted r (length f.objects) b f.walked)) n f.functions m (λ e is. body_there r (length f.objects) b f.walked k h)
+
+block_before : (r : Typing) (n : ℕ) (b : Option BlockTree) (f : F) → (after_optional_body noted r n b f).walked.found ≡ None → f.walked.found ≡ None
+block_before r n None f h = h
+block_before r n (Some b) f h = (later_body r b f.walked).found h
+
+record Good (f : F) : Type 0 where
+  names : Known f.walked.scoping
+  bodies : HaveBodies f
+
+function_good : (defined : List ℕ → Bool) (g : FunctionTree) (f : F) → Good f → (after_function noted defined g f).walked.found ≡ None → Good (after_function noted defined g f)
+unfolding after_function specifiers
+function_good defined g f m h =
+    let w = f.walked in
+    let s = signature_of g in
+    let q = spelled w.scoping.text g.name in
+    let n = number_of f.functions (names_in w.scoping g.name) in
+    let head = after_head noted defined g f in
+    let i = on entering head in
+    let x = on (after_parameters noted g.parameters) i in
+    let hx : x.walked.found ≡ None = block_before (type_named g.specifiers) n g.body x h in
+    let hh : head.walked.found ≡ None = (later_parameters g.parameters i.walked).found hx in
+    let two = fails_if (is_redeclared f.functions s (is_some g.body) (names_in w.scoping g.name)) rule.Redeclared g.name.at in
+    let three = fails_if (is_misused s (special q)) rule.Special g.name.at in
+    let rows : specifiers g.specifiers ++ two ++ three ≡ [] = (none_found w.found (specifiers g.specifiers ++ two ++ three) hh).1 in
+    let u : is_unknown (type_named g.specifiers) ≡ false = holds_not _ _ _ (none_before (specifiers g.specifiers) two (none_before (specifiers g.specifiers ++ two) three rows)) in
+    let callee = callee_of s (defined q) (special q) in
+    let kh : Known head.walked.scoping = known_declaring w.scoping g.name (declared.Function (record { number = n; callee = callee })) m.names (callee_known s (defined q) (special q) u (special_known q)) in
+    let heads = new_entries (λ e. is_some e.body ≡ e.is_defined) f.functions n (text_of w.scoping g.name) s m.bodies refl in
+    let kx : Known x.walked.scoping = parameters_known g.parameters i.walked (known_opened head.walked.scoping kh) hx in
+    record { names = kh; bodies = with_block (type_named g.specifiers) n g.body x kx heads h }
+
+external_good : (defined : List ℕ → Bool) (x : ExternalTree) (f : F) → Good f → (after_external noted defined x f).walked.found ≡ None → Good (after_external noted defined x f)
+external_good defined (function g) f m h = function_good defined g f m h
+external_good defined (objects storage d) f m h = record {
+  names = declaration_known storage d f m.names h;
+  bodies = λ i e is. m.bodies i e (ap (λ (es : List EntryTree). slice_get es i) (sym (declaration_keeps storage d f)) ∙ is);
+}
+
+externals_good : (defined : List ℕ → Bool) (xs : List ExternalTree) (f : F) → Good f → (after_externals noted defined xs f).walked.found ≡ None → Good (after_externals noted defined xs f)
+unfolding after_externals
+externals_good defined [] f m h = m
+externals_good defined (x ∷ xs) f m h =
+    let g = after_external noted defined x f in
+    externals_good defined xs g (external_good defined x f m ((externals_later defined xs g).found h)) h
+
+nothing_known : (text : List ℕ) → Known (nothing_filed {F = Option Failure} None text).walked.scoping
+unfolding names_in
+nothing_known text x = tt
+
+pub functions_have_bodies : FunctionsHaveBodies
+functions_have_bodies text xs h =
+    (externals_good (defined_in text xs no_name) xs (nothing_filed None text) (record { names = nothing_known text; bodies = λ i e is. absurd (none-some e is) }) h).bodies

@@ -1,0 +1,4 @@
+mod Answered
+pub mod Accepted
+mod Bodies
+mod Marked

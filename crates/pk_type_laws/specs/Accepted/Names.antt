@@ -1,0 +1,35 @@
+-- Names in scope that stand for objects and functions of the typed unit.
+use Rattle.std.specs.Prelude.{ℕ, Bool, true, false, Option, Some, None, slice_get}
+use Rattle.pk_ctypes.specs.declared.types.IntType.{IntType}
+use Rattle.pk_ast.specs.declared.expressions.Identifier.{Identifier}
+use Rattle.pk_typed.specs.declared.values.Variable.{Variable}
+use Rattle.pk_type_scope.specs.declared.declarations.Callee.{Callee}
+use Rattle.pk_type_scope.specs.declared.declarations.Callee.TheVariants.{Ordinary, Any, Assume, Assert, Abort}
+use Rattle.pk_type_scope.specs.declared.declarations.Declaration.{Declaration}
+use Rattle.pk_type_scope.specs.declared.declarations.Declaration.TheVariants as declared
+use Rattle.pk_type_scope.specs.declared.declarations.Typing.TheVariants.{Void, Integer, Unknown}
+use Rattle.pk_type_scope.specs.Declarations.{Names}
+use Rattle.pk_welltyped.specs.WellTyped.{Around, IsObject, IsArray, scalar, Takes}
+
+abbrev pub ObjectIs : Around → Bool → Option IntType → Variable → Type 0
+ObjectIs a is_array None x = ⊥
+ObjectIs a false (Some t) x = IsObject a (scalar t) x
+ObjectIs a true (Some t) x = IsArray a t x
+
+-- a special name is no function of the unit
+abbrev pub CalleeIs : Around → ℕ → Callee → Type 0
+CalleeIs a f (Ordinary Void n) = Takes n None (slice_get a.unit.functions f)
+CalleeIs a f (Ordinary (Integer t) n) = Takes n (Some t) (slice_get a.unit.functions f)
+CalleeIs a f (Ordinary Unknown n) = ⊥
+CalleeIs a f (Any t) = Unit {0}
+CalleeIs a f Assume = Unit {0}
+CalleeIs a f Assert = Unit {0}
+CalleeIs a f Abort = Unit {0}
+
+abbrev pub DeclarationIs : Around → Option Declaration → Type 0
+DeclarationIs a None = Unit {0}
+DeclarationIs a (Some (declared.Object o)) = ObjectIs a o.is_array o.int_type o.variable
+DeclarationIs a (Some (declared.Function f)) = CalleeIs a f.number f.callee
+
+abbrev pub NamesAre : Around → Names → Type 0
+NamesAre a d = (x : Identifier) → DeclarationIs a (d x)

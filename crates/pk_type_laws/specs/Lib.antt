@@ -1,0 +1,4 @@
+pub mod Answered
+pub mod Accepted
+pub mod Bodies
+pub mod Marked

@@ -1,0 +1,85 @@
+-- What the names in scope stand for, as expressions ask for it.
+use Rattle.std.specs.Prelude.{◌≡◌, ℕ, Bool, true, false, not, Option, Some, None, List, [], ◌∷◌}
+use Rattle.pk_ctypes.specs.declared.places.Pos.{Pos}
+use Rattle.pk_ctypes.specs.declared.types.IntType.{IntType}
+use Rattle.pk_ast.specs.declared.expressions.Identifier.{Identifier}
+use Rattle.pk_typed.specs.declared.units.CallSite.{CallSite}
+use Rattle.pk_type_scope.specs.declared.declarations.Callee.{Callee}
+use Rattle.pk_type_scope.specs.declared.declarations.Callee.TheVariants.{Ordinary, Any, Assume, Assert, Abort}
+use Rattle.pk_type_scope.specs.declared.declarations.Declaration.{Declaration}
+use Rattle.pk_type_scope.specs.declared.declarations.Declaration.TheVariants as declared
+use Rattle.pk_type_scope.specs.declared.declarations.Typing.{Typing}
+use Rattle.pk_type_scope.specs.declared.declarations.Typing.TheVariants.{Void, Integer, Unknown}
+
+-- the declaration in scope of each name; an expression declares nothing, so it is one for all of its parts
+abbrev pub Names : Type 0
+Names = Identifier → Option Declaration
+
+abbrev pub is_void : Typing → Bool
+is_void Void = true
+is_void (Integer t) = false
+is_void Unknown = false
+
+abbrev pub is_unknown : Typing → Bool
+is_unknown Void = false
+is_unknown (Integer t) = false
+is_unknown Unknown = true
+
+abbrev pub typing_of : Option IntType → Typing
+typing_of (Some t) = Integer t
+typing_of None = Unknown
+
+abbrev pub is_object : Option Declaration → Bool
+is_object (Some (declared.Object o)) = true
+is_object (Some (declared.Function f)) = false
+is_object None = false
+
+abbrev pub is_function : Option Declaration → Bool
+is_function (Some (declared.Function f)) = true
+is_function (Some (declared.Object o)) = false
+is_function None = false
+
+abbrev pub is_array : Option Declaration → Bool
+is_array (Some (declared.Object o)) = o.is_array
+is_array (Some (declared.Function f)) = false
+is_array None = false
+
+abbrev pub is_scalar : Option Declaration → Bool
+is_scalar (Some (declared.Object o)) = not o.is_array
+is_scalar (Some (declared.Function f)) = false
+is_scalar None = false
+
+-- what a call gives
+abbrev pub returned_by : Callee → Typing
+returned_by (Ordinary returns n) = returns
+returned_by (Any t) = Integer t
+returned_by Assume = Void
+returned_by Assert = Void
+returned_by Abort = Void
+
+-- how many arguments a call has
+abbrev pub arguments_of : Callee → ℕ
+arguments_of (Ordinary returns n) = n
+arguments_of (Any t) = 0
+arguments_of Assume = 1
+arguments_of Assert = 1
+arguments_of Abort = 0
+
+-- the call itself, where it is numbered
+abbrev pub site_of : ℕ → Pos → Callee → List CallSite
+site_of f at (Ordinary returns n) = record { function = f; at = at } ∷ []
+site_of f at (Any t) = []
+site_of f at Assume = []
+site_of f at Assert = []
+site_of f at Abort = []
+
+abbrev pub own_site : Pos → Option Declaration → List CallSite
+own_site at None = []
+own_site at (Some (declared.Object o)) = []
+own_site at (Some (declared.Function f)) = site_of f.number at f.callee
+
+-- a declaration that failed no rule, as far as expressions see it
+abbrev pub HasTypes : Option Declaration → Type 0
+HasTypes None = Unit {0}
+HasTypes (Some (declared.Object o)) = (t : IntType) × (o.int_type ≡ Some t)
+HasTypes (Some (declared.Function f)) = is_unknown (returned_by f.callee) ≡ false

@@ -1,0 +1,94 @@
+-- The type that the words of a declaration or of a cast name (C99 6.7.2), in any order.
+use Rattle.std.specs.Prelude.{ℕ, ◌+◌, Bool, true, false, ◌&&◌, nat_eq, nat_le, List, [], ◌∷◌, if◌then◌else◌}
+use Rattle.pk_ctypes.specs.declared.types.IntType.TheVariants.{Char, SChar, UChar, Short, UShort, Int, UInt, Long, ULong, LLong, ULLong}
+use Rattle.pk_ctypes.specs.declared.words.Rule.TheVariants as rule
+use Rattle.pk_ast.specs.declared.declarations.Specifier.{Specifier}
+use Rattle.pk_ast.specs.declared.declarations.SpecifierWord.{SpecifierWord}
+use Rattle.pk_ast.specs.declared.declarations.SpecifierWord.TheVariants as word
+use Rattle.pk_ast.specs.Trees.{OneOrMore}
+use Rattle.pk_type_scope.specs.declared.failures.Failure.{Failure}
+use Rattle.pk_type_scope.specs.declared.declarations.Typing.{Typing}
+use Rattle.pk_type_scope.specs.declared.declarations.Typing.TheVariants.{Void, Integer, Unknown}
+use Rattle.pk_type_scope.specs.declared.specifiers.Counts.{Counts}
+use Rattle.pk_type_scope.specs.declared.specifiers.Times.{Times}
+use Rattle.pk_type_scope.specs.declared.specifiers.Times.TheVariants.{Never, Once, Twice, AtMostOnce}
+use Rattle.pk_type_scope.specs.Declarations.{is_unknown}
+use Rattle.pk_type_scope.specs.Failures.{fails_if}
+
+-- one word more; `const` names no type
+abbrev pub counted : Counts → SpecifierWord → Counts
+counted c word.Void = record c { voids = c.voids + 1 }
+counted c word.Char = record c { chars = c.chars + 1 }
+counted c word.Short = record c { shorts = c.shorts + 1 }
+counted c word.Int = record c { ints = c.ints + 1 }
+counted c word.Long = record c { longs = c.longs + 1 }
+counted c word.Signed = record c { signeds = c.signeds + 1 }
+counted c word.Unsigned = record c { unsigneds = c.unsigneds + 1 }
+counted c word.Const = c
+
+-- how often each word stands among these, after some
+abbrev pub counts_of : Counts → List Specifier → Counts
+counts_of c [] = c
+counts_of c (s ∷ more) = counts_of (counted c s.word) more
+
+abbrev pub total_of : Counts → ℕ
+total_of c = c.voids + c.chars + c.shorts + c.ints + c.longs + c.signeds + c.unsigneds
+
+abbrev pub no_words : Counts
+no_words = record { voids = 0; chars = 0; shorts = 0; ints = 0; longs = 0; signeds = 0; unsigneds = 0 }
+
+abbrev pub occurs : Times → ℕ → Bool
+occurs Never n = nat_eq n 0
+occurs Once n = nat_eq n 1
+occurs Twice n = nat_eq n 2
+occurs AtMostOnce n = nat_le n 1
+
+-- how often each word stands in the name of a type
+unfoldable pub has_words : Counts → (void char short int long signed unsigned : Times) → Bool
+has_words c void char short int long signed unsigned =
+    occurs void c.voids && occurs char c.chars && occurs short c.shorts && occurs int c.ints && occurs long c.longs && occurs signed c.signeds && occurs unsigned c.unsigneds
+
+-- The table of C99 6.7.2: `int` may stand beside short, long, signed and unsigned, and signed beside the signed types.
+abbrev pub type_counted : Counts → Typing
+type_counted c =
+    --                void  char  short int        long  signed     unsigned
+    if has_words c Once Never Never Never Never Never Never then Void
+    else if has_words c Never Once Never Never Never Never Never then Integer Char
+    else if has_words c Never Once Never Never Never Once Never then Integer SChar
+    else if has_words c Never Once Never Never Never Never Once then Integer UChar
+    else if has_words c Never Never Once AtMostOnce Never AtMostOnce Never then Integer Short
+    else if has_words c Never Never Once AtMostOnce Never Never Once then Integer UShort
+    else if has_words c Never Never Never Once Never AtMostOnce Never then Integer Int
+    else if has_words c Never Never Never Never Never Once Never then Integer Int
+    else if has_words c Never Never Never AtMostOnce Never Never Once then Integer UInt
+    else if has_words c Never Never Never AtMostOnce Once AtMostOnce Never then Integer Long
+    else if has_words c Never Never Never AtMostOnce Once Never Once then Integer ULong
+    else if has_words c Never Never Never AtMostOnce Twice AtMostOnce Never then Integer LLong
+    else if has_words c Never Never Never AtMostOnce Twice Never Once then Integer ULLong
+    else Unknown
+
+-- the type that the words name; unknown where they name none
+unfoldable pub type_named : OneOrMore Specifier → Typing
+type_named words = type_counted (counts_of (counted no_words words.first.word) words.more)
+
+-- specifiers: the words name neither void nor a type; at the first word
+unfoldable pub specifiers : OneOrMore Specifier → List Failure
+specifiers words = fails_if (is_unknown (type_named words)) rule.Specifiers words.first.at
+
+abbrev pub is_const_word : SpecifierWord → Bool
+is_const_word word.Const = true
+is_const_word word.Void = false
+is_const_word word.Char = false
+is_const_word word.Short = false
+is_const_word word.Int = false
+is_const_word word.Long = false
+is_const_word word.Signed = false
+is_const_word word.Unsigned = false
+
+abbrev pub has_const : List Specifier → Bool
+has_const [] = false
+has_const (s ∷ more) = if is_const_word s.word then true else has_const more
+
+-- const stands among the words
+unfoldable pub names_const : OneOrMore Specifier → Bool
+names_const words = has_const (words.first ∷ words.more)

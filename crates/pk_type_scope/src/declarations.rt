@@ -1,0 +1,102 @@
+// What names stand for, and what expressions are.
+
+ghost use Rattle.std.specs.Prelude.{◌≡◌};
+ghost use Rattle.pk_type_scope.specs.Declarations as definitions;
+
+use pk_ctypes::IntType;
+use pk_typed::Variable;
+
+/// What an expression is: of no value, of an integer type, or neither, where a rule fails in it or in a declaration that it names.
+#[derive(Clone, Copy)]
+pub enum Typing {
+    Void,
+    Integer(IntType),
+    Unknown,
+}
+
+/// A declared object. Its type is none where its declaration fails a rule.
+#[derive(Clone, Copy)]
+pub struct Object {
+    pub variable: Variable,
+    pub int_type: Option<IntType>,
+    pub is_array: bool,
+    pub is_const: bool,
+}
+
+/// What a call of a function is. A function of a special name, which has that name's types and no body in the text, is a form of its own.
+#[derive(Clone, Copy)]
+pub enum Callee {
+    Ordinary { returns: Typing, parameters: usize },
+    /// `__VERIFIER_nondet_T`.
+    Any(IntType),
+    /// `__VERIFIER_assume`.
+    Assume,
+    /// `__pikos_assert`.
+    Assert,
+    /// `abort`.
+    Abort,
+}
+
+/// A declared function, by its number in the unit.
+#[derive(Clone, Copy)]
+pub struct Function {
+    pub number: usize,
+    pub callee: Callee,
+}
+
+/// What a name in scope stands for.
+#[derive(Clone, Copy)]
+pub enum Declaration {
+    Object(Object),
+    Function(Function),
+}
+
+impl Typing {
+    pub fn is_void(self) -> bool
+        ensures { result ≡ definitions.is_void self }
+    {
+        match self {
+            Typing::Void => true,
+            Typing::Integer(_) => false,
+            Typing::Unknown => false,
+        }
+    }
+
+    pub fn is_unknown(self) -> bool
+        ensures { result ≡ definitions.is_unknown self }
+    {
+        match self {
+            Typing::Void => false,
+            Typing::Integer(_) => false,
+            Typing::Unknown => true,
+        }
+    }
+}
+
+impl Callee {
+    /// What a call gives.
+    pub fn returns(self) -> Typing
+        ensures { result ≡ definitions.returned_by self }
+    {
+        match self {
+            Callee::Ordinary { returns, .. } => returns,
+            Callee::Any(t) => Typing::Integer(t),
+            Callee::Assume => Typing::Void,
+            Callee::Assert => Typing::Void,
+            Callee::Abort => Typing::Void,
+        }
+    }
+
+    /// How many arguments a call has.
+    pub fn arguments(self) -> usize
+        ensures { result ≡ definitions.arguments_of self }
+    {
+        match self {
+            Callee::Ordinary { parameters, .. } => parameters,
+            Callee::Any(_) => 0,
+            Callee::Assume => 1,
+            Callee::Assert => 1,
+            Callee::Abort => 0,
+        }
+    }
+}

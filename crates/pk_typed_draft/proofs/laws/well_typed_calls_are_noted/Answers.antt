@@ -1,5 +1,0 @@
-use Rattle.pk_typed_draft.proofs.Noted.{calls_are_noted}
-use Rattle.pk_typed_draft.proofs.laws.well_typed_calls_are_noted.Goals as goal
-
-pub returns : goal.returns
-returns c = calls_are_noted

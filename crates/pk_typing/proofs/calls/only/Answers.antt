@@ -1,7 +1,0 @@
--- There are none, or more than one.
-use Rattle.std.proofs.Common.{sym, ◌∙◌}
-use Rattle.pk_typing.proofs.ListLemmas.{not_one}
-use Rattle.pk_typing.proofs.calls.only.Goals as goal
-
-pub returns-then-len-ne1 : goal.returns-then-len-ne1
-returns-then-len-ne1 c = sym (not_one c.args.arguments (λ h. c.if-len-ne1.true (c.len.ensures ∙ h)))

@@ -1,0 +1,3 @@
+mod Followed
+mod Ways
+mod Same

@@ -1,0 +1,17 @@
+pub mod Ways
+pub mod Adding
+pub mod Spans
+pub mod Goes
+pub mod Rows
+pub mod Expressions
+pub mod Loops
+pub mod Declarations
+pub mod MarkPoints
+pub mod Statements
+pub mod Parts
+pub mod Regions
+pub mod Programs
+pub mod Renamed
+pub mod Numbers
+pub mod Graphs
+pub mod Shared

@@ -1,0 +1,36 @@
+// Laws of the lowering.
+
+ghost use Rattle.pk_visits.specs.SameVisits.{ProgramsAreFollowed};
+ghost use Rattle.pk_visits_laws.specs.Ways.OneWay.{PointsHaveOneWay, PointsShareAccesses};
+ghost use Rattle.pk_visits.specs.SameVisits.{GraphsHaveProgramVisits};
+
+use pk_calls::paths_are_all;
+
+/// The visits of each run of a program, and the failure at its end, are those of a run of its graph.
+pub fn programs_are_followed()
+    ensures { ProgramsAreFollowed }
+{
+    paths_are_all();
+}
+
+/// Each point of the graph of a program has no edge, one, or the two guards of one test.
+pub fn points_have_one_way()
+    ensures { PointsHaveOneWay }
+{
+    paths_are_all();
+}
+
+/// So the accesses of a point's first edge are those of each of its edges.
+pub fn points_share_accesses()
+    ensures { PointsShareAccesses }
+{
+    points_have_one_way();
+}
+
+/// The visits of each run of a program, and the failure at its end, are those of a run of its graph; and those of each run of the graph are those of a run of the program.
+pub fn graphs_have_program_visits()
+    ensures { GraphsHaveProgramVisits }
+{
+    paths_are_all();
+    programs_are_followed();
+}
