@@ -10,7 +10,7 @@ use Rattle.pk_layout.specs.Layouts.{first_of, owner_of, slots_of, IsInputSlot}
 use Rattle.pk_words.specs.declared.view.View.{View}
 use Rattle.pk_words.specs.Subjects.{SubjectView}
 use Rattle.pk_words.specs.Tokens.{times, number_of}
-use Rattle.pk_words.specs.Views.{HasHold, HasSending, new_view}
+use Rattle.pk_words.specs.Views.{HasHold, HasSending, new_view, split_view}
 use Rattle.pk_words.specs.Board.{IsBoard}
 use Rattle.pk_words.specs.Reads.{IsReadAt}
 use Rattle.pk_words.specs.Told.{IsIdle, Noted, Offered, Claimed, Sent, Ended, Taken, InputTaken, GivenBack, Finished}
@@ -73,7 +73,7 @@ module _ {Y C S : Type 0} (meaning : Y → Behaviour C) (value : S → C) (board
   )
 
   pub split_asked : (id : ℕ) (v : View) → IsKept (meaning board.subject.system) board.subject key table → own ≡ table
-      → (own ≡ table) × (0 < table.words) × Splits (IsBoard {C = C} {S = S} (meaning key.system) key.wiring value) id v v (new_view v)
+      → (own ≡ table) × (0 < table.words) × Splits (IsBoard {C = C} {S = S} (meaning key.system) key.wiring value) id v (split_view v) (new_view v)
   split_asked id v kept of = (of, omega (arith, kept.words), splits (meaning key.system) key.wiring value id v)
 
   pub send_asked : (id a i target : ℕ) (me : Me S View) → IsKept (meaning board.subject.system) board.subject key table → own ≡ table → a < board.subject.wiring.plan.elements → i < length (successors_of board.subject.wiring.plan a)

@@ -6,7 +6,7 @@ use Rattle.pk_iterate.specs.Behaviour.{Behaviour}
 use Rattle.pk_layout.specs.Wirings.{Wiring}
 use Rattle.pk_words.specs.declared.view.View.{View}
 use Rattle.pk_words.specs.Tokens.{seen_run}
-use Rattle.pk_words.specs.Held.{HoldView}
+use Rattle.pk_board.specs.Held.{HoldView}
 use Rattle.pk_words.specs.Views.{read_view, idle}
 use Rattle.pk_words.specs.Told.{GivenBack, IsRunValue}
 use Rattle.pk_words.specs.Reads.{IsReadAt}

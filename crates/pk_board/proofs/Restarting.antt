@@ -13,7 +13,7 @@ use Rattle.pk_layout.specs.Wirings.{Wiring, IsWired}
 use Rattle.pk_layout.specs.Layouts.{first_of}
 use Rattle.pk_words.specs.declared.view.View.{View}
 use Rattle.pk_words.specs.Subjects.{SubjectView}
-use Rattle.pk_words.specs.Held.{HoldView, ResettingView}
+use Rattle.pk_board.specs.Held.{HoldView, ResettingView}
 use Rattle.pk_words.specs.Tokens.{seen_run}
 use Rattle.pk_words.specs.Views.{HasHold, HasResetting, IsGiven, arm_view, head_view}
 use Rattle.pk_words.specs.Reads.{Counts}

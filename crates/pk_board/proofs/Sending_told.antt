@@ -5,7 +5,7 @@ use Rattle.pk_plan.specs.Plans.{successors_of}
 use Rattle.pk_iterate.specs.Behaviour.{Behaviour}
 use Rattle.pk_layout.specs.Wirings.{Wiring}
 use Rattle.pk_words.specs.declared.view.View.{View}
-use Rattle.pk_words.specs.Held.{SendingView}
+use Rattle.pk_board.specs.Held.{SendingView}
 use Rattle.pk_words.specs.Views.{arrive_view}
 use Rattle.pk_words.specs.Told.{IsIdle, Sent}
 use Rattle.pk_board.specs.Calls.{IsGotOf, IsTold}

@@ -28,6 +28,7 @@ pub record IsKept {Y C : Type 0} (b : Behaviour C) (subject key : SubjectView Y)
   pub ends : HasEnd b subject.wiring.plan
 
 -- That, and there is room for each element's cell and run number.
-pub record IsWhole {Y C : Type 0} (b : Behaviour C) (subject key : SubjectView Y) (table : TableId) (results : ResultsView C) : Type 0 where
+pub record IsWhole {Y C : Type 0} (b : Behaviour C) (subject key : SubjectView Y) (table : TableId)
+    (results : ResultsView C) : Type 0 where
   pub kept : IsKept b subject key table
   pub room : results ≡ record { cells = []; runs = []; room = subject.wiring.plan.elements }

@@ -1,3 +1,4 @@
+pub mod Held
 pub mod Copies
 pub mod Results
 pub mod Boards

@@ -11,4 +11,5 @@ pub record NestedMeetsBoard : Type 0 where
   pub fits : FitsPlan nested_system nested_plan
   pub ends : HasEnd nested_system nested_plan
   pub few : nested_plan.elements ≤ 131073
-  pub wired : (limit : ℕ) → limit ≤ 549755813888 → (l : LayoutView) × IsWired nested_system (record { plan = nested_plan; limit = limit; layout = l })
+  pub wired : (limit : ℕ) → limit ≤ 549755813888
+      → (l : LayoutView) × IsWired nested_system (record { plan = nested_plan; limit = limit; layout = l })

@@ -8,8 +8,9 @@ use Rattle.pk_words.specs.declared.view.View.{View}
 use Rattle.pk_words.specs.Views.{AllRight, slots_in}
 
 -- The pass is writing e's slots, of which those from `from` on are out with the new cell; all else that it knows is as it was.
-pub record IsWriting {C S : Type 0} (value : S → C) (w : Wiring) (e : ℕ) (c : C) (from : ℕ) (old : View) (me : Me S View) : Type 0 where
-  pub rest : (record { holds = me.0.holds; sends = me.0.sends; resets = me.0.resets; out = old.out; notes = me.0.notes; ended = me.0.ended; stops = me.0.stops; stop_notes = me.0.stop_notes }) ≡ old
+pub record IsWriting {C S : Type 0} (value : S → C) (w : Wiring) (e : ℕ) (c : C) (from : ℕ)
+    (old : View) (me : Me S View) : Type 0 where
+  pub rest : (record me.0 { out = old.out; fresh = old.fresh }) ≡ old
   pub out : me.0.out ≡ slots_in me.1
   pub right : AllRight (λ k x. (value x ≡ c) × (owner_of w.layout k ≡ e)) me.1
   pub every : (k : ℕ) → from ≤ k → k < first_of w.layout (e + 1) → has k (slots_in me.1) ≡ true

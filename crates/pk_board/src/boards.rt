@@ -1,18 +1,16 @@
 // The board, and its calls that ask for no run.
 
 ghost use Rattle.std.specs.Prelude.{◌≡◌, ◌<◌, ◌≤◌, IfOk, IfErr, OnOk};
-ghost use Rattle.pk_words.specs.Views.{HasHold, new_view, offer_view};
+ghost use Rattle.pk_words.specs.Views.{HasHold, new_view, offer_view, split_view};
 ghost use Rattle.pk_board.specs.Calls.{IsClaimed, IsSeen, IsEnd, IsNoEnd};
 
 use crate::answers::Seen;
 use crate::passes::Pass;
 use crate::results::Results;
+use crate::tokens::{Finished, Hold};
 use atomic_table::Table;
 use pk_iterate::System;
-use pk_words::{
-    DONE, Finished, Hold, OPEN, Parts, RUN, Rule, Subject, View, exchange_told, load_told,
-    store_told,
-};
+use pk_words::{DONE, OPEN, Parts, RUN, Rule, Subject, View, exchange_told, load_told, store_told};
 use std::alloc::Global;
 use std::marker::{Brand, Model};
 use std::sync::Arc;
@@ -33,14 +31,15 @@ impl<'a, Y: System> Model for Board<'a, Y> {
 
     ghost view = { λ b. record { subject = b.subject; table = b.table.shared.table_id } };
 
-    ghost invariant = { λ b. IsWhole (Y.meaning b.subject.system) b.subject b.table.shared.key b.table.shared.table_id b.results };
+    ghost invariant = { λ b. IsWhole (Y.meaning b.subject.system)
+        b.subject b.table.shared.key b.table.shared.table_id b.results };
 }
 
 impl<'a, Y: System> Board<'a, Y> {
     /// A pass for another thread. It has no token, and has seen what this one has.
     pub fn split(&self, pass: &mut Pass<Y::Cell>) -> Pass<Y::Cell>
         requires of_board { pass.old.table ≡ self.now.table }
-        ensures same { pass.new ≡ pass.old }
+        ensures own { pass.new ≡ record { table = pass.old.table; view = split_view pass.old.view } }
         ensures other { result ≡ record { table = pass.old.table; view = new_view pass.old.view } }
     {
         Pass {
@@ -72,7 +71,8 @@ impl<'a, Y: System> Board<'a, Y> {
         requires of_board { pass.old.table ≡ self.now.table }
         requires element { e < self.now.subject.wiring.plan.elements }
         ensures of_board { pass.new.table ≡ pass.old.table }
-        ensures held { IfOk result (λ hold. IsClaimed (Y.meaning self.now.subject.system) self.now.subject.wiring e hold pass.old.view pass.new.view) }
+        ensures held { IfOk result (λ hold. IsClaimed
+            (Y.meaning self.now.subject.system) self.now.subject.wiring e hold pass.old.view pass.new.view) }
         ensures seen { IfErr result (λ seen. IsSeen e seen.word pass.old.view pass.new.view) }
     {
         let word = e as usize + 2;
@@ -99,7 +99,8 @@ impl<'a, Y: System> Board<'a, Y> {
         requires of_board { pass.old.table ≡ self.now.table }
         ensures of_board { pass.new.table ≡ pass.old.table }
         ensures finished { OnOk result (IsEnd self.now.subject.wiring.plan pass.old.view pass.new.view) }
-        ensures seen { IfErr result (λ seen. IsNoEnd self.now.subject.wiring.plan seen.word pass.old.view pass.new.view) }
+        ensures seen { IfErr result
+            (λ seen. IsNoEnd self.now.subject.wiring.plan seen.word pass.old.view pass.new.view) }
     {
         let last = self.subject.plan().elements() - 1;
         let word = last as usize + 2;

@@ -12,9 +12,10 @@ ghost use Rattle.pk_board.specs.Calls.{IsOutcome};
 use crate::boards::Board;
 use crate::passes::Pass;
 use crate::results::Results;
+use crate::tokens::Finished;
 use atomic_table::Closed;
 use pk_iterate::{Cells, System};
-use pk_words::{Finished, RUN, Subject};
+use pk_words::{RUN, Subject};
 use std::alloc::Global;
 use std::sync::Arc;
 
@@ -28,7 +29,9 @@ fn take_slots<C: Drop>(closed: &mut Closed<Arc<C>, Global>, from: usize, end: us
     ensures long { slots_len closed.new.slots ≡ slots_len closed.old.slots }
     ensures words { closed.new.words ≡ closed.old.words }
     ensures taken { (k : ℕ) → from ≤ k → k < end → slice_index_or (slots_filled closed.new.slots) k false ≡ false }
-    ensures others { (k : ℕ) → (k < from) ⊎ (end ≤ k) → slice_index_or (slots_filled closed.new.slots) k false ≡ slice_index_or (slots_filled closed.old.slots) k false }
+    ensures others { (k : ℕ) → (k < from) ⊎ (end ≤ k)
+        → slice_index_or (slots_filled closed.new.slots) k false
+        ≡ slice_index_or (slots_filled closed.old.slots) k false }
 {
     let cell = closed.take(from);
     for slot in from + 1..end {
@@ -47,7 +50,8 @@ fn gathered<Y: System>(
     requires words { slots_len closed.words ≡ subject.now.wiring.plan.elements + 2 }
     requires slots { slots_len closed.slots ≡ slots_of subject.now.wiring.layout }
     requires full { IsFull closed.words × IsFull closed.slots }
-    requires result { AreResult (Y.meaning subject.now.system) subject.now.wiring arc_value (slots_items closed.words) (slots_items closed.slots) }
+    requires result { AreResult (Y.meaning subject.now.system) subject.now.wiring arc_value (slots_items closed.words)
+        (slots_items closed.slots) }
     ensures { IsOutcome (Y.meaning subject.now.system) subject.now.wiring result }
 {
     let mut closed = closed;

@@ -14,9 +14,11 @@ mod runs;
 mod sends;
 mod starts;
 mod stops;
+mod tokens;
 
 pub use answers::{Armed, Arrived, Got, Seen};
 pub use boards::Board;
 pub use copies::Copies;
 pub use laws::nested_meets_board;
 pub use passes::Pass;
+pub use tokens::{Finished, Hold, Resetting, Sending, Stopped};

@@ -16,9 +16,10 @@ use crate::answers::Armed;
 use crate::boards::Board;
 use crate::copies::Copies;
 use crate::passes::Pass;
+use crate::tokens::{Hold, Resetting};
 use atomic_table::Seat;
 use pk_iterate::System;
-use pk_words::{DONE, Hold, RUN, Resetting, View, arm_head_told, arm_told, store_told};
+use pk_words::{DONE, RUN, View, arm_head_told, arm_told, store_told};
 use std::marker::Brand;
 use std::sync::Arc;
 
@@ -61,7 +62,8 @@ impl<'a, Y: System> Board<'a, Y> {
         requires below { head < self.now.subject.wiring.plan.elements }
         requires head { head ≡ head_of self.now.subject.wiring.plan exit }
         ensures same { (seat.new.table_id ≡ seat.old.table_id) × (seat.new.id ≡ seat.old.id) }
-        ensures armed { HeadArmed (Y.meaning self.now.subject.system) self.now.subject.wiring exit head seat.old.me (result * 1048576 + 262145) seat.new.me }
+        ensures armed { HeadArmed (Y.meaning self.now.subject.system) self.now.subject.wiring exit head seat.old.me
+            (result * 1048576 + 262145) seat.new.me }
     {
         let word = arm_head_told::<_, _, _, Brand>(
             &self.table.shared,
@@ -80,7 +82,8 @@ impl<'a, Y: System> Board<'a, Y> {
         requires resetting { IsResetting self.now.subject.wiring.plan resetting }
         requires resets { HasResetting pass.old.view resetting.exit resetting.left }
         ensures of_board { pass.new.table ≡ pass.old.table }
-        ensures armed { IsArmed (Y.meaning self.now.subject.system) self.now.subject.wiring resetting pass.old.view pass.new.view result }
+        ensures armed { IsArmed
+            (Y.meaning self.now.subject.system) self.now.subject.wiring resetting pass.old.view pass.new.view result }
     {
         let exit = resetting.exit();
         let left = resetting.left() - 1;
@@ -103,11 +106,16 @@ impl<'a, Y: System> Board<'a, Y> {
         requires below { exit < self.now.subject.wiring.plan.elements }
         requires held { HasHold seat.old.me.0 exit run }
         requires room { run < self.now.subject.wiring.limit }
-        requires written { (c : Y.Cell) × (old : View) × IsWriting arc_value self.now.subject.wiring exit c (first_of self.now.subject.wiring.layout exit) old seat.old.me × IsRunCell (Y.meaning self.now.subject.system) self.now.subject.wiring.plan (record { element = exit; run = run }) true c }
+        requires written { (c : Y.Cell) × (old : View)
+            × IsWriting arc_value self.now.subject.wiring exit c
+            (first_of self.now.subject.wiring.layout exit) old seat.old.me
+            × IsRunCell (Y.meaning self.now.subject.system) self.now.subject.wiring.plan
+            (record { element = exit; run = run }) true c }
         ensures same { (seat.new.table_id ≡ seat.old.table_id) × (seat.new.id ≡ seat.old.id) }
         ensures members { result ≡ length (members_at self.now.subject.wiring.plan exit) }
         ensures resetting { IsResetting self.now.subject.wiring.plan (record { exit = exit; left = result }) }
-        ensures told { Restarted self.now.subject.wiring.plan exit seat.old.me ((run + 1) * 1048576 + inner (shape_of self.now.subject.wiring.plan) exit exit) seat.new.me }
+        ensures told { Restarted self.now.subject.wiring.plan exit seat.old.me
+            ((run + 1) * 1048576 + inner (shape_of self.now.subject.wiring.plan) exit exit) seat.new.me }
     {
         let plan = self.subject.plan();
         let component = plan.component_of(exit);
@@ -129,11 +137,18 @@ impl<'a, Y: System> Board<'a, Y> {
         requires held { HasHold pass.old.view hold.element hold.run }
         requires room { hold.run < self.now.subject.wiring.limit }
         requires copies { AreCopies self.now.subject.wiring hold.element copies }
-        requires cell { IsRunCell (Y.meaning self.now.subject.system) self.now.subject.wiring.plan hold true copies.cell }
+        requires cell { IsRunCell
+            (Y.meaning self.now.subject.system) self.now.subject.wiring.plan hold true copies.cell }
         ensures of_board { pass.new.table ≡ pass.old.table }
-        ensures resetting { result ≡ record { exit = hold.element; left = length (members_at self.now.subject.wiring.plan hold.element) } }
+        ensures resetting { result ≡ record {
+          exit = hold.element;
+          left = length (members_at self.now.subject.wiring.plan hold.element);
+        } }
         ensures is_resetting { IsResetting self.now.subject.wiring.plan result }
-        ensures view { pass.new.view ≡ again_view hold.element ((hold.run + 1) * 1048576 + inner (shape_of self.now.subject.wiring.plan) hold.element hold.element) (length (members_at self.now.subject.wiring.plan hold.element)) pass.old.view }
+        ensures view { pass.new.view
+            ≡ again_view hold.element
+            ((hold.run + 1) * 1048576 + inner (shape_of self.now.subject.wiring.plan) hold.element hold.element)
+            (length (members_at self.now.subject.wiring.plan hold.element)) pass.old.view }
     {
         let exit = hold.element();
         let Copies {

@@ -25,7 +25,8 @@ impl<C: Drop> Model for Results<C> {
 
     ghost view = { λ r. record { cells = map arc_value r.cells.items; runs = r.runs.items; room = r.room } };
 
-    ghost invariant = { λ r. (length r.runs.items ≡ length r.cells.items) × (r.room ≤ vec_capacity r.cells) × (r.room ≤ vec_capacity r.runs) };
+    ghost invariant = { λ r. (length r.runs.items ≡ length r.cells.items) × (r.room ≤ vec_capacity r.cells)
+        × (r.room ≤ vec_capacity r.runs) };
 }
 
 /// Room for so many.
@@ -41,7 +42,11 @@ impl<C: Drop> Results<C> {
     /// One cell more, with its run number.
     pub fn add(&mut self, cell: Arc<C>, run: u64)
         requires { length self.old.cells < self.old.room }
-        ensures { self.new ≡ record { cells = self.old.cells ++ arc_value cell ∷ []; runs = self.old.runs ++ run ∷ []; room = self.old.room } }
+        ensures { self.new ≡ record {
+          cells = self.old.cells ++ arc_value cell ∷ [];
+          runs = self.old.runs ++ run ∷ [];
+          room = self.old.room;
+        } }
     {
         self.cells.push_reserved(cell);
         self.runs.push_reserved(run);

@@ -15,9 +15,10 @@ ghost use Rattle.pk_board.specs.Writing.{IsWriting};
 use crate::boards::Board;
 use crate::copies::{Copies, copied};
 use crate::passes::Pass;
+use crate::tokens::{Hold, Sending};
 use atomic_table::Seat;
 use pk_iterate::System;
-use pk_words::{DONE, Hold, RUN, Sending, View, give_told, input_told, store_told, take_told};
+use pk_words::{DONE, RUN, View, give_told, input_told, store_told, take_told};
 use std::alloc::{AllocError, Global};
 use std::marker::Brand;
 use std::sync::Arc;
@@ -31,8 +32,10 @@ impl<'a, Y: System> Board<'a, Y> {
     ) -> Result<Arc<Y::Cell>, AllocError>
         requires of_board { seat.old.table_id ≡ self.now.table }
         requires has { (x : Arc Y.Cell Global) × (seat.old.me.1 ≡ (slot, x) ∷ []) }
-        ensures same { (seat.new.table_id ≡ seat.old.table_id) × (seat.new.id ≡ seat.old.id) × (seat.new.me ≡ seat.old.me) }
-        ensures value { IfOk result (λ c. (x : Arc Y.Cell Global) → seat.old.me.1 ≡ (slot, x) ∷ [] → arc_value c ≡ arc_value x) }
+        ensures same { (seat.new.table_id ≡ seat.old.table_id) × (seat.new.id ≡ seat.old.id)
+            × (seat.new.me ≡ seat.old.me) }
+        ensures value { IfOk result (λ c. (x : Arc Y.Cell Global) → seat.old.me.1 ≡ (slot, x) ∷ []
+            → arc_value c ≡ arc_value x) }
     {
         Arc::try_clone(seat.slot_mut(&self.table.shared, slot))
     }
@@ -49,8 +52,10 @@ impl<'a, Y: System> Board<'a, Y> {
         requires held { HasHold pass.old.view hold.now.element hold.now.run }
         requires place { place < length ((Y.meaning self.now.subject.system).reads hold.now.element) }
         ensures of_board { pass.new.table ≡ pass.old.table }
-        ensures input { IfOk result (λ c. IsInput (Y.meaning self.now.subject.system) self.now.subject.wiring hold.now place pass.old.view pass.new.view (arc_value c)) }
-        ensures err { OnErr result (IsGlance (Y.meaning self.now.subject.system) hold.now.element place pass.old.view pass.new.view) }
+        ensures input { IfOk result (λ c. IsInput (Y.meaning self.now.subject.system) self.now.subject.wiring
+            hold.now place pass.old.view pass.new.view (arc_value c)) }
+        ensures err { OnErr result
+            (IsGlance (Y.meaning self.now.subject.system) hold.now.element place pass.old.view pass.new.view) }
     {
         let element = hold.element();
         let word = element as usize + 2;
@@ -90,10 +95,14 @@ impl<'a, Y: System> Board<'a, Y> {
     fn put(&self, seat: &mut Seat<Arc<Y::Cell>, View>, e: u32, slot: usize, cell: Arc<Y::Cell>)
         requires of_board { seat.old.table_id ≡ self.now.table }
         requires element { e < self.now.subject.wiring.plan.elements }
-        requires slot { (first_of self.now.subject.wiring.layout e ≤ slot) × (slot < first_of self.now.subject.wiring.layout (e + 1)) }
-        requires writing { (v : View) × (0 < times e v.holds) × IsWriting arc_value self.now.subject.wiring e (arc_value cell) (slot + 1) v seat.old.me }
+        requires slot { (first_of self.now.subject.wiring.layout e ≤ slot)
+            × (slot < first_of self.now.subject.wiring.layout (e + 1)) }
+        requires writing { (v : View) × (0 < times e v.holds)
+            × IsWriting arc_value self.now.subject.wiring e (arc_value cell) (slot + 1) v seat.old.me }
         ensures same { (seat.new.table_id ≡ seat.old.table_id) × (seat.new.id ≡ seat.old.id) }
-        ensures writing { (v : View) → IsWriting arc_value self.now.subject.wiring e (arc_value cell) (slot + 1) v seat.old.me → IsWriting arc_value self.now.subject.wiring e (arc_value cell) slot v seat.new.me }
+        ensures writing { (v : View)
+            → IsWriting arc_value self.now.subject.wiring e (arc_value cell) (slot + 1) v seat.old.me
+            → IsWriting arc_value self.now.subject.wiring e (arc_value cell) slot v seat.new.me }
     {
         take_told::<_, _, _, Brand>(&self.table.shared, seat, e as usize + 2, slot);
         drop(self.table.shared.exchange(seat, slot, cell));
@@ -111,10 +120,12 @@ impl<'a, Y: System> Board<'a, Y> {
         requires element { e < self.now.subject.wiring.plan.elements }
         requires held { 0 < times e seat.old.me.0.holds }
         requires idle { (seat.old.me.1 ≡ []) × (seat.old.me.0.out ≡ []) }
-        requires count { first_of self.now.subject.wiring.layout e + (length further.items + 1) ≡ first_of self.now.subject.wiring.layout (e + 1) }
+        requires count { first_of self.now.subject.wiring.layout e + (length further.items + 1)
+            ≡ first_of self.now.subject.wiring.layout (e + 1) }
         requires same { map arc_value further.items ≡ replicate (length further.items) (arc_value first) }
         ensures same { (seat.new.table_id ≡ seat.old.table_id) × (seat.new.id ≡ seat.old.id) }
-        ensures written { IsWriting arc_value self.now.subject.wiring e (arc_value first) (first_of self.now.subject.wiring.layout e) seat.old.me.0 seat.new.me }
+        ensures written { IsWriting arc_value self.now.subject.wiring e (arc_value first)
+            (first_of self.now.subject.wiring.layout e) seat.old.me.0 seat.new.me }
     {
         let mut cells = further;
         let mut slot = self.subject.layout().first_slot(e + 1);
@@ -137,11 +148,14 @@ impl<'a, Y: System> Board<'a, Y> {
         requires held { HasHold pass.old.view hold.element hold.run }
         requires room { hold.run < self.now.subject.wiring.limit }
         requires copies { AreCopies self.now.subject.wiring hold.element copies }
-        requires cell { IsRunCell (Y.meaning self.now.subject.system) self.now.subject.wiring.plan hold false copies.cell }
+        requires cell { IsRunCell
+            (Y.meaning self.now.subject.system) self.now.subject.wiring.plan hold false copies.cell }
         ensures of_board { pass.new.table ≡ pass.old.table }
         ensures end { IsNone result ↔ (hold.element ≡ end_of self.now.subject.wiring.plan) }
         ensures sending { IfSome result (λ s. s ≡ record { element = hold.element; sent = 0 }) }
-        ensures view { pass.new.view ≡ done_view hold.element ((hold.run + 1) * 1048576 + 262145) (successors_of self.now.subject.wiring.plan hold.element) pass.old.view }
+        ensures view { pass.new.view
+            ≡ done_view hold.element ((hold.run + 1) * 1048576 + 262145)
+            (successors_of self.now.subject.wiring.plan hold.element) pass.old.view }
     {
         let element = hold.element();
         let Copies {

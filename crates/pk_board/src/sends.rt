@@ -7,8 +7,9 @@ ghost use Rattle.pk_board.specs.Calls.{IsArrived, IsGotOf, IsSending};
 use crate::answers::{Arrived, Got};
 use crate::boards::Board;
 use crate::passes::Pass;
+use crate::tokens::{Hold, Sending};
 use pk_iterate::System;
-use pk_words::{Hold, RUN, Sending, decrement_told};
+use pk_words::{RUN, decrement_told};
 use std::marker::Brand;
 
 impl<'a, Y: System> Board<'a, Y> {
@@ -18,7 +19,8 @@ impl<'a, Y: System> Board<'a, Y> {
         requires sending { IsSending self.now.subject.wiring.plan sending }
         requires sends { HasSending pass.old.view sending.element sending.sent }
         ensures of_board { pass.new.table ≡ pass.old.table }
-        ensures arrived { IsArrived (Y.meaning self.now.subject.system) self.now.subject.wiring sending pass.old.view pass.new.view result }
+        ensures arrived { IsArrived
+            (Y.meaning self.now.subject.system) self.now.subject.wiring sending pass.old.view pass.new.view result }
     {
         let element = sending.element();
         let sent = sending.sent();

@@ -40,7 +40,8 @@ fn start_word(plan: &Plan, e: u32) -> u64
 fn start_words(alloc: Global, plan: &Plan) -> Result<Vec<u64>, AllocError>
     ensures long { IfOk result (λ v. length v.items ≡ plan.now.elements + 2) }
     ensures going { IfOk result (λ v. slice_index v.items 1 ≡ 0) }
-    ensures each { IfOk result (λ v. (e : ℕ) → e < plan.now.elements → slice_index v.items (e + 2) ≡ low (start_status (predecessors_of plan.now e))) }
+    ensures each { IfOk result (λ v. (e : ℕ) → e < plan.now.elements
+        → slice_index v.items (e + 2) ≡ low (start_status (predecessors_of plan.now e))) }
 {
     let mut words = Vec::new(alloc);
     words.push(0)?;
@@ -60,7 +61,8 @@ fn start_slots<Y: System>(
 ) -> Result<Vec<Arc<Y::Cell>>, AllocError>
     requires { IsLaidOut (Y.meaning system.now) elements layout.now }
     ensures long { IfOk result (λ v. length v.items ≡ slots_of layout.now) }
-    ensures each { IfOk result (λ v. (k : ℕ) (x : Arc Y.Cell Global) → get_elem? v.items k ≡ some x → arc_value x ≡ (Y.meaning system.now).first (owner_of layout.now k)) }
+    ensures each { IfOk result (λ v. (k : ℕ) (x : Arc Y.Cell Global) → get_elem? v.items k ≡ some x
+        → arc_value x ≡ (Y.meaning system.now).first (owner_of layout.now k)) }
 {
     let mut slots = Vec::new(alloc);
     for e in 0..elements {

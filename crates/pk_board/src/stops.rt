@@ -6,8 +6,9 @@ ghost use Rattle.pk_board.specs.Stops.{IsStop, IsStopped, IsGoing};
 
 use crate::boards::Board;
 use crate::passes::Pass;
+use crate::tokens::Stopped;
 use pk_iterate::System;
-use pk_words::{Stopped, Why, load_told, stop_word, store_told, why_in};
+use pk_words::{Why, load_told, stop_word, store_told, why_in};
 use std::marker::Brand;
 
 impl<'a, Y: System> Board<'a, Y> {
@@ -26,7 +27,8 @@ impl<'a, Y: System> Board<'a, Y> {
     pub fn stopped(&self, pass: &mut Pass<Y::Cell>) -> Option<(Why, Stopped)>
         requires of_board { pass.old.table ≡ self.now.table }
         ensures of_board { pass.new.table ≡ pass.old.table }
-        ensures stopped { IfSome result (λ r. IsStopped (Y.meaning self.now.subject.system) self.now.subject.wiring r.0 pass.old.view pass.new.view) }
+        ensures stopped { IfSome result (λ r. IsStopped
+            (Y.meaning self.now.subject.system) self.now.subject.wiring r.0 pass.old.view pass.new.view) }
         ensures token { IfSome result (λ r. r.1 ≡ r.0) }
         ensures going { IfNone result (IsGoing pass.old.view pass.new.view) }
     {

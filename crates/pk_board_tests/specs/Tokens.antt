@@ -2,7 +2,7 @@
 use Rattle.std.specs.Prelude.{◌≡◌, ℕ, ◌≤◌, List, [], ◌∷◌}
 use Rattle.pk_plan.specs.Plans.{PlanView}
 use Rattle.pk_words.specs.declared.view.View.{View}
-use Rattle.pk_words.specs.Held.{HoldView, SendingView, ResettingView}
+use Rattle.pk_board.specs.Held.{HoldView, SendingView, ResettingView}
 use Rattle.pk_words.specs.Subjects.{SubjectView}
 use Rattle.pk_board.specs.declared.answers.Got.{Got}
 use Rattle.pk_board.specs.declared.answers.Got.TheVariants.{Ready, Waiting}

@@ -7,9 +7,8 @@ ghost use Rattle.pk_board_tests.specs.Summing.{summing};
 ghost use Rattle.pk_board_tests.specs.Prepared.{HasEach};
 
 use crate::summing::Summing;
-use pk_board::{Board, Pass};
+use pk_board::{Board, Finished, Pass};
 use pk_iterate::Cells;
-use pk_words::Finished;
 use std::process::Abort;
 
 fn closed<'a>(board: Board<'a, Summing>, pass: Pass<u64>, finished: Finished) -> Cells<u64>

@@ -9,10 +9,9 @@ ghost use Rattle.pk_board_tests.specs.Summing.{summing};
 ghost use Rattle.pk_board_tests.specs.Tokens.{HasTokens, HasNone, HasOnlyHold, HasOnlySending, HasOnlyResetting, HasGot, IsAbout};
 
 use crate::summing::Summing;
-use pk_board::{Armed, Arrived, Board, Copies, Got, Pass};
+use pk_board::{Armed, Arrived, Board, Copies, Got, Hold, Pass, Resetting, Sending};
 use pk_iterate::{Decision, System};
 use pk_plan::Plan;
-use pk_words::{Hold, Resetting, Sending};
 use pk_workers::read_all;
 use std::alloc::{AllocError, Global};
 use std::process::Abort;
@@ -34,7 +33,8 @@ fn made(
     e: u32,
     inputs: &[Arc<u64>],
 ) -> Result<(u64, bool), AllocError>
-    ensures { IfOk result (λ it. IsGiven (summing (lists_of system.now.rows.items)) exit it.1 e (map arc_value inputs.now) it.0) }
+    ensures { IfOk result
+        (λ it. IsGiven (summing (lists_of system.now.rows.items)) exit it.1 e (map arc_value inputs.now) it.0) }
 {
     if exit {
         match system.decide(alloc, e, inputs)? {
@@ -115,7 +115,8 @@ fn finish<'a>(
     requires held { HasOnlyHold pass.old.view hold }
     requires room { hold.run < board.now.subject.wiring.limit }
     requires copies { AreCopies board.now.subject.wiring hold.element copies }
-    requires cell { IsRunCell (summing (lists_of board.now.subject.system.rows.items)) board.now.subject.wiring.plan hold false copies.cell }
+    requires cell { IsRunCell
+        (summing (lists_of board.now.subject.system.rows.items)) board.now.subject.wiring.plan hold false copies.cell }
     ensures of_board { OnOk result (pass.new.table ≡ board.now.table) }
     ensures none { OnOk result (HasNone pass.new.view) }
 {
@@ -162,7 +163,8 @@ fn go_back<'a>(
     requires held { HasOnlyHold pass.old.view hold }
     requires room { hold.run < board.now.subject.wiring.limit }
     requires copies { AreCopies board.now.subject.wiring hold.element copies }
-    requires cell { IsRunCell (summing (lists_of board.now.subject.system.rows.items)) board.now.subject.wiring.plan hold true copies.cell }
+    requires cell { IsRunCell
+        (summing (lists_of board.now.subject.system.rows.items)) board.now.subject.wiring.plan hold true copies.cell }
     ensures of_board { OnOk result (pass.new.table ≡ board.now.table) }
     ensures none { OnOk result (HasNone pass.new.view) }
 {
@@ -190,7 +192,9 @@ fn copied<'a>(
     ensures of_board { OnOk result (pass.new.table ≡ board.now.table) }
     ensures held { OnOk result (HasOnlyHold pass.new.view hold.now) }
     ensures copies { IfOk result (λ r. AreCopies board.now.subject.wiring hold.now.element r.0) }
-    ensures cell { IfOk result (λ r. IsRunCell (summing (lists_of board.now.subject.system.rows.items)) board.now.subject.wiring.plan hold.now r.1 r.0.cell) }
+    ensures cell { IfOk result
+        (λ r. IsRunCell (summing
+        (lists_of board.now.subject.system.rows.items)) board.now.subject.wiring.plan hold.now r.1 r.0.cell) }
 {
     let element = hold.element();
     let inputs = read_all(alloc, board, pass, hold)?;

@@ -12,13 +12,11 @@ use crate::plans::{Scene, prepared};
 use crate::summing::Summing;
 use pk_iterate::{Cells, Solve};
 use pk_plan::Plan;
-use pk_words::Hold;
 use pk_workers::{Gate, NoGate, run_workers};
 use std::alloc::{AllocError, Global};
 use std::process::Abort;
 use std::sync::Wait;
-use std::sync::atomic::{AtomicBool, Ordering};
-use std::thread;
+use std::sync::atomic::{AtomicU64, Ordering};
 use std::thread::Threads;
 
 // What so many workers leave.
@@ -41,38 +39,33 @@ fn left<R: Threads + Wait + Sync, G: Gate + Sync>(
     run_workers(rt, alloc, system, plan, workers, max_runs, gate)
 }
 
-// Holds two runs until both have begun.
+// Two runs that wait for one another: each counts that it has begun, and looks for so long whether the other has.
 #[derive(Drop)]
 struct Both {
     one: u32,
     other: u32,
-    one_begun: AtomicBool,
-    other_begun: AtomicBool,
-}
-
-fn wait_for<R: Wait>(rt: &R, flag: &AtomicBool) {
-    for _ in rt.forever() {
-        if flag.load(Ordering::SeqCst) {
-            return;
-        }
-        thread::yield_now();
-    }
-    unreachable!()
+    begun: AtomicU64,
+    alone: AtomicU64,
 }
 
 impl Gate for Both {
-    fn before<R: Threads + Wait>(&self, rt: &R, _worker: u32, hold: &Hold) {
-        if hold.element() == self.one {
-            self.one_begun.store(true, Ordering::SeqCst);
-            wait_for(rt, &self.other_begun);
-        }
-        if hold.element() == self.other {
-            self.other_begun.store(true, Ordering::SeqCst);
-            wait_for(rt, &self.one_begun);
+    fn watches(&self) -> bool {
+        true
+    }
+
+    fn before<R: Threads + Wait>(&self, _rt: &R, _worker: u32, element: u32, _run: u64) {
+        if element == self.one || element == self.other {
+            self.begun.fetch_add(1, Ordering::SeqCst);
+            for _ in 0..100000000u32 {
+                if self.begun.load(Ordering::SeqCst) == 2 {
+                    return;
+                }
+            }
+            self.alone.fetch_add(1, Ordering::SeqCst);
         }
     }
 
-    fn after<R: Threads + Wait>(&self, _rt: &R, _worker: u32, _hold: &Hold) {}
+    fn after<R: Threads + Wait>(&self, _rt: &R, _worker: u32, _element: u32, _run: u64) {}
 }
 
 // So many workers leave what the iteration leaves.
@@ -180,9 +173,11 @@ fn two_elements_run_at_once(rt: HostRuntime) -> Result<(), AllocError> {
     let both = Both {
         one: 1,
         other: 2,
-        one_begun: AtomicBool::new(false),
-        other_begun: AtomicBool::new(false),
+        begun: AtomicU64::new(0),
+        alone: AtomicU64::new(0),
     };
     leave_the_same(&rt, rt.alloc(), &both, &made, 2);
+    assert!(rt; both.begun.load(Ordering::SeqCst) == 2);
+    assert!(rt; both.alone.load(Ordering::SeqCst) == 0);
     Ok(())
 }

@@ -32,12 +32,12 @@ of_has u (w ∷ ws) h = by (u == w) refl h (of_has u ws)
 
 -- ---- a predecessor stands once
 
-rising_rest : (x : ℕ) (xs : List ℕ) → IsStrictlyIncreasing (x ∷ xs) → IsStrictlyIncreasing xs
+pub rising_rest : (x : ℕ) (xs : List ℕ) → IsStrictlyIncreasing (x ∷ xs) → IsStrictlyIncreasing xs
 rising_rest x xs rising = λ k l.
     let same : suc k + 1 ≡ suc (k + 1) = omega arith in
     subst (λ (j : ℕ). get_or xs k 0 < get_or (x ∷ xs) j 0) same (rising (suc k) (omega (arith, l)))
 
-none_above : (u x : ℕ) (xs : List ℕ) → u ≤ x → IsStrictlyIncreasing (x ∷ xs) → count_by (λ w. w == u) xs ≡ 0
+pub none_above : (u x : ℕ) (xs : List ℕ) → u ≤ x → IsStrictlyIncreasing (x ∷ xs) → count_by (λ w. w == u) xs ≡ 0
 none_above u x [] le rising = refl
 none_above u x (y ∷ ys) le rising =
     let up : x < y = rising 0 (omega arith) in
@@ -60,7 +60,7 @@ once_in u (x ∷ xs) rising h = count_cons (λ w. w == u) x xs ∙ by (u == x) r
         let later = rest h in
         rw (other, later) refl
 
-rising_at : (rows : List (List ℕ)) (v : ℕ) → All IsStrictlyIncreasing rows → IsStrictlyIncreasing (slice_index_or rows v [])
+pub rising_at : (rows : List (List ℕ)) (v : ℕ) → All IsStrictlyIncreasing rows → IsStrictlyIncreasing (slice_index_or rows v [])
 rising_at [] v all = λ k l. absurd (omega (arith, l))
 rising_at (row ∷ rows) zero all = all 0 [] (omega arith)
 rising_at (row ∷ rows) (suc v) all = rising_at rows v (λ k d l. all (suc k) d (omega (arith, l)))

@@ -53,10 +53,12 @@ rearmed p c (e ∷ es) xs = rearmed p c es (changed xs e (with_new_status (armed
 
 -- after a run of its exit, which gave this cell, a component is gone through again: its exit and its members wait for one another, but the head is held
 abbrev pub restarted : {C : Type 0} → PlanView → Component → C → List (Standing C) → List (Standing C)
-restarted p c cell xs = rearmed p c (members_of p c) (changed xs c.exit (after_run (Waiting (inner_count p c c.exit)) cell))
+restarted p c cell xs = rearmed p c (members_of p c)
+    (changed xs c.exit (after_run (Waiting (inner_count p c c.exit)) cell))
 
 -- so many, each with a cell that it may hold; and the elements read elements alone
-pub record AreKept {C : Type 0} (b : Behaviour C) (may_hold : ℕ → C → Type 0) (elements : ℕ) (xs : List (Standing C)) : Type 0 where
+pub record AreKept {C : Type 0} (b : Behaviour C) (may_hold : ℕ → C → Type 0) (elements : ℕ)
+    (xs : List (Standing C)) : Type 0 where
   pub long : length xs ≡ elements
   pub held : (e : ℕ) (x : Standing C) → slice_get xs e ≡ Some x → may_hold e x.cell
   pub within : ReadsWithin b elements

@@ -20,7 +20,12 @@ nested_plan = record {
   successors = (1 ∷ []) ∷ (3 ∷ []) ∷ (4 ∷ []) ∷ (2 ∷ []) ∷ [] ∷ [];
   listing = 0 ∷ 1 ∷ 3 ∷ 2 ∷ 4 ∷ [];
   places = 0 ∷ 1 ∷ 3 ∷ 2 ∷ 4 ∷ [];
-  components = record { head = 0; exit = 2; first = 0; end = 3 } ∷ record { head = 1; exit = 3; first = 1; end = 2 } ∷ [];
+  components = record { head = 0; exit = 2; first = 0; end = 3 } ∷ record {
+    head = 1;
+    exit = 3;
+    first = 1;
+    end = 2;
+  } ∷ [];
 }
 
 abbrev pub nested_order : Level
@@ -45,7 +50,12 @@ turn_of (zero ∷ cells) = Again 1
 turn_of (suc n ∷ cells) = Stable 0
 
 abbrev pub nested_system : Behaviour ℕ
-nested_system = record { reads = nested_reads; first = λ e. 0; apply = λ e cells. total cells; decide = λ x cells. turn_of cells }
+nested_system = record {
+  reads = nested_reads;
+  first = λ e. 0;
+  apply = λ e cells. total cells;
+  decide = λ x cells. turn_of cells;
+}
 
 -- it meets all that is asked of a plan, an order and a system
 pub record NestedMeetsAll : Type 0 where

@@ -37,22 +37,26 @@ IsOffer (Stable x) = ⊥
 IsOffer (Again x) = ⊥
 
 -- an element at the end
-pub record IsOver {C : Type 0} (b : Behaviour C) {order : Level} (ends : Ends b order) (s : State C) (e : ℕ) : Type 0 where
+pub record IsOver {C : Type 0} (b : Behaviour C) {order : Level} (ends : Ends b order) (s : State C)
+    (e : ℕ) : Type 0 where
   pub cell : cell_in b s e ≡ result_cell ends e
   pub run : run_number (s e) ≡ result_count ends e
   pub status : (s e).status ≡ Done
   pub sends : (s e).sends ≡ []
 
 -- A state against the recursion over an order.
-pub record KeepsTo {C : Type 0} (b : Behaviour C) (p : PlanView) {order : Level} (ends : Ends b order) (s : State C) : Type 0 where
+pub record KeepsTo {C : Type 0} (b : Behaviour C) (p : PlanView) {order : Level} (ends : Ends b order)
+    (s : State C) : Type 0 where
   -- an element's cell is that of the recursion's run with its run number, which is at most the recursion's count, and below it where the element isn't done
   pub cells : (e : ℕ) → cell_in b s e ≡ run_value b (trace ends) e (run_number (s e))
   pub bounded : (e : ℕ) → run_number (s e) ≤ result_count ends e
   pub fewer : (e : ℕ) → e < p.elements → (s e).status ≢ Done → run_number (s e) < result_count ends e
   -- what a held element reads is what its next run reads in the recursion
-  pub reads : (e : ℕ) → e < p.elements → (s e).status ≡ Held → inputs_of b s e ≡ values_read b (trace ends) e (run_number (s e) + 1)
+  pub reads : (e : ℕ) → e < p.elements → (s e).status ≡ Held
+      → inputs_of b s e ≡ values_read b (trace ends) e (run_number (s e) + 1)
   -- no element is held while another one that it reads is held
-  pub apart : (e u : ℕ) → e < p.elements → Contains (b.reads e) u → u ≢ e → (s e).status ≡ Held → (s u).status ≡ Held → ⊥
+  pub apart : (e u : ℕ) → e < p.elements → Contains (b.reads e) u → u ≢ e
+      → (s e).status ≡ Held → (s u).status ≡ Held → ⊥
   -- until END is done, some event that is no offer is enabled
   pub goes_on : (s (end_of p)).status ≢ Done → (event : Event) × Enabled b (shape_of p) s event × (IsOffer event → ⊥)
   -- once END is done, each element has the cell and the count that the recursion leaves, and has no send left
@@ -61,7 +65,10 @@ pub record KeepsTo {C : Type 0} (b : Behaviour C) (p : PlanView) {order : Level}
 -- For every plan, every order of it in which the recursion ends, and every system that fits the plan: each state that a list of events
 -- reaches keeps to the recursion, and no more runs are made than the recursion makes.
 pub record EveryListKeeps {C : Type 0} (b : Behaviour C) : Type 0 where
-  pub keeps : (p : PlanView) (order : Level) (ends : Ends b order) (events : List Event) → Axioms p → IsOrderOf (shape_of p) order → FitsPlan b p
-      → AllEnabled b (shape_of p) (start (shape_of p)) events → KeepsTo b p ends (played b (shape_of p) (start (shape_of p)) events)
-  pub runs : (p : PlanView) (order : Level) (ends : Ends b order) (events : List Event) → Axioms p → IsOrderOf (shape_of p) order → FitsPlan b p
+  pub keeps : (p : PlanView) (order : Level) (ends : Ends b order) (events : List Event) → Axioms p
+      → IsOrderOf (shape_of p) order → FitsPlan b p
+      → AllEnabled b (shape_of p) (start (shape_of p)) events
+      → KeepsTo b p ends (played b (shape_of p) (start (shape_of p)) events)
+  pub runs : (p : PlanView) (order : Level) (ends : Ends b order) (events : List Event) → Axioms p
+      → IsOrderOf (shape_of p) order → FitsPlan b p
       → AllEnabled b (shape_of p) (start (shape_of p)) events → runs_in events ≤ length (trace ends)

@@ -11,7 +11,8 @@ use Rattle.pk_core.specs.Events.{start, Enabled, AllEnabled, played}
 pub record IsFirstRefused {C : Type 0} (b : Behaviour C) (p : Shape) (events : List Event) (place : ℕ) : Type 0 where
   pub within : place < length events
   pub before : AllEnabled b p (start p) (take place events)
-  pub refused : (event : Event) → slice_get events place ≡ Some event → Enabled b p (played b p (start p) (take place events)) event → ⊥
+  pub refused : (event : Event) → slice_get events place ≡ Some event
+      → Enabled b p (played b p (start p) (take place events)) event → ⊥
 
 abbrev pub IsRefusal : {C : Type 0} → Behaviour C → Shape → List Event → PlayError → Type 0
 IsRefusal b p events (NotEnabled place) = IsFirstRefused b p events place

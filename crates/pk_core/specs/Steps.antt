@@ -31,6 +31,7 @@ pub record CanStep {Y C : Type 0} (b : Behaviour C) (c : CoreView Y C) (event : 
   pub room : HasRoom state event
 
 -- whatever state the old core shows, the new one shows the state after the event
-pub record IsStep {Y C : Type 0} (b : Behaviour C) (old : CoreView Y C) (event : Event) (new : CoreView Y C) : Type 0 where
+pub record IsStep {Y C : Type 0} (b : Behaviour C) (old : CoreView Y C) (event : Event)
+    (new : CoreView Y C) : Type 0 where
   pub about : IsAbout old.system old.plan new
   pub shown : (s : State C) → Shows b old s → Shows b new (after b (shape_of old.plan) s event)

@@ -28,7 +28,8 @@ impl<'a, Y: System> Core<'a, Y> {
     pub(crate) fn tell(&mut self, u: u32, v: u32)
         requires u { u < self.old.plan.elements }
         requires v { v < self.old.plan.elements }
-        ensures { self.new ≡ record self.old { elements = changed (changed self.old.elements u (without_send v)) v with_arrival } }
+        ensures { self.new ≡ record self.old
+            { elements = changed (changed self.old.elements u (without_send v)) v with_arrival } }
     {
         send(&mut self.entries, u, v);
     }
@@ -38,7 +39,11 @@ impl<'a, Y: System> Core<'a, Y> {
         requires e { e < self.old.plan.elements }
         requires room { (x : Standing Y.Cell) → slice_get self.old.elements e ≡ Some x → x.run < 2 ^ 64 - 1 }
         requires held { Y.may_hold self.old.system e (arc_value cell) }
-        ensures ok { OnOk result (self.new ≡ record self.old { elements = changed (changed self.old.elements e (after_run Done (arc_value cell))) e (with_sends (successors_of self.old.plan e)) }) }
+        ensures ok { OnOk result (self.new
+            ≡ record self.old {
+              elements = changed (changed self.old.elements e (after_run Done (arc_value cell))) e
+                  (with_sends (successors_of self.old.plan e));
+            }) }
         ensures err { OnErr result (self.new ≡ self.old) }
     {
         let sends = Vec::from_slice(self.alloc, self.plan.successors(e))?;
@@ -52,7 +57,11 @@ impl<'a, Y: System> Core<'a, Y> {
         requires room { (y : Standing Y.Cell) → slice_get self.old.elements x ≡ Some y → y.run < 2 ^ 64 - 1 }
         requires held { Y.may_hold self.old.system x (arc_value cell) }
         ensures axioms { Axioms self.old.plan }
-        ensures new { self.new ≡ record self.old { elements = restarted self.old.plan (component_of self.old.plan x) (arc_value cell) self.old.elements } }
+        ensures new { self.new
+            ≡ record self.old {
+              elements = restarted self.old.plan (component_of self.old.plan x)
+                  (arc_value cell) self.old.elements;
+            } }
     {
         self.plan.axioms();
         let component = self.plan.component_of(x);

@@ -35,9 +35,14 @@ impl<'a, Y: System> Model for Core<'a, Y> {
     ghost use Rattle.std.specs.Prelude.{map};
     ghost use Rattle.pk_core.specs.Entries.{standing_of, AreKept};
 
-    ghost view = { λ c. record { system = c.system.now; plan = c.plan.now; elements = map standing_of c.entries.items } };
+    ghost view = { λ c. record {
+      system = c.system.now;
+      plan = c.plan.now;
+      elements = map standing_of c.entries.items;
+    } };
 
-    ghost invariant = { λ c. AreKept (Y.meaning c.system.now) (Y.may_hold c.system.now) c.plan.now.elements (map standing_of c.entries.items) };
+    ghost invariant = { λ c. AreKept (Y.meaning c.system.now) (Y.may_hold c.system.now) c.plan.now.elements
+        (map standing_of c.entries.items) };
 }
 
 impl<'a, Y: System> Core<'a, Y> {
@@ -58,7 +63,8 @@ impl<'a, Y: System> Core<'a, Y> {
 
     /// Whether an event is enabled.
     pub fn enabled(&self, event: Event) -> Result<bool, AllocError>
-        ensures { IfOk result (λ yes. (s : State Y.Cell) → Shows (Y.meaning self.now.system) self.now s → (IsTrue yes ↔ Enabled (Y.meaning self.now.system) (shape_of self.now.plan) s event)) }
+        ensures { IfOk result (λ yes. (s : State Y.Cell) → Shows (Y.meaning self.now.system) self.now s
+            → (IsTrue yes ↔ Enabled (Y.meaning self.now.system) (shape_of self.now.plan) s event)) }
     {
         match event {
             Event::Offer(e) => Ok(self.holds(e)),
@@ -99,7 +105,8 @@ impl<'a, Y: System> Core<'a, Y> {
     /// The cell of an element.
     pub fn cell(&self, e: u32) -> &Arc<Y::Cell>
         requires { e < self.now.plan.elements }
-        ensures cell { (s : State Y.Cell) → Shows (Y.meaning self.now.system) self.now s → arc_value result.now ≡ cell_in (Y.meaning self.now.system) s e }
+        ensures cell { (s : State Y.Cell) → Shows (Y.meaning self.now.system) self.now s
+            → arc_value result.now ≡ cell_in (Y.meaning self.now.system) s e }
         ensures held { Y.may_hold self.now.system e (arc_value result.now) }
     {
         &self.entries[e as usize].cell

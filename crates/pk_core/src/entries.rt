@@ -101,7 +101,8 @@ fn arrive<C: Drop>(entries: &mut [Entry<C>], v: u32)
 pub fn send<C: Drop>(entries: &mut [Entry<C>], u: u32, v: u32)
     requires u { u < length entries.old }
     requires v { v < length entries.old }
-    ensures { map standing_of entries.new ≡ changed (changed (map standing_of entries.old) u (without_send v)) v with_arrival }
+    ensures { map standing_of entries.new
+        ≡ changed (changed (map standing_of entries.old) u (without_send v)) v with_arrival }
 {
     take_send(entries, u, v);
     arrive(entries, v);
@@ -121,7 +122,8 @@ fn run_once<C: Drop>(entry: &mut Entry<C>, status: Status, cell: Arc<C>)
 pub fn run<C: Drop>(entries: &mut [Entry<C>], e: u32, status: Status, cell: Arc<C>)
     requires e { e < length entries.old }
     requires room { (x : Entry C) → slice_get entries.old e ≡ Some x → x.run < 2 ^ 64 - 1 }
-    ensures { map standing_of entries.new ≡ changed (map standing_of entries.old) e (after_run status (arc_value cell)) }
+    ensures { map standing_of entries.new
+        ≡ changed (map standing_of entries.old) e (after_run status (arc_value cell)) }
 {
     run_once(&mut entries[e as usize], status, cell);
 }
@@ -138,7 +140,9 @@ fn set_sends<C: Drop>(entries: &mut [Entry<C>], e: u32, sends: Vec<u32>)
 pub fn finish<C: Drop>(entries: &mut [Entry<C>], e: u32, cell: Arc<C>, sends: Vec<u32>)
     requires e { e < length entries.old }
     requires room { (x : Entry C) → slice_get entries.old e ≡ Some x → x.run < 2 ^ 64 - 1 }
-    ensures { map standing_of entries.new ≡ changed (changed (map standing_of entries.old) e (after_run Done (arc_value cell))) e (with_sends sends.items) }
+    ensures { map standing_of entries.new
+        ≡ changed (changed (map standing_of entries.old) e (after_run Done (arc_value cell))) e
+        (with_sends sends.items) }
 {
     run(entries, e, Status::Done, cell);
     set_sends(entries, e, sends);
@@ -151,7 +155,8 @@ pub fn shared<C: Drop>(
     elements: &[u32],
 ) -> Result<Vec<Arc<C>>, AllocError>
     requires { All (λ u. u < length entries.now) elements.now }
-    ensures { IfOk result (λ v. map arc_value v.items ≡ filter_map (slice_get (cells_of (map standing_of entries.now))) elements.now) }
+    ensures { IfOk result (λ v. map arc_value v.items
+        ≡ filter_map (slice_get (cells_of (map standing_of entries.now))) elements.now) }
 {
     let mut out = Vec::new(alloc);
     for u in elements {

@@ -40,8 +40,11 @@ pub fn play<'a, Y: System>(
 ) -> Result<Core<'a, Y>, PlayError>
     requires { ReadsWithin (Y.meaning system.now) plan.now.elements }
     ensures about { IfOk result (IsAbout system.now plan.now) }
-    ensures enabled { IfOk result (λ c. AllEnabled (Y.meaning system.now) (shape_of plan.now) (start (shape_of plan.now)) events.now) }
-    ensures played { IfOk result (λ c. Shows (Y.meaning system.now) c (played (Y.meaning system.now) (shape_of plan.now) (start (shape_of plan.now)) events.now)) }
+    ensures enabled { IfOk result
+        (λ c. AllEnabled (Y.meaning system.now) (shape_of plan.now) (start (shape_of plan.now)) events.now) }
+    ensures played { IfOk result
+        (λ c. Shows (Y.meaning system.now) c
+        (played (Y.meaning system.now) (shape_of plan.now) (start (shape_of plan.now)) events.now)) }
     ensures refused { IfErr result (IsRefusal (Y.meaning system.now) (shape_of plan.now) events.now) }
 {
     let mut core = Core::start(alloc, system, plan)?;

@@ -36,7 +36,8 @@ fn cell_of<C>(decision: Decision<C>) -> C
 impl<'a, Y: System> Core<'a, Y> {
     pub(crate) fn holds(&self, e: u32) -> bool
         ensures within { IsTrue result → e < self.now.plan.elements }
-        ensures held { (s : State Y.Cell) → Shows (Y.meaning self.now.system) self.now s → (IsTrue result ↔ IsHeld (shape_of self.now.plan) s e) }
+        ensures held { (s : State Y.Cell) → Shows (Y.meaning self.now.system) self.now s
+            → (IsTrue result ↔ IsHeld (shape_of self.now.plan) s e) }
     {
         if e as usize >= self.entries.len() {
             return false;
@@ -45,7 +46,8 @@ impl<'a, Y: System> Core<'a, Y> {
     }
 
     pub(crate) fn leaves_open(&self, e: u32) -> bool
-        ensures { (s : State Y.Cell) → Shows (Y.meaning self.now.system) self.now s → (IsTrue result ↔ Enabled (Y.meaning self.now.system) (shape_of self.now.plan) s (Claim e)) }
+        ensures { (s : State Y.Cell) → Shows (Y.meaning self.now.system) self.now s
+            → (IsTrue result ↔ Enabled (Y.meaning self.now.system) (shape_of self.now.plan) s (Claim e)) }
     {
         if e as usize >= self.entries.len() {
             return false;
@@ -54,7 +56,8 @@ impl<'a, Y: System> Core<'a, Y> {
     }
 
     pub(crate) fn owes(&self, u: u32, v: u32) -> bool
-        ensures { (s : State Y.Cell) → Shows (Y.meaning self.now.system) self.now s → (IsTrue result ↔ Enabled (Y.meaning self.now.system) (shape_of self.now.plan) s (Send u v)) }
+        ensures { (s : State Y.Cell) → Shows (Y.meaning self.now.system) self.now s
+            → (IsTrue result ↔ Enabled (Y.meaning self.now.system) (shape_of self.now.plan) s (Send u v)) }
     {
         if u as usize >= self.entries.len() || v as usize >= self.entries.len() {
             return false;
@@ -64,25 +67,36 @@ impl<'a, Y: System> Core<'a, Y> {
 
     pub(crate) fn inputs(&self, e: u32) -> Result<Vec<Arc<Y::Cell>>, AllocError>
         requires { e < self.now.plan.elements }
-        ensures inputs { IfOk result (λ v. map arc_value v.items ≡ inputs_in (Y.meaning self.now.system) (cells_of self.now.elements) e) }
-        ensures shown { (s : State Y.Cell) → Shows (Y.meaning self.now.system) self.now s → inputs_in (Y.meaning self.now.system) (cells_of self.now.elements) e ≡ inputs_of (Y.meaning self.now.system) s e }
-        ensures held { HoldEach (Y.may_hold self.now.system) ((Y.meaning self.now.system).reads e) (inputs_in (Y.meaning self.now.system) (cells_of self.now.elements) e) }
+        ensures inputs { IfOk result (λ v. map arc_value v.items
+            ≡ inputs_in (Y.meaning self.now.system) (cells_of self.now.elements) e) }
+        ensures shown { (s : State Y.Cell) → Shows (Y.meaning self.now.system) self.now s
+            → inputs_in (Y.meaning self.now.system) (cells_of self.now.elements) e
+            ≡ inputs_of (Y.meaning self.now.system) s e }
+        ensures held { HoldEach (Y.may_hold self.now.system) ((Y.meaning self.now.system).reads e)
+            (inputs_in (Y.meaning self.now.system) (cells_of self.now.elements) e) }
     {
         shared(self.alloc, &self.entries, self.system.reads(e))
     }
 
     pub(crate) fn decision(&self, x: u32) -> Result<Decision<Y::Cell>, AllocError>
         requires { x < self.now.plan.elements }
-        ensures decision { IfOk result (λ d. d ≡ (Y.meaning self.now.system).decide x (inputs_in (Y.meaning self.now.system) (cells_of self.now.elements) x)) }
-        ensures shown { (s : State Y.Cell) → Shows (Y.meaning self.now.system) self.now s → inputs_in (Y.meaning self.now.system) (cells_of self.now.elements) x ≡ inputs_of (Y.meaning self.now.system) s x }
-        ensures held { Y.may_hold self.now.system x (decided_cell ((Y.meaning self.now.system).decide x (inputs_in (Y.meaning self.now.system) (cells_of self.now.elements) x))) }
+        ensures decision { IfOk result (λ d. d
+            ≡ (Y.meaning self.now.system).decide x
+            (inputs_in (Y.meaning self.now.system) (cells_of self.now.elements) x)) }
+        ensures shown { (s : State Y.Cell) → Shows (Y.meaning self.now.system) self.now s
+            → inputs_in (Y.meaning self.now.system) (cells_of self.now.elements) x
+            ≡ inputs_of (Y.meaning self.now.system) s x }
+        ensures held { Y.may_hold self.now.system x
+            (decided_cell ((Y.meaning self.now.system).decide x
+            (inputs_in (Y.meaning self.now.system) (cells_of self.now.elements) x))) }
     {
         let inputs = self.inputs(x)?;
         self.system.decide(self.alloc, x, &inputs)
     }
 
     pub(crate) fn decides(&self, x: u32, again: bool) -> Result<bool, AllocError>
-        ensures { IfOk result (λ yes. (s : State Y.Cell) → Shows (Y.meaning self.now.system) self.now s → (IsTrue yes ↔ Decides (Y.meaning self.now.system) (shape_of self.now.plan) s x again)) }
+        ensures { IfOk result (λ yes. (s : State Y.Cell) → Shows (Y.meaning self.now.system) self.now s
+            → (IsTrue yes ↔ Decides (Y.meaning self.now.system) (shape_of self.now.plan) s x again)) }
     {
         if !self.holds(x) {
             return Ok(false);
@@ -97,8 +111,12 @@ impl<'a, Y: System> Core<'a, Y> {
     /// The cell that a run of e gives, where e is no exit.
     pub(crate) fn applied(&self, e: u32) -> Result<Arc<Y::Cell>, AllocError>
         requires { e < self.now.plan.elements }
-        ensures cell { IfOk result (λ c. arc_value c ≡ (Y.meaning self.now.system).apply e (inputs_in (Y.meaning self.now.system) (cells_of self.now.elements) e)) }
-        ensures shown { (s : State Y.Cell) → Shows (Y.meaning self.now.system) self.now s → inputs_in (Y.meaning self.now.system) (cells_of self.now.elements) e ≡ inputs_of (Y.meaning self.now.system) s e }
+        ensures cell { IfOk result (λ c. arc_value c
+            ≡ (Y.meaning self.now.system).apply e
+            (inputs_in (Y.meaning self.now.system) (cells_of self.now.elements) e)) }
+        ensures shown { (s : State Y.Cell) → Shows (Y.meaning self.now.system) self.now s
+            → inputs_in (Y.meaning self.now.system) (cells_of self.now.elements) e
+            ≡ inputs_of (Y.meaning self.now.system) s e }
         ensures held { IfOk result (λ c. Y.may_hold self.now.system e (arc_value c)) }
     {
         let inputs = self.inputs(e)?;
@@ -109,8 +127,12 @@ impl<'a, Y: System> Core<'a, Y> {
     /// The cell that a run of the exit x gives.
     pub(crate) fn decided(&self, x: u32) -> Result<Arc<Y::Cell>, AllocError>
         requires { x < self.now.plan.elements }
-        ensures cell { IfOk result (λ c. arc_value c ≡ decided_cell ((Y.meaning self.now.system).decide x (inputs_in (Y.meaning self.now.system) (cells_of self.now.elements) x))) }
-        ensures shown { (s : State Y.Cell) → Shows (Y.meaning self.now.system) self.now s → inputs_in (Y.meaning self.now.system) (cells_of self.now.elements) x ≡ inputs_of (Y.meaning self.now.system) s x }
+        ensures cell { IfOk result (λ c. arc_value c
+            ≡ decided_cell ((Y.meaning self.now.system).decide x
+            (inputs_in (Y.meaning self.now.system) (cells_of self.now.elements) x))) }
+        ensures shown { (s : State Y.Cell) → Shows (Y.meaning self.now.system) self.now s
+            → inputs_in (Y.meaning self.now.system) (cells_of self.now.elements) x
+            ≡ inputs_of (Y.meaning self.now.system) s x }
         ensures held { IfOk result (λ c. Y.may_hold self.now.system x (arc_value c)) }
     {
         let decision = self.decision(x)?;

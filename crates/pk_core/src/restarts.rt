@@ -27,7 +27,8 @@ fn armed(plan: &Plan, component: &Component, e: u32) -> Status
 fn rearm<C: Drop>(entries: &mut [Entry<C>], plan: &Plan, component: &Component)
     requires long { length entries.old ≡ plan.now.elements }
     requires component { Contains plan.now.components component.now }
-    ensures { map standing_of entries.new ≡ rearmed plan.now component.now (members_of plan.now component.now) (map standing_of entries.old) }
+    ensures { map standing_of entries.new
+        ≡ rearmed plan.now component.now (members_of plan.now component.now) (map standing_of entries.old) }
 {
     plan.axioms();
     for e in plan.members(component) {
@@ -40,7 +41,8 @@ pub fn restart<C: Drop>(entries: &mut [Entry<C>], plan: &Plan, component: &Compo
     requires long { length entries.old ≡ plan.now.elements }
     requires component { Contains plan.now.components component.now }
     requires room { (x : Entry C) → slice_get entries.old component.now.exit ≡ Some x → x.run < 2 ^ 64 - 1 }
-    ensures { map standing_of entries.new ≡ restarted plan.now component.now (arc_value cell) (map standing_of entries.old) }
+    ensures { map standing_of entries.new
+        ≡ restarted plan.now component.now (arc_value cell) (map standing_of entries.old) }
 {
     plan.axioms();
     let inner = plan.inner(component, component.exit);

@@ -47,7 +47,8 @@ pub fn first_entries<Y: System>(
     system: &Y,
     plan: &Plan,
 ) -> Result<Vec<Entry<Y::Cell>>, AllocError>
-    ensures { IfOk result (λ v. map standing_of v.items ≡ map (first_standing (Y.meaning system.now) plan.now) (range_with_len 0 plan.now.elements)) }
+    ensures { IfOk result (λ v. map standing_of v.items
+        ≡ map (first_standing (Y.meaning system.now) plan.now) (range_with_len 0 plan.now.elements)) }
 {
     let mut entries = Vec::new(alloc);
     for e in 0..plan.elements() {

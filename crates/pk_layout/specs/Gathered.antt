@@ -25,7 +25,8 @@ times e xs = count_by (λ x. x == e) xs
 
 -- the slot of the j-th read: the element that is read has its first slot for itself, and the further ones for its reads in turn
 abbrev pub slot_of_read : List ℕ → List ℕ → ℕ → ℕ
-slot_of_read first targets j = slice_index first (slice_index targets j) + times (slice_index targets j) (take (j + 1) targets)
+slot_of_read first targets j = slice_index first (slice_index targets j)
+    + times (slice_index targets j) (take (j + 1) targets)
 
 -- each of the first n reads has its slot, whose reader is written there, and no other slot's reader was changed
 pub record AreGiven (first targets sources old : List ℕ) (n : ℕ) (slots now : List ℕ) : Type 0 where
@@ -33,7 +34,9 @@ pub record AreGiven (first targets sources old : List ℕ) (n : ℕ) (slots now 
   pub as_many : length now ≡ length old
   pub inputs : (j : ℕ) → j < n → slice_index slots j ≡ slot_of_read first targets j
   pub written : (j : ℕ) → j < n → slice_index now (slot_of_read first targets j) ≡ slice_index sources j
-  pub changed : (k : ℕ) → (slice_index now k ≡ slice_index old k) ⊎ ((j : ℕ) × (j < n) × (slot_of_read first targets j ≡ k) × (slice_index now k ≡ slice_index sources j))
+  pub changed : (k : ℕ)
+      → (slice_index now k ≡ slice_index old k)
+      ⊎ ((j : ℕ) × (j < n) × (slot_of_read first targets j ≡ k) × (slice_index now k ≡ slice_index sources j))
 
 -- each read is of an element, and has a slot of its own
 pub record HaveSlots (first targets sources : List ℕ) (slots : ℕ) : Type 0 where

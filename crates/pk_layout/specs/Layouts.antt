@@ -41,12 +41,15 @@ pub record IsLaidOut {C : Type 0} (b : Behaviour C) (elements : ℕ) (l : Layout
   pub begins : first_of l 0 ≡ 0
   pub rises : (e : ℕ) → e < elements → first_of l e < first_of l (e + 1)
   pub ends : first_of l elements ≡ slots_of l
-  pub together : (e k : ℕ) → e < elements → first_of l e ≤ k → k < first_of l (e + 1) → (k < slots_of l) × (owner_of l k ≡ e)
-  pub no_more : (e k : ℕ) → e < elements → k < slots_of l → owner_of l k ≡ e → (first_of l e ≤ k) × (k < first_of l (e + 1))
+  pub together : (e k : ℕ) → e < elements → first_of l e ≤ k → k < first_of l (e + 1)
+      → (k < slots_of l) × (owner_of l k ≡ e)
+  pub no_more : (e k : ℕ) → e < elements → k < slots_of l → owner_of l k ≡ e
+      → (first_of l e ≤ k) × (k < first_of l (e + 1))
   -- owners and readers are elements; a slot is read by its owner, or by an element that reads the owner's cell
   pub owned : (k : ℕ) → k < slots_of l → owner_of l k < elements
   pub read : (k : ℕ) → k < slots_of l → reader_of l k < elements
-  pub reads : (k : ℕ) → k < slots_of l → (reader_of l k ≡ owner_of l k) ⊎ Contains (b.reads (reader_of l k)) (owner_of l k)
+  pub reads : (k : ℕ) → k < slots_of l
+      → (reader_of l k ≡ owner_of l k) ⊎ Contains (b.reads (reader_of l k)) (owner_of l k)
   -- an element's inputs stand together, as many as it reads, each with its slot
   pub long_inputs : length l.inputs_from ≡ elements + 1
   pub within : (e : ℕ) → e < elements → slice_index l.inputs_from e + length (b.reads e) ≤ length l.inputs

@@ -14,7 +14,9 @@ pub fn give(
     readers: &mut Vec<u32>,
 ) -> Result<Vec<usize>, AllocError>
     requires { HaveSlots first.now targets.now sources.now (length readers.old.items) }
-    ensures { IfOk result (λ v. AreGiven first.now targets.now sources.now readers.old.items (length targets.now) v.items readers.new.items) }
+    ensures { IfOk result
+        (λ v. AreGiven first.now targets.now sources.now readers.old.items
+        (length targets.now) v.items readers.new.items) }
 {
     let mut next = Vec::from_slice(alloc, first)?;
     let mut inputs = Vec::new(alloc);

@@ -26,7 +26,13 @@ impl Model for Layout {
 
     ghost Value = { LayoutView };
 
-    ghost view = { λ l. record { first = l.first.items; owners = l.owners.items; readers = l.readers.items; inputs = l.inputs.items; inputs_from = l.inputs_from.items } };
+    ghost view = { λ l. record {
+      first = l.first.items;
+      owners = l.owners.items;
+      readers = l.readers.items;
+      inputs = l.inputs.items;
+      inputs_from = l.inputs_from.items;
+    } };
 }
 
 impl Layout {

@@ -230,7 +230,7 @@ pub went_again : {C S : Type 0} (b : Behaviour C) (w : Wiring) (value : S → C)
     → IsBoard b w value (record { words = set ts.words (x + 2) n; homes = homes_after ts.homes xs (gives_all (length xs)); views = set ts.views id (again_view x n (length (members_at w.plan x)) v) })
 went_again {C} {S} b w value ts id x n v xs c board at below exit mine room n_is long out all every given =
     let k = kept b (shape_of w.plan) board.events (axioms_of board.wired) board.enabled in
-    makes b w value ts (armings_more w ts x) (homes_after ts.homes xs (gives_all (length xs))) id x n v (again_view x n (length (members_at w.plan x)) v) (Again x) below board at ((is_held, below), exit, given.1)
+    makes b w value ts (armings_more w ts x) (homes_after ts.homes xs (gives_all (length xs))) id x n v (again_view x n (length (members_at w.plan x)) v) (Again x) refl below board at ((is_held, below), exit, given.1)
     (again_changes (decided b core x) id x n v board.wired board.shows k at below exit mine room n_is)
     (given_moves (after_run (shape_of w.plan) core x true (decided b core x)) v (again_view x n (length (members_at w.plan x)) v) xs board.shows long out refl (right xs all)
     (λ j in_slots q. ap (newest (b.first (owner_of w.layout j))) (again_made (shape_of w.plan) core x (owner_of w.layout j) (decided b core x) (neq (owner_of w.layout j) x (λ h. absurd (let t = every j in_slots h in cc))))))

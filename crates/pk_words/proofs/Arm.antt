@@ -110,7 +110,7 @@ pub armed : {C S : Type 0} (b : Behaviour C) (w : Wiring) (value : S → C) (ts 
     → n ≡ run_number (played b (shape_of w.plan) (start (shape_of w.plan)) board.events e) * 1048576 + inner (shape_of w.plan) x e
     → IsBoard b w value (record { words = set ts.words (e + 2) n; homes = ts.homes; views = set ts.views id (arm_view x left e (get_or ts.words (e + 2) 0) v) })
 armed {C} {S} b w value ts id x left e n v board at mine number some_left e_is no_out n_is =
-    stays b w value ts (armings_less w ts e) ts.homes id e n v v' below board at
+    stays b w value ts (armings_less w ts e) ts.homes id e n v v' refl below board at
     (subst (λ (j : ℕ). Changes w core core (armings w ts) (armings_less w ts j) j n v v') (sym e_is)
     (arm_changes id x left n v v' board.shows at mine number
     (n_is ∙ sym (ap (λ (st : Status). run_number (core e) * 1048576 + low st) (r.2.member_waits e inside.0 inside.1)) ∙ ap (λ (j : ℕ). word_of (core j)) e_is)
@@ -163,7 +163,7 @@ pub head_armed : {C S : Type 0} (b : Behaviour C) (w : Wiring) (value : S → C)
     → n ≡ run_number (played b (shape_of w.plan) (start (shape_of w.plan)) board.events e) * 1048576
     → IsBoard b w value (record { words = set ts.words (e + 2) n; homes = ts.homes; views = set ts.views id (head_view x e (get_or ts.words (e + 2) 0) v) })
 head_armed {C} {S} b w value ts id x e n v board at mine number e_is no_out n_is =
-    stays b w value ts (armings_less w ts e) ts.homes id e n v v' below board at
+    stays b w value ts (armings_less w ts e) ts.homes id e n v v' refl below board at
     (subst (λ (j : ℕ). Changes w core core (armings w ts) (armings_less w ts j) j n v v') (sym first)
     (arm_changes id x 0 n v v' board.shows at mine number
     (n_is ∙ omega arith ∙ sym (ap (λ (st : Status). run_number (core e) * 1048576 + low st) (ap (λ (j : ℕ). (core j).status) e_is ∙ r.2.head)) ∙ ap (λ (j : ℕ). word_of (core j)) first)

@@ -82,7 +82,7 @@ own_free {C} {S} {b} {w} {value} {core} {st} wired sh id x v at some_x =
 
 -- ---- elements that are still to be armed
 
-some_view : (f : View → ℕ) (views : List View) → 0 < total f views → (id : ℕ) × (v : View) × (get_elem? views id ≡ some v) × (0 < f v)
+pub some_view : (f : View → ℕ) (views : List View) → 0 < total f views → (id : ℕ) × (v : View) × (get_elem? views id ≡ some v) × (0 < f v)
 some_view f [] h = absurd (omega arith)
 some_view f (v ∷ views) h = by_first (f v) refl (λ i. some_view f views i)
   where

@@ -147,7 +147,7 @@ finished {C} {S} b w value ts id e n v xs c board at below mine room n_is long o
     made_by : (run : Made C) → run.gave ≡ c → (ev : Event) → Enabled b (shape_of w.plan) core ev → after b (shape_of w.plan) core ev ≡ after_run (shape_of w.plan) core e false run → IsBoard b w value (record { words = set ts.words (e + 2) n; homes = homes_after ts.homes xs (gives_all (length xs)); views = set ts.views id (done_view e n (successors_of w.plan e) v) })
     made_by run gave ev can is =
         let k = kept b (shape_of w.plan) board.events (axioms_of board.wired) board.enabled in
-        makes b w value ts (armings w ts) (homes_after ts.homes xs (gives_all (length xs))) id e n v (done_view e n (successors_of w.plan e) v) ev below board at can
+        makes b w value ts (armings w ts) (homes_after ts.homes xs (gives_all (length xs))) id e n v (done_view e n (successors_of w.plan e) v) ev refl below board at can
         (subst (λ (t : State C). Changes w core t (armings w ts) (armings w ts) e n v (done_view e n (successors_of w.plan e) v)) (sym is) (run_changes run id e n v board.wired board.shows k at below mine room n_is))
         (subst (λ (t : State C). Moves b w value t ts.homes (homes_after ts.homes xs (gives_all (length xs))) v (done_view e n (successors_of w.plan e) v)) (sym is)
         (given_moves (after_run (shape_of w.plan) core e false run) v (done_view e n (successors_of w.plan e) v) xs board.shows long out refl (right run gave xs all)

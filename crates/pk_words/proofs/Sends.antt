@@ -284,9 +284,9 @@ sent_is {C} {S} b w value ts id a i n v board at low_a mine i_is in_range no_out
         → ((u : ℕ) → u < w.plan.elements → 0 < times u hs → number_of u hs ≡ run_number (core u))
         → IsBoard b w value (record { words = set ts.words (tgt + 2) n; homes = ts.homes; views = set ts.views id (arrive_view a i left tgt found v) })
     done_by st st_is n_st hs hs_is own others runs =
-        let v' : List (ℕ × ℕ) → View = λ ys. record { holds = ys; sends = sent_on a i left v.sends; resets = v.resets; out = []; notes = (tgt, found) ∷ v.notes; ended = v.ended; stops = v.stops; stop_notes = v.stop_notes } in
+        let v' : List (ℕ × ℕ) → View = λ ys. record v { holds = ys; sends = sent_on a i left v.sends; out = []; notes = (tgt, found) ∷ v.notes; fresh = false } in
         subst (λ (ys : List (ℕ × ℕ)). IsBoard b w value (record { words = set ts.words (tgt + 2) n; homes = ts.homes; views = set ts.views id (v' ys) })) (sym hs_is)
-        (makes b w value ts (armings w ts) ts.homes id tgt n v (v' hs) (Send a tgt) low_t board at (low_a, low_t, has_tgt)
+        (makes b w value ts (armings w ts) ts.homes id tgt n v (v' hs) (Send a tgt) refl low_t board at (low_a, low_t, has_tgt)
         (send_changes st id a i tgt n left v (v' hs) board.wired board.shows k at low_a (waits_now (core tgt).status waits) mine sends_a less refl refl refl refl refl st_is n_st own others runs (found_noted b w value ts id tgt v board at low_t))
         (no_moves (after b (shape_of w.plan) core (Send a tgt)) v (v' hs) board.shows no_out refl (λ u. refl)))
 

@@ -94,13 +94,13 @@ given_moves {C} {S} {b} {w} {value} {s} {ts} t v v' xs sh long out out' all rest
     homes_long hs (y ∷ ys) = homes_long (set hs y.0 (some y.1)) ys ∙ length-set hs y.0 (some y.1)
 
 -- a load takes a slot of a Hold's element, and may note something that is so
-pub taken : {C S : Type 0} (b : Behaviour C) (w : Wiring) (value : S → C) (ts : TableState S View) (id e k : ℕ) (v v' : View) → (board : IsBoard b w value ts) → get_elem? ts.views id ≡ some v → e < w.plan.elements → 0 < times e v.holds → (owner_of w.layout k ≡ e) ⊎ (reader_of w.layout k ≡ e)
+pub taken : {C S : Type 0} (b : Behaviour C) (w : Wiring) (value : S → C) (ts : TableState S View) (id e k : ℕ) (v v' : View) → v'.fresh ≡ false → (board : IsBoard b w value ts) → get_elem? ts.views id ≡ some v → e < w.plan.elements → 0 < times e v.holds → (owner_of w.layout k ≡ e) ⊎ (reader_of w.layout k ≡ e)
     → v'.holds ≡ v.holds → v'.sends ≡ v.sends → v'.resets ≡ v.resets → v'.out ≡ k ∷ v.out → v'.ended ≡ v.ended → knows_stop v' ≡ knows_stop v
     → ((u : ℕ) → u < w.plan.elements → seen_run u v'.notes ≤ run_number (played b (shape_of w.plan) (start (shape_of w.plan)) board.events u))
     → IsBoard b w value (record { words = set ts.words (e + 2) (get_or ts.words (e + 2) 0); homes = set ts.homes k none; views = set ts.views id v' })
-taken {C} {S} b w value ts id e k v v' board at below mine of_e same_holds same_sends same_resets out_is same_ended same_stopped notes =
+taken {C} {S} b w value ts id e k v v' stale board at below mine of_e same_holds same_sends same_resets out_is same_ended same_stopped notes =
     let core : State C = played b (shape_of w.plan) (start (shape_of w.plan)) board.events in
-    stays b w value ts (armings w ts) (set ts.homes k none) id e (get_or ts.words (e + 2) 0) v v' below board at
+    stays b w value ts (armings w ts) (set ts.homes k none) id e (get_or ts.words (e + 2) 0) v v' stale below board at
     (same_changes id e (get_or ts.words (e + 2) 0) v v' board.wired board.shows at (board.shows.words_are e below) same_holds same_sends same_resets (inl same_ended) same_stopped notes)
     (record {
       homes = λ j x here. elim (elem_set ts.homes k j none (some x) here) [
@@ -138,6 +138,6 @@ pub given : {C S : Type 0} (b : Behaviour C) (w : Wiring) (value : S → C) (ts 
     → IsBoard b w value (record { words = set ts.words (e + 2) (get_or ts.words (e + 2) 0); homes = homes_after ts.homes xs (gives_all (length xs)); views = set ts.views id (idle v) })
 given {C} {S} b w value ts id e v xs board at below long out all =
     let core : State C = played b (shape_of w.plan) (start (shape_of w.plan)) board.events in
-    stays b w value ts (armings w ts) (homes_after ts.homes xs (gives_all (length xs))) id e (get_or ts.words (e + 2) 0) v (idle v) below board at
+    stays b w value ts (armings w ts) (homes_after ts.homes xs (gives_all (length xs))) id e (get_or ts.words (e + 2) 0) v (idle v) refl below board at
     (same_changes id e (get_or ts.words (e + 2) 0) v (idle v) board.wired board.shows at (board.shows.words_are e below) refl refl refl (inl refl) refl (board.shows.noted id v at))
     (given_moves core v (idle v) xs board.shows long out refl all (λ k in_slots q. refl))

@@ -101,7 +101,7 @@ offered {C} {S} b w value ts id e v board at below mine no_out =
     let is_held = held board.shows id e v at below mine in
     let fewer = times_drop e v.holds mine in
     let only = one_hold board.shows id e v at below in
-    makes b w value ts (armings w ts) ts.homes id e (number_of e v.holds * 1048576 + 262144) v (offer_view e v) (Offer e) below board at (is_held, below)
+    makes b w value ts (armings w ts) ts.homes id e (number_of e v.holds * 1048576 + 262144) v (offer_view e v) (Offer e) refl below board at (is_held, below)
     (status_changes Open id e (number_of e v.holds * 1048576 + 262144) v (offer_view e v) board.wired board.shows at
     (hold_armed board.wired board.shows id e v at below mine)
     (ap (λ (r : ℕ). r * 1048576 + 262144) (board.shows.runs_are id v at e below mine))
@@ -147,7 +147,7 @@ claimed {C} {S} b w value ts id e v board at below is_open run_is no_out =
     let core : State C = played b (shape_of w.plan) (start (shape_of w.plan)) board.events in
     let found : ℕ = get_or ts.words (e + 2) 0 in
     let run : ℕ = found / 1048576 in
-    makes b w value ts (armings w ts) ts.homes id e (run * 1048576) v (claim_view e found v) (Claim e) below board at (is_open, below)
+    makes b w value ts (armings w ts) ts.homes id e (run * 1048576) v (claim_view e found v) (Claim e) refl below board at (is_open, below)
     (status_changes Held id e (run * 1048576) v (claim_view e found v) board.wired board.shows at
     (not_pending board.wired board.shows e (ap is_waiting is_open) (ap one_if_held is_open))
     (omega (arith, ap (λ (r : ℕ). r * 1048576) run_is))
@@ -204,7 +204,7 @@ pub loaded : {C S : Type 0} (b : Behaviour C) (w : Wiring) (value : S → C) (ts
 loaded {C} {S} b w value ts id e v board at below no_out =
     let core : State C = played b (shape_of w.plan) (start (shape_of w.plan)) board.events in
     let n : ℕ = get_or ts.words (e + 2) 0 in
-    stays b w value ts (armings w ts) ts.homes id e n v (note_view e n v) below board at
+    stays b w value ts (armings w ts) ts.homes id e n v (note_view e n v) refl below board at
     (same_changes id e n v (note_view e n v) board.wired board.shows at (board.shows.words_are e below) refl refl refl (inl refl) refl (found_noted b w value ts id e v board at below))
     (no_moves core v (note_view e n v) board.shows no_out refl (λ u. refl))
 
@@ -216,6 +216,6 @@ ended {C} {S} b w value ts id v board at done no_out =
     let last : ℕ = end_of w.plan in
     let below : end_of w.plan < w.plan.elements = last_in board.wired in
     let n : ℕ = get_or ts.words (end_of w.plan + 2) 0 in
-    stays b w value ts (armings w ts) ts.homes id (end_of w.plan) n v (end_view (end_of w.plan) n v) below board at
+    stays b w value ts (armings w ts) ts.homes id (end_of w.plan) n v (end_view (end_of w.plan) n v) refl below board at
     (same_changes id (end_of w.plan) n v (end_view (end_of w.plan) n v) board.wired board.shows at (board.shows.words_are (end_of w.plan) below) refl refl refl (inr done) refl (found_noted b w value ts id (end_of w.plan) v board at below))
     (no_moves core v (end_view (end_of w.plan) n v) board.shows no_out refl (λ u. refl))

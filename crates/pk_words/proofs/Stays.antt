@@ -81,6 +81,11 @@ elem_off (x ∷ xs) zero (suc k) y ne = refl
 elem_off (x ∷ xs) (suc id) zero y ne = refl
 elem_off (x ∷ xs) (suc id) (suc k) y ne = elem_off xs id k y (λ e. ne (ap suc e))
 
+elem_below : {A : Type 0} (xs : List A) (id : ℕ) (v : A) → get_elem? xs id ≡ some v → id < length xs
+elem_below [] id v h = absurd (cc)
+elem_below (x ∷ xs) zero v h = omega arith
+elem_below (x ∷ xs) (suc id) v h = omega (arith, elem_below xs id v h)
+
 pub shows_step : {C S : Type 0} (b : Behaviour C) (w : Wiring) (value : S → C) (s t : State C) (st : TableState S View) (left' : ℕ → ℕ) (hs' : List (Option S)) (id e n : ℕ) (v v' : View)
     → IsWired b w → e < w.plan.elements → Shows b w value s st → get_elem? st.views id ≡ some v → Changes w s t (armings w st) left' e n v v' → Moves b w value t st.homes hs' v v'
     → Shows b w value t (record { words = set st.words (e + 2) n; homes = hs'; views = set st.views id v' })
@@ -174,33 +179,46 @@ shows_step {C} {S} b w value s t st left' hs' id e n v v' wired below sh at ch m
         let two = parts (λ (z : View). times (head_of w.plan y) z.holds + heading (head_of w.plan) (head_of w.plan y) z.resets) st.views id k v x at has_x (λ q. ne (sym q)) in
         omega (arith, two, sh.held_once (head_of w.plan y) low_h, held_most (s (head_of w.plan y)).status, heading_some (head_of w.plan) y x.resets some_y)
 
+-- after a step no pass is fresh
+pub none_fresh : (views : List View) (id : ℕ) (v v' : View) → get_elem? views id ≡ some v → v'.fresh ≡ false
+    → ((k : ℕ) (x : View) → get_elem? views k ≡ some x → x.fresh ≡ true → length views ≡ 1)
+    → (k : ℕ) (x : View) → get_elem? (set views id v') k ≡ some x → x.fresh ≡ true → ⊥
+none_fresh views id v v' at stale alone k x here fresh = elim (elem_set views id k v' x here) [
+  | inl q ↦ absurd (let f : v'.fresh ≡ true = ap (λ (y : View). y.fresh) q.1 ∙ fresh in cc)
+  | inr q ↦ absurd (
+      let one = alone k x q.1 fresh in
+      q.0 (omega (arith, one, elem_below views id v at, elem_below views k x q.1)))
+]
+
 -- a step that makes an event
 pub makes : {C S : Type 0} (b : Behaviour C) (w : Wiring) (value : S → C) (st : TableState S View) (left' : ℕ → ℕ) (hs' : List (Option S)) (id e n : ℕ) (v v' : View) (ev : Event)
-    → e < w.plan.elements → (board : IsBoard b w value st) → get_elem? st.views id ≡ some v
+    → v'.fresh ≡ false → e < w.plan.elements → (board : IsBoard b w value st) → get_elem? st.views id ≡ some v
     → Enabled b (shape_of w.plan) (played b (shape_of w.plan) (start (shape_of w.plan)) board.events) ev
     → Changes w (played b (shape_of w.plan) (start (shape_of w.plan)) board.events) (after b (shape_of w.plan) (played b (shape_of w.plan) (start (shape_of w.plan)) board.events) ev) (armings w st) left' e n v v'
     → Moves b w value (after b (shape_of w.plan) (played b (shape_of w.plan) (start (shape_of w.plan)) board.events) ev) st.homes hs' v v'
     → IsBoard b w value (record { words = set st.words (e + 2) n; homes = hs'; views = set st.views id v' })
-makes {C} {S} b w value st left' hs' id e n v v' ev below board at can ch mv =
+makes {C} {S} b w value st left' hs' id e n v v' ev stale below board at can ch mv =
     let core : State C = played b (shape_of w.plan) (start (shape_of w.plan)) board.events in
     record {
       wired = board.wired;
       events = board.events ++ ev ∷ [];
       enabled = all_more b (shape_of w.plan) (start (shape_of w.plan)) board.events ev board.enabled can;
       shows = subst (λ (x : State C). Shows b w value x (record { words = set st.words (e + 2) n; homes = hs'; views = set st.views id v' })) (sym (played_more b (shape_of w.plan) (start (shape_of w.plan)) board.events ev)) (shows_step b w value core (after b (shape_of w.plan) core ev) st left' hs' id e n v v' board.wired below board.shows at ch mv);
+      begins = λ k x here fresh. absurd (none_fresh st.views id v v' at stale (λ j y at_j f. (board.begins j y at_j f).0) k x here fresh);
     }
 
 -- a step that makes none
 pub stays : {C S : Type 0} (b : Behaviour C) (w : Wiring) (value : S → C) (st : TableState S View) (left' : ℕ → ℕ) (hs' : List (Option S)) (id e n : ℕ) (v v' : View)
-    → e < w.plan.elements → (board : IsBoard b w value st) → get_elem? st.views id ≡ some v
+    → v'.fresh ≡ false → e < w.plan.elements → (board : IsBoard b w value st) → get_elem? st.views id ≡ some v
     → Changes w (played b (shape_of w.plan) (start (shape_of w.plan)) board.events) (played b (shape_of w.plan) (start (shape_of w.plan)) board.events) (armings w st) left' e n v v'
     → Moves b w value (played b (shape_of w.plan) (start (shape_of w.plan)) board.events) st.homes hs' v v'
     → IsBoard b w value (record { words = set st.words (e + 2) n; homes = hs'; views = set st.views id v' })
-stays {C} {S} b w value st left' hs' id e n v v' below board at ch mv =
+stays {C} {S} b w value st left' hs' id e n v v' stale below board at ch mv =
     let core : State C = played b (shape_of w.plan) (start (shape_of w.plan)) board.events in
     record {
       wired = board.wired;
       events = board.events;
       enabled = board.enabled;
       shows = shows_step b w value core core st left' hs' id e n v v' board.wired below board.shows at ch mv;
+      begins = λ k x here fresh. absurd (none_fresh st.views id v v' at stale (λ j y at_j f. (board.begins j y at_j f).0) k x here fresh);
     }

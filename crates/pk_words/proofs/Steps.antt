@@ -112,7 +112,7 @@ takes_slot {C} {S} b w value slots id e k me right count below mine in_slots of_
       take_view k me.0,
       takes k h.0,
       h.1,
-      taken b w value s id e k me.0 (take_view k me.0) board at below mine of_e refl refl refl refl refl refl (board.shows.noted id me.0 at),
+      taken b w value s id e k me.0 (take_view k me.0) refl board at below mine of_e refl refl refl refl refl refl (board.shows.noted id me.0 at),
       (h.0, refl, tells s board at h.0 h.2),
     )
 
@@ -143,7 +143,7 @@ takes_input {C} {S} b w value slots id e run place k me count below hold input n
       read_view k u seen me.0,
       takes k h.0,
       h.1,
-      taken b w value s id e k me.0 (read_view k u seen me.0) board at below hold.0 (inr input.2) refl refl refl refl refl refl
+      taken b w value s id e k me.0 (read_view k u seen me.0) refl board at below hold.0 (inr input.2) refl refl refl refl refl refl
           (λ j low_j. seen_next (λ (i : ℕ). run_number (core i)) u (seen * 1048576) me.0.notes j (omega arith) (board.shows.noted id me.0 at j low_j)),
       (
         h.0,

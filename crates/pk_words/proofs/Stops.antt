@@ -18,10 +18,11 @@ use Rattle.pk_words.specs.Views.{stop_view, stop_note_view, any_stop, knows_stop
 use Rattle.pk_words.specs.Board.{word_shown, head_of, members_at, IsRestarting, why_of, IsCause, Shows, IsBoard}
 use Rattle.pk_words.specs.Told.{IsIdle, Stopping, StopFound}
 use Rattle.pk_words.proofs.Lists.{total_set, elem_set, elem_set_other}
+use Rattle.pk_words.proofs.Stays.{none_fresh}
 
 -- the view with other stop words
 abbrev pub stop_seen : (stops stop_notes : List ℕ) → View → View
-stop_seen stops stop_notes v = record { holds = v.holds; sends = v.sends; resets = v.resets; out = []; notes = v.notes; ended = v.ended; stops = stops; stop_notes = stop_notes }
+stop_seen stops stop_notes v = record v { out = []; stops = stops; stop_notes = stop_notes; fresh = false }
 
 -- the stop word becomes n
 shows_stop : {C S : Type 0} (b : Behaviour C) (w : Wiring) (value : S → C) (core : State C) (s : TableState S View) (id n : ℕ) (v : View) (stops stop_notes : List ℕ) → Shows b w value core s → get_elem? s.views id ≡ some v → v.out ≡ []
@@ -102,6 +103,7 @@ stop_board {C} {S} b w value s id n v stops stop_notes board at no_out cause sti
   events = board.events;
   enabled = board.enabled;
   shows = shows_stop b w value (played b (shape_of w.plan) (start (shape_of w.plan)) board.events) s id n v stops stop_notes board.shows at no_out cause still seen;
+  begins = λ k x here fresh. absurd (none_fresh s.views id v (stop_seen stops stop_notes v) at refl (λ j y at_j f. (board.begins j y at_j f).0) k x here fresh);
 }
 
 -- a store of why

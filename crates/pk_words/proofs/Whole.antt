@@ -1,9 +1,9 @@
 -- The start, a pass more, and the end.
-use Rattle.std.proofs.Common.{◌≡◌, ℕ, zero, suc, ◌+◌, ◌/◌, ◌<◌, ◌≤◌, List, [], ◌∷◌, ◌++◌, map, length, get_or, set, true, false, refl, sym, ap, subst, ◌∙◌, arith, inl, inr, ◌⊎◌, Some}
+use Rattle.std.proofs.Common.{◌≡◌, ℕ, zero, suc, ◌+◌, ◌/◌, ◌<◌, ◌≤◌, List, [], ◌∷◌, ◌++◌, map, length, get_or, set, Bool, true, false, refl, sym, ap, subst, ◌∙◌, arith, inl, inr, ◌⊎◌, Some}
 use mathlib.Core.Option.{Option, some, none}
 use lib.ListN.{get_elem?}
 use Rattle.atomic_table.specs.Table.{State as TableState, opening, Final, Seen, Splits}
-use Rattle.pk_plan.specs.Plans.{predecessors_of}
+use Rattle.pk_plan.specs.Plans.{end_of, predecessors_of}
 use Rattle.pk_plan.specs.Shape.{has, shape_of}
 use Rattle.pk_iterate.specs.Behaviour.{Behaviour}
 use Rattle.pk_iterate.specs.Ending.{result_cell, result_count}
@@ -14,10 +14,13 @@ use Rattle.pk_layout.specs.Layouts.{slots_of, first_of, owner_of, reader_of}
 use Rattle.pk_layout.specs.Wirings.{Wiring, IsWired}
 use Rattle.pk_words.specs.declared.view.View.{View}
 use Rattle.pk_words.specs.Tokens.{times, heading, pending, seen_run, total, one_if_held}
-use Rattle.pk_words.specs.Views.{first_view, new_view, knows_stop}
+use Rattle.pk_words.specs.Views.{first_view, new_view, split_view, knows_stop}
 use Rattle.pk_words.specs.Board.{low, word_shown, head_of, members_at, why_of, Shows, IsBoard}
 use Rattle.pk_words.specs.Reads.{AreResult}
-use Rattle.pk_words.proofs.Stays.{armings}
+use Rattle.pk_words.proofs.Lists.{elem_set_same}
+use Rattle.pk_words.proofs.Wired.{last_in}
+use Rattle.pk_words.proofs.Stays.{armings, none_fresh, stays}
+use Rattle.pk_words.proofs.Statuses.{same_changes}
 use Rattle.pk_words.proofs.Numbers.{run_shown}
 use Rattle.pk_words.proofs.Facts.{held, narrow}
 use Rattle.pk_words.proofs.Steps.{agrees_at}
@@ -37,10 +40,10 @@ elem_before [] k y x h = absurd (cc)
 elem_before (z ∷ xs) zero y x h = h
 elem_before (z ∷ xs) (suc k) y x h = elem_before xs k y x h
 
-set_at : {A : Type 0} (xs : List A) (k : ℕ) (x : A) → get_elem? xs k ≡ some x → set xs k x ≡ xs
-set_at [] k x h = absurd (cc)
-set_at (z ∷ xs) zero x h = let e : z ≡ x = cc in ap (λ y. y ∷ xs) (sym e)
-set_at (z ∷ xs) (suc k) x h = ap (λ ys. z ∷ ys) (set_at xs k x h)
+set_word : (xs : List ℕ) (k : ℕ) → set xs k (get_or xs k 0) ≡ xs
+set_word [] k = refl
+set_word (x ∷ xs) zero = refl
+set_word (x ∷ xs) (suc k) = ap (λ ys. x ∷ ys) (set_word xs k)
 
 more_shown : {C S : Type 0} (b : Behaviour C) (w : Wiring) (value : S → C) (core : State C) (s : TableState S View) (id : ℕ) (v : View) → Shows b w value core s → get_elem? s.views id ≡ some v → Shows b w value core (record { words = s.words; homes = s.homes; views = s.views ++ new_view v ∷ [] })
 more_shown b w value core s id v sh at = record {
@@ -86,13 +89,44 @@ more_shown b w value core s id v sh at = record {
     no_more : (e : ℕ) → total (λ (x : View). pending (members_at w.plan) e x.resets) (s.views ++ new_view v ∷ []) ≡ total (λ (x : View). pending (members_at w.plan) e x.resets) s.views
     no_more e = omega (arith, total_more (λ (x : View). pending (members_at w.plan) e x.resets) s.views (new_view v))
 
-pub splits : {C S : Type 0} (b : Behaviour C) (w : Wiring) (value : S → C) (id : ℕ) (v : View) → Splits (IsBoard {C = C} {S = S} b w value) id v v (new_view v)
+-- the pass itself is no longer fresh
+split_board : {C S : Type 0} (b : Behaviour C) (w : Wiring) (value : S → C) (s : TableState S View) (id : ℕ) (v : View) → IsBoard b w value s → get_elem? s.views id ≡ some v
+    → IsBoard b w value (record { words = s.words; homes = s.homes; views = set s.views id (split_view v) })
+split_board {C} {S} b w value s id v board at =
+    let e : ℕ = end_of w.plan in
+    let below = last_in board.wired in
+    let core : State C = played b (shape_of w.plan) (start (shape_of w.plan)) board.events in
+    subst (λ (ns : List ℕ). IsBoard b w value (record { words = ns; homes = s.homes; views = set s.views id (split_view v) })) (set_word s.words (e + 2))
+    (stays b w value s (armings w s) s.homes id e (get_or s.words (e + 2) 0) v (split_view v) refl below board at
+    (same_changes id e (get_or s.words (e + 2) 0) v (split_view v) board.wired board.shows at (board.shows.words_are e below) refl refl refl (inl refl) refl (board.shows.noted id v at))
+    (record { homes = board.shows.homes_are; away = λ k gone. by_out k gone (has k v.out) refl; out = λ k some_k. board.shows.out_is id v at k some_k }))
+  where
+    by_out : (k : ℕ) → get_elem? s.homes k ≡ some none → (t : Bool) → has k v.out ≡ t → (has k v.out ≡ true) ⊎ ((get_elem? s.homes k ≡ some none) × (has k v.out ≡ false))
+    by_out k gone true q = inl q
+    by_out k gone false q = inr (gone, q)
+
+pub splits : {C S : Type 0} (b : Behaviour C) (w : Wiring) (value : S → C) (id : ℕ) (v : View) → Splits (IsBoard {C = C} {S = S} b w value) id v (split_view v) (new_view v)
 splits {C} {S} b w value id v s board at =
-    subst (λ (vs : List View). IsBoard b w value (record { words = s.words; homes = s.homes; views = vs ++ new_view v ∷ [] })) (sym (set_at s.views id v at))
-    (record { wired = board.wired; events = board.events; enabled = board.enabled; shows = more_shown b w value (played b (shape_of w.plan) (start (shape_of w.plan)) board.events) s id v board.shows at })
+    let one = split_board b w value s id v board at in
+    let views : List View = set s.views id (split_view v) in
+    let here : get_elem? views id ≡ some (split_view v) = elem_set_same s.views id (split_view v) v at in
+    record {
+      wired = one.wired;
+      events = one.events;
+      enabled = one.enabled;
+      shows = more_shown b w value (played b (shape_of w.plan) (start (shape_of w.plan)) one.events) (record { words = s.words; homes = s.homes; views = views }) id (split_view v) one.shows here;
+      begins = λ k x at_k fresh. absurd (stale one here k x at_k fresh);
+    }
+  where
+    stale : (one : IsBoard b w value (record { words = s.words; homes = s.homes; views = set s.views id (split_view v) })) → get_elem? (set s.views id (split_view v)) id ≡ some (split_view v)
+        → (k : ℕ) (x : View) → get_elem? (set s.views id (split_view v) ++ new_view v ∷ []) k ≡ some x → x.fresh ≡ true → ⊥
+    stale one here k x at_k fresh = elim (elem_more (set s.views id (split_view v)) k (new_view v) x at_k) [
+      | inl old ↦ none_fresh s.views id v (split_view v) at refl (λ j y at_j f. (board.begins j y at_j f).0) k x old fresh
+      | inr q ↦ absurd (let f : false ≡ true = ap (λ (y : View). y.fresh) q ∙ fresh in cc)
+    ]
 
 -- the start
-start_low : (xs : List ℕ) → one_if_held (start_status xs) ≡ 0
+pub start_low : (xs : List ℕ) → one_if_held (start_status xs) ≡ 0
 start_low [] = refl
 start_low (x ∷ xs) = refl
 
@@ -127,6 +161,7 @@ opens {C} {S} b w value words slots wired long going words_are slots_are = recor
     over = λ id v at saw. absurd (let q = only id v at in let z : v.ended ≡ false = ap (λ (x : View). x.ended) q in cc);
     told = λ id v at saw. absurd (let q = only id v at in let z : knows_stop v ≡ false = ap knows_stop q in cc);
   };
+  begins = λ id v at fresh. (refl, refl, going);
 }
   where
     only : (id : ℕ) (v : View) → get_elem? (first_view ∷ []) id ≡ some v → v ≡ first_view

@@ -1,17 +1,16 @@
 -- What follows of a plan that a system fits, and of its slots.
-use Rattle.std.proofs.Common.{◌≡◌, ℕ, zero, suc, ◌+◌, ◌<◌, ◌≤◌, ◌==◌, ◌&&◌, List, [], ◌∷◌, length, count_by, get_or, cond, Bool, true, false, refl, ap, subst, ◌∙◌, arith, inl, inr, ◌⊎◌, All}
+use Rattle.std.proofs.Common.{◌≡◌, ℕ, suc, ◌<◌, ◌≤◌, ◌==◌, ◌&&◌, List, [], ◌∷◌, length, count_by, cond, Bool, true, false, refl, ap, arith, inl, inr, ◌⊎◌}
 use Rattle.std.proofs.Math.Dec.{leb, ltb}
 use Rattle.std.proofs.lemmas.Bool.Decides.{nat_tests}
-use Rattle.std.specs.List.{slice_index_or}
 use Rattle.std.specs.List.Sorted.{IsStrictlyIncreasing}
 use Rattle.pk_plan.specs.Plans.{end_of, predecessors_of, successors_of, is_inside}
 use Rattle.pk_plan.specs.Shape.{has, shape_of, component_of, exits, holds}
 use Rattle.pk_plan.proofs.PlanLemmas.{length-rising, predecessor_within, head_within, stands_inside, is_inside_tells}
 use Rattle.pk_plan.proofs.Shapes.{of_exit}
 use Rattle.pk_iterate.specs.Behaviour.{Behaviour}
-use Rattle.pk_core.proofs.Basics.{same, neq, count_cons}
+use Rattle.pk_core.proofs.Basics.{same, count_cons}
 use Rattle.pk_core.proofs.Moves.{Axioms, Comparable}
-use Rattle.pk_core.proofs.Plan_shapes.{plan_shape, comparable, has_of, of_has}
+use Rattle.pk_core.proofs.Plan_shapes.{plan_shape, comparable, has_of, of_has, rising_rest, none_above, rising_at}
 use Rattle.pk_layout.specs.Layouts.{slots_of, owner_of, reader_of}
 use Rattle.pk_layout.specs.Wirings.{Wiring, IsWired}
 use Rattle.pk_words.specs.Board.{head_of, members_at}
@@ -25,19 +24,6 @@ fits_of {C} {b} {w} wired = comparable b w.plan wired.axioms wired.fits
 pub last_in : {C : Type 0} {b : Behaviour C} {w : Wiring} → IsWired b w → end_of w.plan < w.plan.elements
 last_in wired = let n = wired.axioms.counted in omega (arith, n)
 
-rising_rest : (x : ℕ) (xs : List ℕ) → IsStrictlyIncreasing (x ∷ xs) → IsStrictlyIncreasing xs
-rising_rest x xs rising = λ k l.
-    let same : suc k + 1 ≡ suc (k + 1) = omega arith in
-    subst (λ (j : ℕ). get_or xs k 0 < get_or (x ∷ xs) j 0) same (rising (suc k) (omega (arith, l)))
-
-none_above : (u x : ℕ) (xs : List ℕ) → u ≤ x → IsStrictlyIncreasing (x ∷ xs) → count_by (λ w. w == u) xs ≡ 0
-none_above u x [] le rising = refl
-none_above u x (y ∷ ys) le rising =
-    let up : x < y = rising 0 (omega arith) in
-    let other : (y == u) ≡ false = neq y u (λ e. absurd (omega (arith, e, up, le))) in
-    let later : count_by (λ w. w == u) ys ≡ 0 = none_above u y ys (omega (arith, up, le)) (rising_rest x (y ∷ ys) rising) in
-    count_cons (λ w. w == u) y ys ∙ rw (other, later) refl
-
 once_in : (u : ℕ) (xs : List ℕ) → IsStrictlyIncreasing xs → count_by (λ w. w == u) xs ≤ 1
 once_in u [] rising = omega arith
 once_in u (x ∷ xs) rising = by_test (x == u) refl (once_in u xs (rising_rest x xs rising))
@@ -48,11 +34,6 @@ once_in u (x ∷ xs) rising = by_test (x == u) refl (once_in u xs (rising_rest x
         let none : count_by (λ w. w == u) xs ≡ 0 = none_above u x xs (omega (arith, at)) rising in
         omega (arith, count_cons (λ w. w == u) x xs, ap {B = ℕ} (λ (c : Bool). cond c 1 0) q, none)
     by_test false q ih = omega (arith, count_cons (λ w. w == u) x xs, ap {B = ℕ} (λ (c : Bool). cond c 1 0) q, ih)
-
-rising_at : (rows : List (List ℕ)) (v : ℕ) → All IsStrictlyIncreasing rows → IsStrictlyIncreasing (slice_index_or rows v [])
-rising_at [] v all = λ k l. absurd (omega (arith, l))
-rising_at (row ∷ rows) zero all = all 0 [] (omega arith)
-rising_at (row ∷ rows) (suc v) all = rising_at rows v (λ k d l. all (suc k) d (omega (arith, l)))
 
 -- counts of predecessors fit 18 bits, and no successor stands twice
 pub few_before : {C : Type 0} {b : Behaviour C} {w : Wiring} → IsWired b w → (e : ℕ) → length (predecessors_of w.plan e) < 262144

@@ -1,5 +1,5 @@
 -- What the words, the slots at home and the views of the passes show of a core.
-use Rattle.std.specs.Prelude.{◌≡◌, ◌≢◌, ℕ, zero, suc, ◌+◌, ◌*◌, ◌<◌, ◌≤◌, ◌⊎◌, List, Option, Some, None, slice_index, length, drop, true}
+use Rattle.std.specs.Prelude.{◌≡◌, ◌≢◌, ℕ, zero, suc, ◌+◌, ◌*◌, ◌<◌, ◌≤◌, ◌⊎◌, List, Option, Some, None, [], slice_index, length, drop, true}
 use mathlib.Core.Option.{some, none}
 use lib.ListN.{get_elem?}
 use Rattle.atomic_table.specs.Table.{State as TableState}
@@ -70,27 +70,38 @@ IsCause b w (RunLimit element run) =
     × ((order : Level) (ends : Ends b order) → IsOrderOf (shape_of w.plan) order → run ≤ result_count ends element)
 
 -- This state of the core is shown.
-pub record Shows {C S : Type 0} (b : Behaviour C) (w : Wiring) (value : S → C) (core : State C) (s : TableState S View) : Type 0 where
+pub record Shows {C S : Type 0} (b : Behaviour C) (w : Wiring) (value : S → C) (core : State C)
+    (s : TableState S View) : Type 0 where
   -- word 0 is the seats' own, word 1 says why the board is stopped, and then each element has one
   pub long : length s.words ≡ w.plan.elements + 2
-  pub words_are : (e : ℕ) → e < w.plan.elements → slice_index s.words (e + 2) ≡ word_shown (total (λ (v : View). pending (members_at w.plan) e v.resets) s.views) (core e)
+  pub words_are : (e : ℕ) → e < w.plan.elements → slice_index s.words (e + 2)
+      ≡ word_shown (total (λ (v : View). pending (members_at w.plan) e v.resets) s.views) (core e)
   pub stop_is : (why : Why) → why_of w.limit (slice_index s.words 1) ≡ Some why → IsCause b w why
   -- for each held element there is one Hold, or one Resetting whose head it is, and no other
-  pub held_once : (e : ℕ) → e < w.plan.elements → total (λ (v : View). times e v.holds + heading (head_of w.plan) e v.resets) s.views ≡ one_if_held (core e).status
-  pub runs_are : (id : ℕ) (v : View) → get_elem? s.views id ≡ some v → (e : ℕ) → e < w.plan.elements → 0 < times e v.holds → number_of e v.holds ≡ run_number (core e)
+  pub held_once : (e : ℕ) → e < w.plan.elements
+      → total (λ (v : View). times e v.holds + heading (head_of w.plan) e v.resets) s.views
+      ≡ one_if_held (core e).status
+  pub runs_are : (id : ℕ) (v : View) → get_elem? s.views id ≡ some v → (e : ℕ) → e < w.plan.elements
+      → 0 < times e v.holds → number_of e v.holds ≡ run_number (core e)
   -- for each element with sends left there is one Sending, with just these, and no other
-  pub sent_once : (e : ℕ) → e < w.plan.elements → total (λ (v : View). times e v.sends) s.views ≡ one_if_any (core e).sends
-  pub sends_are : (id : ℕ) (v : View) → get_elem? s.views id ≡ some v → (e : ℕ) → e < w.plan.elements → 0 < times e v.sends → drop (number_of e v.sends) (successors_of w.plan e) ≡ (core e).sends
+  pub sent_once : (e : ℕ) → e < w.plan.elements
+      → total (λ (v : View). times e v.sends) s.views ≡ one_if_any (core e).sends
+  pub sends_are : (id : ℕ) (v : View) → get_elem? s.views id ≡ some v → (e : ℕ) → e < w.plan.elements
+      → 0 < times e v.sends → drop (number_of e v.sends) (successors_of w.plan e) ≡ (core e).sends
   -- a Resetting's component is to be gone through again; no element is to be armed twice
-  pub restarts : (id : ℕ) (v : View) → get_elem? s.views id ≡ some v → (x : ℕ) → 0 < times x v.resets → (0 < number_of x v.resets) × (number_of x v.resets ≤ length (members_at w.plan x)) × IsRestarting w.plan core x
+  pub restarts : (id : ℕ) (v : View) → get_elem? s.views id ≡ some v → (x : ℕ) → 0 < times x v.resets
+      → (0 < number_of x v.resets) × (number_of x v.resets ≤ length (members_at w.plan x)) × IsRestarting w.plan core x
   pub armed_once : (e : ℕ) → total (λ (v : View). pending (members_at w.plan) e v.resets) s.views ≤ 1
   -- a slot at home holds its owner's cell; away are only slots that a Hold's element writes or reads
   pub homes_are : (k : ℕ) (x : S) → get_elem? s.homes k ≡ some (some x) → value x ≡ cell_in b core (owner_of w.layout k)
-  pub away : (k : ℕ) → get_elem? s.homes k ≡ some none → (id : ℕ) × (v : View) × (get_elem? s.views id ≡ some v) × (has k v.out ≡ true)
-  pub out_is : (id : ℕ) (v : View) → get_elem? s.views id ≡ some v → (k : ℕ) → has k v.out ≡ true → (0 < times (owner_of w.layout k) v.holds) ⊎ (0 < times (reader_of w.layout k) v.holds)
+  pub away : (k : ℕ) → get_elem? s.homes k ≡ some none
+      → (id : ℕ) × (v : View) × (get_elem? s.views id ≡ some v) × (has k v.out ≡ true)
+  pub out_is : (id : ℕ) (v : View) → get_elem? s.views id ≡ some v → (k : ℕ) → has k v.out ≡ true
+      → (0 < times (owner_of w.layout k) v.holds) ⊎ (0 < times (reader_of w.layout k) v.holds)
   pub bounded : (e : ℕ) → run_number (core e) ≤ w.limit
   -- the words that were found have no later runs
-  pub noted : (id : ℕ) (v : View) → get_elem? s.views id ≡ some v → (e : ℕ) → e < w.plan.elements → seen_run e v.notes ≤ run_number (core e)
+  pub noted : (id : ℕ) (v : View) → get_elem? s.views id ≡ some v → (e : ℕ) → e < w.plan.elements
+      → seen_run e v.notes ≤ run_number (core e)
   -- who saw the last element done was right, and who stopped the board or saw it stopped
   pub over : (id : ℕ) (v : View) → get_elem? s.views id ≡ some v → v.ended ≡ true → (core (end_of w.plan)).status ≡ Done
   pub told : (id : ℕ) (v : View) → get_elem? s.views id ≡ some v → knows_stop v ≡ true → slice_index s.words 1 ≢ 0
@@ -101,3 +112,6 @@ pub record IsBoard {C S : Type 0} (b : Behaviour C) (w : Wiring) (value : S → 
   pub events : List Event
   pub enabled : AllEnabled b (shape_of w.plan) (start (shape_of w.plan)) events
   pub shows : Shows b w value (played b (shape_of w.plan) (start (shape_of w.plan)) events) s
+  -- where a pass is fresh there is no other, no event was made, and the board isn't stopped
+  pub begins : (id : ℕ) (v : View) → get_elem? s.views id ≡ some v → v.fresh ≡ true
+      → (length s.views ≡ 1) × (events ≡ []) × (slice_index s.words 1 ≡ 0)

@@ -5,7 +5,6 @@ mod laws;
 mod plays;
 mod rule;
 mod subject;
-mod tokens;
 mod view;
 mod why;
 mod words;
@@ -17,7 +16,6 @@ pub use plays::{
 };
 pub use rule::Rule;
 pub use subject::Subject;
-pub use tokens::{Finished, Hold, Resetting, Sending, Stopped};
 pub use view::View;
 pub use why::Why;
 pub use words::{DONE, OPEN, RUN, is_done, is_open, low_in, run_in, stop_word, why_in, word_with};

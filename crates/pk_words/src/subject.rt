@@ -23,15 +23,25 @@ impl<'a, Y: System> Model for Subject<'a, Y> {
 
     ghost Value = { SubjectView Y };
 
-    ghost view = { λ s. record { system = s.system.now; wiring = record { plan = s.plan.now; limit = s.limit; layout = s.layout } } };
+    ghost view = { λ s. record {
+      system = s.system.now;
+      wiring = record { plan = s.plan.now; limit = s.limit; layout = s.layout };
+    } };
 
-    ghost invariant = { λ s. IsWired (Y.meaning s.system.now) (record { plan = s.plan.now; limit = s.limit; layout = s.layout }) };
+    ghost invariant = { λ s. IsWired (Y.meaning s.system.now) (record {
+      plan = s.plan.now;
+      limit = s.limit;
+      layout = s.layout;
+    }) };
 }
 
 impl<'a, Y: System> Subject<'a, Y> {
     pub fn new(system: &'a Y, plan: &'a Plan, layout: Layout, limit: u64) -> Subject<'a, Y>
         requires { IsWired (Y.meaning system.now) (record { plan = plan.now; limit = limit; layout = layout }) }
-        ensures { result ≡ record { system = system.now; wiring = record { plan = plan.now; limit = limit; layout = layout } } }
+        ensures { result ≡ record {
+          system = system.now;
+          wiring = record { plan = plan.now; limit = limit; layout = layout };
+        } }
     {
         Subject {
             system,

@@ -20,4 +20,6 @@ pub struct View {
     pub stops: LinkedList<u64>,
     /// The stop words that it found, the newest first.
     pub stop_notes: LinkedList<u64>,
+    /// Whether no step was made on the board since it began, and there is no other pass.
+    pub fresh: bool,
 }

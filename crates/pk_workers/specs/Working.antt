@@ -1,5 +1,5 @@
 -- What a worker has, and what it leaves.
-use Rattle.std.specs.Prelude.{◌≡◌, ℕ, ◌+◌, ◌<◌, List, [], ◌∷◌, Option, Some, None, All, true}
+use Rattle.std.specs.Prelude.{◌≡◌, ℕ, ◌+◌, ◌<◌, ◌≤◌, List, [], ◌∷◌, Option, Some, None, All, true}
 use Rattle.atomic_table.specs.Seated.{TableId}
 use Rattle.pk_plan.specs.Order.{Level}
 use Rattle.pk_plan.specs.Plans.{PlanView}
@@ -10,8 +10,9 @@ use Rattle.pk_iterate.specs.Ending.{Ends, trace}
 use Rattle.pk_core.specs.Orders.{IsOrderOf}
 use Rattle.pk_layout.specs.Wirings.{Wiring}
 use Rattle.pk_words.specs.declared.view.View.{View}
+use Rattle.pk_words.specs.Tokens.{seen_run}
 use Rattle.pk_words.specs.Board.{IsCause}
-use Rattle.pk_words.specs.Held.{HoldView, SendingView, ResettingView}
+use Rattle.pk_board.specs.Held.{HoldView, SendingView, ResettingView}
 use Rattle.pk_words.specs.Reads.{Counts}
 use Rattle.pk_board.specs.declared.answers.Got.{Got}
 use Rattle.pk_board.specs.declared.answers.Got.TheVariants.{Ready, Waiting}
@@ -33,7 +34,8 @@ resets_of None = []
 resets_of (Some r) = (r.exit, r.left) ∷ []
 
 -- the pass has these tokens and no others
-pub record HasJust (v : View) (hold : Option HoldView) (sending : Option SendingView) (resetting : Option ResettingView) : Type 0 where
+pub record HasJust (v : View) (hold : Option HoldView) (sending : Option SendingView)
+    (resetting : Option ResettingView) : Type 0 where
   pub holds : v.holds ≡ holds_of hold
   pub sends : v.sends ≡ sends_of sending
   pub resets : v.resets ≡ resets_of resetting
@@ -49,6 +51,10 @@ pub record HasSame (old new : View) : Type 0 where
   pub sends : new.sends ≡ old.sends
   pub resets : new.resets ≡ old.resets
 
+-- the pass has seen no fewer runs than before
+abbrev pub HasSeen : (old new : View) → Type 0
+HasSeen old new = (e : ℕ) → seen_run e old.notes ≤ seen_run e new.notes
+
 -- The recursion runs the Hold's element once more.
 pub record IsRunnable {C : Type 0} (b : Behaviour C) (w : Wiring) (h : HoldView) : Type 0 where
   pub element : h.element < w.plan.elements
@@ -59,7 +65,8 @@ IsGotRunnable b w (Ready h) = IsRunnable b w h
 IsGotRunnable b w (Waiting left) = Unit {0}
 
 -- The pass told an element, which got something; else it has this Hold and this Sending.
-pub record HasGot {C : Type 0} (b : Behaviour C) (w : Wiring) (v : View) (kept : Option HoldView) (got : Got) (rest : Option SendingView) : Type 0 where
+pub record HasGot {C : Type 0} (b : Behaviour C) (w : Wiring) (v : View) (kept : Option HoldView) (got : Got)
+    (rest : Option SendingView) : Type 0 where
   pub holds : v.holds ≡ got_holds got (holds_of kept)
   pub sends : v.sends ≡ sends_of rest
   pub resets : v.resets ≡ []
@@ -67,7 +74,8 @@ pub record HasGot {C : Type 0} (b : Behaviour C) (w : Wiring) (v : View) (kept :
 
 -- the cells that the Hold's run reads in the recursion
 abbrev pub AreInputs : {C : Type 0} → Behaviour C → PlanView → HoldView → List C → Type 0
-AreInputs b p hold cells = (order : Level) (ends : Ends b order) → IsOrderOf (shape_of p) order → cells ≡ values_read b (trace ends) hold.element (hold.run + 1)
+AreInputs b p hold cells = (order : Level) (ends : Ends b order) → IsOrderOf (shape_of p) order
+    → cells ≡ values_read b (trace ends) hold.element (hold.run + 1)
 
 -- The pass found the last element done, or the board was stopped for this cause.
 abbrev pub IsEnding : {C D : Type 0} → Behaviour C → Wiring → TableId → Ending D → Type 0
@@ -78,5 +86,5 @@ abbrev pub AreEndings : {C D : Type 0} → Behaviour C → Wiring → TableId �
 AreEndings {C} {D} b w table endings = All (λ (e : Ending D). IsEnding b w table e) endings
 
 -- passes of the board, without tokens
-abbrev pub AreJobs : {D : Type 0} → TableId → List (Job D) → Type 0
-AreJobs {D} table jobs = All (λ (j : Job D). (j.pass.table ≡ table) × HasJust j.pass.view None None None) jobs
+abbrev pub AreJobs : {D B : Type 0} → TableId → List (Job D B) → Type 0
+AreJobs {D} {B} table jobs = All (λ (j : Job D B). (j.pass.table ≡ table) × HasJust j.pass.view None None None) jobs

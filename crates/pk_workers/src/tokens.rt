@@ -2,24 +2,29 @@
 
 ghost use Rattle.std.specs.Prelude.{◌≡◌, ◌+◌, None, Some, IfSome};
 ghost use Rattle.pk_board.specs.Calls.{IsSending, IsResetting};
-ghost use Rattle.pk_workers.specs.Working.{HasJust, IsRunnable, HasGot};
+ghost use Rattle.pk_workers.specs.Working.{HasJust, HasSeen, IsRunnable, HasGot};
 
-use pk_board::{Armed, Arrived, Board, Got, Pass};
+use pk_board::{Armed, Arrived, Board, Got, Hold, Pass, Resetting, Sending};
+use pk_hints::{Bound, Hall, Hints};
 use pk_iterate::System;
-use pk_words::{Hold, Resetting, Sending};
 
-/// What is kept once an element was told: the Hold that there was, or else that of the element, if it is ready.
-fn keep<Y: System>(
+/// What is kept once an element was told: the Hold that there was, or else that of the element, if it is ready. One that isn't kept is offered,
+/// with a hint.
+fn keep<Y: System, B: Bound>(
     board: &Board<Y>,
     pass: &mut Pass<Y::Cell>,
+    hall: &Hall<B>,
+    hints: &mut Hints<B>,
     kept: Option<Hold>,
     got: Got,
     rest: Option<Sending>,
 ) -> (Option<Sending>, Option<Hold>)
     requires of_board { pass.old.table ≡ board.now.table }
+    requires bound { B.elements ≡ board.now.subject.wiring.plan.elements }
     requires tokens { HasGot (Y.meaning board.now.subject.system) board.now.subject.wiring pass.old.view kept got rest }
     requires runnable { IfSome kept (IsRunnable (Y.meaning board.now.subject.system) board.now.subject.wiring) }
     ensures of_board { pass.new.table ≡ pass.old.table }
+    ensures seen { HasSeen pass.old.view pass.new.view }
     ensures rest { result.0 ≡ rest }
     ensures tokens { HasJust pass.new.view result.1 rest None }
     ensures runnable { IfSome result.1 (IsRunnable (Y.meaning board.now.subject.system) board.now.subject.wiring) }
@@ -30,24 +35,30 @@ fn keep<Y: System>(
     match kept {
         None => (rest, Some(hold)),
         Some(first) => {
+            let element = hold.element();
             board.offer(pass, hold);
+            hall.give(hints, element);
             (rest, Some(first))
         }
     }
 }
 
 /// Tells the next successor. There is a Sending of those that are left, and the Hold that is kept.
-fn tell_next<Y: System>(
+fn tell_next<Y: System, B: Bound>(
     board: &Board<Y>,
     pass: &mut Pass<Y::Cell>,
+    hall: &Hall<B>,
+    hints: &mut Hints<B>,
     sending: Sending,
     kept: Option<Hold>,
 ) -> (Option<Sending>, Option<Hold>)
     requires of_board { pass.old.table ≡ board.now.table }
+    requires bound { B.elements ≡ board.now.subject.wiring.plan.elements }
     requires sending { IsSending board.now.subject.wiring.plan sending }
     requires tokens { HasJust pass.old.view kept (Some sending) None }
     requires runnable { IfSome kept (IsRunnable (Y.meaning board.now.subject.system) board.now.subject.wiring) }
     ensures of_board { pass.new.table ≡ pass.old.table }
+    ensures seen { HasSeen pass.old.view pass.new.view }
     ensures rest { IfSome result.0 (λ s. s ≡ record { element = sending.element; sent = sending.sent + 1 }) }
     ensures sending { IfSome result.0 (IsSending board.now.subject.wiring.plan) }
     ensures tokens { HasJust pass.new.view result.1 result.0 None }
@@ -55,28 +66,32 @@ fn tell_next<Y: System>(
 {
     board.subject().wired();
     match board.arrive(pass, sending) {
-        Arrived::Next { rest, got } => keep(board, pass, kept, got, Some(rest)),
-        Arrived::Sent { got } => keep(board, pass, kept, got, None),
+        Arrived::Next { rest, got } => keep(board, pass, hall, hints, kept, got, Some(rest)),
+        Arrived::Sent { got } => keep(board, pass, hall, hints, kept, got, None),
     }
 }
 
 /// Tells all successors. Of the elements that become ready the first is kept, and each other one is offered.
-pub(crate) fn tell_all<Y: System>(
+pub(crate) fn tell_all<Y: System, B: Bound>(
     board: &Board<Y>,
     pass: &mut Pass<Y::Cell>,
+    hall: &Hall<B>,
+    hints: &mut Hints<B>,
     sending: Sending,
 ) -> Option<Hold>
     requires of_board { pass.old.table ≡ board.now.table }
+    requires bound { B.elements ≡ board.now.subject.wiring.plan.elements }
     requires sending { IsSending board.now.subject.wiring.plan sending }
     requires tokens { HasJust pass.old.view None (Some sending) None }
     ensures of_board { pass.new.table ≡ pass.old.table }
+    ensures seen { HasSeen pass.old.view pass.new.view }
     ensures tokens { HasJust pass.new.view result None None }
     ensures runnable { IfSome result (IsRunnable (Y.meaning board.now.subject.system) board.now.subject.wiring) }
 {
     let mut kept = None;
     let mut left = Some(sending);
     while let Some(now) = left {
-        (left, kept) = tell_next(board, pass, now, kept);
+        (left, kept) = tell_next(board, pass, hall, hints, now, kept);
     }
     kept
 }
@@ -91,6 +106,7 @@ pub(crate) fn arm_all<Y: System>(
     requires resetting { IsResetting board.now.subject.wiring.plan resetting }
     requires tokens { HasJust pass.old.view None None (Some resetting) }
     ensures of_board { pass.new.table ≡ pass.old.table }
+    ensures seen { HasSeen pass.old.view pass.new.view }
     ensures tokens { HasJust pass.new.view (Some result) None None }
     ensures runnable { IsRunnable (Y.meaning board.now.subject.system) board.now.subject.wiring result }
 {

@@ -1,17 +1,17 @@
 // One worker.
 
-ghost use Rattle.std.specs.Prelude.{◌≡◌, ◌≤◌, None, Some, IfSome};
+ghost use Rattle.std.specs.Prelude.{◌≡◌, ◌<◌, ◌≤◌, None, Some, IfSome, OnSome, true};
 ghost use Rattle.pk_words.specs.Board.{IsCause};
-ghost use Rattle.pk_workers.specs.Working.{HasJust, IsRunnable, IsEnding};
+ghost use Rattle.pk_workers.specs.Working.{HasJust, HasSame, IsRunnable, IsEnding};
 
 use crate::gates::Gate;
 use crate::runs::run_one;
-use pk_board::{Board, Pass};
+use pk_board::{Board, Finished, Hold, Pass, Stopped};
+use pk_hints::{Bound, Hall, Hints, Rest};
 use pk_iterate::System;
-use pk_words::{Finished, Hold, Stopped, Why};
+use pk_words::Why;
 use std::alloc::Global;
 use std::sync::Wait;
-use std::thread;
 use std::thread::Threads;
 
 /// How a worker ends: its pass found the last element done, or the board was stopped.
@@ -19,6 +19,41 @@ use std::thread::Threads;
 pub enum Ending<C> {
     Finished { pass: Pass<C>, finished: Finished },
     Stopped(Stopped),
+}
+
+/// Whether the last element is done. A pass with a Hold doesn't look, since it isn't.
+fn look_at_end<Y: System>(
+    board: &Board<Y>,
+    pass: &mut Pass<Y::Cell>,
+    kept: &Option<Hold>,
+) -> Option<Finished>
+    requires of_board { pass.old.table ≡ board.now.table }
+    ensures of_board { pass.new.table ≡ pass.old.table }
+    ensures tokens { HasSame pass.old.view pass.new.view }
+    ensures ended { OnSome result (pass.new.view.ended ≡ true) }
+{
+    if kept.is_some() {
+        return None;
+    }
+    match board.finished(pass) {
+        Ok(finished) => Some(finished),
+        Err(_) => None,
+    }
+}
+
+/// Claims an element, if it is open.
+fn claim_one<Y: System>(board: &Board<Y>, pass: &mut Pass<Y::Cell>, e: u32) -> Option<Hold>
+    requires of_board { pass.old.table ≡ board.now.table }
+    requires tokens { HasJust pass.old.view None None None }
+    requires element { e < board.now.subject.wiring.plan.elements }
+    ensures of_board { pass.new.table ≡ pass.old.table }
+    ensures tokens { HasJust pass.new.view result None None }
+    ensures runnable { IfSome result (IsRunnable (Y.meaning board.now.subject.system) board.now.subject.wiring) }
+{
+    match board.claim(pass, e) {
+        Ok(hold) => Some(hold),
+        Err(_) => None,
+    }
 }
 
 /// Claims the first open element from one on and below another.
@@ -36,7 +71,7 @@ fn claim_between<Y: System>(
     ensures runnable { IfSome result (IsRunnable (Y.meaning board.now.subject.system) board.now.subject.wiring) }
 {
     for e in from..end {
-        if let Ok(hold) = board.claim(pass, e) {
+        if let Some(hold) = claim_one(board, pass, e) {
             return Some(hold);
         }
     }
@@ -59,14 +94,44 @@ fn claim_any<Y: System>(board: &Board<Y>, pass: &mut Pass<Y::Cell>, from: u32) -
     }
 }
 
-/// The Hold that was kept, or else that of an open element.
-fn next_hold<Y: System>(
+/// Claims the element of a hint, or, where there is none and the worker is to walk, an open element.
+fn claim_next<Y: System, B: Bound>(
     board: &Board<Y>,
     pass: &mut Pass<Y::Cell>,
+    hall: &Hall<B>,
+    hints: &mut Hints<B>,
+    worker: u32,
+    rest: &Rest,
+    from: u32,
+) -> Option<Hold>
+    requires of_board { pass.old.table ≡ board.now.table }
+    requires bound { B.elements ≡ board.now.subject.wiring.plan.elements }
+    requires tokens { HasJust pass.old.view None None None }
+    requires from { from ≤ board.now.subject.wiring.plan.elements }
+    ensures of_board { pass.new.table ≡ pass.old.table }
+    ensures tokens { HasJust pass.new.view result None None }
+    ensures runnable { IfSome result (IsRunnable (Y.meaning board.now.subject.system) board.now.subject.wiring) }
+{
+    match hall.take(hints, worker) {
+        Some(element) => claim_one(board, pass, element),
+        None if rest.is_to_walk() => claim_any(board, pass, from),
+        None => None,
+    }
+}
+
+/// The Hold that was kept, or else that of an open element.
+fn next_hold<Y: System, B: Bound>(
+    board: &Board<Y>,
+    pass: &mut Pass<Y::Cell>,
+    hall: &Hall<B>,
+    hints: &mut Hints<B>,
+    worker: u32,
+    rest: &Rest,
     kept: Option<Hold>,
     from: u32,
 ) -> Option<Hold>
     requires of_board { pass.old.table ≡ board.now.table }
+    requires bound { B.elements ≡ board.now.subject.wiring.plan.elements }
     requires tokens { HasJust pass.old.view kept None None }
     requires runnable { IfSome kept (IsRunnable (Y.meaning board.now.subject.system) board.now.subject.wiring) }
     requires from { from ≤ board.now.subject.wiring.plan.elements }
@@ -75,7 +140,7 @@ fn next_hold<Y: System>(
     ensures runnable { IfSome result (IsRunnable (Y.meaning board.now.subject.system) board.now.subject.wiring) }
 {
     match kept {
-        None => claim_any(board, pass, from),
+        None => claim_next(board, pass, hall, hints, worker, rest, from),
         hold => hold,
     }
 }
@@ -94,35 +159,45 @@ fn stop<Y: System>(board: &Board<Y>, pass: &mut Pass<Y::Cell>, why: Why) -> Stop
 }
 
 /// Works until the last element is done or the board is stopped.
-pub fn work<R: Threads + Wait, Y: System, G: Gate>(
+pub fn work<R: Threads + Wait, Y: System, G: Gate, B: Bound>(
     rt: &R,
     alloc: Global,
     gate: &G,
+    hall: &Hall<B>,
     worker: u32,
     board: &Board<Y>,
     pass: Pass<Y::Cell>,
+    hints: Hints<B>,
 ) -> Ending<Y::Cell>
     requires of_board { pass.table ≡ board.now.table }
+    requires bound { B.elements ≡ board.now.subject.wiring.plan.elements }
     requires tokens { HasJust pass.view None None None }
     ensures { IsEnding (Y.meaning board.now.subject.system) board.now.subject.wiring board.now.table result }
 {
     let mut pass = pass;
+    let mut hints = hints;
     let mut kept = None;
     let mut from = 0;
+    let mut rest = Rest::new();
     for _ in rt.forever() {
         if let Some((_, stopped)) = board.stopped(&mut pass) {
             return Ending::Stopped(stopped);
         }
-        if let Ok(finished) = board.finished(&mut pass) {
+        if let Some(finished) = look_at_end(board, &mut pass, &kept) {
             return Ending::Finished { pass, finished };
         }
-        let Some(hold) = next_hold(board, &mut pass, kept, from) else {
+        let Some(hold) = next_hold(
+            board, &mut pass, hall, &mut hints, worker, &rest, kept, from,
+        ) else {
             kept = None;
-            thread::yield_now();
+            rest = rest.longer(rt, hall);
             continue;
         };
+        rest = rest.over(hall);
         from = hold.element();
-        match run_one(rt, alloc, gate, worker, board, &mut pass, hold) {
+        match run_one(
+            rt, alloc, gate, worker, board, &mut pass, hall, &mut hints, hold,
+        ) {
             Ok(ready) => kept = ready,
             Err(why) => return Ending::Stopped(stop(board, &mut pass, why)),
         }

@@ -3,43 +3,67 @@
 ghost use Rattle.std.specs.Prelude.{◌≡◌, ◌<◌, ◌≤◌, None, IfOk, IfErr, length};
 ghost use Rattle.pk_iterate.specs.Fits.{FitsPlan};
 ghost use Rattle.pk_words.specs.Reads.{HasEnd};
-ghost use Rattle.pk_words.specs.Views.{first_view};
+ghost use Rattle.pk_words.specs.Views.{new_view};
 ghost use Rattle.pk_workers.specs.Working.{HasJust, IsEnding, AreJobs, AreEndings};
 ghost use Rattle.pk_workers.specs.Answers.{failure_of, IsResultOf, IsExceeded};
 
 use crate::gates::Gate;
 use crate::turns::{Ending, work};
 use pk_board::{Board, Pass};
+use pk_hints::{Bound, Hall, Hints};
 use pk_iterate::{Cells, Solve, System};
 use pk_plan::Plan;
 use pk_words::Why;
 use std::alloc::{AllocError, Global};
+use std::marker::Brand;
 use std::sync::Wait;
 use std::thread;
 use std::thread::Threads;
 
-/// A worker's number, and its pass.
+/// A worker's number, its pass and its hints.
 #[derive(Drop)]
-pub struct Job<C> {
+pub struct Job<C, B: Bound> {
     pub worker: u32,
     pub pass: Pass<C>,
+    pub hints: Hints<B>,
 }
 
-/// A job for each worker, with passes that are split from this one.
-fn jobs<Y: System>(
+/// The job of a worker more, with a pass that is split from this one.
+fn next_job<Y: System, B: Bound>(
     alloc: Global,
     board: &Board<Y>,
     pass: &mut Pass<Y::Cell>,
+    hall: &mut Hall<B>,
+    worker: u32,
+) -> Result<Job<Y::Cell, B>, AllocError>
+    requires of_board { pass.old.table ≡ board.now.table }
+    ensures of_board { pass.new.table ≡ pass.old.table }
+    ensures job { IfOk result (λ j. j.pass ≡ record { table = pass.old.table; view = new_view pass.old.view }) }
+{
+    let other = board.split(pass);
+    let hints = hall.hints(alloc)?;
+    Ok(Job {
+        worker,
+        pass: other,
+        hints,
+    })
+}
+
+/// A job for each worker, with passes that are split from this one.
+fn jobs<Y: System, B: Bound>(
+    alloc: Global,
+    board: &Board<Y>,
+    pass: &mut Pass<Y::Cell>,
+    hall: &mut Hall<B>,
     workers: u32,
-) -> Result<Vec<Job<Y::Cell>>, AllocError>
-    requires pass { pass.old ≡ record { table = board.now.table; view = first_view } }
+) -> Result<Vec<Job<Y::Cell, B>>, AllocError>
+    requires of_board { pass.old.table ≡ board.now.table }
     ensures each { IfOk result (λ v. length v.items ≡ workers) }
     ensures jobs { IfOk result (λ v. AreJobs board.now.table v.items) }
 {
     let mut jobs = Vec::new(alloc);
     for worker in 0..workers {
-        let pass = board.split(pass);
-        jobs.push(Job { worker, pass })?;
+        jobs.push(next_job(alloc, board, pass, hall, worker)?)?;
     }
     Ok(jobs)
 }
@@ -47,7 +71,8 @@ fn jobs<Y: System>(
 /// The ending of a worker that found the last element done, if there is one, or else that of another.
 fn best<Y: System>(board: &Board<Y>, endings: Vec<Ending<Y::Cell>>) -> Ending<Y::Cell>
     requires some { 0 < length endings.items }
-    requires each { AreEndings (Y.meaning board.now.subject.system) board.now.subject.wiring board.now.table endings.items }
+    requires each { AreEndings
+        (Y.meaning board.now.subject.system) board.now.subject.wiring board.now.table endings.items }
     ensures { IsEnding (Y.meaning board.now.subject.system) board.now.subject.wiring board.now.table result }
 {
     let mut rest = endings;
@@ -59,8 +84,8 @@ fn best<Y: System>(board: &Board<Y>, endings: Vec<Ending<Y::Cell>>) -> Ending<Y:
     unreachable!()
 }
 
-/// How a worker ended, of so many that began with this pass.
-fn ended<R: Threads + Wait + Sync, Y: System + Sync, G: Gate + Sync>(
+/// How a worker ended, of so many that began with a pass which is split from this one.
+fn ended<R: Threads + Wait + Sync, Y: System + Sync, G: Gate + Sync, B: Bound + Send + Sync>(
     rt: &R,
     alloc: Global,
     gate: &G,
@@ -69,15 +94,26 @@ fn ended<R: Threads + Wait + Sync, Y: System + Sync, G: Gate + Sync>(
     workers: u32,
 ) -> Result<Ending<Y::Cell>, AllocError>
     requires workers { 0 < workers }
-    requires pass { pass ≡ record { table = board.now.table; view = first_view } }
+    requires bound { B.elements ≡ board.now.subject.wiring.plan.elements }
+    requires of_board { pass.table ≡ board.now.table }
     ensures { IfOk result (IsEnding (Y.meaning board.now.subject.system) board.now.subject.wiring board.now.table) }
 {
     let mut first = pass;
-    let jobs = jobs(alloc, board, &mut first, workers)?;
-    let run = |job: Job<Y::Cell>| -> Ending<Y::Cell>
-        requires { (job.pass.table ≡ board.now.table) × HasJust job.pass.view None None None }
-        ensures { IsEnding (Y.meaning board.entry.now.subject.system) board.entry.now.subject.wiring board.entry.now.table result }
-    { work(rt, alloc, gate, job.worker, board, job.pass) };
+    let mut hall = Hall::<B>::new(alloc);
+    let jobs = jobs(alloc, board, &mut first, &mut hall, workers)?;
+    let hall = &hall;
+    let run = |job: Job<Y::Cell, B>| -> Ending<Y::Cell>
+        requires { (B.elements ≡ board.now.subject.wiring.plan.elements) × (job.pass.table ≡ board.now.table)
+            × HasJust job.pass.view None None None }
+        ensures { IsEnding (Y.meaning board.entry.now.subject.system)
+            board.entry.now.subject.wiring board.entry.now.table result }
+    {
+        let ending = work(
+            rt, alloc, gate, hall, job.worker, board, job.pass, job.hints,
+        );
+        hall.wake_all();
+        ending
+    };
     let endings = thread::map_vec(rt, jobs, &run)?;
     Ok(best(board, endings))
 }
@@ -95,8 +131,10 @@ fn failure(why: Why) -> Solve
 /// What the workers leave, by how one of them ended.
 fn answer<Y: System>(board: Board<Y>, ending: Ending<Y::Cell>) -> Result<Cells<Y::Cell>, Solve>
     requires { IsEnding (Y.meaning board.subject.system) board.subject.wiring board.table ending }
-    ensures ok { IfOk result (IsResultOf (Y.meaning board.entry.subject.system) board.entry.subject.wiring.plan board.entry.subject.wiring.limit) }
-    ensures err { IfErr result (IsExceeded (Y.meaning board.entry.subject.system) board.entry.subject.wiring.plan board.entry.subject.wiring.limit) }
+    ensures ok { IfOk result (IsResultOf (Y.meaning board.entry.subject.system)
+        board.entry.subject.wiring.plan board.entry.subject.wiring.limit) }
+    ensures err { IfErr result (IsExceeded (Y.meaning board.entry.subject.system)
+        board.entry.subject.wiring.plan board.entry.subject.wiring.limit) }
 {
     board.subject().wired();
     match ending {
@@ -124,6 +162,6 @@ pub fn run_workers<R: Threads + Wait + Sync, Y: System + Sync, G: Gate + Sync>(
     ensures err { IfErr result (IsExceeded (Y.meaning system.now) plan.now max_runs) }
 {
     let (board, pass) = Board::start(alloc, system, plan, max_runs)?;
-    let ending = ended(rt, alloc, gate, &board, pass, workers)?;
+    let ending = ended::<_, _, _, Brand>(rt, alloc, gate, &board, pass, workers)?;
     answer(board, ending)
 }

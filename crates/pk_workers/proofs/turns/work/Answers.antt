@@ -1,8 +1,7 @@
 use Rattle.std.proofs.Common.{◌≡◌, ℕ, ◌<◌, ◌≤◌, ◌∙◌, ap, arith}
 use Rattle.std.specs.Prelude.{None}
-use Rattle.pk_plan.specs.Plans.{end_of}
 use Rattle.pk_workers.specs.Working.{HasSame}
-use Rattle.pk_workers.proofs.Spending.{noted_same, same_again, just_same}
+use Rattle.pk_workers.proofs.Spending.{same_again, just_same}
 use Rattle.pk_workers.proofs.turns.work.Goals as goal
 
 least : (n : ℕ) → 0 ≤ n
@@ -19,15 +18,14 @@ next_hold-requires-clause-tokens g c κs within =
     let going = c.in_default.ensures.going in
     let old = c.loop.pass.view in
     let mid = c.stopped.new.pass.view in
-    let new = c.finished.new.pass.view in
+    let new = c.look_at_end.new.pass.view in
     let first : HasSame old mid = record { holds = ap (λ v. v.holds) going.view; sends = ap (λ v. v.sends) going.view; resets = ap (λ v. v.resets) going.view } in
-    let second = noted_same (end_of c.args.board.now.subject.wiring.plan) c.in_default-finished.field-0.word mid new c.in_default-finished.ensures.seen.view in
-    just_same old new c.loop.kept None None (same_again old mid new first second) c.loop.invariant.tokens
+    just_same old new c.loop.kept None None (same_again old mid new first c.look_at_end.ensures.tokens) c.loop.invariant.tokens
 
 pub loop-preserved-in_default-next_hold : goal.loop-preserved-in_default-next_hold
 loop-preserved-in_default-next_hold g c =
     record {
-      of_board = c.next_hold.ensures.of_board ∙ c.finished.ensures.of_board ∙ c.stopped.ensures.of_board ∙ c.loop.invariant.of_board;
+      of_board = c.next_hold.ensures.of_board ∙ c.look_at_end.ensures.of_board ∙ c.stopped.ensures.of_board ∙ c.loop.invariant.of_board;
       tokens = c.in_default-next_hold.ensures.tokens;
       runnable = tt;
       from = c.loop.invariant.from;
@@ -41,9 +39,9 @@ run_one-requires-clause-runnable g c κs within = c.in-Some-next_hold.ensures.ru
 
 pub loop-preserved : goal.loop-preserved
 loop-preserved g c =
-    let e = c.in-Ok-run_one.ensures in
+    let e = c.in-Ok.ensures in
     record {
-      of_board = e.of_board ∙ c.next_hold.ensures.of_board ∙ c.finished.ensures.of_board ∙ c.stopped.ensures.of_board ∙ c.loop.invariant.of_board;
+      of_board = e.of_board ∙ c.next_hold.ensures.of_board ∙ c.look_at_end.ensures.of_board ∙ c.stopped.ensures.of_board ∙ c.loop.invariant.of_board;
       tokens = e.tokens;
       runnable = e.runnable;
       from = within_plan c.element-from.result c.in-Some-next_hold.hold.element c.args.board.now.subject.wiring.plan.elements c.element-from.ensures c.in-Some-next_hold.ensures.runnable.element;

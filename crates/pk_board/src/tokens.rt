@@ -2,7 +2,7 @@
 
 ghost use Rattle.std.specs.Prelude.{◌≡◌};
 
-use crate::why::Why;
+use pk_words::Why;
 use std::marker::Model;
 
 /// The right to run an element.
@@ -13,7 +13,7 @@ pub struct Hold {
 }
 
 impl Model for Hold {
-    ghost use Rattle.pk_words.specs.Held.{HoldView};
+    ghost use Rattle.pk_board.specs.Held.{HoldView};
 
     ghost Value = { HoldView };
 
@@ -21,7 +21,7 @@ impl Model for Hold {
 }
 
 impl Hold {
-    pub fn new(element: u32, run: u64) -> Hold
+    pub(crate) fn new(element: u32, run: u64) -> Hold
         ensures { result ≡ record { element = element; run = run } }
     {
         Hold { element, run }
@@ -50,7 +50,7 @@ pub struct Sending {
 }
 
 impl Model for Sending {
-    ghost use Rattle.pk_words.specs.Held.{SendingView};
+    ghost use Rattle.pk_board.specs.Held.{SendingView};
 
     ghost Value = { SendingView };
 
@@ -58,7 +58,7 @@ impl Model for Sending {
 }
 
 impl Sending {
-    pub fn new(element: u32, sent: usize) -> Sending
+    pub(crate) fn new(element: u32, sent: usize) -> Sending
         ensures { result ≡ record { element = element; sent = sent } }
     {
         Sending { element, sent }
@@ -87,7 +87,7 @@ pub struct Resetting {
 }
 
 impl Model for Resetting {
-    ghost use Rattle.pk_words.specs.Held.{ResettingView};
+    ghost use Rattle.pk_board.specs.Held.{ResettingView};
 
     ghost Value = { ResettingView };
 
@@ -95,7 +95,7 @@ impl Model for Resetting {
 }
 
 impl Resetting {
-    pub fn new(exit: u32, left: usize) -> Resetting
+    pub(crate) fn new(exit: u32, left: usize) -> Resetting
         ensures { result ≡ record { exit = exit; left = left } }
     {
         Resetting { exit, left }
@@ -121,7 +121,7 @@ impl Resetting {
 pub struct Finished {}
 
 impl Finished {
-    pub fn new() -> Finished {
+    pub(crate) fn new() -> Finished {
         Finished {}
     }
 }
@@ -141,7 +141,7 @@ impl Model for Stopped {
 }
 
 impl Stopped {
-    pub fn new(why: Why) -> Stopped
+    pub(crate) fn new(why: Why) -> Stopped
         ensures { result ≡ why }
     {
         Stopped { why }
