@@ -5,6 +5,7 @@ mod ReadLemmas
 mod StartLemmas
 mod LayoutLemmas
 mod FlowLemmas
+mod NowhereLemmas
 pub mod OrderLemmas
 mod ReducedLemmas
 pub mod Shared

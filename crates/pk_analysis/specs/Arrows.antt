@@ -8,7 +8,8 @@ use Rattle.pk_analysis.specs.declared.arrows.Arrow.{Arrow}
 -- those to v of a list of edges that begin at u, the first of which is number j there
 abbrev pub arrows_along : (v u j : ℕ) → List EdgeOf → List Arrow
 arrows_along v u j [] = []
-arrows_along v u j (e ∷ es) = if e.to == v then record { from = u; edge = j } ∷ arrows_along v u (j + 1) es else arrows_along v u (j + 1) es
+arrows_along v u j (e ∷ es) =
+    if e.to == v then record { from = u; edge = j } ∷ arrows_along v u (j + 1) es else arrows_along v u (j + 1) es
 
 -- those of the points from u on
 abbrev pub arrows_from : (v u : ℕ) → List PointOf → List Arrow

@@ -14,7 +14,8 @@ flow_keeps a = record {
   next = next;
 }
   where
-    next : (e : ℕ) (phase : Phase) (h n : Stated) → IsOverFlow a e h → IsOverFlow a e n → IsOverFlow a e (next_value (equations_of a).ops phase h n)
+    next : (e : ℕ) (phase : Phase) (h n : Stated) → IsOverFlow a e h → IsOverFlow a e n →
+        IsOverFlow a e (next_value (equations_of a).ops phase h n)
     next e Up h n i j = refl
     next e (Down k) h n i j = refl
     next e Last h n i j = refl

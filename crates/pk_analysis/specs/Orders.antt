@@ -24,7 +24,8 @@ is_below (Some a) (Some b) = values_within a.values b.values && bounds_within a.
 
 abbrev pub same_known : Known → Known → Bool
 same_known a b =
-    int_eq a.range.lo b.range.lo && (int_eq a.range.hi b.range.hi && (int_eq a.class.m b.class.m && int_eq a.class.r b.class.r))
+    int_eq a.range.lo b.range.lo
+    && (int_eq a.range.hi b.range.hi && (int_eq a.class.m b.class.m && int_eq a.class.r b.class.r))
 
 abbrev pub same_values : List Known → List Known → Bool
 same_values [] [] = true

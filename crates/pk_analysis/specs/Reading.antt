@@ -24,7 +24,8 @@ pub record AreReads (rows : List (List Arrow)) (parts : List Part) (reads : List
   pub size : length reads ≡ length parts
   pub each : (e : ℕ) → e < length parts → row_at reads e ≡ read_by rows e (part_at parts e)
 
-pub record IsIndexed (g : GraphOf) (l : Layout) (thresholds : List ℤ) (parts : List Part) (rows : List (List Arrow)) (reads : List (List ℕ)) (start : Stated) : Type 0 where
+pub record IsIndexed (g : GraphOf) (l : Layout) (thresholds : List ℤ) (parts : List Part) (rows : List (List Arrow))
+    (reads : List (List ℕ)) (start : Stated) : Type 0 where
   pub over : IsOver (kinds_of g) l
   pub enough : length g.points ≤ length parts
   pub rising : IsSorted int_cmp thresholds

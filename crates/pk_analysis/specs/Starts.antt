@@ -14,7 +14,8 @@ joined_with k (z ∷ zs) = joined_with (joined k (exactly z)) zs
 -- the join of these numbers, and of 0 where there are fewer than the variable has
 abbrev pub known_of_numbers : (short : Bool) → List ℤ → Known
 known_of_numbers short [] = exactly (pos 0)
-known_of_numbers short (z ∷ zs) = if short then joined (joined_with (exactly z) zs) (exactly (pos 0)) else joined_with (exactly z) zs
+known_of_numbers short (z ∷ zs) =
+    if short then joined (joined_with (exactly z) zs) (exactly (pos 0)) else joined_with (exactly z) zs
 
 abbrev pub known_of_start : VariableOf → StartOf → Known
 known_of_start x any_start = any_of x.kind.int_type

@@ -116,9 +116,11 @@ impl<'g> System for Analysis<'g> {
 
     ghost first_held = { λ a e. (equations_hold (equations_of a) (IsOverFlow a) (flow_keeps a)).first e };
 
-    ghost apply_held = { λ a e cells h. (equations_hold (equations_of a) (IsOverFlow a) (flow_keeps a)).apply e cells h };
+    ghost apply_held = { λ a e cells h.
+        (equations_hold (equations_of a) (IsOverFlow a) (flow_keeps a)).apply e cells h };
 
-    ghost decide_held = { λ a x cells h. (equations_hold (equations_of a) (IsOverFlow a) (flow_keeps a)).decide x cells h };
+    ghost decide_held = { λ a x cells h.
+        (equations_hold (equations_of a) (IsOverFlow a) (flow_keeps a)).decide x cells h };
 
     fn reads(&self, e: u32) -> &[u32] {
         self.phased.reads(e)
@@ -169,8 +171,10 @@ pub fn reduced(
     cells: &Cells<Cell<State>>,
 ) -> Result<Vec<State>, AllocError>
     requires points { length (graph_view analysis.now.graph).points ≤ length cells.now.cells }
-    requires held { All (λ c. (value_of (stated analysis.now.layout None) c).layout ≡ analysis.now.layout) cells.now.cells }
-    ensures { IfOk result (λ list. list.items ≡ map (reduced_cell analysis.now) (take (length (graph_view analysis.now.graph).points) cells.now.cells)) }
+    requires held { All (λ c. (value_of (stated analysis.now.layout None) c).layout ≡ analysis.now.layout)
+        cells.now.cells }
+    ensures { IfOk result (λ list. list.items
+        ≡ map (reduced_cell analysis.now) (take (length (graph_view analysis.now.graph).points) cells.now.cells)) }
 {
     let graph = analysis.phased.equations.graph;
     graph.well_made();

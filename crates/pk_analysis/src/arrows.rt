@@ -18,7 +18,8 @@ pub struct Arrow {
 // Adds an edge to those that lead to a point.
 fn add(rows: &mut Vec<Vec<Arrow>>, to: usize, arrow: Arrow) -> Result<(), AllocError>
     requires { to < length rows.old.items }
-    ensures { OnOk result (rows_of rows.new.items ≡ slice_set (rows_of rows.old.items) to (row_at (rows_of rows.old.items) to ++ arrow ∷ [])) }
+    ensures { OnOk result (rows_of rows.new.items
+        ≡ slice_set (rows_of rows.old.items) to (row_at (rows_of rows.old.items) to ++ arrow ∷ [])) }
 {
     let row: &mut Vec<Arrow> = &mut rows[to];
     row.push(arrow)?;
@@ -29,7 +30,8 @@ fn add(rows: &mut Vec<Vec<Arrow>>, to: usize, arrow: Arrow) -> Result<(), AllocE
 #[tactic(auto, unfolding(pk_graph::specs::Graphs::edge_view))]
 fn add_edges(rows: &mut Vec<Vec<Arrow>>, from: u32, edges: &[Edge]) -> Result<(), AllocError>
     requires { All (λ (e : EdgeOf). e.to < length rows.old.items) (map edge_view edges.now) }
-    ensures { OnOk result (AreMore (λ v. arrows_along v from 0 (map edge_view edges.now)) (rows_of rows.old.items) (rows_of rows.new.items)) }
+    ensures { OnOk result (AreMore (λ v. arrows_along v from 0 (map edge_view edges.now))
+        (rows_of rows.old.items) (rows_of rows.new.items)) }
 {
     for edge in 0..edges.len() {
         add(rows, edges[edge].to, Arrow { from, edge })?;

@@ -1,9 +1,11 @@
 // The equations of a graph.
 
-ghost use Rattle.std.specs.Prelude.{◌≡◌, IfOk, None};
+ghost use Rattle.std.specs.Prelude.{◌≡◌, IfOk, MatchOption, None};
 ghost use Rattle.std.specs.Arc.{arc_value};
 ghost use Rattle.pk_graph.specs.Shown.{graph_view};
 ghost use Rattle.pk_phases.specs.Equations.{value_of};
+ghost use Rattle.pk_state.specs.Facts.{joined};
+ghost use Rattle.pk_state.specs.Layouts.{Layout};
 ghost use Rattle.pk_transfer.specs.Transfers.{transferred};
 ghost use Rattle.pk_analysis.specs.Arrows.{arrows_at, instr_of, IsArrow};
 ghost use Rattle.pk_analysis.specs.Flows.{stated, start_at};
@@ -43,16 +45,24 @@ impl<'g> Model for Flow<'g> {
 
     ghost coded = { Prim.hlevel (codes, made.the_row.coded) };
 
-    ghost view = { λ f. record { graph = f.graph.now; layout = arc_value f.frame; thresholds = f.thresholds.items; parts = f.parts.items; narrow = f.narrow } };
+    ghost view = { λ f. record {
+      graph = f.graph.now;
+      layout = arc_value f.frame;
+      thresholds = f.thresholds.items;
+      parts = f.parts.items;
+      narrow = f.narrow;
+    } };
 
-    ghost invariant = { λ f. IsIndexed (graph_view f.graph.now) (arc_value f.frame) f.thresholds.items f.parts.items (rows_of f.arrows.items) (rows_of f.reads.items) f.start };
+    ghost invariant = { λ f. IsIndexed (graph_view f.graph.now) (arc_value f.frame) f.thresholds.items f.parts.items
+        (rows_of f.arrows.items) (rows_of f.reads.items) f.start };
 }
 
 // What is known after an edge, of what is known before it.
 fn passed(alloc: Global, flow: &Flow, arrow: Arrow, state: &State) -> Result<State, AllocError>
     requires arrow { IsArrow (graph_view flow.now.graph) arrow }
     requires layout { state.now.layout ≡ flow.now.layout }
-    ensures { IfOk result (λ s. s ≡ stated flow.now.layout (transferred flow.now.layout state.now.facts (instr_of (graph_view flow.now.graph) arrow))) }
+    ensures { IfOk result (λ s. s ≡ stated flow.now.layout
+        (transferred flow.now.layout state.now.facts (instr_of (graph_view flow.now.graph) arrow))) }
 {
     graphs_law();
     flow.graph.well_made();
@@ -61,17 +71,48 @@ fn passed(alloc: Global, flow: &Flow, arrow: Arrow, state: &State) -> Result<Sta
     Ok(passed)
 }
 
-// The same of a cell: nothing where it has no state.
-fn after(alloc: Global, flow: &Flow, arrow: Arrow, cell: &Cell<State>) -> Result<State, AllocError>
-    requires arrow { IsArrow (graph_view flow.now.graph) arrow }
-    requires held { (value_of (stated flow.now.layout None) cell.now).layout ≡ flow.now.layout }
-    ensures { IfOk result (λ s. s ≡ stated flow.now.layout (transferred flow.now.layout (value_of (stated flow.now.layout None) cell.now).facts (instr_of (graph_view flow.now.graph) arrow))) }
+// The state of a cell, if some run comes there.
+fn reached<'c>(cell: &'c Cell<State>) -> Option<&'c State>
+    ensures { (l : Layout) → MatchOption result ((value_of (stated l None) cell.now).facts ≡ None)
+        (λ s. s.now ≡ value_of (stated l None) cell.now) }
 {
     match cell {
-        Cell::Value(state) => passed(alloc, flow, arrow, state),
-        Cell::Exit(_) => {
-            let state = State::bottom(Arc::try_clone(&flow.frame)?);
-            passed(alloc, flow, arrow, &state)
+        Cell::Value(state) => { if state.is_bottom() { None } else { Some(state) } }
+        Cell::Exit(_) => None,
+    }
+}
+
+// What is known where either is: the other where no run comes to the one.
+fn joined_with(alloc: Global, state: State, next: State) -> Result<State, AllocError>
+    requires { next.layout ≡ state.layout }
+    ensures { IfOk result (λ s. s ≡ stated state.layout (joined state.facts next.facts)) }
+{
+    if state.is_bottom() {
+        Ok(next)
+    } else {
+        state.join(alloc, &next)
+    }
+}
+
+// What is known where also an edge leads to that begins at a cell's point: the same where no run comes there.
+fn arrive(
+    alloc: Global,
+    flow: &Flow,
+    arrow: Arrow,
+    cell: &Cell<State>,
+    state: State,
+) -> Result<State, AllocError>
+    requires arrow { IsArrow (graph_view flow.now.graph) arrow }
+    requires held { (value_of (stated flow.now.layout None) cell.now).layout ≡ flow.now.layout }
+    requires layout { state.layout ≡ flow.now.layout }
+    ensures { IfOk result (λ s. s ≡ stated flow.now.layout (joined state.facts (transferred flow.now.layout
+        (value_of (stated flow.now.layout None) cell.now).facts (instr_of (graph_view flow.now.graph) arrow)))) }
+{
+    match reached(cell) {
+        None => Ok(state),
+        Some(before) => {
+            let next = passed(alloc, flow, arrow, before)?;
+            joined_with(alloc, state, next)
         }
     }
 }
@@ -142,8 +183,7 @@ impl<'g> Equate for Flow<'g> {
         let mut state = begun(alloc, self, e)?;
         let row = row(self, e);
         for i in 0..row.len() {
-            let next = after(alloc, self, row[i], &cells[i])?;
-            state = state.join(alloc, &next)?;
+            state = arrive(alloc, self, row[i], &cells[i], state)?;
         }
         Ok(state)
     }

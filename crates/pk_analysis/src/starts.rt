@@ -126,7 +126,8 @@ fn known(variable: &Variable) -> Value
 /// What is known when a run begins.
 pub fn start(alloc: Global, graph: &Graph, frame: &Arc<Frame>) -> Result<State, AllocError>
     requires { (oct : ℕ) × (arc_value frame.now ≡ layout_of (graph_view graph.now) oct) }
-    ensures { IfOk result (λ s. s ≡ stated (arc_value frame.now) (Some (start_facts (graph_view graph.now) (arc_value frame.now)))) }
+    ensures { IfOk result
+        (λ s. s ≡ stated (arc_value frame.now) (Some (start_facts (graph_view graph.now) (arc_value frame.now)))) }
 {
     graph.well_made();
     let mut state = State::top(alloc, Arc::try_clone(frame)?)?;

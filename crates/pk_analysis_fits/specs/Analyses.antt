@@ -29,15 +29,20 @@ abbrev pub behaviour_in : Flow → Behaviour (Cell Stated)
 behaviour_in a = behaviour_of (equations_of a)
 
 abbrev pub AnalysesFit : Type 0
-AnalysesFit = (g : GraphOf) (o : Options) (p : PlanView) (order : Level) (a : Flow) → IsAnalysisOf g p o a → IsOrdered (digraph_of g) p order → FitsPlan (behaviour_in a) p
+AnalysesFit =
+    (g : GraphOf) (o : Options) (p : PlanView) (order : Level) (a : Flow) → IsAnalysisOf g p o a →
+    IsOrdered (digraph_of g) p order → FitsPlan (behaviour_in a) p
 
 -- the state keeps to a recursion that ends, and once END is done it has the analysis's result
-pub record KeepsToAnalysis (p : PlanView) (order : Level) (a : Flow) (it : Outcome (Cell Stated)) (s : State (Cell Stated)) : Type 0 where
+pub record KeepsToAnalysis (p : PlanView) (order : Level) (a : Flow) (it : Outcome (Cell Stated))
+    (s : State (Cell Stated)) : Type 0 where
   pub ends : Ends (behaviour_in a) order
   pub keeps : KeepsTo (behaviour_in a) p ends s
   pub result : (s (end_of p)).status ≡ Done → IsAsIterated (behaviour_in a) p s it
 
 abbrev pub AnalysesKeep : Type 0
 AnalysesKeep =
-    (g : GraphOf) (o : Options) (p : PlanView) (order : Level) (a : Flow) (most : ℕ) (it : Outcome (Cell Stated)) (events : List Event) → IsAnalysed g o p order a most it
-    → AllEnabled (behaviour_in a) (shape_of p) (start (shape_of p)) events → KeepsToAnalysis p order a it (played (behaviour_in a) (shape_of p) (start (shape_of p)) events)
+    (g : GraphOf) (o : Options) (p : PlanView) (order : Level) (a : Flow) (most : ℕ) (it : Outcome (Cell Stated))
+    (events : List Event) → IsAnalysed g o p order a most it
+    → AllEnabled (behaviour_in a) (shape_of p) (start (shape_of p)) events →
+    KeepsToAnalysis p order a it (played (behaviour_in a) (shape_of p) (start (shape_of p)) events)

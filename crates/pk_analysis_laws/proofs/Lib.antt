@@ -1,2 +1,3 @@
+pub mod Sorting
 mod Ranks
 mod Turns

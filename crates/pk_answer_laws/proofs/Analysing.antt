@@ -36,7 +36,9 @@ use Rattle.pk_analysis.specs.Flows.{Flow, equations_of, reduced_cell}
 use Rattle.pk_analysis.specs.Made.{IsAnalysisOf}
 use Rattle.pk_analysis.specs.Parts.{part_in, AreParts}
 use Rattle.pk_report.specs.Reports.{report_text, summary_text, unknown_in}
-use Rattle.pk_graph_report.specs.Reported.{AreStates, IsOver, verdicts_of}
+use Rattle.pk_analysis_laws.specs.Systems.{IsOver}
+use Rattle.pk_solver.specs.Solved.{AreStates}
+use Rattle.pk_graph_report.specs.Reported.{verdicts_of}
 use Rattle.pk_answer_laws.specs.Analyses.{HasRoom, EveryGraphIsReported, EveryGraphIsSummed, EveryGraphIsOrdered}
 use Rattle.pk_answer_laws.proofs.Stops.{thresholds_of, are_thresholds}
 

@@ -10,9 +10,9 @@ use Rattle.pk_order_laws.specs.Digraphs.{EveryDigraphHasAnOrder}
 use Rattle.pk_phases.specs.Turns.{turn_bound}
 use Rattle.pk_analysis.specs.declared.analysis.Options.{Options}
 use Rattle.pk_analysis.specs.Digraphs.{digraph_of}
-use Rattle.pk_graph_report.specs.Reported.{IsOver}
+use Rattle.pk_analysis_laws.specs.Systems.{IsOver}
 use Rattle.pk_analysis_laws.specs.Turns.Counted.{LimitsAreLow, depth_of}
-use Rattle.pk_text_report.specs.Answers.{GraphsAreWellMade}
+use Rattle.pk_text_graph.specs.Graphs.{GraphsAreWellMade}
 use Rattle.pk_answer_laws.specs.Analyses.{EveryGraphIsReported, EveryGraphIsSummed}
 use Rattle.pk_answer_laws.specs.Limits.{IsEnough, EnoughIsReported, EnoughIsSummed, EveryGraphHasLimits, CutOffsAreLow}
 use Rattle.pk_answer_laws.proofs.Stops.{thresholds_of, are_thresholds}

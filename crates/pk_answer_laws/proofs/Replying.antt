@@ -8,14 +8,18 @@ use Rattle.pk_command.specs.declared.asked.RunOptions.{RunOptions}
 use Rattle.pk_command.specs.declared.asked.GenOptions.{GenOptions}
 use Rattle.pk_command.specs.CommandLine.{is_taken}
 use Rattle.pk_command.specs.Laws.{TakenAsks}
-use Rattle.pk_front.specs.declared.status.Status.{Status}
-use Rattle.pk_front.specs.declared.status.Status.TheVariants as status
+use Rattle.pk_front.specs.declared.failures.TextError.{TextError}
+use Rattle.pk_front.specs.declared.failures.TextError.TheVariants as errors
 use Rattle.pk_front.specs.Texts.{IsLeft}
 use Rattle.pk_front.specs.Laws.{HasEnd, analysed, is_left}
 use Rattle.pk_text_laws.specs.Total.Ends.{EveryTextEnds}
 use Rattle.pk_lower.specs.Parts.{point_count}
 use Rattle.pk_graph.specs.Graphs.{GraphOf}
-use Rattle.pk_text_report.specs.Answers.{HasGraph, GraphsAreWellMade, IsShort, IsLong, entry_of, graph_of, text_limit, point_limit, options_of, default_options, default_runs}
+use Rattle.pk_lower.specs.Answers.{point_limit}
+use Rattle.pk_lower.specs.Graphs.{graph_of}
+use Rattle.pk_text_graph.specs.Graphs.{GraphsAreWellMade, HasGraph}
+use Rattle.pk_text_report.specs.declared.status.Status.TheVariants as status
+use Rattle.pk_text_report.specs.Answers.{IsShort, IsLong, entry_of, text_limit, options_of, default_options, default_runs}
 use Rattle.pk_answer_laws.specs.Analyses.{EveryGraphIsReported, EveryGraphIsSummed, EveryGraphIsOrdered}
 use Rattle.pk_answer_laws.specs.Answers.{GraphsHaveRoom, HasReply, OrdersAreAnswered, CommandsAreAnswered, WordsAreAnswered, WordsForOrdersAreAnswered}
 
@@ -24,15 +28,10 @@ short_or_long (Run o) text = elim (cases_lt text_limit (length text)) [ inl long
 short_or_long (Order o) text = elim (cases_lt text_limit (length text)) [ inl long ↦ inr long | inr short ↦ inl short ]
 short_or_long (Gen o) text = inl tt
 
-left : (command : Command) (text : List ℕ) (s : Status) → IsShort text command → s ≢ status.Memory → IsLeft text (entry_of command) s → HasReply command text
-left command text (status.Ok unknown) short other h = absurd h
-left command text status.Usage short other h = absurd h
-left command text (status.Refused refusal) short other h = record { status = status.Refused refusal; bytes = []; reply = (short, h, refl) }
-left command text (status.Limit what number) short other h = record { status = status.Limit what number; bytes = []; reply = (inr (short, inl h), refl) }
-left command text (status.RunLimit max_runs) short other h = absurd h
-left command text status.ReadFault short other h = absurd h
-left command text (status.WriteFault sent) short other h = absurd h
-left command text status.Memory short other h = absurd (other refl)
+left : (command : Command) (text : List ℕ) (e : TextError) → IsShort text command → e ≢ errors.Memory → IsLeft text (entry_of command) e → HasReply command text
+left command text (errors.Refused refusal) short other h = record { status = status.Refused refusal; bytes = []; reply = (short, h, refl) }
+left command text (errors.Limit what number) short other h = record { status = status.Limit what number; bytes = []; reply = (inr (short, inl h), refl) }
+left command text errors.Memory short other h = absurd (other refl)
 
 -- what is replied of the text's graph
 abbrev OfGraph : Command → List ℕ → Type 0
@@ -43,7 +42,7 @@ ended command text short told (analysed {u = u} {paths = paths} called) = elim (
   | inl many ↦ record { status = status.Limit Points point_limit; bytes = []; reply = (inr (short, inr (record { unit = u; paths = paths; called = called; many = many }, refl)), refl) }
   | inr few ↦ told short (graph_of u paths) (record { unit = u; paths = paths; called = called; few = few; graph = refl })
 ]
-ended command text short told (is_left {s = s} other h) = left command text s short other h
+ended command text short told (is_left {s = e} other h) = left command text e short other h
 
 replied : EveryTextEnds → (command : Command) (text : List ℕ) → OfGraph command text → HasReply command text
 replied ends command text told = elim (short_or_long command text) [

@@ -5,7 +5,8 @@ use Rattle.pk_graph.specs.Graphs.{GraphOf}
 use Rattle.pk_graph.specs.Shown.{graph_view}
 use Rattle.pk_graph.specs.WellMade.{IsGraph}
 use Rattle.pk_analysis.specs.declared.analysis.Options.{Options}
-use Rattle.pk_graph_report.specs.Reported.{IsReport, IsSummary, IsOrderText, IsOver}
+use Rattle.pk_analysis_laws.specs.Systems.{IsOver}
+use Rattle.pk_graph_report.specs.Reported.{IsReport, IsSummary, IsOrderText}
 
 -- memory has room for the graph: a value of the code shows it
 pub record HasRoom (g : GraphOf) : Type 0 where
@@ -15,12 +16,14 @@ pub record HasRoom (g : GraphOf) : Type 0 where
 -- the report on a graph, or an element that would be run too often
 abbrev pub EveryGraphIsReported : Type 0
 EveryGraphIsReported =
-    (g : GraphOf) (o : Options) (most : ℕ) (all : Bool) → IsGraph g → HasRoom g → ((unknown : ℕ) × (bytes : List ℕ) × IsReport g o most all unknown bytes) ⊎ IsOver g o most
+    (g : GraphOf) (o : Options) (most : ℕ) (all : Bool) → IsGraph g → HasRoom g →
+    ((unknown : ℕ) × (bytes : List ℕ) × IsReport g o most all unknown bytes) ⊎ IsOver g o most
 
 -- so of the summary
 abbrev pub EveryGraphIsSummed : Type 0
 EveryGraphIsSummed =
-    (g : GraphOf) (o : Options) (most seed size text_length : ℕ) → IsGraph g → HasRoom g → ((unknown : ℕ) × (bytes : List ℕ) × IsSummary g o most seed size text_length unknown bytes) ⊎ IsOver g o most
+    (g : GraphOf) (o : Options) (most seed size text_length : ℕ) → IsGraph g → HasRoom g →
+    ((unknown : ℕ) × (bytes : List ℕ) × IsSummary g o most seed size text_length unknown bytes) ⊎ IsOver g o most
 
 -- every graph has an order
 abbrev pub EveryGraphIsOrdered : Type 0

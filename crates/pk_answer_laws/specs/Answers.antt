@@ -4,9 +4,10 @@ use Rattle.pk_command.specs.declared.asked.Command.{Command}
 use Rattle.pk_command.specs.declared.asked.Command.TheVariants.{Order}
 use Rattle.pk_command.specs.declared.asked.OrderOptions.{OrderOptions}
 use Rattle.pk_command.specs.Given.{AsksFor}
-use Rattle.pk_front.specs.declared.status.Status.{Status}
 use Rattle.pk_graph.specs.Graphs.{GraphOf}
-use Rattle.pk_text_report.specs.Answers.{HasGraph, IsReply, IsAnswer}
+use Rattle.pk_text_graph.specs.Graphs.{HasGraph}
+use Rattle.pk_text_report.specs.declared.status.Status.{Status}
+use Rattle.pk_text_report.specs.Answers.{IsReply, IsAnswer}
 use Rattle.pk_answer_laws.specs.Analyses.{HasRoom}
 use Rattle.pk_answer_laws.specs.Rooms.{IsShortGraph}
 
@@ -39,7 +40,8 @@ WordsAreAnswered = (words : List (List ℕ)) (text : List ℕ) → GraphsHaveRoo
 
 -- words that ask for an order, whatever the text
 abbrev pub WordsForOrdersAreAnswered : Type 0
-WordsForOrdersAreAnswered = (words : List (List ℕ)) (text : List ℕ) (o : OrderOptions) → AsksFor words (Order o) → HasAnswer words text
+WordsForOrdersAreAnswered =
+    (words : List (List ℕ)) (text : List ℕ) (o : OrderOptions) → AsksFor words (Order o) → HasAnswer words text
 
 -- no graph of the text has a list as long as 2^63
 abbrev pub GraphsAreShort : List ℕ → Type 0

@@ -18,22 +18,28 @@ use Rattle.pk_answer_laws.specs.Analyses.{HasRoom}
 pub record IsEnough (g : GraphOf) (o : Options) (most : ℕ) : Type 0 where
   pub chain : ℕ
   pub bound : IsChainBound g o.oct chain
-  pub deep : (p : PlanView) (order : Level) → IsOrdered (digraph_of g) p order → turn_bound chain o.narrow ^ depth_of order ≤ most
+  pub deep : (p : PlanView) (order : Level) → IsOrdered (digraph_of g) p order →
+      turn_bound chain o.narrow ^ depth_of order ≤ most
 
 -- under such a limit there is a report
 abbrev pub EnoughIsReported : Type 0
 EnoughIsReported =
-    (g : GraphOf) (o : Options) (most : ℕ) (all : Bool) → IsGraph g → HasRoom g → o.oct < 2 ^ 31 → IsEnough g o most → (unknown : ℕ) × (bytes : List ℕ) × IsReport g o most all unknown bytes
+    (g : GraphOf) (o : Options) (most : ℕ) (all : Bool) → IsGraph g → HasRoom g → o.oct < 2 ^ 31 → IsEnough g o most →
+    (unknown : ℕ) × (bytes : List ℕ) × IsReport g o most all unknown bytes
 
 -- and a summary
 abbrev pub EnoughIsSummed : Type 0
 EnoughIsSummed =
-    (g : GraphOf) (o : Options) (most seed size text_length : ℕ) → IsGraph g → HasRoom g → o.oct < 2 ^ 31 → IsEnough g o most → (unknown : ℕ) × (bytes : List ℕ) × IsSummary g o most seed size text_length unknown bytes
+    (g : GraphOf) (o : Options) (most seed size text_length : ℕ) → IsGraph g → HasRoom g → o.oct < 2 ^ 31 →
+    IsEnough g o most → (unknown : ℕ) × (bytes : List ℕ) × IsSummary g o most seed size text_length unknown bytes
 
 -- there is such a limit, and each greater one is enough too
 abbrev pub EveryGraphHasLimits : Type 0
-EveryGraphHasLimits = (g : GraphOf) (o : Options) → IsGraph g → (least : ℕ) × ((most : ℕ) → least ≤ most → IsEnough g o most)
+EveryGraphHasLimits =
+    (g : GraphOf) (o : Options) → IsGraph g → (least : ℕ) × ((most : ℕ) → least ≤ most → IsEnough g o most)
 
 -- the run limit is told of a text only where it isn't enough for the text's graph
 abbrev pub CutOffsAreLow : Type 0
-CutOffsAreLow = (text entry : List ℕ) (o : Options) (most : ℕ) → o.oct < 2 ^ 31 → (cut : IsTooLong text entry o most) → IsEnough cut.graph o most → ⊥
+CutOffsAreLow =
+    (text entry : List ℕ) (o : Options) (most : ℕ) → o.oct < 2 ^ 31 → (cut : IsTooLong text entry o most) →
+    IsEnough cut.graph o most → ⊥

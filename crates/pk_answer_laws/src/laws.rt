@@ -9,8 +9,8 @@ use pk_analysis_laws::limits_are_low;
 use pk_command::taken_asks;
 use pk_order::order_is_determined;
 use pk_order_laws::every_digraph_has_an_order;
+use pk_text_graph::graphs_are_well_made;
 use pk_text_laws::every_text_ends;
-use pk_text_report::graphs_are_well_made;
 
 /// Memory has room for every graph with no list as long as 2^63.
 pub fn short_graphs_have_room()

@@ -10,8 +10,8 @@ use Rattle.pk_calls.specs.declared.listings.CallPath.{CallPath}
 use Rattle.pk_calls.specs.declared.failures.CallError.{CallError}
 use Rattle.pk_calls.specs.declared.failures.CallError.TheVariants as call_error
 use Rattle.pk_calls.specs.Answers as calls
-use Rattle.pk_front.specs.declared.status.Status.TheVariants.{Refused, Limit}
-use Rattle.pk_front.specs.declared.status.Refusal.TheVariants.{Typing, NoEntry, Recursion, UndefinedCall}
+use Rattle.pk_front.specs.declared.failures.TextError.TheVariants.{Refused, Limit}
+use Rattle.pk_front.specs.declared.failures.Refusal.TheVariants.{Typing, NoEntry, Recursion, UndefinedCall}
 use Rattle.pk_front.specs.Texts.{HasTrees, HasUnit, failure_in}
 use Rattle.pk_front.specs.Laws.{HasEnd, analysed, is_left, TreesLeadOn}
 use Rattle.pk_front.proofs.WalkLemmas.{has_answer}

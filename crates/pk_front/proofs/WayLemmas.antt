@@ -21,9 +21,9 @@ use Rattle.pk_calls.specs.declared.failures.CallError.{CallError}
 use Rattle.pk_calls.specs.declared.failures.CallError.TheVariants as call_error
 use Rattle.pk_calls.specs.Answers as calls
 use Rattle.pk_calls.proofs.Determined.{answer_determined}
-use Rattle.pk_front.specs.declared.status.Status.{Status}
-use Rattle.pk_front.specs.declared.status.Status.TheVariants.{Ok as Success, Usage, Refused, Limit, RunLimit, ReadFault, WriteFault, Memory}
-use Rattle.pk_front.specs.declared.status.Refusal.TheVariants.{Lexical, Unsupported, Syntax, Typing, NoEntry, Recursion, UndefinedCall}
+use Rattle.pk_front.specs.declared.failures.TextError.{TextError}
+use Rattle.pk_front.specs.declared.failures.TextError.TheVariants.{Refused, Limit, Memory}
+use Rattle.pk_front.specs.declared.failures.Refusal.TheVariants.{Lexical, Unsupported, Syntax, Typing, NoEntry, Recursion, UndefinedCall}
 use Rattle.pk_front.specs.Texts.{FailsAsTokens, FailsAsTrees, FailsAsUnit, HasPaths, HasTrees, HasUnit, IsLeft, failure, failure_in}
 
 -- ---- why a text is left, by its stage
@@ -34,18 +34,18 @@ data Reason : Type 0 where
   typed : Rule → Pos → Reason
   called : CallError → Reason
 
-abbrev status_of : Reason → Status
-status_of (lexical kind at) = Refused (Lexical kind at)
-status_of (grammatical (parse_error.Unsupported construct at)) = Refused (Unsupported construct at)
-status_of (grammatical (parse_error.Syntax at)) = Refused (Syntax at)
-status_of (grammatical (parse_error.Nesting at)) = Limit quantity.Nesting 128
-status_of (grammatical parse_error.Memory) = Memory
-status_of (typed rule at) = Refused (Typing rule at)
-status_of (called (call_error.NoEntry name)) = Refused (NoEntry name)
-status_of (called (call_error.Recursion cycle)) = Refused (Recursion cycle)
-status_of (called (call_error.UndefinedCall name at)) = Refused (UndefinedCall name at)
-status_of (called (call_error.Limit what n)) = Limit what n
-status_of (called call_error.Memory) = Memory
+abbrev error_of : Reason → TextError
+error_of (lexical kind at) = Refused (Lexical kind at)
+error_of (grammatical (parse_error.Unsupported construct at)) = Refused (Unsupported construct at)
+error_of (grammatical (parse_error.Syntax at)) = Refused (Syntax at)
+error_of (grammatical (parse_error.Nesting at)) = Limit quantity.Nesting 128
+error_of (grammatical parse_error.Memory) = Memory
+error_of (typed rule at) = Refused (Typing rule at)
+error_of (called (call_error.NoEntry name)) = Refused (NoEntry name)
+error_of (called (call_error.Recursion cycle)) = Refused (Recursion cycle)
+error_of (called (call_error.UndefinedCall name at)) = Refused (UndefinedCall name at)
+error_of (called (call_error.Limit what n)) = Limit what n
+error_of (called call_error.Memory) = Memory
 
 abbrev Holds : List ℕ → List ℕ → Reason → Type 0
 Holds text entry (lexical kind at) = FailsAt text kind at
@@ -53,14 +53,12 @@ Holds text entry (grammatical why) = FailsAsTokens text why
 Holds text entry (typed rule at) = FailsAsTrees text rule at
 Holds text entry (called why) = (why ≢ call_error.Memory) × FailsAsUnit text entry why
 
-record Comes (text entry : List ℕ) (s : Status) : Type 0 where
+record Comes (text entry : List ℕ) (s : TextError) : Type 0 where
   reason : Reason
-  is : s ≡ status_of reason
+  is : s ≡ error_of reason
   holds : Holds text entry reason
 
-comes : (text entry : List ℕ) (s : Status) → s ≢ Memory → IsLeft text entry s → Comes text entry s
-comes text entry (Success unknown) some left = absurd left
-comes text entry Usage some left = absurd left
+comes : (text entry : List ℕ) (s : TextError) → s ≢ Memory → IsLeft text entry s → Comes text entry s
 comes text entry (Refused (Lexical kind at)) some left = record { reason = lexical kind at; is = refl; holds = left }
 comes text entry (Refused (Unsupported construct at)) some left = record { reason = grammatical (parse_error.Unsupported construct at); is = refl; holds = left }
 comes text entry (Refused (Syntax at)) some left = record { reason = grammatical (parse_error.Syntax at); is = refl; holds = left }
@@ -73,9 +71,6 @@ comes text entry (Limit quantity.Nesting n) some left = record { reason = gramma
 comes text entry (Limit quantity.Paths n) some left = record { reason = called (call_error.Limit quantity.Paths n); is = refl; holds = (λ e. cc, left) }
 comes text entry (Limit quantity.Variables n) some left = record { reason = called (call_error.Limit quantity.Variables n); is = refl; holds = (λ e. cc, left) }
 comes text entry (Limit quantity.Points n) some left = absurd left
-comes text entry (RunLimit max_runs) some left = absurd left
-comes text entry ReadFault some left = absurd left
-comes text entry (WriteFault sent) some left = absurd left
 comes text entry Memory some left = absurd (some refl)
 
 -- ---- one answer of each stage
@@ -181,13 +176,13 @@ module _ (law : trees.AnswerIsDetermined) where
   no_reason text entry u ps (typed rule at) has a = no_unit text rule at u a has.typed
   no_reason text entry u ps (called w) has a = no_paths text entry w u ps a has
 
-  pub one_left : (text entry : List ℕ) (s t : Status) → s ≢ Memory → t ≢ Memory → IsLeft text entry s → IsLeft text entry t → s ≡ t
+  pub one_left : (text entry : List ℕ) (s t : TextError) → s ≢ Memory → t ≢ Memory → IsLeft text entry s → IsLeft text entry t → s ≡ t
   one_left text entry s t some other a b =
       let x = comes text entry s some a in
       let y = comes text entry t other b in
-      x.is ∙ ap status_of (one_reason text entry x.reason y.reason x.holds y.holds) ∙ sym y.is
+      x.is ∙ ap error_of (one_reason text entry x.reason y.reason x.holds y.holds) ∙ sym y.is
 
-  pub apart : (text entry : List ℕ) (u : UnitTree) (ps : List CallPath) (s : Status) → s ≢ Memory → HasPaths text entry u ps → IsLeft text entry s → ⊥
+  pub apart : (text entry : List ℕ) (u : UnitTree) (ps : List CallPath) (s : TextError) → s ≢ Memory → HasPaths text entry u ps → IsLeft text entry s → ⊥
   apart text entry u ps s some has a =
       let x = comes text entry s some a in
       no_reason text entry u ps x.reason has x.holds

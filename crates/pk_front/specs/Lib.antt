@@ -1,3 +1,3 @@
-pub mod Statuses
+pub mod Refusals
 pub mod Texts
 pub mod Laws

@@ -20,10 +20,10 @@ use Rattle.pk_calls.specs.declared.listings.CallPath.{CallPath}
 use Rattle.pk_calls.specs.declared.failures.CallError.{CallError}
 use Rattle.pk_calls.specs.declared.failures.CallError.TheVariants as calling
 use Rattle.pk_calls.specs.Answers as calls
-use Rattle.pk_front.specs.declared.status.Status.{Status}
-use Rattle.pk_front.specs.declared.status.Status.TheVariants.{Ok as Success, Usage, Refused, Limit, RunLimit, ReadFault, WriteFault, Memory}
-use Rattle.pk_front.specs.declared.status.Refusal.{Refusal}
-use Rattle.pk_front.specs.declared.status.Refusal.TheVariants.{Lexical, Unsupported, Syntax, Typing, NoEntry, Recursion, UndefinedCall}
+use Rattle.pk_front.specs.declared.failures.TextError.{TextError}
+use Rattle.pk_front.specs.declared.failures.TextError.TheVariants.{Refused, Limit, Memory}
+use Rattle.pk_front.specs.declared.failures.Refusal.{Refusal}
+use Rattle.pk_front.specs.declared.failures.Refusal.TheVariants.{Lexical, Unsupported, Syntax, Typing, NoEntry, Recursion, UndefinedCall}
 
 -- the failure of a typing rule that is told of the trees of a text, if there is one
 abbrev pub failure_in : List ℕ → List ExternalTree → Option Failure
@@ -90,12 +90,7 @@ PassesLimit text entry quantity.Variables n = FailsAsUnit text entry (calling.Li
 PassesLimit text entry quantity.Points n = ⊥
 
 -- a text is left before its call paths are known only so, or for want of memory
-abbrev pub IsLeft : (text entry : List ℕ) → Status → Type 0
-IsLeft text entry (Success unknown) = ⊥
-IsLeft text entry Usage = ⊥
+abbrev pub IsLeft : (text entry : List ℕ) → TextError → Type 0
 IsLeft text entry (Refused refusal) = IsRefusedFor text entry refusal
 IsLeft text entry (Limit what number) = PassesLimit text entry what number
-IsLeft text entry (RunLimit max_runs) = ⊥
-IsLeft text entry ReadFault = ⊥
-IsLeft text entry (WriteFault sent) = ⊥
 IsLeft text entry Memory = Unit {0}

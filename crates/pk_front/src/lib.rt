@@ -1,10 +1,10 @@
-//! The way of a text to its typed tree and call paths, and how a command ends.
+//! The way of a text to its typed tree and call paths, or why it is not analysed.
 #![tactic(auto)]
 
+mod failures;
 mod laws;
-mod status;
 mod texts;
 
+pub use failures::{Refusal, TextError};
 pub use laws::{trees_lead_on, way_is_determined};
-pub use status::{Refusal, Status};
 pub use texts::front;

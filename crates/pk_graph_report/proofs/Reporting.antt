@@ -8,7 +8,8 @@ use Rattle.pk_plan.specs.Plans.{PlanView}
 use Rattle.pk_order.specs.Ordered.{heads_of}
 use Rattle.pk_analysis.specs.declared.analysis.Options.{Options}
 use Rattle.pk_report.specs.Reports.{report_text, summary_text, unknown_in}
-use Rattle.pk_graph_report.specs.Reported.{AreStates, IsReport, IsSummary, verdicts_of}
+use Rattle.pk_solver.specs.Solved.{AreStates}
+use Rattle.pk_graph_report.specs.Reported.{IsReport, IsSummary, verdicts_of}
 
 pub report_so : (g : GraphOf) (o : Options) (most : ℕ) (all : Bool) (p : PlanView) (states shown : List Stated) (unknown : ℕ) (bytes : List ℕ) → AreStates g o most p states → shown ≡ states
     → bytes ≡ report_text all g (heads_of p) p.elements shown (accesses_of g) (verdicts_of g shown) → unknown ≡ unknown_in (verdicts_of g shown) → IsReport g o most all unknown bytes

@@ -17,7 +17,7 @@ use Rattle.pk_order.specs.Ordered.{heads_of}
 use Rattle.pk_analysis.specs.declared.analysis.Options.{Options}
 use Rattle.pk_report.specs.Reports.{no_state, report_text, summary_text, unknown_in}
 use Rattle.pk_graph_report.specs.Reported.{verdicts_of}
-use Rattle.pk_graph_report.specs.Made.{AreOver}
+use Rattle.pk_solver.specs.Solved.{AreOver}
 
 pub layouts_so : (g : GraphOf) (o : Options) (states shown : List Stated) → shown ≡ states → AreOver g o states → All (λ (s : Stated). length s.layout.types ≡ length g.variables) shown
 layouts_so g o states shown is over =

@@ -1,7 +1,6 @@
 -- Verdicts access by access.
 use Rattle.std.specs.Prelude.{◌≡◌, ℕ, ◌<◌, List, length, slice_index_or, All}
-use Rattle.std.proofs.Common.{arith, subst, sym, ap, ◌∙◌, IfOk, Ok, Err}
-use Rattle.std.specs.declared.result.Result.{Result}
+use Rattle.std.proofs.Common.{arith, subst, sym, ap, ◌∙◌}
 use Rattle.std.proofs.lemmas.List.{length-map, get_or-map, get_or_default}
 use Rattle.std.proofs.lemmas.List.Elements.{All-get_or}
 use Rattle.pk_graph.specs.declared.operations.Access.{Access}
@@ -19,7 +18,7 @@ use Rattle.pk_verdict.specs.Verdicts.{IsTypedOperation, verdict_of}
 use Rattle.pk_analysis.specs.declared.analysis.Options.{Options}
 use Rattle.pk_report.specs.Reports.{state_at, no_state}
 use Rattle.pk_graph_report.specs.Reported.{verdict_at}
-use Rattle.pk_graph_report.specs.Made.{AreOver}
+use Rattle.pk_solver.specs.Solved.{AreOver}
 
 -- an access whose verdict may be asked for
 pub record IsThere (states : List Stated) (a : Access) : Type 0 where
@@ -48,7 +47,3 @@ unfolding access_view
 verdict_so states a s v l is told =
     let same : s ≡ state_at states a.point = is ∙ get_or_default states a.point s no_state l in
     told ∙ ap (λ (t : Stated). verdict_of t.layout t.facts (operation_view a.operation)) same
-
-pub if_ok : {A E : Type 0} {P Q : A → Type 0} (r : Result A E) → ((x : A) → P x → Q x) → IfOk r P → IfOk r Q
-if_ok (Ok x) f h = f x h
-if_ok (Err e) f h = tt

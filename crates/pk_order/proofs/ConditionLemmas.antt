@@ -1,13 +1,12 @@
 -- The linear order of a plan that fits its digraph meets Bourdoncle's condition.
-use Rattle.std.proofs.Common.{◌≡◌, ◌≢◌, ℕ, ◌<◌, ◌⊎◌, inl, inr, List, ◌∷◌, ◌++◌, sym, subst, ◌∙◌, ap, append_assoc, Contains}
+use Rattle.std.proofs.Common.{◌≡◌, ℕ, ◌<◌, ◌⊎◌, inl, inr, List, ◌∷◌, ◌++◌, sym, subst, ◌∙◌, ap, append_assoc, Contains}
 use Rattle.std.proofs.lemmas.Bool.{cases_eq}
 use Rattle.std.proofs.lemmas.List.Elements.{Contains-append_left}
 use Rattle.pk_plan.specs.declared.components.Component.{Component}
-use Rattle.pk_plan.specs.Digraphs.{Edge}
 use Rattle.pk_plan.specs.Order.{Level}
-use Rattle.pk_plan.specs.Plans.{PlanView, Constrains, Precedes, One, More, Inside}
+use Rattle.pk_plan.specs.Plans.{PlanView, Precedes, One, More, Inside}
 use Rattle.pk_plan.specs.Axioms.{Axioms}
-use Rattle.pk_plan.proofs.PlanLemmas.{Of, acyclic, precedes_trans, stands_inside}
+use Rattle.pk_plan.proofs.PlanLemmas.{Of, acyclic, precedes_trans}
 use Rattle.pk_wpo.specs.Made.{Fits}
 use Rattle.pk_plan.specs.Linear.{elements_of, IsLinear, GoesForward}
 use Rattle.pk_linear.proofs.ListLemmas.{split_at}

@@ -1,7 +1,8 @@
 -- A digraph has one order.
-use Rattle.std.proofs.Common.{◌≡◌, ℕ, ◌+◌, ◌<◌, List, [], length, get_or, map, sym, ap, subst, ◌∙◌, arith, All, Contains}
+use Rattle.std.proofs.Common.{◌≡◌, ℕ, zero, suc, ◌+◌, ◌*◌, ◌<◌, ◌≤◌, List, [], ◌∷◌, length, get_or, map, sym, ap, subst, ◌∙◌, arith, All, Contains, slice_index}
+use Rattle.std.specs.List.Sorted.{IsStrictlyIncreasing}
 use Rattle.std.proofs.lemmas.List.{get_or-map, length-map}
-use Rattle.std.proofs.lemmas.List.Elements.{All-map, Contains-get_or}
+use Rattle.std.proofs.lemmas.List.Elements.{All-map, All-get_or, Contains-get_or}
 use Rattle.pk_plan.specs.declared.components.Component.{Component}
 use Rattle.pk_plan.specs.Order.{Level}
 use Rattle.pk_plan.specs.Plans.{PlanView}
@@ -70,3 +71,28 @@ pub heads_within : (g : List (List ℕ)) (p : PlanView) → Axioms p → p.point
 heads_within g p axioms points =
     All-map (λ (h : ℕ). h < length g) (λ (c : Component). c.head) p.components
     (subst (λ (n : ℕ). All (λ (c : Component). c.head < n) p.components) points axioms.points)
+
+-- numbers that rise below n are n at most
+at_least : (xs : List ℕ) → IsStrictlyIncreasing xs → (k : ℕ) → k < length xs → k ≤ slice_index xs k
+at_least xs rises zero l = omega arith
+at_least xs rises (suc k) l =
+    let next = rises k (omega (arith, l)) in
+    let here = at_least xs rises k (omega (arith, l)) in
+    let same : k + 1 ≡ suc k = omega arith in
+    let up : slice_index xs k < slice_index xs (suc k) = subst (λ (i : ℕ). slice_index xs k < slice_index xs i) same next in
+    omega (arith, up, here)
+
+rising_few : (n : ℕ) (xs : List ℕ) → IsStrictlyIncreasing xs → All (λ x. x < n) xs → length xs ≤ n
+rising_few n [] rises below = omega arith
+rising_few n (x ∷ xs) rises below =
+    let last : length xs < length (x ∷ xs) = omega arith in
+    let here = at_least (x ∷ xs) rises (length xs) last in
+    let there = All-get_or (λ y. y < n) (x ∷ xs) (length xs) 0 last below in
+    omega (arith, here, there)
+
+-- so there are at most twice as many elements as vertices, and one
+pub few_elements : (g : List (List ℕ)) (p : PlanView) → Axioms p → p.points ≡ length g → p.elements ≤ 2 * length g + 1
+few_elements g p axioms points =
+    let heads = length-map p.components (λ (c : Component). c.head) in
+    let few = rising_few (length g) (heads_of p) axioms.heads (heads_within g p axioms points) in
+    omega (arith, heads, few, axioms.counted, points)

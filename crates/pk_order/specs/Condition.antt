@@ -22,4 +22,5 @@ pub record IsHeadAround (order : Level) (h e : ℕ) : Type 0 where
 -- left of its source or is its source.
 abbrev pub IsWeakTopologicalOrder : List (List ℕ) → Level → Type 0
 IsWeakTopologicalOrder g order =
-    (u v : ℕ) → Edge g u v → (StandsBefore order u v × (IsHeadAround order v u → ⊥)) ⊎ (((v ≡ u) ⊎ StandsBefore order v u) × IsHeadAround order v u)
+    (u v : ℕ) → Edge g u v → (StandsBefore order u v × (IsHeadAround order v u → ⊥))
+    ⊎ (((v ≡ u) ⊎ StandsBefore order v u) × IsHeadAround order v u)

@@ -3,5 +3,5 @@
 
 mod orders;
 
-pub use orders::{order_is_determined, ordered};
+pub use orders::{order_is_determined, ordered, planned};
 pub use pk_linear::line;

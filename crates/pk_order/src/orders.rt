@@ -1,16 +1,31 @@
 // The plan of a digraph and its linear order.
 
-ghost use Rattle.std.specs.Prelude.{◌≡◌, ◌+◌, ◌<◌, ◌^◌, All, length, IfOk};
+ghost use Rattle.std.specs.Prelude.{◌≡◌, ◌+◌, ◌*◌, ◌<◌, ◌≤◌, ◌^◌, All, length, IfOk};
 ghost use Rattle.pk_wpo.specs.Made.{Fits};
 ghost use Rattle.pk_plan.specs.Linear.{GoesForward};
 ghost use Rattle.pk_order.specs.Condition.{IsWeakTopologicalOrder};
-ghost use Rattle.pk_order.specs.Ordered.{IsOrdered, OrderIsDetermined, heads_of};
+ghost use Rattle.pk_order.specs.Ordered.{IsPlanned, IsOrdered, OrderIsDetermined, heads_of};
 
 use pk_linear::linear;
 use pk_nest::nest;
 use pk_plan::{Digraph, Order, Plan};
 use pk_wpo::plan;
 use std::alloc::{AllocError, Global};
+
+/// The plan of a digraph.
+pub fn planned(alloc: Global, graph: &Digraph) -> Result<Plan, AllocError>
+    requires few { length graph.now < 2 ^ 31 }
+    ensures planned { IfOk result (IsPlanned graph.now) }
+    ensures counted { IfOk result (λ plan. plan.elements ≡ length graph.now + length (heads_of plan) + 1) }
+    ensures heads { IfOk result (λ plan. All (λ h. h < length graph.now) (heads_of plan)) }
+    ensures few { IfOk result (λ plan. plan.elements ≤ 2 * length graph.now + 1) }
+    ensures fits { IfOk result (Fits graph.now) }
+{
+    let nest = nest(alloc, graph)?;
+    let plan = plan(alloc, &nest, graph)?;
+    plan.axioms();
+    Ok(plan)
+}
 
 /// The plan of a digraph and its linear order.
 pub fn ordered(alloc: Global, graph: &Digraph) -> Result<(Plan, Order), AllocError>
@@ -23,10 +38,8 @@ pub fn ordered(alloc: Global, graph: &Digraph) -> Result<(Plan, Order), AllocErr
     ensures forward { IfOk result (λ made. GoesForward made.0 made.1.order) }
     ensures condition { IfOk result (λ made. IsWeakTopologicalOrder graph.now made.1.order) }
 {
-    let nest = nest(alloc, graph)?;
-    let plan = plan(alloc, &nest, graph)?;
+    let plan = planned(alloc, graph)?;
     let order = linear(alloc, &plan)?;
-    plan.axioms();
     Ok((plan, order))
 }
 

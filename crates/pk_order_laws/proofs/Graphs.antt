@@ -1,5 +1,5 @@
 -- The digraph of a relation among numbers.
-use Rattle.std.proofs.Common.{◌≡◌, ◌⊎◌, ℕ, ◌+◌, ◌<◌, Bool, true, false, cond, List, [], ◌∷◌, length, map, filter, get_or, refl, sym, subst, inl, inr, arith, Contains, All}
+use Rattle.std.proofs.Common.{◌≡◌, ◌⊎◌, ℕ, ◌<◌, Bool, true, false, cond, List, [], ◌∷◌, length, map, filter, get_or, refl, sym, subst, inl, inr, arith, Contains, All}
 use Rattle.std.specs.List.{range_with_len}
 use Rattle.std.specs.List.Sorted.{IsStrictlyIncreasing}
 use Rattle.std.proofs.lemmas.List.FromFn.{get_or-range_with_len, length-range_with_len, get_or-map-range_with_len, length-map-range_with_len}
@@ -8,6 +8,7 @@ use Rattle.pk_plan.specs.Digraphs.{Edge}
 use Rattle.pk_plan.proofs.DigraphLemmas.{edge_from_vertex}
 use Rattle.pk_linear.proofs.ListLemmas.{contains_none, contains_here, contains_there, contains_cases}
 use Rattle.pk_order_laws.proofs.Told.{Told}
+use Rattle.pk_wpo.proofs.Components.{range_rises}
 
 abbrev truth : (P : Type 0) → Told P → Bool
 truth P (inl p) = true
@@ -51,13 +52,6 @@ range_has k b l =
     let at = get_or-range_with_len 0 k b b l in
     let long = length-range_with_len 0 k in
     (b, omega (arith, long, l), omega (arith, at))
-
-range_rises : (n : ℕ) → IsStrictlyIncreasing (range_with_len 0 n)
-range_rises n k below =
-    let long = length-range_with_len 0 n in
-    let one = get_or-range_with_len 0 n k 0 (omega (arith, below, long)) in
-    let two = get_or-range_with_len 0 n (k + 1) 0 (omega (arith, below, long)) in
-    omega (arith, one, two)
 
 pub record GraphOf (m : ℕ) (R : ℕ → ℕ → Type 0) : Type 0 where
   pub lists : List (List ℕ)

@@ -7,4 +7,5 @@ use Rattle.pk_order.specs.Ordered.{IsOrdered}
 
 -- each closed digraph with fewer than 2^31 vertices
 abbrev pub EveryDigraphHasAnOrder : Type 0
-EveryDigraphHasAnOrder = (g : List (List ℕ)) → IsClosed g → length g < 2 ^ 31 → (p : PlanView) × (order : Level) × IsOrdered g p order
+EveryDigraphHasAnOrder =
+    (g : List (List ℕ)) → IsClosed g → length g < 2 ^ 31 → (p : PlanView) × (order : Level) × IsOrdered g p order

@@ -9,4 +9,5 @@ use Rattle.pk_wpo.specs.Made.{IsPlanOf}
 -- of each closed digraph with fewer than 2^31 vertices
 abbrev pub EveryNestHasAPlan : Type 0
 EveryNestHasAPlan =
-    (g : List (List ℕ)) (items : Items) → IsClosed g → length g < 2 ^ 31 → IsNest g (IsVertex g) items → (p : PlanView) × Axioms p × IsPlanOf g items p
+    (g : List (List ℕ)) (items : Items) → IsClosed g → length g < 2 ^ 31 → IsNest g (IsVertex g) items →
+    (p : PlanView) × Axioms p × IsPlanOf g items p

@@ -4,7 +4,7 @@ ghost use Rattle.pk_report_laws.specs.Runs.True.{AnswersAreTrue, ReportsAreTrue}
 ghost use Rattle.pk_report_laws.specs.Programs.ToldOfPrograms.{ReportsAreTrueOfPrograms};
 
 use pk_sound::{faults_are_unknown, result_holds_runs, verdicts_hold};
-use pk_text_report::graphs_are_well_made;
+use pk_text_graph::graphs_are_well_made;
 use pk_type_laws::units_are_marked;
 use pk_visits_laws::{graphs_have_program_visits, points_share_accesses};
 use pk_welltyped_texts::texts_are_well_typed;

@@ -1,6 +1,9 @@
-//! What is told of a graph by the result of its recursive iteration, which any number of workers make.
+//! What the analysis of a graph leaves at each point, which any number of workers make.
 #![tactic(auto)]
 
+mod laws;
 mod solving;
 
-pub use solving::{report_by, summary_by};
+pub use laws::states_are_determined;
+pub use pk_analysis::Options;
+pub use solving::{IterationOptions, Solution, SolverError, states};

@@ -1,172 +1,124 @@
 // What the iteration leaves at each point of a graph.
 
-ghost use Rattle.std.specs.Prelude.{◌≡◌, ◌+◌, ◌<◌, ◌≤◌, ◌^◌, IfOk, IfErr, length};
+ghost use Rattle.std.specs.Prelude.{◌≤◌, IfOk, IfErr, length};
 ghost use Rattle.pk_graph.specs.Shown.{graph_view};
-ghost use Rattle.pk_order.specs.Ordered.{IsOrdered, heads_of};
+ghost use Rattle.pk_plan.specs.Order.{Level};
+ghost use Rattle.pk_order.specs.Ordered.{IsOrdered};
 ghost use Rattle.pk_analysis.specs.Digraphs.{digraph_of};
-ghost use Rattle.pk_graph_report.specs.Reported.{AreStates, IsCause, IsReport, IsSummary};
-ghost use Rattle.pk_graph_report.specs.Made.{AreOver};
+ghost use Rattle.pk_solver.specs.Bounds.{AreInRange, most_elements, most_points};
+ghost use Rattle.pk_solver.specs.Solved.{AreOver, AreStates, IsCause};
 
 use pk_analysis::{Analysis, Options, digraph, reduced};
 use pk_analysis_fits::{analyses_fit, linear_orders_are_orders};
 use pk_analysis_laws::analyses_end;
 use pk_graph::Graph;
-use pk_graph_report::{Failure, report_of, solve, summary_of};
 use pk_iterate::{Solve, cells_are_held};
-use pk_order::ordered;
-use pk_plan::{Order, Plan};
+use pk_order::planned;
+use pk_order_laws::every_plan_has_a_linear_order;
+use pk_plan::Plan;
 use pk_state::State;
 use pk_workers::{Gate, run_workers};
-use std::alloc::Global;
+use std::alloc::{AllocError, Global};
 use std::sync::Wait;
 use std::thread::Threads;
 
-// A board has room for so many elements.
-const MOST_ELEMENTS: u32 = 131073;
+/// What an iteration is asked for.
+#[derive(Drop)]
+pub struct IterationOptions {
+    pub analysis: Options,
+    pub workers: u32,
+    /// How often an element may be run.
+    pub max_runs: u64,
+}
+
+/// The plan of a graph, and what is known at each of its points.
+#[derive(Drop)]
+pub struct Solution {
+    pub plan: Plan,
+    pub states: Vec<State>,
+}
+
+/// Why there is no solution.
+#[derive(Drop)]
+pub enum SolverError {
+    /// An element would be run more often than the limit.
+    RunLimit,
+    Memory,
+}
+
+impl From<AllocError> for SolverError {
+    ghost use Rattle.std.specs.Prelude.{◌≡◌};
+    ghost use Rattle.pk_solver.specs.declared.solving.SolverError.TheVariants.{Memory};
+
+    ghost from_gives = { λ _ e. e ≡ Memory };
+
+    fn from(_: AllocError) -> Self {
+        SolverError::Memory
+    }
+}
+
+// The plan of a graph, of which there is a linear order.
+fn plan_of(alloc: Global, graph: &Graph) -> Result<Plan, AllocError>
+    requires few { length (graph_view graph.now).points ≤ most_points }
+    ensures ordered { IfOk result
+        (λ plan. (order : Level) × IsOrdered (digraph_of (graph_view graph.now)) plan order) }
+    ensures few { IfOk result (λ plan. plan.elements ≤ most_elements) }
+{
+    every_plan_has_a_linear_order();
+    graph.well_made();
+    let points = digraph(alloc, graph)?;
+    let plan = planned(alloc, &points)?;
+    Ok(plan)
+}
 
 // What workers leave at each point, reduced.
-fn solve_by_workers<R: Threads + Wait + Sync, G: Gate + Sync>(
+fn states_by_plan<R: Threads + Wait + Sync, G: Gate + Sync>(
     rt: &R,
     alloc: Global,
     gate: &G,
     graph: &Graph,
-    options: Options,
+    options: &IterationOptions,
     plan: &Plan,
-    order: &Order,
-    workers: u32,
-    max_runs: u64,
-) -> Result<Vec<State>, Failure>
-    requires oct { options.oct < 2 ^ 31 }
-    requires most { max_runs ≤ 549755813888 }
-    requires workers { (1 ≤ workers) × (workers ≤ 64) }
-    requires few { plan.now.elements ≤ 131073 }
-    requires ordered { IsOrdered (digraph_of (graph_view graph.now)) plan.now order.now.order }
-    requires counted { plan.now.elements ≡ length (graph_view graph.now).points + length (heads_of plan.now) + 1 }
-    requires points { plan.now.points ≡ length (graph_view graph.now).points }
-    ensures ok { IfOk result (λ r. AreStates (graph_view graph.now) options max_runs plan.now r.items) }
-    ensures over { IfOk result (λ r. AreOver (graph_view graph.now) options r.items) }
-    ensures err { IfErr result (IsCause (graph_view graph.now) options max_runs) }
+) -> Result<Vec<State>, SolverError>
+    requires range { AreInRange options.now }
+    requires few { plan.now.elements ≤ most_elements }
+    requires ordered { (order : Level) × IsOrdered (digraph_of (graph_view graph.now)) plan.now order }
+    ensures ok { IfOk result (λ states.
+        AreStates (graph_view graph.now) options.now.analysis options.now.max_runs plan.now states.items) }
+    ensures over { IfOk result (λ states. AreOver (graph_view graph.now) options.now.analysis states.items) }
+    ensures err { IfErr result (IsCause (graph_view graph.now) options.now.analysis options.now.max_runs) }
 {
-    let _ = order;
     analyses_fit();
     analyses_end();
     linear_orders_are_orders();
     graph.well_made();
-    let analysis = Analysis::new(alloc, graph, plan, options)?;
+    let analysis = Analysis::new(alloc, graph, plan, options.analysis)?;
     cells_are_held(&analysis);
+    let (workers, max_runs) = (options.workers, options.max_runs);
     match run_workers(rt, alloc, &analysis, plan, workers, max_runs, gate) {
         Ok(cells) => Ok(reduced(alloc, &analysis, &cells)?),
-        Err(Solve::RunLimit { .. }) => Err(Failure::RunLimit),
-        Err(Solve::Memory) => Err(Failure::Memory),
+        Err(Solve::RunLimit { .. }) => Err(SolverError::RunLimit),
+        Err(Solve::Memory) => Err(SolverError::Memory),
     }
 }
 
-// What one worker or several leave.
-fn solve_by<R: Threads + Wait + Sync, G: Gate + Sync>(
+/// The plan of a graph, and what the recursive iteration leaves at each point, reduced: the same for every number of workers.
+pub fn states<R: Threads + Wait + Sync, G: Gate + Sync>(
     rt: &R,
     alloc: Global,
     gate: &G,
     graph: &Graph,
-    options: Options,
-    plan: &Plan,
-    order: &Order,
-    workers: u32,
-    max_runs: u64,
-) -> Result<Vec<State>, Failure>
-    requires oct { options.oct < 2 ^ 31 }
-    requires most { max_runs ≤ 549755813888 }
-    requires workers { (1 ≤ workers) × (workers ≤ 64) }
-    requires ordered { IsOrdered (digraph_of (graph_view graph.now)) plan.now order.now.order }
-    requires elements { order.now.elements ≡ plan.now.elements }
-    requires counted { plan.now.elements ≡ length (graph_view graph.now).points + length (heads_of plan.now) + 1 }
-    requires points { plan.now.points ≡ length (graph_view graph.now).points }
-    ensures ok { IfOk result (λ r. AreStates (graph_view graph.now) options max_runs plan.now r.items) }
-    ensures over { IfOk result (λ r. AreOver (graph_view graph.now) options r.items) }
-    ensures err { IfErr result (IsCause (graph_view graph.now) options max_runs) }
+    options: &IterationOptions,
+) -> Result<Solution, SolverError>
+    requires few { length (graph_view graph.now).points ≤ most_points }
+    requires range { AreInRange options.now }
+    ensures ok { IfOk result (λ solution. AreStates (graph_view graph.now) options.now.analysis options.now.max_runs
+        solution.plan solution.states.items) }
+    ensures over { IfOk result (λ solution.
+        AreOver (graph_view graph.now) options.now.analysis solution.states.items) }
+    ensures err { IfErr result (IsCause (graph_view graph.now) options.now.analysis options.now.max_runs) }
 {
-    if plan.elements() <= MOST_ELEMENTS {
-        solve_by_workers(
-            rt, alloc, gate, graph, options, plan, order, workers, max_runs,
-        )
-    } else {
-        solve(alloc, graph, options, plan, order, max_runs)
-    }
-}
-
-// The plan of a graph, and the reduced state of each point, by so many workers.
-fn states<R: Threads + Wait + Sync, G: Gate + Sync>(
-    rt: &R,
-    alloc: Global,
-    gate: &G,
-    graph: &Graph,
-    options: Options,
-    workers: u32,
-    max_runs: u64,
-) -> Result<(Plan, Vec<State>), Failure>
-    requires oct { options.oct < 2 ^ 31 }
-    requires most { max_runs ≤ 549755813888 }
-    requires workers { (1 ≤ workers) × (workers ≤ 64) }
-    ensures ok { IfOk result (λ r. AreStates (graph_view graph.now) options max_runs r.0 r.1.items) }
-    ensures over { IfOk result (λ r. AreOver (graph_view graph.now) options r.1.items) }
-    ensures err { IfErr result (IsCause (graph_view graph.now) options max_runs) }
-{
-    graph.well_made();
-    let (plan, order) = ordered(alloc, &digraph(alloc, graph)?)?;
-    let states = solve_by(
-        rt, alloc, gate, graph, options, &plan, &order, workers, max_runs,
-    )?;
-    Ok((plan, states))
-}
-
-/// The report on a graph, of every point or of its heads, and its number of unknown verdicts, by so many workers.
-pub fn report_by<R: Threads + Wait + Sync, G: Gate + Sync>(
-    rt: &R,
-    alloc: Global,
-    gate: &G,
-    graph: &Graph,
-    options: Options,
-    workers: u32,
-    max_runs: u64,
-    all: bool,
-) -> Result<(Vec<u8>, usize), Failure>
-    requires oct { options.oct < 2 ^ 31 }
-    requires most { max_runs ≤ 549755813888 }
-    requires workers { (1 ≤ workers) × (workers ≤ 64) }
-    ensures ok { IfOk result (λ r. IsReport (graph_view graph.now) options max_runs all r.1 r.0.items) }
-    ensures err { IfErr result (IsCause (graph_view graph.now) options max_runs) }
-{
-    let (plan, states) = states(rt, alloc, gate, graph, options, workers, max_runs)?;
-    Ok(report_of(alloc, graph, options, &plan, &states, all)?)
-}
-
-/// The summary of a made text of `text_length` bytes, and its number of unknown verdicts, by so many workers.
-pub fn summary_by<R: Threads + Wait + Sync, G: Gate + Sync>(
-    rt: &R,
-    alloc: Global,
-    gate: &G,
-    graph: &Graph,
-    options: Options,
-    workers: u32,
-    max_runs: u64,
-    seed: usize,
-    size: usize,
-    text_length: usize,
-) -> Result<(Vec<u8>, usize), Failure>
-    requires oct { options.oct < 2 ^ 31 }
-    requires most { max_runs ≤ 549755813888 }
-    requires workers { (1 ≤ workers) × (workers ≤ 64) }
-    ensures ok { IfOk result (λ r. IsSummary (graph_view graph.now) options max_runs seed size text_length r.1 r.0.items) }
-    ensures err { IfErr result (IsCause (graph_view graph.now) options max_runs) }
-{
-    let (plan, states) = states(rt, alloc, gate, graph, options, workers, max_runs)?;
-    Ok(summary_of(
-        alloc,
-        graph,
-        options,
-        &plan,
-        &states,
-        seed,
-        size,
-        text_length,
-    )?)
+    let plan = plan_of(alloc, graph)?;
+    let states = states_by_plan(rt, alloc, gate, graph, options, &plan)?;
+    Ok(Solution { plan, states })
 }

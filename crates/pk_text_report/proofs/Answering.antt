@@ -9,65 +9,47 @@ use Rattle.pk_command.specs.CommandLine.{is_taken}
 use Rattle.pk_command.specs.Given.{AsksFor}
 use Rattle.pk_command.specs.Laws.{OneCommand}
 use Rattle.pk_command.proofs.Asking.{asked_taken}
-use Rattle.pk_typed.specs.Trees.{UnitTree}
-use Rattle.pk_front.specs.declared.status.Status.{Status}
-use Rattle.pk_front.specs.declared.status.Status.TheVariants as status
-use Rattle.pk_front.specs.declared.status.Refusal.{Refusal}
-use Rattle.pk_front.specs.Texts.{IsLeft}
-use Rattle.pk_front.specs.Laws.{WayIsDetermined}
+use Rattle.pk_front.specs.declared.failures.Refusal.{Refusal}
+use Rattle.pk_front.specs.declared.failures.TextError.TheVariants as errors
+use Rattle.pk_front.specs.Texts.{IsRefusedFor}
 use Rattle.pk_graph.specs.Graphs.{GraphOf}
-use Rattle.pk_lower.specs.Parts.{point_count}
 use Rattle.pk_analysis.specs.declared.analysis.Options.{Options}
-use Rattle.pk_graph_report.specs.Reported.{IsReport, IsSummary, IsOrderText, IsOver, OneReport}
-use Rattle.pk_text_report.specs.Answers.{IsReply, IsTold, IsShort, IsLong, IsCutOff, HasGraph, HasManyPoints, HasNoGraph, PassesLimit, graph_of, entry_of, options_of, default_options, default_runs, OneAnswer, DifferInWorkers, WorkersTellNothing}
+use Rattle.pk_analysis_laws.specs.Systems.{IsOver}
+use Rattle.pk_graph_report.specs.Reported.{IsReport, IsSummary, IsOrderText, OneReport}
+use Rattle.pk_text_graph.specs.Graphs.{GraphIsDetermined, HasGraph, HasNoGraph}
+use Rattle.pk_text_report.specs.declared.status.Status.{Status}
+use Rattle.pk_text_report.specs.declared.status.Status.TheVariants as status
+use Rattle.pk_text_report.specs.Answers.{IsReply, IsTold, IsShort, IsLong, IsCutOff, PassesLimit, entry_of, options_of, default_options, default_runs, OneAnswer, DifferInWorkers, WorkersTellNothing}
 
 pub not_taken : (words : List (List ℕ)) (command : Command) → AsksFor words command → is_taken words ≡ false → ⊥
 not_taken words command asks refused = let taken = asked_taken words command asks in cc
 
 -- ---- graphs
 
-refused_known : (r : Refusal) → status.Refused r ≡ status.Memory → ⊥
+refused_known : (r : Refusal) → errors.Refused r ≡ errors.Memory → ⊥
 refused_known r e = absurd (cc)
 
-limit_known : (w : Quantity) (n : ℕ) → status.Limit w n ≡ status.Memory → ⊥
+limit_known : (w : Quantity) (n : ℕ) → errors.Limit w n ≡ errors.Memory → ⊥
 limit_known w n e = absurd (cc)
 
-module _ (law : WayIsDetermined) where
-  one_graph : (text entry : List ℕ) (g h : GraphOf) → HasGraph text entry g → HasGraph text entry h → g ≡ h
-  one_graph text entry g h x y =
-      let unit : x.unit ≡ y.unit = law.unit text entry x.unit y.unit x.paths y.paths x.called y.called in
-      let paths : x.paths ≡ y.paths = law.paths text entry x.unit y.unit x.paths y.paths x.called y.called in
-      x.graph ∙ ap (λ (u : UnitTree). graph_of u x.paths) unit ∙ ap (graph_of y.unit) paths ∙ sym y.graph
+module _ (law : GraphIsDetermined) where
+  graph_or_refused : (text entry : List ℕ) (g : GraphOf) (r : Refusal) → HasGraph text entry g → IsRefusedFor text entry r → ⊥
+  graph_or_refused text entry g r x left = law.apart text entry g (errors.Refused r) (refused_known r) x (inl left)
 
-  -- a text with a graph has no more points than it may
-  few_points : (text entry : List ℕ) (g : GraphOf) → HasGraph text entry g → HasManyPoints text entry → ⊥
-  few_points text entry g x y =
-      let unit : x.unit ≡ y.unit = law.unit text entry x.unit y.unit x.paths y.paths x.called y.called in
-      let paths : x.paths ≡ y.paths = law.paths text entry x.unit y.unit x.paths y.paths x.called y.called in
-      let counts : point_count x.unit x.paths ≡ point_count y.unit y.paths =
-      ap (λ (u : UnitTree). point_count u x.paths) unit ∙ ap (point_count y.unit) paths in
-      absurd (omega (arith, counts, x.few, y.many))
+  graph_or_limit : (text entry : List ℕ) (g : GraphOf) (w : Quantity) (n : ℕ) → HasGraph text entry g → HasNoGraph text entry (errors.Limit w n) → ⊥
+  graph_or_limit text entry g w n x none = law.apart text entry g (errors.Limit w n) (limit_known w n) x none
 
-  graph_or_refused : (text entry : List ℕ) (g : GraphOf) (r : Refusal) → HasGraph text entry g → IsLeft text entry (status.Refused r) → ⊥
-  graph_or_refused text entry g r x left = law.apart text entry x.unit x.paths (status.Refused r) (refused_known r) x.called left
+  refused_or_limit : (text entry : List ℕ) (r : Refusal) (w : Quantity) (n : ℕ) → IsRefusedFor text entry r → HasNoGraph text entry (errors.Limit w n) → ⊥
+  refused_or_limit text entry r w n x none =
+      let same : errors.Refused r ≡ errors.Limit w n = law.none text entry (errors.Refused r) (errors.Limit w n) (refused_known r) (limit_known w n) (inl x) none in absurd (cc)
 
-  graph_or_limit : (text entry : List ℕ) (g : GraphOf) (w : Quantity) (n : ℕ) → HasGraph text entry g → HasNoGraph text entry (status.Limit w n) → ⊥
-  graph_or_limit text entry g w n x (inl left) = law.apart text entry x.unit x.paths (status.Limit w n) (limit_known w n) x.called left
-  graph_or_limit text entry g w n x (inr (many, is)) = few_points text entry g x many
+  one_refusal : (text entry : List ℕ) (r q : Refusal) → IsRefusedFor text entry r → IsRefusedFor text entry q → r ≡ q
+  one_refusal text entry r q x y =
+      let same : errors.Refused r ≡ errors.Refused q = law.none text entry (errors.Refused r) (errors.Refused q) (refused_known r) (refused_known q) (inl x) (inl y) in cc
 
-  refused_or_limit : (text entry : List ℕ) (r : Refusal) (w : Quantity) (n : ℕ) → IsLeft text entry (status.Refused r) → HasNoGraph text entry (status.Limit w n) → ⊥
-  refused_or_limit text entry r w n x (inl left) =
-      let same : status.Refused r ≡ status.Limit w n = law.left text entry (status.Refused r) (status.Limit w n) (refused_known r) (limit_known w n) x left in absurd (cc)
-  refused_or_limit text entry r w n x (inr (many, is)) = law.apart text entry many.unit many.paths (status.Refused r) (refused_known r) many.called x
-
-  one_refusal : (text entry : List ℕ) (r q : Refusal) → IsLeft text entry (status.Refused r) → IsLeft text entry (status.Refused q) → status.Refused r ≡ status.Refused q
-  one_refusal text entry r q x y = law.left text entry (status.Refused r) (status.Refused q) (refused_known r) (refused_known q) x y
-
-  one_limit : (text entry : List ℕ) (w v : Quantity) (m n : ℕ) → HasNoGraph text entry (status.Limit w m) → HasNoGraph text entry (status.Limit v n) → status.Limit w m ≡ status.Limit v n
-  one_limit text entry w v m n (inl x) (inl y) = law.left text entry (status.Limit w m) (status.Limit v n) (limit_known w m) (limit_known v n) x y
-  one_limit text entry w v m n (inl x) (inr (many, is)) = absurd (law.apart text entry many.unit many.paths (status.Limit w m) (limit_known w m) many.called x)
-  one_limit text entry w v m n (inr (many, is)) (inl y) = absurd (law.apart text entry many.unit many.paths (status.Limit v n) (limit_known v n) many.called y)
-  one_limit text entry w v m n (inr (x, is)) (inr (y, js)) = is ∙ sym js
+  one_limit : (text entry : List ℕ) (w v : Quantity) (m n : ℕ) → HasNoGraph text entry (errors.Limit w m) → HasNoGraph text entry (errors.Limit v n) → status.Limit w m ≡ status.Limit v n
+  one_limit text entry w v m n x y =
+      let same : errors.Limit w m ≡ errors.Limit v n = law.none text entry (errors.Limit w m) (errors.Limit v n) (limit_known w m) (limit_known v n) x y in cc
 
 -- ---- replies to one command
 
@@ -76,7 +58,7 @@ short_or_long text (Run options) short long = absurd (omega (arith, short, long)
 short_or_long text (Order options) short long = absurd (omega (arith, short, long))
 short_or_long text (Gen options) short long = long
 
-module _ (front : WayIsDetermined) (reports : OneReport) where
+module _ (front : GraphIsDetermined) (reports : OneReport) where
   -- what is told of a text is told of its graph
   told_graph : (text : List ℕ) (c : Command) (unknown : ℕ) (bytes : List ℕ) → IsTold text c unknown bytes → (g : GraphOf) × HasGraph text (entry_of c) g
   told_graph text (Run options) unknown bytes x = (x.graph, x.has_graph)
@@ -90,25 +72,25 @@ module _ (front : WayIsDetermined) (reports : OneReport) where
 
   one_told : (text : List ℕ) (c : Command) (m n : ℕ) (a b : List ℕ) → IsTold text c m a → IsTold text c n b → (m ≡ n) × (a ≡ b)
   one_told text (Run o) m n a b x y =
-      let same = one_graph front text o.entry x.graph y.graph x.has_graph y.has_graph in
+      let same = front.graph text o.entry x.graph y.graph x.has_graph y.has_graph in
       reports.reports y.graph (options_of o) o.max_runs o.points m n a b (subst (λ (g : GraphOf). IsReport g (options_of o) o.max_runs o.points m a) same x.report) y.report
   one_told text (Order o) m n a b x y =
-      let same = one_graph front text o.entry x.graph y.graph x.has_graph y.has_graph in
+      let same = front.graph text o.entry x.graph y.graph x.has_graph y.has_graph in
       let line : x.line ≡ y.line = reports.orders y.graph x.line y.line (subst (λ (g : GraphOf). IsOrderText g x.line) same x.order) y.order in
       (x.none_unknown ∙ sym y.none_unknown, x.told ∙ ap (λ (l : List ℕ). l ++ codes "\n") line ∙ sym y.told)
   one_told text (Gen o) m n a b x y =
-      let same = one_graph front text (codes "main") x.graph y.graph x.has_graph y.has_graph in
+      let same = front.graph text (codes "main") x.graph y.graph x.has_graph y.has_graph in
       reports.summaries y.graph default_options default_runs o.seed o.size (length text) m n a b
       (subst (λ (g : GraphOf). IsSummary g default_options default_runs o.seed o.size (length text) m a) same x.summary) y.summary
 
   told_or_cut : (text : List ℕ) (c : Command) (m max_runs : ℕ) (a : List ℕ) → IsTold text c m a → IsCutOff text c max_runs → ⊥
   told_or_cut text (Run o) m max_runs a x y =
-      let same = one_graph front text o.entry y.0.graph x.graph y.0.has_graph x.has_graph in
+      let same = front.graph text o.entry y.0.graph x.graph y.0.has_graph x.has_graph in
       reports.within x.graph (options_of o) o.max_runs x.report.plan x.report.states x.report.are_states
       (subst (IsOver x.graph (options_of o)) y.1 (subst (λ (g : GraphOf). IsOver g (options_of o) max_runs) same y.0.over))
   told_or_cut text (Order o) m max_runs a x y = absurd y
   told_or_cut text (Gen o) m max_runs a x y =
-      let same = one_graph front text (codes "main") y.0.graph x.graph y.0.has_graph x.has_graph in
+      let same = front.graph text (codes "main") y.0.graph x.graph y.0.has_graph x.has_graph in
       reports.within x.graph default_options default_runs x.summary.plan x.summary.states x.summary.are_states
       (subst (IsOver x.graph default_options) y.1 (subst (λ (g : GraphOf). IsOver g default_options max_runs) same y.0.over))
 
@@ -132,7 +114,7 @@ module _ (front : WayIsDetermined) (reports : OneReport) where
   cut_or_limit c text m w n short cut (inl y) = short_or_long text c short y.0
   cut_or_limit c text m w n short cut (inr y) = let g = cut_graph text c m cut in graph_or_limit front text (entry_of c) g.0 w n g.1 y.1
 
-  refused_or_long : (c : Command) (text : List ℕ) (r : Refusal) (w : Quantity) (n : ℕ) → IsShort text c → IsLeft text (entry_of c) (status.Refused r) → PassesLimit c text w n → ⊥
+  refused_or_long : (c : Command) (text : List ℕ) (r : Refusal) (w : Quantity) (n : ℕ) → IsShort text c → IsRefusedFor text (entry_of c) r → PassesLimit c text w n → ⊥
   refused_or_long c text r w n short left (inl y) = short_or_long text c short y.0
   refused_or_long c text r w n short left (inr y) = refused_or_limit front text (entry_of c) r w n left y.1
 
@@ -142,7 +124,7 @@ module _ (front : WayIsDetermined) (reports : OneReport) where
   one_reply c text (status.Ok m) (status.Limit w n) a b x y = absurd (told_or_limit c text m a w n x.0 x.1 y.0)
   one_reply c text (status.Ok m) (status.RunLimit n) a b x y = absurd (told_or_cut text c m n a x.1 y.1)
   one_reply c text (status.Refused r) (status.Ok n) a b x y = let g = told_graph text c n b y.1 in absurd (graph_or_refused front text (entry_of c) g.0 r g.1 x.1)
-  one_reply c text (status.Refused r) (status.Refused q) a b x y = (one_refusal front text (entry_of c) r q x.1 y.1, x.2 ∙ sym y.2)
+  one_reply c text (status.Refused r) (status.Refused q) a b x y = (ap status.Refused (one_refusal front text (entry_of c) r q x.1 y.1), x.2 ∙ sym y.2)
   one_reply c text (status.Refused r) (status.Limit w n) a b x y = absurd (refused_or_long c text r w n x.0 x.1 y.0)
   one_reply c text (status.Refused r) (status.RunLimit n) a b x y = let g = cut_graph text c n y.1 in absurd (graph_or_refused front text (entry_of c) g.0 r g.1 x.1)
   one_reply c text (status.Limit w m) (status.Ok n) a b x y = absurd (told_or_limit c text n b w m y.0 y.1 x.0)
@@ -174,7 +156,7 @@ module _ (front : WayIsDetermined) (reports : OneReport) where
   one_reply c text (status.RunLimit m) (status.WriteFault sent) a b x y = absurd y
   one_reply c text (status.RunLimit m) status.Memory a b x y = absurd y
 
-pub one_answer : OneCommand → WayIsDetermined → OneReport → OneAnswer
+pub one_answer : OneCommand → GraphIsDetermined → OneReport → OneAnswer
 one_answer one front reports words text s t a b (inl x) (inl y) = (x.status_is ∙ sym y.status_is, x.nothing ∙ sym y.nothing)
 one_answer one front reports words text s t a b (inl x) (inr y) = absurd (not_taken words y.command y.asked x.refused)
 one_answer one front reports words text s t a b (inr x) (inl y) = absurd (not_taken words x.command x.asked y.refused)
@@ -203,9 +185,9 @@ module _ (o p : RunOptions) (d : DifferInWorkers o p) where
     },
   )
   other_reply text status.Usage a x = absurd x
-  other_reply text (status.Refused r) a x = (x.0, subst (λ (e : List ℕ). IsLeft text e (status.Refused r)) d.entry x.1, x.2)
+  other_reply text (status.Refused r) a x = (x.0, subst (λ (e : List ℕ). IsRefusedFor text e r) d.entry x.1, x.2)
   other_reply text (status.Limit w n) a (inl x, e) = (inl x, e)
-  other_reply text (status.Limit w n) a (inr x, e) = (inr (x.0, subst (λ (k : List ℕ). HasNoGraph text k (status.Limit w n)) d.entry x.1), e)
+  other_reply text (status.Limit w n) a (inr x, e) = (inr (x.0, subst (λ (k : List ℕ). HasNoGraph text k (errors.Limit w n)) d.entry x.1), e)
   other_reply text (status.RunLimit m) a x = (
     x.0,
     (

@@ -1,2 +1,2 @@
 pub mod Answering
-mod Typing
+mod Ending

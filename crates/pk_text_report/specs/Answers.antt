@@ -1,7 +1,7 @@
 -- What is answered to the words and a text.
-use Rattle.std.specs.Prelude.{◌≡◌, ◌⊎◌, ℕ, ◌<◌, ◌≤◌, ◌++◌, List, [], codes, length, map, false, Option, Some}
+use Rattle.std.specs.Prelude.{◌≡◌, ◌⊎◌, ℕ, ◌<◌, ◌≤◌, ◌++◌, List, [], codes, length, false, Option, Some}
 use Rattle.pk_ctypes.specs.declared.words.Quantity.{Quantity}
-use Rattle.pk_ctypes.specs.declared.words.Quantity.TheVariants.{Text, Points}
+use Rattle.pk_ctypes.specs.declared.words.Quantity.TheVariants.{Text}
 use Rattle.pk_command.specs.declared.asked.RunOptions.{RunOptions}
 use Rattle.pk_command.specs.declared.asked.OrderOptions.{OrderOptions}
 use Rattle.pk_command.specs.declared.asked.GenOptions.{GenOptions}
@@ -9,56 +9,20 @@ use Rattle.pk_command.specs.declared.asked.Command.{Command}
 use Rattle.pk_command.specs.declared.asked.Command.TheVariants.{Run, Order, Gen}
 use Rattle.pk_command.specs.CommandLine.{is_taken}
 use Rattle.pk_command.specs.Given.{AsksFor}
-use Rattle.pk_typed.specs.Trees.{UnitTree}
-use Rattle.pk_calls.specs.declared.listings.CallPath.{CallPath}
-use Rattle.pk_front.specs.declared.status.Status.{Status}
-use Rattle.pk_front.specs.declared.status.Status.TheVariants.{Ok, Usage, Refused, Limit, RunLimit, ReadFault, WriteFault, Memory}
-use Rattle.pk_front.specs.Texts.{HasPaths, IsLeft}
+use Rattle.pk_front.specs.declared.failures.TextError.TheVariants as errors
+use Rattle.pk_front.specs.Texts.{IsRefusedFor}
 use Rattle.pk_graph.specs.Graphs.{GraphOf}
-use Rattle.pk_graph.specs.WellMade.{IsGraph}
-use Rattle.pk_draft.specs.Drafts.{by_number}
-use Rattle.pk_lower.specs.Parts.{point_count, program_draft}
-use Rattle.pk_lower.specs.Paths.{path_of}
-use Rattle.pk_number.specs.Numbering.{numbered}
 use Rattle.pk_analysis.specs.declared.analysis.Options.{Options}
-use Rattle.pk_graph_report.specs.Reported.{IsReport, IsSummary, IsOrderText, IsOver}
+use Rattle.pk_analysis_laws.specs.Systems.{IsOver}
+use Rattle.pk_graph_report.specs.Reported.{IsReport, IsSummary, IsOrderText}
+use Rattle.pk_text_graph.specs.Graphs.{HasGraph, HasNoGraph}
 use Rattle.pk_gen.specs.Generator.{generated}
+use Rattle.pk_text_report.specs.declared.status.Status.{Status}
+use Rattle.pk_text_report.specs.declared.status.Status.TheVariants.{Ok, Usage, Refused, Limit, RunLimit, ReadFault, WriteFault, Memory}
 
--- the greatest numbers of bytes of a text and of points of a graph
+-- the greatest number of bytes of a text
 abbrev pub text_limit : ℕ
 text_limit = 4194304
-
-abbrev pub point_limit : ℕ
-point_limit = 65536
-
--- ---- graphs of texts
-
--- the graph of a typed text with these call paths: its draft, numbered
-abbrev pub graph_of : UnitTree → List CallPath → GraphOf
-graph_of u paths = numbered (map (path_of u paths) paths) (program_draft by_number u paths)
-
--- the graph of a text whose runs begin with this function
-pub record HasGraph (text entry : List ℕ) (g : GraphOf) : Type 0 where
-  pub unit : UnitTree
-  pub paths : List CallPath
-  pub called : HasPaths text entry unit paths
-  pub few : point_count unit paths ≤ point_limit
-  pub graph : g ≡ graph_of unit paths
-
--- it is well made
-abbrev pub GraphsAreWellMade : Type 0
-GraphsAreWellMade = (text entry : List ℕ) (g : GraphOf) → HasGraph text entry g → IsGraph g
-
--- it would have too many points
-pub record HasManyPoints (text entry : List ℕ) : Type 0 where
-  pub unit : UnitTree
-  pub paths : List CallPath
-  pub called : HasPaths text entry unit paths
-  pub many : point_limit < point_count unit paths
-
--- why a text has no graph: it is refused or passes a limit before its call paths are known, or has too many points
-abbrev pub HasNoGraph : (text entry : List ℕ) → Status → Type 0
-HasNoGraph text entry status = IsLeft text entry status ⊎ (HasManyPoints text entry × (status ≡ Limit Points point_limit))
 
 -- ---- commands
 
@@ -81,7 +45,8 @@ text_of (Gen options) left = Some (generated options.seed options.size)
 -- the words ask about this text; words that aren't taken about none
 abbrev pub AskAbout : List (List ℕ) → Option (List ℕ) → List ℕ → Type 0
 AskAbout words left text =
-    ((is_taken words ≡ false) × (text ≡ [])) ⊎ ((command : Command) × AsksFor words command × (text_of command left ≡ Some text))
+    ((is_taken words ≡ false) × (text ≡ []))
+    ⊎ ((command : Command) × AsksFor words command × (text_of command left ≡ Some text))
 
 -- a command that makes its own text
 abbrev pub IsMaking : Command → Type 0
@@ -133,9 +98,11 @@ pub record IsTooLong (text entry : List ℕ) (options : Options) (max_runs : ℕ
   pub over : IsOver graph options max_runs
 
 abbrev pub IsCutOff : (text : List ℕ) → Command → ℕ → Type 0
-IsCutOff text (Run options) max_runs = IsTooLong text options.entry (options_of options) max_runs × (max_runs ≡ options.max_runs)
+IsCutOff text (Run options) max_runs =
+    IsTooLong text options.entry (options_of options) max_runs × (max_runs ≡ options.max_runs)
 IsCutOff text (Order options) max_runs = ⊥
-IsCutOff text (Gen options) max_runs = IsTooLong text (codes "main") default_options max_runs × (max_runs ≡ default_runs)
+IsCutOff text (Gen options) max_runs =
+    IsTooLong text (codes "main") default_options max_runs × (max_runs ≡ default_runs)
 
 -- a text from a source may be too long; a made one isn't asked
 abbrev pub IsShort : List ℕ → Command → Type 0
@@ -153,13 +120,15 @@ IsLong text (Gen options) = ⊥
 -- the text is too long, or its graph has none or too many points
 abbrev pub PassesLimit : Command → List ℕ → Quantity → ℕ → Type 0
 PassesLimit command text what number =
-    (IsLong text command × (what ≡ Text) × (number ≡ text_limit)) ⊎ (IsShort text command × HasNoGraph text (entry_of command) (Limit what number))
+    (IsLong text command × (what ≡ Text) × (number ≡ text_limit))
+    ⊎ (IsShort text command × HasNoGraph text (entry_of command) (errors.Limit what number))
 
 -- The reply to a command about a text, status by status. Nothing is told but a report, an order or a summary.
 abbrev pub IsReply : Command → List ℕ → Status → List ℕ → Type 0
 IsReply command text (Ok unknown) bytes = IsShort text command × IsTold text command unknown bytes
 IsReply command text Usage bytes = ⊥
-IsReply command text (Refused refusal) bytes = IsShort text command × IsLeft text (entry_of command) (Refused refusal) × (bytes ≡ [])
+IsReply command text (Refused refusal) bytes =
+    IsShort text command × IsRefusedFor text (entry_of command) refusal × (bytes ≡ [])
 IsReply command text (Limit what number) bytes = PassesLimit command text what number × (bytes ≡ [])
 IsReply command text (RunLimit max_runs) bytes = IsShort text command × IsCutOff text command max_runs × (bytes ≡ [])
 IsReply command text ReadFault bytes = ⊥
@@ -188,8 +157,8 @@ IsAnswer words text status bytes = IsUsage words status bytes ⊎ Replies words 
 abbrev pub IsStopped : List ℕ → Command → Status → Type 0
 IsStopped text command (Ok unknown) = ⊥
 IsStopped text command Usage = ⊥
-IsStopped text command (Refused refusal) = IsLeft text (entry_of command) (Refused refusal)
-IsStopped text command (Limit what number) = HasNoGraph text (entry_of command) (Limit what number)
+IsStopped text command (Refused refusal) = IsRefusedFor text (entry_of command) refusal
+IsStopped text command (Limit what number) = HasNoGraph text (entry_of command) (errors.Limit what number)
 IsStopped text command (RunLimit max_runs) = IsCutOff text command max_runs
 IsStopped text command ReadFault = ⊥
 IsStopped text command (WriteFault sent) = ⊥
@@ -213,4 +182,5 @@ pub record DifferInWorkers (a b : RunOptions) : Type 0 where
 -- words that differ in the number of workers alone have the same answers
 abbrev pub WorkersTellNothing : Type 0
 WorkersTellNothing = (words other : List (List ℕ)) (text : List ℕ) (o p : RunOptions) (s : Status) (bytes : List ℕ) →
-    AsksFor words (Run o) → AsksFor other (Run p) → DifferInWorkers o p → IsAnswer words text s bytes → IsAnswer other text s bytes
+    AsksFor words (Run o) → AsksFor other (Run p) → DifferInWorkers o p → IsAnswer words text s bytes →
+    IsAnswer other text s bytes

@@ -1,36 +1,27 @@
 // What is told of a text.
 
-ghost use Rattle.std.specs.Prelude.{◌≡◌, ◌++◌, IfOk, IfErr, codes};
+ghost use Rattle.std.specs.Prelude.{◌≡◌, ◌++◌, ◌≤◌, IfOk, IfErr, codes, length};
 ghost use Rattle.pk_command.specs.Given.{IsInRange};
 ghost use Rattle.pk_command.specs.declared.asked.Command.TheVariants as commands;
-ghost use Rattle.pk_ctypes.specs.declared.words.Quantity.TheVariants.{Points};
 ghost use Rattle.pk_graph.specs.Shown.{graph_view};
-ghost use Rattle.pk_text_report.specs.Answers.{HasGraph, HasNoGraph, IsRun, IsOrder, IsMade, IsStopped, IsTold, default_options, options_of, point_limit};
+ghost use Rattle.pk_graph_report.specs.Reported.{IsReport, IsSummary};
+ghost use Rattle.pk_solver.specs.Bounds.{AreInRange, most_points, most_workers};
+ghost use Rattle.pk_solver.specs.Solved.{IsCause};
+ghost use Rattle.pk_text_report.specs.Answers.{IsRun, IsOrder, IsMade, IsStopped, IsTold, default_options, default_runs, options_of};
 
+use crate::status::Status;
 use pk_command::{Command, GenOptions, OrderOptions, RunOptions};
-use pk_ctypes::Quantity;
-use pk_draft::LowerError;
-use pk_front::{Status, front};
 use pk_graph::Graph;
-use pk_graph_report::{Failure, Options, order_of};
-use pk_lower::{draft, graph_paths};
-use pk_number::number;
-use pk_solver::{report_by, summary_by};
-use pk_welltyped_texts::drafts_of_texts_are_typed;
+use pk_graph_report::{order_of, report_of, summary_of};
+use pk_solver::{IterationOptions, Options, SolverError, states};
+use pk_text_graph::{graph_of_text, graphs_are_few};
 use pk_workers::Gate;
 use std::alloc::{AllocError, Global};
 use std::sync::Wait;
 use std::thread::Threads;
 
-// A graph would have too many points.
-fn too_many_points() -> Status
-    ensures { result ≡ Status.Limit Points point_limit }
-{
-    Status::Limit {
-        what: Quantity::Points,
-        number: 65536,
-    }
-}
+// How often an element may be run where the words don't say.
+const DEFAULT_RUNS: u64 = 1000000;
 
 // How a graph is analysed for a run.
 fn analysis_of(options: &RunOptions) -> Options
@@ -49,6 +40,34 @@ fn default_analysis() -> Options
     Options { narrow: 2, oct: 16 }
 }
 
+// What the iteration of a run is asked for.
+fn iteration_of(options: &RunOptions) -> IterationOptions
+    requires { IsInRange (commands.Run options.now) }
+    ensures analysis { result.analysis ≡ options_of options.now }
+    ensures runs { result.max_runs ≡ options.now.max_runs }
+    ensures range { AreInRange result }
+{
+    IterationOptions {
+        analysis: analysis_of(options),
+        workers: options.workers,
+        max_runs: options.max_runs,
+    }
+}
+
+// The same by so many workers where the words don't say more.
+fn default_iteration(workers: u32) -> IterationOptions
+    requires { (1 ≤ workers) × (workers ≤ most_workers) }
+    ensures analysis { result.analysis ≡ default_options }
+    ensures runs { result.max_runs ≡ default_runs }
+    ensures range { AreInRange result }
+{
+    IterationOptions {
+        analysis: default_analysis(),
+        workers,
+        max_runs: DEFAULT_RUNS,
+    }
+}
+
 // A line, of its text.
 fn line_of(text: Vec<u8>) -> Result<Vec<u8>, AllocError>
     ensures { IfOk result (λ line. line.items ≡ text.items ++ codes "\n") }
@@ -58,30 +77,59 @@ fn line_of(text: Vec<u8>) -> Result<Vec<u8>, AllocError>
     Ok(line)
 }
 
-// The seed and the size of a made text.
-fn made_from(options: &GenOptions) -> (usize, usize)
-    ensures seed { result.0 ≡ options.now.seed }
-    ensures size { result.1 ≡ options.now.size }
+// The report on a graph, of every point or of its heads, and its number of unknown verdicts.
+fn graph_report<R: Threads + Wait + Sync, G: Gate + Sync>(
+    rt: &R,
+    alloc: Global,
+    gate: &G,
+    graph: &Graph,
+    iteration: &IterationOptions,
+    all: bool,
+) -> Result<(Vec<u8>, usize), SolverError>
+    requires few { length (graph_view graph.now).points ≤ most_points }
+    requires range { AreInRange iteration.now }
+    ensures ok { IfOk result (λ r.
+        IsReport (graph_view graph.now) iteration.now.analysis iteration.now.max_runs all r.1 r.0.items) }
+    ensures err { IfErr result (IsCause (graph_view graph.now) iteration.now.analysis iteration.now.max_runs) }
 {
-    (options.seed as usize, options.size as usize)
+    let solution = states(rt, alloc, gate, graph, iteration)?;
+    Ok(report_of(
+        alloc,
+        graph,
+        iteration.analysis,
+        &solution.plan,
+        &solution.states,
+        all,
+    )?)
 }
 
-// The graph of a text whose runs begin with a function.
-fn graph_of_text(alloc: Global, text: &[u8], entry: &str) -> Result<Graph, Status>
-    ensures graph { IfOk result (λ graph. HasGraph text.now entry.now (graph_view graph)) }
-    ensures none { IfErr result (HasNoGraph text.now entry.now) }
+// The summary of a made text of `text_length` bytes, and its number of unknown verdicts.
+fn graph_summary<R: Threads + Wait + Sync, G: Gate + Sync>(
+    rt: &R,
+    alloc: Global,
+    gate: &G,
+    graph: &Graph,
+    iteration: &IterationOptions,
+    options: &GenOptions,
+    text_length: usize,
+) -> Result<(Vec<u8>, usize), SolverError>
+    requires few { length (graph_view graph.now).points ≤ most_points }
+    requires range { AreInRange iteration.now }
+    ensures ok { IfOk result (λ r. IsSummary (graph_view graph.now) iteration.now.analysis iteration.now.max_runs
+        options.now.seed options.now.size text_length r.1 r.0.items) }
+    ensures err { IfErr result (IsCause (graph_view graph.now) iteration.now.analysis iteration.now.max_runs) }
 {
-    let (unit, paths) = front(alloc, text, entry)?;
-    let draft = match draft(alloc, &unit, &paths) {
-        Ok(draft) => draft,
-        Err(LowerError::Limit) => {
-            return Err(too_many_points());
-        }
-        Err(LowerError::Memory) => return Err(Status::Memory),
-    };
-    let list = graph_paths(alloc, &unit, &paths)?;
-    drafts_of_texts_are_typed();
-    Ok(number(alloc, list, draft)?)
+    let solution = states(rt, alloc, gate, graph, iteration)?;
+    Ok(summary_of(
+        alloc,
+        graph,
+        iteration.analysis,
+        &solution.plan,
+        &solution.states,
+        options.seed as usize,
+        options.size as usize,
+        text_length,
+    )?)
 }
 
 // The report on a text.
@@ -96,24 +144,15 @@ fn run_told<R: Threads + Wait + Sync, G: Gate + Sync>(
     ensures told { IfOk result (λ made. IsRun text.now options.now made.1 made.0.items) }
     ensures stopped { IfErr result (IsStopped text.now (commands.Run options.now)) }
 {
+    graphs_are_few();
     let graph = graph_of_text(alloc, text, options.entry.as_str())?;
-    let analysis = analysis_of(options);
-    let (workers, runs) = (options.workers, options.max_runs);
-    match report_by(
-        rt,
-        alloc,
-        gate,
-        &graph,
-        analysis,
-        workers,
-        runs,
-        options.points,
-    ) {
+    let iteration = iteration_of(options);
+    match graph_report(rt, alloc, gate, &graph, &iteration, options.points) {
         Ok((bytes, unknown)) => Ok((bytes, unknown as u64)),
-        Err(Failure::RunLimit) => Err(Status::RunLimit {
+        Err(SolverError::RunLimit) => Err(Status::RunLimit {
             max_runs: options.max_runs,
         }),
-        Err(Failure::Memory) => Err(Status::Memory),
+        Err(SolverError::Memory) => Err(Status::Memory),
     }
 }
 
@@ -139,16 +178,15 @@ fn gen_told<R: Threads + Wait + Sync, G: Gate + Sync>(
     ensures told { IfOk result (λ made. IsMade text.now options.now made.1 made.0.items) }
     ensures stopped { IfErr result (IsStopped text.now (commands.Gen options.now)) }
 {
+    graphs_are_few();
     let graph = graph_of_text(alloc, text, "main")?;
-    let analysis = default_analysis();
-    let (seed, size) = made_from(options);
-    let (workers, length) = (options.workers, text.len());
-    match summary_by(
-        rt, alloc, gate, &graph, analysis, workers, 1000000, seed, size, length,
-    ) {
+    let iteration = default_iteration(options.workers);
+    match graph_summary(rt, alloc, gate, &graph, &iteration, options, text.len()) {
         Ok((bytes, unknown)) => Ok((bytes, unknown as u64)),
-        Err(Failure::RunLimit) => Err(Status::RunLimit { max_runs: 1000000 }),
-        Err(Failure::Memory) => Err(Status::Memory),
+        Err(SolverError::RunLimit) => Err(Status::RunLimit {
+            max_runs: DEFAULT_RUNS,
+        }),
+        Err(SolverError::Memory) => Err(Status::Memory),
     }
 }
 

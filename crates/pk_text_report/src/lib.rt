@@ -1,8 +1,10 @@
-//! What is told of a text.
+//! What is told of a text, and how a command ends.
 #![tactic(auto)]
 
 mod answers;
 mod laws;
+mod status;
 
 pub use answers::told;
-pub use laws::{answer_law, graphs_are_well_made, workers_law};
+pub use laws::{answer_law, workers_law};
+pub use status::Status;

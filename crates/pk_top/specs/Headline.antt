@@ -2,8 +2,8 @@
 use Rattle.std.specs.Prelude.{◌≡◌, ℕ, ◌<◌, List, [], length, take}
 use Rattle.std.specs.declared.option.Option.{Option}
 use Rattle.std.specs.Io.KnownBytes.{Appends, Keeps}
-use Rattle.pk_front.specs.declared.status.Status.{Status}
-use Rattle.pk_front.specs.declared.status.Status.TheVariants.{Ok, Usage, Refused, Limit, RunLimit, ReadFault, WriteFault, Memory}
+use Rattle.pk_text_report.specs.declared.status.Status.{Status}
+use Rattle.pk_text_report.specs.declared.status.Status.TheVariants.{Ok, Usage, Refused, Limit, RunLimit, ReadFault, WriteFault, Memory}
 use Rattle.pk_ctypes.specs.declared.words.Quantity.TheVariants.{Text}
 use Rattle.pk_command.specs.declared.asked.Command.{Command}
 use Rattle.pk_text_report.specs.Answers.{IsAnswer, IsLong, text_limit}
@@ -19,7 +19,8 @@ IsSuccess (WriteFault sent) = ⊥
 IsSuccess Memory = ⊥
 
 -- the status is the answer's, and exactly its bytes were written
-pub record Gives (words : List (List ℕ)) (text : List ℕ) (status : Status) (before after : Option (List ℕ)) : Type 0 where
+pub record Gives (words : List (List ℕ)) (text : List ℕ) (status : Status)
+    (before after : Option (List ℕ)) : Type 0 where
   pub bytes : List ℕ
   pub answer : IsAnswer words text status bytes
   pub written : Appends before after bytes

@@ -13,13 +13,17 @@ abbrev pub AskInRange : List (List ℕ) → Type 0
 AskInRange words = (command : Command) × AsksFor words command × IsInRange command
 
 -- A report and a summary are true of every run of the C program that the text is; an order tells nothing of runs.
-abbrev pub IsTrueTold : (text : List ℕ) (command : Command) (unknown : ℕ) (bytes : List ℕ) → IsTold text command unknown bytes → Type 0
-IsTrueTold text (Run options) unknown bytes told = IsTrueOfProgram (program_of told.has_graph) told.graph told.report.states
+abbrev pub IsTrueTold : (text : List ℕ) (command : Command) (unknown : ℕ) (bytes : List ℕ) →
+    IsTold text command unknown bytes → Type 0
+IsTrueTold text (Run options) unknown bytes told =
+    IsTrueOfProgram (program_of told.has_graph) told.graph told.report.states
 IsTrueTold text (Order options) unknown bytes told = Unit {0}
-IsTrueTold text (Gen options) unknown bytes told = IsTrueOfProgram (program_of told.has_graph) told.graph told.summary.states
+IsTrueTold text (Gen options) unknown bytes told =
+    IsTrueOfProgram (program_of told.has_graph) told.graph told.summary.states
 
 -- The words ask for a command, exactly the bytes of what it tells of the text were written, and that is true.
-pub record TellsTruth (words : List (List ℕ)) (text : List ℕ) (unknown : ℕ) (before after : Option (List ℕ)) : Type 0 where
+pub record TellsTruth (words : List (List ℕ)) (text : List ℕ) (unknown : ℕ)
+    (before after : Option (List ℕ)) : Type 0 where
   pub command : Command
   pub asked : AsksFor words command
   pub bytes : List ℕ

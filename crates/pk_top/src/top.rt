@@ -11,11 +11,10 @@ ghost use Rattle.pk_top.specs.Truth.{AskInRange, TellsTruth};
 
 use pk_command::{Command, WordsError, read_words};
 use pk_ctypes::Quantity;
-use pk_front::Status;
 use pk_gen::generate;
 use pk_io::{ReadError, Sink, Source, read_all, write_all};
 use pk_report_laws::reports_are_true_of_programs;
-use pk_text_report::told;
+use pk_text_report::{Status, told};
 use pk_workers::Gate;
 use std::alloc::Global;
 use std::sync::Wait;
@@ -62,9 +61,11 @@ fn source_text<S: Source>(alloc: Global, src: &mut S) -> Result<Vec<u8>, Status>
 // The text that a command is about.
 fn text<S: Source>(alloc: Global, command: &Command, src: &mut S) -> Result<Vec<u8>, Status>
     requires range { IsInRange command.now }
-    ensures text { (t : List ℕ) → text_of command.now (S.left src.old) ≡ Some t → IfOk result (λ bytes. bytes.items ≡ t) }
+    ensures text { (t : List ℕ) → text_of command.now (S.left src.old) ≡ Some t →
+        IfOk result (λ bytes. bytes.items ≡ t) }
     ensures short { IfOk result (λ bytes. IsShort bytes.items command.now) }
-    ensures none { (t : List ℕ) → text_of command.now (S.left src.old) ≡ Some t → IfErr result (IsTextless t command.now) }
+    ensures none { (t : List ℕ) → text_of command.now (S.left src.old) ≡ Some t →
+        IfErr result (IsTextless t command.now) }
     ensures stop { IfErr result IsStop }
     ensures fault { result ≡ Err Status.ReadFault → Rose (S.faults src.old) (S.faults src.new) }
     ensures usage { result ≡ Err Status.Usage → ⊥ }
@@ -88,11 +89,13 @@ fn make<R: Threads + Wait + Sync, S: Source, G: Gate + Sync>(
 ) -> Result<(Vec<u8>, u64), Status>
     ensures made { (text : List ℕ) → AskAbout (map string_bytes words.now) (S.left src.old) text → IfOk result (λ made.
         IsAnswer (map string_bytes words.now) text (Status.Ok made.1) made.0.items) }
-    ensures untold { (text : List ℕ) → AskAbout (map string_bytes words.now) (S.left src.old) text → IfErr result (IsUntold (map string_bytes words.now) text) }
+    ensures untold { (text : List ℕ) → AskAbout (map string_bytes words.now) (S.left src.old) text →
+        IfErr result (IsUntold (map string_bytes words.now) text) }
     ensures range { OnOk result (AskInRange (map string_bytes words.now)) }
     ensures stop { IfErr result IsStop }
     ensures usage { result ≡ Err Status.Usage → is_taken (map string_bytes words.now) ≡ false }
-    ensures refused { is_taken (map string_bytes words.now) ≡ false → (result ≡ Err Status.Usage) ⊎ (result ≡ Err Status.Memory) }
+    ensures refused { is_taken (map string_bytes words.now) ≡ false →
+        (result ≡ Err Status.Usage) ⊎ (result ≡ Err Status.Memory) }
     ensures unread { AskNoSource (map string_bytes words.now) → src.new ≡ src.old }
     ensures whole { OnOk result (AskNoSource (map string_bytes words.now) ⊎ IsAtEnd (S.left src.new)) }
     ensures fault { result ≡ Err Status.ReadFault → Rose (S.faults src.old) (S.faults src.new) }
@@ -116,7 +119,8 @@ pub fn pikos<R: Threads + Wait + Sync, S: Source, K: Sink, G: Gate + Sync>(
         Answers (map string_bytes words.now) text result (K.written out.old) (K.written out.new) }
 
     // At a success what was written is true of every run of the C program that the text is: of what its visits know, and of the fault at its end.
-    ensures truth { (text : List ℕ) → AskAbout (map string_bytes words.now) (S.left src.old) text → (unknown : ℕ) → result ≡ Status.Ok unknown →
+    ensures truth { (text : List ℕ) → AskAbout (map string_bytes words.now) (S.left src.old) text → (unknown : ℕ) →
+        result ≡ Status.Ok unknown →
         TellsTruth (map string_bytes words.now) text unknown (K.written out.old) (K.written out.new) }
 
     // A fault of reading or writing is told only where the device has counted one in this call.
@@ -124,13 +128,15 @@ pub fn pikos<R: Threads + Wait + Sync, S: Source, K: Sink, G: Gate + Sync>(
     ensures write_fault { (sent : ℕ) → result ≡ Status.WriteFault sent → Rose (K.faults out.old) (K.faults out.new) }
 
     // With no fault and enough memory the status and the bytes are the answer's.
-    ensures complete { (Rose (S.faults src.old) (S.faults src.new) → ⊥) → (Rose (K.faults out.old) (K.faults out.new) → ⊥) →
+    ensures complete { (Rose (S.faults src.old) (S.faults src.new) → ⊥) →
+        (Rose (K.faults out.old) (K.faults out.new) → ⊥) →
         result ≢ Status.Memory → (text : List ℕ) → AskAbout (map string_bytes words.now) (S.left src.old) text →
         Gives (map string_bytes words.now) text result (K.written out.old) (K.written out.new) }
 
     // Only words that aren't taken are told as usage. They are refused, whatever the devices do.
     ensures usage { result ≡ Status.Usage → is_taken (map string_bytes words.now) ≡ false }
-    ensures refused { is_taken (map string_bytes words.now) ≡ false → (result ≡ Status.Usage) ⊎ (result ≡ Status.Memory) }
+    ensures refused { is_taken (map string_bytes words.now) ≡ false →
+        (result ≡ Status.Usage) ⊎ (result ≡ Status.Memory) }
 
     // Words that aren't taken and those that ask for a made text leave the source as it was.
     ensures unread { AskNoSource (map string_bytes words.now) → src.new ≡ src.old }

@@ -2,7 +2,6 @@
 
 use pk_io::{MemSink, MemSource};
 use pk_top::{Gate, NoGate, Status, pikos};
-use pk_words::Hold;
 use std::alloc::{AllocError, Global};
 use std::sync::Wait;
 use std::sync::atomic::{AtomicU64, Ordering};
@@ -276,8 +275,12 @@ struct Meeting {
 }
 
 impl Gate for Meeting {
-    fn before<R: Threads + Wait>(&self, _rt: &R, _worker: u32, hold: &Hold) {
-        if hold.run() == 0 && (hold.element() == self.one || hold.element() == self.other) {
+    fn watches(&self) -> bool {
+        true
+    }
+
+    fn before<R: Threads + Wait>(&self, _rt: &R, _worker: u32, element: u32, run: u64) {
+        if run == 0 && (element == self.one || element == self.other) {
             self.begun.fetch_add(1, Ordering::SeqCst);
             for _ in 0..100000000u32 {
                 if self.begun.load(Ordering::SeqCst) == 2 {
@@ -288,7 +291,7 @@ impl Gate for Meeting {
         }
     }
 
-    fn after<R: Threads + Wait>(&self, _rt: &R, _worker: u32, _hold: &Hold) {}
+    fn after<R: Threads + Wait>(&self, _rt: &R, _worker: u32, _element: u32, _run: u64) {}
 }
 
 // Both branches of a choice have a loop, whose heads are elements 5 and 13: neither waits for the other, so two workers run them at once.

@@ -7,7 +7,7 @@ use Rattle.pk_congr.specs.Classes.{Class}
 use Rattle.pk_congr.specs.Classes as classes
 use Rattle.pk_congr.specs.Laws.{IsOf}
 use Rattle.pk_congr.proofs.Keeping.{unchanged}
-use Rattle.pk_value.specs.Known.{Known, red_known}
+use Rattle.pk_value.specs.Known.{Known}
 use Rattle.pk_value.specs.Known as known
 use Rattle.pk_value.proofs.Tight.{tight_is_reduced, class_of_tight}
 use Rattle.pk_octmat.specs.Octagon.{Octagon}

@@ -21,8 +21,9 @@ use Rattle.pk_state.specs.Facts.{known_at}
 use Rattle.pk_transfer.specs.Trees.{IsOver}
 use Rattle.pk_analysis.specs.Starts.{joined_with, known_of_numbers, known_of_start, start_known, start_facts}
 use Rattle.pk_sound.proofs.Begun.{start_stays}
-use Rattle.pk_sound.proofs.Values_stay.{any_value, exactly_value}
+use Rattle.pk_sound.proofs.Values_stay.{exactly_value}
 use Rattle.pk_analysis_laws.specs.Ranks.States.{IsStateOf}
+use Rattle.pk_state.proofs.Tops.{any_value}
 
 -- a value's class is one of the type
 IsClassOf : IntType → Known → Type 0

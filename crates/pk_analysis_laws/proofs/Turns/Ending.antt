@@ -15,11 +15,11 @@ use Rattle.pk_phases.specs.Equations.{behaviour_of}
 use Rattle.pk_phases.specs.Turns.{turn_bound}
 use Rattle.pk_phases.proofs.Planned_turns.{linear_order_ends}
 use Rattle.pk_analysis.specs.Flows.{equations_of, state_operations}
-use Rattle.pk_graph_report.proofs.Sorting.{same_members}
 use Rattle.pk_sound.proofs.Planning.{analyses_go_by_plan}
 use Rattle.pk_analysis_laws.specs.Ranks.States.{IsStateOf, bound_of, rank_in}
 use Rattle.pk_analysis_laws.proofs.Ranks.Ranked.{states_are_ranked, widening_chains_end}
 use Rattle.pk_analysis_laws.specs.Turns.Ended.{AnalysesEnd, GraphChainsEnd, SmallBounds}
+use Rattle.pk_analysis_laws.proofs.Sorting.{thresholds_same}
 use Rattle.pk_analysis_laws.proofs.Turns.Cells.{KnowsState, analysis_keeps}
 
 -- states have a rank
@@ -29,9 +29,6 @@ stated_ranks l thresholds = record {
   stays = λ h n f g. states_are_ranked.stays l thresholds h.facts n.facts f g;
   falls = λ h n f g e. states_are_ranked.falls l thresholds h.facts n.facts f g e;
 }
-
-thresholds_same : (g : GraphOf) (a b : List ℤ) → AreThresholds g a → AreThresholds g b → a ≡ b
-thresholds_same g a b h k = same_members a b h.rising k.rising (λ z i. (k.each z).1 ((h.each z).0 i)) (λ z i. (h.each z).1 ((k.each z).0 i))
 
 -- the bound of the graph's layout is that of the graph
 bound_is : (g : GraphOf) (oct : ℕ) (l : Layout) (ts : List ℤ) → l ≡ layout_of g oct → bound_of l ts ≡ chain_bound_of (length g.variables) (length ts) (length (octagon_variables_of g oct))

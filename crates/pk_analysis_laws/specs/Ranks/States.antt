@@ -35,24 +35,32 @@ rank_in l thresholds (Some f) = moves_from l thresholds 0 f.values + numbers_of 
 
 -- It is a rank of widening steps: at most the bound, never more after a step, fewer after one by a state that isn't below.
 pub record StatesAreRanked : Type 0 where
-  pub few : (l : Layout) (thresholds : List ℤ) (h : Option Facts) → IsStateOf l h → rank_in l thresholds h ≤ bound_of l thresholds
-  pub stays : (l : Layout) (thresholds : List ℤ) (h n : Option Facts) → IsStateOf l h → IsStateOf l n → rank_in l thresholds (widened l thresholds h n) ≤ rank_in l thresholds h
-  pub falls : (l : Layout) (thresholds : List ℤ) (h n : Option Facts) → IsStateOf l h → IsStateOf l n → is_below n h ≡ false → rank_in l thresholds (widened l thresholds h n) < rank_in l thresholds h
+  pub few : (l : Layout) (thresholds : List ℤ) (h : Option Facts) → IsStateOf l h →
+      rank_in l thresholds h ≤ bound_of l thresholds
+  pub stays : (l : Layout) (thresholds : List ℤ) (h n : Option Facts) → IsStateOf l h → IsStateOf l n →
+      rank_in l thresholds (widened l thresholds h n) ≤ rank_in l thresholds h
+  pub falls : (l : Layout) (thresholds : List ℤ) (h n : Option Facts) → IsStateOf l h → IsStateOf l n →
+      is_below n h ≡ false → rank_in l thresholds (widened l thresholds h n) < rank_in l thresholds h
 
 -- each state is one that isn't below what there is, and is widened into it
 abbrev pub IsChain : Layout → List ℤ → Option Facts → List (Option Facts) → Type 0
 IsChain l thresholds h [] = Unit {0}
-IsChain l thresholds h (n ∷ ns) = IsStateOf l n × (is_below n h ≡ false) × IsChain l thresholds (widened l thresholds h n) ns
+IsChain l thresholds h (n ∷ ns) =
+    IsStateOf l n × (is_below n h ≡ false) × IsChain l thresholds (widened l thresholds h n) ns
 
 -- A widening step is above what there was, and where the new state isn't below that, it is another; no list of such steps is longer than the bound.
 pub record WideningChainsEnd : Type 0 where
-  pub above : (l : Layout) (thresholds : List ℤ) (h n : Option Facts) → IsStateOf l h → IsStateOf l n → IsBelow h (widened l thresholds h n)
-  pub differs : (l : Layout) (thresholds : List ℤ) (h n : Option Facts) → IsStateOf l h → IsStateOf l n → is_below n h ≡ false → widened l thresholds h n ≢ h
-  pub ends : (l : Layout) (thresholds : List ℤ) (h : Option Facts) (ns : List (Option Facts)) → IsStateOf l h → IsChain l thresholds h ns → length ns ≤ bound_of l thresholds
+  pub above : (l : Layout) (thresholds : List ℤ) (h n : Option Facts) → IsStateOf l h → IsStateOf l n →
+      IsBelow h (widened l thresholds h n)
+  pub differs : (l : Layout) (thresholds : List ℤ) (h n : Option Facts) → IsStateOf l h → IsStateOf l n →
+      is_below n h ≡ false → widened l thresholds h n ≢ h
+  pub ends : (l : Layout) (thresholds : List ℤ) (h : Option Facts) (ns : List (Option Facts)) → IsStateOf l h →
+      IsChain l thresholds h ns → length ns ≤ bound_of l thresholds
 
 -- What is made of such states is one; and the reduction of any facts of the layout is.
 pub record StatesStay : Type 0 where
   pub joins : (l : Layout) (a b : Option Facts) → IsStateOf l a → IsStateOf l b → IsStateOf l (joined a b)
-  pub widenings : (l : Layout) (thresholds : List ℤ) (h n : Option Facts) → IsStateOf l h → IsStateOf l n → IsStateOf l (widened l thresholds h n)
+  pub widenings : (l : Layout) (thresholds : List ℤ) (h n : Option Facts) → IsStateOf l h → IsStateOf l n →
+      IsStateOf l (widened l thresholds h n)
   pub narrowings : (l : Layout) (h n : Option Facts) → IsStateOf l h → IsStateOf l n → IsStateOf l (narrowed l h n)
   pub reductions : (l : Layout) (f : Option Facts) → IsLayout l → AreFactsIf l f → IsStateOf l (reduced l f)

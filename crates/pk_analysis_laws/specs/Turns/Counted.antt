@@ -10,7 +10,7 @@ use Rattle.pk_iterate.specs.Ending.{result_count}
 use Rattle.pk_iterate.specs.BoundedTurns.{EndsWithin}
 use Rattle.pk_phases.specs.Turns.{turn_bound}
 use Rattle.pk_analysis.specs.declared.analysis.Options.{Options}
-use Rattle.pk_graph_report.specs.Reported.{IsOver}
+use Rattle.pk_analysis_laws.specs.Systems.{IsOver}
 
 abbrev pub once_at : ℕ → ℕ → ℕ
 once_at v e = if v == e then 1 else 0
@@ -19,7 +19,8 @@ once_at v e = if v == e then 1 else 0
 abbrev pub runs_within : (turns : ℕ) → Level → ℕ → ℕ
 runs_within turns Empty e = 0
 runs_within turns (Vertex_then v more) e = once_at v e + runs_within turns more e
-runs_within turns (Component_then head exit rest more) e = turns * (once_at head e + (once_at exit e + runs_within turns rest e)) + runs_within turns more e
+runs_within turns (Component_then head exit rest more) e =
+    turns * (once_at head e + (once_at exit e + runs_within turns rest e)) + runs_within turns more e
 
 -- how deep components stand in components
 abbrev pub depth_of : Level → ℕ
@@ -29,9 +30,13 @@ depth_of (Component_then head exit rest more) = max (1 + depth_of rest) (depth_o
 
 -- An element is run at most so often, which is at most the turns to the power of the order's depth.
 pub record RunsAreFew {C : Type 0} (b : Behaviour C) : Type 0 where
-  pub counts : (order : Level) (turns : ℕ) (within : EndsWithin b order turns) (e : ℕ) → result_count within.ends e ≤ runs_within turns order e
-  pub power : (order : Level) (turns : ℕ) → 1 ≤ turns → Once order → (e : ℕ) → runs_within turns order e ≤ turns ^ depth_of order
+  pub counts : (order : Level) (turns : ℕ) (within : EndsWithin b order turns) (e : ℕ) →
+      result_count within.ends e ≤ runs_within turns order e
+  pub power : (order : Level) (turns : ℕ) → 1 ≤ turns → Once order → (e : ℕ) →
+      runs_within turns order e ≤ turns ^ depth_of order
 
 -- Some element of a graph is run more often than the limit only where the limit is below the turns to the power of the depth of the graph's order.
 abbrev pub LimitsAreLow : Type 0
-LimitsAreLow = (g : GraphOf) (o : Options) (most chain : ℕ) → IsGraph g → o.oct < 2 ^ 31 → IsChainBound g o.oct chain → (over : IsOver g o most) → most < turn_bound chain o.narrow ^ depth_of over.order
+LimitsAreLow =
+    (g : GraphOf) (o : Options) (most chain : ℕ) → IsGraph g → o.oct < 2 ^ 31 → IsChainBound g o.oct chain →
+    (over : IsOver g o most) → most < turn_bound chain o.narrow ^ depth_of over.order

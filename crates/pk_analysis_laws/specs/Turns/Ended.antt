@@ -16,13 +16,15 @@ use Rattle.pk_phases.specs.Turns.{turn_bound}
 use Rattle.pk_analysis.specs.declared.analysis.Options.{Options}
 use Rattle.pk_analysis.specs.Flows.{Flow, equations_of}
 use Rattle.pk_analysis.specs.Made.{IsAnalysisOf}
-use Rattle.pk_graph_report.specs.Reported.{IsSystem}
+use Rattle.pk_analysis_laws.specs.Systems.{IsSystem}
 use Rattle.pk_analysis_laws.specs.Ranks.States.{IsStateOf, IsChain}
 
 -- No list of widening steps of states over a graph is longer than its bound.
 abbrev pub GraphChainsEnd : Type 0
 GraphChainsEnd =
-    (g : GraphOf) (oct chain : ℕ) (thresholds : List ℤ) (h : Option Facts) (ns : List (Option Facts)) → IsChainBound g oct chain → AreThresholds g thresholds → IsStateOf (layout_of g oct) h → IsChain (layout_of g oct) thresholds h ns → length ns ≤ chain
+    (g : GraphOf) (oct chain : ℕ) (thresholds : List ℤ) (h : Option Facts) (ns : List (Option Facts)) →
+    IsChainBound g oct chain → AreThresholds g thresholds → IsStateOf (layout_of g oct) h →
+    IsChain (layout_of g oct) thresholds h ns → length ns ≤ chain
 
 -- what is known at an element after these runs; nothing at an exit
 abbrev pub known_after : Flow → List (ℕ × Cell Stated) → ℕ → Option Facts
@@ -30,7 +32,9 @@ known_after a runs e = (value_of (equations_of a).bottom (cell_after (behaviour_
 
 -- what the point's equation gives after these runs
 abbrev pub given_after : Flow → List (ℕ × Cell Stated) → ℕ → Option Facts
-given_after a runs e = (new_value (equations_of a) e (map (cell_after (behaviour_of (equations_of a)) runs) ((equations_of a).sources e))).facts
+given_after a runs e =
+    (new_value (equations_of a) e
+    (map (cell_after (behaviour_of (equations_of a)) runs) ((equations_of a).sources e))).facts
 
 -- at an element after these runs: both are states in which classes are of their variables' types
 pub record HasStates (a : Flow) (runs : List (ℕ × Cell Stated)) (e : ℕ) : Type 0 where
@@ -39,12 +43,14 @@ pub record HasStates (a : Flow) (runs : List (ℕ × Cell Stated)) (e : ℕ) : T
 
 abbrev pub CellsAreStates : Type 0
 CellsAreStates =
-    (g : GraphOf) (o : Options) (p : PlanView) (order : Level) (a : Flow) → IsGraph g → o.oct < 2 ^ 31 → IsAnalysisOf g p o a → (n e : ℕ) → HasStates a (progress (behaviour_of (equations_of a)) order n).runs e
+    (g : GraphOf) (o : Options) (p : PlanView) (order : Level) (a : Flow) → IsGraph g → o.oct < 2 ^ 31 →
+    IsAnalysisOf g p o a → (n e : ℕ) → HasStates a (progress (behaviour_of (equations_of a)) order n).runs e
 
 -- The recursion over the order ends, and each entry of a component runs its head at most so often.
 abbrev pub AnalysesEnd : Type 0
 AnalysesEnd =
-    (g : GraphOf) (o : Options) (p : PlanView) (order : Level) (a : Flow) (chain : ℕ) → IsGraph g → o.oct < 2 ^ 31 → IsSystem g o p order a → IsChainBound g o.oct chain
+    (g : GraphOf) (o : Options) (p : PlanView) (order : Level) (a : Flow) (chain : ℕ) → IsGraph g → o.oct < 2 ^ 31 →
+    IsSystem g o p order a → IsChainBound g o.oct chain
     → EndsWithin (behaviour_of (equations_of a)) order (turn_bound chain o.narrow)
 
 -- two scalars, seven thresholds and one variable in the octagon, with two runs that narrow

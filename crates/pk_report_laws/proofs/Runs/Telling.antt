@@ -21,7 +21,8 @@ use Rattle.pk_phases.specs.Equations.{behaviour_of}
 use Rattle.pk_analysis.specs.declared.analysis.Options.{Options}
 use Rattle.pk_analysis.specs.Flows.{stated, equations_of, reduced_cell}
 use Rattle.pk_report.specs.Reports.{no_state, state_at}
-use Rattle.pk_graph_report.specs.Reported.{AreStates, verdict_at}
+use Rattle.pk_graph_report.specs.Reported.{verdict_at}
+use Rattle.pk_solver.specs.Solved.{AreStates}
 use Rattle.pk_sound.specs.Runs.{Reaches, begins, steps}
 use Rattle.pk_sound.specs.Results.{IsAnalysed, cell_at}
 use Rattle.pk_sound.specs.Held.{Agrees, ResultHoldsRuns}

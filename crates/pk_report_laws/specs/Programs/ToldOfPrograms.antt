@@ -14,13 +14,14 @@ use Rattle.pk_plan.specs.Plans.{PlanView}
 use Rattle.pk_analysis.specs.declared.analysis.Options.{Options}
 use Rattle.pk_report.specs.Values.{name_of, bounds_of}
 use Rattle.pk_report.specs.Reports.{state_at}
-use Rattle.pk_graph_report.specs.Reported.{AreStates, verdict_at}
+use Rattle.pk_graph_report.specs.Reported.{verdict_at}
+use Rattle.pk_solver.specs.Solved.{AreStates}
 use Rattle.pk_meaning.specs.Programs.{Program}
 use Rattle.pk_meaning.specs.Runs.{Known, Visit}
 use Rattle.pk_visits.specs.GraphVisits.{is_visit}
 use Rattle.pk_visits.specs.SameVisits.{ProgramVisits, HaveSameVisits}
 use Rattle.pk_report_laws.specs.Runs.True.{AreTrueOf}
-use Rattle.pk_text_report.specs.Answers.{HasGraph}
+use Rattle.pk_text_graph.specs.Graphs.{HasGraph}
 
 -- ---- visits
 
@@ -48,7 +49,8 @@ pub record IsToldAt (g : GraphOf) (l : Layout) (f : Facts) (point : ℕ) (v : Vi
   pub path : (point_at g point).path ≡ v.path
   pub place : (point_at g point).at ≡ v.at
   pub values : AllZip (IsKnownAs g f) (point_at g point).scope v.known
-  pub pairs : (i j k m : ℕ) (x y : ℤ) → IsPlacedAt g l point v i k x → IsPlacedAt g l point v j m y → AreBounded (entry f.octagon) k m x y
+  pub pairs : (i j k m : ℕ) (x y : ℤ) → IsPlacedAt g l point v i k x → IsPlacedAt g l point v j m y →
+      AreBounded (entry f.octagon) k m x y
 
 -- no visit is of a point that is told as unreachable
 abbrev pub IsToldIf : GraphOf → Layout → Option Facts → ℕ → Visit → Type 0
@@ -67,8 +69,10 @@ pub record IsToldVisit (g : GraphOf) (states : List Stated) (v : Visit) : Type 0
 -- Visits along edges from a point: the end of each edge is one, told there, unless the edge writes a variable that isn't in scope at its end.
 pub data AreToldAlong (g : GraphOf) (states : List Stated) : ℕ → List Visit → Type 0 where
   ends : {p : ℕ} → AreToldAlong g states p []
-  seen : {p : ℕ} {e : EdgeOf} {v : Visit} {vs : List Visit} → Contains (point_at g p).edges e → is_visit g e ≡ true → IsToldOf g states e.to v → AreToldAlong g states e.to vs → AreToldAlong g states p (v ∷ vs)
-  passed : {p : ℕ} {e : EdgeOf} {vs : List Visit} → Contains (point_at g p).edges e → is_visit g e ≡ false → AreToldAlong g states e.to vs → AreToldAlong g states p vs
+  seen : {p : ℕ} {e : EdgeOf} {v : Visit} {vs : List Visit} → Contains (point_at g p).edges e → is_visit g e ≡ true →
+      IsToldOf g states e.to v → AreToldAlong g states e.to vs → AreToldAlong g states p (v ∷ vs)
+  passed : {p : ℕ} {e : EdgeOf} {vs : List Visit} → Contains (point_at g p).edges e → is_visit g e ≡ false →
+      AreToldAlong g states e.to vs → AreToldAlong g states p vs
 
 -- The visits are those of a walk of the graph from point 0, each told of the point at which the walk is.
 pub record AreToldInOrder (g : GraphOf) (states : List Stated) (visits : List Visit) : Type 0 where
@@ -102,7 +106,8 @@ pub record IsTrueOfProgram (p : Program) (g : GraphOf) (states : List Stated) : 
   pub runs : HaveSameVisits p g
   pub points : AreTrueOf g states
   pub walks : (visits : List Visit) (end : Option Failure) → ProgramVisits p visits end → AreToldInOrder g states visits
-  pub visits : (visits : List Visit) (end : Option Failure) → ProgramVisits p visits end → All (IsToldVisit g states) visits
+  pub visits : (visits : List Visit) (end : Option Failure) → ProgramVisits p visits end →
+      All (IsToldVisit g states) visits
   pub faults : (visits : List Visit) (end : Option Failure) → ProgramVisits p visits end → IsToldEnd g states end
 
 -- the program that a text is, with its call paths
@@ -112,5 +117,6 @@ program_of h = record { unit = h.unit; paths = h.paths }
 -- The states that are told of a text's graph are true of every run of the program that the text is.
 abbrev pub ReportsAreTrueOfPrograms : Type 0
 ReportsAreTrueOfPrograms =
-    (text entry : List ℕ) (g : GraphOf) (h : HasGraph text entry g) (o : Options) (most : ℕ) (p : PlanView) (states : List Stated) → o.oct < 2 ^ 31 → AreStates g o most p states
+    (text entry : List ℕ) (g : GraphOf) (h : HasGraph text entry g) (o : Options) (most : ℕ) (p : PlanView)
+    (states : List Stated) → o.oct < 2 ^ 31 → AreStates g o most p states
     → IsTrueOfProgram (program_of h) g states

@@ -12,7 +12,8 @@ use Rattle.pk_command.specs.declared.asked.RunOptions.{RunOptions}
 use Rattle.pk_analysis.specs.declared.analysis.Options.{Options}
 use Rattle.pk_report.specs.Reports.{state_at}
 use Rattle.pk_verdict.specs.Verdicts.{verdict_of}
-use Rattle.pk_graph_report.specs.Reported.{AreStates, verdict_at}
+use Rattle.pk_graph_report.specs.Reported.{verdict_at}
+use Rattle.pk_solver.specs.Solved.{AreStates}
 use Rattle.pk_sound.specs.Runs.{Reaches}
 use Rattle.pk_sound.specs.Held.{Agrees}
 use Rattle.pk_sound.specs.Verdicts.{FaultsIn, IsEvaluatedIn}
@@ -21,21 +22,29 @@ use Rattle.pk_text_report.specs.Answers.{IsRun}
 
 -- the verdict on an access of point p is that nothing is known
 abbrev pub IsUnknownIn : List Stated → ℕ → AccessOf → Type 0
-IsUnknownIn states p a = (lo : ℤ) × (hi : ℤ) × (verdict_of (state_at states p).layout (state_at states p).facts a.operation ≡ Unknown lo hi)
+IsUnknownIn states p a =
+    (lo : ℤ) × (hi : ℤ) × (verdict_of (state_at states p).layout (state_at states p).facts a.operation ≡ Unknown lo hi)
 
 -- Each store with which a run comes to a point agrees with the point's state. No run faults at an access whose verdict is safe, and none evaluates one that is unreachable.
 -- A run that faults does so at an access of its edge whose verdict is unknown, or at an index that is no access.
 pub record AreTrueOf (g : GraphOf) (states : List Stated) : Type 0 where
   pub holds : (v : ℕ) (s : Stored) → Reaches g v s → Agrees (state_at states v).layout (state_at states v).facts s
-  pub safe : (a : AccessOf) (s : Stored) → Contains (accesses_of g) a → Reaches g a.point s → verdict_at states a ≡ Safe → FaultsIn a.operation s → ⊥
-  pub unreachable : (a : AccessOf) (s : Stored) → Contains (accesses_of g) a → Reaches g a.point s → verdict_at states a ≡ Unreachable → IsEvaluatedIn a.operation s → ⊥
-  pub faults : (p : ℕ) (s : Stored) (e : EdgeOf) (chosen : Numbers) (w : Failure) → Reaches g p s → Contains (point_at g p).edges e → effect storing chosen e.instr s ≡ Faulted w
+  pub safe : (a : AccessOf) (s : Stored) → Contains (accesses_of g) a → Reaches g a.point s →
+      verdict_at states a ≡ Safe → FaultsIn a.operation s → ⊥
+  pub unreachable : (a : AccessOf) (s : Stored) → Contains (accesses_of g) a → Reaches g a.point s →
+      verdict_at states a ≡ Unreachable → IsEvaluatedIn a.operation s → ⊥
+  pub faults : (p : ℕ) (s : Stored) (e : EdgeOf) (chosen : Numbers) (w : Failure) → Reaches g p s →
+      Contains (point_at g p).edges e → effect storing chosen e.instr s ≡ Faulted w
       → ((a : AccessOf) × IsFailing p e.instr w s a × IsUnknownIn states p a) ⊎ IsHidden e.instr w.site s
 
 -- the states of a report on a graph that is well made
 abbrev pub ReportsAreTrue : Type 0
-ReportsAreTrue = (g : GraphOf) (o : Options) (most : ℕ) (p : PlanView) (states : List Stated) → IsGraph g → o.oct < 2 ^ 31 → AreStates g o most p states → AreTrueOf g states
+ReportsAreTrue =
+    (g : GraphOf) (o : Options) (most : ℕ) (p : PlanView) (states : List Stated) → IsGraph g → o.oct < 2 ^ 31 →
+    AreStates g o most p states → AreTrueOf g states
 
 -- those of the report on a text
 abbrev pub AnswersAreTrue : Type 0
-AnswersAreTrue = (text : List ℕ) (o : RunOptions) (unknown : ℕ) (bytes : List ℕ) (run : IsRun text o unknown bytes) → o.oct < 2 ^ 31 → AreTrueOf run.graph run.report.states
+AnswersAreTrue =
+    (text : List ℕ) (o : RunOptions) (unknown : ℕ) (bytes : List ℕ) (run : IsRun text o unknown bytes) →
+    o.oct < 2 ^ 31 → AreTrueOf run.graph run.report.states

@@ -30,3 +30,19 @@ pub returns-in-Ok-write_all-clause-truth : goal.returns-in-Ok-write_all-clause-t
 returns-in-Ok-write_all-clause-truth g c = λ text about unknown is.
     truthful c.reports_are_true_of_programs.ensures (map string_bytes c.args.words.now) text c.in-Ok.made.1 unknown c.in-Ok.made.0.items c.deref.result.now (g.K.Sink.written c.args.out.now) (g.K.Sink.written c.write_all.new.out)
     is c.in-Ok.ensures.range (c.in-Ok.ensures.made text about) c.deref.ensures.value c.in-Ok-write_all.ensures.all
+
+-- a success: written out, so that a wrong body is refused at once
+
+pub returns-in-Ok-write_all-clause-answer : goal.returns-in-Ok-write_all-clause-answer
+returns-in-Ok-write_all-clause-answer g c = λ text about. record {
+  bytes = c.in-Ok.made.0.items;
+  answer = c.in-Ok.ensures.made text about;
+  written = rw c.deref.ensures.value at c.in-Ok-write_all.ensures.all;
+}
+
+pub returns-in-Ok-write_all-clause-complete : goal.returns-in-Ok-write_all-clause-complete
+returns-in-Ok-write_all-clause-complete g c = λ unread unwritten known text about. record {
+  bytes = c.in-Ok.made.0.items;
+  answer = c.in-Ok.ensures.made text about;
+  written = rw c.deref.ensures.value at c.in-Ok-write_all.ensures.all;
+}

@@ -1,9 +1,10 @@
-use Rattle.std.proofs.Common.{◌≡◌, ◌<◌, None, List, length, map, ap, sym, subst, ◌∙◌, arith}
+use Rattle.std.proofs.Common.{◌≡◌, ◌<◌, None, List, length, map, refl, ap, sym, subst, ◌∙◌, arith}
 use Rattle.std.specs.List.{slice_index_or}
 use Rattle.std.specs.Arc.{arc_value}
 use Rattle.std.proofs.lemmas.List.{length-map, get_or-map}
 use Rattle.pk_graph.specs.Shown.{graph_view}
-use Rattle.pk_state.specs.Facts.{Stated}
+use Rattle.pk_state.specs.Facts.{Stated, joined}
+use Rattle.pk_state.specs.Layouts.{Layout}
 use Rattle.pk_transfer.specs.Transfers.{transferred}
 use Rattle.pk_phases.specs.declared.equations.Cell.{Cell}
 use Rattle.pk_phases.specs.Equations.{value_of}
@@ -23,14 +24,14 @@ bounds-cells-i c =
     let many = cells_many c.args.self.now c.args.e cells c.requires in
     omega (arith, many, length-map c.args.cells.now arc_value, ap (λ (xs : List Arrow). length xs) c.row-row.ensures, c.loop-i-test.true)
 
-pub after-requires-clause-arrow : goal.after-requires-clause-arrow
-after-requires-clause-arrow c =
+pub arrive-requires-clause-arrow : goal.arrive-requires-clause-arrow
+arrive-requires-clause-arrow c =
     let g = graph_view c.args.self.now.graph in
     let far : c.loop-i.i < length (arrows_at g c.args.e) = omega (arith, ap (λ (xs : List Arrow). length xs) c.row-row.ensures, c.loop-i-test.true) in
     subst (IsArrow g) (sym (ap (λ (xs : List Arrow). slice_index_or xs c.loop-i.i zero_arrow) c.row-row.ensures)) (arrows_within g c.args.e c.loop-i.i zero_arrow far)
 
-pub after-requires-clause-held : goal.after-requires-clause-held
-after-requires-clause-held c =
+pub arrive-requires-clause-held : goal.arrive-requires-clause-held
+arrive-requires-clause-held c =
     let a = c.args.self.now in
     let cells = map arc_value c.args.cells.now in
     let r = c.index-cells-i.result in
@@ -51,7 +52,11 @@ loop-i-preserved c =
     let rows = ap (λ (xs : List Arrow). length xs) c.row-row.ensures in
     let below : c.loop-i.i < length c.args.cells.now = omega (arith, many, kept, rows, c.loop-i-test.true) in
     let same = get_or-map arc_value c.args.cells.now c.loop-i.i r (arc_value r) below ∙ ap arc_value (sym c.index-cells-i.is) ∙ sym c.deref.ensures in
-    let told = c.in_ok-next.ensures
-    ∙ ap (λ (x : Cell Stated). stated a.layout (transferred a.layout (value_of (stated a.layout None) x).facts (instr_of g (slice_index_or c.row-row.result.now c.loop-i.i zero_arrow)))) (sym same)
-    ∙ ap (λ (xs : List Arrow). stated a.layout (transferred a.layout (value_of (stated a.layout None) (slice_index_or cells c.loop-i.i (arc_value r))).facts (instr_of g (slice_index_or xs c.loop-i.i zero_arrow)))) c.row-row.ensures in
-    arrived_step a c.args.e cells c.loop-i.i zero_arrow (arc_value r) c.loop-i.state c.in_ok-next.next c.in_ok-state-2.state (omega (arith, rows, c.loop-i-test.true)) (omega (arith, kept, below)) c.loop-i.invariant told c.in_ok-state-2.ensures
+    let before = c.loop-i.state.facts in
+    let made = c.in_ok-state-2.ensures
+    ∙ ap (λ (x : Cell Stated). stated a.layout (joined before (transferred a.layout (value_of (stated a.layout None) x).facts (instr_of g (slice_index_or c.row-row.result.now c.loop-i.i zero_arrow))))) (sym same)
+    ∙ ap (λ (xs : List Arrow). stated a.layout (joined before (transferred a.layout (value_of (stated a.layout None) (slice_index_or cells c.loop-i.i (arc_value r))).facts (instr_of g (slice_index_or xs c.loop-i.i zero_arrow))))) c.row-row.ensures
+    ∙ ap (λ (l : Layout). stated l (joined before (transferred a.layout (value_of (stated a.layout None) (slice_index_or cells c.loop-i.i (arc_value r))).facts (instr_of g (slice_index_or (arrows_at g c.args.e) c.loop-i.i zero_arrow))))) (sym c.loop-i.invariant.layout) in
+    arrived_step a c.args.e cells c.loop-i.i zero_arrow (arc_value r) c.loop-i.state
+    (stated a.layout (transferred a.layout (value_of (stated a.layout None) (slice_index_or cells c.loop-i.i (arc_value r))).facts (instr_of g (slice_index_or (arrows_at g c.args.e) c.loop-i.i zero_arrow))))
+    c.in_ok-state-2.state (omega (arith, rows, c.loop-i-test.true)) (omega (arith, kept, below)) c.loop-i.invariant refl made

@@ -1,0 +1,121 @@
+-- An instruction that no run comes to is one that no run leaves.
+use Rattle.std.proofs.Common.{◌≡◌, ℕ, refl, ap, sym, ◌∙◌}
+use Rattle.std.specs.Prelude.{Bool, true, false, ℤ, pos, ◌-ℤ◌, List, [], ◌∷◌, Option, Some, None, if◌then◌else◌}
+use Rattle.pk_ctypes.specs.declared.types.Op.{Op}
+use Rattle.pk_ctypes.specs.declared.types.Op.TheVariants.{Add, Sub, Mul, Div, Rem, Shl, Shr, And, Or, Xor, Lt, Gt, Le, Ge, Eq, Ne, Neg, BitNot, Not}
+use Rattle.pk_graph.specs.Trees.{TreeOf, constant, variable, converted, unary, binary, InstrOf, Skip, Set, Havoc, Clear, Load, Store, Guard, Check}
+use Rattle.pk_value.specs.Known.{Known, any_of}
+use Rattle.pk_state.specs.Changes.{known_in}
+use Rattle.pk_state.specs.Layouts.{Layout, place_in}
+use Rattle.pk_state.specs.Facts.{Facts, Stated, joined}
+use Rattle.pk_state.specs.Reduced.{reduced}
+use Rattle.pk_transfer.specs.Linear.{Linear, difference, linear}
+use Rattle.pk_transfer.specs.Assignments.{with_form_at, with_known_if}
+use Rattle.pk_transfer.specs.Trees.{tree_known}
+use Rattle.pk_transfer.specs.Guards.{Condition, condition_of, flipped, refined}
+use Rattle.pk_transfer.specs.Assumptions.{places_in, le_in, compared_in, with_operand, if_some, refined_in, holds_in}
+use Rattle.pk_transfer.specs.Transfers.{at_index, misses, applied, transferred}
+use Rattle.pk_analysis.specs.Flows.{stated}
+
+known_nowhere : (x : ℕ) (k : Option Known) → with_known_if None x k ≡ None
+known_nowhere x None = refl
+known_nowhere x (Some k) = refl
+
+form_nowhere : (at : Option ℕ) (l : Option Linear) → with_form_at None at l ≡ None
+form_nowhere None l = refl
+form_nowhere (Some k) None = refl
+form_nowhere (Some k) (Some l) = refl
+
+index_nowhere : (n : ℕ) (k : Option Known) → at_index n k None ≡ None
+index_nowhere n None = refl
+index_nowhere n (Some k) = by (misses n k) None refl
+  where
+    by : (b : Bool) (f : Option Facts) → f ≡ None → (if b then None else f) ≡ None
+    by true f e = refl
+    by false f e = e
+
+places_nowhere : (ps : List ℕ) (c : ℤ) → places_in None ps c ≡ None
+places_nowhere [] c = refl
+places_nowhere (a ∷ []) c = refl
+places_nowhere (a ∷ (b ∷ [])) c = refl
+places_nowhere (a ∷ (b ∷ (d ∷ ps))) c = refl
+
+le_nowhere : (l r : Option Linear) (n : ℤ) → le_in None l r n ≡ None
+le_nowhere None r n = refl
+le_nowhere (Some l) None n = refl
+le_nowhere (Some l) (Some r) n = places_nowhere (difference l r).places ((r.constant -ℤ n) -ℤ l.constant)
+
+compared_nowhere : (op : Op) (l r : Option Linear) → compared_in op None l r ≡ None
+compared_nowhere Add l r = refl
+compared_nowhere Sub l r = refl
+compared_nowhere Mul l r = refl
+compared_nowhere Div l r = refl
+compared_nowhere Rem l r = refl
+compared_nowhere Shl l r = refl
+compared_nowhere Shr l r = refl
+compared_nowhere And l r = refl
+compared_nowhere Or l r = refl
+compared_nowhere Xor l r = refl
+compared_nowhere Lt l r = le_nowhere l r (pos 1)
+compared_nowhere Gt l r = le_nowhere r l (pos 1)
+compared_nowhere Le l r = le_nowhere l r (pos 0)
+compared_nowhere Ge l r = le_nowhere r l (pos 0)
+compared_nowhere Eq l r = ap (λ (f : Option Facts). le_in f r l (pos 0)) (le_nowhere l r (pos 0)) ∙ le_nowhere r l (pos 0)
+compared_nowhere Ne l r = refl
+compared_nowhere Neg l r = refl
+compared_nowhere BitNot l r = refl
+compared_nowhere Not l r = refl
+
+operand_nowhere : (e : TreeOf ℕ) (op : Op) (v : Known) → with_operand None e op v ≡ None
+operand_nowhere (constant t n) op v = refl
+operand_nowhere (variable x) op v = known_nowhere x None
+operand_nowhere (converted t e) op v = refl
+operand_nowhere (unary p s t e) op v = refl
+operand_nowhere (binary p s t a b) op v = refl
+
+some_nowhere : (o : Option Known) (f : Option Facts) → f ≡ None → if_some o f ≡ None
+some_nowhere None f e = refl
+some_nowhere (Some k) f e = e
+
+refined_nowhere : (f : Option Facts) (c : Condition) (k v : Option Known) → f ≡ None → refined_in f c k v ≡ None
+refined_nowhere f c None v e = refl
+refined_nowhere f c (Some k) None e = refl
+refined_nowhere f c (Some k) (Some v) e =
+    some_nowhere (refined c.op k v) (with_operand (with_operand f c.left c.op v) c.right (flipped c.op) k)
+    (ap (λ (g : Option Facts). with_operand (with_operand g c.left c.op v) c.right (flipped c.op) k) e
+    ∙ ap (λ (g : Option Facts). with_operand g c.right (flipped c.op) k) (operand_nowhere c.left c.op v)
+    ∙ operand_nowhere c.right (flipped c.op) k)
+
+set_nowhere : (y : Layout) (x : ℕ) (l : Option Linear) (k : Option Known) → with_known_if (with_form_at None (place_in y.chosen x) l) x k ≡ None
+set_nowhere y x l k = ap (λ (f : Option Facts). with_known_if f x k) (form_nowhere (place_in y.chosen x) l) ∙ known_nowhere x k
+
+guard_nowhere : (y : Layout) (c : Condition) → holds_in y None c ≡ None
+guard_nowhere y c =
+    refined_nowhere (compared_in c.op None (linear y.chosen (known_in None) c.left) (linear y.chosen (known_in None) c.right)) c
+    (tree_known (known_in None) c.left) (tree_known (known_in None) c.right)
+    (compared_nowhere c.op (linear y.chosen (known_in None) c.left) (linear y.chosen (known_in None) c.right))
+
+applied_nowhere : (y : Layout) (i : InstrOf ℕ) → applied y None i ≡ None
+applied_nowhere y Skip = refl
+applied_nowhere y (Set x e) = set_nowhere y x (linear y.chosen (known_in None) e) (tree_known (known_in None) e)
+applied_nowhere y (Havoc x t n) = set_nowhere y x None (Some (any_of t))
+applied_nowhere y (Clear a) = refl
+applied_nowhere y (Load x a s b i) =
+    ap (at_index a.length (tree_known (known_in None) i)) (set_nowhere y x None None) ∙ index_nowhere a.length (tree_known (known_in None) i)
+applied_nowhere y (Store a s b i e) =
+    ap (at_index a.length (tree_known (known_in None) i)) (known_nowhere a.variable None) ∙ index_nowhere a.length (tree_known (known_in None) i)
+applied_nowhere y (Guard e b) = guard_nowhere y (condition_of e b)
+applied_nowhere y (Check s e) = guard_nowhere y (condition_of e true)
+
+transferred_nowhere : (y : Layout) (i : InstrOf ℕ) → transferred y None i ≡ None
+transferred_nowhere y i = ap (reduced y) (applied_nowhere y i)
+
+joined_nowhere : (f : Option Facts) → joined f None ≡ f
+joined_nowhere None = refl
+joined_nowhere (Some f) = refl
+
+-- a state stays as it is where also an edge leads that no run comes to
+pub stays_nowhere : (l : Layout) (s : Stated) (f : Option Facts) (i : InstrOf ℕ) → s.layout ≡ l → f ≡ None → s ≡ stated l (joined s.facts (transferred l f i))
+stays_nowhere l s f i same none =
+    ap (λ (k : Layout). stated k s.facts) same
+    ∙ ap (stated l) (sym (ap (λ (g : Option Facts). joined s.facts (transferred l g i)) none ∙ ap (joined s.facts) (transferred_nowhere l i) ∙ joined_nowhere s.facts))

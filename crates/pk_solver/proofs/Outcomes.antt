@@ -1,0 +1,105 @@
+-- What the iteration leaves is over the graph's variables.
+use Rattle.std.specs.Prelude.{◌≡◌, ℕ, ◌+◌, ◌*◌, ◌≤◌, List, [], ◌∷◌, length, map, take, All, None}
+use Rattle.std.specs.List.{range_with_len}
+use Rattle.std.proofs.Common.{arith, refl, subst, sym, ap, ◌∙◌}
+use Rattle.std.proofs.lemmas.List.{length-map, length-take-le}
+use Rattle.std.proofs.lemmas.List.FromFn.{length-range_with_len}
+use Rattle.std.proofs.lemmas.List.Elements.{All-nil, All-cons}
+use Rattle.pk_graph.specs.Graphs.{GraphOf}
+use Rattle.pk_graph.specs.Shown.{graph_view}
+use Rattle.pk_state.specs.Facts.{Stated}
+use Rattle.pk_transfer.specs.Graphs.{layout_of}
+use Rattle.pk_plan.specs.Order.{Level}
+use Rattle.pk_plan.specs.Plans.{PlanView}
+use Rattle.pk_order.specs.Ordered.{IsOrdered}
+use Rattle.pk_iterate.specs.Answer.{Over, IsResult}
+use Rattle.pk_iterate.specs.Iteration.{cell_after, progress}
+use Rattle.pk_iterate.specs.Laws.{CellsAreHeld}
+use Rattle.pk_iterate.specs.Outcome.{Outcome}
+use Rattle.pk_phases.specs.declared.equations.Cell.{Cell}
+use Rattle.pk_phases.specs.declared.equations.Cell.TheVariants.{Value, Exit}
+use Rattle.pk_phases.specs.declared.equations.Part.{Part}
+use Rattle.pk_phases.specs.declared.equations.Part.TheVariants.{Point, HeadOf, ExitOf}
+use Rattle.pk_phases.specs.Equations.{behaviour_of, held_in, may_hold_of, value_of}
+use Rattle.pk_analysis.specs.declared.analysis.Options.{Options}
+use Rattle.pk_analysis.specs.Flows.{Flow, equations_of, stated, reduced_cell, IsOverFlow}
+use Rattle.pk_analysis.specs.Made.{IsAnalysisOf}
+use Rattle.pk_analysis.specs.Parts.{part_at}
+use Rattle.pk_analysis.specs.Digraphs.{digraph_of}
+use Rattle.pk_analysis_laws.specs.Systems.{IsOver}
+use Rattle.pk_solver.specs.Solved.{AreOver, AreStates}
+
+-- a cell whose value is over the layout
+IsCellOver : Flow → Cell Stated → Type 0
+IsCellOver a c = (value_of (stated a.layout None) c).layout ≡ a.layout
+
+over_part : (a : Flow) (e : ℕ) (part : Part) (c : Cell Stated) → held_in (IsOverFlow a) e part c → IsCellOver a c
+unfolding IsCellOver
+over_part a e Point (Value v) h = h
+over_part a e Point (Exit p) h = refl
+over_part a e (HeadOf exit) (Value v) h = h
+over_part a e (HeadOf exit) (Exit p) h = refl
+over_part a e (ExitOf head) (Value v) h = absurd h
+over_part a e (ExitOf head) (Exit p) h = refl
+
+-- each cell of an outcome
+pub cells_over : (a : Flow) (order : Level) (elements most : ℕ) (it : Outcome (Cell Stated))
+    → CellsAreHeld (behaviour_of (equations_of a)) (may_hold_of (equations_of a) (IsOverFlow a)) → IsResult (behaviour_of (equations_of a)) order elements most it
+    → All (λ (c : Cell Stated). (value_of (stated a.layout None) c).layout ≡ a.layout) it.cells
+unfolding IsCellOver
+cells_over a order elements most it held is =
+    subst (All (IsCellOver a)) (sym is.cells_after) (each (range_with_len 0 elements))
+  where
+    runs : List (ℕ × Cell Stated)
+    runs = (progress (behaviour_of (equations_of a)) order (elements * most + 1)).runs
+
+    each : (es : List ℕ) → All (IsCellOver a) (map (cell_after (behaviour_of (equations_of a)) runs) es)
+    each [] = All-nil (IsCellOver a)
+    each (e ∷ es) =
+        All-cons (IsCellOver a) (cell_after (behaviour_of (equations_of a)) runs e) (map (cell_after (behaviour_of (equations_of a)) runs) es)
+        (over_part a e (part_at a.parts e) (cell_after (behaviour_of (equations_of a)) runs e) (held.cells order (elements * most + 1) e)) (each es)
+
+cells_many : (a : Flow) (order : Level) (elements most : ℕ) (it : Outcome (Cell Stated)) → IsResult (behaviour_of (equations_of a)) order elements most it → length it.cells ≡ elements
+cells_many a order elements most it is =
+    ap (λ (cs : List (Cell Stated)). length cs) is.cells_after
+    ∙ length-map (range_with_len 0 elements) (cell_after (behaviour_of (equations_of a)) (progress (behaviour_of (equations_of a)) order (elements * most + 1)).runs)
+    ∙ length-range_with_len 0 elements
+
+-- reduced, at the points
+states_over : (g : GraphOf) (o : Options) (p : PlanView) (a : Flow) (cells : List (Cell Stated)) (states : List Stated)
+    → IsAnalysisOf g p o a → length g.points ≤ length cells → states ≡ map (reduced_cell a) (take (length g.points) cells) → AreOver g o states
+states_over g o p a cells states is enough made = record {
+  size = ap (λ (ss : List Stated). length ss) made ∙ length-map (take (length g.points) cells) (reduced_cell a) ∙ length-take-le (length g.points) cells enough;
+  each = subst (All (λ (s : Stated). s.layout ≡ layout_of g o.oct)) (sym made) (all (take (length g.points) cells));
+}
+  where
+    all : (cs : List (Cell Stated)) → All (λ (s : Stated). s.layout ≡ layout_of g o.oct) (map (reduced_cell a) cs)
+    all [] = All-nil (λ (s : Stated). s.layout ≡ layout_of g o.oct)
+    all (c ∷ cs) = All-cons (λ (s : Stated). s.layout ≡ layout_of g o.oct) (reduced_cell a c) (map (reduced_cell a) cs) is.layout (all cs)
+
+-- ---- what was found
+
+module _ (g : GraphOf) (o : Options) (most : ℕ) (p : PlanView) (order : Level) (a : Flow) (is : IsAnalysisOf g p o a) where
+  pub limit_so : IsOrdered (digraph_of g) p order → Over (behaviour_of (equations_of a)) order p.elements most → IsOver g o most
+  limit_so ordered over = record { plan = p; order = order; flow = a; system = record { ordered = ordered; analysis = is }; over = over }
+
+  module _ (it : Outcome (Cell Stated)) (found : IsResult (behaviour_of (equations_of a)) order p.elements most it) where
+    pub points_so : length g.points ≤ p.elements → length (graph_view a.graph).points ≤ length it.cells
+    points_so enough = omega (arith, cells_many a order p.elements most it found, ap (λ (h : GraphOf). length h.points) is.graph, enough)
+
+    module _ (states : List Stated) (made : states ≡ map (reduced_cell a) (take (length (graph_view a.graph).points) it.cells)) where
+      first_points : states ≡ map (reduced_cell a) (take (length g.points) it.cells)
+      first_points = made ∙ ap (λ (h : GraphOf). map (reduced_cell a) (take (length h.points) it.cells)) is.graph
+
+      pub states_so : IsOrdered (digraph_of g) p order → AreStates g o most p states
+      states_so ordered = record {
+        order = order;
+        flow = a;
+        system = record { ordered = ordered; analysis = is };
+        outcome = it;
+        result = found;
+        reduced = first_points;
+      }
+
+      pub over_so : length g.points ≤ p.elements → AreOver g o states
+      over_so enough = states_over g o p a it.cells states is (omega (arith, enough, cells_many a order p.elements most it found)) first_points

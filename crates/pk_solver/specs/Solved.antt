@@ -1,0 +1,47 @@
+-- What is known at the points of a graph: the result of Bourdoncle's recursive iteration over the order of its points.
+use Rattle.std.specs.Prelude.{◌≡◌, ℕ, List, length, map, take, All}
+use Rattle.pk_graph.specs.Graphs.{GraphOf}
+use Rattle.pk_state.specs.Facts.{Stated}
+use Rattle.pk_transfer.specs.Graphs.{layout_of}
+use Rattle.pk_plan.specs.Order.{Level}
+use Rattle.pk_plan.specs.Plans.{PlanView}
+use Rattle.pk_order.specs.Ordered.{heads_of}
+use Rattle.pk_iterate.specs.Answer.{IsResult}
+use Rattle.pk_iterate.specs.Outcome.{Outcome}
+use Rattle.pk_phases.specs.declared.equations.Cell.{Cell}
+use Rattle.pk_phases.specs.Equations.{behaviour_of}
+use Rattle.pk_analysis.specs.declared.analysis.Options.{Options}
+use Rattle.pk_analysis.specs.Flows.{Flow, equations_of, reduced_cell}
+use Rattle.pk_analysis_laws.specs.Systems.{IsOver, IsSystem}
+use Rattle.pk_solver.specs.declared.solving.SolverError.{SolverError}
+use Rattle.pk_solver.specs.declared.solving.SolverError.TheVariants.{RunLimit, Memory}
+
+-- the recursive iteration's result at each point, reduced
+pub record AreStates (g : GraphOf) (o : Options) (most : ℕ) (p : PlanView) (states : List Stated) : Type 0 where
+  pub order : Level
+  pub flow : Flow
+  pub system : IsSystem g o p order flow
+  pub outcome : Outcome (Cell Stated)
+  pub result : IsResult (behaviour_of (equations_of flow)) order p.elements most outcome
+  pub reduced : states ≡ map (reduced_cell flow) (take (length g.points) outcome.cells)
+
+-- one for each point, over the graph's variables
+pub record AreOver (g : GraphOf) (o : Options) (states : List Stated) : Type 0 where
+  pub size : length states ≡ length g.points
+  pub each : All (λ (s : Stated). s.layout ≡ layout_of g o.oct) states
+
+-- why there are no states
+abbrev pub IsCause : GraphOf → Options → (most : ℕ) → SolverError → Type 0
+IsCause g o most RunLimit = IsOver g o most
+IsCause g o most Memory = Unit {0}
+
+-- A graph has one plan's heads and elements and one list of states, or some element is run too often, and not both.
+pub record StatesAreDetermined : Type 0 where
+  pub heads : (g : GraphOf) (o : Options) (most : ℕ) (p q : PlanView) (s t : List Stated) →
+      AreStates g o most p s → AreStates g o most q t → heads_of p ≡ heads_of q
+  pub elements : (g : GraphOf) (o : Options) (most : ℕ) (p q : PlanView) (s t : List Stated) →
+      AreStates g o most p s → AreStates g o most q t → p.elements ≡ q.elements
+  pub states : (g : GraphOf) (o : Options) (most : ℕ) (p q : PlanView) (s t : List Stated) →
+      AreStates g o most p s → AreStates g o most q t → s ≡ t
+  pub within : (g : GraphOf) (o : Options) (most : ℕ) (p : PlanView) (states : List Stated) →
+      AreStates g o most p states → IsOver g o most → ⊥

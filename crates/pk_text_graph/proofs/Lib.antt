@@ -1,0 +1,3 @@
+mod Typing
+mod Determined
+mod Counting
