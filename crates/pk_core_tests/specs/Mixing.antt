@@ -20,4 +20,10 @@ turn_of [] = Stable 0
 turn_of (own ∷ cells) = turn_at (own % 65521) cells
 
 abbrev pub mixing : List (List ℕ) → Behaviour ℕ
-mixing rows = record { reads = λ e. slice_index_or rows e []; first = λ e. 0; apply = λ e cells. mixed_from 1 cells; decide = λ x cells. turn_of cells }
+mixing rows =
+    record {
+      reads = λ e. slice_index_or rows e [];
+      first = λ e. 0;
+      apply = λ e cells. mixed_from 1 cells;
+      decide = λ x cells. turn_of cells;
+    }

@@ -44,7 +44,8 @@ pub fn agree(core: &Core<Analysis>, cells: &Cells<Cell<State>>, elements: u32) -
     requires core { elements ≤ core.now.plan.elements }
     requires cells { elements ≤ length cells.now.cells }
     requires runs { elements ≤ length cells.now.runs }
-    requires held { (e : ℕ) (c : Cell Stated) → slice_get cells.now.cells e ≡ Some c → may_hold_of (equations_of core.now.system) (IsOverFlow core.now.system) e c }
+    requires held { (e : ℕ) (c : Cell Stated) → slice_get cells.now.cells e ≡ Some c →
+        may_hold_of (equations_of core.now.system) (IsOverFlow core.now.system) e c }
 {
     for e in 0..elements {
         if core.run(e) != cells.run(e) || !same_cells(core.cell(e), cells.cell(e)) {
@@ -65,7 +66,8 @@ pub fn iterated(
     requires elements { order.now.elements ≡ plan.now.elements }
     ensures cells { IfOk result (λ it. length it.cells ≡ plan.now.elements) }
     ensures runs { IfOk result (λ it. length it.runs ≡ plan.now.elements) }
-    ensures held { IfOk result (λ it. (e : ℕ) (c : Cell Stated) → slice_get it.cells e ≡ Some c → may_hold_of (equations_of analysis.now) (IsOverFlow analysis.now) e c) }
+    ensures held { IfOk result (λ it. (e : ℕ) (c : Cell Stated) → slice_get it.cells e ≡ Some c →
+        may_hold_of (equations_of analysis.now) (IsOverFlow analysis.now) e c) }
 {
     let _ = plan;
     cells_are_held(analysis);

@@ -1,6 +1,6 @@
 // Events that are drawn among those that are enabled.
 
-ghost use Rattle.std.specs.Prelude.{◌≡◌, ◌<◌, All, IfOk, IfSome, IsTrue};
+ghost use Rattle.std.specs.Prelude.{◌<◌, All, IfOk, IfSome, IsTrue};
 ghost use Rattle.pk_iterate.specs.Behaviour.{ReadsWithin};
 ghost use Rattle.pk_core.specs.Steps.{IsAbout};
 

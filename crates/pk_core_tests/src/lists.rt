@@ -1,6 +1,6 @@
 // Lists of events on small digraphs.
 
-ghost use Rattle.std.specs.Prelude.{◌≡◌, ◌≤◌, IfOk, length};
+ghost use Rattle.std.specs.Prelude.{◌≤◌, length};
 
 use crate::drives::driven;
 use crate::mixing::Mixing;

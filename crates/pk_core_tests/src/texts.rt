@@ -12,18 +12,14 @@ use crate::agreeing::{agree, iterated};
 use crate::drives::{driven, reads_within};
 use Event::{Again, Claim, Finish, Offer, Send, Stable};
 use pk_analysis::{Analysis, Options, digraph};
-use pk_calls::Paths;
 use pk_core::{Event, PlayError, play};
-use pk_front::front;
 use pk_graph::Graph;
 use pk_iterate::Cells;
-use pk_lower::{draft, graph_paths};
-use pk_number::number_if_typed;
 use pk_order::ordered;
 use pk_phases::{Cell, Phase};
 use pk_plan::{Order, Plan};
 use pk_state::State;
-use pk_typed::Unit;
+use pk_text_graph::graph_of_text;
 use std::alloc::Global;
 use std::process::Abort;
 use std::test::Fail;
@@ -106,26 +102,8 @@ return 0;
     (FAILING, &[], Some((77, 4, 1))),
 ];
 
-fn graph_from(alloc: Global, unit: &Unit, paths: &Paths) -> Option<Graph> {
-    let draft = match draft(alloc, unit, paths) {
-        Ok(draft) => draft,
-        Err(_) => return None,
-    };
-    let list = match graph_paths(alloc, unit, paths) {
-        Ok(list) => list,
-        Err(_) => return None,
-    };
-    match number_if_typed(alloc, list, draft) {
-        Ok(made) => made,
-        Err(_) => None,
-    }
-}
-
 fn graph_of(alloc: Global, text: &str) -> Option<Graph> {
-    match front(alloc, text.as_bytes(), "main") {
-        Ok((unit, paths)) => graph_from(alloc, &unit, &paths),
-        Err(_) => None,
-    }
+    graph_of_text(alloc, text.as_bytes(), "main").ok()
 }
 
 // How often Finish, Again and Stable come.
@@ -156,7 +134,8 @@ fn played_as_iterated(
     requires reads { ReadsWithin (behaviour_of (equations_of analysis.now)) plan.now.elements }
     requires cells { length cells.now.cells ≡ plan.now.elements }
     requires runs { length cells.now.runs ≡ plan.now.elements }
-    requires held { (e : ℕ) (c : Cell Stated) → slice_get cells.now.cells e ≡ Some c → may_hold_of (equations_of analysis.now) (IsOverFlow analysis.now) e c }
+    requires held { (e : ℕ) (c : Cell Stated) → slice_get cells.now.cells e ≡ Some c →
+        may_hold_of (equations_of analysis.now) (IsOverFlow analysis.now) e c }
 {
     let core = play(alloc, analysis, plan, list).ok().ok_or("refused")?;
     assert!(rt; agree(&core, cells, plan.elements()));
@@ -175,7 +154,8 @@ fn drawn_as_iterated(
     requires reads { ReadsWithin (behaviour_of (equations_of analysis.now)) plan.now.elements }
     requires cells { length cells.now.cells ≡ plan.now.elements }
     requires runs { length cells.now.runs ≡ plan.now.elements }
-    requires held { (e : ℕ) (c : Cell Stated) → slice_get cells.now.cells e ≡ Some c → may_hold_of (equations_of analysis.now) (IsOverFlow analysis.now) e c }
+    requires held { (e : ℕ) (c : Cell Stated) → slice_get cells.now.cells e ≡ Some c →
+        may_hold_of (equations_of analysis.now) (IsOverFlow analysis.now) e c }
 {
     for seed in 1..21u32 {
         let drive = driven(alloc, analysis, plan, seed)?.ok_or("no end")?;

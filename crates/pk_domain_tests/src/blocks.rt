@@ -1,6 +1,6 @@
 // Lists in shared blocks, over the ends of blocks and groups.
 
-ghost use Rattle.std.specs.Prelude.{◌<◌, length};
+ghost use Rattle.std.specs.Prelude.{◌<◌};
 
 use pk_blocks::Blocks;
 use pk_value::Value;

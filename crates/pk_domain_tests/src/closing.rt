@@ -144,7 +144,7 @@ fn sum_of_two(alloc: Global, bound: i128) -> Result<Option<i128>, AllocError> {
     }
 }
 
-const MOST: i128 = 73_786_976_294_838_206_464;
+pub(crate) const MOST: i128 = 73_786_976_294_838_206_464;
 
 const SUMS: [(i128, Option<i128>); 5] = [
     (MOST / 2, Some(MOST)),

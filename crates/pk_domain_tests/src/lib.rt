@@ -1,4 +1,4 @@
-//! Tests of the numeric domains: intervals, congruences, values, octagons, shared blocks and states.
+//! Tests of C's operators and of the numeric domains: intervals, congruences, values, octagons, shared blocks and states.
 #![tactic(auto)]
 
 #[cfg(test)]
@@ -7,6 +7,8 @@ mod blocks;
 mod closing;
 #[cfg(test)]
 mod congruences;
+#[cfg(test)]
+mod ctypes;
 #[cfg(test)]
 mod intervals;
 #[cfg(test)]

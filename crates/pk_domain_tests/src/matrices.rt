@@ -1,5 +1,6 @@
 // Calls on small matrices, and bounds at the cap.
 
+use crate::closing::MOST;
 use pk_octmat::Matrix;
 use std::alloc::{AllocError, Global};
 use std::test::Fail;
@@ -32,8 +33,6 @@ fn held(alloc: Global, bound: Option<i128>) -> Result<Option<i128>, AllocError> 
     m.set(0, 1, bound);
     Ok(m.get(0, 1))
 }
-
-const MOST: i128 = 73_786_976_294_838_206_464;
 
 const CAPPED: [(Option<i128>, Option<i128>); 7] = [
     (None, None),

@@ -1,8 +1,8 @@
 // Each call on small matrices, and constants beyond the cap.
 
-ghost use Rattle.std.specs.Prelude.{◌≡◌, ◌<◌, IfOk, IfSome};
+ghost use Rattle.std.specs.Prelude.{◌≡◌, ◌<◌, IfOk};
 
-use crate::closing::is_kept;
+use crate::closing::{MOST, is_kept};
 use pk_octclose::close;
 use pk_octmat::Matrix;
 use pk_octops::{assign, bounds, guard, join, leq, narrow, widen};
@@ -41,8 +41,6 @@ fn range(
     close(&mut r);
     Ok(bounds(&r, 0))
 }
-
-const MOST: i128 = 73_786_976_294_838_206_464;
 
 const ASSIGNMENTS: [(Option<u32>, i128, (Option<i128>, Option<i128>)); 7] = [
     (Some(0), 1, (Some(1), Some(6))),

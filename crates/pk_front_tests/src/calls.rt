@@ -58,14 +58,19 @@ fn with_body(
 }
 
 // The number of the function with this name, as `f` in "h;main:h f;f:".
-fn number(functions: &str, name: &str) -> Result<usize, Fail> {
-    for (f, function) in functions.split(';').enumerate() {
-        let own = function.split(':').next().unwrap_or(function);
+fn number(functions: &str, name: &str) -> Option<usize> {
+    let mut number = 0usize;
+    for function in functions.split(';') {
+        let own = match function.split_once(':') {
+            Some((own, _)) => own,
+            None => function,
+        };
         if own == name {
-            return Ok(f);
+            return Some(number);
         }
+        number = number.saturating_add(1);
     }
-    Err(Fail::from("a function that is called stands in the list"))
+    None
 }
 
 // The calls of these functions, in a line of their own.
@@ -78,7 +83,7 @@ fn calls_of(
     let mut calls = Vec::new(alloc);
     let mut column = 1u64;
     for callee in callees.split_whitespace() {
-        let function = number(functions, callee)?;
+        let function = number(functions, callee).ok_or("a function that is called isn't listed")?;
         let at = Pos { line, column };
         calls.push(CallSite { function, at })?;
         column = column.saturating_add(1);

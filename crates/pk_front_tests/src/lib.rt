@@ -1,4 +1,4 @@
-//! Tests of the crates that read: types and operators, tokens, constructs, parsing, call paths, devices and the command line.
+//! Tests of the crates that read: tokens, constructs, parsing, call paths, devices and the command line.
 #![tactic(auto)]
 
 #[cfg(test)]
@@ -7,8 +7,6 @@ mod calls;
 mod command;
 #[cfg(test)]
 mod constructs;
-#[cfg(test)]
-mod ctypes;
 #[cfg(test)]
 mod io;
 #[cfg(test)]

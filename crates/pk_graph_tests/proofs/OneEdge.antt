@@ -1,5 +1,5 @@
 -- The variables' types, and the one instruction of a point.
-use Rattle.std.proofs.Common.{◌≡◌, ◌<◌, ℕ, ap, subst, sym, refl, ◌∙◌, List, length, map, arith}
+use Rattle.std.proofs.Common.{◌≡◌, ◌<◌, ℕ, ap, subst, sym, ◌∙◌, List, length, map}
 use Rattle.std.specs.List.{slice_index_or}
 use Rattle.std.proofs.lemmas.List.{get_or-map, length-map}
 use Rattle.pk_ctypes.specs.declared.types.IntType.{IntType}

@@ -7,7 +7,7 @@ use std::test::Fail;
 
 // The bound of a text, with an octagon over so many variables.
 fn bound(alloc: Global, text: &str, oct: usize) -> Result<u64, Fail> {
-    let graph = graph_of(alloc, text, "main")?.ok_or("limit")?;
+    let graph = graph_of(alloc, text)?.ok_or("limit")?;
     Ok(chain_bound(alloc, &graph, oct)?)
 }
 

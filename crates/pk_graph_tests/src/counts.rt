@@ -7,7 +7,7 @@ use std::test::Fail;
 
 // How many points the graph of a text has, none at the limit.
 fn points(alloc: Global, text: &str) -> Result<Option<usize>, Fail> {
-    let graph = graph_of(alloc, text, "main")?;
+    let graph = graph_of(alloc, text)?;
     Ok(graph.map(|graph| graph.points()))
 }
 

@@ -292,7 +292,7 @@ fn row_holds(rt: &impl Abort, alloc: Global, row: &str) -> Result<(), Fail> {
     let (oct, rest) = row.split_once(": ").ok_or("no number")?;
     let (body, expected) = rest.split_once(" -> ").ok_or("no values")?;
     let text = text_of(alloc, body)?;
-    let graph = graph_of(alloc, text.as_str(), "main")?.ok_or("limit")?;
+    let graph = graph_of(alloc, text.as_str())?.ok_or("limit")?;
     let found = known_after(alloc, &graph, if oct == "0" { 0 } else { 8 })?;
     assert!(rt; found.as_str() == expected, "{body} -> {found}");
     Ok(())

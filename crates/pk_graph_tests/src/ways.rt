@@ -1,28 +1,20 @@
 // The way of a text to its graph.
 
-use pk_draft::LowerError;
-use pk_front::{Status, front};
+use pk_front::TextError;
 use pk_graph::Graph;
-use pk_lower::{draft, graph_paths};
-use pk_number::number_if_typed;
+use pk_text_graph::graph_of_text;
 use std::alloc::Global;
 use std::test::Fail;
 
+fn is_limit(made: &Result<Graph, TextError>) -> bool {
+    matches!(made, Err(TextError::Limit { .. }))
+}
+
 // The graph of a text, none where it has too many points.
-pub fn graph_of(alloc: Global, text: &str, entry: &str) -> Result<Option<Graph>, Fail> {
-    let (unit, paths) = match front(alloc, text.as_bytes(), entry) {
-        Ok(unit) => unit,
-        Err(Status::Memory) => return Err("memory".into()),
-        Err(_) => return Err("refused".into()),
-    };
-    let made = match draft(alloc, &unit, &paths) {
-        Ok(made) => made,
-        Err(LowerError::Limit) => return Ok(None),
-        Err(LowerError::Memory) => return Err("memory".into()),
-    };
-    let list = graph_paths(alloc, &unit, &paths)?;
-    match number_if_typed(alloc, list, made)? {
-        Some(graph) => Ok(Some(graph)),
-        None => Err("not typed".into()),
+pub fn graph_of(alloc: Global, text: &str) -> Result<Option<Graph>, Fail> {
+    let made = graph_of_text(alloc, text.as_bytes(), "main");
+    if is_limit(&made) {
+        return Ok(None);
     }
+    Ok(Some(made.ok().ok_or("no graph")?))
 }

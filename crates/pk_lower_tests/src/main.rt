@@ -2,17 +2,18 @@
 #![tactic(auto)]
 
 mod printed;
-mod ways;
 
 use crate::printed::printed;
-use crate::ways::graph_of;
+use pk_text_graph::graph_of_text;
 use std::alloc::Global;
 use std::io;
 use std::io::Read;
 use std::test::Fail;
 
 fn text_of(alloc: Global, text: &str, entry: &str) -> Result<String, Fail> {
-    let graph = graph_of(alloc, text, entry)?.ok_or("limit")?;
+    let graph = graph_of_text(alloc, text.as_bytes(), entry)
+        .ok()
+        .ok_or("no graph")?;
     Ok(printed(alloc, &graph)?)
 }
 

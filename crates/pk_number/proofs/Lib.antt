@@ -7,4 +7,3 @@ pub mod NumberLemmas
 pub mod WaitLemmas
 pub mod PointLemmas
 pub mod GraphLemmas
-mod TableLemmas

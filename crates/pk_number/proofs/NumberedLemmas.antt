@@ -113,7 +113,7 @@ ways_shown paths d (i ∷ is) p h =
 abbrev IsAt : List PathOf → DraftOf ℕ → ℕ → Type 0
 IsAt paths d p = (is_among p (reached d.edges) ≡ true) × IsReached (numbered paths d) (place_among (reached d.edges) p)
 
-contains_map : {X Y : Type 0} (f : X → Y) (xs : List X) (x : X) → Contains xs x → Contains (map f xs) (f x)
+pub contains_map : {X Y : Type 0} (f : X → Y) (xs : List X) (x : X) → Contains xs x → Contains (map f xs) (f x)
 contains_map f xs x h = (h.0, subst (λ (n : ℕ). h.0 < n) (sym (length-map xs f)) h.1, get_or-map f xs h.0 x (f x) h.1 ∙ ap f h.2)
 
 one_further : (paths : List PathOf) (d : DraftOf ℕ) (p q : ℕ) → IsAt paths d p → is_among q (ends d.edges p) ≡ true → IsAt paths d q

@@ -3,4 +3,3 @@ pub mod Numbering
 pub mod Typed
 pub mod Ways
 pub mod Rows
-pub mod Tables

@@ -27,8 +27,14 @@ edge_of order e = record { instr = e.instr; to = place_among order e.to }
 abbrev pub point_of : List ℕ → DraftOf ℕ → ℕ → PointOf
 point_of order d p =
     let l = slice_index_or d.labels p no_label in
-    record { at = l.at; path = l.path; scope = scope_at d.scopes l.scope; edges = map (edge_of order) (edges_from p d.edges) }
+    record {
+      at = l.at;
+      path = l.path;
+      scope = scope_at d.scopes l.scope;
+      edges = map (edge_of order) (edges_from p d.edges);
+    }
 
 -- point k is the one that comes at place k of the order
 abbrev pub numbered : List PathOf → DraftOf ℕ → GraphOf
-numbered paths d = record { paths = paths; variables = d.made; points = map (point_of (reached d.edges) d) (reached d.edges) }
+numbered paths d =
+    record { paths = paths; variables = d.made; points = map (point_of (reached d.edges) d) (reached d.edges) }

@@ -56,7 +56,9 @@ pub record Placed : Type 0 where
   pub edges : List EdgeOf
 
 unfoldable pub placed_view : Point → Placed
-placed_view p = record { label = record { at = p.at; path = p.path; scope = p.scope }; edges = map edge_view p.edges.items }
+placed_view p =
+    record { label = record { at = p.at; path = p.path; scope = p.scope }; edges = map edge_view p.edges.items }
 
 abbrev pub placed : List Label → List (List EdgeOf) → List ℕ → ℕ → Placed
-placed labels rows numbers p = record { label = slice_index_or labels p no_label; edges = map (renumbered numbers) (row_at rows p) }
+placed labels rows numbers p =
+    record { label = slice_index_or labels p no_label; edges = map (renumbered numbers) (row_at rows p) }

@@ -4,9 +4,7 @@
 mod laws;
 mod numbering;
 mod rows;
-mod typed;
 mod walks;
 
 pub use laws::numbered_law;
-pub use numbering::{number, number_if_typed};
-pub use typed::is_typed;
+pub use numbering::number;

@@ -1,16 +1,14 @@
 // The graph of a draft.
 
-ghost use Rattle.std.specs.Prelude.{◌≡◌, ◌<◌, ℕ, true, All, IfOk, MatchOption, length, map};
+ghost use Rattle.std.specs.Prelude.{◌≡◌, ◌<◌, ℕ, All, IfOk, length, map};
 ghost use Rattle.pk_graph.specs.Graphs.{edge_view, path_view};
 ghost use Rattle.pk_graph.specs.Shown.{graph_view};
 ghost use Rattle.pk_draft.specs.Shown.{drafted};
-ghost use Rattle.pk_number.specs.Preorders.{is_among};
 ghost use Rattle.pk_number.specs.Numbering.{numbered};
 ghost use Rattle.pk_number.specs.Typed.{IsTypedDraft};
-ghost use Rattle.pk_number.specs.Rows.{rows_view, row_at, AreBelow, IsDistinct, renumbered, Placed, placed_view, placed};
+ghost use Rattle.pk_number.specs.Rows.{rows_view, row_at, AreBelow, IsDistinct, renumbered, placed_view, placed};
 
 use crate::rows::rows_of;
-use crate::typed::is_typed;
 use crate::walks::{numbers_of, walked};
 use pk_draft::{Draft, Label};
 use pk_graph::{Edge, Graph, Path, Point};
@@ -52,7 +50,8 @@ fn points_of(
     requires below { AreBelow (length labels.now) order.now }
     requires distinct { IsDistinct order.now }
     requires ends { (p : ℕ) → All (λ e. e.to < length numbers.now) (row_at (rows_view rows.items) p) }
-    ensures { IfOk result (λ points. map placed_view points.items ≡ map (placed labels.now (rows_view rows.items) numbers.now) order.now) }
+    ensures { IfOk result (λ points.
+        map placed_view points.items ≡ map (placed labels.now (rows_view rows.items) numbers.now) order.now) }
 {
     let mut points = Vec::with_capacity(alloc, order.len())?;
     for k in 0..order.len() {
@@ -78,20 +77,4 @@ pub fn number(alloc: Global, paths: Vec<Path>, draft: Draft) -> Result<Graph, Al
     let numbers = numbers_of(alloc, count, &order)?;
     let points = points_of(alloc, &parts.labels, rows, &order, &numbers)?;
     Ok(Graph::new(paths, parts.variables, parts.scopes, points))
-}
-
-/// The graph of a draft that is typed; none of one that isn't.
-pub fn number_if_typed(
-    alloc: Global,
-    paths: Vec<Path>,
-    draft: Draft,
-) -> Result<Option<Graph>, AllocError>
-    ensures { IfOk result (λ made. MatchOption made (IsTypedDraft (length paths.items) (drafted draft) → ⊥)
-        (λ graph. (graph_view graph ≡ numbered (map path_view paths.items) (drafted draft)) × IsTypedDraft (length paths.items) (drafted draft))) }
-{
-    if is_typed(paths.len(), &draft) {
-        Ok(Some(number(alloc, paths, draft)?))
-    } else {
-        Ok(None)
-    }
 }

@@ -13,7 +13,8 @@ const ENTRY: usize = 1;
 
 // The ends of a point's edges wait, the first on top.
 fn push_ends(waiting: &mut Vec<usize>, row: &[Edge]) -> Result<(), AllocError>
-    ensures { OnOk result (reverse waiting.new.items ≡ map (λ (e : EdgeOf). e.to) (map edge_view row.now) ++ reverse waiting.old.items) }
+    ensures { OnOk result (reverse waiting.new.items
+        ≡ map (λ (e : EdgeOf). e.to) (map edge_view row.now) ++ reverse waiting.old.items) }
 {
     for past in 0..row.len() {
         waiting.push(row[row.len() - 1 - past].to)?;

@@ -19,6 +19,7 @@ use Rattle.pk_grammar.specs.Machine.Steps.{taken, refused, begin_external, stora
 use Rattle.pk_grammar.specs.Machine.Running.{trees, syntax, first_of_all, run}
 use Rattle.pk_grammar.proofs.CompleteSigns.{specifier_alone}
 use Rattle.pk_grammar.proofs.CompleteOperands.{same_false}
+use Rattle.pk_grammar.proofs.CompleteExternals.{step_no_parameters}
 use Rattle.pk_grammar.proofs.SpellsSigns.{is_this}
 use Rattle.pk_parse_expression.specs.Parsing.{Begins, BeginsWithWord, words, past_words}
 use Rattle.pk_parse_expression.proofs.RunLemmas.{run_takes, run_refused, run_alike}
@@ -27,9 +28,6 @@ use Rattle.pk_parse.proofs.RunDeclarations.{run_words}
 use Rattle.pk_parse.proofs.DeclarationLemmas.{named_first}
 
 -- Parameters
-
-step_no_parameters : (h : Head) (t : Token) → t.kind ≡ kind.Punctuator mark.CloseParenthesis → step (parameters_open h) t ≡ taken 0 (parameters_closed h [])
-step_no_parameters h t e = rw e
 
 step_parameter_name : (h : Head) (ps : List ParameterTree) (specs : OneOrMore Specifier) (t : Token) → t.kind ≡ kind.Name →
     step (parameter_specifiers h ps specs) t ≡ taken 1 (parameter_name h ps (record { specifiers = specs; name = Some (identifier_of t) }))

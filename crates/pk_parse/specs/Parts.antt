@@ -18,7 +18,8 @@ use Rattle.pk_parse_expression.specs.Parsing.{EndsAt, UpTo, Reads}
 -- A declaration at this nesting, of which a name was read; where a `(` follows, it isn't the name of a function.
 pub record CanDeclare (end : Token) (d : Declaring) (id : Identifier) (n : ℕ) (ts : List Token) : Type 0 where
   pub nesting : site_nesting d.site ≡ n
-  pub no_function : is_fixed fixed.OpenParenthesis (first_of_all end ts).kind ≡ true → open_parameters d.site d.specifiers d.declarators id ≡ refused
+  pub no_function : is_fixed fixed.OpenParenthesis (first_of_all end ts).kind ≡ true →
+      open_parameters d.site d.specifiers d.declarators id ≡ refused
 
 -- a declaration in a function
 abbrev pub IsInner : Site → Type 0
@@ -27,7 +28,12 @@ IsInner (in_a_for n at o) = Unit {0}
 IsInner (outside before s) = ⊥
 
 abbrev pub with_declarators : Declared → List DeclaratorTree → Declared
-with_declarators d more = record { site = d.site; specifiers = d.specifiers; declarators = record { first = d.declarators.first; more = d.declarators.more ++ more } }
+with_declarators d more =
+    record {
+      site = d.site;
+      specifiers = d.specifiers;
+      declarators = record { first = d.declarators.first; more = d.declarators.more ++ more };
+    }
 
 abbrev pub with_all : Declaring → OneOrMore DeclaratorTree → Declared
 with_all d all = with_declarators (with_declarator d all.first) all.more
@@ -48,7 +54,8 @@ GoesOn end another ts = another ≡ true → is_fixed fixed.CloseBrace (first_of
 abbrev pub IsOptional : Token → ℕ → Fixed → List Token → Option ExpressionTree → List Token → Type 0
 IsOptional end n close ts None rest = (rest ≡ ts) × (is_fixed close (first_of_all end ts).kind ≡ true)
 IsOptional end n close ts (Some e) rest =
-    (is_fixed close (first_of_all end ts).kind ≡ false) × Reads end (UpTo any_expression) (λ c. operand n c) n ts e rest × EndsAt end any_expression rest
+    (is_fixed close (first_of_all end ts).kind ≡ false)
+    × Reads end (UpTo any_expression) (λ c. operand n c) n ts e rest × EndsAt end any_expression rest
 
 -- from this state an expression in parentheses is read, and leads to the next one
 pub record IsTest (s : State) (p : Purpose) (n : ℕ) (next : ExpressionTree → State) : Type 0 where
@@ -67,7 +74,8 @@ IsNewBlock (inner_block m at items o) place n = (at ≡ place) × (items ≡ no_
 
 abbrev pub after_function : Head → List ParameterTree → Option BlockTree → State
 after_function h ps body =
-    top (h.before ++ function (record { storage = h.storage; specifiers = h.specifiers; name = h.name; parameters = ps; body = body }) ∷ [])
+    top (h.before ++ function
+    (record { storage = h.storage; specifiers = h.specifiers; name = h.name; parameters = ps; body = body }) ∷ [])
 
 abbrev pub after_block : OpenBlock → BlockTree → State
 after_block (function_block h ps at items) b = after_function h ps (Some b)
@@ -83,7 +91,8 @@ after_parameter h ps p = parameter_state h ps p p.name
 
 -- behind a parameter without a name comes neither a word of its type nor a name
 abbrev pub EndsParameter : Token → Option Identifier → List Token → Type 0
-EndsParameter end None ts = (specifier_word (first_of_all end ts).kind ≡ None) × (is_fixed fixed.Name (first_of_all end ts).kind ≡ false)
+EndsParameter end None ts =
+    (specifier_word (first_of_all end ts).kind ≡ None) × (is_fixed fixed.Name (first_of_all end ts).kind ≡ false)
 EndsParameter end (Some id) ts = Unit {0}
 
 abbrev pub storage_state : List ExternalTree → Option Storage → State

@@ -24,7 +24,8 @@ IsRefused tokens Memory = ⊥
 pub record AnswerIsDetermined : Type 0 where
   pub trees : (tokens : List Token) (u v : List ExternalTree) → IsAccepted tokens u → IsAccepted tokens v → u ≡ v
   pub refusal : (tokens : List Token) (x y : ParseError) → IsRefused tokens x → IsRefused tokens y → x ≡ y
-  pub apart : (tokens : List Token) (u : List ExternalTree) (x : ParseError) → IsAccepted tokens u → IsRefused tokens x → ⊥
+  pub apart : (tokens : List Token) (u : List ExternalTree) (x : ParseError) → IsAccepted tokens u →
+      IsRefused tokens x → ⊥
 
 -- the tokens of a text are what parsing asks for: the last, and no other, is End
 abbrev pub LexedIsEnded : Type 0

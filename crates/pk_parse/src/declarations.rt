@@ -27,8 +27,14 @@ fn length<'a>(
 ) -> Result<(Option<Expression>, &'a [Token]), ParseError>
     requires { outside ≤ nesting_limit }
     ensures { MatchResult result
-        (λ r. ((d : states.Declaring) (id : Identifier) → CanDeclare parser.end d id outside tokens.now → run parser.end (states.after_name d id) tokens.now ≡ run parser.end (states.after_length (record { declaring = d; name = id; length = option_map expression_tree r.0 })) r.1.now) × (length r.1.now ≤ length tokens.now))
-        (λ x. (d : states.Declaring) (id : Identifier) → CanDeclare parser.end d id outside tokens.now → Fails (run parser.end (states.after_name d id) tokens.now) x) }
+        (λ r. ((d : states.Declaring) (id : Identifier) → CanDeclare parser.end d id outside tokens.now →
+        run parser.end (states.after_name d id) tokens.now
+        ≡ run parser.end
+        (states.after_length
+        (record { declaring = d; name = id; length = option_map expression_tree r.0 })) r.1.now)
+        × (length r.1.now ≤ length tokens.now))
+        (λ x. (d : states.Declaring) (id : Identifier) → CanDeclare parser.end d id outside tokens.now →
+        Fails (run parser.end (states.after_name d id) tokens.now) x) }
 {
     let Some((open, after)) = parser.take(tokens, Fixed::OpenBracket) else {
         return Ok((None, tokens));
@@ -47,8 +53,13 @@ fn item<'a>(
 ) -> Result<(Expression, bool, &'a [Token]), ParseError>
     requires { outside ≤ nesting_limit }
     ensures { MatchResult result
-        (λ r. ((d : states.Naming) (at : Pos) (es : tree.ExpressionTrees) → steps.naming_nesting d ≡ outside → run parser.end (states.operand outside (states.as_whole (states.as_item d at es))) tokens.now ≡ run parser.end (item_state r.1 d at (steps.first_item es (expression_tree r.0)) (steps.more_items es (expression_tree r.0))) r.2.now) × GoesOn parser.end r.1 r.2.now × (length r.2.now < length tokens.now))
-        (λ x. (d : states.Naming) (at : Pos) (es : tree.ExpressionTrees) → steps.naming_nesting d ≡ outside → Fails (run parser.end (states.operand outside (states.as_whole (states.as_item d at es))) tokens.now) x) }
+        (λ r. ((d : states.Naming) (at : Pos) (es : tree.ExpressionTrees) → steps.naming_nesting d ≡ outside →
+        run parser.end (states.operand outside (states.as_whole (states.as_item d at es))) tokens.now
+        ≡ run parser.end (item_state r.1 d at (steps.first_item es (expression_tree r.0))
+        (steps.more_items es (expression_tree r.0))) r.2.now) × GoesOn parser.end r.1 r.2.now
+        × (length r.2.now < length tokens.now))
+        (λ x. (d : states.Naming) (at : Pos) (es : tree.ExpressionTrees) → steps.naming_nesting d ≡ outside →
+        Fails (run parser.end (states.operand outside (states.as_whole (states.as_item d at es))) tokens.now) x) }
 {
     let (item, after) = parser.assignment(tokens, outside)?;
     if let Some((_, last)) = parser.take(after, Fixed::CloseBrace) {
@@ -71,8 +82,12 @@ fn more_items<'a>(
     requires limit { outside ≤ nesting_limit }
     requires item { GoesOn parser.end another tokens.now }
     ensures { MatchResult result
-        (λ r. ((d : states.Naming) (at : Pos) (e : tree.ExpressionTree) → steps.naming_nesting d ≡ outside → run parser.end (item_state another d at e tree.no_expressions) tokens.now ≡ run parser.end (item_state false d at e (expression_trees r.0.items)) r.1.now) × (length r.1.now ≤ length tokens.now))
-        (λ x. (d : states.Naming) (at : Pos) (e : tree.ExpressionTree) → steps.naming_nesting d ≡ outside → Fails (run parser.end (item_state another d at e tree.no_expressions) tokens.now) x) }
+        (λ r. ((d : states.Naming) (at : Pos) (e : tree.ExpressionTree) → steps.naming_nesting d ≡ outside →
+        run parser.end (item_state another d at e tree.no_expressions) tokens.now
+        ≡ run parser.end (item_state false d at e (expression_trees r.0.items)) r.1.now)
+        × (length r.1.now ≤ length tokens.now))
+        (λ x. (d : states.Naming) (at : Pos) (e : tree.ExpressionTree) → steps.naming_nesting d ≡ outside →
+        Fails (run parser.end (item_state another d at e tree.no_expressions) tokens.now) x) }
 {
     let mut list = Vec::new(parser.alloc);
     let mut another = another;
@@ -96,8 +111,12 @@ fn value<'a>(
 ) -> Result<(Initializer, &'a [Token]), ParseError>
     requires { outside ≤ nesting_limit }
     ensures { MatchResult result
-        (λ r. ((d : states.Naming) → steps.naming_nesting d ≡ outside → run parser.end (states.after_assign d) tokens.now ≡ run parser.end (states.after_initializer (steps.with_initializer d (Some (initializer_tree r.0)))) r.1.now) × (length r.1.now ≤ length tokens.now))
-        (λ x. (d : states.Naming) → steps.naming_nesting d ≡ outside → Fails (run parser.end (states.after_assign d) tokens.now) x) }
+        (λ r. ((d : states.Naming) → steps.naming_nesting d ≡ outside →
+        run parser.end (states.after_assign d) tokens.now
+        ≡ run parser.end (states.after_initializer
+        (steps.with_initializer d (Some (initializer_tree r.0)))) r.1.now) × (length r.1.now ≤ length tokens.now))
+        (λ x. (d : states.Naming) → steps.naming_nesting d ≡ outside →
+        Fails (run parser.end (states.after_assign d) tokens.now) x) }
 {
     if let Some((open, after)) = parser.take(tokens, Fixed::OpenBrace) {
         let (first, another, following) = item(parser, after, outside)?;
@@ -119,8 +138,13 @@ fn initializer<'a>(
 ) -> Result<(Option<Initializer>, &'a [Token]), ParseError>
     requires { outside ≤ nesting_limit }
     ensures { MatchResult result
-        (λ r. ((d : states.Naming) → steps.naming_nesting d ≡ outside → run parser.end (states.after_length d) tokens.now ≡ run parser.end (states.after_initializer (steps.with_initializer d (option_map initializer_tree r.0))) r.1.now) × (length r.1.now ≤ length tokens.now))
-        (λ x. (d : states.Naming) → steps.naming_nesting d ≡ outside → Fails (run parser.end (states.after_length d) tokens.now) x) }
+        (λ r. ((d : states.Naming) → steps.naming_nesting d ≡ outside →
+        run parser.end (states.after_length d) tokens.now
+        ≡ run parser.end (states.after_initializer
+        (steps.with_initializer d (option_map initializer_tree r.0))) r.1.now)
+        × (length r.1.now ≤ length tokens.now))
+        (λ x. (d : states.Naming) → steps.naming_nesting d ≡ outside →
+        Fails (run parser.end (states.after_length d) tokens.now) x) }
 {
     let Some((_, after)) = parser.take(tokens, Fixed::Assign) else {
         return Ok((None, tokens));
@@ -138,8 +162,12 @@ fn declarator<'a>(
 ) -> Result<(Declarator, &'a [Token]), ParseError>
     requires { outside ≤ nesting_limit }
     ensures { MatchResult result
-        (λ r. ((d : states.Declaring) → CanDeclare parser.end d name outside tokens.now → run parser.end (states.after_name d name) tokens.now ≡ run parser.end (states.after_initializer (steps.with_declarator d (declarator_tree r.0))) r.1.now) × (length r.1.now ≤ length tokens.now))
-        (λ x. (d : states.Declaring) → CanDeclare parser.end d name outside tokens.now → Fails (run parser.end (states.after_name d name) tokens.now) x) }
+        (λ r. ((d : states.Declaring) → CanDeclare parser.end d name outside tokens.now →
+        run parser.end (states.after_name d name) tokens.now
+        ≡ run parser.end (states.after_initializer (steps.with_declarator d (declarator_tree r.0))) r.1.now)
+        × (length r.1.now ≤ length tokens.now))
+        (λ x. (d : states.Declaring) → CanDeclare parser.end d name outside tokens.now →
+        Fails (run parser.end (states.after_name d name) tokens.now) x) }
 {
     let (length, after) = length(parser, tokens, outside)?;
     let ((initializer, rest), length) = keeping(initializer(parser, after, outside), length)?;
@@ -154,8 +182,12 @@ fn more_declarators<'a>(
 ) -> Result<(Vec<Declarator>, &'a [Token]), ParseError>
     requires { outside ≤ nesting_limit }
     ensures { MatchResult result
-        (λ r. ((d : states.Declared) → steps.site_nesting d.site ≡ outside → run parser.end (states.after_initializer d) tokens.now ≡ run parser.end (after_declaration (with_declarators d (declarator_trees r.0.items))) r.1.now) × (length r.1.now < length tokens.now))
-        (λ x. (d : states.Declared) → steps.site_nesting d.site ≡ outside → Fails (run parser.end (states.after_initializer d) tokens.now) x) }
+        (λ r. ((d : states.Declared) → steps.site_nesting d.site ≡ outside →
+        run parser.end (states.after_initializer d) tokens.now
+        ≡ run parser.end (after_declaration (with_declarators d (declarator_trees r.0.items))) r.1.now)
+        × (length r.1.now < length tokens.now))
+        (λ x. (d : states.Declared) → steps.site_nesting d.site ≡ outside →
+        Fails (run parser.end (states.after_initializer d) tokens.now) x) }
 {
     let mut list = Vec::new(parser.alloc);
     let mut rest = tokens;
@@ -181,8 +213,12 @@ pub fn declarators<'a>(
 ) -> Result<(Declarators, &'a [Token]), ParseError>
     requires { outside ≤ nesting_limit }
     ensures { MatchResult result
-        (λ r. ((d : states.Declaring) → CanDeclare parser.end d name outside tokens.now → run parser.end (states.after_name d name) tokens.now ≡ run parser.end (after_declaration (with_all d (declarators_tree r.0))) r.1.now) × (length r.1.now < length tokens.now))
-        (λ x. (d : states.Declaring) → CanDeclare parser.end d name outside tokens.now → Fails (run parser.end (states.after_name d name) tokens.now) x) }
+        (λ r. ((d : states.Declaring) → CanDeclare parser.end d name outside tokens.now →
+        run parser.end (states.after_name d name) tokens.now
+        ≡ run parser.end (after_declaration (with_all d (declarators_tree r.0))) r.1.now)
+        × (length r.1.now < length tokens.now))
+        (λ x. (d : states.Declaring) → CanDeclare parser.end d name outside tokens.now →
+        Fails (run parser.end (states.after_name d name) tokens.now) x) }
 {
     let (first, after) = declarator(parser, name, tokens, outside)?;
     let ((more, last), first) = keeping(more_declarators(parser, after, outside), first)?;
@@ -198,8 +234,12 @@ pub fn declaration<'a>(
 ) -> Result<(Declaration, &'a [Token]), ParseError>
     requires { outside ≤ nesting_limit }
     ensures { MatchResult result
-        (λ r. ((s : states.Site) → IsInner s → steps.site_nesting s ≡ outside → run parser.end (states.after_specifiers s (one first)) tokens.now ≡ run parser.end (steps.declared_at s (declaration_tree r.0)) r.1.now) × (length r.1.now < length tokens.now))
-        (λ x. (s : states.Site) → IsInner s → steps.site_nesting s ≡ outside → Fails (run parser.end (states.after_specifiers s (one first)) tokens.now) x) }
+        (λ r. ((s : states.Site) → IsInner s → steps.site_nesting s ≡ outside →
+        run parser.end (states.after_specifiers s (one first)) tokens.now
+        ≡ run parser.end (steps.declared_at s (declaration_tree r.0)) r.1.now)
+        × (length r.1.now < length tokens.now))
+        (λ x. (s : states.Site) → IsInner s → steps.site_nesting s ≡ outside →
+        Fails (run parser.end (states.after_specifiers s (one first)) tokens.now) x) }
 {
     let (words, rest) = parser.specifiers(first, tokens)?;
     let ((token, after), words) = keeping(parser.expect(rest, Fixed::Name), words)?;

@@ -31,8 +31,12 @@ fn parameter<'a>(
     tokens: &'a [Token],
 ) -> Result<(Parameter, &'a [Token]), ParseError>
     ensures { MatchResult result
-        (λ r. ((h : states.Head) (ps : List tree.ParameterTree) → run parser.end (states.parameter_specifiers h ps (one first)) tokens.now ≡ run parser.end (after_parameter h ps (parameter_tree r.0)) r.1.now) × EndsParameter parser.end (parameter_tree r.0).name r.1.now × (length r.1.now ≤ length tokens.now))
-        (λ x. (h : states.Head) (ps : List tree.ParameterTree) → Fails (run parser.end (states.parameter_specifiers h ps (one first)) tokens.now) x) }
+        (λ r. ((h : states.Head) (ps : List tree.ParameterTree) →
+        run parser.end (states.parameter_specifiers h ps (one first)) tokens.now
+        ≡ run parser.end (after_parameter h ps (parameter_tree r.0)) r.1.now)
+        × EndsParameter parser.end (parameter_tree r.0).name r.1.now × (length r.1.now ≤ length tokens.now))
+        (λ x. (h : states.Head) (ps : List tree.ParameterTree) →
+        Fails (run parser.end (states.parameter_specifiers h ps (one first)) tokens.now) x) }
 {
     let (words, rest) = parser.specifiers(first, tokens)?;
     match parser.take(rest, Fixed::Name) {
@@ -47,7 +51,9 @@ fn parameters<'a>(
     tokens: &'a [Token],
 ) -> Result<(Vec<Parameter>, &'a [Token]), ParseError>
     ensures { MatchResult result
-        (λ r. ((h : states.Head) → run parser.end (states.parameters_open h) tokens.now ≡ run parser.end (states.parameters_closed h (parameter_trees r.0.items)) r.1.now) × (length r.1.now ≤ length tokens.now))
+        (λ r. ((h : states.Head) → run parser.end (states.parameters_open h) tokens.now
+        ≡ run parser.end (states.parameters_closed h (parameter_trees r.0.items)) r.1.now)
+        × (length r.1.now ≤ length tokens.now))
         (λ x. (h : states.Head) → Fails (run parser.end (states.parameters_open h) tokens.now) x) }
 {
     let mut list = Vec::new(parser.alloc);
@@ -77,8 +83,12 @@ fn parameters<'a>(
 // A function's body, or the `;` in place of it.
 fn body<'a>(parser: Parser, tokens: &'a [Token]) -> Result<(Option<Block>, &'a [Token]), ParseError>
     ensures { MatchResult result
-        (λ r. ((h : states.Head) (ps : List tree.ParameterTree) → run parser.end (states.parameters_closed h ps) tokens.now ≡ run parser.end (after_function h ps (option_map block_tree r.0)) r.1.now) × (length r.1.now ≤ length tokens.now))
-        (λ x. (h : states.Head) (ps : List tree.ParameterTree) → Fails (run parser.end (states.parameters_closed h ps) tokens.now) x) }
+        (λ r. ((h : states.Head) (ps : List tree.ParameterTree) →
+        run parser.end (states.parameters_closed h ps) tokens.now
+        ≡ run parser.end (after_function h ps (option_map block_tree r.0)) r.1.now)
+        × (length r.1.now ≤ length tokens.now))
+        (λ x. (h : states.Head) (ps : List tree.ParameterTree) →
+        Fails (run parser.end (states.parameters_closed h ps) tokens.now) x) }
 {
     if let Some((_, last)) = parser.take(tokens, Fixed::Semicolon) {
         return Ok((None, last));
@@ -90,8 +100,10 @@ fn body<'a>(parser: Parser, tokens: &'a [Token]) -> Result<(Option<Block>, &'a [
 
 // `static` or `extern`, where it comes first.
 fn storage<'a>(parser: Parser, tokens: &'a [Token]) -> (Option<Storage>, &'a [Token])
-    ensures reads { (before : List tree.ExternalTree) → run parser.end (states.top before) tokens.now ≡ run parser.end (storage_state before result.0) result.1.now }
-    ensures rest { MatchOption result.0 ((signs.storage_word (first_of_all parser.end tokens.now).kind ≡ None) × (result.1.now ≡ tokens.now)) (λ s. length result.1.now < length tokens.now) }
+    ensures reads { (before : List tree.ExternalTree) →
+        run parser.end (states.top before) tokens.now ≡ run parser.end (storage_state before result.0) result.1.now }
+    ensures rest { MatchOption result.0 ((signs.storage_word (first_of_all parser.end tokens.now).kind ≡ None)
+        × (result.1.now ≡ tokens.now)) (λ s. length result.1.now < length tokens.now) }
 {
     let Some((token, rest)) = tokens.split_first() else {
         return (None, tokens);
@@ -106,7 +118,9 @@ fn storage<'a>(parser: Parser, tokens: &'a [Token]) -> (Option<Storage>, &'a [To
 fn external<'a>(parser: Parser, tokens: &'a [Token]) -> Result<(External, &'a [Token]), ParseError>
     requires { (first_of_all parser.end tokens.now).kind ≢ Kind.End }
     ensures { MatchResult result
-        (λ r. ((before : List tree.ExternalTree) → run parser.end (states.top before) tokens.now ≡ run parser.end (states.top (before ++ external_tree r.0 ∷ [])) r.1.now) × (length r.1.now < length tokens.now))
+        (λ r. ((before : List tree.ExternalTree) → run parser.end (states.top before) tokens.now
+        ≡ run parser.end (states.top (before ++ external_tree r.0 ∷ [])) r.1.now)
+        × (length r.1.now < length tokens.now))
         (λ x. (before : List tree.ExternalTree) → Fails (run parser.end (states.top before) tokens.now) x) }
 {
     let (storage, after_storage) = storage(parser, tokens);

@@ -32,8 +32,10 @@ fn optional<'a>(
 ) -> Result<(Option<Expression>, &'a [Token]), ParseError>
     requires { outside ≤ nesting_limit }
     ensures { MatchResult result
-        (λ r. IsOptional parser.end outside close tokens.now (option_map expression_tree r.0) r.1.now × (length r.1.now ≤ length tokens.now))
-        (λ x. (is_fixed close (first_of_all parser.end tokens.now).kind ≡ false) × Refuses parser.end (UpTo any_expression) (λ c. states.operand outside c) tokens.now x) }
+        (λ r. IsOptional parser.end outside close tokens.now (option_map expression_tree r.0) r.1.now
+        × (length r.1.now ≤ length tokens.now))
+        (λ x. (is_fixed close (first_of_all parser.end tokens.now).kind ≡ false)
+        × Refuses parser.end (UpTo any_expression) (λ c. states.operand outside c) tokens.now x) }
 {
     if is(parser.kind(tokens), close) {
         return Ok((None, tokens));
@@ -50,8 +52,11 @@ fn test<'a>(
 ) -> Result<(Expression, &'a [Token]), ParseError>
     requires { outside ≤ nesting_limit }
     ensures { MatchResult result
-        (λ r. ((s : states.State) (p : states.Purpose) (next : tree.ExpressionTree → states.State) → IsTest s p outside next → run parser.end s tokens.now ≡ run parser.end (next (expression_tree r.0)) r.1.now) × (length r.1.now ≤ length tokens.now))
-        (λ x. (s : states.State) (p : states.Purpose) (next : tree.ExpressionTree → states.State) → IsTest s p outside next → Fails (run parser.end s tokens.now) x) }
+        (λ r. ((s : states.State) (p : states.Purpose) (next : tree.ExpressionTree → states.State) →
+        IsTest s p outside next → run parser.end s tokens.now
+        ≡ run parser.end (next (expression_tree r.0)) r.1.now) × (length r.1.now ≤ length tokens.now))
+        (λ x. (s : states.State) (p : states.Purpose) (next : tree.ExpressionTree → states.State) →
+        IsTest s p outside next → Fails (run parser.end s tokens.now) x) }
 {
     let (open, after) = parser.expect(tokens, Fixed::OpenParenthesis)?;
     let inside = nested(open.at, outside, 1)?;
@@ -68,8 +73,12 @@ fn until<'a>(
 ) -> Result<(Expression, &'a [Token]), ParseError>
     requires { inside ≤ nesting_limit }
     ensures { MatchResult result
-        (λ r. ((n : ℕ) (at : Pos) (s : tree.StatementTree) (o : states.Outer) → inside ≡ n + 1 → run parser.end (states.after_statement s (states.in_do n at o)) tokens.now ≡ run parser.end (states.after_statement (tree.do_while at s (expression_tree r.0)) o) r.1.now) × (length r.1.now ≤ length tokens.now))
-        (λ x. (n : ℕ) (at : Pos) (s : tree.StatementTree) (o : states.Outer) → inside ≡ n + 1 → Fails (run parser.end (states.after_statement s (states.in_do n at o)) tokens.now) x) }
+        (λ r. ((n : ℕ) (at : Pos) (s : tree.StatementTree) (o : states.Outer) → inside ≡ n + 1 →
+        run parser.end (states.after_statement s (states.in_do n at o)) tokens.now
+        ≡ run parser.end (states.after_statement (tree.do_while at s (expression_tree r.0)) o) r.1.now)
+        × (length r.1.now ≤ length tokens.now))
+        (λ x. (n : ℕ) (at : Pos) (s : tree.StatementTree) (o : states.Outer) → inside ≡ n + 1 →
+        Fails (run parser.end (states.after_statement s (states.in_do n at o)) tokens.now) x) }
 {
     let (_, after) = parser.expect(tokens, Fixed::While)?;
     let (test, end) = test(parser, after, inside)?;
@@ -85,8 +94,12 @@ fn for_start<'a>(
 ) -> Result<(ForStart, &'a [Token]), ParseError>
     requires { outside ≤ nesting_limit }
     ensures { MatchResult result
-        (λ r. ((n : ℕ) (at : Pos) (o : states.Outer) → outside ≡ n + 2 → run parser.end (states.for_first n at o) tokens.now ≡ run parser.end (states.for_second n at (for_start_tree r.0) o) r.1.now) × (length r.1.now ≤ length tokens.now))
-        (λ x. (n : ℕ) (at : Pos) (o : states.Outer) → outside ≡ n + 2 → Fails (run parser.end (states.for_first n at o) tokens.now) x) }
+        (λ r. ((n : ℕ) (at : Pos) (o : states.Outer) → outside ≡ n + 2 →
+        run parser.end (states.for_first n at o) tokens.now
+        ≡ run parser.end (states.for_second n at (for_start_tree r.0) o) r.1.now)
+        × (length r.1.now ≤ length tokens.now))
+        (λ x. (n : ℕ) (at : Pos) (o : states.Outer) → outside ≡ n + 2 →
+        Fails (run parser.end (states.for_first n at o) tokens.now) x) }
 {
     if let Some((word, after)) = parser.specifier(tokens) {
         let (declaration, rest) = declaration(parser, word, after, outside)?;
@@ -105,8 +118,13 @@ fn for_tests<'a>(
 ) -> Result<(Option<Expression>, Option<Expression>, &'a [Token]), ParseError>
     requires { outside ≤ nesting_limit }
     ensures { MatchResult result
-        (λ r. ((n : ℕ) (at : Pos) (f : tree.ForStartTree) (o : states.Outer) → outside ≡ n + 2 → run parser.end (states.for_second n at f o) tokens.now ≡ run parser.end (states.at_statement (n + 1) (states.in_for n at f (option_map expression_tree r.0) (option_map expression_tree r.1) o)) r.2.now) × (length r.2.now ≤ length tokens.now))
-        (λ x. (n : ℕ) (at : Pos) (f : tree.ForStartTree) (o : states.Outer) → outside ≡ n + 2 → Fails (run parser.end (states.for_second n at f o) tokens.now) x) }
+        (λ r. ((n : ℕ) (at : Pos) (f : tree.ForStartTree) (o : states.Outer) → outside ≡ n + 2 →
+        run parser.end (states.for_second n at f o) tokens.now
+        ≡ run parser.end (states.at_statement (n + 1)
+        (states.in_for n at f (option_map expression_tree r.0) (option_map expression_tree r.1) o)) r.2.now)
+        × (length r.2.now ≤ length tokens.now))
+        (λ x. (n : ℕ) (at : Pos) (f : tree.ForStartTree) (o : states.Outer) → outside ≡ n + 2 →
+        Fails (run parser.end (states.for_second n at f o) tokens.now) x) }
 {
     let (test, rest) = optional(parser, tokens, outside, Fixed::Semicolon)?;
     let ((_, third), test) = keeping(parser.expect(rest, Fixed::Semicolon), test)?;
@@ -129,8 +147,13 @@ fn for_head<'a>(
 ) -> Result<(Box<ForHead>, &'a [Token]), ParseError>
     requires { inside ≤ nesting_limit }
     ensures { MatchResult result
-        (λ r. ((n : ℕ) (at : Pos) (o : states.Outer) → inside ≡ n + 1 → run parser.end (states.for_open n at o) tokens.now ≡ run parser.end (states.at_statement inside (states.in_for n at (for_start_tree r.0.value.start) (option_map expression_tree r.0.value.condition) (option_map expression_tree r.0.value.step) o)) r.1.now) × (length r.1.now ≤ length tokens.now))
-        (λ x. (n : ℕ) (at : Pos) (o : states.Outer) → inside ≡ n + 1 → Fails (run parser.end (states.for_open n at o) tokens.now) x) }
+        (λ r. ((n : ℕ) (at : Pos) (o : states.Outer) → inside ≡ n + 1 →
+        run parser.end (states.for_open n at o) tokens.now
+        ≡ run parser.end (states.at_statement inside
+        (states.in_for n at (for_start_tree r.0.value.start) (option_map expression_tree r.0.value.condition)
+        (option_map expression_tree r.0.value.step) o)) r.1.now) × (length r.1.now ≤ length tokens.now))
+        (λ x. (n : ℕ) (at : Pos) (o : states.Outer) → inside ≡ n + 1 →
+        Fails (run parser.end (states.for_open n at o) tokens.now) x) }
 {
     let (open, after) = parser.expect(tokens, Fixed::OpenParenthesis)?;
     let head = nested(open.at, inside, 1)?;
@@ -151,8 +174,12 @@ fn goto<'a>(
     tokens: &'a [Token],
 ) -> Result<(Statement, &'a [Token]), ParseError>
     ensures { MatchResult result
-        (λ r. ((n : ℕ) (o : states.Outer) → n + 1 ≤ nesting_limit → run parser.end (states.goto_name n at o) tokens.now ≡ run parser.end (states.after_statement (statement_tree r.0) o) r.1.now) × (length r.1.now ≤ length tokens.now))
-        (λ x. (n : ℕ) (o : states.Outer) → n + 1 ≤ nesting_limit → Fails (run parser.end (states.goto_name n at o) tokens.now) x) }
+        (λ r. ((n : ℕ) (o : states.Outer) → n + 1 ≤ nesting_limit →
+        run parser.end (states.goto_name n at o) tokens.now
+        ≡ run parser.end (states.after_statement (statement_tree r.0) o) r.1.now)
+        × (length r.1.now ≤ length tokens.now))
+        (λ x. (n : ℕ) (o : states.Outer) → n + 1 ≤ nesting_limit →
+        Fails (run parser.end (states.goto_name n at o) tokens.now) x) }
 {
     let (name, after) = parser.expect(tokens, Fixed::Name)?;
     let (_, last) = parser.expect(after, Fixed::Semicolon)?;
@@ -168,8 +195,12 @@ fn returning<'a>(
 ) -> Result<(Statement, &'a [Token]), ParseError>
     requires { inside ≤ nesting_limit }
     ensures { MatchResult result
-        (λ r. ((n : ℕ) (o : states.Outer) → inside ≡ n + 1 → run parser.end (states.returning n at o) tokens.now ≡ run parser.end (states.after_statement (statement_tree r.0) o) r.1.now) × (length r.1.now ≤ length tokens.now))
-        (λ x. (n : ℕ) (o : states.Outer) → inside ≡ n + 1 → Fails (run parser.end (states.returning n at o) tokens.now) x) }
+        (λ r. ((n : ℕ) (o : states.Outer) → inside ≡ n + 1 →
+        run parser.end (states.returning n at o) tokens.now
+        ≡ run parser.end (states.after_statement (statement_tree r.0) o) r.1.now)
+        × (length r.1.now ≤ length tokens.now))
+        (λ x. (n : ℕ) (o : states.Outer) → inside ≡ n + 1 →
+        Fails (run parser.end (states.returning n at o) tokens.now) x) }
 {
     let (value, rest) = optional(parser, tokens, inside, Fixed::Semicolon)?;
     let ((_, last), value) = keeping(parser.expect(rest, Fixed::Semicolon), value)?;
@@ -178,7 +209,8 @@ fn returning<'a>(
 
 // The name that an expression is, where it is no more than one.
 fn name_alone(e: &Expression) -> Option<Identifier>
-    ensures { MatchOption result ((name : Identifier) → e.now ≢ Expression.Name name) (λ name. e.now ≡ Expression.Name name) }
+    ensures { MatchOption result ((name : Identifier) → e.now ≢ Expression.Name name)
+        (λ name. e.now ≡ Expression.Name name) }
 {
     match e {
         Expression::Name(name) => Some(*name),
@@ -196,7 +228,9 @@ fn labelled<'a>(
     requires limit { outside ≤ nesting_limit }
     requires other { signs.statement_start (first_of_all parser.end tokens.now).kind ≡ StatementStart.Other }
     ensures { MatchResult result
-        (λ r. ((o : states.Outer) → run parser.end (states.at_statement outside o) tokens.now ≡ run parser.end (states.after_statement (statement_tree r.0) o) r.1.now) × (length r.1.now < length tokens.now))
+        (λ r. ((o : states.Outer) → run parser.end (states.at_statement outside o) tokens.now
+        ≡ run parser.end (states.after_statement (statement_tree r.0) o) r.1.now)
+        × (length r.1.now < length tokens.now))
         (λ x. (o : states.Outer) → Fails (run parser.end (states.at_statement outside o) tokens.now) x) }
 {
     let at = parser.place(tokens);
@@ -231,8 +265,12 @@ fn case<'a>(
 ) -> Result<(Statement, &'a [Token]), ParseError>
     requires { inside ≤ nesting_limit }
     ensures { MatchResult result
-        (λ r. ((n : ℕ) (o : states.Outer) → inside ≡ n + 1 → run parser.end (states.operand inside (states.as_whole (states.as_label n at o))) tokens.now ≡ run parser.end (states.after_statement (statement_tree r.0) o) r.1.now) × (length r.1.now ≤ length tokens.now))
-        (λ x. (n : ℕ) (o : states.Outer) → inside ≡ n + 1 → Fails (run parser.end (states.operand inside (states.as_whole (states.as_label n at o))) tokens.now) x) }
+        (λ r. ((n : ℕ) (o : states.Outer) → inside ≡ n + 1 →
+        run parser.end (states.operand inside (states.as_whole (states.as_label n at o))) tokens.now
+        ≡ run parser.end (states.after_statement (statement_tree r.0) o) r.1.now)
+        × (length r.1.now ≤ length tokens.now))
+        (λ x. (n : ℕ) (o : states.Outer) → inside ≡ n + 1 →
+        Fails (run parser.end (states.operand inside (states.as_whole (states.as_label n at o))) tokens.now) x) }
 {
     let (value, rest) = parser.conditional(tokens, inside)?;
     let ((_, after), value) = keeping(parser.expect(rest, Fixed::Colon), value)?;
@@ -251,8 +289,12 @@ fn default<'a>(
 ) -> Result<(Statement, &'a [Token]), ParseError>
     requires { inside ≤ nesting_limit }
     ensures { MatchResult result
-        (λ r. ((n : ℕ) (o : states.Outer) → inside ≡ n + 1 → run parser.end (states.default_colon n at o) tokens.now ≡ run parser.end (states.after_statement (statement_tree r.0) o) r.1.now) × (length r.1.now ≤ length tokens.now))
-        (λ x. (n : ℕ) (o : states.Outer) → inside ≡ n + 1 → Fails (run parser.end (states.default_colon n at o) tokens.now) x) }
+        (λ r. ((n : ℕ) (o : states.Outer) → inside ≡ n + 1 →
+        run parser.end (states.default_colon n at o) tokens.now
+        ≡ run parser.end (states.after_statement (statement_tree r.0) o) r.1.now)
+        × (length r.1.now ≤ length tokens.now))
+        (λ x. (n : ℕ) (o : states.Outer) → inside ≡ n + 1 →
+        Fails (run parser.end (states.default_colon n at o) tokens.now) x) }
 {
     let (_, after) = parser.expect(tokens, Fixed::Colon)?;
     let (body, last) = statement(parser, after, inside)?;
@@ -270,8 +312,12 @@ fn choice<'a>(
 ) -> Result<(Statement, &'a [Token]), ParseError>
     requires { inside ≤ nesting_limit }
     ensures { MatchResult result
-        (λ r. ((n : ℕ) (o : states.Outer) → inside ≡ n + 1 → run parser.end (states.test_open Testing.If n at o) tokens.now ≡ run parser.end (states.after_statement (statement_tree r.0) o) r.1.now) × (length r.1.now ≤ length tokens.now))
-        (λ x. (n : ℕ) (o : states.Outer) → inside ≡ n + 1 → Fails (run parser.end (states.test_open Testing.If n at o) tokens.now) x) }
+        (λ r. ((n : ℕ) (o : states.Outer) → inside ≡ n + 1 →
+        run parser.end (states.test_open Testing.If n at o) tokens.now
+        ≡ run parser.end (states.after_statement (statement_tree r.0) o) r.1.now)
+        × (length r.1.now ≤ length tokens.now))
+        (λ x. (n : ℕ) (o : states.Outer) → inside ≡ n + 1 →
+        Fails (run parser.end (states.test_open Testing.If n at o) tokens.now) x) }
 {
     let (test, after) = test(parser, tokens, inside)?;
     let ((yes, rest), test) = keeping(statement(parser, after, inside), test)?;
@@ -298,8 +344,12 @@ fn tested<'a>(
     requires limit { inside ≤ nesting_limit }
     requires no_if { testing ≢ Testing.If }
     ensures { MatchResult result
-        (λ r. ((n : ℕ) (o : states.Outer) → inside ≡ n + 1 → run parser.end (states.test_open testing n at o) tokens.now ≡ run parser.end (states.after_statement (statement_tree r.0) o) r.1.now) × (length r.1.now ≤ length tokens.now))
-        (λ x. (n : ℕ) (o : states.Outer) → inside ≡ n + 1 → Fails (run parser.end (states.test_open testing n at o) tokens.now) x) }
+        (λ r. ((n : ℕ) (o : states.Outer) → inside ≡ n + 1 →
+        run parser.end (states.test_open testing n at o) tokens.now
+        ≡ run parser.end (states.after_statement (statement_tree r.0) o) r.1.now)
+        × (length r.1.now ≤ length tokens.now))
+        (λ x. (n : ℕ) (o : states.Outer) → inside ≡ n + 1 →
+        Fails (run parser.end (states.test_open testing n at o) tokens.now) x) }
 {
     let (test, after) = test(parser, tokens, inside)?;
     let ((body, last), test) = keeping(statement(parser, after, inside), test)?;
@@ -320,8 +370,12 @@ fn repeated<'a>(
 ) -> Result<(Statement, &'a [Token]), ParseError>
     requires { inside ≤ nesting_limit }
     ensures { MatchResult result
-        (λ r. ((n : ℕ) (o : states.Outer) → inside ≡ n + 1 → run parser.end (states.at_statement inside (states.in_do n at o)) tokens.now ≡ run parser.end (states.after_statement (statement_tree r.0) o) r.1.now) × (length r.1.now ≤ length tokens.now))
-        (λ x. (n : ℕ) (o : states.Outer) → inside ≡ n + 1 → Fails (run parser.end (states.at_statement inside (states.in_do n at o)) tokens.now) x) }
+        (λ r. ((n : ℕ) (o : states.Outer) → inside ≡ n + 1 →
+        run parser.end (states.at_statement inside (states.in_do n at o)) tokens.now
+        ≡ run parser.end (states.after_statement (statement_tree r.0) o) r.1.now)
+        × (length r.1.now ≤ length tokens.now))
+        (λ x. (n : ℕ) (o : states.Outer) → inside ≡ n + 1 →
+        Fails (run parser.end (states.at_statement inside (states.in_do n at o)) tokens.now) x) }
 {
     let (body, rest) = statement(parser, tokens, inside)?;
     let ((test, last), body) = keeping(until(parser, rest, inside), body)?;
@@ -339,8 +393,12 @@ fn for_loop<'a>(
 ) -> Result<(Statement, &'a [Token]), ParseError>
     requires { inside ≤ nesting_limit }
     ensures { MatchResult result
-        (λ r. ((n : ℕ) (o : states.Outer) → inside ≡ n + 1 → run parser.end (states.for_open n at o) tokens.now ≡ run parser.end (states.after_statement (statement_tree r.0) o) r.1.now) × (length r.1.now ≤ length tokens.now))
-        (λ x. (n : ℕ) (o : states.Outer) → inside ≡ n + 1 → Fails (run parser.end (states.for_open n at o) tokens.now) x) }
+        (λ r. ((n : ℕ) (o : states.Outer) → inside ≡ n + 1 →
+        run parser.end (states.for_open n at o) tokens.now
+        ≡ run parser.end (states.after_statement (statement_tree r.0) o) r.1.now)
+        × (length r.1.now ≤ length tokens.now))
+        (λ x. (n : ℕ) (o : states.Outer) → inside ≡ n + 1 →
+        Fails (run parser.end (states.for_open n at o) tokens.now) x) }
 {
     let (head, rest) = for_head(parser, tokens, inside)?;
     let (body, last) = statement(parser, rest, inside)?;
@@ -357,9 +415,13 @@ fn block_items<'a>(
 ) -> Result<(Vec<BlockItem>, &'a [Token]), ParseError>
     requires { inside ≤ nesting_limit }
     ensures { MatchResult result
-        (λ r. ((b : states.OpenBlock) → steps.block_nesting b ≡ inside → run parser.end (states.block_item b) tokens.now ≡ run parser.end (states.block_item (with_items b (item_trees r.0.items))) r.1.now)
-        × (is_fixed Fixed.CloseBrace (first_of_all parser.end r.1.now).kind ≡ true) × (length r.1.now ≤ length tokens.now))
-        (λ x. (b : states.OpenBlock) → steps.block_nesting b ≡ inside → Fails (run parser.end (states.block_item b) tokens.now) x) }
+        (λ r. ((b : states.OpenBlock) → steps.block_nesting b ≡ inside →
+        run parser.end (states.block_item b) tokens.now
+        ≡ run parser.end (states.block_item (with_items b (item_trees r.0.items))) r.1.now)
+        × (is_fixed Fixed.CloseBrace (first_of_all parser.end r.1.now).kind ≡ true)
+        × (length r.1.now ≤ length tokens.now))
+        (λ x. (b : states.OpenBlock) → steps.block_nesting b ≡ inside →
+        Fails (run parser.end (states.block_item b) tokens.now) x) }
 {
     let mut list = Vec::new(parser.alloc);
     let mut rest = tokens;
@@ -389,8 +451,11 @@ pub fn block<'a>(
 ) -> Result<(Block, &'a [Token]), ParseError>
     requires { inside ≤ nesting_limit }
     ensures { MatchResult result
-        (λ r. ((b : states.OpenBlock) → IsNewBlock b brace inside → run parser.end (states.block_item b) tokens.now ≡ run parser.end (after_block b (block_tree r.0)) r.1.now) × (length r.1.now ≤ length tokens.now))
-        (λ x. (b : states.OpenBlock) → IsNewBlock b brace inside → Fails (run parser.end (states.block_item b) tokens.now) x) }
+        (λ r. ((b : states.OpenBlock) → IsNewBlock b brace inside →
+        run parser.end (states.block_item b) tokens.now
+        ≡ run parser.end (after_block b (block_tree r.0)) r.1.now) × (length r.1.now ≤ length tokens.now))
+        (λ x. (b : states.OpenBlock) → IsNewBlock b brace inside →
+        Fails (run parser.end (states.block_item b) tokens.now) x) }
 {
     let (items, rest) = block_items(parser, tokens, inside)?;
     let ((close, last), items) = keeping(parser.expect(rest, Fixed::CloseBrace), items)?;
@@ -406,7 +471,9 @@ pub fn statement<'a>(
 ) -> Result<(Statement, &'a [Token]), ParseError>
     requires { outside ≤ nesting_limit }
     ensures { MatchResult result
-        (λ r. ((o : states.Outer) → run parser.end (states.at_statement outside o) tokens.now ≡ run parser.end (states.after_statement (statement_tree r.0) o) r.1.now) × (length r.1.now < length tokens.now))
+        (λ r. ((o : states.Outer) → run parser.end (states.at_statement outside o) tokens.now
+        ≡ run parser.end (states.after_statement (statement_tree r.0) o) r.1.now)
+        × (length r.1.now < length tokens.now))
         (λ x. (o : states.Outer) → Fails (run parser.end (states.at_statement outside o) tokens.now) x) }
 {
     let start = statement_start(parser.kind(tokens));

@@ -20,7 +20,8 @@ pub fn parse(alloc: Global, tokens: &[Token]) -> Result<Unit, ParseError>
     requires { IsEnded tokens.now }
     ensures accepted { IfOk result (λ u. IsAccepted tokens.now (unit_tree u)) }
     ensures refused { IfErr result (λ x. (x ≡ ParseError.Memory) ⊎ IsRefused tokens.now x) }
-    ensures only { (trees : List ExternalTree) → IsAccepted tokens.now trees → MatchResult result (λ u. unit_tree u ≡ trees) (λ x. x ≡ ParseError.Memory) }
+    ensures only { (trees : List ExternalTree) → IsAccepted tokens.now trees →
+        MatchResult result (λ u. unit_tree u ≡ trees) (λ x. x ≡ ParseError.Memory) }
 {
     if let Some((construct, at)) = first_unsupported(tokens) {
         return Err(ParseError::Unsupported { construct, at });

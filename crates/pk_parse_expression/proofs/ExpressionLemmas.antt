@@ -39,10 +39,10 @@ le_more m h = omega arith
 pub counts : (a b count more : ℕ) → a ≡ count → b ≡ more → a + 1 + b ≡ count + (1 + more)
 counts a b count more e f = omega arith
 
-pub ends_within : (end : Token) (ts : List Token) (s r : ℕ) → s ≡ r → EndsAt end (s + 1) ts → EndsAt end (r + 1) ts
+pub ends_within : (end : Token) (ts : List Token) (s r : ℕ) → s ≡ r → EndsAt end s ts → EndsAt end r ts
 ends_within end ts s r e h = omega arith
 
-pub ends_binary : (end : Token) (ts : List Token) (o : BinaryOperator) (s : ℕ) → s ≡ strength o → EndsAt end (s + 1) ts → EndsAt end 14 ts
+pub ends_binary : (end : Token) (ts : List Token) (o : BinaryOperator) (s : ℕ) → s ≡ strength o + 1 → EndsAt end s ts → EndsAt end 14 ts
 ends_binary end ts o s e h = omega (arith, strength_most o)
 
 -- an element

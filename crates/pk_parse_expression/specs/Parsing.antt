@@ -89,7 +89,8 @@ abbrev pub UpTo : ℕ → Context → Type 0
 UpTo level c = operand_level c ≤ level
 
 -- from a state within each of these contexts the tokens are read as an operand there
-abbrev pub Reads : Token → (Context → Type 0) → (Context → State) → ℕ → List Token → ExpressionTree → List Token → Type 0
+abbrev pub Reads : Token → (Context → Type 0) → (Context → State) → ℕ → List Token → ExpressionTree → List Token →
+    Type 0
 Reads end P s n ts e rest = (c : Context) → P c → run end (s c) ts ≡ run end (complete n e c) rest
 
 -- and this is the answer

@@ -1,6 +1,6 @@
 // Expressions.
 
-ghost use Rattle.std.specs.Prelude.{◌≡◌, ◌+◌, ◌<◌, ◌≤◌, ◌∷◌, [], length, MatchResult};
+ghost use Rattle.std.specs.Prelude.{◌≡◌, ◌+◌, ◌<◌, ◌≤◌, length, MatchResult};
 ghost use Rattle.pk_ast.specs.Lists.{one};
 ghost use Rattle.pk_ast.specs.Trees as tree;
 ghost use Rattle.pk_ast.specs.Views.{expression_tree, expression_trees};
@@ -11,7 +11,7 @@ ghost use Rattle.pk_grammar.specs.Outcomes.{nesting_limit};
 ghost use Rattle.pk_parse_expression.specs.Parsing.{EndsAt, IsPrimary, IsOperand, CastsIf, Anywhere, UpTo, Reads, Refuses};
 
 use crate::kept::keeping;
-use crate::parser::{Parser, identifier, nested, strength};
+use crate::parser::{Parser, identifier, nested, right_of};
 use pk_ast::{Expression, Identifier, Specifier};
 use pk_ctypes::Pos;
 use pk_grammar::{Fixed, OperandStart, ParseError, operand_start};
@@ -54,7 +54,9 @@ impl Parser {
         requires primary { IsPrimary (expression_tree operand) }
         requires limit { outside ≤ nesting_limit }
         ensures { MatchResult result
-            (λ r. Reads self.end Anywhere (λ c. states.complete outside (expression_tree operand) c) outside tokens.now (expression_tree r.0) r.1.now × IsOperand self.end (expression_tree r.0) r.1.now × (length r.1.now ≤ length tokens.now))
+            (λ r. Reads self.end Anywhere (λ c. states.complete outside
+            (expression_tree operand) c) outside tokens.now (expression_tree r.0) r.1.now
+            × IsOperand self.end (expression_tree r.0) r.1.now × (length r.1.now ≤ length tokens.now))
             (λ x. Refuses self.end Anywhere (λ c. states.complete outside (expression_tree operand) c) tokens.now x) }
     {
         let mut whole = operand;
@@ -80,7 +82,9 @@ impl Parser {
     ) -> Result<(Vec<Expression>, &'a [Token]), ParseError>
         requires { outside < nesting_limit }
         ensures { MatchResult result
-            (λ r. ((id : Identifier) → Reads self.end Anywhere (λ c. states.arguments outside id c) outside tokens.now (tree.call id (expression_trees r.0.items)) r.1.now) × (length r.1.now ≤ length tokens.now))
+            (λ r. ((id : Identifier) → Reads self.end Anywhere
+            (λ c. states.arguments outside id c) outside tokens.now
+            (tree.call id (expression_trees r.0.items)) r.1.now) × (length r.1.now ≤ length tokens.now))
             (λ x. (id : Identifier) → Refuses self.end Anywhere (λ c. states.arguments outside id c) tokens.now x) }
     {
         let mut list = Vec::new(self.alloc);
@@ -109,7 +113,9 @@ impl Parser {
     ) -> Result<(Expression, &'a [Token]), ParseError>
         requires { outside ≤ nesting_limit }
         ensures { MatchResult result
-            (λ r. Reads self.end Anywhere (λ c. states.named outside name c) outside tokens.now (expression_tree r.0) r.1.now × IsPrimary (expression_tree r.0) × (length r.1.now ≤ length tokens.now))
+            (λ r. Reads self.end Anywhere (λ c. states.named outside name c) outside tokens.now
+            (expression_tree r.0) r.1.now × IsPrimary (expression_tree r.0)
+            × (length r.1.now ≤ length tokens.now))
             (λ x. Refuses self.end Anywhere (λ c. states.named outside name c) tokens.now x) }
     {
         if let Some((open, after)) = self.take(tokens, Fixed::OpenParenthesis) {
@@ -138,7 +144,9 @@ impl Parser {
     ) -> Result<(Expression, &'a [Token]), ParseError>
         requires { outside < nesting_limit }
         ensures { MatchResult result
-            (λ r. Reads self.end Anywhere (λ c. states.cast_specifiers outside at (one first) c) outside tokens.now (expression_tree r.0) r.1.now × IsOperand self.end (expression_tree r.0) r.1.now × (length r.1.now ≤ length tokens.now))
+            (λ r. Reads self.end Anywhere (λ c. states.cast_specifiers outside at (one first) c) outside tokens.now
+            (expression_tree r.0) r.1.now × IsOperand self.end (expression_tree r.0) r.1.now
+            × (length r.1.now ≤ length tokens.now))
             (λ x. Refuses self.end Anywhere (λ c. states.cast_specifiers outside at (one first) c) tokens.now x) }
     {
         let (words, rest) = self.specifiers(first, tokens)?;
@@ -159,7 +167,9 @@ impl Parser {
     ) -> Result<(Expression, &'a [Token]), ParseError>
         requires { outside < nesting_limit }
         ensures { MatchResult result
-            (λ r. Reads self.end (CastsIf casts) (λ c. states.opened outside at c) outside tokens.now (expression_tree r.0) r.1.now × IsOperand self.end (expression_tree r.0) r.1.now × (length r.1.now ≤ length tokens.now))
+            (λ r. Reads self.end (CastsIf casts) (λ c. states.opened outside at c) outside tokens.now
+            (expression_tree r.0) r.1.now × IsOperand self.end (expression_tree r.0) r.1.now
+            × (length r.1.now ≤ length tokens.now))
             (λ x. Refuses self.end (CastsIf casts) (λ c. states.opened outside at c) tokens.now x) }
     {
         if let Some((first, after)) = self.specifier(tokens) {
@@ -184,7 +194,9 @@ impl Parser {
     ) -> Result<(Expression, &'a [Token]), ParseError>
         requires { outside ≤ nesting_limit }
         ensures { MatchResult result
-            (λ r. Reads self.end (CastsIf casts) (λ c. states.operand outside c) outside tokens.now (expression_tree r.0) r.1.now × IsOperand self.end (expression_tree r.0) r.1.now × (length r.1.now ≤ length tokens.now))
+            (λ r. Reads self.end (CastsIf casts) (λ c. states.operand outside c) outside tokens.now
+            (expression_tree r.0) r.1.now × IsOperand self.end (expression_tree r.0) r.1.now
+            × (length r.1.now ≤ length tokens.now))
             (λ x. Refuses self.end (CastsIf casts) (λ c. states.operand outside c) tokens.now x) }
     {
         let (token, rest) = self.next(tokens)?;
@@ -231,8 +243,11 @@ impl Parser {
         requires weakest { weakest_operator ≤ level }
         requires strongest { level ≤ cast_expression }
         ensures { MatchResult result
-            (λ r. Reads self.end (UpTo level) (λ c. states.operand outside c) outside tokens.now (expression_tree r.0) r.2.now
-            × EndsAt self.end level r.2.now × (commas_in (expression_tree r.0) ≡ 0) × (operators_in (expression_tree r.0) ≡ r.1) × (outside + r.1 ≤ nesting_limit) × (length r.2.now ≤ length tokens.now))
+            (λ r. Reads self.end (UpTo level) (λ c. states.operand outside c) outside tokens.now
+            (expression_tree r.0) r.2.now
+            × EndsAt self.end level r.2.now × (commas_in (expression_tree r.0) ≡ 0)
+            × (operators_in (expression_tree r.0) ≡ r.1) × (outside + r.1 ≤ nesting_limit)
+            × (length r.2.now ≤ length tokens.now))
             (λ x. Refuses self.end (UpTo level) (λ c. states.operand outside c) tokens.now x) }
     {
         let (mut left, mut rest) = self.operand(tokens, outside, true)?;
@@ -243,7 +258,7 @@ impl Parser {
             };
             let (inside, before) = keeping(nested(at, outside, count + 1), left)?;
             let ((right, more, next), before) = keeping(
-                self.binary(after, inside, strength(op) + 1),
+                self.binary(after, inside, right_of(op)),
                 before,
             )?;
             left = Expression::binary(self.alloc, op, at, before, right)?;
@@ -261,7 +276,9 @@ impl Parser {
     ) -> Result<(Expression, &'a [Token]), ParseError>
         requires { outside ≤ nesting_limit }
         ensures { MatchResult result
-            (λ r. Reads self.end (UpTo conditional_expression) (λ c. states.operand outside c) outside tokens.now (expression_tree r.0) r.1.now × EndsAt self.end conditional_expression r.1.now × (commas_in (expression_tree r.0) ≡ 0) × (length r.1.now ≤ length tokens.now))
+            (λ r. Reads self.end (UpTo conditional_expression) (λ c. states.operand outside c) outside tokens.now
+            (expression_tree r.0) r.1.now × EndsAt self.end conditional_expression r.1.now
+            × (commas_in (expression_tree r.0) ≡ 0) × (length r.1.now ≤ length tokens.now))
             (λ x. Refuses self.end (UpTo conditional_expression) (λ c. states.operand outside c) tokens.now x) }
     {
         let (test, _, rest) = self.binary(tokens, outside, WEAKEST)?;
@@ -288,7 +305,9 @@ impl Parser {
     ) -> Result<(Expression, &'a [Token]), ParseError>
         requires { outside ≤ nesting_limit }
         ensures { MatchResult result
-            (λ r. Reads self.end (UpTo assignment_expression) (λ c. states.operand outside c) outside tokens.now (expression_tree r.0) r.1.now × EndsAt self.end assignment_expression r.1.now × (commas_in (expression_tree r.0) ≡ 0) × (length r.1.now ≤ length tokens.now))
+            (λ r. Reads self.end (UpTo assignment_expression) (λ c. states.operand outside c) outside tokens.now
+            (expression_tree r.0) r.1.now × EndsAt self.end assignment_expression r.1.now
+            × (commas_in (expression_tree r.0) ≡ 0) × (length r.1.now ≤ length tokens.now))
             (λ x. Refuses self.end (UpTo assignment_expression) (λ c. states.operand outside c) tokens.now x) }
     {
         let (left, rest) = self.conditional(tokens, outside)?;
@@ -314,7 +333,9 @@ impl Parser {
     ) -> Result<(Expression, &'a [Token]), ParseError>
         requires { outside ≤ nesting_limit }
         ensures { MatchResult result
-            (λ r. Reads self.end (UpTo any_expression) (λ c. states.operand outside c) outside tokens.now (expression_tree r.0) r.1.now × EndsAt self.end any_expression r.1.now × (length r.1.now ≤ length tokens.now))
+            (λ r. Reads self.end (UpTo any_expression) (λ c. states.operand outside c) outside tokens.now
+            (expression_tree r.0) r.1.now × EndsAt self.end any_expression r.1.now
+            × (length r.1.now ≤ length tokens.now))
             (λ x. Refuses self.end (UpTo any_expression) (λ c. states.operand outside c) tokens.now x) }
     {
         let (mut left, mut rest) = self.assignment(tokens, outside)?;

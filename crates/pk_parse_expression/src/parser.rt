@@ -1,6 +1,6 @@
 // What the parsing functions share.
 
-ghost use Rattle.std.specs.Prelude.{◌≡◌, ◌≢◌, ◌+◌, ◌<◌, ◌≤◌, ◌∷◌, [], MatchResult, MatchOption, true, false};
+ghost use Rattle.std.specs.Prelude.{◌≡◌, ◌≢◌, ◌+◌, ◌<◌, ◌≤◌, ◌∷◌, [], MatchResult, MatchOption, false};
 ghost use Rattle.pk_grammar.specs.Grammar as grammar;
 ghost use Rattle.pk_grammar.specs.Grammar.{strength};
 ghost use Rattle.pk_grammar.specs.Languages.{identifier_of};
@@ -39,7 +39,8 @@ pub fn identifier(token: Token) -> Identifier
 
 /// The nesting of a token at this place, which opens so many more constructs.
 pub fn nested(at: Pos, outside: u32, more: u32) -> Result<u32, ParseError>
-    ensures { MatchResult result (λ n. (n ≡ outside + more) × (n ≤ nesting_limit)) (λ x. (x ≡ ParseError.Nesting at) × (nesting_limit < outside + more)) }
+    ensures { MatchResult result (λ n. (n ≡ outside + more) × (n ≤ nesting_limit))
+        (λ x. (x ≡ ParseError.Nesting at) × (nesting_limit < outside + more)) }
 {
     if outside > NESTING_LIMIT || more > NESTING_LIMIT - outside {
         Err(ParseError::Nesting { at })
@@ -71,7 +72,8 @@ impl Parser {
 
     /// The first token, and those after it.
     pub fn next<'a>(self, tokens: &'a [Token]) -> Result<(Token, &'a [Token]), ParseError>
-        ensures { MatchResult result (λ r. tokens.now ≡ r.0 ∷ r.1.now) (λ x. (tokens.now ≡ []) × (x ≡ ParseError.Syntax self.end.at)) }
+        ensures { MatchResult result (λ r. tokens.now ≡ r.0 ∷ r.1.now)
+            (λ x. (tokens.now ≡ []) × (x ≡ ParseError.Syntax self.end.at)) }
     {
         match tokens.split_first() {
             Some((token, rest)) => Ok((*token, rest)),
@@ -82,7 +84,8 @@ impl Parser {
     /// The first token, where it is this one, and those after it.
     pub fn take<'a>(self, tokens: &'a [Token], wanted: Fixed) -> Option<(Token, &'a [Token])>
         requires { is_fixed wanted Kind.End ≡ false }
-        ensures { MatchOption result (is_fixed wanted (first_of_all self.end tokens.now).kind ≡ false) (λ r. Begins wanted tokens.now r.0 r.1.now) }
+        ensures { MatchOption result (is_fixed wanted (first_of_all self.end tokens.now).kind ≡ false)
+            (λ r. Begins wanted tokens.now r.0 r.1.now) }
     {
         match tokens.split_first() {
             Some((token, rest)) if is(token.kind, wanted) => Some((*token, rest)),
@@ -98,7 +101,8 @@ impl Parser {
     ) -> Result<(Token, &'a [Token]), ParseError>
         requires { is_fixed wanted Kind.End ≡ false }
         ensures { MatchResult result (λ r. Begins wanted tokens.now r.0 r.1.now)
-            (λ x. (is_fixed wanted (first_of_all self.end tokens.now).kind ≡ false) × (x ≡ ParseError.Syntax (first_of_all self.end tokens.now).at)) }
+            (λ x. (is_fixed wanted (first_of_all self.end tokens.now).kind ≡ false)
+            × (x ≡ ParseError.Syntax (first_of_all self.end tokens.now).at)) }
     {
         match self.take(tokens, wanted) {
             Some(found) => Ok(found),
@@ -114,7 +118,8 @@ impl Parser {
         tokens: &'a [Token],
         level: u32,
     ) -> Option<(BinaryOperator, Pos, &'a [Token])>
-        ensures { MatchOption result ((o : BinaryOperator) → operator_of (first_of_all self.end tokens.now).kind ≡ Operator.Binary o → strength o < level)
+        ensures { MatchOption result ((o : BinaryOperator) →
+            operator_of (first_of_all self.end tokens.now).kind ≡ Operator.Binary o → strength o < level)
             (λ r. BeginsWith (Operator.Binary r.0) tokens.now r.1 r.2.now × (level ≤ strength r.0)) }
     {
         let (token, rest) = tokens.split_first()?;
@@ -126,7 +131,8 @@ impl Parser {
 
     /// The first token, where it is `++` or `--`.
     pub fn step_operator<'a>(self, tokens: &'a [Token]) -> Option<(StepOperator, Pos, &'a [Token])>
-        ensures { MatchOption result ((o : StepOperator) → operator_of (first_of_all self.end tokens.now).kind ≢ Operator.Step o)
+        ensures { MatchOption result
+            ((o : StepOperator) → operator_of (first_of_all self.end tokens.now).kind ≢ Operator.Step o)
             (λ r. BeginsWith (Operator.Step r.0) tokens.now r.1 r.2.now) }
     {
         let (token, rest) = tokens.split_first()?;
@@ -153,7 +159,8 @@ impl Parser {
         self,
         tokens: &'a [Token],
     ) -> Option<(AssignmentOperator, Pos, &'a [Token])>
-        ensures { MatchOption result ((o : AssignmentOperator) → operator_of (first_of_all self.end tokens.now).kind ≢ Operator.Assignment o)
+        ensures { MatchOption result
+            ((o : AssignmentOperator) → operator_of (first_of_all self.end tokens.now).kind ≢ Operator.Assignment o)
             (λ r. BeginsWith (Operator.Assignment r.0) tokens.now r.1 r.2.now) }
     {
         let (token, rest) = tokens.split_first()?;
@@ -165,7 +172,8 @@ impl Parser {
 
     /// The first token, where it is a word of a type.
     pub fn specifier<'a>(self, tokens: &'a [Token]) -> Option<(Specifier, &'a [Token])>
-        ensures { MatchOption result (specifier_word (first_of_all self.end tokens.now).kind ≡ None) (λ r. BeginsWithWord tokens.now r.0 r.1.now) }
+        ensures { MatchOption result (specifier_word (first_of_all self.end tokens.now).kind ≡ None)
+            (λ r. BeginsWithWord tokens.now r.0 r.1.now) }
     {
         let (token, rest) = tokens.split_first()?;
         let word = specifier_word(token.kind)?;
@@ -178,7 +186,8 @@ impl Parser {
         first: Specifier,
         tokens: &'a [Token],
     ) -> Result<(Specifiers, &'a [Token]), ParseError>
-        ensures { MatchResult result (λ r. (specifiers_tree r.0 ≡ specifiers_from first tokens.now) × (r.1.now ≡ past_words tokens.now)) (λ x. x ≡ ParseError.Memory) }
+        ensures { MatchResult result (λ r. (specifiers_tree r.0 ≡ specifiers_from first tokens.now)
+            × (r.1.now ≡ past_words tokens.now)) (λ x. x ≡ ParseError.Memory) }
     {
         let mut more = Vec::new(self.alloc);
         let mut rest = tokens;
@@ -211,4 +220,11 @@ pub fn strength(op: BinaryOperator) -> u32
         BinaryOperator::Add | BinaryOperator::Subtract => 11,
         BinaryOperator::Multiply | BinaryOperator::Divide | BinaryOperator::Remainder => 12,
     }
+}
+
+/// The weakest that may stand on its right: operators of one strength join from the left.
+pub fn right_of(op: BinaryOperator) -> u32
+    ensures { result ≡ grammar.strength op + 1 }
+{
+    strength(op) + 1
 }

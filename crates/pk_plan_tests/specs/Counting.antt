@@ -27,4 +27,9 @@ decision_of (h ∷ a ∷ b ∷ []) = if nat_le (max a b) h then Stable 0 else Ag
 decision_of (a ∷ b ∷ c ∷ d ∷ more) = Stable 0
 
 abbrev pub counting : Behaviour ℕ
-counting = record { reads = reads_of; first = λ e. 0; apply = λ e inputs. bound_of inputs; decide = λ x inputs. decision_of inputs }
+counting = record {
+  reads = reads_of;
+  first = λ e. 0;
+  apply = λ e inputs. bound_of inputs;
+  decide = λ x inputs. decision_of inputs;
+}

@@ -4,9 +4,8 @@ use crate::beside::{ending, words};
 use crate::reports::{integers, path_texts};
 use pk_front::front;
 use pk_graph::Graph;
-use pk_lower::{draft, graph_paths};
-use pk_number::number_if_typed;
 use pk_runner::{Program, run_from_start};
+use pk_text_graph::graph_of_text;
 use std::alloc::{AllocError, Global};
 
 // The lists of numbers that a run takes.
@@ -18,17 +17,6 @@ fn lists(alloc: Global, text: &str) -> Result<Vec<Vec<i128>>, AllocError> {
         }
     }
     Ok(all)
-}
-
-fn graph_of(alloc: Global, text: &str) -> Result<Option<Graph>, AllocError> {
-    let Ok((unit, paths)) = front(alloc, text.as_bytes(), "main") else {
-        return Ok(None);
-    };
-    let list = graph_paths(alloc, &unit, &paths)?;
-    let Ok(made) = draft(alloc, &unit, &paths) else {
-        return Ok(None);
-    };
-    number_if_typed(alloc, list, made)
 }
 
 // How so many runs end that draw their numbers, each way once.
@@ -105,7 +93,7 @@ fn ends(
             Some(answer) => words(alloc, answer),
         };
     }
-    match graph_of(alloc, of_graph)? {
+    match graph_of_text(alloc, of_graph.as_bytes(), "main").ok() {
         None => String::from_str(alloc, "no graph"),
         Some(graph) => compared(program, &graph, report, choices, steps),
     }

@@ -59,7 +59,8 @@ fn are_numbers(int_type: IntType, count: usize, numbers: &[i128]) -> bool
 // Whether these are numbers of the variable.
 #[tactic(auto, unfolding(pk_graph::specs::Graphs::variable_view))]
 fn is_row(variable: &Variable, numbers: &[i128]) -> bool
-    ensures { IsTrue result → AreNumbers (variable_view variable.now).kind.int_type (count_of (variable_view variable.now).kind.length) numbers.now }
+    ensures { IsTrue result → AreNumbers (variable_view variable.now).kind.int_type
+        (count_of (variable_view variable.now).kind.length) numbers.now }
 {
     are_numbers(variable.int_type, count(variable), numbers)
 }

@@ -1,10 +1,9 @@
 // What begins with an expression.
 
-ghost use Rattle.std.specs.Prelude.{◌≡◌, ℕ, ◌∷◌, IfOk, pos};
-ghost use Rattle.pk_typed.specs.Types.{type_of};
+ghost use Rattle.std.specs.Prelude.{◌≡◌, ◌∷◌, IfOk, pos};
 ghost use Rattle.pk_typed.specs.Views.{place_tree, value_tree, effect_tree, value_trees};
 ghost use Rattle.pk_meaning.specs.Steps as steps;
-ghost use Rattle.pk_runner_frame.specs.Frames.{Reading, held, work_at, work_in, way_in, place_in, object_in, array_in, expression_in, task_in};
+ghost use Rattle.pk_runner_frame.specs.Frames.{Reading, held, work_at, work_in, way_in, place_in, array_in, expression_in, task_in};
 ghost use Rattle.pk_runner_state.specs.Shown.{program_in, shown, Told};
 
 use pk_ctypes::{IntType, Op, Pos, range};
@@ -24,7 +23,10 @@ fn reload<'a>(
     right: Expression<'a>,
     number: usize,
 ) -> Result<Work<'a>, AllocError>
-    ensures { (s : Reading) → IfOk result (λ w. work_in s (held s frames.new.items) w ≡ steps.reload at (array_in array) (value_tree index.now) (expression_in right.entry) (work_at (held s frames.old.items) number)) }
+    ensures { (s : Reading) →
+        IfOk result (λ w. work_in s (held s frames.new.items) w
+        ≡ steps.reload at (array_in array) (value_tree index.now) (expression_in right.entry)
+        (work_at (held s frames.old.items) number)) }
 {
     let last = then(frames, Work::Reload(at, array, number))?;
     let keep = then(frames, Work::Keep(last))?;
@@ -42,7 +44,10 @@ fn called<'a>(
     arguments: &'a [Value],
     number: usize,
 ) -> Result<Work<'a>, AllocError>
-    ensures { (s : Reading) → IfOk result (λ w. work_in s (held s frames.new.items) w ≡ steps.called (program_in program.now) path call (value_trees arguments.now) (work_at (held s frames.old.items) number)) }
+    ensures { (s : Reading) →
+        IfOk result (λ w. work_in s (held s frames.new.items) w
+        ≡ steps.called (program_in program.now) path call (value_trees arguments.now)
+        (work_at (held s frames.old.items) number)) }
 {
     let callee = callee(program, path, call);
     let enter = then(frames, Work::Enter(callee, number))?;
@@ -64,7 +69,8 @@ fn assigned<'a>(
     number: usize,
 ) -> Result<Work<'a>, AllocError>
     ensures { (s : Reading) → IfOk result (λ w. work_in s (held s frames.new.items) w
-        ≡ steps.assigned (program_in program.now) path (place_tree place.now) (value_tree right.now) (work_at (held s frames.old.items) number)) }
+        ≡ steps.assigned (program_in program.now) path (place_tree place.now) (value_tree right.now)
+        (work_at (held s frames.old.items) number)) }
 {
     match place {
         Place::Scalar(int_type, variable) => {
@@ -102,7 +108,8 @@ fn updated<'a>(
     number: usize,
 ) -> Result<Work<'a>, AllocError>
     ensures { (s : Reading) → IfOk result (λ w. work_in s (held s frames.new.items) w
-        ≡ steps.updated (program_in program.now) path op at in_type (place_tree place.now) (expression_in right.entry) (work_at (held s frames.old.items) number)) }
+        ≡ steps.updated (program_in program.now) path op at in_type (place_tree place.now)
+        (expression_in right.entry) (work_at (held s frames.old.items) number)) }
 {
     match place {
         Place::Scalar(int_type, variable) => {
@@ -134,7 +141,9 @@ fn dropped<'a>(
     value: &'a Value,
     number: usize,
 ) -> Result<Work<'a>, AllocError>
-    ensures { (s : Reading) → IfOk result (λ w. work_in s (held s frames.new.items) w ≡ works.Evaluate (value_tree value.now) (works.Drop (work_at (held s frames.old.items) number))) }
+    ensures { (s : Reading) →
+        IfOk result (λ w. work_in s (held s frames.new.items) w
+        ≡ works.Evaluate (value_tree value.now) (works.Drop (work_at (held s frames.old.items) number))) }
 {
     let last = then(frames, Work::Discard(number))?;
     Ok(Work::Evaluate(Expression::Tree(value, false), last))
@@ -154,7 +163,8 @@ fn put_place<'a>(
     number: usize,
 ) -> Result<Work<'a>, AllocError>
     ensures { (s : Reading) → IfOk result (λ w. work_in s (held s frames.new.items) w
-        ≡ steps.put_place (program_in program.now) path (place_tree place.now) (value_tree whole.now) (value_tree right.now) (work_at (held s frames.old.items) number)) }
+        ≡ steps.put_place (program_in program.now) path (place_tree place.now) (value_tree whole.now)
+        (value_tree right.now) (work_at (held s frames.old.items) number)) }
 {
     match place {
         Place::Scalar(_, _) => dropped(frames, whole, number),
@@ -183,7 +193,8 @@ fn renew<'a>(
     number: usize,
 ) -> Result<Work<'a>, AllocError>
     ensures { (s : Reading) → IfOk result (λ w. work_in s (held s frames.new.items) w
-        ≡ steps.renew_place (program_in program.now) path op at in_type (place_tree place.now) (value_tree whole.now) (value_tree right.now) (work_at (held s frames.old.items) number)) }
+        ≡ steps.renew_place (program_in program.now) path op at in_type (place_tree place.now) (value_tree whole.now)
+        (value_tree right.now) (work_at (held s frames.old.items) number)) }
 {
     match place {
         Place::Scalar(_, _) => dropped(frames, whole, number),
@@ -217,7 +228,10 @@ fn advance<'a>(
     place: &'a Place,
     number: usize,
 ) -> Result<Work<'a>, AllocError>
-    ensures { (s : Reading) → IfOk result (λ w. work_in s (held s frames.new.items) w ≡ steps.advance_place (program_in program.now) path op at in_type (place_tree place.now) (work_at (held s frames.old.items) number)) }
+    ensures { (s : Reading) →
+        IfOk result (λ w. work_in s (held s frames.new.items) w
+        ≡ steps.advance_place (program_in program.now) path op at in_type (place_tree place.now)
+        (work_at (held s frames.old.items) number)) }
 {
     match place {
         Place::Scalar(int_type, variable) => Ok(Work::Advance(
@@ -248,7 +262,10 @@ fn unused<'a>(
     value: &'a Value,
     number: usize,
 ) -> Result<Work<'a>, AllocError>
-    ensures { (s : Reading) → IfOk result (λ w. work_in s (held s frames.new.items) w ≡ steps.unused (program_in program.now) path (value_tree value.now) (work_at (held s frames.old.items) number)) }
+    ensures { (s : Reading) →
+        IfOk result (λ w. work_in s (held s frames.new.items) w
+        ≡ steps.unused (program_in program.now) path (value_tree value.now)
+        (work_at (held s frames.old.items) number)) }
 {
     match value {
         Value::Assign(_, place, right) => {
@@ -314,7 +331,8 @@ fn performed_tree<'a>(
     number: usize,
 ) -> Result<Work<'a>, AllocError>
     ensures { (s : Reading) → IfOk result (λ w. work_in s (held s frames.new.items) w
-        ≡ steps.performed (program_in program.now) path (place_in s here) (effect_tree effect.now) (work_at (held s frames.old.items) number)) }
+        ≡ steps.performed (program_in program.now) path (place_in s here) (effect_tree effect.now)
+        (work_at (held s frames.old.items) number)) }
 {
     match effect {
         Effect::Unused(value) => unused(program, frames, path, value, number),
@@ -355,7 +373,10 @@ pub fn performed<'a>(
     task: Task<'a>,
     number: usize,
 ) -> Result<Work<'a>, AllocError>
-    ensures { (s : Reading) → IfOk result (λ w. work_in s (held s frames.new.items) w ≡ steps.performed (program_in program.now) path (place_in s here) (task_in task.entry) (work_at (held s frames.old.items) number)) }
+    ensures { (s : Reading) →
+        IfOk result (λ w. work_in s (held s frames.new.items) w
+        ≡ steps.performed (program_in program.now) path (place_in s here) (task_in task.entry)
+        (work_at (held s frames.old.items) number)) }
 {
     match task {
         Task::Tree(effect) => performed_tree(program, frames, path, here, effect, number),
@@ -371,7 +392,8 @@ fn decided<'a>(
     no: Way,
 ) -> Result<Work<'a>, AllocError>
     ensures { (s : Reading) → IfOk result (λ w. work_in s (held s frames.new.items) w
-        ≡ works.Evaluate (expression_in expression.entry) (works.Branch (way_in s (held s frames.old.items) yes) (way_in s (held s frames.old.items) no))) }
+        ≡ works.Evaluate (expression_in expression.entry)
+        (works.Branch (way_in s (held s frames.old.items) yes) (way_in s (held s frames.old.items) no))) }
 {
     let branch = then(frames, Work::Branch(yes, no))?;
     Ok(Work::Evaluate(expression, branch))
@@ -388,9 +410,12 @@ fn is_not(op: Op) -> bool
 
 // A way that leads to the same, also when one more frame is laid.
 fn known_way(frames: &mut Vec<Frame<'_>>, way: Way) -> Result<Way, AllocError>
-    ensures same { (s : Reading) (w : code_way.Way) → OnOk result (way_in s (held s frames.new.items) w ≡ way_in s (held s frames.old.items) w) }
-    ensures way { (s : Reading) → IfOk result (λ w. way_in s (held s frames.new.items) w ≡ way_in s (held s frames.old.items) way) }
-    ensures stays { (s : Reading) (f : Frame) → IfOk result (λ w. way_in s (held s (frames.new.items ++ f ∷ [])) w ≡ way_in s (held s frames.new.items) w) }
+    ensures same { (s : Reading) (w : code_way.Way) →
+        OnOk result (way_in s (held s frames.new.items) w ≡ way_in s (held s frames.old.items) w) }
+    ensures way { (s : Reading) →
+        IfOk result (λ w. way_in s (held s frames.new.items) w ≡ way_in s (held s frames.old.items) way) }
+    ensures stays { (s : Reading) (f : Frame) →
+        IfOk result (λ w. way_in s (held s (frames.new.items ++ f ∷ [])) w ≡ way_in s (held s frames.new.items) w) }
 {
     match way {
         Way::Onward(here, number) => Ok(Way::Onward(here, known(frames, number)?)),
@@ -402,7 +427,7 @@ fn known_way(frames: &mut Vec<Frame<'_>>, way: Way) -> Result<Way, AllocError>
     }
 }
 
-ghost use Rattle.std.specs.Prelude.{List, ◌++◌, OnOk};
+ghost use Rattle.std.specs.Prelude.{◌++◌, OnOk};
 ghost use Rattle.pk_runner_frame.specs.declared.works.Frame.{Frame};
 ghost use Rattle.pk_runner_frame.specs.declared.works.Way as code_way;
 
@@ -416,7 +441,8 @@ fn both<'a>(
     no: Way,
 ) -> Result<Work<'a>, AllocError>
     ensures { (s : Reading) → IfOk result (λ w. work_in s (held s frames.new.items) w
-        ≡ steps.tested (place_in s here) (tree.and (value_tree left.now) (value_tree right.now)) (way_in s (held s frames.old.items) yes) (way_in s (held s frames.old.items) no)) }
+        ≡ steps.tested (place_in s here) (tree.and (value_tree left.now) (value_tree right.now))
+        (way_in s (held s frames.old.items) yes) (way_in s (held s frames.old.items) no)) }
 {
     let no = known_way(frames, no)?;
     let second = frames.len();
@@ -436,7 +462,8 @@ fn either<'a>(
     no: Way,
 ) -> Result<Work<'a>, AllocError>
     ensures { (s : Reading) → IfOk result (λ w. work_in s (held s frames.new.items) w
-        ≡ steps.tested (place_in s here) (tree.or (value_tree left.now) (value_tree right.now)) (way_in s (held s frames.old.items) yes) (way_in s (held s frames.old.items) no)) }
+        ≡ steps.tested (place_in s here) (tree.or (value_tree left.now) (value_tree right.now))
+        (way_in s (held s frames.old.items) yes) (way_in s (held s frames.old.items) no)) }
 {
     let yes = known_way(frames, yes)?;
     let second = frames.len();
@@ -457,7 +484,8 @@ fn tested_tree<'a>(
     no: Way,
 ) -> Result<Work<'a>, AllocError>
     ensures { (s : Reading) → IfOk result (λ w. work_in s (held s frames.new.items) w
-        ≡ steps.tested (place_in s here) (value_tree value.now) (way_in s (held s frames.old.items) yes) (way_in s (held s frames.old.items) no)) }
+        ≡ steps.tested (place_in s here) (value_tree value.now) (way_in s (held s frames.old.items) yes)
+        (way_in s (held s frames.old.items) no)) }
 {
     let expression = Expression::Tree(value, false);
     match value {
@@ -497,7 +525,8 @@ pub fn tested<'a>(
     no: Way,
 ) -> Result<Work<'a>, AllocError>
     ensures { (s : Reading) → IfOk result (λ w. work_in s (held s frames.new.items) w
-        ≡ steps.tested (place_in s here) (expression_in expression.entry) (way_in s (held s frames.old.items) yes) (way_in s (held s frames.old.items) no)) }
+        ≡ steps.tested (place_in s here) (expression_in expression.entry) (way_in s (held s frames.old.items) yes)
+        (way_in s (held s frames.old.items) no)) }
 {
     match expression {
         Expression::Tree(value, is_int) => {
@@ -517,7 +546,9 @@ pub fn passed<'a>(
     arguments: &'a [Value],
     number: usize,
 ) -> Result<Work<'a>, AllocError>
-    ensures { (s : Reading) → IfOk result (λ w. work_in s (held s frames.new.items) w ≡ steps.pass (value_trees arguments.now) (work_at (held s frames.old.items) number)) }
+    ensures { (s : Reading) →
+        IfOk result (λ w. work_in s (held s frames.new.items) w
+        ≡ steps.pass (value_trees arguments.now) (work_at (held s frames.old.items) number)) }
 {
     if arguments.len() == 0 {
         Ok(take(frames, number))
@@ -536,7 +567,9 @@ pub fn filled<'a>(
     items: &'a [Value],
     number: usize,
 ) -> Result<Work<'a>, AllocError>
-    ensures { (s : Reading) → IfOk result (λ w. work_in s (held s frames.new.items) w ≡ steps.fill (array_in array) place (value_trees items.now) (work_at (held s frames.old.items) number)) }
+    ensures { (s : Reading) →
+        IfOk result (λ w. work_in s (held s frames.new.items) w
+        ≡ steps.fill (array_in array) place (value_trees items.now) (work_at (held s frames.old.items) number)) }
 {
     if items.len() == 0 {
         Ok(take(frames, number))
@@ -556,7 +589,10 @@ fn read<'a>(
     place: &'a Place,
     number: usize,
 ) -> Result<Answer, AllocError>
-    ensures { (s : Reading) → IfOk result (λ r. Told s state.old state.new r (steps.read_place (program_in program.now) (shown s state.old) (place_tree place.now) (work_at (held s state.old.frames.items) number))) }
+    ensures { (s : Reading) →
+        IfOk result (λ r. Told s state.old state.new r
+        (steps.read_place (program_in program.now) (shown s state.old) (place_tree place.now)
+        (work_at (held s state.old.frames.items) number))) }
 {
     match place {
         Place::Scalar(_, variable) => {
@@ -582,7 +618,9 @@ fn stepped<'a>(
     place: &'a Place,
     number: usize,
 ) -> Result<Answer, AllocError>
-    ensures { (s : Reading) → IfOk result (λ r. Told s state.old state.new r (steps.stepped (program_in program.now) (shown s state.old) op at in_type (place_tree place.now) (work_at
+    ensures { (s : Reading) →
+        IfOk result (λ r. Told s state.old state.new r
+        (steps.stepped (program_in program.now) (shown s state.old) op at in_type (place_tree place.now) (work_at
         (held s state.old.frames.items) number))) }
 {
     match place {
@@ -626,7 +664,9 @@ fn step_value<'a>(
     is_prefix: bool,
     number: usize,
 ) -> Result<Answer, AllocError>
-    ensures { (s : Reading) → IfOk result (λ r. Told s state.old state.new r (steps.evaluate (program_in program.now) [] (shown s state.old) (tree.step op at in_type
+    ensures { (s : Reading) →
+        IfOk result (λ r. Told s state.old state.new r
+        (steps.evaluate (program_in program.now) [] (shown s state.old) (tree.step op at in_type
         (place_tree place.now) is_prefix) (work_at (held s state.old.frames.items) number))) }
 {
     if is_prefix {
@@ -657,7 +697,9 @@ fn any(
     int_type: IntType,
     number: usize,
 ) -> Result<Answer, AllocError>
-    ensures { (s : Reading) → IfOk result (λ r. Told s state.old state.new r (steps.with_choice int_type 1 chosen.now (steps.on (shown s state.old) (work_at
+    ensures { (s : Reading) →
+        IfOk result (λ r.
+        Told s state.old state.new r (steps.with_choice int_type 1 chosen.now (steps.on (shown s state.old) (work_at
         (held s state.old.frames.items) number) (number_at chosen.now 0 ∷ (shown s state.old).values)))) }
 {
     if are_chosen(int_type, 1, chosen) {
@@ -669,8 +711,11 @@ fn any(
 
 // `a && b`, `a || b` as a value.
 fn truth<'a>(state: &mut State<'a>, value: &'a Value, number: usize) -> Result<Answer, AllocError>
-    ensures { (s : Reading) → IfOk result (λ r. Told s state.old state.new r (steps.on (shown s state.old) (works.Test (value_tree value.now) (works.Onward (shown s state.old).here
-        (works.Truth (pos 1) (work_at (held s state.old.frames.items) number))) (works.Onward (shown s state.old).here (works.Truth (pos 0) (work_at
+    ensures { (s : Reading) →
+        IfOk result (λ r. Told s state.old state.new r
+        (steps.on (shown s state.old) (works.Test (value_tree value.now) (works.Onward (shown s state.old).here
+        (works.Truth (pos 1) (work_at (held s state.old.frames.items) number)))
+        (works.Onward (shown s state.old).here (works.Truth (pos 0) (work_at
         (held s state.old.frames.items) number)))) (shown s state.old).values)) }
 {
     let here = state.here;
@@ -696,9 +741,13 @@ fn conditional<'a>(
     if_false: &'a Value,
     number: usize,
 ) -> Result<Answer, AllocError>
-    ensures { (s : Reading) → IfOk result (λ r. Told s state.old state.new r (steps.on (shown s state.old) (works.Test (value_tree condition.now) (works.Onward (shown s state.old).here
-        (works.Evaluate (value_tree if_true.now) (works.Settle int_type (work_at (held s state.old.frames.items) number)))) (works.Onward (shown s state.old).here (works.Evaluate
-        (value_tree if_false.now) (works.Settle int_type (work_at (held s state.old.frames.items) number))))) (shown s state.old).values)) }
+    ensures { (s : Reading) →
+        IfOk result (λ r. Told s state.old state.new r
+        (steps.on (shown s state.old) (works.Test (value_tree condition.now) (works.Onward (shown s state.old).here
+        (works.Evaluate (value_tree if_true.now) (works.Settle int_type
+        (work_at (held s state.old.frames.items) number)))) (works.Onward (shown s state.old).here (works.Evaluate
+        (value_tree if_false.now) (works.Settle int_type (work_at (held s state.old.frames.items) number)))))
+        (shown s state.old).values)) }
 {
     let here = state.here;
     let settle = then(&mut state.frames, Work::Settle(int_type, number))?;
@@ -728,7 +777,9 @@ fn evaluate_tree<'a>(
     value: &'a Value,
     number: usize,
 ) -> Result<Answer, AllocError>
-    ensures { (s : Reading) → IfOk result (λ r. Told s state.old state.new r (steps.evaluate (program_in program.now) chosen.now (shown s state.old) (value_tree value.now) (work_at
+    ensures { (s : Reading) →
+        IfOk result (λ r. Told s state.old state.new r
+        (steps.evaluate (program_in program.now) chosen.now (shown s state.old) (value_tree value.now) (work_at
         (held s state.old.frames.items) number))) }
 {
     let path = state.path;
@@ -842,7 +893,9 @@ pub fn evaluate<'a>(
     expression: Expression<'a>,
     number: usize,
 ) -> Result<Answer, AllocError>
-    ensures { (s : Reading) → IfOk result (λ r. Told s state.old state.new r (steps.evaluate (program_in program.now) chosen.now (shown s state.old) (expression_in expression.entry)
+    ensures { (s : Reading) →
+        IfOk result (λ r. Told s state.old state.new r
+        (steps.evaluate (program_in program.now) chosen.now (shown s state.old) (expression_in expression.entry)
         (work_at (held s state.old.frames.items) number))) }
 {
     match &expression {

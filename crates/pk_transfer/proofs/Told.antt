@@ -16,7 +16,7 @@ use Rattle.pk_interval.proofs.Keeping.{stays}
 use Rattle.pk_congr.specs.Laws.{IsOf as IsOfType}
 use Rattle.pk_graph.specs.declared.trees.Site.{Site}
 use Rattle.pk_graph.specs.Trees.{TreeOf, constant, variable, converted, unary, binary}
-use Rattle.pk_graph.specs.Kinds.{Kind, Kinds, no_kind, kind_at, type_of, IsScalar, IsRight, IsUnary, IsTyped}
+use Rattle.pk_graph.specs.Kinds.{Kind, Kinds, kind_at, type_of, IsRight, IsTyped}
 use Rattle.pk_graph.specs.Kinds as kinds
 use Rattle.pk_graph.specs.Steps.{number_at, Failure, at_site, and_then, tree_value}
 use Rattle.pk_graph.specs.Stores.{Stored, storing, numbers_of}

@@ -85,7 +85,7 @@ in_type t z e =
     let both = both_true (int_le (low_of t) z) (int_le z (high_of t)) e in
     record { from = test_le (low_of t) z both.0; to = test_le z (high_of t) both.1 }
 
-any_is : (t : IntType) (z : ℤ) → InType t z → IsOf (any_of t) z
+pub any_is : (t : IntType) (z : ℤ) → InType t z → IsOf (any_of t) z
 any_is t z h = record { in_range = record { from = h.from; to = h.to }; in_class = every_member z }
 
 all_are : (t : IntType) (zs : Numbers) → all_in_type t zs ≡ true → (i : ℕ) → i < length zs → IsOf (any_of t) (number_at zs i)

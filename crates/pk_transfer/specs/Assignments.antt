@@ -6,11 +6,15 @@ use Rattle.pk_graph.specs.Steps.{tree_value}
 use Rattle.pk_graph.specs.Stores.{Stored, storing}
 use Rattle.pk_value.specs.Known.{Known}
 use Rattle.pk_state.specs.Layouts.{Layout, IsLayout, place_in}
-use Rattle.pk_state.specs.Facts.{Facts, AreFactsIf}
+use Rattle.pk_state.specs.Facts.{Facts, Stated, AreFactsIf}
 use Rattle.pk_state.specs.Members.{Member}
 use Rattle.pk_state.specs.Changes.{known_in, with_known, assigned_in}
 use Rattle.pk_transfer.specs.Trees.{tree_known, kinds_of}
 use Rattle.pk_transfer.specs.Linear.{Linear, linear}
+
+-- a state in place of another: of its layout, with these facts
+abbrev pub HasFacts : Stated → Option Facts → Stated → Type 0
+HasFacts before f after = after ≡ record { layout = before.layout; facts = f }
 
 -- the term, if there is just one
 abbrev pub term_of : List ℕ → Option ℕ
@@ -34,10 +38,13 @@ with_known_if f x (Some k) = with_known f x k
 
 -- A variable gets a tree's value.
 abbrev pub set_in : Layout → Option Facts → ℕ → TreeOf ℕ → Option Facts
-set_in y f x e = with_known_if (with_form_at f (place_in y.chosen x) (linear y.chosen (known_in f) e)) x (tree_known (known_in f) e)
+set_in y f x e =
+    with_known_if (with_form_at f (place_in y.chosen x) (linear y.chosen (known_in f) e)) x
+    (tree_known (known_in f) e)
 
 -- A store of a state in which a scalar gets a typed tree's value is one of the state after the assignment.
 abbrev pub AssignmentsKeep : Type 0
 AssignmentsKeep =
-    (y : Layout) (f : Option Facts) (s : Stored) (x : ℕ) (e : TreeOf ℕ) (z : ℤ) → IsLayout y → AreFactsIf y f → Member y f s → IsScalar (kinds_of y) x → IsTyped (kinds_of y) e → tree_value storing e s ≡ Ok z
+    (y : Layout) (f : Option Facts) (s : Stored) (x : ℕ) (e : TreeOf ℕ) (z : ℤ) → IsLayout y → AreFactsIf y f →
+    Member y f s → IsScalar (kinds_of y) x → IsTyped (kinds_of y) e → tree_value storing e s ≡ Ok z
     → Member y (set_in y f x e) (slice_set s x (z ∷ []))

@@ -72,12 +72,14 @@ if_some (Some k) f = f
 abbrev pub refined_in : Option Facts → Condition → Option Known → Option Known → Option Facts
 refined_in f c None v = None
 refined_in f c (Some k) None = None
-refined_in f c (Some k) (Some v) = if_some (refined c.op k v) (with_operand (with_operand f c.left c.op v) c.right (flipped c.op) k)
+refined_in f c (Some k) (Some v) =
+    if_some (refined c.op k v) (with_operand (with_operand f c.left c.op v) c.right (flipped c.op) k)
 
 abbrev pub holds_in : Layout → Option Facts → Condition → Option Facts
 holds_in y f c =
     let g = known_in f in
-    refined_in (compared_in c.op f (linear y.chosen g c.left) (linear y.chosen g c.right)) c (tree_known g c.left) (tree_known g c.right)
+    refined_in (compared_in c.op f (linear y.chosen g c.left) (linear y.chosen g c.right)) c (tree_known g c.left)
+    (tree_known g c.right)
 
 -- A guard on a tree passes.
 abbrev pub guard_in : Layout → Option Facts → TreeOf ℕ → Bool → Option Facts
@@ -86,5 +88,6 @@ guard_in y f e b = holds_in y f (condition_of e b)
 -- A store of a state in which a typed tree has the wanted truth is one of the state after the guard.
 abbrev pub GuardsPass : Type 0
 GuardsPass =
-    (ks : Kinds) (y : Layout) (f : Option Facts) (s : Stored) (e : TreeOf ℕ) (b : Bool) (z : ℤ) → IsOver ks y → IsStore ks s → AreFactsIf y f → Member y f s → IsTyped ks e → tree_value storing e s ≡ Ok z → is_true z ≡ b
+    (ks : Kinds) (y : Layout) (f : Option Facts) (s : Stored) (e : TreeOf ℕ) (b : Bool) (z : ℤ) → IsOver ks y →
+    IsStore ks s → AreFactsIf y f → Member y f s → IsTyped ks e → tree_value storing e s ≡ Ok z → is_true z ≡ b
     → Member y (guard_in y f e b) s

@@ -16,4 +16,5 @@ layout_of g n = record { types = map (λ (k : Kind). k.int_type) (kinds_of g); c
 pub record GraphsAreOver : Type 0 where
   pub layouts : (g : GraphOf) (n : ℕ) → n < 2 ^ 31 → IsLayout (layout_of g n)
   pub over : (g : GraphOf) (n : ℕ) → IsOver (kinds_of g) (layout_of g n)
-  pub instructions : (g : GraphOf) (y : Layout) (p : ℕ) → IsGraph g → IsOver (kinds_of g) y → p < length g.points → All (λ (e : EdgeOf). IsInstrOver y e.instr) (point_at g p).edges
+  pub instructions : (g : GraphOf) (y : Layout) (p : ℕ) → IsGraph g → IsOver (kinds_of g) y → p < length g.points →
+      All (λ (e : EdgeOf). IsInstrOver y e.instr) (point_at g p).edges

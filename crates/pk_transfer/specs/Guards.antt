@@ -98,7 +98,8 @@ condition_of (variable x) b = is_zero (variable x) b
 condition_of (converted t e) b = is_zero (converted t e) b
 condition_of (unary op s t e) b = if is_not op then condition_of e (not b) else is_zero (unary op s t e) b
 condition_of (binary op s t a c) b =
-    if is_comparison op then record { op = if b then op else negated op; left = a; right = c } else is_zero (binary op s t a c) b
+    if is_comparison op then record { op = if b then op else negated op; left = a; right = c }
+    else is_zero (binary op s t a c) b
 
 -- the comparison holds of two numbers
 abbrev pub test_of : Op → ℤ → ℤ → Bool
@@ -146,7 +147,8 @@ at_least k z = with_range k (range_from (int_max k.range.lo z) k.range.hi)
 -- a bound that is z moves by one
 abbrev pub other_than : Known → ℤ → Option Known
 other_than k z =
-    with_range k (range_from (if int_eq k.range.lo z then k.range.lo +ℤ pos 1 else k.range.lo) (if int_eq k.range.hi z then k.range.hi -ℤ pos 1 else k.range.hi))
+    with_range k (range_from (if int_eq k.range.lo z then k.range.lo +ℤ pos 1 else k.range.lo)
+    (if int_eq k.range.hi z then k.range.hi -ℤ pos 1 else k.range.hi))
 
 -- x, where its comparison with one of v holds
 abbrev pub refined : Op → Known → Known → Option Known
@@ -172,6 +174,9 @@ refined Not x v = Some x
 
 -- A tree's truth is that of its condition; and of a comparison that holds both operands are kept.
 pub record GuardsKeep : Type 0 where
-  pub condition : (e : TreeOf ℕ) (b : Bool) (s : Stored) (z : ℤ) → tree_value storing e s ≡ Ok z → is_true z ≡ b → HoldsIn s (condition_of e b)
-  pub left : (op : Op) (x v : Known) (a b : ℤ) → IsOf x a → IsOf v b → test_of op a b ≡ true → IsOneOf (refined op x v) a
-  pub right : (op : Op) (x v : Known) (a b : ℤ) → IsOf x a → IsOf v b → test_of op a b ≡ true → IsOneOf (refined (flipped op) v x) b
+  pub condition : (e : TreeOf ℕ) (b : Bool) (s : Stored) (z : ℤ) → tree_value storing e s ≡ Ok z → is_true z ≡ b →
+      HoldsIn s (condition_of e b)
+  pub left : (op : Op) (x v : Known) (a b : ℤ) → IsOf x a → IsOf v b → test_of op a b ≡ true →
+      IsOneOf (refined op x v) a
+  pub right : (op : Op) (x v : Known) (a b : ℤ) → IsOf x a → IsOf v b → test_of op a b ≡ true →
+      IsOneOf (refined (flipped op) v x) b

@@ -149,10 +149,13 @@ abbrev pub linear : List ℕ → (ℕ → Option Known) → TreeOf ℕ → Optio
 linear chosen g (constant t c) = Some (record { constant = c; places = [] })
 linear chosen g (variable x) = option_map (λ k. record { constant = pos 0; places = 2 * k ∷ [] }) (place_in chosen x)
 linear chosen g (converted t e) = where_known (tree_known g e) (λ k. is_inside t k.range) (linear chosen g e)
-linear chosen g (unary op s t e) = if_negative op (where_known (tree_known g e) (λ k. is_exact Neg t k k) (option_map negative (linear chosen g e)))
+linear chosen g (unary op s t e) =
+    if_negative op (where_known (tree_known g e) (λ k. is_exact Neg t k k) (option_map negative (linear chosen g e)))
 linear chosen g (binary op s t a b) =
-    if_sum op (where_both (tree_known g a) (tree_known g b) (is_exact Add t) (both sum (linear chosen g a) (linear chosen g b)))
-    (where_both (tree_known g a) (tree_known g b) (is_exact Sub t) (both difference (linear chosen g a) (linear chosen g b)))
+    if_sum op (where_both (tree_known g a) (tree_known g b) (is_exact Add t)
+    (both sum (linear chosen g a) (linear chosen g b)))
+    (where_both (tree_known g a) (tree_known g b) (is_exact Sub t)
+    (both difference (linear chosen g a) (linear chosen g b)))
 
 -- the bound c on the sum of at most two places, as a guard of an octagon has it
 abbrev pub IsBounded : (ℕ → ℤ) → List ℕ → ℤ → Type 0
@@ -185,6 +188,10 @@ IsGuardOn n (a ∷ (b ∷ (c ∷ ps))) = Unit {0}
 -- Where a typed tree has a value in a store of a state, and a linear form, the value is that of the form; where the left of two forms is at most the right, their
 -- difference is bounded by that of the constants; and the difference of two trees' forms is a guard of the octagon.
 pub record FormsAreExact : Type 0 where
-  pub values : (y : Layout) (f : Option Facts) (s : Stored) (e : TreeOf ℕ) (z : ℤ) (l : Linear) → AreFactsIf y f → Member y f s → IsTyped (kinds_of y) e → tree_value storing e s ≡ Ok z → linear y.chosen (known_in f) e ≡ Some l → z ≡ linear_value (selected y.chosen s) l
-  pub bounded : (x : ℕ → ℤ) (l r : Linear) → linear_value x l ≤ℤ linear_value x r → IsBounded x (difference l r).places (r.constant -ℤ l.constant)
-  pub guards : (chosen : List ℕ) (g : ℕ → Option Known) (d e : TreeOf ℕ) (l r : Linear) → linear chosen g d ≡ Some l → linear chosen g e ≡ Some r → IsGuardOn (length chosen) (difference l r).places
+  pub values : (y : Layout) (f : Option Facts) (s : Stored) (e : TreeOf ℕ) (z : ℤ) (l : Linear) → AreFactsIf y f →
+      Member y f s → IsTyped (kinds_of y) e → tree_value storing e s ≡ Ok z →
+      linear y.chosen (known_in f) e ≡ Some l → z ≡ linear_value (selected y.chosen s) l
+  pub bounded : (x : ℕ → ℤ) (l r : Linear) → linear_value x l ≤ℤ linear_value x r →
+      IsBounded x (difference l r).places (r.constant -ℤ l.constant)
+  pub guards : (chosen : List ℕ) (g : ℕ → Option Known) (d e : TreeOf ℕ) (l r : Linear) →
+      linear chosen g d ≡ Some l → linear chosen g e ≡ Some r → IsGuardOn (length chosen) (difference l r).places

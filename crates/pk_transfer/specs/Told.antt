@@ -22,7 +22,12 @@ told y g e = record { int_type = type_of (kinds_of y) e; known = tree_known g e;
 
 -- of a conversion and of operators, by what their operands tell
 abbrev pub told_converted : IntType → Told → Told
-told_converted t d = record { int_type = t; known = known_with d.known (converted t); form = where_known d.known (λ k. is_inside t k.range) d.form }
+told_converted t d =
+    record {
+      int_type = t;
+      known = known_with d.known (converted t);
+      form = where_known d.known (λ k. is_inside t k.range) d.form;
+    }
 
 abbrev pub told_unary : Op → IntType → Told → Told
 told_unary op t d = record {
@@ -35,5 +40,6 @@ abbrev pub told_binary : Op → IntType → Told → Told → Told
 told_binary op t a b = record {
   int_type = result_type op t;
   known = known_with a.known (λ j. known_with b.known (λ k. operated op t j k));
-  form = if_sum op (where_both a.known b.known (is_exact Add t) (both sum a.form b.form)) (where_both a.known b.known (is_exact Sub t) (both difference a.form b.form));
+  form = if_sum op (where_both a.known b.known (is_exact Add t) (both sum a.form b.form))
+      (where_both a.known b.known (is_exact Sub t) (both difference a.form b.form));
 }

@@ -38,8 +38,11 @@ applied y f Skip = f
 applied y f (Set x e) = set_in y f x e
 applied y f (Havoc x t n) = forgotten_in y f x (Some (any_of t))
 applied y f (Clear a) = with_known f a.variable (exactly (pos 0))
-applied y f (Load x a s b i) = at_index a.length (tree_known (known_in f) i) (forgotten_in y f x (known_in f a.variable))
-applied y f (Store a s b i e) = at_index a.length (tree_known (known_in f) i) (with_known_if f a.variable (joined_if (known_in f a.variable) (tree_known (known_in f) e)))
+applied y f (Load x a s b i) =
+    at_index a.length (tree_known (known_in f) i) (forgotten_in y f x (known_in f a.variable))
+applied y f (Store a s b i e) =
+    at_index a.length (tree_known (known_in f) i)
+    (with_known_if f a.variable (joined_if (known_in f a.variable) (tree_known (known_in f) e)))
 applied y f (Guard e b) = guard_in y f e b
 applied y f (Check s e) = guard_in y f e true
 
@@ -49,7 +52,9 @@ transferred y f i = reduced y (applied y (reduced y f) i)
 
 -- Each store to which an instruction takes a store of f is one of g.
 abbrev pub IsKept : Layout → Option Facts → InstrOf ℕ → Option Facts → Type 0
-IsKept y f i g = (ks : Kinds) (s t : Stored) (ch : Numbers) → IsOver ks y → IsStore ks s → Member y f s → IsTypedInstr ks i → effect storing ch i s ≡ To t → Member y g t
+IsKept y f i g =
+    (ks : Kinds) (s t : Stored) (ch : Numbers) → IsOver ks y → IsStore ks s → Member y f s → IsTypedInstr ks i →
+    effect storing ch i s ≡ To t → Member y g t
 
 -- an instruction that is typed in a table of variables, and a layout over that table
 pub record IsInstrOver (y : Layout) (i : InstrOf ℕ) : Type 0 where
@@ -60,5 +65,6 @@ pub record IsInstrOver (y : Layout) (i : InstrOf ℕ) : Type 0 where
 -- Where an instruction takes a store of a state to another, that is one of the state after it.
 abbrev pub TransfersKeep : Type 0
 TransfersKeep =
-    (ks : Kinds) (y : Layout) (f : Option Facts) (s t : Stored) (ch : Numbers) (i : InstrOf ℕ) → IsOver ks y → IsStore ks s → IsLayout y → AreFactsIf y f → Member y f s → IsTypedInstr ks i → effect storing ch i s ≡ To t
+    (ks : Kinds) (y : Layout) (f : Option Facts) (s t : Stored) (ch : Numbers) (i : InstrOf ℕ) → IsOver ks y →
+    IsStore ks s → IsLayout y → AreFactsIf y f → Member y f s → IsTypedInstr ks i → effect storing ch i s ≡ To t
     → Member y (applied y f i) t

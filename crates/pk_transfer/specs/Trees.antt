@@ -24,7 +24,8 @@ tree_known g (constant t n) = Some (exactly n)
 tree_known g (variable x) = g x
 tree_known g (converted t e) = known_with (tree_known g e) (values.converted t)
 tree_known g (unary op s t e) = known_with (tree_known g e) (λ k. values.operated op t k k)
-tree_known g (binary op s t a b) = known_with (tree_known g a) (λ j. known_with (tree_known g b) (λ k. values.operated op t j k))
+tree_known g (binary op s t a b) =
+    known_with (tree_known g a) (λ j. known_with (tree_known g b) (λ k. values.operated op t j k))
 
 -- a table with a layout's types, as if each variable were a scalar
 abbrev pub kind_of : IntType → Kind
@@ -42,4 +43,5 @@ pub record IsOver (ks : Kinds) (l : Layout) : Type 0 where
 -- What is typed in a table is so in a layout over it, and where a typed tree has a value in a store of a state, it is one of the numbers that are known of it.
 pub record TreesAreSound : Type 0 where
   pub typed : (ks : Kinds) (l : Layout) (e : TreeOf ℕ) → IsOver ks l → IsTyped ks e → IsTyped (kinds_of l) e
-  pub values : (l : Layout) (f : Option Facts) (s : Stored) (e : TreeOf ℕ) (z : ℤ) → AreFactsIf l f → Member l f s → IsTyped (kinds_of l) e → tree_value storing e s ≡ Ok z → IsOneOf (tree_known (known_in f) e) z
+  pub values : (l : Layout) (f : Option Facts) (s : Stored) (e : TreeOf ℕ) (z : ℤ) → AreFactsIf l f → Member l f s →
+      IsTyped (kinds_of l) e → tree_value storing e s ≡ Ok z → IsOneOf (tree_known (known_in f) e) z

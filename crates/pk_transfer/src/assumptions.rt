@@ -12,7 +12,7 @@ ghost use Rattle.pk_transfer.specs.Trees.{kinds_of, known_with};
 ghost use Rattle.pk_transfer.specs.Guards.{refined as refined_by, is_zero as zero_test, negated as negated_op, flipped as flipped_op};
 ghost use Rattle.pk_transfer.specs.Linear.{HasPlaces, IsGuardOn};
 ghost use Rattle.pk_transfer.specs.Places.{places_of};
-ghost use Rattle.pk_transfer.specs.Assignments.{with_known_if};
+ghost use Rattle.pk_transfer.specs.Assignments.{HasFacts, with_known_if};
 ghost use Rattle.pk_transfer.specs.Assumptions.{places_in, le_in, compared_in, with_operand as refined_operand, refined_in, holds_in, guard_in};
 
 use crate::guards::refine;
@@ -34,7 +34,7 @@ pub(crate) fn written(
 ) -> Result<State, AllocError>
     requires place { x < length state.layout.types }
     requires value { IfSome known (IsValue (type_at state.layout x)) }
-    ensures { IfOk result (λ s. s ≡ record { layout = state.layout; facts = with_known_if state.facts x known }) }
+    ensures { IfOk result (HasFacts state (with_known_if state.facts x known)) }
 {
     match known {
         None => Ok(state.emptied()),
@@ -46,7 +46,7 @@ pub(crate) fn written(
 
 fn at_most(alloc: Global, state: State, places: Places, c: i128) -> Result<State, AllocError>
     requires { IsGuardOn (length state.layout.chosen) (places_of places) }
-    ensures { IfOk result (λ s. s ≡ record { layout = state.layout; facts = places_in state.facts (places_of places) c }) }
+    ensures { IfOk result (HasFacts state (places_in state.facts (places_of places) c)) }
 {
     match places {
         Places::Zero => state.with_guard(alloc, None, None, c),
@@ -66,7 +66,7 @@ fn bounded(
     requires right { HasPlaces (length state.layout.chosen) (Some right) }
     requires from { pos 0 ≤ℤ less }
     requires to { less ≤ℤ pos 1 }
-    ensures { IfOk result (λ s. s ≡ record { layout = state.layout; facts = le_in state.facts (Some left) (Some right) less }) }
+    ensures { IfOk result (HasFacts state (le_in state.facts (Some left) (Some right) less)) }
 {
     match left.places_over(right) {
         None => Ok(state),
@@ -89,7 +89,7 @@ fn le(
     requires right { HasPlaces (length state.layout.chosen) right.now }
     requires from { pos 0 ≤ℤ less }
     requires to { less ≤ℤ pos 1 }
-    ensures { IfOk result (λ s. s ≡ record { layout = state.layout; facts = le_in state.facts left.now right.now less }) }
+    ensures { IfOk result (HasFacts state (le_in state.facts left.now right.now less)) }
 {
     match left {
         None => Ok(state),
@@ -108,7 +108,8 @@ fn same(
 ) -> Result<State, AllocError>
     requires left { HasPlaces (length state.layout.chosen) left.now }
     requires right { HasPlaces (length state.layout.chosen) right.now }
-    ensures { IfOk result (λ s. s ≡ record { layout = state.layout; facts = le_in (le_in state.facts left.now right.now (pos 0)) right.now left.now (pos 0) }) }
+    ensures { IfOk result
+        (HasFacts state (le_in (le_in state.facts left.now right.now (pos 0)) right.now left.now (pos 0))) }
 {
     let state = le(alloc, state, left, right, 0)?;
     le(alloc, state, right, left, 0)
@@ -123,7 +124,7 @@ fn compared(
 ) -> Result<State, AllocError>
     requires left { HasPlaces (length state.layout.chosen) left.now }
     requires right { HasPlaces (length state.layout.chosen) right.now }
-    ensures { IfOk result (λ s. s ≡ record { layout = state.layout; facts = compared_in op state.facts left.now right.now }) }
+    ensures { IfOk result (HasFacts state (compared_in op state.facts left.now right.now)) }
 {
     match op {
         Op::Lt => le(alloc, state, left, right, 1),
@@ -173,7 +174,8 @@ fn with_name(
 ) -> Result<State, AllocError>
     requires place { x < length state.layout.types }
     requires value { IsIn u v.now.range }
-    ensures { IfOk result (λ s. s ≡ record { layout = state.layout; facts = with_known_if state.facts x (known_with (known_in state.facts x) (λ k. refined_by op k v.now)) }) }
+    ensures { IfOk result (HasFacts state
+        (with_known_if state.facts x (known_with (known_in state.facts x) (λ k. refined_by op k v.now)))) }
 {
     let known = kept_of(state.value(x), state.int_type(x), op, v, u);
     written(alloc, state, x, known)
@@ -190,7 +192,7 @@ fn with_operand(
 ) -> Result<State, AllocError>
     requires tree { IsTyped (kinds_of state.layout) (tree_view e.now) }
     requires value { IsIn u v.now.range }
-    ensures { IfOk result (λ s. s ≡ record { layout = state.layout; facts = refined_operand state.facts (tree_view e.now) op v.now }) }
+    ensures { IfOk result (HasFacts state (refined_operand state.facts (tree_view e.now) op v.now)) }
 {
     match e {
         Tree::Variable(x) => with_name(alloc, state, *x, op, v, u),
@@ -217,7 +219,9 @@ fn with_operands(
     requires right { IsTyped (kinds_of state.layout) (tree_view right.now) }
     requires first { IsIn t k.now.range }
     requires second { IsIn u v.now.range }
-    ensures { IfOk result (λ s. s ≡ record { layout = state.layout; facts = refined_operand (refined_operand state.facts (tree_view left.now) op v.now) (tree_view right.now) (flipped_op op) k.now }) }
+    ensures { IfOk result
+        (HasFacts state (refined_operand (refined_operand state.facts (tree_view left.now) op v.now)
+        (tree_view right.now) (flipped_op op) k.now)) }
 {
     let state = with_operand(alloc, state, left, op, v, u)?;
     with_operand(alloc, state, right, flipped(op), k, t)
@@ -234,7 +238,9 @@ fn refined(
 ) -> Result<State, AllocError>
     requires left { IsTyped (kinds_of state.layout) (tree_view left.now) }
     requires right { IsTyped (kinds_of state.layout) (tree_view right.now) }
-    ensures { IfOk result (λ s. s ≡ record { layout = state.layout; facts = refined_in state.facts (record { op = op; left = tree_view left.now; right = tree_view right.now }) l.now.known r.now.known }) }
+    ensures { IfOk result
+        (HasFacts state (refined_in state.facts
+        (record { op = op; left = tree_view left.now; right = tree_view right.now }) l.now.known r.now.known)) }
 {
     match l.known {
         None => Ok(state.emptied()),
@@ -260,7 +266,9 @@ fn holds(
 ) -> Result<State, AllocError>
     requires left { IsTyped (kinds_of state.layout) (tree_view left.now) }
     requires right { IsTyped (kinds_of state.layout) (tree_view right.now) }
-    ensures { IfOk result (λ s. s ≡ record { layout = state.layout; facts = holds_in state.layout state.facts (record { op = op; left = tree_view left.now; right = tree_view right.now }) }) }
+    ensures { IfOk result
+        (HasFacts state (holds_in state.layout state.facts
+        (record { op = op; left = tree_view left.now; right = tree_view right.now }))) }
 {
     let l = tell(left, &state);
     let r = tell(right, &state);
@@ -280,7 +288,7 @@ fn is_zero(
 ) -> Result<State, AllocError>
     requires tree { IsTyped (kinds_of state.layout) (tree_view e.now) }
     requires zero { tree_view zero.now ≡ tree.constant types.Int (pos 0) }
-    ensures { IfOk result (λ s. s ≡ record { layout = state.layout; facts = holds_in state.layout state.facts (zero_test (tree_view e.now) sense) }) }
+    ensures { IfOk result (HasFacts state (holds_in state.layout state.facts (zero_test (tree_view e.now) sense))) }
 {
     if sense {
         holds(alloc, state, Op::Ne, e, zero)
@@ -305,7 +313,7 @@ fn passed(
 ) -> Result<State, AllocError>
     requires tree { IsTyped (kinds_of state.layout) (tree_view e.now) }
     requires zero { tree_view zero.now ≡ tree.constant types.Int (pos 0) }
-    ensures { IfOk result (λ s. s ≡ record { layout = state.layout; facts = guard_in state.layout state.facts (tree_view e.now) sense }) }
+    ensures { IfOk result (HasFacts state (guard_in state.layout state.facts (tree_view e.now) sense)) }
 {
     match e {
         Tree::Variable(_) => is_zero(alloc, state, e, sense, zero),
@@ -336,7 +344,7 @@ fn passed(
 /// What is known where a tree has this truth. The state is taken; where memory is refused, it is gone.
 pub fn guard(alloc: Global, state: State, e: &Tree, sense: bool) -> Result<State, AllocError>
     requires { IsTyped (kinds_of state.layout) (tree_view e.now) }
-    ensures { IfOk result (λ s. s ≡ record { layout = state.layout; facts = guard_in state.layout state.facts (tree_view e.now) sense }) }
+    ensures { IfOk result (HasFacts state (guard_in state.layout state.facts (tree_view e.now) sense)) }
 {
     let zero = Tree::constant(IntType::Int, 0);
     passed(alloc, state, e, sense, &zero)

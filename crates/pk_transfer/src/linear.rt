@@ -232,7 +232,8 @@ impl Form {
 
 /// A variable's form, if the octagon is over it.
 pub(crate) fn of_variable(x: usize, state: &State) -> Option<Form>
-    ensures { result ≡ option_map (λ k. record { constant = pos 0; places = 2 * k ∷ [] }) (place_in state.now.layout.chosen x) }
+    ensures { result
+        ≡ option_map (λ k. record { constant = pos 0; places = 2 * k ∷ [] }) (place_in state.now.layout.chosen x) }
 {
     state.is_stated();
     match state.place(x) {

@@ -148,7 +148,8 @@ fn negative_form(t: IntType, d: &Told) -> Option<Form>
 
 fn unary_form(op: Op, t: IntType, d: &Told) -> Option<Form>
     requires { Represents t d.now.int_type }
-    ensures { result ≡ if_negative op (where_known d.now.known (λ k. stays_exact ops.Neg t k k) (option_map negative d.now.form)) }
+    ensures { result
+        ≡ if_negative op (where_known d.now.known (λ k. stays_exact ops.Neg t k k) (option_map negative d.now.form)) }
 {
     match op {
         Op::Neg => negative_form(t, d),
@@ -249,7 +250,9 @@ fn where_exact(op: Op, t: IntType, a: &Told, b: &Told, form: Option<Form>) -> Op
 fn binary_form(op: Op, t: IntType, a: &Told, b: &Told) -> Option<Form>
     requires left { Represents t a.now.int_type }
     requires right { IsRight op t b.now.int_type }
-    ensures { result ≡ if_sum op (where_both a.now.known b.now.known (stays_exact ops.Add t) (both sum a.now.form b.now.form)) (where_both a.now.known b.now.known (stays_exact ops.Sub t) (both difference a.now.form b.now.form)) }
+    ensures { result
+        ≡ if_sum op (where_both a.now.known b.now.known (stays_exact ops.Add t) (both sum a.now.form b.now.form))
+        (where_both a.now.known b.now.known (stays_exact ops.Sub t) (both difference a.now.form b.now.form)) }
 {
     match op {
         Op::Add => where_exact(Op::Add, t, a, b, sum_of(a.form, b.form)),
@@ -301,7 +304,8 @@ fn of_name(x: usize, state: &State) -> Told
 
 fn of_number(t: IntType, c: i128) -> Told
     requires { InType t c }
-    ensures { result ≡ record { int_type = t; known = Some (exactly c); form = Some (record { constant = c; places = [] }) } }
+    ensures { result
+        ≡ record { int_type = t; known = Some (exactly c); form = Some (record { constant = c; places = [] }) } }
 {
     Told {
         int_type: t,

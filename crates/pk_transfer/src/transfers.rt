@@ -1,16 +1,16 @@
 // What is known after an instruction.
 
-ghost use Rattle.std.specs.Prelude.{◌≡◌, ◌<◌, pos, length, IfOk, IfSome, Some, None};
+ghost use Rattle.std.specs.Prelude.{◌≡◌, ◌<◌, length, IfOk, IfSome, Some, None};
 ghost use Rattle.pk_ctypes.specs.Types.{Represents};
 ghost use Rattle.pk_graph.specs.Kinds.{IsTyped, type_of};
 ghost use Rattle.pk_graph.specs.Views.{tree_view, instr_view};
 ghost use Rattle.pk_value.specs.Known.{exactly};
-ghost use Rattle.pk_state.specs.Layouts.{type_at, place_in};
+ghost use Rattle.pk_state.specs.Layouts.{type_at};
 ghost use Rattle.pk_state.specs.Changes.{IsValue, known_in, with_known};
 ghost use Rattle.pk_transfer.specs.Trees.{kinds_of, tree_known};
 ghost use Rattle.pk_transfer.specs.Linear.{HasPlaces, linear};
 ghost use Rattle.pk_transfer.specs.Places.{places_of};
-ghost use Rattle.pk_transfer.specs.Assignments.{term_of, with_form, with_form_at, set_in, with_known_if};
+ghost use Rattle.pk_transfer.specs.Assignments.{HasFacts, term_of, with_form, set_in, with_known_if};
 ghost use Rattle.pk_transfer.specs.Transfers.{IsInstrOver, applied, at_index, forgotten_in, joined_if as joined_of, misses as misses_all, transferred, IsKept};
 
 use crate::assumptions::{guard, written};
@@ -39,7 +39,7 @@ fn term(places: Places) -> Option<u32>
 fn assigned(alloc: Global, state: State, k: u32, form: Option<Form>) -> Result<State, AllocError>
     requires variable { k < length state.layout.chosen }
     requires places { HasPlaces (length state.layout.chosen) form }
-    ensures { IfOk result (λ s. s ≡ record { layout = state.layout; facts = with_form state.facts k form }) }
+    ensures { IfOk result (HasFacts state (with_form state.facts k form)) }
 {
     match form {
         None => state.with_assignment(alloc, k, None, 0),
@@ -56,7 +56,7 @@ fn forgotten(
 ) -> Result<State, AllocError>
     requires place { x < length state.layout.types }
     requires value { IfSome known (IsValue (type_at state.layout x)) }
-    ensures { IfOk result (λ s. s ≡ record { layout = state.layout; facts = forgotten_in state.layout state.facts x known }) }
+    ensures { IfOk result (HasFacts state (forgotten_in state.layout state.facts x known)) }
 {
     match state.place(x) {
         None => written(alloc, state, x, known),
@@ -75,7 +75,11 @@ fn set_chosen(alloc: Global, state: State, x: usize, k: u32, e: &Tree) -> Result
     requires variable { k < length state.layout.chosen }
     requires typed { IsTyped (kinds_of state.layout) (tree_view e.now) }
     requires fits { Represents (type_at state.layout x) (type_of (kinds_of state.layout) (tree_view e.now)) }
-    ensures { IfOk result (λ s. s ≡ record { layout = state.layout; facts = with_known_if (with_form state.facts k (linear state.layout.chosen (known_in state.facts) (tree_view e.now))) x (tree_known (known_in state.facts) (tree_view e.now)) }) }
+    ensures { IfOk result
+        (HasFacts state
+        (with_known_if
+        (with_form state.facts k (linear state.layout.chosen (known_in state.facts) (tree_view e.now))) x
+        (tree_known (known_in state.facts) (tree_view e.now)))) }
 {
     let d = tell(e, &state);
     let state = assigned(alloc, state, k, d.form)?;
@@ -86,7 +90,7 @@ fn set(alloc: Global, state: State, x: usize, e: &Tree) -> Result<State, AllocEr
     requires place { x < length state.layout.types }
     requires typed { IsTyped (kinds_of state.layout) (tree_view e.now) }
     requires fits { Represents (type_at state.layout x) (type_of (kinds_of state.layout) (tree_view e.now)) }
-    ensures { IfOk result (λ s. s ≡ record { layout = state.layout; facts = set_in state.layout state.facts x (tree_view e.now) }) }
+    ensures { IfOk result (HasFacts state (set_in state.layout state.facts x (tree_view e.now))) }
 {
     match state.place(x) {
         None => {
@@ -115,7 +119,9 @@ fn load(
     requires array { array.now.variable < length state.layout.types }
     requires types { type_at state.layout x ≡ type_at state.layout array.now.variable }
     requires typed { IsTyped (kinds_of state.layout) (tree_view index.now) }
-    ensures { IfOk result (λ s. s ≡ record { layout = state.layout; facts = at_index array.now.length (tree_known (known_in state.facts) (tree_view index.now)) (forgotten_in state.layout state.facts x (known_in state.facts array.now.variable)) }) }
+    ensures { IfOk result
+        (HasFacts state (at_index array.now.length (tree_known (known_in state.facts) (tree_view index.now))
+        (forgotten_in state.layout state.facts x (known_in state.facts array.now.variable)))) }
 {
     match value(index, &state) {
         None => Ok(state.emptied()),
@@ -147,6 +153,21 @@ fn joined_if(known: Option<Value>, value: Option<Value>, t: IntType) -> Option<V
     }
 }
 
+// What the cells of an array may hold once one of them gets a tree's value.
+fn stored(state: &State, array: usize, e: &Tree) -> Option<Value>
+    requires array { array < length state.now.layout.types }
+    requires typed { IsTyped (kinds_of state.now.layout) (tree_view e.now) }
+    requires fits { Represents (type_at state.now.layout array)
+        (type_of (kinds_of state.now.layout) (tree_view e.now)) }
+    ensures value { result
+        ≡ joined_of (known_in state.now.facts array) (tree_known (known_in state.now.facts) (tree_view e.now)) }
+    ensures inside { IfSome result (IsValue (type_at state.now.layout array)) }
+{
+    let held = state.value(array);
+    let given = value(e, state);
+    joined_if(held, given, state.int_type(array))
+}
+
 fn store(
     alloc: Global,
     state: State,
@@ -157,8 +178,13 @@ fn store(
     requires array { array.now.variable < length state.layout.types }
     requires index { IsTyped (kinds_of state.layout) (tree_view index.now) }
     requires typed { IsTyped (kinds_of state.layout) (tree_view e.now) }
-    requires fits { Represents (type_at state.layout array.now.variable) (type_of (kinds_of state.layout) (tree_view e.now)) }
-    ensures { IfOk result (λ s. s ≡ record { layout = state.layout; facts = at_index array.now.length (tree_known (known_in state.facts) (tree_view index.now)) (with_known_if state.facts array.now.variable (joined_of (known_in state.facts array.now.variable) (tree_known (known_in state.facts) (tree_view e.now)))) }) }
+    requires fits { Represents (type_at state.layout array.now.variable)
+        (type_of (kinds_of state.layout) (tree_view e.now)) }
+    ensures { IfOk result
+        (HasFacts state (at_index array.now.length (tree_known (known_in state.facts) (tree_view index.now))
+        (with_known_if state.facts array.now.variable
+        (joined_of (known_in state.facts array.now.variable)
+        (tree_known (known_in state.facts) (tree_view e.now)))))) }
 {
     match value(index, &state) {
         None => Ok(state.emptied()),
@@ -166,8 +192,7 @@ fn store(
             if misses(array.length, &k) {
                 Ok(state.emptied())
             } else {
-                let t = state.int_type(array.variable);
-                let cell = joined_if(state.value(array.variable), value(e, &state), t);
+                let cell = stored(&state, array.variable, e);
                 written(alloc, state, array.variable, cell)
             }
         }
@@ -177,7 +202,7 @@ fn store(
 #[tactic(auto, unfolding(pk_graph::specs::Views::instr_view))]
 fn apply(alloc: Global, state: State, instr: &Instr) -> Result<State, AllocError>
     requires { IsInstrOver state.layout (instr_view instr.now) }
-    ensures { IfOk result (λ s. s ≡ record { layout = state.layout; facts = applied state.layout state.facts (instr_view instr.now) }) }
+    ensures { IfOk result (HasFacts state (applied state.layout state.facts (instr_view instr.now))) }
 {
     match instr {
         Instr::Skip => Ok(state),
@@ -208,7 +233,11 @@ fn apply(alloc: Global, state: State, instr: &Instr) -> Result<State, AllocError
 /// What is known after an instruction, which is typed in a table of the state's variables: the state reduced, the instruction applied, and that reduced.
 pub fn transfer(alloc: Global, instr: &Instr, state: &State) -> Result<State, AllocError>
     requires { IsInstrOver state.now.layout (instr_view instr.now) }
-    ensures value { IfOk result (λ s. s ≡ record { layout = state.now.layout; facts = transferred state.now.layout state.now.facts (instr_view instr.now) }) }
+    ensures value { IfOk result
+        (λ s. s ≡ record {
+          layout = state.now.layout;
+          facts = transferred state.now.layout state.now.facts (instr_view instr.now);
+        }) }
     ensures sound { IfOk result (λ s. IsKept state.now.layout state.now.facts (instr_view instr.now) s.facts) }
 {
     state.is_stated();

@@ -9,7 +9,7 @@ use Rattle.pk_ast.specs.declared.declarations.Declarator.{Declarator}
 use Rattle.pk_ast.specs.declared.expressions.Expression.{Expression}
 use Rattle.pk_ast.specs.declared.units.Storage.{Storage}
 use Rattle.pk_ast.specs.Trees.{ExpressionTree, ExpressionTrees, no_expressions, expression_then, DeclaratorTree, DeclarationTree}
-use Rattle.pk_ast.specs.Views.{expression_tree, expression_trees, declarator_tree, declarator_trees}
+use Rattle.pk_ast.specs.Views.{expression_tree, expression_trees}
 use Rattle.pk_typed.specs.declared.units.FileObject.{FileObject}
 use Rattle.pk_typed.specs.Views.{file_object_tree}
 use Rattle.pk_type_scope.specs.declared.failures.Failure.{Failure}
@@ -60,12 +60,6 @@ numbers_step t w v e now rest xs ys all p q s h =
 pub numbers_done : (t : IntType) (w : State) (now : ExpressionTrees) (xs all : List ℤ) → now ≡ no_expressions → xs ++ numbers_at noted t now w ≡ all → xs ≡ all
 unfolding numbers_at
 numbers_done t w now xs all p h = sym (append-nil xs) ∙ (ap (λ m. xs ++ numbers_at noted t m w) (sym p) ∙ h)
-
-pub next_declarator : (list : List Declarator) (i : ℕ) (x : Declarator) → i < length list → x ≡ get_or list i x → declarator_trees (drop i list) ≡ declarator_tree x ∷ declarator_trees (drop (i + 1) list)
-next_declarator list i x h is = rw add-one (ap declarator_trees (drop-cons list i x h ∙ ap (λ z. z ∷ drop (suc i) list) (sym is)))
-
-pub last_declarator : (list : List Declarator) (i : ℕ) → length list ≤ i → declarator_trees (drop i list) ≡ []
-last_declarator list i h = ap declarator_trees (drop_all i list h)
 
 pub objects_step : (storage : Option Storage) (words : Words) (f g all : Files) (now rest : List DeclaratorTree) (d : DeclaratorTree) → now ≡ d ∷ rest → g ≡ after_object noted storage words d f → after_objects noted storage words now f ≡ all → after_objects noted storage words rest g ≡ all
 unfolding after_objects

@@ -72,14 +72,22 @@ extern_object storage x = fails_if (is_extern storage) rule.Extern x.at
 
 abbrev pub file_object : {F : Type 0} → Words → Bool → Filed F → Declaration
 file_object words is_array f =
-    declared.Object (record { variable = File (length f.objects); int_type = integer_in words.typing; is_array = is_array; is_const = words.is_const })
+    declared.Object
+    (record {
+      variable = File (length f.objects);
+      int_type = integer_in words.typing;
+      is_array = is_array;
+      is_const = words.is_const;
+    })
 
 -- a declarator as far as what its name begins with
 abbrev pub after_head : {F : Type 0} → Adding F → Option Storage → Words → DeclaratorTree → Filed F → Walked F
 after_head add storage words d f =
     let w = after_optional_length add d.length f.walked in
-    let rows = redeclared w.scoping d.name ++ extern_object storage d.name ++ void_object words.typing d.name.at ++ special_object w.scoping d.name in
-    failing add (braces (is_some d.length) d.initializer d.name.at ++ surplus (length_at f.walked d.length) d.initializer)
+    let rows = redeclared w.scoping d.name ++ extern_object storage d.name ++ void_object words.typing d.name.at
+    ++ special_object w.scoping d.name in
+    failing add (braces (is_some d.length) d.initializer d.name.at
+    ++ surplus (length_at f.walked d.length) d.initializer)
     (after_name d.name (file_object words (is_some d.length) f) (failing add rows w))
 
 unfoldable pub after_object : {F : Type 0} → Adding F → Option Storage → Words → DeclaratorTree → Filed F → Filed F
@@ -91,12 +99,14 @@ after_object add storage words d f =
       objects = f.objects ++ record {
         name = text_of f.walked.scoping d.name;
         int_type = t;
-        start = start_of (length_or_1 (is_some d.length) (length_at f.walked d.length)) (numbers_at add t (given d.initializer) w);
+        start = start_of (length_or_1 (is_some d.length) (length_at f.walked d.length))
+            (numbers_at add t (given d.initializer) w);
       } ∷ [];
       functions = f.functions;
     }
 
-unfoldable pub after_objects : {F : Type 0} → Adding F → Option Storage → Words → List DeclaratorTree → Filed F → Filed F
+unfoldable pub after_objects : {F : Type 0} → Adding F → Option Storage → Words → List DeclaratorTree → Filed F →
+    Filed F
 after_objects add storage words [] f = f
 after_objects add storage words (d ∷ ds) f = after_objects add storage words ds (after_object add storage words d f)
 
@@ -113,4 +123,5 @@ on g f = record { walked = g f.walked; objects = f.objects; functions = f.functi
 
 unfoldable pub after_declaration : {F : Type 0} → Adding F → Option Storage → DeclarationTree → Filed F → Filed F
 after_declaration add storage d f =
-    without_calls (after_objects add storage (words_of d.specifiers) (d.declarators.first ∷ d.declarators.more) (on (failing add (specifiers d.specifiers)) f))
+    without_calls (after_objects add storage (words_of d.specifiers) (d.declarators.first ∷ d.declarators.more)
+    (on (failing add (specifiers d.specifiers)) f))

@@ -79,7 +79,8 @@ callee_of s is_defined (Some callee) = if is_defined then ordinary s else callee
 -- an entry more, where the function is new
 abbrev pub with_new : List EntryTree → ℕ → List ℕ → SignatureTree → List EntryTree
 with_new entries n name s =
-    if nat_eq n (length entries) then entries ++ record { name = name; signature = s; is_defined = false; body = None } ∷ [] else entries
+    if nat_eq n (length entries)
+    then entries ++ record { name = name; signature = s; is_defined = false; body = None } ∷ [] else entries
 
 abbrev pub and_entry : {F : Type 0} → ℕ → List ℕ → SignatureTree → Filed F → Filed F
 and_entry n name s f = record { walked = f.walked; objects = f.objects; functions = with_new f.functions n name s }
@@ -92,9 +93,12 @@ after_head add defined f file =
     let q = spelled w.scoping.text f.name in
     let before = names_in w.scoping f.name in
     let n = number_of file.functions before in
-    let rows = specifiers f.specifiers ++ fails_if (is_redeclared file.functions s (is_some f.body) before) rule.Redeclared f.name.at ++ fails_if (is_misused s (special q)) rule.Special f.name.at in
+    let rows = specifiers f.specifiers
+    ++ fails_if (is_redeclared file.functions s (is_some f.body) before) rule.Redeclared f.name.at
+    ++ fails_if (is_misused s (special q)) rule.Special f.name.at in
     record {
-      walked = after_name f.name (declared.Function (record { number = n; callee = callee_of s (defined q) (special q) })) (failing add rows w);
+      walked = after_name f.name (declared.Function
+          (record { number = n; callee = callee_of s (defined q) (special q) })) (failing add rows w);
       objects = file.objects;
       functions = with_new file.functions n (text_of w.scoping f.name) s;
     }
@@ -107,7 +111,8 @@ each_at r (at ∷ places) = record { rule = r; at = at } ∷ each_at r places
 
 -- label: goto without a label, or a second label; jump: a jump, a case or a default out of place
 abbrev pub about_jumps : Listed → Jumped → List Failure
-about_jumps labels jumps = each_at rule.Label labels.repeated ++ each_at rule.Label jumps.unknown ++ each_at rule.Jump jumps.misplaced
+about_jumps labels jumps =
+    each_at rule.Label labels.repeated ++ each_at rule.Label jumps.unknown ++ each_at rule.Jump jumps.misplaced
 
 abbrev pub before_body : {F : Type 0} → Walked F → Passed F
 before_body w = record { walked = w; cases = []; has_default = false }
@@ -115,19 +120,29 @@ before_body w = record { walked = w; cases = []; has_default = false }
 abbrev pub after_body : {F : Type 0} → Adding F → Typing → BlockTree → Walked F → Walked F
 after_body add returns b w =
     let labels = labels_of w.scoping.text b.items in
-    failing add (about_jumps labels (jumps_of w.scoping.text labels.labels b.items)) (after_items add returns (before_body w) b.items).walked
+    failing add (about_jumps labels (jumps_of w.scoping.text labels.labels b.items))
+    (after_items add returns (before_body w) b.items).walked
 
 abbrev pub emptied : {F : Type 0} → Walked F → Walked F
 emptied w = record { scoping = w.scoping; found = w.found; calls = []; locals = [] }
 
 abbrev pub body_of : {F : Type 0} → BlockTree → ℕ → ℕ → Walked F → ItemTrees → BodyTree
 body_of b visible labels w items =
-    record { opened = b.opened; closed = b.closed; locals = w.locals; visible = visible; labels = labels; calls = w.calls; items = items }
+    record {
+      opened = b.opened;
+      closed = b.closed;
+      locals = w.locals;
+      visible = visible;
+      labels = labels;
+      calls = w.calls;
+      items = items;
+    }
 
 abbrev pub body_at : {F : Type 0} → Adding F → Typing → ℕ → BlockTree → Walked F → Option BodyTree
 body_at add returns visible b w =
     let labels = labels_of w.scoping.text b.items in
-    option_map (body_of b visible labels.count (after_body add returns b w)) (typed_items add returns labels.labels (before_body w) b.items)
+    option_map (body_of b visible labels.count (after_body add returns b w))
+    (typed_items add returns labels.labels (before_body w) b.items)
 
 -- a function's entry gets its body
 abbrev pub with_body : Option BodyTree → EntryTree → EntryTree
@@ -139,7 +154,8 @@ update_at zero f (e ∷ es) = f e ∷ es
 update_at (suc n) f (e ∷ es) = e ∷ update_at n f es
 
 abbrev pub defining : {F : Type 0} → ℕ → Option BodyTree → Filed F → Filed F
-defining n body f = record { walked = f.walked; objects = f.objects; functions = update_at n (with_body body) f.functions }
+defining n body f =
+    record { walked = f.walked; objects = f.objects; functions = update_at n (with_body body) f.functions }
 
 -- after a function its scope is left, and its calls and objects are its own
 abbrev pub leaving_function : {F : Type 0} → Filed F → Filed F → Filed F
@@ -151,11 +167,13 @@ leaving_function before f = record {
 
 abbrev pub after_optional_body : {F : Type 0} → Adding F → Typing → ℕ → Option BlockTree → Filed F → Filed F
 after_optional_body add returns n None f = f
-after_optional_body add returns n (Some b) f = defining n (body_at add returns (length f.objects) b f.walked) (on (λ w. emptied (after_body add returns b w)) f)
+after_optional_body add returns n (Some b) f =
+    defining n (body_at add returns (length f.objects) b f.walked) (on (λ w. emptied (after_body add returns b w)) f)
 
 -- parameters are in the scope of the body
 unfoldable pub after_function : {F : Type 0} → Adding F → (List ℕ → Bool) → FunctionTree → Filed F → Filed F
 after_function add defined f file =
     let n = number_of file.functions (names_in file.walked.scoping f.name) in
     let h = after_head add defined f file in
-    leaving_function h (after_optional_body add (type_named f.specifiers) n f.body (on (after_parameters add f.parameters) (on entering h)))
+    leaving_function h (after_optional_body add (type_named f.specifiers) n f.body
+    (on (after_parameters add f.parameters) (on entering h)))

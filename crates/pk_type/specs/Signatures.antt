@@ -50,7 +50,9 @@ abbrev pub are_integers : List Typing → Bool
 are_integers = list_all is_integer
 
 abbrev pub differs : SignatureTree → SignatureTree → Bool
-differs s t = (are_integers s.parameters && are_integers t.parameters) && (differ s.returns t.returns || all_differ s.parameters t.parameters)
+differs s t =
+    (are_integers s.parameters && are_integers t.parameters)
+    && (differ s.returns t.returns || all_differ s.parameters t.parameters)
 
 -- what a special name has to be declared as
 abbrev pub returned : Callee → Typing
@@ -69,7 +71,8 @@ taken Abort = []
 
 -- special: a special name has other types
 abbrev pub is_wrong : SignatureTree → Callee → Bool
-is_wrong s callee = are_integers s.parameters && (differ s.returns (returned callee) || all_differ s.parameters (taken callee))
+is_wrong s callee =
+    are_integers s.parameters && (differ s.returns (returned callee) || all_differ s.parameters (taken callee))
 
 abbrev pub types_of : List ParameterTree → List Typing
 types_of = map (λ p. type_named p.specifiers)

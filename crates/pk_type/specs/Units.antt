@@ -34,14 +34,25 @@ after_externals add defined [] f = f
 after_externals add defined (x ∷ xs) f = after_externals add defined xs (after_external add defined x f)
 
 abbrev pub nothing_filed : {F : Type 0} → F → List ℕ → Filed F
-nothing_filed found text = record { walked = record { scoping = file_scope text; found = found; calls = []; locals = [] }; objects = []; functions = [] }
+nothing_filed found text =
+    record {
+      walked = record { scoping = file_scope text; found = found; calls = []; locals = [] };
+      objects = [];
+      functions = [];
+    }
 
 -- a text from its beginning to its end, where nothing was found before
 abbrev pub checked : {F : Type 0} → Adding F → F → List ℕ → List ExternalTree → Filed F
 checked add found text trees = after_externals add (defined_in text trees no_name) trees (nothing_filed found text)
 
 abbrev pub function_of : EntryTree → typed.FunctionTree
-function_of e = record { name = e.name; returns = integer_in e.signature.returns; parameters = map type_or_int e.signature.parameters; body = e.body }
+function_of e =
+    record {
+      name = e.name;
+      returns = integer_in e.signature.returns;
+      parameters = map type_or_int e.signature.parameters;
+      body = e.body;
+    }
 
 -- the typed tree
 abbrev pub unit_of : {F : Type 0} → Filed F → UnitTree

@@ -16,10 +16,21 @@ abbrev pub signature_tree : Signature → SignatureTree
 signature_tree s = record { returns = s.returns; parameters = s.parameters.items }
 
 abbrev pub entry_tree : Entry → EntryTree
-entry_tree e = record { name = e.name; signature = signature_tree e.signature; is_defined = e.is_defined; body = option_map body_tree e.body }
+entry_tree e =
+    record {
+      name = e.name;
+      signature = signature_tree e.signature;
+      is_defined = e.is_defined;
+      body = option_map body_tree e.body;
+    }
 
 abbrev pub filed_in : declared_file.File → Filed (Option Failure)
-filed_in f = record { walked = walked_in f.to.walk; objects = map file_object_tree f.objects.items; functions = map entry_tree f.functions.items }
+filed_in f =
+    record {
+      walked = walked_in f.to.walk;
+      objects = map file_object_tree f.objects.items;
+      functions = map entry_tree f.functions.items;
+    }
 
 abbrev pub defined_names : declared_defined.Defined → List ℕ → Bool
 defined_names d q = contains_by (λ k. bytes_eq q k.now) d.names

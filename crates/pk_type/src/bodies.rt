@@ -34,7 +34,8 @@ fn note_all(walk: &mut Walk<'_>, rule: Rule, places: &[Pos])
 #[tactic(auto, using(pk_type_statement::proofs::CaseLemmas::failing_twice))]
 fn note_jumps(walk: &mut Walk<'_>, labels: &Labels<'_>, jumps: &Jumps)
     ensures { walked_in walk.new
-        ≡ walks.failing noted (definitions.about_jumps (listed_in labels.now) (jumped_in jumps.now)) (walked_in walk.old) }
+        ≡ walks.failing noted (definitions.about_jumps (listed_in labels.now) (jumped_in jumps.now))
+        (walked_in walk.old) }
 {
     note_all(walk, Rule::Label, &labels.repeated);
     note_all(walk, Rule::Label, &jumps.unknown);
@@ -67,8 +68,10 @@ fn walked_body(
         ≡ definitions.after_body noted returns (block_tree block.now) (walked_in to.old.walk)) }
     ensures labels { IfOk result (λ r. r.labels
         ≡ (labels_of (walked_in to.old.walk).scoping.text (block_tree block.now).items).count) }
-    ensures items { let labels = labels_of (walked_in to.old.walk).scoping.text (block_tree block.now).items in IfOk result (λ r. option_map (λ v. item_trees v.items) r.items
-        ≡ typed_items noted returns labels.labels (definitions.before_body (walked_in to.old.walk)) (block_tree block.now).items) }
+    ensures items { let labels = labels_of (walked_in to.old.walk).scoping.text (block_tree block.now).items in
+        IfOk result (λ r. option_map (λ v. item_trees v.items) r.items
+        ≡ typed_items noted returns labels.labels (definitions.before_body (walked_in to.old.walk))
+        (block_tree block.now).items) }
 {
     let text = to.walk.scope.text;
     let labels = Labels::of(alloc, text, block)?;
@@ -97,7 +100,8 @@ fn taken(
     checked: Checked,
 ) -> Option<Body>
     ensures walked { walked_in to.new.walk ≡ definitions.emptied (walked_in to.old.walk) }
-    ensures body { option_map body_tree result ≡ option_map (definitions.body_of (block_tree block.now) visible checked.labels (walked_in to.old.walk))
+    ensures body { option_map body_tree result
+        ≡ option_map (definitions.body_of (block_tree block.now) visible checked.labels (walked_in to.old.walk))
         (option_map (λ v. item_trees v.items) checked.items) }
 {
     let calls = mem::replace(&mut to.walk.notes.calls, Vec::new(alloc));

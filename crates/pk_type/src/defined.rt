@@ -1,6 +1,6 @@
 // The functions that a text defines.
 
-ghost use Rattle.std.specs.Prelude.{◌≡◌, IfOk, OnOk, true};
+ghost use Rattle.std.specs.Prelude.{◌≡◌, OnOk};
 ghost use Rattle.pk_type.specs.Units as definitions;
 ghost use Rattle.pk_type.specs.Views.{defined_names};
 

@@ -93,7 +93,8 @@ fn number(
     e: &Expression,
     all: &mut Vec<i128>,
 ) -> Result<(), AllocError>
-    ensures walked { OnOk result (walked_in walk.new ≡ after_constant noted (expression_tree e.now) (walked_in walk.old)) }
+    ensures walked { OnOk result
+        (walked_in walk.new ≡ after_constant noted (expression_tree e.now) (walked_in walk.old)) }
     ensures numbers { OnOk result (all.new.items
         ≡ all.old.items ++ definitions.number_at int_type (walked_in walk.old) (expression_tree e.now) ∷ []) }
 {
@@ -130,9 +131,11 @@ fn given(
     first: &Option<Initializer>,
 ) -> Result<Vec<i128>, AllocError>
     ensures walked { OnOk result (walked_in walk.new
-        ≡ definitions.after_numbers noted (definitions.given (option_map initializer_tree first.now)) (walked_in walk.old)) }
+        ≡ definitions.after_numbers noted (definitions.given (option_map initializer_tree first.now))
+        (walked_in walk.old)) }
     ensures numbers { IfOk result (λ v. v.items
-        ≡ definitions.numbers_at noted int_type (definitions.given (option_map initializer_tree first.now)) (walked_in walk.old)) }
+        ≡ definitions.numbers_at noted int_type (definitions.given (option_map initializer_tree first.now))
+        (walked_in walk.old)) }
 {
     let mut all = Vec::new(alloc);
     match first {
@@ -158,7 +161,8 @@ fn note_rows(
     is_special: bool,
     at: Pos,
 )
-    ensures { walked_in walk.new ≡ walks.failing noted (fails_if is_again rule.Redeclared at ++ fails_if is_extern rule.Extern at
+    ensures { walked_in walk.new
+        ≡ walks.failing noted (fails_if is_again rule.Redeclared at ++ fails_if is_extern rule.Extern at
         ++ fails_if is_void rule.Void at ++ fails_if is_special rule.Special at) (walked_in walk.old) }
 {
     walk.fail_if(is_again, Rule::Redeclared, at);
@@ -212,7 +216,8 @@ impl<'a> File<'a> {
         ensures objects { self.new.objects ≡ self.old.objects }
         ensures functions { self.new.functions ≡ self.old.functions }
         ensures length { IfOk result (λ n. n
-            ≡ length_or_1 (is_some (declarator_tree d.now).length) (length_at (filed_in self.old).walked (declarator_tree d.now).length)) }
+            ≡ length_or_1 (is_some (declarator_tree d.now).length)
+            (length_at (filed_in self.old).walked (declarator_tree d.now).length)) }
     {
         let is_array = d.length.is_some();
         let object = self.object_of(words, is_array);

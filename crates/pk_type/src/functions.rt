@@ -78,7 +78,8 @@ fn unnamed(walk: &mut Walk<'_>, p: &Parameter) -> Result<(), AllocError>
 // A parameter, the next object of its function.
 #[tactic(auto, unfolding(pk_ast::specs::Views::parameter_tree))]
 fn parameter(walk: &mut Walk<'_>, alloc: Global, p: &Parameter) -> Result<(), AllocError>
-    ensures { OnOk result (walked_in walk.new ≡ definitions.after_parameter noted (parameter_tree p.now) (walked_in walk.old)) }
+    ensures { OnOk result
+        (walked_in walk.new ≡ definitions.after_parameter noted (parameter_tree p.now) (walked_in walk.old)) }
 {
     note_specifiers(&mut walk.notes, &p.specifiers);
     match p.name {
@@ -114,7 +115,8 @@ fn either(a: bool, b: bool) -> bool
 
 // Whether a function is declared again with other types, or defined twice.
 fn changes(signature: &Signature, has_body: bool, entry: Option<&Entry>) -> bool
-    ensures { result ≡ definitions.changes (signature_tree signature.now) has_body (option_map (λ e. entry_tree e.now) entry.entry) }
+    ensures { result ≡ definitions.changes (signature_tree signature.now) has_body
+        (option_map (λ e. entry_tree e.now) entry.entry) }
 {
     match entry {
         None => false,
@@ -133,7 +135,8 @@ impl<'a> File<'a> {
         has_body: bool,
         declared: Option<Declaration>,
     ) -> bool
-        ensures { result ≡ definitions.is_redeclared (filed_in self.now).functions (signature_tree signature.now) has_body declared }
+        ensures { result ≡ definitions.is_redeclared (filed_in self.now).functions
+            (signature_tree signature.now) has_body declared }
     {
         match declared {
             None => false,
@@ -245,7 +248,8 @@ impl<'a> File<'a> {
         block: &Option<Block>,
     ) -> Result<(), AllocError>
         ensures { OnOk result (filed_in self.new
-            ≡ definitions.after_optional_body noted returns number (option_map block_tree block.now) (filed_in self.old)) }
+            ≡ definitions.after_optional_body noted returns number (option_map block_tree block.now)
+            (filed_in self.old)) }
     {
         match block {
             None => Ok(()),
@@ -274,8 +278,10 @@ impl<'a> File<'a> {
     // Leaves a function's scope. What was around it is as it was.
     fn leave(&mut self, alloc: Global)
         requires { 0 < length (filed_in self.old).walked.scoping.outer }
-        ensures { (before : Filed (Option Failure)) → (filed_in self.old).walked.scoping.outer ≡ before.walked.scoping.outer ++ before.walked.scoping.inner ∷ []
-            → (filed_in self.old).walked.scoping.text ≡ before.walked.scoping.text → filed_in self.new ≡ definitions.leaving_function before (filed_in self.old) }
+        ensures { (before : Filed (Option Failure)) →
+            (filed_in self.old).walked.scoping.outer ≡ before.walked.scoping.outer ++ before.walked.scoping.inner ∷ []
+            → (filed_in self.old).walked.scoping.text ≡ before.walked.scoping.text →
+            filed_in self.new ≡ definitions.leaving_function before (filed_in self.old) }
     {
         self.to.walk.scope.close();
         self.to.walk.notes.calls = Vec::new(alloc);

@@ -1,6 +1,6 @@
 // Texts.
 
-ghost use Rattle.std.specs.Prelude.{◌≡◌, ◌⊎◌, ℕ, List, None, Some, IfOk, IfErr, OnOk, map};
+ghost use Rattle.std.specs.Prelude.{◌≡◌, ◌⊎◌, None, Some, IfOk, IfErr, OnOk, map};
 ghost use Rattle.pk_ast.specs.Views as ast;
 ghost use Rattle.pk_ast.specs.Views.{external_tree, external_trees};
 ghost use Rattle.pk_typed.specs.Views.{function_tree, unit_tree};
@@ -40,7 +40,8 @@ impl From<AllocError> for Refusal {
 
 // The functions that a text defines.
 fn defined<'a>(alloc: Global, text: &'a [u8], list: &[External]) -> Result<Defined<'a>, AllocError>
-    ensures { IfOk result (λ d. defined_names d ≡ definitions.defined_in text.now (external_trees list.now) definitions.no_name) }
+    ensures { IfOk result
+        (λ d. defined_names d ≡ definitions.defined_in text.now (external_trees list.now) definitions.no_name) }
 {
     let mut defined = Defined::new(alloc);
     for external in list {
@@ -97,7 +98,8 @@ fn function_of(alloc: Global, entry: Entry) -> Result<typed::Function, AllocErro
 }
 
 fn functions_of(alloc: Global, entries: Vec<Entry>) -> Result<Vec<typed::Function>, AllocError>
-    ensures { IfOk result (λ v. map function_tree v.items ≡ map definitions.function_of (map entry_tree entries.items)) }
+    ensures { IfOk result
+        (λ v. map function_tree v.items ≡ map definitions.function_of (map entry_tree entries.items)) }
 {
     let mut functions = Vec::new(alloc);
     for entry in entries {
@@ -151,8 +153,10 @@ fn filed<'a>(alloc: Global, text: &'a [u8], unit: &Unit) -> Result<File<'a>, All
 /// The typed tree of a text in which no rule fails; else the first failure: the earliest place, and of the rules that fail there the upper one.
 #[tactic(auto, unfolding(pk_typed::specs::Views::unit_tree))]
 pub fn check(alloc: Global, text: &[u8], unit: &Unit) -> Result<typed::Unit, Refusal>
-    ensures accepted { let f = definitions.checked noted None text.now (ast.unit_tree unit.now) in IfOk result (λ u. (f.walked.found ≡ None) × (unit_tree u ≡ definitions.unit_of f)) }
-    ensures refused { let f = definitions.checked noted None text.now (ast.unit_tree unit.now) in IfErr result (λ x. (x ≡ Refusal.Memory) ⊎
+    ensures accepted { let f = definitions.checked noted None text.now (ast.unit_tree unit.now) in
+        IfOk result (λ u. (f.walked.found ≡ None) × (unit_tree u ≡ definitions.unit_of f)) }
+    ensures refused { let f = definitions.checked noted None text.now (ast.unit_tree unit.now) in
+        IfErr result (λ x. (x ≡ Refusal.Memory) ⊎
         ((failure : Failure) × (f.walked.found ≡ Some failure) × (x ≡ Refusal.Type failure.rule failure.at))) }
 {
     let file = filed(alloc, text, unit)?;

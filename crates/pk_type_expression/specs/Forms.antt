@@ -57,13 +57,22 @@ known_element at d index = record {
 }
 
 abbrev pub known_constant : IntType → ℤ → Known
-known_constant t n = record { typing = Integer t; target = None; mentions = nothing_mentioned; tree = Some (value (tree.constant t n)) }
+known_constant t n =
+    record {
+      typing = Integer t;
+      target = None;
+      mentions = nothing_mentioned;
+      tree = Some (value (tree.constant t n));
+    }
 
 abbrev pub call_failures : Pos → Option Declaration → List Mentioned → List Failure
-call_failures at d ms = fails_if (not (is_function d)) rule.Undeclared at ++ fails_if (takes_others d (length ms)) rule.Arguments at ++ fails_if (some_clash ms) rule.Unsequenced at
+call_failures at d ms =
+    fails_if (not (is_function d)) rule.Undeclared at ++ fails_if (takes_others d (length ms)) rule.Arguments at
+    ++ fails_if (some_clash ms) rule.Unsequenced at
 
 abbrev pub known_call : Pos → ℕ → Option Declaration → List Mentioned → Option ValueTrees → Known
-known_call at n d ms vs = record { typing = type_of_call d; target = None; mentions = all_joined ms; tree = typed_call d n at vs }
+known_call at n d ms vs =
+    record { typing = type_of_call d; target = None; mentions = all_joined ms; tree = typed_call d n at vs }
 
 abbrev pub step_failures : Pos → Known → List Failure
 step_failures at k = fails_if (not (is_some k.target)) rule.Place at ++ fails_if (is_const k.target) rule.Const at
@@ -88,7 +97,8 @@ abbrev pub known_cast : Typing → Known → Known
 known_cast t k = record { typing = t; target = None; mentions = k.mentions; tree = typed_cast t k.tree }
 
 abbrev pub binary_failures : BinaryOperator → Pos → Known → Known → List Failure
-binary_failures op at k l = fails_if (is_some (binary_number_operator op) && clash k.mentions l.mentions) rule.Unsequenced at
+binary_failures op at k l =
+    fails_if (is_some (binary_number_operator op) && clash k.mentions l.mentions) rule.Unsequenced at
 
 abbrev pub known_binary : BinaryOperator → Pos → Known → Known → Known
 known_binary op at k l = record {
@@ -120,4 +130,10 @@ known_assignment op at k l = record {
 }
 
 abbrev pub known_comma : Known → Known → Known
-known_comma k l = record { typing = l.typing; target = None; mentions = joined k.mentions l.mentions; tree = of_both comma_after (effect_of k.tree) l.tree }
+known_comma k l =
+    record {
+      typing = l.typing;
+      target = None;
+      mentions = joined k.mentions l.mentions;
+      tree = of_both comma_after (effect_of k.tree) l.tree;
+    }

@@ -28,14 +28,20 @@ IsTreeOf Unknown (Some e) = ⊥
 
 -- An expression in which no rule fails has a type and a typed tree of it, where the declarations in scope have theirs.
 abbrev pub AcceptedExpressionsHaveTrees : Type 0
-AcceptedExpressionsHaveTrees = (d : Names) → ((x : Identifier) → HasTypes (d x)) → (n : ℕ) → (e : ExpressionTree) → failures d e ≡ [] → IsTreeOf (type_of d e) (typed d n e)
+AcceptedExpressionsHaveTrees =
+    (d : Names) → ((x : Identifier) → HasTypes (d x)) → (n : ℕ) → (e : ExpressionTree) → failures d e ≡ [] →
+    IsTreeOf (type_of d e) (typed d n e)
 
 -- What is unsequenced in an assignment, in the words of the table of rules: the right side changes the assigned scalar, or of the index of the assigned element and the right side one changes what
 -- the other names, or one of them changes an element of that array. Parentheses on the left change nothing.
 pub record AssignmentsAreTheTable : Type 0 where
-  pub scalar : (d : Names) (op : AssignmentOperator) (at : Pos) (x : Identifier) (o : Object) (b : ExpressionTree) → d x ≡ Some (declared.Object o) → o.is_array ≡ false
+  pub scalar : (d : Names) (op : AssignmentOperator) (at : Pos) (x : Identifier) (o : Object) (b : ExpressionTree) →
+      d x ≡ Some (declared.Object o) → o.is_array ≡ false
       → unsequenced d (assignment op at (name x) b) ≡ fails_if (is_among (changed d b) o.variable) rule.Unsequenced at
-  pub element : (d : Names) (op : AssignmentOperator) (at bracket : Pos) (x : Identifier) (o : Object) (i b : ExpressionTree) → d x ≡ Some (declared.Object o) → o.is_array ≡ true
+  pub element : (d : Names) (op : AssignmentOperator) (at bracket : Pos) (x : Identifier) (o : Object)
+      (i b : ExpressionTree) → d x ≡ Some (declared.Object o) → o.is_array ≡ true
       → unsequenced d (assignment op at (index x bracket i) b)
-      ≡ fails_if (clash (mentions d i) (mentions d b) || (is_among (changed d i) o.variable || is_among (changed d b) o.variable)) rule.Unsequenced bracket
-  pub parentheses : (d : Names) (op : AssignmentOperator) (at p : Pos) (a b : ExpressionTree) → unsequenced d (assignment op at (parenthesized p a) b) ≡ unsequenced d (assignment op at a b)
+      ≡ fails_if (clash (mentions d i) (mentions d b)
+      || (is_among (changed d i) o.variable || is_among (changed d b) o.variable)) rule.Unsequenced bracket
+  pub parentheses : (d : Names) (op : AssignmentOperator) (at p : Pos) (a b : ExpressionTree) →
+      unsequenced d (assignment op at (parenthesized p a) b) ≡ unsequenced d (assignment op at a b)

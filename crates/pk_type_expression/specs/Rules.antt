@@ -77,9 +77,12 @@ assignment_place (Some t) at = elim t.bracket [ None ↦ at | Some bracket ↦ b
 -- unsequenced: operands of one operator but `&&`, `||` and the comma clash, or arguments of one call, or the sides of an assignment; at the operator, at the call's name, or at the `[` of
 -- the assigned element
 unfoldable pub unsequenced : Names → ExpressionTree → List Failure
-unsequenced d (binary op at a b) = fails_if (is_some (binary_number_operator op) && clash (mentions d a) (mentions d b)) rule.Unsequenced at
+unsequenced d (binary op at a b) =
+    fails_if (is_some (binary_number_operator op) && clash (mentions d a) (mentions d b)) rule.Unsequenced at
 unsequenced d (call x es) = fails_if (some_clash (mentions_of_each d es)) rule.Unsequenced x.at
-unsequenced d (assignment op at a b) = fails_if (assignment_clash (target_of d a) (mentions d a) (mentions d b)) rule.Unsequenced (assignment_place (target_of d a) at)
+unsequenced d (assignment op at a b) =
+    fails_if (assignment_clash (target_of d a) (mentions d a) (mentions d b)) rule.Unsequenced
+    (assignment_place (target_of d a) at)
 unsequenced d _ = []
 
 -- the rows at one expression, but for void
@@ -105,7 +108,9 @@ unfoldable mutual
   failures d (cast at words e) = specifiers words ++ failures d e ++ when (not (is_void (type_named words))) (void d e)
   failures d (binary op at a b) = failures d a ++ void d a ++ failures d b ++ void d b ++ own d (binary op at a b)
   failures d (conditional at a b c) = failures d a ++ void d a ++ failures d b ++ void d b ++ failures d c ++ void d c
-  failures d (assignment op at a b) = failures d a ++ when (is_some (assignment_number_operator op)) (void d a) ++ failures d b ++ void d b ++ own d (assignment op at a b)
+  failures d (assignment op at a b) =
+      failures d a ++ when (is_some (assignment_number_operator op)) (void d a) ++ failures d b ++ void d b
+      ++ own d (assignment op at a b)
   failures d (comma at a b) = failures d a ++ failures d b
 
   -- each of these is used

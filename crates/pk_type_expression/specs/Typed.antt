@@ -78,7 +78,8 @@ abbrev pub name_value : Object → Option ValueTree
 name_value o = if o.is_array then None else option_map (λ t. tree.read (tree.scalar t o.variable)) o.int_type
 
 abbrev pub element_value : Pos → Option ValueTree → Object → Option ValueTree
-element_value at i o = if o.is_array then of_both (λ t v. tree.read (tree.element t o.variable at v)) o.int_type i else None
+element_value at i o =
+    if o.is_array then of_both (λ t v. tree.read (tree.element t o.variable at v)) o.int_type i else None
 
 -- a call of the function of a number, which is the call of a number in its function
 abbrev pub called : Typing → ℕ → ℕ → Pos → ValueTrees → Option EvaluatedTree
@@ -193,17 +194,22 @@ unfoldable mutual
   typed d n (ast.parenthesized at e) = typed d n e
   typed d n (ast.postfix op at e) = valued (option_map (step_value op false at) (place_of (typed d n e)))
   typed d n (ast.prefix op at e) = valued (option_map (step_value op true at) (place_of (typed d n e)))
-  typed d n (ast.unary op at e) = valued (option_map (unary_value (unary_number_operator op) at) (operand d (typed d n e) e))
+  typed d n (ast.unary op at e) =
+      valued (option_map (unary_value (unary_number_operator op) at) (operand d (typed d n e) e))
   typed d n (ast.cast at words e) = typed_cast (type_named words) (typed d n e)
   typed d n (ast.binary op at a b) =
-      valued (of_both (binary_value (binary_number_operator op) (is_or op) at) (operand d (typed d n a) a) (operand d (typed d (calls_after d n a) b) b))
+      valued (of_both (binary_value (binary_number_operator op) (is_or op) at) (operand d (typed d n a) a)
+      (operand d (typed d (calls_after d n a) b) b))
   typed d n (ast.conditional at a b c) =
-      valued (typed_conditional (operand d (typed d n a) a) (operand d (typed d (calls_after d n a) b) b) (operand d (typed d (calls_after d (calls_after d n a) b) c) c))
+      valued (typed_conditional (operand d (typed d n a) a) (operand d (typed d (calls_after d n a) b) b)
+      (operand d (typed d (calls_after d (calls_after d n a) b) c) c))
   typed d n (ast.assignment op at a b) =
-      valued (of_both (assignment_value (assignment_number_operator op) at) (place_of (typed d n a)) (operand d (typed d (calls_after d n a) b) b))
+      valued (of_both (assignment_value (assignment_number_operator op) at) (place_of (typed d n a))
+      (operand d (typed d (calls_after d n a) b) b))
   typed d n (ast.comma at a b) = of_both comma_after (effect_of (typed d n a)) (typed d (calls_after d n a) b)
 
   -- values of all of them
   pub typed_all : Names → ℕ → ExpressionTrees → Option ValueTrees
   typed_all d n no_expressions = Some no_values
-  typed_all d n (expression_then e es) = of_both value_before (value_of (typed d n e)) (typed_all d (calls_after d n e) es)
+  typed_all d n (expression_then e es) =
+      of_both value_before (value_of (typed d n e)) (typed_all d (calls_after d n e) es)

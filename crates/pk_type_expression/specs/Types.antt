@@ -43,10 +43,14 @@ operand_type number.Not t u = usual_of t u
 
 -- what an assignment may change: a scalar, or an element, with the place of its `[`
 abbrev pub scalar_target : Object → Option Target
-scalar_target o = if o.is_array then None else Some (record { variable = o.variable; int_type = o.int_type; is_const = o.is_const; bracket = None })
+scalar_target o =
+    if o.is_array then None
+    else Some (record { variable = o.variable; int_type = o.int_type; is_const = o.is_const; bracket = None })
 
 abbrev pub element_target : Pos → Object → Option Target
-element_target at o = if o.is_array then Some (record { variable = o.variable; int_type = o.int_type; is_const = o.is_const; bracket = Some at }) else None
+element_target at o =
+    if o.is_array then Some
+    (record { variable = o.variable; int_type = o.int_type; is_const = o.is_const; bracket = Some at }) else None
 
 abbrev pub of_object : {A : Type 0} → (Object → Option A) → Option Declaration → Option A
 of_object f None = None

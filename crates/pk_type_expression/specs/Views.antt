@@ -55,7 +55,13 @@ pub record Known : Type 0 where
   pub tree : Option EvaluatedTree
 
 abbrev pub known_of : Checked → Known
-known_of c = record { typing = c.typing; target = c.target; mentions = mentioned_in c.mentions; tree = option_map evaluated_tree c.tree }
+known_of c =
+    record {
+      typing = c.typing;
+      target = c.target;
+      mentions = mentioned_in c.mentions;
+      tree = option_map evaluated_tree c.tree;
+    }
 
 abbrev pub mentioned_in_each : Arguments → List Mentioned
 mentioned_in_each all = map mentioned_in all.mentions.items

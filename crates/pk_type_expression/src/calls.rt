@@ -1,6 +1,6 @@
 // What a call makes of its checked arguments.
 
-ghost use Rattle.std.specs.Prelude.{◌≡◌, ◌++◌, ◌∷◌, [], Some, option_map, IfOk, OnOk, length};
+ghost use Rattle.std.specs.Prelude.{◌≡◌, ◌++◌, ◌∷◌, [], Some, option_map, IfOk, OnOk};
 ghost use Rattle.pk_typed.specs.Trees as tree;
 ghost use Rattle.pk_typed.specs.Views.{value_tree, effect_tree, value_trees, optional_values};
 ghost use Rattle.pk_type_expression.specs.Forms as forms;
@@ -37,7 +37,8 @@ fn with_value(
     values: Option<Vec<Value>>,
     value: Option<Box<Value>>,
 ) -> Result<Option<Vec<Value>>, AllocError>
-    ensures { IfOk result (λ r. optional_values r ≡ forms.with_last (optional_values values) (option_map (λ v. value_tree v.value) value)) }
+    ensures { IfOk result (λ r.
+        optional_values r ≡ forms.with_last (optional_values values) (option_map (λ v. value_tree v.value) value)) }
 {
     match values {
         None => Ok(None),
@@ -53,8 +54,10 @@ fn with_value(
 
 /// One argument more.
 pub(crate) fn with_argument(all: Arguments, argument: Checked) -> Result<Arguments, AllocError>
-    ensures mentions { IfOk result (λ r. mentioned_in_each r ≡ mentioned_in_each all ++ mentioned_in argument.mentions ∷ []) }
-    ensures values { IfOk result (λ r. values_in r ≡ forms.with_last (values_in all) (typed.value_of (known_of argument).tree)) }
+    ensures mentions { IfOk result
+        (λ r. mentioned_in_each r ≡ mentioned_in_each all ++ mentioned_in argument.mentions ∷ []) }
+    ensures values { IfOk result
+        (λ r. values_in r ≡ forms.with_last (values_in all) (typed.value_of (known_of argument).tree)) }
 {
     let values = with_value(all.values, value_of(argument.tree))?;
     let mut mentions = all.mentions;
@@ -90,7 +93,8 @@ fn called(
     at: Pos,
     arguments: Vec<Value>,
 ) -> Result<Option<Evaluated>, AllocError>
-    ensures { IfOk result (λ e. option_map evaluated_tree e ≡ typed.called returns function site at (value_trees arguments.items)) }
+    ensures { IfOk result
+        (λ e. option_map evaluated_tree e ≡ typed.called returns function site at (value_trees arguments.items)) }
 {
     match returns {
         Typing::Void => without_value(alloc, Some(Effect::call(function, site, at, arguments))),
@@ -166,7 +170,8 @@ fn call_of(
     at: Pos,
     arguments: Vec<Value>,
 ) -> Result<Option<Evaluated>, AllocError>
-    ensures { IfOk result (λ e. option_map evaluated_tree e ≡ typed.call_of callee function site at (value_trees arguments.items)) }
+    ensures { IfOk result
+        (λ e. option_map evaluated_tree e ≡ typed.call_of callee function site at (value_trees arguments.items)) }
 {
     match callee {
         Callee::Ordinary { returns, .. } => called(alloc, returns, function, site, at, arguments),

@@ -1,6 +1,6 @@
 // Which objects an expression names, and which it changes.
 
-ghost use Rattle.std.specs.Prelude.{◌≡◌, ◌++◌, ◌||◌, ◌∷◌, [], false, IfOk, OnOk, map};
+ghost use Rattle.std.specs.Prelude.{◌≡◌, ◌||◌, [], false, IfOk, OnOk, map};
 ghost use Rattle.std.specs.List.{list_any};
 ghost use Rattle.pk_type_expression.specs.Mentions as definitions;
 ghost use Rattle.pk_type_expression.specs.Views.{mentioned_in, has, IsBefore};
@@ -166,7 +166,8 @@ impl Mentions {
         alloc: Global,
         declared: Option<Declaration>,
     ) -> Result<Mentions, AllocError>
-        ensures { IfOk result (λ m. mentioned_in m ≡ record { named = definitions.object_named declared; changed = [] }) }
+        ensures { IfOk result
+            (λ m. mentioned_in m ≡ record { named = definitions.object_named declared; changed = [] }) }
     {
         let mut mentions = Mentions::none(alloc);
         if let Some(Declaration::Object(object)) = declared {
@@ -177,7 +178,8 @@ impl Mentions {
 
     /// Those of another expression too.
     pub(crate) fn join(&mut self, other: &Mentions) -> Result<(), AllocError>
-        ensures { OnOk result (mentioned_in self.new ≡ definitions.joined (mentioned_in self.old) (mentioned_in other.now)) }
+        ensures { OnOk result
+            (mentioned_in self.new ≡ definitions.joined (mentioned_in self.old) (mentioned_in other.now)) }
     {
         self.named.extend_from_slice(&other.named)?;
         self.changed.extend_from_slice(&other.changed)?;

@@ -107,7 +107,8 @@ pub(crate) fn name(
     at: Pos,
     declared: Option<Declaration>,
 ) -> Result<Checked, AllocError>
-    ensures notes { OnOk result (noted_in notes.new ≡ with_failures (noted_in notes.old) (forms.name_failures at declared)) }
+    ensures notes { OnOk result
+        (noted_in notes.new ≡ with_failures (noted_in notes.old) (forms.name_failures at declared)) }
     ensures known { IfOk result (λ c. known_of c ≡ forms.known_name declared) }
 {
     notes.fail_if(!is_object(declared), Rule::Undeclared, at);
@@ -124,7 +125,8 @@ pub(crate) fn name(
 }
 
 fn element_of(at: Pos, index: Option<Box<Value>>, object: Object) -> Option<Value>
-    ensures { option_map value_tree result ≡ typed.element_value at (option_map (λ v. value_tree v.value) index) object }
+    ensures { option_map value_tree result
+        ≡ typed.element_value at (option_map (λ v. value_tree v.value) index) object }
 {
     if !object.is_array {
         return None;
@@ -155,7 +157,8 @@ pub(crate) fn element(
     declared: Option<Declaration>,
     index: Checked,
 ) -> Result<Checked, AllocError>
-    ensures notes { OnOk result (noted_in notes.new ≡ with_failures (noted_in notes.old) (forms.element_failures at declared)) }
+    ensures notes { OnOk result
+        (noted_in notes.new ≡ with_failures (noted_in notes.old) (forms.element_failures at declared)) }
     ensures known { IfOk result (λ c. known_of c ≡ forms.known_element bracket declared (known_of index)) }
 {
     notes.fail_if(!is_object(declared), Rule::Undeclared, at);
@@ -211,7 +214,8 @@ fn is_const(target: Option<Target>) -> bool
 }
 
 fn step_value(op: StepOperator, is_prefix: bool, at: Pos, place: Option<Place>) -> Option<Value>
-    ensures { option_map value_tree result ≡ option_map (typed.step_value op is_prefix at) (option_map place_tree place) }
+    ensures { option_map value_tree result
+        ≡ option_map (typed.step_value op is_prefix at) (option_map place_tree place) }
 {
     match place {
         None => None,
@@ -231,7 +235,8 @@ pub(crate) fn step(
     at: Pos,
     operand: Checked,
 ) -> Result<Checked, AllocError>
-    ensures notes { OnOk result (noted_in notes.new ≡ with_failures (noted_in notes.old) (forms.step_failures at (known_of operand))) }
+    ensures notes { OnOk result
+        (noted_in notes.new ≡ with_failures (noted_in notes.old) (forms.step_failures at (known_of operand))) }
     ensures known { IfOk result (λ c. known_of c ≡ forms.known_step op is_prefix at (known_of operand)) }
 {
     let target = operand.target;
@@ -371,7 +376,8 @@ fn binary_value(
     right: Option<Operand>,
 ) -> Option<Value>
     ensures { option_map value_tree result
-        ≡ typed.of_both (typed.binary_value op is_or at) (option_map operand_tree left) (option_map operand_tree right) }
+        ≡ typed.of_both (typed.binary_value op is_or at) (option_map operand_tree left)
+        (option_map operand_tree right) }
 {
     match both(left, right) {
         None => None,
@@ -453,7 +459,8 @@ fn conditional_value(
     right: Option<Operand>,
 ) -> Option<Value>
     ensures { option_map value_tree result
-        ≡ typed.typed_conditional (option_map operand_tree condition) (option_map operand_tree left) (option_map operand_tree right) }
+        ≡ typed.typed_conditional (option_map operand_tree condition) (option_map operand_tree left)
+        (option_map operand_tree right) }
 {
     match condition {
         None => None,
@@ -474,7 +481,8 @@ pub(crate) fn conditional(
     left: Checked,
     right: Checked,
 ) -> Result<Checked, AllocError>
-    ensures { IfOk result (λ c. known_of c ≡ forms.known_conditional (known_of condition) (known_of left) (known_of right)) }
+    ensures { IfOk result
+        (λ c. known_of c ≡ forms.known_conditional (known_of condition) (known_of left) (known_of right)) }
 {
     let typing = type_of_conditional(left.typing, right.typing);
     let mut mentions = condition.mentions;

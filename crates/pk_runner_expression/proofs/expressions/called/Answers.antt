@@ -1,12 +1,9 @@
-use Rattle.std.proofs.Common.{◌≡◌, ℕ, ◌∙◌, ap, sym, refl, arith, List, [], ◌∷◌, ◌++◌}
-use Rattle.pk_typed.specs.Trees as tree
+use Rattle.std.proofs.Common.{ℕ, ◌∙◌, ap, List}
 use Rattle.pk_typed.specs.Views.{value_tree, value_trees}
 use Rattle.pk_meaning.specs.Work as works
-use Rattle.pk_meaning.specs.Work.{Work, Way}
-use Rattle.pk_runner_frame.specs.Frames.{held, work_at, work_in, way_in, place_in, array_in, expression_in}
+use Rattle.pk_runner_frame.specs.Frames.{held, work_at, work_in}
 use Rattle.pk_ctypes.specs.declared.types.IntType.{IntType}
 use Rattle.pk_meaning.specs.Programs.{function_of}
-use Rattle.pk_meaning.specs.Steps as steps
 use Rattle.pk_runner_state.specs.Shown.{program_in}
 use Rattle.pk_runner_expression.proofs.expressions.called.Goals as goal
 

@@ -1,11 +1,7 @@
-use Rattle.std.proofs.Common.{◌≡◌, ◌<◌, ◌+◌, ℕ, ◌∙◌, ap, sym, refl, arith, List, [], ◌∷◌, ◌++◌, drop}
-use Rattle.std.specs.Prelude.{ℤ, pos}
-use Rattle.pk_typed.specs.Trees as tree
+use Rattle.std.proofs.Common.{◌≡◌, ◌+◌, ℕ, ◌∙◌, ap, sym, arith, List, ◌∷◌, drop}
 use Rattle.pk_typed.specs.Views.{value_tree, value_trees}
 use Rattle.pk_meaning.specs.Work as works
-use Rattle.pk_meaning.specs.Work.{Work, Way}
-use Rattle.pk_runner_frame.specs.declared.works.Frame.{Frame}
-use Rattle.pk_runner_frame.specs.Frames.{Held, held, work_at, work_in, way_in, place_in, array_in, expression_in, work_of, ahead_of, into, head, behind, nothing}
+use Rattle.pk_runner_frame.specs.Frames.{held, work_at, work_in, array_in, expression_in}
 use Rattle.pk_typed.specs.declared.values.Value.{Value}
 use Rattle.std.proofs.lemmas.List.{drop_more, take_rest}
 use Rattle.pk_meaning.specs.Steps as steps

@@ -1,11 +1,6 @@
-use Rattle.std.proofs.Common.{◌≡◌, ◌<◌, ◌+◌, ℕ, ◌∙◌, ap, sym, refl, arith, List, [], ◌∷◌, ◌++◌, drop}
-use Rattle.std.specs.Prelude.{ℤ, pos}
-use Rattle.pk_typed.specs.Trees as tree
-use Rattle.pk_typed.specs.Views.{value_tree, value_trees}
+use Rattle.std.proofs.Common.{ap, [], ◌∷◌}
 use Rattle.pk_meaning.specs.Work as works
-use Rattle.pk_meaning.specs.Work.{Work, Way}
-use Rattle.pk_runner_frame.specs.declared.works.Frame.{Frame}
-use Rattle.pk_runner_frame.specs.Frames.{Held, held, work_at, work_in, way_in, place_in, array_in, expression_in, work_of, ahead_of, into, head, behind, nothing}
+use Rattle.pk_runner_frame.specs.Frames.{Held, place_in, work_of, ahead_of, into, head, behind, nothing}
 use Rattle.pk_runner_frame.proofs.FrameLemmas.{below_stays}
 use Rattle.pk_runner_expression.proofs.expressions.known_way.Goals as goal
 

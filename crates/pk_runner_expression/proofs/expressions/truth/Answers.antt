@@ -1,13 +1,11 @@
-use Rattle.std.proofs.Common.{◌≡◌, ◌<◌, ◌+◌, ℕ, ◌∙◌, ap, sym, refl, arith, List, [], ◌∷◌, ◌++◌, drop, length}
-use Rattle.std.specs.Prelude.{ℤ, pos}
-use Rattle.pk_typed.specs.Trees as tree
-use Rattle.pk_typed.specs.Views.{value_tree, value_trees}
+use Rattle.std.proofs.Common.{◌≡◌, ◌<◌, ◌∙◌, ap, arith, length}
+use Rattle.std.specs.Prelude.{pos}
+use Rattle.pk_typed.specs.Views.{value_tree}
 use Rattle.pk_meaning.specs.Work as works
-use Rattle.pk_meaning.specs.Work.{Work, Way}
-use Rattle.pk_runner_frame.specs.declared.works.Frame.{Frame}
-use Rattle.pk_runner_frame.specs.Frames.{Held, held, work_at, work_in, way_in, place_in, array_in, expression_in, work_of, ahead_of, into, head, behind, nothing}
+use Rattle.pk_meaning.specs.Work.{Work}
+use Rattle.pk_runner_frame.specs.Frames.{held, work_at, work_in, expression_in, work_of}
 use Rattle.pk_meaning.specs.Steps as steps
-use Rattle.pk_runner_state.specs.Shown.{shown, outcome, program_in}
+use Rattle.pk_runner_state.specs.Shown.{shown, outcome}
 use Rattle.pk_runner_expression.proofs.expressions.truth.Goals as goal
 
 pub returns : goal.returns

@@ -358,7 +358,7 @@ binary-returns-in_err-right t c =
     let b = c.in-Some.ensures in
     passed _ _ c.from_residual-in_err-right.result _ c.from_residual-in_err-right.ensures.1
     (fails_binary c.args.self.end c.args.outside c.args.tokens.now c.args.level (expression_tree c.loop-op.left) c.loop-op.rest.now c.in-Some.after.now c.in-Some.op c.in-Some.at c.loop-op.count c.in_ok-inside.inside _ b.1 i.0 i.3 b.0 n.0 n.1
-    (λ k h. not_made _ _ _ _ c.binary.ensures c.in_err-right.ensures k (subst (λ s. operand_level k ≤ s + 1) (sym c.strength.ensures) h)))
+    (λ k h. not_made _ _ _ _ c.binary.ensures c.in_err-right.ensures k (subst (λ s. operand_level k ≤ s) (sym c.right_of.ensures) h)))
 
 pub binary-loop-op-preserved : goal.binary-loop-op-preserved
 binary-loop-op-preserved t c =
@@ -367,10 +367,10 @@ binary-loop-op-preserved t c =
     let b = c.in-Some.ensures in
     let r = made _ _ _ _ c.binary.ensures c.in_ok-right.ensures.0 in
     let w = c.in_ok-left-2.ensures ∙ ap (λ e. binary c.in-Some.op c.in-Some.at (expression_tree e) (expression_tree c.in_ok-right.right)) (c.in_ok-right.ensures.1 ∙ c.in_ok-inside.ensures.1) in
-    let s = c.strength.ensures in (
+    let s = c.right_of.ensures in (
       reads_binary c.args.self.end c.args.outside c.args.tokens.now c.args.level (expression_tree c.loop-op.left) (expression_tree c.in_ok-right.right) (expression_tree c.in_ok-left-2.left) c.loop-op.rest.now c.in-Some.after.now c.in_ok-right.next.now
           c.in-Some.op c.in-Some.at c.loop-op.count c.in_ok-inside.inside b.1 i.0 i.3 b.0 n.0 n.1
-          (λ k h. r.0 k (subst (λ q. operand_level k ≤ q + 1) (sym s) h)) (ends_within c.args.self.end c.in_ok-right.next.now _ _ s r.1) w,
+          (λ k h. r.0 k (subst (λ q. operand_level k ≤ q) (sym s) h)) (ends_within c.args.self.end c.in_ok-right.next.now _ _ s r.1) w,
       ends_binary c.args.self.end c.in_ok-right.next.now c.in-Some.op _ s r.1,
       ap commas_in w,
       ap operators_in w ∙ counts _ _ _ _ i.3 r.3,

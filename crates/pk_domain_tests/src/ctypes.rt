@@ -238,29 +238,31 @@ fn table_of(t: IntType) -> &'static [&'static str] {
     }
 }
 
-// The edges of a type, and numbers near 0.
+// The edges of a range, and numbers near 0.
+fn near(low: i128, high: i128, k: u32) -> i128 {
+    match (k, low < 0) {
+        (0, _) => low,
+        (1, true) => -7,
+        (1, false) => 1,
+        (2, true) => -1,
+        (2, false) => 2,
+        (3, true) => 0,
+        (3, false) => 7,
+        (4, true) => 2,
+        (4, false) => high.saturating_sub(1),
+        _ => high,
+    }
+}
+
 fn edge(t: IntType, k: u32) -> i128
     ensures { InType t result }
 {
     let (low, high) = range(t);
-    if low < 0 {
-        match k {
-            0 => low,
-            1 => -7,
-            2 => -1,
-            3 => 0,
-            4 => 2,
-            _ => high,
-        }
+    let number = near(low, high, k);
+    if low <= number && number <= high {
+        number
     } else {
-        match k {
-            0 => 0,
-            1 => 1,
-            2 => 2,
-            3 => 7,
-            4 => high - 1,
-            _ => high,
-        }
+        high
     }
 }
 
@@ -290,8 +292,7 @@ fn right_operand(op: Op, t: IntType, k: u32) -> i128
     match op {
         Op::Shl | Op::Shr => count(t, k),
         Op::Neg | Op::BitNot | Op::Not => 0,
-        Op::Add | Op::Sub | Op::Mul | Op::Div | Op::Rem => edge(t, k),
-        Op::And | Op::Or | Op::Xor => edge(t, k),
+        Op::Add | Op::Sub | Op::Mul | Op::Div | Op::Rem | Op::And | Op::Or | Op::Xor => edge(t, k),
         Op::Lt | Op::Gt | Op::Le | Op::Ge | Op::Eq | Op::Ne => edge(t, k),
     }
 }
@@ -463,8 +464,9 @@ fn constructs_are_printed(rt: HostRuntime) -> Result<(), Fail> {
     }
     assert!(rt;
         words.as_str()
-            == "float double _Bool _Complex _Imaginary struct union enum typedef volatile restrict inline register auto sizeof asm __asm__ __attribute__ __extension__ \
-         __inline __restrict static . ... -> string floating directive pointer brackets arrays designator later "
+            == "float double _Bool _Complex _Imaginary struct union enum typedef volatile \
+         restrict inline register auto sizeof asm __asm__ __attribute__ __extension__ __inline __restrict static . ... -> \
+         string floating directive pointer brackets arrays designator later "
     );
     Ok(())
 }
@@ -480,8 +482,7 @@ fn names_are_copied(rt: HostRuntime) -> Result<(), Fail> {
     }
     let names = Names::new(rt.alloc(), &list)?;
     let copy = names.copy()?;
-    let text = format!(in rt.alloc(); "{copy}")?;
-    assert!(rt; text.as_str() == "f g a\u{fffd}b");
+    assert!(rt; format!(in rt.alloc(); "{copy}")?.as_str() == "f g a\u{fffd}b");
     assert!(rt; names.as_slice().len() == 3);
     Ok(())
 }
