@@ -1,0 +1,4 @@
+pub mod Texts
+pub mod Markers
+pub mod Origins
+pub mod Laws
