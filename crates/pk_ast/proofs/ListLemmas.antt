@@ -3,28 +3,11 @@ use Rattle.std.proofs.Common.{◌≡◌, List, [], ◌∷◌, ◌++◌, refl, ap
 use Rattle.std.proofs.lemmas.List.{map-append}
 use Rattle.pk_ast.specs.declared.declarations.Declarator.{Declarator}
 use Rattle.pk_ast.specs.declared.units.Parameter.{Parameter}
-use Rattle.pk_ast.specs.declared.units.External.{External}
-use Rattle.pk_ast.specs.declared.expressions.Expression.{Expression}
 use Rattle.pk_ast.specs.declared.statements.BlockItem.{BlockItem}
 use Rattle.pk_ast.specs.declared.statements.BlockItem.TheVariants.{Declaration, Statement}
-use Rattle.pk_ast.specs.Lists.{append_expressions, append_items}
-use Rattle.pk_ast.specs.Trees.{ExpressionTrees, ItemTrees, no_expressions, expression_then, no_items, declaration_then, statement_then}
-use Rattle.pk_ast.specs.Views.{expression_tree, expression_trees, declarator_tree, declarator_trees, declaration_tree, statement_tree, item_trees, parameter_tree, parameter_trees, external_tree, external_trees}
-
-pub append_expressions-none : (es : ExpressionTrees) → append_expressions es no_expressions ≡ es
-append_expressions-none no_expressions = refl
-append_expressions-none (expression_then e es) = ap (expression_then e) (append_expressions-none es)
-
-pub append_expressions_assoc : (a b c : ExpressionTrees) → append_expressions (append_expressions a b) c ≡ append_expressions a (append_expressions b c)
-append_expressions_assoc no_expressions b c = refl
-append_expressions_assoc (expression_then e es) b c = ap (expression_then e) (append_expressions_assoc es b c)
-
-pub expression_trees-append : (es more : List Expression) → expression_trees (es ++ more) ≡ append_expressions (expression_trees es) (expression_trees more)
-expression_trees-append [] more = refl
-expression_trees-append (e ∷ es) more = ap (expression_then (expression_tree e)) (expression_trees-append es more)
-
-pub expression_trees-push : (es : List Expression) (e : Expression) → expression_trees (es ++ e ∷ []) ≡ append_expressions (expression_trees es) (expression_then (expression_tree e) no_expressions)
-expression_trees-push es e = expression_trees-append es (e ∷ [])
+use Rattle.pk_ast.specs.Lists.{append_items}
+use Rattle.pk_ast.specs.Trees.{ItemTrees, no_items, declaration_then, statement_then}
+use Rattle.pk_ast.specs.Views.{declarator_tree, declarator_trees, declaration_tree, statement_tree, item_trees, parameter_tree, parameter_trees}
 
 pub append_items-none : (rest : ItemTrees) → append_items rest no_items ≡ rest
 append_items-none no_items = refl
@@ -49,6 +32,3 @@ declarator_trees-push ds d = map-append declarator_tree ds (d ∷ [])
 
 pub parameter_trees-push : (ps : List Parameter) (p : Parameter) → parameter_trees (ps ++ p ∷ []) ≡ parameter_trees ps ++ parameter_tree p ∷ []
 parameter_trees-push ps p = map-append parameter_tree ps (p ∷ [])
-
-pub external_trees-push : (es : List External) (e : External) → external_trees (es ++ e ∷ []) ≡ external_trees es ++ external_tree e ∷ []
-external_trees-push es e = map-append external_tree es (e ∷ [])

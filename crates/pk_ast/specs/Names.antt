@@ -60,7 +60,8 @@ unfoldable mutual
   statement_names (switch at e s) = expression_names e ++ statement_names s
   statement_names (while at e s) = expression_names e ++ statement_names s
   statement_names (do_while at s e) = statement_names s ++ expression_names e
-  statement_names (for_loop at start condition step s) = for_start_names start ++ optional_names condition ++ optional_names step ++ statement_names s
+  statement_names (for_loop at start condition step s) =
+      for_start_names start ++ optional_names condition ++ optional_names step ++ statement_names s
   statement_names (goto at x) = x ∷ []
   statement_names (continue at) = []
   statement_names (break at) = []

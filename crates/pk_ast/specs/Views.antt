@@ -42,7 +42,8 @@ unfoldable mutual
   expression_tree (Unary' op at p e) = unary op at (expression_tree e)
   expression_tree (Cast' at specifiers p e) = cast at (specifiers_tree specifiers.value) (expression_tree e)
   expression_tree (Binary' op at p a q b) = binary op at (expression_tree a) (expression_tree b)
-  expression_tree (Conditional' at p a q b r c) = conditional at (expression_tree a) (expression_tree b) (expression_tree c)
+  expression_tree (Conditional' at p a q b r c) =
+      conditional at (expression_tree a) (expression_tree b) (expression_tree c)
   expression_tree (Assignment' op at p a q b) = assignment op at (expression_tree a) (expression_tree b)
   expression_tree (Comma' at p a q b) = comma at (expression_tree a) (expression_tree b)
 
@@ -60,7 +61,12 @@ initializer_tree (Single e) = single (expression_tree e)
 initializer_tree (Braced at e es) = braced at (expression_tree e) (expression_trees es.items)
 
 unfoldable pub declarator_tree : Declarator → DeclaratorTree
-declarator_tree d = record { name = d.name; length = option_map expression_tree d.length; initializer = option_map initializer_tree d.initializer }
+declarator_tree d =
+    record {
+      name = d.name;
+      length = option_map expression_tree d.length;
+      initializer = option_map initializer_tree d.initializer;
+    }
 
 abbrev pub declarator_trees : List Declarator → List DeclaratorTree
 declarator_trees = map declarator_tree
@@ -84,12 +90,14 @@ unfoldable mutual
   statement_tree (statements.Case' at e p s) = case at (expression_tree e) (statement_tree s)
   statement_tree (statements.Default' at p s) = default at (statement_tree s)
   statement_tree (statements.If' at e p s) = if_then at (expression_tree e) (statement_tree s)
-  statement_tree (statements.IfElse' at e p s q t) = if_else at (expression_tree e) (statement_tree s) (statement_tree t)
+  statement_tree (statements.IfElse' at e p s q t) =
+      if_else at (expression_tree e) (statement_tree s) (statement_tree t)
   statement_tree (statements.Switch' at e p s) = switch at (expression_tree e) (statement_tree s)
   statement_tree (statements.While' at e p s) = while at (expression_tree e) (statement_tree s)
   statement_tree (statements.Do' at p s e) = do_while at (statement_tree s) (expression_tree e)
   statement_tree (statements.For' at head p s) =
-      let h = head.value in for_loop at (for_start_tree h.start) (option_map expression_tree h.condition) (option_map expression_tree h.step) (statement_tree s)
+      let h = head.value in for_loop at (for_start_tree h.start) (option_map expression_tree h.condition)
+      (option_map expression_tree h.step) (statement_tree s)
   statement_tree (statements.Goto at x) = goto at x
   statement_tree (statements.Continue at) = continue at
   statement_tree (statements.Break at) = break at
@@ -98,7 +106,8 @@ unfoldable mutual
   -- those of a `Vec`, which is a row of them
   pub items_of_row : {n : _} → Row_of-BlockItem n → ItemTrees
   items_of_row end_of-BlockItem = no_items
-  items_of_row (more_of-BlockItem (items.Declaration d) rest) = declaration_then (declaration_tree d.value) (items_of_row rest)
+  items_of_row (more_of-BlockItem (items.Declaration d) rest) =
+      declaration_then (declaration_tree d.value) (items_of_row rest)
   items_of_row (more_of-BlockItem (items.Statement s) rest) = statement_then (statement_tree s) (items_of_row rest)
 
 abbrev pub item_trees : List BlockItem → ItemTrees

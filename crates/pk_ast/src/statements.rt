@@ -164,7 +164,8 @@ impl Statement {
         else_branch: Statement,
     ) -> Result<Statement, AllocError>
         ensures { IfOk result (λ s. statement_tree s
-            ≡ tree.if_else at (expression_tree condition) (statement_tree then_branch.value) (statement_tree else_branch)) }
+            ≡ tree.if_else at (expression_tree condition) (statement_tree then_branch.value)
+            (statement_tree else_branch)) }
     {
         let ((condition, then_branch), else_branch) = boxed_beside(
             alloc,
@@ -225,7 +226,8 @@ impl Statement {
         body: Statement,
     ) -> Result<Statement, AllocError>
         ensures { IfOk result (λ s. statement_tree s ≡ tree.for_loop at (for_start_tree head.value.start)
-            (option_map expression_tree head.value.condition) (option_map expression_tree head.value.step) (statement_tree body)) }
+            (option_map expression_tree head.value.condition) (option_map expression_tree head.value.step)
+            (statement_tree body)) }
     {
         let (head, body) = boxed_beside(alloc, head, body)?;
         Ok(Statement::For(at, head, body))

@@ -1,6 +1,6 @@
 // Sixteen items behind one pointer.
 
-ghost use Rattle.std.specs.Prelude.{◌≡◌, ◌<◌, ◌^◌, ◌+◌, ℕ, true, IfOk, length, slice_get, slice_set, Some, replicate};
+ghost use Rattle.std.specs.Prelude.{◌≡◌, ◌<◌, ◌^◌, ◌+◌, true, IfOk, length, slice_get, slice_set, Some, replicate};
 ghost use Rattle.pk_blocks.specs.Rows.{merged_from};
 
 use crate::item::{Item, Merge};

@@ -1,6 +1,6 @@
 // Lists in groups of blocks.
 
-ghost use Rattle.std.specs.Prelude.{◌≡◌, ◌<◌, ◌≤◌, ◌+◌, ◌*◌, ◌/◌, ◌%◌, ◌^◌, ℕ, true, IfOk, OnOk, OnErr, length, take, slice_get, slice_set, Some, replicate};
+ghost use Rattle.std.specs.Prelude.{◌≡◌, ◌<◌, ◌≤◌, ◌+◌, ◌*◌, ◌/◌, ◌%◌, ◌^◌, IfOk, OnOk, OnErr, length, take, slice_get, slice_set, Some, replicate};
 ghost use Rattle.pk_blocks.specs.Rows.{flat, AreRows, merged_from, below, group_size};
 
 use crate::block::{Block, ITEMS};
@@ -27,7 +27,8 @@ impl<T: Item> Model for Blocks<T> {
 
     ghost view = { λ b. take b.count (flat (arc_value b.groups).items) };
 
-    ghost invariant = { λ b. AreRows (group_size b.count) (arc_value b.groups).items × (length (arc_value b.groups).items ≡ b.count / 512 + 1) × (b.count < 2 ^ 60) };
+    ghost invariant = { λ b. AreRows (group_size b.count) (arc_value b.groups).items
+        × (length (arc_value b.groups).items ≡ b.count / 512 + 1) × (b.count < 2 ^ 60) };
 }
 
 // The same groups, shared once more.
@@ -98,7 +99,8 @@ fn merge_groups<T: Item, M: Merge<T>>(
     requires counted { length b.now ≡ size / 512 + 1 }
     requires room { size < 2 ^ 60 }
     requires whole { limit % 16 ≡ 0 }
-    ensures value { IfOk result (λ v. flat v.items ≡ merged_from (below limit (M.merged by.now)) 0 (flat a.now) (flat b.now)) }
+    ensures value { IfOk result
+        (λ v. flat v.items ≡ merged_from (below limit (M.merged by.now)) 0 (flat a.now) (flat b.now)) }
     ensures rows { IfOk result (λ v. AreRows (group_size size) v.items) }
     ensures count { IfOk result (λ v. length v.items ≡ length a.now) }
 {

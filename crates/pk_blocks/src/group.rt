@@ -1,6 +1,6 @@
 // Up to thirty-two blocks behind one pointer.
 
-ghost use Rattle.std.specs.Prelude.{◌≡◌, ◌<◌, ◌^◌, ◌+◌, ◌*◌, ◌%◌, ℕ, true, IfOk, length, slice_get, slice_set, Some, replicate};
+ghost use Rattle.std.specs.Prelude.{◌≡◌, ◌<◌, ◌^◌, ◌+◌, ◌*◌, ◌%◌, true, IfOk, length, slice_get, slice_set, Some, replicate};
 ghost use Rattle.pk_blocks.specs.Rows.{flat, AreRows, merged_from, below};
 
 use crate::block::{Block, ITEMS};
@@ -103,7 +103,8 @@ fn merge_blocks<T: Item, M: Merge<T>>(
     requires room { from + length a.now * 16 < 2 ^ 62 }
     requires place { from % 16 ≡ 0 }
     requires whole { limit % 16 ≡ 0 }
-    ensures value { IfOk result (λ p. flat p.0.items ≡ merged_from (below limit (M.merged by.now)) from (flat a.now) (flat b.now)) }
+    ensures value { IfOk result
+        (λ p. flat p.0.items ≡ merged_from (below limit (M.merged by.now)) from (flat a.now) (flat b.now)) }
     ensures rows { IfOk result (λ p. AreRows 16 p.0.items) }
     ensures same { IfOk result (λ p. p.1 ≡ true → p.0.items ≡ a.now) }
 {

@@ -19,7 +19,7 @@ use Rattle.pk_typed.specs.Trees.{UnitTree, FunctionTree, BodyTree}
 use Rattle.pk_typed.specs.Views.{local_tree, body_tree, function_tree, unit_tree}
 use Rattle.pk_calls.specs.Calls.{body_of, HasBody, name_of, calls_of, locals_of, IsNamed}
 
-function_read : (u : declared_unit.Unit) (f : ℕ) (g : Function) → f < length u.functions.items → g ≡ get_or u.functions.items f g → slice_get (unit_tree u).functions f ≡ Some (function_tree g)
+pub function_read : (u : declared_unit.Unit) (f : ℕ) (g : Function) → f < length u.functions.items → g ≡ get_or u.functions.items f g → slice_get (unit_tree u).functions f ≡ Some (function_tree g)
 unfolding unit_tree
 function_read u f g lt at = slice_get-map function_tree u.functions.items f ∙ ap (option_map function_tree) (slice_get_read u.functions.items (length u.functions.items) f g refl lt at)
 

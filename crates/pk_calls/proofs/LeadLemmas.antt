@@ -5,7 +5,7 @@ use Rattle.std.specs.Option.{option_and_then}
 use Rattle.std.proofs.lemmas.Bool.{cases_lt}
 use Rattle.std.proofs.lemmas.List.{length-append, get_or_append_left}
 use Rattle.std.proofs.Math.Seq.{get_or-append_seam}
-use Rattle.std.proofs.lemmas.Option.{slice_get_past, slice_get_within}
+use Rattle.std.proofs.lemmas.Option.{slice_get_within}
 use Rattle.pk_typed.specs.declared.units.CallSite.{CallSite}
 use Rattle.pk_typed.specs.Trees.{UnitTree}
 use Rattle.pk_calls.specs.declared.listings.CallPath.{CallPath}
@@ -55,13 +55,6 @@ leads_cases ps qs from call to h =
 
 none_some : (c : Caller) → None ≡ Some c → ⊥
 none_some c e = cc
-
-pub leads_within : (ps : List CallPath) (from call to : ℕ) → LeadsTo ps from call to → to < length ps
-leads_within ps from call to h =
-    ⊎_elim
-    (λ lt. lt)
-    (λ le. absurd (none_some (record { path = from; call = call }) (sym (ap (option_and_then (λ (p : CallPath). p.caller)) (slice_get_past ps to le)) ∙ h)))
-    (cases_lt to (length ps))
 
 -- a path whose caller is told
 pub leads_by : (ps : List CallPath) (from call to f : ℕ) → slice_get ps to ≡ Some (path_by from call f) → LeadsTo ps from call to

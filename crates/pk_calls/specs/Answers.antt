@@ -26,17 +26,24 @@ pub record HasPaths (u : UnitTree) (name : List ℕ) (paths : List CallPath) : T
   pub walks : WalksFrom u entry (walked seen)
   pub is_listing : IsListing u entry paths
 
+-- the most call paths, and the most variables over all of them
+abbrev pub path_limit : ℕ
+path_limit = 4096
+
+abbrev pub variable_limit : ℕ
+variable_limit = 65536
+
 -- these call paths pass the limit of a number; that of paths is looked at first
 abbrev pub Passes : UnitTree → List CallPath → Quantity → ℕ → Type 0
 Passes u paths quantity.Text n = ⊥
 Passes u paths quantity.Nesting n = ⊥
-Passes u paths quantity.Paths n = (n ≡ 4096) × (4096 < length paths)
-Passes u paths quantity.Variables n = (n ≡ 65536) × (length paths ≤ 4096) × (65536 < variables_of u paths)
+Passes u paths quantity.Paths n = (n ≡ path_limit) × (path_limit < length paths)
+Passes u paths quantity.Variables n = (n ≡ variable_limit) × (length paths ≤ path_limit) × (variable_limit < variables_of u paths)
 Passes u paths quantity.Points n = ⊥
 
 -- The answer: all call paths where they are within the limits, or why not. Want of memory is no answer about the unit.
 abbrev pub IsAnswer : UnitTree → List ℕ → Result (List CallPath) CallError → Type 0
-IsAnswer u name (Ok paths) = HasPaths u name paths × (length paths ≤ 4096) × (variables_of u paths ≤ 65536)
+IsAnswer u name (Ok paths) = HasPaths u name paths × (length paths ≤ path_limit) × (variables_of u paths ≤ variable_limit)
 IsAnswer u name (Err (error.NoEntry n)) = (n ≡ name) × ((f : ℕ) → IsNamed u name f → ⊥)
 IsAnswer u name (Err (error.Recursion cycle)) = IsRefused u name (recursion cycle)
 IsAnswer u name (Err (error.UndefinedCall f at)) = IsRefused u name (undefined f at)
@@ -45,7 +52,8 @@ IsAnswer u name (Err error.Memory) = Unit {0}
 
 -- what a walk from an entry is answered: the counts of its calls, or a refusal
 abbrev pub IsWalk : UnitTree → ℕ → Result Counts CallError → Type 0
-IsWalk u entry (Ok counts) = ((seen : List ℕ) × WalksFrom u entry (walked seen)) × IsCounted u entry counts.paths counts.variables
+IsWalk u entry (Ok counts) =
+    ((seen : List ℕ) × WalksFrom u entry (walked seen)) × IsCounted u entry counts.paths counts.variables
 IsWalk u entry (Err (error.NoEntry n)) = ⊥
 IsWalk u entry (Err (error.Recursion cycle)) = WalksFrom u entry (recursion cycle)
 IsWalk u entry (Err (error.UndefinedCall f at)) = WalksFrom u entry (undefined f at)

@@ -15,23 +15,33 @@ use Rattle.pk_calls.specs.Answers.{IsAnswer}
 
 -- a unit and a name have at most one answer, want of memory aside
 abbrev pub AnswerIsDetermined : Type 0
-AnswerIsDetermined = (u : UnitTree) (name : List ℕ) (a b : Result (List CallPath) CallError) → a ≢ Err Memory → b ≢ Err Memory → IsAnswer u name a → IsAnswer u name b → a ≡ b
+AnswerIsDetermined =
+    (u : UnitTree) (name : List ℕ) (a b : Result (List CallPath) CallError) → a ≢ Err Memory → b ≢ Err Memory →
+    IsAnswer u name a → IsAnswer u name b → a ≡ b
 
 -- where the walk isn't refused no call path has a function twice
 abbrev pub NoFunctionTwice : Type 0
-NoFunctionTwice = (u : UnitTree) (entry : ℕ) (seen functions calls : List ℕ) → WalksFrom u entry (walked seen) → IsCallPath u entry functions calls → AllPairs (λ f g. f ≢ g) functions
+NoFunctionTwice =
+    (u : UnitTree) (entry : ℕ) (seen functions calls : List ℕ) → WalksFrom u entry (walked seen) →
+    IsCallPath u entry functions calls → AllPairs (λ f g. f ≢ g) functions
 
 -- These paths are the call paths, each once, and each call of a path's function leads on to one.
 pub record AreCallPaths (u : UnitTree) (entry : ℕ) (paths : List CallPath) : Type 0 where
-  pub each_is_one : (number : ℕ) → number < length paths → (functions calls : List ℕ) × StandsFor paths number functions calls × IsCallPath u entry functions calls
-  pub all_are_there : (functions calls : List ℕ) → IsCallPath u entry functions calls → (number : ℕ) × StandsFor paths number functions calls
-  pub none_is_twice : (m n : ℕ) (functions others calls : List ℕ) → StandsFor paths m functions calls → StandsFor paths n others calls → m ≡ n
-  pub calls_lead_on : (number k : ℕ) (path : CallPath) (call : CallSite) → slice_get paths number ≡ Some path → slice_get (calls_of u path.function) k ≡ Some call → (to : ℕ) × LeadsTo paths number k to
+  pub each_is_one : (number : ℕ) → number < length paths →
+      (functions calls : List ℕ) × StandsFor paths number functions calls × IsCallPath u entry functions calls
+  pub all_are_there : (functions calls : List ℕ) → IsCallPath u entry functions calls →
+      (number : ℕ) × StandsFor paths number functions calls
+  pub none_is_twice : (m n : ℕ) (functions others calls : List ℕ) → StandsFor paths m functions calls →
+      StandsFor paths n others calls → m ≡ n
+  pub calls_lead_on : (number k : ℕ) (path : CallPath) (call : CallSite) → slice_get paths number ≡ Some path →
+      slice_get (calls_of u path.function) k ≡ Some call → (to : ℕ) × LeadsTo paths number k to
 
 -- where the walk isn't refused there is a listing, of all call paths
 pub record PathsAreAll : Type 0 where
-  pub listing : (u : UnitTree) (entry : ℕ) (seen : List ℕ) → WalksFrom u entry (walked seen) → (paths : List CallPath) × IsListing u entry paths
-  pub all : (u : UnitTree) (entry : ℕ) (seen : List ℕ) (paths : List CallPath) → WalksFrom u entry (walked seen) → IsListing u entry paths → AreCallPaths u entry paths
+  pub listing : (u : UnitTree) (entry : ℕ) (seen : List ℕ) → WalksFrom u entry (walked seen) →
+      (paths : List CallPath) × IsListing u entry paths
+  pub all : (u : UnitTree) (entry : ℕ) (seen : List ℕ) (paths : List CallPath) → WalksFrom u entry (walked seen) →
+      IsListing u entry paths → AreCallPaths u entry paths
 
 -- Some call path ends with a function that it has before, and these are the names from that function to itself.
 pub record MeetsRecursion (u : UnitTree) (entry : ℕ) (names : List (List ℕ)) : Type 0 where
@@ -57,5 +67,7 @@ pub record MeetsBodiless (u : UnitTree) (entry : ℕ) (name : List ℕ) (at : Po
 
 -- what the walk is refused for is met by a call path
 pub record RefusalsAreMet : Type 0 where
-  pub recursions : (u : UnitTree) (entry : ℕ) (names : List (List ℕ)) → WalksFrom u entry (recursion names) → MeetsRecursion u entry names
-  pub bodiless : (u : UnitTree) (entry : ℕ) (name : List ℕ) (at : Pos) → WalksFrom u entry (undefined name at) → MeetsBodiless u entry name at
+  pub recursions : (u : UnitTree) (entry : ℕ) (names : List (List ℕ)) → WalksFrom u entry (recursion names) →
+      MeetsRecursion u entry names
+  pub bodiless : (u : UnitTree) (entry : ℕ) (name : List ℕ) (at : Pos) → WalksFrom u entry (undefined name at) →
+      MeetsBodiless u entry name at

@@ -26,7 +26,8 @@ longer u number (p ∷ rest) = paths_by number 0 (calls_of u p.function) ++ long
 
 -- the path with number `to` is that with number `from` and its function's call with number `call`
 abbrev pub LeadsTo : List CallPath → ℕ → ℕ → ℕ → Type 0
-LeadsTo paths from call to = option_and_then (λ (p : CallPath). p.caller) (slice_get paths to) ≡ Some (record { path = from; call = call })
+LeadsTo paths from call to =
+    option_and_then (λ (p : CallPath). p.caller) (slice_get paths to) ≡ Some (record { path = from; call = call })
 
 -- All call paths: the entry, and then each listed path with each call of its function, in order. A path stands behind the one that leads to it.
 pub record IsListing (u : UnitTree) (entry : ℕ) (paths : List CallPath) : Type 0 where
@@ -39,4 +40,5 @@ variables_of u paths = length u.objects + sum (map (λ (p : CallPath). locals_of
 
 -- each path's calls lead to paths in a row
 abbrev pub AreFirsts : List CallPath → List ℕ → Type 0
-AreFirsts paths firsts = (from call to : ℕ) → LeadsTo paths from call to → (from < length firsts) × (to ≡ slice_index firsts from + call)
+AreFirsts paths firsts =
+    (from call to : ℕ) → LeadsTo paths from call to → (from < length firsts) × (to ≡ slice_index firsts from + call)

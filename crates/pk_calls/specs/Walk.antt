@@ -30,20 +30,24 @@ cycle_of u f path = reverse (map (name_of u) (f ∷ back_to f path))
 pub data Walks (u : UnitTree) : List ℕ → List ℕ → List CallSite → Outcome → Type 0 where
   at_end : {path seen : List ℕ} → Walks u path seen [] (walked seen)
   -- of a function on the path
-  recursive : {path seen : List ℕ} {call : CallSite} {rest : List CallSite} → HasBody u call.function → Contains path call.function
+  recursive : {path seen : List ℕ} {call : CallSite} {rest : List CallSite} → HasBody u call.function →
+      Contains path call.function
       → Walks u path seen (call ∷ rest) (recursion (cycle_of u call.function path))
   -- of a function without a body
   bodiless : {path seen : List ℕ} {call : CallSite} {rest : List CallSite} → (HasBody u call.function → ⊥)
       → Walks u path seen (call ∷ rest) (undefined (name_of u call.function) call.at)
   -- of a function that was entered and left
-  left : {path seen : List ℕ} {call : CallSite} {rest : List CallSite} {o : Outcome} → HasBody u call.function → (Contains path call.function → ⊥) → Contains seen call.function
+  left : {path seen : List ℕ} {call : CallSite} {rest : List CallSite} {o : Outcome} → HasBody u call.function →
+      (Contains path call.function → ⊥) → Contains seen call.function
       → Walks u path seen rest o → Walks u path seen (call ∷ rest) o
   -- of a function that is entered now
-  entered : {path seen after : List ℕ} {call : CallSite} {rest : List CallSite} {o : Outcome} → HasBody u call.function → (Contains path call.function → ⊥) → (Contains seen call.function → ⊥)
+  entered : {path seen after : List ℕ} {call : CallSite} {rest : List CallSite} {o : Outcome} →
+      HasBody u call.function → (Contains path call.function → ⊥) → (Contains seen call.function → ⊥)
       → Walks u (call.function ∷ path) (call.function ∷ seen) (calls_of u call.function) (walked after)
       → Walks u path after rest o → Walks u path seen (call ∷ rest) o
   -- of a function whose walk is refused
-  refused : {path seen : List ℕ} {call : CallSite} {rest : List CallSite} {o : Outcome} → HasBody u call.function → (Contains path call.function → ⊥) → (Contains seen call.function → ⊥)
+  refused : {path seen : List ℕ} {call : CallSite} {rest : List CallSite} {o : Outcome} → HasBody u call.function →
+      (Contains path call.function → ⊥) → (Contains seen call.function → ⊥)
       → Walks u (call.function ∷ path) (call.function ∷ seen) (calls_of u call.function) o → IsRefusal o
       → Walks u path seen (call ∷ rest) o
 

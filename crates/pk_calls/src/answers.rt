@@ -3,8 +3,8 @@
 ghost use Rattle.pk_typed.specs.Views.{unit_tree};
 ghost use Rattle.pk_calls.specs.Answers.{IsAnswer};
 
-use crate::calls::entry;
 use crate::failures::CallError;
+use crate::functions::entry;
 use crate::listings::{Paths, listed};
 use crate::walk::walk;
 use pk_ctypes::{Name, Quantity};

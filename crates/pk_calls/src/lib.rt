@@ -2,13 +2,14 @@
 #![tactic(auto)]
 
 mod answers;
-mod calls;
 mod failures;
+mod functions;
 mod laws;
 mod listings;
 mod walk;
 
 pub use answers::paths;
 pub use failures::CallError;
+pub use functions::{body, calls, name};
 pub use laws::{answer_is_determined, no_function_twice, paths_are_all, refusals_are_met};
 pub use listings::{CallPath, Caller, Paths};

@@ -4,8 +4,9 @@ ghost use Rattle.std.specs.Prelude.{◌≡◌, ◌<◌, ◌≤◌, ℕ, List, So
 ghost use Rattle.pk_typed.specs.Views.{unit_tree};
 ghost use Rattle.pk_calls.specs.Forests.{IsCounted};
 ghost use Rattle.pk_calls.specs.Paths.{IsListing, LeadsTo};
+ghost use Rattle.pk_calls.specs.Answers.{path_limit};
 
-use crate::calls::calls;
+use crate::functions::calls;
 use crate::walk::Counts;
 use pk_typed::Unit;
 use std::alloc::{AllocError, Global};
@@ -71,7 +72,7 @@ impl Paths {
 /// The call paths from an entry, of which there are so many.
 pub fn listed(alloc: Global, unit: &Unit, entry: usize, counts: Counts) -> Result<Paths, AllocError>
     requires counted { IsCounted (unit_tree unit.now) entry counts.paths counts.variables }
-    requires few { counts.paths ≤ 4096 }
+    requires few { counts.paths ≤ path_limit }
     ensures { IfOk result (λ paths. IsListing (unit_tree unit.now) entry paths) }
 {
     let mut list = Vec::new(alloc);

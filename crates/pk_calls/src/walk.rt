@@ -1,6 +1,6 @@
 // The walk of calls.
 
-ghost use Rattle.std.specs.Prelude.{◌≡◌, ◌+◌, ◌∷◌, List, map, reverse, IfOk};
+ghost use Rattle.std.specs.Prelude.{◌≡◌, ◌+◌, ◌∷◌, map, reverse, IfOk};
 ghost use Rattle.pk_typed.specs.Views.{unit_tree};
 ghost use Rattle.pk_calls.specs.Calls.{HasBody, name_of, locals_of};
 ghost use Rattle.pk_calls.specs.Forests.{capped};
@@ -8,8 +8,8 @@ ghost use Rattle.pk_calls.specs.Walk.{back_to, cycle_of};
 ghost use Rattle.pk_calls.specs.Frames.{path_of};
 ghost use Rattle.pk_calls.specs.Answers.{IsWalk};
 
-use crate::calls::{calls, has_body, locals, name};
 use crate::failures::CallError;
+use crate::functions::{calls, has_body, locals, name};
 use pk_ctypes::{Name, Names};
 use pk_typed::Unit;
 use std::alloc::{AllocError, Global};
@@ -67,7 +67,8 @@ fn names_back(
     frames: &[Frame],
     function: usize,
 ) -> Result<Vec<Name>, AllocError>
-    ensures { IfOk result (λ names. names.items ≡ map (name_of (unit_tree unit.now)) (function ∷ back_to function (path_of (reverse frames.now)))) }
+    ensures { IfOk result (λ names. names.items
+        ≡ map (name_of (unit_tree unit.now)) (function ∷ back_to function (path_of (reverse frames.now)))) }
 {
     let mut names = Vec::new(alloc);
     names.push(name(alloc, unit, function)?)?;

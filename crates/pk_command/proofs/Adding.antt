@@ -1,6 +1,6 @@
 -- What one more option and one more command make of a command.
 use Rattle.std.proofs.Common.{◌≡◌, ◌∙◌, ◌||◌, ap, subst, Bool, Result, Ok, Err, IfOk}
-use Rattle.clap.specs.Words.{App, AddsArg, AddsSubcommand, Rule, app_of, rule_of, shape_of, with_rule, with_subcommand}
+use Rattle.clap.specs.Words.{App, AddsArg, AddsSubcommand, Rule, rule_of, shape_of, with_rule, with_subcommand}
 use Rattle.clap.specs.declared.builder.arg.Arg.{Arg}
 use Rattle.clap.specs.declared.builder.command.Command.{Command}
 use Rattle.clap.specs.declared.builder.command.Command.TheViews.{out-Command as fields_of}

@@ -10,7 +10,12 @@ use Rattle.clap.specs.declared.builder.value_parser.ValueParser.TheVariants as p
 
 -- `--NAME N`, a number from `least` to `most`
 abbrev pub number_option : Text → ℕ → ℕ → Rule
-number_option name least most = record (new_rule name) { long = Some name; action = Some Set; parser = Some (parser.Signed (pos least) (pos most)) }
+number_option name least most =
+    record (new_rule name) {
+      long = Some name;
+      action = Some Set;
+      parser = Some (parser.Signed (pos least) (pos most));
+    }
 
 -- the same, where the option has to be given
 abbrev pub required_number : Text → ℕ → ℕ → Rule

@@ -16,7 +16,8 @@ pub record IsRequiredFound (name : Text) (least most : ℕ) (rows : List Row) : 
 
 -- a flag's value is one of the two words
 pub record IsFlagFound (name : Text) (rows : List Row) : Type 0 where
-  pub word : IfSome (first_of name rows) (λ text. (bytes_eq text (codes "true") || bytes_eq text (codes "false")) ≡ true)
+  pub word : IfSome (first_of name rows)
+      (λ text. (bytes_eq text (codes "true") || bytes_eq text (codes "false")) ≡ true)
   pub read : one_of name rows ≡ first_of name rows
 
 pub record IsRunFound (rows : List Row) : Type 0 where

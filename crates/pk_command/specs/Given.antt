@@ -56,13 +56,20 @@ pub record IsGen (rows : List Row) (options : GenOptions) : Type 0 where
 
 -- the words are taken, and ask for the command
 unfoldable pub AsksFor : List Text → Command → Type 0
-AsksFor words (Run options) = IsTrue (is_taken words) × ((rows : List Row) × ((given_by words ≡ Some (codes "run", rows)) × (options ≡ run_options rows)))
-AsksFor words (Order options) = IsTrue (is_taken words) × ((rows : List Row) × ((given_by words ≡ Some (codes "order", rows)) × (options ≡ order_options rows)))
-AsksFor words (Gen options) = IsTrue (is_taken words) × ((rows : List Row) × ((given_by words ≡ Some (codes "gen", rows)) × IsGen rows options))
+AsksFor words (Run options) =
+    IsTrue (is_taken words)
+    × ((rows : List Row) × ((given_by words ≡ Some (codes "run", rows)) × (options ≡ run_options rows)))
+AsksFor words (Order options) =
+    IsTrue (is_taken words)
+    × ((rows : List Row) × ((given_by words ≡ Some (codes "order", rows)) × (options ≡ order_options rows)))
+AsksFor words (Gen options) =
+    IsTrue (is_taken words) × ((rows : List Row) × ((given_by words ≡ Some (codes "gen", rows)) × IsGen rows options))
 
 -- each number lies in its option's range
 abbrev pub IsInRange : Command → Type 0
 IsInRange (Run options) = (1 ≤ options.workers) × (options.workers ≤ 64) × (options.narrow ≤ 8) × (options.oct ≤ 64)
     × (1 ≤ options.max_runs) × (options.max_runs ≤ 549755813888)
 IsInRange (Order options) = ⊤
-IsInRange (Gen options) = (options.seed ≤ 2147483647) × (1 ≤ options.size) × (options.size ≤ 1000) × (1 ≤ options.workers) × (options.workers ≤ 64)
+IsInRange (Gen options) =
+    (options.seed ≤ 2147483647) × (1 ≤ options.size) × (options.size ≤ 1000) × (1 ≤ options.workers)
+    × (options.workers ≤ 64)

@@ -23,7 +23,9 @@ OrderIsTaken = AsksFor (codes "order" ∷ []) (Order (record { entry = codes "ma
 
 -- the word `gen` with a seed and a size asks for their program
 abbrev pub GenIsTaken : Type 0
-GenIsTaken = AsksFor (codes "gen" ∷ codes "--seed" ∷ codes "2" ∷ codes "--size" ∷ codes "1" ∷ []) (Gen (record { seed = 2; size = 1; workers = 4 }))
+GenIsTaken =
+    AsksFor (codes "gen" ∷ codes "--seed" ∷ codes "2" ∷ codes "--size" ∷ codes "1" ∷ [])
+    (Gen (record { seed = 2; size = 1; workers = 4 }))
 
 -- the word `gen` isn't taken without a size, nor without a seed
 abbrev pub GenNeedsOptions : Type 0

@@ -72,7 +72,8 @@ fn with<'a>(
     command: Result<Command<'a>, AllocError>,
     option: Arg<'a>,
 ) -> Result<Command<'a>, AllocError>
-    ensures { (app : App) (rule : Rule) → IfOk command.entry (IsCommand app) → IsOption rule option.entry → IfOk result (IsCommand (with_rule app rule)) }
+    ensures { (app : App) (rule : Rule) → IfOk command.entry (IsCommand app) → IsOption rule option.entry →
+        IfOk result (IsCommand (with_rule app rule)) }
 {
     match command {
         Ok(command) => command.arg(option),
@@ -101,7 +102,8 @@ fn before<'a>(
     command: Result<Command<'a>, AllocError>,
     behind: Result<Command<'a>, AllocError>,
 ) -> Result<Command<'a>, AllocError>
-    ensures { (app sub : App) → IfOk command.entry (IsCommand app) → IfOk behind.entry (IsCommand sub) → IfOk result (IsCommand (with_subcommand app sub.top)) }
+    ensures { (app sub : App) → IfOk command.entry (IsCommand app) → IfOk behind.entry (IsCommand sub) →
+        IfOk result (IsCommand (with_subcommand app sub.top)) }
 {
     let (command, behind) = both(command, behind)?;
     command.subcommand(behind)

@@ -33,7 +33,7 @@ lcm_by_right a b g h m =
     let same : a * b ≡ b / g * a * g = omega arith in
     ap (λ k. k / g) same ∙ mul-div_cancel (b / g * a) h
 
-some_abs : (a : ℤ) → (a ≡ pos 0 → ⊥) → 0 < unsigned_abs a
+pub some_abs : (a : ℤ) → (a ≡ pos 0 → ⊥) → 0 < unsigned_abs a
 some_abs (pos zero) h = absurd (h refl)
 some_abs (pos (suc n)) h = omega arith
 some_abs (negsuc n) h = omega arith

@@ -34,13 +34,15 @@ AreNear a b = a.m ≡ pos 0 → b.m ≡ pos 0 → unsigned_abs (a.r -ℤ b.r) < 
 pub record JoinIsLeast : Type 0 where
   pub left : (a b : Class) → Within a (joined a b)
   pub right : (a b : Class) → Within b (joined a b)
-  pub least : (a b c : Class) → IsReduced a.m a.r → IsReduced b.m b.r → AreNear a b → Within a c → Within b c → Within (joined a b) c
+  pub least : (a b c : Class) → IsReduced a.m a.r → IsReduced b.m b.r → AreNear a b → Within a c → Within b c →
+      Within (joined a b) c
 
 -- the meet has the numbers of both, and no others; it may have more of the first where the least common multiple is too large
 pub record MeetIsBoth : Type 0 where
   pub none : (a b : Class) → met a b ≡ None → (x : ℤ) → IsMember a x → IsMember b x → ⊥
   pub all : (a b c : Class) → met a b ≡ Some c → (x : ℤ) → IsMember a x → IsMember b x → IsMember c x
-  pub only : (a b c : Class) → met a b ≡ Some c → unsigned_abs (int_lcm a.m b.m) < 2 ^ 127 → (x : ℤ) → IsMember c x → IsMember a x × IsMember b x
+  pub only : (a b c : Class) → met a b ≡ Some c → unsigned_abs (int_lcm a.m b.m) < 2 ^ 127 → (x : ℤ) → IsMember c x →
+      IsMember a x × IsMember b x
   pub first : (a b c : Class) → met a b ≡ Some c → 2 ^ 127 ≤ unsigned_abs (int_lcm a.m b.m) → c ≡ a
 
 -- narrowing keeps the numbers of both
@@ -49,7 +51,9 @@ NarrowingKeeps = (h n : Class) (x : ℤ) → IsMember h x → IsMember n x → I
 
 -- each exact result of an operator at members is a member of the result; the operand of `~` is a number of the type
 abbrev pub OperatorsAreSound : Type 0
-OperatorsAreSound = (op : Op) (t : IntType) (a b : Class) (x y z : ℤ) → (op ≡ BitNot → InType t x) → IsMember a x → IsMember b y → exact op t x y ≡ Ok z → IsMember (result_of op t a b) z
+OperatorsAreSound =
+    (op : Op) (t : IntType) (a b : Class) (x y z : ℤ) → (op ≡ BitNot → InType t x) → IsMember a x → IsMember b y →
+    exact op t x y ≡ Ok z → IsMember (result_of op t a b) z
 
 -- the number that was added took z into the type; where there is none, nothing is known
 abbrev pub TookIn : IntType → ℤ → Option ℤ → Type 0
@@ -58,7 +62,9 @@ TookIn t z None = Unit {0}
 
 -- the conversion of a member is a member after the wrap
 abbrev pub WrappingIsSound : Type 0
-WrappingIsSound = (t : IntType) (a : Class) (added : Option ℤ) (z : ℤ) → IsMember a z → TookIn t z added → IsMember (wrapped_class t a added) (wrapped t z)
+WrappingIsSound =
+    (t : IntType) (a : Class) (added : Option ℤ) (z : ℤ) → IsMember a z → TookIn t z added →
+    IsMember (wrapped_class t a added) (wrapped t z)
 
 -- the modulus is at most 2 ^ 64, and a constant is a number of the type
 pub record IsOf (t : IntType) (c : Class) : Type 0 where
@@ -90,7 +96,8 @@ divisions c = if int_eq c.m (pos 0) then 65 else powers_within 64 (unsigned_abs 
 pub record DivisionsAreRanks : Type 0 where
   pub few : (h : Class) → divisions h ≤ 65
   pub stays : (t : IntType) (h n : Class) → IsOf t h → IsOf t n → divisions (widened h n) ≤ divisions h
-  pub falls : (t : IntType) (h n : Class) → IsOf t h → IsOf t n → is_within n h ≡ false → divisions (widened h n) < divisions h
+  pub falls : (t : IntType) (h n : Class) → IsOf t h → IsOf t n → is_within n h ≡ false →
+      divisions (widened h n) < divisions h
 
 -- the least member at or above x
 pub record IsNextUp (c : Class) (x y : ℤ) : Type 0 where

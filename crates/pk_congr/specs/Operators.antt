@@ -25,7 +25,8 @@ are_products_held a b = is_held (a.m *ℤ b.m) && is_held (a.m *ℤ b.r) && is_h
 
 abbrev pub class_product : Class → Class → Class
 class_product a b =
-    if are_products_held a b then class_if (int_gcd (int_gcd (a.m *ℤ b.m) (a.m *ℤ b.r)) (b.m *ℤ a.r)) (a.r *ℤ b.r) else every
+    if are_products_held a b then class_if (int_gcd (int_gcd (a.m *ℤ b.m) (a.m *ℤ b.r)) (b.m *ℤ a.r)) (a.r *ℤ b.r)
+    else every
 
 -- a product, unless it is 2 ^ 127 or more in absolute value
 abbrev pub product_of : ℤ → ℤ → Option ℤ
@@ -50,7 +51,8 @@ abbrev pub is_divided : Class → Class → Bool
 is_divided a b = int_eq b.m (pos 0) && not (int_eq b.r (pos 0)) && divides b.r a.m && divides b.r a.r
 
 abbrev pub class_quotient : Class → Class → Class
-class_quotient a b = if is_divided a b then class_if (pos (unsigned_abs a.m / unsigned_abs b.r)) (int_div a.r b.r) else every
+class_quotient a b =
+    if is_divided a b then class_if (pos (unsigned_abs a.m / unsigned_abs b.r)) (int_div a.r b.r) else every
 
 abbrev pub class_rest : Class → Class → Class
 class_rest a b = class_if (int_gcd (int_gcd a.m b.m) b.r) a.r

@@ -1,6 +1,6 @@
 // Common divisors.
 
-ghost use Rattle.std.specs.Prelude.{◌≡◌, ◌%◌, ◌==◌, pos, ◌-ℤ◌};
+ghost use Rattle.std.specs.Prelude.{◌≡◌, ◌%◌, ◌==◌};
 ghost use Rattle.pk_congr.specs.Classes.{gcd, divides};
 
 /// The greatest common divisor, by Euclid's algorithm.

@@ -42,7 +42,8 @@ EndsOperand (kind.Character v) = Unit {0}
 EndsOperand kind.StringLiteral = ⊥
 EndsOperand kind.Floating = ⊥
 EndsOperand kind.Directive = ⊥
-EndsOperand (kind.Punctuator p) = (p ≡ mark.CloseParenthesis) ⊎ (p ≡ mark.CloseBracket) ⊎ (p ≡ mark.Increment) ⊎ (p ≡ mark.Decrement)
+EndsOperand (kind.Punctuator p) =
+    (p ≡ mark.CloseParenthesis) ⊎ (p ≡ mark.CloseBracket) ⊎ (p ≡ mark.Increment) ⊎ (p ≡ mark.Decrement)
 EndsOperand kind.End = ⊥
 
 -- The construct is shown by a token of kind k, where the token before it is of the kind `before`, if there is one, and some brace is open
@@ -76,11 +77,15 @@ Shows before in_braces k construct.Arrow = k ≡ kind.Punctuator mark.Arrow
 Shows before in_braces k construct.StringLiteral = k ≡ kind.StringLiteral
 Shows before in_braces k construct.Floating = k ≡ kind.Floating
 Shows before in_braces k construct.Directive = k ≡ kind.Directive
-Shows before in_braces k construct.Pointer = ((k ≡ kind.Punctuator mark.Star) ⊎ (k ≡ kind.Punctuator mark.Ampersand)) × ¬ Is EndsOperand before
-Shows before in_braces k construct.Brackets = (k ≡ kind.Punctuator mark.CloseBracket) × Is (λ b. b ≡ kind.Punctuator mark.OpenBracket) before
-Shows before in_braces k construct.Arrays = (k ≡ kind.Punctuator mark.OpenBracket) × Is (λ b. b ≡ kind.Punctuator mark.CloseBracket) before
+Shows before in_braces k construct.Pointer =
+    ((k ≡ kind.Punctuator mark.Star) ⊎ (k ≡ kind.Punctuator mark.Ampersand)) × ¬ Is EndsOperand before
+Shows before in_braces k construct.Brackets =
+    (k ≡ kind.Punctuator mark.CloseBracket) × Is (λ b. b ≡ kind.Punctuator mark.OpenBracket) before
+Shows before in_braces k construct.Arrays =
+    (k ≡ kind.Punctuator mark.OpenBracket) × Is (λ b. b ≡ kind.Punctuator mark.CloseBracket) before
 Shows before in_braces k construct.Designator =
-    (k ≡ kind.Punctuator mark.OpenBracket) × Is (λ b. (b ≡ kind.Punctuator mark.OpenBrace) ⊎ (b ≡ kind.Punctuator mark.Comma)) before
+    (k ≡ kind.Punctuator mark.OpenBracket)
+    × Is (λ b. (b ≡ kind.Punctuator mark.OpenBrace) ⊎ (b ≡ kind.Punctuator mark.Comma)) before
 Shows before in_braces k construct.Later = ⊥
 
 -- the construct is shown by a token behind these
@@ -107,5 +112,6 @@ pub record FirstUnsupported (tokens : List Token) (c : Construct) (at : Pos) : T
 
 -- A text has one first construct at most, and then isn't supported.
 pub record FirstIsDetermined : Type 0 where
-  pub one : (tokens : List Token) (c d : Construct) (at there : Pos) → FirstUnsupported tokens c at → FirstUnsupported tokens d there → (c ≡ d) × (at ≡ there)
+  pub one : (tokens : List Token) (c d : Construct) (at there : Pos) → FirstUnsupported tokens c at →
+      FirstUnsupported tokens d there → (c ≡ d) × (at ≡ there)
   pub none : (tokens : List Token) (c : Construct) (at : Pos) → FirstUnsupported tokens c at → IsSupported tokens → ⊥

@@ -65,10 +65,14 @@ pub record AreUsualConversions (f : IntType → IntType → IntType) : Type 0 wh
   -- both have the same type
   pub same : (t : IntType) → IsPromoted t → f t t ≡ t
   -- both are signed or both unsigned: that of the greater rank
-  pub greater : (a b : IntType) → IsPromoted a → IsPromoted b → is_signed_of a ≡ is_signed_of b → rank_of a < rank_of b → f a b ≡ b
+  pub greater : (a b : IntType) → IsPromoted a → IsPromoted b → is_signed_of a ≡ is_signed_of b →
+      rank_of a < rank_of b → f a b ≡ b
   -- the unsigned one has a rank greater than or equal to the other's: that one
-  pub unsigned : (s u : IntType) → IsPromoted s → IsPromoted u → is_signed_of s ≡ true → is_signed_of u ≡ false → rank_of s ≤ rank_of u → f s u ≡ u
+  pub unsigned : (s u : IntType) → IsPromoted s → IsPromoted u → is_signed_of s ≡ true → is_signed_of u ≡ false →
+      rank_of s ≤ rank_of u → f s u ≡ u
   -- the signed one can represent all values of the unsigned one: that one
-  pub signed : (s u : IntType) → IsPromoted s → IsPromoted u → is_signed_of s ≡ true → is_signed_of u ≡ false → rank_of u < rank_of s → Represents s u → f s u ≡ s
+  pub signed : (s u : IntType) → IsPromoted s → IsPromoted u → is_signed_of s ≡ true → is_signed_of u ≡ false →
+      rank_of u < rank_of s → Represents s u → f s u ≡ s
   -- otherwise the unsigned type that corresponds to the signed one
-  pub neither : (s u : IntType) → IsPromoted s → IsPromoted u → is_signed_of s ≡ true → is_signed_of u ≡ false → rank_of u < rank_of s → (Represents s u → ⊥) → f s u ≡ unsigned_of s
+  pub neither : (s u : IntType) → IsPromoted s → IsPromoted u → is_signed_of s ≡ true → is_signed_of u ≡ false →
+      rank_of u < rank_of s → (Represents s u → ⊥) → f s u ≡ unsigned_of s

@@ -10,7 +10,9 @@ use Rattle.pk_ctypes.specs.Operators.{HasRight, bits_of, bitwise, complement, va
 
 -- An operator gives a number of its type.
 abbrev pub ValuesLieInTheirType : Type 0
-ValuesLieInTheirType = (op : Op) (t : IntType) (a b z : ℤ) → InType t a → HasRight op t b → value_of op t a b ≡ Ok z → InType (result_type op t) z
+ValuesLieInTheirType =
+    (op : Op) (t : IntType) (a b z : ℤ) → InType t a → HasRight op t b → value_of op t a b ≡ Ok z →
+    InType (result_type op t) z
 
 -- q is the algebraic quotient with its fraction discarded, and r the rest (C99 6.5.5 paragraph 6)
 pub record IsTruncatedDivision (a b q r : ℤ) : Type 0 where
@@ -22,7 +24,8 @@ pub record IsTruncatedDivision (a b q r : ℤ) : Type 0 where
 
 -- `/` and `%` give them, and no others are
 pub record DividesTowardZero : Type 0 where
-  pub holds : (t : IntType) (a b q r : ℤ) → InType t a → InType t b → value_of Div t a b ≡ Ok q → value_of Rem t a b ≡ Ok r → IsTruncatedDivision a b q r
+  pub holds : (t : IntType) (a b q r : ℤ) → InType t a → InType t b → value_of Div t a b ≡ Ok q →
+      value_of Rem t a b ≡ Ok r → IsTruncatedDivision a b q r
   pub only : (a b q r q' r' : ℤ) → IsTruncatedDivision a b q r → IsTruncatedDivision a b q' r' → (q ≡ q') × (r ≡ r')
 
 -- the operators whose value says whether something holds
@@ -37,7 +40,9 @@ pub data IsComparison : Op → Type 0 where
 
 -- C99 6.5.3.3 paragraph 5, 6.5.8 paragraph 6, 6.5.9 paragraph 3
 abbrev pub ComparisonsAreTruths : Type 0
-ComparisonsAreTruths = (op : Op) (t : IntType) (a b : ℤ) → IsComparison op → (value_of op t a b ≡ Ok (pos 0)) ⊎ (value_of op t a b ≡ Ok (pos 1))
+ComparisonsAreTruths =
+    (op : Op) (t : IntType) (a b : ℤ) → IsComparison op →
+    (value_of op t a b ≡ Ok (pos 0)) ⊎ (value_of op t a b ≡ Ok (pos 1))
 
 -- a count of bits from 0 to the width less 1
 pub record IsCount (t : IntType) (b : ℤ) : Type 0 where
@@ -57,10 +62,13 @@ pub data FaultsWith (t : IntType) (a b : ℤ) : Op → Fault → Type 0 where
   left_by_no_count : (IsCount t b → ⊥) → FaultsWith t a b Shl Shift
   right_by_no_count : (IsCount t b → ⊥) → FaultsWith t a b Shr Shift
   left_of_negative : is_signed_of t ≡ true → a <ℤ pos 0 → FaultsWith t a b Shl Shift
-  left_past : (n : ℕ) → is_signed_of t ≡ true → b ≡ pos n → (InType t (a *ℤ pos (2 ^ n)) → ⊥) → FaultsWith t a b Shl Shift
+  left_past : (n : ℕ) → is_signed_of t ≡ true → b ≡ pos n → (InType t (a *ℤ pos (2 ^ n)) → ⊥) →
+      FaultsWith t a b Shl Shift
 
 abbrev pub FaultsAreTheTable : Type 0
-FaultsAreTheTable = (op : Op) (t : IntType) (a b : ℤ) (f : Fault) → InType t a → HasRight op t b → (value_of op t a b ≡ Err f) ↔ FaultsWith t a b op f
+FaultsAreTheTable =
+    (op : Op) (t : IntType) (a b : ℤ) (f : Fault) → InType t a → HasRight op t b →
+    (value_of op t a b ≡ Err f) ↔ FaultsWith t a b op f
 
 -- Each bit of a bitwise result is made of the operands' bits at its place (C99 6.5.3.3 paragraph 4, 6.5.10 to 6.5.12).
 pub record BitsAreMade : Type 0 where

@@ -23,7 +23,8 @@ start_of_text = record { line = 1; column = 1 }
 
 -- the place after a byte: a newline ends its line
 abbrev pub after_byte : Pos → ℕ → Pos
-after_byte p b = if b == 10 then record { line = p.line + 1; column = 1 } else record { line = p.line; column = p.column + 1 }
+after_byte p b =
+    if b == 10 then record { line = p.line + 1; column = 1 } else record { line = p.line; column = p.column + 1 }
 
 -- the place after some bytes
 abbrev pub after_bytes : Pos → List ℕ → Pos

@@ -1,6 +1,6 @@
 // Operators on numbers of a type.
 
-ghost use Rattle.std.specs.Prelude.{◌≡◌, ℤ, ◌+ℤ◌, ◌-ℤ◌, ◌*ℤ◌, neg_ℤ, bit_and, bit_or, bit_xor};
+ghost use Rattle.std.specs.Prelude.{◌≡◌, ℤ, neg_ℤ, bit_and, bit_or, bit_xor};
 ghost use Rattle.pk_ctypes.specs.Types.{InType};
 ghost use Rattle.pk_ctypes.specs.Operators.{HasRight, is_count, is_below_zero, bitwise, complement, truth, fitted, value_of, result_type};
 

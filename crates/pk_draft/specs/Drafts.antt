@@ -63,7 +63,9 @@ in_scope k d = standing (record { at = d.here.at; path = d.here.path; scope = k 
 
 -- the name of a variable comes into scope
 abbrev pub with_name : {V : Type 0} → ℕ → DraftOf V → DraftOf V
-with_name x d = in_scope (length d.scopes + 1) (record d { scopes = d.scopes ++ record { variable = x; outer = d.here.scope } ∷ [] })
+with_name x d =
+    in_scope (length d.scopes + 1)
+    (record d { scopes = d.scopes ++ record { variable = x; outer = d.here.scope } ∷ [] })
 
 -- names in scope inside a block alone
 abbrev pub scoped : {V : Type 0} → (DraftOf V → DraftOf V) → DraftOf V → DraftOf V
@@ -88,7 +90,8 @@ with_variable x d = record d { variables = d.variables + 1; made = slice_set d.m
 
 -- a variable of a path that holds 0 when a run begins
 abbrev pub inner : Option (List ℕ) → IntType → Option ℕ → (path : ℕ) → VariableOf
-inner name t n k = record { name = name; kind = record { int_type = t; length = n }; path = Some k; start = number_start [] }
+inner name t n k =
+    record { name = name; kind = record { int_type = t; length = n }; path = Some k; start = number_start [] }
 
 -- a new variable is object i of the function at hand
 abbrev pub with_object : {V : Type 0} → ℕ → VariableOf → DraftOf V → DraftOf V
@@ -166,7 +169,8 @@ region_of k d = slice_index_or d.regions k no_region
 
 -- the part of a path is made from here on, of whose n objects none is a variable yet
 abbrev pub begun_at : {V : Type 0} → Region → Label → (n : ℕ) → DraftOf V → DraftOf V
-begun_at r l n d = record d { point = r.at; here = l; points = r.points; variables = r.variables; objects = replicate n 0 }
+begun_at r l n d =
+    record d { point = r.at; here = l; points = r.points; variables = r.variables; objects = replicate n 0 }
 
 abbrev pub entry_point : ℕ
 entry_point = 1
@@ -178,7 +182,8 @@ file_scopes (suc n) = file_scopes n ++ record { variable = n; outer = n } ∷ []
 
 -- the regions of so many paths where that of the entry alone is known, behind so many objects of the file
 abbrev pub first_regions : (objects paths : ℕ) → List Region
-first_regions n k = slice_set (replicate k no_region) 0 (record { at = entry_point; points = entry_point + 1; variables = n })
+first_regions n k =
+    slice_set (replicate k no_region) 0 (record { at = entry_point; points = entry_point + 1; variables = n })
 
 -- Before the first part: nowhere, the entry, and the file's objects.
 abbrev pub first_draft : {V : Type 0} → Names V → (objects : List VariableOf) → (paths : ℕ) → Size → DraftOf V

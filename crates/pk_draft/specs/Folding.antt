@@ -65,7 +65,8 @@ unary_tree op s t e = folded (result_type op t) (unary op s t e) (option_map (λ
 
 abbrev pub binary_tree : {V : Type 0} → Op → Site → IntType → TreeOf V → TreeOf V → TreeOf V
 binary_tree op s t a b =
-    folded (result_type op t) (binary op s t a b) (option_and_then (λ z. option_map (λ w. value_of op t z w) (number_in b)) (number_in a))
+    folded (result_type op t) (binary op s t a b)
+    (option_and_then (λ z. option_map (λ w. value_of op t z w) (number_in b)) (number_in a))
 
 -- of operands that have the types u and v
 abbrev pub operated_tree : {V : Type 0} → Op → Site → IntType → (u v : IntType) → TreeOf V → TreeOf V → TreeOf V

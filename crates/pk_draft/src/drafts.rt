@@ -212,7 +212,8 @@ impl Draft {
 
     /// A new variable is an object of the function at hand.
     pub fn object_is(&mut self, object: usize, variable: Variable) -> Result<(), AllocError>
-        ensures { OnOk result (drafted self.new ≡ draft.with_object object (variable_view variable) (drafted self.old)) }
+        ensures { OnOk result
+            (drafted self.new ≡ draft.with_object object (variable_view variable) (drafted self.old)) }
     {
         if object < self.objects.len() {
             self.objects[object] = self.variables;
@@ -276,7 +277,8 @@ impl Draft {
         int_type: IntType,
         tree: Tree,
     ) -> Result<Tree, AllocError>
-        ensures { IfOk result (λ e. (tree_view e, drafted self.new) ≡ draft.stored int_type (tree_view tree) (drafted self.old)) }
+        ensures { IfOk result
+            (λ e. (tree_view e, drafted self.new) ≡ draft.stored int_type (tree_view tree) (drafted self.old)) }
     {
         let number = self.variables;
         self.temporary(alloc, int_type)?;
@@ -309,7 +311,8 @@ impl Draft {
         paths: usize,
         size: Size,
     ) -> Result<Draft, AllocError>
-        ensures { IfOk result (λ d. drafted d ≡ draft.first_draft draft.by_number (map variable_view objects.items) paths size) }
+        ensures { IfOk result
+            (λ d. drafted d ≡ draft.first_draft draft.by_number (map variable_view objects.items) paths size) }
     {
         let count = objects.len();
         let points = size.points.checked_add(ENTRY + 1).ok_or(AllocError)?;
@@ -468,7 +471,8 @@ fn with_space(
     variables: Vec<Variable>,
     count: usize,
 ) -> Result<Vec<Variable>, AllocError>
-    ensures { IfOk result (λ vs. map variable_view vs.items ≡ map variable_view variables.items ++ replicate count no_variable) }
+    ensures { IfOk result
+        (λ vs. map variable_view vs.items ≡ map variable_view variables.items ++ replicate count no_variable) }
 {
     let mut variables = variables;
     for _ in 0..count {

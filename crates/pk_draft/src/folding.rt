@@ -136,7 +136,8 @@ pub fn operated_tree(
     left: Box<Tree>,
     right: Box<Tree>,
 ) -> Result<Tree, AllocError>
-    ensures { IfOk result (λ e. tree_view e ≡ folding.operated_tree op site int_type u v (tree_view left.value) (tree_view right.value)) }
+    ensures { IfOk result (λ e.
+        tree_view e ≡ folding.operated_tree op site int_type u v (tree_view left.value) (tree_view right.value)) }
 {
     let a = boxed_conversion(alloc, u, int_type, left);
     let b = boxed_conversion(alloc, v, right_type(op, v, int_type), right);
@@ -165,7 +166,8 @@ pub fn equals(
     left: Box<Tree>,
     number: &i128,
 ) -> Result<Tree, AllocError>
-    ensures { IfOk result (λ e. tree_view e ≡ folding.binary_tree Eq site int_type (tree_view left.value) (tree.constant int_type number.now)) }
+    ensures { IfOk result (λ e. tree_view e
+        ≡ folding.binary_tree Eq site int_type (tree_view left.value) (tree.constant int_type number.now)) }
 {
     match number_in(&left) {
         Some(value) => Ok(truth(value == *number)),

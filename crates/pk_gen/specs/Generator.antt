@@ -20,7 +20,8 @@ block_line kind count =
     if kind == 0 then loop_head count ++ codes "a[i]=x;\n" else
     if kind == 1 then codes "if(x<" ++ decimal count ++ codes ")x=x+1;else x=0;\n" else
     if kind == 2 then loop_head count ++ codes "if(i%2==0)x=i;\n" else
-    codes "if(__VERIFIER_nondet_int())while(x<" ++ decimal count ++ codes ")x=x+1;else while(i<" ++ decimal count ++ codes ")i=i+1;\n"
+    codes "if(__VERIFIER_nondet_int())while(x<" ++ decimal count ++ codes ")x=x+1;else while(i<" ++ decimal count
+    ++ codes ")i=i+1;\n"
 
 -- the block made from a state: its kind is drawn first, then its count, from 1 to 16
 abbrev pub block : ℕ → List ℕ

@@ -1,8 +1,8 @@
 // The text of a made program.
 
-ghost use Rattle.std.specs.Prelude.{◌≡◌, ◌+◌, ◌<◌, ◌≤◌, ◌++◌, ℕ, OnOk, IfOk, codes, string_bytes};
+ghost use Rattle.std.specs.Prelude.{◌≡◌, ◌+◌, ◌<◌, ◌++◌, OnOk, IfOk};
 ghost use Rattle.std.specs.Fmt.{decimal};
-ghost use Rattle.pk_gen.specs.Generator.{next_state, drawn as drawn_at, block_line, block, blocks as blocks_of, opening, closing, generated};
+ghost use Rattle.pk_gen.specs.Generator.{next_state, drawn as drawn_at, block_line, block, blocks as blocks_of, generated};
 
 use std::alloc::{AllocError, Global};
 

@@ -157,7 +157,7 @@ reads_parameters (d ∷ more) q h ps p ms t rest takes is close some =
       then = m.then ∙ ap (λ ps. taken 0 (parameters_closed h ps)) (append_assoc ps (p ∷ []) (d ∷ more));
     }
 
-step_no_parameters : (h : Head) (t : Token) → t.kind ≡ kind.Punctuator mark.CloseParenthesis → step (parameters_open h) t ≡ taken 0 (parameters_closed h [])
+pub step_no_parameters : (h : Head) (t : Token) → t.kind ≡ kind.Punctuator mark.CloseParenthesis → step (parameters_open h) t ≡ taken 0 (parameters_closed h [])
 step_no_parameters h t e = rw e
 
 step_void_close : (h : Head) (at : Pos) (t : Token) → t.kind ≡ kind.Punctuator mark.CloseParenthesis →

@@ -111,10 +111,6 @@ pub storage_is : (w : StorageWord) → storage_word (kind.Keyword (storage_keywo
 storage_is storage.Static = refl
 storage_is storage.Extern = refl
 
-pub specifier_no_storage : (w : SpecifierWord) → storage_word (kind.Keyword (specifier_keyword w)) ≡ None
-specifier_no_storage word.Void = refl
-specifier_no_storage _ = refl
-
 pub specifier_no_else : (w : SpecifierWord) → is_fixed fixed.Else (kind.Keyword (specifier_keyword w)) ≡ false
 specifier_no_else word.Void = refl
 specifier_no_else _ = refl

@@ -43,9 +43,6 @@ pub record BeginsStatement (k : Kind) : Type 0 where
   pub no_close_brace : is_fixed fixed.CloseBrace k ≡ false
   pub no_else : is_fixed fixed.Else k ≡ false
 
-abbrev first_keyword : {n : ℕ} {ts : List Marked} {P : Token → Type 0} (k : Keyword) (h : One P n ts) → h.token.kind ≡ kind.Keyword k → BeginsStatement (kind.Keyword k) → First BeginsStatement ts
-first_keyword k h e b = first_one h (kind.Keyword k) e b
-
 pub first_statement : (s : StatementTree) (n : ℕ) (ms : List Marked) → statement s n ms → First BeginsStatement ms
 unfolding statement
 first_statement (block at items close) n ms h = first_front h (first_front h.first (first_one h.first.first _ h.first.first.holds.0 (record { no_specifier = refl; no_close_brace = refl; no_else = refl })))

@@ -155,8 +155,11 @@ abbrev mutual
   Fits level (unary o at e) = (level ≤ unary_expression) × Fits cast_expression e
   Fits level (cast at specs e) = (level ≤ cast_expression) × Fits cast_expression e
   Fits level (binary o at a b) = (level ≤ strength o) × Fits (strength o) a × Fits (strength o + 1) b
-  Fits level (conditional at c a b) = (level ≤ conditional_expression) × Fits weakest_operator c × Fits any_expression a × Fits conditional_expression b
-  Fits level (assignment o at a b) = (level ≤ assignment_expression) × Fits unary_expression a × Fits assignment_expression b
+  Fits level (conditional at c a b) =
+      (level ≤ conditional_expression) × Fits weakest_operator c × Fits any_expression a
+      × Fits conditional_expression b
+  Fits level (assignment o at a b) =
+      (level ≤ assignment_expression) × Fits unary_expression a × Fits assignment_expression b
   Fits level (comma at a b) = (level ≤ any_expression) × Fits any_expression a × Fits assignment_expression b
 
   -- arguments, and the items of a braced list
@@ -230,17 +233,22 @@ unfoldable mutual
   -- how an expression is spelled, whatever its operators' strengths
   pub spelled : ExpressionTree → Language
   spelled (name id) = Identified id
-  spelled (call id es) = Identified id ⊙ Inside (punctuator mark.OpenParenthesis ⊙ spelled_list es) ⊙ punctuator mark.CloseParenthesis
-  spelled (index id at e) = Identified id ⊙ Inside (punctuator_at mark.OpenBracket at ⊙ spelled e) ⊙ punctuator mark.CloseBracket
+  spelled (call id es) =
+      Identified id ⊙ Inside (punctuator mark.OpenParenthesis ⊙ spelled_list es) ⊙ punctuator mark.CloseParenthesis
+  spelled (index id at e) =
+      Identified id ⊙ Inside (punctuator_at mark.OpenBracket at ⊙ spelled e) ⊙ punctuator mark.CloseBracket
   spelled (constant at t v) = At (kind.Constant t v) at
   spelled (character at v) = At (kind.Character v) at
-  spelled (parenthesized at e) = Inside (punctuator_at mark.OpenParenthesis at ⊙ spelled e) ⊙ punctuator mark.CloseParenthesis
+  spelled (parenthesized at e) =
+      Inside (punctuator_at mark.OpenParenthesis at ⊙ spelled e) ⊙ punctuator mark.CloseParenthesis
   spelled (postfix o at e) = spelled e ⊙ Past (postfixes_in e + 1) (punctuator_at (step_sign o) at)
   spelled (prefix o at e) = Inside (punctuator_at (step_sign o) at ⊙ spelled e)
   spelled (unary o at e) = Inside (punctuator_at (unary_sign o) at ⊙ spelled e)
-  spelled (cast at specs e) = Inside (punctuator_at mark.OpenParenthesis at ⊙ specifiers specs ⊙ punctuator mark.CloseParenthesis ⊙ spelled e)
+  spelled (cast at specs e) =
+      Inside (punctuator_at mark.OpenParenthesis at ⊙ specifiers specs ⊙ punctuator mark.CloseParenthesis ⊙ spelled e)
   spelled (binary o at a b) = spelled a ⊙ Past (operators_in a + 1) (punctuator_at (binary_sign o) at ⊙ spelled b)
-  spelled (conditional at c a b) = spelled c ⊙ Inside (punctuator_at mark.Question at ⊙ spelled a) ⊙ Inside (punctuator mark.Colon ⊙ spelled b)
+  spelled (conditional at c a b) =
+      spelled c ⊙ Inside (punctuator_at mark.Question at ⊙ spelled a) ⊙ Inside (punctuator mark.Colon ⊙ spelled b)
   spelled (assignment o at a b) = spelled a ⊙ Inside (punctuator_at (assignment_sign o) at ⊙ spelled b)
   spelled (comma at a b) = spelled a ⊙ Past (commas_in a + 1) (punctuator_at mark.Comma at ⊙ spelled b)
 
@@ -271,13 +279,15 @@ optional level (Some e) = Expression level e
 
 abbrev pub array_length : Option ExpressionTree → Language
 array_length None = Nothing
-array_length (Some e) = Inside (punctuator mark.OpenBracket ⊙ Expression conditional_expression e) ⊙ punctuator mark.CloseBracket
+array_length (Some e) =
+    Inside (punctuator mark.OpenBracket ⊙ Expression conditional_expression e) ⊙ punctuator mark.CloseBracket
 
 abbrev pub initializer : Option InitializerTree → Language
 initializer None n ts = Nothing n ts
 initializer (Some (single e)) n ts = (punctuator mark.Assign ⊙ Expression assignment_expression e) n ts
 initializer (Some (braced at e es)) n ts =
-    (punctuator mark.Assign ⊙ punctuator_at mark.OpenBrace at ⊙ Items e es ⊙ Optional (punctuator mark.Comma) ⊙ punctuator mark.CloseBrace) n ts
+    (punctuator mark.Assign ⊙ punctuator_at mark.OpenBrace at ⊙ Items e es ⊙ Optional (punctuator mark.Comma)
+    ⊙ punctuator mark.CloseBrace) n ts
 
 abbrev pub declarator : DeclaratorTree → Language
 declarator d = Identified d.name ⊙ array_length d.length ⊙ initializer d.initializer
@@ -324,21 +334,27 @@ for_start (expression e) = optional any_expression e ⊙ punctuator mark.Semicol
 
 unfoldable mutual
   pub statement : StatementTree → Language
-  statement (block at items close) = Inside (punctuator_at mark.OpenBrace at ⊙ block_items items) ⊙ punctuator_at mark.CloseBrace close
+  statement (block at items close) =
+      Inside (punctuator_at mark.OpenBrace at ⊙ block_items items) ⊙ punctuator_at mark.CloseBrace close
   statement (empty at) = Inside (punctuator_at mark.Semicolon at)
   statement (expression_statement e) = Inside (Expression any_expression e) ⊙ punctuator mark.Semicolon
   statement (label id s) = Inside (Identified id ⊙ punctuator mark.Colon ⊙ statement s)
-  statement (case at e s) = Inside (keyword_at key.Case at ⊙ Expression conditional_expression e ⊙ punctuator mark.Colon ⊙ statement s)
+  statement (case at e s) =
+      Inside (keyword_at key.Case at ⊙ Expression conditional_expression e ⊙ punctuator mark.Colon ⊙ statement s)
   statement (default at s) = Inside (keyword_at key.Default at ⊙ punctuator mark.Colon ⊙ statement s)
   statement (if_then at e s) = Inside (keyword_at key.If at ⊙ test e ⊙ statement s)
   -- an else goes with the nearest if, and its branch counts as a statement besides the statement in it
-  statement (if_else at e s t) = Inside (keyword_at key.If at ⊙ test e ⊙ Where (¬ OpenEnd s) (statement s) ⊙ Inside (keyword key.Else ⊙ statement t))
+  statement (if_else at e s t) =
+      Inside (keyword_at key.If at ⊙ test e ⊙ Where (¬ OpenEnd s) (statement s)
+      ⊙ Inside (keyword key.Else ⊙ statement t))
   statement (switch at e s) = Inside (keyword_at key.Switch at ⊙ test e ⊙ statement s)
   statement (while at e s) = Inside (keyword_at key.While at ⊙ test e ⊙ statement s)
-  statement (do_while at s e) = Inside (keyword_at key.Do at ⊙ statement s ⊙ keyword key.While ⊙ test e) ⊙ punctuator mark.Semicolon
+  statement (do_while at s e) =
+      Inside (keyword_at key.Do at ⊙ statement s ⊙ keyword key.While ⊙ test e) ⊙ punctuator mark.Semicolon
   statement (for_loop at start second third s) =
       Inside (keyword_at key.For at
-      ⊙ Inside (punctuator mark.OpenParenthesis ⊙ for_start start ⊙ optional any_expression second ⊙ punctuator mark.Semicolon ⊙ optional any_expression third)
+      ⊙ Inside (punctuator mark.OpenParenthesis ⊙ for_start start ⊙ optional any_expression second
+      ⊙ punctuator mark.Semicolon ⊙ optional any_expression third)
       ⊙ punctuator mark.CloseParenthesis ⊙ statement s)
   statement (goto at id) = Inside (keyword_at key.Goto at ⊙ Identified id) ⊙ punctuator mark.Semicolon
   statement (continue at) = Inside (keyword_at key.Continue at) ⊙ punctuator mark.Semicolon
@@ -386,7 +402,8 @@ function_end (Some b) = statement (block b.opened b.items b.closed)
 abbrev pub external : ExternalTree → Language
 external (function f) =
     stored f.storage ⊙ specifiers f.specifiers ⊙ Identified f.name
-    ⊙ Inside (punctuator mark.OpenParenthesis ⊙ parameters f.parameters) ⊙ punctuator mark.CloseParenthesis ⊙ function_end f.body
+    ⊙ Inside (punctuator mark.OpenParenthesis ⊙ parameters f.parameters) ⊙ punctuator mark.CloseParenthesis
+    ⊙ function_end f.body
 external (objects s d) = stored s ⊙ declared d
 
 abbrev pub externals : List ExternalTree → Language

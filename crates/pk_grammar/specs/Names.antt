@@ -28,4 +28,5 @@ names_among (t ∷ ts) = name_of t.kind (identifier_of t) ++ names_among ts
 
 -- The names in trees are the names among the tokens of their text, in its order.
 abbrev pub NamesAreTokens : Type 0
-NamesAreTokens = (tokens : List Token) (trees : List ExternalTree) → IsParsed tokens trees → names_of trees ≡ names_among tokens
+NamesAreTokens =
+    (tokens : List Token) (trees : List ExternalTree) → IsParsed tokens trees → names_of trees ≡ names_among tokens

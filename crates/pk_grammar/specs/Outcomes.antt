@@ -41,7 +41,9 @@ pub record SomeTextBegins (front : List Marked) : Type 0 where
 
 -- no text begins with these tokens
 abbrev pub NoTextBegins : List Token → Type 0
-NoTextBegins front = (trees : List ExternalTree) (marked : List Marked) (more : List Token) → text trees 0 marked → unmarked marked ≡ front ++ more → ⊥
+NoTextBegins front =
+    (trees : List ExternalTree) (marked : List Marked) (more : List Token) → text trees 0 marked →
+    unmarked marked ≡ front ++ more → ⊥
 
 -- At this place stands the first token such that no text begins with the tokens up to it. Some text begins with those before it,
 -- none of which is nested deeper than the limit.
@@ -78,5 +80,6 @@ pub record GoesOnFrom (front marked : List Marked) : Type 0 where
 -- Where two texts begin with the same tokens, these are nested the same in both.
 abbrev pub NestingsAreDetermined : Type 0
 NestingsAreDetermined =
-    (u v : List ExternalTree) (front : List Marked) (next : Marked) (more marked : List Marked) (rest : List Token) → text u 0 (front ++ next ∷ more) → text v 0 marked →
+    (u v : List ExternalTree) (front : List Marked) (next : Marked) (more marked : List Marked) (rest : List Token) →
+    text u 0 (front ++ next ∷ more) → text v 0 marked →
     unmarked marked ≡ unmarked front ++ rest → GoesOnFrom front marked

@@ -4,3 +4,4 @@ mod MarkLemmas
 mod FirstLemmas
 mod ScopeLemmas
 mod VisibleLemmas
+pub mod ChosenLemmas

@@ -49,7 +49,8 @@ pub record GraphOf : Type 0 where
   pub points : List PointOf
 
 abbrev pub no_variable : VariableOf
-no_variable = record { name = None; kind = record { int_type = Int; length = None }; path = None; start = number_start [] }
+no_variable =
+    record { name = None; kind = record { int_type = Int; length = None }; path = None; start = number_start [] }
 
 abbrev pub variable_at : GraphOf → ℕ → VariableOf
 variable_at g x = slice_index_or g.variables x no_variable
@@ -73,7 +74,13 @@ start_view starts.Any = any_start
 start_view (starts.Numbers ns) = number_start ns.items
 
 unfoldable pub variable_view : Variable → VariableOf
-variable_view x = record { name = x.name; kind = record { int_type = x.int_type; length = x.length }; path = x.path; start = start_view x.start }
+variable_view x =
+    record {
+      name = x.name;
+      kind = record { int_type = x.int_type; length = x.length };
+      path = x.path;
+      start = start_view x.start;
+    }
 
 unfoldable pub edge_view : Edge → EdgeOf
 edge_view e = record { instr = instr_view e.instr; to = e.to }

@@ -13,6 +13,12 @@ pub record Kind : Type 0 where
   pub int_type : IntType
   pub length : Option ℕ
 
+abbrev pub scalar_kind : IntType → Kind
+scalar_kind t = record { int_type = t; length = None }
+
+abbrev pub array_kind : IntType → ℕ → Kind
+array_kind t n = record { int_type = t; length = Some n }
+
 abbrev pub Kinds : Type 0
 Kinds = List Kind
 

@@ -98,4 +98,5 @@ effect m ch (Store a at b i e) s =
     with_value (tree_value m i s) (λ z. with_value (tree_value m e s) (λ v. with_value (indexed at a.length z) (λ k.
     To (m.with_numbers a.variable (slice_set (m.numbers a.variable s) k v) s))))
 effect m ch (Guard e b) s = with_value (tree_value m e s) (λ v. passed (is_true v) b s)
-effect m ch (Check at e) s = with_value (tree_value m e s) (λ v. if is_true v then To s else Faulted (failure faults.Assert at))
+effect m ch (Check at e) s =
+    with_value (tree_value m e s) (λ v. if is_true v then To s else Faulted (failure faults.Assert at))

@@ -3,7 +3,7 @@
 ghost use Rattle.std.specs.Prelude.{◌≡◌, ◌&&◌, IfOk, map, length};
 ghost use Rattle.pk_graph.specs.Views.{tree_view, instr_view};
 ghost use Rattle.pk_graph.specs.Graphs.{edge_view, variable_view};
-ghost use Rattle.pk_graph.specs.OctagonVariables.{occurs, is_asked_by, is_asked_on, is_asked_in, AreMarked, AreMarks, is_named_scalar, octagon_variables_of};
+ghost use Rattle.pk_graph.specs.OctagonVariables.{occurs, is_asked_by, is_asked_on, AreMarked, AreMarks, is_named_scalar, octagon_variables_of};
 ghost use Rattle.pk_graph.specs.Shown.{graph_view};
 
 use crate::graphs::{Edge, Graph, Variable};
@@ -78,7 +78,8 @@ fn is_wanted(variable: &Variable, is_asked: bool) -> bool
 
 // For each variable whether a guard, an assertion or an index has it.
 fn marked(alloc: Global, graph: &Graph) -> Result<Vec<bool>, AllocError>
-    ensures { IfOk result (λ marks. AreMarks (graph_view graph.now).points (length (graph_view graph.now).variables) marks.items) }
+    ensures { IfOk result
+        (λ marks. AreMarks (graph_view graph.now).points (length (graph_view graph.now).variables) marks.items) }
 {
     let mut marks = vec![in alloc; false; graph.variables().len()]?;
     for point in 0..graph.points() {

@@ -46,7 +46,8 @@ fn add<'a>(
     site: Site,
     operation: Operation<'a>,
 ) -> Result<(), AllocError>
-    ensures { OnOk result (access_views all.new.items ≡ access_views all.old.items ++ access point site (operation_view operation.entry) ∷ []) }
+    ensures { OnOk result (access_views all.new.items
+        ≡ access_views all.old.items ++ access point site (operation_view operation.entry) ∷ []) }
 {
     all.push(Access {
         point,
@@ -64,7 +65,8 @@ fn add_if_signed<'a>(
     int_type: IntType,
     operation: Operation<'a>,
 ) -> Result<(), AllocError>
-    ensures { OnOk result (access_views all.new.items ≡ access_views all.old.items ++ if_signed int_type (access point site (operation_view operation.entry))) }
+    ensures { OnOk result (access_views all.new.items
+        ≡ access_views all.old.items ++ if_signed int_type (access point site (operation_view operation.entry))) }
 {
     if is_signed(int_type) {
         add(all, point, site, operation)?;
@@ -82,7 +84,8 @@ fn add_unary<'a>(
     int_type: IntType,
     operand: &'a Tree,
 ) -> Result<(), AllocError>
-    ensures { OnOk result (access_views all.new.items ≡ access_views all.old.items ++ of_unary point operator site int_type (tree_view operand.now)) }
+    ensures { OnOk result (access_views all.new.items
+        ≡ access_views all.old.items ++ of_unary point operator site int_type (tree_view operand.now)) }
 {
     if operator == Op::Neg {
         add_if_signed(
@@ -107,7 +110,9 @@ fn add_binary<'a>(
     left: &'a Tree,
     right: &'a Tree,
 ) -> Result<(), AllocError>
-    ensures { OnOk result (access_views all.new.items ≡ access_views all.old.items ++ of_binary point operator site int_type (tree_view left.now) (tree_view right.now)) }
+    ensures { OnOk result (access_views all.new.items
+        ≡ access_views all.old.items
+        ++ of_binary point operator site int_type (tree_view left.now) (tree_view right.now)) }
 {
     let result = Operation::Result(operator, int_type, left, right);
     match operator {
@@ -129,7 +134,8 @@ fn add_binary<'a>(
 // Those of a tree.
 #[tactic(auto, unfolding(crate::specs::Views::tree_view, crate::specs::Accesses::of_tree))]
 fn add_tree<'a>(all: &mut Vec<Access<'a>>, point: usize, tree: &'a Tree) -> Result<(), AllocError>
-    ensures { OnOk result (access_views all.new.items ≡ access_views all.old.items ++ of_tree point (tree_view tree.now)) }
+    ensures { OnOk result
+        (access_views all.new.items ≡ access_views all.old.items ++ of_tree point (tree_view tree.now)) }
 {
     match tree {
         Tree::Constant(_, _) => Ok(()),
@@ -163,7 +169,8 @@ fn add_index<'a>(
     length: usize,
     index: &'a Tree,
 ) -> Result<(), AllocError>
-    ensures { OnOk result (access_views all.new.items ≡ access_views all.old.items ++ of_index point is_access site length (tree_view index.now)) }
+    ensures { OnOk result (access_views all.new.items
+        ≡ access_views all.old.items ++ of_index point is_access site length (tree_view index.now)) }
 {
     if is_access {
         add(all, point, site, Operation::Index(length, index))?;
@@ -178,7 +185,8 @@ fn add_instr<'a>(
     point: usize,
     instr: &'a Instr,
 ) -> Result<(), AllocError>
-    ensures { OnOk result (access_views all.new.items ≡ access_views all.old.items ++ of_instr point (instr_view instr.now)) }
+    ensures { OnOk result
+        (access_views all.new.items ≡ access_views all.old.items ++ of_instr point (instr_view instr.now)) }
 {
     match instr {
         Instr::Skip => Ok(()),
@@ -221,7 +229,8 @@ fn add_edges<'a>(
     point: usize,
     edges: &'a [Edge],
 ) -> Result<(), AllocError>
-    ensures { OnOk result (access_views all.new.items ≡ access_views all.old.items ++ of_edges point (map edge_view edges.now)) }
+    ensures { OnOk result
+        (access_views all.new.items ≡ access_views all.old.items ++ of_edges point (map edge_view edges.now)) }
 {
     match edges {
         [] => Ok(()),

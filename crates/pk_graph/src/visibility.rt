@@ -1,7 +1,7 @@
 // What is visible at a point.
 
 ghost use Rattle.std.specs.Prelude.{◌≡◌, ◌<◌, IfOk, OnOk, length, map, option_map};
-ghost use Rattle.pk_graph.specs.Graphs.{point_at, variable_view};
+ghost use Rattle.pk_graph.specs.Graphs.{variable_view};
 ghost use Rattle.pk_graph.specs.Visible.{no_name, with_name, is_new, name_at, not_hidden, visible_at};
 ghost use Rattle.pk_graph.specs.Shown.{graph_view};
 ghost use Rattle.pk_graph.specs.Named.{names_view};
@@ -37,7 +37,8 @@ impl<'a> Named<'a> {
     }
 
     fn add(&mut self, name: Option<&'a Name>) -> Result<(), AllocError>
-        ensures { OnOk result (names_view self.new ≡ with_name (option_map (λ n. n.now) name.entry) (names_view self.old)) }
+        ensures { OnOk result
+            (names_view self.new ≡ with_name (option_map (λ n. n.now) name.entry) (names_view self.old)) }
     {
         if let Some(name) = name {
             let _ = self.names.insert(name.as_str().as_bytes())?;

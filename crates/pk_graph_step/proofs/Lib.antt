@@ -1,5 +1,4 @@
 pub mod TypedLemmas
 pub mod KeptLemmas
 pub mod StoreLemmas
-pub mod ChosenLemmas
 pub mod EdgeLemmas

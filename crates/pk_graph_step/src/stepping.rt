@@ -4,7 +4,7 @@ ghost use Rattle.std.specs.Prelude.{◌≡◌, ◌<◌, ◌∷◌, [], true, IfO
 ghost use Rattle.pk_ctypes.specs.Types.{is_in_type};
 ghost use Rattle.pk_graph.specs.Trees as trees;
 ghost use Rattle.pk_graph.specs.Views.{tree_view, array_view, instr_view};
-ghost use Rattle.pk_graph.specs.Kinds.{IsScalar, IsArray, IsTyped, IsTypedInstr, count_at};
+ghost use Rattle.pk_graph.specs.Kinds.{IsScalar, IsArray, IsTyped, IsTypedInstr};
 ghost use Rattle.pk_graph.specs.Steps.{is_true, all_in_type, are_any, effect};
 ghost use Rattle.pk_graph.specs.Graphs.{edge_view, kinds_of, point_at};
 ghost use Rattle.pk_graph.specs.Shown.{graph_view};
@@ -69,7 +69,8 @@ fn set(
     requires store { IsStore (kinds_of (graph_view graph.now)) store.now }
     requires scalar { IsScalar (kinds_of (graph_view graph.now)) variable }
     requires typed { IsTyped (kinds_of (graph_view graph.now)) (tree_view tree.now) }
-    ensures { IfOk result (λ r. r ≡ answer_of to (effect storing [] (trees.Set variable (tree_view tree.now)) store.now)) }
+    ensures { IfOk result
+        (λ r. r ≡ answer_of to (effect storing [] (trees.Set variable (tree_view tree.now)) store.now)) }
 {
     match value(graph, store, tree) {
         Ok(number) => written_one(alloc, store, variable, &number, to),
@@ -117,7 +118,8 @@ fn havoc(
 ) -> Result<GraphStep, AllocError>
     requires store { IsStore (kinds_of (graph_view graph.now)) store.now }
     requires there { variable < length (kinds_of (graph_view graph.now)) }
-    ensures { IfOk result (λ r. r ≡ answer_of to (effect storing chosen.now (trees.Havoc variable int_type count) store.now)) }
+    ensures { IfOk result
+        (λ r. r ≡ answer_of to (effect storing chosen.now (trees.Havoc variable int_type count) store.now)) }
 {
     let _ = graph;
     if are_chosen(int_type, count, chosen) {
@@ -158,7 +160,8 @@ fn load(
     requires scalar { IsScalar (kinds_of (graph_view graph.now)) variable }
     requires array { IsArray (kinds_of (graph_view graph.now)) (array_view array) }
     requires typed { IsTyped (kinds_of (graph_view graph.now)) (tree_view index.now) }
-    ensures { IfOk result (λ r. r ≡ answer_of to (effect storing [] (trees.Load variable (array_view array) site true (tree_view index.now)) store.now)) }
+    ensures { IfOk result (λ r. r ≡ answer_of to
+        (effect storing [] (trees.Load variable (array_view array) site true (tree_view index.now)) store.now)) }
 {
     match value(graph, store, index) {
         Ok(number) => match place_of(site, array.length, &number) {
@@ -183,7 +186,8 @@ fn put(
 ) -> Result<GraphStep, AllocError>
     requires variable { array.variable < length store.now }
     requires place { place < length (numbers_of store.now array.variable) }
-    ensures { IfOk result (λ r. r ≡ answers.To to (slice_set store.now array.variable (slice_set (numbers_of store.now array.variable) place number.now))) }
+    ensures { IfOk result (λ r. r ≡ answers.To to
+        (slice_set store.now array.variable (slice_set (numbers_of store.now array.variable) place number.now))) }
 {
     let mut numbers = Vec::from_slice(alloc, store.numbers(array.variable))?;
     numbers[place] = *number;
@@ -204,7 +208,9 @@ fn store_in(
     requires array { IsArray (kinds_of (graph_view graph.now)) (array_view array) }
     requires index { IsTyped (kinds_of (graph_view graph.now)) (tree_view index.now) }
     requires typed { IsTyped (kinds_of (graph_view graph.now)) (tree_view tree.now) }
-    ensures { IfOk result (λ r. r ≡ answer_of to (effect storing [] (trees.Store (array_view array) site true (tree_view index.now) (tree_view tree.now)) store.now)) }
+    ensures { IfOk result
+        (λ r. r ≡ answer_of to (effect storing []
+        (trees.Store (array_view array) site true (tree_view index.now) (tree_view tree.now)) store.now)) }
 {
     match value(graph, store, index) {
         Ok(index) => match value(graph, store, tree) {
@@ -234,7 +240,8 @@ fn guard(
 ) -> Result<GraphStep, AllocError>
     requires store { IsStore (kinds_of (graph_view graph.now)) store.now }
     requires typed { IsTyped (kinds_of (graph_view graph.now)) (tree_view tree.now) }
-    ensures { IfOk result (λ r. r ≡ answer_of to (effect storing [] (trees.Guard (tree_view tree.now) sense) store.now)) }
+    ensures { IfOk result
+        (λ r. r ≡ answer_of to (effect storing [] (trees.Guard (tree_view tree.now) sense) store.now)) }
 {
     match value(graph, store, tree) {
         Ok(number) => {
@@ -258,7 +265,8 @@ fn check(
 ) -> Result<GraphStep, AllocError>
     requires store { IsStore (kinds_of (graph_view graph.now)) store.now }
     requires typed { IsTyped (kinds_of (graph_view graph.now)) (tree_view tree.now) }
-    ensures { IfOk result (λ r. r ≡ answer_of to (effect storing [] (trees.Check site (tree_view tree.now)) store.now)) }
+    ensures { IfOk result
+        (λ r. r ≡ answer_of to (effect storing [] (trees.Check site (tree_view tree.now)) store.now)) }
 {
     match value(graph, store, tree) {
         Ok(number) => {
@@ -321,6 +329,7 @@ fn stepped(
 
 /// One step of a graph run from a point with a store, over an edge of the point: `To` the edge's end, `Blocked` exactly where a guard doesn't pass, `Wants` exactly where any numbers
 /// are taken and those chosen aren't as many of the type, and else `Faulted` with the first fault. Numbers are chosen for these instructions alone.
+/// Tests alone call it.
 pub fn graph_step(
     alloc: Global,
     graph: &Graph,

@@ -17,7 +17,6 @@ use Rattle.pk_ctypes.proofs.Shifts.{shifted_back}
 use Rattle.pk_ctypes.specs.declared.types.Op.{Op}
 use Rattle.pk_ctypes.specs.declared.types.Op.TheVariants.{Add, Sub, Mul, Div, Rem, Shl, Shr, And, Or, Xor, Lt, Gt, Le, Ge, Eq, Ne, Neg, BitNot, Not}
 use Rattle.pk_interval.specs.Ranges.{Range, IsIn, range_from}
-use Rattle.pk_interval.specs.Widening.{narrowed_if}
 use Rattle.pk_interval.specs.Operators.{hull_of, product_of, shifted_left, shifted_right, digits_of, AreCounts, is_unary}
 
 pub same_range : (lo hi lo' hi' : ℤ) → lo ≡ lo' → hi ≡ hi' → let r : Range = record { lo = lo; hi = hi } in let r' : Range = record { lo = lo'; hi = hi' } in r ≡ r'
@@ -140,10 +139,6 @@ few_from lo hi h k = by (int_le lo hi) refl
     by false e = tt
 
 -- ---- narrowing
-
-pub narrowed_is : (o : Option Range) (h r : Range) → Some r ≡ o → r ≡ narrowed_if o h
-narrowed_is None h r e = absurd (cc)
-narrowed_is (Some s) h r e = cc
 
 pub found_from : (t : IntType) (lo hi : ℤ) (r : Range) → Some r ≡ range_from lo hi → InType t lo → InType t hi → IsIn t r
 found_from t lo hi r e h k = by (int_le lo hi) e

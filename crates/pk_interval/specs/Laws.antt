@@ -32,8 +32,10 @@ KnownBy TooLarge z = Unit {0}
 
 -- The number that an operator stands for at members, before it is fitted to the type, is held by what the operator gives on the ranges; and its value in the type by what that becomes there.
 pub record IsSound : Type 0 where
-  pub before : (op : Op) (t : IntType) (a b : Range) (x y z : ℤ) → IsIn t a → HasRightIn op t b → Holds a x → Holds b y → exact op t x y ≡ Ok z → KnownBy (range_of op t a b) z
-  pub after : (op : Op) (t : IntType) (a b : Range) (x y z : ℤ) → IsIn t a → HasRightIn op t b → Holds a x → Holds b y → value_of op t x y ≡ Ok z → HeldBy (finished t (range_of op t a b)) z
+  pub before : (op : Op) (t : IntType) (a b : Range) (x y z : ℤ) → IsIn t a → HasRightIn op t b → Holds a x →
+      Holds b y → exact op t x y ≡ Ok z → KnownBy (range_of op t a b) z
+  pub after : (op : Op) (t : IntType) (a b : Range) (x y z : ℤ) → IsIn t a → HasRightIn op t b → Holds a x →
+      Holds b y → value_of op t x y ≡ Ok z → HeldBy (finished t (range_of op t a b)) z
 
 -- A number's conversion is held by what a range becomes in the type, and is the number plus what was added, if that was one number.
 pub record Converts : Type 0 where
@@ -53,16 +55,20 @@ FinishIsFinished = (t : IntType) (o : Outcome) → found_range (finish_of t o) �
 -- What changes nothing: a join or a widening with what is within, and a narrowing by the range itself.
 pub record NothingChanges : Type 0 where
   pub joins : (a b : Range) → is_within b a ≡ true → joined a b ≡ a
-  pub widenings : (t : IntType) (thresholds : List ℤ) (h n : Range) → is_within n h ≡ true → widened t thresholds h n ≡ h
+  pub widenings : (t : IntType) (thresholds : List ℤ) (h n : Range) → is_within n h ≡ true →
+      widened t thresholds h n ≡ h
   pub narrowings : (t : IntType) (h : Range) → narrowed t h h ≡ h
 
 -- Ranges of a type make ranges of the type, and a widening step has both within.
 pub record StaysInType : Type 0 where
   pub joins : (t : IntType) (a b : Range) → IsIn t a → IsIn t b → IsIn t (joined a b)
   pub meets : (t : IntType) (a b r : Range) → IsIn t a → met a b ≡ Some r → IsIn t r
-  pub widenings : (t : IntType) (thresholds : List ℤ) (h n : Range) → IsIn t h → IsIn t n → IsIn t (widened t thresholds h n)
+  pub widenings : (t : IntType) (thresholds : List ℤ) (h n : Range) → IsIn t h → IsIn t n →
+      IsIn t (widened t thresholds h n)
   pub narrowings : (t : IntType) (h n : Range) → IsIn t h → IsIn t n → IsIn t (narrowed t h n)
-  pub above_held : (t : IntType) (thresholds : List ℤ) (h n : Range) → IsIn t h → IsIn t n → is_within h (widened t thresholds h n) ≡ true
-  pub above_next : (t : IntType) (thresholds : List ℤ) (h n : Range) → IsIn t h → IsIn t n → is_within n (widened t thresholds h n) ≡ true
+  pub above_held : (t : IntType) (thresholds : List ℤ) (h n : Range) → IsIn t h → IsIn t n →
+      is_within h (widened t thresholds h n) ≡ true
+  pub above_next : (t : IntType) (thresholds : List ℤ) (h n : Range) → IsIn t h → IsIn t n →
+      is_within n (widened t thresholds h n) ≡ true
   pub whole_in : (t : IntType) → IsIn t (whole t)
   pub right_operands : (op : Op) (t : IntType) (b : Range) → IsIn t b → HasRightIn op t b

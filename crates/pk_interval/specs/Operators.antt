@@ -119,7 +119,9 @@ left_by (Some a) (Some c) = Some (record { lo = shifted_left a.lo c.lo; hi = shi
 
 abbrev pub right_by : Range → Option Range → Option Range
 right_by a None = None
-right_by a (Some c) = Some (hull_of (shifted_right a.lo c.lo) (shifted_right a.lo c.hi) (shifted_right a.hi c.lo) (shifted_right a.hi c.hi))
+right_by a (Some c) =
+    Some (hull_of (shifted_right a.lo c.lo) (shifted_right a.lo c.hi) (shifted_right a.hi c.lo)
+    (shifted_right a.hi c.hi))
 
 -- ---- bits
 
@@ -139,7 +141,8 @@ range_and t a b =
 -- all numbers of as many digits as the greatest has
 abbrev pub range_or : IntType → Range → Range → Range
 range_or t a b =
-    if is_natural a && is_natural b then record { lo = pos 0; hi = pos (2 ^ digits_of 64 (unsigned_abs (int_max a.hi b.hi)) - 1) } else whole t
+    if is_natural a && is_natural b
+    then record { lo = pos 0; hi = pos (2 ^ digits_of 64 (unsigned_abs (int_max a.hi b.hi)) - 1) } else whole t
 
 abbrev pub complement_of : IntType → ℤ → ℤ
 complement_of t x = if is_signed_of t then negsuc 0 -ℤ x else high_of t -ℤ x
@@ -151,7 +154,8 @@ range_complement t a = record { lo = complement_of t a.hi; hi = complement_of t 
 
 -- 1 where a comparison surely holds, 0 where it surely doesn't
 abbrev pub truths : Bool → Bool → Range
-truths sure never = if sure then single (pos 1) else (if never then single (pos 0) else record { lo = pos 0; hi = pos 1 })
+truths sure never =
+    if sure then single (pos 1) else (if never then single (pos 0) else record { lo = pos 0; hi = pos 1 })
 
 -- each number of the left is below each of the right
 abbrev pub is_below : Range → Range → Bool

@@ -41,14 +41,19 @@ narrowed t h n = narrowed_if (range_from (narrowed_low t h.lo n.lo) (narrowed_hi
 -- each range is one that is not yet within, and is widened into what there is
 abbrev pub IsChain : IntType → List ℤ → Range → List Range → Type 0
 IsChain t thresholds h [] = Unit {0}
-IsChain t thresholds h (n ∷ ns) = IsIn t n × (is_within n h ≡ false) × IsChain t thresholds (widened t thresholds h n) ns
+IsChain t thresholds h (n ∷ ns) =
+    IsIn t n × (is_within n h ≡ false) × IsChain t thresholds (widened t thresholds h n) ns
 
 -- A widening step holds what it had and what is new; where that is not within, the range grows; and no chain is long.
 pub record Widens : Type 0 where
-  pub keeps : (t : IntType) (thresholds : List ℤ) (h n : Range) (z : ℤ) → IsIn t h → IsIn t n → Holds h z → Holds (widened t thresholds h n) z
-  pub takes : (t : IntType) (thresholds : List ℤ) (h n : Range) (z : ℤ) → IsIn t h → IsIn t n → Holds n z → Holds (widened t thresholds h n) z
-  pub grows : (t : IntType) (thresholds : List ℤ) (h n : Range) → IsIn t h → IsIn t n → is_within n h ≡ false → is_within (widened t thresholds h n) h ≡ false
-  pub ends : (t : IntType) (thresholds : List ℤ) (h : Range) (ns : List Range) → IsIn t h → IsChain t thresholds h ns → length ns ≤ 2 * (length thresholds + 1)
+  pub keeps : (t : IntType) (thresholds : List ℤ) (h n : Range) (z : ℤ) → IsIn t h → IsIn t n → Holds h z →
+      Holds (widened t thresholds h n) z
+  pub takes : (t : IntType) (thresholds : List ℤ) (h n : Range) (z : ℤ) → IsIn t h → IsIn t n → Holds n z →
+      Holds (widened t thresholds h n) z
+  pub grows : (t : IntType) (thresholds : List ℤ) (h n : Range) → IsIn t h → IsIn t n → is_within n h ≡ false →
+      is_within (widened t thresholds h n) h ≡ false
+  pub ends : (t : IntType) (thresholds : List ℤ) (h : Range) (ns : List Range) → IsIn t h →
+      IsChain t thresholds h ns → length ns ≤ 2 * (length thresholds + 1)
 
 -- A narrowing step holds what both hold.
 abbrev pub Narrows : Type 0
@@ -68,10 +73,13 @@ lies_below t lo c = int_lt c lo && is_in_type t c
 
 -- how often a range's bounds can still move: how many thresholds of the type, its ends among them, lie beyond each
 abbrev pub moves : IntType → List ℤ → Range → ℕ
-moves t thresholds r = tally (lies_above t r.hi) (high_of t ∷ thresholds) + tally (lies_below t r.lo) (low_of t ∷ thresholds)
+moves t thresholds r =
+    tally (lies_above t r.hi) (high_of t ∷ thresholds) + tally (lies_below t r.lo) (low_of t ∷ thresholds)
 
 -- The moves are a rank for widening: few, never more after a step, and fewer after one that isn't within.
 pub record MovesAreRanks : Type 0 where
   pub few : (t : IntType) (thresholds : List ℤ) (h : Range) → moves t thresholds h ≤ 2 * (length thresholds + 1)
-  pub stays : (t : IntType) (thresholds : List ℤ) (h n : Range) → IsIn t n → moves t thresholds (widened t thresholds h n) ≤ moves t thresholds h
-  pub falls : (t : IntType) (thresholds : List ℤ) (h n : Range) → IsIn t n → is_within n h ≡ false → moves t thresholds (widened t thresholds h n) < moves t thresholds h
+  pub stays : (t : IntType) (thresholds : List ℤ) (h n : Range) → IsIn t n →
+      moves t thresholds (widened t thresholds h n) ≤ moves t thresholds h
+  pub falls : (t : IntType) (thresholds : List ℤ) (h n : Range) → IsIn t n → is_within n h ≡ false →
+      moves t thresholds (widened t thresholds h n) < moves t thresholds h

@@ -3,7 +3,6 @@
 ghost use Rattle.std.specs.Prelude.{◌≡◌, ◌≢◌, ◌<◌, ◌^◌, ℤ, pos, ◌+ℤ◌, ◌-ℤ◌, ◌≤ℤ◌, ◌<ℤ◌, neg_ℤ, int_div, unsigned_abs};
 ghost use Rattle.std.specs.Int.{int_min, int_max};
 ghost use Rattle.pk_ctypes.specs.Types.{InType};
-ghost use Rattle.pk_interval.specs.Ranges.{Range};
 ghost use Rattle.pk_interval.specs.Operators.{product_of, hull_of, shifted_left, shifted_right, complement_of};
 
 use crate::interval::Interval;

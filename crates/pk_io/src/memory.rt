@@ -1,5 +1,5 @@
 // A source and a sink in memory, which move pieces of a greatest length and fail at chosen calls.
-ghost use Rattle.std.specs.Prelude.{◌≡◌, ◌<◌, ◌≤◌, ◌↔◌, ℕ, List, [], length, min, max, ◌-◌, ◌^◌, IfOk, IsErr, Contains, Some};
+ghost use Rattle.std.specs.Prelude.{◌≡◌, ◌<◌, ◌≤◌, ◌↔◌, [], length, min, max, ◌-◌, ◌^◌, IfOk, IsErr, Contains, Some};
 ghost use Rattle.std.specs.Io.{ReadsAtMost};
 ghost use Rattle.std.specs.Io.KnownBytes.{ReadConsumes, WriteAppends};
 ghost use Rattle.pk_io.specs.Causes.{HasCause, faults_after, one_more};
@@ -24,7 +24,6 @@ pub struct MemSource {
 }
 
 impl Model for MemSource {
-    ghost use Rattle.std.specs.Prelude.{drop};
     ghost use Rattle.pk_io.specs.Memory.{MemInput};
 
     ghost Value = { MemInput };

@@ -20,7 +20,8 @@ pub record IsResult {C : Type 0} (b : Behaviour C) (order : Level) (elements mos
   pub within : ¬ Over b order elements most
   pub goes : Goes b order [] (progress b order (elements * most + 1)).runs
   pub whole : (progress b order (elements * most + 1)).left ≡ []
-  pub cells_after : it.cells ≡ map (cell_after b (progress b order (elements * most + 1)).runs) (range_with_len 0 elements)
+  pub cells_after : it.cells
+      ≡ map (cell_after b (progress b order (elements * most + 1)).runs) (range_with_len 0 elements)
   pub counts : it.runs ≡ map (count_of (progress b order (elements * most + 1)).runs) (range_with_len 0 elements)
 
 -- After some runs, none of them past `most`, the next is e's, which would be the one past `most`.

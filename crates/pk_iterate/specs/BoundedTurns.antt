@@ -12,7 +12,8 @@ use Rattle.pk_iterate.specs.Ending.{Ends, trace}
 abbrev pub HasComponent : Level → (head exit : ℕ) → Type 0
 HasComponent Empty h x = ⊥
 HasComponent (Vertex_then v more) h x = HasComponent more h x
-HasComponent (Component_then head exit rest more) h x = ((h ≡ head) × (x ≡ exit)) ⊎ (HasComponent rest h x ⊎ HasComponent more h x)
+HasComponent (Component_then head exit rest more) h x =
+    ((h ≡ head) × (x ≡ exit)) ⊎ (HasComponent rest h x ⊎ HasComponent more h x)
 
 -- the cells, with another one for x
 abbrev pub with_cell : {C : Type 0} → (ℕ → C) → ℕ → C → ℕ → C
@@ -27,18 +28,21 @@ inputs_of b cells e = map cells (b.reads e)
 pub record TurnsFall {C : Type 0} (b : Behaviour C) (may_hold : ℕ → C → Type 0) (most head exit : ℕ) : Type 0 where
   pub rank : C → C → ℕ
   pub below : (h x : C) → may_hold head h → may_hold exit x → rank h x < most
-  pub falls : (cells : ℕ → C) (c : C) → ((e : ℕ) → may_hold e (cells e)) → b.decide exit (inputs_of b cells exit) ≡ Again c
+  pub falls : (cells : ℕ → C) (c : C) → ((e : ℕ) → may_hold e (cells e)) →
+      b.decide exit (inputs_of b cells exit) ≡ Again c
       → rank (b.apply head (inputs_of b (with_cell cells exit c) head)) c < rank (cells head) (cells exit)
 
 -- how often the head of the level's first component, if it begins with one, is run in this entry
-abbrev pub entry_turns : {C : Type 0} {b : Behaviour C} {level : Level} {runs after : List (ℕ × C)} → Goes b level runs after → ℕ
+abbrev pub entry_turns : {C : Type 0} {b : Behaviour C} {level : Level} {runs after : List (ℕ × C)} →
+    Goes b level runs after → ℕ
 entry_turns nothing = 0
 entry_turns (vertex g) = 0
 entry_turns (stable g d h) = 1
 entry_turns (again g d h) = suc (entry_turns h)
 
 -- each entry of a component, at any depth, runs its head at most so often
-abbrev pub EntriesWithin : {C : Type 0} {b : Behaviour C} {level : Level} {runs after : List (ℕ × C)} → ℕ → Goes b level runs after → Type 0
+abbrev pub EntriesWithin : {C : Type 0} {b : Behaviour C} {level : Level} {runs after : List (ℕ × C)} → ℕ →
+    Goes b level runs after → Type 0
 EntriesWithin most nothing = Unit {0}
 EntriesWithin most (vertex g) = EntriesWithin most g
 EntriesWithin most (stable g d h) = (1 ≤ most) × EntriesWithin most g × EntriesWithin most h
@@ -59,4 +63,5 @@ FallingTurnsEnd b may_hold =
 
 -- Where the elements of an order's places differ from one another, each stands once.
 abbrev pub DifferentStandOnce : Type 0
-DifferentStandOnce = (order : Level) → AllPairs (λ a b. a ≢ b) (map (λ (p : Place). p.element) (places_of order)) → Once order
+DifferentStandOnce =
+    (order : Level) → AllPairs (λ a b. a ≢ b) (map (λ (p : Place). p.element) (places_of order)) → Once order

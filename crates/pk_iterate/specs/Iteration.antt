@@ -53,7 +53,8 @@ decided runs head exit rest left (Again c) =
 abbrev pub next_run : {C : Type 0} → Behaviour C → List (ℕ × C) → List Task → Progress C
 next_run b runs [] = record { runs = runs; left = [] }
 next_run b runs (Run e ∷ left) = record { runs = (e, b.apply e (inputs_after b runs e)) ∷ runs; left = left }
-next_run b runs (Exit head exit rest ∷ left) = decided runs head exit rest left (b.decide exit (inputs_after b runs exit))
+next_run b runs (Exit head exit rest ∷ left) =
+    decided runs head exit rest left (b.decide exit (inputs_after b runs exit))
 
 -- the first n runs of the iteration
 unfoldable pub progress : {C : Type 0} → Behaviour C → Level → ℕ → Progress C

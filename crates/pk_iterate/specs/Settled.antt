@@ -17,7 +17,8 @@ abbrev pub Once : Level → Type 0
 Once Empty = Unit {0}
 Once (Vertex_then v more) = (In more v → ⊥) × Once more
 Once (Component_then head exit rest more) =
-    (head ≢ exit) × (In rest head → ⊥) × (In more head → ⊥) × (In rest exit → ⊥) × (In more exit → ⊥) × ((e : ℕ) → In rest e → In more e → ⊥) × Once rest × Once more
+    (head ≢ exit) × (In rest head → ⊥) × (In more head → ⊥) × (In rest exit → ⊥) × (In more exit → ⊥)
+    × ((e : ℕ) → In rest e → In more e → ⊥) × Once rest × Once more
 
 -- u stands to the left of e
 abbrev pub Ahead : Level → ℕ → ℕ → Type 0
@@ -49,8 +50,11 @@ pub record IsSettled {C : Type 0} (b : Behaviour C) (order : Level) (runs : List
   -- and that run is the one which the number of its runs names
   pub named : (e : ℕ) → In order e → runs_before runs e (count_of runs e) ≡ before_newest runs e
   -- the newest run of each exit decided that its component is stable, and gave the exit its cell
-  pub ends : (x : ℕ) → IsExit order x → (c : C) × (b.decide x (inputs_after b (before_newest runs x) x) ≡ Stable c) × (cell_after b runs x ≡ c)
+  pub ends : (x : ℕ) → IsExit order x →
+      (c : C) × (b.decide x (inputs_after b (before_newest runs x) x) ≡ Stable c) × (cell_after b runs x ≡ c)
 
 -- Where each element stands once, the runs are settled when none is left.
 abbrev pub WholeIsSettled : {C : Type 0} → Behaviour C → Type 0
-WholeIsSettled b = (order : Level) (n : ℕ) → Once order → (progress b order n).left ≡ [] → IsSettled b order (progress b order n).runs
+WholeIsSettled b =
+    (order : Level) (n : ℕ) → Once order → (progress b order n).left ≡ [] →
+    IsSettled b order (progress b order n).runs

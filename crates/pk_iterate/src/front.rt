@@ -1,6 +1,6 @@
 // The cells of a system while it is iterated, one for each element, and how often each element was run.
 
-ghost use Rattle.std.specs.Prelude.{◌≡◌, ℕ, ◌+◌, ◌-◌, ◌^◌, ◌<◌, List, map, IfOk, OnOk, length, All, slice_get, slice_set, slice_index};
+ghost use Rattle.std.specs.Prelude.{◌≡◌, ◌+◌, ◌-◌, ◌^◌, ◌<◌, map, IfOk, OnOk, length, All, slice_get, slice_set, slice_index};
 ghost use Rattle.std.specs.Arc.{arc_value};
 ghost use Rattle.std.specs.List.{filter_map, range_with_len};
 ghost use Rattle.pk_iterate.specs.Behaviour.{HoldEach, inputs_in, cell_made, goes_back};
@@ -23,7 +23,8 @@ pub fn first_front<Y: System>(
     system: &Y,
     elements: u32,
 ) -> Result<Front<Y::Cell>, AllocError>
-    ensures cells { IfOk result (λ it. map arc_value it.cells.items ≡ map (Y.meaning system.now).first (range_with_len 0 elements)) }
+    ensures cells { IfOk result
+        (λ it. map arc_value it.cells.items ≡ map (Y.meaning system.now).first (range_with_len 0 elements)) }
     ensures runs { IfOk result (λ it. it.runs.items ≡ map (λ _. 0) (range_with_len 0 elements)) }
 {
     let mut cells = Vec::new(alloc);
@@ -46,11 +47,17 @@ pub fn run_place<Y: System>(
     requires element { place.element < length front.old.cells.items }
     requires counted { length front.old.runs.items ≡ length front.old.cells.items }
     requires reads { All (λ u. u < length front.old.cells.items) ((Y.meaning system.now).reads place.element) }
-    requires held { HoldEach (Y.may_hold system.now) ((Y.meaning system.now).reads place.element) (inputs_in (Y.meaning system.now) (map arc_value front.old.cells.items) place.element) }
+    requires held { HoldEach (Y.may_hold system.now) ((Y.meaning system.now).reads place.element)
+        (inputs_in (Y.meaning system.now) (map arc_value front.old.cells.items) place.element) }
     requires room { slice_index front.old.runs.items place.element < 2 ^ 64 - 1 }
-    ensures cells { OnOk result (map arc_value front.new.cells.items ≡ slice_set (map arc_value front.old.cells.items) place.element (cell_made (Y.meaning system.now) place (inputs_in (Y.meaning system.now) (map arc_value front.old.cells.items) place.element))) }
-    ensures runs { OnOk result (front.new.runs.items ≡ slice_set front.old.runs.items place.element (slice_index front.old.runs.items place.element + 1)) }
-    ensures again { IfOk result (λ again. again ≡ goes_back (Y.meaning system.now) place (inputs_in (Y.meaning system.now) (map arc_value front.old.cells.items) place.element)) }
+    ensures cells { OnOk result (map arc_value front.new.cells.items
+        ≡ slice_set (map arc_value front.old.cells.items) place.element
+        (cell_made (Y.meaning system.now) place
+        (inputs_in (Y.meaning system.now) (map arc_value front.old.cells.items) place.element))) }
+    ensures runs { OnOk result (front.new.runs.items
+        ≡ slice_set front.old.runs.items place.element (slice_index front.old.runs.items place.element + 1)) }
+    ensures again { IfOk result (λ again. again ≡ goes_back (Y.meaning system.now) place
+        (inputs_in (Y.meaning system.now) (map arc_value front.old.cells.items) place.element)) }
 {
     let e = place.element as usize;
     let inputs = shared(alloc, &front.cells, system.reads(place.element))?;
@@ -67,7 +74,8 @@ fn new_cell<Y: System>(
     place: Place,
     inputs: &[Arc<Y::Cell>],
 ) -> Result<(Y::Cell, bool), AllocError>
-    requires { HoldEach (Y.may_hold system.now) ((Y.meaning system.now).reads place.element) (map arc_value inputs.now) }
+    requires { HoldEach (Y.may_hold system.now) ((Y.meaning system.now).reads place.element)
+        (map arc_value inputs.now) }
     ensures cell { IfOk result (λ it. it.0 ≡ cell_made (Y.meaning system.now) place (map arc_value inputs.now)) }
     ensures again { IfOk result (λ it. it.1 ≡ goes_back (Y.meaning system.now) place (map arc_value inputs.now)) }
 {

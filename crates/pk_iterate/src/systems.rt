@@ -56,7 +56,10 @@ pub trait System {
     // Each first cell, and each cell made of cells that may be held, may be held.
     ghost first_held: { (s : Self) (e : ℕ) → may_hold s e ((meaning s).first e) };
 
-    ghost apply_held: { (s : Self) (e : ℕ) (cells : List Self.Cell) → HoldEach (may_hold s) ((meaning s).reads e) cells → may_hold s e ((meaning s).apply e cells) };
+    ghost apply_held: { (s : Self) (e : ℕ) (cells : List Self.Cell) →
+        HoldEach (may_hold s) ((meaning s).reads e) cells → may_hold s e ((meaning s).apply e cells) };
 
-    ghost decide_held: { (s : Self) (x : ℕ) (cells : List Self.Cell) → HoldEach (may_hold s) ((meaning s).reads x) cells → may_hold s x (decided_cell ((meaning s).decide x cells)) };
+    ghost decide_held: { (s : Self) (x : ℕ) (cells : List Self.Cell) →
+        HoldEach (may_hold s) ((meaning s).reads x) cells →
+        may_hold s x (decided_cell ((meaning s).decide x cells)) };
 }

@@ -1,13 +1,12 @@
 -- How far a text was read.
-use Rattle.std.proofs.Common.{◌≡◌, ℕ, ◌+◌, ◌<◌, ◌≤◌, List, [], ◌∷◌, ◌++◌, length, take, drop, refl, sym, ap, ◌∙◌, subst, arith, append-nil, take_all, length-drop, length-append}
-use Rattle.std.proofs.lemmas.List.{take_at, length-take-le, drop-drop, drop_all, take-append-drop, append_assoc}
+use Rattle.std.proofs.Common.{◌≡◌, ℕ, ◌+◌, ◌<◌, ◌≤◌, List, [], ◌∷◌, ◌++◌, length, take, drop, refl, sym, ap, ◌∙◌, subst, arith, append-nil, length-drop, length-append}
+use Rattle.std.proofs.lemmas.List.{take_at, length-take-le, drop-drop, take-append-drop, append_assoc}
 use Rattle.pk_ctypes.specs.declared.places.Pos.{Pos}
 use Rattle.pk_ctypes.specs.Places.{start_of_text, after_byte, after_bytes}
 use Rattle.pk_lex.specs.declared.token.Kind.{Kind}
-use Rattle.pk_lex.specs.declared.token.Kind.TheVariants as kind
 use Rattle.pk_lex.specs.declared.token.Token.{Token}
 use Rattle.pk_lex.specs.declared.token.LexicalKind.{LexicalKind}
-use Rattle.pk_lex.specs.Tokens.{token_of, Reads, nothing, past_white, past_token, IsLexed}
+use Rattle.pk_lex.specs.Tokens.{token_of, Reads, nothing, past_white, past_token}
 use Rattle.pk_lex.specs.Steps.{NoWhite, NoToken, IsFirstWhite, IsFirstToken}
 use Rattle.pk_lex.specs.Failures.{lexical_kind, FailsAt}
 use Rattle.pk_lex.proofs.ReadLemmas.{reads_then}
@@ -93,18 +92,3 @@ module _ (text front rest : List ℕ) (tokens : List Token) (start : ℕ) (at : 
     is = e;
     place = r.place ∙ ap (after_bytes start_of_text) (sym is_front);
   }
-
-pub all_read : (text : List ℕ) (tokens : List Token) (start : ℕ) (at : Pos) → start ≤ length text → length text ≤ start → IsReached text tokens start at →
-    IsLexed text (tokens ++ record { kind = kind.End; start = start; end = start; at = at } ∷ [])
-all_read text tokens start at le ge r =
-    let size : start ≡ length text = omega (arith, le, ge) in
-    let whole : take start text ≡ text = take_all start text ge in
-    let made : ℕ → ℕ → Pos → Token = λ s e p. record { kind = kind.End; start = s; end = e; at = p } in
-    let end : length text + 0 ≡ start = omega (arith, size) in (
-      tokens,
-      (
-        ap (λ t. tokens ++ t ∷ [])
-            (ap (λ s. made s start at) size ∙ ap (λ e. made (length text) e at) (sym end) ∙ ap (made (length text) (length text + 0)) (r.place ∙ ap (after_bytes start_of_text) whole)),
-        subst (λ x. Reads [] text tokens x []) whole (subst (λ x. Reads [] text tokens (take start text) x) (drop_all start text ge) r.reads),
-      ),
-    )

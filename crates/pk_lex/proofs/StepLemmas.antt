@@ -1,5 +1,5 @@
 -- What begins at a place.
-use Rattle.std.proofs.Common.{◌≡◌, ℕ, zero, suc, ◌+◌, ◌≤◌, ◌==◌, true, false, cond, not, ◌&&◌, ◌||◌, Some, None, List, [], ◌∷◌, ◌++◌, length, take, drop, refl, sym, ap, ◌∙◌, subst, arith, length-append, take-append-drop}
+use Rattle.std.proofs.Common.{◌≡◌, ℕ, zero, suc, ◌+◌, ◌≤◌, ◌==◌, true, false, cond, not, ◌&&◌, ◌||◌, Some, None, List, [], ◌∷◌, ◌++◌, length, take, drop, refl, sym, ap, ◌∙◌, arith, length-append, take-append-drop}
 use Rattle.std.specs.List.{take_while}
 use Rattle.std.proofs.lemmas.Bool.{or_parts, or_from, and_parts, and_from, both_ways, eqb-true, false_from_ne_true}
 use Rattle.std.proofs.lemmas.List.{take_at, length-take-le}
@@ -15,11 +15,8 @@ use Rattle.pk_lex.specs.Kinds.{kind_of}
 use Rattle.pk_lex.specs.Tokens.{IsToken, longest, directive}
 use Rattle.pk_lex.specs.Steps.{IsFirstClose, NoWhite, NoToken, IsFirstWhite, IsFirstToken}
 use Rattle.pk_lex.proofs.WhiteLemmas.{Opens, white_first, block_first, line_first, hash_first, opens}
-use Rattle.pk_lex.proofs.ReadLemmas.{opens_nothing, word_is_first, longest_is_one}
+use Rattle.pk_lex.proofs.ReadLemmas.{word_is_first, longest_is_one}
 use Rattle.pk_lex.proofs.WordLemmas.{empty_is_no_word}
-
-pub no_white_at_end : (front text : List ℕ) → text ≡ [] → NoWhite front text
-no_white_at_end front text e piece after f w = opens_nothing (subst (λ t. Opens front t piece) (sym f ∙ e) (opens w))
 
 -- none of the ways in which white space begins
 record OpensNone (front text : List ℕ) : Type 0 where
@@ -51,9 +48,6 @@ block_cut (b ∷ c ∷ bytes) h =
     let f = eqb-true b 47 e.0 in
     let g = eqb-true c 42 e.1 in
     ap (λ x. x ∷ c ∷ bytes) f ∙ ap (λ x. 47 ∷ x ∷ bytes) g
-
-pub block_fits : (text : List ℕ) → opens_block text ≡ true → 2 ≤ length text
-block_fits text h = let e = ap length (block_cut text h) in omega (arith, e)
 
 pub unclosed : (front text : List ℕ) (b : ℕ) (rest : List ℕ) → text ≡ b ∷ rest → is_white b ≡ false → opens_block text ≡ true → has_close (drop 2 text) ≡ false → NoWhite front text
 unclosed front text b rest e n o c = no_white front text (record {

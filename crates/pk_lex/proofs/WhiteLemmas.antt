@@ -63,9 +63,6 @@ block_length inside after h = ap (λ n. 4 + n) (close_after inside after h)
 pub block_is : (piece inside after : List ℕ) → piece ≡ 47 ∷ 42 ∷ inside ++ 42 ∷ 47 ∷ [] → piece ++ after ≡ 47 ∷ 42 ∷ inside ++ 42 ∷ 47 ∷ after
 block_is piece inside after e = ap (λ p. p ++ after) e ∙ append_assoc (47 ∷ 42 ∷ inside) (42 ∷ 47 ∷ []) after
 
-abbrev pub hash_of : List ℕ → List ℕ → Bool
-hash_of front t = begins_with 35 t && begins_line front
-
 length_of_white : (front piece after : List ℕ) → IsWhite front piece after → white_length (piece ++ after) ≡ length piece
 length_of_white front piece after (white_byte b e h) = rw e (byte_length b after h)
 length_of_white front piece after (block_comment inside e h) =

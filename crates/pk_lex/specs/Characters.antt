@@ -11,23 +11,27 @@ use Rattle.pk_lex.specs.Tables.{lookup}
 abbrev pub simple_escapes : List (List ℕ × ℕ)
 simple_escapes =
     (codes "'", 39) ∷ (codes "\"", 34) ∷ (codes "?", 63) ∷ (codes "\\", 92)
-    ∷ (codes "a", 7) ∷ (codes "b", 8) ∷ (codes "f", 12) ∷ (codes "n", 10) ∷ (codes "r", 13) ∷ (codes "t", 9) ∷ (codes "v", 11) ∷ []
+    ∷ (codes "a", 7) ∷ (codes "b", 8) ∷ (codes "f", 12) ∷ (codes "n", 10) ∷ (codes "r", 13) ∷ (codes "t", 9)
+    ∷ (codes "v", 11) ∷ []
 
 -- one to three digits, and a code of at most 255
 abbrev pub octal_code : List ℕ → Option ℕ
 octal_code digits =
-    if list_all (is_digit_of 8) digits && nat_le (length digits) 3 && nat_le (value_in 8 digits) 255 then Some (value_in 8 digits) else None
+    if list_all (is_digit_of 8) digits && nat_le (length digits) 3 && nat_le (value_in 8 digits) 255
+    then Some (value_in 8 digits) else None
 
 -- one or two digits
 abbrev pub hexadecimal_code : List ℕ → Option ℕ
 hexadecimal_code digits =
-    if list_all is_hexadecimal_digit digits && nat_le 1 (length digits) && nat_le (length digits) 2 then Some (value_in 16 digits) else None
+    if list_all is_hexadecimal_digit digits && nat_le 1 (length digits) && nat_le (length digits) 2
+    then Some (value_in 16 digits) else None
 
 -- what stands after a backslash
 abbrev pub escape_code : List ℕ → Option ℕ
 escape_code [] = None
 escape_code (b ∷ bytes) =
-    if is_digit_of 8 b then octal_code (b ∷ bytes) else (if b == 120 then hexadecimal_code bytes else lookup simple_escapes (b ∷ bytes))
+    if is_digit_of 8 b then octal_code (b ∷ bytes)
+    else (if b == 120 then hexadecimal_code bytes else lookup simple_escapes (b ∷ bytes))
 
 -- one byte that is printed, other than `'` and `\`
 abbrev pub plain_code : ℕ → List ℕ → Option ℕ

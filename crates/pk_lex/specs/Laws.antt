@@ -16,7 +16,8 @@ pub record TokensAreDetermined : Type 0 where
 -- From a place on up to the end of a text, the tokens' spans follow one another.
 abbrev pub FollowOneAnother : (from size : ℕ) → List Token → Type 0
 FollowOneAnother from size [] = Unit {0}
-FollowOneAnother from size (token ∷ tokens) = (from ≤ token.start) × (token.start ≤ token.end) × (token.end ≤ size) × FollowOneAnother token.end size tokens
+FollowOneAnother from size (token ∷ tokens) =
+    (from ≤ token.start) × (token.start ≤ token.end) × (token.end ≤ size) × FollowOneAnother token.end size tokens
 
 -- each token's span lies in the text, and begins where the one before it ends or later
 abbrev pub SpansAreInOrder : Type 0

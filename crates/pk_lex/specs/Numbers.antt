@@ -52,12 +52,17 @@ suffix u l = record { unsigned = u; longs = l }
 
 abbrev pub suffixes : List (List ℕ × Suffix)
 suffixes =
-    (codes "", suffix false 0) ∷ (codes "l", suffix false 1) ∷ (codes "L", suffix false 1) ∷ (codes "ll", suffix false 2) ∷ (codes "LL", suffix false 2)
+    (codes "", suffix false 0) ∷ (codes "l", suffix false 1) ∷ (codes "L", suffix false 1)
+    ∷ (codes "ll", suffix false 2) ∷ (codes "LL", suffix false 2)
     ∷ (codes "u", suffix true 0) ∷ (codes "U", suffix true 0)
-    ∷ (codes "ul", suffix true 1) ∷ (codes "uL", suffix true 1) ∷ (codes "Ul", suffix true 1) ∷ (codes "UL", suffix true 1)
-    ∷ (codes "lu", suffix true 1) ∷ (codes "lU", suffix true 1) ∷ (codes "Lu", suffix true 1) ∷ (codes "LU", suffix true 1)
-    ∷ (codes "ull", suffix true 2) ∷ (codes "uLL", suffix true 2) ∷ (codes "Ull", suffix true 2) ∷ (codes "ULL", suffix true 2)
-    ∷ (codes "llu", suffix true 2) ∷ (codes "llU", suffix true 2) ∷ (codes "LLu", suffix true 2) ∷ (codes "LLU", suffix true 2) ∷ []
+    ∷ (codes "ul", suffix true 1) ∷ (codes "uL", suffix true 1) ∷ (codes "Ul", suffix true 1)
+    ∷ (codes "UL", suffix true 1)
+    ∷ (codes "lu", suffix true 1) ∷ (codes "lU", suffix true 1) ∷ (codes "Lu", suffix true 1)
+    ∷ (codes "LU", suffix true 1)
+    ∷ (codes "ull", suffix true 2) ∷ (codes "uLL", suffix true 2) ∷ (codes "Ull", suffix true 2)
+    ∷ (codes "ULL", suffix true 2)
+    ∷ (codes "llu", suffix true 2) ∷ (codes "llU", suffix true 2) ∷ (codes "LLu", suffix true 2)
+    ∷ (codes "LLU", suffix true 2) ∷ []
 
 unfoldable pub suffix_of : List ℕ → Option Suffix
 suffix_of bytes = lookup suffixes bytes
@@ -78,11 +83,13 @@ longs_of ULLong = 2
 
 -- With `u` a constant's type is unsigned, and without one a decimal constant's is signed. It has at least as many `long`s as the suffix.
 abbrev pub allows : Bool → Suffix → IntType → Bool
-allows is_decimal s t = nat_le s.longs (longs_of t) && (if s.unsigned then not (is_signed_of t) else (is_signed_of t || not is_decimal))
+allows is_decimal s t =
+    nat_le s.longs (longs_of t) && (if s.unsigned then not (is_signed_of t) else (is_signed_of t || not is_decimal))
 
 -- the first type of those allowed that holds the value
 abbrev pub type_of : Bool → Suffix → ℕ → Option IntType
-type_of is_decimal s value = find (λ t. allows is_decimal s t && is_in_type t (pos value)) (Int ∷ UInt ∷ Long ∷ ULong ∷ LLong ∷ ULLong ∷ [])
+type_of is_decimal s value =
+    find (λ t. allows is_decimal s t && is_in_type t (pos value)) (Int ∷ UInt ∷ Long ∷ ULong ∷ LLong ∷ ULLong ∷ [])
 
 abbrev pub constant : ℕ → IntType → Constant
 constant value t = record { value = value; ty = t }
@@ -96,8 +103,10 @@ unfoldable pub constant_of : List ℕ → Option Constant
 constant_of number =
     let digits = digits_of number in
     let base = base_of number in
-    if nat_le 1 (length digits) then typed (base == 10) (value_in base digits) (suffix_of (drop (length digits) (unmarked number))) else None
+    if nat_le 1 (length digits)
+    then typed (base == 10) (value_in base digits) (suffix_of (drop (length digits) (unmarked number))) else None
 
 -- a point, or an exponent that isn't a digit of base 16
 unfoldable pub is_floating : List ℕ → Bool
-is_floating number = list_any (λ b. b == 46) number || (list_any (λ b. b == 101 || b == 69) number && not (is_hexadecimal number))
+is_floating number =
+    list_any (λ b. b == 46) number || (list_any (λ b. b == 101 || b == 69) number && not (is_hexadecimal number))

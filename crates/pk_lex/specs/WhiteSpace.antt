@@ -25,7 +25,9 @@ has_close (b ∷ bytes) = begins_with_both 42 47 (b ∷ bytes) || has_close byte
 pub data IsWhite (front piece after : List ℕ) : Type 0 where
   white_byte : (b : ℕ) → piece ≡ b ∷ [] → IsTrue (is_white b) → IsWhite front piece after
   -- to the first `*/`: comments don't nest
-  block_comment : (inside : List ℕ) → piece ≡ codes "/*" ++ inside ++ codes "*/" → IsFalse (has_close inside) → IsWhite front piece after
+  block_comment : (inside : List ℕ) → piece ≡ codes "/*" ++ inside ++ codes "*/" → IsFalse (has_close inside) →
+      IsWhite front piece after
   -- to the end of the line, whose newline isn't part of it
   line_comment : IsTrue (opens_line (piece ++ after)) → piece ≡ line_of (piece ++ after) → IsWhite front piece after
-  skipped_line : IsTrue (opens_directive front (piece ++ after)) → piece ≡ line_of (piece ++ after) → IsTrue (is_skipped piece) → IsWhite front piece after
+  skipped_line : IsTrue (opens_directive front (piece ++ after)) → piece ≡ line_of (piece ++ after) →
+      IsTrue (is_skipped piece) → IsWhite front piece after

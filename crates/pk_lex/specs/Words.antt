@@ -12,7 +12,8 @@ is_name [] = false
 is_name (b ∷ bytes) = is_letter b && list_all is_part bytes
 
 unfoldable pub is_word : List ℕ → Bool
-is_word bytes = is_name bytes || is_number bytes || is_character bytes || is_string bytes || is_some (punctuator_of bytes)
+is_word bytes =
+    is_name bytes || is_number bytes || is_character bytes || is_string bytes || is_some (punctuator_of bytes)
 
 -- of the first bytes of a text that are such, n are the most
 pub record IsLongest (test : List ℕ → Bool) (text : List ℕ) (n : ℕ) : Type 0 where

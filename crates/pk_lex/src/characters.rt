@@ -175,7 +175,8 @@ pub(crate) fn character_count(text: &[u8]) -> Option<usize>
 
 // How many bytes there are up to the quote that closes a string, with it.
 fn close_count(text: &[u8]) -> Option<usize>
-    ensures { MatchOption result (BeginsNone (is_rest_of_string false) text.now) (λ n. IsLongest (is_rest_of_string false) text.now n) }
+    ensures { MatchOption result (BeginsNone (is_rest_of_string false) text.now)
+        (λ n. IsLongest (is_rest_of_string false) text.now n) }
 {
     let mut escaped = false;
     for (i, b) in text.iter().enumerate() {

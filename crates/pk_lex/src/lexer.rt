@@ -1,6 +1,6 @@
 // The tokens of a text.
 
-ghost use Rattle.std.specs.Prelude.{◌≡◌, ◌+◌, ◌<◌, ◌≤◌, ◌^◌, length, IfOk, IfErr, MatchResult, List};
+ghost use Rattle.std.specs.Prelude.{◌≡◌, ◌+◌, ◌<◌, ◌≤◌, ◌^◌, length, IfOk, IfErr, MatchResult};
 ghost use Rattle.pk_ctypes.specs.Places.{after_bytes};
 ghost use Rattle.pk_lex.specs.Steps.{NoWhite, NoToken, IsFirstToken};
 ghost use Rattle.pk_lex.specs.Tokens.{IsLexed};
@@ -35,7 +35,8 @@ fn wrong(text: &[u8]) -> LexicalKind
 // The kind of the token that begins at a place, and how many bytes it has.
 fn token_at(front: &[u8], text: &[u8]) -> Result<(usize, Kind), LexicalKind>
     requires { NoWhite front.now text.now }
-    ensures { MatchResult result (λ t. IsFirstToken front.now text.now t.0 t.1) (λ k. NoToken front.now text.now × (k ≡ lexical_kind text.now)) }
+    ensures { MatchResult result (λ t. IsFirstToken front.now text.now t.0 t.1)
+        (λ k. NoToken front.now text.now × (k ≡ lexical_kind text.now)) }
 {
     if at_directive(front, text) {
         return Ok((line_count(text), Kind::Directive));

@@ -1,9 +1,9 @@
 // Lines, and those with a `#`.
 
 ghost use Rattle.std.specs.Prelude.{◌≡◌, length};
-ghost use Rattle.std.specs.List.{take_while, list_all};
+ghost use Rattle.std.specs.List.{take_while};
 ghost use Rattle.pk_lex.specs.Bytes.{is_blank, is_part, begins_with};
-ghost use Rattle.pk_lex.specs.Lines.{line_of, begins_line, opens_directive, after_blanks, begins_with_digit, is_skipped};
+ghost use Rattle.pk_lex.specs.Lines.{line_of, begins_line, opens_directive, begins_with_digit, is_skipped};
 
 use crate::bytes::{blank, digit, is_spelled, part, split};
 

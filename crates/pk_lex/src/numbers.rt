@@ -1,10 +1,10 @@
 // Numbers and integer constants.
 
-ghost use Rattle.std.specs.Prelude.{◌≡◌, ◌≤◌, ◌^◌, ◌==◌, ◌||◌, pos, length, take, IsTrue, MatchOption};
+ghost use Rattle.std.specs.Prelude.{◌≡◌, ◌≤◌, ◌^◌, ◌==◌, ◌||◌, length, take, IsTrue, MatchOption};
 ghost use Rattle.std.specs.List.{list_all, list_any, take_while};
 ghost use Rattle.pk_lex.specs.Bytes.{is_digit_of, value_in};
 ghost use Rattle.pk_lex.specs.Words.{IsLongest};
-ghost use Rattle.pk_lex.specs.Numbers.{goes_on, is_rest_of_number, is_number, is_hexadecimal, base_of, unmarked, suffix_of, longs_of, allows, type_of, typed, constant_of, is_floating};
+ghost use Rattle.pk_lex.specs.Numbers.{goes_on, is_rest_of_number, is_number, is_hexadecimal, base_of, unmarked, suffix_of, longs_of, allows, type_of, constant_of, is_floating};
 
 use crate::bytes::{digit, digit_of, part, split, value_of_digit};
 use crate::lines::begins;

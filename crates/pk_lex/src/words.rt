@@ -22,7 +22,8 @@ fn is_punctuator(text: &[u8], n: usize) -> bool
 
 // How many bytes the longest punctuator has that begins a text.
 fn punctuator_count(text: &[u8]) -> Option<usize>
-    ensures { MatchOption result (BeginsNone (λ w. is_some (punctuator_of w)) text.now) (λ n. IsLongest (λ w. is_some (punctuator_of w)) text.now n) }
+    ensures { MatchOption result (BeginsNone (λ w. is_some (punctuator_of w)) text.now)
+        (λ n. IsLongest (λ w. is_some (punctuator_of w)) text.now n) }
 {
     if is_punctuator(text, 3) {
         Some(3)

@@ -20,16 +20,19 @@ abbrev pub IsWaiting : Progress → ℕ → ℕ → Type 0
 IsWaiting s a e = Contains (slice_index_or (lists_of s.waiting.items) a []) e
 
 -- e is ready at the level inside these components
-pub record IsCandidate (p : PlanView) (lasts : List ℕ) (places : List Place) (around : List Component) (e : ℕ) : Type 0 where
+pub record IsCandidate (p : PlanView) (lasts : List ℕ) (places : List Place) (around : List Component)
+    (e : ℕ) : Type 0 where
   pub within : e < p.elements
   pub fresh : Stands places e → ⊥
   pub free : IsFree p lasts places e
   pub inside : (c : Component) → Contains around c → Follows p c e
 
 -- an open component, the others around it, and what is ready around it
-pub record IsOpened (p : PlanView) (lasts : List ℕ) (places : List Place) (c : Component) (around : List Component) (o : Opened) : Type 0 where
+pub record IsOpened (p : PlanView) (lasts : List ℕ) (places : List Place) (c : Component) (around : List Component)
+    (o : Opened) : Type 0 where
   pub is_open : IsOpen p places c
-  pub head : (above below : List Place) (head : Place) → places ≡ above ++ head ∷ below → head.element ≡ c.head → length above ≡ o.head
+  pub head : (above below : List Place) (head : Place) → places ≡ above ++ head ∷ below → head.element ≡ c.head →
+      length above ≡ o.head
   pub within : (d : Component) → Contains around d → (d.first < c.first) × (c.end < d.end)
   pub ready : (e : ℕ) → Contains o.ready.keys e → IsCandidate p lasts places around e
   pub outside : (e : ℕ) → Contains o.ready.keys e → c.first ≤ place_of p e → place_of p e ≤ c.end → ⊥
@@ -54,21 +57,25 @@ pub record IsKnown (p : PlanView) (s : Progress) (ready : List ℕ) (left : ℕ 
   pub steps : AreSteps p s.lasts.items s.places.items
   pub marked : (e : ℕ) → IsPlaced s.placed.items e ↔ Stands s.places.items e
   pub read : (e : ℕ) → e < p.elements → IsReadTo p s.placed.items e (reading_of s e)
-  pub waits : (a e : ℕ) → IsWaiting s a e → (Stands s.places.items a → ⊥) → (e < p.elements) × WaitsFor p s.lasts.items e a
+  pub waits : (a e : ℕ) → IsWaiting s a e → (Stands s.places.items a → ⊥) →
+      (e < p.elements) × WaitsFor p s.lasts.items e a
   pub components : List Component
   pub opened : AreOpened p s.lasts.items s.places.items components (reverse s.opened.items)
   pub all_open : (c : Component) → IsOpen p s.places.items c → Contains components c
   pub candidates : (e : ℕ) → Contains ready e → IsCandidate p s.lasts.items s.places.items components e
   pub found : (e : ℕ) → e < p.elements → (Stands s.places.items e → ⊥)
-      → Contains ready e ⊎ IsReadyAround s.opened.items e ⊎ ((a : ℕ) × IsWaiting s a e × (Stands s.places.items a → ⊥)) ⊎ left e
+      → Contains ready e ⊎ IsReadyAround s.opened.items e
+      ⊎ ((a : ℕ) × IsWaiting s a e × (Stands s.places.items a → ⊥)) ⊎ left e
 
 -- An item was looked at: it waits for an element that isn't placed, or it is ready.
 pub record IsLookedAt (p : PlanView) (old new : Progress) (item : ℕ) : Type 0 where
   pub same : new ≡ record old { readings = new.readings; waiting = new.waiting; ready = new.ready }
   pub readings : length new.readings.items ≡ length old.readings.items
   pub waiting : length new.waiting.items ≡ length old.waiting.items
-  pub read : (e : ℕ) → IsReadTo p old.placed.items e (reading_of old e) → IsReadTo p old.placed.items e (reading_of new e)
-  pub ready_from : (e : ℕ) → Contains new.ready.keys e → Contains old.ready.keys e ⊎ ((e ≡ item) × WaitsNoMore p old.lasts.items old.placed.items item)
+  pub read : (e : ℕ) → IsReadTo p old.placed.items e (reading_of old e) →
+      IsReadTo p old.placed.items e (reading_of new e)
+  pub ready_from : (e : ℕ) → Contains new.ready.keys e →
+      Contains old.ready.keys e ⊎ ((e ≡ item) × WaitsNoMore p old.lasts.items old.placed.items item)
   pub ready_kept : (e : ℕ) → Contains old.ready.keys e → Contains new.ready.keys e
   pub waits_from : (a e : ℕ) → IsWaiting new a e → IsWaiting old a e ⊎ ((e ≡ item) × WaitsFor p old.lasts.items item a)
   pub waits_kept : (a e : ℕ) → IsWaiting old a e → IsWaiting new a e
@@ -86,4 +93,5 @@ Turns p old new e Head =
 Turns p old new e (Exit back) =
     (new ≡ record old { opened = new.opened; ready = new.ready })
     × (p.points ≤ e) × (e + 1 < p.elements)
-    × (o : Opened) × (old.opened.items ≡ new.opened.items ++ o ∷ []) × (new.ready ≡ o.ready) × (back ≡ length old.places.items - o.head)
+    × (o : Opened) × (old.opened.items ≡ new.opened.items ++ o ∷ []) × (new.ready ≡ o.ready)
+    × (back ≡ length old.places.items - o.head)

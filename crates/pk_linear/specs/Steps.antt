@@ -29,11 +29,13 @@ abbrev pub Follows : PlanView → Component → ℕ → Type 0
 Follows p c e = (c.first < place_of p e) × (place_of p e ≤ c.end)
 
 abbrev pub HasRole : PlanView → List ℕ → List Place → ℕ → Role → Type 0
-HasRole p lasts places e Vertex = (slice_index lasts e ≡ place_of p e) × ((c : Component) → Contains p.components c → c.exit ≢ e)
+HasRole p lasts places e Vertex =
+    (slice_index lasts e ≡ place_of p e) × ((c : Component) → Contains p.components c → c.exit ≢ e)
 HasRole p lasts places e Head = (c : Component) × Contains p.components c × (c.head ≡ e)
 HasRole p lasts places e (Exit back) =
     (c : Component) × Contains p.components c × (c.exit ≡ e)
-    × ((above below : List Place) (head : Place) → places ≡ above ++ head ∷ below → head.element ≡ c.head → back ≡ length below + 1)
+    × ((above below : List Place) (head : Place) → places ≡ above ++ head ∷ below → head.element ≡ c.head →
+    back ≡ length below + 1)
 
 -- one more place: its element is ready, in every open component, and the least of the ready ones that are
 pub record IsStep (p : PlanView) (lasts : List ℕ) (places : List Place) (place : Place) : Type 0 where
@@ -47,4 +49,5 @@ pub record IsStep (p : PlanView) (lasts : List ℕ) (places : List Place) (place
 
 pub data AreSteps (p : PlanView) (lasts : List ℕ) : List Place → Type 0 where
   Start : AreSteps p lasts []
-  Then : {places : List Place} {place : Place} → AreSteps p lasts places → IsStep p lasts places place → AreSteps p lasts (places ++ place ∷ [])
+  Then : {places : List Place} {place : Place} → AreSteps p lasts places → IsStep p lasts places place →
+      AreSteps p lasts (places ++ place ∷ [])

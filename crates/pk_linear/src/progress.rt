@@ -27,7 +27,7 @@ pub struct Progress {
 }
 
 impl Progress {
-    ghost use Rattle.std.specs.Prelude.{◌≡◌, ◌+◌, ◌<◌, ◌≤◌, ℕ, [], ◌∷◌, ◌++◌, OnOk, IfOk, All, length};
+    ghost use Rattle.std.specs.Prelude.{◌≡◌, ◌+◌, ◌<◌, ◌≤◌, [], ◌∷◌, OnOk, IfOk, All, length};
     ghost use Rattle.pk_linear.specs.Waits.{AreLasts, IsReadTo};
     ghost use Rattle.pk_linear.specs.Progress.{IsKnown, IsLookedAt, Turns, reading_of};
 

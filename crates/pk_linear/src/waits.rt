@@ -1,7 +1,7 @@
 // What items wait for.
 
-ghost use Rattle.std.specs.Prelude.{◌≡◌, ◌<◌, ◌≤◌, ℕ, ◌≢◌, IfOk, IfSome, IfNone, All, length, slice_index, slice_index_or, false};
-ghost use Rattle.pk_plan.specs.Plans.{place_of, predecessors_of};
+ghost use Rattle.std.specs.Prelude.{◌≡◌, ◌<◌, ◌≤◌, ℕ, IfOk, IfSome, IfNone, All, length, slice_index, slice_index_or, false};
+ghost use Rattle.pk_plan.specs.Plans.{place_of};
 ghost use Rattle.pk_linear.specs.Waits.{AreLasts, WaitsFor, WaitsNoMore, IsPlaced, IsReadTo};
 
 use pk_plan::Plan;
@@ -34,9 +34,11 @@ pub fn last_places(alloc: Global, plan: &Plan) -> Result<Vec<u32>, AllocError>
 fn read_on(plan: &Plan, placed: &[bool], first: u32, inputs: &[u32], read: usize) -> usize
     requires inputs { All (λ a. a < plan.now.elements) inputs.now }
     requires placed { length placed.now ≡ plan.now.elements }
-    ensures passed { (k : ℕ) → read ≤ k → k < result → k < length inputs.now → place_of plan.now (slice_index inputs.now k) < first → IsPlaced placed.now (slice_index inputs.now k) }
+    ensures passed { (k : ℕ) → read ≤ k → k < result → k < length inputs.now →
+        place_of plan.now (slice_index inputs.now k) < first → IsPlaced placed.now (slice_index inputs.now k) }
     ensures stops { result < length inputs.now → place_of plan.now (slice_index inputs.now result) < first }
-    ensures unplaced { result < length inputs.now → slice_index_or placed.now (slice_index inputs.now result) false ≡ false }
+    ensures unplaced { result < length inputs.now →
+        slice_index_or placed.now (slice_index inputs.now result) false ≡ false }
 {
     let mut next = read;
     while next < inputs.len() {

@@ -10,7 +10,8 @@ use Rattle.pk_typed.specs.declared.units.Unit as declared_unit
 use Rattle.pk_typed.specs.Trees.{UnitTree, FunctionTree, BodyTree}
 use Rattle.pk_typed.specs.Views.{local_tree, body_tree, function_tree, unit_tree}
 use Rattle.pk_calls.specs.Calls.{body_of}
-use Rattle.pk_lower.specs.Parts.{no_function, no_body, function_at, body_at}
+use Rattle.pk_lower.specs.Parts.{function_at, body_at}
+use Rattle.pk_typed.specs.Defaults.{no_body, no_function}
 
 pub function_read : (u : declared_unit.Unit) (f : ℕ) (g : Function) → f < length u.functions.items → g ≡ get_or u.functions.items f g → function_tree g ≡ function_at (unit_tree u) f
 unfolding unit_tree

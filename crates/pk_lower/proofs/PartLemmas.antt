@@ -20,12 +20,13 @@ use Rattle.pk_draft.specs.declared.drafts.Region.{Region}
 use Rattle.pk_draft.specs.Drafts.{DraftOf, with_object, with_name, inner, object_number, begun_at, on, standing, fresh, go, emit}
 use Rattle.pk_draft.specs.Shown.{drafted}
 use Rattle.pk_lower_row.specs.declared.contexts.Context as code
-use Rattle.pk_lower_row.specs.Contexts.{Context, no_local, local_at, own_result}
+use Rattle.pk_lower_row.specs.Contexts.{Context, local_at, own_result}
 use Rattle.pk_lower_row.specs.Views.{context_in}
 use Rattle.pk_lower_statement.specs.Statements.{named, lowered_items}
 use Rattle.pk_lower_statement.specs.declared.statements.Exits.{Exits}
 use Rattle.pk_lower.specs.Parts.{entry_parameter, introduced_parameter, all_introduced, with_result, begun, placed_entry, is_main, ended, start_exits, body_draft, part_of, part, function_at}
 use Rattle.pk_lower.proofs.FunctionLemmas.{function_read, body_in}
+use Rattle.pk_typed.specs.Defaults.{no_local}
 
 -- ---- what a context looks up
 

@@ -1,7 +1,7 @@
 -- The sizes of parts.
-use Rattle.std.proofs.Common.{◌≡◌, ◌≤◌, ◌+◌, ℕ, List, ◌∷◌, length, drop, sym, ◌∙◌, ap, replicate, arith}
-use Rattle.std.specs.Prelude.{Option, Some, None, slice_get, slice_set, slice_index_or}
-use Rattle.std.proofs.lemmas.List.{length-map, drop_more, drop_all, get_or_past, set_past}
+use Rattle.std.proofs.Common.{◌≡◌, ◌+◌, ℕ, List, ◌∷◌, length, drop, sym, ◌∙◌, ap, replicate, arith}
+use Rattle.std.specs.Prelude.{Option, Some, None, slice_get, slice_index_or}
+use Rattle.std.proofs.lemmas.List.{length-map, drop_more, drop_all}
 use Rattle.std.proofs.lemmas.Option.{get_or_from_slice_get, slice_get_within}
 use Rattle.pk_ctypes.specs.declared.types.IntType.{IntType}
 use Rattle.pk_typed.specs.declared.units.Unit as declared_unit
@@ -36,12 +36,6 @@ measured_is u s f k r d e p v ed ek er ee ep ev =
 
 pub size_known : (u : UnitTree) (f : ℕ) (s : List (Option Size)) (x : Size) → slice_index_or s f None ≡ Some x → s ≡ with_size u f (slice_index_or s f None) s
 size_known u f s x e = ap (λ (o : Option Size). with_size u f o s) (sym e)
-
-pub size_found : (u : UnitTree) (f : ℕ) (s : List (Option Size)) (x : Size) → slice_index_or s f None ≡ None → x ≡ measured u s f → slice_set s f (Some x) ≡ with_size u f (slice_index_or s f None) s
-size_found u f s x e is = ap (λ (y : Size). slice_set s f (Some y)) is ∙ ap (λ (o : Option Size). with_size u f o s) (sym e)
-
-pub size_past : (u : UnitTree) (f : ℕ) (s : List (Option Size)) → length s ≤ f → s ≡ with_size u f (slice_index_or s f None) s
-size_past u f s le = sym (set_past s f (Some (measured u s f)) le) ∙ ap (λ (o : Option Size). with_size u f o s) (sym (get_or_past s f None le))
 
 -- ---- all sizes
 

@@ -1,9 +1,8 @@
 -- The parts of a draft: each call path makes one, whose size is known before the path is lowered.
 use Rattle.std.specs.Prelude.{ℕ, ◌+◌, Bool, codes, if◌then◌else◌, List, [], ◌∷◌, length, map, replicate, slice_index_or, slice_set, Option, Some, None, unwrap_or, pos}
 use Rattle.std.specs.Str.{bytes_eq}
-use Rattle.pk_ctypes.specs.declared.places.Pos.{Pos}
 use Rattle.pk_ctypes.specs.declared.types.IntType.{IntType}
-use Rattle.pk_typed.specs.Trees.{no_items, BodyTree, FunctionTree, StartTree, scalar_start, array_start, FileObjectTree, UnitTree}
+use Rattle.pk_typed.specs.Trees.{BodyTree, FunctionTree, StartTree, scalar_start, array_start, FileObjectTree, UnitTree}
 use Rattle.pk_calls.specs.declared.listings.Caller.{Caller}
 use Rattle.pk_calls.specs.declared.listings.CallPath.{CallPath}
 use Rattle.pk_calls.specs.Calls.{body_of, calls_of}
@@ -13,20 +12,12 @@ use Rattle.pk_draft.specs.declared.drafts.Region.{Region}
 use Rattle.pk_draft.specs.declared.drafts.Label.{Label}
 use Rattle.pk_draft.specs.declared.drafts.Size.{Size}
 use Rattle.pk_draft.specs.Drafts.{Names, by_number, no_region, empty_draft, first_draft, DraftOf, region_of, begun_at, on, standing, fresh, placed, inner, with_object, go, emit}
-use Rattle.pk_lower_row.specs.Contexts.{no_size, size_in, Context, own_result, length_of_start, local_at}
+use Rattle.pk_lower_row.specs.Contexts.{no_size, size_in, Context, own_result, local_at}
 use Rattle.pk_lower_statement.specs.Statements.{named, introduced, lowered_items}
 use Rattle.pk_lower_statement.specs.declared.statements.Exits.{Exits}
+use Rattle.pk_typed.specs.Defaults.{no_body, no_function, length_of_start}
 
 -- ---- the function of a path
-
-abbrev pub nowhere_in_text : Pos
-nowhere_in_text = record { line = 0; column = 0 }
-
-abbrev pub no_body : BodyTree
-no_body = record { opened = nowhere_in_text; closed = nowhere_in_text; locals = []; visible = 0; labels = 0; calls = []; items = no_items }
-
-abbrev pub no_function : FunctionTree
-no_function = record { name = []; returns = None; parameters = []; body = None }
 
 abbrev pub function_at : UnitTree → ℕ → FunctionTree
 function_at u f = slice_index_or u.functions f no_function
@@ -99,7 +90,8 @@ body_draft c g b d =
     go Skip d.points (ended c g.name g.returns (on b.closed (standing d.here e)))
 
 -- what a path of a function makes; nothing without a body
-abbrev pub part_of : {V : Type 0} → Context → FunctionTree → Option BodyTree → Option Caller → Region → DraftOf V → DraftOf V
+abbrev pub part_of : {V : Type 0} → Context → FunctionTree → Option BodyTree → Option Caller → Region → DraftOf V →
+    DraftOf V
 part_of c g None from r d = d
 part_of c g (Some b) from r d = body_draft c g b (placed_entry from (begun c g b from r d))
 
@@ -132,7 +124,13 @@ start_of_object (scalar_start z) = number_start (z ∷ [])
 start_of_object (array_start n zs) = number_start zs
 
 abbrev pub file_variable : FileObjectTree → VariableOf
-file_variable x = record { name = Some x.name; kind = record { int_type = x.int_type; length = length_of_start x.start }; path = None; start = start_of_object x.start }
+file_variable x =
+    record {
+      name = Some x.name;
+      kind = record { int_type = x.int_type; length = length_of_start x.start };
+      path = None;
+      start = start_of_object x.start;
+    }
 
 -- the size of the entry's part, in which all others are
 abbrev pub whole_size : List (Option Size) → List CallPath → Size
@@ -144,7 +142,8 @@ abbrev pub point_count : UnitTree → List CallPath → ℕ
 point_count u paths = 1 + (whole_size (sizes_of u paths) paths).points
 
 -- The parts of listed paths in order, which are numbered from k on, and the paths by their calls from n on. A path's region is known from the path that leads to it.
-unfoldable pub parts_from : {V : Type 0} → UnitTree → List (Option Size) → (k n : ℕ) → List CallPath → DraftOf V → DraftOf V
+unfoldable pub parts_from : {V : Type 0} → UnitTree → List (Option Size) → (k n : ℕ) → List CallPath → DraftOf V →
+    DraftOf V
 parts_from u sizes k n [] d = d
 parts_from u sizes k n (p ∷ ps) d =
     parts_from u sizes (k + 1) (n + length (calls_of u p.function)) ps
@@ -152,4 +151,5 @@ parts_from u sizes k n (p ∷ ps) d =
 
 abbrev pub program_draft : {V : Type 0} → Names V → UnitTree → List CallPath → DraftOf V
 program_draft names u paths =
-    let sizes = sizes_of u paths in parts_from u sizes 0 1 paths (first_draft names (map file_variable u.objects) (length paths) (whole_size sizes paths))
+    let sizes = sizes_of u paths in parts_from u sizes 0 1 paths
+    (first_draft names (map file_variable u.objects) (length paths) (whole_size sizes paths))

@@ -8,7 +8,7 @@ use Rattle.pk_calls.specs.declared.listings.CallPath.{CallPath}
 use Rattle.pk_calls.specs.Calls.{name_of, calls_of}
 use Rattle.pk_graph.specs.declared.trees.Site.{Site}
 use Rattle.pk_graph.specs.Graphs.{PathOf}
-use Rattle.pk_lower.specs.Parts.{nowhere_in_text}
+use Rattle.pk_typed.specs.Defaults.{nowhere_in_text}
 
 -- the place of the name at a call of a function
 abbrev pub place_of : UnitTree → (function call : ℕ) → Pos

@@ -5,7 +5,7 @@ ghost use Rattle.pk_typed.specs.Views.{unit_tree, local_tree};
 ghost use Rattle.pk_lower_row.specs.Views.{context_in};
 ghost use Rattle.pk_lower.specs.Parts as parts;
 
-use crate::functions::body;
+use pk_calls::body;
 use pk_ctypes::IntType;
 use pk_draft::Size;
 use pk_lower_row::Context;

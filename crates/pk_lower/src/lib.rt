@@ -2,7 +2,6 @@
 #![tactic(auto)]
 
 mod contexts;
-mod functions;
 mod parameters;
 mod parts;
 mod paths;

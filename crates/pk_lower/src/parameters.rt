@@ -52,7 +52,8 @@ fn introduce_entry_parameter(
     draft: &mut Draft,
     object: usize,
 ) -> Result<(), AllocError>
-    ensures { OnOk result (drafted draft.new ≡ parts.introduced_parameter (context_in context.now) None object (drafted draft.old)) }
+    ensures { OnOk result
+        (drafted draft.new ≡ parts.introduced_parameter (context_in context.now) None object (drafted draft.old)) }
 {
     let number = draft.variables();
     let int_type = context.type_of_local(object);
@@ -78,7 +79,8 @@ fn introduce_parameter(
     caller: Option<Caller>,
     object: usize,
 ) -> Result<(), AllocError>
-    ensures { OnOk result (drafted draft.new ≡ parts.introduced_parameter (context_in context.now) caller object (drafted draft.old)) }
+    ensures { OnOk result
+        (drafted draft.new ≡ parts.introduced_parameter (context_in context.now) caller object (drafted draft.old)) }
 {
     match caller {
         None => introduce_entry_parameter(context, draft, object),
@@ -93,7 +95,8 @@ pub(crate) fn introduce_all(
     caller: Option<Caller>,
     parameters: &[IntType],
 ) -> Result<(), AllocError>
-    ensures { OnOk result (drafted draft.new ≡ parts.all_introduced (context_in context.now) caller 0 parameters.now (drafted draft.old)) }
+    ensures { OnOk result (drafted draft.new
+        ≡ parts.all_introduced (context_in context.now) caller 0 parameters.now (drafted draft.old)) }
 {
     for object in 0..parameters.len() {
         introduce_parameter(context, draft, caller, object)?;

@@ -42,7 +42,8 @@ fn begin(
     caller: Option<Caller>,
     region: Region,
 ) -> Result<(), AllocError>
-    ensures { OnOk result (drafted draft.new ≡ parts.begun (context_in context.now) (function_tree function.now) (body_tree body.now) caller region (drafted draft.old)) }
+    ensures { OnOk result (drafted draft.new ≡ parts.begun (context_in context.now) (function_tree function.now)
+        (body_tree body.now) caller region (drafted draft.old)) }
 {
     let here = Label {
         at: body.open,
@@ -77,7 +78,8 @@ fn end(
     name: &Name,
     returns: Option<IntType>,
 ) -> Result<(), AllocError>
-    ensures { OnOk result (drafted draft.new ≡ parts.ended (context_in context.now) name.now returns (drafted draft.old)) }
+    ensures { OnOk result
+        (drafted draft.new ≡ parts.ended (context_in context.now) name.now returns (drafted draft.old)) }
 {
     match returns {
         None => Ok(()),
@@ -99,7 +101,8 @@ fn lower_body(
     function: &Function,
     body: &Body,
 ) -> Result<(), AllocError>
-    ensures { OnOk result (drafted draft.new ≡ parts.body_draft (context_in context.now) (function_tree function.now) (body_tree body.now) (drafted draft.old)) }
+    ensures { OnOk result (drafted draft.new ≡ parts.body_draft (context_in context.now) (function_tree function.now)
+        (body_tree body.now) (drafted draft.old)) }
 {
     let here = draft.here();
     let count = body.labels.checked_add(1).ok_or(AllocError)?;
@@ -127,7 +130,8 @@ fn lower_function(
     caller: Option<Caller>,
     region: Region,
 ) -> Result<(), AllocError>
-    ensures { OnOk result (drafted draft.new ≡ parts.part_of (context_in context.now) (function_tree function.now) (function_tree function.now).body caller region (drafted draft.old)) }
+    ensures { OnOk result (drafted draft.new ≡ parts.part_of (context_in context.now) (function_tree function.now)
+        (function_tree function.now).body caller region (drafted draft.old)) }
 {
     match &function.body {
         None => Ok(()),
@@ -147,7 +151,8 @@ pub(crate) fn lower_part(
     caller: Option<Caller>,
     region: Region,
 ) -> Result<(), AllocError>
-    ensures { OnOk result (drafted draft.new ≡ parts.part (context_in context.now) function caller region (drafted draft.old)) }
+    ensures { OnOk result
+        (drafted draft.new ≡ parts.part (context_in context.now) function caller region (drafted draft.old)) }
 {
     if function < context.unit.functions.len() {
         lower_function(

@@ -2,12 +2,10 @@
 
 ghost use Rattle.std.specs.Prelude.{◌≡◌, map, option_map, IfOk};
 ghost use Rattle.pk_typed.specs.Views.{unit_tree};
-ghost use Rattle.pk_calls.specs.Calls.{name_of};
 ghost use Rattle.pk_graph.specs.Graphs.{path_view};
 ghost use Rattle.pk_lower.specs.Paths as places;
 
-use crate::functions::{calls, name};
-use pk_calls::{CallPath, Caller, Paths};
+use pk_calls::{CallPath, Caller, Paths, calls, name};
 use pk_ctypes::Pos;
 use pk_graph::{Path, Site};
 use pk_typed::Unit;
@@ -64,7 +62,8 @@ fn path_of(alloc: Global, unit: &Unit, paths: &Paths, path: CallPath) -> Result<
 
 /// The call paths of a unit as those of a graph, in order.
 pub fn graph_paths(alloc: Global, unit: &Unit, paths: &Paths) -> Result<Vec<Path>, AllocError>
-    ensures { IfOk result (λ list. map path_view list.items ≡ map (places.path_of (unit_tree unit.now) paths.now) paths.now) }
+    ensures { IfOk result
+        (λ list. map path_view list.items ≡ map (places.path_of (unit_tree unit.now) paths.now) paths.now) }
 {
     let mut list = Vec::with_capacity(alloc, paths.len())?;
     for number in 0..paths.len() {

@@ -7,10 +7,9 @@ ghost use Rattle.pk_lower.specs.Answers.{IsAnswer};
 ghost use Rattle.pk_lower.specs.Parts as parts;
 
 use crate::contexts::context;
-use crate::functions::calls;
 use crate::parts::lower_part;
 use crate::sizes::{sizes, whole_size};
-use pk_calls::Paths;
+use pk_calls::{Paths, calls};
 use pk_draft::{Draft, LowerError};
 use pk_graph::{Start, Variable};
 use pk_lower_row::length_of_object;

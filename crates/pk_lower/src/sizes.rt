@@ -42,7 +42,8 @@ fn measure(
     sizes: &mut [Option<Size>],
     function: usize,
 ) -> Result<(), AllocError>
-    ensures { OnOk result (sizes.new ≡ parts.with_size (unit_tree unit.now) function (slice_index_or sizes.old function None) sizes.old) }
+    ensures { OnOk result (sizes.new
+        ≡ parts.with_size (unit_tree unit.now) function (slice_index_or sizes.old function None) sizes.old) }
 {
     if function < sizes.len() {
         match sizes[function] {

@@ -40,7 +40,9 @@ pub(crate) fn held(
     value: &Value,
     tree: Box<Tree>,
 ) -> Result<Box<Tree>, AllocError>
-    ensures { IfOk result (λ e. given e.value draft.new ≡ rows.held how (shape_of (value_tree value.now)) (type_of (value_tree value.now)) (given tree.value draft.old)) }
+    ensures { IfOk result (λ e. given e.value draft.new
+        ≡ rows.held how (shape_of (value_tree value.now)) (type_of (value_tree value.now))
+        (given tree.value draft.old)) }
 {
     match how {
         Waiting::Loose => Ok(tree),
@@ -56,7 +58,9 @@ fn held_as(
     value: &Value,
     tree: Box<Tree>,
 ) -> Result<Box<Tree>, AllocError>
-    ensures { IfOk result (λ e. given e.value draft.new ≡ rows.held how (shape_of (value_tree value.now)) (type_of (value_tree value.now)) (given tree.value draft.old)) }
+    ensures { IfOk result (λ e. given e.value draft.new
+        ≡ rows.held how (shape_of (value_tree value.now)) (type_of (value_tree value.now))
+        (given tree.value draft.old)) }
 {
     rows::held(alloc, draft, how, shape_of(value), value.int_type(), tree)
 }
@@ -70,7 +74,8 @@ fn bind(
     variable: usize,
     argument: &Tree,
 ) -> Result<(), AllocError>
-    ensures { OnOk result (drafted draft.new ≡ rows.set_after parameter (type_of (value_tree value.now)) variable (given argument.now draft.old)) }
+    ensures { OnOk result (drafted draft.new
+        ≡ rows.set_after parameter (type_of (value_tree value.now)) variable (given argument.now draft.old)) }
 {
     let copy = argument.copy(alloc)?;
     let copy = boxed(alloc, copy)?;
@@ -87,7 +92,8 @@ fn bind_all(
     trees: &[Tree],
 ) -> Result<(), AllocError>
     ensures { (k : ℕ) → OnOk result (drafted draft.new
-        ≡ rows.bound k 0 first parameters.now (rows.types_of (value_trees values.now)) (map tree_view trees.now) (drafted draft.old)) }
+        ≡ rows.bound k 0 first parameters.now (rows.types_of (value_trees values.now)) (map tree_view trees.now)
+        (drafted draft.old)) }
 {
     for number in 0..parameters.len() {
         if number >= values.len() {
@@ -121,7 +127,8 @@ pub fn enter(
     trees: &[Tree],
 ) -> Result<usize, AllocError>
     ensures draft { OnOk result (drafted draft.new
-        ≡ rows.entered_after path size parameters.now (rows.types_of (value_trees values.now)) (map tree_view trees.now) (drafted draft.old)) }
+        ≡ rows.entered_after path size parameters.now (rows.types_of (value_trees values.now))
+        (map tree_view trees.now) (drafted draft.old)) }
     ensures variable { IfOk result (λ x. x ≡ (drafted draft.old).variables + length parameters.now) }
 {
     let first = draft.variables();

@@ -1,10 +1,10 @@
 // The lowering of expressions.
 
-ghost use Rattle.std.specs.Prelude.{◌≡◌, ◌+◌, ◌<◌, nat_lt, map, IfOk, OnOk};
+ghost use Rattle.std.specs.Prelude.{◌≡◌, ◌+◌, ◌<◌, IfOk, OnOk};
 ghost use Rattle.pk_typed.specs.Views.{place_tree, value_tree, effect_tree, value_trees};
 ghost use Rattle.pk_typed.specs.Types.{type_of};
 ghost use Rattle.pk_graph.specs.Trees as tree;
-ghost use Rattle.pk_graph.specs.Views.{tree_view, array_view};
+ghost use Rattle.pk_graph.specs.Views.{array_view};
 ghost use Rattle.pk_draft.specs.Shown.{drafted};
 ghost use Rattle.pk_lower_row.specs.Rows as rows;
 ghost use Rattle.pk_lower_expression.specs.Expressions.{passed, performed, target, ways};
@@ -29,7 +29,9 @@ fn waiting(
     how: Waiting,
     expression: &Value,
 ) -> Result<Box<Tree>, AllocError>
-    ensures { IfOk result (λ e. given e.value draft.new ≡ rows.held how (shape_of (value_tree expression.now)) (type_of (value_tree expression.now)) ((ways (context_in context.now) (value_tree expression.now)).value (drafted draft.old))) }
+    ensures { IfOk result (λ e. given e.value draft.new
+        ≡ rows.held how (shape_of (value_tree expression.now)) (type_of (value_tree expression.now))
+        ((ways (context_in context.now) (value_tree expression.now)).value (drafted draft.old))) }
 {
     let tree = value(context, draft, expression)?;
     held(context.alloc, draft, how, expression, tree)
@@ -42,7 +44,9 @@ fn converted(
     int_type: IntType,
     expression: &Value,
 ) -> Result<Box<Tree>, AllocError>
-    ensures { IfOk result (λ e. given e.value draft.new ≡ rows.convert_after (type_of (value_tree expression.now)) int_type ((ways (context_in context.now) (value_tree expression.now)).value (drafted draft.old))) }
+    ensures { IfOk result (λ e. given e.value draft.new
+        ≡ rows.convert_after (type_of (value_tree expression.now)) int_type
+        ((ways (context_in context.now) (value_tree expression.now)).value (drafted draft.old))) }
 {
     let tree = value(context, draft, expression)?;
     rows::converted(context.alloc, expression.int_type(), int_type, tree)
@@ -50,7 +54,8 @@ fn converted(
 // What is read.
 #[cycle(expressions)]
 fn read(context: &Context<'_>, draft: &mut Draft, place: &Place) -> Result<Box<Tree>, AllocError>
-    ensures { IfOk result (λ e. given e.value draft.new ≡ (rows.read_ways (target (context_in context.now) (place_tree place.now))).value (drafted draft.old)) }
+    ensures { IfOk result (λ e. given e.value draft.new
+        ≡ (rows.read_ways (target (context_in context.now) (place_tree place.now))).value (drafted draft.old)) }
 {
     match place {
         Place::Scalar(_, object) => rows::variable(context.alloc, context.variable(draft, *object)),
@@ -79,7 +84,9 @@ fn load_for_step(
     expression: &Value,
 ) -> Result<Loaded, AllocError>
     ensures { IfOk result (λ l. loaded_in l.index.value l.right.value l.element.value draft.new
-        ≡ rows.loaded int_type site (array_view array) (rows.operand (value_tree expression.now) (ways (context_in context.now) (value_tree expression.now))) rows.one (drafted draft.old)) }
+        ≡ rows.loaded int_type site (array_view array)
+        (rows.operand (value_tree expression.now)
+        (ways (context_in context.now) (value_tree expression.now))) rows.one (drafted draft.old)) }
 {
     let index = waiting(context, draft, Waiting::Weak, expression)?;
     let one = rows::one(context.alloc)?;
@@ -105,7 +112,9 @@ fn step(
     in_type: IntType,
     place: &Place,
 ) -> Result<Box<Tree>, AllocError>
-    ensures { IfOk result (λ e. given e.value draft.new ≡ (rows.update_ways op site in_type (target (context_in context.now) (place_tree place.now)) rows.one).value (drafted draft.old)) }
+    ensures { IfOk result (λ e. given e.value draft.new
+        ≡ (rows.update_ways op site in_type (target (context_in context.now) (place_tree place.now)) rows.one).value
+        (drafted draft.old)) }
 {
     match place {
         Place::Scalar(int_type, object) => {
@@ -141,7 +150,9 @@ fn step_after(
     in_type: IntType,
     place: &Place,
 ) -> Result<Box<Tree>, AllocError>
-    ensures { IfOk result (λ e. given e.value draft.new ≡ (rows.after_ways op site in_type (target (context_in context.now) (place_tree place.now))).value (drafted draft.old)) }
+    ensures { IfOk result (λ e. given e.value draft.new
+        ≡ (rows.after_ways op site in_type (target (context_in context.now) (place_tree place.now))).value
+        (drafted draft.old)) }
 {
     match place {
         Place::Scalar(int_type, object) => {
@@ -176,7 +187,10 @@ fn step_unused(
     in_type: IntType,
     place: &Place,
 ) -> Result<(), AllocError>
-    ensures { OnOk result (drafted draft.new ≡ (rows.after_ways op site in_type (target (context_in context.now) (place_tree place.now))).unused (drafted draft.old)) }
+    ensures { OnOk result
+        (drafted draft.new
+        ≡ (rows.after_ways op site in_type (target (context_in context.now) (place_tree place.now))).unused
+        (drafted draft.old)) }
 {
     match place {
         Place::Scalar(int_type, object) => {
@@ -209,7 +223,8 @@ fn pass(
     draft: &mut Draft,
     arguments: &[Value],
 ) -> Result<Vec<Tree>, AllocError>
-    ensures { IfOk result (λ es. passed_in es.items draft.new ≡ passed (context_in context.now) (value_trees arguments.now) (drafted draft.old)) }
+    ensures { IfOk result (λ es. passed_in es.items draft.new
+        ≡ passed (context_in context.now) (value_trees arguments.now) (drafted draft.old)) }
 {
     let last = last_making(arguments);
     let mut trees = Vec::new(context.alloc);
@@ -229,7 +244,9 @@ fn call(
     site: usize,
     arguments: &[Value],
 ) -> Result<usize, AllocError>
-    ensures { IfOk result (λ x. (tree.variable x, drafted draft.new) ≡ rows.called (context_in context.now) function site (rows.types_of (value_trees arguments.now)) (passed (context_in context.now) (value_trees arguments.now)) (drafted draft.old)) }
+    ensures { IfOk result (λ x. (tree.variable x, drafted draft.new)
+        ≡ rows.called (context_in context.now) function site (rows.types_of (value_trees arguments.now))
+        (passed (context_in context.now) (value_trees arguments.now)) (drafted draft.old)) }
 {
     let trees = pass(context, draft, arguments)?;
     let path = context.callee(site)?;
@@ -250,7 +267,8 @@ pub fn value(
     draft: &mut Draft,
     expression: &Value,
 ) -> Result<Box<Tree>, AllocError>
-    ensures { IfOk result (λ e. given e.value draft.new ≡ (ways (context_in context.now) (value_tree expression.now)).value (drafted draft.old)) }
+    ensures { IfOk result (λ e. given e.value draft.new
+        ≡ (ways (context_in context.now) (value_tree expression.now)).value (drafted draft.old)) }
 {
     match expression {
         Value::Constant(int_type, number) => rows::constant(context.alloc, *int_type, number),
@@ -425,7 +443,8 @@ fn decide(
     if_false: usize,
     expression: &Value,
 ) -> Result<(), AllocError>
-    ensures { OnOk result (drafted draft.new ≡ rows.guards if_true if_false ((ways (context_in context.now) (value_tree expression.now)).value (drafted draft.old))) }
+    ensures { OnOk result (drafted draft.new ≡ rows.guards if_true if_false
+        ((ways (context_in context.now) (value_tree expression.now)).value (drafted draft.old))) }
 {
     let tree = value(context, draft, expression)?;
     rows::guards(context.alloc, draft, if_true, if_false, tree)
@@ -439,7 +458,8 @@ pub fn choose(
     if_false: usize,
     expression: &Value,
 ) -> Result<(), AllocError>
-    ensures { OnOk result (drafted draft.new ≡ (ways (context_in context.now) (value_tree expression.now)).choice if_true if_false (drafted draft.old)) }
+    ensures { OnOk result (drafted draft.new
+        ≡ (ways (context_in context.now) (value_tree expression.now)).choice if_true if_false (drafted draft.old)) }
 {
     match expression {
         Value::Constant(_, _) => decide(context, draft, if_true, if_false, expression),
@@ -480,7 +500,9 @@ pub fn choose(
 // An expression whose tree isn't used.
 #[cycle(expressions)]
 fn discard(context: &Context<'_>, draft: &mut Draft, expression: &Value) -> Result<(), AllocError>
-    ensures { OnOk result (drafted draft.new ≡ rows.dropped (shape_of (value_tree expression.now)) (type_of (value_tree expression.now)) ((ways (context_in context.now) (value_tree expression.now)).value (drafted draft.old))) }
+    ensures { OnOk result (drafted draft.new ≡ rows.dropped (shape_of (value_tree expression.now))
+        (type_of (value_tree expression.now))
+        ((ways (context_in context.now) (value_tree expression.now)).value (drafted draft.old))) }
 {
     let tree = value(context, draft, expression)?;
     rows::dropped(
@@ -498,7 +520,8 @@ pub fn unused(
     draft: &mut Draft,
     expression: &Value,
 ) -> Result<(), AllocError>
-    ensures { OnOk result (drafted draft.new ≡ (ways (context_in context.now) (value_tree expression.now)).unused (drafted draft.old)) }
+    ensures { OnOk result
+        (drafted draft.new ≡ (ways (context_in context.now) (value_tree expression.now)).unused (drafted draft.old)) }
 {
     match expression {
         Value::Constant(_, _) => discard(context, draft, expression),
@@ -570,7 +593,9 @@ pub fn unused(
 // A condition that is true from here on.
 #[cycle(expressions)]
 fn assume(context: &Context<'_>, draft: &mut Draft, expression: &Value) -> Result<(), AllocError>
-    ensures { OnOk result (drafted draft.new ≡ rows.assumed (rows.as_int (rows.operand (value_tree expression.now) (ways (context_in context.now) (value_tree expression.now)))) (drafted draft.old)) }
+    ensures { OnOk result (drafted draft.new ≡ rows.assumed
+        (rows.as_int (rows.operand (value_tree expression.now)
+        (ways (context_in context.now) (value_tree expression.now)))) (drafted draft.old)) }
 {
     let after = draft.fresh(1)?;
     if represents(IntType::Int, expression.int_type()) {
@@ -587,7 +612,8 @@ fn assume(context: &Context<'_>, draft: &mut Draft, expression: &Value) -> Resul
 /// An expression for its effect alone.
 #[cycle(expressions)]
 pub fn perform(context: &Context<'_>, draft: &mut Draft, effect: &Effect) -> Result<(), AllocError>
-    ensures { OnOk result (drafted draft.new ≡ performed (context_in context.now) (effect_tree effect.now) (drafted draft.old)) }
+    ensures { OnOk result
+        (drafted draft.new ≡ performed (context_in context.now) (effect_tree effect.now) (drafted draft.old)) }
 {
     match effect {
         Effect::Unused(expression) => unused(context, draft, expression),

@@ -2,7 +2,7 @@
 
 ghost use Rattle.pk_lower_laws.specs.Parts.Laws.{ExpressionsMakeAsMuch, StatementsMakeAsMuch, PartsMakeTheirSize};
 ghost use Rattle.pk_lower_laws.specs.Parts.Listed.{SizesAreMeasured, PartsFillRegions, NumbersTellBehind, ListingsLeadBehind};
-ghost use Rattle.pk_lower_laws.specs.Drafts.Laws.{DraftsAreTyped};
+ghost use Rattle.pk_lower_laws.specs.Drafts.Laws.{DraftsAreTyped, DraftsHaveLabels};
 ghost use Rattle.pk_lower_laws.specs.Drafts.Noted.{WellTypedCallsAreNoted};
 
 /// An expression makes as many points and variables on every path, whatever the draft's numbers and however variables are named.
@@ -48,4 +48,9 @@ pub fn well_typed_calls_are_noted()
 /// The draft of a well-typed unit with its call paths is typed.
 pub fn drafts_are_typed()
     ensures { DraftsAreTyped }
+{}
+
+/// It has a label for each point that is made, and one for no point.
+pub fn drafts_have_labels()
+    ensures { DraftsHaveLabels }
 {}

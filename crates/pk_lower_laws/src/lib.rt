@@ -4,7 +4,7 @@
 mod laws;
 
 pub use laws::{
-    drafts_are_typed, expressions_make_as_much, listings_lead_behind, numbers_tell_behind,
-    parts_fill_regions, parts_make_their_size, sizes_are_measured, statements_make_as_much,
-    well_typed_calls_are_noted,
+    drafts_are_typed, drafts_have_labels, expressions_make_as_much, listings_lead_behind,
+    numbers_tell_behind, parts_fill_regions, parts_make_their_size, sizes_are_measured,
+    statements_make_as_much, well_typed_calls_are_noted,
 };

@@ -10,7 +10,8 @@ use Rattle.pk_typed.specs.declared.units.Local.{Local}
 use Rattle.pk_typed.specs.declared.units.Unit as declared_unit
 use Rattle.pk_typed.specs.Trees.{FunctionTree, FileObjectTree, LocalTree}
 use Rattle.pk_typed.specs.Views.{local_tree, function_tree, file_object_tree, unit_tree}
-use Rattle.pk_lower_row.specs.Contexts.{no_local, length_of_start, length_in_file, parameters_of}
+use Rattle.pk_lower_row.specs.Contexts.{length_in_file, parameters_of}
+use Rattle.pk_typed.specs.Defaults.{no_local, length_of_start}
 
 pub local_read : (xs : List Local) (i : ℕ) (x : Local) → i < length xs → local_tree (get_or xs i x) ≡ get_or (map local_tree xs) i no_local
 local_read xs i x lt = sym (get_or-map local_tree xs i x no_local lt)

@@ -1,17 +1,18 @@
 -- What the lowering of a function's body on a call path looks up.
-use Rattle.std.specs.Prelude.{ℕ, ◌+◌, List, [], length, slice_get, slice_index_or, Option, Some, None, option_map, unwrap_or}
+use Rattle.std.specs.Prelude.{ℕ, ◌+◌, List, [], length, slice_get, slice_index_or, Option, None, option_map, unwrap_or}
 use Rattle.std.specs.Option.{option_and_then}
 use Rattle.pk_ctypes.specs.declared.places.Pos.{Pos}
 use Rattle.pk_ctypes.specs.declared.types.IntType.{IntType}
 use Rattle.pk_ctypes.specs.declared.types.IntType.TheVariants.{Int}
 use Rattle.pk_typed.specs.declared.values.Variable.{Variable}
 use Rattle.pk_typed.specs.declared.values.Variable.TheVariants.{File, Local}
-use Rattle.pk_typed.specs.Trees.{LocalTree, FunctionTree, StartTree, scalar_start, array_start, FileObjectTree, UnitTree}
+use Rattle.pk_typed.specs.Trees.{LocalTree, FunctionTree, FileObjectTree, UnitTree}
 use Rattle.pk_graph.specs.declared.trees.Site.{Site}
 use Rattle.pk_graph.specs.Kinds.{count_of}
 use Rattle.pk_graph.specs.Trees.{ArrayOf}
 use Rattle.pk_draft.specs.declared.drafts.Size.{Size}
 use Rattle.pk_draft.specs.Drafts.{DraftOf, object_number}
+use Rattle.pk_typed.specs.Defaults.{no_local, length_of_start}
 
 abbrev pub no_size : Size
 no_size = record { points = 0; variables = 0 }
@@ -47,15 +48,8 @@ abbrev pub variable_of : {V : Type 0} → Context → Variable → DraftOf V →
 variable_of c (File i) d = d.names.file i
 variable_of c (Local i) d = own c i d
 
-abbrev pub length_of_start : StartTree → Option ℕ
-length_of_start (scalar_start z) = None
-length_of_start (array_start n zs) = Some n
-
 abbrev pub length_in_file : UnitTree → ℕ → Option ℕ
 length_in_file u i = option_and_then (λ (x : FileObjectTree). length_of_start x.start) (slice_get u.objects i)
-
-abbrev pub no_local : LocalTree
-no_local = record { name = None; int_type = Int; length = None }
 
 abbrev pub local_at : Context → ℕ → LocalTree
 local_at c i = slice_index_or c.locals i no_local

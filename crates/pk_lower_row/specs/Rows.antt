@@ -62,7 +62,8 @@ abbrev pub by_value : {V : Type 0} → Shape → IntType → (DraftOf V → Give
 by_value s t f = by_both f (λ d. dropped s t (f d))
 
 -- an expression that decides in a way of its own
-abbrev pub by_choice : {V : Type 0} → Shape → IntType → (DraftOf V → Given V) → ((p q : ℕ) → DraftOf V → DraftOf V) → Ways V
+abbrev pub by_choice : {V : Type 0} → Shape → IntType → (DraftOf V → Given V) → ((p q : ℕ) → DraftOf V → DraftOf V) →
+    Ways V
 by_choice s t f choice = record { value = f; choice = choice; unused = λ d. dropped s t (f d) }
 
 -- two operands in order, the first of which waits
@@ -160,10 +161,12 @@ loaded t s a i e d = loaded_after t s a e.shape e.int_type (two (strong_or_weak 
 abbrev pub renewed_tree : {V : Type 0} → Op → Site → (o t u : IntType) → Loaded V → TreeOf V
 renewed_tree op s o t u p = updated_tree op s o t u p.element p.right
 
-abbrev pub renew_unused : {V : Type 0} → Op → Site → (o t : IntType) → Site → ArrayOf V → (u : IntType) → Loaded V → DraftOf V
+abbrev pub renew_unused : {V : Type 0} → Op → Site → (o t : IntType) → Site → ArrayOf V → (u : IntType) → Loaded V →
+    DraftOf V
 renew_unused op s o t r a u p = emit (Store a r false p.index (renewed_tree op s o t u p)) p.draft
 
-abbrev pub renew_used : {V : Type 0} → Op → Site → (o t : IntType) → Site → ArrayOf V → (u : IntType) → Loaded V → Given V
+abbrev pub renew_used : {V : Type 0} → Op → Site → (o t : IntType) → Site → ArrayOf V → (u : IntType) → Loaded V →
+    Given V
 renew_used op s o t r a u p = written a r false p.index (stored t (renewed_tree op s o t u p) p.draft)
 
 -- what was there before is given
@@ -193,7 +196,8 @@ one = record {
 abbrev pub after_scalar : {V : Type 0} → Op → Site → (o t : IntType) → V → DraftOf V → Given V
 after_scalar op s o t x d = let r = stored t (variable x) d in (r.0, update_scalar op s o t x one r.1)
 
-abbrev pub after_element : {V : Type 0} → Op → Site → IntType → IntType → Site → ArrayOf V → Operand V → DraftOf V → Given V
+abbrev pub after_element : {V : Type 0} → Op → Site → IntType → IntType → Site → ArrayOf V → Operand V → DraftOf V →
+    Given V
 after_element op s o t r a i d = renew_old op s o t r a (loaded t r a i one d)
 
 -- `x++` and `x--`; where they aren't used they are `++x` and `--x`
@@ -234,7 +238,8 @@ unary_choice op s t e p q d = if is_not op then e.ways.choice q p d else guards 
 
 abbrev pub unary_ways : {V : Type 0} → Op → Site → IntType → Operand V → Ways V
 unary_ways op s t e =
-    by_choice (unary_shape op t (converted_shape e.int_type t e.shape)) (result_type op t) (unary_value op s t e) (unary_choice op s t e)
+    by_choice (unary_shape op t (converted_shape e.int_type t e.shape)) (result_type op t) (unary_value op s t e)
+    (unary_choice op s t e)
 
 abbrev pub binary_after : {V : Type 0} → Op → Site → (t u v : IntType) → Two V → Given V
 binary_after op s t u v p = (operated_tree op s t u v p.first p.second, p.draft)
@@ -257,7 +262,8 @@ abbrev pub set_between : {V : Type 0} → V → (p q : ℕ) → Given V → Draf
 set_between x p q r = at q (link (Set x r.0) p r.1)
 
 -- new points for both truths and behind them, and a temporary; a tree at each, put into it
-abbrev pub joined : {V : Type 0} → IntType → ((p q : ℕ) → DraftOf V → DraftOf V) → (a b : DraftOf V → Given V) → DraftOf V → Given V
+abbrev pub joined : {V : Type 0} → IntType → ((p q : ℕ) → DraftOf V → DraftOf V) → (a b : DraftOf V → Given V) →
+    DraftOf V → Given V
 joined t choice a b d =
     let x = next_temporary d in
     let c = choice d.points (d.points + 1) (with_temporary t (fresh 3 d)) in
@@ -281,16 +287,19 @@ conditional_ways t c a b = by_value Temporary t (joined t c.choice (convert_valu
 
 -- an expression after another that isn't used
 abbrev pub then_ways : {V : Type 0} → (DraftOf V → DraftOf V) → Ways V → Ways V
-then_ways f w = record { value = λ d. w.value (f d); choice = λ p q d. w.choice p q (f d); unused = λ d. w.unused (f d) }
+then_ways f w =
+    record { value = λ d. w.value (f d); choice = λ p q d. w.choice p q (f d); unused = λ d. w.unused (f d) }
 
 -- ---- calls
 
 -- The parameters of a path are set, from number i on, from trees of these types; they are its first variables, from x on.
-abbrev pub bound : {V : Type 0} → (path i x : ℕ) → (parameters types : List IntType) → List (TreeOf V) → DraftOf V → DraftOf V
+abbrev pub bound : {V : Type 0} → (path i x : ℕ) → (parameters types : List IntType) → List (TreeOf V) → DraftOf V →
+    DraftOf V
 bound k i x [] us rs d = d
 bound k i x (t ∷ ts) [] rs d = d
 bound k i x (t ∷ ts) (u ∷ us) [] d = d
-bound k i x (t ∷ ts) (u ∷ us) (r ∷ rs) d = bound k (i + 1) (x + 1) ts us rs (emit (Set (d.names.object k i x) (conversion u t r)) d)
+bound k i x (t ∷ ts) (u ∷ us) (r ∷ rs) d =
+    bound k (i + 1) (x + 1) ts us rs (emit (Set (d.names.object k i x) (conversion u t r)) d)
 
 abbrev pub types_of : ValueTrees → List IntType
 types_of tree.no_values = []
@@ -308,7 +317,8 @@ passed_before later e rest d =
     record { trees = k.0 ∷ r.trees; draft = r.draft }
 
 -- A call that leads to a path of this size, of a function with these parameters, behind its arguments, which have these types. The result's variable is behind the parameters.
-abbrev pub entered_after : {V : Type 0} → (path : ℕ) → Size → (parameters types : List IntType) → List (TreeOf V) → DraftOf V → DraftOf V
+abbrev pub entered_after : {V : Type 0} → (path : ℕ) → Size → (parameters types : List IntType) → List (TreeOf V) →
+    DraftOf V → DraftOf V
 entered_after k s ts us rs d = entered k s (bound k 0 d.variables ts us rs d)
 
 abbrev pub call_after : {V : Type 0} → (path : ℕ) → Size → (parameters types : List IntType) → Passed V → Given V
@@ -316,7 +326,8 @@ call_after k s ts us r =
     (variable (r.draft.names.result k (r.draft.variables + length ts)), entered_after k s ts us r.trees r.draft)
 
 -- call n of the function at hand, of function f
-abbrev pub called : {V : Type 0} → Context → (f n : ℕ) → (types : List IntType) → (DraftOf V → Passed V) → DraftOf V → Given V
+abbrev pub called : {V : Type 0} → Context → (f n : ℕ) → (types : List IntType) → (DraftOf V → Passed V) →
+    DraftOf V → Given V
 called c f n us arguments d = call_after (callee c n) (size_in c.sizes f) (parameters_of c.unit f) us (arguments d)
 
 -- a condition that is true from here on: the edge where it is false isn't made

@@ -31,14 +31,16 @@ kept_shape_if true s = s
 kept_shape_if false s = Other
 
 abbrev pub converted_shape : (u t : IntType) → Shape → Shape
-converted_shape u t s = folded_shape (kept_shape_if (represents t u) s) (option_map (λ z. Ok (wrapped t z)) (number_in_shape s))
+converted_shape u t s =
+    folded_shape (kept_shape_if (represents t u) s) (option_map (λ z. Ok (wrapped t z)) (number_in_shape s))
 
 abbrev pub unary_shape : Op → IntType → Shape → Shape
 unary_shape op t s = folded_shape Other (option_map (λ z. value_of op t z z) (number_in_shape s))
 
 abbrev pub binary_shape : Op → IntType → Shape → Shape → Shape
 binary_shape op t a b =
-    folded_shape Other (option_and_then (λ z. option_map (λ w. value_of op t z w) (number_in_shape b)) (number_in_shape a))
+    folded_shape Other
+    (option_and_then (λ z. option_map (λ w. value_of op t z w) (number_in_shape b)) (number_in_shape a))
 
 abbrev pub operated_shape : Op → IntType → (u v : IntType) → Shape → Shape → Shape
 operated_shape op t u v a b = binary_shape op t (converted_shape u t a) (converted_shape v (right_type op v t) b)

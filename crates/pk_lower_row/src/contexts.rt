@@ -1,13 +1,12 @@
 // What the lowering of a function's body on a call path looks up.
 
 ghost use Rattle.std.specs.Prelude.{◌≡◌, unwrap_or, IfOk};
-ghost use Rattle.pk_typed.specs.Views.{unit_tree, local_tree};
-ghost use Rattle.pk_typed.specs.Trees.{StartTree};
 ghost use Rattle.pk_graph.specs.Views.{array_view};
 ghost use Rattle.pk_graph.specs.Kinds as kinds;
 ghost use Rattle.pk_draft.specs.Shown.{drafted};
 ghost use Rattle.pk_lower_row.specs.Contexts as contexts;
 ghost use Rattle.pk_lower_row.specs.Views.{context_in};
+ghost use Rattle.pk_typed.specs.Defaults.{length_of_start};
 
 use pk_ctypes::{IntType, Pos};
 use pk_draft::{Draft, Size};
@@ -56,7 +55,7 @@ pub fn count_of(length: Option<usize>) -> usize
 /// The number of elements of an array of the file.
 #[tactic(auto, unfolding(pk_typed::specs::Views::start_tree, pk_typed::specs::Views::file_object_tree))]
 pub fn length_of_object(object: &FileObject) -> Option<usize>
-    ensures { result ≡ contexts.length_of_start (file_object_tree object.now).start }
+    ensures { result ≡ length_of_start (file_object_tree object.now).start }
 {
     match &object.start {
         Start::Scalar(_) => None,

@@ -1,6 +1,6 @@
 // Rows of the table that don't recurse: each takes what lowering the parts gave.
 
-ghost use Rattle.std.specs.Prelude.{◌≡◌, ◌+◌, ◌<◌, ◌^◌, pos, IfOk, OnOk};
+ghost use Rattle.std.specs.Prelude.{◌≡◌, ◌+◌, ◌<◌, pos, IfOk, OnOk};
 ghost use Rattle.pk_ctypes.specs.declared.types.IntType.TheVariants.{Int};
 ghost use Rattle.pk_ctypes.specs.Operators.{is_not};
 ghost use Rattle.pk_graph.specs.Views.{tree_view, array_view};
@@ -104,7 +104,8 @@ pub fn load(
     array: Array,
     index: Box<Tree>,
 ) -> Result<Box<Tree>, AllocError>
-    ensures { IfOk result (λ e. given e.value draft.new ≡ rows.load int_type site (array_view array) (given index.value draft.old)) }
+    ensures { IfOk result
+        (λ e. given e.value draft.new ≡ rows.load int_type site (array_view array) (given index.value draft.old)) }
 {
     let number = draft.variables();
     draft.temporary(alloc, int_type)?;
@@ -122,7 +123,8 @@ pub fn put(
     index: Box<Tree>,
     value: Box<Tree>,
 ) -> Result<(), AllocError>
-    ensures { OnOk result (drafted draft.new ≡ rows.put_after int_type from site (array_view array) (two_in index.value value.value draft.old)) }
+    ensures { OnOk result (drafted draft.new
+        ≡ rows.put_after int_type from site (array_view array) (two_in index.value value.value draft.old)) }
 {
     let value = conversion(from, int_type, value);
     draft.emit(Instr::store(array, site, true, Box::into_inner(index), value))
@@ -138,7 +140,8 @@ fn write(
     index: Box<Tree>,
     value: Box<Tree>,
 ) -> Result<Box<Tree>, AllocError>
-    ensures { IfOk result (λ e. given e.value draft.new ≡ rows.written (array_view array) site is_access (tree_view index.value) (given value.value draft.old)) }
+    ensures { IfOk result (λ e. given e.value draft.new
+        ≡ rows.written (array_view array) site is_access (tree_view index.value) (given value.value draft.old)) }
 {
     let copy = value.copy(alloc)?;
     draft.emit(Instr::store(array, site, is_access, Box::into_inner(index), copy))?;
@@ -156,7 +159,8 @@ pub fn put_kept(
     index: Box<Tree>,
     value: Box<Tree>,
 ) -> Result<Box<Tree>, AllocError>
-    ensures { IfOk result (λ e. given e.value draft.new ≡ rows.kept_after int_type from site (array_view array) (two_in index.value value.value draft.old)) }
+    ensures { IfOk result (λ e. given e.value draft.new
+        ≡ rows.kept_after int_type from site (array_view array) (two_in index.value value.value draft.old)) }
 {
     let value = conversion(from, int_type, value);
     let value = stored(alloc, draft, int_type, value)?;
@@ -185,7 +189,8 @@ pub fn set_kept(
     number: usize,
     value: Box<Tree>,
 ) -> Result<Box<Tree>, AllocError>
-    ensures { IfOk result (λ e. given e.value draft.new ≡ (tree.variable number, rows.set_after int_type from number (given value.value draft.old))) }
+    ensures { IfOk result (λ e. given e.value draft.new
+        ≡ (tree.variable number, rows.set_after int_type from number (given value.value draft.old))) }
 {
     set(draft, int_type, from, number, value)?;
     variable(alloc, number)
@@ -202,7 +207,8 @@ fn updated_tree(
     old: Box<Tree>,
     value: Box<Tree>,
 ) -> Result<Tree, AllocError>
-    ensures { IfOk result (λ e. tree_view e ≡ folding.updated_tree op site in_type int_type from (tree_view old.value) (tree_view value.value)) }
+    ensures { IfOk result (λ e. tree_view e
+        ≡ folding.updated_tree op site in_type int_type from (tree_view old.value) (tree_view value.value)) }
 {
     let tree = operated_tree(alloc, op, site, in_type, int_type, from, old, value)?;
     let tree = boxed(alloc, tree)?;
@@ -221,7 +227,8 @@ pub fn update(
     number: usize,
     value: Box<Tree>,
 ) -> Result<(), AllocError>
-    ensures { OnOk result (drafted draft.new ≡ rows.update_after op site in_type int_type from number (given value.value draft.old)) }
+    ensures { OnOk result
+        (drafted draft.new ≡ rows.update_after op site in_type int_type from number (given value.value draft.old)) }
 {
     let old = variable(alloc, number)?;
     let tree = updated_tree(alloc, op, site, in_type, int_type, from, old, value)?;
@@ -240,7 +247,11 @@ pub fn update_kept(
     number: usize,
     value: Box<Tree>,
 ) -> Result<Box<Tree>, AllocError>
-    ensures { IfOk result (λ e. given e.value draft.new ≡ (tree.variable number, rows.update_after op site in_type int_type from number (given value.value draft.old))) }
+    ensures { IfOk result (λ e. given e.value draft.new
+        ≡ (
+          tree.variable number,
+          rows.update_after op site in_type int_type from number (given value.value draft.old),
+        )) }
 {
     update(
         alloc, draft, op, site, in_type, int_type, from, number, value,
@@ -295,7 +306,8 @@ pub fn renew(
     from: IntType,
     loaded: Loaded,
 ) -> Result<(), AllocError>
-    ensures { OnOk result (drafted draft.new ≡ rows.renew_unused op site in_type int_type place (array_view array) from (loaded_in loaded.index.value loaded.right.value loaded.element.value draft.old)) }
+    ensures { OnOk result (drafted draft.new ≡ rows.renew_unused op site in_type int_type place
+        (array_view array) from (loaded_in loaded.index.value loaded.right.value loaded.element.value draft.old)) }
 {
     let tree = updated_tree(
         alloc,
@@ -323,7 +335,9 @@ pub fn renew_kept(
     from: IntType,
     loaded: Loaded,
 ) -> Result<Box<Tree>, AllocError>
-    ensures { IfOk result (λ e. given e.value draft.new ≡ rows.renew_used op site in_type int_type place (array_view array) from (loaded_in loaded.index.value loaded.right.value loaded.element.value draft.old)) }
+    ensures { IfOk result (λ e. given e.value draft.new
+        ≡ rows.renew_used op site in_type int_type place (array_view array) from
+        (loaded_in loaded.index.value loaded.right.value loaded.element.value draft.old)) }
 {
     let tree = updated_tree(
         alloc,
@@ -380,7 +394,8 @@ pub fn update_element_kept(
     index: Box<Tree>,
     right: Box<Tree>,
 ) -> Result<Box<Tree>, AllocError>
-    ensures { IfOk result (λ e. given e.value draft.new ≡ rows.renew_used op site in_type int_type place (array_view array) from
+    ensures { IfOk result
+        (λ e. given e.value draft.new ≡ rows.renew_used op site in_type int_type place (array_view array) from
         (rows.loaded_after int_type place (array_view array) shape from (two_in index.value right.value draft.old))) }
 {
     let loaded = load_between(
@@ -403,7 +418,9 @@ pub fn renew_after(
     array: Array,
     loaded: Loaded,
 ) -> Result<Box<Tree>, AllocError>
-    ensures { IfOk result (λ e. given e.value draft.new ≡ rows.renew_old op site in_type int_type place (array_view array) (loaded_in loaded.index.value loaded.right.value loaded.element.value draft.old)) }
+    ensures { IfOk result (λ e. given e.value draft.new
+        ≡ rows.renew_old op site in_type int_type place (array_view array)
+        (loaded_in loaded.index.value loaded.right.value loaded.element.value draft.old)) }
 {
     let old = loaded.element.copy(alloc)?;
     let old = boxed(alloc, old)?;
@@ -445,7 +462,8 @@ pub fn step(
     int_type: IntType,
     number: usize,
 ) -> Result<(), AllocError>
-    ensures { OnOk result (drafted draft.new ≡ rows.update_scalar op site in_type int_type number rows.one (drafted draft.old)) }
+    ensures { OnOk result
+        (drafted draft.new ≡ rows.update_scalar op site in_type int_type number rows.one (drafted draft.old)) }
 {
     let one = one(alloc)?;
     update(
@@ -471,7 +489,8 @@ pub fn step_kept(
     int_type: IntType,
     number: usize,
 ) -> Result<Box<Tree>, AllocError>
-    ensures { IfOk result (λ e. given e.value draft.new ≡ (tree.variable number, rows.update_scalar op site in_type int_type number rows.one (drafted draft.old))) }
+    ensures { IfOk result (λ e. given e.value draft.new
+        ≡ (tree.variable number, rows.update_scalar op site in_type int_type number rows.one (drafted draft.old))) }
 {
     step(alloc, draft, op, site, in_type, int_type, number)?;
     variable(alloc, number)
@@ -487,7 +506,8 @@ pub fn step_after(
     int_type: IntType,
     number: usize,
 ) -> Result<Box<Tree>, AllocError>
-    ensures { IfOk result (λ e. given e.value draft.new ≡ rows.after_scalar op site in_type int_type number (drafted draft.old)) }
+    ensures { IfOk result
+        (λ e. given e.value draft.new ≡ rows.after_scalar op site in_type int_type number (drafted draft.old)) }
 {
     let old = stored(alloc, draft, int_type, Tree::variable(number))?;
     step(alloc, draft, op, site, in_type, int_type, number)?;
@@ -525,7 +545,8 @@ pub fn unary(
     int_type: IntType,
     operand: Box<Tree>,
 ) -> Result<Box<Tree>, AllocError>
-    ensures { IfOk result (λ e. tree_view e.value ≡ folding.unary_tree op site int_type (folding.conversion from int_type (tree_view operand.value))) }
+    ensures { IfOk result (λ e. tree_view e.value
+        ≡ folding.unary_tree op site int_type (folding.conversion from int_type (tree_view operand.value))) }
 {
     let operand = converted(alloc, from, int_type, operand)?;
     boxed(alloc, unary_tree(op, site, int_type, operand))
@@ -542,7 +563,8 @@ pub fn binary(
     left: Box<Tree>,
     right: Box<Tree>,
 ) -> Result<Box<Tree>, AllocError>
-    ensures { IfOk result (λ e. tree_view e.value ≡ folding.operated_tree op site int_type u v (tree_view left.value) (tree_view right.value)) }
+    ensures { IfOk result (λ e. tree_view e.value
+        ≡ folding.operated_tree op site int_type u v (tree_view left.value) (tree_view right.value)) }
 {
     let tree = operated_tree(alloc, op, site, int_type, u, v, left, right)?;
     boxed(alloc, tree)
@@ -586,7 +608,8 @@ pub struct Join {
 
 /// New points for both truths and behind them, and a temporary.
 pub fn begin_join(alloc: Global, draft: &mut Draft, int_type: IntType) -> Result<Join, AllocError>
-    ensures draft { OnOk result (drafted draft.new ≡ drafts.with_temporary int_type (drafts.fresh 3 (drafted draft.old))) }
+    ensures draft { OnOk result
+        (drafted draft.new ≡ drafts.with_temporary int_type (drafts.fresh 3 (drafted draft.old))) }
     ensures join { IfOk result (λ j. IsJoin j (drafted draft.old).points (drafted draft.old).variables) }
 {
     let variable = draft.variables();
@@ -602,7 +625,8 @@ pub fn begin_join(alloc: Global, draft: &mut Draft, int_type: IntType) -> Result
 
 /// The truths 1 and 0, each at its point, are put into the temporary.
 pub fn end_truth(alloc: Global, draft: &mut Draft, join: Join) -> Result<Box<Tree>, AllocError>
-    ensures { IfOk result (λ e. given e.value draft.new ≡ rows.truths join.if_true join.if_false join.behind join.variable (drafted draft.old)) }
+    ensures { IfOk result (λ e. given e.value draft.new
+        ≡ rows.truths join.if_true join.if_false join.behind join.variable (drafted draft.old)) }
 {
     draft.at(join.if_true);
     let tree = one(alloc)?;
@@ -619,7 +643,11 @@ pub fn end_join(
     join: Join,
     last: Box<Tree>,
 ) -> Result<Box<Tree>, AllocError>
-    ensures { IfOk result (λ e. given e.value draft.new ≡ (tree.variable join.variable, rows.set_between join.variable join.behind join.behind (given last.value draft.old))) }
+    ensures { IfOk result (λ e. given e.value draft.new
+        ≡ (
+          tree.variable join.variable,
+          rows.set_between join.variable join.behind join.behind (given last.value draft.old),
+        )) }
 {
     set_between(draft, join.variable, join.behind, join.behind, last)?;
     variable(alloc, join.variable)

@@ -9,9 +9,10 @@ use Rattle.pk_typed.specs.Trees.{LocalTree}
 use Rattle.pk_typed.specs.Views.{local_tree}
 use Rattle.pk_graph.specs.Graphs.{VariableOf}
 use Rattle.pk_draft.specs.Drafts.{DraftOf, with_name, with_object, inner}
-use Rattle.pk_lower_row.specs.Contexts.{Context, no_local, local_at}
+use Rattle.pk_lower_row.specs.Contexts.{Context, local_at}
 use Rattle.pk_lower_row.proofs.ContextLemmas.{local_read}
 use Rattle.pk_lower_statement.specs.Statements.{named, introduced}
+use Rattle.pk_typed.specs.Defaults.{no_local}
 
 pub local_name : (xs : List Local) (i : ℕ) (x : Local) → i < length xs → (get_or xs i x).name ≡ (get_or (map local_tree xs) i no_local).name
 unfolding local_tree

@@ -5,7 +5,7 @@ use Rattle.pk_ctypes.specs.declared.types.IntType.{IntType}
 use Rattle.pk_ctypes.specs.declared.types.IntType.TheVariants.{Int}
 use Rattle.pk_ctypes.specs.declared.types.Op.TheVariants.{Eq}
 use Rattle.pk_typed.specs.declared.values.Variable.TheVariants.{Local}
-use Rattle.pk_typed.specs.Trees.{ValueTree, EffectTree, ValueTrees, DeclaredTree, ForStartTree, StatementTree, ItemTrees, LocalTree}
+use Rattle.pk_typed.specs.Trees.{ValueTree, EffectTree, ValueTrees, DeclaredTree, ForStartTree, StatementTree, ItemTrees}
 use Rattle.pk_typed.specs.Trees as tree
 use Rattle.pk_typed.specs.Types.{type_of}
 use Rattle.pk_lower_statement.specs.declared.statements.Exits.{Exits}
@@ -84,7 +84,8 @@ abbrev pub round : {V : Type 0} → Exits → (Exits → DraftOf V → DraftOf V
 round x s b e k d = go Skip k (s (inside e k x) (at b d))
 
 -- a `while` from its head, the current point: the test, the body from b, back; it ends at e
-abbrev pub while_from : {V : Type 0} → Ways V → (Exits → DraftOf V → DraftOf V) → Exits → (b e : ℕ) → DraftOf V → DraftOf V
+abbrev pub while_from : {V : Type 0} → Ways V → (Exits → DraftOf V → DraftOf V) → Exits → (b e : ℕ) → DraftOf V →
+    DraftOf V
 while_from c s x b e d = round x s b e d.point (c.choice b e d)
 
 -- three new points, on at the first
@@ -96,7 +97,8 @@ abbrev pub while_draft : {V : Type 0} → Ways V → (Exits → DraftOf V → Dr
 while_draft c s x d = let h = d.points in at (h + 2) (while_from c s x (h + 1) (h + 2) (loop_begun d))
 
 -- a `do` from its body, at the current point: the body, the test at k
-abbrev pub do_from : {V : Type 0} → Pos → Ways V → (Exits → DraftOf V → DraftOf V) → Exits → (k e : ℕ) → DraftOf V → DraftOf V
+abbrev pub do_from : {V : Type 0} → Pos → Ways V → (Exits → DraftOf V → DraftOf V) → Exits → (k e : ℕ) → DraftOf V →
+    DraftOf V
 do_from p c s x k e d = c.choice d.point e (on p (round x s d.point e k d))
 
 -- new body, test, end
@@ -104,11 +106,15 @@ abbrev pub do_draft : {V : Type 0} → Pos → Ways V → (Exits → DraftOf V �
 do_draft p c s x d = let b = d.points in at (b + 2) (do_from p c s x (b + 1) (b + 2) (loop_begun d))
 
 -- a `for` from its head, the current point: the test, the body from b, the third part from k, back; it ends at e
-abbrev pub for_from : {V : Type 0} → Pos → (test : (p q : ℕ) → DraftOf V → DraftOf V) → (third : DraftOf V → DraftOf V) → (Exits → DraftOf V → DraftOf V) → Exits → (b k e : ℕ) → DraftOf V → DraftOf V
-for_from p test third s x b k e d = go Skip d.point (third (in_scope d.here.scope (on p (round x s b e k (test b e d)))))
+abbrev pub for_from : {V : Type 0} → Pos → (test : (p q : ℕ) → DraftOf V → DraftOf V) →
+    (third : DraftOf V → DraftOf V) → (Exits → DraftOf V → DraftOf V) → Exits → (b k e : ℕ) → DraftOf V → DraftOf V
+for_from p test third s x b k e d =
+    go Skip d.point (third (in_scope d.here.scope (on p (round x s b e k (test b e d)))))
 
 -- new end; the first part, in whose scope the rest is; new head, body, third part
-abbrev pub for_draft : {V : Type 0} → Pos → (first : DraftOf V → DraftOf V) → (test : (p q : ℕ) → DraftOf V → DraftOf V) → (third : DraftOf V → DraftOf V) → (Exits → DraftOf V → DraftOf V) → Exits → DraftOf V → DraftOf V
+abbrev pub for_draft : {V : Type 0} → Pos → (first : DraftOf V → DraftOf V) →
+    (test : (p q : ℕ) → DraftOf V → DraftOf V) → (third : DraftOf V → DraftOf V) → (Exits → DraftOf V → DraftOf V) →
+    Exits → DraftOf V → DraftOf V
 for_draft p first test third s x d =
     let e = d.points in
     let f = on p (first (fresh 1 d)) in
@@ -141,9 +147,11 @@ abbrev pub switch_begun : {V : Type 0} → Site → IntType → List ℤ → Boo
 switch_begun s t zs has_default k =
     let e = k.1.points in
     let n = length zs in
-    away (if has_default then e + 1 + n else e) (case_tests s t k.0 zs (e + 1) (fresh (1 + n + (if has_default then 1 else 0)) k.1))
+    away (if has_default then e + 1 + n else e)
+    (case_tests s t k.0 zs (e + 1) (fresh (1 + n + (if has_default then 1 else 0)) k.1))
 
-abbrev pub switch_draft : {V : Type 0} → Site → IntType → Operand V → List ℤ → Bool → (Exits → DraftOf V → DraftOf V) → Exits → DraftOf V → DraftOf V
+abbrev pub switch_draft : {V : Type 0} → Site → IntType → Operand V → List ℤ → Bool →
+    (Exits → DraftOf V → DraftOf V) → Exits → DraftOf V → DraftOf V
 switch_draft s t v zs has_default body x d =
     let k = tested t v d in
     let e = k.1.points in

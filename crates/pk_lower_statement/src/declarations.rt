@@ -8,7 +8,7 @@ ghost use Rattle.pk_draft.specs.Drafts as drafts;
 ghost use Rattle.pk_draft.specs.Shown.{drafted};
 ghost use Rattle.pk_lower_row.specs.Contexts as contexts;
 ghost use Rattle.pk_lower_row.specs.Rows as expressions;
-ghost use Rattle.pk_lower_expression.specs.Expressions.{ways, performed};
+ghost use Rattle.pk_lower_expression.specs.Expressions.{ways};
 ghost use Rattle.pk_lower_row.specs.Views.{context_in, given};
 ghost use Rattle.pk_lower_statement.specs.Statements as rows;
 
@@ -22,7 +22,8 @@ use std::alloc::AllocError;
 
 // A variable's name comes into scope, if it has one.
 fn name_if(draft: &mut Draft, is_named: bool, variable: usize) -> Result<(), AllocError>
-    ensures { OnOk result (drafted draft.new ≡ if◌then◌else◌ is_named (drafts.with_name variable (drafted draft.old)) (drafted draft.old)) }
+    ensures { OnOk result (drafted draft.new
+        ≡ if◌then◌else◌ is_named (drafts.with_name variable (drafted draft.old)) (drafted draft.old)) }
 {
     if is_named {
         draft.name(variable)
@@ -83,7 +84,8 @@ fn put_item(
     to: IntType,
     tree: Box<Tree>,
 ) -> Result<(), AllocError>
-    ensures { OnOk result (drafted draft.new ≡ rows.item_after (array_view array) site number from to (given tree.value draft.old)) }
+    ensures { OnOk result
+        (drafted draft.new ≡ rows.item_after (array_view array) site number from to (given tree.value draft.old)) }
 {
     let index = Tree::constant(IntType::Int, number as i128);
     let tree = conversion(from, to, tree);
@@ -98,7 +100,8 @@ fn item(
     number: usize,
     item: &Value,
 ) -> Result<(), AllocError>
-    ensures { OnOk result (drafted draft.new ≡ rows.item (context_in context.now) object number (type_of (value_tree item.now)) (ways (context_in context.now) (value_tree item.now)) (drafted draft.old)) }
+    ensures { OnOk result (drafted draft.new ≡ rows.item (context_in context.now) object number
+        (type_of (value_tree item.now)) (ways (context_in context.now) (value_tree item.now)) (drafted draft.old)) }
 {
     let array = context.array(draft, Variable::Local(object));
     let site = context.site(draft.here().at);
@@ -113,7 +116,8 @@ fn items(
     object: usize,
     list: &[Value],
 ) -> Result<(), AllocError>
-    ensures { OnOk result (drafted draft.new ≡ rows.items (context_in context.now) object 0 (value_trees list.now) (drafted draft.old)) }
+    ensures { OnOk result (drafted draft.new
+        ≡ rows.items (context_in context.now) object 0 (value_trees list.now) (drafted draft.old)) }
 {
     for (number, value) in list.iter().enumerate() {
         item(context, draft, object, number, value)?;
@@ -127,7 +131,8 @@ fn begin_scalar(
     object: usize,
     first: &Option<Value>,
 ) -> Result<(), AllocError>
-    ensures { OnOk result (drafted draft.new ≡ rows.scalar_first (context_in context.now) object (option_map value_tree first.now) (drafted draft.old)) }
+    ensures { OnOk result (drafted draft.new
+        ≡ rows.scalar_first (context_in context.now) object (option_map value_tree first.now) (drafted draft.old)) }
 {
     match first {
         None => anything(context, draft, object),
@@ -151,7 +156,8 @@ fn begin_array(
     object: usize,
     list: &Option<Vec<Value>>,
 ) -> Result<(), AllocError>
-    ensures { OnOk result (drafted draft.new ≡ rows.array_first (context_in context.now) object (optional_values list.now) (drafted draft.old)) }
+    ensures { OnOk result (drafted draft.new
+        ≡ rows.array_first (context_in context.now) object (optional_values list.now) (drafted draft.old)) }
 {
     match list {
         None => anything(context, draft, object),
@@ -170,7 +176,8 @@ pub fn declare(
     draft: &mut Draft,
     object: &Declared,
 ) -> Result<(), AllocError>
-    ensures { OnOk result (drafted draft.new ≡ rows.declared (context_in context.now) (declared_tree object.now) (drafted draft.old)) }
+    ensures { OnOk result
+        (drafted draft.new ≡ rows.declared (context_in context.now) (declared_tree object.now) (drafted draft.old)) }
 {
     match object {
         Declared::Scalar(number, at, first) => {
@@ -191,7 +198,8 @@ pub fn declare_all(
     draft: &mut Draft,
     objects: &[Declared],
 ) -> Result<(), AllocError>
-    ensures { OnOk result (drafted draft.new ≡ rows.all_declared (context_in context.now) (declared_trees objects.now) (drafted draft.old)) }
+    ensures { OnOk result (drafted draft.new
+        ≡ rows.all_declared (context_in context.now) (declared_trees objects.now) (drafted draft.old)) }
 {
     for object in objects {
         declare(context, draft, object)?;

@@ -6,7 +6,7 @@ ghost use Rattle.pk_typed.specs.Views.{value_tree};
 ghost use Rattle.pk_draft.specs.Shown.{drafted};
 ghost use Rattle.pk_lower_row.specs.Contexts as contexts;
 ghost use Rattle.pk_lower_row.specs.Rows as expressions;
-ghost use Rattle.pk_lower_expression.specs.Expressions.{ways, performed};
+ghost use Rattle.pk_lower_expression.specs.Expressions.{ways};
 ghost use Rattle.pk_lower_row.specs.Views.{context_in};
 ghost use Rattle.pk_lower_statement.specs.Statements as rows;
 
@@ -32,7 +32,9 @@ fn result(
     returns: IntType,
     returned: &Value,
 ) -> Result<(), AllocError>
-    ensures { OnOk result (drafted draft.new ≡ expressions.set_after returns (type_of (value_tree returned.now)) (contexts.own_result (context_in context.now) (drafted draft.old)) ((ways (context_in context.now) (value_tree returned.now)).value (drafted draft.old))) }
+    ensures { OnOk result (drafted draft.new ≡ expressions.set_after returns (type_of (value_tree returned.now))
+        (contexts.own_result (context_in context.now) (drafted draft.old))
+        ((ways (context_in context.now) (value_tree returned.now)).value (drafted draft.old))) }
 {
     let variable = own_result(context, draft);
     let tree = value(context, draft, returned)?;
@@ -47,7 +49,8 @@ pub fn return_value(
     left: usize,
     returned: &Option<Value>,
 ) -> Result<(), AllocError>
-    ensures { OnOk result (drafted draft.new ≡ rows.returned (context_in context.now) left (context_in context.now).returns (option_map value_tree returned.now) (drafted draft.old)) }
+    ensures { OnOk result (drafted draft.new ≡ rows.returned (context_in context.now) left
+        (context_in context.now).returns (option_map value_tree returned.now) (drafted draft.old)) }
 {
     match context.returns {
         None => draft.away(left),

@@ -45,7 +45,8 @@ fn perform_if(
     draft: &mut Draft,
     effect: &Option<Effect>,
 ) -> Result<(), AllocError>
-    ensures { OnOk result (drafted draft.new ≡ rows.performed_if (context_in context.now) (option_map effect_tree effect.now) (drafted draft.old)) }
+    ensures { OnOk result (drafted draft.new
+        ≡ rows.performed_if (context_in context.now) (option_map effect_tree effect.now) (drafted draft.old)) }
 {
     match effect {
         None => Ok(()),
@@ -55,7 +56,8 @@ fn perform_if(
 
 #[tactic(auto, unfolding(pk_typed::specs::Views::for_start_tree))]
 fn start_for(context: &Context<'_>, draft: &mut Draft, start: &ForStart) -> Result<(), AllocError>
-    ensures { OnOk result (drafted draft.new ≡ rows.for_start (context_in context.now) (for_start_tree start.now) (drafted draft.old)) }
+    ensures { OnOk result
+        (drafted draft.new ≡ rows.for_start (context_in context.now) (for_start_tree start.now) (drafted draft.old)) }
 {
     match start {
         ForStart::Declared(objects) => declare_all(context, draft, objects.as_slice()),
@@ -70,7 +72,8 @@ fn test_for(
     if_false: usize,
     test: &Option<Value>,
 ) -> Result<(), AllocError>
-    ensures { OnOk result (drafted draft.new ≡ rows.for_test (context_in context.now) (option_map value_tree test.now) if_true if_false (drafted draft.old)) }
+    ensures { OnOk result (drafted draft.new ≡ rows.for_test (context_in context.now)
+        (option_map value_tree test.now) if_true if_false (drafted draft.old)) }
 {
     match test {
         None => draft.link(Instr::skip(), if_true),
@@ -85,7 +88,8 @@ fn begin_if(
     at: Pos,
     condition: &Value,
 ) -> Result<usize, AllocError>
-    ensures draft { OnOk result (drafted draft.new ≡ rows.branching at (ways (context_in context.now) (value_tree condition.now)) (drafted draft.old)) }
+    ensures draft { OnOk result (drafted draft.new
+        ≡ rows.branching at (ways (context_in context.now) (value_tree condition.now)) (drafted draft.old)) }
     ensures first { IfOk result (λ p. p ≡ (drafted draft.old).points) }
     ensures fits { IfOk result (λ p. p + 2 < 2 ^ 64) }
 {
@@ -131,7 +135,8 @@ fn round(
     to: usize,
     body: &Statement,
 ) -> Result<(), AllocError>
-    ensures { OnOk result (drafted draft.new ≡ rows.round exits (rows.lowered (context_in context.now) (statement_tree body.now)) from broken to (drafted draft.old)) }
+    ensures { OnOk result (drafted draft.new ≡ rows.round exits
+        (rows.lowered (context_in context.now) (statement_tree body.now)) from broken to (drafted draft.old)) }
 {
     draft.at(from);
     let inner = Exits {
@@ -152,7 +157,9 @@ fn lower_while(
     body: &Statement,
     condition: &Value,
 ) -> Result<(), AllocError>
-    ensures { OnOk result (drafted draft.new ≡ rows.while_draft (ways (context_in context.now) (value_tree condition.now)) (rows.lowered (context_in context.now) (statement_tree body.now)) exits (drafts.on at (drafted draft.old))) }
+    ensures { OnOk result (drafted draft.new ≡ rows.while_draft
+        (ways (context_in context.now) (value_tree condition.now))
+        (rows.lowered (context_in context.now) (statement_tree body.now)) exits (drafts.on at (drafted draft.old))) }
 {
     draft.on(at);
     let head = begin_loop(draft)?;
@@ -171,7 +178,9 @@ fn lower_do(
     body: &Statement,
     condition: &Value,
 ) -> Result<(), AllocError>
-    ensures { OnOk result (drafted draft.new ≡ rows.do_draft at (ways (context_in context.now) (value_tree condition.now)) (rows.lowered (context_in context.now) (statement_tree body.now)) exits (drafts.on at (drafted draft.old))) }
+    ensures { OnOk result (drafted draft.new ≡ rows.do_draft at
+        (ways (context_in context.now) (value_tree condition.now))
+        (rows.lowered (context_in context.now) (statement_tree body.now)) exits (drafts.on at (drafted draft.old))) }
 {
     draft.on(at);
     let first = begin_loop(draft)?;
@@ -191,8 +200,13 @@ fn lower_for(
     head: &ForHead,
     body: &Statement,
 ) -> Result<(), AllocError>
-    ensures { let h = head.now in OnOk result (drafted draft.new ≡ rows.for_draft at (rows.for_start (context_in context.now) (for_start_tree h.start)) (rows.for_test (context_in context.now) (option_map value_tree h.test))
-        (rows.performed_if (context_in context.now) (option_map effect_tree h.step)) (rows.lowered (context_in context.now) (statement_tree body.now)) exits (drafts.on at (drafted draft.old))) }
+    ensures { let h = head.now in
+        OnOk result (drafted draft.new ≡ rows.for_draft at
+        (rows.for_start (context_in context.now) (for_start_tree h.start))
+        (rows.for_test (context_in context.now) (option_map value_tree h.test))
+        (rows.performed_if (context_in context.now) (option_map effect_tree h.step))
+        (rows.lowered (context_in context.now) (statement_tree body.now)) exits
+        (drafts.on at (drafted draft.old))) }
 {
     draft.on(at);
     let outer = draft.here().scope;
@@ -224,8 +238,10 @@ fn lower_switch(
     cases: &[i128],
     has_default: bool,
 ) -> Result<(), AllocError>
-    ensures { OnOk result (drafted draft.new ≡ rows.switch_draft (contexts.site (context_in context.now) at) int_type (expressions.operand (value_tree value.now) (ways (context_in context.now) (value_tree value.now)))
-        cases.now has_default (rows.lowered (context_in context.now) (statement_tree body.now)) exits (drafts.on at (drafted draft.old))) }
+    ensures { OnOk result (drafted draft.new ≡ rows.switch_draft (contexts.site (context_in context.now) at) int_type
+        (expressions.operand (value_tree value.now) (ways (context_in context.now) (value_tree value.now)))
+        cases.now has_default (rows.lowered (context_in context.now) (statement_tree body.now)) exits
+        (drafts.on at (drafted draft.old))) }
 {
     draft.on(at);
     let end = open_switch(context, draft, at, int_type, value, cases, has_default)?;
@@ -247,7 +263,8 @@ pub fn lower(
     exits: Exits,
     statement: &Statement,
 ) -> Result<(), AllocError>
-    ensures { OnOk result (drafted draft.new ≡ rows.lowered (context_in context.now) (statement_tree statement.now) exits (drafted draft.old)) }
+    ensures { OnOk result (drafted draft.new
+        ≡ rows.lowered (context_in context.now) (statement_tree statement.now) exits (drafted draft.old)) }
 {
     match statement {
         Statement::Block(_, items) => {
@@ -351,7 +368,8 @@ pub fn lower_items(
     exits: Exits,
     items: &[Item],
 ) -> Result<(), AllocError>
-    ensures { OnOk result (drafted draft.new ≡ rows.lowered_items (context_in context.now) (item_trees items.now) exits (drafted draft.old)) }
+    ensures { OnOk result (drafted draft.new
+        ≡ rows.lowered_items (context_in context.now) (item_trees items.now) exits (drafted draft.old)) }
 {
     for item in items {
         match item {

@@ -28,7 +28,8 @@ fn test_cases(
     cases: &[i128],
     first: usize,
 ) -> Result<(), AllocError>
-    ensures { OnOk result (drafted draft.new ≡ rows.case_tests site int_type (tree_view tree.now) cases.now first (drafted draft.old)) }
+    ensures { OnOk result
+        (drafted draft.new ≡ rows.case_tests site int_type (tree_view tree.now) cases.now first (drafted draft.old)) }
 {
     let mut point = first;
     for case in cases {
@@ -47,7 +48,8 @@ fn test_case(
     case: &i128,
     point: usize,
 ) -> Result<(), AllocError>
-    ensures { OnOk result (drafted draft.new ≡ rows.case_test site int_type (tree_view tree.now) case.now point (drafted draft.old)) }
+    ensures { OnOk result
+        (drafted draft.new ≡ rows.case_test site int_type (tree_view tree.now) case.now point (drafted draft.old)) }
 {
     let next = draft.fresh(1)?;
     let copy = tree.copy(alloc)?;
@@ -66,7 +68,9 @@ fn tested(
     int_type: IntType,
     switched: &Value,
 ) -> Result<Box<Tree>, AllocError>
-    ensures { IfOk result (λ e. given e.value draft.new ≡ rows.tested int_type (operand (value_tree switched.now) (ways (context_in context.now) (value_tree switched.now))) (drafted draft.old)) }
+    ensures { IfOk result (λ e. given e.value draft.new
+        ≡ rows.tested int_type (operand (value_tree switched.now)
+        (ways (context_in context.now) (value_tree switched.now))) (drafted draft.old)) }
 {
     let tree = value(context, draft, switched)?;
     let from = switched.int_type();
@@ -85,7 +89,8 @@ fn begin_switch(
     has_default: bool,
     tree: &Tree,
 ) -> Result<usize, AllocError>
-    ensures draft { OnOk result (drafted draft.new ≡ rows.switch_begun site int_type cases.now has_default (given tree.now draft.old)) }
+    ensures draft { OnOk result
+        (drafted draft.new ≡ rows.switch_begun site int_type cases.now has_default (given tree.now draft.old)) }
     ensures end { IfOk result (λ e. e ≡ (drafted draft.old).points) }
     ensures fits { IfOk result (λ e. e + 1 + length cases.now < 2 ^ 64) }
 {
@@ -107,9 +112,13 @@ pub fn open_switch(
     cases: &[i128],
     has_default: bool,
 ) -> Result<usize, AllocError>
-    ensures draft { OnOk result (drafted draft.new ≡ rows.switch_begun (contexts.site (context_in context.now) at) int_type cases.now has_default
-        (rows.tested int_type (operand (value_tree switched.now) (ways (context_in context.now) (value_tree switched.now))) (drafted draft.old))) }
-    ensures end { IfOk result (λ e. e ≡ (rows.tested int_type (operand (value_tree switched.now) (ways (context_in context.now) (value_tree switched.now))) (drafted draft.old)).1.points) }
+    ensures draft { OnOk result (drafted draft.new
+        ≡ rows.switch_begun (contexts.site (context_in context.now) at) int_type cases.now has_default
+        (rows.tested int_type (operand (value_tree switched.now)
+        (ways (context_in context.now) (value_tree switched.now))) (drafted draft.old))) }
+    ensures end { IfOk result
+        (λ e. e ≡ (rows.tested int_type (operand (value_tree switched.now)
+        (ways (context_in context.now) (value_tree switched.now))) (drafted draft.old)).1.points) }
     ensures fits { IfOk result (λ e. e + 1 + length cases.now < 2 ^ 64) }
 {
     let tree = tested(context, draft, int_type, switched)?;

@@ -2,12 +2,11 @@
 use Rattle.std.specs.Prelude.{ℕ, zero, suc, ◌+◌, ◌-◌, nat_eq, Bool, false, ◌&&◌, codes, if◌then◌else◌, pos, List, [], ◌∷◌, ◌++◌, length, map, replicate, slice_get, slice_index_or, Option, Some, None, unwrap_or, option_map}
 use Rattle.std.specs.Option.{option_and_then}
 use Rattle.std.specs.Str.{bytes_eq}
-use Rattle.pk_ctypes.specs.declared.places.Pos.{Pos}
 use Rattle.pk_ctypes.specs.declared.types.IntType.{IntType}
 use Rattle.pk_ctypes.specs.declared.types.IntType.TheVariants.{Int}
 use Rattle.pk_typed.specs.declared.values.Variable.{Variable}
 use Rattle.pk_typed.specs.declared.values.Variable.TheVariants.{File, Local}
-use Rattle.pk_typed.specs.Trees.{DeclaredTree, scalar_object, array_object, no_items, LocalTree, BodyTree, FunctionTree, StartTree, scalar_start, array_start, FileObjectTree, UnitTree}
+use Rattle.pk_typed.specs.Trees.{DeclaredTree, scalar_object, array_object, LocalTree, BodyTree, FunctionTree, StartTree, scalar_start, array_start, FileObjectTree, UnitTree}
 use Rattle.pk_calls.specs.declared.listings.Caller.{Caller}
 use Rattle.pk_calls.specs.declared.listings.CallPath.{CallPath}
 use Rattle.pk_calls.specs.Calls.{body_of}
@@ -15,23 +14,12 @@ use Rattle.pk_calls.specs.Paths.{entry_path}
 use Rattle.pk_graph.specs.Kinds.{count_of}
 use Rattle.pk_graph.specs.Steps.{Numbers}
 use Rattle.pk_meaning.specs.Objects.{Object, file, local, result, Scope, Array, Objects}
+use Rattle.pk_typed.specs.Defaults.{no_body, no_function, no_local, length_of_start}
 
 -- path 0 is the entry alone
 pub record Program : Type 0 where
   pub unit : UnitTree
   pub paths : List CallPath
-
-abbrev pub nowhere_in_text : Pos
-nowhere_in_text = record { line = 0; column = 0 }
-
-abbrev pub no_body : BodyTree
-no_body = record { opened = nowhere_in_text; closed = nowhere_in_text; locals = []; visible = 0; labels = 0; calls = []; items = no_items }
-
-abbrev pub no_function : FunctionTree
-no_function = record { name = []; returns = None; parameters = []; body = None }
-
-abbrev pub no_local : LocalTree
-no_local = record { name = None; int_type = Int; length = None }
 
 -- the number of a path's function, the function and its block
 abbrev pub function_number : Program → (path : ℕ) → ℕ
@@ -63,10 +51,6 @@ callee p k n = number_by k n p.paths
 abbrev pub object_of : (path : ℕ) → Variable → Object
 object_of k (File i) = file i
 object_of k (Local i) = local k i
-
-abbrev pub length_of_start : StartTree → Option ℕ
-length_of_start (scalar_start z) = None
-length_of_start (array_start n zs) = Some n
 
 abbrev pub length_of : Program → (path : ℕ) → Variable → Option ℕ
 length_of p k (File i) = option_and_then (λ (x : FileObjectTree). length_of_start x.start) (slice_get p.unit.objects i)

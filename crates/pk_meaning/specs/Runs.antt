@@ -14,10 +14,12 @@ abbrev pub with_arguments : ℕ → List IntType → Numbers → Objects → Opt
 with_arguments i [] [] s = Some s
 with_arguments i [] (z ∷ zs) s = None
 with_arguments i (t ∷ ts) [] s = None
-with_arguments i (t ∷ ts) (z ∷ zs) s = if is_in_type t z then with_arguments (i + 1) ts zs (with_numbers (local 0 i) (z ∷ []) s) else None
+with_arguments i (t ∷ ts) (z ∷ zs) s =
+    if is_in_type t z then with_arguments (i + 1) ts zs (with_numbers (local 0 i) (z ∷ []) s) else None
 
 abbrev pub begins : Program → Objects → Config
-begins p s = record { path = 0; here = body_place p 0; work = body_work p 0 Nobody; values = []; objects = s; is_visit = true }
+begins p s =
+    record { path = 0; here = body_place p 0; work = body_work p 0 Nobody; values = []; objects = s; is_visit = true }
 
 -- Where a run begins, if the choice is a number for each parameter of the entry (C99 5.1.2.2.1).
 abbrev pub start : Program → Numbers → Option Config
@@ -49,4 +51,5 @@ visits_if p c vs = if c.is_visit then visit_of p c ∷ vs else vs
 -- A run from one configuration to another, with the visits behind the first in order: each step with numbers where some are chosen.
 pub data Runs (p : Program) : Config → List Visit → Config → Type 0 where
   ends : {c : Config} → Runs p c [] c
-  steps : {c d e : Config} {vs : List Visit} (chosen : Numbers) → step p chosen c ≡ To d → Runs p d vs e → Runs p c (visits_if p d vs) e
+  steps : {c d e : Config} {vs : List Visit} (chosen : Numbers) → step p chosen c ≡ To d → Runs p d vs e →
+      Runs p c (visits_if p d vs) e

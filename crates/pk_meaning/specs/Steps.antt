@@ -67,7 +67,8 @@ abbrev mutual
   found p k m xs (tree.case at i s) a o = if is_case m i then Onward (place at xs) (Do s a) else found p k m xs s a o
   found p k m xs (tree.default at s) a o = if is_default m then Onward (place at xs) (Do s a) else found p k m xs s a o
   found p k m xs (tree.if_then at c s) a o = found p k m xs s (Join (place at xs) a) o
-  found p k m xs (tree.if_else at c s r) a o = found p k m xs s (Join (place at xs) a) (found p k m xs r (Join (place at xs) a) o)
+  found p k m xs (tree.if_else at c s r) a o =
+      found p k m xs s (Join (place at xs) a) (found p k m xs r (Join (place at xs) a) o)
   found p k m xs (tree.switch at t e zs b s) a o = past_switch m (found p k m xs s (Close (place at xs) a) o) o
   found p k m xs (tree.while at c s) a o = found p k m xs s (Again (place at xs) (While c s) (place at xs) a) o
   found p k m xs (tree.do_while at s c) a o = found p k m xs s (Again (place at xs) (DoWhile s c) (place at xs) a) o
@@ -161,7 +162,13 @@ takes c Lost vs = Stuck
 
 -- an object holds these numbers from here on
 abbrev pub writes : Config → Object → Numbers → Work → Numbers → Next
-writes c x zs w vs = To (record c { work = w; values = vs; objects = with_numbers x zs c.objects; is_visit = is_in_scope x c.here.scope })
+writes c x zs w vs =
+    To (record c {
+      work = w;
+      values = vs;
+      objects = with_numbers x zs c.objects;
+      is_visit = is_in_scope x c.here.scope;
+    })
 
 abbrev pub fails : Config → Fault → Pos → Next
 fails c f at = Faulted f (record { path = c.path; at = at })
@@ -252,11 +259,13 @@ read_place p c (tree.element t x at i) w = on c (Evaluate i (Load at (array_of p
 
 abbrev pub assigned : Program → (path : ℕ) → PlaceTree → ValueTree → Work → Work
 assigned p k (tree.scalar t x) e w = Evaluate e (Assign t (object_of k x) w)
-assigned p k (tree.element t x at i) e w = let a = array_of p k t x in Evaluate i (Keep (Evaluate e (Settle t (StoreKept at a w))))
+assigned p k (tree.element t x at i) e w = let a =
+    array_of p k t x in Evaluate i (Keep (Evaluate e (Settle t (StoreKept at a w))))
 
 abbrev pub updated : Program → (path : ℕ) → Op → Pos → IntType → PlaceTree → ValueTree → Work → Work
 updated p k op at o (tree.scalar t x) e w = Evaluate e (Update op at o t (object_of k x) w)
-updated p k op at o (tree.element t x r i) e w = let a = array_of p k t x in reload r a i e (Renewed op at o t (StoreKept r a w))
+updated p k op at o (tree.element t x r i) e w = let a =
+    array_of p k t x in reload r a i e (Renewed op at o t (StoreKept r a w))
 
 -- `x++` (C99 6.5.2.4)
 abbrev pub stepped : Program → Config → Op → Pos → IntType → PlaceTree → Work → Next
@@ -273,13 +282,16 @@ evaluate p ch c (tree.assign at q e) w = on c (assigned p c.path q e w) c.values
 evaluate p ch c (tree.update op at o q e) w = on c (updated p c.path op at o q e w) c.values
 evaluate p ch c (tree.step op at o q prefix) w =
     if prefix then on c (updated p c.path op at o q one w) c.values else stepped p c op at o q w
-evaluate p ch c (tree.call t f n at es) w = on c (called p c.path n es (Fetch t (result (callee p c.path n)) w)) c.values
+evaluate p ch c (tree.call t f n at es) w =
+    on c (called p c.path n es (Fetch t (result (callee p c.path n)) w)) c.values
 evaluate p ch c (tree.any t at) w = with_choice t 1 ch (on c w (number_at ch 0 ∷ c.values))
 evaluate p ch c (tree.unary op at t e) w = on c (Evaluate e (Apply op at t w)) c.values
 evaluate p ch c (tree.convert t e) w = on c (Evaluate e (Convert t w)) c.values
 evaluate p ch c (tree.binary op at t a b) w = on c (Evaluate a (Keep (Evaluate b (Operate op at t w)))) c.values
-evaluate p ch c (tree.and a b) w = on c (Test (tree.and a b) (Onward c.here (Truth (pos 1) w)) (Onward c.here (Truth (pos 0) w))) c.values
-evaluate p ch c (tree.or a b) w = on c (Test (tree.or a b) (Onward c.here (Truth (pos 1) w)) (Onward c.here (Truth (pos 0) w))) c.values
+evaluate p ch c (tree.and a b) w =
+    on c (Test (tree.and a b) (Onward c.here (Truth (pos 1) w)) (Onward c.here (Truth (pos 0) w))) c.values
+evaluate p ch c (tree.or a b) w =
+    on c (Test (tree.or a b) (Onward c.here (Truth (pos 1) w)) (Onward c.here (Truth (pos 0) w))) c.values
 evaluate p ch c (tree.conditional t e a b) w =
     on c (Test e (Onward c.here (Evaluate a (Settle t w))) (Onward c.here (Evaluate b (Settle t w)))) c.values
 evaluate p ch c (tree.then_value e v) w = on c (Perform e (Evaluate v w)) c.values
@@ -350,7 +362,8 @@ pass (value_before e es) w = Evaluate e (Keep (Pass es w))
 -- parameter i of a path has the value below those of the later ones
 abbrev pub bind : Config → (path i : ℕ) → List IntType → Work → Next
 bind c k i [] w = on c w c.values
-bind c k i (t ∷ ts) w = on_below (length ts) c.values (λ v vs. writes c (local k i) (wrapped t v ∷ []) (Bind k (i + 1) ts w) vs)
+bind c k i (t ∷ ts) w =
+    on_below (length ts) c.values (λ v vs. writes c (local k i) (wrapped t v ∷ []) (Bind k (i + 1) ts w) vs)
 
 -- ---- declarations (C99 6.7.8)
 
@@ -362,7 +375,8 @@ fill a j (value_before e es) w = Evaluate e (Item a j (Fill a (j + 1) es w))
 -- an object without initialiser holds any numbers
 abbrev pub anything : Program → Numbers → Config → ℕ → Work → Next
 anything p ch c i w =
-    let x = local_of p c.path i in with_choice x.int_type (count_of x.length) ch (writes c (local c.path i) ch w c.values)
+    let x = local_of p c.path i in
+    with_choice x.int_type (count_of x.length) ch (writes c (local c.path i) ch w c.values)
 
 abbrev pub scalar_first : Program → Numbers → Config → ℕ → Option ValueTree → Work → Next
 scalar_first p ch c i None w = anything p ch c i w
@@ -377,8 +391,10 @@ array_first p ch c i (Some es) w =
 
 -- an object is in scope in its own initialiser
 abbrev pub declares : Program → Numbers → Config → DeclaredTree → Work → Next
-declares p ch c (scalar_object i at e) w = scalar_first p ch (standing (place at (with_local p c.path i c.here.scope)) c) i e w
-declares p ch c (array_object i at es) w = array_first p ch (standing (place at (with_local p c.path i c.here.scope)) c) i es w
+declares p ch c (scalar_object i at e) w =
+    scalar_first p ch (standing (place at (with_local p c.path i c.here.scope)) c) i e w
+declares p ch c (array_object i at es) w =
+    array_first p ch (standing (place at (with_local p c.path i c.here.scope)) c) i es w
 
 abbrev pub all_declared : Program → Numbers → Config → List DeclaredTree → Work → Next
 all_declared p ch c [] w = on c w c.values
@@ -389,14 +405,16 @@ all_declared p ch c (d ∷ ds) w = declares p ch c d (Declare ds w)
 -- on with statements of a block, where these names are in scope
 abbrev pub rest : Program → Numbers → Config → Scope → ItemTrees → Ahead → Next
 rest p ch c xs no_items a = on c (Go a) c.values
-rest p ch c xs (declared_before d is) a = declares p ch (standing (place c.here.at xs) c) d (Go (Rest (with_declared p c.path d xs) is a))
+rest p ch c xs (declared_before d is) a =
+    declares p ch (standing (place c.here.at xs) c) d (Go (Rest (with_declared p c.path d xs) is a))
 rest p ch c xs (statement_before s is) a = on (standing (place c.here.at xs) c) (Do s (Rest xs is a)) c.values
 
 -- a loop where it begins again; without a test it goes on at its body
 abbrev pub turned : Config → Place → Loop → (behind : Place) → Ahead → Next
 turned c h (While t s) e a = on c (Test t (Onward h (Do s (Again h (While t s) e a))) (Onward e (Go a))) c.values
 turned c h (DoWhile s t) e a = on c (Do s (Again h (DoWhile s t) e a)) c.values
-turned c h (For (Some t) third s) e a = on c (Test t (Onward h (Do s (Again h (For (Some t) third s) e a))) (Onward e (Go a))) c.values
+turned c h (For (Some t) third s) e a =
+    on c (Test t (Onward h (Do s (Again h (For (Some t) third s) e a))) (Onward e (Go a))) c.values
 turned c h (For None third s) e a = comes c h (Do s (Again h (For None third s) e a)) c.values
 
 abbrev pub for_start : Config → ForStartTree → Work → Next
@@ -424,9 +442,11 @@ does p c (tree.label at l s) a = comes c (place at c.here.scope) (Do s a) c.valu
 does p c (tree.case at i s) a = comes c (place at c.here.scope) (Do s a) c.values
 does p c (tree.default at s) a = comes c (place at c.here.scope) (Do s a) c.values
 does p c (tree.if_then at t s) a =
-    let h = place at c.here.scope in on (standing h c) (Test t (Onward h (Do s (Join h a))) (Onward h (Go (Join h a)))) c.values
+    let h = place at c.here.scope in
+    on (standing h c) (Test t (Onward h (Do s (Join h a))) (Onward h (Go (Join h a)))) c.values
 does p c (tree.if_else at t s r) a =
-    let h = place at c.here.scope in on (standing h c) (Test t (Onward h (Do s (Join h a))) (Onward h (Do r (Join h a)))) c.values
+    let h = place at c.here.scope in
+    on (standing h c) (Test t (Onward h (Do s (Join h a))) (Onward h (Do r (Join h a)))) c.values
 does p c (tree.switch at t e zs b s) a =
     let h = place at c.here.scope in on (standing h c) (Evaluate e (Convert t (Keep (Choose t zs 0 b s h a)))) c.values
 does p c (tree.while at t s) a = let h = place at c.here.scope in comes c h (Turn h (While t s) h a) c.values
@@ -461,7 +481,8 @@ goes p ch c (Rest xs is a) = rest p ch c xs is a
 goes p ch c (Join h a) = comes c h (Go a) c.values
 goes p ch c (Again h l e a) = comes c h (resumed h l e a) c.values
 goes p ch c (Close h a) = comes c h (Go a) c.values
-goes p ch c (End k) = falls p ch (standing (place (block_of p c.path).closed (body_scope p c.path)) c) (function_of p c.path).returns k
+goes p ch c (End k) =
+    falls p ch (standing (place (block_of p c.path).closed (body_scope p c.path)) c) (function_of p c.path).returns k
 
 -- ---- calls (C99 6.5.2.2)
 
@@ -495,8 +516,10 @@ step_of p ch c (Evaluate e w) = evaluate p ch c e w
 step_of p ch c (Test e y n) = on c (tested c.here e y n) c.values
 step_of p ch c (Keep w) = on c w c.values
 step_of p ch c (Branch y n) = on_top c.values (λ v vs. if is_true v then takes c y vs else takes c n vs)
-step_of p ch c (Apply op at t w) = on_top c.values (λ v vs. with_value c at (value_of op t (wrapped t v) (wrapped t v)) (λ z. on c w (z ∷ vs)))
-step_of p ch c (Operate op at t w) = on_two c.values (λ u v vs. with_value c at (operated op t u v) (λ z. on c w (z ∷ vs)))
+step_of p ch c (Apply op at t w) =
+    on_top c.values (λ v vs. with_value c at (value_of op t (wrapped t v) (wrapped t v)) (λ z. on c w (z ∷ vs)))
+step_of p ch c (Operate op at t w) =
+    on_two c.values (λ u v vs. with_value c at (operated op t u v) (λ z. on c w (z ∷ vs)))
 step_of p ch c (Convert t w) = on_top c.values (λ v vs. on c w (wrapped t v ∷ vs))
 step_of p ch c (Settle t w) = on_top c.values (λ v vs. on c w (wrapped t v ∷ vs))
 step_of p ch c (Truth z w) = on c w (z ∷ c.values)
@@ -504,22 +527,30 @@ step_of p ch c (Drop w) = on_top c.values (λ v vs. on c w vs)
 step_of p ch c (Assign t x w) = on_top c.values (λ v vs. writes c x (wrapped t v ∷ []) w (wrapped t v ∷ vs))
 step_of p ch c (Put t x w) = on_top c.values (λ v vs. writes c x (wrapped t v ∷ []) w vs)
 step_of p ch c (Update op at o t x w) =
-    on_top c.values (λ v vs. with_value c at (operated op o (number_of x c.objects) v) (λ z. writes c x (wrapped t z ∷ []) w (wrapped t z ∷ vs)))
+    on_top c.values (λ v vs. with_value c at (operated op o (number_of x c.objects) v)
+    (λ z. writes c x (wrapped t z ∷ []) w (wrapped t z ∷ vs)))
 step_of p ch c (Advance op at o t x w) =
     with_value c at (operated op o (number_of x c.objects) (pos 1)) (λ z. writes c x (wrapped t z ∷ []) w c.values)
 step_of p ch c (Fetch t x w) = on c w (number_of x c.objects ∷ c.values)
-step_of p ch c (Load at a w) = on_top c.values (λ i vs. with_index c at a i (λ j. on c w (element_of a j c.objects ∷ vs)))
-step_of p ch c (Reload at a w) = on_two c.values (λ i v vs. with_index c at a i (λ j. on c w (element_of a j c.objects ∷ v ∷ i ∷ vs)))
-step_of p ch c (Store at a w) = on_two c.values (λ i v vs. with_index c at a i (λ j. stores c a j (wrapped a.int_type v) w vs))
+step_of p ch c (Load at a w) =
+    on_top c.values (λ i vs. with_index c at a i (λ j. on c w (element_of a j c.objects ∷ vs)))
+step_of p ch c (Reload at a w) =
+    on_two c.values (λ i v vs. with_index c at a i (λ j. on c w (element_of a j c.objects ∷ v ∷ i ∷ vs)))
+step_of p ch c (Store at a w) =
+    on_two c.values (λ i v vs. with_index c at a i (λ j. stores c a j (wrapped a.int_type v) w vs))
 step_of p ch c (StoreKept at a w) = on_two c.values (λ i v vs. with_index c at a i (λ j. stores c a j v w (v ∷ vs)))
 step_of p ch c (Renew op at o r a w) =
-    on_three c.values (λ i v u vs. with_value c at (operated op o u v) (λ z. with_index c r a i (λ j. stores c a j (wrapped a.int_type z) w vs)))
-step_of p ch c (Renewed op at o t w) = on_three c.values (λ i v u vs. with_value c at (operated op o u v) (λ z. on c w (wrapped t z ∷ i ∷ vs)))
+    on_three c.values (λ i v u vs.
+    with_value c at (operated op o u v) (λ z. with_index c r a i (λ j. stores c a j (wrapped a.int_type z) w vs)))
+step_of p ch c (Renewed op at o t w) =
+    on_three c.values (λ i v u vs. with_value c at (operated op o u v) (λ z. on c w (wrapped t z ∷ i ∷ vs)))
 step_of p ch c (Replace op at o r a w) =
-    on_three c.values (λ i v u vs. with_value c at (operated op o u v) (λ z. with_index c r a i (λ j. stores c a j (wrapped a.int_type z) w (u ∷ vs))))
+    on_three c.values (λ i v u vs. with_value c at (operated op o u v)
+    (λ z. with_index c r a i (λ j. stores c a j (wrapped a.int_type z) w (u ∷ vs))))
 step_of p ch c (Fill a j es w) = on c (fill a j es w) c.values
 step_of p ch c (Item a j w) = on_top c.values (λ v vs. stores c a j (wrapped a.int_type v) w vs)
-step_of p ch c (Claim at w) = on_top c.values (λ v vs. if is_true (wrapped Int v) then comes c c.here w vs else fails c faults.Assert at)
+step_of p ch c (Claim at w) =
+    on_top c.values (λ v vs. if is_true (wrapped Int v) then comes c c.here w vs else fails c faults.Assert at)
 step_of p ch c (Pass es w) = on c (pass es w) c.values
 step_of p ch c (Bind k i ts w) = bind c k i ts w
 step_of p ch c (Enter k w) = enters p c k w

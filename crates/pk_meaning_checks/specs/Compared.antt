@@ -1,5 +1,5 @@
 -- A run of a program and the run of its graph with the same choices, computed: how both end, and whether they have the same visits.
-use Rattle.std.specs.Prelude.{ℕ, zero, suc, ◌-◌, nat_eq, Bool, true, false, ◌&&◌, ℤ, pos, List, [], ◌∷◌, ◌++◌, length, map, replicate, drop, Option, Some, None}
+use Rattle.std.specs.Prelude.{ℕ, zero, suc, ◌-◌, nat_eq, Bool, true, false, ◌&&◌, ℤ, pos, List, [], ◌∷◌, ◌++◌, length, replicate, drop, Option, Some, None}
 use Rattle.std.specs.Ordering.{int_eq}
 use Rattle.std.specs.Str.{bytes_eq}
 use Rattle.pk_ctypes.specs.declared.places.Pos.{Pos}
@@ -10,15 +10,12 @@ use Rattle.pk_graph.specs.Steps as graph
 use Rattle.pk_graph.specs.Steps.{Numbers, Failure, failure, After, effect}
 use Rattle.pk_graph.specs.Stores.{Stored, storing}
 use Rattle.pk_graph.specs.Graphs.{StartOf, any_start, number_start, VariableOf, EdgeOf, GraphOf, point_at}
-use Rattle.pk_draft.specs.Drafts.{by_number}
-use Rattle.pk_lower.specs.Parts.{program_draft}
-use Rattle.pk_lower.specs.Paths.{path_of}
-use Rattle.pk_number.specs.Numbering.{numbered}
 use Rattle.pk_meaning.specs.Programs.{Program, function_of}
 use Rattle.pk_meaning.specs.Steps as meaning
 use Rattle.pk_meaning.specs.Steps.{Config, Next, step}
 use Rattle.pk_meaning.specs.Runs.{Known, Visit, visits_if, start}
 use Rattle.pk_visits.specs.GraphVisits as graphs
+use Rattle.pk_lower.specs.Graphs.{graph_of}
 
 pub data End : Type 0 where
   Fails : Failure → End
@@ -115,15 +112,15 @@ abbrev pub begun : List VariableOf → Numbers → Stored
 begun [] zs = []
 begun (x ∷ xs) zs = begun_by x x.start (begun xs) zs
 
-abbrev pub graph_of : Program → GraphOf
-graph_of p = numbered (map (path_of p.unit p.paths) p.paths) (program_draft by_number p.unit p.paths)
-
 abbrev pub graph_run : ℕ → Program → Numbers → Ran
 graph_run n p zs =
-    let g = graph_of p in
+    let g = graph_of p.unit p.paths in
     let ts = (function_of p 0).parameters in
     let s = begun g.variables zs in
-    record (runs n g (drop (length ts) zs) 0 s) { visits = graphs.visit_at g 0 s ∷ (runs n g (drop (length ts) zs) 0 s).visits }
+    record (runs n g (drop (length ts) zs) 0 s) {
+      visits = graphs.visit_at g 0 s
+          ∷ (runs n g (drop (length ts) zs) 0 s).visits;
+    }
 
 -- ---- compared
 
@@ -146,7 +143,8 @@ abbrev pub same_visits : List Visit → List Visit → Bool
 same_visits [] [] = true
 same_visits [] (w ∷ ws) = false
 same_visits (v ∷ vs) [] = false
-same_visits (v ∷ vs) (w ∷ ws) = nat_eq v.path w.path && same_pos v.at w.at && same_known v.known w.known && same_visits vs ws
+same_visits (v ∷ vs) (w ∷ ws) =
+    nat_eq v.path w.path && same_pos v.at w.at && same_known v.known w.known && same_visits vs ws
 
 -- how the program ends, how its graph ends, and whether they have the same visits
 pub record Answer : Type 0 where

@@ -4,7 +4,7 @@ use Rattle.std.proofs.Common.{◌∙◌, ap, refl, sym, subst, arith, inl, inr}
 use Rattle.std.proofs.lemmas.Bool.{cases_eq, cases_lt}
 use Rattle.std.proofs.lemmas.Int.{ints}
 use Rattle.pk_octclose.proofs.Closed.{back_same, closing_zero, tight_same, tight_zero}
-use Rattle.pk_octclose.proofs.Halves.{evened_here, evened_other, half_high, half_low, tight_column, tight_row}
+use Rattle.pk_octclose.proofs.Halves.{evened_here, evened_other, tight_column, tight_row}
 use Rattle.pk_octclose.proofs.Members.{evened_most}
 use Rattle.pk_octclose.proofs.Sums.{least_from}
 use Rattle.pk_octclose.proofs.Triangle.{IsSums, sums_triangle, tight_even, tight_triangle}
@@ -14,7 +14,7 @@ use Rattle.pk_octclose.specs.Closing.{IsClosing, IsEmpty, evened, there_and_back
 use Rattle.pk_octclose.specs.Walks.{HasLeastSums, relaxed, walk_sum}
 use Rattle.pk_octmat.proofs.Cells.{cell_column_out, cell_row_out}
 use Rattle.pk_octmat.proofs.Points.{at_most_capped, capped_le, capped_near, capped_same}
-use Rattle.pk_octmat.proofs.Tropical.{at_most_both, at_most_none, at_most_trans, lesser_above, lesser_left, lesser_right, plus_le}
+use Rattle.pk_octmat.proofs.Tropical.{at_most_both, at_most_none, at_most_trans, lesser_above, lesser_left, lesser_right, plus_le, half_high, half_low}
 use Rattle.pk_octmat.specs.Bounds.{AtMost, IsNear, capped, even_down, halved, is_negative, plus}
 use Rattle.pk_octmat.specs.Octagon.{IsMatrix, bar, cell_at}
 

@@ -1,9 +1,9 @@
 -- The closing is a matrix again.
-use Rattle.std.specs.Prelude.{◌≡◌, ◌≢◌, ℕ, ◌<◌, ◌≤◌, ◌*◌, ◌^◌, ◌==◌, ℤ, pos, Option, Some, None, Bool, true, false, if◌then◌else◌, ◌⊎◌, ◌-ℤ◌, List, length}
+use Rattle.std.specs.Prelude.{◌≡◌, ◌≢◌, ℕ, ◌<◌, ◌≤◌, ◌*◌, ℤ, pos, Option, Some, None, ◌⊎◌, ◌-ℤ◌, List, length}
 use Rattle.std.proofs.Common.{◌∙◌, ap, refl, sym, arith, inl, inr}
 use Rattle.std.proofs.lemmas.Bool.{cases_eq, cases_lt}
 use Rattle.std.proofs.lemmas.Int.{ints}
-use Rattle.pk_octclose.proofs.Halves.{evened_other, half_high, half_low}
+use Rattle.pk_octclose.proofs.Halves.{evened_other}
 use Rattle.pk_octclose.proofs.Members.{closing_holds, closing_most}
 use Rattle.pk_octclose.proofs.Turned.{sums_turned}
 use Rattle.pk_octclose.specs.Closing.{IsClosing, KeepsPoints, evened, there_and_back, tight}
@@ -11,8 +11,8 @@ use Rattle.pk_octmat.proofs.Bars.{bar_bar, bar_other}
 use Rattle.pk_octmat.proofs.Cells.{cell_column_out, cell_row_out}
 use Rattle.pk_octmat.proofs.Matrices.{matrix_from}
 use Rattle.pk_octmat.proofs.Points.{capped_near}
-use Rattle.pk_octmat.proofs.Tropical.{at_most_both, at_most_same, at_most_trans, lesser_above, lesser_left, plus_comm}
-use Rattle.pk_octmat.specs.Bounds.{AtMost, IsNear, capped, even_down, halved, lesser, plus}
+use Rattle.pk_octmat.proofs.Tropical.{at_most_both, at_most_same, at_most_trans, lesser_above, lesser_left, plus_comm, half_high}
+use Rattle.pk_octmat.specs.Bounds.{AtMost, capped, halved, lesser, plus}
 use Rattle.pk_octmat.specs.Octagon.{IsMatrix, Meets, bar, cell_at, side}
 
 pub evened_turned : (p : ℕ → ℕ → Option ℤ) (i j : ℕ) → p i j ≡ p (bar j) (bar i) → evened p i j ≡ evened p (bar j) (bar i)
@@ -66,17 +66,6 @@ pub back_same : (d n : ℕ) (p q : ℕ → ℕ → Option ℤ) → d ≡ 2 * n �
 back_same d n p q pairs h i id =
     let bi : bar i < d = omega (arith, pairs) in
     ap (λ s. plus s (p (bar i) i)) (h i (bar i) id bi) ∙ ap (λ s. plus (q i (bar i)) s) (h (bar i) i bi id)
-
-even_near : (b : Option ℤ) → IsNear (2 ^ 100) b → IsNear (2 ^ 100) (even_down b)
-even_near None h = tt
-even_near (Some z) h = (omega (arith, ints, h.0, half_high z), omega (arith, ints, h.1, half_low z))
-
-pub evened_near : (d : ℕ) (p : ℕ → ℕ → Option ℤ) → ((i j : ℕ) → i < d → j < d → IsNear (2 ^ 100) (p i j)) → (i j : ℕ) → i < d → j < d → IsNear (2 ^ 100) (evened p i j)
-evened_near d p h i j id jd = by (j == bar i)
-  where
-    by : (t : Bool) → IsNear (2 ^ 100) (if t then even_down (p i j) else p i j)
-    by true = even_near (p i j) (h i j id jd)
-    by false = h i j id jd
 
 pub closing_matrix : (d n : ℕ) (xs news : List (Option ℤ)) → d ≡ 2 * n → IsMatrix d xs → length news ≡ d * d → IsClosing d (cell_at d xs) (cell_at d news) → IsMatrix d news
 closing_matrix d n xs news pairs m size c =

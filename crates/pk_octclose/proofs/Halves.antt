@@ -1,5 +1,5 @@
 -- Halves of bounds, and sweeps that change no bound between a place and its negative.
-use Rattle.std.specs.Prelude.{◌≡◌, ◌≢◌, ℕ, ◌<◌, ◌+◌, length, ◌*◌, ◌==◌, if◌then◌else◌, ℤ, pos, negsuc, ◌+ℤ◌, ◌≤ℤ◌, Option, Some, None, true, false, List}
+use Rattle.std.specs.Prelude.{◌≡◌, ◌≢◌, ℕ, ◌<◌, ◌+◌, length, ◌*◌, ◌==◌, if◌then◌else◌, ℤ, pos, ◌+ℤ◌, Option, Some, None, true, false, List}
 use Rattle.std.specs.Int.{int_div_euclid}
 use Rattle.std.proofs.Common.{◌∙◌, ap, refl, subst, arith, get_or}
 use Rattle.std.proofs.lemmas.Bool.Decides.{nat_tests}
@@ -8,17 +8,9 @@ use Rattle.pk_octclose.specs.Closing.{evened, tight}
 use Rattle.pk_octmat.proofs.Bars.{bar_bar}
 use Rattle.pk_octmat.proofs.Cells.{cell_read}
 use Rattle.pk_octmat.proofs.Swept.{Swept, swept_next, swept_read}
-use Rattle.pk_octmat.proofs.Tropical.{at_most_both, at_most_same, lesser_above, lesser_left}
+use Rattle.pk_octmat.proofs.Tropical.{at_most_both, at_most_same, lesser_above, lesser_left, half_low, half_high}
 use Rattle.pk_octmat.specs.Bounds.{even_down, halved, lesser, plus}
 use Rattle.pk_octmat.specs.Octagon.{bar, cell_at}
-
-pub half_low : (z : ℤ) → (int_div_euclid z (pos 2) +ℤ int_div_euclid z (pos 2)) ≤ℤ z
-half_low (pos a) = omega (arith, ints)
-half_low (negsuc a) = omega (arith, ints)
-
-pub half_high : (z : ℤ) → z ≤ℤ (int_div_euclid z (pos 2) +ℤ int_div_euclid z (pos 2) +ℤ pos 1)
-half_high (pos a) = omega (arith, ints)
-half_high (negsuc a) = omega (arith, ints)
 
 pub half_double : (z : ℤ) → int_div_euclid (z +ℤ z) (pos 2) ≡ z
 half_double z = omega (arith, ints, half_low (z +ℤ z), half_high (z +ℤ z))

@@ -3,12 +3,12 @@ use Rattle.std.specs.Prelude.{◌≡◌, ◌≢◌, ℕ, ◌<◌, ◌*◌, ◌^�
 use Rattle.std.proofs.Common.{sym, subst, arith, inl, inr}
 use Rattle.std.proofs.lemmas.Bool.{cases_eq}
 use Rattle.std.proofs.lemmas.Int.{ints}
-use Rattle.pk_octclose.proofs.Halves.{evened_here, evened_other, half_high, half_low}
+use Rattle.pk_octclose.proofs.Halves.{evened_here, evened_other}
 use Rattle.pk_octclose.specs.Closing.{IsClosing, IsEmpty, evened, there_and_back, tight}
 use Rattle.pk_octclose.specs.Walks.{HasLeastSums, walk_sum}
 use Rattle.pk_octmat.proofs.Bars.{side_bar}
 use Rattle.pk_octmat.proofs.Points.{at_most_capped, capped_most}
-use Rattle.pk_octmat.proofs.Tropical.{at_most_same, at_most_trans, lesser_above, lesser_left, plus_le}
+use Rattle.pk_octmat.proofs.Tropical.{at_most_same, at_most_trans, lesser_above, lesser_left, plus_le, half_high, half_low}
 use Rattle.pk_octmat.specs.Bounds.{AtMost, IsNear, capped, even_down, halved, is_negative, plus}
 use Rattle.pk_octmat.specs.Octagon.{Meets, bar, side}
 

@@ -10,13 +10,13 @@ use Rattle.pk_octmat.proofs.Bars.{bar_bar, bar_other}
 use Rattle.pk_octmat.proofs.Cells.{cell_row_out, cell_column_out}
 use Rattle.pk_octmat.proofs.Matrices.{top_same, top_other}
 use Rattle.pk_octmat.proofs.Points.{at_most_capped, capped_le, capped_most, capped_near, capped_same}
-use Rattle.pk_octmat.proofs.Tropical.{at_most_both, at_most_none, at_most_same, at_most_trans, lesser_above, lesser_left, lesser_right, plus_le, plus_none}
+use Rattle.pk_octmat.proofs.Tropical.{at_most_both, at_most_none, at_most_same, at_most_trans, lesser_above, lesser_left, lesser_right, plus_le, plus_none, greater_left, greater_right, half_high, half_low}
 use Rattle.pk_octclose.specs.Walks.{IsLeast, walk_sum}
 use Rattle.pk_octclose.specs.Closing.{IsClosed, evened, there_and_back, tight}
 use Rattle.pk_octclose.specs.Laws.{exchange, IsInside, ClosedStayClosed}
 use Rattle.pk_octclose.proofs.Again.{Sums, sums_from, even_le, half_le, evened_same}
 use Rattle.pk_octclose.proofs.Closed.{closing_zero}
-use Rattle.pk_octclose.proofs.Halves.{evened_here, evened_other, half_high, half_low}
+use Rattle.pk_octclose.proofs.Halves.{evened_here, evened_other}
 use Rattle.pk_octclose.proofs.Members.{evened_most}
 use Rattle.pk_octclose.proofs.Sums.{least_from}
 
@@ -43,24 +43,6 @@ back_le : (d n : ℕ) (p f : ℕ → ℕ → Option ℤ) → d ≡ 2 * n → ((i
 back_le d n p f pairs low i id =
     let bi : bar i < d = omega (arith, pairs) in
     plus_le _ _ _ _ (evened_le p f i (bar i) (low i (bar i) id bi)) (evened_le p f (bar i) i (low (bar i) i bi id))
-
-greater_left : (a b : Option ℤ) → AtMost a (greater a b)
-greater_left None b = tt
-greater_left (Some a) None = tt
-greater_left (Some a) (Some b) = by (int_lt a b) refl
-  where
-    by : (t : Bool) → int_lt a b ≡ t → AtMost (Some a) (if t then Some b else Some a)
-    by true e = omega (arith, ints)
-    by false e = omega (arith, ints)
-
-greater_right : (a b : Option ℤ) → AtMost b (greater a b)
-greater_right None b = at_most_none b
-greater_right (Some a) None = tt
-greater_right (Some a) (Some b) = by (int_lt a b) refl
-  where
-    by : (t : Bool) → int_lt a b ≡ t → AtMost (Some b) (if t then Some b else Some a)
-    by true e = omega (arith, ints)
-    by false e = omega (arith, ints)
 
 greater_most : (a b c : Option ℤ) → AtMost a c → AtMost b c → AtMost (greater a b) c
 greater_most None b c p q = p

@@ -1,17 +1,17 @@
 -- The tightened least sums obey the triangle inequality, so closing them again changes nothing.
-use Rattle.std.specs.Prelude.{◌≡◌, ◌≢◌, ℕ, ◌<◌, ◌≤◌, ℤ, pos, ◌+ℤ◌, Option, Some, None, ◌⊎◌, List, [], ◌∷◌, ◌++◌}
+use Rattle.std.specs.Prelude.{◌≡◌, ◌≢◌, ℕ, ◌<◌, ℤ, pos, ◌+ℤ◌, Option, Some, None, ◌⊎◌, ◌∷◌, ◌++◌}
 use Rattle.std.specs.Int.{int_div_euclid}
 use Rattle.std.proofs.Common.{◌∙◌, ap, refl, sym, subst, arith, inl, inr}
-use Rattle.std.proofs.lemmas.Bool.{cases_eq, cases_lt}
+use Rattle.std.proofs.lemmas.Bool.{cases_eq}
 use Rattle.std.proofs.lemmas.Int.{ints}
 use Rattle.pk_octclose.proofs.Closed.{evened_turned}
-use Rattle.pk_octclose.proofs.Halves.{evened_here, evened_other, half_double, half_high, half_low, tight_row}
+use Rattle.pk_octclose.proofs.Halves.{evened_here, evened_other, half_double, tight_row}
 use Rattle.pk_octclose.proofs.Members.{evened_most}
 use Rattle.pk_octclose.proofs.Walks.{walk_append}
 use Rattle.pk_octclose.specs.Closing.{evened, there_and_back, tight}
 use Rattle.pk_octclose.specs.Walks.{HasLeastSums, walk_sum}
 use Rattle.pk_octmat.proofs.Bars.{bar_bar}
-use Rattle.pk_octmat.proofs.Tropical.{at_most_none, at_most_same, at_most_trans, lesser_left, lesser_one, lesser_right, plus_assoc, plus_comm, plus_le, plus_more}
+use Rattle.pk_octmat.proofs.Tropical.{at_most_none, at_most_same, at_most_trans, lesser_left, lesser_one, lesser_right, plus_assoc, plus_comm, plus_le, plus_more, half_high, half_low}
 use Rattle.pk_octmat.specs.Bounds.{AtMost, even_down, halved, lesser, plus}
 use Rattle.pk_octmat.specs.Octagon.{bar}
 
@@ -159,22 +159,6 @@ pub tight_triangle : (d : ℕ) (p : ℕ → ℕ → Option ℤ) → IsSums d p �
 tight_triangle d p s i k j id kd jd = rw (tight_is p i j) (rw (tight_is p i k) (rw (tight_is p k j) (triangle_at d p s i k j id kd jd)))
 
 -- ---- closing what is closed
-walks_least : (d : ℕ) (r : ℕ → ℕ → Option ℤ) → ((i k j : ℕ) → i < d → k < d → j < d → AtMost (r i j) (plus (r i k) (r k j))) → ((i j : ℕ) → d ≤ j → i < d → r i j ≡ None) → (i j : ℕ) (vs : List ℕ) → i < d → j < d → AtMost (r i j) (walk_sum r i vs j)
-walks_least d r triangle out i j [] id jd = at_most_same (r i j)
-walks_least d r triangle out i j (v ∷ vs) id jd = by (λ vd. walks_least d r triangle out v j vs vd jd) (cases_lt v d)
-  where
-    by : (v < d → AtMost (r v j) (walk_sum r v vs j)) → (v < d) ⊎ (d ≤ v) → AtMost (r i j) (walk_sum r i (v ∷ vs) j)
-    by ih (inl vd) = at_most_trans (r i j) (plus (r i v) (r v j)) (plus (r i v) (walk_sum r v vs j)) (triangle i v j id vd jd) (plus_le (r i v) (r v j) (r i v) (walk_sum r v vs j) (at_most_same (r i v)) (ih vd))
-    by ih (inr g) = rw (out i v g id) (at_most_none (r i j))
-
--- a matrix that obeys the triangle inequality has itself as least sums
-pub least_of_closed : (d : ℕ) (r : ℕ → ℕ → Option ℤ) → ((i : ℕ) → i < d → r i i ≡ Some (pos 0)) → ((i k j : ℕ) → i < d → k < d → j < d → AtMost (r i j) (plus (r i k) (r k j)))
-    → ((i j : ℕ) → d ≤ j → i < d → r i j ≡ None) → HasLeastSums d r r
-least_of_closed d r zero triangle out = record { each = λ i j id jd. record { by = []; reached = refl; least = λ vs. least i j vs id jd }; zero = zero }
-  where
-    least : (i j : ℕ) (vs : List ℕ) → i < d → j < d → AtMost (r i j) (walk_sum r i vs j)
-    least i j vs id jd = walks_least d r triangle out i j vs id jd
-
 even_again : (b : Option ℤ) → even_down (even_down b) ≡ even_down b
 even_again None = refl
 even_again (Some z) = ap (λ (h : ℤ). Some (h +ℤ h)) (half_double (int_div_euclid z (pos 2)))

@@ -27,7 +27,9 @@ sums_through d e (suc k) = through_place d k (sums_through d e k)
 -- even bounds that don't exclude each other, one tightening, and the cap
 abbrev pub tightened : ℕ → Option (ℕ → ℕ → Option ℤ) → Option Octagon
 tightened n None = None
-tightened n (Some f) = if some_negative (there_and_back (evened f)) (2 * n) then None else Some (octagon_of n (λ i j. capped (tight (evened f) i j)))
+tightened n (Some f) =
+    if some_negative (there_and_back (evened f)) (2 * n) then None
+    else Some (octagon_of n (λ i j. capped (tight (evened f) i j)))
 
 -- the closing of an octagon, if it has one
 unfoldable pub closing_of : Octagon → Option Octagon

@@ -22,7 +22,8 @@ fn close_cells(cells: &mut [Bound], d: usize) -> Shape
     ensures cleared { result ≡ Empty → (i j : ℕ) → i < d → j < d → cell_at d cells.new i j ≡ top_bound i j }
     ensures points { result ≡ Kept → KeepsPoints (cell_at d cells.old) (cell_at d cells.new) }
     ensures none { result ≡ Empty → (x : ℕ → ℤ) → Meets (cell_at d cells.old) x → ⊥ }
-    ensures again { IsClosed d (cell_at d cells.old) → (result ≡ Kept) × ((i j : ℕ) → cell_at d cells.new i j ≡ cell_at d cells.old i j) }
+    ensures again { IsClosed d (cell_at d cells.old) →
+        (result ≡ Kept) × ((i j : ℕ) → cell_at d cells.new i j ≡ cell_at d cells.old i j) }
 {
     if paths(cells, d) && tighten(cells, d) {
         return Shape::Kept;
@@ -39,10 +40,12 @@ pub fn close(m: &mut Matrix) -> Shape
     ensures vars { m.new.vars ≡ m.old.vars }
     ensures kept { result ≡ Kept → IsClosing (2 * m.old.vars) (entry m.old) (entry m.new) }
     ensures empty { (result ≡ Empty) ↔ IsEmpty (2 * m.old.vars) (entry m.old) }
-    ensures cleared { result ≡ Empty → (i j : ℕ) → i < 2 * m.old.vars → j < 2 * m.old.vars → entry m.new i j ≡ top_bound i j }
+    ensures cleared { result ≡ Empty → (i j : ℕ) → i < 2 * m.old.vars → j < 2 * m.old.vars →
+        entry m.new i j ≡ top_bound i j }
     ensures points { result ≡ Kept → KeepsPoints (entry m.old) (entry m.new) }
     ensures none { result ≡ Empty → (x : ℕ → ℤ) → Meets (entry m.old) x → ⊥ }
-    ensures again { IsClosed (2 * m.old.vars) (entry m.old) → (result ≡ Kept) × ((i j : ℕ) → entry m.new i j ≡ entry m.old i j) }
+    ensures again { IsClosed (2 * m.old.vars) (entry m.old) →
+        (result ≡ Kept) × ((i j : ℕ) → entry m.new i j ≡ entry m.old i j) }
 {
     close_cells(&mut m.cells, 2 * m.vars as usize)
 }

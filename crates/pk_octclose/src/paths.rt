@@ -1,6 +1,6 @@
 // Least sums of walks, in place (Floyd 1962).
 
-ghost use Rattle.std.specs.Prelude.{◌≡◌, ◌≢◌, ℕ, ℤ, ◌<◌, ◌≤◌, ◌*◌, ◌^◌, length, pos, Option, Some, None, Bool, true, false};
+ghost use Rattle.std.specs.Prelude.{◌≡◌, ◌≢◌, ℕ, ◌<◌, ◌*◌, ◌^◌, length, pos, Some, true, false};
 ghost use Rattle.pk_octmat.specs.Bounds.{IsNear, AtMost};
 ghost use Rattle.pk_octmat.specs.Octagon.{cell_at};
 ghost use Rattle.pk_octclose.specs.Walks.{relaxed, HasNegativeCycle, HasLeastSums, IsNegativeAt};

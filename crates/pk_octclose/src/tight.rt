@@ -1,6 +1,6 @@
 // What integers allow beyond least sums: even bounds on one variable, and a last tightening.
 
-ghost use Rattle.std.specs.Prelude.{◌≡◌, ◌%◌, ◌≢◌, ℕ, ℤ, ◌<◌, ◌≤◌, ◌*◌, ◌+◌, ◌^◌, length, pos, Option, Some, None, Bool, true, false};
+ghost use Rattle.std.specs.Prelude.{◌≡◌, ◌%◌, ℕ, ◌<◌, ◌*◌, ◌+◌, ◌^◌, length, pos, Some, true, false};
 ghost use Rattle.pk_octmat.specs.Bounds.{capped, IsNear, AtMost, is_negative as negative};
 ghost use Rattle.pk_octmat.specs.Octagon.{cell_at};
 ghost use Rattle.pk_octclose.specs.Closing.{evened, there_and_back, tight};
@@ -75,9 +75,12 @@ pub fn tighten(cells: &mut [Bound], d: usize) -> bool
     requires room { d < 2 ^ 33 }
     requires near { (i j : ℕ) → i < d → j < d → IsNear (2 ^ 100) (cell_at d cells.old i j) }
     ensures kept { length cells.new ≡ d * d }
-    ensures halves { result ≡ true → (i : ℕ) → i < d → AtMost (Some (pos 0)) (there_and_back (evened (cell_at d cells.old)) i) }
-    ensures value { result ≡ true → (i j : ℕ) → i < d → j < d → cell_at d cells.new i j ≡ capped (tight (evened (cell_at d cells.old)) i j) }
-    ensures no { result ≡ false → (i : ℕ) × (i < d) × (negative (there_and_back (evened (cell_at d cells.old)) i) ≡ true) }
+    ensures halves { result ≡ true → (i : ℕ) → i < d →
+        AtMost (Some (pos 0)) (there_and_back (evened (cell_at d cells.old)) i) }
+    ensures value { result ≡ true → (i j : ℕ) → i < d → j < d →
+        cell_at d cells.new i j ≡ capped (tight (evened (cell_at d cells.old)) i j) }
+    ensures no { result ≡ false →
+        (i : ℕ) × (i < d) × (negative (there_and_back (evened (cell_at d cells.old)) i) ≡ true) }
 {
     even_all(cells, d);
     if !have_halves(cells, d) {

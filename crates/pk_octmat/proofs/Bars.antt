@@ -1,5 +1,5 @@
 -- A place and that of its negative.
-use Rattle.std.specs.Prelude.{◌≡◌, ◌≢◌, ℕ, ◌<◌, ◌≤◌, ◌*◌, ◌/◌, ◌%◌, ◌==◌, ℤ, neg_ℤ, Bool, true, false}
+use Rattle.std.specs.Prelude.{◌≡◌, ◌≢◌, ℕ, ◌<◌, ◌*◌, ◌/◌, ◌%◌, ◌==◌, ℤ, neg_ℤ, Bool, true, false}
 use Rattle.std.proofs.Common.{refl, arith}
 use Rattle.std.proofs.lemmas.Bool.Decides.{nat_tests}
 use Rattle.std.proofs.lemmas.Int.{ints}
@@ -17,9 +17,6 @@ bar_bar i = omega arith
 
 pub bar_in : (n i : ℕ) → i < 2 * n → bar i < 2 * n
 bar_in n i h = omega arith
-
-pub bar_out : (n i : ℕ) → 2 * n ≤ i → 2 * n ≤ bar i
-bar_out n i h = omega arith
 
 pub bar_other : (i : ℕ) → bar i ≢ i
 bar_other i h = absurd (omega arith)

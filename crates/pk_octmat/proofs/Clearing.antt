@@ -17,19 +17,6 @@ pub record Clearing (d p j : ℕ) (e : ℕ → ℕ → Option ℤ) (cells : List
   pub done : (a b : ℕ) → a < d → b < d → IsCleared p j a b → cell_at d cells a b ≡ top_bound a b
   pub rest : (a b : ℕ) → a < d → b < d → (IsCleared p j a b → ⊥) → cell_at d cells a b ≡ e a b
 
-is_cleared : (p j a b : ℕ) → IsCleared p j a b ⊎ (IsCleared p j a b → ⊥)
-is_cleared p j a b = by (cases_eq a p) (cases_lt b j) (cases_eq b p) (cases_lt a j)
-  where
-    right : (b ≡ p) ⊎ (b ≢ p) → (a < j) ⊎ (j ≤ a) → ((a ≡ p) × (b < j) → ⊥) → IsCleared p j a b ⊎ (IsCleared p j a b → ⊥)
-    right (inl q) (inl l) n = inl (inr (q, l))
-    right (inl q) (inr g) n = inr (λ h. elim h [ inl w ↦ n w | inr w ↦ omega (arith, w.1) ])
-    right (inr m) s n = inr (λ h. elim h [ inl w ↦ n w | inr w ↦ m w.0 ])
-
-    by : (a ≡ p) ⊎ (a ≢ p) → (b < j) ⊎ (j ≤ b) → (b ≡ p) ⊎ (b ≢ p) → (a < j) ⊎ (j ≤ a) → IsCleared p j a b ⊎ (IsCleared p j a b → ⊥)
-    by (inl q) (inl l) r s = inl (inl (q, l))
-    by (inl q) (inr g) r s = right r s (λ w. omega (arith, w.1))
-    by (inr n) l r s = right r s (λ w. n w.0)
-
 pub clearing_none : (d p : ℕ) (cells : List (Option ℤ)) → length cells ≡ d * d → Clearing d p 0 (cell_at d cells) cells
 clearing_none d p cells size = record { size = size; done = λ a b ad bd h. absurd (none a b h); rest = λ a b ad bd n. refl }
   where

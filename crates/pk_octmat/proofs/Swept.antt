@@ -18,13 +18,6 @@ pub record Swept (d i j : ℕ) (e f : ℕ → ℕ → Option ℤ) (cells : List 
   pub done : (a b : ℕ) → a < d → b < d → IsBefore a b i j → cell_at d cells a b ≡ f a b
   pub rest : (a b : ℕ) → a < d → b < d → IsFrom a b i j → cell_at d cells a b ≡ e a b
 
-pub swept_none : (d : ℕ) (f : ℕ → ℕ → Option ℤ) (cells : List (Option ℤ)) → length cells ≡ d * d → Swept d 0 0 (cell_at d cells) f cells
-swept_none d f cells size = record { size = size; done = λ a b ad bd h. absurd (none a b h); rest = λ a b ad bd h. refl }
-  where
-    none : (a b : ℕ) → IsBefore a b 0 0 → ⊥
-    none a b (inl l) = omega arith
-    none a b (inr p) = omega (arith, p.1)
-
 before_or_from : (a b i j : ℕ) → IsBefore a b i j ⊎ IsFrom a b i j
 before_or_from a b i j = by (cases_lt a i) (cases_eq a i) (cases_lt b j)
   where

@@ -1,8 +1,9 @@
 -- Bounds under sum, order and the lesser of two.
-use Rattle.std.specs.Prelude.{◌≡◌, ℤ, pos, int_lt, Option, Some, None, Bool, true, false, ◌⊎◌, if◌then◌else◌}
+use Rattle.std.specs.Prelude.{◌≡◌, ℤ, pos, int_lt, Option, Some, None, Bool, true, false, ◌⊎◌, if◌then◌else◌, ◌≤ℤ◌, ◌+ℤ◌, negsuc}
 use Rattle.std.proofs.Common.{ap, refl, sym, subst, arith, inl, inr}
 use Rattle.std.proofs.lemmas.Int.{ints}
-use Rattle.pk_octmat.specs.Bounds.{AtMost, plus, lesser}
+use Rattle.pk_octmat.specs.Bounds.{AtMost, plus, lesser, greater}
+use Rattle.std.specs.Int.{int_div_euclid}
 
 pub at_most_same : (a : Option ℤ) → AtMost a a
 at_most_same None = tt
@@ -95,3 +96,29 @@ plus_more (Some a) (Some b) p = omega (arith, ints)
 pub plus_zero : (a : Option ℤ) → plus a (Some (pos 0)) ≡ a
 plus_zero None = refl
 plus_zero (Some a) = ap (λ (z : ℤ). Some z) (omega (arith, ints))
+
+pub greater_left : (a b : Option ℤ) → AtMost a (greater a b)
+greater_left None b = tt
+greater_left (Some a) None = tt
+greater_left (Some a) (Some b) = by (int_lt a b) refl
+  where
+    by : (t : Bool) → int_lt a b ≡ t → AtMost (Some a) (if t then Some b else Some a)
+    by true e = omega (arith, ints)
+    by false e = omega (arith, ints)
+
+pub greater_right : (a b : Option ℤ) → AtMost b (greater a b)
+greater_right None b = at_most_none b
+greater_right (Some a) None = tt
+greater_right (Some a) (Some b) = by (int_lt a b) refl
+  where
+    by : (t : Bool) → int_lt a b ≡ t → AtMost (Some b) (if t then Some b else Some a)
+    by true e = omega (arith, ints)
+    by false e = omega (arith, ints)
+
+pub half_low : (z : ℤ) → (int_div_euclid z (pos 2) +ℤ int_div_euclid z (pos 2)) ≤ℤ z
+half_low (pos a) = omega (arith, ints)
+half_low (negsuc a) = omega (arith, ints)
+
+pub half_high : (z : ℤ) → z ≤ℤ (int_div_euclid z (pos 2) +ℤ int_div_euclid z (pos 2) +ℤ pos 1)
+half_high (pos a) = omega (arith, ints)
+half_high (negsuc a) = omega (arith, ints)

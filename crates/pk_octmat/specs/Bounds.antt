@@ -54,7 +54,9 @@ even_down (Some z) = Some (int_div_euclid z (pos 2) +ℤ int_div_euclid z (pos 2
 -- a bound above 2^66 becomes none, one below -2^66 becomes -2^66
 abbrev pub capped : Option ℤ → Option ℤ
 capped None = None
-capped (Some z) = if int_lt (pos (2 ^ 66)) z then None else (if int_lt z (negsuc (2 ^ 66 - 1)) then Some (negsuc (2 ^ 66 - 1)) else Some z)
+capped (Some z) =
+    if int_lt (pos (2 ^ 66)) z then None
+    else (if int_lt z (negsuc (2 ^ 66 - 1)) then Some (negsuc (2 ^ 66 - 1)) else Some z)
 
 -- a bound is none or at most m away from 0
 abbrev pub IsNear : ℕ → Option ℤ → Type 0

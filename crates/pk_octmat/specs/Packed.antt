@@ -22,7 +22,8 @@ packed_bound o = record { packed = packed_of o }
 
 -- packing undoes unpacking
 pub packed_unpacked : (b : Inside) → IsPacked b → packed_bound (unpacked b) ≡ b
-packed_unpacked b h = ap (λ (z : ℤ). let p : Inside = record { packed = z } in p) (by (int_lt b.packed packed_none) refl)
+packed_unpacked b h =
+    ap (λ (z : ℤ). let p : Inside = record { packed = z } in p) (by (int_lt b.packed packed_none) refl)
   where
     by : (t : Bool) → int_lt b.packed packed_none ≡ t → packed_of (if t then Some b.packed else None) ≡ b.packed
     by true e = refl

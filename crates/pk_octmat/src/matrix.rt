@@ -82,7 +82,8 @@ fn clear(cells: &mut [Bound], d: usize, p: usize)
     requires size { length cells.old ≡ d * d }
     requires place { p < d }
     ensures kept { length cells.new ≡ d * d }
-    ensures value { (a b : ℕ) → a < d → b < d → cell_at d cells.new a b ≡ (if (a == p) || (b == p) then top_bound a b else cell_at d cells.old a b) }
+    ensures value { (a b : ℕ) → a < d → b < d →
+        cell_at d cells.new a b ≡ (if (a == p) || (b == p) then top_bound a b else cell_at d cells.old a b) }
 {
     for j in 0..d {
         cells[p * d + j] = unbounded(p, j);
@@ -97,7 +98,8 @@ fn forget_cells(cells: &mut [Bound], d: usize, k: usize)
     requires room { d < 2 ^ 33 }
     requires variable { 2 * k < d }
     ensures value { (a b : ℕ) → cell_at d cells.new a b ≡ forgotten (cell_at d cells.old) k a b }
-    ensures sound { (x : ℕ → ℤ) (v : ℤ) → Meets (cell_at d cells.old) x → Meets (cell_at d cells.new) (with_number x k v) }
+    ensures sound { (x : ℕ → ℤ) (v : ℤ) → Meets (cell_at d cells.old) x →
+        Meets (cell_at d cells.new) (with_number x k v) }
     ensures whole { IsMatrix d cells.new }
 {
     clear(cells, d, 2 * k);

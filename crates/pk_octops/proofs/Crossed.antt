@@ -1,7 +1,7 @@
 -- A matrix of which the two rows and the two columns of a variable are rewritten, place by place.
-use Rattle.std.specs.Prelude.{◌≡◌, ◌≢◌, ℕ, ◌^◌, ◌<◌, ◌≤◌, ◌+◌, ◌*◌, ◌/◌, ◌==◌, ℤ, pos, ◌-ℤ◌, Option, Some, None, Bool, true, false, if◌then◌else◌, List, ◌⊎◌, length}
+use Rattle.std.specs.Prelude.{◌≡◌, ◌≢◌, ℕ, ◌^◌, ◌<◌, ◌≤◌, ◌+◌, ◌*◌, ◌/◌, ◌==◌, ℤ, pos, ◌-ℤ◌, Option, Some, None, false, List, ◌⊎◌, length}
 use Rattle.std.proofs.Common.{◌∙◌, ap, refl, sym, arith, inl, inr}
-use Rattle.std.proofs.lemmas.Bool.{cases_eq, cases_lt}
+use Rattle.std.proofs.lemmas.Bool.{cases_eq}
 use Rattle.std.proofs.lemmas.Bool.Decides.{nat_tests}
 use Rattle.std.proofs.lemmas.Int.{ints}
 use Rattle.pk_octmat.specs.Bounds.{IsNear, capped, plus}

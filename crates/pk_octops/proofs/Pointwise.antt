@@ -54,15 +54,6 @@ pub narrowed_matrix : (d n : ℕ) (xs ys news : List (Option ℤ)) → d ≡ 2 *
 narrowed_matrix = pointwise narrowed refl narrowed_near
 
 -- ---- soundness
-pub greater_left : (a b : Option ℤ) → AtMost a (greater a b)
-greater_left None b = tt
-greater_left (Some a) None = tt
-greater_left (Some a) (Some b) = by (int_lt a b) refl
-  where
-    by : (t : Bool) → int_lt a b ≡ t → AtMost (Some a) (if t then Some b else Some a)
-    by true e = omega (arith, ints)
-    by false e = omega (arith, ints)
-
 pub at_most_from : (a b : Option ℤ) → is_at_most a b ≡ true → AtMost a b
 at_most_from None None h = tt
 at_most_from (Some a) None h = tt

@@ -1,6 +1,5 @@
 -- Integers that meet the operands meet the result.
-use Rattle.std.specs.Prelude.{◌≡◌, ℕ, ◌<◌, ◌≤◌, ◌+◌, ◌*◌, ◌/◌, ◌%◌, ◌==◌, ℤ, pos, negsuc, neg_ℤ, ◌+ℤ◌, ◌-ℤ◌, ◌≤ℤ◌, int_lt, Option, Some, None, Bool, true, false, if◌then◌else◌, ◌⊎◌}
-use Rattle.std.specs.Int.{int_div_euclid}
+use Rattle.std.specs.Prelude.{◌≡◌, ℕ, ◌<◌, ◌≤◌, ◌+◌, ◌*◌, ◌/◌, ◌%◌, ◌==◌, ℤ, neg_ℤ, ◌-ℤ◌, Option, Some, None, Bool, true, false, if◌then◌else◌, ◌⊎◌}
 use Rattle.std.proofs.Common.{refl, subst, arith, inl, inr}
 use Rattle.std.proofs.lemmas.Bool.{cases_lt}
 use Rattle.std.proofs.lemmas.Bool.Decides.{nat_tests}
@@ -8,10 +7,10 @@ use Rattle.std.proofs.lemmas.Int.{ints}
 use Rattle.pk_octmat.specs.Bounds.{AtMost, greater, halved, is_at_most}
 use Rattle.pk_octmat.specs.Octagon.{HasEntries, Meets, Octagon, entry, side}
 use Rattle.pk_octmat.proofs.Cells.{cell_column_out, cell_row_out}
-use Rattle.pk_octmat.proofs.Tropical.{at_most_none, at_most_same, at_most_trans}
+use Rattle.pk_octmat.proofs.Tropical.{at_most_none, at_most_same, at_most_trans, half_high, greater_right, greater_left}
 use Rattle.pk_octops.specs.Tables.{narrowed, widened}
 use Rattle.pk_octops.specs.Values.{IsFrom, least_of}
-use Rattle.pk_octops.proofs.Pointwise.{at_most_from, greater_left}
+use Rattle.pk_octops.proofs.Pointwise.{at_most_from}
 
 -- integers that meet the bounds at each two places meet the matrix
 pub meets_from : (n : ℕ) (f : ℕ → ℕ → Option ℤ) (m : Octagon) (x : ℕ → ℤ) → HasEntries n f m → ((i j : ℕ) → i < 2 * n → j < 2 * n → AtMost (Some (side x j -ℤ side x i)) (f i j)) → Meets (entry m) x
@@ -21,15 +20,6 @@ meets_from n f m x h each = record { each = λ i j. by i j (cases_lt i (2 * n)) 
     by i j (inl id) (inl jd) = rw (h.each i j id jd) (each i j id jd)
     by i j (inl id) (inr g) = let out : 2 * m.vars ≤ j = omega (arith, h.vars) in rw (cell_column_out (2 * m.vars) m.cells i j out) tt
     by i j (inr g) q = let out : 2 * m.vars ≤ i = omega (arith, h.vars) in rw (cell_row_out (2 * m.vars) m.cells i j out) tt
-
-greater_right : (a b : Option ℤ) → AtMost b (greater a b)
-greater_right None b = at_most_none b
-greater_right (Some a) None = tt
-greater_right (Some a) (Some b) = by (int_lt a b) refl
-  where
-    by : (t : Bool) → int_lt a b ≡ t → AtMost (Some b) (if t then Some b else Some a)
-    by true e = omega (arith, ints)
-    by false e = omega (arith, ints)
 
 pub widened_left : (h n : Option ℤ) → AtMost h (widened h n)
 widened_left h n = by (is_at_most n h)
@@ -70,14 +60,6 @@ narrow_sound n a b m h x p q =
     meets_from n (λ i j. narrowed (entry a i j) (entry b i j)) m x h (λ i j id jd. narrowed_from (Some (side x j -ℤ side x i)) (entry a i j) (entry b i j) (p.each i j) (q.each i j))
 
 -- ---- the range of a variable
-half_low : (z : ℤ) → (int_div_euclid z (pos 2) +ℤ int_div_euclid z (pos 2)) ≤ℤ z
-half_low (pos a) = omega (arith, ints)
-half_low (negsuc a) = omega (arith, ints)
-
-half_high : (z : ℤ) → z ≤ℤ (int_div_euclid z (pos 2) +ℤ int_div_euclid z (pos 2) +ℤ pos 1)
-half_high (pos a) = omega (arith, ints)
-half_high (negsuc a) = omega (arith, ints)
-
 below_half : (v : ℤ) (b : Option ℤ) → AtMost (Some (v -ℤ neg_ℤ v)) b → AtMost (Some v) (halved b)
 below_half v None h = tt
 below_half v (Some z) h = omega (arith, ints, h, half_high z)
@@ -86,13 +68,13 @@ above_half : (v : ℤ) (b : Option ℤ) → AtMost (Some (neg_ℤ v -ℤ v)) b �
 above_half v None h = tt
 above_half v (Some z) h = omega (arith, ints, h, half_high z)
 
-side_of : (x : ℕ → ℤ) (k : ℕ) → side x (2 * k) ≡ x k
+pub side_of : (x : ℕ → ℤ) (k : ℕ) → side x (2 * k) ≡ x k
 side_of x k =
     let even : ((2 * k) % 2 == 0) ≡ true = grind (arith, nat_tests) in
     let half : (2 * k) / 2 ≡ k = omega arith in
     rw even (rw half refl)
 
-side_back : (x : ℕ → ℤ) (k : ℕ) → side x (2 * k + 1) ≡ neg_ℤ (x k)
+pub side_back : (x : ℕ → ℤ) (k : ℕ) → side x (2 * k + 1) ≡ neg_ℤ (x k)
 side_back x k =
     let odd : ((2 * k + 1) % 2 == 0) ≡ false = grind (arith, nat_tests) in
     let half : (2 * k + 1) / 2 ≡ k = omega arith in

@@ -21,5 +21,7 @@ pub record ValuesKeep : Type 0 where
   pub join_octagon : (a b : Octagon) → IsOctagon a → IsOctagon b → b.vars ≡ a.vars → IsOctagon (join_of a b)
   pub widening_octagon : (h n : Octagon) → IsOctagon h → IsOctagon n → n.vars ≡ h.vars → IsOctagon (widening_of h n)
   pub narrowing_octagon : (h n : Octagon) → IsOctagon h → IsOctagon n → n.vars ≡ h.vars → IsOctagon (narrowing_of h n)
-  pub assignment_octagon : (m : Octagon) (k : ℕ) (t : Option ℕ) (c : ℤ) → IsOctagon m → k < m.vars → IsTerm m.vars t → IsOctagon (assignment_of m k t c)
-  pub guard_octagon : (m r : Octagon) (a b : Option ℕ) (c : ℤ) → IsOctagon m → IsGuard m.vars a b → guard_of m a b c ≡ Some r → IsOctagon r
+  pub assignment_octagon : (m : Octagon) (k : ℕ) (t : Option ℕ) (c : ℤ) → IsOctagon m → k < m.vars →
+      IsTerm m.vars t → IsOctagon (assignment_of m k t c)
+  pub guard_octagon : (m r : Octagon) (a b : Option ℕ) (c : ℤ) → IsOctagon m → IsGuard m.vars a b →
+      guard_of m a b c ≡ Some r → IsOctagon r

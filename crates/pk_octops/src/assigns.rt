@@ -1,6 +1,6 @@
 // Assignments.
 
-ghost use Rattle.std.specs.Prelude.{◌≡◌, ◌≢◌, ℕ, ℤ, pos, negsuc, ◌+◌, ◌-◌, ◌*◌, ◌/◌, ◌%◌, ◌<◌, ◌^◌, ◌≤ℤ◌, ◌-ℤ◌, ◌==◌, IfOk, IfSome, length, Some, Option, Bool};
+ghost use Rattle.std.specs.Prelude.{◌≡◌, ◌≢◌, ℕ, ℤ, pos, negsuc, ◌+◌, ◌-◌, ◌*◌, ◌/◌, ◌%◌, ◌<◌, ◌^◌, ◌≤ℤ◌, ◌-ℤ◌, ◌==◌, IfOk, IfSome, length, Some, Option};
 ghost use Rattle.pk_octmat.specs.Bounds.{capped, IsNear, plus as sum_of};
 ghost use Rattle.pk_octmat.specs.Octagon.{entry, cell_at, HasEntries, IsMatrix, Meets, with_number, forgotten};
 ghost use Rattle.pk_octops.specs.Assigns.{assigned as assigned_of, assignment_of, moved, bound_to, gain as gain_of, source as source_of, Gives};
@@ -177,7 +177,8 @@ pub fn assign(m: &Matrix, k: u32, term: Option<u32>, c: i128) -> Result<Matrix, 
     requires term { IfSome term (λ t. t < 2 * m.now.vars) }
     ensures value { IfOk result (HasEntries m.now.vars (assigned_of (entry m.now) k term c)) }
     ensures is { IfOk result (λ r. r ≡ assignment_of m.now k term c) }
-    ensures sound { IfOk result (λ r. (x : ℕ → ℤ) (v : ℤ) → Gives x term c v → Meets (entry m.now) x → Meets (entry r) (with_number x k v)) }
+    ensures sound { IfOk result
+        (λ r. (x : ℕ → ℤ) (v : ℤ) → Gives x term c v → Meets (entry m.now) x → Meets (entry r) (with_number x k v)) }
 {
     let r = assigned(m, k, term, c)?;
     r.is_octagon();

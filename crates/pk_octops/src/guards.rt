@@ -1,8 +1,8 @@
 // Guards on one or two places.
 
-ghost use Rattle.std.specs.Prelude.{◌≡◌, ◌≢◌, ◌↔◌, ℕ, ℤ, pos, ◌≤ℤ◌, ◌<ℤ◌, ◌+ℤ◌, ◌-ℤ◌, ◌<◌, ◌*◌, ◌^◌, Option, Some, None};
+ghost use Rattle.std.specs.Prelude.{◌≡◌, ◌≢◌, ◌↔◌, ℕ, ℤ, pos, ◌<ℤ◌, ◌+ℤ◌, ◌-ℤ◌, ◌<◌, ◌*◌, ◌^◌, Option, Some, None};
 ghost use Rattle.pk_octmat.specs.Bounds.{AtMost, capped};
-ghost use Rattle.pk_octmat.specs.Octagon.{entry, written, side, bar as other, Meets};
+ghost use Rattle.pk_octmat.specs.Octagon.{entry, side, bar as other, Meets};
 ghost use Rattle.pk_octmat.specs.Bounds.{IsNear};
 ghost use Rattle.pk_octmat.specs.Octagon.{IsOctagon};
 ghost use Rattle.pk_octmat.specs.Shapes.{left_of};
@@ -32,7 +32,8 @@ fn lower(m: &mut Matrix, i: u32, j: u32, c: i128)
     requires apart { i ≢ j }
     ensures vars { m.new.vars ≡ m.old.vars }
     ensures value { (a b : ℕ) → entry m.new a b ≡ lowered (entry m.old) i j c a b }
-    ensures sound { (x : ℕ → ℤ) → Meets (entry m.old) x → AtMost (Some (side x j -ℤ side x i)) (capped (Some c)) → Meets (entry m.new) x }
+    ensures sound { (x : ℕ → ℤ) → Meets (entry m.old) x → AtMost (Some (side x j -ℤ side x i)) (capped (Some c)) →
+        Meets (entry m.new) x }
     ensures was { IsOctagon m.old }
     ensures octagon { IsOctagon m.new }
 {
@@ -51,7 +52,8 @@ pub fn guard(m: &mut Matrix, a: Option<u32>, b: Option<u32>, c: i128) -> Shape
     ensures value { (i j : ℕ) → entry m.new i j ≡ guarded (entry m.old) a b c i j }
     ensures is { left_of result m.new ≡ guard_of m.old a b c }
     ensures sound { (x : ℕ → ℤ) → Meets (entry m.old) x → Obeys x a b c → (result ≡ Kept) × Meets (entry m.new) x }
-    ensures exact { result ≡ Kept → IsNear (2 ^ 66) (Some (bound_of b c)) → (x : ℕ → ℤ) → Meets (entry m.new) x → Meets (entry m.old) x × Obeys x a b c }
+    ensures exact { result ≡ Kept → IsNear (2 ^ 66) (Some (bound_of b c)) → (x : ℕ → ℤ) → Meets (entry m.new) x →
+        Meets (entry m.old) x × Obeys x a b c }
 {
     match (a, b) {
         (None, _) => { if c < 0 { Shape::Empty } else { Shape::Kept } }

@@ -1,6 +1,6 @@
 // Order, join, widening and narrowing.
 
-ghost use Rattle.std.specs.Prelude.{◌≡◌, ◌%◌, ℕ, ℤ, ◌<◌, ◌*◌, ◌^◌, ◌⊎◌, ◌↔◌, IfOk, length, Bool, true, false};
+ghost use Rattle.std.specs.Prelude.{◌≡◌, ◌%◌, ℕ, ℤ, ◌<◌, ◌*◌, ◌⊎◌, ◌↔◌, IfOk, length, true, false};
 ghost use Rattle.pk_octmat.specs.Bounds.{AtMost, greater as greater_of};
 ghost use Rattle.pk_octmat.specs.Octagon.{entry, cell_at, HasEntries, IsMatrix, Meets};
 ghost use Rattle.pk_octops.specs.Tables.{IsBelow, widened as widened_of, narrowed as narrowed_of, join_of, widening_of, narrowing_of};
@@ -38,7 +38,8 @@ fn join_cells(cells: &mut [Bound], other: &[Bound], d: usize)
     requires whole { IsMatrix d cells.old }
     requires other { IsMatrix d other.now }
     requires pairs { d % 2 ≡ 0 }
-    ensures value { (i j : ℕ) → i < d → j < d → cell_at d cells.new i j ≡ greater_of (cell_at d cells.old i j) (cell_at d other.now i j) }
+    ensures value { (i j : ℕ) → i < d → j < d →
+        cell_at d cells.new i j ≡ greater_of (cell_at d cells.old i j) (cell_at d other.now i j) }
     ensures whole { IsMatrix d cells.new }
 {
     for i in 0..d {
@@ -54,7 +55,8 @@ fn widen_cells(cells: &mut [Bound], other: &[Bound], d: usize)
     requires whole { IsMatrix d cells.old }
     requires other { IsMatrix d other.now }
     requires pairs { d % 2 ≡ 0 }
-    ensures value { (i j : ℕ) → i < d → j < d → cell_at d cells.new i j ≡ widened_of (cell_at d cells.old i j) (cell_at d other.now i j) }
+    ensures value { (i j : ℕ) → i < d → j < d →
+        cell_at d cells.new i j ≡ widened_of (cell_at d cells.old i j) (cell_at d other.now i j) }
     ensures whole { IsMatrix d cells.new }
 {
     for i in 0..d {
@@ -70,7 +72,8 @@ fn narrow_cells(cells: &mut [Bound], other: &[Bound], d: usize)
     requires whole { IsMatrix d cells.old }
     requires other { IsMatrix d other.now }
     requires pairs { d % 2 ≡ 0 }
-    ensures value { (i j : ℕ) → i < d → j < d → cell_at d cells.new i j ≡ narrowed_of (cell_at d cells.old i j) (cell_at d other.now i j) }
+    ensures value { (i j : ℕ) → i < d → j < d →
+        cell_at d cells.new i j ≡ narrowed_of (cell_at d cells.old i j) (cell_at d other.now i j) }
     ensures whole { IsMatrix d cells.new }
 {
     for i in 0..d {

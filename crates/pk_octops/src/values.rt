@@ -1,7 +1,7 @@
 // The range of one variable.
 
-ghost use Rattle.std.specs.Prelude.{◌≡◌, ℕ, ℤ, ◌+◌, ◌*◌, ◌<◌, ◌^◌, Some};
-ghost use Rattle.pk_octmat.specs.Bounds.{AtMost, halved, IsNear};
+ghost use Rattle.std.specs.Prelude.{◌≡◌, ℕ, ℤ, ◌+◌, ◌*◌, ◌<◌, Some};
+ghost use Rattle.pk_octmat.specs.Bounds.{AtMost, halved};
 ghost use Rattle.pk_octmat.specs.Octagon.{entry, Meets};
 ghost use Rattle.pk_octops.specs.Values.{least_of, IsFrom};
 

@@ -66,7 +66,8 @@ exit_cell (Again p) = Again (Exit p)
 abbrev pub exit_run : {V : Type 0} → Equations V → ℕ → List (Cell V) → Decision Phase
 exit_run q head [] = Stable Up
 exit_run q head (x ∷ []) = Stable Up
-exit_run q head (x ∷ (h ∷ cells)) = decided_phase q.ops q.narrow (phase_of x) (value_of q.bottom h) (new_value q head cells)
+exit_run q head (x ∷ (h ∷ cells)) =
+    decided_phase q.ops q.narrow (phase_of x) (value_of q.bottom h) (new_value q head cells)
 
 -- for other elements than exits this is never asked
 abbrev pub decide_in : {V : Type 0} → Equations V → Part → List (Cell V) → Decision (Cell V)
@@ -115,7 +116,8 @@ ReadsPoints q = (e : ℕ) → All (λ u. IsExit (q.part u) → ⊥) (q.sources e
 
 -- the order's components are those of the equations
 abbrev pub PartsAreOf : {V : Type 0} → Equations V → Level → Type 0
-PartsAreOf q order = (head exit : ℕ) → HasComponent order head exit → (q.part head ≡ HeadOf exit) × (q.part exit ≡ ExitOf head)
+PartsAreOf q order =
+    (head exit : ℕ) → HasComponent order head exit → (q.part head ≡ HeadOf exit) × (q.part exit ≡ ExitOf head)
 
 -- with a rank of the values that a head may hold the recursion ends, and each entry of a component runs its head only so often
 abbrev pub EquationsEnd : {V : Type 0} → Equations V → (ℕ → V → Type 0) → Type 0

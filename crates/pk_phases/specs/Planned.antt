@@ -12,7 +12,8 @@ use Rattle.pk_phases.specs.Equations.{Equations, behaviour_of, ReadsPoints}
 
 -- the heads and exits are those of the plan's components
 abbrev pub PartsAreOfPlan : {V : Type 0} → Equations V → PlanView → Type 0
-PartsAreOfPlan q p = (c : Component) → Contains p.components c → (q.part c.head ≡ HeadOf c.exit) × (q.part c.exit ≡ ExitOf c.head)
+PartsAreOfPlan q p =
+    (c : Component) → Contains p.components c → (q.part c.head ≡ HeadOf c.exit) × (q.part c.exit ≡ ExitOf c.head)
 
 -- In the plan's linear order the recursion ends, and each entry of a component runs its head only so often.
 abbrev pub LinearOrderEnds : {V : Type 0} → Equations V → (ℕ → V → Type 0) → Type 0

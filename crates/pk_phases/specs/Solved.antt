@@ -15,8 +15,13 @@ pub record SourcesAhead {V : Type 0} (q : Equations V) (order : Level) : Type 0 
 
 -- Each point has the value of its equation, and at each head that value is below the head's.
 pub record AreSolved {V : Type 0} (q : Equations V) (order : Level) (ends : Ends (behaviour_of q) order) : Type 0 where
-  pub points : (v : ℕ) → In order v → q.part v ≡ Point → result_cell ends v ≡ Value (new_value q v (map (result_cell ends) (q.sources v)))
-  pub heads : (head exit : ℕ) → HasComponent order head exit → q.ops.leq (new_value q head (map (result_cell ends) (q.sources head))) (value_of q.bottom (result_cell ends head)) ≡ true
+  pub points : (v : ℕ) → In order v → q.part v ≡ Point →
+      result_cell ends v ≡ Value (new_value q v (map (result_cell ends) (q.sources v)))
+  pub heads : (head exit : ℕ) → HasComponent order head exit →
+      q.ops.leq (new_value q head (map (result_cell ends) (q.sources head)))
+      (value_of q.bottom (result_cell ends head)) ≡ true
 
 abbrev pub EndIsSolved : {V : Type 0} → Equations V → Type 0
-EndIsSolved q = (order : Level) → Once order → PartsAreOf q order → SourcesAhead q order → (ends : Ends (behaviour_of q) order) → AreSolved q order ends
+EndIsSolved q =
+    (order : Level) → Once order → PartsAreOf q order → SourcesAhead q order → (ends : Ends (behaviour_of q) order) →
+    AreSolved q order ends

@@ -21,7 +21,7 @@ pub enum Part {
 
 /// Equations on values, and which values each point may hold.
 pub trait Equate {
-    ghost use Rattle.std.specs.Prelude.{◌≡◌, ℕ, List, map, IfOk};
+    ghost use Rattle.std.specs.Prelude.{◌≡◌, ℕ, map, IfOk};
     ghost use Rattle.std.specs.Arc.{arc_value};
     ghost use Rattle.pk_iterate.specs.Behaviour.{HoldEach};
     ghost use Rattle.pk_phases.specs.Equations.{Equations, KeepHeld, AreHeld, reads_in, may_hold_of, new_value};
@@ -57,7 +57,8 @@ pub trait Equate {
         e: u32,
         cells: &[Arc<Cell<Self::Value>>],
     ) -> Result<Self::Value, AllocError>
-        requires { HoldEach (may_hold_of (meaning self.now) (held self.now)) ((meaning self.now).sources e) (map arc_value cells.now) }
+        requires { HoldEach (may_hold_of (meaning self.now) (held self.now)) ((meaning self.now).sources e)
+            (map arc_value cells.now) }
         ensures { IfOk result (λ v. v ≡ new_value (meaning self.now) e (map arc_value cells.now)) };
 
     /// Whether the new value is below the old.

@@ -43,7 +43,8 @@ fn decide_by<E: Equate>(
     new: &E::Value,
 ) -> Result<Decision<Phase>, AllocError>
     requires { AreHeld (E.held equations.now) old.now new.now }
-    ensures { IfOk result (λ d. d ≡ decided_phase (E.meaning equations.now).ops (E.meaning equations.now).narrow phase old.now new.now) }
+    ensures { IfOk result (λ d.
+        d ≡ decided_phase (E.meaning equations.now).ops (E.meaning equations.now).narrow phase old.now new.now) }
 {
     let below = equations.leq(new, old);
     let most = equations.narrow();
@@ -74,7 +75,8 @@ fn head_cell<E: Equate>(
     new: &E::Value,
 ) -> Result<E::Value, AllocError>
     requires { AreHeld (E.held equations.now) (value_of (E.meaning equations.now).bottom own.now) new.now }
-    ensures { IfOk result (λ v. v ≡ next_value (E.meaning equations.now).ops (phase_of exit.now) (value_of (E.meaning equations.now).bottom own.now) new.now) }
+    ensures { IfOk result (λ v. v ≡ next_value (E.meaning equations.now).ops (phase_of exit.now)
+        (value_of (E.meaning equations.now).bottom own.now) new.now) }
 {
     match own {
         Cell::Value(old) => next(alloc, equations, phase_in(exit), old, new),
@@ -94,7 +96,8 @@ fn exit_phase<E: Equate>(
     new: &E::Value,
 ) -> Result<Decision<Phase>, AllocError>
     requires { AreHeld (E.held equations.now) (value_of (E.meaning equations.now).bottom head.now) new.now }
-    ensures { IfOk result (λ d. d ≡ decided_phase (E.meaning equations.now).ops (E.meaning equations.now).narrow (phase_of own.now) (value_of (E.meaning equations.now).bottom head.now) new.now) }
+    ensures { IfOk result (λ d. d ≡ decided_phase (E.meaning equations.now).ops (E.meaning equations.now).narrow
+        (phase_of own.now) (value_of (E.meaning equations.now).bottom head.now) new.now) }
 {
     match head {
         Cell::Value(old) => decide_by(alloc, equations, phase_in(own), old, new),
@@ -118,11 +121,14 @@ where
 
     ghost may_hold = { λ s. may_hold_of (E.meaning s.equations) (E.held s.equations) };
 
-    ghost first_held = { λ s e. (equations_hold (E.meaning s.equations) (E.held s.equations) (E.keeps s.equations)).first e };
+    ghost first_held = { λ s e.
+        (equations_hold (E.meaning s.equations) (E.held s.equations) (E.keeps s.equations)).first e };
 
-    ghost apply_held = { λ s e cells h. (equations_hold (E.meaning s.equations) (E.held s.equations) (E.keeps s.equations)).apply e cells h };
+    ghost apply_held = { λ s e cells h.
+        (equations_hold (E.meaning s.equations) (E.held s.equations) (E.keeps s.equations)).apply e cells h };
 
-    ghost decide_held = { λ s x cells h. (equations_hold (E.meaning s.equations) (E.held s.equations) (E.keeps s.equations)).decide x cells h };
+    ghost decide_held = { λ s x cells h.
+        (equations_hold (E.meaning s.equations) (E.held s.equations) (E.keeps s.equations)).decide x cells h };
 
     fn reads(&self, e: u32) -> &[u32] {
         self.equations.reads(e)

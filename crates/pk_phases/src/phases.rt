@@ -31,7 +31,8 @@ pub fn decision(narrow: u32, phase: Phase, below: bool, settled: bool) -> Decisi
 
 /// Whether the decision depends on what narrowing does.
 pub(crate) fn asks(narrow: u32, phase: Phase, below: bool) -> bool
-    ensures { result ≡ false → (settled : Bool) → decision_of narrow phase below settled ≡ decision_of narrow phase below false }
+    ensures { result ≡ false → (settled : Bool) →
+        decision_of narrow phase below settled ≡ decision_of narrow phase below false }
 {
     match phase {
         Phase::Up => below && narrow > 0,

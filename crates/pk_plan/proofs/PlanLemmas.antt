@@ -192,30 +192,6 @@ exit_inside p c d axioms of_c of_d other inside =
     let end_d = end_at p d axioms of_d in
     inside_by_place p c d.exit axioms of_c (record { within = exit_within p d axioms of_d; from = omega (arith, end_d, order_d, from, first_d); before = omega (arith, end_d, ends) })
 
--- an exit lies in no components but those that hold its head
-pub head_inside_too : (p : PlanView) (c d : Component) → Axioms p → Of p c → Of p d → Inside p c d.exit → Inside p c d.head
-head_inside_too p c d axioms of_c of_d inside =
-    let stands = stands_inside p c d.exit axioms of_c inside in
-    let from = stands.from in
-    let before = stands.before in
-    let first_d = first_at p d axioms of_d in
-    let first_c = first_at p c axioms of_c in
-    let order_d = first_before_end p d axioms of_d in
-    let end_d = end_at p d axioms of_d in
-    elim (cases_lt d.first c.first) [
-      | inl less ↦ absurd (
-          let ends = axioms.nested d c of_d of_c less (elim (eqb_tells c.first d.end) [
-            | inl same ↦ absurd (
-                let equal : c.head ≡ d.exit = same_place p c.head d.exit axioms (head_within p c axioms of_c) (exit_within p d axioms of_d) (sym first_c ∙ same.1 ∙ end_d) in
-                let point = head_is_point p c axioms of_c in
-                let at = exit_at p d axioms of_d in
-                omega (arith, equal, point, at))
-            | inr ne ↦ let different = ne.1 in omega (arith, from, end_d, different)
-          ]) in
-          omega (arith, ends, before, end_d))
-      | inr more ↦ inside_by_place p c d.head axioms of_c (record { within = head_within p d axioms of_d; from = omega (arith, first_d, more); before = omega (arith, first_d, order_d, end_d, before) })
-    ]
-
 -- components that share a member lie one in the other
 pub nested_or_apart : (p : PlanView) (c d : Component) (e : ℕ) → Axioms p → Of p c → Of p d → Inside p c e → Inside p d e → ((u : ℕ) → Inside p d u → Inside p c u) ⊎ ((u : ℕ) → Inside p c u → Inside p d u)
 nested_or_apart p c d e axioms of_c of_d in_c in_d =

@@ -1,5 +1,5 @@
 -- The shape of a plan.
-use Rattle.std.proofs.Common.{◌≡◌, ◌≢◌, ℕ, zero, suc, ◌<◌, ◌≤◌, ◌+◌, ◌-◌, ◌⊎◌, ◌==◌, ◌||◌, ◌&&◌, inl, inr, List, [], ◌∷◌, length, get_or, arith, refl, ap, sym, subst, ◌∙◌, Contains, Bool, true, false}
+use Rattle.std.proofs.Common.{◌≡◌, ◌≢◌, ℕ, zero, suc, ◌<◌, ◌≤◌, ◌+◌, ◌-◌, ◌==◌, ◌||◌, ◌&&◌, inl, inr, List, [], ◌∷◌, length, get_or, arith, refl, ap, sym, subst, ◌∙◌, Contains, Bool, true, false}
 use Rattle.std.proofs.Math.Dec.{leb, ltb}
 use Rattle.std.proofs.lemmas.Bool.{eq-eqb}
 use Rattle.std.proofs.lemmas.Bool.Decides.{eqb_tells, nat_tests}
@@ -9,10 +9,6 @@ use Rattle.pk_plan.specs.Plans.{PlanView, end_of, predecessors_of, successors_of
 use Rattle.pk_plan.specs.Axioms.{Axioms}
 use Rattle.pk_plan.specs.Shape.{has, Before, one, more, component_of, exits, holds, shape_of, ShapesMeet}
 use Rattle.pk_plan.proofs.PlanLemmas.{Of, exit_at, head_inside, exit_inside, acyclic, constrains_from, is_inside_tells, nested_or_apart, stands_inside}
-
-cases_bool : (t : Bool) → (t ≡ true) ⊎ (t ≡ false)
-cases_bool true = inl refl
-cases_bool false = inr refl
 
 or_right : (t u : Bool) → u ≡ true → (t || u) ≡ true
 or_right true u h = refl

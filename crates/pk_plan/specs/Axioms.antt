@@ -36,9 +36,11 @@ pub record Axioms (p : PlanView) : Type 0 where
   pub first : All (λ (c : Component). c.first ≡ place_of p c.head) p.components
   pub end : All (λ (c : Component). c.end ≡ place_of p c.exit) p.components
   pub not_empty : All (λ (c : Component). c.first < c.end) p.components
-  pub nested : (c d : Component) → Contains p.components c → Contains p.components d → c.first < d.first → d.first < c.end → d.end < c.end
+  pub nested : (c d : Component) → Contains p.components c → Contains p.components d → c.first < d.first →
+      d.first < c.end → d.end < c.end
   -- the head precedes the other members, and all members precede the exit
   pub after_head : (c : Component) (e : ℕ) → Contains p.components c → Inside p c e → e ≢ c.head → Precedes p c.head e
   pub before_exit : (c : Component) (e : ℕ) → Contains p.components c → Inside p c e → Precedes p e c.exit
   -- a constraint from a member leads to a member or to the exit
-  pub stays : (c : Component) (a b : ℕ) → Contains p.components c → Inside p c a → Constrains p a b → Inside p c b ⊎ (b ≡ c.exit)
+  pub stays : (c : Component) (a b : ℕ) → Contains p.components c → Inside p c a → Constrains p a b →
+      Inside p c b ⊎ (b ≡ c.exit)

@@ -41,7 +41,8 @@ abbrev pub TakesLeastReady : PlanView → Level → Type 0
 TakesLeastReady p Empty = Unit {0}
 TakesLeastReady p (Vertex_then v more) = IsNext p (Vertex_then v more) (vertex_item v) × TakesLeastReady p more
 TakesLeastReady p (Component_then head exit rest more) =
-    IsNext p (Component_then head exit rest more) (component_item head exit rest) × TakesLeastReady p rest × TakesLeastReady p more
+    IsNext p (Component_then head exit rest more) (component_item head exit rest) × TakesLeastReady p rest
+    × TakesLeastReady p more
 
 -- a pair of brackets: the head, the exit, and all between the brackets
 pub record Bracket : Type 0 where
@@ -67,8 +68,10 @@ pub record IsLinear (p : PlanView) (order : Level) : Type 0 where
   pub every : (e : ℕ) → e < p.elements → Contains (elements_of order) e
   pub once : AllPairs (λ a b. a ≢ b) (elements_of order)
   -- the brackets are those of the plan's components
-  pub drawn : (bracket : Bracket) → Contains (brackets_of order) bracket → (c : Component) × Contains p.components c × Encloses p bracket c
-  pub enclosed : (c : Component) → Contains p.components c → (bracket : Bracket) × Contains (brackets_of order) bracket × Encloses p bracket c
+  pub drawn : (bracket : Bracket) → Contains (brackets_of order) bracket →
+      (c : Component) × Contains p.components c × Encloses p bracket c
+  pub enclosed : (c : Component) → Contains p.components c →
+      (bracket : Bracket) × Contains (brackets_of order) bracket × Encloses p bracket c
   -- the least ready item comes next
   pub next : TakesLeastReady p order
 

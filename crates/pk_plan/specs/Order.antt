@@ -15,7 +15,8 @@ abbrev pub places_of : Level → List Place
 places_of Empty = []
 places_of (Vertex_then v more) = record { element = v; role = Vertex } ∷ places_of more
 places_of (Component_then head exit rest more) =
-    record { element = head; role = Head } ∷ (places_of rest ++ (record { element = exit; role = Exit (length (places_of rest) + 1) } ∷ places_of more))
+    record { element = head; role = Head }
+    ∷ (places_of rest ++ (record { element = exit; role = Exit (length (places_of rest) + 1) } ∷ places_of more))
 
 -- what is read of places, from the right: a level, and the components whose heads are still to come, the innermost first,
 -- each by its exit and the level that comes after it

@@ -41,7 +41,8 @@ pub record ShapeAxioms (p : Shape) : Type 0 where
   -- a constraint from a member leads to a member or to the exit
   pub stays : (x u v : ℕ) → p.inside x u ≡ true → has v (p.succs u) ≡ true → v ≢ x → p.inside x v ≡ true
   -- components are disjoint or nested
-  pub laminar : (x y u : ℕ) → p.inside x u ≡ true → p.inside y u ≡ true → x ≢ y → p.inside x y ≡ false → p.inside y x ≡ true
+  pub laminar : (x y u : ℕ) → p.inside x u ≡ true → p.inside y u ≡ true → x ≢ y → p.inside x y ≡ false →
+      p.inside y x ≡ true
 
 -- the component of an exit
 abbrev pub component_of : PlanView → ℕ → Component
@@ -57,7 +58,16 @@ holds p x u = exits p x && (nat_lt u p.elements && is_inside p (component_of p x
 
 -- the shape of a plan
 abbrev pub shape_of : PlanView → Shape
-shape_of p = record { elements = p.elements; last = end_of p; preds = predecessors_of p; succs = successors_of p; is_exit = exits p; head = λ x. (component_of p x).head; inside = holds p }
+shape_of p =
+    record {
+      elements = p.elements;
+      last = end_of p;
+      preds = predecessors_of p;
+      succs = successors_of p;
+      is_exit = exits p;
+      head = λ x. (component_of p x).head;
+      inside = holds p;
+    }
 
 abbrev pub ShapesMeet : Type 0
 ShapesMeet = (p : PlanView) → PlanAxioms p → ShapeAxioms (shape_of p)

@@ -27,9 +27,11 @@ impl Model for Plan {
 
     ghost Value = { PlanView };
 
-    ghost view = { λ p. plan_of p.points p.elements p.predecessors p.successors p.listing.items p.places.items p.components.items };
+    ghost view = { λ p.
+        plan_of p.points p.elements p.predecessors p.successors p.listing.items p.places.items p.components.items };
 
-    ghost invariant = { λ p. Axioms (plan_of p.points p.elements p.predecessors p.successors p.listing.items p.places.items p.components.items) };
+    ghost invariant = { λ p. Axioms
+        (plan_of p.points p.elements p.predecessors p.successors p.listing.items p.places.items p.components.items) };
 }
 
 impl Plan {
@@ -45,7 +47,8 @@ impl Plan {
         places: Vec<u32>,
         components: Vec<Component>,
     ) -> Plan
-        requires { Axioms (plan_of points elements predecessors successors listing.items places.items components.items) }
+        requires { Axioms
+            (plan_of points elements predecessors successors listing.items places.items components.items) }
         ensures { result ≡ plan_of points elements predecessors successors listing.items places.items components.items }
     {
         Plan {

@@ -32,7 +32,9 @@ abbrev pub place_end : Pos → List ℕ
 place_end at = codes " " ++ pos_text at ++ codes "\n"
 
 abbrev pub heading : GraphOf → (is_head : Bool) → ℕ → List ℕ
-heading g is_head v = (point_word is_head ++ decimal v ++ codes " ") ++ path_text g.paths (point_at g v).path ++ place_end (point_at g v).at
+heading g is_head v =
+    (point_word is_head ++ decimal v ++ codes " ") ++ path_text g.paths (point_at g v).path
+    ++ place_end (point_at g v).at
 
 -- `head N PATH L:C`, or `point N PATH L:C` where the point is no head, and what is known there
 abbrev pub point_lines : GraphOf → Stated → (is_head : Bool) → ℕ → List ℕ
@@ -66,7 +68,8 @@ place_and_kind at f = codes " " ++ pos_text at ++ codes " " ++ fault_text f ++ c
 -- `access PATH L:C KIND VERDICT`
 abbrev pub access_line : List PathOf → AccessOf × Verdict → List ℕ
 access_line ps a =
-    codes "access " ++ path_text ps a.0.site.path ++ place_and_kind a.0.site.at (fault_of a.0.operation) ++ verdict_text a.1 ++ codes "\n"
+    codes "access " ++ path_text ps a.0.site.path ++ place_and_kind a.0.site.at (fault_of a.0.operation)
+    ++ verdict_text a.1 ++ codes "\n"
 
 abbrev pub is_safe : Verdict → Bool
 is_safe Safe = true
@@ -90,22 +93,29 @@ counted label n = label ++ decimal n
 
 -- path 0 is the entry's
 abbrev pub first_line : GraphOf → (elements : ℕ) → List ℕ
-first_line g elements = (codes "pikos 1 entry " ++ path_text g.paths 0) ++ counted (codes " points ") (length g.points) ++ counted (codes " elements ") elements ++ codes "\n"
+first_line g elements =
+    (codes "pikos 1 entry " ++ path_text g.paths 0) ++ counted (codes " points ") (length g.points)
+    ++ counted (codes " elements ") elements ++ codes "\n"
 
 abbrev pub last_line : List Verdict → List ℕ
-last_line vs = counted (codes "result safe ") (count_by is_safe vs) ++ counted (codes " unknown ") (count_by is_unknown vs) ++ counted (codes " unreachable ") (count_by is_unreachable vs) ++ codes "\n"
+last_line vs =
+    counted (codes "result safe ") (count_by is_safe vs) ++ counted (codes " unknown ") (count_by is_unknown vs)
+    ++ counted (codes " unreachable ") (count_by is_unreachable vs) ++ codes "\n"
 
 -- the report on a graph, given the heads of its components, how many elements its plan has, the reduced state of each point, and the verdict on each access
-abbrev pub report_text : (all : Bool) → GraphOf → (heads : List ℕ) → (elements : ℕ) → List Stated → List AccessOf → List Verdict → List ℕ
+abbrev pub report_text : (all : Bool) → GraphOf → (heads : List ℕ) → (elements : ℕ) → List Stated → List AccessOf →
+    List Verdict → List ℕ
 report_text all g heads elements states accesses verdicts =
-    first_line g elements ++ flat_map (told_lines all g heads states) (range_with_len 0 (length g.points)) ++ flat_map (access_line g.paths) (zip accesses verdicts) ++ last_line verdicts
+    first_line g elements ++ flat_map (told_lines all g heads states) (range_with_len 0 (length g.points))
+    ++ flat_map (access_line g.paths) (zip accesses verdicts) ++ last_line verdicts
 
 -- ---- of a made text
 
 -- `gen seed S size N bytes B`, then the first and the last line of its report
 abbrev pub summary_text : (seed size bytes : ℕ) → GraphOf → (elements : ℕ) → List Verdict → List ℕ
 summary_text seed size bytes g elements vs =
-    (counted (codes "gen seed ") seed ++ counted (codes " size ") size ++ counted (codes " bytes ") bytes ++ codes "\n") ++ first_line g elements ++ last_line vs
+    (counted (codes "gen seed ") seed ++ counted (codes " size ") size ++ counted (codes " bytes ") bytes
+    ++ codes "\n") ++ first_line g elements ++ last_line vs
 
 abbrev pub unknown_in : List Verdict → ℕ
 unknown_in = count_by is_unknown

@@ -42,7 +42,8 @@ placed l = filter_map (placed_in l)
 -- `  FORM <= c`, only where c is less than what the intervals give
 abbrev pub bound_text : List ℕ → (limit : ℤ) → Option ℤ → List ℕ
 bound_text form limit None = []
-bound_text form limit (Some c) = if int_lt c limit then codes "  " ++ form ++ codes " <= " ++ signed_decimal c ++ codes "\n" else []
+bound_text form limit (Some c) =
+    if int_lt c limit then codes "  " ++ form ++ codes " <= " ++ signed_decimal c ++ codes "\n" else []
 
 -- the four forms of two variables, with their bounds
 abbrev pub pair_text : (x y : List ℕ) → (kx ky : Known) → Bounds → List ℕ
@@ -63,7 +64,8 @@ bounds_of bound k l = record {
 
 abbrev pub pair_lines : GraphOf → Facts → Placed → Placed → List ℕ
 pair_lines g f p q =
-    pair_text (name_of g p.variable) (name_of g q.variable) (known_at f.values p.variable) (known_at f.values q.variable) (bounds_of (entry f.octagon) p.place q.place)
+    pair_text (name_of g p.variable) (name_of g q.variable) (known_at f.values p.variable)
+    (known_at f.values q.variable) (bounds_of (entry f.octagon) p.place q.place)
 
 -- each pair, the one before the other in the list
 abbrev pub of_pairs : (Placed → Placed → List ℕ) → List Placed → List ℕ

@@ -29,7 +29,8 @@ fn fault_of(operation: &Operation) -> Fault
 }
 
 fn write_unknown(alloc: Global, bytes: &mut Vec<u8>, lo: &i128, hi: &i128) -> Result<(), AllocError>
-    ensures { OnOk result (bytes.new.items ≡ bytes.old.items ++ (codes "unknown [" ++ signed_decimal lo.now ++ codes "," ++ signed_decimal hi.now ++ codes "]")) }
+    ensures { OnOk result (bytes.new.items ≡ bytes.old.items
+        ++ (codes "unknown [" ++ signed_decimal lo.now ++ codes "," ++ signed_decimal hi.now ++ codes "]")) }
 {
     write_text(bytes, "unknown [")?;
     write_number(alloc, bytes, *lo)?;
@@ -71,7 +72,8 @@ fn write_access(
     access: &Access,
     verdict: &Verdict,
 ) -> Result<(), AllocError>
-    ensures { OnOk result (bytes.new.items ≡ bytes.old.items ++ access_line (map path_view paths.now) (access_view access.now, verdict.now)) }
+    ensures { OnOk result (bytes.new.items
+        ≡ bytes.old.items ++ access_line (map path_view paths.now) (access_view access.now, verdict.now)) }
 {
     write_text(bytes, "access ")?;
     write_path(alloc, bytes, paths, access.site.path)?;
@@ -90,7 +92,8 @@ pub(crate) fn write_accesses(
     verdicts: &[Verdict],
 ) -> Result<(), AllocError>
     requires { length accesses.now ≡ length verdicts.now }
-    ensures { OnOk result (bytes.new.items ≡ bytes.old.items ++ flat_map (access_line (map path_view paths.now)) (zip (access_views accesses.now) verdicts.now)) }
+    ensures { OnOk result (bytes.new.items ≡ bytes.old.items
+        ++ flat_map (access_line (map path_view paths.now)) (zip (access_views accesses.now) verdicts.now)) }
 {
     for k in 0..accesses.len() {
         write_access(alloc, bytes, paths, &accesses[k], &verdicts[k])?;

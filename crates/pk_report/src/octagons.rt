@@ -77,7 +77,9 @@ fn write_bound(
     y: &str,
     bound: i128,
 ) -> Result<(), AllocError>
-    ensures { OnOk result (bytes.new.items ≡ bytes.old.items ++ (codes "  " ++ (front.now ++ x.now ++ sign.now ++ y.now) ++ codes " <= " ++ signed_decimal bound ++ codes "\n")) }
+    ensures { OnOk result (bytes.new.items ≡ bytes.old.items
+        ++ (codes "  " ++ (front.now ++ x.now ++ sign.now ++ y.now) ++ codes " <= " ++ signed_decimal bound
+        ++ codes "\n")) }
 {
     write_text(bytes, "  ")?;
     write_names(bytes, front, x, sign, y)?;
@@ -97,7 +99,8 @@ fn write_below(
     limit: i128,
     bound: i128,
 ) -> Result<(), AllocError>
-    ensures { OnOk result (bytes.new.items ≡ bytes.old.items ++ bound_text (front.now ++ x.now ++ sign.now ++ y.now) limit (Some bound)) }
+    ensures { OnOk result (bytes.new.items
+        ≡ bytes.old.items ++ bound_text (front.now ++ x.now ++ sign.now ++ y.now) limit (Some bound)) }
 {
     if bound < limit {
         write_bound(alloc, bytes, front, x, sign, y, bound)
@@ -116,7 +119,8 @@ fn write_form(
     limit: i128,
     bound: Option<i128>,
 ) -> Result<(), AllocError>
-    ensures { OnOk result (bytes.new.items ≡ bytes.old.items ++ bound_text (front.now ++ x.now ++ sign.now ++ y.now) limit bound) }
+    ensures { OnOk result
+        (bytes.new.items ≡ bytes.old.items ++ bound_text (front.now ++ x.now ++ sign.now ++ y.now) limit bound) }
 {
     match bound {
         Some(bound) => write_below(alloc, bytes, front, x, sign, y, limit, bound),
@@ -242,7 +246,8 @@ fn write_pair(
     requires second { q.variable < length state.now.layout.types }
     requires first_place { p.place < length state.now.layout.chosen }
     requires second_place { q.place < length state.now.layout.chosen }
-    ensures { OnOk result (bytes.new.items ≡ bytes.old.items ++ pair_lines_if (graph_view graph.now) state.now.facts p q) }
+    ensures { OnOk result
+        (bytes.new.items ≡ bytes.old.items ++ pair_lines_if (graph_view graph.now) state.now.facts p q) }
 {
     match state.value(p.variable) {
         Some(kx) => match state.value(q.variable) {
@@ -272,7 +277,8 @@ fn write_pairs(
     requires first_place { p.place < length state.now.layout.chosen }
     requires others { All (λ q. q.variable < length state.now.layout.types) others.now }
     requires places { All (λ q. q.place < length state.now.layout.chosen) others.now }
-    ensures { OnOk result (bytes.new.items ≡ bytes.old.items ++ flat_map (pair_lines_if (graph_view graph.now) state.now.facts p) others.now) }
+    ensures { OnOk result (bytes.new.items
+        ≡ bytes.old.items ++ flat_map (pair_lines_if (graph_view graph.now) state.now.facts p) others.now) }
 {
     for k in 0..others.len() {
         write_pair(alloc, bytes, graph, state, p, others[k])?;
@@ -289,7 +295,8 @@ fn write_all_pairs(
 ) -> Result<(), AllocError>
     requires variables { All (λ q. q.variable < length state.now.layout.types) list.now }
     requires places { All (λ q. q.place < length state.now.layout.chosen) list.now }
-    ensures { OnOk result (bytes.new.items ≡ bytes.old.items ++ of_pairs (pair_lines_if (graph_view graph.now) state.now.facts) list.now) }
+    ensures { OnOk result (bytes.new.items
+        ≡ bytes.old.items ++ of_pairs (pair_lines_if (graph_view graph.now) state.now.facts) list.now) }
 {
     for k in 0..list.len() {
         write_pairs(alloc, bytes, graph, state, list[k], &list[k + 1..])?;
@@ -306,7 +313,8 @@ pub(crate) fn write_octagon(
     visible: &[usize],
 ) -> Result<(), AllocError>
     requires { All (λ x. x < length state.now.layout.types) visible.now }
-    ensures { OnOk result (bytes.new.items ≡ bytes.old.items ++ of_pairs (pair_lines_if (graph_view graph.now) state.now.facts) (placed state.now.layout visible.now)) }
+    ensures { OnOk result (bytes.new.items ≡ bytes.old.items
+        ++ of_pairs (pair_lines_if (graph_view graph.now) state.now.facts) (placed state.now.layout visible.now)) }
 {
     let list = all_placed(alloc, state, visible)?;
     write_all_pairs(alloc, bytes, graph, state, &list)?;

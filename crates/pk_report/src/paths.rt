@@ -38,7 +38,8 @@ fn caller(paths: &[Path], path: usize) -> Option<usize>
 
 // The paths from the entry's to this one, call by call.
 fn line_of(alloc: Global, paths: &[Path], path: usize) -> Result<Vec<usize>, AllocError>
-    ensures { IfOk result (λ line. segments (map path_view paths.now) line.items ≡ path_text (map path_view paths.now) path) }
+    ensures { IfOk result
+        (λ line. segments (map path_view paths.now) line.items ≡ path_text (map path_view paths.now) path) }
 {
     let mut line = Vec::new(alloc);
     line.push(path)?;

@@ -25,7 +25,8 @@ fn write_facts(
     visible: &[usize],
 ) -> Result<(), AllocError>
     requires { All (λ x. x < length state.now.layout.types) visible.now }
-    ensures { OnOk result (bytes.new.items ≡ bytes.old.items ++ facts_lines (graph_view graph.now) state.now.layout state.now.facts visible.now) }
+    ensures { OnOk result (bytes.new.items
+        ≡ bytes.old.items ++ facts_lines (graph_view graph.now) state.now.layout state.now.facts visible.now) }
 {
     if state.is_bottom() {
         write_text(bytes, "  unreachable\n")?;
@@ -93,7 +94,8 @@ fn write_point(
 ) -> Result<(), AllocError>
     requires point { point < length (graph_view graph.now).points }
     requires layout { length state.now.layout.types ≡ length (graph_view graph.now).variables }
-    ensures { OnOk result (bytes.new.items ≡ bytes.old.items ++ point_lines (graph_view graph.now) state.now is_head point) }
+    ensures { OnOk result
+        (bytes.new.items ≡ bytes.old.items ++ point_lines (graph_view graph.now) state.now is_head point) }
 {
     graph.well_made();
     let visible = visible(alloc, graph, point)?;
@@ -113,7 +115,8 @@ fn write_if_told(
 ) -> Result<(), AllocError>
     requires point { point < length (graph_view graph.now).points }
     requires layout { length state.now.layout.types ≡ length (graph_view graph.now).variables }
-    ensures { OnOk result (bytes.new.items ≡ bytes.old.items ++ told_if all (graph_view graph.now) state.now is_head point) }
+    ensures { OnOk result
+        (bytes.new.items ≡ bytes.old.items ++ told_if all (graph_view graph.now) state.now is_head point) }
 {
     if is_head {
         return write_point(alloc, bytes, graph, state, point, is_head);
@@ -149,7 +152,9 @@ pub(crate) fn write_points(
 ) -> Result<(), AllocError>
     requires states { length states.now ≡ length (graph_view graph.now).points }
     requires layouts { All (λ s. length s.layout.types ≡ length (graph_view graph.now).variables) states.now }
-    ensures { OnOk result (bytes.new.items ≡ bytes.old.items ++ flat_map (told_lines all (graph_view graph.now) heads.now states.now) (range_with_len 0 (length (graph_view graph.now).points))) }
+    ensures { OnOk result (bytes.new.items ≡ bytes.old.items
+        ++ flat_map (told_lines all (graph_view graph.now) heads.now states.now)
+        (range_with_len 0 (length (graph_view graph.now).points))) }
 {
     let marks = head_marks(alloc, heads, states.len())?;
     for point in 0..states.len() {

@@ -76,7 +76,8 @@ fn write_counted(
 }
 
 fn write_entry(alloc: Global, bytes: &mut Vec<u8>, graph: &Graph) -> Result<(), AllocError>
-    ensures { OnOk result (bytes.new.items ≡ bytes.old.items ++ (codes "pikos 1 entry " ++ path_text (graph_view graph.now).paths 0)) }
+    ensures { OnOk result
+        (bytes.new.items ≡ bytes.old.items ++ (codes "pikos 1 entry " ++ path_text (graph_view graph.now).paths 0)) }
 {
     write_text(bytes, "pikos 1 entry ")?;
     write_path(alloc, bytes, graph.paths(), 0)?;
@@ -123,7 +124,8 @@ pub fn report(
     requires states { length states.now ≡ length (graph_view graph.now).points }
     requires layouts { All (λ s. length s.layout.types ≡ length (graph_view graph.now).variables) states.now }
     requires verdicts { length accesses.now ≡ length verdicts.now }
-    ensures { IfOk result (λ bytes. bytes.items ≡ report_text all (graph_view graph.now) heads.now elements states.now (access_views accesses.now) verdicts.now) }
+    ensures { IfOk result (λ bytes. bytes.items ≡ report_text all
+        (graph_view graph.now) heads.now elements states.now (access_views accesses.now) verdicts.now) }
 {
     let mut bytes = Vec::new(alloc);
     write_first(alloc, &mut bytes, graph, elements)?;
@@ -140,7 +142,9 @@ fn write_generated(
     size: usize,
     text_length: usize,
 ) -> Result<(), AllocError>
-    ensures { OnOk result (bytes.new.items ≡ bytes.old.items ++ (counted (codes "gen seed ") seed ++ counted (codes " size ") size ++ counted (codes " bytes ") text_length ++ codes "\n")) }
+    ensures { OnOk result (bytes.new.items ≡ bytes.old.items
+        ++ (counted (codes "gen seed ") seed ++ counted (codes " size ") size
+        ++ counted (codes " bytes ") text_length ++ codes "\n")) }
 {
     write_counted(alloc, bytes, "gen seed ", seed)?;
     write_counted(alloc, bytes, " size ", size)?;
@@ -159,7 +163,8 @@ pub fn summary(
     elements: usize,
     verdicts: &[Verdict],
 ) -> Result<Vec<u8>, AllocError>
-    ensures { IfOk result (λ bytes. bytes.items ≡ summary_text seed size text_length (graph_view graph.now) elements verdicts.now) }
+    ensures { IfOk result
+        (λ bytes. bytes.items ≡ summary_text seed size text_length (graph_view graph.now) elements verdicts.now) }
 {
     let mut bytes = Vec::new(alloc);
     write_generated(alloc, &mut bytes, seed, size, text_length)?;

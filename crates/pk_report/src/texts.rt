@@ -1,10 +1,9 @@
 // Pieces of text.
 
-ghost use Rattle.std.specs.Prelude.{◌≡◌, ◌++◌, ◌-ℤ◌, ◌+ℤ◌, pos, OnOk, IfOk, codes, string_bytes};
+ghost use Rattle.std.specs.Prelude.{◌≡◌, ◌++◌, pos, OnOk, IfOk, string_bytes};
 ghost use Rattle.std.specs.Fmt.{decimal, signed_decimal};
 ghost use Rattle.pk_ctypes.specs.Places.{pos_text};
 ghost use Rattle.pk_ctypes.specs.Words.{fault_text};
-ghost use Rattle.pk_report.specs.Values.{bound_text};
 
 use pk_ctypes::{Fault, Pos};
 use std::alloc::{AllocError, Global};

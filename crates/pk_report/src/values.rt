@@ -92,7 +92,8 @@ fn write_variable(
     x: usize,
 ) -> Result<(), AllocError>
     requires { x < length state.now.layout.types }
-    ensures { OnOk result (bytes.new.items ≡ bytes.old.items ++ value_line_if (graph_view graph.now) state.now.facts x) }
+    ensures { OnOk result
+        (bytes.new.items ≡ bytes.old.items ++ value_line_if (graph_view graph.now) state.now.facts x) }
 {
     match state.value(x) {
         Some(value) => write_value(alloc, bytes, name_of(graph, x), is_array(graph, x), value),
@@ -109,7 +110,8 @@ pub(crate) fn write_values(
     visible: &[usize],
 ) -> Result<(), AllocError>
     requires { All (λ x. x < length state.now.layout.types) visible.now }
-    ensures { OnOk result (bytes.new.items ≡ bytes.old.items ++ flat_map (value_line_if (graph_view graph.now) state.now.facts) visible.now) }
+    ensures { OnOk result (bytes.new.items
+        ≡ bytes.old.items ++ flat_map (value_line_if (graph_view graph.now) state.now.facts) visible.now) }
 {
     for k in 0..visible.len() {
         write_variable(alloc, bytes, graph, state, visible[k])?;

@@ -39,7 +39,8 @@ fn set_arguments(
     types: &[IntType],
     numbers: &[i128],
 ) -> Result<bool, AllocError>
-    ensures { IfOk result (λ b. meaning.with_arguments 0 types.now numbers.now (objects_in objects.old) ≡ (if b then Some (objects_in objects.new) else None)) }
+    ensures { IfOk result (λ b. meaning.with_arguments 0 types.now numbers.now (objects_in objects.old)
+        ≡ (if b then Some (objects_in objects.new) else None)) }
 {
     if types.len() != numbers.len() {
         return Ok(false);
@@ -55,7 +56,8 @@ fn set_arguments(
 
 /// Where a run begins, if the numbers are one for each parameter of the entry, each of its type.
 pub fn start<'a>(program: &Program<'a>, chosen: &[i128]) -> Result<Option<Config<'a>>, AllocError>
-    ensures { (s : Reading) → IfOk result (λ c. IfSome c (λ d. Agrees s (rows_of d)) → option_map (config_in s) c ≡ meaning.start (program_in program.now) chosen.now) }
+    ensures { (s : Reading) → IfOk result (λ c. IfSome c (λ d. Agrees s (rows_of d)) →
+        option_map (config_in s) c ≡ meaning.start (program_in program.now) chosen.now) }
 {
     let mut objects = first_objects(program.alloc, program)?;
     if set_arguments(&mut objects, parameters(program, 0), chosen)? {
@@ -89,7 +91,8 @@ pub fn step<'a>(
     chosen: &[i128],
 ) -> Result<Answer, AllocError>
     ensures told { (s : Reading) → Agrees s (rows_of config.new) → IfOk result (λ r. told r (config_in s config.new)
-        ≡ outcome (definition.step (program_in program.now) chosen.now (config_in s config.old)) (config_in s config.old)) }
+        ≡ outcome (definition.step (program_in program.now) chosen.now (config_in s config.old))
+        (config_in s config.old)) }
     ensures before { (s : Reading) → Agrees s (rows_of config.new) → Agrees s (rows_of config.old) }
 {
     step_state(program, &mut config.state, &mut config.table, chosen)
@@ -110,8 +113,10 @@ fn step_on<'a>(
     taken: usize,
 ) -> Result<(Answer, usize), AllocError>
     ensures told { (s : Reading) → Agrees s (rows_of config.new) → IfOk result (λ r. told r.0 (config_in s config.new)
-        ≡ outcome (picked (program_in program.now) (drop taken (map (λ zs. zs.now) choices.now)) (config_in s config.old)).0 (config_in s config.old)) }
-    ensures left { (s : Reading) → Agrees s (rows_of config.new) → IfOk result (λ r. drop r.1 (map (λ zs. zs.now) choices.now)
+        ≡ outcome (picked (program_in program.now) (drop taken (map (λ zs. zs.now) choices.now))
+        (config_in s config.old)).0 (config_in s config.old)) }
+    ensures left { (s : Reading) → Agrees s (rows_of config.new) →
+        IfOk result (λ r. drop r.1 (map (λ zs. zs.now) choices.now)
         ≡ (picked (program_in program.now) (drop taken (map (λ zs. zs.now) choices.now)) (config_in s config.old)).1) }
     ensures before { (s : Reading) → Agrees s (rows_of config.new) → Agrees s (rows_of config.old) }
 {
@@ -135,7 +140,9 @@ pub fn run<'a>(
     choices: &[&[i128]],
     steps: u64,
 ) -> Result<Answer, AllocError>
-    ensures told { (s : Reading) → Agrees s (rows_of config.new) → IfOk result (λ r. told r (config_in s config.new) ≡ ran (program_in program.now) steps (map (λ zs. zs.now) choices.now) (config_in s config.old)) }
+    ensures told { (s : Reading) → Agrees s (rows_of config.new) →
+        IfOk result (λ r. told r (config_in s config.new)
+        ≡ ran (program_in program.now) steps (map (λ zs. zs.now) choices.now) (config_in s config.old)) }
     ensures before { (s : Reading) → Agrees s (rows_of config.new) → Agrees s (rows_of config.old) }
 {
     let mut taken = 0;
@@ -150,7 +157,7 @@ pub fn run<'a>(
     Ok(Answer::Next)
 }
 
-/// How a run goes that begins with these numbers of the entry's parameters, if they are such: what the definition says, by the contracts of the calls above alone.
+/// How a run goes that begins with these numbers of the entry's parameters, if they are such: what the definition says, by the contracts of the calls above alone. Tests alone call it.
 pub fn run_from_start<'a>(
     program: &Program<'a>,
     chosen: &[i128],
@@ -158,7 +165,8 @@ pub fn run_from_start<'a>(
     steps: u64,
 ) -> Result<Option<Answer>, AllocError>
     ensures { IfOk result (λ answer. answer
-        ≡ option_map (λ c. (ran (program_in program.now) steps (map (λ zs. zs.now) choices.now) c).answer) (meaning.start (program_in program.now) chosen.now)) }
+        ≡ option_map (λ c. (ran (program_in program.now) steps (map (λ zs. zs.now) choices.now) c).answer)
+        (meaning.start (program_in program.now) chosen.now)) }
 {
     match start(program, chosen)? {
         None => Ok(None),
@@ -171,12 +179,13 @@ pub fn run_from_start<'a>(
     }
 }
 
-/// What is seen where a run is, if the last step came to a visit. The configuration stays.
+/// What is seen where a run is, if the last step came to a visit. The configuration stays. Tests alone call it.
 pub fn visit<'a>(
     program: &Program<'a>,
     config: &mut Config<'a>,
 ) -> Result<Option<Visit<'a>>, AllocError>
-    ensures seen { (s : Reading) → Agrees s (rows_of config.new) → IfOk result (λ v. option_map visit_in v ≡ visit_if (program_in program.now) (config_in s config.new)) }
+    ensures seen { (s : Reading) → Agrees s (rows_of config.new) →
+        IfOk result (λ v. option_map visit_in v ≡ visit_if (program_in program.now) (config_in s config.new)) }
     ensures same { (s : Reading) → config_in s config.new ≡ config_in s config.old }
     ensures before { (s : Reading) → Agrees s (rows_of config.new) → Agrees s (rows_of config.old) }
 {

@@ -1,6 +1,6 @@
 // One step.
 
-ghost use Rattle.std.specs.Prelude.{◌≡◌, IfOk};
+ghost use Rattle.std.specs.Prelude.{IfOk};
 ghost use Rattle.pk_meaning.specs.Steps.{step};
 ghost use Rattle.pk_runner_frame.specs.Frames.{Reading};
 ghost use Rattle.pk_runner_state.specs.Shown.{program_in, shown, Told, Agrees};
@@ -24,7 +24,9 @@ pub fn step_state<'a>(
     table: &mut Table,
     chosen: &[i128],
 ) -> Result<Answer, AllocError>
-    ensures told { (s : Reading) → Agrees s table.new.rows.items → IfOk result (λ r. Told s state.old state.new r (step (program_in program.now) chosen.now (shown s state.old))) }
+    ensures told { (s : Reading) → Agrees s table.new.rows.items →
+        IfOk result (λ r.
+        Told s state.old state.new r (step (program_in program.now) chosen.now (shown s state.old))) }
     ensures before { (s : Reading) → Agrees s table.new.rows.items → Agrees s table.old.rows.items }
 {
     let work = state.work;

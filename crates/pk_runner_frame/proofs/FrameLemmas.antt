@@ -1,6 +1,6 @@
 -- What a number stands for when frames are laid and taken away.
 use Rattle.std.proofs.Common.{◌≡◌, ◌<◌, ◌≤◌, ◌+◌, ℕ, refl, ap, ◌∙◌, sym, subst, arith, nat_eq, true, false, ◌≢◌, ◌⊎◌, inl, inr, List, [], ◌∷◌, ◌++◌, length, take, drop, get_or, min}
-use Rattle.std.proofs.lemmas.List.{append-nil, append_assoc, length-append, length-take, length-take-le, take_all, take-append-drop, get_or_append_left, get_or_push, get_or_past, get_or_default, drop_more}
+use Rattle.std.proofs.lemmas.List.{append_assoc, length-append, length-take, length-take-le, take-append-drop, get_or_append_left, get_or_push, get_or_past, drop_more}
 use Rattle.std.proofs.lemmas.Bool.{cases_lt}
 use Rattle.std.proofs.lemmas.Bool.Decides.{eqb_tells}
 use Rattle.std.specs.Prelude.{Result, Ok, Err, Option, Some, None, IfOk, OnOk, MatchOption}
@@ -150,9 +150,6 @@ no_ahead s fs n h = sym (ap ahead_of (past_is s fs n nothing h))
 pub below_same : (s : Reading) (fs : List Frame) (limit n : ℕ) → n < limit → limit ≤ length fs → get_or (held s fs) n nothing ≡ get_or (held s (take limit fs)) n nothing
 below_same s fs limit n h k = sym (take_stays s fs limit n nothing h k)
 
-pub all_same : (s : Reading) (fs : List Frame) (limit n : ℕ) → length fs ≤ limit → get_or (held s fs) n nothing ≡ get_or (held s (take limit fs)) n nothing
-all_same s fs limit n h = ap (λ (xs : List Frame). get_or (held s xs) n nothing) (sym (take_all limit fs h))
-
 pub past_limit : (s : Reading) (fs : List Frame) (limit n : ℕ) → limit ≤ n → nothing ≡ get_or (held s (take limit fs)) n nothing
 past_limit s fs limit n h =
     let count : length (take limit fs) ≡ min limit (length fs) = length-take limit fs in
@@ -164,6 +161,3 @@ seen s fs limit n f h k e = ap ahead_of (take_stays s fs limit n nothing h k ∙
 
 pub seen_past : (s : Reading) (fs : List Frame) (limit n : ℕ) → limit ≤ n → ahead_at (held s (take limit fs)) n ≡ work.End work.Nobody
 seen_past s fs limit n h = sym (ap ahead_of (past_limit s fs limit n h))
-
-pub seen_all : (s : Reading) (fs : List Frame) (limit n : ℕ) → length fs ≤ limit → ahead_at (held s (take limit fs)) n ≡ ahead_at (held s fs) n
-seen_all s fs limit n h = sym (ap ahead_of (all_same s fs limit n h))

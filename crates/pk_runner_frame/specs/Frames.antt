@@ -68,7 +68,8 @@ task_in (tasks.Unused v) = tree.unused (value_tree v.now)
 unfoldable pub loop_in : code_loop.Loop → Loop
 loop_in (loops.While t s) = work.While (value_tree t.now) (statement_tree s.now)
 loop_in (loops.DoWhile s t) = work.DoWhile (statement_tree s.now) (value_tree t.now)
-loop_in (loops.For t third s) = work.For (option_map value_tree t.now) (option_map effect_tree third.now) (statement_tree s.now)
+loop_in (loops.For t third s) =
+    work.For (option_map value_tree t.now) (option_map effect_tree third.now) (statement_tree s.now)
 
 -- the loop that a statement is
 unfoldable pub loop_of : StatementTree → Option Loop
@@ -174,7 +175,8 @@ again_of (Some l) h e a = work.Again h l e a
 unfoldable pub ahead_in : Reading → List Held → code_ahead.Ahead → Ahead
 ahead_in s hs (aheads.Rest xs is a) = work.Rest (scope_in s xs) (item_trees is.now) (ahead_at hs a)
 ahead_in s hs (aheads.Join h a) = work.Join (place_in s h) (ahead_at hs a)
-ahead_in s hs (aheads.Again h t e a) = again_of (loop_of (statement_tree t.now)) (place_in s h) (place_in s e) (ahead_at hs a)
+ahead_in s hs (aheads.Again h t e a) =
+    again_of (loop_of (statement_tree t.now)) (place_in s h) (place_in s e) (ahead_at hs a)
 ahead_in s hs (aheads.Close h a) = work.Close (place_in s h) (ahead_at hs a)
 ahead_in s hs (aheads.End c) = work.End (caller_in s hs c)
 
@@ -215,7 +217,8 @@ work_in s hs (works.Leave c) = work.Leave (caller_in s hs c)
 work_in s hs (works.Return c) = work.Return (caller_in s hs c)
 work_in s hs (works.Turn a) = turn (ahead_at hs a)
 work_in s hs (works.Back a) = back (ahead_at hs a)
-work_in s hs (works.Choose t zs i b u h a) = work.Choose t zs.now i b (statement_tree u.now) (place_in s h) (ahead_at hs a)
+work_in s hs (works.Choose t zs i b u h a) =
+    work.Choose t zs.now i b (statement_tree u.now) (place_in s h) (ahead_at hs a)
 
 abbrev pub held_in : Reading → List Held → Frame → Held
 held_in s hs (frames.Work w) = held_work (work_in s hs w)

@@ -18,8 +18,10 @@ fn lay<'a>(frames: &mut Vec<Frame<'a>>, frame: Frame<'a>) -> Result<usize, Alloc
 
 /// Work on top; what stands below stays.
 pub fn then<'a>(frames: &mut Vec<Frame<'a>>, work: Work<'a>) -> Result<usize, AllocError>
-    ensures work { (s : Reading) → IfOk result (λ n. work_at (held s frames.new.items) n ≡ work_in s (held s frames.old.items) work.entry) }
-    ensures below { (s : Reading) (i : ℕ) → i < length frames.old.items → OnOk result (work_at (held s frames.new.items) i ≡ work_at (held s frames.old.items) i) }
+    ensures work { (s : Reading) →
+        IfOk result (λ n. work_at (held s frames.new.items) n ≡ work_in s (held s frames.old.items) work.entry) }
+    ensures below { (s : Reading) (i : ℕ) → i < length frames.old.items →
+        OnOk result (work_at (held s frames.new.items) i ≡ work_at (held s frames.old.items) i) }
     ensures number { IfOk result (λ n. n ≡ length frames.old.items) }
     ensures count { OnOk result (length frames.new.items ≡ length frames.old.items + 1) }
 {
@@ -28,8 +30,10 @@ pub fn then<'a>(frames: &mut Vec<Frame<'a>>, work: Work<'a>) -> Result<usize, Al
 
 /// What comes behind a statement on top; as work it is the way there.
 pub fn before<'a>(frames: &mut Vec<Frame<'a>>, ahead: Ahead<'a>) -> Result<usize, AllocError>
-    ensures ahead { (s : Reading) → IfOk result (λ n. ahead_at (held s frames.new.items) n ≡ ahead_in s (held s frames.old.items) ahead.entry) }
-    ensures work { (s : Reading) → IfOk result (λ n. work_at (held s frames.new.items) n ≡ work.Go (ahead_in s (held s frames.old.items) ahead.entry)) }
+    ensures ahead { (s : Reading) →
+        IfOk result (λ n. ahead_at (held s frames.new.items) n ≡ ahead_in s (held s frames.old.items) ahead.entry) }
+    ensures work { (s : Reading) → IfOk result
+        (λ n. work_at (held s frames.new.items) n ≡ work.Go (ahead_in s (held s frames.old.items) ahead.entry)) }
     ensures number { IfOk result (λ n. n ≡ length frames.old.items) }
     ensures count { OnOk result (length frames.new.items ≡ length frames.old.items + 1) }
 {
@@ -60,27 +64,10 @@ pub fn take<'a>(frames: &mut Vec<Frame<'a>>, number: usize) -> Work<'a>
     }
 }
 
-/// What comes behind a statement, by its number; frames above and at it are of no more use.
-pub fn take_ahead<'a>(frames: &mut Vec<Frame<'a>>, number: usize) -> Ahead<'a>
-    ensures { (s : Reading) → ahead_in s (held s frames.new.items) result ≡ ahead_at (held s frames.old.items) number }
-{
-    if number < frames.len() {
-        let frame = frames[number];
-        match frame {
-            Frame::Ahead(ahead) => {
-                frames.truncate(number);
-                ahead
-            }
-            Frame::Work(_) => Ahead::End(Caller::Nobody),
-        }
-    } else {
-        Ahead::End(Caller::Nobody)
-    }
-}
-
 // A frame that holds nothing: each number stands for the same as before.
 fn lay_nothing(frames: &mut Vec<Frame<'_>>) -> Result<usize, AllocError>
-    ensures same { (s : Reading) (i : ℕ) → OnOk result (slice_index_or (held s frames.new.items) i nothing ≡ slice_index_or (held s frames.old.items) i nothing) }
+    ensures same { (s : Reading) (i : ℕ) → OnOk result
+        (slice_index_or (held s frames.new.items) i nothing ≡ slice_index_or (held s frames.old.items) i nothing) }
     ensures empty { (s : Reading) → IfOk result (λ n. slice_index_or (held s frames.new.items) n nothing ≡ nothing) }
     ensures there { IfOk result (λ n. n < length frames.new.items) }
 {
@@ -91,8 +78,11 @@ ghost use Rattle.pk_runner_frame.specs.Frames.{nothing};
 
 /// A number that stands for the same, and that is there.
 pub fn known(frames: &mut Vec<Frame<'_>>, number: usize) -> Result<usize, AllocError>
-    ensures same { (s : Reading) (i : ℕ) → OnOk result (slice_index_or (held s frames.new.items) i nothing ≡ slice_index_or (held s frames.old.items) i nothing) }
-    ensures number { (s : Reading) → IfOk result (λ n. slice_index_or (held s frames.new.items) n nothing ≡ slice_index_or (held s frames.old.items) number nothing) }
+    ensures same { (s : Reading) (i : ℕ) → OnOk result
+        (slice_index_or (held s frames.new.items) i nothing ≡ slice_index_or (held s frames.old.items) i nothing) }
+    ensures number { (s : Reading) →
+        IfOk result (λ n. slice_index_or (held s frames.new.items) n nothing
+        ≡ slice_index_or (held s frames.old.items) number nothing) }
     ensures there { IfOk result (λ n. n < length frames.new.items) }
 {
     if number < frames.len() {
@@ -104,8 +94,11 @@ pub fn known(frames: &mut Vec<Frame<'_>>, number: usize) -> Result<usize, AllocE
 
 /// A number of a frame below another, as it stands there.
 pub fn below(frames: &mut Vec<Frame<'_>>, number: usize, limit: usize) -> Result<usize, AllocError>
-    ensures same { (s : Reading) (i : ℕ) → OnOk result (slice_index_or (held s frames.new.items) i nothing ≡ slice_index_or (held s frames.old.items) i nothing) }
-    ensures number { (s : Reading) → IfOk result (λ n. slice_index_or (held s frames.new.items) n nothing ≡ slice_index_or (held s (take limit frames.old.items)) number nothing) }
+    ensures same { (s : Reading) (i : ℕ) → OnOk result
+        (slice_index_or (held s frames.new.items) i nothing ≡ slice_index_or (held s frames.old.items) i nothing) }
+    ensures number { (s : Reading) →
+        IfOk result (λ n. slice_index_or (held s frames.new.items) n nothing
+        ≡ slice_index_or (held s (take limit frames.old.items)) number nothing) }
     ensures there { IfOk result (λ n. n < length frames.new.items) }
 {
     if number < limit {
@@ -123,7 +116,8 @@ ghost use Rattle.std.specs.Prelude.{take};
 
 /// The way to what comes behind a statement.
 pub fn way_there(frames: &mut Vec<Frame<'_>>, ahead: usize) -> Result<usize, AllocError>
-    ensures { (s : Reading) → IfOk result (λ n. work_at (held s frames.new.items) n ≡ work.Go (ahead_at (held s frames.old.items) ahead)) }
+    ensures { (s : Reading) →
+        IfOk result (λ n. work_at (held s frames.new.items) n ≡ work.Go (ahead_at (held s frames.old.items) ahead)) }
 {
     if ahead < frames.len() {
         let frame = frames[ahead];
@@ -172,7 +166,8 @@ fn around(ahead: Ahead<'_>) -> Outer
 
 // What waits for the function's end, and the number of frames below it.
 fn end_of(frames: &[Frame<'_>], ahead: usize) -> (usize, Caller)
-    ensures { (s : Reading) → caller_in s (held s (take result.0 frames.now)) result.1 ≡ caller_of (ahead_at (held s frames.now) ahead) }
+    ensures { (s : Reading) →
+        caller_in s (held s (take result.0 frames.now)) result.1 ≡ caller_of (ahead_at (held s frames.now) ahead) }
 {
     let mut limit = frames.len();
     let mut number = ahead;
@@ -193,7 +188,8 @@ ghost use Rattle.pk_runner_frame.specs.Outers.{outer_in};
 
 /// What waits for the function's end; what comes before it is of no more use.
 pub fn take_caller(frames: &mut Vec<Frame<'_>>, ahead: usize) -> Caller
-    ensures { (s : Reading) → caller_in s (held s frames.new.items) result ≡ caller_of (ahead_at (held s frames.old.items) ahead) }
+    ensures { (s : Reading) →
+        caller_in s (held s frames.new.items) result ≡ caller_of (ahead_at (held s frames.old.items) ahead) }
 {
     let (limit, caller) = end_of(frames, ahead);
     frames.truncate(limit);
@@ -201,7 +197,7 @@ pub fn take_caller(frames: &mut Vec<Frame<'_>>, ahead: usize) -> Caller
 }
 
 ghost use Rattle.pk_runner_frame.specs.Frames.{caller_in};
-ghost use Rattle.pk_meaning.specs.Steps.{caller_of, broken, continued};
+ghost use Rattle.pk_meaning.specs.Steps.{caller_of};
 
 /// A loop whose end of the body is a frame; what comes behind it stands below.
 #[derive(Clone, Copy)]
@@ -215,7 +211,8 @@ pub struct LoopEnd<'a> {
 // A loop that ends with what comes behind a statement.
 #[tactic(auto, unfolding(crate::specs::Frames::ahead_in))]
 fn loop_in_ahead<'a>(ahead: Ahead<'a>) -> Option<LoopEnd<'a>>
-    ensures { MatchOption result ((s : Reading) (hs : List Held) → NoLoop (ahead_in s hs ahead.entry)) (λ x. (s : Reading) (hs : List Held) → ahead_in s hs ahead.entry ≡ end_in s hs x) }
+    ensures { MatchOption result ((s : Reading) (hs : List Held) → NoLoop (ahead_in s hs ahead.entry))
+        (λ x. (s : Reading) (hs : List Held) → ahead_in s hs ahead.entry ≡ end_in s hs x) }
 {
     match ahead {
         Ahead::Again(here, statement, end, next) => match loop_of(statement) {
@@ -236,7 +233,8 @@ fn loop_in_ahead<'a>(ahead: Ahead<'a>) -> Option<LoopEnd<'a>>
 
 /// The loop whose end of the body a number stands for.
 pub fn loop_at<'a>(frames: &[Frame<'a>], number: usize) -> Option<LoopEnd<'a>>
-    ensures { MatchOption result ((s : Reading) → NoLoop (ahead_at (held s frames.now) number)) (λ x. (number < length frames.now) × ((s : Reading) → ahead_at (held s frames.now) number
+    ensures { MatchOption result ((s : Reading) → NoLoop (ahead_at (held s frames.now) number))
+        (λ x. (number < length frames.now) × ((s : Reading) → ahead_at (held s frames.now) number
         ≡ end_in s (held s (take number frames.now)) x)) }
 {
     if number < frames.len() {

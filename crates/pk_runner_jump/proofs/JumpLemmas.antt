@@ -13,7 +13,7 @@ use Rattle.pk_meaning.specs.Objects.{Scope}
 use Rattle.pk_meaning.specs.Programs.{Program, with_declared}
 use Rattle.pk_meaning.specs.Work.{Place, Loop, While, DoWhile, For, Way, Onward, Lost, Ahead, Rest, Again, Work, Go, Test, Turn, Back}
 use Rattle.pk_meaning.specs.Steps as steps
-use Rattle.pk_meaning.specs.Steps.{Config, Mark, takes, comes, resumed, performed_if, continued, broken}
+use Rattle.pk_meaning.specs.Steps.{Config, Mark, takes, comes, resumed, performed_if}
 use Rattle.pk_runner_jump.specs.declared.jumps.Found.{Found}
 use Rattle.pk_runner_frame.specs.declared.works.Frame.{Frame}
 use Rattle.pk_runner_frame.specs.Frames.{Reading, Held, held, nothing, ahead_at, ahead_of, head, behind, turn, back}

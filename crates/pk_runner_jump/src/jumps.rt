@@ -1,6 +1,6 @@
 // Jumps: labels, cases, break, continue.
 
-ghost use Rattle.std.specs.Prelude.{◌≡◌, ℕ, IfOk, None};
+ghost use Rattle.std.specs.Prelude.{◌≡◌, IfOk, None};
 ghost use Rattle.pk_typed.specs.Views.{for_start_tree, statement_tree, item_trees};
 ghost use Rattle.pk_meaning.specs.Steps as steps;
 ghost use Rattle.pk_runner_frame.specs.Frames.{Reading, held, ahead_at, ahead_in, scope_in};
@@ -72,7 +72,9 @@ pub fn for_scope(
     start: &ForStart,
     scope: Scope,
 ) -> Result<Scope, AllocError>
-    ensures scope { (s : Reading) → Agrees s table.new.rows.items → IfOk result (λ x. scope_in s x ≡ steps.for_scope (program_in program.now) path (for_start_tree start.now) (scope_in s scope)) }
+    ensures scope { (s : Reading) → Agrees s table.new.rows.items →
+        IfOk result (λ x.
+        scope_in s x ≡ steps.for_scope (program_in program.now) path (for_start_tree start.now) (scope_in s scope)) }
     ensures before { (s : Reading) → Agrees s table.new.rows.items → Agrees s table.old.rows.items }
 {
     match start {
@@ -108,8 +110,10 @@ fn find_behind<'a>(
     statement: &'a Statement,
     ahead: Ahead<'a>,
 ) -> Result<Option<Found<'a>>, AllocError>
-    ensures found { (s : Reading) → Agrees s table.new.rows.items → (o : work.Way) → IfOk result (λ r. found_in s (held s frames.new.items) r o
-        ≡ steps.found (program_in program.now) path (mark_in mark) (scope_in s scope) (statement_tree statement.now) (ahead_in s (held s frames.old.items) ahead.entry) o) }
+    ensures found { (s : Reading) → Agrees s table.new.rows.items → (o : work.Way) →
+        IfOk result (λ r. found_in s (held s frames.new.items) r o
+        ≡ steps.found (program_in program.now) path (mark_in mark) (scope_in s scope) (statement_tree statement.now)
+        (ahead_in s (held s frames.old.items) ahead.entry) o) }
     ensures before { (s : Reading) → Agrees s table.new.rows.items → Agrees s table.old.rows.items }
     ensures kept { IfOk result (λ r. r ≡ None → frames.new.items ≡ frames.old.items) }
 {
@@ -136,8 +140,10 @@ fn find<'a>(
     statement: &'a Statement,
     ahead: usize,
 ) -> Result<Option<Found<'a>>, AllocError>
-    ensures found { (s : Reading) → Agrees s table.new.rows.items → (o : work.Way) → IfOk result (λ r. found_in s (held s frames.new.items) r o
-        ≡ steps.found (program_in program.now) path (mark_in mark) (scope_in s scope) (statement_tree statement.now) (ahead_at (held s frames.old.items) ahead) o) }
+    ensures found { (s : Reading) → Agrees s table.new.rows.items → (o : work.Way) →
+        IfOk result (λ r. found_in s (held s frames.new.items) r o
+        ≡ steps.found (program_in program.now) path (mark_in mark) (scope_in s scope) (statement_tree statement.now)
+        (ahead_at (held s frames.old.items) ahead) o) }
     ensures before { (s : Reading) → Agrees s table.new.rows.items → Agrees s table.old.rows.items }
     ensures kept { IfOk result (λ r. r ≡ None → frames.new.items ≡ frames.old.items) }
 {
@@ -314,8 +320,10 @@ fn find_in<'a>(
     items: &'a [Item],
     ahead: usize,
 ) -> Result<Option<Found<'a>>, AllocError>
-    ensures found { (s : Reading) → Agrees s table.new.rows.items → (o : work.Way) → IfOk result (λ r. found_in s (held s frames.new.items) r o
-        ≡ steps.found_in (program_in program.now) path (mark_in mark) (scope_in s scope) (item_trees items.now) (ahead_at (held s frames.old.items) ahead) o) }
+    ensures found { (s : Reading) → Agrees s table.new.rows.items → (o : work.Way) →
+        IfOk result (λ r. found_in s (held s frames.new.items) r o
+        ≡ steps.found_in (program_in program.now) path (mark_in mark) (scope_in s scope) (item_trees items.now)
+        (ahead_at (held s frames.old.items) ahead) o) }
     ensures before { (s : Reading) → Agrees s table.new.rows.items → Agrees s table.old.rows.items }
     ensures kept { IfOk result (λ r. r ≡ None → frames.new.items ≡ frames.old.items) }
 {
@@ -348,7 +356,9 @@ fn find_in<'a>(
 
 // To where a jump found its mark.
 fn jump<'a>(state: &mut State<'a>, found: Option<Found<'a>>) -> Answer
-    ensures { (s : Reading) → Told s state.old state.new result (steps.takes (shown s state.old) (found_in s (held s state.old.frames.items) found.entry work.Lost) (shown s state.old).values) }
+    ensures { (s : Reading) → Told s state.old state.new result
+        (steps.takes (shown s state.old) (found_in s (held s state.old.frames.items) found.entry work.Lost)
+        (shown s state.old).values) }
 {
     match found {
         Some(found) => come(state, found.here, Work::Do(found.statement, found.ahead)),
@@ -367,7 +377,8 @@ pub fn go_to<'a>(
     ahead: usize,
 ) -> Result<Answer, AllocError>
     ensures told { (s : Reading) → Agrees s table.new.rows.items →
-        IfOk result (λ r. Told s state.old state.new r (steps.takes (shown s state.old) (steps.gone_to (program_in program.now) state.old.path label (ahead_at
+        IfOk result (λ r. Told s state.old state.new r
+        (steps.takes (shown s state.old) (steps.gone_to (program_in program.now) state.old.path label (ahead_at
         (held s state.old.frames.items) ahead)) (shown s state.old).values)) }
     ensures before { (s : Reading) → Agrees s table.new.rows.items → Agrees s table.old.rows.items }
 {
@@ -399,8 +410,11 @@ pub fn go_to_case<'a>(
     ahead: usize,
 ) -> Result<Answer, AllocError>
     ensures told { (s : Reading) → Agrees s table.new.rows.items →
-        IfOk result (λ r. Told s state.old state.new r (steps.takes (shown s state.old) (steps.found (program_in program.now) state.old.path (mark_in mark) (scope_in s here.scope)
-        (statement_tree body.now) (work.Close (place_in s here) (ahead_at (held s state.old.frames.items) ahead)) work.Lost) (shown s state.old).values)) }
+        IfOk result (λ r. Told s state.old state.new r
+        (steps.takes (shown s state.old)
+        (steps.found (program_in program.now) state.old.path (mark_in mark) (scope_in s here.scope)
+        (statement_tree body.now) (work.Close (place_in s here)
+        (ahead_at (held s state.old.frames.items) ahead)) work.Lost) (shown s state.old).values)) }
     ensures before { (s : Reading) → Agrees s table.new.rows.items → Agrees s table.old.rows.items }
 {
     let path = state.path;
@@ -421,7 +435,10 @@ ghost use Rattle.pk_runner_frame.specs.Frames.{place_in};
 
 /// On at the end of a loop's body.
 pub fn loop_again<'a>(state: &mut State<'a>, number: usize) -> Result<Answer, AllocError>
-    ensures { (s : Reading) → IfOk result (λ r. Told s state.old state.new r (steps.takes (shown s state.old) (again (ahead_at (held s state.old.frames.items) number)) (shown s state.old).values)) }
+    ensures { (s : Reading) →
+        IfOk result (λ r. Told s state.old state.new r
+        (steps.takes (shown s state.old) (again (ahead_at (held s state.old.frames.items) number))
+        (shown s state.old).values)) }
 {
     match loop_at(&state.frames, number) {
         Some(end) => {
@@ -463,7 +480,8 @@ enum Outward {
 // To the end of a loop's body.
 #[tactic(auto, unfolding(pk_runner_frame::specs::Frames::ahead_in))]
 fn to_loop(ahead: Ahead<'_>) -> Outward
-    ensures { (s : Reading) (hs : List Held) → outward steps.continued again hs (ahead_in s hs ahead.entry) result ≡ steps.continued (ahead_in s hs ahead.entry) }
+    ensures { (s : Reading) (hs : List Held) → outward steps.continued again hs (ahead_in s hs ahead.entry) result
+        ≡ steps.continued (ahead_in s hs ahead.entry) }
 {
     match ahead {
         Ahead::Rest(_, _, next) => Outward::On(next),
@@ -480,7 +498,8 @@ ghost use Rattle.pk_runner_jump.specs.Marks.{outward};
 
 // The end of the innermost loop's body, or the frames' number where there is none.
 fn innermost_loop(frames: &[Frame<'_>], ahead: usize) -> usize
-    ensures { (s : Reading) → again (ahead_at (held s frames.now) result) ≡ steps.continued (ahead_at (held s frames.now) ahead) }
+    ensures { (s : Reading) →
+        again (ahead_at (held s frames.now) result) ≡ steps.continued (ahead_at (held s frames.now) ahead) }
 {
     let mut limit = frames.len();
     let mut number = ahead;
@@ -498,7 +517,10 @@ fn innermost_loop(frames: &[Frame<'_>], ahead: usize) -> usize
 
 /// `continue`
 pub fn continue_loop<'a>(state: &mut State<'a>, ahead: usize) -> Result<Answer, AllocError>
-    ensures { (s : Reading) → IfOk result (λ r. Told s state.old state.new r (steps.takes (shown s state.old) (steps.continued (ahead_at (held s state.old.frames.items) ahead)) (shown s state.old).values)) }
+    ensures { (s : Reading) →
+        IfOk result (λ r. Told s state.old state.new r
+        (steps.takes (shown s state.old) (steps.continued (ahead_at (held s state.old.frames.items) ahead))
+        (shown s state.old).values)) }
 {
     let number = innermost_loop(&state.frames, ahead);
     loop_again(state, number)
@@ -507,7 +529,8 @@ pub fn continue_loop<'a>(state: &mut State<'a>, ahead: usize) -> Result<Answer, 
 // To the end of a loop's or a switch's body.
 #[tactic(auto, unfolding(pk_runner_frame::specs::Frames::ahead_in))]
 fn to_end(ahead: Ahead<'_>) -> Outward
-    ensures { (s : Reading) (hs : List Held) → outward steps.broken past hs (ahead_in s hs ahead.entry) result ≡ steps.broken (ahead_in s hs ahead.entry) }
+    ensures { (s : Reading) (hs : List Held) →
+        outward steps.broken past hs (ahead_in s hs ahead.entry) result ≡ steps.broken (ahead_in s hs ahead.entry) }
 {
     match ahead {
         Ahead::Rest(_, _, next) => Outward::On(next),
@@ -520,7 +543,8 @@ fn to_end(ahead: Ahead<'_>) -> Outward
 
 // The end of the innermost loop's or switch's body, or the frames' number where there is none.
 fn innermost(frames: &[Frame<'_>], ahead: usize) -> usize
-    ensures { (s : Reading) → past (ahead_at (held s frames.now) result) ≡ steps.broken (ahead_at (held s frames.now) ahead) }
+    ensures { (s : Reading) →
+        past (ahead_at (held s frames.now) result) ≡ steps.broken (ahead_at (held s frames.now) ahead) }
 {
     let mut limit = frames.len();
     let mut number = ahead;
@@ -541,7 +565,8 @@ ghost use Rattle.pk_runner_jump.specs.Marks.{past};
 // The end of a switch, and what comes behind it.
 #[tactic(auto, unfolding(pk_runner_frame::specs::Frames::ahead_in))]
 fn switch_in_ahead(ahead: Ahead<'_>) -> Option<(Spot, usize)>
-    ensures { MatchOption result ((s : Reading) (hs : List Held) → past (ahead_in s hs ahead.entry) ≡ behind (ahead_in s hs ahead.entry)) (λ x. (s : Reading) (hs : List Held) →
+    ensures { MatchOption result ((s : Reading) (hs : List Held) →
+        past (ahead_in s hs ahead.entry) ≡ behind (ahead_in s hs ahead.entry)) (λ x. (s : Reading) (hs : List Held) →
         ahead_in s hs ahead.entry ≡ work.Close (place_in s x.0) (ahead_at hs x.1)) }
 {
     match ahead {
@@ -555,8 +580,10 @@ fn switch_in_ahead(ahead: Ahead<'_>) -> Option<(Spot, usize)>
 
 // The end of a switch that a number stands for.
 fn switch_at(frames: &[Frame<'_>], number: usize) -> Option<(Spot, usize)>
-    ensures { MatchOption result ((s : Reading) → past (ahead_at (held s frames.now) number) ≡ behind (ahead_at (held s frames.now) number)) (λ x. (s : Reading) →
-        ahead_at (held s frames.now) number ≡ work.Close (place_in s x.0) (ahead_at (held s (take number frames.now)) x.1)) }
+    ensures { MatchOption result ((s : Reading) → past (ahead_at (held s frames.now) number)
+        ≡ behind (ahead_at (held s frames.now) number)) (λ x. (s : Reading) →
+        ahead_at (held s frames.now) number
+        ≡ work.Close (place_in s x.0) (ahead_at (held s (take number frames.now)) x.1)) }
 {
     if number < frames.len() {
         switch_in_ahead(ahead_in_frame(frames[number]))
@@ -569,7 +596,9 @@ ghost use Rattle.std.specs.Prelude.{take};
 
 /// `break`
 pub fn break_out<'a>(state: &mut State<'a>, ahead: usize) -> Answer
-    ensures { (s : Reading) → Told s state.old state.new result (steps.takes (shown s state.old) (steps.broken (ahead_at (held s state.old.frames.items) ahead)) (shown s state.old).values) }
+    ensures { (s : Reading) → Told s state.old state.new result
+        (steps.takes (shown s state.old) (steps.broken (ahead_at (held s state.old.frames.items) ahead))
+        (shown s state.old).values) }
 {
     let number = innermost(&state.frames, ahead);
     match switch_at(&state.frames, number) {

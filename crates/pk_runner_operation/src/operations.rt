@@ -1,6 +1,6 @@
 // Steps on the values that wait.
 
-ghost use Rattle.std.specs.Prelude.{◌≡◌, ◌∷◌, [], ℕ, IfOk};
+ghost use Rattle.std.specs.Prelude.{IfOk};
 ghost use Rattle.pk_meaning.specs.Steps as steps;
 ghost use Rattle.pk_meaning.specs.Steps.{step_of};
 ghost use Rattle.pk_meaning.specs.Programs.{Program};
@@ -18,7 +18,9 @@ use pk_runner_state::{
 use std::alloc::AllocError;
 
 pub fn branch(state: &mut State<'_>, yes: Way, no: Way) -> Answer
-    ensures { (s : Reading) (p : Program) (ch : Numbers) → Told s state.old state.new result (step_of p ch (shown s state.old) (work.Branch (way_in s (held s state.old.frames.items) yes)
+    ensures { (s : Reading) (p : Program) (ch : Numbers) →
+        Told s state.old state.new result
+        (step_of p ch (shown s state.old) (work.Branch (way_in s (held s state.old.frames.items) yes)
         (way_in s (held s state.old.frames.items) no))) }
 {
     match top(&state.values) {
@@ -43,7 +45,10 @@ pub fn apply(
     int_type: IntType,
     number: usize,
 ) -> Result<Answer, AllocError>
-    ensures { (s : Reading) (p : Program) (ch : Numbers) → IfOk result (λ r. Told s state.old state.new r (step_of p ch (shown s state.old) (work.Apply op at int_type (work_at (held s state.old.frames.items) number)))) }
+    ensures { (s : Reading) (p : Program) (ch : Numbers) →
+        IfOk result (λ r. Told s state.old state.new r
+        (step_of p ch (shown s state.old)
+        (work.Apply op at int_type (work_at (held s state.old.frames.items) number)))) }
 {
     match top(&state.values) {
         None => Ok(Answer::Stuck),
@@ -64,7 +69,9 @@ pub fn operate(
     int_type: IntType,
     number: usize,
 ) -> Result<Answer, AllocError>
-    ensures { (s : Reading) (p : Program) (ch : Numbers) → IfOk result (λ r. Told s state.old state.new r (step_of p ch (shown s state.old) (work.Operate op at int_type (work_at
+    ensures { (s : Reading) (p : Program) (ch : Numbers) →
+        IfOk result (λ r.
+        Told s state.old state.new r (step_of p ch (shown s state.old) (work.Operate op at int_type (work_at
         (held s state.old.frames.items) number)))) }
 {
     match top_two(&state.values) {
@@ -85,7 +92,9 @@ pub fn converted(
     int_type: IntType,
     number: usize,
 ) -> Result<Answer, AllocError>
-    ensures { (s : Reading) (p : Program) (ch : Numbers) → IfOk result (λ r. Told s state.old state.new r (step_of p ch (shown s state.old) (work.Convert int_type (work_at (held s state.old.frames.items) number)))) }
+    ensures { (s : Reading) (p : Program) (ch : Numbers) →
+        IfOk result (λ r. Told s state.old state.new r
+        (step_of p ch (shown s state.old) (work.Convert int_type (work_at (held s state.old.frames.items) number)))) }
 {
     match top(&state.values) {
         None => Ok(Answer::Stuck),
@@ -97,7 +106,9 @@ pub fn converted(
 }
 
 pub fn discard(state: &mut State<'_>, number: usize) -> Answer
-    ensures { (s : Reading) (p : Program) (ch : Numbers) → Told s state.old state.new result (step_of p ch (shown s state.old) (work.Drop (work_at (held s state.old.frames.items) number))) }
+    ensures { (s : Reading) (p : Program) (ch : Numbers) →
+        Told s state.old state.new result
+        (step_of p ch (shown s state.old) (work.Drop (work_at (held s state.old.frames.items) number))) }
 {
     match top(&state.values) {
         None => Answer::Stuck,
@@ -114,7 +125,9 @@ pub fn assign(
     object: Object,
     number: usize,
 ) -> Result<Answer, AllocError>
-    ensures { (s : Reading) (p : Program) (ch : Numbers) → IfOk result (λ r. Told s state.old state.new r (step_of p ch (shown s state.old) (work.Assign int_type (object_in object) (work_at
+    ensures { (s : Reading) (p : Program) (ch : Numbers) →
+        IfOk result (λ r. Told s state.old state.new r
+        (step_of p ch (shown s state.old) (work.Assign int_type (object_in object) (work_at
         (held s state.old.frames.items) number)))) }
 {
     match top(&state.values) {
@@ -134,7 +147,9 @@ pub fn put(
     object: Object,
     number: usize,
 ) -> Result<Answer, AllocError>
-    ensures { (s : Reading) (p : Program) (ch : Numbers) → IfOk result (λ r. Told s state.old state.new r (step_of p ch (shown s state.old) (work.Put int_type (object_in object) (work_at
+    ensures { (s : Reading) (p : Program) (ch : Numbers) →
+        IfOk result (λ r.
+        Told s state.old state.new r (step_of p ch (shown s state.old) (work.Put int_type (object_in object) (work_at
         (held s state.old.frames.items) number)))) }
 {
     match top(&state.values) {
@@ -155,7 +170,9 @@ pub fn update(
     object: Object,
     number: usize,
 ) -> Result<Answer, AllocError>
-    ensures { (s : Reading) (p : Program) (ch : Numbers) → IfOk result (λ r. Told s state.old state.new r (step_of p ch (shown s state.old) (work.Update op at in_type int_type
+    ensures { (s : Reading) (p : Program) (ch : Numbers) →
+        IfOk result (λ r.
+        Told s state.old state.new r (step_of p ch (shown s state.old) (work.Update op at in_type int_type
         (object_in object) (work_at (held s state.old.frames.items) number)))) }
 {
     match top(&state.values) {
@@ -184,7 +201,9 @@ pub fn advance(
     object: Object,
     number: usize,
 ) -> Result<Answer, AllocError>
-    ensures { (s : Reading) (p : Program) (ch : Numbers) → IfOk result (λ r. Told s state.old state.new r (step_of p ch (shown s state.old) (work.Advance op at in_type int_type
+    ensures { (s : Reading) (p : Program) (ch : Numbers) →
+        IfOk result (λ r.
+        Told s state.old state.new r (step_of p ch (shown s state.old) (work.Advance op at in_type int_type
         (object_in object) (work_at (held s state.old.frames.items) number)))) }
 {
     let left = state.objects.number(object);
@@ -200,7 +219,9 @@ pub fn load(
     array: Array,
     number: usize,
 ) -> Result<Answer, AllocError>
-    ensures { (s : Reading) (p : Program) (ch : Numbers) → IfOk result (λ r. Told s state.old state.new r (step_of p ch (shown s state.old) (work.Load at (array_in array) (work_at
+    ensures { (s : Reading) (p : Program) (ch : Numbers) →
+        IfOk result (λ r.
+        Told s state.old state.new r (step_of p ch (shown s state.old) (work.Load at (array_in array) (work_at
         (held s state.old.frames.items) number)))) }
 {
     match top(&state.values) {
@@ -222,7 +243,9 @@ pub fn reload(
     array: Array,
     number: usize,
 ) -> Result<Answer, AllocError>
-    ensures { (s : Reading) (p : Program) (ch : Numbers) → IfOk result (λ r. Told s state.old state.new r (step_of p ch (shown s state.old) (work.Reload at (array_in array) (work_at
+    ensures { (s : Reading) (p : Program) (ch : Numbers) →
+        IfOk result (λ r.
+        Told s state.old state.new r (step_of p ch (shown s state.old) (work.Reload at (array_in array) (work_at
         (held s state.old.frames.items) number)))) }
 {
     match top_two(&state.values) {
@@ -238,7 +261,9 @@ pub fn reload(
 }
 
 pub fn store(state: &mut State<'_>, at: Pos, array: Array, number: usize) -> Answer
-    ensures { (s : Reading) (p : Program) (ch : Numbers) → Told s state.old state.new result (step_of p ch (shown s state.old) (work.Store at (array_in array) (work_at (held s state.old.frames.items) number))) }
+    ensures { (s : Reading) (p : Program) (ch : Numbers) →
+        Told s state.old state.new result (step_of p ch (shown s state.old)
+        (work.Store at (array_in array) (work_at (held s state.old.frames.items) number))) }
 {
     match top_two(&state.values) {
         None => Answer::Stuck,
@@ -258,7 +283,9 @@ pub fn store_kept(
     array: Array,
     number: usize,
 ) -> Result<Answer, AllocError>
-    ensures { (s : Reading) (p : Program) (ch : Numbers) → IfOk result (λ r. Told s state.old state.new r (step_of p ch (shown s state.old) (work.StoreKept at (array_in array) (work_at
+    ensures { (s : Reading) (p : Program) (ch : Numbers) →
+        IfOk result (λ r.
+        Told s state.old state.new r (step_of p ch (shown s state.old) (work.StoreKept at (array_in array) (work_at
         (held s state.old.frames.items) number)))) }
 {
     match top_two(&state.values) {
@@ -283,7 +310,9 @@ pub fn renew(
     array: Array,
     number: usize,
 ) -> Answer
-    ensures { (s : Reading) (p : Program) (ch : Numbers) → Told s state.old state.new result (step_of p ch (shown s state.old) (work.Renew op at in_type bracket (array_in array) (work_at
+    ensures { (s : Reading) (p : Program) (ch : Numbers) →
+        Told s state.old state.new result
+        (step_of p ch (shown s state.old) (work.Renew op at in_type bracket (array_in array) (work_at
         (held s state.old.frames.items) number))) }
 {
     match top_three(&state.values) {
@@ -309,7 +338,9 @@ pub fn renewed(
     int_type: IntType,
     number: usize,
 ) -> Result<Answer, AllocError>
-    ensures { (s : Reading) (p : Program) (ch : Numbers) → IfOk result (λ r. Told s state.old state.new r (step_of p ch (shown s state.old) (work.Renewed op at in_type int_type (work_at
+    ensures { (s : Reading) (p : Program) (ch : Numbers) →
+        IfOk result (λ r.
+        Told s state.old state.new r (step_of p ch (shown s state.old) (work.Renewed op at in_type int_type (work_at
         (held s state.old.frames.items) number)))) }
 {
     match top_three(&state.values) {
@@ -333,7 +364,9 @@ pub fn replace(
     array: Array,
     number: usize,
 ) -> Result<Answer, AllocError>
-    ensures { (s : Reading) (p : Program) (ch : Numbers) → IfOk result (λ r. Told s state.old state.new r (step_of p ch (shown s state.old) (work.Replace op at in_type bracket
+    ensures { (s : Reading) (p : Program) (ch : Numbers) →
+        IfOk result (λ r.
+        Told s state.old state.new r (step_of p ch (shown s state.old) (work.Replace op at in_type bracket
         (array_in array) (work_at (held s state.old.frames.items) number)))) }
 {
     match top_three(&state.values) {
@@ -353,7 +386,9 @@ pub fn replace(
 }
 
 pub fn item(state: &mut State<'_>, array: Array, place: usize, number: usize) -> Answer
-    ensures { (s : Reading) (p : Program) (ch : Numbers) → Told s state.old state.new result (step_of p ch (shown s state.old) (work.Item (array_in array) place (work_at (held s state.old.frames.items) number))) }
+    ensures { (s : Reading) (p : Program) (ch : Numbers) →
+        Told s state.old state.new result (step_of p ch (shown s state.old)
+        (work.Item (array_in array) place (work_at (held s state.old.frames.items) number))) }
 {
     match top(&state.values) {
         None => Answer::Stuck,
@@ -365,7 +400,9 @@ pub fn item(state: &mut State<'_>, array: Array, place: usize, number: usize) ->
 }
 
 pub fn claim(state: &mut State<'_>, at: Pos, number: usize) -> Answer
-    ensures { (s : Reading) (p : Program) (ch : Numbers) → Told s state.old state.new result (step_of p ch (shown s state.old) (work.Claim at (work_at (held s state.old.frames.items) number))) }
+    ensures { (s : Reading) (p : Program) (ch : Numbers) →
+        Told s state.old state.new result
+        (step_of p ch (shown s state.old) (work.Claim at (work_at (held s state.old.frames.items) number))) }
 {
     match top(&state.values) {
         None => Answer::Stuck,
@@ -388,7 +425,9 @@ pub fn bind<'a>(
     types: &'a [IntType],
     number: usize,
 ) -> Result<Answer, AllocError>
-    ensures { (s : Reading) → IfOk result (λ r. Told s state.old state.new r (steps.bind (shown s state.old) path parameter types.now (work_at (held s state.old.frames.items) number))) }
+    ensures { (s : Reading) →
+        IfOk result (λ r. Told s state.old state.new r
+        (steps.bind (shown s state.old) path parameter types.now (work_at (held s state.old.frames.items) number))) }
 {
     if types.len() == 0 {
         Ok(resume(state, number))

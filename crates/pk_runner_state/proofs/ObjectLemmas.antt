@@ -6,7 +6,7 @@ use Rattle.std.specs.declared.alloc.Global.{Global}
 use Rattle.std.specs.Vec.{with_item}
 use Rattle.std.proofs.lemmas.List.{map-set, get_or-map, get_or_past, length-map}
 use Rattle.pk_graph.specs.Steps.{Numbers}
-use Rattle.pk_meaning.specs.Objects.{file, local, result, numbers_of, with_numbers}
+use Rattle.pk_meaning.specs.Objects.{file, local, result, with_numbers}
 use Rattle.pk_runner_state.specs.declared.objects.Objects.{Objects}
 use Rattle.pk_runner_state.specs.Shown.{objects_in}
 

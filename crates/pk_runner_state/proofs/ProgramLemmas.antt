@@ -1,7 +1,7 @@
 -- What is looked up in a program.
-use Rattle.std.proofs.Common.{◌≡◌, ◌<◌, ◌≤◌, ◌+◌, ℕ, zero, suc, ◌∷◌, refl, ap, ◌∙◌, sym, subst, arith, List, [], ◌++◌, length, map, take, drop, get_or, slice_index_or, Bool, true, false, Bor}
+use Rattle.std.proofs.Common.{◌≡◌, ◌<◌, ◌≤◌, ◌+◌, ℕ, zero, suc, ◌∷◌, refl, ap, ◌∙◌, sym, subst, arith, List, [], ◌++◌, length, map, take, drop, get_or, slice_index_or, Bool, true, false}
 use Rattle.std.specs.Prelude.{Option, Some, None, option_map, slice_get, unwrap_or, if◌then◌else◌}
-use Rattle.std.specs.Option.{option_and_then, option_copied}
+use Rattle.std.specs.Option.{option_and_then}
 use Rattle.std.proofs.lemmas.Option.{slice_get-map, slice_get_read, slice_get_past}
 use Rattle.std.proofs.lemmas.List.{get_or-map, get_or_past, length-map, drop_all, map_push, map_more, take_all}
 use Rattle.pk_typed.specs.declared.units.FileObject.{FileObject}
@@ -9,11 +9,13 @@ use Rattle.pk_typed.specs.declared.units.Function.{Function}
 use Rattle.pk_typed.specs.declared.units.Local.{Local}
 use Rattle.pk_typed.specs.declared.units.Body.{Body}
 use Rattle.pk_typed.specs.declared.units.Unit as declared_unit
-use Rattle.pk_typed.specs.Trees.{FileObjectTree, FunctionTree, BodyTree, LocalTree}
+use Rattle.pk_typed.specs.Trees.{FileObjectTree, FunctionTree, BodyTree}
 use Rattle.pk_calls.specs.Calls.{body_of}
 use Rattle.pk_typed.specs.Views.{local_tree, body_tree, function_tree, file_object_tree, unit_tree}
 use Rattle.pk_calls.specs.declared.listings.CallPath.{CallPath}
-use Rattle.pk_meaning.specs.Programs.{no_function, no_body, no_local, length_of_start, number_by, is_by}
+use Rattle.pk_meaning.specs.Programs.{number_by, is_by}
+use Rattle.pk_typed.specs.Defaults.{no_body, no_function, no_local, length_of_start}
+use Rattle.pk_calls.proofs.CallLemmas.{function_read as function_at}
 
 pub function_read : (u : declared_unit.Unit) (n : ℕ) (f : Function) → n < length u.functions.items → f ≡ get_or u.functions.items n f → function_tree f ≡ slice_index_or (unit_tree u).functions n no_function
 unfolding unit_tree
@@ -77,10 +79,6 @@ pub by_end : (k n i : ℕ) (ps : List CallPath) → length ps ≤ i → number_b
 by_end k n i ps h = ap (number_by k n) (drop_all i ps h)
 
 -- ---- what a function's block is
-
-function_at : (u : declared_unit.Unit) (f : ℕ) (g : Function) → f < length u.functions.items → g ≡ get_or u.functions.items f g → slice_get (unit_tree u).functions f ≡ Some (function_tree g)
-unfolding unit_tree
-function_at u f g lt at = slice_get-map function_tree u.functions.items f ∙ ap (option_map function_tree) (slice_get_read u.functions.items (length u.functions.items) f g refl lt at)
 
 pub block_is : (u : declared_unit.Unit) (f : ℕ) (g : Function) → f < length u.functions.items → g ≡ get_or u.functions.items f g → unwrap_or (option_map body_tree g.body) no_body
     ≡ unwrap_or (body_of (unit_tree u) f) no_body

@@ -1,5 +1,5 @@
 -- Orderly rows have a reading.
-use Rattle.std.proofs.Common.{◌≡◌, ℕ, zero, suc, ◌<◌, ◌≤◌, ◌+◌, List, [], ◌∷◌, ◌++◌, length, get_or, refl, sym, ap, ◌∙◌, Option, Some, None, arith, slice_get, inl, inr}
+use Rattle.std.proofs.Common.{◌≡◌, ℕ, zero, suc, ◌<◌, ◌≤◌, List, ◌∷◌, get_or, refl, sym, ap, ◌∙◌, Option, Some, arith, slice_get, inl, inr}
 use Rattle.std.proofs.lemmas.Option.{slice_get_cases, slice_get-get_or}
 use Rattle.pk_meaning.specs.Objects.{local, Scope}
 use Rattle.pk_runner_frame.specs.declared.works.Scope as code_scope

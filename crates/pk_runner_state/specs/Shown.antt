@@ -31,7 +31,8 @@ objects_in x = record {
 
 -- a reading of the rows that agrees with the table
 abbrev pub Agrees : Reading → List Row → Type 0
-Agrees s rows = (i : ℕ) (r : Row) → i < length rows → get_or rows i r ≡ r → s i ≡ local r.path r.local ∷ scope_in s r.parent
+Agrees s rows =
+    (i : ℕ) (r : Row) → i < length rows → get_or rows i r ≡ r → s i ≡ local r.path r.local ∷ scope_in s r.parent
 
 abbrev pub is_visit : Reading → State → Visited → Bool
 is_visit s c visits.No = false

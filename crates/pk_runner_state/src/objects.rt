@@ -7,6 +7,7 @@ ghost use Rattle.pk_meaning.specs.Steps.{element_of};
 ghost use Rattle.pk_typed.specs.Views.{start_tree};
 ghost use Rattle.pk_runner_frame.specs.Frames.{object_in, array_in};
 ghost use Rattle.pk_runner_state.specs.Shown.{objects_in, program_in};
+ghost use Rattle.pk_typed.specs.Defaults.{no_body};
 
 use crate::programs::{Program, count_of};
 use pk_runner_frame::{Array, Object};
@@ -114,7 +115,8 @@ impl Objects {
 
     /// A scalar gets a number.
     pub fn set_number(&mut self, object: Object, number: &i128) -> Result<(), AllocError>
-        ensures { OnOk result (objects_in self.new ≡ with_numbers (object_in object) (number.now ∷ []) (objects_in self.old)) }
+        ensures { OnOk result
+            (objects_in self.new ≡ with_numbers (object_in object) (number.now ∷ []) (objects_in self.old)) }
     {
         match object {
             Object::File(place) => {
@@ -141,7 +143,8 @@ impl Objects {
 
     /// An element gets a number.
     pub fn set_element(&mut self, object: Object, place: usize, number: &i128)
-        ensures { objects_in self.new ≡ with_numbers (object_in object) (slice_set (numbers_of (object_in object) (objects_in self.old)) place number.now) (objects_in self.old) }
+        ensures { objects_in self.new ≡ with_numbers (object_in object)
+            (slice_set (numbers_of (object_in object) (objects_in self.old)) place number.now) (objects_in self.old) }
     {
         match object {
             Object::File(row) => {
@@ -196,7 +199,8 @@ fn start_of(alloc: Global, start: &Start) -> Result<Vec<i128>, AllocError>
 }
 
 fn first_files(alloc: Global, program: &Program<'_>) -> Result<Vec<Vec<i128>>, AllocError>
-    ensures { IfOk result (λ rows. map (λ v. v.items) rows.items ≡ (programs.first_objects (program_in program.now)).files) }
+    ensures { IfOk result
+        (λ rows. map (λ v. v.items) rows.items ≡ (programs.first_objects (program_in program.now)).files) }
 {
     let mut rows = Vec::new(alloc);
     for object in &program.unit.objects {
@@ -224,7 +228,9 @@ fn zeros_of(
     program: &Program<'_>,
     function: usize,
 ) -> Result<Vec<Vec<i128>>, AllocError>
-    ensures { IfOk result (λ rows. map (λ v. v.items) rows.items ≡ map programs.zeros_of (unwrap_or (body_of (program_in program.now).unit function) programs.no_body).locals) }
+    ensures { IfOk result (λ rows. map (λ v. v.items) rows.items
+        ≡ map programs.zeros_of
+        (unwrap_or (body_of (program_in program.now).unit function) no_body).locals) }
 {
     if function < program.unit.functions.len() {
         match &program.unit.functions[function].body {
@@ -237,7 +243,8 @@ fn zeros_of(
 }
 
 fn first_locals(alloc: Global, program: &Program<'_>) -> Result<Vec<Vec<Vec<i128>>>, AllocError>
-    ensures { IfOk result (λ rows. map (λ vs. map (λ v. v.items) vs.items) rows.items ≡ (programs.first_objects (program_in program.now)).locals) }
+    ensures { IfOk result (λ rows. map (λ vs. map (λ v. v.items) vs.items) rows.items
+        ≡ (programs.first_objects (program_in program.now)).locals) }
 {
     let mut rows = Vec::new(alloc);
     for path in 0..program.paths.len() {
@@ -247,7 +254,8 @@ fn first_locals(alloc: Global, program: &Program<'_>) -> Result<Vec<Vec<Vec<i128
 }
 
 fn first_results(alloc: Global, program: &Program<'_>) -> Result<Vec<Vec<i128>>, AllocError>
-    ensures { IfOk result (λ rows. map (λ v. v.items) rows.items ≡ (programs.first_objects (program_in program.now)).results) }
+    ensures { IfOk result
+        (λ rows. map (λ v. v.items) rows.items ≡ (programs.first_objects (program_in program.now)).results) }
 {
     let mut rows = Vec::new(alloc);
     for _ in 0..program.paths.len() {

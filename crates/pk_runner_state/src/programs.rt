@@ -1,6 +1,6 @@
 // A program, and what is looked up in it.
 
-ghost use Rattle.std.specs.Prelude.{◌≡◌, ◌+◌, ◌<◌, option_map, is_some, slice_get, unwrap_or};
+ghost use Rattle.std.specs.Prelude.{◌≡◌, ◌<◌, option_map, is_some, unwrap_or};
 ghost use Rattle.std.specs.Option.{option_copied};
 ghost use Rattle.pk_typed.specs.Views.{body_tree, function_tree, file_object_tree, item_trees, local_tree};
 ghost use Rattle.pk_calls.specs.Calls.{body_of};
@@ -8,6 +8,7 @@ ghost use Rattle.pk_meaning.specs.Programs as programs;
 ghost use Rattle.pk_graph.specs.Kinds as kinds;
 ghost use Rattle.pk_runner_frame.specs.Frames.{object_in, array_in};
 ghost use Rattle.pk_runner_state.specs.Shown.{program_in, is_named};
+ghost use Rattle.pk_typed.specs.Defaults.{no_function, no_local, length_of_start};
 
 use pk_calls::{CallPath, Paths};
 use pk_ctypes::{IntType, Pos};
@@ -34,7 +35,8 @@ fn function_number(program: &Program<'_>, path: usize) -> usize
 }
 
 fn function<'a>(program: &Program<'a>, path: usize) -> Option<&'a Function>
-    ensures { unwrap_or (option_map function_tree (option_copied result)) programs.no_function ≡ programs.function_of (program_in program.now) path }
+    ensures { unwrap_or (option_map function_tree (option_copied result)) no_function
+        ≡ programs.function_of (program_in program.now) path }
 {
     let number = function_number(program, path);
     if number < program.unit.functions.len() {
@@ -45,7 +47,8 @@ fn function<'a>(program: &Program<'a>, path: usize) -> Option<&'a Function>
 }
 
 fn block<'a>(program: &Program<'a>, path: usize) -> Option<&'a Body>
-    ensures { option_map body_tree (option_copied result) ≡ body_of (program_in program.now).unit (programs.function_number (program_in program.now) path) }
+    ensures { option_map body_tree (option_copied result)
+        ≡ body_of (program_in program.now).unit (programs.function_number (program_in program.now) path) }
 {
     let number = function_number(program, path);
     if number < program.unit.functions.len() {
@@ -130,7 +133,8 @@ pub fn visible(program: &Program<'_>, path: usize) -> usize
 }
 
 fn local<'a>(program: &Program<'a>, path: usize, number: usize) -> Option<&'a Local>
-    ensures { unwrap_or (option_map local_tree (option_copied result)) programs.no_local ≡ programs.local_of (program_in program.now) path number }
+    ensures { unwrap_or (option_map local_tree (option_copied result)) no_local
+        ≡ programs.local_of (program_in program.now) path number }
 {
     match block(program, path) {
         Some(body) => {
@@ -231,7 +235,7 @@ pub fn local_count(program: &Program<'_>, path: usize, number: usize) -> usize
 
 #[tactic(auto, unfolding(pk_typed::specs::Views::file_object_tree, pk_typed::specs::Views::start_tree))]
 fn length_of_object(object: &FileObject) -> Option<usize>
-    ensures { result ≡ programs.length_of_start (file_object_tree object.now).start }
+    ensures { result ≡ length_of_start (file_object_tree object.now).start }
 {
     match &object.start {
         Start::Scalar(_) => None,

@@ -1,6 +1,6 @@
 // Where a run is.
 
-ghost use Rattle.std.specs.Prelude.{◌≡◌, ◌∷◌, IfOk, reverse};
+ghost use Rattle.std.specs.Prelude.{◌∷◌, IfOk};
 ghost use Rattle.pk_meaning.specs.Objects.{is_in_scope};
 ghost use Rattle.pk_meaning.specs.Steps as steps;
 ghost use Rattle.pk_meaning.specs.Steps.{on, comes, takes, writes, fails};
@@ -54,7 +54,8 @@ pub struct State<'a> {
 // On with work in hand, and the values that wait.
 #[tactic(auto, unfolding(crate::specs::Shown::shown))]
 pub fn go_on<'a>(state: &mut State<'a>, work: Work<'a>) -> Answer
-    ensures { (s : Reading) → Told s state.old state.new result (on (shown s state.old) (work_in s (held s state.old.frames.items) work.entry) (shown s state.old).values) }
+    ensures { (s : Reading) → Told s state.old state.new result
+        (on (shown s state.old) (work_in s (held s state.old.frames.items) work.entry) (shown s state.old).values) }
 {
     state.work = work;
     state.visited = Visited::No;
@@ -64,7 +65,8 @@ pub fn go_on<'a>(state: &mut State<'a>, work: Work<'a>) -> Answer
 // On with what a frame holds.
 #[tactic(auto, unfolding(crate::specs::Shown::shown))]
 pub fn resume<'a>(state: &mut State<'a>, number: usize) -> Answer
-    ensures { (s : Reading) → Told s state.old state.new result (on (shown s state.old) (work_at (held s state.old.frames.items) number) (shown s state.old).values) }
+    ensures { (s : Reading) → Told s state.old state.new result
+        (on (shown s state.old) (work_at (held s state.old.frames.items) number) (shown s state.old).values) }
 {
     let work = take(&mut state.frames, number);
     go_on(state, work)
@@ -73,7 +75,10 @@ pub fn resume<'a>(state: &mut State<'a>, number: usize) -> Answer
 // On with what a frame holds, and a value on top.
 #[tactic(auto, unfolding(crate::specs::Shown::shown))]
 pub fn give(state: &mut State<'_>, value: &i128, number: usize) -> Result<Answer, AllocError>
-    ensures { (s : Reading) → IfOk result (λ r. Told s state.old state.new r (on (shown s state.old) (work_at (held s state.old.frames.items) number) (value.now ∷ (shown s state.old).values))) }
+    ensures { (s : Reading) →
+        IfOk result (λ r. Told s state.old state.new r
+        (on (shown s state.old) (work_at (held s state.old.frames.items) number)
+        (value.now ∷ (shown s state.old).values))) }
 {
     state.values.push(*value)?;
     Ok(resume(state, number))
@@ -82,7 +87,9 @@ pub fn give(state: &mut State<'_>, value: &i128, number: usize) -> Result<Answer
 // On at another place.
 #[tactic(auto, unfolding(crate::specs::Shown::shown))]
 pub fn come<'a>(state: &mut State<'a>, here: Spot, work: Work<'a>) -> Answer
-    ensures { (s : Reading) → Told s state.old state.new result (comes (shown s state.old) (place_in s here) (work_in s (held s state.old.frames.items) work.entry) (shown s state.old).values) }
+    ensures { (s : Reading) → Told s state.old state.new result
+        (comes (shown s state.old) (place_in s here) (work_in s (held s state.old.frames.items) work.entry)
+        (shown s state.old).values) }
 {
     state.here = here;
     state.work = work;
@@ -112,7 +119,10 @@ pub fn write(
     value: &i128,
     number: usize,
 ) -> Result<Answer, AllocError>
-    ensures { (s : Reading) → IfOk result (λ r. Told s state.old state.new r (writes (shown s state.old) (object_in object) (value.now ∷ []) (work_at (held s state.old.frames.items) number) (shown s state.old).values)) }
+    ensures { (s : Reading) →
+        IfOk result (λ r. Told s state.old state.new r
+        (writes (shown s state.old) (object_in object) (value.now ∷ [])
+        (work_at (held s state.old.frames.items) number) (shown s state.old).values)) }
 {
     state.objects.set_number(object, value)?;
     Ok(wrote(state, object, number))
@@ -123,7 +133,9 @@ ghost use Rattle.std.specs.Prelude.{[]};
 // An object gets numbers.
 #[tactic(auto, unfolding(crate::specs::Shown::shown))]
 pub fn write_all(state: &mut State<'_>, object: Object, numbers: Vec<i128>, number: usize) -> Answer
-    ensures { (s : Reading) → Told s state.old state.new result (writes (shown s state.old) (object_in object) numbers.items (work_at (held s state.old.frames.items) number) (shown s state.old).values) }
+    ensures { (s : Reading) → Told s state.old state.new result
+        (writes (shown s state.old) (object_in object) numbers.items (work_at (held s state.old.frames.items) number)
+        (shown s state.old).values) }
 {
     state.objects.set_numbers(object, numbers);
     wrote(state, object, number)
@@ -138,7 +150,9 @@ pub fn write_element(
     value: &i128,
     number: usize,
 ) -> Answer
-    ensures { (s : Reading) → Told s state.old state.new result (steps.stores (shown s state.old) (array_in array) place value.now (work_at (held s state.old.frames.items) number) (shown s state.old).values) }
+    ensures { (s : Reading) → Told s state.old state.new result
+        (steps.stores (shown s state.old) (array_in array) place value.now
+        (work_at (held s state.old.frames.items) number) (shown s state.old).values) }
 {
     state.objects.set_element(array.object, place, value);
     wrote(state, array.object, number)
@@ -160,7 +174,9 @@ pub fn fail(state: &State<'_>, fault: Fault, at: Pos) -> Answer
 // The body of a loop, behind which its end comes.
 #[tactic(auto, unfolding(crate::specs::Shown::shown))]
 fn enter_loop(state: &mut State<'_>, number: usize) -> Answer
-    ensures { (s : Reading) → Told s state.old state.new result (takes (shown s state.old) (into (ahead_at (held s state.old.frames.items) number)) (shown s state.old).values) }
+    ensures { (s : Reading) → Told s state.old state.new result
+        (takes (shown s state.old) (into (ahead_at (held s state.old.frames.items) number))
+        (shown s state.old).values) }
 {
     match loop_at(&state.frames, number) {
         Some(end) => come(state, end.here, Work::Do(end.kind.body(), number)),
@@ -173,7 +189,9 @@ ghost use Rattle.pk_runner_frame.specs.Frames.{ahead_at, into, head, behind};
 // To where a loop begins again.
 #[tactic(auto, unfolding(crate::specs::Shown::shown))]
 fn to_head(state: &mut State<'_>, number: usize) -> Answer
-    ensures { (s : Reading) → Told s state.old state.new result (takes (shown s state.old) (head (ahead_at (held s state.old.frames.items) number)) (shown s state.old).values) }
+    ensures { (s : Reading) → Told s state.old state.new result
+        (takes (shown s state.old) (head (ahead_at (held s state.old.frames.items) number))
+        (shown s state.old).values) }
 {
     match loop_at(&state.frames, number) {
         Some(end) => come(state, end.here, Work::Turn(number)),
@@ -184,7 +202,9 @@ fn to_head(state: &mut State<'_>, number: usize) -> Answer
 // Behind a loop.
 #[tactic(auto, unfolding(crate::specs::Shown::shown))]
 pub fn leave_loop(state: &mut State<'_>, number: usize) -> Answer
-    ensures { (s : Reading) → Told s state.old state.new result (takes (shown s state.old) (behind (ahead_at (held s state.old.frames.items) number)) (shown s state.old).values) }
+    ensures { (s : Reading) → Told s state.old state.new result
+        (takes (shown s state.old) (behind (ahead_at (held s state.old.frames.items) number))
+        (shown s state.old).values) }
 {
     match loop_at(&state.frames, number) {
         Some(end) => {
@@ -198,7 +218,8 @@ pub fn leave_loop(state: &mut State<'_>, number: usize) -> Answer
 // On along a way.
 #[tactic(auto, unfolding(crate::specs::Shown::shown))]
 pub fn follow(state: &mut State<'_>, way: Way) -> Answer
-    ensures { (s : Reading) → Told s state.old state.new result (takes (shown s state.old) (way_in s (held s state.old.frames.items) way) (shown s state.old).values) }
+    ensures { (s : Reading) → Told s state.old state.new result
+        (takes (shown s state.old) (way_in s (held s state.old.frames.items) way) (shown s state.old).values) }
 {
     match way {
         Way::Onward(here, number) => {

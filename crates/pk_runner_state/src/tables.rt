@@ -1,6 +1,6 @@
 // Scopes: a row of the table is an object of a function, before the scope behind it.
 
-ghost use Rattle.std.specs.Prelude.{◌≡◌, ◌≤◌, ◌↔◌, ◌∷◌, ◌++◌, [], length, IfOk, OnOk, IsTrue, true};
+ghost use Rattle.std.specs.Prelude.{◌≡◌, ◌≤◌, ◌∷◌, ◌++◌, [], length, IfOk, OnOk, IsTrue};
 ghost use Rattle.pk_typed.specs.Views.{declared_tree, declared_trees};
 ghost use Rattle.pk_meaning.specs.Objects.{local};
 ghost use Rattle.pk_meaning.specs.Programs as programs;
@@ -104,7 +104,8 @@ pub fn reach(table: &mut Table, scope: Scope) -> Result<(), AllocError>
 
 // An object comes into scope. The row that was made of it last stands for the same, if it has the same scope behind it.
 fn extend(table: &mut Table, path: usize, object: usize, scope: Scope) -> Result<Scope, AllocError>
-    ensures scope { (s : Reading) → Agrees s table.new.rows.items → IfOk result (λ x. scope_in s x ≡ local path object ∷ scope_in s scope) }
+    ensures scope { (s : Reading) → Agrees s table.new.rows.items →
+        IfOk result (λ x. scope_in s x ≡ local path object ∷ scope_in s scope) }
     ensures before { (s : Reading) → Agrees s table.new.rows.items → Agrees s table.old.rows.items }
 {
     let last = last(&table.lasts, path, object);
@@ -133,7 +134,9 @@ pub fn with_local(
     object: usize,
     scope: Scope,
 ) -> Result<Scope, AllocError>
-    ensures scope { (s : Reading) → Agrees s table.new.rows.items → IfOk result (λ x. scope_in s x ≡ programs.with_local (program_in program.now) path object (scope_in s scope)) }
+    ensures scope { (s : Reading) → Agrees s table.new.rows.items →
+        IfOk result (λ x.
+        scope_in s x ≡ programs.with_local (program_in program.now) path object (scope_in s scope)) }
     ensures before { (s : Reading) → Agrees s table.new.rows.items → Agrees s table.old.rows.items }
 {
     if has_name(program, path, object) {
@@ -160,7 +163,9 @@ pub fn with_declared(
     declared: &Declared,
     scope: Scope,
 ) -> Result<Scope, AllocError>
-    ensures scope { (s : Reading) → Agrees s table.new.rows.items → IfOk result (λ x. scope_in s x ≡ programs.with_declared (program_in program.now) path (declared_tree declared.now) (scope_in s scope)) }
+    ensures scope { (s : Reading) → Agrees s table.new.rows.items →
+        IfOk result (λ x. scope_in s x
+        ≡ programs.with_declared (program_in program.now) path (declared_tree declared.now) (scope_in s scope)) }
     ensures before { (s : Reading) → Agrees s table.new.rows.items → Agrees s table.old.rows.items }
 {
     with_local(program, table, path, number_declared(declared), scope)
@@ -173,7 +178,9 @@ pub fn with_all_declared(
     objects: &[Declared],
     scope: Scope,
 ) -> Result<Scope, AllocError>
-    ensures scope { (s : Reading) → Agrees s table.new.rows.items → IfOk result (λ x. scope_in s x ≡ programs.with_all_declared (program_in program.now) path (declared_trees objects.now) (scope_in s scope)) }
+    ensures scope { (s : Reading) → Agrees s table.new.rows.items →
+        IfOk result (λ x. scope_in s x
+        ≡ programs.with_all_declared (program_in program.now) path (declared_trees objects.now) (scope_in s scope)) }
     ensures before { (s : Reading) → Agrees s table.new.rows.items → Agrees s table.old.rows.items }
 {
     let mut inner = scope;
@@ -190,7 +197,9 @@ fn with_parameters(
     types: &[IntType],
     scope: Scope,
 ) -> Result<Scope, AllocError>
-    ensures scope { (s : Reading) → Agrees s table.new.rows.items → IfOk result (λ x. scope_in s x ≡ programs.with_parameters (program_in program.now) path 0 types.now (scope_in s scope)) }
+    ensures scope { (s : Reading) → Agrees s table.new.rows.items →
+        IfOk result (λ x.
+        scope_in s x ≡ programs.with_parameters (program_in program.now) path 0 types.now (scope_in s scope)) }
     ensures before { (s : Reading) → Agrees s table.new.rows.items → Agrees s table.old.rows.items }
 {
     let mut inner = scope;
@@ -206,7 +215,8 @@ pub fn body_scope(
     table: &mut Table,
     path: usize,
 ) -> Result<Scope, AllocError>
-    ensures scope { (s : Reading) → Agrees s table.new.rows.items → IfOk result (λ x. scope_in s x ≡ programs.body_scope (program_in program.now) path) }
+    ensures scope { (s : Reading) → Agrees s table.new.rows.items →
+        IfOk result (λ x. scope_in s x ≡ programs.body_scope (program_in program.now) path) }
     ensures before { (s : Reading) → Agrees s table.new.rows.items → Agrees s table.old.rows.items }
 {
     let outer = Scope::File(visible(program, path));

@@ -1,16 +1,16 @@
 // Values that wait, the topmost last.
 
-ghost use Rattle.std.specs.Prelude.{◌≡◌, ◌<◌, ◌-◌, ◌∷◌, [], ℕ, ℤ, List, length, take, reverse, IfOk, OnOk, MatchOption, false, true, unsigned_abs};
+ghost use Rattle.std.specs.Prelude.{◌≡◌, ◌<◌, ◌-◌, ◌∷◌, [], ℤ, length, take, reverse, MatchOption, false, true, unsigned_abs};
 ghost use Rattle.pk_graph.specs.Steps.{Numbers, number_at, is_true, is_index, all_in_type, are_any};
 ghost use Rattle.pk_meaning.specs.Steps as steps;
 ghost use Rattle.pk_meaning.specs.Steps.{Next};
-ghost use Rattle.pk_ctypes.specs.Types.{is_in_type};
 
 use pk_ctypes::{Fault, IntType, Op, apply, conversion_law, convert, fits};
 use std::alloc::AllocError;
 
 pub fn top(values: &[i128]) -> Option<i128>
-    ensures { MatchOption result (reverse values.now ≡ []) (λ v. reverse values.now ≡ v ∷ reverse (take (length values.now - 1) values.now)) }
+    ensures { MatchOption result (reverse values.now ≡ [])
+        (λ v. reverse values.now ≡ v ∷ reverse (take (length values.now - 1) values.now)) }
 {
     let count = values.len();
     if count < 1 {
@@ -22,7 +22,8 @@ pub fn top(values: &[i128]) -> Option<i128>
 
 /// The two topmost, the lower one first.
 pub fn top_two(values: &[i128]) -> Option<(i128, i128)>
-    ensures { MatchOption result ((f : ℤ → ℤ → Numbers → Next) → steps.on_two (reverse values.now) f ≡ steps.Stuck) (λ p. reverse values.now ≡ p.1 ∷ p.0 ∷ reverse (take (length values.now - 2) values.now)) }
+    ensures { MatchOption result ((f : ℤ → ℤ → Numbers → Next) → steps.on_two (reverse values.now) f ≡ steps.Stuck)
+        (λ p. reverse values.now ≡ p.1 ∷ p.0 ∷ reverse (take (length values.now - 2) values.now)) }
 {
     let count = values.len();
     if count < 2 {
@@ -33,7 +34,9 @@ pub fn top_two(values: &[i128]) -> Option<(i128, i128)>
 }
 
 pub fn top_three(values: &[i128]) -> Option<(i128, i128, i128)>
-    ensures { MatchOption result ((f : ℤ → ℤ → ℤ → Numbers → Next) → steps.on_three (reverse values.now) f ≡ steps.Stuck) (λ p. reverse values.now ≡ p.2 ∷ p.1 ∷ p.0 ∷ reverse (take (length values.now - 3) values.now)) }
+    ensures { MatchOption result ((f : ℤ → ℤ → ℤ → Numbers → Next) →
+        steps.on_three (reverse values.now) f ≡ steps.Stuck)
+        (λ p. reverse values.now ≡ p.2 ∷ p.1 ∷ p.0 ∷ reverse (take (length values.now - 3) values.now)) }
 {
     let count = values.len();
     if count < 3 {
@@ -53,8 +56,11 @@ pub fn without(values: &mut Vec<i128>, count: usize)
 
 /// Where the value under so many others is.
 pub fn below(values: &[i128], count: usize) -> Option<usize>
-    ensures { MatchOption result ((f : ℤ → Numbers → Next) → steps.on_below count (reverse values.now) f ≡ steps.Stuck) (λ k. (k < length values.now) × ((f : ℤ → Numbers → Next) →
-        steps.on_below count (reverse values.now) f ≡ f (number_at values.now k) (reverse (without_one k values.now)))) }
+    ensures { MatchOption result ((f : ℤ → Numbers → Next) →
+        steps.on_below count (reverse values.now) f ≡ steps.Stuck)
+        (λ k. (k < length values.now) × ((f : ℤ → Numbers → Next) →
+        steps.on_below count (reverse values.now) f
+        ≡ f (number_at values.now k) (reverse (without_one k values.now)))) }
 {
     if count < values.len() {
         Some(values.len() - 1 - count)
@@ -141,7 +147,8 @@ ghost use Rattle.pk_ctypes.specs.Operators.{value_of};
 
 /// The place of an element, if there is one.
 pub fn place_of(length: usize, index: &i128) -> Option<usize>
-    ensures { MatchOption result (is_index length index.now ≡ false) (λ j. (is_index length index.now ≡ true) × (j ≡ unsigned_abs index.now)) }
+    ensures { MatchOption result (is_index length index.now ≡ false)
+        (λ j. (is_index length index.now ≡ true) × (j ≡ unsigned_abs index.now)) }
 {
     let index = *index;
     if 0 <= index && index < length as i128 {

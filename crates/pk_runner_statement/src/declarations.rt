@@ -1,7 +1,7 @@
 // Declarations.
 
-ghost use Rattle.std.specs.Prelude.{◌≡◌, ℕ, IfOk, option_map};
-ghost use Rattle.pk_typed.specs.Views.{value_tree, value_trees, declared_tree, declared_trees, optional_values, item_trees};
+ghost use Rattle.std.specs.Prelude.{◌≡◌, IfOk, option_map};
+ghost use Rattle.pk_typed.specs.Views.{value_tree, declared_tree, declared_trees, optional_values, item_trees};
 ghost use Rattle.pk_meaning.specs.Programs as programs;
 ghost use Rattle.pk_meaning.specs.Steps as steps;
 ghost use Rattle.pk_runner_frame.specs.Frames.{Reading, held, work_at, ahead_at, scope_in, place_in};
@@ -30,7 +30,9 @@ fn lay_after<'a>(
     scope: Scope,
     after: After<'a>,
 ) -> Result<usize, AllocError>
-    ensures { (s : Reading) → IfOk result (λ n. work_at (held s frames.new.items) n ≡ after_in s (held s frames.old.items) (scope_in s scope) after.entry) }
+    ensures { (s : Reading) →
+        IfOk result (λ n.
+        work_at (held s frames.new.items) n ≡ after_in s (held s frames.old.items) (scope_in s scope) after.entry) }
 {
     match after {
         After::Items(items, ahead) => before(frames, Ahead::Rest(scope, items, ahead)),
@@ -47,7 +49,9 @@ fn anything<'a>(
     object: usize,
     after: After<'a>,
 ) -> Result<Answer, AllocError>
-    ensures { (s : Reading) → IfOk result (λ r. Told s state.old state.new r (steps.anything (program_in program.now) chosen.now (steps.standing (place_in s here)
+    ensures { (s : Reading) →
+        IfOk result (λ r. Told s state.old state.new r
+        (steps.anything (program_in program.now) chosen.now (steps.standing (place_in s here)
         (shown s state.old)) object (after_in s (held s state.old.frames.items) (scope_in s here.scope) after.entry))) }
 {
     let int_type = local_type(program, state.path, object);
@@ -71,8 +75,11 @@ fn begin_scalar<'a>(
     first: &'a Option<Value>,
     after: After<'a>,
 ) -> Result<Answer, AllocError>
-    ensures { (s : Reading) → IfOk result (λ r. Told s state.old state.new r (steps.scalar_first (program_in program.now) chosen.now (steps.standing (place_in s here)
-        (shown s state.old)) object (option_map value_tree first.now) (after_in s (held s state.old.frames.items) (scope_in s here.scope) after.entry))) }
+    ensures { (s : Reading) →
+        IfOk result (λ r. Told s state.old state.new r
+        (steps.scalar_first (program_in program.now) chosen.now (steps.standing (place_in s here)
+        (shown s state.old)) object (option_map value_tree first.now)
+        (after_in s (held s state.old.frames.items) (scope_in s here.scope) after.entry))) }
 {
     match first {
         None => anything(program, state, chosen, here, object, after),
@@ -101,8 +108,11 @@ fn begin_array<'a>(
     list: &'a Option<Vec<Value>>,
     after: After<'a>,
 ) -> Result<Answer, AllocError>
-    ensures { (s : Reading) → IfOk result (λ r. Told s state.old state.new r (steps.array_first (program_in program.now) chosen.now (steps.standing (place_in s here)
-        (shown s state.old)) object (optional_values list.now) (after_in s (held s state.old.frames.items) (scope_in s here.scope) after.entry))) }
+    ensures { (s : Reading) →
+        IfOk result (λ r. Told s state.old state.new r
+        (steps.array_first (program_in program.now) chosen.now (steps.standing (place_in s here)
+        (shown s state.old)) object (optional_values list.now)
+        (after_in s (held s state.old.frames.items) (scope_in s here.scope) after.entry))) }
 {
     match list {
         None => anything(program, state, chosen, here, object, after),
@@ -134,8 +144,11 @@ fn declare<'a>(
     after: After<'a>,
 ) -> Result<Answer, AllocError>
     ensures told { (s : Reading) (at : Pos) → Agrees s table.new.rows.items →
-        IfOk result (λ r. Told s state.old state.new r (steps.declares (program_in program.now) chosen.now (steps.standing (steps.place at (scope_in s scope)) (shown s state.old))
-        (declared_tree declared.now) (after_in s (held s state.old.frames.items) (programs.with_declared (program_in program.now) state.old.path (declared_tree declared.now)
+        IfOk result (λ r. Told s state.old state.new r
+        (steps.declares (program_in program.now) chosen.now
+        (steps.standing (steps.place at (scope_in s scope)) (shown s state.old))
+        (declared_tree declared.now) (after_in s (held s state.old.frames.items)
+        (programs.with_declared (program_in program.now) state.old.path (declared_tree declared.now)
         (scope_in s scope)) after.entry))) }
     ensures before { (s : Reading) → Agrees s table.new.rows.items → Agrees s table.old.rows.items }
 {
@@ -170,7 +183,9 @@ pub fn declare_all<'a>(
     number: usize,
 ) -> Result<Answer, AllocError>
     ensures told { (s : Reading) → Agrees s table.new.rows.items →
-        IfOk result (λ r. Told s state.old state.new r (steps.all_declared (program_in program.now) chosen.now (shown s state.old) (declared_trees objects.now) (work_at
+        IfOk result (λ r. Told s state.old state.new r
+        (steps.all_declared (program_in program.now) chosen.now (shown s state.old) (declared_trees objects.now)
+        (work_at
         (held s state.old.frames.items) number))) }
     ensures before { (s : Reading) → Agrees s table.new.rows.items → Agrees s table.old.rows.items }
 {
@@ -200,7 +215,9 @@ pub fn rest<'a>(
     ahead: usize,
 ) -> Result<Answer, AllocError>
     ensures told { (s : Reading) → Agrees s table.new.rows.items →
-        IfOk result (λ r. Told s state.old state.new r (steps.rest (program_in program.now) chosen.now (shown s state.old) (scope_in s scope) (item_trees items.now) (ahead_at
+        IfOk result (λ r. Told s state.old state.new r
+        (steps.rest (program_in program.now) chosen.now (shown s state.old) (scope_in s scope)
+        (item_trees items.now) (ahead_at
         (held s state.old.frames.items) ahead))) }
     ensures before { (s : Reading) → Agrees s table.new.rows.items → Agrees s table.old.rows.items }
 {

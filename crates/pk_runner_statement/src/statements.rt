@@ -1,11 +1,11 @@
 // Statements, and what comes behind them.
 
-ghost use Rattle.std.specs.Prelude.{◌≡◌, ◌∷◌, ℕ, List, ℤ, Some, IfOk, option_map};
-ghost use Rattle.pk_typed.specs.Views.{value_tree, for_start_tree, statement_tree};
+ghost use Rattle.std.specs.Prelude.{◌≡◌, Some, IfOk};
+ghost use Rattle.pk_typed.specs.Views.{for_start_tree, statement_tree};
 ghost use Rattle.pk_meaning.specs.Programs as programs;
 ghost use Rattle.pk_meaning.specs.Steps as steps;
 ghost use Rattle.pk_meaning.specs.Work as work;
-ghost use Rattle.pk_runner_frame.specs.Frames.{Reading, held, work_at, ahead_at, scope_in, place_in, loop_of};
+ghost use Rattle.pk_runner_frame.specs.Frames.{Reading, held, ahead_at, scope_in, place_in, loop_of};
 ghost use Rattle.pk_runner_state.specs.Shown.{program_in, shown, Told, Agrees};
 
 use crate::declarations::rest;
@@ -26,9 +26,13 @@ fn begin_for<'a>(
     head: &'a ForHead,
     ahead: usize,
 ) -> Result<Answer, AllocError>
-    ensures told { (s : Reading) (l : work.Loop) → Agrees s table.new.rows.items → loop_of (statement_tree statement.now) ≡ Some l →
-        IfOk result (λ r. Told s state.old state.new r (steps.for_start (steps.standing_at at (shown s state.old)) (for_start_tree head.now.start) (work.Back (steps.place at
-        (steps.for_scope (program_in program.now) state.old.path (for_start_tree head.now.start) (scope_in s state.old.here.scope))) l (steps.place at (scope_in s state.old.here.scope))
+    ensures told { (s : Reading) (l : work.Loop) → Agrees s table.new.rows.items →
+        loop_of (statement_tree statement.now) ≡ Some l →
+        IfOk result (λ r. Told s state.old state.new r
+        (steps.for_start (steps.standing_at at (shown s state.old)) (for_start_tree head.now.start)
+        (work.Back (steps.place at
+        (steps.for_scope (program_in program.now) state.old.path (for_start_tree head.now.start)
+        (scope_in s state.old.here.scope))) l (steps.place at (scope_in s state.old.here.scope))
         (ahead_at (held s state.old.frames.items) ahead)))) }
     ensures before { (s : Reading) → Agrees s table.new.rows.items → Agrees s table.old.rows.items }
 {
@@ -64,7 +68,8 @@ pub fn execute<'a>(
     ahead: usize,
 ) -> Result<Answer, AllocError>
     ensures told { (s : Reading) → Agrees s table.new.rows.items →
-        IfOk result (λ r. Told s state.old state.new r (steps.does (program_in program.now) (shown s state.old) (statement_tree statement.now) (ahead_at
+        IfOk result (λ r. Told s state.old state.new r
+        (steps.does (program_in program.now) (shown s state.old) (statement_tree statement.now) (ahead_at
         (held s state.old.frames.items) ahead))) }
     ensures before { (s : Reading) → Agrees s table.new.rows.items → Agrees s table.old.rows.items }
 {
@@ -137,7 +142,9 @@ pub fn proceed<'a>(
     number: usize,
 ) -> Result<Answer, AllocError>
     ensures told { (s : Reading) → Agrees s table.new.rows.items →
-        IfOk result (λ r. Told s state.old state.new r (steps.goes (program_in program.now) chosen.now (shown s state.old) (ahead_at (held s state.old.frames.items) number))) }
+        IfOk result (λ r. Told s state.old state.new r
+        (steps.goes (program_in program.now) chosen.now (shown s state.old)
+        (ahead_at (held s state.old.frames.items) number))) }
     ensures before { (s : Reading) → Agrees s table.new.rows.items → Agrees s table.old.rows.items }
 {
     if number < state.frames.len() {
@@ -195,8 +202,10 @@ pub fn choose<'a>(
     ahead: usize,
 ) -> Result<Answer, AllocError>
     ensures told { (s : Reading) → Agrees s table.new.rows.items →
-        IfOk result (λ r. Told s state.old state.new r (steps.on_top (shown s state.old).values (λ v vs. steps.chooses (program_in program.now)
-        (shown s state.old) int_type cases.now number has_default (statement_tree body.now) (place_in s here) (ahead_at (held s state.old.frames.items) ahead) v vs))) }
+        IfOk result (λ r. Told s state.old state.new r
+        (steps.on_top (shown s state.old).values (λ v vs. steps.chooses (program_in program.now)
+        (shown s state.old) int_type cases.now number has_default (statement_tree body.now) (place_in s here)
+        (ahead_at (held s state.old.frames.items) ahead) v vs))) }
     ensures before { (s : Reading) → Agrees s table.new.rows.items → Agrees s table.old.rows.items }
 {
     match top(&state.values) {

@@ -1,12 +1,12 @@
 // Steps that jump nowhere.
 
-ghost use Rattle.std.specs.Prelude.{◌≡◌, ◌<◌, ◌+◌, ◌∷◌, ℕ, List, length, take, Option, Some, IfOk, OnOk, option_map, slice_index_or};
+ghost use Rattle.std.specs.Prelude.{◌≡◌, ◌<◌, ◌+◌, ℕ, length, take, Option, Some, IfOk, OnOk, option_map, slice_index_or};
 ghost use Rattle.pk_typed.specs.Trees as tree;
 ghost use Rattle.pk_typed.specs.Views.{value_tree, statement_tree};
 ghost use Rattle.pk_meaning.specs.Programs as programs;
 ghost use Rattle.pk_meaning.specs.Steps as steps;
 ghost use Rattle.pk_meaning.specs.Work as work;
-ghost use Rattle.pk_runner_frame.specs.Frames.{Reading, held, nothing, work_at, ahead_at, work_in, scope_in, place_in, loop_of, turn, back, caller_in};
+ghost use Rattle.pk_runner_frame.specs.Frames.{Reading, held, nothing, work_at, ahead_at, work_in, scope_in, loop_of, turn, back, caller_in};
 ghost use Rattle.pk_runner_state.specs.Shown.{program_in, shown, Told, Agrees};
 
 use pk_ctypes::{IntType, Pos};
@@ -23,8 +23,11 @@ use std::alloc::AllocError;
 
 // Work on top; what stands below stays, as work and as what comes behind a statement.
 fn then_over<'a>(frames: &mut Vec<Frame<'a>>, work: Work<'a>) -> Result<usize, AllocError>
-    ensures work { (s : Reading) → IfOk result (λ n. work_at (held s frames.new.items) n ≡ work_in s (held s frames.old.items) work.entry) }
-    ensures below { (s : Reading) (i : ℕ) → i < length frames.old.items → OnOk result (slice_index_or (held s frames.new.items) i nothing ≡ slice_index_or (held s frames.old.items) i nothing) }
+    ensures work { (s : Reading) →
+        IfOk result (λ n. work_at (held s frames.new.items) n ≡ work_in s (held s frames.old.items) work.entry) }
+    ensures below { (s : Reading) (i : ℕ) → i < length frames.old.items →
+        OnOk result (slice_index_or (held s frames.new.items) i nothing
+        ≡ slice_index_or (held s frames.old.items) i nothing) }
     ensures number { IfOk result (λ n. n ≡ length frames.old.items) }
     ensures count { OnOk result (length frames.new.items ≡ length frames.old.items + 1) }
 {
@@ -41,7 +44,9 @@ pub fn begin_if<'a>(
     body: &'a Statement,
     ahead: usize,
 ) -> Result<Answer, AllocError>
-    ensures { (s : Reading) (p : programs.Program) → IfOk result (λ r. Told s state.old state.new r (steps.does p (shown s state.old) (tree.if_then at (value_tree condition.now)
+    ensures { (s : Reading) (p : programs.Program) → IfOk result
+        (λ r. Told s state.old state.new r
+        (steps.does p (shown s state.old) (tree.if_then at (value_tree condition.now)
         (statement_tree body.now)) (ahead_at (held s state.old.frames.items) ahead))) }
 {
     let here = Spot {
@@ -70,7 +75,9 @@ pub fn begin_if_else<'a>(
     if_false: &'a Statement,
     ahead: usize,
 ) -> Result<Answer, AllocError>
-    ensures { (s : Reading) (p : programs.Program) → IfOk result (λ r. Told s state.old state.new r (steps.does p (shown s state.old) (tree.if_else at (value_tree condition.now)
+    ensures { (s : Reading) (p : programs.Program) → IfOk result
+        (λ r. Told s state.old state.new r
+        (steps.does p (shown s state.old) (tree.if_else at (value_tree condition.now)
         (statement_tree if_true.now) (statement_tree if_false.now)) (ahead_at (held s state.old.frames.items) ahead))) }
 {
     let here = Spot {
@@ -101,8 +108,10 @@ pub fn begin_switch<'a>(
     body: &'a Statement,
     ahead: usize,
 ) -> Result<Answer, AllocError>
-    ensures { (s : Reading) (p : programs.Program) → IfOk result (λ r. Told s state.old state.new r (steps.does p (shown s state.old) (tree.switch at int_type
-        (value_tree value.now) cases.now has_default (statement_tree body.now)) (ahead_at (held s state.old.frames.items) ahead))) }
+    ensures { (s : Reading) (p : programs.Program) →
+        IfOk result (λ r. Told s state.old state.new r (steps.does p (shown s state.old) (tree.switch at int_type
+        (value_tree value.now) cases.now has_default (statement_tree body.now))
+        (ahead_at (held s state.old.frames.items) ahead))) }
 {
     let here = Spot {
         at,
@@ -129,8 +138,11 @@ pub fn begin_loop<'a>(
     ahead: usize,
 ) -> Result<Answer, AllocError>
     ensures { (s : Reading) (l : work.Loop) → loop_of (statement_tree statement.now) ≡ Some l →
-        IfOk result (λ r. Told s state.old state.new r (steps.comes (shown s state.old) (steps.place at (scope_in s state.old.here.scope)) (work.Turn (steps.place at
-        (scope_in s state.old.here.scope)) l (steps.place at (scope_in s state.old.here.scope)) (ahead_at (held s state.old.frames.items) ahead)) (shown s state.old).values)) }
+        IfOk result (λ r. Told s state.old state.new r
+        (steps.comes (shown s state.old) (steps.place at (scope_in s state.old.here.scope))
+        (work.Turn (steps.place at
+        (scope_in s state.old.here.scope)) l (steps.place at (scope_in s state.old.here.scope))
+        (ahead_at (held s state.old.frames.items) ahead)) (shown s state.old).values)) }
 {
     let here = Spot {
         at,
@@ -150,8 +162,11 @@ pub fn return_value<'a>(
     value: &'a Option<Value>,
     ahead: usize,
 ) -> Result<Answer, AllocError>
-    ensures { (s : Reading) → IfOk result (λ r. Told s state.old state.new r (steps.returns (steps.standing_at at (shown s state.old)) (programs.function_of
-        (program_in program.now) state.old.path).returns (option_map value_tree value.now) (steps.caller_of (ahead_at (held s state.old.frames.items) ahead)))) }
+    ensures { (s : Reading) →
+        IfOk result (λ r.
+        Told s state.old state.new r (steps.returns (steps.standing_at at (shown s state.old)) (programs.function_of
+        (program_in program.now) state.old.path).returns (option_map value_tree value.now)
+        (steps.caller_of (ahead_at (held s state.old.frames.items) ahead)))) }
 {
     let path = state.path;
     let caller = take_caller(&mut state.frames, ahead);
@@ -185,7 +200,8 @@ pub fn fall<'a>(
     caller: Caller,
 ) -> Result<Answer, AllocError>
     ensures told { (s : Reading) → Agrees s table.new.rows.items →
-        IfOk result (λ r. Told s state.old state.new r (steps.goes (program_in program.now) chosen.now (shown s state.old) (work.End (caller_in s (held s
+        IfOk result (λ r. Told s state.old state.new r
+        (steps.goes (program_in program.now) chosen.now (shown s state.old) (work.End (caller_in s (held s
         (take number state.old.frames.items)) caller)))) }
     ensures before { (s : Reading) → Agrees s table.new.rows.items → Agrees s table.old.rows.items }
 {
@@ -227,7 +243,9 @@ pub fn enter<'a>(
     number: usize,
 ) -> Result<Answer, AllocError>
     ensures told { (s : Reading) → Agrees s table.new.rows.items →
-        IfOk result (λ r. Told s state.old state.new r (steps.enters (program_in program.now) (shown s state.old) path (work_at (held s state.old.frames.items) number))) }
+        IfOk result (λ r. Told s state.old state.new r
+        (steps.enters (program_in program.now) (shown s state.old) path
+        (work_at (held s state.old.frames.items) number))) }
     ensures before { (s : Reading) → Agrees s table.new.rows.items → Agrees s table.old.rows.items }
 {
     let scope = body_scope(program, table, path)?;
@@ -253,7 +271,9 @@ pub fn leave<'a>(
     caller: Caller,
 ) -> Result<Answer, AllocError>
     ensures told { (s : Reading) → Agrees s table.new.rows.items →
-        IfOk result (λ r. Told s state.old state.new r (steps.comes (shown s state.old) (steps.body_place (program_in program.now) state.old.path) (work.Return (caller_in s
+        IfOk result (λ r. Told s state.old state.new r
+        (steps.comes (shown s state.old) (steps.body_place (program_in program.now) state.old.path)
+        (work.Return (caller_in s
         (held s state.old.frames.items) caller)) (shown s state.old).values)) }
     ensures before { (s : Reading) → Agrees s table.new.rows.items → Agrees s table.old.rows.items }
 {
@@ -268,7 +288,8 @@ pub fn leave<'a>(
 
 // What the entry returns.
 fn result_of(program: &Program<'_>, state: &State<'_>) -> Option<i128>
-    ensures { (s : Reading) → result ≡ steps.result_of (shown s state.now) (programs.function_of (program_in program.now) state.now.path).returns }
+    ensures { (s : Reading) → result
+        ≡ steps.result_of (shown s state.now) (programs.function_of (program_in program.now) state.now.path).returns }
 {
     match returns(program, state.path) {
         None => None,
@@ -278,7 +299,9 @@ fn result_of(program: &Program<'_>, state: &State<'_>) -> Option<i128>
 
 /// Behind the exit.
 pub fn go_back<'a>(program: &Program<'a>, state: &mut State<'a>, caller: Caller) -> Answer
-    ensures { (s : Reading) → Told s state.old state.new result (steps.returned (program_in program.now) (shown s state.old) (caller_in s (held s state.old.frames.items) caller)) }
+    ensures { (s : Reading) → Told s state.old state.new result
+        (steps.returned (program_in program.now) (shown s state.old)
+        (caller_in s (held s state.old.frames.items) caller)) }
 {
     match caller {
         Caller::Nobody => Answer::Returned(result_of(program, state)),
@@ -294,7 +317,8 @@ pub fn go_back<'a>(program: &Program<'a>, state: &mut State<'a>, caller: Caller)
 /// A loop where it begins again.
 pub fn turn_loop<'a>(program: &Program<'a>, state: &mut State<'a>, number: usize) -> Answer
     ensures { (s : Reading) (p : programs.Program) (ch : Numbers) → p ≡ program_in program.now →
-        Told s state.old state.new result (steps.step_of p ch (shown s state.old) (turn (ahead_at (held s state.old.frames.items) number))) }
+        Told s state.old state.new result
+        (steps.step_of p ch (shown s state.old) (turn (ahead_at (held s state.old.frames.items) number))) }
 {
     match loop_at(&state.frames, number) {
         Some(end) => match end.kind {
@@ -328,7 +352,8 @@ ghost use Rattle.pk_graph.specs.Steps.{Numbers};
 /// The way to where a loop begins again.
 pub fn go_back_to_loop<'a>(program: &Program<'a>, state: &mut State<'a>, number: usize) -> Answer
     ensures { (s : Reading) (p : programs.Program) (ch : Numbers) → p ≡ program_in program.now →
-        Told s state.old state.new result (steps.step_of p ch (shown s state.old) (back (ahead_at (held s state.old.frames.items) number))) }
+        Told s state.old state.new result
+        (steps.step_of p ch (shown s state.old) (back (ahead_at (held s state.old.frames.items) number))) }
 {
     match loop_at(&state.frames, number) {
         Some(end) => come(state, end.here, Work::Turn(number)),

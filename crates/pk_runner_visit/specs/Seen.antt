@@ -1,5 +1,5 @@
 -- What is seen of a run.
-use Rattle.std.specs.Prelude.{Bool, if◌then◌else◌, map, Option, Some, None}
+use Rattle.std.specs.Prelude.{if◌then◌else◌, map, Option, Some, None}
 use Rattle.pk_meaning.specs.Programs.{Program}
 use Rattle.pk_meaning.specs.Steps.{Config}
 use Rattle.pk_meaning.specs.Runs as definition

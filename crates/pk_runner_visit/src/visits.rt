@@ -1,6 +1,6 @@
 // What is seen of a run.
 
-ghost use Rattle.std.specs.Prelude.{◌≡◌, ◌≤◌, ◌<◌, ◌++◌, length, map, slice_index_or, IfOk, OnOk, option_map};
+ghost use Rattle.std.specs.Prelude.{◌≡◌, ◌≤◌, ◌<◌, ◌++◌, length, map, IfOk, OnOk, option_map};
 ghost use Rattle.pk_meaning.specs.Objects as definition;
 ghost use Rattle.pk_meaning.specs.Programs.{file_scope};
 ghost use Rattle.pk_meaning.specs.Runs.{known_of};
@@ -33,7 +33,8 @@ pub struct Visit<'a> {
 // The objects of a scope's rows, newest first, and how many of the file's come behind them.
 fn rows_in(alloc: Global, table: &Table, scope: Scope) -> Result<(Vec<Object>, usize), AllocError>
     requires { rows_of_scope scope ≤ length table.now.rows.items }
-    ensures { (s : Reading) → Agrees s table.now.rows.items → IfOk result (λ r. map object_in r.0.items ++ file_scope r.1 ≡ scope_in s scope) }
+    ensures { (s : Reading) → Agrees s table.now.rows.items →
+        IfOk result (λ r. map object_in r.0.items ++ file_scope r.1 ≡ scope_in s scope) }
 {
     let mut list = Vec::new(alloc);
     let mut left = scope;
@@ -64,7 +65,8 @@ fn with_files(list: &mut Vec<Object>, count: usize) -> Result<(), AllocError>
 // The objects in scope, newest first.
 fn in_scope(alloc: Global, table: &Table, scope: Scope) -> Result<Vec<Object>, AllocError>
     requires { rows_of_scope scope ≤ length table.now.rows.items }
-    ensures { (s : Reading) → Agrees s table.now.rows.items → IfOk result (λ xs. map object_in xs.items ≡ scope_in s scope) }
+    ensures { (s : Reading) → Agrees s table.now.rows.items →
+        IfOk result (λ xs. map object_in xs.items ≡ scope_in s scope) }
 {
     let (mut list, count) = rows_in(alloc, table, scope)?;
     with_files(&mut list, count)?;
@@ -106,7 +108,8 @@ fn is_among(object: Object, list: &[Object]) -> bool
 
 // Whether the last step came to a visit, where these objects are in scope.
 fn is_seen(visited: Visited, list: &[Object]) -> bool
-    ensures { (s : Reading) (c : state.State) → map object_in list.now ≡ scope_in s c.here.scope → result ≡ is_visit s c visited }
+    ensures { (s : Reading) (c : state.State) → map object_in list.now ≡ scope_in s c.here.scope →
+        result ≡ is_visit s c visited }
 {
     match visited {
         Visited::No => false,
@@ -120,7 +123,8 @@ fn all_known<'a>(
     objects: &Objects,
     list: &[Object],
 ) -> Result<Vec<Known<'a>>, AllocError>
-    ensures { IfOk result (λ known. map known_in known.items ≡ map (known_of (program_in program.now) (objects_in objects.now)) (map object_in list.now)) }
+    ensures { IfOk result (λ known. map known_in known.items
+        ≡ map (known_of (program_in program.now) (objects_in objects.now)) (map object_in list.now)) }
 {
     let mut known = Vec::new(program.alloc);
     for place in 0..list.len() {
@@ -141,7 +145,8 @@ pub fn seen<'a>(
     table: &Table,
 ) -> Result<Option<Visit<'a>>, AllocError>
     requires { rows_of_scope state.now.here.scope ≤ length table.now.rows.items }
-    ensures { (s : Reading) → Agrees s table.now.rows.items → IfOk result (λ v. option_map visit_in v ≡ visit_if (program_in program.now) (shown s state.now)) }
+    ensures { (s : Reading) → Agrees s table.now.rows.items →
+        IfOk result (λ v. option_map visit_in v ≡ visit_if (program_in program.now) (shown s state.now)) }
 {
     let list = in_scope(program.alloc, table, state.here.scope)?;
     if is_seen(state.visited, &list) {

@@ -13,7 +13,7 @@ use Rattle.pk_ctypes.specs.declared.types.IntType.TheVariants.{Int}
 use Rattle.pk_ctypes.specs.Types.{InType, is_in_type}
 use Rattle.pk_ctypes.proofs.Values.{cases_of_type}
 use Rattle.pk_congr.specs.Classes.{constant}
-use Rattle.pk_congr.proofs.Numbers.{both_true, rest_member, every_member}
+use Rattle.pk_congr.proofs.Numbers.{both_true, rest_member}
 use Rattle.pk_graph.specs.Kinds.{Kind, kind_at, count_of, count_at}
 use Rattle.pk_graph.specs.Graphs.{VariableOf, StartOf, any_start, number_start, GraphOf, no_variable, variable_at, kinds_of}
 use Rattle.pk_graph.specs.WellMade.{IsGraph, IsStartOf}
@@ -30,11 +30,12 @@ use Rattle.pk_state.specs.Facts.{AreFacts, known_at}
 use Rattle.pk_state.specs.Members.{selected, Member}
 use Rattle.pk_state.specs.Changes.{IsValue}
 use Rattle.pk_state.proofs.Held.{values_from}
-use Rattle.pk_state.proofs.Tops.{top_stays}
+use Rattle.pk_state.proofs.Tops.{top_stays, any_value}
 use Rattle.pk_transfer.specs.Trees.{IsOver}
+use Rattle.pk_transfer.proofs.Transferring.{any_is}
 use Rattle.pk_analysis.specs.Starts.{joined_with, known_of_numbers, known_of_start, start_known, start_facts}
 use Rattle.pk_sound.specs.Runs.{BeginsWith, Begins}
-use Rattle.pk_sound.proofs.Values_stay.{any_value, exactly_value}
+use Rattle.pk_sound.proofs.Values_stay.{exactly_value}
 use Rattle.pk_sound.proofs.Facts_stay.{joined_value}
 use Rattle.pk_sound.proofs.Padding.{zero_of, past_at, pad, padded_each, some_padded, numbers_padded, kind_up, store_up, over_up}
 
@@ -48,9 +49,6 @@ all_are t (z ∷ zs) zero h j = told (cases_of_type t z)
     told (inl e) = e
     told (inr e) = absurd (cc ((both_true (is_in_type t z) (all_in_type t zs) h).0, e.0))
 all_are t (z ∷ zs) (suc i) h j = all_are t zs i (both_true (is_in_type t z) (all_in_type t zs) h).1 (omega (arith, j))
-
-any_of_type : (t : IntType) (z : ℤ) → InType t z → IsOf (any_of t) z
-any_of_type t z h = record { in_range = record { from = h.from; to = h.to }; in_class = every_member z }
 
 -- ---- given numbers, and 0 for the others
 
@@ -124,8 +122,8 @@ start_numbers x any_start zs h b =
     record {
       count = same_count (length zs) n both.0;
       fits = λ i p. all_are t zs i both.1 p;
-      known = λ i p. any_of_type t (number_at zs i) (all_are t zs i both.1 p);
-      none = λ e. any_of_type t (pos 0) (zero_of t);
+      known = λ i p. any_is t (number_at zs i) (all_are t zs i both.1 p);
+      none = λ e. any_is t (pos 0) (zero_of t);
     }
 start_numbers x (number_start ns) zs h b =
     let n = count_of x.kind.length in

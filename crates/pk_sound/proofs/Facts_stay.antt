@@ -1,5 +1,5 @@
 -- Of a layout's facts an instruction makes facts of the layout.
-use Rattle.std.specs.Prelude.{◌≡◌, ℕ, zero, suc, ◌<◌, ◌*◌, ◌/◌, ◌^◌, Bool, true, false, if◌then◌else◌, ℤ, pos, negsuc, ◌+ℤ◌, ◌-ℤ◌, ◌≤ℤ◌, int_le, unsigned_abs, List, [], ◌∷◌, length, Option, Some, None, IfSome}
+use Rattle.std.specs.Prelude.{◌≡◌, ℕ, zero, suc, ◌<◌, ◌*◌, ◌/◌, ◌^◌, Bool, true, false, if◌then◌else◌, ℤ, pos, ◌+ℤ◌, ◌-ℤ◌, ◌≤ℤ◌, int_le, unsigned_abs, List, [], ◌∷◌, length, Option, Some, None, IfSome}
 use Rattle.std.specs.Ordering.{int_eq}
 use Rattle.std.specs.Int.{int_min, int_max}
 use Rattle.std.proofs.Common.{arith, refl, sym, subst, inr, ◌∙◌}
@@ -15,7 +15,7 @@ use Rattle.pk_interval.proofs.Keeping.{stays}
 use Rattle.pk_congr.specs.Classes.{Class, IsReduced, is_held, rest_modulo, class_of, are_apart, int_gcd, int_lcm, gcd, first_in, met_of}
 use Rattle.pk_congr.specs.Classes as classes
 use Rattle.pk_congr.proofs.Numbers.{test_held, rest_of_some, tested_some}
-use Rattle.pk_congr.proofs.Meets.{lcm_by_left}
+use Rattle.pk_congr.proofs.Meets.{lcm_by_left, some_abs}
 use Rattle.pk_congr.proofs.Gcd.{gcd_left}
 use Rattle.pk_congr.proofs.Solutions.{part_some}
 use Rattle.pk_graph.specs.Trees.{TreeOf, constant, variable, converted, unary, binary, InstrOf, Skip, Set, Havoc, Clear, Load, Store, Guard, Check}
@@ -41,14 +41,10 @@ use Rattle.pk_transfer.proofs.Refining.{part_in, met_in}
 use Rattle.pk_transfer.proofs.Passing.{condition_typed}
 use Rattle.pk_value.specs.Values.{is_constant}
 use Rattle.pk_sound.specs.Staying.{TransfersStay}
-use Rattle.pk_sound.proofs.Values_stay.{any_value, Reduced, if_reduced, exactly_value, variable_value, tree_stays}
+use Rattle.pk_sound.proofs.Values_stay.{Reduced, if_reduced, exactly_value, variable_value, tree_stays}
+use Rattle.pk_state.proofs.Tops.{any_value}
 
 -- ---- meets of classes
-
-some_abs : (a : ℤ) → (a ≡ pos 0 → ⊥) → 0 < unsigned_abs a
-some_abs (pos zero) h = absurd (h refl)
-some_abs (pos (suc n)) h = omega arith
-some_abs (negsuc n) h = omega arith
 
 product_some : (a b : ℕ) → 0 < a → 0 < b → 0 < a * b
 product_some zero b h k = absurd (omega arith)

@@ -11,7 +11,6 @@ use Rattle.pk_ctypes.specs.declared.types.Op.TheVariants.{Add, Sub, Mul, Div, Re
 use Rattle.pk_ctypes.specs.declared.faults.Fault.{Fault}
 use Rattle.pk_ctypes.specs.Types.{low_of, high_of, width_of, size_of, is_signed_of, InType, wrapped}
 use Rattle.pk_ctypes.specs.Operators.{value_of, result_type}
-use Rattle.pk_ctypes.proofs.Wrapped.{zero_in}
 use Rattle.pk_interval.specs.declared.outcome.Outcome.{Outcome}
 use Rattle.pk_interval.specs.declared.outcome.Outcome.TheVariants.{Empty, Within, TooLarge}
 use Rattle.pk_interval.specs.Ranges.{Range, IsIn, single, whole, range_from, joined}
@@ -25,10 +24,10 @@ use Rattle.pk_congr.specs.Operators.{result_of, wrapped_class, are_products_held
 use Rattle.pk_congr.proofs.Numbers.{both_true, class_reduced, test_held}
 use Rattle.pk_graph.specs.Trees.{TreeOf, constant as constant_tree, variable, converted as converted_tree, unary, binary}
 use Rattle.pk_graph.specs.Kinds.{type_of, IsTyped}
-use Rattle.pk_value.specs.Known.{Known, any_of, exactly, red_known}
+use Rattle.pk_value.specs.Known.{Known, exactly, red_known}
 use Rattle.pk_value.specs.Values.{one_if, compared, red_as, fitted, from_table, is_constant, exact_if, operated, converted}
 use Rattle.pk_value.proofs.Reducing.{constant_of}
-use Rattle.pk_value.proofs.Sound.{value_in, natural}
+use Rattle.pk_value.proofs.Sound.{value_in, natural, product_from_zero as product_natural}
 use Rattle.pk_state.specs.Layouts.{Layout, type_at}
 use Rattle.pk_state.specs.Facts.{Facts, AreFactsIf}
 use Rattle.pk_state.specs.Changes.{known_in, IsValue}
@@ -37,9 +36,7 @@ use Rattle.pk_state.proofs.Held.{every_reduced}
 use Rattle.pk_state.proofs.Stays.{red_value}
 use Rattle.pk_transfer.specs.Trees.{known_with, tree_known, kind_of, kinds_of}
 use Rattle.pk_transfer.proofs.Told.{kinds_type}
-
-pub any_value : (t : IntType) → IsValue t (any_of t)
-any_value t = let z = zero_in t in record { inside = stays.whole_in t; some = omega (arith, ints, z.0, z.1); class = every_reduced }
+use Rattle.pk_state.proofs.Tops.{any_value}
 
 -- ---- results have a number
 
@@ -207,10 +204,6 @@ if_reduced m r h = by (is_held m && is_held r) refl
 either_reduced : (b : Bool) (c : Class) → Reduced c → Reduced (if b then c else every)
 either_reduced true c h = h
 either_reduced false c h = every_reduced
-
-product_natural : (z : ℤ) (n : ℕ) → pos 0 ≤ℤ z → pos 0 ≤ℤ (z *ℤ pos n)
-product_natural (pos k) n h = omega (arith, ints)
-product_natural (negsuc k) n h = absurd (omega (arith, ints))
 
 result_reduced : (op : Op) (t : IntType) (a b : Class) → Reduced a → Reduced (result_of op t a b)
 result_reduced Add t a b h = if_reduced (int_gcd a.m b.m) (a.r +ℤ b.r) (natural _)

@@ -26,8 +26,10 @@ IsHidden Skip at s = ⊥
 IsHidden (Set x e) at s = ⊥
 IsHidden (Havoc x t n) at s = ⊥
 IsHidden (Clear a) at s = ⊥
-IsHidden (Load x a place b i) at s = (b ≡ false) × (place ≡ at) × (z : ℤ) × (tree_value storing i s ≡ Ok z) × (is_index a.length z ≡ false)
-IsHidden (Store a place b i e) at s = (b ≡ false) × (place ≡ at) × (z : ℤ) × (tree_value storing i s ≡ Ok z) × (is_index a.length z ≡ false)
+IsHidden (Load x a place b i) at s =
+    (b ≡ false) × (place ≡ at) × (z : ℤ) × (tree_value storing i s ≡ Ok z) × (is_index a.length z ≡ false)
+IsHidden (Store a place b i e) at s =
+    (b ≡ false) × (place ≡ at) × (z : ℤ) × (tree_value storing i s ≡ Ok z) × (is_index a.length z ≡ false)
 IsHidden (Guard e b) at s = ⊥
 IsHidden (Check place e) at s = ⊥
 
@@ -41,16 +43,20 @@ pub record IsFailing (p : ℕ) (i : InstrOf ℕ) (w : Failure) (s : Stored) (acc
 -- A step that faults does so at an access of its instruction, or at an index that is none.
 abbrev pub FaultsAreAccesses : Type 0
 FaultsAreAccesses =
-    (ks : Kinds) (p : ℕ) (i : InstrOf ℕ) (chosen : Numbers) (s : Stored) (w : Failure) → IsTypedInstr ks i → IsStore ks s → effect storing chosen i s ≡ Faulted w
+    (ks : Kinds) (p : ℕ) (i : InstrOf ℕ) (chosen : Numbers) (s : Stored) (w : Failure) → IsTypedInstr ks i →
+    IsStore ks s → effect storing chosen i s ≡ Faulted w
     → ((access : AccessOf) × IsFailing p i w s access) ⊎ IsHidden i w.site s
 
 -- the verdict on an access of point p is that nothing is known
 abbrev pub IsUnknownAt : Flow → Outcome (Cell Stated) → ℕ → AccessOf → Type 0
-IsUnknownAt a it p access = (lo : ℤ) × (hi : ℤ) × (verdict_of a.layout (reduced_at_point a it p) access.operation ≡ Unknown lo hi)
+IsUnknownAt a it p access =
+    (lo : ℤ) × (hi : ℤ) × (verdict_of a.layout (reduced_at_point a it p) access.operation ≡ Unknown lo hi)
 
 -- A run that faults does so at an access of which the verdict is unknown, or at an index that is no access.
 abbrev pub FaultsAreUnknown : Type 0
 FaultsAreUnknown =
-    (g : GraphOf) (o : Options) (q : PlanView) (order : Level) (a : Flow) (most : ℕ) (it : Outcome (Cell Stated)) → IsAnalysed g o q order a most it
-    → (p : ℕ) (s : Stored) (e : EdgeOf) (chosen : Numbers) (w : Failure) → Reaches g p s → Contains (point_at g p).edges e → effect storing chosen e.instr s ≡ Faulted w
+    (g : GraphOf) (o : Options) (q : PlanView) (order : Level) (a : Flow) (most : ℕ) (it : Outcome (Cell Stated)) →
+    IsAnalysed g o q order a most it
+    → (p : ℕ) (s : Stored) (e : EdgeOf) (chosen : Numbers) (w : Failure) → Reaches g p s →
+    Contains (point_at g p).edges e → effect storing chosen e.instr s ≡ Faulted w
     → ((access : AccessOf) × IsFailing p e.instr w s access × IsUnknownAt a it p access) ⊎ IsHidden e.instr w.site s

@@ -37,4 +37,5 @@ pub record IsHeldAt (g : GraphOf) (a : Flow) (it : Outcome (Cell Stated)) (v : �
 -- Each store with which some run comes to a point agrees with what the result knows there.
 abbrev pub ResultHoldsRuns : Type 0
 ResultHoldsRuns =
-    (g : GraphOf) (o : Options) (p : PlanView) (order : Level) (a : Flow) (most : ℕ) (it : Outcome (Cell Stated)) → IsAnalysed g o p order a most it → (v : ℕ) (s : Stored) → Reaches g v s → IsHeldAt g a it v s
+    (g : GraphOf) (o : Options) (p : PlanView) (order : Level) (a : Flow) (most : ℕ) (it : Outcome (Cell Stated)) →
+    IsAnalysed g o p order a most it → (v : ℕ) (s : Stored) → Reaches g v s → IsHeldAt g a it v s

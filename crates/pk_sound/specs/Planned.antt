@@ -20,4 +20,6 @@ pub record GoesByPlan (p : PlanView) (order : Level) (a : Flow) : Type 0 where
   pub ahead : SourcesAhead (equations_of a) order
 
 abbrev pub AnalysesGoByPlan : Type 0
-AnalysesGoByPlan = (g : GraphOf) (o : Options) (p : PlanView) (order : Level) (a : Flow) → IsGraph g → IsAnalysisOf g p o a → IsOrdered (digraph_of g) p order → GoesByPlan p order a
+AnalysesGoByPlan =
+    (g : GraphOf) (o : Options) (p : PlanView) (order : Level) (a : Flow) → IsGraph g → IsAnalysisOf g p o a →
+    IsOrdered (digraph_of g) p order → GoesByPlan p order a

@@ -18,7 +18,8 @@ use Rattle.pk_analysis.specs.Flows.{Flow, stated, equation, equations_of, reduce
 use Rattle.pk_analysis.specs.Made.{IsAnalysisOf}
 
 -- The analysis of a graph by the plan of its digraph, iterated in the plan's linear order. That the octagon's variables are counted in 31 bits is what the analysis asks when it is made.
-pub record IsAnalysed (g : GraphOf) (o : Options) (p : PlanView) (order : Level) (a : Flow) (most : ℕ) (it : Outcome (Cell Stated)) : Type 0 where
+pub record IsAnalysed (g : GraphOf) (o : Options) (p : PlanView) (order : Level) (a : Flow) (most : ℕ)
+    (it : Outcome (Cell Stated)) : Type 0 where
   pub graph : IsGraph g
   pub oct : o.oct < 2 ^ 31
   pub analysis : IsAnalysisOf g p o a

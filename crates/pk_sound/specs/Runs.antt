@@ -13,4 +13,5 @@ HasElements g = All (λ (x : VariableOf). 0 < count_of x.kind.length) g.variable
 -- Some run comes to a point with a store: it begins at point 0, and each step goes over an edge of its point, with any numbers where some are chosen.
 pub data Reaches (g : GraphOf) : ℕ → Stored → Type 0 where
   begins : {s : Stored} → Begins g s → Reaches g 0 s
-  steps : {p : ℕ} {s t : Stored} {e : EdgeOf} (chosen : Numbers) → Reaches g p s → Contains (point_at g p).edges e → effect storing chosen e.instr s ≡ To t → Reaches g e.to t
+  steps : {p : ℕ} {s t : Stored} {e : EdgeOf} (chosen : Numbers) → Reaches g p s → Contains (point_at g p).edges e →
+      effect storing chosen e.instr s ≡ To t → Reaches g e.to t

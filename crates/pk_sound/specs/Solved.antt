@@ -18,4 +18,5 @@ pub record IsSolvedAt (g : GraphOf) (a : Flow) (it : Outcome (Cell Stated)) (v :
 
 abbrev pub ResultIsSolved : Type 0
 ResultIsSolved =
-    (g : GraphOf) (o : Options) (p : PlanView) (order : Level) (a : Flow) (most : ℕ) (it : Outcome (Cell Stated)) → IsAnalysed g o p order a most it → (v : ℕ) → v < length g.points → IsSolvedAt g a it v
+    (g : GraphOf) (o : Options) (p : PlanView) (order : Level) (a : Flow) (most : ℕ) (it : Outcome (Cell Stated)) →
+    IsAnalysed g o p order a most it → (v : ℕ) → v < length g.points → IsSolvedAt g a it v

@@ -24,26 +24,36 @@ abbrev pub IsEvaluatedIn : OperationOf → Stored → Type 0
 IsEvaluatedIn (Index n i) s = (z : ℤ) × (tree_value storing i s ≡ Ok z)
 IsEvaluatedIn (Divisor a b) s = (x : ℤ) × (y : ℤ) × (tree_value storing a s ≡ Ok x) × (tree_value storing b s ≡ Ok y)
 IsEvaluatedIn (Negation t e) s = (x : ℤ) × (tree_value storing e s ≡ Ok x)
-IsEvaluatedIn (Result op t a b) s = (x : ℤ) × (y : ℤ) × (tree_value storing a s ≡ Ok x) × (tree_value storing b s ≡ Ok y)
+IsEvaluatedIn (Result op t a b) s =
+    (x : ℤ) × (y : ℤ) × (tree_value storing a s ≡ Ok x) × (tree_value storing b s ≡ Ok y)
 IsEvaluatedIn (Shift op t a b) s = (x : ℤ) × (y : ℤ) × (tree_value storing a s ≡ Ok x) × (tree_value storing b s ≡ Ok y)
 IsEvaluatedIn (Assertion e) s = (z : ℤ) × (tree_value storing e s ≡ Ok z)
 
 -- It comes there, and the operation faults: an index is none of 0 to n - 1, a divisor is 0, a result lies outside of its type, a shift has no value, an assertion is false.
 abbrev pub FaultsIn : OperationOf → Stored → Type 0
 FaultsIn (Index n i) s = (z : ℤ) × (tree_value storing i s ≡ Ok z) × (is_index n z ≡ false)
-FaultsIn (Divisor a b) s = (x : ℤ) × (y : ℤ) × (tree_value storing a s ≡ Ok x) × (tree_value storing b s ≡ Ok y) × (y ≡ pos 0)
+FaultsIn (Divisor a b) s =
+    (x : ℤ) × (y : ℤ) × (tree_value storing a s ≡ Ok x) × (tree_value storing b s ≡ Ok y) × (y ≡ pos 0)
 FaultsIn (Negation t e) s = (x : ℤ) × (tree_value storing e s ≡ Ok x) × (value_of Neg t x x ≡ Err faults.Overflow)
-FaultsIn (Result op t a b) s = (x : ℤ) × (y : ℤ) × (tree_value storing a s ≡ Ok x) × (tree_value storing b s ≡ Ok y) × (value_of op t x y ≡ Err faults.Overflow)
-FaultsIn (Shift op t a b) s = (x : ℤ) × (y : ℤ) × (tree_value storing a s ≡ Ok x) × (tree_value storing b s ≡ Ok y) × (value_of op t x y ≡ Err faults.Shift)
+FaultsIn (Result op t a b) s =
+    (x : ℤ) × (y : ℤ) × (tree_value storing a s ≡ Ok x) × (tree_value storing b s ≡ Ok y)
+    × (value_of op t x y ≡ Err faults.Overflow)
+FaultsIn (Shift op t a b) s =
+    (x : ℤ) × (y : ℤ) × (tree_value storing a s ≡ Ok x) × (tree_value storing b s ≡ Ok y)
+    × (value_of op t x y ≡ Err faults.Shift)
 FaultsIn (Assertion e) s = (z : ℤ) × (tree_value storing e s ≡ Ok z) × (is_true z ≡ false)
 
 -- the verdict on an access, by the reduced state of its point, holds in a store
 pub record IsRightIn (a : Flow) (it : Outcome (Cell Stated)) (access : AccessOf) (s : Stored) : Type 0 where
-  pub safe : verdict_of a.layout (reduced_at_point a it access.point) access.operation ≡ Safe → FaultsIn access.operation s → ⊥
-  pub unreachable : verdict_of a.layout (reduced_at_point a it access.point) access.operation ≡ Unreachable → IsEvaluatedIn access.operation s → ⊥
+  pub safe : verdict_of a.layout (reduced_at_point a it access.point) access.operation ≡ Safe →
+      FaultsIn access.operation s → ⊥
+  pub unreachable : verdict_of a.layout (reduced_at_point a it access.point) access.operation ≡ Unreachable →
+      IsEvaluatedIn access.operation s → ⊥
 
 -- No run faults at an access that is safe, and none evaluates one that is unreachable.
 abbrev pub VerdictsHold : Type 0
 VerdictsHold =
-    (g : GraphOf) (o : Options) (p : PlanView) (order : Level) (a : Flow) (most : ℕ) (it : Outcome (Cell Stated)) → IsAnalysed g o p order a most it
-    → (access : AccessOf) (s : Stored) → Contains (accesses_of g) access → Reaches g access.point s → IsRightIn a it access s
+    (g : GraphOf) (o : Options) (p : PlanView) (order : Level) (a : Flow) (most : ℕ) (it : Outcome (Cell Stated)) →
+    IsAnalysed g o p order a most it
+    → (access : AccessOf) (s : Stored) → Contains (accesses_of g) access → Reaches g access.point s →
+    IsRightIn a it access s

@@ -1,5 +1,5 @@
 -- Octagons that stay closed.
-use Rattle.std.specs.Prelude.{◌≡◌, ◌≢◌, ◌⊎◌, ℕ, suc, ◌/◌, ◌%◌, ◌==◌, if◌then◌else◌, pos, neg_ℤ, ◌-ℤ◌, Bool, false, ◌<◌, ◌+◌, ◌*◌, ℤ, List, true, Option, Some, None}
+use Rattle.std.specs.Prelude.{◌≡◌, ◌≢◌, ◌⊎◌, ℕ, ◌/◌, ◌%◌, ◌==◌, if◌then◌else◌, pos, neg_ℤ, ◌-ℤ◌, Bool, false, ◌<◌, ◌+◌, ◌*◌, ℤ, List, true, Option, Some, None}
 use Rattle.std.proofs.Common.{◌∙◌, ap, sym, subst, refl, arith, length, inl, inr}
 use Rattle.std.proofs.lemmas.Bool.{cases_eq}
 use Rattle.std.proofs.lemmas.Bool.Decides.{nat_tests}
@@ -16,8 +16,7 @@ use Rattle.pk_octops.specs.Assigns.{assignment_of, assigned, gain, source, moved
 use Rattle.pk_octops.proofs.Along.{gain_bar}
 use Rattle.pk_octclose.specs.Laws.{IsInside}
 use Rattle.pk_octops.proofs.Kept.{values_kept}
-use Rattle.pk_state.specs.Layouts.{Layout, chosen_at}
-use Rattle.pk_state.specs.Facts.{known_at}
+use Rattle.pk_state.specs.Layouts.{Layout}
 use Rattle.pk_state.specs.Reduced.{by_range, by_ranges}
 use Rattle.pk_value.specs.Known.{Known}
 use Rattle.pk_state.proofs.Octs.{by_ranges_vars, by_ranges_octagon}
@@ -95,12 +94,6 @@ closing_closed m r h e z =
 -- what is closed, and lowered nowhere, is its own closing
 pub own_closing : (m n : Octagon) → IsOctagon m → IsClosedIf true m → n ≡ m → Some m ≡ closing_of n
 own_closing m n h f e = sym (closing_right.again m h (f refl)) ∙ ap closing_of (sym e)
-
--- one range more that lowers nothing
-pub ranges_more : (l : Layout) (vs : List Known) (k x : ℕ) (m : Octagon) (v : Known) → by_ranges l vs k m ≡ m → x ≡ chosen_at l k → known_at vs x ≡ v → by_range m k v.range ≡ m → by_ranges l vs (k + 1) m ≡ m
-ranges_more l vs k x m v h c e f =
-    let n : k + 1 ≡ suc k = omega arith in
-    rw n (ap (λ o. by_range o k (known_at vs (chosen_at l k)).range) h ∙ ap (λ y. by_range m k (known_at vs y).range) (sym c) ∙ ap (λ (u : Known). by_range m k u.range) e ∙ f)
 
 pub reduced_vars : (l : Layout) (vs : List Known) (m r : Octagon) → m.vars ≡ length l.chosen → IsOctagon m → closing_of (by_ranges l vs (length l.chosen) m) ≡ Some r → r.vars ≡ length l.chosen
 reduced_vars l vs m r v h e =

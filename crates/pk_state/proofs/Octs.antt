@@ -1,5 +1,5 @@
 -- Lowering an octagon by ranges.
-use Rattle.std.specs.Prelude.{◌≡◌, ◌⊎◌, ℕ, zero, suc, ◌+◌, ◌*◌, ◌/◌, ◌%◌, ◌==◌, ◌&&◌, ◌||◌, if◌then◌else◌, Bool, true, false, ◌<◌, ◌≤◌, ◌^◌, ℤ, pos, neg_ℤ, ◌+ℤ◌, ◌-ℤ◌, ◌≤ℤ◌, int_lt, List, Option, Some, None}
+use Rattle.std.specs.Prelude.{◌≡◌, ◌⊎◌, ℕ, zero, suc, ◌+◌, ◌*◌, ◌==◌, ◌&&◌, ◌||◌, if◌then◌else◌, Bool, true, false, ◌<◌, ◌≤◌, ◌^◌, ℤ, pos, neg_ℤ, ◌+ℤ◌, ◌-ℤ◌, ◌≤ℤ◌, List, Option, Some, None}
 use Rattle.std.proofs.Common.{◌∙◌, ap, refl, sym, subst, arith, inl, inr}
 use Rattle.std.proofs.lemmas.Bool.{cases_lt}
 use Rattle.std.proofs.lemmas.Bool.Decides.{nat_tests}
@@ -22,7 +22,7 @@ use Rattle.pk_octmat.proofs.Tropical.{at_most_trans, lesser_left}
 use Rattle.pk_octops.specs.Guards.{guarded, guard_of}
 use Rattle.pk_octops.proofs.Along.{lowered_holds, one_term}
 use Rattle.pk_octops.proofs.Kept.{values_kept, written_below}
-use Rattle.pk_octops.proofs.Sound.{meets_from}
+use Rattle.pk_octops.proofs.Sound.{meets_from, side_of, side_back}
 use Rattle.pk_value.specs.Known.{Known}
 use Rattle.pk_interval.specs.Ranges.{Range, Holds}
 use Rattle.pk_state.specs.Layouts.{Layout, chosen_at}
@@ -47,18 +47,6 @@ at_most_falls m a c x h p = record { each = λ i j. by i j (cases_lt i (2 * m.va
         (written_below (entry m) (bar a) a (lesser (entry m (bar a) a) (capped (Some (c +ℤ c)))) i j h.whole.coherent.turned (lesser_left (entry m (bar a) a) (capped (Some (c +ℤ c)))))
     by i j (inl id) (inr g) = rw (cell_column_out (2 * m.vars) m.cells i j g) tt
     by i j (inr g) q = rw (cell_row_out (2 * m.vars) m.cells i j g) tt
-
-side_of : (x : ℕ → ℤ) (k : ℕ) → side x (2 * k) ≡ x k
-side_of x k =
-    let even : ((2 * k) % 2 == 0) ≡ true = grind (arith, nat_tests) in
-    let half : (2 * k) / 2 ≡ k = omega arith in
-    rw even (rw half refl)
-
-side_back : (x : ℕ → ℤ) (k : ℕ) → side x (2 * k + 1) ≡ neg_ℤ (x k)
-side_back x k =
-    let odd : ((2 * k + 1) % 2 == 0) ≡ false = grind (arith, nat_tests) in
-    let half : (2 * k + 1) / 2 ≡ k = omega arith in
-    rw odd (rw half refl)
 
 pub by_range_kept : (m : Octagon) (k : ℕ) (r : Range) (x : ℕ → ℤ) → Meets (entry m) x → Holds r (x k) → Meets (entry (by_range m k r)) x
 by_range_kept m k r x h p =
@@ -138,13 +126,6 @@ guard_same m a b c h e =
       vars = refl;
       each = λ i j p q. sym (ap (λ x. written (entry m) (bar b) a x i j) e ∙ written_own (entry m) (bar b) a i j (h.whole.coherent.turned (bar b) a));
     })))
-
-pub guard_free : (m : Octagon) (b : Option ℕ) (c : ℤ) → pos 0 ≤ℤ c → guard_of m None b c ≡ Some m
-guard_free m b c h = by (int_lt c (pos 0)) refl
-  where
-    by : (t : Bool) → int_lt c (pos 0) ≡ t → (if t then None else Some m) ≡ Some m
-    by true e = absurd (omega (arith, ints, e, h))
-    by false e = refl
 
 pub by_range_same : (m : Octagon) (k : ℕ) (r : Range) → IsOctagon m → lesser (entry m (2 * k + 1) (2 * k)) (capped (Some (r.hi +ℤ r.hi))) ≡ entry m (2 * k + 1) (2 * k)
     → lesser (entry m (2 * k) (2 * k + 1)) (capped (Some (neg_ℤ r.lo +ℤ neg_ℤ r.lo))) ≡ entry m (2 * k) (2 * k + 1) → by_range m k r ≡ m

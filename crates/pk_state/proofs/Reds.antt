@@ -71,9 +71,6 @@ pub record IsEmptyAt (vs : List Known) : Type 0 where
   pub place : at < length vs
   pub empty : red_known (known_at vs at) ≡ None
 
-empty_first : (o : Option Known) (p : Option (List Known)) → with_first o p ≡ None → (v : Option Known) × (o ≡ v) × (u : Option (List Known)) × (p ≡ u)
-empty_first o p e = (o, refl, p, refl)
-
 pub empty_of : (vs : List Known) → red_all vs ≡ None → IsEmptyAt vs
 empty_of [] e = absurd (cc)
 empty_of (k ∷ ks) e = by (red_known k) refl (red_all ks) refl e (λ f. empty_of ks f)

@@ -1,5 +1,5 @@
 -- What is made of a layout's values and facts is of the layout.
-use Rattle.std.specs.Prelude.{◌≡◌, ◌≢◌, ◌⊎◌, ℕ, zero, suc, ◌+◌, ◌-◌, ◌*◌, ◌<◌, ◌≤◌, Bool, true, false, if◌then◌else◌, ℤ, int_le, List, [], ◌∷◌, ◌++◌, length, slice_get, Option, Some, None, IfSome}
+use Rattle.std.specs.Prelude.{◌≡◌, ◌≢◌, ◌⊎◌, ℕ, zero, suc, ◌+◌, ◌-◌, ◌*◌, ◌<◌, Bool, true, false, if◌then◌else◌, ℤ, int_le, List, [], ◌∷◌, ◌++◌, length, slice_get, Option, Some, None, IfSome}
 use Rattle.std.proofs.Common.{◌∙◌, ap, refl, sym, subst, arith, inl, inr, set, take, drop, length-set}
 use Rattle.std.proofs.lemmas.Int.{ints}
 use Rattle.std.proofs.lemmas.Bool.{cases_eq}
@@ -133,14 +133,6 @@ merged_size f i [] (y ∷ ys) k e = absurd (omega arith)
 merged_size f i (x ∷ xs) [] k e = absurd (omega arith)
 merged_size f i (x ∷ xs) (y ∷ ys) zero e = refl
 merged_size f i (x ∷ xs) (y ∷ ys) (suc k) e = omega (arith, merged_size f (i + 1) xs ys k (omega arith))
-
-pub merged_end : (f : ℕ → Known → Known → Known) (i : ℕ) (xs ys : List Known) (k : ℕ) → length xs ≤ k → length xs ≡ length ys → merged_from f i (take k xs) (take k ys) ++ drop k xs ≡ merged_from f i xs ys
-merged_end f i [] [] zero p e = refl
-merged_end f i [] [] (suc k) p e = refl
-merged_end f i [] (y ∷ ys) k p e = absurd (omega arith)
-merged_end f i (x ∷ xs) [] k p e = absurd (omega arith)
-merged_end f i (x ∷ xs) (y ∷ ys) zero p e = absurd (omega arith)
-merged_end f i (x ∷ xs) (y ∷ ys) (suc k) p e = ap (λ t. f i x y ∷ t) (merged_end f (i + 1) xs ys k (omega arith) (omega arith))
 
 -- one more is merged
 pub merged_step : (f : ℕ → Known → Known → Known) (xs ys out news : List Known) (k : ℕ) (a b : Known) → out ≡ merged_from f 0 (take k xs) (take k ys) ++ drop k xs → k < length xs → length xs ≡ length ys

@@ -23,7 +23,7 @@ top_set [] k p = absurd (omega arith)
 top_set (t ∷ ts) zero p = refl
 top_set (t ∷ ts) (suc k) p = ap (λ vs. any_of t ∷ vs) (top_set ts k (omega arith))
 
-any_value : (t : IntType) → IsValue t (any_of t)
+pub any_value : (t : IntType) → IsValue t (any_of t)
 any_value t = let z = zero_in t in record { inside = stays.whole_in t; some = omega (arith, ints, z.0, z.1); class = every_reduced }
 
 pub top_stays : (l : Layout) → IsLayout l → AreFacts l (top_facts l)

@@ -61,17 +61,29 @@ IsApart l x = (j : ℕ) → j < length l.chosen → chosen_at l j ≢ x
 -- Each number is one that is known; what is known of the numbers of a variable may be written; a store in which a variable gets numbers is one of the state in which
 -- they are known, after an assignment where the octagon is over the variable; a guard keeps the stores that obey it.
 pub record ChangesAreSound : Type 0 where
-  pub known : (l : Layout) (f : Option Facts) (s : Stored) (x i : ℕ) → AreFactsIf l f → Member l f s → x < length l.types → i < length (numbers_of s x) → IsOneOf (known_in f x) (number_at (numbers_of s x) i)
-  pub some : (l : Layout) (f : Option Facts) (s : Stored) (x : ℕ) → AreFactsIf l f → Member l f s → x < length l.types → 0 < length (numbers_of s x)
-  pub refined : (l : Layout) (f : Option Facts) (s : Stored) (x : ℕ) (k : Known) → AreFactsIf l f → Member l f s → AreNumbersOf k (numbers_of s x) → Member l (with_known f x k) s
-  pub written : (l : Layout) (f : Option Facts) (s : Stored) (x : ℕ) (k : Known) (zs : Numbers) → AreFactsIf l f → Member l f s → IsLayout l → x < length l.types → IsApart l x → AreNumbersOf k zs → Member l (with_known f x k) (slice_set s x zs)
-  pub assigned : (l : Layout) (f : Option Facts) (s : Stored) (j : ℕ) (t : Option ℕ) (c z : ℤ) (k : Known) → AreFactsIf l f → Member l f s → IsLayout l → j < length l.chosen → Gives (selected l.chosen s) t c z → IsOf k z
+  pub known : (l : Layout) (f : Option Facts) (s : Stored) (x i : ℕ) → AreFactsIf l f → Member l f s →
+      x < length l.types → i < length (numbers_of s x) → IsOneOf (known_in f x) (number_at (numbers_of s x) i)
+  pub some : (l : Layout) (f : Option Facts) (s : Stored) (x : ℕ) → AreFactsIf l f → Member l f s →
+      x < length l.types → 0 < length (numbers_of s x)
+  pub refined : (l : Layout) (f : Option Facts) (s : Stored) (x : ℕ) (k : Known) → AreFactsIf l f → Member l f s →
+      AreNumbersOf k (numbers_of s x) → Member l (with_known f x k) s
+  pub written : (l : Layout) (f : Option Facts) (s : Stored) (x : ℕ) (k : Known) (zs : Numbers) → AreFactsIf l f →
+      Member l f s → IsLayout l → x < length l.types → IsApart l x → AreNumbersOf k zs →
+      Member l (with_known f x k) (slice_set s x zs)
+  pub assigned : (l : Layout) (f : Option Facts) (s : Stored) (j : ℕ) (t : Option ℕ) (c z : ℤ) (k : Known) →
+      AreFactsIf l f → Member l f s → IsLayout l → j < length l.chosen → Gives (selected l.chosen s) t c z → IsOf k z
       → Member l (with_known (assigned_in f j t c) (chosen_at l j) k) (slice_set s (chosen_at l j) (z ∷ []))
-  pub guarded : (l : Layout) (f : Option Facts) (s : Stored) (a b : Option ℕ) (c : ℤ) → AreFactsIf l f → Member l f s → IsGuard (length l.chosen) a b → Obeys (selected l.chosen s) a b c → Member l (guarded_in f a b c) s
+  pub guarded : (l : Layout) (f : Option Facts) (s : Stored) (a b : Option ℕ) (c : ℤ) → AreFactsIf l f →
+      Member l f s → IsGuard (length l.chosen) a b → Obeys (selected l.chosen s) a b c →
+      Member l (guarded_in f a b c) s
 
 -- What is read is a value of the variable's type, and what is made of a layout's facts are facts of the layout.
 pub record ChangesStay : Type 0 where
-  pub known : (l : Layout) (f : Option Facts) (x : ℕ) (k : Known) → AreFactsIf l f → x < length l.types → known_in f x ≡ Some k → IsValue (type_at l x) k
-  pub written : (l : Layout) (f : Option Facts) (x : ℕ) (k : Known) → AreFactsIf l f → x < length l.types → IsValue (type_at l x) k → AreFactsIf l (with_known f x k)
-  pub assigned : (l : Layout) (f : Option Facts) (k : ℕ) (t : Option ℕ) (c : ℤ) → AreFactsIf l f → k < length l.chosen → IsTerm (length l.chosen) t → AreFactsIf l (assigned_in f k t c)
-  pub guarded : (l : Layout) (f : Option Facts) (a b : Option ℕ) (c : ℤ) → AreFactsIf l f → IsGuard (length l.chosen) a b → AreFactsIf l (guarded_in f a b c)
+  pub known : (l : Layout) (f : Option Facts) (x : ℕ) (k : Known) → AreFactsIf l f → x < length l.types →
+      known_in f x ≡ Some k → IsValue (type_at l x) k
+  pub written : (l : Layout) (f : Option Facts) (x : ℕ) (k : Known) → AreFactsIf l f → x < length l.types →
+      IsValue (type_at l x) k → AreFactsIf l (with_known f x k)
+  pub assigned : (l : Layout) (f : Option Facts) (k : ℕ) (t : Option ℕ) (c : ℤ) → AreFactsIf l f →
+      k < length l.chosen → IsTerm (length l.chosen) t → AreFactsIf l (assigned_in f k t c)
+  pub guarded : (l : Layout) (f : Option Facts) (a b : Option ℕ) (c : ℤ) → AreFactsIf l f →
+      IsGuard (length l.chosen) a b → AreFactsIf l (guarded_in f a b c)

@@ -56,17 +56,23 @@ narrowed_values l = merged_from (λ x. known.narrowed (type_at l x)) 0
 abbrev pub joined : Option Facts → Option Facts → Option Facts
 joined None b = b
 joined (Some a) None = Some a
-joined (Some a) (Some b) = Some (record { values = joined_values a.values b.values; octagon = join_of a.octagon b.octagon })
+joined (Some a) (Some b) =
+    Some (record { values = joined_values a.values b.values; octagon = join_of a.octagon b.octagon })
 
 abbrev pub widened : Layout → List ℤ → Option Facts → Option Facts → Option Facts
 widened l thresholds None n = n
 widened l thresholds (Some h) None = Some h
-widened l thresholds (Some h) (Some n) = Some (record { values = widened_values l thresholds h.values n.values; octagon = widening_of h.octagon n.octagon })
+widened l thresholds (Some h) (Some n) =
+    Some (record {
+      values = widened_values l thresholds h.values n.values;
+      octagon = widening_of h.octagon n.octagon;
+    })
 
 abbrev pub narrowed : Layout → Option Facts → Option Facts → Option Facts
 narrowed l None n = None
 narrowed l (Some h) None = Some h
-narrowed l (Some h) (Some n) = Some (record { values = narrowed_values l h.values n.values; octagon = narrowing_of h.octagon n.octagon })
+narrowed l (Some h) (Some n) =
+    Some (record { values = narrowed_values l h.values n.values; octagon = narrowing_of h.octagon n.octagon })
 
 -- each part of a is within that of b; no fact is below all
 pub record AreWithin (a b : Facts) : Type 0 where

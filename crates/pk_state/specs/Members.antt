@@ -18,7 +18,8 @@ selected chosen s k = number_if s (slice_get chosen k)
 
 -- each number of each variable is one that is known of it
 pub record AreOf (vs : List Known) (s : Stored) : Type 0 where
-  pub each : (x i : ℕ) → x < length vs → i < length (numbers_of s x) → IsOf (known_at vs x) (number_at (numbers_of s x) i)
+  pub each : (x i : ℕ) → x < length vs → i < length (numbers_of s x) →
+      IsOf (known_at vs x) (number_at (numbers_of s x) i)
   pub some : (x : ℕ) → x < length vs → 0 < length (numbers_of s x)
 
 -- that, the octagon's variables are scalars, and their numbers meet its bounds
@@ -33,16 +34,23 @@ Member l (Some f) s = IsStoreOf l f s
 
 -- Joins and widening steps are above both; what is below has no other stores; narrowing keeps what both have; a reduction keeps exactly the stores.
 pub record StatesAreSound : Type 0 where
-  pub joins : (l : Layout) (a b : Option Facts) (s : Stored) → AreFactsIf l a → AreFactsIf l b → Member l a s ⊎ Member l b s → Member l (joined a b) s
-  pub within : (l : Layout) (a b : Option Facts) (s : Stored) → AreFactsIf l a → AreFactsIf l b → IsBelow a b → Member l a s → Member l b s
-  pub widenings : (l : Layout) (thresholds : List ℤ) (h n : Option Facts) (s : Stored) → AreFactsIf l h → AreFactsIf l n → Member l h s ⊎ Member l n s → Member l (widened l thresholds h n) s
-  pub narrowings : (l : Layout) (h n : Option Facts) (s : Stored) → AreFactsIf l h → AreFactsIf l n → Member l h s → Member l n s → Member l (narrowed l h n) s
-  pub kept : (l : Layout) (f : Option Facts) (s : Stored) → IsLayout l → AreFactsIf l f → Member l f s → Member l (reduced l f) s
-  pub only : (l : Layout) (f : Option Facts) (s : Stored) → IsLayout l → AreFactsIf l f → Member l (reduced l f) s → Member l f s
+  pub joins : (l : Layout) (a b : Option Facts) (s : Stored) → AreFactsIf l a → AreFactsIf l b →
+      Member l a s ⊎ Member l b s → Member l (joined a b) s
+  pub within : (l : Layout) (a b : Option Facts) (s : Stored) → AreFactsIf l a → AreFactsIf l b → IsBelow a b →
+      Member l a s → Member l b s
+  pub widenings : (l : Layout) (thresholds : List ℤ) (h n : Option Facts) (s : Stored) → AreFactsIf l h →
+      AreFactsIf l n → Member l h s ⊎ Member l n s → Member l (widened l thresholds h n) s
+  pub narrowings : (l : Layout) (h n : Option Facts) (s : Stored) → AreFactsIf l h → AreFactsIf l n → Member l h s →
+      Member l n s → Member l (narrowed l h n) s
+  pub kept : (l : Layout) (f : Option Facts) (s : Stored) → IsLayout l → AreFactsIf l f → Member l f s →
+      Member l (reduced l f) s
+  pub only : (l : Layout) (f : Option Facts) (s : Stored) → IsLayout l → AreFactsIf l f → Member l (reduced l f) s →
+      Member l f s
 
 -- What is made of a layout's facts are facts of the layout.
 pub record FactsStay : Type 0 where
   pub joins : (l : Layout) (a b : Option Facts) → AreFactsIf l a → AreFactsIf l b → AreFactsIf l (joined a b)
-  pub widenings : (l : Layout) (thresholds : List ℤ) (h n : Option Facts) → AreFactsIf l h → AreFactsIf l n → AreFactsIf l (widened l thresholds h n)
+  pub widenings : (l : Layout) (thresholds : List ℤ) (h n : Option Facts) → AreFactsIf l h → AreFactsIf l n →
+      AreFactsIf l (widened l thresholds h n)
   pub narrowings : (l : Layout) (h n : Option Facts) → AreFactsIf l h → AreFactsIf l n → AreFactsIf l (narrowed l h n)
   pub reductions : (l : Layout) (f : Option Facts) → IsLayout l → AreFactsIf l f → AreFactsIf l (reduced l f)

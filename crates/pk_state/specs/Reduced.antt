@@ -55,7 +55,9 @@ with_range k (Some r) = Some (record { range = r; class = k.class })
 
 -- what is left of a value by the octagon's bounds on its variable k
 abbrev pub bounded_by : Octagon → ℕ → Known → Option Known
-bounded_by m k v = with_range v (range_from (raised_low (least_of (entry m (2 * k) (2 * k + 1))) v.range.lo) (lowered_high (halved (entry m (2 * k + 1) (2 * k))) v.range.hi))
+bounded_by m k v =
+    with_range v (range_from (raised_low (least_of (entry m (2 * k) (2 * k + 1))) v.range.lo)
+    (lowered_high (halved (entry m (2 * k + 1) (2 * k))) v.range.hi))
 
 abbrev pub bounded_at : Octagon → ℕ → ℕ → List Known → Option (List Known)
 bounded_at m k x vs = then_with (bounded_by m k (known_at vs x)) (λ v. Some (slice_set vs x v))

@@ -111,7 +111,11 @@ pub(crate) fn join_facts(
 ) -> Result<Facts, AllocError>
     requires left { AreFacts frame.now a.now }
     requires right { AreFacts frame.now b.now }
-    ensures { IfOk result (λ f. f ≡ record { values = joined_values a.now.values b.now.values; octagon = join_of a.now.octagon b.now.octagon }) }
+    ensures { IfOk result
+        (λ f. f ≡ record {
+          values = joined_values a.now.values b.now.values;
+          octagon = join_of a.now.octagon b.now.octagon;
+        }) }
 {
     Ok(Facts {
         values: join_values(alloc, &a.values, &b.values)?,
@@ -131,7 +135,11 @@ pub(crate) fn widen_facts(
     requires held { AreFacts frame.now held.now }
     requires next { AreFacts frame.now next.now }
     requires rising { IsSorted int_cmp thresholds.now }
-    ensures { IfOk result (λ f. f ≡ record { values = widened_values frame.now thresholds.now held.now.values next.now.values; octagon = widening_of held.now.octagon next.now.octagon }) }
+    ensures { IfOk result
+        (λ f. f ≡ record {
+          values = widened_values frame.now thresholds.now held.now.values next.now.values;
+          octagon = widening_of held.now.octagon next.now.octagon;
+        }) }
 {
     let mut loose = Vec::from_slice(alloc, &held.loose)?;
     Ok(Facts {
@@ -157,7 +165,11 @@ pub(crate) fn narrow_facts(
 ) -> Result<Facts, AllocError>
     requires held { AreFacts frame.now held.now }
     requires next { AreFacts frame.now next.now }
-    ensures { IfOk result (λ f. f ≡ record { values = narrowed_values frame.now held.now.values next.now.values; octagon = narrowing_of held.now.octagon next.now.octagon }) }
+    ensures { IfOk result
+        (λ f. f ≡ record {
+          values = narrowed_values frame.now held.now.values next.now.values;
+          octagon = narrowing_of held.now.octagon next.now.octagon;
+        }) }
 {
     let mut loose = Vec::from_slice(alloc, &held.loose)?;
     Ok(Facts {
@@ -198,7 +210,8 @@ fn with_octagon(
     requires vars { (arc_value octagon).vars ≡ length frame.now.chosen }
     requires tight { AreMarked values [] }
     requires closed { IsClosedIf true (arc_value octagon) }
-    requires rests { rests ≡ true → (k : ℕ) → k < length frame.now.chosen → by_range (arc_value octagon) k (known_at values (chosen_at frame.now k)).range ≡ arc_value octagon }
+    requires rests { rests ≡ true → (k : ℕ) → k < length frame.now.chosen →
+        by_range (arc_value octagon) k (known_at values (chosen_at frame.now k)).range ≡ arc_value octagon }
     ensures value { IfOk result (λ r. r.0 ≡ with_closed frame.now values (arc_value octagon)) }
     ensures settled { IfOk result (λ r. IsSettledIf r.1 frame.now r.0) }
 {
@@ -235,7 +248,8 @@ fn with_octagon(
 fn is_at_rest(octagon: &Matrix, closed: bool, values: &Blocks<Value>, frame: &Frame) -> bool
     requires vars { octagon.now.vars ≡ length frame.now.chosen }
     requires values { AreValues frame.now values.now }
-    ensures { result ≡ true → (closed ≡ true) × ((k : ℕ) → k < length frame.now.chosen → by_range octagon.now k (known_at values.now (chosen_at frame.now k)).range ≡ octagon.now) }
+    ensures { result ≡ true → (closed ≡ true) × ((k : ℕ) → k < length frame.now.chosen →
+        by_range octagon.now k (known_at values.now (chosen_at frame.now k)).range ≡ octagon.now) }
 {
     closed && are_lowered(octagon, values, frame)
 }

@@ -1,6 +1,6 @@
 // The variables that a state speaks of.
 
-ghost use Rattle.std.specs.Prelude.{◌≡◌, ◌<◌, length, slice_index_or, IfSome};
+ghost use Rattle.std.specs.Prelude.{◌≡◌, ◌<◌, length, IfSome};
 ghost use Rattle.pk_state.specs.Layouts.{Layout, IsLayout, type_at, chosen_at, place_in};
 
 use pk_ctypes::IntType;

@@ -11,7 +11,7 @@ ghost use Rattle.pk_octmat.specs.Octagon.{entry, bar as other};
 ghost use Rattle.pk_octops.specs.Guards.{IsGuard, guard_of};
 ghost use Rattle.pk_octclose.specs.Laws.{IsInside};
 ghost use Rattle.pk_octclose.specs.Places.{closing_of};
-ghost use Rattle.pk_state.specs.Marks.{IsClosedIf, IsFar, KeepsClosed};
+ghost use Rattle.pk_state.specs.Marks.{IsFar, KeepsClosed};
 ghost use Rattle.pk_state.specs.Reduced.{by_range, by_ranges};
 
 use crate::frame::Frame;
@@ -158,7 +158,8 @@ fn is_lowered(m: &Matrix, k: u32, t: IntType, range: &Interval) -> bool
 pub(crate) fn are_lowered(m: &Matrix, values: &Blocks<Value>, frame: &Frame) -> bool
     requires vars { m.now.vars ≡ length frame.now.chosen }
     requires values { AreValues frame.now values.now }
-    ensures { result ≡ true → (k : ℕ) → k < length frame.now.chosen → by_range m.now k (known_at values.now (chosen_at frame.now k)).range ≡ m.now }
+    ensures { result ≡ true → (k : ℕ) → k < length frame.now.chosen →
+        by_range m.now k (known_at values.now (chosen_at frame.now k)).range ≡ m.now }
 {
     frame.is_layout();
     for k in 0..frame.octagon_len() {
@@ -194,7 +195,8 @@ pub(crate) fn close_lowered(
 ) -> Result<Option<Arc<Matrix>>, AllocError>
     requires vars { (arc_value octagon.now).vars ≡ length frame.now.chosen }
     requires values { AreValues frame.now values.now }
-    ensures { IfOk result (λ o. option_map arc_value o ≡ closing_of (by_ranges frame.now values.now (length frame.now.chosen) (arc_value octagon.now))) }
+    ensures { IfOk result (λ o. option_map arc_value o
+        ≡ closing_of (by_ranges frame.now values.now (length frame.now.chosen) (arc_value octagon.now))) }
 {
     let mut m = octagon.copy()?;
     lower_all(&mut m, values, frame);

@@ -1,6 +1,6 @@
 // Abstract states.
 
-ghost use Rattle.std.specs.Prelude.{◌≡◌, ◌↔◌, ◌<◌, true, IfOk, OnOk, IsNone, length, Some, None, slice_set};
+ghost use Rattle.std.specs.Prelude.{◌≡◌, ◌↔◌, ◌<◌, true, IfOk, Some, None};
 ghost use Rattle.std.specs.Arc.{arc_value};
 ghost use Rattle.std.specs.List.Sorted.{IsSorted};
 ghost use Rattle.std.specs.Ordering.{int_cmp};
@@ -38,7 +38,8 @@ impl Model for State {
 
     ghost view = { λ s. record { layout = arc_value s.frame; facts = s.facts } };
 
-    ghost invariant = { λ s. IsLayout (arc_value s.frame) × AreFactsIf (arc_value s.frame) s.facts × IsSettledIf s.settled (arc_value s.frame) s.facts };
+    ghost invariant = { λ s. IsLayout (arc_value s.frame) × AreFactsIf (arc_value s.frame) s.facts
+        × IsSettledIf s.settled (arc_value s.frame) s.facts };
 }
 
 // A state of these facts over the frame of another.
@@ -223,7 +224,8 @@ impl State {
     /// What is known where either is.
     pub fn join(&self, alloc: Global, other: &State) -> Result<State, AllocError>
         requires { other.now.layout ≡ self.now.layout }
-        ensures { IfOk result (λ s. s ≡ record { layout = self.now.layout; facts = joined self.now.facts other.now.facts }) }
+        ensures { IfOk result
+            (λ s. s ≡ record { layout = self.now.layout; facts = joined self.now.facts other.now.facts }) }
     {
         let facts = join_if(alloc, &self.facts, &other.facts, &self.frame)?;
         with_facts(self, facts)
@@ -254,7 +256,11 @@ impl State {
     ) -> Result<State, AllocError>
         requires layout { next.now.layout ≡ self.now.layout }
         requires rising { IsSorted int_cmp thresholds.now }
-        ensures { IfOk result (λ s. s ≡ record { layout = self.now.layout; facts = widened self.now.layout thresholds.now self.now.facts next.now.facts }) }
+        ensures { IfOk result
+            (λ s. s ≡ record {
+              layout = self.now.layout;
+              facts = widened self.now.layout thresholds.now self.now.facts next.now.facts;
+            }) }
     {
         let facts = widen_if(alloc, &self.facts, &next.facts, &self.frame, thresholds)?;
         with_facts(self, facts)
@@ -263,7 +269,8 @@ impl State {
     /// This state narrowed by `next`.
     pub fn narrow(&self, alloc: Global, next: &State) -> Result<State, AllocError>
         requires { next.now.layout ≡ self.now.layout }
-        ensures { IfOk result (λ s. s ≡ record { layout = self.now.layout; facts = narrowed self.now.layout self.now.facts next.now.facts }) }
+        ensures { IfOk result (λ s.
+            s ≡ record { layout = self.now.layout; facts = narrowed self.now.layout self.now.facts next.now.facts }) }
     {
         let facts = narrow_if(alloc, &self.facts, &next.facts, &self.frame)?;
         with_facts(self, facts)
@@ -271,7 +278,8 @@ impl State {
 
     /// Each part as tight as the others let it be; exactly the same stores are left.
     pub fn reduce(&self, alloc: Global) -> Result<State, AllocError>
-        ensures { IfOk result (λ s. s ≡ record { layout = self.now.layout; facts = reduced self.now.layout self.now.facts }) }
+        ensures { IfOk result
+            (λ s. s ≡ record { layout = self.now.layout; facts = reduced self.now.layout self.now.facts }) }
     {
         let state = self.copy(alloc)?;
         state.into_reduced(alloc)

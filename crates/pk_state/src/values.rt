@@ -4,9 +4,6 @@ ghost use Rattle.std.specs.Prelude.{◌≡◌, ◌↔◌, ◌<◌, ℕ, true, If
 ghost use Rattle.std.specs.List.Sorted.{IsSorted};
 ghost use Rattle.std.specs.Ordering.{int_cmp};
 ghost use Rattle.pk_value.specs.Known.{is_within};
-ghost use Rattle.pk_octmat.specs.Octagon.{entry};
-ghost use Rattle.pk_octmat.specs.Bounds.{halved};
-ghost use Rattle.pk_octops.specs.Values.{least_of};
 ghost use Rattle.pk_state.specs.Layouts.{chosen_at};
 ghost use Rattle.pk_state.specs.Facts.{known_at, AreValues, joined_values, widened_values, narrowed_values};
 ghost use Rattle.pk_state.specs.Marks.{AreMarked};
@@ -206,7 +203,8 @@ fn with_interval(value: &Value, interval: Option<Interval>) -> Option<Value>
 
 // The bounds of a range, or those that are given where they are tighter.
 fn tighter(value: &Value, low: Option<i128>, high: Option<i128>) -> Option<Value>
-    ensures { result ≡ with_range value.now (range_from (raised_low low value.now.range.lo) (lowered_high high value.now.range.hi)) }
+    ensures { result ≡ with_range value.now
+        (range_from (raised_low low value.now.range.lo) (lowered_high high value.now.range.hi)) }
 {
     let interval = between(
         raised(low, value.interval.lo),
@@ -235,10 +233,14 @@ pub(crate) fn bound_values(
     requires values { AreValues frame.now values.old }
     requires vars { m.now.vars ≡ length frame.now.chosen }
     requires marked { AreMarked values.old loose.old.items }
-    ensures value { IfOk result (λ b. kept_if b values.new ≡ bounded_all frame.now m.now (length frame.now.chosen) values.old) }
+    ensures value { IfOk result
+        (λ b. kept_if b values.new ≡ bounded_all frame.now m.now (length frame.now.chosen) values.old) }
     ensures stays { IfOk result (λ b. b ≡ true → AreValues frame.now values.new) }
     ensures marked { IfOk result (λ b. b ≡ true → AreMarked values.new loose.new.items) }
-    ensures still { IfOk result (λ b. b ≡ true → loose.new.items ≡ [] → (values.new ≡ values.old) × ((k : ℕ) → k < length frame.now.chosen → bounded_by m.now k (known_at values.old (chosen_at frame.now k)) ≡ Some (known_at values.old (chosen_at frame.now k)))) }
+    ensures still { IfOk result (λ b. b ≡ true → loose.new.items ≡ [] →
+        (values.new ≡ values.old) × ((k : ℕ) → k < length frame.now.chosen →
+        bounded_by m.now k (known_at values.old (chosen_at frame.now k))
+        ≡ Some (known_at values.old (chosen_at frame.now k)))) }
 {
     frame.is_layout();
     for k in 0..frame.octagon_len() {

@@ -11,4 +11,5 @@ chain_bound_of variables thresholds octagon = 1 + variables * (2 * (thresholds +
 -- the bound of a graph, whose variables all count, with the octagon over its first `oct` variables
 abbrev pub IsChainBound : GraphOf → ℕ → ℕ → Type 0
 IsChainBound g oct n =
-    (ts : List ℤ) × AreThresholds g ts × (n ≡ chain_bound_of (length g.variables) (length ts) (length (octagon_variables_of g oct)))
+    (ts : List ℤ) × AreThresholds g ts
+    × (n ≡ chain_bound_of (length g.variables) (length ts) (length (octagon_variables_of g oct)))

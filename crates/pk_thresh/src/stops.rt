@@ -1,6 +1,6 @@
 // The numbers at which widening stops, and how long that lets a chain of widening steps become.
 
-ghost use Rattle.std.specs.Prelude.{◌≡◌, ◌++◌, ◌+◌, ◌*◌, IfOk, IfSome, OnOk, All, Contains, vec_len};
+ghost use Rattle.std.specs.Prelude.{◌≡◌, ◌++◌, ◌+◌, ◌*◌, IfOk, IfSome, OnOk, All};
 ghost use Rattle.pk_graph.specs.Shown.{graph_view};
 ghost use Rattle.pk_thresh.specs.Thresholds.{around, numbers_around, AreThresholds};
 ghost use Rattle.pk_thresh.specs.Near.{IsNear};
@@ -60,7 +60,7 @@ fn bound(variables: usize, thresholds: usize, octagon: usize) -> Option<u64>
     values.checked_add(1)?.checked_add(entries)
 }
 
-/// How long a chain of widening steps over the graph can be, with the octagon over its first `oct` variables. A bound of 2^64 or more is answered by want of memory.
+/// How long a chain of widening steps over the graph can be (tests alone call it), with the octagon over its first `oct` variables. A bound of 2^64 or more is answered by want of memory.
 pub fn chain_bound(alloc: Global, graph: &Graph, oct: usize) -> Result<u64, AllocError>
     ensures { IfOk result (λ n. IsChainBound (graph_view graph.now) oct n) }
 {

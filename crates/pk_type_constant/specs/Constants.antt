@@ -72,7 +72,8 @@ unfoldable mutual
   constant_value (binary f at t v w) = calculated f t (constant_value v) (constant_value w)
   constant_value (and v w) = chosen (constant_value v) (truth_of (constant_value w)) (Number (pos 0))
   constant_value (or v w) = chosen (constant_value v) (Number (pos 1)) (truth_of (constant_value w))
-  constant_value (conditional t u v w) = chosen (constant_value u) (converted t (constant_value v)) (converted t (constant_value w))
+  constant_value (conditional t u v w) =
+      chosen (constant_value u) (converted t (constant_value v)) (converted t (constant_value w))
   constant_value (then_value e v) = with_number (constant_effect e) (λ n. constant_value v)
 
   -- what is evaluated last; a call is none

@@ -11,6 +11,7 @@ use Rattle.pk_type_constant.specs.Constants.{constant_value}
 use Rattle.pk_type_constant.specs.Forms.{is_constant_form}
 use Rattle.pk_type_declaration.specs.declared.constants.Evaluated.{Evaluated}
 use Rattle.pk_type_declaration.specs.Walks.{Walked, Adding, failing, after_value, value_at}
+use Rattle.pk_typed.specs.Limits.{length_limit}
 
 -- what an expression gives, where it has a typed tree
 abbrev pub given_by : Option ValueTree → Constant
@@ -31,14 +32,14 @@ abbrev pub is_refused : Evaluated → Bool
 is_refused v = not v.is_form || is_faulty v.constant
 
 abbrev pub is_length : ℤ → Bool
-is_length n = int_le (pos 1) n && int_le n (pos 1048576)
+is_length n = int_le (pos 1) n && int_le n (pos length_limit)
 
 abbrev pub is_outside : Constant → Bool
 is_outside (Number n) = not (is_length n)
 is_outside (Faulty f) = true
 is_outside NotConstant = false
 
--- constant: the length of an array isn't a constant expression, has a fault, or isn't 1 to 1048576
+-- constant: the length of an array isn't a constant expression, has a fault, or isn't 1 to the limit
 abbrev pub is_refused_length : Evaluated → Bool
 is_refused_length v = not v.is_form || is_outside v.constant
 
@@ -60,7 +61,9 @@ length_in v = if is_refused_length v then None else magnitude (number_of v.const
 
 -- after an expression that has to be constant; the failure is at its first token
 abbrev pub after_constant : {F : Type 0} → Adding F → ExpressionTree → Walked F → Walked F
-after_constant add e w = failing add (fails_if (is_refused (evaluated w e)) rule.Constant (first_place_of e)) (after_value add e w)
+after_constant add e w =
+    failing add (fails_if (is_refused (evaluated w e)) rule.Constant (first_place_of e)) (after_value add e w)
 
 abbrev pub after_length : {F : Type 0} → Adding F → ExpressionTree → Walked F → Walked F
-after_length add e w = failing add (fails_if (is_refused_length (evaluated w e)) rule.Constant (first_place_of e)) (after_value add e w)
+after_length add e w =
+    failing add (fails_if (is_refused_length (evaluated w e)) rule.Constant (first_place_of e)) (after_value add e w)

@@ -11,7 +11,7 @@ use Rattle.pk_ast.specs.Places.{first_place_of}
 use Rattle.pk_ast.specs.Trees.{OneOrMore, ExpressionTree, ExpressionTrees, no_expressions, expression_then, InitializerTree, single, braced, DeclaratorTree, DeclarationTree}
 use Rattle.pk_typed.specs.declared.values.Variable.TheVariants.{Local}
 use Rattle.pk_typed.specs.Trees as tree
-use Rattle.pk_typed.specs.Trees.{LocalTree, ValueTree, ValueTrees, value_before, DeclaredTree}
+use Rattle.pk_typed.specs.Trees.{LocalTree, value_before, DeclaredTree}
 use Rattle.pk_type_scope.specs.declared.declarations.Declaration.{Declaration}
 use Rattle.pk_type_scope.specs.declared.declarations.Declaration.TheVariants as declared
 use Rattle.pk_type_scope.specs.declared.declarations.Typing.{Typing}
@@ -45,7 +45,13 @@ type_or_int Unknown = Int
 -- an object that is the next of its function
 abbrev pub object_at : {F : Type 0} → Words → Bool → Walked F → Declaration
 object_at words is_array w =
-    declared.Object (record { variable = Local (length w.locals); int_type = integer_in words.typing; is_array = is_array; is_const = words.is_const })
+    declared.Object
+    (record {
+      variable = Local (length w.locals);
+      int_type = integer_in words.typing;
+      is_array = is_array;
+      is_const = words.is_const;
+    })
 
 -- the text of a name
 abbrev pub text_of : Scoping → Identifier → List ℕ
@@ -110,12 +116,14 @@ length_or_1 true None = Some 1
 length_or_1 true (Some n) = Some n
 
 abbrev pub local_of : Typing → Scoping → Bool → Option ℕ → Identifier → LocalTree
-local_of t s is_array n x = record { name = Some (text_of s x); int_type = type_or_int t; length = length_or_1 is_array n }
+local_of t s is_array n x =
+    record { name = Some (text_of s x); int_type = type_or_int t; length = length_or_1 is_array n }
 
 -- a declared name, in its scope
 abbrev pub after_object : {F : Type 0} → Adding F → Words → Bool → Option ℕ → Identifier → Walked F → Walked F
 after_object add words is_array n x w =
-    with_local (local_of words.typing w.scoping is_array n x) (after_name x (object_at words is_array w) (failing add (at_name w.scoping words.typing x) w))
+    with_local (local_of words.typing w.scoping is_array n x)
+    (after_name x (object_at words is_array w) (failing add (at_name w.scoping words.typing x) w))
 
 -- a declarator as far as what its name begins with: its length stands outside its scope
 abbrev pub after_head : {F : Type 0} → Adding F → Words → DeclaratorTree → Walked F → Walked F
@@ -135,7 +143,8 @@ after_declarators add words (d ∷ ds) w = after_declarators add words ds (after
 -- specifiers: the words name no type; at the first word
 unfoldable pub after_declaration : {F : Type 0} → Adding F → DeclarationTree → Walked F → Walked F
 after_declaration add d w =
-    let words = words_of d.specifiers in after_declarators add words (d.declarators.first ∷ d.declarators.more) (failing add (specifiers d.specifiers) w)
+    let words = words_of d.specifiers in after_declarators add words (d.declarators.first ∷ d.declarators.more)
+    (failing add (specifiers d.specifiers) w)
 
 -- The typed tree of a declared object, by its number.
 
@@ -148,18 +157,25 @@ abbrev pub array_tree : {F : Type 0} → Adding F → ℕ → Pos → Option Ini
 array_tree add n at None w = Some (tree.array_object n at None)
 array_tree add n at (Some (single e)) w = None
 array_tree add n at (Some (braced brace e es)) w =
-    option_map (λ vs. tree.array_object n at (Some vs)) (of_both value_before (value_at w e) (values_at (after_value add e w) es))
+    option_map (λ vs. tree.array_object n at (Some vs))
+    (of_both value_before (value_at w e) (values_at (after_value add e w) es))
 
-abbrev pub object_tree : {F : Type 0} → Adding F → Bool → ℕ → Pos → Option InitializerTree → Walked F → Option DeclaredTree
+abbrev pub object_tree : {F : Type 0} → Adding F → Bool → ℕ → Pos → Option InitializerTree → Walked F →
+    Option DeclaredTree
 object_tree add is_array n at first w = if is_array then array_tree add n at first w else scalar_tree n at first w
 
 unfoldable pub declarator_tree_at : {F : Type 0} → Adding F → Words → DeclaratorTree → Walked F → Option DeclaredTree
-declarator_tree_at add words d w = object_tree add (is_some d.length) (length w.locals) d.name.at d.initializer (after_head add words d w)
+declarator_tree_at add words d w =
+    object_tree add (is_some d.length) (length w.locals) d.name.at d.initializer (after_head add words d w)
 
-unfoldable pub declarator_trees_at : {F : Type 0} → Adding F → Words → List DeclaratorTree → Walked F → Option (List DeclaredTree)
+unfoldable pub declarator_trees_at : {F : Type 0} → Adding F → Words → List DeclaratorTree → Walked F →
+    Option (List DeclaredTree)
 declarator_trees_at add words [] w = Some []
-declarator_trees_at add words (d ∷ ds) w = of_both (λ t ts. t ∷ ts) (declarator_tree_at add words d w) (declarator_trees_at add words ds (after_declarator add words d w))
+declarator_trees_at add words (d ∷ ds) w =
+    of_both (λ t ts. t ∷ ts) (declarator_tree_at add words d w)
+    (declarator_trees_at add words ds (after_declarator add words d w))
 
 unfoldable pub declaration_trees_at : {F : Type 0} → Adding F → DeclarationTree → Walked F → Option (List DeclaredTree)
 declaration_trees_at add d w =
-    declarator_trees_at add (words_of d.specifiers) (d.declarators.first ∷ d.declarators.more) (failing add (specifiers d.specifiers) w)
+    declarator_trees_at add (words_of d.specifiers) (d.declarators.first ∷ d.declarators.more)
+    (failing add (specifiers d.specifiers) w)

@@ -17,7 +17,8 @@ specials =
     ∷ (codes "__VERIFIER_nondet_short", Any ctype.Short) ∷ (codes "__VERIFIER_nondet_ushort", Any ctype.UShort)
     ∷ (codes "__VERIFIER_nondet_int", Any ctype.Int) ∷ (codes "__VERIFIER_nondet_uint", Any ctype.UInt)
     ∷ (codes "__VERIFIER_nondet_long", Any ctype.Long) ∷ (codes "__VERIFIER_nondet_ulong", Any ctype.ULong)
-    ∷ (codes "__VERIFIER_nondet_longlong", Any ctype.LLong) ∷ (codes "__VERIFIER_nondet_ulonglong", Any ctype.ULLong) ∷ []
+    ∷ (codes "__VERIFIER_nondet_longlong", Any ctype.LLong) ∷ (codes "__VERIFIER_nondet_ulonglong", Any ctype.ULLong)
+    ∷ []
 
 -- what a call of a special name is, where the name is one
 unfoldable pub special : List ℕ → Option Callee

@@ -11,7 +11,13 @@ use Rattle.pk_type_declaration.specs.Parts.{parts_in}
 use Rattle.pk_type_declaration.specs.Walks.{Walked}
 
 abbrev pub walked_in : Walk → Walked (Option Failure)
-walked_in w = record { scoping = scoping_of w.scope; found = w.notes.found; calls = w.notes.calls.items; locals = map local_tree w.locals.items }
+walked_in w =
+    record {
+      scoping = scoping_of w.scope;
+      found = w.notes.found;
+      calls = w.notes.calls.items;
+      locals = map local_tree w.locals.items;
+    }
 
 abbrev pub declared_in : Parts Declared → Option (List DeclaredTree)
 declared_in p = option_map declared_trees (parts_in p)

@@ -32,15 +32,33 @@ failing add fs w = record { scoping = w.scoping; found = add w.found fs; calls =
 
 -- an expression whose value is used
 abbrev pub after_value : {F : Type 0} → Adding F → ExpressionTree → Walked F → Walked F
-after_value add e w = record { scoping = w.scoping; found = add w.found (used_failures (here w) e); calls = w.calls ++ calls (here w) e; locals = w.locals }
+after_value add e w =
+    record {
+      scoping = w.scoping;
+      found = add w.found (used_failures (here w) e);
+      calls = w.calls ++ calls (here w) e;
+      locals = w.locals;
+    }
 
 -- an expression whose value isn't used
 abbrev pub after_effect : {F : Type 0} → Adding F → ExpressionTree → Walked F → Walked F
-after_effect add e w = record { scoping = w.scoping; found = add w.found (failures (here w) e); calls = w.calls ++ calls (here w) e; locals = w.locals }
+after_effect add e w =
+    record {
+      scoping = w.scoping;
+      found = add w.found (failures (here w) e);
+      calls = w.calls ++ calls (here w) e;
+      locals = w.locals;
+    }
 
 -- expressions whose values are used
 abbrev pub after_values : {F : Type 0} → Adding F → ExpressionTrees → Walked F → Walked F
-after_values add es w = record { scoping = w.scoping; found = add w.found (failures_used (here w) es); calls = w.calls ++ calls_in_all (here w) es; locals = w.locals }
+after_values add es w =
+    record {
+      scoping = w.scoping;
+      found = add w.found (failures_used (here w) es);
+      calls = w.calls ++ calls_in_all (here w) es;
+      locals = w.locals;
+    }
 
 -- their typed trees, in their place
 abbrev pub value_at : {F : Type 0} → Walked F → ExpressionTree → Option ValueTree

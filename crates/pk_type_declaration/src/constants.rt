@@ -41,10 +41,13 @@ fn is_faulty(constant: Constant) -> bool
     }
 }
 
+// The most elements of an array.
+const LENGTH_LIMIT: i128 = 1048576;
+
 fn is_length(number: i128) -> bool
     ensures { result ≡ definitions.is_length number }
 {
-    1 <= number && number <= 1048576
+    1 <= number && number <= LENGTH_LIMIT
 }
 
 fn is_outside(constant: Constant) -> bool

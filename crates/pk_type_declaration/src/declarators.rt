@@ -30,7 +30,8 @@ impl<'a> Walk<'a> {
     ) -> Result<Option<usize>, AllocError>
         ensures walked { OnOk result (walked_in self.new
             ≡ definitions.after_optional_length noted (option_map expression_tree length.now) (walked_in self.old)) }
-        ensures length { IfOk result (λ n. n ≡ definitions.length_at (walked_in self.old) (option_map expression_tree length.now)) }
+        ensures length { IfOk result
+            (λ n. n ≡ definitions.length_at (walked_in self.old) (option_map expression_tree length.now)) }
     {
         match length {
             None => Ok(None),
@@ -130,7 +131,8 @@ impl<'a> Walk<'a> {
         ensures walked { OnOk result (walked_in self.new
             ≡ definitions.after_declarators noted words (declarator_trees list.now) (walked_in self.old)) }
         ensures trees { OnOk result (declared_in all.new
-            ≡ joined (declared_in all.old) (definitions.declarator_trees_at noted words (declarator_trees list.now) (walked_in self.old))) }
+            ≡ joined (declared_in all.old)
+            (definitions.declarator_trees_at noted words (declarator_trees list.now) (walked_in self.old))) }
     {
         for d in list {
             let one = self.declarator(alloc, words, d)?;

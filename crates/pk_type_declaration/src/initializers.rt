@@ -56,10 +56,12 @@ impl<'a> Walk<'a> {
         more: &[Expression],
     ) -> Result<Option<Vec<Value>>, AllocError>
         ensures walked { OnOk result (walked_in self.new
-            ≡ walks.after_values noted (expression_trees more.now) (walks.after_value noted (expression_tree first.now) (walked_in self.old))) }
+            ≡ walks.after_values noted (expression_trees more.now)
+            (walks.after_value noted (expression_tree first.now) (walked_in self.old))) }
         ensures values { IfOk result (λ vs. optional_values vs
             ≡ of_both tree.value_before (walks.value_at (walked_in self.old) (expression_tree first.now))
-            (walks.values_at (walks.after_value noted (expression_tree first.now) (walked_in self.old)) (expression_trees more.now))) }
+            (walks.values_at (walks.after_value noted (expression_tree first.now) (walked_in self.old))
+            (expression_trees more.now))) }
     {
         let first = self.value(alloc, first)?;
         let more = self.values(alloc, more)?;
@@ -114,7 +116,8 @@ pub(crate) fn first_value(
     ensures walked { OnOk result (walked_in walk.new
         ≡ definitions.after_initializer noted (option_map initializer_tree first.now) (walked_in walk.old)) }
     ensures tree { IfOk result (λ d. option_map declared_tree d
-        ≡ definitions.object_tree noted is_array number at (option_map initializer_tree first.now) (walked_in walk.old)) }
+        ≡ definitions.object_tree noted is_array number at (option_map initializer_tree first.now)
+        (walked_in walk.old)) }
 {
     match first {
         None => Ok(Some(plain(is_array, number, at))),
@@ -141,7 +144,8 @@ pub(crate) fn first_value(
 #[tactic(auto, unfolding(pk_ast::specs::Views::initializer_tree))]
 pub fn note_braces(walk: &mut Walk<'_>, is_array: bool, first: &Option<Initializer>, at: Pos)
     ensures { walked_in walk.new
-        ≡ walks.failing noted (definitions.braces is_array (option_map initializer_tree first.now) at) (walked_in walk.old) }
+        ≡ walks.failing noted (definitions.braces is_array (option_map initializer_tree first.now) at)
+        (walked_in walk.old) }
 {
     match first {
         None => {}
@@ -169,7 +173,8 @@ fn item_at<'e>(
 #[tactic(auto, unfolding(pk_ast::specs::Views::initializer_tree))]
 pub fn note_surplus(walk: &mut Walk<'_>, length: Option<usize>, first: &Option<Initializer>)
     ensures { walked_in walk.new
-        ≡ walks.failing noted (definitions.surplus length (option_map initializer_tree first.now)) (walked_in walk.old) }
+        ≡ walks.failing noted (definitions.surplus length (option_map initializer_tree first.now))
+        (walked_in walk.old) }
 {
     let Some(length) = length else {
         return;
@@ -186,7 +191,8 @@ pub fn note_surplus(walk: &mut Walk<'_>, length: Option<usize>, first: &Option<I
 
 fn note_item(walk: &mut Walk<'_>, item: Option<&Expression>)
     ensures { walked_in walk.new
-        ≡ walks.failing noted (definitions.surplus_item (option_map (λ e. expression_tree e.now) item.entry)) (walked_in walk.old) }
+        ≡ walks.failing noted (definitions.surplus_item (option_map (λ e. expression_tree e.now) item.entry))
+        (walked_in walk.old) }
 {
     match item {
         None => {}

@@ -52,7 +52,8 @@ is_unbroken a = not (a.in_loop || is_some a.switch)
 
 -- default: out of place, or a second one
 abbrev pub with_default : Around → Pos → Jumped → Jumped
-with_default a at j = record j { has_default = true; misplaced = j.misplaced ++ at_if (is_out_of_place a || j.has_default) at }
+with_default a at j =
+    record j { has_default = true; misplaced = j.misplaced ++ at_if (is_out_of_place a || j.has_default) at }
 
 abbrev pub looped : Around → Around
 looped a = record a { in_loop = true }
@@ -80,10 +81,12 @@ unfoldable mutual
   jumped text labels a j (default at s) = jumped text labels a (with_default a at j) s
   jumped text labels a j (if_then at e s) = jumped text labels a j s
   jumped text labels a j (if_else at e s t) = jumped text labels a (jumped text labels a j s) t
-  jumped text labels a j (switch at e s) = with_default_flag j.has_default (jumped text labels (switched a) (with_default_flag false j) s)
+  jumped text labels a j (switch at e s) =
+      with_default_flag j.has_default (jumped text labels (switched a) (with_default_flag false j) s)
   jumped text labels a j (while at e s) = jumped text labels (looped a) j s
   jumped text labels a j (do_while at s e) = jumped text labels (looped a) j s
-  jumped text labels a j (for_loop at (declaration d) condition step s) = jumped text labels (looped (within_next j a)) (with_declaration j) s
+  jumped text labels a j (for_loop at (declaration d) condition step s) =
+      jumped text labels (looped (within_next j a)) (with_declaration j) s
   jumped text labels a j (for_loop at (expression e) condition step s) = jumped text labels (looped a) j s
   jumped text labels a j (goto at x) = gone (labels (spelled text x)) a x.at j
   jumped text labels a j (continue at) = misplaced_if (not a.in_loop) at j
@@ -93,7 +96,8 @@ unfoldable mutual
   -- what follows a declaration in its block lies in its scope
   pub jumped_items : List ℕ → (List ℕ → Option Label) → Around → Jumped → ItemTrees → Jumped
   jumped_items text labels a j no_items = j
-  jumped_items text labels a j (declaration_then d items) = jumped_items text labels (within_next j a) (with_declaration j) items
+  jumped_items text labels a j (declaration_then d items) =
+      jumped_items text labels (within_next j a) (with_declaration j) items
   jumped_items text labels a j (statement_then s items) = jumped_items text labels a (jumped text labels a j s) items
 
 -- a function's body: no loop and no `switch` is around it

@@ -37,7 +37,8 @@ with_label text w x l = record {
 
 -- and a declaration
 abbrev pub with_declaration : Listed → Listed
-with_declaration l = record { labels = l.labels; count = l.count; declarations = l.declarations + 1; repeated = l.repeated }
+with_declaration l =
+    record { labels = l.labels; count = l.count; declarations = l.declarations + 1; repeated = l.repeated }
 
 -- a place in the scope of the next declaration
 abbrev pub inside : ℕ → Within → Within
@@ -56,7 +57,8 @@ unfoldable mutual
   listed text w l (switch at e s) = listed text w l s
   listed text w l (while at e s) = listed text w l s
   listed text w l (do_while at s e) = listed text w l s
-  listed text w l (for_loop at (declaration d) condition step s) = listed text (inside l.declarations w) (with_declaration l) s
+  listed text w l (for_loop at (declaration d) condition step s) =
+      listed text (inside l.declarations w) (with_declaration l) s
   listed text w l (for_loop at (expression e) condition step s) = listed text w l s
   listed text w l (goto at x) = l
   listed text w l (continue at) = l
@@ -66,7 +68,8 @@ unfoldable mutual
   -- what follows a declaration in its block lies in its scope
   pub listed_items : List ℕ → Within → Listed → ItemTrees → Listed
   listed_items text w l no_items = l
-  listed_items text w l (declaration_then d items) = listed_items text (inside l.declarations w) (with_declaration l) items
+  listed_items text w l (declaration_then d items) =
+      listed_items text (inside l.declarations w) (with_declaration l) items
   listed_items text w l (statement_then s items) = listed_items text w (listed text w l s) items
 
 -- a place in no declaration's scope

@@ -3,7 +3,6 @@
 ghost use Rattle.std.specs.Prelude.{◌≡◌, ◌+◌, ◌++◌, ◌∷◌, ◌||◌, [], true, Some, not, is_some, IfOk, OnOk, take};
 ghost use Rattle.pk_ast.specs.Views.{statement_tree, item_trees, block_tree};
 ghost use Rattle.pk_type_jump.specs.Jumps as definitions;
-ghost use Rattle.pk_type_scope.specs.Scopes.{spelled};
 ghost use Rattle.pk_type_jump.specs.Views.{labels_in, around_of, jumped_in};
 
 use crate::labels::{Label, Labels, next};
@@ -152,7 +151,8 @@ impl Jumps {
         ensures around { IfOk result (λ inner. around_of self.new.scopes.items inner
             ≡ definitions.within_next (jumped_in self.old) (around_of self.old.scopes.items here)) }
         ensures jumped { OnOk result (jumped_in self.new ≡ definitions.with_declaration (jumped_in self.old)) }
-        ensures scopes { OnOk result (self.new.scopes.items ≡ self.old.scopes.items ++ (self.old.declarations + 1) ∷ []) }
+        ensures scopes { OnOk result
+            (self.new.scopes.items ≡ self.old.scopes.items ++ (self.old.declarations + 1) ∷ []) }
     {
         let scope = next(self.declarations)?;
         self.scopes.push(scope)?;
@@ -203,7 +203,8 @@ fn statement(
     s: &Statement,
 ) -> Result<(), AllocError>
     ensures jumped { OnOk result (jumped_in jumps.new
-        ≡ definitions.jumped text.now (labels_in labels.now) (around_of jumps.old.scopes.items here) (jumped_in jumps.old) (statement_tree s.now)) }
+        ≡ definitions.jumped text.now (labels_in labels.now) (around_of jumps.old.scopes.items here)
+        (jumped_in jumps.old) (statement_tree s.now)) }
     ensures scopes { OnOk result (jumps.new.scopes.items ≡ jumps.old.scopes.items) }
 {
     match s {
@@ -266,7 +267,8 @@ fn items(
     list: &[BlockItem],
 ) -> Result<(), AllocError>
     ensures jumped { OnOk result (jumped_in jumps.new
-        ≡ definitions.jumped_items text.now (labels_in labels.now) (around_of jumps.old.scopes.items here) (jumped_in jumps.old) (item_trees list.now)) }
+        ≡ definitions.jumped_items text.now (labels_in labels.now) (around_of jumps.old.scopes.items here)
+        (jumped_in jumps.old) (item_trees list.now)) }
     ensures scopes { OnOk result (jumps.new.scopes.items ≡ jumps.old.scopes.items) }
 {
     let depth = jumps.scopes.len();

@@ -1,6 +1,6 @@
 // The labels of a function.
 
-ghost use Rattle.std.specs.Prelude.{◌≡◌, ◌+◌, ◌++◌, ◌∷◌, [], ℕ, List, None, IfOk, OnOk, is_some};
+ghost use Rattle.std.specs.Prelude.{◌≡◌, ◌+◌, ◌++◌, List, None, IfOk, OnOk, is_some};
 ghost use Rattle.pk_ast.specs.Views.{statement_tree, item_trees, block_tree};
 ghost use Rattle.pk_type_jump.specs.Labels as definitions;
 ghost use Rattle.pk_type_scope.specs.Scopes.{spelled};
@@ -102,7 +102,8 @@ impl<'a> Labels<'a> {
     fn repeat(&mut self, old: Option<Label>, at: Pos) -> Result<(), AllocError>
         ensures names { self.new.by_name ≡ self.old.by_name }
         ensures declarations { self.new.declarations ≡ self.old.declarations }
-        ensures repeated { OnOk result (self.new.repeated.items ≡ self.old.repeated.items ++ definitions.is_repeated old at) }
+        ensures repeated { OnOk result
+            (self.new.repeated.items ≡ self.old.repeated.items ++ definitions.is_repeated old at) }
     {
         if old.is_some() {
             self.repeated.push(at)?;

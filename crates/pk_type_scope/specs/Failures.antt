@@ -33,7 +33,8 @@ row_of Unsequenced = 15
 abbrev pub is_before : Failure → Failure → Bool
 is_before f g =
     if nat_eq f.at.line g.at.line
-    then (if nat_eq f.at.column g.at.column then nat_lt (row_of f.rule) (row_of g.rule) else nat_lt f.at.column g.at.column)
+    then (if nat_eq f.at.column g.at.column then nat_lt (row_of f.rule) (row_of g.rule)
+    else nat_lt f.at.column g.at.column)
     else nat_lt f.at.line g.at.line
 
 -- the first of two, where the second isn't before it

@@ -46,7 +46,8 @@ occurs AtMostOnce n = nat_le n 1
 -- how often each word stands in the name of a type
 unfoldable pub has_words : Counts → (void char short int long signed unsigned : Times) → Bool
 has_words c void char short int long signed unsigned =
-    occurs void c.voids && occurs char c.chars && occurs short c.shorts && occurs int c.ints && occurs long c.longs && occurs signed c.signeds && occurs unsigned c.unsigneds
+    occurs void c.voids && occurs char c.chars && occurs short c.shorts && occurs int c.ints && occurs long c.longs
+    && occurs signed c.signeds && occurs unsigned c.unsigneds
 
 -- The table of C99 6.7.2: `int` may stand beside short, long, signed and unsigned, and signed beside the signed types.
 abbrev pub type_counted : Counts → Typing

@@ -1,9 +1,8 @@
 // Scopes: which declaration a name has (C99 6.2.1).
 
 ghost use Rattle.std.specs.Prelude.{◌≡◌, ◌++◌, ◌∷◌, ◌<◌, [], ℕ, List, None, Some, is_some, IfOk, OnOk, length, map};
-ghost use Rattle.pk_type_scope.specs.Declarations.{Names};
 ghost use Rattle.pk_type_scope.specs.Scopes as scopes;
-ghost use Rattle.pk_type_scope.specs.Scopes.{Layer, Scoping, layer_of, scoping_of};
+ghost use Rattle.pk_type_scope.specs.Scopes.{Layer, layer_of, scoping_of};
 
 use crate::declarations::Declaration;
 use indexmap::IndexMap;

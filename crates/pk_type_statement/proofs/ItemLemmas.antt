@@ -6,7 +6,7 @@ use Rattle.pk_typed.specs.declared.statements.Item.TheVariants as items
 use Rattle.pk_typed.specs.declared.statements.Statement.{Statement}
 use Rattle.pk_ctypes.specs.declared.places.Pos.{Pos}
 use Rattle.pk_typed.specs.Trees as trees
-use Rattle.pk_typed.specs.Trees.{ItemTrees, no_items, declared_before, statement_before}
+use Rattle.pk_typed.specs.Trees.{no_items, declared_before, statement_before}
 use Rattle.pk_typed.specs.Views.{declared_tree, declared_trees, statement_tree, item_trees}
 use Rattle.pk_type_statement.specs.Items.{append_items}
 use Rattle.pk_type_statement.specs.Trees.{declared_all}

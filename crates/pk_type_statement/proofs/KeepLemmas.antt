@@ -9,7 +9,7 @@ use Rattle.pk_type_declaration.specs.declared.words.Words.{Words}
 use Rattle.pk_type_declaration.specs.Declarations.{after_declarator, after_declarators, after_declaration, after_optional_length, after_initializer, after_head, words_of}
 use Rattle.pk_type_declaration.specs.Walks.{Walked, Adding, failing, after_value}
 use Rattle.pk_type_statement.specs.Statements as statements
-use Rattle.pk_type_statement.specs.Statements.{Passed, after, after_items, on, with_case, with_default, in_switch, inside}
+use Rattle.pk_type_statement.specs.Statements.{Passed, after, after_items, on, with_case, with_default, in_switch}
 
 pub record Kept (s t : Scoping) : Type 0 where
   pub text : t.text ≡ s.text

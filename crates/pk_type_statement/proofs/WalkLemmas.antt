@@ -1,11 +1,7 @@
 -- Blocks, `for` and `switch`, step by step.
-use Rattle.std.proofs.Math.Seq.{drop-cons}
-use Rattle.std.proofs.lemmas.List.{drop_all}
-use Rattle.std.proofs.Common.{◌≡◌, ℕ, suc, ◌+◌, ◌<◌, ◌≤◌, Bool, List, [], ◌∷◌, ◌++◌, Option, Some, None, drop, get_or, length, length-append, add-one, refl, ap, sym, ◌∙◌, arith}
+use Rattle.std.proofs.Common.{◌≡◌, ◌+◌, ◌<◌, Bool, List, [], ◌∷◌, ◌++◌, Option, Some, None, length, length-append, refl, ap, sym, ◌∙◌, arith}
 use Rattle.pk_ctypes.specs.declared.places.Pos.{Pos}
-use Rattle.pk_ast.specs.declared.statements.BlockItem.{BlockItem}
 use Rattle.pk_ast.specs.Trees.{ExpressionTree, ForStartTree, DeclarationTree, StatementTree, ItemTrees, no_items, declaration_then, statement_then, empty, switch, for_loop}
-use Rattle.pk_ast.specs.Views.{item_trees}
 use Rattle.pk_typed.specs.Trees as tree
 use Rattle.pk_typed.specs.Trees.{DeclaredTree, ValueTree}
 use Rattle.pk_type_scope.specs.declared.declarations.Typing.{Typing}
@@ -93,12 +89,6 @@ switch_typed r labels at e p o n b s t vt en bd made x y z h u w k m =
     ∙ ap (of_three (switch_of at) (value_at p.walked e) (ended T (after noted r g s))) (k ∙ ap (λ a. typed noted r labels a s) (in_case e p o n x z))))
 
 -- The items of a block from a place on.
-
-pub next : (list : List BlockItem) (i : ℕ) (x y : BlockItem) → i < length list → x ≡ get_or list i x → x ≡ y → item_trees (drop i list) ≡ item_trees (y ∷ drop (i + 1) list)
-next list i x y h is e = rw add-one (ap item_trees (drop-cons list i x h ∙ ap (λ z. z ∷ drop (suc i) list) (sym is ∙ e)))
-
-pub at_end : (list : List BlockItem) (i : ℕ) → length list ≤ i → item_trees (drop i list) ≡ no_items
-at_end list i h = ap item_trees (drop_all i list h)
 
 append_assoc_items : (a b c : tree.ItemTrees) → append_items (append_items a b) c ≡ append_items a (append_items b c)
 append_assoc_items tree.no_items b c = refl

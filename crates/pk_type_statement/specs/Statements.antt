@@ -47,7 +47,8 @@ returns_otherwise (Integer t) has_value = not has_value
 returns_otherwise Unknown has_value = false
 
 abbrev pub after_return : {F : Type 0} → Adding F → Typing → Pos → Option ExpressionTree → Walked F → Walked F
-after_return add returns at e w = after_optional_value add e (failing add (fails_if (returns_otherwise returns (is_some e)) rule.Return at) w)
+after_return add returns at e w =
+    after_optional_value add e (failing add (fails_if (returns_otherwise returns (is_some e)) rule.Return at) w)
 
 -- a case: its value has to be constant
 abbrev pub with_case : {F : Type 0} → Adding F → Pos → ExpressionTree → Passed F → Passed F
@@ -81,7 +82,8 @@ and_case t before (Some n) = with_number before (wrapped t n)
 -- jump: the values of two cases are equal, converted to the promoted type of the `switch` (6.8.4.2); at the later one's `case`
 abbrev pub repeated : IntType → Numbers → List Case → List Failure
 repeated t before [] = []
-repeated t before (c ∷ cs) = fails_if (is_repeated t before c.value) rule.Jump c.at ++ repeated t (and_case t before c.value) cs
+repeated t before (c ∷ cs) =
+    fails_if (is_repeated t before c.value) rule.Jump c.at ++ repeated t (and_case t before c.value) cs
 
 abbrev pub repeated_cases : Typing → List Case → List Failure
 repeated_cases Void cases = []
@@ -93,15 +95,18 @@ abbrev pub in_switch : {F : Type 0} → Passed F → Passed F
 in_switch p = record { walked = p.walked; cases = []; has_default = false }
 
 abbrev pub after_switch : {F : Type 0} → Adding F → Typing → List Case → Bool → Passed F → Passed F
-after_switch add t cases has_default p = record { walked = failing add (repeated_cases t p.cases) p.walked; cases = cases; has_default = has_default }
+after_switch add t cases has_default p =
+    record { walked = failing add (repeated_cases t p.cases) p.walked; cases = cases; has_default = has_default }
 
 abbrev pub after_start : {F : Type 0} → Adding F → ForStartTree → Walked F → Walked F
 after_start add (declaration d) w = after_declaration add d w
 after_start add (expression e) w = after_optional_effect add e w
 
 -- the parentheses of a `for`
-abbrev pub after_head : {F : Type 0} → Adding F → ForStartTree → Option ExpressionTree → Option ExpressionTree → Walked F → Walked F
-after_head add start test step w = after_optional_effect add step (after_optional_value add test (after_start add start w))
+abbrev pub after_head : {F : Type 0} → Adding F → ForStartTree → Option ExpressionTree → Option ExpressionTree →
+    Walked F → Walked F
+after_head add start test step w =
+    after_optional_effect add step (after_optional_value add test (after_start add start w))
 
 -- Statements in order. A block is a scope, and so is a `for` (6.8.2, 6.8.5).
 unfoldable mutual
@@ -114,10 +119,13 @@ unfoldable mutual
   after add returns p (default at s) = after add returns (with_default p) s
   after add returns p (if_then at e s) = after add returns (on (after_value add e) p) s
   after add returns p (if_else at e s t) = after add returns (after add returns (on (after_value add e) p) s) t
-  after add returns p (switch at e s) = after_switch add (type_of (here p.walked) e) p.cases p.has_default (after add returns (in_switch (on (after_value add e) p)) s)
+  after add returns p (switch at e s) =
+      after_switch add (type_of (here p.walked) e) p.cases p.has_default
+      (after add returns (in_switch (on (after_value add e) p)) s)
   after add returns p (while at e s) = after add returns (on (after_value add e) p) s
   after add returns p (do_while at s e) = on (after_value add e) (after add returns p s)
-  after add returns p (for_loop at start test step s) = outside p (after add returns (on (after_head add start test step) (inside p)) s)
+  after add returns p (for_loop at start test step s) =
+      outside p (after add returns (on (after_head add start test step) (inside p)) s)
   after add returns p (goto at x) = p
   after add returns p (continue at) = p
   after add returns p (break at) = p

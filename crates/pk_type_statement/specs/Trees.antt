@@ -80,10 +80,12 @@ pub record HeadTree : Type 0 where
 abbrev pub a_head : tree.ForStartTree → Option ValueTree → Option EffectTree → HeadTree
 a_head start test step = record { start = start; test = test; step = step }
 
-abbrev pub head_at : {F : Type 0} → Adding F → ForStartTree → Option ExpressionTree → Option ExpressionTree → Walked F → Option HeadTree
+abbrev pub head_at : {F : Type 0} → Adding F → ForStartTree → Option ExpressionTree → Option ExpressionTree →
+    Walked F → Option HeadTree
 head_at add start test step w =
     let v = after_start add start w in
-    of_three a_head (start_at add start w) (optional_value_at v test) (optional_effect_at (after_optional_value add test v) step)
+    of_three a_head (start_at add start w) (optional_value_at v test)
+    (optional_effect_at (after_optional_value add test v) step)
 
 abbrev pub for_tree : Pos → HeadTree → StatementTree → StatementTree
 for_tree at h s = tree.for_loop at h.start h.test h.step s
@@ -94,21 +96,30 @@ declared_all (d ∷ ds) items = tree.declared_before d (declared_all ds items)
 
 unfoldable mutual
   pub typed : {F : Type 0} → Adding F → Typing → Labels → Passed F → ast.StatementTree → Option StatementTree
-  typed add r labels p (ast.block opened items closed) = option_map (tree.block opened) (typed_items add r labels (inside p) items)
+  typed add r labels p (ast.block opened items closed) =
+      option_map (tree.block opened) (typed_items add r labels (inside p) items)
   typed add r labels p (ast.empty at) = Some (tree.empty at)
   typed add r labels p (ast.expression_statement e) = option_map (tree.effect (first_place_of e)) (effect_at p.walked e)
   typed add r labels p (ast.label x s) = of_both (tree.label x.at) (label_at labels p.walked x) (typed add r labels p s)
-  typed add r labels p (ast.case at e s) = option_map (tree.case at (length p.cases)) (typed add r labels (with_case add at e p) s)
+  typed add r labels p (ast.case at e s) =
+      option_map (tree.case at (length p.cases)) (typed add r labels (with_case add at e p) s)
   typed add r labels p (ast.default at s) = option_map (tree.default at) (typed add r labels (with_default p) s)
-  typed add r labels p (ast.if_then at e s) = of_both (tree.if_then at) (value_at p.walked e) (typed add r labels (on (after_value add e) p) s)
+  typed add r labels p (ast.if_then at e s) =
+      of_both (tree.if_then at) (value_at p.walked e) (typed add r labels (on (after_value add e) p) s)
   typed add r labels p (ast.if_else at e s t) =
-      let q = on (after_value add e) p in of_three (tree.if_else at) (value_at p.walked e) (typed add r labels q s) (typed add r labels (after add r q s) t)
+      let q = on (after_value add e) p in of_three (tree.if_else at) (value_at p.walked e) (typed add r labels q s)
+      (typed add r labels (after add r q s) t)
   typed add r labels p (ast.switch at e s) =
-      let q = in_switch (on (after_value add e) p) in of_three (switch_of at) (value_at p.walked e) (ended (type_of (here p.walked) e) (after add r q s)) (typed add r labels q s)
-  typed add r labels p (ast.while at e s) = of_both (tree.while at) (value_at p.walked e) (typed add r labels (on (after_value add e) p) s)
-  typed add r labels p (ast.do_while at s e) = of_both (tree.do_while at) (typed add r labels p s) (value_at (after add r p s).walked e)
+      let q = in_switch (on (after_value add e) p) in
+      of_three (switch_of at) (value_at p.walked e) (ended (type_of (here p.walked) e) (after add r q s))
+      (typed add r labels q s)
+  typed add r labels p (ast.while at e s) =
+      of_both (tree.while at) (value_at p.walked e) (typed add r labels (on (after_value add e) p) s)
+  typed add r labels p (ast.do_while at s e) =
+      of_both (tree.do_while at) (typed add r labels p s) (value_at (after add r p s).walked e)
   typed add r labels p (ast.for_loop at start test step s) =
-      let q = inside p in of_both (for_tree at) (head_at add start test step q.walked) (typed add r labels (on (after_head add start test step) q) s)
+      let q = inside p in of_both (for_tree at) (head_at add start test step q.walked)
+      (typed add r labels (on (after_head add start test step) q) s)
   typed add r labels p (ast.goto at x) = option_map (tree.goto at) (label_at labels p.walked x)
   typed add r labels p (ast.continue at) = Some (tree.continue at)
   typed add r labels p (ast.break at) = Some (tree.break at)
@@ -117,6 +128,7 @@ unfoldable mutual
   pub typed_items : {F : Type 0} → Adding F → Typing → Labels → Passed F → ast.ItemTrees → Option ItemTrees
   typed_items add r labels p no_items = Some tree.no_items
   typed_items add r labels p (declaration_then d items) =
-      of_both declared_all (declaration_trees_at add d p.walked) (typed_items add r labels (on (after_declaration add d) p) items)
+      of_both declared_all (declaration_trees_at add d p.walked)
+      (typed_items add r labels (on (after_declaration add d) p) items)
   typed_items add r labels p (statement_then s items) =
       of_both tree.statement_before (typed add r labels p s) (typed_items add r labels (after add r p s) items)

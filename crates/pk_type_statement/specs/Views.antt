@@ -30,7 +30,12 @@ abbrev pub items_in : Parts Item → Option ItemTrees
 items_in p = option_map item_trees (parts_in p)
 
 abbrev pub head_tree : ForHead → HeadTree
-head_tree h = record { start = for_start_tree h.start; test = option_map value_tree h.test; step = option_map effect_tree h.step }
+head_tree h =
+    record {
+      start = for_start_tree h.start;
+      test = option_map value_tree h.test;
+      step = option_map effect_tree h.step;
+    }
 
 abbrev pub head_in : Option (Box ForHead Global) → Option HeadTree
 head_in = option_map (λ b. head_tree b.value)

@@ -1,10 +1,9 @@
 // The cases of a `switch`.
 
-ghost use Rattle.std.specs.Prelude.{◌≡◌, ℤ, option_map, true, false, Some, IfOk, OnOk};
+ghost use Rattle.std.specs.Prelude.{◌≡◌, option_map, false, Some, IfOk, OnOk};
 ghost use Rattle.pk_ctypes.specs.Types.{wrapped};
 ghost use Rattle.pk_typed.specs.Views.{value_tree, statement_tree};
 ghost use Rattle.pk_type_scope.specs.Failures.{noted};
-ghost use Rattle.pk_type_declaration.specs.Parts.{parts_in, joined};
 ghost use Rattle.pk_type_declaration.specs.Views.{walked_in};
 ghost use Rattle.pk_type_declaration.specs.Walks as walks;
 ghost use Rattle.pk_type_statement.specs.Numbers.{numbers_in};
@@ -149,7 +148,8 @@ impl<'a> Statements<'a> {
     // Notes the cases whose value an earlier one has.
     fn end_switch(&mut self, alloc: Global, typing: Typing) -> Result<Option<Ended>, AllocError>
         ensures walked { OnOk result (walked_in self.new.walk
-            ≡ walks.failing noted (definitions.repeated_cases typing (passed_in self.old).cases) (walked_in self.old.walk)) }
+            ≡ walks.failing noted (definitions.repeated_cases typing (passed_in self.old).cases)
+            (walked_in self.old.walk)) }
         ensures ended { IfOk result (λ e. option_map ended_tree e ≡ typed.ended typing (passed_in self.old)) }
     {
         match typing {

@@ -111,9 +111,11 @@ impl<'a> Statements<'a> {
         head: &ForHead,
     ) -> Result<Option<Box<typed::ForHead>>, AllocError>
         ensures passed { let h = head.now in OnOk result (passed_in self.new
-            ≡ definitions.on (definitions.after_head noted (ast.for_start_tree h.start) (option_map expression_tree h.condition) (option_map expression_tree h.step)) (passed_in self.old)) }
+            ≡ definitions.on (definitions.after_head noted (ast.for_start_tree h.start)
+            (option_map expression_tree h.condition) (option_map expression_tree h.step)) (passed_in self.old)) }
         ensures tree { let h = head.now in IfOk result (λ t. head_in t
-            ≡ typed.head_at noted (ast.for_start_tree h.start) (option_map expression_tree h.condition) (option_map expression_tree h.step) (passed_in self.old).walked) }
+            ≡ typed.head_at noted (ast.for_start_tree h.start) (option_map expression_tree h.condition)
+            (option_map expression_tree h.step) (passed_in self.old).walked) }
     {
         let start = self.start(alloc, &head.start)?;
         let start = boxed(alloc, start)?;

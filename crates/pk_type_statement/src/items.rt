@@ -1,10 +1,10 @@
 // The items of a block.
 
-ghost use Rattle.std.specs.Prelude.{◌≡◌, ◌++◌, Some, option_map, map, IfOk, IfSome, OnOk};
+ghost use Rattle.std.specs.Prelude.{◌≡◌, Some, option_map, map, IfOk, IfSome, OnOk};
 ghost use Rattle.pk_ast.specs.Trees as trees;
 ghost use Rattle.pk_ast.specs.Views as ast;
 ghost use Rattle.pk_typed.specs.Trees as tree;
-ghost use Rattle.pk_typed.specs.Views.{declared_trees, statement_tree, item_trees};
+ghost use Rattle.pk_typed.specs.Views.{declared_trees, statement_tree};
 ghost use Rattle.pk_typed.specs.declared.statements.Item.TheVariants as items;
 ghost use Rattle.pk_type_statement.specs.Items.{and_objects, and_statement};
 ghost use Rattle.pk_type_statement.specs.Views.{items_in, statement_in};

@@ -84,7 +84,8 @@ impl<'a> Statements<'a> {
         e: &Option<Expression>,
     ) -> Result<Option<Option<Value>>, AllocError>
         ensures passed { OnOk result (passed_in self.new
-            ≡ definitions.on (definitions.after_optional_value noted (option_map expression_tree e.now)) (passed_in self.old)) }
+            ≡ definitions.on (definitions.after_optional_value noted (option_map expression_tree e.now))
+            (passed_in self.old)) }
         ensures value { IfOk result (λ v. option_map (option_map value_tree) v
             ≡ typed.optional_value_at (passed_in self.old).walked (option_map expression_tree e.now)) }
     {
@@ -104,7 +105,8 @@ impl<'a> Statements<'a> {
         e: &Option<Expression>,
     ) -> Result<Option<Option<Effect>>, AllocError>
         ensures passed { OnOk result (passed_in self.new
-            ≡ definitions.on (definitions.after_optional_effect noted (option_map expression_tree e.now)) (passed_in self.old)) }
+            ≡ definitions.on (definitions.after_optional_effect noted (option_map expression_tree e.now))
+            (passed_in self.old)) }
         ensures effect { IfOk result (λ v. option_map (option_map effect_tree) v
             ≡ typed.optional_effect_at (passed_in self.old).walked (option_map expression_tree e.now)) }
     {
@@ -126,7 +128,8 @@ impl<'a> Statements<'a> {
         e: &Option<Expression>,
     ) -> Result<Option<Option<Value>>, AllocError>
         ensures passed { OnOk result (passed_in self.new
-            ≡ definitions.on (definitions.after_return noted returns at (option_map expression_tree e.now)) (passed_in self.old)) }
+            ≡ definitions.on (definitions.after_return noted returns at (option_map expression_tree e.now))
+            (passed_in self.old)) }
         ensures value { IfOk result (λ v. option_map (option_map value_tree) v
             ≡ typed.optional_value_at (passed_in self.old).walked (option_map expression_tree e.now)) }
     {
@@ -198,8 +201,10 @@ impl<'a> Statements<'a> {
     /// Leaves a scope. What was around it is as it was.
     pub(crate) fn leave(&mut self)
         requires { 0 < length (passed_in self.old).walked.scoping.outer }
-        ensures { (before : Walked (Option Failure)) → (passed_in self.old).walked.scoping.outer ≡ before.scoping.outer ++ before.scoping.inner ∷ []
-            → (passed_in self.old).walked.scoping.text ≡ before.scoping.text → passed_in self.new ≡ definitions.on (walks.leaving before) (passed_in self.old) }
+        ensures { (before : Walked (Option Failure)) →
+            (passed_in self.old).walked.scoping.outer ≡ before.scoping.outer ++ before.scoping.inner ∷ []
+            → (passed_in self.old).walked.scoping.text ≡ before.scoping.text →
+            passed_in self.new ≡ definitions.on (walks.leaving before) (passed_in self.old) }
     {
         self.walk.scope.close();
     }

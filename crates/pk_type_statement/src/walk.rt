@@ -44,7 +44,8 @@ pub fn statement(
     ensures passed { OnOk result (passed_in to.new
         ≡ definitions.after noted around.now.returns (passed_in to.old) (ast.statement_tree s.now)) }
     ensures tree { IfOk result (λ t. statement_in t
-        ≡ typed.typed noted around.now.returns (labels_in around.now.labels.now) (passed_in to.old) (ast.statement_tree s.now)) }
+        ≡ typed.typed noted around.now.returns (labels_in around.now.labels.now) (passed_in to.old)
+        (ast.statement_tree s.now)) }
 {
     let alloc = around.alloc;
     match s {
@@ -124,9 +125,11 @@ fn switch_statement(
     e: &Expression,
 ) -> Result<Option<Box<typed::Statement>>, AllocError>
     ensures passed { OnOk result (passed_in to.new
-        ≡ definitions.after noted around.now.returns (passed_in to.old) (tree.switch at (ast.expression_tree e.now) (ast.statement_tree body.now))) }
+        ≡ definitions.after noted around.now.returns (passed_in to.old)
+        (tree.switch at (ast.expression_tree e.now) (ast.statement_tree body.now))) }
     ensures tree { IfOk result (λ t. statement_in t
-        ≡ typed.typed noted around.now.returns (labels_in around.now.labels.now) (passed_in to.old) (tree.switch at (ast.expression_tree e.now) (ast.statement_tree body.now))) }
+        ≡ typed.typed noted around.now.returns (labels_in around.now.labels.now) (passed_in to.old)
+        (tree.switch at (ast.expression_tree e.now) (ast.statement_tree body.now))) }
 {
     let alloc = around.alloc;
     let (typing, value) = to.operand(alloc, e)?;
@@ -147,9 +150,13 @@ fn for_statement(
     body: &Statement,
 ) -> Result<Option<Box<typed::Statement>>, AllocError>
     ensures passed { let h = head.now in OnOk result (passed_in to.new
-        ≡ definitions.after noted around.now.returns (passed_in to.old) (tree.for_loop at (ast.for_start_tree h.start) (option_map ast.expression_tree h.condition) (option_map ast.expression_tree h.step) (ast.statement_tree body.now))) }
+        ≡ definitions.after noted around.now.returns (passed_in to.old)
+        (tree.for_loop at (ast.for_start_tree h.start) (option_map ast.expression_tree h.condition)
+        (option_map ast.expression_tree h.step) (ast.statement_tree body.now))) }
     ensures tree { let h = head.now in IfOk result (λ t. statement_in t
-        ≡ typed.typed noted around.now.returns (labels_in around.now.labels.now) (passed_in to.old) (tree.for_loop at (ast.for_start_tree h.start) (option_map ast.expression_tree h.condition) (option_map ast.expression_tree h.step) (ast.statement_tree body.now))) }
+        ≡ typed.typed noted around.now.returns (labels_in around.now.labels.now) (passed_in to.old)
+        (tree.for_loop at (ast.for_start_tree h.start) (option_map ast.expression_tree h.condition)
+        (option_map ast.expression_tree h.step) (ast.statement_tree body.now))) }
 {
     let alloc = around.alloc;
     to.enter(alloc)?;
@@ -168,9 +175,11 @@ fn block_items(
     list: &[BlockItem],
 ) -> Result<Option<Vec<Item>>, AllocError>
     ensures passed { OnOk result (passed_in to.new
-        ≡ definitions.outside (passed_in to.old) (definitions.after_items noted around.now.returns (definitions.inside (passed_in to.old)) (ast.item_trees list.now))) }
+        ≡ definitions.outside (passed_in to.old) (definitions.after_items noted around.now.returns
+        (definitions.inside (passed_in to.old)) (ast.item_trees list.now))) }
     ensures trees { IfOk result (λ t. option_map (λ v. item_trees v.items) t
-        ≡ typed.typed_items noted around.now.returns (labels_in around.now.labels.now) (definitions.inside (passed_in to.old)) (ast.item_trees list.now)) }
+        ≡ typed.typed_items noted around.now.returns (labels_in around.now.labels.now)
+        (definitions.inside (passed_in to.old)) (ast.item_trees list.now)) }
 {
     to.enter(around.alloc)?;
     let all = body_items(to, around, list)?;
@@ -188,7 +197,8 @@ pub fn body_items(
     ensures passed { OnOk result (passed_in to.new
         ≡ definitions.after_items noted around.now.returns (passed_in to.old) (ast.item_trees list.now)) }
     ensures trees { IfOk result (λ t. option_map (λ v. item_trees v.items) t
-        ≡ typed.typed_items noted around.now.returns (labels_in around.now.labels.now) (passed_in to.old) (ast.item_trees list.now)) }
+        ≡ typed.typed_items noted around.now.returns (labels_in around.now.labels.now) (passed_in to.old)
+        (ast.item_trees list.now)) }
 {
     let alloc = around.alloc;
     let mut all = Parts::new(alloc);

@@ -1,5 +1,5 @@
 -- The typed tree that a value of the code stands for.
-use Rattle.std.specs.Prelude.{ℕ, List, [], ◌∷◌, Option, Some, None, option_map, map}
+use Rattle.std.specs.Prelude.{List, [], ◌∷◌, Option, option_map, map}
 use Rattle.std.specs.declared.alloc.Global.{Global}
 use Rattle.std.specs.declared.vec.Vec.{Vec}
 use Rattle.pk_typed.specs.declared.values.Place.{Place}
@@ -87,12 +87,14 @@ unfoldable mutual
   statement_tree (statements.Case' at n p s) = tree.case at n (statement_tree s)
   statement_tree (statements.Default' at p s) = tree.default at (statement_tree s)
   statement_tree (statements.If' at v p s) = tree.if_then at (value_tree v) (statement_tree s)
-  statement_tree (statements.IfElse' at v p s q t) = tree.if_else at (value_tree v) (statement_tree s) (statement_tree t)
+  statement_tree (statements.IfElse' at v p s q t) =
+      tree.if_else at (value_tree v) (statement_tree s) (statement_tree t)
   statement_tree (statements.Switch' at t v cs d p s) = tree.switch at t (value_tree v) cs.items d (statement_tree s)
   statement_tree (statements.While' at v p s) = tree.while at (value_tree v) (statement_tree s)
   statement_tree (statements.Do' at p s v) = tree.do_while at (statement_tree s) (value_tree v)
   statement_tree (statements.For' at head p s) =
-      let h = head.value in tree.for_loop at (for_start_tree h.start) (option_map value_tree h.test) (option_map effect_tree h.step) (statement_tree s)
+      let h = head.value in tree.for_loop at (for_start_tree h.start) (option_map value_tree h.test)
+      (option_map effect_tree h.step) (statement_tree s)
   statement_tree (statements.Goto at n) = tree.goto at n
   statement_tree (statements.Continue at) = tree.continue at
   statement_tree (statements.Break at) = tree.break at

@@ -219,7 +219,8 @@ impl Statement {
 
     pub fn for_loop(at: Pos, head: Box<ForHead>, body: Box<Statement>) -> Statement
         ensures { let h = head.value in statement_tree result
-            ≡ tree.for_loop at (for_start_tree h.start) (option_map value_tree h.test) (option_map effect_tree h.step) (statement_tree body.value) }
+            ≡ tree.for_loop at (for_start_tree h.start) (option_map value_tree h.test)
+            (option_map effect_tree h.step) (statement_tree body.value) }
     {
         Statement::For(at, head, body)
     }

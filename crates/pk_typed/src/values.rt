@@ -254,7 +254,8 @@ impl Value {
         if_false: Box<Value>,
     ) -> Value
         ensures { value_tree result
-            ≡ tree.conditional int_type (value_tree condition.value) (value_tree if_true.value) (value_tree if_false.value) }
+            ≡ tree.conditional int_type (value_tree condition.value) (value_tree if_true.value)
+            (value_tree if_false.value) }
     {
         Value::Conditional {
             int_type,

@@ -2,14 +2,14 @@
 use Rattle.std.specs.Prelude.{◌≡◌, ◌<◌, ◌≤◌, Bool, true, false, ℤ, List}
 use Rattle.std.proofs.Common.{arith, refl, ap, sym, ◌∙◌}
 use Rattle.pk_ctypes.specs.declared.types.IntType.{IntType}
-use Rattle.pk_interval.specs.Ranges.{Range, Holds, IsIn}
+use Rattle.pk_interval.specs.Ranges.{Range}
 use Rattle.pk_interval.specs.Ranges as ranges
 use Rattle.pk_interval.specs.Widening as widening
-use Rattle.pk_interval.specs.Widening.{moves, Narrows}
+use Rattle.pk_interval.specs.Widening.{moves}
 use Rattle.pk_interval.proofs.Order.{lattice as range_lattice}
 use Rattle.pk_interval.proofs.Ends.{widens, moves_are_ranks}
 use Rattle.pk_interval.proofs.Keeping.{unchanged as range_unchanged, stays}
-use Rattle.pk_congr.specs.Classes.{Class, IsReduced}
+use Rattle.pk_congr.specs.Classes.{Class}
 use Rattle.pk_congr.specs.Classes as classes
 use Rattle.pk_congr.specs.Laws.{divisions}
 use Rattle.pk_congr.proofs.Order.{tests, join_is_least}

@@ -54,7 +54,8 @@ abbrev pub is_within : Known → Known → Bool
 is_within a b = ranges.is_within a.range b.range && classes.is_within a.class b.class
 
 abbrev pub widened : IntType → List ℤ → Known → Known → Known
-widened t thresholds h n = record { range = widening.widened t thresholds h.range n.range; class = classes.widened h.class n.class }
+widened t thresholds h n =
+    record { range = widening.widened t thresholds h.range n.range; class = classes.widened h.class n.class }
 
 abbrev pub narrowed : IntType → Known → Known → Known
 narrowed t h n = record { range = widening.narrowed t h.range n.range; class = classes.narrowed h.class n.class }

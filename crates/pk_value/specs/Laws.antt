@@ -14,8 +14,10 @@ use Rattle.pk_value.specs.Values.{operated, converted}
 
 -- The result of numbers that are known is one of the numbers known of it.
 pub record ValuesAreSound : Type 0 where
-  pub operator : (op : Op) (t : IntType) (a b : Known) (x y z : ℤ) → IsIn t a.range → HasRightIn op t b.range → pos 0 ≤ℤ a.class.m → IsOf a x → IsOf b y → value_of op t x y ≡ Ok z → IsOneOf (operated op t a b) z
-  pub conversion : (t : IntType) (k : Known) (z : ℤ) → pos 0 ≤ℤ k.class.m → IsOf k z → IsOneOf (converted t k) (wrapped t z)
+  pub operator : (op : Op) (t : IntType) (a b : Known) (x y z : ℤ) → IsIn t a.range → HasRightIn op t b.range →
+      pos 0 ≤ℤ a.class.m → IsOf a x → IsOf b y → value_of op t x y ≡ Ok z → IsOneOf (operated op t a b) z
+  pub conversion : (t : IntType) (k : Known) (z : ℤ) → pos 0 ≤ℤ k.class.m → IsOf k z →
+      IsOneOf (converted t k) (wrapped t z)
 
 -- Joins and widening steps are above both; what is within has no other numbers; and what changes nothing.
 pub record IsLattice : Type 0 where
@@ -23,10 +25,14 @@ pub record IsLattice : Type 0 where
   pub join_right : (a b : Known) (z : ℤ) → IsOf b z → IsOf (joined a b) z
   pub join_same : (a b : Known) → IsReduced a.class.m a.class.r → is_within b a ≡ true → joined a b ≡ a
   pub within : (a b : Known) (z : ℤ) → is_within a b ≡ true → IsOf a z → IsOf b z
-  pub widen_held : (t : IntType) (thresholds : List ℤ) (h n : Known) (z : ℤ) → IsIn t h.range → IsIn t n.range → IsOf h z → IsOf (widened t thresholds h n) z
-  pub widen_next : (t : IntType) (thresholds : List ℤ) (h n : Known) (z : ℤ) → IsIn t h.range → IsIn t n.range → IsOf n z → IsOf (widened t thresholds h n) z
-  pub widen_same : (t : IntType) (thresholds : List ℤ) (h n : Known) → IsReduced h.class.m h.class.r → is_within n h ≡ true → widened t thresholds h n ≡ h
-  pub widen_above : (t : IntType) (thresholds : List ℤ) (h n : Known) → IsIn t h.range → IsIn t n.range → is_within h (widened t thresholds h n) ≡ true
+  pub widen_held : (t : IntType) (thresholds : List ℤ) (h n : Known) (z : ℤ) → IsIn t h.range → IsIn t n.range →
+      IsOf h z → IsOf (widened t thresholds h n) z
+  pub widen_next : (t : IntType) (thresholds : List ℤ) (h n : Known) (z : ℤ) → IsIn t h.range → IsIn t n.range →
+      IsOf n z → IsOf (widened t thresholds h n) z
+  pub widen_same : (t : IntType) (thresholds : List ℤ) (h n : Known) → IsReduced h.class.m h.class.r →
+      is_within n h ≡ true → widened t thresholds h n ≡ h
+  pub widen_above : (t : IntType) (thresholds : List ℤ) (h n : Known) → IsIn t h.range → IsIn t n.range →
+      is_within h (widened t thresholds h n) ≡ true
   pub narrow_keeps : (t : IntType) (h n : Known) (z : ℤ) → IsOf h z → IsOf n z → IsOf (narrowed t h n) z
   pub narrow_same : (t : IntType) (h : Known) → narrowed t h h ≡ h
 
@@ -42,9 +48,12 @@ pub record IsOfIts (t : IntType) (k : Known) : Type 0 where
 -- It is a rank of widening steps: few, never more after a step, fewer after one that isn't within; and a step is a value of the type.
 pub record IsRank : Type 0 where
   pub few : (t : IntType) (thresholds : List ℤ) (h : Known) → rank_of t thresholds h ≤ 2 * (length thresholds + 1) + 65
-  pub stays : (t : IntType) (thresholds : List ℤ) (h n : Known) → IsOfIts t h → IsOfIts t n → rank_of t thresholds (widened t thresholds h n) ≤ rank_of t thresholds h
-  pub falls : (t : IntType) (thresholds : List ℤ) (h n : Known) → IsOfIts t h → IsOfIts t n → is_within n h ≡ false → rank_of t thresholds (widened t thresholds h n) < rank_of t thresholds h
-  pub step : (t : IntType) (thresholds : List ℤ) (h n : Known) → IsOfIts t h → IsOfIts t n → IsOfIts t (widened t thresholds h n)
+  pub stays : (t : IntType) (thresholds : List ℤ) (h n : Known) → IsOfIts t h → IsOfIts t n →
+      rank_of t thresholds (widened t thresholds h n) ≤ rank_of t thresholds h
+  pub falls : (t : IntType) (thresholds : List ℤ) (h n : Known) → IsOfIts t h → IsOfIts t n → is_within n h ≡ false →
+      rank_of t thresholds (widened t thresholds h n) < rank_of t thresholds h
+  pub step : (t : IntType) (thresholds : List ℤ) (h n : Known) → IsOfIts t h → IsOfIts t n →
+      IsOfIts t (widened t thresholds h n)
 
 -- both bounds are numbers of the class, and one number alone is a constant
 pub record IsTight (k : Known) : Type 0 where

@@ -25,8 +25,10 @@ pub record IsInBoth (p : Range × Class) (x : ℤ) : Type 0 where
 
 -- Reduction keeps exactly the numbers of both, and its bounds are two of them.
 pub record ReductionIsExact : Type 0 where
-  pub all : (r : Range) (c : Class) (p : Range × Class) (x : ℤ) → pos 0 ≤ℤ c.m → red r c ≡ Some p → IsInBoth (r, c) x → IsInBoth p x
-  pub only : (r : Range) (c : Class) (p : Range × Class) (x : ℤ) → pos 0 ≤ℤ c.m → red r c ≡ Some p → IsInBoth p x → IsInBoth (r, c) x
+  pub all : (r : Range) (c : Class) (p : Range × Class) (x : ℤ) → pos 0 ≤ℤ c.m → red r c ≡ Some p →
+      IsInBoth (r, c) x → IsInBoth p x
+  pub only : (r : Range) (c : Class) (p : Range × Class) (x : ℤ) → pos 0 ≤ℤ c.m → red r c ≡ Some p → IsInBoth p x →
+      IsInBoth (r, c) x
   pub none : (r : Range) (c : Class) (x : ℤ) → pos 0 ≤ℤ c.m → red r c ≡ None → IsInBoth (r, c) x → ⊥
   pub least : (r : Range) (c : Class) (p : Range × Class) → pos 0 ≤ℤ c.m → red r c ≡ Some p → IsInBoth p p.0.lo
   pub greatest : (r : Range) (c : Class) (p : Range × Class) → pos 0 ≤ℤ c.m → red r c ≡ Some p → IsInBoth p p.0.hi

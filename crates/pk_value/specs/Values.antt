@@ -56,7 +56,8 @@ fitted t (Some p) c = red_as p.0 (wrapped_class t c p.1)
 abbrev pub from_table : Op → IntType → Known → Known → Option Known
 from_table op t a b =
     let u = result_type op t in
-    fitted u (finish_of u (compared op a.class b.class (range_of op t a.range b.range))) (result_of op t a.class b.class)
+    fitted u (finish_of u (compared op a.class b.class (range_of op t a.range b.range)))
+    (result_of op t a.class b.class)
 
 -- ---- constants
 

@@ -1,6 +1,6 @@
 // What is known of the result of an operator or a conversion.
 
-ghost use Rattle.std.specs.Prelude.{◌≡◌, ◌-◌, ◌^◌, negsuc, ◌≤ℤ◌, ℤ, IfSome, true};
+ghost use Rattle.std.specs.Prelude.{◌≡◌, ◌-◌, ◌^◌, negsuc, ◌≤ℤ◌, ℤ, IfSome};
 ghost use Rattle.pk_ctypes.specs.Operators.{result_type as type_of_result};
 ghost use Rattle.pk_interval.specs.Ranges.{IsIn};
 ghost use Rattle.pk_interval.specs.Fitting.{finish_of};

@@ -39,7 +39,8 @@ fn has_all(interval: &Interval, congr: &Congr) -> bool
 
 // Whether a value has one number, and says so.
 fn has_one(interval: &Interval, congr: &Congr) -> bool
-    ensures { result ≡ true → (congr.now.m ≡ pos 0) × (congr.now.r ≡ interval.now.lo) × (interval.now.lo ≡ interval.now.hi) }
+    ensures { result ≡ true →
+        (congr.now.m ≡ pos 0) × (congr.now.r ≡ interval.now.lo) × (interval.now.lo ≡ interval.now.hi) }
 {
     congr.m == 0 && congr.r == interval.lo && interval.lo == interval.hi
 }

@@ -15,4 +15,5 @@ pub record IsAccessOver (g : GraphOf) (y : Layout) (a : AccessOf) : Type 0 where
 
 -- All accesses of a graph are such, over each layout of its variables.
 abbrev pub AccessesAreOver : Type 0
-AccessesAreOver = (g : GraphOf) (y : Layout) → IsGraph g → IsOver (kinds_of g) y → All (IsAccessOver g y) (accesses_of g)
+AccessesAreOver =
+    (g : GraphOf) (y : Layout) → IsGraph g → IsOver (kinds_of g) y → All (IsAccessOver g y) (accesses_of g)

@@ -101,7 +101,9 @@ moved_verdict Not t a b = Safe
 
 -- first the count, which lies from 0 to the width less 1
 abbrev pub shift_verdict : Op → IntType → Known → Known → Verdict
-shift_verdict op t a b = if lies_in (pos 0) (pos (width_of t) -ℤ pos 1) b.range then moved_verdict op t a b else Unknown b.range.lo b.range.hi
+shift_verdict op t a b =
+    if lies_in (pos 0) (pos (width_of t) -ℤ pos 1) b.range then moved_verdict op t a b
+    else Unknown b.range.lo b.range.hi
 
 -- nothing is left of a state
 abbrev pub nothing_in : Option Facts → Bool
@@ -111,12 +113,18 @@ nothing_in (Some f) = false
 -- An operation at a point of which this is known, and it isn't that no run comes there: an index (C99 6.5.6), a divisor of 0 (6.5.5), a result outside of its type (6.5), a shift (6.5.7), and an
 -- assertion, which holds where the guard that it is false leaves no store.
 abbrev pub operation_verdict : Layout → Option Facts → OperationOf → Verdict
-operation_verdict y f (Index n i) = told_of (tree_known (known_in f) i) (λ k. safe_if (lies_in (pos 0) (pos n -ℤ pos 1) k.range) k.range)
-operation_verdict y f (Divisor a b) = told_of (tree_known (known_in f) a) (λ j. told_of (tree_known (known_in f) b) (λ k. safe_if (excludes k (pos 0)) k.range))
+operation_verdict y f (Index n i) =
+    told_of (tree_known (known_in f) i) (λ k. safe_if (lies_in (pos 0) (pos n -ℤ pos 1) k.range) k.range)
+operation_verdict y f (Divisor a b) =
+    told_of (tree_known (known_in f) a)
+    (λ j. told_of (tree_known (known_in f) b) (λ k. safe_if (excludes k (pos 0)) k.range))
 operation_verdict y f (Negation t e) = told_of (tree_known (known_in f) e) (λ k. ranged_verdict Neg t k k)
-operation_verdict y f (Result op t a b) = told_of (tree_known (known_in f) a) (λ j. told_of (tree_known (known_in f) b) (operator_verdict op t j))
-operation_verdict y f (Shift op t a b) = told_of (tree_known (known_in f) a) (λ j. told_of (tree_known (known_in f) b) (shift_verdict op t j))
-operation_verdict y f (Assertion e) = told_of (tree_known (known_in f) e) (λ k. safe_if (nothing_in (transferred y f (Guard e false))) k.range)
+operation_verdict y f (Result op t a b) =
+    told_of (tree_known (known_in f) a) (λ j. told_of (tree_known (known_in f) b) (operator_verdict op t j))
+operation_verdict y f (Shift op t a b) =
+    told_of (tree_known (known_in f) a) (λ j. told_of (tree_known (known_in f) b) (shift_verdict op t j))
+operation_verdict y f (Assertion e) =
+    told_of (tree_known (known_in f) e) (λ k. safe_if (nothing_in (transferred y f (Guard e false))) k.range)
 
 abbrev pub verdict_of : Layout → Option Facts → OperationOf → Verdict
 verdict_of y None o = Unreachable

@@ -1,7 +1,7 @@
 // Tests of values.
 
-ghost use Rattle.std.specs.Prelude.{◌≡◌, ◌-ℤ◌, pos, ◌<◌, ◌^◌};
-ghost use Rattle.pk_ctypes.specs.Types.{width_of, is_signed_of};
+ghost use Rattle.std.specs.Prelude.{◌≡◌, ◌-ℤ◌, pos, ◌<◌};
+ghost use Rattle.pk_ctypes.specs.Types.{is_signed_of};
 ghost use Rattle.pk_interval.specs.Ranges.{IsIn};
 ghost use Rattle.pk_interval.specs.Operators.{HasRightIn};
 ghost use Rattle.pk_verdict.specs.Verdicts.{safe_if, lies_in as all_lie_in, excludes as excludes_it, result_verdict, quotient_verdict, ranged_verdict, operator_verdict, left_verdict, moved_verdict, shift_verdict};

@@ -1,6 +1,6 @@
 // The verdict on an operation.
 
-ghost use Rattle.std.specs.Prelude.{◌≡◌, ◌≢◌, ◌-ℤ◌, pos, None, false, IfOk};
+ghost use Rattle.std.specs.Prelude.{◌≡◌, ◌-ℤ◌, pos, None, false, IfOk};
 ghost use Rattle.pk_ctypes.specs.declared.types.Op.TheVariants.{Neg};
 ghost use Rattle.pk_graph.specs.Kinds.{IsTyped, IsOfType, IsRight, type_of};
 ghost use Rattle.pk_graph.specs.Trees.{Guard};
@@ -20,7 +20,8 @@ use std::alloc::{AllocError, Global};
 
 fn index(state: &State, length: usize, e: &Tree) -> Verdict
     requires { IsTyped (kinds_of state.now.layout) (tree_view e.now) }
-    ensures { result ≡ told_of (tree_known (known_in state.now.facts) (tree_view e.now)) (λ k. safe_if (all_lie_in (pos 0) (pos length -ℤ pos 1) k.range) k.range) }
+    ensures { result ≡ told_of (tree_known (known_in state.now.facts) (tree_view e.now))
+        (λ k. safe_if (all_lie_in (pos 0) (pos length -ℤ pos 1) k.range) k.range) }
 {
     match value(e, state) {
         None => Verdict::Unreachable,
@@ -31,7 +32,9 @@ fn index(state: &State, length: usize, e: &Tree) -> Verdict
 fn divisor(state: &State, a: &Tree, b: &Tree) -> Verdict
     requires left { IsTyped (kinds_of state.now.layout) (tree_view a.now) }
     requires right { IsTyped (kinds_of state.now.layout) (tree_view b.now) }
-    ensures { result ≡ told_of (tree_known (known_in state.now.facts) (tree_view a.now)) (λ j. told_of (tree_known (known_in state.now.facts) (tree_view b.now)) (λ k. safe_if (excludes_it k (pos 0)) k.range)) }
+    ensures { result ≡ told_of (tree_known (known_in state.now.facts) (tree_view a.now))
+        (λ j. told_of (tree_known (known_in state.now.facts) (tree_view b.now))
+        (λ k. safe_if (excludes_it k (pos 0)) k.range)) }
 {
     match value(a, state) {
         None => Verdict::Unreachable,
@@ -44,7 +47,8 @@ fn divisor(state: &State, a: &Tree, b: &Tree) -> Verdict
 
 fn negation(state: &State, t: IntType, e: &Tree) -> Verdict
     requires { IsOfType (kinds_of state.now.layout) t (tree_view e.now) }
-    ensures { result ≡ told_of (tree_known (known_in state.now.facts) (tree_view e.now)) (λ k. ranged_verdict Neg t k k) }
+    ensures { result
+        ≡ told_of (tree_known (known_in state.now.facts) (tree_view e.now)) (λ k. ranged_verdict Neg t k k) }
 {
     match value(e, state) {
         None => Verdict::Unreachable,
@@ -56,7 +60,8 @@ fn result(state: &State, op: Op, t: IntType, a: &Tree, b: &Tree) -> Verdict
     requires left { IsOfType (kinds_of state.now.layout) t (tree_view a.now) }
     requires right { IsTyped (kinds_of state.now.layout) (tree_view b.now) }
     requires represents { IsRight op t (type_of (kinds_of state.now.layout) (tree_view b.now)) }
-    ensures { result ≡ told_of (tree_known (known_in state.now.facts) (tree_view a.now)) (λ j. told_of (tree_known (known_in state.now.facts) (tree_view b.now)) (operator_verdict op t j)) }
+    ensures { result ≡ told_of (tree_known (known_in state.now.facts) (tree_view a.now))
+        (λ j. told_of (tree_known (known_in state.now.facts) (tree_view b.now)) (operator_verdict op t j)) }
 {
     match value(a, state) {
         None => Verdict::Unreachable,
@@ -70,7 +75,8 @@ fn result(state: &State, op: Op, t: IntType, a: &Tree, b: &Tree) -> Verdict
 fn shifted(state: &State, op: Op, t: IntType, a: &Tree, b: &Tree) -> Verdict
     requires left { IsOfType (kinds_of state.now.layout) t (tree_view a.now) }
     requires right { IsTyped (kinds_of state.now.layout) (tree_view b.now) }
-    ensures { result ≡ told_of (tree_known (known_in state.now.facts) (tree_view a.now)) (λ j. told_of (tree_known (known_in state.now.facts) (tree_view b.now)) (shift_verdict op t j)) }
+    ensures { result ≡ told_of (tree_known (known_in state.now.facts) (tree_view a.now))
+        (λ j. told_of (tree_known (known_in state.now.facts) (tree_view b.now)) (shift_verdict op t j)) }
 {
     match value(a, state) {
         None => Verdict::Unreachable,
@@ -84,7 +90,8 @@ fn shifted(state: &State, op: Op, t: IntType, a: &Tree, b: &Tree) -> Verdict
 // The state where a tree is false, as an edge with that guard gives it.
 fn where_false(alloc: Global, state: &State, e: &Tree) -> Result<State, AllocError>
     requires { IsTyped (kinds_of state.now.layout) (tree_view e.now) }
-    ensures { IfOk result (λ s. s.facts ≡ transferred state.now.layout state.now.facts (Guard (tree_view e.now) false)) }
+    ensures { IfOk result
+        (λ s. s.facts ≡ transferred state.now.layout state.now.facts (Guard (tree_view e.now) false)) }
 {
     let before = state.reduce(alloc)?;
     let after = guard(alloc, before, e, false)?;
@@ -99,7 +106,9 @@ fn is_empty(state: &State) -> bool
 
 fn assertion(alloc: Global, state: &State, e: &Tree) -> Result<Verdict, AllocError>
     requires { IsTyped (kinds_of state.now.layout) (tree_view e.now) }
-    ensures { IfOk result (λ v. v ≡ told_of (tree_known (known_in state.now.facts) (tree_view e.now)) (λ k. safe_if (nothing_in (transferred state.now.layout state.now.facts (Guard (tree_view e.now) false))) k.range)) }
+    ensures { IfOk result (λ v. v ≡ told_of (tree_known (known_in state.now.facts) (tree_view e.now))
+        (λ k. safe_if
+        (nothing_in (transferred state.now.layout state.now.facts (Guard (tree_view e.now) false))) k.range)) }
 {
     match value(e, state) {
         None => Ok(Verdict::Unreachable),

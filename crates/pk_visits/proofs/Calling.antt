@@ -4,7 +4,7 @@ use Rattle.std.specs.Prelude.{slice_get, slice_index_or, option_map, unwrap_or}
 use Rattle.std.proofs.lemmas.List.{get_or-set_same, length-set}
 use Rattle.pk_ctypes.specs.declared.places.Pos.{Pos}
 use Rattle.pk_ctypes.specs.declared.types.IntType.{IntType}
-use Rattle.pk_typed.specs.Trees.{ValueTree, EffectTree, ValueTrees, FunctionTree}
+use Rattle.pk_typed.specs.Trees.{ValueTree, ValueTrees, FunctionTree}
 use Rattle.pk_typed.specs.Trees as tree
 use Rattle.pk_typed.specs.Types.{type_of}
 use Rattle.pk_welltyped.specs.Listed.{Numbered, call_of, calls_in, calls_in_effect, calls_in_values, calls_in_items}
@@ -34,15 +34,16 @@ use Rattle.pk_visits.proofs.Steps.Trees.{stage_names, or_first, or_second}
 use Rattle.pk_visits.proofs.Steps.Passing.{pushed_is, binds_laid}
 use Rattle.pk_visits.proofs.Steps.OwnReads.{passed_apart, passed_many}
 use Rattle.pk_visits.proofs.Doom.{calm_plain}
+use Rattle.pk_typed.specs.Defaults.{no_function}
 
 -- ---- functions by their numbers
 
-pub parameters_same : (fs : List FunctionTree) (f : ℕ) → unwrap_or (option_map (λ (g : FunctionTree). g.parameters) (slice_get fs f)) [] ≡ (slice_index_or fs f program.no_function).parameters
+pub parameters_same : (fs : List FunctionTree) (f : ℕ) → unwrap_or (option_map (λ (g : FunctionTree). g.parameters) (slice_get fs f)) [] ≡ (slice_index_or fs f no_function).parameters
 parameters_same [] f = refl
 parameters_same (g ∷ fs) zero = refl
 parameters_same (g ∷ fs) (suc f) = parameters_same fs f
 
-taken : (fs : List FunctionTree) (f n : ℕ) (r : Option IntType) → Takes n r (slice_get fs f) → ((slice_index_or fs f program.no_function).returns ≡ r) × (length (slice_index_or fs f program.no_function).parameters ≡ n)
+taken : (fs : List FunctionTree) (f n : ℕ) (r : Option IntType) → Takes n r (slice_get fs f) → ((slice_index_or fs f no_function).returns ≡ r) × (length (slice_index_or fs f no_function).parameters ≡ n)
 taken [] f n r h = absurd h
 taken (g ∷ fs) zero n r h = h
 taken (g ∷ fs) (suc f) n r h = taken fs f n r h
@@ -112,7 +113,7 @@ called_laid g proper k h x z r es w n d hs fits takes calm s l =
       by later m e size (inr a) none there = a ∙ get_or-set_same e.regions m (record { at = e.point; points = e.points; variables = e.variables }) no_region there
 
       parameters_at : Among z (calls_in_items (program.block_of g.program k).items) → parameters_of g.program.unit z.call.function ≡ (program.function_of g.program (callee (context_of g k) z.number)).parameters
-      parameters_at noted = parameters_same g.program.unit.functions z.call.function ∙ ap (λ j. (slice_index_or g.program.unit.functions j program.no_function).parameters) (sym (proper.functions k z s.path noted))
+      parameters_at noted = parameters_same g.program.unit.functions z.call.function ∙ ap (λ j. (slice_index_or g.program.unit.functions j no_function).parameters) (sym (proper.functions k z s.path noted))
 
 -- the work that the program says of a call
 called_as : (g : Whole) (proper : Proper g) (k : ℕ) (h : Place) (x : Exits) (z : Numbered) (es : ValueTrees) (w : ℕ → Work) (p : ℕ) (hs : List Held) → k < length g.program.paths → Among z (calls_in_items (program.block_of g.program k).items)
@@ -122,7 +123,7 @@ called_as g proper k h x z es w p hs there noted l =
     let m = callee (context_of g k) z.number in
     subst (λ i. Laid g k h x (work.Pass es (work.Bind i 0 (program.function_of g.program i).parameters (work.Enter i (w i)))) p hs) (sym (proper.callees k z there noted))
     (subst (λ ts. Laid g k h x (work.Pass es (work.Bind m 0 ts (work.Enter m (w m)))) p hs)
-    (parameters_same g.program.unit.functions z.call.function ∙ ap (λ j. (slice_index_or g.program.unit.functions j program.no_function).parameters) (sym (proper.functions k z there noted))) l)
+    (parameters_same g.program.unit.functions z.call.function ∙ ap (λ j. (slice_index_or g.program.unit.functions j no_function).parameters) (sym (proper.functions k z there noted))) l)
 
 -- a call whose value is used
 pub call_laid : (g : Whole) (proper : Proper g) (k : ℕ) (h : Place) (x : Exits) (t : IntType) (f n : ℕ) (at : Pos) (es : ValueTrees) (w : Work) (p : ℕ) (hs : List Held) → Laid g k h x (work.Evaluate (tree.call t f n at es) w) p hs
@@ -143,7 +144,7 @@ call_laid g proper k h x t f n at es w p hs (d, i, is, fits, quiet, s, l) =
     let kind : IsScalar g (result m) t = (
       there,
       t,
-      (ap (λ (j : ℕ). (slice_index_or g.program.unit.functions j program.no_function).returns) (proper.functions k z s.path noted)
+      (ap (λ (j : ℕ). (slice_index_or g.program.unit.functions j no_function).returns) (proper.functions k z s.path noted)
           ∙ (taken g.program.unit.functions f (count es) (Some t) fits.0).0),
       refl,
     ) in

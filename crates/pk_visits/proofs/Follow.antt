@@ -12,7 +12,6 @@ use Rattle.pk_graph.specs.Steps.{Numbers, number_at, tree_value, effect, with_va
 use Rattle.pk_draft.specs.Drafts.{nowhere}
 use Rattle.pk_draft.specs.Folding.{conversion}
 use Rattle.pk_lower_statement.specs.declared.statements.Exits.{Exits}
-use Rattle.pk_welltyped.specs.WellTyped.{Kind, scalar}
 use Rattle.pk_meaning.specs.Objects.{Object, file, local, result, Objects, numbers_of, with_numbers, is_in_scope}
 use Rattle.pk_meaning.specs.Programs.{Program}
 use Rattle.pk_meaning.specs.Work as work
@@ -22,6 +21,7 @@ use Rattle.pk_visits.proofs.Slots.{Slot, own, temporary, Instr, edge, Memory, me
 use Rattle.pk_visits.proofs.Stands.{Whole, ShowsAt, Held, held, in_temporary, Means, HasKind, FitsObjects, Laid, StandsAt}
 use Rattle.pk_visits.proofs.Stores.{Fitting, fits_written, means_apart, temporary_value, own_value}
 use Rattle.pk_visits.proofs.Steps.Values.{conversion_value}
+use Rattle.pk_graph.specs.Kinds.{Kind, scalar_kind}
 
 -- the slot that an instruction writes
 abbrev pub written : Instr → Option Slot
@@ -119,8 +119,8 @@ number_in_type t (z ∷ zs) l a = first_is (is_in_type t z) (all_in_type t zs) a
   first_is true b h = refl
   first_is false b h = h
 
-pub is_there : (p : Program) (x : Object) (t : IntType) (s : Objects) → HasKind p x (scalar t) → FitsObjects p s → 0 < length (numbers_of x s)
-is_there p x t s h f = let e = (f x (scalar t) h).0 in omega (arith, e)
+pub is_there : (p : Program) (x : Object) (t : IntType) (s : Objects) → HasKind p x (scalar_kind t) → FitsObjects p s → 0 < length (numbers_of x s)
+is_there p x t s h f = let e = (f x (scalar_kind t) h).0 in omega (arith, e)
 
 -- the kind of an object is one
 pub kind_is : (p : Program) (x : Object) (m n : Kind) → HasKind p x m → HasKind p x n → m ≡ n
@@ -136,16 +136,16 @@ kind_is p (local j i) m n h k = some (sym h.1 ∙ k.1) where
     or_else : Kind → Option Kind → Kind
     or_else a None = a
     or_else a (Some b) = b
-kind_is p (result j) m n h k = h.3 ∙ ap scalar (some (sym h.2 ∙ k.2)) ∙ sym k.3 where
+kind_is p (result j) m n h k = h.3 ∙ ap scalar_kind (some (sym h.2 ∙ k.2)) ∙ sym k.3 where
   some : Some h.1 ≡ Some k.1 → h.1 ≡ k.1
   some e = ap (λ o. or_else h.1 o) e where
     or_else : IntType → Option IntType → IntType
     or_else a None = a
     or_else a (Some b) = b
 
-pub scalar_written : (p : Program) (x : Object) (t : IntType) (v : ℤ) (s : Objects) → HasKind p x (scalar t) → InType t v → FitsObjects p s → FitsObjects p (with_numbers x (v ∷ []) s)
+pub scalar_written : (p : Program) (x : Object) (t : IntType) (v : ℤ) (s : Objects) → HasKind p x (scalar_kind t) → InType t v → FitsObjects p s → FitsObjects p (with_numbers x (v ∷ []) s)
 scalar_written p x t v s h i f = fits_written p x (v ∷ []) s
-    (λ n k. subst (λ (z : Kind). Fitting z (v ∷ [])) (kind_is p x (scalar t) n h k) (refl, true_both (is_in_type t v) true (in_type_test t v i) refl)) f
+    (λ n k. subst (λ (z : Kind). Fitting z (v ∷ [])) (kind_is p x (scalar_kind t) n h k) (refl, true_both (is_in_type t v) true (in_type_test t v i) refl)) f
 
 -- ---- work with values
 

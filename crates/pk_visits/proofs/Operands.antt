@@ -13,7 +13,7 @@ use Rattle.pk_lower_row.specs.declared.shapes.Shape.TheVariants.{Fixed, Temporar
 use Rattle.pk_lower_row.specs.declared.shapes.Waiting.{Waiting}
 use Rattle.pk_lower_row.specs.declared.shapes.Waiting.TheVariants.{Loose, Strong, Weak}
 use Rattle.pk_lower_row.specs.Shapes.{makes, shape_of, stays}
-use Rattle.pk_lower_row.specs.Rows.{Operand, two, stored_unless}
+use Rattle.pk_lower_row.specs.Rows.{two, stored_unless}
 use Rattle.pk_lower_row.specs.Rows as rows
 use Rattle.pk_lower_expression.specs.Expressions.{ways}
 use Rattle.pk_lower_statement.specs.declared.statements.Exits.{Exits}

@@ -5,14 +5,14 @@ use Rattle.pk_ctypes.specs.declared.types.IntType.{IntType}
 use Rattle.pk_ctypes.specs.declared.types.IntType.TheVariants.{Int}
 use Rattle.pk_ctypes.specs.Types.{InType}
 use Rattle.pk_ctypes.specs.Operators.{result_type}
-use Rattle.pk_typed.specs.Trees.{ValueTree, EffectTree, ValueTrees, DeclaredTree, StatementTree, ItemTrees, BodyTree, FunctionTree}
+use Rattle.pk_typed.specs.Trees.{ValueTree, ValueTrees, DeclaredTree, StatementTree}
 use Rattle.pk_typed.specs.Trees as tree
 use Rattle.pk_typed.specs.Types.{type_of}
 use Rattle.pk_welltyped.specs.Listed.{Numbered, calls_in, calls_in_effect, calls_in_values, calls_in_all_declared, calls_in_effect_if, calls_if, calls_in_statement, calls_in_items}
 use Rattle.pk_welltyped.specs.WellTyped
-use Rattle.pk_welltyped.specs.WellTyped.{count, Around, Kind, scalar, array, kind_in_file, kind_among, IsValue, IsEffect, AreValues, AreDeclared, IsValueIf, IsEffectIf, Marks, IsStatement, AreItems}
+use Rattle.pk_welltyped.specs.WellTyped.{count, Around, kind_in_file, kind_among, IsValue, IsEffect, AreValues, AreDeclared, IsValueIf, IsEffectIf, Marks, IsStatement, AreItems}
 use Rattle.pk_graph.specs.declared.trees.Site.{Site}
-use Rattle.pk_graph.specs.Kinds.{count_of}
+use Rattle.pk_graph.specs.Kinds.{count_of, Kind, scalar_kind, array_kind}
 use Rattle.pk_graph.specs.Trees.{constant, variable, converted, unary, binary, Skip, Set, Havoc, Load, Store, Guard, Check, ArrayOf}
 use Rattle.pk_graph.specs.Steps.{Numbers, tree_value, all_in_type, is_index}
 use Rattle.pk_draft.specs.declared.drafts.Label.{Label}
@@ -131,13 +131,13 @@ cells a = record { variable = own a.object; length = a.length }
 abbrev pub HasKind : Program → Object → Kind → Type 0
 HasKind p (file i) n = kind_in_file p.unit i ≡ Some n
 HasKind p (local k i) n = (k < length p.paths) × (kind_among (block_of p k).locals i ≡ Some n)
-HasKind p (result k) n = (k < length p.paths) × (t : IntType) × ((function_of p k).returns ≡ Some t) × (n ≡ scalar t)
+HasKind p (result k) n = (k < length p.paths) × (t : IntType) × ((function_of p k).returns ≡ Some t) × (n ≡ scalar_kind t)
 
 abbrev pub IsScalar : Whole → Object → IntType → Type 0
-IsScalar g x t = HasKind g.program x (scalar t)
+IsScalar g x t = HasKind g.program x (scalar_kind t)
 
 abbrev pub IsArrayOf : Whole → Array → Type 0
-IsArrayOf g a = HasKind g.program a.object (array a.int_type a.length)
+IsArrayOf g a = HasKind g.program a.object (array_kind a.int_type a.length)
 
 -- each object holds as many numbers as its kind says, of its type
 abbrev pub FitsObjects : Program → Objects → Type 0
@@ -156,7 +156,7 @@ pub record Proper (g : Whole) : Type 0 where
   -- the name of an object comes into scope
   pub enters : (l : Label) (k i n : ℕ) (h : Place) → g.shows l k h → k < length g.program.paths → i < g.objects k → slice_get g.scopes n ≡ Some (record { variable = g.numbers k i; outer = l.scope })
       → g.shows (record { at = l.at; path = l.path; scope = n + 1 }) k (place h.at (local k i ∷ h.scope))
-  pub parameters : (m i : ℕ) (t : IntType) → m < length g.program.paths → slice_get (function_of g.program m).parameters i ≡ Some t → HasKind g.program (local m i) (scalar t)
+  pub parameters : (m i : ℕ) (t : IntType) → m < length g.program.paths → slice_get (function_of g.program m).parameters i ≡ Some t → HasKind g.program (local m i) (scalar_kind t)
 
 -- ---- values that wait
 

@@ -5,10 +5,9 @@ use Rattle.std.proofs.lemmas.List.{get_or-set_other}
 use Rattle.std.proofs.lemmas.Bool.{eq-eqb, ne_eqb}
 use Rattle.pk_ctypes.specs.Types.{wrapped}
 use Rattle.pk_ctypes.specs.Operators.{value_of}
-use Rattle.pk_graph.specs.Kinds.{count_of}
+use Rattle.pk_graph.specs.Kinds.{count_of, Kind}
 use Rattle.pk_graph.specs.Trees.{constant, variable, converted, unary, binary}
 use Rattle.pk_graph.specs.Steps.{Numbers, number_at, tree_value, and_then, at_site, all_in_type}
-use Rattle.pk_welltyped.specs.WellTyped.{Kind}
 use Rattle.pk_meaning.specs.Objects.{Object, file, local, result, Objects, locals_of, numbers_of, with_numbers}
 use Rattle.pk_meaning.specs.Programs.{Program}
 use Rattle.pk_visits.proofs.Slots.{Slot, own, temporary, Memory, memory, memory_numbers, with_memory, SlotTree}

@@ -32,7 +32,8 @@ known_of g s x = record { name = unwrap_or (variable_at g x).name []; numbers = 
 
 -- of a point, with a store
 abbrev pub visit_at : GraphOf → ℕ → Stored → Visit
-visit_at g p s = record { path = (point_at g p).path; at = (point_at g p).at; known = map (known_of g s) (point_at g p).scope }
+visit_at g p s =
+    record { path = (point_at g p).path; at = (point_at g p).at; known = map (known_of g s) (point_at g p).scope }
 
 abbrev pub visits_if : GraphOf → EdgeOf → Stored → List Visit → List Visit
 visits_if g e s vs = if is_visit g e then visit_at g e.to s ∷ vs else vs
@@ -40,5 +41,6 @@ visits_if g e s vs = if is_visit g e then visit_at g e.to s ∷ vs else vs
 -- A run from a point with a store to another, with the visits behind the first in order: each step with numbers where some are chosen.
 pub data GraphRuns (g : GraphOf) : ℕ → Stored → List Visit → ℕ → Stored → Type 0 where
   ends : {p : ℕ} {s : Stored} → GraphRuns g p s [] p s
-  steps : {p q : ℕ} {s t r : Stored} {e : EdgeOf} {vs : List Visit} (chosen : Numbers) → Contains (point_at g p).edges e → effect storing chosen e.instr s ≡ To t
+  steps : {p q : ℕ} {s t r : Stored} {e : EdgeOf} {vs : List Visit} (chosen : Numbers) →
+      Contains (point_at g p).edges e → effect storing chosen e.instr s ≡ To t
       → GraphRuns g e.to t vs q r → GraphRuns g p s (visits_if g e t vs) q r

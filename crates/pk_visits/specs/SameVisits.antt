@@ -1,5 +1,5 @@
 -- A program and its graph have the same visits.
-use Rattle.std.specs.Prelude.{◌≡◌, ℕ, ◌≤◌, ℤ, false, true, List, ◌∷◌, map, Contains, Option, Some, None, Ok}
+use Rattle.std.specs.Prelude.{◌≡◌, ℕ, ◌≤◌, ℤ, false, true, List, ◌∷◌, Contains, Option, Some, None, Ok}
 use Rattle.pk_typed.specs.Trees.{UnitTree}
 use Rattle.pk_calls.specs.declared.listings.CallPath.{CallPath}
 use Rattle.pk_calls.specs.Answers.{HasPaths}
@@ -8,16 +8,15 @@ use Rattle.pk_graph.specs.Steps as graph
 use Rattle.pk_graph.specs.Steps.{Numbers, Failure, effect, tree_value, is_index}
 use Rattle.pk_graph.specs.Trees.{InstrOf, Skip, Set, Havoc, Clear, Load, Store, Guard, Check}
 use Rattle.pk_graph.specs.Stores.{Stored, storing}
-use Rattle.pk_draft.specs.Drafts.{by_number}
-use Rattle.pk_lower.specs.Parts.{point_count, program_draft}
-use Rattle.pk_lower.specs.Paths.{path_of}
-use Rattle.pk_number.specs.Numbering.{numbered}
+use Rattle.pk_lower.specs.Parts.{point_count}
 use Rattle.pk_welltyped.specs.WellTyped.{IsUnit}
 use Rattle.pk_meaning.specs.Programs.{Program}
 use Rattle.pk_meaning.specs.Steps.{Config, Faulted, step}
 use Rattle.pk_meaning.specs.Runs.{Visit, visit_of, start, Runs}
 use Rattle.pk_visits.specs.GraphVisits.{Begins, visit_at, GraphRuns}
 use Rattle.pk_welltyped.specs.Marks.{AreMarked}
+use Rattle.pk_lower.specs.Answers.{point_limit}
+use Rattle.pk_lower.specs.Graphs.{graph_of}
 
 -- the run goes on or not, or its next step fails
 abbrev pub Ends : Program → Config → Option Failure → Type 0
@@ -74,17 +73,17 @@ pub record HaveSameVisits (p : Program) (g : GraphOf) : Type 0 where
   pub forward : (visits : List Visit) (end : Option Failure) → ProgramVisits p visits end → GraphVisits g visits end
   pub backward : (visits : List Visit) (end : Option Failure) → GraphVisits g visits end → ProgramVisits p visits end
 
-abbrev pub graph_of : UnitTree → List CallPath → GraphOf
-graph_of u paths = numbered (map (path_of u paths) paths) (program_draft by_number u paths)
-
 -- Every typed unit with its call paths, and the graph that the lowering makes of it.
 abbrev pub GraphsHaveProgramVisits : Type 0
 GraphsHaveProgramVisits =
-    (u : UnitTree) (name : List ℕ) (paths : List CallPath) → IsUnit u → AreMarked u → HasPaths u name paths → point_count u paths ≤ 65536
+    (u : UnitTree) (name : List ℕ) (paths : List CallPath) → IsUnit u → AreMarked u → HasPaths u name paths →
+    point_count u paths ≤ point_limit
     → HaveSameVisits (record { unit = u; paths = paths }) (graph_of u paths)
 
 -- the first half of it alone
 abbrev pub ProgramsAreFollowed : Type 0
 ProgramsAreFollowed =
-    (u : UnitTree) (name : List ℕ) (paths : List CallPath) → IsUnit u → AreMarked u → HasPaths u name paths → point_count u paths ≤ 65536
-    → (visits : List Visit) (end : Option Failure) → ProgramVisits (record { unit = u; paths = paths }) visits end → GraphVisits (graph_of u paths) visits end
+    (u : UnitTree) (name : List ℕ) (paths : List CallPath) → IsUnit u → AreMarked u → HasPaths u name paths →
+    point_count u paths ≤ point_limit
+    → (visits : List Visit) (end : Option Failure) → ProgramVisits (record { unit = u; paths = paths }) visits end →
+    GraphVisits (graph_of u paths) visits end

@@ -121,7 +121,8 @@ unfoldable mutual
   calls_in_statement (tree.switch at t e zs b s) = calls_in e ++ calls_in_statement s
   calls_in_statement (tree.while at c s) = calls_in c ++ calls_in_statement s
   calls_in_statement (tree.do_while at s c) = calls_in_statement s ++ calls_in c
-  calls_in_statement (tree.for_loop at start c e s) = calls_at_start start ++ calls_if c ++ calls_in_effect_if e ++ calls_in_statement s
+  calls_in_statement (tree.for_loop at start c e s) =
+      calls_at_start start ++ calls_if c ++ calls_in_effect_if e ++ calls_in_statement s
   calls_in_statement (tree.goto at l) = []
   calls_in_statement (tree.continue at) = []
   calls_in_statement (tree.break at) = []

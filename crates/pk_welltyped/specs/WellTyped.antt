@@ -9,6 +9,9 @@ use Rattle.pk_typed.specs.declared.values.Variable.TheVariants.{File, Local}
 use Rattle.pk_typed.specs.Trees.{PlaceTree, ValueTree, EffectTree, ValueTrees, DeclaredTree, ForStartTree, StatementTree, ItemTrees, LocalTree, BodyTree, FunctionTree, StartTree, FileObjectTree, UnitTree}
 use Rattle.pk_typed.specs.Trees as tree
 use Rattle.pk_welltyped.specs.Listed.{objects_at_start, objects_in, calls_in_items, numbered}
+use Rattle.pk_typed.specs.Defaults.{length_of_start}
+use Rattle.pk_graph.specs.Kinds.{Kind, scalar_kind, array_kind}
+use Rattle.pk_typed.specs.Limits.{length_limit}
 
 -- how many operands an operator has
 abbrev pub operands : Op → ℕ
@@ -44,23 +47,10 @@ pub record Around : Type 0 where
 abbrev pub behind : ℕ → Around → Around
 behind n a = record { unit = a.unit; locals = a.locals; objects = a.objects + n }
 
--- an object's type and length; a scalar has none
-pub record Kind : Type 0 where
-  pub int_type : IntType
-  pub length : Option ℕ
-
-abbrev pub scalar : IntType → Kind
-scalar t = record { int_type = t; length = None }
-
-abbrev pub array : IntType → ℕ → Kind
-array t n = record { int_type = t; length = Some n }
-
-abbrev pub length_at_start : StartTree → Option ℕ
-length_at_start (tree.scalar_start z) = None
-length_at_start (tree.array_start n zs) = Some n
-
 abbrev pub kind_in_file : UnitTree → ℕ → Option Kind
-kind_in_file u i = option_map (λ (x : FileObjectTree). record { int_type = x.int_type; length = length_at_start x.start }) (slice_get u.objects i)
+kind_in_file u i =
+    option_map (λ (x : FileObjectTree). record { int_type = x.int_type; length = length_of_start x.start })
+    (slice_get u.objects i)
 
 abbrev pub kind_among : List LocalTree → ℕ → Option Kind
 kind_among xs i = option_map (λ (x : LocalTree). record { int_type = x.int_type; length = x.length }) (slice_get xs i)
@@ -71,7 +61,7 @@ IsObject a k (File i) = kind_in_file a.unit i ≡ Some k
 IsObject a k (Local i) = (i < a.objects) × (kind_among a.locals i ≡ Some k)
 
 abbrev pub IsArray : Around → IntType → Variable → Type 0
-IsArray a t x = (n : ℕ) × IsObject a (array t n) x
+IsArray a t x = (n : ℕ) × IsObject a (array_kind t n) x
 
 abbrev pub count : ValueTrees → ℕ
 count tree.no_values = 0
@@ -86,7 +76,7 @@ Takes n r (Some f) = (f.returns ≡ r) × (length f.parameters ≡ n)
 
 unfoldable mutual
   pub IsPlace : Around → PlaceTree → Type 0
-  IsPlace a (tree.scalar t x) = IsObject a (scalar t) x
+  IsPlace a (tree.scalar t x) = IsObject a (scalar_kind t) x
   IsPlace a (tree.element t x at i) = IsArray a t x × IsValue a i
 
   pub IsValue : Around → ValueTree → Type 0
@@ -135,14 +125,17 @@ abbrev pub count_if : Option ValueTrees → ℕ
 count_if None = 0
 count_if (Some es) = count es
 
--- an array of 1 to 1048576 elements that has room for so many items (C99 6.7.5.2, 6.7.8)
+-- an array that has room for so many items (C99 6.7.5.2, 6.7.8)
 abbrev pub HasRoom : List LocalTree → (i items : ℕ) → Type 0
-HasRoom xs i m = (t : IntType) × (n : ℕ) × (kind_among xs i ≡ Some (array t n)) × (m ≤ n) × (n ≤ 1048576) × (1 ≤ n)
+HasRoom xs i m =
+    (t : IntType) × (n : ℕ) × (kind_among xs i ≡ Some (array_kind t n)) × (m ≤ n) × (n ≤ length_limit) × (1 ≤ n)
 
 -- The next object of its function. What it begins with stands in its scope (C99 6.2.1).
 abbrev pub IsDeclared : Around → DeclaredTree → Type 0
-IsDeclared a (tree.scalar_object i at e) = (i ≡ a.objects) × ((t : IntType) × (kind_among a.locals i ≡ Some (scalar t))) × IsValueIf (behind 1 a) e
-IsDeclared a (tree.array_object i at es) = (i ≡ a.objects) × HasRoom a.locals i (count_if es) × AreValuesIf (behind 1 a) es
+IsDeclared a (tree.scalar_object i at e) =
+    (i ≡ a.objects) × ((t : IntType) × (kind_among a.locals i ≡ Some (scalar_kind t))) × IsValueIf (behind 1 a) e
+IsDeclared a (tree.array_object i at es) =
+    (i ≡ a.objects) × HasRoom a.locals i (count_if es) × AreValuesIf (behind 1 a) es
 
 abbrev pub AreDeclared : Around → List DeclaredTree → Type 0
 AreDeclared a [] = Unit {0}
@@ -181,11 +174,13 @@ unfoldable mutual
   IsStatement a m (tree.default at s) = (m.has_default ≡ true) × IsStatement a m s
   IsStatement a m (tree.if_then at c s) = IsValue a c × IsStatement a m s
   IsStatement a m (tree.if_else at c s r) = IsValue a c × IsStatement a m s × IsStatement (behind (objects_in s) a) m r
-  IsStatement a m (tree.switch at t e zs b s) = IsValue a e × All (InType t) zs × IsStatement a (in_switch (length zs) b m) s
+  IsStatement a m (tree.switch at t e zs b s) =
+      IsValue a e × All (InType t) zs × IsStatement a (in_switch (length zs) b m) s
   IsStatement a m (tree.while at c s) = IsValue a c × IsStatement a m s
   IsStatement a m (tree.do_while at s c) = IsStatement a m s × IsValue a c
   IsStatement a m (tree.for_loop at start c e s) =
-      let b = behind (objects_at_start start) a in IsForStart a start × IsValueIf b c × IsEffectIf b e × IsStatement b m s
+      let b = behind (objects_at_start start) a in
+      IsForStart a start × IsValueIf b c × IsEffectIf b e × IsStatement b m s
   IsStatement a m (tree.goto at l) = l < m.labels
   IsStatement a m (tree.continue at) = Unit {0}
   IsStatement a m (tree.break at) = Unit {0}
@@ -208,7 +203,8 @@ AreParameters (t ∷ ts) (x ∷ xs) = (x.int_type ≡ t) × (x.length ≡ None) 
 pub record IsBody (u : UnitTree) (f : FunctionTree) (b : BodyTree) : Type 0 where
   pub visible : b.visible ≤ length u.objects
   pub parameters : AreParameters f.parameters b.locals
-  pub items : AreItems (record { unit = u; locals = b.locals; objects = length f.parameters }) (record { labels = b.labels; returns = f.returns; cases = 0; has_default = false }) b.items
+  pub items : AreItems (record { unit = u; locals = b.locals; objects = length f.parameters })
+      (record { labels = b.labels; returns = f.returns; cases = 0; has_default = false }) b.items
   pub calls : calls_in_items b.items ≡ numbered 0 b.calls
 
 abbrev pub IsBodyIf : UnitTree → FunctionTree → Option BodyTree → Type 0

@@ -9,6 +9,7 @@ use Rattle.pk_number.specs.Typed.{IsTypedDraft}
 use Rattle.pk_front.specs.Texts.{HasTrees, HasUnit, HasPaths}
 use Rattle.pk_welltyped.specs.WellTyped.{IsUnit}
 use Rattle.pk_type_laws.specs.Accepted.Constants.{ExternalsHave}
+use Rattle.pk_lower.specs.Answers.{point_limit}
 
 -- constants of a text's trees are numbers of their types
 abbrev pub TextsHaveConstants : Type 0
@@ -20,4 +21,6 @@ TextsAreWellTyped = (text : List ℕ) (u : UnitTree) → HasUnit text u → IsUn
 
 -- the draft of a text with its call paths is typed, where the points are within their limit
 abbrev pub DraftsOfTextsAreTyped : Type 0
-DraftsOfTextsAreTyped = (text entry : List ℕ) (u : UnitTree) (paths : List CallPath) → HasPaths text entry u paths → point_count u paths ≤ 65536 → IsTypedDraft (length paths) (program_draft by_number u paths)
+DraftsOfTextsAreTyped =
+    (text entry : List ℕ) (u : UnitTree) (paths : List CallPath) → HasPaths text entry u paths →
+    point_count u paths ≤ point_limit → IsTypedDraft (length paths) (program_draft by_number u paths)

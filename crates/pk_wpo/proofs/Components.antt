@@ -88,7 +88,7 @@ pub components_exits : (l : Laid) (heads : List ℕ) → map (λ (c : Component)
 components_exits l [] = refl
 components_exits l (h ∷ heads) = ap (λ (xs : List ℕ). exit_in l h ∷ xs) (components_exits l heads)
 
-range_rises : (n : ℕ) → IsStrictlyIncreasing (range_with_len 0 n)
+pub range_rises : (n : ℕ) → IsStrictlyIncreasing (range_with_len 0 n)
 range_rises n k below =
     let long = length-range_with_len 0 n in
     let one = get_or-range_with_len 0 n k 0 (omega (arith, below, long)) in

@@ -2,8 +2,7 @@
 use Rattle.std.proofs.Common.{◌≡◌, ℕ, ◌<◌, ◌≤◌, ◌+◌, List, ◌⊎◌, inl, inr, length, get_or, take, [], ◌∷◌, ◌++◌, Bool, true, false, IsTrue, ◌↔◌, sym, subst, arith, ap, refl, ◌∙◌, Option, Some, None, Contains}
 use Rattle.std.proofs.lemmas.Bool.{cases_lt}
 use Rattle.std.proofs.lemmas.Bool.Decides.{eqb_tells}
-use Rattle.std.proofs.Math.ListN.{replicate}
-use Rattle.std.proofs.lemmas.List.{take_more, take_all, get_or-replicate, get_or_past, length-replicate}
+use Rattle.std.proofs.lemmas.List.{take_more, take_all}
 use Rattle.std.proofs.lemmas.List.Elements.{Contains-get_or, Contains-push_cases}
 use Rattle.pk_plan.specs.Digraphs.{Edge}
 use Rattle.pk_plan.specs.Nests.{Holds}
@@ -94,14 +93,6 @@ pub record HeadsTo (l : Laid) (old new : List (List ℕ)) (e : ℕ) : Type 0 whe
   pub only : (a b : ℕ) → Edge new a b → Edge old a b ⊎ ByHead l a b
   pub led : (b h : ℕ) → b < e → HomeIn l b (Some h) → (a : ℕ) × HasIn l h a × Edge new a b
 
-pub heads_begin : (l : Laid) (old : List (List ℕ)) → HeadsTo l old old 0
-heads_begin l old = record {
-  kept = λ a b e. e;
-  drawn = λ h b below c. absurd (omega (arith, below));
-  only = λ a b e. inl e;
-  led = λ b h below x. absurd (omega (arith, below));
-}
-
 -- an element that an edge leads into from inside its home needs no other
 pub heads_led : (l : Laid) (old now : List (List ℕ)) (e : ℕ) → IsLaid l → AreEdgeConstraints l old → IsLed l old e → HeadsTo l old now e → HeadsTo l old now (e + 1)
 heads_led l old now e laid edges led so_far = record {
@@ -188,14 +179,6 @@ pub record EndsTo (end : ℕ) (old new : List (List ℕ)) (e : ℕ) : Type 0 whe
   pub only : (a b : ℕ) → Edge new a b → Edge old a b ⊎ ((a < e) × ((c : ℕ) → Edge old a c → ⊥) × (b ≡ end))
   pub leads : (a : ℕ) → a < e → (b : ℕ) × Edge new a b
 
-pub ends_begin : (end : ℕ) (old : List (List ℕ)) → EndsTo end old old 0
-ends_begin end old = record {
-  kept = λ a b e. e;
-  drawn = λ a below none. absurd (omega (arith, below));
-  only = λ a b e. inl e;
-  leads = λ a below. absurd (omega (arith, below));
-}
-
 pub ends_more : (end : ℕ) (old now new : List (List ℕ)) (e : ℕ) → IsEndMore now e end new → EndsTo end old now e → EndsTo end old new (e + 1)
 ends_more end old now new e more so_far =
     let before : (b : ℕ) → Edge now e b → Edge old e b = (λ b edge. elim (so_far.only e b edge) [ inl x ↦ x | inr x ↦ (let less = x.0 in absurd (omega (arith, less))) ]) in
@@ -231,20 +214,6 @@ ends_end end old new e is so_far = record {
 pub record LedTo (l : Laid) (c : List (List ℕ)) (done : ℕ → ℕ → Type 0) (marks : List Bool) : Type 0 where
   pub sound : (b : ℕ) → IsTrue (get_or marks b false) → IsLed l c b
   pub complete : (a b : ℕ) → done a b → IsFromHome l a b → IsTrue (get_or marks b false)
-
-pub led_begins : (l : Laid) (c : List (List ℕ)) (n : ℕ) (marks : List Bool) → marks ≡ replicate n false → LedTo l c (Rows c 0) marks
-led_begins l c n marks is = record {
-  sound = λ b told. absurd (
-      let read : get_or marks b false ≡ false = ap (λ (xs : List Bool). get_or xs b false) is ∙ none n b in
-      cc);
-  complete = λ a b done x. let below = done.1 in absurd (omega (arith, below));
-}
-  where
-    none : (n b : ℕ) → get_or (replicate n false) b false ≡ false
-    none n b = elim (cases_lt b n) [
-      | inl less ↦ get_or-replicate n b false false less
-      | inr more ↦ get_or_past (replicate n false) b false (omega (arith, more, length-replicate {A = Bool} n false))
-    ]
 
 pub led_row_begins : (l : Laid) (c : List (List ℕ)) (a : ℕ) (row : List ℕ) (marks : List Bool) → LedTo l c (Rows c a) marks → LedTo l c (RowTo c a row 0) marks
 led_row_begins l c a row marks so_far = record {

@@ -46,7 +46,8 @@ pub data IsElement (g : List (List ℕ)) (holds : ℕ → ℕ → Type 0) (exit 
 pub data Constraint (g : List (List ℕ)) (holds : ℕ → ℕ → Type 0) (exit : ℕ → ℕ) (a : ℕ) : ℕ → Type 0 where
   by_edge : {b : ℕ} → EdgeConstraint g holds exit a b → Constraint g holds exit a b
   by_head : {b : ℕ} → HeadConstraint g holds exit a b → Constraint g holds exit a b
-  to_end : IsElement g holds exit a → ((b : ℕ) → ¬ EdgeConstraint g holds exit a b) → ((b : ℕ) → ¬ HeadConstraint g holds exit a b) → Constraint g holds exit a (exit (length g))
+  to_end : IsElement g holds exit a → ((b : ℕ) → ¬ EdgeConstraint g holds exit a b) →
+      ((b : ℕ) → ¬ HeadConstraint g holds exit a b) → Constraint g holds exit a (exit (length g))
 
 -- whether v is the head of a component
 abbrev pub is_head : Items → ℕ → Bool

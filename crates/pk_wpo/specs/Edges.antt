@@ -23,8 +23,10 @@ pub record IsLed (l : Laid) (constraints : List (List ℕ)) (b : ℕ) : Type 0 w
 pub record HasHeadConstraintsMore (l : Laid) (old new : List (List ℕ)) : Type 0 where
   pub kept : (a b : ℕ) → Edge old a b → Edge new a b
   pub drawn : (h b : ℕ) → HeadConstraint l.graph (Holds l.items) (exit_of l.graph l.items) h b → Edge new h b
-  pub only : (a b : ℕ) → Edge new a b → Edge old a b ⊎ HeadConstraint l.graph (Holds l.items) (exit_of l.graph l.items) a b
-  pub led : (b h : ℕ) → b < end_number l → IsHome (Holds l.items) (exit_of l.graph l.items) b (Some h) → (a : ℕ) × Has (Holds l.items) (exit_of l.graph l.items) h a × Edge new a b
+  pub only : (a b : ℕ) → Edge new a b →
+      Edge old a b ⊎ HeadConstraint l.graph (Holds l.items) (exit_of l.graph l.items) a b
+  pub led : (b h : ℕ) → b < end_number l → IsHome (Holds l.items) (exit_of l.graph l.items) b (Some h) →
+      (a : ℕ) × Has (Holds l.items) (exit_of l.graph l.items) h a × Edge new a b
 
 -- An edge to END more for each number below it that has none; and then each has one.
 pub record HasEndConstraintsMore (end : ℕ) (old new : List (List ℕ)) : Type 0 where

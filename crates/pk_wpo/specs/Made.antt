@@ -12,8 +12,10 @@ pub record IsPlanOf (g : List (List ℕ)) (items : Items) (p : PlanView) : Type 
   pub component : (h : ℕ) → Holds items h h → (c : Component) × Contains p.components c × (c.head ≡ h)
   pub head : (c : Component) → Contains p.components c → Holds items c.head c.head
   pub exit : (c : Component) → Contains p.components c → c.exit ≡ exit_of g items c.head
-  pub member : (c : Component) (e : ℕ) → Contains p.components c → Has (Holds items) (exit_of g items) c.head e → Inside p c e
-  pub is_member : (c : Component) (e : ℕ) → Contains p.components c → Inside p c e → Has (Holds items) (exit_of g items) c.head e
+  pub member : (c : Component) (e : ℕ) → Contains p.components c → Has (Holds items) (exit_of g items) c.head e →
+      Inside p c e
+  pub is_member : (c : Component) (e : ℕ) → Contains p.components c → Inside p c e →
+      Has (Holds items) (exit_of g items) c.head e
   pub constrains : (a b : ℕ) → Constraint g (Holds items) (exit_of g items) a b → Constrains p a b
   pub constraint : (a b : ℕ) → Constrains p a b → Constraint g (Holds items) (exit_of g items) a b
 

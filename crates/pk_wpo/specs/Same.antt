@@ -17,10 +17,13 @@ pub record AreAlike (p q : PlanView) : Type 0 where
   pub successors : p.successors ≡ q.successors
   pub heads : map (λ (c : Component). c.head) p.components ≡ map (λ (c : Component). c.head) q.components
   pub exits : map (λ (c : Component). c.exit) p.components ≡ map (λ (c : Component). c.exit) q.components
-  pub members : (c d : Component) (e : ℕ) → Contains p.components c → Contains q.components d → c.head ≡ d.head → Inside p c e ↔ Inside q d e
-  pub inner : (c d : Component) (e : ℕ) → Contains p.components c → Contains q.components d → c.head ≡ d.head → inner_count p c e ≡ inner_count q d e
+  pub members : (c d : Component) (e : ℕ) → Contains p.components c → Contains q.components d → c.head ≡ d.head →
+      Inside p c e ↔ Inside q d e
+  pub inner : (c d : Component) (e : ℕ) → Contains p.components c → Contains q.components d → c.head ≡ d.head →
+      inner_count p c e ≡ inner_count q d e
 
 -- of two nests that hold the same, the plans are alike
 abbrev pub PlanIsDetermined : List (List ℕ) → Type 0
 PlanIsDetermined g =
-    (a b : Items) (p q : PlanView) → HoldTheSame a b → Axioms p → Axioms q → IsPlanOf g a p → IsPlanOf g b q → AreAlike p q
+    (a b : Items) (p q : PlanView) → HoldTheSame a b → Axioms p → Axioms q → IsPlanOf g a p → IsPlanOf g b q →
+    AreAlike p q

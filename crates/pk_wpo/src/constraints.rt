@@ -3,7 +3,7 @@
 ghost use Rattle.std.specs.Prelude.{◌≡◌, ℕ, ◌+◌, ◌<◌, ◌⊎◌, ◌↔◌, IsTrue, IfOk, OnOk, length, slice_index_or, false};
 ghost use Rattle.pk_plan.specs.Nests.{Holds};
 ghost use Rattle.pk_wpo.specs.Constraints.{Has, EdgeConstraint, exit_of};
-ghost use Rattle.pk_wpo.specs.Layouts.{Laid, IsHome, end_number};
+ghost use Rattle.pk_wpo.specs.Layouts.{IsHome, end_number};
 ghost use Rattle.pk_wpo.specs.Edges.{AreEdgeConstraints, HasHeadConstraintsMore, HasEndConstraintsMore, IsLed, IsFromHome, IsMoreFrom, IsEndMore};
 
 use crate::layout::Layout;
@@ -34,7 +34,8 @@ fn led(alloc: Global, layout: &Layout, constraints: &Digraph) -> Result<Vec<bool
     requires as_many { length constraints.now ≡ end_number layout.now + 1 }
     requires edges { AreEdgeConstraints layout.now constraints.now }
     ensures as_many { IfOk result (λ v. length v.items ≡ end_number layout.now) }
-    ensures led { IfOk result (λ v. (b : ℕ) → b < end_number layout.now → IsTrue (slice_index_or v.items b false) ↔ IsLed layout.now constraints.now b) }
+    ensures led { IfOk result (λ v. (b : ℕ) → b < end_number layout.now →
+        IsTrue (slice_index_or v.items b false) ↔ IsLed layout.now constraints.now b) }
 {
     layout.laid();
     let end = layout.end();
@@ -64,8 +65,10 @@ fn is_from_home(layout: &Layout, a: u32, b: u32) -> bool
 fn mark(marks: &mut Vec<bool>, at: u32, yes: bool)
     requires { at < length marks.old.items }
     ensures long { length marks.new.items ≡ length marks.old.items }
-    ensures kept { (k : ℕ) → IsTrue (slice_index_or marks.old.items k false) → IsTrue (slice_index_or marks.new.items k false) }
-    ensures only { (k : ℕ) → IsTrue (slice_index_or marks.new.items k false) → IsTrue (slice_index_or marks.old.items k false) ⊎ ((k ≡ at) × IsTrue yes) }
+    ensures kept { (k : ℕ) → IsTrue (slice_index_or marks.old.items k false) →
+        IsTrue (slice_index_or marks.new.items k false) }
+    ensures only { (k : ℕ) → IsTrue (slice_index_or marks.new.items k false) →
+        IsTrue (slice_index_or marks.old.items k false) ⊎ ((k ≡ at) × IsTrue yes) }
     ensures marked { IsTrue yes → IsTrue (slice_index_or marks.new.items at false) }
 {
     if yes {

@@ -1,6 +1,6 @@
 // A nest laid out: by places it is told in constant time which component holds what.
 
-ghost use Rattle.std.specs.Prelude.{◌≡◌, ℕ, ◌+◌, ◌<◌, ◌≤◌, ◌^◌, ◌↔◌, IsTrue, IfOk, length};
+ghost use Rattle.std.specs.Prelude.{◌≡◌, ◌+◌, ◌<◌, ◌≤◌, ◌^◌, ◌↔◌, IsTrue, IfOk, length};
 ghost use Rattle.pk_plan.specs.Digraphs.{IsVertex, IsClosed};
 ghost use Rattle.pk_plan.specs.Nests.{Holds, IsNest};
 ghost use Rattle.pk_wpo.specs.Constraints.{Has, is_head, exit_of};
@@ -32,9 +32,20 @@ impl<'a> Model for Layout<'a> {
 
     ghost use Rattle.pk_wpo.specs.Layouts.{IsKept};
 
-    ghost view = { λ l. record { graph = l.graph.now; items = l.nest.now; elements = l.elements.items; places = l.places.items } };
+    ghost view = { λ l. record {
+      graph = l.graph.now;
+      items = l.nest.now;
+      elements = l.elements.items;
+      places = l.places.items;
+    } };
 
-    ghost invariant = { λ l. IsKept (record { graph = l.graph.now; items = l.nest.now; elements = l.elements.items; places = l.places.items }) l.heads.items l.exits.items l.homes.items };
+    ghost invariant = { λ l. IsKept
+        (record {
+          graph = l.graph.now;
+          items = l.nest.now;
+          elements = l.elements.items;
+          places = l.places.items;
+        }) l.heads.items l.exits.items l.homes.items };
 }
 
 impl<'a> Layout<'a> {

@@ -1,6 +1,6 @@
 // The elements of a nest in the order of its brackets, and the components that they stand in.
 
-ghost use Rattle.std.specs.Prelude.{◌≡◌, ◌≢◌, ℕ, ◌+◌, ◌*◌, ◌<◌, ◌≤◌, ◌^◌, ◌||◌, if◌then◌else◌, false, [], IfOk, All, length, map, reverse, take, filter, slice_index, slice_index_or};
+ghost use Rattle.std.specs.Prelude.{◌≡◌, ◌≢◌, ℕ, ◌+◌, ◌*◌, ◌<◌, ◌^◌, ◌||◌, if◌then◌else◌, false, [], IfOk, All, length, map, reverse, take, filter, slice_index, slice_index_or};
 ghost use Rattle.std.specs.List.{range_with_len, AllPairs};
 ghost use Rattle.pk_plan.specs.NestPlaces.{nest_places};
 ghost use Rattle.pk_wpo.specs.Constraints.{is_head};
@@ -32,7 +32,8 @@ pub fn heads(alloc: Global, nest: &Nest, vertices: u32) -> Result<Vec<bool>, All
 fn mark(heads: &mut Vec<bool>, place: NestPlace)
     requires { HeadBelow (length heads.old.items) place }
     ensures long { length heads.new.items ≡ length heads.old.items }
-    ensures marked { (v : ℕ) → v < length heads.old.items → slice_index_or heads.new.items v false ≡ (is_head_at v place || slice_index_or heads.old.items v false) }
+    ensures marked { (v : ℕ) → v < length heads.old.items →
+        slice_index_or heads.new.items v false ≡ (is_head_at v place || slice_index_or heads.old.items v false) }
 {
     match place {
         NestPlace::Vertex(_) => {}
@@ -44,7 +45,9 @@ fn mark(heads: &mut Vec<bool>, place: NestPlace)
 /// For each vertex the number of its exit, as if it were a head, and last the number after all exits.
 pub fn exits(alloc: Global, heads: &[bool]) -> Result<Vec<u32>, AllocError>
     requires { length heads.now < 2 ^ 31 }
-    ensures { IfOk result (λ v. v.items ≡ map (λ k. length heads.now + length (filter (λ head. head) (take k heads.now))) (range_with_len 0 (length heads.now + 1))) }
+    ensures { IfOk result
+        (λ v. v.items ≡ map (λ k. length heads.now + length (filter (λ head. head) (take k heads.now)))
+        (range_with_len 0 (length heads.now + 1))) }
 {
     let mut exits = Vec::new(alloc);
     let mut next = heads.len() as u32;
@@ -65,7 +68,8 @@ fn one_if(yes: bool) -> u32
 /// Walks through the places with the heads of the components that are open.
 pub fn walked(alloc: Global, nest: &Nest, exits: &[u32]) -> Result<Listed, AllocError>
     requires { All (HeadBelow (length exits.now)) (nest_places nest.now) }
-    ensures elements { IfOk result (λ it. it.elements.items ≡ walk_elements (slice_index exits.now) (nest_places nest.now) []) }
+    ensures elements { IfOk result
+        (λ it. it.elements.items ≡ walk_elements (slice_index exits.now) (nest_places nest.now) []) }
     ensures homes { IfOk result (λ it. it.homes.items ≡ walk_homes (nest_places nest.now) []) }
 {
     let mut elements = Vec::new(alloc);
@@ -106,7 +110,8 @@ pub fn places(alloc: Global, elements: &[u32]) -> Result<Vec<u32>, AllocError>
     requires within { All (λ e. e < length elements.now) elements.now }
     requires once { AllPairs (λ a b. a ≢ b) elements.now }
     ensures as_many { IfOk result (λ v. length v.items ≡ length elements.now) }
-    ensures place { IfOk result (λ v. (k : ℕ) → k < length elements.now → slice_index v.items (slice_index elements.now k) ≡ k) }
+    ensures place { IfOk result
+        (λ v. (k : ℕ) → k < length elements.now → slice_index v.items (slice_index elements.now k) ≡ k) }
 {
     let mut places = vec![in alloc; 0u32; elements.len()]?;
     for (place, e) in elements.iter().enumerate() {

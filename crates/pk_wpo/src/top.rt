@@ -1,6 +1,6 @@
 // The constraint that an edge gives.
 
-ghost use Rattle.std.specs.Prelude.{◌≡◌, ℕ, ◌<◌, ◌⊎◌, length};
+ghost use Rattle.std.specs.Prelude.{◌<◌, length};
 ghost use Rattle.pk_plan.specs.Nests.{Holds};
 ghost use Rattle.pk_wpo.specs.Constraints.{Top, exit_of};
 ghost use Rattle.pk_wpo.specs.Targets.{IsTarget};

@@ -75,8 +75,10 @@ punctuator_signs mark.Exclamation = signs fixed.Other (start.Unary un.Not) opera
 punctuator_signs mark.Assign = signs fixed.Assign start.Other (operator.Assignment asg.Assign) first.Other
 punctuator_signs mark.Less = signs fixed.Other start.Other (operator.Binary op.Less) first.Other
 punctuator_signs mark.Greater = signs fixed.Other start.Other (operator.Binary op.Greater) first.Other
-punctuator_signs mark.Increment = signs fixed.Other (start.Step step.Increment) (operator.Step step.Increment) first.Other
-punctuator_signs mark.Decrement = signs fixed.Other (start.Step step.Decrement) (operator.Step step.Decrement) first.Other
+punctuator_signs mark.Increment =
+    signs fixed.Other (start.Step step.Increment) (operator.Step step.Increment) first.Other
+punctuator_signs mark.Decrement =
+    signs fixed.Other (start.Step step.Decrement) (operator.Step step.Decrement) first.Other
 punctuator_signs mark.ShiftLeft = signs fixed.Other start.Other (operator.Binary op.ShiftLeft) first.Other
 punctuator_signs mark.ShiftRight = signs fixed.Other start.Other (operator.Binary op.ShiftRight) first.Other
 punctuator_signs mark.LessOrEqual = signs fixed.Other start.Other (operator.Binary op.LessOrEqual) first.Other

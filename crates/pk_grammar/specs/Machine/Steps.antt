@@ -128,16 +128,21 @@ reduced level n e (in_call m id es c) = record { nesting = n; tree = e; context 
 reduced level n e (in_prefix m o at c) = reduced level m (prefix o at e) c
 reduced level n e (in_unary m o at c) = reduced level m (unary o at e) c
 reduced level n e (in_cast m at specs c) =
-    if nat_le level cast_expression then reduced level m (cast at specs e) c else record { nesting = n; tree = e; context = in_cast m at specs c }
+    if nat_le level cast_expression then reduced level m (cast at specs e) c
+    else record { nesting = n; tree = e; context = in_cast m at specs c }
 reduced level n e (in_binary m o at a c) =
-    if nat_le level (strength o) then reduced level m (binary o at a e) c else record { nesting = n; tree = e; context = in_binary m o at a c }
+    if nat_le level (strength o) then reduced level m (binary o at a e) c
+    else record { nesting = n; tree = e; context = in_binary m o at a c }
 reduced level n e (in_choice m at d c) = record { nesting = n; tree = e; context = in_choice m at d c }
 reduced level n e (in_alternative m at d a c) =
-    if nat_le level conditional_expression then reduced level m (conditional at d a e) c else record { nesting = n; tree = e; context = in_alternative m at d a c }
+    if nat_le level conditional_expression then reduced level m (conditional at d a e) c
+    else record { nesting = n; tree = e; context = in_alternative m at d a c }
 reduced level n e (in_assignment m o at a c) =
-    if nat_le level assignment_expression then reduced level m (assignment o at a e) c else record { nesting = n; tree = e; context = in_assignment m o at a c }
+    if nat_le level assignment_expression then reduced level m (assignment o at a e) c
+    else record { nesting = n; tree = e; context = in_assignment m o at a c }
 reduced level n e (in_comma m at a c) =
-    if nat_le level any_expression then reduced level m (comma at a e) c else record { nesting = n; tree = e; context = in_comma m at a c }
+    if nat_le level any_expression then reduced level m (comma at a e) c
+    else record { nesting = n; tree = e; context = in_comma m at a c }
 
 -- a token of one kind alone
 abbrev pub wanted : Fixed → Token → Verdict → Verdict
@@ -175,14 +180,16 @@ abbrev pub end_declaration : Declared → Verdict
 end_declaration d = taken (site_nesting d.site) (declared_at d.site (whole_declaration d))
 
 abbrev pub goes_on_declaring : Declared → Declaring
-goes_on_declaring d = record { site = d.site; specifiers = d.specifiers; declarators = d.declarators.first ∷ d.declarators.more }
+goes_on_declaring d =
+    record { site = d.site; specifiers = d.specifiers; declarators = d.declarators.first ∷ d.declarators.more }
 
 abbrev pub next_declarator : Declared → Verdict
 next_declarator d = taken (site_nesting d.site) (after_comma (goes_on_declaring d))
 
 -- after a declarator: another one, or the end
 abbrev pub after_declarator : Declared → Token → Verdict
-after_declarator d t = if is_fixed fixed.Comma t.kind then next_declarator d else wanted fixed.Semicolon t (end_declaration d)
+after_declarator d t =
+    if is_fixed fixed.Comma t.kind then next_declarator d else wanted fixed.Semicolon t (end_declaration d)
 
 abbrev pub naming_nesting : Naming → ℕ
 naming_nesting d = site_nesting d.declaring.site
@@ -211,29 +218,40 @@ labelled n (comma at a b) o t = refused
 
 -- an expression that isn't part of another one ends at this token
 abbrev pub end_purpose : Purpose → ExpressionTree → Token → Verdict
-end_purpose (as_statement n o) e t = if is_fixed fixed.Semicolon t.kind then taken n (after_statement (expression_statement e) o) else labelled n e o t
+end_purpose (as_statement n o) e t =
+    if is_fixed fixed.Semicolon t.kind then taken n (after_statement (expression_statement e) o) else labelled n e o t
 end_purpose (as_label n at o) e t = wanted fixed.Colon t (taken (n + 1) (at_statement (n + 1) (in_case n at e o)))
-end_purpose (as_test k n at o) e t = wanted fixed.CloseParenthesis t (taken (n + 1) (at_statement (n + 1) (tested k n at e o)))
-end_purpose (as_last_test n at s o) e t = wanted fixed.CloseParenthesis t (taken (n + 1) (statement_end n (do_while at s e) o))
+end_purpose (as_test k n at o) e t =
+    wanted fixed.CloseParenthesis t (taken (n + 1) (at_statement (n + 1) (tested k n at e o)))
+end_purpose (as_last_test n at s o) e t =
+    wanted fixed.CloseParenthesis t (taken (n + 1) (statement_end n (do_while at s e) o))
 end_purpose (as_first n at o) e t = wanted fixed.Semicolon t (taken (n + 2) (for_second n at (expression (Some e)) o))
 end_purpose (as_second n at f o) e t = wanted fixed.Semicolon t (taken (n + 2) (for_third n at f (Some e) o))
-end_purpose (as_third n at f second o) e t = wanted fixed.CloseParenthesis t (taken (n + 1) (at_statement (n + 1) (in_for n at f second (Some e) o)))
+end_purpose (as_third n at f second o) e t =
+    wanted fixed.CloseParenthesis t (taken (n + 1) (at_statement (n + 1) (in_for n at f second (Some e) o)))
 end_purpose (as_result n at o) e t = wanted fixed.Semicolon t (taken n (after_statement (return at (Some e)) o))
-end_purpose (as_length d id) e t = wanted fixed.CloseBracket t (taken (site_nesting d.site) (after_length (record { declaring = d; name = id; length = Some e })))
+end_purpose (as_length d id) e t =
+    wanted fixed.CloseBracket t
+    (taken (site_nesting d.site) (after_length (record { declaring = d; name = id; length = Some e })))
 end_purpose (as_value d) e t = wanted fixed.Semicolon t (end_declaration (with_initializer d (Some (single e))))
-end_purpose (as_item d at es) e t = wanted fixed.CloseBrace t (taken (naming_nesting d) (after_initializer (with_initializer d (Some (braced at (first_item es e) (more_items es e))))))
+end_purpose (as_item d at es) e t =
+    wanted fixed.CloseBrace t (taken (naming_nesting d)
+    (after_initializer (with_initializer d (Some (braced at (first_item es e) (more_items es e))))))
 
 -- an expression ends at this token, which is no operator
 abbrev pub end_expression : ExpressionTree → Context → Token → Verdict
 end_expression e (as_whole p) t = end_purpose p e t
-end_expression e (in_parentheses n at c) t = wanted fixed.CloseParenthesis t (taken n (complete n (parenthesized at e) c))
+end_expression e (in_parentheses n at c) t =
+    wanted fixed.CloseParenthesis t (taken n (complete n (parenthesized at e) c))
 end_expression e (in_index n id at c) t = wanted fixed.CloseBracket t (taken n (complete n (index id at e) c))
-end_expression e (in_call n id es c) t = wanted fixed.CloseParenthesis t (taken n (complete n (call id (one_more es e)) c))
+end_expression e (in_call n id es c) t =
+    wanted fixed.CloseParenthesis t (taken n (complete n (call id (one_more es e)) c))
 end_expression e (in_prefix n o at c) t = refused
 end_expression e (in_unary n o at c) t = refused
 end_expression e (in_cast n at specs c) t = refused
 end_expression e (in_binary n o at a c) t = refused
-end_expression e (in_choice n at d c) t = wanted fixed.Colon t (taken (n + 1) (operand (n + 1) (in_alternative n at d e c)))
+end_expression e (in_choice n at d c) t =
+    wanted fixed.Colon t (taken (n + 1) (operand (n + 1) (in_alternative n at d e c)))
 end_expression e (in_alternative n at d a c) t = refused
 end_expression e (in_assignment n o at a c) t = refused
 end_expression e (in_comma n at a c) t = refused
@@ -270,7 +288,9 @@ comma_after n e (in_assignment m o at a c) t = refused
 comma_after n e (in_comma m at a c) t = refused
 
 abbrev pub join_binary : BinaryOperator → Reduced → Token → Verdict
-join_binary o r t = taken (r.nesting + (operators_in r.tree + 1)) (operand (r.nesting + (operators_in r.tree + 1)) (in_binary r.nesting o t.at r.tree r.context))
+join_binary o r t =
+    taken (r.nesting + (operators_in r.tree + 1))
+    (operand (r.nesting + (operators_in r.tree + 1)) (in_binary r.nesting o t.at r.tree r.context))
 
 abbrev pub join_question : Reduced → Token → Verdict
 join_question r t = taken (r.nesting + 1) (operand (r.nesting + 1) (in_choice r.nesting t.at r.tree r.context))
@@ -296,7 +316,8 @@ abbrev pub join_assignment : AssignmentOperator → Reduced → Token → Verdic
 join_assignment o r t =
     if is_unary r.tree then
     (if nat_le (operand_level r.context) assignment_expression
-    then taken (r.nesting + 1) (operand (r.nesting + 1) (in_assignment r.nesting o t.at r.tree r.context)) else refused) else refused
+    then taken (r.nesting + 1) (operand (r.nesting + 1) (in_assignment r.nesting o t.at r.tree r.context))
+    else refused) else refused
 
 -- an operand is complete, and an operator or the end of an expression comes
 abbrev pub go_on : ℕ → ExpressionTree → Context → Token → Operator → Verdict
@@ -323,7 +344,8 @@ at_arguments n id c t =
 
 abbrev pub open_cast : ℕ → Pos → Context → Token → Option SpecifierWord → Verdict
 open_cast n at c t (Some w) =
-    if nat_le (operand_level c) cast_expression then taken (n + 1) (cast_specifiers n at (one (specifier_at t w)) c) else refused
+    if nat_le (operand_level c) cast_expression then taken (n + 1) (cast_specifiers n at (one (specifier_at t w)) c)
+    else refused
 open_cast n at c t None = at_operand (n + 1) (in_parentheses n at c) t
 
 abbrev pub at_opened : ℕ → Pos → Context → Token → Verdict
@@ -355,12 +377,22 @@ begins_statement n o t = begin_statement n o t (statement_start t.kind)
 -- a block's `}`
 abbrev pub end_block : OpenBlock → Token → Verdict
 end_block (function_block h ps at items) t =
-    taken 0 (top (h.before ++ function (record { storage = h.storage; specifiers = h.specifiers; name = h.name; parameters = ps; body = Some (record { opened = at; items = items; closed = t.at }) }) ∷ []))
+    taken 0 (top
+    (h.before ++ function
+    (record {
+      storage = h.storage;
+      specifiers = h.specifiers;
+      name = h.name;
+      parameters = ps;
+      body = Some (record { opened = at; items = items; closed = t.at });
+    }) ∷ []))
 end_block (inner_block n at items o) t = taken n (after_statement (block at items t.at) o)
 
 abbrev pub declaration_or_statement : OpenBlock → Token → Option SpecifierWord → Verdict
-declaration_or_statement b t (Some w) = taken (block_nesting b) (after_specifiers (in_a_block b) (one (specifier_at t w)))
-declaration_or_statement b t None = if is_fixed fixed.CloseBrace t.kind then end_block b t else begins_statement (block_nesting b) (in_block b) t
+declaration_or_statement b t (Some w) =
+    taken (block_nesting b) (after_specifiers (in_a_block b) (one (specifier_at t w)))
+declaration_or_statement b t None =
+    if is_fixed fixed.CloseBrace t.kind then end_block b t else begins_statement (block_nesting b) (in_block b) t
 
 abbrev pub at_items : OpenBlock → Token → Verdict
 at_items b t = declaration_or_statement b t (specifier_word t.kind)
@@ -371,7 +403,9 @@ resume s (in_block b) t = at_items (with_statement b s) t
 resume s (in_label n id o) t = resume (label id s) o t
 resume s (in_case n at e o) t = resume (case at e s) o t
 resume s (in_default n at o) t = resume (default at s) o t
-resume s (in_if n at e o) t = if is_fixed fixed.Else t.kind then taken (n + 2) (at_statement (n + 2) (in_else n at e s o)) else resume (if_then at e s) o t
+resume s (in_if n at e o) t =
+    if is_fixed fixed.Else t.kind then taken (n + 2) (at_statement (n + 2) (in_else n at e s o))
+    else resume (if_then at e s) o t
 resume s (in_else n at e r o) t = resume (if_else at e r s) o t
 resume s (in_switch n at e o) t = resume (switch at e s) o t
 resume s (in_while n at e o) t = resume (while at e s) o t
@@ -381,14 +415,16 @@ resume s (in_for n at f second third o) t = resume (for_loop at f second third s
 abbrev pub begin_for : ℕ → Pos → Outer → Token → Option SpecifierWord → Verdict
 begin_for n at o t (Some w) = taken (n + 2) (after_specifiers (in_a_for n at o) (one (specifier_at t w)))
 begin_for n at o t None =
-    if is_fixed fixed.Semicolon t.kind then taken (n + 2) (for_second n at (expression None) o) else at_operand (n + 2) (as_whole (as_first n at o)) t
+    if is_fixed fixed.Semicolon t.kind then taken (n + 2) (for_second n at (expression None) o)
+    else at_operand (n + 2) (as_whole (as_first n at o)) t
 
 -- Declarations
 
 abbrev pub more_specifiers : Site → OneOrMore Specifier → Token → Option SpecifierWord → Verdict
 more_specifiers s specs t (Some w) = taken (site_nesting s) (after_specifiers s (with_last specs (specifier_at t w)))
 more_specifiers s specs t None =
-    wanted fixed.Name t (taken (site_nesting s) (after_name (record { site = s; specifiers = specs; declarators = [] }) (identifier_of t)))
+    wanted fixed.Name t (taken (site_nesting s)
+    (after_name (record { site = s; specifiers = specs; declarators = [] }) (identifier_of t)))
 
 abbrev pub without_length : Declaring → Identifier → Naming
 without_length d id = record { declaring = d; name = id; length = None }
@@ -397,27 +433,32 @@ without_length d id = record { declaring = d; name = id; length = None }
 abbrev pub open_parameters : Site → OneOrMore Specifier → List DeclaratorTree → Identifier → Verdict
 open_parameters (in_a_block b) specs ds id = refused
 open_parameters (in_a_for n at o) specs ds id = refused
-open_parameters (outside before s) specs [] id = taken 1 (parameters_open (record { before = before; storage = s; specifiers = specs; name = id }))
+open_parameters (outside before s) specs [] id =
+    taken 1 (parameters_open (record { before = before; storage = s; specifiers = specs; name = id }))
 open_parameters (outside before s) specs (d ∷ ds) id = refused
 
 abbrev pub at_after_name : Declaring → Identifier → Token → Verdict
 at_after_name d id t =
     if is_fixed fixed.OpenParenthesis t.kind then open_parameters d.site d.specifiers d.declarators id else
-    if is_fixed fixed.OpenBracket t.kind then taken (site_nesting d.site + 1) (operand (site_nesting d.site + 1) (as_whole (as_length d id))) else
+    if is_fixed fixed.OpenBracket t.kind
+    then taken (site_nesting d.site + 1) (operand (site_nesting d.site + 1) (as_whole (as_length d id))) else
     if is_fixed fixed.Assign t.kind then taken (site_nesting d.site) (after_assign (without_length d id)) else
     after_declarator (with_initializer (without_length d id) None) t
 
 abbrev pub at_after_length : Naming → Token → Verdict
 at_after_length d t =
-    if is_fixed fixed.Assign t.kind then taken (naming_nesting d) (after_assign d) else after_declarator (with_initializer d None) t
+    if is_fixed fixed.Assign t.kind then taken (naming_nesting d) (after_assign d)
+    else after_declarator (with_initializer d None) t
 
 abbrev pub at_after_assign : Naming → Token → Verdict
 at_after_assign d t =
-    if is_fixed fixed.OpenBrace t.kind then taken (naming_nesting d) (after_brace d t.at) else at_operand (naming_nesting d) (as_whole (as_value d)) t
+    if is_fixed fixed.OpenBrace t.kind then taken (naming_nesting d) (after_brace d t.at)
+    else at_operand (naming_nesting d) (as_whole (as_value d)) t
 
 abbrev pub at_after_item : Naming → Pos → ExpressionTree → ExpressionTrees → Token → Verdict
 at_after_item d at e es t =
-    if is_fixed fixed.CloseBrace t.kind then taken (naming_nesting d) (after_initializer (with_initializer d (Some (braced at e es))))
+    if is_fixed fixed.CloseBrace t.kind
+    then taken (naming_nesting d) (after_initializer (with_initializer d (Some (braced at e es))))
     else at_operand (naming_nesting d) (as_whole (as_item d at (expression_then e es))) t
 
 -- External definitions
@@ -428,7 +469,8 @@ begin_external before s t None = refused
 
 abbrev pub storage_or_specifier : List ExternalTree → Token → Option StorageWord → Verdict
 storage_or_specifier before t (Some w) = taken 0 (after_storage before (storage_at t w))
-storage_or_specifier before t None = if is_fixed fixed.End t.kind then finished before else begin_external before None t (specifier_word t.kind)
+storage_or_specifier before t None =
+    if is_fixed fixed.End t.kind then finished before else begin_external before None t (specifier_word t.kind)
 
 abbrev pub begin_parameter : Head → List ParameterTree → Token → Option SpecifierWord → Verdict
 begin_parameter h ps t (Some w) = taken 1 (parameter_specifiers h ps (one (specifier_at t w)))
@@ -449,8 +491,10 @@ last_parameter (p ∷ ps) specs = (p ∷ ps) ++ record { specifiers = specs; nam
 abbrev pub more_parameter : Head → List ParameterTree → OneOrMore Specifier → Token → Option SpecifierWord → Verdict
 more_parameter h ps specs t (Some w) = taken 1 (parameter_specifiers h ps (with_last specs (specifier_at t w)))
 more_parameter h ps specs t None =
-    if is_fixed fixed.Name t.kind then taken 1 (parameter_name h ps (record { specifiers = specs; name = Some (identifier_of t) })) else
-    if is_fixed fixed.Comma t.kind then taken 1 (parameter_comma h (ps ++ record { specifiers = specs; name = None } ∷ [])) else
+    if is_fixed fixed.Name t.kind
+    then taken 1 (parameter_name h ps (record { specifiers = specs; name = Some (identifier_of t) })) else
+    if is_fixed fixed.Comma t.kind
+    then taken 1 (parameter_comma h (ps ++ record { specifiers = specs; name = None } ∷ [])) else
     wanted fixed.CloseParenthesis t (taken 0 (parameters_closed h (last_parameter ps specs)))
 
 abbrev pub at_parameter_name : Head → List ParameterTree → ParameterTree → Token → Verdict
@@ -461,7 +505,15 @@ at_parameter_name h ps p t =
 abbrev pub at_parameters_closed : Head → List ParameterTree → Token → Verdict
 at_parameters_closed h ps t =
     if is_fixed fixed.Semicolon t.kind
-    then taken 0 (top (h.before ++ function (record { storage = h.storage; specifiers = h.specifiers; name = h.name; parameters = ps; body = None }) ∷ []))
+    then taken 0
+    (top (h.before
+    ++ function (record {
+      storage = h.storage;
+      specifiers = h.specifiers;
+      name = h.name;
+      parameters = ps;
+      body = None;
+    }) ∷ []))
     else wanted fixed.OpenBrace t (taken 1 (block_item (function_block h ps t.at no_items)))
 
 -- what becomes of a state at a token
@@ -476,7 +528,9 @@ step (after_brace d at) t = at_operand (naming_nesting d) (as_whole (as_item d a
 step (after_item d at e es) t = at_after_item d at e es t
 step (after_initializer d) t = after_declarator d t
 step (after_comma d) t = wanted fixed.Name t (taken (site_nesting d.site) (after_name d (identifier_of t)))
-step (parameters_open h) t = if is_fixed fixed.CloseParenthesis t.kind then taken 0 (parameters_closed h []) else begin_parameter h [] t (specifier_word t.kind)
+step (parameters_open h) t =
+    if is_fixed fixed.CloseParenthesis t.kind then taken 0 (parameters_closed h [])
+    else begin_parameter h [] t (specifier_word t.kind)
 step (parameter_specifiers h ps specs) t = more_parameter h ps specs t (specifier_word t.kind)
 step (parameter_name h ps p) t = at_parameter_name h ps p t
 step (parameter_comma h ps) t = begin_parameter h ps t (specifier_word t.kind)
@@ -484,19 +538,23 @@ step (parameters_closed h ps) t = at_parameters_closed h ps t
 step (block_item b) t = at_items b t
 step (at_statement n o) t = begins_statement n o t
 step (after_statement s o) t = resume s o t
-step (test_open k n at o) t = wanted fixed.OpenParenthesis t (taken (n + 2) (operand (n + 2) (as_whole (as_test k n at o))))
-step (do_open n at s o) t = wanted fixed.OpenParenthesis t (taken (n + 2) (operand (n + 2) (as_whole (as_last_test n at s o))))
+step (test_open k n at o) t =
+    wanted fixed.OpenParenthesis t (taken (n + 2) (operand (n + 2) (as_whole (as_test k n at o))))
+step (do_open n at s o) t =
+    wanted fixed.OpenParenthesis t (taken (n + 2) (operand (n + 2) (as_whole (as_last_test n at s o))))
 step (for_open n at o) t = wanted fixed.OpenParenthesis t (taken (n + 2) (for_first n at o))
 step (for_first n at o) t = begin_for n at o t (specifier_word t.kind)
 step (for_second n at f o) t =
-    if is_fixed fixed.Semicolon t.kind then taken (n + 2) (for_third n at f None o) else at_operand (n + 2) (as_whole (as_second n at f o)) t
+    if is_fixed fixed.Semicolon t.kind then taken (n + 2) (for_third n at f None o)
+    else at_operand (n + 2) (as_whole (as_second n at f o)) t
 step (for_third n at f second o) t =
     if is_fixed fixed.CloseParenthesis t.kind then taken (n + 1) (at_statement (n + 1) (in_for n at f second None o))
     else at_operand (n + 2) (as_whole (as_third n at f second o)) t
 step (default_colon n at o) t = wanted fixed.Colon t (taken (n + 1) (at_statement (n + 1) (in_default n at o)))
 step (goto_name n at o) t = wanted fixed.Name t (taken (n + 1) (statement_end n (goto at (identifier_of t)) o))
 step (returning n at o) t =
-    if is_fixed fixed.Semicolon t.kind then taken n (after_statement (return at None) o) else at_operand (n + 1) (as_whole (as_result n at o)) t
+    if is_fixed fixed.Semicolon t.kind then taken n (after_statement (return at None) o)
+    else at_operand (n + 1) (as_whole (as_result n at o)) t
 step (statement_end n s o) t = wanted fixed.Semicolon t (taken n (after_statement s o))
 step (operand n c) t = at_operand n c t
 step (named n id c) t = at_named n id c t

@@ -21,12 +21,12 @@ use Rattle.pk_lower_laws.specs.Parts.Listed.{CallsLeadBehind}
 use Rattle.pk_lower_laws.proofs.Parts.Leading.{listings_lead_behind}
 use Rattle.pk_welltyped.specs.Listed.{objects_in_items}
 use Rattle.pk_welltyped.specs.WellTyped.{IsUnit}
-use Rattle.pk_lower_laws.specs.Drafts.Laws.{DraftsAreTyped}
+use Rattle.pk_lower_laws.specs.Drafts.Laws.{DraftsAreTyped, DraftsHaveLabels}
 use Rattle.pk_lower_laws.proofs.Drafts.Tables.{IsTypedInstr, numbers, numbered_instr}
 use Rattle.pk_lower_laws.proofs.Drafts.Noted.{calls_are_noted}
 use Rattle.pk_lower_laws.proofs.Drafts.Places.{Ends, EdgeIs, ResultIs, own_number, region_at, variable_in}
 use Rattle.pk_lower_laws.proofs.Drafts.Parts.{made_part}
-use Rattle.pk_lower_laws.proofs.Drafts.Plans.{World, Draft, sizes, place, base, Lasting, PathIs, its_function, body_at_is, place_at, part_made_is, EndsAre, all_map, replicated}
+use Rattle.pk_lower_laws.proofs.Drafts.Plans.{World, Draft, AllTyped, sizes, place, base, Lasting, PathIs, its_function, body_at_is, place_at, part_made_is, EndsAre, all_map, replicated}
 use Rattle.pk_lower_laws.proofs.Drafts.Wholes.{Paths, HaveEnds, wholes, kinds_of, kind_is, foreknown}
 use Rattle.pk_lower_laws.proofs.Drafts.Declarations.{object_kind}
 use Rattle.pk_lower_laws.proofs.Drafts.Firsts.{first, first_made, files_are, Counted, first_plan, first_typed}
@@ -159,8 +159,10 @@ whole_made u entry paths h has l are =
     let all = wholes W (lasting u paths d0.made b k0 (λ y q. refl)) 0 1 paths ps d0 (first_plan W (counted u entry paths d0.made l k0)) (have_ends W 0 1 paths ps d0 (λ i q. let at : 0 + i ≡ i = omega arith in ap W.ends at)) in
     (all.many ∙ (length-map d0.made (λ (x : VariableOf). x.kind) ∙ k0), λ y q. all.part.low y q)
 
-pub drafts_are_typed : DraftsAreTyped
-drafts_are_typed u entry paths h has l are few =
+-- all that is known of the whole draft
+whole_typed : (u : UnitTree) (entry : ℕ) (paths : List CallPath) → IsUnit u → HasBody u entry → IsListing u entry paths → AreCallPaths u entry paths
+    → (let whole = program_draft by_number u paths in AllTyped (world u paths whole.made) whole)
+whole_typed u entry paths h has l are =
     let b = listings_lead_behind u entry paths has l are (calls_are_noted u h) in
     let d0 = begins u paths in
     let whole = program_draft by_number u paths in
@@ -172,9 +174,22 @@ drafts_are_typed u entry paths h has l are few =
     let ps = listing_paths W entry h l b in
     let all = wholes W lasts 0 1 paths ps d0 (first_plan W c) (have_ends W 0 1 paths ps d0 (λ i q. let at : 0 + i ≡ i = omega arith in ap W.ends at)) in
     let known = foreknown W lasts 1 ps d0 whole (record { many = length-map whole.made (λ (x : VariableOf). x.kind); final = λ y. refl }) (λ k x q. tt) all in
-    let t = all.part.typed known (first_typed W c h.objects (λ i q. tt) (λ i q. tt)) in
+    all.part.typed known (first_typed W c h.objects (λ i q. tt) (λ i q. tt))
+
+whole_labels : (u : UnitTree) (entry : ℕ) (paths : List CallPath) → IsUnit u → HasBody u entry → IsListing u entry paths → AreCallPaths u entry paths
+    → length (program_draft by_number u paths).labels ≡ (whole_size (sizes_of u paths) paths).points + 2
+whole_labels u entry paths h has l are = (whole_typed u entry paths h has l are).labels.many
+
+pub drafts_have_labels : DraftsHaveLabels
+drafts_have_labels u entry paths h has l are = omega (arith, whole_labels u entry paths h has l are)
+
+pub drafts_are_typed : DraftsAreTyped
+drafts_are_typed u entry paths h has l are few =
+    let whole = program_draft by_number u paths in
+    let W = world u paths whole.made in
+    let t = whole_typed u entry paths h has l are in
     let big : 2147483648 ≡ 2 ^ 31 = refl in
-    let labels : length whole.labels ≡ (whole_size (sizes_of u paths) paths).points + 2 = t.labels.many in
+    let labels : length whole.labels ≡ (whole_size (sizes_of u paths) paths).points + 2 = whole_labels u entry paths h has l are in
     record {
       entry = omega (labels, arith);
       few = omega (labels, few, big, arith);

@@ -6,26 +6,27 @@ use Rattle.std.specs.Option.{option_map, option_and_then}
 use Rattle.pk_ctypes.specs.declared.types.IntType.{IntType}
 use Rattle.pk_typed.specs.declared.values.Variable.{Variable}
 use Rattle.pk_typed.specs.declared.values.Variable.TheVariants.{File, Local}
-use Rattle.pk_typed.specs.Trees.{PlaceTree, ValueTree, EffectTree, ValueTrees, LocalTree, FileObjectTree, StartTree, scalar_start, array_start, UnitTree}
+use Rattle.pk_typed.specs.Trees.{PlaceTree, ValueTree, EffectTree, ValueTrees, LocalTree, FileObjectTree}
 use Rattle.pk_typed.specs.Trees as tree
 use Rattle.pk_typed.specs.Types.{type_of, type_of_place}
-use Rattle.pk_graph.specs.Kinds.{count_of}
+use Rattle.pk_graph.specs.Kinds.{count_of, Kind, scalar_kind, array_kind}
 use Rattle.pk_draft.specs.Drafts.{Names}
 use Rattle.pk_lower_row.specs.declared.shapes.Shape.TheVariants.{Named}
 use Rattle.pk_lower_row.specs.Shapes.{any_makes}
-use Rattle.pk_lower_row.specs.Contexts.{site, no_local, length_of_start, local_at, length_of, variable_of, array_of}
+use Rattle.pk_lower_row.specs.Contexts.{site, local_at, length_of, variable_of, array_of}
 use Rattle.pk_lower_row.specs.Rows as row
 use Rattle.pk_lower_row.specs.Rows.{Ways, Operand, operand, types_of, and_choice, or_choice, called}
 use Rattle.pk_lower_expression.specs.Expressions.{target, ways, performed, passed}
 use Rattle.pk_welltyped.specs.Listed.{Numbered, calls_at_place, calls_in, calls_in_effect, calls_in_values}
 use Rattle.pk_welltyped.specs.WellTyped as good
-use Rattle.pk_welltyped.specs.WellTyped.{Around, IsPlace, IsValue, IsEffect, AreValues, kind_in_file, kind_among, length_at_start, IsObject}
+use Rattle.pk_welltyped.specs.WellTyped.{Around, IsPlace, IsValue, IsEffect, AreValues, kind_among, IsObject}
 use Rattle.pk_lower_laws.proofs.Drafts.Places.{D, Place, Has, Stage, Typed, Proper, Step, step}
 use Rattle.pk_lower_laws.proofs.Drafts.Verbs.{IsCallee}
 use Rattle.pk_lower_laws.proofs.Drafts.Rows.{Gives, Works, WaysAre, HasArray, idle, value_are}
 use Rattle.pk_lower_laws.proofs.Drafts.Targets.{TargetIs, type_of_target, read_are, assign_are, update_are, step_are, constant_are}
 use Rattle.pk_lower_laws.proofs.Drafts.Operators.{any_are, convert_are, unary_are, binary_are, and_chooses, or_chooses, truth_are, conditional_are, then_are, assumed_works, int_chooses, zero_chooses, check_works}
 use Rattle.pk_lower_laws.proofs.Drafts.Calls.{Passes, passing, called_gives, called_works}
+use Rattle.pk_typed.specs.Defaults.{no_local, length_of_start}
 
 -- ---- calls in order
 
@@ -49,33 +50,29 @@ split w m n (x ∷ xs) ys h = let k = split w (m + 1) n xs ys h.2 in record { mi
 abbrev pub around : (w : Place) → Stage → Around
 around w s = record { unit = w.context.unit; locals = w.context.locals; objects = s.objects }
 
-pub object_is : (w : Place) → Proper w → (s : Stage) (k : good.Kind) (x : Variable) → IsObject (around w s) k x → (d : D w) → Typed w s d → Has w.table (variable_of w.context x d) k.int_type k.length
+pub object_is : (w : Place) → Proper w → (s : Stage) (k : Kind) (x : Variable) → IsObject (around w s) k x → (d : D w) → Typed w s d → Has w.table (variable_of w.context x d) k.int_type k.length
 object_is w g s k (File i) h d t = subst (λ (n : Names w.table.Variable). Has w.table (n.file i) k.int_type k.length) (sym t.names) (g.files i k h)
 object_is w g s k (Local i) h d t = subst (λ (n : Names w.table.Variable). Has w.table (n.object w.context.path i (slice_index_or d.objects i 0)) k.int_type k.length) (sym t.names) (t.objects.each i h.0 k h.1)
 
-pub same_length : (s : StartTree) → length_at_start s ≡ length_of_start s
-same_length (scalar_start z) = refl
-same_length (array_start n zs) = refl
-
-file_length : (t : IntType) (n : ℕ) (o : Option FileObjectTree) → option_map (λ (x : FileObjectTree). record { int_type = x.int_type; length = length_at_start x.start }) o ≡ Some (good.array t n)
+file_length : (t : IntType) (n : ℕ) (o : Option FileObjectTree) → option_map (λ (x : FileObjectTree). record { int_type = x.int_type; length = length_of_start x.start }) o ≡ Some (array_kind t n)
     → count_of (option_and_then (λ (x : FileObjectTree). length_of_start x.start) o) ≡ n
-file_length t n None e = absurd (none-some (good.array t n) e)
-file_length t n (Some x) e = ap count_of (sym (same_length x.start) ∙ ap (λ (k : Option good.Kind). (unwrap_or k (good.array t n)).length) e)
+file_length t n None e = absurd (none-some (array_kind t n) e)
+file_length t n (Some x) e = ap count_of (ap (λ (k : Option Kind). (unwrap_or k (array_kind t n)).length) e)
 
-pub local_length : (w : Place) (i : ℕ) (k : good.Kind) → kind_among w.context.locals i ≡ Some k → (local_at w.context i).length ≡ k.length
+pub local_length : (w : Place) (i : ℕ) (k : Kind) → kind_among w.context.locals i ≡ Some k → (local_at w.context i).length ≡ k.length
 local_length w i k e = known (slice_get w.context.locals i) refl e
   where
     known : (o : Option LocalTree) → slice_get w.context.locals i ≡ o → option_map (λ (x : LocalTree). record { int_type = x.int_type; length = x.length }) o ≡ Some k → (local_at w.context i).length ≡ k.length
     known None is e = absurd (none-some k e)
-    known (Some x) is e = ap (λ (l : LocalTree). l.length) (get_or_from_slice_get w.context.locals i x no_local is) ∙ ap (λ (q : Option good.Kind). (unwrap_or q k).length) e
+    known (Some x) is e = ap (λ (l : LocalTree). l.length) (get_or_from_slice_get w.context.locals i x no_local is) ∙ ap (λ (q : Option Kind). (unwrap_or q k).length) e
 
-array_length : (w : Place) (s : Stage) (t : IntType) (n : ℕ) (x : Variable) → IsObject (around w s) (good.array t n) x → count_of (length_of w.context x) ≡ n
+array_length : (w : Place) (s : Stage) (t : IntType) (n : ℕ) (x : Variable) → IsObject (around w s) (array_kind t n) x → count_of (length_of w.context x) ≡ n
 array_length w s t n (File i) h = file_length t n (slice_get w.context.unit.objects i) h
-array_length w s t n (Local i) h = ap count_of (local_length w i (good.array t n) h.1)
+array_length w s t n (Local i) h = ap count_of (local_length w i (array_kind t n) h.1)
 
 pub array_there : (w : Place) → Proper w → (s : Stage) (t : IntType) (x : Variable) → good.IsArray (around w s) t x → (d : D w) → Typed w s d → HasArray w.table (array_of w.context x d) t
 array_there w g s t x h d z =
-    record { array = subst (λ (n : ℕ). Has w.table (variable_of w.context x d) t (Some n)) (sym (array_length w s t h.0 x h.1)) (object_is w g s (good.array t h.0) x h.1 d z) }
+    record { array = subst (λ (n : ℕ). Has w.table (variable_of w.context x d) t (Some n)) (sym (array_length w s t h.0 x h.1)) (object_is w g s (array_kind t h.0) x h.1 d z) }
 
 -- ---- ranges
 
@@ -89,7 +86,7 @@ mutual
   unfolding target ways performed passed IsPlace IsValue IsEffect AreValues calls_at_place calls_in calls_in_effect calls_in_values type_of
 
   targets : (w : Place) → Proper w → (m n : ℕ) (s : Stage) (p : PlaceTree) → IsPlace (around w s) p → CallsAre w m (calls_at_place p) n → TargetIs w m n s (target w.context p)
-  targets w g m n s (tree.scalar t x) h c = (c, object_is w g s (good.scalar t) x h)
+  targets w g m n s (tree.scalar t x) h c = (c, object_is w g s (scalar_kind t) x h)
   targets w g m n s (tree.element t x o i) h c = (values w g m n s i h.1 c, array_there w g s t x h.0)
 
   same_type : (w : Place) (p : PlaceTree) → type_of_target (target {V = w.table.Variable} w.context p) ≡ type_of_place p

@@ -10,24 +10,22 @@ use Rattle.pk_typed.specs.Trees.{FileObjectTree, StartTree, scalar_start, array_
 use Rattle.pk_calls.specs.declared.listings.CallPath.{CallPath}
 use Rattle.pk_calls.specs.Paths.{entry_path}
 use Rattle.pk_graph.specs.declared.graphs.Scope.{Scope}
-use Rattle.pk_graph.specs.Kinds.{kind_at}
+use Rattle.pk_graph.specs.Kinds.{kind_at, Kind}
 use Rattle.pk_graph.specs.Graphs.{VariableOf, no_variable}
 use Rattle.pk_graph.specs.WellMade.{IsStartOf}
 use Rattle.pk_draft.specs.declared.drafts.Region.{Region}
 use Rattle.pk_draft.specs.declared.drafts.Label.{Label}
 use Rattle.pk_draft.specs.declared.drafts.Size.{Size}
 use Rattle.pk_draft.specs.Drafts.{Names, DraftOf, no_label, no_region, file_scopes, first_draft, entry_point}
-use Rattle.pk_lower_row.specs.Contexts.{length_of_start}
 use Rattle.pk_lower.specs.Parts as part
 use Rattle.pk_lower.specs.Parts.{file_variable, whole_size}
-use Rattle.pk_welltyped.specs.WellTyped as good
-use Rattle.pk_welltyped.specs.WellTyped.{IsStart, kind_in_file, length_at_start}
+use Rattle.pk_welltyped.specs.WellTyped.{IsStart, kind_in_file}
 use Rattle.pk_lower_laws.proofs.Drafts.Places.{region_at, IsKept, In, IsMade, variable_in, AreChained}
 use Rattle.pk_lower_laws.proofs.Drafts.Verbs.{all_last, either}
 use Rattle.pk_lower_laws.proofs.Drafts.Chains.{chained_last}
-use Rattle.pk_lower_laws.proofs.Drafts.Expressions.{same_length}
 use Rattle.pk_lower_laws.proofs.Drafts.Plans.{World, Draft, sizes, base, size_of, Plan, AllTyped, replicated}
 use Rattle.pk_lower_laws.proofs.Drafts.Wholes.{kinds_of, kind_is}
+use Rattle.pk_typed.specs.Defaults.{length_of_start}
 
 -- ---- lists
 
@@ -96,17 +94,17 @@ first_made u s = map file_variable u.objects ++ replicate s.variables no_variabl
 
 -- the kinds of variables of which the first are the file's objects
 pub files_are : (u : UnitTree) (s : Size) (ms : List VariableOf) → length u.objects ≤ length ms → ((y : ℕ) → y < length u.objects → variable_in ms y ≡ variable_in (first_made u s) y)
-    → (i : ℕ) (k : good.Kind) → kind_in_file u i ≡ Some k → (i < length u.objects) × (kind_at (kinds_of ms) i ≡ record { int_type = k.int_type; length = k.length })
+    → (i : ℕ) (k : Kind) → kind_in_file u i ≡ Some k → (i < length u.objects) × (kind_at (kinds_of ms) i ≡ k)
 files_are u s ms few low i k h = known (slice_get u.objects i) refl h
   where
-    known : (o : Option FileObjectTree) → slice_get u.objects i ≡ o → option_map (λ (x : FileObjectTree). record { int_type = x.int_type; length = length_at_start x.start }) o ≡ Some k → (i < length u.objects) × (kind_at (kinds_of ms) i ≡ record { int_type = k.int_type; length = k.length })
+    known : (o : Option FileObjectTree) → slice_get u.objects i ≡ o → option_map (λ (x : FileObjectTree). record { int_type = x.int_type; length = length_of_start x.start }) o ≡ Some k → (i < length u.objects) × (kind_at (kinds_of ms) i ≡ k)
     known None at e = absurd (none-some k e)
     known (Some x) at e =
         let there = slice_get_within u.objects i x at in
-        let is : record { int_type = x.int_type; length = length_at_start x.start } ≡ k = ap (λ (o : Option good.Kind). unwrap_or o k) e in
+        let is : record { int_type = x.int_type; length = length_of_start x.start } ≡ k = ap (λ (o : Option Kind). unwrap_or o k) e in
         let v : variable_in (first_made u s) i ≡ file_variable x = before_at (map file_variable u.objects) (replicate s.variables no_variable) i no_variable (file_variable x) (mapped_at u.objects i x at) in
         let kind : kind_at (kinds_of ms) i ≡ record { int_type = x.int_type; length = length_of_start x.start } = kind_is ms i ∙ ap (λ (y : VariableOf). y.kind) (low i there ∙ v) in
-        (there, kind ∙ (ap (λ (n : Option ℕ). record { int_type = x.int_type; length = n }) (sym (same_length x.start)) ∙ ap (λ (q : good.Kind). record { int_type = q.int_type; length = q.length }) is))
+        (there, kind ∙ is)
 
 -- ---- the plan before the first part
 

@@ -4,12 +4,12 @@ use Rattle.pk_typed.specs.declared.values.Variable.{Variable}
 use Rattle.pk_typed.specs.declared.values.Variable.TheVariants.{File, Local}
 use Rattle.pk_typed.specs.Trees.{PlaceTree, ValueTree, EffectTree, ValueTrees}
 use Rattle.pk_typed.specs.Trees as tree
-use Rattle.pk_welltyped.specs.WellTyped as good
 use Rattle.pk_welltyped.specs.WellTyped.{IsObject, IsPlace, IsValue, IsEffect, AreValues, IsEffectIf}
 use Rattle.pk_lower_laws.proofs.Drafts.Places.{Place, Stage}
 use Rattle.pk_lower_laws.proofs.Drafts.Expressions.{around}
+use Rattle.pk_graph.specs.Kinds.{Kind, scalar_kind, array_kind}
 
-object_later : (w : Place) (s k : Stage) → s.objects ≤ k.objects → (q : good.Kind) (x : Variable) → IsObject (around w s) q x → IsObject (around w k) q x
+object_later : (w : Place) (s k : Stage) → s.objects ≤ k.objects → (q : Kind) (x : Variable) → IsObject (around w s) q x → IsObject (around w k) q x
 object_later w s k l q (File i) h = h
 object_later w s k l q (Local i) h = (omega (h.0, l, arith), h.1)
 
@@ -17,8 +17,8 @@ mutual
   unfolding IsPlace IsValue IsEffect AreValues
 
   place_later : (w : Place) (s k : Stage) → s.objects ≤ k.objects → (p : PlaceTree) → IsPlace (around w s) p → IsPlace (around w k) p
-  place_later w s k l (tree.scalar t x) h = object_later w s k l (good.scalar t) x h
-  place_later w s k l (tree.element t x o i) h = ((h.0.0, object_later w s k l (good.array t h.0.0) x h.0.1), value_later w s k l i h.1)
+  place_later w s k l (tree.scalar t x) h = object_later w s k l (scalar_kind t) x h
+  place_later w s k l (tree.element t x o i) h = ((h.0.0, object_later w s k l (array_kind t h.0.0) x h.0.1), value_later w s k l i h.1)
 
   pub value_later : (w : Place) (s k : Stage) → s.objects ≤ k.objects → (v : ValueTree) → IsValue (around w s) v → IsValue (around w k) v
   value_later w s k l (tree.constant t z) h = h

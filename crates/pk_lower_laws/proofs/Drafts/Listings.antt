@@ -28,7 +28,7 @@ by_at k m [] i c h = absurd (none-some c h)
 by_at k m (d ∷ cs) zero c h = let at : m ≡ m + 0 = omega arith in ap (λ (o : Option CallSite). Some (path_by k m (unwrap_or o c).function)) h ∙ ap (λ (q : ℕ). Some (path_by k q c.function)) at
 by_at k m (d ∷ cs) (suc i) c h = let at : m + 1 + i ≡ m + suc i = omega arith in by_at k (m + 1) cs i c h ∙ ap (λ (q : ℕ). Some (path_by k q c.function)) at
 
-by_many : (k m : ℕ) (cs : List CallSite) → length (paths_by k m cs) ≡ length cs
+pub by_many : (k m : ℕ) (cs : List CallSite) → length (paths_by k m cs) ≡ length cs
 by_many k m [] = refl
 by_many k m (c ∷ cs) = ap suc (by_many k (m + 1) cs)
 

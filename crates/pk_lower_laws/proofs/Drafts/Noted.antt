@@ -10,12 +10,13 @@ use Rattle.pk_typed.specs.Trees as tree
 use Rattle.pk_typed.specs.Trees.{PlaceTree, ValueTree, EffectTree, ValueTrees, DeclaredTree, ForStartTree, StatementTree, ItemTrees, BodyTree, FunctionTree, UnitTree}
 use Rattle.pk_calls.specs.Calls as calls
 use Rattle.pk_calls.specs.Calls.{HasBody, calls_of}
-use Rattle.pk_lower.specs.Parts.{body_at, no_body}
+use Rattle.pk_lower.specs.Parts.{body_at}
 use Rattle.pk_lower_laws.specs.Parts.Called.{OfCalls, AtPlace, AtValue, AtEffect, AtValues, AtValueIf, AtValuesIf, AtEffectIf, AtDeclared, AtAllDeclared, AtStart, AtStatement, AtItems}
 use Rattle.pk_lower_laws.specs.Parts.Listed.{IsCallOf}
 use Rattle.pk_welltyped.specs.Listed.{Numbered, numbered, calls_at_place, calls_in, calls_in_effect, calls_in_values, calls_if, calls_in_values_if, calls_in_effect_if, calls_in_declared, calls_in_all_declared, calls_at_start, calls_in_statement, calls_in_items}
 use Rattle.pk_welltyped.specs.WellTyped.{IsUnit, IsBody, IsBodyIf}
 use Rattle.pk_lower_laws.specs.Drafts.Noted.{WellTypedCallsAreNoted}
+use Rattle.pk_typed.specs.Defaults.{no_body}
 
 abbrev pub Each : OfCalls → List Numbered → Type 0
 Each P [] = Unit {0}

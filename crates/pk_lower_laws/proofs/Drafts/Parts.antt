@@ -8,7 +8,7 @@ use Rattle.pk_ctypes.specs.declared.types.IntType.{IntType}
 use Rattle.pk_ctypes.proofs.Wrapped.{zero_in}
 use Rattle.pk_typed.specs.Trees.{LocalTree, BodyTree, FunctionTree}
 use Rattle.pk_calls.specs.declared.listings.Caller.{Caller}
-use Rattle.pk_graph.specs.Kinds.{Kind, count_of}
+use Rattle.pk_graph.specs.Kinds.{Kind, count_of, scalar_kind}
 use Rattle.pk_graph.specs.Trees.{constant, Set, Havoc}
 use Rattle.pk_graph.specs.Graphs.{VariableOf, no_variable}
 use Rattle.pk_graph.specs.WellMade.{IsStartOf}
@@ -20,8 +20,7 @@ use Rattle.pk_lower_statement.specs.Statements as form
 use Rattle.pk_lower_statement.specs.Statements.{lowered_items}
 use Rattle.pk_lower.specs.Parts as part
 use Rattle.pk_welltyped.specs.Listed.{calls_in_items, objects_in_items}
-use Rattle.pk_welltyped.specs.WellTyped as good
-use Rattle.pk_welltyped.specs.WellTyped.{Marks, AreParameters, AreItems, kind_among}
+use Rattle.pk_welltyped.specs.WellTyped.{AreParameters, AreItems, kind_among}
 use Rattle.pk_lower_laws.proofs.Drafts.Places.{D, Place, Has, inner_object, outer_object, IsObjectOf, Stage, ResultIs, own_number, ObjectsForeseen, Proper, Below, Before, Step, step_for, step_beside, variable_in, quiet, same_scopes}
 use Rattle.pk_lower_laws.proofs.Drafts.Verbs.{with_objects, within, typed_standing, typed_placed, object_step, result_step, fresh_step}
 use Rattle.pk_lower_laws.proofs.Drafts.Trees.{constant_is}
@@ -36,7 +35,7 @@ use Rattle.pk_lower_laws.proofs.Drafts.Statements.{ExitsAre, items, result_there
 -- parameters of the types are the objects from number i on
 abbrev pub ParametersAt : List LocalTree → ℕ → List IntType → Type 0
 ParametersAt xs i [] = Unit {0}
-ParametersAt xs i (t ∷ ts) = (kind_among xs i ≡ Some (good.scalar t)) × ParametersAt xs (i + 1) ts
+ParametersAt xs i (t ∷ ts) = (kind_among xs i ≡ Some (scalar_kind t)) × ParametersAt xs (i + 1) ts
 
 -- there are no more of them than objects
 few_parameters : (xs : List LocalTree) (i : ℕ) (ts : List IntType) → i ≤ length xs → ParametersAt xs i ts → i + length ts ≤ length xs
@@ -55,7 +54,7 @@ parameters_from : (pre xs : List LocalTree) (ts : List IntType) → AreParameter
 parameters_from pre xs [] h = tt
 parameters_from pre [] (t ∷ ts) h = absurd h
 parameters_from pre (x ∷ xs) (t ∷ ts) h =
-    let is : kind_among (pre ++ x ∷ xs) (length pre) ≡ Some (good.scalar t) =
+    let is : kind_among (pre ++ x ∷ xs) (length pre) ≡ Some (scalar_kind t) =
     ap (option_map (λ (y : LocalTree). record { int_type = y.int_type; length = y.length })) (nth pre x xs)
     ∙ (ap (λ (u : IntType). Some (record { int_type = u; length = x.length })) h.0 ∙ ap (λ (n : Option ℕ). Some (record { int_type = t; length = n })) h.1) in (
       is,
@@ -123,13 +122,13 @@ named_made : (w : Place) (name : Option (List ℕ)) (x : ℕ) (d : D w) → ((fo
 named_made w None x d = (refl, refl)
 named_made w (Some n) x d = (refl, refl)
 
-parameter_step : (w : Place) → Proper w → (s : Stage) (from : Option Caller) (t : IntType) → kind_among w.context.locals s.objects ≡ Some (good.scalar t) → (from ≡ None → w.FromOutside s.objects) → (d : D w)
+parameter_step : (w : Place) → Proper w → (s : Stage) (from : Option Caller) (t : IntType) → kind_among w.context.locals s.objects ≡ Some (scalar_kind t) → (from ≡ None → w.FromOutside s.objects) → (d : D w)
     → Step w 0 0 s (more 1 s) d (part.introduced_parameter w.context from s.objects d) (Unit {0}) (Unit {0})
 parameter_step w g s from t k o d =
     let i = s.objects in
     let v = parameter_variable w from i in
     subst (λ (e : D w). Step w 0 0 s (more 1 s) d e (Unit {0}) (Unit {0})) (sym (introduced w from i d))
-    (chain (object_step w g 0 s v d (parameter_path w.context.locals w.context.path from i) (its_start w from i) (good.scalar t) k (omega arith) (object_is w from i o)) (named_step w 0 (more 1 s) (local_at w.context i).name d.variables (with_object i v d)))
+    (chain (object_step w g 0 s v d (parameter_path w.context.locals w.context.path from i) (its_start w from i) (scalar_kind t) k (omega arith) (object_is w from i o)) (named_step w 0 (more 1 s) (local_at w.context i).name d.variables (with_object i v d)))
 
 parameter_variables : (w : Place) (from : Option Caller) (i : ℕ) (d : D w) → (part.introduced_parameter w.context from i d).variables ≡ d.variables + 1
 parameter_variables w from i d = ap (λ (q : D w). q.variables) (introduced w from i d) ∙ (named_made w (local_at w.context i).name d.variables (with_object i (parameter_variable w from i) d)).1
@@ -225,10 +224,6 @@ result_written w g (Some t) d m y = get_or-set_same d.made d.variables (inner No
 entry_step : (w : Place) → Proper w → (s : Stage) (from : Option Caller) (d : D w) → Step w 0 0 s s d (part.placed_entry from d) (Unit {0}) (Unit {0})
 entry_step w g s None d = quiet w 0 s d (placed d.point d) (Unit {0}) (Unit {0}) refl refl refl refl (λ z. z) (same_scopes _ _ refl) (omega arith) (λ o b z t q. (typed_placed w g s d.point d t, tt))
 entry_step w g s (Some c) d = idle w 0 s d (Unit {0})
-
-entry_made : (w : Place) (from : Option Caller) (d : D w) → (part.placed_entry from d).made ≡ d.made
-entry_made w None d = refl
-entry_made w (Some c) d = refl
 
 ended_works : (w : Place) → Proper w → (m : ℕ) (s : Stage) (name : List ℕ) (t : Option IntType) → s.result ≡ t → Works w m m s (part.ended w.context name t)
 ended_works w g m s name None h d = idle w m s d (Unit {0})

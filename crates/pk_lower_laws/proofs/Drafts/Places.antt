@@ -5,17 +5,18 @@ use Rattle.std.specs.Option.{option_and_then}
 use Rattle.pk_ctypes.specs.declared.types.IntType.{IntType}
 use Rattle.pk_typed.specs.Trees.{LocalTree, FunctionTree, UnitTree}
 use Rattle.pk_graph.specs.declared.graphs.Scope.{Scope}
-use Rattle.pk_graph.specs.Kinds.{Kinds, count_of}
+use Rattle.pk_graph.specs.Kinds.{Kinds, count_of, Kind}
 use Rattle.pk_graph.specs.Graphs.{VariableOf, no_variable, number_start}
 use Rattle.pk_graph.specs.Trees.{InstrOf, Skip, Set, Havoc, Clear, Load, Store, Guard, Check}
 use Rattle.pk_graph.specs.WellMade.{IsStartOf}
 use Rattle.pk_draft.specs.declared.drafts.Region.{Region}
 use Rattle.pk_draft.specs.declared.drafts.Label.{Label}
 use Rattle.pk_draft.specs.Drafts.{DraftOf, EdgeFrom, no_region, nowhere, inner}
-use Rattle.pk_lower_row.specs.Contexts.{Context, no_local, size_in, parameters_of}
+use Rattle.pk_lower_row.specs.Contexts.{Context, size_in, parameters_of}
 use Rattle.pk_lower.specs.Parts.{entry_parameter}
 use Rattle.pk_welltyped.specs.WellTyped as good
 use Rattle.pk_lower_laws.proofs.Drafts.Tables.{Table, IsTypedInstr}
+use Rattle.pk_typed.specs.Defaults.{no_local}
 
 -- What becomes of a path's objects: how many it declares, the variable of each, and that of its result.
 pub record Ends : Type 0 where
@@ -157,9 +158,9 @@ ResultIs (Some t) P y = P y
 -- the objects of the function so far, and its result, whose variables are below v
 pub record ObjectsAre (w : Place) (s : Stage) (v : ℕ) (os : List ℕ) : Type 0 where
   pub many : length os ≡ length w.context.locals + 1
-  pub each : (i : ℕ) → i < s.objects → (k : good.Kind) → good.kind_among w.context.locals i ≡ Some k → Has w.table (w.table.names.object w.context.path i (own_number os i)) k.int_type k.length
+  pub each : (i : ℕ) → i < s.objects → (k : Kind) → good.kind_among w.context.locals i ≡ Some k → Has w.table (w.table.names.object w.context.path i (own_number os i)) k.int_type k.length
   pub result : HasIf w.table (w.table.names.result w.context.path (own_number os (length w.context.locals))) s.result
-  pub kinds : (i : ℕ) → i < s.objects → (k : good.Kind) × (good.kind_among w.context.locals i ≡ Some k) × (0 < count_of k.length)
+  pub kinds : (i : ℕ) → i < s.objects → (k : Kind) × (good.kind_among w.context.locals i ≡ Some k) × (0 < count_of k.length)
   pub below : (i : ℕ) → i < s.objects → own_number os i < v
   pub rising : (i j : ℕ) → i < j → j < s.objects → own_number os i < own_number os j
   pub result_apart : (i : ℕ) → i < s.objects → ResultIs s.result (λ y. own_number os i ≡ y → ⊥) (own_number os (length w.context.locals))
@@ -232,9 +233,9 @@ pub record Proper (w : Place) : Type 0 where
   pub limit : w.limit ≤ length w.kinds
   pub points : 0 < w.points
   pub last : w.last ≤ w.points
-  pub files : (i : ℕ) (k : good.Kind) → good.kind_in_file w.context.unit i ≡ Some k → Has w.table (w.table.names.file i) k.int_type k.length
+  pub files : (i : ℕ) (k : Kind) → good.kind_in_file w.context.unit i ≡ Some k → Has w.table (w.table.names.file i) k.int_type k.length
   pub temporaries : (y : ℕ) (t : IntType) → IsOwn w y (inner None t None w.context.path) → IsNoObject w y → Has w.table (w.table.names.temporary y) t None
-  pub objects : (i : ℕ) (k : good.Kind) (x : VariableOf) → i < w.ends.objects → good.kind_among w.context.locals i ≡ Some k → IsOwn w (w.ends.numbers i) x → IsObjectOf w i x
+  pub objects : (i : ℕ) (k : Kind) (x : VariableOf) → i < w.ends.objects → good.kind_among w.context.locals i ≡ Some k → IsOwn w (w.ends.numbers i) x → IsObjectOf w i x
       → Has w.table (w.table.names.object w.context.path i (w.ends.numbers i)) k.int_type k.length
   pub results : (t : IntType) → w.context.returns ≡ Some t → IsOwn w w.ends.result (inner None t None w.context.path) → Has w.table (w.table.names.result w.context.path w.ends.result) t None
   pub named : (i : ℕ) → i < w.ends.objects → w.CanBeNamed (w.ends.numbers i)

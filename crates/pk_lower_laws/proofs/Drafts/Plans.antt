@@ -9,10 +9,9 @@ use Rattle.pk_typed.specs.Trees.{BodyTree, FunctionTree, UnitTree}
 use Rattle.pk_calls.specs.declared.listings.Caller.{Caller}
 use Rattle.pk_calls.specs.declared.listings.CallPath.{CallPath}
 use Rattle.pk_calls.specs.Calls as calls
-use Rattle.pk_calls.specs.Calls.{calls_of}
 use Rattle.pk_calls.specs.Paths.{entry_path, path_by}
 use Rattle.pk_graph.specs.declared.graphs.Scope.{Scope}
-use Rattle.pk_graph.specs.Kinds.{Kinds}
+use Rattle.pk_graph.specs.Kinds.{Kinds, Kind}
 use Rattle.pk_graph.specs.Graphs.{VariableOf, number_start}
 use Rattle.pk_graph.specs.Trees.{InstrOf, Skip, Set, Havoc, Clear, Load, Store, Guard, Check}
 use Rattle.pk_graph.specs.WellMade.{IsStartOf}
@@ -25,12 +24,13 @@ use Rattle.pk_lower_laws.specs.Parts.Listed.{CallsLeadBehind, IsListed}
 use Rattle.pk_lower_laws.proofs.Parts.Measures.{parts_fill_regions}
 use Rattle.pk_welltyped.specs.Listed.{Numbered, numbered}
 use Rattle.pk_welltyped.specs.WellTyped as good
-use Rattle.pk_welltyped.specs.WellTyped.{IsBody, AreParameters, AreItems, Marks}
+use Rattle.pk_welltyped.specs.WellTyped.{IsBody, AreParameters, AreItems}
 use Rattle.pk_lower_laws.proofs.Drafts.Tables.{Table}
 use Rattle.pk_lower_laws.proofs.Drafts.Places.{Place, Ends, Has, IsOwn, IsObjectOf, IsNoObject, returned_by, Promised, region_at, IsKept, In, Holds, variable_in, IsFresh, MadeIs, Foreseen, ResultIs, ObjectsForeseen, HasOtherWay, EdgeIs, LabelsAre, AreChained, Grown, Stage, PlacesAre, Typed, Below, IsMade, Before, After}
 use Rattle.pk_lower_laws.proofs.Drafts.Verbs.{IsCallee}
 use Rattle.pk_lower_laws.proofs.Drafts.Expressions.{CallsAre}
 use Rattle.pk_lower_laws.proofs.Drafts.Parts.{ParametersAt, ComeFromOutside, parameters_at, AreWritten, IsWrittenIf, Stays, all_stay, if_stays, begun_here, PartIs, made_part, ends, part_step, part_points, part_made}
+use Rattle.pk_typed.specs.Defaults.{no_body, no_function}
 
 -- The unit and its call paths; the table of the variables, and by their numbers what they are in the end and their kinds; the edges of the whole draft; what becomes of the objects of each path; which variables may come into scope, and which may begin with something else than 0; which objects of a path get any value from outside; how many points there are, and how many objects the file has.
 pub record World : Type 1 where
@@ -85,12 +85,12 @@ base W = place W 0 0 0 0 0
 -- what is so of the unit and its paths
 pub record Lasting (W : World) : Type 0 where
   pub points : 0 < W.points
-  pub files : (i : ℕ) (k : good.Kind) → good.kind_in_file W.unit i ≡ Some k → Has W.table (W.table.names.file i) k.int_type k.length
+  pub files : (i : ℕ) (k : Kind) → good.kind_in_file W.unit i ≡ Some k → Has W.table (W.table.names.file i) k.int_type k.length
   pub objects_of_file : W.files ≡ length W.unit.objects
   pub behind : CallsLeadBehind W.unit W.paths
   pub listed : (k : ℕ) (p : CallPath) → slice_get W.paths k ≡ Some p → IsListed W.paths p.function
   pub temporaries : (k n f l q : ℕ) (y : ℕ) (t : IntType) → k < length W.paths → IsOwn (place W k n f l q) y (inner None t None k) → IsNoObject (place W k n f l q) y → Has W.table (W.table.names.temporary y) t None
-  pub objects : (k n l q : ℕ) (p : CallPath) (i : ℕ) (h : good.Kind) (x : VariableOf) → slice_get W.paths k ≡ Some p → i < (W.ends k).objects → good.kind_among (part.body_at W.unit p.function).locals i ≡ Some h
+  pub objects : (k n l q : ℕ) (p : CallPath) (i : ℕ) (h : Kind) (x : VariableOf) → slice_get W.paths k ≡ Some p → i < (W.ends k).objects → good.kind_among (part.body_at W.unit p.function).locals i ≡ Some h
       → IsOwn (place W k n p.function l q) ((W.ends k).numbers i) x → IsObjectOf (place W k n p.function l q) i x → Has W.table (W.table.names.object k i ((W.ends k).numbers i)) h.int_type h.length
   pub results : (k n l q : ℕ) (p : CallPath) (t : IntType) → slice_get W.paths k ≡ Some p → (part.function_at W.unit p.function).returns ≡ Some t → IsOwn (place W k n p.function l q) (W.ends k).result (inner None t None k)
       → Has W.table (W.table.names.result k (W.ends k).result) t None
@@ -125,14 +125,14 @@ pub function_is : (W : World) (k : ℕ) (p : CallPath) → slice_get W.paths k �
 function_is W k p h = ap (λ (q : CallPath). q.function) (get_or_from_slice_get W.paths k p (entry_path 0) h)
 
 pub its_function : (u : UnitTree) (f : ℕ) (g : FunctionTree) → slice_get u.functions f ≡ Some g → part.function_at u f ≡ g
-its_function u f g h = get_or_from_slice_get u.functions f g part.no_function h
+its_function u f g h = get_or_from_slice_get u.functions f g no_function h
 
 pub its_body : (u : UnitTree) (f : ℕ) (g : FunctionTree) (b : BodyTree) → slice_get u.functions f ≡ Some g → g.body ≡ Some b → calls.body_of u f ≡ Some b
 unfolding calls.body_of
 its_body u f g b h k = ap (option_and_then (λ (x : FunctionTree). x.body)) h ∙ k
 
 pub body_at_is : (u : UnitTree) (f : ℕ) (g : FunctionTree) (b : BodyTree) → slice_get u.functions f ≡ Some g → g.body ≡ Some b → part.body_at u f ≡ b
-body_at_is u f g b h k = ap (λ (o : Option BodyTree). unwrap_or o part.no_body) (its_body u f g b h k)
+body_at_is u f g b h k = ap (λ (o : Option BodyTree). unwrap_or o no_body) (its_body u f g b h k)
 
 calls_from : (w : Place) (m : ℕ) (cs : List CallSite) → ((i : ℕ) (c : CallSite) → slice_get cs i ≡ Some c → IsCallee w (w.context.first + (m + i)) c.function) → CallsAre w m (numbered m cs) (m + length cs)
 calls_from w m [] h = omega arith

@@ -16,7 +16,7 @@ use Rattle.pk_lower_row.specs.declared.shapes.Waiting.{Waiting}
 use Rattle.pk_lower_row.specs.declared.shapes.Waiting.TheVariants.{Weak}
 use Rattle.pk_lower_row.specs.Shapes.{stays, strong_if, strong_or_weak}
 use Rattle.pk_lower_row.specs.Rows as row
-use Rattle.pk_lower_row.specs.Rows.{Ways, Operand, Two, Loaded, Target, scalar, element, stored_unless, two}
+use Rattle.pk_lower_row.specs.Rows.{Ways, Operand, Loaded, Target, scalar, element, stored_unless, two}
 use Rattle.pk_welltyped.specs.WellTyped.{operands}
 use Rattle.pk_lower_laws.proofs.Drafts.Places.{D, Place, Has, Stage, Typed, Proper, Step, step, step_for, step_beside}
 use Rattle.pk_lower_laws.proofs.Drafts.Trees.{constant_is, conversion_is, updated_is}

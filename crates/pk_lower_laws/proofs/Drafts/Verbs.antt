@@ -8,7 +8,7 @@ use Rattle.pk_ctypes.specs.declared.types.IntType.{IntType}
 use Rattle.pk_typed.specs.Trees.{LocalTree}
 use Rattle.pk_graph.specs.Trees.{InstrOf, Skip}
 use Rattle.pk_lower_laws.proofs.Drafts.Tables.{IsTypedInstr}
-use Rattle.pk_graph.specs.Kinds.{count_of}
+use Rattle.pk_graph.specs.Kinds.{count_of, Kind}
 use Rattle.pk_graph.specs.Graphs.{VariableOf, no_variable, number_start}
 use Rattle.pk_graph.specs.WellMade.{IsStartOf}
 use Rattle.pk_draft.specs.declared.drafts.Region.{Region}
@@ -254,7 +254,7 @@ temporary_made w g m s t d =
 abbrev pub with_objects : ℕ → Stage → Stage
 with_objects n s = record { objects = n; result = s.result }
 
-pub within : (xs : List LocalTree) (i : ℕ) {q : good.Kind} → good.kind_among xs i ≡ Some q → i < length xs
+pub within : (xs : List LocalTree) (i : ℕ) {q : Kind} → good.kind_among xs i ≡ Some q → i < length xs
 within xs i {q = q} e = known (slice_get xs i) refl e
   where
     known : (a : Option LocalTree) → slice_get xs i ≡ a → option_map (λ (x : LocalTree). record { int_type = x.int_type; length = x.length }) a ≡ Some q → i < length xs
@@ -280,7 +280,7 @@ object_is_next : (w : Place) (s : Stage) (v : ℕ) (os : List ℕ) → s.objects
     → (s.objects < w.ends.objects) × (w.ends.numbers s.objects ≡ v)
 object_is_next w s v os l n f = (omega (f.declared, arith), f.objects s.objects (omega arith) ∙ get_or-set_same os s.objects v 0 (omega (n, l, arith)))
 
-object_more : (w : Place) (s : Stage) (os : List ℕ) (v : ℕ) (k : good.Kind) → good.kind_among w.context.locals s.objects ≡ Some k → 0 < count_of k.length → Has w.table (w.table.names.object w.context.path s.objects v) k.int_type k.length → ObjectsAre w s v os
+object_more : (w : Place) (s : Stage) (os : List ℕ) (v : ℕ) (k : Kind) → good.kind_among w.context.locals s.objects ≡ Some k → 0 < count_of k.length → Has w.table (w.table.names.object w.context.path s.objects v) k.int_type k.length → ObjectsAre w s v os
     → ObjectsAre w (with_objects (s.objects + 1) s) (v + 1) (slice_set os s.objects v)
 object_more w s os v k is some h o =
     let i = s.objects in
@@ -324,14 +324,14 @@ object_more w s os v k is some h o =
     more None y h = tt
     more (Some t) y h = omega (h, arith)
 
-    here : (j : ℕ) (q : good.Kind) → j ≡ s.objects → good.kind_among w.context.locals j ≡ Some q → own_number (slice_set os s.objects v) s.objects ≡ v → Has w.table (w.table.names.object w.context.path j (own_number (slice_set os s.objects v) j)) q.int_type q.length
+    here : (j : ℕ) (q : Kind) → j ≡ s.objects → good.kind_among w.context.locals j ≡ Some q → own_number (slice_set os s.objects v) s.objects ≡ v → Has w.table (w.table.names.object w.context.path j (own_number (slice_set os s.objects v) j)) q.int_type q.length
     here j q at e same =
-        let kind : k ≡ q = ap (λ (a : Option good.Kind). unwrap_or a q) (sym is ∙ (ap (good.kind_among w.context.locals) (sym at) ∙ e)) in
+        let kind : k ≡ q = ap (λ (a : Option Kind). unwrap_or a q) (sym is ∙ (ap (good.kind_among w.context.locals) (sym at) ∙ e)) in
         subst (λ (x : ℕ). Has w.table (w.table.names.object w.context.path x (own_number (slice_set os s.objects v) x)) q.int_type q.length) (sym at)
-        (subst (λ (x : ℕ). Has w.table (w.table.names.object w.context.path s.objects x) q.int_type q.length) (sym same) (subst (λ (a : good.Kind). Has w.table (w.table.names.object w.context.path s.objects v) a.int_type a.length) kind h))
+        (subst (λ (x : ℕ). Has w.table (w.table.names.object w.context.path s.objects x) q.int_type q.length) (sym same) (subst (λ (a : Kind). Has w.table (w.table.names.object w.context.path s.objects v) a.int_type a.length) kind h))
 
 -- The next object's variable is made, which may begin with something else than 0 where it is so said.
-pub object_step : (w : Place) → Proper w → (m : ℕ) (s : Stage) (x : VariableOf) (d : D w) → x.path ≡ Some w.context.path → IsStartOf x x.start → (k : good.Kind) → good.kind_among w.context.locals s.objects ≡ Some k → 0 < count_of k.length → IsObjectOf w s.objects x
+pub object_step : (w : Place) → Proper w → (m : ℕ) (s : Stage) (x : VariableOf) (d : D w) → x.path ≡ Some w.context.path → IsStartOf x x.start → (k : Kind) → good.kind_among w.context.locals s.objects ≡ Some k → 0 < count_of k.length → IsObjectOf w s.objects x
     → Step w m m s (with_objects (s.objects + 1) s) d (with_object s.objects x d) (Unit {0}) ((d.variables < length w.kinds) × w.CanBeNamed d.variables)
 object_step w g m s x d p st k is some ob =
     let l = within w.context.locals s.objects is in

@@ -5,16 +5,15 @@ use Rattle.std.proofs.lemmas.List.{length-map}
 use Rattle.std.specs.Prelude.{All, slice_get, unwrap_or}
 use Rattle.std.specs.Option.{option_map, option_and_then}
 use Rattle.pk_ctypes.specs.declared.types.IntType.{IntType}
-use Rattle.pk_typed.specs.Trees.{BodyTree, FunctionTree, UnitTree}
+use Rattle.pk_typed.specs.Trees.{BodyTree, FunctionTree}
 use Rattle.pk_calls.specs.declared.listings.CallPath.{CallPath}
 use Rattle.pk_calls.specs.Calls as calls
 use Rattle.pk_calls.specs.Calls.{calls_of}
-use Rattle.pk_graph.specs.Kinds.{Kinds, kind_at}
+use Rattle.pk_graph.specs.Kinds.{Kinds, kind_at, scalar_kind}
 use Rattle.pk_graph.specs.Graphs.{VariableOf}
 use Rattle.pk_draft.specs.Drafts.{inner}
 use Rattle.pk_lower_row.specs.Contexts.{parameters_of}
 use Rattle.pk_lower.specs.Parts as part
-use Rattle.pk_welltyped.specs.WellTyped as good
 use Rattle.pk_lower_laws.proofs.Drafts.Places.{Has, HasIf, HasAll, IsOwn, returned_by, ResultIs, Promised, region_at, IsKept, variable_in, same_scopes, grown_both}
 use Rattle.pk_lower_laws.proofs.Drafts.Parts.{ParametersAt, parameter_in, parameter_path, object_is, AreWritten, IsWrittenIf, made_part}
 use Rattle.pk_lower_laws.proofs.Drafts.Plans.{World, Draft, sizes, function_of, place, base, Lasting, Plan, PathIs, function_is, its_function, its_parameters, place_at, part_made_is, plan_next, EndsAre, PathMade, path_stays, path_made, Foreknown, OnePart, one_part}
@@ -122,7 +121,7 @@ parameters_made W l d is j n p h i v (t ∷ ts) k m o e a =
     let there = inside d.made v j (ap (λ (q : VariableOf). q.path) a.0 ∙ parameter_path xs j p.caller i) in
     let own : IsOwn (place W j n p.function 0 0) ((W.ends j).numbers i) x = subst (λ (z : ℕ). IsOwn (place W j n p.function 0 0) z x) (sym at) (record { there = omega (there, is.many, length-map d.made (λ (q : VariableOf). q.kind), arith); is = is.final v ∙ a.0 }) in
     let ob = object_is (place W j n p.function 0 0) p.caller i (λ q. l.outside j i p h.path q (omega (o, arith))) in (
-      subst (λ (z : ℕ). Has W.table (W.table.names.object j i z) t None) at (l.objects j n 0 0 p i (good.scalar t) x h.path (omega (m, arith)) k.0 own ob),
+      subst (λ (z : ℕ). Has W.table (W.table.names.object j i z) t None) at (l.objects j n 0 0 p i (scalar_kind t) x h.path (omega (m, arith)) k.0 own ob),
       parameters_made W l d is j n p h (i + 1) (v + 1) ts k.1 (omega (m, arith)) (omega (o, arith)) (λ q c. let z : i + 1 + q ≡ i + (1 + q) = omega arith in ap (W.ends j).numbers z ∙ (e (1 + q) (omega (c, arith)) ∙ omega arith)) a.1,
     )
 

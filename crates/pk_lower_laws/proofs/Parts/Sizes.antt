@@ -20,6 +20,7 @@ use Rattle.pk_lower_laws.specs.Parts.Steps.{AgreeAt, InStep, AsMuch, moved}
 use Rattle.pk_lower_laws.specs.Parts.Laws.{PartsMakeTheirSize}
 use Rattle.pk_lower_laws.proofs.Parts.Verbs.{pointed, valued, either, freshened}
 use Rattle.pk_lower_laws.proofs.Parts.Statements.{naming, introducing, items}
+use Rattle.pk_typed.specs.Defaults.{no_body}
 
 -- parameters, whether a call sets them or not
 parameter : {V W : Type 0} (c b : Context) (from by : Option Caller) (i : ℕ) → AsMuch (part.introduced_parameter {V = V} c from i) (part.introduced_parameter {V = W} b by i)
@@ -80,7 +81,7 @@ beginning V W c k n ss g b from by r d e =
     result c (moved k n ss c) g.returns r.points r.variables (part.all_introduced c from 0 g.parameters x) (part.all_introduced (moved k n ss c) by 0 g.parameters y)
     (parameters c (moved k n ss c) from by 0 g.parameters r.points r.variables x y (record { points = sym (add-zero r.points); variables = sym (add-zero r.variables) }))
 
-of_body : (V W : Type 0) (c : Context) (k n : ℕ) (ss : List (Option Size)) (g : FunctionTree) (b : Option BodyTree) → IsSome b → AtItems (AgreeAt c.sizes ss) (unwrap_or b part.no_body).items → (from by : Option Caller) (r : Region) (d : DraftOf V) (e : DraftOf W)
+of_body : (V W : Type 0) (c : Context) (k n : ℕ) (ss : List (Option Size)) (g : FunctionTree) (b : Option BodyTree) → IsSome b → AtItems (AgreeAt c.sizes ss) (unwrap_or b no_body).items → (from by : Option Caller) (r : Region) (d : DraftOf V) (e : DraftOf W)
     → InStep r.points r.variables (part.part_of c g b from r d) (part.part_of (moved k n ss c) g b by no_region e)
 of_body V W c k n ss g None h a from by r d e = absurd (false≢true h)
 of_body V W c k n ss g (Some b) h a from by r d e =

@@ -76,7 +76,8 @@ unfoldable mutual
   AtStatement P (tree.switch p t e zs has_default s) = AtValue P e × AtStatement P s
   AtStatement P (tree.while p e s) = AtValue P e × AtStatement P s
   AtStatement P (tree.do_while p s e) = AtStatement P s × AtValue P e
-  AtStatement P (tree.for_loop p start e third s) = AtStart P start × AtValueIf P e × AtEffectIf P third × AtStatement P s
+  AtStatement P (tree.for_loop p start e third s) =
+      AtStart P start × AtValueIf P e × AtEffectIf P third × AtStatement P s
   AtStatement P (tree.goto p l) = Unit {0}
   AtStatement P (tree.continue p) = Unit {0}
   AtStatement P (tree.break p) = Unit {0}

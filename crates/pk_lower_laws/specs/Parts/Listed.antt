@@ -21,19 +21,24 @@ IsListed (p ∷ ps) f = (f ≡ p.function) ⊎ IsListed ps f
 -- Each path is of a function with a body, and each call in the body's trees is of a function of a path behind it.
 abbrev pub CallsLeadBehind : UnitTree → List CallPath → Type 0
 CallsLeadBehind u [] = Unit {0}
-CallsLeadBehind u (p ∷ ps) = HasBody u p.function × AtItems (λ f n. IsListed ps f) (body_at u p.function).items × CallsLeadBehind u ps
+CallsLeadBehind u (p ∷ ps) =
+    HasBody u p.function × AtItems (λ f n. IsListed ps f) (body_at u p.function).items × CallsLeadBehind u ps
 
 -- The size that is known of a listed function is the one that is measured with all sizes.
 abbrev pub SizesAreMeasured : Type 0
 SizesAreMeasured =
-    (u : UnitTree) (paths : List CallPath) → CallsLeadBehind u paths → (f : ℕ) → IsListed paths f → slice_index_or (sizes_of u paths) f None ≡ Some (measured u (sizes_of u paths) f)
+    (u : UnitTree) (paths : List CallPath) → CallsLeadBehind u paths → (f : ℕ) → IsListed paths f →
+    slice_index_or (sizes_of u paths) f None ≡ Some (measured u (sizes_of u paths) f)
 
 -- Where all parts are made with these sizes, that of a listed function ends where a call has its caller go on: its size behind its region's beginning.
 pub record PartsFillRegions (V : Type 0) : Type 0 where
-  pub points : (u : UnitTree) (paths : List CallPath) (k n f : ℕ) (from : Option Caller) (r : Region) (d : DraftOf V) → CallsLeadBehind u paths → IsListed paths f
+  pub points : (u : UnitTree) (paths : List CallPath) (k n f : ℕ) (from : Option Caller) (r : Region)
+      (d : DraftOf V) → CallsLeadBehind u paths → IsListed paths f
       → (part (context u (sizes_of u paths) k n f) f from r d).points ≡ r.points + (size_in (sizes_of u paths) f).points
-  pub variables : (u : UnitTree) (paths : List CallPath) (k n f : ℕ) (from : Option Caller) (r : Region) (d : DraftOf V) → CallsLeadBehind u paths → IsListed paths f
-      → (part (context u (sizes_of u paths) k n f) f from r d).variables ≡ r.variables + (size_in (sizes_of u paths) f).variables
+  pub variables : (u : UnitTree) (paths : List CallPath) (k n f : ℕ) (from : Option Caller) (r : Region)
+      (d : DraftOf V) → CallsLeadBehind u paths → IsListed paths f
+      → (part (context u (sizes_of u paths) k n f) f from r d).variables
+      ≡ r.variables + (size_in (sizes_of u paths) f).variables
 
 -- The path of function f with some number behind i.
 abbrev pub IsBehind : List CallPath → (i f : ℕ) → Type 0
@@ -41,7 +46,9 @@ IsBehind paths i f = (j : ℕ) × (q : CallPath) × (i < j) × (slice_get paths 
 
 -- The same by paths' numbers.
 abbrev pub LeadBehindByNumber : UnitTree → List CallPath → Type 0
-LeadBehindByNumber u paths = (i : ℕ) (p : CallPath) → slice_get paths i ≡ Some p → HasBody u p.function × AtItems (λ f n. IsBehind paths i f) (body_at u p.function).items
+LeadBehindByNumber u paths =
+    (i : ℕ) (p : CallPath) → slice_get paths i ≡ Some p →
+    HasBody u p.function × AtItems (λ f n. IsBehind paths i f) (body_at u p.function).items
 
 abbrev pub NumbersTellBehind : Type 0
 NumbersTellBehind = (u : UnitTree) (paths : List CallPath) → LeadBehindByNumber u paths → CallsLeadBehind u paths
@@ -56,4 +63,6 @@ CallsAreNoted u = (f : ℕ) → HasBody u f → AtItems (IsCallOf u f) (body_at 
 
 -- The call paths of a unit in a listing.
 abbrev pub ListingsLeadBehind : Type 0
-ListingsLeadBehind = (u : UnitTree) (entry : ℕ) (paths : List CallPath) → HasBody u entry → IsListing u entry paths → AreCallPaths u entry paths → CallsAreNoted u → CallsLeadBehind u paths
+ListingsLeadBehind =
+    (u : UnitTree) (entry : ℕ) (paths : List CallPath) → HasBody u entry → IsListing u entry paths →
+    AreCallPaths u entry paths → CallsAreNoted u → CallsLeadBehind u paths

@@ -22,7 +22,8 @@ AsMuch {V = V} {W = W} f g = (p v : ℕ) (d : DraftOf V) (e : DraftOf W) → InS
 abbrev pub GiveAsMuch : {V W : Type 0} → (DraftOf V → Given V) → (DraftOf W → Given W) → Type 0
 GiveAsMuch f g = AsMuch (λ d. (f d).1) (λ e. (g e).1)
 
-abbrev pub ChooseAsMuch : {V W : Type 0} → ((p q : ℕ) → DraftOf V → DraftOf V) → ((p q : ℕ) → DraftOf W → DraftOf W) → Type 0
+abbrev pub ChooseAsMuch : {V W : Type 0} → ((p q : ℕ) → DraftOf V → DraftOf V) →
+    ((p q : ℕ) → DraftOf W → DraftOf W) → Type 0
 ChooseAsMuch f g = (i j k l : ℕ) → AsMuch (f i j) (g k l)
 
 abbrev pub AsMany : {A B : Type 0} → List A → List B → Type 0

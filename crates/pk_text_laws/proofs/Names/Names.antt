@@ -1,5 +1,5 @@
 -- Reading a text token by token, each name stands in it.
-use Rattle.std.proofs.Common.{◌≡◌, ℕ, ◌+◌, ◌-◌, ◌≤◌, List, [], ◌∷◌, ◌++◌, Some, length, refl, ap, sym, subst, ◌∙◌, arith, length-append, append_assoc}
+use Rattle.std.proofs.Common.{◌≡◌, ℕ, ◌+◌, ◌-◌, List, [], ◌∷◌, ◌++◌, Some, length, refl, ap, sym, subst, ◌∙◌, arith, length-append, append_assoc}
 use Rattle.std.proofs.Math.Seq.{drop-append_seam, take-append_seam}
 use Rattle.std.specs.Prelude.{take, drop, slice_range}
 use Rattle.pk_ctypes.specs.Places.{start_of_text, after_bytes}
@@ -7,13 +7,10 @@ use Rattle.pk_lex.specs.declared.token.Kind.{Kind}
 use Rattle.pk_lex.specs.declared.token.Kind.TheVariants as kind
 use Rattle.pk_lex.specs.declared.token.Token.{Token}
 use Rattle.pk_lex.specs.Kinds.{kind_of}
-use Rattle.pk_lex.specs.Tokens.{IsToken, longest, directive, Reads, nothing, past_white, past_token, token_of, IsLexed}
+use Rattle.pk_lex.specs.Tokens.{IsToken, longest, Reads, nothing, past_white, past_token, token_of}
 use Rattle.pk_ast.specs.declared.expressions.Identifier.{Identifier}
-use Rattle.pk_ast.specs.Names.{names_of}
-use Rattle.pk_ast.specs.Trees.{ExternalTree}
 use Rattle.pk_grammar.specs.Languages.{identifier_of}
 use Rattle.pk_grammar.specs.Names.{name_of, names_among, NamesAreTokens}
-use Rattle.pk_grammar.specs.Outcomes.{IsParsed}
 use Rattle.pk_text_laws.specs.Names.Laws.{StandsIn, AllStandIn, NamesStandInTexts}
 
 -- the bytes of a word between others

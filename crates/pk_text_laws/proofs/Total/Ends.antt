@@ -7,8 +7,8 @@ use Rattle.pk_grammar.specs.declared.failure.ParseError.{ParseError}
 use Rattle.pk_grammar.specs.declared.failure.ParseError.TheVariants as parse_error
 use Rattle.pk_parse.specs.Refusals.{IsRefused}
 use Rattle.pk_parse.proofs.LexedLemmas.{lexed_is_ended}
-use Rattle.pk_front.specs.declared.status.Status.TheVariants.{Refused, Limit}
-use Rattle.pk_front.specs.declared.status.Refusal.TheVariants.{Lexical, Unsupported, Syntax}
+use Rattle.pk_front.specs.declared.failures.TextError.TheVariants.{Refused, Limit}
+use Rattle.pk_front.specs.declared.failures.Refusal.TheVariants.{Lexical, Unsupported, Syntax}
 use Rattle.pk_front.specs.Laws.{HasEnd, is_left, TreesLeadOn}
 use Rattle.pk_text_laws.specs.Total.Lexing.{IsLexedOrFails, lexed, fails}
 use Rattle.pk_text_laws.specs.Total.Parsing.{IsAcceptedOrRefused, accepted, refused}

@@ -23,4 +23,6 @@ AllStandIn text (x ∷ xs) = StandsIn text x × AllStandIn text xs
 
 -- The names of trees stand in the text of which the trees' tokens were read.
 abbrev pub NamesStandInTexts : Type 0
-NamesStandInTexts = (text : List ℕ) (tokens : List Token) (trees : List ExternalTree) → IsLexed text tokens → IsParsed tokens trees → AllStandIn text (names_of trees)
+NamesStandInTexts =
+    (text : List ℕ) (tokens : List Token) (trees : List ExternalTree) → IsLexed text tokens → IsParsed tokens trees →
+    AllStandIn text (names_of trees)

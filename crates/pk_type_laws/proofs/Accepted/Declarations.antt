@@ -9,7 +9,6 @@ use Rattle.std.specs.Option.{option_map}
 use Rattle.std.specs.Str.{bytes_eq}
 use Rattle.pk_ctypes.specs.declared.places.Pos.{Pos}
 use Rattle.pk_ctypes.specs.declared.types.IntType.{IntType}
-use Rattle.pk_ctypes.specs.declared.words.Rule.{Rule}
 use Rattle.pk_ctypes.specs.declared.words.Rule.TheVariants as rule
 use Rattle.pk_ast.specs.declared.expressions.Identifier.{Identifier}
 use Rattle.pk_ast.specs.Places.{first_place_of}
@@ -32,7 +31,7 @@ use Rattle.pk_type_expression.specs.Laws.{IsTreeOf}
 use Rattle.pk_type_expression.specs.Rules.{void, failures, used_failures, count}
 use Rattle.pk_type_expression.specs.Typed.{EvaluatedTree, value, effect, value_of, of_both, typed, calls}
 use Rattle.pk_type_expression.specs.Types.{type_of}
-use Rattle.pk_type_expression.proofs.TreeLemmas.{accepted_expressions_have_trees, none_before, none_after}
+use Rattle.pk_type_expression.proofs.TreeLemmas.{accepted_expressions_have_trees, none_before, none_after, holds_not}
 use Rattle.pk_type_constant.specs.declared.constants.Constant.{Constant}
 use Rattle.pk_type_constant.specs.declared.constants.Constant.TheVariants.{Number, Faulty, NotConstant}
 use Rattle.pk_type_constant.specs.Forms.{is_constant_form}
@@ -42,15 +41,12 @@ use Rattle.pk_type_declaration.specs.Declarations.{integer_in, type_or_int, obje
 use Rattle.pk_type_declaration.specs.Walks.{here, failing, after_value, after_values, value_at, values_at}
 use Rattle.pk_welltyped.specs.Listed.{numbered, calls_in, calls_in_values, calls_in_declared, calls_in_all_declared}
 use Rattle.pk_welltyped.specs.WellTyped as good
-use Rattle.pk_welltyped.specs.WellTyped.{Around, Kind, IsObject, AreValues, kind_among, IsDeclared, AreDeclared, IsValueIf, AreValuesIf}
+use Rattle.pk_welltyped.specs.WellTyped.{Around, IsObject, AreValues, kind_among, IsDeclared, AreDeclared, IsValueIf, AreValuesIf}
 use Rattle.pk_type_laws.specs.Accepted.Constants.{HasConstantsIf, InitializerHas, DeclaratorsHave, DeclarationHas}
 use Rattle.pk_type_laws.specs.Accepted.Names.{ObjectIs, CalleeIs, DeclarationIs, NamesAre}
 use Rattle.pk_type_laws.proofs.Accepted.Forms.{no_calls, Gives, Numeric, numeric}
 use Rattle.pk_type_laws.proofs.Accepted.Walks.{W, around, none_found, Later, later_same, later, later_failing, later_value, later_values, Steps, steps_none, steps, steps_as, ValuePart, ValuesPart, value_part, values_part}
-
-pub holds_not : (b : Bool) (r : Rule) (at : Pos) → fails_if b r at ≡ [] → b ≡ false
-holds_not true r at h = absurd (cc)
-holds_not false r at h = refl
+use Rattle.pk_graph.specs.Kinds.{Kind, scalar_kind, array_kind}
 
 -- ---- names
 
@@ -79,8 +75,8 @@ object_later u ls m n k (Local i) l h = (omega (l, h.0, arith), h.1)
 
 objects_later : (u : UnitTree) (ls : List LocalTree) (m n : ℕ) (b : Bool) (t : Option IntType) (x : Variable) → m ≤ n → ObjectIs (record { unit = u; locals = ls; objects = m }) b t x → ObjectIs (record { unit = u; locals = ls; objects = n }) b t x
 objects_later u ls m n b None x l h = absurd h
-objects_later u ls m n false (Some t) x l h = object_later u ls m n (good.scalar t) x l h
-objects_later u ls m n true (Some t) x l h = (h.0, object_later u ls m n (good.array t h.0) x l h.1)
+objects_later u ls m n false (Some t) x l h = object_later u ls m n (scalar_kind t) x l h
+objects_later u ls m n true (Some t) x l h = (h.0, object_later u ls m n (array_kind t h.0) x l h.1)
 
 callees_later : (u : UnitTree) (ls : List LocalTree) (m n f : ℕ) (c : Callee) → CalleeIs (record { unit = u; locals = ls; objects = m }) f c → CalleeIs (record { unit = u; locals = ls; objects = n }) f c
 callees_later u ls m n f (Ordinary Void k) h = h
@@ -346,14 +342,14 @@ abbrev DeclaredPart : UnitTree → List LocalTree → W → W → Option Declare
 DeclaredPart u ls w v None = Unit {0}
 DeclaredPart u ls w v (Some t) = IsDeclared (around u ls w) t × Steps w v (calls_in_declared t) 1
 
-scalar_declared : (u : UnitTree) (ls : List LocalTree) (w v x : W) (t : IntType) (o : Option DeclaredTree) → kind_among ls (length w.locals) ≡ Some (good.scalar t) → Steps w v [] 1
+scalar_declared : (u : UnitTree) (ls : List LocalTree) (w v x : W) (t : IntType) (o : Option DeclaredTree) → kind_among ls (length w.locals) ≡ Some (scalar_kind t) → Steps w v [] 1
     → InitialPart u ls v x (length w.locals) o → DeclaredPart u ls w x o
 scalar_declared u ls w v x t None k s p = tt
 scalar_declared u ls w v x t (Some (tree.array_object i at es)) k s p = absurd p
 scalar_declared u ls w v x t (Some (tree.scalar_object i at e)) k s p =
     ((p.0, (t, ap (kind_among ls) p.0 ∙ k), subst (λ (n : ℕ). IsValueIf (record { unit = u; locals = ls; objects = n }) e) s.objects p.1), steps w v x [] (calls_in_declared (tree.scalar_object i at e)) 1 0 s p.2)
 
-array_declared : (u : UnitTree) (ls : List LocalTree) (w v x : W) (t : IntType) (n : ℕ) (o : Option DeclaredTree) → kind_among ls (length w.locals) ≡ Some (good.array t n) → n ≤ 1048576 → 1 ≤ n → Steps w v [] 1
+array_declared : (u : UnitTree) (ls : List LocalTree) (w v x : W) (t : IntType) (n : ℕ) (o : Option DeclaredTree) → kind_among ls (length w.locals) ≡ Some (array_kind t n) → n ≤ 1048576 → 1 ≤ n → Steps w v [] 1
     → ArrayPart u ls v x (length w.locals) n o → DeclaredPart u ls w x o
 array_declared u ls w v x t n None k few some s p = tt
 array_declared u ls w v x t n (Some (tree.scalar_object i at e)) k few some s p = absurd p
@@ -403,7 +399,7 @@ declarator_of u ls words x (Some e) i w n unknown ke ki begins h =
     let s1 : Steps w w1 [] 0 = record { sites = l.sites; calls = l.calls; listed = l.listed; objects = l.objects } in
     let s : Steps w1 v1 [] 1 = record { sites = o.calls.sites; calls = o.calls.calls; listed = o.calls.listed; objects = o.calls.objects } in
     let fits : surplus (Some k.0) i ≡ [] = rw k.1 at (none_after (braces true i x.at) (surplus m i) f0.1) in
-    let kind : kind_among ls (length w.locals) ≡ Some (good.array (type_or_int words.typing) k.0) = o.kind ∙ ap (λ (q : Option ℕ). Some (record { int_type = type_or_int words.typing; length = length_or_1 true q })) k.1 in
+    let kind : kind_among ls (length w.locals) ≡ Some (array_kind (type_or_int words.typing) k.0) = o.kind ∙ ap (λ (q : Option ℕ). Some (record { int_type = type_or_int words.typing; length = length_or_1 true q })) k.1 in
     record {
       names = initial_names u ls i v1 o.names;
       part = array_declared u ls w v1 (after_initializer noted i v1) (type_or_int words.typing) k.0 (array_tree noted (length w.locals) x.at i v1) kind k.2 k.3 (steps w w1 v1 [] [] 0 1 s1 s)

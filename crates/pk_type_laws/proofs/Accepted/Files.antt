@@ -24,7 +24,7 @@ use Rattle.pk_type_scope.specs.Failures.{noted}
 use Rattle.pk_type_scope.specs.Scopes.{Scoping, names_in, declaring, first_of, found_up, spelled}
 use Rattle.pk_type_scope.specs.Specifiers.{specifiers, type_named}
 use Rattle.pk_type_expression.specs.Rules.{count}
-use Rattle.pk_type_expression.proofs.TreeLemmas.{none_before, none_after}
+use Rattle.pk_type_expression.proofs.TreeLemmas.{none_before, none_after, holds_not}
 use Rattle.pk_type_declaration.specs.declared.words.Words.{Words}
 use Rattle.pk_type_declaration.specs.Constants.{evaluated, number_in, after_constant, length_in}
 use Rattle.pk_type_declaration.specs.Declarations.{words_of, integer_in, type_or_int, text_of, redeclared, void_object, special_object, braces, surplus, length_at, after_optional_length, length_or_1}
@@ -32,12 +32,13 @@ use Rattle.pk_type_declaration.specs.Walks.{here, failing, after_name}
 use Rattle.pk_type.specs.Files.{EntryTree, Filed, number_or_0, number_at, after_numbers, numbers_at, given, first_or_0, start_of, extern_object, file_object, after_object, after_objects, on, after_declaration}
 use Rattle.pk_type.specs.Files as files
 use Rattle.pk_type.specs.Units.{function_of}
-use Rattle.pk_welltyped.specs.WellTyped as good
-use Rattle.pk_welltyped.specs.WellTyped.{Around, IsObject, Kind, kind_in_file, length_at_start, IsStart, IsBodyIf}
+use Rattle.pk_welltyped.specs.WellTyped.{Around, IsObject, kind_in_file, IsStart, IsBodyIf}
 use Rattle.pk_type_laws.specs.Accepted.Names.{ObjectIs, CalleeIs, DeclarationIs, NamesAre}
 use Rattle.pk_type_laws.proofs.Accepted.Walks.{W, none_found, Later, later_same, later, later_failing}
-use Rattle.pk_type_laws.proofs.Accepted.Declarations.{holds_not, names_declaring, nth, later_constant, later_optional_length, length_known, room}
+use Rattle.pk_type_laws.proofs.Accepted.Declarations.{names_declaring, nth, later_constant, later_optional_length, length_known, room}
 use Rattle.pk_type_laws.proofs.Accepted.Functions.{Integers}
+use Rattle.pk_typed.specs.Defaults.{length_of_start}
+use Rattle.pk_graph.specs.Kinds.{Kind, scalar_kind, array_kind}
 
 abbrev pub F : Type 0
 F = Filed (Option Failure)
@@ -130,8 +131,8 @@ object_from_file u ls n k (Local i) h = absurd (omega (h.0, arith))
 
 objects_from_file : (u : UnitTree) (ls : List LocalTree) (n : ℕ) (b : Bool) (t : Option IntType) (x : Rattle.pk_typed.specs.declared.values.Variable.Variable) → ObjectIs (in_file u) b t x → ObjectIs (record { unit = u; locals = ls; objects = n }) b t x
 objects_from_file u ls n b None x h = absurd h
-objects_from_file u ls n false (Some t) x h = object_from_file u ls n (good.scalar t) x h
-objects_from_file u ls n true (Some t) x h = (h.0, object_from_file u ls n (good.array t h.0) x h.1)
+objects_from_file u ls n false (Some t) x h = object_from_file u ls n (scalar_kind t) x h
+objects_from_file u ls n true (Some t) x h = (h.0, object_from_file u ls n (array_kind t h.0) x h.1)
 
 callee_from_file : (u : UnitTree) (ls : List LocalTree) (n f : ℕ) (c : Callee) → CalleeIs (in_file u) f c → CalleeIs (record { unit = u; locals = ls; objects = n }) f c
 callee_from_file u ls n f (Ordinary Void k) h = h
@@ -207,7 +208,7 @@ start_is t false n zs h k = first_in t zs h
 start_is t true None zs h k = (k, h, omega arith)
 start_is t true (Some m) zs h k = (k.0, h, k.1)
 
-start_length : (b : Bool) (n : Option ℕ) (zs : List ℤ) → length_at_start (start_of (length_or_1 b n) zs) ≡ length_or_1 b n
+start_length : (b : Bool) (n : Option ℕ) (zs : List ℤ) → length_of_start (start_of (length_or_1 b n) zs) ≡ length_or_1 b n
 start_length false n zs = refl
 start_length true None zs = refl
 start_length true (Some m) zs = refl
@@ -249,7 +250,7 @@ object_made u words b n x i f w rows fs name sc lc void unknown h r s =
     let is : u.objects ≡ f.objects ++ o ∷ s.rest = s.objects ∙ append_assoc f.objects (o ∷ []) s.rest in
     let there : slice_get u.objects (length f.objects) ≡ Some o = ap (λ (l : List FileObjectTree). slice_get l (length f.objects)) is ∙ nth f.objects o s.rest in
     let kind : kind_in_file u (length f.objects) ≡ Some (record { int_type = t; length = length_or_1 b n }) =
-    ap (option_map (λ (y : FileObjectTree). record { int_type = y.int_type; length = length_at_start y.start })) there ∙ ap (λ (l : Option ℕ). Some (record { int_type = t; length = l })) (start_length b n zs) in
+    ap (option_map (λ (y : FileObjectTree). record { int_type = y.int_type; length = length_of_start y.start })) there ∙ ap (λ (l : Option ℕ). Some (record { int_type = t; length = l })) (start_length b n zs) in
     record {
       names = subst (λ (c : Scoping). NamesAre (in_file u) (names_in c)) (sym sq) (names_declaring (in_file u) w.scoping x (file_object words b f) (subst (λ (c : Scoping). NamesAre (in_file u) (names_in c)) (sym sc) h.names)
           (object_is u (length f.objects) words.typing b n void unknown kind));

@@ -15,7 +15,7 @@ use Rattle.pk_ast.specs.Operators.{binary_number_operator, unary_number_operator
 use Rattle.pk_ast.specs.Trees as ast
 use Rattle.pk_ast.specs.Trees.{ExpressionTree}
 use Rattle.pk_typed.specs.Trees as tree
-use Rattle.pk_typed.specs.Trees.{ValueTree, EffectTree}
+use Rattle.pk_typed.specs.Trees.{ValueTree}
 use Rattle.pk_type_scope.specs.declared.declarations.Typing.{Typing}
 use Rattle.pk_type_scope.specs.declared.declarations.Typing.TheVariants.{Void, Integer, Unknown}
 use Rattle.pk_type_scope.specs.Declarations.{Names}

@@ -28,8 +28,8 @@ use Rattle.pk_welltyped.specs.WellTyped.{AreParameters, AreItems, IsBodyIf, Mark
 use Rattle.pk_type_laws.specs.Accepted.Constants.{ItemsHave}
 use Rattle.pk_type_laws.specs.Accepted.Names.{NamesAre}
 use Rattle.pk_type_laws.proofs.Accepted.Walks.{W, around, none_found, Later, later_same, later, later_failing}
-use Rattle.pk_type_expression.proofs.TreeLemmas.{none_after}
-use Rattle.pk_type_laws.proofs.Accepted.Declarations.{holds_not, names_later, Begins, begins_before, later_object, not_void, object_declared}
+use Rattle.pk_type_expression.proofs.TreeLemmas.{none_after, holds_not}
+use Rattle.pk_type_laws.proofs.Accepted.Declarations.{names_later, Begins, begins_before, later_object, not_void, object_declared}
 use Rattle.pk_type_laws.proofs.Accepted.Statements.{Ends, items_part, later_items, ItemsPart}
 use Rattle.pk_type_laws.proofs.Accepted.Jumps.{labels_below, no_case, no_default}
 

@@ -40,6 +40,7 @@ use Rattle.pk_type_laws.specs.Accepted.Names.{NamesAre}
 use Rattle.pk_type_laws.proofs.Accepted.Walks.{none_found, W, around, Later, later_same, later, later_failing, later_value, later_effect, Steps, steps_none, steps, steps_as, ValuePart, EffectPart, value_part, effect_part}
 use Rattle.pk_type_laws.proofs.Accepted.Declarations.{names_later, names_opened, Begins, begins_before, constant_steps, later_constant, later_declaration, AllDeclaredPart}
 use Rattle.pk_type_laws.proofs.Accepted.Declarations as declarations
+use Rattle.pk_type_expression.proofs.TreeLemmas.{holds_not}
 
 abbrev pub P : Type 0
 P = Passed (Option Failure)
@@ -554,12 +555,12 @@ mutual
   statements u ls r labels m b p (ast.continue at) n k e = nothing u ls m p.walked p.walked (tree.continue at) refl refl tt refl refl
   statements u ls r labels m b p (ast.break at) n k e = nothing u ls m p.walked p.walked (tree.break at) refl refl tt refl refl
   statements u ls r labels m b p (ast.return at None) n k e = nothing u ls m p.walked (after noted r p (ast.return at None)).walked (tree.return at None) refl refl
-      (let none = returns_nothing r (declarations.holds_not _ _ _ (none_found p.walked.found (fails_if (returns_otherwise r false) rule.Return at) e.found).1) b.2 in subst (λ (q : Option IntType). IsReturned (around u ls p.walked) q None) (sym (b.1 ∙ none)) tt) refl refl
+      (let none = returns_nothing r (holds_not _ _ _ (none_found p.walked.found (fails_if (returns_otherwise r false) rule.Return at) e.found).1) b.2 in subst (λ (q : Option IntType). IsReturned (around u ls p.walked) q None) (sym (b.1 ∙ none)) tt) refl refl
   statements u ls r labels m b p (ast.return at (Some x)) n k e =
       let fs = fails_if (returns_otherwise r true) rule.Return at in
       let w = failing noted fs p.walked in
       let s = value_part (around u ls p.walked) w x n k e.found in
-      let some = returns_value r (declarations.holds_not _ _ _ (none_found p.walked.found fs ((later_value x w).found e.found)).1) b.2 in
+      let some = returns_value r (holds_not _ _ _ (none_found p.walked.found fs ((later_value x w).found e.found)).1) b.2 in
       return_statement u ls m p.walked (after_value noted x w) at some.0 (value_at w x) (b.1 ∙ some.1) (from_there (around u ls p.walked) p.walked w (after_value noted x w) (value_at w x) refl refl s)
 
   pub items_part : (u : UnitTree) (ls : List LocalTree) (r : Typing) (labels : Labels) (m : Marks) → Fitting m r labels → (p : P) (is : ItemTrees) → NamesAre (around u ls p.walked) (here p.walked) → ItemsHave is

@@ -38,11 +38,11 @@ use Rattle.pk_welltyped.specs.WellTyped.{Takes, AreParameters, IsBodyIf, IsStart
 use Rattle.pk_type_laws.specs.Accepted.Constants.{BlockHas, ExternalHas, ExternalsHave}
 use Rattle.pk_type_laws.specs.Accepted.Names.{CalleeIs, DeclarationIs}
 use Rattle.pk_type_laws.proofs.Accepted.Walks.{around, none_found}
-use Rattle.pk_type_laws.proofs.Accepted.Declarations.{holds_not, names_declaring, names_opened, Begins, nth}
+use Rattle.pk_type_laws.proofs.Accepted.Declarations.{names_declaring, names_opened, Begins, nth}
 use Rattle.pk_type_laws.proofs.Accepted.Functions.{Integers, later_parameters, parameters, with_others, integers_of, later_body, body}
 use Rattle.pk_type_laws.proofs.Accepted.Files as files
 use Rattle.pk_type_laws.proofs.Accepted.Files.{F, in_file, SameEntry, Entries, Kept, LaterFile, kept_same, file_same, file_later, Stands, stands_before, KnownIn, EntryIs, FileIs, names_from_file, known_declaring}
-use Rattle.pk_type_expression.proofs.TreeLemmas.{none_before, none_after}
+use Rattle.pk_type_expression.proofs.TreeLemmas.{none_before, none_after, holds_not}
 
 -- ---- types of functions that don't differ
 

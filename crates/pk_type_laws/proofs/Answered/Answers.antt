@@ -1,20 +1,18 @@
 -- A text has one answer.
-use Rattle.std.proofs.Common.{◌≡◌, ℕ, ◌<◌, ◌≤◌, List, [], ◌∷◌, Option, Some, None, refl, ap, sym, subst, ◌∙◌, arith, inl, inr}
-use Rattle.std.proofs.lemmas.Option.{none-some}
+use Rattle.std.proofs.Common.{◌≡◌, ℕ, ◌<◌, ◌≤◌, List, [], Option, Some, None, refl, ap, sym, subst, ◌∙◌, arith, inl, inr}
 use Rattle.std.specs.Prelude.{MatchOption, nat_eq, if◌then◌else◌}
 use Rattle.pk_ctypes.specs.declared.places.Pos.{Pos}
 use Rattle.pk_ctypes.specs.declared.words.Rule.{Rule}
 use Rattle.pk_ctypes.specs.declared.words.Rule.TheVariants.{Specifiers, Redeclared, Extern, Undeclared, Void, Array, Constant, Initialiser, Place, Const, Arguments, Special, Return, Label, Jump, Unsequenced}
 use Rattle.pk_ctypes.specs.Places.{Before}
 use Rattle.pk_ast.specs.Trees.{ExternalTree}
-use Rattle.pk_typed.specs.Trees.{UnitTree}
 use Rattle.pk_type_scope.specs.declared.failures.Failure.{Failure}
-use Rattle.pk_type_scope.specs.Failures.{row_of, noted, first_of, Among, here, later, IsFirst}
+use Rattle.pk_type_scope.specs.Failures.{row_of, noted, first_of, Among, here, IsFirst}
 use Rattle.pk_type_scope.proofs.FirstLemmas.{first_is_answered}
 use Rattle.pk_type.specs.Units.{checked, unit_of}
 use Rattle.pk_type_laws.specs.Answered.Answers.{Answer, accepted, refused, IsAnswer, TextsHaveOneAnswer, CheckGivesTheAnswer}
 use Rattle.pk_type_laws.specs.Answered.Failures.{listing, failures_of}
-use Rattle.pk_type_laws.proofs.Answered.Files.{G, filed_first, checked_first}
+use Rattle.pk_type_laws.proofs.Answered.Files.{G, checked_first}
 
 -- ---- one first failure
 

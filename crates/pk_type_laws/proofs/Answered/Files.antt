@@ -1,14 +1,13 @@
 -- The first failure so far is that of the list so far: after functions and objects of the file.
-use Rattle.std.proofs.Common.{◌≡◌, ℕ, ℤ, Bool, false, List, [], ◌∷◌, ◌++◌, Option, Some, None, refl, ap, sym, ◌∙◌, length}
+use Rattle.std.proofs.Common.{◌≡◌, ℕ, ℤ, Bool, false, List, [], ◌∷◌, ◌++◌, Option, Some, None, refl, ap, ◌∙◌, length}
 use Rattle.std.specs.Prelude.{is_some}
 use Rattle.std.specs.Option.{option_map}
 use Rattle.pk_ctypes.specs.declared.types.IntType.{IntType}
 use Rattle.pk_ctypes.specs.declared.words.Rule.TheVariants as rule
 use Rattle.pk_ast.specs.declared.expressions.Identifier.{Identifier}
 use Rattle.pk_ast.specs.declared.units.Storage.{Storage}
-use Rattle.pk_ast.specs.Trees.{ExpressionTree, ExpressionTrees, no_expressions, expression_then, InitializerTree, DeclaratorTree, DeclarationTree, ParameterTree, BlockTree, FunctionTree, ExternalTree, function, objects}
+use Rattle.pk_ast.specs.Trees.{ExpressionTree, ExpressionTrees, no_expressions, expression_then, DeclaratorTree, DeclarationTree, ParameterTree, BlockTree, FunctionTree, ExternalTree, function, objects}
 use Rattle.pk_typed.specs.Trees.{BodyTree, FileObjectTree}
-use Rattle.pk_typed.specs.Trees as tree
 use Rattle.pk_type_scope.specs.declared.declarations.Declaration.{Declaration}
 use Rattle.pk_type_scope.specs.declared.declarations.Declaration.TheVariants as declared
 use Rattle.pk_type_scope.specs.declared.declarations.Typing.{Typing}
@@ -21,12 +20,12 @@ use Rattle.pk_type_declaration.specs.declared.words.Words.{Words}
 use Rattle.pk_type_declaration.specs.Constants.{after_constant}
 use Rattle.pk_type_declaration.specs.Declarations.{words_of, type_or_int, text_of, redeclared, void_object, special_object, braces, surplus, length_at, after_optional_length, length_or_1}
 use Rattle.pk_type_declaration.specs.Specials.{special}
-use Rattle.pk_type_declaration.specs.Walks.{Walked, failing, after_name, with_local, entering}
+use Rattle.pk_type_declaration.specs.Walks.{failing, after_name, with_local, entering}
 use Rattle.pk_type_jump.specs.Jumps.{jumps_of}
 use Rattle.pk_type_jump.specs.Labels.{labels_of}
 use Rattle.pk_type_statement.specs.Statements.{Passed, after_items}
 use Rattle.pk_type_statement.specs.Trees.{typed_items}
-use Rattle.pk_type.specs.Files.{EntryTree, Filed, number_at, after_numbers, numbers_at, given, start_of, extern_object, file_object, after_head, after_object, after_objects, without_calls, on, after_declaration}
+use Rattle.pk_type.specs.Files.{Filed, number_at, after_numbers, numbers_at, given, start_of, extern_object, file_object, after_head, after_object, after_objects, without_calls, on, after_declaration}
 use Rattle.pk_type.specs.Functions as functions
 use Rattle.pk_type.specs.Functions.{unnamed, after_parameter_name, after_parameter, after_parameters, is_redeclared, is_misused, number_of, callee_of, with_new, about_jumps, before_body, after_body, emptied, body_of, body_at, defining, leaving_function, after_optional_body, after_function}
 use Rattle.pk_type.specs.Signatures.{signature_of}

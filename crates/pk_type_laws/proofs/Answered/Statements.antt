@@ -1,5 +1,5 @@
 -- The first failure so far is that of the list so far: after statements, whose typed trees are the same.
-use Rattle.std.proofs.Common.{◌≡◌, ℕ, Bool, List, [], ◌∷◌, ◌++◌, Option, Some, None, refl, ap, sym, ◌∙◌, length}
+use Rattle.std.proofs.Common.{◌≡◌, List, Option, Some, None, refl, ap, ◌∙◌, length}
 use Rattle.std.specs.Prelude.{is_some}
 use Rattle.std.specs.Option.{option_map}
 use Rattle.pk_ctypes.specs.declared.places.Pos.{Pos}
@@ -7,7 +7,6 @@ use Rattle.pk_ctypes.specs.declared.words.Rule.TheVariants as rule
 use Rattle.pk_ast.specs.Trees as ast
 use Rattle.pk_ast.specs.Trees.{ExpressionTree, ForStartTree, declaration, expression, no_items, declaration_then, statement_then}
 use Rattle.pk_typed.specs.Trees as tree
-use Rattle.pk_typed.specs.Trees.{DeclaredTree, ValueTree, EffectTree}
 use Rattle.pk_type_scope.specs.declared.declarations.Typing.{Typing}
 use Rattle.pk_type_scope.specs.declared.declarations.Typing.TheVariants.{Void, Integer, Unknown}
 use Rattle.pk_type_scope.specs.declared.failures.Failure.{Failure}
@@ -15,9 +14,9 @@ use Rattle.pk_type_scope.specs.Failures.{noted, fails_if}
 use Rattle.pk_type_expression.specs.Typed.{of_both}
 use Rattle.pk_type_expression.specs.Types.{type_of}
 use Rattle.pk_type_declaration.specs.Declarations.{after_declaration, declaration_trees_at}
-use Rattle.pk_type_declaration.specs.Walks.{Walked, here, failing, after_value, after_effect, value_at, effect_at}
+use Rattle.pk_type_declaration.specs.Walks.{here, failing, after_value, value_at, effect_at}
 use Rattle.pk_type_statement.specs.Statements.{Passed, on, inside, outside, after, after_items, with_case, with_default, in_switch, after_switch, after_start, after_optional_value, after_optional_effect, after_head, after_return, returns_otherwise, repeated_cases}
-use Rattle.pk_type_statement.specs.Trees.{Labels, label_at, of_three, ended, switch_of, optional_value_at, optional_effect_at, start_at, head_at, HeadTree, a_head, for_tree, declared_all, typed, typed_items}
+use Rattle.pk_type_statement.specs.Trees.{Labels, label_at, of_three, ended, switch_of, optional_value_at, optional_effect_at, start_at, head_at, a_head, for_tree, declared_all, typed, typed_items}
 use Rattle.pk_type_laws.specs.Answered.Failures.{appended}
 use Rattle.pk_type_laws.proofs.Answered.Walks.{L, W, first, failing_first, value_first, effect_first, constant_first, declaration_first, declaration_same}
 

@@ -1,14 +1,12 @@
 -- The first failure so far is that of the list so far: after expressions and declarations.
 use Rattle.std.proofs.Common.{◌≡◌, ℕ, Bool, true, false, List, [], ◌∷◌, ◌++◌, Option, Some, None, refl, ap, sym, ◌∙◌, length}
 use Rattle.std.specs.Prelude.{is_some}
-use Rattle.std.specs.Option.{option_map}
 use Rattle.pk_ctypes.specs.declared.places.Pos.{Pos}
 use Rattle.pk_ctypes.specs.declared.words.Rule.TheVariants as rule
 use Rattle.pk_ast.specs.declared.expressions.Identifier.{Identifier}
 use Rattle.pk_ast.specs.Places.{first_place_of}
 use Rattle.pk_ast.specs.Trees.{ExpressionTree, ExpressionTrees, InitializerTree, single, braced, DeclaratorTree, DeclarationTree}
-use Rattle.pk_typed.specs.Trees as tree
-use Rattle.pk_typed.specs.Trees.{DeclaredTree, value_before}
+use Rattle.pk_typed.specs.Trees.{DeclaredTree}
 use Rattle.pk_type_scope.specs.declared.failures.Failure.{Failure}
 use Rattle.pk_type_scope.specs.Failures.{noted, fails_if}
 use Rattle.pk_type_scope.specs.Specifiers.{specifiers}
@@ -18,7 +16,7 @@ use Rattle.pk_type_expression.specs.Typed.{of_both}
 use Rattle.pk_type_declaration.specs.declared.words.Words.{Words}
 use Rattle.pk_type_declaration.specs.Constants.{evaluated, is_refused, is_refused_length, after_constant, after_length}
 use Rattle.pk_type_declaration.specs.Declarations.{words_of, object_at, local_of, at_name, braces, surplus, after_initializer, length_at, after_optional_length, after_object, after_head, after_declarator, after_declarators, after_declaration, scalar_tree, array_tree, object_tree, declarator_tree_at, declarator_trees_at, declaration_trees_at}
-use Rattle.pk_type_declaration.specs.Walks.{Walked, here, failing, after_value, after_effect, after_values, after_name, with_local, value_at, values_at}
+use Rattle.pk_type_declaration.specs.Walks.{Walked, here, failing, after_value, after_effect, after_values, after_name, with_local}
 use Rattle.pk_type_laws.specs.Answered.Failures.{appended}
 
 abbrev pub L : Type 0

@@ -21,11 +21,11 @@ use Rattle.pk_type_expression.specs.Laws.{IsTreeOf}
 use Rattle.pk_type_expression.specs.Rules.{void, failures, used_failures, failures_used}
 use Rattle.pk_type_expression.specs.Typed.{EvaluatedTree, value, effect, value_of, effect_of, of_both, typed, typed_all, calls_after}
 use Rattle.pk_type_expression.specs.Types.{type_of}
-use Rattle.pk_type_expression.proofs.TreeLemmas.{accepted_expressions_have_trees, none_before, none_after}
+use Rattle.pk_type_expression.proofs.TreeLemmas.{accepted_expressions_have_trees, none_before, none_after, holds_not}
 use Rattle.pk_type_declaration.specs.declared.words.Words.{Words}
 use Rattle.pk_type_declaration.specs.Declarations.{integer_in, object_at, braces, surplus, after_initializer, length_at, after_optional_length, after_object, after_head, after_declarator, after_declarators, after_declaration, words_of, object_tree, declarator_tree_at, declarator_trees_at, declaration_trees_at}
 use Rattle.pk_type_declaration.specs.Walks.{here, failing, after_value, after_effect, value_at, effect_at, values_at}
-use Rattle.pk_type_laws.proofs.Accepted.Declarations.{holds_not, not_void, later_declarators, found_last, is_used}
+use Rattle.pk_type_laws.proofs.Accepted.Declarations.{not_void, later_declarators, found_last, is_used}
 use Rattle.pk_type_laws.proofs.Accepted.Walks.{W, none_found}
 
 -- ---- options that have something

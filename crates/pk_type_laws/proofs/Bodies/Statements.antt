@@ -38,12 +38,13 @@ use Rattle.pk_type_statement.specs.declared.statements.Case.{Case}
 use Rattle.pk_type_statement.specs.Statements.{Passed, on, inside, after, after_items, with_case, with_default, in_switch, after_start, after_optional_value, after_optional_effect, after_head, after_return, returns_otherwise, repeated_cases}
 use Rattle.pk_type_statement.specs.Trees.{Labels, numbered, label_at, of_three, case_numbers, ended_as, ended, switch_of, optional_value_at, optional_effect_at, start_at, head_at, a_head, for_tree, declared_all, typed, typed_items}
 use Rattle.pk_type_statement.proofs.KeepLemmas.{kept_declaration, kept_head}
-use Rattle.pk_type_laws.proofs.Accepted.Declarations.{holds_not, or_left}
+use Rattle.pk_type_laws.proofs.Accepted.Declarations.{or_left}
 use Rattle.pk_type_laws.proofs.Accepted.Forms.{Gives, Numeric, numeric}
 use Rattle.pk_type_laws.proofs.Accepted.Statements.{later_statement, later_items, same_scope}
 use Rattle.pk_type_laws.proofs.Accepted.Walks.{W, none_found}
 use Rattle.pk_type_laws.proofs.Bodies.Labels.{Covers, labels_stay, items_stay, its_label, gone_there, unknown_before, items_unknown_before}
 use Rattle.pk_type_laws.proofs.Bodies.Parts.{mapped_there, both_there, Known, known_opened, used_integer, value_is, effect_is, declaration_there}
+use Rattle.pk_type_expression.proofs.TreeLemmas.{holds_not}
 
 abbrev pub P : Type 0
 P = Passed (Option Failure)

@@ -20,7 +20,7 @@ use Rattle.pk_type_scope.specs.Declarations.{is_void, is_unknown, returned_by}
 use Rattle.pk_type_scope.specs.Failures.{fails_if, noted}
 use Rattle.pk_type_scope.specs.Scopes.{names_in, spelled}
 use Rattle.pk_type_scope.specs.Specifiers.{type_named, specifiers}
-use Rattle.pk_type_expression.proofs.TreeLemmas.{none_before, none_after}
+use Rattle.pk_type_expression.proofs.TreeLemmas.{none_before, none_after, holds_not}
 use Rattle.pk_type_declaration.specs.declared.words.Words.{Words}
 use Rattle.pk_type_declaration.specs.Constants.{after_constant}
 use Rattle.pk_type_declaration.specs.Declarations.{at_name, words_of, text_of, integer_in, redeclared, void_object, special_object, braces, surplus, length_at, after_optional_length}
@@ -35,7 +35,7 @@ use Rattle.pk_type.specs.Files as files
 use Rattle.pk_type.specs.Functions.{after_parameter_name, after_parameter, after_parameters, is_redeclared, is_misused, number_of, callee_of, after_head, each_at, about_jumps, before_body, after_body, body_of, body_at, with_body, after_optional_body, after_function}
 use Rattle.pk_type.specs.Signatures.{SignatureTree, signature_of}
 use Rattle.pk_type.specs.Units.{no_name, defined_in, after_external, after_externals, nothing_filed}
-use Rattle.pk_type_laws.proofs.Accepted.Declarations.{holds_not, later_constant, later_optional_length}
+use Rattle.pk_type_laws.proofs.Accepted.Declarations.{later_constant, later_optional_length}
 use Rattle.pk_type_laws.proofs.Accepted.Files.{F}
 use Rattle.pk_type_laws.proofs.Accepted.Functions.{later_parameters, later_body}
 use Rattle.pk_type_laws.proofs.Accepted.Units.{new_entries, updated, externals_later}

@@ -61,7 +61,8 @@ unfoldable mutual
   StatementHas (switch at e s) = HasConstants e × StatementHas s
   StatementHas (while at e s) = HasConstants e × StatementHas s
   StatementHas (do_while at s e) = StatementHas s × HasConstants e
-  StatementHas (for_loop at start test step s) = StartHas start × HasConstantsIf test × HasConstantsIf step × StatementHas s
+  StatementHas (for_loop at start test step s) =
+      StartHas start × HasConstantsIf test × HasConstantsIf step × StatementHas s
   StatementHas (goto at x) = Unit {0}
   StatementHas (continue at) = Unit {0}
   StatementHas (break at) = Unit {0}

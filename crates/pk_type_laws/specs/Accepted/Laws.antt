@@ -8,4 +8,6 @@ use Rattle.pk_type_laws.specs.Accepted.Constants.{ExternalsHave}
 
 -- The typed unit of trees in which no rule fails is well typed, where their constants are numbers of their types.
 abbrev pub AcceptedUnitsAreWellTyped : Type 0
-AcceptedUnitsAreWellTyped = (text : List ℕ) (xs : List ExternalTree) → ExternalsHave xs → (checked noted None text xs).walked.found ≡ None → IsUnit (unit_of (checked noted None text xs))
+AcceptedUnitsAreWellTyped =
+    (text : List ℕ) (xs : List ExternalTree) → ExternalsHave xs → (checked noted None text xs).walked.found ≡ None →
+    IsUnit (unit_of (checked noted None text xs))

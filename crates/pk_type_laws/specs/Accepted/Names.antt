@@ -9,11 +9,12 @@ use Rattle.pk_type_scope.specs.declared.declarations.Declaration.{Declaration}
 use Rattle.pk_type_scope.specs.declared.declarations.Declaration.TheVariants as declared
 use Rattle.pk_type_scope.specs.declared.declarations.Typing.TheVariants.{Void, Integer, Unknown}
 use Rattle.pk_type_scope.specs.Declarations.{Names}
-use Rattle.pk_welltyped.specs.WellTyped.{Around, IsObject, IsArray, scalar, Takes}
+use Rattle.pk_welltyped.specs.WellTyped.{Around, IsObject, IsArray, Takes}
+use Rattle.pk_graph.specs.Kinds.{scalar_kind}
 
 abbrev pub ObjectIs : Around → Bool → Option IntType → Variable → Type 0
 ObjectIs a is_array None x = ⊥
-ObjectIs a false (Some t) x = IsObject a (scalar t) x
+ObjectIs a false (Some t) x = IsObject a (scalar_kind t) x
 ObjectIs a true (Some t) x = IsArray a t x
 
 -- a special name is no function of the unit

@@ -22,5 +22,7 @@ pub record TextsHaveOneAnswer : Type 0 where
 
 -- Keeping one failure on the way, the first so far, answers as keeping all of them does.
 pub record CheckGivesTheAnswer : Type 0 where
-  pub typed : (text : List ℕ) (xs : List ExternalTree) → (checked noted None text xs).walked.found ≡ None → IsAnswer text xs (accepted (unit_of (checked noted None text xs)))
-  pub fails : (text : List ℕ) (xs : List ExternalTree) (f : Failure) → (checked noted None text xs).walked.found ≡ Some f → IsAnswer text xs (refused f)
+  pub typed : (text : List ℕ) (xs : List ExternalTree) → (checked noted None text xs).walked.found ≡ None →
+      IsAnswer text xs (accepted (unit_of (checked noted None text xs)))
+  pub fails : (text : List ℕ) (xs : List ExternalTree) (f : Failure) →
+      (checked noted None text xs).walked.found ≡ Some f → IsAnswer text xs (refused f)

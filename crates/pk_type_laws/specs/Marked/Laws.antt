@@ -7,4 +7,6 @@ use Rattle.pk_welltyped.specs.Marks.{AreMarked}
 
 -- In the typed unit of trees in which no rule fails each label stands once in its function, each case and the default once in its switch.
 abbrev pub AcceptedUnitsAreMarked : Type 0
-AcceptedUnitsAreMarked = (text : List ℕ) (xs : List ExternalTree) → (checked noted None text xs).walked.found ≡ None → AreMarked (unit_of (checked noted None text xs))
+AcceptedUnitsAreMarked =
+    (text : List ℕ) (xs : List ExternalTree) → (checked noted None text xs).walked.found ≡ None →
+    AreMarked (unit_of (checked noted None text xs))

@@ -29,7 +29,7 @@ use Rattle.pk_lower_row.specs.Rows.{Ways, operand}
 use Rattle.pk_lower_expression.specs.Expressions.{ways, performed}
 use Rattle.pk_lower_statement.specs.declared.statements.Exits.{Exits}
 use Rattle.pk_lower_statement.specs.Statements as statements
-use Rattle.pk_lower_statement.specs.Statements.{named, introduced, item, items, declared, all_declared, inside, branching, meeting, if_draft, round, while_from, do_from, for_from, loop_begun, case_test, case_tests, in_switch, switch_begun, returned, performed_if, for_start, for_test, lowered, lowered_items}
+use Rattle.pk_lower_statement.specs.Statements.{named, introduced, item, items, declared, all_declared, inside, meeting, if_draft, round, while_from, do_from, for_from, loop_begun, case_test, case_tests, in_switch, switch_begun, returned, performed_if, for_start, for_test, lowered, lowered_items}
 use Rattle.pk_welltyped.specs.Marks as Marks
 use Rattle.pk_welltyped.specs.Marks.{one_if, times, times_in}
 use Rattle.pk_meaning.specs.Steps.{Mark, labelled, numbered, otherwise, is_label, is_case, is_default}
@@ -153,11 +153,6 @@ come_adds ms S C p d m = record {
   by : (n : ℕ) → (n ≡ p) ⊎ (n ≢ p) → Among n ms ⊎ (label_at (slice_set d.labels p d.here) n ≡ label_at d.labels n)
   by n (inl e) = inl (subst (λ q. Among q ms) (sym e) m)
   by n (inr h) = inr (get_or-set_other d.labels p n d.here no_label h)
-
--- new points, where their number isn't known
-all_here : (n p : ℕ) (d : Draft) → (all_placed n p d).here ≡ d.here
-all_here zero p d = refl
-all_here (suc n) p d = all_here n (p + 1) (placed p d)
 
 pub record Placing (n p : ℕ) (d : Draft) : Type 0 where
   pub edges : (all_placed n p d).edges ≡ d.edges

@@ -1,7 +1,7 @@
 -- Edges of a draft by number are edges of its numbered graph.
-use Rattle.std.proofs.Common.{◌≡◌, ℕ, suc, ◌<◌, ◌⊎◌, List, [], ◌∷◌, map, Bool, true, false, not, ◌&&◌, cond, nat_eq, refl, sym, ap, ◌∙◌, subst, inl, inr, arith}
+use Rattle.std.proofs.Common.{◌≡◌, ℕ, suc, ◌⊎◌, List, [], ◌∷◌, map, Bool, true, false, not, ◌&&◌, cond, nat_eq, refl, sym, ap, ◌∙◌, subst, inl, inr, arith}
 use Rattle.std.specs.List.{Contains}
-use Rattle.std.proofs.lemmas.List.{length-map, get_or-map}
+use Rattle.std.proofs.lemmas.List.{get_or-map}
 use Rattle.std.proofs.lemmas.Bool.Decides.{eqb_tells}
 use Rattle.pk_graph.specs.Graphs.{PathOf, no_point, point_at}
 use Rattle.pk_draft.specs.Drafts.{EdgeFrom, DraftOf, nowhere, entry_point}
@@ -10,6 +10,7 @@ use Rattle.pk_number.specs.Numbering.{is_from, edges_from, ends, reached, edge_o
 use Rattle.pk_number.proofs.AmongLemmas.{at_place, place_inside}
 use Rattle.pk_number.proofs.ReachedLemmas.{end_among, entry_reached, entry_place, reached_closed}
 use Rattle.pk_visits.proofs.Slots.{Among}
+use Rattle.pk_number.proofs.NumberedLemmas.{contains_map}
 
 -- a way leads from the entry to the point
 abbrev pub IsFound : DraftOf ℕ → ℕ → Type 0
@@ -55,9 +56,6 @@ made_from p [] e h i = absurd h
 made_from p (x ∷ es) e (inl h) i =
     subst (λ b. Contains (cond b (x ∷ edges_from p es) (edges_from p es)) e) (sym i ∙ ap (is_from p) h) (0, omega arith, sym h)
 made_from p (x ∷ es) e (inr h) i = more (is_from p x) e x (edges_from p es) (made_from p es e h i)
-
-pub contains_map : {X Y : Type 0} (f : X → Y) (xs : List X) (x : X) → Contains xs x → Contains (map f xs) (f x)
-contains_map f xs x h = (h.0, subst (λ (n : ℕ). h.0 < n) (sym (length-map xs f)) h.1, get_or-map f xs h.0 x (f x) h.1 ∙ ap f h.2)
 
 -- An edge that is made from a found point leads to a found point.
 pub end_found : (d : DraftOf ℕ) (e : EdgeFrom ℕ) → Among e d.edges → (e.to ≡ nowhere → ⊥) → IsFound d e.from → IsFound d e.to

@@ -17,7 +17,7 @@ use Rattle.pk_lower_row.specs.declared.shapes.Shape.TheVariants.{Fixed, Named}
 use Rattle.pk_lower_row.specs.Shapes.{any_makes}
 use Rattle.pk_lower_row.specs.Contexts.{Context, site, callee, size_in, parameters_of, variable_of, array_of, length_of}
 use Rattle.pk_lower_row.specs.Rows as rows
-use Rattle.pk_lower_row.specs.Rows.{Ways, Operand, Target, operand, types_of}
+use Rattle.pk_lower_row.specs.Rows.{Ways, Target, operand, types_of}
 use Rattle.pk_lower_expression.specs.Expressions.{target, ways, performed, passed}
 use Rattle.pk_visits.proofs.Numbered.Names.{array_by, draft_by, stored_by}
 use Rattle.pk_visits.proofs.Numbered.Rows.{Works, Gives, WaysBy, beside, TargetsBy, scalars, elements, both_by, value_by, read_by, any_by, convert_by, unary_ways_by, binary_ways_by, and_by, or_by, then_by}

@@ -1,15 +1,14 @@
 -- Where a graph over slots moves or faults, the numbered graph that is its copy does.
 use Rattle.std.proofs.Common.{◌≡◌, ℕ, ◌<◌, ◌⊎◌, List, [], ◌∷◌, length, Bool, true, false, not, refl, sym, ap, subst, inl, inr, arith, ℤ}
 use Rattle.std.specs.Prelude.{Result, Ok, Err}
-use Rattle.pk_graph.specs.Kinds.{count_of}
+use Rattle.pk_graph.specs.Kinds.{count_of, Kind}
 use Rattle.pk_graph.specs.Trees.{Skip, Set, Havoc, Clear, Load, Store, Guard, Check}
 use Rattle.pk_graph.specs.Graphs.{PathOf}
 use Rattle.pk_graph.specs.Steps as steps
-use Rattle.pk_graph.specs.Steps.{Numbers, Failure, After, tree_value, is_true, with_value, effect}
+use Rattle.pk_graph.specs.Steps.{Numbers, Failure, tree_value, is_true, with_value, effect}
 use Rattle.pk_graph.specs.Stores.{Stored}
 use Rattle.pk_draft.specs.Drafts.{DraftOf, nowhere}
 use Rattle.pk_number.specs.Numbering.{reached, edge_of, numbered}
-use Rattle.pk_welltyped.specs.WellTyped.{Kind}
 use Rattle.pk_meaning.specs.Objects.{Object, numbers_of, with_numbers}
 use Rattle.pk_meaning.specs.Programs.{Program}
 use Rattle.pk_meaning.specs.Work as work

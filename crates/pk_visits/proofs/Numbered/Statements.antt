@@ -4,7 +4,7 @@ use Rattle.std.specs.Prelude.{Option, Some, None}
 use Rattle.pk_ctypes.specs.declared.types.IntType.{IntType}
 use Rattle.pk_ctypes.specs.declared.types.IntType.TheVariants.{Int}
 use Rattle.pk_typed.specs.declared.values.Variable.TheVariants.{Local}
-use Rattle.pk_typed.specs.Trees.{ValueTree, EffectTree, ValueTrees, DeclaredTree, ForStartTree, StatementTree, ItemTrees}
+use Rattle.pk_typed.specs.Trees.{ValueTree, ValueTrees, DeclaredTree}
 use Rattle.pk_typed.specs.Trees as tree
 use Rattle.pk_typed.specs.Types.{type_of}
 use Rattle.pk_graph.specs.declared.trees.Site.{Site}
@@ -14,10 +14,10 @@ use Rattle.pk_draft.specs.Drafts.{Given, on, inner, with_object, emit}
 use Rattle.pk_draft.specs.Folding.{conversion}
 use Rattle.pk_lower_row.specs.Contexts.{Context, site, own, array_of, local_at}
 use Rattle.pk_lower_row.specs.Rows as rows
-use Rattle.pk_lower_row.specs.Rows.{Ways, Operand, operand}
+use Rattle.pk_lower_row.specs.Rows.{Ways}
 use Rattle.pk_lower_expression.specs.Expressions.{ways}
 use Rattle.pk_lower_statement.specs.Statements as statements
-use Rattle.pk_lower_statement.specs.Statements.{named, items, all_declared, case_tests, lowered, lowered_items}
+use Rattle.pk_lower_statement.specs.Statements.{named, items, all_declared}
 use Rattle.pk_visits.proofs.Numbered.Names.{array_by, draft_by, given_by, conversion_by, emit_by}
 use Rattle.pk_visits.proofs.Numbered.Rows.{Works, WaysBy}
 use Rattle.pk_visits.proofs.Numbered.Forms.{set_after_by}

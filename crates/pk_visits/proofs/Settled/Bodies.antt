@@ -24,7 +24,7 @@ use Rattle.pk_lower_statement.specs.declared.statements.Exits.{Exits}
 use Rattle.pk_lower_statement.specs.Statements as statements
 use Rattle.pk_lower_statement.specs.Statements.{named, introduced, declared, all_declared, inside, in_switch, branching, meeting, if_draft, loop_begun, case_tests, tested, switch_begun, performed_if, for_start, for_test, lowered, lowered_items}
 use Rattle.pk_welltyped.specs.Marks as Marks
-use Rattle.pk_welltyped.specs.Marks.{one_if, times, times_in, IsSwitch, HasCases, HaveCases, HasTargets, HaveTargets, IsMarked}
+use Rattle.pk_welltyped.specs.Marks.{one_if, times, times_in, HasCases, HaveCases, HasTargets, HaveTargets, IsMarked}
 use Rattle.pk_meaning.specs.Programs.{block_of}
 use Rattle.pk_meaning.specs.Work.{Place}
 use Rattle.pk_meaning.specs.Steps.{Mark, labelled, numbered, otherwise, is_label, is_case, is_default}

@@ -4,7 +4,7 @@ use Rattle.pk_ctypes.specs.declared.places.Pos.{Pos}
 use Rattle.pk_ctypes.specs.declared.types.IntType.{IntType}
 use Rattle.pk_ctypes.specs.declared.types.Op.{Op}
 use Rattle.pk_ctypes.specs.declared.types.Op.TheVariants.{Add, Sub, Mul, Div, Rem, Shl, Shr, And, Or, Xor, Lt, Gt, Le, Ge, Eq, Ne, Neg, BitNot, Not}
-use Rattle.pk_typed.specs.Trees.{ValueTree, EffectTree, PlaceTree}
+use Rattle.pk_typed.specs.Trees.{ValueTree, EffectTree}
 use Rattle.pk_typed.specs.Trees as tree
 use Rattle.pk_welltyped.specs.Listed.{Numbered, calls_in, calls_in_effect}
 use Rattle.pk_welltyped.specs.WellTyped.{IsValue}
@@ -14,7 +14,7 @@ use Rattle.pk_lower_row.specs.Rows as rows
 use Rattle.pk_lower_expression.specs.Expressions.{target, ways, performed}
 use Rattle.pk_lower_statement.specs.declared.statements.Exits.{Exits}
 use Rattle.pk_meaning.specs.Work as work
-use Rattle.pk_meaning.specs.Work.{Place, Work, Way, Onward}
+use Rattle.pk_meaning.specs.Work.{Place, Way, Onward}
 use Rattle.pk_meaning.specs.Steps as meaning
 use Rattle.pk_visits.proofs.Slots.{Draft, edge, Grows, last_among, Uncalled}
 use Rattle.pk_visits.proofs.Grows.Rows.{grows_trans, fresh_one_grows, link_grows, guards_grow}

@@ -5,16 +5,15 @@ use Rattle.pk_ctypes.specs.declared.places.Pos.{Pos}
 use Rattle.pk_ctypes.specs.declared.types.IntType.{IntType}
 use Rattle.pk_typed.specs.Trees.{ValueTree, EffectTree, StatementTree, DeclaredTree, LocalTree, ItemTrees}
 use Rattle.pk_typed.specs.Trees as tree
-use Rattle.pk_graph.specs.Kinds.{count_of}
+use Rattle.pk_graph.specs.Kinds.{count_of, Kind, scalar_kind, array_kind}
 use Rattle.pk_graph.specs.Steps.{Numbers}
 use Rattle.pk_draft.specs.Drafts.{on, fresh}
 use Rattle.pk_lower_row.specs.Contexts.{Context, local_at}
 use Rattle.pk_lower_statement.specs.declared.statements.Exits.{Exits}
 use Rattle.pk_lower_statement.specs.Statements.{named, introduced, declared, all_declared, lowered_items}
 use Rattle.pk_welltyped.specs.Listed.{calls_in_declared, calls_if, calls_in_values_if, calls_in_all_declared, calls_in_items}
-use Rattle.pk_welltyped.specs.WellTyped.{Kind, scalar, array, kind_among, Marks, IsDeclared, IsStatement, AreItems}
+use Rattle.pk_welltyped.specs.WellTyped.{kind_among, Marks, IsDeclared, IsStatement, AreItems}
 use Rattle.pk_meaning.specs.Objects.{Objects, Scope}
-use Rattle.pk_meaning.specs.Programs as program
 use Rattle.pk_meaning.specs.Programs.{with_local, with_declared, with_all_declared, block_of}
 use Rattle.pk_meaning.specs.Work as work
 use Rattle.pk_meaning.specs.Work.{Place, Work, Ahead}
@@ -32,8 +31,9 @@ use Rattle.pk_visits.proofs.Grows.Statements.{OnPath, introduced_enlarges, decla
 use Rattle.pk_visits.proofs.Steps.ElementTrees.{local_length}
 use Rattle.pk_visits.proofs.Operands.{calm_more}
 use Rattle.pk_visits.proofs.Steps.Firsts.{scalar_follows, array_follows}
+use Rattle.pk_typed.specs.Defaults.{no_local}
 
-local_type : (xs : List LocalTree) (i : ℕ) (n : Kind) → kind_among xs i ≡ Some n → (slice_index_or xs i program.no_local).int_type ≡ n.int_type
+local_type : (xs : List LocalTree) (i : ℕ) (n : Kind) → kind_among xs i ≡ Some n → (slice_index_or xs i no_local).int_type ≡ n.int_type
 local_type [] i n h = absurd (grind (arith, h))
 local_type (x ∷ xs) zero n h = same (record { int_type = x.int_type; length = x.length }) h where
   same : (m : Kind) → Some m ≡ Some n → m.int_type ≡ n.int_type
@@ -63,9 +63,9 @@ declared_follows y g chosen m k h x (tree.scalar_object i q e) o d vs s b u w hs
     let gv = grow.variables in
     let t = fits.1.0 in
     let is = fits.1.1 in
-    let types = local_type (block_of g.program k).locals i (scalar t) is in
+    let types = local_type (block_of g.program k).locals i (scalar_kind t) is in
     subst (λ p. Answers g chosen k y p m (meaning.declares g.program chosen (config k h u vs s b) (tree.scalar_object i q e) w)) (introduced_point c i (on q d))
-    (scalar_follows y g chosen m k j x i e (o + 1) e0 vs s b u w hs (scalar t) (st.path, is) types (local_length (block_of g.program k).locals i (scalar t) is) (ap (λ z. scalar z) (sym types)) fits.2
+    (scalar_follows y g chosen m k j x i e (o + 1) e0 vs s b u w hs (scalar_kind t) (st.path, is) types (local_length (block_of g.program k).locals i (scalar_kind t) is) (ap (λ z. scalar_kind z) (sym types)) fits.2
     (calm_more d.variables e0.variables hs gv calm) (stage_at g k _ j (calls_if e) d e0 _ st gp shown) l means same f)
 declared_follows y g chosen m k h x (tree.array_object i q es) o d vs s b u w hs fits calm st shown l means same f =
     let c = context_of g k in
@@ -78,11 +78,11 @@ declared_follows y g chosen m k h x (tree.array_object i q es) o d vs s b u w hs
     let t = room.0 in
     let n = room.1 in
     let is = room.2 in
-    let types = local_type (block_of g.program k).locals i (array t n) is in
-    let lengths = local_length (block_of g.program k).locals i (array t n) is in
+    let types = local_type (block_of g.program k).locals i (array_kind t n) is in
+    let lengths = local_length (block_of g.program k).locals i (array_kind t n) is in
     let many : (local_array g k i).length ≡ n = ap count_of lengths in
     subst (λ p. Answers g chosen k y p m (meaning.declares g.program chosen (config k h u vs s b) (tree.array_object i q es) w)) (introduced_point c i (on q d))
-    (array_follows y g chosen m k j x i es (o + 1) e0 vs s b u w hs (array t n) (st.path, is) types lengths (ap (λ z. array z n) (sym types) ∙ ap (λ z. array (local_array g k i).int_type z) (sym many)) fits.2 (subst (λ z. _ ≤ z) (sym many) room.3)
+    (array_follows y g chosen m k j x i es (o + 1) e0 vs s b u w hs (array_kind t n) (st.path, is) types lengths (ap (λ z. array_kind z n) (sym types) ∙ ap (λ z. array_kind (local_array g k i).int_type z) (sym many)) fits.2 (subst (λ z. _ ≤ z) (sym many) room.3)
     (calm_more d.variables e0.variables hs gv calm) (stage_at g k _ j (calls_in_values_if es) d e0 _ st gp shown) l means same f)
 
 -- what is known of a declaration in a block: its stage, its name behind it, and the rest

@@ -12,7 +12,7 @@ use Rattle.pk_typed.specs.Trees.{ValueTree, EffectTree}
 use Rattle.pk_typed.specs.Trees as tree
 use Rattle.pk_typed.specs.Types.{type_of}
 use Rattle.pk_welltyped.specs.Listed.{Numbered, calls_at_place, calls_in, calls_in_effect}
-use Rattle.pk_welltyped.specs.WellTyped.{scalar, IsPlace, IsValue, IsEffect}
+use Rattle.pk_welltyped.specs.WellTyped.{IsPlace, IsValue, IsEffect}
 use Rattle.pk_graph.specs.Trees.{variable, Set, Check}
 use Rattle.pk_draft.specs.Drafts.{Given, at, fresh, emit, with_temporary, next_temporary}
 use Rattle.pk_draft.specs.Folding.{conversion, updated_tree}
@@ -41,6 +41,7 @@ use Rattle.pk_visits.proofs.Steps.ElementTrees.{writes_temporary, put_laid, rene
 use Rattle.pk_visits.proofs.Steps.Conditions.{shows_fresh}
 use Rattle.pk_visits.proofs.Steps.Operators.{one_in}
 use Rattle.pk_visits.proofs.Doom.{calm_plain}
+use Rattle.pk_graph.specs.Kinds.{scalar_kind}
 
 -- a tree of a plain shape
 plain_shape : (n : ℕ) (s : Shape) (e : SlotTree) → Tells n s e → is_plain s ≡ true → IsPlain e
@@ -103,7 +104,7 @@ advance_laid g k h x op at' o t y true w p hs (d, n, is, fits, quiet, s, l) =
     let ns = stage_names g k h _ Uncalled d (emit i d) s (emit_grows Uncalled i d) in
     subst (λ q. Laid g k h x (work.Advance op at' o t (object_of k y) w) q hs) is (
       d.points,
-      has_kind g k n (scalar t) y s.path fits.1,
+      has_kind g k n (scalar_kind t) y s.path fits.1,
       writes_scalar g k h d.variables y (λ u. updated_tree op (site c at') o t Int (variable u) one_tree) d d hs _ ns s (grows_refl _ d) (quiet refl),
       l,
     )
@@ -113,7 +114,7 @@ advance_laid g k h x op at' o t y false w p hs (d, n, is, fits, quiet, s, l) =
     let ns = stage_names g k h _ Uncalled d (emit i d) s (emit_grows Uncalled i d) in
     subst (λ q. Laid g k h x (work.Advance op at' o t (object_of k y) w) q hs) is (
       d.points,
-      has_kind g k n (scalar t) y s.path fits.1,
+      has_kind g k n (scalar_kind t) y s.path fits.1,
       writes_scalar g k h d.variables y (λ u. updated_tree op (site c at') o t Int (variable u) one_tree) d d hs _ ns s (grows_refl _ d) (quiet refl),
       l,
     )

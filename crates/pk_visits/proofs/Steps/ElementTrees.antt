@@ -8,12 +8,12 @@ use Rattle.pk_ctypes.specs.declared.types.IntType.TheVariants.{Int}
 use Rattle.pk_ctypes.specs.declared.types.Op.{Op}
 use Rattle.pk_typed.specs.declared.values.Variable.{Variable}
 use Rattle.pk_typed.specs.declared.values.Variable.TheVariants.{File, Local}
-use Rattle.pk_typed.specs.Trees.{ValueTree, FileObjectTree, LocalTree, StartTree}
+use Rattle.pk_typed.specs.Trees.{ValueTree, FileObjectTree, LocalTree}
 use Rattle.pk_typed.specs.Trees as tree
 use Rattle.pk_typed.specs.Types.{type_of}
 use Rattle.pk_welltyped.specs.Listed.{Numbered, calls_at_place, calls_in}
-use Rattle.pk_welltyped.specs.WellTyped.{Kind, scalar, array, IsArray, IsPlace, IsValue, kind_among, length_at_start}
-use Rattle.pk_graph.specs.Kinds.{count_of}
+use Rattle.pk_welltyped.specs.WellTyped.{IsArray, IsPlace, IsValue, kind_among}
+use Rattle.pk_graph.specs.Kinds.{count_of, Kind, scalar_kind, array_kind}
 use Rattle.pk_graph.specs.Trees.{constant, variable, converted, unary, binary, ArrayOf, Set, Havoc, Load, Store}
 use Rattle.pk_draft.specs.Drafts.{Given, emit, with_temporary, next_temporary}
 use Rattle.pk_draft.specs.Folding.{conversion, updated_tree}
@@ -46,6 +46,7 @@ use Rattle.pk_visits.proofs.Operands.{UnlessLoose, all_own, all_temporary, next_
 use Rattle.pk_visits.proofs.Steps.Trees.{stage_names, has_kind, writes_scalar}
 use Rattle.pk_visits.proofs.Steps.Operators.{one_in}
 use Rattle.pk_visits.proofs.Doom.{calm_plain}
+use Rattle.pk_typed.specs.Defaults.{no_local, length_of_start}
 
 -- ---- an edge that writes a new temporary
 
@@ -81,25 +82,17 @@ pub array_is : (g : Whole) (k : ℕ) (t : IntType) (y : Variable) (d : Draft) �
 array_is g k t (File i) d ns = ap (λ (v : Slot). record { variable = v; length = count_of (lower.length_of (context_of g k) (File i)) }) (variable_is (context_of g k) (File i) d ns)
 array_is g k t (Local i) d ns = ap (λ (v : Slot). record { variable = v; length = count_of (lower.length_of (context_of g k) (Local i)) }) (variable_is (context_of g k) (Local i) d ns)
 
-kind_length : Option Kind → Option ℕ
-kind_length None = None
-kind_length (Some n) = n.length
-
-start_length : (s : StartTree) → program.length_of_start s ≡ length_at_start s
-start_length (tree.scalar_start z) = refl
-start_length (tree.array_start n zs) = refl
-
-file_length : (o : Option FileObjectTree) (n : Kind) → option_map (λ (x : FileObjectTree). record { int_type = x.int_type; length = length_at_start x.start }) o ≡ Some n
-    → option_and_then (λ (x : FileObjectTree). program.length_of_start x.start) o ≡ n.length
+file_length : (o : Option FileObjectTree) (n : Kind) → option_map (λ (x : FileObjectTree). record { int_type = x.int_type; length = length_of_start x.start }) o ≡ Some n
+    → option_and_then (λ (x : FileObjectTree). length_of_start x.start) o ≡ n.length
 file_length None n h = absurd (grind (arith, h))
-file_length (Some x) n h = start_length x.start ∙ same (record { int_type = x.int_type; length = length_at_start x.start }) h where
+file_length (Some x) n h = same (record { int_type = x.int_type; length = length_of_start x.start }) h where
   same : (m : Kind) → Some m ≡ Some n → m.length ≡ n.length
   same m e = ap (λ (o : Option Kind). length_or m o) e where
     length_or : Kind → Option Kind → Option ℕ
     length_or a None = a.length
     length_or a (Some b) = b.length
 
-pub local_length : (xs : List LocalTree) (i : ℕ) (n : Kind) → kind_among xs i ≡ Some n → (slice_index_or xs i program.no_local).length ≡ n.length
+pub local_length : (xs : List LocalTree) (i : ℕ) (n : Kind) → kind_among xs i ≡ Some n → (slice_index_or xs i no_local).length ≡ n.length
 local_length [] i n h = absurd (grind (arith, h))
 local_length (x ∷ xs) ℕ.zero n h = same (record { int_type = x.int_type; length = x.length }) h where
   same : (m : Kind) → Some m ≡ Some n → m.length ≡ n.length
@@ -111,9 +104,9 @@ local_length (x ∷ xs) (ℕ.suc i) n h = local_length xs i n h
 
 -- an object of the array's kind, whose length is the array's
 pub is_array : (g : Whole) (k n : ℕ) (t : IntType) (y : Variable) → k < length g.program.paths → IsArray (around g k n) t y → IsArrayOf g (program.array_of g.program k t y)
-is_array g k n t (File i) there h = subst (λ m. HasKind g.program (object_of k (File i)) (array t m)) (sym (ap count_of (file_length (slice_get g.program.unit.objects i) (array t h.0) h.1))) h.1
+is_array g k n t (File i) there h = subst (λ m. HasKind g.program (object_of k (File i)) (array_kind t m)) (sym (ap count_of (file_length (slice_get g.program.unit.objects i) (array_kind t h.0) h.1))) h.1
 is_array g k n t (Local i) there h =
-    subst (λ m. HasKind g.program (object_of k (Local i)) (array t m)) (sym (ap count_of (local_length (program.block_of g.program k).locals i (array t h.0) h.1.1))) (there, h.1.1)
+    subst (λ m. HasKind g.program (object_of k (Local i)) (array_kind t m)) (sym (ap count_of (local_length (program.block_of g.program k).locals i (array_kind t h.0) h.1.1))) (there, h.1.1)
 
 -- ---- a[i]
 
@@ -165,7 +158,7 @@ step_laid g k h x op at o t y w p hs (d, n, is, fits, quiet, s, l) =
       stage_until g k h _ d d (emit i d) s (emit_grows Uncalled i d),
       (
         d.points,
-        has_kind g k n (scalar t) y s.path fits.1,
+        has_kind g k n (scalar_kind t) y s.path fits.1,
         writes_scalar g k h d.variables y (λ u. updated_tree op (site c at) o t Int (variable u) one_tree) d d hs _ ns s (grows_refl _ d) (quiet refl),
         subst (λ u. Laid g k h x w d.points (held (variable u) t ∷ hs)) (variable_is c y d ns) l,
       ),
@@ -185,7 +178,7 @@ after_laid g k h x op at o t y w p hs (d, n, is, fits, quiet, s, l) =
     let last = emit_grows Uncalled i e in
     let ge = made_grows Uncalled (Set (next_temporary d) (variable v)) t d in
     let ns = stage_names g k h _ Uncalled d (emit i e) s (grows_trans ge last) in
-    let kind = has_kind g k n (scalar t) y s.path fits.1 in
+    let kind = has_kind g k n (scalar_kind t) y s.path fits.1 in
     let z = writes_temporary g k h d.variables t (λ u. Set u (variable v)) d d (emit i e) hs Uncalled _ ns s (grows_refl _ d) last (omega arith) (quiet refl) in
     let b = writes_scalar g k h d.variables y (λ u. updated_tree op (site c at) o t Int (variable u) one_tree) d e hs _ ns s (made_grows (IsCalled c []) (Set (next_temporary d) (variable v)) t d) (quiet refl) in (
       kind,

@@ -19,7 +19,6 @@ use Rattle.pk_graph.specs.Steps as steps
 use Rattle.pk_graph.specs.Steps.{Numbers, number_at, tree_value, and_then, at_site, effect, with_value, all_in_type, is_index, indexed}
 use Rattle.pk_draft.specs.Folding.{conversion, operated_tree, updated_tree}
 use Rattle.pk_lower_statement.specs.declared.statements.Exits.{Exits}
-use Rattle.pk_welltyped.specs.WellTyped.{Kind, array}
 use Rattle.pk_meaning.specs.Objects.{Array, Objects, numbers_of, with_numbers, is_in_scope}
 use Rattle.pk_meaning.specs.Programs.{Program}
 use Rattle.pk_meaning.specs.Work as work
@@ -34,6 +33,7 @@ use Rattle.pk_ctypes.proofs.Operator_values.{value_in}
 use Rattle.pk_visits.proofs.Follow.{Doomed, IsInside, now, Answers, Follows, config, moved, set_does, kind_is}
 use Rattle.pk_visits.proofs.Doom.{set_fails, store_value_fails}
 use Rattle.pk_visits.proofs.Steps.Operators.{by_result, in_type}
+use Rattle.pk_graph.specs.Kinds.{Kind, array_kind}
 
 -- ---- indices
 
@@ -60,8 +60,8 @@ number_at_in t (z ∷ zs) (suc j) a = number_at_in t zs j (second_is (is_in_type
   second_is true b h = h
   second_is false b h = absurd (grind (arith, h))
 
-pub element_in : (p : Program) (a : Array) (j : ℕ) (s : Objects) → HasKind p a.object (array a.int_type a.length) → FitsObjects p s → InType a.int_type (meaning.element_of a j s)
-element_in p a j s h f = number_at_in a.int_type (numbers_of a.object s) j (f a.object (array a.int_type a.length) h).1
+pub element_in : (p : Program) (a : Array) (j : ℕ) (s : Objects) → HasKind p a.object (array_kind a.int_type a.length) → FitsObjects p s → InType a.int_type (meaning.element_of a j s)
+element_in p a j s h f = number_at_in a.int_type (numbers_of a.object s) j (f a.object (array_kind a.int_type a.length) h).1
 
 all_set : (t : IntType) (zs : Numbers) (j : ℕ) (v : ℤ) → all_in_type t zs ≡ true → is_in_type t v ≡ true → all_in_type t (slice_set zs j v) ≡ true
 all_set t [] j v a i = a
@@ -80,13 +80,13 @@ all_set t (z ∷ zs) (suc j) v a i = more (is_in_type t z) (all_in_type t zs) (a
   more true b c h k = k
   more false b c h k = h
 
-pub element_written : (p : Program) (a : Array) (j : ℕ) (v : ℤ) (s : Objects) → HasKind p a.object (array a.int_type a.length) → InType a.int_type v → FitsObjects p s
+pub element_written : (p : Program) (a : Array) (j : ℕ) (v : ℤ) (s : Objects) → HasKind p a.object (array_kind a.int_type a.length) → InType a.int_type v → FitsObjects p s
     → FitsObjects p (with_numbers a.object (slice_set (numbers_of a.object s) j v) s)
 element_written p a j v s h i f =
     let zs = numbers_of a.object s in
     fits_written p a.object (slice_set zs j v) s
-    (λ n k. subst (λ (z : Kind). Fitting z (slice_set zs j v)) (kind_is p a.object (array a.int_type a.length) n h k)
-    (length-set zs j v ∙ (f a.object (array a.int_type a.length) h).0, all_set a.int_type zs j v (f a.object (array a.int_type a.length) h).1 (in_type_test a.int_type v i))) f
+    (λ n k. subst (λ (z : Kind). Fitting z (slice_set zs j v)) (kind_is p a.object (array_kind a.int_type a.length) n h k)
+    (length-set zs j v ∙ (f a.object (array_kind a.int_type a.length) h).0, all_set a.int_type zs j v (f a.object (array_kind a.int_type a.length) h).1 (in_type_test a.int_type v i))) f
 
 -- what edges to and from elements do
 abbrev loaded : ArrayOf Slot → Slot → ℕ → Memory → Memory

@@ -11,7 +11,7 @@ use Rattle.pk_welltyped.specs.WellTyped.{count, AreValues}
 use Rattle.pk_graph.specs.Trees.{constant, ArrayOf, Store}
 use Rattle.pk_draft.specs.Folding.{conversion}
 use Rattle.pk_lower_row.specs.Contexts as lower
-use Rattle.pk_lower_row.specs.Contexts.{local_at, site}
+use Rattle.pk_lower_row.specs.Contexts.{site}
 use Rattle.pk_lower_expression.specs.Expressions.{ways}
 use Rattle.pk_lower_statement.specs.declared.statements.Exits.{Exits}
 use Rattle.pk_lower_statement.specs.Statements.{item, items}

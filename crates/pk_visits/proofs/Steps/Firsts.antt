@@ -10,7 +10,7 @@ use Rattle.pk_ctypes.proofs.Values.{in_type_test}
 use Rattle.pk_typed.specs.declared.values.Variable.TheVariants.{Local}
 use Rattle.pk_typed.specs.Trees.{ValueTree, ValueTrees}
 use Rattle.pk_typed.specs.Types.{type_of}
-use Rattle.pk_graph.specs.Kinds.{count_of}
+use Rattle.pk_graph.specs.Kinds.{count_of, Kind, scalar_kind, array_kind}
 use Rattle.pk_graph.specs.Trees.{ArrayOf, Set, Havoc, Clear}
 use Rattle.pk_graph.specs.Steps as steps
 use Rattle.pk_graph.specs.Steps.{Numbers, are_any, all_in_type}
@@ -21,14 +21,14 @@ use Rattle.pk_lower_expression.specs.Expressions.{ways}
 use Rattle.pk_lower_statement.specs.declared.statements.Exits.{Exits}
 use Rattle.pk_lower_statement.specs.Statements as statements
 use Rattle.pk_welltyped.specs.Listed.{calls_in, calls_if, calls_in_values, calls_in_values_if}
-use Rattle.pk_welltyped.specs.WellTyped.{Kind, scalar, array, IsValueIf, AreValuesIf, count_if}
+use Rattle.pk_welltyped.specs.WellTyped.{IsValueIf, AreValuesIf, count_if}
 use Rattle.pk_meaning.specs.Objects.{Objects, local, with_numbers, is_in_scope}
 use Rattle.pk_meaning.specs.Programs.{local_of}
 use Rattle.pk_meaning.specs.Work as work
 use Rattle.pk_meaning.specs.Work.{Place, Work}
 use Rattle.pk_meaning.specs.Steps as meaning
 use Rattle.pk_visits.proofs.Slots.{Slot, own, slots, Draft, Memory, with_memory, Among, edge, Uncalled}
-use Rattle.pk_visits.proofs.Stands.{Whole, context_of, Held, held, around, local_array, cells, AreCalm, HasKind, Means, FitsObjects, Writes, Stage, led_to, Laid, IsCalled}
+use Rattle.pk_visits.proofs.Stands.{Whole, context_of, Held, around, local_array, cells, AreCalm, HasKind, Means, FitsObjects, Stage, Laid, IsCalled}
 use Rattle.pk_visits.proofs.Stores.{Fitting, fits_written, means_apart}
 use Rattle.pk_visits.proofs.Follow.{Answers, config, still, moved, kind_is}
 use Rattle.pk_visits.proofs.Stages.{all_called, ways_grow, stage_until, stage_from, stage_edge}
@@ -83,7 +83,7 @@ anything_follows y g chosen m k j x i d vs s b u w hs n kind types lengths calm 
 
 -- a scalar
 pub scalar_follows : (y : Place) (g : Whole) (chosen : Numbers) (m : Memory) (k : ℕ) (j : Place) (x : Exits) (i : ℕ) (v : Option ValueTree) (o : ℕ) (d : Draft) (vs : Numbers) (s : Objects) (b : Bool) (u w : Work) (hs : List Held) (n : Kind)
-    → HasKind g.program (local k i) n → (local_of g.program k i).int_type ≡ n.int_type → (local_of g.program k i).length ≡ n.length → n ≡ scalar (local_of g.program k i).int_type → IsValueIf (around g k o) v
+    → HasKind g.program (local k i) n → (local_of g.program k i).int_type ≡ n.int_type → (local_of g.program k i).length ≡ n.length → n ≡ scalar_kind (local_of g.program k i).int_type → IsValueIf (around g k o) v
     → AreCalm d.variables hs → Stage g k j (calls_if v) d (statements.scalar_first (context_of g k) i v d) → Laid g k j x w (statements.scalar_first (context_of g k) i v d).point hs → Means m hs vs → m.objects ≡ s → FitsObjects g.program s
     → Answers g chosen k y d.point m (meaning.scalar_first g.program chosen (config k j u vs s b) i v w)
 scalar_follows y g chosen m k j x i None o d vs s b u w hs n kind types lengths one fits calm st l e same f = anything_follows y g chosen m k j x i d vs s b u w hs n kind types lengths calm st l e same f
@@ -124,7 +124,7 @@ zeros_in t (suc n) = true_both (is_in_type t (pos 0)) (all_in_type t (replicate 
 
 -- an array, which begins with zeros where it has a braced list
 pub array_follows : (y : Place) (g : Whole) (chosen : Numbers) (m : Memory) (k : ℕ) (j : Place) (x : Exits) (i : ℕ) (v : Option ValueTrees) (o : ℕ) (d : Draft) (vs : Numbers) (s : Objects) (b : Bool) (u w : Work) (hs : List Held) (n : Kind)
-    → HasKind g.program (local k i) n → (local_of g.program k i).int_type ≡ n.int_type → (local_of g.program k i).length ≡ n.length → n ≡ array (local_array g k i).int_type (local_array g k i).length
+    → HasKind g.program (local k i) n → (local_of g.program k i).int_type ≡ n.int_type → (local_of g.program k i).length ≡ n.length → n ≡ array_kind (local_array g k i).int_type (local_array g k i).length
     → AreValuesIf (around g k o) v → count_if v ≤ (local_array g k i).length
     → AreCalm d.variables hs → Stage g k j (calls_in_values_if v) d (statements.array_first (context_of g k) i v d) → Laid g k j x w (statements.array_first (context_of g k) i v d).point hs → Means m hs vs → m.objects ≡ s → FitsObjects g.program s
     → Answers g chosen k y d.point m (meaning.array_first g.program chosen (config k j u vs s b) i v w)
@@ -141,9 +141,9 @@ array_follows y g chosen m k j x i (Some es) o d vs s b u w hs n kind types leng
     let is : lower.array_of c (Local i) d ≡ cells a = array_is g k a.int_type (Local i) d ns in
     let z = stage_edge g k j C (calls_in_values es) d d end I st (grows_refl C d) rest in
     let zs = replicate a.length (pos 0) in
-    let here : HasKind g.program (local k i) (array a.int_type a.length) = subst (HasKind g.program (local k i)) one kind in
+    let here : HasKind g.program (local k i) (array_kind a.int_type a.length) = subst (HasKind g.program (local k i)) one kind in
     moved g chosen d.point d.points m (with_memory (own (local k i)) zs m) (Clear (cells a)) k j (work.Fill a 0 es w) vs (with_numbers (local k i) zs s) (is_in_scope (local k i) j.scope) x hs
     (subst (λ (y : ArrayOf Slot). Among (edge d.point (Clear y) d.points) g.edges) is z.0) refl (refl, z.1)
     (d1, o, i, refl, refl, here, fits, omega (arith, room), calm, stage_from g k j (calls_in_values es) d d1 end st (emit_grows Uncalled I d), l)
     (means_apart (own (local k i)) zs m hs vs (all_own d.variables (local k i) hs calm) e) (ap (with_numbers (local k i) zs) same)
-    (fits_written g.program (local k i) zs s (λ q h. subst (λ (y : Kind). Fitting y zs) (kind_is g.program (local k i) (array a.int_type a.length) q here h) (length-replicate a.length (pos 0), zeros_in a.int_type a.length)) f)
+    (fits_written g.program (local k i) zs s (λ q h. subst (λ (y : Kind). Fitting y zs) (kind_is g.program (local k i) (array_kind a.int_type a.length) q here h) (length-replicate a.length (pos 0), zeros_in a.int_type a.length)) f)

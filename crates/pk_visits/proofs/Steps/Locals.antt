@@ -4,7 +4,8 @@ use Rattle.pk_typed.specs.Trees.{DeclaredTree, ForStartTree, StatementTree, Item
 use Rattle.pk_typed.specs.Trees as tree
 use Rattle.pk_welltyped.specs.Listed.{objects_at_start, objects_in, objects_in_items}
 use Rattle.pk_welltyped.specs.WellTyped
-use Rattle.pk_welltyped.specs.WellTyped.{Around, behind, Kind, scalar, array, kind_among, Marks, IsDeclared, AreDeclared, IsForStart, IsStatement, AreItems}
+use Rattle.pk_welltyped.specs.WellTyped.{Around, behind, kind_among, Marks, IsDeclared, AreDeclared, IsForStart, IsStatement, AreItems}
+use Rattle.pk_graph.specs.Kinds.{Kind, scalar_kind, array_kind}
 
 local_below : (xs : List LocalTree) (i : ℕ) (k : Kind) → kind_among xs i ≡ Some k → i < length xs
 local_below [] i k h = absurd (grind (arith, h))
@@ -16,8 +17,8 @@ abbrev pub Fits : Around → ℕ → Type 0
 Fits a n = a.objects + n ≤ length a.locals
 
 declared_fits : (a : Around) (v : DeclaredTree) → IsDeclared a v → Fits a 1
-declared_fits a (tree.scalar_object i at e) h = let z = local_below a.locals i (scalar h.1.0) h.1.1 in let y = h.0 in omega (arith, z, y)
-declared_fits a (tree.array_object i at es) h = let z = local_below a.locals i (array h.1.0 h.1.1) h.1.2 in let y = h.0 in omega (arith, z, y)
+declared_fits a (tree.scalar_object i at e) h = let z = local_below a.locals i (scalar_kind h.1.0) h.1.1 in let y = h.0 in omega (arith, z, y)
+declared_fits a (tree.array_object i at es) h = let z = local_below a.locals i (array_kind h.1.0 h.1.1) h.1.2 in let y = h.0 in omega (arith, z, y)
 
 all_fit : (vs : List DeclaredTree) (a : Around) → AreDeclared a vs → Fits a 0 → Fits a (length vs)
 all_fit [] a h f = f

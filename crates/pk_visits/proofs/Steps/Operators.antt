@@ -17,7 +17,6 @@ use Rattle.pk_graph.specs.Steps.{Numbers, tree_value, at_site}
 use Rattle.pk_draft.specs.Folding.{conversion, unary_tree, operated_tree}
 use Rattle.pk_lower_row.specs.Rows.{one_tree}
 use Rattle.pk_lower_statement.specs.declared.statements.Exits.{Exits}
-use Rattle.pk_welltyped.specs.WellTyped.{scalar}
 use Rattle.pk_meaning.specs.Objects.{Object, Objects, numbers_of, with_numbers, number_of, is_in_scope}
 use Rattle.pk_meaning.specs.Programs.{Program}
 use Rattle.pk_meaning.specs.Work as work
@@ -31,6 +30,7 @@ use Rattle.pk_visits.proofs.Steps.Values.{conversion_value, conversion_fault, un
 use Rattle.pk_ctypes.proofs.Operator_values.{value_in}
 use Rattle.pk_visits.proofs.Follow.{Doomed, now, Answers, config, still, moved, set_does, scalar_written, is_there, number_in_type}
 use Rattle.pk_visits.proofs.Doom.{Sound, doom, set_fails}
+use Rattle.pk_graph.specs.Kinds.{scalar_kind}
 
 -- ---- results and tests
 
@@ -81,8 +81,8 @@ in_type t z h = by (cases_of_type t z) where
 pub object_value : (x : Object) (s : Objects) (m : Memory) → m.objects ≡ s → tree_value memory (variable (own x)) m ≡ Ok (number_of x s)
 object_value x s m same = ap (λ o. Ok (number_of x o)) same
 
-pub object_in : (p : Program) (x : Object) (t : IntType) (s : Objects) → HasKind p x (scalar t) → FitsObjects p s → InType t (number_of x s)
-object_in p x t s h f = in_type t (number_of x s) (number_in_type t (numbers_of x s) (f x (scalar t) h).0 (f x (scalar t) h).1)
+pub object_in : (p : Program) (x : Object) (t : IntType) (s : Objects) → HasKind p x (scalar_kind t) → FitsObjects p s → InType t (number_of x s)
+object_in p x t s h f = in_type t (number_of x s) (number_in_type t (numbers_of x s) (f x (scalar_kind t) h).0 (f x (scalar_kind t) h).1)
 
 pub one_in : InType Int (pos 1)
 one_in = record { from = let a = (zero_in Int).0 in omega (arith, ints, a); to = one_most Int }

@@ -19,7 +19,7 @@ use Rattle.pk_lower_expression.specs.Expressions.{ways}
 use Rattle.pk_lower_statement.specs.declared.statements.Exits.{Exits}
 use Rattle.pk_lower_statement.specs.Statements.{lowered}
 use Rattle.pk_welltyped.specs.Listed.{Numbered, calls_in}
-use Rattle.pk_welltyped.specs.WellTyped.{Kind, scalar, IsValue}
+use Rattle.pk_welltyped.specs.WellTyped.{IsValue}
 use Rattle.pk_meaning.specs.Objects.{Objects, result, with_numbers, is_in_scope}
 use Rattle.pk_meaning.specs.Programs.{function_of, is_main}
 use Rattle.pk_meaning.specs.Work as work
@@ -37,6 +37,7 @@ use Rattle.pk_visits.proofs.Steps.Tells.{Any, sane}
 use Rattle.pk_visits.proofs.Steps.Trees.{stage_names}
 use Rattle.pk_visits.proofs.Operands.{all_own}
 use Rattle.pk_visits.proofs.Doom.{calm_plain}
+use Rattle.pk_graph.specs.Kinds.{Kind, scalar_kind}
 
 both_true : (a b : Bool) → (a && b) ≡ true → (a ≡ true) × (b ≡ true)
 both_true true b h = (refl, h)
@@ -70,7 +71,7 @@ end_follows j g chosen p q m k w c vs s b x hs (Some t) there is l plain way sho
       moved g chosen p q m (with_memory (own (result k)) chosen m) (Havoc (own (result k)) t 1) k (end_place g.program k) (work.Leave c) vs (with_numbers (result k) chosen s) (is_in_scope (result k) (end_place g.program k).scope) x hs
       z.there (ap (λ y. if y then steps.To (with_memory (own (result k)) chosen m) else steps.Wants t 1) choice) (refl, z.shown) (plain, way, shown, caller)
       (means_apart (own (result k)) chosen m hs vs z.apart e) (ap (with_numbers (result k) chosen) same)
-      (fits_written g.program (result k) chosen s (λ n j. subst (λ (v : Kind). Fitting v chosen) (kind_is g.program (result k) (scalar t) n (there, t, is, refl) j) (one, a.1)) f)
+      (fits_written g.program (result k) chosen s (λ n j. subst (λ (v : Kind). Fitting v chosen) (kind_is g.program (result k) (scalar_kind t) n (there, t, is, refl) j) (one, a.1)) f)
 
   by : (y : Bool) → EndedBy g k y (Some t) p q hs
       → Answers g chosen k j p m (if y then meaning.writes (config k (end_place g.program k) w vs s b) (result k) (pos 0 ∷ []) (work.Leave c) vs

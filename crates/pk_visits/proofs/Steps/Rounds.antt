@@ -1,7 +1,7 @@
 -- From the work of a loop to that of its test and body.
 use Rattle.std.proofs.Common.{◌≡◌, ℕ, ◌+◌, ◌≤◌, List, ◌++◌, length, refl, sym, ◌∙◌, subst, inr, arith, inl}
 use Rattle.pk_ctypes.specs.declared.places.Pos.{Pos}
-use Rattle.pk_typed.specs.Trees.{ValueTree, EffectTree, StatementTree}
+use Rattle.pk_typed.specs.Trees.{ValueTree, StatementTree}
 use Rattle.pk_typed.specs.Trees as tree
 use Rattle.pk_welltyped.specs.Listed.{Numbered, calls_in, calls_in_statement}
 use Rattle.pk_welltyped.specs.WellTyped.{IsStatement}
@@ -13,7 +13,7 @@ use Rattle.pk_lower_expression.specs.Expressions.{ways}
 use Rattle.pk_lower_statement.specs.declared.statements.Exits.{Exits}
 use Rattle.pk_lower_statement.specs.Statements.{inside, while_from, do_from, loop_begun, lowered}
 use Rattle.pk_meaning.specs.Work as work
-use Rattle.pk_meaning.specs.Work.{Place, Work, Ahead, Loop, Onward, While, DoWhile}
+use Rattle.pk_meaning.specs.Work.{Place, Ahead, Loop, Onward, While, DoWhile}
 use Rattle.pk_meaning.specs.Steps.{place}
 use Rattle.pk_visits.proofs.Slots.{Draft, Among, edge, last_among, Keeps, Uncalled}
 use Rattle.pk_visits.proofs.Stands.{Whole, Proper, context_of, Held, ArePlain, ShowsAt, Stage, Loops, ContinuesAt, LaidAhead, Laid, IsCalled}

@@ -10,7 +10,7 @@ use Rattle.pk_draft.specs.declared.drafts.Size.{Size}
 use Rattle.pk_lower_statement.specs.declared.statements.Exits.{Exits}
 use Rattle.pk_lower_statement.specs.Statements.{inside, for_test, performed_if, lowered}
 use Rattle.pk_meaning.specs.Work as work
-use Rattle.pk_meaning.specs.Work.{Place, Work, Ahead, For, Onward}
+use Rattle.pk_meaning.specs.Work.{Place, Ahead, For, Onward}
 use Rattle.pk_meaning.specs.Steps as meaning
 use Rattle.pk_meaning.specs.Steps.{place}
 use Rattle.pk_visits.proofs.Settled.Trees.{Settles}

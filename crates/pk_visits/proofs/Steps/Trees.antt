@@ -5,11 +5,11 @@ use Rattle.pk_ctypes.specs.declared.types.IntType.{IntType}
 use Rattle.pk_ctypes.specs.declared.types.Op.{Op}
 use Rattle.pk_typed.specs.declared.values.Variable.{Variable}
 use Rattle.pk_typed.specs.declared.values.Variable.TheVariants.{File, Local}
-use Rattle.pk_typed.specs.Trees.{PlaceTree, ValueTree, EffectTree}
+use Rattle.pk_typed.specs.Trees.{ValueTree, EffectTree}
 use Rattle.pk_typed.specs.Trees as tree
 use Rattle.pk_typed.specs.Types.{type_of}
 use Rattle.pk_welltyped.specs.Listed.{Numbered, calls_at_place, calls_in, calls_in_effect}
-use Rattle.pk_welltyped.specs.WellTyped.{Kind, scalar, IsObject, IsPlace, IsValue, IsEffect}
+use Rattle.pk_welltyped.specs.WellTyped.{IsObject, IsPlace, IsValue, IsEffect}
 use Rattle.pk_graph.specs.Trees.{variable, Set}
 use Rattle.pk_draft.specs.Drafts.{emit}
 use Rattle.pk_draft.specs.Folding.{conversion, updated_tree}
@@ -18,7 +18,6 @@ use Rattle.pk_lower_row.specs.Shapes.{makes, makes_effect, strong_if}
 use Rattle.pk_lower_row.specs.declared.shapes.Waiting.TheVariants.{Strong}
 use Rattle.pk_lower_row.specs.Contexts.{variable_of, site}
 use Rattle.pk_lower_row.specs.Rows as rows
-use Rattle.pk_lower_row.specs.Rows.{one_tree}
 use Rattle.pk_lower_expression.specs.Expressions.{target, ways, performed}
 use Rattle.pk_lower_statement.specs.declared.statements.Exits.{Exits}
 use Rattle.pk_meaning.specs.Programs.{object_of}
@@ -32,6 +31,7 @@ use Rattle.pk_visits.proofs.Stands.{Whole, context_of, Held, held, around, AreCa
 use Rattle.pk_visits.proofs.Stages.{ways_grow, effect_grows, stage_first, stage_second, stage_until, stage_edge}
 use Rattle.pk_visits.proofs.Operands.{UnlessLoose, all_own, calm_more, two_laid}
 use Rattle.pk_visits.proofs.Doom.{calm_plain}
+use Rattle.pk_graph.specs.Kinds.{Kind, scalar_kind}
 
 -- the names of a draft at which a stage begins
 pub stage_names : (g : Whole) (k : ℕ) (h : Place) (xs : List Numbered) (C : ℕ → Size → Type 0) (d f : Draft) → Stage g k h xs d f → Grows C d f → d.names ≡ slots
@@ -71,7 +71,7 @@ pub scalar_laid : (g : Whole) (k : ℕ) (h : Place) (x : Exits) (t : IntType) (y
     → IsScalar g (object_of k y) t × Laid g k h x w p (held (variable (own (object_of k y))) t ∷ hs)
 unfolding target ways IsPlace IsValue calls_at_place calls_in type_of
 scalar_laid g k h x t y w p hs (d, n, at, fits, quiet, s, l) = (
-  has_kind g k n (scalar t) y s.path fits,
+  has_kind g k n (scalar_kind t) y s.path fits,
   subst (λ q. Laid g k h x w q (held (variable (own (object_of k y))) t ∷ hs)) at
       (subst (λ u. Laid g k h x w d.point (held (variable u) t ∷ hs)) (variable_is (context_of g k) y d s.leads.names) l),
 )
@@ -150,7 +150,7 @@ assign_laid g k h x at t y e w p hs (d, n, is, fits, quiet, s, l) =
       stage_until g k h _ d r.1 f s last,
       (
         r.1.points,
-        has_kind g k n (scalar t) y s.path fits.0,
+        has_kind g k n (scalar_kind t) y s.path fits.0,
         writes_scalar g k h d.variables y (λ u. conversion (type_of e) t r.0) d r.1 hs _ ns s ge (quiet refl),
         subst (λ u. Laid g k h x w r.1.points (held (variable u) t ∷ hs)) (variable_is c y d ns) l,
       ),
@@ -173,7 +173,7 @@ update_laid g k h x op at o t y e w p hs (d, n, is, fits, quiet, s, l) =
       stage_until g k h _ d r.1 (emit i r.1) s (emit_grows Uncalled i r.1),
       (
         r.1.points,
-        has_kind g k n (scalar t) y s.path fits.1,
+        has_kind g k n (scalar_kind t) y s.path fits.1,
         writes_scalar g k h d.variables y (λ u. updated_tree op (site c at) o t (type_of e) (variable u) r.0) d r.1 hs _ ns s ge (quiet refl),
         subst (λ u. Laid g k h x w r.1.points (held (variable u) t ∷ hs)) (variable_is c y d ns) l,
       ),

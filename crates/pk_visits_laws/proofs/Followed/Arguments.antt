@@ -10,17 +10,17 @@ use Rattle.pk_typed.specs.Trees.{LocalTree, FileObjectTree, StartTree, scalar_st
 use Rattle.pk_calls.specs.declared.listings.CallPath.{CallPath}
 use Rattle.pk_calls.specs.Calls.{body_of}
 use Rattle.pk_calls.specs.Paths.{entry_path}
-use Rattle.pk_graph.specs.Kinds.{count_of}
+use Rattle.pk_graph.specs.Kinds.{count_of, Kind, scalar_kind}
 use Rattle.pk_graph.specs.Steps.{Numbers, all_in_type}
-use Rattle.pk_welltyped.specs.WellTyped.{Kind, scalar, kind_among, length_at_start, IsStart, IsUnit}
+use Rattle.pk_welltyped.specs.WellTyped.{kind_among, IsStart, IsUnit}
 use Rattle.pk_meaning.specs.Objects.{Object, file, local, result, Objects, numbers_of, with_numbers}
-use Rattle.pk_meaning.specs.Programs as program
 use Rattle.pk_meaning.specs.Programs.{Program, block_of, start_of, zeros_of, first_objects}
 use Rattle.pk_meaning.specs.Runs.{with_arguments}
 use Rattle.pk_visits.proofs.Stands.{HasKind, FitsObjects}
 use Rattle.pk_visits.proofs.Stores.{same_object, other_object}
 use Rattle.pk_visits.proofs.Follow.{kind_is}
 use Rattle.pk_visits_laws.proofs.Followed.Basics.{some_at, all_get}
+use Rattle.pk_typed.specs.Defaults.{no_body, length_of_start}
 
 -- ---- arguments of the entry
 
@@ -95,7 +95,7 @@ numbers_in : (t : IntType) (zs ys : Numbers) → All (InType t) zs → all_in_ty
 numbers_in t [] ys h k = k
 numbers_in t (z ∷ zs) ys h k = ap (λ (b : Bool). b && all_in_type t (zs ++ ys)) (in_type_test t z (h 0 z (omega arith))) ∙ numbers_in t zs ys (λ i d l. h (suc i) d (omega (l, arith))) k
 
-start_fits : (t : IntType) (s : StartTree) → IsStart t s → (length (start_of s) ≡ count_of (length_at_start s)) × (all_in_type t (start_of s) ≡ true)
+start_fits : (t : IntType) (s : StartTree) → IsStart t s → (length (start_of s) ≡ count_of (length_of_start s)) × (all_in_type t (start_of s) ≡ true)
 start_fits t (scalar_start z) h = (refl, ap (λ (b : Bool). b && true) (in_type_test t z h))
 start_fits t (array_start n zs) h =
     let k = h.0 in
@@ -111,7 +111,7 @@ mapped f (y ∷ xs) (suc i) d x e = mapped f xs i d x e
 -- ---- the first objects fit
 
 abbrev first_locals : UnitTree → CallPath → List LocalTree
-first_locals u q = (unwrap_or (body_of u q.function) program.no_body).locals
+first_locals u q = (unwrap_or (body_of u q.function) no_body).locals
 
 block_at : (u : UnitTree) (paths : List CallPath) (k : ℕ) (q : CallPath) → slice_get paths k ≡ Some q → (block_of (record { unit = u; paths = paths }) k).locals ≡ first_locals u q
 block_at u paths k q e = ap (λ (r : CallPath). first_locals u r) (get_or_from_slice_get paths k q (entry_path 0) e)
@@ -143,9 +143,9 @@ first_zeros u paths k i n h = by (slice_get (first_locals u q.0) i) refl where
 pub first_fits : (u : UnitTree) (paths : List CallPath) → IsUnit u → FitsObjects (record { unit = u; paths = paths }) (first_objects (record { unit = u; paths = paths }))
 first_fits u paths unit (file i) n h = by (slice_get u.objects i) refl where
   by : (o : Option FileObjectTree) → slice_get u.objects i ≡ o → (length (numbers_of (file i) (first_objects (record { unit = u; paths = paths }))) ≡ count_of n.length) × (all_in_type n.int_type (numbers_of (file i) (first_objects (record { unit = u; paths = paths }))) ≡ true)
-  by None e = absurd (none-some n (sym (ap (option_map (λ (x : FileObjectTree). record { int_type = x.int_type; length = length_at_start x.start })) e) ∙ h))
+  by None e = absurd (none-some n (sym (ap (option_map (λ (x : FileObjectTree). record { int_type = x.int_type; length = length_of_start x.start })) e) ∙ h))
   by (Some x) e =
-      let is : Some (record { int_type = x.int_type; length = length_at_start x.start }) ≡ Some n = sym (ap (option_map (λ (y : FileObjectTree). record { int_type = y.int_type; length = length_at_start y.start })) e) ∙ h in
+      let is : Some (record { int_type = x.int_type; length = length_of_start x.start }) ≡ Some n = sym (ap (option_map (λ (y : FileObjectTree). record { int_type = y.int_type; length = length_of_start y.start })) e) ∙ h in
       let f = start_fits x.int_type x.start (all_get (λ (y : FileObjectTree). IsStart y.int_type y.start) u.objects i x unit.objects e) in
       let same = first_file u paths i x e in (
         ap length same ∙ (f.0 ∙ ap (λ (m : Option Kind). count_of (unwrap_or m n).length) is),
@@ -162,7 +162,7 @@ first_fits u paths unit (result k) n h =
     )
 
 -- and so do the objects with the arguments
-pub given_fits : (p : Program) (ts : List IntType) (s o : Objects) → Given 0 ts s o → ((j : ℕ) (t : IntType) → slice_get ts j ≡ Some t → HasKind p (local 0 j) (scalar t)) → FitsObjects p s → FitsObjects p o
+pub given_fits : (p : Program) (ts : List IntType) (s o : Objects) → Given 0 ts s o → ((j : ℕ) (t : IntType) → slice_get ts j ≡ Some t → HasKind p (local 0 j) (scalar_kind t)) → FitsObjects p s → FitsObjects p o
 given_fits p ts s o g k f (file i) n h = subst (λ (zs : Numbers). (length zs ≡ count_of n.length) × (all_in_type n.int_type zs ≡ true)) (sym (g.files i)) (f (file i) n h)
 given_fits p ts s o g k f (result m) n h = subst (λ (zs : Numbers). (length zs ≡ count_of n.length) × (all_in_type n.int_type zs ≡ true)) (sym (g.results m)) (f (result m) n h)
 given_fits p ts s o g k f (local m i) n h = by m refl (slice_get ts i) refl where
@@ -175,8 +175,8 @@ given_fits p ts s o g k f (local m i) n h = by m refl (slice_get ts i) refl wher
   by zero e (Some t) is =
       let at : 0 + i ≡ i = omega arith in
       let h0 : HasKind p (local 0 i) n = subst (λ (x : ℕ). HasKind p (local x i) n) e h in
-      let kind : scalar t ≡ n = kind_is p (local 0 i) (scalar t) n (k i t is) h0 in
-      let size = (f (local 0 i) (scalar t) (k i t is)).0 in
+      let kind : scalar_kind t ≡ n = kind_is p (local 0 i) (scalar_kind t) n (k i t is) h0 in
+      let size = (f (local 0 i) (scalar_kind t) (k i t is)).0 in
       let there : 0 < length (numbers_of (local 0 (0 + i)) s) = subst (λ (x : ℕ). 0 < length (numbers_of (local 0 x) s)) (sym at) (omega (size, arith)) in
       let z = g.given i t is there in
       let same : numbers_of (local m i) o ≡ z.0 ∷ [] = ap (λ (x : ℕ). numbers_of (local x i) o) e ∙ (ap (λ (x : ℕ). numbers_of (local 0 x) o) (sym at) ∙ z.1) in

@@ -12,7 +12,7 @@ use Rattle.pk_lower_laws.proofs.Drafts.Places.{HasIf, ResultIs}
 use Rattle.pk_lower_laws.proofs.Drafts.Drafts.{function_from}
 use Rattle.pk_lower_laws.proofs.Drafts.Each.{objects_of}
 use Rattle.pk_meaning.specs.Objects.{Object, file, local, result}
-use Rattle.pk_visits.proofs.Slots.{Slot, own, temporary, Among}
+use Rattle.pk_visits.proofs.Slots.{Slot, own, temporary, Among, front_among as front}
 use Rattle.pk_visits_laws.proofs.Followed.Pairs.{whole, ends_of, pair_table, world, AreTyped}
 use Rattle.pk_visits_laws.proofs.Followed.Naming.{naming, Made, returns_is, is_naming}
 use Rattle.pk_visits_laws.proofs.Followed.Copies.{local_made, file_made}
@@ -37,11 +37,6 @@ paths_below u paths (suc k) = locals_below k (ends_of u paths k).objects ++ (res
 
 all_objects : UnitTree → List CallPath → List Object
 all_objects u paths = files_below (length u.objects) ++ paths_below u paths (length paths)
-
-front : {A : Type 0} (xs ys : List A) (x : A) → Among x xs → Among x (xs ++ ys)
-front [] ys x h = absurd h
-front (y ∷ xs) ys x (inl e) = inl e
-front (y ∷ xs) ys x (inr h) = inr (front xs ys x h)
 
 back : {A : Type 0} (xs ys : List A) (x : A) → Among x ys → Among x (xs ++ ys)
 back [] ys x h = h

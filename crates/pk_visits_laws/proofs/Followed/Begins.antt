@@ -13,7 +13,7 @@ use Rattle.pk_draft.specs.declared.drafts.Label.{Label}
 use Rattle.pk_draft.specs.declared.drafts.Region.{Region}
 use Rattle.pk_draft.specs.Drafts.{DraftOf, file_scopes}
 use Rattle.pk_calls.specs.declared.listings.Caller.{Caller}
-use Rattle.pk_lower_row.specs.Contexts.{Context, no_local, local_at, parameters_of}
+use Rattle.pk_lower_row.specs.Contexts.{Context, local_at, parameters_of}
 use Rattle.pk_lower.specs.Parts as part
 use Rattle.pk_lower.specs.Parts.{file_variable, begun, all_introduced, with_result}
 use Rattle.pk_meaning.specs.Objects.{Object, file}
@@ -41,6 +41,7 @@ use Rattle.pk_visits_laws.proofs.Followed.Bodies.{part_closes, rest_adds}
 use Rattle.pk_visits_laws.proofs.Followed.BodyStages.{IsWholeOf}
 use Rattle.pk_visits_laws.proofs.Followed.BodyEnds.{items_grow}
 use Rattle.pk_visits_laws.proofs.Followed.BodiesStand.{region_stays}
+use Rattle.pk_typed.specs.Defaults.{no_local}
 
 -- ---- the file's objects
 

@@ -1,6 +1,5 @@
 -- How the lowering of a path's body goes on to the whole graph: which points later parts place again, which regions they take.
 use Rattle.std.proofs.Common.{◌≡◌, ℕ, zero, suc, ◌+◌, ◌<◌, ◌≤◌, ◌⊎◌, inl, inr, List, [], ◌++◌, length, ap, sym, subst, ◌∙◌, arith}
-use Rattle.std.specs.Prelude.{slice_set, Option}
 use Rattle.std.proofs.lemmas.List.{get_or_past}
 use Rattle.pk_calls.specs.declared.listings.CallPath.{CallPath}
 use Rattle.pk_calls.specs.Calls.{calls_of}
@@ -15,7 +14,7 @@ use Rattle.pk_visits.proofs.Stands.{Whole, Leads}
 use Rattle.pk_visits.proofs.Grows.Parts.{closed_adds}
 use Rattle.pk_visits.proofs.Numbered.Names.{names_by, draft_by}
 use Rattle.pk_visits_laws.proofs.Followed.Basics.{either_is, split}
-use Rattle.pk_visits_laws.proofs.Followed.PartAdds.{context_at, part_at, body_begun, body_exit, body_ended, body_closed, closed_is}
+use Rattle.pk_visits_laws.proofs.Followed.PartAdds.{context_at, part_at, body_begun, body_exit, body_ended, closed_is}
 use Rattle.pk_visits_laws.proofs.Followed.Pending.{IsOutside, PartsAdd, parts_add, PathAt, next_part}
 use Rattle.pk_visits_laws.proofs.Followed.KeptPoints.{kept_points, keeps_point, listed_or_not}
 

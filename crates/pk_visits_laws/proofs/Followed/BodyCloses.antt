@@ -13,7 +13,7 @@ use Rattle.pk_meaning.specs.Objects.{Scope, result}
 use Rattle.pk_meaning.specs.Programs.{function_of, block_of, body_scope}
 use Rattle.pk_meaning.specs.Steps.{place, body_place}
 use Rattle.pk_lower_laws.proofs.Drafts.Plans.{World, Draft, Lasting}
-use Rattle.pk_visits.proofs.Slots.{Slot, own, slots, Edge, edge, Among, label_at, front_among, last_among, Uncalled}
+use Rattle.pk_visits.proofs.Slots.{Slot, own, Edge, edge, Among, label_at, front_among, last_among, Uncalled}
 use Rattle.pk_visits.proofs.Grows.Statements.{fresh_grows}
 use Rattle.pk_visits.proofs.Stands.{Whole, Held, AreCalm, EndedBy, Ended, end_place}
 use Rattle.pk_visits.proofs.Doom.{calm_plain}

@@ -8,7 +8,7 @@ use Rattle.pk_draft.specs.declared.drafts.Size.{Size}
 use Rattle.pk_draft.specs.Drafts.{DraftOf, fresh}
 use Rattle.pk_lower.specs.Parts as part
 use Rattle.pk_lower_laws.proofs.Drafts.Plans.{World, Draft, size_of, Lasting, PathIs}
-use Rattle.pk_visits.proofs.Slots.{Slot, Among, Takes, label_at, region_at, Uncalled}
+use Rattle.pk_visits.proofs.Slots.{Slot, Takes, label_at, region_at, Uncalled}
 use Rattle.pk_visits.proofs.Grows.Statements.{Enlarges, Free, upto, upto_from, upto_has, fresh_grows, block}
 use Rattle.pk_visits.proofs.Stages.{all_called}
 use Rattle.pk_visits.proofs.Stands.{Whole, IsCalled, Marking}

@@ -157,10 +157,6 @@ other_copied u paths p (Check s e) h = absurd h
 
 -- ---- names in scope
 
--- each variable that a chain of scopes has is an entry's
-in_lists : (P : ℕ → Type 0) (ls : List (List ℕ)) (k y : ℕ) → ((i z : ℕ) → Among z (slice_index_or ls i []) → P z) → Among y (slice_index_or ls k []) → P y
-in_lists P ls k y h a = h k y a
-
 lists_more : (P : ℕ → Type 0) (ls : List (List ℕ)) (xs : List ℕ) → ((i z : ℕ) → Among z (slice_index_or ls i []) → P z) → ((z : ℕ) → Among z xs → P z) → (i z : ℕ) → Among z (slice_index_or (ls ++ xs ∷ []) i []) → P z
 lists_more P [] xs h f zero z a = f z a
 lists_more P [] xs h f (suc i) z a = absurd a

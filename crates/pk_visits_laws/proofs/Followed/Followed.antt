@@ -12,7 +12,7 @@ use Rattle.pk_meaning.specs.Objects.{Objects}
 use Rattle.pk_meaning.specs.Programs.{Program, function_of, first_objects}
 use Rattle.pk_meaning.specs.Steps.{Config, body_place}
 use Rattle.pk_meaning.specs.Runs.{Visit, with_arguments, begins, start}
-use Rattle.pk_visits.specs.SameVisits.{ProgramVisits, GraphVisits, graph_of}
+use Rattle.pk_visits.specs.SameVisits.{ProgramVisits, GraphVisits}
 use Rattle.pk_visits.proofs.Slots.{region_at}
 use Rattle.pk_visits.proofs.Stands.{Whole, ShowsAt, FitsObjects, BodyOf, BodiesStand, StandsAt}
 use Rattle.pk_visits.proofs.Journeys.{law}
@@ -27,6 +27,7 @@ use Rattle.pk_visits_laws.proofs.Followed.Propers.{is_proper}
 use Rattle.pk_visits_laws.proofs.Followed.Arguments.{Given, arguments_given, first_fits, given_fits}
 use Rattle.pk_visits_laws.proofs.Followed.Starting.{starts_with}
 use Rattle.pk_draft.specs.Drafts.{entry_point}
+use Rattle.pk_lower.specs.Graphs.{graph_of}
 
 -- a run begins with objects, and these are the first with the arguments
 pub record BeginsAt (p : Program) (first : Config) : Type 0 where

@@ -5,7 +5,7 @@ use Rattle.pk_calls.specs.declared.listings.CallPath.{CallPath}
 use Rattle.pk_draft.specs.declared.drafts.Label.{Label}
 use Rattle.pk_draft.specs.Drafts.{DraftOf, by_number}
 use Rattle.pk_lower_row.specs.Contexts.{size_in}
-use Rattle.pk_lower.specs.Parts.{sizes_of, program_draft, nowhere_in_text}
+use Rattle.pk_lower.specs.Parts.{sizes_of, program_draft}
 use Rattle.pk_meaning.specs.Objects.{Object, file, local, result}
 use Rattle.pk_meaning.specs.Programs.{Program, function_number}
 use Rattle.pk_meaning.specs.Work.{Place}
@@ -15,6 +15,7 @@ use Rattle.pk_visits.proofs.Numbered.Copies.{IsShown}
 use Rattle.pk_visits_laws.proofs.Followed.Paths.{first_of}
 use Rattle.pk_visits_laws.proofs.Followed.Pairs.{ends_of}
 use Rattle.pk_visits_laws.proofs.Followed.Naming.{naming, Made}
+use Rattle.pk_typed.specs.Defaults.{nowhere_in_text}
 
 abbrev pub program_of : UnitTree → List CallPath → Program
 program_of u paths = record { unit = u; paths = paths }

@@ -9,7 +9,7 @@ use Rattle.pk_calls.specs.declared.listings.CallPath.{CallPath}
 use Rattle.pk_calls.specs.Calls.{HasBody}
 use Rattle.pk_calls.specs.Paths.{entry_path, IsListing}
 use Rattle.pk_calls.specs.Laws.{AreCallPaths}
-use Rattle.pk_graph.specs.Kinds.{kind_at}
+use Rattle.pk_graph.specs.Kinds.{kind_at, Kind}
 use Rattle.pk_graph.specs.Graphs.{VariableOf}
 use Rattle.pk_draft.specs.Drafts.{Names, DraftOf, by_number, inner}
 use Rattle.pk_lower_row.specs.Contexts.{parameters_of}
@@ -72,7 +72,7 @@ pub record IsLocal (u : UnitTree) (paths : List CallPath) (k i x : ℕ) : Type 0
   pub number : x ≡ (ends_of u paths k).numbers i
   pub path : k < length paths
   pub declared : i < (ends_of u paths k).objects
-  pub kind : good.Kind
+  pub kind : Kind
   pub is : good.kind_among (locals_at u paths k) i ≡ Some kind
   pub final : (final u paths x ≡ inner_object (locals_at u paths k) k i) ⊎ (IsOutside u paths k i × (final u paths x ≡ outer_object (locals_at u paths k) k i))
 
@@ -133,7 +133,7 @@ world u paths = record {
 pub function_at_path : (paths : List CallPath) (k : ℕ) (p : CallPath) → slice_get paths k ≡ Some p → function_from paths k ≡ p.function
 function_at_path paths k p h = ap (λ (q : CallPath). q.function) (get_or_from_slice_get paths k p (entry_path 0) h)
 
-own_local : (u : UnitTree) (paths : List CallPath) (k n l q : ℕ) (p : CallPath) (i : ℕ) (h : good.Kind) (x : VariableOf) → slice_get paths k ≡ Some p → i < (ends_of u paths k).objects → good.kind_among (body_at u p.function).locals i ≡ Some h
+own_local : (u : UnitTree) (paths : List CallPath) (k n l q : ℕ) (p : CallPath) (i : ℕ) (h : Kind) (x : VariableOf) → slice_get paths k ≡ Some p → i < (ends_of u paths k).objects → good.kind_among (body_at u p.function).locals i ≡ Some h
     → IsOwn (place (world u paths) k n p.function l q) ((ends_of u paths k).numbers i) x → IsObjectOf (place (world u paths) k n p.function l q) i x → IsLocal u paths k i ((ends_of u paths k).numbers i)
 own_local u paths k n l q p i h x at below kind o b =
     let f = function_at_path paths k p at in

@@ -12,10 +12,11 @@ use Rattle.pk_calls.specs.Paths.{entry_path, path_by, paths_by, longer, IsListin
 use Rattle.pk_welltyped.specs.Listed.{Numbered, numbered, calls_in_items}
 use Rattle.pk_lower_laws.proofs.Drafts.Plans.{World, PathIs, its_body}
 use Rattle.pk_lower_laws.proofs.Drafts.Wholes.{Paths}
-use Rattle.pk_meaning.specs.Programs as program
-use Rattle.pk_meaning.specs.Programs.{Program, is_by, number_by, callee, function_number, function_of, block_of}
+use Rattle.pk_meaning.specs.Programs.{is_by, number_by, callee, function_number, function_of, block_of}
 use Rattle.pk_visits.proofs.Slots.{Among}
 use Rattle.pk_visits_laws.proofs.Followed.Basics.{both_true, number_is}
+use Rattle.pk_typed.specs.Defaults.{no_body, no_function}
+use Rattle.pk_lower_laws.proofs.Drafts.Listings.{by_many}
 
 -- the path that the first call of each listed path leads to
 abbrev pub firsts_from : UnitTree → ℕ → List CallPath → List ℕ
@@ -46,10 +47,6 @@ by_caller a m (x ∷ cs) zero q k c e h =
     let same : Some (record { path = a; call = m }) ≡ Some (record { path = k; call = c }) = ap (λ (o : Option CallPath). (unwrap_or o q).caller) e ∙ h in
     (sym (ap (λ (o : Option Caller). (unwrap_or o (record { path = a; call = m })).path) same), sym (ap (λ (o : Option Caller). (unwrap_or o (record { path = a; call = m })).call) same) ∙ omega arith)
 by_caller a m (x ∷ cs) (suc j) q k c e h = let r = by_caller a (m + 1) cs j q k c e h in let z = r.1 in (r.0, omega (z, arith))
-
-by_many : (k m : ℕ) (cs : List CallSite) → length (paths_by k m cs) ≡ length cs
-by_many k m [] = refl
-by_many k m (c ∷ cs) = ap suc (by_many k (m + 1) cs)
 
 either_list : {A : Type 0} (xs ys : List A) (j : ℕ) (q : A) → slice_get (xs ++ ys) j ≡ Some q → ((j < length xs) × (slice_get xs j ≡ Some q)) ⊎ ((i : ℕ) × (j ≡ length xs + i) × (slice_get ys i ≡ Some q))
 either_list [] ys j q e = inr (j, omega arith, e)
@@ -131,12 +128,12 @@ function_there W k n p h = ap (λ (q : CallPath). q.function) (get_or_from_slice
 
 pub function_is : (W : World) (k n : ℕ) (p : CallPath) (h : PathIs W k n p) → function_of (record { unit = W.unit; paths = W.paths }) k ≡ h.function
 function_is W k n p h =
-    ap (λ (i : ℕ). slice_index_or W.unit.functions i program.no_function) (function_there W k n p h) ∙ get_or_from_slice_get W.unit.functions p.function h.function program.no_function h.there
+    ap (λ (i : ℕ). slice_index_or W.unit.functions i no_function) (function_there W k n p h) ∙ get_or_from_slice_get W.unit.functions p.function h.function no_function h.there
 
 pub block_is : (W : World) (k n : ℕ) (p : CallPath) (h : PathIs W k n p) → block_of (record { unit = W.unit; paths = W.paths }) k ≡ h.body
 block_is W k n p h =
-    ap (λ (i : ℕ). unwrap_or (Rattle.pk_calls.specs.Calls.body_of W.unit i) program.no_body) (function_there W k n p h)
-    ∙ ap (λ (o : Option BodyTree). unwrap_or o program.no_body) (its_body W.unit p.function h.function h.body h.there h.has)
+    ap (λ (i : ℕ). unwrap_or (Rattle.pk_calls.specs.Calls.body_of W.unit i) no_body) (function_there W k n p h)
+    ∙ ap (λ (o : Option BodyTree). unwrap_or o no_body) (its_body W.unit p.function h.function h.body h.there h.has)
 
 -- a call among those that are numbered from n on
 pub numbered_at : (n : ℕ) (cs : List CallSite) (z : Numbered) → Among z (numbered n cs) → (i : ℕ) × (z.number ≡ n + i) × (slice_get cs i ≡ Some z.call)

@@ -10,9 +10,9 @@ use Rattle.pk_graph.specs.declared.graphs.Scope.{Scope}
 use Rattle.pk_graph.specs.Graphs.{VariableOf, no_variable, scope_at, chained}
 use Rattle.pk_draft.specs.declared.drafts.Label.{Label}
 use Rattle.pk_draft.specs.Drafts.{DraftOf}
-use Rattle.pk_lower_row.specs.Contexts.{no_local, parameters_of}
+use Rattle.pk_lower_row.specs.Contexts.{parameters_of}
 use Rattle.pk_lower.specs.Parts.{body_at}
-use Rattle.pk_welltyped.specs.WellTyped.{kind_among, scalar}
+use Rattle.pk_welltyped.specs.WellTyped.{kind_among}
 use Rattle.pk_meaning.specs.Objects.{Object, file, local, result, is_same}
 use Rattle.pk_meaning.specs.Objects as objects
 use Rattle.pk_meaning.specs.Programs.{function_of, block_of, name_of}
@@ -31,6 +31,8 @@ use Rattle.pk_visits_laws.proofs.Followed.Naming.{naming, Made}
 use Rattle.pk_visits_laws.proofs.Followed.Graphs.{program_of, by_numbers, over_slots, IsOf, Shows, graph}
 use Rattle.pk_visits_laws.proofs.Followed.Copies.{slots_are, numbers_are, local_made}
 use Rattle.pk_visits_laws.proofs.Followed.Starts.{locals_same}
+use Rattle.pk_typed.specs.Defaults.{no_local}
+use Rattle.pk_graph.specs.Kinds.{scalar_kind}
 
 -- ---- scopes
 
@@ -152,18 +154,18 @@ enters u paths h l k i n j s b c e =
 
 -- ---- parameters
 
-parameter_kind : (xs : List LocalTree) (j : ℕ) (ts : List IntType) → ParametersAt xs j ts → (i : ℕ) (t : IntType) → slice_get ts i ≡ Some t → kind_among xs (j + i) ≡ Some (scalar t)
+parameter_kind : (xs : List LocalTree) (j : ℕ) (ts : List IntType) → ParametersAt xs j ts → (i : ℕ) (t : IntType) → slice_get ts i ≡ Some t → kind_among xs (j + i) ≡ Some (scalar_kind t)
 parameter_kind xs j [] h i t e = absurd (none-some t e)
 parameter_kind xs j (u ∷ ts) h zero t e =
     let at : j + zero ≡ j = omega arith in
-    ap (kind_among xs) at ∙ (h.0 ∙ ap (λ (o : Option IntType). Some (scalar (unwrap_or o u))) e)
+    ap (kind_among xs) at ∙ (h.0 ∙ ap (λ (o : Option IntType). Some (scalar_kind (unwrap_or o u))) e)
 parameter_kind xs j (u ∷ ts) h (suc i) t e = let at : j + suc i ≡ j + 1 + i = omega arith in ap (kind_among xs) at ∙ parameter_kind xs (j + 1) ts h.1 i t e
 
 pub its_types : (u : UnitTree) (paths : List CallPath) (m : ℕ) (p : PartOf (world u paths) (whole u paths) m) → (function_of (program_of u paths) m).parameters ≡ parameters_of u p.path.function
 its_types u paths m p =
     ap (λ (g : FunctionTree). g.parameters) (function_is (world u paths) m p.first p.path p.place) ∙ sym (ap (λ (o : Option FunctionTree). unwrap_or (option_map (λ (g : FunctionTree). g.parameters) o) []) p.place.there)
 
-pub parameter_there : (u : UnitTree) (paths : List CallPath) (h : AreTyped u paths) (m i : ℕ) (t : IntType) → m < length paths → slice_get (function_of (program_of u paths) m).parameters i ≡ Some t → HasKind (program_of u paths) (local m i) (scalar t)
+pub parameter_there : (u : UnitTree) (paths : List CallPath) (h : AreTyped u paths) (m i : ℕ) (t : IntType) → m < length paths → slice_get (function_of (program_of u paths) m).parameters i ≡ Some t → HasKind (program_of u paths) (local m i) (scalar_kind t)
 parameter_there u paths h m i t b e =
     let p = h.parts m b in
     let at : 0 + i ≡ i = omega arith in

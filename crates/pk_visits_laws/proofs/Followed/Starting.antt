@@ -6,15 +6,14 @@ use Rattle.pk_ctypes.specs.declared.types.IntType.{IntType}
 use Rattle.pk_typed.specs.Trees.{LocalTree, FileObjectTree, StartTree, scalar_start, array_start, UnitTree}
 use Rattle.pk_calls.specs.declared.listings.CallPath.{CallPath}
 use Rattle.pk_calls.specs.Paths.{entry_path, longer, IsListing}
-use Rattle.pk_graph.specs.Kinds.{Kind, count_of}
+use Rattle.pk_graph.specs.Kinds.{Kind, count_of, scalar_kind}
 use Rattle.pk_graph.specs.Graphs.{VariableOf, StartOf, any_start, number_start, no_variable}
 use Rattle.pk_graph.specs.Steps.{Numbers, are_any}
 use Rattle.pk_draft.specs.Drafts.{DraftOf}
 use Rattle.pk_lower_row.specs.Contexts.{parameters_of}
 use Rattle.pk_lower.specs.Parts.{body_at, file_variable, start_of_object}
 use Rattle.pk_graph_step.specs.Beginnings.{BeginsWith}
-use Rattle.pk_welltyped.specs.WellTyped as good
-use Rattle.pk_welltyped.specs.WellTyped.{kind_among, scalar, IsUnit}
+use Rattle.pk_welltyped.specs.WellTyped.{kind_among, IsUnit}
 use Rattle.pk_meaning.specs.Objects.{Object, file, local, result, Objects, numbers_of}
 use Rattle.pk_meaning.specs.Programs.{function_of, start_of, first_objects}
 use Rattle.pk_lower_laws.proofs.Drafts.Places.{inner_object, outer_object, variable_in}
@@ -34,12 +33,13 @@ use Rattle.pk_visits_laws.proofs.Followed.Copies.{numbers_are, named_object}
 use Rattle.pk_visits_laws.proofs.Followed.Propers.{locals_are, its_types, parameter_there}
 use Rattle.pk_visits_laws.proofs.Followed.Arguments.{Given, first_file, first_result, first_zeros, first_fits}
 use Rattle.pk_visits_laws.proofs.Followed.Beginnings.{slot_at, slot_back, slot_told, no_object}
+use Rattle.pk_typed.specs.Defaults.{length_of_start}
 
 -- ---- files
 
 file_begins : (x : FileObjectTree) → BeginsWith (file_variable x) (file_variable x).start (start_of x.start)
 file_begins x = by x.start where
-  by : (s : StartTree) → BeginsWith (record { name = Some x.name; kind = record { int_type = x.int_type; length = Rattle.pk_lower_row.specs.Contexts.length_of_start s }; path = None; start = start_of_object s }) (start_of_object s) (start_of s)
+  by : (s : StartTree) → BeginsWith (record { name = Some x.name; kind = record { int_type = x.int_type; length = length_of_start s }; path = None; start = start_of_object s }) (start_of_object s) (start_of s)
   by (scalar_start z) = refl
   by (array_start n zs) = refl
 
@@ -113,13 +113,13 @@ outer_begins u entry paths unit l h o first i x m b =
     let t = some_at (function_of (program_of u paths) 0).parameters i (subst (λ (ts : List IntType). i < length ts) (sym types) b) in
     let kind = parameter_there u paths h 0 i t.0 m.path t.1 in
     let at : 0 + i ≡ i = omega arith in
-    let size = (first_fits u paths unit (local 0 i) (scalar t.0) kind).0 in
+    let size = (first_fits u paths unit (local 0 i) (scalar_kind t.0) kind).0 in
     let there : 0 < length (numbers_of (local 0 (0 + i)) (first_objects (program_of u paths))) = subst (λ (n : ℕ). 0 < length (numbers_of (local 0 n) (first_objects (program_of u paths)))) (sym at) (omega (size, arith)) in
     let z = first.given.given i t.0 t.1 there in
     let same : numbers_of (local 0 i) o ≡ z.0 ∷ [] = ap (λ (n : ℕ). numbers_of (local 0 n) o) (sym at) ∙ z.1 in
-    let is : m.kind ≡ scalar t.0 = kind_is (program_of u paths) (local 0 i) m.kind (scalar t.0) (local_kind u paths h 0 i x m) kind in
+    let is : m.kind ≡ scalar_kind t.0 = kind_is (program_of u paths) (local 0 i) m.kind (scalar_kind t.0) (local_kind u paths h 0 i x m) kind in
     let k = final_kind u paths h 0 i x m in
-    ap (λ (q : Kind). are_any q.int_type (count_of q.length) (numbers_of (local 0 i) o)) (k ∙ ap (λ (q : good.Kind). record { int_type = q.int_type; length = q.length }) is)
+    ap (λ (q : Kind). are_any q.int_type (count_of q.length) (numbers_of (local 0 i) o)) (k ∙ ap (λ (q : Kind). record { int_type = q.int_type; length = q.length }) is)
     ∙ (ap (λ (zs : Numbers). are_any t.0 1 zs) same ∙ ap (λ (c : Bool). c && true) z.2)
 
 -- a local that is no parameter of the entry holds zeros

@@ -3,8 +3,8 @@ use Rattle.std.proofs.Common.{◌≡◌, ℕ, zero, suc, ◌<◌, List, [], ◌�
 use Rattle.std.specs.Prelude.{slice_get, option_map}
 use Rattle.pk_typed.specs.Trees.{LocalTree, BodyTree, FunctionTree, FileObjectTree, UnitTree, StartTree, scalar_start, array_start}
 use Rattle.pk_calls.specs.declared.listings.CallPath.{CallPath}
-use Rattle.pk_graph.specs.Kinds.{count_of}
-use Rattle.pk_welltyped.specs.WellTyped.{Kind, scalar, kind_among, length_at_start, IsStart, IsUnit}
+use Rattle.pk_graph.specs.Kinds.{count_of, Kind, scalar_kind}
+use Rattle.pk_welltyped.specs.WellTyped.{kind_among, IsStart, IsUnit}
 use Rattle.pk_meaning.specs.Objects.{file, local, result}
 use Rattle.pk_meaning.specs.Programs.{block_of}
 use Rattle.pk_lower.specs.Parts.{body_at}
@@ -16,13 +16,14 @@ use Rattle.pk_visits_laws.proofs.Followed.Paths.{function_is, block_is}
 use Rattle.pk_visits_laws.proofs.Followed.Pairs.{whole, world, AreTyped}
 use Rattle.pk_visits_laws.proofs.Followed.Naming.{Made, ends_many, returns_is}
 use Rattle.pk_visits_laws.proofs.Followed.Graphs.{program_of}
+use Rattle.pk_typed.specs.Defaults.{length_of_start}
 
 -- ---- kinds
 
 file_kind : (xs : List FileObjectTree) (i : ℕ) (x : FileObjectTree) → slice_get xs i ≡ Some x → IsStart x.int_type x.start
-    → (n : Kind) × (option_map (λ (y : FileObjectTree). record { int_type = y.int_type; length = length_at_start y.start }) (slice_get xs i) ≡ Some n) × (0 < count_of n.length)
-file_kind xs i x e h = (record { int_type = x.int_type; length = length_at_start x.start }, ap (option_map (λ (y : FileObjectTree). record { int_type = y.int_type; length = length_at_start y.start })) e, some x.start h) where
-  some : (s : StartTree) → IsStart x.int_type s → 0 < count_of (length_at_start s)
+    → (n : Kind) × (option_map (λ (y : FileObjectTree). record { int_type = y.int_type; length = length_of_start y.start }) (slice_get xs i) ≡ Some n) × (0 < count_of n.length)
+file_kind xs i x e h = (record { int_type = x.int_type; length = length_of_start x.start }, ap (option_map (λ (y : FileObjectTree). record { int_type = y.int_type; length = length_of_start y.start })) e, some x.start h) where
+  some : (s : StartTree) → IsStart x.int_type s → 0 < count_of (length_of_start s)
   some (scalar_start z) h = omega arith
   some (array_start n zs) h = let k = h.2 in omega (k, arith)
 
@@ -49,4 +50,4 @@ have_kinds u paths unit h (local k i) m =
     (kind.0, (m.1.path, subst (λ (xs : List LocalTree). kind_among xs i ≡ Some kind.0) (locals_same u paths k p) kind.1), kind.2)
 have_kinds u paths unit h (result k) m =
     let p = h.parts k m.1.path in
-    (scalar m.1.type, (m.1.path, m.1.type, ap (λ (g : FunctionTree). g.returns) (function_is (world u paths) k p.first p.path p.place) ∙ (sym (returns_is u paths k p) ∙ m.1.returns), refl), omega arith)
+    (scalar_kind m.1.type, (m.1.path, m.1.type, ap (λ (g : FunctionTree). g.returns) (function_is (world u paths) k p.first p.path p.place) ∙ (sym (returns_is u paths k p) ∙ m.1.returns), refl), omega arith)

@@ -13,7 +13,7 @@ use Rattle.pk_graph.specs.Graphs.{VariableOf}
 use Rattle.pk_draft.specs.Drafts.{DraftOf, no_label}
 use Rattle.pk_lower_row.specs.Contexts.{Context}
 use Rattle.pk_lower.specs.Parts as part
-use Rattle.pk_lower.specs.Parts.{whole_size, sizes_of, program_draft}
+use Rattle.pk_lower.specs.Parts.{whole_size, sizes_of}
 use Rattle.pk_meaning.specs.Programs.{function_of, block_of}
 use Rattle.pk_lower_laws.proofs.Drafts.Plans.{Plan, Lasting, size_of, place_at, part_is, part_made_is, its_function, body_at_is}
 use Rattle.pk_lower_laws.proofs.Drafts.Parts.{part_points}

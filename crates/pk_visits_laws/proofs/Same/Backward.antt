@@ -5,7 +5,7 @@ use Rattle.pk_ctypes.specs.declared.types.IntType.{IntType}
 use Rattle.pk_graph.specs.Trees.{Skip, Set, Havoc, Clear, Load, Store, Guard, Check}
 use Rattle.pk_graph.specs.Graphs.{PathOf, EdgeOf, point_at}
 use Rattle.pk_graph.specs.Steps as steps
-use Rattle.pk_graph.specs.Steps.{Numbers, Failure, After, effect, with_value, tree_value, are_any}
+use Rattle.pk_graph.specs.Steps.{Numbers, Failure, effect, are_any}
 use Rattle.pk_graph.specs.Stores.{Stored, storing}
 use Rattle.pk_draft.specs.Drafts.{EdgeFrom, DraftOf, nowhere}
 use Rattle.pk_number.specs.Numbering.{reached, edge_of, numbered}

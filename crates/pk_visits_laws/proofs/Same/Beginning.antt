@@ -8,7 +8,7 @@ use Rattle.pk_ctypes.specs.Types.{is_in_type}
 use Rattle.pk_typed.specs.Trees.{LocalTree, StartTree, scalar_start, array_start, UnitTree}
 use Rattle.pk_calls.specs.declared.listings.CallPath.{CallPath}
 use Rattle.pk_calls.specs.Paths.{entry_path, IsListing}
-use Rattle.pk_graph.specs.Kinds.{Kind, count_of}
+use Rattle.pk_graph.specs.Kinds.{Kind, count_of, scalar_kind}
 use Rattle.pk_graph.specs.Graphs.{PathOf, VariableOf, StartOf, any_start, number_start, no_variable}
 use Rattle.pk_graph.specs.Steps.{Numbers, number_at, are_any, all_in_type}
 use Rattle.pk_graph.specs.Stores as stores
@@ -18,7 +18,7 @@ use Rattle.pk_number.specs.Numbering.{numbered}
 use Rattle.pk_lower_row.specs.Contexts.{parameters_of}
 use Rattle.pk_lower.specs.Parts.{function_at, body_at, start_of_object}
 use Rattle.pk_graph_step.specs.Beginnings.{BeginsWith, Begins}
-use Rattle.pk_welltyped.specs.WellTyped.{kind_among, scalar, IsUnit}
+use Rattle.pk_welltyped.specs.WellTyped.{kind_among, IsUnit}
 use Rattle.pk_meaning.specs.Objects.{Object, file, local, result, Objects, numbers_of, with_numbers}
 use Rattle.pk_meaning.specs.Programs.{function_of, first_objects}
 use Rattle.pk_meaning.specs.Runs.{with_arguments}
@@ -135,7 +135,7 @@ parameter_is u entry paths l h some i b =
       number = refl;
       path = some;
       declared = omega (few, arith);
-      kind = scalar t.0;
+      kind = scalar_kind t.0;
       is = ap (λ (xs : List LocalTree). kind_among xs i) (locals_are u paths 0 (h.parts 0 some)) ∙ kind.1;
       final = inr (record { path = entry_path entry; there = first_path u entry paths l; entry = refl; parameter = b }, out ∙ ap (λ (xs : List LocalTree). outer_object xs 0 i) (sym same));
     } in
@@ -246,7 +246,7 @@ begins_so u entry paths unit l h some shown s begins = record { choice = listed 
   parameter i b =
       let q = its i (subst (λ (ts : List IntType). i < length ts) (sym many) b) in
       let at : 0 + i ≡ i = omega arith in
-      let size = (first_fits u paths unit (local 0 i) (scalar q.type) (parameter_there u paths h 0 i q.type some q.there)).0 in
+      let size = (first_fits u paths unit (local 0 i) (scalar_kind q.type) (parameter_there u paths h 0 i q.type some q.there)).0 in
       let room : 0 < length (numbers_of (local 0 (0 + i)) (first_objects (program_of u paths))) = subst (λ (n : ℕ). 0 < length (numbers_of (local 0 n) (first_objects (program_of u paths)))) (sym at) (omega (size, arith)) in
       let z = a.each i q.type q.there room in
       (its_number i q).0 ∙ ap (λ n. F n ∷ []) (sym at) ∙ sym z ∙ ap (λ n. numbers_of (local 0 n) a.objects) at

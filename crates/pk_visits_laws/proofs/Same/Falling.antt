@@ -21,9 +21,7 @@ use Rattle.pk_meaning.specs.Work.{Place, Loop, Way, Caller, Ahead, Work}
 use Rattle.pk_meaning.specs.Steps as steps
 use Rattle.pk_meaning.specs.Steps.{Config, Next, To, Faulted, Assumed, Returned, Wants, Stuck, step_of}
 use Rattle.pk_visits_laws.proofs.Same.Weights.{value, test, declared, weight, returns}
-
-abbrev pub config : ℕ → Place → Work → Numbers → Objects → Bool → Config
-config k h w vs s b = record { path = k; here = h; work = w; values = vs; objects = s; is_visit = b }
+use Rattle.pk_visits.proofs.Follow.{config}
 
 -- on the same path with lighter work
 pub record IsLighter (p : Program) (k : ℕ) (w : Work) (d : Config) : Type 0 where

@@ -17,7 +17,7 @@ use Rattle.pk_meaning.specs.Programs.{function_of, first_objects}
 use Rattle.pk_meaning.specs.Steps.{Config}
 use Rattle.pk_meaning.specs.Runs.{Visit, visit_of, begins}
 use Rattle.pk_visits.specs.GraphVisits.{visit_at}
-use Rattle.pk_visits.specs.SameVisits.{ProgramVisits, GraphVisits, graph_of, ProgramsAreFollowed, GraphsHaveProgramVisits}
+use Rattle.pk_visits.specs.SameVisits.{ProgramVisits, GraphVisits, ProgramsAreFollowed, GraphsHaveProgramVisits}
 use Rattle.pk_visits.proofs.Stands.{StandsAt}
 use Rattle.pk_visits.proofs.Journeys.{law}
 use Rattle.pk_visits.proofs.Numbered.Edges.{entry_found, entry_number}
@@ -42,6 +42,7 @@ use Rattle.pk_visits_laws.proofs.Ways.Programs.{whole_way, whole_exit}
 use Rattle.pk_visits_laws.proofs.Same.Backward.{IsSetting, comes}
 use Rattle.pk_visits_laws.proofs.Same.Failing.{ends_so}
 use Rattle.pk_visits_laws.proofs.Same.Beginning.{begins_so}
+use Rattle.pk_lower.specs.Graphs.{graph_of}
 
 is_setting : (u : UnitTree) (entry : ℕ) (paths : List CallPath) → IsUnit u → AreMarked u → HasBody u entry → IsListing u entry paths → AreCallPaths u entry paths → AreTyped u paths → Stand u paths
     → IsSetting (naming u paths) (Made u paths) (graph u paths) (by_numbers u paths)

@@ -4,7 +4,7 @@ use Rattle.pk_typed.specs.Trees.{PlaceTree, ValueTree, EffectTree, ValueTrees, D
 use Rattle.pk_typed.specs.Trees as tree
 use Rattle.pk_meaning.specs.Programs.{Program, function_of, callee}
 use Rattle.pk_meaning.specs.Work as work
-use Rattle.pk_meaning.specs.Work.{Loop, Caller, Ahead, Work}
+use Rattle.pk_meaning.specs.Work.{Loop, Ahead, Work}
 
 -- how many parameters the callee of a call has
 abbrev pub passes : Program → (path call : ℕ) → ℕ

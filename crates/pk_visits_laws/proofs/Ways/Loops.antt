@@ -10,7 +10,7 @@ use Rattle.pk_draft.specs.Drafts.{EdgeFrom, DraftOf, Given, at, on, in_scope, pl
 use Rattle.pk_draft.specs.Folding.{binary_tree}
 use Rattle.pk_lower_row.specs.Rows as rows
 use Rattle.pk_lower_statement.specs.declared.statements.Exits.{Exits}
-use Rattle.pk_lower_statement.specs.Statements.{inside, meeting, if_draft, loop_begun, while_draft, do_draft, for_draft, case_test, case_tests, in_switch, switch_begun}
+use Rattle.pk_lower_statement.specs.Statements.{inside, if_draft, loop_begun, while_draft, do_draft, for_draft, case_test, case_tests, in_switch, switch_begun}
 use Rattle.pk_visits.proofs.Slots.{Never}
 use Rattle.pk_visits_laws.proofs.Ways.Adding.{adds_more, one_edge}
 use Rattle.pk_visits_laws.proofs.Ways.Spans.{Span}

@@ -5,7 +5,7 @@ use Rattle.std.proofs.lemmas.List.{get_or_past}
 use Rattle.std.proofs.lemmas.List.Elements.{All-cons, All-get_or}
 use Rattle.pk_graph.specs.Accesses.{of_instr}
 use Rattle.pk_graph.specs.Graphs.{EdgeOf, PointOf, GraphOf, no_point, point_at}
-use Rattle.pk_visits.specs.SameVisits.{graph_of}
+use Rattle.pk_lower.specs.Graphs.{graph_of}
 use Rattle.pk_visits_laws.specs.Ways.OneWay.{AreGuards, IsOneWay, SharesAccesses, PointsHaveOneWay, PointsShareAccesses}
 
 guards_share : (p : ℕ) (e f : EdgeOf) → AreGuards e f → of_instr p f.instr ≡ of_instr p e.instr

@@ -9,7 +9,8 @@ use Rattle.pk_graph.specs.Accesses.{of_instr, of_edges}
 use Rattle.pk_lower.specs.Parts.{point_count}
 use Rattle.pk_welltyped.specs.WellTyped.{IsUnit}
 use Rattle.pk_welltyped.specs.Marks.{AreMarked}
-use Rattle.pk_visits.specs.SameVisits.{graph_of}
+use Rattle.pk_lower.specs.Graphs.{graph_of}
+use Rattle.pk_lower.specs.Answers.{point_limit}
 
 -- the guard where the test holds, and the one where it doesn't
 abbrev pub AreGuards : EdgeOf → EdgeOf → Type 0
@@ -24,7 +25,8 @@ IsOneWay (e ∷ f ∷ g ∷ es) = ⊥
 -- Every typed unit with its call paths, and the graph that the lowering makes of it.
 abbrev pub PointsHaveOneWay : Type 0
 PointsHaveOneWay =
-    (u : UnitTree) (name : List ℕ) (paths : List CallPath) → IsUnit u → AreMarked u → HasPaths u name paths → point_count u paths ≤ 65536
+    (u : UnitTree) (name : List ℕ) (paths : List CallPath) → IsUnit u → AreMarked u → HasPaths u name paths →
+    point_count u paths ≤ point_limit
     → All (λ (p : PointOf). IsOneWay p.edges) (graph_of u paths).points
 
 -- each edge has the accesses that are listed of the point: those of its first edge
@@ -33,5 +35,6 @@ SharesAccesses p es = All (λ (e : EdgeOf). of_instr p e.instr ≡ of_edges p es
 
 abbrev pub PointsShareAccesses : Type 0
 PointsShareAccesses =
-    (u : UnitTree) (name : List ℕ) (paths : List CallPath) → IsUnit u → AreMarked u → HasPaths u name paths → point_count u paths ≤ 65536
+    (u : UnitTree) (name : List ℕ) (paths : List CallPath) → IsUnit u → AreMarked u → HasPaths u name paths →
+    point_count u paths ≤ point_limit
     → (p : ℕ) → SharesAccesses p (point_at (graph_of u paths) p).edges

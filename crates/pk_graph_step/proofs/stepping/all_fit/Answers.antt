@@ -1,5 +1,5 @@
 use Rattle.std.proofs.Common.{◌∙◌, sym}
-use Rattle.pk_graph_step.proofs.ChosenLemmas.{fit_next, fit_not, fit_end}
+use Rattle.pk_graph.proofs.ChosenLemmas.{fit_next, fit_not, fit_end}
 use Rattle.pk_graph_step.proofs.stepping.all_fit.Goals as goal
 
 pub returns-then-not-fit : goal.returns-then-not-fit

@@ -1,5 +1,5 @@
 use Rattle.pk_octmat.proofs.Bars.{pairs_of}
-use Rattle.std.proofs.Common.{ap, ◌∙◌, length-set}
+use Rattle.std.proofs.Common.{ap, ◌∙◌}
 use Rattle.std.specs.Int.{w128}
 use Rattle.std.proofs.lemmas.Int.{to_z-of_z}
 use Rattle.pk_octmat.specs.Octagon.{cell_at}

@@ -1,4 +1,3 @@
-use Rattle.std.proofs.Common.{ℕ, length, sym, ◌∙◌, ap, ◌≡◌, ◌<◌, refl, List, []}
 use Rattle.pk_runner_frame.proofs.FrameLemmas.{if_both, laid_ahead, laid_way}
 use Rattle.pk_runner_frame.proofs.frames.before.Goals as goal
 

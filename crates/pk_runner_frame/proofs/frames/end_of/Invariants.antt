@@ -1,5 +1,5 @@
 -- The frames at and above the limit are behind.
-use Rattle.std.proofs.Common.{◌≡◌, ◌≤◌, ℕ, length, take}
+use Rattle.std.proofs.Common.{◌≡◌, ◌≤◌, length, take}
 use Rattle.pk_meaning.specs.Steps.{caller_of}
 use Rattle.pk_runner_frame.specs.Frames.{Reading, held, ahead_at}
 use Rattle.pk_runner_frame.proofs.frames.end_of.Given as goal

@@ -1,6 +1,6 @@
 use Rattle.std.proofs.Common.{subst, ◌≤◌}
 use Rattle.pk_runner_frame.specs.Frames.{nothing}
-use Rattle.std.proofs.Common.{ℕ, length, sym, ◌∙◌, ap, ◌≡◌, ◌<◌, refl, List, []}
+use Rattle.std.proofs.Common.{ℕ, sym, ◌∙◌, ap}
 use Rattle.pk_runner_frame.proofs.FrameLemmas.{past_is, if_map}
 use Rattle.pk_runner_frame.proofs.frames.known.Goals as goal
 

@@ -1,7 +1,7 @@
 use Rattle.std.proofs.Common.{slice_index_or}
 use Rattle.pk_runner_frame.specs.declared.works.Frame.{Frame}
 use Rattle.pk_runner_frame.specs.Frames.{nothing, held, work_in}
-use Rattle.std.proofs.Common.{ℕ, length, sym, ◌∙◌, ap, ◌≡◌, ◌<◌, refl, List, []}
+use Rattle.std.proofs.Common.{◌∙◌, ap, refl, List}
 use Rattle.pk_runner_frame.proofs.FrameLemmas.{if_both, on_map, top_is, nothing_more}
 use Rattle.pk_runner_frame.proofs.frames.lay_nothing.Goals as goal
 

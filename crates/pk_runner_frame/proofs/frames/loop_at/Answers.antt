@@ -1,5 +1,4 @@
-use Rattle.std.proofs.Common.{◌≡◌, ℕ, take, sym, ◌∙◌, ap, subst, refl, arith}
-use Rattle.pk_meaning.specs.Work.{Ahead}
+use Rattle.std.proofs.Common.{◌≡◌, take, sym, ◌∙◌, ap, subst, refl}
 use Rattle.pk_runner_frame.specs.Frames.{Reading, held, ahead_at, ahead_of, ahead_in, nothing}
 use Rattle.pk_runner_frame.specs.Ends.{NoLoop}
 use Rattle.pk_runner_frame.proofs.FrameLemmas.{frame_is, no_ahead, match_map}

@@ -1,5 +1,5 @@
 use Rattle.pk_runner_frame.specs.Frames.{work_in}
-use Rattle.std.proofs.Common.{ℕ, length, sym, ◌∙◌, ap, ◌≡◌, ◌<◌, refl, List, []}
+use Rattle.std.proofs.Common.{ap}
 use Rattle.pk_runner_frame.proofs.FrameLemmas.{if_both, on_map, laid_work, laid_below}
 use Rattle.pk_runner_frame.proofs.frames.then.Goals as goal
 

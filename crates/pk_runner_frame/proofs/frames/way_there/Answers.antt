@@ -1,6 +1,5 @@
 use Rattle.std.proofs.Common.{arith}
 use Rattle.pk_runner_frame.specs.Frames.{work_in}
-use Rattle.std.proofs.Common.{ℕ, length, sym, ◌∙◌, ap, ◌≡◌, ◌<◌, refl, List, []}
 use Rattle.pk_runner_frame.proofs.FrameLemmas.{way_is}
 use Rattle.pk_runner_frame.proofs.frames.way_there.Goals as goal
 

@@ -1,12 +1,8 @@
 use Rattle.std.proofs.Common.{◌≡◌, map, take}
-use Rattle.std.specs.Prelude.{pos, [], ◌∷◌, unwrap_or}
 use Rattle.pk_typed.specs.declared.units.FileObject.{FileObject}
-use Rattle.pk_typed.specs.declared.units.Local.{Local}
-use Rattle.pk_typed.specs.Views.{start_tree, local_tree, unit_tree}
-use Rattle.pk_calls.specs.declared.listings.CallPath.{CallPath}
-use Rattle.pk_calls.specs.Calls.{body_of}
-use Rattle.pk_meaning.specs.Programs.{start_of, zeros_of, no_body}
-use Rattle.pk_runner_state.proofs.ObjectLemmas.{rows_of, locals_in}
+use Rattle.pk_typed.specs.Views.{start_tree}
+use Rattle.pk_meaning.specs.Programs.{start_of}
+use Rattle.pk_runner_state.proofs.ObjectLemmas.{rows_of}
 use Rattle.pk_runner_state.proofs.objects.first_files.Given as goal
 
 abbrev pub invariant-loop-object : goal.invariant-loop-object

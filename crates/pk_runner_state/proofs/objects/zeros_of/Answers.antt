@@ -1,23 +1,17 @@
-use Rattle.std.proofs.Common.{◌≡◌, map, take, ◌∙◌, ap, sym, refl, arith, subst, ℕ, List, get_or}
-use Rattle.std.specs.Prelude.{pos, [], ◌∷◌, unwrap_or}
-use Rattle.pk_typed.specs.declared.units.FileObject.{FileObject}
-use Rattle.pk_typed.specs.declared.units.Local.{Local}
-use Rattle.pk_typed.specs.Views.{start_tree, local_tree, unit_tree}
-use Rattle.pk_calls.specs.declared.listings.CallPath.{CallPath}
+use Rattle.std.proofs.Common.{◌≡◌, map, ◌∙◌, ap, sym, arith, subst}
+use Rattle.std.specs.Prelude.{unwrap_or}
+use Rattle.pk_typed.specs.Views.{unit_tree}
 use Rattle.pk_calls.specs.Calls.{body_of}
-use Rattle.pk_meaning.specs.Programs.{start_of, zeros_of, no_body}
-use Rattle.pk_runner_state.proofs.ObjectLemmas.{rows_of, locals_in}
-use Rattle.std.specs.Prelude.{ℤ}
-use Rattle.std.specs.declared.vec.Vec.{Vec}
-use Rattle.std.specs.declared.alloc.Global.{Global}
-use Rattle.pk_runner_state.proofs.ProgramLemmas.{made_next, made_end, map_twice, block_is, path_at}
-use Rattle.std.proofs.lemmas.Bool.{cases_lt}
+use Rattle.pk_meaning.specs.Programs.{zeros_of}
+use Rattle.pk_runner_state.proofs.ObjectLemmas.{rows_of}
+use Rattle.pk_runner_state.proofs.ProgramLemmas.{block_is}
 use Rattle.std.specs.Prelude.{Option, Some, None, option_map, IfOk}
 use Rattle.pk_typed.specs.declared.units.Body.{Body}
 use Rattle.pk_typed.specs.Trees.{BodyTree}
 use Rattle.pk_typed.specs.Views.{body_tree}
 use Rattle.pk_calls.proofs.CallLemmas.{body_past}
 use Rattle.pk_runner_state.proofs.objects.zeros_of.Goals as goal
+use Rattle.pk_typed.specs.Defaults.{no_body}
 
 pub returns-in-Some : goal.returns-in-Some
 returns-in-Some c =

@@ -1,4 +1,4 @@
-use Rattle.std.proofs.Common.{ℕ, ◌∙◌, ap, arith}
+use Rattle.std.proofs.Common.{◌∙◌, ap, arith}
 use Rattle.pk_typed.specs.Views.{unit_tree}
 use Rattle.pk_calls.specs.Calls.{body_of}
 use Rattle.pk_calls.proofs.CallLemmas.{body_read, body_past}

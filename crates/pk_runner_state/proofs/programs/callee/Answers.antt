@@ -1,4 +1,4 @@
-use Rattle.std.proofs.Common.{◌≡◌, ℕ, suc, ◌+◌, sym, ◌∙◌, ap, arith, drop}
+use Rattle.std.proofs.Common.{◌≡◌, suc, ◌+◌, sym, ◌∙◌, arith, drop}
 use Rattle.pk_meaning.specs.Programs.{number_by}
 use Rattle.pk_runner_state.proofs.ProgramLemmas.{by_found, by_next}
 use Rattle.pk_runner_state.proofs.programs.callee.Goals as goal

@@ -1,10 +1,9 @@
-use Rattle.std.proofs.Common.{◌≡◌, ℕ, List, take, sym, ◌∙◌, ap}
+use Rattle.std.proofs.Common.{◌≡◌, List, take, sym, ◌∙◌, ap}
 use Rattle.pk_meaning.specs.Work as work
 use Rattle.pk_meaning.specs.Work.{Ahead}
 use Rattle.pk_meaning.specs.Steps.{takes, comes}
-use Rattle.pk_typed.specs.Trees.{StatementTree}
 use Rattle.pk_runner_frame.specs.declared.works.Frame.{Frame}
-use Rattle.pk_runner_frame.specs.Frames.{held, place_in, loop_in, loop_body, work_in, ahead_at, into, head, behind, turn}
+use Rattle.pk_runner_frame.specs.Frames.{held, place_in, loop_in, work_in, ahead_at, head, behind, turn}
 use Rattle.pk_runner_state.specs.Shown.{shown, outcome}
 use Rattle.pk_runner_state.proofs.states.leave_loop.Goals as goal
 

@@ -9,9 +9,9 @@ use Rattle.pk_graph.specs.Steps.{Numbers}
 use Rattle.pk_meaning.specs.Objects.{Object, local, Array}
 use Rattle.pk_meaning.specs.Programs.{Program, local_of}
 use Rattle.pk_meaning.specs.Work as work
-use Rattle.pk_meaning.specs.Work.{Work, Ahead}
+use Rattle.pk_meaning.specs.Work.{Work}
 use Rattle.pk_meaning.specs.Steps as steps
-use Rattle.pk_meaning.specs.Steps.{Config, Next, on, writes, standing, place}
+use Rattle.pk_meaning.specs.Steps.{Config, on, writes, standing, place}
 use Rattle.pk_runner_frame.specs.Frames.{held, work_at, scope_in, place_in, work_in}
 use Rattle.pk_runner_state.specs.Shown.{program_in, shown, outcome}
 use Rattle.pk_runner_statement.specs.Afters.{after_in}

@@ -4,9 +4,9 @@ use Rattle.pk_typed.specs.Views.{value_tree, declared_tree, optional_values}
 use Rattle.pk_graph.specs.Steps.{Numbers}
 use Rattle.pk_meaning.specs.Objects.{Scope}
 use Rattle.pk_meaning.specs.Programs as programs
-use Rattle.pk_meaning.specs.Programs.{Program, local_of}
+use Rattle.pk_meaning.specs.Programs.{Program}
 use Rattle.pk_meaning.specs.Steps as steps
-use Rattle.pk_meaning.specs.Steps.{Config, Next, on, writes, standing, place}
+use Rattle.pk_meaning.specs.Steps.{Config, on, standing, place}
 use Rattle.pk_runner_frame.specs.Frames.{Held, held, scope_in}
 use Rattle.pk_runner_state.specs.Shown.{program_in, shown, Told}
 use Rattle.pk_runner_statement.specs.Afters.{after_in}

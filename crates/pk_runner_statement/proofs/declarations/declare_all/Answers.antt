@@ -3,7 +3,7 @@ use Rattle.pk_typed.specs.declared.statements.Declared.{Declared}
 use Rattle.pk_typed.specs.Views.{declared_trees}
 use Rattle.pk_meaning.specs.Programs.{Program}
 use Rattle.pk_meaning.specs.Steps as steps
-use Rattle.pk_meaning.specs.Steps.{Config, Next, on, writes, standing, place}
+use Rattle.pk_meaning.specs.Steps.{on}
 use Rattle.pk_runner_frame.specs.Frames.{Held, held, work_at}
 use Rattle.pk_runner_state.specs.Shown.{program_in, shown, Told}
 use Rattle.pk_runner_statement.proofs.StatementLemmas.{at_front}

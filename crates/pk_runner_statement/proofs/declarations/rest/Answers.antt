@@ -4,9 +4,9 @@ use Rattle.pk_typed.specs.Views.{item_trees, statement_tree}
 use Rattle.pk_meaning.specs.Objects.{Scope}
 use Rattle.pk_meaning.specs.Programs.{Program}
 use Rattle.pk_meaning.specs.Work as work
-use Rattle.pk_meaning.specs.Work.{Work, Ahead}
+use Rattle.pk_meaning.specs.Work.{Ahead}
 use Rattle.pk_meaning.specs.Steps as steps
-use Rattle.pk_meaning.specs.Steps.{Config, Next, on, writes, standing, place}
+use Rattle.pk_meaning.specs.Steps.{Config, on, standing, place}
 use Rattle.pk_runner_frame.specs.Frames.{Held, held, ahead_at, scope_in, work_in, ahead_in}
 use Rattle.pk_runner_state.specs.Shown.{program_in, shown, Told, outcome}
 use Rattle.pk_runner_statement.proofs.StatementLemmas.{at_front, none_there, tail}

@@ -1,13 +1,12 @@
 use Rattle.std.proofs.Common.{◌≡◌, ap, ◌∙◌, sym, List, Option, option_map}
 use Rattle.pk_typed.specs.Trees as tree
-use Rattle.pk_typed.specs.Trees.{ValueTrees, ValueTree, StatementTree, ItemTrees}
 use Rattle.pk_typed.specs.Views.{statement_tree}
 use Rattle.pk_meaning.specs.Objects.{Scope}
 use Rattle.pk_meaning.specs.Programs.{Program}
 use Rattle.pk_meaning.specs.Work as work
-use Rattle.pk_meaning.specs.Work.{Work, Ahead, Loop, Caller, Place}
+use Rattle.pk_meaning.specs.Work.{Work, Ahead, Loop, Place}
 use Rattle.pk_meaning.specs.Steps as steps
-use Rattle.pk_meaning.specs.Steps.{Config, Next, on, comes, writes, standing, place}
+use Rattle.pk_meaning.specs.Steps.{Config, on, standing, place}
 use Rattle.pk_typed.specs.declared.statements.ForStart.{ForStart}
 use Rattle.pk_typed.specs.declared.values.Effect.{Effect}
 use Rattle.pk_typed.specs.declared.statements.Declared.{Declared}

@@ -7,7 +7,7 @@ use Rattle.pk_typed.specs.Views.{statement_tree}
 use Rattle.pk_graph.specs.Steps.{Numbers}
 use Rattle.pk_meaning.specs.Programs.{Program}
 use Rattle.pk_meaning.specs.Work as work
-use Rattle.pk_meaning.specs.Work.{Work, Ahead, Loop, Caller, Place}
+use Rattle.pk_meaning.specs.Work.{Ahead, Place}
 use Rattle.pk_meaning.specs.Steps.{Config, Next, comes}
 use Rattle.pk_runner_state.specs.Shown.{told}
 use Rattle.pk_runner_frame.specs.Frames.{Held, held, ahead_at, place_in, work_in}

@@ -1,14 +1,14 @@
 use Rattle.std.proofs.Common.{◌≡◌, ap, ◌∙◌, sym, subst, List, Some, IfOk, option_map}
 use Rattle.std.specs.Prelude.{ℤ}
 use Rattle.pk_typed.specs.Trees as tree
-use Rattle.pk_typed.specs.Trees.{ValueTrees, ValueTree, StatementTree, ItemTrees}
+use Rattle.pk_typed.specs.Trees.{StatementTree}
 use Rattle.pk_typed.specs.Views.{value_tree, statement_tree, item_trees}
 use Rattle.pk_meaning.specs.Objects.{Scope}
 use Rattle.pk_meaning.specs.Programs.{Program}
 use Rattle.pk_meaning.specs.Work as work
-use Rattle.pk_meaning.specs.Work.{Work, Ahead, Loop, Caller, Place}
+use Rattle.pk_meaning.specs.Work.{Work, Ahead, Loop}
 use Rattle.pk_meaning.specs.Steps as steps
-use Rattle.pk_meaning.specs.Steps.{Config, Next, on, comes, writes, standing, place}
+use Rattle.pk_meaning.specs.Steps.{Config, on, comes, standing, place}
 use Rattle.pk_typed.specs.declared.statements.Statement.{Statement}
 use Rattle.pk_typed.specs.Views.{effect_tree, for_start_tree}
 use Rattle.pk_typed.proofs.ViewLemmas.{tree_of_block}

@@ -3,9 +3,9 @@ use Rattle.pk_typed.specs.Views.{statement_tree, item_trees}
 use Rattle.pk_graph.specs.Steps.{Numbers}
 use Rattle.pk_meaning.specs.Programs.{Program}
 use Rattle.pk_meaning.specs.Work as work
-use Rattle.pk_meaning.specs.Work.{Work, Ahead, Loop, Caller, Place}
+use Rattle.pk_meaning.specs.Work.{Work, Ahead, Loop, Place}
 use Rattle.pk_meaning.specs.Steps as steps
-use Rattle.pk_meaning.specs.Steps.{Config, Next, on, comes, writes, standing, place}
+use Rattle.pk_meaning.specs.Steps.{Config, on, comes, place}
 use Rattle.pk_runner_frame.specs.declared.works.Frame.{Frame}
 use Rattle.pk_runner_frame.specs.declared.works.Frame.TheVariants as frames
 use Rattle.pk_runner_frame.specs.declared.works.Ahead.TheVariants as aheads

@@ -2,7 +2,7 @@ use Rattle.std.proofs.Common.{◌≡◌, ap, ◌∙◌, arith, List}
 use Rattle.pk_typed.specs.Trees.{ValueTree, StatementTree}
 use Rattle.pk_typed.specs.Views.{value_tree, statement_tree}
 use Rattle.pk_meaning.specs.Work as work
-use Rattle.pk_meaning.specs.Work.{Work, Ahead, Loop, Caller, Place}
+use Rattle.pk_meaning.specs.Work.{Work, Ahead, Place}
 use Rattle.pk_meaning.specs.Steps.{Config, on, standing, place}
 use Rattle.pk_runner_frame.specs.Frames.{Held, held, work_at, ahead_at, work_in, ahead_in, expression_in}
 use Rattle.pk_runner_state.specs.Shown.{shown, outcome}

@@ -5,9 +5,9 @@ use Rattle.pk_typed.specs.Views.{item_trees}
 use Rattle.pk_meaning.specs.Objects.{Scope}
 use Rattle.pk_meaning.specs.Programs.{Program, body_scope}
 use Rattle.pk_meaning.specs.Work as work
-use Rattle.pk_meaning.specs.Work.{Work, Ahead, Loop, Caller, Place}
+use Rattle.pk_meaning.specs.Work.{Work, Ahead, Caller}
 use Rattle.pk_meaning.specs.Steps as steps
-use Rattle.pk_meaning.specs.Steps.{Config, Next, on, comes, writes, standing, place}
+use Rattle.pk_meaning.specs.Steps.{Config, on, place}
 use Rattle.pk_runner_frame.specs.Frames.{Held, held, work_at, scope_in, work_in, ahead_in}
 use Rattle.pk_runner_state.specs.Shown.{program_in, shown, outcome, Outcome}
 use Rattle.pk_runner_statement.proofs.steps.enter.Goals as goal

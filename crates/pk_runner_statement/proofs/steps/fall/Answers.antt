@@ -6,9 +6,9 @@ use Rattle.pk_graph.specs.Steps.{Numbers, are_any}
 use Rattle.pk_meaning.specs.Objects.{Object, result, Scope}
 use Rattle.pk_meaning.specs.Programs.{Program, block_of, body_scope}
 use Rattle.pk_meaning.specs.Work as work
-use Rattle.pk_meaning.specs.Work.{Work, Ahead, Loop, Caller, Place}
+use Rattle.pk_meaning.specs.Work.{Work, Caller, Place}
 use Rattle.pk_meaning.specs.Steps as steps
-use Rattle.pk_meaning.specs.Steps.{Config, Next, on, comes, writes, standing, place}
+use Rattle.pk_meaning.specs.Steps.{Config, on, writes, standing, place}
 use Rattle.pk_runner_frame.specs.declared.works.Frame.{Frame}
 use Rattle.pk_runner_state.specs.Shown.{told}
 use Rattle.pk_runner_frame.specs.Frames.{Held, held, work_at, scope_in, caller_in, work_in}

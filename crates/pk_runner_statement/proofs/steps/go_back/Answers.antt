@@ -3,7 +3,7 @@ use Rattle.std.specs.Prelude.{ℤ}
 use Rattle.pk_meaning.specs.Programs.{Program}
 use Rattle.pk_meaning.specs.Work.{Work}
 use Rattle.pk_meaning.specs.Steps as steps
-use Rattle.pk_meaning.specs.Steps.{Config, Next, on, comes, writes, standing, place}
+use Rattle.pk_meaning.specs.Steps.{Config, on, place}
 use Rattle.pk_runner_frame.specs.declared.works.Caller as code_caller
 use Rattle.pk_runner_frame.specs.Frames.{Held, held, place_in, caller_in}
 use Rattle.pk_runner_state.specs.Shown.{program_in, shown, outcome}

@@ -1,8 +1,8 @@
 use Rattle.std.proofs.Common.{◌≡◌, ap, ◌∙◌, sym, List, take}
 use Rattle.pk_meaning.specs.Work as work
-use Rattle.pk_meaning.specs.Work.{Work, Ahead, Loop, Caller, Place}
+use Rattle.pk_meaning.specs.Work.{Ahead}
 use Rattle.pk_meaning.specs.Steps as steps
-use Rattle.pk_meaning.specs.Steps.{Config, Next, on, comes, writes, standing, place}
+use Rattle.pk_meaning.specs.Steps.{Config, on, comes, place}
 use Rattle.pk_runner_frame.specs.declared.works.Frame.{Frame}
 use Rattle.pk_runner_frame.specs.Frames.{Held, held, ahead_at, place_in, loop_in, turn, back, work_in}
 use Rattle.pk_runner_state.specs.Shown.{shown, outcome}

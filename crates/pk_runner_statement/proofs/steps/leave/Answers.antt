@@ -3,7 +3,7 @@ use Rattle.pk_ctypes.specs.declared.places.Pos.{Pos}
 use Rattle.pk_meaning.specs.Objects.{Scope}
 use Rattle.pk_meaning.specs.Programs.{Program, body_scope}
 use Rattle.pk_meaning.specs.Work as work
-use Rattle.pk_meaning.specs.Work.{Work, Ahead, Loop, Caller, Place}
+use Rattle.pk_meaning.specs.Work.{Work}
 use Rattle.pk_meaning.specs.Steps.{Config, comes, place}
 use Rattle.pk_runner_frame.specs.Frames.{Held, held, caller_in, work_in}
 use Rattle.pk_runner_state.specs.Shown.{program_in, shown, outcome}

@@ -6,9 +6,9 @@ use Rattle.pk_typed.specs.Views.{value_tree}
 use Rattle.pk_meaning.specs.Objects.{result}
 use Rattle.pk_meaning.specs.Programs.{function_of}
 use Rattle.pk_meaning.specs.Work as work
-use Rattle.pk_meaning.specs.Work.{Work, Ahead, Loop, Caller, Place}
+use Rattle.pk_meaning.specs.Work.{Work, Ahead, Caller, Place}
 use Rattle.pk_meaning.specs.Steps as steps
-use Rattle.pk_meaning.specs.Steps.{Config, Next, on, comes, writes, standing, place}
+use Rattle.pk_meaning.specs.Steps.{Config, Next, on, standing, place}
 use Rattle.pk_runner_frame.specs.Frames.{Held, held, ahead_at, work_in, expression_in}
 use Rattle.pk_runner_state.specs.Shown.{program_in, shown, outcome}
 use Rattle.pk_runner_statement.proofs.StatementLemmas.{returns_none}

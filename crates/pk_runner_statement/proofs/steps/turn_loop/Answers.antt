@@ -3,9 +3,9 @@ use Rattle.pk_typed.specs.declared.values.Value.{Value}
 use Rattle.pk_typed.specs.Trees.{StatementTree}
 use Rattle.pk_typed.specs.Views.{value_tree, statement_tree}
 use Rattle.pk_meaning.specs.Work as work
-use Rattle.pk_meaning.specs.Work.{Work, Ahead, Loop, Caller, Place}
+use Rattle.pk_meaning.specs.Work.{Ahead, Loop}
 use Rattle.pk_meaning.specs.Steps as steps
-use Rattle.pk_meaning.specs.Steps.{Config, Next, on, comes, writes, standing, place}
+use Rattle.pk_meaning.specs.Steps.{Config, on, comes, place}
 use Rattle.pk_runner_frame.specs.declared.works.Frame.{Frame}
 use Rattle.pk_runner_frame.specs.declared.works.Loop as code_loop
 use Rattle.pk_runner_frame.specs.declared.works.Loop.TheVariants as loops

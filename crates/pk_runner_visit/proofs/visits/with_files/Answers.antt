@@ -1,6 +1,5 @@
-use Rattle.std.proofs.Common.{◌≡◌, ◌-◌, ◌++◌, ◌∙◌, ap, sym, arith, suc, map, ℕ}
+use Rattle.std.proofs.Common.{◌≡◌, ◌-◌, ◌++◌, ◌∙◌, ap, sym, arith, map, ℕ}
 use Rattle.std.proofs.lemmas.List.{append-nil}
-use Rattle.pk_meaning.specs.Objects.{Scope}
 use Rattle.pk_meaning.specs.Programs.{file_scope}
 use Rattle.pk_runner_frame.specs.Frames.{object_in}
 use Rattle.pk_runner_visit.proofs.SeenLemmas.{file_next}

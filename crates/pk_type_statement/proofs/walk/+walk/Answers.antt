@@ -6,7 +6,8 @@ use Rattle.pk_type_expression.proofs.ResultLemmas.{whatever}
 use Rattle.pk_type_declaration.proofs.PartLemmas.{map_twice}
 use Rattle.pk_type_statement.specs.Views.{passed_in, items_in}
 use Rattle.pk_type_statement.proofs.FormLemmas as form
-use Rattle.pk_type_statement.proofs.WalkLemmas.{items_left, left_positive, items_passed, for_left, for_passed, for_typed, switch_passed, switch_typed, next, at_end, declaration_passed, statement_passed, empty_passed, empty_typed, end_passed, declaration_typed, statement_typed, end_typed}
+use Rattle.pk_type_statement.proofs.WalkLemmas.{items_left, left_positive, items_passed, for_left, for_passed, for_typed, switch_passed, switch_typed, declaration_passed, statement_passed, empty_passed, empty_typed, end_passed, declaration_typed, statement_typed, end_typed}
+use Rattle.pk_type_jump.proofs.ItemLemmas.{next, at_end}
 use Rattle.pk_type_statement.proofs.walk.+walk.Goals as goal
 use Rattle.pk_type_statement.proofs.walk.+walk.Goals.{body_items-in-Declaration+in_ok-objects-in-Declaration+in_ok-add_objects-in-Declaration, body_items-in-Statement+in-Some+in_ok-add_empty-in-Some, body_items-in-Statement+in-None+in_ok-one-in-None+in_ok-add_statement-in-None}
 

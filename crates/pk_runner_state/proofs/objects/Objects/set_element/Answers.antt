@@ -1,4 +1,4 @@
-use Rattle.std.proofs.Common.{◌≡◌, ℕ, ◌∙◌, ap, sym, arith, List, [], ◌∷◌, slice_index_or, slice_set}
+use Rattle.std.proofs.Common.{◌∙◌, ap, sym, arith, List, [], slice_index_or, slice_set}
 use Rattle.pk_graph.specs.Steps.{Numbers}
 use Rattle.pk_runner_frame.specs.declared.works.Object.{Object}
 use Rattle.pk_runner_frame.specs.Frames.{object_in}

@@ -1,10 +1,9 @@
-use Rattle.std.proofs.Common.{◌≡◌, ℕ, ◌∙◌, ap, sym, arith, List, [], ◌∷◌, slice_index_or, slice_set}
-use Rattle.pk_graph.specs.Steps.{Numbers}
+use Rattle.std.proofs.Common.{◌∙◌, ap, sym, arith, [], ◌∷◌}
 use Rattle.pk_runner_frame.specs.declared.works.Object.{Object}
 use Rattle.pk_runner_frame.specs.Frames.{object_in}
-use Rattle.pk_meaning.specs.Objects.{with_numbers, numbers_of}
+use Rattle.pk_meaning.specs.Objects.{with_numbers}
 use Rattle.pk_runner_state.specs.Shown.{objects_in}
-use Rattle.pk_runner_state.proofs.ObjectLemmas.{row_read, locals_read, file_set, file_past, local_set, local_row_past, local_past, result_set, result_past}
+use Rattle.pk_runner_state.proofs.ObjectLemmas.{file_set, file_past, local_set, local_row_past, local_past, result_set, result_past}
 use Rattle.pk_runner_state.proofs.objects.Objects.set_number.Goals as goal
 
 pub returns-in_ok-set_only-in-File : goal.returns-in_ok-set_only-in-File

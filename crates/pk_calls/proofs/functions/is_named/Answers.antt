@@ -2,7 +2,7 @@ use Rattle.std.proofs.Common.{ℕ, List, refl, sym, ◌∙◌, ap, arith}
 use Rattle.std.specs.Cmp.Lexicographic.{pointwise}
 use lib.Dec.{eqb}
 use Rattle.pk_calls.proofs.CallLemmas.{name_test, named_by, not_named, no_body, has_body_in}
-use Rattle.pk_calls.proofs.calls.is_named.Goals as goal
+use Rattle.pk_calls.proofs.functions.is_named.Goals as goal
 
 pub returns-then-is_some : goal.returns-then-is_some
 returns-then-is_some c = named_by c.args.unit.now c.args.function c.index-function.result.now c.args.name.now c.eq.result (omega arith) c.index-function.ensures (sym c.is_some.ensures ∙ c.if-is_some.true) (name_test c.index-function.result.now.name c.args.name.now c.eq.result (c.eq.ensures ∙ ap (λ (n : List ℕ). pointwise eqb n c.args.name.now) c.as_str.ensures))

@@ -40,12 +40,14 @@ pub fn locals(unit: &Unit, function: usize) -> usize
     }
 }
 
+/// Whether the function has a body.
 pub fn has_body(unit: &Unit, function: usize) -> bool
     ensures { IsTrue result ↔ HasBody (unit_tree unit.now) function }
 {
     body(unit, function).is_some()
 }
 
+/// The function's name, empty where there is no such function.
 pub fn name(alloc: Global, unit: &Unit, function: usize) -> Result<Name, AllocError>
     ensures { IfOk result (λ name. name ≡ name_of (unit_tree unit.now) function) }
 {
@@ -70,7 +72,8 @@ fn is_named(unit: &Unit, function: usize, name: &str) -> bool
 
 /// The first function of a name that has a body.
 pub fn entry(unit: &Unit, name: &str) -> Option<usize>
-    ensures { MatchOption result ((f : ℕ) → IsNamed (unit_tree unit.now) name.now f → ⊥) (λ f. IsEntry (unit_tree unit.now) name.now f) }
+    ensures { MatchOption result ((f : ℕ) → IsNamed (unit_tree unit.now) name.now f → ⊥)
+        (λ f. IsEntry (unit_tree unit.now) name.now f) }
 {
     for f in 0..unit.functions.len() {
         if is_named(unit, f, name) {
