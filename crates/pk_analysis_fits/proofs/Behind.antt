@@ -1,9 +1,10 @@
 -- What stands to the left of an element of an order is gone when the element's turn comes.
-use Rattle.std.proofs.Common.{◌≡◌, ◌≢◌, ℕ, zero, suc, ◌⊎◌, inl, inr, List, [], ◌∷◌, ◌++◌, drop, true, false, ap, sym, subst, ◌∙◌, arith, Contains, AllPairs}
+use Rattle.std.proofs.Common.{◌≡◌, ℕ, zero, suc, ◌⊎◌, inl, inr, List, [], ◌∷◌, ◌++◌, drop, true, false, ap, sym, subst, ◌∙◌, Contains}
 use Rattle.std.proofs.lemmas.List.Elements.{Contains-append_left, Contains-append_right}
 use Rattle.pk_plan.specs.Order.{Level, Empty, Vertex_then, Component_then}
 use Rattle.pk_plan.specs.Shape.{has}
 use Rattle.pk_plan.specs.Linear.{elements_of}
+use Rattle.pk_plan.proofs.Apart.{Apart}
 use Rattle.pk_linear.proofs.ListLemmas.{contains_none, contains_here, contains_there, contains_cases}
 use Rattle.pk_iterate.specs.Settled.{In, Ahead}
 use Rattle.pk_sound.proofs.Ahead.{in_contains}
@@ -55,18 +56,6 @@ ahead_after (Component_then h x rest more) u e (inr (inl a)) = inr (after_across
 ahead_after (Component_then h x rest more) u e (inr (inr (inl a))) = inr (after_right (elements_of rest) (x ∷ elements_of more) u e (inl (a.0, in_contains more e a.1)))
 ahead_after (Component_then h x rest more) u e (inr (inr (inr (inl a)))) = inr (after_left (elements_of rest) (x ∷ elements_of more) u e (ahead_after rest u e a))
 ahead_after (Component_then h x rest more) u e (inr (inr (inr (inr a)))) = inr (after_right (elements_of rest) (x ∷ elements_of more) u e (inr (ahead_after more u e a)))
-
--- no element stands in the list twice
-abbrev pub Apart : List ℕ → Type 0
-Apart [] = Unit {0}
-Apart (x ∷ xs) = (Contains xs x → ⊥) × Apart xs
-
-pub apart_by : (xs : List ℕ) → AllPairs (λ a b. a ≢ b) xs → Apart xs
-apart_by [] differ = tt
-apart_by (x ∷ xs) differ = (
-  (λ found. differ 0 (suc found.0) x (omega arith) (omega (arith, found.1)) (sym found.2)),
-  apart_by xs (λ i j d less within. differ (suc i) (suc j) d (omega (arith, less)) (omega (arith, within))),
-)
 
 after_has : (xs : List ℕ) (u e : ℕ) → After xs u e → Contains xs e
 after_has [] u e a = absurd a

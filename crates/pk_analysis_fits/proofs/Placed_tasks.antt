@@ -10,6 +10,7 @@ use Rattle.pk_plan.specs.Plans.{PlanView, end_of, predecessors_of, members_of, I
 use Rattle.pk_plan.specs.Axioms.{Axioms}
 use Rattle.pk_plan.specs.Plans.{One}
 use Rattle.pk_plan.specs.Shape.{has, component_of, exits, holds, shape_of}
+use Rattle.pk_plan.proofs.Apart.{Apart, apart_of}
 use Rattle.pk_plan.proofs.PlanLemmas.{exit_at, same_exit, stands_inside}
 use Rattle.pk_plan.specs.Linear.{elements_of, Bracket, brackets_of, IsLinear}
 use Rattle.pk_linear.proofs.ListLemmas.{contains_here, contains_there}
@@ -20,10 +21,10 @@ use Rattle.pk_sound.proofs.Ahead.{order_once, has_component, precedes_ahead}
 use Rattle.pk_core.specs.Orders.{elements_left, IsTask, IsPlaced, IsOrderOf}
 use Rattle.pk_core.proofs.Basics.{not_true}
 use Rattle.pk_core.proofs.Plan_shapes.{has_of, of_has}
-use Rattle.pk_plan.proofs.Shapes.{of_exit, exit_is}
+use Rattle.pk_plan.proofs.Shapes.{bool_same, of_exit, exit_is}
 use Rattle.pk_core.proofs.Stepping.{holds_is, members_are}
 use Rattle.pk_analysis_fits.specs.Orders.{LinearOrdersAreOrders}
-use Rattle.pk_analysis_fits.proofs.Behind.{Apart, apart_by, ahead_after, gone, once_at}
+use Rattle.pk_analysis_fits.proofs.Behind.{ahead_after, gone, once_at}
 
 -- ---- the tasks of a level
 
@@ -130,11 +131,6 @@ tells_most a b h = grind (arith, nat_tests)
 tells_below : (a b : ℕ) → a < b → ltb a b ≡ true
 tells_below a b h = grind (arith, nat_tests)
 
-bool_same : (s t : Bool) → (s ≡ true → t ≡ true) → (t ≡ true → s ≡ true) → s ≡ t
-bool_same true t f g = sym (f refl)
-bool_same false true f g = g refl
-bool_same false false f g = refl
-
 and_first : (s t : Bool) → (s && t) ≡ true → s ≡ true
 and_first true t h = refl
 and_first false t h = absurd (cc)
@@ -198,7 +194,7 @@ module _ (p : PlanView) (order : Level) (axioms : Axioms p) (linear : IsLinear p
   is_task (Exit h x rest) d = exit_task h x rest d
 
   apart : Apart (elements_of order)
-  apart = apart_by (elements_of order) linear.once
+  apart = apart_of (elements_of order) linear.once
 
   placed : (i : ℕ) (t : Task) (left : List Task) → drop i (to_do order []) ≡ t ∷ left → IsPlaced (shape_of p) t left
   placed i t left is =

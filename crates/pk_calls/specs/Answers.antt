@@ -38,12 +38,14 @@ abbrev pub Passes : UnitTree → List CallPath → Quantity → ℕ → Type 0
 Passes u paths quantity.Text n = ⊥
 Passes u paths quantity.Nesting n = ⊥
 Passes u paths quantity.Paths n = (n ≡ path_limit) × (path_limit < length paths)
-Passes u paths quantity.Variables n = (n ≡ variable_limit) × (length paths ≤ path_limit) × (variable_limit < variables_of u paths)
+Passes u paths quantity.Variables n =
+    (n ≡ variable_limit) × (length paths ≤ path_limit) × (variable_limit < variables_of u paths)
 Passes u paths quantity.Points n = ⊥
 
 -- The answer: all call paths where they are within the limits, or why not. Want of memory is no answer about the unit.
 abbrev pub IsAnswer : UnitTree → List ℕ → Result (List CallPath) CallError → Type 0
-IsAnswer u name (Ok paths) = HasPaths u name paths × (length paths ≤ path_limit) × (variables_of u paths ≤ variable_limit)
+IsAnswer u name (Ok paths) =
+    HasPaths u name paths × (length paths ≤ path_limit) × (variables_of u paths ≤ variable_limit)
 IsAnswer u name (Err (error.NoEntry n)) = (n ≡ name) × ((f : ℕ) → IsNamed u name f → ⊥)
 IsAnswer u name (Err (error.Recursion cycle)) = IsRefused u name (recursion cycle)
 IsAnswer u name (Err (error.UndefinedCall f at)) = IsRefused u name (undefined f at)

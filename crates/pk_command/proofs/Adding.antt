@@ -6,10 +6,6 @@ use Rattle.clap.specs.declared.builder.command.Command.{Command}
 use Rattle.clap.specs.declared.builder.command.Command.TheViews.{out-Command as fields_of}
 use Rattle.pk_command.specs.CommandLine.{IsCommand, IsOption}
 
-pub if_ok : {A E : Type 0} (r : Result A E) {P Q : A → Type 0} → ((v : A) → P v → Q v) → IfOk r P → IfOk r Q
-if_ok (Ok v) f p = f v p
-if_ok (Err e) f p = p
-
 pub ok_is : {A E : Type 0} (P : A → Type 0) (r : Result A E) (a : A) → r ≡ Ok a → IfOk r P → P a
 ok_is P (Ok b) a e h = let same : b ≡ a = cc in subst P same h
 ok_is P (Err x) a e h = cc

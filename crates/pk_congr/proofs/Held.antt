@@ -16,7 +16,8 @@ use Rattle.pk_ctypes.proofs.Values.{zero_test, not_zero_test}
 use Rattle.pk_congr.specs.Classes.{Class, int_gcd, divides, is_held, every, class_of, class_if, held_number, next_up_of, next_down_of}
 use Rattle.pk_congr.specs.Operators.{class_if_some, product_of, class_of_products, class_of_both, class_product, is_divided, class_quotient, class_doubled}
 use Rattle.pk_congr.proofs.Multiples.{Multiple, negative_multiple}
-use Rattle.pk_congr.proofs.Numbers.{and_true, test_held, euclid_differs}
+use Rattle.pk_ctypes.proofs.Small.{and_true}
+use Rattle.pk_congr.proofs.Numbers.{test_held, euclid_differs}
 
 pub same_class : (m m' r r' : ℤ) → m ≡ m' → r ≡ r' → class_if m r ≡ class_if m' r'
 same_class m m' r r' e f = ap (λ v. class_if v r) e ∙ ap (class_if m') f

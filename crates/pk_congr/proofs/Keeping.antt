@@ -10,7 +10,8 @@ use Rattle.pk_congr.specs.Classes.{Class, IsReduced, int_gcd, class_if, rest_mod
 use Rattle.pk_congr.specs.Laws.{NothingChanges}
 use Rattle.pk_congr.proofs.Gcd.{gcd_left, gcd_greatest}
 use Rattle.pk_congr.proofs.Multiples.{Multiple, test_multiple, self_multiple, zero_multiple, negative_multiple, dvd_from_multiple, multiple_test}
-use Rattle.pk_congr.proofs.Numbers.{and_true, both_true, class_if_is, rest_of_some, rest_of_zero}
+use Rattle.pk_ctypes.proofs.Small.{and_true, both_true}
+use Rattle.pk_congr.proofs.Numbers.{class_if_is, rest_of_some, rest_of_zero}
 use Rattle.pk_congr.proofs.Widening.{still_of}
 
 -- a number divides another exactly where it is their greatest common divisor

@@ -6,6 +6,7 @@ use Rattle.std.proofs.Common.{arith, ap, refl, sym, subst, inl, inr}
 use Rattle.std.proofs.lemmas.Int.{ints}
 use Rattle.std.proofs.lemmas.Bool.Decides.{Decides-int_eq, nat_tests}
 use Rattle.pk_ctypes.proofs.Whole.{rest_split, rest_from, rest_below}
+use Rattle.pk_ctypes.proofs.Small.{and_true}
 use Rattle.pk_ctypes.proofs.Values.{zero_test, not_zero_test}
 use Rattle.pk_congr.specs.Classes.{Class, IsMember, IsReduced, is_held, every, rest_modulo, class_of, class_if}
 use Rattle.pk_congr.proofs.Multiples.{Multiple, zero_multiple, sum_multiple, difference_multiple, neg_product}
@@ -31,15 +32,6 @@ next_member c x y h k =
 
 pub every_member : (x : ℤ) → IsMember every x
 every_member x = (x, omega (arith, ints))
-
-pub both_true : (a b : Bool) → (a && b) ≡ true → (a ≡ true) × (b ≡ true)
-both_true true b e = (refl, e)
-both_true false b e = absurd (cc)
-
-pub and_true : (a b : Bool) → a ≡ true → b ≡ true → (a && b) ≡ true
-and_true true true e f = refl
-and_true false b e f = absurd (cc)
-and_true a false e f = absurd (cc)
 
 pub by_test : (b : Bool) → (b ≡ true) ⊎ (b ≡ false)
 by_test true = inl refl

@@ -8,7 +8,8 @@ use Rattle.pk_congr.specs.Laws.{Within, TestsAreRight, AreNear, JoinIsLeast}
 use Rattle.pk_congr.proofs.Multiples.{Multiple, self_multiple, difference_multiple, negative_multiple, times_multiple, multiple_trans, multiple_test, test_multiple}
 use Rattle.pk_ctypes.proofs.Whole.{times_sum}
 use Rattle.pk_congr.proofs.Gcd.{euclid, gcd_left, gcd_right, gcd_greatest, combined, gcd_zero, gcd_some, gcd_some_right}
-use Rattle.pk_congr.proofs.Numbers.{apart_by, is_member, rest_member, two_members, next_member, both_true, and_true, by_test, class_only, class_if_has, class_if_is}
+use Rattle.pk_ctypes.proofs.Small.{both_true, and_true}
+use Rattle.pk_congr.proofs.Numbers.{apart_by, is_member, rest_member, two_members, next_member, by_test, class_only, class_if_has, class_if_is}
 
 pub member : (c : Class) (x : ℤ) → (has_member c x ≡ true) ↔ IsMember c x
 member c x = (λ e. is_member c x (test_multiple c.m (x -ℤ c.r) e), λ h. multiple_test c.m (x -ℤ c.r) (apart_by c x h))

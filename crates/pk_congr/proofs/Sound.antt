@@ -21,7 +21,8 @@ use Rattle.pk_congr.specs.Operators.{are_products_held, class_product, is_divide
 use Rattle.pk_congr.specs.Laws.{OperatorsAreSound, WrappingIsSound}
 use Rattle.pk_congr.proofs.Multiples.{Multiple, assoc, self_multiple, sum_multiple, difference_multiple, negative_multiple, times_multiple, multiple_trans, test_multiple}
 use Rattle.pk_congr.proofs.Gcd.{gcd_left, gcd_right}
-use Rattle.pk_congr.proofs.Numbers.{apart_by, every_member, both_true, tested_zero, tested_some, class_if_has}
+use Rattle.pk_ctypes.proofs.Small.{both_true}
+use Rattle.pk_congr.proofs.Numbers.{apart_by, every_member, tested_zero, tested_some, class_if_has}
 use Rattle.pk_congr.proofs.Order.{multiple_of_abs}
 
 abbrev good : ℤ → Result ℤ Fault

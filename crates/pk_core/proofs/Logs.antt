@@ -1,21 +1,18 @@
 -- What the log of an element says in the trace's own words.
 use Rattle.std.proofs.Common.{◌≡◌, ℕ, suc, ◌+◌, ◌≤◌, ◌==◌, List, [], ◌∷◌, ◌++◌, map, length, Bool, true, false, if◌then◌else◌, cond, ◌&&◌, refl, sym, ap, ◌∙◌, arith, length-append}
-use Rattle.std.proofs.lemmas.List.Sums.{sum_by-cons}
 use Rattle.pk_iterate.specs.Behaviour.{Behaviour}
 use Rattle.pk_iterate.specs.Iteration.{inputs_after, cell_after, count_of}
 use Rattle.pk_core.specs.States.{Made, newest}
 use Rattle.pk_core.proofs.Moves.{log_of}
 use Rattle.pk_iterate.specs.Runs.{runs_before, run_value, values_read}
+use Rattle.pk_iterate.proofs.Run_values.{count-cons}
 use Rattle.pk_core.proofs.Basics.{neq, itself}
 use Rattle.pk_core.proofs.Sequence.{log_cell}
-
-pub count_more : {C : Type 0} (r : ℕ × C) (runs : List (ℕ × C)) (e : ℕ) → count_of (r ∷ runs) e ≡ cond (r.0 == e) 1 0 + count_of runs e
-count_more {C} r runs e = sum_by-cons (λ (q : ℕ × C). cond (q.0 == e) 1 0) r runs
 
 -- its length is the count
 pub log_length : {C : Type 0} (b : Behaviour C) (runs : List (ℕ × C)) (e : ℕ) → length (log_of b runs e) ≡ count_of runs e
 log_length b [] e = refl
-log_length {C} b (r ∷ runs) e = by_test (r.0 == e) (log_length b runs e) ∙ sym (count_more r runs e)
+log_length {C} b (r ∷ runs) e = by_test (r.0 == e) (log_length b runs e) ∙ sym (count-cons r runs e)
   where
     by_test : (c : Bool) → length (log_of b runs e) ≡ count_of runs e → length (if c then record { read = inputs_after b runs e; gave = r.1 } ∷ log_of b runs e else log_of b runs e) ≡ cond c 1 0 + count_of runs e
     by_test true ih = omega arith

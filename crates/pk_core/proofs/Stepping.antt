@@ -21,7 +21,7 @@ use Rattle.pk_core.proofs.Basics.{neq, same, itself, counted_same}
 use Rattle.pk_core.proofs.Keeps.{run_else}
 use Rattle.pk_core.proofs.Plan_shapes.{has_of, of_has}
 use Rattle.pk_core.proofs.Changed_at.{stand_changed, stand_same}
-use Rattle.pk_plan.proofs.Shapes.{of_exit, exit_is}
+use Rattle.pk_plan.proofs.Shapes.{bool_same, of_exit, exit_is}
 
 abbrev pub with_elements : {Y C : Type 0} → CoreView Y C → List (Standing C) → CoreView Y C
 with_elements v xs = record { system = v.system; plan = v.plan; elements = xs }
@@ -94,11 +94,6 @@ step_stable b v w x cell gave is = step_of b v w (Stable x) (changed (changed v.
 
 below_true : (a b : ℕ) → a < b → ltb a b ≡ true
 below_true a b h = grind (arith, nat_tests)
-
-bool_same : (s t : Bool) → (s ≡ true → t ≡ true) → (t ≡ true → s ≡ true) → s ≡ t
-bool_same true t f g = sym (f refl)
-bool_same false true f g = g refl
-bool_same false false f g = refl
 
 pub holds_is : (p : PlanView) (x u : ℕ) → exits p x ≡ true → u < p.elements → holds p x u ≡ is_inside p (component_of p x) u
 holds_is p x u exit below =

@@ -1,3 +1,5 @@
+pub mod Small
+mod TableLemmas
 pub mod Whole
 pub mod Wrapped
 pub mod Values

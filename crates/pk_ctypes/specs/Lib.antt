@@ -4,3 +4,4 @@ pub mod Operators
 pub mod Laws
 pub mod Places
 pub mod Words
+pub mod Spellings

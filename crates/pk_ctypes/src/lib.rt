@@ -7,6 +7,7 @@ mod laws;
 mod names;
 mod operators;
 mod places;
+mod spellings;
 mod types;
 mod words;
 
@@ -19,5 +20,6 @@ pub use laws::{
 pub use names::{Name, Names};
 pub use operators::{apply, is_shift_count, result_type};
 pub use places::Pos;
+pub use spellings::{is_spelled, look_up};
 pub use types::{IntType, Op};
 pub use words::{Construct, Quantity, Rule};

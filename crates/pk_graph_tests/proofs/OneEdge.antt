@@ -1,20 +1,15 @@
--- The variables' types, and the one instruction of a point.
+-- The one instruction of a point.
 use Rattle.std.proofs.Common.{◌≡◌, ◌<◌, ℕ, ap, subst, sym, ◌∙◌, List, length, map}
 use Rattle.std.specs.List.{slice_index_or}
 use Rattle.std.proofs.lemmas.List.{get_or-map, length-map}
-use Rattle.pk_ctypes.specs.declared.types.IntType.{IntType}
 use Rattle.pk_graph.specs.declared.graphs.Edge.{Edge}
-use Rattle.pk_graph.specs.Kinds.{Kind}
 use Rattle.pk_graph.specs.Trees.{InstrOf}
 use Rattle.pk_graph.specs.Views.{instr_view}
-use Rattle.pk_graph.specs.Graphs.{EdgeOf, GraphOf, VariableOf, edge_view, point_at}
+use Rattle.pk_graph.specs.Graphs.{EdgeOf, GraphOf, edge_view, point_at}
 use Rattle.pk_graph.specs.WellMade.{IsGraph}
 use Rattle.pk_state.specs.Layouts.{Layout}
 use Rattle.pk_transfer.specs.Transfers.{IsInstrOver}
 use Rattle.pk_transfer.specs.Graphs.{GraphsAreOver, layout_of}
-
-abbrev pub types_of : List VariableOf → List IntType
-types_of vs = map (λ (k : Kind). k.int_type) (map (λ (x : VariableOf). x.kind) vs)
 
 -- the first edge's instruction may be transferred
 pub over_first : (g : GraphOf) (y : Layout) (n p : ℕ) (es : List Edge) (e : Edge) → GraphsAreOver → IsGraph g → y ≡ layout_of g n → p < length g.points → map edge_view es ≡ (point_at g p).edges → 0 < length es

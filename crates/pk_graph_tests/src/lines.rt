@@ -1,32 +1,16 @@
 // What is known at the end of a line of instructions.
 
-ghost use Rattle.std.specs.Prelude.{◌≡◌, ◌<◌, ◌^◌, length, IfOk};
+ghost use Rattle.std.specs.Prelude.{◌≡◌, ◌<◌, length, IfOk};
 ghost use Rattle.std.specs.Arc.{arc_value};
 ghost use Rattle.pk_graph.specs.Shown.{graph_view};
 ghost use Rattle.pk_transfer.specs.Graphs.{layout_of};
 
-use pk_graph::{Graph, octagon_variables};
+use pk_graph::Graph;
 use pk_state::{Frame, State};
 use pk_transfer::{graphs_law, transfer};
-use std::alloc::{AllocError, Global};
+use std::alloc::Global;
 use std::sync::Arc;
 use std::test::Fail;
-
-/// The graph's variables, with an octagon over the first of them.
-#[tactic(auto, unfolding(pk_graph::specs::Graphs::variable_view))]
-pub fn frame(alloc: Global, graph: &Graph, oct: usize) -> Result<Frame, AllocError>
-    requires { oct < 2 ^ 31 }
-    ensures { IfOk result (λ f. f ≡ layout_of (graph_view graph.now) oct) }
-{
-    graphs_law();
-    let chosen = octagon_variables(alloc, graph, oct)?;
-    let variables = graph.variables();
-    let mut types = Vec::with_capacity(alloc, variables.len())?;
-    for variable in variables {
-        types.push(variable.int_type)?;
-    }
-    Ok(Frame::new(types, chosen))
-}
 
 // What is known after the one edge of a point, which leads to the next point.
 fn passed(

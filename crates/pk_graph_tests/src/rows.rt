@@ -3,10 +3,11 @@
 
 ghost use Rattle.std.specs.Prelude.{◌<◌};
 
-use crate::lines::{along, frame};
+use crate::lines::along;
 use crate::printing::print;
 use crate::ways::graph_of;
 use pk_graph::Graph;
+use pk_transfer::frame;
 use std::alloc::Global;
 use std::process::Abort;
 use std::sync::Arc;

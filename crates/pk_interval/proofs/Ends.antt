@@ -6,6 +6,7 @@ use Rattle.std.proofs.Common.{arith, refl, ap, sym, ◌∙◌, inl, inr}
 use Rattle.std.proofs.lemmas.Int.{ints}
 use Rattle.pk_ctypes.specs.declared.types.IntType.{IntType}
 use Rattle.pk_ctypes.specs.Types.{low_of, high_of, is_in_type, InType}
+use Rattle.pk_ctypes.proofs.Small.{both_true, and_true}
 use Rattle.pk_interval.specs.Ranges.{Range, Holds, IsIn, is_within}
 use Rattle.pk_interval.specs.Widening.{next_up, next_down, widened, IsChain, Widens, tally, lies_above, lies_below, moves, MovesAreRanks}
 use Rattle.pk_interval.proofs.NextThresholds.{up_in, down_in}
@@ -13,15 +14,6 @@ use Rattle.pk_interval.proofs.NextThresholds.{up_in, down_in}
 abbrev In : List ℤ → ℤ → Type 0
 In [] r = ⊥
 In (c ∷ cs) r = (c ≡ r) ⊎ In cs r
-
-both_true : (a b : Bool) → (a && b) ≡ true → (a ≡ true) × (b ≡ true)
-both_true true b e = (refl, e)
-both_true false b e = absurd (cc)
-
-and_true : (a b : Bool) → a ≡ true → b ≡ true → (a && b) ≡ true
-and_true true true e f = refl
-and_true false b e f = absurd (cc)
-and_true a false e f = absurd (cc)
 
 false_and : (a b : Bool) → a ≡ false → (a && b) ≡ false
 false_and false b e = refl

@@ -1,26 +1,15 @@
 -- At most one order of a plan is linear.
-use Rattle.std.proofs.Common.{◌≡◌, ◌≢◌, ◌⊎◌, ℕ, suc, ◌<◌, ◌≤◌, List, [], ◌∷◌, ◌++◌, refl, sym, ap, subst, ◌∙◌, inl, inr, arith, Contains, AllPairs}
+use Rattle.std.proofs.Common.{◌≡◌, ◌≢◌, ◌⊎◌, ℕ, ◌<◌, ◌≤◌, List, [], ◌∷◌, ◌++◌, refl, sym, ap, subst, ◌∙◌, inl, inr, arith, Contains}
 use Rattle.std.proofs.lemmas.List.Elements.{Contains-append_left, Contains-append_right, Contains-append_cases, All-contains}
 use Rattle.pk_plan.specs.declared.components.Component.{Component}
 use Rattle.pk_plan.specs.Order.{Level, Empty, Vertex_then, Component_then}
 use Rattle.pk_plan.specs.Plans.{PlanView, Inside}
 use Rattle.pk_plan.specs.Axioms.{Axioms}
+use Rattle.pk_plan.proofs.Apart.{Apart, apart_of}
 use Rattle.pk_plan.proofs.PlanLemmas.{Of, same_head}
 use Rattle.pk_plan.specs.Linear.{elements_of, Item, vertex_item, component_item, items_of, Bracket, brackets_of, IsNext, TakesLeastReady, Encloses, IsLinear}
 use Rattle.pk_linear.proofs.ListLemmas.{contains_none, contains_here, contains_there, contains_cases}
 use Rattle.pk_linear.proofs.LevelLemmas.{in_rest, in_exit, in_more, component_cases, item_cases, item_rest, item_exit}
-
--- no element stands in the list twice
-abbrev Apart : List ℕ → Type 0
-Apart [] = Unit {0}
-Apart (x ∷ xs) = (Contains xs x → ⊥) × Apart xs
-
-apart_from_pairs : (xs : List ℕ) → AllPairs (λ a b. a ≢ b) xs → Apart xs
-apart_from_pairs [] differ = tt
-apart_from_pairs (x ∷ xs) differ = (
-  (λ has. differ 0 (suc has.0) x (omega arith) (omega (arith, has.1)) (sym has.2)),
-  apart_from_pairs xs (λ i j d less within. differ (suc i) (suc j) d (omega (arith, less)) (omega (arith, within))),
-)
 
 apart_left : (xs ys : List ℕ) → Apart (xs ++ ys) → Apart xs
 apart_left [] ys apart = tt
@@ -537,7 +526,7 @@ linear_same p one other axioms linear_one linear_other = determined p one other 
   where
     proper : (level : Level) → IsLinear p level → IsProper p level
     proper level linear = record {
-      apart = apart_from_pairs (elements_of level) linear.once;
+      apart = apart_of (elements_of level) linear.once;
       drawn = linear.drawn;
       enclosed = λ c of has. linear.enclosed c of;
       next = linear.next;

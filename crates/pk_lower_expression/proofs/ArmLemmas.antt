@@ -1,6 +1,6 @@
 -- Each form of expression from what its parts gave.
 use Rattle.std.proofs.Common.{◌≡◌, ℕ, ◌+◌, List, Bool, true, false, if◌then◌else◌, refl, sym, ◌∙◌, ap}
-use Rattle.std.specs.Prelude.{ℤ, pos, Result, Ok, Err, OnOk, IfOk}
+use Rattle.std.specs.Prelude.{ℤ, pos}
 use Rattle.pk_ctypes.specs.declared.places.Pos.{Pos}
 use Rattle.pk_ctypes.specs.declared.types.IntType.{IntType}
 use Rattle.pk_ctypes.specs.declared.types.IntType.TheVariants.{Int}
@@ -33,14 +33,6 @@ use Rattle.pk_lower_expression.specs.Expressions.{passed, performed, target, way
 use Rattle.pk_lower_expression.proofs.WayLemmas.{lowered, target_scalar, target_element, ways_constant, ways_read, ways_assign, ways_update, ways_step, ways_call, ways_any, ways_unary, ways_convert, ways_binary, ways_and, ways_or, ways_conditional, ways_then, performed_unused, performed_run, performed_assume, performed_assert, performed_abort, performed_then}
 
 -- ---- answers
-
-pub on_ok : {A E : Type 0} (r : Result A E) {P Q : Type 0} → (P → Q) → OnOk r P → OnOk r Q
-on_ok (Ok v) f p = f p
-on_ok (Err e) f p = p
-
-pub if_ok : {A E : Type 0} (r : Result A E) {P Q : A → Type 0} → ((v : A) → P v → Q v) → IfOk r P → IfOk r Q
-if_ok (Ok v) f p = f v p
-if_ok (Err e) f p = p
 
 -- ---- operands
 

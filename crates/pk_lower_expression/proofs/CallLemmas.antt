@@ -1,9 +1,10 @@
 -- Arguments of calls.
 use Rattle.std.proofs.Common.{◌≡◌, ◌<◌, ◌≤◌, ◌+◌, ℕ, zero, suc, List, [], ◌∷◌, length, get_or, drop, map, Bool, true, false, refl, sym, ◌∙◌, ap, arith, ⊎_elim, drop-cons, ◌++◌, add-one, append_assoc}
-use Rattle.std.specs.Prelude.{◌||◌, nat_lt, Option, Some, None, SomeIff, Result, Ok, Err, OnOk, IfOk}
+use Rattle.std.specs.Prelude.{◌||◌, nat_lt, Option, Some, SomeIff, Result, Ok, Err, OnOk, IfOk}
 use Rattle.std.proofs.lemmas.List.{map-append, append-nil, drop_all}
 use Rattle.std.proofs.lemmas.Bool.{cases_lt}
 use Rattle.pk_ctypes.specs.declared.types.IntType.{IntType}
+use Rattle.pk_ctypes.proofs.Small.{some_is}
 use Rattle.pk_typed.specs.declared.values.Value.{Value}
 use Rattle.pk_typed.specs.Types.{type_of}
 use Rattle.pk_typed.specs.Views.{value_tree, value_trees}
@@ -88,10 +89,6 @@ bound_no_trees k i x ts us [] zero d h = bound_none k i x ts us d
 bound_no_trees k i x ts us [] (suc n) d h = bound_none k i x ts us d
 bound_no_trees k i x ts us (r ∷ rs) zero d h = absurd (omega arith)
 bound_no_trees k i x ts us (r ∷ rs) (suc n) d h = bound_no_trees k i x ts us rs n d (omega arith)
-
-some_is : (P : Type 0) (o : Option ℕ) (v x : ℕ) → SomeIff o P v → o ≡ Some x → x ≡ v
-some_is P None v x h e = cc
-some_is P (Some y) v x h e = cc
 
 -- one parameter is set
 pub bound_next : (P : Type 0) (k first n x : ℕ) (o : Option ℕ) (ts : List IntType) (vs : List Value) (rs : List Tree) (t : IntType) (v : Value) (r : Tree) (d0 : Draft) (d1 : DraftOf ℕ)

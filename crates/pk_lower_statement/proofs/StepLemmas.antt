@@ -1,6 +1,6 @@
 -- Each form of declaration and statement from what its steps made.
 use Rattle.std.proofs.Common.{◌≡◌, ◌<◌, ◌≤◌, ℕ, suc, ◌+◌, List, ◌∷◌, length, get_or, drop, Bool, refl, sym, ◌∙◌, ap, drop-cons, add-one}
-use Rattle.std.specs.Prelude.{ℤ, Option, Result, Ok, Err, OnOk}
+use Rattle.std.specs.Prelude.{ℤ, Option}
 use Rattle.std.proofs.lemmas.List.{drop_all}
 use Rattle.pk_ctypes.specs.declared.places.Pos.{Pos}
 use Rattle.pk_ctypes.specs.declared.types.IntType.{IntType}
@@ -23,10 +23,6 @@ use Rattle.pk_lower_statement.specs.declared.statements.Exits.{Exits}
 use Rattle.pk_lower_statement.specs.Statements as rows
 use Rattle.pk_lower_statement.specs.Statements.{items, declared, all_declared, case_test, case_tests, branching, meeting, if_draft, while_draft, do_draft, for_draft, in_switch, switch_begun, switch_draft, tested, returned, performed_if, for_start, for_test, lowered, lowered_items}
 use Rattle.pk_lower_statement.proofs.FormLemmas.{items_none, items_before, declared_none, declared_before, tests_none, tests_before, lowered_none, lowered_declared, lowered_statement, lowered_block, lowered_empty, lowered_effect, lowered_label, lowered_case, lowered_default, lowered_if, lowered_if_else, lowered_switch, lowered_while, lowered_do, lowered_for, lowered_goto, lowered_continue, lowered_break, lowered_return}
-
-pub on_ok : {A E : Type 0} (r : Result A E) {P Q : Type 0} → (P → Q) → OnOk r P → OnOk r Q
-on_ok (Ok v) f p = f p
-on_ok (Err e) f p = p
 
 -- ---- lists
 

@@ -4,3 +4,4 @@ pub mod DigraphLemmas
 pub mod Drawing
 pub mod NestPlaceLemmas
 pub mod Shapes
+pub mod Apart

@@ -33,7 +33,7 @@ of_has : (u : ℕ) (ws : List ℕ) → has u ws ≡ true → Contains ws u
 of_has u [] h = absurd (cc)
 of_has u (w ∷ ws) h = of_by u w ws (u == w) refl h (of_has u ws)
 
-bool_same : (s t : Bool) → (s ≡ true → t ≡ true) → (t ≡ true → s ≡ true) → s ≡ t
+pub bool_same : (s t : Bool) → (s ≡ true → t ≡ true) → (t ≡ true → s ≡ true) → s ≡ t
 bool_same true t f g = sym (f refl)
 bool_same false true f g = g refl
 bool_same false false f g = refl

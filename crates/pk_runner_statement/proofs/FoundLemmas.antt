@@ -2,7 +2,6 @@
 use Rattle.std.proofs.Common.{◌≡◌, ◌<◌, ◌-◌, ℕ, refl, ap, sym, arith, List, [], ◌∷◌, length, get_or, Bool, true, false}
 use Rattle.std.specs.Prelude.{if◌then◌else◌}
 use Rattle.std.proofs.lemmas.List.{take_all}
-use Rattle.std.specs.Prelude.{Option, Some, None, SomeIff}
 use Rattle.pk_typed.specs.Trees.{StatementTree, ItemTrees, no_items, declared_before, statement_before}
 use Rattle.pk_typed.specs.Trees as tree
 use Rattle.pk_graph.specs.Steps.{Numbers}
@@ -60,7 +59,3 @@ same_takes c Lost us vs e = refl
 pub front : {A : Type 0} (xs : List A) (d : A) → 0 < length xs → xs ≡ get_or xs 0 d ∷ tail xs
 front [] d h = absurd (omega (arith, h))
 front (y ∷ ys) d h = ap (λ (zs : List _). y ∷ zs) (sym (take_all (length (y ∷ ys) - 1) ys (omega arith)))
-
-pub some_is : (P : Type 0) (o : Option ℕ) (v x : ℕ) → SomeIff o P v → o ≡ Some x → x ≡ v
-some_is P None v x h e = cc
-some_is P (Some y) v x h e = cc

@@ -141,7 +141,7 @@ meets_same e x y h m = record {
 }
 
 -- the k-th variable, where there is one
-chosen_is : (ys : List ℕ) (k y : ℕ) → slice_get ys k ≡ Some y → (k < length ys) × (slice_index_or ys k 0 ≡ y)
+pub chosen_is : (ys : List ℕ) (k y : ℕ) → slice_get ys k ≡ Some y → (k < length ys) × (slice_index_or ys k 0 ≡ y)
 chosen_is [] k y e = absurd (cc)
 chosen_is (z ∷ ys) zero y e = let same : z ≡ y = cc in (omega arith, same)
 chosen_is (z ∷ ys) (suc k) y e = let r = chosen_is ys k y e in (omega (arith, r.0), r.1)

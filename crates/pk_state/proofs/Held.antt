@@ -10,7 +10,8 @@ use Rattle.pk_interval.proofs.Keeping.{stays}
 use Rattle.pk_interval.proofs.Ends.{within}
 use Rattle.pk_congr.specs.Classes.{Class, IsReduced, is_held, every, class_of, class_if, int_gcd}
 use Rattle.pk_congr.specs.Classes as classes
-use Rattle.pk_congr.proofs.Numbers.{both_true, class_reduced, test_held}
+use Rattle.pk_ctypes.proofs.Small.{both_true}
+use Rattle.pk_congr.proofs.Numbers.{class_reduced, test_held}
 use Rattle.pk_value.specs.Known.{Known}
 use Rattle.pk_value.specs.Known as known
 use Rattle.pk_octmat.specs.Octagon.{Octagon, IsOctagon}

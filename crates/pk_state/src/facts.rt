@@ -5,11 +5,10 @@ ghost use Rattle.std.specs.Arc.{arc_value};
 ghost use Rattle.std.specs.List.Sorted.{IsSorted};
 ghost use Rattle.std.specs.Ordering.{int_cmp};
 ghost use Rattle.pk_octops.specs.Tables.{join_of, widening_of, narrowing_of};
-ghost use Rattle.pk_state.specs.Facts.{AreFacts, AreValues, AreWithin, joined_values, widened_values, narrowed_values, top_facts as top_of};
+ghost use Rattle.pk_state.specs.Facts.{AreFacts, AreValues, AreWithin, joined_values, widened_values, narrowed_values, known_at, top_facts as top_of};
 ghost use Rattle.pk_octmat.specs.Octagon.{octagon_of, top_bound};
 ghost use Rattle.pk_value.specs.Known.{any_of};
 ghost use Rattle.pk_state.specs.Layouts.{chosen_at};
-ghost use Rattle.pk_state.specs.Facts.{known_at};
 ghost use Rattle.pk_state.specs.Marks.{AreMarked, IsClosedIf, IsSettledIf};
 ghost use Rattle.pk_state.specs.Reduced.{by_range, reduced_facts, with_closed};
 

@@ -50,10 +50,7 @@ pub(crate) fn either(
 pub(crate) fn is_none_listed(loose: &[usize]) -> bool
     ensures { result ≡ true → loose.now ≡ [] }
 {
-    match loose {
-        [] => true,
-        [_, ..] => false,
-    }
+    matches!(loose, [])
 }
 
 /// Writes a value that may be loose, if it isn't there.

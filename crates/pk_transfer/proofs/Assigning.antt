@@ -1,5 +1,5 @@
 -- Assignments keep the stores of a state.
-use Rattle.std.specs.Prelude.{◌≡◌, ◌≢◌, ℕ, zero, suc, ◌<◌, ◌==◌, Bool, true, false, if◌then◌else◌, ℤ, pos, ◌+ℤ◌, List, [], ◌∷◌, length, slice_get, slice_index_or, slice_set, Option, Some, None, option_map}
+use Rattle.std.specs.Prelude.{◌≡◌, ◌≢◌, ℕ, zero, suc, ◌<◌, ◌==◌, Bool, true, false, if◌then◌else◌, ℤ, pos, ◌+ℤ◌, List, [], ◌∷◌, length, slice_index_or, slice_set, Option, Some, None, option_map}
 use Rattle.std.proofs.Common.{arith, refl, subst}
 use Rattle.std.proofs.lemmas.Int.{ints}
 use Rattle.std.proofs.lemmas.Bool.Decides.{nat_tests}
@@ -14,18 +14,12 @@ use Rattle.pk_state.specs.Layouts.{Layout, IsLayout, chosen_at, place_in}
 use Rattle.pk_state.specs.Facts.{Facts, AreFactsIf}
 use Rattle.pk_state.specs.Members.{selected, Member}
 use Rattle.pk_state.specs.Changes.{known_in, with_known, IsApart}
-use Rattle.pk_state.proofs.Changed.{changes_sound}
+use Rattle.pk_state.proofs.Changed.{changes_sound, chosen_is}
 use Rattle.pk_transfer.specs.Trees.{tree_known, kind_of, kinds_of}
 use Rattle.pk_transfer.specs.Linear.{Linear, sum_of, linear}
 use Rattle.pk_transfer.specs.Assignments.{term_of, with_form, with_form_at, with_known_if, AssignmentsKeep}
 use Rattle.pk_transfer.proofs.Told.{tree_knows}
 use Rattle.pk_transfer.proofs.Forms.{Tells, place_at, tree_tells}
-
--- the k-th variable, where there is one
-pub chosen_is : (ys : List ℕ) (k y : ℕ) → slice_get ys k ≡ Some y → (k < length ys) × (slice_index_or ys k 0 ≡ y)
-chosen_is [] k y e = absurd (cc)
-chosen_is (z ∷ ys) zero y e = let same : z ≡ y = cc in (omega arith, same)
-chosen_is (z ∷ ys) (suc k) y e = let r = chosen_is ys k y e in (omega (arith, r.0), r.1)
 
 -- a variable without a place isn't among the chosen ones
 pub no_place : (chosen : List ℕ) (x : ℕ) → place_in chosen x ≡ None → (j : ℕ) → j < length chosen → slice_index_or chosen j 0 ≢ x

@@ -17,7 +17,7 @@ use Rattle.pk_interval.specs.Ranges.{Range, Holds}
 use Rattle.pk_interval.specs.Operators.{range_of}
 use Rattle.pk_interval.specs.Laws.{KnownBy}
 use Rattle.pk_interval.proofs.Sound.{sound as ranges_sound}
-use Rattle.pk_congr.proofs.Numbers.{both_true}
+use Rattle.pk_ctypes.proofs.Small.{both_true}
 use Rattle.pk_octmat.specs.Octagon.{bar, side}
 use Rattle.pk_octmat.proofs.Bars.{side_bar}
 use Rattle.pk_graph.specs.Trees.{TreeOf, constant, variable, converted, unary, binary}

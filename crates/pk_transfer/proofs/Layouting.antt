@@ -5,7 +5,7 @@ use Rattle.std.proofs.Math.ListN.{get_or-map}
 use Rattle.std.proofs.lemmas.Bool.{cases_lt}
 use Rattle.std.proofs.lemmas.List.{length-map}
 use Rattle.std.proofs.lemmas.List.Elements.{All-get_or, All-from_get_or}
-use Rattle.pk_congr.proofs.Numbers.{both_true}
+use Rattle.pk_ctypes.proofs.Small.{both_true}
 use Rattle.pk_graph.specs.Trees.{Skip}
 use Rattle.pk_graph.specs.Kinds.{Kind, no_kind, kind_at}
 use Rattle.pk_graph.specs.Graphs.{VariableOf, PointOf, EdgeOf, GraphOf, no_variable, no_point, kinds_of, point_at}

@@ -8,5 +8,6 @@ pub mod Transferring
 pub mod Few
 pub mod Over
 pub mod Operands
+mod LayoutLemmas
 pub mod Layouting
 pub mod Keeping

@@ -9,7 +9,8 @@ use Rattle.pk_ctypes.specs.declared.types.IntType.{IntType}
 use Rattle.pk_ctypes.specs.declared.faults.Fault.TheVariants as faults
 use Rattle.pk_ctypes.specs.Types.{low_of, high_of, InType, is_in_type}
 use Rattle.pk_ctypes.proofs.Values.{test_le}
-use Rattle.pk_congr.proofs.Numbers.{both_true, every_member, rest_member}
+use Rattle.pk_ctypes.proofs.Small.{both_true}
+use Rattle.pk_congr.proofs.Numbers.{every_member, rest_member}
 use Rattle.pk_congr.specs.Classes.{constant}
 use Rattle.pk_graph.specs.declared.trees.Site.{Site}
 use Rattle.pk_graph.specs.Trees.{variable, ArrayOf, InstrOf, Skip, Set, Havoc, Clear, Load, Store, Guard, Check}
@@ -22,13 +23,13 @@ use Rattle.pk_state.specs.Layouts.{Layout, IsLayout, place_in}
 use Rattle.pk_state.specs.Facts.{Facts, AreFactsIf}
 use Rattle.pk_state.specs.Members.{Member}
 use Rattle.pk_state.specs.Changes.{known_in, with_known, IsApart}
-use Rattle.pk_state.proofs.Changed.{changes_sound}
+use Rattle.pk_state.proofs.Changed.{changes_sound, chosen_is}
 use Rattle.pk_transfer.specs.Trees.{tree_known, IsOver}
 use Rattle.pk_transfer.specs.Assignments.{with_form_at, with_known_if}
 use Rattle.pk_transfer.specs.Transfers.{forgotten_in, at_index, joined_if, applied, TransfersKeep}
 use Rattle.pk_transfer.proofs.Told.{trees_sound}
 use Rattle.pk_transfer.proofs.Forms.{place_at}
-use Rattle.pk_transfer.proofs.Assigning.{chosen_is, no_place, placed, assignments_keep}
+use Rattle.pk_transfer.proofs.Assigning.{no_place, placed, assignments_keep}
 use Rattle.pk_transfer.proofs.Passing.{guards_pass}
 
 -- ---- what goes on

@@ -2,6 +2,7 @@
 #![tactic(auto)]
 
 mod assumptions;
+mod frames;
 mod guards;
 mod laws;
 mod linear;
@@ -11,6 +12,7 @@ mod transfers;
 mod trees;
 
 pub use assumptions::guard;
+pub use frames::frame;
 pub use guards::refine;
 pub use laws::{
     assignments_law, forms_law, graphs_law, guards_law, passing_law, transfers_law, trees_law,

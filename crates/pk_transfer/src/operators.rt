@@ -63,47 +63,12 @@ pub(crate) fn flipped(op: Op) -> Op
 pub(crate) fn is_comparison(op: Op) -> bool
     ensures { result ≡ compares op }
 {
-    match op {
-        Op::Lt | Op::Gt | Op::Le | Op::Ge | Op::Eq | Op::Ne => true,
-        Op::Add
-        | Op::Sub
-        | Op::Mul
-        | Op::Div
-        | Op::Rem
-        | Op::Shl
-        | Op::Shr
-        | Op::And
-        | Op::Or
-        | Op::Xor
-        | Op::Neg
-        | Op::BitNot
-        | Op::Not => false,
-    }
+    matches!(op, Op::Lt | Op::Gt | Op::Le | Op::Ge | Op::Eq | Op::Ne)
 }
 
 /// Whether this is `!`.
 pub(crate) fn is_not(op: Op) -> bool
     ensures { result ≡ negates op }
 {
-    match op {
-        Op::Not => true,
-        Op::Lt
-        | Op::Gt
-        | Op::Le
-        | Op::Ge
-        | Op::Eq
-        | Op::Ne
-        | Op::Add
-        | Op::Sub
-        | Op::Mul
-        | Op::Div
-        | Op::Rem
-        | Op::Shl
-        | Op::Shr
-        | Op::And
-        | Op::Or
-        | Op::Xor
-        | Op::Neg
-        | Op::BitNot => false,
-    }
+    matches!(op, Op::Not)
 }

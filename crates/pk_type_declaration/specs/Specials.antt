@@ -1,14 +1,9 @@
 -- The special names: functions that the analysis knows, where a text declares them (C99 has no such names but abort, 7.20.4.1).
-use Rattle.std.specs.Prelude.{ℕ, List, [], ◌∷◌, Option, Some, None, codes, if◌then◌else◌}
-use Rattle.std.specs.Str.{bytes_eq}
+use Rattle.std.specs.Prelude.{ℕ, List, [], ◌∷◌, Option, codes}
+use Rattle.pk_ctypes.specs.Spellings.{lookup}
 use Rattle.pk_ctypes.specs.declared.types.IntType.TheVariants as ctype
 use Rattle.pk_type_scope.specs.declared.declarations.Callee.{Callee}
 use Rattle.pk_type_scope.specs.declared.declarations.Callee.TheVariants.{Any, Assume, Assert, Abort}
-
--- what stands beside a spelling in a table
-abbrev pub lookup : {A : Type 0} → List (List ℕ × A) → List ℕ → Option A
-lookup [] name = None
-lookup (row ∷ rows) name = if bytes_eq row.0 name then Some row.1 else lookup rows name
 
 abbrev pub specials : List (List ℕ × Callee)
 specials =

@@ -1,17 +1,10 @@
 // The special names.
 
-ghost use Rattle.std.specs.Prelude.{◌≡◌, map};
-ghost use Rattle.std.specs.Str.{bytes_eq};
+ghost use Rattle.std.specs.Prelude.{◌≡◌};
 ghost use Rattle.pk_type_declaration.specs.Specials as definitions;
 
-use pk_ctypes::IntType;
+use pk_ctypes::{IntType, look_up};
 use pk_type_scope::Callee;
-
-fn is_spelled(name: &[u8], word: &[u8]) -> bool
-    ensures { result ≡ bytes_eq name.now word.now }
-{
-    name == word
-}
 
 const SPECIALS: [(&[u8], Callee); 13] = [
     (b"abort", Callee::Abort),
@@ -28,18 +21,6 @@ const SPECIALS: [(&[u8], Callee); 13] = [
     (b"__VERIFIER_nondet_longlong", Callee::Any(IntType::LLong)),
     (b"__VERIFIER_nondet_ulonglong", Callee::Any(IntType::ULLong)),
 ];
-
-// What stands beside a spelling in a table.
-fn look_up<T: Copy>(table: &[(&[u8], T)], word: &[u8]) -> Option<T>
-    ensures { result ≡ definitions.lookup (map (λ row. (row.0.now, row.1)) table.now) word.now }
-{
-    for row in table {
-        if is_spelled(row.0, word) {
-            return Some(row.1);
-        }
-    }
-    None
-}
 
 /// What a call of a special name is, where the name is one.
 #[tactic(auto, unfolding(crate::specs::Specials::special))]

@@ -16,7 +16,7 @@ use Rattle.pk_congr.proofs.Order.{tests, join_is_least}
 use Rattle.pk_congr.proofs.Keeping.{unchanged as class_unchanged}
 use Rattle.pk_congr.proofs.Widening.{widening_ends, divisions_are_ranks}
 use Rattle.pk_congr.proofs.Next.{narrowing}
-use Rattle.pk_congr.proofs.Numbers.{and_true, both_true}
+use Rattle.pk_ctypes.proofs.Small.{and_true, both_true}
 use Rattle.pk_value.specs.Known.{Known, is_within, widened}
 use Rattle.pk_value.specs.Laws.{IsLattice, IsOfIts, IsRank, rank_of}
 use Rattle.pk_value.proofs.Narrowing.{range_narrowing}

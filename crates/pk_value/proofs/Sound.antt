@@ -30,7 +30,8 @@ use Rattle.pk_congr.specs.Operators.{result_of, wrapped_class, are_products_held
 use Rattle.pk_congr.specs.Laws.{TookIn}
 use Rattle.pk_congr.proofs.Sound.{sound as classes_sound, wrapping_sound}
 use Rattle.pk_congr.proofs.Order.{tests}
-use Rattle.pk_congr.proofs.Numbers.{rest_member, both_true}
+use Rattle.pk_ctypes.proofs.Small.{both_true}
+use Rattle.pk_congr.proofs.Numbers.{rest_member}
 use Rattle.pk_value.specs.Reduction.{red, reduced_if, reduced_at}
 use Rattle.pk_value.proofs.Reducing.{exact as reduction}
 use Rattle.pk_congr.specs.Classes.{next_up_of, next_down_of}

@@ -2,13 +2,14 @@
 use Rattle.std.proofs.Common.{◌≡◌, ℕ, zero, suc, ◌+◌, ◌<◌, ◌≤◌, ◌⊎◌, inl, inr, List, [], ◌∷◌, ◌++◌, Option, Some, None, length, length-append, refl, ap, arith}
 use Rattle.std.proofs.lemmas.Option.{none-some}
 use Rattle.std.specs.Prelude.{slice_get, unwrap_or}
+use Rattle.std.proofs.lemmas.List.Elements.{All-push}
 use Rattle.pk_ctypes.specs.declared.places.Pos.{Pos}
 use Rattle.pk_graph.specs.declared.graphs.Scope.{Scope}
 use Rattle.pk_graph.specs.Trees.{Skip}
 use Rattle.pk_draft.specs.Drafts.{on, in_scope, with_name, fresh, link, go}
 use Rattle.pk_lower_statement.specs.Statements.{named, loop_begun}
 use Rattle.pk_lower_laws.proofs.Drafts.Places.{D, Place, AreChained, Grown, Stage, Proper, Step, step, step_for, step_beside, quiet, same_scopes}
-use Rattle.pk_lower_laws.proofs.Drafts.Verbs.{all_last, all_shorter, typed_at, typed_standing, typed_link, typed_fresh}
+use Rattle.pk_lower_laws.proofs.Drafts.Verbs.{all_shorter, typed_at, typed_standing, typed_link, typed_fresh}
 
 pub chain : {w : Place} {m l n : ℕ} {i j k : Stage} {d e g : D w} {P Q R : Type 0} → Step w m l i j d e P Q → Step w l n j k e g Q R → Step w m n i k d g P R
 chain {w = w} {m = m} {l = l} {n = n} {i = i} {j = j} {k = k} {d = d} {e = e} {g = g} {P = P} {Q = Q} {R = R} a b = step w m l n i j k d e g P Q R a b
@@ -71,7 +72,7 @@ named_step w m s (Some name) x d = quiet w m s d (with_name x d) ((x < length w.
         scope = let z = length-append d.scopes (record { variable = x; outer = d.here.scope } ∷ []) in omega (z, arith);
         chain = chained_last d.scopes (record { variable = x; outer = d.here.scope }) t.chain t.scope;
         labels = t.labels;
-        scopes = all_last (λ (c : Scope). (c.variable < length w.kinds) × w.CanBeNamed c.variable) d.scopes (record { variable = x; outer = d.here.scope }) t.scopes k;
+        scopes = All-push (λ (c : Scope). (c.variable < length w.kinds) × w.CanBeNamed c.variable) d.scopes (record { variable = x; outer = d.here.scope }) t.scopes k;
         starts = t.starts;
         zeros = t.zeros;
         edges = t.edges;

@@ -1,7 +1,7 @@
 -- The draft before the first part.
 use Rattle.std.proofs.Common.{◌≡◌, ◌≢◌, ℕ, ◌+◌, zero, suc, ◌<◌, ◌≤◌, ◌⊎◌, inl, inr, List, [], ◌∷◌, ◌++◌, Option, Some, None, length, map, refl, ap, sym, subst, ◌∙◌, arith, slice_index_or, length-set, length-append}
 use Rattle.std.proofs.lemmas.List.{get_or-set_same, get_or-set_other, length-map}
-use Rattle.std.proofs.lemmas.List.Elements.{All-append}
+use Rattle.std.proofs.lemmas.List.Elements.{All-push, All-append}
 use Rattle.std.proofs.lemmas.Option.{none-some, slice_get_within}
 use Rattle.std.specs.Prelude.{slice_get, unwrap_or, All, replicate}
 use Rattle.std.specs.Option.{option_map}
@@ -21,7 +21,7 @@ use Rattle.pk_lower.specs.Parts as part
 use Rattle.pk_lower.specs.Parts.{file_variable, whole_size}
 use Rattle.pk_welltyped.specs.WellTyped.{IsStart, kind_in_file}
 use Rattle.pk_lower_laws.proofs.Drafts.Places.{region_at, IsKept, In, IsMade, variable_in, AreChained}
-use Rattle.pk_lower_laws.proofs.Drafts.Verbs.{all_last, either}
+use Rattle.pk_lower_laws.proofs.Drafts.Verbs.{either}
 use Rattle.pk_lower_laws.proofs.Drafts.Chains.{chained_last}
 use Rattle.pk_lower_laws.proofs.Drafts.Plans.{World, Draft, sizes, base, size_of, Plan, AllTyped, replicated}
 use Rattle.pk_lower_laws.proofs.Drafts.Wholes.{kinds_of, kind_is}
@@ -74,7 +74,7 @@ starts_are (x ∷ xs) h (suc k) d l = starts_are xs (λ i e m. h (suc i) e (omeg
 
 scopes_are : (P : ℕ → Type 0) (m n : ℕ) → n ≤ m → ((i : ℕ) → i < n → P i) → All (λ (s : Scope). (s.variable < m) × P s.variable) (file_scopes n)
 scopes_are P m zero h f = λ k d l. absurd (omega (l, arith))
-scopes_are P m (suc n) h f = all_last (λ (s : Scope). (s.variable < m) × P s.variable) (file_scopes n) (record { variable = n; outer = n }) (scopes_are P m n (omega (h, arith)) (λ i l. f i (omega (l, arith)))) (omega (h, arith), f n (omega arith))
+scopes_are P m (suc n) h f = All-push (λ (s : Scope). (s.variable < m) × P s.variable) (file_scopes n) (record { variable = n; outer = n }) (scopes_are P m n (omega (h, arith)) (λ i l. f i (omega (l, arith)))) (omega (h, arith), f n (omega arith))
 
 pub scopes_many : (n : ℕ) → length (file_scopes n) ≡ n
 scopes_many zero = refl

@@ -4,6 +4,7 @@ use Rattle.std.proofs.lemmas.List.{get_or-set_same, get_or-set_other}
 use Rattle.std.proofs.lemmas.Option.{none-some, slice_get_within}
 use Rattle.std.specs.Prelude.{All, slice_get, unwrap_or}
 use Rattle.std.specs.Option.{option_map}
+use Rattle.std.proofs.lemmas.List.Elements.{All-push}
 use Rattle.pk_ctypes.specs.declared.types.IntType.{IntType}
 use Rattle.pk_typed.specs.Trees.{LocalTree}
 use Rattle.pk_graph.specs.Trees.{InstrOf, Skip}
@@ -18,12 +19,6 @@ use Rattle.pk_draft.specs.Drafts.{no_region, nowhere, at, standing, placed, all_
 use Rattle.pk_lower_row.specs.Contexts.{size_in}
 use Rattle.pk_welltyped.specs.WellTyped as good
 use Rattle.pk_lower_laws.proofs.Drafts.Places.{D, Place, Has, HasIf, Promised, IsOwn, IsObjectOf, region_at, IsKept, In, Holds, variable_in, Laid, MadeIs, RegionsForeseen, ObjectsForeseen, EdgeIs, HasOtherWay, IsNoObject, Stage, ResultIs, own_number, ObjectsAre, Typed, Proper, Below, IsMade, PlacesAre, Before, Step, quiet, same_scopes}
-
-pub all_last : {A : Type 0} (Q : A → Type 0) (xs : List A) (x : A) → All Q xs → Q x → All Q (xs ++ x ∷ [])
-all_last Q [] x h k zero d l = k
-all_last Q [] x h k (suc i) d l = absurd (omega (l, arith))
-all_last Q (y ∷ ys) x h k zero d l = h 0 d (omega arith)
-all_last Q (y ∷ ys) x h k (suc i) d l = all_last Q ys x (λ j e m. h (suc j) e (omega (m, arith))) k i d (omega (l, arith))
 
 pub all_shorter : {A : Type 0} (Q : A → Type 0) (xs : List A) (x : A) → All Q (xs ++ x ∷ []) → All Q xs
 all_shorter Q [] x h k d l = absurd (omega (l, arith))
@@ -66,7 +61,7 @@ typed_link w s i q d h k n t = record {
   scopes = t.scopes;
   starts = t.starts;
   zeros = t.zeros;
-  edges = all_last (EdgeIs w) d.edges (record { from = d.point; instr = i; to = q }) t.edges (record { from = t.point; to = h; typed = k; other = n });
+  edges = All-push (EdgeIs w) d.edges (record { from = d.point; instr = i; to = q }) t.edges (record { from = t.point; to = h; typed = k; other = n });
   objects = t.objects;
   places = t.places;
 }

@@ -4,6 +4,7 @@ use Rattle.std.proofs.lemmas.Bool.{false≢true}
 use Rattle.std.specs.Prelude.{ℤ, pos, All, slice_get, is_some}
 use Rattle.std.specs.Option.{option_map}
 use Rattle.std.specs.Str.{bytes_eq}
+use Rattle.std.proofs.lemmas.List.Elements.{All-push}
 use Rattle.pk_ctypes.specs.declared.types.IntType.{IntType}
 use Rattle.pk_ctypes.specs.Types.{InType}
 use Rattle.pk_ctypes.proofs.Wrapped.{wrapped_in, zero_in}
@@ -228,12 +229,6 @@ known_declaring es s x o h k y = picked (bytes_eq (spelled s.text x) (spelled s.
     picked true l other h = k
     picked false l other h = h
 
-all_last : {A : Type 0} (Q : A → Type 0) (xs : List A) (x : A) → All Q xs → Q x → All Q (xs ++ x ∷ [])
-all_last Q [] x h k zero d l = k
-all_last Q [] x h k (suc i) d l = absurd (omega (l, arith))
-all_last Q (y ∷ ys) x h k zero d l = h 0 d (omega arith)
-all_last Q (y ∷ ys) x h k (suc i) d l = all_last Q ys x (λ j e m. h (suc j) e (omega (m, arith))) k i d (omega (l, arith))
-
 -- an object, behind its length
 object_made : (u : UnitTree) (words : Words) (b : Bool) (n : Option ℕ) (x : Identifier) (i : Option InitializerTree) (f : F) (w : W) (rows fs : List Failure) (name : List ℕ) → w.scoping ≡ f.walked.scoping → w.locals ≡ f.walked.locals
     → is_void words.typing ≡ false → is_unknown words.typing ≡ false → FileIs u f → RoomIn b n (count (given i))
@@ -256,7 +251,7 @@ object_made u words b n x i f w rows fs name sc lc void unknown h r s =
           (object_is u (length f.objects) words.typing b n void unknown kind));
       known = subst (λ (c : Scoping). (y : Identifier) → KnownIn f.functions (names_in c y)) (sym sq) (known_declaring f.functions w.scoping x (file_object words b f) (subst (λ (c : Scoping). (y : Identifier) → KnownIn f.functions (names_in c y)) (sym sc) h.known) tt);
       locals = same_locals (given i) v ∙ (lc ∙ h.locals);
-      objects = all_last (λ (y : FileObjectTree). IsStart y.int_type y.start) f.objects o h.objects (start_is t b n zs (numbers_in_type t (given i) v) (subst (RoomIn b n) (sym (numbers_many t (given i) v)) r));
+      objects = All-push (λ (y : FileObjectTree). IsStart y.int_type y.start) f.objects o h.objects (start_is t b n zs (numbers_in_type t (given i) v) (subst (RoomIn b n) (sym (numbers_many t (given i) v)) r));
       entries = h.entries;
     }
 

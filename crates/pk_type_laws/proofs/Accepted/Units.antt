@@ -26,7 +26,8 @@ use Rattle.pk_type_scope.specs.Failures.{fails_if, noted}
 use Rattle.pk_type_scope.specs.Scopes.{names_in, spelled, file_scope}
 use Rattle.pk_type_scope.specs.Specifiers.{specifiers, type_named}
 use Rattle.pk_type_declaration.specs.Declarations.{integer_in, type_or_int, text_of}
-use Rattle.pk_type_declaration.specs.Specials.{special, specials, lookup}
+use Rattle.pk_ctypes.specs.Spellings.{lookup}
+use Rattle.pk_type_declaration.specs.Specials.{special, specials}
 use Rattle.std.specs.Str.{bytes_eq}
 use Rattle.pk_type_declaration.specs.Walks.{here, entering}
 use Rattle.pk_type.specs.Files.{EntryTree, on, after_declaration}

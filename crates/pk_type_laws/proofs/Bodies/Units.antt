@@ -24,7 +24,8 @@ use Rattle.pk_type_expression.proofs.TreeLemmas.{none_before, none_after, holds_
 use Rattle.pk_type_declaration.specs.declared.words.Words.{Words}
 use Rattle.pk_type_declaration.specs.Constants.{after_constant}
 use Rattle.pk_type_declaration.specs.Declarations.{at_name, words_of, text_of, integer_in, redeclared, void_object, special_object, braces, surplus, length_at, after_optional_length}
-use Rattle.pk_type_declaration.specs.Specials.{special, specials, lookup}
+use Rattle.pk_ctypes.specs.Spellings.{lookup}
+use Rattle.pk_type_declaration.specs.Specials.{special, specials}
 use Rattle.pk_type_declaration.specs.Walks.{failing, entering}
 use Rattle.pk_type_jump.specs.Jumps.{around_body, nothing_jumped, jumps_of}
 use Rattle.pk_type_jump.specs.Labels.{nothing_listed, outermost, labels_of}

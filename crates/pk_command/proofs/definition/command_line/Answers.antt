@@ -1,9 +1,9 @@
-use Rattle.pk_command.proofs.Adding.{if_ok}
+use Rattle.std.proofs.lemmas.Result.{IfOk-weaker}
 use Rattle.pk_command.proofs.definition.command_line.Goals as goal
 
 pub returns : goal.returns
 returns c =
-    if_ok c.before-program-3.result (λ r command. command.is)
+    IfOk-weaker c.before-program-3.result _ _ (λ r command. command.is)
     (c.before-program-3.ensures _ _
     (c.before-program-2.ensures _ _
     (c.before-program.ensures _ _ (record { is = c.program.ensures.app; local = c.program.ensures.local }) c.run_command.ensures)

@@ -1,4 +1,5 @@
 -- Each form by the lemmas on it.
+use Rattle.std.proofs.lemmas.Result.{on_ok_weaker}
 use Rattle.std.proofs.Common.{◌∙◌, ap, refl, ℕ, length}
 use Rattle.pk_ctypes.specs.declared.places.Pos.{Pos}
 use Rattle.pk_typed.specs.declared.statements.Statement.{Statement}
@@ -17,7 +18,6 @@ use Rattle.pk_lower_expression.specs.Expressions.{ways}
 use Rattle.pk_lower_statement.specs.declared.statements.Exits.{Exits}
 use Rattle.pk_lower_statement.specs.Statements.{in_switch, tested, for_draft, for_start, for_test, performed_if, lowered}
 use Rattle.pk_lower_statement.proofs.StepLemmas as step
-use Rattle.pk_lower_statement.proofs.StepLemmas.{on_ok}
 use Rattle.pk_lower_statement.proofs.statements.+statements.Goals as goal
 use Rattle.pk_lower_statement.proofs.statements.+statements.Goals.{lower_items-in-Declared+in_ok-declare-in-Declared, lower_items-in-Statement+in_ok-lower-in-Statement}
 
@@ -34,54 +34,54 @@ lower-returns-in-Empty t c =
 pub lower-returns-in-Effect : goal.lower-returns-in-Effect
 unfolding statement_tree
 lower-returns-in-Effect t c =
-    on_ok c.perform.result (step.effect_is (context_in c.args.context.now) (statement_tree c.args.statement.now) _ _ c.args.exits (drafted c.args.draft.now) _ _ (ap statement_tree c.in-Effect.is) c.on.ensures) c.perform.ensures
+    on_ok_weaker c.perform.result (step.effect_is (context_in c.args.context.now) (statement_tree c.args.statement.now) _ _ c.args.exits (drafted c.args.draft.now) _ _ (ap statement_tree c.in-Effect.is) c.on.ensures) c.perform.ensures
 
 pub lower-returns-in_ok-come-in-Label : goal.lower-returns-in_ok-come-in-Label
 unfolding statement_tree
 lower-returns-in_ok-come-in-Label t c =
-    on_ok c.lower.result (step.label_is (context_in c.args.context.now) (statement_tree c.args.statement.now) c.in-Label.at c.in-Label.number (statement_tree c.in-Label.body.value) (statement_tree c.deref.result.now) c.args.exits c.in_ok-point-in-Label.point (drafted c.args.draft.now) (drafted c.on-in-Label.new.self) (drafted c.come.new.self) (drafted c.lower.new.draft)
+    on_ok_weaker c.lower.result (step.label_is (context_in c.args.context.now) (statement_tree c.args.statement.now) c.in-Label.at c.in-Label.number (statement_tree c.in-Label.body.value) (statement_tree c.deref.result.now) c.args.exits c.in_ok-point-in-Label.point (drafted c.args.draft.now) (drafted c.on-in-Label.new.self) (drafted c.come.new.self) (drafted c.lower.new.draft)
     (ap statement_tree c.in-Label.is) c.on-in-Label.ensures c.in_ok-point-in-Label.ensures c.in_ok-come-in-Label.ensures (ap statement_tree c.deref.ensures)) c.lower.ensures
 
 pub lower-returns-in_ok-come-in-Case : goal.lower-returns-in_ok-come-in-Case
 unfolding statement_tree
 lower-returns-in_ok-come-in-Case t c =
-    on_ok c.lower-in-Case.result (step.case_is (context_in c.args.context.now) (statement_tree c.args.statement.now) c.in-Case.at c.in-Case.number (statement_tree c.in-Case.body.value) (statement_tree c.deref-in-Case.result.now) c.args.exits c.in_ok-point-in-Case.point (drafted c.args.draft.now) (drafted c.on-in-Case.new.self) (drafted c.come-in-Case.new.self) (drafted c.lower-in-Case.new.draft)
+    on_ok_weaker c.lower-in-Case.result (step.case_is (context_in c.args.context.now) (statement_tree c.args.statement.now) c.in-Case.at c.in-Case.number (statement_tree c.in-Case.body.value) (statement_tree c.deref-in-Case.result.now) c.args.exits c.in_ok-point-in-Case.point (drafted c.args.draft.now) (drafted c.on-in-Case.new.self) (drafted c.come-in-Case.new.self) (drafted c.lower-in-Case.new.draft)
     (ap statement_tree c.in-Case.is) c.on-in-Case.ensures c.in_ok-point-in-Case.ensures c.in_ok-come-in-Case.ensures (ap statement_tree c.deref-in-Case.ensures)) c.lower-in-Case.ensures
 
 pub lower-returns-in_ok-come-in-Default : goal.lower-returns-in_ok-come-in-Default
 unfolding statement_tree
 lower-returns-in_ok-come-in-Default t c =
-    on_ok c.lower-in-Default.result (step.default_is (context_in c.args.context.now) (statement_tree c.args.statement.now) c.in-Default.at (statement_tree c.in-Default.body.value) (statement_tree c.deref-in-Default.result.now) c.args.exits (drafted c.args.draft.now) (drafted c.on-in-Default.new.self) (drafted c.come-in-Default.new.self) (drafted c.lower-in-Default.new.draft)
+    on_ok_weaker c.lower-in-Default.result (step.default_is (context_in c.args.context.now) (statement_tree c.args.statement.now) c.in-Default.at (statement_tree c.in-Default.body.value) (statement_tree c.deref-in-Default.result.now) c.args.exits (drafted c.args.draft.now) (drafted c.on-in-Default.new.self) (drafted c.come-in-Default.new.self) (drafted c.lower-in-Default.new.draft)
     (ap statement_tree c.in-Default.is) c.on-in-Default.ensures c.in_ok-come-in-Default.ensures (ap statement_tree c.deref-in-Default.ensures)) c.lower-in-Default.ensures
 
 pub lower-returns-in_ok-lower-in-If : goal.lower-returns-in_ok-lower-in-If
 unfolding statement_tree
 lower-returns-in_ok-lower-in-If t c =
-    on_ok c.end_if.result (step.if_is (context_in c.args.context.now) (statement_tree c.args.statement.now) c.in-If.at (value_tree c.in-If.condition) (statement_tree c.in-If.body.value) (statement_tree c.deref-in-If.result.now) c.args.exits c.in_ok-first-in-If.first c.point-end.result (drafted c.args.draft.now) (drafted c.begin_if.new.draft) (drafted c.lower-in-If.new.draft) (drafted c.at.new.self) (drafted c.end_if.new.draft)
+    on_ok_weaker c.end_if.result (step.if_is (context_in c.args.context.now) (statement_tree c.args.statement.now) c.in-If.at (value_tree c.in-If.condition) (statement_tree c.in-If.body.value) (statement_tree c.deref-in-If.result.now) c.args.exits c.in_ok-first-in-If.first c.point-end.result (drafted c.args.draft.now) (drafted c.begin_if.new.draft) (drafted c.lower-in-If.new.draft) (drafted c.at.new.self) (drafted c.end_if.new.draft)
     (ap statement_tree c.in-If.is) c.in_ok-first-in-If.ensures.draft c.in_ok-first-in-If.ensures.first (ap statement_tree c.deref-in-If.ensures) c.in_ok-lower-in-If.ensures c.point-end.ensures c.at.ensures) c.end_if.ensures
 
 pub lower-returns-in_ok-lower-in-IfElse-2 : goal.lower-returns-in_ok-lower-in-IfElse-2
 unfolding statement_tree
 lower-returns-in_ok-lower-in-IfElse-2 t c =
-    on_ok c.end_if-in-IfElse.result (step.if_else_is (context_in c.args.context.now) (statement_tree c.args.statement.now) c.in-IfElse.at (value_tree c.in-IfElse.condition) (statement_tree c.in-IfElse.if_true.value) (statement_tree c.in-IfElse.if_false.value) (statement_tree c.deref-in-IfElse.result.now) (statement_tree c.deref-in-IfElse-2.result.now) c.args.exits c.in_ok-first-in-IfElse.first c.point-end-in-IfElse.result (drafted c.args.draft.now) (drafted c.begin_if-in-IfElse.new.draft) (drafted c.lower-in-IfElse.new.draft) (drafted c.at-in-IfElse.new.self) (drafted c.lower-in-IfElse-2.new.draft) (drafted c.end_if-in-IfElse.new.draft)
+    on_ok_weaker c.end_if-in-IfElse.result (step.if_else_is (context_in c.args.context.now) (statement_tree c.args.statement.now) c.in-IfElse.at (value_tree c.in-IfElse.condition) (statement_tree c.in-IfElse.if_true.value) (statement_tree c.in-IfElse.if_false.value) (statement_tree c.deref-in-IfElse.result.now) (statement_tree c.deref-in-IfElse-2.result.now) c.args.exits c.in_ok-first-in-IfElse.first c.point-end-in-IfElse.result (drafted c.args.draft.now) (drafted c.begin_if-in-IfElse.new.draft) (drafted c.lower-in-IfElse.new.draft) (drafted c.at-in-IfElse.new.self) (drafted c.lower-in-IfElse-2.new.draft) (drafted c.end_if-in-IfElse.new.draft)
     (ap statement_tree c.in-IfElse.is) c.in_ok-first-in-IfElse.ensures.draft c.in_ok-first-in-IfElse.ensures.first (ap statement_tree c.deref-in-IfElse.ensures) c.in_ok-lower-in-IfElse.ensures c.point-end-in-IfElse.ensures c.at-in-IfElse.ensures (ap statement_tree c.deref-in-IfElse-2.ensures) c.in_ok-lower-in-IfElse-2.ensures) c.end_if-in-IfElse.ensures
 
 pub lower-returns-in-Switch : goal.lower-returns-in-Switch
 unfolding statement_tree
 lower-returns-in-Switch t c =
-    on_ok c.lower_switch.result (step.switch_form (context_in c.args.context.now) (statement_tree c.args.statement.now) c.in-Switch.at c.in-Switch.int_type (value_tree c.in-Switch.value) c.in-Switch.cases.items c.as_slice-in-Switch.result.now c.in-Switch.has_default (statement_tree c.in-Switch.body.value) (statement_tree c.deref-in-Switch.result.now) c.args.exits (drafted c.args.draft.now) (drafted c.lower_switch.new.draft)
+    on_ok_weaker c.lower_switch.result (step.switch_form (context_in c.args.context.now) (statement_tree c.args.statement.now) c.in-Switch.at c.in-Switch.int_type (value_tree c.in-Switch.value) c.in-Switch.cases.items c.as_slice-in-Switch.result.now c.in-Switch.has_default (statement_tree c.in-Switch.body.value) (statement_tree c.deref-in-Switch.result.now) c.args.exits (drafted c.args.draft.now) (drafted c.lower_switch.new.draft)
     (ap statement_tree c.in-Switch.is) c.as_slice-in-Switch.ensures.value (ap statement_tree c.deref-in-Switch.ensures)) c.lower_switch.ensures
 
 pub lower-returns-in-While : goal.lower-returns-in-While
 unfolding statement_tree
 lower-returns-in-While t c =
-    on_ok c.lower_while.result (step.while_form (context_in c.args.context.now) (statement_tree c.args.statement.now) c.in-While.at (value_tree c.in-While.condition) (statement_tree c.in-While.body.value) (statement_tree c.deref-in-While.result.now) c.args.exits (drafted c.args.draft.now) (drafted c.lower_while.new.draft)
+    on_ok_weaker c.lower_while.result (step.while_form (context_in c.args.context.now) (statement_tree c.args.statement.now) c.in-While.at (value_tree c.in-While.condition) (statement_tree c.in-While.body.value) (statement_tree c.deref-in-While.result.now) c.args.exits (drafted c.args.draft.now) (drafted c.lower_while.new.draft)
     (ap statement_tree c.in-While.is) (ap statement_tree c.deref-in-While.ensures)) c.lower_while.ensures
 
 pub lower-returns-in-Do : goal.lower-returns-in-Do
 unfolding statement_tree
 lower-returns-in-Do t c =
-    on_ok c.lower_do.result (step.do_form (context_in c.args.context.now) (statement_tree c.args.statement.now) c.in-Do.at (statement_tree c.in-Do.body.value) (statement_tree c.deref-in-Do.result.now) (value_tree c.in-Do.condition) c.args.exits (drafted c.args.draft.now) (drafted c.lower_do.new.draft)
+    on_ok_weaker c.lower_do.result (step.do_form (context_in c.args.context.now) (statement_tree c.args.statement.now) c.in-Do.at (statement_tree c.in-Do.body.value) (statement_tree c.deref-in-Do.result.now) (value_tree c.in-Do.condition) c.args.exits (drafted c.args.draft.now) (drafted c.lower_do.new.draft)
     (ap statement_tree c.in-Do.is) (ap statement_tree c.deref-in-Do.ensures)) c.lower_do.ensures
 
 abbrev for_at : Context → Exits → DraftOf ℕ → (p : Pos) → ForHead → Statement → DraftOf ℕ
@@ -91,29 +91,29 @@ pub lower-returns-in-For : goal.lower-returns-in-For
 unfolding statement_tree
 lower-returns-in-For t c =
     let k : Context = context_in c.args.context.now in
-    on_ok c.lower_for.result (λ h. step.for_form k (statement_tree c.args.statement.now) _ _ _ _ _ c.args.exits (drafted c.args.draft.now) _ (ap statement_tree c.in-For.is)
+    on_ok_weaker c.lower_for.result (λ h. step.for_form k (statement_tree c.args.statement.now) _ _ _ _ _ c.args.exits (drafted c.args.draft.now) _ (ap statement_tree c.in-For.is)
     (h ∙ (ap (λ (z : ForHead). for_at k c.args.exits (drafted c.args.draft.now) c.in-For.at z c.deref-in-For-2.result.now) c.deref-in-For.ensures
     ∙ ap (λ (s : Statement). for_at k c.args.exits (drafted c.args.draft.now) c.in-For.at c.in-For.head.value s) c.deref-in-For-2.ensures))) c.lower_for.ensures
 
 pub lower-returns-in_ok-point-in-Goto : goal.lower-returns-in_ok-point-in-Goto
 unfolding statement_tree
 lower-returns-in_ok-point-in-Goto t c =
-    on_ok c.away.result (step.goto_is (context_in c.args.context.now) (statement_tree c.args.statement.now) _ _ c.args.exits _ (drafted c.args.draft.now) _ _ (ap statement_tree c.in-Goto.is) c.on-in-Goto.ensures c.in_ok-point-in-Goto.ensures) c.away.ensures
+    on_ok_weaker c.away.result (step.goto_is (context_in c.args.context.now) (statement_tree c.args.statement.now) _ _ c.args.exits _ (drafted c.args.draft.now) _ _ (ap statement_tree c.in-Goto.is) c.on-in-Goto.ensures c.in_ok-point-in-Goto.ensures) c.away.ensures
 
 pub lower-returns-in-Continue : goal.lower-returns-in-Continue
 unfolding statement_tree
 lower-returns-in-Continue t c =
-    on_ok c.away-in-Continue.result (step.continue_is (context_in c.args.context.now) (statement_tree c.args.statement.now) _ c.args.exits (drafted c.args.draft.now) _ _ (ap statement_tree c.in-Continue.is) c.on-in-Continue.ensures) c.away-in-Continue.ensures
+    on_ok_weaker c.away-in-Continue.result (step.continue_is (context_in c.args.context.now) (statement_tree c.args.statement.now) _ c.args.exits (drafted c.args.draft.now) _ _ (ap statement_tree c.in-Continue.is) c.on-in-Continue.ensures) c.away-in-Continue.ensures
 
 pub lower-returns-in-Break : goal.lower-returns-in-Break
 unfolding statement_tree
 lower-returns-in-Break t c =
-    on_ok c.away-in-Break.result (step.break_is (context_in c.args.context.now) (statement_tree c.args.statement.now) _ c.args.exits (drafted c.args.draft.now) _ _ (ap statement_tree c.in-Break.is) c.on-in-Break.ensures) c.away-in-Break.ensures
+    on_ok_weaker c.away-in-Break.result (step.break_is (context_in c.args.context.now) (statement_tree c.args.statement.now) _ c.args.exits (drafted c.args.draft.now) _ _ (ap statement_tree c.in-Break.is) c.on-in-Break.ensures) c.away-in-Break.ensures
 
 pub lower-returns-in-Return : goal.lower-returns-in-Return
 unfolding statement_tree
 lower-returns-in-Return t c =
-    on_ok c.return_value.result (step.return_is (context_in c.args.context.now) (statement_tree c.args.statement.now) _ _ c.args.exits (drafted c.args.draft.now) _ _ (ap statement_tree c.in-Return.is) c.on-in-Return.ensures) c.return_value.ensures
+    on_ok_weaker c.return_value.result (step.return_is (context_in c.args.context.now) (statement_tree c.args.statement.now) _ _ c.args.exits (drafted c.args.draft.now) _ _ (ap statement_tree c.in-Return.is) c.on-in-Return.ensures) c.return_value.ensures
 
 pub lower_items-loop-item-preserved : goal.lower_items-loop-item-preserved
 lower_items-loop-item-preserved t c =
@@ -134,6 +134,6 @@ pub lower_switch-returns : goal.lower_switch-returns
 lower_switch-returns t c =
     let k : Context = context_in c.args.context.now in
     let v : Operand ℕ = operand (value_tree c.args.value.now) (ways k (value_tree c.args.value.now)) in
-    on_ok c.go.result (step.switch_is k c.args.at (site k c.args.at) c.args.int_type v c.args.cases.now c.args.has_default (statement_tree c.args.body.now) c.args.exits
+    on_ok_weaker c.go.result (step.switch_is k c.args.at (site k c.args.at) c.args.int_type v c.args.cases.now c.args.has_default (statement_tree c.args.body.now) c.args.exits
     (in_switch c.in_ok-end.end (length c.args.cases.now) c.args.exits) c.in_ok-end.end (instr_view c.skip.result) (tested c.args.int_type v (drafted c.on.new.self)) (on c.args.at (drafted c.args.draft.now)) (drafted c.on.new.self) (drafted c.open_switch.new.draft) (drafted c.lower.new.draft) (drafted c.go.new.self)
     refl c.on.ensures refl c.in_ok-end.ensures.end c.in_ok-end.ensures.draft refl c.in_ok-lower.ensures c.skip.ensures) c.go.ensures

@@ -1,14 +1,10 @@
-use Rattle.std.proofs.Common.{◌≡◌, ℕ, ◌∙◌}
-use Rattle.std.specs.Prelude.{Option, Some, None, SomeIff}
+use Rattle.std.proofs.Common.{◌∙◌}
 use Rattle.std.proofs.lemmas.List.{get_or_default}
 use Rattle.pk_graph.specs.Views.{tree_view}
 use Rattle.pk_draft.specs.Shown.{drafted}
+use Rattle.pk_ctypes.proofs.Small.{some_is}
 use Rattle.pk_lower_statement.proofs.StepLemmas.{tests_next, tests_end}
 use Rattle.pk_lower_statement.proofs.switches.test_cases.Goals as goal
-
-some_is : (P : Type 0) (o : Option ℕ) (v x : ℕ) → SomeIff o P v → o ≡ Some x → x ≡ v
-some_is P None v x h e = cc
-some_is P (Some y) v x h e = cc
 
 pub loop-case-preserved : goal.loop-case-preserved
 loop-case-preserved c =

@@ -18,7 +18,8 @@ use Rattle.std.specs.Ordering.{int_eq}
 use Rattle.pk_meaning.specs.Steps.{numbered, otherwise, found, takes, chooses, on_top}
 use Rattle.pk_meaning.specs.Work.{Way}
 use Rattle.pk_runner_statement.proofs.StatementLemmas.{none_there, tail}
-use Rattle.pk_runner_statement.proofs.FoundLemmas.{not_refused, same_takes, front, some_is}
+use Rattle.pk_ctypes.proofs.Small.{some_is}
+use Rattle.pk_runner_statement.proofs.FoundLemmas.{not_refused, same_takes, front}
 use Rattle.pk_runner_statement.proofs.statements.choose.Goals as goal
 
 pub returns-in-None-clause-told : goal.returns-in-None-clause-told

@@ -1,4 +1,5 @@
 -- Each form of expression by the lemmas on it, and arguments one by one.
+use Rattle.std.proofs.lemmas.Result.{IfOk-weaker, on_ok_weaker}
 use Rattle.std.proofs.Common.{ap, ◌++◌, length, refl}
 use Rattle.pk_ast.specs.Trees as ast
 use Rattle.pk_ast.specs.Views.{expression_tree, expression_trees}
@@ -9,37 +10,37 @@ use Rattle.pk_type_scope.specs.Notes.{noted_in}
 use Rattle.pk_type_expression.specs.Views.{known_of}
 use Rattle.pk_type_expression.proofs.ArmLemmas as arm
 use Rattle.pk_type_expression.proofs.PartLemmas.{one_part, two_parts, three_parts, cast_parts, call_parts}
-use Rattle.pk_type_expression.proofs.ResultLemmas.{on_ok, if_ok, whatever}
+use Rattle.pk_type_expression.proofs.ResultLemmas.{whatever}
 use Rattle.pk_type_expression.proofs.WalkLemmas.{next, next_notes, next_mentions, next_values, at_end, end_notes, end_mentions, end_values, begin_values}
 use Rattle.pk_type_expression.proofs.expressions.+expressions.Goals as goal
 
 pub expression-returns-in-Name-clause-notes : goal.expression-returns-in-Name-clause-notes
 unfolding expression_tree
 expression-returns-in-Name-clause-notes t c =
-    on_ok c.name.result (arm.name_notes (names_in (scoping_of c.args.scope.now)) _ _ _ _ _ (ap expression_tree c.in-Name.is) c.lookup.ensures) c.name.ensures.notes
+    on_ok_weaker c.name.result (arm.name_notes (names_in (scoping_of c.args.scope.now)) _ _ _ _ _ (ap expression_tree c.in-Name.is) c.lookup.ensures) c.name.ensures.notes
 
 pub expression-returns-in-Name-clause-known : goal.expression-returns-in-Name-clause-known
 unfolding expression_tree
 expression-returns-in-Name-clause-known t c =
-    if_ok c.name.result (λ v h. arm.name_known (names_in (scoping_of c.args.scope.now)) _ _ _ _ _ (ap expression_tree c.in-Name.is) c.lookup.ensures h) c.name.ensures.known
+    IfOk-weaker c.name.result _ _ (λ v h. arm.name_known (names_in (scoping_of c.args.scope.now)) _ _ _ _ _ (ap expression_tree c.in-Name.is) c.lookup.ensures h) c.name.ensures.known
 
 pub expression-returns-in_ok-all-in-Call-clause-notes : goal.expression-returns-in_ok-all-in-Call-clause-notes
 expression-returns-in_ok-all-in-Call-clause-notes t c =
-    on_ok c.call-in-Call.result (arm.call_notes (names_in (scoping_of c.args.scope.now)) _ _ _ _ _ _ _ _ _ (call_parts c.args.e.now _ _ _ c.in-Call.is c.as_slice.ensures.value) c.lookup-declared.ensures c.in_ok-call-in-Call.ensures c.in_ok-all-in-Call.ensures.notes c.in_ok-all-in-Call.ensures.mentions) c.call-in-Call.ensures.notes
+    on_ok_weaker c.call-in-Call.result (arm.call_notes (names_in (scoping_of c.args.scope.now)) _ _ _ _ _ _ _ _ _ (call_parts c.args.e.now _ _ _ c.in-Call.is c.as_slice.ensures.value) c.lookup-declared.ensures c.in_ok-call-in-Call.ensures c.in_ok-all-in-Call.ensures.notes c.in_ok-all-in-Call.ensures.mentions) c.call-in-Call.ensures.notes
 
 pub expression-returns-in_ok-all-in-Call-clause-known : goal.expression-returns-in_ok-all-in-Call-clause-known
 expression-returns-in_ok-all-in-Call-clause-known t c =
-    if_ok c.call-in-Call.result (λ v h. arm.call_known' (names_in (scoping_of c.args.scope.now)) _ _ _ _ _ _ _ _ _ _ (call_parts c.args.e.now _ _ _ c.in-Call.is c.as_slice.ensures.value) c.lookup-declared.ensures c.in_ok-call-in-Call.ensures c.in_ok-all-in-Call.ensures.mentions c.in_ok-all-in-Call.ensures.values c.count-site.ensures h) c.call-in-Call.ensures.known
+    IfOk-weaker c.call-in-Call.result _ _ (λ v h. arm.call_known' (names_in (scoping_of c.args.scope.now)) _ _ _ _ _ _ _ _ _ _ (call_parts c.args.e.now _ _ _ c.in-Call.is c.as_slice.ensures.value) c.lookup-declared.ensures c.in_ok-call-in-Call.ensures c.in_ok-all-in-Call.ensures.mentions c.in_ok-all-in-Call.ensures.values c.count-site.ensures h) c.call-in-Call.ensures.known
 
 pub expression-returns-in_ok-index-in-Index-clause-notes : goal.expression-returns-in_ok-index-in-Index-clause-notes
 unfolding expression_tree
 expression-returns-in_ok-index-in-Index-clause-notes t c =
-    on_ok c.element.result (arm.element_notes (names_in (scoping_of c.args.scope.now)) _ _ _ _ _ _ _ _ (one_part (ast.index c.in-Index.x c.in-Index.at) _ _ _ (ap expression_tree c.in-Index.is) c.deref.ensures) c.lookup-in-Index.ensures c.in_ok-index-in-Index.ensures.notes) c.element.ensures.notes
+    on_ok_weaker c.element.result (arm.element_notes (names_in (scoping_of c.args.scope.now)) _ _ _ _ _ _ _ _ (one_part (ast.index c.in-Index.x c.in-Index.at) _ _ _ (ap expression_tree c.in-Index.is) c.deref.ensures) c.lookup-in-Index.ensures c.in_ok-index-in-Index.ensures.notes) c.element.ensures.notes
 
 pub expression-returns-in_ok-index-in-Index-clause-known : goal.expression-returns-in_ok-index-in-Index-clause-known
 unfolding expression_tree
 expression-returns-in_ok-index-in-Index-clause-known t c =
-    if_ok c.element.result (λ v h. arm.element_known (names_in (scoping_of c.args.scope.now)) _ _ _ _ _ _ _ _ (one_part (ast.index c.in-Index.x c.in-Index.at) _ _ _ (ap expression_tree c.in-Index.is) c.deref.ensures) c.lookup-in-Index.ensures c.in_ok-index-in-Index.ensures.known h) c.element.ensures.known
+    IfOk-weaker c.element.result _ _ (λ v h. arm.element_known (names_in (scoping_of c.args.scope.now)) _ _ _ _ _ _ _ _ (one_part (ast.index c.in-Index.x c.in-Index.at) _ _ _ (ap expression_tree c.in-Index.is) c.deref.ensures) c.lookup-in-Index.ensures c.in_ok-index-in-Index.ensures.known h) c.element.ensures.known
 
 pub expression-returns-in-Constant-clause-notes : goal.expression-returns-in-Constant-clause-notes
 unfolding expression_tree
@@ -49,7 +50,7 @@ expression-returns-in-Constant-clause-notes t c =
 pub expression-returns-in-Constant-clause-known : goal.expression-returns-in-Constant-clause-known
 unfolding expression_tree
 expression-returns-in-Constant-clause-known t c =
-    if_ok c.constant.result (λ v h. arm.constant_known (names_in (scoping_of c.args.scope.now)) _ _ _ _ _ _ (ap expression_tree c.in-Constant.is) h) c.constant.ensures
+    IfOk-weaker c.constant.result _ _ (λ v h. arm.constant_known (names_in (scoping_of c.args.scope.now)) _ _ _ _ _ _ (ap expression_tree c.in-Constant.is) h) c.constant.ensures
 
 pub expression-returns-in-Character-clause-notes : goal.expression-returns-in-Character-clause-notes
 unfolding expression_tree
@@ -59,37 +60,37 @@ expression-returns-in-Character-clause-notes t c =
 pub expression-returns-in-Character-clause-known : goal.expression-returns-in-Character-clause-known
 unfolding expression_tree
 expression-returns-in-Character-clause-known t c =
-    if_ok c.character.result (λ v h. arm.character_known (names_in (scoping_of c.args.scope.now)) _ _ _ _ _ (ap expression_tree c.in-Character.is) h) c.character.ensures
+    IfOk-weaker c.character.result _ _ (λ v h. arm.character_known (names_in (scoping_of c.args.scope.now)) _ _ _ _ _ (ap expression_tree c.in-Character.is) h) c.character.ensures
 
 pub expression-returns-in-Parenthesized-clause-notes : goal.expression-returns-in-Parenthesized-clause-notes
 unfolding expression_tree
 expression-returns-in-Parenthesized-clause-notes t c =
-    on_ok c.expression.result (arm.parenthesized_notes (names_in (scoping_of c.args.scope.now)) _ _ _ _ _ (one_part (ast.parenthesized c.in-Parenthesized.field-0) _ _ _ (ap expression_tree c.in-Parenthesized.is) c.deref-in-Parenthesized.ensures)) c.expression.ensures.notes
+    on_ok_weaker c.expression.result (arm.parenthesized_notes (names_in (scoping_of c.args.scope.now)) _ _ _ _ _ (one_part (ast.parenthesized c.in-Parenthesized.field-0) _ _ _ (ap expression_tree c.in-Parenthesized.is) c.deref-in-Parenthesized.ensures)) c.expression.ensures.notes
 
 pub expression-returns-in-Parenthesized-clause-known : goal.expression-returns-in-Parenthesized-clause-known
 unfolding expression_tree
 expression-returns-in-Parenthesized-clause-known t c =
-    if_ok c.expression.result (λ v h. arm.parenthesized_known (names_in (scoping_of c.args.scope.now)) _ _ _ _ _ (one_part (ast.parenthesized c.in-Parenthesized.field-0) _ _ _ (ap expression_tree c.in-Parenthesized.is) c.deref-in-Parenthesized.ensures) h) c.expression.ensures.known
+    IfOk-weaker c.expression.result _ _ (λ v h. arm.parenthesized_known (names_in (scoping_of c.args.scope.now)) _ _ _ _ _ (one_part (ast.parenthesized c.in-Parenthesized.field-0) _ _ _ (ap expression_tree c.in-Parenthesized.is) c.deref-in-Parenthesized.ensures) h) c.expression.ensures.known
 
 pub expression-returns-in_ok-operand-in-Postfix-clause-notes : goal.expression-returns-in_ok-operand-in-Postfix-clause-notes
 unfolding expression_tree
 expression-returns-in_ok-operand-in-Postfix-clause-notes t c =
-    on_ok c.step.result (arm.postfix_notes (names_in (scoping_of c.args.scope.now)) _ _ _ _ _ _ _ _ _ (one_part (ast.postfix c.in-Postfix.op c.in-Postfix.at) _ _ _ (ap expression_tree c.in-Postfix.is) c.deref-in-Postfix.ensures) c.in_ok-operand-in-Postfix.ensures.notes c.in_ok-operand-in-Postfix.ensures.known) c.step.ensures.notes
+    on_ok_weaker c.step.result (arm.postfix_notes (names_in (scoping_of c.args.scope.now)) _ _ _ _ _ _ _ _ _ (one_part (ast.postfix c.in-Postfix.op c.in-Postfix.at) _ _ _ (ap expression_tree c.in-Postfix.is) c.deref-in-Postfix.ensures) c.in_ok-operand-in-Postfix.ensures.notes c.in_ok-operand-in-Postfix.ensures.known) c.step.ensures.notes
 
 pub expression-returns-in_ok-operand-in-Postfix-clause-known : goal.expression-returns-in_ok-operand-in-Postfix-clause-known
 unfolding expression_tree
 expression-returns-in_ok-operand-in-Postfix-clause-known t c =
-    if_ok c.step.result (λ v h. arm.postfix_known (names_in (scoping_of c.args.scope.now)) _ _ _ _ _ _ _ (one_part (ast.postfix c.in-Postfix.op c.in-Postfix.at) _ _ _ (ap expression_tree c.in-Postfix.is) c.deref-in-Postfix.ensures) c.in_ok-operand-in-Postfix.ensures.known h) c.step.ensures.known
+    IfOk-weaker c.step.result _ _ (λ v h. arm.postfix_known (names_in (scoping_of c.args.scope.now)) _ _ _ _ _ _ _ (one_part (ast.postfix c.in-Postfix.op c.in-Postfix.at) _ _ _ (ap expression_tree c.in-Postfix.is) c.deref-in-Postfix.ensures) c.in_ok-operand-in-Postfix.ensures.known h) c.step.ensures.known
 
 pub expression-returns-in_ok-operand-in-Prefix-clause-notes : goal.expression-returns-in_ok-operand-in-Prefix-clause-notes
 unfolding expression_tree
 expression-returns-in_ok-operand-in-Prefix-clause-notes t c =
-    on_ok c.step-in-Prefix.result (arm.prefix_notes (names_in (scoping_of c.args.scope.now)) _ _ _ _ _ _ _ _ _ (one_part (ast.prefix c.in-Prefix.op c.in-Prefix.at) _ _ _ (ap expression_tree c.in-Prefix.is) c.deref-in-Prefix.ensures) c.in_ok-operand-in-Prefix.ensures.notes c.in_ok-operand-in-Prefix.ensures.known) c.step-in-Prefix.ensures.notes
+    on_ok_weaker c.step-in-Prefix.result (arm.prefix_notes (names_in (scoping_of c.args.scope.now)) _ _ _ _ _ _ _ _ _ (one_part (ast.prefix c.in-Prefix.op c.in-Prefix.at) _ _ _ (ap expression_tree c.in-Prefix.is) c.deref-in-Prefix.ensures) c.in_ok-operand-in-Prefix.ensures.notes c.in_ok-operand-in-Prefix.ensures.known) c.step-in-Prefix.ensures.notes
 
 pub expression-returns-in_ok-operand-in-Prefix-clause-known : goal.expression-returns-in_ok-operand-in-Prefix-clause-known
 unfolding expression_tree
 expression-returns-in_ok-operand-in-Prefix-clause-known t c =
-    if_ok c.step-in-Prefix.result (λ v h. arm.prefix_known (names_in (scoping_of c.args.scope.now)) _ _ _ _ _ _ _ (one_part (ast.prefix c.in-Prefix.op c.in-Prefix.at) _ _ _ (ap expression_tree c.in-Prefix.is) c.deref-in-Prefix.ensures) c.in_ok-operand-in-Prefix.ensures.known h) c.step-in-Prefix.ensures.known
+    IfOk-weaker c.step-in-Prefix.result _ _ (λ v h. arm.prefix_known (names_in (scoping_of c.args.scope.now)) _ _ _ _ _ _ _ (one_part (ast.prefix c.in-Prefix.op c.in-Prefix.at) _ _ _ (ap expression_tree c.in-Prefix.is) c.deref-in-Prefix.ensures) c.in_ok-operand-in-Prefix.ensures.known h) c.step-in-Prefix.ensures.known
 
 pub expression-returns-in_ok-operand-in-Unary-clause-notes : goal.expression-returns-in_ok-operand-in-Unary-clause-notes
 unfolding expression_tree
@@ -99,7 +100,7 @@ expression-returns-in_ok-operand-in-Unary-clause-notes t c =
 pub expression-returns-in_ok-operand-in-Unary-clause-known : goal.expression-returns-in_ok-operand-in-Unary-clause-known
 unfolding expression_tree
 expression-returns-in_ok-operand-in-Unary-clause-known t c =
-    if_ok c.unary.result (λ v h. arm.unary_known (names_in (scoping_of c.args.scope.now)) _ _ _ _ _ _ _ (one_part (ast.unary c.in-Unary.op c.in-Unary.at) _ _ _ (ap expression_tree c.in-Unary.is) c.deref-in-Unary.ensures) c.in_ok-operand-in-Unary.ensures.known h) c.unary.ensures
+    IfOk-weaker c.unary.result _ _ (λ v h. arm.unary_known (names_in (scoping_of c.args.scope.now)) _ _ _ _ _ _ _ (one_part (ast.unary c.in-Unary.op c.in-Unary.at) _ _ _ (ap expression_tree c.in-Unary.is) c.deref-in-Unary.ensures) c.in_ok-operand-in-Unary.ensures.known h) c.unary.ensures
 
 pub expression-returns-in_ok-operand-in-Cast-clause-notes : goal.expression-returns-in_ok-operand-in-Cast-clause-notes
 unfolding expression_tree
@@ -109,17 +110,17 @@ expression-returns-in_ok-operand-in-Cast-clause-notes t c =
 pub expression-returns-in_ok-operand-in-Cast-clause-known : goal.expression-returns-in_ok-operand-in-Cast-clause-known
 unfolding expression_tree
 expression-returns-in_ok-operand-in-Cast-clause-known t c =
-    if_ok c.cast.result (λ v h. arm.cast_known' (names_in (scoping_of c.args.scope.now)) _ _ _ _ _ (known_of v) _ _ _ (cast_parts _ _ _ _ _ _ (ap expression_tree c.in-Cast.is) c.deref-words.ensures c.deref-inner.ensures) c.note_specifiers.ensures c.type_named-to.ensures c.in_ok-operand-in-Cast.ensures.known h) c.cast.ensures
+    IfOk-weaker c.cast.result _ _ (λ v h. arm.cast_known' (names_in (scoping_of c.args.scope.now)) _ _ _ _ _ (known_of v) _ _ _ (cast_parts _ _ _ _ _ _ (ap expression_tree c.in-Cast.is) c.deref-words.ensures c.deref-inner.ensures) c.note_specifiers.ensures c.type_named-to.ensures c.in_ok-operand-in-Cast.ensures.known h) c.cast.ensures
 
 pub expression-returns-in_ok-second-in-Binary-clause-notes : goal.expression-returns-in_ok-second-in-Binary-clause-notes
 unfolding expression_tree
 expression-returns-in_ok-second-in-Binary-clause-notes t c =
-    on_ok c.binary.result (arm.binary_notes (names_in (scoping_of c.args.scope.now)) _ _ _ _ _ _ _ _ _ _ _ _ _ (two_parts (ast.binary c.in-Binary.op c.in-Binary.at) _ _ _ _ _ (ap expression_tree c.in-Binary.is) c.deref-in-Binary.ensures c.deref-in-Binary-2.ensures) c.in_ok-first-in-Binary.ensures.notes c.in_ok-first-in-Binary.ensures.known c.in_ok-second-in-Binary.ensures.notes c.in_ok-second-in-Binary.ensures.known) c.binary.ensures.notes
+    on_ok_weaker c.binary.result (arm.binary_notes (names_in (scoping_of c.args.scope.now)) _ _ _ _ _ _ _ _ _ _ _ _ _ (two_parts (ast.binary c.in-Binary.op c.in-Binary.at) _ _ _ _ _ (ap expression_tree c.in-Binary.is) c.deref-in-Binary.ensures c.deref-in-Binary-2.ensures) c.in_ok-first-in-Binary.ensures.notes c.in_ok-first-in-Binary.ensures.known c.in_ok-second-in-Binary.ensures.notes c.in_ok-second-in-Binary.ensures.known) c.binary.ensures.notes
 
 pub expression-returns-in_ok-second-in-Binary-clause-known : goal.expression-returns-in_ok-second-in-Binary-clause-known
 unfolding expression_tree
 expression-returns-in_ok-second-in-Binary-clause-known t c =
-    if_ok c.binary.result (λ v h. arm.binary_known (names_in (scoping_of c.args.scope.now)) _ _ _ _ _ (known_of v) _ _ _ _ (two_parts (ast.binary c.in-Binary.op c.in-Binary.at) _ _ _ _ _ (ap expression_tree c.in-Binary.is) c.deref-in-Binary.ensures c.deref-in-Binary-2.ensures) c.in_ok-first-in-Binary.ensures.notes c.in_ok-first-in-Binary.ensures.known c.in_ok-second-in-Binary.ensures.known h) c.binary.ensures.known
+    IfOk-weaker c.binary.result _ _ (λ v h. arm.binary_known (names_in (scoping_of c.args.scope.now)) _ _ _ _ _ (known_of v) _ _ _ _ (two_parts (ast.binary c.in-Binary.op c.in-Binary.at) _ _ _ _ _ (ap expression_tree c.in-Binary.is) c.deref-in-Binary.ensures c.deref-in-Binary-2.ensures) c.in_ok-first-in-Binary.ensures.notes c.in_ok-first-in-Binary.ensures.known c.in_ok-second-in-Binary.ensures.known h) c.binary.ensures.known
 
 pub expression-returns-in_ok-third-in-Conditional-clause-notes : goal.expression-returns-in_ok-third-in-Conditional-clause-notes
 unfolding expression_tree
@@ -129,17 +130,17 @@ expression-returns-in_ok-third-in-Conditional-clause-notes t c =
 pub expression-returns-in_ok-third-in-Conditional-clause-known : goal.expression-returns-in_ok-third-in-Conditional-clause-known
 unfolding expression_tree
 expression-returns-in_ok-third-in-Conditional-clause-known t c =
-    if_ok c.conditional.result (λ v h. arm.conditional_known (names_in (scoping_of c.args.scope.now)) _ _ _ _ _ (known_of v) _ _ _ _ _ _ (three_parts (ast.conditional c.in-Conditional.at) _ _ _ _ _ _ _ (ap expression_tree c.in-Conditional.is) c.deref-in-Conditional.ensures c.deref-in-Conditional-2.ensures c.deref-in-Conditional-3.ensures) c.in_ok-first-in-Conditional.ensures.notes c.in_ok-first-in-Conditional.ensures.known c.in_ok-second-in-Conditional.ensures.notes c.in_ok-second-in-Conditional.ensures.known c.in_ok-third-in-Conditional.ensures.known h) c.conditional.ensures
+    IfOk-weaker c.conditional.result _ _ (λ v h. arm.conditional_known (names_in (scoping_of c.args.scope.now)) _ _ _ _ _ (known_of v) _ _ _ _ _ _ (three_parts (ast.conditional c.in-Conditional.at) _ _ _ _ _ _ _ (ap expression_tree c.in-Conditional.is) c.deref-in-Conditional.ensures c.deref-in-Conditional-2.ensures c.deref-in-Conditional-3.ensures) c.in_ok-first-in-Conditional.ensures.notes c.in_ok-first-in-Conditional.ensures.known c.in_ok-second-in-Conditional.ensures.notes c.in_ok-second-in-Conditional.ensures.known c.in_ok-third-in-Conditional.ensures.known h) c.conditional.ensures
 
 pub expression-returns-in_ok-second-in-Assignment-clause-notes : goal.expression-returns-in_ok-second-in-Assignment-clause-notes
 unfolding expression_tree
 expression-returns-in_ok-second-in-Assignment-clause-notes t c =
-    on_ok c.assignment.result (arm.assignment_notes' (names_in (scoping_of c.args.scope.now)) _ _ _ _ _ _ _ _ _ _ _ _ _ _ _ _ (two_parts (ast.assignment c.in-Assignment.op c.in-Assignment.at) _ _ _ _ _ (ap expression_tree c.in-Assignment.is) c.deref-left.ensures c.deref-in-Assignment.ensures) c.in_ok-first-in-Assignment.ensures.notes c.in_ok-first-in-Assignment.ensures.known c.number_operator.ensures c.is_some.ensures c.note_void-in-Assignment.ensures c.in_ok-second-in-Assignment.ensures.notes c.in_ok-second-in-Assignment.ensures.known) c.assignment.ensures.notes
+    on_ok_weaker c.assignment.result (arm.assignment_notes' (names_in (scoping_of c.args.scope.now)) _ _ _ _ _ _ _ _ _ _ _ _ _ _ _ _ (two_parts (ast.assignment c.in-Assignment.op c.in-Assignment.at) _ _ _ _ _ (ap expression_tree c.in-Assignment.is) c.deref-left.ensures c.deref-in-Assignment.ensures) c.in_ok-first-in-Assignment.ensures.notes c.in_ok-first-in-Assignment.ensures.known c.number_operator.ensures c.is_some.ensures c.note_void-in-Assignment.ensures c.in_ok-second-in-Assignment.ensures.notes c.in_ok-second-in-Assignment.ensures.known) c.assignment.ensures.notes
 
 pub expression-returns-in_ok-second-in-Assignment-clause-known : goal.expression-returns-in_ok-second-in-Assignment-clause-known
 unfolding expression_tree
 expression-returns-in_ok-second-in-Assignment-clause-known t c =
-    if_ok c.assignment.result (λ v h. arm.assignment_known' (names_in (scoping_of c.args.scope.now)) _ _ _ _ _ (known_of v) _ _ _ _ (noted_in c.note_void-in-Assignment.new.notes) (two_parts (ast.assignment c.in-Assignment.op c.in-Assignment.at) _ _ _ _ _ (ap expression_tree c.in-Assignment.is) c.deref-left.ensures c.deref-in-Assignment.ensures) c.in_ok-first-in-Assignment.ensures.notes c.in_ok-first-in-Assignment.ensures.known (ap (λ u. length u.calls) c.note_void-in-Assignment.ensures) c.in_ok-second-in-Assignment.ensures.known h) c.assignment.ensures.known
+    IfOk-weaker c.assignment.result _ _ (λ v h. arm.assignment_known' (names_in (scoping_of c.args.scope.now)) _ _ _ _ _ (known_of v) _ _ _ _ (noted_in c.note_void-in-Assignment.new.notes) (two_parts (ast.assignment c.in-Assignment.op c.in-Assignment.at) _ _ _ _ _ (ap expression_tree c.in-Assignment.is) c.deref-left.ensures c.deref-in-Assignment.ensures) c.in_ok-first-in-Assignment.ensures.notes c.in_ok-first-in-Assignment.ensures.known (ap (λ u. length u.calls) c.note_void-in-Assignment.ensures) c.in_ok-second-in-Assignment.ensures.known h) c.assignment.ensures.known
 
 pub expression-returns-in_ok-second-in-Comma-clause-notes : goal.expression-returns-in_ok-second-in-Comma-clause-notes
 unfolding expression_tree
@@ -149,7 +150,7 @@ expression-returns-in_ok-second-in-Comma-clause-notes t c =
 pub expression-returns-in_ok-second-in-Comma-clause-known : goal.expression-returns-in_ok-second-in-Comma-clause-known
 unfolding expression_tree
 expression-returns-in_ok-second-in-Comma-clause-known t c =
-    if_ok c.comma.result (λ v h. arm.comma_known (names_in (scoping_of c.args.scope.now)) _ _ _ _ (known_of v) _ _ _ _ (two_parts (ast.comma c.in-Comma.at) _ _ _ _ _ (ap expression_tree c.in-Comma.is) c.deref-in-Comma.ensures c.deref-in-Comma-2.ensures) c.in_ok-first-in-Comma.ensures.notes c.in_ok-first-in-Comma.ensures.known c.in_ok-second-in-Comma.ensures.known h) c.comma.ensures
+    IfOk-weaker c.comma.result _ _ (λ v h. arm.comma_known (names_in (scoping_of c.args.scope.now)) _ _ _ _ (known_of v) _ _ _ _ (two_parts (ast.comma c.in-Comma.at) _ _ _ _ _ (ap expression_tree c.in-Comma.is) c.deref-in-Comma.ensures c.deref-in-Comma-2.ensures) c.in_ok-first-in-Comma.ensures.notes c.in_ok-first-in-Comma.ensures.known c.in_ok-second-in-Comma.ensures.known h) c.comma.ensures
 
 pub used-returns-clause-notes : goal.used-returns-clause-notes
 used-returns-clause-notes t c =

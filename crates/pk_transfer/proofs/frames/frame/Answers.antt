@@ -5,8 +5,8 @@ use Rattle.pk_graph.specs.declared.graphs.Variable.{Variable}
 use Rattle.pk_graph.specs.Graphs.{VariableOf, variable_view}
 use Rattle.pk_graph.specs.Shown.{graph_view}
 use Rattle.pk_state.specs.Layouts.{Layout, IsLayout}
-use Rattle.pk_graph_tests.proofs.OneEdge.{types_of}
-use Rattle.pk_graph_tests.proofs.lines.frame.Goals as goal
+use Rattle.pk_transfer.proofs.LayoutLemmas.{types_of}
+use Rattle.pk_transfer.proofs.frames.frame.Goals as goal
 
 pub new-requires : goal.new-requires
 new-requires c =

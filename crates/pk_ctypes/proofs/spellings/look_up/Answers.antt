@@ -1,6 +1,6 @@
 use Rattle.std.proofs.Common.{sym, ◌∙◌}
-use Rattle.pk_type_declaration.proofs.TableLemmas.{row_found, row_passed, rows_passed}
-use Rattle.pk_type_declaration.proofs.specials.look_up.Goals as goal
+use Rattle.pk_ctypes.proofs.TableLemmas.{row_found, row_passed, rows_passed}
+use Rattle.pk_ctypes.proofs.spellings.look_up.Goals as goal
 
 pub returns-then-is_spelled : goal.returns-then-is_spelled
 returns-then-is_spelled g c =

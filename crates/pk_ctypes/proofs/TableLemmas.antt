@@ -3,7 +3,7 @@ use Rattle.std.proofs.Common.{◌≡◌, ℕ, suc, ◌+◌, ◌<◌, ◌≤◌, 
 use Rattle.std.proofs.Math.Seq.{drop-cons}
 use Rattle.std.proofs.lemmas.List.{drop_all}
 use Rattle.std.specs.Str.{bytes_eq}
-use Rattle.pk_type_declaration.specs.Specials.{lookup}
+use Rattle.pk_ctypes.specs.Spellings.{lookup}
 
 abbrev rows : {T : Type 0} → List (Bor (List ℕ) × T) → List (List ℕ × T)
 rows table = map (λ row. (row.0.now, row.1)) table
