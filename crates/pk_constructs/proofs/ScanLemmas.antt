@@ -1,9 +1,11 @@
 -- Tokens that were looked through.
-use Rattle.std.proofs.Common.{◌≡◌, ℕ, ◌<◌, inl, inr, List, [], ◌∷◌, ◌++◌, Some, None, Bool, true, refl, sym, ap, subst, ◌∙◌, append_assoc}
+use Rattle.std.proofs.Common.{◌≡◌, ℕ, ◌+◌, ◌-◌, ◌<◌, ◌≤◌, inl, inr, List, [], ◌∷◌, ◌++◌, Some, None, Bool, true, refl, sym, ap, subst, ◌∙◌, append_assoc, arith}
 use Rattle.std.proofs.lemmas.List.{append-nil}
 use Rattle.pk_ctypes.specs.declared.words.Construct.{Construct}
 use Rattle.pk_lex.specs.declared.token.Token.{Token}
 use Rattle.pk_lex.specs.declared.token.Kind.{Kind}
+use Rattle.pk_lex.specs.declared.token.Kind.TheVariants as kind
+use Rattle.pk_lex.specs.declared.token.Punctuator.TheVariants as mark
 use Rattle.pk_constructs.specs.declared.constructs.Before.{Before}
 use Rattle.pk_constructs.specs.Constructs.{BraceStep, BracesAfter, IsInBraces, last_kind, IsUnsupported, AreSupported, IsSupported, FirstUnsupported}
 use Rattle.pk_constructs.specs.Tables.{before_next, kind_shows}
@@ -20,15 +22,27 @@ one_step k n a b (inr (inr g)) (inl h) = absurd (g.0 h.0)
 one_step k n a b (inr (inr g)) (inr (inl h)) = absurd (g.1 h.0)
 one_step k n a b (inr (inr g)) (inr (inr h)) = cc
 
-one_depth : (ts : List Token) (n a b : ℕ) → BracesAfter ts n a → BracesAfter ts n b → a ≡ b
+pub one_depth : (ts : List Token) (n a b : ℕ) → BracesAfter ts n a → BracesAfter ts n b → a ≡ b
 one_depth [] n a b g h = sym g ∙ h
 one_depth (t ∷ ts) n a b g h =
     let same : g.0 ≡ h.0 = one_step t.kind n g.0 h.0 g.1 h.1 in
     one_depth ts g.0 a b g.2 (subst (λ m. BracesAfter ts m b) (sym same) h.2)
 
-one_brace_more : (ts : List Token) (t : Token) (n m after : ℕ) → BracesAfter ts n m → BraceStep t.kind m after → BracesAfter (ts ++ t ∷ []) n after
+pub one_brace_more : (ts : List Token) (t : Token) (n m after : ℕ) → BracesAfter ts n m → BraceStep t.kind m after → BracesAfter (ts ++ t ∷ []) n after
 one_brace_more [] t n m after g s = (after, subst (λ q. BraceStep t.kind q after) (sym g) s, refl)
 one_brace_more (u ∷ ts) t n m after g s = (g.0, g.1, one_brace_more ts t g.0 m after g.2 s)
+
+-- at most one brace more
+pub at_most_one : (k : Kind) (n after : ℕ) → BraceStep k n after → after ≤ n + 1
+at_most_one k n after (inl h) = omega (arith, h.1)
+at_most_one k n after (inr (inl h)) = omega (arith, h.1)
+at_most_one k n after (inr (inr h)) = omega (arith, h.2)
+
+-- each token opens a brace, closes one or leaves them
+pub brace_step : (k : Kind) (n : ℕ) → (m : ℕ) × BraceStep k n m
+brace_step (kind.Punctuator mark.OpenBrace) n = (n + 1, inl (refl, refl))
+brace_step (kind.Punctuator mark.CloseBrace) n = (n - 1, inr (inl (refl, refl)))
+brace_step k n = (n, inr (inr (((λ e. cc), (λ e. cc), refl))))
 
 last_of : (ts : List Token) (t : Token) → last_kind (ts ++ t ∷ []) ≡ Some t.kind
 last_of [] t = refl

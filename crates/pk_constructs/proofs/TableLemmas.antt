@@ -37,6 +37,7 @@ tells_punctuator p = no_end p (λ e. cc) (λ e. cc) (λ e. cc) (λ e. cc)
 tells : (k : Kind) → Tells (before_of k) k
 tells (kind.Keyword k) = λ h. h
 tells kind.Name = tt
+tells kind.TypeName = tt
 tells (kind.Constant t v) = tt
 tells (kind.Character v) = tt
 tells kind.StringLiteral = λ h. h
@@ -159,6 +160,7 @@ module _ (last : Option Kind) (InBraces : Type 0) (in_braces : Bool) where
   pub found : (k : Kind) (c : Construct) → (in_braces ≡ true → InBraces) → kind_shows (before_next last) in_braces k ≡ Some c → Shows last InBraces k c
   found (kind.Keyword k) c h e = found_word k c h e
   found kind.Name c h e = absurd (cc)
+  found kind.TypeName c h e = absurd (cc)
   found (kind.Constant t v) c h e = absurd (cc)
   found (kind.Character v) c h e = absurd (cc)
   found kind.StringLiteral c h e = shown kind.StringLiteral construct.StringLiteral c e refl

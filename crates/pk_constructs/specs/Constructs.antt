@@ -37,6 +37,7 @@ Is P (Some k) = P k
 abbrev pub EndsOperand : Kind → Type 0
 EndsOperand (kind.Keyword k) = ⊥
 EndsOperand kind.Name = Unit {0}
+EndsOperand kind.TypeName = Unit {0}
 EndsOperand (kind.Constant t v) = Unit {0}
 EndsOperand (kind.Character v) = Unit {0}
 EndsOperand kind.StringLiteral = ⊥

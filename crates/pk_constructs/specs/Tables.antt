@@ -108,6 +108,7 @@ before_punctuator mark.Arrow = before.Other
 abbrev pub before_of : Kind → Before
 before_of (kind.Keyword k) = before.Other
 before_of kind.Name = before.Operand
+before_of kind.TypeName = before.Operand
 before_of (kind.Constant t v) = before.Operand
 before_of (kind.Character v) = before.Operand
 before_of kind.StringLiteral = before.Other
@@ -192,6 +193,7 @@ punctuator_shows mark.Arrow b = Some construct.Arrow
 abbrev pub kind_shows : Before → Bool → Kind → Option Construct
 kind_shows b in_braces (kind.Keyword k) = word_shows k in_braces
 kind_shows b in_braces kind.Name = None
+kind_shows b in_braces kind.TypeName = None
 kind_shows b in_braces (kind.Constant t v) = None
 kind_shows b in_braces (kind.Character v) = None
 kind_shows b in_braces kind.StringLiteral = Some construct.StringLiteral

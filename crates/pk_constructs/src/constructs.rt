@@ -36,7 +36,8 @@ fn before_of(kind: Kind) -> Before
     ensures { result ≡ tables.before_of kind }
 {
     match kind {
-        Kind::Name | Kind::Constant { .. } | Kind::Character(_) => Before::Operand,
+        Kind::Name | Kind::TypeName => Before::Operand,
+        Kind::Constant { .. } | Kind::Character(_) => Before::Operand,
         Kind::Punctuator(p) => before_punctuator(p),
         _ => Before::Other,
     }
@@ -101,8 +102,8 @@ fn shows(kind: Kind, before: Before, in_braces: bool) -> Option<Construct>
     }
 }
 
-// How many braces are open after a token.
-fn braces_after(braces: usize, kind: Kind) -> usize
+/// How many braces are open after a token.
+pub fn braces_after(braces: usize, kind: Kind) -> usize
     requires { braces < 2 ^ 63 }
     ensures { BraceStep kind braces result }
 {

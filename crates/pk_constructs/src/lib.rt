@@ -4,5 +4,5 @@
 mod constructs;
 mod laws;
 
-pub use constructs::first_unsupported;
+pub use constructs::{braces_after, first_unsupported};
 pub use laws::first_is_determined;

@@ -1,4 +1,5 @@
 mod TextLemmas
+pub mod MarkLemmas
 mod WayLemmas
 mod WalkLemmas
 mod EndLemmas

@@ -5,9 +5,8 @@ use Rattle.pk_ctypes.specs.declared.words.Rule.{Rule}
 use Rattle.pk_ctypes.specs.declared.words.Quantity.TheVariants as quantity
 use Rattle.pk_lex.specs.declared.token.Token.{Token}
 use Rattle.pk_lex.specs.declared.token.LexicalKind.{LexicalKind}
-use Rattle.pk_lex.specs.Tokens.{IsLexed}
 use Rattle.pk_lex.specs.Failures.{FailsAt}
-use Rattle.pk_lex.proofs.ReadLemmas.{one_list, one_kind, one_place, not_both}
+use Rattle.pk_lex.proofs.ReadLemmas.{one_kind, one_place, not_both}
 use Rattle.pk_ast.specs.Trees.{ExternalTree}
 use Rattle.pk_grammar.specs.declared.failure.ParseError.{ParseError}
 use Rattle.pk_grammar.specs.declared.failure.ParseError.TheVariants as parse_error
@@ -24,7 +23,8 @@ use Rattle.pk_calls.proofs.Determined.{answer_determined}
 use Rattle.pk_front.specs.declared.failures.TextError.{TextError}
 use Rattle.pk_front.specs.declared.failures.TextError.TheVariants.{Refused, Limit, Memory}
 use Rattle.pk_front.specs.declared.failures.Refusal.TheVariants.{Lexical, Unsupported, Syntax, Typing, NoEntry, Recursion, UndefinedCall}
-use Rattle.pk_front.specs.Texts.{FailsAsTokens, FailsAsTrees, FailsAsUnit, HasPaths, HasTrees, HasUnit, IsLeft, failure, failure_in}
+use Rattle.pk_front.specs.Texts.{FailsAsTokens, FailsAsTrees, FailsAsUnit, HasPaths, HasTokens, HasTrees, HasUnit, IsLeft, failure, failure_in}
+use Rattle.pk_front.proofs.MarkLemmas.{one_tokens}
 
 -- ---- why a text is left, by its stage
 
@@ -99,23 +99,23 @@ ok_err ps w e = cc
 err_some : (w : CallError) → w ≢ call_error.Memory → refusal w ≢ refusal call_error.Memory
 err_some w some e = some (same_error w call_error.Memory e)
 
-lexed_fails : (text : List ℕ) (tokens : List Token) (kind : LexicalKind) (at : Pos) → IsLexed text tokens → FailsAt text kind at → ⊥
-lexed_fails text tokens kind at lexed fails = not_both text tokens kind at lexed fails
+lexed_fails : (text : List ℕ) (tokens : List Token) (kind : LexicalKind) (at : Pos) → HasTokens text tokens → FailsAt text kind at → ⊥
+lexed_fails text tokens kind at read fails = not_both text read.words kind at read.lexed fails
 
 module _ (law : trees.AnswerIsDetermined) where
   one_trees : (text : List ℕ) (ts us : List ExternalTree) → HasTrees text ts → HasTrees text us → ts ≡ us
   one_trees text ts us a b =
-      let same : a.tokens ≡ b.tokens = one_list text a.tokens b.tokens a.lexed b.lexed in
+      let same : a.tokens ≡ b.tokens = one_tokens text a.tokens b.tokens a.read b.read in
       law.trees b.tokens ts us (subst (λ (x : List Token). trees.IsAccepted x ts) same a.parsed) b.parsed
 
   no_trees : (text : List ℕ) (why : ParseError) (ts : List ExternalTree) → FailsAsTokens text why → HasTrees text ts → ⊥
   no_trees text why ts fails has =
-      let same : fails.tokens ≡ has.tokens = one_list text fails.tokens has.tokens fails.lexed has.lexed in
+      let same : fails.tokens ≡ has.tokens = one_tokens text fails.tokens has.tokens fails.read has.read in
       law.apart has.tokens ts why has.parsed (subst (λ (x : List Token). trees.IsRefused x why) same fails.refused)
 
   one_error : (text : List ℕ) (w v : ParseError) → FailsAsTokens text w → FailsAsTokens text v → w ≡ v
   one_error text w v a b =
-      let same : a.tokens ≡ b.tokens = one_list text a.tokens b.tokens a.lexed b.lexed in
+      let same : a.tokens ≡ b.tokens = one_tokens text a.tokens b.tokens a.read b.read in
       law.refusal b.tokens w v (subst (λ (x : List Token). trees.IsRefused x w) same a.refused) b.refused
 
   one_unit : (text : List ℕ) (u v : UnitTree) → HasUnit text u → HasUnit text v → u ≡ v
@@ -154,24 +154,24 @@ module _ (law : trees.AnswerIsDetermined) where
 
   one_reason : (text entry : List ℕ) (r q : Reason) → Holds text entry r → Holds text entry q → r ≡ q
   one_reason text entry (lexical k p) (lexical l q) a b = ap (λ (x : LexicalKind). lexical x p) (one_kind text k l p q a b) ∙ ap (λ (x : Pos). lexical l x) (one_place text k l p q a b)
-  one_reason text entry (lexical k p) (grammatical v) a b = absurd (lexed_fails text b.tokens k p b.lexed a)
-  one_reason text entry (lexical k p) (typed rule at) a b = absurd (lexed_fails text b.parsed.tokens k p b.parsed.lexed a)
-  one_reason text entry (lexical k p) (called v) a b = absurd (lexed_fails text b.1.typed.parsed.tokens k p b.1.typed.parsed.lexed a)
-  one_reason text entry (grammatical w) (lexical l q) a b = absurd (lexed_fails text a.tokens l q a.lexed b)
+  one_reason text entry (lexical k p) (grammatical v) a b = absurd (lexed_fails text b.tokens k p b.read a)
+  one_reason text entry (lexical k p) (typed rule at) a b = absurd (lexed_fails text b.parsed.tokens k p b.parsed.read a)
+  one_reason text entry (lexical k p) (called v) a b = absurd (lexed_fails text b.1.typed.parsed.tokens k p b.1.typed.parsed.read a)
+  one_reason text entry (grammatical w) (lexical l q) a b = absurd (lexed_fails text a.tokens l q a.read b)
   one_reason text entry (grammatical w) (grammatical v) a b = ap (λ (x : ParseError). grammatical x) (one_error text w v a b)
   one_reason text entry (grammatical w) (typed rule at) a b = absurd (no_trees text w b.all a b.parsed)
   one_reason text entry (grammatical w) (called v) a b = absurd (no_trees text w b.1.typed.all a b.1.typed.parsed)
-  one_reason text entry (typed rule at) (lexical l q) a b = absurd (lexed_fails text a.parsed.tokens l q a.parsed.lexed b)
+  one_reason text entry (typed rule at) (lexical l q) a b = absurd (lexed_fails text a.parsed.tokens l q a.parsed.read b)
   one_reason text entry (typed rule at) (grammatical v) a b = absurd (no_trees text v a.all b a.parsed)
   one_reason text entry (typed rule at) (typed other there) a b = one_failure text rule other at there a b
   one_reason text entry (typed rule at) (called v) a b = absurd (no_unit text rule at b.1.unit a b.1.typed)
-  one_reason text entry (called w) (lexical l q) a b = absurd (lexed_fails text a.1.typed.parsed.tokens l q a.1.typed.parsed.lexed b)
+  one_reason text entry (called w) (lexical l q) a b = absurd (lexed_fails text a.1.typed.parsed.tokens l q a.1.typed.parsed.read b)
   one_reason text entry (called w) (grammatical v) a b = absurd (no_trees text v a.1.typed.all b a.1.typed.parsed)
   one_reason text entry (called w) (typed rule at) a b = absurd (no_unit text rule at a.1.unit b a.1.typed)
   one_reason text entry (called w) (called v) a b = ap (λ (x : CallError). called x) (one_call text entry w v a b)
 
   no_reason : (text entry : List ℕ) (u : UnitTree) (ps : List CallPath) (r : Reason) → HasPaths text entry u ps → Holds text entry r → ⊥
-  no_reason text entry u ps (lexical k p) has a = lexed_fails text has.typed.parsed.tokens k p has.typed.parsed.lexed a
+  no_reason text entry u ps (lexical k p) has a = lexed_fails text has.typed.parsed.tokens k p has.typed.parsed.read a
   no_reason text entry u ps (grammatical w) has a = no_trees text w has.typed.all a has.typed.parsed
   no_reason text entry u ps (typed rule at) has a = no_unit text rule at u a has.typed
   no_reason text entry u ps (called w) has a = no_paths text entry w u ps a has

@@ -1,5 +1,5 @@
 -- The way of a text from its bytes to its call paths, and what it is refused for on the way.
-use Rattle.std.specs.Prelude.{◌≡◌, ℕ, List, Option, Some, None, Ok, Err}
+use Rattle.std.specs.Prelude.{◌≡◌, ℕ, List, [], Option, Some, None, Ok, Err}
 use Rattle.pk_ctypes.specs.declared.places.Pos.{Pos}
 use Rattle.pk_ctypes.specs.declared.words.Rule.{Rule}
 use Rattle.pk_ctypes.specs.declared.words.Quantity.{Quantity}
@@ -8,6 +8,7 @@ use Rattle.pk_lex.specs.declared.token.Token.{Token}
 use Rattle.pk_lex.specs.declared.token.LexError.TheVariants as lexing
 use Rattle.pk_lex.specs.Tokens.{IsLexed}
 use Rattle.pk_lex.specs.Failures as tokens
+use Rattle.pk_typenames.specs.TypeNames.{AreMarked}
 use Rattle.pk_ast.specs.Trees.{ExternalTree}
 use Rattle.pk_grammar.specs.declared.failure.ParseError.{ParseError}
 use Rattle.pk_grammar.specs.declared.failure.ParseError.TheVariants as parsing
@@ -34,10 +35,16 @@ failure rule at = record { rule = rule; at = at }
 
 -- ---- the way
 
+-- the text is these tokens, with its type names marked
+pub record HasTokens (text : List ℕ) (tokens : List Token) : Type 0 where
+  pub words : List Token
+  pub lexed : IsLexed text words
+  pub marked : AreMarked text [] words tokens
+
 -- the text has these trees: they are parsed from its tokens
 pub record HasTrees (text : List ℕ) (ts : List ExternalTree) : Type 0 where
   pub tokens : List Token
-  pub lexed : IsLexed text tokens
+  pub read : HasTokens text tokens
   pub parsed : trees.IsAccepted tokens ts
 
 -- the text has this typed tree: no rule fails in its trees
@@ -57,7 +64,7 @@ pub record HasPaths (text entry : List ℕ) (u : UnitTree) (paths : List CallPat
 -- its tokens are refused so
 pub record FailsAsTokens (text : List ℕ) (why : ParseError) : Type 0 where
   pub tokens : List Token
-  pub lexed : IsLexed text tokens
+  pub read : HasTokens text tokens
   pub refused : trees.IsRefused tokens why
 
 -- this rule fails first

@@ -5,7 +5,7 @@ ghost use Rattle.pk_calls.specs.Answers.{IsAnswer};
 ghost use Rattle.pk_lex.specs.Tokens.{IsLexed};
 ghost use Rattle.pk_ast.specs.Views as ast;
 ghost use Rattle.pk_typed.specs.Views.{unit_tree};
-ghost use Rattle.pk_front.specs.Texts.{HasTrees, HasUnit, HasPaths, IsLeft};
+ghost use Rattle.pk_front.specs.Texts.{HasTokens, HasTrees, HasUnit, HasPaths, IsLeft};
 
 use crate::failures::{Refusal, TextError};
 use pk_ast::Unit;
@@ -16,6 +16,7 @@ use pk_lex::{LexError, Token, lex};
 use pk_parse::parse;
 use pk_type::check;
 use pk_typed as typed;
+use pk_typenames::mark;
 use std::alloc::Global;
 
 // The tokens of a text.
@@ -33,12 +34,22 @@ fn tokens_of(alloc: Global, text: &[u8]) -> Result<Vec<Token>, TextError>
     }
 }
 
+// The tokens of a text, with its type names marked.
+fn marked_of(alloc: Global, text: &[u8]) -> Result<Vec<Token>, TextError>
+    ensures read { IfOk result (λ tokens. HasTokens text.now tokens.items) }
+    ensures left { (entry : List ℕ) → IfErr result (IsLeft text.now entry) }
+{
+    let mut tokens = tokens_of(alloc, text)?;
+    mark(alloc, text, &mut tokens)?;
+    Ok(tokens)
+}
+
 // The trees of a text.
 fn trees_of(alloc: Global, text: &[u8]) -> Result<Unit, TextError>
     ensures parsed { IfOk result (λ unit. HasTrees text.now (ast.unit_tree unit)) }
     ensures left { (entry : List ℕ) → IfErr result (IsLeft text.now entry) }
 {
-    let tokens = tokens_of(alloc, text)?;
+    let tokens = marked_of(alloc, text)?;
     pk_parse::tokens_are_ended();
     match parse(alloc, &tokens) {
         Ok(unit) => Ok(unit),

@@ -308,6 +308,7 @@ fn shown(alloc: Global, text: &[u8]) -> Result<String, Fail> {
             Kind::Constant { ty, value } => write!(out, "{at} {value} {ty:?}")?,
             Kind::Character(value) => write!(out, "{at} Character {value}")?,
             Kind::Name => write!(out, "{at} Name")?,
+            Kind::TypeName => write!(out, "{at} TypeName")?,
             Kind::StringLiteral => write!(out, "{at} StringLiteral")?,
             Kind::Floating => write!(out, "{at} Floating")?,
             Kind::Directive => write!(out, "{at} Directive")?,

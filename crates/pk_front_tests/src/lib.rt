@@ -13,3 +13,5 @@ mod io;
 mod lex;
 #[cfg(test)]
 mod parse;
+#[cfg(test)]
+mod type_names;

@@ -12,6 +12,7 @@ use Rattle.pk_grammar.specs.Outcomes.{IsParsed}
 -- a token that is a name
 abbrev pub name_of : Kind → Identifier → List Identifier
 name_of kind.Name x = x ∷ []
+name_of kind.TypeName x = []
 name_of (kind.Keyword k) x = []
 name_of (kind.Constant ty v) x = []
 name_of (kind.Character v) x = []

@@ -8,7 +8,7 @@ use Rattle.std.proofs.lemmas.Bool.Decides.{nat_tests}
 use Rattle.std.proofs.lemmas.List.{take_more, take_at, append_assoc, length-take-le, get_or_at}
 use Rattle.std.proofs.lemmas.List.Folds.{length-prefix_len}
 use Rattle.pk_lex.specs.Bytes.{is_digit_of, is_hexadecimal_digit, value_in, same}
-use Rattle.pk_lex.specs.Tables.{lookup}
+use Rattle.pk_ctypes.specs.Spellings.{lookup}
 use Rattle.pk_lex.specs.Words.{IsLongest, BeginsNone}
 use Rattle.pk_lex.specs.Steps.{is_unquoted, quote_after_escape, quote_at}
 use Rattle.pk_lex.specs.Characters.{simple_escapes, octal_code, hexadecimal_code, escape_code, plain_code, code_of, between_quotes, is_character}

@@ -1,5 +1,4 @@
 mod Examples
-pub mod TableLemmas
 pub mod Longest
 pub mod NumberLemmas
 pub mod StringLemmas

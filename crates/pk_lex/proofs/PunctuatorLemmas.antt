@@ -5,7 +5,8 @@ use Rattle.std.specs.List.{list_all}
 use Rattle.std.specs.Cmp.Lexicographic.{same_text}
 use Rattle.std.proofs.lemmas.Bool.{and_parts, cases_lt, leb-true}
 use Rattle.pk_lex.specs.Bytes.{is_part, is_white, same}
-use Rattle.pk_lex.specs.Tables.{lookup, punctuators_of_one, punctuators_of_two, punctuators_of_three, punctuator_of}
+use Rattle.pk_ctypes.specs.Spellings.{lookup}
+use Rattle.pk_lex.specs.Tables.{punctuators_of_one, punctuators_of_two, punctuators_of_three, punctuator_of}
 use Rattle.pk_lex.specs.Words.{IsLongest, BeginsNone}
 
 -- what holds of each spelling holds of what is looked up

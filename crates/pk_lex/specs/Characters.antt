@@ -5,7 +5,7 @@ use Rattle.std.specs.Option.{option_map}
 use Rattle.pk_ctypes.specs.declared.types.IntType.TheVariants.{Char}
 use Rattle.pk_ctypes.specs.Types.{wrapped}
 use Rattle.pk_lex.specs.Bytes.{is_digit_of, is_hexadecimal_digit, value_in, is_newline, same}
-use Rattle.pk_lex.specs.Tables.{lookup}
+use Rattle.pk_ctypes.specs.Spellings.{lookup}
 
 -- the code that a backslash and one byte after it stand for
 abbrev pub simple_escapes : List (List ℕ × ℕ)

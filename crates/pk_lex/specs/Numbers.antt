@@ -8,7 +8,7 @@ use Rattle.pk_ctypes.specs.Types.{is_signed_of, is_in_type}
 use Rattle.pk_lex.specs.declared.numbers.Suffix.{Suffix}
 use Rattle.pk_lex.specs.declared.numbers.Constant.{Constant}
 use Rattle.pk_lex.specs.Bytes.{is_digit, is_part, is_digit_of, value_in, begins_with}
-use Rattle.pk_lex.specs.Tables.{lookup}
+use Rattle.pk_ctypes.specs.Spellings.{lookup}
 
 -- e, E, p or P
 abbrev pub is_exponent : ℕ → Bool

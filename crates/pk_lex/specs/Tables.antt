@@ -1,15 +1,10 @@
 -- The keywords and the punctuators.
-use Rattle.std.specs.Prelude.{ℕ, List, [], ◌∷◌, ◌++◌, codes, Option, Some, None, if◌then◌else◌}
-use Rattle.pk_lex.specs.Bytes.{same}
+use Rattle.std.specs.Prelude.{ℕ, List, [], ◌∷◌, ◌++◌, codes, Option}
+use Rattle.pk_ctypes.specs.Spellings.{lookup}
 use Rattle.pk_lex.specs.declared.token.Keyword.{Keyword}
 use Rattle.pk_lex.specs.declared.token.Keyword.TheVariants as keyword
 use Rattle.pk_lex.specs.declared.token.Punctuator.{Punctuator}
 use Rattle.pk_lex.specs.declared.token.Punctuator.TheVariants as punctuator
-
--- what stands beside a spelling in a table
-abbrev pub lookup : {A : Type 0} → List (List ℕ × A) → List ℕ → Option A
-lookup [] word = None
-lookup (row ∷ rows) word = if same row.0 word then Some row.1 else lookup rows word
 
 -- C99 6.4.1, and GNU's
 abbrev pub keywords : List (List ℕ × Keyword)

@@ -1,7 +1,7 @@
 // The classes of bytes.
 
 ghost use Rattle.std.specs.Prelude.{◌≡◌, ◌∷◌, [], MatchOption, IsTrue};
-ghost use Rattle.pk_lex.specs.Bytes.{is_blank, is_white, is_letter, is_digit, is_part, digit_value, is_hexadecimal_digit, is_digit_of, same};
+ghost use Rattle.pk_lex.specs.Bytes.{is_blank, is_white, is_letter, is_digit, is_part, digit_value, is_hexadecimal_digit, is_digit_of};
 
 pub(crate) fn blank(b: u8) -> bool
     ensures { result ≡ is_blank b }
@@ -57,13 +57,6 @@ pub(crate) fn digit_of(base: u64, b: u8) -> bool
     ensures { result ≡ is_digit_of base b }
 {
     hexadecimal_digit(b) && value_of_digit(b) < base
-}
-
-// Whether these are the same bytes.
-pub(crate) fn is_spelled(bytes: &[u8], spelling: &[u8]) -> bool
-    ensures { result ≡ same bytes.now spelling.now }
-{
-    bytes == spelling
 }
 
 // The first byte and the others.

@@ -12,7 +12,7 @@ ghost use Rattle.pk_lex.specs.Characters.{octal_code, hexadecimal_code, escape_c
 
 use crate::bytes::{digit_of, hexadecimal_digit, split, value_of_digit};
 use crate::numbers::value;
-use crate::tables::look_up;
+use pk_ctypes::look_up;
 
 const SIMPLE_ESCAPES: [(&[u8], u8); 11] = [
     (b"'", 39),

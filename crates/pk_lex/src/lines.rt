@@ -5,7 +5,8 @@ ghost use Rattle.std.specs.List.{take_while};
 ghost use Rattle.pk_lex.specs.Bytes.{is_blank, is_part, begins_with};
 ghost use Rattle.pk_lex.specs.Lines.{line_of, begins_line, opens_directive, begins_with_digit, is_skipped};
 
-use crate::bytes::{blank, digit, is_spelled, part, split};
+use crate::bytes::{blank, digit, part, split};
+use pk_ctypes::is_spelled;
 
 // How many bytes there are up to the end of the line.
 pub(crate) fn line_count(text: &[u8]) -> usize

@@ -8,8 +8,7 @@ ghost use Rattle.pk_lex.specs.Numbers.{goes_on, is_rest_of_number, is_number, is
 
 use crate::bytes::{digit, digit_of, part, split, value_of_digit};
 use crate::lines::begins;
-use crate::tables::look_up;
-use pk_ctypes::{IntType, fits, is_signed};
+use pk_ctypes::{IntType, fits, is_signed, look_up};
 
 // Whether a number goes on with b after another byte.
 fn continues(before: u8, b: u8) -> bool

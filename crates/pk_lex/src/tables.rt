@@ -1,22 +1,10 @@
 // The keywords and the punctuators.
 
-ghost use Rattle.std.specs.Prelude.{◌≡◌, ◌∷◌, [], map};
-ghost use Rattle.pk_lex.specs.Tables.{lookup, keyword_of, punctuator_of};
+ghost use Rattle.std.specs.Prelude.{◌≡◌, ◌∷◌, []};
+ghost use Rattle.pk_lex.specs.Tables.{keyword_of, punctuator_of};
 
-use crate::bytes::is_spelled;
 use crate::token::{Keyword, Punctuator};
-
-// What stands beside a spelling in a table.
-pub(crate) fn look_up<T: Copy>(table: &[(&[u8], T)], word: &[u8]) -> Option<T>
-    ensures { result ≡ lookup (map (λ row. (row.0.now, row.1)) table.now) word.now }
-{
-    for row in table {
-        if is_spelled(row.0, word) {
-            return Some(row.1);
-        }
-    }
-    None
-}
+use pk_ctypes::look_up;
 
 const KEYWORDS: [(&[u8], Keyword); 43] = [
     (b"auto", Keyword::Auto),

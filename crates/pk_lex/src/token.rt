@@ -107,6 +107,8 @@ pub enum Punctuator {
 pub enum Kind {
     Keyword(Keyword),
     Name,
+    /// A name that a typedef before it declares (C99 6.7.7). The lexer gives none: it reads each as a name.
+    TypeName,
     /// An integer constant, with its type and value (C99 6.4.4.1).
     Constant { ty: IntType, value: u64 },
     /// A character constant of type int, with its value (C99 6.4.4.4).

@@ -5,12 +5,12 @@ use Rattle.pk_lower_laws.proofs.Drafts.Drafts.{drafts_are_typed}
 use Rattle.pk_welltyped.specs.WellTyped.{IsUnit}
 use Rattle.pk_type_laws.proofs.Accepted.Units.{units_are_well_typed}
 use Rattle.pk_welltyped_texts.specs.Laws.{TextsHaveConstants, TextsAreWellTyped, DraftsOfTextsAreTyped}
-use Rattle.pk_welltyped_texts.proofs.Tokens.{lexed_are}
+use Rattle.pk_welltyped_texts.proofs.Tokens.{read_tokens_are}
 use Rattle.pk_welltyped_texts.proofs.Trees.{parsed_have}
 
 pub texts_have_constants : TextsHaveConstants
 texts_have_constants text xs h =
-    let p = h.parsed.parsed in parsed_have xs p.marked h.tokens p.tokens_are p.derived (lexed_are text h.tokens h.lexed)
+    let p = h.parsed.parsed in parsed_have xs p.marked h.tokens p.tokens_are p.derived (read_tokens_are text h.tokens h.read)
 
 pub texts_are_well_typed : TextsAreWellTyped
 texts_are_well_typed text u h = subst IsUnit (sym h.unit) (units_are_well_typed text h.all (texts_have_constants text h.all h.parsed) h.accepted)

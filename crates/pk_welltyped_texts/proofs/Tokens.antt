@@ -1,5 +1,5 @@
 -- The constants of tokens are numbers of their types (C99 6.4.4).
-use Rattle.std.proofs.Common.{◌≡◌, ℕ, Bool, true, false, List, [], ◌∷◌, ◌++◌, Option, Some, None, refl, ap, sym, subst, if◌then◌else◌}
+use Rattle.std.proofs.Common.{◌≡◌, ℕ, inl, inr, Bool, true, false, List, [], ◌∷◌, ◌++◌, Option, Some, None, refl, ap, sym, subst, if◌then◌else◌}
 use Rattle.std.proofs.lemmas.Option.{none-some}
 use Rattle.std.proofs.lemmas.Bool.{false≢true}
 use Rattle.std.specs.Prelude.{ℤ, pos, unwrap_or, ◌&&◌, nat_le, length, drop, ◌==◌}
@@ -24,6 +24,8 @@ use Rattle.pk_lex.specs.Numbers.{allows, is_number, typed, constant_of, is_float
 use Rattle.pk_lex.specs.Tables.{keyword_of, punctuator_of}
 use Rattle.pk_lex.specs.Tokens.{IsToken, longest, directive, Reads, nothing, past_white, past_token, token_of, IsLexed}
 use Rattle.pk_lex.specs.Words.{is_name}
+use Rattle.pk_typenames.specs.TypeNames.{IsMarked, AreMarked}
+use Rattle.pk_front.specs.Texts.{HasTokens}
 
 -- a constant is a number of its type
 abbrev pub KindIs : Kind → Type 0
@@ -31,6 +33,7 @@ KindIs (kind.Constant t v) = InType t (pos v)
 KindIs (kind.Character v) = InType Int v
 KindIs (kind.Keyword k) = Unit {0}
 KindIs kind.Name = Unit {0}
+KindIs kind.TypeName = Unit {0}
 KindIs kind.Floating = Unit {0}
 KindIs kind.StringLiteral = Unit {0}
 KindIs (kind.Punctuator p) = Unit {0}
@@ -138,5 +141,19 @@ with_end : (ts : List Token) (t : Token) → TokensAre ts → KindIs t.kind → 
 with_end [] t h k = (k, tt)
 with_end (x ∷ ts) t h k = (h.0, with_end ts t h.1 k)
 
-pub lexed_are : (text : List ℕ) (ts : List Token) → IsLexed text ts → TokensAre ts
+lexed_are : (text : List ℕ) (ts : List Token) → IsLexed text ts → TokensAre ts
 lexed_are text ts h = subst TokensAre (sym h.1.0) (with_end h.0 (token_of text [] kind.End) (read_are h.1.1) tt)
+
+-- a type name is no constant
+marked_is : (text : List ℕ) (front : List Token) (t m : Token) → IsMarked text front t m → KindIs t.kind → KindIs m.kind
+marked_is text front t m (inl h) k = subst (λ (u : Token). KindIs u.kind) (sym h.1) tt
+marked_is text front t m (inr h) k = subst (λ (u : Token). KindIs u.kind) (sym h.1) k
+
+marked_are : (text : List ℕ) (front ts ms : List Token) → AreMarked text front ts ms → TokensAre ts → TokensAre ms
+marked_are text front [] [] h k = tt
+marked_are text front [] (m ∷ ms) h k = absurd h
+marked_are text front (t ∷ ts) [] h k = absurd h
+marked_are text front (t ∷ ts) (m ∷ ms) h k = (marked_is text front t m h.0 k.0, marked_are text (front ++ t ∷ []) ts ms h.1 k.1)
+
+pub read_tokens_are : (text : List ℕ) (ts : List Token) → HasTokens text ts → TokensAre ts
+read_tokens_are text ts h = marked_are text [] h.words ts h.marked (lexed_are text h.words h.lexed)

@@ -158,6 +158,7 @@ keyword_signs key.GnuRestrict = word_signs fixed.Other None None first.Other
 
 abbrev pub fixed_of : Kind → Fixed
 fixed_of kind.Name = fixed.Name
+fixed_of kind.TypeName = fixed.Other
 fixed_of (kind.Keyword k) = (keyword_signs k).fixed
 fixed_of (kind.Constant ty v) = fixed.Other
 fixed_of (kind.Character v) = fixed.Other
@@ -173,6 +174,7 @@ is_fixed f k = fixed_number (fixed_of k) == fixed_number f
 
 abbrev pub specifier_word : Kind → Option SpecifierWord
 specifier_word kind.Name = None
+specifier_word kind.TypeName = None
 specifier_word (kind.Keyword k) = (keyword_signs k).specifier
 specifier_word (kind.Constant ty v) = None
 specifier_word (kind.Character v) = None
@@ -194,6 +196,7 @@ is_void_word word.Const = false
 
 abbrev pub storage_word : Kind → Option StorageWord
 storage_word kind.Name = None
+storage_word kind.TypeName = None
 storage_word (kind.Keyword k) = (keyword_signs k).storage
 storage_word (kind.Constant ty v) = None
 storage_word (kind.Character v) = None
@@ -205,6 +208,7 @@ storage_word kind.End = None
 
 abbrev pub operand_start : Kind → OperandStart
 operand_start kind.Name = start.Name
+operand_start kind.TypeName = start.Other
 operand_start (kind.Keyword k) = start.Other
 operand_start (kind.Constant ty v) = start.Constant ty v
 operand_start (kind.Character v) = start.Character v
@@ -219,6 +223,7 @@ operator_sign p = (punctuator_signs p).operator
 
 abbrev pub operator_of : Kind → Operator
 operator_of kind.Name = operator.Other
+operator_of kind.TypeName = operator.Other
 operator_of (kind.Keyword k) = operator.Other
 operator_of (kind.Constant ty v) = operator.Other
 operator_of (kind.Character v) = operator.Other
@@ -230,6 +235,7 @@ operator_of kind.End = operator.Other
 
 abbrev pub statement_start : Kind → StatementStart
 statement_start kind.Name = first.Other
+statement_start kind.TypeName = first.Other
 statement_start (kind.Keyword k) = (keyword_signs k).statement
 statement_start (kind.Constant ty v) = first.Other
 statement_start (kind.Character v) = first.Other

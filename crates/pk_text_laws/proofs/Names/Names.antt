@@ -1,5 +1,5 @@
 -- Reading a text token by token, each name stands in it.
-use Rattle.std.proofs.Common.{◌≡◌, ℕ, ◌+◌, ◌-◌, List, [], ◌∷◌, ◌++◌, Some, length, refl, ap, sym, subst, ◌∙◌, arith, length-append, append_assoc}
+use Rattle.std.proofs.Common.{◌≡◌, ℕ, ◌+◌, ◌-◌, inl, inr, List, [], ◌∷◌, ◌++◌, Some, length, refl, ap, sym, subst, ◌∙◌, arith, length-append, append_assoc}
 use Rattle.std.proofs.Math.Seq.{drop-append_seam, take-append_seam}
 use Rattle.std.specs.Prelude.{take, drop, slice_range}
 use Rattle.pk_ctypes.specs.Places.{start_of_text, after_bytes}
@@ -7,7 +7,8 @@ use Rattle.pk_lex.specs.declared.token.Kind.{Kind}
 use Rattle.pk_lex.specs.declared.token.Kind.TheVariants as kind
 use Rattle.pk_lex.specs.declared.token.Token.{Token}
 use Rattle.pk_lex.specs.Kinds.{kind_of}
-use Rattle.pk_lex.specs.Tokens.{IsToken, longest, Reads, nothing, past_white, past_token, token_of}
+use Rattle.pk_lex.specs.Tokens.{IsToken, longest, Reads, nothing, past_white, past_token, token_of, IsLexed}
+use Rattle.pk_typenames.specs.TypeNames.{IsMarked, AreMarked}
 use Rattle.pk_ast.specs.declared.expressions.Identifier.{Identifier}
 use Rattle.pk_grammar.specs.Languages.{identifier_of}
 use Rattle.pk_grammar.specs.Names.{name_of, names_among, NamesAreTokens}
@@ -35,6 +36,7 @@ stands front word after k is = record {
 -- a name at a token, and those behind it
 one : (front word after : List ℕ) (k : Kind) (xs : List Identifier) → IsToken front word after k → AllStandIn (front ++ word ++ after) xs → AllStandIn (front ++ word ++ after) (name_of k (identifier_of (token_of front word k)) ++ xs)
 one front word after kind.Name xs (longest _ _ _ is) h = (stands front word after kind.Name is, h)
+one front word after kind.TypeName xs t h = h
 one front word after (kind.Keyword x) xs t h = h
 one front word after (kind.Constant x v) xs t h = h
 one front word after (kind.Character v) xs t h = h
@@ -57,7 +59,32 @@ among text (past_token {front = front} {word = word} {after = after} {k = k} {to
     let xs = names_among (ts ++ more) in
     subst (λ (l : List ℕ). AllStandIn l (name_of k (identifier_of (token_of front word k)) ++ xs)) whole (one front word after k xs t (subst (λ (l : List ℕ). AllStandIn l xs) (sym whole) rest))
 
-pub names_stand : (names : NamesAreTokens) → NamesStandInTexts
-names_stand names text tokens trees (words, (e, r)) p =
+lexed_stand : (text : List ℕ) (tokens : List Token) → IsLexed text tokens → AllStandIn text (names_among tokens)
+lexed_stand text tokens (words, (e, r)) =
     let all : AllStandIn text (names_among (words ++ token_of text [] kind.End ∷ [])) = among text r refl (token_of text [] kind.End ∷ []) (none_at_end text) in
-    subst (AllStandIn text) (sym (names tokens trees p ∙ ap names_among e)) all
+    subst (AllStandIn text) (sym (ap names_among e)) all
+
+-- what stands behind a token's own name, if it is one
+behind : (text : List ℕ) (k : Kind) (x : Identifier) (xs : List Identifier) → AllStandIn text (name_of k x ++ xs) → AllStandIn text xs
+behind text kind.Name x xs h = h.1
+behind text k x xs h = h
+
+-- a type name is no name
+one_marked : (text : List ℕ) (front : List Token) (t m : Token) (xs ys : List Identifier) → IsMarked text front t m → AllStandIn text (name_of t.kind (identifier_of t) ++ xs) → (AllStandIn text xs → AllStandIn text ys) →
+    AllStandIn text (name_of m.kind (identifier_of m) ++ ys)
+one_marked text front t m xs ys (inl h) all on = subst (λ (u : Token). AllStandIn text (name_of u.kind (identifier_of u) ++ ys)) (sym h.1) (on (behind text t.kind (identifier_of t) xs all))
+one_marked text front t m xs ys (inr h) all on = subst (λ (u : Token). AllStandIn text (name_of u.kind (identifier_of u) ++ ys)) (sym h.1) (kept t.kind all)
+  where
+    kept : (k : Kind) → AllStandIn text (name_of k (identifier_of t) ++ xs) → AllStandIn text (name_of k (identifier_of t) ++ ys)
+    kept kind.Name g = (g.0, on g.1)
+    kept k g = on g
+
+marked_stand : (text : List ℕ) (front words tokens : List Token) → AreMarked text front words tokens → AllStandIn text (names_among words) → AllStandIn text (names_among tokens)
+marked_stand text front [] [] m h = tt
+marked_stand text front [] (u ∷ us) m h = absurd m
+marked_stand text front (t ∷ ts) [] m h = absurd m
+marked_stand text front (t ∷ ts) (u ∷ us) m h = one_marked text front t u (names_among ts) (names_among us) m.0 h (marked_stand text (front ++ t ∷ []) ts us m.1)
+
+pub names_stand : (names : NamesAreTokens) → NamesStandInTexts
+names_stand names text tokens trees read p =
+    subst (AllStandIn text) (sym (names tokens trees p)) (marked_stand text [] read.words tokens read.marked (lexed_stand text read.words read.lexed))

@@ -1,24 +1,15 @@
 -- The first token that shows a construct which is not analysed, or none does.
-use Rattle.std.proofs.Common.{◌≡◌, ℕ, ◌+◌, ◌-◌, inl, inr, List, [], ◌∷◌, Option, Some, None, refl}
+use Rattle.std.proofs.Common.{◌≡◌, ℕ, List, [], ◌∷◌, Option, Some, None, refl}
 use Rattle.std.proofs.Math.Dec.{ltb}
 use Rattle.std.proofs.lemmas.Bool.{ltb-true, lt-ltb}
 use Rattle.pk_ctypes.specs.declared.places.Pos.{Pos}
 use Rattle.pk_ctypes.specs.declared.words.Construct.{Construct}
 use Rattle.pk_lex.specs.declared.token.Token.{Token}
-use Rattle.pk_lex.specs.declared.token.Kind.{Kind}
-use Rattle.pk_lex.specs.declared.token.Kind.TheVariants as kind
-use Rattle.pk_lex.specs.declared.token.Punctuator.TheVariants as mark
 use Rattle.pk_constructs.specs.declared.constructs.Before.{Before}
 use Rattle.pk_constructs.specs.declared.constructs.Before.TheVariants as before
-use Rattle.pk_constructs.specs.Constructs.{BraceStep, IsSupported, FirstUnsupported}
+use Rattle.pk_constructs.specs.Constructs.{IsSupported, FirstUnsupported}
 use Rattle.pk_constructs.specs.Tables.{before_of, kind_shows}
-use Rattle.pk_constructs.proofs.ScanLemmas.{Scanned, scanned_none, unsupported_here, scanned_more, scanned_all}
-
--- each token opens a brace, closes one or leaves them
-brace_step : (k : Kind) (n : ℕ) → (m : ℕ) × BraceStep k n m
-brace_step (kind.Punctuator mark.OpenBrace) n = (n + 1, inl (refl, refl))
-brace_step (kind.Punctuator mark.CloseBrace) n = (n - 1, inr (inl (refl, refl)))
-brace_step k n = (n, inr (inr (((λ e. cc), (λ e. cc), refl))))
+use Rattle.pk_constructs.proofs.ScanLemmas.{Scanned, brace_step, scanned_none, unsupported_here, scanned_more, scanned_all}
 
 -- no token shows a construct, or one is the first that does
 pub data Shown (tokens : List Token) : Type 0 where

@@ -1,16 +1,8 @@
-use Rattle.std.proofs.Common.{ℕ, ◌+◌, ◌≤◌, inl, inr, length, sym, ap, ◌∙◌, arith}
+use Rattle.std.proofs.Common.{length, sym, ap, ◌∙◌, arith}
 use Rattle.std.proofs.Math.Dec.{ltb}
 use Rattle.std.proofs.lemmas.Bool.{ltb-true, lt-ltb}
-use Rattle.pk_lex.specs.declared.token.Kind.{Kind}
-use Rattle.pk_constructs.specs.Constructs.{BraceStep}
-use Rattle.pk_constructs.proofs.ScanLemmas.{unsupported_here, scanned_more}
+use Rattle.pk_constructs.proofs.ScanLemmas.{at_most_one, unsupported_here, scanned_more}
 use Rattle.pk_constructs.proofs.constructs.first_unsupported.Goals as goal
-
--- at most one brace more
-at_most_one : (k : Kind) (n after : ℕ) → BraceStep k n after → after ≤ n + 1
-at_most_one k n after (inl h) = omega (arith, h.1)
-at_most_one k n after (inr (inl h)) = omega (arith, h.1)
-at_most_one k n after (inr (inr h)) = omega (arith, h.2)
 
 pub returns-in-Some-shows : goal.returns-in-Some-shows
 returns-in-Some-shows c =

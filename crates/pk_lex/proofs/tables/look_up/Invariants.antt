@@ -1,6 +1,0 @@
-use Rattle.std.proofs.Common.{◌≡◌, map, drop}
-use Rattle.pk_lex.specs.Tables.{lookup}
-use Rattle.pk_lex.proofs.tables.look_up.Given as goal
-
-abbrev pub invariant-loop-row : goal.invariant-loop-row
-invariant-loop-row g l = lookup (map (λ row. (row.0.now, row.1)) (drop l.row-index l.table)) l.word ≡ lookup (map (λ row. (row.0.now, row.1)) l.table) l.word

@@ -1,0 +1,3 @@
+mod ScanLemmas
+mod PlaceLemmas
+pub mod LawLemmas
