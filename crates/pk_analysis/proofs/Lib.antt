@@ -3,9 +3,8 @@ mod DigraphLemmas
 mod PartLemmas
 mod ReadLemmas
 mod StartLemmas
-mod LayoutLemmas
 mod FlowLemmas
 mod NowhereLemmas
 pub mod OrderLemmas
-mod ReducedLemmas
+mod StateLemmas
 pub mod Shared

@@ -1,5 +1,5 @@
 -- The equations of a graph's points (Cousot and Cousot 1977): what is known at a point is the join of what is known after the edges that lead to it.
-use Rattle.std.specs.Prelude.{◌≡◌, ℕ, ◌==◌, if◌then◌else◌, ℤ, List, [], ◌∷◌, map, Option, None, Some}
+use Rattle.std.specs.Prelude.{◌≡◌, ℕ, ◌^◌, ◌<◌, ◌≤◌, ◌==◌, if◌then◌else◌, ℤ, List, [], ◌∷◌, length, map, All, Option, None, Some}
 use Rattle.pk_graph.specs.declared.graphs.Graph.{Graph}
 use Rattle.pk_graph.specs.Graphs.{GraphOf}
 use Rattle.pk_graph.specs.Shown.{graph_view}
@@ -65,5 +65,14 @@ abbrev pub IsOverFlow : Flow → ℕ → Stated → Type 0
 IsOverFlow a e s = s.layout ≡ a.layout
 
 -- what is known at a point once it is reduced
+abbrev pub reduced_over : Layout → Cell Stated → Stated
+reduced_over l c = stated l (reduced l (value_of (stated l None) c).facts)
+
 abbrev pub reduced_cell : Flow → Cell Stated → Stated
-reduced_cell a c = stated a.layout (reduced a.layout (value_of (stated a.layout None) c).facts)
+reduced_cell a = reduced_over a.layout
+
+-- there is a cell for each of so many points, which are numbered in 32 bits, over the layout
+pub record ArePointCells (l : Layout) (points : ℕ) (cells : List (Cell Stated)) : Type 0 where
+  pub few : points < 2 ^ 32
+  pub each : points ≤ length cells
+  pub over : All (λ (c : Cell Stated). (value_of (stated l None) c).layout ≡ l) cells

@@ -1,11 +1,8 @@
 // The analysis of a graph, as a system that is iterated.
 
-ghost use Rattle.std.specs.Prelude.{◌≡◌, ◌<◌, ◌≤◌, ◌^◌, IfOk, length, map, take, All, None};
+ghost use Rattle.std.specs.Prelude.{◌≡◌, ◌<◌, ◌^◌, IfOk, length};
 ghost use Rattle.std.specs.Arc.{arc_value};
 ghost use Rattle.pk_graph.specs.Shown.{graph_view};
-ghost use Rattle.pk_phases.specs.Equations.{value_of};
-ghost use Rattle.pk_analysis.specs.Flows.{stated, reduced_cell};
-ghost use Rattle.pk_transfer.specs.Graphs.{layout_of};
 ghost use Rattle.pk_analysis.specs.Made.{IsAnalysisOf};
 
 use crate::arrows::arrows;
@@ -13,13 +10,13 @@ use crate::flow::Flow;
 use crate::parts::parts;
 use crate::reads::reads;
 use crate::starts::start;
-use pk_graph::{Graph, octagon_variables};
-use pk_iterate::{Cells, Decision, System};
-use pk_phases::{Cell, Equate, Phased};
+use pk_graph::Graph;
+use pk_iterate::{Decision, System};
+use pk_phases::{Cell, Phased};
 use pk_plan::Plan;
-use pk_state::{Frame, State};
+use pk_state::State;
 use pk_thresh::thresholds;
-use pk_transfer::graphs_law;
+use pk_transfer::{frame, graphs_law};
 use std::alloc::{AllocError, Global};
 use std::marker::Model;
 use std::sync::Arc;
@@ -34,7 +31,7 @@ pub struct Options {
 /// The equations of a graph's points, iterated by the phases.
 #[derive(Drop)]
 pub struct Analysis<'g> {
-    phased: Phased<Flow<'g>>,
+    pub(crate) phased: Phased<Flow<'g>>,
 }
 
 impl<'g> Model for Analysis<'g> {
@@ -47,22 +44,6 @@ impl<'g> Model for Analysis<'g> {
     ghost coded = { Prim.hlevel (codes, made.the_row.coded) };
 
     ghost view = { λ a. a.phased.equations };
-}
-
-// The graph's variables, with an octagon over the first of them.
-#[tactic(auto, unfolding(pk_graph::specs::Graphs::variable_view))]
-fn frame(alloc: Global, graph: &Graph, oct: usize) -> Result<Frame, AllocError>
-    requires { oct < 2 ^ 31 }
-    ensures { IfOk result (λ f. f ≡ layout_of (graph_view graph.now) oct) }
-{
-    graphs_law();
-    let chosen = octagon_variables(alloc, graph, oct)?;
-    let variables = graph.variables();
-    let mut types = Vec::with_capacity(alloc, variables.len())?;
-    for variable in variables {
-        types.push(variable.int_type)?;
-    }
-    Ok(Frame::new(types, chosen))
 }
 
 impl<'g> Analysis<'g> {
@@ -147,41 +128,4 @@ impl<'g> System for Analysis<'g> {
     ) -> Result<Decision<Cell<State>>, AllocError> {
         self.phased.decide(alloc, x, inputs)
     }
-}
-
-// A cell's state, reduced.
-fn reduced_state(
-    alloc: Global,
-    analysis: &Analysis,
-    cell: &Cell<State>,
-) -> Result<State, AllocError>
-    requires { (value_of (stated analysis.now.layout None) cell.now).layout ≡ analysis.now.layout }
-    ensures { IfOk result (λ s. s ≡ reduced_cell analysis.now cell.now) }
-{
-    match cell {
-        Cell::Value(state) => state.reduce(alloc),
-        Cell::Exit(_) => analysis.phased.equations.bottom(alloc),
-    }
-}
-
-/// What is known at each point, reduced.
-pub fn reduced(
-    alloc: Global,
-    analysis: &Analysis,
-    cells: &Cells<Cell<State>>,
-) -> Result<Vec<State>, AllocError>
-    requires points { length (graph_view analysis.now.graph).points ≤ length cells.now.cells }
-    requires held { All (λ c. (value_of (stated analysis.now.layout None) c).layout ≡ analysis.now.layout)
-        cells.now.cells }
-    ensures { IfOk result (λ list. list.items
-        ≡ map (reduced_cell analysis.now) (take (length (graph_view analysis.now.graph).points) cells.now.cells)) }
-{
-    let graph = analysis.phased.equations.graph;
-    graph.well_made();
-    let mut list = Vec::with_capacity(alloc, graph.points())?;
-    for point in 0..graph.points() {
-        let cell = cells.cell(point as u32);
-        list.push(reduced_state(alloc, analysis, cell)?)?;
-    }
-    Ok(list)
 }

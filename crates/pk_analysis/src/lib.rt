@@ -8,6 +8,8 @@ mod flow;
 mod parts;
 mod reads;
 mod starts;
+mod states;
 
-pub use analysis::{Analysis, Options, reduced};
+pub use analysis::{Analysis, Options};
 pub use digraphs::digraph;
+pub use states::States;

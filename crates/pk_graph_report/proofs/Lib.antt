@@ -1,4 +1,5 @@
 mod Told
+mod Lines
 mod Determined
 mod Telling
 pub mod Reporting

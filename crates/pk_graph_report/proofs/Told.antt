@@ -1,7 +1,8 @@
 -- Verdicts access by access.
-use Rattle.std.specs.Prelude.{◌≡◌, ℕ, ◌<◌, List, length, slice_index_or, All}
+use Rattle.std.specs.Prelude.{◌≡◌, ℕ, ◌<◌, List, length, slice_get, slice_index_or, All, Some}
 use Rattle.std.proofs.Common.{arith, subst, sym, ap, ◌∙◌}
-use Rattle.std.proofs.lemmas.List.{length-map, get_or-map, get_or_default}
+use Rattle.std.proofs.lemmas.List.{length-map, get_or-map}
+use Rattle.std.proofs.lemmas.Option.{get_or_from_slice_get}
 use Rattle.std.proofs.lemmas.List.Elements.{All-get_or}
 use Rattle.pk_graph.specs.declared.operations.Access.{Access}
 use Rattle.pk_graph.specs.declared.verdicts.Verdict.{Verdict}
@@ -17,6 +18,7 @@ use Rattle.pk_verdict.specs.Typed.{IsAccessOver, AccessesAreOver}
 use Rattle.pk_verdict.specs.Verdicts.{IsTypedOperation, verdict_of}
 use Rattle.pk_analysis.specs.declared.analysis.Options.{Options}
 use Rattle.pk_report.specs.Reports.{state_at, no_state}
+use Rattle.pk_graph_report.specs.declared.verdicts.Known.{Known}
 use Rattle.pk_graph_report.specs.Reported.{verdict_at}
 use Rattle.pk_solver.specs.Solved.{AreOver}
 
@@ -42,8 +44,13 @@ access_there g o states all k a graphs accesses made over shown l is =
       typed = subst (λ (y : Layout). IsTypedOperation (layouts.kinds_of y) (operation_view a.operation)) (sym (state_there g o states a.point over point)) here.typed;
     }
 
-pub verdict_so : (states : List Stated) (a : Access) (s : Stated) (v : Verdict) → a.point < length states → s ≡ slice_index_or states a.point s → v ≡ verdict_of s.layout s.facts (operation_view a.operation) → v ≡ verdict_at states (access_view a)
+-- what is kept is of its point
+abbrev pub IsKnown : List Stated → Known → Type 0
+IsKnown states k = k.state ≡ state_at states k.point
+
+pub state_so : (states : List Stated) (p : ℕ) (s : Stated) → slice_get states p ≡ Some s → s ≡ state_at states p
+state_so states p s there = sym (get_or_from_slice_get states p s no_state there)
+
+pub verdict_so : (states : List Stated) (a : Access) (s : Stated) (v : Verdict) → s ≡ state_at states a.point → v ≡ verdict_of s.layout s.facts (operation_view a.operation) → v ≡ verdict_at states (access_view a)
 unfolding access_view
-verdict_so states a s v l is told =
-    let same : s ≡ state_at states a.point = is ∙ get_or_default states a.point s no_state l in
-    told ∙ ap (λ (t : Stated). verdict_of t.layout t.facts (operation_view a.operation)) same
+verdict_so states a s v is told = told ∙ ap (λ (t : Stated). verdict_of t.layout t.facts (operation_view a.operation)) is

@@ -1,24 +1,20 @@
 // What is told of a graph.
 
-ghost use Rattle.std.specs.Prelude.{◌≡◌, ◌<◌, IfOk, length};
-ghost use Rattle.pk_graph.specs.AccessViews.{access_view, access_views, operation_view};
+ghost use Rattle.std.specs.Prelude.{◌≡◌, IfOk};
 ghost use Rattle.pk_graph.specs.Shown.{graph_view};
 ghost use Rattle.pk_graph.specs.Accesses.{accesses_of};
 ghost use Rattle.pk_order.specs.Ordered.{heads_of};
-ghost use Rattle.pk_transfer.specs.Trees.{kinds_of};
-ghost use Rattle.pk_verdict.specs.Verdicts.{IsTypedOperation};
-ghost use Rattle.pk_report.specs.Reports.{state_at, report_text, summary_text, unknown_in};
+ghost use Rattle.pk_report.specs.Reports.{report_text, summary_text, unknown_in};
 ghost use Rattle.pk_solver.specs.Solved.{AreOver};
-ghost use Rattle.pk_graph_report.specs.Reported.{IsOrderText, verdict_at, verdicts_of};
+ghost use Rattle.pk_graph_report.specs.Reported.{IsOrderText, verdicts_of};
 
-use pk_analysis::{Options, digraph};
-use pk_graph::{Access, Graph, Verdict, accesses};
+use crate::points::write_points;
+use crate::verdicts::verdicts;
+use pk_analysis::{Options, States, digraph};
+use pk_graph::{Graph, accesses};
 use pk_order::{line, ordered};
 use pk_plan::Plan;
-use pk_report::{report, summary, unknown_count};
-use pk_state::State;
-use pk_transfer::graphs_law;
-use pk_verdict::{accesses_law, verdict};
+use pk_report::{summary, unknown_count, write_accesses, write_first, write_last};
 use std::alloc::{AllocError, Global};
 
 // The heads of a plan's components, in rising order.
@@ -32,46 +28,13 @@ fn heads(alloc: Global, plan: &Plan) -> Result<Vec<u32>, AllocError>
     Ok(heads)
 }
 
-// The verdict on an access, by the state of its point.
-fn verdict_on(alloc: Global, states: &[State], access: &Access<'_>) -> Result<Verdict, AllocError>
-    requires point { access.now.point < length states.now }
-    requires typed { IsTypedOperation (kinds_of (state_at states.now access.now.point).layout)
-        (operation_view access.now.operation) }
-    ensures { IfOk result (λ v. v ≡ verdict_at states.now (access_view access.now)) }
-{
-    let found = verdict(alloc, &states[access.point], &access.operation)?;
-    Ok(found)
-}
-
-// The verdict on each access.
-fn verdicts(
-    alloc: Global,
-    graph: &Graph,
-    options: Options,
-    states: &[State],
-    accesses: &[Access<'_>],
-) -> Result<Vec<Verdict>, AllocError>
-    requires states { AreOver (graph_view graph.now) options states.now }
-    requires accesses { access_views accesses.now ≡ accesses_of (graph_view graph.now) }
-    ensures { IfOk result (λ list. list.items ≡ verdicts_of (graph_view graph.now) states.now) }
-{
-    graphs_law();
-    accesses_law();
-    graph.well_made();
-    let mut list = Vec::with_capacity(alloc, accesses.len())?;
-    for k in 0..accesses.len() {
-        list.push(verdict_on(alloc, states, &accesses[k])?)?;
-    }
-    Ok(list)
-}
-
 /// The report on a graph by the reduced state of each point, of every point or of its heads, and its number of unknown verdicts.
 pub fn report_of(
     alloc: Global,
     graph: &Graph,
     options: Options,
     plan: &Plan,
-    states: &[State],
+    states: &States,
     all: bool,
 ) -> Result<(Vec<u8>, usize), AllocError>
     requires over { AreOver (graph_view graph.now) options states.now }
@@ -80,19 +43,14 @@ pub fn report_of(
         (verdicts_of (graph_view graph.now) states.now)) }
     ensures unknown { IfOk result (λ r. r.1 ≡ unknown_in (verdicts_of (graph_view graph.now) states.now)) }
 {
+    let heads = heads(alloc, plan)?;
+    let mut bytes = Vec::new(alloc);
+    write_first(alloc, &mut bytes, graph, plan.elements() as usize)?;
+    write_points(alloc, &mut bytes, graph, options, &heads, states, all)?;
     let accesses = accesses(alloc, graph)?;
     let verdicts = verdicts(alloc, graph, options, states, &accesses)?;
-    let heads = heads(alloc, plan)?;
-    let bytes = report(
-        alloc,
-        graph,
-        &heads,
-        plan.elements() as usize,
-        states,
-        &accesses,
-        &verdicts,
-        all,
-    )?;
+    write_accesses(alloc, &mut bytes, graph.paths(), &accesses, &verdicts)?;
+    write_last(alloc, &mut bytes, &verdicts)?;
     Ok((bytes, unknown_count(&verdicts)))
 }
 
@@ -102,7 +60,7 @@ pub fn summary_of(
     graph: &Graph,
     options: Options,
     plan: &Plan,
-    states: &[State],
+    states: &States,
     seed: usize,
     size: usize,
     text_length: usize,

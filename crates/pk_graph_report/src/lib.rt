@@ -3,6 +3,8 @@
 
 mod answers;
 mod laws;
+mod points;
+mod verdicts;
 
 pub use answers::{order_of, report_of, summary_of};
 pub use laws::one_report;

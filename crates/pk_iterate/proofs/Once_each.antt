@@ -1,28 +1,17 @@
 -- Each element of an order stands once, where the elements of its places differ.
-use Rattle.std.proofs.Common.{◌≡◌, ◌≢◌, ℕ, suc, ◌+◌, length, List, [], ◌∷◌, ◌++◌, map, ap, sym, subst, refl, inl, inr, arith, Contains, AllPairs}
+use Rattle.std.proofs.Common.{◌≡◌, ℕ, suc, ◌+◌, length, List, [], ◌∷◌, ◌++◌, map, ap, sym, subst, refl, inl, inr, arith, Contains}
 use Rattle.std.specs.List.{slice_index_or}
 use Rattle.std.proofs.lemmas.List.{map-append}
 use Rattle.std.proofs.lemmas.List.Elements.{Contains-append_left, Contains-append_right, Contains-append_cases}
 use Rattle.pk_plan.specs.declared.places.Place.{Place}
 use Rattle.pk_plan.specs.declared.places.Role.TheVariants.{Exit as AtExit}
 use Rattle.pk_plan.specs.Order.{Level, Empty, Vertex_then, Component_then, places_of}
+use Rattle.pk_plan.proofs.Apart.{Apart, apart_of}
 use Rattle.pk_iterate.specs.Settled.{In, Once}
 use Rattle.pk_iterate.specs.BoundedTurns.{DifferentStandOnce}
 
 abbrev elements : Level → List ℕ
 elements level = map (λ (p : Place). p.element) (places_of level)
-
--- no element stands in the list twice
-abbrev Apart : List ℕ → Type 0
-Apart [] = Unit {0}
-Apart (x ∷ xs) = (Contains xs x → ⊥) × Apart xs
-
-apart_of : (xs : List ℕ) → AllPairs (λ a b. a ≢ b) xs → Apart xs
-apart_of [] differ = tt
-apart_of (x ∷ xs) differ = (
-  (λ has. differ 0 (suc has.0) x (omega arith) (omega (arith, has.1)) (sym has.2)),
-  apart_of xs (λ i j d less within. differ (suc i) (suc j) d (omega (arith, less)) (omega (arith, within))),
-)
 
 here : (x e : ℕ) (xs : List ℕ) → e ≡ x → Contains (x ∷ xs) e
 here x e xs same = (0, omega arith, sym same)

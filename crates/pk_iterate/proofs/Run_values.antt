@@ -11,7 +11,7 @@ use Rattle.pk_iterate.specs.Laws.{IsMade}
 use Rattle.pk_iterate.proofs.Next.{run_at, past_end, Step, whole_or_step}
 
 -- the counts after one more run
-count-cons : {C : Type 0} (r : ℕ × C) (runs : List (ℕ × C)) (e : ℕ) → count_of (r ∷ runs) e ≡ cond (r.0 == e) 1 0 + count_of runs e
+pub count-cons : {C : Type 0} (r : ℕ × C) (runs : List (ℕ × C)) (e : ℕ) → count_of (r ∷ runs) e ≡ cond (r.0 == e) 1 0 + count_of runs e
 count-cons {C} r runs e = sum_by-cons (λ (q : ℕ × C). cond (q.0 == e) 1 0) r runs
 
 count-is : {C : Type 0} (r : ℕ × C) (runs : List (ℕ × C)) (e : ℕ) (here : Bool) → (r.0 == e) ≡ here → count_of (r ∷ runs) e ≡ cond here 1 0 + count_of runs e

@@ -37,11 +37,13 @@ pub fn first_front<Y: System>(
     Ok(Front { cells, runs })
 }
 
-/// Runs the element of a place once, and says whether its component is gone through again.
+/// Runs the element of a place once, and says whether its component is gone through again. The vector of inputs, which is empty
+/// between runs, is there so that none is made for each.
 pub fn run_place<Y: System>(
     alloc: Global,
     system: &Y,
     front: &mut Front<Y::Cell>,
+    inputs: &mut Vec<Arc<Y::Cell>>,
     place: Place,
 ) -> Result<bool, AllocError>
     requires element { place.element < length front.old.cells.items }
@@ -60,9 +62,10 @@ pub fn run_place<Y: System>(
         (inputs_in (Y.meaning system.now) (map arc_value front.old.cells.items) place.element)) }
 {
     let e = place.element as usize;
-    let inputs = shared(alloc, &front.cells, system.reads(place.element))?;
-    let (cell, again) = new_cell(alloc, system, place, &inputs)?;
-    front.cells[e] = Arc::new(alloc, cell)?;
+    share(inputs, &front.cells, system.reads(place.element))?;
+    let (cell, again) = new_cell(alloc, system, place, inputs)?;
+    inputs.clear();
+    put(alloc, &mut front.cells[e], cell)?;
     front.runs[e] += 1;
     Ok(again)
 }
@@ -88,19 +91,31 @@ fn new_cell<Y: System>(
     }
 }
 
-/// The cells of these elements, each shared once more.
-fn shared<C: Drop>(
-    alloc: Global,
+/// Puts the cells of these elements in place of what the vector has, each shared once more.
+fn share<C: Drop>(
+    out: &mut Vec<Arc<C>>,
     cells: &[Arc<C>],
     elements: &[u32],
-) -> Result<Vec<Arc<C>>, AllocError>
+) -> Result<(), AllocError>
     requires { All (λ u. u < length cells.now) elements.now }
-    ensures { IfOk result (λ v. map arc_value v.items ≡ filter_map (slice_get (map arc_value cells.now)) elements.now) }
+    ensures { OnOk result (map arc_value out.new.items
+        ≡ filter_map (slice_get (map arc_value cells.now)) elements.now) }
 {
-    let mut out = Vec::new(alloc);
+    out.clear();
     for u in elements {
         let cell = &cells[*u as usize];
         out.push(cell.clone()?)?;
     }
-    Ok(out)
+    Ok(())
+}
+
+/// Puts a cell in an element's place, in the old one's memory where nobody shares that.
+fn put<C: Drop>(alloc: Global, place: &mut Arc<C>, cell: C) -> Result<(), AllocError>
+    ensures { OnOk result (arc_value place.new ≡ cell) }
+{
+    match Arc::get_mut(place) {
+        Some(held) => *held = cell,
+        None => *place = Arc::new(alloc, cell)?,
+    }
+    Ok(())
 }

@@ -25,6 +25,7 @@ pub fn iterate<Y: System>(
 {
     let places = order.places();
     let mut front = first_front(alloc, system, order.elements())?;
+    let mut inputs = Vec::new(alloc);
     let mut at = 0usize;
     while at < places.len() {
         let place = places[at];
@@ -34,7 +35,7 @@ pub fn iterate<Y: System>(
                 run: max_runs + 1,
             });
         }
-        let again = run_place(alloc, system, &mut front, place)?;
+        let again = run_place(alloc, system, &mut front, &mut inputs, place)?;
         at = next_place(at, place.role, again);
     }
     Ok(Cells::new(front))

@@ -1,20 +1,18 @@
--- What is visible is there, heads are marked, points are told one by one.
-use Rattle.std.proofs.Common.{◌≡◌, ◌≢◌, ◌<◌, ◌≤◌, ◌+◌, ◌-◌, ℕ, refl, ap, ◌∙◌, sym, subst, nat_eq, Bool, true, false, ◌||◌, if◌then◌else◌, ◌⊎◌, inl, inr, List, [], ◌∷◌, ◌++◌, length, take, reverse, replicate, slice_index_or, slice_set, Option, Some, None, arith, length-set, zero-add}
+-- What is visible is there, heads are marked.
+use Rattle.std.proofs.Common.{◌≡◌, ◌≢◌, ◌<◌, ◌≤◌, ◌+◌, ◌-◌, ℕ, refl, ap, ◌∙◌, sym, subst, nat_eq, Bool, true, false, ◌||◌, if◌then◌else◌, ◌⊎◌, inl, inr, List, [], ◌∷◌, ◌++◌, length, take, reverse, replicate, slice_index_or, slice_set, Option, Some, None, arith, length-set}
 use Rattle.std.specs.Prelude.{codes}
-use Rattle.std.specs.List.{All, flat_map, range_with_len}
+use Rattle.std.specs.List.{All, flat_map}
 use Rattle.std.proofs.lemmas.Bool.Decides.{eqb_tells}
-use Rattle.std.proofs.lemmas.List.{get_or-reverse, length-reverse, get_or-set_same, get_or-set_other, get_or-replicate, length-replicate, take_all, get_or_default}
+use Rattle.std.proofs.lemmas.List.{get_or-reverse, length-reverse, get_or-set_same, get_or-set_other, get_or-replicate, length-replicate, take_all}
 use Rattle.std.proofs.lemmas.List.Elements.{All-nil, All-cons, All-head, All-tail}
 use Rattle.std.proofs.lemmas.List.Folds.{list_any_more}
-use Rattle.std.proofs.lemmas.List.FromFn.{get_or-range_with_len, length-range_with_len}
 use Rattle.pk_graph.specs.Graphs.{VariableOf, GraphOf, no_point, point_at}
 use Rattle.pk_graph.specs.WellMade.{IsGraph}
 use Rattle.pk_graph.specs.Visible.{Names, no_name, with_name, is_new, name_at, not_hidden, visible_at}
 use Rattle.pk_state.specs.Layouts.{Layout}
-use Rattle.pk_state.specs.Facts.{Facts, Stated}
+use Rattle.pk_state.specs.Facts.{Facts}
 use Rattle.pk_report.specs.Values.{placed, of_pairs, value_line_if, pair_lines_if, facts_lines}
-use Rattle.pk_report.specs.Reports.{no_state, state_at, told_if, told_lines, is_head, AreHeads}
-use Rattle.pk_report.proofs.WriteLemmas.{flat_more, flat_all}
+use Rattle.pk_report.specs.Reports.{is_head, AreHeads}
 
 -- ---- facts
 
@@ -101,19 +99,3 @@ marks_past n heads k marks h i m = record { size = m.size; each = λ v j. told v
 
 pub marks_end : (n : ℕ) (heads : List ℕ) (k : ℕ) (marks : List Bool) → length heads ≤ k → AreMarked n heads k marks → AreHeads n heads marks
 marks_end n heads k marks h m = record { size = m.size; each = λ v i. m.each v i ∙ ap (λ (xs : List ℕ). is_head xs v) (take_all k heads h) }
-
--- ---- points
-
-pub told_next : (all : Bool) (g : GraphOf) (heads : List ℕ) (states : List Stated) (n v : ℕ) (marks : List Bool) (s : Stated) (b : Bool) (old now new : List ℕ) → v < n → length states ≡ n → AreHeads n heads marks
-    → s ≡ slice_index_or states v s → b ≡ slice_index_or marks v b → now ≡ old ++ flat_map (told_lines all g heads states) (take v (range_with_len 0 n)) → new ≡ now ++ told_if all g s b v
-    → new ≡ old ++ flat_map (told_lines all g heads states) (take (v + 1) (range_with_len 0 n))
-told_next all g heads states n v marks s b old now new h z m e f p q =
-    flat_more (told_lines all g heads states) (range_with_len 0 n) v 0 old now new (subst (λ (k : ℕ). v < k) (sym (length-range_with_len 0 n)) h) p
-    (q
-    ∙ ap (λ (t : Stated). now ++ told_if all g t b v) (e ∙ get_or_default states v s no_state (subst (λ (k : ℕ). v < k) (sym z) h))
-    ∙ ap (λ (c : Bool). now ++ told_if all g (state_at states v) c v) (f ∙ get_or_default marks v b false (subst (λ (k : ℕ). v < k) (sym m.size) h) ∙ m.each v h)
-    ∙ ap (λ (k : ℕ). now ++ told_lines all g heads states k) (sym (get_or-range_with_len 0 n v 0 h ∙ zero-add v)))
-
-pub told_end : (all : Bool) (g : GraphOf) (heads : List ℕ) (states : List Stated) (n v : ℕ) (old now : List ℕ) → n ≤ v → now ≡ old ++ flat_map (told_lines all g heads states) (take v (range_with_len 0 n))
-    → now ≡ old ++ flat_map (told_lines all g heads states) (range_with_len 0 n)
-told_end all g heads states n v old now h p = flat_all (told_lines all g heads states) (range_with_len 0 n) v old now (subst (λ (k : ℕ). k ≤ v) (sym (length-range_with_len 0 n)) h) p

@@ -84,7 +84,7 @@ fn write_access(
 }
 
 /// The lines of accesses, with their verdicts.
-pub(crate) fn write_accesses(
+pub fn write_accesses(
     alloc: Global,
     bytes: &mut Vec<u8>,
     paths: &[Path],

@@ -9,4 +9,6 @@ mod reports;
 mod texts;
 mod values;
 
-pub use reports::{report, summary, unknown_count};
+pub use accesses::write_accesses;
+pub use points::{head_marks, is_told, write_point};
+pub use reports::{summary, unknown_count, write_first, write_last};

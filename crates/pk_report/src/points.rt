@@ -1,11 +1,10 @@
 // Lines of points.
 
-ghost use Rattle.std.specs.Prelude.{◌≡◌, ◌<◌, ◌++◌, OnOk, IfOk, All, codes, length};
+ghost use Rattle.std.specs.Prelude.{◌≡◌, ◌<◌, ◌++◌, ◌||◌, OnOk, IfOk, All, codes, length};
 ghost use Rattle.std.specs.Fmt.{decimal};
-ghost use Rattle.std.specs.List.{flat_map, range_with_len};
 ghost use Rattle.pk_graph.specs.Shown.{graph_view};
 ghost use Rattle.pk_report.specs.Values.{facts_lines};
-ghost use Rattle.pk_report.specs.Reports.{point_word, place_end, heading, point_lines, told_if, told_lines, AreHeads};
+ghost use Rattle.pk_report.specs.Reports.{point_word, place_end, heading, point_lines, AreHeads};
 
 use crate::octagons::write_octagon;
 use crate::paths::write_path;
@@ -84,7 +83,8 @@ fn write_heading(
     Ok(())
 }
 
-fn write_point(
+/// The lines of a point, with what is known there in its reduced state.
+pub fn write_point(
     alloc: Global,
     bytes: &mut Vec<u8>,
     graph: &Graph,
@@ -104,31 +104,15 @@ fn write_point(
     Ok(())
 }
 
-fn write_if_told(
-    alloc: Global,
-    bytes: &mut Vec<u8>,
-    graph: &Graph,
-    state: &State,
-    point: usize,
-    is_head: bool,
-    all: bool,
-) -> Result<(), AllocError>
-    requires point { point < length (graph_view graph.now).points }
-    requires layout { length state.now.layout.types ≡ length (graph_view graph.now).variables }
-    ensures { OnOk result
-        (bytes.new.items ≡ bytes.old.items ++ told_if all (graph_view graph.now) state.now is_head point) }
+/// Whether a point is told: a head is, and any where all are.
+pub fn is_told(is_head: bool, all: bool) -> bool
+    ensures { result ≡ (is_head || all) }
 {
-    if is_head {
-        return write_point(alloc, bytes, graph, state, point, is_head);
-    }
-    if all {
-        return write_point(alloc, bytes, graph, state, point, is_head);
-    }
-    Ok(())
+    is_head || all
 }
 
-// For each of so many points whether it is a head.
-fn head_marks(alloc: Global, heads: &[u32], points: usize) -> Result<Vec<bool>, AllocError>
+/// For each of so many points whether it is a head.
+pub fn head_marks(alloc: Global, heads: &[u32], points: usize) -> Result<Vec<bool>, AllocError>
     ensures { IfOk result (λ marks. AreHeads points heads.now marks.items) }
 {
     let mut marks = vec![in alloc; false; points]?;
@@ -139,34 +123,4 @@ fn head_marks(alloc: Global, heads: &[u32], points: usize) -> Result<Vec<bool>, 
         }
     }
     Ok(marks)
-}
-
-/// The lines of the heads, or of all points.
-pub(crate) fn write_points(
-    alloc: Global,
-    bytes: &mut Vec<u8>,
-    graph: &Graph,
-    heads: &[u32],
-    states: &[State],
-    all: bool,
-) -> Result<(), AllocError>
-    requires states { length states.now ≡ length (graph_view graph.now).points }
-    requires layouts { All (λ s. length s.layout.types ≡ length (graph_view graph.now).variables) states.now }
-    ensures { OnOk result (bytes.new.items ≡ bytes.old.items
-        ++ flat_map (told_lines all (graph_view graph.now) heads.now states.now)
-        (range_with_len 0 (length (graph_view graph.now).points))) }
-{
-    let marks = head_marks(alloc, heads, states.len())?;
-    for point in 0..states.len() {
-        write_if_told(
-            alloc,
-            bytes,
-            graph,
-            &states[point],
-            point,
-            marks[point],
-            all,
-        )?;
-    }
-    Ok(())
 }

@@ -1,17 +1,13 @@
-// The whole report.
+// The first and the last line, and the summary of a made text.
 
-ghost use Rattle.std.specs.Prelude.{◌≡◌, ◌++◌, OnOk, IfOk, All, codes, length, count_by};
-ghost use Rattle.pk_graph.specs.AccessViews.{access_views};
+ghost use Rattle.std.specs.Prelude.{◌≡◌, ◌++◌, OnOk, IfOk, codes, count_by};
 ghost use Rattle.pk_graph.specs.Shown.{graph_view};
 ghost use Rattle.pk_report.specs.Paths.{path_text};
-ghost use Rattle.pk_report.specs.Reports.{is_safe as is_safe_verdict, is_unknown as is_unknown_verdict, is_unreachable as is_unreachable_verdict, counted, first_line, last_line, report_text, summary_text, unknown_in};
+ghost use Rattle.pk_report.specs.Reports.{is_safe as is_safe_verdict, is_unknown as is_unknown_verdict, is_unreachable as is_unreachable_verdict, counted, first_line, last_line, summary_text, unknown_in};
 
-use crate::accesses::write_accesses;
 use crate::paths::write_path;
-use crate::points::write_points;
 use crate::texts::{write_count, write_text};
-use pk_graph::{Access, Graph, Verdict};
-use pk_state::State;
+use pk_graph::{Graph, Verdict};
 use std::alloc::{AllocError, Global};
 
 fn is_safe(verdict: Verdict) -> bool
@@ -84,7 +80,8 @@ fn write_entry(alloc: Global, bytes: &mut Vec<u8>, graph: &Graph) -> Result<(), 
     Ok(())
 }
 
-fn write_first(
+/// The first line. `elements` is how many elements the graph's plan has.
+pub fn write_first(
     alloc: Global,
     bytes: &mut Vec<u8>,
     graph: &Graph,
@@ -99,7 +96,12 @@ fn write_first(
     Ok(())
 }
 
-fn write_last(alloc: Global, bytes: &mut Vec<u8>, verdicts: &[Verdict]) -> Result<(), AllocError>
+/// The last line, which counts the verdicts.
+pub fn write_last(
+    alloc: Global,
+    bytes: &mut Vec<u8>,
+    verdicts: &[Verdict],
+) -> Result<(), AllocError>
     ensures { OnOk result (bytes.new.items ≡ bytes.old.items ++ last_line verdicts.now) }
 {
     write_counted(alloc, bytes, "result safe ", safe_count(verdicts))?;
@@ -107,32 +109,6 @@ fn write_last(alloc: Global, bytes: &mut Vec<u8>, verdicts: &[Verdict]) -> Resul
     write_counted(alloc, bytes, " unreachable ", unreachable_count(verdicts))?;
     write_text(bytes, "\n")?;
     Ok(())
-}
-
-/// The report on a graph: the heads of its components, or all points, with what is known there in the points' reduced states; each access with its verdict. `elements` is how many
-/// elements its plan has.
-pub fn report(
-    alloc: Global,
-    graph: &Graph,
-    heads: &[u32],
-    elements: usize,
-    states: &[State],
-    accesses: &[Access],
-    verdicts: &[Verdict],
-    all: bool,
-) -> Result<Vec<u8>, AllocError>
-    requires states { length states.now ≡ length (graph_view graph.now).points }
-    requires layouts { All (λ s. length s.layout.types ≡ length (graph_view graph.now).variables) states.now }
-    requires verdicts { length accesses.now ≡ length verdicts.now }
-    ensures { IfOk result (λ bytes. bytes.items ≡ report_text all
-        (graph_view graph.now) heads.now elements states.now (access_views accesses.now) verdicts.now) }
-{
-    let mut bytes = Vec::new(alloc);
-    write_first(alloc, &mut bytes, graph, elements)?;
-    write_points(alloc, &mut bytes, graph, heads, states, all)?;
-    write_accesses(alloc, &mut bytes, graph.paths(), accesses, verdicts)?;
-    write_last(alloc, &mut bytes, verdicts)?;
-    Ok(bytes)
 }
 
 fn write_generated(

@@ -11,19 +11,18 @@ use Rattle.pk_graph.specs.Graphs.{GraphOf}
 use Rattle.pk_graph.specs.Shown.{graph_view}
 use Rattle.pk_state.specs.Layouts.{Layout}
 use Rattle.pk_state.specs.Facts.{Stated}
-use Rattle.pk_state.specs.Reduced.{reduced}
 use Rattle.pk_order.specs.Ordered.{OrderIsDetermined, heads_of}
 use Rattle.pk_iterate.specs.Answer.{Over}
 use Rattle.pk_iterate.specs.Iteration.{cell_after, progress}
 use Rattle.pk_phases.specs.declared.equations.Cell.{Cell}
 use Rattle.pk_phases.specs.declared.equations.Part.{Part}
 use Rattle.pk_phases.specs.declared.equations.Part.TheVariants.{Point, HeadOf, ExitOf}
-use Rattle.pk_phases.specs.Equations.{Equations, behaviour_of, value_of}
+use Rattle.pk_phases.specs.Equations.{Equations, behaviour_of}
 use Rattle.pk_analysis.specs.declared.analysis.Options.{Options}
 use Rattle.pk_analysis.specs.Arrows.{arrows_at, origins}
 use Rattle.pk_analysis.specs.Digraphs.{digraph_of}
 use Rattle.pk_analysis.specs.Parts.{part_in, part_at, AreParts}
-use Rattle.pk_analysis.specs.Flows.{Flow, equations_of, equation, state_operations, stated}
+use Rattle.pk_analysis.specs.Flows.{Flow, equations_of, equation, state_operations, stated, reduced_over}
 use Rattle.pk_analysis_laws.specs.Systems.{IsOver, IsSystem}
 use Rattle.pk_analysis_laws.proofs.Sorting.{thresholds_same}
 use Rattle.pk_solver.specs.Solved.{AreStates, StatesAreDetermined}
@@ -120,12 +119,7 @@ cells_same law g o most p q s t x y =
     ∙ ap (λ (n : ℕ). cells_of (equations_of y.flow) y.order n most) same.elements)
     ∙ sym y.result.cells_after
 
--- a cell reduced, of the layout
-reduced_over : Layout → Cell Stated → Stated
-reduced_over l c = stated l (reduced l (value_of (stated l None) c).facts)
-
 states_same : OrderIsDetermined → (g : GraphOf) (o : Options) (most : ℕ) (p q : PlanView) (s t : List Stated) → AreStates g o most p s → AreStates g o most q t → s ≡ t
-unfolding reduced_over
 states_same law g o most p q s t x y =
     let same = systems_same law g o p q x.order y.order x.flow y.flow x.system y.system in
     x.reduced

@@ -65,6 +65,10 @@ cells_many a order elements most it is =
     ∙ length-map (range_with_len 0 elements) (cell_after (behaviour_of (equations_of a)) (progress (behaviour_of (equations_of a)) order (elements * most + 1)).runs)
     ∙ length-range_with_len 0 elements
 
+-- an order has as many elements as its plan
+pub as_many : (a : Flow) (order : Level) (n m most : ℕ) (it : Outcome (Cell Stated)) → n ≡ m → IsResult (behaviour_of (equations_of a)) order n most it → IsResult (behaviour_of (equations_of a)) order m most it
+as_many a order n m most it same = subst (λ (k : ℕ). IsResult (behaviour_of (equations_of a)) order k most it) same
+
 -- reduced, at the points
 states_over : (g : GraphOf) (o : Options) (p : PlanView) (a : Flow) (cells : List (Cell Stated)) (states : List Stated)
     → IsAnalysisOf g p o a → length g.points ≤ length cells → states ≡ map (reduced_cell a) (take (length g.points) cells) → AreOver g o states

@@ -9,6 +9,7 @@ use Rattle.pk_graph.specs.OctagonVariables.{octagon_variables_of}
 use Rattle.pk_state.specs.Facts.{Stated}
 use Rattle.pk_thresh.specs.Chains.{chain_bound_of}
 use Rattle.pk_plan.specs.Order.{Level}
+use Rattle.pk_plan.specs.Linear.{IsLinear}
 use Rattle.pk_plan.specs.Plans.{PlanView}
 use Rattle.pk_plan.specs.Shape.{shape_of}
 use Rattle.pk_order.specs.Ordered.{IsOrdered, IsPlanned}
@@ -40,6 +41,10 @@ order_of law g d p is x =
     subst (λ (q : List (List ℕ)). (order : Level) × IsOrdered q p order) is
     (linear.0, record { nest = x.nest; is_nest = x.is_nest; axioms = x.axioms; is_plan = x.is_plan; is_linear = linear.1 })
 
+-- a linear order of it is its order
+pub in_order : (g : GraphOf) (p : PlanView) (order other : Level) → IsOrdered (digraph_of g) p order → IsLinear p other → IsOrdered (digraph_of g) p other
+in_order g p order other x linear = record { nest = x.nest; is_nest = x.is_nest; axioms = x.axioms; is_plan = x.is_plan; is_linear = linear }
+
 -- it has so many elements
 pub few_so : (g : GraphOf) (d : List (List ℕ)) (n m : ℕ) → d ≡ digraph_of g → n ≤ 2 * length d + 1 → length g.points ≤ m → n ≤ 2 * m + 1
 few_so g d n m is few enough =
@@ -50,7 +55,7 @@ module _ (g : GraphOf) (o : Options) (p : PlanView) (order : Level) (ordered : I
   pub plan_points : p.points ≡ length g.points
   plan_points = ordered.is_plan.points ∙ length-map g.points (λ (q : PointOf). map (λ (e : EdgeOf). e.to) q.edges)
 
-  enough_elements : length g.points ≤ p.elements
+  pub enough_elements : length g.points ≤ p.elements
   enough_elements = omega (arith, plan_points, ordered.axioms.counted)
 
   module _ (a : Flow) (is : IsAnalysisOf g p o a) (end : AnalysesEnd) (orders : LinearOrdersAreOrders) (made : IsGraph g) (few : o.oct < 2 ^ 31) where

@@ -1,9 +1,11 @@
 //! What the analysis of a graph leaves at each point, which any number of workers make.
 #![tactic(auto)]
 
+mod iterating;
 mod laws;
 mod solving;
+mod widths;
 
 pub use laws::states_are_determined;
-pub use pk_analysis::Options;
+pub use pk_analysis::{Options, States};
 pub use solving::{IterationOptions, Solution, SolverError, states};

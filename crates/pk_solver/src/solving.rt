@@ -5,10 +5,12 @@ ghost use Rattle.pk_graph.specs.Shown.{graph_view};
 ghost use Rattle.pk_plan.specs.Order.{Level};
 ghost use Rattle.pk_order.specs.Ordered.{IsOrdered};
 ghost use Rattle.pk_analysis.specs.Digraphs.{digraph_of};
-ghost use Rattle.pk_solver.specs.Bounds.{AreInRange, most_elements, most_points};
+ghost use Rattle.pk_solver.specs.Bounds.{AreInRange, most_elements, most_points, most_workers};
 ghost use Rattle.pk_solver.specs.Solved.{AreOver, AreStates, IsCause};
 
-use pk_analysis::{Analysis, Options, digraph, reduced};
+use crate::iterating::states_by_order;
+use crate::widths::paying_workers;
+use pk_analysis::{Analysis, Options, States, digraph};
 use pk_analysis_fits::{analyses_fit, linear_orders_are_orders};
 use pk_analysis_laws::analyses_end;
 use pk_graph::Graph;
@@ -16,7 +18,6 @@ use pk_iterate::{Solve, cells_are_held};
 use pk_order::planned;
 use pk_order_laws::every_plan_has_a_linear_order;
 use pk_plan::Plan;
-use pk_state::State;
 use pk_workers::{Gate, run_workers};
 use std::alloc::{AllocError, Global};
 use std::sync::Wait;
@@ -35,7 +36,7 @@ pub struct IterationOptions {
 #[derive(Drop)]
 pub struct Solution {
     pub plan: Plan,
-    pub states: Vec<State>,
+    pub states: States,
 }
 
 /// Why there is no solution.
@@ -79,13 +80,15 @@ fn states_by_plan<R: Threads + Wait + Sync, G: Gate + Sync>(
     graph: &Graph,
     options: &IterationOptions,
     plan: &Plan,
-) -> Result<Vec<State>, SolverError>
+    workers: u32,
+) -> Result<States, SolverError>
     requires range { AreInRange options.now }
+    requires workers { (1 ≤ workers) × (workers ≤ most_workers) }
     requires few { plan.now.elements ≤ most_elements }
     requires ordered { (order : Level) × IsOrdered (digraph_of (graph_view graph.now)) plan.now order }
     ensures ok { IfOk result (λ states.
-        AreStates (graph_view graph.now) options.now.analysis options.now.max_runs plan.now states.items) }
-    ensures over { IfOk result (λ states. AreOver (graph_view graph.now) options.now.analysis states.items) }
+        AreStates (graph_view graph.now) options.now.analysis options.now.max_runs plan.now states) }
+    ensures over { IfOk result (λ states. AreOver (graph_view graph.now) options.now.analysis states) }
     ensures err { IfErr result (IsCause (graph_view graph.now) options.now.analysis options.now.max_runs) }
 {
     analyses_fit();
@@ -94,11 +97,35 @@ fn states_by_plan<R: Threads + Wait + Sync, G: Gate + Sync>(
     graph.well_made();
     let analysis = Analysis::new(alloc, graph, plan, options.analysis)?;
     cells_are_held(&analysis);
-    let (workers, max_runs) = (options.workers, options.max_runs);
-    match run_workers(rt, alloc, &analysis, plan, workers, max_runs, gate) {
-        Ok(cells) => Ok(reduced(alloc, &analysis, &cells)?),
+    match run_workers(rt, alloc, &analysis, plan, workers, options.max_runs, gate) {
+        Ok(cells) => Ok(States::of(&analysis, cells)?),
         Err(Solve::RunLimit { .. }) => Err(SolverError::RunLimit),
         Err(Solve::Memory) => Err(SolverError::Memory),
+    }
+}
+
+// What as many workers leave as pay. Where that is one, and nobody watches, it is the iteration on this thread.
+fn states_by<R: Threads + Wait + Sync, G: Gate + Sync>(
+    rt: &R,
+    alloc: Global,
+    gate: &G,
+    graph: &Graph,
+    options: &IterationOptions,
+    plan: &Plan,
+) -> Result<States, SolverError>
+    requires range { AreInRange options.now }
+    requires few { plan.now.elements ≤ most_elements }
+    requires ordered { (order : Level) × IsOrdered (digraph_of (graph_view graph.now)) plan.now order }
+    ensures ok { IfOk result (λ states.
+        AreStates (graph_view graph.now) options.now.analysis options.now.max_runs plan.now states) }
+    ensures over { IfOk result (λ states. AreOver (graph_view graph.now) options.now.analysis states) }
+    ensures err { IfErr result (IsCause (graph_view graph.now) options.now.analysis options.now.max_runs) }
+{
+    let workers = paying_workers(alloc, gate, plan, options.workers)?;
+    if workers == 1 && !gate.watches() {
+        states_by_order(alloc, graph, options, plan)
+    } else {
+        states_by_plan(rt, alloc, gate, graph, options, plan, workers)
     }
 }
 
@@ -113,12 +140,12 @@ pub fn states<R: Threads + Wait + Sync, G: Gate + Sync>(
     requires few { length (graph_view graph.now).points ≤ most_points }
     requires range { AreInRange options.now }
     ensures ok { IfOk result (λ solution. AreStates (graph_view graph.now) options.now.analysis options.now.max_runs
-        solution.plan solution.states.items) }
+        solution.plan solution.states) }
     ensures over { IfOk result (λ solution.
-        AreOver (graph_view graph.now) options.now.analysis solution.states.items) }
+        AreOver (graph_view graph.now) options.now.analysis solution.states) }
     ensures err { IfErr result (IsCause (graph_view graph.now) options.now.analysis options.now.max_runs) }
 {
     let plan = plan_of(alloc, graph)?;
-    let states = states_by_plan(rt, alloc, gate, graph, options, &plan)?;
+    let states = states_by(rt, alloc, gate, graph, options, &plan)?;
     Ok(Solution { plan, states })
 }

@@ -6,7 +6,7 @@ use Rattle.pk_interval.specs.Ranges as ranges
 use Rattle.pk_interval.proofs.Order.{within_ends}
 use Rattle.pk_congr.specs.Classes as classes
 use Rattle.pk_congr.proofs.Keeping.{unchanged}
-use Rattle.pk_congr.proofs.Numbers.{and_true}
+use Rattle.pk_ctypes.proofs.Small.{and_true}
 use Rattle.pk_value.specs.Known.{Known, is_within}
 use Rattle.pk_value.specs.Known as known
 use Rattle.pk_value.specs.Laws.{IsOfIts}

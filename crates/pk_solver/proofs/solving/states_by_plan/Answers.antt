@@ -17,7 +17,7 @@ run_workers-requires-clause-ends g c κs within =
     c.in_ok-analysis.analysis c.in_ok-analysis.ensures c.analyses_end.ensures c.linear_orders_are_orders.ensures c.well_made.ensures c.requires.range.oct
 
 pub run_workers-requires-clause-workers : goal.run_workers-requires-clause-workers
-run_workers-requires-clause-workers g c κs within = (c.requires.range.some_worker, c.requires.range.few_workers)
+run_workers-requires-clause-workers g c κs within = c.requires.workers
 
 pub run_workers-requires-clause-most : goal.run_workers-requires-clause-most
 run_workers-requires-clause-most g c κs within = c.requires.range.runs
@@ -25,14 +25,14 @@ run_workers-requires-clause-most g c κs within = c.requires.range.runs
 pub run_workers-requires-sync-Y : goal.run_workers-requires-sync-Y
 run_workers-requires-sync-Y g c κs within = search (analysis_sync, sendable)
 
-pub reduced-requires-clause-points : goal.reduced-requires-clause-points
-reduced-requires-clause-points g c =
+pub of-requires-clause-points : goal.of-requires-clause-points
+of-requires-clause-points g c =
     has_points (graph_view c.args.graph.now) c.args.options.now.analysis c.args.plan.now c.requires.ordered.0 c.requires.ordered.1
     c.in_ok-analysis.analysis c.in_ok-analysis.ensures c.analyses_end.ensures c.linear_orders_are_orders.ensures c.well_made.ensures c.requires.range.oct
     c.args.options.now.max_runs c.in-Ok.cells c.in-Ok.ensures.ok
 
-pub reduced-requires-clause-held : goal.reduced-requires-clause-held
-reduced-requires-clause-held g c =
+pub of-requires-clause-held : goal.of-requires-clause-held
+of-requires-clause-held g c =
     are_held (graph_view c.args.graph.now) c.args.options.now.analysis c.args.plan.now c.requires.ordered.0 c.requires.ordered.1
     c.in_ok-analysis.analysis c.in_ok-analysis.ensures c.analyses_end.ensures c.linear_orders_are_orders.ensures c.well_made.ensures c.requires.range.oct
     c.args.options.now.max_runs c.in-Ok.cells c.in-Ok.ensures.ok c.cells_are_held.ensures
@@ -41,13 +41,13 @@ pub returns-in-Ok-clause-ok : goal.returns-in-Ok-clause-ok
 returns-in-Ok-clause-ok g c =
     are_states (graph_view c.args.graph.now) c.args.options.now.analysis c.args.plan.now c.requires.ordered.0 c.requires.ordered.1
     c.in_ok-analysis.analysis c.in_ok-analysis.ensures c.analyses_end.ensures c.linear_orders_are_orders.ensures c.well_made.ensures c.requires.range.oct
-    c.args.options.now.max_runs c.in-Ok.cells c.in-Ok.ensures.ok c.in_ok-reduced-in-Ok.field-0.items c.in_ok-reduced-in-Ok.ensures
+    c.args.options.now.max_runs c.in-Ok.cells c.in-Ok.ensures.ok c.in_ok-of-in-Ok.field-0 c.in_ok-of-in-Ok.ensures
 
 pub returns-in-Ok-clause-over : goal.returns-in-Ok-clause-over
 returns-in-Ok-clause-over g c =
     are_over (graph_view c.args.graph.now) c.args.options.now.analysis c.args.plan.now c.requires.ordered.0 c.requires.ordered.1
     c.in_ok-analysis.analysis c.in_ok-analysis.ensures c.analyses_end.ensures c.linear_orders_are_orders.ensures c.well_made.ensures c.requires.range.oct
-    c.args.options.now.max_runs c.in-Ok.cells c.in-Ok.ensures.ok c.in_ok-reduced-in-Ok.field-0.items c.in_ok-reduced-in-Ok.ensures
+    c.args.options.now.max_runs c.in-Ok.cells c.in-Ok.ensures.ok c.in_ok-of-in-Ok.field-0 c.in_ok-of-in-Ok.ensures
 
 pub returns-in-Err-RunLimit-clause-err : goal.returns-in-Err-RunLimit-clause-err
 returns-in-Err-RunLimit-clause-err g c =

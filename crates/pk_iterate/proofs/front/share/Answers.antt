@@ -2,7 +2,7 @@ use Rattle.std.proofs.Common.{◌<◌, length}
 use Rattle.std.specs.Arc.{arc_value}
 use Rattle.std.proofs.lemmas.List.Elements.{All-get_or}
 use Rattle.pk_iterate.proofs.Lists.{shared_more}
-use Rattle.pk_iterate.proofs.front.shared.Goals as goal
+use Rattle.pk_iterate.proofs.front.share.Goals as goal
 
 pub loop-u-preserved : goal.loop-u-preserved
 loop-u-preserved g c =

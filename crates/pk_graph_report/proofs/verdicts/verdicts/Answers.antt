@@ -1,6 +1,6 @@
 use Rattle.pk_graph.specs.Shown.{graph_view}
 use Rattle.pk_graph_report.proofs.Told.{access_there}
-use Rattle.pk_graph_report.proofs.answers.verdicts.Goals as goal
+use Rattle.pk_graph_report.proofs.verdicts.verdicts.Goals as goal
 
 pub verdict_on-requires-clause-point : goal.verdict_on-requires-clause-point
 verdict_on-requires-clause-point c =

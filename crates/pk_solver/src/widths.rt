@@ -2,14 +2,17 @@
 
 ghost use Rattle.std.specs.Prelude.{◌≤◌, IfOk};
 
-use crate::gates::Gate;
 use pk_plan::Plan;
+use pk_workers::Gate;
 use std::alloc::{AllocError, Global};
 
 // So few elements are run before a thread has begun.
 const FEW: u32 = 128;
 
-/// The longest row that ends before an element, by those that end with its predecessors.
+// So many elements for each one in the longest row pay a worker, which shares the board's words with the others.
+const SHARE: u32 = 2;
+
+// The longest row that ends before an element, by those that end with its predecessors.
 fn row_before(plan: &Plan, lengths: &[u32], e: u32) -> u32 {
     let mut longest = 0;
     if e < plan.elements() {
@@ -20,7 +23,7 @@ fn row_before(plan: &Plan, lengths: &[u32], e: u32) -> u32 {
     longest
 }
 
-/// How many elements stand in the longest row of a plan in which each waits for the one before it.
+// How many elements stand in the longest row of a plan in which each waits for the one before it.
 fn longest_row(alloc: Global, plan: &Plan) -> Result<u32, AllocError>
     ensures { IfOk result (λ n. 1 ≤ n) }
 {
@@ -36,9 +39,9 @@ fn longest_row(alloc: Global, plan: &Plan) -> Result<u32, AllocError>
     Ok(longest.max(1))
 }
 
-/// How many of so many workers pay: all where the gate watches; one where a plan has few elements; and else not more than it has
-/// elements for each one in its longest row, which is what can be run at once on average.
-pub fn paying_workers<G: Gate>(
+/// How many of so many workers pay: all where the gate watches; one where a plan has few elements; and else by how many elements it has for
+/// each one in its longest row, which is how many can be run at once on average. What is answered is the same whatever this gives.
+pub(crate) fn paying_workers<G: Gate>(
     alloc: Global,
     gate: &G,
     plan: &Plan,
@@ -55,5 +58,5 @@ pub fn paying_workers<G: Gate>(
         return Ok(1);
     }
     let at_once = elements / longest_row(alloc, plan)?;
-    Ok(at_once.max(1).min(workers))
+    Ok((at_once / SHARE).max(1).min(workers))
 }
