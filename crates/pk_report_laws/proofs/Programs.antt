@@ -1,3 +1,4 @@
 pub mod Bounded
 pub mod Listed
 pub mod Telling
+pub mod Faultless

@@ -1,1 +1,2 @@
 pub mod ToldOfPrograms
+pub mod Faultless

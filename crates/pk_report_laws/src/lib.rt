@@ -3,4 +3,6 @@
 
 mod laws;
 
-pub use laws::{answers_are_true, reports_are_true, reports_are_true_of_programs};
+pub use laws::{
+    answers_are_true, programs_are_faultless, reports_are_true, reports_are_true_of_programs,
+};

@@ -1,11 +1,12 @@
 -- The accesses of a graph: at its points, with typed operands, each an operation of its kind.
-use Rattle.std.specs.Prelude.{◌≡◌, ℕ, ◌+◌, Bool, true, false, List, [], ◌∷◌, ◌++◌, All}
-use Rattle.std.proofs.Common.{refl}
+use Rattle.std.specs.Prelude.{◌≡◌, ℕ, ◌+◌, ◌<◌, Bool, true, false, List, [], ◌∷◌, ◌++◌, length, All}
+use Rattle.std.proofs.Common.{arith, refl}
 use Rattle.std.proofs.lemmas.List.Elements.{All-nil, All-cons, All-head, All-tail, All-append}
 use Rattle.pk_ctypes.specs.declared.types.IntType.{IntType}
 use Rattle.pk_ctypes.specs.declared.types.IntType.TheVariants.{Char, SChar, UChar, Short, UShort, Int, UInt, Long, ULong, LLong, ULLong}
 use Rattle.pk_ctypes.specs.declared.types.Op.{Op}
 use Rattle.pk_ctypes.specs.declared.types.Op.TheVariants.{Add, Sub, Mul, Div, Rem, Shl, Shr, And, Or, Xor, Lt, Gt, Le, Ge, Eq, Ne, Neg, BitNot, Not}
+use Rattle.pk_ctypes.specs.Types.{is_signed_of}
 use Rattle.pk_graph.specs.declared.trees.Site.{Site}
 use Rattle.pk_graph.specs.Trees.{TreeOf, constant, variable, converted, unary, binary, InstrOf, Skip, Set, Havoc, Clear, Load, Store, Guard, Check}
 use Rattle.pk_graph.specs.Kinds.{Kinds, IsTyped, IsOfType, IsTypedInstr, IsRight, type_of}
@@ -61,7 +62,7 @@ abbrev pub HasKind : OperationOf → Type 0
 HasKind (Index n i) = Unit {0}
 HasKind (Divisor a b) = Unit {0}
 HasKind (Negation t e) = Unit {0}
-HasKind (Result op t a b) = HasResult op
+HasKind (Result op t a b) = HasResult op × (is_signed_of t ≡ true)
 HasKind (Shift op t a b) = IsShift op
 HasKind (Assertion e) = Unit {0}
 
@@ -73,13 +74,13 @@ pub record IsAccessAt (ks : Kinds) (p : ℕ) (a : AccessOf) : Type 0 where
 one : (ks : Kinds) (p : ℕ) (s : Site) (o : OperationOf) → IsTypedOperation ks o → HasKind o → All (IsAccessAt ks p) (access p s o ∷ [])
 one ks p s o h k = All-cons (IsAccessAt ks p) (access p s o) [] (record { point = refl; typed = h; kind = k }) (All-nil (IsAccessAt ks p))
 
-signed : (ks : Kinds) (p : ℕ) (t : IntType) (s : Site) (o : OperationOf) → IsTypedOperation ks o → HasKind o → All (IsAccessAt ks p) (if_signed t (access p s o))
-signed ks p Char s o h k = one ks p s o h k
-signed ks p SChar s o h k = one ks p s o h k
-signed ks p Short s o h k = one ks p s o h k
-signed ks p Int s o h k = one ks p s o h k
-signed ks p Long s o h k = one ks p s o h k
-signed ks p LLong s o h k = one ks p s o h k
+signed : (ks : Kinds) (p : ℕ) (t : IntType) (s : Site) (o : OperationOf) → IsTypedOperation ks o → (is_signed_of t ≡ true → HasKind o) → All (IsAccessAt ks p) (if_signed t (access p s o))
+signed ks p Char s o h k = one ks p s o h (k refl)
+signed ks p SChar s o h k = one ks p s o h (k refl)
+signed ks p Short s o h k = one ks p s o h (k refl)
+signed ks p Int s o h k = one ks p s o h (k refl)
+signed ks p Long s o h k = one ks p s o h (k refl)
+signed ks p LLong s o h k = one ks p s o h (k refl)
 signed ks p UChar s o h k = All-nil (IsAccessAt ks p)
 signed ks p UShort s o h k = All-nil (IsAccessAt ks p)
 signed ks p UInt s o h k = All-nil (IsAccessAt ks p)
@@ -89,7 +90,7 @@ signed ks p ULLong s o h k = All-nil (IsAccessAt ks p)
 -- ---- trees
 
 at_unary : (ks : Kinds) (p : ℕ) (op : Op) (s : Site) (t : IntType) (e : TreeOf ℕ) → IsOfType ks t e → All (IsAccessAt ks p) (of_unary p op s t e)
-at_unary ks p Neg s t e h = signed ks p t s (Negation t e) h tt
+at_unary ks p Neg s t e h = signed ks p t s (Negation t e) h (λ is. tt)
 at_unary ks p BitNot s t e h = All-nil (IsAccessAt ks p)
 at_unary ks p Not s t e h = All-nil (IsAccessAt ks p)
 at_unary ks p Add s t e h = All-nil (IsAccessAt ks p)
@@ -110,13 +111,13 @@ at_unary ks p Eq s t e h = All-nil (IsAccessAt ks p)
 at_unary ks p Ne s t e h = All-nil (IsAccessAt ks p)
 
 at_binary : (ks : Kinds) (p : ℕ) (op : Op) (s : Site) (t : IntType) (a b : TreeOf ℕ) → IsOfType ks t a → IsTyped ks b → IsRight op t (type_of ks b) → All (IsAccessAt ks p) (of_binary p op s t a b)
-at_binary ks p Add s t a b h k r = signed ks p t s (Result Add t a b) (h, k, r) tt
-at_binary ks p Sub s t a b h k r = signed ks p t s (Result Sub t a b) (h, k, r) tt
-at_binary ks p Mul s t a b h k r = signed ks p t s (Result Mul t a b) (h, k, r) tt
+at_binary ks p Add s t a b h k r = signed ks p t s (Result Add t a b) (h, k, r) (λ is. (tt, is))
+at_binary ks p Sub s t a b h k r = signed ks p t s (Result Sub t a b) (h, k, r) (λ is. (tt, is))
+at_binary ks p Mul s t a b h k r = signed ks p t s (Result Mul t a b) (h, k, r) (λ is. (tt, is))
 at_binary ks p Div s t a b h k r =
-    All-cons (IsAccessAt ks p) (access p s (Divisor a b)) (if_signed t (access p s (Result Div t a b))) (record { point = refl; typed = (h.typed, k); kind = tt }) (signed ks p t s (Result Div t a b) (h, k, r) tt)
+    All-cons (IsAccessAt ks p) (access p s (Divisor a b)) (if_signed t (access p s (Result Div t a b))) (record { point = refl; typed = (h.typed, k); kind = tt }) (signed ks p t s (Result Div t a b) (h, k, r) (λ is. (tt, is)))
 at_binary ks p Rem s t a b h k r =
-    All-cons (IsAccessAt ks p) (access p s (Divisor a b)) (if_signed t (access p s (Result Rem t a b))) (record { point = refl; typed = (h.typed, k); kind = tt }) (signed ks p t s (Result Rem t a b) (h, k, r) tt)
+    All-cons (IsAccessAt ks p) (access p s (Divisor a b)) (if_signed t (access p s (Result Rem t a b))) (record { point = refl; typed = (h.typed, k); kind = tt }) (signed ks p t s (Result Rem t a b) (h, k, r) (λ is. (tt, is)))
 at_binary ks p Shl s t a b h k r = one ks p s (Shift Shl t a b) (h, k, r) tt
 at_binary ks p Shr s t a b h k r = one ks p s (Shift Shr t a b) (h, k, r) tt
 at_binary ks p And s t a b h k r = All-nil (IsAccessAt ks p)
@@ -184,3 +185,21 @@ whole g (x ∷ xs) p h =
 
 pub accesses_are : (g : GraphOf) → IsGraph g → All (IsAccess g) (accesses_of g)
 accesses_are g made = whole g g.points 0 made.points
+
+abbrev IsBelow : ℕ → AccessOf → Type 0
+IsBelow n a = a.point < n
+
+-- each is at a point of the graph
+below : (g : GraphOf) (ps : List PointOf) (p : ℕ) → All (IsPointOf g) ps → All (IsBelow (p + length ps)) (of_points p ps)
+below g [] p h = All-nil (IsBelow (p + length (let none : List PointOf = [] in none)))
+below g (x ∷ xs) p h =
+    All-append (IsBelow (p + length (x ∷ xs))) (of_edges p x.edges) (of_points (p + 1) xs) (first (of_edges p x.edges) (at_point g p x.edges (All-head (IsPointOf g) x xs h).edges)) (rest (of_points (p + 1) xs) (below g xs (p + 1) (All-tail (IsPointOf g) x xs h)))
+  where
+    first : (more : List AccessOf) → All (IsAccessAt (kinds_of g) p) more → All (IsBelow (p + length (x ∷ xs))) more
+    first more k = λ i d j. let at = (k i d j).point in omega (arith, at)
+
+    rest : (more : List AccessOf) → All (IsBelow (p + 1 + length xs)) more → All (IsBelow (p + length (x ∷ xs))) more
+    rest more k = λ i d j. let at = k i d j in omega (arith, at)
+
+pub points_are_there : (g : GraphOf) → IsGraph g → All (λ (a : AccessOf). a.point < length g.points) (accesses_of g)
+points_are_there g made = λ i d j. let at = below g g.points 0 made.points i d j in omega (arith, at)

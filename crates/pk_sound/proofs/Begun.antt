@@ -13,7 +13,8 @@ use Rattle.pk_ctypes.specs.declared.types.IntType.TheVariants.{Int}
 use Rattle.pk_ctypes.specs.Types.{InType, is_in_type}
 use Rattle.pk_ctypes.proofs.Values.{cases_of_type}
 use Rattle.pk_congr.specs.Classes.{constant}
-use Rattle.pk_congr.proofs.Numbers.{both_true, rest_member}
+use Rattle.pk_ctypes.proofs.Small.{both_true}
+use Rattle.pk_congr.proofs.Numbers.{rest_member}
 use Rattle.pk_graph.specs.Kinds.{Kind, kind_at, count_of, count_at}
 use Rattle.pk_graph.specs.Graphs.{VariableOf, StartOf, any_start, number_start, GraphOf, no_variable, variable_at, kinds_of}
 use Rattle.pk_graph.specs.WellMade.{IsGraph, IsStartOf}

@@ -4,7 +4,7 @@ use Rattle.std.specs.List.{slice_index_or}
 use Rattle.std.specs.Prelude.{int_le}
 use Rattle.std.proofs.lemmas.Int.{ints}
 use Rattle.pk_congr.proofs.Keeping.{unchanged}
-use Rattle.pk_congr.proofs.Numbers.{both_true, and_true}
+use Rattle.pk_ctypes.proofs.Small.{both_true, and_true}
 use Rattle.pk_congr.specs.Classes as classes
 use Rattle.pk_interval.specs.Ranges as ranges
 use Rattle.pk_value.specs.Known.{Known, is_within}

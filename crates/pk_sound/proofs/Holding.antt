@@ -174,6 +174,7 @@ result_holds_runs g o p order a most it is v s run =
     let known = (solved v at.point).known in
     let kept = states_sound.kept a.layout (known_at_point a it v) (pad s) lay known at.member in
     record {
+      store = at.store;
       known = agrees (kinds_of g) a.layout (known_at_point a it v) s lay over at.store known at.member;
       reduced = agrees (kinds_of g) a.layout (reduced_at_point a it v) s lay over at.store (facts_stay.reductions a.layout (known_at_point a it v) lay known) kept;
       member = λ some. subst (Member a.layout (known_at_point a it v)) (nothing_padded g s some at.store) at.member;

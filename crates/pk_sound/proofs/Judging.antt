@@ -21,7 +21,7 @@ use Rattle.pk_interval.specs.Operators.{range_of, HasRightIn}
 use Rattle.pk_interval.specs.Laws.{KnownBy}
 use Rattle.pk_interval.proofs.Sound.{sound as ranges_sound}
 use Rattle.pk_congr.specs.Classes.{has_member}
-use Rattle.pk_congr.proofs.Numbers.{both_true}
+use Rattle.pk_ctypes.proofs.Small.{both_true}
 use Rattle.pk_congr.proofs.Order.{member}
 use Rattle.pk_graph.specs.declared.verdicts.Verdict.{Verdict}
 use Rattle.pk_graph.specs.declared.verdicts.Verdict.TheVariants.{Safe, Unknown, Unreachable}
@@ -67,7 +67,7 @@ if_there : (b : Bool) (v : Verdict) (lo hi : ℤ) → (if b then v else Unknown 
 if_there true v lo hi e = (refl, e)
 if_there false v lo hi e = absurd (cc)
 
-bounded : (lo hi z : ℤ) (r : Range) → lies_in lo hi r ≡ true → Holds r z → (lo ≤ℤ z) × (z ≤ℤ hi)
+pub bounded : (lo hi z : ℤ) (r : Range) → lies_in lo hi r ≡ true → Holds r z → (lo ≤ℤ z) × (z ≤ℤ hi)
 bounded lo hi z r e h = let both = both_true (int_le lo r.lo) (int_le r.hi hi) e in (omega (arith, ints, both.0, h.from), omega (arith, ints, both.1, h.to))
 
 other_than : (k : Known) (z : ℤ) → excludes k z ≡ true → IsOf k z → ⊥
@@ -96,17 +96,17 @@ result_there t (Within r) u k e = there (lies_in (low_of t) (high_of t) r) r e
 result_there t TooLarge u k e = cc
 
 -- an operand, and the right one of an operator
-record IsLeft (t : IntType) (k : Known) (z : ℤ) : Type 0 where
-  inside : IsIn t k.range
-  of : IsOf k z
-  typed : InType t z
+pub record IsLeft (t : IntType) (k : Known) (z : ℤ) : Type 0 where
+  pub inside : IsIn t k.range
+  pub of : IsOf k z
+  pub typed : InType t z
 
-record IsRightOf (op : Op) (t : IntType) (k : Known) (z : ℤ) : Type 0 where
-  inside : HasRightIn op t k.range
-  of : IsOf k z
-  typed : HasRight op t z
+pub record IsRightOf (op : Op) (t : IntType) (k : Known) (z : ℤ) : Type 0 where
+  pub inside : HasRightIn op t k.range
+  pub of : IsOf k z
+  pub typed : HasRight op t z
 
-exact_known : (op : Op) (t : IntType) (j k : Known) (x y u : ℤ) → IsLeft t j x → IsRightOf op t k y → exact op t x y ≡ Ok u → KnownBy (range_of op t j.range k.range) u
+pub exact_known : (op : Op) (t : IntType) (j k : Known) (x y u : ℤ) → IsLeft t j x → IsRightOf op t k y → exact op t x y ≡ Ok u → KnownBy (range_of op t j.range k.range) u
 exact_known op t j k x y u l r e = ranges_sound.before op t j.range k.range x y u l.inside r.inside l.of.in_range r.of.in_range e
 
 exact_in : (op : Op) (t : IntType) (j k : Known) (x y u : ℤ) → IsLeft t j x → IsRightOf op t k y → exact op t x y ≡ Ok u → ranged_verdict op t j k ≡ Safe → InType t u
@@ -307,16 +307,16 @@ module _ (ks : Kinds) (y : Layout) (f : Facts) (s : Stored) (over : IsOver ks y)
   abbrev known : TreeOf ℕ → Option Known
   known e = tree_known (known_in (Some f)) e
 
-  one_of : (e : TreeOf ℕ) (z : ℤ) → IsTyped ks e → tree_value storing e s ≡ Ok z → IsOneOf (known e) z
+  pub one_of : (e : TreeOf ℕ) (z : ℤ) → IsTyped ks e → tree_value storing e s ≡ Ok z → IsOneOf (known e) z
   one_of e z h k = trees_sound.values y (Some f) s e z a m (typed_in ks y e over h).0 k
 
-  value_of_type : (e : TreeOf ℕ) → IsTyped ks e → IfSome (known e) (IsValue (type_of ks e))
+  pub value_of_type : (e : TreeOf ℕ) → IsTyped ks e → IfSome (known e) (IsValue (type_of ks e))
   value_of_type e h = let t = typed_in ks y e over h in subst (λ (u : IntType). IfSome (known e) (IsValue u)) t.1 (tree_stays y (Some f) e a t.0)
 
-  left_operand : (t : IntType) (e : TreeOf ℕ) (k : Known) (z : ℤ) → IsOfType ks t e → tree_value storing e s ≡ Ok z → IsOf k z → IsValue (type_of ks e) k → IsLeft t k z
+  pub left_operand : (t : IntType) (e : TreeOf ℕ) (k : Known) (z : ℤ) → IsOfType ks t e → tree_value storing e s ≡ Ok z → IsOf k z → IsValue (type_of ks e) k → IsLeft t k z
   left_operand t e k z h v i w = record { inside = in_wider t (type_of ks e) k.range h.fits w.inside; of = i; typed = h.fits z (typed_value values_lie ks s e z st h.typed v) }
 
-  right_operand : (op : Op) (t : IntType) (e : TreeOf ℕ) (k : Known) (z : ℤ) → IsTyped ks e → IsRight op t (type_of ks e) → tree_value storing e s ≡ Ok z → IsOf k z → IsValue (type_of ks e) k → IsRightOf op t k z
+  pub right_operand : (op : Op) (t : IntType) (e : TreeOf ℕ) (k : Known) (z : ℤ) → IsTyped ks e → IsRight op t (type_of ks e) → tree_value storing e s ≡ Ok z → IsOf k z → IsValue (type_of ks e) k → IsRightOf op t k z
   right_operand op t e k z h r v i w = record { inside = right_wider op t (type_of ks e) k.range r w.inside; of = i; typed = right_value op t (type_of ks e) z r (typed_value values_lie ks s e z st h v) }
 
   -- what is told of one operand, and of two
@@ -350,7 +350,7 @@ module _ (ks : Kinds) (y : Layout) (f : Facts) (s : Stored) (over : IsOver ks y)
   operation_safe (Result op t c d) h k v e =
       let one = tell c (λ j. told_of (known d) (operator_verdict op t j)) Safe e.0 h.0.typed e.2 v in
       let two = tell d (operator_verdict op t one.0) Safe e.1 h.1 e.3 one.3 in
-      result_safe op t one.0 two.0 e.0 e.1 k (left_operand t c one.0 e.0 h.0 e.2 one.1 one.2) (right_operand op t d two.0 e.1 h.1 h.2 e.3 two.1 two.2) two.3 e.4
+      result_safe op t one.0 two.0 e.0 e.1 k.0 (left_operand t c one.0 e.0 h.0 e.2 one.1 one.2) (right_operand op t d two.0 e.1 h.1 h.2 e.3 two.1 two.2) two.3 e.4
   operation_safe (Shift op t c d) h k v e =
       let one = tell c (λ j. told_of (known d) (shift_verdict op t j)) Safe e.0 h.0.typed e.2 v in
       let two = tell d (shift_verdict op t one.0) Safe e.1 h.1 e.3 one.3 in
@@ -374,7 +374,7 @@ module _ (ks : Kinds) (y : Layout) (f : Facts) (s : Stored) (over : IsOver ks y)
   operation_there (Result op t c d) h k v e =
       let one = tell c (λ j. told_of (known d) (operator_verdict op t j)) Unreachable e.0 h.0.typed e.2 v in
       let two = tell d (operator_verdict op t one.0) Unreachable e.1 h.1 e.3 one.3 in
-      operator_there op t one.0 two.0 e.0 e.1 k (left_operand t c one.0 e.0 h.0 e.2 one.1 one.2) (right_operand op t d two.0 e.1 h.1 h.2 e.3 two.1 two.2) two.3
+      operator_there op t one.0 two.0 e.0 e.1 k.0 (left_operand t c one.0 e.0 h.0 e.2 one.1 one.2) (right_operand op t d two.0 e.1 h.1 h.2 e.3 two.1 two.2) two.3
   operation_there (Shift op t c d) h k v e =
       let one = tell c (λ j. told_of (known d) (shift_verdict op t j)) Unreachable e.0 h.0.typed e.2 v in
       let two = tell d (shift_verdict op t one.0) Unreachable e.1 h.1 e.3 one.3 in

@@ -16,3 +16,4 @@ pub mod Accesses
 pub mod Judging
 pub mod Failing
 pub mod Verdicts
+pub mod Bounding

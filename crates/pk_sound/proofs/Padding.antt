@@ -12,7 +12,7 @@ use Rattle.pk_ctypes.specs.Types.{InType, Represents, is_in_type, wrapped}
 use Rattle.pk_ctypes.specs.Operators.{value_of}
 use Rattle.pk_ctypes.proofs.Wrapped.{zero_in}
 use Rattle.pk_ctypes.proofs.Values as values
-use Rattle.pk_congr.proofs.Numbers.{both_true}
+use Rattle.pk_ctypes.proofs.Small.{both_true}
 use Rattle.pk_graph.specs.Trees.{TreeOf, constant, variable, converted, unary, binary, ArrayOf, InstrOf, Skip, Set, Havoc, Clear, Load, Store, Guard, Check}
 use Rattle.pk_graph.specs.Kinds.{Kind, Kinds, no_kind, kind_at, type_at, count_of, count_at, type_of, IsScalar, IsArray, IsRight, IsTyped, IsOfType, IsTypedInstr}
 use Rattle.pk_graph.specs.Steps.{Numbers, number_at, Failure, failure, at_site, and_then, tree_value, is_true, indexed, all_in_type, are_any, To, Wants, Faulted, with_value, passed, effect}

@@ -21,7 +21,8 @@ use Rattle.pk_interval.proofs.Moves.{from_in, shifted_in}
 use Rattle.pk_interval.proofs.Numbers.{left_rises}
 use Rattle.pk_congr.specs.Classes.{Class, IsReduced, is_held, constant, every, class_of, class_if, are_apart, int_gcd}
 use Rattle.pk_congr.specs.Operators.{result_of, wrapped_class, are_products_held, is_divided, is_counted, complement_total}
-use Rattle.pk_congr.proofs.Numbers.{both_true, class_reduced, test_held}
+use Rattle.pk_ctypes.proofs.Small.{both_true}
+use Rattle.pk_congr.proofs.Numbers.{class_reduced, test_held}
 use Rattle.pk_graph.specs.Trees.{TreeOf, constant as constant_tree, variable, converted as converted_tree, unary, binary}
 use Rattle.pk_graph.specs.Kinds.{type_of, IsTyped}
 use Rattle.pk_value.specs.Known.{Known, exactly, red_known}

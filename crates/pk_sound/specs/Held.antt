@@ -1,8 +1,8 @@
 -- No run leaves the result.
 use Rattle.std.specs.Prelude.{◌≡◌, ℕ, ◌<◌, length, Option, Some, None}
-use Rattle.pk_graph.specs.Graphs.{GraphOf}
+use Rattle.pk_graph.specs.Graphs.{GraphOf, kinds_of}
 use Rattle.pk_graph.specs.Steps.{number_at}
-use Rattle.pk_graph.specs.Stores.{Stored, numbers_of}
+use Rattle.pk_graph.specs.Stores.{Stored, numbers_of, IsStore}
 use Rattle.pk_value.specs.Known.{IsOf}
 use Rattle.pk_octmat.specs.Octagon.{entry, Meets}
 use Rattle.pk_state.specs.Layouts.{Layout, chosen_at}
@@ -27,8 +27,9 @@ abbrev pub Agrees : Layout → Option Facts → Stored → Type 0
 Agrees l None s = ⊥
 Agrees l (Some f) s = AgreesWith l f s
 
--- A store agrees with what the result knows at a point, and with what that is once it is reduced; where each array has an element, it is a store of both.
+-- A store has the numbers of the graph's variables. It agrees with what the result knows at a point, and with what that is once it is reduced; where each array has an element, it is a store of both.
 pub record IsHeldAt (g : GraphOf) (a : Flow) (it : Outcome (Cell Stated)) (v : ℕ) (s : Stored) : Type 0 where
+  pub store : IsStore (kinds_of g) s
   pub known : Agrees a.layout (known_at_point a it v) s
   pub reduced : Agrees a.layout (reduced_at_point a it v) s
   pub member : HasElements g → Member a.layout (known_at_point a it v) s

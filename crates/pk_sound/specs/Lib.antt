@@ -6,3 +6,4 @@ pub mod Solved
 pub mod Held
 pub mod Verdicts
 pub mod Faults
+pub mod Bounds

@@ -5,6 +5,7 @@ ghost use Rattle.pk_sound.specs.Planned.{AnalysesGoByPlan};
 ghost use Rattle.pk_sound.specs.Solved.{ResultIsSolved};
 ghost use Rattle.pk_sound.specs.Held.{ResultHoldsRuns};
 ghost use Rattle.pk_sound.specs.Verdicts.{VerdictsHold};
+ghost use Rattle.pk_sound.specs.Bounds.{BoundsHold};
 ghost use Rattle.pk_sound.specs.Faults.{FaultsAreAccesses, FaultsAreUnknown};
 
 /// What is known after an instruction are facts of the layout, where those before it are.
@@ -40,4 +41,9 @@ pub fn faults_are_accesses()
 /// A run that faults does so at an access of which the verdict is unknown, or at an index that is no access.
 pub fn faults_are_unknown()
     ensures { FaultsAreUnknown }
+{}
+
+/// Where the verdict on an access is unknown, what decides it lies between its bounds in every run.
+pub fn bounds_hold()
+    ensures { BoundsHold }
 {}

@@ -1,6 +1,6 @@
 -- From what is told of a text to the answer, and to what a call of the command has done.
 use Rattle.std.specs.Prelude.{◌≡◌, ◌⊎◌, ℕ, List, [], false, Option, Some}
-use Rattle.std.proofs.Common.{refl, sym, subst, inl, inr, append-nil, IfOk, IfErr, IsErrAnd, Ok, Err, None}
+use Rattle.std.proofs.Common.{refl, sym, subst, inl, inr, append-nil, IfErr, IsErrAnd, Ok, Err, None}
 use Rattle.std.specs.declared.result.Result.{Result}
 use Rattle.std.specs.Io.KnownBytes.{Appends, Keeps}
 use Rattle.pk_command.specs.declared.asked.Command.{Command}
@@ -76,10 +76,6 @@ making_asks words c asks making = inr (c, asks, making)
 pub handed_on : {X : Type 0} (F : Status → Type 0) (r : Result X Status) (s : Status) → IsErrAnd r (λ t. t ≡ s) → F s → IfErr r F
 handed_on F (Ok x) s same holds = tt
 handed_on F (Err t) s same holds = subst F (sym same) holds
-
-pub if_ok : {A E : Type 0} {P Q : A → Type 0} (r : Result A E) → ((x : A) → P x → Q x) → IfOk r P → IfOk r Q
-if_ok (Ok x) f h = f x h
-if_ok (Err e) f h = tt
 
 pub if_err : {A E : Type 0} {P Q : E → Type 0} (r : Result A E) → ((e : E) → P e → Q e) → IfErr r P → IfErr r Q
 if_err (Ok x) f h = tt

@@ -2,7 +2,7 @@
 use Rattle.std.specs.Prelude.{◌≡◌, ℕ, List, Option, OnOk, codes}
 use Rattle.std.specs.declared.result.Result.{Result}
 use Rattle.std.specs.Io.KnownBytes.{Appends}
-use Rattle.std.proofs.Common.{arith, subst, lit<, inl, inr, Ok, Err}
+use Rattle.std.proofs.Common.{arith, subst, sym, lit<, inl, inr, Ok, Err}
 use Rattle.pk_command.specs.declared.asked.Command.{Command}
 use Rattle.pk_command.specs.declared.asked.Command.TheVariants.{Run, Order, Gen}
 use Rattle.pk_command.specs.Given.{IsInRange}
@@ -10,9 +10,10 @@ use Rattle.pk_command.proofs.Asking.{one_asked}
 use Rattle.pk_text_report.specs.declared.status.Status.TheVariants as status
 use Rattle.pk_text_report.specs.declared.status.Status.{Status}
 use Rattle.pk_text_report.specs.Answers.{IsAnswer, IsTold, default_options, default_runs, options_of}
+use Rattle.pk_report_laws.specs.Programs.Faultless.{ProgramsAreFaultless}
 use Rattle.pk_report_laws.specs.Programs.ToldOfPrograms.{ReportsAreTrueOfPrograms}
 use Rattle.pk_top.specs.Headline.{IsStop}
-use Rattle.pk_top.specs.Truth.{AskInRange, IsTrueTold, TellsTruth}
+use Rattle.pk_top.specs.Truth.{AskFaultless, AskInRange, IsFaultlessFor, IsTrueTold, TellsTruth}
 
 -- no stop is a success
 pub no_success : (s : Status) (unknown : ℕ) → IsStop s → s ≡ status.Ok unknown → ⊥
@@ -44,6 +45,14 @@ told_truly law words text unknown bytes before after range (inr x) written =
       holds = true_told law text x.command unknown bytes (subst IsInRange command range.2) x.reply.1;
     }
 
+-- what is told of a text without an unknown verdict
+faultless_for : ProgramsAreFaultless → (text : List ℕ) (c : Command) (bytes : List ℕ) → IsInRange c → IsTold text c 0 bytes → IsFaultlessFor c text
+faultless_for law text (Run o) bytes range told =
+    law text o.entry told.graph told.has_graph (options_of o) o.max_runs told.report.plan told.report.states (omega (arith, range.3)) told.report.are_states (sym told.report.counted)
+faultless_for law text (Order o) bytes range told = tt
+faultless_for law text (Gen o) bytes range told =
+    law text (codes "main") told.graph told.has_graph default_options default_runs told.summary.plan told.summary.states (lit< tt) told.summary.are_states (sym told.summary.counted)
+
 same_count : (m n : ℕ) → status.Ok m ≡ status.Ok n → m ≡ n
 same_count m n is = cc
 
@@ -53,3 +62,11 @@ pub truthful : ReportsAreTrueOfPrograms → (words : List (List ℕ)) (text : Li
 truthful law words text m unknown bytes sent before after is range answer same written =
     subst (λ n. TellsTruth words text n before after) (same_count m unknown is)
     (told_truly law words text m bytes before after range answer (subst (Appends before after) same written))
+
+-- at a success without an unknown verdict
+pub no_fault : ProgramsAreFaultless → (words : List (List ℕ)) (text : List ℕ) (m : ℕ) (bytes : List ℕ) → status.Ok m ≡ status.Ok 0 → AskInRange words → IsAnswer words text (status.Ok m) bytes → AskFaultless words text
+no_fault law words text m bytes is range (inl usage) command asked = absurd (let same = usage.status_is in cc)
+no_fault law words text m bytes is range (inr x) command asked =
+    let told : IsTold text x.command 0 bytes = subst (λ n. IsTold text x.command n bytes) (same_count m 0 is) x.reply.1 in
+    let mine = faultless_for law text x.command bytes (subst IsInRange (one_asked words range.0 x.command range.1 x.asked) range.2) told in
+    subst (λ c. IsFaultlessFor c text) (one_asked words x.command command x.asked asked) mine

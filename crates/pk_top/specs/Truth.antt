@@ -1,11 +1,12 @@
 -- At a success what is told is true of every run of the C program.
-use Rattle.std.specs.Prelude.{ℕ, List}
+use Rattle.std.specs.Prelude.{ℕ, List, codes}
 use Rattle.std.specs.declared.option.Option.{Option}
 use Rattle.std.specs.Io.KnownBytes.{Appends}
 use Rattle.pk_command.specs.declared.asked.Command.{Command}
 use Rattle.pk_command.specs.declared.asked.Command.TheVariants.{Run, Order, Gen}
 use Rattle.pk_command.specs.Given.{AsksFor, IsInRange}
 use Rattle.pk_text_report.specs.Answers.{IsTold}
+use Rattle.pk_report_laws.specs.Programs.Faultless.{IsFaultless}
 use Rattle.pk_report_laws.specs.Programs.ToldOfPrograms.{IsTrueOfProgram, program_of}
 
 -- the words ask for a command, whose numbers lie in their ranges
@@ -20,6 +21,16 @@ IsTrueTold text (Run options) unknown bytes told =
 IsTrueTold text (Order options) unknown bytes told = Unit {0}
 IsTrueTold text (Gen options) unknown bytes told =
     IsTrueOfProgram (program_of told.has_graph) told.graph told.summary.states
+
+-- The text that a command analyses is a program of which no run fails. An order analyses none.
+abbrev pub IsFaultlessFor : Command → (text : List ℕ) → Type 0
+IsFaultlessFor (Run options) text = IsFaultless text options.entry
+IsFaultlessFor (Order options) text = Unit {0}
+IsFaultlessFor (Gen options) text = IsFaultless text (codes "main")
+
+-- the same of the command that the words ask for
+abbrev pub AskFaultless : List (List ℕ) → (text : List ℕ) → Type 0
+AskFaultless words text = (command : Command) → AsksFor words command → IsFaultlessFor command text
 
 -- The words ask for a command, exactly the bytes of what it tells of the text were written, and that is true.
 pub record TellsTruth (words : List (List ℕ)) (text : List ℕ) (unknown : ℕ)

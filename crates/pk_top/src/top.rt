@@ -7,13 +7,13 @@ ghost use Rattle.pk_command.specs.Given.{AsksFor, IsInRange};
 ghost use Rattle.pk_io.specs.Causes.{Rose};
 ghost use Rattle.pk_text_report.specs.Answers.{IsAnswer, IsShort, AskAbout, AskNoSource, IsMaking, text_of, text_limit};
 ghost use Rattle.pk_top.specs.Headline.{Answers, Gives, IsStop, IsSuccess, IsTextless, IsUnread, IsUntold, KeepsUnlessTold};
-ghost use Rattle.pk_top.specs.Truth.{AskInRange, TellsTruth};
+ghost use Rattle.pk_top.specs.Truth.{AskFaultless, AskInRange, TellsTruth};
 
 use pk_command::{Command, WordsError, read_words};
 use pk_ctypes::Quantity;
 use pk_gen::generate;
 use pk_io::{ReadError, Sink, Source, read_all, write_all};
-use pk_report_laws::reports_are_true_of_programs;
+use pk_report_laws::{programs_are_faultless, reports_are_true_of_programs};
 use pk_text_report::{Status, told};
 use pk_workers::Gate;
 use std::alloc::Global;
@@ -123,6 +123,10 @@ pub fn pikos<R: Threads + Wait + Sync, S: Source, K: Sink, G: Gate + Sync>(
         result ≡ Status.Ok unknown →
         TellsTruth (map string_bytes words.now) text unknown (K.written out.old) (K.written out.new) }
 
+    // At a success with no unknown verdict no run of the C program that the text is fails.
+    ensures no_fault { (text : List ℕ) → AskAbout (map string_bytes words.now) (S.left src.old) text →
+        result ≡ Status.Ok 0 → AskFaultless (map string_bytes words.now) text }
+
     // A fault of reading or writing is told only where the device has counted one in this call.
     ensures read_fault { result ≡ Status.ReadFault → Rose (S.faults src.old) (S.faults src.new) }
     ensures write_fault { (sent : ℕ) → result ≡ Status.WriteFault sent → Rose (K.faults out.old) (K.faults out.new) }
@@ -148,6 +152,7 @@ pub fn pikos<R: Threads + Wait + Sync, S: Source, K: Sink, G: Gate + Sync>(
     ensures whole { IsSuccess result → AskNoSource (map string_bytes words.now) ⊎ IsAtEnd (S.left src.new) }
 {
     reports_are_true_of_programs();
+    programs_are_faultless();
     let (bytes, unknown) = match make(rt, alloc, words, src, gate) {
         Ok(made) => made,
         Err(status) => return status,

@@ -4,7 +4,7 @@ use Rattle.pk_ctypes.specs.declared.faults.Fault.{Fault}
 use Rattle.pk_graph.specs.declared.trees.Site.{Site}
 use Rattle.pk_graph.specs.Steps as steps
 use Rattle.pk_graph.specs.Steps.{Numbers}
-use Rattle.pk_meaning.specs.Steps.{Config, Faulted, step}
+use Rattle.pk_meaning.specs.Steps.{Config, Faulted, Stuck, step}
 use Rattle.pk_meaning.specs.Runs.{Visit, visit_of, visits_if, Runs}
 use Rattle.pk_visits.proofs.Slots.{Memory}
 use Rattle.pk_visits.proofs.Stands.{Whole, Proper, BodiesStand, StandsAt}
@@ -35,3 +35,14 @@ journey g answers p m c e vs (Runs.steps {d = d} {vs = us} chosen is rest) z = b
 -- where its next step faults the graph faults
 pub doomed_behind : (g : Whole) → IsLaw g → (chosen : Numbers) (p : ℕ) (m : Memory) (c : Config) (f : Fault) (at : Site) → step g.program chosen c ≡ Faulted f at → StandsAt g c p m → Doomed g chosen c.path c.here (steps.failure f at) p m
 doomed_behind g answers chosen p m c f at is z = subst (Answers g chosen c.path c.here p m) is (answers chosen p m c z)
+
+-- where it comes to, the configuration stands
+comes_to : (g : Whole) (end : Config) (p : ℕ) (m : Memory) (vs : List Visit) → Journeys g end p m vs → (q : ℕ) × (n : Memory) × StandsAt g end q n
+comes_to g end p m vs (ends z) = (p, m, z)
+comes_to g end p m vs (goes {vs = us} chosen z rest) = comes_to g end z.to z.after us rest
+
+-- no step of a run is stuck
+pub never_stuck : (g : Whole) → IsLaw g → (p : ℕ) (m : Memory) (c d : Config) (vs : List Visit) (chosen : Numbers) → Runs g.program c vs d → StandsAt g c p m → step g.program chosen d ≡ Stuck → ⊥
+never_stuck g answers p m c d vs chosen runs z is =
+    let at = comes_to g d p m vs (journey g answers p m c d vs runs z) in
+    subst (Answers g chosen d.path d.here at.0 at.1) is (answers chosen at.0 at.1 d at.2)

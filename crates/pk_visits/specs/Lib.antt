@@ -1,2 +1,3 @@
 pub mod GraphVisits
 pub mod SameVisits
+pub mod NeverStuck

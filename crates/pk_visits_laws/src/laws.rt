@@ -1,6 +1,7 @@
 // Laws of the lowering.
 
 ghost use Rattle.pk_visits.specs.SameVisits.{ProgramsAreFollowed};
+ghost use Rattle.pk_visits.specs.NeverStuck.{ProgramsAreNeverStuck};
 ghost use Rattle.pk_visits_laws.specs.Ways.OneWay.{PointsHaveOneWay, PointsShareAccesses};
 ghost use Rattle.pk_visits.specs.SameVisits.{GraphsHaveProgramVisits};
 
@@ -9,6 +10,13 @@ use pk_calls::paths_are_all;
 /// The visits of each run of a program, and the failure at its end, are those of a run of its graph.
 pub fn programs_are_followed()
     ensures { ProgramsAreFollowed }
+{
+    paths_are_all();
+}
+
+/// A run of a program is never stuck: it goes on, fails, ends, or wants other numbers.
+pub fn programs_are_never_stuck()
+    ensures { ProgramsAreNeverStuck }
 {
     paths_are_all();
 }

@@ -1,14 +1,15 @@
 -- What a visit knows keeps to what is told of its point.
-use Rattle.std.specs.Prelude.{◌≡◌, ℕ, suc, ◌+◌, ◌*◌, ◌/◌, ◌%◌, ◌==◌, Bool, true, false, if◌then◌else◌, ℤ, pos, neg_ℤ, ◌+ℤ◌, ◌-ℤ◌, List, [], ◌∷◌, map, slice_get, Option, Some, None, option_map}
+use Rattle.std.specs.Prelude.{◌≡◌, ℕ, ◌<◌, suc, ◌+◌, ◌*◌, ◌/◌, ◌%◌, ◌==◌, Bool, true, false, if◌then◌else◌, ℤ, pos, neg_ℤ, ◌+ℤ◌, ◌-ℤ◌, List, [], ◌∷◌, length, map, All, slice_get, Option, Some, None, option_map}
 use Rattle.std.specs.List.{AllZip}
 use Rattle.std.proofs.Common.{◌∙◌, ap, refl, sym, subst, arith}
 use Rattle.std.proofs.lemmas.Bool.Decides.{nat_tests}
 use Rattle.std.proofs.lemmas.Int.{ints}
-use Rattle.std.proofs.lemmas.List.{get_or_default}
+use Rattle.std.proofs.lemmas.List.{get_or_default, length-map}
+use Rattle.std.proofs.lemmas.List.Elements.{All-head, All-tail}
 use Rattle.std.proofs.lemmas.Option.{slice_get-map}
-use Rattle.pk_graph.specs.Graphs.{GraphOf, point_at}
+use Rattle.pk_graph.specs.Graphs.{VariableOf, GraphOf, point_at, kinds_of}
 use Rattle.pk_graph.specs.Steps.{Numbers, number_at}
-use Rattle.pk_graph.specs.Stores.{Stored, numbers_of}
+use Rattle.pk_graph.specs.Stores.{Stored, numbers_of, IsStore}
 use Rattle.pk_value.specs.Known.{IsOf}
 use Rattle.pk_octmat.specs.Bounds.{AtMost}
 use Rattle.pk_octmat.specs.Octagon.{entry, side, Meets}
@@ -22,15 +23,17 @@ use Rattle.pk_report_laws.specs.Programs.ToldOfPrograms.{IsKnownAs, IsPlacedAt, 
 
 -- ---- ranges and classes
 
-known_as : (g : GraphOf) (l : Layout) (f : Facts) (s : Stored) (x : ℕ) → AgreesWith l f s → IsKnownAs g f x (known_of g s x)
-known_as g l f s x h = record {
+known_as : (g : GraphOf) (l : Layout) (f : Facts) (s : Stored) (x : ℕ) → IsStore (kinds_of g) s → x < length g.variables → AgreesWith l f s → IsKnownAs g f x (known_of g s x)
+known_as g l f s x st there h = record {
   name = refl;
+  count = st.counts x (let many = length-map g.variables (λ (v : VariableOf). v.kind) in omega (arith, there, many));
   numbers = λ i d below. subst (IsOf (known_at f.values x)) (get_or_default (numbers_of s x) i (pos 0) d below) (h.values x i below);
 }
 
-all_known : (g : GraphOf) (l : Layout) (f : Facts) (s : Stored) (xs : List ℕ) → AgreesWith l f s → AllZip (IsKnownAs g f) xs (map (known_of g s) xs)
-all_known g l f s [] h = tt
-all_known g l f s (x ∷ xs) h = (known_as g l f s x h, all_known g l f s xs h)
+all_known : (g : GraphOf) (l : Layout) (f : Facts) (s : Stored) (xs : List ℕ) → IsStore (kinds_of g) s → All (λ x. x < length g.variables) xs → AgreesWith l f s → AllZip (IsKnownAs g f) xs (map (known_of g s) xs)
+all_known g l f s [] st there h = tt
+all_known g l f s (x ∷ xs) st there h =
+    (known_as g l f s x st (All-head (λ (y : ℕ). y < length g.variables) x xs there) h, all_known g l f s xs st (All-tail (λ (y : ℕ). y < length g.variables) x xs there) h)
 
 -- ---- the octagon
 
@@ -90,16 +93,16 @@ number_is g l p s i k z h =
     let one : numbers_of s h.variable ≡ z ∷ [] = cc in
     ap (number_if s) (placed_there l.chosen h.variable k h.place) ∙ ap (λ (zs : Numbers). number_at zs 0) one
 
-told_at : (g : GraphOf) (l : Layout) (f : Facts) (p : ℕ) (s : Stored) → AgreesWith l f s → IsToldAt g l f p (visit_at g p s)
-told_at g l f p s h = record {
+told_at : (g : GraphOf) (l : Layout) (f : Facts) (p : ℕ) (s : Stored) → IsStore (kinds_of g) s → All (λ x. x < length g.variables) (point_at g p).scope → AgreesWith l f s → IsToldAt g l f p (visit_at g p s)
+told_at g l f p s st there h = record {
   path = refl;
   place = refl;
-  values = all_known g l f s (point_at g p).scope h;
+  values = all_known g l f s (point_at g p).scope st there h;
   pairs = λ i j k m x y first second.
       subst (λ b. AreBounded (entry f.octagon) k m x b) (number_is g l p s j m y second)
       (subst (λ a. AreBounded (entry f.octagon) k m a (selected l.chosen s m)) (number_is g l p s i k x first) (bounded (entry f.octagon) (selected l.chosen s) k m h.octagon));
 }
 
-pub store_told : (g : GraphOf) (l : Layout) (f : Option Facts) (p : ℕ) (s : Stored) → Agrees l f s → IsToldIf g l f p (visit_at g p s)
-store_told g l None p s h = h
-store_told g l (Some f) p s h = told_at g l f p s h
+pub store_told : (g : GraphOf) (l : Layout) (f : Option Facts) (p : ℕ) (s : Stored) → IsStore (kinds_of g) s → All (λ x. x < length g.variables) (point_at g p).scope → Agrees l f s → IsToldIf g l f p (visit_at g p s)
+store_told g l None p s st there h = h
+store_told g l (Some f) p s st there h = told_at g l f p s st there h

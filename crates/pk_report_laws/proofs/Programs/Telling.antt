@@ -18,6 +18,7 @@ use Rattle.pk_report_laws.specs.Runs.True.{AreTrueOf, IsUnknownIn}
 use Rattle.pk_meaning.specs.Programs.{Program}
 use Rattle.pk_meaning.specs.Runs.{Visit}
 use Rattle.pk_visits.specs.GraphVisits.{GraphRuns, ends, steps, is_visit, visit_at, visits_if}
+use Rattle.pk_visits.specs.NeverStuck.{IsNeverStuck}
 use Rattle.pk_visits.specs.SameVisits.{GraphVisits, HaveSameVisits, FailsAt, EndsAt, IsInside}
 use Rattle.pk_report_laws.specs.Programs.ToldOfPrograms.{IsToldOf, IsToldVisit, AreToldAlong, ends as no_more, seen, passed, AreToldInOrder, IsToldFault, IsToldEnd, IsTrueOfProgram}
 use Rattle.pk_verdict.specs.Verdicts.{verdict_of}
@@ -49,7 +50,9 @@ module _ (g : GraphOf) (states : List Stated) (made : IsGraph g) (t : AreTrueOf 
       (All-contains (IsEdgeOf g) (point_at g p).edges e point.edges has).leads_to_a_point
 
   told_of : (v : ℕ) (s : Stored) → Reaches g v s → IsToldOf g states v (visit_at g v s)
-  told_of v s h = store_told g (state_at states v).layout (state_at states v).facts v s (t.holds v s h)
+  told_of v s h =
+      let point = All-get_or (IsPointOf g) g.points v no_point (there v s h) made.points in
+      store_told g (state_at states v).layout (state_at states v).facts v s (t.stores v s h) point.scope (t.holds v s h)
 
   told : (v : ℕ) (s : Stored) → Reaches g v s → IsToldVisit g states (visit_at g v s)
   told v s h = record { point = v; there = there v s h; told = told_of v s h }
@@ -99,14 +102,17 @@ module _ (g : GraphOf) (states : List Stated) (made : IsGraph g) (t : AreTrueOf 
           let point = All-get_or (IsPointOf g) g.points p no_point (there p s h) made.points in
           let edge = All-contains (IsEdgeOf g) (point_at g p).edges x.edge point.edges x.there in
           let at = (All-contains (IsAccessAt (kinds_of g) p) (of_instr p x.edge.instr) a (in_instr (kinds_of g) p x.edge.instr edge.typed) is.listed).point in
+          let listed = listed_access g p x.edge a (there p s h) x.there (share p) is.listed in
+          let verdict = subst (λ (v : ℕ). verdict_of (state_at states v).layout (state_at states v).facts a.operation ≡ Unknown lo hi) (sym at) unknown in
           record {
             access = a;
-            listed = listed_access g p x.edge a (there p s h) x.there (share p) is.listed;
+            listed = listed;
             place = is.site;
             kind = is.fault;
             lo = lo;
             hi = hi;
-            unknown = subst (λ (v : ℕ). verdict_of (state_at states v).layout (state_at states v).facts a.operation ≡ Unknown lo hi) (sym at) unknown;
+            unknown = verdict;
+            bounds = t.bounds a lo hi listed verdict;
           }
       by (inr hidden) = absurd (not_hidden x.edge.instr f.site s x.inside hidden)
 
@@ -120,9 +126,10 @@ module _ (g : GraphOf) (states : List Stated) (made : IsGraph g) (t : AreTrueOf 
       let all = reached 0 x.first x.others x.point x.last x.runs first in
       (subst (All (IsToldVisit g states)) (sym x.visits_are) (All-cons (IsToldVisit g states) (visit_at g 0 x.first) x.others (told 0 x.first first) all.0), ended x.point x.last end all.1 x.ends)
 
-pub true_of : (g : GraphOf) (states : List Stated) (p : Program) → IsGraph g → AreTrueOf g states → ((v : ℕ) → SharesAccesses v (point_at g v).edges) → HaveSameVisits p g → IsTrueOfProgram p g states
-true_of g states p made t share same = record {
+pub true_of : (g : GraphOf) (states : List Stated) (p : Program) → IsGraph g → AreTrueOf g states → ((v : ℕ) → SharesAccesses v (point_at g v).edges) → HaveSameVisits p g → IsNeverStuck p → IsTrueOfProgram p g states
+true_of g states p made t share same on = record {
   runs = same;
+  goes_on = on;
   points = t;
   walks = λ visits end x. walked g states made t share visits end (same.forward visits end x);
   visits = λ visits end x. (of_graph g states made t share visits end (same.forward visits end x)).0;

@@ -1,15 +1,15 @@
 -- From the states of a report to the result of the analysis.
-use Rattle.std.specs.Prelude.{◌≡◌, ◌⊎◌, ℕ, ◌+◌, ◌*◌, ◌<◌, ◌≤◌, ◌^◌, List, length, map, take, slice_index_or, Contains, None}
+use Rattle.std.specs.Prelude.{◌≡◌, ◌⊎◌, ℕ, ℤ, ◌+◌, ◌*◌, ◌<◌, ◌≤◌, ◌^◌, List, length, map, take, slice_index_or, Contains, None}
 use Rattle.std.specs.List.{range_with_len}
 use Rattle.std.proofs.Common.{arith, sym, ap, subst, ◌∙◌, inl, inr}
 use Rattle.std.proofs.lemmas.List.{length-map, length-take-le, get_or-map, get_or-take}
 use Rattle.std.proofs.lemmas.List.FromFn.{length-range_with_len}
 use Rattle.std.proofs.lemmas.List.Elements.{All-get_or, All-contains}
-use Rattle.pk_graph.specs.declared.verdicts.Verdict.TheVariants.{Safe, Unreachable}
+use Rattle.pk_graph.specs.declared.verdicts.Verdict.TheVariants.{Safe, Unknown, Unreachable}
 use Rattle.pk_graph.specs.Accesses.{AccessOf, accesses_of}
-use Rattle.pk_graph.specs.Graphs.{EdgeOf, PointOf, GraphOf, no_point, point_at}
+use Rattle.pk_graph.specs.Graphs.{EdgeOf, PointOf, GraphOf, no_point, point_at, kinds_of}
 use Rattle.pk_graph.specs.Steps.{Numbers, Failure, Faulted, effect}
-use Rattle.pk_graph.specs.Stores.{Stored, storing}
+use Rattle.pk_graph.specs.Stores.{Stored, storing, IsStore}
 use Rattle.pk_graph.specs.WellMade.{IsGraph, IsPointOf, IsEdgeOf}
 use Rattle.pk_state.specs.Facts.{Stated}
 use Rattle.pk_plan.specs.Plans.{PlanView}
@@ -27,7 +27,9 @@ use Rattle.pk_sound.specs.Runs.{Reaches, begins, steps}
 use Rattle.pk_sound.specs.Results.{IsAnalysed, cell_at}
 use Rattle.pk_sound.specs.Held.{Agrees, ResultHoldsRuns}
 use Rattle.pk_sound.specs.Verdicts.{FaultsIn, IsEvaluatedIn, VerdictsHold}
+use Rattle.pk_sound.specs.Bounds.{IsDecidedWithin, BoundsHold}
 use Rattle.pk_sound.specs.Faults.{IsHidden, IsFailing, IsUnknownAt, FaultsAreUnknown}
+use Rattle.pk_sound.proofs.Accesses.{points_are_there}
 use Rattle.pk_report_laws.specs.Runs.True.{IsUnknownIn, ReportsAreTrue}
 
 -- a run comes to points of the graph alone
@@ -63,6 +65,9 @@ module _ (g : GraphOf) (o : Options) (most : ℕ) (p : PlanView) (states : List 
   verdict_is : (a : AccessOf) → a.point < length g.points → verdict_at states a ≡ verdict_of (reduced_cell x.flow (cell_at x.flow x.outcome a.point)).layout (reduced_cell x.flow (cell_at x.flow x.outcome a.point)).facts a.operation
   verdict_is a l = ap (λ (t : Stated). verdict_of t.layout t.facts a.operation) (state_is a.point l)
 
+  stores : ResultHoldsRuns → (v : ℕ) (s : Stored) → Reaches g v s → IsStore (kinds_of g) s
+  stores law v s h = (law g o p x.order x.flow most x.outcome analysed v s h).store
+
   holds : ResultHoldsRuns → (v : ℕ) (s : Stored) → Reaches g v s → Agrees (state_at states v).layout (state_at states v).facts s
   holds law v s h =
       subst (λ (t : Stated). Agrees t.layout t.facts s) (sym (state_is v (there g v s made h)))
@@ -73,6 +78,11 @@ module _ (g : GraphOf) (o : Options) (most : ℕ) (p : PlanView) (states : List 
 
   unreachable : VerdictsHold → (a : AccessOf) (s : Stored) → Contains (accesses_of g) a → Reaches g a.point s → verdict_at states a ≡ Unreachable → IsEvaluatedIn a.operation s → ⊥
   unreachable law a s has h is = (law g o p x.order x.flow most x.outcome analysed a s has h).unreachable (sym (verdict_is a (there g a.point s made h)) ∙ is)
+
+  bounded : BoundsHold → (a : AccessOf) (lo hi : ℤ) → Contains (accesses_of g) a → verdict_at states a ≡ Unknown lo hi → IsDecidedWithin g a.point a.operation lo hi
+  bounded law a lo hi has is =
+      let at = All-contains (λ (b : AccessOf). b.point < length g.points) (accesses_of g) a (points_are_there g made) has in
+      law g o p x.order x.flow most x.outcome analysed a lo hi has (sym (verdict_is a at) ∙ is)
 
   unknown_is : (v : ℕ) (a : AccessOf) → v < length g.points → IsUnknownAt x.flow x.outcome v a → IsUnknownIn states v a
   unknown_is v a l (lo, hi, is) = (lo, hi, ap (λ (t : Stated). verdict_of t.layout t.facts a.operation) (state_is v l) ∙ is)
@@ -85,10 +95,12 @@ module _ (g : GraphOf) (o : Options) (most : ℕ) (p : PlanView) (states : List 
       by (inl (a, f, u)) = inl (a, f, unknown_is v a (there g v s made h) u)
       by (inr hidden) = inr hidden
 
-pub reports_true : ResultHoldsRuns → VerdictsHold → FaultsAreUnknown → ReportsAreTrue
-reports_true runs verdicts unknowns g o most p states made few x = record {
+pub reports_true : ResultHoldsRuns → VerdictsHold → BoundsHold → FaultsAreUnknown → ReportsAreTrue
+reports_true runs verdicts bounds unknowns g o most p states made few x = record {
+  stores = stores g o most p states made few x runs;
   holds = holds g o most p states made few x runs;
   safe = safe g o most p states made few x verdicts;
   unreachable = unreachable g o most p states made few x verdicts;
+  bounds = bounded g o most p states made few x bounds;
   faults = faults g o most p states made few x unknowns;
 }

@@ -3,7 +3,8 @@ use Rattle.std.specs.Prelude.{◌≡◌, ℕ, ◌<◌, ◌^◌, ℤ, pos, ◌+�
 use Rattle.std.specs.List.{AllZip}
 use Rattle.pk_graph.specs.declared.verdicts.Verdict.TheVariants.{Unknown}
 use Rattle.pk_graph.specs.Accesses.{AccessOf, accesses_of, fault_of}
-use Rattle.pk_graph.specs.Graphs.{EdgeOf, GraphOf, point_at}
+use Rattle.pk_graph.specs.Graphs.{EdgeOf, GraphOf, point_at, kinds_of}
+use Rattle.pk_graph.specs.Kinds.{count_at}
 use Rattle.pk_graph.specs.Steps.{Failure}
 use Rattle.pk_value.specs.Known.{IsOf}
 use Rattle.pk_octmat.specs.Bounds.{AtMost}
@@ -16,18 +17,21 @@ use Rattle.pk_report.specs.Values.{name_of, bounds_of}
 use Rattle.pk_report.specs.Reports.{state_at}
 use Rattle.pk_graph_report.specs.Reported.{verdict_at}
 use Rattle.pk_solver.specs.Solved.{AreStates}
+use Rattle.pk_sound.specs.Bounds.{IsDecidedWithin}
 use Rattle.pk_meaning.specs.Programs.{Program}
 use Rattle.pk_meaning.specs.Runs.{Known, Visit}
 use Rattle.pk_visits.specs.GraphVisits.{is_visit}
 use Rattle.pk_visits.specs.SameVisits.{ProgramVisits, HaveSameVisits}
+use Rattle.pk_visits.specs.NeverStuck.{IsNeverStuck}
 use Rattle.pk_report_laws.specs.Runs.True.{AreTrueOf}
 use Rattle.pk_text_graph.specs.Graphs.{HasGraph}
 
 -- ---- visits
 
--- What a visit knows of a name is what the line of its variable tells, `NAME [lo,hi] mZ+r`: each number lies in the range and in the class.
+-- What a visit knows of a name is what the line of its variable tells, `NAME [lo,hi] mZ+r`: as many numbers as the variable has, one of a scalar and those of an array's elements, each of which lies in the range and in the class.
 pub record IsKnownAs (g : GraphOf) (f : Facts) (variable : ℕ) (k : Known) : Type 0 where
   pub name : name_of g variable ≡ k.name
+  pub count : length k.numbers ≡ count_at (kinds_of g) variable
   pub numbers : All (IsOf (known_at f.values variable)) k.numbers
 
 -- name i of a visit of the point is that of variable k of the octagon, and holds z
@@ -84,7 +88,7 @@ pub record AreToldInOrder (g : GraphOf) (states : List Stated) (visits : List Vi
 
 -- ---- faults
 
--- A fault has a line, `access PATH L:C KIND unknown [lo,hi]`: an access of the graph with its calls, its place and its kind, whose verdict is unknown.
+-- A fault has a line, `access PATH L:C KIND unknown [lo,hi]`: an access of the graph with its calls, its place and its kind, whose verdict is unknown; what decides it lies between the bounds.
 pub record IsToldFault (g : GraphOf) (states : List Stated) (f : Failure) : Type 0 where
   pub access : AccessOf
   pub listed : Contains (accesses_of g) access
@@ -93,6 +97,7 @@ pub record IsToldFault (g : GraphOf) (states : List Stated) (f : Failure) : Type
   pub lo : ℤ
   pub hi : ℤ
   pub unknown : verdict_at states access ≡ Unknown lo hi
+  pub bounds : IsDecidedWithin g access.point access.operation lo hi
 
 abbrev pub IsToldEnd : GraphOf → List Stated → Option Failure → Type 0
 IsToldEnd g states None = Unit {0}
@@ -100,10 +105,11 @@ IsToldEnd g states (Some f) = IsToldFault g states f
 
 -- ---- runs
 
--- The program and its graph have the same visits, and no run of the graph leaves what is told of the points that it comes to.
+-- The program and its graph have the same visits, no run of the program is stuck, and no run of the graph leaves what is told of the points that it comes to.
 -- So each visit of each run is told, and the fault at its end if there is one. Several points can have one place: the walk along the graph's edges tells which of them a visit is at.
 pub record IsTrueOfProgram (p : Program) (g : GraphOf) (states : List Stated) : Type 0 where
   pub runs : HaveSameVisits p g
+  pub goes_on : IsNeverStuck p
   pub points : AreTrueOf g states
   pub walks : (visits : List Visit) (end : Option Failure) → ProgramVisits p visits end → AreToldInOrder g states visits
   pub visits : (visits : List Visit) (end : Option Failure) → ProgramVisits p visits end →

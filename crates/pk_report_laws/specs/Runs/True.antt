@@ -2,9 +2,9 @@
 use Rattle.std.specs.Prelude.{◌≡◌, ◌⊎◌, ℕ, ℤ, ◌<◌, ◌^◌, List, Contains}
 use Rattle.pk_graph.specs.declared.verdicts.Verdict.TheVariants.{Safe, Unknown, Unreachable}
 use Rattle.pk_graph.specs.Accesses.{AccessOf, accesses_of}
-use Rattle.pk_graph.specs.Graphs.{EdgeOf, GraphOf, point_at}
+use Rattle.pk_graph.specs.Graphs.{EdgeOf, GraphOf, point_at, kinds_of}
 use Rattle.pk_graph.specs.Steps.{Numbers, Failure, Faulted, effect}
-use Rattle.pk_graph.specs.Stores.{Stored, storing}
+use Rattle.pk_graph.specs.Stores.{Stored, storing, IsStore}
 use Rattle.pk_graph.specs.WellMade.{IsGraph}
 use Rattle.pk_state.specs.Facts.{Stated}
 use Rattle.pk_plan.specs.Plans.{PlanView}
@@ -17,6 +17,7 @@ use Rattle.pk_solver.specs.Solved.{AreStates}
 use Rattle.pk_sound.specs.Runs.{Reaches}
 use Rattle.pk_sound.specs.Held.{Agrees}
 use Rattle.pk_sound.specs.Verdicts.{FaultsIn, IsEvaluatedIn}
+use Rattle.pk_sound.specs.Bounds.{IsDecidedWithin}
 use Rattle.pk_sound.specs.Faults.{IsHidden, IsFailing}
 use Rattle.pk_text_report.specs.Answers.{IsRun}
 
@@ -25,14 +26,17 @@ abbrev pub IsUnknownIn : List Stated → ℕ → AccessOf → Type 0
 IsUnknownIn states p a =
     (lo : ℤ) × (hi : ℤ) × (verdict_of (state_at states p).layout (state_at states p).facts a.operation ≡ Unknown lo hi)
 
--- Each store with which a run comes to a point agrees with the point's state. No run faults at an access whose verdict is safe, and none evaluates one that is unreachable.
+-- Each store with which a run comes to a point has the numbers of the graph's variables, and agrees with the point's state. No run faults at an access whose verdict is safe, and none evaluates one that is unreachable. What decides one that is unknown lies between its bounds.
 -- A run that faults does so at an access of its edge whose verdict is unknown, or at an index that is no access.
 pub record AreTrueOf (g : GraphOf) (states : List Stated) : Type 0 where
+  pub stores : (v : ℕ) (s : Stored) → Reaches g v s → IsStore (kinds_of g) s
   pub holds : (v : ℕ) (s : Stored) → Reaches g v s → Agrees (state_at states v).layout (state_at states v).facts s
   pub safe : (a : AccessOf) (s : Stored) → Contains (accesses_of g) a → Reaches g a.point s →
       verdict_at states a ≡ Safe → FaultsIn a.operation s → ⊥
   pub unreachable : (a : AccessOf) (s : Stored) → Contains (accesses_of g) a → Reaches g a.point s →
       verdict_at states a ≡ Unreachable → IsEvaluatedIn a.operation s → ⊥
+  pub bounds : (a : AccessOf) (lo hi : ℤ) → Contains (accesses_of g) a → verdict_at states a ≡ Unknown lo hi →
+      IsDecidedWithin g a.point a.operation lo hi
   pub faults : (p : ℕ) (s : Stored) (e : EdgeOf) (chosen : Numbers) (w : Failure) → Reaches g p s →
       Contains (point_at g p).edges e → effect storing chosen e.instr s ≡ Faulted w
       → ((a : AccessOf) × IsFailing p e.instr w s a × IsUnknownIn states p a) ⊎ IsHidden e.instr w.site s

@@ -1,5 +1,5 @@
 -- Small lemmas that several files use.
-use Rattle.std.proofs.Common.{◌≡◌, ℕ, zero, suc, ◌<◌, ◌≤◌, ◌⊎◌, inl, inr, List, [], ◌∷◌, length, Option, Some, Bool, true, false, ◌&&◌, nat_eq, refl, ap, subst, arith}
+use Rattle.std.proofs.Common.{◌≡◌, ℕ, zero, suc, ◌<◌, ◌≤◌, ◌⊎◌, inl, inr, List, [], ◌∷◌, length, Option, Some, true, nat_eq, refl, ap, subst, arith}
 use Rattle.std.proofs.lemmas.Bool.Decides.{eqb_tells}
 use Rattle.std.proofs.lemmas.Option.{none-some}
 use Rattle.std.specs.Prelude.{All, slice_get, unwrap_or}
@@ -7,10 +7,6 @@ use Rattle.std.specs.Prelude.{All, slice_get, unwrap_or}
 pub either_is : {A B : Type 0} → A ⊎ B → (A → ⊥) → B
 either_is (inl x) n = absurd (n x)
 either_is (inr y) n = y
-
-pub both_true : (a b : Bool) → (a && b) ≡ true → (a ≡ true) × (b ≡ true)
-both_true true b h = (refl, h)
-both_true false b h = absurd (cc h)
 
 pub number_is : (m n : ℕ) → nat_eq m n ≡ true → m ≡ n
 number_is m n h = elim (eqb_tells m n) [ inl e ↦ e.1 | inr e ↦ absurd (cc (e.0, h)) ]

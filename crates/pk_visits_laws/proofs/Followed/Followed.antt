@@ -13,9 +13,10 @@ use Rattle.pk_meaning.specs.Programs.{Program, function_of, first_objects}
 use Rattle.pk_meaning.specs.Steps.{Config, body_place}
 use Rattle.pk_meaning.specs.Runs.{Visit, with_arguments, begins, start}
 use Rattle.pk_visits.specs.SameVisits.{ProgramVisits, GraphVisits}
+use Rattle.pk_visits.specs.NeverStuck.{IsNeverStuck}
 use Rattle.pk_visits.proofs.Slots.{region_at}
 use Rattle.pk_visits.proofs.Stands.{Whole, ShowsAt, FitsObjects, BodyOf, BodiesStand, StandsAt}
-use Rattle.pk_visits.proofs.Journeys.{law}
+use Rattle.pk_visits.proofs.Journeys.{law, never_stuck}
 use Rattle.pk_visits.proofs.Numbered.Starts.{first_memory}
 use Rattle.pk_visits.proofs.Numbered.Visits.{IsFollowed, followed_visits}
 use Rattle.pk_visits_laws.proofs.Followed.Pairs.{AreTyped}
@@ -105,3 +106,8 @@ pub graph_visits : (u : UnitTree) (entry : ℕ) (paths : List CallPath) → IsUn
     → (visits : List Visit) (end : Option Failure) → ProgramVisits (program_of u paths) visits end → GraphVisits (graph_of u paths) visits end
 graph_visits u entry paths unit l h b visits end v =
     followed_visits (naming u paths) (Made u paths) (map (path_of u paths) paths) (graph u paths) (by_numbers u paths) (is_followed u entry paths unit l h b) visits end v
+
+pub unit_never_stuck : (u : UnitTree) (entry : ℕ) (paths : List CallPath) → IsUnit u → IsListing u entry paths → AreTyped u paths → Stand u paths → IsNeverStuck (program_of u paths)
+unit_never_stuck u entry paths unit l h b choice first last visits chosen starts runs is =
+    let f = is_followed u entry paths unit l h b in
+    never_stuck (graph u paths) f.law entry_point (first_memory first.objects) first last visits chosen runs (f.stands choice first starts) is

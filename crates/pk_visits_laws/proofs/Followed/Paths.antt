@@ -14,7 +14,8 @@ use Rattle.pk_lower_laws.proofs.Drafts.Plans.{World, PathIs, its_body}
 use Rattle.pk_lower_laws.proofs.Drafts.Wholes.{Paths}
 use Rattle.pk_meaning.specs.Programs.{is_by, number_by, callee, function_number, function_of, block_of}
 use Rattle.pk_visits.proofs.Slots.{Among}
-use Rattle.pk_visits_laws.proofs.Followed.Basics.{both_true, number_is}
+use Rattle.pk_ctypes.proofs.Small.{both_true}
+use Rattle.pk_visits_laws.proofs.Followed.Basics.{number_is}
 use Rattle.pk_typed.specs.Defaults.{no_body, no_function}
 use Rattle.pk_lower_laws.proofs.Drafts.Listings.{by_many}
 

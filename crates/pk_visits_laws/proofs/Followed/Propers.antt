@@ -24,7 +24,8 @@ use Rattle.pk_lower_laws.proofs.Drafts.Plans.{its_parameters}
 use Rattle.pk_lower_laws.proofs.Drafts.Each.{PartOf}
 use Rattle.pk_visits.proofs.Slots.{own, Among, Draft}
 use Rattle.pk_visits.proofs.Stands.{Proper, HasKind}
-use Rattle.pk_visits_laws.proofs.Followed.Basics.{both_true, number_is, some_at}
+use Rattle.pk_ctypes.proofs.Small.{both_true}
+use Rattle.pk_visits_laws.proofs.Followed.Basics.{number_is, some_at}
 use Rattle.pk_visits_laws.proofs.Followed.Paths.{first_of, call_is, callee_is, function_is}
 use Rattle.pk_visits_laws.proofs.Followed.Pairs.{whole, final, ends_of, IsLocal, locals_at, world, function_at_path, AreTyped}
 use Rattle.pk_visits_laws.proofs.Followed.Naming.{naming, Made}

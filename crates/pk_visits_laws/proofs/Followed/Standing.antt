@@ -16,6 +16,7 @@ use Rattle.pk_welltyped.specs.Marks.{IsMarked, IsMarkedIf, AreMarked}
 use Rattle.pk_meaning.specs.Programs.{block_of, body_scope}
 use Rattle.pk_meaning.specs.Steps.{place, body_place}
 use Rattle.pk_visits.specs.SameVisits.{ProgramsAreFollowed}
+use Rattle.pk_visits.specs.NeverStuck.{ProgramsAreNeverStuck}
 use Rattle.pk_visits.proofs.Slots.{region_at}
 use Rattle.pk_visits.proofs.Stands.{ShowsAt}
 use Rattle.pk_visits_laws.proofs.Followed.Paths.{firsts_from, block_is}
@@ -31,7 +32,7 @@ use Rattle.pk_visits_laws.proofs.Followed.EntryPoint.{entry_label}
 use Rattle.pk_visits_laws.proofs.Followed.Begins.{body_shows, opened_position}
 use Rattle.pk_visits_laws.proofs.Followed.Basics.{all_get}
 use Rattle.pk_visits_laws.proofs.Followed.Starting.{first_path}
-use Rattle.pk_visits_laws.proofs.Followed.Followed.{Stand, graph_visits}
+use Rattle.pk_visits_laws.proofs.Followed.Followed.{Stand, graph_visits, unit_never_stuck}
 
 marked_body : (u : UnitTree) (paths : List CallPath) → AreMarked u → (k : ℕ) (q : PathAt (world u paths) slot_of (whole u paths) k) → IsMarked q.place.body
 marked_body u paths h k q = subst IsMarkedIf q.place.has (all_get (λ (f : FunctionTree). IsMarkedIf f.body) u.functions q.path.function q.place.function h q.place.there)
@@ -89,3 +90,11 @@ programs_are_followed law u name paths unit marked has few =
     let are = law.all u entry has.seen paths has.walks has.is_listing in
     let typed = pairs_are_typed u entry paths unit body has.is_listing are in
     λ visits end v. graph_visits u entry paths unit has.is_listing typed (unit_stands u entry paths unit marked body has.is_listing are typed) visits end v
+
+pub programs_are_never_stuck : PathsAreAll → ProgramsAreNeverStuck
+programs_are_never_stuck law u name paths unit marked has few =
+    let entry = has.entry in
+    let body = has.is_entry.0.0 in
+    let are = law.all u entry has.seen paths has.walks has.is_listing in
+    let typed = pairs_are_typed u entry paths unit body has.is_listing are in
+    unit_never_stuck u entry paths unit has.is_listing typed (unit_stands u entry paths unit marked body has.is_listing are typed)

@@ -18,3 +18,4 @@ returns c = λ text entry g h o most p states few are.
     true_of g states (program_of h) made (c.reports_are_true.ensures g o most p states made few are)
     (subst (λ (x : GraphOf). (v : ℕ) → SharesAccesses v (point_at x v).edges) (sym h.graph) (c.points_share_accesses.ensures h.unit entry h.paths unit marked h.called.called.0 h.few))
     (subst (λ (x : GraphOf). HaveSameVisits (program_of h) x) (sym h.graph) both)
+    (c.programs_are_never_stuck.ensures h.unit entry h.paths unit marked h.called.called.0 h.few)

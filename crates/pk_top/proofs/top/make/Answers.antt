@@ -1,8 +1,9 @@
+use Rattle.std.proofs.lemmas.Result.{IfOk-weaker}
 use Rattle.std.proofs.Common.{map, string_bytes, ℕ, List, sym, subst, ◌∙◌}
 use Rattle.pk_text_report.specs.Answers.{IsShort}
 use Rattle.pk_top.specs.Headline.{IsUntold}
 use Rattle.pk_text_report.proofs.Answering.{not_taken}
-use Rattle.pk_top.proofs.Replies.{handed_on, if_ok, if_err, told_so, textless_so, stopped_so, no_source}
+use Rattle.pk_top.proofs.Replies.{handed_on, if_err, told_so, textless_so, stopped_so, no_source}
 use Rattle.pk_top.proofs.Truthful.{told_if_ok}
 use Rattle.pk_top.proofs.top.make.Goals as goal
 
@@ -19,7 +20,7 @@ returns-in_err-text-clause-unread g c = λ none. c.in_err-text.ensures.unread (n
 
 pub returns-clause-made : goal.returns-clause-made
 returns-clause-made g c = λ text about.
-    if_ok c.told.result (λ made told. told_so (map string_bytes c.args.words.now) (g.S.Source.left c.args.src.now) c.in_ok-command.command c.deref.result.now made.1 made.0.items c.in_ok-command.ensures.asked
+    IfOk-weaker c.told.result _ _ (λ made told. told_so (map string_bytes c.args.words.now) (g.S.Source.left c.args.src.now) c.in_ok-command.command c.deref.result.now made.1 made.0.items c.in_ok-command.ensures.asked
     (λ t e. c.deref.ensures.value ∙ c.in_ok-text.ensures.text t e) (subst (λ (bytes : List ℕ). IsShort bytes c.in_ok-command.command) (sym c.deref.ensures.value) c.in_ok-text.ensures.short) told text about) c.told.ensures.told
 
 pub returns-clause-untold : goal.returns-clause-untold
