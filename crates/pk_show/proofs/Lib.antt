@@ -1,3 +1,3 @@
-mod PieceLemmas
+pub mod PieceLemmas
 mod AccessLemmas
 mod ToldLemmas

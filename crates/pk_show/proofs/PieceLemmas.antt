@@ -1,5 +1,5 @@
 -- Each piece is read back from its text, and only from it.
-use Rattle.std.proofs.Common.{Bor, map, ◌≡◌, ℕ, suc, ◌+◌, ◌<◌, ◌≤◌, ◌^◌, ◌==◌, List, [], ◌∷◌, ◌++◌, length, take, drop, refl, sym, ap, ◌∙◌, cond, Bool, true, false, not, ◌&&◌, arith, Option, Some, None, nat_lt, nat_eq, take-append-drop, append_assoc, lit≤}
+use Rattle.std.proofs.Common.{◌≡◌, ℕ, suc, ◌+◌, ◌<◌, ◌≤◌, ◌^◌, ◌==◌, List, [], ◌∷◌, ◌++◌, length, take, drop, refl, sym, ap, ◌∙◌, cond, Bool, true, false, not, ◌&&◌, arith, Option, Some, None, nat_lt, nat_eq, take-append-drop, append_assoc, lit≤}
 use Rattle.std.specs.Prelude.{ℤ, pos, negsuc, codes}
 use Rattle.std.specs.List.{prefix_len}
 use Rattle.std.specs.Fmt.{decimal, signed_decimal}
@@ -138,16 +138,3 @@ too_great number n r e f small great =
 
 pub place_onto : (at : Pos) (rest : List ℕ) → pos_text at ++ rest ≡ decimal at.line ++ (codes ":" ++ (decimal at.column ++ rest))
 place_onto at rest = append_assoc (decimal at.line ++ codes ":") (decimal at.column) rest ∙ append_assoc (decimal at.line) (codes ":") (decimal at.column ++ rest)
-
--- ---- what is written piece by piece
-
--- the lines behind references
-abbrev pub shown : List (Bor (List ℕ)) → List (List ℕ)
-shown lines = map (λ (line : Bor (List ℕ)). line.now) lines
-
-pub five_pieces : (a b c d e n n1 n2 n3 n4 n5 : List ℕ) → n1 ≡ n ++ a → n2 ≡ n1 ++ b → n3 ≡ n2 ++ c → n4 ≡ n3 ++ d → n5 ≡ n4 ++ e →
-    n5 ≡ n ++ (a ++ (b ++ (c ++ (d ++ e))))
-five_pieces a b c d e n n1 n2 n3 n4 n5 e1 e2 e3 e4 e5 =
-    e5
-    ∙ ap (λ (l : List ℕ). l ++ e) (e4 ∙ ap (λ (l : List ℕ). l ++ d) (e3 ∙ ap (λ (l : List ℕ). l ++ c) (e2 ∙ ap (λ (l : List ℕ). l ++ b) e1)))
-    ∙ simp append_assoc

@@ -23,6 +23,12 @@ path_text p = p.entry ++ flat_map call_text p.calls
 
 -- ---- as they are read
 
+-- the place that a text is
+unfoldable pub place_from : List ℕ → Option Pos
+place_from text = do
+  l ← cut (codes ":") text
+  place_in l.0 l.1
+
 abbrev pub called : List ℕ → Pos → CallOf
 called name at = record { name = name; at = at }
 

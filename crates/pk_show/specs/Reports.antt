@@ -144,7 +144,8 @@ next_in before line = row_in line >>= (λ r. if_true (fits before r) r)
 
 abbrev pub rows_in : List (List ℕ) → (before : Option Kind) → Option (List Row)
 rows_in [] before = if_true (is_end before) []
-rows_in (line ∷ lines) before = next_in before line >>= (λ r. option_map (λ rows. r ∷ rows) (rows_in lines (Some (kind_of r))))
+rows_in (line ∷ lines) before =
+    next_in before line >>= (λ r. option_map (λ rows. r ∷ rows) (rows_in lines (Some (kind_of r))))
 
 abbrev pub without_end : List ℕ → List ℕ
 without_end text = take (length text - 1) text

@@ -9,6 +9,7 @@ mod report;
 mod rows;
 
 pub use laws::accesses_are_read;
-pub use paths::{Call, Path, read_path};
+pub use paths::{Call, Path, read_path, read_place};
+pub use pieces::strip;
 pub use report::{ReadError, Row, read};
 pub use rows::{Access, Bound, Counts, Form, Heading, Known, Opening, Value, Verdict};

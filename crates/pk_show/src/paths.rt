@@ -2,7 +2,7 @@
 
 ghost use Rattle.std.specs.Prelude.{◌≡◌, IfOk, map};
 ghost use Rattle.std.specs.Option.{option_map};
-ghost use Rattle.pk_show.specs.Paths.{call_in, calls_in, path_in, parts_of, whole_in};
+ghost use Rattle.pk_show.specs.Paths.{place_from, call_in, calls_in, path_in, parts_of, whole_in};
 
 use crate::pieces::{cut, is_name, place};
 use pk_ctypes::Pos;
@@ -22,6 +22,15 @@ impl<'t> Model for Call<'t> {
     ghost Value = { CallOf };
 
     ghost view = { λ c. record { name = c.name.now; at = c.at } };
+}
+
+/// The place that a text is.
+#[tactic(auto, unfolding(crate::specs::Paths::place_from))]
+pub fn read_place(text: &[u8]) -> Option<Pos>
+    ensures { result ≡ place_from text.now }
+{
+    let (line, column) = cut(text, b":")?;
+    place(line, column)
 }
 
 /// The call that a part of a path is.

@@ -18,7 +18,7 @@ pub(crate) fn is_same(text: &[u8], other: &[u8]) -> bool
 
 /// What stands behind a literal that a text begins with.
 #[tactic(auto, unfolding(crate::specs::Pieces::strip))]
-pub(crate) fn strip<'t>(text: &'t [u8], literal: &[u8]) -> Option<&'t [u8]>
+pub fn strip<'t>(text: &'t [u8], literal: &[u8]) -> Option<&'t [u8]>
     ensures { MatchOption result (strip literal.now text.now ≡ None)
         (λ rest. strip literal.now text.now ≡ Some rest.now) }
 {

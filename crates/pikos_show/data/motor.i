@@ -1,0 +1,3 @@
+# 1 "motor.h" 1
+
+struct phase { int at; };

@@ -1,0 +1,309 @@
+// Findings as a compiler writes its warnings.
+
+ghost use Rattle.std.specs.Prelude.{◌≡◌, ◌++◌, IfOk, OnOk};
+ghost use Rattle.pk_ctypes.specs.Words.{fault_text};
+ghost use Rattle.pk_findings.specs.Words.{is_unknown};
+ghost use Rattle.pk_listing.specs.Listing.{way_range, way_line, way_text, ways_text, unknown_ways, said_end, said_text, finding_at, finding_with, finding_by, finding_text, unreachable_text, counts_text, summary_line, findings_text, shown_text, listing_text, refusal_by, refusal_text, refusals_text};
+ghost use Rattle.pk_listing.specs.Places.{line_of};
+
+use crate::places::{write, write_count, write_excerpt, write_path, write_place};
+use pk_ctypes::{Fault, Pos};
+use pk_findings::{
+    Operation, Refused, Shown, Text, Way, counts_of, verdict_of, write_message, write_range,
+};
+use pk_show::{Counts, Path, Verdict};
+use std::alloc::{AllocError, Global};
+
+fn write_way_range(
+    bytes: &mut Vec<u8>,
+    is_one_of_many: bool,
+    lo: i128,
+    hi: i128,
+) -> Result<(), AllocError>
+    ensures { OnOk result (bytes.new.items ≡ bytes.old.items ++ way_range is_one_of_many lo hi) }
+{
+    if is_one_of_many {
+        write(bytes, b": ")?;
+        write_range(bytes, lo, hi)
+    } else {
+        Ok(())
+    }
+}
+
+#[tactic(auto, unfolding(crate::specs::Listing::way_line))]
+fn write_way_line(
+    alloc: Global,
+    bytes: &mut Vec<u8>,
+    text: &Text<'_>,
+    is_one_of_many: bool,
+    path: &Path<'_>,
+    lo: i128,
+    hi: i128,
+) -> Result<(), AllocError>
+    ensures { OnOk result (
+        bytes.new.items ≡ bytes.old.items ++ way_line text.now is_one_of_many path.now lo hi) }
+{
+    write_path(alloc, bytes, text, path)?;
+    write_way_range(bytes, is_one_of_many, lo, hi)?;
+    write(bytes, b"\n")
+}
+
+fn write_way(
+    alloc: Global,
+    bytes: &mut Vec<u8>,
+    text: &Text<'_>,
+    is_one_of_many: bool,
+    way: &Way<'_>,
+) -> Result<(), AllocError>
+    ensures { OnOk result (
+        bytes.new.items ≡ bytes.old.items ++ way_text text.now is_one_of_many way.now.path way.now.verdict) }
+{
+    match way.verdict {
+        Verdict::Safe => Ok(()),
+        Verdict::Unknown(lo, hi) => {
+            write_way_line(alloc, bytes, text, is_one_of_many, &way.path, lo, hi)
+        }
+        Verdict::Unreachable => Ok(()),
+    }
+}
+
+fn write_ways(
+    alloc: Global,
+    bytes: &mut Vec<u8>,
+    text: &Text<'_>,
+    is_one_of_many: bool,
+    ways: &[Way<'_>],
+) -> Result<(), AllocError>
+    ensures { OnOk result (bytes.new.items ≡ bytes.old.items ++ ways_text text.now is_one_of_many ways.now) }
+{
+    for k in 0..ways.len() {
+        write_way(alloc, bytes, text, is_one_of_many, &ways[k])?;
+    }
+    Ok(())
+}
+
+fn is_unknown(way: &Way<'_>) -> bool
+    ensures { result ≡ is_unknown way.now.verdict }
+{
+    matches!(way.verdict, Verdict::Unknown(_, _))
+}
+
+fn unknown_ways(ways: &[Way<'_>]) -> usize
+    ensures { result ≡ unknown_ways ways.now }
+{
+    ways.iter().filter(|way| is_unknown(way)).count()
+}
+
+fn write_fault(alloc: Global, bytes: &mut Vec<u8>, fault: Fault) -> Result<(), AllocError>
+    ensures { OnOk result (bytes.new.items ≡ bytes.old.items ++ fault_text fault) }
+{
+    let text = format!(in alloc; "{fault}")?;
+    write(bytes, text.as_bytes())
+}
+
+fn write_said_end(bytes: &mut Vec<u8>, fault: Fault, lo: i128, hi: i128) -> Result<(), AllocError>
+    ensures { OnOk result (bytes.new.items ≡ bytes.old.items ++ said_end fault lo hi) }
+{
+    write_message(bytes, fault, lo, hi)?;
+    write(bytes, b"\n")
+}
+
+#[tactic(auto, unfolding(crate::specs::Listing::said_text))]
+fn write_said(
+    alloc: Global,
+    bytes: &mut Vec<u8>,
+    fault: Fault,
+    lo: i128,
+    hi: i128,
+) -> Result<(), AllocError>
+    ensures { OnOk result (bytes.new.items ≡ bytes.old.items ++ said_text fault lo hi) }
+{
+    write(bytes, b": unknown [")?;
+    write_fault(alloc, bytes, fault)?;
+    write(bytes, b"]: ")?;
+    write_said_end(bytes, fault, lo, hi)
+}
+
+#[tactic(auto, using(std::proofs::lemmas::List::get_or_past))]
+fn line_of<'t>(text: &Text<'t>, at: Pos) -> &'t [u8]
+    ensures { result.now ≡ line_of text.now at }
+{
+    let k = at.line.saturating_sub(1) as usize;
+    if k < text.lines.len() {
+        text.lines[k]
+    } else {
+        b""
+    }
+}
+
+#[tactic(auto, unfolding(crate::specs::Listing::finding_at))]
+fn write_finding_at(
+    alloc: Global,
+    bytes: &mut Vec<u8>,
+    text: &Text<'_>,
+    at: Pos,
+    fault: Fault,
+    ways: &[Way<'_>],
+    lo: i128,
+    hi: i128,
+) -> Result<(), AllocError>
+    ensures { OnOk result (bytes.new.items ≡ bytes.old.items ++ finding_at text.now at fault ways.now lo hi) }
+{
+    write_place(alloc, bytes, text, at)?;
+    write_said(alloc, bytes, fault, lo, hi)?;
+    write_excerpt(bytes, line_of(text, at), at.column)?;
+    let is_one_of_many = 1 < unknown_ways(ways);
+    write_ways(alloc, bytes, text, is_one_of_many, ways)
+}
+
+fn write_finding_with(
+    alloc: Global,
+    bytes: &mut Vec<u8>,
+    text: &Text<'_>,
+    operation: &Operation<'_>,
+    lo: i128,
+    hi: i128,
+) -> Result<(), AllocError>
+    ensures { OnOk result (bytes.new.items ≡ bytes.old.items ++ finding_with text.now operation.now lo hi) }
+{
+    write_finding_at(
+        alloc,
+        bytes,
+        text,
+        operation.at,
+        operation.fault,
+        &operation.ways,
+        lo,
+        hi,
+    )
+}
+
+fn write_finding(
+    alloc: Global,
+    bytes: &mut Vec<u8>,
+    text: &Text<'_>,
+    operation: &Operation<'_>,
+) -> Result<(), AllocError>
+    ensures { OnOk result (bytes.new.items ≡ bytes.old.items ++ finding_text text.now operation.now) }
+{
+    match verdict_of(operation) {
+        Verdict::Safe => Ok(()),
+        Verdict::Unknown(lo, hi) => write_finding_with(alloc, bytes, text, operation, lo, hi),
+        Verdict::Unreachable => Ok(()),
+    }
+}
+
+fn write_findings(
+    alloc: Global,
+    bytes: &mut Vec<u8>,
+    text: &Text<'_>,
+    operations: &[Operation<'_>],
+) -> Result<(), AllocError>
+    ensures { OnOk result (bytes.new.items ≡ bytes.old.items ++ findings_text text.now operations.now) }
+{
+    for k in 0..operations.len() {
+        write_finding(alloc, bytes, text, &operations[k])?;
+    }
+    Ok(())
+}
+
+fn write_unreachable(bytes: &mut Vec<u8>, count: u64) -> Result<(), AllocError>
+    ensures { OnOk result (bytes.new.items ≡ bytes.old.items ++ unreachable_text count) }
+{
+    write_count(bytes, count)?;
+    write(bytes, b" unreachable\n")
+}
+
+fn write_counts(bytes: &mut Vec<u8>, counts: Counts) -> Result<(), AllocError>
+    ensures { OnOk result (bytes.new.items ≡ bytes.old.items ++ counts_text counts) }
+{
+    write_count(bytes, counts.safe)?;
+    write(bytes, b" safe, ")?;
+    write_count(bytes, counts.unknown)?;
+    write(bytes, b" unknown, ")?;
+    write_unreachable(bytes, counts.unreachable)?;
+    Ok(())
+}
+
+fn write_summary(
+    bytes: &mut Vec<u8>,
+    name: &[u8],
+    operations: usize,
+    counts: Counts,
+) -> Result<(), AllocError>
+    ensures { OnOk result (bytes.new.items ≡ bytes.old.items ++ summary_line name.now operations counts) }
+{
+    write(bytes, name)?;
+    write(bytes, b": ")?;
+    write_count(bytes, operations as u64)?;
+    write(bytes, b" operations: ")?;
+    write_counts(bytes, counts)?;
+    Ok(())
+}
+
+fn write_shown(alloc: Global, bytes: &mut Vec<u8>, shown: &Shown<'_>) -> Result<(), AllocError>
+    ensures { OnOk result (bytes.new.items ≡ bytes.old.items ++ shown_text shown.now) }
+{
+    write_findings(alloc, bytes, &shown.text, &shown.operations)?;
+    write_summary(
+        bytes,
+        shown.text.name,
+        shown.operations.len(),
+        counts_of(&shown.operations),
+    )
+}
+
+/// The findings of some reports, one report after the other, each with its counts.
+pub fn listing(alloc: Global, shown: &[Shown<'_>]) -> Result<Vec<u8>, AllocError>
+    ensures { IfOk result (λ bytes. bytes.items ≡ listing_text shown.now) }
+{
+    let mut bytes = Vec::new(alloc);
+    for k in 0..shown.len() {
+        write_shown(alloc, &mut bytes, &shown[k])?;
+    }
+    Ok(bytes)
+}
+
+fn write_refusal_at(
+    alloc: Global,
+    bytes: &mut Vec<u8>,
+    refused: &Refused<'_>,
+    at: Pos,
+) -> Result<(), AllocError>
+    ensures { OnOk result (bytes.new.items ≡ bytes.old.items ++ refusal_by refused.now (Some at)) }
+{
+    write_place(alloc, bytes, &refused.text, at)?;
+    write(bytes, b": ")?;
+    write(bytes, refused.said)?;
+    write(bytes, b"\n")?;
+    write_excerpt(bytes, line_of(&refused.text, at), at.column)
+}
+
+fn write_refusal(
+    alloc: Global,
+    bytes: &mut Vec<u8>,
+    refused: &Refused<'_>,
+) -> Result<(), AllocError>
+    ensures { OnOk result (bytes.new.items ≡ bytes.old.items ++ refusal_text refused.now) }
+{
+    match refused.at {
+        Some(at) => write_refusal_at(alloc, bytes, refused, at),
+        None => {
+            write(bytes, refused.text.name)?;
+            write(bytes, b": ")?;
+            write(bytes, refused.said)?;
+            write(bytes, b"\n")
+        }
+    }
+}
+
+/// What was said of texts that have no report, each at its place.
+pub fn refusals(alloc: Global, refused: &[Refused<'_>]) -> Result<Vec<u8>, AllocError>
+    ensures { IfOk result (λ bytes. bytes.items ≡ refusals_text refused.now) }
+{
+    let mut bytes = Vec::new(alloc);
+    for k in 0..refused.len() {
+        write_refusal(alloc, &mut bytes, &refused[k])?;
+    }
+    Ok(bytes)
+}

@@ -1,0 +1,4 @@
+mod TableLemmas
+mod LineLemmas
+mod StandLemmas
+mod PieceLemmas

@@ -1,0 +1,11 @@
+use Rattle.std.proofs.Common.{◌≡◌, ◌++◌, drop}
+use Rattle.std.specs.List.{flat_map}
+use Rattle.pk_html.specs.Parts.{parts_text}
+use Rattle.pk_page.specs.Loops.{fact_parts}
+use Rattle.pk_page.proofs.loops.write_facts.Given as goal
+
+-- what is written so far stands before what is left
+abbrev pub invariant-loop-k : goal.invariant-loop-k
+invariant-loop-k l =
+    l.bytes.items ++ parts_text (flat_map (fact_parts l.number l.text) (drop l.k l.rows)) ≡
+    l.initial.bytes.items ++ parts_text (flat_map (fact_parts l.number l.text) l.rows)

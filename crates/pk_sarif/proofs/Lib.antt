@@ -1,0 +1,3 @@
+mod FloatLemmas
+mod ListLemmas
+mod StepLemmas

@@ -1,0 +1,4 @@
+pub mod Objects
+pub mod Rules
+pub mod Results
+pub mod Logs

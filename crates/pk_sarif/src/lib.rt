@@ -1,0 +1,9 @@
+//! Writes what was found as a log of SARIF 2.1.0.
+#![tactic(auto)]
+
+mod logs;
+mod objects;
+mod results;
+mod rules;
+
+pub use logs::sarif;
