@@ -2,20 +2,27 @@
 //! file with what `pikos` answered.
 #![tactic(auto)]
 
-use pk_findings::{Refused, ShowError, Shown, is_finding, look, refusal};
+use pk_findings::{
+    Refused, ShowError, Shown, Text, file_of, is_finding, look, origin_at, refusal, verdict_of,
+};
 use pk_io::{ReadError, Sink, StdSink, StdSource, read_all, write_all};
-use pk_listing::{listing, refusals};
+use pk_listing::{Source, listing, refusals};
+use pk_origin::{Origin, lines};
 use pk_page::page;
 use pk_sarif::sarif;
+use pk_show::Verdict;
 use std::alloc::{AllocError, AllocFailed, Global};
 use std::env::Env;
 use std::fs::Files;
 use std::io::ErrorKind;
 use std::process::ExitCode;
-use std::{env, fmt, fs};
+use std::{env, fmt, fs, str};
 
 /// The greatest number of bytes of a text or of an answer.
 const INPUT_LIMIT: usize = 1073741823;
+
+/// The greatest number of bytes of a file whose lines are shown.
+const SOURCE_LIMIT: usize = 67108864;
 
 /// Why the program shows nothing.
 #[derive(Clone, Copy)]
@@ -125,6 +132,14 @@ fn chosen(words: &[String]) -> Result<(Format, &[String]), Stop> {
     }
 }
 
+// Whether what holds at the heads of loops is asked for, and the words behind that.
+fn asked(words: &[String]) -> (bool, &[String]) {
+    match words {
+        [option, rest @ ..] if option.as_str() == "--invariants" => (true, rest),
+        _ => (false, words),
+    }
+}
+
 // All bytes of a file.
 fn file(rt: &(impl Files + AllocGlobal), name: &str) -> Result<Vec<u8>, Stop> {
     let Ok(file) = fs::open(rt, name) else {
@@ -188,9 +203,121 @@ fn shown_of<'t>(alloc: Global, number: usize, input: &'t Input) -> Result<Shown<
     }
 }
 
-fn formatted(alloc: Global, format: Format, seen: &Seen<'_>) -> Result<Vec<u8>, Stop> {
+/// A file that lines come from, with its bytes where it can be read.
+#[derive(Drop)]
+struct Content {
+    name: Vec<u8>,
+    bytes: Option<Vec<u8>>,
+}
+
+fn is_file(rt: &impl Files, name: &str) -> bool {
+    match rt.metadata(name) {
+        Ok(data) => data.is_file(),
+        Err(_) => false,
+    }
+}
+
+// The bytes of a file, where there is one and it can be read.
+fn source(rt: &(impl Files + AllocGlobal), name: &str) -> Result<Option<Vec<u8>>, Stop> {
+    if !is_file(rt, name) {
+        return Ok(None);
+    }
+    let Ok(file) = fs::open(rt, name) else {
+        return Ok(None);
+    };
+    match read_all(rt.alloc(), &mut StdSource::new(file), SOURCE_LIMIT) {
+        Ok(bytes) => Ok(Some(bytes)),
+        Err(ReadError::ReadFault) => Ok(None),
+        Err(ReadError::TooLong) => Ok(None),
+        Err(ReadError::Memory) => Err(Stop::Memory),
+    }
+}
+
+// The bytes of a file of this name, which may be no text.
+fn source_named(rt: &(impl Files + AllocGlobal), name: &[u8]) -> Result<Option<Vec<u8>>, Stop> {
+    match str::from_utf8(name) {
+        Ok(name) => source(rt, name),
+        Err(_) => Ok(None),
+    }
+}
+
+// The file that a line comes from, unless it is there already.
+fn add_file(
+    rt: &(impl Files + AllocGlobal),
+    files: &mut Vec<Content>,
+    text: &Text<'_>,
+    origin: Origin,
+) -> Result<(), Stop> {
+    let name = file_of(rt.alloc(), text, origin)?;
+    if files.iter().any(|f| f.name.as_slice() == name.as_slice()) {
+        return Ok(());
+    }
+    let bytes = source_named(rt, &name)?;
+    files.push(Content { name, bytes })?;
+    Ok(())
+}
+
+// The files that a text's findings, and what no run computes, come from.
+fn add_files(
+    rt: &(impl Files + AllocGlobal),
+    files: &mut Vec<Content>,
+    shown: &Shown<'_>,
+) -> Result<(), Stop> {
+    for k in 0..shown.operations.len() {
+        let operation = &shown.operations[k];
+        if !matches!(verdict_of(operation), Verdict::Safe) {
+            add_file(rt, files, &shown.text, origin_at(&shown.text, operation.at))?;
+        }
+    }
+    Ok(())
+}
+
+fn add_refused(
+    rt: &(impl Files + AllocGlobal),
+    files: &mut Vec<Content>,
+    refused: &Refused<'_>,
+) -> Result<(), Stop> {
+    match refused.at {
+        Some(at) => add_file(rt, files, &refused.text, origin_at(&refused.text, at)),
+        None => Ok(()),
+    }
+}
+
+fn files_of(rt: &(impl Files + AllocGlobal), seen: &Seen<'_>) -> Result<Vec<Content>, Stop> {
+    let mut files = Vec::new(rt.alloc());
+    for k in 0..seen.shown.len() {
+        add_files(rt, &mut files, &seen.shown[k])?;
+    }
+    for k in 0..seen.refused.len() {
+        add_refused(rt, &mut files, &seen.refused[k])?;
+    }
+    Ok(files)
+}
+
+fn sources_of<'t>(alloc: Global, files: &'t [Content]) -> Result<Vec<Source<'t>>, Stop> {
+    let mut sources = Vec::new(alloc);
+    for k in 0..files.len() {
+        let file = &files[k];
+        if let Some(bytes) = &file.bytes {
+            let lines = lines(alloc, bytes)?;
+            sources.push(Source {
+                name: &file.name,
+                lines,
+            })?;
+        }
+    }
+    Ok(sources)
+}
+
+fn formatted(
+    alloc: Global,
+    format: Format,
+    with_invariants: bool,
+    sources: &[Source<'_>],
+    seen: &Seen<'_>,
+) -> Result<Vec<u8>, Stop> {
     match format {
-        Format::Text => Ok(listing(alloc, &seen.shown)?),
+        Format::Text => Ok(listing(alloc, sources, with_invariants, &seen.shown)?),
         Format::Sarif => Ok(sarif(alloc, &seen.shown, &seen.refused)?),
         Format::Page => Ok(page(alloc, &seen.shown, &seen.refused)?),
     }
@@ -227,11 +354,14 @@ fn answer<K: Sink, L: Sink>(
     let alloc = rt.alloc();
     let words = words(rt)?;
     let (format, rest) = chosen(&words)?;
+    let (with_invariants, rest) = asked(rest);
     let inputs = inputs(rt, rest)?;
     let seen = see(alloc, &inputs)?;
-    let bytes = formatted(alloc, format, &seen)?;
+    let files = files_of(rt, &seen)?;
+    let sources = sources_of(alloc, &files)?;
+    let bytes = formatted(alloc, format, with_invariants, &sources, &seen)?;
     send(out, &bytes)?;
-    let refused = refusals(alloc, &seen.refused)?;
+    let refused = refusals(alloc, &sources, &seen.refused)?;
     send(aside, &refused)?;
     Ok(status(&seen))
 }

@@ -67,7 +67,7 @@ flow_sync a =
                 search (as_row_sync, crosses, sendable) depth 8,
                 (
                   search (as_row_sync, state.the_sync, sendable) depth 8,
-                  (search (as_row_sync, sendable), tt),
+                  (search (as_row_sync, sendable), (search (as_row_sync, sendable), tt)),
                 ),
               ),
             ),

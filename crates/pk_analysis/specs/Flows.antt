@@ -31,12 +31,13 @@ start_at g l v = if v == 0 then Some (start_facts g l) else None
 abbrev pub equation : GraphOf → Layout → ℕ → List (Option Facts) → Option Facts
 equation g l v before = arrived g l (arrows_at g v) before (start_at g l v)
 
--- what is analysed: a graph, over which variables, at which numbers widening stops, which elements are heads and exits, and how many runs narrow
+-- what is analysed: a graph, over which variables, at which numbers widening stops, which elements are heads and exits, how many runs of a head join before the first widening, and how many narrow
 pub record Flow : Type 0 where
   pub graph : Graph
   pub layout : Layout
   pub thresholds : List ℤ
   pub parts : List Part
+  pub delay : ℕ
   pub narrow : ℕ
 
 abbrev pub stated : Layout → Option Facts → Stated
@@ -45,6 +46,7 @@ stated l f = record { layout = l; facts = f }
 abbrev pub state_operations : Layout → List ℤ → Operations Stated
 state_operations l thresholds = record {
   leq = λ n h. is_below n.facts h.facts;
+  join = λ h n. stated l (joined h.facts n.facts);
   widen = λ h n. stated l (widened l thresholds h.facts n.facts);
   narrow = λ h n. stated l (narrowed l h.facts n.facts);
   same = λ a b. is_same a.facts b.facts;
@@ -57,6 +59,7 @@ equations_of a = record {
   part = part_at a.parts;
   sources = λ v. origins (arrows_at (graph_view a.graph) v);
   value = λ v before. stated a.layout (equation (graph_view a.graph) a.layout v (map (λ (s : Stated). s.facts) before));
+  delay = a.delay;
   narrow = a.narrow;
 }
 

@@ -2,7 +2,7 @@
 use Rattle.std.proofs.Common.{ℕ, refl}
 use Rattle.pk_state.specs.Facts.{Stated}
 use Rattle.pk_phases.specs.declared.phases.Phase.{Phase}
-use Rattle.pk_phases.specs.declared.phases.Phase.TheVariants.{Up, Down, Last}
+use Rattle.pk_phases.specs.declared.phases.Phase.TheVariants.{Delay, Up, Down, Last}
 use Rattle.pk_phases.specs.Values.{next_value}
 use Rattle.pk_phases.specs.Equations.{KeepHeld}
 use Rattle.pk_analysis.specs.Flows.{Flow, equations_of, IsOverFlow}
@@ -16,6 +16,7 @@ flow_keeps a = record {
   where
     next : (e : ℕ) (phase : Phase) (h n : Stated) → IsOverFlow a e h → IsOverFlow a e n →
         IsOverFlow a e (next_value (equations_of a).ops phase h n)
+    next e (Delay k) h n i j = refl
     next e Up h n i j = refl
     next e (Down k) h n i j = refl
     next e Last h n i j = refl

@@ -15,4 +15,5 @@ pub record IsAnalysisOf (g : GraphOf) (p : PlanView) (o : Options) (a : Flow) : 
   pub layout : a.layout ≡ layout_of g o.oct
   pub thresholds : AreThresholds g a.thresholds
   pub parts : AreParts p a.parts
+  pub delay : a.delay ≡ o.delay
   pub narrow : a.narrow ≡ o.narrow

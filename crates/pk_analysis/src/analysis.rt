@@ -21,9 +21,10 @@ use std::alloc::{AllocError, Global};
 use std::marker::Model;
 use std::sync::Arc;
 
-/// How often a component is narrowed, and over how many variables the octagon is at most.
+/// How often a component's head joins before it widens, how often it is narrowed, and over how many variables the octagon is at most.
 #[derive(Clone, Copy)]
 pub struct Options {
+    pub delay: u32,
     pub narrow: u32,
     pub oct: usize,
 }
@@ -76,6 +77,7 @@ impl<'g> Analysis<'g> {
                     arrows,
                     reads,
                     start,
+                    delay: options.delay,
                     narrow: options.narrow,
                 },
             },

@@ -29,6 +29,7 @@ pub struct Flow<'g> {
     pub(crate) arrows: Vec<Vec<Arrow>>,
     pub(crate) reads: Vec<Vec<u32>>,
     pub(crate) start: State,
+    pub(crate) delay: u32,
     pub(crate) narrow: u32,
 }
 
@@ -50,6 +51,7 @@ impl<'g> Model for Flow<'g> {
       layout = arc_value f.frame;
       thresholds = f.thresholds.items;
       parts = f.parts.items;
+      delay = f.delay;
       narrow = f.narrow;
     } };
 
@@ -166,6 +168,10 @@ impl<'g> Equate for Flow<'g> {
         self.reads[e as usize].as_slice()
     }
 
+    fn delay(&self) -> u32 {
+        self.delay
+    }
+
     fn narrow(&self) -> u32 {
         self.narrow
     }
@@ -196,6 +202,10 @@ impl<'g> Equate for Flow<'g> {
 
     fn same(&self, a: &State, b: &State) -> bool {
         a.equals(b)
+    }
+
+    fn joined(&self, alloc: Global, old: &State, new: &State) -> Result<State, AllocError> {
+        old.join(alloc, new)
     }
 
     fn widen(&self, alloc: Global, old: &State, new: &State) -> Result<State, AllocError> {

@@ -98,10 +98,10 @@ are_parts p = record {
 
 module _ (g : GraphOf) (o : Options) (p : PlanView) (room : HasRoom g) where
   abbrev flow_of : Flow
-  flow_of = record { graph = room.value; layout = layout_of g o.oct; thresholds = thresholds_of g; parts = parts_of p; narrow = o.narrow }
+  flow_of = record { graph = room.value; layout = layout_of g o.oct; thresholds = thresholds_of g; parts = parts_of p; delay = o.delay; narrow = o.narrow }
 
   is_analysis : IsAnalysisOf g p o flow_of
-  is_analysis = record { graph = room.shows; layout = refl; thresholds = are_thresholds g; parts = are_parts p; narrow = refl }
+  is_analysis = record { graph = room.shows; layout = refl; thresholds = are_thresholds g; parts = are_parts p; delay = refl; narrow = refl }
 
 -- ---- the iteration
 

@@ -40,11 +40,11 @@ pub limits : EveryDigraphHasAnOrder → OrderIsDetermined → EveryGraphHasLimit
 limits law one g o made =
     let x = order_of law g made in
     let chain : ℕ = chain_bound_of (length g.variables) (length (thresholds_of g)) (length (octagon_variables_of g o.oct)) in (
-      turn_bound chain o.narrow ^ depth_of x.1,
+      turn_bound chain o.narrow o.delay ^ depth_of x.1,
       λ most h. record {
         chain = chain;
         bound = (thresholds_of g, are_thresholds g, refl);
-        deep = λ p order is. let same = one.order (digraph_of g) x.0 p x.1 order x.2 is in subst (λ (l : Level). turn_bound chain o.narrow ^ depth_of l ≤ most) same h;
+        deep = λ p order is. let same = one.order (digraph_of g) x.0 p x.1 order x.2 is in subst (λ (l : Level). turn_bound chain o.narrow o.delay ^ depth_of l ≤ most) same h;
       },
     )
 

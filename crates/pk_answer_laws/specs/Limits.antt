@@ -19,7 +19,7 @@ pub record IsEnough (g : GraphOf) (o : Options) (most : ℕ) : Type 0 where
   pub chain : ℕ
   pub bound : IsChainBound g o.oct chain
   pub deep : (p : PlanView) (order : Level) → IsOrdered (digraph_of g) p order →
-      turn_bound chain o.narrow ^ depth_of order ≤ most
+      turn_bound chain o.narrow o.delay ^ depth_of order ≤ most
 
 -- under such a limit there is a report
 abbrev pub EnoughIsReported : Type 0

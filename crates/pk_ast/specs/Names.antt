@@ -1,7 +1,30 @@
--- The names in trees, in the order of the text.
+-- The names in trees, type names among them, in the order of the text.
 use Rattle.std.specs.Prelude.{List, [], ◌∷◌, ◌++◌, Option, Some, None}
+use Rattle.pk_ctypes.specs.declared.places.Pos.{Pos}
+use Rattle.pk_ast.specs.declared.declarations.Specifier.{Specifier}
+use Rattle.pk_ast.specs.declared.declarations.SpecifierWord.{SpecifierWord}
+use Rattle.pk_ast.specs.declared.declarations.SpecifierWord.TheVariants as word
 use Rattle.pk_ast.specs.declared.expressions.Identifier.{Identifier}
-use Rattle.pk_ast.specs.Trees.{ExpressionTree, name, call, index, constant, character, parenthesized, postfix, prefix, unary, cast, binary, conditional, assignment, comma, ExpressionTrees, no_expressions, expression_then, InitializerTree, single, braced, DeclaratorTree, DeclarationTree, ForStartTree, declaration, expression, StatementTree, block, empty, expression_statement, label, case, default, if_then, if_else, switch, while, do_while, for_loop, goto, continue, break, return, ItemTrees, no_items, declaration_then, statement_then, BlockTree, ParameterTree, ExternalTree, function, objects}
+use Rattle.pk_ast.specs.Trees.{OneOrMore, ExpressionTree, name, call, index, constant, character, parenthesized, postfix, prefix, unary, cast, binary, conditional, assignment, comma, ExpressionTrees, no_expressions, expression_then, InitializerTree, single, braced, DeclaratorTree, DeclarationTree, ForStartTree, declaration, expression, StatementTree, block, empty, expression_statement, label, case, default, if_then, if_else, switch, while, do_while, for_loop, goto, continue, break, return, ItemTrees, no_items, declaration_then, statement_then, BlockTree, ParameterTree, ExternalTree, function, objects}
+
+-- the word of a type that stands at this place, where it is a type name
+abbrev pub word_name : SpecifierWord → Pos → List Identifier
+word_name word.Void at = []
+word_name word.Char at = []
+word_name word.Short at = []
+word_name word.Int at = []
+word_name word.Long at = []
+word_name word.Signed at = []
+word_name word.Unsigned at = []
+word_name word.Const at = []
+word_name (word.TypeName start end) at = record { start = start; end = end; at = at } ∷ []
+
+abbrev pub word_names : List Specifier → List Identifier
+word_names [] = []
+word_names (s ∷ more) = word_name s.word s.at ++ word_names more
+
+abbrev pub specifier_names : OneOrMore Specifier → List Identifier
+specifier_names words = word_name words.first.word words.first.at ++ word_names words.more
 
 unfoldable mutual
   pub expression_names : ExpressionTree → List Identifier
@@ -14,7 +37,7 @@ unfoldable mutual
   expression_names (postfix op at e) = expression_names e
   expression_names (prefix op at e) = expression_names e
   expression_names (unary op at e) = expression_names e
-  expression_names (cast at specifiers e) = expression_names e
+  expression_names (cast at specifiers e) = specifier_names specifiers ++ expression_names e
   expression_names (binary op at a b) = expression_names a ++ expression_names b
   expression_names (conditional at a b c) = expression_names a ++ expression_names b ++ expression_names c
   expression_names (assignment op at a b) = expression_names a ++ expression_names b
@@ -41,7 +64,8 @@ all_declarator_names [] = []
 all_declarator_names (d ∷ ds) = declarator_names d ++ all_declarator_names ds
 
 abbrev pub declaration_names : DeclarationTree → List Identifier
-declaration_names d = declarator_names d.declarators.first ++ all_declarator_names d.declarators.more
+declaration_names d =
+    specifier_names d.specifiers ++ (declarator_names d.declarators.first ++ all_declarator_names d.declarators.more)
 
 abbrev pub for_start_names : ForStartTree → List Identifier
 for_start_names (declaration d) = declaration_names d
@@ -82,10 +106,11 @@ optional_name (Some x) = x ∷ []
 
 abbrev pub parameter_names : List ParameterTree → List Identifier
 parameter_names [] = []
-parameter_names (p ∷ ps) = optional_name p.name ++ parameter_names ps
+parameter_names (p ∷ ps) = (specifier_names p.specifiers ++ optional_name p.name) ++ parameter_names ps
 
 abbrev pub external_names : ExternalTree → List Identifier
-external_names (function f) = f.name ∷ (parameter_names f.parameters ++ body_names f.body)
+external_names (function f) =
+    specifier_names f.specifiers ++ (f.name ∷ (parameter_names f.parameters ++ body_names f.body))
 external_names (objects storage d) = declaration_names d
 
 -- those of a text

@@ -26,6 +26,8 @@ pub enum SpecifierWord {
     Signed,
     Unsigned,
     Const,
+    /// A type name (C99 6.7.7): its bytes from `start` up to `end`, counted from 0.
+    TypeName { start: usize, end: usize },
 }
 
 /// A word of a type's name at its place.

@@ -18,10 +18,21 @@ fn total(cells: &[Arc<u64>]) -> Result<u64, AllocError>
     }
 }
 
-// For each element those that it reads.
+// For each element those that it reads, and the element to which memory is refused.
 #[derive(Drop)]
 pub struct Summing {
     pub rows: Vec<Vec<u32>>,
+    pub refused: Option<u32>,
+}
+
+impl Summing {
+    fn granted(&self, e: u32) -> Result<(), AllocError> {
+        if self.refused == Some(e) {
+            Err(AllocError)
+        } else {
+            Ok(())
+        }
+    }
 }
 
 impl System for Summing {
@@ -51,20 +62,22 @@ impl System for Summing {
         Ok(0)
     }
 
-    fn apply(&self, _alloc: Global, _e: u32, inputs: &[Arc<u64>]) -> Result<u64, AllocError>
+    fn apply(&self, _alloc: Global, e: u32, inputs: &[Arc<u64>]) -> Result<u64, AllocError>
         ensures { IfOk result (λ c. c ≡ total (map arc_value inputs.now)) }
     {
+        self.granted(e)?;
         total(inputs)
     }
 
     fn decide(
         &self,
         _alloc: Global,
-        _x: u32,
+        x: u32,
         inputs: &[Arc<u64>],
     ) -> Result<Decision<u64>, AllocError>
         ensures { IfOk result (λ d. d ≡ turn_of (map arc_value inputs.now)) }
     {
+        self.granted(x)?;
         match inputs {
             [] => Ok(Decision::Stable(0)),
             [own, ..] => {

@@ -210,7 +210,7 @@ fn diamond_step_by_step(rt: HostRuntime) -> Result<(), AllocError> {
     )
 }
 
-const JUMP: [(u32, u32); 14] = [
+pub const JUMP: [(u32, u32); 14] = [
     (0, 1),
     (1, 2),
     (1, 11),

@@ -20,7 +20,7 @@ use std::sync::atomic::{AtomicU64, Ordering};
 use std::thread::Threads;
 
 // What so many workers leave.
-fn left<R: Threads + Wait + Sync, G: Gate + Sync>(
+pub fn left<R: Threads + Wait + Sync, G: Gate + Sync>(
     rt: &R,
     alloc: Global,
     gate: &G,
@@ -69,7 +69,7 @@ impl Gate for Both {
 }
 
 // So many workers leave what the iteration leaves.
-fn leave_the_same<R: Threads + Wait + Sync + Abort, G: Gate + Sync>(
+pub fn leave_the_same<R: Threads + Wait + Sync + Abort, G: Gate + Sync>(
     rt: &R,
     alloc: Global,
     gate: &G,

@@ -114,7 +114,7 @@ abbrev IsCommand : Shape → Type 0
 IsCommand s = (s ≡ run_shape) ⊎ (s ≡ order_shape) ⊎ (s ≡ gen_shape)
 
 run_keyed : IsKeyed run_shape.rules
-run_keyed = ((refl, refl), ((refl, refl), ((refl, refl), ((refl, refl), ((refl, refl), ((refl, refl), tt))))))
+run_keyed = ((refl, refl), ((refl, refl), ((refl, refl), ((refl, refl), ((refl, refl), ((refl, refl), ((refl, refl), tt)))))))
 
 order_keyed : IsKeyed order_shape.rules
 order_keyed = ((refl, refl), tt)
@@ -338,12 +338,14 @@ copied (Some t) = refl
 pub run_found : (rows : List Row) → Each (Passes run_shape.rules) rows → IsRunFound rows
 run_found rows pass =
     let workers = given_of run_shape.rules (run_rule 0) (codes "workers") rows refl pass in
-    let narrow = given_of run_shape.rules (run_rule 1) (codes "narrow") rows refl pass in
-    let oct = given_of run_shape.rules (run_rule 2) (codes "oct") rows refl pass in
-    let max_runs = given_of run_shape.rules (run_rule 3) (codes "max-runs") rows refl pass in
-    let points = given_of run_shape.rules (run_rule 5) (codes "points") rows refl pass in
+    let delay = given_of run_shape.rules (run_rule 1) (codes "delay") rows refl pass in
+    let narrow = given_of run_shape.rules (run_rule 2) (codes "narrow") rows refl pass in
+    let oct = given_of run_shape.rules (run_rule 3) (codes "oct") rows refl pass in
+    let max_runs = given_of run_shape.rules (run_rule 4) (codes "max-runs") rows refl pass in
+    let points = given_of run_shape.rules (run_rule 6) (codes "points") rows refl pass in
     record {
       workers = record { within = workers.passed; read = workers.read };
+      delay = record { within = delay.passed; read = delay.read };
       narrow = record { within = narrow.passed; read = narrow.read };
       oct = record { within = oct.passed; read = oct.read };
       max_runs = record { within = max_runs.passed; read = max_runs.read };
@@ -370,10 +372,11 @@ workers_in_range rows found = number_in_range (codes "workers") 1 64 4 rows (lit
 pub run_in_range : (rows : List Row) → IsRunFound rows → IsInRange (Run (run_options rows))
 run_in_range rows found =
     let workers = workers_in_range rows found.workers in
+    let delay = number_in_range (codes "delay") 0 16 0 rows (lit≤ tt) (lit≤ tt) found.delay in
     let narrow = number_in_range (codes "narrow") 0 8 2 rows (lit≤ tt) (lit≤ tt) found.narrow in
     let oct = number_in_range (codes "oct") 0 64 16 rows (lit≤ tt) (lit≤ tt) found.oct in
     let max_runs = number_in_range (codes "max-runs") 1 549755813888 1000000 rows (lit≤ tt) (lit≤ tt) found.max_runs in
-    (workers.0, workers.1, narrow.1, oct.1, max_runs.0, max_runs.1)
+    (workers.0, workers.1, delay.1, narrow.1, oct.1, max_runs.0, max_runs.1)
 
 -- ---- the options of `gen`
 

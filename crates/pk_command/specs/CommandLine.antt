@@ -41,12 +41,13 @@ command name options = fold with_rule (new_app name) options
 
 abbrev pub run_number_options : List Rule
 run_number_options = workers_option
+    ∷ number_option (codes "delay") 0 16
     ∷ number_option (codes "narrow") 0 8
     ∷ number_option (codes "oct") 0 64
     ∷ number_option (codes "max-runs") 1 549755813888
     ∷ []
 
--- `run [--workers N] [--narrow K] [--oct N] [--max-runs N] [--entry NAME] [--points]`
+-- `run [--workers N] [--delay D] [--narrow K] [--oct N] [--max-runs N] [--entry NAME] [--points]`
 abbrev pub run_app : App
 run_app = command (codes "run") (run_number_options ++ entry_option ∷ flag (codes "points") ∷ [])
 

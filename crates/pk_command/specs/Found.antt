@@ -22,6 +22,7 @@ pub record IsFlagFound (name : Text) (rows : List Row) : Type 0 where
 
 pub record IsRunFound (rows : List Row) : Type 0 where
   pub workers : IsNumberFound (codes "workers") 1 64 rows
+  pub delay : IsNumberFound (codes "delay") 0 16 rows
   pub narrow : IsNumberFound (codes "narrow") 0 8 rows
   pub oct : IsNumberFound (codes "oct") 0 64 rows
   pub max_runs : IsNumberFound (codes "max-runs") 1 549755813888 rows

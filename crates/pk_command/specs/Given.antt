@@ -38,6 +38,7 @@ is_set name rows = option_map_or (λ text. bytes_eq text (codes "true")) (first_
 abbrev pub run_options : List Row → RunOptions
 run_options rows = record {
   workers = number_of (codes "workers") 4 rows;
+  delay = number_of (codes "delay") 0 rows;
   narrow = number_of (codes "narrow") 2 rows;
   oct = number_of (codes "oct") 16 rows;
   max_runs = number_of (codes "max-runs") 1000000 rows;
@@ -67,8 +68,8 @@ AsksFor words (Gen options) =
 
 -- each number lies in its option's range
 abbrev pub IsInRange : Command → Type 0
-IsInRange (Run options) = (1 ≤ options.workers) × (options.workers ≤ 64) × (options.narrow ≤ 8) × (options.oct ≤ 64)
-    × (1 ≤ options.max_runs) × (options.max_runs ≤ 549755813888)
+IsInRange (Run options) = (1 ≤ options.workers) × (options.workers ≤ 64) × (options.delay ≤ 16) × (options.narrow ≤ 8)
+    × (options.oct ≤ 64) × (1 ≤ options.max_runs) × (options.max_runs ≤ 549755813888)
 IsInRange (Order options) = ⊤
 IsInRange (Gen options) =
     (options.seed ≤ 2147483647) × (1 ≤ options.size) × (options.size ≤ 1000) × (1 ≤ options.workers)

@@ -10,6 +10,7 @@ use Rattle.pk_command.specs.Given.{AsksFor}
 abbrev pub RunIsTaken : Type 0
 RunIsTaken = AsksFor (codes "run" ∷ []) (Run (record {
   workers = 4;
+  delay = 0;
   narrow = 2;
   oct = 16;
   max_runs = 1000000;

@@ -7,6 +7,8 @@ use std::alloc::AllocError;
 pub struct RunOptions {
     /// How many threads iterate, from 1 to 64.
     pub workers: u32,
+    /// How often a head is joined before it is widened, from 0 to 16.
+    pub delay: u32,
     /// How often a head may be narrowed, from 0 to 8.
     pub narrow: u32,
     /// How many variables the octagon has at most, from 0 to 64.

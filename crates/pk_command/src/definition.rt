@@ -18,6 +18,16 @@ fn workers<'a>(alloc: Global) -> Arg<'a>
         .value_parser(clap::value_parser!(i64).range(1..=64))
 }
 
+fn delay<'a>(alloc: Global) -> Arg<'a>
+    ensures rule { rule_of result ≡ number_option (codes "delay") 0 16 }
+    ensures local { result.global ≡ false }
+{
+    Arg::new(alloc, "delay")
+        .long("delay")
+        .action(ArgAction::Set)
+        .value_parser(clap::value_parser!(i64).range(0..=16))
+}
+
 fn narrow<'a>(alloc: Global) -> Arg<'a>
     ensures rule { rule_of result ≡ number_option (codes "narrow") 0 8 }
     ensures local { result.global ≡ false }
@@ -115,6 +125,7 @@ fn run_numbers<'a>(alloc: Global) -> Result<Command<'a>, AllocError>
 {
     let run = Ok(Command::new(alloc, "run"));
     let run = with(run, workers(alloc));
+    let run = with(run, delay(alloc));
     let run = with(run, narrow(alloc));
     let run = with(run, oct(alloc));
     with(run, max_runs(alloc))

@@ -86,6 +86,7 @@ fn run_options(alloc: Global, found: &ArgMatches<'_>) -> Result<RunOptions, Allo
 {
     Ok(RunOptions {
         workers: workers(found),
+        delay: number(found, "delay", 0) as u32,
         narrow: number(found, "narrow", 2) as u32,
         oct: number(found, "oct", 16) as usize,
         max_runs: number(found, "max-runs", 1000000),

@@ -18,6 +18,7 @@ use std::alloc::Global;
 
 fn same_phases(a: Phase, b: Phase) -> bool {
     match a {
+        Phase::Delay(k) => matches!(b, Phase::Delay(l) if l == k),
         Phase::Up => matches!(b, Phase::Up),
         Phase::Down(k) => matches!(b, Phase::Down(l) if l == k),
         Phase::Last => matches!(b, Phase::Last),

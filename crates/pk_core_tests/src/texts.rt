@@ -200,7 +200,11 @@ fn graph_as_iterated(
     requires points { plan.now.points ≡ length (graph_view graph.now).points }
     requires elements { order.now.elements ≡ plan.now.elements }
 {
-    let options = Options { narrow: 2, oct: 16 };
+    let options = Options {
+        delay: 0,
+        narrow: 2,
+        oct: 16,
+    };
     let analysis = Analysis::new(alloc, graph, plan, options)?;
     assert!(rt; reads_within(&analysis, plan.elements()));
     lists_as_iterated(rt, alloc, &analysis, plan, order, list, runs)
@@ -258,6 +262,7 @@ fn phases(alloc: Global, analysis: &Analysis, plan: &Plan) -> Result<String, Fai
         let list = &drive.events[..many];
         match phase_after(alloc, analysis, plan, list)? {
             None => (),
+            Some(Phase::Delay(k)) => write!(text, "Delay {k} ")?,
             Some(Phase::Up) => text.push_str("Up ")?,
             Some(Phase::Down(k)) => write!(text, "Down {k} ")?,
             Some(Phase::Last) => text.push_str("Last ")?,
@@ -274,7 +279,11 @@ fn a_narrowed_value_fails_its_test(rt: HostRuntime) -> Result<(), Fail> {
     assert!(rt; points.vertices() < 1000);
     let (plan, _) = ordered(alloc, &points)?;
     assert!(rt; plan.points() as usize == graph.points());
-    let options = Options { narrow: 2, oct: 16 };
+    let options = Options {
+        delay: 0,
+        narrow: 2,
+        oct: 16,
+    };
     let analysis = Analysis::new(alloc, &graph, &plan, options)?;
     assert!(rt; reads_within(&analysis, plan.elements()));
     assert!(rt; phases(alloc, &analysis, &plan)?.as_str() == "Up Up Down 1 Last ");

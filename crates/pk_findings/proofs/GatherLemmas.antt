@@ -1,5 +1,5 @@
 -- Cases that rise are gathered to operations that rise, one for each place and kind.
-use Rattle.std.proofs.Common.{◌≡◌, ◌⊎◌, inl, inr, ℕ, suc, ◌+◌, ◌*◌, ◌^◌, ◌<◌, ◌≤◌, ◌==◌, List, [], ◌∷◌, ◌++◌, length, map, cond, Bool, true, false, refl, sym, ap, subst, ◌∙◌, arith, append_assoc, length-append, min, nat_lt}
+use Rattle.std.proofs.Common.{◌≡◌, ◌⊎◌, inl, inr, ℕ, suc, ◌+◌, ◌*◌, ◌^◌, ◌<◌, ◌≤◌, ◌==◌, List, [], ◌∷◌, ◌++◌, length, cond, Bool, true, false, refl, sym, ap, subst, ◌∙◌, arith, append_assoc, length-append, min, nat_lt}
 use Rattle.std.specs.Prelude.{Some, All, AllPairs, fold, slice_index_or}
 use Rattle.std.specs.List.{flat_map, list_all}
 use Rattle.std.specs.List.Sorted.{IsPermutation, IsNonDecreasingBy}
@@ -16,7 +16,7 @@ use Rattle.pk_ctypes.specs.declared.faults.Fault.TheVariants.{Index, DivZero, Ov
 use Rattle.pk_ctypes.specs.declared.places.Pos.{Pos}
 use Rattle.pk_findings.specs.Texts.{is_small}
 use Rattle.pk_findings.specs.Operations.{CaseOf, OperationOf, WayOf, cases_of, kind_number, ComesBefore, AreOperations}
-use Rattle.pk_findings.specs.Grouping.{order_of, case_order, operation_order, single, with_way, Gathered, gathered, with_case, gathered_of, all_of}
+use Rattle.pk_findings.specs.Grouping.{order_of, case_order, operation_order, single, with_way, gathered, with_case, gathered_of, all_of}
 
 -- ---- orders
 

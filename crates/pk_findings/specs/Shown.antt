@@ -5,7 +5,7 @@ use Rattle.pk_ctypes.specs.declared.places.Pos.{Pos}
 use Rattle.pk_show.specs.declared.report.Row.{Row}
 use Rattle.pk_show.specs.declared.report.Row.TheVariants as row
 use Rattle.pk_show.specs.Paths.{CallOf, PathOf, path_in}
-use Rattle.pk_show.specs.Reports.{report_in}
+use Rattle.pk_show.specs.Reports.{report_in, first_wrong}
 use Rattle.pk_findings.specs.declared.shown.ShowError.{ShowError}
 use Rattle.pk_findings.specs.declared.shown.ShowError.TheVariants.{NoReport, OtherText, Memory}
 use Rattle.pk_findings.specs.Texts.{TextOf, IsText, is_within}
@@ -55,6 +55,6 @@ IsOfOther bytes (Some rows) = (t : TextOf) × IsText t.name bytes t × (list_all
 
 -- why nothing is shown
 abbrev pub IsNone : (bytes report : List ℕ) → ShowError → Type 0
-IsNone bytes report (NoReport line) = report_in report ≡ None
+IsNone bytes report (NoReport line) = (report_in report ≡ None) × (line ≡ first_wrong report)
 IsNone bytes report OtherText = IsOfOther bytes (report_in report)
 IsNone bytes report Memory = Unit {0}

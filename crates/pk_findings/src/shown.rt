@@ -33,7 +33,7 @@ impl<'t> Model for Shown<'t> {
 /// Why there is nothing to show.
 #[derive(Clone, Copy)]
 pub enum ShowError {
-    /// This line of the report, counted from 0, is none, or can't stand there.
+    /// This line of the report, counted from 0, is the first that is none, can't stand there, or is missing.
     NoReport(usize),
     /// The report tells a place that isn't in the text.
     OtherText,

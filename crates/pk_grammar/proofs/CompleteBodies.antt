@@ -13,7 +13,7 @@ use Rattle.pk_grammar.specs.declared.states.Testing.TheVariants as testing
 use Rattle.pk_grammar.specs.declared.signs.Fixed.TheVariants as fixed
 use Rattle.pk_grammar.specs.Languages.{Marked, ◌⊙◌, identifier_of}
 use Rattle.pk_grammar.specs.Grammar.{punctuator, keyword, for_start, optional, statement, block_items}
-use Rattle.pk_grammar.specs.Machine.Signs.{is_fixed, specifier_word}
+use Rattle.pk_grammar.specs.Machine.Signs.{is_fixed, specifier_word, specifier_in}
 use Rattle.pk_grammar.specs.Machine.States.{Head, OpenBlock, function_block, inner_block, Outer, in_block, in_label, in_case, in_default, in_if, in_else, in_switch, in_while, in_do, in_for, in_a_block, in_a_for, as_statement, as_label, as_last_test, as_first, as_second, as_third, as_whole, State, after_specifiers, block_item, at_statement, after_statement, test_open, do_open, for_open, for_first, for_second, for_third, default_colon, statement_end, operand, named, complete}
 use Rattle.pk_grammar.specs.Machine.Steps.{taken, reduced, specifier_at, block_nesting, with_statement, with_declaration, one_more_statement, one_more_declaration, declaration_or_statement, end_block, begin_for, resume, step}
 use Rattle.pk_grammar.proofs.CompleteLists.{tokens_of, Reads, reads_join, reads_both, reads_none, reads_from, reads_to, reads_head, reads_sign, reads_last}
@@ -192,12 +192,12 @@ step_for n o at t e = rw (e.0, e.1)
 step_for_open : (n : ℕ) (o : Outer) (at : Pos) (t : Token) → t.kind ≡ kind.Punctuator mark.OpenParenthesis → step (for_open n at o) t ≡ taken (n + 2) (for_first n at o)
 step_for_open n o at t e = rw e
 
-step_for_declaration : (n : ℕ) (o : Outer) (at : Pos) (t : Token) (w : SpecifierWord) → specifier_word t.kind ≡ Some w →
+step_for_declaration : (n : ℕ) (o : Outer) (at : Pos) (t : Token) (w : SpecifierWord) → specifier_word t ≡ Some w →
     step (for_first n at o) t ≡ taken (n + 2) (after_specifiers (in_a_for n at o) (one (specifier_at t w)))
 step_for_declaration n o at t w e = ap (λ w. begin_for n at o t w) e
 
 step_first : (n : ℕ) (o : Outer) (at : Pos) (t : Token) → Begins t.kind → step (for_first n at o) t ≡ step (operand (n + 2) (as_whole (as_first n at o))) t
-step_first n o at t b = ap (λ w. begin_for n at o t w) b.no_specifier ∙ same_false (is_fixed fixed.Semicolon t.kind) _ _ b.no_semicolon
+step_first n o at t b = ap (λ w. begin_for n at o t w) (b.no_specifier t.start t.end) ∙ same_false (is_fixed fixed.Semicolon t.kind) _ _ b.no_semicolon
 
 step_no_first : (n : ℕ) (o : Outer) (at : Pos) (t : Token) → t.kind ≡ kind.Punctuator mark.Semicolon → step (for_first n at o) t ≡ taken (n + 2) (for_second n at (expression None) o)
 step_no_first n o at t is = rw is
@@ -299,13 +299,13 @@ pub record ItemsRead (items : ItemTrees) : Type 0 where
       block_items items (block_nesting b) ms → close.kind ≡ kind.Punctuator mark.CloseBrace → ReadsTo q ms close rest (end_block (filled b items) close)
 
 step_close : (b : OpenBlock) (t : Token) → t.kind ≡ kind.Punctuator mark.CloseBrace → step (block_item b) t ≡ end_block b t
-step_close b t e = ap (λ k. declaration_or_statement b t (specifier_word k)) e ∙ same_true (is_fixed fixed.CloseBrace t.kind) _ _ (ap (λ k. is_fixed fixed.CloseBrace k) e)
+step_close b t e = ap (λ k. declaration_or_statement b t (specifier_in k t.start t.end)) e ∙ same_true (is_fixed fixed.CloseBrace t.kind) _ _ (ap (λ k. is_fixed fixed.CloseBrace k) e)
 
 read_no_items : ItemsRead no_items
 unfolding block_items
 read_no_items = record { reads = λ b q same ms close rest h e. record { state = q; reads = reads_none h; then = same close ∙ step_close b close e } }
 
-step_declaration : (b : OpenBlock) (t : Token) (w : SpecifierWord) → specifier_word t.kind ≡ Some w → step (block_item b) t ≡ taken (block_nesting b) (after_specifiers (in_a_block b) (one (specifier_at t w)))
+step_declaration : (b : OpenBlock) (t : Token) (w : SpecifierWord) → specifier_word t ≡ Some w → step (block_item b) t ≡ taken (block_nesting b) (after_specifiers (in_a_block b) (one (specifier_at t w)))
 step_declaration b t w e = ap (λ w. declaration_or_statement b t w) e
 
 read_declaration_then : (d : DeclarationTree) (items : ItemTrees) → ItemsRead items → ItemsRead (declaration_then d items)
@@ -322,7 +322,7 @@ read_declaration_then d items r = record {
 }
 
 step_item_statement : (b : OpenBlock) (t : Token) → BeginsStatement t.kind → step (block_item b) t ≡ step (at_statement (block_nesting b) (in_block b)) t
-step_item_statement b t h = ap (λ w. declaration_or_statement b t w) h.no_specifier ∙ same_false (is_fixed fixed.CloseBrace t.kind) _ _ h.no_close_brace
+step_item_statement b t h = ap (λ w. declaration_or_statement b t w) (h.no_specifier t.start t.end) ∙ same_false (is_fixed fixed.CloseBrace t.kind) _ _ h.no_close_brace
 
 from_statement : (s : StatementTree) (n : ℕ) (ms : List Marked) {q q' r : State} {rest : List Token} → statement s n ms → ((t : Token) → BeginsStatement t.kind → step q t ≡ step q' t) →
     Reads q' ms r rest → Reads q ms r rest

@@ -15,7 +15,7 @@ use Rattle.pk_grammar.specs.Languages.{Marked, Optional, ◌⊙◌, identifier_o
 use Rattle.pk_grammar.specs.Grammar.{AllFit, Fits, spelled, spelled_list, spelled_more, punctuator, array_length, initializer, declarator, declared, more_declarators}
 use Rattle.pk_grammar.specs.Machine.Signs.{is_fixed, specifier_word}
 use Rattle.pk_grammar.specs.Machine.States.{Site, Declaring, Naming, as_length, as_value, as_item, as_whole, State, operand, complete, after_specifiers, after_name, after_length, after_assign, after_brace, after_item, after_initializer, after_comma, Declared}
-use Rattle.pk_grammar.specs.Machine.Steps.{taken, reduced, one_more, more_specifiers, specifier_at, site_nesting, naming_nesting, with_initializer, without_length, after_declarator, declared_at, step, first_item, more_items, with_declarator, goes_on_declaring}
+use Rattle.pk_grammar.specs.Machine.Steps.{taken, reduced, one_more, more_specifiers, specifier_at, site_nesting, naming_nesting, with_initializer, without_length, after_declarator, declared_at, step, first_item, more_items, with_declarator, goes_on_declaring, next_word}
 use Rattle.pk_grammar.proofs.CompleteLists.{tokens_of, Reads, reads_both, reads_one, reads_none, reads_head, reads_sign, reads_last, regrouped, reads_join_none}
 use Rattle.pk_grammar.proofs.CompleteSigns.{Begins, sign_comma, sign_semicolon, sign_close_brace, sign_close_bracket}
 use Rattle.pk_grammar.proofs.CompleteOperands.{Ends, IsAt, ends_at_sign, same_false}
@@ -264,11 +264,11 @@ pub step_first_name : (s : Site) (specs : OneOrMore Specifier) (t : Token) → t
     step (after_specifiers s specs) t ≡ taken (site_nesting s) (after_name (record { site = s; specifiers = specs; declarators = [] }) (identifier_of t))
 step_first_name s specs t e = rw e
 
-pub step_more_specifiers : (s : Site) (specs : OneOrMore Specifier) (t : Token) (w : SpecifierWord) → specifier_word t.kind ≡ Some w →
+pub step_more_specifiers : (s : Site) (specs : OneOrMore Specifier) (t : Token) (w : SpecifierWord) → next_word specs t ≡ Some w →
     step (after_specifiers s specs) t ≡ taken (site_nesting s) (after_specifiers s (with_last specs (specifier_at t w)))
 step_more_specifiers s specs t w e = ap (λ w. more_specifiers s specs t w) e
 
-pub reads_declared : (site : Site) (s : State) → ((t : Token) (w : SpecifierWord) → specifier_word t.kind ≡ Some w → step s t ≡ taken (site_nesting site) (after_specifiers site (one (specifier_at t w)))) →
+pub reads_declared : (site : Site) (s : State) → ((t : Token) (w : SpecifierWord) → specifier_word t ≡ Some w → step s t ≡ taken (site_nesting site) (after_specifiers site (one (specifier_at t w)))) →
     (d : DeclarationTree) (rest : List Token) (ms : List Marked) → declared d (site_nesting site) ms → Reads s ms (declared_at site d) rest
 reads_declared site s takes d rest ms h =
     reads_both h (reads_specifiers (after_specifiers site) (site_nesting site) (step_more_specifiers site) d.specifiers s takes h.first)

@@ -14,9 +14,9 @@ use Rattle.pk_ast.specs.Lists.{one, with_last}
 use Rattle.pk_grammar.specs.declared.signs.Fixed.TheVariants as fixed
 use Rattle.pk_grammar.specs.Languages.{Marked, ◌⊙◌, identifier_of}
 use Rattle.pk_grammar.specs.Grammar.{stored, optional_name, parameter, IsVoidAlone, more_parameters, parameters, function_end, statement, external, externals}
-use Rattle.pk_grammar.specs.Machine.Signs.{is_fixed, specifier_word, storage_word, is_void_word}
+use Rattle.pk_grammar.specs.Machine.Signs.{is_fixed, specifier_word, storage_word, is_void_word, specifier_in}
 use Rattle.pk_grammar.specs.Machine.States.{Head, function_block, Site, outside, State, top, after_storage, after_specifiers, after_name, parameters_open, parameter_specifiers, parameter_name, parameter_comma, parameters_closed, block_item}
-use Rattle.pk_grammar.specs.Machine.Steps.{taken, step, read, ends, specifier_at, storage_or_specifier, begin_external, begin_parameter, more_parameter, is_void_alone, last_parameter, end_block}
+use Rattle.pk_grammar.specs.Machine.Steps.{taken, step, read, ends, specifier_at, storage_or_specifier, begin_external, begin_parameter, more_parameter, is_void_alone, last_parameter, end_block, next_word}
 use Rattle.pk_grammar.proofs.CompleteLists.{tokens_of, nestings_of, before, Reads, reads_both, reads_one, reads_none, reads_head, reads_sign, reads_last, reads_join_none}
 use Rattle.pk_grammar.proofs.CompleteSigns.{storage_is, specifier_alone}
 use Rattle.pk_grammar.proofs.CompleteOperands.{IsAt, same_false}
@@ -27,7 +27,7 @@ use Rattle.pk_grammar.proofs.CompleteBodies.{items_read, filled_function}
 -- What a definition begins with
 
 abbrev TakesType : State → Site → Type 0
-TakesType q s = (t : Token) (w : SpecifierWord) → specifier_word t.kind ≡ Some w → step q t ≡ taken 0 (after_specifiers s (one (specifier_at t w)))
+TakesType q s = (t : Token) (w : SpecifierWord) → specifier_word t ≡ Some w → step q t ≡ taken 0 (after_specifiers s (one (specifier_at t w)))
 
 record ReadsStorage (done : List ExternalTree) (s : Option Storage) (ms : List Marked) (rest : List Token) : Type 0 where
   state : State
@@ -36,7 +36,7 @@ record ReadsStorage (done : List ExternalTree) (s : Option Storage) (ms : List M
 
 top_takes : (done : List ExternalTree) → TakesType (top done) (outside done None)
 top_takes done t w e =
-    let s = specifier_alone t.kind w e in
+    let s = specifier_alone t.kind t.start t.end w e in
     ap (λ o. storage_or_specifier done t o) s.no_storage ∙ same_false (is_fixed fixed.End t.kind) _ _ s.no_end ∙ ap (λ o. begin_external done None t o) e
 
 step_storage : (done : List ExternalTree) (s : Storage) (t : Token) → (storage_word t.kind ≡ Some s.word) × (t.at ≡ s.at) → step (top done) t ≡ taken 0 (after_storage done s)
@@ -53,10 +53,10 @@ reads_stored done (Some s) ms rest h = record {
 -- Parameters
 
 abbrev TakesParameter : State → Head → List ParameterTree → Type 0
-TakesParameter q h ps = (t : Token) (w : SpecifierWord) → specifier_word t.kind ≡ Some w → step q t ≡ taken 1 (parameter_specifiers h ps (one (specifier_at t w)))
+TakesParameter q h ps = (t : Token) (w : SpecifierWord) → specifier_word t ≡ Some w → step q t ≡ taken 1 (parameter_specifiers h ps (one (specifier_at t w)))
 
 open_takes : (h : Head) → TakesParameter (parameters_open h) h []
-open_takes h t w e = same_false (is_fixed fixed.CloseParenthesis t.kind) _ _ (specifier_alone t.kind w e).no_close ∙ ap (λ o. begin_parameter h [] t o) e
+open_takes h t w e = same_false (is_fixed fixed.CloseParenthesis t.kind) _ _ (specifier_alone t.kind t.start t.end w e).no_close ∙ ap (λ o. begin_parameter h [] t o) e
 
 comma_takes : (h : Head) (ps : List ParameterTree) → TakesParameter (parameter_comma h ps) h ps
 comma_takes h ps t w e = ap (λ o. begin_parameter h ps t o) e
@@ -86,7 +86,7 @@ last_is : (ps : List ParameterTree) (specs : OneOrMore Specifier) → ¬ IsNone 
 last_is [] specs h = rw (no_void_alone specs.first specs.more (λ v. h (refl, v)))
 last_is (p ∷ ps) specs h = refl
 
-step_more_parameter : (h : Head) (ps : List ParameterTree) (specs : OneOrMore Specifier) (t : Token) (w : SpecifierWord) → specifier_word t.kind ≡ Some w →
+step_more_parameter : (h : Head) (ps : List ParameterTree) (specs : OneOrMore Specifier) (t : Token) (w : SpecifierWord) → next_word specs t ≡ Some w →
     step (parameter_specifiers h ps specs) t ≡ taken 1 (parameter_specifiers h ps (with_last specs (specifier_at t w)))
 step_more_parameter h ps specs t w e = ap (λ w. more_parameter h ps specs t w) e
 
@@ -170,7 +170,7 @@ reads_all_parameters [] h ms t rest is close = elim is [
   | inl e ↦ record { state = parameters_open h; reads = reads_none e; then = step_no_parameters h t close }
   | inr void ↦ record {
     state = parameter_specifiers h [] (one (specifier_at void.token word.Void));
-    reads = reads_one void (open_takes h void.token word.Void (ap specifier_word void.holds));
+    reads = reads_one void (open_takes h void.token word.Void (ap (λ k. specifier_in k void.token.start void.token.end) void.holds));
     then = step_void_close h void.token.at t close;
   }
 ]

@@ -21,7 +21,7 @@ use Rattle.pk_grammar.specs.Languages.{identifier_of}
 use Rattle.pk_grammar.specs.Grammar.{binary_sign, unary_sign, step_sign, assignment_sign, strength, Fits, operators_in, postfixes_in, commas_in}
 use Rattle.pk_grammar.specs.Machine.Signs.{is_fixed, operand_start, operator_of, specifier_word}
 use Rattle.pk_grammar.specs.Machine.States.{as_statement, as_label, as_test, as_last_test, as_first, as_second, as_third, as_result, as_length, as_value, as_item, Context, as_whole, in_parentheses, in_index, in_call, in_prefix, in_unary, in_cast, in_binary, in_choice, in_alternative, in_assignment, in_comma, operand, named, arguments, opened, cast_specifiers, complete}
-use Rattle.pk_grammar.specs.Machine.Steps.{taken, Reduced, reduced, operand_level, begin_operand, go_on, join_binary, join_question, join_assignment, join_comma, is_unary, comma_after, open_cast, more_cast, specifier_at, one_more, step}
+use Rattle.pk_grammar.specs.Machine.Steps.{taken, Reduced, reduced, operand_level, begin_operand, go_on, join_binary, join_question, join_assignment, join_comma, is_unary, comma_after, open_cast, more_cast, specifier_at, one_more, step, next_word}
 use Rattle.pk_grammar.proofs.CompleteSigns.{takes, strength_least, strength_most, Sign, sign_binary, sign_step, sign_assignment, unary_start, step_start, Begins}
 use Rattle.pk_grammar.proofs.CompleteReduced.{kept}
 
@@ -93,15 +93,15 @@ pub step_arguments : (n : ℕ) (id : Identifier) (c : Context) (t : Token) → B
 step_arguments n id c t b = same_false (is_fixed fixed.CloseParenthesis t.kind) _ _ b.no_close
 
 pub step_opened : (n : ℕ) (at : Pos) (c : Context) (t : Token) → Begins t.kind → step (opened n at c) t ≡ step (operand (n + 1) (in_parentheses n at c)) t
-step_opened n at c t b = ap (λ w. open_cast n at c t w) b.no_specifier
+step_opened n at c t b = ap (λ w. open_cast n at c t w) (b.no_specifier t.start t.end)
 
 -- Casts
 
-pub step_cast : (n : ℕ) (at : Pos) (c : Context) (t : Token) (w : SpecifierWord) → operand_level c ≤ 13 → specifier_word t.kind ≡ Some w →
+pub step_cast : (n : ℕ) (at : Pos) (c : Context) (t : Token) (w : SpecifierWord) → operand_level c ≤ 13 → specifier_word t ≡ Some w →
     step (opened n at c) t ≡ taken (n + 1) (cast_specifiers n at (one (specifier_at t w)) c)
 step_cast n at c t w h e = ap (λ w. open_cast n at c t w) e ∙ rw (le-leb (operand_level c) 13 h)
 
-pub step_more_cast : (n : ℕ) (at : Pos) (specs : OneOrMore Specifier) (c : Context) (t : Token) (w : SpecifierWord) → specifier_word t.kind ≡ Some w →
+pub step_more_cast : (n : ℕ) (at : Pos) (specs : OneOrMore Specifier) (c : Context) (t : Token) (w : SpecifierWord) → next_word specs t ≡ Some w →
     step (cast_specifiers n at specs c) t ≡ taken (n + 1) (cast_specifiers n at (with_last specs (specifier_at t w)) c)
 step_more_cast n at specs c t w e = ap (λ w. more_cast n at specs c t w) e
 

@@ -1,5 +1,6 @@
 -- What the kinds of the grammar's tokens tell the parser.
-use Rattle.std.proofs.Common.{◌≡◌, ◌≢◌, ℕ, ◌≤◌, Some, None, false, refl, arith}
+use Rattle.std.proofs.Common.{◌≡◌, ◌≢◌, ℕ, ◌≤◌, Some, None, false, refl, ap, ◌∙◌, arith}
+use Rattle.pk_lex.specs.declared.token.Token.{Token}
 use Rattle.pk_lex.specs.declared.token.Kind.{Kind}
 use Rattle.pk_lex.specs.declared.token.Kind.TheVariants as kind
 use Rattle.pk_lex.specs.declared.token.Keyword.{Keyword}
@@ -23,8 +24,8 @@ use Rattle.pk_grammar.specs.declared.signs.OperandStart.TheVariants as start
 use Rattle.pk_grammar.specs.declared.signs.Operator.{Operator}
 use Rattle.pk_grammar.specs.declared.signs.Operator.TheVariants as operator
 use Rattle.pk_grammar.specs.declared.signs.StatementStart.TheVariants as first
-use Rattle.pk_grammar.specs.Grammar.{binary_sign, unary_sign, step_sign, assignment_sign, specifier_keyword, storage_keyword, strength, any_expression, weakest_operator, cast_expression, postfix_expression}
-use Rattle.pk_grammar.specs.Machine.Signs.{is_fixed, operand_start, operator_of, specifier_word, storage_word, statement_start}
+use Rattle.pk_grammar.specs.Grammar.{binary_sign, unary_sign, step_sign, assignment_sign, IsWord, storage_keyword, strength, any_expression, weakest_operator, cast_expression, postfix_expression}
+use Rattle.pk_grammar.specs.Machine.Signs.{is_fixed, operand_start, operator_of, specifier_in, specifier_word, storage_word, statement_start}
 
 -- the level of the left operand that an operator takes
 abbrev pub takes : Operator → ℕ
@@ -103,17 +104,32 @@ pub step_start : (o : StepOperator) → operand_start (kind.Punctuator (step_sig
 step_start step.Increment = refl
 step_start step.Decrement = refl
 
-pub specifier_is : (w : SpecifierWord) → specifier_word (kind.Keyword (specifier_keyword w)) ≡ Some w
-specifier_is word.Void = refl
-specifier_is _ = refl
+pub word_is : (w : SpecifierWord) (t : Token) → IsWord w t → specifier_word t ≡ Some w
+word_is word.Void t h = ap (λ k. specifier_in k t.start t.end) h
+word_is word.Char t h = ap (λ k. specifier_in k t.start t.end) h
+word_is word.Short t h = ap (λ k. specifier_in k t.start t.end) h
+word_is word.Int t h = ap (λ k. specifier_in k t.start t.end) h
+word_is word.Long t h = ap (λ k. specifier_in k t.start t.end) h
+word_is word.Signed t h = ap (λ k. specifier_in k t.start t.end) h
+word_is word.Unsigned t h = ap (λ k. specifier_in k t.start t.end) h
+word_is word.Const t h = ap (λ k. specifier_in k t.start t.end) h
+word_is (word.TypeName from to) t h =
+    ap (λ k. specifier_in k t.start t.end) h.0 ∙ (ap (λ n. Some (word.TypeName n t.end)) h.1 ∙ ap (λ n. Some (word.TypeName from n)) h.2)
 
 pub storage_is : (w : StorageWord) → storage_word (kind.Keyword (storage_keyword w)) ≡ Some w
 storage_is storage.Static = refl
 storage_is storage.Extern = refl
 
-pub specifier_no_else : (w : SpecifierWord) → is_fixed fixed.Else (kind.Keyword (specifier_keyword w)) ≡ false
-specifier_no_else word.Void = refl
-specifier_no_else _ = refl
+pub specifier_no_else : (w : SpecifierWord) (t : Token) → IsWord w t → is_fixed fixed.Else t.kind ≡ false
+specifier_no_else word.Void t h = ap (λ k. is_fixed fixed.Else k) h
+specifier_no_else word.Char t h = ap (λ k. is_fixed fixed.Else k) h
+specifier_no_else word.Short t h = ap (λ k. is_fixed fixed.Else k) h
+specifier_no_else word.Int t h = ap (λ k. is_fixed fixed.Else k) h
+specifier_no_else word.Long t h = ap (λ k. is_fixed fixed.Else k) h
+specifier_no_else word.Signed t h = ap (λ k. is_fixed fixed.Else k) h
+specifier_no_else word.Unsigned t h = ap (λ k. is_fixed fixed.Else k) h
+specifier_no_else word.Const t h = ap (λ k. is_fixed fixed.Else k) h
+specifier_no_else (word.TypeName from to) t h = ap (λ k. is_fixed fixed.Else k) h.0
 
 -- a token with which an operand begins is nothing else
 pub record Begins (k : Kind) : Type 0 where
@@ -122,23 +138,23 @@ pub record Begins (k : Kind) : Type 0 where
   pub no_open_brace : is_fixed fixed.OpenBrace k ≡ false
   pub no_close_brace : is_fixed fixed.CloseBrace k ≡ false
   pub no_else : is_fixed fixed.Else k ≡ false
-  pub no_specifier : specifier_word k ≡ None
+  pub no_specifier : (from to : ℕ) → specifier_in k from to ≡ None
   pub no_statement : statement_start k ≡ first.Other
 
 begins_punctuator : (p : Punctuator) → operand_start (kind.Punctuator p) ≢ start.Other → Begins (kind.Punctuator p)
-begins_punctuator mark.OpenParenthesis h = record { no_close = refl; no_semicolon = refl; no_open_brace = refl; no_close_brace = refl; no_else = refl; no_specifier = refl; no_statement = refl }
-begins_punctuator mark.Increment h = record { no_close = refl; no_semicolon = refl; no_open_brace = refl; no_close_brace = refl; no_else = refl; no_specifier = refl; no_statement = refl }
-begins_punctuator mark.Decrement h = record { no_close = refl; no_semicolon = refl; no_open_brace = refl; no_close_brace = refl; no_else = refl; no_specifier = refl; no_statement = refl }
-begins_punctuator mark.Plus h = record { no_close = refl; no_semicolon = refl; no_open_brace = refl; no_close_brace = refl; no_else = refl; no_specifier = refl; no_statement = refl }
-begins_punctuator mark.Minus h = record { no_close = refl; no_semicolon = refl; no_open_brace = refl; no_close_brace = refl; no_else = refl; no_specifier = refl; no_statement = refl }
-begins_punctuator mark.Tilde h = record { no_close = refl; no_semicolon = refl; no_open_brace = refl; no_close_brace = refl; no_else = refl; no_specifier = refl; no_statement = refl }
-begins_punctuator mark.Exclamation h = record { no_close = refl; no_semicolon = refl; no_open_brace = refl; no_close_brace = refl; no_else = refl; no_specifier = refl; no_statement = refl }
+begins_punctuator mark.OpenParenthesis h = record { no_close = refl; no_semicolon = refl; no_open_brace = refl; no_close_brace = refl; no_else = refl; no_specifier = λ from to. refl; no_statement = refl }
+begins_punctuator mark.Increment h = record { no_close = refl; no_semicolon = refl; no_open_brace = refl; no_close_brace = refl; no_else = refl; no_specifier = λ from to. refl; no_statement = refl }
+begins_punctuator mark.Decrement h = record { no_close = refl; no_semicolon = refl; no_open_brace = refl; no_close_brace = refl; no_else = refl; no_specifier = λ from to. refl; no_statement = refl }
+begins_punctuator mark.Plus h = record { no_close = refl; no_semicolon = refl; no_open_brace = refl; no_close_brace = refl; no_else = refl; no_specifier = λ from to. refl; no_statement = refl }
+begins_punctuator mark.Minus h = record { no_close = refl; no_semicolon = refl; no_open_brace = refl; no_close_brace = refl; no_else = refl; no_specifier = λ from to. refl; no_statement = refl }
+begins_punctuator mark.Tilde h = record { no_close = refl; no_semicolon = refl; no_open_brace = refl; no_close_brace = refl; no_else = refl; no_specifier = λ from to. refl; no_statement = refl }
+begins_punctuator mark.Exclamation h = record { no_close = refl; no_semicolon = refl; no_open_brace = refl; no_close_brace = refl; no_else = refl; no_specifier = λ from to. refl; no_statement = refl }
 begins_punctuator _ h = absurd (h refl)
 
 pub begins : (k : Kind) → operand_start k ≢ start.Other → Begins k
-begins kind.Name h = record { no_close = refl; no_semicolon = refl; no_open_brace = refl; no_close_brace = refl; no_else = refl; no_specifier = refl; no_statement = refl }
-begins (kind.Constant ty v) h = record { no_close = refl; no_semicolon = refl; no_open_brace = refl; no_close_brace = refl; no_else = refl; no_specifier = refl; no_statement = refl }
-begins (kind.Character v) h = record { no_close = refl; no_semicolon = refl; no_open_brace = refl; no_close_brace = refl; no_else = refl; no_specifier = refl; no_statement = refl }
+begins kind.Name h = record { no_close = refl; no_semicolon = refl; no_open_brace = refl; no_close_brace = refl; no_else = refl; no_specifier = λ from to. refl; no_statement = refl }
+begins (kind.Constant ty v) h = record { no_close = refl; no_semicolon = refl; no_open_brace = refl; no_close_brace = refl; no_else = refl; no_specifier = λ from to. refl; no_statement = refl }
+begins (kind.Character v) h = record { no_close = refl; no_semicolon = refl; no_open_brace = refl; no_close_brace = refl; no_else = refl; no_specifier = λ from to. refl; no_statement = refl }
 begins (kind.Punctuator p) h = begins_punctuator p h
 begins _ h = absurd (h refl)
 
@@ -148,13 +164,14 @@ pub record IsSpecifier (k : Kind) : Type 0 where
   pub no_end : is_fixed fixed.End k ≡ false
   pub no_close : is_fixed fixed.CloseParenthesis k ≡ false
 
-specifier_keyword_alone : (k : Keyword) (w : SpecifierWord) → specifier_word (kind.Keyword k) ≡ Some w → IsSpecifier (kind.Keyword k)
-specifier_keyword_alone key.Static w h = absurd (cc)
-specifier_keyword_alone key.Extern w h = absurd (cc)
-specifier_keyword_alone key.Else w h = absurd (cc)
-specifier_keyword_alone key.While w h = absurd (cc)
-specifier_keyword_alone _ w h = record { no_storage = refl; no_end = refl; no_close = refl }
+specifier_keyword_alone : (k : Keyword) (from to : ℕ) (w : SpecifierWord) → specifier_in (kind.Keyword k) from to ≡ Some w → IsSpecifier (kind.Keyword k)
+specifier_keyword_alone key.Static from to w h = absurd (cc)
+specifier_keyword_alone key.Extern from to w h = absurd (cc)
+specifier_keyword_alone key.Else from to w h = absurd (cc)
+specifier_keyword_alone key.While from to w h = absurd (cc)
+specifier_keyword_alone _ from to w h = record { no_storage = refl; no_end = refl; no_close = refl }
 
-pub specifier_alone : (k : Kind) (w : SpecifierWord) → specifier_word k ≡ Some w → IsSpecifier k
-specifier_alone (kind.Keyword k) w h = specifier_keyword_alone k w h
-specifier_alone _ w h = absurd (cc)
+pub specifier_alone : (k : Kind) (from to : ℕ) (w : SpecifierWord) → specifier_in k from to ≡ Some w → IsSpecifier k
+specifier_alone (kind.Keyword k) from to w h = specifier_keyword_alone k from to w h
+specifier_alone kind.TypeName from to w h = record { no_storage = refl; no_end = refl; no_close = refl }
+specifier_alone _ from to w h = absurd (cc)

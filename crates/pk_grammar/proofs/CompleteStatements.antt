@@ -14,7 +14,7 @@ use Rattle.pk_grammar.specs.declared.states.Testing.{Testing}
 use Rattle.pk_grammar.specs.declared.signs.Fixed.TheVariants as fixed
 use Rattle.pk_grammar.specs.Languages.{Marked, One, ◌⊙◌, identifier_of}
 use Rattle.pk_grammar.specs.Grammar.{Expression, punctuator, specifiers, OpenEnd, test, optional, statement, block_items}
-use Rattle.pk_grammar.specs.Machine.Signs.{is_fixed, specifier_word}
+use Rattle.pk_grammar.specs.Machine.Signs.{is_fixed, specifier_in}
 use Rattle.pk_grammar.specs.Machine.States.{Outer, Purpose, as_statement, as_test, as_result, as_whole, State, at_statement, after_statement, test_open, goto_name, returning, statement_end, operand, complete}
 use Rattle.pk_grammar.specs.Machine.Steps.{Verdict, taken, reduced, purpose_level, tested, begin_statement, step}
 use Rattle.pk_grammar.proofs.CompleteLists.{tokens_of, Reads, reads_both, reads_one, reads_none, reads_head, reads_last}
@@ -39,37 +39,37 @@ first_one {F} {n = n} h k e f = record { token = h.token; nesting = n; more = []
 
 -- a token with which a statement begins
 pub record BeginsStatement (k : Kind) : Type 0 where
-  pub no_specifier : specifier_word k ≡ None
+  pub no_specifier : (from to : ℕ) → specifier_in k from to ≡ None
   pub no_close_brace : is_fixed fixed.CloseBrace k ≡ false
   pub no_else : is_fixed fixed.Else k ≡ false
 
 pub first_statement : (s : StatementTree) (n : ℕ) (ms : List Marked) → statement s n ms → First BeginsStatement ms
 unfolding statement
-first_statement (block at items close) n ms h = first_front h (first_front h.first (first_one h.first.first _ h.first.first.holds.0 (record { no_specifier = refl; no_close_brace = refl; no_else = refl })))
-first_statement (empty at) n ms h = first_one h _ h.holds.0 (record { no_specifier = refl; no_close_brace = refl; no_else = refl })
+first_statement (block at items close) n ms h = first_front h (first_front h.first (first_one h.first.first _ h.first.first.holds.0 (record { no_specifier = λ from to. refl; no_close_brace = refl; no_else = refl })))
+first_statement (empty at) n ms h = first_one h _ h.holds.0 (record { no_specifier = λ from to. refl; no_close_brace = refl; no_else = refl })
 first_statement (expression_statement e) n ms h =
     let s = starts e (n + 1) h.front h.first.is in
     let b = begins s.token.kind s.starts in
     first_front h (record { token = s.token; nesting = s.nesting; more = s.more; is = s.is; holds = record { no_specifier = b.no_specifier; no_close_brace = b.no_close_brace; no_else = b.no_else } })
-first_statement (label id s) n ms h = first_front h (first_one h.first _ h.first.holds.0 (record { no_specifier = refl; no_close_brace = refl; no_else = refl }))
-first_statement (case at e s) n ms h = first_front h (first_one h.first _ h.first.holds.0 (record { no_specifier = refl; no_close_brace = refl; no_else = refl }))
-first_statement (default at s) n ms h = first_front h (first_one h.first _ h.first.holds.0 (record { no_specifier = refl; no_close_brace = refl; no_else = refl }))
-first_statement (if_then at e s) n ms h = first_front h (first_one h.first _ h.first.holds.0 (record { no_specifier = refl; no_close_brace = refl; no_else = refl }))
-first_statement (if_else at e s t) n ms h = first_front h (first_one h.first _ h.first.holds.0 (record { no_specifier = refl; no_close_brace = refl; no_else = refl }))
-first_statement (switch at e s) n ms h = first_front h (first_one h.first _ h.first.holds.0 (record { no_specifier = refl; no_close_brace = refl; no_else = refl }))
-first_statement (while at e s) n ms h = first_front h (first_one h.first _ h.first.holds.0 (record { no_specifier = refl; no_close_brace = refl; no_else = refl }))
-first_statement (do_while at s e) n ms h = first_front h (first_front h.first (first_one h.first.first _ h.first.first.holds.0 (record { no_specifier = refl; no_close_brace = refl; no_else = refl })))
-first_statement (for_loop at start second third s) n ms h = first_front h (first_one h.first _ h.first.holds.0 (record { no_specifier = refl; no_close_brace = refl; no_else = refl }))
-first_statement (goto at id) n ms h = first_front h (first_front h.first (first_one h.first.first _ h.first.first.holds.0 (record { no_specifier = refl; no_close_brace = refl; no_else = refl })))
-first_statement (continue at) n ms h = first_front h (first_one h.first _ h.first.holds.0 (record { no_specifier = refl; no_close_brace = refl; no_else = refl }))
-first_statement (break at) n ms h = first_front h (first_one h.first _ h.first.holds.0 (record { no_specifier = refl; no_close_brace = refl; no_else = refl }))
-first_statement (return at e) n ms h = first_front h (first_front h.first (first_one h.first.first _ h.first.first.holds.0 (record { no_specifier = refl; no_close_brace = refl; no_else = refl })))
+first_statement (label id s) n ms h = first_front h (first_one h.first _ h.first.holds.0 (record { no_specifier = λ from to. refl; no_close_brace = refl; no_else = refl }))
+first_statement (case at e s) n ms h = first_front h (first_one h.first _ h.first.holds.0 (record { no_specifier = λ from to. refl; no_close_brace = refl; no_else = refl }))
+first_statement (default at s) n ms h = first_front h (first_one h.first _ h.first.holds.0 (record { no_specifier = λ from to. refl; no_close_brace = refl; no_else = refl }))
+first_statement (if_then at e s) n ms h = first_front h (first_one h.first _ h.first.holds.0 (record { no_specifier = λ from to. refl; no_close_brace = refl; no_else = refl }))
+first_statement (if_else at e s t) n ms h = first_front h (first_one h.first _ h.first.holds.0 (record { no_specifier = λ from to. refl; no_close_brace = refl; no_else = refl }))
+first_statement (switch at e s) n ms h = first_front h (first_one h.first _ h.first.holds.0 (record { no_specifier = λ from to. refl; no_close_brace = refl; no_else = refl }))
+first_statement (while at e s) n ms h = first_front h (first_one h.first _ h.first.holds.0 (record { no_specifier = λ from to. refl; no_close_brace = refl; no_else = refl }))
+first_statement (do_while at s e) n ms h = first_front h (first_front h.first (first_one h.first.first _ h.first.first.holds.0 (record { no_specifier = λ from to. refl; no_close_brace = refl; no_else = refl })))
+first_statement (for_loop at start second third s) n ms h = first_front h (first_one h.first _ h.first.holds.0 (record { no_specifier = λ from to. refl; no_close_brace = refl; no_else = refl }))
+first_statement (goto at id) n ms h = first_front h (first_front h.first (first_one h.first.first _ h.first.first.holds.0 (record { no_specifier = λ from to. refl; no_close_brace = refl; no_else = refl })))
+first_statement (continue at) n ms h = first_front h (first_one h.first _ h.first.holds.0 (record { no_specifier = λ from to. refl; no_close_brace = refl; no_else = refl }))
+first_statement (break at) n ms h = first_front h (first_one h.first _ h.first.holds.0 (record { no_specifier = λ from to. refl; no_close_brace = refl; no_else = refl }))
+first_statement (return at e) n ms h = first_front h (first_front h.first (first_one h.first.first _ h.first.first.holds.0 (record { no_specifier = λ from to. refl; no_close_brace = refl; no_else = refl })))
 
 abbrev pub NoElse : Kind → Type 0
 NoElse k = is_fixed fixed.Else k ≡ false
 
 first_specifiers : (specs : OneOrMore Specifier) (n : ℕ) (ms : List Marked) → specifiers specs n ms → First NoElse ms
-first_specifiers specs n ms h = first_front h (first_one h.first _ h.first.holds.0 (specifier_no_else specs.first.word))
+first_specifiers specs n ms h = first_front h.is (first_one h.is.first _ refl (specifier_no_else specs.first.word h.is.first.token h.is.first.holds.0))
 
 -- the token behind an item of a block
 pub record NextToken (ts : List Token) : Type 0 where

@@ -1,3 +1,4 @@
+pub mod WordLemmas
 pub mod SpellsSigns
 pub mod SpellsWords
 pub mod SpellsStates

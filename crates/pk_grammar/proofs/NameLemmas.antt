@@ -1,6 +1,7 @@
 -- The names in trees are those among the tokens of their text.
 use Rattle.std.proofs.Common.{◌≡◌, ℕ, ◌+◌, inl, inr, List, [], ◌∷◌, ◌++◌, Option, Some, None, refl, sym, ap, ◌∙◌, append_assoc, append-nil}
 use Rattle.pk_ctypes.specs.declared.places.Pos.{Pos}
+use Rattle.pk_lex.specs.declared.token.Token.{Token}
 use Rattle.pk_lex.specs.declared.token.Kind.{Kind}
 use Rattle.pk_lex.specs.declared.token.Kind.TheVariants as kind
 use Rattle.pk_lex.specs.declared.token.Keyword.{Keyword}
@@ -8,13 +9,15 @@ use Rattle.pk_lex.specs.declared.token.Keyword.TheVariants as key
 use Rattle.pk_lex.specs.declared.token.Punctuator.{Punctuator}
 use Rattle.pk_lex.specs.declared.token.Punctuator.TheVariants as mark
 use Rattle.pk_ast.specs.declared.declarations.Specifier.{Specifier}
+use Rattle.pk_ast.specs.declared.declarations.SpecifierWord.{SpecifierWord}
+use Rattle.pk_ast.specs.declared.declarations.SpecifierWord.TheVariants as words
 use Rattle.pk_ast.specs.declared.expressions.Identifier.{Identifier}
 use Rattle.pk_ast.specs.declared.units.Storage.{Storage}
-use Rattle.pk_ast.specs.Names.{expression_names, list_names, optional_names, initializer_names, declarator_names, all_declarator_names, declaration_names, for_start_names, statement_names, item_names, body_names, optional_name, parameter_names, external_names, names_of}
+use Rattle.pk_ast.specs.Names.{word_name, word_names, specifier_names, expression_names, list_names, optional_names, initializer_names, declarator_names, all_declarator_names, declaration_names, for_start_names, statement_names, item_names, body_names, optional_name, parameter_names, external_names, names_of}
 use Rattle.pk_ast.specs.Trees.{OneOrMore, ExpressionTree, name, call, index, constant, character, parenthesized, postfix, prefix, unary, cast, binary, conditional, assignment, comma, ExpressionTrees, no_expressions, expression_then, InitializerTree, single, braced, DeclaratorTree, DeclarationTree, ForStartTree, declaration, expression, StatementTree, block, empty, expression_statement, label, case, default, if_then, if_else, switch, while, do_while, for_loop, goto, continue, break, return, ItemTrees, no_items, declaration_then, statement_then, BlockTree, ParameterTree, ExternalTree, function, objects}
 use Rattle.pk_grammar.specs.Languages.{Marked, Language, Nothing, At, Any, Identified, ◌⊙◌, Inside, Past, Optional, identifier_of}
 use Rattle.pk_grammar.specs.Grammar as grammar
-use Rattle.pk_grammar.specs.Grammar.{punctuator, punctuator_at, keyword, keyword_at, specifier, specifier_list, specifiers, spelled, spelled_list, spelled_more, Expression, Items, statement, block_items}
+use Rattle.pk_grammar.specs.Grammar.{punctuator, punctuator_at, keyword, keyword_at, specifier, specifier_list, specifiers, spelled, spelled_list, spelled_more, Expression, Items, statement, block_items, IsWord}
 use Rattle.pk_grammar.specs.Outcomes.{unmarked}
 use Rattle.pk_grammar.specs.Names.{name_of, names_among, NamesAreTokens}
 
@@ -78,12 +81,32 @@ grouped a b c f n ts h = f n ts h ∙ sym (append_assoc a b c)
 
 -- Expressions
 
-specifier_list-names : (ss : List Specifier) → Has (specifier_list ss) []
-specifier_list-names [] = nothing
-specifier_list-names (s ∷ ss) = none_then {P = specifier s} [] (word_at _ s.at) (specifier_list-names ss)
+kept_name : (t : Token) (k : Kind) → t.kind ≡ k → name_of t.kind (identifier_of t) ≡ name_of k (identifier_of t)
+kept_name t k e = ap (λ k. name_of k (identifier_of t)) e
 
-specifiers-names : (ss : OneOrMore Specifier) → Has (specifiers ss) []
-specifiers-names ss = none_then {P = specifier ss.first} [] (word_at _ ss.first.at) (specifier_list-names ss.more)
+word-name : (w : SpecifierWord) (t : Token) → IsWord w t → name_of t.kind (identifier_of t) ≡ word_name w t.at
+word-name words.Void t h = kept_name t _ h
+word-name words.Char t h = kept_name t _ h
+word-name words.Short t h = kept_name t _ h
+word-name words.Int t h = kept_name t _ h
+word-name words.Long t h = kept_name t _ h
+word-name words.Signed t h = kept_name t _ h
+word-name words.Unsigned t h = kept_name t _ h
+word-name words.Const t h = kept_name t _ h
+word-name (words.TypeName from to) t h =
+    kept_name t _ h.0 ∙ (ap (λ n. word_name (words.TypeName n t.end) t.at) h.1 ∙ ap (λ n. word_name (words.TypeName from n) t.at) h.2)
+
+specifier-names : (s : Specifier) → Has (specifier s) (word_name s.word s.at)
+specifier-names s n ts h =
+    ap names_in h.is ∙ ap (λ q. q ++ []) (word-name s.word h.token h.holds.0 ∙ ap (λ p. word_name s.word p) h.holds.1) ∙ append-nil (word_name s.word s.at)
+
+specifier_list-names : (ss : List Specifier) → Has (specifier_list ss) (word_names ss)
+specifier_list-names [] = nothing
+specifier_list-names (s ∷ ss) = both {P = specifier s} (word_name s.word s.at) (word_names ss) (specifier-names s) (specifier_list-names ss)
+
+specifiers-names : (ss : OneOrMore Specifier) → Has (specifiers ss) (specifier_names ss)
+specifiers-names ss n ts h =
+    let r = ss.first in both {P = specifier r} (word_name r.word r.at) (word_names ss.more) (specifier-names r) (specifier_list-names ss.more) n ts h.is
 
 mutual
   unfolding spelled expression_names
@@ -104,8 +127,9 @@ mutual
   spelled-names (prefix o at e) = inside (expression_names e) (none_then (expression_names e) (sign_at _ at) (spelled-names e))
   spelled-names (unary o at e) = inside (expression_names e) (none_then (expression_names e) (sign_at _ at) (spelled-names e))
   spelled-names (cast at specs e) =
+      let ws : List Identifier = specifier_names specs in
       let xs : List Identifier = expression_names e in
-      inside xs (none_then xs (sign_at mark.OpenParenthesis at) (none_then xs (specifiers-names specs) (none_then xs (sign mark.CloseParenthesis) (spelled-names e))))
+      inside (ws ++ xs) (none_then (ws ++ xs) (sign_at mark.OpenParenthesis at) (both ws xs (specifiers-names specs) (none_then xs (sign mark.CloseParenthesis) (spelled-names e))))
   spelled-names (binary o at a b) =
       both (expression_names a) (expression_names b) (spelled-names a) (past _ (expression_names b) (none_then (expression_names b) (sign_at _ at) (spelled-names b)))
   spelled-names (conditional at c a b) =
@@ -165,9 +189,10 @@ more_declarators-names (d ∷ ds) =
 
 declared-names : (d : DeclarationTree) → Has (grammar.declared d) (declaration_names d)
 declared-names d =
+    let named : List Identifier = specifier_names d.specifiers in
     let first : List Identifier = declarator_names d.declarators.first in
     let more : List Identifier = all_declarator_names d.declarators.more in
-    none_then (first ++ more) (specifiers-names d.specifiers)
+    both named (first ++ more) (specifiers-names d.specifiers)
     (then_none (first ++ more) (both first more (declarator-names d.declarators.first) (more_declarators-names d.declarators.more)) (sign mark.Semicolon))
 
 -- Statements
@@ -254,8 +279,11 @@ stored-names : (s : Option Storage) → Has (grammar.stored s) []
 stored-names None = nothing
 stored-names (Some s) = word_at _ s.at
 
-parameter-names : (p : ParameterTree) → Has (grammar.parameter p) (optional_name p.name)
-parameter-names p = none_then (optional_name p.name) (specifiers-names p.specifiers) (named p.name)
+abbrev own_names : ParameterTree → List Identifier
+own_names p = specifier_names p.specifiers ++ optional_name p.name
+
+parameter-names : (p : ParameterTree) → Has (grammar.parameter p) (own_names p)
+parameter-names p = both (specifier_names p.specifiers) (optional_name p.name) (specifiers-names p.specifiers) (named p.name)
   where
     named : (x : Option Identifier) → Has (grammar.optional_name x) (optional_name x)
     named None = nothing
@@ -264,12 +292,12 @@ parameter-names p = none_then (optional_name p.name) (specifiers-names p.specifi
 more_parameters-names : (ps : List ParameterTree) → Has (grammar.more_parameters ps) (parameter_names ps)
 more_parameters-names [] = nothing
 more_parameters-names (p ∷ ps) =
-    none_then (optional_name p.name ++ parameter_names ps) (sign mark.Comma) (both (optional_name p.name) (parameter_names ps) (parameter-names p) (more_parameters-names ps))
+    none_then (own_names p ++ parameter_names ps) (sign mark.Comma) (both (own_names p) (parameter_names ps) (parameter-names p) (more_parameters-names ps))
 
 parameters-names : (ps : List ParameterTree) → Has (grammar.parameters ps) (parameter_names ps)
 parameters-names [] n ts h = maybe (word key.Void) n ts h
-parameters-names (p ∷ []) n ts h = parameter-names p n ts h.is ∙ sym (append-nil (optional_name p.name))
-parameters-names (p ∷ q ∷ more) n ts h = both (optional_name p.name) (parameter_names (q ∷ more)) (parameter-names p) (more_parameters-names (q ∷ more)) n ts h
+parameters-names (p ∷ []) n ts h = parameter-names p n ts h.is ∙ sym (append-nil (own_names p))
+parameters-names (p ∷ q ∷ more) n ts h = both (own_names p) (parameter_names (q ∷ more)) (parameter-names p) (more_parameters-names (q ∷ more)) n ts h
 
 body-names : (b : Option BlockTree) → Has (grammar.function_end b) (body_names b)
 unfolding statement_names
@@ -280,8 +308,9 @@ external-names : (x : ExternalTree) → Has (grammar.external x) (external_names
 external-names (function f) =
     let xs : List Identifier = parameter_names f.parameters in
     let ys : List Identifier = body_names f.body in
+    let named : List Identifier = specifier_names f.specifiers in
     let all : List Identifier = f.name ∷ (xs ++ ys) in
-    none_then all (stored-names f.storage) (none_then all (specifiers-names f.specifiers) (both (f.name ∷ []) (xs ++ ys) (identified f.name)
+    none_then (named ++ all) (stored-names f.storage) (both named all (specifiers-names f.specifiers) (both (f.name ∷ []) (xs ++ ys) (identified f.name)
     (both xs ys (inside xs (none_then xs (sign mark.OpenParenthesis) (parameters-names f.parameters))) (none_then ys (sign mark.CloseParenthesis) (body-names f.body)))))
 external-names (objects s d) = none_then (declaration_names d) (stored-names s) (declared-names d)
 

@@ -49,9 +49,9 @@ step_good (after_statement s o) t ms h = resume_good o s t ms (λ e. h.0) h.1
 step_good (test_open w n at o) t ms h = wanted_good fixed.OpenParenthesis _ t ms (λ k. (two n, push_at ms t (two n) h k))
 step_good (do_open n at s o) t ms h = wanted_good fixed.OpenParenthesis _ t ms (λ k. (two n, push_at ms t (two n) h k))
 step_good (for_open n at o) t ms h = wanted_good fixed.OpenParenthesis _ t ms (λ k. (h.0, push_at ms t (two n) h.1 k))
-step_good (for_first n at o) t ms h = go (specifier_word t.kind) (is_specifier t.kind)
+step_good (for_first n at o) t ms h = go (specifier_word t) (is_specifier t)
   where
-    go : (w : Option SpecifierWord) → IsSpecifier w t.kind → Good (begin_for n at o t w) t ms
+    go : (w : Option SpecifierWord) → IsSpecifier w t → Good (begin_for n at o t w) t ms
     go (Some w) k = first_word w t (n + 2) ms k h
     go None k = fixed_good fixed.Semicolon _ _ t ms (λ k. gather (push_at ms t (two n) (none_more (n + 1 + 1) h) k)) (at_operand_good (n + 2) (as_whole (as_first n at o)) t ms (two n) h)
 step_good (for_second n at f o) t ms h =

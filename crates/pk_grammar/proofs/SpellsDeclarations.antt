@@ -11,10 +11,9 @@ use Rattle.pk_ast.specs.Trees.{OneOrMore, ExpressionTree, InitializerTree, Decla
 use Rattle.pk_grammar.specs.declared.signs.Fixed.TheVariants as fixed
 use Rattle.pk_grammar.specs.Languages.{Marked, Optional, Identified}
 use Rattle.pk_grammar.specs.Grammar.{Items, specifiers, initializer, declared, punctuator}
-use Rattle.pk_grammar.specs.Machine.Signs.{specifier_word}
 use Rattle.pk_grammar.specs.Machine.States.{function_block, inner_block, Site, in_a_block, in_a_for, outside, Declaring, Declared, Naming}
-use Rattle.pk_grammar.specs.Machine.Steps.{more_specifiers, without_length, open_parameters, at_after_name, at_after_length, site_nesting, naming_nesting, with_initializer, end_declaration, next_declarator, after_declarator}
-use Rattle.pk_grammar.proofs.SpellsSigns.{IsSpecifier, is_specifier}
+use Rattle.pk_grammar.specs.Machine.Steps.{more_specifiers, without_length, open_parameters, at_after_name, at_after_length, site_nesting, naming_nesting, with_initializer, end_declaration, next_declarator, after_declarator, next_word}
+use Rattle.pk_grammar.proofs.SpellsSigns.{IsNext, is_next}
 use Rattle.pk_grammar.proofs.SpellsWords.{drop_none, ◌▹◌, push, none_more, gather, together, last_as, before_as, moved}
 use Rattle.pk_grammar.proofs.SpellsLists.{one_more_word, declarators_end, declarators_comma, items_declaration, externals_end}
 use Rattle.pk_grammar.proofs.SpellsStates.{to_declaration, to_declarator, to_declarator_end, to_initializer, to_brace, bare_two}
@@ -51,10 +50,10 @@ braces_end d at e es t ms k h = initialized d (Some (braced at e es)) _ (gather 
 -- A declarator's steps
 
 pub more_specifiers_good : (s : Site) (ss : OneOrMore Specifier) (t : Token) (ms : List Marked) → (to_declaration s ▹ specifiers ss (site_nesting s)) ms →
-    Good (more_specifiers s ss t (specifier_word t.kind)) t ms
-more_specifiers_good s ss t ms h = go (specifier_word t.kind) (is_specifier t.kind)
+    Good (more_specifiers s ss t (next_word ss t)) t ms
+more_specifiers_good s ss t ms h = go (next_word ss t) (is_next ss t)
   where
-    go : (w : Option SpecifierWord) → IsSpecifier w t.kind → Good (more_specifiers s ss t w) t ms
+    go : (w : Option SpecifierWord) → IsNext ss w t → Good (more_specifiers s ss t w) t ms
     go (Some w) k = one_more_word ss w t (site_nesting s) ms k h
     go None k = wanted_good fixed.Name _ t ms (λ k. push ms t (none_more (site_nesting s) h) (k, refl))
 

@@ -1,5 +1,5 @@
 -- What the steps of an external definition leave.
-use Rattle.std.proofs.Common.{◌≡◌, ℕ, inr, List, [], ◌∷◌, Bool, true, false, Option, Some, None, if◌then◌else◌, refl, ap, ◌∙◌}
+use Rattle.std.proofs.Common.{◌≡◌, ℕ, inr, List, [], ◌∷◌, Bool, true, false, Option, Some, None, if◌then◌else◌, refl, ap, ◌∙◌, subst}
 use Rattle.pk_lex.specs.declared.token.Token.{Token}
 use Rattle.pk_lex.specs.declared.token.Kind.TheVariants as kind
 use Rattle.pk_lex.specs.declared.token.Keyword.TheVariants as key
@@ -13,20 +13,20 @@ use Rattle.pk_ast.specs.declared.units.StorageWord.{StorageWord}
 use Rattle.pk_ast.specs.Trees.{OneOrMore, ParameterTree, ExternalTree}
 use Rattle.pk_grammar.specs.declared.signs.Fixed.TheVariants as fixed
 use Rattle.pk_grammar.specs.Languages.{Marked, ◌⊙◌, identifier_of}
-use Rattle.pk_grammar.specs.Grammar.{specifier_keyword, keyword, punctuator, specifier, specifier_list, specifiers, stored, parameter, IsVoidAlone, parameters, externals, statement}
+use Rattle.pk_grammar.specs.Grammar.{keyword, punctuator, specifier, specifier_list, specifiers, stored, parameter, IsVoidAlone, parameters, externals, statement, IsWord}
 use Rattle.pk_grammar.specs.Machine.Signs.{specifier_word, storage_word, is_void_word}
 use Rattle.pk_grammar.specs.Machine.States.{Head, parameters_closed}
-use Rattle.pk_grammar.specs.Machine.Steps.{taken, begin_external, storage_or_specifier, begin_parameter, is_void_alone, is_void, last_parameter, more_parameter, at_parameter_name, at_parameters_closed}
-use Rattle.pk_grammar.proofs.SpellsSigns.{IsSpecifier, is_specifier, IsStorage, is_storage}
+use Rattle.pk_grammar.specs.Machine.Steps.{taken, begin_external, storage_or_specifier, begin_parameter, is_void_alone, is_void, last_parameter, more_parameter, at_parameter_name, at_parameters_closed, next_word}
+use Rattle.pk_grammar.proofs.SpellsSigns.{IsSpecifier, is_specifier, IsNext, is_next, IsStorage, is_storage}
 use Rattle.pk_grammar.proofs.SpellsWords.{and_none, drop_none, drop_last, Words, ◌▹◌, push, none_more, not_there, gather, together, last_as, before_as}
 use Rattle.pk_grammar.proofs.SpellsLists.{first_word, one_more_word, parameters_end, parameters_comma, externals_end}
 use Rattle.pk_grammar.proofs.SpellsStates.{parameters_before, to_parameters, to_body}
 use Rattle.pk_grammar.proofs.SpellsGood.{Good, fixed_good, wanted_good}
 
-pub begin_external_good : (before : List ExternalTree) (s : Option Storage) (t : Token) (ms : List Marked) → (externals before 0 ▹ stored s 0) ms → Good (begin_external before s t (specifier_word t.kind)) t ms
-begin_external_good before s t ms h = go (specifier_word t.kind) (is_specifier t.kind)
+pub begin_external_good : (before : List ExternalTree) (s : Option Storage) (t : Token) (ms : List Marked) → (externals before 0 ▹ stored s 0) ms → Good (begin_external before s t (specifier_word t)) t ms
+begin_external_good before s t ms h = go (specifier_word t) (is_specifier t)
   where
-    go : (w : Option SpecifierWord) → IsSpecifier w t.kind → Good (begin_external before s t w) t ms
+    go : (w : Option SpecifierWord) → IsSpecifier w t → Good (begin_external before s t w) t ms
     go (Some w) k = first_word w t 0 ms k h
     go None k = tt
 
@@ -40,10 +40,10 @@ at_top_good before t ms h = go (storage_word t.kind) (is_storage t.kind)
 -- Parameters
 
 pub begin_parameter_good : (h : Head) (ps : List ParameterTree) (t : Token) (ms : List Marked) →
-    (to_parameters h ▹ punctuator mark.OpenParenthesis 1 ▹ parameters_before ps 1) ms → Good (begin_parameter h ps t (specifier_word t.kind)) t ms
-begin_parameter_good h ps t ms g = go (specifier_word t.kind) (is_specifier t.kind)
+    (to_parameters h ▹ punctuator mark.OpenParenthesis 1 ▹ parameters_before ps 1) ms → Good (begin_parameter h ps t (specifier_word t)) t ms
+begin_parameter_good h ps t ms g = go (specifier_word t) (is_specifier t)
   where
-    go : (w : Option SpecifierWord) → IsSpecifier w t.kind → Good (begin_parameter h ps t w) t ms
+    go : (w : Option SpecifierWord) → IsSpecifier w t → Good (begin_parameter h ps t w) t ms
     go (Some w) k = first_word w t 1 ms k g
     go None k = tt
 
@@ -55,11 +55,11 @@ void_word _ e = cc
 void_first : (s : Specifier) (more : List Specifier) (n : ℕ) (ts : List Marked) → is_void_alone s.word more ≡ true → (specifier s ⊙ specifier_list more) n ts → keyword key.Void n ts
 void_first s [] n ts e h =
     let g = drop_last h in
-    record { token = g.token; is = g.is; holds = g.holds.0 ∙ ap (λ w. kind.Keyword (specifier_keyword w)) (void_word s.word e) }
+    record { token = g.token; is = g.is; holds = subst (λ w. IsWord w g.token) (void_word s.word e) g.holds.0 }
 void_first s (r ∷ more) n ts e h = cc
 
 void_alone : (ss : OneOrMore Specifier) (n : ℕ) (ts : List Marked) → is_void ss ≡ true → specifiers ss n ts → keyword key.Void n ts
-void_alone ss n ts e h = void_first ss.first ss.more n ts e h
+void_alone ss n ts e h = void_first ss.first ss.more n ts e h.is
 
 is_void_of : (ss : OneOrMore Specifier) → ss.first.word ≡ word.Void → ss.more ≡ [] → is_void ss ≡ true
 is_void_of ss e f = ap (λ more. is_void_alone ss.first.word more) f ∙ ap is_void_word e
@@ -75,10 +75,10 @@ last_parameter_good [] ss ms h = last_as (λ ts g. only_parameter (is_void ss) s
 last_parameter_good (p ∷ ps) ss ms h = last_as (λ ts g. parameters_end (p ∷ ps) _ 1 ts (λ e. cc) g) (gather (gather (none_more 1 h)))
 
 pub more_parameter_good : (h : Head) (ps : List ParameterTree) (ss : OneOrMore Specifier) (t : Token) (ms : List Marked) →
-    (to_parameters h ▹ punctuator mark.OpenParenthesis 1 ▹ parameters_before ps 1 ▹ specifiers ss 1) ms → Good (more_parameter h ps ss t (specifier_word t.kind)) t ms
-more_parameter_good h ps ss t ms g = go (specifier_word t.kind) (is_specifier t.kind)
+    (to_parameters h ▹ punctuator mark.OpenParenthesis 1 ▹ parameters_before ps 1 ▹ specifiers ss 1) ms → Good (more_parameter h ps ss t (next_word ss t)) t ms
+more_parameter_good h ps ss t ms g = go (next_word ss t) (is_next ss t)
   where
-    go : (w : Option SpecifierWord) → IsSpecifier w t.kind → Good (more_parameter h ps ss t w) t ms
+    go : (w : Option SpecifierWord) → IsNext ss w t → Good (more_parameter h ps ss t w) t ms
     go (Some w) k = one_more_word ss w t 1 ms k g
     go None k =
         fixed_good fixed.Name _ _ t ms (λ k. (λ v. let e : ◌≡◌ {A = Option Identifier} (Some (identifier_of t)) None = v.2 in cc, gather (push ms t g (k, refl))))

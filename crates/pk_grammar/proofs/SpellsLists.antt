@@ -1,5 +1,5 @@
 -- Lists that grow at their end.
-use Rattle.std.proofs.Common.{◌≡◌, ℕ, List, [], ◌∷◌, ◌++◌, Some, refl}
+use Rattle.std.proofs.Common.{◌≡◌, ℕ, List, [], ◌∷◌, ◌++◌, Some, true, refl}
 use Rattle.pk_lex.specs.declared.token.Token.{Token}
 use Rattle.pk_lex.specs.declared.token.Punctuator.TheVariants as mark
 use Rattle.pk_ast.specs.declared.declarations.SpecifierWord.{SpecifierWord}
@@ -8,8 +8,9 @@ use Rattle.pk_ast.specs.Lists.{one, with_last, ended}
 use Rattle.pk_ast.specs.Trees.{OneOrMore, ExpressionTree, ExpressionTrees, no_expressions, expression_then, DeclaratorTree, DeclarationTree, StatementTree, ItemTrees, no_items, declaration_then, statement_then, ParameterTree, ExternalTree}
 use Rattle.pk_grammar.specs.Languages.{Marked, ◌⊙◌}
 use Rattle.pk_grammar.specs.Grammar.{punctuator, assignment_expression, Fits, AllFit, specifier, specifier_list, specifiers, Items, spelled, spelled_list, spelled_more, declarator, more_declarators, declarators, declared, statement, block_items, parameter, IsVoidAlone, more_parameters, parameters, external, externals}
-use Rattle.pk_grammar.specs.Machine.Steps.{specifier_at, first_item, more_items, one_more, one_more_statement, one_more_declaration}
-use Rattle.pk_grammar.proofs.SpellsSigns.{IsSpecifier}
+use Rattle.pk_grammar.specs.Machine.Steps.{specifier_at, may_follow, first_item, more_items, one_more, one_more_statement, one_more_declaration}
+use Rattle.pk_grammar.proofs.WordLemmas.{alone_goes, goes_on}
+use Rattle.pk_grammar.proofs.SpellsSigns.{IsSpecifier, IsNext}
 use Rattle.pk_grammar.proofs.SpellsWords.{Words, ◌▹◌, push, gather, last_as, assoc, then_as, alone, and_none}
 use Rattle.pk_grammar.proofs.SpellsStates.{expressions_before, declarators_before, parameters_before}
 
@@ -57,13 +58,18 @@ specifiers_end [] s n ts h = and_none n ts (alone h)
 specifiers_end (a ∷ ss) s n ts h = then_as (λ us g. specifiers_end ss s n us g) (assoc h)
 
 -- a first word of a type, and one more
-pub first_word : {R : Words} (w : SpecifierWord) (t : Token) (n : ℕ) (ms : List Marked) → IsSpecifier (Some w) t.kind → R ms →
+pub first_word : {R : Words} (w : SpecifierWord) (t : Token) (n : ℕ) (ms : List Marked) → IsSpecifier (Some w) t → R ms →
     (R ▹ specifiers (one (specifier_at t w)) n) (ms ++ record { token = t; nesting = n } ∷ [])
-first_word w t n ms k h = last_as (λ ts g. and_none n ts g) (push ms t h (k, refl))
+first_word w t n ms k h = last_as (λ ts g. record { holds = alone_goes (specifier_at t w); is = and_none n ts g }) (push ms t h (k, refl))
 
-pub one_more_word : {R : Words} (ss : OneOrMore Specifier) (w : SpecifierWord) (t : Token) (n : ℕ) (ms : List Marked) → IsSpecifier (Some w) t.kind → (R ▹ specifiers ss n) ms →
+words_end : (ss : OneOrMore Specifier) (s : Specifier) (n : ℕ) (ts : List Marked) → may_follow ss s.word ≡ true → (specifiers ss ⊙ specifier s) n ts → specifiers (with_last ss s) n ts
+words_end ss s n ts f g =
+    let h : ((specifier ss.first ⊙ specifier_list ss.more) ⊙ specifier s) n ts = record { front = g.front; back = g.back; cut = g.cut; first = g.first.is; second = g.second } in
+    record { holds = goes_on (ss.first ∷ ss.more) s g.first.holds f; is = then_as (λ us e. specifiers_end ss.more s n us e) (assoc h) }
+
+pub one_more_word : {R : Words} (ss : OneOrMore Specifier) (w : SpecifierWord) (t : Token) (n : ℕ) (ms : List Marked) → IsNext ss (Some w) t → (R ▹ specifiers ss n) ms →
     (R ▹ specifiers (with_last ss (specifier_at t w)) n) (ms ++ record { token = t; nesting = n } ∷ [])
-one_more_word ss w t n ms k h = last_as (λ ts g. then_as (λ us f. specifiers_end ss.more (specifier_at t w) n us f) (assoc g)) (gather (push ms t h (k, refl)))
+one_more_word ss w t n ms k h = last_as (λ ts g. words_end ss (specifier_at t w) n ts k.1 g) (gather (push ms t h (k.0, refl)))
 
 more_declarators_end : (ds : List DeclaratorTree) (d : DeclaratorTree) (n : ℕ) (ts : List Marked) →
     ((punctuator mark.Comma ⊙ declarators_before ds) ⊙ declarator d) n ts → more_declarators (ds ++ d ∷ []) n ts

@@ -1,13 +1,16 @@
 -- What a token's kind is, by what it tells the parser.
-use Rattle.std.proofs.Common.{◌≡◌, ℕ, [], ◌∷◌, get_or, true, Option, Some, None, refl, sym, ap, subst, ◌∙◌, arith}
+use Rattle.std.proofs.Common.{◌≡◌, ℕ, [], ◌∷◌, get_or, Bool, true, false, if◌then◌else◌, Option, Some, None, refl, sym, ap, subst, ◌∙◌, arith}
 use Rattle.std.specs.Prelude.{◌==◌}
+use Rattle.pk_lex.specs.declared.token.Token.{Token}
 use Rattle.pk_lex.specs.declared.token.Kind.{Kind}
 use Rattle.pk_lex.specs.declared.token.Kind.TheVariants as kind
 use Rattle.pk_lex.specs.declared.token.Keyword.{Keyword}
 use Rattle.pk_lex.specs.declared.token.Keyword.TheVariants as key
 use Rattle.pk_lex.specs.declared.token.Punctuator.TheVariants as mark
+use Rattle.pk_ast.specs.declared.declarations.Specifier.{Specifier}
 use Rattle.pk_ast.specs.declared.declarations.SpecifierWord.{SpecifierWord}
 use Rattle.pk_ast.specs.declared.units.StorageWord.{StorageWord}
+use Rattle.pk_ast.specs.Trees.{OneOrMore}
 use Rattle.pk_grammar.specs.declared.states.Testing.{Testing}
 use Rattle.pk_grammar.specs.declared.states.Testing.TheVariants as testing
 use Rattle.pk_grammar.specs.declared.signs.Fixed.{Fixed}
@@ -18,8 +21,9 @@ use Rattle.pk_grammar.specs.declared.signs.Operator.{Operator}
 use Rattle.pk_grammar.specs.declared.signs.Operator.TheVariants as operator
 use Rattle.pk_grammar.specs.declared.signs.StatementStart.{StatementStart}
 use Rattle.pk_grammar.specs.declared.signs.StatementStart.TheVariants as first
-use Rattle.pk_grammar.specs.Grammar.{binary_sign, unary_sign, step_sign, assignment_sign, specifier_keyword, storage_keyword}
-use Rattle.pk_grammar.specs.Machine.Signs.{fixed_number, fixed_of, is_fixed, specifier_word, storage_word, operand_start, operator_of, statement_start}
+use Rattle.pk_grammar.specs.Grammar.{binary_sign, unary_sign, step_sign, assignment_sign, IsWord, storage_keyword}
+use Rattle.pk_grammar.specs.Machine.Signs.{fixed_number, fixed_of, is_fixed, specifier_in, specifier_word, where_it_follows, all_const, has_type_name, storage_word, operand_start, operator_of, statement_start}
+use Rattle.pk_grammar.specs.Machine.Steps.{may_follow, next_word}
 
 -- the kinds of which each table gives this answer
 
@@ -76,9 +80,9 @@ IsStatement first.Break k = k ≡ kind.Keyword key.Break
 IsStatement first.Return k = k ≡ kind.Keyword key.Return
 IsStatement first.Other k = Unit {0}
 
-abbrev pub IsSpecifier : Option SpecifierWord → Kind → Type 0
-IsSpecifier None k = Unit {0}
-IsSpecifier (Some w) k = k ≡ kind.Keyword (specifier_keyword w)
+abbrev pub IsSpecifier : Option SpecifierWord → Token → Type 0
+IsSpecifier None t = Unit {0}
+IsSpecifier (Some w) t = IsWord w t
 
 abbrev pub IsStorage : Option StorageWord → Kind → Type 0
 IsStorage None k = Unit {0}
@@ -151,16 +155,36 @@ is_statement (kind.Keyword key.Break) = refl
 is_statement (kind.Keyword key.Return) = refl
 is_statement _ = tt
 
-pub is_specifier : (k : Kind) → IsSpecifier (specifier_word k) k
-is_specifier (kind.Keyword key.Void) = refl
-is_specifier (kind.Keyword key.Char) = refl
-is_specifier (kind.Keyword key.Short) = refl
-is_specifier (kind.Keyword key.Int) = refl
-is_specifier (kind.Keyword key.Long) = refl
-is_specifier (kind.Keyword key.Signed) = refl
-is_specifier (kind.Keyword key.Unsigned) = refl
-is_specifier (kind.Keyword key.Const) = refl
-is_specifier _ = tt
+specifier_kind : (k : Kind) (from to : ℕ) (t : Token) → t.kind ≡ k → t.start ≡ from → t.end ≡ to → IsSpecifier (specifier_in k from to) t
+specifier_kind (kind.Keyword key.Void) from to t e f g = e
+specifier_kind (kind.Keyword key.Char) from to t e f g = e
+specifier_kind (kind.Keyword key.Short) from to t e f g = e
+specifier_kind (kind.Keyword key.Int) from to t e f g = e
+specifier_kind (kind.Keyword key.Long) from to t e f g = e
+specifier_kind (kind.Keyword key.Signed) from to t e f g = e
+specifier_kind (kind.Keyword key.Unsigned) from to t e f g = e
+specifier_kind (kind.Keyword key.Const) from to t e f g = e
+specifier_kind kind.TypeName from to t e f g = (e, f, g)
+specifier_kind _ from to t e f g = tt
+
+pub is_specifier : (t : Token) → IsSpecifier (specifier_word t) t
+is_specifier t = specifier_kind t.kind t.start t.end t refl refl refl
+
+-- a word that comes next may follow those before it
+abbrev pub IsNext : OneOrMore Specifier → Option SpecifierWord → Token → Type 0
+IsNext done None t = Unit {0}
+IsNext done (Some w) t = IsWord w t × (may_follow done w ≡ true)
+
+pub is_next : (done : OneOrMore Specifier) (t : Token) → IsNext done (next_word done t) t
+is_next done t = by_word (specifier_word t) (is_specifier t)
+  where
+    by_test : (w : SpecifierWord) → IsWord w t → (b : Bool) → may_follow done w ≡ b → IsNext done (if b then Some w else None) t
+    by_test w k true e = (k, e)
+    by_test w k false e = tt
+
+    by_word : (o : Option SpecifierWord) → IsSpecifier o t → IsNext done (where_it_follows (all_const (done.first ∷ done.more)) (has_type_name (done.first ∷ done.more)) o) t
+    by_word None k = tt
+    by_word (Some w) k = by_test w k (may_follow done w) refl
 
 pub is_storage : (k : Kind) → IsStorage (storage_word k) k
 is_storage (kind.Keyword key.Static) = refl

@@ -51,13 +51,13 @@ with_statement_good : (b : OpenBlock) (s : StatementTree) (ms : List Marked) →
 with_statement_good (function_block h ps at items) s ms g = last_as (λ ts f. items_statement items s 1 ts f) (gather g)
 with_statement_good (inner_block n at items o) s ms g = (g.first.0, last_as (λ ts f. items_statement items s (n + 1) ts f) (gather (bare g)))
 
-declaration_or_statement_good : (b : OpenBlock) (t : Token) (ms : List Marked) (w : Option SpecifierWord) → IsSpecifier w t.kind → to_item b ms → Good (declaration_or_statement b t w) t ms
+declaration_or_statement_good : (b : OpenBlock) (t : Token) (ms : List Marked) (w : Option SpecifierWord) → IsSpecifier w t → to_item b ms → Good (declaration_or_statement b t w) t ms
 declaration_or_statement_good b t ms (Some w) k g = first_word w t (block_nesting b) ms k g
 declaration_or_statement_good b t ms None k g =
     fixed_good fixed.CloseBrace _ _ t ms (λ k. end_block_good b t ms k g) (begins_statement_good (block_nesting b) (in_block b) t ms refl g)
 
 pub at_items_good : (b : OpenBlock) (t : Token) (ms : List Marked) → to_item b ms → Good (at_items b t) t ms
-at_items_good b t ms g = declaration_or_statement_good b t ms (specifier_word t.kind) (is_specifier t.kind) g
+at_items_good b t ms g = declaration_or_statement_good b t ms (specifier_word t) (is_specifier t) g
 
 -- a statement was read, and what it is part of goes on; no else follows it that it could take
 pub resume_good : (o : Outer) (s : StatementTree) (t : Token) (ms : List Marked) → (is_fixed fixed.Else t.kind ≡ true → ¬ OpenEnd s) →

@@ -1,6 +1,7 @@
 -- The grammar, as a relation between trees and whole lists of tokens, each with its nesting (after C99 6.5 to 6.9).
-use Rattle.std.specs.Prelude.{◌≡◌, ℕ, ◌+◌, ◌≤◌, List, [], ◌∷◌, Option, Some, None}
+use Rattle.std.specs.Prelude.{◌≡◌, ℕ, ◌+◌, ◌≤◌, ◌⊎◌, List, [], ◌∷◌, Option, Some, None}
 use Rattle.pk_ctypes.specs.declared.places.Pos.{Pos}
+use Rattle.pk_lex.specs.declared.token.Token.{Token}
 use Rattle.pk_lex.specs.declared.token.Kind.TheVariants as kind
 use Rattle.pk_lex.specs.declared.token.Keyword.{Keyword}
 use Rattle.pk_lex.specs.declared.token.Keyword.TheVariants as key
@@ -22,7 +23,7 @@ use Rattle.pk_ast.specs.declared.units.Storage.{Storage}
 use Rattle.pk_ast.specs.declared.units.StorageWord.{StorageWord}
 use Rattle.pk_ast.specs.declared.units.StorageWord.TheVariants as storage
 use Rattle.pk_ast.specs.Trees.{OneOrMore, ExpressionTree, name, call, index, constant, character, parenthesized, postfix, prefix, unary, cast, binary, conditional, assignment, comma, ExpressionTrees, no_expressions, expression_then, InitializerTree, single, braced, DeclaratorTree, DeclarationTree, ForStartTree, declaration, expression, StatementTree, block, empty, expression_statement, label, case, default, if_then, if_else, switch, while, do_while, for_loop, goto, continue, break, return, ItemTrees, no_items, declaration_then, statement_then, BlockTree, ParameterTree, ExternalTree, function, objects}
-use Rattle.pk_grammar.specs.Languages.{Marked, Language, Nothing, At, Any, Identified, ◌⊙◌, Inside, Past, Optional, Where}
+use Rattle.pk_grammar.specs.Languages.{Marked, Language, Nothing, One, At, Any, Identified, ◌⊙◌, Inside, Past, Optional, Where}
 
 -- Signs
 
@@ -69,15 +70,17 @@ assignment_sign asg.And = mark.AmpersandAssign
 assignment_sign asg.ExclusiveOr = mark.CaretAssign
 assignment_sign asg.Or = mark.BarAssign
 
-abbrev pub specifier_keyword : SpecifierWord → Keyword
-specifier_keyword word.Void = key.Void
-specifier_keyword word.Char = key.Char
-specifier_keyword word.Short = key.Short
-specifier_keyword word.Int = key.Int
-specifier_keyword word.Long = key.Long
-specifier_keyword word.Signed = key.Signed
-specifier_keyword word.Unsigned = key.Unsigned
-specifier_keyword word.Const = key.Const
+-- the token is this word of a type, or this type name
+abbrev pub IsWord : SpecifierWord → Token → Type 0
+IsWord word.Void t = t.kind ≡ kind.Keyword key.Void
+IsWord word.Char t = t.kind ≡ kind.Keyword key.Char
+IsWord word.Short t = t.kind ≡ kind.Keyword key.Short
+IsWord word.Int t = t.kind ≡ kind.Keyword key.Int
+IsWord word.Long t = t.kind ≡ kind.Keyword key.Long
+IsWord word.Signed t = t.kind ≡ kind.Keyword key.Signed
+IsWord word.Unsigned t = t.kind ≡ kind.Keyword key.Unsigned
+IsWord word.Const t = t.kind ≡ kind.Keyword key.Const
+IsWord (word.TypeName start end) t = (t.kind ≡ kind.TypeName) × (t.start ≡ start) × (t.end ≡ end)
 
 abbrev pub storage_keyword : StorageWord → Keyword
 storage_keyword storage.Static = key.Static
@@ -219,15 +222,43 @@ commas_in (assignment o at a b) = 0
 commas_in (comma at a b) = commas_in a + 1
 
 abbrev pub specifier : Specifier → Language
-specifier s = keyword_at (specifier_keyword s.word) s.at
+specifier s = One (λ t. IsWord s.word t × (t.at ≡ s.at))
 
 -- words of a type, one after another
 abbrev pub specifier_list : List Specifier → Language
 specifier_list [] = Nothing
 specifier_list (s ∷ more) = specifier s ⊙ specifier_list more
 
+abbrev pub IsTypeName : SpecifierWord → Type 0
+IsTypeName word.Void = ⊥
+IsTypeName word.Char = ⊥
+IsTypeName word.Short = ⊥
+IsTypeName word.Int = ⊥
+IsTypeName word.Long = ⊥
+IsTypeName word.Signed = ⊥
+IsTypeName word.Unsigned = ⊥
+IsTypeName word.Const = ⊥
+IsTypeName (word.TypeName start end) = Unit {0}
+
+abbrev pub AreKeywords : List Specifier → Type 0
+AreKeywords [] = Unit {0}
+AreKeywords (s ∷ more) = (¬ IsTypeName s.word) × AreKeywords more
+
+abbrev pub AreConst : List Specifier → Type 0
+AreConst [] = Unit {0}
+AreConst (s ∷ more) = (s.word ≡ word.Const) × AreConst more
+
+-- a type name, with `const`s before it and after it
+abbrev pub AreNamed : List Specifier → Type 0
+AreNamed [] = ⊥
+AreNamed (s ∷ more) = (IsTypeName s.word × AreConst more) ⊎ ((s.word ≡ word.Const) × AreNamed more)
+
+-- keywords, or one type name with `const`s around it
+abbrev pub GoTogether : List Specifier → Type 0
+GoTogether words = AreKeywords words ⊎ AreNamed words
+
 abbrev pub specifiers : OneOrMore Specifier → Language
-specifiers s = specifier s.first ⊙ specifier_list s.more
+specifiers s = Where (GoTogether (s.first ∷ s.more)) (specifier s.first ⊙ specifier_list s.more)
 
 unfoldable mutual
   -- how an expression is spelled, whatever its operators' strengths

@@ -1,6 +1,6 @@
 // What a token's kind tells the parser.
 
-ghost use Rattle.std.specs.Prelude.{◌≡◌};
+ghost use Rattle.std.specs.Prelude.{◌≡◌, ◌&&◌, ◌||◌};
 ghost use Rattle.pk_grammar.specs.Machine.Signs as signs;
 
 use crate::states::Testing;
@@ -8,7 +8,7 @@ use pk_ast::{
     AssignmentOperator, BinaryOperator, SpecifierWord, StepOperator, StorageWord, UnaryOperator,
 };
 use pk_ctypes::IntType;
-use pk_lex::{Keyword, Kind, Punctuator};
+use pk_lex::{Keyword, Kind, Punctuator, Token};
 
 /// A token that stands at its place in a construct, whatever its value.
 #[derive(Clone, Copy)]
@@ -122,10 +122,14 @@ pub fn is(kind: Kind, wanted: Fixed) -> bool
     number(fixed_of(kind)) == number(wanted)
 }
 
-pub fn specifier_word(kind: Kind) -> Option<SpecifierWord>
-    ensures { result ≡ signs.specifier_word kind }
+pub fn specifier_word(token: Token) -> Option<SpecifierWord>
+    ensures { result ≡ signs.specifier_word token }
 {
-    match kind {
+    match token.kind {
+        Kind::TypeName => Some(SpecifierWord::TypeName {
+            start: token.start,
+            end: token.end,
+        }),
         Kind::Keyword(Keyword::Void) => Some(SpecifierWord::Void),
         Kind::Keyword(Keyword::Char) => Some(SpecifierWord::Char),
         Kind::Keyword(Keyword::Short) => Some(SpecifierWord::Short),
@@ -135,6 +139,50 @@ pub fn specifier_word(kind: Kind) -> Option<SpecifierWord>
         Kind::Keyword(Keyword::Unsigned) => Some(SpecifierWord::Unsigned),
         Kind::Keyword(Keyword::Const) => Some(SpecifierWord::Const),
         _ => None,
+    }
+}
+
+// Whether a word may follow others, which are `const`s alone or not, and among which a type name is or not.
+fn follows(consts: bool, named: bool, word: SpecifierWord) -> bool
+    ensures { result ≡ signs.follows consts named word }
+{
+    match word {
+        SpecifierWord::Const => true,
+        SpecifierWord::TypeName { .. } => consts,
+        _ => !named,
+    }
+}
+
+/// The word of a type that a token is, where it may follow others. These are `const`s alone or not, and a type name is among
+/// them or not.
+pub fn following_word(consts: bool, named: bool, token: Token) -> Option<SpecifierWord>
+    ensures { result ≡ signs.following_word consts named token }
+{
+    let word = specifier_word(token)?;
+    if follows(consts, named, word) {
+        Some(word)
+    } else {
+        None
+    }
+}
+
+/// Whether words are all `const`, where those before the last are or not.
+pub fn all_const(before: bool, last: SpecifierWord) -> bool
+    ensures { result ≡ (before && signs.is_const_word last) }
+{
+    match last {
+        SpecifierWord::Const => before,
+        _ => false,
+    }
+}
+
+/// Whether a type name is among words, where one is among those before the last or not.
+pub fn has_type_name(before: bool, last: SpecifierWord) -> bool
+    ensures { result ≡ (before || signs.is_type_name last) }
+{
+    match last {
+        SpecifierWord::TypeName { .. } => true,
+        _ => before,
     }
 }
 

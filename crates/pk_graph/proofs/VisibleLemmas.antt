@@ -1,5 +1,6 @@
 -- The variables in scope, one by one.
-use Rattle.std.proofs.Common.{◌≡◌, ◌<◌, ◌≤◌, ◌+◌, ℕ, refl, ap, ◌∙◌, sym, Bool, true, false, if◌then◌else◌, List, [], ◌∷◌, ◌++◌, length, drop, slice_index_or, append_assoc, append-nil}
+use Rattle.std.proofs.Common.{◌≡◌, ◌<◌, ◌≤◌, ◌+◌, ℕ, refl, ap, ◌∙◌, sym, Bool, true, false, if◌then◌else◌, cond, List, [], ◌∷◌, ◌++◌, length, drop, slice_index_or, append_assoc, append-nil}
+use Rattle.std.specs.List.{filter}
 use Rattle.std.proofs.lemmas.List.{drop_more, drop_all}
 use Rattle.pk_graph.specs.Graphs.{VariableOf}
 use Rattle.pk_graph.specs.Visible.{Names, no_name, with_name, is_new, name_at, not_hidden}
@@ -48,3 +49,30 @@ all_shown vs xs k has list h p =
     sym (append-nil list)
     ∙ ap (λ (ys : List ℕ). list ++ ys) (sym (ap (not_hidden vs has) (drop_all k xs h) ∙ none vs has))
     ∙ p
+
+-- ---- parts of a list
+
+-- those found so far, and those from k on, are all that pass
+abbrev pub ArePassing : (ℕ → Bool) → List ℕ → ℕ → List ℕ → Type 0
+ArePassing p xs k list = list ++ filter p (drop k xs) ≡ filter p xs
+
+at_next : (p : ℕ → Bool) (xs : List ℕ) (k x : ℕ) (b : Bool) → k < length xs → x ≡ slice_index_or xs k 0 → p x ≡ b
+    → filter p (drop k xs) ≡ cond b (x ∷ filter p (drop (k + 1) xs)) (filter p (drop (k + 1) xs))
+at_next p xs k x b h e t =
+    ap (filter p) (drop_more xs k 0 h)
+    ∙ (ap (λ (y : ℕ). filter p (y ∷ drop (k + 1) xs)) (sym e)
+    ∙ ap (λ (c : Bool). cond c (x ∷ filter p (drop (k + 1) xs)) (filter p (drop (k + 1) xs))) t)
+
+pub passes_next : (p : ℕ → Bool) (xs : List ℕ) (k x : ℕ) (list new : List ℕ) → k < length xs → x ≡ slice_index_or xs k 0 → p x ≡ true → new ≡ list ++ x ∷ [] → ArePassing p xs k list → ArePassing p xs (k + 1) new
+passes_next p xs k x list new h e t f q =
+    ap (λ (ys : List ℕ). ys ++ filter p (drop (k + 1) xs)) f
+    ∙ (append_assoc list (x ∷ []) (filter p (drop (k + 1) xs))
+    ∙ (ap (λ (ys : List ℕ). list ++ ys) (sym (at_next p xs k x true h e t)) ∙ q))
+
+pub fails_next : (p : ℕ → Bool) (xs : List ℕ) (k x : ℕ) (list new : List ℕ) → k < length xs → x ≡ slice_index_or xs k 0 → p x ≡ false → new ≡ list → ArePassing p xs k list → ArePassing p xs (k + 1) new
+fails_next p xs k x list new h e t f q =
+    ap (λ (ys : List ℕ). ys ++ filter p (drop (k + 1) xs)) f
+    ∙ (ap (λ (ys : List ℕ). list ++ ys) (sym (at_next p xs k x false h e t)) ∙ q)
+
+pub all_passing : (p : ℕ → Bool) (xs : List ℕ) (k : ℕ) (list : List ℕ) → length xs ≤ k → ArePassing p xs k list → list ≡ filter p xs
+all_passing p xs k list h q = sym (append-nil list) ∙ (ap (λ (ys : List ℕ). list ++ ys) (sym (ap (filter p) (drop_all k xs h))) ∙ q)

@@ -1,5 +1,6 @@
 -- What is visible at a point.
-use Rattle.std.specs.Prelude.{ℕ, Bool, true, false, not, if◌then◌else◌, List, [], ◌∷◌, reverse, slice_index_or, Option, Some, None}
+use Rattle.std.specs.Prelude.{ℕ, Bool, true, false, not, if◌then◌else◌, List, [], ◌∷◌, ◌++◌, reverse, slice_index_or, Option, Some, None, is_none}
+use Rattle.std.specs.List.{filter}
 use Rattle.std.specs.Str.{bytes_eq}
 use Rattle.pk_graph.specs.Graphs.{VariableOf, no_variable, GraphOf, point_at}
 
@@ -28,6 +29,12 @@ not_hidden vs has (x ∷ xs) =
     let m = name_at vs x in
     if is_new m has then x ∷ not_hidden vs (with_name m has) xs else not_hidden vs (with_name m has) xs
 
--- in the order in which they were declared
+abbrev pub is_of_file : List VariableOf → ℕ → Bool
+is_of_file vs x = is_none (slice_index_or vs x no_variable).path
+
+abbrev pub files_first : List VariableOf → List ℕ → List ℕ
+files_first vs xs = filter (is_of_file vs) xs ++ filter (λ x. not (is_of_file vs x)) xs
+
+-- the objects of the file first, each in the order in which their names came into scope
 abbrev pub visible_at : GraphOf → ℕ → List ℕ
-visible_at g p = reverse (not_hidden g.variables no_name (point_at g p).scope)
+visible_at g p = files_first g.variables (reverse (not_hidden g.variables no_name (point_at g p).scope))

@@ -2,7 +2,16 @@
 
 ghost use Rattle.std.specs.Prelude.{◌≡◌, ◌<◌, IfOk, OnOk, length, map, option_map};
 ghost use Rattle.pk_graph.specs.Graphs.{variable_view};
-ghost use Rattle.pk_graph.specs.Visible.{no_name, with_name, is_new, name_at, not_hidden, visible_at};
+ghost use Rattle.pk_graph.specs.Visible.{
+  no_name,
+  with_name,
+  is_new,
+  name_at,
+  not_hidden,
+  is_of_file,
+  files_first,
+  visible_at,
+};
 ghost use Rattle.pk_graph.specs.Shown.{graph_view};
 ghost use Rattle.pk_graph.specs.Named.{names_view};
 
@@ -78,7 +87,39 @@ fn not_hidden(
     Ok(list)
 }
 
-/// The variables that are visible at a point, in the order in which they were declared: those in scope whose names no newer one has.
+#[tactic(auto, unfolding(crate::specs::Graphs::variable_view))]
+fn is_of_file(variables: &[Variable], number: usize) -> bool
+    ensures { result ≡ is_of_file (map variable_view variables.now) number }
+{
+    match variables.get(number) {
+        Some(variable) => variable.path.is_none(),
+        None => true,
+    }
+}
+
+// The objects of the file first.
+fn files_first(
+    alloc: Global,
+    variables: &[Variable],
+    list: &[usize],
+) -> Result<Vec<usize>, AllocError>
+    ensures { IfOk result (λ l. l.items ≡ files_first (map variable_view variables.now) list.now) }
+{
+    let mut files = Vec::new(alloc);
+    let mut others = Vec::new(alloc);
+    for number in 0..list.len() {
+        let variable = list[number];
+        if is_of_file(variables, variable) {
+            files.push(variable)?;
+        } else {
+            others.push(variable)?;
+        }
+    }
+    files.extend_from_slice(&others)?;
+    Ok(files)
+}
+
+/// The variables that are visible at a point, those in scope whose names no newer one has: the objects of the file first, each in the order in which their names came into scope.
 pub fn visible(alloc: Global, graph: &Graph, point: usize) -> Result<Vec<usize>, AllocError>
     requires { point < length (graph_view graph.now).points }
     ensures { IfOk result (λ list. list.items ≡ visible_at (graph_view graph.now) point) }
@@ -86,5 +127,5 @@ pub fn visible(alloc: Global, graph: &Graph, point: usize) -> Result<Vec<usize>,
     let scope = graph.scope(alloc, point)?;
     let mut list = not_hidden(alloc, graph.variables(), &scope)?;
     list.reverse();
-    Ok(list)
+    files_first(alloc, graph.variables(), &list)
 }

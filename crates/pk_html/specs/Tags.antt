@@ -74,7 +74,7 @@ tag_text tag.TableNext = codes "</td><td>"
 tag_text tag.TableRowEnd = codes "</td></tr>\n"
 tag_text tag.TableEnd = codes "</tbody>\n</table>\n"
 tag_text tag.LoopsOpen =
-    codes "<h3>Loops</h3>\n<p>What holds each time a loop is entered or gone through again, in every run.</p>\n"
+    codes "<h3>Loops</h3>\n<p>What holds in every run, whenever it is at the head of a loop.</p>\n"
 tag_text tag.LoopOpen = codes "<h4>Loop at "
 tag_text tag.PointOpen = codes "<h4>Point at "
 tag_text tag.LoopIn = codes ", in <code>"

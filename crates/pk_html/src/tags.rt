@@ -190,7 +190,7 @@ pub(crate) fn text_of(tag: Tag) -> &'static str
         Tag::TableRowEnd => "</td></tr>\n",
         Tag::TableEnd => "</tbody>\n</table>\n",
         Tag::LoopsOpen => {
-            "<h3>Loops</h3>\n<p>What holds each time a loop is entered or gone through again, in every run.</p>\n"
+            "<h3>Loops</h3>\n<p>What holds in every run, whenever it is at the head of a loop.</p>\n"
         }
         Tag::LoopOpen => "<h4>Loop at ",
         Tag::PointOpen => "<h4>Point at ",

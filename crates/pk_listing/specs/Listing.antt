@@ -14,7 +14,9 @@ use Rattle.pk_findings.specs.Operations.{WayOf, OperationOf}
 use Rattle.pk_findings.specs.Words.{is_unknown, verdict_of, counts_of, range_text, message}
 use Rattle.pk_findings.specs.Shown.{ShownOf}
 use Rattle.pk_findings.specs.Refused.{RefusedOf}
-use Rattle.pk_listing.specs.Places.{place_text, excerpt_of, line_of, path_text}
+use Rattle.pk_listing.specs.Places.{head_text, excerpt_with, line_of, path_text}
+use Rattle.pk_listing.specs.Sources.{SourceOf, own_line, is_own}
+use Rattle.pk_listing.specs.Invariants.{invariants_text}
 
 -- ---- the ways of a finding
 
@@ -46,22 +48,36 @@ said_end f lo hi = message f lo hi ++ codes "\n"
 unfoldable pub said_text : Fault → (lo hi : ℤ) → List ℕ
 said_text f lo hi = codes ": unknown [" ++ (fault_text f ++ (codes "]: " ++ said_end f lo hi))
 
--- an operation that is unknown: where and what, its line, and the calls that lead to it
-unfoldable pub finding_at : TextOf → Pos → Fault → List WayOf → (lo hi : ℤ) → List ℕ
-finding_at t at f ways lo hi =
-    place_text t at ++ (said_text f lo hi ++ (excerpt_of (line_of t at) at.column ++
+-- An operation that is unknown: where and what, its line, and the calls that lead to it. The file's own line is given,
+-- where it is at hand.
+unfoldable pub finding_at : (own : Option (List ℕ)) → TextOf → Pos → Fault → List WayOf → (lo hi : ℤ) → List ℕ
+finding_at own t at f ways lo hi =
+    head_text (is_own own (line_of t at) at.column) t at ++ (said_text f lo hi ++
+    (excerpt_with (is_own own (line_of t at) at.column) own (line_of t at) at.column ++
     ways_text t (nat_lt 1 (unknown_ways ways)) ways))
 
-abbrev pub finding_with : TextOf → OperationOf → (lo hi : ℤ) → List ℕ
-finding_with t o lo hi = finding_at t o.at o.fault o.ways lo hi
+abbrev pub finding_with : List SourceOf → TextOf → OperationOf → (lo hi : ℤ) → List ℕ
+finding_with sources t o lo hi = finding_at (own_line sources t o.at) t o.at o.fault o.ways lo hi
 
-abbrev pub finding_by : TextOf → OperationOf → Verdict → List ℕ
-finding_by t o Safe = []
-finding_by t o (Unknown lo hi) = finding_with t o lo hi
-finding_by t o Unreachable = []
+abbrev pub unreachable_words : List ℕ
+unreachable_words =
+    codes "]: no run comes here: what stands before it always fails, never ends or leads elsewhere\n"
 
-abbrev pub finding_text : TextOf → OperationOf → List ℕ
-finding_text t o = finding_by t o (verdict_of o)
+abbrev pub fault_end : Fault → List ℕ
+fault_end f = fault_text f ++ unreachable_words
+
+-- an operation that no run computes
+unfoldable pub unreachable_at : (own : Option (List ℕ)) → TextOf → Pos → Fault → List ℕ
+unreachable_at own t at f =
+    head_text (is_own own (line_of t at) at.column) t at ++ (codes ": unreachable [" ++ fault_end f)
+
+abbrev pub finding_by : List SourceOf → TextOf → OperationOf → Verdict → List ℕ
+finding_by sources t o Safe = []
+finding_by sources t o (Unknown lo hi) = finding_with sources t o lo hi
+finding_by sources t o Unreachable = unreachable_at (own_line sources t o.at) t o.at o.fault
+
+abbrev pub finding_text : List SourceOf → TextOf → OperationOf → List ℕ
+finding_text sources t o = finding_by sources t o (verdict_of o)
 
 -- ---- a text
 
@@ -76,28 +92,36 @@ unfoldable pub summary_line : (name : List ℕ) → (operations : ℕ) → Count
 summary_line name operations c =
     name ++ (codes ": " ++ (decimal operations ++ (codes " operations: " ++ counts_text c)))
 
-abbrev pub findings_text : TextOf → List OperationOf → List ℕ
-findings_text t = flat_map (finding_text t)
+abbrev pub findings_text : List SourceOf → TextOf → List OperationOf → List ℕ
+findings_text sources t = flat_map (finding_text sources t)
 
--- the findings of a report, then how many operations there are
-abbrev pub shown_text : ShownOf → List ℕ
-shown_text s =
-    findings_text s.text s.operations ++ summary_line s.text.name (length s.operations) (counts_of s.operations)
+-- the findings of a report, what holds at its heads if that is asked for, then how many operations there are
+abbrev pub shown_text : List SourceOf → (with_invariants : Bool) → ShownOf → List ℕ
+shown_text sources with_invariants s =
+    findings_text sources s.text s.operations ++ (invariants_text with_invariants s.text s.rows ++
+    summary_line s.text.name (length s.operations) (counts_of s.operations))
 
 -- of several texts one after the other
-abbrev pub listing_text : List ShownOf → List ℕ
-listing_text = flat_map shown_text
+abbrev pub listing_text : List SourceOf → (with_invariants : Bool) → List ShownOf → List ℕ
+listing_text sources with_invariants = flat_map (shown_text sources with_invariants)
 
 -- ---- texts without a report
 
+abbrev pub said_line : (said : List ℕ) → List ℕ
+said_line said = codes ": " ++ (said ++ codes "\n")
+
 -- where, and what was said
-abbrev pub refusal_by : RefusedOf → Option Pos → List ℕ
-refusal_by r None = r.text.name ++ (codes ": " ++ (r.said ++ codes "\n"))
-refusal_by r (Some at) =
-    place_text r.text at ++ (codes ": " ++ (r.said ++ (codes "\n" ++ excerpt_of (line_of r.text at) at.column)))
+unfoldable pub refusal_at : (own : Option (List ℕ)) → TextOf → (said : List ℕ) → Pos → List ℕ
+refusal_at own t said at =
+    head_text (is_own own (line_of t at) at.column) t at ++ (said_line said ++
+    excerpt_with (is_own own (line_of t at) at.column) own (line_of t at) at.column)
 
-abbrev pub refusal_text : RefusedOf → List ℕ
-refusal_text r = refusal_by r r.at
+abbrev pub refusal_by : List SourceOf → RefusedOf → Option Pos → List ℕ
+refusal_by sources r None = r.text.name ++ said_line r.said
+refusal_by sources r (Some at) = refusal_at (own_line sources r.text at) r.text r.said at
 
-abbrev pub refusals_text : List RefusedOf → List ℕ
-refusals_text = flat_map refusal_text
+abbrev pub refusal_text : List SourceOf → RefusedOf → List ℕ
+refusal_text sources r = refusal_by sources r r.at
+
+abbrev pub refusals_text : List SourceOf → List RefusedOf → List ℕ
+refusals_text sources = flat_map (refusal_text sources)

@@ -1,5 +1,5 @@
 -- Places of a text at their origins, and its lines.
-use Rattle.std.specs.Prelude.{ℕ, zero, suc, ◌-◌, ◌==◌, if◌then◌else◌, List, [], ◌++◌, codes, length, map, take, nat_le, slice_index_or}
+use Rattle.std.specs.Prelude.{ℕ, zero, suc, ◌-◌, ◌==◌, Bool, true, false, if◌then◌else◌, List, [], ◌++◌, codes, length, map, take, nat_le, slice_index_or, Option, Some, None}
 use Rattle.std.specs.Fmt.{decimal}
 use Rattle.pk_ctypes.specs.declared.places.Pos.{Pos}
 use Rattle.pk_ctypes.specs.Places.{start_of_text}
@@ -14,6 +14,15 @@ origin_text t o column = file_of t o ++ (codes ":" ++ (decimal o.line ++ (codes 
 -- FILE:LINE:COLUMN
 unfoldable pub place_text : TextOf → Pos → List ℕ
 place_text t at = origin_text t (origin_at t at) at.column
+
+-- FILE:LINE
+unfoldable pub line_text : TextOf → Pos → List ℕ
+line_text t at = file_of t (origin_at t at) ++ (codes ":" ++ decimal (origin_at t at).line)
+
+-- without a column, where the column isn't that of the file
+abbrev pub head_text : (has_column : Bool) → TextOf → Pos → List ℕ
+head_text true t at = place_text t at
+head_text false t at = line_text t at
 
 -- ---- the line of a place, with a mark below it
 
@@ -31,6 +40,21 @@ marked_line line column =
 -- a line of more than 200 bytes isn't shown
 unfoldable pub excerpt_of : List ℕ → (column : ℕ) → List ℕ
 excerpt_of line column = if nat_le (length line) 200 then marked_line line column else []
+
+abbrev pub plain_line : List ℕ → List ℕ
+plain_line line = codes "    " ++ (line ++ codes "\n")
+
+unfoldable pub plain_of : List ℕ → List ℕ
+plain_of line = if nat_le (length line) 200 then plain_line line else []
+
+-- Of a line that isn't the file's own up to the mark, as behind a macro, the file's stands above it.
+abbrev pub expanded_of : (is_own : Bool) → (own line : List ℕ) → (column : ℕ) → List ℕ
+expanded_of true own line column = excerpt_of own column
+expanded_of false own line column = plain_of own ++ excerpt_of line column
+
+abbrev pub excerpt_with : (is_own : Bool) → Option (List ℕ) → (line : List ℕ) → (column : ℕ) → List ℕ
+excerpt_with is_own None line column = excerpt_of line column
+excerpt_with is_own (Some own) line column = expanded_of is_own own line column
 
 abbrev pub line_of : TextOf → Pos → List ℕ
 line_of t at = line_at t.lines (at.line - 1)

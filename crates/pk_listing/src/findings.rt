@@ -1,12 +1,16 @@
 // Findings as a compiler writes its warnings.
 
 ghost use Rattle.std.specs.Prelude.{◌≡◌, ◌++◌, IfOk, OnOk};
+ghost use Rattle.std.specs.Option.{option_map};
 ghost use Rattle.pk_ctypes.specs.Words.{fault_text};
 ghost use Rattle.pk_findings.specs.Words.{is_unknown};
-ghost use Rattle.pk_listing.specs.Listing.{way_range, way_line, way_text, ways_text, unknown_ways, said_end, said_text, finding_at, finding_with, finding_by, finding_text, unreachable_text, counts_text, summary_line, findings_text, shown_text, listing_text, refusal_by, refusal_text, refusals_text};
+ghost use Rattle.pk_listing.specs.Listing.{way_range, way_line, way_text, ways_text, unknown_ways, said_end, said_text, finding_at, finding_with, unreachable_words, fault_end, unreachable_at, finding_by, finding_text, unreachable_text, counts_text, summary_line, findings_text, shown_text, listing_text, said_line, refusal_at, refusal_by, refusal_text, refusals_text};
 ghost use Rattle.pk_listing.specs.Places.{line_of};
+ghost use Rattle.pk_listing.specs.Sources.{own_line};
 
-use crate::places::{write, write_count, write_excerpt, write_path, write_place};
+use crate::invariants::write_invariants;
+use crate::places::{write, write_count, write_excerpt_with, write_head, write_path};
+use crate::sources::{Source, is_own, own_line};
 use pk_ctypes::{Fault, Pos};
 use pk_findings::{
     Operation, Refused, Shown, Text, Way, counts_of, verdict_of, write_message, write_range,
@@ -140,6 +144,7 @@ fn line_of<'t>(text: &Text<'t>, at: Pos) -> &'t [u8]
 fn write_finding_at(
     alloc: Global,
     bytes: &mut Vec<u8>,
+    own: Option<&[u8]>,
     text: &Text<'_>,
     at: Pos,
     fault: Fault,
@@ -147,11 +152,14 @@ fn write_finding_at(
     lo: i128,
     hi: i128,
 ) -> Result<(), AllocError>
-    ensures { OnOk result (bytes.new.items ≡ bytes.old.items ++ finding_at text.now at fault ways.now lo hi) }
+    ensures { OnOk result (bytes.new.items ≡ bytes.old.items
+        ++ finding_at (option_map (λ own. own.now) own.entry) text.now at fault ways.now lo hi) }
 {
-    write_place(alloc, bytes, text, at)?;
+    let line = line_of(text, at);
+    let has_column = is_own(own, line, at.column);
+    write_head(alloc, bytes, has_column, text, at)?;
     write_said(alloc, bytes, fault, lo, hi)?;
-    write_excerpt(bytes, line_of(text, at), at.column)?;
+    write_excerpt_with(bytes, has_column, own, line, at.column)?;
     let is_one_of_many = 1 < unknown_ways(ways);
     write_ways(alloc, bytes, text, is_one_of_many, ways)
 }
@@ -159,16 +167,20 @@ fn write_finding_at(
 fn write_finding_with(
     alloc: Global,
     bytes: &mut Vec<u8>,
+    sources: &[Source<'_>],
     text: &Text<'_>,
     operation: &Operation<'_>,
     lo: i128,
     hi: i128,
 ) -> Result<(), AllocError>
-    ensures { OnOk result (bytes.new.items ≡ bytes.old.items ++ finding_with text.now operation.now lo hi) }
+    ensures { OnOk result (
+        bytes.new.items ≡ bytes.old.items ++ finding_with sources.now text.now operation.now lo hi) }
 {
+    let own = own_line(alloc, sources, text, operation.at)?;
     write_finding_at(
         alloc,
         bytes,
+        own,
         text,
         operation.at,
         operation.fault,
@@ -178,31 +190,85 @@ fn write_finding_with(
     )
 }
 
-fn write_finding(
+fn write_unreachable_words(bytes: &mut Vec<u8>) -> Result<(), AllocError>
+    ensures { OnOk result (bytes.new.items ≡ bytes.old.items ++ unreachable_words) }
+{
+    write(
+        bytes,
+        b"]: no run comes here: what stands before it always fails, never ends or leads elsewhere\n",
+    )
+}
+
+fn write_fault_end(alloc: Global, bytes: &mut Vec<u8>, fault: Fault) -> Result<(), AllocError>
+    ensures { OnOk result (bytes.new.items ≡ bytes.old.items ++ fault_end fault) }
+{
+    write_fault(alloc, bytes, fault)?;
+    write_unreachable_words(bytes)
+}
+
+#[tactic(auto, unfolding(crate::specs::Listing::unreachable_at))]
+fn write_unreachable_at(
     alloc: Global,
     bytes: &mut Vec<u8>,
+    own: Option<&[u8]>,
+    text: &Text<'_>,
+    at: Pos,
+    fault: Fault,
+) -> Result<(), AllocError>
+    ensures { OnOk result (bytes.new.items ≡ bytes.old.items
+        ++ unreachable_at (option_map (λ own. own.now) own.entry) text.now at fault) }
+{
+    let line = line_of(text, at);
+    let has_column = is_own(own, line, at.column);
+    write_head(alloc, bytes, has_column, text, at)?;
+    write(bytes, b": unreachable [")?;
+    write_fault_end(alloc, bytes, fault)
+}
+
+fn write_unreachable_of(
+    alloc: Global,
+    bytes: &mut Vec<u8>,
+    sources: &[Source<'_>],
     text: &Text<'_>,
     operation: &Operation<'_>,
 ) -> Result<(), AllocError>
-    ensures { OnOk result (bytes.new.items ≡ bytes.old.items ++ finding_text text.now operation.now) }
+    ensures { OnOk result (bytes.new.items ≡ bytes.old.items
+        ++ unreachable_at (own_line sources.now text.now operation.now.at) text.now operation.now.at
+        operation.now.fault) }
+{
+    let own = own_line(alloc, sources, text, operation.at)?;
+    write_unreachable_at(alloc, bytes, own, text, operation.at, operation.fault)
+}
+
+fn write_finding(
+    alloc: Global,
+    bytes: &mut Vec<u8>,
+    sources: &[Source<'_>],
+    text: &Text<'_>,
+    operation: &Operation<'_>,
+) -> Result<(), AllocError>
+    ensures { OnOk result (bytes.new.items ≡ bytes.old.items ++ finding_text sources.now text.now operation.now) }
 {
     match verdict_of(operation) {
         Verdict::Safe => Ok(()),
-        Verdict::Unknown(lo, hi) => write_finding_with(alloc, bytes, text, operation, lo, hi),
-        Verdict::Unreachable => Ok(()),
+        Verdict::Unknown(lo, hi) => {
+            write_finding_with(alloc, bytes, sources, text, operation, lo, hi)
+        }
+        Verdict::Unreachable => write_unreachable_of(alloc, bytes, sources, text, operation),
     }
 }
 
 fn write_findings(
     alloc: Global,
     bytes: &mut Vec<u8>,
+    sources: &[Source<'_>],
     text: &Text<'_>,
     operations: &[Operation<'_>],
 ) -> Result<(), AllocError>
-    ensures { OnOk result (bytes.new.items ≡ bytes.old.items ++ findings_text text.now operations.now) }
+    ensures { OnOk result (bytes.new.items ≡ bytes.old.items ++ findings_text sources.now text.now operations.now) }
 {
     for k in 0..operations.len() {
-        write_finding(alloc, bytes, text, &operations[k])?;
+        write_finding(alloc, bytes, sources, text, &operations[k])?;
     }
     Ok(())
 }
@@ -241,10 +307,18 @@ fn write_summary(
     Ok(())
 }
 
-fn write_shown(alloc: Global, bytes: &mut Vec<u8>, shown: &Shown<'_>) -> Result<(), AllocError>
-    ensures { OnOk result (bytes.new.items ≡ bytes.old.items ++ shown_text shown.now) }
+fn write_shown(
+    alloc: Global,
+    bytes: &mut Vec<u8>,
+    sources: &[Source<'_>],
+    with_invariants: bool,
+    shown: &Shown<'_>,
+) -> Result<(), AllocError>
+    ensures { OnOk result (
+        bytes.new.items ≡ bytes.old.items ++ shown_text sources.now with_invariants shown.now) }
 {
-    write_findings(alloc, bytes, &shown.text, &shown.operations)?;
+    write_findings(alloc, bytes, sources, &shown.text, &shown.operations)?;
+    write_invariants(alloc, bytes, with_invariants, &shown.text, &shown.rows)?;
     write_summary(
         bytes,
         shown.text.name,
@@ -253,57 +327,91 @@ fn write_shown(alloc: Global, bytes: &mut Vec<u8>, shown: &Shown<'_>) -> Result<
     )
 }
 
-/// The findings of some reports, one report after the other, each with its counts.
-pub fn listing(alloc: Global, shown: &[Shown<'_>]) -> Result<Vec<u8>, AllocError>
-    ensures { IfOk result (λ bytes. bytes.items ≡ listing_text shown.now) }
+/// The findings of some reports, one report after the other, each with its counts, and with what holds at its heads
+/// where that is asked for. The files' own lines are shown, where the sources have them.
+pub fn listing(
+    alloc: Global,
+    sources: &[Source<'_>],
+    with_invariants: bool,
+    shown: &[Shown<'_>],
+) -> Result<Vec<u8>, AllocError>
+    ensures { IfOk result (λ bytes. bytes.items ≡ listing_text sources.now with_invariants shown.now) }
 {
     let mut bytes = Vec::new(alloc);
     for k in 0..shown.len() {
-        write_shown(alloc, &mut bytes, &shown[k])?;
+        write_shown(alloc, &mut bytes, sources, with_invariants, &shown[k])?;
     }
     Ok(bytes)
 }
 
+fn write_said_line(bytes: &mut Vec<u8>, said: &[u8]) -> Result<(), AllocError>
+    ensures { OnOk result (bytes.new.items ≡ bytes.old.items ++ said_line said.now) }
+{
+    write(bytes, b": ")?;
+    write(bytes, said)?;
+    write(bytes, b"\n")
+}
+
+#[tactic(auto, unfolding(crate::specs::Listing::refusal_at))]
 fn write_refusal_at(
     alloc: Global,
     bytes: &mut Vec<u8>,
+    own: Option<&[u8]>,
+    text: &Text<'_>,
+    said: &[u8],
+    at: Pos,
+) -> Result<(), AllocError>
+    ensures { OnOk result (bytes.new.items ≡ bytes.old.items
+        ++ refusal_at (option_map (λ own. own.now) own.entry) text.now said.now at) }
+{
+    let line = line_of(text, at);
+    let has_column = is_own(own, line, at.column);
+    write_head(alloc, bytes, has_column, text, at)?;
+    write_said_line(bytes, said)?;
+    write_excerpt_with(bytes, has_column, own, line, at.column)
+}
+
+fn write_refusal_with(
+    alloc: Global,
+    bytes: &mut Vec<u8>,
+    sources: &[Source<'_>],
     refused: &Refused<'_>,
     at: Pos,
 ) -> Result<(), AllocError>
-    ensures { OnOk result (bytes.new.items ≡ bytes.old.items ++ refusal_by refused.now (Some at)) }
+    ensures { OnOk result (bytes.new.items ≡ bytes.old.items ++ refusal_by sources.now refused.now (Some at)) }
 {
-    write_place(alloc, bytes, &refused.text, at)?;
-    write(bytes, b": ")?;
-    write(bytes, refused.said)?;
-    write(bytes, b"\n")?;
-    write_excerpt(bytes, line_of(&refused.text, at), at.column)
+    let own = own_line(alloc, sources, &refused.text, at)?;
+    write_refusal_at(alloc, bytes, own, &refused.text, refused.said, at)
 }
 
 fn write_refusal(
     alloc: Global,
     bytes: &mut Vec<u8>,
+    sources: &[Source<'_>],
     refused: &Refused<'_>,
 ) -> Result<(), AllocError>
-    ensures { OnOk result (bytes.new.items ≡ bytes.old.items ++ refusal_text refused.now) }
+    ensures { OnOk result (bytes.new.items ≡ bytes.old.items ++ refusal_text sources.now refused.now) }
 {
     match refused.at {
-        Some(at) => write_refusal_at(alloc, bytes, refused, at),
+        Some(at) => write_refusal_with(alloc, bytes, sources, refused, at),
         None => {
             write(bytes, refused.text.name)?;
-            write(bytes, b": ")?;
-            write(bytes, refused.said)?;
-            write(bytes, b"\n")
+            write_said_line(bytes, refused.said)
         }
     }
 }
 
-/// What was said of texts that have no report, each at its place.
-pub fn refusals(alloc: Global, refused: &[Refused<'_>]) -> Result<Vec<u8>, AllocError>
-    ensures { IfOk result (λ bytes. bytes.items ≡ refusals_text refused.now) }
+/// What was said of texts that have no report, each at its place, with the files' own lines where the sources have them.
+pub fn refusals(
+    alloc: Global,
+    sources: &[Source<'_>],
+    refused: &[Refused<'_>],
+) -> Result<Vec<u8>, AllocError>
+    ensures { IfOk result (λ bytes. bytes.items ≡ refusals_text sources.now refused.now) }
 {
     let mut bytes = Vec::new(alloc);
     for k in 0..refused.len() {
-        write_refusal(alloc, &mut bytes, &refused[k])?;
+        write_refusal(alloc, &mut bytes, sources, &refused[k])?;
     }
     Ok(bytes)
 }

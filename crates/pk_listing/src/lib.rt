@@ -2,6 +2,9 @@
 #![tactic(auto)]
 
 mod findings;
+mod invariants;
 mod places;
+mod sources;
 
 pub use findings::{listing, refusals};
+pub use sources::Source;

@@ -1,9 +1,10 @@
 // Places of a text at their origins, and its lines.
 
 ghost use Rattle.std.specs.Prelude.{◌≡◌, ◌-◌, ◌<◌, ◌≤◌, ◌++◌, OnOk, length, map, take};
+ghost use Rattle.std.specs.Option.{option_map};
 ghost use Rattle.std.specs.Fmt.{decimal};
 ghost use Rattle.pk_findings.specs.Texts.{file_of};
-ghost use Rattle.pk_listing.specs.Places.{origin_text, place_text, blank_for, blanks_before, marked_line, excerpt_of, call_at, function_at, caller_text, callers_text, path_text};
+ghost use Rattle.pk_listing.specs.Places.{origin_text, place_text, line_text, head_text, blank_for, blanks_before, marked_line, excerpt_of, plain_line, plain_of, expanded_of, excerpt_with, call_at, function_at, caller_text, callers_text, path_text};
 
 use itoa::Buffer;
 use pk_ctypes::Pos;
@@ -69,6 +70,38 @@ pub(crate) fn write_place(
     write_origin(alloc, bytes, text, origin_at(text, at), at.column)
 }
 
+#[tactic(auto, unfolding(crate::specs::Places::line_text))]
+fn write_line(
+    alloc: Global,
+    bytes: &mut Vec<u8>,
+    text: &Text<'_>,
+    at: Pos,
+) -> Result<(), AllocError>
+    ensures { OnOk result (bytes.new.items ≡ bytes.old.items ++ line_text text.now at) }
+{
+    let origin = origin_at(text, at);
+    write_file(alloc, bytes, text, origin)?;
+    write(bytes, b":")?;
+    write_count(bytes, origin.line)
+}
+
+/// Writes a place at its origin, without its column where that isn't the file's.
+pub(crate) fn write_head(
+    alloc: Global,
+    bytes: &mut Vec<u8>,
+    has_column: bool,
+    text: &Text<'_>,
+    at: Pos,
+) -> Result<(), AllocError>
+    ensures { OnOk result (bytes.new.items ≡ bytes.old.items ++ head_text has_column text.now at) }
+{
+    if has_column {
+        write_place(alloc, bytes, text, at)
+    } else {
+        write_line(alloc, bytes, text, at)
+    }
+}
+
 fn blank_for(b: u8) -> u8
     ensures { result ≡ blank_for b }
 {
@@ -107,15 +140,68 @@ fn write_marked(bytes: &mut Vec<u8>, line: &[u8], column: u64) -> Result<(), All
     Ok(())
 }
 
-/// Writes a line with a mark below one of its bytes.
 #[tactic(auto, unfolding(crate::specs::Places::excerpt_of))]
-pub(crate) fn write_excerpt(bytes: &mut Vec<u8>, line: &[u8], column: u64) -> Result<(), AllocError>
+fn write_excerpt(bytes: &mut Vec<u8>, line: &[u8], column: u64) -> Result<(), AllocError>
     ensures { OnOk result (bytes.new.items ≡ bytes.old.items ++ excerpt_of line.now column) }
 {
     if line.len() <= 200 {
         write_marked(bytes, line, column)
     } else {
         Ok(())
+    }
+}
+
+fn write_plain_line(bytes: &mut Vec<u8>, line: &[u8]) -> Result<(), AllocError>
+    ensures { OnOk result (bytes.new.items ≡ bytes.old.items ++ plain_line line.now) }
+{
+    write(bytes, b"    ")?;
+    write(bytes, line)?;
+    write(bytes, b"\n")
+}
+
+#[tactic(auto, unfolding(crate::specs::Places::plain_of))]
+fn write_plain(bytes: &mut Vec<u8>, line: &[u8]) -> Result<(), AllocError>
+    ensures { OnOk result (bytes.new.items ≡ bytes.old.items ++ plain_of line.now) }
+{
+    if line.len() <= 200 {
+        write_plain_line(bytes, line)
+    } else {
+        Ok(())
+    }
+}
+
+fn write_expanded(
+    bytes: &mut Vec<u8>,
+    is_own: bool,
+    own: &[u8],
+    line: &[u8],
+    column: u64,
+) -> Result<(), AllocError>
+    ensures { OnOk result (bytes.new.items ≡ bytes.old.items ++ expanded_of is_own own.now line.now column) }
+{
+    if is_own {
+        write_excerpt(bytes, own, column)
+    } else {
+        write_plain(bytes, own)?;
+        write_excerpt(bytes, line, column)
+    }
+}
+
+/// Writes a line with a mark below one of its bytes: the file's own, where it is at hand, and also the preprocessed one
+/// where it isn't the file's own up to the mark.
+pub(crate) fn write_excerpt_with(
+    bytes: &mut Vec<u8>,
+    is_own: bool,
+    own: Option<&[u8]>,
+    line: &[u8],
+    column: u64,
+) -> Result<(), AllocError>
+    ensures { OnOk result (bytes.new.items ≡ bytes.old.items
+        ++ excerpt_with is_own (option_map (λ own. own.now) own.entry) line.now column) }
+{
+    match own {
+        Some(own) => write_expanded(bytes, is_own, own, line, column),
+        None => write_excerpt(bytes, line, column),
     }
 }
 

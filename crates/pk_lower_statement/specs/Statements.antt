@@ -58,6 +58,7 @@ array_first c i (Some es) d = items c i 0 es (emit (Clear (array_of c (Local i) 
 abbrev pub declared : {V : Type 0} → Context → DeclaredTree → DraftOf V → DraftOf V
 declared c (tree.scalar_object i p e) d = scalar_first c i e (introduced c i (on p d))
 declared c (tree.array_object i p es) d = array_first c i es (introduced c i (on p d))
+declared c (tree.static_object n p) d = with_name n (on p d)
 
 unfoldable pub all_declared : {V : Type 0} → Context → List DeclaredTree → DraftOf V → DraftOf V
 all_declared c [] d = d

@@ -190,6 +190,10 @@ pub fn declare(
             introduce(context, draft, *number)?;
             begin_array(context, draft, *number, list)
         }
+        Declared::Static(number, at) => {
+            draft.on(*at);
+            draft.name(*number)
+        }
     }
 }
 

@@ -3,7 +3,7 @@ use Rattle.std.specs.Prelude.{ℕ, nat_eq, Bool, false, ◌&&◌, ◌||◌, ℤ,
 use Rattle.pk_ctypes.specs.declared.types.IntType.{IntType}
 use Rattle.pk_graph.specs.Steps.{Numbers, number_at}
 
--- an object of the file; one of a call path, by its number in the path's function, parameters first; what the function of a path returns
+-- an object that all calls share: of the file, or static in a function; one of a call path, by its number in the path's function, parameters first; what the function of a path returns
 pub data Object : Type 0 where
   file : ℕ → Object
   local : (path i : ℕ) → Object

@@ -6,7 +6,7 @@ use Rattle.pk_ctypes.specs.declared.types.IntType.{IntType}
 use Rattle.pk_ctypes.specs.declared.types.IntType.TheVariants.{Int}
 use Rattle.pk_typed.specs.declared.values.Variable.{Variable}
 use Rattle.pk_typed.specs.declared.values.Variable.TheVariants.{File, Local}
-use Rattle.pk_typed.specs.Trees.{DeclaredTree, scalar_object, array_object, LocalTree, BodyTree, FunctionTree, StartTree, scalar_start, array_start, FileObjectTree, UnitTree}
+use Rattle.pk_typed.specs.Trees.{DeclaredTree, scalar_object, array_object, static_object, LocalTree, BodyTree, FunctionTree, StartTree, scalar_start, array_start, FileObjectTree, UnitTree}
 use Rattle.pk_calls.specs.declared.listings.Caller.{Caller}
 use Rattle.pk_calls.specs.declared.listings.CallPath.{CallPath}
 use Rattle.pk_calls.specs.Calls.{body_of}
@@ -66,15 +66,13 @@ abbrev pub named : Option (List ℕ) → Object → Scope → Scope
 named None x xs = xs
 named (Some name) x xs = x ∷ xs
 
-abbrev pub number_declared : DeclaredTree → ℕ
-number_declared (scalar_object i at e) = i
-number_declared (array_object i at es) = i
-
 abbrev pub with_local : Program → (path i : ℕ) → Scope → Scope
 with_local p k i xs = named (local_of p k i).name (local k i) xs
 
 abbrev pub with_declared : Program → (path : ℕ) → DeclaredTree → Scope → Scope
-with_declared p k d xs = with_local p k (number_declared d) xs
+with_declared p k (scalar_object i at e) xs = with_local p k i xs
+with_declared p k (array_object i at es) xs = with_local p k i xs
+with_declared p k (static_object n at) xs = file n ∷ xs
 
 abbrev pub with_all_declared : Program → (path : ℕ) → List DeclaredTree → Scope → Scope
 with_all_declared p k [] xs = xs

@@ -10,13 +10,13 @@ use Rattle.pk_ctypes.specs.declared.faults.Fault.{Fault}
 use Rattle.pk_ctypes.specs.declared.faults.Fault.TheVariants as faults
 use Rattle.pk_ctypes.specs.Types.{represents, wrapped}
 use Rattle.pk_ctypes.specs.Operators.{value_of, is_not}
-use Rattle.pk_typed.specs.Trees.{PlaceTree, ValueTree, EffectTree, ValueTrees, DeclaredTree, ForStartTree, StatementTree, ItemTrees, no_values, value_before, no_items, declared_before, statement_before, scalar_object, array_object}
+use Rattle.pk_typed.specs.Trees.{PlaceTree, ValueTree, EffectTree, ValueTrees, DeclaredTree, ForStartTree, StatementTree, ItemTrees, no_values, value_before, no_items, declared_before, statement_before, scalar_object, array_object, static_object}
 use Rattle.pk_typed.specs.Trees as tree
 use Rattle.pk_typed.specs.Types.{type_of}
 use Rattle.pk_graph.specs.declared.trees.Site.{Site}
 use Rattle.pk_graph.specs.Kinds.{count_of}
 use Rattle.pk_graph.specs.Steps.{Numbers, number_at, is_true, is_index, are_any}
-use Rattle.pk_meaning.specs.Objects.{Object, local, result, Scope, Array, Objects, numbers_of, with_numbers, number_of, is_in_scope}
+use Rattle.pk_meaning.specs.Objects.{Object, file, local, result, Scope, Array, Objects, numbers_of, with_numbers, number_of, is_in_scope}
 use Rattle.pk_meaning.specs.Programs.{Program, function_of, block_of, local_of, callee, object_of, array_of, with_local, with_declared, with_all_declared, body_scope, is_main}
 use Rattle.pk_meaning.specs.Work.{Place, Loop, While, DoWhile, For, Way, Onward, Refused, Lost, Caller, Nobody, Path, Ahead, Rest, Join, Again, Close, End, Work, Go, Do, Declare, Perform, Evaluate, Test, Keep, Branch, Apply, Operate, Convert, Settle, Truth, Drop, Assign, Put, Update, Advance, Fetch, Load, Reload, Store, StoreKept, Renew, Renewed, Replace, Fill, Item, Claim, Pass, Bind, Enter, Leave, Return, Turn, Back, Choose}
 
@@ -389,12 +389,13 @@ array_first p ch c i (Some es) w =
     let a : Array = record { object = local c.path i; int_type = x.int_type; length = count_of x.length } in
     writes c (local c.path i) (replicate a.length (pos 0)) (Fill a 0 es w) c.values
 
--- an object is in scope in its own initialiser
+-- an object is in scope in its own initialiser; one that is static holds its initialiser already
 abbrev pub declares : Program → Numbers → Config → DeclaredTree → Work → Next
 declares p ch c (scalar_object i at e) w =
     scalar_first p ch (standing (place at (with_local p c.path i c.here.scope)) c) i e w
 declares p ch c (array_object i at es) w =
     array_first p ch (standing (place at (with_local p c.path i c.here.scope)) c) i es w
+declares p ch c (static_object n at) w = on (standing (place at (file n ∷ c.here.scope)) c) w c.values
 
 abbrev pub all_declared : Program → Numbers → Config → List DeclaredTree → Work → Next
 all_declared p ch c [] w = on c w c.values

@@ -1,15 +1,15 @@
 -- How large the sum of a shortest walk is: it needs no place twice.
-use Rattle.std.specs.Prelude.{◌≡◌, ℕ, ◌<◌, ◌≤◌, ◌+◌, ◌*◌, ℤ, pos, Option, Some, None, Bool, true, false, List, [], ◌∷◌, ◌++◌, length}
+use Rattle.std.specs.Prelude.{◌≡◌, ℕ, ◌<◌, ◌≤◌, ◌+◌, ◌*◌, ℤ, pos, Option, Some, Bool, true, false, List, [], ◌∷◌, ◌++◌, length}
 use Rattle.std.specs.List.{IsDistinct, AllByRecursion, list_any}
 use Rattle.std.proofs.Common.{◌∙◌, ap, refl, sym, subst, arith, eqb}
 use Rattle.std.proofs.lemmas.Bool.Decides.{nat_tests}
-use Rattle.std.proofs.lemmas.Int.{ints}
 use Rattle.std.proofs.lemmas.Map.Steps.{length-le_from_distinct_below}
 use Rattle.std.proofs.Math.Nat.{mul-le-mul_right}
 use Rattle.pk_octclose.proofs.Walks.{EachIn, Through, through_least, walk_append}
 use Rattle.pk_octclose.specs.Walks.{walk_sum}
 use Rattle.pk_octmat.proofs.Tropical.{at_most_both, at_most_same, at_most_trans, plus_comm, plus_le, plus_more}
 use Rattle.pk_octmat.specs.Bounds.{AtMost, IsNear, plus}
+use Rattle.pk_octpoints.proofs.Near.{near_more, plus_near}
 
 -- no place stands twice in a list
 abbrev pub Apart : List ℕ → Type 0
@@ -103,20 +103,11 @@ shorter d e0 e P t inside i j (v ∷ vs) id jd b =
           le = plus_le _ _ _ _ (at_most_same (e0 i v)) le;
         }
 
-near_plus : (m n : ℕ) (a b : Option ℤ) → IsNear m a → IsNear n b → IsNear (m + n) (plus a b)
-near_plus m n None b p q = tt
-near_plus m n (Some a) None p q = tt
-near_plus m n (Some a) (Some b) p q = (omega (arith, ints, p.0, q.0), omega (arith, ints, p.1, q.1))
-
 walk_near : (e0 : ℕ → ℕ → Option ℤ) (m : ℕ) → ((i j : ℕ) → IsNear m (e0 i j)) → (i j : ℕ) (vs : List ℕ) → IsNear (length vs * m + m) (walk_sum e0 i vs j)
 walk_near e0 m h i j [] = let none : m ≡ 0 * m + m = omega arith in subst (λ n. IsNear n (e0 i j)) none (h i j)
 walk_near e0 m h i j (v ∷ vs) =
     let more : m + (length vs * m + m) ≡ length (v ∷ vs) * m + m = omega arith in
-    subst (λ n. IsNear n (walk_sum e0 i (v ∷ vs) j)) more (near_plus m (length vs * m + m) (e0 i v) (walk_sum e0 v vs j) (h i v) (walk_near e0 m h v j vs))
-
-pub near_more : (m n : ℕ) (a : Option ℤ) → m ≤ n → IsNear m a → IsNear n a
-near_more m n None l p = tt
-near_more m n (Some a) l p = (omega (arith, ints, p.0), omega (arith, ints, p.1))
+    subst (λ n. IsNear n (walk_sum e0 i (v ∷ vs) j)) more (plus_near m (length vs * m + m) (e0 i v) (walk_sum e0 v vs j) (h i v) (walk_near e0 m h v j vs))
 
 -- so the bounds stay near 0 while the places are gone through
 pub through_near : (d : ℕ) (e0 e : ℕ → ℕ → Option ℤ) (P : ℕ → Type 0) (m : ℕ) → Through d e0 e P → ((p : ℕ) → P p → p < d) → ((i j : ℕ) → IsNear m (e0 i j)) → (i j : ℕ) → i < d → j < d → IsNear (d * m + m) (e i j)

@@ -1,6 +1,9 @@
 pub mod Walks
+mod Whole
+mod Pairs
+mod Twice
 pub mod Lengths
-pub mod Rows
+mod Rows
 pub mod Sums
 pub mod Halves
 pub mod Turned
@@ -10,3 +13,8 @@ pub mod Triangle
 pub mod Again
 pub mod Floyd
 pub mod Stays
+mod Uncapped
+mod Best
+mod Lined
+mod Lowered
+mod Forgotten

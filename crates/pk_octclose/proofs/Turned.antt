@@ -1,7 +1,7 @@
 -- A walk and its mirror have the same sum.
 use Rattle.std.specs.Prelude.{◌≡◌, ℕ, ◌<◌, ℤ, Option, List, [], ◌∷◌, ◌++◌}
 use Rattle.std.proofs.Common.{◌∙◌, ap, sym, subst}
-use Rattle.pk_octclose.proofs.Walks.{walk_append}
+use Rattle.pk_octclose.proofs.Walks.{EachIn, Reached, each_in_append, walk_append}
 use Rattle.pk_octclose.specs.Walks.{HasLeastSums, walk_sum}
 use Rattle.pk_octmat.proofs.Bars.{bar_bar}
 use Rattle.pk_octmat.proofs.Tropical.{at_most_both, plus_comm}
@@ -29,3 +29,12 @@ sums_turned d e p t h i j id jd bi bj =
     at_most_both (p i j) (p (bar j) (bar i))
     (subst (λ s. AtMost (p i j) s) (sym (walk_back e t i j m.by) ∙ m.reached) (l.least (mirror m.by)))
     (subst (λ s. AtMost (p (bar j) (bar i)) s) (sym (walk_turned e t i j l.by) ∙ l.reached) (m.least (mirror l.by)))
+
+-- what is reached backwards is reached
+each_mirror : (P : ℕ → Type 0) → ((p : ℕ) → P p → P (bar p)) → (vs : List ℕ) → EachIn P vs → EachIn P (mirror vs)
+unfolding mirror
+each_mirror P f [] b = tt
+each_mirror P f (v ∷ vs) b = each_in_append P (mirror vs) [] (bar v) (each_mirror P f vs b.1) (f v b.0) tt
+
+pub reached_turned : (e : ℕ → ℕ → Option ℤ) (P : ℕ → Type 0) (i j : ℕ) (b : Option ℤ) → ((a c : ℕ) → e a c ≡ e (bar c) (bar a)) → ((p : ℕ) → P p → P (bar p)) → Reached e P (bar j) (bar i) b → Reached e P i j b
+reached_turned e P i j b t f r = record { by = mirror r.by; each = each_mirror P f r.by r.each; is = sym (walk_back e t i j r.by) ∙ r.is }

@@ -1,7 +1,7 @@
 -- What closing gives.
-use Rattle.std.specs.Prelude.{◌⊎◌, ◌==◌, if◌then◌else◌, ◌≡◌, ℕ, ◌<◌, ℤ, pos, Option, Some, true}
-use Rattle.pk_octmat.specs.Bounds.{AtMost, plus, lesser, capped, halved, even_down, is_negative}
-use Rattle.pk_octmat.specs.Octagon.{bar, Meets}
+use Rattle.std.specs.Prelude.{◌⊎◌, ◌==◌, ◌^◌, if◌then◌else◌, ◌≡◌, ℕ, ◌<◌, ℤ, pos, Option, Some, true}
+use Rattle.pk_octmat.specs.Bounds.{AtMost, IsNear, plus, lesser, capped, halved, even_down, is_negative}
+use Rattle.pk_octmat.specs.Octagon.{Octagon, bar, entry, Meets}
 use Rattle.pk_octclose.specs.Walks.{HasLeastSums, HasNegativeCycle}
 
 -- the bounds from each place to its negative down to even, since they bound twice an integer
@@ -43,3 +43,7 @@ IsEmpty d e = HasNegativeCycle e ⊎ HasNoHalf d e
 pub record KeepsPoints (e r : ℕ → ℕ → Option ℤ) : Type 0 where
   pub to : (x : ℕ → ℤ) → Meets e x → Meets r x
   pub from : (x : ℕ → ℤ) → Meets r x → Meets e x
+
+-- each bound is none or within 2^58 of 0
+abbrev pub IsSmall : Octagon → Type 0
+IsSmall m = (i j : ℕ) → IsNear (2 ^ 58) (entry m i j)

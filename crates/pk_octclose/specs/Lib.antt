@@ -2,3 +2,5 @@ pub mod Walks
 pub mod Closing
 pub mod Laws
 pub mod Places
+pub mod Pairs
+pub mod After

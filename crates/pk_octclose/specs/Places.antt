@@ -1,7 +1,7 @@
 -- Closing as a function: the least sums by one place after another (Floyd 1962), then the tightening.
 use Rattle.std.specs.Prelude.{◌≡◌, ℕ, zero, suc, ◌*◌, Bool, false, ◌||◌, if◌then◌else◌, ℤ, Option, Some, None}
 use Rattle.pk_octmat.specs.Bounds.{capped, is_negative}
-use Rattle.pk_octmat.specs.Octagon.{Octagon, entry, octagon_of, IsOctagon, Meets}
+use Rattle.pk_octmat.specs.Octagon.{Octagon, entry, forgotten, octagon_of, IsOctagon, Meets}
 use Rattle.pk_octclose.specs.Walks.{relaxed}
 use Rattle.pk_octclose.specs.Closing.{evened, there_and_back, tight, IsClosing, IsEmpty, KeepsPoints}
 
@@ -34,6 +34,11 @@ tightened n (Some f) =
 -- the closing of an octagon, if it has one
 unfoldable pub closing_of : Octagon → Option Octagon
 closing_of m = tightened m.vars (sums_through (2 * m.vars) (entry m) (2 * m.vars))
+
+-- the octagon is its own closing once the bounds on variable k are taken away
+abbrev pub IsClosedBut : Octagon → ℕ → Type 0
+IsClosedBut m k =
+    closing_of (octagon_of m.vars (forgotten (entry m) k)) ≡ Some (octagon_of m.vars (forgotten (entry m) k))
 
 -- It is that by least sums of walks.
 pub record ClosingIsRight : Type 0 where

@@ -1,9 +1,11 @@
 // Closing.
 
-ghost use Rattle.std.specs.Prelude.{◌≡◌, ◌%◌, ◌↔◌, ℕ, ℤ, ◌*◌, ◌<◌, ◌^◌};
+ghost use Rattle.std.specs.Prelude.{◌≡◌, ◌%◌, ◌↔◌, ℕ, ℤ, ◌*◌, ◌<◌, ◌≤◌, ◌^◌, Option};
+ghost use Rattle.pk_octmat.specs.Bounds.{AtMost};
 ghost use Rattle.pk_octmat.specs.Octagon.{entry, cell_at, top_bound, Meets, IsMatrix};
-ghost use Rattle.pk_octclose.specs.Closing.{IsClosing, IsEmpty, IsClosed, KeepsPoints};
+ghost use Rattle.pk_octclose.specs.Closing.{IsClosing, IsEmpty, IsClosed, IsSmall, KeepsPoints};
 ghost use Rattle.pk_octclose.specs.Places.{closing_of};
+ghost use Rattle.pk_octpoints.specs.Tight.{IsTight};
 ghost use Rattle.pk_octmat.specs.Shapes.{left_of};
 ghost use Rattle.pk_octmat.specs.declared.shape.Shape.TheVariants.{Kept, Empty};
 
@@ -35,6 +37,7 @@ fn close_cells(cells: &mut [Bound], d: usize) -> Shape
 /// Closes a matrix in place, or finds that no integers meet it. What is left of an empty one is no bounds at all.
 ///
 /// A closing keeps exactly the integers that meet the matrix, and closing it again changes nothing.
+/// Where the matrix is small and over at most 64 variables, it is empty exactly where no integers meet it, and no bounds that the same integers meet are lower.
 pub fn close(m: &mut Matrix) -> Shape
     ensures value { left_of result m.new ≡ closing_of m.old }
     ensures vars { m.new.vars ≡ m.old.vars }
@@ -46,6 +49,12 @@ pub fn close(m: &mut Matrix) -> Shape
     ensures none { result ≡ Empty → (x : ℕ → ℤ) → Meets (entry m.old) x → ⊥ }
     ensures again { IsClosed (2 * m.old.vars) (entry m.old) →
         (result ≡ Kept) × ((i j : ℕ) → entry m.new i j ≡ entry m.old i j) }
+    ensures tight { IsSmall m.old → m.old.vars ≤ 64 → result ≡ Kept → IsTight m.new.vars (entry m.new) }
+    ensures decides { IsSmall m.old → m.old.vars ≤ 64 →
+        (result ≡ Empty) ↔ ((x : ℕ → ℤ) → Meets (entry m.old) x → ⊥) }
+    ensures best { IsSmall m.old → m.old.vars ≤ 64 → result ≡ Kept →
+        (f : ℕ → ℕ → Option ℤ) → ((x : ℕ → ℤ) → Meets (entry m.old) x → Meets f x) →
+        (i j : ℕ) → i < 2 * m.old.vars → j < 2 * m.old.vars → AtMost (entry m.new i j) (f i j) }
 {
     close_cells(&mut m.cells, 2 * m.vars as usize)
 }

@@ -1,10 +1,9 @@
 -- What is answered over a whole part of a declaration.
-use Rattle.std.proofs.Common.{◌≡◌, ℕ, ◌+◌, ◌<◌, ◌≤◌, List, [], ◌∷◌, ◌++◌, length, Option, Some, None, false, refl, sym, ap, subst, ◌∙◌, append_assoc, append-nil, arith, Bool, true}
+use Rattle.std.proofs.Common.{◌≡◌, ℕ, ◌+◌, ◌<◌, ◌≤◌, List, [], ◌∷◌, ◌++◌, length, Some, false, refl, sym, ap, ◌∙◌, append_assoc, append-nil, arith, Bool, true}
 use Rattle.pk_ast.specs.Lists.{one}
 use Rattle.pk_ctypes.specs.declared.places.Pos.{Pos}
 use Rattle.pk_lex.specs.declared.token.Token.{Token}
 use Rattle.pk_ast.specs.declared.declarations.Specifier.{Specifier}
-use Rattle.pk_ast.specs.declared.declarations.SpecifierWord.{SpecifierWord}
 use Rattle.pk_ast.specs.declared.declarations.Declarator.{Declarator}
 use Rattle.pk_ast.specs.declared.expressions.Expression.{Expression}
 use Rattle.pk_ast.specs.declared.expressions.Identifier.{Identifier}
@@ -16,13 +15,13 @@ use Rattle.pk_grammar.specs.declared.failure.ParseError.TheVariants.{Syntax, Nes
 use Rattle.pk_grammar.specs.declared.signs.Fixed.{Fixed}
 use Rattle.pk_grammar.specs.declared.signs.Fixed.TheVariants as fixed
 use Rattle.pk_grammar.specs.Languages.{identifier_of}
-use Rattle.pk_grammar.specs.Machine.Signs.{is_fixed, specifier_word}
+use Rattle.pk_grammar.specs.Machine.Signs.{is_fixed}
 use Rattle.pk_grammar.specs.Machine.States.{Site, in_a_block, in_a_for, outside, Declaring, Naming, as_length, as_value, as_item, as_whole, after_specifiers, after_name, after_length, after_assign, after_brace, after_initializer, after_comma, operand, complete, Declared}
 use Rattle.pk_grammar.specs.Machine.Steps.{refused, site_nesting, naming_nesting, with_initializer, open_parameters, first_item, more_items, with_declarator, goes_on_declaring}
 use Rattle.pk_grammar.specs.Machine.Running.{first_of_all, run, Fails}
-use Rattle.pk_parse_expression.specs.Parsing.{Begins, past_words, past_word, EndsAt, UpTo, Reads, Refuses, specifiers_from}
+use Rattle.pk_parse_expression.specs.Parsing.{Begins, past_words, EndsAt, UpTo, Reads, Refuses, specifiers_from}
 use Rattle.pk_parse_expression.proofs.RunLemmas.{fails_as, fails_syntax, fails_nesting}
-use Rattle.pk_parse_expression.proofs.RunOperands.{no_word_past}
+use Rattle.pk_parse_expression.proofs.RunOperands.{no_word_more}
 use Rattle.pk_parse_expression.proofs.ExpressionLemmas.{trees_push}
 use Rattle.pk_parse.specs.Parts.{CanDeclare, IsInner, with_declarators, after_declaration, item_state}
 use Rattle.pk_parse.proofs.RunDeclarations.{naming, run_specifiers, run_length, deep_length, run_length_end, no_length_end, run_assign, run_braced, run_value, run_value_end, run_first_item, run_item_end, run_item_comma, no_item_end, run_last_comma, run_next_item, run_semicolon, run_comma, no_comma, run_next_name, no_next_name, run_first_name, no_first_name}
@@ -206,23 +205,14 @@ can_declare_inner end (outside before s) specs id n ts h same = absurd h
 
 -- the words of a type and the first name
 module _ (end : Token) (n : ℕ) (limit : n ≤ 128) (s : Site) (same : site_nesting s ≡ n) (first : Specifier) (ts : List Token) (specs : OneOrMore Specifier) (rest : List Token)
-    (are : (specs ≡ specifiers_from first ts) × (rest ≡ past_words ts)) where
+    (are : (specs ≡ specifiers_from first ts) × (rest ≡ past_words first ts)) where
   specified : run end (after_specifiers s (one first)) ts ≡ run end (after_specifiers s specs) rest
-  specified = run_specifiers end s (omega arith) ts (one first) ∙ ap (λ q. run end (after_specifiers s q) (past_words ts)) (sym are.0) ∙ ap (λ q. run end (after_specifiers s specs) q) (sym are.1)
+  specified = run_specifiers end s (omega arith) ts (one first) ∙ ap (λ q. run end (after_specifiers s q) (past_words first ts)) (sym are.0) ∙ ap (λ q. run end (after_specifiers s specs) q) (sym are.1)
 
   pub stops_first_name : (x : ParseError) → (is_fixed fixed.Name (first_of_all end rest).kind ≡ false) × (x ≡ Syntax (first_of_all end rest).at) → Fails (run end (after_specifiers s (one first)) ts) x
   stops_first_name x h =
-      fails_syntax _ x _ h.1 (specified ∙ no_first_name end s specs rest (subst (λ q. specifier_word (first_of_all end q).kind ≡ None) (sym are.1) (no_word_past end ts)) h.0)
+      fails_syntax _ x _ h.1 (specified ∙ no_first_name end s specs rest (no_word_more end first ts specs rest are) h.0)
 
   pub run_named : (t : Token) (after : List Token) (id : Identifier) → Begins fixed.Name rest t after → id ≡ identifier_of t →
       run end (after_specifiers s (one first)) ts ≡ run end (after_name (named_first s specs) id) after
   run_named t after id b is = specified ∙ run_first_name end s specs rest t after b (omega arith) ∙ ap (λ q. run end (after_name (named_first s specs) q) after) (sym is)
-
-pub past_words_shorter : (ts : List Token) → length (past_words ts) ≤ length ts
-unfolding past_words
-past_words_shorter [] = omega arith
-past_words_shorter (t ∷ ts) = by_word (specifier_word t.kind) (past_words_shorter ts)
-  where
-    by_word : (w : Option SpecifierWord) → length (past_words ts) ≤ length ts → length (past_word (t ∷ ts) w (past_words ts)) ≤ length (t ∷ ts)
-    by_word None h = omega arith
-    by_word (Some w) h = omega arith

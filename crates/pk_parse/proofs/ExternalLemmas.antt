@@ -25,9 +25,10 @@ use Rattle.pk_grammar.specs.Machine.Steps.{is_void, is_void_alone}
 use Rattle.pk_grammar.specs.Machine.Running.{syntax, first_of_all, run, Fails}
 use Rattle.pk_parse_expression.specs.Parsing.{Begins, BeginsWithWord, past_words, specifiers_from}
 use Rattle.pk_parse_expression.proofs.RunLemmas.{fails_as, fails_syntax}
-use Rattle.pk_parse_expression.proofs.RunOperands.{no_word_past}
+use Rattle.pk_parse_expression.proofs.RunOperands.{no_word_more}
+use Rattle.pk_parse_expression.proofs.WordLemmas as word_lemmas
 use Rattle.pk_parse.specs.Parts.{CanDeclare, with_all, after_declaration, after_parameter, EndsParameter, after_function, storage_state}
-use Rattle.pk_parse.proofs.DeclarationLemmas.{shorter, named_first, stops_first_name, run_named, past_words_shorter}
+use Rattle.pk_parse.proofs.DeclarationLemmas.{shorter, named_first, stops_first_name, run_named}
 use Rattle.pk_parse.proofs.RunExternals.{run_parameter, no_parameter, run_parameter_words, run_parameter_name, with_last, run_parameter_close, run_parameter_comma, no_parameter_end, run_function, run_first_word, no_first_word}
 
 -- the word `void`
@@ -41,6 +42,7 @@ void_word word.Long e = absurd (cc)
 void_word word.Signed e = absurd (cc)
 void_word word.Unsigned e = absurd (cc)
 void_word word.Const e = absurd (cc)
+void_word (word.TypeName from to) e = absurd (cc)
 
 pub unnamed : (id : Option Identifier) → is_some id ≡ false → id ≡ None
 unnamed None e = refl
@@ -60,29 +62,29 @@ some_items v e h = let f : false ≡ true = e ∙ eq-eqb (vec_len v) 0 (v.ok.0 �
 
 -- A parameter
 
-module _ (end : Token) (first : Specifier) (ts : List Token) (specs : OneOrMore Specifier) (rest : List Token) (are : (specs ≡ specifiers_from first ts) × (rest ≡ past_words ts)) (p : ParameterTree) where
+module _ (end : Token) (first : Specifier) (ts : List Token) (specs : OneOrMore Specifier) (rest : List Token) (are : (specs ≡ specifiers_from first ts) × (rest ≡ past_words first ts)) (p : ParameterTree) where
   specified : (h : Head) (ps : List ParameterTree) → run end (parameter_specifiers h ps (one first)) ts ≡ run end (parameter_specifiers h ps specs) rest
   specified h ps =
-      run_parameter_words end h ps ts (one first) ∙ ap (λ q. run end (parameter_specifiers h ps q) (past_words ts)) (sym are.0) ∙ ap (λ q. run end (parameter_specifiers h ps specs) q) (sym are.1)
+      run_parameter_words end h ps ts (one first) ∙ ap (λ q. run end (parameter_specifiers h ps q) (past_words first ts)) (sym are.0) ∙ ap (λ q. run end (parameter_specifiers h ps specs) q) (sym are.1)
 
   pub reads_named : (t : Token) (after : List Token) (id : Identifier) → Begins fixed.Name rest t after → id ≡ identifier_of t → p ≡ record { specifiers = specs; name = Some id } →
-      ((h : Head) (ps : List ParameterTree) → run end (parameter_specifiers h ps (one first)) ts ≡ run end (after_parameter h ps p) after) × EndsParameter end p.name after × (length after ≤ length ts)
+      ((h : Head) (ps : List ParameterTree) → run end (parameter_specifiers h ps (one first)) ts ≡ run end (after_parameter h ps p) after) × EndsParameter end p.specifiers p.name after × (length after ≤ length ts)
   reads_named t after id b is same =
       let a = shorter fixed.Name rest t after b in
-      let k = past_words_shorter ts in
+      let k = word_lemmas.no_longer ts (one first) in
       let e = ap length are.1 in
-      subst (λ (q : ParameterTree). ((h : Head) (ps : List ParameterTree) → run end (parameter_specifiers h ps (one first)) ts ≡ run end (after_parameter h ps q) after) × EndsParameter end q.name after × (length after ≤ length ts))
+      subst (λ (q : ParameterTree). ((h : Head) (ps : List ParameterTree) → run end (parameter_specifiers h ps (one first)) ts ≡ run end (after_parameter h ps q) after) × EndsParameter end q.specifiers q.name after × (length after ≤ length ts))
       (sym same)
       (λ h ps. specified h ps ∙ run_parameter_name end h ps rest specs t after b ∙ ap (λ q. run end (parameter_name h ps (record { specifiers = specs; name = Some q })) after) (sym is), tt, omega arith)
 
   pub reads_unnamed : is_fixed fixed.Name (first_of_all end rest).kind ≡ false → p ≡ record { specifiers = specs; name = None } →
-      ((h : Head) (ps : List ParameterTree) → run end (parameter_specifiers h ps (one first)) ts ≡ run end (after_parameter h ps p) rest) × EndsParameter end p.name rest × (length rest ≤ length ts)
+      ((h : Head) (ps : List ParameterTree) → run end (parameter_specifiers h ps (one first)) ts ≡ run end (after_parameter h ps p) rest) × EndsParameter end p.specifiers p.name rest × (length rest ≤ length ts)
   reads_unnamed f same =
-      let k = past_words_shorter ts in
+      let k = word_lemmas.no_longer ts (one first) in
       let e = ap length are.1 in
-      subst (λ (q : ParameterTree). ((h : Head) (ps : List ParameterTree) → run end (parameter_specifiers h ps (one first)) ts ≡ run end (after_parameter h ps q) rest) × EndsParameter end q.name rest × (length rest ≤ length ts))
+      subst (λ (q : ParameterTree). ((h : Head) (ps : List ParameterTree) → run end (parameter_specifiers h ps (one first)) ts ≡ run end (after_parameter h ps q) rest) × EndsParameter end q.specifiers q.name rest × (length rest ≤ length ts))
       (sym same)
-      (λ h ps. specified h ps, (subst (λ q. specifier_word (first_of_all end q).kind ≡ None) (sym are.1) (no_word_past end ts), f), omega arith)
+      (λ h ps. specified h ps, (no_word_more end first ts specs rest are, f), omega arith)
 
 -- Parameters
 
@@ -115,10 +117,10 @@ abbrev pub ReadsParameters : Token → List Token → List ParameterTree → Lis
 ReadsParameters end ts ps rest = (h : Head) → run end (parameters_open h) ts ≡ run end (parameter_comma h ps) rest
 
 module _ (end : Token) (ts : List Token) (list : List Parameter) (rest : List Token) (done : ReadsParameters end ts (parameter_trees list) rest) where
-  pub stops_parameters : specifier_word (first_of_all end rest).kind ≡ None → (h : Head) → run end (parameters_open h) ts ≡ syntax (first_of_all end rest).at
+  pub stops_parameters : specifier_word (first_of_all end rest) ≡ None → (h : Head) → run end (parameters_open h) ts ≡ syntax (first_of_all end rest).at
   stops_parameters e h = done h ∙ no_parameter end h (parameter_trees list) rest e
 
-  module _ (s : Specifier) (after : List Token) (begins : BeginsWithWord rest s after) where
+  module _ (s : Specifier) (after : List Token) (begins : BeginsWithWord specifier_word rest s after) where
     pub fails_parameter : (x : ParseError) → ((h : Head) (ps : List ParameterTree) → Fails (run end (parameter_specifiers h ps (one s)) after) x) → (h : Head) → Fails (run end (parameters_open h) ts) x
     fails_parameter x r h = fails_as _ _ x (done h ∙ run_parameter end h (parameter_trees list) rest s after begins) (r h (parameter_trees list))
 
@@ -127,7 +129,7 @@ module _ (end : Token) (ts : List Token) (list : List Parameter) (rest : List To
       parameter_read : (h : Head) → run end (parameters_open h) ts ≡ run end (after_parameter h (parameter_trees list) (parameter_tree p)) next
       parameter_read h = done h ∙ run_parameter end h (parameter_trees list) rest s after begins ∙ r h (parameter_trees list)
 
-      pub stops_parameter : (x : ParseError) → EndsParameter end (parameter_tree p).name next → is_fixed fixed.CloseParenthesis (first_of_all end next).kind ≡ false →
+      pub stops_parameter : (x : ParseError) → EndsParameter end (parameter_tree p).specifiers (parameter_tree p).name next → is_fixed fixed.CloseParenthesis (first_of_all end next).kind ≡ false →
           (is_fixed fixed.Comma (first_of_all end next).kind ≡ false) × (x ≡ Syntax (first_of_all end next).at) → (h : Head) → Fails (run end (parameters_open h) ts) x
       stops_parameter x ends f g h =
           fails_syntax _ x _ g.1 (parameter_read h ∙ no_parameter_end end h (parameter_trees list) (parameter_tree p) (parameter_tree p).name next ends f g.0)
@@ -171,11 +173,11 @@ no_storage end ts rest None h f e = let same = ap (first_of_all end) h.1 in (ap 
 no_storage end ts rest (Some s) h f e = cc
 
 module _ (end : Token) (before : List ExternalTree) (ts : List Token) (s : Option Storage) (rest : List Token) (stored : run end (top before) ts ≡ run end (storage_state before s) rest) where
-  pub stops_word : TakesStorage end ts rest s → (first_of_all end ts).kind ≢ kind.End → specifier_word (first_of_all end rest).kind ≡ None → run end (top before) ts ≡ syntax (first_of_all end rest).at
+  pub stops_word : TakesStorage end ts rest s → (first_of_all end ts).kind ≢ kind.End → specifier_word (first_of_all end rest) ≡ None → run end (top before) ts ≡ syntax (first_of_all end rest).at
   stops_word h f e = stored ∙ no_first_word end before rest s (no_storage end ts rest s h f) e
 
-  module _ (first : Specifier) (after_word : List Token) (begins : BeginsWithWord rest first after_word) (specs : OneOrMore Specifier) (after_words : List Token)
-      (are : (specs ≡ specifiers_from first after_word) × (after_words ≡ past_words after_word)) where
+  module _ (first : Specifier) (after_word : List Token) (begins : BeginsWithWord specifier_word rest first after_word) (specs : OneOrMore Specifier) (after_words : List Token)
+      (are : (specs ≡ specifiers_from first after_word) × (after_words ≡ past_words first after_word)) where
     worded : run end (top before) ts ≡ run end (after_specifiers (outside before s) (one first)) after_word
     worded = stored ∙ run_first_word end before rest s first after_word begins
 

@@ -1,52 +1,34 @@
 -- What is answered within declarations, token by token.
-use Rattle.std.proofs.Common.{◌≡◌, ℕ, ◌+◌, ◌<◌, ◌≤◌, List, [], ◌∷◌, Option, Some, None, Bool, true, false, refl, sym, ap, ◌∙◌, append_assoc, append-nil, arith}
+use Rattle.std.proofs.Common.{◌≡◌, ℕ, ◌+◌, ◌<◌, ◌≤◌, List, [], Option, Some, None, Bool, true, false, refl, sym, ap, ◌∙◌, arith}
 use Rattle.std.specs.Prelude.{if◌then◌else◌}
-use Rattle.pk_parse_expression.proofs.RunOperands.{and_words}
-use Rattle.pk_ast.specs.Lists.{with_last}
+use Rattle.pk_parse_expression.proofs.RunOperands.{run_words}
 use Rattle.pk_ctypes.specs.declared.places.Pos.{Pos}
 use Rattle.pk_lex.specs.declared.token.Token.{Token}
 use Rattle.pk_lex.specs.declared.token.Kind.{Kind}
 use Rattle.pk_lex.specs.declared.token.Kind.TheVariants as kind
 use Rattle.pk_lex.specs.declared.token.Punctuator.TheVariants as mark
 use Rattle.pk_ast.specs.declared.declarations.Specifier.{Specifier}
-use Rattle.pk_ast.specs.declared.declarations.SpecifierWord.{SpecifierWord}
 use Rattle.pk_ast.specs.declared.expressions.Identifier.{Identifier}
 use Rattle.pk_ast.specs.Trees.{ExpressionTree, ExpressionTrees, no_expressions, single, braced, OneOrMore, expression_then}
 use Rattle.pk_grammar.specs.declared.signs.Fixed.TheVariants as fixed
 use Rattle.pk_grammar.specs.declared.signs.Operator.{Operator}
 use Rattle.pk_grammar.specs.declared.signs.Operator.TheVariants as operator
 use Rattle.pk_grammar.specs.Languages.{identifier_of}
-use Rattle.pk_grammar.specs.Machine.Signs.{is_fixed, operator_of, specifier_word}
-use Rattle.pk_grammar.specs.Machine.States.{Site, Declaring, Naming, State, as_length, as_value, as_item, as_whole, after_specifiers, after_name, after_length, after_assign, after_brace, after_item, after_initializer, after_comma, operand, complete, Declared}
-use Rattle.pk_grammar.specs.Machine.Steps.{taken, refused, reduced, is_unary, go_on, more_specifiers, specifier_at, site_nesting, naming_nesting, with_initializer, after_declarator, open_parameters, step, first_item, more_items, goes_on_declaring}
+use Rattle.pk_grammar.specs.Machine.Signs.{is_fixed, operator_of}
+use Rattle.pk_grammar.specs.Machine.States.{Site, Declaring, Naming, as_length, as_value, as_item, as_whole, after_specifiers, after_name, after_length, after_assign, after_brace, after_item, after_initializer, after_comma, operand, complete, Declared}
+use Rattle.pk_grammar.specs.Machine.Steps.{taken, refused, reduced, is_unary, go_on, more_specifiers, next_word, site_nesting, naming_nesting, with_initializer, after_declarator, open_parameters, step, first_item, more_items, goes_on_declaring}
 use Rattle.pk_grammar.specs.Machine.Running.{syntax, deep, first_of_all, run}
 use Rattle.pk_grammar.proofs.CompleteSigns.{strength_least}
 use Rattle.pk_grammar.proofs.CompleteOperands.{same_false, same_true}
 use Rattle.pk_grammar.proofs.CompleteDeclarations.{step_first_name, step_length, step_last_comma, step_next_name}
 use Rattle.pk_grammar.proofs.SpellsSigns.{is_this}
-use Rattle.pk_parse_expression.specs.Parsing.{Begins, words, words_then, past_words, past_word, follows, EndsAt}
+use Rattle.pk_parse_expression.specs.Parsing.{Begins, words, follows, EndsAt}
 use Rattle.pk_parse_expression.proofs.RunLemmas.{run_takes, run_deep, run_refused, run_alike}
 use Rattle.pk_parse_expression.proofs.RunOperators.{operator_kind, ends_other, follows_no_comma}
 use Rattle.pk_parse.specs.Parts.{CanDeclare, after_declaration}
 
--- the words of a type, one after another
-pub run_words : (end : Token) (state : OneOrMore Specifier → State) (n : ℕ) → n ≤ 128 →
-    ((specs : OneOrMore Specifier) (t : Token) (w : SpecifierWord) → specifier_word t.kind ≡ Some w → step (state specs) t ≡ taken n (state (with_last specs (specifier_at t w)))) →
-    (ts : List Token) (specs : OneOrMore Specifier) → run end (state specs) ts ≡ run end (state (and_words specs (words ts))) (past_words ts)
-unfolding words past_words
-run_words end state n h steps [] specs = ap (λ q. run end (state (record { first = specs.first; more = q })) []) (sym (append-nil specs.more))
-run_words end state n h steps (t ∷ ts) specs = by_word (λ q. run_words end state n h steps ts q) (specifier_word t.kind) refl
-  where
-    by_word : ((q : OneOrMore Specifier) → run end (state q) ts ≡ run end (state (and_words q (words ts))) (past_words ts)) → (w : Option SpecifierWord) → specifier_word t.kind ≡ w →
-        run end (state specs) (t ∷ ts) ≡ run end (state (and_words specs (words_then t w (words ts)))) (past_word (t ∷ ts) w (past_words ts))
-    by_word on None e = ap (λ q. run end (state (record { first = specs.first; more = q })) (t ∷ ts)) (sym (append-nil specs.more))
-    by_word on (Some w) e =
-        run_takes end (state specs) (t ∷ ts) t ts n (state (with_last specs (specifier_at t w))) refl (steps specs t w e) h
-        ∙ on (with_last specs (specifier_at t w))
-        ∙ ap (λ q. run end (state (record { first = specs.first; more = q })) (past_words ts)) (append_assoc specs.more (specifier_at t w ∷ []) (words ts))
-
 pub run_specifiers : (end : Token) (s : Site) → site_nesting s ≤ 128 → (ts : List Token) (specs : OneOrMore Specifier) →
-    run end (after_specifiers s specs) ts ≡ run end (after_specifiers s (and_words specs (words ts))) (past_words ts)
+    run end (after_specifiers s specs) ts ≡ run end (after_specifiers s (words specs ts).0) (words specs ts).1
 run_specifiers end s h ts specs = run_words end (λ q. after_specifiers s q) (site_nesting s) h (λ q t w e. ap (λ v. more_specifiers s q t v) e) ts specs
 
 -- A declarator's name, and its length
@@ -214,7 +196,7 @@ module _ (end : Token) (s : Site) (specs : OneOrMore Specifier) (ts : List Token
       run end (after_specifiers s specs) ts ≡ run end (after_name (record { site = s; specifiers = specs; declarators = [] }) (identifier_of t)) rest
   run_first_name t rest b h = run_takes end (after_specifiers s specs) ts t rest _ _ b.cut (step_first_name s specs t (is_this fixed.Name t.kind b.is)) h
 
-  pub no_first_name : specifier_word (first_of_all end ts).kind ≡ None → is_fixed fixed.Name (first_of_all end ts).kind ≡ false →
+  pub no_first_name : next_word specs (first_of_all end ts) ≡ None → is_fixed fixed.Name (first_of_all end ts).kind ≡ false →
       run end (after_specifiers s specs) ts ≡ syntax (first_of_all end ts).at
   no_first_name e f =
       let t = first_of_all end ts in

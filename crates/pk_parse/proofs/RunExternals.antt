@@ -1,6 +1,6 @@
 -- What is answered within external definitions, token by token.
 use Rattle.std.proofs.Common.{◌≡◌, ◌≢◌, List, [], ◌∷◌, ◌++◌, Option, Some, None, Bool, true, false, refl, sym, ap, ◌∙◌, arith}
-use Rattle.pk_parse_expression.proofs.RunOperands.{and_words}
+use Rattle.pk_parse_expression.proofs.RunOperands.{run_words}
 use Rattle.pk_ast.specs.Lists.{one}
 use Rattle.pk_lex.specs.declared.token.Token.{Token}
 use Rattle.pk_lex.specs.declared.token.Kind.{Kind}
@@ -21,10 +21,9 @@ use Rattle.pk_grammar.proofs.CompleteSigns.{specifier_alone}
 use Rattle.pk_grammar.proofs.CompleteOperands.{same_false}
 use Rattle.pk_grammar.proofs.CompleteExternals.{step_no_parameters}
 use Rattle.pk_grammar.proofs.SpellsSigns.{is_this}
-use Rattle.pk_parse_expression.specs.Parsing.{Begins, BeginsWithWord, words, past_words}
+use Rattle.pk_parse_expression.specs.Parsing.{Begins, BeginsWithWord, words}
 use Rattle.pk_parse_expression.proofs.RunLemmas.{run_takes, run_refused, run_alike}
 use Rattle.pk_parse.specs.Parts.{EndsParameter, parameter_state, after_function, storage_state}
-use Rattle.pk_parse.proofs.RunDeclarations.{run_words}
 use Rattle.pk_parse.proofs.DeclarationLemmas.{named_first}
 
 -- Parameters
@@ -41,15 +40,15 @@ module _ (end : Token) (h : Head) (ts : List Token) where
   run_parameters f = let t = first_of_all end ts in run_alike end (parameters_open h) (parameter_comma h []) ts (same_false (is_fixed fixed.CloseParenthesis t.kind) _ _ f)
 
 module _ (end : Token) (h : Head) (ps : List ParameterTree) (ts : List Token) where
-  pub run_parameter : (s : Specifier) (rest : List Token) → BeginsWithWord ts s rest → run end (parameter_comma h ps) ts ≡ run end (parameter_specifiers h ps (one s)) rest
+  pub run_parameter : (s : Specifier) (rest : List Token) → BeginsWithWord specifier_word ts s rest → run end (parameter_comma h ps) ts ≡ run end (parameter_specifiers h ps (one s)) rest
   run_parameter s rest b =
       run_takes end (parameter_comma h ps) ts b.token rest _ _ b.cut (ap (λ w. begin_parameter h ps b.token w) b.is) (omega arith)
       ∙ ap (λ q. run end (parameter_specifiers h ps (one q)) rest) (sym b.specifier)
 
-  pub no_parameter : specifier_word (first_of_all end ts).kind ≡ None → run end (parameter_comma h ps) ts ≡ syntax (first_of_all end ts).at
+  pub no_parameter : specifier_word (first_of_all end ts) ≡ None → run end (parameter_comma h ps) ts ≡ syntax (first_of_all end ts).at
   no_parameter e = let t = first_of_all end ts in run_refused end (parameter_comma h ps) ts (ap (λ w. begin_parameter h ps t w) e)
 
-  pub run_parameter_words : (specs : OneOrMore Specifier) → run end (parameter_specifiers h ps specs) ts ≡ run end (parameter_specifiers h ps (and_words specs (words ts))) (past_words ts)
+  pub run_parameter_words : (specs : OneOrMore Specifier) → run end (parameter_specifiers h ps specs) ts ≡ run end (parameter_specifiers h ps (words specs ts).0) (words specs ts).1
   run_parameter_words specs = run_words end (λ q. parameter_specifiers h ps q) 1 (omega arith) (λ q t w e. ap (λ v. more_parameter h ps q t v) e) ts specs
 
   pub run_parameter_name : (specs : OneOrMore Specifier) (t : Token) (rest : List Token) → Begins fixed.Name ts t rest →
@@ -74,7 +73,7 @@ step_parameter_comma : (h : Head) (ps : List ParameterTree) (p : ParameterTree) 
 step_parameter_comma h ps p None t same e = rw e (ap (λ q. taken 1 (parameter_comma h (ps ++ q ∷ []))) (unnamed p same))
 step_parameter_comma h ps p (Some id) t same e = rw e
 
-refused_parameter : (end : Token) (h : Head) (ps : List ParameterTree) (p : ParameterTree) (name : Option Identifier) (ts : List Token) → EndsParameter end name ts →
+refused_parameter : (end : Token) (h : Head) (ps : List ParameterTree) (p : ParameterTree) (name : Option Identifier) (ts : List Token) → EndsParameter end p.specifiers name ts →
     is_fixed fixed.CloseParenthesis (first_of_all end ts).kind ≡ false → is_fixed fixed.Comma (first_of_all end ts).kind ≡ false → step (parameter_state h ps p name) (first_of_all end ts) ≡ refused
 refused_parameter end h ps p None ts ends f g =
     let t = first_of_all end ts in
@@ -92,7 +91,7 @@ module _ (end : Token) (h : Head) (ps : List ParameterTree) (p : ParameterTree) 
   run_parameter_comma t rest same b =
       run_takes end (parameter_state h ps p name) ts t rest _ _ b.cut (step_parameter_comma h ps p name t same (is_this fixed.Comma t.kind b.is)) (omega arith)
 
-  pub no_parameter_end : EndsParameter end name ts → is_fixed fixed.CloseParenthesis (first_of_all end ts).kind ≡ false → is_fixed fixed.Comma (first_of_all end ts).kind ≡ false →
+  pub no_parameter_end : EndsParameter end p.specifiers name ts → is_fixed fixed.CloseParenthesis (first_of_all end ts).kind ≡ false → is_fixed fixed.Comma (first_of_all end ts).kind ≡ false →
       run end (parameter_state h ps p name) ts ≡ syntax (first_of_all end ts).at
   no_parameter_end ends f g = run_refused end (parameter_state h ps p name) ts (refused_parameter end h ps p name ts ends f g)
 
@@ -133,9 +132,9 @@ pub run_storage : (end : Token) (before : List ExternalTree) (ts : List Token) (
 run_storage end before ts t rest w cut e = run_takes end (top before) ts t rest _ _ cut (ap (λ o. storage_or_specifier before t o) e) (omega arith)
 
 module _ (end : Token) (before : List ExternalTree) (ts : List Token) where
-  pub run_first_word : (s : Option Storage) (first : Specifier) (rest : List Token) → BeginsWithWord ts first rest → run end (storage_state before s) ts ≡ run end (after_specifiers (outside before s) (one first)) rest
+  pub run_first_word : (s : Option Storage) (first : Specifier) (rest : List Token) → BeginsWithWord specifier_word ts first rest → run end (storage_state before s) ts ≡ run end (after_specifiers (outside before s) (one first)) rest
   run_first_word None first rest b =
-      let a = specifier_alone b.token.kind b.word b.is in
+      let a = specifier_alone b.token.kind b.token.start b.token.end b.word b.is in
       run_takes end (top before) ts b.token rest _ _ b.cut
       (ap (λ o. storage_or_specifier before b.token o) a.no_storage ∙ same_false (is_fixed fixed.End b.token.kind) _ _ a.no_end ∙ ap (λ o. begin_external before None b.token o) b.is) (omega arith)
       ∙ ap (λ q. run end (after_specifiers (outside before None) (one q)) rest) (sym b.specifier)
@@ -147,7 +146,7 @@ module _ (end : Token) (before : List ExternalTree) (ts : List Token) where
   no_end k h true e = absurd (h (is_this fixed.End k e))
   no_end k h false e = e
 
-  pub no_first_word : (s : Option Storage) → (s ≡ None → (storage_word (first_of_all end ts).kind ≡ None) × ((first_of_all end ts).kind ≢ kind.End)) → specifier_word (first_of_all end ts).kind ≡ None →
+  pub no_first_word : (s : Option Storage) → (s ≡ None → (storage_word (first_of_all end ts).kind ≡ None) × ((first_of_all end ts).kind ≢ kind.End)) → specifier_word (first_of_all end ts) ≡ None →
       run end (storage_state before s) ts ≡ syntax (first_of_all end ts).at
   no_first_word None h e =
       let t = first_of_all end ts in

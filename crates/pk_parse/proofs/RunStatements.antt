@@ -118,7 +118,7 @@ module _ (n : ℕ) (at : Pos) (o : Outer) (t : Token) (inside : ℕ) where
     closes = λ e t. refl;
   }
 
-  pub first_part : inside ≡ n + 2 → inside ≤ 128 → specifier_word t.kind ≡ None → IsPart (for_first n at o) inside (as_first n at o) fixed.Semicolon (n + 2) (λ v. for_second n at (expression v) o) t
+  pub first_part : inside ≡ n + 2 → inside ≤ 128 → specifier_word t ≡ None → IsPart (for_first n at o) inside (as_first n at o) fixed.Semicolon (n + 2) (λ v. for_second n at (expression v) o) t
   first_part e h w = record {
     level = refl;
     limit = omega arith;
@@ -147,13 +147,13 @@ module _ (n : ℕ) (at : Pos) (o : Outer) (t : Token) (inside : ℕ) where
   }
 
 -- the first word of a declaration
-pub run_word : (end : Token) (s : State) (ts : List Token) (word : Specifier) (rest : List Token) (n : ℕ) (next : Specifier → State) → BeginsWithWord ts word rest →
-    ((t : Token) (w : SpecifierWord) → specifier_word t.kind ≡ Some w → step s t ≡ taken n (next (specifier_at t w))) → n ≤ 128 → run end s ts ≡ run end (next word) rest
+pub run_word : (end : Token) (s : State) (ts : List Token) (word : Specifier) (rest : List Token) (n : ℕ) (next : Specifier → State) → BeginsWithWord specifier_word ts word rest →
+    ((t : Token) (w : SpecifierWord) → specifier_word t ≡ Some w → step s t ≡ taken n (next (specifier_at t w))) → n ≤ 128 → run end s ts ≡ run end (next word) rest
 run_word end s ts word rest n next b steps h =
     run_takes end s ts b.token rest n (next (specifier_at b.token b.word)) b.cut (steps b.token b.word b.is) h
     ∙ ap (λ q. run end (next q) rest) (sym b.specifier)
 
-pub run_for_word : (end : Token) (n : ℕ) (at : Pos) (o : Outer) (ts : List Token) (word : Specifier) (rest : List Token) → BeginsWithWord ts word rest → n + 2 ≤ 128 →
+pub run_for_word : (end : Token) (n : ℕ) (at : Pos) (o : Outer) (ts : List Token) (word : Specifier) (rest : List Token) → BeginsWithWord specifier_word ts word rest → n + 2 ≤ 128 →
     run end (for_first n at o) ts ≡ run end (after_specifiers (in_a_for n at o) (one word)) rest
 run_for_word end n at o ts word rest b h =
     run_word end (for_first n at o) ts word rest (n + 2) (λ q. after_specifiers (in_a_for n at o) (one q)) b (λ t w e. ap (λ q. begin_for n at o t q) e) h

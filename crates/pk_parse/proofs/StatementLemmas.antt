@@ -25,7 +25,7 @@ use Rattle.pk_grammar.specs.declared.signs.Operator.{Operator}
 use Rattle.pk_grammar.specs.declared.signs.Operator.TheVariants as operator
 use Rattle.pk_grammar.specs.declared.signs.StatementStart.{StatementStart}
 use Rattle.pk_grammar.specs.declared.signs.StatementStart.TheVariants as first
-use Rattle.pk_grammar.specs.Machine.Signs.{is_fixed, operand_start, operator_of, specifier_word, statement_start}
+use Rattle.pk_grammar.specs.Machine.Signs.{is_fixed, operand_start, operator_of, specifier_in, specifier_word, statement_start}
 use Rattle.pk_grammar.specs.Machine.States.{Context, OpenBlock, function_block, inner_block, Outer, in_block, in_label, in_case, in_default, in_if, in_else, in_switch, in_while, in_do, in_for, in_a_block, Purpose, as_statement, as_label, as_test, as_last_test, as_whole, State, after_specifiers, block_item, at_statement, after_statement, test_open, do_open, for_open, for_first, default_colon, statement_end, operand, complete}
 use Rattle.pk_grammar.specs.Machine.Steps.{taken, refused, wanted, reduced, go_on, begin_operand, labelled, tested, one_more_statement, one_more_declaration, block_nesting, with_statement, with_declaration, begin_statement, declaration_or_statement, end_block, resume, step}
 use Rattle.pk_grammar.specs.Machine.Running.{first_of_all, run, Fails}
@@ -376,7 +376,7 @@ after_item end s b ts = run_alike end (after_statement s (in_block b)) (block_it
 -- one more item of a block, to which these were read
 module _ (end : Token) (b : OpenBlock) (items : List BlockItem) (ts : List Token) where
   module _ (inside : ℕ) (n : block_nesting b ≡ inside) where
-    pub run_item_statement : specifier_word (first_of_all end ts).kind ≡ None → is_fixed fixed.CloseBrace (first_of_all end ts).kind ≡ false →
+    pub run_item_statement : specifier_word (first_of_all end ts) ≡ None → is_fixed fixed.CloseBrace (first_of_all end ts).kind ≡ false →
         run end (block_item (with_items b (item_trees items))) ts ≡ run end (at_statement inside (in_block (with_items b (item_trees items)))) ts
     run_item_statement w f =
         let t = first_of_all end ts in
@@ -384,7 +384,7 @@ module _ (end : Token) (b : OpenBlock) (items : List BlockItem) (ts : List Token
         run_alike end (block_item c) (at_statement inside (in_block c)) ts
         (ap (λ q. declaration_or_statement c t q) w ∙ same_false (is_fixed fixed.CloseBrace t.kind) _ _ f ∙ ap (λ q. step (at_statement q (in_block c)) t) (nesting_with_items b (item_trees items) ∙ n))
 
-    pub run_item_word : (word : Specifier) (rest : List Token) → BeginsWithWord ts word rest → inside ≤ 128 →
+    pub run_item_word : (word : Specifier) (rest : List Token) → BeginsWithWord specifier_word ts word rest → inside ≤ 128 →
         run end (block_item (with_items b (item_trees items))) ts ≡ run end (after_specifiers (in_a_block (with_items b (item_trees items))) (one word)) rest
     run_item_word word rest w h =
         let c = with_items b (item_trees items) in
@@ -410,7 +410,7 @@ new_block_nesting (function_block h ps at items) place n is = is.2
 new_block_nesting (inner_block m at items o) place n is = is.2
 
 step_close : (b : OpenBlock) (t : Token) → is_fixed fixed.CloseBrace t.kind ≡ true → step (block_item b) t ≡ end_block b t
-step_close b t f = ap (λ k. declaration_or_statement b t (specifier_word k)) (is_this fixed.CloseBrace t.kind f) ∙ same_true (is_fixed fixed.CloseBrace t.kind) _ _ f
+step_close b t f = ap (λ k. declaration_or_statement b t (specifier_in k t.start t.end)) (is_this fixed.CloseBrace t.kind f) ∙ same_true (is_fixed fixed.CloseBrace t.kind) _ _ f
 
 pub run_block_end : (end : Token) (b : OpenBlock) (place : Pos) (n : ℕ) (list : ItemTrees) (ts : List Token) (t : Token) (rest : List Token) → IsNewBlock b place n → n ≤ 128 → Begins fixed.CloseBrace ts t rest →
     run end (block_item (with_items b list)) ts ≡ run end (after_block b (record { opened = place; items = list; closed = t.at })) rest

@@ -2,6 +2,7 @@
 use Rattle.std.specs.Prelude.{◌≡◌, ℕ, ◌+◌, List, [], ◌∷◌, ◌++◌, Option, Some, None, Bool, true, false}
 use Rattle.pk_ctypes.specs.declared.places.Pos.{Pos}
 use Rattle.pk_lex.specs.declared.token.Token.{Token}
+use Rattle.pk_ast.specs.declared.declarations.Specifier.{Specifier}
 use Rattle.pk_ast.specs.declared.expressions.Identifier.{Identifier}
 use Rattle.pk_ast.specs.declared.units.Storage.{Storage}
 use Rattle.pk_ast.specs.Lists.{append_items}
@@ -9,9 +10,9 @@ use Rattle.pk_ast.specs.Trees.{OneOrMore, ExpressionTree, ExpressionTrees, brace
 use Rattle.pk_grammar.specs.declared.signs.Fixed.{Fixed}
 use Rattle.pk_grammar.specs.declared.signs.Fixed.TheVariants as fixed
 use Rattle.pk_grammar.specs.Grammar.{any_expression}
-use Rattle.pk_grammar.specs.Machine.Signs.{is_fixed, specifier_word}
+use Rattle.pk_grammar.specs.Machine.Signs.{is_fixed}
 use Rattle.pk_grammar.specs.Machine.States.{Head, OpenBlock, function_block, inner_block, Site, in_a_block, in_a_for, outside, Declaring, Declared, Naming, Purpose, as_whole, State, top, after_storage, after_item, after_initializer, parameter_specifiers, parameter_name, after_statement, operand}
-use Rattle.pk_grammar.specs.Machine.Steps.{refused, taken, wanted, site_nesting, with_declarator, with_initializer, whole_declaration, declared_at, open_parameters, purpose_level, end_purpose, step}
+use Rattle.pk_grammar.specs.Machine.Steps.{refused, taken, wanted, site_nesting, with_declarator, with_initializer, whole_declaration, declared_at, next_word, open_parameters, purpose_level, end_purpose, step}
 use Rattle.pk_grammar.specs.Machine.Running.{first_of_all}
 use Rattle.pk_parse_expression.specs.Parsing.{EndsAt, UpTo, Reads}
 
@@ -89,11 +90,11 @@ parameter_state h ps p (Some id) = parameter_name h ps p
 abbrev pub after_parameter : Head → List ParameterTree → ParameterTree → State
 after_parameter h ps p = parameter_state h ps p p.name
 
--- behind a parameter without a name comes neither a word of its type nor a name
-abbrev pub EndsParameter : Token → Option Identifier → List Token → Type 0
-EndsParameter end None ts =
-    (specifier_word (first_of_all end ts).kind ≡ None) × (is_fixed fixed.Name (first_of_all end ts).kind ≡ false)
-EndsParameter end (Some id) ts = Unit {0}
+-- behind a parameter without a name comes neither a further word of its type nor a name
+abbrev pub EndsParameter : Token → OneOrMore Specifier → Option Identifier → List Token → Type 0
+EndsParameter end words None ts =
+    (next_word words (first_of_all end ts) ≡ None) × (is_fixed fixed.Name (first_of_all end ts).kind ≡ false)
+EndsParameter end words (Some id) ts = Unit {0}
 
 abbrev pub storage_state : List ExternalTree → Option Storage → State
 storage_state before None = top before

@@ -34,7 +34,8 @@ fn parameter<'a>(
         (λ r. ((h : states.Head) (ps : List tree.ParameterTree) →
         run parser.end (states.parameter_specifiers h ps (one first)) tokens.now
         ≡ run parser.end (after_parameter h ps (parameter_tree r.0)) r.1.now)
-        × EndsParameter parser.end (parameter_tree r.0).name r.1.now × (length r.1.now ≤ length tokens.now))
+        × EndsParameter parser.end (parameter_tree r.0).specifiers (parameter_tree r.0).name r.1.now
+        × (length r.1.now ≤ length tokens.now))
         (λ x. (h : states.Head) (ps : List tree.ParameterTree) →
         Fails (run parser.end (states.parameter_specifiers h ps (one first)) tokens.now) x) }
 {

@@ -18,7 +18,7 @@ use Rattle.pk_grammar.specs.declared.signs.Fixed.TheVariants as fixed
 use Rattle.pk_grammar.specs.declared.signs.OperandStart.TheVariants as start
 use Rattle.pk_grammar.specs.declared.signs.Operator.TheVariants as operator
 use Rattle.pk_grammar.specs.Grammar.{strength, operators_in, commas_in}
-use Rattle.pk_grammar.specs.Machine.Signs.{is_fixed, operand_start, specifier_word}
+use Rattle.pk_grammar.specs.Machine.Signs.{is_fixed, operand_start}
 use Rattle.pk_grammar.specs.Machine.States.{Context, in_index, in_prefix, in_unary, in_cast, in_binary, in_choice, in_alternative, in_assignment, in_comma, operand, named, cast_specifiers, complete}
 use Rattle.pk_grammar.specs.Machine.Steps.{operand_level, is_unary, one_more}
 use Rattle.pk_grammar.specs.Machine.Running.{first_of_all, run}
@@ -27,7 +27,7 @@ use Rattle.pk_grammar.proofs.CompleteSigns.{strength_most}
 use Rattle.pk_parse_expression.proofs.RunLemmas.{fails_as, fails_syntax, fails_nesting}
 use Rattle.pk_parse_expression.proofs.RunOperators.{run_binary, deep_binary, run_question, run_assignment}
 use Rattle.pk_parse_expression.proofs.RunEnds.{run_prefix_end, run_unary_end, run_cast_end, run_binary_end, run_conditional_end, run_assignment_end, run_comma_end}
-use Rattle.pk_parse_expression.proofs.RunOperands.{run_index, run_colon, run_comma, run_prefix, run_unary, run_cast_words, no_word_past, run_cast_close, no_cast_close}
+use Rattle.pk_parse_expression.proofs.RunOperands.{run_index, run_colon, run_comma, run_prefix, run_unary, run_cast_words, no_word_more, run_cast_close, no_cast_close}
 
 pub trees_push : (es : List Expression) (e : Expression) → expression_trees (es ++ e ∷ []) ≡ one_more (expression_trees es) (expression_tree e)
 trees_push [] e = refl
@@ -175,11 +175,11 @@ module _ (end : Token) (n : ℕ) (ts : List Token) where
       ∙ ap (λ m. run end (complete n m k) last) (sym w)
 
 -- A cast, of which the first word was read
-module _ (end : Token) (n : ℕ) (at : Pos) (first : Specifier) (ts : List Token) (specs : OneOrMore Specifier) (rest : List Token) (all : specs ≡ specifiers_from first ts) (past : rest ≡ past_words ts) where
+module _ (end : Token) (n : ℕ) (at : Pos) (first : Specifier) (ts : List Token) (specs : OneOrMore Specifier) (rest : List Token) (all : specs ≡ specifiers_from first ts) (past : rest ≡ past_words first ts) where
   words_read : (k : Context) → n + 1 ≤ 128 → run end (cast_specifiers n at (one first) k) ts ≡ run end (cast_specifiers n at specs k) rest
   words_read k h =
       run_cast_words end n at k h ts (one first)
-      ∙ ap (λ q. run end (cast_specifiers n at q k) (past_words ts)) (sym all)
+      ∙ ap (λ q. run end (cast_specifiers n at q k) (past_words first ts)) (sym all)
       ∙ ap (λ q. run end (cast_specifiers n at specs k) q) (sym past)
 
   pub closes_cast : (t : Token) (after : List Token) → Begins fixed.CloseParenthesis rest t after → n + 1 ≤ 128 → (k : Context) →
@@ -189,8 +189,7 @@ module _ (end : Token) (n : ℕ) (at : Pos) (first : Specifier) (ts : List Token
   pub unclosed_cast : (x : ParseError) → is_fixed fixed.CloseParenthesis (first_of_all end rest).kind ≡ false → x ≡ Syntax (first_of_all end rest).at → n + 1 ≤ 128 →
       Refuses end Anywhere (λ c. cast_specifiers n at (one first) c) ts x
   unclosed_cast x f e h = λ k p.
-      let none : specifier_word (first_of_all end rest).kind ≡ _ = ap (λ q. specifier_word (first_of_all end q).kind) past ∙ no_word_past end ts in
-      fails_syntax _ x _ e (words_read k h ∙ no_cast_close end n at specs k rest none f)
+      fails_syntax _ x _ e (words_read k h ∙ no_cast_close end n at specs k rest (no_word_more end first ts specs rest (all, past)) f)
 
   pub reads_cast : (t : Token) (after last : List Token) (e whole : ExpressionTree) → Begins fixed.CloseParenthesis rest t after → n + 1 ≤ 128 →
       Reads end (CastsIf true) (λ c. operand (n + 1) c) (n + 1) after e last → EndsAt end 14 last → whole ≡ cast at specs e → Reads end Anywhere (λ c. cast_specifiers n at (one first) c) n ts whole last

@@ -1,5 +1,5 @@
 -- What is answered where operands begin and end.
-use Rattle.std.proofs.Common.{◌≡◌, ℕ, ◌+◌, ◌<◌, ◌≤◌, List, [], ◌∷◌, ◌++◌, Option, Some, None, true, false, refl, sym, ap, ◌∙◌, append_assoc, append-nil}
+use Rattle.std.proofs.Common.{◌≡◌, ℕ, ◌+◌, ◌<◌, ◌≤◌, List, [], ◌∷◌, Option, Some, None, true, false, refl, sym, ap, ◌∙◌}
 use Rattle.std.specs.Prelude.{nat_le}
 use Rattle.pk_ctypes.specs.declared.places.Pos.{Pos}
 use Rattle.pk_lex.specs.declared.token.Token.{Token}
@@ -16,10 +16,10 @@ use Rattle.pk_grammar.specs.declared.signs.OperandStart.TheVariants as start
 use Rattle.pk_grammar.specs.Languages.{identifier_of}
 use Rattle.pk_grammar.specs.Grammar.{commas_in}
 use Rattle.pk_grammar.specs.Machine.Signs.{is_fixed, operand_start, specifier_word}
-use Rattle.pk_grammar.specs.Machine.States.{Context, in_parentheses, in_index, in_call, in_prefix, in_unary, in_cast, in_choice, in_alternative, in_comma, operand, named, arguments, opened, cast_specifiers, complete}
-use Rattle.pk_grammar.specs.Machine.Steps.{begin_operand, operand_level, open_cast, more_cast, specifier_at, one_more, step}
+use Rattle.pk_grammar.specs.Machine.States.{Context, in_parentheses, in_index, in_call, in_prefix, in_unary, in_cast, in_choice, in_alternative, in_comma, State, operand, named, arguments, opened, cast_specifiers, complete}
+use Rattle.pk_grammar.specs.Machine.Steps.{taken, begin_operand, operand_level, open_cast, more_cast, specifier_at, next_word, one_more, step}
 use Rattle.pk_grammar.specs.Machine.Running.{syntax, deep, first_of_all, run}
-use Rattle.pk_parse_expression.specs.Parsing.{Begins, BeginsWithWord, words, words_then, past_words, past_word}
+use Rattle.pk_parse_expression.specs.Parsing.{Begins, BeginsWithWord, TypeWords, words, words_then, specifiers_from, past_words}
 use Rattle.pk_grammar.proofs.CompleteOperands.{same_false, step_call, step_index, step_no_arguments, step_more_cast, step_cast_end, step_colon, step_comma, step_parenthesized, step_indexed, step_called, step_argument}
 use Rattle.pk_grammar.proofs.SpellsSigns.{is_this}
 use Rattle.pk_parse_expression.proofs.RunLemmas.{run_takes, run_deep, run_refused, run_alike, first_is}
@@ -120,54 +120,64 @@ module _ (end : Token) (n : ℕ) (id : Identifier) (c : Context) (ts : List Toke
 -- Parentheses and casts
 
 module _ (end : Token) (n : ℕ) (at : Pos) (c : Context) (ts : List Token) where
-  pub run_inner : specifier_word (first_of_all end ts).kind ≡ None → run end (opened n at c) ts ≡ run end (operand (n + 1) (in_parentheses n at c)) ts
+  pub run_inner : specifier_word (first_of_all end ts) ≡ None → run end (opened n at c) ts ≡ run end (operand (n + 1) (in_parentheses n at c)) ts
   run_inner e = let t = first_of_all end ts in run_alike end _ _ ts (ap (λ w. open_cast n at c t w) e)
 
-  pub run_cast : (s : Specifier) (rest : List Token) → BeginsWithWord ts s rest → nat_le (operand_level c) 13 ≡ true → n + 1 ≤ 128 →
+  pub run_cast : (s : Specifier) (rest : List Token) → BeginsWithWord specifier_word ts s rest → nat_le (operand_level c) 13 ≡ true → n + 1 ≤ 128 →
       run end (opened n at c) ts ≡ run end (cast_specifiers n at (one s) c) rest
   run_cast s rest b l h =
       run_takes end _ ts b.token rest _ _ b.cut (ap (λ w. open_cast n at c b.token w) b.is ∙ rw l) h
       ∙ ap (λ q. run end (cast_specifiers n at (one q) c) rest) (sym b.specifier)
 
-  pub no_cast : (s : Specifier) (rest : List Token) → BeginsWithWord ts s rest → nat_le (operand_level c) 13 ≡ false → run end (opened n at c) ts ≡ syntax s.at
+  pub no_cast : (s : Specifier) (rest : List Token) → BeginsWithWord specifier_word ts s rest → nat_le (operand_level c) 13 ≡ false → run end (opened n at c) ts ≡ syntax s.at
   no_cast s rest b l =
       let f = first_is end ts b.token rest b.cut in
       run_refused end _ ts (ap (λ t. step (opened n at c) t) f ∙ ap (λ w. open_cast n at c b.token w) b.is ∙ rw l)
       ∙ ap (λ t. syntax t.at) f ∙ ap (λ (q : Specifier). syntax q.at) (sym b.specifier)
 
--- these words behind the others
-abbrev pub and_words : OneOrMore Specifier → List Specifier → OneOrMore Specifier
-and_words specs more = record { first = specs.first; more = specs.more ++ more }
+-- a state that takes the words of a type, one after another
+module _ (end : Token) (state : OneOrMore Specifier → State) (n : ℕ) (limit : n ≤ 128)
+    (takes : (done : OneOrMore Specifier) (t : Token) (w : SpecifierWord) → next_word done t ≡ Some w → step (state done) t ≡ taken n (state (with_last done (specifier_at t w)))) where
+  abbrev LeadsTo : OneOrMore Specifier → List Token → TypeWords → Type 0
+  LeadsTo done ts w = run end (state done) ts ≡ run end (state w.0) w.1
+
+  pub run_words : (ts : List Token) (done : OneOrMore Specifier) → LeadsTo done ts (words done ts)
+  unfolding words
+  run_words [] done = refl
+  run_words (t ∷ ts) done = by_word (λ q. run_words ts q) (next_word done t) refl
+    where
+      by_word : ((q : OneOrMore Specifier) → LeadsTo q ts (words q ts)) → (o : Option SpecifierWord) → next_word done t ≡ o → LeadsTo done (t ∷ ts) (words_then done t ts o (λ q. words q ts))
+      by_word on None e = refl
+      by_word on (Some w) e = run_takes end (state done) (t ∷ ts) t ts n _ refl (takes done t w e) limit ∙ on (with_last done (specifier_at t w))
+
+-- behind them no other one comes
+abbrev EndsWords : Token → TypeWords → Type 0
+EndsWords end w = next_word w.0 (first_of_all end w.1) ≡ None
+
+no_word_past : (end : Token) (ts : List Token) (done : OneOrMore Specifier) → EndsWords end (words done ts)
+unfolding words
+no_word_past end [] done = refl
+no_word_past end (t ∷ ts) done = by_word (λ q. no_word_past end ts q) (next_word done t) refl
+  where
+    by_word : ((q : OneOrMore Specifier) → EndsWords end (words q ts)) → (o : Option SpecifierWord) → next_word done t ≡ o → EndsWords end (words_then done t ts o (λ q. words q ts))
+    by_word on None e = e
+    by_word on (Some w) e = on (with_last done (specifier_at t w))
+
+pub no_word_more : (end : Token) (first : Specifier) (ts : List Token) (specs : OneOrMore Specifier) (rest : List Token) → (specs ≡ specifiers_from first ts) × (rest ≡ past_words first ts) →
+    next_word specs (first_of_all end rest) ≡ None
+no_word_more end first ts specs rest are =
+    ap (λ q. next_word q (first_of_all end rest)) are.0 ∙ ap (λ q. next_word (specifiers_from first ts) (first_of_all end q)) are.1 ∙ no_word_past end ts (one first)
 
 pub run_cast_words : (end : Token) (n : ℕ) (at : Pos) (c : Context) → n + 1 ≤ 128 → (ts : List Token) (specs : OneOrMore Specifier) →
-    run end (cast_specifiers n at specs c) ts ≡ run end (cast_specifiers n at (and_words specs (words ts)) c) (past_words ts)
-unfolding words past_words
-run_cast_words end n at c h [] specs = ap (λ q. run end (cast_specifiers n at (record { first = specs.first; more = q }) c) []) (sym (append-nil specs.more))
-run_cast_words end n at c h (t ∷ ts) specs = by_word (λ q. run_cast_words end n at c h ts q) (specifier_word t.kind) refl
-  where
-    by_word : ((q : OneOrMore Specifier) → run end (cast_specifiers n at q c) ts ≡ run end (cast_specifiers n at (and_words q (words ts)) c) (past_words ts)) → (w : Option SpecifierWord) → specifier_word t.kind ≡ w →
-        run end (cast_specifiers n at specs c) (t ∷ ts) ≡ run end (cast_specifiers n at (and_words specs (words_then t w (words ts))) c) (past_word (t ∷ ts) w (past_words ts))
-    by_word on None e = ap (λ q. run end (cast_specifiers n at (record { first = specs.first; more = q }) c) (t ∷ ts)) (sym (append-nil specs.more))
-    by_word on (Some w) e =
-        run_takes end _ (t ∷ ts) t ts _ _ refl (step_more_cast n at specs c t w e) h
-        ∙ on (with_last specs (specifier_at t w))
-        ∙ ap (λ q. run end (cast_specifiers n at (record { first = specs.first; more = q }) c) (past_words ts)) (append_assoc specs.more (specifier_at t w ∷ []) (words ts))
-
-pub no_word_past : (end : Token) (ts : List Token) → specifier_word (first_of_all end (past_words ts)).kind ≡ None
-unfolding past_words
-no_word_past end [] = refl
-no_word_past end (t ∷ ts) = by_word (no_word_past end ts) (specifier_word t.kind) refl
-  where
-    by_word : specifier_word (first_of_all end (past_words ts)).kind ≡ None → (w : Option SpecifierWord) → specifier_word t.kind ≡ w → specifier_word (first_of_all end (past_word (t ∷ ts) w (past_words ts))).kind ≡ None
-    by_word on None e = e
-    by_word on (Some w) e = on
+    run end (cast_specifiers n at specs c) ts ≡ run end (cast_specifiers n at (words specs ts).0 c) (words specs ts).1
+run_cast_words end n at c h ts specs = run_words end (λ q. cast_specifiers n at q c) (n + 1) h (λ q t w e. step_more_cast n at q c t w e) ts specs
 
 module _ (end : Token) (n : ℕ) (at : Pos) (specs : OneOrMore Specifier) (c : Context) (ts : List Token) where
   pub run_cast_close : (t : Token) (rest : List Token) → Begins fixed.CloseParenthesis ts t rest → n + 1 ≤ 128 →
       run end (cast_specifiers n at specs c) ts ≡ run end (operand (n + 1) (in_cast n at specs c)) rest
   run_cast_close t rest b h = run_takes end (cast_specifiers n at specs c) ts t rest _ (operand (n + 1) (in_cast n at specs c)) b.cut (step_cast_end n at specs c t (is_this fixed.CloseParenthesis t.kind b.is)) h
 
-  pub no_cast_close : specifier_word (first_of_all end ts).kind ≡ None → is_fixed fixed.CloseParenthesis (first_of_all end ts).kind ≡ false →
+  pub no_cast_close : next_word specs (first_of_all end ts) ≡ None → is_fixed fixed.CloseParenthesis (first_of_all end ts).kind ≡ false →
       run end (cast_specifiers n at specs c) ts ≡ syntax (first_of_all end ts).at
   no_cast_close e f =
       let t = first_of_all end ts in

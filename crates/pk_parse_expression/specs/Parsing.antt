@@ -4,15 +4,16 @@ use Rattle.pk_ctypes.specs.declared.places.Pos.{Pos}
 use Rattle.pk_lex.specs.declared.token.Token.{Token}
 use Rattle.pk_ast.specs.declared.declarations.Specifier.{Specifier}
 use Rattle.pk_ast.specs.declared.declarations.SpecifierWord.{SpecifierWord}
+use Rattle.pk_ast.specs.Lists.{one, with_last}
 use Rattle.pk_ast.specs.Trees.{OneOrMore, ExpressionTree}
 use Rattle.pk_grammar.specs.declared.failure.ParseError.{ParseError}
 use Rattle.pk_grammar.specs.declared.signs.Fixed.{Fixed}
 use Rattle.pk_grammar.specs.declared.signs.Operator.{Operator}
 use Rattle.pk_grammar.specs.declared.signs.Operator.TheVariants as operator
 use Rattle.pk_grammar.specs.Grammar.{strength, operators_in, postfixes_in, commas_in, cast_expression, unary_expression}
-use Rattle.pk_grammar.specs.Machine.Signs.{is_fixed, operator_of, specifier_word}
+use Rattle.pk_grammar.specs.Machine.Signs.{is_fixed, operator_of}
 use Rattle.pk_grammar.specs.Machine.States.{Context, State, complete}
-use Rattle.pk_grammar.specs.Machine.Steps.{specifier_at, operand_level}
+use Rattle.pk_grammar.specs.Machine.Steps.{specifier_at, next_word, operand_level}
 use Rattle.pk_grammar.specs.Machine.Running.{first_of_all, run, Fails}
 
 -- these tokens begin with one of this kind
@@ -26,33 +27,34 @@ pub record BeginsWith (o : Operator) (ts : List Token) (at : Pos) (rest : List T
   pub is : operator_of token.kind ≡ o
   pub place : token.at ≡ at
 
-pub record BeginsWithWord (ts : List Token) (s : Specifier) (rest : List Token) : Type 0 where
+-- these tokens begin with one that this function has for this word of a type
+pub record BeginsWithWord (word_of : Token → Option SpecifierWord) (ts : List Token) (s : Specifier)
+    (rest : List Token) : Type 0 where
   pub token : Token
   pub word : SpecifierWord
   pub cut : ts ≡ token ∷ rest
-  pub is : specifier_word token.kind ≡ Some word
+  pub is : word_of token ≡ Some word
   pub specifier : s ≡ specifier_at token word
 
--- the words of a type with which the tokens begin, and the tokens after them
-abbrev pub words_then : Token → Option SpecifierWord → List Specifier → List Specifier
-words_then t None more = []
-words_then t (Some w) more = specifier_at t w ∷ more
+abbrev pub TypeWords : Type 0
+TypeWords = OneOrMore Specifier × List Token
 
-unfoldable pub words : List Token → List Specifier
-words [] = []
-words (t ∷ ts) = words_then t (specifier_word t.kind) (words ts)
+abbrev pub words_then : OneOrMore Specifier → Token → List Token → Option SpecifierWord →
+    (OneOrMore Specifier → TypeWords) → TypeWords
+words_then done t ts None go = (done, t ∷ ts)
+words_then done t ts (Some w) go = go (with_last done (specifier_at t w))
 
--- of which the first was read before them
+-- behind words of a type: these and the words that follow them, and the tokens after those
+unfoldable pub words : OneOrMore Specifier → List Token → TypeWords
+words done [] = (done, [])
+words done (t ∷ ts) = words_then done t ts (next_word done t) (λ all. words all ts)
+
+-- the words of a type of which the first was read
 abbrev pub specifiers_from : Specifier → List Token → OneOrMore Specifier
-specifiers_from first ts = record { first = first; more = words ts }
+specifiers_from first ts = (words (one first) ts).0
 
-abbrev pub past_word : List Token → Option SpecifierWord → List Token → List Token
-past_word here None more = here
-past_word here (Some w) more = more
-
-unfoldable pub past_words : List Token → List Token
-past_words [] = []
-past_words (t ∷ ts) = past_word (t ∷ ts) (specifier_word t.kind) (past_words ts)
+abbrev pub past_words : Specifier → List Token → List Token
+past_words first ts = (words (one first) ts).1
 
 -- An expression of this level is followed by operators of at most this number
 abbrev pub follows : Operator → ℕ

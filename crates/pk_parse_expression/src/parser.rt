@@ -4,7 +4,7 @@ ghost use Rattle.std.specs.Prelude.{◌≡◌, ◌≢◌, ◌+◌, ◌<◌, ◌�
 ghost use Rattle.pk_grammar.specs.Grammar as grammar;
 ghost use Rattle.pk_grammar.specs.Grammar.{strength};
 ghost use Rattle.pk_grammar.specs.Languages.{identifier_of};
-ghost use Rattle.pk_grammar.specs.Machine.Signs.{is_fixed, operator_of, specifier_word};
+ghost use Rattle.pk_grammar.specs.Machine.Signs.{is_fixed, operator_of, specifier_word, following_word};
 ghost use Rattle.pk_grammar.specs.Outcomes.{nesting_limit};
 ghost use Rattle.pk_grammar.specs.Machine.Running.{first_of_all};
 ghost use Rattle.pk_ast.specs.Views.{specifiers_tree};
@@ -12,7 +12,10 @@ ghost use Rattle.pk_parse_expression.specs.Parsing.{Begins, BeginsWith, BeginsWi
 
 use pk_ast::{AssignmentOperator, BinaryOperator, Identifier, Specifier, Specifiers, StepOperator};
 use pk_ctypes::Pos;
-use pk_grammar::{Fixed, Operator, ParseError, is, operator_of, specifier_word};
+use pk_grammar::{
+    Fixed, Operator, ParseError, all_const, following_word, has_type_name, is, operator_of,
+    specifier_word,
+};
 use pk_lex::{Kind, Token};
 use std::alloc::Global;
 
@@ -172,11 +175,26 @@ impl Parser {
 
     /// The first token, where it is a word of a type.
     pub fn specifier<'a>(self, tokens: &'a [Token]) -> Option<(Specifier, &'a [Token])>
-        ensures { MatchOption result (specifier_word (first_of_all self.end tokens.now).kind ≡ None)
-            (λ r. BeginsWithWord tokens.now r.0 r.1.now) }
+        ensures { MatchOption result (specifier_word (first_of_all self.end tokens.now) ≡ None)
+            (λ r. BeginsWithWord specifier_word tokens.now r.0 r.1.now) }
     {
         let (token, rest) = tokens.split_first()?;
-        let word = specifier_word(token.kind)?;
+        let word = specifier_word(*token)?;
+        Some((Specifier { word, at: token.at }, rest))
+    }
+
+    // The first token, where it is a word of a type that may follow others.
+    fn following<'a>(
+        self,
+        tokens: &'a [Token],
+        consts: bool,
+        named: bool,
+    ) -> Option<(Specifier, &'a [Token])>
+        ensures { MatchOption result (following_word consts named (first_of_all self.end tokens.now) ≡ None)
+            (λ r. BeginsWithWord (following_word consts named) tokens.now r.0 r.1.now) }
+    {
+        let (token, rest) = tokens.split_first()?;
+        let word = following_word(consts, named, *token)?;
         Some((Specifier { word, at: token.at }, rest))
     }
 
@@ -187,15 +205,19 @@ impl Parser {
         tokens: &'a [Token],
     ) -> Result<(Specifiers, &'a [Token]), ParseError>
         ensures { MatchResult result (λ r. (specifiers_tree r.0 ≡ specifiers_from first tokens.now)
-            × (r.1.now ≡ past_words tokens.now)) (λ x. x ≡ ParseError.Memory) }
+            × (r.1.now ≡ past_words first tokens.now)) (λ x. x ≡ ParseError.Memory) }
     {
         let mut more = Vec::new(self.alloc);
         let mut rest = tokens;
+        let mut consts = all_const(true, first.word);
+        let mut named = has_type_name(false, first.word);
         loop {
-            let Some((word, after)) = self.specifier(rest) else {
+            let Some((word, after)) = self.following(rest, consts, named) else {
                 return Ok((Specifiers { first, more }, rest));
             };
             more.push(word)?;
+            consts = all_const(consts, word.word);
+            named = has_type_name(named, word.word);
             rest = after;
         }
     }

@@ -19,7 +19,7 @@ use Rattle.pk_phases.proofs.Turn_ranks.{phases_end}
 
 module _ {V : Type 0} (q : Equations V) (held : ℕ → V → Type 0) (k : KeepHeld q held) (apart : ReadsPoints q) where
   abbrev phasing : Phasing V (Cell V)
-  phasing = record { ops = q.ops; cell = Value; value = value_of q.bottom; phase = phase_of; narrow = q.narrow }
+  phasing = record { ops = q.ops; cell = Value; value = value_of q.bottom; phase = phase_of; delay = q.delay; narrow = q.narrow }
 
   module _ (head exit : ℕ) (head_is : q.part head ≡ HeadOf exit) (exit_is : q.part exit ≡ ExitOf head) where
     abbrev new : (ℕ → Cell V) → V
@@ -46,8 +46,8 @@ module _ {V : Type 0} (q : Equations V) (held : ℕ → V → Type 0) (k : KeepH
     decided (Stable p) = refl
     decided (Again p) = refl
 
-    decides : (cells : ℕ → Cell V) → phase_decision phase_of ((behaviour_of q).decide exit (inputs_of (behaviour_of q) cells exit)) ≡ decided_phase q.ops q.narrow (phase_of (cells exit)) (value_of q.bottom (cells head)) (new cells)
-    decides cells = rw exit_is (decided (decided_phase q.ops q.narrow (phase_of (cells exit)) (value_of q.bottom (cells head)) (new cells)))
+    decides : (cells : ℕ → Cell V) → phase_decision phase_of ((behaviour_of q).decide exit (inputs_of (behaviour_of q) cells exit)) ≡ decided_phase q.ops q.delay q.narrow (phase_of (cells exit)) (value_of q.bottom (cells head)) (new cells)
+    decides cells = rw exit_is (decided (decided_phase q.ops q.delay q.narrow (phase_of (cells exit)) (value_of q.bottom (cells head)) (new cells)))
 
     by_phases : GoesByPhases phasing (behaviour_of q) (may_hold_of q held) head exit
     by_phases = record {

@@ -103,10 +103,10 @@ module _ {V : Type 0} (q : Equations V) (order : Level) (once : Once order) (par
       let f = cell_after b (before_newest (trace ends) exit) in
       let stable = settled.ends exit (exit_in order head exit i) in
       let exit_is = (parts head exit i).1 in
-      let d = decided_phase q.ops q.narrow (phase_of (f exit)) (value_of q.bottom (f head)) (new_value q head (map f (q.sources head))) in
+      let d = decided_phase q.ops q.delay q.narrow (phase_of (f exit)) (value_of q.bottom (f head)) (new_value q head (map f (q.sources head))) in
       let here : b.decide exit (map f (b.reads exit)) ≡ exit_cell d = rw exit_is refl in
       let phase = stable_phase d stable.0 (sym here ∙ stable.1) in
-      let below = stable_is_below q.narrow (phase_of (f exit)) phase.0 _ _ phase.1 in
+      let below = stable_is_below q.delay q.narrow (phase_of (f exit)) phase.0 _ _ phase.1 in
       let sources = read_at exit (q.sources head) (λ u has. ahead.heads head exit u i has) in
       let own = settled.read head exit (head_ahead order head exit i) in
       subst (λ (c : Cell V). q.ops.leq (new_value q head (map (result_cell ends) (q.sources head))) (value_of q.bottom c) ≡ true) own

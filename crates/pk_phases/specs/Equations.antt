@@ -12,6 +12,7 @@ use Rattle.pk_phases.specs.declared.equations.Cell.{Cell}
 use Rattle.pk_phases.specs.declared.equations.Cell.TheVariants.{Value, Exit}
 use Rattle.pk_phases.specs.declared.equations.Part.{Part}
 use Rattle.pk_phases.specs.declared.equations.Part.TheVariants.{Point, HeadOf, ExitOf}
+use Rattle.pk_phases.specs.Table.{first_phase_of}
 use Rattle.pk_phases.specs.Values.{Operations, next_value, decided_phase, IsRank}
 use Rattle.pk_phases.specs.Turns.{turn_bound}
 
@@ -22,6 +23,7 @@ pub record Equations (V : Type 0) : Type 0 where
   pub part : ℕ → Part
   pub sources : ℕ → List ℕ
   pub value : ℕ → List V → V
+  pub delay : ℕ
   pub narrow : ℕ
 
 -- a cell's value, and bottom for a phase; a cell's phase, and Up for a value
@@ -46,7 +48,7 @@ reads_in q e (ExitOf head) = e ∷ (head ∷ q.sources head)
 abbrev pub first_in : {V : Type 0} → Equations V → Part → Cell V
 first_in q Point = Value q.bottom
 first_in q (HeadOf exit) = Value q.bottom
-first_in q (ExitOf head) = Exit Up
+first_in q (ExitOf head) = Exit (first_phase_of q.delay)
 
 -- the head's run, and nothing new where the cells are too few
 abbrev pub head_run : {V : Type 0} → Equations V → ℕ → List (Cell V) → V
@@ -67,7 +69,7 @@ abbrev pub exit_run : {V : Type 0} → Equations V → ℕ → List (Cell V) →
 exit_run q head [] = Stable Up
 exit_run q head (x ∷ []) = Stable Up
 exit_run q head (x ∷ (h ∷ cells)) =
-    decided_phase q.ops q.narrow (phase_of x) (value_of q.bottom h) (new_value q head cells)
+    decided_phase q.ops q.delay q.narrow (phase_of x) (value_of q.bottom h) (new_value q head cells)
 
 -- for other elements than exits this is never asked
 abbrev pub decide_in : {V : Type 0} → Equations V → Part → List (Cell V) → Decision (Cell V)
@@ -124,4 +126,4 @@ abbrev pub EquationsEnd : {V : Type 0} → Equations V → (ℕ → V → Type 0
 EquationsEnd {V} q held =
     (order : Level) (rank : V → ℕ) (chain : ℕ) → Once order → PartsAreOf q order → ReadsPoints q
     → ((head exit : ℕ) → HasComponent order head exit → IsRank q.ops (held head) chain rank)
-    → EndsWithin (behaviour_of q) order (turn_bound chain q.narrow)
+    → EndsWithin (behaviour_of q) order (turn_bound chain q.narrow q.delay)

@@ -20,4 +20,4 @@ abbrev pub LinearOrderEnds : {V : Type 0} → Equations V → (ℕ → V → Typ
 LinearOrderEnds {V} q held =
     (p : PlanView) (order : Level) (rank : V → ℕ) (chain : ℕ) → IsLinear p order → PartsAreOfPlan q p → ReadsPoints q
     → ((c : Component) → Contains p.components c → IsRank q.ops (held c.head) chain rank)
-    → EndsWithin (behaviour_of q) order (turn_bound chain q.narrow)
+    → EndsWithin (behaviour_of q) order (turn_bound chain q.narrow q.delay)

@@ -9,12 +9,13 @@ use Rattle.pk_iterate.specs.BoundedTurns.{HasComponent, with_cell, inputs_of, En
 use Rattle.pk_phases.specs.declared.phases.Phase.{Phase}
 use Rattle.pk_phases.specs.Values.{Operations, next_value, decided_phase, IsRank}
 
--- Values in the cells of heads and phases in those of exits; how many runs narrow.
+-- Values in the cells of heads and phases in those of exits; how many runs join before the first widening, and how many narrow.
 pub record Phasing (V C : Type 0) : Type 0 where
   pub ops : Operations V
   pub cell : V → C
   pub value : C → V
   pub phase : C → Phase
+  pub delay : ℕ
   pub narrow : ℕ
 
 -- all cells may be held
@@ -35,14 +36,14 @@ pub record GoesByPhases {V C : Type 0} (p : Phasing V C) (b : Behaviour C) (may_
       ≡ next_value p.ops (p.phase (cells exit)) (p.value (cells head)) (new cells)
   pub decides : (cells : ℕ → C) → Held may_hold cells →
       phase_decision p.phase (b.decide exit (inputs_of b cells exit))
-      ≡ decided_phase p.ops p.narrow (p.phase (cells exit)) (p.value (cells head)) (new cells)
+      ≡ decided_phase p.ops p.delay p.narrow (p.phase (cells exit)) (p.value (cells head)) (new cells)
   -- the head may hold the value of its cell, and the new one
   pub value_held : (c : C) → may_hold head c → may_hold head (p.cell (p.value c))
   pub new_held : (cells : ℕ → C) → Held may_hold cells → may_hold head (p.cell (new cells))
 
 -- how often an entry runs the head at most, where no chain of widening steps is longer than `chain`
-abbrev pub turn_bound : (chain narrow : ℕ) → ℕ
-turn_bound chain narrow = 2 * chain + narrow + 2
+abbrev pub turn_bound : (chain narrow delay : ℕ) → ℕ
+turn_bound chain narrow delay = 2 * chain + narrow + 2 + delay
 
 -- a system whose components go by the phases is gone through to its end
 abbrev pub PhasesEnd : (V : Type 0) {C : Type 0} → Behaviour C → (ℕ → C → Type 0) → Type 0
@@ -50,4 +51,4 @@ PhasesEnd V {C} b may_hold =
     (p : Phasing V C) (rank : V → ℕ) (chain : ℕ) (order : Level) → Once order
     → ((head exit : ℕ) → HasComponent order head exit →
     GoesByPhases p b may_hold head exit × IsRank p.ops (λ v. may_hold head (p.cell v)) chain rank)
-    → EndsWithin b order (turn_bound chain p.narrow)
+    → EndsWithin b order (turn_bound chain p.narrow p.delay)

@@ -42,6 +42,10 @@ pub trait Equate {
     fn reads(&self, e: u32) -> &[u32]
         ensures { result.now ≡ reads_in (meaning self.now) e ((meaning self.now).part e) };
 
+    /// How many runs join before the first widening.
+    fn delay(&self) -> u32
+        ensures { result ≡ (meaning self.now).delay };
+
     /// How many runs narrow.
     fn narrow(&self) -> u32
         ensures { result ≡ (meaning self.now).narrow };
@@ -70,6 +74,16 @@ pub trait Equate {
     fn same(&self, a: &Self::Value, b: &Self::Value) -> bool
         requires { AreHeld (held self.now) a.now b.now }
         ensures { result ≡ (meaning self.now).ops.same a.now b.now };
+
+    /// The old value joined with the new.
+    fn joined(
+        &self,
+        alloc: Global,
+        old: &Self::Value,
+        new: &Self::Value,
+    ) -> Result<Self::Value, AllocError>
+        requires { AreHeld (held self.now) old.now new.now }
+        ensures { IfOk result (λ v. v ≡ (meaning self.now).ops.join old.now new.now) };
 
     /// The old value widened by the new.
     fn widen(

@@ -19,7 +19,7 @@ pub fn equations_end<E: Equate>(equations: &E)
     ensures { EquationsEnd (E.meaning equations.now) (E.held equations.now) }
 {}
 
-/// An exit is stable only where the new value is below the head's, and then goes back to Up.
+/// An exit is stable only where the new value is below the head's, and then goes back to the first phase.
 pub fn stable_is_below()
     ensures { StableIsBelow }
 {}

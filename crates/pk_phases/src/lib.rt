@@ -9,4 +9,4 @@ mod phases;
 pub use equations::{Cell, Equate, Part};
 pub use laws::{end_is_solved, equations_end, linear_order_ends, phases_end, stable_is_below};
 pub use phased::Phased;
-pub use phases::{Phase, decision};
+pub use phases::{Phase, decision, first_phase};

@@ -5,7 +5,7 @@ ghost use Rattle.pk_phases.specs.Values.{next_value, decided_phase};
 ghost use Rattle.pk_phases.specs.Equations.{value_of, phase_of, AreHeld};
 
 use crate::equations::{Cell, Equate, Part};
-use crate::phases::{Phase, asks, decision};
+use crate::phases::{Phase, asks, decision, first_phase};
 use pk_iterate::{Decision, System};
 use std::alloc::{AllocError, Global};
 use std::sync::Arc;
@@ -28,6 +28,7 @@ fn next<E: Equate>(
     ensures { IfOk result (λ v. v ≡ next_value (E.meaning equations.now).ops phase old.now new.now) }
 {
     match phase {
+        Phase::Delay(_) => equations.joined(alloc, old, new),
         Phase::Up => equations.widen(alloc, old, new),
         Phase::Down(_) => equations.narrowed(alloc, old, new),
         Phase::Last => equations.widen(alloc, old, new),
@@ -44,16 +45,18 @@ fn decide_by<E: Equate>(
 ) -> Result<Decision<Phase>, AllocError>
     requires { AreHeld (E.held equations.now) old.now new.now }
     ensures { IfOk result (λ d.
-        d ≡ decided_phase (E.meaning equations.now).ops (E.meaning equations.now).narrow phase old.now new.now) }
+        d ≡ decided_phase (E.meaning equations.now).ops (E.meaning equations.now).delay
+        (E.meaning equations.now).narrow phase old.now new.now) }
 {
     let below = equations.leq(new, old);
+    let delay = equations.delay();
     let most = equations.narrow();
     if !asks(most, phase, below) {
-        return Ok(decision(most, phase, below, false));
+        return Ok(decision(delay, most, phase, below, false));
     }
     let narrowed = equations.narrowed(alloc, old, new)?;
     let settled = equations.same(&narrowed, old);
-    Ok(decision(most, phase, below, settled))
+    Ok(decision(delay, most, phase, below, settled))
 }
 
 /// The phase of an exit's cell.
@@ -96,8 +99,9 @@ fn exit_phase<E: Equate>(
     new: &E::Value,
 ) -> Result<Decision<Phase>, AllocError>
     requires { AreHeld (E.held equations.now) (value_of (E.meaning equations.now).bottom head.now) new.now }
-    ensures { IfOk result (λ d. d ≡ decided_phase (E.meaning equations.now).ops (E.meaning equations.now).narrow
-        (phase_of own.now) (value_of (E.meaning equations.now).bottom head.now) new.now) }
+    ensures { IfOk result (λ d. d ≡ decided_phase (E.meaning equations.now).ops (E.meaning equations.now).delay
+        (E.meaning equations.now).narrow (phase_of own.now)
+        (value_of (E.meaning equations.now).bottom head.now) new.now) }
 {
     match head {
         Cell::Value(old) => decide_by(alloc, equations, phase_in(own), old, new),
@@ -137,7 +141,7 @@ where
     fn first(&self, alloc: Global, e: u32) -> Result<Self::Cell, AllocError> {
         match self.equations.part(e) {
             Part::Point | Part::HeadOf(_) => Ok(Cell::Value(self.equations.bottom(alloc)?)),
-            Part::ExitOf(_) => Ok(Cell::Exit(Phase::Up)),
+            Part::ExitOf(_) => Ok(Cell::Exit(first_phase(self.equations.delay()))),
         }
     }
 

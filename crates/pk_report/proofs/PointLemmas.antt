@@ -1,14 +1,14 @@
 -- What is visible is there, heads are marked.
-use Rattle.std.proofs.Common.{◌≡◌, ◌≢◌, ◌<◌, ◌≤◌, ◌+◌, ◌-◌, ℕ, refl, ap, ◌∙◌, sym, subst, nat_eq, Bool, true, false, ◌||◌, if◌then◌else◌, ◌⊎◌, inl, inr, List, [], ◌∷◌, ◌++◌, length, take, reverse, replicate, slice_index_or, slice_set, Option, Some, None, arith, length-set}
+use Rattle.std.proofs.Common.{◌≡◌, ◌≢◌, ◌<◌, ◌≤◌, ◌+◌, ◌-◌, ℕ, refl, ap, ◌∙◌, sym, subst, nat_eq, Bool, true, false, ◌||◌, if◌then◌else◌, not, ◌⊎◌, inl, inr, List, [], ◌∷◌, ◌++◌, length, take, reverse, replicate, slice_index_or, slice_set, Option, Some, None, arith, length-set}
 use Rattle.std.specs.Prelude.{codes}
-use Rattle.std.specs.List.{All, flat_map}
+use Rattle.std.specs.List.{All, filter, flat_map}
 use Rattle.std.proofs.lemmas.Bool.Decides.{eqb_tells}
 use Rattle.std.proofs.lemmas.List.{get_or-reverse, length-reverse, get_or-set_same, get_or-set_other, get_or-replicate, length-replicate, take_all}
-use Rattle.std.proofs.lemmas.List.Elements.{All-nil, All-cons, All-head, All-tail}
+use Rattle.std.proofs.lemmas.List.Elements.{All-nil, All-cons, All-head, All-tail, All-append, All-filter}
 use Rattle.std.proofs.lemmas.List.Folds.{list_any_more}
 use Rattle.pk_graph.specs.Graphs.{VariableOf, GraphOf, no_point, point_at}
 use Rattle.pk_graph.specs.WellMade.{IsGraph}
-use Rattle.pk_graph.specs.Visible.{Names, no_name, with_name, is_new, name_at, not_hidden, visible_at}
+use Rattle.pk_graph.specs.Visible.{Names, no_name, with_name, is_new, name_at, not_hidden, is_of_file, files_first, visible_at}
 use Rattle.pk_state.specs.Layouts.{Layout}
 use Rattle.pk_state.specs.Facts.{Facts}
 use Rattle.pk_report.specs.Values.{placed, of_pairs, value_line_if, pair_lines_if, facts_lines}
@@ -44,10 +44,16 @@ reverse_below n xs h k d i =
     let inside : k < length xs = subst (λ (m : ℕ). k < m) (length-reverse xs) i in
     subst (λ (x : ℕ). x < n) (sym (get_or-reverse xs k d inside)) (h (length xs - 1 - k) d (omega (arith, inside)))
 
+files_first_below : (n : ℕ) (vs : List VariableOf) (xs : List ℕ) → AreBelow n xs → AreBelow n (files_first vs xs)
+files_first_below n vs xs h =
+    All-append (λ (x : ℕ). x < n) (filter (is_of_file vs) xs) (filter (λ (x : ℕ). not (is_of_file vs x)) xs)
+    (All-filter (is_of_file vs) (λ (x : ℕ). x < n) xs h) (All-filter (λ (x : ℕ). not (is_of_file vs x)) (λ (x : ℕ). x < n) xs h)
+
 pub visible_below : (g : GraphOf) (p : ℕ) → IsGraph g → p < length g.points → AreBelow (length g.variables) (visible_at g p)
 visible_below g p m h =
-    reverse_below (length g.variables) (not_hidden g.variables no_name (point_at g p).scope)
-    (not_hidden_below (length g.variables) g.variables no_name (point_at g p).scope (m.points p no_point h).scope)
+    let shown = not_hidden g.variables no_name (point_at g p).scope in
+    files_first_below (length g.variables) g.variables (reverse shown)
+    (reverse_below (length g.variables) shown (not_hidden_below (length g.variables) g.variables no_name (point_at g p).scope (m.points p no_point h).scope))
 
 -- ---- heads
 

@@ -1,7 +1,7 @@
 -- What a state stands for, and what a step says of it.
 use Rattle.std.specs.Prelude.{◌≡◌, ℕ, zero, suc, ◌<◌, Bool, true, false, ℤ, List, [], ◌∷◌, length, map, reverse, get_or, Option, Some, None}
 use Rattle.pk_typed.specs.Views.{unit_tree}
-use Rattle.pk_meaning.specs.Objects.{local, Objects, is_in_scope}
+use Rattle.pk_meaning.specs.Objects.{Objects, is_in_scope}
 use Rattle.pk_meaning.specs.Programs.{Program}
 use Rattle.pk_meaning.specs.Steps as steps
 use Rattle.pk_meaning.specs.Steps.{Config, Next}
@@ -32,7 +32,7 @@ objects_in x = record {
 -- a reading of the rows that agrees with the table
 abbrev pub Agrees : Reading → List Row → Type 0
 Agrees s rows =
-    (i : ℕ) (r : Row) → i < length rows → get_or rows i r ≡ r → s i ≡ local r.path r.local ∷ scope_in s r.parent
+    (i : ℕ) (r : Row) → i < length rows → get_or rows i r ≡ r → s i ≡ object_in r.object ∷ scope_in s r.parent
 
 abbrev pub is_visit : Reading → State → Visited → Bool
 is_visit s c visits.No = false

@@ -1,32 +1,37 @@
-// Scopes: a row of the table is an object of a function, before the scope behind it.
+// Scopes: a row of the table is an object, before the scope behind it.
 
 ghost use Rattle.std.specs.Prelude.{◌≡◌, ◌≤◌, ◌∷◌, ◌++◌, [], length, IfOk, OnOk, IsTrue};
 ghost use Rattle.pk_typed.specs.Views.{declared_tree, declared_trees};
-ghost use Rattle.pk_meaning.specs.Objects.{local};
 ghost use Rattle.pk_meaning.specs.Programs as programs;
-ghost use Rattle.pk_runner_frame.specs.Frames.{Reading, scope_in};
+ghost use Rattle.pk_runner_frame.specs.Frames.{Reading, object_in, scope_in};
 ghost use Rattle.pk_runner_state.specs.Shown.{program_in, Agrees};
 ghost use Rattle.pk_runner_state.specs.Rows.{rows_of_scope, IsOrderly, reading_of};
 
 use crate::programs::{Program, has_name, parameters, visible};
 use pk_ctypes::IntType;
-use pk_runner_frame::Scope;
+use pk_runner_frame::{Object, Scope};
 use pk_typed::Declared;
 use std::alloc::{AllocError, Global};
 
-/// An object of a path's function in scope, and the scope behind it.
+/// An object in scope, and the scope behind it.
 #[derive(Clone, Copy)]
 pub struct Row {
-    pub path: usize,
-    pub local: usize,
+    pub object: Object,
     pub parent: Scope,
 }
 
-/// The rows, and for each path and object the row that was made of it last.
+/// For each object of the file, and for each path and object of its function, the row that was made of it last.
+#[derive(Drop)]
+pub struct Lasts {
+    pub files: Vec<usize>,
+    pub locals: Vec<Vec<usize>>,
+}
+
+/// The rows, and those that were made last.
 #[derive(Drop)]
 pub struct Table {
     pub rows: Vec<Row>,
-    pub lasts: Vec<Vec<usize>>,
+    pub lasts: Lasts,
     ghost orderly: { IsOrderly rows.items },
 }
 
@@ -45,28 +50,68 @@ fn is_same_scope(a: Scope, b: Scope) -> bool
     }
 }
 
-fn is_row(row: &Row, path: usize, local: usize, parent: Scope) -> bool
-    ensures { IsTrue result → row.now ≡ record { path = path; local = local; parent = parent } }
+fn is_same_object(a: Object, b: Object) -> bool
+    ensures { IsTrue result → a ≡ b }
 {
-    row.path == path && row.local == local && is_same_scope(row.parent, parent)
-}
-
-// The row that was made of an object last, if it is known.
-fn last(lasts: &[Vec<usize>], path: usize, local: usize) -> usize {
-    if path < lasts.len() {
-        let row = &lasts[path];
-        if local < row.len() { row[local] } else { 0 }
-    } else {
-        0
+    match a {
+        Object::File(i) => match b {
+            Object::File(j) => i == j,
+            Object::Local(_, _) => false,
+            Object::Result(_) => false,
+        },
+        Object::Local(k, i) => match b {
+            Object::File(_) => false,
+            Object::Local(m, j) => k == m && i == j,
+            Object::Result(_) => false,
+        },
+        Object::Result(k) => match b {
+            Object::File(_) => false,
+            Object::Local(_, _) => false,
+            Object::Result(m) => k == m,
+        },
     }
 }
 
-fn set_last(lasts: &mut Vec<Vec<usize>>, path: usize, local: usize, number: usize) {
-    if path < lasts.len() {
-        let row = &mut lasts[path];
-        if local < row.len() {
-            row[local] = number;
+fn is_row(row: &Row, object: Object, parent: Scope) -> bool
+    ensures { IsTrue result → row.now ≡ record { object = object; parent = parent } }
+{
+    is_same_object(row.object, object) && is_same_scope(row.parent, parent)
+}
+
+fn number_at(list: &[usize], place: usize) -> usize {
+    if place < list.len() { list[place] } else { 0 }
+}
+
+// The row that was made of an object last, if it is known.
+fn last(lasts: &Lasts, object: Object) -> usize {
+    match object {
+        Object::File(place) => number_at(&lasts.files, place),
+        Object::Local(path, place) => {
+            if path < lasts.locals.len() {
+                number_at(&lasts.locals[path], place)
+            } else {
+                0
+            }
         }
+        Object::Result(_) => 0,
+    }
+}
+
+fn set_number(list: &mut Vec<usize>, place: usize, number: usize) {
+    if place < list.len() {
+        list[place] = number;
+    }
+}
+
+fn set_last(lasts: &mut Lasts, object: Object, number: usize) {
+    match object {
+        Object::File(place) => set_number(&mut lasts.files, place, number),
+        Object::Local(path, place) => {
+            if path < lasts.locals.len() {
+                set_number(&mut lasts.locals[path], place, number);
+            }
+        }
+        Object::Result(_) => {}
     }
 }
 
@@ -81,8 +126,7 @@ fn add(table: &mut Table, row: Row) -> Result<(), AllocError>
 }
 
 const FILLER: Row = Row {
-    path: 0,
-    local: 0,
+    object: Object::File(0),
     parent: Scope::File(0),
 };
 
@@ -103,26 +147,25 @@ pub fn reach(table: &mut Table, scope: Scope) -> Result<(), AllocError>
 }
 
 // An object comes into scope. The row that was made of it last stands for the same, if it has the same scope behind it.
-fn extend(table: &mut Table, path: usize, object: usize, scope: Scope) -> Result<Scope, AllocError>
+fn extend(table: &mut Table, object: Object, scope: Scope) -> Result<Scope, AllocError>
     ensures scope { (s : Reading) → Agrees s table.new.rows.items →
-        IfOk result (λ x. scope_in s x ≡ local path object ∷ scope_in s scope) }
+        IfOk result (λ x. scope_in s x ≡ object_in object ∷ scope_in s scope) }
     ensures before { (s : Reading) → Agrees s table.new.rows.items → Agrees s table.old.rows.items }
 {
-    let last = last(&table.lasts, path, object);
+    let last = last(&table.lasts, object);
     if last < table.rows.len() {
-        if is_row(&table.rows[last], path, object, scope) {
+        if is_row(&table.rows[last], object, scope) {
             return Ok(Scope::Row(last));
         }
     }
     reach(table, scope)?;
     let number = table.rows.len();
     let row = Row {
-        path,
-        local: object,
+        object,
         parent: scope,
     };
     add(table, row)?;
-    set_last(&mut table.lasts, path, object, number);
+    set_last(&mut table.lasts, object, number);
     Ok(Scope::Row(number))
 }
 
@@ -140,22 +183,13 @@ pub fn with_local(
     ensures before { (s : Reading) → Agrees s table.new.rows.items → Agrees s table.old.rows.items }
 {
     if has_name(program, path, object) {
-        extend(table, path, object, scope)
+        extend(table, Object::Local(path, object), scope)
     } else {
         Ok(scope)
     }
 }
 
 #[tactic(auto, unfolding(pk_typed::specs::Views::declared_tree))]
-fn number_declared(declared: &Declared) -> usize
-    ensures { result ≡ programs.number_declared (declared_tree declared.now) }
-{
-    match declared {
-        Declared::Scalar(number, _, _) => *number,
-        Declared::Array(number, _, _) => *number,
-    }
-}
-
 pub fn with_declared(
     program: &Program<'_>,
     table: &mut Table,
@@ -168,7 +202,11 @@ pub fn with_declared(
         ≡ programs.with_declared (program_in program.now) path (declared_tree declared.now) (scope_in s scope)) }
     ensures before { (s : Reading) → Agrees s table.new.rows.items → Agrees s table.old.rows.items }
 {
-    with_local(program, table, path, number_declared(declared), scope)
+    match declared {
+        Declared::Scalar(number, _, _) => with_local(program, table, path, *number, scope),
+        Declared::Array(number, _, _) => with_local(program, table, path, *number, scope),
+        Declared::Static(number, _) => extend(table, Object::File(*number), scope),
+    }
 }
 
 pub fn with_all_declared(
@@ -224,8 +262,8 @@ pub fn body_scope(
 }
 
 // A place for the row of each object.
-fn no_rows(alloc: Global, program: &Program<'_>) -> Result<Vec<Vec<usize>>, AllocError> {
-    let mut lasts = Vec::new(alloc);
+fn no_rows(alloc: Global, program: &Program<'_>) -> Result<Lasts, AllocError> {
+    let mut locals = Vec::new(alloc);
     for path in 0..program.paths.len() {
         let function = program.paths.path(path).function;
         let count = if function < program.unit.functions.len() {
@@ -236,9 +274,12 @@ fn no_rows(alloc: Global, program: &Program<'_>) -> Result<Vec<Vec<usize>>, Allo
         } else {
             0
         };
-        lasts.push(vec![in alloc; 0usize; count]?)?;
+        locals.push(vec![in alloc; 0usize; count]?)?;
     }
-    Ok(lasts)
+    Ok(Lasts {
+        files: vec![in alloc; 0usize; program.unit.objects.len()]?,
+        locals,
+    })
 }
 
 impl Table {

@@ -134,6 +134,23 @@ fn begin_array<'a>(
     }
 }
 
+// An object that is static comes into scope alone.
+fn name_static<'a>(
+    state: &mut State<'a>,
+    here: Spot,
+    after: After<'a>,
+) -> Result<Answer, AllocError>
+    ensures { (s : Reading) →
+        IfOk result (λ r. Told s state.old state.new r
+        (steps.on (steps.standing (place_in s here) (shown s state.old))
+        (after_in s (held s state.old.frames.items) (scope_in s here.scope) after.entry)
+        (shown s state.old).values)) }
+{
+    let number = lay_after(&mut state.frames, here.scope, after)?;
+    state.here = here;
+    Ok(resume(state, number))
+}
+
 fn declare<'a>(
     program: &Program<'a>,
     state: &mut State<'a>,
@@ -167,6 +184,13 @@ fn declare<'a>(
                 scope: inner,
             };
             begin_array(program, state, chosen, here, *object, list, after)
+        }
+        Declared::Static(_file, at) => {
+            let here = Spot {
+                at: *at,
+                scope: inner,
+            };
+            name_static(state, here, after)
         }
     }
 }

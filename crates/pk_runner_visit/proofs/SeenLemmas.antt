@@ -2,7 +2,7 @@
 use Rattle.std.proofs.Common.{◌≡◌, ◌<◌, ◌+◌, ℕ, suc, ap, sym, ◌∙◌, List, [], ◌∷◌, ◌++◌, length, map, drop, get_or, Bool, append_assoc}
 use Rattle.std.specs.Prelude.{◌||◌}
 use Rattle.std.proofs.lemmas.List.{drop_more, map_push}
-use Rattle.pk_meaning.specs.Objects.{Object, file, local, Scope, is_same, is_in_scope}
+use Rattle.pk_meaning.specs.Objects.{Object, file, Scope, is_same, is_in_scope}
 use Rattle.pk_meaning.specs.Programs.{file_scope}
 use Rattle.pk_runner_frame.specs.declared.works.Object as code_object
 use Rattle.pk_runner_frame.specs.declared.works.Object.TheVariants as objects
@@ -16,9 +16,9 @@ pushed list new x rest e =
     ∙ (ap (λ (xs : Scope). xs ++ rest) (map_push object_in list x) ∙ append_assoc (map object_in list) (object_in x ∷ []) rest)
 
 pub row_next : (s : Reading) (rows : List Row) (list new : List code_object.Object) (i : ℕ) (r : Row) (whole : Scope) → Agrees s rows → i < length rows → r ≡ get_or rows i r
-    → new ≡ list ++ objects.Local r.path r.local ∷ [] → map object_in list ++ s i ≡ whole → map object_in new ++ scope_in s r.parent ≡ whole
+    → new ≡ list ++ r.object ∷ [] → map object_in list ++ s i ≡ whole → map object_in new ++ scope_in s r.parent ≡ whole
 row_next s rows list new i r whole a l e n h =
-    pushed list new (objects.Local r.path r.local) (scope_in s r.parent) n ∙ (ap (λ (xs : Scope). map object_in list ++ xs) (sym (a i r l (sym e))) ∙ h)
+    pushed list new r.object (scope_in s r.parent) n ∙ (ap (λ (xs : Scope). map object_in list ++ xs) (sym (a i r l (sym e))) ∙ h)
 
 pub file_next : (list new : List code_object.Object) (n m : ℕ) (whole : Scope) → n ≡ suc m → new ≡ list ++ objects.File m ∷ [] → map object_in list ++ file_scope n ≡ whole
     → map object_in new ++ file_scope m ≡ whole

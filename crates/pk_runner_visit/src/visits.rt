@@ -43,7 +43,7 @@ fn rows_in(alloc: Global, table: &Table, scope: Scope) -> Result<(Vec<Object>, u
             Scope::File(count) => return Ok((list, count)),
             Scope::Row(number) => {
                 let row = table.rows[number];
-                list.push(Object::Local(row.path, row.local))?;
+                list.push(row.object)?;
                 left = row.parent;
             }
         }

@@ -1,5 +1,5 @@
 -- The line of an access is read back, and only from its text.
-use Rattle.std.proofs.Common.{◌≡◌, ◌+◌, ◌≤◌, [], ◌++◌, refl, true, arith, Some, lit≤}
+use Rattle.std.proofs.Common.{◌≡◌, [], ◌++◌, refl, true, arith, Some, lit≤}
 use Rattle.std.specs.Prelude.{ℤ, codes}
 use Rattle.std.specs.Fmt.{decimal, signed_decimal}
 use Rattle.pk_ctypes.specs.declared.faults.Fault.{Fault}
@@ -8,13 +8,13 @@ use Rattle.pk_ctypes.specs.declared.places.Pos.{Pos}
 use Rattle.pk_ctypes.specs.Words.{fault_text}
 use Rattle.pk_show.specs.declared.rows.Verdict.{Verdict}
 use Rattle.pk_show.specs.declared.rows.Verdict.TheVariants.{Safe, Unknown, Unreachable}
-use Rattle.pk_show.specs.Pieces.{strip, cut, lacks, place_in, fault_in}
+use Rattle.pk_show.specs.Pieces.{lacks, place_in, fault_in}
 use Rattle.pk_show.specs.Rows.{AccessOf, verdict_text, access_text}
 use Rattle.pk_show.specs.Reading.{unknown_in, verdict_in, access_in}
 use Rattle.pk_show.specs.Laws.{IsNumber, IsPlace, IsVerdict, IsAccess}
 use Rattle.pk_show.proofs.PieceLemmas.{strip_read, cut_read, place_onto, count_read, signed_read, decimal_lacks, signed_lacks}
 
-place_read : (at : Pos) → IsPlace at → place_in (decimal at.line) (decimal at.column) ≡ Some at
+pub place_read : (at : Pos) → IsPlace at → place_in (decimal at.line) (decimal at.column) ≡ Some at
 unfolding place_in
 place_read at h = rw (count_read at.line h.line, count_read at.column h.column) refl
 

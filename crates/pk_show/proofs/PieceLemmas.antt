@@ -1,5 +1,5 @@
 -- Each piece is read back from its text, and only from it.
-use Rattle.std.proofs.Common.{◌≡◌, ℕ, suc, ◌+◌, ◌<◌, ◌≤◌, ◌^◌, ◌==◌, List, [], ◌∷◌, ◌++◌, length, take, drop, refl, sym, ap, ◌∙◌, cond, Bool, true, false, not, ◌&&◌, arith, Option, Some, None, nat_lt, nat_eq, take-append-drop, append_assoc, lit≤}
+use Rattle.std.proofs.Common.{◌≡◌, ℕ, suc, ◌<◌, ◌≤◌, ◌^◌, ◌==◌, List, [], ◌∷◌, ◌++◌, length, take, drop, refl, sym, ap, ◌∙◌, cond, Bool, true, false, not, ◌&&◌, arith, Option, Some, None, nat_lt, nat_eq, take-append-drop, append_assoc, lit≤}
 use Rattle.std.specs.Prelude.{ℤ, pos, negsuc, codes}
 use Rattle.std.specs.List.{prefix_len}
 use Rattle.std.specs.Fmt.{decimal, signed_decimal}
@@ -40,7 +40,7 @@ strip_told literal text rest e = strip_told_by literal text rest (same (take (le
 
 -- ---- fields
 
-field_length : (c : ℕ) (l field rest : List ℕ) → lacks c field ≡ true →
+pub field_length : (c : ℕ) (l field rest : List ℕ) → lacks c field ≡ true →
     prefix_len (λ b. not (begins_with b (c ∷ l))) (field ++ c ∷ rest) ≡ length field
 field_length c l [] rest h = rw (eq-eqb c c refl) refl
 field_length c l (b ∷ field) rest h =
@@ -92,7 +92,7 @@ digits_lack c (d ∷ digits) high all = and_from (not (c == d)) (lacks c digits)
 pub decimal_lacks : (c n : ℕ) → 10 ≤ digit_value c → n < 2 ^ 127 → lacks c (decimal n) ≡ true
 decimal_lacks c n high h = digits_lack c (decimal n) high (decimal_is_IsNumeral_wide n (omega arith)).0.1
 
-no_minus : (text : List ℕ) → lacks 45 text ≡ true → begins_with 45 text ≡ false
+pub no_minus : (text : List ℕ) → lacks 45 text ≡ true → begins_with 45 text ≡ false
 no_minus [] h = refl
 no_minus (b ∷ text) h = told (b == 45) refl
   where

@@ -1,8 +1,7 @@
 -- What is read of a line is what the line says.
-use Rattle.std.proofs.Common.{◌≡◌, ℕ, zero, suc, ◌+◌, ◌^◌, List, [], ◌∷◌, ◌++◌, length, take, drop, refl, sym, ap, ◌∙◌, Bool, true, false, not, cond, ◌&&◌, Option, Some, None, nat_lt, take-append-drop}
+use Rattle.std.proofs.Common.{◌≡◌, ℕ, zero, suc, ◌^◌, List, [], ◌∷◌, ◌++◌, length, take, drop, refl, sym, ap, ◌∙◌, Bool, true, false, not, cond, ◌&&◌, Option, Some, None, nat_lt, take-append-drop}
 use Rattle.std.specs.Prelude.{ℤ, pos, negsuc, codes}
 use Rattle.std.specs.Option.{option_map, option_and_then}
-use Rattle.std.specs.List.{prefix_len}
 use Rattle.std.specs.Fmt.{decimal, signed_decimal}
 use Rattle.std.specs.Str.Parse.{digits_value}
 use Rattle.std.specs.Cmp.Lexicographic.{same_text}
@@ -23,25 +22,25 @@ use Rattle.pk_show.specs.Reading.{unknown_in, verdict_in, access, access_in}
 use Rattle.pk_show.proofs.PieceLemmas.{strip_told, place_onto}
 
 -- both steps of a reading have given something
-record Steps {A B : Type 0} (o : Option A) (f : A → Option B) (b : B) : Type 0 where
-  first : A
-  gave : o ≡ Some first
-  then_gave : f first ≡ Some b
+pub record Steps {A B : Type 0} (o : Option A) (f : A → Option B) (b : B) : Type 0 where
+  pub first : A
+  pub gave : o ≡ Some first
+  pub then_gave : f first ≡ Some b
 
-steps : {A B : Type 0} (o : Option A) (f : A → Option B) (b : B) → option_and_then f o ≡ Some b → Steps o f b
+pub steps : {A B : Type 0} (o : Option A) (f : A → Option B) (b : B) → option_and_then f o ≡ Some b → Steps o f b
 steps None f b e = absurd (cc e)
 steps (Some a) f b e = record { first = a; gave = refl; then_gave = e }
 
-some_same : {A : Type 0} (a b : A) → Some a ≡ Some b → a ≡ b
+pub some_same : {A : Type 0} (a b : A) → Some a ≡ Some b → a ≡ b
 some_same a b e = cc e
 
-passed : {A : Type 0} (t : Bool) (a b : A) → if_true t a ≡ Some b → (t ≡ true) × (a ≡ b)
+pub passed : {A : Type 0} (t : Bool) (a b : A) → if_true t a ≡ Some b → (t ≡ true) × (a ≡ b)
 passed true a b e = (refl, cc e)
 passed false a b e = absurd (cc e)
 
 -- ---- pieces
 
-cut_told : (literal text : List ℕ) (p : List ℕ × List ℕ) → cut literal text ≡ Some p → text ≡ p.0 ++ (literal ++ p.1)
+pub cut_told : (literal text : List ℕ) (p : List ℕ × List ℕ) → cut literal text ≡ Some p → text ≡ p.0 ++ (literal ++ p.1)
 unfolding cut
 cut_told literal text p e = told (strip literal (drop (length field) text)) refl e
   where
@@ -71,14 +70,14 @@ magnitude_told text n e =
     let written = and_parts (same (decimal k) text) (nat_lt k (2 ^ 127)) both.0 in
     sym (same_text (decimal k) text (sym written.0)) ∙ ap decimal both.1
 
-count_told : (text : List ℕ) (n : ℕ) → count_in text ≡ Some n → text ≡ decimal n
+pub count_told : (text : List ℕ) (n : ℕ) → count_in text ≡ Some n → text ≡ decimal n
 unfolding count_in
 count_told text n e =
     let s = steps (magnitude_in text) _ n e in
     let both = passed (nat_lt s.first (2 ^ 64)) s.first n s.then_gave in
     magnitude_told text s.first s.gave ∙ ap decimal both.1
 
-minus_told : (text : List ℕ) → begins_with 45 text ≡ true → text ≡ 45 ∷ drop 1 text
+pub minus_told : (text : List ℕ) → begins_with 45 text ≡ true → text ≡ 45 ∷ drop 1 text
 minus_told [] h = absurd (cc h)
 minus_told (b ∷ text) h = ap (λ (c : ℕ). c ∷ text) (eqb-true b 45 h)
 
@@ -86,7 +85,7 @@ negated_told : (n : ℕ) (z : ℤ) → negated n ≡ Some z → 45 ∷ decimal n
 negated_told zero z e = absurd (cc e)
 negated_told (suc n) z e = let same : negsuc n ≡ z = cc e in ap signed_decimal same
 
-signed_told : (text : List ℕ) (z : ℤ) → signed_in text ≡ Some z → text ≡ signed_decimal z
+pub signed_told : (text : List ℕ) (z : ℤ) → signed_in text ≡ Some z → text ≡ signed_decimal z
 unfolding signed_in
 signed_told text z e = by_sign (begins_with 45 text) refl e
   where
@@ -101,7 +100,7 @@ signed_told text z e = by_sign (begins_with 45 text) refl e
         minus_told text (sym m) ∙ ap (λ (l : List ℕ). 45 ∷ l) (magnitude_told (drop 1 text) s.first s.gave) ∙ negated_told s.first z s.then_gave
     by_sign false m f = plain (magnitude_in text) refl f
 
-place_told : (line column : List ℕ) (at : Pos) → place_in line column ≡ Some at → (line ≡ decimal at.line) × (column ≡ decimal at.column)
+pub place_told : (line column : List ℕ) (at : Pos) → place_in line column ≡ Some at → (line ≡ decimal at.line) × (column ≡ decimal at.column)
 unfolding place_in
 place_told line column at e =
     let l = steps (count_in line) _ at e in

@@ -1,5 +1,5 @@
 -- Call paths: the function that runs begin with, and the calls that lead from it.
-use Rattle.std.specs.Prelude.{ℕ, ◌==◌, List, [], ◌∷◌, ◌++◌, codes, map, Option, Some, None}
+use Rattle.std.specs.Prelude.{ℕ, ◌==◌, List, [], ◌∷◌, ◌++◌, codes, Option, Some, None}
 use Rattle.std.specs.List.{slice_split, flat_map}
 use Rattle.std.specs.Option.{option_map}
 use Rattle.pk_ctypes.specs.declared.places.Pos.{Pos}

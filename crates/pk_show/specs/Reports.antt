@@ -1,5 +1,5 @@
 -- A whole report: which lines follow each other.
-use Rattle.std.specs.Prelude.{◌≡◌, ℕ, ◌-◌, ◌==◌, ◌&&◌, Bool, true, false, List, [], ◌∷◌, take, length, slice_index, nat_lt, if◌then◌else◌, Option, Some, None, is_some}
+use Rattle.std.specs.Prelude.{◌≡◌, ℕ, suc, ◌-◌, ◌&&◌, Bool, true, false, List, [], ◌∷◌, take, length, slice_index_or, if◌then◌else◌, Option, Some, None, is_some}
 use Rattle.std.specs.Option.{option_map}
 use Rattle.pk_lex.specs.Bytes.{same}
 use Rattle.pk_origin.specs.Texts.{lines_of}
@@ -147,17 +147,39 @@ rows_in [] before = if_true (is_end before) []
 rows_in (line ∷ lines) before =
     next_in before line >>= (λ r. option_map (λ rows. r ∷ rows) (rows_in lines (Some (kind_of r))))
 
-abbrev pub without_end : List ℕ → List ℕ
-without_end text = take (length text - 1) text
+-- ---- a text
 
-abbrev pub ends_line : List ℕ → Bool
-ends_line text = nat_lt 0 (length text) && slice_index text (length text - 1) == 10
+-- the lines, each of which ends with a newline, and what stands behind the last newline
+abbrev pub ended_lines : List ℕ → List (List ℕ)
+ended_lines text = take (length (lines_of text) - 1) (lines_of text)
 
--- the rows of a report, whose lines each end with a newline
+abbrev pub behind_lines : List ℕ → List ℕ
+behind_lines text = slice_index_or (lines_of text) (length (lines_of text) - 1) []
+
+-- the rows of a report
 unfoldable pub report_in : List ℕ → Option (List Row)
-report_in text = if ends_line text then rows_in (lines_of (without_end text)) None else None
+report_in text = if same (behind_lines text) [] then rows_in (ended_lines text) None else None
 
--- bytes that aren't read are no report, unless there is no memory
-abbrev pub IsRefusal : Option (List Row) → ReadError → Type 0
-IsRefusal rows (Refused line) = rows ≡ None
-IsRefusal rows Memory = Unit {0}
+-- ---- where a text is none
+
+abbrev pub one_more : Option Row → (Row → ℕ) → ℕ
+one_more None rest = 0
+one_more (Some r) rest = suc (rest r)
+
+-- how many lines, from the first on, may stand where they do
+abbrev pub lines_read : List (List ℕ) → (before : Option Kind) → ℕ
+lines_read [] before = 0
+lines_read (line ∷ lines) before = one_more (next_in before line) (λ r. lines_read lines (Some (kind_of r)))
+
+-- the first line, counted from 0, that may not stand where it does, or is missing
+unfoldable pub first_wrong : List ℕ → ℕ
+first_wrong text = lines_read (ended_lines text) None
+
+abbrev pub AreNoRows : List (List ℕ) → ReadError → Type 0
+AreNoRows lines (Refused line) = (rows_in lines None ≡ None) × (line ≡ lines_read lines None)
+AreNoRows lines Memory = Unit {0}
+
+-- bytes that aren't read are no report, unless there is no memory; and where the first wrong line is
+abbrev pub IsRefusal : List ℕ → ReadError → Type 0
+IsRefusal text (Refused line) = (report_in text ≡ None) × (line ≡ first_wrong text)
+IsRefusal text Memory = Unit {0}

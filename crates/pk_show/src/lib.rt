@@ -8,7 +8,7 @@ mod reading;
 mod report;
 mod rows;
 
-pub use laws::accesses_are_read;
+pub use laws::{accesses_are_read, lines_are_read, reports_are_read};
 pub use paths::{Call, Path, read_path, read_place};
 pub use pieces::strip;
 pub use report::{ReadError, Row, read};

@@ -1,9 +1,9 @@
 // The whole report.
 
-ghost use Rattle.std.specs.Prelude.{◌≡◌, [], ◌∷◌, ◌++◌, IfOk, IfErr, OnOk, None, Some, map, is_some};
+ghost use Rattle.std.specs.Prelude.{◌≡◌, ◌-◌, ◌≤◌, [], ◌∷◌, ◌++◌, IfOk, IfErr, OnOk, None, Some, length, map, is_some, slice_index_or};
 ghost use Rattle.pk_show.specs.declared.report.ReadError.TheVariants.{Memory};
 ghost use Rattle.pk_show.specs.Paths.{path_in};
-ghost use Rattle.pk_show.specs.Reports.{point_row_in, row_in, kind_of, goes_on, follows_heading, follows_value, follows_bound, follows_access, is_opening, is_counts, may_follow, may_stand, is_end, has_path, fits, next_in, rows_in, report_in, IsRefusal};
+ghost use Rattle.pk_show.specs.Reports.{point_row_in, row_in, kind_of, goes_on, follows_heading, follows_value, follows_bound, follows_access, is_opening, is_counts, may_follow, may_stand, is_end, has_path, fits, next_in, rows_in, report_in, AreNoRows, IsRefusal};
 
 use crate::paths::read_path;
 use crate::pieces::is_same;
@@ -216,7 +216,7 @@ fn fits(alloc: Global, before: Option<Kind>, row: &Row<'_>) -> Result<bool, Allo
 /// Why there are no rows.
 #[derive(Clone, Copy)]
 pub enum ReadError {
-    /// The bytes are no report: this line, counted from 0, is none, or can't stand there.
+    /// The bytes are no report: this line, counted from 0, is the first that is none, can't stand there, or is missing.
     Refused(usize),
     Memory,
 }
@@ -260,7 +260,7 @@ pub(crate) fn add<T: Drop>(list: &mut Vec<T>, item: T) -> Result<(), AllocError>
 // The rows that lines are, or the first line that can't stand there.
 fn rows<'t>(alloc: Global, lines: &[&'t [u8]]) -> Result<Vec<Row<'t>>, ReadError>
     ensures rows { IfOk result (λ rows. rows_in (map (λ line. line.now) lines.now) None ≡ Some rows.items) }
-    ensures refused { IfErr result (IsRefusal (rows_in (map (λ line. line.now) lines.now) None)) }
+    ensures refused { IfErr result (AreNoRows (map (λ line. line.now) lines.now)) }
 {
     let mut rows = Vec::new(alloc);
     let mut before = None;
@@ -278,19 +278,38 @@ fn rows<'t>(alloc: Global, lines: &[&'t [u8]]) -> Result<Vec<Row<'t>>, ReadError
     }
 }
 
-/// The rows of a report.
-#[tactic(auto, unfolding(crate::specs::Reports::report_in))]
+// How many of a text's pieces end with a newline.
+fn ended_count(pieces: &[&[u8]]) -> usize
+    ensures value { result ≡ length (map (λ piece. piece.now) pieces.now) - 1 }
+    ensures within { result ≤ length pieces.now }
+{
+    pieces.len().saturating_sub(1)
+}
+
+// What stands behind the last newline.
+fn behind<'t>(pieces: &[&'t [u8]]) -> &'t [u8]
+    ensures { result.now ≡ slice_index_or (map (λ piece. piece.now) pieces.now)
+        (length (map (λ piece. piece.now) pieces.now) - 1) [] }
+{
+    if pieces.is_empty() {
+        b""
+    } else {
+        pieces[pieces.len() - 1]
+    }
+}
+
+/// The rows of a report, or the first line that can't stand where it does.
+#[tactic(auto, unfolding(crate::specs::Reports::report_in, crate::specs::Reports::first_wrong))]
 pub fn read<'t>(alloc: Global, text: &'t [u8]) -> Result<Vec<Row<'t>>, ReadError>
     ensures rows { IfOk result (λ rows. report_in text.now ≡ Some rows.items) }
-    ensures refused { IfErr result (IsRefusal (report_in text.now)) }
+    ensures refused { IfErr result (IsRefusal text.now) }
 {
-    if text.is_empty() {
-        return Err(ReadError::Refused(0));
+    let pieces = lines(alloc, text)?;
+    let ended = pieces.split_at(ended_count(&pieces)).0;
+    let rows = rows(alloc, ended)?;
+    if is_same(behind(&pieces), b"") {
+        Ok(rows)
+    } else {
+        Err(ReadError::Refused(ended.len()))
     }
-    let end = text.len() - 1;
-    let lines = lines(alloc, &text[..end])?;
-    if text[end] != b'\n' {
-        return Err(ReadError::Refused(lines.len().saturating_sub(1)));
-    }
-    rows(alloc, &lines)
 }

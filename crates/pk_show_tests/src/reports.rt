@@ -1,7 +1,8 @@
 // Reports that the program wrote, and what is shown of them; the findings were written by hand, from the sources.
 
 use pk_findings::{ShowError, look, refusal};
-use pk_listing::{listing, refusals};
+use pk_listing::{Source, listing, refusals};
+use pk_origin::lines;
 use pk_show::{ReadError, read};
 use std::alloc::Global;
 use std::process::Abort;
@@ -137,10 +138,109 @@ fn is_read(alloc: Global, report: &[u8]) -> Result<bool, Fail> {
     }
 }
 
+const SCALE_FILE: &str = "#define SCALE(x) (100 / (x))
+
+int __VERIFIER_nondet_int(void);
+
+int main(void) {
+    int gap = __VERIFIER_nondet_int() & 7; /* up to 7 */
+    int rate = SCALE(gap);                 /* fails at 0 */
+    int late = 0;
+    int zero = 0;
+    while (late < 5) {
+        late = late + 1;
+    }
+    if (gap > 9) {
+        rate = rate + 1;
+    }
+    return rate / zero + late; /* always fails */
+}
+";
+
+// `gcc -std=c99 -ffreestanding -E scale.c`
+const SCALE: &str = r###"# 0 "scale.c"
+# 0 "<built-in>"
+# 0 "<command-line>"
+# 1 "scale.c"
+
+
+int __VERIFIER_nondet_int(void);
+
+int main(void) {
+    int gap = __VERIFIER_nondet_int() & 7;
+    int rate = (100 / (gap));
+    int late = 0;
+    int zero = 0;
+    while (late < 5) {
+        late = late + 1;
+    }
+    if (gap > 9) {
+        rate = rate + 1;
+    }
+    return rate / zero + late;
+}
+"###;
+
+const SCALE_REPORT: &str = r###"pikos 1 entry main points 16 elements 18
+head 6 main 14:5
+  gap [0,7] 1Z+0
+  rate [14,100] 1Z+0
+  late [0,5] 1Z+0
+  zero [0,0] 0Z+0
+  late - rate <= -9
+access main 11:21 divzero unknown [0,7]
+access main 11:21 overflow safe
+access main 15:21 overflow safe
+access main 18:21 overflow unreachable
+access main 20:17 divzero unknown [0,0]
+access main 20:17 overflow safe
+access main 20:24 overflow unreachable
+result safe 3 unknown 2 unreachable 2
+"###;
+
+const SCALE_FINDINGS: &str = "scale.c:7: unknown [divzero]: the divisor may be 0: it lies in [0,7]
+        int rate = SCALE(gap);                 /* fails at 0 */
+        int rate = (100 / (gap));
+                        ^
+    in main
+scale.c:14:21: unreachable [overflow]: no run comes here: what stands before it always fails, never ends or leads elsewhere
+scale.c:16:17: unknown [divzero]: the divisor may be 0: it lies in [0,0]
+        return rate / zero + late; /* always fails */
+                    ^
+    in main
+scale.c:16:24: unreachable [overflow]: no run comes here: what stands before it always fails, never ends or leads elsewhere
+scale.c:10:5: loop: in every run, whenever it is at its head:
+    in main
+    gap in [0,7]
+    rate in [14,100]
+    late in [0,5]
+    zero in [0,0]
+    late - rate <= -9
+standard input: 7 operations: 3 safe, 2 unknown, 2 unreachable
+";
+
 // What is told of a text and a report on it, in one string with what went wrong.
 fn told(alloc: Global, text: &str, report: &str) -> Result<Vec<u8>, Fail> {
     match look(alloc, b"standard input", text.as_bytes(), report.as_bytes()) {
-        Ok(shown) => Ok(listing(alloc, &[shown])?),
+        Ok(shown) => Ok(listing(alloc, &[], false, &[shown])?),
+        Err(_) => Err(Fail::from("the report is on the text")),
+    }
+}
+
+// The same, with the lines of a file of this name and what holds at the heads of loops.
+fn told_with(
+    alloc: Global,
+    text: &str,
+    report: &str,
+    name: &str,
+    file: &str,
+) -> Result<Vec<u8>, Fail> {
+    let source = Source {
+        name: name.as_bytes(),
+        lines: lines(alloc, file.as_bytes())?,
+    };
+    match look(alloc, b"standard input", text.as_bytes(), report.as_bytes()) {
+        Ok(shown) => Ok(listing(alloc, &[source], true, &[shown])?),
         Err(_) => Err(Fail::from("the report is on the text")),
     }
 }
@@ -173,6 +273,13 @@ fn one_operation_on_two_ways(rt: HostRuntime) -> Result<(), Fail> {
     )
 }
 
+#[test]
+fn lines_of_the_file_beside_expanded_ones(rt: HostRuntime) -> Result<(), Fail> {
+    let bytes = told_with(rt.alloc(), SCALE, SCALE_REPORT, "scale.c", SCALE_FILE)?;
+    assert!(rt; bytes.as_slice() == SCALE_FINDINGS.as_bytes());
+    Ok(())
+}
+
 // Why nothing is told, or nothing where something is.
 fn why(alloc: Global, text: &str, report: &str) -> Option<ShowError> {
     match look(alloc, b"", text.as_bytes(), report.as_bytes()) {
@@ -200,7 +307,7 @@ fn a_report_on_another_text_is_refused(rt: HostRuntime) -> Result<(), Fail> {
 // What is said of a text without a report.
 fn said(alloc: Global, text: &str, answer: &str) -> Result<Vec<u8>, Fail> {
     match refusal(alloc, b"a.c", text.as_bytes(), answer.as_bytes())? {
-        Some(refused) => Ok(refusals(alloc, &[refused])?),
+        Some(refused) => Ok(refusals(alloc, &[], &[refused])?),
         None => Err(Fail::from("the answer is no report")),
     }
 }

@@ -58,17 +58,18 @@ parts_same p q a b x y heads elements h k =
 -- ---- equations
 
 -- the equations, of what they are made of
-equations_from : GraphOf → Layout → List ℤ → List Part → ℕ → Equations Stated
-equations_from g l ts parts n = record {
+equations_from : GraphOf → Layout → List ℤ → List Part → (delay narrow : ℕ) → Equations Stated
+equations_from g l ts parts delay narrow = record {
   ops = state_operations l ts;
   bottom = stated l None;
   part = part_at parts;
   sources = λ v. origins (arrows_at g v);
   value = λ v before. stated l (equation g l v (map (λ (s : Stated). s.facts) before));
-  narrow = n;
+  delay = delay;
+  narrow = narrow;
 }
 
-are_from : (a : Flow) → equations_of a ≡ equations_from (graph_view a.graph) a.layout a.thresholds a.parts a.narrow
+are_from : (a : Flow) → equations_of a ≡ equations_from (graph_view a.graph) a.layout a.thresholds a.parts a.delay a.narrow
 unfolding equations_from
 are_from a = refl
 
@@ -88,6 +89,7 @@ systems_same law g o p q one other a b x y =
     let layout : a.layout ≡ b.layout = x.analysis.layout ∙ sym y.analysis.layout in
     let thresholds : a.thresholds ≡ b.thresholds = thresholds_same g a.thresholds b.thresholds x.analysis.thresholds y.analysis.thresholds in
     let parts : a.parts ≡ b.parts = parts_same p q a.parts b.parts x.ordered.axioms y.ordered.axioms heads elements x.analysis.parts y.analysis.parts in
+    let delay : a.delay ≡ b.delay = x.analysis.delay ∙ sym y.analysis.delay in
     let narrow : a.narrow ≡ b.narrow = x.analysis.narrow ∙ sym y.analysis.narrow in
     record {
       heads = heads;
@@ -95,11 +97,12 @@ systems_same law g o p q one other a b x y =
       order = law.order (digraph_of g) p q one other x.ordered y.ordered;
       layout = layout;
       equations = are_from a
-          ∙ ap (λ (h : GraphOf). equations_from h a.layout a.thresholds a.parts a.narrow) graph
-          ∙ ap (λ (l : Layout). equations_from (graph_view b.graph) l a.thresholds a.parts a.narrow) layout
-          ∙ ap (λ (ts : List ℤ). equations_from (graph_view b.graph) b.layout ts a.parts a.narrow) thresholds
-          ∙ ap (λ (ps : List Part). equations_from (graph_view b.graph) b.layout b.thresholds ps a.narrow) parts
-          ∙ ap (equations_from (graph_view b.graph) b.layout b.thresholds b.parts) narrow
+          ∙ ap (λ (h : GraphOf). equations_from h a.layout a.thresholds a.parts a.delay a.narrow) graph
+          ∙ ap (λ (l : Layout). equations_from (graph_view b.graph) l a.thresholds a.parts a.delay a.narrow) layout
+          ∙ ap (λ (ts : List ℤ). equations_from (graph_view b.graph) b.layout ts a.parts a.delay a.narrow) thresholds
+          ∙ ap (λ (ps : List Part). equations_from (graph_view b.graph) b.layout b.thresholds ps a.delay a.narrow) parts
+          ∙ ap (λ (d : ℕ). equations_from (graph_view b.graph) b.layout b.thresholds b.parts d a.narrow) delay
+          ∙ ap (equations_from (graph_view b.graph) b.layout b.thresholds b.parts b.delay) narrow
           ∙ sym (are_from b);
     }
 

@@ -10,7 +10,7 @@ use Rattle.pk_transfer.specs.Trees.{IsOver}
 use Rattle.pk_transfer.specs.Transfers.{transferred}
 use Rattle.pk_iterate.specs.Behaviour.{HoldEach}
 use Rattle.pk_phases.specs.declared.phases.Phase.{Phase}
-use Rattle.pk_phases.specs.declared.phases.Phase.TheVariants.{Up, Down, Last}
+use Rattle.pk_phases.specs.declared.phases.Phase.TheVariants.{Delay, Up, Down, Last}
 use Rattle.pk_phases.specs.declared.equations.Part.{Part}
 use Rattle.pk_phases.specs.Values.{next_value}
 use Rattle.pk_phases.specs.Equations.{KeepHeld}
@@ -52,14 +52,15 @@ module _ (g : GraphOf) (l : Layout) (made : IsGraph g) (lay : IsLayout l) (over 
   pub equation_stays : (v : ℕ) (before : List (Option Facts)) → All (AreFactsIf l) before → AreFactsIf l (equation g l v before)
   equation_stays v before k = arrived_stays v (arrows_at g v) before (start_at g l v) (arrows_to g v) k (start_at_stays v)
 
-  pub system_keeps : (thresholds : List ℤ) (parts : List Part) (narrow : ℕ) → KeepHeld (system_of g l thresholds parts narrow) (KnowsFacts l)
-  system_keeps thresholds parts narrow = record {
+  pub system_keeps : (thresholds : List ℤ) (parts : List Part) (delay narrow : ℕ) → KeepHeld (system_of g l thresholds parts delay narrow) (KnowsFacts l)
+  system_keeps thresholds parts delay narrow = record {
     bottom = λ e. tt;
     value = λ e vs h. equation_stays e (map (λ (s : Stated). s.facts) vs) (facts_of_each l (origins (arrows_at g e)) vs h);
     next = next;
   }
     where
-      next : (e : ℕ) (phase : Phase) (h n : Stated) → KnowsFacts l e h → KnowsFacts l e n → KnowsFacts l e (next_value (system_of g l thresholds parts narrow).ops phase h n)
+      next : (e : ℕ) (phase : Phase) (h n : Stated) → KnowsFacts l e h → KnowsFacts l e n → KnowsFacts l e (next_value (system_of g l thresholds parts delay narrow).ops phase h n)
+      next e (Delay k) h n i j = facts_stay.joins l h.facts n.facts i j
       next e Up h n i j = facts_stay.widenings l thresholds h.facts n.facts i j
       next e (Down k) h n i j = facts_stay.narrowings l h.facts n.facts i j
       next e Last h n i j = facts_stay.widenings l thresholds h.facts n.facts i j

@@ -99,13 +99,13 @@ named f c head exit h x e k = (ap f (sym h) ∙ e ∙ ap HeadOf x, ap f (sym x) 
 no_point_head : (x : ℕ) → Point ≡ HeadOf x → ⊥
 no_point_head x e = cc
 
-module _ (g : GraphOf) (l : Layout) (thresholds : List ℤ) (parts : List Part) (narrow : ℕ) (p : PlanView) (order : Level) (axioms : Axioms p) (linear : IsLinear p order) (are : AreParts p parts) where
-  pub parts_are : PartsAreOf (system_of g l thresholds parts narrow) order
+module _ (g : GraphOf) (l : Layout) (thresholds : List ℤ) (parts : List Part) (delay narrow : ℕ) (p : PlanView) (order : Level) (axioms : Axioms p) (linear : IsLinear p order) (are : AreParts p parts) where
+  pub parts_are : PartsAreOf (system_of g l thresholds parts delay narrow) order
   parts_are head exit i =
       let c = component_of p order axioms linear head exit i in
       named (part_at parts) c.0 head exit c.2 c.3 (head_is p axioms parts are c.0 c.1) (exit_is p axioms parts are c.0 c.1)
 
-  pub sources_ahead : Fits (digraph_of g) p → SourcesAhead (system_of g l thresholds parts narrow) order
+  pub sources_ahead : Fits (digraph_of g) p → SourcesAhead (system_of g l thresholds parts delay narrow) order
   sources_ahead fits = record { points = points; heads = heads }
     where
       points : (v u : ℕ) → In order v → part_at parts v ≡ Point → Contains (origins (arrows_at g v)) u → Ahead order u v

@@ -21,13 +21,13 @@ use Rattle.pk_sound.proofs.Systems.{system_of}
 
 pub analyses_go_by_plan : AnalysesGoByPlan
 analyses_go_by_plan g o p order a made is ordered =
-    let ahead : SourcesAhead (system_of g a.layout a.thresholds a.parts a.narrow) order =
-    sources_ahead g a.layout a.thresholds a.parts a.narrow p order ordered.axioms ordered.is_linear is.parts (plan_fits (digraph_of g) ordered.nest p ordered.is_nest ordered.axioms ordered.is_plan) in
+    let ahead : SourcesAhead (system_of g a.layout a.thresholds a.parts a.delay a.narrow) order =
+    sources_ahead g a.layout a.thresholds a.parts a.delay a.narrow p order ordered.axioms ordered.is_linear is.parts (plan_fits (digraph_of g) ordered.nest p ordered.is_nest ordered.axioms ordered.is_plan) in
     record {
       components = λ c of. (head_is p ordered.axioms a.parts is.parts c of, exit_is p ordered.axioms a.parts is.parts c of);
-      parts = parts_are g a.layout a.thresholds a.parts a.narrow p order ordered.axioms ordered.is_linear is.parts;
-      points = subst (λ (k : GraphOf). ReadsPoints (system_of k a.layout a.thresholds a.parts a.narrow)) (sym is.graph) reads;
-      ahead = subst (λ (k : GraphOf). SourcesAhead (system_of k a.layout a.thresholds a.parts a.narrow) order) (sym is.graph) ahead;
+      parts = parts_are g a.layout a.thresholds a.parts a.delay a.narrow p order ordered.axioms ordered.is_linear is.parts;
+      points = subst (λ (k : GraphOf). ReadsPoints (system_of k a.layout a.thresholds a.parts a.delay a.narrow)) (sym is.graph) reads;
+      ahead = subst (λ (k : GraphOf). SourcesAhead (system_of k a.layout a.thresholds a.parts a.delay a.narrow) order) (sym is.graph) ahead;
     }
   where
     no_exit : (part : Part) → (part ≡ Point) ⊎ ((x : ℕ) × (part ≡ HeadOf x)) → IsExit part → ⊥
@@ -42,5 +42,5 @@ analyses_go_by_plan g o p order a made is ordered =
           | inr c ↦ inr (c.0.exit, ap (part_at a.parts) (sym c.2) ∙ head_is p ordered.axioms a.parts is.parts c.0 c.1)
         ])
 
-    reads : ReadsPoints (system_of g a.layout a.thresholds a.parts a.narrow)
+    reads : ReadsPoints (system_of g a.layout a.thresholds a.parts a.delay a.narrow)
     reads e = All-map (λ (u : ℕ). IsExit (part_at a.parts u) → ⊥) (λ (r : Arrow). r.from) (arrows_at g e) (λ k d h. of_point (slice_index_or (arrows_at g e) k d).from (arrows_to g e k d h).point)

@@ -59,11 +59,11 @@ record IsSolvedBy (g : GraphOf) (l : Layout) (it : Outcome (Cell Stated)) (v : �
   known : AreFactsIf l (known_of l it v)
   below : IsBelow (equation g l v (map (known_of l it) (origins (arrows_at g v)))) (known_of l it v)
 
-module _ (g : GraphOf) (l : Layout) (thresholds : List ℤ) (parts : List Part) (narrow : ℕ) (p : PlanView) (order : Level) (most : ℕ) (it : Outcome (Cell Stated))
+module _ (g : GraphOf) (l : Layout) (thresholds : List ℤ) (parts : List Part) (delay narrow : ℕ) (p : PlanView) (order : Level) (most : ℕ) (it : Outcome (Cell Stated))
     (made : IsGraph g) (lay : IsLayout l) (over : IsOver (kinds_of g) l) (are : AreParts p parts) (ordered : IsOrdered (digraph_of g) p order)
-    (result : IsResult (behaviour_of (system_of g l thresholds parts narrow)) order p.elements most it) where
+    (result : IsResult (behaviour_of (system_of g l thresholds parts delay narrow)) order p.elements most it) where
   abbrev system : Equations Stated
-  system = system_of g l thresholds parts narrow
+  system = system_of g l thresholds parts delay narrow
 
   -- the cells that the whole trace leaves
   abbrev found : ℕ → Cell Stated
@@ -74,8 +74,8 @@ module _ (g : GraphOf) (l : Layout) (thresholds : List ℤ) (parts : List Part) 
 
   solved : AreSolved system order ends
   solved =
-      end_is_solved system order (order_once p order ordered.axioms ordered.is_linear) (parts_are g l thresholds parts narrow p order ordered.axioms ordered.is_linear are)
-      (sources_ahead g l thresholds parts narrow p order ordered.axioms ordered.is_linear are (plan_fits (digraph_of g) ordered.nest p ordered.is_nest ordered.axioms ordered.is_plan)) ends
+      end_is_solved system order (order_once p order ordered.axioms ordered.is_linear) (parts_are g l thresholds parts delay narrow p order ordered.axioms ordered.is_linear are)
+      (sources_ahead g l thresholds parts delay narrow p order ordered.axioms ordered.is_linear are (plan_fits (digraph_of g) ordered.nest p ordered.is_nest ordered.axioms ordered.is_plan)) ends
 
   points_are : p.points ≡ length g.points
   points_are = ordered.is_plan.points ∙ length-map g.points (λ (q : PointOf). targets_of q.edges)
@@ -91,7 +91,7 @@ module _ (g : GraphOf) (l : Layout) (thresholds : List ℤ) (parts : List Part) 
 
   known_stays : (v : ℕ) → v < p.elements → AreFactsIf l (known_of l it v)
   known_stays v h =
-      let keeps = system_keeps g l made lay over thresholds parts narrow in
+      let keeps = system_keeps g l made lay over thresholds parts delay narrow in
       subst (AreFactsIf l) (facts_are v h)
       (value_at system (KnowsFacts l) keeps v (part_at parts v) (found v)
       (held (behaviour_of system) (may_hold_of system (KnowsFacts l)) (equations_hold system (KnowsFacts l) keeps) order (p.elements * most + 1) v))
@@ -141,6 +141,6 @@ pub result_is_solved : ResultIsSolved
 result_is_solved g o p order a most it is v h =
     let lay : IsLayout a.layout = subst IsLayout (sym is.analysis.layout) (graphs_over.layouts g o.oct is.oct) in
     let over : IsOver (kinds_of g) a.layout = subst (IsOver (kinds_of g)) (sym is.analysis.layout) (graphs_over.over g o.oct) in
-    let result = subst (λ (k : GraphOf). IsResult (behaviour_of (system_of k a.layout a.thresholds a.parts a.narrow)) order p.elements most it) is.analysis.graph is.result in
-    let s = solved_by g a.layout a.thresholds a.parts a.narrow p order most it is.graph lay over is.analysis.parts is.ordered result v h in
+    let result = subst (λ (k : GraphOf). IsResult (behaviour_of (system_of k a.layout a.thresholds a.parts a.delay a.narrow)) order p.elements most it) is.analysis.graph is.result in
+    let s = solved_by g a.layout a.thresholds a.parts a.delay a.narrow p order most it is.graph lay over is.analysis.parts is.ordered result v h in
     record { given = s.given; known = s.known; below = s.below }

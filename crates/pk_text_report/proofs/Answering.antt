@@ -167,7 +167,10 @@ one_answer one front reports words text s t a b (inr x) (inr y) =
 
 module _ (o p : RunOptions) (d : DifferInWorkers o p) where
   same_options : options_of o ≡ options_of p
-  same_options = ap (λ (n : ℕ). let r : Options = record { narrow = n; oct = o.oct } in r) d.narrow ∙ ap (λ (n : ℕ). let r : Options = record { narrow = p.narrow; oct = n } in r) d.oct
+  same_options =
+      ap (λ (n : ℕ). let r : Options = record { delay = n; narrow = o.narrow; oct = o.oct } in r) d.delay
+      ∙ ap (λ (n : ℕ). let r : Options = record { delay = p.delay; narrow = n; oct = o.oct } in r) d.narrow
+      ∙ ap (λ (n : ℕ). let r : Options = record { delay = p.delay; narrow = p.narrow; oct = n } in r) d.oct
 
   other_report : (g : GraphOf) (u : ℕ) (a : List ℕ) → IsReport g (options_of o) o.max_runs o.points u a → IsReport g (options_of p) p.max_runs p.points u a
   other_report g u a h =

@@ -21,10 +21,10 @@ use Rattle.pk_text_report.specs.Answers.{IsMade, IsRun, IsStopped, IsTooLong, de
 -- what an iteration is asked for
 pub run_range : (o : RunOptions) (p : Options) → p ≡ options_of o → IsInRange (Run o) → AreInRange (record { analysis = p; workers = o.workers; max_runs = o.max_runs })
 run_range o p is range = record {
-  oct = omega (arith, ap (λ (q : Options). q.oct) is, range.3);
+  oct = omega (arith, ap (λ (q : Options). q.oct) is, range.4);
   some_worker = range.0;
   few_workers = range.1;
-  runs = range.5;
+  runs = range.6;
 }
 
 pub default_range : (workers : ℕ) (p : Options) → p ≡ default_options → (1 ≤ workers) × (workers ≤ most_workers) → AreInRange (record { analysis = p; workers = workers; max_runs = default_runs })

@@ -28,13 +28,13 @@ text_limit = 4194304
 
 -- how a graph is analysed where the words don't say otherwise
 abbrev pub default_options : Options
-default_options = record { narrow = 2; oct = 16 }
+default_options = record { delay = 0; narrow = 2; oct = 16 }
 
 abbrev pub default_runs : ℕ
 default_runs = 1000000
 
 abbrev pub options_of : RunOptions → Options
-options_of o = record { narrow = o.narrow; oct = o.oct }
+options_of o = record { delay = o.delay; narrow = o.narrow; oct = o.oct }
 
 -- the text that a command is about: a made one, or what the source tells
 abbrev pub text_of : Command → Option (List ℕ) → Option (List ℕ)
@@ -173,6 +173,7 @@ OneAnswer = (words : List (List ℕ)) (text : List ℕ) (s t : Status) (a b : Li
 
 -- two runs asked for, alike but for the number of workers
 pub record DifferInWorkers (a b : RunOptions) : Type 0 where
+  pub delay : a.delay ≡ b.delay
   pub narrow : a.narrow ≡ b.narrow
   pub oct : a.oct ≡ b.oct
   pub max_runs : a.max_runs ≡ b.max_runs

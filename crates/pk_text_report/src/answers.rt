@@ -28,6 +28,7 @@ fn analysis_of(options: &RunOptions) -> Options
     ensures { result ≡ options_of options.now }
 {
     Options {
+        delay: options.delay,
         narrow: options.narrow,
         oct: options.oct,
     }
@@ -37,7 +38,11 @@ fn analysis_of(options: &RunOptions) -> Options
 fn default_analysis() -> Options
     ensures { result ≡ default_options }
 {
-    Options { narrow: 2, oct: 16 }
+    Options {
+        delay: 0,
+        narrow: 2,
+        oct: 16,
+    }
 }
 
 // What the iteration of a run is asked for.

@@ -26,7 +26,7 @@ told_if_ok (Err e) h = tt
 -- what is told of a text by a command in range
 true_told : ReportsAreTrueOfPrograms → (text : List ℕ) (c : Command) (unknown : ℕ) (bytes : List ℕ) → IsInRange c → (told : IsTold text c unknown bytes) → IsTrueTold text c unknown bytes told
 true_told law text (Run o) unknown bytes range told =
-    law text o.entry told.graph told.has_graph (options_of o) o.max_runs told.report.plan told.report.states (omega (arith, range.3)) told.report.are_states
+    law text o.entry told.graph told.has_graph (options_of o) o.max_runs told.report.plan told.report.states (omega (arith, range.4)) told.report.are_states
 true_told law text (Order o) unknown bytes range told = tt
 true_told law text (Gen o) unknown bytes range told =
     law text (codes "main") told.graph told.has_graph default_options default_runs told.summary.plan told.summary.states (lit< tt) told.summary.are_states
@@ -48,7 +48,7 @@ told_truly law words text unknown bytes before after range (inr x) written =
 -- what is told of a text without an unknown verdict
 faultless_for : ProgramsAreFaultless → (text : List ℕ) (c : Command) (bytes : List ℕ) → IsInRange c → IsTold text c 0 bytes → IsFaultlessFor c text
 faultless_for law text (Run o) bytes range told =
-    law text o.entry told.graph told.has_graph (options_of o) o.max_runs told.report.plan told.report.states (omega (arith, range.3)) told.report.are_states (sym told.report.counted)
+    law text o.entry told.graph told.has_graph (options_of o) o.max_runs told.report.plan told.report.states (omega (arith, range.4)) told.report.are_states (sym told.report.counted)
 faultless_for law text (Order o) bytes range told = tt
 faultless_for law text (Gen o) bytes range told =
     law text (codes "main") told.graph told.has_graph default_options default_runs told.summary.plan told.summary.states (lit< tt) told.summary.are_states (sym told.summary.counted)

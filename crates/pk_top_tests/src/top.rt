@@ -1,4 +1,4 @@
-// Tests over memory devices: words that aren't taken, devices that fail, the longest text and large ones.
+// Tests over memory devices: words that aren't taken, devices that fail, texts that are cut, the longest text and large ones.
 
 use pk_io::{MemSink, MemSource};
 use pk_top::{Gate, NoGate, Status, pikos};
@@ -17,14 +17,14 @@ fn list_of(alloc: Global, words: &str) -> Result<Vec<String>, AllocError> {
     Ok(list)
 }
 
-// A source that gives pieces and fails at one call.
+// A source that gives ten bytes at a time and fails at one call.
 fn source(alloc: Global, text: &[u8], fails: u64) -> Result<MemSource, AllocError> {
-    Ok(MemSource::new(text.to_vec(alloc)?, 30, Vec::from_slice(alloc, &[fails])?))
+    Ok(MemSource::new(text.to_vec(alloc)?, 10, Vec::from_slice(alloc, &[fails])?))
 }
 
-// A sink that takes pieces and fails at one call.
+// A sink that takes seven bytes at a time and fails at one call.
 fn sink(alloc: Global, fails: u64) -> Result<MemSink, AllocError> {
-    Ok(MemSink::new(alloc, 30, Vec::from_slice(alloc, &[fails])?))
+    Ok(MemSink::new(alloc, 7, Vec::from_slice(alloc, &[fails])?))
 }
 
 // The call alone: its clauses are dear to a function that does more.
@@ -146,36 +146,32 @@ fn other_words_are_usage(rt: HostRuntime) -> Result<(), AllocError> {
     Ok(())
 }
 
-// Each read of three fails.
+// Five reads give the text, and a sixth finds its end. Each fails.
 #[test]
 fn read_faults_are_told(rt: HostRuntime) -> Result<(), AllocError> {
-    for read in 0..3 {
+    for read in 0..6 {
         assert!(rt;
             with_faults(&rt, rt.alloc(), "run", read, NEVER)?.is(5, "", 0, "pikos: read fault"),
             "{read}"
         );
     }
-    assert!(rt; with_faults(&rt, rt.alloc(), "run", 3, NEVER)?.is(0, REPORT, REPORT.len(), ""));
+    assert!(rt; with_faults(&rt, rt.alloc(), "run", 6, NEVER)?.is(0, REPORT, REPORT.len(), ""));
     Ok(())
 }
 
-// The write that fails, how many bytes were written before it, and the line.
-const WRITES: [(u64, usize, &str); 5] = [
-    (0, 0, "pikos: write fault after 0 bytes"),
-    (1, 30, "pikos: write fault after 30 bytes"),
-    (2, 60, "pikos: write fault after 60 bytes"),
-    (3, 90, "pikos: write fault after 90 bytes"),
-    (4, 120, "pikos: write fault after 120 bytes"),
-];
-
+// Each write of 21 fails, of which the last has two bytes.
 #[test]
-fn write_faults_are_told(rt: HostRuntime) -> Result<(), AllocError> {
-    for (write, sent, line) in &WRITES {
+fn write_faults_are_told(rt: HostRuntime) -> Result<(), Fail> {
+    let mut sent = 0;
+    for write in 0..21 {
+        let line = format!(in rt.alloc(); "pikos: write fault after {sent} bytes")?;
         assert!(rt;
-            with_faults(&rt, rt.alloc(), "run", NEVER, *write)?.is(6, REPORT, *sent, line),
+            with_faults(&rt, rt.alloc(), "run", NEVER, write)?.is(6, REPORT, sent, line.as_str()),
             "{write}"
         );
+        sent = sent.saturating_add(7);
     }
+    assert!(rt; with_faults(&rt, rt.alloc(), "run", NEVER, 21)?.is(0, REPORT, REPORT.len(), ""));
     Ok(())
 }
 
@@ -233,21 +229,27 @@ fn a_graph_may_have_so_many_points(rt: HostRuntime) -> Result<(), AllocError> {
 
 // So many objects of the file, and a function that reads the last of them.
 fn objects(alloc: Global, count: usize) -> Result<String, Fail> {
-    let mut text = String::from_str(alloc, "int g;")?;
+    let mut text = String::from_str(alloc, "int g0;")?;
     for number in 1..count {
         write!(text, "int g{number};")?;
     }
-    text.push_str("int main(void){g=g19999;return 0;}")?;
+    let last = count.saturating_sub(1);
+    write!(text, "int main(void){{g0=g{last};return 0;}}")?;
     Ok(text)
 }
 
 const OBJECTS: &str =
     "pikos 1 entry main points 4 elements 5\nresult safe 0 unknown 0 unreachable 0\n";
 
+// What main returns is a variable too.
 #[test]
 fn a_text_may_declare_so_many_objects(rt: HostRuntime) -> Result<(), Fail> {
-    let text = objects(rt.alloc(), 20000)?;
-    assert!(rt; analysed(&rt, rt.alloc(), text.as_bytes())?.is(0, OBJECTS, OBJECTS.len(), ""));
+    let most = objects(rt.alloc(), 65535)?;
+    assert!(rt; analysed(&rt, rt.alloc(), most.as_bytes())?.is(0, OBJECTS, OBJECTS.len(), ""));
+    let more = objects(rt.alloc(), 65536)?;
+    assert!(rt;
+        analysed(&rt, rt.alloc(), more.as_bytes())?.is(4, "", 0, "pikos: limit variables 65536")
+    );
     Ok(())
 }
 
@@ -262,6 +264,33 @@ fn a_program_may_have_so_many_call_paths(rt: HostRuntime) -> Result<(), AllocErr
     let bytes = answer.out.bytes();
     assert!(rt; bytes.starts_with(b"pikos 1 entry main points 14335 elements 14336\n"));
     assert!(rt; bytes.ends_with(b"result safe 2047 unknown 0 unreachable 0\n"));
+    Ok(())
+}
+
+// A jump into a loop.
+const JUMP: &str =
+    "int main(void){\nint i=0;\nif(i<1)goto M;\nwhile(i<3){\ni=i+2;\nM:i=i+1;\n}\nreturn 0;\n}\n";
+
+// Each beginning that lacks the last brace is refused, at whatever place it ends.
+#[test]
+fn a_text_that_is_cut_is_refused(rt: HostRuntime) -> Result<(), AllocError> {
+    for length in 0..81 {
+        let cut = JUMP.as_bytes().get(..length).unwrap_or(b"");
+        let answer = analysed(&rt, rt.alloc(), cut)?;
+        assert!(rt;
+            answer.code == 3 && answer.out.bytes().is_empty(),
+            "{length}"
+        );
+    }
+    assert!(rt; analysed(&rt, rt.alloc(), JUMP.as_bytes())?.code == 0);
+    Ok(())
+}
+
+#[test]
+fn bytes_of_no_token_are_refused(rt: HostRuntime) -> Result<(), AllocError> {
+    assert!(rt;
+        analysed(&rt, rt.alloc(), &[255; 64])?.is(3, "", 0, "pikos: refused: lexical byte at 1:1")
+    );
     Ok(())
 }
 

@@ -51,10 +51,11 @@ abbrev pub changes : SignatureTree → Bool → Option EntryTree → Bool
 changes s has_body None = false
 changes s has_body (Some e) = differs s e.signature || (has_body && e.is_defined)
 
--- redeclared: as an object, with other types, or defined twice; at the name
+-- redeclared: as an object or an enumerator, with other types, or defined twice; at the name
 abbrev pub is_redeclared : List EntryTree → SignatureTree → Bool → Option Declaration → Bool
 is_redeclared entries s has_body None = false
 is_redeclared entries s has_body (Some (declared.Object o)) = true
+is_redeclared entries s has_body (Some (declared.Enumerator n)) = true
 is_redeclared entries s has_body (Some (declared.Function f)) = changes s has_body (slice_get entries f.number)
 
 -- special: a special name has other types; at the name
@@ -66,6 +67,7 @@ is_misused s (Some callee) = is_wrong s callee
 abbrev pub number_of : List EntryTree → Option Declaration → ℕ
 number_of entries None = length entries
 number_of entries (Some (declared.Object o)) = length entries
+number_of entries (Some (declared.Enumerator n)) = length entries
 number_of entries (Some (declared.Function f)) = f.number
 
 abbrev pub ordinary : SignatureTree → Callee

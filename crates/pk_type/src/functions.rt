@@ -141,6 +141,7 @@ impl<'a> File<'a> {
         match declared {
             None => false,
             Some(Declaration::Object(_)) => true,
+            Some(Declaration::Enumerator(_)) => true,
             Some(Declaration::Function(function)) => {
                 let entry = self.functions.get(function.number);
                 changes(signature, has_body, entry)
@@ -155,6 +156,7 @@ impl<'a> File<'a> {
         match declared {
             None => self.functions.len(),
             Some(Declaration::Object(_)) => self.functions.len(),
+            Some(Declaration::Enumerator(_)) => self.functions.len(),
             Some(Declaration::Function(function)) => function.number,
         }
     }

@@ -10,7 +10,7 @@ use Rattle.pk_type_constant.specs.declared.constants.Constant.TheVariants.{Numbe
 use Rattle.pk_type_constant.specs.Constants.{constant_value}
 use Rattle.pk_type_constant.specs.Forms.{is_constant_form}
 use Rattle.pk_type_declaration.specs.declared.constants.Evaluated.{Evaluated}
-use Rattle.pk_type_declaration.specs.Walks.{Walked, Adding, failing, after_value, value_at}
+use Rattle.pk_type_declaration.specs.Walks.{Walked, Adding, here, failing, after_value, value_at}
 use Rattle.pk_typed.specs.Limits.{length_limit}
 
 -- what an expression gives, where it has a typed tree
@@ -20,7 +20,7 @@ given_by (Some v) = constant_value v
 
 -- an expression that has to be constant
 abbrev pub evaluated : {F : Type 0} → Walked F → ExpressionTree → Evaluated
-evaluated w e = record { is_form = is_constant_form e; constant = given_by (value_at w e) }
+evaluated w e = record { is_form = is_constant_form (here w) e; constant = given_by (value_at w e) }
 
 abbrev pub is_faulty : Constant → Bool
 is_faulty (Number n) = false

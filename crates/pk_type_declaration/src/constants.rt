@@ -116,11 +116,11 @@ impl<'a> Walk<'a> {
             ≡ walks.after_value noted (expression_tree e.now) (walked_in self.old)) }
         ensures evaluated { IfOk result (λ v. v ≡ definitions.evaluated (walked_in self.old) (expression_tree e.now)) }
     {
+        let is_form = is_constant_form(&self.scope, e);
         let value = self.value(alloc, e)?;
-        let constant = given_by(&value);
         Ok(Evaluated {
-            is_form: is_constant_form(e),
-            constant,
+            is_form,
+            constant: given_by(&value),
         })
     }
 

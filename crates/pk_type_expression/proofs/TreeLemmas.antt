@@ -19,7 +19,7 @@ use Rattle.pk_typed.specs.Types.{type_of_place}
 use Rattle.pk_type_scope.specs.declared.declarations.Callee.{Callee}
 use Rattle.pk_type_scope.specs.declared.declarations.Callee.TheVariants.{Ordinary, Any, Assume, Assert, Abort}
 use Rattle.pk_type_scope.specs.declared.declarations.Declaration.{Declaration}
-use Rattle.pk_type_scope.specs.declared.declarations.Declaration.TheVariants.{Object, Function}
+use Rattle.pk_type_scope.specs.declared.declarations.Declaration.TheVariants.{Object, Function, Enumerator}
 use Rattle.pk_type_expression.specs.declared.names.Target.{Target}
 use Rattle.pk_type_scope.specs.declared.declarations.Typing.{Typing}
 use Rattle.pk_type_scope.specs.declared.declarations.Typing.TheVariants.{Void, Integer, Unknown}
@@ -27,7 +27,7 @@ use Rattle.pk_type_scope.specs.declared.failures.Failure.{Failure}
 use Rattle.pk_type_scope.specs.Declarations.{Names, HasTypes, is_void, is_unknown, is_object, is_function, is_array, is_scalar, returned_by, arguments_of, own_site}
 use Rattle.pk_type_scope.specs.Failures.{fails_if}
 use Rattle.pk_type_scope.specs.Specifiers.{type_named, specifiers}
-use Rattle.pk_type_expression.specs.Types.{type_of, target_of, of_object, scalar_target, element_target, type_of_target, type_of_call, of_integer, of_integers, unary_type, binary_type}
+use Rattle.pk_type_expression.specs.Types.{type_of, target_of, of_object, scalar_target, element_target, type_of_target, type_of_name, type_of_call, of_integer, of_integers, unary_type, binary_type}
 use Rattle.pk_type_expression.specs.Typed.{EvaluatedTree, value, effect, value_of, effect_of, valued, operand_of, place_of, of_both, name_value, element_value, typed_call, call_of, called, if_none, only, step_value, unary_value, typed_cast, is_or, logical_value, binary_value, typed_conditional, assignment_value, comma_after, typed, typed_all, calls_after}
 use Rattle.pk_type_expression.specs.Rules.{when, count, takes_others, undeclared, void, array, place, constness, arguments, unsequenced, own, failures, failures_used}
 use Rattle.pk_type_expression.proofs.FailureLemmas.{when_fails_if}
@@ -105,17 +105,19 @@ record IsPlace (t : Option Target) (e : Option EvaluatedTree) : Type 0 where
   is_type : type_of_target t ≡ Integer (type_of_place tree)
   is_place : place_of e ≡ Some tree
 
-name_tree : (o : Option Declaration) → HasTypes o → not (is_object o) ≡ false → is_array o ≡ false → IsTreeOf (type_of_target (of_object scalar_target o)) (valued (of_object name_value o))
+name_tree : (o : Option Declaration) → HasTypes o → not (is_object o) ≡ false → is_array o ≡ false → IsTreeOf (type_of_name o) (valued (name_value o))
 unfolding trees.type_of
 name_tree None h p q = absurd (cc)
 name_tree (Some (Object o)) h p q = rw (q, h.1) refl
 name_tree (Some (Function f)) h p q = absurd (cc)
+name_tree (Some (Enumerator v)) h p q = rw h.1 refl
 
 element_tree : (o : Option Declaration) (at : Pos) (t : Typing) (e : Option EvaluatedTree) → HasTypes o → not (is_object o) ≡ false → is_scalar o ≡ false → IsValue t e → IsTreeOf (type_of_target (of_object (element_target at) o)) (valued (of_object (element_value at (value_of e)) o))
 unfolding trees.type_of
 element_tree None at t e h p q v = absurd (cc)
 element_tree (Some (Object o)) at t e h p q v = let is : o.is_array ≡ true = negated o.is_array q in rw (is, h.1, v.is_tree) refl
 element_tree (Some (Function f)) at t e h p q v = absurd (cc)
+element_tree (Some (Enumerator n)) at t e h p q v = absurd (cc)
 
 name_place_of : (b : Bool) (t : Option IntType) (x : Variable) (c : Bool)
     → IsTreeOf (type_of_target (if b then None else Some (record { variable = x; int_type = t; is_const = c; bracket = None }))) (valued (if b then None else option_map (λ u. read (scalar u x)) t))
@@ -124,10 +126,11 @@ name_place_of true t x c h = absurd h
 name_place_of false None x c h = absurd h
 name_place_of false (Some t) x c h = record { tree = scalar t x; is_type = refl; is_place = refl }
 
-name_place : (o : Option Declaration) → IsTreeOf (type_of_target (of_object scalar_target o)) (valued (of_object name_value o)) → IsPlace (of_object scalar_target o) (valued (of_object name_value o))
-name_place None h = absurd h
-name_place (Some (Function f)) h = absurd h
-name_place (Some (Object o)) h = name_place_of o.is_array o.int_type o.variable o.is_const h
+name_place : (o : Option Declaration) → IsTreeOf (type_of_name o) (valued (name_value o)) → not (is_some (of_object scalar_target o)) ≡ false → IsPlace (of_object scalar_target o) (valued (name_value o))
+name_place None h p = absurd h
+name_place (Some (Function f)) h p = absurd h
+name_place (Some (Enumerator n)) h p = absurd (cc)
+name_place (Some (Object o)) h p = name_place_of o.is_array o.int_type o.variable o.is_const h
 
 element_place_of : (b : Bool) (t : Option IntType) (x : Variable) (c : Bool) (at : Pos) (v : Option ValueTree)
     → IsTreeOf (type_of_target (if b then Some (record { variable = x; int_type = t; is_const = c; bracket = Some at }) else None)) (valued (if b then of_both (λ u w. read (element u x at w)) t v else None))
@@ -140,12 +143,13 @@ element_place_of true (Some t) x c at (Some v) h = record { tree = element t x a
 element_place : (o : Option Declaration) (at : Pos) (v : Option ValueTree) → IsTreeOf (type_of_target (of_object (element_target at) o)) (valued (of_object (element_value at v) o)) → IsPlace (of_object (element_target at) o) (valued (of_object (element_value at v) o))
 element_place None at v h = absurd h
 element_place (Some (Function f)) at v h = absurd h
+element_place (Some (Enumerator n)) at v h = absurd h
 element_place (Some (Object o)) at v h = element_place_of o.is_array o.int_type o.variable o.is_const at v h
 
 -- what may be changed is read at its place
 place_there : (d : Names) (n : ℕ) (e : ExpressionTree) → IsTreeOf (type_of d e) (typed d n e) → not (is_some (target_of d e)) ≡ false → IsPlace (target_of d e) (typed d n e)
 unfolding type_of target_of typed
-place_there d n (name x) h p = name_place (d x) h
+place_there d n (name x) h p = name_place (d x) h p
 place_there d n (index x at i) h p = element_place (d x) at (value_of (typed d n i)) h
 place_there d n (parenthesized at e) h p = place_there d n e h p
 place_there d n (call x es) h p = absurd (cc)
@@ -269,6 +273,7 @@ callee_tree Abort f n at vs p h = rw (no_argument vs (abort at) (sym h)) tt
 call_tree : (o : Option Declaration) (n : ℕ) (at : Pos) (k : ℕ) (vs : Option ValueTrees) → HasTypes o → not (is_function o) ≡ false → takes_others o k ≡ false → AreValues k vs → IsTreeOf (type_of_call o) (typed_call o n at vs)
 call_tree None n at k vs h p q v = absurd (cc)
 call_tree (Some (Object o)) n at k vs h p q v = absurd (cc)
+call_tree (Some (Enumerator m)) n at k vs h p q v = absurd (cc)
 call_tree (Some (Function f)) n at k vs h p q v = rw v.is_trees (callee_tree f.callee f.number n at v.trees h (same_number (arguments_of f.callee) k q ∙ sym v.has_length))
 
 -- the walk

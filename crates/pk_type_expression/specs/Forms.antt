@@ -20,7 +20,7 @@ use Rattle.pk_type_scope.specs.Failures.{fails_if}
 use Rattle.pk_type_expression.specs.Mentions.{Mentioned, object_named, nothing_mentioned, joined, changing, clash, all_joined, some_clash}
 use Rattle.pk_type_expression.specs.Rules.{is_const, takes_others, assignment_clash, assignment_place}
 use Rattle.pk_type_expression.specs.Typed.{OperandTree, value, valued, value_of, effect_of, operand_of, place_of, of_both, name_value, element_value, typed_call, step_value, unary_value, typed_cast, is_or, binary_value, typed_conditional, assignment_value, comma_after}
-use Rattle.pk_type_expression.specs.Types.{of_object, scalar_target, element_target, type_of_target, type_of_call, of_integer, of_integers, unary_type, binary_type}
+use Rattle.pk_type_expression.specs.Types.{of_object, scalar_target, element_target, type_of_target, type_of_name, type_of_call, of_integer, of_integers, unary_type, binary_type}
 use Rattle.pk_type_expression.specs.Views.{Known}
 
 abbrev pub operand_in : Known → Option OperandTree
@@ -39,10 +39,10 @@ name_failures at d = fails_if (not (is_object d)) rule.Undeclared at ++ fails_if
 
 abbrev pub known_name : Option Declaration → Known
 known_name d = record {
-  typing = type_of_target (of_object scalar_target d);
+  typing = type_of_name d;
   target = of_object scalar_target d;
   mentions = record { named = object_named d; changed = [] };
-  tree = valued (of_object name_value d);
+  tree = valued (name_value d);
 }
 
 abbrev pub element_failures : Pos → Option Declaration → List Failure

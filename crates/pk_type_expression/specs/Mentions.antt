@@ -20,6 +20,7 @@ abbrev pub object_named : Option Declaration → List Variable
 object_named None = []
 object_named (Some (declared.Function f)) = []
 object_named (Some (declared.Object o)) = o.variable ∷ []
+object_named (Some (declared.Enumerator n)) = []
 
 abbrev pub object_changed : Option Target → List Variable
 object_changed None = []

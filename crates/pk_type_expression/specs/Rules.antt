@@ -15,7 +15,7 @@ use Rattle.pk_type_expression.specs.Mentions.{Mentioned, mentions, mentions_of_e
 use Rattle.pk_type_scope.specs.Specifiers.{type_named, specifiers}
 use Rattle.pk_type_expression.specs.Types.{type_of, target_of}
 
--- undeclared: no declaration is in scope, or it is a function where an object is needed or the reverse; at the name
+-- undeclared: no declaration is in scope, or it is a function where an object is needed or the reverse, an enumerator counting as an object; at the name
 unfoldable pub undeclared : Names → ExpressionTree → List Failure
 undeclared d (name x) = fails_if (not (is_object (d x))) rule.Undeclared x.at
 undeclared d (call x es) = fails_if (not (is_function (d x))) rule.Undeclared x.at
@@ -32,7 +32,7 @@ array d (name x) = fails_if (is_array (d x)) rule.Array x.at
 array d (index x at e) = fails_if (is_scalar (d x)) rule.Array x.at
 array d _ = []
 
--- place: an assigned or stepped operand is no scalar name or element; at the operator
+-- place: an assigned or stepped operand is no scalar name or element, as an enumerator is none; at the operator
 unfoldable pub place : Names → ExpressionTree → List Failure
 place d (assignment op at a b) = fails_if (not (is_some (target_of d a))) rule.Place at
 place d (postfix op at e) = fails_if (not (is_some (target_of d e))) rule.Place at
@@ -53,6 +53,7 @@ constness d _ = []
 abbrev pub takes_others : Option Declaration → ℕ → Bool
 takes_others None n = false
 takes_others (Some (declared.Object o)) n = false
+takes_others (Some (declared.Enumerator m)) n = false
 takes_others (Some (declared.Function f)) n = not (nat_eq (arguments_of f.callee) n)
 
 abbrev pub count : ExpressionTrees → ℕ

@@ -74,8 +74,15 @@ of_both f None y = None
 of_both f (Some x) None = None
 of_both f (Some x) (Some y) = Some (f x y)
 
-abbrev pub name_value : Object → Option ValueTree
-name_value o = if o.is_array then None else option_map (λ t. tree.read (tree.scalar t o.variable)) o.int_type
+abbrev pub scalar_value : Object → Option ValueTree
+scalar_value o = if o.is_array then None else option_map (λ t. tree.read (tree.scalar t o.variable)) o.int_type
+
+-- an object is read; an enumerator is a constant (6.4.4.3)
+abbrev pub name_value : Option Declaration → Option ValueTree
+name_value None = None
+name_value (Some (declared.Object o)) = scalar_value o
+name_value (Some (declared.Function f)) = None
+name_value (Some (declared.Enumerator n)) = option_map (tree.constant Int) n
 
 abbrev pub element_value : Pos → Option ValueTree → Object → Option ValueTree
 element_value at i o =
@@ -107,6 +114,7 @@ call_of Abort f n at vs = option_map effect (if_none vs (tree.abort at))
 abbrev pub typed_call : Option Declaration → ℕ → Pos → Option ValueTrees → Option EvaluatedTree
 typed_call None n at vs = None
 typed_call (Some (declared.Object o)) n at vs = None
+typed_call (Some (declared.Enumerator m)) n at vs = None
 typed_call (Some (declared.Function f)) n at None = None
 typed_call (Some (declared.Function f)) n at (Some vs) = call_of f.callee f.number n at vs
 
@@ -186,7 +194,7 @@ operand d typed e = operand_of (type_of d e) typed
 -- the typed tree of an expression before which n calls of its function stand
 unfoldable mutual
   pub typed : Names → ℕ → ExpressionTree → Option EvaluatedTree
-  typed d n (ast.name x) = valued (of_object name_value (d x))
+  typed d n (ast.name x) = valued (name_value (d x))
   typed d n (ast.call x es) = typed_call (d x) n x.at (typed_all d (n + length (own_site x.at (d x))) es)
   typed d n (ast.index x at e) = valued (of_object (element_value at (value_of (typed d n e))) (d x))
   typed d n (ast.constant at t v) = Some (value (tree.constant t (pos v)))

@@ -56,6 +56,7 @@ abbrev pub of_object : {A : Type 0} → (Object → Option A) → Option Declara
 of_object f None = None
 of_object f (Some (declared.Object o)) = f o
 of_object f (Some (declared.Function g)) = None
+of_object f (Some (declared.Enumerator n)) = None
 
 -- what an expression lets change, through parentheses (6.5.1, 6.3.2.1)
 unfoldable pub target_of : Names → ExpressionTree → Option Target
@@ -78,10 +79,18 @@ abbrev pub type_of_target : Option Target → Typing
 type_of_target None = Unknown
 type_of_target (Some t) = typing_of t.int_type
 
+-- an enumerator is an int (6.4.4.3)
+abbrev pub type_of_name : Option Declaration → Typing
+type_of_name None = Unknown
+type_of_name (Some (declared.Object o)) = type_of_target (scalar_target o)
+type_of_name (Some (declared.Function f)) = Unknown
+type_of_name (Some (declared.Enumerator n)) = Integer Int
+
 abbrev pub type_of_call : Option Declaration → Typing
 type_of_call None = Unknown
 type_of_call (Some (declared.Object o)) = Unknown
 type_of_call (Some (declared.Function f)) = returned_by f.callee
+type_of_call (Some (declared.Enumerator n)) = Unknown
 
 -- where it is of an integer type
 abbrev pub of_integer : (IntType → IntType) → Typing → Typing
@@ -107,7 +116,7 @@ binary_type None t u = Int
 binary_type (Some op) t u = result_type op (operand_type op t u)
 
 unfoldable pub type_of : Names → ExpressionTree → Typing
-type_of d (name x) = type_of_target (target_of d (name x))
+type_of d (name x) = type_of_name (d x)
 type_of d (call x es) = type_of_call (d x)
 type_of d (index x at e) = type_of_target (target_of d (index x at e))
 type_of d (constant at t n) = Integer t

@@ -14,9 +14,8 @@ use crate::boxes::boxed_option;
 use crate::checked::{Arguments, Checked};
 use crate::evaluated::{Evaluated, value_of, valued, without_value};
 use crate::mentions::{all_joined, some_clash};
-use crate::names::is_function;
 use pk_ctypes::{IntType, Pos, Rule};
-use pk_type_scope::{Callee, Declaration, Notes, Typing};
+use pk_type_scope::{Callee, Declaration, Notes, Typing, is_function};
 use pk_typed::{Effect, Value};
 use std::alloc::{AllocError, Global};
 
@@ -71,6 +70,7 @@ fn takes_others(declared: Option<Declaration>, count: usize) -> bool
     match declared {
         None => false,
         Some(Declaration::Object(_)) => false,
+        Some(Declaration::Enumerator(_)) => false,
         Some(Declaration::Function(f)) => f.callee.arguments() != count,
     }
 }
@@ -81,6 +81,7 @@ fn type_of_call(declared: Option<Declaration>) -> Typing
     match declared {
         None => Typing::Unknown,
         Some(Declaration::Object(_)) => Typing::Unknown,
+        Some(Declaration::Enumerator(_)) => Typing::Unknown,
         Some(Declaration::Function(f)) => f.callee.returns(),
     }
 }
@@ -195,6 +196,7 @@ fn typed_call(
     match declared {
         None => Ok(None),
         Some(Declaration::Object(_)) => Ok(None),
+        Some(Declaration::Enumerator(_)) => Ok(None),
         Some(Declaration::Function(f)) => match arguments {
             None => Ok(None),
             Some(arguments) => call_of(alloc, f.callee, f.number, site, at, arguments),

@@ -17,10 +17,10 @@ use crate::boxes::{both, boxed_option};
 use crate::checked::{Checked, Operand, operand_of};
 use crate::evaluated::{Evaluated, effect_of, place_of, value_of, valued, without_value};
 use crate::mentions::{Mentions, is_among};
-use crate::names::{Target, is_array, is_object, is_scalar, typing_of};
+use crate::names::{Target, typing_of};
 use pk_ast::{AssignmentOperator, BinaryOperator, StepOperator, UnaryOperator};
 use pk_ctypes::{IntType, Op, Pos, Rule, promote, result_type, usual};
-use pk_type_scope::{Declaration, Notes, Object, Typing};
+use pk_type_scope::{Declaration, Notes, Object, Typing, is_array, is_object, is_scalar};
 use pk_typed::{Effect, Place, Value};
 use std::alloc::{AllocError, Global};
 
@@ -42,6 +42,7 @@ fn scalar_target(declared: Option<Declaration>) -> Option<Target>
     match declared {
         None => None,
         Some(Declaration::Function(_)) => None,
+        Some(Declaration::Enumerator(_)) => None,
         Some(Declaration::Object(o)) => if o.is_array {
             None
         } else {
@@ -61,6 +62,7 @@ fn element_target(at: Pos, declared: Option<Declaration>) -> Option<Target>
     match declared {
         None => None,
         Some(Declaration::Function(_)) => None,
+        Some(Declaration::Enumerator(_)) => None,
         Some(Declaration::Object(o)) => if o.is_array {
             Some(Target {
                 variable: o.variable,
@@ -83,20 +85,45 @@ fn type_of_target(target: Option<Target>) -> Typing
     }
 }
 
+fn type_of_name(declared: Option<Declaration>, target: Option<Target>) -> Typing
+    requires { target ≡ types.of_object types.scalar_target declared }
+    ensures { result ≡ types.type_of_name declared }
+{
+    match declared {
+        Some(Declaration::Enumerator(_)) => Typing::Integer(IntType::Int),
+        _ => type_of_target(target),
+    }
+}
+
+fn scalar_value(object: Object) -> Option<Value>
+    ensures { option_map value_tree result ≡ typed.scalar_value object }
+{
+    if object.is_array {
+        return None;
+    }
+    match object.int_type {
+        None => None,
+        Some(t) => Some(Value::read(Place::scalar(t, object.variable))),
+    }
+}
+
+fn enumerator_value(value: Option<i32>) -> Option<Value>
+    ensures { option_map value_tree result ≡ option_map (typed_trees.constant int_types.Int) value }
+{
+    match value {
+        None => None,
+        Some(number) => Some(Value::constant(IntType::Int, i128::from(number))),
+    }
+}
+
 fn name_value(declared: Option<Declaration>) -> Option<Value>
-    ensures { option_map value_tree result ≡ types.of_object typed.name_value declared }
+    ensures { option_map value_tree result ≡ typed.name_value declared }
 {
     match declared {
         None => None,
+        Some(Declaration::Object(o)) => scalar_value(o),
         Some(Declaration::Function(_)) => None,
-        Some(Declaration::Object(o)) => if o.is_array {
-            None
-        } else {
-            match o.int_type {
-                None => None,
-                Some(t) => Some(Value::read(Place::scalar(t, o.variable))),
-            }
-        },
+        Some(Declaration::Enumerator(value)) => enumerator_value(value),
     }
 }
 
@@ -117,7 +144,7 @@ pub(crate) fn name(
     let mentions = Mentions::of_name(alloc, declared)?;
     let tree = valued(alloc, name_value(declared))?;
     Ok(Checked {
-        typing: type_of_target(target),
+        typing: type_of_name(declared, target),
         target,
         mentions,
         tree,
@@ -144,6 +171,7 @@ fn element_value(at: Pos, index: Option<Box<Value>>, declared: Option<Declaratio
     match declared {
         None => None,
         Some(Declaration::Function(_)) => None,
+        Some(Declaration::Enumerator(_)) => None,
         Some(Declaration::Object(o)) => element_of(at, index, o),
     }
 }

@@ -1,5 +1,5 @@
 -- What the names in scope stand for, as expressions ask for it.
-use Rattle.std.specs.Prelude.{◌≡◌, ℕ, Bool, true, false, not, Option, Some, None, List, [], ◌∷◌}
+use Rattle.std.specs.Prelude.{◌≡◌, ℕ, ℤ, Bool, true, false, not, Option, Some, None, List, [], ◌∷◌}
 use Rattle.pk_ctypes.specs.declared.places.Pos.{Pos}
 use Rattle.pk_ctypes.specs.declared.types.IntType.{IntType}
 use Rattle.pk_ast.specs.declared.expressions.Identifier.{Identifier}
@@ -29,24 +29,36 @@ abbrev pub typing_of : Option IntType → Typing
 typing_of (Some t) = Integer t
 typing_of None = Unknown
 
+-- where an object is needed, an enumerator counts as one
 abbrev pub is_object : Option Declaration → Bool
 is_object (Some (declared.Object o)) = true
 is_object (Some (declared.Function f)) = false
+is_object (Some (declared.Enumerator n)) = true
 is_object None = false
 
 abbrev pub is_function : Option Declaration → Bool
 is_function (Some (declared.Function f)) = true
 is_function (Some (declared.Object o)) = false
+is_function (Some (declared.Enumerator n)) = false
 is_function None = false
 
 abbrev pub is_array : Option Declaration → Bool
 is_array (Some (declared.Object o)) = o.is_array
 is_array (Some (declared.Function f)) = false
+is_array (Some (declared.Enumerator n)) = false
 is_array None = false
 
+abbrev pub is_enumerator : Option Declaration → Bool
+is_enumerator (Some (declared.Enumerator n)) = true
+is_enumerator (Some (declared.Object o)) = false
+is_enumerator (Some (declared.Function f)) = false
+is_enumerator None = false
+
+-- where an object is needed: one without elements, as an enumerator is
 abbrev pub is_scalar : Option Declaration → Bool
 is_scalar (Some (declared.Object o)) = not o.is_array
 is_scalar (Some (declared.Function f)) = false
+is_scalar (Some (declared.Enumerator n)) = true
 is_scalar None = false
 
 -- what a call gives
@@ -76,10 +88,12 @@ site_of f at Abort = []
 abbrev pub own_site : Pos → Option Declaration → List CallSite
 own_site at None = []
 own_site at (Some (declared.Object o)) = []
+own_site at (Some (declared.Enumerator n)) = []
 own_site at (Some (declared.Function f)) = site_of f.number at f.callee
 
--- a declaration that failed no rule, as far as expressions see it
+-- a declaration that failed no rule, as far as expressions see it: it has its type, an enumerator its value
 abbrev pub HasTypes : Option Declaration → Type 0
 HasTypes None = Unit {0}
 HasTypes (Some (declared.Object o)) = (t : IntType) × (o.int_type ≡ Some t)
 HasTypes (Some (declared.Function f)) = is_unknown (returned_by f.callee) ≡ false
+HasTypes (Some (declared.Enumerator v)) = (n : ℤ) × (v ≡ Some n)

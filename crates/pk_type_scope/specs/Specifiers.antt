@@ -15,7 +15,7 @@ use Rattle.pk_type_scope.specs.declared.specifiers.Times.TheVariants.{Never, Onc
 use Rattle.pk_type_scope.specs.Declarations.{is_unknown}
 use Rattle.pk_type_scope.specs.Failures.{fails_if}
 
--- one word more; `const` names no type
+-- one word more; `const` names no type, and no type name is known yet
 abbrev pub counted : Counts → SpecifierWord → Counts
 counted c word.Void = record c { voids = c.voids + 1 }
 counted c word.Char = record c { chars = c.chars + 1 }
@@ -25,6 +25,7 @@ counted c word.Long = record c { longs = c.longs + 1 }
 counted c word.Signed = record c { signeds = c.signeds + 1 }
 counted c word.Unsigned = record c { unsigneds = c.unsigneds + 1 }
 counted c word.Const = c
+counted c (word.TypeName from to) = c
 
 -- how often each word stands among these, after some
 abbrev pub counts_of : Counts → List Specifier → Counts
@@ -85,6 +86,7 @@ is_const_word word.Int = false
 is_const_word word.Long = false
 is_const_word word.Signed = false
 is_const_word word.Unsigned = false
+is_const_word (word.TypeName from to) = false
 
 abbrev pub has_const : List Specifier → Bool
 has_const [] = false

@@ -49,6 +49,8 @@ pub struct Function {
 pub enum Declaration {
     Object(Object),
     Function(Function),
+    /// A constant of type int (C99 6.4.4.3, 6.7.2.2). Its value is none where its declaration fails a rule.
+    Enumerator(Option<i32>),
 }
 
 impl Typing {
@@ -98,5 +100,65 @@ impl Callee {
             Callee::Assert => 1,
             Callee::Abort => 0,
         }
+    }
+}
+
+/// Whether it can stand where an object is needed: an enumerator counts as one.
+pub fn is_object(declared: Option<Declaration>) -> bool
+    ensures { result ≡ definitions.is_object declared }
+{
+    match declared {
+        None => false,
+        Some(Declaration::Function(_)) => false,
+        Some(Declaration::Object(_)) => true,
+        Some(Declaration::Enumerator(_)) => true,
+    }
+}
+
+/// Whether it is a function.
+pub fn is_function(declared: Option<Declaration>) -> bool
+    ensures { result ≡ definitions.is_function declared }
+{
+    match declared {
+        None => false,
+        Some(Declaration::Function(_)) => true,
+        Some(Declaration::Object(_)) => false,
+        Some(Declaration::Enumerator(_)) => false,
+    }
+}
+
+/// Whether it is an array.
+pub fn is_array(declared: Option<Declaration>) -> bool
+    ensures { result ≡ definitions.is_array declared }
+{
+    match declared {
+        None => false,
+        Some(Declaration::Function(_)) => false,
+        Some(Declaration::Object(o)) => o.is_array,
+        Some(Declaration::Enumerator(_)) => false,
+    }
+}
+
+/// Whether it has no elements, where an object is needed.
+pub fn is_scalar(declared: Option<Declaration>) -> bool
+    ensures { result ≡ definitions.is_scalar declared }
+{
+    match declared {
+        None => false,
+        Some(Declaration::Function(_)) => false,
+        Some(Declaration::Object(o)) => !o.is_array,
+        Some(Declaration::Enumerator(_)) => true,
+    }
+}
+
+/// Whether it is an enumerator.
+pub fn is_enumerator(declared: Option<Declaration>) -> bool
+    ensures { result ≡ definitions.is_enumerator declared }
+{
+    match declared {
+        None => false,
+        Some(Declaration::Object(_)) => false,
+        Some(Declaration::Function(_)) => false,
+        Some(Declaration::Enumerator(_)) => true,
     }
 }

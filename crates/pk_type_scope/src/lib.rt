@@ -7,7 +7,10 @@ mod laws;
 mod scopes;
 mod specifiers;
 
-pub use declarations::{Callee, Declaration, Function, Object, Typing};
+pub use declarations::{
+    Callee, Declaration, Function, Object, Typing, is_array, is_enumerator, is_function, is_object,
+    is_scalar,
+};
 pub use failures::{Failure, Notes};
 pub use laws::first_law;
 pub use scopes::{Frame, Scope, spelling};

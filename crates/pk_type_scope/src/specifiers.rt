@@ -78,7 +78,7 @@ fn counted(counts: Counts, word: SpecifierWord) -> Counts
         SpecifierWord::Long => counts.longs += 1,
         SpecifierWord::Signed => counts.signeds += 1,
         SpecifierWord::Unsigned => counts.unsigneds += 1,
-        SpecifierWord::Const => {}
+        SpecifierWord::Const | SpecifierWord::TypeName { .. } => {}
     }
     counts
 }
@@ -178,6 +178,7 @@ fn is_const_word(word: SpecifierWord) -> bool
         SpecifierWord::Long => false,
         SpecifierWord::Signed => false,
         SpecifierWord::Unsigned => false,
+        SpecifierWord::TypeName { .. } => false,
     }
 }
 

@@ -45,10 +45,11 @@ mutual
     no_values : ValueTrees
     value_before : ValueTree → ValueTrees → ValueTrees
 
--- a declared object by its number in the function, at its name, and what it begins with
+-- a declared object, at its name: by its number in the function, and what it begins with; one that is static by its number among the file's objects (C99 6.2.4)
 pub data DeclaredTree : Type 0 where
   scalar_object : ℕ → Pos → Option ValueTree → DeclaredTree
   array_object : ℕ → Pos → Option ValueTrees → DeclaredTree
+  static_object : ℕ → Pos → DeclaredTree
 
 -- what the parentheses of a `for` begin with
 pub data ForStartTree : Type 0 where
@@ -88,7 +89,7 @@ pub record LocalTree : Type 0 where
   pub int_type : IntType
   pub length : Option ℕ
 
--- a function's block, with the places of its braces; how many of the file's objects are declared before it
+-- a function's block, with the places of its braces; how many objects are declared in the file before it
 pub record BodyTree : Type 0 where
   pub opened : Pos
   pub closed : Pos
@@ -114,6 +115,7 @@ pub record FileObjectTree : Type 0 where
   pub int_type : IntType
   pub start : StartTree
 
+-- the objects that are declared in the file, and behind them those that functions declare static
 pub record UnitTree : Type 0 where
   pub objects : List FileObjectTree
   pub functions : List FunctionTree

@@ -16,13 +16,15 @@ ghost use Rattle.pk_typed.specs.Views.{
 use crate::values::{Effect, Value};
 use pk_ctypes::{IntType, Pos};
 
-/// A declared object of a function, by its number among the function's, at its name.
+/// A declared object of a function, at its name: by its number among the function's, or if it is static among the file's.
 #[derive(Drop)]
 pub enum Declared {
     /// A scalar, and what it begins with, converted to its type.
     Scalar(usize, Pos, Option<Value>),
     /// An array, and the values of its first elements; the rest of a list is 0.
     Array(usize, Pos, Option<Vec<Value>>),
+    /// One that all calls share, and that holds what it begins with when a run begins.
+    Static(usize, Pos),
 }
 
 /// What the parentheses of a `for` begin with.
@@ -100,6 +102,12 @@ impl Declared {
         ensures { declared_tree result ≡ tree.array_object local at (optional_values items) }
     {
         Declared::Array(local, at, items)
+    }
+
+    pub fn static_object(file: usize, at: Pos) -> Declared
+        ensures { declared_tree result ≡ tree.static_object file at }
+    {
+        Declared::Static(file, at)
     }
 }
 

@@ -26,7 +26,7 @@ pub struct Body {
     pub close: Pos,
     /// The function's objects by number, its parameters first.
     pub locals: Vec<Local>,
-    /// How many of the file's objects are declared before it.
+    /// How many objects are declared in the file before it.
     pub visible: usize,
     /// How many labels it has.
     pub labels: usize,
@@ -61,7 +61,7 @@ pub struct FileObject {
     pub start: Start,
 }
 
-/// A text: its objects and functions by number, each in order of declaration.
+/// A text: its objects and functions by number, each in order of declaration. Behind the objects that are declared in the file stand those that functions declare static.
 #[derive(Drop)]
 pub struct Unit {
     pub objects: Vec<FileObject>,

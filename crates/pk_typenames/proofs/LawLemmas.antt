@@ -1,5 +1,6 @@
 -- Of every text and its tokens there is exactly one marking.
-use Rattle.std.proofs.Common.{◌≡◌, ◌↔◌, ℕ, zero, suc, inl, inr, List, [], ◌∷◌, ◌++◌, Option, None, Bool, true, false, is_some, ◌&&◌, if◌then◌else◌, refl, sym, subst, ◌∙◌, append_assoc}
+use Rattle.std.proofs.Common.{◌≡◌, ◌↔◌, ℕ, zero, suc, inl, inr, List, [], ◌∷◌, ◌++◌, Option, None, Bool, true, false, is_some, ◌&&◌, if◌then◌else◌, refl, sym, ap, subst, ◌∙◌, append_assoc}
+use Rattle.std.proofs.lemmas.Bool.{false≢true}
 use Rattle.std.proofs.lemmas.List.{append-nil}
 use Rattle.pk_lex.specs.declared.token.Token.{Token}
 use Rattle.pk_lex.specs.declared.token.Kind.{Kind}
@@ -12,24 +13,66 @@ use Rattle.pk_typenames.specs.Spellings.{Layer, empty, noted}
 use Rattle.pk_typenames.specs.Steps.{OpenStep, pending_after}
 use Rattle.pk_typenames.proofs.ScanLemmas.{Scanned, scanned_none, scanned_more}
 
+-- what one token is, by tests
+
+abbrev is_name : Kind → Bool
+is_name kind.Name = true
+is_name _ = false
+
+name_is : (k : Kind) → is_name k ≡ true → k ≡ kind.Name
+name_is kind.Name e = refl
+name_is _ e = absurd (false≢true e)
+
 name_or_not : (k : Kind) → (b : Bool) × ((b ≡ true) ↔ (k ≡ kind.Name))
-name_or_not kind.Name = (true, (λ e. refl, λ e. refl))
-name_or_not k = (false, (λ e. absurd (cc), λ e. absurd (cc)))
+name_or_not k = (is_name k, (λ e. name_is k e, λ e. ap is_name e))
+
+abbrev is_comma : Kind → Bool
+is_comma (kind.Punctuator mark.Comma) = true
+is_comma _ = false
+
+comma_is : (k : Kind) → is_comma k ≡ true → k ≡ kind.Punctuator mark.Comma
+comma_is (kind.Punctuator mark.Comma) e = refl
+comma_is _ e = absurd (false≢true e)
+
+abbrev is_semicolon : Kind → Bool
+is_semicolon (kind.Punctuator mark.Semicolon) = true
+is_semicolon _ = false
+
+semicolon_is : (k : Kind) → is_semicolon k ≡ true → k ≡ kind.Punctuator mark.Semicolon
+semicolon_is (kind.Punctuator mark.Semicolon) e = refl
+semicolon_is _ e = absurd (false≢true e)
+
+abbrev is_typedef : Kind → Bool
+is_typedef (kind.Keyword key.Typedef) = true
+is_typedef _ = false
+
+typedef_is : (k : Kind) → is_typedef k ≡ true → k ≡ kind.Keyword key.Typedef
+typedef_is (kind.Keyword key.Typedef) e = refl
+typedef_is _ e = absurd (false≢true e)
 
 end_or_not : (k : Kind) → (b : Bool) × ((b ≡ true) ↔ IsEnd k)
-end_or_not (kind.Punctuator mark.Comma) = (true, (λ e. inl refl, λ e. refl))
-end_or_not (kind.Punctuator mark.Semicolon) = (true, (λ e. inr refl, λ e. refl))
-end_or_not k = (false, (λ e. absurd (cc), λ e. elim e [ inl f ↦ absurd (cc) | inr f ↦ absurd (cc) ]))
+end_or_not k = by_comma (is_comma k) refl (is_semicolon k) refl
+  where
+    by_comma : (b : Bool) → is_comma k ≡ b → (d : Bool) → is_semicolon k ≡ d → (b : Bool) × ((b ≡ true) ↔ IsEnd k)
+    by_comma true e d f = (true, (λ h. inl (comma_is k e), λ h. refl))
+    by_comma false e true f = (true, (λ h. inr (semicolon_is k f), λ h. refl))
+    by_comma false e false f = (
+      false,
+      (λ h. absurd (false≢true h), λ h. elim h [ inl g ↦ absurd (false≢true (sym e ∙ ap is_comma g)) | inr g ↦ absurd (false≢true (sym f ∙ ap is_semicolon g)) ]),
+    )
 
 outside_or_not : (n : ℕ) → (b : Bool) × ((b ≡ true) ↔ (n ≡ 0))
 outside_or_not zero = (true, (λ e. refl, λ e. refl))
-outside_or_not (suc n) = (false, (λ e. absurd (cc), λ e. absurd (cc)))
+outside_or_not (suc n) = (false, (λ e. absurd (false≢true e), λ e. absurd (cc)))
 
 open_step : (k : Kind) (outside was : Bool) → (after : Bool) × OpenStep k outside was after
 open_step k false was = (was, inr (inr (inl (refl, refl))))
-open_step (kind.Keyword key.Typedef) true was = (true, inl (refl, refl, refl))
-open_step (kind.Punctuator mark.Semicolon) true was = (false, inr (inl (refl, refl, refl)))
-open_step k true was = (was, inr (inr (inr ((λ e. cc), (λ e. cc), refl))))
+open_step k true was = by_word (is_typedef k) refl (is_semicolon k) refl
+  where
+    by_word : (b : Bool) → is_typedef k ≡ b → (d : Bool) → is_semicolon k ≡ d → (after : Bool) × OpenStep k true was after
+    by_word true e d f = (true, inl (typedef_is k e, refl, refl))
+    by_word false e true f = (false, inr (inl (semicolon_is k f, refl, refl)))
+    by_word false e false f = (was, inr (inr (inr ((λ h. false≢true (sym e ∙ ap is_typedef h)), (λ h. false≢true (sym f ∙ ap is_semicolon h)), refl))))
 
 -- the rest of a list is marked too
 rest_marked : (text : List ℕ) (rest front marks : List Token) (l : Layer) (braces : ℕ) (within : Bool) (pending : Option (List ℕ)) → Scanned text front marks l braces within pending →

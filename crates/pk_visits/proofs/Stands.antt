@@ -156,6 +156,8 @@ pub record Proper (g : Whole) : Type 0 where
   -- the name of an object comes into scope
   pub enters : (l : Label) (k i n : ℕ) (h : Place) → g.shows l k h → k < length g.program.paths → i < g.objects k → slice_get g.scopes n ≡ Some (record { variable = g.numbers k i; outer = l.scope })
       → g.shows (record { at = l.at; path = l.path; scope = n + 1 }) k (place h.at (local k i ∷ h.scope))
+  pub shares : (l : Label) (k i n : ℕ) (h : Place) → g.shows l k h → i < length g.program.unit.objects → slice_get g.scopes n ≡ Some (record { variable = i; outer = l.scope })
+      → g.shows (record { at = l.at; path = l.path; scope = n + 1 }) k (place h.at (file i ∷ h.scope))
   pub parameters : (m i : ℕ) (t : IntType) → m < length g.program.paths → slice_get (function_of g.program m).parameters i ≡ Some t → HasKind g.program (local m i) (scalar_kind t)
 
 -- ---- values that wait
@@ -403,6 +405,7 @@ abbrev pub place_after : Program → (path : ℕ) → List DeclaredTree → Plac
 place_after p k [] h = h
 place_after p k (tree.scalar_object i at e ∷ ds) h = place_after p k ds (place at (with_local p k i h.scope))
 place_after p k (tree.array_object i at es ∷ ds) h = place_after p k ds (place at (with_local p k i h.scope))
+place_after p k (tree.static_object i at ∷ ds) h = place_after p k ds (place at (file i ∷ h.scope))
 
 -- an index without a test here was tested before
 abbrev pub IsTested : Bool → Option ℕ → ℕ → Type 0

@@ -1,14 +1,23 @@
 -- What stands in typed trees, in the order of the text: how many objects are declared, and which calls are made, with their numbers.
-use Rattle.std.specs.Prelude.{ℕ, ◌+◌, List, [], ◌∷◌, ◌++◌, length, Option, Some, None}
+use Rattle.std.specs.Prelude.{ℕ, ◌+◌, List, [], ◌∷◌, ◌++◌, Option, Some, None}
 use Rattle.pk_ctypes.specs.declared.places.Pos.{Pos}
 use Rattle.pk_typed.specs.declared.units.CallSite.{CallSite}
 use Rattle.pk_typed.specs.Trees.{PlaceTree, ValueTree, EffectTree, ValueTrees, DeclaredTree, ForStartTree, StatementTree, ItemTrees}
 use Rattle.pk_typed.specs.Trees as tree
 
--- ---- objects
+-- ---- objects of the function: a static one is of the file
+
+abbrev pub objects_in_declared : DeclaredTree → ℕ
+objects_in_declared (tree.scalar_object i at e) = 1
+objects_in_declared (tree.array_object i at es) = 1
+objects_in_declared (tree.static_object n at) = 0
+
+abbrev pub objects_in_all_declared : List DeclaredTree → ℕ
+objects_in_all_declared [] = 0
+objects_in_all_declared (d ∷ ds) = objects_in_declared d + objects_in_all_declared ds
 
 abbrev pub objects_at_start : ForStartTree → ℕ
-objects_at_start (tree.declarations ds) = length ds
+objects_at_start (tree.declarations ds) = objects_in_all_declared ds
 objects_at_start (tree.expression e) = 0
 
 unfoldable mutual
@@ -32,7 +41,7 @@ unfoldable mutual
 
   pub objects_in_items : ItemTrees → ℕ
   objects_in_items tree.no_items = 0
-  objects_in_items (tree.declared_before d is) = 1 + objects_in_items is
+  objects_in_items (tree.declared_before d is) = objects_in_declared d + objects_in_items is
   objects_in_items (tree.statement_before s is) = objects_in s + objects_in_items is
 
 -- ---- calls
@@ -99,6 +108,7 @@ calls_in_effect_if (Some e) = calls_in_effect e
 abbrev pub calls_in_declared : DeclaredTree → List Numbered
 calls_in_declared (tree.scalar_object i at e) = calls_if e
 calls_in_declared (tree.array_object i at es) = calls_in_values_if es
+calls_in_declared (tree.static_object n at) = []
 
 abbrev pub calls_in_all_declared : List DeclaredTree → List Numbered
 calls_in_all_declared [] = []

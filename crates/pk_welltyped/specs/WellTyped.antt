@@ -8,7 +8,7 @@ use Rattle.pk_typed.specs.declared.values.Variable.{Variable}
 use Rattle.pk_typed.specs.declared.values.Variable.TheVariants.{File, Local}
 use Rattle.pk_typed.specs.Trees.{PlaceTree, ValueTree, EffectTree, ValueTrees, DeclaredTree, ForStartTree, StatementTree, ItemTrees, LocalTree, BodyTree, FunctionTree, StartTree, FileObjectTree, UnitTree}
 use Rattle.pk_typed.specs.Trees as tree
-use Rattle.pk_welltyped.specs.Listed.{objects_at_start, objects_in, calls_in_items, numbered}
+use Rattle.pk_welltyped.specs.Listed.{objects_in_declared, objects_at_start, objects_in, calls_in_items, numbered}
 use Rattle.pk_typed.specs.Defaults.{length_of_start}
 use Rattle.pk_graph.specs.Kinds.{Kind, scalar_kind, array_kind}
 use Rattle.pk_typed.specs.Limits.{length_limit}
@@ -130,16 +130,17 @@ abbrev pub HasRoom : List LocalTree → (i items : ℕ) → Type 0
 HasRoom xs i m =
     (t : IntType) × (n : ℕ) × (kind_among xs i ≡ Some (array_kind t n)) × (m ≤ n) × (n ≤ length_limit) × (1 ≤ n)
 
--- The next object of its function. What it begins with stands in its scope (C99 6.2.1).
+-- The next object of its function, or one of the file. What it begins with stands in its scope (C99 6.2.1).
 abbrev pub IsDeclared : Around → DeclaredTree → Type 0
 IsDeclared a (tree.scalar_object i at e) =
     (i ≡ a.objects) × ((t : IntType) × (kind_among a.locals i ≡ Some (scalar_kind t))) × IsValueIf (behind 1 a) e
 IsDeclared a (tree.array_object i at es) =
     (i ≡ a.objects) × HasRoom a.locals i (count_if es) × AreValuesIf (behind 1 a) es
+IsDeclared a (tree.static_object n at) = n < length a.unit.objects
 
 abbrev pub AreDeclared : Around → List DeclaredTree → Type 0
 AreDeclared a [] = Unit {0}
-AreDeclared a (d ∷ ds) = IsDeclared a d × AreDeclared (behind 1 a) ds
+AreDeclared a (d ∷ ds) = IsDeclared a d × AreDeclared (behind (objects_in_declared d) a) ds
 
 abbrev pub IsForStart : Around → ForStartTree → Type 0
 IsForStart a (tree.declarations ds) = AreDeclared a ds
@@ -188,7 +189,7 @@ unfoldable mutual
 
   pub AreItems : Around → Marks → ItemTrees → Type 0
   AreItems a m tree.no_items = Unit {0}
-  AreItems a m (tree.declared_before d is) = IsDeclared a d × AreItems (behind 1 a) m is
+  AreItems a m (tree.declared_before d is) = IsDeclared a d × AreItems (behind (objects_in_declared d) a) m is
   AreItems a m (tree.statement_before s is) = IsStatement a m s × AreItems (behind (objects_in s) a) m is
 
 -- ---- functions and units

@@ -15,7 +15,7 @@ use Rattle.pk_iterate.specs.Behaviour.{HoldEach}
 use Rattle.pk_iterate.specs.Iteration.{cell_after, progress}
 use Rattle.pk_iterate.proofs.Held.{held, holds_map}
 use Rattle.pk_phases.specs.declared.phases.Phase.{Phase}
-use Rattle.pk_phases.specs.declared.phases.Phase.TheVariants.{Up, Down, Last}
+use Rattle.pk_phases.specs.declared.phases.Phase.TheVariants.{Delay, Up, Down, Last}
 use Rattle.pk_phases.specs.declared.equations.Cell.{Cell}
 use Rattle.pk_phases.specs.declared.equations.Part.{Part}
 use Rattle.pk_phases.specs.Values.{next_value}
@@ -74,14 +74,15 @@ module _ (g : GraphOf) (l : Layout) (made : IsGraph g) (lay : IsLayout l) (over 
   equation_state : (v : ℕ) (before : List (Option Facts)) → All (IsStateOf l) before → IsStateOf l (equation g l v before)
   equation_state v before k = arrived_state v (arrows_at g v) before (start_at g l v) (arrows_to g v) k (start_at_state v)
 
-  system_keeps : (thresholds : List ℤ) (parts : List Part) (narrow : ℕ) → KeepHeld (system_of g l thresholds parts narrow) (KnowsState l)
-  system_keeps thresholds parts narrow = record {
+  system_keeps : (thresholds : List ℤ) (parts : List Part) (delay narrow : ℕ) → KeepHeld (system_of g l thresholds parts delay narrow) (KnowsState l)
+  system_keeps thresholds parts delay narrow = record {
     bottom = λ e. tt;
     value = λ e vs h. equation_state e (map (λ (s : Stated). s.facts) vs) (state_of_each l (origins (arrows_at g e)) vs h);
     next = next;
   }
     where
-      next : (e : ℕ) (phase : Phase) (h n : Stated) → KnowsState l e h → KnowsState l e n → KnowsState l e (next_value (system_of g l thresholds parts narrow).ops phase h n)
+      next : (e : ℕ) (phase : Phase) (h n : Stated) → KnowsState l e h → KnowsState l e n → KnowsState l e (next_value (system_of g l thresholds parts delay narrow).ops phase h n)
+      next e (Delay k) h n i j = states_stay.joins l h.facts n.facts i j
       next e Up h n i j = states_stay.widenings l thresholds h.facts n.facts i j
       next e (Down k) h n i j = states_stay.narrowings l h.facts n.facts i j
       next e Last h n i j = states_stay.widenings l thresholds h.facts n.facts i j
@@ -91,7 +92,7 @@ pub analysis_keeps : (g : GraphOf) (o : Options) (p : PlanView) (a : Flow) → I
 analysis_keeps g o p a made few is =
     let lay : IsLayout a.layout = subst IsLayout (sym is.layout) (graphs_over.layouts g o.oct few) in
     let over : IsOver (kinds_of g) a.layout = subst (IsOver (kinds_of g)) (sym is.layout) (graphs_over.over g o.oct) in
-    subst (λ (k : GraphOf). KeepHeld (system_of k a.layout a.thresholds a.parts a.narrow) (KnowsState a.layout)) (sym is.graph) (system_keeps g a.layout made lay over a.thresholds a.parts a.narrow)
+    subst (λ (k : GraphOf). KeepHeld (system_of k a.layout a.thresholds a.parts a.delay a.narrow) (KnowsState a.layout)) (sym is.graph) (system_keeps g a.layout made lay over a.thresholds a.parts a.delay a.narrow)
 
 pub cells_are_states : CellsAreStates
 cells_are_states g o p order a made few is n e =

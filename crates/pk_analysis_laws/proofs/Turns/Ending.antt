@@ -52,9 +52,10 @@ small_bounds = record { chain = refl; turns = refl }
 pub analyses_end : AnalysesEnd
 analyses_end g o p order a chain made few system bound =
     let plan = analyses_go_by_plan g o p order a made system.analysis system.ordered in
-    let ends : EndsWithin (behaviour_of (equations_of a)) order (turn_bound (bound_of a.layout a.thresholds) a.narrow) =
+    let ends : EndsWithin (behaviour_of (equations_of a)) order (turn_bound (bound_of a.layout a.thresholds) a.narrow a.delay) =
     linear_order_ends (equations_of a) (KnowsState a.layout) (analysis_keeps g o p a made few system.analysis) p order (λ s. rank_in a.layout a.thresholds s.facts) (bound_of a.layout a.thresholds) system.ordered.is_linear plan.components plan.points
     (λ c of. stated_ranks a.layout a.thresholds) in
     let most = bound_at g o.oct chain a.layout a.thresholds bound system.analysis.layout system.analysis.thresholds in
-    subst (λ (k : ℕ). EndsWithin (behaviour_of (equations_of a)) order (turn_bound chain k)) system.analysis.narrow
-    (subst (λ (k : ℕ). EndsWithin (behaviour_of (equations_of a)) order (turn_bound k a.narrow)) most ends)
+    subst (λ (k : ℕ). EndsWithin (behaviour_of (equations_of a)) order (turn_bound chain o.narrow k)) system.analysis.delay
+    (subst (λ (k : ℕ). EndsWithin (behaviour_of (equations_of a)) order (turn_bound chain k a.delay)) system.analysis.narrow
+    (subst (λ (k : ℕ). EndsWithin (behaviour_of (equations_of a)) order (turn_bound k a.narrow a.delay)) most ends))

@@ -14,7 +14,7 @@ use Rattle.pk_analysis_laws.proofs.Turns.Counting.{runs_are_few}
 pub limits_are_low : LimitsAreLow
 limits_are_low g o most chain made few bound over =
     let b = behaviour_of (equations_of over.flow) in
-    let turns : ℕ = turn_bound chain o.narrow in
+    let turns : ℕ = turn_bound chain o.narrow o.delay in
     let within = analyses_end g o over.plan over.order over.flow chain made few over.system bound in
     let once : Once over.order = order_once over.plan over.order over.system.ordered.axioms over.system.ordered.is_linear in
     let counted = (trace_is_one b).counts over.order within.ends (over.plan.elements * most + 1) over.over.0 in

@@ -39,4 +39,4 @@ pub record RunsAreFew {C : Type 0} (b : Behaviour C) : Type 0 where
 abbrev pub LimitsAreLow : Type 0
 LimitsAreLow =
     (g : GraphOf) (o : Options) (most chain : ℕ) → IsGraph g → o.oct < 2 ^ 31 → IsChainBound g o.oct chain →
-    (over : IsOver g o most) → most < turn_bound chain o.narrow ^ depth_of over.order
+    (over : IsOver g o most) → most < turn_bound chain o.narrow o.delay ^ depth_of over.order

@@ -51,9 +51,9 @@ abbrev pub AnalysesEnd : Type 0
 AnalysesEnd =
     (g : GraphOf) (o : Options) (p : PlanView) (order : Level) (a : Flow) (chain : ℕ) → IsGraph g → o.oct < 2 ^ 31 →
     IsSystem g o p order a → IsChainBound g o.oct chain
-    → EndsWithin (behaviour_of (equations_of a)) order (turn_bound chain o.narrow)
+    → EndsWithin (behaviour_of (equations_of a)) order (turn_bound chain o.narrow o.delay)
 
--- two scalars, seven thresholds and one variable in the octagon, with two runs that narrow
+-- two scalars, seven thresholds and one variable in the octagon, with two runs that narrow and none that joins first
 pub record SmallBounds : Type 0 where
   pub chain : chain_bound_of 2 7 1 ≡ 169
-  pub turns : turn_bound 169 2 ≡ 342
+  pub turns : turn_bound 169 2 0 ≡ 342

@@ -1,11 +1,13 @@
 -- What a token's kind tells the parser.
-use Rattle.std.specs.Prelude.{ℕ, ◌==◌, Option, Some, None, Bool, true, false}
+use Rattle.std.specs.Prelude.{ℕ, ◌==◌, ◌&&◌, ◌||◌, not, if◌then◌else◌, List, [], ◌∷◌, Option, Some, None, Bool, true, false}
+use Rattle.pk_lex.specs.declared.token.Token.{Token}
 use Rattle.pk_lex.specs.declared.token.Kind.{Kind}
 use Rattle.pk_lex.specs.declared.token.Kind.TheVariants as kind
 use Rattle.pk_lex.specs.declared.token.Keyword.{Keyword}
 use Rattle.pk_lex.specs.declared.token.Keyword.TheVariants as key
 use Rattle.pk_lex.specs.declared.token.Punctuator.{Punctuator}
 use Rattle.pk_lex.specs.declared.token.Punctuator.TheVariants as mark
+use Rattle.pk_ast.specs.declared.declarations.Specifier.{Specifier}
 use Rattle.pk_ast.specs.declared.declarations.SpecifierWord.{SpecifierWord}
 use Rattle.pk_ast.specs.declared.declarations.SpecifierWord.TheVariants as word
 use Rattle.pk_ast.specs.declared.units.StorageWord.{StorageWord}
@@ -172,17 +174,71 @@ fixed_of kind.End = fixed.End
 abbrev pub is_fixed : Fixed → Kind → Bool
 is_fixed f k = fixed_number (fixed_of k) == fixed_number f
 
-abbrev pub specifier_word : Kind → Option SpecifierWord
-specifier_word kind.Name = None
-specifier_word kind.TypeName = None
-specifier_word (kind.Keyword k) = (keyword_signs k).specifier
-specifier_word (kind.Constant ty v) = None
-specifier_word (kind.Character v) = None
-specifier_word kind.StringLiteral = None
-specifier_word kind.Floating = None
-specifier_word kind.Directive = None
-specifier_word (kind.Punctuator p) = None
-specifier_word kind.End = None
+-- the word of a type that a token of this kind and span is
+abbrev pub specifier_in : Kind → ℕ → ℕ → Option SpecifierWord
+specifier_in kind.Name from to = None
+specifier_in kind.TypeName from to = Some (word.TypeName from to)
+specifier_in (kind.Keyword k) from to = (keyword_signs k).specifier
+specifier_in (kind.Constant ty v) from to = None
+specifier_in (kind.Character v) from to = None
+specifier_in kind.StringLiteral from to = None
+specifier_in kind.Floating from to = None
+specifier_in kind.Directive from to = None
+specifier_in (kind.Punctuator p) from to = None
+specifier_in kind.End from to = None
+
+abbrev pub specifier_word : Token → Option SpecifierWord
+specifier_word t = specifier_in t.kind t.start t.end
+
+-- a word may follow others, which are `const`s alone or not, and among which a type name is or not
+abbrev pub follows : (consts named : Bool) → SpecifierWord → Bool
+follows consts named word.Void = not named
+follows consts named word.Char = not named
+follows consts named word.Short = not named
+follows consts named word.Int = not named
+follows consts named word.Long = not named
+follows consts named word.Signed = not named
+follows consts named word.Unsigned = not named
+follows consts named word.Const = true
+follows consts named (word.TypeName from to) = consts
+
+abbrev pub where_it_follows : (consts named : Bool) → Option SpecifierWord → Option SpecifierWord
+where_it_follows consts named None = None
+where_it_follows consts named (Some w) = if follows consts named w then Some w else None
+
+-- the word of a type that a token is, where it may follow such others
+abbrev pub following_word : (consts named : Bool) → Token → Option SpecifierWord
+following_word consts named t = where_it_follows consts named (specifier_word t)
+
+abbrev pub is_const_word : SpecifierWord → Bool
+is_const_word word.Void = false
+is_const_word word.Char = false
+is_const_word word.Short = false
+is_const_word word.Int = false
+is_const_word word.Long = false
+is_const_word word.Signed = false
+is_const_word word.Unsigned = false
+is_const_word word.Const = true
+is_const_word (word.TypeName from to) = false
+
+abbrev pub is_type_name : SpecifierWord → Bool
+is_type_name word.Void = false
+is_type_name word.Char = false
+is_type_name word.Short = false
+is_type_name word.Int = false
+is_type_name word.Long = false
+is_type_name word.Signed = false
+is_type_name word.Unsigned = false
+is_type_name word.Const = false
+is_type_name (word.TypeName from to) = true
+
+abbrev pub all_const : List Specifier → Bool
+all_const [] = true
+all_const (s ∷ more) = is_const_word s.word && all_const more
+
+abbrev pub has_type_name : List Specifier → Bool
+has_type_name [] = false
+has_type_name (s ∷ more) = is_type_name s.word || has_type_name more
 
 abbrev pub is_void_word : SpecifierWord → Bool
 is_void_word word.Void = true
@@ -193,6 +249,7 @@ is_void_word word.Long = false
 is_void_word word.Signed = false
 is_void_word word.Unsigned = false
 is_void_word word.Const = false
+is_void_word (word.TypeName from to) = false
 
 abbrev pub storage_word : Kind → Option StorageWord
 storage_word kind.Name = None

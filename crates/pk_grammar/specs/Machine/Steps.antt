@@ -23,7 +23,7 @@ use Rattle.pk_grammar.specs.declared.signs.StatementStart.{StatementStart}
 use Rattle.pk_grammar.specs.declared.signs.StatementStart.TheVariants as first
 use Rattle.pk_grammar.specs.Languages.{identifier_of}
 use Rattle.pk_grammar.specs.Grammar.{any_expression, assignment_expression, conditional_expression, strength, weakest_operator, cast_expression, unary_expression, operators_in, postfixes_in, commas_in}
-use Rattle.pk_grammar.specs.Machine.Signs.{is_fixed, operand_start, operator_of, specifier_word, storage_word, statement_start, is_void_word}
+use Rattle.pk_grammar.specs.Machine.Signs.{is_fixed, operand_start, operator_of, specifier_word, follows, following_word, all_const, has_type_name, storage_word, statement_start, is_void_word}
 use Rattle.pk_grammar.specs.Machine.States.{Head, OpenBlock, function_block, inner_block, Outer, in_block, in_label, in_case, in_default, in_if, in_else, in_switch, in_while, in_do, in_for, Site, in_a_block, in_a_for, outside, Declaring, Declared, Naming, Purpose, as_statement, as_label, as_test, as_last_test, as_first, as_second, as_third, as_result, as_length, as_value, as_item, Context, as_whole, in_parentheses, in_index, in_call, in_prefix, in_unary, in_cast, in_binary, in_choice, in_alternative, in_assignment, in_comma, State, top, after_storage, after_specifiers, after_name, after_length, after_assign, after_brace, after_item, after_initializer, after_comma, parameters_open, parameter_specifiers, parameter_name, parameter_comma, parameters_closed, block_item, at_statement, after_statement, test_open, do_open, for_open, for_first, for_second, for_third, default_colon, goto_name, returning, statement_end, operand, named, arguments, opened, cast_specifiers, complete}
 
 -- what becomes of a state at a token: it is taken, nested so deep; or refused; or it is the end of a text
@@ -79,6 +79,14 @@ with_declaration (inner_block n at items o) d = inner_block n at (one_more_decla
 
 abbrev pub specifier_at : Token → SpecifierWord → Specifier
 specifier_at t w = record { word = w; at = t.at }
+
+-- the word may follow those read so far
+abbrev pub may_follow : OneOrMore Specifier → SpecifierWord → Bool
+may_follow done w = follows (all_const (done.first ∷ done.more)) (has_type_name (done.first ∷ done.more)) w
+
+-- the word of a type that the token is, where it may follow them
+abbrev pub next_word : OneOrMore Specifier → Token → Option SpecifierWord
+next_word done t = following_word (all_const (done.first ∷ done.more)) (has_type_name (done.first ∷ done.more)) t
 
 abbrev pub storage_at : Token → StorageWord → Storage
 storage_at t w = record { word = w; at = t.at }
@@ -349,7 +357,7 @@ open_cast n at c t (Some w) =
 open_cast n at c t None = at_operand (n + 1) (in_parentheses n at c) t
 
 abbrev pub at_opened : ℕ → Pos → Context → Token → Verdict
-at_opened n at c t = open_cast n at c t (specifier_word t.kind)
+at_opened n at c t = open_cast n at c t (specifier_word t)
 
 abbrev pub more_cast : ℕ → Pos → OneOrMore Specifier → Context → Token → Option SpecifierWord → Verdict
 more_cast n at specs c t (Some w) = taken (n + 1) (cast_specifiers n at (with_last specs (specifier_at t w)) c)
@@ -395,7 +403,7 @@ declaration_or_statement b t None =
     if is_fixed fixed.CloseBrace t.kind then end_block b t else begins_statement (block_nesting b) (in_block b) t
 
 abbrev pub at_items : OpenBlock → Token → Verdict
-at_items b t = declaration_or_statement b t (specifier_word t.kind)
+at_items b t = declaration_or_statement b t (specifier_word t)
 
 -- a statement was read, and what it is part of goes on
 unfoldable pub resume : StatementTree → Outer → Token → Verdict
@@ -470,7 +478,7 @@ begin_external before s t None = refused
 abbrev pub storage_or_specifier : List ExternalTree → Token → Option StorageWord → Verdict
 storage_or_specifier before t (Some w) = taken 0 (after_storage before (storage_at t w))
 storage_or_specifier before t None =
-    if is_fixed fixed.End t.kind then finished before else begin_external before None t (specifier_word t.kind)
+    if is_fixed fixed.End t.kind then finished before else begin_external before None t (specifier_word t)
 
 abbrev pub begin_parameter : Head → List ParameterTree → Token → Option SpecifierWord → Verdict
 begin_parameter h ps t (Some w) = taken 1 (parameter_specifiers h ps (one (specifier_at t w)))
@@ -519,8 +527,8 @@ at_parameters_closed h ps t =
 -- what becomes of a state at a token
 abbrev pub step : State → Token → Verdict
 step (top before) t = storage_or_specifier before t (storage_word t.kind)
-step (after_storage before s) t = begin_external before (Some s) t (specifier_word t.kind)
-step (after_specifiers s specs) t = more_specifiers s specs t (specifier_word t.kind)
+step (after_storage before s) t = begin_external before (Some s) t (specifier_word t)
+step (after_specifiers s specs) t = more_specifiers s specs t (next_word specs t)
 step (after_name d id) t = at_after_name d id t
 step (after_length d) t = at_after_length d t
 step (after_assign d) t = at_after_assign d t
@@ -530,10 +538,10 @@ step (after_initializer d) t = after_declarator d t
 step (after_comma d) t = wanted fixed.Name t (taken (site_nesting d.site) (after_name d (identifier_of t)))
 step (parameters_open h) t =
     if is_fixed fixed.CloseParenthesis t.kind then taken 0 (parameters_closed h [])
-    else begin_parameter h [] t (specifier_word t.kind)
-step (parameter_specifiers h ps specs) t = more_parameter h ps specs t (specifier_word t.kind)
+    else begin_parameter h [] t (specifier_word t)
+step (parameter_specifiers h ps specs) t = more_parameter h ps specs t (next_word specs t)
 step (parameter_name h ps p) t = at_parameter_name h ps p t
-step (parameter_comma h ps) t = begin_parameter h ps t (specifier_word t.kind)
+step (parameter_comma h ps) t = begin_parameter h ps t (specifier_word t)
 step (parameters_closed h ps) t = at_parameters_closed h ps t
 step (block_item b) t = at_items b t
 step (at_statement n o) t = begins_statement n o t
@@ -543,7 +551,7 @@ step (test_open k n at o) t =
 step (do_open n at s o) t =
     wanted fixed.OpenParenthesis t (taken (n + 2) (operand (n + 2) (as_whole (as_last_test n at s o))))
 step (for_open n at o) t = wanted fixed.OpenParenthesis t (taken (n + 2) (for_first n at o))
-step (for_first n at o) t = begin_for n at o t (specifier_word t.kind)
+step (for_first n at o) t = begin_for n at o t (specifier_word t)
 step (for_second n at f o) t =
     if is_fixed fixed.Semicolon t.kind then taken (n + 2) (for_third n at f None o)
     else at_operand (n + 2) (as_whole (as_second n at f o)) t
@@ -560,7 +568,7 @@ step (operand n c) t = at_operand n c t
 step (named n id c) t = at_named n id c t
 step (arguments n id c) t = at_arguments n id c t
 step (opened n at c) t = at_opened n at c t
-step (cast_specifiers n at specs c) t = more_cast n at specs c t (specifier_word t.kind)
+step (cast_specifiers n at specs c) t = more_cast n at specs c t (next_word specs t)
 step (complete n e c) t = at_complete n e c t
 
 -- How reading ends: with the trees, or at a token that is refused. The nestings are those of the tokens before.

@@ -15,13 +15,13 @@ use Rattle.pk_graph.specs.Graphs.{VariableOf}
 use Rattle.pk_graph.specs.Kinds.{Kind, count_of, scalar_kind, array_kind}
 use Rattle.pk_lower_laws.proofs.Drafts.Tables.{IsOfType}
 use Rattle.pk_graph.specs.Trees.{constant, variable, Havoc, Clear, Store}
-use Rattle.pk_draft.specs.Drafts.{inner, on, with_object, emit}
+use Rattle.pk_draft.specs.Drafts.{inner, on, with_name, with_object, emit}
 use Rattle.pk_draft.specs.Folding.{conversion}
 use Rattle.pk_lower_row.specs.Contexts.{site, own, array_of, local_at}
 use Rattle.pk_lower_row.specs.Rows.{operand}
 use Rattle.pk_lower_expression.specs.Expressions.{ways}
 use Rattle.pk_lower_statement.specs.Statements as form
-use Rattle.pk_welltyped.specs.Listed.{calls_in, calls_in_values, calls_in_declared, calls_in_all_declared}
+use Rattle.pk_welltyped.specs.Listed.{calls_in, calls_in_values, calls_in_declared, calls_in_all_declared, objects_in_declared, objects_in_all_declared}
 use Rattle.pk_welltyped.specs.WellTyped as good
 use Rattle.pk_welltyped.specs.WellTyped.{IsValue, AreValues, kind_among, IsDeclared, AreDeclared}
 use Rattle.pk_lower_laws.proofs.Drafts.Places.{D, Place, Has, IsObjectOf, Stage, Typed, Proper, Step}
@@ -30,7 +30,7 @@ use Rattle.pk_lower_laws.proofs.Drafts.Trees.{constant_is, conversion_is}
 use Rattle.pk_lower_laws.proofs.Drafts.Rows.{Works, HasArray, array_is, type_is, store_is, inner_start, idle, seen, then_emit, knowing}
 use Rattle.pk_lower_laws.proofs.Drafts.Targets.{set_step}
 use Rattle.pk_lower_laws.proofs.Drafts.Expressions.{CallsAre, split, around, object_is, array_there, local_length, values}
-use Rattle.pk_lower_laws.proofs.Drafts.Chains.{chain, given, on_step, named_step}
+use Rattle.pk_lower_laws.proofs.Drafts.Chains.{chain, use_it, given, on_step, named_step}
 use Rattle.pk_typed.specs.Defaults.{no_local}
 
 -- behind n more objects
@@ -126,7 +126,7 @@ array_works w g m n s i t k l is few (Some es) room h c d =
 
 -- ---- declared objects
 
-pub declared_works : (w : Place) → Proper w → (m n : ℕ) (s : Stage) (x : DeclaredTree) → IsDeclared (around w s) x → CallsAre w m (calls_in_declared x) n → (d : D w) → Step w m n s (more 1 s) d (form.declared w.context x d) (Unit {0}) (Unit {0})
+pub declared_works : (w : Place) → Proper w → (m n : ℕ) (s : Stage) (x : DeclaredTree) → IsDeclared (around w s) x → CallsAre w m (calls_in_declared x) n → (d : D w) → Step w m n s (more (objects_in_declared x) s) d (form.declared w.context x d) (Unit {0}) (Unit {0})
 declared_works w g m n s (tree.scalar_object i p e) h c d =
     let k = scalar_kind h.1.0 in
     let o = on p d in
@@ -141,15 +141,22 @@ declared_works w g m n s (tree.array_object i p es) h c d =
     subst (λ (j : ℕ). Step w m n s (more 1 s) d (form.array_first w.context j es (form.introduced w.context j o)) (Unit {0}) (Unit {0})) (sym h.0)
     (chain (chain (on_step w m s p d) (introduced_step w g m s k is r.5 o))
     (array_works w g m n (more 1 s) s.objects r.0 r.1 (omega arith) is r.4 es r.3 h.2 c (form.introduced w.context s.objects o)))
+declared_works w g m n s (tree.static_object i p) h c d =
+    let o = on p d in
+    let same : s.objects ≡ s.objects + 0 = omega arith in
+    let named : Step w m m s s o (with_name i o) (Unit {0}) (Unit {0}) = use_it (Unit {0}) (λ z. g.shared i h) (named_step w m s (Some []) i o) in
+    subst (λ (q : ℕ). Step w m q s (more 0 s) d (with_name i o) (Unit {0}) (Unit {0})) c
+    (subst (λ (q : ℕ). Step w m m s (with_objects q s) d (with_name i o) (Unit {0}) (Unit {0})) same (chain (on_step w m s p d) named))
 
 pub all_declared_work : (w : Place) → Proper w → (m n : ℕ) (s : Stage) (xs : List DeclaredTree) → AreDeclared (around w s) xs → CallsAre w m (calls_in_all_declared xs) n → (d : D w)
-    → Step w m n s (more (length xs) s) d (form.all_declared w.context xs d) (Unit {0}) (Unit {0})
+    → Step w m n s (more (objects_in_all_declared xs) s) d (form.all_declared w.context xs d) (Unit {0}) (Unit {0})
 unfolding form.all_declared
 all_declared_work w g m n s [] h c d =
     let same : s.objects ≡ s.objects + 0 = omega arith in
     subst (λ (q : ℕ). Step w m q s (more 0 s) d d (Unit {0}) (Unit {0})) c (subst (λ (q : ℕ). Step w m m s (with_objects q s) d d (Unit {0}) (Unit {0})) same (idle w m s d (Unit {0})))
 all_declared_work w g m n s (x ∷ xs) h c d =
     let p = split w m n (calls_in_declared x) (calls_in_all_declared xs) c in
-    let same : s.objects + 1 + length xs ≡ s.objects + length (x ∷ xs) = omega arith in
+    let one = objects_in_declared x in
+    let same : s.objects + one + objects_in_all_declared xs ≡ s.objects + (one + objects_in_all_declared xs) = omega arith in
     subst (λ (q : ℕ). Step w m n s (with_objects q s) d (form.all_declared w.context xs (form.declared w.context x d)) (Unit {0}) (Unit {0})) same
-    (chain (declared_works w g m p.middle s x h.0 p.first d) (all_declared_work w g p.middle n (more 1 s) xs h.1 p.second (form.declared w.context x d)))
+    (chain (declared_works w g m p.middle s x h.0 p.first d) (all_declared_work w g p.middle n (more one s) xs h.1 p.second (form.declared w.context x d)))

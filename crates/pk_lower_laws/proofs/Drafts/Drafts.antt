@@ -141,6 +141,7 @@ lasting u paths ms b k low = record {
   results = λ k n l q p t m r o. record { there = o.there; kind = kind_is ms _ ∙ ap (λ (v : VariableOf). v.kind) o.is };
   named = λ k i l m. tt;
   begun = λ k i l m. tt;
+  shared = λ i l. (omega (l, k, length-map ms (λ (x : VariableOf). x.kind), arith), tt);
   outside = λ k i p h e l. tt;
 }
 

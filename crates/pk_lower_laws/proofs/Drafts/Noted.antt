@@ -82,6 +82,7 @@ effect_if P (Some a) h = effect P a h
 declared : (P : OfCalls) (d : DeclaredTree) → Each P (calls_in_declared d) → AtDeclared P d
 declared P (tree.scalar_object i o e) h = value_if P e h
 declared P (tree.array_object i o es) h = values_if P es h
+declared P (tree.static_object i o) h = tt
 
 all_declared : (P : OfCalls) (ds : List DeclaredTree) → Each P (calls_in_all_declared ds) → AtAllDeclared P ds
 all_declared P [] h = tt

@@ -240,6 +240,7 @@ pub record Proper (w : Place) : Type 0 where
   pub results : (t : IntType) → w.context.returns ≡ Some t → IsOwn w w.ends.result (inner None t None w.context.path) → Has w.table (w.table.names.result w.context.path w.ends.result) t None
   pub named : (i : ℕ) → i < w.ends.objects → w.CanBeNamed (w.ends.numbers i)
   pub begun : (i : ℕ) → i < w.ends.objects → w.CanBegin (w.ends.numbers i)
+  pub shared : (i : ℕ) → i < length w.context.unit.objects → (i < length w.kinds) × w.CanBeNamed i
 
 -- ---- steps
 

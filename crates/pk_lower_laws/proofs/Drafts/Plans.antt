@@ -96,6 +96,7 @@ pub record Lasting (W : World) : Type 0 where
       → Has W.table (W.table.names.result k (W.ends k).result) t None
   pub named : (k i : ℕ) → k < length W.paths → i < (W.ends k).objects → W.CanBeNamed ((W.ends k).numbers i)
   pub begun : (k i : ℕ) → k < length W.paths → i < (W.ends k).objects → W.CanBegin ((W.ends k).numbers i)
+  pub shared : (i : ℕ) → i < length W.unit.objects → (i < length W.kinds) × W.CanBeNamed i
   pub outside : (k i : ℕ) (p : CallPath) → slice_get W.paths k ≡ Some p → p.caller ≡ None → i < length (parameters_of W.unit p.function) → W.FromOutside k i
 
 -- before the part of path k is made, where the paths before n have their regions
@@ -185,6 +186,7 @@ part_is W l k n p r h made =
         results = λ t e o. l.results k n (limit_of W k r) (last_of W k r) p t h.path e o;
         named = λ i m. l.named k i there m;
         begun = λ i m. l.begun k i there m;
+        shared = l.shared;
       };
       locals = locals;
       returns = ap (λ (g : FunctionTree). g.returns) (sym (its_function W.unit f h.function h.there));

@@ -23,7 +23,7 @@ use Rattle.pk_lower_expression.specs.Expressions.{ways}
 use Rattle.pk_lower_statement.specs.Statements as form
 use Rattle.pk_lower_statement.specs.Statements.{lowered, lowered_items}
 use Rattle.pk_lower_statement.specs.declared.statements.Exits.{Exits}
-use Rattle.pk_welltyped.specs.Listed.{calls_in, calls_if, calls_in_effect_if, calls_in_declared, calls_at_start, calls_in_statement, calls_in_items, objects_at_start, objects_in, objects_in_items}
+use Rattle.pk_welltyped.specs.Listed.{calls_in, calls_if, calls_in_effect_if, calls_in_declared, calls_at_start, calls_in_statement, calls_in_items, objects_in_declared, objects_at_start, objects_in, objects_in_items}
 use Rattle.pk_welltyped.specs.WellTyped as good
 use Rattle.pk_welltyped.specs.WellTyped.{Marks, IsReturned, IsValueIf, IsEffectIf, IsForStart, IsStatement, AreItems}
 use Rattle.pk_lower_laws.proofs.Drafts.Places.{D, Place, Has, HasIf, Stage, Typed, Proper, Step, step_for, step_beside, step_back, quiet, same_scopes}
@@ -350,9 +350,10 @@ mutual
   items w g m n s marks r q tree.no_items h c = to_end w m n s marks (lowered_items w.context tree.no_items) c (λ x d. given (Unit {0}) (λ z. tt) (idle w m s d (ExitsAre w marks x)))
   items w g m n s marks r q (tree.declared_before v is) h c =
       let k = split w m n (calls_in_declared v) (calls_in_items is) c in
-      let same : s.objects + 1 + objects_in_items is ≡ s.objects + (1 + objects_in_items is) = omega arith in
-      to_objects w m n s marks (lowered_items w.context (tree.declared_before v is)) (s.objects + 1 + objects_in_items is) (s.objects + (1 + objects_in_items is)) same
-      (λ x d. chain (run (ExitsAre w marks x) (declared_works w g m k.middle s v h.0 k.first d)) (items w g k.middle n (more 1 s) marks r q is h.1 k.second x (form.declared w.context v d)))
+      let one = objects_in_declared v in
+      let same : s.objects + one + objects_in_items is ≡ s.objects + (one + objects_in_items is) = omega arith in
+      to_objects w m n s marks (lowered_items w.context (tree.declared_before v is)) (s.objects + one + objects_in_items is) (s.objects + (one + objects_in_items is)) same
+      (λ x d. chain (run (ExitsAre w marks x) (declared_works w g m k.middle s v h.0 k.first d)) (items w g k.middle n (more one s) marks r q is h.1 k.second x (form.declared w.context v d)))
   items w g m n s marks r q (tree.statement_before t is) h c =
       let k = split w m n (calls_in_statement t) (calls_in_items is) c in
       let u = more (objects_in t) s in

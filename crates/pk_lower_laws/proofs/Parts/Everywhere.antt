@@ -55,6 +55,7 @@ values_if P Q m (Some a) h = at_values P Q m a h
 at_declared : (P Q : OfCalls) → ((f n : ℕ) → P f n → Q f n) → (x : DeclaredTree) → AtDeclared P x → AtDeclared Q x
 at_declared P Q m (tree.scalar_object i o a) h = value_if P Q m a h
 at_declared P Q m (tree.array_object i o es) h = values_if P Q m es h
+at_declared P Q m (tree.static_object i o) h = tt
 
 all_declared : (P Q : OfCalls) → ((f n : ℕ) → P f n → Q f n) → (xs : List DeclaredTree) → AtAllDeclared P xs → AtAllDeclared Q xs
 all_declared P Q m [] h = tt

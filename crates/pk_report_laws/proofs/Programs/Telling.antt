@@ -7,8 +7,8 @@ use Rattle.pk_graph.specs.Accesses.{AccessOf, of_instr}
 use Rattle.pk_graph.specs.Graphs.{EdgeOf, GraphOf, no_point, point_at, kinds_of}
 use Rattle.pk_graph.specs.declared.trees.Site.{Site}
 use Rattle.pk_graph.specs.Trees.{InstrOf, Skip, Set, Havoc, Clear, Load, Store, Guard, Check}
-use Rattle.pk_graph.specs.Steps.{Failure, is_index}
-use Rattle.pk_graph.specs.Stores.{Stored}
+use Rattle.pk_graph.specs.Steps.{Numbers, Failure, To, effect, is_index}
+use Rattle.pk_graph.specs.Stores.{Stored, storing}
 use Rattle.pk_graph.specs.WellMade.{IsGraph, IsPointOf, IsEdgeOf}
 use Rattle.pk_state.specs.Facts.{Stated}
 use Rattle.pk_sound.specs.Runs.{Reaches, begins, steps as step_of}
@@ -72,26 +72,30 @@ module _ (g : GraphOf) (states : List Stated) (made : IsGraph g) (t : AreTrueOf 
       (told_if e u vs next more.0, more.1)
 
   -- one edge more
-  along_if : (p : ℕ) (e : EdgeOf) (s : Stored) (vs : List Visit) → Contains (point_at g p).edges e → Reaches g e.to s → AreToldAlong g states e.to vs → AreToldAlong g states p (visits_if g e s vs)
-  along_if p e s vs has h more = by (is_visit g e) refl
+  along_if : (p q : ℕ) (e : EdgeOf) (s u r : Stored) (vs : List Visit) (chosen : Numbers) → Contains (point_at g p).edges e → effect storing chosen e.instr s ≡ To u → Reaches g e.to u → AreToldAlong g states e.to u vs q r → AreToldAlong g states p s (visits_if g e u vs) q r
+  along_if p q e s u r vs chosen has goes h more = by (is_visit g e) refl
     where
-      by : (b : Bool) → is_visit g e ≡ b → AreToldAlong g states p (if b then visit_at g e.to s ∷ vs else vs)
-      by true is = seen has is (told_of e.to s h) more
-      by false is = passed has is more
+      by : (b : Bool) → is_visit g e ≡ b → AreToldAlong g states p s (if b then visit_at g e.to u ∷ vs else vs) q r
+      by true is = seen chosen has goes is (told_of e.to u h) more
+      by false is = passed chosen has goes is more
 
-  along : (p : ℕ) (s : Stored) (vs : List Visit) (q : ℕ) (r : Stored) → GraphRuns g p s vs q r → Reaches g p s → AreToldAlong g states p vs
+  along : (p : ℕ) (s : Stored) (vs : List Visit) (q : ℕ) (r : Stored) → GraphRuns g p s vs q r → Reaches g p s → AreToldAlong g states p s vs q r
   along p s vs q r ends h = no_more
   along p s ws q r (steps {t = u} {e = e} {vs = vs} chosen has goes rest) h =
       let next = step_of chosen h has goes in
-      along_if p e u vs has next (along e.to u vs q r rest next)
+      along_if p q e s u r vs chosen has goes next (along e.to u vs q r rest next)
 
-  walked : (visits : List Visit) (end : Option Failure) → GraphVisits g visits end → AreToldInOrder g states visits
+  walked : (visits : List Visit) (end : Option Failure) → GraphVisits g visits end → AreToldInOrder g states visits end
   walked visits end x = record {
-    first = visit_at g 0 x.first;
+    first = x.first;
+    point = x.point;
+    last = x.last;
     others = x.others;
+    starts = x.begins;
     visits_are = x.visits_are;
     begins = told_of 0 x.first (begins x.begins);
     goes_on = along 0 x.first x.others x.point x.last x.runs (begins x.begins);
+    at_end = x.ends;
   }
 
   failing : (p : ℕ) (s : Stored) (f : Failure) → Reaches g p s → FailsAt g p s f → IsToldFault g states f

@@ -5,7 +5,8 @@ use Rattle.pk_graph.specs.declared.verdicts.Verdict.TheVariants.{Unknown}
 use Rattle.pk_graph.specs.Accesses.{AccessOf, accesses_of, fault_of}
 use Rattle.pk_graph.specs.Graphs.{EdgeOf, GraphOf, point_at, kinds_of}
 use Rattle.pk_graph.specs.Kinds.{count_at}
-use Rattle.pk_graph.specs.Steps.{Failure}
+use Rattle.pk_graph.specs.Steps.{Numbers, Failure, To, effect}
+use Rattle.pk_graph.specs.Stores.{Stored, storing}
 use Rattle.pk_value.specs.Known.{IsOf}
 use Rattle.pk_octmat.specs.Bounds.{AtMost}
 use Rattle.pk_octmat.specs.Octagon.{entry}
@@ -20,8 +21,8 @@ use Rattle.pk_solver.specs.Solved.{AreStates}
 use Rattle.pk_sound.specs.Bounds.{IsDecidedWithin}
 use Rattle.pk_meaning.specs.Programs.{Program}
 use Rattle.pk_meaning.specs.Runs.{Known, Visit}
-use Rattle.pk_visits.specs.GraphVisits.{is_visit}
-use Rattle.pk_visits.specs.SameVisits.{ProgramVisits, HaveSameVisits}
+use Rattle.pk_visits.specs.GraphVisits.{Begins, is_visit, visit_at}
+use Rattle.pk_visits.specs.SameVisits.{ProgramVisits, EndsAt, HaveSameVisits}
 use Rattle.pk_visits.specs.NeverStuck.{IsNeverStuck}
 use Rattle.pk_report_laws.specs.Runs.True.{AreTrueOf}
 use Rattle.pk_text_graph.specs.Graphs.{HasGraph}
@@ -70,21 +71,30 @@ pub record IsToldVisit (g : GraphOf) (states : List Stated) (v : Visit) : Type 0
   pub there : point < length g.points
   pub told : IsToldOf g states point v
 
--- Visits along edges from a point: the end of each edge is one, told there, unless the edge writes a variable that isn't in scope at its end.
-pub data AreToldAlong (g : GraphOf) (states : List Stated) : ℕ → List Visit → Type 0 where
-  ends : {p : ℕ} → AreToldAlong g states p []
-  seen : {p : ℕ} {e : EdgeOf} {v : Visit} {vs : List Visit} → Contains (point_at g p).edges e → is_visit g e ≡ true →
-      IsToldOf g states e.to v → AreToldAlong g states e.to vs → AreToldAlong g states p (v ∷ vs)
-  passed : {p : ℕ} {e : EdgeOf} {vs : List Visit} → Contains (point_at g p).edges e → is_visit g e ≡ false →
-      AreToldAlong g states e.to vs → AreToldAlong g states p vs
+-- A run of the graph from a point with a store to another, with its visits behind the first: each step goes over an edge of its point and gives the next store, with numbers where some are chosen. It is a visit of the edge's end with that store, told there, unless the edge writes a variable that isn't in scope at its end.
+pub data AreToldAlong (g : GraphOf) (states : List Stated) : ℕ → Stored → List Visit → ℕ → Stored →
+    Type 0 where
+  ends : {p : ℕ} {s : Stored} → AreToldAlong g states p s [] p s
+  seen : {p q : ℕ} {s t r : Stored} {e : EdgeOf} {vs : List Visit} (chosen : Numbers) →
+      Contains (point_at g p).edges e → effect storing chosen e.instr s ≡ To t → is_visit g e ≡ true →
+      IsToldOf g states e.to (visit_at g e.to t) → AreToldAlong g states e.to t vs q r →
+      AreToldAlong g states p s (visit_at g e.to t ∷ vs) q r
+  passed : {p q : ℕ} {s t r : Stored} {e : EdgeOf} {vs : List Visit} (chosen : Numbers) →
+      Contains (point_at g p).edges e → effect storing chosen e.instr s ≡ To t → is_visit g e ≡ false →
+      AreToldAlong g states e.to t vs q r → AreToldAlong g states p s vs q r
 
--- The visits are those of a walk of the graph from point 0, each told of the point at which the walk is.
-pub record AreToldInOrder (g : GraphOf) (states : List Stated) (visits : List Visit) : Type 0 where
-  pub first : Visit
+-- The visits are those of a run of the graph from point 0, with one of its first stores, each told of the point at which the run is then. A failure is one of an edge where the run ends.
+pub record AreToldInOrder (g : GraphOf) (states : List Stated) (visits : List Visit)
+    (end : Option Failure) : Type 0 where
+  pub first : Stored
+  pub point : ℕ
+  pub last : Stored
   pub others : List Visit
-  pub visits_are : visits ≡ first ∷ others
-  pub begins : IsToldOf g states 0 first
-  pub goes_on : AreToldAlong g states 0 others
+  pub starts : Begins g first
+  pub visits_are : visits ≡ visit_at g 0 first ∷ others
+  pub begins : IsToldOf g states 0 (visit_at g 0 first)
+  pub goes_on : AreToldAlong g states 0 first others point last
+  pub at_end : EndsAt g point last end
 
 -- ---- faults
 
@@ -106,12 +116,13 @@ IsToldEnd g states (Some f) = IsToldFault g states f
 -- ---- runs
 
 -- The program and its graph have the same visits, no run of the program is stuck, and no run of the graph leaves what is told of the points that it comes to.
--- So each visit of each run is told, and the fault at its end if there is one. Several points can have one place: the walk along the graph's edges tells which of them a visit is at.
+-- So each visit of each run is told, and the fault at its end if there is one. Several points can have one place: the run of the graph tells which of them a visit is at.
 pub record IsTrueOfProgram (p : Program) (g : GraphOf) (states : List Stated) : Type 0 where
   pub runs : HaveSameVisits p g
   pub goes_on : IsNeverStuck p
   pub points : AreTrueOf g states
-  pub walks : (visits : List Visit) (end : Option Failure) → ProgramVisits p visits end → AreToldInOrder g states visits
+  pub walks : (visits : List Visit) (end : Option Failure) → ProgramVisits p visits end →
+      AreToldInOrder g states visits end
   pub visits : (visits : List Visit) (end : Option Failure) → ProgramVisits p visits end →
       All (IsToldVisit g states) visits
   pub faults : (visits : List Visit) (end : Option Failure) → ProgramVisits p visits end → IsToldEnd g states end

@@ -1,12 +1,19 @@
 -- Reading a text token by token, each name stands in it.
-use Rattle.std.proofs.Common.{◌≡◌, ℕ, ◌+◌, ◌-◌, inl, inr, List, [], ◌∷◌, ◌++◌, Some, length, refl, ap, sym, subst, ◌∙◌, arith, length-append, append_assoc}
+use Rattle.std.proofs.Common.{◌≡◌, ℕ, ◌+◌, ◌-◌, inl, inr, List, [], ◌∷◌, ◌++◌, ℤ, Bool, true, false, if◌then◌else◌, Option, Some, None, length, refl, ap, sym, subst, ◌∙◌, arith, length-append, append_assoc}
 use Rattle.std.proofs.Math.Seq.{drop-append_seam, take-append_seam}
+use Rattle.std.specs.Option.{option_map}
 use Rattle.std.specs.Prelude.{take, drop, slice_range}
 use Rattle.pk_ctypes.specs.Places.{start_of_text, after_bytes}
 use Rattle.pk_lex.specs.declared.token.Kind.{Kind}
 use Rattle.pk_lex.specs.declared.token.Kind.TheVariants as kind
 use Rattle.pk_lex.specs.declared.token.Token.{Token}
-use Rattle.pk_lex.specs.Kinds.{kind_of}
+use Rattle.pk_lex.specs.declared.token.Keyword.{Keyword}
+use Rattle.pk_lex.specs.declared.token.Punctuator.{Punctuator}
+use Rattle.pk_lex.specs.Tables.{keyword_of, punctuator_of}
+use Rattle.pk_lex.specs.Numbers.{is_number, constant_of, is_floating}
+use Rattle.pk_lex.specs.Characters.{is_character, character_of, is_string}
+use Rattle.pk_lex.specs.Words.{is_name}
+use Rattle.pk_lex.specs.Kinds.{keyword_or_name, number_kind, kind_of}
 use Rattle.pk_lex.specs.Tokens.{IsToken, longest, Reads, nothing, past_white, past_token, token_of, IsLexed}
 use Rattle.pk_typenames.specs.TypeNames.{IsMarked, AreMarked}
 use Rattle.pk_ast.specs.declared.expressions.Identifier.{Identifier}
@@ -33,10 +40,44 @@ stands front word after k is = record {
   place = ap (after_bytes start_of_text) (sym (before_of front word after));
 }
 
+-- the lexer gives no type names
+abbrev NoTypeName : Option Kind → Type 0
+NoTypeName None = Unit {0}
+NoTypeName (Some kind.TypeName) = ⊥
+NoTypeName (Some k) = Unit {0}
+
+either : (b : Bool) (x y : Option Kind) → NoTypeName x → NoTypeName y → NoTypeName (if b then x else y)
+either true x y h k = h
+either false x y h k = k
+
+no_word : (o : Option Keyword) → NoTypeName (Some (keyword_or_name o))
+no_word None = tt
+no_word (Some k) = tt
+
+no_number : (word : List ℕ) → NoTypeName (number_kind word (constant_of word))
+no_number word = elim (constant_of word) as (λ o. NoTypeName (number_kind word o)) [
+  | None ↦ either (is_floating word) (Some kind.Floating) None tt tt
+  | Some c ↦ tt
+]
+
+no_character : (o : Option ℤ) → NoTypeName (option_map kind.Character o)
+no_character None = tt
+no_character (Some v) = tt
+
+no_punctuator : (o : Option Punctuator) → NoTypeName (option_map kind.Punctuator o)
+no_punctuator None = tt
+no_punctuator (Some p) = tt
+
+no_type_name : (word : List ℕ) → NoTypeName (kind_of word)
+unfolding kind_of
+no_type_name word =
+    either (is_name word) _ _ (no_word (keyword_of word)) (either (is_number word) _ _ (no_number word)
+    (either (is_character word) _ _ (no_character (character_of word)) (either (is_string word) _ _ tt (no_punctuator (punctuator_of word)))))
+
 -- a name at a token, and those behind it
 one : (front word after : List ℕ) (k : Kind) (xs : List Identifier) → IsToken front word after k → AllStandIn (front ++ word ++ after) xs → AllStandIn (front ++ word ++ after) (name_of k (identifier_of (token_of front word k)) ++ xs)
 one front word after kind.Name xs (longest _ _ _ is) h = (stands front word after kind.Name is, h)
-one front word after kind.TypeName xs t h = h
+one front word after kind.TypeName xs (longest _ _ _ is) h = absurd (subst NoTypeName is (no_type_name word))
 one front word after (kind.Keyword x) xs t h = h
 one front word after (kind.Constant x v) xs t h = h
 one front word after (kind.Character v) xs t h = h
@@ -64,19 +105,17 @@ lexed_stand text tokens (words, (e, r)) =
     let all : AllStandIn text (names_among (words ++ token_of text [] kind.End ∷ [])) = among text r refl (token_of text [] kind.End ∷ []) (none_at_end text) in
     subst (AllStandIn text) (sym (ap names_among e)) all
 
--- what stands behind a token's own name, if it is one
-behind : (text : List ℕ) (k : Kind) (x : Identifier) (xs : List Identifier) → AllStandIn text (name_of k x ++ xs) → AllStandIn text xs
-behind text kind.Name x xs h = h.1
-behind text k x xs h = h
-
--- a type name is no name
+-- a type name stands where its name stood
 one_marked : (text : List ℕ) (front : List Token) (t m : Token) (xs ys : List Identifier) → IsMarked text front t m → AllStandIn text (name_of t.kind (identifier_of t) ++ xs) → (AllStandIn text xs → AllStandIn text ys) →
     AllStandIn text (name_of m.kind (identifier_of m) ++ ys)
-one_marked text front t m xs ys (inl h) all on = subst (λ (u : Token). AllStandIn text (name_of u.kind (identifier_of u) ++ ys)) (sym h.1) (on (behind text t.kind (identifier_of t) xs all))
+one_marked text front t m xs ys (inl h) all on =
+    let was : AllStandIn text (identifier_of t ∷ xs) = subst (λ (k : Kind). AllStandIn text (name_of k (identifier_of t) ++ xs)) h.0.0 all in
+    subst (λ (u : Token). AllStandIn text (name_of u.kind (identifier_of u) ++ ys)) (sym h.1) (was.0, on was.1)
 one_marked text front t m xs ys (inr h) all on = subst (λ (u : Token). AllStandIn text (name_of u.kind (identifier_of u) ++ ys)) (sym h.1) (kept t.kind all)
   where
     kept : (k : Kind) → AllStandIn text (name_of k (identifier_of t) ++ xs) → AllStandIn text (name_of k (identifier_of t) ++ ys)
     kept kind.Name g = (g.0, on g.1)
+    kept kind.TypeName g = (g.0, on g.1)
     kept k g = on g
 
 marked_stand : (text : List ℕ) (front words tokens : List Token) → AreMarked text front words tokens → AllStandIn text (names_among words) → AllStandIn text (names_among tokens)

@@ -20,7 +20,7 @@ use Rattle.pk_typed.specs.Trees.{LocalTree, ValueTree, ValueTrees, value_before,
 use Rattle.pk_type_scope.specs.declared.declarations.Callee.{Callee}
 use Rattle.pk_type_scope.specs.declared.declarations.Callee.TheVariants.{Ordinary, Any, Assume, Assert, Abort}
 use Rattle.pk_type_scope.specs.declared.declarations.Declaration.{Declaration}
-use Rattle.pk_type_scope.specs.declared.declarations.Declaration.TheVariants.{Object, Function}
+use Rattle.pk_type_scope.specs.declared.declarations.Declaration.TheVariants.{Object, Function, Enumerator}
 use Rattle.pk_type_scope.specs.declared.declarations.Typing.{Typing}
 use Rattle.pk_type_scope.specs.declared.declarations.Typing.TheVariants.{Void, Integer, Unknown}
 use Rattle.pk_type_scope.specs.Declarations.{Names, HasTypes, is_void, is_unknown}
@@ -39,11 +39,11 @@ use Rattle.pk_type_declaration.specs.declared.words.Words.{Words}
 use Rattle.pk_type_declaration.specs.Constants.{given_by, evaluated, is_refused, is_refused_length, is_outside, is_length, number_of, magnitude, length_in, after_constant, after_length}
 use Rattle.pk_type_declaration.specs.Declarations.{integer_in, type_or_int, object_at, at_name, redeclared, void_object, special_object, braces, surplus, surplus_item, item_at, after_initializer, length_at, after_optional_length, length_or_1, local_of, after_object, after_head, after_declarator, after_declarators, after_declaration, words_of, scalar_tree, array_tree, declarator_tree_at, declarator_trees_at, declaration_trees_at}
 use Rattle.pk_type_declaration.specs.Walks.{here, failing, after_value, after_values, value_at, values_at}
-use Rattle.pk_welltyped.specs.Listed.{numbered, calls_in, calls_in_values, calls_in_declared, calls_in_all_declared}
+use Rattle.pk_welltyped.specs.Listed.{numbered, calls_in, calls_in_values, calls_in_declared, calls_in_all_declared, objects_in_declared, objects_in_all_declared}
 use Rattle.pk_welltyped.specs.WellTyped as good
 use Rattle.pk_welltyped.specs.WellTyped.{Around, IsObject, AreValues, kind_among, IsDeclared, AreDeclared, IsValueIf, AreValuesIf}
 use Rattle.pk_type_laws.specs.Accepted.Constants.{HasConstantsIf, InitializerHas, DeclaratorsHave, DeclarationHas}
-use Rattle.pk_type_laws.specs.Accepted.Names.{ObjectIs, CalleeIs, DeclarationIs, NamesAre}
+use Rattle.pk_type_laws.specs.Accepted.Names.{ObjectIs, EnumeratorIs, CalleeIs, DeclarationIs, NamesAre}
 use Rattle.pk_type_laws.proofs.Accepted.Forms.{no_calls, Gives, Numeric, numeric}
 use Rattle.pk_type_laws.proofs.Accepted.Walks.{W, around, none_found, Later, later_same, later, later_failing, later_value, later_values, Steps, steps_none, steps, steps_as, ValuePart, ValuesPart, value_part, values_part}
 use Rattle.pk_graph.specs.Kinds.{Kind, scalar_kind, array_kind}
@@ -63,10 +63,15 @@ known a f Assume h = refl
 known a f Assert h = refl
 known a f Abort h = refl
 
+has_value : (v : Option ℤ) → EnumeratorIs v → (n : ℤ) × (v ≡ Some n)
+has_value None h = absurd h
+has_value (Some n) h = (n, refl)
+
 has_types : (a : Around) (d : Option Declaration) → DeclarationIs a d → HasTypes d
 has_types a None h = tt
 has_types a (Some (Object o)) h = has_type a o.is_array o.int_type o.variable h
 has_types a (Some (Function f)) h = known a f.number f.callee h
+has_types a (Some (Enumerator v)) h = has_value v h
 
 -- what is declared before a place is so before a later one
 object_later : (u : UnitTree) (ls : List LocalTree) (m n : ℕ) (k : Kind) (x : Variable) → m ≤ n → IsObject (record { unit = u; locals = ls; objects = m }) k x → IsObject (record { unit = u; locals = ls; objects = n }) k x
@@ -91,6 +96,7 @@ declaration_later : (u : UnitTree) (ls : List LocalTree) (m n : ℕ) (d : Option
 declaration_later u ls m n None l h = tt
 declaration_later u ls m n (Some (Object o)) l h = objects_later u ls m n o.is_array o.int_type o.variable l h
 declaration_later u ls m n (Some (Function f)) l h = callees_later u ls m n f.number f.callee h
+declaration_later u ls m n (Some (Enumerator v)) l h = h
 
 pub names_later : (u : UnitTree) (ls : List LocalTree) (w v : W) (d : Names) → Later w v → NamesAre (around u ls w) d → NamesAre (around u ls v) d
 names_later u ls w v d l h x =
@@ -130,7 +136,7 @@ nth (y ∷ xs) x ys = nth xs x ys
 
 -- ---- constant expressions
 
-pub no_site : (e : ExpressionTree) (w : W) → is_constant_form e ≡ true → Steps w (after_value noted e w) [] 0
+pub no_site : (e : ExpressionTree) (w : W) → is_constant_form (here w) e ≡ true → Steps w (after_value noted e w) [] 0
 no_site e w h = record { sites = calls (here w) e; calls = refl; listed = sym (ap (numbered (length w.calls)) (no_calls (here w) e h)); objects = sym (add-zero (length w.locals)) }
 
 pub or_left : (a b : Bool) → (not a || b) ≡ false → a ≡ true
@@ -144,7 +150,7 @@ or_right false b h = absurd (false≢true (sym h))
 pub constant_steps : (e : ExpressionTree) (w : W) → (after_constant noted e w).found ≡ None → Steps w (after_constant noted e w) [] 0
 constant_steps e w h =
     let r = none_found (after_value noted e w).found (fails_if (is_refused (evaluated w e)) rule.Constant (first_place_of e)) h in
-    let s = no_site e w (or_left (is_constant_form e) _ (holds_not _ _ _ r.1)) in
+    let s = no_site e w (or_left (is_constant_form (here w) e) _ (holds_not _ _ _ r.1)) in
     record { sites = s.sites; calls = s.calls; listed = s.listed; objects = s.objects }
 
 pub later_constant : (e : ExpressionTree) (w : W) → Later w (after_constant noted e w)
@@ -206,8 +212,8 @@ length_known u ls w e n h =
     let f : used_failures (here w) e ≡ [] = (none_found w.found (used_failures (here w) e) r.0).1 in
     let is : is_refused_length (evaluated w e) ≡ false = holds_not _ _ _ r.1 in
     let t = accepted_expressions_have_trees (here w) (λ x. has_types (around u ls w) (here w x) (n x)) (length w.calls) e (none_before (failures (here w) e) (void (here w) e) f) in
-    length_of (is_constant_form e) (given_by (value_at w e)) is
-    (value_gives (type_of (here w) e) (typed (here w) (length w.calls) e) t (is_used (here w) e (none_after (failures (here w) e) (void (here w) e) f)) (numeric (here w) (length w.calls) e (or_left (is_constant_form e) _ is)))
+    length_of (is_constant_form (here w) e) (given_by (value_at w e)) is
+    (value_gives (type_of (here w) e) (typed (here w) (length w.calls) e) t (is_used (here w) e (none_after (failures (here w) e) (void (here w) e) f)) (numeric (here w) (length w.calls) e (or_left (is_constant_form (here w) e) _ is)))
 
 -- ---- what an object begins with
 
@@ -220,6 +226,7 @@ abbrev InitialPart : UnitTree → List LocalTree → W → W → (i : ℕ) → O
 InitialPart u ls w v i None = Unit {0}
 InitialPart u ls w v i (Some (tree.scalar_object k at e)) = (k ≡ i) × IsValueIf (around u ls w) e × Steps w v (calls_in_declared (tree.scalar_object k at e)) 0
 InitialPart u ls w v i (Some (tree.array_object k at es)) = ⊥
+InitialPart u ls w v i (Some (tree.static_object k at)) = ⊥
 
 scalar_part : (u : UnitTree) (ls : List LocalTree) (w : W) (i : ℕ) (at : Pos) (x : Option InitializerTree) → NamesAre (around u ls w) (here w) → InitializerHas x → (after_initializer noted x w).found ≡ None
     → InitialPart u ls w (after_initializer noted x w) i (scalar_tree i at x w)
@@ -236,6 +243,7 @@ abbrev ArrayPart : UnitTree → List LocalTree → W → W → (i n : ℕ) → O
 ArrayPart u ls w v i n None = Unit {0}
 ArrayPart u ls w v i n (Some (tree.scalar_object k at e)) = ⊥
 ArrayPart u ls w v i n (Some (tree.array_object k at es)) = (k ≡ i) × (good.count_if es ≤ n) × AreValuesIf (around u ls w) es × Steps w v (calls_in_declared (tree.array_object k at es)) 0
+ArrayPart u ls w v i n (Some (tree.static_object k at)) = ⊥
 
 items_part : (u : UnitTree) (ls : List LocalTree) (w v x : W) (i n m : ℕ) (at : Pos) (e : Option ValueTree) (es : Option ValueTrees) → 1 + m ≤ n → length v.locals ≡ length w.locals
     → ValuePart (around u ls w) w v e → ValuesPart (around u ls v) v x m es → ArrayPart u ls w x i n (option_map (λ vs. tree.array_object i at (Some vs)) (of_both value_before e es))
@@ -340,12 +348,13 @@ later_declaration d w =
 
 abbrev DeclaredPart : UnitTree → List LocalTree → W → W → Option DeclaredTree → Type 0
 DeclaredPart u ls w v None = Unit {0}
-DeclaredPart u ls w v (Some t) = IsDeclared (around u ls w) t × Steps w v (calls_in_declared t) 1
+DeclaredPart u ls w v (Some t) = IsDeclared (around u ls w) t × Steps w v (calls_in_declared t) (objects_in_declared t)
 
 scalar_declared : (u : UnitTree) (ls : List LocalTree) (w v x : W) (t : IntType) (o : Option DeclaredTree) → kind_among ls (length w.locals) ≡ Some (scalar_kind t) → Steps w v [] 1
     → InitialPart u ls v x (length w.locals) o → DeclaredPart u ls w x o
 scalar_declared u ls w v x t None k s p = tt
 scalar_declared u ls w v x t (Some (tree.array_object i at es)) k s p = absurd p
+scalar_declared u ls w v x t (Some (tree.static_object i at)) k s p = absurd p
 scalar_declared u ls w v x t (Some (tree.scalar_object i at e)) k s p =
     ((p.0, (t, ap (kind_among ls) p.0 ∙ k), subst (λ (n : ℕ). IsValueIf (record { unit = u; locals = ls; objects = n }) e) s.objects p.1), steps w v x [] (calls_in_declared (tree.scalar_object i at e)) 1 0 s p.2)
 
@@ -353,6 +362,7 @@ array_declared : (u : UnitTree) (ls : List LocalTree) (w v x : W) (t : IntType) 
     → ArrayPart u ls v x (length w.locals) n o → DeclaredPart u ls w x o
 array_declared u ls w v x t n None k few some s p = tt
 array_declared u ls w v x t n (Some (tree.scalar_object i at e)) k few some s p = absurd p
+array_declared u ls w v x t n (Some (tree.static_object i at)) k few some s p = absurd p
 array_declared u ls w v x t n (Some (tree.array_object i at es)) k few some s p =
     ((p.0, (t, n, ap (kind_among ls) p.0 ∙ k, p.1, few, some), subst (λ (m : ℕ). AreValuesIf (record { unit = u; locals = ls; objects = m }) es) s.objects p.2), steps w v x [] (calls_in_declared (tree.array_object i at es)) 1 0 s p.3)
 
@@ -395,7 +405,7 @@ declarator_of u ls words x (Some e) i w n unknown ke ki begins h =
     let b1 = begins_before ls v1 _ (later_initializer i v1) begins in
     let o = object_declared u ls words true m x w1 n unknown (record { rest = b1.rest; is = b1.is }) f0.0 in
     let k = length_known u ls w e n fw in
-    let l = no_site e w (or_left (is_constant_form e) _ (holds_not _ _ _ (none_found (after_value noted e w).found (fails_if (is_refused_length (evaluated w e)) rule.Constant (first_place_of e)) fw).1)) in
+    let l = no_site e w (or_left (is_constant_form (here w) e) _ (holds_not _ _ _ (none_found (after_value noted e w).found (fails_if (is_refused_length (evaluated w e)) rule.Constant (first_place_of e)) fw).1)) in
     let s1 : Steps w w1 [] 0 = record { sites = l.sites; calls = l.calls; listed = l.listed; objects = l.objects } in
     let s : Steps w1 v1 [] 1 = record { sites = o.calls.sites; calls = o.calls.calls; listed = o.calls.listed; objects = o.calls.objects } in
     let fits : surplus (Some k.0) i ≡ [] = rw k.1 at (none_after (braces true i x.at) (surplus m i) f0.1) in
@@ -408,7 +418,7 @@ declarator_of u ls words x (Some e) i w n unknown ke ki begins h =
 
 abbrev pub AllDeclaredPart : UnitTree → List LocalTree → W → W → Option (List DeclaredTree) → Type 0
 AllDeclaredPart u ls w v None = Unit {0}
-AllDeclaredPart u ls w v (Some ts) = AreDeclared (around u ls w) ts × Steps w v (calls_in_all_declared ts) (length ts)
+AllDeclaredPart u ls w v (Some ts) = AreDeclared (around u ls w) ts × Steps w v (calls_in_all_declared ts) (objects_in_all_declared ts)
 
 pub record AllDeclaring (u : UnitTree) (ls : List LocalTree) (w v : W) (o : Option (List DeclaredTree)) : Type 0 where
   pub names : NamesAre (around u ls v) (here v)
@@ -419,7 +429,7 @@ one_more u ls w v x None os p q = tt
 one_more u ls w v x (Some t) None p q = tt
 one_more u ls w v x (Some t) (Some ts) p q = (
   (p.0, subst (λ (n : ℕ). AreDeclared (record { unit = u; locals = ls; objects = n }) ts) p.1.objects q.0),
-  steps_as w x (calls_in_declared t ++ calls_in_all_declared ts) (calls_in_declared t ++ calls_in_all_declared ts) (1 + length ts) (length (t ∷ ts)) (steps w v x (calls_in_declared t) (calls_in_all_declared ts) 1 (length ts) p.1 q.1) refl (omega arith),
+  steps w v x (calls_in_declared t) (calls_in_all_declared ts) (objects_in_declared t) (objects_in_all_declared ts) p.1 q.1,
 )
 
 declarators : (u : UnitTree) (ls : List LocalTree) (words : Words) → is_unknown words.typing ≡ false → (ds : List DeclaratorTree) → DeclaratorsHave ds → (w : W) → NamesAre (around u ls w) (here w)
@@ -437,7 +447,7 @@ moved : (u : UnitTree) (ls : List LocalTree) (w v x : W) (o : Option (List Decla
 moved u ls w v x None a b p = tt
 moved u ls w v x (Some ts) a b p = (
   subst (λ (n : ℕ). AreDeclared (record { unit = u; locals = ls; objects = n }) ts) (ap length b) p.0,
-  steps_as w x (calls_in_all_declared ts) (calls_in_all_declared ts) (0 + length ts) (length ts) (steps w v x [] (calls_in_all_declared ts) 0 (length ts) (steps_none w v a b) p.1) refl (omega arith),
+  steps_as w x (calls_in_all_declared ts) (calls_in_all_declared ts) (0 + objects_in_all_declared ts) (objects_in_all_declared ts) (steps w v x [] (calls_in_all_declared ts) 0 (objects_in_all_declared ts) (steps_none w v a b) p.1) refl (omega arith),
 )
 
 pub declaration : (u : UnitTree) (ls : List LocalTree) (d : DeclarationTree) → DeclarationHas d → (w : W) → NamesAre (around u ls w) (here w)

@@ -27,14 +27,14 @@ use Rattle.pk_typed.specs.Trees.{PlaceTree, ValueTree, EffectTree, ValueTrees, n
 use Rattle.pk_type_scope.specs.declared.declarations.Callee.{Callee}
 use Rattle.pk_type_scope.specs.declared.declarations.Callee.TheVariants.{Ordinary, Any, Assume, Assert, Abort}
 use Rattle.pk_type_scope.specs.declared.declarations.Declaration.{Declaration}
-use Rattle.pk_type_scope.specs.declared.declarations.Declaration.TheVariants.{Object, Function}
+use Rattle.pk_type_scope.specs.declared.declarations.Declaration.TheVariants.{Object, Function, Enumerator}
 use Rattle.pk_type_scope.specs.declared.declarations.Typing.{Typing}
 use Rattle.pk_type_scope.specs.declared.declarations.Typing.TheVariants.{Void, Integer, Unknown}
 use Rattle.pk_type_scope.specs.declared.failures.Failure.{Failure}
 use Rattle.pk_type_scope.specs.Declarations.{Names, is_void, arguments_of, site_of, own_site}
 use Rattle.pk_type_scope.specs.Specifiers.{type_named, specifiers}
 use Rattle.pk_type_expression.specs.Types.{type_of, of_object}
-use Rattle.pk_type_expression.specs.Typed.{EvaluatedTree, value, effect, value_of, effect_of, valued, OperandTree, operand_of, place_of, of_both, name_value, element_value, typed_call, call_of, if_none, only, step_value, unary_value, typed_cast, is_or, logical_value, binary_value, typed_conditional, assignment_value, comma_after, typed, typed_all, calls, calls_in_all, calls_after}
+use Rattle.pk_type_expression.specs.Typed.{EvaluatedTree, value, effect, value_of, effect_of, valued, OperandTree, operand_of, place_of, of_both, scalar_value, name_value, element_value, typed_call, call_of, if_none, only, step_value, unary_value, typed_cast, is_or, logical_value, binary_value, typed_conditional, assignment_value, comma_after, typed, typed_all, calls, calls_in_all, calls_after}
 use Rattle.pk_type_expression.specs.Rules.{when, count, takes_others, undeclared, void, array, place, constness, arguments, unsequenced, own, failures, failures_used}
 use Rattle.pk_type_expression.proofs.TreeLemmas.{none_before, none_after, holds_not, same_number}
 use Rattle.pk_welltyped.specs.Listed as listed
@@ -180,10 +180,16 @@ name_of a true t x h = tt
 name_of a false None x h = absurd h
 name_of a false (Some t) x h = (h, refl)
 
-name_good : (a : Around) (d : Option Declaration) → DeclarationIs a d → Good a [] (valued (of_object name_value d))
+number_good : (a : Around) (t : IntType) (z : ℤ) → InType t z → Good a [] (Some (value (tree.constant t z)))
+unfolding IsValue calls_in
+number_good a t z h = (h, refl)
+
+name_good : (a : Around) (d : Option Declaration) → DeclarationIs a d → Good a [] (valued (name_value d))
 name_good a None h = tt
-name_good a (Some (Object o)) h = good_valued a [] (name_value o) (name_of a o.is_array o.int_type o.variable h)
+name_good a (Some (Object o)) h = good_valued a [] (scalar_value o) (name_of a o.is_array o.int_type o.variable h)
 name_good a (Some (Function f)) h = tt
+name_good a (Some (Enumerator None)) h = tt
+name_good a (Some (Enumerator (Some n))) h = number_good a Int n h
 
 element_of : (a : Around) (ns : List Numbered) (at : Pos) (i : Option ValueTree) (b : Bool) (t : Option IntType) (x : Variable) → ObjectIs a b t x → GoodValue a ns i
     → GoodValue a ns (if b then of_both (λ u v. tree.read (tree.element u x at v)) t i else None)
@@ -197,6 +203,7 @@ element_good : (a : Around) (ns : List Numbered) (at : Pos) (i : Option ValueTre
 element_good a ns at i None h g = tt
 element_good a ns at i (Some (Object o)) h g = good_valued a ns (element_value at i o) (element_of a ns at i o.is_array o.int_type o.variable h g)
 element_good a ns at i (Some (Function f)) h g = tt
+element_good a ns at i (Some (Enumerator n)) h g = tt
 
 step_good : (a : Around) (ns : List Numbered) (op : StepOperator) (b : Bool) (at : Pos) (p : Option PlaceTree) → GoodPlace a ns p → Good a ns (valued (option_map (step_value op b at) p))
 unfolding IsValue calls_in
@@ -305,6 +312,7 @@ call_good : (a : Around) (n k : ℕ) (at : Pos) (cs : List CallSite) (d : Option
     → GoodValues a (numbered (n + length (own_site at d)) cs) k vs → Good a (numbered n (own_site at d ++ cs)) (typed_call d n at vs)
 call_good a n k at cs None vs h q g = tt
 call_good a n k at cs (Some (Object o)) vs h q g = tt
+call_good a n k at cs (Some (Enumerator m)) vs h q g = tt
 call_good a n k at cs (Some (Function f)) None h q g = tt
 call_good a n k at cs (Some (Function f)) (Some vs) h q g = callee_good a n f.number k at cs vs f.callee h (same_number (arguments_of f.callee) k q) g
 
@@ -323,10 +331,6 @@ unfolding AreValues calls_in_values
 values_good a ms ns k None vs h g = tt
 values_good a ms ns k (Some v) None h g = tt
 values_good a ms ns k (Some v) (Some vs) h g = ((h.0, g.0), rw (h.1, g.1), ap (λ (m : ℕ). 1 + m) g.2)
-
-number_good : (a : Around) (t : IntType) (z : ℤ) → InType t z → Good a [] (Some (value (tree.constant t z)))
-unfolding IsValue calls_in
-number_good a t z h = (h, refl)
 
 no_good : (a : Around) → GoodValues a [] 0 (Some no_values)
 unfolding AreValues calls_in_values

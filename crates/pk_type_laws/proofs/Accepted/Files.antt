@@ -16,7 +16,7 @@ use Rattle.pk_typed.specs.Trees.{LocalTree, FileObjectTree, UnitTree}
 use Rattle.pk_type_scope.specs.declared.declarations.Callee.{Callee}
 use Rattle.pk_type_scope.specs.declared.declarations.Callee.TheVariants.{Ordinary, Any, Assume, Assert, Abort}
 use Rattle.pk_type_scope.specs.declared.declarations.Declaration.{Declaration}
-use Rattle.pk_type_scope.specs.declared.declarations.Declaration.TheVariants.{Object, Function}
+use Rattle.pk_type_scope.specs.declared.declarations.Declaration.TheVariants.{Object, Function, Enumerator}
 use Rattle.pk_type_scope.specs.declared.declarations.Typing.{Typing}
 use Rattle.pk_type_scope.specs.declared.declarations.Typing.TheVariants.{Void, Integer, Unknown}
 use Rattle.pk_type_scope.specs.declared.failures.Failure.{Failure}
@@ -110,6 +110,7 @@ stands_before u f g l s = record {
 abbrev pub KnownIn : Entries → Option Declaration → Type 0
 KnownIn es None = Unit {0}
 KnownIn es (Some (Object o)) = Unit {0}
+KnownIn es (Some (Enumerator n)) = Unit {0}
 KnownIn es (Some (Function f)) = (e : EntryTree) × (slice_get es f.number ≡ Some e)
 
 pub record EntryIs (u : UnitTree) (e : EntryTree) : Type 0 where
@@ -148,6 +149,7 @@ from_file : (u : UnitTree) (ls : List LocalTree) (n : ℕ) (d : Option Declarati
 from_file u ls n None h = tt
 from_file u ls n (Some (Object o)) h = objects_from_file u ls n o.is_array o.int_type o.variable h
 from_file u ls n (Some (Function f)) h = callee_from_file u ls n f.number f.callee h
+from_file u ls n (Some (Enumerator v)) h = h
 
 pub names_from_file : (u : UnitTree) (ls : List LocalTree) (n : ℕ) (d : Names) → NamesAre (in_file u) d → NamesAre (record { unit = u; locals = ls; objects = n }) d
 names_from_file u ls n d h x = from_file u ls n (d x) (h x)

@@ -16,12 +16,14 @@ use Rattle.pk_ast.specs.Trees as ast
 use Rattle.pk_ast.specs.Trees.{ExpressionTree}
 use Rattle.pk_typed.specs.Trees as tree
 use Rattle.pk_typed.specs.Trees.{ValueTree}
+use Rattle.pk_type_scope.specs.declared.declarations.Declaration.{Declaration}
+use Rattle.pk_type_scope.specs.declared.declarations.Declaration.TheVariants.{Object, Function, Enumerator}
 use Rattle.pk_type_scope.specs.declared.declarations.Typing.{Typing}
 use Rattle.pk_type_scope.specs.declared.declarations.Typing.TheVariants.{Void, Integer, Unknown}
-use Rattle.pk_type_scope.specs.Declarations.{Names}
+use Rattle.pk_type_scope.specs.Declarations.{Names, is_enumerator}
 use Rattle.pk_type_scope.specs.Specifiers.{type_named}
 use Rattle.pk_type_expression.specs.Types.{type_of}
-use Rattle.pk_type_expression.specs.Typed.{EvaluatedTree, value, effect, effect_of, valued, OperandTree, operand_of, of_both, unary_value, typed_cast, is_or, logical_value, binary_value, typed_conditional, comma_after, typed, calls, calls_after}
+use Rattle.pk_type_expression.specs.Typed.{EvaluatedTree, value, effect, effect_of, valued, OperandTree, operand_of, of_both, name_value, unary_value, typed_cast, is_or, logical_value, binary_value, typed_conditional, comma_after, typed, calls, calls_after}
 use Rattle.pk_type_constant.specs.declared.constants.Constant.{Constant}
 use Rattle.pk_type_constant.specs.declared.constants.Constant.TheVariants.{Number, Faulty, NotConstant}
 use Rattle.pk_type_constant.specs.Constants.{with_number, given, right_operand, calculated, converted, truth_of, chosen, constant_value, constant_effect}
@@ -37,9 +39,9 @@ right false b h = absurd (false≢true h)
 
 -- ---- no calls
 
-pub no_calls : (d : Names) (e : ExpressionTree) → is_constant_form e ≡ true → calls d e ≡ []
+pub no_calls : (d : Names) (e : ExpressionTree) → is_constant_form d e ≡ true → calls d e ≡ []
 unfolding is_constant_form calls
-no_calls d (ast.name x) h = absurd (false≢true h)
+no_calls d (ast.name x) h = refl
 no_calls d (ast.call x es) h = absurd (false≢true h)
 no_calls d (ast.index x at e) h = absurd (false≢true h)
 no_calls d (ast.constant at t n) h = refl
@@ -49,12 +51,12 @@ no_calls d (ast.postfix op at e) h = absurd (false≢true h)
 no_calls d (ast.prefix op at e) h = absurd (false≢true h)
 no_calls d (ast.unary op at e) h = no_calls d e h
 no_calls d (ast.cast at words e) h = no_calls d e h
-no_calls d (ast.binary op at a b) h = rw (no_calls d a (left (is_constant_form a) (is_constant_form b) h), no_calls d b (right (is_constant_form a) (is_constant_form b) h))
+no_calls d (ast.binary op at a b) h = rw (no_calls d a (left (is_constant_form d a) (is_constant_form d b) h), no_calls d b (right (is_constant_form d a) (is_constant_form d b) h))
 no_calls d (ast.conditional at a b c) h =
-    let r : both (is_constant_form b) (is_constant_form c) ≡ true = right (is_constant_form a) (both (is_constant_form b) (is_constant_form c)) h in
-    rw (no_calls d a (left (is_constant_form a) (both (is_constant_form b) (is_constant_form c)) h), no_calls d b (left (is_constant_form b) (is_constant_form c) r), no_calls d c (right (is_constant_form b) (is_constant_form c) r))
+    let r : both (is_constant_form d b) (is_constant_form d c) ≡ true = right (is_constant_form d a) (both (is_constant_form d b) (is_constant_form d c)) h in
+    rw (no_calls d a (left (is_constant_form d a) (both (is_constant_form d b) (is_constant_form d c)) h), no_calls d b (left (is_constant_form d b) (is_constant_form d c) r), no_calls d c (right (is_constant_form d b) (is_constant_form d c) r))
 no_calls d (ast.assignment op at a b) h = absurd (false≢true h)
-no_calls d (ast.comma at a b) h = rw (no_calls d a (left (is_constant_form a) (is_constant_form b) h), no_calls d b (right (is_constant_form a) (is_constant_form b) h))
+no_calls d (ast.comma at a b) h = rw (no_calls d a (left (is_constant_form d a) (is_constant_form d b) h), no_calls d b (right (is_constant_form d a) (is_constant_form d b) h))
 
 -- ---- a number or a fault
 
@@ -152,9 +154,16 @@ number_numeric : (t : IntType) (z : ℤ) → Numeric (Some (value (tree.constant
 unfolding constant_value
 number_numeric t z = tt
 
-pub numeric : (d : Names) (n : ℕ) (e : ExpressionTree) → is_constant_form e ≡ true → Numeric (typed d n e)
+name_numeric : (o : Option Declaration) → is_enumerator o ≡ true → Numeric (valued (name_value o))
+name_numeric None h = absurd (false≢true h)
+name_numeric (Some (Object o)) h = absurd (false≢true h)
+name_numeric (Some (Function f)) h = absurd (false≢true h)
+name_numeric (Some (Enumerator None)) h = tt
+name_numeric (Some (Enumerator (Some n))) h = number_numeric Int n
+
+pub numeric : (d : Names) (n : ℕ) (e : ExpressionTree) → is_constant_form d e ≡ true → Numeric (typed d n e)
 unfolding is_constant_form typed
-numeric d n (ast.name x) h = absurd (false≢true h)
+numeric d n (ast.name x) h = name_numeric (d x) h
 numeric d n (ast.call x es) h = absurd (false≢true h)
 numeric d n (ast.index x at e) h = absurd (false≢true h)
 numeric d n (ast.constant at t v) h = number_numeric t (pos v)
@@ -167,15 +176,15 @@ numeric d n (ast.cast at words e) h = cast_numeric (type_named words) (typed d n
 numeric d n (ast.binary op at a b) h =
     let m = calls_after d n a in
     binary_numeric (binary_number_operator op) (is_or op) at (operand_of (type_of d a) (typed d n a)) (operand_of (type_of d b) (typed d m b))
-    (operand (type_of d a) (typed d n a) (numeric d n a (left (is_constant_form a) (is_constant_form b) h))) (operand (type_of d b) (typed d m b) (numeric d m b (right (is_constant_form a) (is_constant_form b) h)))
+    (operand (type_of d a) (typed d n a) (numeric d n a (left (is_constant_form d a) (is_constant_form d b) h))) (operand (type_of d b) (typed d m b) (numeric d m b (right (is_constant_form d a) (is_constant_form d b) h)))
 numeric d n (ast.conditional at a b c) h =
     let m = calls_after d n a in
     let k = calls_after d m b in
-    let r : both (is_constant_form b) (is_constant_form c) ≡ true = right (is_constant_form a) (both (is_constant_form b) (is_constant_form c)) h in
+    let r : both (is_constant_form d b) (is_constant_form d c) ≡ true = right (is_constant_form d a) (both (is_constant_form d b) (is_constant_form d c)) h in
     conditional_numeric (operand_of (type_of d a) (typed d n a)) (operand_of (type_of d b) (typed d m b)) (operand_of (type_of d c) (typed d k c))
-    (operand (type_of d a) (typed d n a) (numeric d n a (left (is_constant_form a) (both (is_constant_form b) (is_constant_form c)) h)))
-    (operand (type_of d b) (typed d m b) (numeric d m b (left (is_constant_form b) (is_constant_form c) r)))
-    (operand (type_of d c) (typed d k c) (numeric d k c (right (is_constant_form b) (is_constant_form c) r)))
+    (operand (type_of d a) (typed d n a) (numeric d n a (left (is_constant_form d a) (both (is_constant_form d b) (is_constant_form d c)) h)))
+    (operand (type_of d b) (typed d m b) (numeric d m b (left (is_constant_form d b) (is_constant_form d c) r)))
+    (operand (type_of d c) (typed d k c) (numeric d k c (right (is_constant_form d b) (is_constant_form d c) r)))
 numeric d n (ast.assignment op at a b) h = absurd (false≢true h)
 numeric d n (ast.comma at a b) h =
-    comma_numeric (typed d n a) (typed d (calls_after d n a) b) (numeric d n a (left (is_constant_form a) (is_constant_form b) h)) (numeric d (calls_after d n a) b (right (is_constant_form a) (is_constant_form b) h))
+    comma_numeric (typed d n a) (typed d (calls_after d n a) b) (numeric d n a (left (is_constant_form d a) (is_constant_form d b) h)) (numeric d (calls_after d n a) b (right (is_constant_form d a) (is_constant_form d b) h))

@@ -32,7 +32,7 @@ use Rattle.pk_type_statement.specs.declared.statements.Case.{Case}
 use Rattle.pk_type_statement.specs.Statements.{Passed, on, inside, outside, after_optional_value, after_optional_effect, returns_otherwise, after_return, with_case, with_default, repeated_cases, in_switch, after_switch, after_start, after_head, after, after_items}
 use Rattle.pk_type_statement.specs.Trees.{Labels, numbered, of_three, case_numbers, ended_as, ended, switch_of, optional_value_at, optional_effect_at, start_at, a_head, for_tree, declared_all, typed, typed_items}
 use Rattle.pk_welltyped.specs.Listed as listed
-use Rattle.pk_welltyped.specs.Listed.{Numbered, calls_in, calls_if, calls_in_effect_if, calls_in_declared, calls_in_all_declared, calls_at_start, calls_in_statement, calls_in_items, objects_at_start, objects_in, objects_in_items}
+use Rattle.pk_welltyped.specs.Listed.{Numbered, calls_in, calls_if, calls_in_effect_if, calls_in_declared, calls_in_all_declared, calls_at_start, calls_in_statement, calls_in_items, objects_in_declared, objects_in_all_declared, objects_at_start, objects_in, objects_in_items}
 use Rattle.pk_welltyped.specs.WellTyped as good
 use Rattle.pk_welltyped.specs.WellTyped.{Around, IsValueIf, IsEffectIf, AreDeclared, IsForStart, Marks, IsReturned, IsStatement, AreItems}
 use Rattle.pk_type_laws.specs.Accepted.Constants.{HasConstantsIf, StartHas, StatementHas, ItemsHave}
@@ -425,19 +425,20 @@ for_statement u ls m o w v x y z e p (Some start) (Some test) (Some third) (Some
 
 -- ---- items
 
-declared_items : (u : UnitTree) (ls : List LocalTree) (m : Marks) (k : ℕ) (ds : List DeclaredTree) (is : tree.ItemTrees) → AreDeclared (at u ls k) ds → AreItems (at u ls (k + length ds)) m is → AreItems (at u ls k) m (declared_all ds is)
+declared_items : (u : UnitTree) (ls : List LocalTree) (m : Marks) (k : ℕ) (ds : List DeclaredTree) (is : tree.ItemTrees) → AreDeclared (at u ls k) ds → AreItems (at u ls (k + objects_in_all_declared ds)) m is → AreItems (at u ls k) m (declared_all ds is)
 unfolding AreItems
 declared_items u ls m k [] is g h = subst (λ (n : ℕ). AreItems (at u ls n) m is) (add-zero k) h
 declared_items u ls m k (d ∷ ds) is g h =
-    let same : k + length (d ∷ ds) ≡ k + 1 + length ds = omega arith in
-    (g.0, declared_items u ls m (k + 1) ds is g.1 (subst (λ (n : ℕ). AreItems (at u ls n) m is) same h))
+    let one = objects_in_declared d in
+    let same : k + (one + objects_in_all_declared ds) ≡ k + one + objects_in_all_declared ds = omega arith in
+    (g.0, declared_items u ls m (k + one) ds is g.1 (subst (λ (n : ℕ). AreItems (at u ls n) m is) same h))
 
 declared_calls : (ds : List DeclaredTree) (is : tree.ItemTrees) → calls_in_items (declared_all ds is) ≡ calls_in_all_declared ds ++ calls_in_items is
 unfolding calls_in_items
 declared_calls [] is = refl
 declared_calls (d ∷ ds) is = ap (λ (cs : List Numbered). calls_in_declared d ++ cs) (declared_calls ds is) ∙ sym (append_assoc (calls_in_declared d) (calls_in_all_declared ds) (calls_in_items is))
 
-declared_objects : (ds : List DeclaredTree) (is : tree.ItemTrees) → objects_in_items (declared_all ds is) ≡ length ds + objects_in_items is
+declared_objects : (ds : List DeclaredTree) (is : tree.ItemTrees) → objects_in_items (declared_all ds is) ≡ objects_in_all_declared ds + objects_in_items is
 unfolding objects_in_items
 declared_objects [] is = omega arith
 declared_objects (d ∷ ds) is = let h = declared_objects ds is in omega (h, arith)
@@ -447,8 +448,8 @@ declared_first u ls m w v x None is g h = tt
 declared_first u ls m w v x (Some ds) None g h = tt
 declared_first u ls m w v x (Some ds) (Some is) g h = (
   declared_items u ls m (length w.locals) ds is g.0 (subst (λ (n : ℕ). AreItems (at u ls n) m is) g.1.objects h.0),
-  steps_as w x (calls_in_all_declared ds ++ calls_in_items is) (calls_in_items (declared_all ds is)) (length ds + objects_in_items is) (objects_in_items (declared_all ds is))
-      (steps w v x (calls_in_all_declared ds) (calls_in_items is) (length ds) (objects_in_items is) g.1 h.1) (declared_calls ds is) (declared_objects ds is),
+  steps_as w x (calls_in_all_declared ds ++ calls_in_items is) (calls_in_items (declared_all ds is)) (objects_in_all_declared ds + objects_in_items is) (objects_in_items (declared_all ds is))
+      (steps w v x (calls_in_all_declared ds) (calls_in_items is) (objects_in_all_declared ds) (objects_in_items is) g.1 h.1) (declared_calls ds is) (declared_objects ds is),
 )
 
 statement_first : (u : UnitTree) (ls : List LocalTree) (m : Marks) (w v x : W) (s : Option tree.StatementTree) (is : Option tree.ItemTrees) → StatementPart u ls m w v s → ItemsPart u ls m v x is

@@ -17,7 +17,7 @@ use Rattle.pk_typed.specs.Trees.{LocalTree, BodyTree, UnitTree}
 use Rattle.pk_type_scope.specs.declared.declarations.Callee.{Callee}
 use Rattle.pk_type_scope.specs.declared.declarations.Callee.TheVariants.{Ordinary, Any, Assume, Assert, Abort}
 use Rattle.pk_type_scope.specs.declared.declarations.Declaration.{Declaration}
-use Rattle.pk_type_scope.specs.declared.declarations.Declaration.TheVariants.{Object, Function}
+use Rattle.pk_type_scope.specs.declared.declarations.Declaration.TheVariants.{Object, Function, Enumerator}
 use Rattle.pk_type_scope.specs.declared.declarations.Typing.{Typing}
 use Rattle.pk_type_scope.specs.declared.declarations.Typing.TheVariants.{Void, Integer, Unknown}
 use Rattle.pk_type_scope.specs.declared.failures.Failure.{Failure}
@@ -192,6 +192,7 @@ entry_there : (u : UnitTree) (es : Entries) (s : SignatureTree) (has_body : Bool
     → ((i : ℕ) (e : EntryTree) → slice_get es i ≡ Some e → EntryIs u e) → Integers s.parameters → is_unknown s.returns ≡ false → EntryAt (with_new es (number_of es before) name s) (number_of es before) s
 entry_there u es s has_body name None k r h i q = record { entry = record { name = name; signature = s; is_defined = false; body = None }; there = new_there es name s; same = refl }
 entry_there u es s has_body name (Some (Object o)) k r h i q = absurd (false≢true (sym r))
+entry_there u es s has_body name (Some (Enumerator n)) k r h i q = absurd (false≢true (sym r))
 entry_there u es s has_body name (Some (Function f)) k r h i q =
     let e = k.0 in
     let x = h f.number e k.1 in
@@ -278,6 +279,7 @@ head u defined f file h s k i =
     known_new : (es : Entries) (n : ℕ) (name : List ℕ) (s : SignatureTree) (d : Option Declaration) → KnownIn es d → KnownIn (with_new es n name s) d
     known_new es n name s None k = tt
     known_new es n name s (Some (Object o)) k = tt
+    known_new es n name s (Some (Enumerator v)) k = tt
     known_new es n name s (Some (Function f)) k = (k.0, new_keeps es n name s f.number k.0 k.1)
 
 -- ---- functions
@@ -309,6 +311,7 @@ later_function defined f file =
 known_kept : (es fs : Entries) (d : Option Declaration) → Kept es fs → KnownIn es d → KnownIn fs d
 known_kept es fs None k h = tt
 known_kept es fs (Some (Object o)) k h = tt
+known_kept es fs (Some (Enumerator n)) k h = tt
 known_kept es fs (Some (Function f)) k h = there (slice_get fs f.number) refl (k f.number h.0 h.1)
   where
     there : (o : Option EntryTree) → slice_get fs f.number ≡ o → SameEntry h.0 o → KnownIn fs (Some (Function f))

@@ -144,8 +144,8 @@ case_there w e k h =
     let r = none_found (after_value noted e w).found (fails_if (is_refused (evaluated w e)) rule.Constant (first_place_of e)) h in
     let is : is_refused (evaluated w e) ≡ false = holds_not _ _ _ r.1 in
     let t = expressions.typed (here w) (length w.calls) e in
-    number_there (is_constant_form e) (given_by (value_of t)) is
-    (number_given t (numeric (here w) (length w.calls) e (or_left (is_constant_form e) _ is)) (value_is w e k r.0))
+    number_there (is_constant_form (here w) e) (given_by (value_of t)) is
+    (number_given t (numeric (here w) (length w.calls) e (or_left (is_constant_form (here w) e) _ is)) (value_is w e k r.0))
 
 -- ---- a statement declares no name
 

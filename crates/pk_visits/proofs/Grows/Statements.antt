@@ -10,7 +10,7 @@ use Rattle.pk_typed.specs.Trees.{ValueTree, EffectTree, ValueTrees, DeclaredTree
 use Rattle.pk_typed.specs.Trees as tree
 use Rattle.pk_typed.specs.Types.{type_of}
 use Rattle.pk_typed.specs.declared.values.Variable.TheVariants.{Local}
-use Rattle.pk_welltyped.specs.Listed.{calls_in, calls_in_values, calls_if, calls_in_values_if, calls_in_effect_if, calls_in_declared, calls_in_all_declared, calls_at_start, calls_in_statement, calls_in_items}
+use Rattle.pk_welltyped.specs.Listed.{calls_in, calls_in_values, calls_if, calls_in_values_if, calls_in_effect_if, calls_in_declared, calls_in_all_declared, calls_at_start, calls_in_statement, calls_in_items, objects_in_declared}
 use Rattle.pk_welltyped.specs.WellTyped.{Around, Marks, IsDeclared, AreDeclared, IsForStart, IsStatement, AreItems}
 use Rattle.pk_welltyped.specs.WellTyped
 use Rattle.pk_graph.specs.declared.trees.Site.{Site}
@@ -266,45 +266,48 @@ pub array_first_grows : (C : ℕ → Size → Type 0) (c : Context) (i : ℕ) (e
 array_first_grows C c i None d h = emit_grows C _ d
 array_first_grows C c i (Some es) d h = grows_trans (emit_grows C (Clear (array_of c (Local i) d)) d) (items_adds C c i 0 es (emit (Clear (array_of c (Local i) d)) d) h)
 
--- the declared object's number
-abbrev pub number_of : DeclaredTree → ℕ
-number_of (tree.scalar_object i p e) = i
-number_of (tree.array_object i p es) = i
+-- an object of the function that is declared is among S
+abbrev pub DeclaresAmong : (S : ℕ → Type 0) → DeclaredTree → Type 0
+DeclaresAmong S (tree.scalar_object i p e) = S i
+DeclaresAmong S (tree.array_object i p es) = S i
+DeclaresAmong S (tree.static_object i p) = Unit {0}
 
--- they declare objects among S
 abbrev pub AllAmong : (S : ℕ → Type 0) → List DeclaredTree → Type 0
 AllAmong S [] = Unit {0}
-AllAmong S (v ∷ vs) = S (number_of v) × AllAmong S vs
+AllAmong S (v ∷ vs) = DeclaresAmong S v × AllAmong S vs
 
 abbrev pub StartAmong : (S : ℕ → Type 0) → ForStartTree → Type 0
 StartAmong S (tree.declarations vs) = AllAmong S vs
 StartAmong S (tree.expression e) = Unit {0}
 
+pub declared_free : (v : DeclaredTree) → DeclaresAmong Free v
+declared_free (tree.scalar_object i p e) = tt
+declared_free (tree.array_object i p es) = tt
+declared_free (tree.static_object i p) = tt
+
 pub all_free : (vs : List DeclaredTree) → AllAmong Free vs
 all_free [] = tt
-all_free (v ∷ vs) = (tt, all_free vs)
+all_free (v ∷ vs) = (declared_free v, all_free vs)
 
 pub start_free : (f : ForStartTree) → StartAmong Free f
 start_free (tree.declarations vs) = all_free vs
 start_free (tree.expression e) = tt
 
 -- objects are declared in order
-pub declared_number : (a : Around) (v : DeclaredTree) → IsDeclared a v → number_of v ≡ a.objects
-declared_number a (tree.scalar_object i p e) h = h.0
-declared_number a (tree.array_object i p es) h = h.0
-
-pub declared_among : (S : ℕ → Type 0) (a : Around) (v : DeclaredTree) → IsDeclared a v → ((i : ℕ) → a.objects ≤ i → S i) → S (number_of v)
-declared_among S a v h from = from (number_of v) (let z = declared_number a v h in omega (arith, z))
+pub declared_among : (S : ℕ → Type 0) (a : Around) (v : DeclaredTree) → IsDeclared a v → ((i : ℕ) → a.objects ≤ i → S i) → DeclaresAmong S v
+declared_among S a (tree.scalar_object i p e) h from = from i (let z = h.0 in omega (arith, z))
+declared_among S a (tree.array_object i p es) h from = from i (let z = h.0 in omega (arith, z))
+declared_among S a (tree.static_object i p) h from = tt
 
 pub all_among : (S : ℕ → Type 0) (vs : List DeclaredTree) (a : Around) → AreDeclared a vs → ((i : ℕ) → a.objects ≤ i → S i) → AllAmong S vs
 all_among S [] a h from = tt
-all_among S (v ∷ vs) a h from = (declared_among S a v h.0 from, all_among S vs (WellTyped.behind 1 a) h.1 (λ i k. from i (omega (arith, k))))
+all_among S (v ∷ vs) a h from = (declared_among S a v h.0 from, all_among S vs (WellTyped.behind (objects_in_declared v) a) h.1 (λ i k. from i (omega (arith, k))))
 
 pub start_among : (S : ℕ → Type 0) (a : Around) (f : ForStartTree) → IsForStart a f → ((i : ℕ) → a.objects ≤ i → S i) → StartAmong S f
 start_among S a (tree.declarations vs) h from = all_among S vs a h from
 start_among S a (tree.expression e) h from = tt
 
-pub declared_enlarges : (ms : List ℕ) (S : ℕ → Type 0) (C : ℕ → Size → Type 0) (c : Context) (v : DeclaredTree) (d : Draft) → S (number_of v) → AllCalled C c (calls_in_declared v) → Enlarges ms S C d (declared c v d)
+pub declared_enlarges : (ms : List ℕ) (S : ℕ → Type 0) (C : ℕ → Size → Type 0) (c : Context) (v : DeclaredTree) (d : Draft) → DeclaresAmong S v → AllCalled C c (calls_in_declared v) → Enlarges ms S C d (declared c v d)
 declared_enlarges ms S C c (tree.scalar_object i p e) d o h =
     let f = introduced c i (on p d) in
     path_then (enlarges ms S C d (on p d) (on_adds ms S C p d)) (path_then (introduced_enlarges ms S C c i (on p d) o)
@@ -313,6 +316,7 @@ declared_enlarges ms S C c (tree.array_object i p es) d o h =
     let f = introduced c i (on p d) in
     path_then (enlarges ms S C d (on p d) (on_adds ms S C p d)) (path_then (introduced_enlarges ms S C c i (on p d) o)
     (enlarges ms S C f (statements.array_first c i es f) (adds ms S C f (statements.array_first c i es f) (array_first_grows C c i es f h))))
+declared_enlarges ms S C c (tree.static_object i p) d o h = path_then (enlarges ms S C d (on p d) (on_adds ms S C p d)) (named_enlarges ms S C (Some []) i (on p d))
 
 pub all_declared_enlarges : (ms : List ℕ) (S : ℕ → Type 0) (C : ℕ → Size → Type 0) (c : Context) (vs : List DeclaredTree) (d : Draft) → AllAmong S vs → AllCalled C c (calls_in_all_declared vs) → Enlarges ms S C d (all_declared c vs d)
 unfolding all_declared

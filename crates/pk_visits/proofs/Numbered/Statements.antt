@@ -63,6 +63,7 @@ array_first_by V W f c i (Some es) d = ap (items c i 0 es) (emit_by f (Clear (ar
 pub declared_by : (V W : Type 0) (f : V → W) (c : Context) (x : DeclaredTree) → Works f (statements.declared c x) (statements.declared c x)
 declared_by V W f c (tree.scalar_object i p e) d = ap (statements.scalar_first c i e) (introduced_by f c i (on p d)) ∙ scalar_first_by V W f c i e (statements.introduced c i (on p d))
 declared_by V W f c (tree.array_object i p es) d = ap (statements.array_first c i es) (introduced_by f c i (on p d)) ∙ array_first_by V W f c i es (statements.introduced c i (on p d))
+declared_by V W f c (tree.static_object i p) d = refl
 
 pub all_declared_by : (V W : Type 0) (f : V → W) (c : Context) (xs : List DeclaredTree) → Works f (all_declared c xs) (all_declared c xs)
 unfolding all_declared

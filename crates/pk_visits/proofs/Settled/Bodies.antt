@@ -5,7 +5,7 @@ use Rattle.pk_ctypes.specs.declared.places.Pos.{Pos}
 use Rattle.pk_ctypes.specs.declared.types.IntType.{IntType}
 use Rattle.pk_typed.specs.Trees.{ValueTree, EffectTree, DeclaredTree, ForStartTree, StatementTree, ItemTrees, BodyTree}
 use Rattle.pk_typed.specs.Trees as tree
-use Rattle.pk_welltyped.specs.Listed.{Numbered, objects_at_start, objects_in, objects_in_items, calls_in, calls_if, calls_in_effect_if, calls_in_declared, calls_in_all_declared, calls_at_start, calls_in_statement, calls_in_items}
+use Rattle.pk_welltyped.specs.Listed.{Numbered, objects_in_declared, objects_in_all_declared, objects_at_start, objects_in, objects_in_items, calls_in, calls_if, calls_in_effect_if, calls_in_declared, calls_in_all_declared, calls_at_start, calls_in_statement, calls_in_items}
 use Rattle.pk_welltyped.specs.WellTyped
 use Rattle.pk_welltyped.specs.WellTyped.{Around, behind, Marks, IsDeclared, AreDeclared, IsForStart, IsStatement, AreItems}
 use Rattle.pk_graph.specs.declared.trees.Site.{Site}
@@ -29,12 +29,12 @@ use Rattle.pk_meaning.specs.Programs.{block_of}
 use Rattle.pk_meaning.specs.Work.{Place}
 use Rattle.pk_meaning.specs.Steps.{Mark, labelled, numbered, otherwise, is_label, is_case, is_default}
 use Rattle.pk_visits.proofs.Slots.{Slot, Draft, Keeps, Grows, Among, label_at, object_at}
-use Rattle.pk_visits.proofs.Settled.Trees.{Final, IsSettled, AreAllSettled, IsSettledStart, Settles, SettleAll, mark_point}
+use Rattle.pk_visits.proofs.Settled.Trees.{Final, IsNext, IsSettled, AreAllSettled, IsSettledStart, Settles, SettleAll, mark_point}
 use Rattle.pk_visits.proofs.Stands.{Whole, Stage, context_of, final, around}
 use Rattle.pk_visits.proofs.Grows.Rows.{WaysGrow, grows_trans, held_grows}
 use Rattle.pk_visits.proofs.Grows.Expressions.{AllCalled, values, front_called, back_called}
 use Rattle.pk_visits.proofs.Stages.{Forth, forth, forth_here, forth_then, Later, later_of, made_unmarked}
-use Rattle.pk_visits.proofs.Grows.Statements.{OnPath, Stays, Marked, Adds, enlarges, stays_then, path_then, Free, IsMark, number_of, declared_number, all_among, start_free, on_adds, fresh_adds, begun_adds, link_adds, away_adds, case_adds, choice_adds, meeting_adds, placing, scalar_first_grows, array_first_grows, declared_enlarges, all_declared_enlarges, start_enlarges, third_enlarges, test_adds, label_once, case_once, begun_switch_adds, begun_switch_points, upto}
+use Rattle.pk_visits.proofs.Grows.Statements.{OnPath, Stays, Marked, Adds, enlarges, stays_then, path_then, Free, IsMark, all_among, start_free, on_adds, fresh_adds, begun_adds, link_adds, away_adds, case_adds, choice_adds, meeting_adds, placing, declared_free, scalar_first_grows, array_first_grows, declared_enlarges, all_declared_enlarges, start_enlarges, third_enlarges, test_adds, label_once, case_once, begun_switch_adds, begun_switch_points, upto}
 use Rattle.pk_visits.proofs.Steps.Locals.{items_fit}
 use Rattle.pk_visits.proofs.Steps.Kept.{others, Sized, Spares, AreBelow, statement_spares, block_spares, statement_grown, statement_forth, nothing_spares, Known, part_known, rest_known, known_inside, below_inside, marked_here}
 
@@ -61,38 +61,40 @@ introduced_object c i d lt =
     let x = local_at c i in
     ap (λ os. object_at os i) (named_objects x.name d.variables (with_object i (inner x.name x.int_type x.length c.path) d)) ∙ get_or-set_same d.objects i d.variables 0 lt
 
--- a declared object's variable is the one that was next
-declared_object : (C : ℕ → Size → Type 0) (c : Context) (v : DeclaredTree) (d : Draft) → AllCalled C c (calls_in_declared v) → number_of v < length d.objects → object_at (declared c v d).objects (number_of v) ≡ d.variables
-declared_object C c (tree.scalar_object i p e) d h lt = let f = introduced c i (on p d) in grown_object i f (statements.scalar_first c i e f) (scalar_first_grows C c i e f h) ∙ introduced_object c i (on p d) lt
-declared_object C c (tree.array_object i p es) d h lt = let f = introduced c i (on p d) in grown_object i f (statements.array_first c i es f) (array_first_grows C c i es f h) ∙ introduced_object c i (on p d) lt
+-- the object whose variable was next keeps it to the end
+own_settled : (o : Final) (d e : Draft) (os : List ℕ) (i n : ℕ) → i ≡ n → (n < o.objects) × (o.numbers n ≡ object_at os n) → object_at os n ≡ object_at e.objects n → object_at e.objects i ≡ d.variables → IsNext o i d
+own_settled o d e os i n is final kept here = (subst (λ j. j < o.objects) (sym is) final.0, ap o.numbers is ∙ (final.1 ∙ (kept ∙ (ap (object_at e.objects) (sym is) ∙ here))))
 
-is_settled : (o : Final) (v : DeclaredTree) (d : Draft) → (number_of v < o.objects) × (o.numbers (number_of v) ≡ d.variables) → IsSettled o v d
-is_settled o (tree.scalar_object i p e) d h = h
-is_settled o (tree.array_object i p es) d h = h
-
--- where it keeps its variable to the end
+-- where objects keep their variables to the end
 next_settled : (C : ℕ → Size → Type 0) (o : Final) (c : Context) (a : Around) (v : DeclaredTree) (d : Draft) (os : List ℕ) → IsDeclared a v → AllCalled C c (calls_in_declared v)
-    → (a.objects < o.objects) × (o.numbers a.objects ≡ object_at os a.objects) → object_at os a.objects ≡ object_at (declared c v d).objects a.objects → a.objects < length d.objects → IsSettled o v d
-next_settled C o c a v d os fits called final kept lt =
-    let is = declared_number a v fits in
-    let n = a.objects in
-    is_settled o v d (
-      subst (λ i. i < o.objects) (sym is) final.0,
-      subst (λ i. o.numbers i ≡ d.variables) (sym is) (final.1 ∙ kept ∙ subst (λ i. object_at (declared c v d).objects i ≡ d.variables) is (declared_object C c v d called (subst (λ i. i < length d.objects) (sym is) lt))),
-    )
+    → ((i : ℕ) → a.objects ≤ i → i < a.objects + objects_in_declared v → ((i < o.objects) × (o.numbers i ≡ object_at os i)) × (object_at os i ≡ object_at (declared c v d).objects i) × (i < length d.objects)) → IsSettled o v d
+next_settled C o c a (tree.scalar_object i p e) d os fits called final =
+    let z = final a.objects (omega arith) (omega arith) in
+    let f = introduced c i (on p d) in
+    own_settled o d (statements.scalar_first c i e f) os i a.objects fits.0 z.0 z.1
+    (grown_object i f (statements.scalar_first c i e f) (scalar_first_grows C c i e f called) ∙ introduced_object c i (on p d) (subst (λ j. j < length d.objects) (sym fits.0) z.2))
+next_settled C o c a (tree.array_object i p es) d os fits called final =
+    let z = final a.objects (omega arith) (omega arith) in
+    let f = introduced c i (on p d) in
+    own_settled o d (statements.array_first c i es f) os i a.objects fits.0 z.0 z.1
+    (grown_object i f (statements.array_first c i es f) (array_first_grows C c i es f called) ∙ introduced_object c i (on p d) (subst (λ j. j < length d.objects) (sym fits.0) z.2))
+next_settled C o c a (tree.static_object i p) d os fits called final = tt
 
 all_settled : (C : ℕ → Size → Type 0) (o : Final) (c : Context) (vs : List DeclaredTree) (a : Around) (d : Draft) → AreDeclared a vs → AllCalled C c (calls_in_all_declared vs)
-    → ((i : ℕ) → a.objects ≤ i → i < a.objects + length vs → (i < o.objects) × (o.numbers i ≡ object_at (all_declared c vs d).objects i)) → a.objects + length vs ≤ length d.objects → AreAllSettled o c vs d
+    → ((i : ℕ) → a.objects ≤ i → i < a.objects + objects_in_all_declared vs → (i < o.objects) × (o.numbers i ≡ object_at (all_declared c vs d).objects i)) → a.objects + objects_in_all_declared vs ≤ length d.objects → AreAllSettled o c vs d
 unfolding all_declared AreAllSettled
 all_settled C o c [] a d fits called final room = tt
 all_settled C o c (v ∷ vs) a d fits called final room =
     let n = a.objects in
+    let one = objects_in_declared v in
     let e = declared c v d in
-    let first = declared_enlarges [] Free C c v d tt (front_called C c (calls_in_declared v) (calls_in_all_declared vs) called) in
-    let rest = all_declared_enlarges [] (λ i. n + 1 ≤ i) C c vs e (all_among (λ i. n + 1 ≤ i) vs (behind 1 a) fits.1 (λ i h. h)) (back_called C c (calls_in_declared v) (calls_in_all_declared vs) called) in
+    let called_v = front_called C c (calls_in_declared v) (calls_in_all_declared vs) called in
+    let called_vs = back_called C c (calls_in_declared v) (calls_in_all_declared vs) called in
+    let first = declared_enlarges [] Free C c v d (declared_free v) called_v in
+    let rest = all_declared_enlarges [] (λ i. n + one ≤ i) C c vs e (all_among (λ i. n + one ≤ i) vs (behind one a) fits.1 (λ i h. h)) called_vs in
     let size = first.slots in (
-      next_settled C o c a v d (all_declared c vs e).objects fits.0 (front_called C c (calls_in_declared v) (calls_in_all_declared vs) called) (final n (omega arith) (omega arith)) (kept_object (n + 1) n e (all_declared c vs e) rest (omega arith)) (omega (arith, room)),
-      all_settled C o c vs (behind 1 a) e fits.1 (back_called C c (calls_in_declared v) (calls_in_all_declared vs) called) (λ i low high. final i (omega (arith, low)) (omega (arith, high))) (omega (arith, room, size)),
+      next_settled C o c a v d (all_declared c vs e).objects fits.0 called_v (λ i low high. (final i low (omega (arith, high)), kept_object (n + one) i e (all_declared c vs e) rest high, omega (arith, room, high))),
+      all_settled C o c vs (behind one a) e fits.1 called_vs (λ i low high. final i (omega (arith, low)) (omega (arith, high))) (omega (arith, room, size)),
     )
 
 -- ---- branches
@@ -408,14 +410,15 @@ mutual
       let f = lowered_items c is x e in
       let called_v = front_called (Sized g) c (calls_in_declared v) (calls_in_items is) called in
       let called_is = back_called (Sized g) c (calls_in_declared v) (calls_in_items is) called in
-      let first = declared_enlarges [] Free (Sized g) c v d tt called_v in
-      let rest = block_spares g c (behind 1 a) m is x d.points fits.1 h.below called_is e d.points (λ b is some same. let z = h.below b is in absurd (omega (arith, z, same))) in
+      let one = objects_in_declared v in
+      let first = declared_enlarges [] Free (Sized g) c v d (declared_free v) called_v in
+      let rest = block_spares g c (behind one a) m is x d.points fits.1 h.below called_is e d.points (λ b is some same. let z = h.below b is in absurd (omega (arith, z, same))) in
       let many = h.slots in
       let size = first.slots in
       let more = rest.slots in (
-        next_settled (Sized g) o c a v d f.objects fits.0 called_v (h.objects n (omega arith) (omega arith)) (kept_object (n + 1) n e f rest (omega arith)) (omega (arith, many, size, more)),
-        settle_all is g o c (behind 1 a) m x e fits.1 cases bs cs ts js called_is
-            (rest_known g o x m (λ b. times_in b is) (λ b. times_in b is) (n + 1) (objects_in_items is) n (1 + objects_in_items is) d e f h (λ b. omega arith) (omega arith) (omega arith) (forth g (λ i z y. y) first) rest.points),
+        next_settled (Sized g) o c a v d f.objects fits.0 called_v (λ i low high. (h.objects i low (omega (arith, high)), kept_object (n + one) i e f rest high, omega (arith, high, many, size, more))),
+        settle_all is g o c (behind one a) m x e fits.1 cases bs cs ts js called_is
+            (rest_known g o x m (λ b. times_in b is) (λ b. times_in b is) (n + one) (objects_in_items is) n (one + objects_in_items is) d e f h (λ b. omega arith) (omega arith) (omega arith) (forth g (λ i z y. y) first) rest.points),
       )
   settle_all (tree.statement_before s is) g o c a m x d fits cases bs cs ts js called h =
       let n = a.objects in

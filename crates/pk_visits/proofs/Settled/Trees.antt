@@ -38,6 +38,7 @@ IsNext o i d = (i < o.objects) × (o.numbers i ≡ d.variables)
 abbrev pub IsSettled : Final → DeclaredTree → Draft → Type 0
 IsSettled o (tree.scalar_object i q e) d = IsNext o i d
 IsSettled o (tree.array_object i q es) d = IsNext o i d
+IsSettled o (tree.static_object i q) d = Unit {0}
 
 unfoldable pub AreAllSettled : Final → Context → List DeclaredTree → Draft → Type 0
 AreAllSettled o c [] d = Unit {0}

@@ -11,9 +11,9 @@ use Rattle.pk_draft.specs.Drafts.{on, fresh}
 use Rattle.pk_lower_row.specs.Contexts.{Context, local_at}
 use Rattle.pk_lower_statement.specs.declared.statements.Exits.{Exits}
 use Rattle.pk_lower_statement.specs.Statements.{named, introduced, declared, all_declared, lowered_items}
-use Rattle.pk_welltyped.specs.Listed.{calls_in_declared, calls_if, calls_in_values_if, calls_in_all_declared, calls_in_items}
+use Rattle.pk_welltyped.specs.Listed.{objects_in_declared, calls_in_declared, calls_if, calls_in_values_if, calls_in_all_declared, calls_in_items}
 use Rattle.pk_welltyped.specs.WellTyped.{kind_among, Marks, IsDeclared, IsStatement, AreItems}
-use Rattle.pk_meaning.specs.Objects.{Objects, Scope}
+use Rattle.pk_meaning.specs.Objects.{file, Objects, Scope}
 use Rattle.pk_meaning.specs.Programs.{with_local, with_declared, with_all_declared, block_of}
 use Rattle.pk_meaning.specs.Work as work
 use Rattle.pk_meaning.specs.Work.{Place, Work, Ahead}
@@ -27,7 +27,7 @@ use Rattle.pk_visits.proofs.Settled.Shown.{ShowsName, shown_behind, shows_name}
 use Rattle.pk_visits.proofs.Steps.Starts.{for_begun}
 use Rattle.pk_visits.proofs.Stages.{all_called, part_first, part_second, stage_at, forth_none, forth_first}
 use Rattle.pk_visits.proofs.Doom.{calm_plain}
-use Rattle.pk_visits.proofs.Grows.Statements.{OnPath, introduced_enlarges, declared_enlarges, all_declared_enlarges, block, Free, all_free}
+use Rattle.pk_visits.proofs.Grows.Statements.{OnPath, introduced_enlarges, declared_enlarges, all_declared_enlarges, block, Free, declared_free, all_free}
 use Rattle.pk_visits.proofs.Steps.ElementTrees.{local_length}
 use Rattle.pk_visits.proofs.Operands.{calm_more}
 use Rattle.pk_visits.proofs.Steps.Firsts.{scalar_follows, array_follows}
@@ -84,6 +84,7 @@ declared_follows y g chosen m k h x (tree.array_object i q es) o d vs s b u w hs
     subst (λ p. Answers g chosen k y p m (meaning.declares g.program chosen (config k h u vs s b) (tree.array_object i q es) w)) (introduced_point c i (on q d))
     (array_follows y g chosen m k j x i es (o + 1) e0 vs s b u w hs (array_kind t n) (st.path, is) types lengths (ap (λ z. array_kind z n) (sym types) ∙ ap (λ z. array_kind (local_array g k i).int_type z) (sym many)) fits.2 (subst (λ z. _ ≤ z) (sym many) room.3)
     (calm_more d.variables e0.variables hs gv calm) (stage_at g k _ j (calls_in_values_if es) d e0 _ st gp shown) l means same f)
+declared_follows y g chosen m k h x (tree.static_object i q) o d vs s b u w hs fits calm st shown l means same f = still g chosen d.point m k (place q (file i ∷ h.scope)) w vs s x hs l means same f
 
 -- what is known of a declaration in a block: its stage, its name behind it, and the rest
 pub rest_declared : (g : Whole) (proper : Proper g) (k : ℕ) (h : Place) (x : Exits) (xs : Scope) (v : DeclaredTree) (is : ItemTrees) (a : Ahead) (hs : List Held) (d : Draft) (n : ℕ) (m : Marks)
@@ -97,20 +98,20 @@ rest_declared g proper k h x xs v is a hs d n m fits calm t marking settled l =
     let c = context_of g k in
     let e = declared c v d in
     let rest = block (IsCalled c (calls_in_items is)) c _ m is x t.marks Free (λ i o. tt) fits.1 marking (all_called c (calls_in_items is)) e in
-    let first = declared_enlarges t.marks Free (IsCalled c (calls_in_declared v)) c v d tt (all_called c (calls_in_declared v)) in
+    let first = declared_enlarges t.marks Free (IsCalled c (calls_in_declared v)) c v d (declared_free v) (all_called c (calls_in_declared v)) in
     let le = forth_first g k (place d.here.at xs) (calls_in_declared v) (calls_in_items is) d (lowered_items c is x e) t first in
     let lv = first.variables in
     let calm_e = calm_more d.variables e.variables hs lv calm in
     let ys = with_declared g.program k v xs in
     let st = part_first g OnPath k (place d.here.at xs) (calls_in_declared v) (calls_in_items is) d e (lowered_items c is x e) t rest in
-    let shown = shows_name g proper k (place h.at xs) v d st.here st.path settled.0 st.leads.scopes in (
+    let shown = shows_name g proper k (place h.at xs) v n d fits.0 st.here st.path settled.0 st.leads.scopes in (
       st,
       shown,
       (
         calm_plain e.variables hs calm_e,
         (
           e,
-          n + 1,
+          n + objects_in_declared v,
           m,
           refl,
           fits.1,
@@ -139,10 +140,12 @@ next_declared g proper chosen p m k h vs s b x hs xs v is a (plain, (d, n, mark,
 place_then : (g : Whole) (k : ℕ) (v : DeclaredTree) (ds : List DeclaredTree) (h : Place) → place_after g.program k (v ∷ ds) h ≡ place_after g.program k ds (place_after g.program k (v ∷ []) h)
 place_then g k (tree.scalar_object i q e) ds h = refl
 place_then g k (tree.array_object i q es) ds h = refl
+place_then g k (tree.static_object i q) ds h = refl
 
 scope_then : (g : Whole) (k : ℕ) (v : DeclaredTree) (h : Place) → with_declared g.program k v h.scope ≡ (place_after g.program k (v ∷ []) h).scope
 scope_then g k (tree.scalar_object i q e) h = refl
 scope_then g k (tree.array_object i q es) h = refl
+scope_then g k (tree.static_object i q) h = refl
 
 pub none_declared : (g : Whole) (k : ℕ) (h : Place) (x : Exits) (w : Work) (p : ℕ) (hs : List Held) → Laid g k h x (work.Declare [] w) p hs → Laid g k h x w p hs
 unfolding all_declared
@@ -158,17 +161,17 @@ all_declared_next g proper chosen p m k h vs s b x hs v ds w (d, n, at', fits, c
     let end = all_declared c ds e in
     let j = place_after g.program k (v ∷ []) h in
     let rest = all_declared_enlarges t.marks Free (IsCalled c (calls_in_all_declared ds)) c ds e (all_free ds) (all_called c (calls_in_all_declared ds)) in
-    let first = declared_enlarges t.marks Free (IsCalled c (calls_in_declared v)) c v d tt (all_called c (calls_in_declared v)) in
+    let first = declared_enlarges t.marks Free (IsCalled c (calls_in_declared v)) c v d (declared_free v) (all_called c (calls_in_declared v)) in
     let le = forth_first g k (place d.here.at h.scope) (calls_in_declared v) (calls_in_all_declared ds) d end t first in
     let lv = first.variables in
     let st = part_first g OnPath k (place d.here.at h.scope) (calls_in_declared v) (calls_in_all_declared ds) d e end t rest in
-    let shown = shows_name g proper k h v d st.here st.path settled.0 st.leads.scopes in
+    let shown = shows_name g proper k h v n d fits.0 st.here st.path settled.0 st.leads.scopes in
     let here = subst (λ ys. g.shows e.here k (place e.here.at ys)) (scope_then g k v h) (shown_behind g proper k h v d shown) in
     subst (λ q. Answers g chosen k h q m (step_of g.program chosen (config k h (work.Declare (v ∷ ds) w) vs s b) (work.Declare (v ∷ ds) w))) at'
     (declared_follows h g chosen m k h x v n d vs s b (work.Declare (v ∷ ds) w) (work.Declare ds w) hs fits.0 calm
     st shown (
       e,
-      n + 1,
+      n + objects_in_declared v,
       refl,
       fits.1,
       calm_more d.variables e.variables hs lv calm,

@@ -2,7 +2,7 @@
 use Rattle.std.proofs.Common.{◌≡◌, ℕ, zero, suc, ◌+◌, ◌<◌, ◌≤◌, List, [], ◌∷◌, length, arith, Some}
 use Rattle.pk_typed.specs.Trees.{DeclaredTree, ForStartTree, StatementTree, ItemTrees, LocalTree}
 use Rattle.pk_typed.specs.Trees as tree
-use Rattle.pk_welltyped.specs.Listed.{objects_at_start, objects_in, objects_in_items}
+use Rattle.pk_welltyped.specs.Listed.{objects_in_declared, objects_in_all_declared, objects_at_start, objects_in, objects_in_items}
 use Rattle.pk_welltyped.specs.WellTyped
 use Rattle.pk_welltyped.specs.WellTyped.{Around, behind, kind_among, Marks, IsDeclared, AreDeclared, IsForStart, IsStatement, AreItems}
 use Rattle.pk_graph.specs.Kinds.{Kind, scalar_kind, array_kind}
@@ -16,13 +16,14 @@ local_below (x ∷ xs) (suc i) k h = let z = local_below xs i k h in omega (arit
 abbrev pub Fits : Around → ℕ → Type 0
 Fits a n = a.objects + n ≤ length a.locals
 
-declared_fits : (a : Around) (v : DeclaredTree) → IsDeclared a v → Fits a 1
-declared_fits a (tree.scalar_object i at e) h = let z = local_below a.locals i (scalar_kind h.1.0) h.1.1 in let y = h.0 in omega (arith, z, y)
-declared_fits a (tree.array_object i at es) h = let z = local_below a.locals i (array_kind h.1.0 h.1.1) h.1.2 in let y = h.0 in omega (arith, z, y)
+declared_fits : (a : Around) (v : DeclaredTree) → IsDeclared a v → Fits a 0 → Fits a (objects_in_declared v)
+declared_fits a (tree.scalar_object i at e) h f = let z = local_below a.locals i (scalar_kind h.1.0) h.1.1 in let y = h.0 in omega (arith, z, y)
+declared_fits a (tree.array_object i at es) h f = let z = local_below a.locals i (array_kind h.1.0 h.1.1) h.1.2 in let y = h.0 in omega (arith, z, y)
+declared_fits a (tree.static_object i at) h f = f
 
-all_fit : (vs : List DeclaredTree) (a : Around) → AreDeclared a vs → Fits a 0 → Fits a (length vs)
+all_fit : (vs : List DeclaredTree) (a : Around) → AreDeclared a vs → Fits a 0 → Fits a (objects_in_all_declared vs)
 all_fit [] a h f = f
-all_fit (v ∷ vs) a h f = let z = all_fit vs (behind 1 a) h.1 (let y = declared_fits a v h.0 in omega (arith, y)) in omega (arith, z)
+all_fit (v ∷ vs) a h f = let z = all_fit vs (behind (objects_in_declared v) a) h.1 (let y = declared_fits a v h.0 f in omega (arith, y)) in omega (arith, z)
 
 start_fits : (s : ForStartTree) (a : Around) → IsForStart a s → Fits a 0 → Fits a (objects_at_start s)
 start_fits (tree.declarations vs) a h f = all_fit vs a h f
@@ -51,5 +52,5 @@ mutual
 
   pub items_fit : (is : ItemTrees) (a : Around) (m : Marks) → AreItems a m is → Fits a 0 → Fits a (objects_in_items is)
   items_fit tree.no_items a m h f = f
-  items_fit (tree.declared_before v is) a m h f = let z = items_fit is (behind 1 a) m h.1 (let y = declared_fits a v h.0 in omega (arith, y)) in omega (arith, z)
+  items_fit (tree.declared_before v is) a m h f = let z = items_fit is (behind (objects_in_declared v) a) m h.1 (let y = declared_fits a v h.0 f in omega (arith, y)) in omega (arith, z)
   items_fit (tree.statement_before s is) a m h f = let z = items_fit is (behind (objects_in s) a) m h.1 (let y = statement_fits s a m h.0 f in omega (arith, y)) in omega (arith, z)

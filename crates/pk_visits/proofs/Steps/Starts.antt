@@ -81,7 +81,7 @@ for_begun g proper k h x q start v third s a hs d n m fits calm t marking settle
     let from_f : Enlarges ms Free C f0 W = path_then (enlarges ms Free C f0 b (stays_then (on_adds ms Free C q f0) (begun_adds ms Free C f1))) from_b in
     let first = start_enlarges ms Free (IsCalled c xs) c start d0 (start_free start) (all_called c xs) in
     let st = part_first g OnPath k j xs ys d0 f0 W t0 from_f in
-    let shows = start_shown g proper k h.scope q start d t.here settled.0 st in
+    let shows = start_shown g proper k h.scope q start n d fits.0 t.here settled.0 st in
     let le = forth_first g k j xs ys d0 W t0 first in
     let z = begun g OnPath C k j inner (xs ++ ys) d0 f1 W t0 le from_b shows in
     let U = Any in

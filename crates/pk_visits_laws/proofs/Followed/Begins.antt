@@ -4,11 +4,11 @@ use Rattle.std.proofs.lemmas.List.{length-map}
 use Rattle.std.specs.Prelude.{slice_get, option_map, unwrap_or}
 use Rattle.pk_ctypes.specs.declared.types.IntType.{IntType}
 use Rattle.pk_ctypes.specs.declared.places.Pos.{Pos}
-use Rattle.pk_typed.specs.Trees.{BodyTree, FunctionTree, FileObjectTree, UnitTree}
+use Rattle.pk_typed.specs.Trees.{BodyTree, FunctionTree, UnitTree}
 use Rattle.pk_calls.specs.declared.listings.CallPath.{CallPath}
 use Rattle.pk_calls.proofs.LeadLemmas.{slice_get_left}
 use Rattle.pk_graph.specs.declared.graphs.Scope.{Scope}
-use Rattle.pk_graph.specs.Graphs.{VariableOf, scope_at, no_variable}
+use Rattle.pk_graph.specs.Graphs.{scope_at, no_variable}
 use Rattle.pk_draft.specs.declared.drafts.Label.{Label}
 use Rattle.pk_draft.specs.declared.drafts.Region.{Region}
 use Rattle.pk_draft.specs.Drafts.{DraftOf, file_scopes}
@@ -31,10 +31,10 @@ use Rattle.pk_visits.proofs.Settled.Parameters.{parameters_shown}
 use Rattle.pk_visits.proofs.Grows.Parts.{first_of, placed_here, begun_position}
 use Rattle.pk_visits_laws.proofs.Followed.Paths.{block_is, function_is}
 use Rattle.pk_visits_laws.proofs.Followed.Pairs.{slot_of, whole, world, AreTyped}
-use Rattle.pk_visits_laws.proofs.Followed.Naming.{naming, Made, file_is}
+use Rattle.pk_visits_laws.proofs.Followed.Naming.{naming, Made}
 use Rattle.pk_visits_laws.proofs.Followed.Graphs.{program_of, by_numbers, IsOf, Shows, graph}
 use Rattle.pk_visits_laws.proofs.Followed.Copies.{numbers_are, file_made}
-use Rattle.pk_visits_laws.proofs.Followed.Propers.{scope_nothing, scope_behind}
+use Rattle.pk_visits_laws.proofs.Followed.Propers.{scope_nothing, scope_behind, file_name}
 use Rattle.pk_visits_laws.proofs.Followed.PartAdds.{context_at, body_begun}
 use Rattle.pk_visits_laws.proofs.Followed.Pending.{PathAt}
 use Rattle.pk_visits_laws.proofs.Followed.Bodies.{part_closes, rest_adds}
@@ -83,14 +83,6 @@ in_file_scope : (n : ℕ) (x : Object) → Among x (file_scope n) → (i : ℕ) 
 in_file_scope zero x h = absurd h
 in_file_scope (suc n) x (inl e) = (n, e, omega arith)
 in_file_scope (suc n) x (inr h) = let r = in_file_scope n x h in let b = r.2 in (r.0, r.1, omega (b, arith))
-
-file_name : (u : UnitTree) (paths : List CallPath) (h : AreTyped u paths) (i : ℕ) → i < length u.objects → unwrap_or (slice_index_or (by_numbers u paths).made i no_variable).name [] ≡ name_of (program_of u paths) (file i)
-file_name u paths h i b =
-    let f = file_is u paths h i b in
-    let made = ap (λ (d : DraftOf ℕ). d.made) (numbers_are u paths) in
-    ap (λ (ms : List VariableOf). unwrap_or (slice_index_or ms i no_variable).name []) made
-    ∙ (ap (λ (v : VariableOf). unwrap_or v.name []) f.2
-    ∙ sym (ap (λ (o : Option FileObjectTree). unwrap_or (option_map (λ (x : FileObjectTree). x.name) o) []) f.1))
 
 file_shown : (u : UnitTree) (paths : List CallPath) (h : AreTyped u paths) (k n : ℕ) (p : Pos) → k < length paths → n ≤ length u.objects → Shows u paths (record { at = p; path = k; scope = n }) k (place p (file_scope n))
 file_shown u paths h k n p b few = record {

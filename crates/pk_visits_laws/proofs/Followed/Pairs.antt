@@ -184,6 +184,7 @@ lasting u entry paths h has l are =
       results = λ k n l q p t at r o. record { there = (omega (o.there, same, arith), own_result u paths k n l q p t at r o); kind = kind_is ms _ ∙ ap (λ (v : VariableOf). v.kind) o.is };
       named = λ k i m b. inr (k, i, m, b, refl);
       begun = λ k i m b. inr (k, i, m, b, refl);
+      shared = λ i l. (omega (l, many, same, arith), inl l);
       outside = λ k i p at e b. record { path = p; there = at; entry = e; parameter = b };
     }
 

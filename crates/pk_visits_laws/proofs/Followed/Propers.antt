@@ -3,7 +3,7 @@ use Rattle.std.proofs.Common.{◌≡◌, ℕ, zero, suc, ◌+◌, ◌<◌, inl, 
 use Rattle.std.proofs.lemmas.Option.{none-some, get_or_from_slice_get}
 use Rattle.std.specs.Prelude.{slice_get, option_map, unwrap_or}
 use Rattle.pk_ctypes.specs.declared.types.IntType.{IntType}
-use Rattle.pk_typed.specs.Trees.{LocalTree, FunctionTree, UnitTree}
+use Rattle.pk_typed.specs.Trees.{LocalTree, FunctionTree, FileObjectTree, UnitTree}
 use Rattle.pk_calls.specs.declared.listings.CallPath.{CallPath}
 use Rattle.pk_calls.specs.Paths.{entry_path, path_by, IsListing}
 use Rattle.pk_graph.specs.declared.graphs.Scope.{Scope}
@@ -28,9 +28,9 @@ use Rattle.pk_ctypes.proofs.Small.{both_true}
 use Rattle.pk_visits_laws.proofs.Followed.Basics.{number_is, some_at}
 use Rattle.pk_visits_laws.proofs.Followed.Paths.{first_of, call_is, callee_is, function_is}
 use Rattle.pk_visits_laws.proofs.Followed.Pairs.{whole, final, ends_of, IsLocal, locals_at, world, function_at_path, AreTyped}
-use Rattle.pk_visits_laws.proofs.Followed.Naming.{naming, Made}
+use Rattle.pk_visits_laws.proofs.Followed.Naming.{naming, Made, file_is}
 use Rattle.pk_visits_laws.proofs.Followed.Graphs.{program_of, by_numbers, over_slots, IsOf, Shows, graph}
-use Rattle.pk_visits_laws.proofs.Followed.Copies.{slots_are, numbers_are, local_made}
+use Rattle.pk_visits_laws.proofs.Followed.Copies.{slots_are, numbers_are, file_made, local_made}
 use Rattle.pk_visits_laws.proofs.Followed.Starts.{locals_same}
 use Rattle.pk_typed.specs.Defaults.{no_local}
 use Rattle.pk_graph.specs.Kinds.{scalar_kind}
@@ -123,34 +123,42 @@ object_name u paths h k i b c =
     ∙ (ap (λ (o : Option (List ℕ)). unwrap_or o []) (local_name u paths k i (naming u paths (own (local k i))) m.1)
     ∙ ap (λ (xs : List LocalTree). unwrap_or (slice_index_or xs i no_local).name []) (locals_are u paths k (h.parts k b)))
 
+pub file_name : (u : UnitTree) (paths : List CallPath) (h : AreTyped u paths) (i : ℕ) → i < length u.objects → unwrap_or (slice_index_or (by_numbers u paths).made i no_variable).name [] ≡ name_of (program_of u paths) (file i)
+file_name u paths h i b =
+    let f = file_is u paths h i b in
+    let made = ap (λ (d : DraftOf ℕ). d.made) (numbers_are u paths) in
+    ap (λ (ms : List VariableOf). unwrap_or (slice_index_or ms i no_variable).name []) made
+    ∙ (ap (λ (v : VariableOf). unwrap_or v.name []) f.2
+    ∙ sym (ap (λ (o : Option FileObjectTree). unwrap_or (option_map (λ (x : FileObjectTree). x.name) o) []) f.1))
+
 -- ---- a name more
 
-abbrev named_place : Place → ℕ → ℕ → Place
-named_place h k i = place h.at (local k i ∷ h.scope)
-
-enters : (u : UnitTree) (paths : List CallPath) (h : AreTyped u paths) (l : Label) (k i n : ℕ) (j : Place) → Shows u paths l k j → k < length paths → i < (ends_of u paths k).objects
-    → slice_get (over_slots u paths).scopes n ≡ Some (record { variable = (ends_of u paths k).numbers i; outer = l.scope })
-    → Shows u paths (record { at = l.at; path = l.path; scope = n + 1 }) k (named_place j k i)
-enters u paths h l k i n j s b c e =
+-- an object of the file or of the path comes into scope
+comes_in : (u : UnitTree) (paths : List CallPath) (h : AreTyped u paths) (l : Label) (k n : ℕ) (j : Place) (x : Object) → Shows u paths l k j → Made u paths (own x)
+    → unwrap_or (slice_index_or (by_numbers u paths).made (naming u paths (own x)) no_variable).name [] ≡ name_of (program_of u paths) x → IsOf k x
+    → slice_get (over_slots u paths).scopes n ≡ Some (record { variable = naming u paths (own x); outer = l.scope })
+    → Shows u paths (record { at = l.at; path = l.path; scope = n + 1 }) k (place j.at (x ∷ j.scope))
+comes_in u paths h l k n j x s made name of e =
     let slots = ap (λ (d : Draft). d.scopes) (slots_are u paths) in
     let numbers = ap (λ (d : DraftOf ℕ). d.scopes) (numbers_are u paths) in
     let same : (over_slots u paths).scopes ≡ (by_numbers u paths).scopes = slots ∙ sym numbers in
     let chain : AreChained (by_numbers u paths).scopes = subst AreChained (sym numbers) h.typed.chain in
-    let there : slice_get (by_numbers u paths).scopes n ≡ Some (record { variable = (ends_of u paths k).numbers i; outer = l.scope }) = ap (λ (ss : List Scope). slice_get ss n) (sym same) ∙ e in
-    let more = scope_behind (by_numbers u paths).scopes chain n (record { variable = (ends_of u paths k).numbers i; outer = l.scope }) there in
+    let entry : Scope = record { variable = naming u paths (own x); outer = l.scope } in
+    let there : slice_get (by_numbers u paths).scopes n ≡ Some entry = ap (λ (ss : List Scope). slice_get ss n) (sym same) ∙ e in
+    let more = scope_behind (by_numbers u paths).scopes chain n entry there in
     record {
-      path = b;
+      path = s.path;
       shown = record {
         path = s.shown.path;
         at = s.shown.at;
-        scope = more ∙ ap (λ (xs : List ℕ). (ends_of u paths k).numbers i ∷ xs) s.shown.scope;
-        made = λ x a. elim a [ inl q ↦ subst (λ (y : Object). Made u paths (own y)) (sym q) (local_made u paths h k i b c) | inr q ↦ s.shown.made x q ];
-        names = λ x a. elim a [
-          | inl q ↦ subst (λ (y : Object). unwrap_or (slice_index_or (by_numbers u paths).made (naming u paths (own y)) no_variable).name [] ≡ name_of (program_of u paths) y) (sym q) (object_name u paths h k i b c)
-          | inr q ↦ s.shown.names x q
+        scope = more ∙ ap (λ (xs : List ℕ). naming u paths (own x) ∷ xs) s.shown.scope;
+        made = λ y a. elim a [ inl q ↦ subst (λ (z : Object). Made u paths (own z)) (sym q) made | inr q ↦ s.shown.made y q ];
+        names = λ y a. elim a [
+          | inl q ↦ subst (λ (z : Object). unwrap_or (slice_index_or (by_numbers u paths).made (naming u paths (own z)) no_variable).name [] ≡ name_of (program_of u paths) z) (sym q) name
+          | inr q ↦ s.shown.names y q
         ];
       };
-      own = λ x a. elim a [ inl q ↦ subst (IsOf k) (sym q) refl | inr q ↦ s.own x q ];
+      own = λ y a. elim a [ inl q ↦ subst (IsOf k) (sym q) of | inr q ↦ s.own y q ];
     }
 
 -- ---- parameters
@@ -186,6 +194,7 @@ is_proper u entry paths l h = record {
   at_positions = λ m k j s. sym s.shown.at;
   positions = λ m k xs q s. record { path = s.path; shown = record { path = s.shown.path; at = refl; scope = s.shown.scope; made = s.shown.made; names = s.shown.names }; own = s.own };
   scopes = λ m k n i j s b. not_in_scope k n i j.scope b s.own;
-  enters = λ m k i n j s b c e. enters u paths h m k i n j s b c e;
+  enters = λ m k i n j s b c e. comes_in u paths h m k n j (local k i) s (local_made u paths h k i b c) (object_name u paths h k i b c) refl e;
+  shares = λ m k i n j s b e. comes_in u paths h m k n j (file i) s (file_made u paths h i b) (file_name u paths h i b) tt e;
   parameters = λ m i t b e. parameter_there u paths h m i t b e;
 }

@@ -1,4 +1,4 @@
-use Rattle.std.specs.Prelude.{◌≡◌, ◌*◌, ◌<◌, ◌↔◌, ℕ, ℤ, List, Option}
+use Rattle.std.specs.Prelude.{◌≡◌, ◌*◌, ◌<◌, ◌≤◌, ◌↔◌, ℕ, ℤ, List, Option}
 use Rattle.std.proofs.Common.{◌∙◌, ap, subst, sym}
 use Rattle.std.proofs.lemmas.List.{with_items_is}
 use Rattle.std.specs.Vec.{with_items}
@@ -7,7 +7,10 @@ use Rattle.pk_octmat.specs.Shapes.{left_of}
 use Rattle.pk_octclose.specs.Places.{closing_of}
 use Rattle.pk_octclose.proofs.Floyd.{close_is}
 use Rattle.pk_octmat.specs.declared.shape.Shape.TheVariants.{Kept, Empty}
-use Rattle.pk_octclose.specs.Closing.{IsClosing, IsEmpty, IsClosed, KeepsPoints}
+use Rattle.pk_octclose.specs.Closing.{IsClosing, IsEmpty, IsClosed, IsSmall, KeepsPoints}
+use Rattle.pk_octclose.proofs.Best.{Closes, kept_best, kept_decides, kept_tight}
+use Rattle.pk_octmat.specs.Bounds.{AtMost}
+use Rattle.pk_octpoints.specs.Tight.{IsTight}
 use Rattle.pk_octclose.proofs.closing.close.Goals as goal
 
 -- the octagon that was there
@@ -52,3 +55,31 @@ returns-clause-value c =
     (ap (λ (o : Octagon). o.vars) c.m.view_is)
     (subst (λ (o : Octagon). c.close_cells.result ≡ Kept → IsClosing (2 * o.vars) (entry o) (entry n)) (was c) c.close_cells.ensures.kept)
     (subst (λ (o : Octagon). c.close_cells.result ≡ Empty → IsEmpty (2 * o.vars) (entry o)) (was c) c.close_cells.ensures.empty.0))
+
+-- what small matrices have besides
+closes : (c : goal.After-m-1) → (let n : Octagon = record { vars = c.m.inside.vars; cells = c.close_cells.new.cells } in Closes c.close_cells.result c.args.m.now n)
+closes c =
+    let n : Octagon = record { vars = c.m.inside.vars; cells = c.close_cells.new.cells } in
+    record {
+      whole = subst (λ (o : Octagon). IsOctagon o) c.m.view_is c.m.invariant;
+      vars = ap (λ (o : Octagon). o.vars) c.m.view_is;
+      kept = subst (λ (o : Octagon). c.close_cells.result ≡ Kept → IsClosing (2 * o.vars) (entry o) (entry n)) (was c) c.close_cells.ensures.kept;
+      points = subst (λ (o : Octagon). c.close_cells.result ≡ Kept → KeepsPoints (entry o) (entry n)) (was c) c.close_cells.ensures.points;
+      none = returns-clause-none c;
+    }
+
+pub returns-clause-tight : goal.returns-clause-tight
+returns-clause-tight c =
+    let n : Octagon = record { vars = c.m.inside.vars; cells = c.close_cells.new.cells } in
+    subst (λ (xs : List (Option ℤ)). IsSmall c.args.m.now → c.args.m.now.vars ≤ 64 → c.close_cells.result ≡ Kept → IsTight c.m.inside.vars (cell_at (2 * c.m.inside.vars) xs)) (sym (made c)) (kept_tight c.close_cells.result c.args.m.now n (closes c))
+
+pub returns-clause-decides : goal.returns-clause-decides
+returns-clause-decides c =
+    let n : Octagon = record { vars = c.m.inside.vars; cells = c.close_cells.new.cells } in
+    kept_decides c.close_cells.result c.args.m.now n (closes c)
+
+pub returns-clause-best : goal.returns-clause-best
+returns-clause-best c =
+    let n : Octagon = record { vars = c.m.inside.vars; cells = c.close_cells.new.cells } in
+    subst (λ (xs : List (Option ℤ)). IsSmall c.args.m.now → c.args.m.now.vars ≤ 64 → c.close_cells.result ≡ Kept → (f : ℕ → ℕ → Option ℤ) → ((x : ℕ → ℤ) → Meets (entry c.args.m.now) x → Meets f x) → (i j : ℕ) → i < 2 * c.args.m.now.vars → j < 2 * c.args.m.now.vars
+    → AtMost (cell_at (2 * c.m.inside.vars) xs i j) (f i j)) (sym (made c)) (kept_best c.close_cells.result c.args.m.now n (closes c))

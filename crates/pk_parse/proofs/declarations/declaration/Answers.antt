@@ -1,11 +1,13 @@
 use Rattle.std.proofs.Common.{length, sym, ap, ◌∙◌, arith}
+use Rattle.pk_ast.specs.Lists.{one}
 use Rattle.pk_ast.specs.Views.{specifiers_tree, declarators_tree}
 use Rattle.pk_grammar.specs.declared.signs.Fixed.TheVariants as fixed
 use Rattle.pk_grammar.specs.Machine.Steps.{declared_at}
 use Rattle.pk_grammar.specs.Machine.Running.{run}
 use Rattle.pk_parse_expression.proofs.RunLemmas.{passed, fails_as}
+use Rattle.pk_parse_expression.proofs.WordLemmas.{no_longer}
 use Rattle.pk_parse_expression.proofs.KeptLemmas.{made, not_made}
-use Rattle.pk_parse.proofs.DeclarationLemmas.{shorter, named_first, can_declare_inner, stops_first_name, run_named, past_words_shorter}
+use Rattle.pk_parse.proofs.DeclarationLemmas.{shorter, named_first, can_declare_inner, stops_first_name, run_named}
 use Rattle.pk_parse.proofs.declarations.declaration.Goals as goal
 
 pub returns-in_err-token : goal.returns-in_err-token
@@ -25,7 +27,7 @@ returns c =
     let n = made _ _ _ _ c.expect.ensures c.in_ok-token.ensures.0 in
     let r = made _ _ _ _ c.declarators.ensures c.in_ok-declarators.ensures.0 in
     let a = shorter fixed.Name _ _ _ n in
-    let b = past_words_shorter c.args.tokens.now in
+    let b = no_longer c.args.tokens.now (one c.args.first) in
     let e = ap length w.1 in
     let h = r.1 in (
       λ s inner same. run_named _ _ c.requires s same _ _ _ _ w _ _ _ n c.identifier.ensures

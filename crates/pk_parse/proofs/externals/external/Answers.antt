@@ -1,10 +1,11 @@
 use Rattle.std.proofs.Common.{length, sym, ap, ◌∙◌, arith}
+use Rattle.pk_ast.specs.Lists.{one}
 use Rattle.pk_ast.specs.Views.{declarators_tree}
 use Rattle.pk_grammar.specs.declared.signs.Fixed.TheVariants as fixed
 use Rattle.pk_grammar.specs.Machine.Running.{syntax}
 use Rattle.pk_parse_expression.proofs.RunLemmas.{passed}
 use Rattle.pk_parse_expression.proofs.WordLemmas as word_lemmas
-use Rattle.pk_parse.proofs.DeclarationLemmas.{shorter, past_words_shorter}
+use Rattle.pk_parse.proofs.DeclarationLemmas.{shorter}
 use Rattle.pk_parse.proofs.ExternalLemmas.{no_longer, stops_word, stops_name, fails_declarators, reads_objects, fails_parameters, fails_body, reads_function}
 use Rattle.pk_parse.proofs.externals.external.Goals as goal
 
@@ -29,7 +30,7 @@ returns-in_default-take c =
     let r = c.in_ok-declarators.ensures in
     let a = no_longer c.args.parser.end c.args.tokens.now c.storage-storage.result.1.now c.storage-storage.result.0 c.storage-storage.ensures.rest in
     let b = word_lemmas.shorter _ _ _ c.in-Some.ensures in
-    let d = past_words_shorter c.in-Some.after_word.now in
+    let d = word_lemmas.no_longer c.in-Some.after_word.now (one c.in-Some.word) in
     let e = ap length c.in_ok-words.ensures.1 in
     let f = shorter fixed.Name _ _ _ c.in_ok-token.ensures in
     let g = r.1 in (
@@ -56,7 +57,7 @@ returns c =
     let r = c.in_ok-body.ensures in
     let a = no_longer c.args.parser.end c.args.tokens.now c.storage-storage.result.1.now c.storage-storage.result.0 c.storage-storage.ensures.rest in
     let b = word_lemmas.shorter _ _ _ c.in-Some.ensures in
-    let d = past_words_shorter c.in-Some.after_word.now in
+    let d = word_lemmas.no_longer c.in-Some.after_word.now (one c.in-Some.word) in
     let e = ap length c.in_ok-words.ensures.1 in
     let f = shorter fixed.Name _ _ _ c.in_ok-token.ensures in
     let g = shorter fixed.OpenParenthesis _ _ _ c.in-Some-take.ensures in

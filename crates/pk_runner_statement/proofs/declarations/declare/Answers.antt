@@ -1,8 +1,8 @@
-use Rattle.std.proofs.Common.{◌≡◌, ℕ, ap, ◌∙◌, sym, subst, List, IfOk, option_map}
+use Rattle.std.proofs.Common.{◌≡◌, ℕ, ap, ◌∙◌, sym, subst, List, ◌∷◌, IfOk, option_map}
 use Rattle.pk_typed.specs.declared.statements.Declared.{Declared}
 use Rattle.pk_typed.specs.Views.{value_tree, declared_tree, optional_values}
 use Rattle.pk_graph.specs.Steps.{Numbers}
-use Rattle.pk_meaning.specs.Objects.{Scope}
+use Rattle.pk_meaning.specs.Objects.{file, Scope}
 use Rattle.pk_meaning.specs.Programs as programs
 use Rattle.pk_meaning.specs.Programs.{Program}
 use Rattle.pk_meaning.specs.Steps as steps
@@ -41,3 +41,18 @@ returns-in-Array-clause-told c = λ s at agrees.
     (after_in s hs (programs.with_declared p k (declared_tree d) xs) c.args.after)))) (sym c.in-Array.is)
     (subst (λ (ys : Scope). IfOk c.begin_array.result (λ r. Told s c.args.state.now c.begin_array.new.state r (steps.array_first p ch (standing
     (place c.in-Array.at ys) old) c.in-Array.object (optional_values c.in-Array.list) (after_in s hs ys c.args.after)))) e (c.begin_array.ensures s))
+
+pub returns-in-Static-clause-told : goal.returns-in-Static-clause-told
+unfolding declared_tree shown
+returns-in-Static-clause-told c = λ s at agrees.
+    let old : Config = shown s c.args.state.now in
+    let p : Program = program_in c.args.program.now in
+    let k : ℕ = c.args.state.now.path in
+    let ch : Numbers = c.args.chosen.now in
+    let hs : List Held = held s c.args.state.now.frames.items in
+    let xs : Scope = scope_in s c.args.scope in
+    let e : scope_in s c.in_ok-inner.inner ≡ file c.in-Static._file ∷ xs = c.in_ok-inner.ensures.scope s agrees ∙ ap (λ (d : Declared). programs.with_declared p k (declared_tree d) xs) c.in-Static.is in
+    subst (λ (d : Declared). IfOk c.name_static.result (λ r. Told s c.args.state.now c.name_static.new.state r (steps.declares p ch (standing (place at xs) old) (declared_tree d)
+    (after_in s hs (programs.with_declared p k (declared_tree d) xs) c.args.after)))) (sym c.in-Static.is)
+    (subst (λ (ys : Scope). IfOk c.name_static.result (λ r. Told s c.args.state.now c.name_static.new.state r (steps.on (standing
+    (place c.in-Static.at ys) old) (after_in s hs ys c.args.after) old.values))) e (c.name_static.ensures s))

@@ -1,6 +1,7 @@
 use Rattle.std.proofs.Common.{◌+◌, ◌<◌, ◌≤◌, SFits, w8, length, refl, sym, ap, subst, ◌∙◌, arith, rules}
 use Rattle.std.proofs.lemmas.Int.{to_z-of_z}
 use Rattle.pk_ast.specs.Trees.{call, index, character, parenthesized, binary, conditional, assignment, comma}
+use Rattle.pk_ast.specs.Lists.{one}
 use Rattle.pk_ast.specs.Views.{expression_tree, expression_trees, specifiers_tree}
 use Rattle.pk_grammar.specs.Grammar.{operators_in, postfixes_in, commas_in}
 use Rattle.pk_grammar.specs.Machine.States.{Context, in_call, in_index, in_parentheses, in_cast, in_choice, in_alternative, in_assignment, in_comma, named, operand, complete}
@@ -181,7 +182,7 @@ cast-returns t c =
       reads_cast c.args.self.end c.args.outside c.args.at c.args.first c.args.tokens.now (specifiers_tree c.in_ok-words.words) c.in_ok-words.rest.now s.0 s.1 _ _ _ (expression_tree c.in_ok-operand.operand) _
           c.in_ok-after.ensures (below _ c.requires) o.0 o.1.ends w,
       record { operators = ap operators_in w; commas = ap commas_in w; ends = o.1.ends },
-      (let p = o.2 in let q = s.1 in omega (arith, no_longer c.args.tokens.now, ap length s.1, ap length c.in_ok-after.ensures.cut)),
+      (let p = o.2 in let q = s.1 in omega (arith, no_longer c.args.tokens.now (one c.args.first), ap length s.1, ap length c.in_ok-after.ensures.cut)),
     )
 
 -- What begins with a `(`

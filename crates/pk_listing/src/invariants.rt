@@ -1,0 +1,228 @@
+// What holds at the heads of loops, and at other points that a report tells.
+
+ghost use Rattle.std.specs.Prelude.{◌≡◌, ◌++◌, OnOk};
+ghost use Rattle.std.specs.Fmt.{signed_decimal};
+ghost use Rattle.pk_show.specs.Paths.{path_in};
+ghost use Rattle.pk_show.specs.Rows.{array_mark, front_of};
+ghost use Rattle.pk_listing.specs.Invariants.{heading_words, way_to, heading_text, times_text, form_text, class_text, class_end, known_text, name_text, value_text, most_text, sign_text, left_text, right_text, bound_text, fact_text, facts_text, invariants_text};
+
+use crate::places::{write, write_path, write_place};
+use itoa::Buffer;
+use pk_findings::{Text, write_range};
+use pk_show::{Bound, Form, Heading, Known, Row, Value, read_path};
+use std::alloc::{AllocError, Global};
+
+fn heading_words(is_head: bool) -> &'static [u8]
+    ensures { result.now ≡ heading_words is_head }
+{
+    if is_head {
+        b": loop: in every run, whenever it is at its head:\n"
+    } else {
+        b": point: in every run, whenever it is here:\n"
+    }
+}
+
+fn write_way(
+    alloc: Global,
+    bytes: &mut Vec<u8>,
+    text: &Text<'_>,
+    path: &[u8],
+) -> Result<(), AllocError>
+    ensures { OnOk result (bytes.new.items ≡ bytes.old.items ++ way_to text.now (path_in path.now)) }
+{
+    match read_path(alloc, path)? {
+        Some(path) => {
+            write_path(alloc, bytes, text, &path)?;
+            write(bytes, b"\n")
+        }
+        None => Ok(()),
+    }
+}
+
+#[tactic(auto, unfolding(crate::specs::Invariants::heading_text))]
+fn write_heading(
+    alloc: Global,
+    bytes: &mut Vec<u8>,
+    text: &Text<'_>,
+    heading: &Heading<'_>,
+) -> Result<(), AllocError>
+    ensures { OnOk result (bytes.new.items ≡ bytes.old.items ++ heading_text text.now heading.now) }
+{
+    write_place(alloc, bytes, text, heading.at)?;
+    write(bytes, heading_words(heading.is_head))?;
+    write_way(alloc, bytes, text, heading.path)
+}
+
+fn write_number(bytes: &mut Vec<u8>, number: i128) -> Result<(), AllocError>
+    ensures { OnOk result (bytes.new.items ≡ bytes.old.items ++ signed_decimal number) }
+{
+    let mut buffer = Buffer::new();
+    write(bytes, buffer.format(number).as_bytes())
+}
+
+fn write_times(bytes: &mut Vec<u8>, rest: i128) -> Result<(), AllocError>
+    ensures { OnOk result (bytes.new.items ≡ bytes.old.items ++ times_text rest) }
+{
+    write(bytes, b"k + ")?;
+    write_number(bytes, rest)
+}
+
+fn write_form(bytes: &mut Vec<u8>, modulus: i128, rest: i128) -> Result<(), AllocError>
+    ensures { OnOk result (bytes.new.items ≡ bytes.old.items ++ form_text modulus rest) }
+{
+    write(bytes, b", of the form ")?;
+    write_number(bytes, modulus)?;
+    write_times(bytes, rest)
+}
+
+fn write_class(bytes: &mut Vec<u8>, known: Known) -> Result<(), AllocError>
+    ensures { OnOk result (bytes.new.items ≡ bytes.old.items ++ class_text known) }
+{
+    if 1 < known.modulus {
+        write_form(bytes, known.modulus, known.rest)
+    } else {
+        Ok(())
+    }
+}
+
+fn write_class_end(bytes: &mut Vec<u8>, known: Known) -> Result<(), AllocError>
+    ensures { OnOk result (bytes.new.items ≡ bytes.old.items ++ class_end known) }
+{
+    write_class(bytes, known)?;
+    write(bytes, b"\n")
+}
+
+#[tactic(auto, unfolding(crate::specs::Invariants::known_text))]
+fn write_known(bytes: &mut Vec<u8>, known: Known) -> Result<(), AllocError>
+    ensures { OnOk result (bytes.new.items ≡ bytes.old.items ++ known_text known) }
+{
+    write(bytes, b" in ")?;
+    write_range(bytes, known.lo, known.hi)?;
+    write_class_end(bytes, known)
+}
+
+fn array_mark(is_array: bool) -> &'static [u8]
+    ensures { result.now ≡ array_mark is_array }
+{
+    if is_array { b"[]" } else { b"" }
+}
+
+fn write_name(bytes: &mut Vec<u8>, value: &Value<'_>) -> Result<(), AllocError>
+    ensures { OnOk result (bytes.new.items ≡ bytes.old.items ++ name_text value.now) }
+{
+    write(bytes, value.name)?;
+    write(bytes, array_mark(value.is_array))
+}
+
+#[tactic(auto, unfolding(crate::specs::Invariants::value_text))]
+fn write_value(bytes: &mut Vec<u8>, value: &Value<'_>) -> Result<(), AllocError>
+    ensures { OnOk result (bytes.new.items ≡ bytes.old.items ++ value_text value.now) }
+{
+    write(bytes, b"    ")?;
+    write_name(bytes, value)?;
+    write_known(bytes, value.known)
+}
+
+fn write_most(bytes: &mut Vec<u8>, most: i128) -> Result<(), AllocError>
+    ensures { OnOk result (bytes.new.items ≡ bytes.old.items ++ most_text most) }
+{
+    write(bytes, b" <= ")?;
+    write_number(bytes, most)?;
+    write(bytes, b"\n")
+}
+
+fn front_of(form: Form) -> &'static [u8]
+    ensures { result.now ≡ front_of form }
+{
+    match form {
+        Form::Difference => b"",
+        Form::Sum => b"",
+        Form::NegatedSum => b"-",
+    }
+}
+
+fn sign_text(form: Form) -> &'static [u8]
+    ensures { result.now ≡ sign_text form }
+{
+    match form {
+        Form::Difference => b" - ",
+        Form::Sum => b" + ",
+        Form::NegatedSum => b" - ",
+    }
+}
+
+fn write_left(bytes: &mut Vec<u8>, bound: &Bound<'_>) -> Result<(), AllocError>
+    ensures { OnOk result (bytes.new.items ≡ bytes.old.items ++ left_text bound.now) }
+{
+    write(bytes, front_of(bound.form))?;
+    write(bytes, bound.left)
+}
+
+fn write_right(bytes: &mut Vec<u8>, bound: &Bound<'_>) -> Result<(), AllocError>
+    ensures { OnOk result (bytes.new.items ≡ bytes.old.items ++ right_text bound.now) }
+{
+    write(bytes, sign_text(bound.form))?;
+    write(bytes, bound.right)?;
+    write_most(bytes, bound.most)
+}
+
+#[tactic(auto, unfolding(crate::specs::Invariants::bound_text))]
+fn write_bound(bytes: &mut Vec<u8>, bound: &Bound<'_>) -> Result<(), AllocError>
+    ensures { OnOk result (bytes.new.items ≡ bytes.old.items ++ bound_text bound.now) }
+{
+    write(bytes, b"    ")?;
+    write_left(bytes, bound)?;
+    write_right(bytes, bound)
+}
+
+// What a row tells of a point.
+#[tactic(auto, unfolding(crate::specs::Invariants::fact_text))]
+fn write_fact(
+    alloc: Global,
+    bytes: &mut Vec<u8>,
+    text: &Text<'_>,
+    row: &Row<'_>,
+) -> Result<(), AllocError>
+    ensures { OnOk result (bytes.new.items ≡ bytes.old.items ++ fact_text text.now row.now) }
+{
+    match row {
+        Row::Opening(_) => Ok(()),
+        Row::Heading(heading) => write_heading(alloc, bytes, text, heading),
+        Row::NoRun => write(bytes, b"    no run comes here\n"),
+        Row::Value(value) => write_value(bytes, value),
+        Row::Bound(bound) => write_bound(bytes, bound),
+        Row::Access(_) => Ok(()),
+        Row::Counts(_) => Ok(()),
+    }
+}
+
+fn write_facts(
+    alloc: Global,
+    bytes: &mut Vec<u8>,
+    text: &Text<'_>,
+    rows: &[Row<'_>],
+) -> Result<(), AllocError>
+    ensures { OnOk result (bytes.new.items ≡ bytes.old.items ++ facts_text text.now rows.now) }
+{
+    for k in 0..rows.len() {
+        write_fact(alloc, bytes, text, &rows[k])?;
+    }
+    Ok(())
+}
+
+/// Writes what holds at the heads of loops, where that is asked for.
+pub(crate) fn write_invariants(
+    alloc: Global,
+    bytes: &mut Vec<u8>,
+    is_asked: bool,
+    text: &Text<'_>,
+    rows: &[Row<'_>],
+) -> Result<(), AllocError>
+    ensures { OnOk result (bytes.new.items ≡ bytes.old.items ++ invariants_text is_asked text.now rows.now) }
+{
+    if is_asked {
+        write_facts(alloc, bytes, text, rows)
+    } else {
+        Ok(())
+    }
+}

@@ -1,0 +1,5 @@
+use Rattle.pk_octclose.proofs.Lowered.{InLine}
+use Rattle.pk_octclose.proofs.after.lower_lines.Given as goal
+
+abbrev pub invariant-loop-a : goal.invariant-loop-a
+invariant-loop-a l = InLine l.d l.r l.a l.fn.cells l.cells

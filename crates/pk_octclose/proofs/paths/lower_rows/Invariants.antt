@@ -1,0 +1,5 @@
+use Rattle.pk_octclose.proofs.Rows.{InRows}
+use Rattle.pk_octclose.proofs.paths.lower_rows.Given as goal
+
+abbrev pub invariant-loop-i : goal.invariant-loop-i
+invariant-loop-i l = InRows l.d l.p l.i l.fn.cells l.cells

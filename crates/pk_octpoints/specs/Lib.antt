@@ -1,0 +1,3 @@
+pub mod Tight
+pub mod Parts
+pub mod Points

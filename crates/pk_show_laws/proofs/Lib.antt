@@ -1,0 +1,5 @@
+mod PathLemmas
+mod TextLemmas
+mod RowLemmas
+mod OrderLemmas
+mod WrongLemmas

@@ -1,0 +1,237 @@
+-- Each row of the report on a graph is one that is read.
+use Rattle.std.proofs.Common.{subst, ◌≡◌, ◌<◌, ◌+◌, ◌^◌, ◌*◌, ℕ, refl, sym, ap, ◌∙◌, List, [], ◌∷◌, ◌++◌, length, reverse, Bool, true, false, cond, Option, Some, None, arith}
+use Rattle.std.specs.Prelude.{ℤ, pos, ◌+ℤ◌, ◌-ℤ◌, All, int_lt, is_some, not, unwrap_or, slice_index_or, count_by, ◌||◌}
+use Rattle.std.specs.Option.{option_map}
+use Rattle.std.specs.List.{filter, flat_map, filter_map, cons_option, range_with_len, zip}
+use Rattle.std.proofs.lemmas.List.{reverse-append}
+use Rattle.std.proofs.lemmas.List.Elements.{All-append, All-filter, All-cons, All-nil, All-map, All-head, All-tail}
+use Rattle.std.proofs.lemmas.List.FromFn.{get_or-range_with_len, length-range_with_len}
+use Rattle.std.proofs.lemmas.List.Sums.{count_by-le-length}
+use Rattle.pk_graph.specs.declared.verdicts.Verdict.{Verdict}
+use Rattle.pk_graph.specs.Accesses.{AccessOf}
+use Rattle.pk_graph.specs.Graphs.{VariableOf, GraphOf, point_at, variable_at}
+use Rattle.pk_graph.specs.Visible.{Names, with_name, is_new, name_at, not_hidden, no_name, is_of_file, visible_at}
+use Rattle.pk_octmat.specs.Octagon.{entry}
+use Rattle.pk_value.specs.Known.{Known}
+use Rattle.pk_state.specs.Layouts.{Layout, place_in}
+use Rattle.pk_state.specs.Facts.{Facts, Stated, known_at}
+use Rattle.pk_report.specs.Paths.{path_text}
+use Rattle.pk_report.specs.Values.{name_of, placed_in, placed, bounds_of}
+use Rattle.pk_report.specs.Reports.{is_head, state_at, is_safe, is_unknown, is_unreachable}
+use Rattle.pk_show.specs.Pieces.{lacks, is_identifier}
+use Rattle.pk_show.specs.declared.report.Row.{Row}
+use Rattle.pk_show.specs.declared.report.Row.TheVariants as row
+use Rattle.pk_show.specs.declared.rows.Form.{Form}
+use Rattle.pk_show.specs.declared.rows.Form.TheVariants.{Difference, Sum, NegatedSum}
+use Rattle.pk_show.specs.Rows.{BoundOf}
+use Rattle.pk_show.specs.Laws.{IsNumber, IsBound, TellsPath, IsRow, LinesAreRead}
+use Rattle.pk_show_laws.specs.ReportRows.{heading_of, value_of, bound_of, bounds_if, bounds_told, pair_bounds, of_pairs, bounds_at, values_rows, bounds_rows, facts_rows, point_rows, told_rows, access_of, opening_of, counts_of, accesses_rows, report_rows}
+use Rattle.pk_show_laws.specs.Tellable.{IsName, IsTellableGraph, AreTellableFacts, AreTellable, IsTellableAccess, IsTellable}
+use Rattle.pk_show_laws.proofs.PathLemmas.{paths_tell}
+
+one_word : (lines : LinesAreRead) (text : List ℕ) → TellsPath text → lacks 32 text ≡ true
+one_word lines text h = ap (lacks 32) h.2 ∙ lines.one_word h.0 h.1
+
+-- ---- names
+
+new_is_named : (m : Option (List ℕ)) (has : Names) → is_new m has ≡ true → is_some m ≡ true
+new_is_named None has e = e
+new_is_named (Some m) has e = refl
+
+named_only : (vs : List VariableOf) (has : Names) (xs : List ℕ) → All (λ x. is_some (name_at vs x) ≡ true) (not_hidden vs has xs)
+unfolding not_hidden
+named_only vs has [] = All-nil (λ x. is_some (name_at vs x) ≡ true)
+named_only vs has (x ∷ xs) = by_test (is_new (name_at vs x) has) refl (named_only vs (with_name (name_at vs x) has) xs)
+  where
+    by_test : (t : Bool) → t ≡ is_new (name_at vs x) has →
+        All (λ x. is_some (name_at vs x) ≡ true) (not_hidden vs (with_name (name_at vs x) has) xs) →
+        All (λ x. is_some (name_at vs x) ≡ true) (cond t (x ∷ not_hidden vs (with_name (name_at vs x) has) xs) (not_hidden vs (with_name (name_at vs x) has) xs))
+    by_test true e rest =
+        All-cons (λ x. is_some (name_at vs x) ≡ true) x (not_hidden vs (with_name (name_at vs x) has) xs) (new_is_named (name_at vs x) has (sym e)) rest
+    by_test false e rest = rest
+
+All-reversed : {A : Type 0} (P : A → Type 0) (xs : List A) → All P xs → All P (reverse xs)
+All-reversed P [] all = all
+All-reversed {A} P (x ∷ xs) all =
+    subst (λ (l : List A). All P l) (sym (reverse-append (x ∷ []) xs))
+    (All-append P (reverse xs) (x ∷ []) (All-reversed P xs (All-tail P x xs all)) (All-cons P x [] (All-head P x xs all) (All-nil P)))
+
+name_is : (o : Option (List ℕ)) → IsName o → is_some o ≡ true → is_identifier (unwrap_or o []) ≡ true
+name_is None h e = absurd (cc e)
+name_is (Some name) h e = h
+
+All-mapped : {A : Type 0} (P Q : A → Type 0) (xs : List A) → ((a : A) → P a → Q a) → All P xs → All Q xs
+All-mapped P Q xs each all = λ k d l. each _ (all k d l)
+
+abbrev HasName : GraphOf → ℕ → Type 0
+HasName g x = is_identifier (name_of g x) ≡ true
+
+visible_named : (g : GraphOf) (v : ℕ) → IsTellableGraph g → All (HasName g) (visible_at g v)
+visible_named g v h =
+    let P : ℕ → Type 0 = λ x. is_some (name_at g.variables x) ≡ true in
+    let xs : List ℕ = reverse (not_hidden g.variables no_name (point_at g v).scope) in
+    let all : All P xs = All-reversed P _ (named_only g.variables no_name (point_at g v).scope) in
+    All-mapped P (HasName g) (visible_at g v) (λ x some. name_is (variable_at g x).name (h.names x) some)
+    (All-append P (filter (is_of_file g.variables) xs) (filter (λ x. not (is_of_file g.variables x)) xs)
+    (All-filter (is_of_file g.variables) P xs all) (All-filter (λ x. not (is_of_file g.variables x)) P xs all))
+
+-- ---- two variables
+
+bounds_all : (form : Form) (x y : List ℕ) (limit : ℤ) (b : Option ℤ) → is_identifier x ≡ true → is_identifier y ≡ true →
+    ((c : ℤ) → b ≡ Some c → IsNumber c) → All IsBound (bounds_if form x y limit b)
+bounds_all form x y limit None hx hy each = All-nil IsBound
+bounds_all form x y limit (Some c) hx hy each = by_test (int_lt c limit)
+  where
+    by_test : (t : Bool) → All IsBound (cond t (bound_of form x y c ∷ []) [])
+    by_test true = All-cons IsBound (bound_of form x y c) [] (record { left = hx; right = hy; most = each c refl }) (All-nil IsBound)
+    by_test false = All-nil IsBound
+
+told_bounds_all : (x y : List ℕ) (kx ky : Known) (minus turned plus negated : Option ℤ) → is_identifier x ≡ true → is_identifier y ≡ true →
+    ((c : ℤ) → minus ≡ Some c → IsNumber c) → ((c : ℤ) → turned ≡ Some c → IsNumber c) → ((c : ℤ) → plus ≡ Some c → IsNumber c) →
+    ((c : ℤ) → negated ≡ Some c → IsNumber c) → All IsBound (bounds_told x y kx ky minus turned plus negated)
+told_bounds_all x y kx ky minus turned plus negated hx hy h1 h2 h3 h4 =
+    let a = bounds_if Difference x y (kx.range.hi -ℤ ky.range.lo) minus in
+    let b = bounds_if Difference y x (ky.range.hi -ℤ kx.range.lo) turned in
+    let c = bounds_if Sum x y (kx.range.hi +ℤ ky.range.hi) plus in
+    let d = bounds_if NegatedSum x y ((pos 0 -ℤ kx.range.lo) -ℤ ky.range.lo) negated in
+    All-append IsBound (a ++ b ++ c) d
+    (All-append IsBound (a ++ b) c
+    (All-append IsBound a b
+    (bounds_all Difference x y (kx.range.hi -ℤ ky.range.lo) minus hx hy h1)
+    (bounds_all Difference y x (ky.range.hi -ℤ kx.range.lo) turned hy hx h2))
+    (bounds_all Sum x y (kx.range.hi +ℤ ky.range.hi) plus hx hy h3))
+    (bounds_all NegatedSum x y ((pos 0 -ℤ kx.range.lo) -ℤ ky.range.lo) negated hx hy h4)
+
+pair_all : (g : GraphOf) (f : Facts) → AreTellableFacts f → (p k q l : ℕ) → HasName g p → HasName g q → All IsBound (pair_bounds g f p k q l)
+pair_all g f h p k q l hp hq =
+    told_bounds_all (name_of g p) (name_of g q) (known_at f.values p) (known_at f.values q)
+    (bounds_of (entry f.octagon) k l).minus (bounds_of (entry f.octagon) k l).turned
+    (bounds_of (entry f.octagon) k l).plus (bounds_of (entry f.octagon) k l).negated hp hq
+    (h.bounds (2 * l) (2 * k)) (h.bounds (2 * k) (2 * l)) (h.bounds (2 * l + 1) (2 * k)) (h.bounds (2 * l) (2 * k + 1))
+
+filtered_all : {X A : Type 0} (P : A → Type 0) (Q : X → Type 0) (h : X → Option A) → ((x : X) (a : A) → Q x → h x ≡ Some a → P a) →
+    (xs : List X) → All Q xs → All P (filter_map h xs)
+filtered_all P Q h each [] all = All-nil P
+filtered_all {X} {A} P Q h each (x ∷ xs) all = by_item (h x) refl (filtered_all P Q h each xs (All-tail Q x xs all))
+  where
+    by_item : (o : Option A) → o ≡ h x → All P (filter_map h xs) → All P (cons_option o (filter_map h xs))
+    by_item None e rest = rest
+    by_item (Some a) e rest = All-cons P a (filter_map h xs) (each x a (All-head Q x xs all) (sym e)) rest
+
+mapped_from : {A B : Type 0} (f : A → B) (o : Option A) (b : B) → option_map f o ≡ Some b → (a : A) × (f a ≡ b)
+mapped_from f None b e = absurd (cc e)
+mapped_from f (Some a) b e = (a, cc e)
+
+placed_named : (g : GraphOf) (l : Layout) (xs : List ℕ) → All (HasName g) xs → All (λ p. HasName g p.variable) (placed l xs)
+placed_named g l xs all =
+    filtered_all (λ p. HasName g p.variable) (HasName g) (placed_in l)
+    (λ x p hx e.
+    let from = mapped_from _ (place_in l.chosen x) p e in
+    subst (HasName g) (ap (λ q. q.variable) from.1) hx)
+    xs all
+
+flat_all : {A : Type 0} (P : A → Type 0) (bounds : A → List BoundOf) → ((q : A) → P q → All IsBound (bounds q)) → (ps : List A) → All P ps →
+    All IsBound (flat_map bounds ps)
+flat_all P bounds each [] all = All-nil IsBound
+flat_all P bounds each (q ∷ ps) all =
+    All-append IsBound (bounds q) (flat_map bounds ps) (each q (All-head P q ps all)) (flat_all P bounds each ps (All-tail P q ps all))
+
+pairs_all : {A : Type 0} (P : A → Type 0) (bounds : A → A → List BoundOf) → ((p q : A) → P p → P q → All IsBound (bounds p q)) → (ps : List A) →
+    All P ps → All IsBound (of_pairs ps bounds)
+pairs_all P bounds each [] all = All-nil IsBound
+pairs_all P bounds each (p ∷ ps) all =
+    All-append IsBound (flat_map (bounds p) ps) (of_pairs ps bounds)
+    (flat_all P (bounds p) (λ q. each p q (All-head P p ps all)) ps (All-tail P p ps all))
+    (pairs_all P bounds each ps (All-tail P p ps all))
+
+bounds_are : (g : GraphOf) (f : Facts) (l : Layout) (xs : List ℕ) → AreTellableFacts f → All (HasName g) xs → All IsBound (bounds_at g f l xs)
+bounds_are g f l xs h all =
+    pairs_all (λ p. HasName g p.variable) _ (λ p q. pair_all g f h p.variable p.place q.variable q.place) (placed l xs) (placed_named g l xs all)
+
+-- ---- a point
+
+values_all : (g : GraphOf) (f : Facts) → AreTellableFacts f → (xs : List ℕ) → All (HasName g) xs → All IsRow (values_rows g f xs)
+values_all g f h xs all =
+    All-map IsRow (λ x. row.Value (value_of g f x)) xs
+    (λ k d l. record { name = all k d l; known = h.values (slice_index_or xs k d) })
+
+facts_all : (g : GraphOf) (l : Layout) (f : Option Facts) → AreTellable f → (xs : List ℕ) → All (HasName g) xs → All IsRow (facts_rows g l f xs)
+facts_all g l None h xs all = All-cons IsRow row.NoRun [] tt (All-nil IsRow)
+facts_all g l (Some f) h xs all =
+    All-append IsRow (values_rows g f xs) (bounds_rows g f l xs) (values_all g f h xs all)
+    (All-map IsRow row.Bound (bounds_at g f l xs) (bounds_are g f l xs h all))
+
+point_all : (lines : LinesAreRead) (g : GraphOf) (s : Stated) (is_head : Bool) (v : ℕ) → IsTellableGraph g → AreTellable s.facts →
+    v < length g.points → All IsRow (point_rows g s is_head v)
+point_all lines g s is_head v h facts l =
+    let path = (paths_tell g h (point_at g v).path (h.point_paths v l)).path in
+    All-cons IsRow (row.Heading (heading_of g is_head v)) (facts_rows g s.layout s.facts (visible_at g v)) (
+      record {
+        point = let few = h.few in omega (arith, few, l);
+        path = one_word lines (path_text g.paths (point_at g v).path) path;
+        at = h.point_places v l;
+      },
+      path,
+    )
+    (facts_all g s.layout s.facts facts (visible_at g v) (visible_named g v h))
+
+told_all : (lines : LinesAreRead) (all : Bool) (g : GraphOf) (heads : List ℕ) (states : List Stated) (v : ℕ) → IsTellableGraph g →
+    ((v : ℕ) → AreTellable (state_at states v).facts) → v < length g.points → All IsRow (told_rows all g heads states v)
+told_all lines all g heads states v h facts l = by_test (is_head heads v || all)
+  where
+    by_test : (t : Bool) → All IsRow (cond t (point_rows g (state_at states v) (is_head heads v) v) [])
+    by_test true = point_all lines g (state_at states v) (is_head heads v) v h (facts v) l
+    by_test false = All-nil IsRow
+
+flat_rows_all : {A : Type 0} (rows : A → List Row) (xs : List A) → All (λ a. All IsRow (rows a)) xs → All IsRow (flat_map rows xs)
+flat_rows_all rows [] all = All-nil IsRow
+flat_rows_all rows (a ∷ xs) all =
+    All-append IsRow (rows a) (flat_map rows xs) (All-head (λ a. All IsRow (rows a)) a xs all)
+    (flat_rows_all rows xs (All-tail (λ a. All IsRow (rows a)) a xs all))
+
+below : (n : ℕ) → All (λ v. v < n) (range_with_len 0 n)
+below n k d l =
+    let less : k < n = omega (arith, l, length-range_with_len 0 n) in
+    let same = get_or-range_with_len 0 n k d less in
+    subst (λ (v : ℕ). v < n) (sym same) (omega (arith, less))
+
+-- ---- accesses
+
+accesses_all : (lines : LinesAreRead) (g : GraphOf) (pairs : List (AccessOf × Verdict)) → IsTellableGraph g → All (IsTellableAccess g) pairs →
+    All IsRow (accesses_rows g.paths pairs)
+accesses_all lines g pairs h all =
+    All-map IsRow (λ a. row.Access (access_of g.paths a)) pairs
+    (λ k d l.
+    let a = slice_index_or pairs k d in
+    let one = all k d l in
+    let path = (paths_tell g h a.0.site.path one.path).path in
+    (record { path = one_word lines (path_text g.paths a.0.site.path) path; at = one.at; verdict = one.verdict }, path))
+
+-- ---- the whole
+
+counts_small : (p : Verdict → Bool) (vs : List Verdict) → length vs < 2 ^ 64 → count_by p vs < 2 ^ 64
+counts_small p vs h = let most = count_by-le-length p vs in omega (arith, most, h)
+
+pub rows_all : (lines : LinesAreRead) (all : Bool) (g : GraphOf) (heads : List ℕ) (elements : ℕ) (states : List Stated) (accesses : List AccessOf)
+    (verdicts : List Verdict) → IsTellable g elements states accesses verdicts → All IsRow (report_rows all g heads elements states accesses verdicts)
+rows_all lines all g heads elements states accesses verdicts h =
+    let points = flat_map (told_rows all g heads states) (range_with_len 0 (length g.points)) in
+    let rows = accesses_rows g.paths (zip accesses verdicts) in
+    let last : List Row = row.Counts (counts_of verdicts) ∷ [] in
+    All-cons IsRow (row.Opening (opening_of g elements)) (points ++ (rows ++ last))
+    (record {
+      entry = (paths_tell g h.graph 0 h.graph.some_path).first refl;
+      points = h.graph.few;
+      elements = h.elements_few;
+    })
+    (All-append IsRow points (rows ++ last)
+    (flat_rows_all (told_rows all g heads states) (range_with_len 0 (length g.points))
+    (λ k d l. told_all lines all g heads states (slice_index_or (range_with_len 0 (length g.points)) k d) h.graph h.facts (below (length g.points) k d l)))
+    (All-append IsRow rows last (accesses_all lines g (zip accesses verdicts) h.graph h.each)
+    (All-cons IsRow (row.Counts (counts_of verdicts)) []
+    (record {
+      safe = counts_small is_safe verdicts h.verdicts_few;
+      unknown = counts_small is_unknown verdicts h.verdicts_few;
+      unreachable = counts_small is_unreachable verdicts h.verdicts_few;
+    })
+    (All-nil IsRow))))

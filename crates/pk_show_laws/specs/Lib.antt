@@ -1,0 +1,3 @@
+pub mod ReportRows
+pub mod Tellable
+pub mod Laws

@@ -1,0 +1,57 @@
+-- What can be told in a report: names that are identifiers, places and numbers in range.
+use Rattle.std.specs.Prelude.{◌≡◌, ℕ, ℤ, ◌<◌, ◌^◌, true, List, length, All, Option, Some, None}
+use Rattle.std.specs.List.{zip}
+use Rattle.pk_graph.specs.declared.trees.Site.{Site}
+use Rattle.pk_graph.specs.declared.verdicts.Verdict.{Verdict}
+use Rattle.pk_graph.specs.Accesses.{AccessOf}
+use Rattle.pk_graph.specs.Graphs.{PathOf, GraphOf, point_at, variable_at}
+use Rattle.pk_octmat.specs.Octagon.{entry}
+use Rattle.pk_state.specs.Facts.{Facts, Stated, known_at}
+use Rattle.pk_report.specs.Paths.{path_at}
+use Rattle.pk_report.specs.Reports.{state_at}
+use Rattle.pk_show.specs.Pieces.{is_identifier}
+use Rattle.pk_show.specs.Laws.{IsNumber, IsPlace, IsVerdict, IsKnown}
+use Rattle.pk_show_laws.specs.ReportRows.{known_of, verdict_of}
+
+-- a call stands in a path before
+abbrev pub IsCalledBefore : ℕ → Option Site → Type 0
+IsCalledBefore k None = Unit {0}
+IsCalledBefore k (Some s) = (s.path < k) × IsPlace s.at
+
+pub record IsPathOf (k : ℕ) (p : PathOf) : Type 0 where
+  pub name : is_identifier p.name ≡ true
+  pub call : IsCalledBefore k p.call
+
+-- variables without a name aren't told
+abbrev pub IsName : Option (List ℕ) → Type 0
+IsName None = Unit {0}
+IsName (Some name) = is_identifier name ≡ true
+
+pub record IsTellableGraph (g : GraphOf) : Type 0 where
+  pub some_path : 0 < length g.paths
+  pub paths : (k : ℕ) → k < length g.paths → IsPathOf k (path_at g.paths k)
+  pub names : (x : ℕ) → IsName (variable_at g x).name
+  pub few : length g.points < 2 ^ 64
+  pub point_paths : (v : ℕ) → v < length g.points → (point_at g v).path < length g.paths
+  pub point_places : (v : ℕ) → v < length g.points → IsPlace (point_at g v).at
+
+pub record AreTellableFacts (f : Facts) : Type 0 where
+  pub values : (x : ℕ) → IsKnown (known_of (known_at f.values x))
+  pub bounds : (i j : ℕ) (c : ℤ) → entry f.octagon i j ≡ Some c → IsNumber c
+
+abbrev pub AreTellable : Option Facts → Type 0
+AreTellable None = Unit {0}
+AreTellable (Some f) = AreTellableFacts f
+
+pub record IsTellableAccess (g : GraphOf) (a : AccessOf × Verdict) : Type 0 where
+  pub path : a.0.site.path < length g.paths
+  pub at : IsPlace a.0.site.at
+  pub verdict : IsVerdict (verdict_of a.1)
+
+pub record IsTellable (g : GraphOf) (elements : ℕ) (states : List Stated) (accesses : List AccessOf)
+    (verdicts : List Verdict) : Type 0 where
+  pub graph : IsTellableGraph g
+  pub elements_few : elements < 2 ^ 64
+  pub facts : (v : ℕ) → AreTellable (state_at states v).facts
+  pub each : All (IsTellableAccess g) (zip accesses verdicts)
+  pub verdicts_few : length verdicts < 2 ^ 64
