@@ -2,15 +2,21 @@
 //! file with what `pikos` answered.
 #![tactic(auto)]
 
+use pk_ctypes::Fault;
 use pk_findings::{
     Refused, ShowError, Shown, Text, file_of, is_finding, look, origin_at, refusal, verdict_of,
+    with_lengths,
 };
+use pk_front::TextError;
 use pk_io::{ReadError, Sink, StdSink, StdSource, read_all, write_all};
+use pk_lengths::lengths;
 use pk_listing::{Source, listing, refusals};
 use pk_origin::{Origin, lines};
 use pk_page::page;
 use pk_sarif::sarif;
-use pk_show::Verdict;
+use pk_show::{Row, Verdict};
+use pk_text_graph::graph_of_text;
+use pk_wrong_byte::first_wrong_byte;
 use std::alloc::{AllocError, AllocFailed, Global};
 use std::env::Env;
 use std::fs::Files;
@@ -24,12 +30,15 @@ const INPUT_LIMIT: usize = 1073741823;
 /// The greatest number of bytes of a file whose lines are shown.
 const SOURCE_LIMIT: usize = 67108864;
 
+/// The greatest number of bytes of a text that is analysed: longer ones have no report.
+const TEXT_LIMIT: usize = 4194304;
+
 /// Why the program shows nothing.
 #[derive(Clone, Copy)]
 enum Stop {
     Usage,
-    /// This line of the answer for the text of this number is none of a report.
-    NoReport(usize, usize),
+    /// The answer for the text of this number is no report: this line is the first that is none, from this byte on.
+    NoReport(usize, usize, usize),
     /// The report for the text of this number tells a place that isn't in the text.
     OtherText(usize),
     TooLong,
@@ -42,7 +51,7 @@ impl Stop {
     fn code(self) -> u8 {
         match self {
             Stop::Usage => 2,
-            Stop::NoReport(_, _) => 3,
+            Stop::NoReport(_, _, _) => 3,
             Stop::OtherText(_) => 3,
             Stop::TooLong => 4,
             Stop::ReadFault => 5,
@@ -56,10 +65,10 @@ impl fmt::Display for Stop {
     fn fmt<W: fmt::Write>(&self, f: &mut fmt::Formatter<W>) -> fmt::Result {
         match self {
             Stop::Usage => write!(f, "pikos_show: usage"),
-            Stop::NoReport(text, line) => {
+            Stop::NoReport(text, line, byte) => {
                 write!(
                     f,
-                    "pikos_show: line {line} of the answer on text {text} is none of a report"
+                    "pikos_show: the answer on text {text} is no report: line {line} goes wrong at byte {byte}"
                 )
             }
             Stop::OtherText(text) => {
@@ -188,7 +197,10 @@ fn see<'t>(alloc: Global, inputs: &'t [Input]) -> Result<Seen<'t>, Stop> {
         let name = input.name.as_bytes();
         match refusal(alloc, name, &input.text, &input.answer)? {
             Some(refused) => seen.refused.push(refused)?,
-            None => seen.shown.push(shown_of(alloc, k + 1, input)?)?,
+            None => {
+                let shown = shown_of(alloc, k + 1, input)?;
+                seen.shown.push(measured(alloc, input, shown)?)?
+            }
         }
     }
     Ok(seen)
@@ -197,9 +209,56 @@ fn see<'t>(alloc: Global, inputs: &'t [Input]) -> Result<Seen<'t>, Stop> {
 fn shown_of<'t>(alloc: Global, number: usize, input: &'t Input) -> Result<Shown<'t>, Stop> {
     match look(alloc, input.name.as_bytes(), &input.text, &input.answer) {
         Ok(shown) => Ok(shown),
-        Err(ShowError::NoReport(line)) => Err(Stop::NoReport(number, line.saturating_add(1))),
+        Err(ShowError::NoReport(line)) => {
+            let byte = first_wrong_byte(alloc, &input.answer)?;
+            Err(Stop::NoReport(number, line.saturating_add(1), byte.saturating_add(1)))
+        }
         Err(ShowError::OtherText) => Err(Stop::OtherText(number)),
         Err(ShowError::Memory) => Err(Stop::Memory),
+    }
+}
+
+fn opening_entry<'t>(row: &Row<'t>) -> Option<&'t str> {
+    match row {
+        Row::Opening(opening) => match str::from_utf8(opening.entry) {
+            Ok(entry) => Some(entry),
+            Err(_) => None,
+        },
+        _ => None,
+    }
+}
+
+// The function that runs begin with.
+fn entry_of<'t>(rows: &[Row<'t>]) -> Option<&'t str> {
+    match rows {
+        [first, ..] => opening_entry(first),
+        [] => None,
+    }
+}
+
+// Whether a finding is an index.
+fn has_index(shown: &Shown<'_>) -> bool {
+    shown
+        .operations
+        .iter()
+        .any(|o| matches!(o.fault, Fault::Index) && is_finding(o))
+}
+
+// The same with the lengths of the arrays that are accessed, where a finding is an index.
+fn measured<'t>(alloc: Global, input: &Input, shown: Shown<'t>) -> Result<Shown<'t>, Stop> {
+    if TEXT_LIMIT < input.text.len() || !has_index(&shown) {
+        return Ok(shown);
+    }
+    let Some(entry) = entry_of(&shown.rows) else {
+        return Ok(shown);
+    };
+    match graph_of_text(alloc, &input.text, entry) {
+        Ok(graph) => {
+            let lengths = lengths(alloc, &graph)?;
+            Ok(with_lengths(alloc, &lengths, shown)?)
+        }
+        Err(TextError::Memory) => Err(Stop::Memory),
+        Err(_) => Ok(shown),
     }
 }
 

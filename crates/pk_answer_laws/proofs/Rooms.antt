@@ -5,6 +5,7 @@ use Rattle.std.proofs.lemmas.List.{length-map, length-append, get_or_append_left
 use Rattle.std.proofs.lemmas.List.Elements.{All-head, All-tail}
 use denote.RawPtr.{null_ptr}
 use Rattle.pk_graph.specs.declared.graphs.Start.TheVariants as starts
+use Rattle.pk_graph.specs.declared.graphs.Entry.{Entry}
 use Rattle.pk_graph.specs.declared.graphs.Scope.{Scope}
 use Rattle.pk_graph.specs.declared.graphs.Edge.{Edge}
 use Rattle.pk_graph.specs.declared.graphs.Point.{Point}
@@ -16,7 +17,7 @@ use Rattle.pk_graph.specs.Trees as tree
 use Rattle.pk_graph.specs.Trees.{TreeOf, ArrayOf, InstrOf}
 use Rattle.pk_graph.specs.Views.{tree_view, instr_view}
 use Rattle.pk_graph.specs.WellMade.{IsGraph}
-use Rattle.pk_answer_laws.specs.Rooms.{IsShortStart, names_in_scope, ShortGraphsHaveRoom}
+use Rattle.pk_answer_laws.specs.Rooms.{IsShortStart, entries_in_scope, ShortGraphsHaveRoom}
 
 heap : Global
 heap = record { memory = record { seal = tt } }
@@ -94,58 +95,58 @@ module _ where
 
   -- ---- scopes
 
-  chained_more : (known : List (List ℕ)) (ss more : List Scope) → chained known (ss ++ more) ≡ chained (chained known ss) more
+  chained_more : (known : List (List Entry)) (ss more : List Scope) → chained known (ss ++ more) ≡ chained (chained known ss) more
   chained_more known [] more = refl
-  chained_more known (s ∷ ss) more = chained_more (known ++ (s.variable ∷ slice_index_or known s.outer []) ∷ []) ss more
+  chained_more known (s ∷ ss) more = chained_more (known ++ (s.entry ∷ slice_index_or known s.outer []) ∷ []) ss more
 
   -- a place in the chain at which these names are in scope
-  record HasPlace (known : List (List ℕ)) (xs : List ℕ) : Type 0 where
+  record HasPlace (known : List (List Entry)) (xs : List Entry) : Type 0 where
     scopes : List Scope
-    lists : List (List ℕ)
+    lists : List (List Entry)
     is : chained known scopes ≡ known ++ lists
     place : ℕ
     at : place < length (known ++ lists)
     found : slice_index_or (known ++ lists) place [] ≡ xs
     many : length scopes ≡ length xs
 
-  place_for : (known : List (List ℕ)) → 0 < length known → slice_index_or known 0 [] ≡ [] → (xs : List ℕ) → HasPlace known xs
+  place_for : (known : List (List Entry)) → 0 < length known → slice_index_or known 0 [] ≡ [] → (xs : List Entry) → HasPlace known xs
   place_for known some first [] = record {
     scopes = [];
     lists = [];
     is = sym (append-nil known);
     place = 0;
-    at = subst (λ (l : List (List ℕ)). 0 < length l) (sym (append-nil known)) some;
-    found = ap (λ (l : List (List ℕ)). slice_index_or l 0 []) (append-nil known) ∙ first;
+    at = subst (λ (l : List (List Entry)). 0 < length l) (sym (append-nil known)) some;
+    found = ap (λ (l : List (List Entry)). slice_index_or l 0 []) (append-nil known) ∙ first;
     many = refl;
   }
   place_for known some first (x ∷ xs) =
       let c = place_for known some first xs in
-      let s : Scope = record { variable = x; outer = c.place } in
+      let s : Scope = record { entry = x; outer = c.place } in
       let whole = known ++ c.lists in
       let assoc : whole ++ (x ∷ xs) ∷ [] ≡ known ++ (c.lists ++ (x ∷ xs) ∷ []) = append_assoc known c.lists ((x ∷ xs) ∷ []) in
       record {
         scopes = c.scopes ++ s ∷ [];
         lists = c.lists ++ (x ∷ xs) ∷ [];
-        is = chained_more known c.scopes (s ∷ []) ∙ ap (λ (l : List (List ℕ)). chained l (s ∷ [])) c.is ∙ ap (λ (l : List ℕ). whole ++ (x ∷ l) ∷ []) c.found ∙ assoc;
+        is = chained_more known c.scopes (s ∷ []) ∙ ap (λ (l : List (List Entry)). chained l (s ∷ [])) c.is ∙ ap (λ (l : List Entry). whole ++ (x ∷ l) ∷ []) c.found ∙ assoc;
         place = length whole;
-        at = subst (λ (l : List (List ℕ)). length whole < length l) assoc (omega (arith, length_push whole (x ∷ xs)));
-        found = ap (λ (l : List (List ℕ)). slice_index_or l (length whole) []) (sym assoc) ∙ get_or_push whole (x ∷ xs) [] (length whole) refl;
+        at = subst (λ (l : List (List Entry)). length whole < length l) assoc (omega (arith, length_push whole (x ∷ xs)));
+        found = ap (λ (l : List (List Entry)). slice_index_or l (length whole) []) (sym assoc) ∙ get_or_push whole (x ∷ xs) [] (length whole) refl;
         many = length_push c.scopes s ∙ ap (λ (n : ℕ). n + 1) c.many ∙ omega arith;
       }
 
   -- ---- points
 
   -- a point, where these lists of names are in scope at the places of the chain
-  abbrev shown_in : List (List ℕ) → Point → PointOf
+  abbrev shown_in : List (List Entry) → Point → PointOf
   shown_in known p = record { at = p.at; path = p.path; scope = slice_index_or known p.scope []; edges = map edge_view p.edges.items }
 
-  record HasPoints (known : List (List ℕ)) (ps : List PointOf) : Type 0 where
+  record HasPoints (known : List (List Entry)) (ps : List PointOf) : Type 0 where
     scopes : List Scope
-    lists : List (List ℕ)
+    lists : List (List Entry)
     is : chained known scopes ≡ known ++ lists
     points : List Point
     shows : map (shown_in (known ++ lists)) points ≡ ps
-    many : length scopes ≡ names_in_scope ps
+    many : length scopes ≡ entries_in_scope ps
 
   abbrev AreShort : List PointOf → Type 0
   AreShort ps = All (λ (p : PointOf). length p.edges < 2 ^ 63) ps
@@ -153,15 +154,15 @@ module _ where
   edges_shown : (p : PointOf) → length p.edges < 2 ^ 63 → (v : Vec Edge Global) × (map edge_view v.items ≡ p.edges)
   edges_shown p few = let a = every_shown edge_view edge_shown p.edges in (vec_of a.0 (as_short edge_view a.0 p.edges a.1 few), a.1)
 
-  chain_on : (known lists more_lists : List (List ℕ)) (ss more : List Scope) → chained known ss ≡ known ++ lists → chained (known ++ lists) more ≡ (known ++ lists) ++ more_lists → chained known (ss ++ more) ≡ known ++ (lists ++ more_lists)
+  chain_on : (known lists more_lists : List (List Entry)) (ss more : List Scope) → chained known ss ≡ known ++ lists → chained (known ++ lists) more ≡ (known ++ lists) ++ more_lists → chained known (ss ++ more) ≡ known ++ (lists ++ more_lists)
   chain_on known lists more_lists ss more e f =
-      chained_more known ss more ∙ ap (λ (l : List (List ℕ)). chained l more) e ∙ f ∙ append_assoc known lists more_lists
+      chained_more known ss more ∙ ap (λ (l : List (List Entry)). chained l more) e ∙ f ∙ append_assoc known lists more_lists
 
-  shown_on : (a b : List (List ℕ)) (point : Point) (points : List Point) (p : PointOf) (ps : List PointOf) → a ≡ b → shown_in a point ≡ p → map (shown_in a) points ≡ ps → map (shown_in b) (point ∷ points) ≡ p ∷ ps
+  shown_on : (a b : List (List Entry)) (point : Point) (points : List Point) (p : PointOf) (ps : List PointOf) → a ≡ b → shown_in a point ≡ p → map (shown_in a) points ≡ ps → map (shown_in b) (point ∷ points) ≡ p ∷ ps
   shown_on a b point points p ps e f h =
-      ap (λ (l : List (List ℕ)). map (shown_in l) (point ∷ points)) (sym e) ∙ ap₂ (λ (q : PointOf) (qs : List PointOf). q ∷ qs) f h
+      ap (λ (l : List (List Entry)). map (shown_in l) (point ∷ points)) (sym e) ∙ ap₂ (λ (q : PointOf) (qs : List PointOf). q ∷ qs) f h
 
-  points_for : (known : List (List ℕ)) → 0 < length known → slice_index_or known 0 [] ≡ [] → (ps : List PointOf) → AreShort ps → HasPoints known ps
+  points_for : (known : List (List Entry)) → 0 < length known → slice_index_or known 0 [] ≡ [] → (ps : List PointOf) → AreShort ps → HasPoints known ps
   points_for known some first [] short = record { scopes = []; lists = []; is = sym (append-nil known); points = []; shows = refl; many = refl }
   points_for known some first (p ∷ ps) short =
       let c = place_for known some first p.scope in
@@ -172,7 +173,7 @@ module _ where
       let point : Point = record { at = p.at; path = p.path; scope = c.place; edges = edges.0 } in
       let scope : slice_index_or (next ++ more.lists) c.place [] ≡ p.scope = get_or_append_left next more.lists [] c.place c.at ∙ c.found in
       let shown : shown_in (next ++ more.lists) point ≡ p =
-      ap (λ (l : List ℕ). record { at = p.at; path = p.path; scope = l; edges = map edge_view edges.0.items }) scope ∙ ap (λ (es : List EdgeOf). record { at = p.at; path = p.path; scope = p.scope; edges = es }) edges.1 in
+      ap (λ (l : List Entry). record { at = p.at; path = p.path; scope = l; edges = map edge_view edges.0.items }) scope ∙ ap (λ (es : List EdgeOf). record { at = p.at; path = p.path; scope = p.scope; edges = es }) edges.1 in
       record {
         scopes = c.scopes ++ more.scopes;
         lists = c.lists ++ more.lists;
@@ -182,9 +183,9 @@ module _ where
         many = length-append c.scopes more.scopes ∙ ap₂ (λ (m n : ℕ). m + n) c.many more.many;
       }
 
-  map_views : (scopes : List Scope) (lists : List (List ℕ)) → chained ([] ∷ []) scopes ≡ lists → (points : List Point) → map (point_view scopes) points ≡ map (shown_in lists) points
+  map_views : (scopes : List Scope) (lists : List (List Entry)) → chained ([] ∷ []) scopes ≡ lists → (points : List Point) → map (point_view scopes) points ≡ map (shown_in lists) points
   unfolding point_view
-  map_views scopes lists e points = ap (λ (l : List (List ℕ)). map (shown_in l) points) e
+  map_views scopes lists e points = ap (λ (l : List (List Entry)). map (shown_in l) points) e
 
   pub have_room : ShortGraphsHaveRoom
   have_room g made short =

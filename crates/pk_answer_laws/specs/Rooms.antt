@@ -8,10 +8,10 @@ abbrev pub IsShortStart : StartOf → Type 0
 IsShortStart any_start = Unit {0}
 IsShortStart (number_start zs) = length zs < 2 ^ 63
 
--- how many names are in scope at points, all together
-abbrev pub names_in_scope : List PointOf → ℕ
-names_in_scope [] = 0
-names_in_scope (p ∷ ps) = length p.scope + names_in_scope ps
+-- how many entries the scopes of points have, all together
+abbrev pub entries_in_scope : List PointOf → ℕ
+entries_in_scope [] = 0
+entries_in_scope (p ∷ ps) = length p.scope + entries_in_scope ps
 
 -- no list is as long as 2^63
 pub record IsShortGraph (g : GraphOf) : Type 0 where
@@ -19,7 +19,7 @@ pub record IsShortGraph (g : GraphOf) : Type 0 where
   pub variables : length g.variables < 2 ^ 63
   pub starts : All (λ (x : VariableOf). IsShortStart x.start) g.variables
   pub edges : All (λ (p : PointOf). length p.edges < 2 ^ 63) g.points
-  pub scopes : names_in_scope g.points < 2 ^ 63
+  pub scopes : entries_in_scope g.points < 2 ^ 63
 
 abbrev pub ShortGraphsHaveRoom : Type 0
 ShortGraphsHaveRoom = (g : GraphOf) → IsGraph g → IsShortGraph g → HasRoom g

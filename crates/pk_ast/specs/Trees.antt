@@ -100,7 +100,13 @@ pub record FunctionTree : Type 0 where
   pub parameters : List ParameterTree
   pub body : Option BlockTree
 
+-- names that are declared to be type names (C99 6.7.7)
+pub record TypedefTree : Type 0 where
+  pub specifiers : OneOrMore Specifier
+  pub names : OneOrMore Identifier
+
 -- external definitions (C99 6.9)
 pub data ExternalTree : Type 0 where
   function : FunctionTree → ExternalTree
   objects : Option Storage → DeclarationTree → ExternalTree
+  type_names : TypedefTree → ExternalTree

@@ -20,11 +20,12 @@ use Rattle.pk_ast.specs.declared.statements.BlockItem.TheVariants as items
 use Rattle.pk_ast.specs.declared.units.Parameter.{Parameter}
 use Rattle.pk_ast.specs.declared.units.Function.{Function}
 use Rattle.pk_ast.specs.declared.units.External.{External}
+use Rattle.pk_ast.specs.declared.units.Typedef.{Typedef}
 use Rattle.pk_ast.specs.declared.units.External.TheVariants as externals
 use Rattle.pk_ast.specs.declared.units.Unit as declared_unit
-use Rattle.pk_ast.specs.Trees.{OneOrMore, ExpressionTree, ExpressionTrees, InitializerTree, DeclaratorTree, DeclarationTree, ForStartTree, StatementTree, ItemTrees, BlockTree, ParameterTree, FunctionTree, ExternalTree}
+use Rattle.pk_ast.specs.Trees.{OneOrMore, ExpressionTree, ExpressionTrees, InitializerTree, DeclaratorTree, DeclarationTree, ForStartTree, StatementTree, ItemTrees, BlockTree, ParameterTree, FunctionTree, TypedefTree, ExternalTree}
 use Rattle.pk_ast.specs.Trees.{name, call, index, constant, character, parenthesized, postfix, prefix, unary, cast, binary, conditional, assignment, comma, no_expressions, expression_then, single, braced}
-use Rattle.pk_ast.specs.Trees.{declaration, expression, block, empty, expression_statement, label, case, default, if_then, if_else, switch, while, do_while, for_loop, goto, continue, break, return, no_items, declaration_then, statement_then, function, objects}
+use Rattle.pk_ast.specs.Trees.{declaration, expression, block, empty, expression_statement, label, case, default, if_then, if_else, switch, while, do_while, for_loop, goto, continue, break, return, no_items, declaration_then, statement_then, function, objects, type_names}
 
 abbrev pub specifiers_tree : Specifiers → OneOrMore Specifier
 specifiers_tree s = record { first = s.first; more = s.more.items }
@@ -133,9 +134,16 @@ function_tree f = record {
   body = option_map block_tree f.body;
 }
 
+unfoldable pub typedef_tree : Typedef → TypedefTree
+typedef_tree d = record {
+  specifiers = specifiers_tree d.specifiers;
+  names = record { first = d.first; more = d.more.items };
+}
+
 unfoldable pub external_tree : External → ExternalTree
 external_tree (externals.Function f) = function (function_tree f)
 external_tree (externals.Declaration storage d) = objects storage (declaration_tree d)
+external_tree (externals.TypeNames d) = type_names (typedef_tree d)
 
 abbrev pub external_trees : List External → List ExternalTree
 external_trees = map external_tree

@@ -17,4 +17,4 @@ pub use declarations::{
 pub use expressions::{Expression, Identifier};
 pub use operators::{AssignmentOperator, BinaryOperator, StepOperator, UnaryOperator};
 pub use statements::{Block, BlockItem, ForHead, ForStart, Statement};
-pub use units::{External, Function, Parameter, Storage, StorageWord, Unit};
+pub use units::{External, Function, Parameter, Storage, StorageWord, Typedef, Unit};

@@ -9,6 +9,7 @@ ghost use Rattle.pk_ast.specs.Views.{
   parameter_tree,
   parameter_trees,
   function_tree,
+  typedef_tree,
   external_tree,
   external_trees,
   unit_tree,
@@ -50,11 +51,20 @@ pub struct Function {
     pub body: Option<Block>,
 }
 
-/// A function, or a declaration of objects.
+/// Names that are declared to be type names, one or more.
+#[derive(Drop)]
+pub struct Typedef {
+    pub specifiers: Specifiers,
+    pub first: Identifier,
+    pub more: Vec<Identifier>,
+}
+
+/// A function, a declaration of objects, or one of type names.
 #[derive(Drop)]
 pub enum External {
     Function(Function),
     Declaration(Option<Storage>, Declaration),
+    TypeNames(Typedef),
 }
 
 /// A text, by its external definitions in order.
@@ -99,6 +109,22 @@ impl Function {
     }
 }
 
+#[tactic(auto, unfolding(crate::specs::Views::typedef_tree))]
+impl Typedef {
+    pub fn new(specifiers: Specifiers, first: Identifier, more: Vec<Identifier>) -> Typedef
+        ensures { typedef_tree result ≡ record {
+          specifiers = specifiers_tree specifiers;
+          names = record { first = first; more = more.items };
+        } }
+    {
+        Typedef {
+            specifiers,
+            first,
+            more,
+        }
+    }
+}
+
 #[tactic(auto, unfolding(crate::specs::Views::external_tree))]
 impl External {
     pub fn function(function: Function) -> External
@@ -111,6 +137,12 @@ impl External {
         ensures { external_tree result ≡ tree.objects storage (declaration_tree declaration) }
     {
         External::Declaration(storage, declaration)
+    }
+
+    pub fn type_names(typedef: Typedef) -> External
+        ensures { external_tree result ≡ tree.type_names (typedef_tree typedef) }
+    {
+        External::TypeNames(typedef)
     }
 }
 

@@ -118,6 +118,10 @@ module _ (last : Option Kind) (InBraces : Type 0) (in_braces : Bool) where
   shown : (k : Kind) (d c : Construct) → Some d ≡ Some c → Shows last InBraces k d → Shows last InBraces k c
   shown k d c e s = let g : d ≡ c = cc in subst (λ q. Shows last InBraces k q) g s
 
+  found_typedef : (b : Bool) (c : Construct) → (b ≡ true → InBraces) → word_shows key.Typedef b ≡ Some c → Shows last InBraces (kind.Keyword key.Typedef) c
+  found_typedef true c h e = let g : construct.Typedef ≡ c = cc in subst (λ d. Shows last InBraces (kind.Keyword key.Typedef) d) g (refl, h refl)
+  found_typedef false c h e = absurd (cc)
+
   found_static : (b : Bool) (c : Construct) → (b ≡ true → InBraces) → word_shows key.Static b ≡ Some c → Shows last InBraces (kind.Keyword key.Static) c
   found_static true c h e = let g : construct.Static ≡ c = cc in subst (λ d. Shows last InBraces (kind.Keyword key.Static) d) g (refl, h refl)
   found_static false c h e = absurd (cc)
@@ -133,7 +137,7 @@ module _ (last : Option Kind) (InBraces : Type 0) (in_braces : Bool) where
   found_word key.Sizeof c h e = shown (kind.Keyword key.Sizeof) construct.Sizeof c e refl
   found_word key.Static c h e = found_static in_braces c h e
   found_word key.Struct c h e = shown (kind.Keyword key.Struct) construct.Struct c e refl
-  found_word key.Typedef c h e = shown (kind.Keyword key.Typedef) construct.Typedef c e refl
+  found_word key.Typedef c h e = found_typedef in_braces c h e
   found_word key.Union c h e = shown (kind.Keyword key.Union) construct.Union c e refl
   found_word key.Volatile c h e = shown (kind.Keyword key.Volatile) construct.Volatile c e refl
   found_word key.Bool c h e = shown (kind.Keyword key.Bool) construct.Bool c e refl
@@ -183,6 +187,7 @@ module _ (last : Option Kind) (InBraces : Type 0) (in_braces : Bool) where
 
   pub finds : (k : Kind) (c : Construct) → (InBraces → in_braces ≡ true) → Shows last InBraces k c → kind_shows (before_next last) in_braces k ≡ Some c
   finds k construct.Static h s = ap (λ q. kind_shows (before_next last) in_braces q) s.0 ∙ ap (λ q. word_shows key.Static q) (h s.1)
+  finds k construct.Typedef h s = ap (λ q. kind_shows (before_next last) in_braces q) s.0 ∙ ap (λ q. word_shows key.Typedef q) (h s.1)
   finds k construct.Pointer h s = elim s.0 [
     | inl e ↦ ap (λ q. kind_shows (before_next last) in_braces q) e ∙ star_finds last s.1
     | inr e ↦ ap (λ q. kind_shows (before_next last) in_braces q) e ∙ star_finds last s.1

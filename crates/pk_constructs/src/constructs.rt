@@ -55,7 +55,6 @@ fn word_shows(word: Keyword, in_braces: bool) -> Option<Construct>
         Keyword::Struct => Some(Construct::Struct),
         Keyword::Union => Some(Construct::Union),
         Keyword::Enum => Some(Construct::Enum),
-        Keyword::Typedef => Some(Construct::Typedef),
         Keyword::Volatile => Some(Construct::Volatile),
         Keyword::Restrict => Some(Construct::Restrict),
         Keyword::Inline => Some(Construct::Inline),
@@ -69,6 +68,7 @@ fn word_shows(word: Keyword, in_braces: bool) -> Option<Construct>
         Keyword::GnuInline => Some(Construct::GnuInline),
         Keyword::GnuRestrict => Some(Construct::GnuRestrict),
         Keyword::Static if in_braces => Some(Construct::Static),
+        Keyword::Typedef if in_braces => Some(Construct::Typedef),
         _ => None,
     }
 }

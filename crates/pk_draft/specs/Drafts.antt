@@ -3,7 +3,8 @@ use Rattle.std.specs.Prelude.{ℕ, zero, suc, ◌+◌, List, [], ◌∷◌, ◌+
 use Rattle.pk_ctypes.specs.declared.places.Pos.{Pos}
 use Rattle.pk_ctypes.specs.declared.types.IntType.{IntType}
 use Rattle.pk_graph.specs.Trees.{TreeOf, variable, InstrOf, Skip, Set}
-use Rattle.pk_graph.specs.Graphs.{VariableOf, number_start, no_variable}
+use Rattle.pk_graph.specs.Graphs.{VariableOf, number_start, no_variable, naming, hiding}
+use Rattle.pk_graph.specs.declared.graphs.Entry.{Entry}
 use Rattle.pk_graph.specs.declared.graphs.Scope.{Scope}
 use Rattle.pk_draft.specs.declared.drafts.Region.{Region}
 use Rattle.pk_draft.specs.declared.drafts.Label.{Label}
@@ -24,7 +25,7 @@ pub record EdgeFrom (V : Type 0) : Type 0 where
   pub instr : InstrOf V
   pub to : ℕ
 
--- A scope is a place in a chain, which points share: nothing is in scope at place 0; place k + 1 adds the variable of entry k to those of the place around it.
+-- A scope is a place in a chain, which points share: nothing is in scope at place 0; place k + 1 adds an entry to those of the place around it.
 -- The current point, what a point made here is, the next point and the next variable, and what is known so far: of each point what it is, of each variable what it is, of each object of
 -- the function at hand, and behind them of its result, its variable, of each call path its region; and the edges in the order in which they were made.
 pub record DraftOf (V : Type 0) : Type 0 where
@@ -61,11 +62,18 @@ on p d = standing (record { at = p; path = d.here.path; scope = d.here.scope }) 
 abbrev pub in_scope : {V : Type 0} → ℕ → DraftOf V → DraftOf V
 in_scope k d = standing (record { at = d.here.at; path = d.here.path; scope = k }) d
 
+abbrev pub with_entry : {V : Type 0} → Entry → DraftOf V → DraftOf V
+with_entry e d =
+    in_scope (length d.scopes + 1)
+    (record d { scopes = d.scopes ++ record { entry = e; outer = d.here.scope } ∷ [] })
+
 -- the name of a variable comes into scope
 abbrev pub with_name : {V : Type 0} → ℕ → DraftOf V → DraftOf V
-with_name x d =
-    in_scope (length d.scopes + 1)
-    (record d { scopes = d.scopes ++ record { variable = x; outer = d.here.scope } ∷ [] })
+with_name x d = with_entry (naming x) d
+
+-- and is hidden by a name that is no variable's
+abbrev pub with_hidden : {V : Type 0} → ℕ → DraftOf V → DraftOf V
+with_hidden x d = with_entry (hiding x) d
 
 -- names in scope inside a block alone
 abbrev pub scoped : {V : Type 0} → (DraftOf V → DraftOf V) → DraftOf V → DraftOf V
@@ -178,7 +186,7 @@ entry_point = 1
 -- the first n objects of the file come into scope in order
 abbrev pub file_scopes : ℕ → List Scope
 file_scopes zero = []
-file_scopes (suc n) = file_scopes n ++ record { variable = n; outer = n } ∷ []
+file_scopes (suc n) = file_scopes n ++ record { entry = naming n; outer = n } ∷ []
 
 -- the regions of so many paths where that of the entry alone is known, behind so many objects of the file
 abbrev pub first_regions : (objects paths : ℕ) → List Region

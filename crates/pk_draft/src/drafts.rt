@@ -8,7 +8,7 @@ ghost use Rattle.pk_draft.specs.Drafts as draft;
 ghost use Rattle.pk_draft.specs.Answers.{edge_view};
 
 use pk_ctypes::{IntType, Name, Pos};
-use pk_graph::{Instr, Scope, Start, Tree, Variable};
+use pk_graph::{Entry, Instr, Scope, Start, Tree, Variable};
 use std::alloc::{AllocError, Global};
 
 // The point where a run begins.
@@ -147,8 +147,27 @@ impl Draft {
     pub fn name(&mut self, variable: usize) -> Result<(), AllocError>
         ensures { OnOk result (drafted self.new ≡ draft.with_name variable (drafted self.old)) }
     {
-        self.scopes.push(Scope {
+        self.add_entry(Entry {
             variable,
+            hides: false,
+        })
+    }
+
+    /// The name of a variable is hidden from here on.
+    pub fn hide(&mut self, variable: usize) -> Result<(), AllocError>
+        ensures { OnOk result (drafted self.new ≡ draft.with_hidden variable (drafted self.old)) }
+    {
+        self.add_entry(Entry {
+            variable,
+            hides: true,
+        })
+    }
+
+    fn add_entry(&mut self, entry: Entry) -> Result<(), AllocError>
+        ensures { OnOk result (drafted self.new ≡ draft.with_entry entry (drafted self.old)) }
+    {
+        self.scopes.push(Scope {
+            entry,
             outer: self.here.scope,
         })?;
         self.here.scope = self.scopes.len();
@@ -515,7 +534,10 @@ fn file_scopes(alloc: Global, count: usize) -> Result<Vec<Scope>, AllocError>
     let mut scopes = Vec::new(alloc);
     for variable in 0..count {
         scopes.push(Scope {
-            variable,
+            entry: Entry {
+                variable,
+                hides: false,
+            },
             outer: variable,
         })?;
     }

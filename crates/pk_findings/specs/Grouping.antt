@@ -20,7 +20,7 @@ abbrev pub operation_order : OperationOf → ℕ
 operation_order o = order_of o.at o.fault
 
 abbrev pub single : CaseOf → OperationOf
-single c = record { at = c.at; fault = c.fault; ways = c.way ∷ [] }
+single c = record { at = c.at; fault = c.fault; elements = None; ways = c.way ∷ [] }
 
 abbrev pub with_way : OperationOf → CaseOf → OperationOf
 with_way o c = record o { ways = o.ways ++ c.way ∷ [] }

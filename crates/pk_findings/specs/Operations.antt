@@ -17,9 +17,11 @@ pub record WayOf : Type 0 where
   pub path : PathOf
   pub verdict : Verdict
 
+-- an operation; of an index, how many elements the array has, where that is known
 pub record OperationOf : Type 0 where
   pub at : Pos
   pub fault : Fault
+  pub elements : Option ℕ
   pub ways : List WayOf
 
 -- an operation on one of its call paths

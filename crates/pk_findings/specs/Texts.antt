@@ -19,6 +19,10 @@ origin_at t at = slice_index_or t.origins (at.line - 1) first_origin
 unfoldable pub file_of : TextOf → Origin → List ℕ
 file_of t o = unwrap_or (file_at t.lines o) t.name
 
+-- the line of a place
+abbrev pub line_of : TextOf → Pos → List ℕ
+line_of t at = line_at t.lines (at.line - 1)
+
 -- less than 2^30: longer texts aren't read
 abbrev pub is_small : Pos → Bool
 is_small at = nat_lt at.line (2 ^ 30) && nat_lt at.column (2 ^ 30)

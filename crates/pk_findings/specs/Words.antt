@@ -1,8 +1,5 @@
--- What is said of an operation: its verdict over all its ways, and the message of a finding.
-use Rattle.std.specs.Prelude.{ℕ, ℤ, int_lt, Bool, true, false, if◌then◌else◌, List, ◌++◌, codes, fold, count_by}
-use Rattle.std.specs.Fmt.{signed_decimal}
-use Rattle.pk_ctypes.specs.declared.faults.Fault.{Fault}
-use Rattle.pk_ctypes.specs.declared.faults.Fault.TheVariants.{Index, DivZero, Overflow, Shift, Assert}
+-- The verdict on an operation over all its ways.
+use Rattle.std.specs.Prelude.{ℤ, int_lt, Bool, true, false, if◌then◌else◌, List, fold, count_by}
 use Rattle.pk_show.specs.declared.rows.Verdict.{Verdict}
 use Rattle.pk_show.specs.declared.rows.Verdict.TheVariants.{Safe, Unknown, Unreachable}
 use Rattle.pk_show.specs.declared.rows.Counts.{Counts}
@@ -63,20 +60,3 @@ counts_of operations = record {
   unknown = count_by is_finding operations;
   unreachable = count_by (λ o. is_unreachable (verdict_of o)) operations;
 }
-
--- ---- messages
-
--- what the range is of
-unfoldable pub wording : Fault → List ℕ
-wording Index = codes "the index may be out of bounds: it lies in "
-wording DivZero = codes "the divisor may be 0: it lies in "
-wording Overflow = codes "the result may not fit its type: it lies in "
-wording Shift = codes "the shift may be undefined: its count, left operand or result lies in "
-wording Assert = codes "the assertion may fail: its value lies in "
-
-unfoldable pub range_text : (lo hi : ℤ) → List ℕ
-range_text lo hi = codes "[" ++ (signed_decimal lo ++ (codes "," ++ (signed_decimal hi ++ codes "]")))
-
--- what is said of an operation of this kind that is unknown
-unfoldable pub message : Fault → (lo hi : ℤ) → List ℕ
-message f lo hi = wording f ++ range_text lo hi

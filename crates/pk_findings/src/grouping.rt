@@ -54,7 +54,12 @@ fn single<'t>(alloc: Global, case: Case<'t>) -> Result<Operation<'t>, AllocError
     let Case { at, fault, way } = case;
     let mut ways = Vec::new(alloc);
     add(&mut ways, way)?;
-    Ok(Operation { at, fault, ways })
+    Ok(Operation {
+        at,
+        fault,
+        elements: None,
+        ways,
+    })
 }
 
 // An open operation has its next way, or is whole.

@@ -25,11 +25,13 @@ impl<'t> Model for Way<'t> {
     ghost view = { λ w. record { path = w.path; verdict = w.verdict } };
 }
 
-/// An operation that can fault: its place, its kind, and each way that leads to it.
+/// An operation that can fault: its place, its kind, and each way that leads to it. Of an index, how many elements the
+/// array has, where that is known.
 #[derive(Drop)]
 pub struct Operation<'t> {
     pub at: Pos,
     pub fault: Fault,
+    pub elements: Option<u64>,
     pub ways: Vec<Way<'t>>,
 }
 
@@ -38,7 +40,12 @@ impl<'t> Model for Operation<'t> {
 
     ghost Value = { OperationOf };
 
-    ghost view = { λ o. record { at = o.at; fault = o.fault; ways = o.ways.items } };
+    ghost view = { λ o. record {
+      at = o.at;
+      fault = o.fault;
+      elements = o.elements;
+      ways = o.ways.items;
+    } };
 }
 
 /// An operation on one of its call paths.

@@ -1,7 +1,7 @@
 // A preprocessed text, and where its places come from.
 
 ghost use Rattle.std.specs.Prelude.{◌≡◌, IfOk, map};
-ghost use Rattle.pk_findings.specs.Texts.{origin_at, file_of, is_small, is_in_line, is_among, is_within, IsText};
+ghost use Rattle.pk_findings.specs.Texts.{origin_at, file_of, line_of, is_small, is_in_line, is_among, is_within, IsText};
 
 use pk_ctypes::Pos;
 use pk_origin::{Origin, file_name, lines, origins};
@@ -66,6 +66,19 @@ pub fn file_of(alloc: Global, text: &Text<'_>, origin: Origin) -> Result<Vec<u8>
     match file_name(alloc, &text.lines, origin)? {
         Some(name) => Ok(name),
         None => Vec::from_slice(alloc, text.name),
+    }
+}
+
+/// The line of a place.
+#[tactic(auto, using(std::proofs::lemmas::List::get_or_past))]
+pub fn line_of<'t>(text: &Text<'t>, at: Pos) -> &'t [u8]
+    ensures { result.now ≡ line_of text.now at }
+{
+    let k = at.line.saturating_sub(1) as usize;
+    if k < text.lines.len() {
+        text.lines[k]
+    } else {
+        b""
     }
 }
 

@@ -1,14 +1,10 @@
-// What is said of an operation.
+// The verdict on an operation over all its ways.
 
-ghost use Rattle.std.specs.Prelude.{◌≡◌, ◌++◌, OnOk, count_by};
-ghost use Rattle.std.specs.Fmt.{signed_decimal};
-ghost use Rattle.pk_findings.specs.Words.{lesser, greater, joined, joined_to_safe, joined_to_unknown, verdict_of, is_safe, is_finding, is_unreachable, counts_of, wording, range_text, message};
+ghost use Rattle.std.specs.Prelude.{◌≡◌, count_by};
+ghost use Rattle.pk_findings.specs.Words.{lesser, greater, joined, joined_to_safe, joined_to_unknown, verdict_of, is_safe, is_finding, is_unreachable, counts_of};
 
 use crate::operations::Operation;
-use itoa::Buffer;
-use pk_ctypes::Fault;
 use pk_show::{Counts, Verdict};
-use std::alloc::AllocError;
 
 fn lesser(a: i128, b: i128) -> i128
     ensures { result ≡ lesser a b }
@@ -116,50 +112,4 @@ pub fn counts_of(operations: &[Operation<'_>]) -> Counts
         unknown,
         unreachable,
     }
-}
-
-#[tactic(auto, unfolding(crate::specs::Words::wording))]
-fn wording(fault: Fault) -> &'static str
-    ensures { result.now ≡ wording fault }
-{
-    match fault {
-        Fault::Index => "the index may be out of bounds: it lies in ",
-        Fault::DivZero => "the divisor may be 0: it lies in ",
-        Fault::Overflow => "the result may not fit its type: it lies in ",
-        Fault::Shift => "the shift may be undefined: its count, left operand or result lies in ",
-        Fault::Assert => "the assertion may fail: its value lies in ",
-    }
-}
-
-fn write_number(bytes: &mut Vec<u8>, number: i128) -> Result<(), AllocError>
-    ensures { OnOk result (bytes.new.items ≡ bytes.old.items ++ signed_decimal number) }
-{
-    let mut buffer = Buffer::new();
-    bytes.extend_from_slice(buffer.format(number).as_bytes())
-}
-
-/// Writes a range.
-#[tactic(auto, unfolding(crate::specs::Words::range_text))]
-pub fn write_range(bytes: &mut Vec<u8>, lo: i128, hi: i128) -> Result<(), AllocError>
-    ensures { OnOk result (bytes.new.items ≡ bytes.old.items ++ range_text lo hi) }
-{
-    bytes.extend_from_slice(b"[")?;
-    write_number(bytes, lo)?;
-    bytes.extend_from_slice(b",")?;
-    write_number(bytes, hi)?;
-    bytes.extend_from_slice(b"]")
-}
-
-/// Writes what is said of an operation of this kind that is unknown.
-#[tactic(auto, unfolding(crate::specs::Words::message))]
-pub fn write_message(
-    bytes: &mut Vec<u8>,
-    fault: Fault,
-    lo: i128,
-    hi: i128,
-) -> Result<(), AllocError>
-    ensures { OnOk result (bytes.new.items ≡ bytes.old.items ++ message fault lo hi) }
-{
-    bytes.extend_from_slice(wording(fault).as_bytes())?;
-    write_range(bytes, lo, hi)
 }

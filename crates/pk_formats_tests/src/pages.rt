@@ -32,7 +32,7 @@ fn expect(rt: &impl Abort, page: &[u8], rows: &[(&str, usize)]) -> Result<(), Fa
 const TABLE_PIECES: [(&str, usize); 12] = [
     ("<!DOCTYPE html>\n", 1),
     (
-        "<a href=\"#f0-21\">examples/table.c:10:21</a>: the index may be out of bounds: it lies in [1,9]",
+        "<a href=\"#f0-21\">examples/table.c:10:21</a>: table[at + 1] may be out of bounds: the index is in [1,9]",
         1,
     ),
     (

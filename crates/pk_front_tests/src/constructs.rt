@@ -10,7 +10,7 @@ const TEXTS: [(&str, &str); 66] = [
     ("#define X 1\nint main(void){}\n", "directive at 1:1"),
     ("enum e{A};", "enum at 1:1"),
     ("int main(void){static int x;}", "static at 1:16"),
-    ("typedef int T;", "typedef at 1:1"),
+    ("typedef int T;", ""),
     ("int main(void){typedef int T;return 0;}", "typedef at 1:16"),
     ("int x; 1e5", "floating at 1:8"),
     ("0x1.8p3", "floating at 1:1"),

@@ -3,20 +3,21 @@ use Rattle.std.proofs.Common.{◌≡◌, ◌≢◌, inl, inr, Option, Some, None
 use Rattle.pk_ctypes.specs.declared.places.Pos.{Pos}
 use Rattle.pk_lex.specs.declared.token.Token.{Token}
 use Rattle.pk_lex.specs.declared.token.Kind.TheVariants as kind
+use Rattle.pk_lex.specs.declared.token.Keyword.TheVariants as key
 use Rattle.pk_lex.specs.declared.token.Punctuator.TheVariants as mark
 use Rattle.pk_ast.specs.declared.declarations.Specifier.{Specifier}
 use Rattle.pk_ast.specs.declared.declarations.SpecifierWord.{SpecifierWord}
 use Rattle.pk_ast.specs.declared.declarations.SpecifierWord.TheVariants as word
 use Rattle.pk_ast.specs.declared.expressions.Identifier.{Identifier}
 use Rattle.pk_ast.specs.declared.units.Storage.{Storage}
-use Rattle.pk_ast.specs.Trees.{OneOrMore, no_items, BlockTree, ParameterTree, FunctionTree, ExternalTree, function, objects}
+use Rattle.pk_ast.specs.Trees.{OneOrMore, no_items, BlockTree, ParameterTree, FunctionTree, TypedefTree, ExternalTree, function, objects, type_names}
 use Rattle.pk_ast.specs.Lists.{one, with_last}
 use Rattle.pk_grammar.specs.declared.signs.Fixed.TheVariants as fixed
 use Rattle.pk_grammar.specs.Languages.{Marked, ◌⊙◌, identifier_of}
-use Rattle.pk_grammar.specs.Grammar.{stored, optional_name, parameter, IsVoidAlone, more_parameters, parameters, function_end, statement, external, externals}
+use Rattle.pk_grammar.specs.Grammar.{stored, optional_name, parameter, IsVoidAlone, more_parameters, parameters, function_end, statement, more_names, external, externals}
 use Rattle.pk_grammar.specs.Machine.Signs.{is_fixed, specifier_word, storage_word, is_void_word, specifier_in}
-use Rattle.pk_grammar.specs.Machine.States.{Head, function_block, Site, outside, State, top, after_storage, after_specifiers, after_name, parameters_open, parameter_specifiers, parameter_name, parameter_comma, parameters_closed, block_item}
-use Rattle.pk_grammar.specs.Machine.Steps.{taken, step, read, ends, specifier_at, storage_or_specifier, begin_external, begin_parameter, more_parameter, is_void_alone, last_parameter, end_block, next_word}
+use Rattle.pk_grammar.specs.Machine.States.{Head, function_block, Site, outside, State, top, after_storage, after_typedef, type_specifiers, after_type_name, type_name_comma, after_specifiers, after_name, parameters_open, parameter_specifiers, parameter_name, parameter_comma, parameters_closed, block_item}
+use Rattle.pk_grammar.specs.Machine.Steps.{taken, step, read, ends, specifier_at, storage_or_specifier, begin_external, begin_typedef, more_typedef, begin_parameter, more_parameter, is_void_alone, last_parameter, end_block, next_word}
 use Rattle.pk_grammar.proofs.CompleteLists.{tokens_of, nestings_of, before, Reads, reads_both, reads_one, reads_none, reads_head, reads_sign, reads_last, reads_join_none}
 use Rattle.pk_grammar.proofs.CompleteSigns.{storage_is, specifier_alone}
 use Rattle.pk_grammar.proofs.CompleteOperands.{IsAt, same_false}
@@ -37,7 +38,7 @@ record ReadsStorage (done : List ExternalTree) (s : Option Storage) (ms : List M
 top_takes : (done : List ExternalTree) → TakesType (top done) (outside done None)
 top_takes done t w e =
     let s = specifier_alone t.kind t.start t.end w e in
-    ap (λ o. storage_or_specifier done t o) s.no_storage ∙ same_false (is_fixed fixed.End t.kind) _ _ s.no_end ∙ ap (λ o. begin_external done None t o) e
+    ap (λ o. storage_or_specifier done t o) s.no_storage ∙ same_false (is_fixed fixed.End t.kind) _ _ s.no_end ∙ same_false (is_fixed fixed.Typedef t.kind) _ _ s.no_typedef ∙ ap (λ o. begin_external done None t o) e
 
 step_storage : (done : List ExternalTree) (s : Storage) (t : Token) → (storage_word t.kind ≡ Some s.word) × (t.at ≡ s.at) → step (top done) t ≡ taken 0 (after_storage done s)
 step_storage done s t e = ap (λ o. storage_or_specifier done t o) e.0 ∙ ap (λ p. taken 0 (after_storage done (record { word = s.word; at = p }))) e.1
@@ -225,6 +226,53 @@ reads_function f done ms rest h =
     p.then
     (reads_body f.body head f.parameters d.back rest d.second))))
 
+-- Type names
+
+pub step_typedef : (done : List ExternalTree) (t : Token) → t.kind ≡ kind.Keyword key.Typedef → step (top done) t ≡ taken 0 (after_typedef done)
+step_typedef done t e = rw e
+
+pub step_more_type : (done : List ExternalTree) (specs : OneOrMore Specifier) (t : Token) (w : SpecifierWord) → next_word specs t ≡ Some w →
+    step (type_specifiers done specs) t ≡ taken 0 (type_specifiers done (with_last specs (specifier_at t w)))
+step_more_type done specs t w e = ap (λ o. more_typedef done specs t o) e
+
+pub step_first_type : (done : List ExternalTree) (specs : OneOrMore Specifier) (id : Identifier) (t : Token) → (t.kind ≡ kind.Name) × (identifier_of t ≡ id) →
+    step (type_specifiers done specs) t ≡ taken 0 (after_type_name done specs (one id))
+step_first_type done specs id t e = rw e.0 (ap (λ i. taken 0 (after_type_name done specs (one i))) e.1)
+
+pub step_type_comma : (done : List ExternalTree) (specs : OneOrMore Specifier) (ids : OneOrMore Identifier) (t : Token) → t.kind ≡ kind.Punctuator mark.Comma →
+    step (after_type_name done specs ids) t ≡ taken 0 (type_name_comma done specs ids)
+step_type_comma done specs ids t e = rw e
+
+pub step_next_type : (done : List ExternalTree) (specs : OneOrMore Specifier) (ids : OneOrMore Identifier) (id : Identifier) (t : Token) → (t.kind ≡ kind.Name) × (identifier_of t ≡ id) →
+    step (type_name_comma done specs ids) t ≡ taken 0 (after_type_name done specs (with_last ids id))
+step_next_type done specs ids id t e = rw e.0 (ap (λ i. taken 0 (after_type_name done specs (with_last ids i))) e.1)
+
+pub step_last_type : (done : List ExternalTree) (specs : OneOrMore Specifier) (ids : OneOrMore Identifier) (t : Token) → t.kind ≡ kind.Punctuator mark.Semicolon →
+    step (after_type_name done specs ids) t ≡ taken 0 (top (done ++ type_names (record { specifiers = specs; names = ids }) ∷ []))
+step_last_type done specs ids t e = rw e
+
+reads_more_names : (more : List Identifier) (done : List ExternalTree) (specs : OneOrMore Specifier) (ids : OneOrMore Identifier) (ms : List Marked) (rest : List Token) → more_names more 0 ms →
+    Reads (after_type_name done specs ids) ms (after_type_name done specs (record { first = ids.first; more = ids.more ++ more })) rest
+reads_more_names [] done specs ids ms rest h =
+    subst (λ q. Reads (after_type_name done specs ids) ms (after_type_name done specs (record { first = ids.first; more = q })) rest) (sym (append-nil ids.more)) (reads_none h)
+reads_more_names (id ∷ more) done specs ids ms rest h =
+    let g = h.second in
+    reads_head h (step_type_comma done specs ids h.first.token h.first.holds)
+    (reads_head g (step_next_type done specs ids id g.first.token g.first.holds)
+    (subst (λ q. Reads (after_type_name done specs (with_last ids id)) g.back (after_type_name done specs (record { first = ids.first; more = q })) rest) (append_assoc ids.more (id ∷ []) more)
+    (reads_more_names more done specs (with_last ids id) g.back rest g.second)))
+
+reads_type_names : (d : TypedefTree) (done : List ExternalTree) (ms : List Marked) (rest : List Token) → external (type_names d) 0 ms → Reads (top done) ms (top (done ++ type_names d ∷ [])) rest
+reads_type_names d done ms rest h =
+    let a = h.second in
+    let b = a.second in
+    let c = b.first in
+    reads_head h (step_typedef done h.first.token h.first.holds)
+    (reads_both a (reads_specifiers (type_specifiers done) 0 (step_more_type done) d.specifiers (after_typedef done) (λ t w e. ap (λ o. begin_typedef done t o) e) a.first)
+    (reads_both b (reads_head c (step_first_type done d.specifiers d.names.first c.first.token c.first.holds)
+    (reads_more_names d.names.more done d.specifiers (one d.names.first) c.back (tokens_of b.back ++ rest) c.second))
+    (reads_one b.second (step_last_type done d.specifiers d.names b.second.token b.second.holds))))
+
 -- External definitions
 
 reads_external : (x : ExternalTree) (done : List ExternalTree) (ms : List Marked) (rest : List Token) → external x 0 ms → Reads (top done) ms (top (done ++ x ∷ [])) rest
@@ -232,6 +280,7 @@ reads_external (function f) done ms rest h = reads_function f done ms rest h
 reads_external (objects s d) done ms rest h =
     let r = reads_stored done s h.front (tokens_of h.back ++ rest) h.first in
     reads_both h r.reads (reads_declared (outside done s) r.state r.takes d rest h.back h.second)
+reads_external (type_names d) done ms rest h = reads_type_names d done ms rest h
 
 reads_externals : (u done : List ExternalTree) (ms : List Marked) (rest : List Token) → externals u 0 ms → Reads (top done) ms (top (done ++ u)) rest
 reads_externals [] done ms rest h = subst (λ u. Reads (top done) ms (top u) rest) (sym (append-nil done)) (reads_none h)

@@ -163,15 +163,17 @@ pub record IsSpecifier (k : Kind) : Type 0 where
   pub no_storage : storage_word k ≡ None
   pub no_end : is_fixed fixed.End k ≡ false
   pub no_close : is_fixed fixed.CloseParenthesis k ≡ false
+  pub no_typedef : is_fixed fixed.Typedef k ≡ false
 
 specifier_keyword_alone : (k : Keyword) (from to : ℕ) (w : SpecifierWord) → specifier_in (kind.Keyword k) from to ≡ Some w → IsSpecifier (kind.Keyword k)
 specifier_keyword_alone key.Static from to w h = absurd (cc)
 specifier_keyword_alone key.Extern from to w h = absurd (cc)
 specifier_keyword_alone key.Else from to w h = absurd (cc)
 specifier_keyword_alone key.While from to w h = absurd (cc)
-specifier_keyword_alone _ from to w h = record { no_storage = refl; no_end = refl; no_close = refl }
+specifier_keyword_alone key.Typedef from to w h = absurd (cc)
+specifier_keyword_alone _ from to w h = record { no_storage = refl; no_end = refl; no_close = refl; no_typedef = refl }
 
 pub specifier_alone : (k : Kind) (from to : ℕ) (w : SpecifierWord) → specifier_in k from to ≡ Some w → IsSpecifier k
 specifier_alone (kind.Keyword k) from to w h = specifier_keyword_alone k from to w h
-specifier_alone kind.TypeName from to w h = record { no_storage = refl; no_end = refl; no_close = refl }
+specifier_alone kind.TypeName from to w h = record { no_storage = refl; no_end = refl; no_close = refl; no_typedef = refl }
 specifier_alone _ from to w h = absurd (cc)

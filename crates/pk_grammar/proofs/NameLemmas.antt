@@ -14,7 +14,7 @@ use Rattle.pk_ast.specs.declared.declarations.SpecifierWord.TheVariants as words
 use Rattle.pk_ast.specs.declared.expressions.Identifier.{Identifier}
 use Rattle.pk_ast.specs.declared.units.Storage.{Storage}
 use Rattle.pk_ast.specs.Names.{word_name, word_names, specifier_names, expression_names, list_names, optional_names, initializer_names, declarator_names, all_declarator_names, declaration_names, for_start_names, statement_names, item_names, body_names, optional_name, parameter_names, external_names, names_of}
-use Rattle.pk_ast.specs.Trees.{OneOrMore, ExpressionTree, name, call, index, constant, character, parenthesized, postfix, prefix, unary, cast, binary, conditional, assignment, comma, ExpressionTrees, no_expressions, expression_then, InitializerTree, single, braced, DeclaratorTree, DeclarationTree, ForStartTree, declaration, expression, StatementTree, block, empty, expression_statement, label, case, default, if_then, if_else, switch, while, do_while, for_loop, goto, continue, break, return, ItemTrees, no_items, declaration_then, statement_then, BlockTree, ParameterTree, ExternalTree, function, objects}
+use Rattle.pk_ast.specs.Trees.{OneOrMore, ExpressionTree, name, call, index, constant, character, parenthesized, postfix, prefix, unary, cast, binary, conditional, assignment, comma, ExpressionTrees, no_expressions, expression_then, InitializerTree, single, braced, DeclaratorTree, DeclarationTree, ForStartTree, declaration, expression, StatementTree, block, empty, expression_statement, label, case, default, if_then, if_else, switch, while, do_while, for_loop, goto, continue, break, return, ItemTrees, no_items, declaration_then, statement_then, BlockTree, ParameterTree, ExternalTree, function, objects, type_names}
 use Rattle.pk_grammar.specs.Languages.{Marked, Language, Nothing, At, Any, Identified, ◌⊙◌, Inside, Past, Optional, identifier_of}
 use Rattle.pk_grammar.specs.Grammar as grammar
 use Rattle.pk_grammar.specs.Grammar.{punctuator, punctuator_at, keyword, keyword_at, specifier, specifier_list, specifiers, spelled, spelled_list, spelled_more, Expression, Items, statement, block_items, IsWord}
@@ -304,6 +304,10 @@ unfolding statement_names
 body-names None = sign mark.Semicolon
 body-names (Some b) = statement-names (block b.opened b.items b.closed)
 
+more_names-names : (ids : List Identifier) → Has (grammar.more_names ids) ids
+more_names-names [] = nothing
+more_names-names (id ∷ more) = none_then (id ∷ more) (sign mark.Comma) (both (id ∷ []) more (identified id) (more_names-names more))
+
 external-names : (x : ExternalTree) → Has (grammar.external x) (external_names x)
 external-names (function f) =
     let xs : List Identifier = parameter_names f.parameters in
@@ -313,6 +317,12 @@ external-names (function f) =
     none_then (named ++ all) (stored-names f.storage) (both named all (specifiers-names f.specifiers) (both (f.name ∷ []) (xs ++ ys) (identified f.name)
     (both xs ys (inside xs (none_then xs (sign mark.OpenParenthesis) (parameters-names f.parameters))) (none_then ys (sign mark.CloseParenthesis) (body-names f.body)))))
 external-names (objects s d) = none_then (declaration_names d) (stored-names s) (declared-names d)
+external-names (type_names d) =
+    let types : List Identifier = specifier_names d.specifiers in
+    let more : List Identifier = d.names.more in
+    let all : List Identifier = d.names.first ∷ more in
+    none_then (types ++ all) (word key.Typedef) (both types all (specifiers-names d.specifiers)
+    (then_none all (both (d.names.first ∷ []) more (identified d.names.first) (more_names-names more)) (sign mark.Semicolon)))
 
 externals-names : (xs : List ExternalTree) → Has (grammar.externals xs) (names_of xs)
 externals-names [] = nothing

@@ -8,7 +8,7 @@ use Rattle.pk_grammar.specs.declared.signs.Fixed.TheVariants as fixed
 use Rattle.pk_grammar.specs.Languages.{Marked}
 use Rattle.pk_grammar.specs.Grammar.{statement, externals, text}
 use Rattle.pk_grammar.specs.Machine.Signs.{specifier_word}
-use Rattle.pk_grammar.specs.Machine.States.{as_first, as_second, as_third, as_result, as_value, as_item, as_whole, State, top, after_storage, after_specifiers, after_name, after_length, after_assign, after_brace, after_item, after_initializer, after_comma, parameters_open, parameter_specifiers, parameter_name, parameter_comma, parameters_closed, block_item, at_statement, after_statement, test_open, do_open, for_open, for_first, for_second, for_third, default_colon, goto_name, returning, statement_end, operand, named, arguments, opened, cast_specifiers, complete}
+use Rattle.pk_grammar.specs.Machine.States.{as_first, as_second, as_third, as_result, as_value, as_item, as_whole, State, top, after_storage, after_typedef, type_specifiers, after_type_name, type_name_comma, after_specifiers, after_name, after_length, after_assign, after_brace, after_item, after_initializer, after_comma, parameters_open, parameter_specifiers, parameter_name, parameter_comma, parameters_closed, block_item, at_statement, after_statement, test_open, do_open, for_open, for_first, for_second, for_third, default_colon, goto_name, returning, statement_end, operand, named, arguments, opened, cast_specifiers, complete}
 use Rattle.pk_grammar.specs.Machine.Steps.{Verdict, taken, refused, finished, naming_nesting, begin_for, step}
 use Rattle.pk_grammar.proofs.SpellsSigns.{IsSpecifier, is_specifier}
 use Rattle.pk_grammar.proofs.SpellsWords.{push, push_at, push_last, none_more, gather, last_as, moved}
@@ -19,13 +19,17 @@ use Rattle.pk_grammar.proofs.SpellsDeclarations.{after_declarator_good, more_spe
 use Rattle.pk_grammar.proofs.SpellsPurposes.{for_ends}
 use Rattle.pk_grammar.proofs.SpellsOperands.{at_operand_good, at_complete_good, at_named_good, at_arguments_good, at_opened_good, more_cast_good}
 use Rattle.pk_grammar.proofs.SpellsStatements.{begins_statement_good, at_items_good, resume_good}
-use Rattle.pk_grammar.proofs.SpellsExternals.{begin_external_good, at_top_good, begin_parameter_good, more_parameter_good, at_parameter_name_good, parameters_open_good, at_parameters_closed_good}
+use Rattle.pk_grammar.proofs.SpellsExternals.{begin_external_good, at_top_good, begin_typedef_good, more_typedef_good, at_after_type_name_good, next_type_name_good, begin_parameter_good, more_parameter_good, at_parameter_name_good, parameters_open_good, at_parameters_closed_good}
 use Rattle.pk_grammar.proofs.SpellsEnds.{Ends, at_end, goes, state_ends}
 
 step_good : (s : State) (t : Token) (ms : List Marked) → Spells s ms → Good (step s t) t ms
 unfolding statement
 step_good (top before) t ms h = at_top_good before t ms h
 step_good (after_storage before s) t ms h = begin_external_good before (Some s) t ms h
+step_good (after_typedef before) t ms h = begin_typedef_good before t ms h
+step_good (type_specifiers before ss) t ms h = more_typedef_good before ss t ms h
+step_good (after_type_name before ss ids) t ms h = at_after_type_name_good before ss ids t ms h
+step_good (type_name_comma before ss ids) t ms h = wanted_good fixed.Name _ t ms (λ k. next_type_name_good before ss ids t ms h k)
 step_good (after_specifiers s ss) t ms h = more_specifiers_good s ss t ms h
 step_good (after_name d id) t ms h = at_after_name_good d id t ms h
 step_good (after_length d) t ms h = at_after_length_good d t ms h

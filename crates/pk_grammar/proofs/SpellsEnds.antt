@@ -13,7 +13,7 @@ use Rattle.pk_grammar.specs.declared.signs.Fixed.TheVariants as fixed
 use Rattle.pk_grammar.specs.declared.signs.Operator.TheVariants as operator
 use Rattle.pk_grammar.specs.Grammar.{any_expression, strength}
 use Rattle.pk_grammar.specs.Machine.Signs.{is_fixed, operator_of}
-use Rattle.pk_grammar.specs.Machine.States.{OpenBlock, function_block, inner_block, Outer, in_block, in_label, in_case, in_default, in_if, in_else, in_switch, in_while, in_do, in_for, Site, in_a_block, in_a_for, outside, Declared, Purpose, as_statement, as_label, as_test, as_last_test, as_first, as_second, as_third, as_result, as_length, as_value, as_item, Context, as_whole, in_parentheses, in_index, in_call, in_prefix, in_unary, in_cast, in_binary, in_choice, in_alternative, in_assignment, in_comma, State, top, after_storage, after_specifiers, after_name, after_length, after_assign, after_brace, after_item, after_initializer, after_comma, parameters_open, parameter_specifiers, parameter_name, parameter_comma, parameters_closed, block_item, at_statement, after_statement, test_open, do_open, for_open, for_first, for_second, for_third, default_colon, goto_name, returning, statement_end, operand, named, arguments, opened, cast_specifiers, complete}
+use Rattle.pk_grammar.specs.Machine.States.{OpenBlock, function_block, inner_block, Outer, in_block, in_label, in_case, in_default, in_if, in_else, in_switch, in_while, in_do, in_for, Site, in_a_block, in_a_for, outside, Declared, Purpose, as_statement, as_label, as_test, as_last_test, as_first, as_second, as_third, as_result, as_length, as_value, as_item, Context, as_whole, in_parentheses, in_index, in_call, in_prefix, in_unary, in_cast, in_binary, in_choice, in_alternative, in_assignment, in_comma, State, top, after_storage, after_typedef, type_specifiers, after_type_name, type_name_comma, after_specifiers, after_name, after_length, after_assign, after_brace, after_item, after_initializer, after_comma, parameters_open, parameter_specifiers, parameter_name, parameter_comma, parameters_closed, block_item, at_statement, after_statement, test_open, do_open, for_open, for_first, for_second, for_third, default_colon, goto_name, returning, statement_end, operand, named, arguments, opened, cast_specifiers, complete}
 use Rattle.pk_grammar.specs.Machine.Steps.{Verdict, taken, finished, Reduced, reduced, end_expression, end_purpose, go_on, resume, step, end_declaration}
 
 -- some tokens lead on to the end of a text
@@ -143,6 +143,10 @@ ends_operand k n c = goes a_character (ends_complete _ _ _ c (ends_context c _ _
 pub state_ends : (n : ℕ) (s : State) → Ends (taken n s)
 state_ends n (top before) = the_end before
 state_ends n (after_storage before s) = goes (a_token (kind.Keyword key.Int)) (goes a_name (goes semicolon (the_end _)))
+state_ends n (after_typedef before) = goes (a_token (kind.Keyword key.Int)) (goes a_name (goes semicolon (the_end _)))
+state_ends n (type_specifiers before specs) = goes a_name (goes semicolon (the_end _))
+state_ends n (after_type_name before specs ids) = goes semicolon (the_end _)
+state_ends n (type_name_comma before specs ids) = goes a_name (goes semicolon (the_end _))
 state_ends n (after_specifiers s specs) = goes a_name (goes semicolon (ends_declaration _))
 state_ends n (after_name d id) = goes semicolon (ends_declaration _)
 state_ends n (after_length d) = goes semicolon (ends_declaration _)

@@ -6,8 +6,9 @@ use Rattle.pk_ast.specs.declared.declarations.SpecifierWord.{SpecifierWord}
 use Rattle.pk_ast.specs.declared.declarations.Specifier.{Specifier}
 use Rattle.pk_ast.specs.Lists.{one, with_last, ended}
 use Rattle.pk_ast.specs.Trees.{OneOrMore, ExpressionTree, ExpressionTrees, no_expressions, expression_then, DeclaratorTree, DeclarationTree, StatementTree, ItemTrees, no_items, declaration_then, statement_then, ParameterTree, ExternalTree}
-use Rattle.pk_grammar.specs.Languages.{Marked, ◌⊙◌}
-use Rattle.pk_grammar.specs.Grammar.{punctuator, assignment_expression, Fits, AllFit, specifier, specifier_list, specifiers, Items, spelled, spelled_list, spelled_more, declarator, more_declarators, declarators, declared, statement, block_items, parameter, IsVoidAlone, more_parameters, parameters, external, externals}
+use Rattle.pk_ast.specs.declared.expressions.Identifier.{Identifier}
+use Rattle.pk_grammar.specs.Languages.{Marked, Identified, ◌⊙◌}
+use Rattle.pk_grammar.specs.Grammar.{punctuator, assignment_expression, Fits, AllFit, specifier, specifier_list, specifiers, Items, spelled, spelled_list, spelled_more, declarator, more_declarators, declarators, declared, statement, block_items, parameter, IsVoidAlone, more_parameters, parameters, more_names, names, external, externals}
 use Rattle.pk_grammar.specs.Machine.Steps.{specifier_at, may_follow, first_item, more_items, one_more, one_more_statement, one_more_declaration}
 use Rattle.pk_grammar.proofs.WordLemmas.{alone_goes, goes_on}
 use Rattle.pk_grammar.proofs.SpellsSigns.{IsSpecifier, IsNext}
@@ -100,6 +101,15 @@ unfolding statement
 items_declaration no_items d n ts h = and_none n ts (alone h)
 items_declaration (declaration_then c items) d n ts h = then_as (λ us g. items_declaration items d n us g) (assoc h)
 items_declaration (statement_then r items) d n ts h = then_as (λ us g. items_declaration items d n us g) (assoc h)
+
+-- Type names
+
+more_names_end : (ids : List Identifier) (id : Identifier) (n : ℕ) (ts : List Marked) → (more_names ids ⊙ (punctuator mark.Comma ⊙ Identified id)) n ts → more_names (ids ++ id ∷ []) n ts
+more_names_end [] id n ts h = then_as (λ us g. and_none n us g) (alone h)
+more_names_end (a ∷ ids) id n ts h = then_as (λ us g. then_as (λ vs f. more_names_end ids id n vs f) (assoc g)) (assoc h)
+
+pub names_end : (ids : OneOrMore Identifier) (id : Identifier) (n : ℕ) (ts : List Marked) → (names ids ⊙ (punctuator mark.Comma ⊙ Identified id)) n ts → names (with_last ids id) n ts
+names_end ids id n ts h = then_as (λ us g. more_names_end ids.more id n us g) (assoc h)
 
 -- External definitions
 

@@ -43,6 +43,7 @@ IsFixed fixed.Else k = k ≡ kind.Keyword key.Else
 IsFixed fixed.While k = k ≡ kind.Keyword key.While
 IsFixed fixed.End k = k ≡ kind.End
 IsFixed fixed.Other k = Unit {0}
+IsFixed fixed.Typedef k = k ≡ kind.Keyword key.Typedef
 
 abbrev pub IsOperand : OperandStart → Kind → Type 0
 IsOperand start.Name k = k ≡ kind.Name
@@ -195,6 +196,7 @@ fixed_self : (k : Kind) → IsFixed (fixed_of k) k
 fixed_self kind.Name = refl
 fixed_self (kind.Keyword key.Else) = refl
 fixed_self (kind.Keyword key.While) = refl
+fixed_self (kind.Keyword key.Typedef) = refl
 fixed_self (kind.Punctuator mark.OpenParenthesis) = refl
 fixed_self (kind.Punctuator mark.CloseParenthesis) = refl
 fixed_self (kind.Punctuator mark.OpenBracket) = refl
@@ -209,7 +211,7 @@ fixed_self kind.End = refl
 fixed_self _ = tt
 
 fixed_at : ℕ → Fixed
-fixed_at n = get_or (fixed.Name ∷ fixed.OpenParenthesis ∷ fixed.CloseParenthesis ∷ fixed.OpenBracket ∷ fixed.CloseBracket ∷ fixed.OpenBrace ∷ fixed.CloseBrace ∷ fixed.Semicolon ∷ fixed.Colon ∷ fixed.Comma ∷ fixed.Assign ∷ fixed.Else ∷ fixed.While ∷ fixed.End ∷ []) n fixed.Other
+fixed_at n = get_or (fixed.Name ∷ fixed.OpenParenthesis ∷ fixed.CloseParenthesis ∷ fixed.OpenBracket ∷ fixed.CloseBracket ∷ fixed.OpenBrace ∷ fixed.CloseBrace ∷ fixed.Semicolon ∷ fixed.Colon ∷ fixed.Comma ∷ fixed.Assign ∷ fixed.Else ∷ fixed.While ∷ fixed.End ∷ fixed.Other ∷ fixed.Typedef ∷ []) n fixed.Other
 
 fixed_back : (f : Fixed) → fixed_at (fixed_number f) ≡ f
 unfolding fixed_at
@@ -228,6 +230,7 @@ fixed_back fixed.Else = refl
 fixed_back fixed.While = refl
 fixed_back fixed.End = refl
 fixed_back fixed.Other = refl
+fixed_back fixed.Typedef = refl
 
 same_number : (a b : ℕ) → (a == b) ≡ true → a ≡ b
 same_number a b e = grind arith

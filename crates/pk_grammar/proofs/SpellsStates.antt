@@ -4,10 +4,11 @@ use Rattle.pk_ctypes.specs.declared.places.Pos.{Pos}
 use Rattle.pk_lex.specs.declared.token.Keyword.{Keyword}
 use Rattle.pk_lex.specs.declared.token.Keyword.TheVariants as key
 use Rattle.pk_lex.specs.declared.token.Punctuator.TheVariants as mark
-use Rattle.pk_ast.specs.Trees.{ExpressionTree, ExpressionTrees, no_expressions, expression_then, DeclaratorTree, StatementTree, ForStartTree, ParameterTree}
+use Rattle.pk_ast.specs.declared.declarations.Specifier.{Specifier}
+use Rattle.pk_ast.specs.Trees.{OneOrMore, ExpressionTree, ExpressionTrees, no_expressions, expression_then, DeclaratorTree, StatementTree, ForStartTree, ParameterTree, ExternalTree}
 use Rattle.pk_grammar.specs.Languages.{Marked, Language, Nothing, Identified, ◌⊙◌, Where}
-use Rattle.pk_grammar.specs.Grammar.{binary_sign, unary_sign, step_sign, assignment_sign, punctuator_at, punctuator, keyword_at, keyword, any_expression, assignment_expression, conditional_expression, strength, weakest_operator, cast_expression, unary_expression, postfix_expression, Fits, AllFit, operators_in, commas_in, specifiers, spelled, Items, optional, array_length, declarator, declarators, OpenEnd, test, for_start, statement, block_items, stored, parameter, IsVoidAlone, parameters, externals}
-use Rattle.pk_grammar.specs.Machine.States.{Head, OpenBlock, function_block, inner_block, Outer, in_block, in_label, in_case, in_default, in_if, in_else, in_switch, in_while, in_do, in_for, Site, in_a_block, in_a_for, outside, Declaring, Declared, Naming, Purpose, as_statement, as_label, as_test, as_last_test, as_first, as_second, as_third, as_result, as_length, as_value, as_item, Context, as_whole, in_parentheses, in_index, in_call, in_prefix, in_unary, in_cast, in_binary, in_choice, in_alternative, in_assignment, in_comma, State, top, after_storage, after_specifiers, after_name, after_length, after_assign, after_brace, after_item, after_initializer, after_comma, parameters_open, parameter_specifiers, parameter_name, parameter_comma, parameters_closed, block_item, at_statement, after_statement, test_open, do_open, for_open, for_first, for_second, for_third, default_colon, goto_name, returning, statement_end, operand, named, arguments, opened, cast_specifiers, complete}
+use Rattle.pk_grammar.specs.Grammar.{binary_sign, unary_sign, step_sign, assignment_sign, punctuator_at, punctuator, keyword_at, keyword, any_expression, assignment_expression, conditional_expression, strength, weakest_operator, cast_expression, unary_expression, postfix_expression, Fits, AllFit, operators_in, commas_in, specifiers, spelled, Items, optional, array_length, declarator, declarators, OpenEnd, test, for_start, statement, block_items, stored, parameter, IsVoidAlone, parameters, names, externals}
+use Rattle.pk_grammar.specs.Machine.States.{Head, OpenBlock, function_block, inner_block, Outer, in_block, in_label, in_case, in_default, in_if, in_else, in_switch, in_while, in_do, in_for, Site, in_a_block, in_a_for, outside, Declaring, Declared, Naming, Purpose, as_statement, as_label, as_test, as_last_test, as_first, as_second, as_third, as_result, as_length, as_value, as_item, Context, as_whole, in_parentheses, in_index, in_call, in_prefix, in_unary, in_cast, in_binary, in_choice, in_alternative, in_assignment, in_comma, State, top, after_storage, after_typedef, type_specifiers, after_type_name, type_name_comma, after_specifiers, after_name, after_length, after_assign, after_brace, after_item, after_initializer, after_comma, parameters_open, parameter_specifiers, parameter_name, parameter_comma, parameters_closed, block_item, at_statement, after_statement, test_open, do_open, for_open, for_first, for_second, for_third, default_colon, goto_name, returning, statement_end, operand, named, arguments, opened, cast_specifiers, complete}
 use Rattle.pk_grammar.specs.Machine.Steps.{block_nesting, site_nesting, naming_nesting, operand_level}
 use Rattle.pk_grammar.proofs.SpellsSigns.{testing_keyword}
 use Rattle.pk_grammar.proofs.SpellsWords.{Words, ◌▹◌, before_as}
@@ -42,6 +43,10 @@ declarators_before (d ∷ ds) = declarator d ⊙ punctuator mark.Comma ⊙ decla
 abbrev pub parameters_before : List ParameterTree → Language
 parameters_before [] = Nothing
 parameters_before (p ∷ ps) = parameter p ⊙ punctuator mark.Comma ⊙ parameters_before ps
+
+-- up to the names of a declaration of type names
+abbrev pub to_type_names : List ExternalTree → OneOrMore Specifier → Words
+to_type_names before specs = externals before 0 ▹ keyword key.Typedef 0 ▹ specifiers specs 0
 
 -- up to a function's name
 abbrev pub to_parameters : Head → Words
@@ -206,6 +211,10 @@ unended s n ts = (us : List Marked) → punctuator mark.Semicolon n us → state
 abbrev pub Spells : State → Words
 Spells (top before) = externals before 0
 Spells (after_storage before s) = externals before 0 ▹ stored (Some s) 0
+Spells (after_typedef before) = externals before 0 ▹ keyword key.Typedef 0
+Spells (type_specifiers before specs) = to_type_names before specs
+Spells (after_type_name before specs ids) = to_type_names before specs ▹ names ids 0
+Spells (type_name_comma before specs ids) = to_type_names before specs ▹ names ids 0 ▹ punctuator mark.Comma 0
 Spells (after_specifiers s specs) = to_declaration s ▹ specifiers specs (site_nesting s)
 Spells (after_name d id) = to_declarator d ▹ Identified id (site_nesting d.site)
 Spells (after_length d) = to_initializer d

@@ -22,7 +22,7 @@ use Rattle.pk_ast.specs.declared.operators.AssignmentOperator.TheVariants as asg
 use Rattle.pk_ast.specs.declared.units.Storage.{Storage}
 use Rattle.pk_ast.specs.declared.units.StorageWord.{StorageWord}
 use Rattle.pk_ast.specs.declared.units.StorageWord.TheVariants as storage
-use Rattle.pk_ast.specs.Trees.{OneOrMore, ExpressionTree, name, call, index, constant, character, parenthesized, postfix, prefix, unary, cast, binary, conditional, assignment, comma, ExpressionTrees, no_expressions, expression_then, InitializerTree, single, braced, DeclaratorTree, DeclarationTree, ForStartTree, declaration, expression, StatementTree, block, empty, expression_statement, label, case, default, if_then, if_else, switch, while, do_while, for_loop, goto, continue, break, return, ItemTrees, no_items, declaration_then, statement_then, BlockTree, ParameterTree, ExternalTree, function, objects}
+use Rattle.pk_ast.specs.Trees.{OneOrMore, ExpressionTree, name, call, index, constant, character, parenthesized, postfix, prefix, unary, cast, binary, conditional, assignment, comma, ExpressionTrees, no_expressions, expression_then, InitializerTree, single, braced, DeclaratorTree, DeclarationTree, ForStartTree, declaration, expression, StatementTree, block, empty, expression_statement, label, case, default, if_then, if_else, switch, while, do_while, for_loop, goto, continue, break, return, ItemTrees, no_items, declaration_then, statement_then, BlockTree, ParameterTree, ExternalTree, function, objects, type_names}
 use Rattle.pk_grammar.specs.Languages.{Marked, Language, Nothing, One, At, Any, Identified, ◌⊙◌, Inside, Past, Optional, Where}
 
 -- Signs
@@ -430,12 +430,22 @@ abbrev pub function_end : Option BlockTree → Language
 function_end None = punctuator mark.Semicolon
 function_end (Some b) = statement (block b.opened b.items b.closed)
 
+-- with commas between them
+abbrev pub more_names : List Identifier → Language
+more_names [] = Nothing
+more_names (id ∷ more) = punctuator mark.Comma ⊙ Identified id ⊙ more_names more
+
+abbrev pub names : OneOrMore Identifier → Language
+names ids = Identified ids.first ⊙ more_names ids.more
+
 abbrev pub external : ExternalTree → Language
 external (function f) =
     stored f.storage ⊙ specifiers f.specifiers ⊙ Identified f.name
     ⊙ Inside (punctuator mark.OpenParenthesis ⊙ parameters f.parameters) ⊙ punctuator mark.CloseParenthesis
     ⊙ function_end f.body
 external (objects s d) = stored s ⊙ declared d
+external (type_names d) =
+    keyword key.Typedef ⊙ specifiers d.specifiers ⊙ names d.names ⊙ punctuator mark.Semicolon
 
 abbrev pub externals : List ExternalTree → Language
 externals [] = Nothing

@@ -28,6 +28,7 @@ pub enum Fixed {
     While,
     End,
     Other,
+    Typedef,
 }
 
 /// What an operand begins with.
@@ -78,6 +79,7 @@ fn fixed_of(kind: Kind) -> Fixed
         Kind::Name => Fixed::Name,
         Kind::Keyword(Keyword::Else) => Fixed::Else,
         Kind::Keyword(Keyword::While) => Fixed::While,
+        Kind::Keyword(Keyword::Typedef) => Fixed::Typedef,
         Kind::Punctuator(Punctuator::OpenParenthesis) => Fixed::OpenParenthesis,
         Kind::Punctuator(Punctuator::CloseParenthesis) => Fixed::CloseParenthesis,
         Kind::Punctuator(Punctuator::OpenBracket) => Fixed::OpenBracket,
@@ -112,6 +114,7 @@ fn number(fixed: Fixed) -> u8
         Fixed::While => 12,
         Fixed::End => 13,
         Fixed::Other => 14,
+        Fixed::Typedef => 15,
     }
 }
 

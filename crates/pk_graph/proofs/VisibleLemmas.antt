@@ -2,52 +2,50 @@
 use Rattle.std.proofs.Common.{◌≡◌, ◌<◌, ◌≤◌, ◌+◌, ℕ, refl, ap, ◌∙◌, sym, Bool, true, false, if◌then◌else◌, cond, List, [], ◌∷◌, ◌++◌, length, drop, slice_index_or, append_assoc, append-nil}
 use Rattle.std.specs.List.{filter}
 use Rattle.std.proofs.lemmas.List.{drop_more, drop_all}
+use Rattle.pk_graph.specs.declared.graphs.Entry.{Entry}
 use Rattle.pk_graph.specs.Graphs.{VariableOf}
-use Rattle.pk_graph.specs.Visible.{Names, no_name, with_name, is_new, name_at, not_hidden}
+use Rattle.pk_graph.specs.Visible.{Names, no_name, with_name, is_shown, name_at, not_hidden}
 
--- those found so far, and those of the variables from k on, are all
-abbrev pub AreShown : List VariableOf → List ℕ → ℕ → Names → List ℕ → Type 0
-AreShown vs xs k has list = list ++ not_hidden vs has (drop k xs) ≡ not_hidden vs no_name xs
+-- those found so far, and those of the entries from k on, are all
+abbrev pub AreShown : List VariableOf → List Entry → ℕ → Names → List ℕ → Type 0
+AreShown vs es k has list = list ++ not_hidden vs has (drop k es) ≡ not_hidden vs no_name es
 
-split : (vs : List VariableOf) (xs : List ℕ) (k x : ℕ) (has : Names) → k < length xs → x ≡ slice_index_or xs k 0 → not_hidden vs has (drop k xs) ≡ not_hidden vs has (x ∷ drop (k + 1) xs)
-split vs xs k x has h e =
-    ap (not_hidden vs has) (drop_more xs k 0 h) ∙ ap (λ (y : ℕ). not_hidden vs has (y ∷ drop (k + 1) xs)) (sym e)
+split : (vs : List VariableOf) (es : List Entry) (k : ℕ) (e d : Entry) (has : Names) → k < length es → e ≡ slice_index_or es k d → not_hidden vs has (drop k es) ≡ not_hidden vs has (e ∷ drop (k + 1) es)
+split vs es k e d has h is =
+    ap (not_hidden vs has) (drop_more es k d h) ∙ ap (λ (z : Entry). not_hidden vs has (z ∷ drop (k + 1) es)) (sym is)
 
-shown : (vs : List VariableOf) (has : Names) (x : ℕ) (xs : List ℕ) → is_new (name_at vs x) has ≡ true → not_hidden vs has (x ∷ xs) ≡ x ∷ not_hidden vs (with_name (name_at vs x) has) xs
+at_entry : (vs : List VariableOf) (has : Names) (e : Entry) (es : List Entry) (b : Bool) → is_shown (name_at vs e.variable) e.hides has ≡ b
+    → not_hidden vs has (e ∷ es) ≡ (if b then e.variable ∷ not_hidden vs (with_name (name_at vs e.variable) has) es else not_hidden vs (with_name (name_at vs e.variable) has) es)
 unfolding not_hidden
-shown vs has x xs e = ap (λ (b : Bool). if b then x ∷ not_hidden vs (with_name (name_at vs x) has) xs else not_hidden vs (with_name (name_at vs x) has) xs) e
+at_entry vs has e es b h = ap (λ (c : Bool). if c then e.variable ∷ not_hidden vs (with_name (name_at vs e.variable) has) es else not_hidden vs (with_name (name_at vs e.variable) has) es) h
 
-hidden : (vs : List VariableOf) (has : Names) (x : ℕ) (xs : List ℕ) → is_new (name_at vs x) has ≡ false → not_hidden vs has (x ∷ xs) ≡ not_hidden vs (with_name (name_at vs x) has) xs
-unfolding not_hidden
-hidden vs has x xs e = ap (λ (b : Bool). if b then x ∷ not_hidden vs (with_name (name_at vs x) has) xs else not_hidden vs (with_name (name_at vs x) has) xs) e
-
-pub shown_next : (vs : List VariableOf) (xs : List ℕ) (k x : ℕ) (has more : Names) (list new : List ℕ) → k < length xs → x ≡ slice_index_or xs k 0 → is_new (name_at vs x) has ≡ true
-    → new ≡ list ++ x ∷ [] → more ≡ with_name (name_at vs x) has → AreShown vs xs k has list → AreShown vs xs (k + 1) more new
-shown_next vs xs k x has more list new h e b f m p =
-    ap (λ (ys : List ℕ). ys ++ not_hidden vs more (drop (k + 1) xs)) f
-    ∙ append_assoc list (x ∷ []) (not_hidden vs more (drop (k + 1) xs))
-    ∙ ap (λ (n : Names). list ++ (x ∷ not_hidden vs n (drop (k + 1) xs))) m
-    ∙ ap (λ (ys : List ℕ). list ++ ys) (sym (shown vs has x (drop (k + 1) xs) b))
-    ∙ ap (λ (ys : List ℕ). list ++ ys) (sym (split vs xs k x has h e))
+pub shown_next : (vs : List VariableOf) (es : List Entry) (k : ℕ) (e d : Entry) (has more : Names) (list new : List ℕ) → k < length es → e ≡ slice_index_or es k d → is_shown (name_at vs e.variable) e.hides has ≡ true
+    → new ≡ list ++ e.variable ∷ [] → more ≡ with_name (name_at vs e.variable) has → AreShown vs es k has list → AreShown vs es (k + 1) more new
+shown_next vs es k e d has more list new h is b f m p =
+    ap (λ (ys : List ℕ). ys ++ not_hidden vs more (drop (k + 1) es)) f
+    ∙ append_assoc list (e.variable ∷ []) (not_hidden vs more (drop (k + 1) es))
+    ∙ ap (λ (n : Names). list ++ (e.variable ∷ not_hidden vs n (drop (k + 1) es))) m
+    ∙ ap (λ (ys : List ℕ). list ++ ys) (sym (at_entry vs has e (drop (k + 1) es) true b))
+    ∙ ap (λ (ys : List ℕ). list ++ ys) (sym (split vs es k e d has h is))
     ∙ p
 
-pub hidden_next : (vs : List VariableOf) (xs : List ℕ) (k x : ℕ) (has more : Names) (list new : List ℕ) → k < length xs → x ≡ slice_index_or xs k 0 → is_new (name_at vs x) has ≡ false
-    → new ≡ list → more ≡ with_name (name_at vs x) has → AreShown vs xs k has list → AreShown vs xs (k + 1) more new
-hidden_next vs xs k x has more list new h e b f m p =
-    ap (λ (ys : List ℕ). ys ++ not_hidden vs more (drop (k + 1) xs)) f
-    ∙ ap (λ (n : Names). list ++ not_hidden vs n (drop (k + 1) xs)) m
-    ∙ ap (λ (ys : List ℕ). list ++ ys) (sym (hidden vs has x (drop (k + 1) xs) b))
-    ∙ ap (λ (ys : List ℕ). list ++ ys) (sym (split vs xs k x has h e))
+pub hidden_next : (vs : List VariableOf) (es : List Entry) (k : ℕ) (e d : Entry) (has more : Names) (list new : List ℕ) → k < length es → e ≡ slice_index_or es k d → is_shown (name_at vs e.variable) e.hides has ≡ false
+    → new ≡ list → more ≡ with_name (name_at vs e.variable) has → AreShown vs es k has list → AreShown vs es (k + 1) more new
+hidden_next vs es k e d has more list new h is b f m p =
+    ap (λ (ys : List ℕ). ys ++ not_hidden vs more (drop (k + 1) es)) f
+    ∙ ap (λ (n : Names). list ++ not_hidden vs n (drop (k + 1) es)) m
+    ∙ ap (λ (ys : List ℕ). list ++ ys) (sym (at_entry vs has e (drop (k + 1) es) false b))
+    ∙ ap (λ (ys : List ℕ). list ++ ys) (sym (split vs es k e d has h is))
     ∙ p
 
 none : (vs : List VariableOf) (has : Names) → not_hidden vs has [] ≡ []
 unfolding not_hidden
 none vs has = refl
 
-pub all_shown : (vs : List VariableOf) (xs : List ℕ) (k : ℕ) (has : Names) (list : List ℕ) → length xs ≤ k → AreShown vs xs k has list → list ≡ not_hidden vs no_name xs
-all_shown vs xs k has list h p =
+pub all_shown : (vs : List VariableOf) (es : List Entry) (k : ℕ) (has : Names) (list : List ℕ) → length es ≤ k → AreShown vs es k has list → list ≡ not_hidden vs no_name es
+all_shown vs es k has list h p =
     sym (append-nil list)
-    ∙ ap (λ (ys : List ℕ). list ++ ys) (sym (ap (not_hidden vs has) (drop_all k xs h) ∙ none vs has))
+    ∙ ap (λ (ys : List ℕ). list ++ ys) (sym (ap (not_hidden vs has) (drop_all k es h) ∙ none vs has))
     ∙ p
 
 -- ---- parts of a list

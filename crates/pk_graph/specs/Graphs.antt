@@ -1,5 +1,6 @@
 -- Control-flow graphs.
-use Rattle.std.specs.Prelude.{ℕ, List, [], ◌∷◌, ◌++◌, map, slice_index_or, Option, None}
+use Rattle.std.specs.List.{filter}
+use Rattle.std.specs.Prelude.{ℕ, true, false, not, List, [], ◌∷◌, ◌++◌, map, slice_index_or, Option, None}
 use Rattle.pk_ctypes.specs.declared.places.Pos.{Pos}
 use Rattle.pk_ctypes.specs.declared.types.IntType.TheVariants.{Int}
 use Rattle.pk_graph.specs.declared.trees.Site.{Site}
@@ -7,6 +8,7 @@ use Rattle.pk_graph.specs.declared.graphs.Path.{Path}
 use Rattle.pk_graph.specs.declared.graphs.Start.{Start}
 use Rattle.pk_graph.specs.declared.graphs.Start.TheVariants as starts
 use Rattle.pk_graph.specs.declared.graphs.Variable.{Variable}
+use Rattle.pk_graph.specs.declared.graphs.Entry.{Entry}
 use Rattle.pk_graph.specs.declared.graphs.Scope.{Scope}
 use Rattle.pk_graph.specs.declared.graphs.Edge.{Edge}
 use Rattle.pk_graph.specs.declared.graphs.Point.{Point}
@@ -36,11 +38,11 @@ pub record EdgeOf : Type 0 where
   pub instr : InstrOf ℕ
   pub to : ℕ
 
--- A point: its position, its call path, the variables whose names are in scope there, newest first, and the edges that begin there, in the order in which they were made.
+-- A point: its position, its call path, the entries of its scope, newest first (a variable whose name comes into scope, or is hidden by one that is no variable's), and the edges that begin there, in the order in which they were made.
 pub record PointOf : Type 0 where
   pub at : Pos
   pub path : ℕ
-  pub scope : List ℕ
+  pub scope : List Entry
   pub edges : List EdgeOf
 
 pub record GraphOf : Type 0 where
@@ -60,6 +62,20 @@ no_point = record { at = record { line = 0; column = 0 }; path = 0; scope = []; 
 
 abbrev pub point_at : GraphOf → ℕ → PointOf
 point_at g p = slice_index_or g.points p no_point
+
+-- a variable's name comes into scope; a name that is no variable's hides it
+abbrev pub naming : ℕ → Entry
+naming x = record { variable = x; hides = false }
+
+abbrev pub hiding : ℕ → Entry
+hiding x = record { variable = x; hides = true }
+
+-- the variables whose names are in scope, newest first, the hidden ones too
+abbrev pub named_in : List Entry → List ℕ
+named_in es = map (λ (e : Entry). e.variable) (filter (λ (e : Entry). not e.hides) es)
+
+abbrev pub names_at : GraphOf → ℕ → List ℕ
+names_at g p = named_in (point_at g p).scope
 
 abbrev pub kinds_of : GraphOf → Kinds
 kinds_of g = map (λ (x : VariableOf). x.kind) g.variables
@@ -85,12 +101,12 @@ variable_view x =
 unfoldable pub edge_view : Edge → EdgeOf
 edge_view e = record { instr = instr_view e.instr; to = e.to }
 
--- The lists of variables that a chain of scopes stands for: nothing is in scope at place 0; place k + 1 adds the variable of entry k to those of the place around it.
-abbrev pub chained : List (List ℕ) → List Scope → List (List ℕ)
+-- The lists of entries that a chain of scopes stands for: nothing is in scope at place 0; place k + 1 adds its entry to those of the place around it.
+abbrev pub chained : List (List Entry) → List Scope → List (List Entry)
 chained known [] = known
-chained known (s ∷ ss) = chained (known ++ (s.variable ∷ slice_index_or known s.outer []) ∷ []) ss
+chained known (s ∷ ss) = chained (known ++ (s.entry ∷ slice_index_or known s.outer []) ∷ []) ss
 
-abbrev pub scope_at : List Scope → ℕ → List ℕ
+abbrev pub scope_at : List Scope → ℕ → List Entry
 scope_at ss k = slice_index_or (chained ([] ∷ []) ss) k []
 
 unfoldable pub point_view : List Scope → Point → PointOf

@@ -1,7 +1,8 @@
 -- What is visible at a point.
-use Rattle.std.specs.Prelude.{ℕ, Bool, true, false, not, if◌then◌else◌, List, [], ◌∷◌, ◌++◌, reverse, slice_index_or, Option, Some, None, is_none}
+use Rattle.std.specs.Prelude.{ℕ, Bool, true, false, not, ◌&&◌, if◌then◌else◌, List, [], ◌∷◌, ◌++◌, reverse, slice_index_or, Option, Some, None, is_none}
 use Rattle.std.specs.List.{filter}
 use Rattle.std.specs.Str.{bytes_eq}
+use Rattle.pk_graph.specs.declared.graphs.Entry.{Entry}
 use Rattle.pk_graph.specs.Graphs.{VariableOf, no_variable, GraphOf, point_at}
 
 -- a set of names
@@ -22,12 +23,16 @@ is_new (Some m) has = not (has m)
 abbrev pub name_at : List VariableOf → ℕ → Option (List ℕ)
 name_at vs x = (slice_index_or vs x no_variable).name
 
--- Of variables in scope, newest first, those that none hides: a name hides the same name of an older one. There are newer ones of these names.
-unfoldable pub not_hidden : List VariableOf → Names → List ℕ → List ℕ
+abbrev pub is_shown : Option (List ℕ) → Bool → Names → Bool
+is_shown m hides has = not hides && is_new m has
+
+-- Of variables in scope, newest first, those that none hides: a name hides the same name of an older one, a variable's or not. There are newer ones of these names.
+unfoldable pub not_hidden : List VariableOf → Names → List Entry → List ℕ
 not_hidden vs has [] = []
-not_hidden vs has (x ∷ xs) =
-    let m = name_at vs x in
-    if is_new m has then x ∷ not_hidden vs (with_name m has) xs else not_hidden vs (with_name m has) xs
+not_hidden vs has (e ∷ es) =
+    let m = name_at vs e.variable in
+    if is_shown m e.hides has then e.variable ∷ not_hidden vs (with_name m has) es
+    else not_hidden vs (with_name m has) es
 
 abbrev pub is_of_file : List VariableOf → ℕ → Bool
 is_of_file vs x = is_none (slice_index_or vs x no_variable).path

@@ -1,6 +1,7 @@
 -- What holds of every graph.
 use Rattle.std.specs.Prelude.{◌<◌, ◌≤◌, ◌^◌, length, All}
 use Rattle.pk_ctypes.specs.Types.{InType}
+use Rattle.pk_graph.specs.declared.graphs.Entry.{Entry}
 use Rattle.pk_graph.specs.Kinds.{count_of, IsTypedInstr}
 use Rattle.pk_graph.specs.Graphs.{StartOf, any_start, number_start, VariableOf, EdgeOf, PointOf, GraphOf, kinds_of}
 
@@ -15,7 +16,7 @@ pub record IsEdgeOf (g : GraphOf) (e : EdgeOf) : Type 0 where
 
 pub record IsPointOf (g : GraphOf) (p : PointOf) : Type 0 where
   pub path : p.path < length g.paths
-  pub scope : All (λ x. x < length g.variables) p.scope
+  pub scope : All (λ (e : Entry). e.variable < length g.variables) p.scope
   pub edges : All (IsEdgeOf g) p.edges
 
 -- Its trees are typed, its edges lead to its points, and what it names is there. Point 0 is the entry.

@@ -41,11 +41,17 @@ pub struct Variable {
     pub start: Start,
 }
 
-/// A place in a chain of scopes, which points share: a variable whose name comes into scope, and the place around it. Place 0 is that in which no name is in scope, and place k
-/// stands at k - 1 in the chain.
+/// A variable whose name comes into scope, or is hidden from here on.
+#[derive(Clone, Copy)]
+pub struct Entry {
+    pub variable: usize,
+    pub hides: bool,
+}
+
+/// A place in a chain of scopes, which points share: an entry, and the place around it. Place 0 is that in which no name is in scope, and place k stands at k - 1 in the chain.
 #[derive(Clone, Copy)]
 pub struct Scope {
-    pub variable: usize,
+    pub entry: Entry,
     pub outer: usize,
 }
 
@@ -76,15 +82,15 @@ pub struct Graph {
     ghost well_made: { IsGraph (graph_of paths.items variables.items scopes.items points.items) } by { IsGraph-prop _ },
 }
 
-// The variables of a place in a chain, newest first.
-fn in_scope(alloc: Global, scopes: &[Scope], place: usize) -> Result<Vec<usize>, AllocError>
+// The entries of a place in a chain, newest first.
+fn in_scope(alloc: Global, scopes: &[Scope], place: usize) -> Result<Vec<Entry>, AllocError>
     ensures { IfOk result (λ list. list.items ≡ scope_at scopes.now place) }
 {
     let mut list = Vec::new(alloc);
     let mut left = place;
     while 0 < left && left <= scopes.len() {
         let scope = scopes[left - 1];
-        list.push(scope.variable)?;
+        list.push(scope.entry)?;
         left = if scope.outer < left { scope.outer } else { 0 };
     }
     Ok(list)
@@ -152,8 +158,8 @@ impl Graph {
         self.points[point].path
     }
 
-    /// The variables whose names are in scope at a point, newest first, the hidden ones too.
-    pub fn scope(&self, alloc: Global, point: usize) -> Result<Vec<usize>, AllocError>
+    /// The variables whose names are in scope at a point, newest first, the hidden ones too; and where one is hidden by a name that is no variable's.
+    pub fn scope(&self, alloc: Global, point: usize) -> Result<Vec<Entry>, AllocError>
         requires { point < length (graph_view self.now).points }
         ensures { IfOk result (λ list. list.items ≡ (point_at (graph_view self.now) point).scope) }
     {

@@ -12,7 +12,7 @@ mod trees;
 mod verdicts;
 mod visibility;
 
-pub use graphs::{Edge, Graph, Path, Point, Scope, Start, Variable};
+pub use graphs::{Edge, Entry, Graph, Path, Point, Scope, Start, Variable};
 pub use instructions::{Array, Instr};
 pub use octagons::octagon_variables;
 pub use operations::{Access, Operation, accesses};

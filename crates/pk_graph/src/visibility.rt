@@ -6,6 +6,7 @@ ghost use Rattle.pk_graph.specs.Visible.{
   no_name,
   with_name,
   is_new,
+  is_shown,
   name_at,
   not_hidden,
   is_of_file,
@@ -15,7 +16,7 @@ ghost use Rattle.pk_graph.specs.Visible.{
 ghost use Rattle.pk_graph.specs.Shown.{graph_view};
 ghost use Rattle.pk_graph.specs.Named.{names_view};
 
-use crate::graphs::{Graph, Variable};
+use crate::graphs::{Entry, Graph, Variable};
 use pk_ctypes::Name;
 use std::alloc::{AllocError, Global};
 use std::collections::HashSet;
@@ -66,21 +67,27 @@ fn name_of(variables: &[Variable], number: usize) -> Option<&Name>
     }
 }
 
+fn is_shown(names: &Named<'_>, name: Option<&Name>, hides: bool) -> bool
+    ensures { result ≡ is_shown (option_map (λ n. n.now) name.entry) hides (names_view names.now) }
+{
+    !hides && names.is_new(name)
+}
+
 // Of variables in scope, newest first, those that aren't hidden.
 fn not_hidden(
     alloc: Global,
     variables: &[Variable],
-    scope: &[usize],
+    scope: &[Entry],
 ) -> Result<Vec<usize>, AllocError>
     ensures { IfOk result (λ list. list.items ≡ not_hidden (map variable_view variables.now) no_name scope.now) }
 {
     let mut names = Named::new(alloc);
     let mut list = Vec::new(alloc);
     for number in 0..scope.len() {
-        let variable = scope[number];
-        let name = name_of(variables, variable);
-        if names.is_new(name) {
-            list.push(variable)?;
+        let entry = scope[number];
+        let name = name_of(variables, entry.variable);
+        if is_shown(&names, name, entry.hides) {
+            list.push(entry.variable)?;
         }
         names.add(name)?;
     }

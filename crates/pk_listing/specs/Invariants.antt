@@ -10,7 +10,7 @@ use Rattle.pk_show.specs.declared.rows.Known.{Known}
 use Rattle.pk_show.specs.Paths.{PathOf, path_in}
 use Rattle.pk_show.specs.Rows.{HeadingOf, ValueOf, BoundOf, array_mark, front_of}
 use Rattle.pk_findings.specs.Texts.{TextOf}
-use Rattle.pk_findings.specs.Words.{range_text}
+use Rattle.pk_findings.specs.Messages.{range_text}
 use Rattle.pk_listing.specs.Places.{place_text, path_text}
 
 abbrev pub heading_words : (is_head : Bool) → List ℕ

@@ -9,12 +9,13 @@ use Rattle.pk_show.specs.declared.rows.Verdict.{Verdict}
 use Rattle.pk_show.specs.declared.rows.Verdict.TheVariants.{Safe, Unknown, Unreachable}
 use Rattle.pk_show.specs.declared.rows.Counts.{Counts}
 use Rattle.pk_show.specs.Paths.{PathOf}
-use Rattle.pk_findings.specs.Texts.{TextOf}
+use Rattle.pk_findings.specs.Texts.{TextOf, line_of}
 use Rattle.pk_findings.specs.Operations.{WayOf, OperationOf}
-use Rattle.pk_findings.specs.Words.{is_unknown, verdict_of, counts_of, range_text, message}
+use Rattle.pk_findings.specs.Words.{is_unknown, verdict_of, counts_of}
+use Rattle.pk_findings.specs.Messages.{range_text, message}
 use Rattle.pk_findings.specs.Shown.{ShownOf}
 use Rattle.pk_findings.specs.Refused.{RefusedOf}
-use Rattle.pk_listing.specs.Places.{head_text, excerpt_with, line_of, path_text}
+use Rattle.pk_listing.specs.Places.{head_text, excerpt_with, path_text}
 use Rattle.pk_listing.specs.Sources.{SourceOf, own_line, is_own}
 use Rattle.pk_listing.specs.Invariants.{invariants_text}
 
@@ -42,22 +43,28 @@ unknown_ways = count_by (λ w. is_unknown w.verdict)
 
 -- ---- findings
 
-abbrev pub said_end : Fault → (lo hi : ℤ) → List ℕ
-said_end f lo hi = message f lo hi ++ codes "\n"
+abbrev pub said_end : TextOf → OperationOf → (lo hi : ℤ) → List ℕ
+said_end t o lo hi = message t o lo hi ++ codes "\n"
 
-unfoldable pub said_text : Fault → (lo hi : ℤ) → List ℕ
-said_text f lo hi = codes ": unknown [" ++ (fault_text f ++ (codes "]: " ++ said_end f lo hi))
+unfoldable pub said_text : TextOf → OperationOf → (lo hi : ℤ) → List ℕ
+said_text t o lo hi = codes ": unknown [" ++ (fault_text o.fault ++ (codes "]: " ++ said_end t o lo hi))
 
--- An operation that is unknown: where and what, its line, and the calls that lead to it. The file's own line is given,
--- where it is at hand.
-unfoldable pub finding_at : (own : Option (List ℕ)) → TextOf → Pos → Fault → List WayOf → (lo hi : ℤ) → List ℕ
-finding_at own t at f ways lo hi =
-    head_text (is_own own (line_of t at) at.column) t at ++ (said_text f lo hi ++
-    (excerpt_with (is_own own (line_of t at) at.column) own (line_of t at) at.column ++
-    ways_text t (nat_lt 1 (unknown_ways ways)) ways))
+-- a place, and its line: the file's own is given, where it is at hand
+abbrev pub head_at : (own : Option (List ℕ)) → TextOf → Pos → List ℕ
+head_at own t at = head_text (is_own own (line_of t at) at.column) t at
+
+abbrev pub excerpt_at : (own : Option (List ℕ)) → TextOf → Pos → List ℕ
+excerpt_at own t at = excerpt_with (is_own own (line_of t at) at.column) own (line_of t at) at.column
+
+abbrev pub all_ways : TextOf → List WayOf → List ℕ
+all_ways t ways = ways_text t (nat_lt 1 (unknown_ways ways)) ways
+
+-- an operation that is unknown: where and what, its line, and the calls that lead to it
+unfoldable pub finding_at : (own : Option (List ℕ)) → TextOf → OperationOf → (lo hi : ℤ) → List ℕ
+finding_at own t o lo hi = head_at own t o.at ++ (said_text t o lo hi ++ (excerpt_at own t o.at ++ all_ways t o.ways))
 
 abbrev pub finding_with : List SourceOf → TextOf → OperationOf → (lo hi : ℤ) → List ℕ
-finding_with sources t o lo hi = finding_at (own_line sources t o.at) t o.at o.fault o.ways lo hi
+finding_with sources t o lo hi = finding_at (own_line sources t o.at) t o lo hi
 
 abbrev pub unreachable_words : List ℕ
 unreachable_words =
@@ -68,8 +75,7 @@ fault_end f = fault_text f ++ unreachable_words
 
 -- an operation that no run computes
 unfoldable pub unreachable_at : (own : Option (List ℕ)) → TextOf → Pos → Fault → List ℕ
-unreachable_at own t at f =
-    head_text (is_own own (line_of t at) at.column) t at ++ (codes ": unreachable [" ++ fault_end f)
+unreachable_at own t at f = head_at own t at ++ (codes ": unreachable [" ++ fault_end f)
 
 abbrev pub finding_by : List SourceOf → TextOf → OperationOf → Verdict → List ℕ
 finding_by sources t o Safe = []
@@ -112,9 +118,7 @@ said_line said = codes ": " ++ (said ++ codes "\n")
 
 -- where, and what was said
 unfoldable pub refusal_at : (own : Option (List ℕ)) → TextOf → (said : List ℕ) → Pos → List ℕ
-refusal_at own t said at =
-    head_text (is_own own (line_of t at) at.column) t at ++ (said_line said ++
-    excerpt_with (is_own own (line_of t at) at.column) own (line_of t at) at.column)
+refusal_at own t said at = head_at own t at ++ (said_line said ++ excerpt_at own t at)
 
 abbrev pub refusal_by : List SourceOf → RefusedOf → Option Pos → List ℕ
 refusal_by sources r None = r.text.name ++ said_line r.said

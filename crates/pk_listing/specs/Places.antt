@@ -4,7 +4,6 @@ use Rattle.std.specs.Fmt.{decimal}
 use Rattle.pk_ctypes.specs.declared.places.Pos.{Pos}
 use Rattle.pk_ctypes.specs.Places.{start_of_text}
 use Rattle.pk_origin.specs.declared.sources.Origin.{Origin}
-use Rattle.pk_origin.specs.Texts.{line_at}
 use Rattle.pk_show.specs.Paths.{CallOf, PathOf}
 use Rattle.pk_findings.specs.Texts.{TextOf, origin_at, file_of}
 
@@ -55,9 +54,6 @@ expanded_of false own line column = plain_of own ++ excerpt_of line column
 abbrev pub excerpt_with : (is_own : Bool) → Option (List ℕ) → (line : List ℕ) → (column : ℕ) → List ℕ
 excerpt_with is_own None line column = excerpt_of line column
 excerpt_with is_own (Some own) line column = expanded_of is_own own line column
-
-abbrev pub line_of : TextOf → Pos → List ℕ
-line_of t at = line_at t.lines (at.line - 1)
 
 -- ---- call paths
 

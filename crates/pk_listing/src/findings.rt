@@ -4,8 +4,7 @@ ghost use Rattle.std.specs.Prelude.{◌≡◌, ◌++◌, IfOk, OnOk};
 ghost use Rattle.std.specs.Option.{option_map};
 ghost use Rattle.pk_ctypes.specs.Words.{fault_text};
 ghost use Rattle.pk_findings.specs.Words.{is_unknown};
-ghost use Rattle.pk_listing.specs.Listing.{way_range, way_line, way_text, ways_text, unknown_ways, said_end, said_text, finding_at, finding_with, unreachable_words, fault_end, unreachable_at, finding_by, finding_text, unreachable_text, counts_text, summary_line, findings_text, shown_text, listing_text, said_line, refusal_at, refusal_by, refusal_text, refusals_text};
-ghost use Rattle.pk_listing.specs.Places.{line_of};
+ghost use Rattle.pk_listing.specs.Listing.{way_range, way_line, way_text, ways_text, unknown_ways, said_end, said_text, head_at, excerpt_at, all_ways, finding_at, finding_with, unreachable_words, fault_end, unreachable_at, finding_by, finding_text, unreachable_text, counts_text, summary_line, findings_text, shown_text, listing_text, said_line, refusal_at, refusal_by, refusal_text, refusals_text};
 ghost use Rattle.pk_listing.specs.Sources.{own_line};
 
 use crate::invariants::write_invariants;
@@ -13,7 +12,8 @@ use crate::places::{write, write_count, write_excerpt_with, write_head, write_pa
 use crate::sources::{Source, is_own, own_line};
 use pk_ctypes::{Fault, Pos};
 use pk_findings::{
-    Operation, Refused, Shown, Text, Way, counts_of, verdict_of, write_message, write_range,
+    Operation, Refused, Shown, Text, Way, counts_of, line_of, verdict_of, write_message,
+    write_range,
 };
 use pk_show::{Counts, Path, Verdict};
 use std::alloc::{AllocError, Global};
@@ -105,10 +105,26 @@ fn write_fault(alloc: Global, bytes: &mut Vec<u8>, fault: Fault) -> Result<(), A
     write(bytes, text.as_bytes())
 }
 
-fn write_said_end(bytes: &mut Vec<u8>, fault: Fault, lo: i128, hi: i128) -> Result<(), AllocError>
-    ensures { OnOk result (bytes.new.items ≡ bytes.old.items ++ said_end fault lo hi) }
+fn write_fault_of(
+    alloc: Global,
+    bytes: &mut Vec<u8>,
+    operation: &Operation<'_>,
+) -> Result<(), AllocError>
+    ensures { OnOk result (bytes.new.items ≡ bytes.old.items ++ fault_text operation.now.fault) }
 {
-    write_message(bytes, fault, lo, hi)?;
+    write_fault(alloc, bytes, operation.fault)
+}
+
+fn write_said_end(
+    bytes: &mut Vec<u8>,
+    text: &Text<'_>,
+    operation: &Operation<'_>,
+    lo: i128,
+    hi: i128,
+) -> Result<(), AllocError>
+    ensures { OnOk result (bytes.new.items ≡ bytes.old.items ++ said_end text.now operation.now lo hi) }
+{
+    write_message(bytes, text, operation, lo, hi)?;
     write(bytes, b"\n")
 }
 
@@ -116,52 +132,113 @@ fn write_said_end(bytes: &mut Vec<u8>, fault: Fault, lo: i128, hi: i128) -> Resu
 fn write_said(
     alloc: Global,
     bytes: &mut Vec<u8>,
-    fault: Fault,
+    text: &Text<'_>,
+    operation: &Operation<'_>,
     lo: i128,
     hi: i128,
 ) -> Result<(), AllocError>
-    ensures { OnOk result (bytes.new.items ≡ bytes.old.items ++ said_text fault lo hi) }
+    ensures { OnOk result (bytes.new.items ≡ bytes.old.items ++ said_text text.now operation.now lo hi) }
 {
     write(bytes, b": unknown [")?;
-    write_fault(alloc, bytes, fault)?;
+    write_fault_of(alloc, bytes, operation)?;
     write(bytes, b"]: ")?;
-    write_said_end(bytes, fault, lo, hi)
+    write_said_end(bytes, text, operation, lo, hi)
 }
 
-#[tactic(auto, using(std::proofs::lemmas::List::get_or_past))]
-fn line_of<'t>(text: &Text<'t>, at: Pos) -> &'t [u8]
-    ensures { result.now ≡ line_of text.now at }
-{
-    let k = at.line.saturating_sub(1) as usize;
-    if k < text.lines.len() {
-        text.lines[k]
-    } else {
-        b""
-    }
-}
-
-#[tactic(auto, unfolding(crate::specs::Listing::finding_at))]
-fn write_finding_at(
+fn write_head_at(
     alloc: Global,
     bytes: &mut Vec<u8>,
     own: Option<&[u8]>,
     text: &Text<'_>,
     at: Pos,
-    fault: Fault,
+) -> Result<(), AllocError>
+    ensures { OnOk result (
+        bytes.new.items ≡ bytes.old.items ++ head_at (option_map (λ own. own.now) own.entry) text.now at) }
+{
+    let has_column = is_own(own, line_of(text, at), at.column);
+    write_head(alloc, bytes, has_column, text, at)
+}
+
+fn write_excerpt_at(
+    bytes: &mut Vec<u8>,
+    own: Option<&[u8]>,
+    text: &Text<'_>,
+    at: Pos,
+) -> Result<(), AllocError>
+    ensures { OnOk result (
+        bytes.new.items ≡ bytes.old.items ++ excerpt_at (option_map (λ own. own.now) own.entry) text.now at) }
+{
+    let line = line_of(text, at);
+    write_excerpt_with(bytes, is_own(own, line, at.column), own, line, at.column)
+}
+
+fn write_all_ways(
+    alloc: Global,
+    bytes: &mut Vec<u8>,
+    text: &Text<'_>,
     ways: &[Way<'_>],
+) -> Result<(), AllocError>
+    ensures { OnOk result (bytes.new.items ≡ bytes.old.items ++ all_ways text.now ways.now) }
+{
+    let is_one_of_many = 1 < unknown_ways(ways);
+    write_ways(alloc, bytes, text, is_one_of_many, ways)
+}
+
+// Where an operation is.
+fn write_head_of(
+    alloc: Global,
+    bytes: &mut Vec<u8>,
+    own: Option<&[u8]>,
+    text: &Text<'_>,
+    operation: &Operation<'_>,
+) -> Result<(), AllocError>
+    ensures { OnOk result (bytes.new.items
+        ≡ bytes.old.items ++ head_at (option_map (λ own. own.now) own.entry) text.now operation.now.at) }
+{
+    write_head_at(alloc, bytes, own, text, operation.at)
+}
+
+// Its line.
+fn write_excerpt_of(
+    bytes: &mut Vec<u8>,
+    own: Option<&[u8]>,
+    text: &Text<'_>,
+    operation: &Operation<'_>,
+) -> Result<(), AllocError>
+    ensures { OnOk result (bytes.new.items
+        ≡ bytes.old.items ++ excerpt_at (option_map (λ own. own.now) own.entry) text.now operation.now.at) }
+{
+    write_excerpt_at(bytes, own, text, operation.at)
+}
+
+// The calls that lead to it.
+fn write_ways_of(
+    alloc: Global,
+    bytes: &mut Vec<u8>,
+    text: &Text<'_>,
+    operation: &Operation<'_>,
+) -> Result<(), AllocError>
+    ensures { OnOk result (bytes.new.items ≡ bytes.old.items ++ all_ways text.now operation.now.ways) }
+{
+    write_all_ways(alloc, bytes, text, &operation.ways)
+}
+
+fn write_finding_at(
+    alloc: Global,
+    bytes: &mut Vec<u8>,
+    own: Option<&[u8]>,
+    text: &Text<'_>,
+    operation: &Operation<'_>,
     lo: i128,
     hi: i128,
 ) -> Result<(), AllocError>
     ensures { OnOk result (bytes.new.items ≡ bytes.old.items
-        ++ finding_at (option_map (λ own. own.now) own.entry) text.now at fault ways.now lo hi) }
+        ++ finding_at (option_map (λ own. own.now) own.entry) text.now operation.now lo hi) }
 {
-    let line = line_of(text, at);
-    let has_column = is_own(own, line, at.column);
-    write_head(alloc, bytes, has_column, text, at)?;
-    write_said(alloc, bytes, fault, lo, hi)?;
-    write_excerpt_with(bytes, has_column, own, line, at.column)?;
-    let is_one_of_many = 1 < unknown_ways(ways);
-    write_ways(alloc, bytes, text, is_one_of_many, ways)
+    write_head_of(alloc, bytes, own, text, operation)?;
+    write_said(alloc, bytes, text, operation, lo, hi)?;
+    write_excerpt_of(bytes, own, text, operation)?;
+    write_ways_of(alloc, bytes, text, operation)
 }
 
 fn write_finding_with(
@@ -177,17 +254,7 @@ fn write_finding_with(
         bytes.new.items ≡ bytes.old.items ++ finding_with sources.now text.now operation.now lo hi) }
 {
     let own = own_line(alloc, sources, text, operation.at)?;
-    write_finding_at(
-        alloc,
-        bytes,
-        own,
-        text,
-        operation.at,
-        operation.fault,
-        &operation.ways,
-        lo,
-        hi,
-    )
+    write_finding_at(alloc, bytes, own, text, operation, lo, hi)
 }
 
 fn write_unreachable_words(bytes: &mut Vec<u8>) -> Result<(), AllocError>
@@ -218,9 +285,7 @@ fn write_unreachable_at(
     ensures { OnOk result (bytes.new.items ≡ bytes.old.items
         ++ unreachable_at (option_map (λ own. own.now) own.entry) text.now at fault) }
 {
-    let line = line_of(text, at);
-    let has_column = is_own(own, line, at.column);
-    write_head(alloc, bytes, has_column, text, at)?;
+    write_head_at(alloc, bytes, own, text, at)?;
     write(bytes, b": unreachable [")?;
     write_fault_end(alloc, bytes, fault)
 }
@@ -364,11 +429,9 @@ fn write_refusal_at(
     ensures { OnOk result (bytes.new.items ≡ bytes.old.items
         ++ refusal_at (option_map (λ own. own.now) own.entry) text.now said.now at) }
 {
-    let line = line_of(text, at);
-    let has_column = is_own(own, line, at.column);
-    write_head(alloc, bytes, has_column, text, at)?;
+    write_head_at(alloc, bytes, own, text, at)?;
     write_said_line(bytes, said)?;
-    write_excerpt_with(bytes, has_column, own, line, at.column)
+    write_excerpt_at(bytes, own, text, at)
 }
 
 fn write_refusal_with(

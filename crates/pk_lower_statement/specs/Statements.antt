@@ -4,7 +4,8 @@ use Rattle.pk_ctypes.specs.declared.places.Pos.{Pos}
 use Rattle.pk_ctypes.specs.declared.types.IntType.{IntType}
 use Rattle.pk_ctypes.specs.declared.types.IntType.TheVariants.{Int}
 use Rattle.pk_ctypes.specs.declared.types.Op.TheVariants.{Eq}
-use Rattle.pk_typed.specs.declared.values.Variable.TheVariants.{Local}
+use Rattle.pk_typed.specs.declared.values.Variable.{Variable}
+use Rattle.pk_typed.specs.declared.values.Variable.TheVariants.{File, Local}
 use Rattle.pk_typed.specs.Trees.{ValueTree, EffectTree, ValueTrees, DeclaredTree, ForStartTree, StatementTree, ItemTrees}
 use Rattle.pk_typed.specs.Trees as tree
 use Rattle.pk_typed.specs.Types.{type_of}
@@ -12,7 +13,7 @@ use Rattle.pk_lower_statement.specs.declared.statements.Exits.{Exits}
 use Rattle.pk_graph.specs.declared.trees.Site.{Site}
 use Rattle.pk_graph.specs.Kinds.{count_of}
 use Rattle.pk_graph.specs.Trees.{TreeOf, constant, ArrayOf, Skip, Havoc, Clear, Store}
-use Rattle.pk_draft.specs.Drafts.{DraftOf, Given, at, on, in_scope, scoped, with_name, fresh, inner, with_object, link, go, emit, away, come}
+use Rattle.pk_draft.specs.Drafts.{DraftOf, Given, at, on, in_scope, scoped, with_name, with_hidden, object_number, fresh, inner, with_object, link, go, emit, away, come}
 use Rattle.pk_draft.specs.Folding.{conversion, binary_tree}
 use Rattle.pk_lower_row.specs.declared.shapes.Waiting.TheVariants.{Strong}
 use Rattle.pk_lower_row.specs.Shapes.{converted_shape}
@@ -55,10 +56,20 @@ abbrev pub array_first : {V : Type 0} → Context → ℕ → Option ValueTrees 
 array_first c i None d = anything c i d
 array_first c i (Some es) d = items c i 0 es (emit (Clear (array_of c (Local i) d)) d)
 
+-- the variable of an object, by its number
+abbrev pub number_of : {V : Type 0} → Variable → DraftOf V → ℕ
+number_of (File n) d = n
+number_of (Local i) d = object_number i d
+
+-- its name is hidden from here on
+abbrev pub hidden : {V : Type 0} → Variable → DraftOf V → DraftOf V
+hidden x d = with_hidden (number_of x d) d
+
 abbrev pub declared : {V : Type 0} → Context → DeclaredTree → DraftOf V → DraftOf V
 declared c (tree.scalar_object i p e) d = scalar_first c i e (introduced c i (on p d))
 declared c (tree.array_object i p es) d = array_first c i es (introduced c i (on p d))
 declared c (tree.static_object n p) d = with_name n (on p d)
+declared c (tree.hiding_constant x p) d = hidden x (on p d)
 
 unfoldable pub all_declared : {V : Type 0} → Context → List DeclaredTree → DraftOf V → DraftOf V
 all_declared c [] d = d

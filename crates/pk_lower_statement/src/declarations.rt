@@ -169,6 +169,15 @@ fn begin_array(
     }
 }
 
+fn number_of(draft: &Draft, object: Variable) -> usize
+    ensures { result ≡ rows.number_of object (drafted draft.now) }
+{
+    match object {
+        Variable::File(number) => number,
+        Variable::Local(number) => draft.object(number),
+    }
+}
+
 /// A declared object.
 #[tactic(auto, unfolding(pk_typed::specs::Views::declared_tree))]
 pub fn declare(
@@ -193,6 +202,11 @@ pub fn declare(
         Declared::Static(number, at) => {
             draft.on(*at);
             draft.name(*number)
+        }
+        Declared::Hiding(object, at) => {
+            draft.on(*at);
+            let variable = number_of(draft, *object);
+            draft.hide(variable)
         }
     }
 }

@@ -6,7 +6,7 @@ use Rattle.pk_ctypes.specs.declared.types.IntType.{IntType}
 use Rattle.pk_ctypes.specs.declared.types.IntType.TheVariants.{Int}
 use Rattle.pk_typed.specs.declared.values.Variable.{Variable}
 use Rattle.pk_typed.specs.declared.values.Variable.TheVariants.{File, Local}
-use Rattle.pk_typed.specs.Trees.{DeclaredTree, scalar_object, array_object, static_object, LocalTree, BodyTree, FunctionTree, StartTree, scalar_start, array_start, FileObjectTree, UnitTree}
+use Rattle.pk_typed.specs.Trees.{DeclaredTree, scalar_object, array_object, static_object, hiding_constant, LocalTree, BodyTree, FunctionTree, StartTree, scalar_start, array_start, FileObjectTree, UnitTree}
 use Rattle.pk_calls.specs.declared.listings.Caller.{Caller}
 use Rattle.pk_calls.specs.declared.listings.CallPath.{CallPath}
 use Rattle.pk_calls.specs.Calls.{body_of}
@@ -73,6 +73,7 @@ abbrev pub with_declared : Program → (path : ℕ) → DeclaredTree → Scope �
 with_declared p k (scalar_object i at e) xs = with_local p k i xs
 with_declared p k (array_object i at es) xs = with_local p k i xs
 with_declared p k (static_object n at) xs = file n ∷ xs
+with_declared p k (hiding_constant x at) xs = xs
 
 abbrev pub with_all_declared : Program → (path : ℕ) → List DeclaredTree → Scope → Scope
 with_all_declared p k [] xs = xs

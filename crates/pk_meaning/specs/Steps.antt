@@ -10,7 +10,7 @@ use Rattle.pk_ctypes.specs.declared.faults.Fault.{Fault}
 use Rattle.pk_ctypes.specs.declared.faults.Fault.TheVariants as faults
 use Rattle.pk_ctypes.specs.Types.{represents, wrapped}
 use Rattle.pk_ctypes.specs.Operators.{value_of, is_not}
-use Rattle.pk_typed.specs.Trees.{PlaceTree, ValueTree, EffectTree, ValueTrees, DeclaredTree, ForStartTree, StatementTree, ItemTrees, no_values, value_before, no_items, declared_before, statement_before, scalar_object, array_object, static_object}
+use Rattle.pk_typed.specs.Trees.{PlaceTree, ValueTree, EffectTree, ValueTrees, DeclaredTree, ForStartTree, StatementTree, ItemTrees, no_values, value_before, no_items, declared_before, statement_before, scalar_object, array_object, static_object, hiding_constant}
 use Rattle.pk_typed.specs.Trees as tree
 use Rattle.pk_typed.specs.Types.{type_of}
 use Rattle.pk_graph.specs.declared.trees.Site.{Site}
@@ -396,6 +396,7 @@ declares p ch c (scalar_object i at e) w =
 declares p ch c (array_object i at es) w =
     array_first p ch (standing (place at (with_local p c.path i c.here.scope)) c) i es w
 declares p ch c (static_object n at) w = on (standing (place at (file n ∷ c.here.scope)) c) w c.values
+declares p ch c (hiding_constant x at) w = on (standing (place at c.here.scope) c) w c.values
 
 abbrev pub all_declared : Program → Numbers → Config → List DeclaredTree → Work → Next
 all_declared p ch c [] w = on c w c.values

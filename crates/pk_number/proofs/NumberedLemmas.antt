@@ -5,6 +5,7 @@ use Rattle.std.specs.Option.{option_and_then}
 use Rattle.std.proofs.lemmas.List.{length-map, get_or-map}
 use Rattle.std.proofs.lemmas.List.Elements.{All-nil, All-cons, All-head, All-tail, All-push, All-filter, All-map, All-get_or, All-weaker}
 use Rattle.std.proofs.lemmas.Option.{slice_get-map}
+use Rattle.pk_graph.specs.declared.graphs.Entry.{Entry}
 use Rattle.pk_graph.specs.declared.graphs.Scope.{Scope}
 use Rattle.pk_graph.specs.Graphs.{PathOf, EdgeOf, PointOf, no_point, point_at, chained, scope_at}
 use Rattle.pk_graph.specs.WellMade.{IsEdgeOf, IsPointOf, IsGraph}
@@ -19,26 +20,26 @@ use Rattle.pk_number.proofs.ReachedLemmas.{edge_to, end_among, reached_distinct,
 
 -- ---- names in scope
 
-abbrev AreNames : ℕ → List ℕ → Type 0
-AreNames n xs = All (λ (x : ℕ). x < n) xs
+abbrev AreNames : ℕ → List Entry → Type 0
+AreNames n xs = All (λ (e : Entry). e.variable < n) xs
 
-names_at : (n : ℕ) (known : List (List ℕ)) (k : ℕ) → All (AreNames n) known → AreNames n (slice_index_or known k [])
-names_at n [] k h = All-nil (λ (x : ℕ). x < n)
+names_at : (n : ℕ) (known : List (List Entry)) (k : ℕ) → All (AreNames n) known → AreNames n (slice_index_or known k [])
+names_at n [] k h = All-nil (λ (e : Entry). e.variable < n)
 names_at n (xs ∷ known) zero h = All-head (AreNames n) xs known h
 names_at n (xs ∷ known) (suc k) h = names_at n known k (All-tail (AreNames n) xs known h)
 
 abbrev IsNamed : ℕ → Scope → Type 0
-IsNamed n s = s.variable < n
+IsNamed n s = s.entry.variable < n
 
-names_chained : (n : ℕ) (known : List (List ℕ)) (ss : List Scope) → All (AreNames n) known → All (IsNamed n) ss → All (AreNames n) (chained known ss)
+names_chained : (n : ℕ) (known : List (List Entry)) (ss : List Scope) → All (AreNames n) known → All (IsNamed n) ss → All (AreNames n) (chained known ss)
 names_chained n known [] h f = h
 names_chained n known (s ∷ ss) h f =
-    let named : AreNames n (s.variable ∷ slice_index_or known s.outer []) = All-cons (λ (x : ℕ). x < n) s.variable (slice_index_or known s.outer []) (All-head (IsNamed n) s ss f) (names_at n known s.outer h) in
-    names_chained n (known ++ (s.variable ∷ slice_index_or known s.outer []) ∷ []) ss (All-push (AreNames n) known (s.variable ∷ slice_index_or known s.outer []) h named) (All-tail (IsNamed n) s ss f)
+    let named : AreNames n (s.entry ∷ slice_index_or known s.outer []) = All-cons (λ (e : Entry). e.variable < n) s.entry (slice_index_or known s.outer []) (All-head (IsNamed n) s ss f) (names_at n known s.outer h) in
+    names_chained n (known ++ (s.entry ∷ slice_index_or known s.outer []) ∷ []) ss (All-push (AreNames n) known (s.entry ∷ slice_index_or known s.outer []) h named) (All-tail (IsNamed n) s ss f)
 
 names_in_scope : (n : ℕ) (ss : List Scope) (k : ℕ) → All (IsNamed n) ss → AreNames n (scope_at ss k)
 names_in_scope n ss k f =
-    names_at n (chained ([] ∷ []) ss) k (names_chained n ([] ∷ []) ss (All-cons (AreNames n) [] [] (All-nil (λ (x : ℕ). x < n)) (All-nil (AreNames n))) f)
+    names_at n (chained ([] ∷ []) ss) k (names_chained n ([] ∷ []) ss (All-cons (AreNames n) [] [] (All-nil (λ (e : Entry). e.variable < n)) (All-nil (AreNames n))) f)
 
 -- ---- it is a graph
 

@@ -17,6 +17,6 @@ pub record IsTypedDraft (paths : ℕ) (d : DraftOf ℕ) : Type 0 where
   pub entry : entry_point < length d.labels
   pub few : length d.labels < 2 ^ 31
   pub labels : All (λ (l : Label). l.path < paths) d.labels
-  pub scopes : All (λ (s : Scope). s.variable < length d.made) d.scopes
+  pub scopes : All (λ (s : Scope). s.entry.variable < length d.made) d.scopes
   pub starts : All (λ (x : VariableOf). IsStartOf x x.start) d.made
   pub edges : All (IsTypedEdge d) d.edges

@@ -1,12 +1,12 @@
 -- The findings of a text on a page: its operations that are unknown.
 use Rattle.std.specs.Prelude.{ℕ, ℤ, List, [], ◌∷◌, ◌++◌}
 use Rattle.std.specs.List.{flat_map}
-use Rattle.pk_ctypes.specs.declared.faults.Fault.{Fault}
 use Rattle.pk_show.specs.declared.rows.Verdict.{Verdict}
 use Rattle.pk_show.specs.declared.rows.Verdict.TheVariants.{Safe, Unknown, Unreachable}
 use Rattle.pk_findings.specs.Texts.{TextOf}
 use Rattle.pk_findings.specs.Operations.{WayOf, OperationOf}
-use Rattle.pk_findings.specs.Words.{verdict_of, message, range_text}
+use Rattle.pk_findings.specs.Words.{verdict_of}
+use Rattle.pk_findings.specs.Messages.{message, range_text}
 use Rattle.pk_html.specs.declared.parts.Part.{Part}
 use Rattle.pk_html.specs.declared.parts.Part.TheVariants.{Tag, Text}
 use Rattle.pk_html.specs.declared.tags.Tag.TheVariants as tag
@@ -27,12 +27,12 @@ way_by i t w Unreachable = []
 abbrev pub ways_parts : ℕ → TextOf → List WayOf → List Part
 ways_parts i t = flat_map (λ w. way_by i t w w.verdict)
 
-abbrev pub said_parts : Fault → (lo hi : ℤ) → List Part
-said_parts f lo hi = Tag tag.FindingSaid ∷ Text (message f lo hi) ∷ Tag tag.WaysOpen ∷ []
+abbrev pub said_parts : TextOf → OperationOf → (lo hi : ℤ) → List Part
+said_parts t o lo hi = Tag tag.FindingSaid ∷ Text (message t o lo hi) ∷ Tag tag.WaysOpen ∷ []
 
 -- what may happen, and the ways that lead there
 abbrev pub told_parts : ℕ → TextOf → OperationOf → (lo hi : ℤ) → List Part
-told_parts i t o lo hi = said_parts o.fault lo hi ++ (ways_parts i t o.ways ++ (Tag tag.FindingEnd ∷ []))
+told_parts i t o lo hi = said_parts t o lo hi ++ (ways_parts i t o.ways ++ (Tag tag.FindingEnd ∷ []))
 
 -- an operation that is unknown: its place, and what is told of it
 unfoldable pub finding_with : ℕ → TextOf → OperationOf → (lo hi : ℤ) → List Part

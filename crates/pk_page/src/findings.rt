@@ -1,12 +1,12 @@
 // The findings of a text.
 
 ghost use Rattle.std.specs.Prelude.{◌≡◌, ◌++◌, IfOk, OnOk};
-ghost use Rattle.pk_findings.specs.Words.{verdict_of, message, range_text};
+ghost use Rattle.pk_findings.specs.Words.{verdict_of};
+ghost use Rattle.pk_findings.specs.Messages.{message, range_text};
 ghost use Rattle.pk_html.specs.Parts.{parts_text};
 ghost use Rattle.pk_page.specs.Findings.{range_parts, way_with, way_by, ways_parts, said_parts, told_parts, finding_with, finding_by, each_finding, findings_parts};
 
 use crate::places::{write_path, write_place};
-use pk_ctypes::Fault;
 use pk_findings::{Operation, Text as Source, Way, verdict_of, write_message, write_range};
 use pk_html::{Part, Tag, Text, write};
 use pk_show::Verdict;
@@ -84,24 +84,32 @@ fn write_ways(
     Ok(())
 }
 
-fn message_text(alloc: Global, fault: Fault, lo: i128, hi: i128) -> Result<Vec<u8>, AllocError>
-    ensures { IfOk result (λ said. said.items ≡ message fault lo hi) }
+fn message_text(
+    alloc: Global,
+    text: &Source<'_>,
+    operation: &Operation<'_>,
+    lo: i128,
+    hi: i128,
+) -> Result<Vec<u8>, AllocError>
+    ensures { IfOk result (λ said. said.items ≡ message text.now operation.now lo hi) }
 {
     let mut said = Vec::new(alloc);
-    write_message(&mut said, fault, lo, hi)?;
+    write_message(&mut said, text, operation, lo, hi)?;
     Ok(said)
 }
 
 fn write_said(
     alloc: Global,
     bytes: &mut Vec<u8>,
-    fault: Fault,
+    text: &Source<'_>,
+    operation: &Operation<'_>,
     lo: i128,
     hi: i128,
 ) -> Result<(), AllocError>
-    ensures { OnOk result (bytes.new.items ≡ bytes.old.items ++ parts_text (said_parts fault lo hi)) }
+    ensures { OnOk result (
+        bytes.new.items ≡ bytes.old.items ++ parts_text (said_parts text.now operation.now lo hi)) }
 {
-    let said = message_text(alloc, fault, lo, hi)?;
+    let said = message_text(alloc, text, operation, lo, hi)?;
     write(
         bytes,
         &[
@@ -124,7 +132,7 @@ fn write_told(
     ensures { OnOk result (bytes.new.items
         ≡ bytes.old.items ++ parts_text (told_parts number text.now operation.now lo hi)) }
 {
-    write_said(alloc, bytes, operation.fault, lo, hi)?;
+    write_said(alloc, bytes, text, operation, lo, hi)?;
     write_ways(alloc, bytes, number, text, &operation.ways)?;
     write(bytes, &[Part::Tag(Tag::FindingEnd)])?;
     Ok(())

@@ -167,14 +167,16 @@ pub no_longer : (end : Token) (ts rest : List Token) (s : Option Storage) → Ta
 no_longer end ts rest None h = let e = ap length h.1 in omega arith
 no_longer end ts rest (Some s) h = omega arith
 
-no_storage : (end : Token) (ts rest : List Token) (s : Option Storage) → TakesStorage end ts rest s → (first_of_all end ts).kind ≢ kind.End → s ≡ None →
-    (storage_word (first_of_all end rest).kind ≡ None) × ((first_of_all end rest).kind ≢ kind.End)
-no_storage end ts rest None h f e = let same = ap (first_of_all end) h.1 in (ap (λ (t : Token). storage_word t.kind) same ∙ h.0, λ k. f (sym (ap (λ (t : Token). t.kind) same) ∙ k))
-no_storage end ts rest (Some s) h f e = cc
+no_storage : (end : Token) (ts rest : List Token) (s : Option Storage) → TakesStorage end ts rest s → (first_of_all end ts).kind ≢ kind.End → is_fixed fixed.Typedef (first_of_all end ts).kind ≡ false →
+    s ≡ None → (storage_word (first_of_all end rest).kind ≡ None) × ((first_of_all end rest).kind ≢ kind.End) × (is_fixed fixed.Typedef (first_of_all end rest).kind ≡ false)
+no_storage end ts rest None h f g e =
+    let same = ap (λ us. (first_of_all end us).kind) h.1 in (ap storage_word same ∙ h.0, λ k. f (sym same ∙ k), ap (is_fixed fixed.Typedef) same ∙ g)
+no_storage end ts rest (Some s) h f g e = cc
 
 module _ (end : Token) (before : List ExternalTree) (ts : List Token) (s : Option Storage) (rest : List Token) (stored : run end (top before) ts ≡ run end (storage_state before s) rest) where
-  pub stops_word : TakesStorage end ts rest s → (first_of_all end ts).kind ≢ kind.End → specifier_word (first_of_all end rest) ≡ None → run end (top before) ts ≡ syntax (first_of_all end rest).at
-  stops_word h f e = stored ∙ no_first_word end before rest s (no_storage end ts rest s h f) e
+  pub stops_word : TakesStorage end ts rest s → (first_of_all end ts).kind ≢ kind.End → is_fixed fixed.Typedef (first_of_all end ts).kind ≡ false → specifier_word (first_of_all end rest) ≡ None →
+      run end (top before) ts ≡ syntax (first_of_all end rest).at
+  stops_word h f g e = stored ∙ no_first_word end before rest s (no_storage end ts rest s h f g) e
 
   module _ (first : Specifier) (after_word : List Token) (begins : BeginsWithWord specifier_word rest first after_word) (specs : OneOrMore Specifier) (after_words : List Token)
       (are : (specs ≡ specifiers_from first after_word) × (after_words ≡ past_words first after_word)) where

@@ -136,7 +136,7 @@ module _ (end : Token) (before : List ExternalTree) (ts : List Token) where
   run_first_word None first rest b =
       let a = specifier_alone b.token.kind b.token.start b.token.end b.word b.is in
       run_takes end (top before) ts b.token rest _ _ b.cut
-      (ap (λ o. storage_or_specifier before b.token o) a.no_storage ∙ same_false (is_fixed fixed.End b.token.kind) _ _ a.no_end ∙ ap (λ o. begin_external before None b.token o) b.is) (omega arith)
+      (ap (λ o. storage_or_specifier before b.token o) a.no_storage ∙ same_false (is_fixed fixed.End b.token.kind) _ _ a.no_end ∙ same_false (is_fixed fixed.Typedef b.token.kind) _ _ a.no_typedef ∙ ap (λ o. begin_external before None b.token o) b.is) (omega arith)
       ∙ ap (λ q. run end (after_specifiers (outside before None) (one q)) rest) (sym b.specifier)
   run_first_word (Some s) first rest b =
       run_takes end (after_storage before s) ts b.token rest _ _ b.cut (ap (λ o. begin_external before (Some s) b.token o) b.is) (omega arith)
@@ -146,13 +146,15 @@ module _ (end : Token) (before : List ExternalTree) (ts : List Token) where
   no_end k h true e = absurd (h (is_this fixed.End k e))
   no_end k h false e = e
 
-  pub no_first_word : (s : Option Storage) → (s ≡ None → (storage_word (first_of_all end ts).kind ≡ None) × ((first_of_all end ts).kind ≢ kind.End)) → specifier_word (first_of_all end ts) ≡ None →
+  pub no_first_word : (s : Option Storage) → (s ≡ None → (storage_word (first_of_all end ts).kind ≡ None) × ((first_of_all end ts).kind ≢ kind.End) × (is_fixed fixed.Typedef (first_of_all end ts).kind ≡ false)) →
+      specifier_word (first_of_all end ts) ≡ None →
       run end (storage_state before s) ts ≡ syntax (first_of_all end ts).at
   no_first_word None h e =
       let t = first_of_all end ts in
       let g = h refl in
       run_refused end (top before) ts
-      (ap (λ o. storage_or_specifier before t o) g.0 ∙ same_false (is_fixed fixed.End t.kind) _ _ (no_end t.kind g.1 (is_fixed fixed.End t.kind) refl) ∙ ap (λ o. begin_external before None t o) e)
+      (ap (λ o. storage_or_specifier before t o) g.0 ∙ same_false (is_fixed fixed.End t.kind) _ _ (no_end t.kind g.1 (is_fixed fixed.End t.kind) refl)
+      ∙ same_false (is_fixed fixed.Typedef t.kind) _ _ g.2 ∙ ap (λ o. begin_external before None t o) e)
   no_first_word (Some s) h e = let t = first_of_all end ts in run_refused end (after_storage before s) ts (ap (λ o. begin_external before (Some s) t o) e)
 
 pub run_end : (end : Token) (u : List ExternalTree) (ts : List Token) → is_fixed fixed.End (first_of_all end ts).kind ≡ true → run end (top u) ts ≡ trees u

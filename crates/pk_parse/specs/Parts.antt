@@ -6,7 +6,7 @@ use Rattle.pk_ast.specs.declared.declarations.Specifier.{Specifier}
 use Rattle.pk_ast.specs.declared.expressions.Identifier.{Identifier}
 use Rattle.pk_ast.specs.declared.units.Storage.{Storage}
 use Rattle.pk_ast.specs.Lists.{append_items}
-use Rattle.pk_ast.specs.Trees.{OneOrMore, ExpressionTree, ExpressionTrees, braced, DeclaratorTree, block, ItemTrees, no_items, BlockTree, ParameterTree, ExternalTree, function}
+use Rattle.pk_ast.specs.Trees.{OneOrMore, ExpressionTree, ExpressionTrees, braced, DeclaratorTree, block, ItemTrees, no_items, BlockTree, ParameterTree, TypedefTree, ExternalTree, function, type_names}
 use Rattle.pk_grammar.specs.declared.signs.Fixed.{Fixed}
 use Rattle.pk_grammar.specs.declared.signs.Fixed.TheVariants as fixed
 use Rattle.pk_grammar.specs.Grammar.{any_expression}
@@ -77,6 +77,13 @@ abbrev pub after_function : Head → List ParameterTree → Option BlockTree →
 after_function h ps body =
     top (h.before ++ function
     (record { storage = h.storage; specifiers = h.specifiers; name = h.name; parameters = ps; body = body }) ∷ [])
+
+abbrev pub after_type_names : List ExternalTree → TypedefTree → State
+after_type_names before d = top (before ++ type_names d ∷ [])
+
+abbrev pub with_names : TypedefTree → List Identifier → TypedefTree
+with_names d more =
+    record { specifiers = d.specifiers; names = record { first = d.names.first; more = d.names.more ++ more } }
 
 abbrev pub after_block : OpenBlock → BlockTree → State
 after_block (function_block h ps at items) b = after_function h ps (Some b)

@@ -1,18 +1,20 @@
 // External definitions.
 
-ghost use Rattle.std.specs.Prelude.{◌≡◌, ◌≢◌, ◌<◌, ◌≤◌, ◌↔◌, List, [], ◌∷◌, ◌++◌, IsTrue, length, MatchOption, MatchResult, option_map};
+ghost use Rattle.std.specs.Prelude.{◌≡◌, ◌≢◌, ◌<◌, ◌≤◌, ◌↔◌, List, [], ◌∷◌, ◌++◌, false, IsTrue, length, MatchOption, MatchResult, option_map};
 ghost use Rattle.pk_ast.specs.Lists.{one};
 ghost use Rattle.pk_ast.specs.Trees as tree;
-ghost use Rattle.pk_ast.specs.Views.{block_tree, parameter_tree, parameter_trees, external_tree, external_trees};
+ghost use Rattle.pk_ast.specs.Views.{block_tree, parameter_tree, parameter_trees, typedef_tree, external_tree, external_trees};
 ghost use Rattle.pk_grammar.specs.Grammar.{IsVoidAlone};
 ghost use Rattle.pk_grammar.specs.Machine.Running.{trees, first_of_all, run, Fails};
 ghost use Rattle.pk_grammar.specs.Machine.Signs as signs;
 ghost use Rattle.pk_grammar.specs.Machine.States as states;
-ghost use Rattle.pk_parse.specs.Parts.{after_parameter, EndsParameter, after_function, storage_state};
+ghost use Rattle.pk_parse.specs.Parts.{after_parameter, EndsParameter, after_function, after_type_names, with_names, storage_state};
 
 use crate::declarations::declarators;
 use crate::statements::block;
-use pk_ast::{Block, Declaration, External, Function, Parameter, Specifier, Storage};
+use pk_ast::{
+    Block, Declaration, External, Function, Identifier, Parameter, Specifier, Storage, Typedef,
+};
 use pk_grammar::{Fixed, ParseError, is, is_void_word, storage_word};
 use pk_lex::{Kind, Token};
 use pk_parse_expression::{Parser, identifier};
@@ -115,9 +117,59 @@ fn storage<'a>(parser: Parser, tokens: &'a [Token]) -> (Option<Storage>, &'a [To
     }
 }
 
-// An external definition.
-fn external<'a>(parser: Parser, tokens: &'a [Token]) -> Result<(External, &'a [Token]), ParseError>
-    requires { (first_of_all parser.end tokens.now).kind ≢ Kind.End }
+// The names of a declaration of type names after those that were read, and the `;`.
+fn more_names<'a>(
+    parser: Parser,
+    tokens: &'a [Token],
+) -> Result<(Vec<Identifier>, &'a [Token]), ParseError>
+    ensures { MatchResult result
+        (λ r. ((before : List tree.ExternalTree) (d : tree.TypedefTree) →
+        run parser.end (states.after_type_name before d.specifiers d.names) tokens.now
+        ≡ run parser.end (after_type_names before (with_names d r.0.items)) r.1.now)
+        × (length r.1.now < length tokens.now))
+        (λ x. (before : List tree.ExternalTree) (d : tree.TypedefTree) →
+        Fails (run parser.end (states.after_type_name before d.specifiers d.names) tokens.now) x) }
+{
+    let mut list = Vec::new(parser.alloc);
+    let mut rest = tokens;
+    loop {
+        if let Some((_, last)) = parser.take(rest, Fixed::Semicolon) {
+            return Ok((list, last));
+        }
+        let (_, next) = parser.expect(rest, Fixed::Comma)?;
+        let (token, after) = parser.expect(next, Fixed::Name)?;
+        list.push(identifier(token))?;
+        rest = after;
+    }
+}
+
+// A declaration of type names, after its `typedef`.
+fn typedef<'a>(parser: Parser, tokens: &'a [Token]) -> Result<(Typedef, &'a [Token]), ParseError>
+    ensures { MatchResult result
+        (λ r. ((before : List tree.ExternalTree) → run parser.end (states.after_typedef before) tokens.now
+        ≡ run parser.end (after_type_names before (typedef_tree r.0)) r.1.now)
+        × (length r.1.now < length tokens.now))
+        (λ x. (before : List tree.ExternalTree) →
+        Fails (run parser.end (states.after_typedef before) tokens.now) x) }
+{
+    let Some((word, after_word)) = parser.specifier(tokens) else {
+        return Err(ParseError::Syntax {
+            at: parser.place(tokens),
+        });
+    };
+    let (words, after_words) = parser.specifiers(word, after_word)?;
+    let (token, after_name) = parser.expect(after_words, Fixed::Name)?;
+    let (more, last) = more_names(parser, after_name)?;
+    Ok((Typedef::new(words, identifier(token), more), last))
+}
+
+// A function, or a declaration of objects.
+fn function_or_objects<'a>(
+    parser: Parser,
+    tokens: &'a [Token],
+) -> Result<(External, &'a [Token]), ParseError>
+    requires no_end { (first_of_all parser.end tokens.now).kind ≢ Kind.End }
+    requires no_typedef { signs.is_fixed Fixed.Typedef (first_of_all parser.end tokens.now).kind ≡ false }
     ensures { MatchResult result
         (λ r. ((before : List tree.ExternalTree) → run parser.end (states.top before) tokens.now
         ≡ run parser.end (states.top (before ++ external_tree r.0 ∷ [])) r.1.now)
@@ -142,6 +194,22 @@ fn external<'a>(parser: Parser, tokens: &'a [Token]) -> Result<(External, &'a [T
     let (body, last) = body(parser, after_close)?;
     let function = Function::new(storage, words, name, parameters, body);
     Ok((External::function(function), last))
+}
+
+// An external definition.
+fn external<'a>(parser: Parser, tokens: &'a [Token]) -> Result<(External, &'a [Token]), ParseError>
+    requires { (first_of_all parser.end tokens.now).kind ≢ Kind.End }
+    ensures { MatchResult result
+        (λ r. ((before : List tree.ExternalTree) → run parser.end (states.top before) tokens.now
+        ≡ run parser.end (states.top (before ++ external_tree r.0 ∷ [])) r.1.now)
+        × (length r.1.now < length tokens.now))
+        (λ x. (before : List tree.ExternalTree) → Fails (run parser.end (states.top before) tokens.now) x) }
+{
+    let Some((_, after)) = parser.take(tokens, Fixed::Typedef) else {
+        return function_or_objects(parser, tokens);
+    };
+    let (typedef, last) = typedef(parser, after)?;
+    Ok((External::type_names(typedef), last))
 }
 
 // The external definitions of a text, up to its end.

@@ -6,9 +6,10 @@ use Rattle.std.proofs.lemmas.Bool.Decides.{eqb_tells}
 use Rattle.std.proofs.lemmas.List.{get_or-reverse, length-reverse, get_or-set_same, get_or-set_other, get_or-replicate, length-replicate, take_all}
 use Rattle.std.proofs.lemmas.List.Elements.{All-nil, All-cons, All-head, All-tail, All-append, All-filter}
 use Rattle.std.proofs.lemmas.List.Folds.{list_any_more}
+use Rattle.pk_graph.specs.declared.graphs.Entry.{Entry}
 use Rattle.pk_graph.specs.Graphs.{VariableOf, GraphOf, no_point, point_at}
 use Rattle.pk_graph.specs.WellMade.{IsGraph}
-use Rattle.pk_graph.specs.Visible.{Names, no_name, with_name, is_new, name_at, not_hidden, is_of_file, files_first, visible_at}
+use Rattle.pk_graph.specs.Visible.{Names, no_name, with_name, is_shown, name_at, not_hidden, is_of_file, files_first, visible_at}
 use Rattle.pk_state.specs.Layouts.{Layout}
 use Rattle.pk_state.specs.Facts.{Facts}
 use Rattle.pk_report.specs.Values.{placed, of_pairs, value_line_if, pair_lines_if, facts_lines}
@@ -28,15 +29,15 @@ some_known g l (Some f) xs h = refl
 abbrev AreBelow : ℕ → List ℕ → Type 0
 AreBelow n xs = All (λ (x : ℕ). x < n) xs
 
-not_hidden_below : (n : ℕ) (vs : List VariableOf) (has : Names) (xs : List ℕ) → AreBelow n xs → AreBelow n (not_hidden vs has xs)
+not_hidden_below : (n : ℕ) (vs : List VariableOf) (has : Names) (es : List Entry) → All (λ (e : Entry). e.variable < n) es → AreBelow n (not_hidden vs has es)
 unfolding not_hidden
 not_hidden_below n vs has [] h = All-nil (λ (x : ℕ). x < n)
-not_hidden_below n vs has (x ∷ xs) h =
-    told (is_new (name_at vs x) has) (not_hidden_below n vs (with_name (name_at vs x) has) xs (All-tail (λ (y : ℕ). y < n) x xs h))
+not_hidden_below n vs has (e ∷ es) h =
+    told (is_shown (name_at vs e.variable) e.hides has) (not_hidden_below n vs (with_name (name_at vs e.variable) has) es (All-tail (λ (z : Entry). z.variable < n) e es h))
   where
-    told : (b : Bool) → AreBelow n (not_hidden vs (with_name (name_at vs x) has) xs)
-        → AreBelow n (if b then x ∷ not_hidden vs (with_name (name_at vs x) has) xs else not_hidden vs (with_name (name_at vs x) has) xs)
-    told true i = All-cons (λ (y : ℕ). y < n) x (not_hidden vs (with_name (name_at vs x) has) xs) (All-head (λ (y : ℕ). y < n) x xs h) i
+    told : (b : Bool) → AreBelow n (not_hidden vs (with_name (name_at vs e.variable) has) es)
+        → AreBelow n (if b then e.variable ∷ not_hidden vs (with_name (name_at vs e.variable) has) es else not_hidden vs (with_name (name_at vs e.variable) has) es)
+    told true i = All-cons (λ (y : ℕ). y < n) e.variable (not_hidden vs (with_name (name_at vs e.variable) has) es) (All-head (λ (z : Entry). z.variable < n) e es h) i
     told false i = i
 
 reverse_below : (n : ℕ) (xs : List ℕ) → AreBelow n xs → AreBelow n (reverse xs)

@@ -125,11 +125,23 @@ fn written(instr: &Instr) -> Option<usize> {
     }
 }
 
+// The variables whose names are in scope where a run is, newest first.
+fn names(alloc: Global, run: &Run<'_>) -> Result<Vec<usize>, AllocError> {
+    let scope = run.graph.scope(alloc, run.point)?;
+    let mut list = Vec::new(alloc);
+    for entry in &scope {
+        if !entry.hides {
+            list.push(entry.variable)?;
+        }
+    }
+    Ok(list)
+}
+
 // Whether a run that has written this variable is at a visit.
 fn is_seen(alloc: Global, run: &Run<'_>, variable: Option<usize>) -> Result<bool, AllocError> {
     match variable {
         None => Ok(true),
-        Some(variable) => Ok(run.graph.scope(alloc, run.point)?.contains(&variable)),
+        Some(variable) => Ok(names(alloc, run)?.contains(&variable)),
     }
 }
 
@@ -211,7 +223,7 @@ fn numbers<'r>(run: &'r Run<'_>, variable: usize) -> &'r [i128] {
 
 /// Whether a visit of the program is where the run is.
 pub fn is_at(alloc: Global, run: &Run<'_>, visit: &Visit<'_>) -> Result<bool, AllocError> {
-    let scope = run.graph.scope(alloc, run.point)?;
+    let scope = names(alloc, run)?;
     if run.graph.path(run.point) != visit.path
         || run.graph.position(run.point) != visit.at
         || scope.len() != visit.known.len()

@@ -206,6 +206,7 @@ pub fn with_declared(
         Declared::Scalar(number, _, _) => with_local(program, table, path, *number, scope),
         Declared::Array(number, _, _) => with_local(program, table, path, *number, scope),
         Declared::Static(number, _) => extend(table, Object::File(*number), scope),
+        Declared::Hiding(_, _) => Ok(scope),
     }
 }
 

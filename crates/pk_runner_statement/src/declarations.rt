@@ -134,12 +134,8 @@ fn begin_array<'a>(
     }
 }
 
-// An object that is static comes into scope alone.
-fn name_static<'a>(
-    state: &mut State<'a>,
-    here: Spot,
-    after: After<'a>,
-) -> Result<Answer, AllocError>
+// A static object comes into scope, or a constant hides one: no more.
+fn go_past<'a>(state: &mut State<'a>, here: Spot, after: After<'a>) -> Result<Answer, AllocError>
     ensures { (s : Reading) →
         IfOk result (λ r. Told s state.old state.new r
         (steps.on (steps.standing (place_in s here) (shown s state.old))
@@ -190,7 +186,14 @@ fn declare<'a>(
                 at: *at,
                 scope: inner,
             };
-            name_static(state, here, after)
+            go_past(state, here, after)
+        }
+        Declared::Hiding(_object, at) => {
+            let here = Spot {
+                at: *at,
+                scope: inner,
+            };
+            go_past(state, here, after)
         }
     }
 }

@@ -11,12 +11,11 @@ use Rattle.pk_findings.specs.Texts.{TextOf}
 use Rattle.pk_findings.specs.Operations.{WayOf, OperationOf}
 use Rattle.pk_findings.specs.Shown.{ShownOf}
 use Rattle.pk_findings.specs.Refused.{RefusedOf}
-use Rattle.pk_findings.specs.Words.{verdict_of}
 use Rattle.serde_json.specs.Data.{Data}
 use Rattle.serde_json.specs.View.{items_of}
 use Rattle.serde_json.specs.Written.{has_float, items_have_float}
-use Rattle.pk_sarif.specs.Results.{call_steps, steps, flow, flows_by, results_by, results}
-use Rattle.pk_sarif.specs.Logs.{artifact, refused_at, notification, all_results, log}
+use Rattle.pk_sarif.specs.Results.{call_steps, steps, flow, flows_by, result_with}
+use Rattle.pk_sarif.specs.Logs.{artifact, refused_at, notification, invocation}
 
 abbrev pub have_float : List Data → Bool
 have_float ds = items_have_float (items_of ds)
@@ -52,20 +51,10 @@ of_ways : (t : TextOf) (o : OperationOf) (ways : List WayOf) → have_float (fla
 of_ways t o [] = refl
 of_ways t o (w ∷ ways) = both (flows_by t o w w.verdict) _ (of_way t o w w.verdict) (of_ways t o ways)
 
-of_result : (t : TextOf) (o : OperationOf) (v : Verdict) → have_float (results_by t o v) ≡ false
-of_result t o Safe = refl
-of_result t o (Unknown lo hi) = rw (of_ways t o o.ways) refl
-of_result t o Unreachable = refl
+pub of_result : (t : TextOf) (o : OperationOf) (lo hi : ℤ) → has_float (result_with t o lo hi) ≡ false
+of_result t o lo hi = rw (of_ways t o o.ways) refl
 
-of_results : (t : TextOf) (os : List OperationOf) → have_float (results t os) ≡ false
-of_results t [] = refl
-of_results t (o ∷ os) = both (results_by t o (verdict_of o)) _ (of_result t o (verdict_of o)) (of_results t os)
-
-of_all : (shown : List ShownOf) → have_float (all_results shown) ≡ false
-of_all [] = refl
-of_all (s ∷ shown) = both (results s.text s.operations) _ (of_results s.text s.operations) (of_all shown)
-
-of_artifacts : (shown : List ShownOf) → have_float (map artifact shown) ≡ false
+pub of_artifacts : (shown : List ShownOf) → have_float (map artifact shown) ≡ false
 of_artifacts [] = refl
 of_artifacts (s ∷ shown) = of_artifacts shown
 
@@ -77,5 +66,5 @@ of_refused : (refused : List RefusedOf) → have_float (map notification refused
 of_refused [] = refl
 of_refused (r ∷ refused) = rw (of_place r.text r.at) (of_refused refused)
 
-pub no_float : (shown : List ShownOf) (refused : List RefusedOf) → has_float (log shown refused) ≡ false
-no_float shown refused = rw (of_artifacts shown, of_refused refused, of_all shown) refl
+pub of_invocation : (refused : List RefusedOf) → has_float (invocation refused) ≡ false
+of_invocation refused = rw (of_refused refused) refl

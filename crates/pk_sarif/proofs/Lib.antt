@@ -1,3 +1,4 @@
 mod FloatLemmas
 mod ListLemmas
 mod StepLemmas
+mod TextLemmas

@@ -1,4 +1,5 @@
 pub mod Objects
 pub mod Rules
 pub mod Results
+pub mod Texts
 pub mod Logs

@@ -8,7 +8,8 @@ use Rattle.pk_show.specs.declared.rows.Verdict.TheVariants.{Safe, Unknown, Unrea
 use Rattle.pk_show.specs.Paths.{CallOf}
 use Rattle.pk_findings.specs.Texts.{TextOf, origin_at, file_of}
 use Rattle.pk_findings.specs.Operations.{WayOf, OperationOf}
-use Rattle.pk_findings.specs.Words.{verdict_of, message as said_of}
+use Rattle.pk_findings.specs.Words.{verdict_of}
+use Rattle.pk_findings.specs.Messages.{message as said_of}
 use Rattle.serde_json.specs.Data.{Data, string, array, object, item, no_items, member, no_members}
 use Rattle.serde_json.specs.View.{items_of}
 use Rattle.pk_sarif.specs.Objects.{message, physical_location, location, step}
@@ -29,7 +30,7 @@ call_steps t caller (c ∷ calls) = step (place t c.at) (call_said caller c.name
 -- the calls that lead to an operation, and the operation with the range that was found there
 abbrev pub steps : TextOf → OperationOf → WayOf → (lo hi : ℤ) → List Data
 steps t o w lo hi =
-    call_steps t w.path.entry w.path.calls ++ step (place t o.at) (said_of o.fault lo hi) ∷ []
+    call_steps t w.path.entry w.path.calls ++ step (place t o.at) (said_of t o lo hi) ∷ []
 
 -- a code flow (3.36), which has one thread (3.37)
 abbrev pub flow : List Data → Data
@@ -50,7 +51,7 @@ result_with t o lo hi =
     object (member (codes "codeFlows") (array (items_of (flows t o)))
     (member (codes "level") level
     (member (codes "locations") (array (item (location (place t o.at)) no_items))
-    (member (codes "message") (message (said_of o.fault lo hi))
+    (member (codes "message") (message (said_of t o lo hi))
     (member (codes "ruleId") (string (fault_text o.fault)) no_members)))))
 
 abbrev pub results_by : TextOf → OperationOf → Verdict → List Data

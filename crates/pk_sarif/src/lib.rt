@@ -5,5 +5,6 @@ mod logs;
 mod objects;
 mod results;
 mod rules;
+mod texts;
 
 pub use logs::sarif;

@@ -1,13 +1,18 @@
 // A log: one run of the tool over all texts.
 
-ghost use Rattle.std.specs.Prelude.{◌≡◌, IfOk, map};
-ghost use Rattle.serde_json.specs.View.{view};
+ghost use Rattle.std.specs.Prelude.{◌≡◌, ◌++◌, IfOk, OnOk, false, map};
+ghost use Rattle.serde_json.specs.Data.{array};
+ghost use Rattle.serde_json.specs.View.{items_of, view};
 ghost use Rattle.serde_json.specs.Written.{compact_text};
-ghost use Rattle.pk_sarif.specs.Logs.{properties, artifact, refused_at, notification, invocation, all_results, run, log};
+ghost use Rattle.pk_sarif.specs.Rules.{tool};
+ghost use Rattle.pk_sarif.specs.Texts.{listed, is_later};
+ghost use Rattle.pk_sarif.specs.Results.{results};
+ghost use Rattle.pk_sarif.specs.Logs.{properties, artifact, refused_at, notification, invocation, all_results, log};
 
 use crate::objects::{artifact_location, location, message};
-use crate::results::{add_results, place};
+use crate::results::{place, write_results};
 use crate::rules::tool;
+use crate::texts::{write, write_value};
 use pk_ctypes::Pos;
 use pk_findings::{Refused, Shown, Text, counts_of};
 use pk_show::Counts;
@@ -82,42 +87,63 @@ fn invocation(alloc: Global, refused: &[Refused<'_>]) -> Result<Value, AllocErro
     json!(in alloc; {"executionSuccessful": is_successful, "toolExecutionNotifications": notifications})
 }
 
-// The results of all texts.
-fn all_results(alloc: Global, shown: &[Shown<'_>]) -> Result<Vec<Value>, AllocError>
-    ensures { IfOk result (λ vs. map view vs.items ≡ all_results shown.now) }
+// Writes the results of a text.
+fn write_results_of(
+    alloc: Global,
+    bytes: &mut Vec<u8>,
+    later: bool,
+    shown: &Shown<'_>,
+) -> Result<bool, AllocError>
+    ensures text { OnOk result (bytes.new.items
+        ≡ bytes.old.items ++ listed later (results shown.now.text shown.now.operations)) }
+    ensures later { IfOk result (λ b. b ≡ is_later later (results shown.now.text shown.now.operations)) }
 {
-    let mut results = Vec::new(alloc);
-    for k in 0..shown.len() {
-        let shown = &shown[k];
-        add_results(alloc, &mut results, &shown.text, &shown.operations)?;
-    }
-    Ok(results)
+    write_results(alloc, bytes, later, &shown.text, &shown.operations)
 }
 
-fn run(alloc: Global, shown: &[Shown<'_>], refused: &[Refused<'_>]) -> Result<Value, AllocError>
-    ensures { IfOk result (λ v. view v ≡ run shown.now refused.now) }
+// Writes the results of all texts.
+fn write_all_results(
+    alloc: Global,
+    bytes: &mut Vec<u8>,
+    shown: &[Shown<'_>],
+) -> Result<(), AllocError>
+    ensures { OnOk result (bytes.new.items ≡ bytes.old.items ++ listed false (all_results shown.now)) }
+{
+    let mut later = false;
+    for k in 0..shown.len() {
+        later = write_results_of(alloc, bytes, later, &shown[k])?;
+    }
+    Ok(())
+}
+
+fn write_artifacts(
+    alloc: Global,
+    bytes: &mut Vec<u8>,
+    shown: &[Shown<'_>],
+) -> Result<(), AllocError>
+    ensures { OnOk result (
+        bytes.new.items ≡ bytes.old.items ++ compact_text (array (items_of (map artifact shown.now)))) }
 {
     let artifacts = Value::Array(artifacts(alloc, shown)?);
-    let invocation = invocation(alloc, refused)?;
-    let results = Value::Array(all_results(alloc, shown)?);
-    let tool = tool(alloc)?;
-    json!(in alloc; {
-        "tool": tool,
-        "artifacts": artifacts,
-        "invocations": [invocation],
-        "results": results
-    })
+    write_value(alloc, bytes, &artifacts)
 }
 
-fn log(alloc: Global, shown: &[Shown<'_>], refused: &[Refused<'_>]) -> Result<Value, AllocError>
-    ensures { IfOk result (λ v. view v ≡ log shown.now refused.now) }
+fn write_invocation(
+    alloc: Global,
+    bytes: &mut Vec<u8>,
+    refused: &[Refused<'_>],
+) -> Result<(), AllocError>
+    ensures { OnOk result (bytes.new.items ≡ bytes.old.items ++ compact_text (invocation refused.now)) }
 {
-    let run = run(alloc, shown, refused)?;
-    json!(in alloc; {
-        "$schema": "https://json.schemastore.org/sarif-2.1.0.json",
-        "version": "2.1.0",
-        "runs": [run]
-    })
+    let invocation = invocation(alloc, refused)?;
+    write_value(alloc, bytes, &invocation)
+}
+
+fn write_tool(alloc: Global, bytes: &mut Vec<u8>) -> Result<(), AllocError>
+    ensures { OnOk result (bytes.new.items ≡ bytes.old.items ++ compact_text tool) }
+{
+    let tool = tool(alloc)?;
+    write_value(alloc, bytes, &tool)
 }
 
 /// The log of what was found in texts, and of texts that were refused.
@@ -128,6 +154,17 @@ pub fn sarif(
 ) -> Result<Vec<u8>, AllocError>
     ensures { IfOk result (λ bytes. bytes.items ≡ compact_text (log shown.now refused.now)) }
 {
-    let log = log(alloc, shown, refused)?;
-    log.to_vec(alloc)
+    let mut bytes = Vec::from_slice(
+        alloc,
+        b"{\"$schema\":\"https://json.schemastore.org/sarif-2.1.0.json\",\"runs\":[{\"artifacts\":",
+    )?;
+    write_artifacts(alloc, &mut bytes, shown)?;
+    write(&mut bytes, b",\"invocations\":[")?;
+    write_invocation(alloc, &mut bytes, refused)?;
+    write(&mut bytes, b"],\"results\":[")?;
+    write_all_results(alloc, &mut bytes, shown)?;
+    write(&mut bytes, b"],\"tool\":")?;
+    write_tool(alloc, &mut bytes)?;
+    write(&mut bytes, b"}],\"version\":\"2.1.0\"}")?;
+    Ok(bytes)
 }

@@ -1,14 +1,17 @@
 // The results: one for each operation that is unknown.
 
 ghost use Rattle.std.specs.Prelude.{◌≡◌, ◌++◌, IfOk, OnOk, map};
-ghost use Rattle.pk_findings.specs.Words.{verdict_of, message as said_of};
+ghost use Rattle.pk_findings.specs.Words.{verdict_of};
+ghost use Rattle.pk_findings.specs.Messages.{message as said_of};
 ghost use Rattle.serde_json.specs.View.{view};
 ghost use Rattle.pk_sarif.specs.Objects.{message, location, step};
+ghost use Rattle.pk_sarif.specs.Texts.{listed, is_later};
 ghost use Rattle.pk_sarif.specs.Results.{place, call_said, call_steps, steps, flow, flows_by, flows, result_with, results_by, results};
 
 use crate::objects::{location, message, physical_location, step};
 use crate::rules::{level, rule_name};
-use pk_ctypes::{Fault, Pos};
+use crate::texts::write_item;
+use pk_ctypes::Pos;
 use pk_findings::{Operation, Text, Way, file_of, origin_at, verdict_of, write_message};
 use pk_show::{Path, Verdict};
 use serde_json::{Value, json, push};
@@ -61,11 +64,17 @@ fn call_steps(alloc: Global, text: &Text<'_>, path: &Path<'_>) -> Result<Vec<Val
     Ok(steps)
 }
 
-fn said_of(alloc: Global, fault: Fault, lo: i128, hi: i128) -> Result<Vec<u8>, AllocError>
-    ensures { IfOk result (λ said. said.items ≡ said_of fault lo hi) }
+fn said_of(
+    alloc: Global,
+    text: &Text<'_>,
+    operation: &Operation<'_>,
+    lo: i128,
+    hi: i128,
+) -> Result<Vec<u8>, AllocError>
+    ensures { IfOk result (λ said. said.items ≡ said_of text.now operation.now lo hi) }
 {
     let mut said = Vec::new(alloc);
-    write_message(&mut said, fault, lo, hi)?;
+    write_message(&mut said, text, operation, lo, hi)?;
     Ok(said)
 }
 
@@ -77,9 +86,9 @@ fn last_step(
     hi: i128,
 ) -> Result<Value, AllocError>
     ensures { IfOk result (λ v.
-        view v ≡ step (place text.now operation.now.at) (said_of operation.now.fault lo hi)) }
+        view v ≡ step (place text.now operation.now.at) (said_of text.now operation.now lo hi)) }
 {
-    let said = said_of(alloc, operation.fault, lo, hi)?;
+    let said = said_of(alloc, text, operation, lo, hi)?;
     let place = place(alloc, text, operation.at)?;
     step(alloc, place, &said)
 }
@@ -155,10 +164,16 @@ fn place_of_result(
     location(alloc, place)
 }
 
-fn message_of(alloc: Global, fault: Fault, lo: i128, hi: i128) -> Result<Value, AllocError>
-    ensures { IfOk result (λ v. view v ≡ message (said_of fault lo hi)) }
+fn message_of(
+    alloc: Global,
+    text: &Text<'_>,
+    operation: &Operation<'_>,
+    lo: i128,
+    hi: i128,
+) -> Result<Value, AllocError>
+    ensures { IfOk result (λ v. view v ≡ message (said_of text.now operation.now lo hi)) }
 {
-    let said = said_of(alloc, fault, lo, hi)?;
+    let said = said_of(alloc, text, operation, lo, hi)?;
     message(alloc, &said)
 }
 
@@ -173,7 +188,7 @@ fn result_with(
 {
     let flows = Value::Array(flows(alloc, text, operation)?);
     let location = place_of_result(alloc, text, operation)?;
-    let message = message_of(alloc, operation.fault, lo, hi)?;
+    let message = message_of(alloc, text, operation, lo, hi)?;
     let level = level(alloc)?;
     let rule = rule_name(alloc, operation.fault)?;
     json!(in alloc; {
@@ -185,37 +200,45 @@ fn result_with(
     })
 }
 
-fn add_result(
+// Writes the result of an operation, if it is unknown, and tells whether a result stands there then.
+fn write_result(
     alloc: Global,
-    list: &mut Vec<Value>,
+    bytes: &mut Vec<u8>,
+    later: bool,
     text: &Text<'_>,
     operation: &Operation<'_>,
-) -> Result<(), AllocError>
-    ensures { OnOk result (map view list.new.items
-        ≡ map view list.old.items ++ results_by text.now operation.now (verdict_of operation.now)) }
+) -> Result<bool, AllocError>
+    ensures text { OnOk result (bytes.new.items
+        ≡ bytes.old.items ++ listed later (results_by text.now operation.now (verdict_of operation.now))) }
+    ensures later { IfOk result (λ b.
+        b ≡ is_later later (results_by text.now operation.now (verdict_of operation.now))) }
 {
     match verdict_of(operation) {
-        Verdict::Safe => Ok(()),
+        Verdict::Safe => Ok(later),
         Verdict::Unknown(lo, hi) => {
             let result = result_with(alloc, text, operation, lo, hi)?;
-            push(list, result)
+            write_item(alloc, bytes, later, &result)?;
+            Ok(true)
         }
-        Verdict::Unreachable => Ok(()),
+        Verdict::Unreachable => Ok(later),
     }
 }
 
-/// Adds the results of operations: one for each that is unknown, in order.
-pub(crate) fn add_results(
+/// Writes the results of operations, one for each that is unknown, in order, and tells whether a result stands there then.
+pub(crate) fn write_results(
     alloc: Global,
-    list: &mut Vec<Value>,
+    bytes: &mut Vec<u8>,
+    later: bool,
     text: &Text<'_>,
     operations: &[Operation<'_>],
-) -> Result<(), AllocError>
-    ensures { OnOk result (map view list.new.items
-        ≡ map view list.old.items ++ results text.now operations.now) }
+) -> Result<bool, AllocError>
+    ensures text { OnOk result (bytes.new.items
+        ≡ bytes.old.items ++ listed later (results text.now operations.now)) }
+    ensures later { IfOk result (λ b. b ≡ is_later later (results text.now operations.now)) }
 {
+    let mut there = later;
     for k in 0..operations.len() {
-        add_result(alloc, list, text, &operations[k])?;
+        there = write_result(alloc, bytes, there, text, &operations[k])?;
     }
-    Ok(())
+    Ok(there)
 }

@@ -10,7 +10,7 @@ use itoa::Buffer;
 use pk_ctypes::{Fault, Pos};
 
 /// Whether these are the same bytes.
-pub(crate) fn is_same(text: &[u8], other: &[u8]) -> bool
+pub fn is_same(text: &[u8], other: &[u8]) -> bool
     ensures { result ≡ same text.now other.now }
 {
     text == other
@@ -26,7 +26,7 @@ pub fn strip<'t>(text: &'t [u8], literal: &[u8]) -> Option<&'t [u8]>
 }
 
 /// Whether this is the first byte.
-pub(crate) fn is_first(literal: &[u8], b: u8) -> bool
+pub fn is_first(literal: &[u8], b: u8) -> bool
     ensures { result ≡ begins_with b literal.now }
 {
     match literal {
@@ -89,7 +89,7 @@ fn magnitude(text: &[u8]) -> Option<u128>
 
 /// The count that a text is.
 #[tactic(auto, unfolding(crate::specs::Pieces::count_in))]
-pub(crate) fn count(text: &[u8]) -> Option<u64>
+pub fn count(text: &[u8]) -> Option<u64>
     ensures { result ≡ count_in text.now }
 {
     let number = magnitude(text)?;
@@ -113,7 +113,7 @@ fn negated(number: u128) -> Option<i128>
 
 /// The number that a text is.
 #[tactic(auto, unfolding(crate::specs::Pieces::signed_in))]
-pub(crate) fn signed(text: &[u8]) -> Option<i128>
+pub fn signed(text: &[u8]) -> Option<i128>
     ensures { result ≡ signed_in text.now }
 {
     if is_first(text, b'-') {
@@ -129,7 +129,8 @@ fn is_letter_byte(b: u8) -> bool
     (b'a' <= b && b <= b'z') || (b'A' <= b && b <= b'Z') || b == b'_'
 }
 
-fn is_part_byte(b: u8) -> bool
+/// Whether a byte may stand in an identifier.
+pub fn is_part_byte(b: u8) -> bool
     ensures { result ≡ is_part b }
 {
     is_letter_byte(b) || (b'0' <= b && b <= b'9')
@@ -143,7 +144,7 @@ fn are_parts(text: &[u8]) -> bool
 
 /// Whether a text is an identifier.
 #[tactic(auto, unfolding(crate::specs::Pieces::is_identifier))]
-pub(crate) fn is_name(text: &[u8]) -> bool
+pub fn is_name(text: &[u8]) -> bool
     ensures { result ≡ is_identifier text.now }
 {
     match text {

@@ -27,7 +27,7 @@ pub enum Row<'t> {
 
 /// Of what kind a line is.
 #[derive(Clone, Copy)]
-pub(crate) enum Kind {
+pub enum Kind {
     Opening,
     Heading,
     NoRun,
@@ -37,7 +37,8 @@ pub(crate) enum Kind {
     Counts,
 }
 
-fn kind_of(row: &Row<'_>) -> Kind
+/// The kind of a row.
+pub fn kind_of(row: &Row<'_>) -> Kind
     ensures { result ≡ kind_of row.now }
 {
     match row {
@@ -160,8 +161,8 @@ fn is_counts(kind: Kind) -> bool
     matches!(kind, Kind::Counts)
 }
 
-// Whether a line is the first, or may follow the one before it.
-fn may_stand(before: Option<Kind>, next: Kind) -> bool
+/// Whether a line is the first, or may follow the one before it.
+pub fn may_stand(before: Option<Kind>, next: Kind) -> bool
     ensures { result ≡ may_stand before next }
 {
     match before {
@@ -229,9 +230,9 @@ impl From<AllocError> for ReadError {
     }
 }
 
-// The row that a line is, where it may stand behind the one before it.
+/// The row that a line is, where it may stand behind the one before it.
 #[tactic(auto, unfolding(crate::specs::Reports::next_in))]
-fn next_row<'t>(
+pub fn next_row<'t>(
     alloc: Global,
     before: Option<Kind>,
     line: &'t [u8],

@@ -9,8 +9,9 @@ use Rattle.std.proofs.lemmas.List.FromFn.{get_or-range_with_len, length-range_wi
 use Rattle.std.proofs.lemmas.List.Sums.{count_by-le-length}
 use Rattle.pk_graph.specs.declared.verdicts.Verdict.{Verdict}
 use Rattle.pk_graph.specs.Accesses.{AccessOf}
+use Rattle.pk_graph.specs.declared.graphs.Entry.{Entry}
 use Rattle.pk_graph.specs.Graphs.{VariableOf, GraphOf, point_at, variable_at}
-use Rattle.pk_graph.specs.Visible.{Names, with_name, is_new, name_at, not_hidden, no_name, is_of_file, visible_at}
+use Rattle.pk_graph.specs.Visible.{Names, with_name, is_new, is_shown, name_at, not_hidden, no_name, is_of_file, visible_at}
 use Rattle.pk_octmat.specs.Octagon.{entry}
 use Rattle.pk_value.specs.Known.{Known}
 use Rattle.pk_state.specs.Layouts.{Layout, place_in}
@@ -38,17 +39,22 @@ new_is_named : (m : Option (List ℕ)) (has : Names) → is_new m has ≡ true �
 new_is_named None has e = e
 new_is_named (Some m) has e = refl
 
-named_only : (vs : List VariableOf) (has : Names) (xs : List ℕ) → All (λ x. is_some (name_at vs x) ≡ true) (not_hidden vs has xs)
+shown_is_named : (m : Option (List ℕ)) (hides : Bool) (has : Names) → is_shown m hides has ≡ true → is_some m ≡ true
+shown_is_named m true has e = absurd (cc e)
+shown_is_named m false has e = new_is_named m has e
+
+named_only : (vs : List VariableOf) (has : Names) (es : List Entry) → All (λ x. is_some (name_at vs x) ≡ true) (not_hidden vs has es)
 unfolding not_hidden
 named_only vs has [] = All-nil (λ x. is_some (name_at vs x) ≡ true)
-named_only vs has (x ∷ xs) = by_test (is_new (name_at vs x) has) refl (named_only vs (with_name (name_at vs x) has) xs)
+named_only vs has (e ∷ es) = by_test (is_shown (name_at vs e.variable) e.hides has) refl (named_only vs (with_name (name_at vs e.variable) has) es)
   where
-    by_test : (t : Bool) → t ≡ is_new (name_at vs x) has →
-        All (λ x. is_some (name_at vs x) ≡ true) (not_hidden vs (with_name (name_at vs x) has) xs) →
-        All (λ x. is_some (name_at vs x) ≡ true) (cond t (x ∷ not_hidden vs (with_name (name_at vs x) has) xs) (not_hidden vs (with_name (name_at vs x) has) xs))
-    by_test true e rest =
-        All-cons (λ x. is_some (name_at vs x) ≡ true) x (not_hidden vs (with_name (name_at vs x) has) xs) (new_is_named (name_at vs x) has (sym e)) rest
-    by_test false e rest = rest
+    by_test : (t : Bool) → t ≡ is_shown (name_at vs e.variable) e.hides has →
+        All (λ x. is_some (name_at vs x) ≡ true) (not_hidden vs (with_name (name_at vs e.variable) has) es) →
+        All (λ x. is_some (name_at vs x) ≡ true) (cond t (e.variable ∷ not_hidden vs (with_name (name_at vs e.variable) has) es) (not_hidden vs (with_name (name_at vs e.variable) has) es))
+    by_test true is rest =
+        All-cons (λ x. is_some (name_at vs x) ≡ true) e.variable (not_hidden vs (with_name (name_at vs e.variable) has) es)
+        (shown_is_named (name_at vs e.variable) e.hides has (sym is)) rest
+    by_test false is rest = rest
 
 All-reversed : {A : Type 0} (P : A → Type 0) (xs : List A) → All P xs → All P (reverse xs)
 All-reversed P [] all = all

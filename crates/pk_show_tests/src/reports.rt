@@ -1,10 +1,13 @@
 // Reports that the program wrote, and what is shown of them; the findings were written by hand, from the sources.
 
-use pk_findings::{ShowError, look, refusal};
+use pk_ctypes::Pos;
+use pk_findings::{ShowError, look, place_number, refusal, with_lengths};
 use pk_listing::{Source, listing, refusals};
 use pk_origin::lines;
 use pk_show::{ReadError, read};
+use pk_wrong_byte::first_wrong_byte;
 use std::alloc::Global;
+use std::collections::HashMap;
 use std::process::Abort;
 use std::test::Fail;
 
@@ -57,7 +60,7 @@ result safe 11 unknown 1 unreachable 0
 "###;
 
 const TABLE_FINDINGS: &str =
-    "examples/table.c:10:21: unknown [index]: the index may be out of bounds: it lies in [1,9]
+    "examples/table.c:10:21: unknown [index]: table[at + 1] may be out of bounds: the index is in [1,9], the array has 9 elements
         int high = table[at + 1];
                         ^
     in look_up, called from main (examples/table.c:17:12)
@@ -87,7 +90,7 @@ result safe 2 unknown 2 unreachable 0
 "###;
 
 const TWO_WAYS_FINDINGS: &str =
-    "standard input:4:10: unknown [index]: the index may be out of bounds: it lies in [0,12]
+    "standard input:4:10: unknown [index]: a[i] may be out of bounds: the index is in [0,12]
     \treturn a[i];
     \t        ^
     in at, called from main (standard input:9:12): [0,9]
@@ -257,9 +260,31 @@ fn expect(
     Ok(())
 }
 
+// The same, with the length of the array that is accessed at a place.
+fn told_measured(
+    alloc: Global,
+    text: &str,
+    report: &str,
+    at: Pos,
+    length: u64,
+) -> Result<Vec<u8>, Fail> {
+    let mut lengths = HashMap::new(alloc);
+    lengths.insert(place_number(at), length)?;
+    match look(alloc, b"standard input", text.as_bytes(), report.as_bytes()) {
+        Ok(shown) => Ok(listing(alloc, &[], false, &[with_lengths(alloc, &lengths, shown)?])?),
+        Err(_) => Err(Fail::from("the report is on the text")),
+    }
+}
+
 #[test]
 fn table_at_its_origins(rt: HostRuntime) -> Result<(), Fail> {
-    expect(&rt, rt.alloc(), TABLE, TABLE_REPORT, TABLE_FINDINGS)
+    let at = Pos {
+        line: 21,
+        column: 21,
+    };
+    let bytes = told_measured(rt.alloc(), TABLE, TABLE_REPORT, at, 9)?;
+    assert!(rt; bytes.as_slice() == TABLE_FINDINGS.as_bytes());
+    Ok(())
 }
 
 #[test]
@@ -343,35 +368,75 @@ fn a_report_that_is_cut_is_refused(rt: HostRuntime) -> Result<(), Fail> {
     Ok(())
 }
 
-// What stands for a piece of the report above, and is none.
-const WRONG: [(&str, &str); 16] = [
-    ("pikos 1", "pikos 2"),
-    ("points 40", "points 040"),
-    ("elements 44", "elements +44"),
-    ("main>f@4:2>g@30:12 1", "main>f@4:2>@30:12 1"),
-    ("main>f@4:2>g@30:12 1", "main>f@4:2>g 1"),
-    ("18446744073709551615:1", "18446744073709551616:1"),
-    ("payload[]", "payload[2]"),
-    ("  length [0,32]", " length [0,32]"),
-    ("[0,32]", "[-0,32]"),
-    ("2Z+1", "2Z1"),
-    ("length + i <= 4", "length * i <= 4"),
-    ("-length - i", "-length + i"),
-    ("point 21 main 3:1\n", "point 21 main 3:1\n\n"),
-    ("  unreachable\n", "  unreachable\n  x [0,1] 1Z+0\n"),
-    ("shift unknown", "shifts unknown"),
+// What stands for a piece of the report above, and is none; and what of it is right still.
+const WRONG: [(&str, &str, &str); 16] = [
+    ("pikos 1", "pikos 2", "pikos "),
+    ("points 40", "points 040", "points 0"),
+    ("elements 44", "elements +44", "elements "),
+    ("main>f@4:2>g@30:12 1", "main>f@4:2>@30:12 1", "main>f@4:2>"),
+    ("main>f@4:2>g@30:12 1", "main>f@4:2>g 1", "main>f@4:2>g"),
+    (
+        "18446744073709551615:1",
+        "18446744073709551616:1",
+        "1844674407370955161",
+    ),
+    ("payload[]", "payload[2]", "payload["),
+    ("  length [0,32]", " length [0,32]", " "),
+    ("[0,32]", "[-0,32]", "[-"),
+    ("2Z+1", "2Z1", "2Z"),
+    ("length + i <= 4", "length * i <= 4", "length "),
+    ("-length - i", "-length + i", "-length "),
+    (
+        "point 21 main 3:1\n",
+        "point 21 main 3:1\n\n",
+        "point 21 main 3:1\n",
+    ),
+    (
+        "  unreachable\n",
+        "  unreachable\n  x [0,1] 1Z+0\n",
+        "  unreachable\n",
+    ),
+    ("shift unknown", "shifts unknown", "shift"),
     (
         "unreachable 1\n",
         "unreachable 1\nresult safe 0 unknown 1 unreachable 1\n",
+        "unreachable 1\n",
     ),
 ];
 
 #[test]
 fn a_report_with_a_wrong_piece_is_refused(rt: HostRuntime) -> Result<(), Fail> {
-    for (piece, wrong) in &WRONG {
+    for (piece, wrong, _) in &WRONG {
         let (front, back) = FORMS.split_once(*piece).ok_or("the report has the piece")?;
         let report = format!(in rt.alloc(); "{front}{wrong}{back}")?;
         assert!(rt; !is_read(rt.alloc(), report.as_bytes())?, "{wrong}");
+    }
+    Ok(())
+}
+
+// How many bytes stand behind the last newline.
+fn last_length(text: &[u8]) -> usize {
+    text.iter().rev().take_while(|b| **b != b'\n').count()
+}
+
+#[test]
+fn a_wrong_piece_goes_wrong_at_its_first_wrong_byte(rt: HostRuntime) -> Result<(), Fail> {
+    for (piece, wrong, right) in &WRONG {
+        let (front, back) = FORMS.split_once(*piece).ok_or("the report has the piece")?;
+        let report = format!(in rt.alloc(); "{front}{wrong}{back}")?;
+        let before = format!(in rt.alloc(); "{front}{right}")?;
+        let byte = first_wrong_byte(rt.alloc(), report.as_bytes())?;
+        assert!(rt; byte == last_length(before.as_bytes()), "{wrong}");
+    }
+    Ok(())
+}
+
+#[test]
+fn a_report_that_is_cut_goes_wrong_at_its_end(rt: HostRuntime) -> Result<(), Fail> {
+    let report = FORMS.as_bytes();
+    for end in 0..report.len() {
+        let front = &report[..end];
+        assert!(rt; first_wrong_byte(rt.alloc(), front)? == last_length(front));
     }
     Ok(())
 }

@@ -1,5 +1,5 @@
 -- Facts that are settled are their own reduction, and stay so where a value outside the octagon is written.
-use Rattle.std.specs.Prelude.{◌≡◌, ◌≢◌, ◌⊎◌, ℕ, zero, suc, ◌+◌, ◌<◌, true, List, [], length, Option, Some, None}
+use Rattle.std.specs.Prelude.{◌≡◌, ◌≢◌, ◌⊎◌, ℕ, zero, suc, ◌+◌, ◌<◌, List, [], length, Option, Some, None}
 use Rattle.std.proofs.Common.{◌∙◌, ap, refl, sym, arith, inl, inr, set, length-set}
 use Rattle.std.proofs.lemmas.Bool.{cases_eq}
 use Rattle.pk_value.specs.Known.{Known}
@@ -9,7 +9,9 @@ use Rattle.pk_octclose.specs.Places.{closing_of}
 use Rattle.pk_state.specs.Layouts.{Layout, chosen_at}
 use Rattle.pk_state.specs.Facts.{Facts, known_at, AreValues, AreFactsIf}
 use Rattle.pk_state.specs.Reduced.{then_with, red_all, by_range, by_ranges, bounded_by, bounded_at, bounded_all, with_closed, reduced_facts, reduced}
-use Rattle.pk_state.specs.Marks.{IsListed, AreMarked, IsClosedIf, AreSettled}
+use Rattle.pk_octmarks.specs.Marks.{IsMarked}
+use Rattle.pk_octmarks.specs.declared.mark.Mark.TheVariants.{Closed}
+use Rattle.pk_state.specs.Marks.{IsListed, AreMarked, AreSettled}
 use Rattle.pk_state.specs.Changes.{IsApart, with_known}
 use Rattle.pk_state.proofs.Bounded.{known_same, known_other}
 use Rattle.pk_state.proofs.Closings.{own_closing}
@@ -40,7 +42,7 @@ closed_rests l vs m a t h =
     ∙ ap (λ o. then_with o (λ us. let r : Facts = record { values = us; octagon = m } in Some r)) (tight_reduce l vs a t)
 
 -- the reduction where the values lower no bound of a closed octagon
-pub resting_reduction : (l : Layout) (f : Facts) (vs : List Known) → Some vs ≡ red_all f.values → IsOctagon f.octagon → IsClosedIf true f.octagon
+pub resting_reduction : (l : Layout) (f : Facts) (vs : List Known) → Some vs ≡ red_all f.values → IsOctagon f.octagon → IsMarked Closed f.octagon
     → ((k : ℕ) → k < length l.chosen → by_range f.octagon k (known_at vs (chosen_at l k)).range ≡ f.octagon) → with_closed l vs f.octagon ≡ reduced_facts l f
 resting_reduction l f vs e o c h =
     ap (λ p. then_with p (with_closed l vs)) (own_closing f.octagon (by_ranges l vs (length l.chosen) f.octagon) o c (none_lowers l vs (length l.chosen) f.octagon h))

@@ -10,7 +10,7 @@ ghost use Rattle.pk_state.specs.Changes.{IsValue, IsApart, known_in, bound_in, w
 use crate::facts::Facts;
 use crate::frame::Frame;
 use crate::marks::{is_tight, put_marked};
-use crate::octagons::{is_obeyed, keeps_closed, shared};
+use crate::octagons::{is_obeyed, shared};
 use crate::state::State;
 use pk_ctypes::IntType;
 use pk_octmat::Shape;
@@ -57,7 +57,7 @@ fn write_if(
                 values,
                 octagon: facts.octagon,
                 loose,
-                closed: facts.closed,
+                mark: facts.mark,
             }))
         }
     }
@@ -100,12 +100,12 @@ fn assign_if(
         None => Ok(None),
         Some(facts) => {
             let m = assign(&facts.octagon, k, term, c)?;
-            let closed = keeps_closed(&facts.octagon, facts.closed, k, term);
+            let mark = facts.mark.assigned(&facts.octagon, k, term);
             Ok(Some(Facts {
                 octagon: shared(alloc, &facts.octagon, m)?,
                 values: facts.values,
                 loose: facts.loose,
-                closed,
+                mark,
             }))
         }
     }
@@ -131,7 +131,7 @@ fn guard_if(
             match guard(&mut m, a, b, c) {
                 Shape::Empty => Ok(None),
                 Shape::Kept => Ok(Some(Facts {
-                    closed: false,
+                    mark: facts.mark.guarded(a, b),
                     octagon: Arc::new(alloc, m)?,
                     values: facts.values,
                     loose: facts.loose,

@@ -9,7 +9,9 @@ ghost use Rattle.pk_state.specs.Facts.{AreFacts, AreValues, AreWithin, joined_va
 ghost use Rattle.pk_octmat.specs.Octagon.{octagon_of, top_bound};
 ghost use Rattle.pk_value.specs.Known.{any_of};
 ghost use Rattle.pk_state.specs.Layouts.{chosen_at};
-ghost use Rattle.pk_state.specs.Marks.{AreMarked, IsClosedIf, IsSettledIf};
+ghost use Rattle.pk_octmarks.specs.Marks.{IsMarked};
+ghost use Rattle.pk_octmarks.specs.declared.mark.Mark.TheVariants.{Closed};
+ghost use Rattle.pk_state.specs.Marks.{AreMarked, IsSettledIf};
 ghost use Rattle.pk_state.specs.Reduced.{by_range, reduced_facts, with_closed};
 
 use crate::frame::Frame;
@@ -20,6 +22,7 @@ use crate::values::{
 };
 use pk_blocks::Blocks;
 use pk_ctypes::IntType;
+use pk_octmarks::Mark;
 use pk_octmat::Matrix;
 use pk_octops::leq;
 use pk_value::Value;
@@ -33,20 +36,21 @@ pub(crate) struct Facts {
     pub(crate) octagon: Arc<Matrix>,
     // The values that may be loose: every other one is tight.
     pub(crate) loose: Vec<usize>,
-    // Whether the octagon is known to be closed.
-    pub(crate) closed: bool,
+    // What is known of the octagon.
+    pub(crate) mark: Mark,
 }
 
 impl Model for Facts {
     ghost use Rattle.std.specs.Arc.{arc_value};
     ghost use Rattle.pk_state.specs.Facts.{Facts};
-    ghost use Rattle.pk_state.specs.Marks.{AreMarked, IsClosedIf};
+    ghost use Rattle.pk_octmarks.specs.Marks.{IsMarked};
+    ghost use Rattle.pk_state.specs.Marks.{AreMarked};
 
     ghost Value = { Facts };
 
     ghost view = { λ f. record { values = f.values; octagon = arc_value f.octagon } };
 
-    ghost invariant = { λ f. AreMarked f.values f.loose.items × IsClosedIf f.closed (arc_value f.octagon) };
+    ghost invariant = { λ f. AreMarked f.values f.loose.items × IsMarked f.mark (arc_value f.octagon) };
 }
 
 // No bounds on n variables.
@@ -79,7 +83,7 @@ pub(crate) fn top_facts(alloc: Global, frame: &Frame) -> Result<Facts, AllocErro
         values: top_values(alloc, frame)?,
         octagon: Arc::new(alloc, top_octagon(alloc, frame.octagon_len())?)?,
         loose: every(alloc, frame.len())?,
-        closed: false,
+        mark: Mark::Unknown,
     })
 }
 
@@ -91,15 +95,8 @@ pub(crate) fn copy_facts(alloc: Global, f: &Facts) -> Result<Facts, AllocError>
         values: f.values.copy(alloc)?,
         octagon: Arc::try_clone(&f.octagon)?,
         loose: Vec::from_slice(alloc, &f.loose)?,
-        closed: f.closed,
+        mark: f.mark,
     })
-}
-
-// Whether both are so.
-fn are_both(a: bool, b: bool) -> bool
-    ensures { result ≡ true → (a ≡ true) × (b ≡ true) }
-{
-    a && b
 }
 
 pub(crate) fn join_facts(
@@ -120,7 +117,7 @@ pub(crate) fn join_facts(
         values: join_values(alloc, &a.values, &b.values)?,
         octagon: join_shared(alloc, &a.octagon, &b.octagon)?,
         loose: either(alloc, &a.loose, &b.loose, frame.len())?,
-        closed: are_both(a.closed, b.closed),
+        mark: a.mark.joined(b.mark),
     })
 }
 
@@ -152,7 +149,7 @@ pub(crate) fn widen_facts(
         )?,
         octagon: widen_shared(alloc, &held.octagon, &next.octagon)?,
         loose: at_most(alloc, loose, frame.len())?,
-        closed: false,
+        mark: Mark::Unknown,
     })
 }
 
@@ -175,7 +172,7 @@ pub(crate) fn narrow_facts(
         values: narrow_values(alloc, &held.values, &next.values, frame, &mut loose)?,
         octagon: narrow_shared(alloc, &held.octagon, &next.octagon)?,
         loose: at_most(alloc, loose, frame.len())?,
-        closed: false,
+        mark: Mark::Unknown,
     })
 }
 
@@ -208,7 +205,7 @@ fn with_octagon(
     requires values { AreValues frame.now values }
     requires vars { (arc_value octagon).vars ≡ length frame.now.chosen }
     requires tight { AreMarked values [] }
-    requires closed { IsClosedIf true (arc_value octagon) }
+    requires closed { IsMarked Closed (arc_value octagon) }
     requires rests { rests ≡ true → (k : ℕ) → k < length frame.now.chosen →
         by_range (arc_value octagon) k (known_at values (chosen_at frame.now k)).range ≡ arc_value octagon }
     ensures value { IfOk result (λ r. r.0 ≡ with_closed frame.now values (arc_value octagon)) }
@@ -224,7 +221,7 @@ fn with_octagon(
                 values,
                 octagon,
                 loose,
-                closed: true,
+                mark: Mark::Closed,
             }),
             true,
         ));
@@ -237,20 +234,20 @@ fn with_octagon(
             values,
             octagon,
             loose: Vec::new(alloc),
-            closed: true,
+            mark: Mark::Closed,
         }),
         false,
     ))
 }
 
 // Whether an octagon is closed, and the values lower none of its bounds.
-fn is_at_rest(octagon: &Matrix, closed: bool, values: &Blocks<Value>, frame: &Frame) -> bool
+fn is_at_rest(octagon: &Matrix, mark: Mark, values: &Blocks<Value>, frame: &Frame) -> bool
     requires vars { octagon.now.vars ≡ length frame.now.chosen }
     requires values { AreValues frame.now values.now }
-    ensures { result ≡ true → (closed ≡ true) × ((k : ℕ) → k < length frame.now.chosen →
+    ensures { result ≡ true → (mark ≡ Closed) × ((k : ℕ) → k < length frame.now.chosen →
         by_range octagon.now k (known_at values.now (chosen_at frame.now k)).range ≡ octagon.now) }
 {
-    closed && are_lowered(octagon, values, frame)
+    mark.is_closed() && are_lowered(octagon, values, frame)
 }
 
 /// The reduction, or none where nothing is left; and whether it is marked as settled.
@@ -268,10 +265,10 @@ pub(crate) fn reduce_facts(
         return Ok((None, true));
     }
     f.octagon.is_octagon();
-    if is_at_rest(&f.octagon, f.closed, &values, frame) {
+    if is_at_rest(&f.octagon, f.mark, &values, frame) {
         return with_octagon(alloc, values, f.octagon, true, frame);
     }
-    match close_lowered(alloc, &f.octagon, &values, frame)? {
+    match close_lowered(alloc, &f.octagon, f.mark, &values, frame)? {
         None => Ok((None, true)),
         Some(octagon) => with_octagon(alloc, values, octagon, false, frame),
     }

@@ -9,16 +9,15 @@ ghost use Rattle.pk_state.specs.Facts.{AreValues, known_at};
 ghost use Rattle.pk_octmat.specs.Bounds.{lesser, capped};
 ghost use Rattle.pk_octmat.specs.Octagon.{entry, bar as other};
 ghost use Rattle.pk_octops.specs.Guards.{IsGuard, guard_of};
-ghost use Rattle.pk_octclose.specs.Laws.{IsInside};
 ghost use Rattle.pk_octclose.specs.Places.{closing_of};
-ghost use Rattle.pk_state.specs.Marks.{IsFar, KeepsClosed};
+ghost use Rattle.pk_octmarks.specs.Marks.{IsMarked};
 ghost use Rattle.pk_state.specs.Reduced.{by_range, by_ranges};
 
 use crate::frame::Frame;
 use pk_blocks::Blocks;
 use pk_ctypes::IntType;
 use pk_interval::Interval;
-use pk_octclose::close;
+use pk_octmarks::{Mark, close_marked};
 use pk_octmat::{Bound, Matrix, Shape, bar};
 use pk_octops::{guard, join, leq, narrow, widen};
 use pk_value::Value;
@@ -36,64 +35,6 @@ fn lower(m: &mut Matrix, k: u32, t: IntType, range: &Interval)
     m.is_octagon();
     guard(m, Some(2 * k), None, range.hi);
     guard(m, Some(2 * k + 1), None, -range.lo);
-}
-
-/// Lowers the bounds on the octagon's variables to their ranges.
-pub(crate) fn lower_all(m: &mut Matrix, values: &Blocks<Value>, frame: &Frame)
-    requires vars { m.old.vars ≡ length frame.now.chosen }
-    requires values { AreValues frame.now values.now }
-    ensures value { m.new ≡ by_ranges frame.now values.now (length frame.now.chosen) m.old }
-    ensures vars { m.new.vars ≡ m.old.vars }
-{
-    frame.is_layout();
-    for k in 0..frame.octagon_len() {
-        let x = frame.chosen(k);
-        let value = values.get(x);
-        lower(m, k as u32, frame.int_type(x), &value.interval);
-    }
-}
-
-// Whether a bound is a number far from the cap.
-fn is_inside(bound: Bound) -> bool
-    ensures { result ≡ true → IsInside bound }
-{
-    match bound.number() {
-        None => false,
-        Some(z) => -(1 << 66) < z,
-    }
-}
-
-// Whether each bound on a variable is so.
-fn is_far(m: &Matrix, k: u32) -> bool
-    requires { k < m.now.vars }
-    ensures { result ≡ true → IsFar m.now k }
-{
-    for j in 0..2 * m.vars {
-        if !is_inside(m.bound(2 * k, j)) || !is_inside(m.bound(2 * k + 1, j)) {
-            return false;
-        }
-    }
-    true
-}
-
-// Whether what is closed stays so: where the variable is forgotten, or gains a constant far from the cap.
-fn is_kept(m: &Matrix, k: u32, term: Option<u32>) -> bool
-    requires { k < m.now.vars }
-    ensures { result ≡ true → KeepsClosed m.now k term }
-{
-    m.is_octagon();
-    match term {
-        None => true,
-        Some(t) => t == 2 * k && is_far(m, k),
-    }
-}
-
-/// Whether an octagon that is closed or not is closed behind an assignment.
-pub(crate) fn keeps_closed(m: &Matrix, closed: bool, k: u32, term: Option<u32>) -> bool
-    requires { k < m.now.vars }
-    ensures { result ≡ true → (closed ≡ true) × KeepsClosed m.now k term }
-{
-    closed && is_kept(m, k, term)
 }
 
 // Twice a number, or one past the cap on its side.
@@ -154,6 +95,41 @@ fn is_lowered(m: &Matrix, k: u32, t: IntType, range: &Interval) -> bool
     is_within(m, 2 * k + 1, 2 * k, range.hi) && is_within(m, 2 * k, 2 * k + 1, -range.lo)
 }
 
+// The same, and what is known of the octagon then.
+fn lower_marked(m: &mut Matrix, k: u32, t: IntType, range: &Interval, mark: Mark) -> Mark
+    requires place { k < m.old.vars }
+    requires inside { IsIn t range.now }
+    ensures value { m.new ≡ by_range m.old k range.now }
+    ensures vars { m.new.vars ≡ m.old.vars }
+    ensures marked { IsMarked mark m.old → IsMarked result m.new }
+{
+    if is_lowered(m, k, t, range) {
+        return mark;
+    }
+    m.is_octagon();
+    lower(m, k, t, range);
+    mark.guarded(Some(2 * k), None)
+        .guarded(Some(2 * k + 1), None)
+}
+
+// Lowers the bounds on the octagon's variables to their ranges.
+fn lower_all(m: &mut Matrix, mark: Mark, values: &Blocks<Value>, frame: &Frame) -> Mark
+    requires vars { m.old.vars ≡ length frame.now.chosen }
+    requires values { AreValues frame.now values.now }
+    ensures value { m.new ≡ by_ranges frame.now values.now (length frame.now.chosen) m.old }
+    ensures vars { m.new.vars ≡ m.old.vars }
+    ensures marked { IsMarked mark m.old → IsMarked result m.new }
+{
+    frame.is_layout();
+    let mut known = mark;
+    for k in 0..frame.octagon_len() {
+        let x = frame.chosen(k);
+        let value = values.get(x);
+        known = lower_marked(m, k as u32, frame.int_type(x), &value.interval, known);
+    }
+    known
+}
+
 /// Whether the bounds on all variables are within their ranges already.
 pub(crate) fn are_lowered(m: &Matrix, values: &Blocks<Value>, frame: &Frame) -> bool
     requires vars { m.now.vars ≡ length frame.now.chosen }
@@ -190,17 +166,19 @@ pub(crate) fn shared(
 pub(crate) fn close_lowered(
     alloc: Global,
     octagon: &Arc<Matrix>,
+    mark: Mark,
     values: &Blocks<Value>,
     frame: &Frame,
 ) -> Result<Option<Arc<Matrix>>, AllocError>
     requires vars { (arc_value octagon.now).vars ≡ length frame.now.chosen }
     requires values { AreValues frame.now values.now }
+    requires marked { IsMarked mark (arc_value octagon.now) }
     ensures { IfOk result (λ o. option_map arc_value o
         ≡ closing_of (by_ranges frame.now values.now (length frame.now.chosen) (arc_value octagon.now))) }
 {
     let mut m = octagon.copy()?;
-    lower_all(&mut m, values, frame);
-    match close(&mut m) {
+    let known = lower_all(&mut m, mark, values, frame);
+    match close_marked(&mut m, known) {
         Shape::Empty => Ok(None),
         Shape::Kept => Ok(Some(shared(alloc, octagon, m)?)),
     }

@@ -14,9 +14,9 @@ use Rattle.pk_type_scope.specs.declared.declarations.Typing.{Typing}
 use Rattle.pk_type_scope.specs.declared.failures.Failure.{Failure}
 use Rattle.pk_type_scope.specs.Failures.{noted, fails_if}
 use Rattle.pk_type_scope.specs.Scopes.{Scoping, names_in, spelled}
-use Rattle.pk_type_scope.specs.Specifiers.{type_named, specifiers}
+use Rattle.pk_type_scope.specs.Specifiers.{type_named, word_failures}
 use Rattle.pk_type_declaration.specs.Specials.{special}
-use Rattle.pk_type_declaration.specs.Walks.{Walked, entering, failing, after_name}
+use Rattle.pk_type_declaration.specs.Walks.{Walked, here, entering, failing, after_name}
 use Rattle.pk_type_statement.proofs.KeepLemmas.{Kept, kept_items}
 use Rattle.pk_type.specs.declared.files.Entry.{Entry}
 use Rattle.pk_type.specs.Files.{Filed, on}
@@ -41,7 +41,7 @@ kept_parameters : (ps : List ParameterTree) (w : State) → Kept w.scoping (afte
 unfolding after_parameters
 kept_parameters [] w = same w.scoping
 kept_parameters (p ∷ ps) w =
-    let a = kept_name p p.name (failing noted (specifiers p.specifiers) w) in
+    let a = kept_name p p.name (failing noted (word_failures (here w) p.specifiers) w) in
     let b = kept_parameters ps (after_parameter noted p w) in
     record { text = b.text ∙ a.text; outer = b.outer ∙ a.outer }
 
@@ -69,14 +69,14 @@ ends_positive h q l =
     let b : length (h.walked.scoping.outer ++ h.walked.scoping.inner ∷ []) ≡ length h.walked.scoping.outer + length (h.walked.scoping.inner ∷ []) = length-append h.walked.scoping.outer (h.walked.scoping.inner ∷ []) in
     omega (arith, a, b)
 
-pub function_step : (has : List ℕ → Bool) (f : FunctionTree) (r : Typing) (n : ℕ) (file h e p q g : Files) → h ≡ after_head noted has f file → n ≡ number_of file.functions (names_in file.walked.scoping f.name) → r ≡ type_named f.specifiers →
+pub function_step : (has : List ℕ → Bool) (f : FunctionTree) (r : Typing) (n : ℕ) (file h e p q g : Files) → h ≡ after_head noted has f file → n ≡ number_of file.functions (names_in file.walked.scoping f.name) → r ≡ type_named (here file.walked) f.specifiers →
     e ≡ on entering h → p ≡ on (after_parameters noted f.parameters) e → q ≡ after_optional_body noted r n f.body p → g ≡ leaving_function h q → g ≡ after_function noted has f file
 unfolding after_function
 function_step has f r n file h e p q g a b c x y z k =
     let m = number_of file.functions (names_in file.walked.scoping f.name) in
-    let made : Files → Files = λ v. leaving_function v (after_optional_body noted (type_named f.specifiers) m f.body (on (after_parameters noted f.parameters) (on entering v))) in
-    k ∙ (ap (leaving_function h) (z ∙ (ap (λ t. after_optional_body noted t n f.body p) c ∙ (ap (λ t. after_optional_body noted (type_named f.specifiers) t f.body p) b
-    ∙ ap (after_optional_body noted (type_named f.specifiers) m f.body) (y ∙ ap (on (after_parameters noted f.parameters)) x))))
+    let made : Files → Files = λ v. leaving_function v (after_optional_body noted (type_named (here file.walked) f.specifiers) m f.body (on (after_parameters noted f.parameters) (on entering v))) in
+    k ∙ (ap (leaving_function h) (z ∙ (ap (λ t. after_optional_body noted t n f.body p) c ∙ (ap (λ t. after_optional_body noted (type_named (here file.walked) f.specifiers) t f.body p) b
+    ∙ ap (after_optional_body noted (type_named (here file.walked) f.specifiers) m f.body) (y ∙ ap (on (after_parameters noted f.parameters)) x))))
     ∙ ap made a)
 
 pub entries_push : (xs : List Entry) (x : Entry) → map entry_tree (xs ++ x ∷ []) ≡ map entry_tree xs ++ entry_tree x ∷ []
@@ -84,17 +84,17 @@ entries_push xs x = map-append entry_tree xs (x ∷ [])
 
 -- a function by its name, step by step
 pub named_step : (has : List ℕ → Bool) (f : FunctionTree) (file a b g : Files) (s : SignatureTree) (q : List ℕ) (before : Option Declaration) (odd : Option Callee) (n : ℕ) (r m d : Bool) (c : Callee) →
-    s ≡ signature_of f → q ≡ spelled file.walked.scoping.text f.name → odd ≡ special q → before ≡ names_in file.walked.scoping f.name → n ≡ number_of file.functions before →
+    s ≡ signature_of (here file.walked) f → q ≡ spelled file.walked.scoping.text f.name → odd ≡ special q → before ≡ names_in file.walked.scoping f.name → n ≡ number_of file.functions before →
     r ≡ is_redeclared file.functions s (is_some f.body) before → m ≡ is_misused s odd → d ≡ has q → c ≡ callee_of s d odd →
-    a ≡ on (failing noted (specifiers f.specifiers ++ fails_if r rule.Redeclared f.name.at ++ fails_if m rule.Special f.name.at)) file →
+    a ≡ on (failing noted (word_failures (here file.walked) f.specifiers ++ fails_if r rule.Redeclared f.name.at ++ fails_if m rule.Special f.name.at)) file →
     b ≡ on (after_name f.name (declared.Function (record { number = n; callee = c }))) a → g ≡ and_entry n (utf8_lossy q) s b → g ≡ after_head noted has f file
 named_step has f file a b g s q before odd n r m d c hs hq ho hb hn hr hm hd hc ha hx hg =
     let x = f.name in
-    let S = signature_of f in
+    let S = signature_of (here file.walked) f in
     let Q = spelled file.walked.scoping.text x in
     let B = names_in file.walked.scoping x in
     let made : SignatureTree → List ℕ → Option Callee → ℕ → Bool → Bool → Callee → Files = λ s q odd n r m c.
-    and_entry n (utf8_lossy q) s (on (after_name x (declared.Function (record { number = n; callee = c }))) (on (failing noted (specifiers f.specifiers ++ fails_if r rule.Redeclared x.at ++ fails_if m rule.Special x.at)) file)) in
+    and_entry n (utf8_lossy q) s (on (after_name x (declared.Function (record { number = n; callee = c }))) (on (failing noted (word_failures (here file.walked) f.specifiers ++ fails_if r rule.Redeclared x.at ++ fails_if m rule.Special x.at)) file)) in
     let N = number_of file.functions B in
     (hg ∙ ap (and_entry n (utf8_lossy q) s) (hx ∙ ap (on (after_name x (declared.Function (record { number = n; callee = c })))) ha))
     ∙ (ap (λ y. made s q odd n r m y) (hc ∙ (ap (λ y. callee_of s y odd) hd))

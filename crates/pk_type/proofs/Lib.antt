@@ -1,4 +1,5 @@
 pub mod FileLemmas
+mod TypeNameLemmas
 pub mod SignatureLemmas
 pub mod PlaceLemmas
 pub mod UnitLemmas

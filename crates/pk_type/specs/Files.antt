@@ -13,11 +13,11 @@ use Rattle.pk_type_scope.specs.declared.declarations.Declaration.{Declaration}
 use Rattle.pk_type_scope.specs.declared.declarations.Declaration.TheVariants as declared
 use Rattle.pk_type_scope.specs.declared.failures.Failure.{Failure}
 use Rattle.pk_type_scope.specs.Failures.{fails_if}
-use Rattle.pk_type_scope.specs.Specifiers.{specifiers}
+use Rattle.pk_type_scope.specs.Specifiers.{word_failures}
 use Rattle.pk_type_declaration.specs.declared.words.Words.{Words}
 use Rattle.pk_type_declaration.specs.Constants.{evaluated, number_in, after_constant}
 use Rattle.pk_type_declaration.specs.Declarations.{words_of, integer_in, type_or_int, text_of, redeclared, void_object, special_object, braces, surplus, length_at, after_optional_length, length_or_1}
-use Rattle.pk_type_declaration.specs.Walks.{Walked, Adding, failing, after_name}
+use Rattle.pk_type_declaration.specs.Walks.{Walked, Adding, here, failing, after_name}
 use Rattle.pk_type.specs.Signatures.{SignatureTree}
 
 -- a function that was declared: whether it was defined, and its body, where that has a tree
@@ -123,5 +123,6 @@ on g f = record { walked = g f.walked; objects = f.objects; functions = f.functi
 
 unfoldable pub after_declaration : {F : Type 0} → Adding F → Option Storage → DeclarationTree → Filed F → Filed F
 after_declaration add storage d f =
-    without_calls (after_objects add storage (words_of d.specifiers) (d.declarators.first ∷ d.declarators.more)
-    (on (failing add (specifiers d.specifiers)) f))
+    let words = words_of (here f.walked) d.specifiers in
+    without_calls (after_objects add storage words (d.declarators.first ∷ d.declarators.more)
+    (on (failing add (word_failures (here f.walked) d.specifiers)) f))

@@ -14,11 +14,11 @@ use Rattle.pk_type_scope.specs.declared.declarations.Typing.{Typing}
 use Rattle.pk_type_scope.specs.declared.failures.Failure.{Failure}
 use Rattle.pk_type_scope.specs.Declarations.{is_void}
 use Rattle.pk_type_scope.specs.Failures.{fails_if}
-use Rattle.pk_type_scope.specs.Scopes.{names_in, spelled}
-use Rattle.pk_type_scope.specs.Specifiers.{type_named, specifiers}
+use Rattle.pk_type_scope.specs.Scopes.{spelled}
+use Rattle.pk_type_scope.specs.Specifiers.{type_named, word_failures}
 use Rattle.pk_type_declaration.specs.Declarations.{words_of, type_or_int, text_of, after_object}
 use Rattle.pk_type_declaration.specs.Specials.{special}
-use Rattle.pk_type_declaration.specs.Walks.{Walked, Adding, failing, after_name, with_local, entering}
+use Rattle.pk_type_declaration.specs.Walks.{Walked, Adding, here, failing, after_name, with_local, entering}
 use Rattle.pk_type_jump.specs.Jumps.{Jumped, jumps_of}
 use Rattle.pk_type_jump.specs.Labels.{Listed, labels_of}
 use Rattle.pk_type_statement.specs.Statements.{Passed, after_items}
@@ -31,15 +31,16 @@ use Rattle.pk_type.specs.Signatures.{SignatureTree, differs, is_wrong, signature
 -- void: a parameter of type void; at its name, or at the first word of one without a name
 abbrev pub unnamed : {F : Type 0} → Adding F → ParameterTree → Walked F → Walked F
 unnamed add p w =
-    with_local (record { name = None; int_type = type_or_int (type_named p.specifiers); length = None })
-    (failing add (fails_if (is_void (type_named p.specifiers)) rule.Void p.specifiers.first.at) w)
+    let t = type_named (here w) p.specifiers in
+    with_local (record { name = None; int_type = type_or_int t; length = None })
+    (failing add (fails_if (is_void t) rule.Void p.specifiers.first.at) w)
 
 abbrev pub after_parameter_name : {F : Type 0} → Adding F → ParameterTree → Option Identifier → Walked F → Walked F
 after_parameter_name add p None w = unnamed add p w
-after_parameter_name add p (Some x) w = after_object add (words_of p.specifiers) false None x w
+after_parameter_name add p (Some x) w = after_object add (words_of (here w) p.specifiers) false None x w
 
 abbrev pub after_parameter : {F : Type 0} → Adding F → ParameterTree → Walked F → Walked F
-after_parameter add p w = after_parameter_name add p p.name (failing add (specifiers p.specifiers) w)
+after_parameter add p w = after_parameter_name add p p.name (failing add (word_failures (here w) p.specifiers) w)
 
 unfoldable pub after_parameters : {F : Type 0} → Adding F → List ParameterTree → Walked F → Walked F
 after_parameters add [] w = w
@@ -51,11 +52,12 @@ abbrev pub changes : SignatureTree → Bool → Option EntryTree → Bool
 changes s has_body None = false
 changes s has_body (Some e) = differs s e.signature || (has_body && e.is_defined)
 
--- redeclared: as an object or an enumerator, with other types, or defined twice; at the name
+-- redeclared: as no function, with other types, or defined twice; at the name
 abbrev pub is_redeclared : List EntryTree → SignatureTree → Bool → Option Declaration → Bool
 is_redeclared entries s has_body None = false
 is_redeclared entries s has_body (Some (declared.Object o)) = true
 is_redeclared entries s has_body (Some (declared.Enumerator n)) = true
+is_redeclared entries s has_body (Some (declared.TypeName t)) = true
 is_redeclared entries s has_body (Some (declared.Function f)) = changes s has_body (slice_get entries f.number)
 
 -- special: a special name has other types; at the name
@@ -68,6 +70,7 @@ abbrev pub number_of : List EntryTree → Option Declaration → ℕ
 number_of entries None = length entries
 number_of entries (Some (declared.Object o)) = length entries
 number_of entries (Some (declared.Enumerator n)) = length entries
+number_of entries (Some (declared.TypeName t)) = length entries
 number_of entries (Some (declared.Function f)) = f.number
 
 abbrev pub ordinary : SignatureTree → Callee
@@ -90,12 +93,12 @@ and_entry n name s f = record { walked = f.walked; objects = f.objects; function
 -- a function by its name: what fails there, and its entry, where it is new
 abbrev pub after_head : {F : Type 0} → Adding F → (List ℕ → Bool) → FunctionTree → Filed F → Filed F
 after_head add defined f file =
-    let s = signature_of f in
     let w = file.walked in
+    let s = signature_of (here w) f in
     let q = spelled w.scoping.text f.name in
-    let before = names_in w.scoping f.name in
+    let before = here w f.name in
     let n = number_of file.functions before in
-    let rows = specifiers f.specifiers
+    let rows = word_failures (here w) f.specifiers
     ++ fails_if (is_redeclared file.functions s (is_some f.body) before) rule.Redeclared f.name.at
     ++ fails_if (is_misused s (special q)) rule.Special f.name.at in
     record {
@@ -175,7 +178,7 @@ after_optional_body add returns n (Some b) f =
 -- parameters are in the scope of the body
 unfoldable pub after_function : {F : Type 0} → Adding F → (List ℕ → Bool) → FunctionTree → Filed F → Filed F
 after_function add defined f file =
-    let n = number_of file.functions (names_in file.walked.scoping f.name) in
+    let n = number_of file.functions (here file.walked f.name) in
     let h = after_head add defined f file in
-    leaving_function h (after_optional_body add (type_named f.specifiers) n f.body
+    leaving_function h (after_optional_body add (type_named (here file.walked) f.specifiers) n f.body
     (on (after_parameters add f.parameters) (on entering h)))

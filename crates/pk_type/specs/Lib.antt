@@ -1,5 +1,6 @@
 pub mod Signatures
 pub mod Files
 pub mod Functions
+pub mod TypeNames
 pub mod Units
 pub mod Views

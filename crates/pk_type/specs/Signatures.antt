@@ -8,6 +8,7 @@ use Rattle.pk_type_scope.specs.declared.declarations.Callee.{Callee}
 use Rattle.pk_type_scope.specs.declared.declarations.Callee.TheVariants.{Ordinary, Any, Assume, Assert, Abort}
 use Rattle.pk_type_scope.specs.declared.declarations.Typing.{Typing}
 use Rattle.pk_type_scope.specs.declared.declarations.Typing.TheVariants.{Void, Integer, Unknown}
+use Rattle.pk_type_scope.specs.Declarations.{Names}
 use Rattle.pk_type_scope.specs.Specifiers.{type_named}
 
 pub record SignatureTree : Type 0 where
@@ -74,8 +75,8 @@ abbrev pub is_wrong : SignatureTree → Callee → Bool
 is_wrong s callee =
     are_integers s.parameters && (differ s.returns (returned callee) || all_differ s.parameters (taken callee))
 
-abbrev pub types_of : List ParameterTree → List Typing
-types_of = map (λ p. type_named p.specifiers)
+abbrev pub types_of : Names → List ParameterTree → List Typing
+types_of d = map (λ p. type_named d p.specifiers)
 
-abbrev pub signature_of : FunctionTree → SignatureTree
-signature_of f = record { returns = type_named f.specifiers; parameters = types_of f.parameters }
+abbrev pub signature_of : Names → FunctionTree → SignatureTree
+signature_of d f = record { returns = type_named d f.specifiers; parameters = types_of d f.parameters }

@@ -1,14 +1,15 @@
 -- Texts (C99 6.9).
 use Rattle.std.specs.Prelude.{ℕ, Bool, true, false, is_some, List, [], ◌∷◌, map, if◌then◌else◌}
 use Rattle.std.specs.Str.{bytes_eq}
-use Rattle.pk_ast.specs.Trees.{ExternalTree, function, objects}
+use Rattle.pk_ast.specs.Trees.{ExternalTree, function, objects, type_names}
 use Rattle.pk_typed.specs.Trees as typed
 use Rattle.pk_typed.specs.Trees.{UnitTree}
 use Rattle.pk_type_scope.specs.Scopes.{spelled, file_scope}
 use Rattle.pk_type_declaration.specs.Declarations.{integer_in, type_or_int}
 use Rattle.pk_type_declaration.specs.Walks.{Adding}
-use Rattle.pk_type.specs.Files.{EntryTree, Filed, after_declaration}
+use Rattle.pk_type.specs.Files.{EntryTree, Filed, on, after_declaration}
 use Rattle.pk_type.specs.Functions.{after_function}
+use Rattle.pk_type.specs.TypeNames.{after_typedef}
 
 abbrev pub no_name : List ℕ → Bool
 no_name q = false
@@ -19,6 +20,7 @@ with_name has name q = if bytes_eq name q then true else has q
 abbrev pub and_defined : List ℕ → ExternalTree → (List ℕ → Bool) → List ℕ → Bool
 and_defined text (function f) has = if is_some f.body then with_name has (spelled text f.name) else has
 and_defined text (objects storage d) has = has
+and_defined text (type_names d) has = has
 
 -- whether a function of that spelling has a body
 unfoldable pub defined_in : List ℕ → List ExternalTree → (List ℕ → Bool) → List ℕ → Bool
@@ -28,6 +30,7 @@ defined_in text (x ∷ xs) has = defined_in text xs (and_defined text x has)
 abbrev pub after_external : {F : Type 0} → Adding F → (List ℕ → Bool) → ExternalTree → Filed F → Filed F
 after_external add defined (function g) f = after_function add defined g f
 after_external add defined (objects storage d) f = after_declaration add storage d f
+after_external add defined (type_names d) f = on (after_typedef add d) f
 
 unfoldable pub after_externals : {F : Type 0} → Adding F → (List ℕ → Bool) → List ExternalTree → Filed F → Filed F
 after_externals add defined [] f = f

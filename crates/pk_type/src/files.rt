@@ -5,7 +5,7 @@ ghost use Rattle.pk_ast.specs.Views.{expression_tree, expression_trees, initiali
 ghost use Rattle.pk_typed.specs.Views.{start_tree, file_object_tree};
 ghost use Rattle.pk_ctypes.specs.declared.words.Rule.TheVariants as rule;
 ghost use Rattle.pk_type_scope.specs.Failures.{fails_if, noted};
-ghost use Rattle.pk_type_scope.specs.Specifiers.{specifiers};
+ghost use Rattle.pk_type_scope.specs.Specifiers.{word_failures};
 ghost use Rattle.pk_type_declaration.specs.Constants.{after_constant};
 ghost use Rattle.pk_type_declaration.specs.Declarations.{length_or_1, length_at};
 ghost use Rattle.pk_type_declaration.specs.Views.{walked_in};
@@ -23,7 +23,7 @@ use pk_ctypes::{IntType, Name, Pos, Rule, convert};
 use pk_type_declaration::{
     Walk, Words, integer_in, length_or_1, note_braces, note_surplus, special, type_or_int,
 };
-use pk_type_scope::{Declaration, Notes, Object, Scope, note_specifiers, spelling};
+use pk_type_scope::{Declaration, Notes, Object, Scope, spelling};
 use pk_type_statement::Statements;
 use pk_typed::{Body, FileObject, Start, Variable};
 use std::alloc::{AllocError, Global};
@@ -263,9 +263,10 @@ impl<'a> File<'a> {
 
     pub(crate) fn note_words(&mut self, words: &Specifiers)
         ensures { filed_in self.new
-            ≡ definitions.on (walks.failing noted (specifiers (specifiers_tree words.now))) (filed_in self.old) }
+            ≡ definitions.on (walks.failing noted (word_failures (walks.here (filed_in self.old).walked)
+            (specifiers_tree words.now))) (filed_in self.old) }
     {
-        note_specifiers(&mut self.to.walk.notes, words);
+        self.to.walk.note_words(words);
     }
 
     fn forget_calls(&mut self, alloc: Global)
@@ -301,8 +302,8 @@ impl<'a> File<'a> {
         ensures { OnOk result (filed_in self.new
             ≡ definitions.after_declaration noted storage.now (declaration_tree d.now) (filed_in self.old)) }
     {
+        let words = Words::of(&self.to.walk.scope, &d.specifiers);
         self.note_words(&d.specifiers);
-        let words = Words::of(&d.specifiers);
         self.declarator(alloc, storage, words, &d.declarators.first)?;
         self.more(alloc, storage, words, &d.declarators.more)?;
         self.forget_calls(alloc);

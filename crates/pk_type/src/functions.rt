@@ -8,7 +8,7 @@ ghost use Rattle.pk_type_scope.specs.declared.failures.Failure.{Failure};
 ghost use Rattle.pk_ctypes.specs.declared.words.Rule.TheVariants as rule;
 ghost use Rattle.pk_type_scope.specs.Failures.{fails_if, noted};
 ghost use Rattle.pk_type_scope.specs.Scopes.{names_in};
-ghost use Rattle.pk_type_scope.specs.Specifiers.{specifiers};
+ghost use Rattle.pk_type_scope.specs.Specifiers.{type_named, word_failures};
 ghost use Rattle.pk_type_declaration.specs.Views.{walked_in};
 ghost use Rattle.pk_type_declaration.specs.Walks as walks;
 ghost use Rattle.pk_type.specs.Files as files;
@@ -23,9 +23,7 @@ use crate::signatures::Signature;
 use pk_ast::{Block, Function, Identifier, Parameter, Specifiers};
 use pk_ctypes::{Name, Pos, Rule};
 use pk_type_declaration::{Walk, Words, special, type_or_int};
-use pk_type_scope::{
-    Callee, Declaration, Function as Declared, Typing, note_specifiers, spelling, type_named,
-};
+use pk_type_scope::{Callee, Declaration, Function as Declared, Typing, spelling, type_named};
 use pk_typed::{Body, Local};
 use std::alloc::{AllocError, Global};
 
@@ -66,7 +64,7 @@ fn is_misused(signature: &Signature, special: Option<Callee>) -> bool
 fn unnamed(walk: &mut Walk<'_>, p: &Parameter) -> Result<(), AllocError>
     ensures { OnOk result (walked_in walk.new ≡ definitions.unnamed noted (parameter_tree p.now) (walked_in walk.old)) }
 {
-    let typing = type_named(&p.specifiers);
+    let typing = type_named(&walk.scope, &p.specifiers);
     walk.fail_if(typing.is_void(), Rule::Void, p.specifiers.first.at);
     walk.local(Local {
         name: None,
@@ -81,11 +79,12 @@ fn parameter(walk: &mut Walk<'_>, alloc: Global, p: &Parameter) -> Result<(), Al
     ensures { OnOk result
         (walked_in walk.new ≡ definitions.after_parameter noted (parameter_tree p.now) (walked_in walk.old)) }
 {
-    note_specifiers(&mut walk.notes, &p.specifiers);
+    walk.note_words(&p.specifiers);
     match p.name {
         Some(name) => {
-            let words = Words::of(&p.specifiers);
-            walk.object(alloc, words, false, None, name)
+            let words = Words::of(&walk.scope, &p.specifiers);
+            walk.object(alloc, words, false, None, name)?;
+            Ok(())
         }
         None => unnamed(walk, p),
     }
@@ -142,6 +141,7 @@ impl<'a> File<'a> {
             None => false,
             Some(Declaration::Object(_)) => true,
             Some(Declaration::Enumerator(_)) => true,
+            Some(Declaration::TypeName(_)) => true,
             Some(Declaration::Function(function)) => {
                 let entry = self.functions.get(function.number);
                 changes(signature, has_body, entry)
@@ -157,6 +157,7 @@ impl<'a> File<'a> {
             None => self.functions.len(),
             Some(Declaration::Object(_)) => self.functions.len(),
             Some(Declaration::Enumerator(_)) => self.functions.len(),
+            Some(Declaration::TypeName(_)) => self.functions.len(),
             Some(Declaration::Function(function)) => function.number,
         }
     }
@@ -188,7 +189,8 @@ impl<'a> File<'a> {
     // Notes what fails at the words and at the name of a function.
     #[tactic(auto, using(pk_type_statement::proofs::CaseLemmas::failing_twice))]
     fn note_rows(&mut self, words: &Specifiers, is_redeclared: bool, is_misused: bool, at: Pos)
-        ensures { filed_in self.new ≡ files.on (walks.failing noted (specifiers (specifiers_tree words.now)
+        ensures { filed_in self.new ≡ files.on (walks.failing noted (
+            word_failures (walks.here (filed_in self.old).walked) (specifiers_tree words.now)
             ++ fails_if is_redeclared rule.Redeclared at ++ fails_if is_misused rule.Special at)) (filed_in self.old) }
     {
         self.note_words(words);
@@ -208,8 +210,10 @@ impl<'a> File<'a> {
         &mut self,
         alloc: Global,
         defined: &Defined<'_>,
+        returns: Typing,
         f: &Function,
     ) -> Result<usize, AllocError>
+        requires { returns ≡ type_named (walks.here (filed_in self.old).walked) (specifiers_tree f.now.specifiers) }
         ensures filed { OnOk result (filed_in self.new
             ≡ definitions.after_head noted (defined_names defined.now) (function_tree f.now) (filed_in self.old)) }
         ensures number { IfOk result (λ n. n ≡ definitions.number_of (filed_in self.old).functions
@@ -217,8 +221,7 @@ impl<'a> File<'a> {
     {
         let bytes = spelling(self.to.walk.scope.text, f.name);
         let odd = special(bytes);
-        let returns = type_named(&f.specifiers);
-        let signature = Signature::of(alloc, returns, &f.parameters)?;
+        let signature = Signature::of(alloc, &self.to.walk.scope, returns, &f.parameters)?;
         let before = self.to.walk.scope.lookup(f.name);
         let has_body = f.body.is_some();
         let is_redeclared = self.is_redeclared(&signature, has_body, before);
@@ -300,10 +303,11 @@ impl<'a> File<'a> {
         ensures { OnOk result (filed_in self.new
             ≡ definitions.after_function noted (defined_names defined.now) (function_tree f.now) (filed_in self.old)) }
     {
-        let number = self.named(alloc, defined, f)?;
+        let returns = type_named(&self.to.walk.scope, &f.specifiers);
+        let number = self.named(alloc, defined, returns, f)?;
         self.enter(alloc)?;
         self.parameters(alloc, &f.parameters)?;
-        self.optional_body(alloc, type_named(&f.specifiers), number, &f.body)?;
+        self.optional_body(alloc, returns, number, &f.body)?;
         self.leave(alloc);
         Ok(())
     }

@@ -6,6 +6,7 @@ mod defined;
 mod files;
 mod functions;
 mod signatures;
+mod type_names;
 mod units;
 
 pub use units::{Refusal, check};

@@ -5,10 +5,11 @@ ghost use Rattle.std.specs.List.{list_any, zip};
 ghost use Rattle.pk_ast.specs.Views.{parameter_trees};
 ghost use Rattle.pk_type.specs.Signatures as definitions;
 ghost use Rattle.pk_type.specs.Views.{signature_tree};
+ghost use Rattle.pk_type_scope.specs.Scopes.{names_in, scoping_of};
 
 use pk_ast::Parameter;
 use pk_ctypes::IntType;
-use pk_type_scope::{Callee, Typing, type_named};
+use pk_type_scope::{Callee, Scope, Typing, type_named};
 use std::alloc::{AllocError, Global};
 
 /// What a function returns, and the types of its parameters.
@@ -120,24 +121,32 @@ fn takes_others(list: &[Typing], callee: Callee) -> bool
     }
 }
 
-fn types_of(alloc: Global, list: &[Parameter]) -> Result<Vec<Typing>, AllocError>
-    ensures { IfOk result (λ v. v.items ≡ definitions.types_of (parameter_trees list.now)) }
+fn types_of(alloc: Global, scope: &Scope<'_>, list: &[Parameter]) -> Result<Vec<Typing>, AllocError>
+    ensures { IfOk result
+        (λ v. v.items ≡ definitions.types_of (names_in (scoping_of scope.now)) (parameter_trees list.now)) }
 {
     let mut types = Vec::new(alloc);
     for parameter in list {
-        types.push(type_named(&parameter.specifiers))?;
+        types.push(type_named(scope, &parameter.specifiers))?;
     }
     Ok(types)
 }
 
 impl Signature {
-    pub fn of(alloc: Global, returns: Typing, list: &[Parameter]) -> Result<Signature, AllocError>
-        ensures { IfOk result (λ s. signature_tree s
-            ≡ record { returns = returns; parameters = definitions.types_of (parameter_trees list.now) }) }
+    pub fn of(
+        alloc: Global,
+        scope: &Scope<'_>,
+        returns: Typing,
+        list: &[Parameter],
+    ) -> Result<Signature, AllocError>
+        ensures { IfOk result (λ s. signature_tree s ≡ record {
+          returns = returns;
+          parameters = definitions.types_of (names_in (scoping_of scope.now)) (parameter_trees list.now);
+        }) }
     {
         Ok(Signature {
             returns,
-            parameters: types_of(alloc, list)?,
+            parameters: types_of(alloc, scope, list)?,
         })
     }
 

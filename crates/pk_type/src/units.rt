@@ -62,6 +62,7 @@ fn and_defined<'a>(
 {
     match external {
         External::Declaration(_, _) => Ok(()),
+        External::TypeNames(_) => Ok(()),
         External::Function(function) => if function.body.is_some() {
             defined.add(spelling(text, function.name))
         } else {
@@ -137,6 +138,7 @@ fn external(
     match one {
         External::Function(f) => file.function(alloc, defined, f),
         External::Declaration(storage, d) => file.declaration(alloc, storage, d),
+        External::TypeNames(d) => file.typedef(d),
     }
 }
 

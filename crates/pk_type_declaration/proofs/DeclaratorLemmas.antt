@@ -10,12 +10,12 @@ use Rattle.pk_typed.specs.Trees.{DeclaredTree}
 use Rattle.pk_typed.specs.Views.{declared_tree, declared_trees}
 use Rattle.pk_type_scope.specs.declared.failures.Failure.{Failure}
 use Rattle.pk_type_scope.specs.Failures.{noted}
-use Rattle.pk_type_scope.specs.Specifiers.{specifiers}
+use Rattle.pk_type_scope.specs.Specifiers.{word_failures}
 use Rattle.pk_type_expression.specs.Typed.{of_both}
 use Rattle.pk_type_declaration.specs.declared.words.Words.{Words}
 use Rattle.pk_type_declaration.specs.Declarations.{words_of, after_declarator, after_declarators, after_declaration, declarator_tree_at, declarator_trees_at, declaration_trees_at}
 use Rattle.pk_type_declaration.specs.Parts.{joined}
-use Rattle.pk_type_declaration.specs.Walks.{Walked, failing}
+use Rattle.pk_type_declaration.specs.Walks.{Walked, here, failing}
 use Rattle.pk_type_declaration.proofs.PartLemmas.{joined_step, joined_none, none_joined}
 
 abbrev State : Type 0
@@ -59,17 +59,17 @@ declared_push (Some xs) None = refl
 declared_push (Some xs) (Some x) = ap Some (map-append declared_tree xs (x ∷ []))
 
 -- a declaration, step by step
-pub declaration_walked : (d : DeclarationTree) (words : Words) (more : List DeclaratorTree) (w a b v : State) → words ≡ words_of d.specifiers → more ≡ d.declarators.more → a ≡ failing noted (specifiers d.specifiers) w →
+pub declaration_walked : (d : DeclarationTree) (words : Words) (more : List DeclaratorTree) (w a b v : State) → words ≡ words_of (here w) d.specifiers → more ≡ d.declarators.more → a ≡ failing noted (word_failures (here w) d.specifiers) w →
     b ≡ after_declarator noted words d.declarators.first a → v ≡ after_declarators noted words more b → v ≡ after_declaration noted d w
 unfolding after_declaration after_declarators
 declaration_walked d words more w a b v p q r s t =
     let f = d.declarators.first in
     t ∙ (ap (λ y. after_declarators noted words y b) q
     ∙ (ap (after_declarators noted words d.declarators.more) (s ∙ ap (after_declarator noted words f) r)
-    ∙ ap (λ x. after_declarators noted x d.declarators.more (after_declarator noted x f (failing noted (specifiers d.specifiers) w))) p))
+    ∙ ap (λ x. after_declarators noted x d.declarators.more (after_declarator noted x f (failing noted (word_failures (here w) d.specifiers) w))) p))
 
-pub declaration_trees : (d : DeclarationTree) (words : Words) (more : List DeclaratorTree) (w a b : State) (t : Option DeclaredTree) (xs all : Trees) → words ≡ words_of d.specifiers → more ≡ d.declarators.more →
-    a ≡ failing noted (specifiers d.specifiers) w → b ≡ after_declarator noted words d.declarators.first a → t ≡ declarator_tree_at noted words d.declarators.first a →
+pub declaration_trees : (d : DeclarationTree) (words : Words) (more : List DeclaratorTree) (w a b : State) (t : Option DeclaredTree) (xs all : Trees) → words ≡ words_of (here w) d.specifiers → more ≡ d.declarators.more →
+    a ≡ failing noted (word_failures (here w) d.specifiers) w → b ≡ after_declarator noted words d.declarators.first a → t ≡ declarator_tree_at noted words d.declarators.first a →
     xs ≡ of_both (λ zs z. zs ++ z ∷ []) (Some []) t → all ≡ joined xs (declarator_trees_at noted words more b) → all ≡ declaration_trees_at noted d w
 unfolding declaration_trees_at declarator_trees_at
 declaration_trees d words more w a b t xs all p q r s e x h =
@@ -81,4 +81,4 @@ declaration_trees d words more w a b t xs all p q r s e x h =
     ∙ (ap (λ y. of_both (λ z zs. z ∷ zs) t (declarator_trees_at noted words d.declarators.more y)) s
     ∙ (ap (λ y. of_both (λ z zs. z ∷ zs) y (declarator_trees_at noted words d.declarators.more (after_declarator noted words f a))) e
     ∙ (ap (λ y. of_both (λ z zs. z ∷ zs) (declarator_tree_at noted words f y) (declarator_trees_at noted words d.declarators.more (after_declarator noted words f y))) r
-    ∙ ap (λ y. of_both (λ z zs. z ∷ zs) (declarator_tree_at noted y f (failing noted (specifiers d.specifiers) w)) (declarator_trees_at noted y d.declarators.more (after_declarator noted y f (failing noted (specifiers d.specifiers) w)))) p)))))))
+    ∙ ap (λ y. of_both (λ z zs. z ∷ zs) (declarator_tree_at noted y f (failing noted (word_failures (here w) d.specifiers) w)) (declarator_trees_at noted y d.declarators.more (after_declarator noted y f (failing noted (word_failures (here w) d.specifiers) w)))) p)))))))

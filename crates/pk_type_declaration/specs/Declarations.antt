@@ -17,19 +17,19 @@ use Rattle.pk_type_scope.specs.declared.declarations.Declaration.TheVariants as 
 use Rattle.pk_type_scope.specs.declared.declarations.Typing.{Typing}
 use Rattle.pk_type_scope.specs.declared.declarations.Typing.TheVariants.{Void, Integer, Unknown}
 use Rattle.pk_type_scope.specs.declared.failures.Failure.{Failure}
-use Rattle.pk_type_scope.specs.Declarations.{is_void}
+use Rattle.pk_type_scope.specs.Declarations.{Names, is_void}
 use Rattle.pk_type_scope.specs.Failures.{fails_if}
 use Rattle.pk_type_scope.specs.Scopes.{Scoping, declared_here, spelled}
-use Rattle.pk_type_scope.specs.Specifiers.{type_named, specifiers, names_const}
+use Rattle.pk_type_scope.specs.Specifiers.{type_named, word_failures, names_const}
 use Rattle.pk_type_expression.specs.Typed.{of_both}
 use Rattle.pk_type_declaration.specs.declared.words.Words.{Words}
 use Rattle.pk_type_declaration.specs.Constants.{evaluated, length_in, after_length}
 use Rattle.pk_type_declaration.specs.Specials.{special}
-use Rattle.pk_type_declaration.specs.Walks.{Walked, Adding, failing, after_value, after_values, after_name, with_local, value_at, values_at}
+use Rattle.pk_type_declaration.specs.Walks.{Walked, Adding, here, failing, after_value, after_values, after_name, with_local, value_at, values_at}
 
 -- the words of a declaration, as far as its names ask for them
-abbrev pub words_of : OneOrMore Specifier → Words
-words_of words = record { typing = type_named words; is_const = names_const words }
+abbrev pub words_of : Names → OneOrMore Specifier → Words
+words_of d words = record { typing = type_named d words; is_const = names_const d words }
 
 abbrev pub integer_in : Typing → Option IntType
 integer_in Void = None
@@ -140,11 +140,12 @@ unfoldable pub after_declarators : {F : Type 0} → Adding F → Words → List 
 after_declarators add words [] w = w
 after_declarators add words (d ∷ ds) w = after_declarators add words ds (after_declarator add words d w)
 
--- specifiers: the words name no type; at the first word
+-- specifiers: the words name no type
 unfoldable pub after_declaration : {F : Type 0} → Adding F → DeclarationTree → Walked F → Walked F
 after_declaration add d w =
-    let words = words_of d.specifiers in after_declarators add words (d.declarators.first ∷ d.declarators.more)
-    (failing add (specifiers d.specifiers) w)
+    let words = words_of (here w) d.specifiers in
+    after_declarators add words (d.declarators.first ∷ d.declarators.more)
+    (failing add (word_failures (here w) d.specifiers) w)
 
 -- The typed tree of a declared object, by its number.
 
@@ -177,5 +178,5 @@ declarator_trees_at add words (d ∷ ds) w =
 
 unfoldable pub declaration_trees_at : {F : Type 0} → Adding F → DeclarationTree → Walked F → Option (List DeclaredTree)
 declaration_trees_at add d w =
-    declarator_trees_at add (words_of d.specifiers) (d.declarators.first ∷ d.declarators.more)
-    (failing add (specifiers d.specifiers) w)
+    declarator_trees_at add (words_of (here w) d.specifiers) (d.declarators.first ∷ d.declarators.more)
+    (failing add (word_failures (here w) d.specifiers) w)

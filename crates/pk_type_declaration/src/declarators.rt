@@ -5,7 +5,7 @@ ghost use Rattle.pk_ast.specs.Views.{expression_tree, specifiers_tree, declarato
 ghost use Rattle.pk_typed.specs.Views.{declared_tree, declared_trees};
 ghost use Rattle.pk_type_scope.specs.Failures.{noted};
 ghost use Rattle.pk_type_declaration.specs.Declarations as definitions;
-ghost use Rattle.pk_type_scope.specs.Specifiers.{specifiers};
+ghost use Rattle.pk_type_scope.specs.Specifiers.{word_failures};
 ghost use Rattle.pk_type_declaration.specs.Parts.{joined};
 ghost use Rattle.pk_type_declaration.specs.Views.{walked_in, declared_in};
 ghost use Rattle.pk_type_declaration.specs.Walks as walks;
@@ -112,12 +112,13 @@ impl<'a> Walk<'a> {
         )
     }
 
-    // Notes that the words name no type, where they don't.
-    fn note_words(&mut self, words: &Specifiers)
+    /// Notes that the words name no type, where they don't.
+    pub fn note_words(&mut self, words: &Specifiers)
         ensures { walked_in self.new
-            ≡ walks.failing noted (specifiers (specifiers_tree words.now)) (walked_in self.old) }
+            ≡ walks.failing noted (word_failures (walks.here (walked_in self.old)) (specifiers_tree words.now))
+            (walked_in self.old) }
     {
-        note_specifiers(&mut self.notes, words);
+        note_specifiers(&mut self.notes, &self.scope, words);
     }
 
     // Checks the other declarators of a declaration.
@@ -153,8 +154,8 @@ impl<'a> Walk<'a> {
         ensures trees { IfOk result (λ t. option_map (λ v. declared_trees v.items) t
             ≡ definitions.declaration_trees_at noted (declaration_tree d.now) (walked_in self.old)) }
     {
+        let words = Words::of(&self.scope, &d.specifiers);
         self.note_words(&d.specifiers);
-        let words = Words::of(&d.specifiers);
         let mut all = Parts::new(alloc);
         let first = self.declarator(alloc, words, &d.declarators.first)?;
         all.add(first)?;

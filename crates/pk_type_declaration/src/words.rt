@@ -3,12 +3,13 @@
 ghost use Rattle.std.specs.Prelude.{◌≡◌};
 ghost use Rattle.pk_ast.specs.Views.{specifiers_tree};
 ghost use Rattle.pk_type_declaration.specs.Declarations as definitions;
+ghost use Rattle.pk_type_scope.specs.Scopes.{names_in, scoping_of};
 
 use pk_ast::Specifiers;
 use pk_ctypes::IntType;
-use pk_type_scope::{Typing, is_const, type_named};
+use pk_type_scope::{Scope, Typing, is_const, type_named};
 
-/// The type that the words of a declaration name, and whether `const` is among them.
+/// The type that the words of a declaration name, and whether it is that of const objects.
 #[derive(Clone, Copy)]
 pub struct Words {
     pub typing: Typing,
@@ -16,12 +17,12 @@ pub struct Words {
 }
 
 impl Words {
-    pub fn of(words: &Specifiers) -> Words
-        ensures { result ≡ definitions.words_of (specifiers_tree words.now) }
+    pub fn of(scope: &Scope<'_>, words: &Specifiers) -> Words
+        ensures { result ≡ definitions.words_of (names_in (scoping_of scope.now)) (specifiers_tree words.now) }
     {
         Words {
-            typing: type_named(words),
-            is_const: is_const(words),
+            typing: type_named(scope, words),
+            is_const: is_const(scope, words),
         }
     }
 }

@@ -20,7 +20,7 @@ use Rattle.pk_type_scope.specs.declared.declarations.Declaration.{Declaration}
 use Rattle.pk_type_scope.specs.declared.declarations.Typing.{Typing}
 use Rattle.pk_type_scope.specs.Declarations.{Names, is_void, own_site}
 use Rattle.pk_type_scope.specs.Failures.{fails_if}
-use Rattle.pk_type_scope.specs.Specifiers.{type_named, specifiers}
+use Rattle.pk_type_scope.specs.Specifiers.{type_named, word_failures}
 use Rattle.pk_type_expression.specs.Mentions.{Mentioned, named, changed, mentions_of_each, all_joined, named_in_all, changed_in_all}
 use Rattle.pk_type_expression.specs.Types.{type_of, target_of, type_of_call}
 use Rattle.pk_type_expression.specs.Typed.{typed, typed_all, typed_call, calls, calls_in_all}
@@ -110,12 +110,12 @@ unary_known d n e i op at c k is inner h = rw (h, inner, is) refl
 
 -- a cast: its words, what it casts, and that this is void where it is used
 pub cast_notes : (d : Names) (n : ℕ) (e i : ExpressionTree) (words : OneOrMore Specifier) (at : Pos) (to : Typing) (k : Known) (s t u v : Noted)
-    → e ≡ cast at words i → t ≡ with_failures s (specifiers words) → to ≡ type_named words → u ≡ after d i t → k ≡ known d n i
+    → e ≡ cast at words i → t ≡ with_failures s (word_failures d words) → to ≡ type_named d words → u ≡ after d i t → k ≡ known d n i
     → v ≡ with_failures u (fails_if (not (is_void to) && is_void k.typing) rule.Void (first_place_of i)) → v ≡ after d e s
 unfolding failures void calls
 cast_notes d n e i words at to k s t u v is before names during inner h = rw (h, inner, during, names, before, is) (same_noted _ _ _ _ (simp (noted_append, when_fails_if)) refl)
 
-pub cast_known : (d : Names) (n : ℕ) (e i : ExpressionTree) (words : OneOrMore Specifier) (at : Pos) (to : Typing) (c k : Known) → e ≡ cast at words i → to ≡ type_named words → k ≡ known d n i → c ≡ known_cast to k → c ≡ known d n e
+pub cast_known : (d : Names) (n : ℕ) (e i : ExpressionTree) (words : OneOrMore Specifier) (at : Pos) (to : Typing) (c k : Known) → e ≡ cast at words i → to ≡ type_named d words → k ≡ known d n i → c ≡ known_cast to k → c ≡ known d n e
 unfolding type_of target_of named changed typed
 cast_known d n e i words at to c k is names inner h = rw (h, inner, names, is) refl
 
@@ -217,13 +217,13 @@ call_known' d e x es o ms vs c n s t is look own each values site h = call_known
 
 -- with a test that the code has made
 pub cast_notes' : (d : Names) (n : ℕ) (e i : ExpressionTree) (words : OneOrMore Specifier) (at : Pos) (to : Typing) (b : Bool) (k : Known) (s t u v : Noted)
-    → e ≡ cast at words i → t ≡ with_failures s (specifiers words) → to ≡ type_named words → u ≡ after d i t → k ≡ known d n i → b ≡ is_void to
+    → e ≡ cast at words i → t ≡ with_failures s (word_failures d words) → to ≡ type_named d words → u ≡ after d i t → k ≡ known d n i → b ≡ is_void to
     → v ≡ with_failures u (fails_if (not b && is_void k.typing) rule.Void (first_place_of i)) → v ≡ after d e s
 cast_notes' d n e i words at to b k s t u v is before names during inner test h =
     cast_notes d n e i words at to k s t u v is before names during inner (h ∙ ap (λ x. with_failures u (fails_if (not x && is_void k.typing) rule.Void (first_place_of i))) test)
 
 pub cast_known' : (d : Names) (e i : ExpressionTree) (words : OneOrMore Specifier) (at : Pos) (to : Typing) (c k : Known) (s t : Noted)
-    → e ≡ cast at words i → t ≡ with_failures s (specifiers words) → to ≡ type_named words → k ≡ known d (length t.calls) i → c ≡ known_cast to k → c ≡ known d (length s.calls) e
+    → e ≡ cast at words i → t ≡ with_failures s (word_failures d words) → to ≡ type_named d words → k ≡ known d (length t.calls) i → c ≡ known_cast to k → c ≡ known d (length s.calls) e
 cast_known' d e i words at to c k s t is before names inner h =
     cast_known d (length s.calls) e i words at to c k is names (inner ∙ ap (λ u. known d (length u.calls) i) before) h
 

@@ -1,5 +1,5 @@
 -- An expression in which no rule fails has a type, and a typed tree of that type.
-use Rattle.std.proofs.Common.{◌≡◌, ℕ, ◌+◌, Bool, true, false, not, ◌&&◌, List, [], ◌∷◌, ◌++◌, Option, Some, None, length, refl, ap, sym, ◌∙◌, arith, nat_eq, if◌then◌else◌}
+use Rattle.std.proofs.Common.{◌≡◌, ℕ, ◌+◌, Bool, true, false, not, ◌&&◌, List, [], ◌∷◌, ◌++◌, Option, Some, None, length, refl, ap, sym, subst, ◌∙◌, arith, nat_eq, if◌then◌else◌}
 use Rattle.std.proofs.lemmas.Bool.Decides.{nat_tests}
 use Rattle.std.specs.Option.{is_some, option_map}
 use Rattle.pk_ctypes.specs.declared.places.Pos.{Pos}
@@ -8,10 +8,11 @@ use Rattle.pk_ctypes.specs.declared.types.IntType.TheVariants.{Int}
 use Rattle.pk_ctypes.specs.declared.types.Op.{Op}
 use Rattle.pk_ctypes.specs.declared.words.Rule.{Rule}
 use Rattle.pk_ctypes.specs.Conversions.{usual_of}
+use Rattle.pk_ast.specs.declared.declarations.Specifier.{Specifier}
 use Rattle.pk_ast.specs.declared.expressions.Identifier.{Identifier}
 use Rattle.pk_ast.specs.declared.operators.StepOperator.{StepOperator}
 use Rattle.pk_ast.specs.Operators.{binary_number_operator, unary_number_operator, assignment_number_operator}
-use Rattle.pk_ast.specs.Trees.{ExpressionTree, ExpressionTrees, name, call, index, constant, character, parenthesized, postfix, prefix, unary, cast, binary, conditional, assignment, comma, no_expressions, expression_then}
+use Rattle.pk_ast.specs.Trees.{OneOrMore, ExpressionTree, ExpressionTrees, name, call, index, constant, character, parenthesized, postfix, prefix, unary, cast, binary, conditional, assignment, comma, no_expressions, expression_then}
 use Rattle.pk_typed.specs.declared.values.Variable.{Variable}
 use Rattle.pk_typed.specs.Trees.{PlaceTree, ValueTree, ValueTrees, scalar, element, read, any, abort, no_values, value_before}
 use Rattle.pk_typed.specs.Types as trees
@@ -19,14 +20,15 @@ use Rattle.pk_typed.specs.Types.{type_of_place}
 use Rattle.pk_type_scope.specs.declared.declarations.Callee.{Callee}
 use Rattle.pk_type_scope.specs.declared.declarations.Callee.TheVariants.{Ordinary, Any, Assume, Assert, Abort}
 use Rattle.pk_type_scope.specs.declared.declarations.Declaration.{Declaration}
-use Rattle.pk_type_scope.specs.declared.declarations.Declaration.TheVariants.{Object, Function, Enumerator}
+use Rattle.pk_type_scope.specs.declared.declarations.Declaration.TheVariants.{Object, Function, Enumerator, TypeName}
 use Rattle.pk_type_expression.specs.declared.names.Target.{Target}
+use Rattle.pk_type_scope.specs.declared.declarations.NamedType.{NamedType}
 use Rattle.pk_type_scope.specs.declared.declarations.Typing.{Typing}
 use Rattle.pk_type_scope.specs.declared.declarations.Typing.TheVariants.{Void, Integer, Unknown}
 use Rattle.pk_type_scope.specs.declared.failures.Failure.{Failure}
-use Rattle.pk_type_scope.specs.Declarations.{Names, HasTypes, is_void, is_unknown, is_object, is_function, is_array, is_scalar, returned_by, arguments_of, own_site}
+use Rattle.pk_type_scope.specs.Declarations.{Names, HasTypes, is_void, is_unknown, is_object, is_function, is_array, is_scalar, is_type_name, type_meant, returned_by, arguments_of, own_site}
 use Rattle.pk_type_scope.specs.Failures.{fails_if}
-use Rattle.pk_type_scope.specs.Specifiers.{type_named, specifiers}
+use Rattle.pk_type_scope.specs.Specifiers.{type_name_among, type_by, type_named, failures_by, word_failures}
 use Rattle.pk_type_expression.specs.Types.{type_of, target_of, of_object, scalar_target, element_target, type_of_target, type_of_name, type_of_call, of_integer, of_integers, unary_type, binary_type}
 use Rattle.pk_type_expression.specs.Typed.{EvaluatedTree, value, effect, value_of, effect_of, valued, operand_of, place_of, of_both, name_value, element_value, typed_call, call_of, called, if_none, only, step_value, unary_value, typed_cast, is_or, logical_value, binary_value, typed_conditional, assignment_value, comma_after, typed, typed_all, calls_after}
 use Rattle.pk_type_expression.specs.Rules.{when, count, takes_others, undeclared, void, array, place, constness, arguments, unsequenced, own, failures, failures_used}
@@ -83,6 +85,28 @@ negated false h = absurd (cc)
 pub same_number : (a b : ℕ) → not (nat_eq a b) ≡ false → a ≡ b
 same_number a b h = grind (arith, nat_tests)
 
+-- words that fail no row name a type, where each type name in scope has one
+abbrev pub TypesAre : Names → Type 0
+TypesAre d = (x : Identifier) (t : NamedType) → d x ≡ Some (TypeName t) → is_unknown t.typing ≡ false
+
+pub types_are : (d : Names) → ((x : Identifier) → HasTypes (d x)) → TypesAre d
+types_are d h x t is = subst HasTypes is (h x)
+
+type_there : (o : Option Declaration) → ((t : NamedType) → o ≡ Some (TypeName t) → is_unknown t.typing ≡ false) → not (is_type_name o) ≡ false → is_unknown (type_meant o) ≡ false
+type_there None h p = absurd (cc)
+type_there (Some (Object o)) h p = absurd (cc)
+type_there (Some (Function f)) h p = absurd (cc)
+type_there (Some (Enumerator n)) h p = absurd (cc)
+type_there (Some (TypeName t)) h p = h t refl
+
+known_by : (d : Names) → TypesAre d → (o : Option Identifier) (words : OneOrMore Specifier) → failures_by d o words ≡ [] → is_unknown (type_by d o words) ≡ false
+known_by d h None words p = holds_not _ _ _ p
+known_by d h (Some x) words p = type_there (d x) (h x) (holds_not _ _ _ p)
+
+pub known_type : (d : Names) → TypesAre d → (words : OneOrMore Specifier) → word_failures d words ≡ [] → is_unknown (type_named d words) ≡ false
+unfolding type_named word_failures
+known_type d h words p = known_by d h (type_name_among words) words p
+
 -- a value of its type
 record IsValue (t : Typing) (e : Option EvaluatedTree) : Type 0 where
   int_type : IntType
@@ -111,6 +135,7 @@ name_tree None h p q = absurd (cc)
 name_tree (Some (Object o)) h p q = rw (q, h.1) refl
 name_tree (Some (Function f)) h p q = absurd (cc)
 name_tree (Some (Enumerator v)) h p q = rw h.1 refl
+name_tree (Some (TypeName t)) h p q = absurd (cc)
 
 element_tree : (o : Option Declaration) (at : Pos) (t : Typing) (e : Option EvaluatedTree) → HasTypes o → not (is_object o) ≡ false → is_scalar o ≡ false → IsValue t e → IsTreeOf (type_of_target (of_object (element_target at) o)) (valued (of_object (element_value at (value_of e)) o))
 unfolding trees.type_of
@@ -118,6 +143,7 @@ element_tree None at t e h p q v = absurd (cc)
 element_tree (Some (Object o)) at t e h p q v = let is : o.is_array ≡ true = negated o.is_array q in rw (is, h.1, v.is_tree) refl
 element_tree (Some (Function f)) at t e h p q v = absurd (cc)
 element_tree (Some (Enumerator n)) at t e h p q v = absurd (cc)
+element_tree (Some (TypeName u)) at t e h p q v = absurd (cc)
 
 name_place_of : (b : Bool) (t : Option IntType) (x : Variable) (c : Bool)
     → IsTreeOf (type_of_target (if b then None else Some (record { variable = x; int_type = t; is_const = c; bracket = None }))) (valued (if b then None else option_map (λ u. read (scalar u x)) t))
@@ -130,6 +156,7 @@ name_place : (o : Option Declaration) → IsTreeOf (type_of_name o) (valued (nam
 name_place None h p = absurd h
 name_place (Some (Function f)) h p = absurd h
 name_place (Some (Enumerator n)) h p = absurd (cc)
+name_place (Some (TypeName t)) h p = absurd h
 name_place (Some (Object o)) h p = name_place_of o.is_array o.int_type o.variable o.is_const h
 
 element_place_of : (b : Bool) (t : Option IntType) (x : Variable) (c : Bool) (at : Pos) (v : Option ValueTree)
@@ -144,6 +171,7 @@ element_place : (o : Option Declaration) (at : Pos) (v : Option ValueTree) → I
 element_place None at v h = absurd h
 element_place (Some (Function f)) at v h = absurd h
 element_place (Some (Enumerator n)) at v h = absurd h
+element_place (Some (TypeName t)) at v h = absurd h
 element_place (Some (Object o)) at v h = element_place_of o.is_array o.int_type o.variable o.is_const at v h
 
 -- what may be changed is read at its place
@@ -274,11 +302,12 @@ call_tree : (o : Option Declaration) (n : ℕ) (at : Pos) (k : ℕ) (vs : Option
 call_tree None n at k vs h p q v = absurd (cc)
 call_tree (Some (Object o)) n at k vs h p q v = absurd (cc)
 call_tree (Some (Enumerator m)) n at k vs h p q v = absurd (cc)
+call_tree (Some (TypeName t)) n at k vs h p q v = absurd (cc)
 call_tree (Some (Function f)) n at k vs h p q v = rw v.is_trees (callee_tree f.callee f.number n at v.trees h (same_number (arguments_of f.callee) k q ∙ sym v.has_length))
 
 -- the walk
 mutual
-  unfolding failures failures_used undeclared array place constness arguments unsequenced void specifiers type_of target_of typed typed_all length_of trees.type_of
+  unfolding failures failures_used undeclared array place constness arguments unsequenced void type_of target_of typed typed_all length_of trees.type_of
 
   tree_there : (d : Names) → ((x : Identifier) → HasTypes (d x)) → (n : ℕ) → (e : ExpressionTree) → failures d e ≡ [] → IsTreeOf (type_of d e) (typed d n e)
   tree_there d h n (name x) p =
@@ -313,12 +342,12 @@ mutual
       unary_tree (unary_number_operator op) at (type_of d e) (typed d n e)
       (used_value d n e (none_after (failures d e) (void d e) q) (tree_there d h n e (none_before (failures d e) (void d e) q)))
   tree_there d h n (cast at words e) p =
-      let when_void : List Failure = when (not (is_void (type_named words))) (void d e) in
-      let q : specifiers words ++ failures d e ++ when_void ≡ [] = p in
-      let both : specifiers words ++ failures d e ≡ [] = none_before (specifiers words ++ failures d e) when_void q in
-      cast_tree (type_named words) (type_of d e) (typed d n e) (holds_not _ _ _ (none_before (specifiers words) (failures d e) both))
-      (tree_there d h n e (none_after (specifiers words) (failures d e) both))
-      (holds_not _ _ _ (sym (when_fails_if (not (is_void (type_named words))) (is_void (type_of d e)) _ _) ∙ none_after (specifiers words ++ failures d e) when_void q))
+      let when_void : List Failure = when (not (is_void (type_named d words))) (void d e) in
+      let q : word_failures d words ++ failures d e ++ when_void ≡ [] = p in
+      let both : word_failures d words ++ failures d e ≡ [] = none_before (word_failures d words ++ failures d e) when_void q in
+      cast_tree (type_named d words) (type_of d e) (typed d n e) (known_type d (types_are d h) words (none_before (word_failures d words) (failures d e) both))
+      (tree_there d h n e (none_after (word_failures d words) (failures d e) both))
+      (holds_not _ _ _ (sym (when_fails_if (not (is_void (type_named d words))) (is_void (type_of d e)) _ _) ∙ none_after (word_failures d words ++ failures d e) when_void q))
   tree_there d h n (binary op at a b) p =
       let m = calls_after d n a in
       let o : List Failure = own d (binary op at a b) in

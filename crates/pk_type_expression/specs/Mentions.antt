@@ -21,6 +21,7 @@ object_named None = []
 object_named (Some (declared.Function f)) = []
 object_named (Some (declared.Object o)) = o.variable ∷ []
 object_named (Some (declared.Enumerator n)) = []
+object_named (Some (declared.TypeName t)) = []
 
 abbrev pub object_changed : Option Target → List Variable
 object_changed None = []

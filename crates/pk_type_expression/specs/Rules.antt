@@ -12,7 +12,7 @@ use Rattle.pk_type_scope.specs.declared.failures.Failure.{Failure}
 use Rattle.pk_type_scope.specs.Declarations.{Names, is_object, is_function, is_array, is_scalar, is_void, arguments_of}
 use Rattle.pk_type_scope.specs.Failures.{fails_if}
 use Rattle.pk_type_expression.specs.Mentions.{Mentioned, mentions, mentions_of_each, clash, some_clash, is_among}
-use Rattle.pk_type_scope.specs.Specifiers.{type_named, specifiers}
+use Rattle.pk_type_scope.specs.Specifiers.{type_named, word_failures}
 use Rattle.pk_type_expression.specs.Types.{type_of, target_of}
 
 -- undeclared: no declaration is in scope, or it is a function where an object is needed or the reverse, an enumerator counting as an object; at the name
@@ -32,7 +32,7 @@ array d (name x) = fails_if (is_array (d x)) rule.Array x.at
 array d (index x at e) = fails_if (is_scalar (d x)) rule.Array x.at
 array d _ = []
 
--- place: an assigned or stepped operand is no scalar name or element, as an enumerator is none; at the operator
+-- place: an assigned or stepped operand is no scalar name or element (an enumerator is neither); at the operator
 unfoldable pub place : Names → ExpressionTree → List Failure
 place d (assignment op at a b) = fails_if (not (is_some (target_of d a))) rule.Place at
 place d (postfix op at e) = fails_if (not (is_some (target_of d e))) rule.Place at
@@ -54,6 +54,7 @@ abbrev pub takes_others : Option Declaration → ℕ → Bool
 takes_others None n = false
 takes_others (Some (declared.Object o)) n = false
 takes_others (Some (declared.Enumerator m)) n = false
+takes_others (Some (declared.TypeName t)) n = false
 takes_others (Some (declared.Function f)) n = not (nat_eq (arguments_of f.callee) n)
 
 abbrev pub count : ExpressionTrees → ℕ
@@ -106,7 +107,8 @@ unfoldable mutual
   failures d (postfix op at e) = failures d e ++ void d e ++ own d (postfix op at e)
   failures d (prefix op at e) = failures d e ++ void d e ++ own d (prefix op at e)
   failures d (unary op at e) = failures d e ++ void d e
-  failures d (cast at words e) = specifiers words ++ failures d e ++ when (not (is_void (type_named words))) (void d e)
+  failures d (cast at words e) =
+      word_failures d words ++ failures d e ++ when (not (is_void (type_named d words))) (void d e)
   failures d (binary op at a b) = failures d a ++ void d a ++ failures d b ++ void d b ++ own d (binary op at a b)
   failures d (conditional at a b c) = failures d a ++ void d a ++ failures d b ++ void d b ++ failures d c ++ void d c
   failures d (assignment op at a b) =

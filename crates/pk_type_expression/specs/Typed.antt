@@ -83,6 +83,7 @@ name_value None = None
 name_value (Some (declared.Object o)) = scalar_value o
 name_value (Some (declared.Function f)) = None
 name_value (Some (declared.Enumerator n)) = option_map (tree.constant Int) n
+name_value (Some (declared.TypeName t)) = None
 
 abbrev pub element_value : Pos → Option ValueTree → Object → Option ValueTree
 element_value at i o =
@@ -115,6 +116,7 @@ abbrev pub typed_call : Option Declaration → ℕ → Pos → Option ValueTrees
 typed_call None n at vs = None
 typed_call (Some (declared.Object o)) n at vs = None
 typed_call (Some (declared.Enumerator m)) n at vs = None
+typed_call (Some (declared.TypeName t)) n at vs = None
 typed_call (Some (declared.Function f)) n at None = None
 typed_call (Some (declared.Function f)) n at (Some vs) = call_of f.callee f.number n at vs
 
@@ -204,7 +206,7 @@ unfoldable mutual
   typed d n (ast.prefix op at e) = valued (option_map (step_value op true at) (place_of (typed d n e)))
   typed d n (ast.unary op at e) =
       valued (option_map (unary_value (unary_number_operator op) at) (operand d (typed d n e) e))
-  typed d n (ast.cast at words e) = typed_cast (type_named words) (typed d n e)
+  typed d n (ast.cast at words e) = typed_cast (type_named d words) (typed d n e)
   typed d n (ast.binary op at a b) =
       valued (of_both (binary_value (binary_number_operator op) (is_or op) at) (operand d (typed d n a) a)
       (operand d (typed d (calls_after d n a) b) b))

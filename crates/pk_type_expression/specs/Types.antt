@@ -57,6 +57,7 @@ of_object f None = None
 of_object f (Some (declared.Object o)) = f o
 of_object f (Some (declared.Function g)) = None
 of_object f (Some (declared.Enumerator n)) = None
+of_object f (Some (declared.TypeName t)) = None
 
 -- what an expression lets change, through parentheses (6.5.1, 6.3.2.1)
 unfoldable pub target_of : Names → ExpressionTree → Option Target
@@ -85,12 +86,14 @@ type_of_name None = Unknown
 type_of_name (Some (declared.Object o)) = type_of_target (scalar_target o)
 type_of_name (Some (declared.Function f)) = Unknown
 type_of_name (Some (declared.Enumerator n)) = Integer Int
+type_of_name (Some (declared.TypeName t)) = Unknown
 
 abbrev pub type_of_call : Option Declaration → Typing
 type_of_call None = Unknown
 type_of_call (Some (declared.Object o)) = Unknown
 type_of_call (Some (declared.Function f)) = returned_by f.callee
 type_of_call (Some (declared.Enumerator n)) = Unknown
+type_of_call (Some (declared.TypeName t)) = Unknown
 
 -- where it is of an integer type
 abbrev pub of_integer : (IntType → IntType) → Typing → Typing
@@ -125,7 +128,7 @@ type_of d (parenthesized at e) = type_of d e
 type_of d (postfix op at e) = type_of_target (target_of d e)
 type_of d (prefix op at e) = type_of_target (target_of d e)
 type_of d (unary op at e) = of_integer (unary_type (unary_number_operator op)) (type_of d e)
-type_of d (cast at words e) = type_named words
+type_of d (cast at words e) = type_named d words
 type_of d (binary op at a b) = of_integers (binary_type (binary_number_operator op)) (type_of d a) (type_of d b)
 type_of d (conditional at a b c) = of_integers usual_of (type_of d b) (type_of d c)
 type_of d (assignment op at a b) = type_of_target (target_of d a)

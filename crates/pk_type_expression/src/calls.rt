@@ -71,6 +71,7 @@ fn takes_others(declared: Option<Declaration>, count: usize) -> bool
         None => false,
         Some(Declaration::Object(_)) => false,
         Some(Declaration::Enumerator(_)) => false,
+        Some(Declaration::TypeName(_)) => false,
         Some(Declaration::Function(f)) => f.callee.arguments() != count,
     }
 }
@@ -82,6 +83,7 @@ fn type_of_call(declared: Option<Declaration>) -> Typing
         None => Typing::Unknown,
         Some(Declaration::Object(_)) => Typing::Unknown,
         Some(Declaration::Enumerator(_)) => Typing::Unknown,
+        Some(Declaration::TypeName(_)) => Typing::Unknown,
         Some(Declaration::Function(f)) => f.callee.returns(),
     }
 }
@@ -197,6 +199,7 @@ fn typed_call(
         None => Ok(None),
         Some(Declaration::Object(_)) => Ok(None),
         Some(Declaration::Enumerator(_)) => Ok(None),
+        Some(Declaration::TypeName(_)) => Ok(None),
         Some(Declaration::Function(f)) => match arguments {
             None => Ok(None),
             Some(arguments) => call_of(alloc, f.callee, f.number, site, at, arguments),

@@ -74,8 +74,8 @@ pub fn expression(
         Expression::Cast(_, words, inner) => {
             let words: &Specifiers = words;
             let inner: &Expression = inner;
-            note_specifiers(notes, words);
-            let to = type_named(words);
+            note_specifiers(notes, scope, words);
+            let to = type_named(scope, words);
             let operand = expression(alloc, scope, notes, inner)?;
             note_void(notes, !to.is_void(), &operand, inner);
             operators::cast(alloc, to, operand)

@@ -43,6 +43,7 @@ fn scalar_target(declared: Option<Declaration>) -> Option<Target>
         None => None,
         Some(Declaration::Function(_)) => None,
         Some(Declaration::Enumerator(_)) => None,
+        Some(Declaration::TypeName(_)) => None,
         Some(Declaration::Object(o)) => if o.is_array {
             None
         } else {
@@ -63,6 +64,7 @@ fn element_target(at: Pos, declared: Option<Declaration>) -> Option<Target>
         None => None,
         Some(Declaration::Function(_)) => None,
         Some(Declaration::Enumerator(_)) => None,
+        Some(Declaration::TypeName(_)) => None,
         Some(Declaration::Object(o)) => if o.is_array {
             Some(Target {
                 variable: o.variable,
@@ -124,6 +126,7 @@ fn name_value(declared: Option<Declaration>) -> Option<Value>
         Some(Declaration::Object(o)) => scalar_value(o),
         Some(Declaration::Function(_)) => None,
         Some(Declaration::Enumerator(value)) => enumerator_value(value),
+        Some(Declaration::TypeName(_)) => None,
     }
 }
 
@@ -172,6 +175,7 @@ fn element_value(at: Pos, index: Option<Box<Value>>, declared: Option<Declaratio
         None => None,
         Some(Declaration::Function(_)) => None,
         Some(Declaration::Enumerator(_)) => None,
+        Some(Declaration::TypeName(_)) => None,
         Some(Declaration::Object(o)) => element_of(at, index, o),
     }
 }

@@ -6,4 +6,5 @@ pub mod Statements
 pub mod Jumps
 pub mod Functions
 pub mod Files
+pub mod TypeNames
 pub mod Units

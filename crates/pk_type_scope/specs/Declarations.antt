@@ -34,31 +34,59 @@ abbrev pub is_object : Option Declaration → Bool
 is_object (Some (declared.Object o)) = true
 is_object (Some (declared.Function f)) = false
 is_object (Some (declared.Enumerator n)) = true
+is_object (Some (declared.TypeName t)) = false
 is_object None = false
 
 abbrev pub is_function : Option Declaration → Bool
 is_function (Some (declared.Function f)) = true
 is_function (Some (declared.Object o)) = false
 is_function (Some (declared.Enumerator n)) = false
+is_function (Some (declared.TypeName t)) = false
 is_function None = false
 
 abbrev pub is_array : Option Declaration → Bool
 is_array (Some (declared.Object o)) = o.is_array
 is_array (Some (declared.Function f)) = false
 is_array (Some (declared.Enumerator n)) = false
+is_array (Some (declared.TypeName t)) = false
 is_array None = false
 
 abbrev pub is_enumerator : Option Declaration → Bool
 is_enumerator (Some (declared.Enumerator n)) = true
 is_enumerator (Some (declared.Object o)) = false
 is_enumerator (Some (declared.Function f)) = false
+is_enumerator (Some (declared.TypeName t)) = false
 is_enumerator None = false
+
+abbrev pub is_type_name : Option Declaration → Bool
+is_type_name (Some (declared.TypeName t)) = true
+is_type_name (Some (declared.Object o)) = false
+is_type_name (Some (declared.Function f)) = false
+is_type_name (Some (declared.Enumerator n)) = false
+is_type_name None = false
+
+-- the type that a name stands for (C99 6.7.7); unknown where it stands for none
+abbrev pub type_meant : Option Declaration → Typing
+type_meant (Some (declared.TypeName t)) = t.typing
+type_meant (Some (declared.Object o)) = Unknown
+type_meant (Some (declared.Function f)) = Unknown
+type_meant (Some (declared.Enumerator n)) = Unknown
+type_meant None = Unknown
+
+-- whether it is the type of const objects (C99 6.7.3)
+abbrev pub const_meant : Option Declaration → Bool
+const_meant (Some (declared.TypeName t)) = t.is_const
+const_meant (Some (declared.Object o)) = false
+const_meant (Some (declared.Function f)) = false
+const_meant (Some (declared.Enumerator n)) = false
+const_meant None = false
 
 -- where an object is needed: one without elements, as an enumerator is
 abbrev pub is_scalar : Option Declaration → Bool
 is_scalar (Some (declared.Object o)) = not o.is_array
 is_scalar (Some (declared.Function f)) = false
 is_scalar (Some (declared.Enumerator n)) = true
+is_scalar (Some (declared.TypeName t)) = false
 is_scalar None = false
 
 -- what a call gives
@@ -89,6 +117,7 @@ abbrev pub own_site : Pos → Option Declaration → List CallSite
 own_site at None = []
 own_site at (Some (declared.Object o)) = []
 own_site at (Some (declared.Enumerator n)) = []
+own_site at (Some (declared.TypeName t)) = []
 own_site at (Some (declared.Function f)) = site_of f.number at f.callee
 
 -- a declaration that failed no rule, as far as expressions see it: it has its type, an enumerator its value
@@ -97,3 +126,4 @@ HasTypes None = Unit {0}
 HasTypes (Some (declared.Object o)) = (t : IntType) × (o.int_type ≡ Some t)
 HasTypes (Some (declared.Function f)) = is_unknown (returned_by f.callee) ≡ false
 HasTypes (Some (declared.Enumerator v)) = (n : ℤ) × (v ≡ Some n)
+HasTypes (Some (declared.TypeName t)) = is_unknown t.typing ≡ false

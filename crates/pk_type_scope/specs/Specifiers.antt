@@ -1,10 +1,12 @@
--- The type that the words of a declaration or of a cast name (C99 6.7.2), in any order.
-use Rattle.std.specs.Prelude.{ℕ, ◌+◌, Bool, true, false, ◌&&◌, nat_eq, nat_le, List, [], ◌∷◌, if◌then◌else◌}
+-- The type that the words of a declaration or of a cast name (C99 6.7.2): keywords in any order, or a type name (C99 6.7.7) with `const` alone beside it.
+use Rattle.std.specs.Prelude.{ℕ, ◌+◌, Bool, true, false, not, ◌&&◌, ◌||◌, nat_eq, nat_le, List, [], ◌∷◌, Option, Some, None, if◌then◌else◌}
 use Rattle.pk_ctypes.specs.declared.types.IntType.TheVariants.{Char, SChar, UChar, Short, UShort, Int, UInt, Long, ULong, LLong, ULLong}
 use Rattle.pk_ctypes.specs.declared.words.Rule.TheVariants as rule
 use Rattle.pk_ast.specs.declared.declarations.Specifier.{Specifier}
 use Rattle.pk_ast.specs.declared.declarations.SpecifierWord.{SpecifierWord}
 use Rattle.pk_ast.specs.declared.declarations.SpecifierWord.TheVariants as word
+use Rattle.pk_ast.specs.declared.expressions.Identifier.{Identifier}
+use Rattle.pk_ast.specs.Names.{specifier_names}
 use Rattle.pk_ast.specs.Trees.{OneOrMore}
 use Rattle.pk_type_scope.specs.declared.failures.Failure.{Failure}
 use Rattle.pk_type_scope.specs.declared.declarations.Typing.{Typing}
@@ -12,10 +14,10 @@ use Rattle.pk_type_scope.specs.declared.declarations.Typing.TheVariants.{Void, I
 use Rattle.pk_type_scope.specs.declared.specifiers.Counts.{Counts}
 use Rattle.pk_type_scope.specs.declared.specifiers.Times.{Times}
 use Rattle.pk_type_scope.specs.declared.specifiers.Times.TheVariants.{Never, Once, Twice, AtMostOnce}
-use Rattle.pk_type_scope.specs.Declarations.{is_unknown}
+use Rattle.pk_type_scope.specs.Declarations.{Names, is_unknown, is_type_name, type_meant, const_meant}
 use Rattle.pk_type_scope.specs.Failures.{fails_if}
 
--- one word more; `const` names no type, and no type name is known yet
+-- one word more; `const` names no type, and a type name none by its spelling
 abbrev pub counted : Counts → SpecifierWord → Counts
 counted c word.Void = record c { voids = c.voids + 1 }
 counted c word.Char = record c { chars = c.chars + 1 }
@@ -25,7 +27,7 @@ counted c word.Long = record c { longs = c.longs + 1 }
 counted c word.Signed = record c { signeds = c.signeds + 1 }
 counted c word.Unsigned = record c { unsigneds = c.unsigneds + 1 }
 counted c word.Const = c
-counted c (word.TypeName from to) = c
+counted c (word.TypeName start end) = c
 
 -- how often each word stands among these, after some
 abbrev pub counts_of : Counts → List Specifier → Counts
@@ -69,13 +71,41 @@ type_counted c =
     else if has_words c Never Never Never AtMostOnce Twice Never Once then Integer ULLong
     else Unknown
 
+-- the type that the keywords name; unknown where they name none
+abbrev pub type_spelled : OneOrMore Specifier → Typing
+type_spelled words = type_counted (counts_of (counted no_words words.first.word) words.more)
+
+abbrev pub first_name : List Identifier → Option Identifier
+first_name [] = None
+first_name (x ∷ xs) = Some x
+
+-- the type name among the words, if one is there: the grammar lets no second one stand
+abbrev pub type_name_among : OneOrMore Specifier → Option Identifier
+type_name_among words = first_name (specifier_names words)
+
+abbrev pub type_by : Names → Option Identifier → OneOrMore Specifier → Typing
+type_by d None words = type_spelled words
+type_by d (Some x) words = type_meant (d x)
+
 -- the type that the words name; unknown where they name none
-unfoldable pub type_named : OneOrMore Specifier → Typing
-type_named words = type_counted (counts_of (counted no_words words.first.word) words.more)
+unfoldable pub type_named : Names → OneOrMore Specifier → Typing
+type_named d words = type_by d (type_name_among words) words
 
 -- specifiers: the words name neither void nor a type; at the first word
-unfoldable pub specifiers : OneOrMore Specifier → List Failure
-specifiers words = fails_if (is_unknown (type_named words)) rule.Specifiers words.first.at
+abbrev pub specifiers : OneOrMore Specifier → List Failure
+specifiers words = fails_if (is_unknown (type_spelled words)) rule.Specifiers words.first.at
+
+-- undeclared: the type name stands for no type; at the name
+abbrev pub undeclared_type : Names → Identifier → List Failure
+undeclared_type d x = fails_if (not (is_type_name (d x))) rule.Undeclared x.at
+
+-- the first row where keywords name the type, the second where a type name does
+abbrev pub failures_by : Names → Option Identifier → OneOrMore Specifier → List Failure
+failures_by d None words = specifiers words
+failures_by d (Some x) words = undeclared_type d x
+
+unfoldable pub word_failures : Names → OneOrMore Specifier → List Failure
+word_failures d words = failures_by d (type_name_among words) words
 
 abbrev pub is_const_word : SpecifierWord → Bool
 is_const_word word.Const = true
@@ -86,12 +116,19 @@ is_const_word word.Int = false
 is_const_word word.Long = false
 is_const_word word.Signed = false
 is_const_word word.Unsigned = false
-is_const_word (word.TypeName from to) = false
+is_const_word (word.TypeName start end) = false
 
 abbrev pub has_const : List Specifier → Bool
 has_const [] = false
 has_const (s ∷ more) = if is_const_word s.word then true else has_const more
 
--- const stands among the words
-unfoldable pub names_const : OneOrMore Specifier → Bool
-names_const words = has_const (words.first ∷ words.more)
+abbrev pub is_const_among : OneOrMore Specifier → Bool
+is_const_among words = has_const (words.first ∷ words.more)
+
+abbrev pub const_by : Names → Option Identifier → Bool
+const_by d None = false
+const_by d (Some x) = const_meant (d x)
+
+-- const stands among the words, or the type name among them is one for a const type
+unfoldable pub names_const : Names → OneOrMore Specifier → Bool
+names_const d words = is_const_among words || const_by d (type_name_among words)

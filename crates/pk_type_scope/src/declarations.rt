@@ -44,6 +44,13 @@ pub struct Function {
     pub callee: Callee,
 }
 
+/// The type that a name stands for, and whether it is that of const objects (C99 6.7.3).
+#[derive(Clone, Copy)]
+pub struct NamedType {
+    pub typing: Typing,
+    pub is_const: bool,
+}
+
 /// What a name in scope stands for.
 #[derive(Clone, Copy)]
 pub enum Declaration {
@@ -51,6 +58,8 @@ pub enum Declaration {
     Function(Function),
     /// A constant of type int (C99 6.4.4.3, 6.7.2.2). Its value is none where its declaration fails a rule.
     Enumerator(Option<i32>),
+    /// A type (C99 6.7.7).
+    TypeName(NamedType),
 }
 
 impl Typing {
@@ -112,6 +121,7 @@ pub fn is_object(declared: Option<Declaration>) -> bool
         Some(Declaration::Function(_)) => false,
         Some(Declaration::Object(_)) => true,
         Some(Declaration::Enumerator(_)) => true,
+        Some(Declaration::TypeName(_)) => false,
     }
 }
 
@@ -124,6 +134,7 @@ pub fn is_function(declared: Option<Declaration>) -> bool
         Some(Declaration::Function(_)) => true,
         Some(Declaration::Object(_)) => false,
         Some(Declaration::Enumerator(_)) => false,
+        Some(Declaration::TypeName(_)) => false,
     }
 }
 
@@ -136,6 +147,7 @@ pub fn is_array(declared: Option<Declaration>) -> bool
         Some(Declaration::Function(_)) => false,
         Some(Declaration::Object(o)) => o.is_array,
         Some(Declaration::Enumerator(_)) => false,
+        Some(Declaration::TypeName(_)) => false,
     }
 }
 
@@ -148,6 +160,7 @@ pub fn is_scalar(declared: Option<Declaration>) -> bool
         Some(Declaration::Function(_)) => false,
         Some(Declaration::Object(o)) => !o.is_array,
         Some(Declaration::Enumerator(_)) => true,
+        Some(Declaration::TypeName(_)) => false,
     }
 }
 
@@ -160,5 +173,45 @@ pub fn is_enumerator(declared: Option<Declaration>) -> bool
         Some(Declaration::Object(_)) => false,
         Some(Declaration::Function(_)) => false,
         Some(Declaration::Enumerator(_)) => true,
+        Some(Declaration::TypeName(_)) => false,
+    }
+}
+
+/// Whether it is a type.
+pub(crate) fn is_type_name(declared: Option<Declaration>) -> bool
+    ensures { result ≡ definitions.is_type_name declared }
+{
+    match declared {
+        None => false,
+        Some(Declaration::Object(_)) => false,
+        Some(Declaration::Function(_)) => false,
+        Some(Declaration::Enumerator(_)) => false,
+        Some(Declaration::TypeName(_)) => true,
+    }
+}
+
+/// The type that a name stands for, unknown where it stands for none.
+pub(crate) fn type_meant(declared: Option<Declaration>) -> Typing
+    ensures { result ≡ definitions.type_meant declared }
+{
+    match declared {
+        None => Typing::Unknown,
+        Some(Declaration::Object(_)) => Typing::Unknown,
+        Some(Declaration::Function(_)) => Typing::Unknown,
+        Some(Declaration::Enumerator(_)) => Typing::Unknown,
+        Some(Declaration::TypeName(named)) => named.typing,
+    }
+}
+
+/// Whether a name stands for the type of const objects.
+pub(crate) fn const_meant(declared: Option<Declaration>) -> bool
+    ensures { result ≡ definitions.const_meant declared }
+{
+    match declared {
+        None => false,
+        Some(Declaration::Object(_)) => false,
+        Some(Declaration::Function(_)) => false,
+        Some(Declaration::Enumerator(_)) => false,
+        Some(Declaration::TypeName(named)) => named.is_const,
     }
 }

@@ -8,8 +8,8 @@ mod scopes;
 mod specifiers;
 
 pub use declarations::{
-    Callee, Declaration, Function, Object, Typing, is_array, is_enumerator, is_function, is_object,
-    is_scalar,
+    Callee, Declaration, Function, NamedType, Object, Typing, is_array, is_enumerator, is_function,
+    is_object, is_scalar,
 };
 pub use failures::{Failure, Notes};
 pub use laws::first_law;

@@ -1,13 +1,16 @@
 // The type that the words of a declaration or of a cast name (C99 6.7.2).
 
 ghost use Rattle.std.specs.Prelude.{◌≡◌, ◌+◌, ◌<◌, ◌≤◌, ◌^◌};
+ghost use Rattle.pk_ast.specs.Names.{word_name, word_names};
 ghost use Rattle.pk_ast.specs.Views.{specifiers_tree};
 ghost use Rattle.pk_type_scope.specs.Notes.{noted_in, with_failures};
+ghost use Rattle.pk_type_scope.specs.Scopes.{names_in, scoping_of};
 ghost use Rattle.pk_type_scope.specs.Specifiers as definitions;
 
-use crate::declarations::Typing;
+use crate::declarations::{Typing, const_meant, is_type_name, type_meant};
 use crate::failures::Notes;
-use pk_ast::{Specifier, SpecifierWord, Specifiers};
+use crate::scopes::Scope;
+use pk_ast::{Identifier, Specifier, SpecifierWord, Specifiers};
 use pk_ctypes::{IntType, Rule};
 
 /// How often each word stands among some.
@@ -78,7 +81,8 @@ fn counted(counts: Counts, word: SpecifierWord) -> Counts
         SpecifierWord::Long => counts.longs += 1,
         SpecifierWord::Signed => counts.signeds += 1,
         SpecifierWord::Unsigned => counts.unsigneds += 1,
-        SpecifierWord::Const | SpecifierWord::TypeName { .. } => {}
+        SpecifierWord::Const => {}
+        SpecifierWord::TypeName { .. } => {}
     }
     counts
 }
@@ -135,10 +139,9 @@ fn type_counted(counts: &Counts) -> Typing
     Typing::Unknown
 }
 
-/// The type that the words name, unknown where they name none.
-#[tactic(auto, unfolding(crate::specs::Specifiers::type_named))]
-pub fn type_named(words: &Specifiers) -> Typing
-    ensures { result ≡ definitions.type_named (specifiers_tree words.now) }
+// The type that the keywords name, unknown where they name none.
+fn type_spelled(words: &Specifiers) -> Typing
+    ensures { result ≡ definitions.type_spelled (specifiers_tree words.now) }
 {
     let none = Counts {
         voids: 0,
@@ -156,14 +159,75 @@ pub fn type_named(words: &Specifiers) -> Typing
     type_counted(&counts)
 }
 
-/// Notes that the words name no type, where they don't.
-#[tactic(auto, unfolding(crate::specs::Specifiers::specifiers))]
-pub fn note_specifiers(notes: &mut Notes, words: &Specifiers)
-    ensures { noted_in notes.new
-        ≡ with_failures (noted_in notes.old) (definitions.specifiers (specifiers_tree words.now)) }
+// The type name that a word is, if it is one.
+fn name_of(specifier: Specifier) -> Option<Identifier>
+    ensures { result ≡ definitions.first_name (word_name specifier.word specifier.at) }
 {
-    let is_unknown = type_named(words).is_unknown();
-    notes.fail_if(is_unknown, Rule::Specifiers, words.first.at);
+    match specifier.word {
+        SpecifierWord::TypeName { start, end } => Some(Identifier {
+            start,
+            end,
+            at: specifier.at,
+        }),
+        SpecifierWord::Void => None,
+        SpecifierWord::Char => None,
+        SpecifierWord::Short => None,
+        SpecifierWord::Int => None,
+        SpecifierWord::Long => None,
+        SpecifierWord::Signed => None,
+        SpecifierWord::Unsigned => None,
+        SpecifierWord::Const => None,
+    }
+}
+
+fn first_name(words: &[Specifier]) -> Option<Identifier>
+    ensures { result ≡ definitions.first_name (word_names words.now) }
+{
+    for specifier in words {
+        if let Some(name) = name_of(*specifier) {
+            return Some(name);
+        }
+    }
+    None
+}
+
+// The type name among the words, if one is there.
+fn type_name_among(words: &Specifiers) -> Option<Identifier>
+    ensures { result ≡ definitions.type_name_among (specifiers_tree words.now) }
+{
+    match name_of(words.first) {
+        Some(name) => Some(name),
+        None => first_name(&words.more),
+    }
+}
+
+/// The type that the words name in a scope, unknown where they name none.
+#[tactic(auto, unfolding(crate::specs::Specifiers::type_named))]
+pub fn type_named(scope: &Scope<'_>, words: &Specifiers) -> Typing
+    ensures { result ≡ definitions.type_named (names_in (scoping_of scope.now)) (specifiers_tree words.now) }
+{
+    match type_name_among(words) {
+        None => type_spelled(words),
+        Some(name) => type_meant(scope.lookup(name)),
+    }
+}
+
+/// Notes that the words name no type in a scope, where they don't.
+#[tactic(auto, unfolding(crate::specs::Specifiers::word_failures))]
+pub fn note_specifiers(notes: &mut Notes, scope: &Scope<'_>, words: &Specifiers)
+    ensures { noted_in notes.new ≡ with_failures (noted_in notes.old)
+        (definitions.word_failures (names_in (scoping_of scope.now)) (specifiers_tree words.now)) }
+{
+    match type_name_among(words) {
+        None => {
+            let is_unknown = type_spelled(words).is_unknown();
+            notes.fail_if(is_unknown, Rule::Specifiers, words.first.at);
+        }
+        Some(name) => {
+            let is_type = is_type_name(scope.lookup(name));
+            notes.fail_if(!is_type, Rule::Undeclared, name.at);
+        }
+    }
 }
 
 fn is_const_word(word: SpecifierWord) -> bool
@@ -193,10 +257,26 @@ fn has_const(words: &[Specifier]) -> bool
     false
 }
 
-/// Whether `const` stands among the words.
-#[tactic(auto, unfolding(crate::specs::Specifiers::names_const))]
-pub fn is_const(words: &Specifiers) -> bool
-    ensures { result ≡ definitions.names_const (specifiers_tree words.now) }
+// Whether `const` stands among the words.
+fn is_const_among(words: &Specifiers) -> bool
+    ensures { result ≡ definitions.is_const_among (specifiers_tree words.now) }
 {
     is_const_word(words.first.word) || has_const(&words.more)
+}
+
+fn is_const_by(scope: &Scope<'_>, name: Option<Identifier>) -> bool
+    ensures { result ≡ definitions.const_by (names_in (scoping_of scope.now)) name }
+{
+    match name {
+        None => false,
+        Some(name) => const_meant(scope.lookup(name)),
+    }
+}
+
+/// Whether the words name the type of const objects in a scope: `const` is among them, or their type name is one for such a type.
+#[tactic(auto, unfolding(crate::specs::Specifiers::names_const))]
+pub fn is_const(scope: &Scope<'_>, words: &Specifiers) -> bool
+    ensures { result ≡ definitions.names_const (names_in (scoping_of scope.now)) (specifiers_tree words.now) }
+{
+    is_const_among(words) || is_const_by(scope, type_name_among(words))
 }

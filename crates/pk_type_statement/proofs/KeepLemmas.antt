@@ -4,10 +4,10 @@ use Rattle.pk_ctypes.specs.declared.places.Pos.{Pos}
 use Rattle.pk_ast.specs.Trees.{ExpressionTree, InitializerTree, single, braced, DeclaratorTree, DeclarationTree, ForStartTree, declaration, expression, StatementTree, block, empty, expression_statement, label, case, default, if_then, if_else, switch, while, do_while, for_loop, goto, continue, break, return, ItemTrees, no_items, declaration_then, statement_then}
 use Rattle.pk_type_scope.specs.declared.declarations.Typing.{Typing}
 use Rattle.pk_type_scope.specs.Scopes.{Scoping}
-use Rattle.pk_type_scope.specs.Specifiers.{specifiers}
+use Rattle.pk_type_scope.specs.Specifiers.{word_failures}
 use Rattle.pk_type_declaration.specs.declared.words.Words.{Words}
 use Rattle.pk_type_declaration.specs.Declarations.{after_declarator, after_declarators, after_declaration, after_optional_length, after_initializer, after_head, words_of}
-use Rattle.pk_type_declaration.specs.Walks.{Walked, Adding, failing, after_value}
+use Rattle.pk_type_declaration.specs.Walks.{Walked, Adding, here, failing, after_value}
 use Rattle.pk_type_statement.specs.Statements as statements
 use Rattle.pk_type_statement.specs.Statements.{Passed, after, after_items, on, with_case, with_default, in_switch}
 
@@ -43,7 +43,7 @@ kept_declarators add words (d ∷ ds) w = then w.scoping (after_declarator add w
 
 pub kept_declaration : {F : Type 0} (add : Adding F) (d : DeclarationTree) (w : Walked F) → Kept w.scoping (after_declaration add d w).scoping
 unfolding after_declaration
-kept_declaration add d w = kept_declarators add (words_of d.specifiers) (d.declarators.first ∷ d.declarators.more) (failing add (specifiers d.specifiers) w)
+kept_declaration add d w = kept_declarators add (words_of (here w) d.specifiers) (d.declarators.first ∷ d.declarators.more) (failing add (word_failures (here w) d.specifiers) w)
 
 kept_value : {F : Type 0} (add : Adding F) (e : Option ExpressionTree) (w : Walked F) → Kept w.scoping (statements.after_optional_value add e w).scoping
 kept_value add None w = same w.scoping

@@ -45,11 +45,12 @@ mutual
     no_values : ValueTrees
     value_before : ValueTree → ValueTrees → ValueTrees
 
--- a declared object, at its name: by its number in the function, and what it begins with; one that is static by its number among the file's objects (C99 6.2.4)
+-- a declared object, at its name: by its number in the function, and what it begins with; one that is static by its number among the file's objects (C99 6.2.4); and a constant whose name hides an object's (C99 6.2.1)
 pub data DeclaredTree : Type 0 where
   scalar_object : ℕ → Pos → Option ValueTree → DeclaredTree
   array_object : ℕ → Pos → Option ValueTrees → DeclaredTree
   static_object : ℕ → Pos → DeclaredTree
+  hiding_constant : Variable → Pos → DeclaredTree
 
 -- what the parentheses of a `for` begin with
 pub data ForStartTree : Type 0 where

@@ -71,6 +71,7 @@ unfoldable pub declared_tree : Declared → DeclaredTree
 declared_tree (declared.Scalar i at v) = tree.scalar_object i at (option_map value_tree v)
 declared_tree (declared.Array i at vs) = tree.array_object i at (optional_values vs)
 declared_tree (declared.Static n at) = tree.static_object n at
+declared_tree (declared.Hiding x at) = tree.hiding_constant x at
 
 abbrev pub declared_trees : List Declared → List DeclaredTree
 declared_trees = map declared_tree

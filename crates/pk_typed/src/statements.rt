@@ -13,7 +13,7 @@ ghost use Rattle.pk_typed.specs.Views.{
   item_trees,
 };
 
-use crate::values::{Effect, Value};
+use crate::values::{Effect, Value, Variable};
 use pk_ctypes::{IntType, Pos};
 
 /// A declared object of a function, at its name: by its number among the function's, or if it is static among the file's.
@@ -25,6 +25,8 @@ pub enum Declared {
     Array(usize, Pos, Option<Vec<Value>>),
     /// One that all calls share, and that holds what it begins with when a run begins.
     Static(usize, Pos),
+    /// A constant whose name hides this object's from here on.
+    Hiding(Variable, Pos),
 }
 
 /// What the parentheses of a `for` begin with.
@@ -108,6 +110,12 @@ impl Declared {
         ensures { declared_tree result ≡ tree.static_object file at }
     {
         Declared::Static(file, at)
+    }
+
+    pub fn hiding(object: Variable, at: Pos) -> Declared
+        ensures { declared_tree result ≡ tree.hiding_constant object at }
+    {
+        Declared::Hiding(object, at)
     }
 }
 

@@ -15,6 +15,7 @@ use Rattle.pk_graph.specs.declared.trees.Site.{Site}
 use Rattle.pk_graph.specs.Kinds.{count_of, Kind, scalar_kind, array_kind}
 use Rattle.pk_graph.specs.Trees.{constant, variable, converted, unary, binary, Skip, Set, Havoc, Load, Store, Guard, Check, ArrayOf}
 use Rattle.pk_graph.specs.Steps.{Numbers, tree_value, all_in_type, is_index}
+use Rattle.pk_graph.specs.Graphs.{naming, hiding}
 use Rattle.pk_draft.specs.declared.drafts.Label.{Label}
 use Rattle.pk_draft.specs.declared.drafts.Region.{Region}
 use Rattle.pk_draft.specs.declared.drafts.Size.{Size}
@@ -154,10 +155,12 @@ pub record Proper (g : Whole) : Type 0 where
   pub positions : (l : Label) (k : ℕ) (xs : Scope) (q : Pos) → g.shows l k (place l.at xs) → g.shows (record { at = q; path = l.path; scope = l.scope }) k (place q xs)
   pub scopes : (l : Label) (k m i : ℕ) (h : Place) → g.shows l k h → k < m → is_in_scope (local m i) h.scope ≡ false
   -- the name of an object comes into scope
-  pub enters : (l : Label) (k i n : ℕ) (h : Place) → g.shows l k h → k < length g.program.paths → i < g.objects k → slice_get g.scopes n ≡ Some (record { variable = g.numbers k i; outer = l.scope })
+  pub enters : (l : Label) (k i n : ℕ) (h : Place) → g.shows l k h → k < length g.program.paths → i < g.objects k → slice_get g.scopes n ≡ Some (record { entry = naming (g.numbers k i); outer = l.scope })
       → g.shows (record { at = l.at; path = l.path; scope = n + 1 }) k (place h.at (local k i ∷ h.scope))
-  pub shares : (l : Label) (k i n : ℕ) (h : Place) → g.shows l k h → i < length g.program.unit.objects → slice_get g.scopes n ≡ Some (record { variable = i; outer = l.scope })
+  pub shares : (l : Label) (k i n : ℕ) (h : Place) → g.shows l k h → i < length g.program.unit.objects → slice_get g.scopes n ≡ Some (record { entry = naming i; outer = l.scope })
       → g.shows (record { at = l.at; path = l.path; scope = n + 1 }) k (place h.at (file i ∷ h.scope))
+  -- a name that is hidden stays in scope
+  pub hides : (l : Label) (k x n : ℕ) (h : Place) → g.shows l k h → slice_get g.scopes n ≡ Some (record { entry = hiding x; outer = l.scope }) → g.shows (record { at = l.at; path = l.path; scope = n + 1 }) k h
   pub parameters : (m i : ℕ) (t : IntType) → m < length g.program.paths → slice_get (function_of g.program m).parameters i ≡ Some t → HasKind g.program (local m i) (scalar_kind t)
 
 -- ---- values that wait
@@ -406,6 +409,7 @@ place_after p k [] h = h
 place_after p k (tree.scalar_object i at e ∷ ds) h = place_after p k ds (place at (with_local p k i h.scope))
 place_after p k (tree.array_object i at es ∷ ds) h = place_after p k ds (place at (with_local p k i h.scope))
 place_after p k (tree.static_object i at ∷ ds) h = place_after p k ds (place at (file i ∷ h.scope))
+place_after p k (tree.hiding_constant x at ∷ ds) h = place_after p k ds (place at h.scope)
 
 -- an index without a test here was tested before
 abbrev pub IsTested : Bool → Option ℕ → ℕ → Type 0

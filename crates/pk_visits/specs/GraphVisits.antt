@@ -1,7 +1,7 @@
 -- Runs of a graph, and what is seen of them.
 use Rattle.std.specs.Prelude.{◌≡◌, ℕ, Bool, true, if◌then◌else◌, List, [], ◌∷◌, map, Contains, Option, Some, None, unwrap_or}
 use Rattle.pk_graph.specs.Trees.{InstrOf, Skip, Set, Havoc, Clear, Load, Store, Guard, Check}
-use Rattle.pk_graph.specs.Graphs.{EdgeOf, GraphOf, variable_at, point_at}
+use Rattle.pk_graph.specs.Graphs.{EdgeOf, GraphOf, variable_at, point_at, names_at}
 use Rattle.pk_graph.specs.Steps.{Numbers, To, effect}
 use Rattle.pk_graph.specs.Stores.{Stored, storing, numbers_of}
 use Rattle.pk_number.specs.Preorders.{is_among}
@@ -25,7 +25,7 @@ is_in_scope (Some x) xs = is_among x xs
 
 -- A step over an edge is a visit of its end, unless it writes a variable that isn't in scope there: a temporary, a result, a parameter of a call while its arguments are passed.
 abbrev pub is_visit : GraphOf → EdgeOf → Bool
-is_visit g e = is_in_scope (written e.instr) (point_at g e.to).scope
+is_visit g e = is_in_scope (written e.instr) (names_at g e.to)
 
 abbrev pub known_of : GraphOf → Stored → ℕ → Known
 known_of g s x = record { name = unwrap_or (variable_at g x).name []; numbers = numbers_of s x }
@@ -33,7 +33,7 @@ known_of g s x = record { name = unwrap_or (variable_at g x).name []; numbers = 
 -- of a point, with a store
 abbrev pub visit_at : GraphOf → ℕ → Stored → Visit
 visit_at g p s =
-    record { path = (point_at g p).path; at = (point_at g p).at; known = map (known_of g s) (point_at g p).scope }
+    record { path = (point_at g p).path; at = (point_at g p).at; known = map (known_of g s) (names_at g p) }
 
 abbrev pub visits_if : GraphOf → EdgeOf → Stored → List Visit → List Visit
 visits_if g e s vs = if is_visit g e then visit_at g e.to s ∷ vs else vs

@@ -11,6 +11,7 @@ abbrev pub objects_in_declared : DeclaredTree → ℕ
 objects_in_declared (tree.scalar_object i at e) = 1
 objects_in_declared (tree.array_object i at es) = 1
 objects_in_declared (tree.static_object n at) = 0
+objects_in_declared (tree.hiding_constant x at) = 0
 
 abbrev pub objects_in_all_declared : List DeclaredTree → ℕ
 objects_in_all_declared [] = 0
@@ -109,6 +110,7 @@ abbrev pub calls_in_declared : DeclaredTree → List Numbered
 calls_in_declared (tree.scalar_object i at e) = calls_if e
 calls_in_declared (tree.array_object i at es) = calls_in_values_if es
 calls_in_declared (tree.static_object n at) = []
+calls_in_declared (tree.hiding_constant x at) = []
 
 abbrev pub calls_in_all_declared : List DeclaredTree → List Numbered
 calls_in_all_declared [] = []

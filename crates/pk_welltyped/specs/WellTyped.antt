@@ -137,6 +137,7 @@ IsDeclared a (tree.scalar_object i at e) =
 IsDeclared a (tree.array_object i at es) =
     (i ≡ a.objects) × HasRoom a.locals i (count_if es) × AreValuesIf (behind 1 a) es
 IsDeclared a (tree.static_object n at) = n < length a.unit.objects
+IsDeclared a (tree.hiding_constant x at) = (k : Kind) × IsObject a k x
 
 abbrev pub AreDeclared : Around → List DeclaredTree → Type 0
 AreDeclared a [] = Unit {0}

@@ -3,7 +3,7 @@ use Rattle.std.proofs.Common.{◌≡◌, ℕ, List, [], ◌∷◌, ◌++◌, Opt
 use Rattle.pk_lex.specs.declared.token.Kind.{Kind}
 use Rattle.pk_lex.specs.declared.token.Token.{Token}
 use Rattle.pk_ast.specs.Trees as ast
-use Rattle.pk_ast.specs.Trees.{ExpressionTree, ExpressionTrees, no_expressions, expression_then, InitializerTree, single, braced, DeclaratorTree, DeclarationTree, ForStartTree, declaration, expression, StatementTree, ItemTrees, no_items, declaration_then, statement_then, BlockTree, ExternalTree, function, objects}
+use Rattle.pk_ast.specs.Trees.{ExpressionTree, ExpressionTrees, no_expressions, expression_then, InitializerTree, single, braced, DeclaratorTree, DeclarationTree, ForStartTree, declaration, expression, StatementTree, ItemTrees, no_items, declaration_then, statement_then, BlockTree, ExternalTree, function, objects, type_names}
 use Rattle.pk_grammar.specs.Languages.{Marked, Language, One, ◌⊙◌}
 use Rattle.pk_grammar.specs.Grammar as grammar
 use Rattle.pk_grammar.specs.Grammar.{spelled, spelled_list, spelled_more, Expression, Items, optional, array_length, initializer, declarator, more_declarators, declared, test, for_start, statement, block_items, function_end, external, externals, text}
@@ -153,6 +153,7 @@ one_external (function f) n ts h a =
     let i = h.second in let j = i.second in let k = j.second in let l = k.second in
     bodies f.body _ _ l.second (right l (right k (right j (right i (right h a)))))
 one_external (objects s d) n ts h a = declarations d _ _ h.second (right h a)
+one_external (type_names d) n ts h a = tt
 
 all_externals : (xs : List ExternalTree) (n : ℕ) (ts : List Marked) → externals xs n ts → Are ts → ExternalsHave xs
 all_externals [] n ts h a = tt

@@ -94,6 +94,11 @@ pub data State : Type 0 where
   -- between external definitions
   top : List ExternalTree → State
   after_storage : List ExternalTree → Storage → State
+  -- in a declaration of type names
+  after_typedef : List ExternalTree → State
+  type_specifiers : List ExternalTree → OneOrMore Specifier → State
+  after_type_name : List ExternalTree → OneOrMore Specifier → OneOrMore Identifier → State
+  type_name_comma : List ExternalTree → OneOrMore Specifier → OneOrMore Identifier → State
   -- in a declaration
   after_specifiers : Site → OneOrMore Specifier → State
   after_name : Declaring → Identifier → State

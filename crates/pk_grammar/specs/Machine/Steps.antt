@@ -10,7 +10,7 @@ use Rattle.pk_ast.specs.declared.operators.AssignmentOperator.{AssignmentOperato
 use Rattle.pk_ast.specs.declared.units.Storage.{Storage}
 use Rattle.pk_ast.specs.declared.units.StorageWord.{StorageWord}
 use Rattle.pk_ast.specs.Lists.{one, with_last, ended}
-use Rattle.pk_ast.specs.Trees.{OneOrMore, ExpressionTree, name, call, index, constant, character, parenthesized, postfix, prefix, unary, cast, binary, conditional, assignment, comma, ExpressionTrees, no_expressions, expression_then, InitializerTree, single, braced, DeclaratorTree, DeclarationTree, declaration, expression, StatementTree, block, empty, expression_statement, label, case, default, if_then, if_else, switch, while, do_while, for_loop, goto, continue, break, return, ItemTrees, no_items, declaration_then, statement_then, ParameterTree, ExternalTree, function, objects}
+use Rattle.pk_ast.specs.Trees.{OneOrMore, ExpressionTree, name, call, index, constant, character, parenthesized, postfix, prefix, unary, cast, binary, conditional, assignment, comma, ExpressionTrees, no_expressions, expression_then, InitializerTree, single, braced, DeclaratorTree, DeclarationTree, declaration, expression, StatementTree, block, empty, expression_statement, label, case, default, if_then, if_else, switch, while, do_while, for_loop, goto, continue, break, return, ItemTrees, no_items, declaration_then, statement_then, ParameterTree, ExternalTree, function, objects, type_names}
 use Rattle.pk_grammar.specs.declared.states.Testing.{Testing}
 use Rattle.pk_grammar.specs.declared.states.Testing.TheVariants as testing
 use Rattle.pk_grammar.specs.declared.signs.Fixed.{Fixed}
@@ -24,7 +24,7 @@ use Rattle.pk_grammar.specs.declared.signs.StatementStart.TheVariants as first
 use Rattle.pk_grammar.specs.Languages.{identifier_of}
 use Rattle.pk_grammar.specs.Grammar.{any_expression, assignment_expression, conditional_expression, strength, weakest_operator, cast_expression, unary_expression, operators_in, postfixes_in, commas_in}
 use Rattle.pk_grammar.specs.Machine.Signs.{is_fixed, operand_start, operator_of, specifier_word, follows, following_word, all_const, has_type_name, storage_word, statement_start, is_void_word}
-use Rattle.pk_grammar.specs.Machine.States.{Head, OpenBlock, function_block, inner_block, Outer, in_block, in_label, in_case, in_default, in_if, in_else, in_switch, in_while, in_do, in_for, Site, in_a_block, in_a_for, outside, Declaring, Declared, Naming, Purpose, as_statement, as_label, as_test, as_last_test, as_first, as_second, as_third, as_result, as_length, as_value, as_item, Context, as_whole, in_parentheses, in_index, in_call, in_prefix, in_unary, in_cast, in_binary, in_choice, in_alternative, in_assignment, in_comma, State, top, after_storage, after_specifiers, after_name, after_length, after_assign, after_brace, after_item, after_initializer, after_comma, parameters_open, parameter_specifiers, parameter_name, parameter_comma, parameters_closed, block_item, at_statement, after_statement, test_open, do_open, for_open, for_first, for_second, for_third, default_colon, goto_name, returning, statement_end, operand, named, arguments, opened, cast_specifiers, complete}
+use Rattle.pk_grammar.specs.Machine.States.{Head, OpenBlock, function_block, inner_block, Outer, in_block, in_label, in_case, in_default, in_if, in_else, in_switch, in_while, in_do, in_for, Site, in_a_block, in_a_for, outside, Declaring, Declared, Naming, Purpose, as_statement, as_label, as_test, as_last_test, as_first, as_second, as_third, as_result, as_length, as_value, as_item, Context, as_whole, in_parentheses, in_index, in_call, in_prefix, in_unary, in_cast, in_binary, in_choice, in_alternative, in_assignment, in_comma, State, top, after_storage, after_typedef, type_specifiers, after_type_name, type_name_comma, after_specifiers, after_name, after_length, after_assign, after_brace, after_item, after_initializer, after_comma, parameters_open, parameter_specifiers, parameter_name, parameter_comma, parameters_closed, block_item, at_statement, after_statement, test_open, do_open, for_open, for_first, for_second, for_third, default_colon, goto_name, returning, statement_end, operand, named, arguments, opened, cast_specifiers, complete}
 
 -- what becomes of a state at a token: it is taken, nested so deep; or refused; or it is the end of a text
 pub data Verdict : Type 0 where
@@ -478,7 +478,24 @@ begin_external before s t None = refused
 abbrev pub storage_or_specifier : List ExternalTree → Token → Option StorageWord → Verdict
 storage_or_specifier before t (Some w) = taken 0 (after_storage before (storage_at t w))
 storage_or_specifier before t None =
-    if is_fixed fixed.End t.kind then finished before else begin_external before None t (specifier_word t)
+    if is_fixed fixed.End t.kind then finished before else
+    if is_fixed fixed.Typedef t.kind then taken 0 (after_typedef before) else
+    begin_external before None t (specifier_word t)
+
+-- Type names
+
+abbrev pub begin_typedef : List ExternalTree → Token → Option SpecifierWord → Verdict
+begin_typedef before t (Some w) = taken 0 (type_specifiers before (one (specifier_at t w)))
+begin_typedef before t None = refused
+
+abbrev pub more_typedef : List ExternalTree → OneOrMore Specifier → Token → Option SpecifierWord → Verdict
+more_typedef before specs t (Some w) = taken 0 (type_specifiers before (with_last specs (specifier_at t w)))
+more_typedef before specs t None = wanted fixed.Name t (taken 0 (after_type_name before specs (one (identifier_of t))))
+
+abbrev pub at_after_type_name : List ExternalTree → OneOrMore Specifier → OneOrMore Identifier → Token → Verdict
+at_after_type_name before specs ids t =
+    if is_fixed fixed.Comma t.kind then taken 0 (type_name_comma before specs ids) else
+    wanted fixed.Semicolon t (taken 0 (top (before ++ type_names (record { specifiers = specs; names = ids }) ∷ [])))
 
 abbrev pub begin_parameter : Head → List ParameterTree → Token → Option SpecifierWord → Verdict
 begin_parameter h ps t (Some w) = taken 1 (parameter_specifiers h ps (one (specifier_at t w)))
@@ -528,6 +545,11 @@ at_parameters_closed h ps t =
 abbrev pub step : State → Token → Verdict
 step (top before) t = storage_or_specifier before t (storage_word t.kind)
 step (after_storage before s) t = begin_external before (Some s) t (specifier_word t)
+step (after_typedef before) t = begin_typedef before t (specifier_word t)
+step (type_specifiers before specs) t = more_typedef before specs t (next_word specs t)
+step (after_type_name before specs ids) t = at_after_type_name before specs ids t
+step (type_name_comma before specs ids) t =
+    wanted fixed.Name t (taken 0 (after_type_name before specs (with_last ids (identifier_of t))))
 step (after_specifiers s specs) t = more_specifiers s specs t (next_word specs t)
 step (after_name d id) t = at_after_name d id t
 step (after_length d) t = at_after_length d t

@@ -4,11 +4,13 @@ use Rattle.std.proofs.lemmas.Option.{none-some}
 use Rattle.std.specs.Prelude.{slice_get, unwrap_or}
 use Rattle.std.proofs.lemmas.List.Elements.{All-push}
 use Rattle.pk_ctypes.specs.declared.places.Pos.{Pos}
+use Rattle.pk_graph.specs.declared.graphs.Entry.{Entry}
 use Rattle.pk_graph.specs.declared.graphs.Scope.{Scope}
+use Rattle.pk_graph.specs.Graphs.{naming}
 use Rattle.pk_graph.specs.Trees.{Skip}
-use Rattle.pk_draft.specs.Drafts.{on, in_scope, with_name, fresh, link, go}
+use Rattle.pk_draft.specs.Drafts.{on, in_scope, with_entry, fresh, link, go}
 use Rattle.pk_lower_statement.specs.Statements.{named, loop_begun}
-use Rattle.pk_lower_laws.proofs.Drafts.Places.{D, Place, AreChained, Grown, Stage, Proper, Step, step, step_for, step_beside, quiet, same_scopes}
+use Rattle.pk_lower_laws.proofs.Drafts.Places.{D, Place, AreChained, Grown, Stage, Typed, Proper, Step, step, step_for, step_beside, quiet, same_scopes}
 use Rattle.pk_lower_laws.proofs.Drafts.Verbs.{all_shorter, typed_at, typed_standing, typed_link, typed_fresh}
 
 pub chain : {w : Place} {m l n : ℕ} {i j k : Stage} {d e g : D w} {P Q R : Type 0} → Step w m l i j d e P Q → Step w l n j k e g Q R → Step w m n i k d g P R
@@ -61,23 +63,30 @@ last_or (s ∷ ss) z (suc n) y h = elim (last_or ss z n y h) [ inl a ↦ inl a |
 pub chained_last : (ss : List Scope) (z : Scope) → AreChained ss → z.outer ≤ length ss → AreChained (ss ++ z ∷ [])
 chained_last ss z h l n y e = elim (last_or ss z n y e) [ inl a ↦ h n y a | inr a ↦ (let q = a.1 in let r = ap (λ (x : Scope). x.outer) a.0 in omega (q, r, l, arith)) ]
 
+pub typed_entry : (w : Place) (s : Stage) (e : Entry) (d : D w) → Typed w s d → (e.variable < length w.kinds) × w.CanBeNamed e.variable → Typed w s (with_entry e d)
+typed_entry w s e d t k =
+    let z : Scope = record { entry = e; outer = d.here.scope } in
+    record {
+      names = t.names;
+      point = t.point;
+      here = t.here;
+      scope = let q = length-append d.scopes (z ∷ []) in omega (q, arith);
+      chain = chained_last d.scopes z t.chain t.scope;
+      labels = t.labels;
+      scopes = All-push (λ (c : Scope). (c.entry.variable < length w.kinds) × w.CanBeNamed c.entry.variable) d.scopes z t.scopes k;
+      starts = t.starts;
+      zeros = t.zeros;
+      edges = t.edges;
+      objects = t.objects;
+      places = t.places;
+    }
+
+-- an entry of a scope
+pub entry_step : (w : Place) (m : ℕ) (s : Stage) (e : Entry) (d : D w) → Step w m m s s d (with_entry e d) ((e.variable < length w.kinds) × w.CanBeNamed e.variable) (Unit {0})
+entry_step w m s e d =
+    let z : Scope = record { entry = e; outer = d.here.scope } in
+    quiet w m s d (with_entry e d) ((e.variable < length w.kinds) × w.CanBeNamed e.variable) (Unit {0}) refl refl refl refl (λ z. z) (one_scope d.scopes z) (omega arith) (λ o b f t k. (typed_entry w s e d t k, tt))
+
 pub named_step : (w : Place) (m : ℕ) (s : Stage) (name : Option (List ℕ)) (x : ℕ) (d : D w) → Step w m m s s d (named name x d) ((x < length w.kinds) × w.CanBeNamed x) (Unit {0})
 named_step w m s None x d = quiet w m s d d ((x < length w.kinds) × w.CanBeNamed x) (Unit {0}) refl refl refl refl (λ z. z) (same_scopes _ _ refl) (omega arith) (λ o b z t k. (t, tt))
-named_step w m s (Some name) x d = quiet w m s d (with_name x d) ((x < length w.kinds) × w.CanBeNamed x) (Unit {0}) refl refl refl refl (λ z. z) (one_scope d.scopes (record { variable = x; outer = d.here.scope })) (omega arith)
-    (λ o b z t k. (
-      record {
-        names = t.names;
-        point = t.point;
-        here = t.here;
-        scope = let z = length-append d.scopes (record { variable = x; outer = d.here.scope } ∷ []) in omega (z, arith);
-        chain = chained_last d.scopes (record { variable = x; outer = d.here.scope }) t.chain t.scope;
-        labels = t.labels;
-        scopes = All-push (λ (c : Scope). (c.variable < length w.kinds) × w.CanBeNamed c.variable) d.scopes (record { variable = x; outer = d.here.scope }) t.scopes k;
-        starts = t.starts;
-        zeros = t.zeros;
-        edges = t.edges;
-        objects = t.objects;
-        places = t.places;
-      },
-      tt,
-    ))
+named_step w m s (Some name) x d = entry_step w m s (naming x) d

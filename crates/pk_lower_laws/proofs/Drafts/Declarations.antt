@@ -1,5 +1,5 @@
 -- Well-typed declarations are lowered typed.
-use Rattle.std.proofs.Common.{◌≡◌, inl, inr, false, ℕ, ◌+◌, ◌<◌, ◌≤◌, List, [], ◌∷◌, Option, Some, None, length, refl, ap, sym, subst, ◌∙◌, arith}
+use Rattle.std.proofs.Common.{◌≡◌, inl, inr, false, ℕ, zero, suc, ◌+◌, ◌<◌, ◌≤◌, List, [], ◌∷◌, Option, Some, None, length, refl, ap, sym, subst, ◌∙◌, arith}
 use Rattle.std.proofs.lemmas.Int.{ints}
 use Rattle.std.proofs.lemmas.Option.{none-some, get_or_from_slice_get}
 use Rattle.std.specs.Prelude.{pos, slice_get, unwrap_or}
@@ -7,11 +7,12 @@ use Rattle.std.specs.Option.{option_map}
 use Rattle.pk_ctypes.specs.declared.types.IntType.{IntType}
 use Rattle.pk_ctypes.specs.declared.types.IntType.TheVariants.{Int}
 use Rattle.pk_ctypes.specs.Types.{InType}
-use Rattle.pk_typed.specs.declared.values.Variable.TheVariants.{Local}
-use Rattle.pk_typed.specs.Trees.{ValueTree, ValueTrees, DeclaredTree, LocalTree}
+use Rattle.pk_typed.specs.declared.values.Variable.TheVariants.{File, Local}
+use Rattle.pk_typed.specs.declared.values.Variable.{Variable}
+use Rattle.pk_typed.specs.Trees.{ValueTree, ValueTrees, DeclaredTree, LocalTree, FileObjectTree}
 use Rattle.pk_typed.specs.Trees as tree
 use Rattle.pk_typed.specs.Types.{type_of}
-use Rattle.pk_graph.specs.Graphs.{VariableOf}
+use Rattle.pk_graph.specs.Graphs.{VariableOf, hiding}
 use Rattle.pk_graph.specs.Kinds.{Kind, count_of, scalar_kind, array_kind}
 use Rattle.pk_lower_laws.proofs.Drafts.Tables.{IsOfType}
 use Rattle.pk_graph.specs.Trees.{constant, variable, Havoc, Clear, Store}
@@ -24,14 +25,14 @@ use Rattle.pk_lower_statement.specs.Statements as form
 use Rattle.pk_welltyped.specs.Listed.{calls_in, calls_in_values, calls_in_declared, calls_in_all_declared, objects_in_declared, objects_in_all_declared}
 use Rattle.pk_welltyped.specs.WellTyped as good
 use Rattle.pk_welltyped.specs.WellTyped.{IsValue, AreValues, kind_among, IsDeclared, AreDeclared}
-use Rattle.pk_lower_laws.proofs.Drafts.Places.{D, Place, Has, IsObjectOf, Stage, Typed, Proper, Step}
+use Rattle.pk_lower_laws.proofs.Drafts.Places.{D, Place, Has, IsObjectOf, Stage, Typed, ObjectsForeseen, Proper, Step}
 use Rattle.pk_lower_laws.proofs.Drafts.Verbs.{with_objects, object_step}
 use Rattle.pk_lower_laws.proofs.Drafts.Trees.{constant_is, conversion_is}
 use Rattle.pk_lower_laws.proofs.Drafts.Rows.{Works, HasArray, array_is, type_is, store_is, inner_start, idle, seen, then_emit, knowing}
 use Rattle.pk_lower_laws.proofs.Drafts.Targets.{set_step}
 use Rattle.pk_lower_laws.proofs.Drafts.Expressions.{CallsAre, split, around, object_is, array_there, local_length, values}
-use Rattle.pk_lower_laws.proofs.Drafts.Chains.{chain, use_it, given, on_step, named_step}
-use Rattle.pk_typed.specs.Defaults.{no_local}
+use Rattle.pk_lower_laws.proofs.Drafts.Chains.{chain, use_it, given, on_step, typed_entry, entry_step, named_step}
+use Rattle.pk_typed.specs.Defaults.{no_local, length_of_start}
 
 -- behind n more objects
 abbrev pub more : ℕ → Stage → Stage
@@ -124,6 +125,35 @@ array_works w g m n s i t k l is few (Some es) room h c d =
     let clear = given (Unit {0}) (λ (q : y). tt) (then_emit w g m m s d d (Clear a) (Unit {0}) y (seen w m s d (Unit {0}) y (λ z q. array_there w g s t (Local i) (k, (l, is)) d z)) (λ q. array_is w.table a t q)) in
     chain clear (items_work w g m n s i 0 t k l is es (omega (room, few, arith)) h c (emit (Clear a) d))
 
+-- ---- constants that hide
+
+file_below : (xs : List FileObjectTree) (n : ℕ) (k : Kind) → option_map (λ (x : FileObjectTree). record { int_type = x.int_type; length = length_of_start x.start }) (slice_get xs n) ≡ Some k → n < length xs
+file_below [] n k h = absurd (none-some k h)
+file_below (x ∷ xs) zero k h = omega arith
+file_below (x ∷ xs) (suc n) k h = let z = file_below xs n k h in omega (z, arith)
+
+-- the variable of an object that is declared is there, and can be named
+variable_there : (w : Place) → Proper w → (s : Stage) (x : Variable) (k : Kind) → good.IsObject (around w s) k x → (d : D w) → d.variables ≤ w.limit → ObjectsForeseen w s d.variables d.objects → Typed w s d
+    → (form.number_of x d < length w.kinds) × w.CanBeNamed (form.number_of x d)
+variable_there w g s (File n) k h d b f t = g.shared n (file_below w.context.unit.objects n k h)
+variable_there w g s (Local i) k h d b f t =
+    (let a = t.objects.below i h.0 in let l = g.limit in omega (a, b, l, arith), subst w.CanBeNamed (f.objects i h.0) (g.named i (let z = f.declared in let y = h.0 in omega (z, y, arith))))
+
+hiding_step : (w : Place) → Proper w → (m : ℕ) (s : Stage) (x : Variable) (k : Kind) → good.IsObject (around w s) k x → (d : D w) → Step w m m s s d (form.hidden x d) (Unit {0}) (Unit {0})
+hiding_step w g m s x k h d =
+    let e = hiding (form.number_of x d) in
+    let q = entry_step w m s e d in
+    record {
+      order = q.order;
+      variables = q.variables;
+      points = q.points;
+      scopes = q.scopes;
+      after = q.after;
+      objects = q.objects;
+      before = q.before;
+      typed = λ a b z f u. (typed_entry w s e d f (variable_there w g s x k h d b.0 z.objects f), tt);
+    }
+
 -- ---- declared objects
 
 pub declared_works : (w : Place) → Proper w → (m n : ℕ) (s : Stage) (x : DeclaredTree) → IsDeclared (around w s) x → CallsAre w m (calls_in_declared x) n → (d : D w) → Step w m n s (more (objects_in_declared x) s) d (form.declared w.context x d) (Unit {0}) (Unit {0})
@@ -147,6 +177,13 @@ declared_works w g m n s (tree.static_object i p) h c d =
     let named : Step w m m s s o (with_name i o) (Unit {0}) (Unit {0}) = use_it (Unit {0}) (λ z. g.shared i h) (named_step w m s (Some []) i o) in
     subst (λ (q : ℕ). Step w m q s (more 0 s) d (with_name i o) (Unit {0}) (Unit {0})) c
     (subst (λ (q : ℕ). Step w m m s (with_objects q s) d (with_name i o) (Unit {0}) (Unit {0})) same (chain (on_step w m s p d) named))
+declared_works w g m n s (tree.hiding_constant x p) h c d =
+    let o = on p d in
+    let e = form.hidden x o in
+    let same : s.objects ≡ s.objects + 0 = omega arith in
+    let hidden : Step w m m s s o e (Unit {0}) (Unit {0}) = hiding_step w g m s x h.0 h.1 o in
+    subst (λ (q : ℕ). Step w m q s (more 0 s) d e (Unit {0}) (Unit {0})) c
+    (subst (λ (q : ℕ). Step w m m s (with_objects q s) d e (Unit {0}) (Unit {0})) same (chain (on_step w m s p d) hidden))
 
 pub all_declared_work : (w : Place) → Proper w → (m n : ℕ) (s : Stage) (xs : List DeclaredTree) → AreDeclared (around w s) xs → CallsAre w m (calls_in_all_declared xs) n → (d : D w)
     → Step w m n s (more (objects_in_all_declared xs) s) d (form.all_declared w.context xs d) (Unit {0}) (Unit {0})

@@ -195,7 +195,7 @@ drafts_are_typed u entry paths h has l are few =
       entry = omega (labels, arith);
       few = omega (labels, few, big, arith);
       labels = t.labels.paths;
-      scopes = all_map (λ (s : Scope). (s.variable < length W.kinds) × Unit {0}) (λ (s : Scope). s.variable < length whole.made) whole.scopes (λ s x. omega (x.0, length-map whole.made (λ (v : VariableOf). v.kind), arith)) t.scopes;
+      scopes = all_map (λ (s : Scope). (s.entry.variable < length W.kinds) × Unit {0}) (λ (s : Scope). s.entry.variable < length whole.made) whole.scopes (λ s x. omega (x.0, length-map whole.made (λ (v : VariableOf). v.kind), arith)) t.scopes;
       starts = t.starts;
       edges = all_map (EdgeIs (base W)) (IsTypedEdge whole) whole.edges (λ e x. typed_edge whole W W.kinds refl labels e (x.from, x.to, x.typed)) t.edges;
     }

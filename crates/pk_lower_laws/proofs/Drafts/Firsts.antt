@@ -11,7 +11,7 @@ use Rattle.pk_calls.specs.declared.listings.CallPath.{CallPath}
 use Rattle.pk_calls.specs.Paths.{entry_path}
 use Rattle.pk_graph.specs.declared.graphs.Scope.{Scope}
 use Rattle.pk_graph.specs.Kinds.{kind_at, Kind}
-use Rattle.pk_graph.specs.Graphs.{VariableOf, no_variable}
+use Rattle.pk_graph.specs.Graphs.{VariableOf, no_variable, naming}
 use Rattle.pk_graph.specs.WellMade.{IsStartOf}
 use Rattle.pk_draft.specs.declared.drafts.Region.{Region}
 use Rattle.pk_draft.specs.declared.drafts.Label.{Label}
@@ -72,17 +72,17 @@ starts_are [] h k d l = absurd (omega (l, arith))
 starts_are (x ∷ xs) h zero d l = start_is x (h 0 x (omega arith))
 starts_are (x ∷ xs) h (suc k) d l = starts_are xs (λ i e m. h (suc i) e (omega (m, arith))) k d (omega (l, arith))
 
-scopes_are : (P : ℕ → Type 0) (m n : ℕ) → n ≤ m → ((i : ℕ) → i < n → P i) → All (λ (s : Scope). (s.variable < m) × P s.variable) (file_scopes n)
+scopes_are : (P : ℕ → Type 0) (m n : ℕ) → n ≤ m → ((i : ℕ) → i < n → P i) → All (λ (s : Scope). (s.entry.variable < m) × P s.entry.variable) (file_scopes n)
 scopes_are P m zero h f = λ k d l. absurd (omega (l, arith))
-scopes_are P m (suc n) h f = All-push (λ (s : Scope). (s.variable < m) × P s.variable) (file_scopes n) (record { variable = n; outer = n }) (scopes_are P m n (omega (h, arith)) (λ i l. f i (omega (l, arith)))) (omega (h, arith), f n (omega arith))
+scopes_are P m (suc n) h f = All-push (λ (s : Scope). (s.entry.variable < m) × P s.entry.variable) (file_scopes n) (record { entry = naming n; outer = n }) (scopes_are P m n (omega (h, arith)) (λ i l. f i (omega (l, arith)))) (omega (h, arith), f n (omega arith))
 
 pub scopes_many : (n : ℕ) → length (file_scopes n) ≡ n
 scopes_many zero = refl
-scopes_many (suc n) = let z = scopes_many n in let q = length-append (file_scopes n) (record { variable = n; outer = n } ∷ []) in omega (z, q, arith)
+scopes_many (suc n) = let z = scopes_many n in let q = length-append (file_scopes n) (record { entry = naming n; outer = n } ∷ []) in omega (z, q, arith)
 
 chain_of : (n : ℕ) → AreChained (file_scopes n)
 chain_of zero = λ k z h. absurd (none-some z h)
-chain_of (suc n) = let z = scopes_many n in chained_last (file_scopes n) (record { variable = n; outer = n }) (chain_of n) (omega (z, arith))
+chain_of (suc n) = let z = scopes_many n in chained_last (file_scopes n) (record { entry = naming n; outer = n }) (chain_of n) (omega (z, arith))
 
 -- the draft before the first part
 abbrev pub first : {V : Type 0} → Names V → UnitTree → List CallPath → Size → DraftOf V

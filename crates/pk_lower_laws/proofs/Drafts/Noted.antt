@@ -83,6 +83,7 @@ declared : (P : OfCalls) (d : DeclaredTree) → Each P (calls_in_declared d) →
 declared P (tree.scalar_object i o e) h = value_if P e h
 declared P (tree.array_object i o es) h = values_if P es h
 declared P (tree.static_object i o) h = tt
+declared P (tree.hiding_constant x o) h = tt
 
 all_declared : (P : OfCalls) (ds : List DeclaredTree) → Each P (calls_in_all_declared ds) → AtAllDeclared P ds
 all_declared P [] h = tt

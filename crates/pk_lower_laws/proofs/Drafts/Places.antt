@@ -192,7 +192,7 @@ pub record Typed (w : Place) (n : Stage) (d : D w) : Type 0 where
   pub scope : d.here.scope ≤ length d.scopes
   pub chain : AreChained d.scopes
   pub labels : LabelsAre w d.labels
-  pub scopes : All (λ (s : Scope). (s.variable < length w.kinds) × w.CanBeNamed s.variable) d.scopes
+  pub scopes : All (λ (s : Scope). (s.entry.variable < length w.kinds) × w.CanBeNamed s.entry.variable) d.scopes
   pub starts : All (λ (x : VariableOf). IsStartOf x x.start) d.made
   pub zeros : (y : ℕ) → ((variable_in d.made y).start ≡ number_start []) ⊎ w.CanBegin y
   pub edges : All (EdgeIs w) d.edges

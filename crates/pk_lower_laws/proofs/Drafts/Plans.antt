@@ -333,7 +333,7 @@ pub record Foreknown (W : World) (d : Draft W) : Type 0 where
 pub record AllTyped (W : World) (d : Draft W) : Type 0 where
   pub names : d.names ≡ W.table.names
   pub labels : LabelsAre (base W) d.labels
-  pub scopes : All (λ (s : Scope). (s.variable < length W.kinds) × W.CanBeNamed s.variable) d.scopes
+  pub scopes : All (λ (s : Scope). (s.entry.variable < length W.kinds) × W.CanBeNamed s.entry.variable) d.scopes
   pub chain : AreChained d.scopes
   pub files : W.files ≤ length d.scopes
   pub starts : All (λ (x : VariableOf). IsStartOf x x.start) d.made

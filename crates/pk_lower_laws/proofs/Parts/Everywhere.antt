@@ -56,6 +56,7 @@ at_declared : (P Q : OfCalls) → ((f n : ℕ) → P f n → Q f n) → (x : Dec
 at_declared P Q m (tree.scalar_object i o a) h = value_if P Q m a h
 at_declared P Q m (tree.array_object i o es) h = values_if P Q m es h
 at_declared P Q m (tree.static_object i o) h = tt
+at_declared P Q m (tree.hiding_constant x o) h = tt
 
 all_declared : (P Q : OfCalls) → ((f n : ℕ) → P f n → Q f n) → (xs : List DeclaredTree) → AtAllDeclared P xs → AtAllDeclared Q xs
 all_declared P Q m [] h = tt

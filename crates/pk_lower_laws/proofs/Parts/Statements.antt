@@ -61,6 +61,7 @@ declaring V W c k n ss (tree.scalar_object i o a) h p v d e s =
 declaring V W c k n ss (tree.array_object i o es) h p v d e s =
     first_array V W c k n ss i es h p v (form.introduced c i (on o d)) (form.introduced (moved k n ss c) i (on o e)) (introducing c (moved k n ss c) i p v (on o d) (on o e) s)
 declaring V W c k n ss (tree.static_object i o) h p v d e s = s
+declaring V W c k n ss (tree.hiding_constant x o) h p v d e s = s
 
 all_declaring : (V W : Type 0) (c : Context) (k n : ℕ) (ss : List (Option Size)) (xs : List DeclaredTree) → AtAllDeclared (AgreeAt c.sizes ss) xs → AsMuch (form.all_declared {V = V} c xs) (form.all_declared {V = W} (moved k n ss c) xs)
 unfolding form.all_declared

@@ -55,6 +55,7 @@ abbrev pub AtDeclared : OfCalls → DeclaredTree → Type 0
 AtDeclared P (tree.scalar_object i at e) = AtValueIf P e
 AtDeclared P (tree.array_object i at es) = AtValuesIf P es
 AtDeclared P (tree.static_object n at) = Unit {0}
+AtDeclared P (tree.hiding_constant x at) = Unit {0}
 
 abbrev pub AtAllDeclared : OfCalls → List DeclaredTree → Type 0
 AtAllDeclared P [] = Unit {0}

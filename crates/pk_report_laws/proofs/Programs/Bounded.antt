@@ -7,7 +7,7 @@ use Rattle.std.proofs.lemmas.Int.{ints}
 use Rattle.std.proofs.lemmas.List.{get_or_default, length-map}
 use Rattle.std.proofs.lemmas.List.Elements.{All-head, All-tail}
 use Rattle.std.proofs.lemmas.Option.{slice_get-map}
-use Rattle.pk_graph.specs.Graphs.{VariableOf, GraphOf, point_at, kinds_of}
+use Rattle.pk_graph.specs.Graphs.{VariableOf, GraphOf, names_at, kinds_of}
 use Rattle.pk_graph.specs.Steps.{Numbers, number_at}
 use Rattle.pk_graph.specs.Stores.{Stored, numbers_of, IsStore}
 use Rattle.pk_value.specs.Known.{IsOf}
@@ -89,20 +89,20 @@ placed_there (y ∷ ys) x k h = by (placed_there ys x) (y == x) refl h
 number_is : (g : GraphOf) (l : Layout) (p : ℕ) (s : Stored) (i k : ℕ) (z : ℤ) → IsPlacedAt g l p (visit_at g p s) i k z → selected l.chosen s k ≡ z
 number_is g l p s i k z h =
     let numbers : Some (numbers_of s h.variable) ≡ Some (z ∷ []) =
-    sym (ap (λ (o : Option Known). option_map (λ (n : Known). n.numbers) o) (slice_get-map (known_of g s) (point_at g p).scope i ∙ ap (option_map (known_of g s)) h.in_scope)) ∙ h.holds in
+    sym (ap (λ (o : Option Known). option_map (λ (n : Known). n.numbers) o) (slice_get-map (known_of g s) (names_at g p) i ∙ ap (option_map (known_of g s)) h.in_scope)) ∙ h.holds in
     let one : numbers_of s h.variable ≡ z ∷ [] = cc in
     ap (number_if s) (placed_there l.chosen h.variable k h.place) ∙ ap (λ (zs : Numbers). number_at zs 0) one
 
-told_at : (g : GraphOf) (l : Layout) (f : Facts) (p : ℕ) (s : Stored) → IsStore (kinds_of g) s → All (λ x. x < length g.variables) (point_at g p).scope → AgreesWith l f s → IsToldAt g l f p (visit_at g p s)
+told_at : (g : GraphOf) (l : Layout) (f : Facts) (p : ℕ) (s : Stored) → IsStore (kinds_of g) s → All (λ x. x < length g.variables) (names_at g p) → AgreesWith l f s → IsToldAt g l f p (visit_at g p s)
 told_at g l f p s st there h = record {
   path = refl;
   place = refl;
-  values = all_known g l f s (point_at g p).scope st there h;
+  values = all_known g l f s (names_at g p) st there h;
   pairs = λ i j k m x y first second.
       subst (λ b. AreBounded (entry f.octagon) k m x b) (number_is g l p s j m y second)
       (subst (λ a. AreBounded (entry f.octagon) k m a (selected l.chosen s m)) (number_is g l p s i k x first) (bounded (entry f.octagon) (selected l.chosen s) k m h.octagon));
 }
 
-pub store_told : (g : GraphOf) (l : Layout) (f : Option Facts) (p : ℕ) (s : Stored) → IsStore (kinds_of g) s → All (λ x. x < length g.variables) (point_at g p).scope → Agrees l f s → IsToldIf g l f p (visit_at g p s)
+pub store_told : (g : GraphOf) (l : Layout) (f : Option Facts) (p : ℕ) (s : Stored) → IsStore (kinds_of g) s → All (λ x. x < length g.variables) (names_at g p) → Agrees l f s → IsToldIf g l f p (visit_at g p s)
 store_told g l None p s st there h = h
 store_told g l (Some f) p s st there h = told_at g l f p s st there h

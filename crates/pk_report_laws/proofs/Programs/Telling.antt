@@ -1,10 +1,12 @@
 -- From runs of a program to runs of its graph, and to what is told of it.
-use Rattle.std.specs.Prelude.{◌≡◌, ◌⊎◌, ℕ, ◌<◌, Bool, true, false, if◌then◌else◌, List, ◌∷◌, length, All, Contains, Option, Some, None}
+use Rattle.std.specs.Prelude.{◌≡◌, ◌⊎◌, ℕ, ◌<◌, Bool, true, false, not, if◌then◌else◌, List, ◌∷◌, length, All, Contains, Option, Some, None}
+use Rattle.std.specs.List.{filter}
 use Rattle.std.proofs.Common.{refl, sym, subst, inl, inr}
-use Rattle.std.proofs.lemmas.List.Elements.{All-nil, All-cons, All-get_or, All-contains}
+use Rattle.std.proofs.lemmas.List.Elements.{All-nil, All-cons, All-get_or, All-contains, All-map, All-filter}
 use Rattle.pk_graph.specs.declared.verdicts.Verdict.TheVariants.{Unknown}
 use Rattle.pk_graph.specs.Accesses.{AccessOf, of_instr}
-use Rattle.pk_graph.specs.Graphs.{EdgeOf, GraphOf, no_point, point_at, kinds_of}
+use Rattle.pk_graph.specs.declared.graphs.Entry.{Entry}
+use Rattle.pk_graph.specs.Graphs.{EdgeOf, GraphOf, no_point, point_at, named_in, kinds_of}
 use Rattle.pk_graph.specs.declared.trees.Site.{Site}
 use Rattle.pk_graph.specs.Trees.{InstrOf, Skip, Set, Havoc, Clear, Load, Store, Guard, Check}
 use Rattle.pk_graph.specs.Steps.{Numbers, Failure, To, effect, is_index}
@@ -41,6 +43,11 @@ not_hidden (Store a place b i e) at s inside h = not_inside (is_index a.length h
 not_hidden (Guard e b) at s inside h = h
 not_hidden (Check place e) at s inside h = h
 
+-- the variables in scope are those of entries
+named_below : (n : ℕ) (es : List Entry) → All (λ (e : Entry). e.variable < n) es → All (λ (x : ℕ). x < n) (named_in es)
+named_below n es h =
+    All-map (λ (x : ℕ). x < n) (λ (e : Entry). e.variable) (filter (λ (e : Entry). not e.hides) es) (All-filter (λ (e : Entry). not e.hides) (λ (e : Entry). e.variable < n) es h)
+
 module _ (g : GraphOf) (states : List Stated) (made : IsGraph g) (t : AreTrueOf g states) (share : (p : ℕ) → SharesAccesses p (point_at g p).edges) where
   -- a run comes to points of the graph alone
   there : (v : ℕ) (s : Stored) → Reaches g v s → v < length g.points
@@ -52,7 +59,7 @@ module _ (g : GraphOf) (states : List Stated) (made : IsGraph g) (t : AreTrueOf 
   told_of : (v : ℕ) (s : Stored) → Reaches g v s → IsToldOf g states v (visit_at g v s)
   told_of v s h =
       let point = All-get_or (IsPointOf g) g.points v no_point (there v s h) made.points in
-      store_told g (state_at states v).layout (state_at states v).facts v s (t.stores v s h) point.scope (t.holds v s h)
+      store_told g (state_at states v).layout (state_at states v).facts v s (t.stores v s h) (named_below (length g.variables) (point_at g v).scope point.scope) (t.holds v s h)
 
   told : (v : ℕ) (s : Stored) → Reaches g v s → IsToldVisit g states (visit_at g v s)
   told v s h = record { point = v; there = there v s h; told = told_of v s h }

@@ -3,7 +3,7 @@ use Rattle.std.specs.Prelude.{◌≡◌, ℕ, ◌<◌, ◌^◌, ℤ, pos, ◌+�
 use Rattle.std.specs.List.{AllZip}
 use Rattle.pk_graph.specs.declared.verdicts.Verdict.TheVariants.{Unknown}
 use Rattle.pk_graph.specs.Accesses.{AccessOf, accesses_of, fault_of}
-use Rattle.pk_graph.specs.Graphs.{EdgeOf, GraphOf, point_at, kinds_of}
+use Rattle.pk_graph.specs.Graphs.{EdgeOf, GraphOf, point_at, names_at, kinds_of}
 use Rattle.pk_graph.specs.Kinds.{count_at}
 use Rattle.pk_graph.specs.Steps.{Numbers, Failure, To, effect}
 use Rattle.pk_graph.specs.Stores.{Stored, storing}
@@ -38,7 +38,7 @@ pub record IsKnownAs (g : GraphOf) (f : Facts) (variable : ℕ) (k : Known) : Ty
 -- name i of a visit of the point is that of variable k of the octagon, and holds z
 pub record IsPlacedAt (g : GraphOf) (l : Layout) (point : ℕ) (v : Visit) (i k : ℕ) (z : ℤ) : Type 0 where
   pub variable : ℕ
-  pub in_scope : slice_get (point_at g point).scope i ≡ Some variable
+  pub in_scope : slice_get (names_at g point) i ≡ Some variable
   pub place : place_in l.chosen variable ≡ Some k
   pub holds : option_map (λ (n : Known). n.numbers) (slice_get v.known i) ≡ Some (z ∷ [])
 
@@ -53,7 +53,7 @@ pub record AreBounded (bound : ℕ → ℕ → Option ℤ) (k m : ℕ) (x y : �
 pub record IsToldAt (g : GraphOf) (l : Layout) (f : Facts) (point : ℕ) (v : Visit) : Type 0 where
   pub path : (point_at g point).path ≡ v.path
   pub place : (point_at g point).at ≡ v.at
-  pub values : AllZip (IsKnownAs g f) (point_at g point).scope v.known
+  pub values : AllZip (IsKnownAs g f) (names_at g point) v.known
   pub pairs : (i j k m : ℕ) (x y : ℤ) → IsPlacedAt g l point v i k x → IsPlacedAt g l point v j m y →
       AreBounded (entry f.octagon) k m x y
 

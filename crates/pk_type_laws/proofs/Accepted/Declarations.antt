@@ -20,18 +20,18 @@ use Rattle.pk_typed.specs.Trees.{LocalTree, ValueTree, ValueTrees, value_before,
 use Rattle.pk_type_scope.specs.declared.declarations.Callee.{Callee}
 use Rattle.pk_type_scope.specs.declared.declarations.Callee.TheVariants.{Ordinary, Any, Assume, Assert, Abort}
 use Rattle.pk_type_scope.specs.declared.declarations.Declaration.{Declaration}
-use Rattle.pk_type_scope.specs.declared.declarations.Declaration.TheVariants.{Object, Function, Enumerator}
+use Rattle.pk_type_scope.specs.declared.declarations.Declaration.TheVariants.{Object, Function, Enumerator, TypeName}
 use Rattle.pk_type_scope.specs.declared.declarations.Typing.{Typing}
 use Rattle.pk_type_scope.specs.declared.declarations.Typing.TheVariants.{Void, Integer, Unknown}
 use Rattle.pk_type_scope.specs.Declarations.{Names, HasTypes, is_void, is_unknown}
 use Rattle.pk_type_scope.specs.Failures.{fails_if, noted}
 use Rattle.pk_type_scope.specs.Scopes.{Scoping, Layer, names_in, opened, declaring, first_of, found_up, spelled}
-use Rattle.pk_type_scope.specs.Specifiers.{specifiers, type_named}
+use Rattle.pk_type_scope.specs.Specifiers.{word_failures, type_named}
 use Rattle.pk_type_expression.specs.Laws.{IsTreeOf}
 use Rattle.pk_type_expression.specs.Rules.{void, failures, used_failures, count}
 use Rattle.pk_type_expression.specs.Typed.{EvaluatedTree, value, effect, value_of, of_both, typed, calls}
 use Rattle.pk_type_expression.specs.Types.{type_of}
-use Rattle.pk_type_expression.proofs.TreeLemmas.{accepted_expressions_have_trees, none_before, none_after, holds_not}
+use Rattle.pk_type_expression.proofs.TreeLemmas.{accepted_expressions_have_trees, none_before, none_after, holds_not, types_are, known_type}
 use Rattle.pk_type_constant.specs.declared.constants.Constant.{Constant}
 use Rattle.pk_type_constant.specs.declared.constants.Constant.TheVariants.{Number, Faulty, NotConstant}
 use Rattle.pk_type_constant.specs.Forms.{is_constant_form}
@@ -67,11 +67,12 @@ has_value : (v : Option ℤ) → EnumeratorIs v → (n : ℤ) × (v ≡ Some n)
 has_value None h = absurd h
 has_value (Some n) h = (n, refl)
 
-has_types : (a : Around) (d : Option Declaration) → DeclarationIs a d → HasTypes d
+pub has_types : (a : Around) (d : Option Declaration) → DeclarationIs a d → HasTypes d
 has_types a None h = tt
 has_types a (Some (Object o)) h = has_type a o.is_array o.int_type o.variable h
 has_types a (Some (Function f)) h = known a f.number f.callee h
 has_types a (Some (Enumerator v)) h = has_value v h
+has_types a (Some (TypeName t)) h = h
 
 -- what is declared before a place is so before a later one
 object_later : (u : UnitTree) (ls : List LocalTree) (m n : ℕ) (k : Kind) (x : Variable) → m ≤ n → IsObject (record { unit = u; locals = ls; objects = m }) k x → IsObject (record { unit = u; locals = ls; objects = n }) k x
@@ -97,6 +98,7 @@ declaration_later u ls m n None l h = tt
 declaration_later u ls m n (Some (Object o)) l h = objects_later u ls m n o.is_array o.int_type o.variable l h
 declaration_later u ls m n (Some (Function f)) l h = callees_later u ls m n f.number f.callee h
 declaration_later u ls m n (Some (Enumerator v)) l h = h
+declaration_later u ls m n (Some (TypeName t)) l h = h
 
 pub names_later : (u : UnitTree) (ls : List LocalTree) (w v : W) (d : Names) → Later w v → NamesAre (around u ls w) d → NamesAre (around u ls v) d
 names_later u ls w v d l h x =
@@ -227,6 +229,7 @@ InitialPart u ls w v i None = Unit {0}
 InitialPart u ls w v i (Some (tree.scalar_object k at e)) = (k ≡ i) × IsValueIf (around u ls w) e × Steps w v (calls_in_declared (tree.scalar_object k at e)) 0
 InitialPart u ls w v i (Some (tree.array_object k at es)) = ⊥
 InitialPart u ls w v i (Some (tree.static_object k at)) = ⊥
+InitialPart u ls w v i (Some (tree.hiding_constant x at)) = ⊥
 
 scalar_part : (u : UnitTree) (ls : List LocalTree) (w : W) (i : ℕ) (at : Pos) (x : Option InitializerTree) → NamesAre (around u ls w) (here w) → InitializerHas x → (after_initializer noted x w).found ≡ None
     → InitialPart u ls w (after_initializer noted x w) i (scalar_tree i at x w)
@@ -244,6 +247,7 @@ ArrayPart u ls w v i n None = Unit {0}
 ArrayPart u ls w v i n (Some (tree.scalar_object k at e)) = ⊥
 ArrayPart u ls w v i n (Some (tree.array_object k at es)) = (k ≡ i) × (good.count_if es ≤ n) × AreValuesIf (around u ls w) es × Steps w v (calls_in_declared (tree.array_object k at es)) 0
 ArrayPart u ls w v i n (Some (tree.static_object k at)) = ⊥
+ArrayPart u ls w v i n (Some (tree.hiding_constant x at)) = ⊥
 
 items_part : (u : UnitTree) (ls : List LocalTree) (w v x : W) (i n m : ℕ) (at : Pos) (e : Option ValueTree) (es : Option ValueTrees) → 1 + m ≤ n → length v.locals ≡ length w.locals
     → ValuePart (around u ls w) w v e → ValuesPart (around u ls v) v x m es → ArrayPart u ls w x i n (option_map (λ vs. tree.array_object i at (Some vs)) (of_both value_before e es))
@@ -341,8 +345,8 @@ later_declarators words (d ∷ ds) w = later w (after_declarator noted words d w
 pub later_declaration : (d : DeclarationTree) (w : W) → Later w (after_declaration noted d w)
 unfolding after_declaration
 later_declaration d w =
-    let v = failing noted (specifiers d.specifiers) w in
-    later w v _ (later_failing (specifiers d.specifiers) w) (later_declarators (words_of d.specifiers) (d.declarators.first ∷ d.declarators.more) v)
+    let v = failing noted (word_failures (here w) d.specifiers) w in
+    later w v _ (later_failing (word_failures (here w) d.specifiers) w) (later_declarators (words_of (here w) d.specifiers) (d.declarators.first ∷ d.declarators.more) v)
 
 -- ---- declarators
 
@@ -355,6 +359,7 @@ scalar_declared : (u : UnitTree) (ls : List LocalTree) (w v x : W) (t : IntType)
 scalar_declared u ls w v x t None k s p = tt
 scalar_declared u ls w v x t (Some (tree.array_object i at es)) k s p = absurd p
 scalar_declared u ls w v x t (Some (tree.static_object i at)) k s p = absurd p
+scalar_declared u ls w v x t (Some (tree.hiding_constant y at)) k s p = absurd p
 scalar_declared u ls w v x t (Some (tree.scalar_object i at e)) k s p =
     ((p.0, (t, ap (kind_among ls) p.0 ∙ k), subst (λ (n : ℕ). IsValueIf (record { unit = u; locals = ls; objects = n }) e) s.objects p.1), steps w v x [] (calls_in_declared (tree.scalar_object i at e)) 1 0 s p.2)
 
@@ -363,6 +368,7 @@ array_declared : (u : UnitTree) (ls : List LocalTree) (w v x : W) (t : IntType) 
 array_declared u ls w v x t n None k few some s p = tt
 array_declared u ls w v x t n (Some (tree.scalar_object i at e)) k few some s p = absurd p
 array_declared u ls w v x t n (Some (tree.static_object i at)) k few some s p = absurd p
+array_declared u ls w v x t n (Some (tree.hiding_constant y at)) k few some s p = absurd p
 array_declared u ls w v x t n (Some (tree.array_object i at es)) k few some s p =
     ((p.0, (t, n, ap (kind_among ls) p.0 ∙ k, p.1, few, some), subst (λ (m : ℕ). AreValuesIf (record { unit = u; locals = ls; objects = m }) es) s.objects p.2), steps w v x [] (calls_in_declared (tree.array_object i at es)) 1 0 s p.3)
 
@@ -452,11 +458,11 @@ moved u ls w v x (Some ts) a b p = (
 
 pub declaration : (u : UnitTree) (ls : List LocalTree) (d : DeclarationTree) → DeclarationHas d → (w : W) → NamesAre (around u ls w) (here w)
     → Begins ls (after_declaration noted d w) → (after_declaration noted d w).found ≡ None → AllDeclaring u ls w (after_declaration noted d w) (declaration_trees_at noted d w)
-unfolding after_declaration declaration_trees_at specifiers
+unfolding after_declaration declaration_trees_at
 declaration u ls d k w n begins h =
-    let v = failing noted (specifiers d.specifiers) w in
+    let v = failing noted (word_failures (here w) d.specifiers) w in
     let ds = d.declarators.first ∷ d.declarators.more in
-    let f : v.found ≡ None = (later_declarators (words_of d.specifiers) ds v).found h in
-    let unknown : is_unknown (type_named d.specifiers) ≡ false = holds_not _ _ _ (none_found w.found (specifiers d.specifiers) f).1 in
-    let all = declarators u ls (words_of d.specifiers) unknown ds k v n begins h in
+    let f : v.found ≡ None = (later_declarators (words_of (here w) d.specifiers) ds v).found h in
+    let unknown : is_unknown (type_named (here w) d.specifiers) ≡ false = known_type (here w) (types_are (here w) (λ x. has_types (around u ls w) (here w x) (n x))) d.specifiers (none_found w.found (word_failures (here w) d.specifiers) f).1 in
+    let all = declarators u ls (words_of (here w) d.specifiers) unknown ds k v n begins h in
     record { names = all.names; part = moved u ls w v (after_declaration noted d w) (declaration_trees_at noted d w) refl refl all.part }

@@ -27,12 +27,12 @@ use Rattle.pk_typed.specs.Trees.{PlaceTree, ValueTree, EffectTree, ValueTrees, n
 use Rattle.pk_type_scope.specs.declared.declarations.Callee.{Callee}
 use Rattle.pk_type_scope.specs.declared.declarations.Callee.TheVariants.{Ordinary, Any, Assume, Assert, Abort}
 use Rattle.pk_type_scope.specs.declared.declarations.Declaration.{Declaration}
-use Rattle.pk_type_scope.specs.declared.declarations.Declaration.TheVariants.{Object, Function, Enumerator}
+use Rattle.pk_type_scope.specs.declared.declarations.Declaration.TheVariants.{Object, Function, Enumerator, TypeName}
 use Rattle.pk_type_scope.specs.declared.declarations.Typing.{Typing}
 use Rattle.pk_type_scope.specs.declared.declarations.Typing.TheVariants.{Void, Integer, Unknown}
 use Rattle.pk_type_scope.specs.declared.failures.Failure.{Failure}
 use Rattle.pk_type_scope.specs.Declarations.{Names, is_void, arguments_of, site_of, own_site}
-use Rattle.pk_type_scope.specs.Specifiers.{type_named, specifiers}
+use Rattle.pk_type_scope.specs.Specifiers.{type_named, word_failures}
 use Rattle.pk_type_expression.specs.Types.{type_of, of_object}
 use Rattle.pk_type_expression.specs.Typed.{EvaluatedTree, value, effect, value_of, effect_of, valued, OperandTree, operand_of, place_of, of_both, scalar_value, name_value, element_value, typed_call, call_of, if_none, only, step_value, unary_value, typed_cast, is_or, logical_value, binary_value, typed_conditional, assignment_value, comma_after, typed, typed_all, calls, calls_in_all, calls_after}
 use Rattle.pk_type_expression.specs.Rules.{when, count, takes_others, undeclared, void, array, place, constness, arguments, unsequenced, own, failures, failures_used}
@@ -188,6 +188,7 @@ name_good : (a : Around) (d : Option Declaration) → DeclarationIs a d → Good
 name_good a None h = tt
 name_good a (Some (Object o)) h = good_valued a [] (scalar_value o) (name_of a o.is_array o.int_type o.variable h)
 name_good a (Some (Function f)) h = tt
+name_good a (Some (TypeName t)) h = tt
 name_good a (Some (Enumerator None)) h = tt
 name_good a (Some (Enumerator (Some n))) h = number_good a Int n h
 
@@ -204,6 +205,7 @@ element_good a ns at i None h g = tt
 element_good a ns at i (Some (Object o)) h g = good_valued a ns (element_value at i o) (element_of a ns at i o.is_array o.int_type o.variable h g)
 element_good a ns at i (Some (Function f)) h g = tt
 element_good a ns at i (Some (Enumerator n)) h g = tt
+element_good a ns at i (Some (TypeName t)) h g = tt
 
 step_good : (a : Around) (ns : List Numbered) (op : StepOperator) (b : Bool) (at : Pos) (p : Option PlaceTree) → GoodPlace a ns p → Good a ns (valued (option_map (step_value op b at) p))
 unfolding IsValue calls_in
@@ -313,6 +315,7 @@ call_good : (a : Around) (n k : ℕ) (at : Pos) (cs : List CallSite) (d : Option
 call_good a n k at cs None vs h q g = tt
 call_good a n k at cs (Some (Object o)) vs h q g = tt
 call_good a n k at cs (Some (Enumerator m)) vs h q g = tt
+call_good a n k at cs (Some (TypeName t)) vs h q g = tt
 call_good a n k at cs (Some (Function f)) None h q g = tt
 call_good a n k at cs (Some (Function f)) (Some vs) h q g = callee_good a n f.number k at cs vs f.callee h (same_number (arguments_of f.callee) k q) g
 
@@ -373,10 +376,10 @@ mutual
       unary_good a (numbered n (calls d e)) (unary_number_operator op) (one_of_unary op) at (operand_of (type_of d e) (typed d n e))
       (good_operand a (numbered n (calls d e)) (type_of d e) (typed d n e) (expressions a d h n e k (none_before (failures d e) (void d e) q)))
   expressions a d h n (ast.cast at words e) k p =
-      let w : List Failure = when (not (is_void (type_named words))) (void d e) in
-      let q : specifiers words ++ failures d e ++ w ≡ [] = p in
-      cast_good a (numbered n (calls d e)) (type_named words) (typed d n e)
-      (expressions a d h n e k (none_after (specifiers words) (failures d e) (none_before (specifiers words ++ failures d e) w q)))
+      let w : List Failure = when (not (is_void (type_named d words))) (void d e) in
+      let q : word_failures d words ++ failures d e ++ w ≡ [] = p in
+      cast_good a (numbered n (calls d e)) (type_named d words) (typed d n e)
+      (expressions a d h n e k (none_after (word_failures d words) (failures d e) (none_before (word_failures d words ++ failures d e) w q)))
   expressions a d h n (ast.binary op at b c) k p =
       let m = calls_after d n b in
       let o : List Failure = own d (ast.binary op at b c) in

@@ -16,16 +16,16 @@ use Rattle.pk_typed.specs.Trees.{LocalTree, FileObjectTree, UnitTree}
 use Rattle.pk_type_scope.specs.declared.declarations.Callee.{Callee}
 use Rattle.pk_type_scope.specs.declared.declarations.Callee.TheVariants.{Ordinary, Any, Assume, Assert, Abort}
 use Rattle.pk_type_scope.specs.declared.declarations.Declaration.{Declaration}
-use Rattle.pk_type_scope.specs.declared.declarations.Declaration.TheVariants.{Object, Function, Enumerator}
+use Rattle.pk_type_scope.specs.declared.declarations.Declaration.TheVariants.{Object, Function, Enumerator, TypeName}
 use Rattle.pk_type_scope.specs.declared.declarations.Typing.{Typing}
 use Rattle.pk_type_scope.specs.declared.declarations.Typing.TheVariants.{Void, Integer, Unknown}
 use Rattle.pk_type_scope.specs.declared.failures.Failure.{Failure}
 use Rattle.pk_type_scope.specs.Declarations.{Names, is_void, is_unknown}
 use Rattle.pk_type_scope.specs.Failures.{noted}
 use Rattle.pk_type_scope.specs.Scopes.{Scoping, names_in, declaring, first_of, found_up, spelled}
-use Rattle.pk_type_scope.specs.Specifiers.{specifiers, type_named}
+use Rattle.pk_type_scope.specs.Specifiers.{word_failures, type_named}
 use Rattle.pk_type_expression.specs.Rules.{count}
-use Rattle.pk_type_expression.proofs.TreeLemmas.{none_before, none_after, holds_not}
+use Rattle.pk_type_expression.proofs.TreeLemmas.{none_before, none_after, holds_not, types_are, known_type}
 use Rattle.pk_type_declaration.specs.declared.words.Words.{Words}
 use Rattle.pk_type_declaration.specs.Constants.{evaluated, number_in, after_constant, length_in}
 use Rattle.pk_type_declaration.specs.Declarations.{words_of, integer_in, type_or_int, text_of, redeclared, void_object, special_object, braces, surplus, length_at, after_optional_length, length_or_1}
@@ -36,7 +36,7 @@ use Rattle.pk_type.specs.Units.{function_of}
 use Rattle.pk_welltyped.specs.WellTyped.{Around, IsObject, kind_in_file, IsStart, IsBodyIf}
 use Rattle.pk_type_laws.specs.Accepted.Names.{ObjectIs, CalleeIs, DeclarationIs, NamesAre}
 use Rattle.pk_type_laws.proofs.Accepted.Walks.{W, none_found, Later, later_same, later, later_failing}
-use Rattle.pk_type_laws.proofs.Accepted.Declarations.{names_declaring, nth, later_constant, later_optional_length, length_known, room}
+use Rattle.pk_type_laws.proofs.Accepted.Declarations.{has_types, names_declaring, nth, later_constant, later_optional_length, length_known, room}
 use Rattle.pk_type_laws.proofs.Accepted.Functions.{Integers}
 use Rattle.pk_typed.specs.Defaults.{length_of_start}
 use Rattle.pk_graph.specs.Kinds.{Kind, scalar_kind, array_kind}
@@ -111,6 +111,7 @@ abbrev pub KnownIn : Entries → Option Declaration → Type 0
 KnownIn es None = Unit {0}
 KnownIn es (Some (Object o)) = Unit {0}
 KnownIn es (Some (Enumerator n)) = Unit {0}
+KnownIn es (Some (TypeName t)) = Unit {0}
 KnownIn es (Some (Function f)) = (e : EntryTree) × (slice_get es f.number ≡ Some e)
 
 pub record EntryIs (u : UnitTree) (e : EntryTree) : Type 0 where
@@ -150,6 +151,7 @@ from_file u ls n None h = tt
 from_file u ls n (Some (Object o)) h = objects_from_file u ls n o.is_array o.int_type o.variable h
 from_file u ls n (Some (Function f)) h = callee_from_file u ls n f.number f.callee h
 from_file u ls n (Some (Enumerator v)) h = h
+from_file u ls n (Some (TypeName t)) h = h
 
 pub names_from_file : (u : UnitTree) (ls : List LocalTree) (n : ℕ) (d : Names) → NamesAre (in_file u) d → NamesAre (record { unit = u; locals = ls; objects = n }) d
 names_from_file u ls n d h x = from_file u ls n (d x) (h x)
@@ -286,9 +288,9 @@ later_objects storage words (d ∷ ds) f = file_later f (after_object noted stor
 pub later_declaration : (storage : Option Storage) (d : DeclarationTree) (f : F) → LaterFile f (after_declaration noted storage d f)
 unfolding after_declaration
 later_declaration storage d f =
-    let g = on (failing noted (specifiers d.specifiers)) f in
-    let l = later_objects storage (words_of d.specifiers) (d.declarators.first ∷ d.declarators.more) g in
-    record { found = λ h. (later_failing (specifiers d.specifiers) f.walked).found (l.found h); more = l.more; objects = l.objects; entries = l.entries }
+    let g = on (failing noted (word_failures (here f.walked) d.specifiers)) f in
+    let l = later_objects storage (words_of (here f.walked) d.specifiers) (d.declarators.first ∷ d.declarators.more) g in
+    record { found = λ h. (later_failing (word_failures (here f.walked) d.specifiers) f.walked).found (l.found h); more = l.more; objects = l.objects; entries = l.entries }
 
 void_row : (a b c d : List Failure) → a ++ b ++ c ++ d ≡ [] → c ≡ []
 void_row a b c d h = none_after (a ++ b) c (none_before (a ++ b ++ c) d h)
@@ -330,13 +332,13 @@ all_objects u storage words (d ∷ ds) f unknown h s k =
 
 pub declaration : (u : UnitTree) (storage : Option Storage) (d : DeclarationTree) (f : F) → FileIs u f → Stands u (after_declaration noted storage d f) → (after_declaration noted storage d f).walked.found ≡ None
     → FileIs u (after_declaration noted storage d f)
-unfolding after_declaration specifiers
+unfolding after_declaration
 declaration u storage d f h s k =
-    let g = on (failing noted (specifiers d.specifiers)) f in
+    let g = on (failing noted (word_failures (here f.walked) d.specifiers)) f in
     let ds = d.declarators.first ∷ d.declarators.more in
-    let r = after_objects noted storage (words_of d.specifiers) ds g in
-    let kg = (later_objects storage (words_of d.specifiers) ds g).found k in
-    let unknown : is_unknown (type_named d.specifiers) ≡ false = holds_not _ _ _ (none_found f.walked.found (specifiers d.specifiers) kg).1 in
+    let r = after_objects noted storage (words_of (here f.walked) d.specifiers) ds g in
+    let kg = (later_objects storage (words_of (here f.walked) d.specifiers) ds g).found k in
+    let unknown : is_unknown (type_named (here f.walked) d.specifiers) ≡ false = known_type (here f.walked) (types_are (here f.walked) (λ x. has_types (in_file u) (here f.walked x) (h.names x))) d.specifiers (none_found f.walked.found (word_failures (here f.walked) d.specifiers) kg).1 in
     let at : FileIs u g = record { names = h.names; known = h.known; locals = h.locals; objects = h.objects; entries = h.entries } in
-    let all = all_objects u storage (words_of d.specifiers) ds g unknown at (record { rest = s.rest; objects = s.objects; functions = s.functions }) k in
+    let all = all_objects u storage (words_of (here f.walked) d.specifiers) ds g unknown at (record { rest = s.rest; objects = s.objects; functions = s.functions }) k in
     record { names = all.names; known = all.known; locals = all.locals; objects = all.objects; entries = all.entries }

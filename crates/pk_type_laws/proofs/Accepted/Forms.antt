@@ -17,7 +17,7 @@ use Rattle.pk_ast.specs.Trees.{ExpressionTree}
 use Rattle.pk_typed.specs.Trees as tree
 use Rattle.pk_typed.specs.Trees.{ValueTree}
 use Rattle.pk_type_scope.specs.declared.declarations.Declaration.{Declaration}
-use Rattle.pk_type_scope.specs.declared.declarations.Declaration.TheVariants.{Object, Function, Enumerator}
+use Rattle.pk_type_scope.specs.declared.declarations.Declaration.TheVariants.{Object, Function, Enumerator, TypeName}
 use Rattle.pk_type_scope.specs.declared.declarations.Typing.{Typing}
 use Rattle.pk_type_scope.specs.declared.declarations.Typing.TheVariants.{Void, Integer, Unknown}
 use Rattle.pk_type_scope.specs.Declarations.{Names, is_enumerator}
@@ -158,6 +158,7 @@ name_numeric : (o : Option Declaration) → is_enumerator o ≡ true → Numeric
 name_numeric None h = absurd (false≢true h)
 name_numeric (Some (Object o)) h = absurd (false≢true h)
 name_numeric (Some (Function f)) h = absurd (false≢true h)
+name_numeric (Some (TypeName t)) h = absurd (false≢true h)
 name_numeric (Some (Enumerator None)) h = tt
 name_numeric (Some (Enumerator (Some n))) h = number_numeric Int n
 
@@ -172,7 +173,7 @@ numeric d n (ast.parenthesized at e) h = numeric d n e h
 numeric d n (ast.postfix op at e) h = absurd (false≢true h)
 numeric d n (ast.prefix op at e) h = absurd (false≢true h)
 numeric d n (ast.unary op at e) h = unary_numeric (unary_number_operator op) at (operand_of (type_of d e) (typed d n e)) (operand (type_of d e) (typed d n e) (numeric d n e h))
-numeric d n (ast.cast at words e) h = cast_numeric (type_named words) (typed d n e) (numeric d n e h)
+numeric d n (ast.cast at words e) h = cast_numeric (type_named d words) (typed d n e) (numeric d n e h)
 numeric d n (ast.binary op at a b) h =
     let m = calls_after d n a in
     binary_numeric (binary_number_operator op) (is_or op) at (operand_of (type_of d a) (typed d n a)) (operand_of (type_of d b) (typed d m b))

@@ -1,5 +1,5 @@
 -- Parameters and bodies of functions in which no rule fails.
-use Rattle.std.proofs.Common.{◌≡◌, ℕ, suc, ◌≤◌, true, false, List, [], ◌∷◌, ◌++◌, Option, Some, None, length, map, refl, ap, sym, subst, ◌∙◌, arith, append_assoc, append-nil}
+use Rattle.std.proofs.Common.{◌≡◌, ℕ, suc, ◌≤◌, Bool, true, false, not, if◌then◌else◌, List, [], ◌∷◌, ◌++◌, Option, Some, None, length, map, refl, ap, sym, subst, ◌∙◌, arith, append_assoc, append-nil}
 use Rattle.std.proofs.lemmas.Bool.{false≢true}
 use Rattle.std.specs.Option.{option_map}
 use Rattle.pk_ctypes.specs.declared.places.Pos.{Pos}
@@ -7,14 +7,20 @@ use Rattle.pk_ctypes.specs.declared.types.IntType.{IntType}
 use Rattle.pk_ctypes.specs.declared.words.Rule.{Rule}
 use Rattle.pk_ctypes.specs.declared.words.Rule.TheVariants as rule
 use Rattle.pk_ast.specs.declared.expressions.Identifier.{Identifier}
-use Rattle.pk_ast.specs.Trees.{BlockTree, ParameterTree}
+use Rattle.pk_ast.specs.declared.declarations.Specifier.{Specifier}
+use Rattle.pk_ast.specs.Trees.{OneOrMore, BlockTree, ParameterTree}
 use Rattle.pk_typed.specs.Trees as tree
 use Rattle.pk_typed.specs.Trees.{LocalTree, UnitTree}
+use Rattle.pk_type_scope.specs.declared.declarations.Declaration.{Declaration}
+use Rattle.pk_type_scope.specs.declared.declarations.Declaration.TheVariants.{Object, Function, Enumerator, TypeName}
+use Rattle.pk_type_scope.specs.declared.declarations.NamedType.{NamedType}
 use Rattle.pk_type_scope.specs.declared.declarations.Typing.{Typing}
 use Rattle.pk_type_scope.specs.declared.declarations.Typing.TheVariants.{Void, Integer, Unknown}
-use Rattle.pk_type_scope.specs.Declarations.{is_void, is_unknown}
+use Rattle.pk_type_scope.specs.Declarations.{Names, is_void, is_unknown, is_type_name, type_meant}
 use Rattle.pk_type_scope.specs.Failures.{fails_if, noted}
-use Rattle.pk_type_scope.specs.Specifiers.{type_named, specifiers}
+use Rattle.pk_type_scope.specs.Scopes.{Scoping, first_of, found_up, spelled, names_in, declaring, opened}
+use Rattle.std.specs.Str.{bytes_eq}
+use Rattle.pk_type_scope.specs.Specifiers.{type_name_among, type_by, type_named, failures_by, word_failures}
 use Rattle.pk_type_declaration.specs.Declarations.{words_of, type_or_int, local_of, integer_in}
 use Rattle.pk_type_declaration.specs.Walks.{here, failing, with_local}
 use Rattle.pk_type_jump.specs.Jumps.{jumps_of}
@@ -28,8 +34,8 @@ use Rattle.pk_welltyped.specs.WellTyped.{AreParameters, AreItems, IsBodyIf, Mark
 use Rattle.pk_type_laws.specs.Accepted.Constants.{ItemsHave}
 use Rattle.pk_type_laws.specs.Accepted.Names.{NamesAre}
 use Rattle.pk_type_laws.proofs.Accepted.Walks.{W, around, none_found, Later, later_same, later, later_failing}
-use Rattle.pk_type_expression.proofs.TreeLemmas.{none_after, holds_not}
-use Rattle.pk_type_laws.proofs.Accepted.Declarations.{names_later, Begins, begins_before, later_object, not_void, object_declared}
+use Rattle.pk_type_expression.proofs.TreeLemmas.{none_after, holds_not, TypesAre, types_are, known_type}
+use Rattle.pk_type_laws.proofs.Accepted.Declarations.{has_types, names_later, found_last, Begins, begins_before, later_object, not_void, object_declared}
 use Rattle.pk_type_laws.proofs.Accepted.Statements.{Ends, items_part, later_items, ItemsPart}
 use Rattle.pk_type_laws.proofs.Accepted.Jumps.{labels_below, no_case, no_default}
 
@@ -40,14 +46,14 @@ later_local l w = record { found = λ h. h; more = l ∷ []; locals = refl }
 
 later_parameter : (p : ParameterTree) (w : W) → Later w (after_parameter noted p w)
 later_parameter p w =
-    let v = failing noted (specifiers p.specifiers) w in
-    later w v _ (later_failing (specifiers p.specifiers) w) (named p.name v)
+    let v = failing noted (word_failures (here w) p.specifiers) w in
+    later w v _ (later_failing (word_failures (here w) p.specifiers) w) (named p.name v)
   where
     named : (x : Option Identifier) (v : W) → Later v (after_parameter_name noted p x v)
     named None v =
-        let fs = fails_if (is_void (type_named p.specifiers)) rule.Void p.specifiers.first.at in
-        later v (failing noted fs v) _ (later_failing fs v) (later_local (record { name = None; int_type = type_or_int (type_named p.specifiers); length = None }) (failing noted fs v))
-    named (Some x) v = later_object (words_of p.specifiers) false None x v
+        let fs = fails_if (is_void (type_named (here v) p.specifiers)) rule.Void p.specifiers.first.at in
+        later v (failing noted fs v) _ (later_failing fs v) (later_local (record { name = None; int_type = type_or_int (type_named (here v) p.specifiers); length = None }) (failing noted fs v))
+    named (Some x) v = later_object (words_of (here v) p.specifiers) false None x v
 
 pub later_parameters : (ps : List ParameterTree) (w : W) → Later w (after_parameters noted ps w)
 unfolding after_parameters
@@ -63,25 +69,83 @@ integer Void h k = absurd (false≢true (sym h))
 integer (Integer t) h k = refl
 integer Unknown h k = absurd (false≢true (sym k))
 
-parameter_integer : (p : ParameterTree) (w : W) → (after_parameter noted p w).found ≡ None → is_integer (type_named p.specifiers) ≡ true
-unfolding specifiers
-parameter_integer p w h = named p.name h
-  where
-    named : (x : Option Identifier) → (after_parameter_name noted p x (failing noted (specifiers p.specifiers) w)).found ≡ None → is_integer (type_named p.specifiers) ≡ true
-    named None h =
-        let t = type_named p.specifiers in
-        let v = failing noted (specifiers p.specifiers) w in
-        let f = none_found v.found (fails_if (is_void t) rule.Void p.specifiers.first.at) h in
-        integer t (holds_not _ _ _ f.1) (holds_not _ _ _ (none_found w.found (specifiers p.specifiers) f.0).1)
-    named (Some x) h =
-        let t = type_named p.specifiers in
-        let v = failing noted (specifiers p.specifiers) w in
-        integer t (not_void (words_of p.specifiers) false None x v h) (holds_not _ _ _ (none_found w.found (specifiers p.specifiers) ((later_object (words_of p.specifiers) false None x v).found h)).1)
+-- ---- types that parameters name, where scopes of the function declare no type
 
-pub integers_of : (ps : List ParameterTree) (w : W) → (after_parameters noted ps w).found ≡ None → Integers (types_of ps)
+-- each type name of the second scope is one of the first
+abbrev pub TypesFrom : Names → Names → Type 0
+TypesFrom c d = (x : Identifier) (t : NamedType) → d x ≡ Some (TypeName t) → c x ≡ Some (TypeName t)
+
+type_kept : (b : Bool) (o : Declaration) (l other : Option Declaration) (t : NamedType) → is_type_name (Some o) ≡ false → first_of (if b then Some o else l) other ≡ Some (TypeName t) → first_of l other ≡ Some (TypeName t)
+type_kept true o l other t h is = absurd (false≢true (sym h ∙ ap is_type_name is))
+type_kept false o l other t h is = is
+
+same_meant : (o p : Option Declaration) → ((t : NamedType) → o ≡ Some (TypeName t) → p ≡ Some (TypeName t)) → not (is_type_name o) ≡ false → type_meant o ≡ type_meant p
+same_meant None p h k = absurd (false≢true (sym k))
+same_meant (Some (Object o)) p h k = absurd (false≢true (sym k))
+same_meant (Some (Function f)) p h k = absurd (false≢true (sym k))
+same_meant (Some (Enumerator n)) p h k = absurd (false≢true (sym k))
+same_meant (Some (TypeName t)) p h k = ap type_meant (sym (h t refl))
+
+same_by : (c d : Names) → TypesFrom c d → (o : Option Identifier) (words : OneOrMore Specifier) → failures_by d o words ≡ [] → type_by d o words ≡ type_by c o words
+same_by c d h None words k = refl
+same_by c d h (Some x) words k = same_meant (d x) (c x) (h x) (holds_not _ _ _ k)
+
+same_type : (c d : Names) → TypesFrom c d → (words : OneOrMore Specifier) → word_failures d words ≡ [] → type_named d words ≡ type_named c words
+unfolding type_named word_failures
+same_type c d h words k = same_by c d h (type_name_among words) words k
+
+types_from : (c d : Names) → TypesFrom c d → TypesAre c → TypesAre d
+types_from c d h k x t is = k x t (h x t is)
+
+pub types_declaring : (c : Names) (s : Scoping) (x : Identifier) (o : Declaration) → is_type_name (Some o) ≡ false → TypesFrom c (names_in s) → TypesFrom c (names_in (declaring s x o))
+unfolding names_in
+types_declaring c s x o h k y t is = k y t (type_kept (bytes_eq (spelled s.text x) (spelled s.text y)) o (s.inner (spelled s.text y)) (found_up s.outer (spelled s.text y) None) t h is)
+
+pub types_opened : (c : Names) (s : Scoping) → TypesFrom c (names_in s) → TypesFrom c (names_in (opened s))
+unfolding names_in
+types_opened c s k y t is = k y t (sym (found_last s.outer s.inner (spelled s.text y) None) ∙ is)
+
+types_behind : (c : Names) (p : ParameterTree) (w : W) → TypesFrom c (here w) → TypesFrom c (here (after_parameter noted p w))
+types_behind c p w k = named p.name
+  where
+    named : (x : Option Identifier) → TypesFrom c (here (after_parameter_name noted p x (failing noted (word_failures (here w) p.specifiers) w)))
+    named None = k
+    named (Some x) = types_declaring c w.scoping x _ refl k
+
+-- the row at the words of a parameter
+parameter_words : (p : ParameterTree) (w : W) → (after_parameter noted p w).found ≡ None → word_failures (here w) p.specifiers ≡ []
+parameter_words p w h = named p.name h
+  where
+    named : (x : Option Identifier) → (after_parameter_name noted p x (failing noted (word_failures (here w) p.specifiers) w)).found ≡ None → word_failures (here w) p.specifiers ≡ []
+    named None h =
+        let v = failing noted (word_failures (here w) p.specifiers) w in
+        (none_found w.found (word_failures (here w) p.specifiers) (none_found v.found (fails_if (is_void (type_named (here w) p.specifiers)) rule.Void p.specifiers.first.at) h).0).1
+    named (Some x) h =
+        let v = failing noted (word_failures (here w) p.specifiers) w in
+        (none_found w.found (word_failures (here w) p.specifiers) ((later_object (words_of (here w) p.specifiers) false None x v).found h)).1
+
+parameter_integer : (p : ParameterTree) (w : W) → TypesAre (here w) → (after_parameter noted p w).found ≡ None → is_integer (type_named (here w) p.specifiers) ≡ true
+parameter_integer p w k h = named p.name h
+  where
+    known : is_unknown (type_named (here w) p.specifiers) ≡ false
+    known = known_type (here w) k p.specifiers (parameter_words p w h)
+
+    named : (x : Option Identifier) → (after_parameter_name noted p x (failing noted (word_failures (here w) p.specifiers) w)).found ≡ None → is_integer (type_named (here w) p.specifiers) ≡ true
+    named None h =
+        let t = type_named (here w) p.specifiers in
+        let v = failing noted (word_failures (here w) p.specifiers) w in
+        integer t (holds_not _ _ _ (none_found v.found (fails_if (is_void t) rule.Void p.specifiers.first.at) h).1) known
+    named (Some x) h =
+        let v = failing noted (word_failures (here w) p.specifiers) w in
+        integer (type_named (here w) p.specifiers) (not_void (words_of (here w) p.specifiers) false None x v h) known
+
+pub integers_of : (c : Names) (ps : List ParameterTree) (w : W) → TypesAre c → TypesFrom c (here w) → (after_parameters noted ps w).found ≡ None → Integers (types_of c ps)
 unfolding after_parameters
-integers_of [] w h = tt
-integers_of (p ∷ ps) w h = (parameter_integer p w ((later_parameters ps (after_parameter noted p w)).found h), integers_of ps (after_parameter noted p w) h)
+integers_of c [] w a k h = tt
+integers_of c (p ∷ ps) w a k h =
+    let v = after_parameter noted p w in
+    let f : v.found ≡ None = (later_parameters ps v).found h in
+    (ap is_integer (sym (same_type c (here w) k p.specifiers (parameter_words p w f))) ∙ parameter_integer p w (types_from c (here w) k a) f, integers_of c ps v a (types_behind c p w k) h)
 
 record One (u : UnitTree) (ls : List LocalTree) (w v : W) (t : Typing) : Type 0 where
   names : NamesAre (around u ls v) (here v)
@@ -92,19 +156,18 @@ record One (u : UnitTree) (ls : List LocalTree) (w v : W) (t : Typing) : Type 0 
   length_is : local.length ≡ None
 
 parameter : (u : UnitTree) (ls : List LocalTree) (p : ParameterTree) (w : W) → NamesAre (around u ls w) (here w) → Begins ls (after_parameter noted p w) → (after_parameter noted p w).found ≡ None
-    → One u ls w (after_parameter noted p w) (type_named p.specifiers)
-unfolding specifiers
+    → One u ls w (after_parameter noted p w) (type_named (here w) p.specifiers)
 parameter u ls p w n b h = named p.name b h
   where
-    named : (x : Option Identifier) → Begins ls (after_parameter_name noted p x (failing noted (specifiers p.specifiers) w)) → (after_parameter_name noted p x (failing noted (specifiers p.specifiers) w)).found ≡ None
-        → One u ls w (after_parameter_name noted p x (failing noted (specifiers p.specifiers) w)) (type_named p.specifiers)
+    named : (x : Option Identifier) → Begins ls (after_parameter_name noted p x (failing noted (word_failures (here w) p.specifiers) w)) → (after_parameter_name noted p x (failing noted (word_failures (here w) p.specifiers) w)).found ≡ None
+        → One u ls w (after_parameter_name noted p x (failing noted (word_failures (here w) p.specifiers) w)) (type_named (here w) p.specifiers)
     named None b h =
-        let t = type_named p.specifiers in
-        let v = failing noted (specifiers p.specifiers) w in
+        let t = type_named (here w) p.specifiers in
+        let v = failing noted (word_failures (here w) p.specifiers) w in
         let fs = fails_if (is_void t) rule.Void p.specifiers.first.at in
         let f = none_found v.found fs h in
         let x = unnamed noted p v in
-        let l = later w (failing noted fs v) x (later w v _ (later_failing (specifiers p.specifiers) w) (later_failing fs v)) (later_local (record { name = None; int_type = type_or_int t; length = None }) (failing noted fs v)) in
+        let l = later w (failing noted fs v) x (later w v _ (later_failing (word_failures (here w) p.specifiers) w) (later_failing fs v)) (later_local (record { name = None; int_type = type_or_int t; length = None }) (failing noted fs v)) in
         record {
           names = names_later u ls w x (here w) l n;
           calls = refl;
@@ -114,11 +177,11 @@ parameter u ls p w n b h = named p.name b h
           length_is = refl;
         }
     named (Some x) b h =
-        let t = type_named p.specifiers in
-        let v = failing noted (specifiers p.specifiers) w in
-        let f = (later_object (words_of p.specifiers) false None x v).found h in
-        let unknown : is_unknown t ≡ false = holds_not _ _ _ (none_found w.found (specifiers p.specifiers) f).1 in
-        let o = object_declared u ls (words_of p.specifiers) false None x v n unknown b h in
+        let t = type_named (here w) p.specifiers in
+        let v = failing noted (word_failures (here w) p.specifiers) w in
+        let f = (later_object (words_of (here w) p.specifiers) false None x v).found h in
+        let unknown : is_unknown t ≡ false = known_type (here w) (types_are (here w) (λ y. has_types (around u ls w) (here w y) (n y))) p.specifiers (none_found w.found (word_failures (here w) p.specifiers) f).1 in
+        let o = object_declared u ls (words_of (here w) p.specifiers) false None x v n unknown b h in
         record {
           names = o.names;
           calls = refl;
@@ -136,21 +199,21 @@ pub record Parameters (u : UnitTree) (ls : List LocalTree) (w v : W) (ts : List 
   pub are : AreParameters (map type_or_int ts) more
   pub many : length more ≡ length (map type_or_int ts)
 
-pub parameters : (u : UnitTree) (ls : List LocalTree) (ps : List ParameterTree) (w : W) → NamesAre (around u ls w) (here w) → Begins ls (after_parameters noted ps w) → (after_parameters noted ps w).found ≡ None
-    → Parameters u ls w (after_parameters noted ps w) (types_of ps)
+pub parameters : (u : UnitTree) (ls : List LocalTree) (c : Names) (ps : List ParameterTree) (w : W) → NamesAre (around u ls w) (here w) → TypesFrom c (here w) → Begins ls (after_parameters noted ps w)
+    → (after_parameters noted ps w).found ≡ None → Parameters u ls w (after_parameters noted ps w) (types_of c ps)
 unfolding after_parameters
-parameters u ls [] w n b h = record { names = n; calls = refl; more = []; locals = sym (append-nil w.locals); are = tt; many = refl }
-parameters u ls (p ∷ ps) w n b h =
+parameters u ls c [] w n k b h = record { names = n; calls = refl; more = []; locals = sym (append-nil w.locals); are = tt; many = refl }
+parameters u ls c (p ∷ ps) w n k b h =
     let v = after_parameter noted p w in
     let l = later_parameters ps v in
     let one = parameter u ls p w n (begins_before ls v _ l b) (l.found h) in
-    let all = parameters u ls ps v one.names b h in
+    let all = parameters u ls c ps v one.names (types_behind c p w k) b h in
     record {
       names = all.names;
       calls = all.calls ∙ one.calls;
       more = one.local ∷ all.more;
       locals = all.locals ∙ (ap (λ (xs : List LocalTree). xs ++ all.more) one.locals ∙ append_assoc w.locals (one.local ∷ []) all.more);
-      are = (one.type_is, one.length_is, all.are);
+      are = (one.type_is ∙ ap type_or_int (same_type c (here w) k p.specifiers (parameter_words p w (l.found h))), one.length_is, all.are);
       many = ap suc all.many;
     }
 

@@ -11,20 +11,20 @@ use Rattle.pk_ctypes.specs.declared.types.IntType.{IntType}
 use Rattle.pk_ctypes.specs.declared.types.IntType.TheVariants.{Char, SChar, UChar, Short, UShort, Int, UInt, Long, ULong, LLong, ULLong}
 use Rattle.pk_ctypes.specs.declared.words.Rule.TheVariants as rule
 use Rattle.pk_ast.specs.declared.expressions.Identifier.{Identifier}
-use Rattle.pk_ast.specs.Trees.{BlockTree, ParameterTree, FunctionTree, ExternalTree, function, objects}
+use Rattle.pk_ast.specs.Trees.{BlockTree, ParameterTree, FunctionTree, ExternalTree, function, objects, type_names}
 use Rattle.pk_typed.specs.Trees as tree
 use Rattle.pk_typed.specs.Trees.{LocalTree, BodyTree, UnitTree}
 use Rattle.pk_type_scope.specs.declared.declarations.Callee.{Callee}
 use Rattle.pk_type_scope.specs.declared.declarations.Callee.TheVariants.{Ordinary, Any, Assume, Assert, Abort}
 use Rattle.pk_type_scope.specs.declared.declarations.Declaration.{Declaration}
-use Rattle.pk_type_scope.specs.declared.declarations.Declaration.TheVariants.{Object, Function, Enumerator}
+use Rattle.pk_type_scope.specs.declared.declarations.Declaration.TheVariants.{Object, Function, Enumerator, TypeName}
 use Rattle.pk_type_scope.specs.declared.declarations.Typing.{Typing}
 use Rattle.pk_type_scope.specs.declared.declarations.Typing.TheVariants.{Void, Integer, Unknown}
 use Rattle.pk_type_scope.specs.declared.failures.Failure.{Failure}
-use Rattle.pk_type_scope.specs.Declarations.{is_unknown}
+use Rattle.pk_type_scope.specs.Declarations.{Names, is_unknown}
 use Rattle.pk_type_scope.specs.Failures.{fails_if, noted}
 use Rattle.pk_type_scope.specs.Scopes.{names_in, spelled, file_scope}
-use Rattle.pk_type_scope.specs.Specifiers.{specifiers, type_named}
+use Rattle.pk_type_scope.specs.Specifiers.{word_failures, type_named}
 use Rattle.pk_type_declaration.specs.Declarations.{integer_in, type_or_int, text_of}
 use Rattle.pk_ctypes.specs.Spellings.{lookup}
 use Rattle.pk_type_declaration.specs.Specials.{special, specials}
@@ -39,11 +39,12 @@ use Rattle.pk_welltyped.specs.WellTyped.{Takes, AreParameters, IsBodyIf, IsStart
 use Rattle.pk_type_laws.specs.Accepted.Constants.{BlockHas, ExternalHas, ExternalsHave}
 use Rattle.pk_type_laws.specs.Accepted.Names.{CalleeIs, DeclarationIs}
 use Rattle.pk_type_laws.proofs.Accepted.Walks.{around, none_found}
-use Rattle.pk_type_laws.proofs.Accepted.Declarations.{names_declaring, names_opened, Begins, nth}
-use Rattle.pk_type_laws.proofs.Accepted.Functions.{Integers, later_parameters, parameters, with_others, integers_of, later_body, body}
+use Rattle.pk_type_laws.proofs.Accepted.Declarations.{has_types, names_declaring, names_opened, Begins, nth}
+use Rattle.pk_type_laws.proofs.Accepted.Functions.{Integers, TypesFrom, types_declaring, types_opened, later_parameters, parameters, with_others, integers_of, later_body, body}
 use Rattle.pk_type_laws.proofs.Accepted.Files as files
 use Rattle.pk_type_laws.proofs.Accepted.Files.{F, in_file, SameEntry, Entries, Kept, LaterFile, kept_same, file_same, file_later, Stands, stands_before, KnownIn, EntryIs, FileIs, names_from_file, known_declaring}
-use Rattle.pk_type_expression.proofs.TreeLemmas.{none_before, none_after, holds_not}
+use Rattle.pk_type_laws.proofs.Accepted.TypeNames.{later_typedef, typedef_calls, typedef_is}
+use Rattle.pk_type_expression.proofs.TreeLemmas.{none_before, none_after, holds_not, types_are, known_type}
 
 -- ---- types of functions that don't differ
 
@@ -170,9 +171,9 @@ update_keeps b (suc n) (x ∷ es) (suc i) e is = update_keeps b n es i e is
 
 abbrev head_rows : FunctionTree → F → List Failure
 head_rows f file =
-    let s = signature_of f in
     let w = file.walked in
-    specifiers f.specifiers ++ fails_if (is_redeclared file.functions s (is_some f.body) (names_in w.scoping f.name)) rule.Redeclared f.name.at ++ fails_if (is_misused s (special (spelled w.scoping.text f.name))) rule.Special f.name.at
+    let s = signature_of (here w) f in
+    word_failures (here w) f.specifiers ++ fails_if (is_redeclared file.functions s (is_some f.body) (names_in w.scoping f.name)) rule.Redeclared f.name.at ++ fails_if (is_misused s (special (spelled w.scoping.text f.name))) rule.Special f.name.at
 
 later_head : (defined : List ℕ → Bool) (f : FunctionTree) (file : F) → LaterFile file (after_head noted defined f file)
 later_head defined f file = record {
@@ -180,7 +181,7 @@ later_head defined f file = record {
   more = [];
   objects = sym (append-nil file.objects);
   entries = λ i e h. let n = number_of file.functions (names_in file.walked.scoping f.name) in
-      subst (SameEntry e) (sym (new_keeps file.functions n (text_of file.walked.scoping f.name) (signature_of f) i e h)) refl;
+      subst (SameEntry e) (sym (new_keeps file.functions n (text_of file.walked.scoping f.name) (signature_of (here file.walked) f) i e h)) refl;
 }
 
 record EntryAt (es : Entries) (n : ℕ) (s : SignatureTree) : Type 0 where
@@ -193,6 +194,7 @@ entry_there : (u : UnitTree) (es : Entries) (s : SignatureTree) (has_body : Bool
 entry_there u es s has_body name None k r h i q = record { entry = record { name = name; signature = s; is_defined = false; body = None }; there = new_there es name s; same = refl }
 entry_there u es s has_body name (Some (Object o)) k r h i q = absurd (false≢true (sym r))
 entry_there u es s has_body name (Some (Enumerator n)) k r h i q = absurd (false≢true (sym r))
+entry_there u es s has_body name (Some (TypeName t)) k r h i q = absurd (false≢true (sym r))
 entry_there u es s has_body name (Some (Function f)) k r h i q =
     let e = k.0 in
     let x = h f.number e k.1 in
@@ -248,29 +250,28 @@ record HeadIs (u : UnitTree) (h : F) (n : ℕ) (s : SignatureTree) : Type 0 wher
   entry : EntryAt h.functions n s
   known : is_unknown s.returns ≡ false
 
-head : (u : UnitTree) (defined : List ℕ → Bool) (f : FunctionTree) (file : F) → FileIs u file → Stands u (after_head noted defined f file) → (after_head noted defined f file).walked.found ≡ None → Integers (types_of f.parameters)
-    → HeadIs u (after_head noted defined f file) (number_of file.functions (names_in file.walked.scoping f.name)) (signature_of f)
-unfolding specifiers
+head : (u : UnitTree) (defined : List ℕ → Bool) (f : FunctionTree) (file : F) → FileIs u file → Stands u (after_head noted defined f file) → (after_head noted defined f file).walked.found ≡ None → Integers (types_of (here file.walked) f.parameters)
+    → HeadIs u (after_head noted defined f file) (number_of file.functions (names_in file.walked.scoping f.name)) (signature_of (here file.walked) f)
 head u defined f file h s k i =
     let w = file.walked in
     let b = names_in w.scoping f.name in
     let n = number_of file.functions b in
     let r = (none_found w.found (head_rows f file) k).1 in
-    let two : specifiers f.specifiers ++ fails_if (is_redeclared file.functions (signature_of f) (is_some f.body) b) rule.Redeclared f.name.at ≡ [] = none_before (specifiers f.specifiers ++ fails_if (is_redeclared file.functions (signature_of f) (is_some f.body) b) rule.Redeclared f.name.at) (fails_if (is_misused (signature_of f) (special (spelled w.scoping.text f.name))) rule.Special f.name.at) r in
-    let unknown : is_unknown (type_named f.specifiers) ≡ false = holds_not _ _ _ (none_before (specifiers f.specifiers) (fails_if (is_redeclared file.functions (signature_of f) (is_some f.body) b) rule.Redeclared f.name.at) two) in
-    let not_again : is_redeclared file.functions (signature_of f) (is_some f.body) b ≡ false = holds_not _ _ _ (none_after (specifiers f.specifiers) (fails_if (is_redeclared file.functions (signature_of f) (is_some f.body) b) rule.Redeclared f.name.at) two) in
-    let e = entry_there u file.functions (signature_of f) (is_some f.body) (text_of w.scoping f.name) b (h.known f.name) not_again h.entries i unknown in
+    let two : word_failures (here file.walked) f.specifiers ++ fails_if (is_redeclared file.functions (signature_of (here file.walked) f) (is_some f.body) b) rule.Redeclared f.name.at ≡ [] = none_before (word_failures (here file.walked) f.specifiers ++ fails_if (is_redeclared file.functions (signature_of (here file.walked) f) (is_some f.body) b) rule.Redeclared f.name.at) (fails_if (is_misused (signature_of (here file.walked) f) (special (spelled w.scoping.text f.name))) rule.Special f.name.at) r in
+    let unknown : is_unknown (type_named (here file.walked) f.specifiers) ≡ false = known_type (here w) (types_are (here w) (λ y. has_types (in_file u) (here w y) (h.names y))) f.specifiers (none_before (word_failures (here file.walked) f.specifiers) (fails_if (is_redeclared file.functions (signature_of (here file.walked) f) (is_some f.body) b) rule.Redeclared f.name.at) two) in
+    let not_again : is_redeclared file.functions (signature_of (here file.walked) f) (is_some f.body) b ≡ false = holds_not _ _ _ (none_after (word_failures (here file.walked) f.specifiers) (fails_if (is_redeclared file.functions (signature_of (here file.walked) f) (is_some f.body) b) rule.Redeclared f.name.at) two) in
+    let e = entry_there u file.functions (signature_of (here file.walked) f) (is_some f.body) (text_of w.scoping f.name) b (h.known f.name) not_again h.entries i unknown in
     let x = s.functions n e.entry e.there in
     let q = spelled w.scoping.text f.name in
-    let g : Declaration = Function (record { number = n; callee = callee_of (signature_of f) (defined q) (special q) }) in
-    let known : (y : Identifier) → KnownIn (after_head noted defined f file).functions (names_in w.scoping y) = λ y. known_new file.functions n (text_of w.scoping f.name) (signature_of f) (names_in w.scoping y) (h.known y) in
+    let g : Declaration = Function (record { number = n; callee = callee_of (signature_of (here file.walked) f) (defined q) (special q) }) in
+    let known : (y : Identifier) → KnownIn (after_head noted defined f file).functions (names_in w.scoping y) = λ y. known_new file.functions n (text_of w.scoping f.name) (signature_of (here file.walked) f) (names_in w.scoping y) (h.known y) in
     record {
       file = record {
-        names = names_declaring (in_file u) w.scoping f.name g h.names (callee_is u n (signature_of f) (defined q) (special q) (are_special q) unknown (takes (signature_of f) (slice_get u.functions n) x.0 x.1 (x.2 ∙ e.same)));
+        names = names_declaring (in_file u) w.scoping f.name g h.names (callee_is u n (signature_of (here file.walked) f) (defined q) (special q) (are_special q) unknown (takes (signature_of (here file.walked) f) (slice_get u.functions n) x.0 x.1 (x.2 ∙ e.same)));
         known = known_declaring (after_head noted defined f file).functions w.scoping f.name g known (e.entry, e.there);
         locals = h.locals;
         objects = h.objects;
-        entries = new_entries (EntryIs u) file.functions n (text_of w.scoping f.name) (signature_of f) h.entries (record { body = tt; integers = i; returns = unknown });
+        entries = new_entries (EntryIs u) file.functions n (text_of w.scoping f.name) (signature_of (here file.walked) f) h.entries (record { body = tt; integers = i; returns = unknown });
       };
       entry = e;
       known = unknown;
@@ -280,6 +281,7 @@ head u defined f file h s k i =
     known_new es n name s None k = tt
     known_new es n name s (Some (Object o)) k = tt
     known_new es n name s (Some (Enumerator v)) k = tt
+    known_new es n name s (Some (TypeName t)) k = tt
     known_new es n name s (Some (Function f)) k = (k.0, new_keeps es n name s f.number k.0 k.1)
 
 -- ---- functions
@@ -300,7 +302,7 @@ later_function defined f file =
     let h = after_head noted defined f file in
     let i = on entering h in
     let g = on (after_parameters noted f.parameters) i in
-    let r = type_named f.specifiers in
+    let r = type_named (here file.walked) f.specifiers in
     let x = after_optional_body noted r n f.body g in
     let a = later_head defined f file in
     let b = later_optional_body r n f.body g in
@@ -312,6 +314,7 @@ known_kept : (es fs : Entries) (d : Option Declaration) → Kept es fs → Known
 known_kept es fs None k h = tt
 known_kept es fs (Some (Object o)) k h = tt
 known_kept es fs (Some (Enumerator n)) k h = tt
+known_kept es fs (Some (TypeName t)) k h = tt
 known_kept es fs (Some (Function f)) k h = there (slice_get fs f.number) refl (k f.number h.0 h.1)
   where
     there : (o : Option EntryTree) → slice_get fs f.number ≡ o → SameEntry h.0 o → KnownIn fs (Some (Function f))
@@ -319,25 +322,25 @@ known_kept es fs (Some (Function f)) k h = there (slice_get fs f.number) refl (k
     there (Some e) is s = (e, is)
 
 -- the entries of a function whose parameters and body are looked at
-with_block : (u : UnitTree) (r : Typing) (n : ℕ) (ps : List ParameterTree) (b : Option BlockTree) (h : F) (e : EntryTree) → FileIs u h → h.walked.calls ≡ [] → slice_get h.functions n ≡ Some e → e.signature.parameters ≡ types_of ps
-    → e.signature.returns ≡ r → is_unknown r ≡ false → BlockHas b
+with_block : (u : UnitTree) (r : Typing) (n : ℕ) (c : Names) (ps : List ParameterTree) (b : Option BlockTree) (h : F) (e : EntryTree) → FileIs u h → TypesFrom c (here (on entering h).walked) → h.walked.calls ≡ []
+    → slice_get h.functions n ≡ Some e → e.signature.parameters ≡ types_of c ps → e.signature.returns ≡ r → is_unknown r ≡ false → BlockHas b
     → (let g = on (after_parameters noted ps) (on entering h) in let x = after_optional_body noted r n b g in Stands u x → x.walked.found ≡ None → (i : ℕ) (d : EntryTree) → slice_get x.functions i ≡ Some d → EntryIs u d)
-with_block u r n ps None h e is c there same ret known has s k = is.entries
-with_block u r n ps (Some b) h e is c there same ret known has s k =
+with_block u r n c ps None h e is from none there same ret known has s k = is.entries
+with_block u r n c ps (Some b) h e is from none there same ret known has s k =
     let w = (on entering h).walked in
     let v = after_parameters noted ps w in
     let ls = (after_body noted r b v).locals in
     let l = later_body r b v in
     let begins : Begins ls v = record { rest = l.more; is = l.locals } in
-    let p = parameters u ls ps w (names_opened (around u ls w) h.walked.scoping (names_from_file u ls (length w.locals) (here h.walked) is.names)) begins (l.found k) in
+    let p = parameters u ls c ps w (names_opened (around u ls w) h.walked.scoping (names_from_file u ls (length w.locals) (here h.walked) is.names)) from begins (l.found k) in
     let locals : v.locals ≡ p.more = p.locals ∙ ap (λ (xs : List LocalTree). xs ++ p.more) is.locals in
-    let types : map type_or_int (types_of ps) ≡ map type_or_int e.signature.parameters = ap (map type_or_int) (sym same) in
+    let types : map type_or_int (types_of c ps) ≡ map type_or_int e.signature.parameters = ap (map type_or_int) (sym same) in
     let are : AreParameters (map type_or_int e.signature.parameters) ls =
-    subst (λ (ts : List IntType). AreParameters ts ls) types (subst (AreParameters (map type_or_int (types_of ps))) (ap (λ (xs : List LocalTree). xs ++ l.more) (sym locals) ∙ sym l.locals) (with_others (map type_or_int (types_of ps)) p.more l.more p.are)) in
+    subst (λ (ts : List IntType). AreParameters ts ls) types (subst (AreParameters (map type_or_int (types_of c ps))) (ap (λ (xs : List LocalTree). xs ++ l.more) (sym locals) ∙ sym l.locals) (with_others (map type_or_int (types_of c ps)) p.more l.more p.are)) in
     let many : length v.locals ≡ length (map type_or_int e.signature.parameters) = ap length locals ∙ (p.many ∙ ap length types) in
     let visible : length h.objects ≤ length u.objects = omega (ap length s.objects ∙ length-append h.objects s.rest, arith) in
     let made = body_at noted r (length h.objects) b v in
-    let whole = body u (function_of (with_body made e)) r (length h.objects) b v visible (p.calls ∙ c) are many (ap integer_in ret) known p.names has k in
+    let whole = body u (function_of (with_body made e)) r (length h.objects) b v visible (p.calls ∙ none) are many (ap integer_in ret) known p.names has k in
     updated (EntryIs u) (with_body (body_at noted r (length h.objects) b v)) n h.functions is.entries
     (λ d is_d. let same_entry : e ≡ d = ap (λ (o : Option EntryTree). unwrap_or o d) (sym there ∙ is_d) in
     let x = is.entries n d is_d in
@@ -356,20 +359,23 @@ function_is u defined f file is c has s k =
     let h = after_head noted defined f file in
     let i = on entering h in
     let g = on (after_parameters noted f.parameters) i in
-    let r = type_named f.specifiers in
+    let r = type_named (here file.walked) f.specifiers in
     let x = after_optional_body noted r n f.body g in
     let b = later_optional_body r n f.body g in
     let kg = b.found k in
     let kh = (later_parameters f.parameters i.walked).found kg in
     let sx : Stands u x = record { rest = s.rest; objects = s.objects; functions = s.functions } in
     let sh : Stands u h = stands_before u h x (record { found = λ q. (later_parameters f.parameters i.walked).found (b.found q); more = b.more; objects = b.objects; entries = b.entries }) sx in
-    let hi = head u defined f file is sh kh (integers_of f.parameters i.walked kg) in
+    let d = here file.walked in
+    let from : TypesFrom d (here i.walked) = types_opened d h.walked.scoping (types_declaring d file.walked.scoping f.name _ refl (λ y t q. q)) in
+    let are = types_are d (λ y. has_types (in_file u) (d y) (is.names y)) in
+    let hi = head u defined f file is sh kh (integers_of d f.parameters i.walked are from kg) in
     record {
       names = hi.file.names;
       known = λ y. known_kept h.functions x.functions (here h.walked y) b.entries (hi.file.known y);
       locals = refl;
       objects = subst (All (λ (o : tree.FileObjectTree). IsStart o.int_type o.start)) (sym (same_objects r n f.body g)) is.objects;
-      entries = with_block u r n f.parameters f.body h hi.entry.entry hi.file c hi.entry.there (ap (λ (q : SignatureTree). q.parameters) hi.entry.same) (ap (λ (q : SignatureTree). q.returns) hi.entry.same) hi.known has sx k;
+      entries = with_block u r n d f.parameters f.body h hi.entry.entry hi.file from c hi.entry.there (ap (λ (q : SignatureTree). q.parameters) hi.entry.same) (ap (λ (q : SignatureTree). q.returns) hi.entry.same) hi.known has sx k;
     }
 
 -- ---- texts
@@ -377,21 +383,24 @@ function_is u defined f file is c has s k =
 pub external_later : (defined : List ℕ → Bool) (x : ExternalTree) (f : F) → LaterFile f (after_external noted defined x f)
 external_later defined (function g) f = later_function defined g f
 external_later defined (objects storage d) f = files.later_declaration storage d f
+external_later defined (type_names d) f = later_typedef d f
 
 pub externals_later : (defined : List ℕ → Bool) (xs : List ExternalTree) (f : F) → LaterFile f (after_externals noted defined xs f)
 unfolding after_externals
 externals_later defined [] f = file_same f
 externals_later defined (x ∷ xs) f = file_later f (after_external noted defined x f) _ (external_later defined x f) (externals_later defined xs (after_external noted defined x f))
 
-pub external_calls : (defined : List ℕ → Bool) (x : ExternalTree) (f : F) → (after_external noted defined x f).walked.calls ≡ []
+pub external_calls : (defined : List ℕ → Bool) (x : ExternalTree) (f : F) → f.walked.calls ≡ [] → (after_external noted defined x f).walked.calls ≡ []
 unfolding after_function after_declaration
-external_calls defined (function g) f = refl
-external_calls defined (objects storage d) f = refl
+external_calls defined (function g) f c = refl
+external_calls defined (objects storage d) f c = refl
+external_calls defined (type_names d) f c = typedef_calls d f.walked ∙ c
 
 external_is : (u : UnitTree) (defined : List ℕ → Bool) (x : ExternalTree) (f : F) → FileIs u f → f.walked.calls ≡ [] → ExternalHas x → Stands u (after_external noted defined x f) → (after_external noted defined x f).walked.found ≡ None
     → FileIs u (after_external noted defined x f)
 external_is u defined (function g) f is c has s k = function_is u defined g f is c has s k
 external_is u defined (objects storage d) f is c has s k = files.declaration u storage d f is s k
+external_is u defined (type_names d) f is c has s k = typedef_is u d f is k
 
 externals_are : (u : UnitTree) (defined : List ℕ → Bool) (xs : List ExternalTree) (f : F) → FileIs u f → f.walked.calls ≡ [] → ExternalsHave xs → Stands u (after_externals noted defined xs f) → (after_externals noted defined xs f).walked.found ≡ None
     → FileIs u (after_externals noted defined xs f)
@@ -400,7 +409,7 @@ externals_are u defined [] f is c has s k = is
 externals_are u defined (x ∷ xs) f is c has s k =
     let g = after_external noted defined x f in
     let l = externals_later defined xs g in
-    externals_are u defined xs g (external_is u defined x f is c has.0 (stands_before u g _ l s) (l.found k)) (external_calls defined x f) has.1 s k
+    externals_are u defined xs g (external_is u defined x f is c has.0 (stands_before u g _ l s) (l.found k)) (external_calls defined x f c) has.1 s k
 
 nothing_names : (text : List ℕ) (x : Identifier) → names_in (file_scope text) x ≡ None
 unfolding names_in

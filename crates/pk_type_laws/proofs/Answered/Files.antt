@@ -6,21 +6,22 @@ use Rattle.pk_ctypes.specs.declared.types.IntType.{IntType}
 use Rattle.pk_ctypes.specs.declared.words.Rule.TheVariants as rule
 use Rattle.pk_ast.specs.declared.expressions.Identifier.{Identifier}
 use Rattle.pk_ast.specs.declared.units.Storage.{Storage}
-use Rattle.pk_ast.specs.Trees.{ExpressionTree, ExpressionTrees, no_expressions, expression_then, DeclaratorTree, DeclarationTree, ParameterTree, BlockTree, FunctionTree, ExternalTree, function, objects}
+use Rattle.pk_ast.specs.Trees.{ExpressionTree, ExpressionTrees, no_expressions, expression_then, DeclaratorTree, DeclarationTree, ParameterTree, BlockTree, FunctionTree, TypedefTree, ExternalTree, function, objects, type_names}
 use Rattle.pk_typed.specs.Trees.{BodyTree, FileObjectTree}
 use Rattle.pk_type_scope.specs.declared.declarations.Declaration.{Declaration}
 use Rattle.pk_type_scope.specs.declared.declarations.Declaration.TheVariants as declared
+use Rattle.pk_type_scope.specs.declared.declarations.NamedType.{NamedType}
 use Rattle.pk_type_scope.specs.declared.declarations.Typing.{Typing}
 use Rattle.pk_type_scope.specs.declared.failures.Failure.{Failure}
 use Rattle.pk_type_scope.specs.Declarations.{is_void}
 use Rattle.pk_type_scope.specs.Failures.{noted, fails_if}
 use Rattle.pk_type_scope.specs.Scopes.{names_in, spelled}
-use Rattle.pk_type_scope.specs.Specifiers.{type_named, specifiers}
+use Rattle.pk_type_scope.specs.Specifiers.{type_named, word_failures}
 use Rattle.pk_type_declaration.specs.declared.words.Words.{Words}
 use Rattle.pk_type_declaration.specs.Constants.{after_constant}
 use Rattle.pk_type_declaration.specs.Declarations.{words_of, type_or_int, text_of, redeclared, void_object, special_object, braces, surplus, length_at, after_optional_length, length_or_1}
 use Rattle.pk_type_declaration.specs.Specials.{special}
-use Rattle.pk_type_declaration.specs.Walks.{failing, after_name, with_local, entering}
+use Rattle.pk_type_declaration.specs.Walks.{here, failing, after_name, with_local, entering}
 use Rattle.pk_type_jump.specs.Jumps.{jumps_of}
 use Rattle.pk_type_jump.specs.Labels.{labels_of}
 use Rattle.pk_type_statement.specs.Statements.{Passed, after_items}
@@ -29,6 +30,7 @@ use Rattle.pk_type.specs.Files.{Filed, number_at, after_numbers, numbers_at, giv
 use Rattle.pk_type.specs.Functions as functions
 use Rattle.pk_type.specs.Functions.{unnamed, after_parameter_name, after_parameter, after_parameters, is_redeclared, is_misused, number_of, callee_of, with_new, about_jumps, before_body, after_body, emptied, body_of, body_at, defining, leaving_function, after_optional_body, after_function}
 use Rattle.pk_type.specs.Signatures.{signature_of}
+use Rattle.pk_type.specs.TypeNames.{named_type, after_type_name, after_type_names, after_typedef}
 use Rattle.pk_type.specs.Units.{no_name, defined_in, after_external, after_externals, nothing_filed, checked}
 use Rattle.pk_type_laws.specs.Answered.Failures.{appended, listing}
 use Rattle.pk_type_laws.proofs.Answered.Walks.{L, W, first, failing_first, constant_first, optional_length_first, length_at_first, object_first}
@@ -100,37 +102,37 @@ objects_first storage words (d ∷ ds) f = ap (after_objects noted storage words
 declaration_first : (storage : Option Storage) (d : DeclarationTree) (f : F) → after_declaration noted storage d (filed_first f) ≡ filed_first (after_declaration appended storage d f)
 unfolding after_declaration
 declaration_first storage d f =
-    let words = words_of d.specifiers in
+    let words = words_of (here f.walked) d.specifiers in
     let ds = d.declarators.first ∷ d.declarators.more in
-    ap (λ (w : W). without_calls (after_objects noted storage words ds (with_walk f w))) (failing_first (specifiers d.specifiers) f.walked)
-    ∙ ap without_calls (objects_first storage words ds (on (failing appended (specifiers d.specifiers)) f))
+    ap (λ (w : W). without_calls (after_objects noted storage words ds (with_walk f w))) (failing_first (word_failures (here f.walked) d.specifiers) f.walked)
+    ∙ ap without_calls (objects_first storage words ds (on (failing appended (word_failures (here f.walked) d.specifiers)) f))
 
 -- ---- functions
 
 unnamed_first : (p : ParameterTree) (w : L) → unnamed noted p (first w) ≡ first (unnamed appended p w)
 unnamed_first p w =
-    ap (with_local (record { name = None; int_type = type_or_int (type_named p.specifiers); length = None }))
-    (failing_first (fails_if (is_void (type_named p.specifiers)) rule.Void p.specifiers.first.at) w)
+    ap (with_local (record { name = None; int_type = type_or_int (type_named (here w) p.specifiers); length = None }))
+    (failing_first (fails_if (is_void (type_named (here w) p.specifiers)) rule.Void p.specifiers.first.at) w)
 
 name_first : (p : ParameterTree) (x : Option Identifier) (w : L) → after_parameter_name noted p x (first w) ≡ first (after_parameter_name appended p x w)
 name_first p None w = unnamed_first p w
-name_first p (Some x) w = object_first (words_of p.specifiers) false None x w
+name_first p (Some x) w = object_first (words_of (here w) p.specifiers) false None x w
 
 parameters_first : (ps : List ParameterTree) (w : L) → after_parameters noted ps (first w) ≡ first (after_parameters appended ps w)
 unfolding after_parameters
 parameters_first [] w = refl
 parameters_first (p ∷ ps) w =
-    ap (λ (v : W). after_parameters noted ps (after_parameter_name noted p p.name v)) (failing_first (specifiers p.specifiers) w)
-    ∙ (ap (after_parameters noted ps) (name_first p p.name (failing appended (specifiers p.specifiers) w)) ∙ parameters_first ps (after_parameter appended p w))
+    ap (λ (v : W). after_parameters noted ps (after_parameter_name noted p p.name v)) (failing_first (word_failures (here w) p.specifiers) w)
+    ∙ (ap (after_parameters noted ps) (name_first p p.name (failing appended (word_failures (here w) p.specifiers) w)) ∙ parameters_first ps (after_parameter appended p w))
 
 function_head_first : (defined : List ℕ → Bool) (g : FunctionTree) (f : F) → functions.after_head noted defined g (filed_first f) ≡ filed_first (functions.after_head appended defined g f)
 function_head_first defined g f =
-    let s = signature_of g in
     let w = f.walked in
+    let s = signature_of (here w) g in
     let q = spelled w.scoping.text g.name in
     let before = names_in w.scoping g.name in
     let n = number_of f.functions before in
-    let rows = specifiers g.specifiers ++ fails_if (is_redeclared f.functions s (is_some g.body) before) rule.Redeclared g.name.at ++ fails_if (is_misused s (special q)) rule.Special g.name.at in
+    let rows = word_failures (here w) g.specifiers ++ fails_if (is_redeclared f.functions s (is_some g.body) before) rule.Redeclared g.name.at ++ fails_if (is_misused s (special q)) rule.Special g.name.at in
     let declaration = declared.Function (record { number = n; callee = callee_of s (defined q) (special q) }) in
     ap (λ (v : W). record { walked = after_name g.name declaration v; objects = f.objects; functions = with_new f.functions n (text_of w.scoping g.name) s }) (failing_first rows w)
 
@@ -156,18 +158,34 @@ function_first : (defined : List ℕ → Bool) (g : FunctionTree) (f : F) → af
 unfolding after_function
 function_first defined g f =
     let n = number_of f.functions (names_in f.walked.scoping g.name) in
-    let r = type_named g.specifiers in
+    let r = type_named (here f.walked) g.specifiers in
     let h = functions.after_head appended defined g f in
     let k = on entering h in
     ap (λ (x : G). leaving_function x (after_optional_body noted r n g.body (on (after_parameters noted g.parameters) (on entering x)))) (function_head_first defined g f)
     ∙ (ap (λ (w : W). leaving_function (filed_first h) (after_optional_body noted r n g.body (with_walk k w))) (parameters_first g.parameters k.walked)
     ∙ ap (leaving_function (filed_first h)) (optional_body_first r n g.body (on (after_parameters appended g.parameters) k)))
 
+-- ---- type names
+
+names_first : (t : NamedType) (xs : List Identifier) (w : L) → after_type_names noted t xs (first w) ≡ first (after_type_names appended t xs w)
+unfolding after_type_names
+names_first t [] w = refl
+names_first t (x ∷ xs) w =
+    ap (λ (v : W). after_type_names noted t xs (after_name x (declared.TypeName t) v)) (failing_first (redeclared w.scoping x ++ special_object w.scoping x) w) ∙ names_first t xs (after_type_name appended t x w)
+
+typedef_first : (d : TypedefTree) (w : L) → after_typedef noted d (first w) ≡ first (after_typedef appended d w)
+unfolding after_typedef
+typedef_first d w =
+    let t = named_type (words_of (here w) d.specifiers) in
+    let xs = d.names.first ∷ d.names.more in
+    ap (after_type_names noted t xs) (failing_first (word_failures (here w) d.specifiers) w) ∙ names_first t xs (failing appended (word_failures (here w) d.specifiers) w)
+
 -- ---- texts
 
 external_first : (defined : List ℕ → Bool) (x : ExternalTree) (f : F) → after_external noted defined x (filed_first f) ≡ filed_first (after_external appended defined x f)
 external_first defined (function g) f = function_first defined g f
 external_first defined (objects storage d) f = declaration_first storage d f
+external_first defined (type_names d) f = ap (with_walk f) (typedef_first d f.walked)
 
 externals_first : (defined : List ℕ → Bool) (xs : List ExternalTree) (f : F) → after_externals noted defined xs (filed_first f) ≡ filed_first (after_externals appended defined xs f)
 unfolding after_externals

@@ -9,7 +9,7 @@ use Rattle.pk_ast.specs.Trees.{ExpressionTree, ExpressionTrees, InitializerTree,
 use Rattle.pk_typed.specs.Trees.{DeclaredTree}
 use Rattle.pk_type_scope.specs.declared.failures.Failure.{Failure}
 use Rattle.pk_type_scope.specs.Failures.{noted, fails_if}
-use Rattle.pk_type_scope.specs.Specifiers.{specifiers}
+use Rattle.pk_type_scope.specs.Specifiers.{word_failures}
 use Rattle.pk_type_scope.proofs.FailureLemmas.{noted_append}
 use Rattle.pk_type_expression.specs.Rules.{failures, used_failures, failures_used}
 use Rattle.pk_type_expression.specs.Typed.{of_both}
@@ -97,9 +97,9 @@ declarators_first words (d ∷ ds) w = ap (after_declarators noted words ds) (de
 pub declaration_first : (d : DeclarationTree) (w : L) → after_declaration noted d (first w) ≡ first (after_declaration appended d w)
 unfolding after_declaration
 declaration_first d w =
-    let words = words_of d.specifiers in
+    let words = words_of (here w) d.specifiers in
     let ds = d.declarators.first ∷ d.declarators.more in
-    ap (after_declarators noted words ds) (failing_first (specifiers d.specifiers) w) ∙ declarators_first words ds (failing appended (specifiers d.specifiers) w)
+    ap (after_declarators noted words ds) (failing_first (word_failures (here w) d.specifiers) w) ∙ declarators_first words ds (failing appended (word_failures (here w) d.specifiers) w)
 
 -- ---- their typed trees
 
@@ -134,6 +134,6 @@ declarators_same words (d ∷ ds) w =
 pub declaration_same : (d : DeclarationTree) (w : L) → declaration_trees_at noted d (first w) ≡ declaration_trees_at appended d w
 unfolding declaration_trees_at
 declaration_same d w =
-    let words = words_of d.specifiers in
+    let words = words_of (here w) d.specifiers in
     let ds = d.declarators.first ∷ d.declarators.more in
-    ap (declarator_trees_at noted words ds) (failing_first (specifiers d.specifiers) w) ∙ declarators_same words ds (failing appended (specifiers d.specifiers) w)
+    ap (declarator_trees_at noted words ds) (failing_first (word_failures (here w) d.specifiers) w) ∙ declarators_same words ds (failing appended (word_failures (here w) d.specifiers) w)

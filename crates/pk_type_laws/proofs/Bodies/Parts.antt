@@ -16,12 +16,12 @@ use Rattle.pk_type_scope.specs.declared.declarations.Typing.TheVariants.{Void, I
 use Rattle.pk_type_scope.specs.Declarations.{Names, HasTypes, is_void, is_unknown}
 use Rattle.pk_type_scope.specs.Failures.{noted}
 use Rattle.pk_type_scope.specs.Scopes.{Scoping, names_in, opened, declaring, first_of, found_up, spelled}
-use Rattle.pk_type_scope.specs.Specifiers.{specifiers}
+use Rattle.pk_type_scope.specs.Specifiers.{word_failures}
 use Rattle.pk_type_expression.specs.Laws.{IsTreeOf}
 use Rattle.pk_type_expression.specs.Rules.{void, failures, used_failures, failures_used}
 use Rattle.pk_type_expression.specs.Typed.{EvaluatedTree, value, effect, value_of, effect_of, of_both, typed, typed_all, calls_after}
 use Rattle.pk_type_expression.specs.Types.{type_of}
-use Rattle.pk_type_expression.proofs.TreeLemmas.{accepted_expressions_have_trees, none_before, none_after, holds_not}
+use Rattle.pk_type_expression.proofs.TreeLemmas.{accepted_expressions_have_trees, none_before, none_after, types_are, known_type}
 use Rattle.pk_type_declaration.specs.declared.words.Words.{Words}
 use Rattle.pk_type_declaration.specs.Declarations.{integer_in, object_at, braces, surplus, after_initializer, length_at, after_optional_length, after_object, after_head, after_declarator, after_declarators, after_declaration, words_of, object_tree, declarator_tree_at, declarator_trees_at, declaration_trees_at}
 use Rattle.pk_type_declaration.specs.Walks.{here, failing, after_value, after_effect, value_at, effect_at, values_at}
@@ -168,10 +168,10 @@ declarators_there words (d ∷ ds) w u k h =
 
 pub declaration_there : (d : DeclarationTree) (w : W) → Known w.scoping → (after_declaration noted d w).found ≡ None
     → (is_some (declaration_trees_at noted d w) ≡ true) × Known (after_declaration noted d w).scoping
-unfolding after_declaration declaration_trees_at specifiers
+unfolding after_declaration declaration_trees_at
 declaration_there d w k h =
-    let words = words_of d.specifiers in
+    let words = words_of (here w) d.specifiers in
     let ds = d.declarators.first ∷ d.declarators.more in
-    let v = failing noted (specifiers d.specifiers) w in
-    let rows = none_found w.found (specifiers d.specifiers) ((later_declarators words ds v).found h) in
-    declarators_there words ds v (holds_not _ _ _ rows.1) k h
+    let v = failing noted (word_failures (here w) d.specifiers) w in
+    let rows = none_found w.found (word_failures (here w) d.specifiers) ((later_declarators words ds v).found h) in
+    declarators_there words ds v (known_type (here w) (types_are (here w) k) d.specifiers rows.1) k h

@@ -10,23 +10,24 @@ use Rattle.pk_ctypes.specs.declared.words.Rule.{Rule}
 use Rattle.pk_ctypes.specs.declared.words.Rule.TheVariants as rule
 use Rattle.pk_ast.specs.declared.expressions.Identifier.{Identifier}
 use Rattle.pk_ast.specs.declared.units.Storage.{Storage}
-use Rattle.pk_ast.specs.Trees.{ExpressionTrees, no_expressions, expression_then, ParameterTree, BlockTree, FunctionTree, DeclaratorTree, DeclarationTree, ExternalTree, function, objects}
+use Rattle.pk_ast.specs.Trees.{ExpressionTrees, no_expressions, expression_then, ParameterTree, BlockTree, FunctionTree, DeclaratorTree, DeclarationTree, TypedefTree, ExternalTree, function, objects, type_names}
 use Rattle.pk_type_scope.specs.declared.declarations.Callee.{Callee}
 use Rattle.pk_type_scope.specs.declared.declarations.Declaration.TheVariants as declared
+use Rattle.pk_type_scope.specs.declared.declarations.NamedType.{NamedType}
 use Rattle.pk_type_scope.specs.declared.declarations.Typing.{Typing}
 use Rattle.pk_type_scope.specs.declared.declarations.Typing.TheVariants.{Void, Integer, Unknown}
 use Rattle.pk_type_scope.specs.declared.failures.Failure.{Failure}
 use Rattle.pk_type_scope.specs.Declarations.{is_void, is_unknown, returned_by}
 use Rattle.pk_type_scope.specs.Failures.{fails_if, noted}
 use Rattle.pk_type_scope.specs.Scopes.{names_in, spelled}
-use Rattle.pk_type_scope.specs.Specifiers.{type_named, specifiers}
-use Rattle.pk_type_expression.proofs.TreeLemmas.{none_before, none_after, holds_not}
+use Rattle.pk_type_scope.specs.Specifiers.{type_named, word_failures}
+use Rattle.pk_type_expression.proofs.TreeLemmas.{none_before, none_after, holds_not, types_are, known_type}
 use Rattle.pk_type_declaration.specs.declared.words.Words.{Words}
 use Rattle.pk_type_declaration.specs.Constants.{after_constant}
 use Rattle.pk_type_declaration.specs.Declarations.{at_name, words_of, text_of, integer_in, redeclared, void_object, special_object, braces, surplus, length_at, after_optional_length}
 use Rattle.pk_ctypes.specs.Spellings.{lookup}
 use Rattle.pk_type_declaration.specs.Specials.{special, specials}
-use Rattle.pk_type_declaration.specs.Walks.{failing, entering}
+use Rattle.pk_type_declaration.specs.Walks.{here, failing, entering}
 use Rattle.pk_type_jump.specs.Jumps.{around_body, nothing_jumped, jumps_of}
 use Rattle.pk_type_jump.specs.Labels.{nothing_listed, outermost, labels_of}
 use Rattle.pk_type_statement.specs.Statements.{after_items}
@@ -35,11 +36,13 @@ use Rattle.pk_type.specs.Files.{EntryTree, after_numbers, given, extern_object, 
 use Rattle.pk_type.specs.Files as files
 use Rattle.pk_type.specs.Functions.{after_parameter_name, after_parameter, after_parameters, is_redeclared, is_misused, number_of, callee_of, after_head, each_at, about_jumps, before_body, after_body, body_of, body_at, with_body, after_optional_body, after_function}
 use Rattle.pk_type.specs.Signatures.{SignatureTree, signature_of}
+use Rattle.pk_type.specs.TypeNames.{named_type, after_type_name, after_type_names, after_typedef}
 use Rattle.pk_type.specs.Units.{no_name, defined_in, after_external, after_externals, nothing_filed}
 use Rattle.pk_type_laws.proofs.Accepted.Declarations.{later_constant, later_optional_length}
 use Rattle.pk_type_laws.proofs.Accepted.Files.{F}
 use Rattle.pk_type_laws.proofs.Accepted.Functions.{later_parameters, later_body}
 use Rattle.pk_type_laws.proofs.Accepted.Units.{new_entries, updated, externals_later}
+use Rattle.pk_type_laws.proofs.Accepted.TypeNames.{type_words}
 use Rattle.pk_type_laws.proofs.Accepted.Walks.{W, none_found}
 use Rattle.pk_type_laws.specs.Bodies.Laws.{FunctionsHaveBodies}
 use Rattle.pk_type_laws.proofs.Bodies.Parts.{mapped_there, Known, known_declaring, known_opened, object_known, length_scope}
@@ -105,12 +108,12 @@ objects_known storage words (d ∷ ds) f u k h =
     objects_known storage words ds g u (object_is_known storage words d f u k (objects_before storage words ds g h)) h
 
 declaration_known : (storage : Option Storage) (d : DeclarationTree) (f : F) → Known f.walked.scoping → (after_declaration noted storage d f).walked.found ≡ None → Known (after_declaration noted storage d f).walked.scoping
-unfolding after_declaration specifiers
+unfolding after_declaration
 declaration_known storage d f k h =
-    let words = words_of d.specifiers in
+    let words = words_of (here f.walked) d.specifiers in
     let ds = d.declarators.first ∷ d.declarators.more in
-    let g = on (failing noted (specifiers d.specifiers)) f in
-    objects_known storage words ds g (holds_not _ _ _ (none_found f.walked.found (specifiers d.specifiers) (objects_before storage words ds g h)).1) k h
+    let g = on (failing noted (word_failures (here f.walked) d.specifiers)) f in
+    objects_known storage words ds g (known_type (here f.walked) (types_are (here f.walked) k) d.specifiers (none_found f.walked.found (word_failures (here f.walked) d.specifiers) (objects_before storage words ds g h)).1) k h
 
 objects_keep : (storage : Option Storage) (words : Words) (ds : List DeclaratorTree) (f : F) → (after_objects noted storage words ds f).functions ≡ f.functions
 unfolding after_objects after_object
@@ -119,26 +122,38 @@ objects_keep storage words (d ∷ ds) f = objects_keep storage words ds (after_o
 
 declaration_keeps : (storage : Option Storage) (d : DeclarationTree) (f : F) → (after_declaration noted storage d f).functions ≡ f.functions
 unfolding after_declaration
-declaration_keeps storage d f = objects_keep storage (words_of d.specifiers) (d.declarators.first ∷ d.declarators.more) (on (failing noted (specifiers d.specifiers)) f)
+declaration_keeps storage d f = objects_keep storage (words_of (here f.walked) d.specifiers) (d.declarators.first ∷ d.declarators.more) (on (failing noted (word_failures (here f.walked) d.specifiers)) f)
+
+-- ---- type names
+
+type_names_known : (t : NamedType) (xs : List Identifier) (w : W) → is_unknown t.typing ≡ false → Known w.scoping → Known (after_type_names noted t xs w).scoping
+unfolding after_type_names
+type_names_known t [] w u k = k
+type_names_known t (x ∷ xs) w u k = type_names_known t xs (after_type_name noted t x w) u (known_declaring w.scoping x (declared.TypeName t) k u)
+
+typedef_known : (d : TypedefTree) (w : W) → Known w.scoping → (after_typedef noted d w).found ≡ None → Known (after_typedef noted d w).scoping
+unfolding after_typedef
+typedef_known d w k h =
+    type_names_known (named_type (words_of (here w) d.specifiers)) (d.names.first ∷ d.names.more) (failing noted (word_failures (here w) d.specifiers) w) (known_type (here w) (types_are (here w) k) d.specifiers (type_words d w h)) k
 
 -- ---- parameters
 
-name_known : (p : ParameterTree) (x : Option Identifier) (w : W) → is_unknown (type_named p.specifiers) ≡ false → Known w.scoping → (after_parameter_name noted p x w).found ≡ None → Known (after_parameter_name noted p x w).scoping
+name_known : (p : ParameterTree) (x : Option Identifier) (w : W) → is_unknown (type_named (here w) p.specifiers) ≡ false → Known w.scoping → (after_parameter_name noted p x w).found ≡ None → Known (after_parameter_name noted p x w).scoping
 name_known p None w u k h = k
-name_known p (Some x) w u k h = object_known (words_of p.specifiers) false None x w u k h
+name_known p (Some x) w u k h = object_known (words_of (here w) p.specifiers) false None x w u k h
 
 name_before : (p : ParameterTree) (x : Option Identifier) (w : W) → (after_parameter_name noted p x w).found ≡ None → w.found ≡ None
-name_before p None w h = (none_found w.found (fails_if (is_void (type_named p.specifiers)) rule.Void p.specifiers.first.at) h).0
-name_before p (Some x) w h = (none_found w.found (at_name w.scoping (type_named p.specifiers) x) h).0
+name_before p None w h = (none_found w.found (fails_if (is_void (type_named (here w) p.specifiers)) rule.Void p.specifiers.first.at) h).0
+name_before p (Some x) w h = (none_found w.found (at_name w.scoping (type_named (here w) p.specifiers) x) h).0
 
 parameters_known : (ps : List ParameterTree) (w : W) → Known w.scoping → (after_parameters noted ps w).found ≡ None → Known (after_parameters noted ps w).scoping
-unfolding after_parameters specifiers
+unfolding after_parameters
 parameters_known [] w k h = k
 parameters_known (p ∷ ps) w k h =
-    let x = failing noted (specifiers p.specifiers) w in
+    let x = failing noted (word_failures (here w) p.specifiers) w in
     let v = after_parameter noted p w in
     let hv : v.found ≡ None = (later_parameters ps v).found h in
-    let u = holds_not _ _ _ (none_found w.found (specifiers p.specifiers) (name_before p p.name x hv)).1 in
+    let u = known_type (here w) (types_are (here w) k) p.specifiers (none_found w.found (word_failures (here w) p.specifiers) (name_before p p.name x hv)).1 in
     parameters_known ps v (name_known p p.name x u k hv) h
 
 -- ---- bodies
@@ -204,26 +219,26 @@ record Good (f : F) : Type 0 where
   bodies : HaveBodies f
 
 function_good : (defined : List ℕ → Bool) (g : FunctionTree) (f : F) → Good f → (after_function noted defined g f).walked.found ≡ None → Good (after_function noted defined g f)
-unfolding after_function specifiers
+unfolding after_function
 function_good defined g f m h =
     let w = f.walked in
-    let s = signature_of g in
+    let s = signature_of (here w) g in
     let q = spelled w.scoping.text g.name in
     let n = number_of f.functions (names_in w.scoping g.name) in
     let head = after_head noted defined g f in
     let i = on entering head in
     let x = on (after_parameters noted g.parameters) i in
-    let hx : x.walked.found ≡ None = block_before (type_named g.specifiers) n g.body x h in
+    let hx : x.walked.found ≡ None = block_before (type_named (here w) g.specifiers) n g.body x h in
     let hh : head.walked.found ≡ None = (later_parameters g.parameters i.walked).found hx in
     let two = fails_if (is_redeclared f.functions s (is_some g.body) (names_in w.scoping g.name)) rule.Redeclared g.name.at in
     let three = fails_if (is_misused s (special q)) rule.Special g.name.at in
-    let rows : specifiers g.specifiers ++ two ++ three ≡ [] = (none_found w.found (specifiers g.specifiers ++ two ++ three) hh).1 in
-    let u : is_unknown (type_named g.specifiers) ≡ false = holds_not _ _ _ (none_before (specifiers g.specifiers) two (none_before (specifiers g.specifiers ++ two) three rows)) in
+    let rows : word_failures (here w) g.specifiers ++ two ++ three ≡ [] = (none_found w.found (word_failures (here w) g.specifiers ++ two ++ three) hh).1 in
+    let u : is_unknown (type_named (here w) g.specifiers) ≡ false = known_type (here w) (types_are (here w) m.names) g.specifiers (none_before (word_failures (here w) g.specifiers) two (none_before (word_failures (here w) g.specifiers ++ two) three rows)) in
     let callee = callee_of s (defined q) (special q) in
     let kh : Known head.walked.scoping = known_declaring w.scoping g.name (declared.Function (record { number = n; callee = callee })) m.names (callee_known s (defined q) (special q) u (special_known q)) in
     let heads = new_entries (λ e. is_some e.body ≡ e.is_defined) f.functions n (text_of w.scoping g.name) s m.bodies refl in
     let kx : Known x.walked.scoping = parameters_known g.parameters i.walked (known_opened head.walked.scoping kh) hx in
-    record { names = kh; bodies = with_block (type_named g.specifiers) n g.body x kx heads h }
+    record { names = kh; bodies = with_block (type_named (here w) g.specifiers) n g.body x kx heads h }
 
 external_good : (defined : List ℕ → Bool) (x : ExternalTree) (f : F) → Good f → (after_external noted defined x f).walked.found ≡ None → Good (after_external noted defined x f)
 external_good defined (function g) f m h = function_good defined g f m h
@@ -231,6 +246,7 @@ external_good defined (objects storage d) f m h = record {
   names = declaration_known storage d f m.names h;
   bodies = λ i e is. m.bodies i e (ap (λ (es : List EntryTree). slice_get es i) (sym (declaration_keeps storage d f)) ∙ is);
 }
+external_good defined (type_names d) f m h = record { names = typedef_known d f.walked m.names h; bodies = m.bodies }
 
 externals_good : (defined : List ℕ → Bool) (xs : List ExternalTree) (f : F) → Good f → (after_externals noted defined xs f).walked.found ≡ None → Good (after_externals noted defined xs f)
 unfolding after_externals

@@ -7,15 +7,15 @@ use Rattle.pk_ctypes.specs.declared.places.Pos.{Pos}
 use Rattle.pk_ctypes.specs.declared.words.Rule.{Rule}
 use Rattle.pk_ctypes.specs.declared.words.Rule.TheVariants as rule
 use Rattle.pk_ast.specs.declared.units.Storage.{Storage}
-use Rattle.pk_ast.specs.Trees.{BlockTree, FunctionTree, DeclaratorTree, DeclarationTree, ExternalTree, function, objects}
+use Rattle.pk_ast.specs.Trees.{BlockTree, FunctionTree, DeclaratorTree, DeclarationTree, ExternalTree, function, objects, type_names}
 use Rattle.pk_typed.specs.Trees as tree
 use Rattle.pk_type_scope.specs.declared.declarations.Typing.{Typing}
 use Rattle.pk_type_scope.specs.Failures.{noted}
 use Rattle.pk_type_scope.specs.Scopes.{names_in}
-use Rattle.pk_type_scope.specs.Specifiers.{type_named, specifiers}
+use Rattle.pk_type_scope.specs.Specifiers.{type_named, word_failures}
 use Rattle.pk_type_declaration.specs.declared.words.Words.{Words}
 use Rattle.pk_type_declaration.specs.Declarations.{words_of, text_of}
-use Rattle.pk_type_declaration.specs.Walks.{failing, entering}
+use Rattle.pk_type_declaration.specs.Walks.{here, failing, entering}
 use Rattle.pk_type_jump.specs.Jumps.{around_body, nothing_jumped, jumps_of}
 use Rattle.pk_type_jump.specs.Labels.{nothing_listed, outermost, labels_of}
 use Rattle.pk_type_statement.specs.Statements.{after_items}
@@ -68,7 +68,7 @@ objects_keep storage words (d ∷ ds) f = objects_keep storage words ds (after_o
 
 declaration_keeps : (storage : Option Storage) (d : DeclarationTree) (f : F) → (after_declaration noted storage d f).functions ≡ f.functions
 unfolding after_declaration
-declaration_keeps storage d f = objects_keep storage (words_of d.specifiers) (d.declarators.first ∷ d.declarators.more) (on (failing noted (specifiers d.specifiers)) f)
+declaration_keeps storage d f = objects_keep storage (words_of (here f.walked) d.specifiers) (d.declarators.first ∷ d.declarators.more) (on (failing noted (word_failures (here f.walked) d.specifiers)) f)
 
 with_block : (r : Typing) (n : ℕ) (b : Option BlockTree) (f : F) → EntriesMarked f → (after_optional_body noted r n b f).walked.found ≡ None → EntriesMarked (after_optional_body noted r n b f)
 with_block r n None f m h = m
@@ -79,12 +79,13 @@ unfolding after_function
 function_marked defined g f m h =
     let n = number_of f.functions (names_in f.walked.scoping g.name) in
     let head = after_head noted defined g f in
-    let heads = new_entries (λ e. IsMarkedIf e.body) f.functions n (text_of f.walked.scoping g.name) (signature_of g) m tt in
-    with_block (type_named g.specifiers) n g.body (on (after_parameters noted g.parameters) (on entering head)) heads h
+    let heads = new_entries (λ e. IsMarkedIf e.body) f.functions n (text_of f.walked.scoping g.name) (signature_of (here f.walked) g) m tt in
+    with_block (type_named (here f.walked) g.specifiers) n g.body (on (after_parameters noted g.parameters) (on entering head)) heads h
 
 external_marked : (defined : List ℕ → Bool) (x : ExternalTree) (f : F) → EntriesMarked f → (after_external noted defined x f).walked.found ≡ None → EntriesMarked (after_external noted defined x f)
 external_marked defined (function g) f m h = function_marked defined g f m h
 external_marked defined (objects storage d) f m h = λ i e is. m i e (ap (λ (es : List EntryTree). slice_get es i) (sym (declaration_keeps storage d f)) ∙ is)
+external_marked defined (type_names d) f m h = m
 
 externals_marked : (defined : List ℕ → Bool) (xs : List ExternalTree) (f : F) → EntriesMarked f → (after_externals noted defined xs f).walked.found ≡ None → EntriesMarked (after_externals noted defined xs f)
 unfolding after_externals

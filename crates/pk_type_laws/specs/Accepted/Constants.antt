@@ -2,7 +2,7 @@
 use Rattle.std.specs.Prelude.{pos, List, [], ◌∷◌, Option, Some, None}
 use Rattle.pk_ctypes.specs.declared.types.IntType.TheVariants.{Int}
 use Rattle.pk_ctypes.specs.Types.{InType}
-use Rattle.pk_ast.specs.Trees.{ExpressionTree, name, call, index, constant, character, parenthesized, postfix, prefix, unary, cast, binary, conditional, assignment, comma, ExpressionTrees, no_expressions, expression_then, InitializerTree, single, braced, DeclaratorTree, DeclarationTree, ForStartTree, declaration, expression, StatementTree, block, empty, expression_statement, label, case, default, if_then, if_else, switch, while, do_while, for_loop, goto, continue, break, return, ItemTrees, no_items, declaration_then, statement_then, BlockTree, ExternalTree, function, objects}
+use Rattle.pk_ast.specs.Trees.{ExpressionTree, name, call, index, constant, character, parenthesized, postfix, prefix, unary, cast, binary, conditional, assignment, comma, ExpressionTrees, no_expressions, expression_then, InitializerTree, single, braced, DeclaratorTree, DeclarationTree, ForStartTree, declaration, expression, StatementTree, block, empty, expression_statement, label, case, default, if_then, if_else, switch, while, do_while, for_loop, goto, continue, break, return, ItemTrees, no_items, declaration_then, statement_then, BlockTree, ExternalTree, function, objects, type_names}
 
 unfoldable mutual
   pub HasConstants : ExpressionTree → Type 0
@@ -80,6 +80,7 @@ BlockHas (Some b) = ItemsHave b.items
 abbrev pub ExternalHas : ExternalTree → Type 0
 ExternalHas (function f) = BlockHas f.body
 ExternalHas (objects storage d) = DeclarationHas d
+ExternalHas (type_names d) = Unit {0}
 
 abbrev pub ExternalsHave : List ExternalTree → Type 0
 ExternalsHave [] = Unit {0}

@@ -1,5 +1,5 @@
--- Names in scope that stand for objects and functions of the typed unit, or for numbers of type int.
-use Rattle.std.specs.Prelude.{ℕ, ℤ, Bool, true, false, Option, Some, None, slice_get}
+-- Names in scope that stand for objects and functions of the typed unit, for numbers of type int, or for types.
+use Rattle.std.specs.Prelude.{◌≡◌, ℕ, ℤ, Bool, true, false, Option, Some, None, slice_get}
 use Rattle.pk_ctypes.specs.declared.types.IntType.{IntType}
 use Rattle.pk_ctypes.specs.declared.types.IntType.TheVariants.{Int}
 use Rattle.pk_ctypes.specs.Types.{InType}
@@ -10,7 +10,7 @@ use Rattle.pk_type_scope.specs.declared.declarations.Callee.TheVariants.{Ordinar
 use Rattle.pk_type_scope.specs.declared.declarations.Declaration.{Declaration}
 use Rattle.pk_type_scope.specs.declared.declarations.Declaration.TheVariants as declared
 use Rattle.pk_type_scope.specs.declared.declarations.Typing.TheVariants.{Void, Integer, Unknown}
-use Rattle.pk_type_scope.specs.Declarations.{Names}
+use Rattle.pk_type_scope.specs.Declarations.{Names, is_unknown}
 use Rattle.pk_welltyped.specs.WellTyped.{Around, IsObject, IsArray, Takes}
 use Rattle.pk_graph.specs.Kinds.{scalar_kind}
 
@@ -38,6 +38,7 @@ DeclarationIs a None = Unit {0}
 DeclarationIs a (Some (declared.Object o)) = ObjectIs a o.is_array o.int_type o.variable
 DeclarationIs a (Some (declared.Function f)) = CalleeIs a f.number f.callee
 DeclarationIs a (Some (declared.Enumerator n)) = EnumeratorIs n
+DeclarationIs a (Some (declared.TypeName t)) = is_unknown t.typing ≡ false
 
 abbrev pub NamesAre : Around → Names → Type 0
 NamesAre a d = (x : Identifier) → DeclarationIs a (d x)

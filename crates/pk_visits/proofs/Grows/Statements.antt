@@ -16,10 +16,12 @@ use Rattle.pk_welltyped.specs.WellTyped
 use Rattle.pk_graph.specs.declared.trees.Site.{Site}
 use Rattle.pk_graph.specs.Graphs.{VariableOf, no_variable}
 use Rattle.pk_graph.specs.Trees.{constant, Skip, Clear}
+use Rattle.pk_graph.specs.declared.graphs.Entry.{Entry}
+use Rattle.pk_graph.specs.Graphs.{naming, hiding}
 use Rattle.pk_draft.specs.declared.drafts.Label.{Label}
 use Rattle.pk_draft.specs.declared.drafts.Region.{Region}
 use Rattle.pk_draft.specs.declared.drafts.Size.{Size}
-use Rattle.pk_draft.specs.Drafts.{Names, Given, no_label, at, on, in_scope, placed, all_placed, fresh, inner, with_object, link, go, emit, away, come}
+use Rattle.pk_draft.specs.Drafts.{Names, Given, no_label, at, on, in_scope, placed, all_placed, fresh, inner, with_object, link, go, emit, away, come, with_entry}
 use Rattle.pk_draft.specs.Folding.{conversion, binary_tree}
 use Rattle.pk_lower_row.specs.declared.shapes.Waiting.TheVariants.{Strong}
 use Rattle.pk_lower_row.specs.Shapes.{converted_shape, shape_of}
@@ -216,9 +218,12 @@ extended [] z n y h = absurd (grind (arith, h))
 extended (s ∷ ss) z zero y h = h
 extended (s ∷ ss) z (suc n) y h = extended ss z n y h
 
+pub entry_enlarges : (ms : List ℕ) (S : ℕ → Type 0) (C : ℕ → Size → Type 0) (e : Entry) (d : Draft) → Enlarges ms S C d (with_entry e d)
+entry_enlarges ms S C e d = record { edges = λ z h. h; names = refl; variables = omega arith; points = omega arith; size = refl; labels = λ n h. inr refl; beyond = λ n h. inr refl; regions = λ k. inr refl; apart = λ j k n. inl refl; paths = refl; scopes = extended d.scopes (record { entry = e; outer = d.here.scope }); here = refl; many = refl; made = λ n h. refl; unmade = λ n h. refl; slots = refl; objects = λ n. inr refl }
+
 pub named_enlarges : (ms : List ℕ) (S : ℕ → Type 0) (C : ℕ → Size → Type 0) (o : Option (List ℕ)) (x : ℕ) (d : Draft) → Enlarges ms S C d (named o x d)
 named_enlarges ms S C None x d = record { edges = λ e h. h; names = refl; variables = omega arith; points = omega arith; size = refl; labels = λ n h. inr refl; beyond = λ n h. inr refl; regions = λ k. inr refl; apart = λ j k n. inl refl; paths = refl; scopes = λ n z h. h; here = refl; many = refl; made = λ n h. refl; unmade = λ n h. refl; slots = refl; objects = λ n. inr refl }
-named_enlarges ms S C (Some name) x d = record { edges = λ e h. h; names = refl; variables = omega arith; points = omega arith; size = refl; labels = λ n h. inr refl; beyond = λ n h. inr refl; regions = λ k. inr refl; apart = λ j k n. inl refl; paths = refl; scopes = extended d.scopes (record { variable = x; outer = d.here.scope }); here = refl; many = refl; made = λ n h. refl; unmade = λ n h. refl; slots = refl; objects = λ n. inr refl }
+named_enlarges ms S C (Some name) x d = entry_enlarges ms S C (naming x) d
 
 pub object_enlarges : (ms : List ℕ) (S : ℕ → Type 0) (C : ℕ → Size → Type 0) (i : ℕ) (x : VariableOf) (d : Draft) → S i → Enlarges ms S C d (with_object i x d)
 object_enlarges ms S C i x d h = record {
@@ -271,6 +276,7 @@ abbrev pub DeclaresAmong : (S : ℕ → Type 0) → DeclaredTree → Type 0
 DeclaresAmong S (tree.scalar_object i p e) = S i
 DeclaresAmong S (tree.array_object i p es) = S i
 DeclaresAmong S (tree.static_object i p) = Unit {0}
+DeclaresAmong S (tree.hiding_constant x p) = Unit {0}
 
 abbrev pub AllAmong : (S : ℕ → Type 0) → List DeclaredTree → Type 0
 AllAmong S [] = Unit {0}
@@ -284,6 +290,7 @@ pub declared_free : (v : DeclaredTree) → DeclaresAmong Free v
 declared_free (tree.scalar_object i p e) = tt
 declared_free (tree.array_object i p es) = tt
 declared_free (tree.static_object i p) = tt
+declared_free (tree.hiding_constant x p) = tt
 
 pub all_free : (vs : List DeclaredTree) → AllAmong Free vs
 all_free [] = tt
@@ -298,6 +305,7 @@ pub declared_among : (S : ℕ → Type 0) (a : Around) (v : DeclaredTree) → Is
 declared_among S a (tree.scalar_object i p e) h from = from i (let z = h.0 in omega (arith, z))
 declared_among S a (tree.array_object i p es) h from = from i (let z = h.0 in omega (arith, z))
 declared_among S a (tree.static_object i p) h from = tt
+declared_among S a (tree.hiding_constant x p) h from = tt
 
 pub all_among : (S : ℕ → Type 0) (vs : List DeclaredTree) (a : Around) → AreDeclared a vs → ((i : ℕ) → a.objects ≤ i → S i) → AllAmong S vs
 all_among S [] a h from = tt
@@ -316,7 +324,8 @@ declared_enlarges ms S C c (tree.array_object i p es) d o h =
     let f = introduced c i (on p d) in
     path_then (enlarges ms S C d (on p d) (on_adds ms S C p d)) (path_then (introduced_enlarges ms S C c i (on p d) o)
     (enlarges ms S C f (statements.array_first c i es f) (adds ms S C f (statements.array_first c i es f) (array_first_grows C c i es f h))))
-declared_enlarges ms S C c (tree.static_object i p) d o h = path_then (enlarges ms S C d (on p d) (on_adds ms S C p d)) (named_enlarges ms S C (Some []) i (on p d))
+declared_enlarges ms S C c (tree.static_object i p) d o h = path_then (enlarges ms S C d (on p d) (on_adds ms S C p d)) (entry_enlarges ms S C (naming i) (on p d))
+declared_enlarges ms S C c (tree.hiding_constant x p) d o h = path_then (enlarges ms S C d (on p d) (on_adds ms S C p d)) (entry_enlarges ms S C (hiding (statements.number_of x (on p d))) (on p d))
 
 pub all_declared_enlarges : (ms : List ℕ) (S : ℕ → Type 0) (C : ℕ → Size → Type 0) (c : Context) (vs : List DeclaredTree) (d : Draft) → AllAmong S vs → AllCalled C c (calls_in_all_declared vs) → Enlarges ms S C d (all_declared c vs d)
 unfolding all_declared

@@ -5,7 +5,7 @@ use Rattle.std.proofs.lemmas.Bool.{eq-eqb}
 use Rattle.std.proofs.lemmas.Bool.Decides.{eqb_tells}
 use Rattle.pk_ctypes.specs.declared.places.Pos.{Pos}
 use Rattle.pk_graph.specs.Trees.{Skip, Set, Havoc, Clear, Load, Store, Guard, Check}
-use Rattle.pk_graph.specs.Graphs.{PathOf, PointOf, GraphOf, no_variable, point_at, scope_at}
+use Rattle.pk_graph.specs.Graphs.{PathOf, PointOf, GraphOf, no_variable, scope_at, named_in, names_at}
 use Rattle.pk_graph.specs.Stores.{Stored, numbers_of}
 use Rattle.pk_draft.specs.declared.drafts.Label.{Label}
 use Rattle.pk_draft.specs.Drafts.{EdgeFrom, DraftOf, nowhere, no_label}
@@ -30,7 +30,7 @@ use Rattle.pk_visits.proofs.Numbered.Stores.{Naming, renamed_instr, IsNaming, Is
 pub record IsShown (f : Naming) (Made : Slot → Type 0) (p : Program) (d : DraftOf ℕ) (l : Label) (k : ℕ) (h : Place) : Type 0 where
   pub path : l.path ≡ k
   pub at : l.at ≡ h.at
-  pub scope : scope_at d.scopes l.scope ≡ map (λ x. f (own x)) h.scope
+  pub scope : named_in (scope_at d.scopes l.scope) ≡ map (λ x. f (own x)) h.scope
   pub made : (x : Object) → Among x h.scope → Made (own x)
   pub names : (x : Object) → Among x h.scope → unwrap_or (slice_index_or d.made (f (own x)) no_variable).name [] ≡ name_of p x
 
@@ -57,7 +57,7 @@ pub record IsCopy (f : Naming) (Made : Slot → Type 0) (g : Whole) (d : DraftOf
   pub shown : (l : Label) (k : ℕ) (h : Place) → g.shows l k h → IsShown f Made g.program d l k h
   pub somewhere : (q k : ℕ) (h : Place) → ShowsAt g q k h → q ≡ nowhere → ⊥
   -- the names in scope are those of objects
-  pub named : (q y : ℕ) → is_among y (scope_at d.scopes (slice_index_or d.labels q no_label).scope) ≡ true → (x : Object) × Made (own x) × (y ≡ f (own x))
+  pub named : (q y : ℕ) → is_among y (named_in (scope_at d.scopes (slice_index_or d.labels q no_label).scope)) ≡ true → (x : Object) × Made (own x) × (y ≡ f (own x))
   pub other_ways : (e : Edge) → Among e g.edges → e.to ≡ nowhere → HasOtherWay g e.from e.instr
 
 -- ---- what an instruction writes
@@ -159,9 +159,9 @@ pub visit_same : (f : Naming) (M : Slot → Type 0) (paths : List PathOf) (p : P
 visit_same f M paths p d q k h m s found i mirrors =
     let g = numbered paths d in
     let l = slice_index_or d.labels q no_label in
-    ap (λ (x : PointOf). visit x.path x.at (map (graph.known_of g s) x.scope)) (point_shown paths d q found)
-    ∙ ap (λ j. visit j l.at (map (graph.known_of g s) (scope_at d.scopes l.scope))) i.path
-    ∙ ap (λ a. visit k a (map (graph.known_of g s) (scope_at d.scopes l.scope))) i.at
+    ap (λ (x : PointOf). visit x.path x.at (map (graph.known_of g s) (named_in x.scope))) (point_shown paths d q found)
+    ∙ ap (λ j. visit j l.at (map (graph.known_of g s) (named_in (scope_at d.scopes l.scope)))) i.path
+    ∙ ap (λ a. visit k a (map (graph.known_of g s) (named_in (scope_at d.scopes l.scope)))) i.at
     ∙ ap (λ xs. visit k h.at (map (graph.known_of g s) xs)) i.scope
     ∙ ap (visit k h.at) (known_same f M (length d.made) p g m s h.scope i.made i.names mirrors)
 
@@ -172,24 +172,24 @@ shown_at f M g d q k h c s =
     subst (λ l. IsShown f M g.program d l k h) (c.labels q (c.somewhere q k h s)) (c.shown (label_at g.labels q) k h s)
 
 tells : (f : Naming) (M : Slot → Type 0) (paths : List PathOf) (g : Whole) (d : DraftOf ℕ) (c : Config) (w : Option Slot) (q : ℕ) → IsCopy f M g d → IsFound d q → IsMadeIf M w → Seen g c w q
-    → graph.is_in_scope (renamed_if f w) (point_at (numbered paths d) (number_of d q)).scope ≡ c.is_visit
+    → graph.is_in_scope (renamed_if f w) (names_at (numbered paths d) (number_of d q)) ≡ c.is_visit
 tells f M paths g d c None q copy found i s = sym s.0
 tells f M paths g d c (Some (own x)) q copy found i s =
     let shown = shown_at f M g d q c.path c.here copy s.1 in
-    ap (λ (y : PointOf). is_among (f (own x)) y.scope) (point_shown paths d q found)
+    ap (λ (y : PointOf). is_among (f (own x)) (named_in y.scope)) (point_shown paths d q found)
     ∙ ap (is_among (f (own x))) shown.scope
     ∙ scope_test f M (length d.made) x c.here.scope copy.naming i shown.made
     ∙ sym s.0
 tells f M paths g d c (Some (temporary n)) q copy found i s =
-    ap (λ (y : PointOf). is_among (f (temporary n)) y.scope) (point_shown paths d q found)
-    ∙ is_false (is_among (f (temporary n)) (scope_at d.scopes (slice_index_or d.labels q no_label).scope)) never
+    ap (λ (y : PointOf). is_among (f (temporary n)) (named_in y.scope)) (point_shown paths d q found)
+    ∙ is_false (is_among (f (temporary n)) (named_in (scope_at d.scopes (slice_index_or d.labels q no_label).scope))) never
     ∙ sym s
   where
     is_temporary : Slot → Type 0
     is_temporary (own x) = ⊥
     is_temporary (temporary k) = Unit {0}
 
-    never : is_among (f (temporary n)) (scope_at d.scopes (slice_index_or d.labels q no_label).scope) ≡ true → ⊥
+    never : is_among (f (temporary n)) (named_in (scope_at d.scopes (slice_index_or d.labels q no_label).scope)) ≡ true → ⊥
     never e = let r = copy.named q (f (temporary n)) e in subst is_temporary (copy.naming.apart (temporary n) (own r.0) i r.1 r.2) tt
 
 seen_shown : (g : Whole) (c : Config) (w : Option Slot) (q : ℕ) → Seen g c w q → c.is_visit ≡ true → ShowsAt g q c.path c.here
@@ -209,6 +209,6 @@ pub visits_same : (f : Naming) (M : Slot → Type 0) (paths : List PathOf) (g : 
     → visits_if (numbered paths d) (edge_of (reached d.edges) (renamed_edge f (edge p i q))) s vs ≡ runs.visits_if g.program c vs
 visits_same f M paths g d c p q i m s vs copy found over seen mirrors same =
     either (is_visit (numbered paths d) (edge_of (reached d.edges) (renamed_edge f (edge p i q)))) c.is_visit (visit_at (numbered paths d) (number_of d q) s) (runs.visit_of g.program c) vs
-    (ap (λ w. graph.is_in_scope w (point_at (numbered paths d) (number_of d q)).scope) (written_same f i) ∙ tells f M paths g d c (written i) q copy found (written_made M i over) seen)
+    (ap (λ w. graph.is_in_scope w (names_at (numbered paths d) (number_of d q))) (written_same f i) ∙ tells f M paths g d c (written i) q copy found (written_made M i over) seen)
     (λ v. visit_same f M paths g.program d q c.path c.here m s found (shown_at f M g d q c.path c.here copy (seen_shown g c (written i) q seen v)) mirrors
     ∙ ap (λ o. visit c.path c.here.at (map (runs.known_of g.program o) c.here.scope)) same)

@@ -3,7 +3,8 @@ use Rattle.std.proofs.Common.{◌≡◌, ℕ, ◌+◌, List, [], ◌∷◌, fals
 use Rattle.std.specs.Prelude.{Option, Some, None}
 use Rattle.pk_ctypes.specs.declared.types.IntType.{IntType}
 use Rattle.pk_ctypes.specs.declared.types.IntType.TheVariants.{Int}
-use Rattle.pk_typed.specs.declared.values.Variable.TheVariants.{Local}
+use Rattle.pk_typed.specs.declared.values.Variable.{Variable}
+use Rattle.pk_typed.specs.declared.values.Variable.TheVariants.{File, Local}
 use Rattle.pk_typed.specs.Trees.{ValueTree, ValueTrees, DeclaredTree}
 use Rattle.pk_typed.specs.Trees as tree
 use Rattle.pk_typed.specs.Types.{type_of}
@@ -60,10 +61,15 @@ array_first_by : (V W : Type 0) (f : V → W) (c : Context) (i : ℕ) (es : Opti
 array_first_by V W f c i None d = anything_by f c i d
 array_first_by V W f c i (Some es) d = ap (items c i 0 es) (emit_by f (Clear (array_of c (Local i) d)) d) ∙ items_by V W f c i 0 es (emit (Clear (array_of c (Local i) d)) d)
 
+hidden_by : {V W : Type 0} (f : V → W) (x : Variable) → Works f (statements.hidden x) (statements.hidden x)
+hidden_by f (File n) d = refl
+hidden_by f (Local i) d = refl
+
 pub declared_by : (V W : Type 0) (f : V → W) (c : Context) (x : DeclaredTree) → Works f (statements.declared c x) (statements.declared c x)
 declared_by V W f c (tree.scalar_object i p e) d = ap (statements.scalar_first c i e) (introduced_by f c i (on p d)) ∙ scalar_first_by V W f c i e (statements.introduced c i (on p d))
 declared_by V W f c (tree.array_object i p es) d = ap (statements.array_first c i es) (introduced_by f c i (on p d)) ∙ array_first_by V W f c i es (statements.introduced c i (on p d))
 declared_by V W f c (tree.static_object i p) d = refl
+declared_by V W f c (tree.hiding_constant x p) d = hidden_by f x (on p d)
 
 pub all_declared_by : (V W : Type 0) (f : V → W) (c : Context) (xs : List DeclaredTree) → Works f (all_declared c xs) (all_declared c xs)
 unfolding all_declared

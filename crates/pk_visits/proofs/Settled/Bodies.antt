@@ -79,6 +79,7 @@ next_settled C o c a (tree.array_object i p es) d os fits called final =
     own_settled o d (statements.array_first c i es f) os i a.objects fits.0 z.0 z.1
     (grown_object i f (statements.array_first c i es f) (array_first_grows C c i es f called) ∙ introduced_object c i (on p d) (subst (λ j. j < length d.objects) (sym fits.0) z.2))
 next_settled C o c a (tree.static_object i p) d os fits called final = tt
+next_settled C o c a (tree.hiding_constant x p) d os fits called final = tt
 
 all_settled : (C : ℕ → Size → Type 0) (o : Final) (c : Context) (vs : List DeclaredTree) (a : Around) (d : Draft) → AreDeclared a vs → AllCalled C c (calls_in_all_declared vs)
     → ((i : ℕ) → a.objects ≤ i → i < a.objects + objects_in_all_declared vs → (i < o.objects) × (o.numbers i ≡ object_at (all_declared c vs d).objects i)) → a.objects + objects_in_all_declared vs ≤ length d.objects → AreAllSettled o c vs d

@@ -5,10 +5,11 @@ use Rattle.pk_ctypes.specs.declared.places.Pos.{Pos}
 use Rattle.pk_typed.specs.Trees.{EffectTree, DeclaredTree, ForStartTree}
 use Rattle.pk_typed.specs.Trees as tree
 use Rattle.pk_graph.specs.declared.graphs.Scope.{Scope}
+use Rattle.pk_graph.specs.Graphs.{naming, hiding}
 use Rattle.pk_draft.specs.declared.drafts.Label.{Label}
 use Rattle.pk_draft.specs.Drafts.{on, fresh, inner, with_name, with_object}
 use Rattle.pk_lower_row.specs.Contexts.{local_at}
-use Rattle.pk_lower_statement.specs.Statements.{named, introduced, declared, all_declared, performed_if, for_start}
+use Rattle.pk_lower_statement.specs.Statements.{named, introduced, number_of, hidden, declared, all_declared, performed_if, for_start}
 use Rattle.pk_welltyped.specs.Listed.{calls_if, calls_in_values_if, calls_in_effect_if, calls_in_all_declared, calls_at_start, objects_in_declared}
 use Rattle.pk_welltyped.specs.WellTyped.{IsDeclared, AreDeclared, IsForStart}
 use Rattle.pk_meaning.specs.Objects as objects
@@ -30,6 +31,7 @@ abbrev pub ShowsName : Whole → (k : ℕ) → Place → DeclaredTree → Draft 
 ShowsName g k h (tree.scalar_object i q e) d = g.shows (introduced (context_of g k) i (on q d)).here k (place q (with_local g.program k i h.scope))
 ShowsName g k h (tree.array_object i q es) d = g.shows (introduced (context_of g k) i (on q d)).here k (place q (with_local g.program k i h.scope))
 ShowsName g k h (tree.static_object i q) d = g.shows (with_name i (on q d)).here k (place q (file i ∷ h.scope))
+ShowsName g k h (tree.hiding_constant x q) d = g.shows (hidden x (on q d)).here k (place q h.scope)
 
 -- the place behind the name is that behind the whole declaration
 pub shown_behind : (g : Whole) (proper : Proper g) (k : ℕ) (h : Place) (v : DeclaredTree) (d : Draft) → ShowsName g k h v d
@@ -49,6 +51,7 @@ shown_behind g proper k h (tree.array_object i q es) d shown =
     let there : g.shows f.here k (place q (with_local g.program k i h.scope)) = subst (λ (l : Label). g.shows l k (place q (with_local g.program k i h.scope))) (sym same) shown in
     subst (λ z. g.shows f.here k (place z (with_local g.program k i h.scope))) (proper.at_positions f.here k _ there) there
 shown_behind g proper k h (tree.static_object i q) d shown = shown
+shown_behind g proper k h (tree.hiding_constant x q) d shown = shown
 
 last_entry : (ss : Scoping) (z : Scope) → slice_get (ss ++ z ∷ []) (length ss) ≡ Some z
 last_entry [] z = refl
@@ -59,7 +62,7 @@ pub name_shown : (g : Whole) (proper : Proper g) (k i : ℕ) (h : Place) (o : Op
     → g.shows (named o x d).here k (place h.at (program.named o (local k i) h.scope))
 name_shown g proper k i h None x d shows path less is scopes = shows
 name_shown g proper k i h (Some name) x d shows path less is scopes =
-    let entry : ℕ → Scope = λ v. record { variable = v; outer = d.here.scope } in
+    let entry : ℕ → Scope = λ v. record { entry = naming v; outer = d.here.scope } in
     proper.enters d.here k i (length d.scopes) h shows path less
     (subst (λ v. slice_get g.scopes (length d.scopes) ≡ Some (entry v)) (sym is) (scopes (length d.scopes) (entry x) (last_entry d.scopes (entry x))))
 
@@ -78,8 +81,11 @@ shows_name g proper k h (tree.array_object i q es) n d fits shows path settled s
     name_shown g proper k i (place q h.scope) x.name d.variables (with_object i (inner x.name x.int_type x.length c.path) (on q d)) (proper.positions d.here k h.scope q shows) path settled.0 settled.1
     (λ n z y. scopes n z (first n z y))
 shows_name g proper k h (tree.static_object i q) n d fits shows path settled scopes =
-    let entry : Scope = record { variable = i; outer = d.here.scope } in
+    let entry : Scope = record { entry = naming i; outer = d.here.scope } in
     proper.shares (on q d).here k i (length d.scopes) (place q h.scope) (proper.positions d.here k h.scope q shows) fits (scopes (length d.scopes) entry (last_entry d.scopes entry))
+shows_name g proper k h (tree.hiding_constant x q) n d fits shows path settled scopes =
+    let entry : Scope = record { entry = hiding (number_of x (on q d)); outer = d.here.scope } in
+    proper.hides (on q d).here k (number_of x (on q d)) (length d.scopes) (place q h.scope) (proper.positions d.here k h.scope q shows) (scopes (length d.scopes) entry (last_entry d.scopes entry))
 
 -- behind declarations
 all_shown : (g : Whole) (proper : Proper g) (k : ℕ) (xs : objects.Scope) (vs : List DeclaredTree) (n : ℕ) (d : Draft) → AreDeclared (around g k n) vs → g.shows d.here k (place d.here.at xs) → k < length g.program.paths → AreAllSettled (final g k) (context_of g k) vs d

@@ -39,6 +39,7 @@ abbrev pub IsSettled : Final → DeclaredTree → Draft → Type 0
 IsSettled o (tree.scalar_object i q e) d = IsNext o i d
 IsSettled o (tree.array_object i q es) d = IsNext o i d
 IsSettled o (tree.static_object i q) d = Unit {0}
+IsSettled o (tree.hiding_constant x q) d = Unit {0}
 
 unfoldable pub AreAllSettled : Final → Context → List DeclaredTree → Draft → Type 0
 AreAllSettled o c [] d = Unit {0}

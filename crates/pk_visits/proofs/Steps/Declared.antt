@@ -85,6 +85,7 @@ declared_follows y g chosen m k h x (tree.array_object i q es) o d vs s b u w hs
     (array_follows y g chosen m k j x i es (o + 1) e0 vs s b u w hs (array_kind t n) (st.path, is) types lengths (ap (λ z. array_kind z n) (sym types) ∙ ap (λ z. array_kind (local_array g k i).int_type z) (sym many)) fits.2 (subst (λ z. _ ≤ z) (sym many) room.3)
     (calm_more d.variables e0.variables hs gv calm) (stage_at g k _ j (calls_in_values_if es) d e0 _ st gp shown) l means same f)
 declared_follows y g chosen m k h x (tree.static_object i q) o d vs s b u w hs fits calm st shown l means same f = still g chosen d.point m k (place q (file i ∷ h.scope)) w vs s x hs l means same f
+declared_follows y g chosen m k h x (tree.hiding_constant z q) o d vs s b u w hs fits calm st shown l means same f = still g chosen d.point m k (place q h.scope) w vs s x hs l means same f
 
 -- what is known of a declaration in a block: its stage, its name behind it, and the rest
 pub rest_declared : (g : Whole) (proper : Proper g) (k : ℕ) (h : Place) (x : Exits) (xs : Scope) (v : DeclaredTree) (is : ItemTrees) (a : Ahead) (hs : List Held) (d : Draft) (n : ℕ) (m : Marks)
@@ -141,11 +142,13 @@ place_then : (g : Whole) (k : ℕ) (v : DeclaredTree) (ds : List DeclaredTree) (
 place_then g k (tree.scalar_object i q e) ds h = refl
 place_then g k (tree.array_object i q es) ds h = refl
 place_then g k (tree.static_object i q) ds h = refl
+place_then g k (tree.hiding_constant x q) ds h = refl
 
 scope_then : (g : Whole) (k : ℕ) (v : DeclaredTree) (h : Place) → with_declared g.program k v h.scope ≡ (place_after g.program k (v ∷ []) h).scope
 scope_then g k (tree.scalar_object i q e) h = refl
 scope_then g k (tree.array_object i q es) h = refl
 scope_then g k (tree.static_object i q) h = refl
+scope_then g k (tree.hiding_constant x q) h = refl
 
 pub none_declared : (g : Whole) (k : ℕ) (h : Place) (x : Exits) (w : Work) (p : ℕ) (hs : List Held) → Laid g k h x (work.Declare [] w) p hs → Laid g k h x w p hs
 unfolding all_declared

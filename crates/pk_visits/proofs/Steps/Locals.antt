@@ -20,6 +20,7 @@ declared_fits : (a : Around) (v : DeclaredTree) → IsDeclared a v → Fits a 0 
 declared_fits a (tree.scalar_object i at e) h f = let z = local_below a.locals i (scalar_kind h.1.0) h.1.1 in let y = h.0 in omega (arith, z, y)
 declared_fits a (tree.array_object i at es) h f = let z = local_below a.locals i (array_kind h.1.0 h.1.1) h.1.2 in let y = h.0 in omega (arith, z, y)
 declared_fits a (tree.static_object i at) h f = f
+declared_fits a (tree.hiding_constant x at) h f = f
 
 all_fit : (vs : List DeclaredTree) (a : Around) → AreDeclared a vs → Fits a 0 → Fits a (objects_in_all_declared vs)
 all_fit [] a h f = f

@@ -8,7 +8,8 @@ use Rattle.pk_typed.specs.Trees.{BodyTree, FunctionTree, UnitTree}
 use Rattle.pk_calls.specs.declared.listings.CallPath.{CallPath}
 use Rattle.pk_calls.proofs.LeadLemmas.{slice_get_left}
 use Rattle.pk_graph.specs.declared.graphs.Scope.{Scope}
-use Rattle.pk_graph.specs.Graphs.{scope_at, no_variable}
+use Rattle.pk_graph.specs.Graphs as entries
+use Rattle.pk_graph.specs.Graphs.{scope_at, no_variable, named_in}
 use Rattle.pk_draft.specs.declared.drafts.Label.{Label}
 use Rattle.pk_draft.specs.declared.drafts.Region.{Region}
 use Rattle.pk_draft.specs.Drafts.{DraftOf, file_scopes}
@@ -49,35 +50,35 @@ last_entry : (ss : List Scope) (z : Scope) → slice_get (ss ++ z ∷ []) (lengt
 last_entry [] z = refl
 last_entry (s ∷ ss) z = last_entry ss z
 
-file_last : (n i : ℕ) → i < suc n → (i < n → slice_get (file_scopes n) i ≡ Some (record { variable = i; outer = i })) → slice_get (file_scopes (suc n)) i ≡ Some (record { variable = i; outer = i })
+file_last : (n i : ℕ) → i < suc n → (i < n → slice_get (file_scopes n) i ≡ Some (record { entry = entries.naming i; outer = i })) → slice_get (file_scopes (suc n)) i ≡ Some (record { entry = entries.naming i; outer = i })
 file_last n i h f = by (decided i n) where
   decided : (i n : ℕ) → (i < n) ⊎ (n ≤ i)
   decided i n = grind arith
 
-  by : (i < n) ⊎ (n ≤ i) → slice_get (file_scopes n ++ record { variable = n; outer = n } ∷ []) i ≡ Some (record { variable = i; outer = i })
-  by (inl b) = let many = scopes_many n in slice_get_left (file_scopes n) (record { variable = n; outer = n } ∷ []) i (omega (b, many, arith)) ∙ f b
+  by : (i < n) ⊎ (n ≤ i) → slice_get (file_scopes n ++ record { entry = entries.naming n; outer = n } ∷ []) i ≡ Some (record { entry = entries.naming i; outer = i })
+  by (inl b) = let many = scopes_many n in slice_get_left (file_scopes n) (record { entry = entries.naming n; outer = n } ∷ []) i (omega (b, many, arith)) ∙ f b
   by (inr b) =
       let same : n ≡ i = omega (b, h, arith) in
       let many = scopes_many n in
-      subst (λ (j : ℕ). slice_get (file_scopes n ++ record { variable = n; outer = n } ∷ []) j ≡ Some (record { variable = j; outer = j })) same
-      (ap (slice_get (file_scopes n ++ record { variable = n; outer = n } ∷ [])) (sym many) ∙ last_entry (file_scopes n) (record { variable = n; outer = n }))
+      subst (λ (j : ℕ). slice_get (file_scopes n ++ record { entry = entries.naming n; outer = n } ∷ []) j ≡ Some (record { entry = entries.naming j; outer = j })) same
+      (ap (slice_get (file_scopes n ++ record { entry = entries.naming n; outer = n } ∷ [])) (sym many) ∙ last_entry (file_scopes n) (record { entry = entries.naming n; outer = n }))
 
-file_entry : (n i : ℕ) → i < n → slice_get (file_scopes n) i ≡ Some (record { variable = i; outer = i })
+file_entry : (n i : ℕ) → i < n → slice_get (file_scopes n) i ≡ Some (record { entry = entries.naming i; outer = i })
 file_entry zero i h = absurd (omega (h, arith))
 file_entry (suc n) i h = file_last n i h (λ b. file_entry n i b)
 
 -- the first n names are those of the first n objects of the file
-file_named : (u : UnitTree) (paths : List CallPath) (h : AreTyped u paths) (n : ℕ) → n ≤ length u.objects → scope_at (by_numbers u paths).scopes n ≡ map (λ (x : Object). naming u paths (own x)) (file_scope n)
-file_named u paths h zero b = scope_nothing (by_numbers u paths).scopes
+file_named : (u : UnitTree) (paths : List CallPath) (h : AreTyped u paths) (n : ℕ) → n ≤ length u.objects → named_in (scope_at (by_numbers u paths).scopes n) ≡ map (λ (x : Object). naming u paths (own x)) (file_scope n)
+file_named u paths h zero b = ap named_in (scope_nothing (by_numbers u paths).scopes)
 file_named u paths h (suc n) b =
     let numbers = ap (λ (d : DraftOf ℕ). d.scopes) (numbers_are u paths) in
     let chain : AreChained (by_numbers u paths).scopes = subst AreChained (sym numbers) h.typed.chain in
     let many = length-map u.objects file_variable in
-    let entry : slice_get (file_scopes (length (map file_variable u.objects))) n ≡ Some (record { variable = n; outer = n }) = file_entry (length (map file_variable u.objects)) n (omega (b, many, arith)) in
-    let there : slice_get (by_numbers u paths).scopes n ≡ Some (record { variable = n; outer = n }) = ap (λ (ss : List Scope). slice_get ss n) numbers ∙ h.scopes.stay n (record { variable = n; outer = n }) entry in
-    let more = scope_behind (by_numbers u paths).scopes chain n (record { variable = n; outer = n }) there in
+    let entry : slice_get (file_scopes (length (map file_variable u.objects))) n ≡ Some (record { entry = entries.naming n; outer = n }) = file_entry (length (map file_variable u.objects)) n (omega (b, many, arith)) in
+    let there : slice_get (by_numbers u paths).scopes n ≡ Some (record { entry = entries.naming n; outer = n }) = ap (λ (ss : List Scope). slice_get ss n) numbers ∙ h.scopes.stay n (record { entry = entries.naming n; outer = n }) entry in
+    let more = scope_behind (by_numbers u paths).scopes chain n (record { entry = entries.naming n; outer = n }) there in
     let at : suc n ≡ n + 1 = omega arith in
-    ap (scope_at (by_numbers u paths).scopes) at ∙ (more ∙ ap (λ (xs : List ℕ). n ∷ xs) (file_named u paths h n (omega (b, arith))))
+    ap (λ (i : ℕ). named_in (scope_at (by_numbers u paths).scopes i)) at ∙ (ap named_in more ∙ ap (λ (xs : List ℕ). n ∷ xs) (file_named u paths h n (omega (b, arith))))
 
 in_file_scope : (n : ℕ) (x : Object) → Among x (file_scope n) → (i : ℕ) × (x ≡ file i) × (i < n)
 in_file_scope zero x h = absurd h

@@ -1,14 +1,16 @@
 -- The draft of a unit by number has the edges and names of its graph over slots.
-use Rattle.std.proofs.Common.{◌≡◌, ℕ, zero, suc, ◌<◌, ◌⊎◌, inl, inr, List, [], ◌∷◌, ◌++◌, length, map, Bool, true, false, ◌||◌, not, nat_eq, Some, None, refl, sym, ap, subst, ◌∙◌, arith, slice_index_or, slice_set}
+use Rattle.std.proofs.Common.{◌≡◌, ℕ, zero, suc, ◌<◌, ◌⊎◌, inl, inr, List, [], ◌∷◌, ◌++◌, length, map, Bool, true, false, ◌||◌, not, cond, nat_eq, Some, None, refl, sym, ap, subst, ◌∙◌, arith, slice_index_or, slice_set}
 use Rattle.std.proofs.lemmas.List.{get_or-set_same, get_or-set_other}
 use Rattle.std.proofs.lemmas.Option.{none-some}
 use Rattle.std.specs.Prelude.{All}
 use Rattle.pk_typed.specs.Trees.{UnitTree}
 use Rattle.pk_calls.specs.declared.listings.CallPath.{CallPath}
+use Rattle.std.specs.List.{filter}
+use Rattle.pk_graph.specs.declared.graphs.Entry.{Entry}
 use Rattle.pk_graph.specs.declared.graphs.Scope.{Scope}
 use Rattle.pk_graph.specs.Trees.{TreeOf, constant, variable, converted, unary, binary, ArrayOf, InstrOf, Skip, Set, Havoc, Clear, Load, Store, Guard, Check}
 use Rattle.pk_graph.specs.Kinds.{Kind, kind_at}
-use Rattle.pk_graph.specs.Graphs.{VariableOf, scope_at, chained}
+use Rattle.pk_graph.specs.Graphs.{VariableOf, scope_at, chained, named_in}
 use Rattle.pk_draft.specs.declared.drafts.Label.{Label}
 use Rattle.pk_draft.specs.Drafts.{DraftOf, EdgeFrom, nowhere, no_label}
 use Rattle.pk_number.specs.Preorders.{is_among}
@@ -157,24 +159,33 @@ other_copied u paths p (Check s e) h = absurd h
 
 -- ---- names in scope
 
-lists_more : (P : ℕ → Type 0) (ls : List (List ℕ)) (xs : List ℕ) → ((i z : ℕ) → Among z (slice_index_or ls i []) → P z) → ((z : ℕ) → Among z xs → P z) → (i z : ℕ) → Among z (slice_index_or (ls ++ xs ∷ []) i []) → P z
+lists_more : (P : Entry → Type 0) (ls : List (List Entry)) (xs : List Entry) → ((i : ℕ) (z : Entry) → Among z (slice_index_or ls i []) → P z) → ((z : Entry) → Among z xs → P z) → (i : ℕ) (z : Entry) → Among z (slice_index_or (ls ++ xs ∷ []) i []) → P z
 lists_more P [] xs h f zero z a = f z a
 lists_more P [] xs h f (suc i) z a = absurd a
 lists_more P (l ∷ ls) xs h f zero z a = h 0 z a
 lists_more P (l ∷ ls) xs h f (suc i) z a = lists_more P ls xs (λ j y b. h (suc j) y b) f i z a
 
-chained_all : (P : ℕ → Type 0) (ss : List Scope) (known : List (List ℕ)) → All (λ (s : Scope). P s.variable) ss → ((i z : ℕ) → Among z (slice_index_or known i []) → P z) → (i z : ℕ) → Among z (slice_index_or (chained known ss) i []) → P z
+chained_all : (P : Entry → Type 0) (ss : List Scope) (known : List (List Entry)) → All (λ (s : Scope). P s.entry) ss → ((i : ℕ) (z : Entry) → Among z (slice_index_or known i []) → P z) → (i : ℕ) (z : Entry) → Among z (slice_index_or (chained known ss) i []) → P z
 chained_all P [] known h f i z a = f i z a
 chained_all P (s ∷ ss) known h f i z a =
-    chained_all P ss (known ++ (s.variable ∷ slice_index_or known s.outer []) ∷ []) (λ k d l. h (suc k) d (omega (l, arith)))
-    (lists_more P known (s.variable ∷ slice_index_or known s.outer []) f (λ y b. elim b [ inl e ↦ subst P (sym e) (h 0 s (omega arith)) | inr b ↦ f s.outer y b ])) i z a
+    chained_all P ss (known ++ (s.entry ∷ slice_index_or known s.outer []) ∷ []) (λ k d l. h (suc k) d (omega (l, arith)))
+    (lists_more P known (s.entry ∷ slice_index_or known s.outer []) f (λ y b. elim b [ inl e ↦ subst P (sym e) (h 0 s (omega arith)) | inr b ↦ f s.outer y b ])) i z a
 
-none_known : (P : ℕ → Type 0) (i z : ℕ) → Among z (slice_index_or ([] ∷ []) i []) → P z
+none_known : (P : Entry → Type 0) (i : ℕ) (z : Entry) → Among z (slice_index_or ([] ∷ []) i []) → P z
 none_known P zero z a = absurd a
 none_known P (suc i) z a = absurd a
 
-scope_all : (P : ℕ → Type 0) (ss : List Scope) → All (λ (s : Scope). P s.variable) ss → (k z : ℕ) → Among z (scope_at ss k) → P z
-scope_all P ss h k z a = chained_all P ss ([] ∷ []) h (none_known P) k z a
+-- a name in scope is an entry's
+of_entry : (P : ℕ → Type 0) (es : List Entry) → ((e : Entry) → Among e es → P e.variable) → (z : ℕ) → Among z (named_in es) → P z
+of_entry P [] h z a = absurd a
+of_entry P (e ∷ es) h z a = by (not e.hides) (λ r. of_entry P es (λ x q. h x (inr q)) z r) a where
+  by : (b : Bool) → (Among z (named_in es) → P z) → Among z (map (λ (x : Entry). x.variable) (cond b (e ∷ filter (λ (x : Entry). not x.hides) es) (filter (λ (x : Entry). not x.hides) es))) → P z
+  by true f (inl q) = subst P (sym q) (h e (inl refl))
+  by true f (inr r) = f r
+  by false f r = f r
+
+scope_all : (P : ℕ → Type 0) (ss : List Scope) → All (λ (s : Scope). P s.entry.variable) ss → (k z : ℕ) → Among z (named_in (scope_at ss k)) → P z
+scope_all P ss h k z a = of_entry P (scope_at ss k) (λ e q. chained_all (λ (x : Entry). P x.variable) ss ([] ∷ []) h (none_known (λ (x : Entry). P x.variable)) k e q) z a
 
 or_true : (a b : Bool) → (a || b) ≡ true → (a ≡ true) ⊎ (b ≡ true)
 or_true true b h = inl refl
@@ -231,8 +242,8 @@ is_copy u paths h =
       labels = λ q n. label_back (over_slots u paths).labels (nobody paths) q n ∙ ap (λ (ls : List Label). slice_index_or ls q no_label) labels;
       shown = λ l k j s. s.shown;
       somewhere = λ q k j s e. nobody_shown u paths many k j (subst (λ (p : ℕ). Shows u paths (label_at (graph u paths).labels p) k j) e s);
-      named = λ q y a. named_object u paths h y (scope_all (IsObjects u paths) (by_numbers u paths).scopes (subst (λ (ss : List Scope). All (λ (s : Scope). IsObjects u paths s.variable) ss) (sym scopes) (λ k d l. (h.typed.scopes k d l).1))
-          (slice_index_or (by_numbers u paths).labels q no_label).scope y (told_among y (scope_at (by_numbers u paths).scopes (slice_index_or (by_numbers u paths).labels q no_label).scope) a));
+      named = λ q y a. named_object u paths h y (scope_all (IsObjects u paths) (by_numbers u paths).scopes (subst (λ (ss : List Scope). All (λ (s : Scope). IsObjects u paths s.entry.variable) ss) (sym scopes) (λ k d l. (h.typed.scopes k d l).1))
+          (slice_index_or (by_numbers u paths).labels q no_label).scope y (told_among y (named_in (scope_at (by_numbers u paths).scopes (slice_index_or (by_numbers u paths).labels q no_label).scope)) a));
       other_ways = λ e a n. let c = edge_copied u paths h e a in
           let t = all_at (EdgeIs (base (world u paths))) (whole u paths).edges c.pair h.typed.edges c.there in
           subst (λ (x : Edge). copies.HasOtherWay (graph u paths) x.from x.instr) (sym c.is) (other_copied u paths c.pair.from c.pair.instr (t.other (sym (ap (λ (x : Edge). x.to) c.is) ∙ n)));

@@ -6,8 +6,10 @@ use Rattle.pk_ctypes.specs.declared.types.IntType.{IntType}
 use Rattle.pk_typed.specs.Trees.{LocalTree, FunctionTree, FileObjectTree, UnitTree}
 use Rattle.pk_calls.specs.declared.listings.CallPath.{CallPath}
 use Rattle.pk_calls.specs.Paths.{entry_path, path_by, IsListing}
+use Rattle.pk_graph.specs.declared.graphs.Entry.{Entry}
 use Rattle.pk_graph.specs.declared.graphs.Scope.{Scope}
-use Rattle.pk_graph.specs.Graphs.{VariableOf, no_variable, scope_at, chained}
+use Rattle.pk_graph.specs.Graphs as entries
+use Rattle.pk_graph.specs.Graphs.{VariableOf, no_variable, scope_at, chained, named_in}
 use Rattle.pk_draft.specs.declared.drafts.Label.{Label}
 use Rattle.pk_draft.specs.Drafts.{DraftOf}
 use Rattle.pk_lower_row.specs.Contexts.{parameters_of}
@@ -51,28 +53,28 @@ more_one [] x = refl
 more_one (y ∷ xs) x = let z = more_one xs x in omega (z, arith)
 
 -- lists that are known stay
-chained_same : (ss : List Scope) (known : List (List ℕ)) (i : ℕ) → i < length known → slice_index_or (chained known ss) i [] ≡ slice_index_or known i []
+chained_same : (ss : List Scope) (known : List (List Entry)) (i : ℕ) → i < length known → slice_index_or (chained known ss) i [] ≡ slice_index_or known i []
 chained_same [] known i h = refl
 chained_same (s ∷ ss) known i h =
-    let l = s.variable ∷ slice_index_or known s.outer [] in
+    let l = s.entry ∷ slice_index_or known s.outer [] in
     let z = more_one known l in
     chained_same ss (known ++ l ∷ []) i (omega (h, z, arith)) ∙ get_same known (l ∷ []) i [] h
 
-chained_at : (ss : List Scope) (known : List (List ℕ)) (n : ℕ) (s : Scope) → slice_get ss n ≡ Some s → s.outer < length known + n → slice_index_or (chained known ss) (length known + n) [] ≡ s.variable ∷ slice_index_or (chained known ss) s.outer []
+chained_at : (ss : List Scope) (known : List (List Entry)) (n : ℕ) (s : Scope) → slice_get ss n ≡ Some s → s.outer < length known + n → slice_index_or (chained known ss) (length known + n) [] ≡ s.entry ∷ slice_index_or (chained known ss) s.outer []
 chained_at [] known n s e h = absurd (none-some s e)
 chained_at (y ∷ ss) known zero s e h = by (ap (λ (o : Option Scope). unwrap_or o s) e) h where
-  by : y ≡ s → s.outer < length known + zero → slice_index_or (chained known (y ∷ ss)) (length known + zero) [] ≡ s.variable ∷ slice_index_or (chained known (y ∷ ss)) s.outer []
+  by : y ≡ s → s.outer < length known + zero → slice_index_or (chained known (y ∷ ss)) (length known + zero) [] ≡ s.entry ∷ slice_index_or (chained known (y ∷ ss)) s.outer []
   by q h =
-      let l = y.variable ∷ slice_index_or known y.outer [] in
+      let l = y.entry ∷ slice_index_or known y.outer [] in
       let z = more_one known l in
       let at : length known + zero ≡ length known = omega arith in
       let low : y.outer < length known = let w = ap (λ (x : Scope). x.outer) q in omega (w, h, arith) in
       ap (λ (i : ℕ). slice_index_or (chained known (y ∷ ss)) i []) at
       ∙ (chained_same ss (known ++ l ∷ []) (length known) (omega (z, arith)) ∙ (get_last known l []
-      ∙ (ap (λ (x : List ℕ). y.variable ∷ x) (sym (chained_same ss (known ++ l ∷ []) y.outer (omega (z, low, arith)) ∙ get_same known (l ∷ []) y.outer [] low))
-      ∙ ap (λ (x : Scope). x.variable ∷ slice_index_or (chained known (y ∷ ss)) x.outer []) q)))
+      ∙ (ap (λ (x : List Entry). y.entry ∷ x) (sym (chained_same ss (known ++ l ∷ []) y.outer (omega (z, low, arith)) ∙ get_same known (l ∷ []) y.outer [] low))
+      ∙ ap (λ (x : Scope). x.entry ∷ slice_index_or (chained known (y ∷ ss)) x.outer []) q)))
 chained_at (y ∷ ss) known (suc n) s e h =
-    let l = y.variable ∷ slice_index_or known y.outer [] in
+    let l = y.entry ∷ slice_index_or known y.outer [] in
     let z = more_one known l in
     let at : length known + suc n ≡ length (known ++ l ∷ []) + n = omega (z, arith) in
     ap (λ (i : ℕ). slice_index_or (chained known (y ∷ ss)) i []) at ∙ chained_at ss (known ++ l ∷ []) n s e (omega (h, z, arith))
@@ -81,10 +83,10 @@ chained_at (y ∷ ss) known (suc n) s e h =
 pub scope_nothing : (ss : List Scope) → scope_at ss 0 ≡ []
 scope_nothing ss = chained_same ss ([] ∷ []) 0 (omega arith)
 
--- place n + 1 adds the variable of entry n to those of the place around it
-pub scope_behind : (ss : List Scope) → AreChained ss → (n : ℕ) (s : Scope) → slice_get ss n ≡ Some s → scope_at ss (n + 1) ≡ s.variable ∷ scope_at ss s.outer
+-- place n + 1 adds entry n to those of the place around it
+pub scope_behind : (ss : List Scope) → AreChained ss → (n : ℕ) (s : Scope) → slice_get ss n ≡ Some s → scope_at ss (n + 1) ≡ s.entry ∷ scope_at ss s.outer
 scope_behind ss h n s e =
-    let known : List (List ℕ) = [] ∷ [] in
+    let known : List (List Entry) = [] ∷ [] in
     let at : n + 1 ≡ 1 + n = omega arith in
     let low = h n s e in
     ap (λ (i : ℕ). scope_at ss i) at ∙ chained_at ss ([] ∷ []) n s e (omega (low, arith))
@@ -136,16 +138,16 @@ file_name u paths h i b =
 -- an object of the file or of the path comes into scope
 comes_in : (u : UnitTree) (paths : List CallPath) (h : AreTyped u paths) (l : Label) (k n : ℕ) (j : Place) (x : Object) → Shows u paths l k j → Made u paths (own x)
     → unwrap_or (slice_index_or (by_numbers u paths).made (naming u paths (own x)) no_variable).name [] ≡ name_of (program_of u paths) x → IsOf k x
-    → slice_get (over_slots u paths).scopes n ≡ Some (record { variable = naming u paths (own x); outer = l.scope })
+    → slice_get (over_slots u paths).scopes n ≡ Some (record { entry = entries.naming (naming u paths (own x)); outer = l.scope })
     → Shows u paths (record { at = l.at; path = l.path; scope = n + 1 }) k (place j.at (x ∷ j.scope))
 comes_in u paths h l k n j x s made name of e =
     let slots = ap (λ (d : Draft). d.scopes) (slots_are u paths) in
     let numbers = ap (λ (d : DraftOf ℕ). d.scopes) (numbers_are u paths) in
     let same : (over_slots u paths).scopes ≡ (by_numbers u paths).scopes = slots ∙ sym numbers in
     let chain : AreChained (by_numbers u paths).scopes = subst AreChained (sym numbers) h.typed.chain in
-    let entry : Scope = record { variable = naming u paths (own x); outer = l.scope } in
+    let entry : Scope = record { entry = entries.naming (naming u paths (own x)); outer = l.scope } in
     let there : slice_get (by_numbers u paths).scopes n ≡ Some entry = ap (λ (ss : List Scope). slice_get ss n) (sym same) ∙ e in
-    let more = scope_behind (by_numbers u paths).scopes chain n entry there in
+    let more = ap named_in (scope_behind (by_numbers u paths).scopes chain n entry there) in
     record {
       path = s.path;
       shown = record {
@@ -160,6 +162,19 @@ comes_in u paths h l k n j x s made name of e =
       };
       own = λ y a. elim a [ inl q ↦ subst (IsOf k) (sym q) of | inr q ↦ s.own y q ];
     }
+
+-- a name that is hidden stays in scope
+stays_in : (u : UnitTree) (paths : List CallPath) (h : AreTyped u paths) (l : Label) (k n x : ℕ) (j : Place) → Shows u paths l k j → slice_get (over_slots u paths).scopes n ≡ Some (record { entry = entries.hiding x; outer = l.scope })
+    → Shows u paths (record { at = l.at; path = l.path; scope = n + 1 }) k j
+stays_in u paths h l k n x j s e =
+    let slots = ap (λ (d : Draft). d.scopes) (slots_are u paths) in
+    let numbers = ap (λ (d : DraftOf ℕ). d.scopes) (numbers_are u paths) in
+    let same : (over_slots u paths).scopes ≡ (by_numbers u paths).scopes = slots ∙ sym numbers in
+    let chain : AreChained (by_numbers u paths).scopes = subst AreChained (sym numbers) h.typed.chain in
+    let entry : Scope = record { entry = entries.hiding x; outer = l.scope } in
+    let there : slice_get (by_numbers u paths).scopes n ≡ Some entry = ap (λ (ss : List Scope). slice_get ss n) (sym same) ∙ e in
+    let more = ap named_in (scope_behind (by_numbers u paths).scopes chain n entry there) in
+    record { path = s.path; shown = record { path = s.shown.path; at = s.shown.at; scope = more ∙ s.shown.scope; made = s.shown.made; names = s.shown.names }; own = s.own }
 
 -- ---- parameters
 
@@ -195,6 +210,7 @@ is_proper u entry paths l h = record {
   positions = λ m k xs q s. record { path = s.path; shown = record { path = s.shown.path; at = refl; scope = s.shown.scope; made = s.shown.made; names = s.shown.names }; own = s.own };
   scopes = λ m k n i j s b. not_in_scope k n i j.scope b s.own;
   enters = λ m k i n j s b c e. comes_in u paths h m k n j (local k i) s (local_made u paths h k i b c) (object_name u paths h k i b c) refl e;
+  hides = λ m k x n j s e. stays_in u paths h m k n x j s e;
   shares = λ m k i n j s b e. comes_in u paths h m k n j (file i) s (file_made u paths h i b) (file_name u paths h i b) tt e;
   parameters = λ m i t b e. parameter_there u paths h m i t b e;
 }

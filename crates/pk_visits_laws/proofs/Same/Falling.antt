@@ -221,6 +221,7 @@ declares p ch k h v w u vs s b (tree.array_object i at None) r l =
     chosen p k w _ _ ch _ (lighter p k w u _ _ _ _ r (omega (arith, l)))
 declares p ch k h v w u vs s b (tree.array_object i at (Some es)) r l = lighter p k w _ _ _ _ _ r (omega (arith, l))
 declares p ch k h v w u vs s b (tree.static_object i at) r l = lighter p k w _ _ _ _ false r (omega (arith, l))
+declares p ch k h v w u vs s b (tree.hiding_constant x at) r l = lighter p k w _ _ _ _ false r (omega (arith, l))
 
 declare_all : (p : Program) (ch : Numbers) (k : ℕ) (h : Place) (v w : Work) (vs : Numbers) (s : Objects) (b : Bool) (ds : List DeclaredTree) → Falling p k (work.Declare ds w) (steps.all_declared p ch (config k h v vs s b) ds w)
 declare_all p ch k h v w vs s b [] = lighter p k _ w h vs s false (same (returns w)) (omega arith)

@@ -66,6 +66,7 @@ declared p k (tree.scalar_object i at (Some e)) = 2 + value p k e
 declared p k (tree.array_object i at None) = 2
 declared p k (tree.array_object i at (Some es)) = 2 + values p k es
 declared p k (tree.static_object i at) = 1
+declared p k (tree.hiding_constant x at) = 1
 
 abbrev pub all_declared : Program → ℕ → List DeclaredTree → ℕ
 all_declared p k [] = 0

@@ -45,6 +45,7 @@ pub declared_goes : {V : Type 0} (z : ℕ → ℕ) (c : Context) (v : DeclaredTr
 declared_goes z c (tree.scalar_object i p e) d h = goes_trans (introduced_goes z c i (on p d)) (scalar_first_goes z c i e (introduced c i (on p d)) h)
 declared_goes z c (tree.array_object i p es) d h = goes_trans (introduced_goes z c i (on p d)) (array_first_goes z c i es (introduced c i (on p d)) h)
 declared_goes z c (tree.static_object i p) d h = goes_refl z d
+declared_goes z c (tree.hiding_constant x p) d h = goes_refl z d
 
 all_declared_go : {V : Type 0} (z : ℕ → ℕ) (c : Context) (vs : List DeclaredTree) (d : DraftOf V) → Sized z c (calls_in_all_declared vs) → Goes z d (all_declared c vs d)
 unfolding all_declared

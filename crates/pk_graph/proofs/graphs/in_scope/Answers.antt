@@ -1,4 +1,5 @@
-use Rattle.std.proofs.Common.{◌-◌, ap, refl, List, ℕ, ◌++◌, slice_index_or, arith}
+use Rattle.std.proofs.Common.{◌-◌, ap, refl, List, false, ◌++◌, slice_index_or, arith}
+use Rattle.pk_graph.specs.declared.graphs.Entry.{Entry}
 use Rattle.pk_graph.specs.declared.graphs.Scope.{Scope}
 use Rattle.pk_graph.specs.Graphs.{scope_at}
 use Rattle.pk_graph.proofs.ScopeLemmas.{inner_left, outer_left, none_left, past_left}
@@ -6,10 +7,10 @@ use Rattle.pk_graph.proofs.graphs.in_scope.Goals as goal
 use Rattle.pk_graph.proofs.graphs.in_scope.Goals.{then-loop-left-test+else-left-scopes, else-loop-left-test}
 
 abbrev first : Scope
-first = record { variable = 0; outer = 0 }
+first = record { entry = record { variable = 0; hides = false }; outer = 0 }
 
 pub loop-left-init : goal.loop-left-init
-loop-left-init c = ap (λ (xs : List ℕ). xs ++ scope_at c.args.scopes.now c.args.place) c.new-list.ensures.items
+loop-left-init c = ap (λ (xs : List Entry). xs ++ scope_at c.args.scopes.now c.args.place) c.new-list.ensures.items
 
 pub loop-left-preserved-then-scope-left : goal.loop-left-preserved-then-scope-left
 loop-left-preserved-then-scope-left c =

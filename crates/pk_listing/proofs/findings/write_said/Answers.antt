@@ -8,5 +8,5 @@ pub returns : goal.returns
 unfolding said_text
 returns c =
     on_ok_weaker c.write_said_end.result
-    (λ h. four_pieces _ _ _ _ _ _ _ _ _ c.in_ok-write.ensures c.in_ok-write_fault.ensures c.in_ok-write-2.ensures h)
+    (λ h. four_pieces _ _ _ _ _ _ _ _ _ c.in_ok-write.ensures c.in_ok-write_fault_of.ensures c.in_ok-write-2.ensures h)
     (simp (to_z-of_z c.ranges.lo, to_z-of_z c.ranges.hi) at c.write_said_end.ensures)

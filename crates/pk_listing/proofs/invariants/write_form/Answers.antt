@@ -1,6 +1,6 @@
 use Rattle.std.proofs.Common.{to_z-of_z}
 use Rattle.std.proofs.lemmas.Result.{on_ok_weaker}
-use Rattle.pk_listing.proofs.PieceLemmas.{three_pieces}
+use Rattle.pk_findings.proofs.PieceLemmas.{three_pieces}
 use Rattle.pk_listing.proofs.invariants.write_form.Goals as goal
 
 pub returns : goal.returns

@@ -52,7 +52,22 @@ returns-in-Static-clause-told c = λ s at agrees.
     let hs : List Held = held s c.args.state.now.frames.items in
     let xs : Scope = scope_in s c.args.scope in
     let e : scope_in s c.in_ok-inner.inner ≡ file c.in-Static._file ∷ xs = c.in_ok-inner.ensures.scope s agrees ∙ ap (λ (d : Declared). programs.with_declared p k (declared_tree d) xs) c.in-Static.is in
-    subst (λ (d : Declared). IfOk c.name_static.result (λ r. Told s c.args.state.now c.name_static.new.state r (steps.declares p ch (standing (place at xs) old) (declared_tree d)
+    subst (λ (d : Declared). IfOk c.go_past.result (λ r. Told s c.args.state.now c.go_past.new.state r (steps.declares p ch (standing (place at xs) old) (declared_tree d)
     (after_in s hs (programs.with_declared p k (declared_tree d) xs) c.args.after)))) (sym c.in-Static.is)
-    (subst (λ (ys : Scope). IfOk c.name_static.result (λ r. Told s c.args.state.now c.name_static.new.state r (steps.on (standing
-    (place c.in-Static.at ys) old) (after_in s hs ys c.args.after) old.values))) e (c.name_static.ensures s))
+    (subst (λ (ys : Scope). IfOk c.go_past.result (λ r. Told s c.args.state.now c.go_past.new.state r (steps.on (standing
+    (place c.in-Static.at ys) old) (after_in s hs ys c.args.after) old.values))) e (c.go_past.ensures s))
+
+pub returns-in-Hiding-clause-told : goal.returns-in-Hiding-clause-told
+unfolding declared_tree shown
+returns-in-Hiding-clause-told c = λ s at agrees.
+    let old : Config = shown s c.args.state.now in
+    let p : Program = program_in c.args.program.now in
+    let k : ℕ = c.args.state.now.path in
+    let ch : Numbers = c.args.chosen.now in
+    let hs : List Held = held s c.args.state.now.frames.items in
+    let xs : Scope = scope_in s c.args.scope in
+    let e : scope_in s c.in_ok-inner.inner ≡ xs = c.in_ok-inner.ensures.scope s agrees ∙ ap (λ (d : Declared). programs.with_declared p k (declared_tree d) xs) c.in-Hiding.is in
+    subst (λ (d : Declared). IfOk c.go_past-in-Hiding.result (λ r. Told s c.args.state.now c.go_past-in-Hiding.new.state r (steps.declares p ch (standing (place at xs) old) (declared_tree d)
+    (after_in s hs (programs.with_declared p k (declared_tree d) xs) c.args.after)))) (sym c.in-Hiding.is)
+    (subst (λ (ys : Scope). IfOk c.go_past-in-Hiding.result (λ r. Told s c.args.state.now c.go_past-in-Hiding.new.state r (steps.on (standing
+    (place c.in-Hiding.at ys) old) (after_in s hs ys c.args.after) old.values))) e (c.go_past-in-Hiding.ensures s))

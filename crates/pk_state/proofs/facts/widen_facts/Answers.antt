@@ -14,5 +14,5 @@ invariant_of-result c =
     let size : length c.in_ok-widen_values.field-0 ≡ length l.types = ap length c.in_ok-widen_values.ensures.value ∙ merged_length (λ x. widened (type_at l x) c.args.thresholds.now) 0 c.held.inside.values c.next.inside.values (held.size ∙ sym next.size) ∙ held.size in (
       marked_in c.in_ok-widen_values.field-0 c.widen_values.new.loose.items c.in_ok-at_most.field-0.items
           (λ y p e. c.in_ok-at_most.ensures y (omega (arith, p, size, c.len.ensures)) e) c.in_ok-widen_values.ensures.marked,
-      λ e. absurd (cc),
+      tt,
     )

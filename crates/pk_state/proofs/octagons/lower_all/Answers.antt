@@ -14,7 +14,8 @@ loop-k-preserved c =
     let n : k + 1 ≡ suc k = omega arith in
     let range = ap (λ (v : Known). v.range) (c.value.view_is ∙ sym (get_known vs x c.get-value.result c.get-value.ensures)) in
     rw n (
-      c.lower.ensures.value ∙ ap (λ r. by_range c.loop-k.m k r) range ∙ ap (λ y. by_range c.loop-k.m k (known_at vs y).range) c.chosen-x.ensures.value
+      c.lower_marked-known.ensures.value ∙ ap (λ r. by_range c.loop-k.m k r) range ∙ ap (λ y. by_range c.loop-k.m k (known_at vs y).range) c.chosen-x.ensures.value
           ∙ ap (λ o. by_range o k (known_at vs (chosen_at c.args.frame.now k)).range) c.loop-k.invariant.0,
-      c.lower.ensures.vars ∙ c.loop-k.invariant.1,
+      c.lower_marked-known.ensures.vars ∙ c.loop-k.invariant.1,
+      λ is. c.lower_marked-known.ensures.marked (c.loop-k.invariant.2 is),
     )

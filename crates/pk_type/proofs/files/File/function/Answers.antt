@@ -15,5 +15,5 @@ pub returns : goal.returns
 unfolding function_tree
 returns c =
     let l = ends _ _ _ _ (filed_in c.named.new.self) _ _ (filed_in c.optional_body.new.self) c.in_ok-enter.ensures c.in_ok-parameters.ensures c.in_ok-optional_body.ensures in
-    function_step (defined_names c.args.defined.now) (function_tree c.args.f.now) _ _ (filed_in c.args.self.now) _ _ _ _ _ c.in_ok-number.ensures.filed c.in_ok-number.ensures.number c.type_named.ensures c.in_ok-enter.ensures
+    function_step (defined_names c.args.defined.now) (function_tree c.args.f.now) _ _ (filed_in c.args.self.now) _ _ _ _ _ c.in_ok-number.ensures.filed c.in_ok-number.ensures.number c.type_named-returns.ensures c.in_ok-enter.ensures
     (c.in_ok-parameters.ensures ∙ ap (λ ps. on (after_parameters noted (parameter_trees ps)) (filed_in c.enter.new.self)) c.deref.ensures.value) c.in_ok-optional_body.ensures (c.leave.ensures (filed_in c.named.new.self) l.outer l.text)

@@ -1,0 +1,7 @@
+mod Stops
+mod Digits
+mod SymbolLemmas
+mod Sequences
+mod Parts
+mod Heading
+mod Lines

@@ -1,0 +1,18 @@
+// Laws of certificates, over their definitions.
+
+ghost use Rattle.pk_cert.specs.Laws.{FirstWrongIsOne, HeadsAreTold, LinesAreTold};
+
+/// Bytes have at most one first wrong byte, and none if they have a head, or are a certificate.
+pub fn first_wrong_is_one()
+    ensures { FirstWrongIsOne }
+{}
+
+/// A head and what stands behind it are told by their bytes.
+pub fn heads_are_told()
+    ensures { HeadsAreTold }
+{}
+
+/// Certificates with the same bytes are the same.
+pub fn lines_are_told()
+    ensures { LinesAreTold }
+{}

@@ -1,0 +1,4 @@
+mod Without
+mod Changes
+mod Gains
+mod Joins

@@ -1,0 +1,38 @@
+// Closing what something is known of.
+
+ghost use Rattle.std.specs.Prelude.{◌≡◌, ◌<◌};
+ghost use Rattle.pk_octmat.specs.Shapes.{left_of};
+ghost use Rattle.pk_octclose.specs.Places.{closing_of, IsClosedBut};
+ghost use Rattle.pk_octmarks.specs.Marks.{IsMarked};
+
+use crate::mark::Mark;
+use pk_octclose::{close, close_after, small};
+use pk_octmat::{Matrix, Shape};
+
+// Closes a matrix that is closed but for variable k.
+fn close_but(m: &mut Matrix, k: u32) -> Shape
+    requires variable { k < m.old.vars }
+    requires closed { IsClosedBut m.old k }
+    ensures value { left_of result m.new ≡ closing_of m.old }
+    ensures vars { m.new.vars ≡ m.old.vars }
+{
+    if small(m) {
+        close_after(m, k)
+    } else {
+        close(m)
+    }
+}
+
+/// Closes a matrix in place of which so much is known, or finds that no integers meet it: what `close` gives, without what need not be done.
+pub fn close_marked(m: &mut Matrix, mark: Mark) -> Shape
+    requires { IsMarked mark m.old }
+    ensures value { left_of result m.new ≡ closing_of m.old }
+    ensures vars { m.new.vars ≡ m.old.vars }
+{
+    m.is_octagon();
+    match mark {
+        Mark::Closed => Shape::Kept,
+        Mark::ClosedBut(k) => close_but(m, k),
+        Mark::Unknown => close(m),
+    }
+}
