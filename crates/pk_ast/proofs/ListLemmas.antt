@@ -11,17 +11,17 @@ use Rattle.pk_ast.specs.Views.{declarator_tree, declarator_trees, declaration_tr
 
 pub append_items-none : (rest : ItemTrees) → append_items rest no_items ≡ rest
 append_items-none no_items = refl
-append_items-none (declaration_then d rest) = ap (declaration_then d) (append_items-none rest)
+append_items-none (declaration_then s d rest) = ap (declaration_then s d) (append_items-none rest)
 append_items-none (statement_then s rest) = ap (statement_then s) (append_items-none rest)
 
 pub append_items_assoc : (a b c : ItemTrees) → append_items (append_items a b) c ≡ append_items a (append_items b c)
 append_items_assoc no_items b c = refl
-append_items_assoc (declaration_then d rest) b c = ap (declaration_then d) (append_items_assoc rest b c)
+append_items_assoc (declaration_then s d rest) b c = ap (declaration_then s d) (append_items_assoc rest b c)
 append_items_assoc (statement_then s rest) b c = ap (statement_then s) (append_items_assoc rest b c)
 
 pub item_trees-append : (is more : List BlockItem) → item_trees (is ++ more) ≡ append_items (item_trees is) (item_trees more)
 item_trees-append [] more = refl
-item_trees-append (Declaration d ∷ rest) more = ap (declaration_then (declaration_tree d.value)) (item_trees-append rest more)
+item_trees-append (Declaration s d ∷ rest) more = ap (declaration_then s (declaration_tree d.value)) (item_trees-append rest more)
 item_trees-append (Statement s ∷ rest) more = ap (statement_then (statement_tree s)) (item_trees-append rest more)
 
 pub item_trees-push : (is : List BlockItem) (i : BlockItem) → item_trees (is ++ i ∷ []) ≡ append_items (item_trees is) (item_trees (i ∷ []))

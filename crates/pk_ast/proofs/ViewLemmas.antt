@@ -30,7 +30,7 @@ tree_of_call x arguments =
 items_of_row_items : (n : _) (row : Row_of-BlockItem n) → items_of_row row ≡ item_trees (items-the_row-BlockItem n row)
 unfolding statement_tree items_of_row
 items_of_row_items n end_of-BlockItem = refl
-items_of_row_items n (more_of-BlockItem (items.Declaration d) rest) = ap (declaration_then (declaration_tree d.value)) (items_of_row_items _ rest)
+items_of_row_items n (more_of-BlockItem (items.Declaration s d) rest) = ap (declaration_then s (declaration_tree d.value)) (items_of_row_items _ rest)
 items_of_row_items n (more_of-BlockItem (items.Statement s) rest) = ap (statement_then (statement_tree s)) (items_of_row_items _ rest)
 
 abbrev item_row : Statement → (n : Count) × Row_of-BlockItem n

@@ -8,7 +8,7 @@ append_expressions (expression_then e es) more = expression_then e (append_expre
 
 abbrev pub append_items : ItemTrees → ItemTrees → ItemTrees
 append_items no_items more = more
-append_items (declaration_then d rest) more = declaration_then d (append_items rest more)
+append_items (declaration_then s d rest) more = declaration_then s d (append_items rest more)
 append_items (statement_then s rest) more = statement_then s (append_items rest more)
 
 abbrev pub one : {A : Type 0} → A → OneOrMore A

@@ -93,7 +93,7 @@ unfoldable mutual
 
   pub item_names : ItemTrees → List Identifier
   item_names no_items = []
-  item_names (declaration_then d items) = declaration_names d ++ item_names items
+  item_names (declaration_then s d items) = declaration_names d ++ item_names items
   item_names (statement_then s items) = statement_names s ++ item_names items
 
 abbrev pub body_names : Option BlockTree → List Identifier

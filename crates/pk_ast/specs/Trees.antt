@@ -77,10 +77,10 @@ mutual
     break : Pos → StatementTree
     return : Pos → Option ExpressionTree → StatementTree
 
-  -- the declarations and statements of a block, in order
+  -- the declarations, each with the place of its `static` if it has one, and statements of a block, in order
   pub data ItemTrees : Type 0 where
     no_items : ItemTrees
-    declaration_then : DeclarationTree → ItemTrees → ItemTrees
+    declaration_then : Option Pos → DeclarationTree → ItemTrees → ItemTrees
     statement_then : StatementTree → ItemTrees → ItemTrees
 
 -- a block, with the places of its braces

@@ -107,13 +107,13 @@ unfoldable mutual
   -- those of a `Vec`, which is a row of them
   pub items_of_row : {n : _} → Row_of-BlockItem n → ItemTrees
   items_of_row end_of-BlockItem = no_items
-  items_of_row (more_of-BlockItem (items.Declaration d) rest) =
-      declaration_then (declaration_tree d.value) (items_of_row rest)
+  items_of_row (more_of-BlockItem (items.Declaration s d) rest) =
+      declaration_then s (declaration_tree d.value) (items_of_row rest)
   items_of_row (more_of-BlockItem (items.Statement s) rest) = statement_then (statement_tree s) (items_of_row rest)
 
 abbrev pub item_trees : List BlockItem → ItemTrees
 item_trees [] = no_items
-item_trees (items.Declaration d ∷ rest) = declaration_then (declaration_tree d.value) (item_trees rest)
+item_trees (items.Declaration s d ∷ rest) = declaration_then s (declaration_tree d.value) (item_trees rest)
 item_trees (items.Statement s ∷ rest) = statement_then (statement_tree s) (item_trees rest)
 
 unfoldable pub block_tree : declared_block.Block → BlockTree

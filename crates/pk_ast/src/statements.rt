@@ -65,7 +65,8 @@ pub enum Statement {
 #[derive(Drop)]
 #[cycle(statements)]
 pub enum BlockItem {
-    Declaration(Box<Declaration>),
+    /// With the place of its `static`, if it has one.
+    Declaration(Option<Pos>, Box<Declaration>),
     Statement(Statement),
 }
 
@@ -284,12 +285,16 @@ impl Statement {
 }
 
 impl BlockItem {
-    pub fn declaration(alloc: Global, declaration: Declaration) -> Result<BlockItem, AllocError>
+    pub fn declaration(
+        alloc: Global,
+        static_at: Option<Pos>,
+        declaration: Declaration,
+    ) -> Result<BlockItem, AllocError>
         ensures { IfOk result (λ item. item_trees (item ∷ [])
-            ≡ tree.declaration_then (declaration_tree declaration) tree.no_items) }
+            ≡ tree.declaration_then static_at (declaration_tree declaration) tree.no_items) }
     {
         let declaration = boxed(alloc, declaration)?;
-        Ok(BlockItem::Declaration(declaration))
+        Ok(BlockItem::Declaration(static_at, declaration))
     }
 
     pub fn statement(statement: Statement) -> BlockItem

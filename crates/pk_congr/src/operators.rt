@@ -3,7 +3,7 @@
 ghost use Rattle.std.specs.Prelude.{◌≡◌, ◌^◌, pos, unsigned_abs, true};
 ghost use Rattle.pk_ctypes.specs.Operators.{is_count};
 ghost use Rattle.pk_congr.specs.Classes.{every};
-ghost use Rattle.pk_congr.specs.Operators.{class_if_some, product_of, class_of_products, class_of_both, class_sum, class_difference, class_product, is_divided, class_quotient, class_rest, class_doubled, class_negative, complement_total, class_complement, result_of, wrapped_class};
+ghost use Rattle.pk_congr.specs.Operators as operators;
 
 use crate::congr::{Congr, class};
 use crate::divisors::{gcd, is_divisor};
@@ -12,7 +12,7 @@ use pk_ctypes::{IntType, Op, is_shift_count, is_signed, range, size};
 
 // The congruence of a modulus and any number of it, if there is such a number of 128 bits.
 fn class_or(m: u128, r: Option<i128>) -> Congr
-    ensures { result ≡ class_if_some (pos m) r }
+    ensures { result ≡ operators.class_if_some (pos m) r }
 {
     match r {
         Some(r) => class(m, r),
@@ -21,7 +21,7 @@ fn class_or(m: u128, r: Option<i128>) -> Congr
 }
 
 fn sum(a: &Congr, b: &Congr) -> Congr
-    ensures { result ≡ class_sum a.now b.now }
+    ensures { result ≡ operators.class_sum a.now b.now }
 {
     class_or(
         gcd(a.m.unsigned_abs(), b.m.unsigned_abs()),
@@ -30,7 +30,7 @@ fn sum(a: &Congr, b: &Congr) -> Congr
 }
 
 fn difference(a: &Congr, b: &Congr) -> Congr
-    ensures { result ≡ class_difference a.now b.now }
+    ensures { result ≡ operators.class_difference a.now b.now }
 {
     class_or(
         gcd(a.m.unsigned_abs(), b.m.unsigned_abs()),
@@ -40,7 +40,7 @@ fn difference(a: &Congr, b: &Congr) -> Congr
 
 // A product, unless it is 2^127 or more in absolute value.
 fn times(x: i128, y: i128) -> Option<i128>
-    ensures { result ≡ product_of x y }
+    ensures { result ≡ operators.product_of x y }
 {
     held(x.checked_mul(y))
 }
@@ -52,7 +52,7 @@ fn product_class(
     right: Option<i128>,
     rests: Option<i128>,
 ) -> Congr
-    ensures { result ≡ class_of_products moduli left right rests }
+    ensures { result ≡ operators.class_of_products moduli left right rests }
 {
     match (moduli, left, right, rests) {
         (Some(p), Some(q), Some(s), Some(r)) => {
@@ -64,7 +64,7 @@ fn product_class(
 }
 
 fn product(a: &Congr, b: &Congr) -> Congr
-    ensures { result ≡ class_product a.now b.now }
+    ensures { result ≡ operators.class_product a.now b.now }
 {
     product_class(
         times(a.m, b.m),
@@ -76,7 +76,7 @@ fn product(a: &Congr, b: &Congr) -> Congr
 
 // Whether the divisor is a constant other than 0 that divides the modulus and the rest.
 fn divides_all(a: &Congr, b: &Congr) -> bool
-    ensures { result ≡ is_divided a.now b.now }
+    ensures { result ≡ operators.is_divided a.now b.now }
 {
     if b.m != 0 {
         false
@@ -89,7 +89,7 @@ fn divides_all(a: &Congr, b: &Congr) -> bool
 }
 
 fn quotient(a: &Congr, b: &Congr) -> Congr
-    ensures { result ≡ class_quotient a.now b.now }
+    ensures { result ≡ operators.class_quotient a.now b.now }
 {
     if divides_all(a, b) {
         class(a.m.unsigned_abs() / b.r.unsigned_abs(), a.r / b.r)
@@ -99,7 +99,7 @@ fn quotient(a: &Congr, b: &Congr) -> Congr
 }
 
 fn rest(a: &Congr, b: &Congr) -> Congr
-    ensures { result ≡ class_rest a.now b.now }
+    ensures { result ≡ operators.class_rest a.now b.now }
 {
     let moduli = gcd(a.m.unsigned_abs(), b.m.unsigned_abs());
     class(gcd(moduli, b.r.unsigned_abs()), a.r)
@@ -107,7 +107,7 @@ fn rest(a: &Congr, b: &Congr) -> Congr
 
 // The congruence of a modulus and a rest, if they are there.
 fn doubled_class(m: Option<i128>, r: Option<i128>) -> Congr
-    ensures { result ≡ class_of_both m r }
+    ensures { result ≡ operators.class_of_both m r }
 {
     match (m, r) {
         (Some(m), Some(r)) => class(m.unsigned_abs(), r),
@@ -125,7 +125,7 @@ fn power(t: IntType, b: i128) -> i128
 }
 
 fn doubled(t: IntType, a: &Congr, b: &Congr) -> Congr
-    ensures { result ≡ class_doubled t a.now b.now }
+    ensures { result ≡ operators.class_doubled t a.now b.now }
 {
     if b.m == 0 && is_shift_count(t, b.r) {
         let power = power(t, b.r);
@@ -136,28 +136,28 @@ fn doubled(t: IntType, a: &Congr, b: &Congr) -> Congr
 }
 
 fn negative(a: &Congr) -> Congr
-    ensures { result ≡ class_negative a.now }
+    ensures { result ≡ operators.class_negative a.now }
 {
     class(a.m.unsigned_abs(), -a.r)
 }
 
 // What a number and its complement add up to.
 fn total(t: IntType) -> i128
-    ensures { result ≡ complement_total t }
+    ensures { result ≡ operators.complement_total t }
 {
     let (_, high) = range(t);
     if is_signed(t) { -1 } else { high }
 }
 
 fn complement(t: IntType, a: &Congr) -> Congr
-    ensures { result ≡ class_complement t a.now }
+    ensures { result ≡ operators.class_complement t a.now }
 {
     class_or(a.m.unsigned_abs(), total(t).checked_sub(a.r))
 }
 
 /// What an operator gives at members of two congruences, before the result is clamped to the type or wrapped. A unary operator doesn't use `b`.
 pub fn binary(op: Op, t: IntType, a: &Congr, b: &Congr) -> Congr
-    ensures { result ≡ result_of op t a.now b.now }
+    ensures { result ≡ operators.result_of op t a.now b.now }
 {
     match op {
         Op::Add => sum(a, b),
@@ -177,14 +177,14 @@ pub fn binary(op: Op, t: IntType, a: &Congr, b: &Congr) -> Congr
 /// What a unary operator gives at members of a congruence, before the result is clamped to the type or wrapped. With a binary operator, what it gives
 /// where the right operand is any number.
 pub fn unary(op: Op, t: IntType, a: &Congr) -> Congr
-    ensures { result ≡ result_of op t a.now every }
+    ensures { result ≡ operators.result_of op t a.now every }
 {
     binary(op, t, a, &Congr::every())
 }
 
 /// The congruence after each number was shifted into the type by adding `added`, or where that is None, by a multiple of the type's size of its own.
 pub fn wrap(t: IntType, a: &Congr, added: Option<i128>) -> Congr
-    ensures { result ≡ wrapped_class t a.now added }
+    ensures { result ≡ operators.wrapped_class t a.now added }
 {
     match added {
         Some(added) => class_or(a.m.unsigned_abs(), a.r.checked_add(added)),

@@ -4,7 +4,7 @@ ghost use Rattle.std.specs.Prelude.{◌≡◌, ◌-◌, ◌++◌, OnOk, drop, le
 ghost use Rattle.std.specs.Fmt.{decimal, signed_decimal};
 ghost use Rattle.std.specs.List.{take_while};
 ghost use Rattle.pk_lex.specs.Bytes.{begins_with, is_part};
-ghost use Rattle.pk_findings.specs.Messages.{before_in, from_in, name_in, is_plain, open_length, index_in, is_element, is_quotient, element_words, index_words, words_of, overflow_words, wording, range_text, plural, length_words, elements_text, message};
+ghost use Rattle.pk_findings.specs.Messages as messages;
 
 use crate::operations::Operation;
 use crate::texts::{Text, line_of};
@@ -36,19 +36,19 @@ fn name_length(front: &[u8]) -> usize
 // The name that stands right before.
 #[tactic(auto, unfolding(crate::specs::Messages::name_in))]
 fn name_in(front: &[u8]) -> &[u8]
-    ensures { result.now ≡ name_in front.now }
+    ensures { result.now ≡ messages.name_in front.now }
 {
     front.split_at(front.len() - name_length(front)).1
 }
 
 fn is_plain(b: u8) -> bool
-    ensures { result ≡ is_plain b }
+    ensures { result ≡ messages.is_plain b }
 {
     !(b == b'[' || b == b']' || b == b'"' || b == b'\'')
 }
 
 fn plain_length(text: &[u8]) -> usize
-    ensures { result ≡ length (take_while is_plain text.now) }
+    ensures { result ≡ length (take_while messages.is_plain text.now) }
 {
     text.iter().take_while(|b| is_plain(**b)).count()
 }
@@ -56,7 +56,7 @@ fn plain_length(text: &[u8]) -> usize
 // An index in its brackets.
 #[tactic(auto, unfolding(crate::specs::Messages::index_in))]
 fn index_in(text: &[u8]) -> &[u8]
-    ensures { result.now ≡ index_in text.now }
+    ensures { result.now ≡ messages.index_in text.now }
 {
     if !is_first(text, b'[') {
         return b"";
@@ -70,7 +70,7 @@ fn index_in(text: &[u8]) -> &[u8]
 }
 
 fn is_element(name: &[u8], index: &[u8]) -> bool
-    ensures { result ≡ is_element name.now index.now }
+    ensures { result ≡ messages.is_element name.now index.now }
 {
     0 < name.len() && 0 < index.len()
 }
@@ -82,7 +82,7 @@ fn write(bytes: &mut Vec<u8>, more: &[u8]) -> Result<(), AllocError>
 }
 
 fn write_element(bytes: &mut Vec<u8>, name: &[u8], index: &[u8]) -> Result<(), AllocError>
-    ensures { OnOk result (bytes.new.items ≡ bytes.old.items ++ element_words name.now index.now) }
+    ensures { OnOk result (bytes.new.items ≡ bytes.old.items ++ messages.element_words name.now index.now) }
 {
     write(bytes, name)?;
     write(bytes, index)?;
@@ -95,7 +95,7 @@ fn write_index_words(
     name: &[u8],
     index: &[u8],
 ) -> Result<(), AllocError>
-    ensures { OnOk result (bytes.new.items ≡ bytes.old.items ++ index_words is_element name.now index.now) }
+    ensures { OnOk result (bytes.new.items ≡ bytes.old.items ++ messages.index_words messages.is_element name.now index.now) }
 {
     if is_element {
         write_element(bytes, name, index)
@@ -105,28 +105,28 @@ fn write_index_words(
 }
 
 fn write_words(bytes: &mut Vec<u8>, name: &[u8], index: &[u8]) -> Result<(), AllocError>
-    ensures { OnOk result (bytes.new.items ≡ bytes.old.items ++ words_of name.now index.now) }
+    ensures { OnOk result (bytes.new.items ≡ bytes.old.items ++ messages.words_of name.now index.now) }
 {
     write_index_words(bytes, is_element(name, index), name, index)
 }
 
 fn write_index(bytes: &mut Vec<u8>, text: &Text<'_>, at: Pos) -> Result<(), AllocError>
     ensures { OnOk result (bytes.new.items
-        ≡ bytes.old.items ++ words_of (name_in (before_in text.now at)) (index_in (from_in text.now at))) }
+        ≡ bytes.old.items ++ messages.words_of (messages.name_in (messages.before_in text.now at)) (messages.index_in (messages.from_in text.now at))) }
 {
     let (front, rest) = parted(line_of(text, at), at.column);
     write_words(bytes, name_in(front), index_in(rest))
 }
 
 fn is_quotient(text: &Text<'_>, at: Pos) -> bool
-    ensures { result ≡ is_quotient text.now at }
+    ensures { result ≡ messages.is_quotient text.now at }
 {
     let (_, rest) = parted(line_of(text, at), at.column);
     is_first(rest, b'/') || is_first(rest, b'%')
 }
 
 fn overflow_words(is_quotient: bool) -> &'static [u8]
-    ensures { result.now ≡ overflow_words is_quotient }
+    ensures { result.now ≡ messages.overflow_words messages.is_quotient }
 {
     if is_quotient {
         b"the quotient may not fit its type: the divisor may be -1, and the dividend lies in "
@@ -142,7 +142,7 @@ fn write_wording(
     at: Pos,
     fault: Fault,
 ) -> Result<(), AllocError>
-    ensures { OnOk result (bytes.new.items ≡ bytes.old.items ++ wording text.now at fault) }
+    ensures { OnOk result (bytes.new.items ≡ bytes.old.items ++ messages.wording text.now at fault) }
 {
     match fault {
         Fault::Index => write_index(bytes, text, at),
@@ -166,7 +166,7 @@ fn write_number(bytes: &mut Vec<u8>, number: i128) -> Result<(), AllocError>
 /// Writes a range.
 #[tactic(auto, unfolding(crate::specs::Messages::range_text))]
 pub fn write_range(bytes: &mut Vec<u8>, lo: i128, hi: i128) -> Result<(), AllocError>
-    ensures { OnOk result (bytes.new.items ≡ bytes.old.items ++ range_text lo hi) }
+    ensures { OnOk result (bytes.new.items ≡ bytes.old.items ++ messages.range_text lo hi) }
 {
     write(bytes, b"[")?;
     write_number(bytes, lo)?;
@@ -177,7 +177,7 @@ pub fn write_range(bytes: &mut Vec<u8>, lo: i128, hi: i128) -> Result<(), AllocE
 
 #[tactic(auto, unfolding(crate::specs::Messages::plural))]
 fn plural(count: u64) -> &'static [u8]
-    ensures { result.now ≡ plural count }
+    ensures { result.now ≡ messages.plural count }
 {
     if count == 1 {
         b" element"
@@ -194,7 +194,7 @@ fn write_count(bytes: &mut Vec<u8>, count: u64) -> Result<(), AllocError>
 }
 
 fn write_length(bytes: &mut Vec<u8>, count: u64) -> Result<(), AllocError>
-    ensures { OnOk result (bytes.new.items ≡ bytes.old.items ++ length_words count) }
+    ensures { OnOk result (bytes.new.items ≡ bytes.old.items ++ messages.length_words count) }
 {
     write(bytes, b", the array has ")?;
     write_count(bytes, count)?;
@@ -202,7 +202,7 @@ fn write_length(bytes: &mut Vec<u8>, count: u64) -> Result<(), AllocError>
 }
 
 fn write_elements(bytes: &mut Vec<u8>, elements: Option<u64>) -> Result<(), AllocError>
-    ensures { OnOk result (bytes.new.items ≡ bytes.old.items ++ elements_text elements) }
+    ensures { OnOk result (bytes.new.items ≡ bytes.old.items ++ messages.elements_text elements) }
 {
     match elements {
         None => Ok(()),
@@ -219,7 +219,7 @@ pub fn write_message(
     lo: i128,
     hi: i128,
 ) -> Result<(), AllocError>
-    ensures { OnOk result (bytes.new.items ≡ bytes.old.items ++ message text.now operation.now lo hi) }
+    ensures { OnOk result (bytes.new.items ≡ bytes.old.items ++ messages.message text.now operation.now lo hi) }
 {
     write_wording(bytes, text, operation.at, operation.fault)?;
     write_range(bytes, lo, hi)?;

@@ -2,7 +2,7 @@
 
 ghost use Rattle.std.specs.Prelude.{◌≡◌, pos, ◌-ℤ◌, ◌≤ℤ◌};
 ghost use Rattle.pk_interval.specs.Ranges.{IsIn};
-ghost use Rattle.pk_interval.specs.Operators.{range_sum, range_difference, range_negative, hull_if, range_product, above_zero, below_zero, HasOneSign, corner_quotients, range_quotient, greatest_of, rest_low, rest_high, rests_within, range_rest};
+ghost use Rattle.pk_interval.specs.Operators as operators;
 
 use crate::interval::{Interval, between};
 use crate::outcome::Outcome;
@@ -12,7 +12,7 @@ use pk_ctypes::IntType;
 pub(crate) fn sums(t: IntType, a: &Interval, b: &Interval) -> Interval
     requires left { IsIn t a.now }
     requires right { IsIn t b.now }
-    ensures { result ≡ range_sum a.now b.now }
+    ensures { result ≡ operators.range_sum a.now b.now }
 {
     Interval {
         lo: plus(t, a.lo, b.lo),
@@ -23,7 +23,7 @@ pub(crate) fn sums(t: IntType, a: &Interval, b: &Interval) -> Interval
 pub(crate) fn differences(t: IntType, a: &Interval, b: &Interval) -> Interval
     requires left { IsIn t a.now }
     requires right { IsIn t b.now }
-    ensures { result ≡ range_difference a.now b.now }
+    ensures { result ≡ operators.range_difference a.now b.now }
 {
     Interval {
         lo: minus(t, a.lo, b.hi),
@@ -33,7 +33,7 @@ pub(crate) fn differences(t: IntType, a: &Interval, b: &Interval) -> Interval
 
 pub(crate) fn negatives(t: IntType, a: &Interval) -> Interval
     requires { IsIn t a.now }
-    ensures { result ≡ range_negative a.now }
+    ensures { result ≡ operators.range_negative a.now }
 {
     Interval {
         lo: negative(t, a.hi),
@@ -42,7 +42,7 @@ pub(crate) fn negatives(t: IntType, a: &Interval) -> Interval
 }
 
 fn hull_of_held(p: Option<i128>, q: Option<i128>, r: Option<i128>, s: Option<i128>) -> Outcome
-    ensures { result ≡ hull_if p q r s }
+    ensures { result ≡ operators.hull_if p q r s }
 {
     let Some(p) = p else {
         return Outcome::TooLarge;
@@ -62,7 +62,7 @@ fn hull_of_held(p: Option<i128>, q: Option<i128>, r: Option<i128>, s: Option<i12
 pub(crate) fn products(t: IntType, a: &Interval, b: &Interval) -> Outcome
     requires left { IsIn t a.now }
     requires right { IsIn t b.now }
-    ensures { result ≡ range_product a.now b.now }
+    ensures { result ≡ operators.range_product a.now b.now }
 {
     hull_of_held(
         times(t, a.lo, b.lo),
@@ -74,14 +74,14 @@ pub(crate) fn products(t: IntType, a: &Interval, b: &Interval) -> Outcome
 
 // The numbers of an interval that are 1 or more.
 fn positive_part(b: &Interval) -> Option<Interval>
-    ensures { result ≡ above_zero b.now }
+    ensures { result ≡ operators.above_zero b.now }
 {
     between(b.lo.max(1), b.hi)
 }
 
 // The numbers of an interval that are -1 or less.
 fn negative_part(b: &Interval) -> Option<Interval>
-    ensures { result ≡ below_zero b.now }
+    ensures { result ≡ operators.below_zero b.now }
 {
     between(b.lo, b.hi.min(-1))
 }
@@ -89,8 +89,8 @@ fn negative_part(b: &Interval) -> Option<Interval>
 // The hull of the quotients by divisors of one sign.
 fn corners(t: IntType, a: &Interval, d: &Interval) -> Interval
     requires left { IsIn t a.now }
-    requires divisors { HasOneSign d.now }
-    ensures { result ≡ corner_quotients a.now d.now }
+    requires divisors { operators.HasOneSign d.now }
+    ensures { result ≡ operators.corner_quotients a.now d.now }
 {
     hull(
         divided(t, a.lo, d.lo),
@@ -102,7 +102,7 @@ fn corners(t: IntType, a: &Interval, d: &Interval) -> Interval
 
 pub(crate) fn quotients(t: IntType, a: &Interval, b: &Interval) -> Option<Interval>
     requires { IsIn t a.now }
-    ensures { result ≡ range_quotient a.now b.now }
+    ensures { result ≡ operators.range_quotient a.now b.now }
 {
     match (positive_part(b), negative_part(b)) {
         (None, None) => None,
@@ -115,7 +115,7 @@ pub(crate) fn quotients(t: IntType, a: &Interval, b: &Interval) -> Option<Interv
 // The greatest absolute value of a divisor.
 fn greatest(t: IntType, b: &Interval) -> i128
     requires { IsIn t b.now }
-    ensures { result ≡ pos (greatest_of b.now) }
+    ensures { result ≡ pos (operators.greatest_of b.now) }
 {
     magnitude(t, b.lo).max(magnitude(t, b.hi))
 }
@@ -123,7 +123,7 @@ fn greatest(t: IntType, b: &Interval) -> i128
 // The least rest of `m` at most in absolute value, by the least dividend.
 fn least_rest(lo: i128, m: i128) -> i128
     requires { pos 0 ≤ℤ m }
-    ensures value { result ≡ rest_low lo m }
+    ensures value { result ≡ operators.rest_low lo m }
     ensures most { result ≤ℤ pos 0 }
 {
     if 0 <= lo { 0 } else { lo.max(-m) }
@@ -132,7 +132,7 @@ fn least_rest(lo: i128, m: i128) -> i128
 // The greatest rest of `m` at most in absolute value, by the greatest dividend.
 fn greatest_rest(hi: i128, m: i128) -> i128
     requires { pos 0 ≤ℤ m }
-    ensures value { result ≡ rest_high hi m }
+    ensures value { result ≡ operators.rest_high hi m }
     ensures least { pos 0 ≤ℤ result }
 {
     if hi <= 0 { 0 } else { hi.min(m) }
@@ -149,7 +149,7 @@ fn less_one(most: i128) -> i128
 // The rests below `most` in absolute value.
 fn rests_below(a: &Interval, most: i128) -> Interval
     requires { pos 1 ≤ℤ most }
-    ensures { result ≡ rests_within a.now (most -ℤ pos 1) }
+    ensures { result ≡ operators.rests_within a.now (most -ℤ pos 1) }
 {
     let m = less_one(most);
     Interval {
@@ -160,7 +160,7 @@ fn rests_below(a: &Interval, most: i128) -> Interval
 
 pub(crate) fn rests(t: IntType, a: &Interval, b: &Interval) -> Option<Interval>
     requires { IsIn t b.now }
-    ensures { result ≡ range_rest a.now b.now }
+    ensures { result ≡ operators.range_rest a.now b.now }
 {
     let most = greatest(t, b);
     if most == 0 {

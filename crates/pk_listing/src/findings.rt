@@ -4,7 +4,7 @@ ghost use Rattle.std.specs.Prelude.{◌≡◌, ◌++◌, IfOk, OnOk};
 ghost use Rattle.std.specs.Option.{option_map};
 ghost use Rattle.pk_ctypes.specs.Words.{fault_text};
 ghost use Rattle.pk_findings.specs.Words.{is_unknown};
-ghost use Rattle.pk_listing.specs.Listing.{way_range, way_line, way_text, ways_text, unknown_ways, said_end, said_text, head_at, excerpt_at, all_ways, finding_at, finding_with, unreachable_words, fault_end, unreachable_at, finding_by, finding_text, unreachable_text, counts_text, summary_line, findings_text, shown_text, listing_text, said_line, refusal_at, refusal_by, refusal_text, refusals_text};
+ghost use Rattle.pk_listing.specs.Listing as listing;
 ghost use Rattle.pk_listing.specs.Sources.{own_line};
 
 use crate::invariants::write_invariants;
@@ -24,7 +24,7 @@ fn write_way_range(
     lo: i128,
     hi: i128,
 ) -> Result<(), AllocError>
-    ensures { OnOk result (bytes.new.items ≡ bytes.old.items ++ way_range is_one_of_many lo hi) }
+    ensures { OnOk result (bytes.new.items ≡ bytes.old.items ++ listing.way_range is_one_of_many lo hi) }
 {
     if is_one_of_many {
         write(bytes, b": ")?;
@@ -45,7 +45,7 @@ fn write_way_line(
     hi: i128,
 ) -> Result<(), AllocError>
     ensures { OnOk result (
-        bytes.new.items ≡ bytes.old.items ++ way_line text.now is_one_of_many path.now lo hi) }
+        bytes.new.items ≡ bytes.old.items ++ listing.way_line text.now is_one_of_many path.now lo hi) }
 {
     write_path(alloc, bytes, text, path)?;
     write_way_range(bytes, is_one_of_many, lo, hi)?;
@@ -60,7 +60,7 @@ fn write_way(
     way: &Way<'_>,
 ) -> Result<(), AllocError>
     ensures { OnOk result (
-        bytes.new.items ≡ bytes.old.items ++ way_text text.now is_one_of_many way.now.path way.now.verdict) }
+        bytes.new.items ≡ bytes.old.items ++ listing.way_text text.now is_one_of_many way.now.path way.now.verdict) }
 {
     match way.verdict {
         Verdict::Safe => Ok(()),
@@ -78,7 +78,7 @@ fn write_ways(
     is_one_of_many: bool,
     ways: &[Way<'_>],
 ) -> Result<(), AllocError>
-    ensures { OnOk result (bytes.new.items ≡ bytes.old.items ++ ways_text text.now is_one_of_many ways.now) }
+    ensures { OnOk result (bytes.new.items ≡ bytes.old.items ++ listing.ways_text text.now is_one_of_many ways.now) }
 {
     for k in 0..ways.len() {
         write_way(alloc, bytes, text, is_one_of_many, &ways[k])?;
@@ -93,7 +93,7 @@ fn is_unknown(way: &Way<'_>) -> bool
 }
 
 fn unknown_ways(ways: &[Way<'_>]) -> usize
-    ensures { result ≡ unknown_ways ways.now }
+    ensures { result ≡ listing.unknown_ways ways.now }
 {
     ways.iter().filter(|way| is_unknown(way)).count()
 }
@@ -122,7 +122,7 @@ fn write_said_end(
     lo: i128,
     hi: i128,
 ) -> Result<(), AllocError>
-    ensures { OnOk result (bytes.new.items ≡ bytes.old.items ++ said_end text.now operation.now lo hi) }
+    ensures { OnOk result (bytes.new.items ≡ bytes.old.items ++ listing.said_end text.now operation.now lo hi) }
 {
     write_message(bytes, text, operation, lo, hi)?;
     write(bytes, b"\n")
@@ -137,7 +137,7 @@ fn write_said(
     lo: i128,
     hi: i128,
 ) -> Result<(), AllocError>
-    ensures { OnOk result (bytes.new.items ≡ bytes.old.items ++ said_text text.now operation.now lo hi) }
+    ensures { OnOk result (bytes.new.items ≡ bytes.old.items ++ listing.said_text text.now operation.now lo hi) }
 {
     write(bytes, b": unknown [")?;
     write_fault_of(alloc, bytes, operation)?;
@@ -153,7 +153,7 @@ fn write_head_at(
     at: Pos,
 ) -> Result<(), AllocError>
     ensures { OnOk result (
-        bytes.new.items ≡ bytes.old.items ++ head_at (option_map (λ own. own.now) own.entry) text.now at) }
+        bytes.new.items ≡ bytes.old.items ++ listing.head_at (option_map (λ own. own.now) own.entry) text.now at) }
 {
     let has_column = is_own(own, line_of(text, at), at.column);
     write_head(alloc, bytes, has_column, text, at)
@@ -166,7 +166,7 @@ fn write_excerpt_at(
     at: Pos,
 ) -> Result<(), AllocError>
     ensures { OnOk result (
-        bytes.new.items ≡ bytes.old.items ++ excerpt_at (option_map (λ own. own.now) own.entry) text.now at) }
+        bytes.new.items ≡ bytes.old.items ++ listing.excerpt_at (option_map (λ own. own.now) own.entry) text.now at) }
 {
     let line = line_of(text, at);
     write_excerpt_with(bytes, is_own(own, line, at.column), own, line, at.column)
@@ -178,7 +178,7 @@ fn write_all_ways(
     text: &Text<'_>,
     ways: &[Way<'_>],
 ) -> Result<(), AllocError>
-    ensures { OnOk result (bytes.new.items ≡ bytes.old.items ++ all_ways text.now ways.now) }
+    ensures { OnOk result (bytes.new.items ≡ bytes.old.items ++ listing.all_ways text.now ways.now) }
 {
     let is_one_of_many = 1 < unknown_ways(ways);
     write_ways(alloc, bytes, text, is_one_of_many, ways)
@@ -193,7 +193,7 @@ fn write_head_of(
     operation: &Operation<'_>,
 ) -> Result<(), AllocError>
     ensures { OnOk result (bytes.new.items
-        ≡ bytes.old.items ++ head_at (option_map (λ own. own.now) own.entry) text.now operation.now.at) }
+        ≡ bytes.old.items ++ listing.head_at (option_map (λ own. own.now) own.entry) text.now operation.now.at) }
 {
     write_head_at(alloc, bytes, own, text, operation.at)
 }
@@ -206,7 +206,7 @@ fn write_excerpt_of(
     operation: &Operation<'_>,
 ) -> Result<(), AllocError>
     ensures { OnOk result (bytes.new.items
-        ≡ bytes.old.items ++ excerpt_at (option_map (λ own. own.now) own.entry) text.now operation.now.at) }
+        ≡ bytes.old.items ++ listing.excerpt_at (option_map (λ own. own.now) own.entry) text.now operation.now.at) }
 {
     write_excerpt_at(bytes, own, text, operation.at)
 }
@@ -218,7 +218,7 @@ fn write_ways_of(
     text: &Text<'_>,
     operation: &Operation<'_>,
 ) -> Result<(), AllocError>
-    ensures { OnOk result (bytes.new.items ≡ bytes.old.items ++ all_ways text.now operation.now.ways) }
+    ensures { OnOk result (bytes.new.items ≡ bytes.old.items ++ listing.all_ways text.now operation.now.ways) }
 {
     write_all_ways(alloc, bytes, text, &operation.ways)
 }
@@ -233,7 +233,7 @@ fn write_finding_at(
     hi: i128,
 ) -> Result<(), AllocError>
     ensures { OnOk result (bytes.new.items ≡ bytes.old.items
-        ++ finding_at (option_map (λ own. own.now) own.entry) text.now operation.now lo hi) }
+        ++ listing.finding_at (option_map (λ own. own.now) own.entry) text.now operation.now lo hi) }
 {
     write_head_of(alloc, bytes, own, text, operation)?;
     write_said(alloc, bytes, text, operation, lo, hi)?;
@@ -251,14 +251,14 @@ fn write_finding_with(
     hi: i128,
 ) -> Result<(), AllocError>
     ensures { OnOk result (
-        bytes.new.items ≡ bytes.old.items ++ finding_with sources.now text.now operation.now lo hi) }
+        bytes.new.items ≡ bytes.old.items ++ listing.finding_with sources.now text.now operation.now lo hi) }
 {
     let own = own_line(alloc, sources, text, operation.at)?;
     write_finding_at(alloc, bytes, own, text, operation, lo, hi)
 }
 
 fn write_unreachable_words(bytes: &mut Vec<u8>) -> Result<(), AllocError>
-    ensures { OnOk result (bytes.new.items ≡ bytes.old.items ++ unreachable_words) }
+    ensures { OnOk result (bytes.new.items ≡ bytes.old.items ++ listing.unreachable_words) }
 {
     write(
         bytes,
@@ -267,7 +267,7 @@ fn write_unreachable_words(bytes: &mut Vec<u8>) -> Result<(), AllocError>
 }
 
 fn write_fault_end(alloc: Global, bytes: &mut Vec<u8>, fault: Fault) -> Result<(), AllocError>
-    ensures { OnOk result (bytes.new.items ≡ bytes.old.items ++ fault_end fault) }
+    ensures { OnOk result (bytes.new.items ≡ bytes.old.items ++ listing.fault_end fault) }
 {
     write_fault(alloc, bytes, fault)?;
     write_unreachable_words(bytes)
@@ -283,7 +283,7 @@ fn write_unreachable_at(
     fault: Fault,
 ) -> Result<(), AllocError>
     ensures { OnOk result (bytes.new.items ≡ bytes.old.items
-        ++ unreachable_at (option_map (λ own. own.now) own.entry) text.now at fault) }
+        ++ listing.unreachable_at (option_map (λ own. own.now) own.entry) text.now at fault) }
 {
     write_head_at(alloc, bytes, own, text, at)?;
     write(bytes, b": unreachable [")?;
@@ -298,7 +298,7 @@ fn write_unreachable_of(
     operation: &Operation<'_>,
 ) -> Result<(), AllocError>
     ensures { OnOk result (bytes.new.items ≡ bytes.old.items
-        ++ unreachable_at (own_line sources.now text.now operation.now.at) text.now operation.now.at
+        ++ listing.unreachable_at (own_line sources.now text.now operation.now.at) text.now operation.now.at
         operation.now.fault) }
 {
     let own = own_line(alloc, sources, text, operation.at)?;
@@ -312,7 +312,7 @@ fn write_finding(
     text: &Text<'_>,
     operation: &Operation<'_>,
 ) -> Result<(), AllocError>
-    ensures { OnOk result (bytes.new.items ≡ bytes.old.items ++ finding_text sources.now text.now operation.now) }
+    ensures { OnOk result (bytes.new.items ≡ bytes.old.items ++ listing.finding_text sources.now text.now operation.now) }
 {
     match verdict_of(operation) {
         Verdict::Safe => Ok(()),
@@ -330,7 +330,7 @@ fn write_findings(
     text: &Text<'_>,
     operations: &[Operation<'_>],
 ) -> Result<(), AllocError>
-    ensures { OnOk result (bytes.new.items ≡ bytes.old.items ++ findings_text sources.now text.now operations.now) }
+    ensures { OnOk result (bytes.new.items ≡ bytes.old.items ++ listing.findings_text sources.now text.now operations.now) }
 {
     for k in 0..operations.len() {
         write_finding(alloc, bytes, sources, text, &operations[k])?;
@@ -339,14 +339,14 @@ fn write_findings(
 }
 
 fn write_unreachable(bytes: &mut Vec<u8>, count: u64) -> Result<(), AllocError>
-    ensures { OnOk result (bytes.new.items ≡ bytes.old.items ++ unreachable_text count) }
+    ensures { OnOk result (bytes.new.items ≡ bytes.old.items ++ listing.unreachable_text count) }
 {
     write_count(bytes, count)?;
     write(bytes, b" unreachable\n")
 }
 
 fn write_counts(bytes: &mut Vec<u8>, counts: Counts) -> Result<(), AllocError>
-    ensures { OnOk result (bytes.new.items ≡ bytes.old.items ++ counts_text counts) }
+    ensures { OnOk result (bytes.new.items ≡ bytes.old.items ++ listing.counts_text counts) }
 {
     write_count(bytes, counts.safe)?;
     write(bytes, b" safe, ")?;
@@ -362,7 +362,7 @@ fn write_summary(
     operations: usize,
     counts: Counts,
 ) -> Result<(), AllocError>
-    ensures { OnOk result (bytes.new.items ≡ bytes.old.items ++ summary_line name.now operations counts) }
+    ensures { OnOk result (bytes.new.items ≡ bytes.old.items ++ listing.summary_line name.now operations counts) }
 {
     write(bytes, name)?;
     write(bytes, b": ")?;
@@ -380,7 +380,7 @@ fn write_shown(
     shown: &Shown<'_>,
 ) -> Result<(), AllocError>
     ensures { OnOk result (
-        bytes.new.items ≡ bytes.old.items ++ shown_text sources.now with_invariants shown.now) }
+        bytes.new.items ≡ bytes.old.items ++ listing.shown_text sources.now with_invariants shown.now) }
 {
     write_findings(alloc, bytes, sources, &shown.text, &shown.operations)?;
     write_invariants(alloc, bytes, with_invariants, &shown.text, &shown.rows)?;
@@ -400,7 +400,7 @@ pub fn listing(
     with_invariants: bool,
     shown: &[Shown<'_>],
 ) -> Result<Vec<u8>, AllocError>
-    ensures { IfOk result (λ bytes. bytes.items ≡ listing_text sources.now with_invariants shown.now) }
+    ensures { IfOk result (λ bytes. bytes.items ≡ listing.listing_text sources.now with_invariants shown.now) }
 {
     let mut bytes = Vec::new(alloc);
     for k in 0..shown.len() {
@@ -410,7 +410,7 @@ pub fn listing(
 }
 
 fn write_said_line(bytes: &mut Vec<u8>, said: &[u8]) -> Result<(), AllocError>
-    ensures { OnOk result (bytes.new.items ≡ bytes.old.items ++ said_line said.now) }
+    ensures { OnOk result (bytes.new.items ≡ bytes.old.items ++ listing.said_line said.now) }
 {
     write(bytes, b": ")?;
     write(bytes, said)?;
@@ -427,7 +427,7 @@ fn write_refusal_at(
     at: Pos,
 ) -> Result<(), AllocError>
     ensures { OnOk result (bytes.new.items ≡ bytes.old.items
-        ++ refusal_at (option_map (λ own. own.now) own.entry) text.now said.now at) }
+        ++ listing.refusal_at (option_map (λ own. own.now) own.entry) text.now said.now at) }
 {
     write_head_at(alloc, bytes, own, text, at)?;
     write_said_line(bytes, said)?;
@@ -441,7 +441,7 @@ fn write_refusal_with(
     refused: &Refused<'_>,
     at: Pos,
 ) -> Result<(), AllocError>
-    ensures { OnOk result (bytes.new.items ≡ bytes.old.items ++ refusal_by sources.now refused.now (Some at)) }
+    ensures { OnOk result (bytes.new.items ≡ bytes.old.items ++ listing.refusal_by sources.now refused.now (Some at)) }
 {
     let own = own_line(alloc, sources, &refused.text, at)?;
     write_refusal_at(alloc, bytes, own, &refused.text, refused.said, at)
@@ -453,7 +453,7 @@ fn write_refusal(
     sources: &[Source<'_>],
     refused: &Refused<'_>,
 ) -> Result<(), AllocError>
-    ensures { OnOk result (bytes.new.items ≡ bytes.old.items ++ refusal_text sources.now refused.now) }
+    ensures { OnOk result (bytes.new.items ≡ bytes.old.items ++ listing.refusal_text sources.now refused.now) }
 {
     match refused.at {
         Some(at) => write_refusal_with(alloc, bytes, sources, refused, at),
@@ -470,7 +470,7 @@ pub fn refusals(
     sources: &[Source<'_>],
     refused: &[Refused<'_>],
 ) -> Result<Vec<u8>, AllocError>
-    ensures { IfOk result (λ bytes. bytes.items ≡ refusals_text sources.now refused.now) }
+    ensures { IfOk result (λ bytes. bytes.items ≡ listing.refusals_text sources.now refused.now) }
 {
     let mut bytes = Vec::new(alloc);
     for k in 0..refused.len() {

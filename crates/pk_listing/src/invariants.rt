@@ -4,7 +4,7 @@ ghost use Rattle.std.specs.Prelude.{◌≡◌, ◌++◌, OnOk};
 ghost use Rattle.std.specs.Fmt.{signed_decimal};
 ghost use Rattle.pk_show.specs.Paths.{path_in};
 ghost use Rattle.pk_show.specs.Rows.{array_mark, front_of};
-ghost use Rattle.pk_listing.specs.Invariants.{heading_words, way_to, heading_text, times_text, form_text, class_text, class_end, known_text, name_text, value_text, most_text, sign_text, left_text, right_text, bound_text, fact_text, facts_text, invariants_text};
+ghost use Rattle.pk_listing.specs.Invariants as invariants;
 
 use crate::places::{write, write_path, write_place};
 use itoa::Buffer;
@@ -13,7 +13,7 @@ use pk_show::{Bound, Form, Heading, Known, Row, Value, read_path};
 use std::alloc::{AllocError, Global};
 
 fn heading_words(is_head: bool) -> &'static [u8]
-    ensures { result.now ≡ heading_words is_head }
+    ensures { result.now ≡ invariants.heading_words is_head }
 {
     if is_head {
         b": loop: in every run, whenever it is at its head:\n"
@@ -28,7 +28,7 @@ fn write_way(
     text: &Text<'_>,
     path: &[u8],
 ) -> Result<(), AllocError>
-    ensures { OnOk result (bytes.new.items ≡ bytes.old.items ++ way_to text.now (path_in path.now)) }
+    ensures { OnOk result (bytes.new.items ≡ bytes.old.items ++ invariants.way_to text.now (path_in path.now)) }
 {
     match read_path(alloc, path)? {
         Some(path) => {
@@ -46,7 +46,7 @@ fn write_heading(
     text: &Text<'_>,
     heading: &Heading<'_>,
 ) -> Result<(), AllocError>
-    ensures { OnOk result (bytes.new.items ≡ bytes.old.items ++ heading_text text.now heading.now) }
+    ensures { OnOk result (bytes.new.items ≡ bytes.old.items ++ invariants.heading_text text.now heading.now) }
 {
     write_place(alloc, bytes, text, heading.at)?;
     write(bytes, heading_words(heading.is_head))?;
@@ -61,14 +61,14 @@ fn write_number(bytes: &mut Vec<u8>, number: i128) -> Result<(), AllocError>
 }
 
 fn write_times(bytes: &mut Vec<u8>, rest: i128) -> Result<(), AllocError>
-    ensures { OnOk result (bytes.new.items ≡ bytes.old.items ++ times_text rest) }
+    ensures { OnOk result (bytes.new.items ≡ bytes.old.items ++ invariants.times_text rest) }
 {
     write(bytes, b"k + ")?;
     write_number(bytes, rest)
 }
 
 fn write_form(bytes: &mut Vec<u8>, modulus: i128, rest: i128) -> Result<(), AllocError>
-    ensures { OnOk result (bytes.new.items ≡ bytes.old.items ++ form_text modulus rest) }
+    ensures { OnOk result (bytes.new.items ≡ bytes.old.items ++ invariants.form_text modulus rest) }
 {
     write(bytes, b", of the form ")?;
     write_number(bytes, modulus)?;
@@ -76,7 +76,7 @@ fn write_form(bytes: &mut Vec<u8>, modulus: i128, rest: i128) -> Result<(), Allo
 }
 
 fn write_class(bytes: &mut Vec<u8>, known: Known) -> Result<(), AllocError>
-    ensures { OnOk result (bytes.new.items ≡ bytes.old.items ++ class_text known) }
+    ensures { OnOk result (bytes.new.items ≡ bytes.old.items ++ invariants.class_text known) }
 {
     if 1 < known.modulus {
         write_form(bytes, known.modulus, known.rest)
@@ -86,7 +86,7 @@ fn write_class(bytes: &mut Vec<u8>, known: Known) -> Result<(), AllocError>
 }
 
 fn write_class_end(bytes: &mut Vec<u8>, known: Known) -> Result<(), AllocError>
-    ensures { OnOk result (bytes.new.items ≡ bytes.old.items ++ class_end known) }
+    ensures { OnOk result (bytes.new.items ≡ bytes.old.items ++ invariants.class_end known) }
 {
     write_class(bytes, known)?;
     write(bytes, b"\n")
@@ -94,7 +94,7 @@ fn write_class_end(bytes: &mut Vec<u8>, known: Known) -> Result<(), AllocError>
 
 #[tactic(auto, unfolding(crate::specs::Invariants::known_text))]
 fn write_known(bytes: &mut Vec<u8>, known: Known) -> Result<(), AllocError>
-    ensures { OnOk result (bytes.new.items ≡ bytes.old.items ++ known_text known) }
+    ensures { OnOk result (bytes.new.items ≡ bytes.old.items ++ invariants.known_text known) }
 {
     write(bytes, b" in ")?;
     write_range(bytes, known.lo, known.hi)?;
@@ -108,7 +108,7 @@ fn array_mark(is_array: bool) -> &'static [u8]
 }
 
 fn write_name(bytes: &mut Vec<u8>, value: &Value<'_>) -> Result<(), AllocError>
-    ensures { OnOk result (bytes.new.items ≡ bytes.old.items ++ name_text value.now) }
+    ensures { OnOk result (bytes.new.items ≡ bytes.old.items ++ invariants.name_text value.now) }
 {
     write(bytes, value.name)?;
     write(bytes, array_mark(value.is_array))
@@ -116,7 +116,7 @@ fn write_name(bytes: &mut Vec<u8>, value: &Value<'_>) -> Result<(), AllocError>
 
 #[tactic(auto, unfolding(crate::specs::Invariants::value_text))]
 fn write_value(bytes: &mut Vec<u8>, value: &Value<'_>) -> Result<(), AllocError>
-    ensures { OnOk result (bytes.new.items ≡ bytes.old.items ++ value_text value.now) }
+    ensures { OnOk result (bytes.new.items ≡ bytes.old.items ++ invariants.value_text value.now) }
 {
     write(bytes, b"    ")?;
     write_name(bytes, value)?;
@@ -124,7 +124,7 @@ fn write_value(bytes: &mut Vec<u8>, value: &Value<'_>) -> Result<(), AllocError>
 }
 
 fn write_most(bytes: &mut Vec<u8>, most: i128) -> Result<(), AllocError>
-    ensures { OnOk result (bytes.new.items ≡ bytes.old.items ++ most_text most) }
+    ensures { OnOk result (bytes.new.items ≡ bytes.old.items ++ invariants.most_text most) }
 {
     write(bytes, b" <= ")?;
     write_number(bytes, most)?;
@@ -142,7 +142,7 @@ fn front_of(form: Form) -> &'static [u8]
 }
 
 fn sign_text(form: Form) -> &'static [u8]
-    ensures { result.now ≡ sign_text form }
+    ensures { result.now ≡ invariants.sign_text form }
 {
     match form {
         Form::Difference => b" - ",
@@ -152,14 +152,14 @@ fn sign_text(form: Form) -> &'static [u8]
 }
 
 fn write_left(bytes: &mut Vec<u8>, bound: &Bound<'_>) -> Result<(), AllocError>
-    ensures { OnOk result (bytes.new.items ≡ bytes.old.items ++ left_text bound.now) }
+    ensures { OnOk result (bytes.new.items ≡ bytes.old.items ++ invariants.left_text bound.now) }
 {
     write(bytes, front_of(bound.form))?;
     write(bytes, bound.left)
 }
 
 fn write_right(bytes: &mut Vec<u8>, bound: &Bound<'_>) -> Result<(), AllocError>
-    ensures { OnOk result (bytes.new.items ≡ bytes.old.items ++ right_text bound.now) }
+    ensures { OnOk result (bytes.new.items ≡ bytes.old.items ++ invariants.right_text bound.now) }
 {
     write(bytes, sign_text(bound.form))?;
     write(bytes, bound.right)?;
@@ -168,7 +168,7 @@ fn write_right(bytes: &mut Vec<u8>, bound: &Bound<'_>) -> Result<(), AllocError>
 
 #[tactic(auto, unfolding(crate::specs::Invariants::bound_text))]
 fn write_bound(bytes: &mut Vec<u8>, bound: &Bound<'_>) -> Result<(), AllocError>
-    ensures { OnOk result (bytes.new.items ≡ bytes.old.items ++ bound_text bound.now) }
+    ensures { OnOk result (bytes.new.items ≡ bytes.old.items ++ invariants.bound_text bound.now) }
 {
     write(bytes, b"    ")?;
     write_left(bytes, bound)?;
@@ -183,7 +183,7 @@ fn write_fact(
     text: &Text<'_>,
     row: &Row<'_>,
 ) -> Result<(), AllocError>
-    ensures { OnOk result (bytes.new.items ≡ bytes.old.items ++ fact_text text.now row.now) }
+    ensures { OnOk result (bytes.new.items ≡ bytes.old.items ++ invariants.fact_text text.now row.now) }
 {
     match row {
         Row::Opening(_) => Ok(()),
@@ -202,7 +202,7 @@ fn write_facts(
     text: &Text<'_>,
     rows: &[Row<'_>],
 ) -> Result<(), AllocError>
-    ensures { OnOk result (bytes.new.items ≡ bytes.old.items ++ facts_text text.now rows.now) }
+    ensures { OnOk result (bytes.new.items ≡ bytes.old.items ++ invariants.facts_text text.now rows.now) }
 {
     for k in 0..rows.len() {
         write_fact(alloc, bytes, text, &rows[k])?;
@@ -218,7 +218,7 @@ pub(crate) fn write_invariants(
     text: &Text<'_>,
     rows: &[Row<'_>],
 ) -> Result<(), AllocError>
-    ensures { OnOk result (bytes.new.items ≡ bytes.old.items ++ invariants_text is_asked text.now rows.now) }
+    ensures { OnOk result (bytes.new.items ≡ bytes.old.items ++ invariants.invariants_text is_asked text.now rows.now) }
 {
     if is_asked {
         write_facts(alloc, bytes, text, rows)

@@ -4,7 +4,7 @@ ghost use Rattle.std.specs.Prelude.{◌≡◌, ◌-◌, ◌<◌, ◌≤◌, ◌+
 ghost use Rattle.std.specs.Option.{option_map};
 ghost use Rattle.std.specs.Fmt.{decimal};
 ghost use Rattle.pk_findings.specs.Texts.{file_of};
-ghost use Rattle.pk_listing.specs.Places.{origin_text, place_text, line_text, head_text, blank_for, blanks_before, marked_line, excerpt_of, plain_line, plain_of, expanded_of, excerpt_with, call_at, function_at, caller_text, callers_text, path_text};
+ghost use Rattle.pk_listing.specs.Places as places;
 
 use itoa::Buffer;
 use pk_ctypes::Pos;
@@ -47,7 +47,7 @@ fn write_origin(
     origin: Origin,
     column: u64,
 ) -> Result<(), AllocError>
-    ensures { OnOk result (bytes.new.items ≡ bytes.old.items ++ origin_text text.now origin column) }
+    ensures { OnOk result (bytes.new.items ≡ bytes.old.items ++ places.origin_text text.now origin column) }
 {
     write_file(alloc, bytes, text, origin)?;
     write(bytes, b":")?;
@@ -65,7 +65,7 @@ pub(crate) fn write_place(
     text: &Text<'_>,
     at: Pos,
 ) -> Result<(), AllocError>
-    ensures { OnOk result (bytes.new.items ≡ bytes.old.items ++ place_text text.now at) }
+    ensures { OnOk result (bytes.new.items ≡ bytes.old.items ++ places.place_text text.now at) }
 {
     write_origin(alloc, bytes, text, origin_at(text, at), at.column)
 }
@@ -77,7 +77,7 @@ fn write_line(
     text: &Text<'_>,
     at: Pos,
 ) -> Result<(), AllocError>
-    ensures { OnOk result (bytes.new.items ≡ bytes.old.items ++ line_text text.now at) }
+    ensures { OnOk result (bytes.new.items ≡ bytes.old.items ++ places.line_text text.now at) }
 {
     let origin = origin_at(text, at);
     write_file(alloc, bytes, text, origin)?;
@@ -93,7 +93,7 @@ pub(crate) fn write_head(
     text: &Text<'_>,
     at: Pos,
 ) -> Result<(), AllocError>
-    ensures { OnOk result (bytes.new.items ≡ bytes.old.items ++ head_text has_column text.now at) }
+    ensures { OnOk result (bytes.new.items ≡ bytes.old.items ++ places.head_text has_column text.now at) }
 {
     if has_column {
         write_place(alloc, bytes, text, at)
@@ -103,13 +103,13 @@ pub(crate) fn write_head(
 }
 
 fn blank_for(b: u8) -> u8
-    ensures { result ≡ blank_for b }
+    ensures { result ≡ places.blank_for b }
 {
     if b == b'\t' { b'\t' } else { b' ' }
 }
 
 fn write_blanks(bytes: &mut Vec<u8>, front: &[u8]) -> Result<(), AllocError>
-    ensures { OnOk result (bytes.new.items ≡ bytes.old.items ++ map blank_for front.now) }
+    ensures { OnOk result (bytes.new.items ≡ bytes.old.items ++ map places.blank_for front.now) }
 {
     for k in 0..front.len() {
         bytes.push(blank_for(front[k]))?;
@@ -130,7 +130,7 @@ fn front_of(line: &[u8], column: u64) -> &[u8]
 }
 
 fn write_marked(bytes: &mut Vec<u8>, line: &[u8], column: u64) -> Result<(), AllocError>
-    ensures { OnOk result (bytes.new.items ≡ bytes.old.items ++ marked_line line.now column) }
+    ensures { OnOk result (bytes.new.items ≡ bytes.old.items ++ places.marked_line line.now column) }
 {
     write(bytes, b"    ")?;
     write(bytes, line)?;
@@ -142,7 +142,7 @@ fn write_marked(bytes: &mut Vec<u8>, line: &[u8], column: u64) -> Result<(), All
 
 #[tactic(auto, unfolding(crate::specs::Places::excerpt_of))]
 fn write_excerpt(bytes: &mut Vec<u8>, line: &[u8], column: u64) -> Result<(), AllocError>
-    ensures { OnOk result (bytes.new.items ≡ bytes.old.items ++ excerpt_of line.now column) }
+    ensures { OnOk result (bytes.new.items ≡ bytes.old.items ++ places.excerpt_of line.now column) }
 {
     if line.len() <= 200 {
         write_marked(bytes, line, column)
@@ -152,7 +152,7 @@ fn write_excerpt(bytes: &mut Vec<u8>, line: &[u8], column: u64) -> Result<(), Al
 }
 
 fn write_plain_line(bytes: &mut Vec<u8>, line: &[u8]) -> Result<(), AllocError>
-    ensures { OnOk result (bytes.new.items ≡ bytes.old.items ++ plain_line line.now) }
+    ensures { OnOk result (bytes.new.items ≡ bytes.old.items ++ places.plain_line line.now) }
 {
     write(bytes, b"    ")?;
     write(bytes, line)?;
@@ -161,7 +161,7 @@ fn write_plain_line(bytes: &mut Vec<u8>, line: &[u8]) -> Result<(), AllocError>
 
 #[tactic(auto, unfolding(crate::specs::Places::plain_of))]
 fn write_plain(bytes: &mut Vec<u8>, line: &[u8]) -> Result<(), AllocError>
-    ensures { OnOk result (bytes.new.items ≡ bytes.old.items ++ plain_of line.now) }
+    ensures { OnOk result (bytes.new.items ≡ bytes.old.items ++ places.plain_of line.now) }
 {
     if line.len() <= 200 {
         write_plain_line(bytes, line)
@@ -177,7 +177,7 @@ fn write_expanded(
     line: &[u8],
     column: u64,
 ) -> Result<(), AllocError>
-    ensures { OnOk result (bytes.new.items ≡ bytes.old.items ++ expanded_of is_own own.now line.now column) }
+    ensures { OnOk result (bytes.new.items ≡ bytes.old.items ++ places.expanded_of is_own own.now line.now column) }
 {
     if is_own {
         write_excerpt(bytes, own, column)
@@ -197,7 +197,7 @@ pub(crate) fn write_excerpt_with(
     column: u64,
 ) -> Result<(), AllocError>
     ensures { OnOk result (bytes.new.items ≡ bytes.old.items
-        ++ excerpt_with is_own (option_map (λ own. own.now) own.entry) line.now column) }
+        ++ places.excerpt_with is_own (option_map (λ own. own.now) own.entry) line.now column) }
 {
     match own {
         Some(own) => write_expanded(bytes, is_own, own, line, column),
@@ -208,7 +208,7 @@ pub(crate) fn write_excerpt_with(
 // The function that runs behind so many calls.
 fn function_at<'t>(path: &Path<'t>, k: usize) -> &'t [u8]
     requires { k ≤ length path.now.calls }
-    ensures { result.now ≡ function_at path.now k }
+    ensures { result.now ≡ places.function_at path.now k }
 {
     if k == 0 {
         path.entry
@@ -220,7 +220,7 @@ fn function_at<'t>(path: &Path<'t>, k: usize) -> &'t [u8]
 
 fn place_of_call(path: &Path<'_>, k: usize) -> Pos
     requires { k < length path.now.calls }
-    ensures { result ≡ (call_at path.now k).at }
+    ensures { result ≡ (places.call_at path.now k).at }
 {
     let call = &path.calls[k];
     call.at
@@ -234,7 +234,7 @@ fn write_caller(
     k: usize,
 ) -> Result<(), AllocError>
     requires { k < length path.now.calls }
-    ensures { OnOk result (bytes.new.items ≡ bytes.old.items ++ caller_text text.now path.now k) }
+    ensures { OnOk result (bytes.new.items ≡ bytes.old.items ++ places.caller_text text.now path.now k) }
 {
     write(bytes, b", called from ")?;
     write(bytes, function_at(path, k))?;
@@ -251,7 +251,7 @@ fn write_callers(
     path: &Path<'_>,
 ) -> Result<(), AllocError>
     ensures { OnOk result (
-        bytes.new.items ≡ bytes.old.items ++ callers_text text.now path.now (length path.now.calls)) }
+        bytes.new.items ≡ bytes.old.items ++ places.callers_text text.now path.now (length path.now.calls)) }
 {
     let mut left = path.calls.len();
     while 0 < left {
@@ -269,7 +269,7 @@ pub(crate) fn write_path(
     text: &Text<'_>,
     path: &Path<'_>,
 ) -> Result<(), AllocError>
-    ensures { OnOk result (bytes.new.items ≡ bytes.old.items ++ path_text text.now path.now) }
+    ensures { OnOk result (bytes.new.items ≡ bytes.old.items ++ places.path_text text.now path.now) }
 {
     write(bytes, b"    in ")?;
     write(bytes, function_at(path, path.calls.len()))?;

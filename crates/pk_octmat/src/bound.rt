@@ -1,7 +1,7 @@
 // A bound in 16 bytes: a number, or none.
 
 ghost use Rattle.std.specs.Prelude.{◌≡◌, ◌-◌, ◌^◌, ◌<ℤ◌, pos, Some, None, true, ◌↔◌};
-ghost use Rattle.pk_octmat.specs.Bounds.{IsNear, plus as sum_of, lesser as lesser_of, greater as greater_of, is_none as none_of, is_at_most as at_most, is_negative as negative, capped as capped_at, halved as half_of, even_down as even_of};
+ghost use Rattle.pk_octmat.specs.Bounds as bounds;
 
 use std::marker::Model;
 
@@ -63,8 +63,8 @@ impl Bound {
     /// A number within 2^66 of 0 as a bound: above that none, below it -2^66.
     #[inline]
     pub fn of(number: Option<i128>) -> Bound
-        ensures value { result ≡ capped_at number }
-        ensures near { IsNear (2 ^ 66) result }
+        ensures value { result ≡ bounds.capped number }
+        ensures near { bounds.IsNear (2 ^ 66) result }
     {
         match number {
             None => Bound::none(),
@@ -83,15 +83,15 @@ impl Bound {
     /// The bound, brought within 2^66 of 0.
     #[inline]
     pub fn capped(self) -> Bound
-        ensures value { result ≡ capped_at self }
-        ensures near { IsNear (2 ^ 66) result }
+        ensures value { result ≡ bounds.capped self }
+        ensures near { bounds.IsNear (2 ^ 66) result }
     {
         Bound::of(self.number())
     }
 
     #[inline]
     pub fn is_none(self) -> bool
-        ensures { result ≡ none_of self }
+        ensures { result ≡ bounds.is_none self }
     {
         match self.number() {
             None => true,
@@ -101,7 +101,7 @@ impl Bound {
 
     #[inline]
     pub fn is_negative(self) -> bool
-        ensures { result ≡ negative self }
+        ensures { result ≡ bounds.is_negative self }
     {
         match self.number() {
             None => false,
@@ -120,7 +120,7 @@ impl Bound {
     /// Whether a bound is at most another.
     #[inline]
     pub fn is_at_most(self, other: Bound) -> bool
-        ensures { result ≡ at_most self other }
+        ensures { result ≡ bounds.is_at_most self other }
     {
         self.packed <= other.packed
     }
@@ -128,9 +128,9 @@ impl Bound {
     /// The sum of two bounds.
     #[inline]
     pub fn plus(self, other: Bound) -> Bound
-        requires left { IsNear (2 ^ 100) self }
-        requires right { IsNear (2 ^ 100) other }
-        ensures { result ≡ sum_of self other }
+        requires left { bounds.IsNear (2 ^ 100) self }
+        requires right { bounds.IsNear (2 ^ 100) other }
+        ensures { result ≡ bounds.plus self other }
     {
         match (self.number(), other.number()) {
             (Some(a), Some(b)) => Bound::exactly(a + b),
@@ -142,7 +142,7 @@ impl Bound {
     /// The lesser of two bounds.
     #[inline]
     pub fn lesser(self, other: Bound) -> Bound
-        ensures { result ≡ lesser_of self other }
+        ensures { result ≡ bounds.lesser self other }
     {
         if other.packed < self.packed {
             other
@@ -154,7 +154,7 @@ impl Bound {
     /// The greater of two bounds.
     #[inline]
     pub fn greater(self, other: Bound) -> Bound
-        ensures { result ≡ greater_of self other }
+        ensures { result ≡ bounds.greater self other }
     {
         if self.packed < other.packed {
             other
@@ -166,7 +166,7 @@ impl Bound {
     /// Half of a bound, rounded down.
     #[inline]
     pub fn halved(self) -> Bound
-        ensures { result ≡ half_of self }
+        ensures { result ≡ bounds.halved self }
     {
         match self.number() {
             None => Bound::none(),
@@ -177,7 +177,7 @@ impl Bound {
     /// A bound down to even.
     #[inline]
     pub fn even_down(self) -> Bound
-        ensures { result ≡ even_of self }
+        ensures { result ≡ bounds.even_down self }
     {
         match self.number() {
             None => Bound::none(),

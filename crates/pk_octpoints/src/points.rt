@@ -5,7 +5,7 @@ ghost use Rattle.pk_octmat.specs.Bounds.{AtMost, IsNear, halved, is_none as none
 ghost use Rattle.pk_octmat.specs.Octagon.{entry, bar as other};
 ghost use Rattle.pk_octpoints.specs.Tight.{IsTight};
 ghost use Rattle.pk_octpoints.specs.Points.{number_at, nearest_in, number_or_zero as number_of, Attains, IsPoint, AreNear, IsPart, IsThere, Keeps};
-ghost use Rattle.pk_octpoints.specs.Parts.{bound_by, lowered as lowered_of, opposite as opposite_of, part_side, raised as raised_of, signed as signed_of, wish as wish_of, AreApart, IsFirst, MeetsThere};
+ghost use Rattle.pk_octpoints.specs.Parts as parts;
 
 use pk_octmat::{Bound, Matrix, bar};
 use std::alloc::{AllocError, Global};
@@ -20,7 +20,7 @@ fn opposite(i: u32) -> u32
 /// The negative of a number that is there.
 fn negative(number: Bound) -> Bound
     requires { IsNear (2 ^ 99) number }
-    ensures { result ≡ opposite_of number }
+    ensures { result ≡ parts.opposite number }
 {
     match number.number() {
         None => Bound::none(),
@@ -32,7 +32,7 @@ fn negative(number: Bound) -> Bound
 fn side(part: &[Bound], i: u32) -> Bound
     requires place { i / 2 < length part.now }
     requires near { AreNear (2 ^ 99) part.now }
-    ensures value { result ≡ part_side (number_at part.now) i }
+    ensures value { result ≡ parts.part_side (number_at part.now) i }
     ensures near { IsNear (2 ^ 99) result }
 {
     let number = part[i as usize / 2];
@@ -44,7 +44,7 @@ fn upper(m: &Matrix, part: &[Bound], p: u32) -> Bound
     requires size { length part.now ≡ m.now.vars }
     requires place { p < 2 * m.now.vars }
     requires near { AreNear (2 ^ 99) part.now }
-    ensures { result ≡ bound_by (entry m.now) (number_at part.now) p (2 * m.now.vars) }
+    ensures { result ≡ parts.bound_by (entry m.now) (number_at part.now) p (2 * m.now.vars) }
 {
     m.is_octagon();
     let mut least = m.bound(opposite(p), p).halved();
@@ -57,7 +57,7 @@ fn upper(m: &Matrix, part: &[Bound], p: u32) -> Bound
 /// A number raised to where its negative is at most a bound.
 fn raised(wish: i128, low: Bound) -> i128
     requires { IsNear (2 ^ 100) low }
-    ensures { result ≡ raised_of wish low }
+    ensures { result ≡ parts.raised wish low }
 {
     match low.number() {
         None => wish,
@@ -67,7 +67,7 @@ fn raised(wish: i128, low: Bound) -> i128
 
 /// A number lowered to a bound.
 fn lowered(wish: i128, high: Bound) -> i128
-    ensures { result ≡ lowered_of wish high }
+    ensures { result ≡ parts.lowered wish high }
 {
     match high.number() {
         None => wish,
@@ -79,7 +79,7 @@ fn lowered(wish: i128, high: Bound) -> i128
 fn signed(p: u32, v: i128) -> Bound
     requires low { negsuc (2 ^ 100 - 1) ≤ℤ v }
     requires high { v ≤ℤ pos (2 ^ 100) }
-    ensures { result ≡ Some (signed_of p v) }
+    ensures { result ≡ Some (parts.signed p v) }
 {
     if p % 2 == 0 {
         Bound::exactly(v)
@@ -95,7 +95,7 @@ fn place(m: &Matrix, part: &mut [Bound], p: u32, wish: i128)
     requires part { (k : ℕ) × (k < 2 ^ 32) × IsPart m.now k part.old × IsNear ((k + 1) * 2 ^ 66) (Some wish) }
     ensures part { (k : ℕ) → IsPart m.now k part.old → IsNear ((k + 1) * 2 ^ 66) (Some wish) →
         IsPart m.now (k + 1) part.new }
-    ensures here { part_side (number_at part.new) p ≡ Some (nearest_in m.now part.old p wish) }
+    ensures here { parts.part_side (number_at part.new) p ≡ Some (nearest_in m.now part.old p wish) }
     ensures others { (k : ℕ) → k ≢ p / 2 → number_at part.new k ≡ number_at part.old k }
 {
     m.is_octagon();
@@ -111,7 +111,7 @@ fn first_wish(m: &Matrix, i: u32, j: u32, c: i128) -> i128
     requires column { j < 2 * m.now.vars }
     requires low { negsuc (2 ^ 67 - 1) ≤ℤ c }
     requires high { c ≤ℤ pos (2 ^ 67) }
-    ensures value { result ≡ wish_of c (halved (entry m.now (other j) j)) (entry m.now (other i) j) }
+    ensures value { result ≡ parts.wish c (halved (entry m.now (other j) j)) (entry m.now (other i) j) }
     ensures low { negsuc (2 ^ 68 - 1) ≤ℤ result }
     ensures high { result ≤ℤ pos (2 ^ 68) }
 {
@@ -132,7 +132,7 @@ fn place_first(m: &Matrix, part: &mut [Bound], i: u32, j: u32, c: i128)
     requires size { length part.old ≡ m.now.vars }
     requires none { (k : ℕ) → number_at part.old k ≡ None }
     ensures part { IsPart m.now 5 part.new }
-    ensures first { IsFirst (entry m.now) i j c (number_at part.new) }
+    ensures first { parts.IsFirst (entry m.now) i j c (number_at part.new) }
 {
     place(m, part, i, first_wish(m, i, j, c));
 }
@@ -147,9 +147,9 @@ fn place_second(m: &Matrix, part: &mut [Bound], i: u32, j: u32, c: i128)
     requires apart { i ≢ j }
     requires within { AtMost (Some c) (entry m.now i j) }
     requires part { IsPart m.now 5 part.old }
-    requires first { IsFirst (entry m.now) i j c (number_at part.old) }
+    requires first { parts.IsFirst (entry m.now) i j c (number_at part.old) }
     ensures part { IsPart m.now 7 part.new }
-    ensures apart { AreApart i j c (number_at part.new) }
+    ensures apart { parts.AreApart i j c (number_at part.new) }
 {
     if i / 2 == j / 2 {
         return;
@@ -182,7 +182,7 @@ fn place_all(m: &Matrix, part: &mut [Bound])
     requires part { IsPart m.now 7 part.old }
     ensures size { length part.new ≡ m.now.vars }
     ensures near { AreNear (2 ^ 99) part.new }
-    ensures meets { MeetsThere (2 * m.now.vars) (entry m.now) (number_at part.new) }
+    ensures meets { parts.MeetsThere (2 * m.now.vars) (entry m.now) (number_at part.new) }
     ensures kept { Keeps part.old part.new }
     ensures there { (k : ℕ) → k < m.now.vars → IsThere part.new k }
 {

@@ -3,7 +3,7 @@
 ghost use Rattle.std.specs.Prelude.{◌≡◌, ◌-◌, ◌≤◌, [], ◌∷◌, ◌++◌, IfOk, IfErr, OnOk, None, Some, length, map, is_some, slice_index_or};
 ghost use Rattle.pk_show.specs.declared.report.ReadError.TheVariants.{Memory};
 ghost use Rattle.pk_show.specs.Paths.{path_in};
-ghost use Rattle.pk_show.specs.Reports.{point_row_in, row_in, kind_of, goes_on, follows_heading, follows_value, follows_bound, follows_access, is_opening, is_counts, may_follow, may_stand, is_end, has_path, fits, next_in, rows_in, report_in, AreNoRows, IsRefusal};
+ghost use Rattle.pk_show.specs.Reports as reports;
 
 use crate::paths::read_path;
 use crate::pieces::is_same;
@@ -39,7 +39,7 @@ pub enum Kind {
 
 /// The kind of a row.
 pub fn kind_of(row: &Row<'_>) -> Kind
-    ensures { result ≡ kind_of row.now }
+    ensures { result ≡ reports.kind_of row.now }
 {
     match row {
         Row::Opening(_) => Kind::Opening,
@@ -55,7 +55,7 @@ pub fn kind_of(row: &Row<'_>) -> Kind
 // The row of a point that a line is.
 #[tactic(auto, unfolding(crate::specs::Reports::point_row_in))]
 fn point_row(line: &[u8]) -> Option<Row<'_>>
-    ensures { result ≡ point_row_in line.now }
+    ensures { result ≡ reports.point_row_in line.now }
 {
     if let Some(heading) = heading(true, line) {
         return Some(Row::Heading(heading));
@@ -78,7 +78,7 @@ fn point_row(line: &[u8]) -> Option<Row<'_>>
 // The row that a line is.
 #[tactic(auto, unfolding(crate::specs::Reports::row_in))]
 fn row_of(line: &[u8]) -> Option<Row<'_>>
-    ensures { result ≡ row_in line.now }
+    ensures { result ≡ reports.row_in line.now }
 {
     if let Some(opening) = opening(line) {
         return Some(Row::Opening(opening));
@@ -96,13 +96,13 @@ fn row_of(line: &[u8]) -> Option<Row<'_>>
 }
 
 fn goes_on(next: Kind) -> bool
-    ensures { result ≡ goes_on next }
+    ensures { result ≡ reports.goes_on next }
 {
     matches!(next, Kind::Heading | Kind::Access | Kind::Counts)
 }
 
 fn follows_heading(next: Kind) -> bool
-    ensures { result ≡ follows_heading next }
+    ensures { result ≡ reports.follows_heading next }
 {
     matches!(
         next,
@@ -111,7 +111,7 @@ fn follows_heading(next: Kind) -> bool
 }
 
 fn follows_value(next: Kind) -> bool
-    ensures { result ≡ follows_value next }
+    ensures { result ≡ reports.follows_value next }
 {
     matches!(
         next,
@@ -120,7 +120,7 @@ fn follows_value(next: Kind) -> bool
 }
 
 fn follows_bound(next: Kind) -> bool
-    ensures { result ≡ follows_bound next }
+    ensures { result ≡ reports.follows_bound next }
 {
     matches!(
         next,
@@ -129,14 +129,14 @@ fn follows_bound(next: Kind) -> bool
 }
 
 fn follows_access(next: Kind) -> bool
-    ensures { result ≡ follows_access next }
+    ensures { result ≡ reports.follows_access next }
 {
     matches!(next, Kind::Access | Kind::Counts)
 }
 
 // Whether a line may stand right behind another.
 fn may_follow(before: Kind, next: Kind) -> bool
-    ensures { result ≡ may_follow before next }
+    ensures { result ≡ reports.may_follow before next }
 {
     match before {
         Kind::Opening => goes_on(next),
@@ -150,20 +150,20 @@ fn may_follow(before: Kind, next: Kind) -> bool
 }
 
 fn is_opening(kind: Kind) -> bool
-    ensures { result ≡ is_opening kind }
+    ensures { result ≡ reports.is_opening kind }
 {
     matches!(kind, Kind::Opening)
 }
 
 fn is_counts(kind: Kind) -> bool
-    ensures { result ≡ is_counts kind }
+    ensures { result ≡ reports.is_counts kind }
 {
     matches!(kind, Kind::Counts)
 }
 
 /// Whether a line is the first, or may follow the one before it.
 pub fn may_stand(before: Option<Kind>, next: Kind) -> bool
-    ensures { result ≡ may_stand before next }
+    ensures { result ≡ reports.may_stand before next }
 {
     match before {
         Some(before) => may_follow(before, next),
@@ -172,7 +172,7 @@ pub fn may_stand(before: Option<Kind>, next: Kind) -> bool
 }
 
 fn is_end(before: Option<Kind>) -> bool
-    ensures { result ≡ is_end before }
+    ensures { result ≡ reports.is_end before }
 {
     match before {
         Some(before) => is_counts(before),
@@ -190,7 +190,7 @@ fn is_path(alloc: Global, text: &[u8]) -> Result<bool, AllocError>
 // Whether what tells a call path tells one.
 #[tactic(auto, unfolding(crate::specs::Reports::has_path))]
 fn has_path(alloc: Global, row: &Row<'_>) -> Result<bool, AllocError>
-    ensures { IfOk result (λ b. b ≡ has_path row.now) }
+    ensures { IfOk result (λ b. b ≡ reports.has_path row.now) }
 {
     match row {
         Row::Opening(_) => Ok(true),
@@ -205,7 +205,7 @@ fn has_path(alloc: Global, row: &Row<'_>) -> Result<bool, AllocError>
 
 #[tactic(auto, unfolding(crate::specs::Reports::fits))]
 fn fits(alloc: Global, before: Option<Kind>, row: &Row<'_>) -> Result<bool, AllocError>
-    ensures { IfOk result (λ b. b ≡ fits before row.now) }
+    ensures { IfOk result (λ b. b ≡ reports.fits before row.now) }
 {
     if may_stand(before, kind_of(row)) {
         has_path(alloc, row)
@@ -237,7 +237,7 @@ pub fn next_row<'t>(
     before: Option<Kind>,
     line: &'t [u8],
 ) -> Result<Option<Row<'t>>, AllocError>
-    ensures { IfOk result (λ row. row ≡ next_in before line.now) }
+    ensures { IfOk result (λ row. row ≡ reports.next_in before line.now) }
 {
     let Some(row) = row_of(line) else {
         return Ok(None);
@@ -260,8 +260,8 @@ pub(crate) fn add<T: Drop>(list: &mut Vec<T>, item: T) -> Result<(), AllocError>
 
 // The rows that lines are, or the first line that can't stand there.
 fn rows<'t>(alloc: Global, lines: &[&'t [u8]]) -> Result<Vec<Row<'t>>, ReadError>
-    ensures rows { IfOk result (λ rows. rows_in (map (λ line. line.now) lines.now) None ≡ Some rows.items) }
-    ensures refused { IfErr result (AreNoRows (map (λ line. line.now) lines.now)) }
+    ensures rows { IfOk result (λ rows. reports.rows_in (map (λ line. line.now) lines.now) None ≡ Some rows.items) }
+    ensures refused { IfErr result (reports.AreNoRows (map (λ line. line.now) lines.now)) }
 {
     let mut rows = Vec::new(alloc);
     let mut before = None;
@@ -302,8 +302,8 @@ fn behind<'t>(pieces: &[&'t [u8]]) -> &'t [u8]
 /// The rows of a report, or the first line that can't stand where it does.
 #[tactic(auto, unfolding(crate::specs::Reports::report_in, crate::specs::Reports::first_wrong))]
 pub fn read<'t>(alloc: Global, text: &'t [u8]) -> Result<Vec<Row<'t>>, ReadError>
-    ensures rows { IfOk result (λ rows. report_in text.now ≡ Some rows.items) }
-    ensures refused { IfErr result (IsRefusal text.now) }
+    ensures rows { IfOk result (λ rows. reports.report_in text.now ≡ Some rows.items) }
+    ensures refused { IfErr result (reports.IsRefusal text.now) }
 {
     let pieces = lines(alloc, text)?;
     let ended = pieces.split_at(ended_count(&pieces)).0;
