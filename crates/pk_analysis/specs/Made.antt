@@ -1,8 +1,9 @@
 -- What the analysis of a graph is.
-use Rattle.std.specs.Prelude.{◌≡◌}
+use Rattle.std.specs.Prelude.{◌≡◌, List}
 use Rattle.pk_graph.specs.Graphs.{GraphOf}
 use Rattle.pk_graph.specs.Shown.{graph_view}
 use Rattle.pk_plan.specs.Plans.{PlanView}
+use Rattle.pk_phases.specs.declared.equations.Part.{Part}
 use Rattle.pk_thresh.specs.Thresholds.{AreThresholds}
 use Rattle.pk_analysis.specs.declared.analysis.Options.{Options}
 use Rattle.pk_analysis.specs.Parts.{AreParts}
@@ -15,5 +16,14 @@ pub record IsAnalysisOf (g : GraphOf) (p : PlanView) (o : Options) (a : Flow) : 
   pub layout : a.layout ≡ layout_of g o.oct
   pub thresholds : AreThresholds g a.thresholds
   pub parts : AreParts p a.parts
+  pub delay : a.delay ≡ o.delay
+  pub narrow : a.narrow ≡ o.narrow
+
+-- the equations of the graph's points, with heads and exits where these parts have them
+pub record IsFlowOf (g : GraphOf) (parts : List Part) (o : Options) (a : Flow) : Type 0 where
+  pub graph : graph_view a.graph ≡ g
+  pub layout : a.layout ≡ layout_of g o.oct
+  pub thresholds : AreThresholds g a.thresholds
+  pub parts : a.parts ≡ parts
   pub delay : a.delay ≡ o.delay
   pub narrow : a.narrow ≡ o.narrow

@@ -1,9 +1,10 @@
 // The analysis of a graph, as a system that is iterated.
 
-ghost use Rattle.std.specs.Prelude.{◌≡◌, ◌<◌, ◌^◌, IfOk, length};
+ghost use Rattle.std.specs.Prelude.{◌≡◌, ◌<◌, ◌≤◌, ◌^◌, IfOk, length, replicate};
 ghost use Rattle.std.specs.Arc.{arc_value};
 ghost use Rattle.pk_graph.specs.Shown.{graph_view};
-ghost use Rattle.pk_analysis.specs.Made.{IsAnalysisOf};
+ghost use Rattle.pk_phases.specs.declared.equations.Part.TheVariants.{Point};
+ghost use Rattle.pk_analysis.specs.Made.{IsAnalysisOf, IsFlowOf};
 
 use crate::arrows::arrows;
 use crate::flow::Flow;
@@ -12,7 +13,7 @@ use crate::reads::reads;
 use crate::starts::start;
 use pk_graph::Graph;
 use pk_iterate::{Decision, System};
-use pk_phases::{Cell, Phased};
+use pk_phases::{Cell, Part, Phased};
 use pk_plan::Plan;
 use pk_state::State;
 use pk_thresh::thresholds;
@@ -47,6 +48,41 @@ impl<'g> Model for Analysis<'g> {
     ghost view = { λ a. a.phased.equations };
 }
 
+// The analysis of a graph with these heads and exits.
+fn analysed<'g>(
+    alloc: Global,
+    graph: &'g Graph,
+    parts: Vec<Part>,
+    options: Options,
+) -> Result<Analysis<'g>, AllocError>
+    requires points { length (graph_view graph.now).points ≤ length parts.items }
+    requires few { length parts.items < 2 ^ 32 }
+    requires oct { options.oct < 2 ^ 31 }
+    ensures { IfOk result (IsFlowOf (graph_view graph.now) parts.items options) }
+{
+    graphs_law();
+    let frame = Arc::new(alloc, frame(alloc, graph, options.oct)?)?;
+    let thresholds = thresholds(alloc, graph)?;
+    let arrows = arrows(alloc, graph)?;
+    let reads = reads(alloc, &arrows, &parts)?;
+    let start = start(alloc, graph, &frame)?;
+    Ok(Analysis {
+        phased: Phased {
+            equations: Flow {
+                graph,
+                frame,
+                thresholds,
+                parts,
+                arrows,
+                reads,
+                start,
+                delay: options.delay,
+                narrow: options.narrow,
+            },
+        },
+    })
+}
+
 impl<'g> Analysis<'g> {
     /// The analysis of a graph by a plan of its digraph.
     pub fn new(
@@ -59,29 +95,34 @@ impl<'g> Analysis<'g> {
         requires oct { options.oct < 2 ^ 31 }
         ensures { IfOk result (IsAnalysisOf (graph_view graph.now) plan.now options) }
     {
-        graphs_law();
         plan.axioms();
-        let frame = Arc::new(alloc, frame(alloc, graph, options.oct)?)?;
-        let thresholds = thresholds(alloc, graph)?;
         let parts = parts(alloc, plan)?;
-        let arrows = arrows(alloc, graph)?;
-        let reads = reads(alloc, &arrows, &parts)?;
-        let start = start(alloc, graph, &frame)?;
-        Ok(Analysis {
-            phased: Phased {
-                equations: Flow {
-                    graph,
-                    frame,
-                    thresholds,
-                    parts,
-                    arrows,
-                    reads,
-                    start,
-                    delay: options.delay,
-                    narrow: options.narrow,
-                },
+        analysed(alloc, graph, parts, options)
+    }
+
+    /// The equations of a graph's points alone: no element is a head or an exit, so a run of a point gives what its
+    /// equation gives.
+    pub fn of_points(
+        alloc: Global,
+        graph: &'g Graph,
+        oct: usize,
+    ) -> Result<Analysis<'g>, AllocError>
+        requires { oct < 2 ^ 31 }
+        ensures { IfOk result (IsFlowOf (graph_view graph.now) (replicate (length (graph_view graph.now).points) Point)
+            (record { delay = 0; narrow = 0; oct = oct })) }
+    {
+        graph.well_made();
+        let parts = vec![in alloc; Part::Point; graph.points()]?;
+        analysed(
+            alloc,
+            graph,
+            parts,
+            Options {
+                delay: 0,
+                narrow: 0,
+                oct,
             },
-        })
+        )
     }
 }
 

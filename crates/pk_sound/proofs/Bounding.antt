@@ -28,21 +28,21 @@ use Rattle.pk_value.specs.Known.{Known, IsOf, IsOneOf}
 use Rattle.pk_state.specs.Layouts.{Layout, IsLayout}
 use Rattle.pk_state.specs.Facts.{Facts, AreFactsIf}
 use Rattle.pk_state.specs.Members.{Member}
+use Rattle.pk_state.specs.Reduced.{reduced}
 use Rattle.pk_state.specs.Changes.{known_in, IsValue}
 use Rattle.pk_state.proofs.Held.{facts_stay}
 use Rattle.pk_state.proofs.Sound.{states_sound}
 use Rattle.pk_transfer.specs.Trees.{tree_known, IsOver}
 use Rattle.pk_transfer.specs.Transfers.{transferred}
-use Rattle.pk_transfer.proofs.Layouting.{graphs_over}
 use Rattle.pk_verdict.specs.Verdicts.{safe_if, told_of, lies_in, excludes, result_verdict, ranged_verdict, operator_verdict, left_verdict, moved_verdict, shift_verdict, nothing_in, operation_verdict, verdict_of, IsTypedOperation}
 use Rattle.pk_sound.specs.Runs.{Reaches}
-use Rattle.pk_sound.specs.Results.{known_at_point, reduced_at_point}
+use Rattle.pk_sound.specs.Results.{known_at_point}
 use Rattle.pk_sound.specs.Bounds.{ValuesLie, NumbersLie, ResultLies, dividend, number, CountsLie, ShiftLies, count, left, shifted, IsDecidedWithin, BoundsHold}
 use Rattle.pk_sound.proofs.Accesses.{HasResult, IsShift, HasKind, IsAccess, accesses_are}
-use Rattle.pk_sound.proofs.Holding.{reached}
+use Rattle.pk_sound.specs.FamilyRuns.{FamiliesBound}
+use Rattle.pk_sound.proofs.Holding.{reached, results_are_families}
 use Rattle.pk_sound.proofs.Judging.{bounded, IsLeft, IsRightOf, exact_known, one_of, value_of_type, left_operand, right_operand}
 use Rattle.pk_sound.proofs.Padding.{pad, tree_pad, kinds_up, store_up, over_up, operation_up}
-use Rattle.pk_sound.proofs.Solving.{result_is_solved}
 
 -- ---- what tells an unknown verdict
 
@@ -249,29 +249,27 @@ module _ (g : GraphOf) (p : ℕ) (ks : Kinds) (y : Layout) (f : Facts) (over : I
       let one = told_some (known e) (λ k. safe_if (nothing_in (transferred y (Some f) (Guard e false))) k.range) lo hi v in
       values_lie e one.0 lo hi h one.1 (unknown_if (nothing_in (transferred y (Some f) (Guard e false))) one.0.range lo hi one.2)
 
-pub bounds_hold : BoundsHold
-bounds_hold g o p order a most it is access lo hi has v = by (reduced_at_point a it access.point) refl v
+pub families_bound : FamiliesBound
+families_bound g l known made_of solved access lo hi has v = by (reduced l (known access.point)) refl v
   where
-    lay : IsLayout a.layout
-    lay = subst IsLayout (sym is.analysis.layout) (graphs_over.layouts g o.oct is.oct)
-
-    over : IsOver (kinds_of g) a.layout
-    over = subst (IsOver (kinds_of g)) (sym is.analysis.layout) (graphs_over.over g o.oct)
-
     made : IsAccess g access
-    made = All-contains (IsAccess g) (accesses_of g) access (accesses_are g is.graph) has
+    made = All-contains (IsAccess g) (accesses_of g) access (accesses_are g made_of.graph) has
 
-    held : (f : Option Facts) → reduced_at_point a it access.point ≡ f → (s : Stored) → Reaches g access.point s → AreFactsIf a.layout f × Member a.layout f (pad s) × IsStore (kinds_up (kinds_of g)) (pad s)
+    held : (f : Option Facts) → reduced l (known access.point) ≡ f → (s : Stored) → Reaches g access.point s → AreFactsIf l f × Member l f (pad s) × IsStore (kinds_up (kinds_of g)) (pad s)
     held f same s run =
-        let solved = result_is_solved g o p order a most it is in
-        let at = reached g a it is.graph lay over solved access.point s run in
-        let facts = (solved access.point at.point).known in (
-          subst (AreFactsIf a.layout) same (facts_stay.reductions a.layout (known_at_point a it access.point) lay facts),
-          subst (λ (e : Option Facts). Member a.layout e (pad s)) same (states_sound.kept a.layout (known_at_point a it access.point) (pad s) lay facts at.member),
+        let at = reached g l known made_of solved access.point s run in
+        let facts = solved.facts access.point at.point in (
+          subst (AreFactsIf l) same (facts_stay.reductions l (known access.point) made_of.layout facts),
+          subst (λ (e : Option Facts). Member l e (pad s)) same (states_sound.kept l (known access.point) (pad s) made_of.layout facts at.member),
           store_up (kinds_of g) s at.store,
         )
 
-    by : (f : Option Facts) → reduced_at_point a it access.point ≡ f → verdict_of a.layout f access.operation ≡ Unknown lo hi → IsDecidedWithin g access.point access.operation lo hi
+    by : (f : Option Facts) → reduced l (known access.point) ≡ f → verdict_of l f access.operation ≡ Unknown lo hi → IsDecidedWithin g access.point access.operation lo hi
     by None same e = absurd (cc)
     by (Some f) same e =
-        decided g access.point (kinds_up (kinds_of g)) a.layout f (over_up (kinds_of g) a.layout over) lay (held (Some f) same) access.operation lo hi (operation_up (kinds_of g) access.operation made.typed) made.kind e
+        decided g access.point (kinds_up (kinds_of g)) l f (over_up (kinds_of g) l made_of.over) made_of.layout (held (Some f) same) access.operation lo hi (operation_up (kinds_of g) access.operation made.typed) made.kind e
+
+pub bounds_hold : BoundsHold
+bounds_hold g o p order a most it is =
+    let family = results_are_families g o p order a most it is in
+    families_bound g a.layout (known_at_point a it) family.laid_out family.solved

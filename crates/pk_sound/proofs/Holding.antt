@@ -1,8 +1,8 @@
--- No run leaves the result.
+-- No run leaves a solved family, and so none the result.
 use Rattle.std.proofs.Common.{◌≡◌, ◌<◌, inl, inr, ℕ, zero, suc, ap, ◌∙◌, sym, subst, refl, Option, Some, None, List, [], ◌∷◌, map, length, slice_get, slice_index_or, All, Contains, arith}
 use Rattle.std.proofs.Math.ListN.{get_or-map}
 use Rattle.std.proofs.lemmas.List.{get_or_default, length-map}
-use Rattle.std.proofs.lemmas.List.Elements.{All-head, All-tail}
+use Rattle.std.proofs.lemmas.List.Elements.{All-head, All-tail, All-map}
 use Rattle.pk_ctypes.specs.Laws.{ValuesLieInTheirType}
 use Rattle.pk_graph.specs.Graphs.{VariableOf, EdgeOf, GraphOf, no_variable, variable_at, no_point, point_at, kinds_of}
 use Rattle.pk_graph.specs.Kinds.{Kind, Kinds, kind_at, count_of}
@@ -15,7 +15,7 @@ use Rattle.pk_value.specs.Known.{IsOf}
 use Rattle.pk_linear.proofs.ListLemmas.{contains_none, contains_cases}
 use Rattle.pk_value.proofs.Sound.{value_in}
 use Rattle.pk_state.specs.Layouts.{Layout, IsLayout, chosen_at}
-use Rattle.pk_state.specs.Facts.{Facts, Stated, known_at, AreFactsIf, joined}
+use Rattle.pk_state.specs.Facts.{Facts, known_at, AreFactsIf, joined}
 use Rattle.pk_state.specs.Members.{number_if, selected, Member}
 use Rattle.pk_state.specs.Reduced.{reduced}
 use Rattle.pk_state.proofs.Held.{facts_stay}
@@ -26,21 +26,20 @@ use Rattle.pk_transfer.specs.Trees.{IsOver}
 use Rattle.pk_transfer.specs.Transfers.{transferred}
 use Rattle.pk_transfer.proofs.Keeping.{transferred_keeps}
 use Rattle.pk_transfer.proofs.Layouting.{graphs_over}
-use Rattle.pk_iterate.specs.Outcome.{Outcome}
-use Rattle.pk_phases.specs.declared.equations.Cell.{Cell}
 use Rattle.pk_analysis.specs.declared.arrows.Arrow.{Arrow}
 use Rattle.pk_analysis.specs.Arrows.{arrows_at, origins, no_edge, instr_of}
-use Rattle.pk_analysis.specs.Flows.{Flow, arrived, start_at}
 use Rattle.pk_analysis.specs.Starts.{start_facts}
 use Rattle.pk_sound.specs.Runs.{HasElements, Begins, Reaches, begins, steps}
 use Rattle.pk_sound.proofs.Padding.{pad, pad_same, numbers_at, numbers_longer, kinds_up, store_up, over_up, step_pad}
-use Rattle.pk_sound.specs.Results.{known_at_point, reduced_at_point, given_at_point}
-use Rattle.pk_sound.specs.Solved.{IsSolvedAt}
-use Rattle.pk_sound.specs.Held.{Agrees, ResultHoldsRuns}
 use Rattle.pk_sound.proofs.Arrows_at.{IsArrowTo, arrows_to, has_arrow, arrow_over}
 use Rattle.pk_sound.proofs.Begun.{start_stays, start_store, start_member}
-use Rattle.pk_sound.proofs.Facts_at.{start_at_stays}
+use Rattle.pk_sound.proofs.Facts_at.{start_at_stays, equation_stays}
 use Rattle.pk_sound.proofs.Facts_stay.{transfers_stay}
+use Rattle.pk_analysis.specs.Flows.{arrived, start_at}
+use Rattle.pk_sound.specs.Results.{known_at_point}
+use Rattle.pk_sound.specs.Held.{Agrees, ResultHoldsRuns}
+use Rattle.pk_sound.specs.Families.{given_on, IsLaidOut, AreFactsOf, IsSolved, ResultsAreFamilies}
+use Rattle.pk_sound.specs.FamilyRuns.{IsHeldBy, FamiliesHoldRuns}
 use Rattle.pk_sound.proofs.Solving.{result_is_solved}
 
 -- an edge of a point
@@ -94,46 +93,64 @@ pub values_lie : ValuesLieInTheirType
 values_lie = λ op t x y z h k e. value_in op t x y z e
 
 -- a store at a point: one of the graph's variables, and, as if arrays without elements had one, of what is known there
-pub record IsAt (g : GraphOf) (a : Flow) (it : Outcome (Cell Stated)) (v : ℕ) (s : Stored) : Type 0 where
+pub record IsAt (g : GraphOf) (l : Layout) (known : ℕ → Option Facts) (v : ℕ) (s : Stored) : Type 0 where
   pub point : v < length g.points
   pub store : IsStore (kinds_of g) s
-  pub member : Member a.layout (known_at_point a it v) (pad s)
+  pub member : Member l (known v) (pad s)
 
-module _ (g : GraphOf) (a : Flow) (it : Outcome (Cell Stated)) (made : IsGraph g) (lay : IsLayout a.layout) (over : IsOver (kinds_of g) a.layout)
-    (solved : (v : ℕ) → v < length g.points → IsSolvedAt g a it v) where
-  facts_at : (u : ℕ) → u < length g.points → AreFactsIf a.layout (known_at_point a it u)
-  facts_at u h = (solved u h).known
+-- the points where these begin
+origins_inside : (g : GraphOf) (v : ℕ) → All (λ u. u < length g.points) (origins (arrows_at g v))
+origins_inside g v = All-map (λ (u : ℕ). u < length g.points) (λ (r : Arrow). r.from) (arrows_at g v) (λ k d h. (arrows_to g v k d h).point)
+
+-- what the equations give on facts are facts
+pub given_stays : (g : GraphOf) (l : Layout) (known : ℕ → Option Facts) → IsLaidOut g l → AreFactsOf g l known → (v : ℕ) → AreFactsIf l (given_on g l known v)
+given_stays g l known made facts v =
+    equation_stays g l made.graph made.layout made.over v (map known (origins (arrows_at g v)))
+    (All-map (AreFactsIf l) known (origins (arrows_at g v)) (λ k d h. facts (slice_index_or (origins (arrows_at g v)) k d) (origins_inside g v k d h)))
+
+module _ (g : GraphOf) (l : Layout) (known : ℕ → Option Facts) (laid_out : IsLaidOut g l) (solved : IsSolved g l known) where
+  abbrev made : IsGraph g
+  made = laid_out.graph
+
+  abbrev lay : IsLayout l
+  lay = laid_out.layout
+
+  abbrev over : IsOver (kinds_of g) l
+  over = laid_out.over
+
+  abbrev facts_at : (u : ℕ) → u < length g.points → AreFactsIf l (known u)
+  facts_at = solved.facts
 
   -- what the equation gives has no other stores
-  from_given : (v : ℕ) (s : Stored) → v < length g.points → Member a.layout (given_at_point g a it v) s → Member a.layout (known_at_point a it v) s
-  from_given v s h m = let at = solved v h in states_sound.within a.layout (given_at_point g a it v) (known_at_point a it v) s at.given at.known at.below m
+  from_given : (v : ℕ) (s : Stored) → v < length g.points → Member l (given_on g l known v) s → Member l (known v) s
+  from_given v s h m = states_sound.within l (given_on g l known v) (known v) s (given_stays g l known laid_out solved.facts v) (solved.facts v h) (solved.below v h) m
 
-  begun : (s : Stored) → Begins g s → IsAt g a it 0 s
+  begun : (s : Stored) → Begins g s → IsAt g l known 0 s
   begun s b = record {
     point = made.entry;
-    store = start_store g a.layout made lay over s b;
+    store = start_store g l made lay over s b;
     member =
         from_given 0 (pad s) made.entry
-        (arrived_from g a.layout made lay over (known_at_point a it) facts_at 0 (pad s) (arrows_at g 0) (Some (start_facts g a.layout)) (arrows_to g 0) (start_stays g a.layout made lay over) (start_member g a.layout made lay over s b));
+        (arrived_from g l made lay over known facts_at 0 (pad s) (arrows_at g 0) (Some (start_facts g l)) (arrows_to g 0) (start_stays g l made lay over) (start_member g l made lay over s b));
   }
 
-  gone : (p : ℕ) (s t : Stored) (e : EdgeOf) (chosen : Numbers) → Contains (point_at g p).edges e → effect storing chosen e.instr s ≡ To t → IsAt g a it p s → IsAt g a it e.to t
+  gone : (p : ℕ) (s t : Stored) (e : EdgeOf) (chosen : Numbers) → Contains (point_at g p).edges e → effect storing chosen e.instr s ≡ To t → IsAt g l known p s → IsAt g l known e.to t
   gone p s t e chosen has goes at =
       let r : Arrow = record { from = p; edge = has.0 } in
       let is = edge_is (point_at g p).edges e has in
-      let edge : IsEdgeOf g e = subst (IsEdgeOf g) is (edge_made g a.layout made lay over (known_at_point a it) facts_at r at.point has.1) in
+      let edge : IsEdgeOf g e = subst (IsEdgeOf g) is (edge_made g l made lay over known facts_at r at.point has.1) in
       let arrow : IsArrowTo g e.to r = record { point = at.point; edge = has.1; leads = ap (λ (x : EdgeOf). x.to) is } in
-      let member = stepped g a.layout made lay over (known_at_point a it) facts_at e.to s t r e.instr chosen (ap (λ (x : EdgeOf). x.instr) is) arrow at.store at.member goes in
+      let member = stepped g l made lay over known facts_at e.to s t r e.instr chosen (ap (λ (x : EdgeOf). x.instr) is) arrow at.store at.member goes in
       record {
         point = edge.leads_to_a_point;
         store = steps_keep values_lie (kinds_of g) e.instr chosen s t edge.typed at.store goes;
         member =
             from_given e.to (pad t) edge.leads_to_a_point
-            (arrived_by g a.layout made lay over (known_at_point a it) facts_at e.to (pad t) r (arrows_at g e.to) (start_at g a.layout e.to) (arrows_to g e.to) (start_at_stays g a.layout made lay over e.to)
+            (arrived_by g l made lay over known facts_at e.to (pad t) r (arrows_at g e.to) (start_at g l e.to) (arrows_to g e.to) (start_at_stays g l made lay over e.to)
             (has_arrow g e.to p has.0 at.point has.1 (ap (λ (x : EdgeOf). x.to) is)) member);
       }
 
-  pub reached : (v : ℕ) (s : Stored) → Reaches g v s → IsAt g a it v s
+  pub reached : (v : ℕ) (s : Stored) → Reaches g v s → IsAt g l known v s
   reached v s (begins b) = begun s b
   reached v s (steps {p = p} {s = before} {e = e} chosen earlier has goes) = gone p before s e chosen has goes (reached p before earlier)
 
@@ -165,18 +182,41 @@ nothing_padded g s some st = pad_same s (λ x h.
     let count : length (numbers_of s x) ≡ count_of (variable_at g x).kind.length = st.counts x (omega (arith, inside, many)) ∙ ap (λ (k : Kind). count_of k.length) kind in
     subst (λ (n : ℕ). 0 < n) (sym count) (some x no_variable inside))
 
-pub result_holds_runs : ResultHoldsRuns
-result_holds_runs g o p order a most it is v s run =
-    let lay : IsLayout a.layout = subst IsLayout (sym is.analysis.layout) (graphs_over.layouts g o.oct is.oct) in
-    let over : IsOver (kinds_of g) a.layout = subst (IsOver (kinds_of g)) (sym is.analysis.layout) (graphs_over.over g o.oct) in
-    let solved = result_is_solved g o p order a most it is in
-    let at = reached g a it is.graph lay over solved v s run in
-    let known = (solved v at.point).known in
-    let kept = states_sound.kept a.layout (known_at_point a it v) (pad s) lay known at.member in
+pub families_hold_runs : FamiliesHoldRuns
+families_hold_runs g l known made solved v s run =
+    let at = reached g l known made solved v s run in
+    let facts = solved.facts v at.point in
+    let kept = states_sound.kept l (known v) (pad s) made.layout facts at.member in
     record {
       store = at.store;
-      known = agrees (kinds_of g) a.layout (known_at_point a it v) s lay over at.store known at.member;
-      reduced = agrees (kinds_of g) a.layout (reduced_at_point a it v) s lay over at.store (facts_stay.reductions a.layout (known_at_point a it v) lay known) kept;
-      member = λ some. subst (Member a.layout (known_at_point a it v)) (nothing_padded g s some at.store) at.member;
-      reduced_member = λ some. subst (Member a.layout (reduced_at_point a it v)) (nothing_padded g s some at.store) kept;
+      known = agrees (kinds_of g) l (known v) s made.layout made.over at.store facts at.member;
+      reduced_known = agrees (kinds_of g) l (reduced l (known v)) s made.layout made.over at.store (facts_stay.reductions l (known v) made.layout facts) kept;
+      member = λ some. subst (Member l (known v)) (nothing_padded g s some at.store) at.member;
+      reduced_member = λ some. subst (Member l (reduced l (known v))) (nothing_padded g s some at.store) kept;
+    }
+
+-- ---- the result is such a family
+
+pub results_are_families : ResultsAreFamilies
+results_are_families g o p order a most it is =
+    let at = result_is_solved g o p order a most it is in
+    record {
+      laid_out = record {
+        graph = is.graph;
+        layout = subst IsLayout (sym is.analysis.layout) (graphs_over.layouts g o.oct is.oct);
+        over = subst (IsOver (kinds_of g)) (sym is.analysis.layout) (graphs_over.over g o.oct);
+      };
+      solved = record { facts = λ v h. (at v h).known; below = λ v h. (at v h).below };
+    }
+
+pub result_holds_runs : ResultHoldsRuns
+result_holds_runs g o p order a most it is v s run =
+    let family = results_are_families g o p order a most it is in
+    let held = families_hold_runs g a.layout (known_at_point a it) family.laid_out family.solved v s run in
+    record {
+      store = held.store;
+      known = held.known;
+      reduced = held.reduced_known;
+      member = held.member;
+      reduced_member = held.reduced_member;
     }

@@ -17,3 +17,4 @@ pub mod Judging
 pub mod Failing
 pub mod Verdicts
 pub mod Bounding
+pub mod Testing

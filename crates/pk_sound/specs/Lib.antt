@@ -7,3 +7,5 @@ pub mod Held
 pub mod Verdicts
 pub mod Faults
 pub mod Bounds
+pub mod Families
+pub mod FamilyRuns

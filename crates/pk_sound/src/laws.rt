@@ -7,6 +7,8 @@ ghost use Rattle.pk_sound.specs.Held.{ResultHoldsRuns};
 ghost use Rattle.pk_sound.specs.Verdicts.{VerdictsHold};
 ghost use Rattle.pk_sound.specs.Bounds.{BoundsHold};
 ghost use Rattle.pk_sound.specs.Faults.{FaultsAreAccesses, FaultsAreUnknown};
+ghost use Rattle.pk_sound.specs.Families.{FamiliesAreTested, ResultsAreFamilies};
+ghost use Rattle.pk_sound.specs.FamilyRuns.{FamiliesHoldRuns, FamiliesJudge, FamiliesTellFaults, FamiliesBound};
 
 /// What is known after an instruction are facts of the layout, where those before it are.
 pub fn transfers_stay()
@@ -46,4 +48,34 @@ pub fn faults_are_unknown()
 /// Where the verdict on an access is unknown, what decides it lies between its bounds in every run.
 pub fn bounds_hold()
     ensures { BoundsHold }
+{}
+
+/// Facts over a graph's points solve its equations exactly if the test of the order passes at each point.
+pub fn families_are_tested()
+    ensures { FamiliesAreTested }
+{}
+
+/// The result of an analysis solves the graph's equations.
+pub fn results_are_families()
+    ensures { ResultsAreFamilies }
+{}
+
+/// No run of a graph leaves facts that solve its equations, wherever they come from.
+pub fn families_hold_runs()
+    ensures { FamiliesHoldRuns }
+{}
+
+/// No run faults at an access that is safe by such facts, and none evaluates one that is unreachable by them.
+pub fn families_judge()
+    ensures { FamiliesJudge }
+{}
+
+/// A run that faults does so at an access that such facts leave unknown, or at an index that is no access.
+pub fn families_tell_faults()
+    ensures { FamiliesTellFaults }
+{}
+
+/// Where such facts leave an access unknown, what decides it lies between the verdict's bounds in every run.
+pub fn families_bound()
+    ensures { FamiliesBound }
 {}

@@ -33,6 +33,11 @@ abbrev pub with_octagon : List Known → Option Octagon → Option Facts
 with_octagon vs None = None
 with_octagon vs (Some m) = Some (record { values = vs; octagon = m })
 
+-- another octagon
+abbrev pub with_bounds : Option Facts → Octagon → Option Facts
+with_bounds None m = None
+with_bounds (Some f) m = with_octagon f.values (Some m)
+
 -- the octagon's variable k gets V(t) + c, or any number
 abbrev pub assigned_in : Option Facts → ℕ → Option ℕ → ℤ → Option Facts
 assigned_in None k t c = None

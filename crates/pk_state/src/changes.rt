@@ -5,7 +5,7 @@ ghost use Rattle.pk_octops.specs.Guards.{IsGuard};
 ghost use Rattle.pk_state.specs.Layouts.{type_at, place_in};
 ghost use Rattle.pk_state.specs.Facts.{AreFactsIf};
 ghost use Rattle.pk_value.specs.Laws.{IsTight};
-ghost use Rattle.pk_state.specs.Changes.{IsValue, IsApart, known_in, bound_in, with_known, assigned_in, guarded_in};
+ghost use Rattle.pk_state.specs.Changes.{IsValue, IsApart, known_in, bound_in, with_known, with_bounds, assigned_in, guarded_in};
 
 use crate::facts::Facts;
 use crate::frame::Frame;
@@ -13,7 +13,8 @@ use crate::marks::{is_tight, put_marked};
 use crate::octagons::{is_obeyed, shared};
 use crate::state::State;
 use pk_ctypes::IntType;
-use pk_octmat::Shape;
+use pk_octmarks::Mark;
+use pk_octmat::{Matrix, Shape};
 use pk_octops::{assign, guard};
 use pk_value::Value;
 use std::alloc::{AllocError, Global};
@@ -60,6 +61,25 @@ fn write_if(
                 mark: facts.mark,
             }))
         }
+    }
+}
+
+// Another octagon, of which nothing else is known.
+fn bounds_if(
+    alloc: Global,
+    facts: Option<Facts>,
+    octagon: Matrix,
+) -> Result<Option<Facts>, AllocError>
+    ensures { IfOk result (λ f. f ≡ with_bounds facts octagon) }
+{
+    match facts {
+        None => Ok(None),
+        Some(facts) => Ok(Some(Facts {
+            octagon: Arc::new(alloc, octagon)?,
+            values: facts.values,
+            loose: facts.loose,
+            mark: Mark::Unknown,
+        })),
     }
 }
 
@@ -231,6 +251,20 @@ impl State {
             frame: self.frame,
             facts,
             settled,
+        })
+    }
+
+    /// The same, but for the octagon.
+    pub fn with_bounds(self, alloc: Global, octagon: Matrix) -> Result<State, AllocError>
+        requires { octagon.vars ≡ length self.layout.chosen }
+        ensures { IfOk result (λ s. s ≡ record { layout = self.layout; facts = with_bounds self.facts octagon }) }
+    {
+        octagon.is_octagon();
+        let facts = bounds_if(alloc, self.facts, octagon)?;
+        Ok(State {
+            frame: self.frame,
+            facts,
+            settled: false,
         })
     }
 

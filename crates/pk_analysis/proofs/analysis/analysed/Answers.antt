@@ -1,4 +1,4 @@
-use Rattle.std.proofs.Common.{◌∙◌, List, sym, subst, arith}
+use Rattle.std.proofs.Common.{◌∙◌, List, sym, subst}
 use Rattle.pk_graph.specs.Graphs.{kinds_of}
 use Rattle.pk_graph.specs.Shown.{graph_view}
 use Rattle.pk_transfer.specs.Trees.{IsOver}
@@ -7,7 +7,7 @@ use Rattle.std.specs.Global.{Vec}
 use Rattle.pk_analysis.specs.declared.arrows.Arrow.{Arrow}
 use Rattle.pk_analysis.specs.Arrows.{rows_of}
 use Rattle.pk_analysis.specs.Reading.{AreReads}
-use Rattle.pk_analysis.proofs.analysis.Analysis.new.Goals as goal
+use Rattle.pk_analysis.proofs.analysis.analysed.Goals as goal
 
 pub invariant_of-result : goal.invariant_of-result
 invariant_of-result c =
@@ -15,7 +15,7 @@ invariant_of-result c =
     let layout = c.in_ok-frame-2.ensures.ok ∙ c.in_ok-frame.ensures in
     record {
       over = subst (IsOver (kinds_of g)) (sym layout) (c.graphs_law.ensures.over g c.args.options.oct);
-      enough = omega (arith, c.in_ok-parts.ensures.size, c.axioms.ensures.axioms.counted, c.requires.plan);
+      enough = c.requires.points;
       rising = c.in_ok-thresholds.ensures.sorted;
       arrows_are = c.in_ok-arrows.ensures;
       reads_are = subst (λ (ps : List Part). AreReads (rows_of c.in_ok-arrows.arrows.items) ps (rows_of c.in_ok-reads.reads.items)) c.deref-2.ensures.value
