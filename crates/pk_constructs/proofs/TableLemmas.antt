@@ -122,10 +122,6 @@ module _ (last : Option Kind) (InBraces : Type 0) (in_braces : Bool) where
   found_typedef true c h e = let g : construct.Typedef ≡ c = cc in subst (λ d. Shows last InBraces (kind.Keyword key.Typedef) d) g (refl, h refl)
   found_typedef false c h e = absurd (cc)
 
-  found_static : (b : Bool) (c : Construct) → (b ≡ true → InBraces) → word_shows key.Static b ≡ Some c → Shows last InBraces (kind.Keyword key.Static) c
-  found_static true c h e = let g : construct.Static ≡ c = cc in subst (λ d. Shows last InBraces (kind.Keyword key.Static) d) g (refl, h refl)
-  found_static false c h e = absurd (cc)
-
   found_word : (k : Keyword) (c : Construct) → (in_braces ≡ true → InBraces) → word_shows k in_braces ≡ Some c → Shows last InBraces (kind.Keyword k) c
   found_word key.Auto c h e = shown (kind.Keyword key.Auto) construct.Auto c e refl
   found_word key.Double c h e = shown (kind.Keyword key.Double) construct.Double c e refl
@@ -135,7 +131,7 @@ module _ (last : Option Kind) (InBraces : Type 0) (in_braces : Bool) where
   found_word key.Register c h e = shown (kind.Keyword key.Register) construct.Register c e refl
   found_word key.Restrict c h e = shown (kind.Keyword key.Restrict) construct.Restrict c e refl
   found_word key.Sizeof c h e = shown (kind.Keyword key.Sizeof) construct.Sizeof c e refl
-  found_word key.Static c h e = found_static in_braces c h e
+  found_word key.Static c h e = absurd (cc)
   found_word key.Struct c h e = shown (kind.Keyword key.Struct) construct.Struct c e refl
   found_word key.Typedef c h e = found_typedef in_braces c h e
   found_word key.Union c h e = shown (kind.Keyword key.Union) construct.Union c e refl
@@ -186,7 +182,7 @@ module _ (last : Option Kind) (InBraces : Type 0) (in_braces : Bool) where
   designator_finds (Some k) h = elim h [ inl e ↦ ap (λ q. opening_shows (before_of q)) e | inr e ↦ ap (λ q. opening_shows (before_of q)) e ]
 
   pub finds : (k : Kind) (c : Construct) → (InBraces → in_braces ≡ true) → Shows last InBraces k c → kind_shows (before_next last) in_braces k ≡ Some c
-  finds k construct.Static h s = ap (λ q. kind_shows (before_next last) in_braces q) s.0 ∙ ap (λ q. word_shows key.Static q) (h s.1)
+  finds k construct.Static h s = absurd s
   finds k construct.Typedef h s = ap (λ q. kind_shows (before_next last) in_braces q) s.0 ∙ ap (λ q. word_shows key.Typedef q) (h s.1)
   finds k construct.Pointer h s = elim s.0 [
     | inl e ↦ ap (λ q. kind_shows (before_next last) in_braces q) e ∙ star_finds last s.1

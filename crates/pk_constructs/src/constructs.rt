@@ -67,7 +67,6 @@ fn word_shows(word: Keyword, in_braces: bool) -> Option<Construct>
         Keyword::GnuExtension => Some(Construct::GnuExtension),
         Keyword::GnuInline => Some(Construct::GnuInline),
         Keyword::GnuRestrict => Some(Construct::GnuRestrict),
-        Keyword::Static if in_braces => Some(Construct::Static),
         Keyword::Typedef if in_braces => Some(Construct::Typedef),
         _ => None,
     }

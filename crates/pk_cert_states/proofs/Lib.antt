@@ -1,0 +1,5 @@
+mod Fours
+mod Filling
+mod Variables
+mod Writing
+mod Reading

@@ -1,0 +1,75 @@
+-- Values that are pushed and written one after another.
+use Rattle.std.specs.Prelude.{◌≡◌, ℕ, suc, ◌+◌, ◌<◌, List, [], ◌∷◌, ◌++◌, length, take, slice_index_or, slice_set, Option, Some}
+use Rattle.std.proofs.Common.{arith, refl, sym, ap, subst, ◌∙◌, inl, inr}
+use Rattle.std.proofs.Math.Seq.{take-length, take-suc, take-suc-set, get_or-append_seam}
+use Rattle.std.proofs.lemmas.Bool.{cases_eq}
+use Rattle.std.proofs.lemmas.List.{length-append, length-set, length-map, get_or_append_left}
+use Rattle.pk_ctypes.specs.declared.types.IntType.TheVariants.{Int}
+use Rattle.pk_graph.specs.Kinds.{Kinds, type_at}
+use Rattle.pk_octmat.specs.Octagon.{Octagon}
+use Rattle.pk_value.specs.Known.{Known, any_of}
+use Rattle.pk_state.specs.Layouts.{Layout}
+use Rattle.pk_state.specs.Facts.{Facts, Stated, top_facts}
+use Rattle.pk_state.specs.Changes.{IsValue, with_known, with_bounds}
+use Rattle.pk_cert_states.specs.Parts.{known_at, AreIn}
+
+-- ---- pushed
+
+pub record AreInTo (ks : Kinds) (vs : List Known) (n : ℕ) : Type 0 where
+  pub size : length vs ≡ n
+  pub each : (x : ℕ) → x < n → IsValue (type_at ks x) (known_at vs x)
+
+pub pushed : (ks : Kinds) (vs : List Known) (n : ℕ) (v : Known) → AreInTo ks vs n → IsValue (type_at ks n) v → AreInTo ks (vs ++ v ∷ []) (n + 1)
+pushed ks vs n v h is = record {
+  size = omega (arith, length-append vs (v ∷ []), h.size);
+  each = λ x p. elim (cases_eq x n) [
+    | inl s ↦
+        let last : known_at (vs ++ v ∷ []) x ≡ v = ap (λ k. slice_index_or (vs ++ v ∷ []) k (any_of Int)) (s ∙ sym h.size) ∙ get_or-append_seam vs v [] (any_of Int) in
+        subst (λ (k : Known). IsValue (type_at ks x) k) (sym last) (subst (λ (k : ℕ). IsValue (type_at ks k) v) (sym s) is)
+    | inr s ↦
+        let q : x < n = omega (arith, p, s) in
+        subst (λ (k : Known). IsValue (type_at ks x) k) (sym (get_or_append_left vs (v ∷ []) (any_of Int) x (omega (arith, q, h.size)))) (h.each x q)
+  ];
+}
+
+pub pushed_all : (ks : Kinds) (vs : List Known) (n : ℕ) → AreInTo ks vs n → n ≡ length ks → AreIn ks vs
+pushed_all ks vs n h e = record { size = h.size ∙ e; each = λ x p. h.each x (omega (arith, p, e)) }
+
+-- ---- written
+
+-- the first x of the values of the state's facts are these
+pub record IsWrittenTo (l : Layout) (vs : List Known) (x : ℕ) (s : Stated) : Type 0 where
+  pub layout : s.layout ≡ l
+  pub facts : Facts
+  pub is : s.facts ≡ Some facts
+  pub size : length facts.values ≡ length vs
+  pub same : take x facts.values ≡ take x vs
+
+pub written_none : (l : Layout) (vs : List Known) (s : Stated) → length vs ≡ length l.types → s ≡ record { layout = l; facts = Some (top_facts l) } → IsWrittenTo l vs 0 s
+written_none l vs s size e = record {
+  layout = ap (λ (z : Stated). z.layout) e;
+  facts = top_facts l;
+  is = ap (λ (z : Stated). z.facts) e;
+  size = length-map l.types any_of ∙ sym size;
+  same = refl;
+}
+
+pub written_on : (l : Layout) (vs : List Known) (x : ℕ) (s t : Stated) (v : Known) → IsWrittenTo l vs x s → x < length vs → v ≡ known_at vs x → t ≡ record { layout = s.layout; facts = with_known s.facts x v } → IsWrittenTo l vs (x + 1) t
+written_on l vs x s t v h p q e = record {
+  layout = ap (λ (z : Stated). z.layout) e ∙ h.layout;
+  facts = record { values = slice_set h.facts.values x v; octagon = h.facts.octagon };
+  is = ap (λ (z : Stated). z.facts) e ∙ ap (λ (f : Option Facts). with_known f x v) h.is;
+  size = length-set h.facts.values x v ∙ h.size;
+  same =
+      let step : x + 1 ≡ suc x = omega arith in
+      ap (λ n. take n (slice_set h.facts.values x v)) step ∙ take-suc-set h.facts.values x v (omega (arith, p, h.size)) ∙ ap (λ (r : List Known). r ++ v ∷ []) h.same ∙ ap (λ (w : Known). take x vs ++ w ∷ []) q
+      ∙ sym (ap (λ n. take n vs) step ∙ take-suc vs x (any_of Int) p);
+}
+
+pub written_all : (l : Layout) (vs : List Known) (x : ℕ) (s t : Stated) (m : Octagon) → IsWrittenTo l vs x s → x ≡ length vs → t ≡ record { layout = s.layout; facts = with_bounds s.facts m }
+    → t ≡ record { layout = l; facts = Some (record { values = vs; octagon = m }) }
+written_all l vs x s t m h e is =
+    let all : h.facts.values ≡ vs = sym (take-length h.facts.values) ∙ ap (λ n. take n h.facts.values) (h.size ∙ sym e) ∙ h.same ∙ ap (λ n. take n vs) e ∙ take-length vs in
+    is ∙ ap (λ (f : Option Facts). let z : Stated = record { layout = s.layout; facts = with_bounds f m } in z) h.is
+    ∙ ap (λ (y : Layout). let z : Stated = record { layout = y; facts = Some (record { values = h.facts.values; octagon = m }) } in z) h.layout
+    ∙ ap (λ (ws : List Known). let z : Stated = record { layout = l; facts = Some (record { values = ws; octagon = m }) } in z) all

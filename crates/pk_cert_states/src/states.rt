@@ -1,0 +1,174 @@
+// The state of a line.
+
+ghost use Rattle.std.specs.Prelude.{◌≡◌, ◌<◌, ℕ, IfOk, MatchOption, Some, List, Option, length, map};
+ghost use Rattle.std.specs.Arc.{arc_value};
+ghost use Rattle.pk_value.specs.Known.{Known};
+ghost use Rattle.pk_octmat.specs.Octagon.{Octagon};
+ghost use Rattle.pk_graph.specs.Graphs.{kinds_of};
+ghost use Rattle.pk_graph.specs.Kinds as kinds;
+ghost use Rattle.pk_graph.specs.Shown.{graph_view};
+ghost use Rattle.pk_state.specs.Layouts.{type_at};
+ghost use Rattle.pk_state.specs.Changes.{IsValue};
+ghost use Rattle.pk_state.specs.Facts.{Facts, AreFacts, AreFactsIf};
+ghost use Rattle.pk_transfer.specs.Graphs.{layout_of};
+ghost use Rattle.pk_cert.specs.Rows.{kept, kept_line, row_view};
+ghost use Rattle.pk_cert_states.specs.Lines.{symbols_of, line_of};
+ghost use Rattle.pk_cert_states.specs.Parts.{kinds_in, AreIn, AreBoundsOf, IsBounded, IsRead, AreAllFirst, AreAllRead, known_at};
+
+use crate::bounds::octagon;
+use crate::values::fill;
+use pk_cert::{Row, Symbol};
+use pk_congr::reduced_law;
+use pk_ctypes::IntType;
+use pk_graph::{Graph, Variable};
+use pk_interval::{ordered_law, types_law};
+use pk_octmat::Matrix;
+use pk_state::{Frame, State};
+use pk_value::Value;
+use std::alloc::{AllocError, Global};
+use std::sync::Arc;
+
+// Any number of a type.
+fn any_in(t: IntType) -> Value
+    ensures { IsValue t result }
+{
+    let value = Value::any(t);
+    types_law();
+    ordered_law(&value.interval);
+    reduced_law(&value.congr);
+    value
+}
+
+// Any number of a variable's type.
+fn any_of(variables: &[Variable], x: usize) -> Value
+    requires { x < length variables.now }
+    ensures { IsValue (kinds.type_at (kinds_in variables.now) x) result }
+{
+    any_in(variables[x].int_type)
+}
+
+// Any number of each variable's type.
+fn any_values(alloc: Global, variables: &[Variable]) -> Result<Vec<Value>, AllocError>
+    ensures { IfOk result (λ vs. AreIn (kinds_in variables.now) vs.items) }
+{
+    let mut values = Vec::with_capacity(alloc, variables.len())?;
+    for x in 0..variables.len() {
+        values.push(any_of(variables, x))?;
+    }
+    Ok(values)
+}
+
+// Gives the variables the values of which the first symbols are the numbers, and answers the symbols behind them, if they are such.
+fn read_values<'s>(
+    values: &mut Vec<Value>,
+    variables: &[Variable],
+    symbols: &'s [Symbol],
+) -> Option<&'s [Symbol]>
+    requires { AreIn (kinds_in variables.now) values.old.items }
+    ensures { MatchOption result ((vs : List Known) → AreAllFirst (kinds_in variables.now) symbols.now vs → ⊥)
+        (λ rest. AreAllRead (kinds_in variables.now) symbols.now rest.now values.new.items) }
+{
+    match fill(values, variables, symbols, false) {
+        None => None,
+        Some(rest) => match fill(values, variables, rest, true) {
+            None => None,
+            Some(behind) => Some(behind),
+        },
+    }
+}
+
+// The state with these values and this octagon.
+fn with_facts(
+    alloc: Global,
+    frame: &Arc<Frame>,
+    values: &[Value],
+    octagon: Matrix,
+) -> Result<State, AllocError>
+    requires size { length values.now ≡ length (arc_value frame.now).types }
+    requires values { (x : ℕ) → x < length values.now →
+        IsValue (type_at (arc_value frame.now) x) (known_at values.now x) }
+    requires octagon { octagon.vars ≡ length (arc_value frame.now).chosen }
+    ensures { IfOk result (λ s. s ≡ record {
+      layout = arc_value frame.now;
+      facts = Some (record { values = values.now; octagon = octagon });
+    }) }
+{
+    let mut state = State::top(alloc, Arc::try_clone(frame)?)?;
+    for x in 0..values.len() {
+        state = state.with_value(alloc, x, values[x])?;
+    }
+    state.with_bounds(alloc, octagon)
+}
+
+// The state with these values and the octagon of which the symbols are the bounds, if there is one.
+fn bounded(
+    alloc: Global,
+    frame: &Arc<Frame>,
+    values: &[Value],
+    symbols: &[Symbol],
+) -> Result<Option<State>, AllocError>
+    requires size { length values.now ≡ length (arc_value frame.now).types }
+    requires values { (x : ℕ) → x < length values.now →
+        IsValue (type_at (arc_value frame.now) x) (known_at values.now x) }
+    ensures { IfOk result (λ o. MatchOption o
+        ((m : Octagon) → AreBoundsOf (length (arc_value frame.now).chosen) symbols.now m → ⊥)
+        (IsBounded (arc_value frame.now) values.now symbols.now)) }
+{
+    frame.is_layout();
+    let n = frame.octagon_len();
+    let d = 2 * n;
+    if symbols.len() != d * d {
+        return Ok(None);
+    }
+    match octagon(alloc, symbols, n as u32)? {
+        None => Ok(None),
+        Some(octagon) => Ok(Some(with_facts(alloc, frame, values, octagon)?)),
+    }
+}
+
+// The state of the symbols of a line.
+fn of_symbols(
+    alloc: Global,
+    graph: &Graph,
+    frame: &Arc<Frame>,
+    symbols: &[Symbol],
+) -> Result<Option<State>, AllocError>
+    requires { (oct : ℕ) × (arc_value frame.now ≡ layout_of (graph_view graph.now) oct) }
+    ensures { IfOk result (λ o. MatchOption o
+        ((f : Facts) → AreFacts (arc_value frame.now) f →
+        symbols.now ≡ map kept (symbols_of (kinds_of (graph_view graph.now)) f) → ⊥)
+        (IsRead (kinds_of (graph_view graph.now)) (arc_value frame.now) symbols.now)) }
+{
+    let variables = graph.variables();
+    let mut values = any_values(alloc, variables)?;
+    match read_values(&mut values, variables, symbols) {
+        None => Ok(None),
+        Some(rest) => {
+            let found = bounded(alloc, frame, &values, rest)?;
+            match found {
+                None => Ok(None),
+                Some(state) => Ok(Some(state)),
+            }
+        }
+    }
+}
+
+/// The state of which a line tells, over the frame of the graph; none where it tells of none: a range isn't in its type or has no number, a class isn't
+/// reduced, or the bounds are no octagon's.
+pub fn state_of(
+    alloc: Global,
+    graph: &Graph,
+    frame: &Arc<Frame>,
+    row: &Row,
+) -> Result<Option<State>, AllocError>
+    requires { (oct : ℕ) × (arc_value frame.now ≡ layout_of (graph_view graph.now) oct) }
+    ensures { let ks = kinds_of (graph_view graph.now) in IfOk result (λ o. MatchOption o
+        ((f : Option Facts) → AreFactsIf (arc_value frame.now) f →
+        row_view row.now ≡ kept_line (line_of ks f) → ⊥)
+        (λ s. (s.layout ≡ arc_value frame.now) × (row_view row.now ≡ kept_line (line_of ks s.facts)))) }
+{
+    match row {
+        Row::Bottom => Ok(Some(State::bottom(Arc::try_clone(frame)?))),
+        Row::Symbols(symbols) => of_symbols(alloc, graph, frame, symbols),
+    }
+}
