@@ -309,7 +309,7 @@ read_no_items = record { reads = λ b q same ms close rest h e. record { state =
 step_declaration : (b : OpenBlock) (t : Token) (w : SpecifierWord) → specifier_word t ≡ Some w → step (block_item b) t ≡ taken (block_nesting b) (after_specifiers (in_a_block b None) (one (specifier_at t w)))
 step_declaration b t w e = ap (λ w. declaration_or_statement b t w) e
 
-step_static : (b : OpenBlock) (at : Pos) (t : Token) → IsKeyword key.Static at t → step (block_item b) t ≡ taken (block_nesting b) (after_static b at)
+pub step_static : (b : OpenBlock) (at : Pos) (t : Token) → IsKeyword key.Static at t → step (block_item b) t ≡ taken (block_nesting b) (after_static b at)
 step_static b at t e = rw (e.0, e.1)
 
 read_declared_then : (s : Option Pos) (d : DeclarationTree) (items : ItemTrees) → ItemsRead items → (b : OpenBlock) (q : State) →
