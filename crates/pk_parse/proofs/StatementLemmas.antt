@@ -1,17 +1,16 @@
 -- What is answered from a statement on that has statements in it.
-use Rattle.std.proofs.Common.{◌≡◌, ◌≢◌, ℕ, ◌+◌, ◌<◌, ◌≤◌, List, [], ◌∷◌, ◌++◌, length, Option, Some, None, Result, MatchResult, Bool, true, false, refl, sym, ap, subst, ◌∙◌, arith}
+use Rattle.std.proofs.Common.{◌≡◌, ◌≢◌, ℕ, ◌+◌, ◌<◌, ◌≤◌, List, [], ◌∷◌, ◌++◌, length, Option, Some, Result, MatchResult, Bool, true, false, refl, sym, ap, subst, ◌∙◌, arith}
 use Rattle.std.specs.Prelude.{if◌then◌else◌}
 use Rattle.std.proofs.lemmas.Result.{MatchResult-weaker}
 use Rattle.pk_ctypes.specs.declared.places.Pos.{Pos}
 use Rattle.pk_lex.specs.declared.token.Token.{Token}
 use Rattle.pk_lex.specs.declared.token.Kind.{Kind}
-use Rattle.pk_ast.specs.declared.declarations.Specifier.{Specifier}
 use Rattle.pk_ast.specs.declared.expressions.Identifier.{Identifier}
 use Rattle.pk_ast.specs.declared.expressions.Expression.{Expression}
 use Rattle.pk_ast.specs.declared.expressions.Expression.TheVariants.{Name, Call', Index', Constant, Character, Parenthesized', Postfix', Prefix', Unary', Cast', Binary', Conditional', Assignment', Comma'}
 use Rattle.pk_ast.specs.declared.statements.BlockItem.{BlockItem}
-use Rattle.pk_ast.specs.Trees.{ExpressionTree, name, DeclarationTree, ForStartTree, StatementTree, block, label, case, default, if_then, if_else, switch, while, do_while, for_loop, expression_statement, ItemTrees, no_items, declaration_then, statement_then}
-use Rattle.pk_ast.specs.Lists.{append_items, one}
+use Rattle.pk_ast.specs.Trees.{ExpressionTree, name, ForStartTree, StatementTree, block, label, case, default, if_then, if_else, switch, while, do_while, for_loop, expression_statement, ItemTrees, no_items, declaration_then, statement_then}
+use Rattle.pk_ast.specs.Lists.{append_items}
 use Rattle.pk_ast.specs.Views.{expression_tree, item_trees}
 use Rattle.pk_ast.proofs.ListLemmas.{append_items-none, append_items_assoc, item_trees-push}
 use Rattle.pk_grammar.specs.declared.failure.ParseError.{ParseError}
@@ -25,17 +24,17 @@ use Rattle.pk_grammar.specs.declared.signs.Operator.{Operator}
 use Rattle.pk_grammar.specs.declared.signs.Operator.TheVariants as operator
 use Rattle.pk_grammar.specs.declared.signs.StatementStart.{StatementStart}
 use Rattle.pk_grammar.specs.declared.signs.StatementStart.TheVariants as first
-use Rattle.pk_grammar.specs.Machine.Signs.{is_fixed, operand_start, operator_of, specifier_in, specifier_word, statement_start}
-use Rattle.pk_grammar.specs.Machine.States.{Context, OpenBlock, function_block, inner_block, Outer, in_block, in_label, in_case, in_default, in_if, in_else, in_switch, in_while, in_do, in_for, in_a_block, Purpose, as_statement, as_label, as_test, as_last_test, as_whole, State, after_specifiers, block_item, at_statement, after_statement, test_open, do_open, for_open, for_first, default_colon, statement_end, operand, complete}
-use Rattle.pk_grammar.specs.Machine.Steps.{taken, refused, wanted, reduced, go_on, begin_operand, labelled, tested, one_more_statement, one_more_declaration, block_nesting, with_statement, with_declaration, begin_statement, declaration_or_statement, end_block, resume, step}
+use Rattle.pk_grammar.specs.Machine.Signs.{is_fixed, operand_start, operator_of, specifier_in, statement_start}
+use Rattle.pk_grammar.specs.Machine.States.{Context, OpenBlock, function_block, inner_block, Outer, in_block, in_label, in_case, in_default, in_if, in_else, in_switch, in_while, in_do, in_for, Purpose, as_statement, as_label, as_test, as_last_test, as_whole, State, block_item, at_statement, after_statement, test_open, do_open, for_open, for_first, default_colon, statement_end, operand, complete}
+use Rattle.pk_grammar.specs.Machine.Steps.{taken, refused, wanted, reduced, go_on, begin_operand, labelled, tested, one_more_statement, block_nesting, with_statement, begin_statement, declaration_or_statement, end_block, resume, step}
 use Rattle.pk_grammar.specs.Machine.Running.{first_of_all, run, Fails}
-use Rattle.pk_parse_expression.specs.Parsing.{Begins, BeginsWithWord, follows, EndsAt, UpTo, Reads, Refuses}
+use Rattle.pk_parse_expression.specs.Parsing.{Begins, follows, EndsAt, UpTo, Reads, Refuses}
 use Rattle.pk_grammar.proofs.CompleteSigns.{strength_least}
 use Rattle.pk_grammar.proofs.CompleteOperands.{same_false, same_true}
 use Rattle.pk_grammar.proofs.SpellsSigns.{is_this}
 use Rattle.pk_parse_expression.proofs.RunLemmas.{run_takes, run_deep, run_refused, run_alike, first_is, fails_as, fails_syntax, fails_nesting}
 use Rattle.pk_parse.specs.Parts.{IsTest, with_items, BeginsNoDeclaration, IsNewBlock, after_function, after_block}
-use Rattle.pk_parse.proofs.RunStatements.{run_wanted, deep_wanted, fails_wanted, step_ends, run_word}
+use Rattle.pk_parse.proofs.RunStatements.{run_wanted, deep_wanted, fails_wanted, step_ends}
 
 no_other_test : (k : Testing) → k ≢ testing.If → k ≢ testing.Switch → k ≡ testing.While
 no_other_test testing.If f g = absurd (f refl)

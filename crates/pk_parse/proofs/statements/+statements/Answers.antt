@@ -7,7 +7,7 @@ use Rattle.pk_grammar.specs.declared.signs.Fixed.TheVariants as fixed
 use Rattle.pk_grammar.specs.declared.signs.OperandStart.TheVariants as start
 use Rattle.pk_grammar.specs.declared.signs.StatementStart.TheVariants as first
 use Rattle.pk_grammar.specs.Machine.Signs.{is_fixed, operand_start, statement_start}
-use Rattle.pk_grammar.specs.Machine.States.{inner_block, in_block, in_label, in_case, in_default, in_if, in_else, in_do, in_for, in_a_block, as_label, as_whole, block_item, at_statement, after_statement, test_open, for_open, default_colon, goto_name, returning, statement_end, operand}
+use Rattle.pk_grammar.specs.Machine.States.{inner_block, in_block, in_label, in_case, in_default, in_if, in_else, in_do, in_for, as_label, as_whole, block_item, at_statement, after_statement, test_open, for_open, default_colon, goto_name, returning, statement_end, operand}
 use Rattle.pk_grammar.specs.Machine.Steps.{tested}
 use Rattle.pk_grammar.specs.Machine.Running.{run}
 use Rattle.pk_parse_expression.proofs.RunLemmas.{passed, fails_as}
