@@ -95,7 +95,7 @@ fn write_index_words(
     name: &[u8],
     index: &[u8],
 ) -> Result<(), AllocError>
-    ensures { OnOk result (bytes.new.items ≡ bytes.old.items ++ messages.index_words messages.is_element name.now index.now) }
+    ensures { OnOk result (bytes.new.items ≡ bytes.old.items ++ messages.index_words is_element name.now index.now) }
 {
     if is_element {
         write_element(bytes, name, index)
@@ -126,7 +126,7 @@ fn is_quotient(text: &Text<'_>, at: Pos) -> bool
 }
 
 fn overflow_words(is_quotient: bool) -> &'static [u8]
-    ensures { result.now ≡ messages.overflow_words messages.is_quotient }
+    ensures { result.now ≡ messages.overflow_words is_quotient }
 {
     if is_quotient {
         b"the quotient may not fit its type: the divisor may be -1, and the dividend lies in "

@@ -1,8 +1,8 @@
 pub mod PieceLemmas
 mod AccessLemmas
-mod ToldLemmas
-mod LineLemmas
-mod PathLemmas
-mod RowLemmas
-mod RowsToldLemmas
-mod ReportLemmas
+pub mod ToldLemmas
+pub mod LineLemmas
+pub mod PathLemmas
+pub mod RowLemmas
+pub mod RowsToldLemmas
+pub mod ReportLemmas

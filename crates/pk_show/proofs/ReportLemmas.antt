@@ -21,7 +21,7 @@ use Rattle.pk_show.proofs.ToldLemmas.{steps, passed}
 
 -- ---- row by row
 
-next_read : (before : Option Kind) (r : Row) → IsRow r → may_stand before (kind_of r) ≡ true → next_in before (row_text r) ≡ Some r
+pub next_read : (before : Option Kind) (r : Row) → IsRow r → may_stand before (kind_of r) ≡ true → next_in before (row_text r) ≡ Some r
 unfolding next_in fits
 next_read before r h m = rw (row_read r h, m, row_has_path r h) refl
 
@@ -38,11 +38,11 @@ rows_read (r ∷ rows) before all order =
 -- ---- lines
 
 -- the lines of a text that begins with a line
-line_first : (line rest : List ℕ) → lacks 10 line ≡ true → lines_of ((line ++ codes "\n") ++ rest) ≡ line ∷ lines_of rest
+pub line_first : (line rest : List ℕ) → lacks 10 line ≡ true → lines_of ((line ++ codes "\n") ++ rest) ≡ line ∷ lines_of rest
 line_first line rest h =
     ap lines_of (append_assoc line (codes "\n") rest) ∙ slice_split_at (λ b. b == 10) line 10 rest (none_of 10 line h) refl
 
-lines_are : (rows : List Row) → All IsRow rows → lines_of (rows_text rows) ≡ map row_text rows ++ ([] ∷ [])
+pub lines_are : (rows : List Row) → All IsRow rows → lines_of (rows_text rows) ≡ map row_text rows ++ ([] ∷ [])
 lines_are [] all = refl
 lines_are (r ∷ rows) all =
     line_first (row_text r) (rows_text rows) (row_whole r (All-head IsRow r rows all))
@@ -54,13 +54,13 @@ ended_of pieces = take (length pieces - 1) pieces
 abbrev pub behind_of : List (List ℕ) → List ℕ
 behind_of pieces = slice_index_or pieces (length pieces - 1) []
 
-ended_read : (lines : List (List ℕ)) → ended_of (lines ++ ([] ∷ [])) ≡ lines
+pub ended_read : (lines : List (List ℕ)) → ended_of (lines ++ ([] ∷ [])) ≡ lines
 ended_read lines =
     let size : length (lines ++ ([] ∷ [])) ≡ length lines + 1 = length-append lines ([] ∷ []) in
     let less : length (lines ++ ([] ∷ [])) - 1 ≡ length lines = omega (arith, size) in
     ap (λ (n : ℕ). take n (lines ++ ([] ∷ []))) less ∙ take-append_seam lines ([] ∷ [])
 
-behind_read : (lines : List (List ℕ)) → behind_of (lines ++ ([] ∷ [])) ≡ []
+pub behind_read : (lines : List (List ℕ)) → behind_of (lines ++ ([] ∷ [])) ≡ []
 behind_read lines =
     let size : length (lines ++ ([] ∷ [])) ≡ length lines + 1 = length-append lines ([] ∷ []) in
     let less : length lines ≡ length (lines ++ ([] ∷ [])) - 1 = omega (arith, size) in
@@ -74,14 +74,14 @@ report_read rows h =
 
 -- ---- what is read as rows is their text
 
-next_told : (before : Option Kind) (line : List ℕ) (r : Row) → next_in before line ≡ Some r → line ≡ row_text r
+pub next_told : (before : Option Kind) (line : List ℕ) (r : Row) → next_in before line ≡ Some r → line ≡ row_text r
 unfolding next_in
 next_told before line r e =
     let s = steps (row_in line) _ r e in
     let both = passed (fits before s.first) s.first r s.then_gave in
     row_told line s.first s.gave ∙ ap row_text both.1
 
-rows_told : (lines : List (List ℕ)) (before : Option Kind) (rows : List Row) → rows_in lines before ≡ Some rows → lines ≡ map row_text rows
+pub rows_told : (lines : List (List ℕ)) (before : Option Kind) (rows : List Row) → rows_in lines before ≡ Some rows → lines ≡ map row_text rows
 rows_told [] before rows e = let both = passed (is_end before) [] rows e in ap (map row_text) both.1
 rows_told (line ∷ lines) before rows e =
     let s = steps (next_in before line) _ rows e in
@@ -90,13 +90,13 @@ rows_told (line ∷ lines) before rows e =
     ∙ ap (λ (ls : List (List ℕ)). row_text s.first ∷ ls) (rows_told lines (Some (kind_of s.first)) rest.value rest.is)
     ∙ ap (map row_text) rest.made
 
-joined : (rows : List Row) → join_with_byte 10 (map row_text rows ++ ([] ∷ [])) ≡ rows_text rows
+pub joined : (rows : List Row) → join_with_byte 10 (map row_text rows ++ ([] ∷ [])) ≡ rows_text rows
 joined [] = refl
 joined (r ∷ []) = sym (append_assoc (row_text r) (codes "\n") [])
 joined (r ∷ s ∷ rows) =
     ap (λ (l : List ℕ). row_text r ++ (10 ∷ l)) (joined (s ∷ rows)) ∙ sym (append_assoc (row_text r) (codes "\n") (rows_text (s ∷ rows)))
 
-pieces_are : (pieces : List (List ℕ)) → 0 < length pieces → pieces ≡ ended_of pieces ++ (behind_of pieces ∷ [])
+pub pieces_are : (pieces : List (List ℕ)) → 0 < length pieces → pieces ≡ ended_of pieces ++ (behind_of pieces ∷ [])
 pieces_are pieces h =
     let last : suc (length pieces - 1) ≡ length pieces = omega arith in
     sym (take-append-drop (length pieces - 1) pieces)
@@ -104,7 +104,7 @@ pieces_are pieces h =
     drop-cons pieces (length pieces - 1) [] (omega arith)
     ∙ ap (λ (l : List (List ℕ)). behind_of pieces ∷ l) (ap (λ (n : ℕ). drop n pieces) last ∙ drop-length pieces))
 
-some_pieces : (text : List ℕ) → 0 < length (lines_of text)
+pub some_pieces : (text : List ℕ) → 0 < length (lines_of text)
 some_pieces text = let size = length-slice_split (λ b. b == 10) text in omega (arith, size)
 
 pub report_told : (text : List ℕ) (rows : List Row) → report_in text ≡ Some rows → text ≡ rows_text rows

@@ -260,7 +260,7 @@ mapped f None b e = absurd (cc e)
 mapped f (Some a) b e = record { value = a; is = refl; made = cc e }
 
 -- of two readings the one that gave something
-either : (o p : Option Row) (r : Row) (A : Type 0) → or_else o p ≡ Some r → (o ≡ Some r → A) → (p ≡ Some r → A) → A
+pub either : (o p : Option Row) (r : Row) (A : Type 0) → or_else o p ≡ Some r → (o ≡ Some r → A) → (p ≡ Some r → A) → A
 either None p r A e first second = second e
 either (Some s) p r A e first second = first e
 

@@ -1,14 +1,16 @@
 -- What holds of reports as they are written and read.
-use Rattle.std.specs.Prelude.{◌≡◌, ℕ, ◌+◌, ◌<◌, Bool, List, ◌++◌, length, take, Some, None}
+use Rattle.std.specs.Prelude.{◌≡◌, ℕ, ◌+◌, ◌<◌, Bool, List, ◌++◌, length, take, Option, Some, None}
 use Rattle.pk_graph.specs.declared.verdicts.Verdict.{Verdict}
 use Rattle.pk_graph.specs.Accesses.{AccessOf}
 use Rattle.pk_graph.specs.Graphs.{GraphOf}
-use Rattle.pk_state.specs.Facts.{Stated}
+use Rattle.pk_graph.specs.WellMade.{IsGraph}
+use Rattle.pk_state.specs.Facts.{Facts, Stated, AreFactsIf}
+use Rattle.pk_state.specs.Layouts.{Layout}
 use Rattle.pk_report.specs.Reports.{report_text}
 use Rattle.pk_show.specs.declared.report.Row.{Row}
 use Rattle.pk_show.specs.Reports.{rows_in, ended_lines, report_in, first_wrong}
 use Rattle.pk_show_laws.specs.ReportRows.{report_rows}
-use Rattle.pk_show_laws.specs.Tellable.{IsTellable}
+use Rattle.pk_show_laws.specs.Tellable.{HasTellableNames, IsTellableGraph, AreTellable, IsTellable}
 
 -- a report that is written of a graph is read, and gives its rows
 abbrev pub ReportsGiveTheirRows : Type 0
@@ -17,6 +19,14 @@ ReportsGiveTheirRows =
     (verdicts : List Verdict) → IsTellable g elements states accesses verdicts →
     report_in (report_text all g heads elements states accesses verdicts) ≡
     Some (report_rows all g heads elements states accesses verdicts)
+
+-- a graph that is well made can be told, where its names and places can
+abbrev pub GraphsAreTellable : Type 0
+GraphsAreTellable = (g : GraphOf) → IsGraph g → HasTellableNames g → IsTellableGraph g
+
+-- what is known of variables that have layout l can be told
+abbrev pub FactsAreTellable : Type 0
+FactsAreTellable = (l : Layout) (f : Option Facts) → AreFactsIf l f → AreTellable f
 
 -- the lines of some report begin with these
 abbrev pub BeginReport : List (List ℕ) → Type 0

@@ -35,6 +35,12 @@ pub record IsTellableGraph (g : GraphOf) : Type 0 where
   pub point_paths : (v : ℕ) → v < length g.points → (point_at g v).path < length g.paths
   pub point_places : (v : ℕ) → v < length g.points → IsPlace (point_at g v).at
 
+-- of a graph that is well made: what it still needs to be told
+pub record HasTellableNames (g : GraphOf) : Type 0 where
+  pub paths : (k : ℕ) → k < length g.paths → IsPathOf k (path_at g.paths k)
+  pub names : (x : ℕ) → IsName (variable_at g x).name
+  pub point_places : (v : ℕ) → v < length g.points → IsPlace (point_at g v).at
+
 pub record AreTellableFacts (f : Facts) : Type 0 where
   pub values : (x : ℕ) → IsKnown (known_of (known_at f.values x))
   pub bounds : (i j : ℕ) (c : ℤ) → entry f.octagon i j ≡ Some c → IsNumber c

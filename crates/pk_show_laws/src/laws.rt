@@ -1,6 +1,6 @@
 // Laws of reports as they are written and read.
 
-ghost use Rattle.pk_show_laws.specs.Laws.{ReportsGiveTheirRows, FirstWrongIsFirst};
+ghost use Rattle.pk_show_laws.specs.Laws.{ReportsGiveTheirRows, GraphsAreTellable, FactsAreTellable, FirstWrongIsFirst};
 
 use pk_show::{lines_are_read, reports_are_read};
 
@@ -12,6 +12,17 @@ pub fn reports_give_their_rows()
     lines_are_read();
     reports_are_read();
 }
+
+/// A graph that is well made can be told, where its names are identifiers, its callers come first and its places are in
+/// range.
+pub fn graphs_are_tellable()
+    ensures { GraphsAreTellable }
+{}
+
+/// What is known at a point of a graph can be told: its numbers are in range.
+pub fn facts_are_tellable()
+    ensures { FactsAreTellable }
+{}
 
 /// Some report begins with the lines before the first wrong one of a text, and none with that line too.
 pub fn first_wrong_is_first()

@@ -3,4 +3,6 @@
 
 mod laws;
 
-pub use laws::{first_wrong_is_first, reports_give_their_rows};
+pub use laws::{
+    facts_are_tellable, first_wrong_is_first, graphs_are_tellable, reports_give_their_rows,
+};

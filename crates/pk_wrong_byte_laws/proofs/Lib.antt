@@ -1,0 +1,11 @@
+mod Alike
+mod Numerals
+mod Passing
+mod Goes
+mod PieceGoes
+mod PathGoes
+mod LineGoes
+mod Least
+mod RowsAre
+mod KindLeaves
+mod WrongPlace
