@@ -2,3 +2,5 @@ pub mod ListLemmas
 pub mod ItemLemmas
 pub mod PartLemmas
 pub mod DeclaratorLemmas
+mod StartLemmas
+mod StaticLemmas

@@ -9,11 +9,13 @@ use Rattle.pk_ast.specs.declared.declarations.Specifier.{Specifier}
 use Rattle.pk_ast.specs.declared.expressions.Identifier.{Identifier}
 use Rattle.pk_ast.specs.Places.{first_place_of}
 use Rattle.pk_ast.specs.Trees.{OneOrMore, ExpressionTree, ExpressionTrees, no_expressions, expression_then, InitializerTree, single, braced, DeclaratorTree, DeclarationTree}
+use Rattle.pk_typed.specs.declared.values.Variable.{Variable}
 use Rattle.pk_typed.specs.declared.values.Variable.TheVariants.{Local}
 use Rattle.pk_typed.specs.Trees as tree
 use Rattle.pk_typed.specs.Trees.{LocalTree, value_before, DeclaredTree}
 use Rattle.pk_type_scope.specs.declared.declarations.Declaration.{Declaration}
 use Rattle.pk_type_scope.specs.declared.declarations.Declaration.TheVariants as declared
+use Rattle.pk_type_scope.specs.declared.declarations.Object.{Object}
 use Rattle.pk_type_scope.specs.declared.declarations.Typing.{Typing}
 use Rattle.pk_type_scope.specs.declared.declarations.Typing.TheVariants.{Void, Integer, Unknown}
 use Rattle.pk_type_scope.specs.declared.failures.Failure.{Failure}
@@ -42,16 +44,13 @@ type_or_int Void = Int
 type_or_int (Integer t) = t
 type_or_int Unknown = Int
 
+abbrev pub object_of : Words → Bool → Variable → Object
+object_of words is_array x =
+    record { variable = x; int_type = integer_in words.typing; is_array = is_array; is_const = words.is_const }
+
 -- an object that is the next of its function
 abbrev pub object_at : {F : Type 0} → Words → Bool → Walked F → Declaration
-object_at words is_array w =
-    declared.Object
-    (record {
-      variable = Local (length w.locals);
-      int_type = integer_in words.typing;
-      is_array = is_array;
-      is_const = words.is_const;
-    })
+object_at words is_array w = declared.Object (object_of words is_array (Local (length w.locals)))
 
 -- the text of a name
 abbrev pub text_of : Scoping → Identifier → List ℕ
@@ -119,11 +118,15 @@ abbrev pub local_of : Typing → Scoping → Bool → Option ℕ → Identifier 
 local_of t s is_array n x =
     record { name = Some (text_of s x); int_type = type_or_int t; length = length_or_1 is_array n }
 
--- a declared name, in its scope
+-- the name of an object, in its scope, with the rows at it
+abbrev pub after_object_name : {F : Type 0} → Adding F → Typing → Declaration → Identifier → Walked F → Walked F
+after_object_name add t d x w = after_name x d (failing add (at_name w.scoping t x) w)
+
+-- a declared object
 abbrev pub after_object : {F : Type 0} → Adding F → Words → Bool → Option ℕ → Identifier → Walked F → Walked F
 after_object add words is_array n x w =
     with_local (local_of words.typing w.scoping is_array n x)
-    (after_name x (object_at words is_array w) (failing add (at_name w.scoping words.typing x) w))
+    (after_object_name add words.typing (object_at words is_array w) x w)
 
 -- a declarator as far as what its name begins with: its length stands outside its scope
 abbrev pub after_head : {F : Type 0} → Adding F → Words → DeclaratorTree → Walked F → Walked F

@@ -1,10 +1,10 @@
 -- What is known at a place of a function, and how expressions there go on from it. What is found of failures is added to what was found before: as a list of all of them, or as the
 -- failure that is answered.
-use Rattle.std.specs.Prelude.{List, [], ◌∷◌, ◌++◌, Option, length}
+use Rattle.std.specs.Prelude.{ℕ, List, [], ◌∷◌, ◌++◌, Option, length}
 use Rattle.pk_ast.specs.declared.expressions.Identifier.{Identifier}
 use Rattle.pk_ast.specs.Trees.{ExpressionTree, ExpressionTrees}
 use Rattle.pk_typed.specs.declared.units.CallSite.{CallSite}
-use Rattle.pk_typed.specs.Trees.{LocalTree, ValueTree, EffectTree, ValueTrees}
+use Rattle.pk_typed.specs.Trees.{LocalTree, FileObjectTree, ValueTree, EffectTree, ValueTrees}
 use Rattle.pk_type_scope.specs.declared.declarations.Declaration.{Declaration}
 use Rattle.pk_type_scope.specs.declared.failures.Failure.{Failure}
 use Rattle.pk_type_scope.specs.Declarations.{Names}
@@ -12,12 +12,18 @@ use Rattle.pk_type_expression.specs.Rules.{failures, used_failures, failures_use
 use Rattle.pk_type_scope.specs.Scopes.{Scoping, names_in, opened, declaring}
 use Rattle.pk_type_expression.specs.Typed.{typed, typed_all, calls, calls_in_all, value_of, effect_of}
 
--- the scopes around the place, and what stands before it: failures, the function's calls and objects
+-- objects that functions declare static: the number of the first, which the file's objects stand before, and those so far
+pub record StaticsTree : Type 0 where
+  pub first : ℕ
+  pub made : List FileObjectTree
+
+-- the scopes around the place, and what stands before it: failures, the function's calls and objects, and static objects
 pub record Walked (F : Type 0) : Type 0 where
   pub scoping : Scoping
   pub found : F
   pub calls : List CallSite
   pub locals : List LocalTree
+  pub statics : StaticsTree
 
 -- what is found after a list of failures
 abbrev pub Adding : Type 0 → Type 0
@@ -28,7 +34,13 @@ here w = names_in w.scoping
 
 -- some failures
 abbrev pub failing : {F : Type 0} → Adding F → List Failure → Walked F → Walked F
-failing add fs w = record { scoping = w.scoping; found = add w.found fs; calls = w.calls; locals = w.locals }
+failing add fs w = record {
+  scoping = w.scoping;
+  found = add w.found fs;
+  calls = w.calls;
+  locals = w.locals;
+  statics = w.statics;
+}
 
 -- an expression whose value is used
 abbrev pub after_value : {F : Type 0} → Adding F → ExpressionTree → Walked F → Walked F
@@ -38,6 +50,7 @@ after_value add e w =
       found = add w.found (used_failures (here w) e);
       calls = w.calls ++ calls (here w) e;
       locals = w.locals;
+      statics = w.statics;
     }
 
 -- an expression whose value isn't used
@@ -48,6 +61,7 @@ after_effect add e w =
       found = add w.found (failures (here w) e);
       calls = w.calls ++ calls (here w) e;
       locals = w.locals;
+      statics = w.statics;
     }
 
 -- expressions whose values are used
@@ -58,6 +72,7 @@ after_values add es w =
       found = add w.found (failures_used (here w) es);
       calls = w.calls ++ calls_in_all (here w) es;
       locals = w.locals;
+      statics = w.statics;
     }
 
 -- their typed trees, in their place
@@ -72,15 +87,49 @@ values_at w es = typed_all (here w) (length w.calls) es
 
 -- a name declared in the innermost scope
 abbrev pub after_name : {F : Type 0} → Identifier → Declaration → Walked F → Walked F
-after_name x d w = record { scoping = declaring w.scoping x d; found = w.found; calls = w.calls; locals = w.locals }
+after_name x d w = record {
+  scoping = declaring w.scoping x d;
+  found = w.found;
+  calls = w.calls;
+  locals = w.locals;
+  statics = w.statics;
+}
 
 -- an object more of the function
 abbrev pub with_local : {F : Type 0} → LocalTree → Walked F → Walked F
-with_local l w = record { scoping = w.scoping; found = w.found; calls = w.calls; locals = w.locals ++ l ∷ [] }
+with_local l w = record {
+  scoping = w.scoping;
+  found = w.found;
+  calls = w.calls;
+  locals = w.locals ++ l ∷ [];
+  statics = w.statics;
+}
+
+-- a static object more
+abbrev pub with_static : {F : Type 0} → FileObjectTree → Walked F → Walked F
+with_static o w = record {
+  scoping = w.scoping;
+  found = w.found;
+  calls = w.calls;
+  locals = w.locals;
+  statics = record { first = w.statics.first; made = w.statics.made ++ o ∷ [] };
+}
 
 -- inside a scope, and after it, where the scopes around it are as before
 abbrev pub entering : {F : Type 0} → Walked F → Walked F
-entering w = record { scoping = opened w.scoping; found = w.found; calls = w.calls; locals = w.locals }
+entering w = record {
+  scoping = opened w.scoping;
+  found = w.found;
+  calls = w.calls;
+  locals = w.locals;
+  statics = w.statics;
+}
 
 abbrev pub leaving : {F : Type 0} → Walked F → Walked F → Walked F
-leaving before w = record { scoping = before.scoping; found = w.found; calls = w.calls; locals = w.locals }
+leaving before w = record {
+  scoping = before.scoping;
+  found = w.found;
+  calls = w.calls;
+  locals = w.locals;
+  statics = w.statics;
+}

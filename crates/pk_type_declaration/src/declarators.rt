@@ -3,6 +3,7 @@
 ghost use Rattle.std.specs.Prelude.{◌≡◌, option_map, IfOk, OnOk, length};
 ghost use Rattle.pk_ast.specs.Views.{expression_tree, specifiers_tree, declarator_tree, declarator_trees, declaration_tree};
 ghost use Rattle.pk_typed.specs.Views.{declared_tree, declared_trees};
+ghost use Rattle.pk_type_scope.specs.declared.declarations.Declaration.TheVariants as declared;
 ghost use Rattle.pk_type_scope.specs.Failures.{noted};
 ghost use Rattle.pk_type_declaration.specs.Declarations as definitions;
 ghost use Rattle.pk_type_scope.specs.Specifiers.{word_failures};
@@ -17,7 +18,7 @@ use crate::walk::Walk;
 use crate::words::{Words, integer_in, type_or_int};
 use pk_ast::{Declarator, Expression, Identifier, Specifiers};
 use pk_ctypes::{Name, Rule};
-use pk_type_scope::{Declaration, Object, note_specifiers, spelling};
+use pk_type_scope::{Declaration, Object, Typing, note_specifiers, spelling};
 use pk_typed::{Declared, Local, Variable};
 use std::alloc::{AllocError, Global};
 
@@ -39,6 +40,24 @@ impl<'a> Walk<'a> {
         }
     }
 
+    /// Declares the name of an object, and notes what fails at it.
+    pub fn object_name(
+        &mut self,
+        typing: Typing,
+        object: Object,
+        name: Identifier,
+    ) -> Result<(), AllocError>
+        ensures { OnOk result (walked_in self.new
+            ≡ definitions.after_object_name noted typing (declared.Object object) name (walked_in self.old)) }
+    {
+        let is_special = special(spelling(self.scope.text, name)).is_some();
+        let is_again = self.declare(name, Declaration::Object(object))?;
+        self.fail_if(is_again, Rule::Redeclared, name.at);
+        self.fail_if(typing.is_void(), Rule::Void, name.at);
+        self.fail_if(is_special, Rule::Special, name.at);
+        Ok(())
+    }
+
     /// Declares an object, the next of its function, and notes what fails at its name.
     #[tactic(auto, unfolding(pk_typed::specs::Views::local_tree))]
     pub fn object(
@@ -52,23 +71,18 @@ impl<'a> Walk<'a> {
         ensures { OnOk result (walked_in self.new
             ≡ definitions.after_object noted words is_array length name (walked_in self.old)) }
     {
-        let bytes = spelling(self.scope.text, name);
         let local = Local {
-            name: Some(Name::new(alloc, bytes)?),
+            name: Some(Name::new(alloc, spelling(self.scope.text, name))?),
             int_type: type_or_int(words.typing),
             length: length_or_1(is_array, length),
         };
-        let is_special = special(bytes).is_some();
         let object = Object {
             variable: Variable::Local(self.locals.len()),
             int_type: integer_in(words.typing),
             is_array,
             is_const: words.is_const,
         };
-        let is_again = self.declare(name, Declaration::Object(object))?;
-        self.fail_if(is_again, Rule::Redeclared, name.at);
-        self.fail_if(words.typing.is_void(), Rule::Void, name.at);
-        self.fail_if(is_special, Rule::Special, name.at);
+        self.object_name(words.typing, object, name)?;
         self.local(local)
     }
 

@@ -6,6 +6,8 @@ mod declarators;
 mod initializers;
 mod parts;
 mod specials;
+mod starts;
+mod statics;
 mod walk;
 mod words;
 
@@ -14,5 +16,5 @@ pub use declarators::length_or_1;
 pub use initializers::{note_braces, note_surplus};
 pub use parts::Parts;
 pub use specials::special;
-pub use walk::Walk;
+pub use walk::{Statics, Walk};
 pub use words::{Words, integer_in, type_or_int};

@@ -15,15 +15,24 @@ use pk_ast::{Expression, Identifier};
 use pk_ctypes::{Pos, Rule};
 use pk_type_expression::{Evaluated, arguments, expression, used};
 use pk_type_scope::{Declaration, Notes, Scope, Typing};
-use pk_typed::{Effect, Local, Value};
+use pk_typed::{Effect, FileObject, Local, Value};
 use std::alloc::{AllocError, Global};
 
-/// The scopes around a place, and what stands before it: the failure that would be answered, the calls and the objects of its function.
+/// Objects that functions declare static. Their numbers follow those of the file's objects.
+#[derive(Drop)]
+pub struct Statics {
+    /// How many objects the file has: the number of the first.
+    pub first: usize,
+    pub made: Vec<FileObject>,
+}
+
+/// The scopes around a place, and what stands before it: the failure that would be answered, the calls and the objects of its function, and static objects.
 #[derive(Drop)]
 pub struct Walk<'a> {
     pub scope: Scope<'a>,
     pub notes: Notes,
     pub locals: Vec<Local>,
+    pub statics: Statics,
 }
 
 #[tactic(auto, unfolding(pk_type_expression::specs::Views::evaluated_tree))]

@@ -9,10 +9,10 @@ use Rattle.pk_type_jump.specs.Jumps.{Around, Jumped, jumped, jumped_items, withi
 abbrev Labels : Type 0
 Labels = List ℕ → Option Label
 
-pub after_declaration : (text : List ℕ) (labels : Labels) (a b : Around) (j k all : Jumped) (now rest : ItemTrees) (d : DeclarationTree) → now ≡ declaration_then d rest → b ≡ within_next j a → k ≡ with_declaration j → jumped_items text labels a j now ≡ all → jumped_items text labels b k rest ≡ all
+pub after_declaration : (text : List ℕ) (labels : Labels) (a b : Around) (j k all : Jumped) (now rest : ItemTrees) (x : Option Pos) (d : DeclarationTree) → now ≡ declaration_then x d rest → b ≡ within_next j a → k ≡ with_declaration j → jumped_items text labels a j now ≡ all → jumped_items text labels b k rest ≡ all
 unfolding jumped_items
-after_declaration text labels a b j k all now rest d p q r h =
-    ap (λ x. jumped_items text labels x k rest) q ∙ (ap (λ y. jumped_items text labels (within_next j a) y rest) r ∙ (ap (λ n. jumped_items text labels a j n) (sym p) ∙ h))
+after_declaration text labels a b j k all now rest x d p q r h =
+    ap (λ y. jumped_items text labels y k rest) q ∙ (ap (λ y. jumped_items text labels (within_next j a) y rest) r ∙ (ap (λ n. jumped_items text labels a j n) (sym p) ∙ h))
 
 pub after_statement : (text : List ℕ) (labels : Labels) (a b : Around) (j k all : Jumped) (now rest : ItemTrees) (s : StatementTree) → now ≡ statement_then s rest → b ≡ a → k ≡ jumped text labels a j s → jumped_items text labels a j now ≡ all → jumped_items text labels b k rest ≡ all
 unfolding jumped_items

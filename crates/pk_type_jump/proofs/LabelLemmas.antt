@@ -8,10 +8,10 @@ use Rattle.pk_type_jump.specs.declared.labels.Within.{Within}
 use Rattle.pk_type_scope.specs.Scopes.{spelled}
 use Rattle.pk_type_jump.specs.Labels.{Listed, listed, listed_items, inside, with_declaration, with_label, named, is_repeated}
 
-pub after_declaration : (text : List ℕ) (w v : Within) (l m all : Listed) (now rest : ItemTrees) (d : DeclarationTree) → now ≡ declaration_then d rest → v ≡ inside l.declarations w → m ≡ with_declaration l → listed_items text w l now ≡ all → listed_items text v m rest ≡ all
+pub after_declaration : (text : List ℕ) (w v : Within) (l m all : Listed) (now rest : ItemTrees) (x : Option Pos) (d : DeclarationTree) → now ≡ declaration_then x d rest → v ≡ inside l.declarations w → m ≡ with_declaration l → listed_items text w l now ≡ all → listed_items text v m rest ≡ all
 unfolding listed_items
-after_declaration text w v l m all now rest d p q r h =
-    ap (λ x. listed_items text x m rest) q ∙ (ap (λ y. listed_items text (inside l.declarations w) y rest) r ∙ (ap (λ n. listed_items text w l n) (sym p) ∙ h))
+after_declaration text w v l m all now rest x d p q r h =
+    ap (λ z. listed_items text z m rest) q ∙ (ap (λ y. listed_items text (inside l.declarations w) y rest) r ∙ (ap (λ n. listed_items text w l n) (sym p) ∙ h))
 
 pub after_statement : (text : List ℕ) (w v : Within) (l m all : Listed) (now rest : ItemTrees) (s : StatementTree) → v ≡ w → now ≡ statement_then s rest → m ≡ listed text w l s → listed_items text w l now ≡ all → listed_items text v m rest ≡ all
 unfolding listed_items

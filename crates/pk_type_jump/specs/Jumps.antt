@@ -96,7 +96,7 @@ unfoldable mutual
   -- what follows a declaration in its block lies in its scope
   pub jumped_items : List ℕ → (List ℕ → Option Label) → Around → Jumped → ItemTrees → Jumped
   jumped_items text labels a j no_items = j
-  jumped_items text labels a j (declaration_then d items) =
+  jumped_items text labels a j (declaration_then s d items) =
       jumped_items text labels (within_next j a) (with_declaration j) items
   jumped_items text labels a j (statement_then s items) = jumped_items text labels a (jumped text labels a j s) items
 

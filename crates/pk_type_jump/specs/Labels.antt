@@ -68,7 +68,7 @@ unfoldable mutual
   -- what follows a declaration in its block lies in its scope
   pub listed_items : List ℕ → Within → Listed → ItemTrees → Listed
   listed_items text w l no_items = l
-  listed_items text w l (declaration_then d items) =
+  listed_items text w l (declaration_then s d items) =
       listed_items text (inside l.declarations w) (with_declaration l) items
   listed_items text w l (statement_then s items) = listed_items text w (listed text w l s) items
 

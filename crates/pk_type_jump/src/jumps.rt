@@ -275,7 +275,7 @@ fn items(
     let mut here = here;
     for item in list {
         match item {
-            BlockItem::Declaration(_) => here = jumps.enter(here)?,
+            BlockItem::Declaration(_, _) => here = jumps.enter(here)?,
             BlockItem::Statement(s) => statement(jumps, text, labels, here, s)?,
         }
     }

@@ -199,7 +199,7 @@ fn items<'a>(
     let mut within = within;
     for item in list {
         match item {
-            BlockItem::Declaration(_) => {
+            BlockItem::Declaration(_, _) => {
                 within = inside(labels.declarations, within)?;
                 labels.declaration()?;
             }

@@ -1,12 +1,15 @@
 -- A statement leaves the scopes around it as they were, and its own but for the names that it declares.
 use Rattle.std.proofs.Common.{◌≡◌, List, [], ◌∷◌, Option, Some, None, refl, ◌∙◌}
 use Rattle.pk_ctypes.specs.declared.places.Pos.{Pos}
-use Rattle.pk_ast.specs.Trees.{ExpressionTree, InitializerTree, single, braced, DeclaratorTree, DeclarationTree, ForStartTree, declaration, expression, StatementTree, block, empty, expression_statement, label, case, default, if_then, if_else, switch, while, do_while, for_loop, goto, continue, break, return, ItemTrees, no_items, declaration_then, statement_then}
+use Rattle.pk_ast.specs.Trees.{ExpressionTree, ExpressionTrees, no_expressions, expression_then, InitializerTree, single, braced, DeclaratorTree, DeclarationTree, ForStartTree, declaration, expression, StatementTree, block, empty, expression_statement, label, case, default, if_then, if_else, switch, while, do_while, for_loop, goto, continue, break, return, ItemTrees, no_items, declaration_then, statement_then}
 use Rattle.pk_type_scope.specs.declared.declarations.Typing.{Typing}
 use Rattle.pk_type_scope.specs.Scopes.{Scoping}
 use Rattle.pk_type_scope.specs.Specifiers.{word_failures}
 use Rattle.pk_type_declaration.specs.declared.words.Words.{Words}
 use Rattle.pk_type_declaration.specs.Declarations.{after_declarator, after_declarators, after_declaration, after_optional_length, after_initializer, after_head, words_of}
+use Rattle.pk_type_declaration.specs.Constants.{after_constant}
+use Rattle.pk_type_declaration.specs.Starts.{after_numbers, given}
+use Rattle.pk_type_declaration.specs.Statics.{after_static_head, after_static, after_statics, after_static_declaration, after_block_declaration}
 use Rattle.pk_type_declaration.specs.Walks.{Walked, Adding, here, failing, after_value}
 use Rattle.pk_type_statement.specs.Statements as statements
 use Rattle.pk_type_statement.specs.Statements.{Passed, after, after_items, on, with_case, with_default, in_switch}
@@ -44,6 +47,27 @@ kept_declarators add words (d ∷ ds) w = then w.scoping (after_declarator add w
 pub kept_declaration : {F : Type 0} (add : Adding F) (d : DeclarationTree) (w : Walked F) → Kept w.scoping (after_declaration add d w).scoping
 unfolding after_declaration
 kept_declaration add d w = kept_declarators add (words_of (here w) d.specifiers) (d.declarators.first ∷ d.declarators.more) (failing add (word_failures (here w) d.specifiers) w)
+
+kept_numbers : {F : Type 0} (add : Adding F) (es : ExpressionTrees) (w : Walked F) → Kept w.scoping (after_numbers add es w).scoping
+unfolding after_numbers
+kept_numbers add no_expressions w = same w.scoping
+kept_numbers add (expression_then e es) w = kept_numbers add es (after_constant add e w)
+
+kept_static : {F : Type 0} (add : Adding F) (words : Words) (d : DeclaratorTree) (w : Walked F) → Kept w.scoping (after_static add words d w).scoping
+unfolding after_static
+kept_static add words d w =
+    let k = kept_length add d.length w in
+    then w.scoping (after_static_head add words d w).scoping _ (record { text = k.text; outer = k.outer }) (kept_numbers add (given d.initializer) (after_static_head add words d w))
+
+kept_statics : {F : Type 0} (add : Adding F) (words : Words) (ds : List DeclaratorTree) (w : Walked F) → Kept w.scoping (after_statics add words ds w).scoping
+unfolding after_statics
+kept_statics add words [] w = same w.scoping
+kept_statics add words (d ∷ ds) w = then w.scoping (after_static add words d w).scoping _ (kept_static add words d w) (kept_statics add words ds (after_static add words d w))
+
+pub kept_block_declaration : {F : Type 0} (add : Adding F) (x : Option Pos) (d : DeclarationTree) (w : Walked F) → Kept w.scoping (after_block_declaration add x d w).scoping
+unfolding after_static_declaration
+kept_block_declaration add None d w = kept_declaration add d w
+kept_block_declaration add (Some at) d w = kept_statics add (words_of (here w) d.specifiers) (d.declarators.first ∷ d.declarators.more) (failing add (word_failures (here w) d.specifiers) w)
 
 kept_value : {F : Type 0} (add : Adding F) (e : Option ExpressionTree) (w : Walked F) → Kept w.scoping (statements.after_optional_value add e w).scoping
 kept_value add None w = same w.scoping
@@ -91,7 +115,7 @@ mutual
 
   pub kept_items : {F : Type 0} (add : Adding F) (returns : Typing) (p : Passed F) (items : ItemTrees) → Kept p.walked.scoping (after_items add returns p items).walked.scoping
   kept_items add returns p no_items = same p.walked.scoping
-  kept_items add returns p (declaration_then d items) =
-      let q = on (after_declaration add d) p in then p.walked.scoping q.walked.scoping _ (kept_declaration add d p.walked) (kept_items add returns q items)
+  kept_items add returns p (declaration_then x d items) =
+      let q = on (after_block_declaration add x d) p in then p.walked.scoping q.walked.scoping _ (kept_block_declaration add x d p.walked) (kept_items add returns q items)
   kept_items add returns p (statement_then s items) =
       let q = after add returns p s in then p.walked.scoping q.walked.scoping _ (kept add returns p s) (kept_items add returns q items)

@@ -9,7 +9,7 @@ use Rattle.pk_type_scope.specs.declared.failures.Failure.{Failure}
 use Rattle.pk_type_scope.specs.Failures.{noted}
 use Rattle.pk_type_expression.specs.Typed.{of_both}
 use Rattle.pk_type_expression.specs.Types.{type_of}
-use Rattle.pk_type_declaration.specs.Declarations.{after_declaration, declaration_trees_at}
+use Rattle.pk_type_declaration.specs.Statics.{after_block_declaration, block_declaration_at}
 use Rattle.pk_type_declaration.specs.Walks.{here, after_value, value_at, leaving}
 use Rattle.pk_type_statement.specs.declared.statements.Case.{Case}
 use Rattle.pk_type_statement.specs.Items.{append_items, and_objects, and_statement, and_items}
@@ -127,10 +127,10 @@ none_items : (xs : Items) → and_items (Some tree.no_items) xs ≡ xs
 none_items None = refl
 none_items (Some xs) = refl
 
-pub declaration_passed : (r : Typing) (w v all : State) (now rest : ItemTrees) (d c : DeclarationTree) → now ≡ declaration_then d rest → c ≡ d → v ≡ on (after_declaration noted c) w → after_items noted r w now ≡ all → after_items noted r v rest ≡ all
+pub declaration_passed : (r : Typing) (w v all : State) (now rest : ItemTrees) (z : Option Pos) (d c : DeclarationTree) → now ≡ declaration_then z d rest → c ≡ d → v ≡ on (after_block_declaration noted z c) w → after_items noted r w now ≡ all → after_items noted r v rest ≡ all
 unfolding after_items
-declaration_passed r w v all now rest d c p q k h =
-    ap (λ x. after_items noted r x rest) (k ∙ ap (λ x. on (after_declaration noted x) w) q) ∙ (ap (λ n. after_items noted r w n) (sym p) ∙ h)
+declaration_passed r w v all now rest z d c p q k h =
+    ap (λ x. after_items noted r x rest) (k ∙ ap (λ x. on (after_block_declaration noted z x) w) q) ∙ (ap (λ n. after_items noted r w n) (sym p) ∙ h)
 
 pub statement_passed : (r : Typing) (w v all : State) (now rest : ItemTrees) (s : StatementTree) → now ≡ statement_then s rest → v ≡ after noted r w s → after_items noted r w now ≡ all → after_items noted r v rest ≡ all
 unfolding after_items
@@ -148,14 +148,14 @@ pub end_passed : (r : Typing) (w all : State) (now : ItemTrees) → now ≡ no_i
 unfolding after_items
 end_passed r w all now p h = ap (λ n. after_items noted r w n) (sym p) ∙ h
 
-pub declaration_typed : (r : Typing) (labels : Labels) (w v : State) (now rest : ItemTrees) (d c : DeclarationTree) (xs ys all : Items) (ds : Option (List DeclaredTree)) → now ≡ declaration_then d rest → c ≡ d →
-    v ≡ on (after_declaration noted c) w → ds ≡ declaration_trees_at noted c w.walked → ys ≡ and_objects xs ds → and_items xs (typed_items noted r labels w now) ≡ all → and_items ys (typed_items noted r labels v rest) ≡ all
+pub declaration_typed : (r : Typing) (labels : Labels) (w v : State) (now rest : ItemTrees) (z : Option Pos) (d c : DeclarationTree) (xs ys all : Items) (ds : Option (List DeclaredTree)) → now ≡ declaration_then z d rest → c ≡ d →
+    v ≡ on (after_block_declaration noted z c) w → ds ≡ block_declaration_at noted z c w.walked → ys ≡ and_objects xs ds → and_items xs (typed_items noted r labels w now) ≡ all → and_items ys (typed_items noted r labels v rest) ≡ all
 unfolding typed_items
-declaration_typed r labels w v now rest d c xs ys all ds p q k t y h =
-    let u : State = on (after_declaration noted d) w in
-    ap (λ x. and_items ys (typed_items noted r labels x rest)) (k ∙ ap (λ x. on (after_declaration noted x) w) q)
-    ∙ (ap (λ x. and_items x (typed_items noted r labels u rest)) (y ∙ ap (and_objects xs) (t ∙ ap (λ x. declaration_trees_at noted x w.walked) q))
-    ∙ (sym (objects_step xs (declaration_trees_at noted d w.walked) (typed_items noted r labels u rest))
+declaration_typed r labels w v now rest z d c xs ys all ds p q k t y h =
+    let u : State = on (after_block_declaration noted z d) w in
+    ap (λ x. and_items ys (typed_items noted r labels x rest)) (k ∙ ap (λ x. on (after_block_declaration noted z x) w) q)
+    ∙ (ap (λ x. and_items x (typed_items noted r labels u rest)) (y ∙ ap (and_objects xs) (t ∙ ap (λ x. block_declaration_at noted z x w.walked) q))
+    ∙ (sym (objects_step xs (block_declaration_at noted z d w.walked) (typed_items noted r labels u rest))
     ∙ (ap (λ n. and_items xs (typed_items noted r labels w n)) (sym p) ∙ h)))
 
 pub statement_typed : (r : Typing) (labels : Labels) (w v : State) (now rest : ItemTrees) (s : StatementTree) (xs ys all : Items) (one : Option tree.StatementTree) → now ≡ statement_then s rest →

@@ -14,6 +14,7 @@ use Rattle.pk_type_scope.specs.Failures.{fails_if}
 use Rattle.pk_type_expression.specs.Types.{type_of}
 use Rattle.pk_type_declaration.specs.Constants.{evaluated, number_in, after_constant}
 use Rattle.pk_type_declaration.specs.Declarations.{after_declaration}
+use Rattle.pk_type_declaration.specs.Statics.{after_block_declaration}
 use Rattle.pk_type_declaration.specs.Walks.{Walked, Adding, here, failing, after_value, after_effect, entering, leaving}
 use Rattle.pk_type_statement.specs.declared.statements.Case.{Case}
 
@@ -133,5 +134,6 @@ unfoldable mutual
 
   pub after_items : {F : Type 0} → Adding F → Typing → Passed F → ItemTrees → Passed F
   after_items add returns p no_items = p
-  after_items add returns p (declaration_then d items) = after_items add returns (on (after_declaration add d) p) items
+  after_items add returns p (declaration_then s d items) =
+      after_items add returns (on (after_block_declaration add s d) p) items
   after_items add returns p (statement_then s items) = after_items add returns (after add returns p s) items

@@ -15,7 +15,8 @@ use Rattle.pk_type_scope.specs.declared.declarations.Typing.TheVariants.{Void, I
 use Rattle.pk_type_scope.specs.Scopes.{spelled}
 use Rattle.pk_type_expression.specs.Typed.{of_both}
 use Rattle.pk_type_expression.specs.Types.{type_of}
-use Rattle.pk_type_declaration.specs.Declarations.{after_declaration, declaration_trees_at}
+use Rattle.pk_type_declaration.specs.Declarations.{declaration_trees_at}
+use Rattle.pk_type_declaration.specs.Statics.{after_block_declaration, block_declaration_at}
 use Rattle.pk_type_declaration.specs.Walks.{Walked, Adding, here, after_value, value_at, effect_at}
 use Rattle.pk_type_jump.specs.declared.labels.Label.{Label}
 use Rattle.pk_type_statement.specs.declared.statements.Case.{Case}
@@ -127,8 +128,8 @@ unfoldable mutual
 
   pub typed_items : {F : Type 0} → Adding F → Typing → Labels → Passed F → ast.ItemTrees → Option ItemTrees
   typed_items add r labels p no_items = Some tree.no_items
-  typed_items add r labels p (declaration_then d items) =
-      of_both declared_all (declaration_trees_at add d p.walked)
-      (typed_items add r labels (on (after_declaration add d) p) items)
+  typed_items add r labels p (declaration_then s d items) =
+      of_both declared_all (block_declaration_at add s d p.walked)
+      (typed_items add r labels (on (after_block_declaration add s d) p) items)
   typed_items add r labels p (statement_then s items) =
       of_both tree.statement_before (typed add r labels p s) (typed_items add r labels (after add r p s) items)

@@ -7,7 +7,7 @@ ghost use Rattle.pk_type_scope.specs.Failures.{noted};
 ghost use Rattle.pk_type_scope.specs.declared.failures.Failure.{Failure};
 ghost use Rattle.pk_type_expression.specs.Types.{type_of};
 ghost use Rattle.pk_type_jump.specs.Views.{labels_in};
-ghost use Rattle.pk_type_declaration.specs.Declarations.{after_declaration, declaration_trees_at};
+ghost use Rattle.pk_type_declaration.specs.Statics.{after_block_declaration, block_declaration_at};
 ghost use Rattle.pk_type_declaration.specs.Walks as walks;
 ghost use Rattle.pk_type_declaration.specs.Walks.{Walked};
 ghost use Rattle.pk_type_statement.specs.Statements as definitions;
@@ -174,18 +174,19 @@ impl<'a> Statements<'a> {
         self.walk.operand(alloc, e)
     }
 
-    /// Checks a declaration.
+    /// Checks a declaration of a block, which may have `static` at a place.
     pub(crate) fn declaration(
         &mut self,
         alloc: Global,
+        is_static: Option<Pos>,
         d: &Declaration,
     ) -> Result<Option<Vec<Declared>>, AllocError>
         ensures passed { OnOk result (passed_in self.new
-            ≡ definitions.on (after_declaration noted (declaration_tree d.now)) (passed_in self.old)) }
+            ≡ definitions.on (after_block_declaration noted is_static (declaration_tree d.now)) (passed_in self.old)) }
         ensures trees { IfOk result (λ t. option_map (λ v. declared_trees v.items) t
-            ≡ declaration_trees_at noted (declaration_tree d.now) (passed_in self.old).walked) }
+            ≡ block_declaration_at noted is_static (declaration_tree d.now) (passed_in self.old).walked) }
     {
-        self.walk.declaration(alloc, d)
+        self.walk.block_declaration(alloc, is_static, d)
     }
 
     /// The number of a label.

@@ -204,8 +204,8 @@ pub fn body_items(
     let mut all = Parts::new(alloc);
     for item in list {
         match item {
-            BlockItem::Declaration(d) => {
-                let objects = to.declaration(alloc, d)?;
+            BlockItem::Declaration(is_static, d) => {
+                let objects = to.declaration(alloc, *is_static, d)?;
                 add_objects(&mut all, alloc, objects)?;
             }
             BlockItem::Statement(s) => match empty_at(s) {

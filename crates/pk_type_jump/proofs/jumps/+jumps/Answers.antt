@@ -17,7 +17,7 @@ items-loop-item-preserved t c =
           let e = w.in_ok-here-in-Declaration.ensures in
           let s = ap (λ j. j.scopes.items) w.jumps-is ∙ e.scopes in
           record {
-            left = after_declaration c.args.text.now (labels_in c.args.labels.now) _ _ _ _ _ _ _ _ (item _ c.loop-item-test.true c.item-item.is w.in-Declaration.is)
+            left = after_declaration c.args.text.now (labels_in c.args.labels.now) _ _ _ _ _ _ _ _ _ (item _ c.loop-item-test.true c.item-item.is w.in-Declaration.is)
                 (ap (λ j. around_of j.scopes.items c.match-item.here) w.jumps-is ∙ (ap (around_of w.enter.new.self.scopes.items) w.here-is ∙ e.around)) (ap jumped_in w.jumps-is ∙ e.jumped) i.left;
             longer = longer _ _ _ _ s i.longer;
             kept = kept _ _ _ _ _ s i.longer i.kept;

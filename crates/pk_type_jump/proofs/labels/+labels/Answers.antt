@@ -9,7 +9,7 @@ pub items-loop-item-preserved : goal.items-loop-item-preserved
 items-loop-item-preserved t c =
     elim c.match-item.branch [
       | items-in-Declaration+in_ok-within-in-Declaration+in_ok-declaration-in-Declaration w ↦
-          after_declaration c.args.text.now _ _ _ _ _ _ _ _ (next c.args.list.now c.loop-item.item-index c.item-item.result _ c.loop-item-test.true c.item-item.is w.in-Declaration.is)
+          after_declaration c.args.text.now _ _ _ _ _ _ _ _ _ (next c.args.list.now c.loop-item.item-index c.item-item.result _ c.loop-item-test.true c.item-item.is w.in-Declaration.is)
           (w.within-is ∙ w.in_ok-within-in-Declaration.ensures) (ap listed_in w.labels-is ∙ w.in_ok-declaration-in-Declaration.ensures) c.loop-item.invariant
       | items-in-Statement+in_ok-statement-in-Statement w ↦
           after_statement c.args.text.now _ _ _ _ _ _ _ _ w.within-is (next c.args.list.now c.loop-item.item-index c.item-item.result _ c.loop-item-test.true c.item-item.is w.in-Statement.is)

@@ -33,8 +33,8 @@ body_items-loop-item-preserved t c =
           let e = w.in_ok-objects-in-Declaration.ensures in
           let k = ap passed_in w.to-is ∙ e.passed in
           record {
-            passed = declaration_passed r _ _ _ _ _ _ _ now d k i.passed;
-            trees = declaration_typed r labels _ _ _ _ _ _ _ _ _ _ now d k e.trees (ap items_in w.all-is ∙ w.in_ok-add_objects-in-Declaration.ensures) i.trees;
+            passed = declaration_passed r _ _ _ _ _ _ _ _ now d k i.passed;
+            trees = declaration_typed r labels _ _ _ _ _ _ _ _ _ _ _ now d k e.trees (ap items_in w.all-is ∙ w.in_ok-add_objects-in-Declaration.ensures) i.trees;
           }
       | body_items-in-Statement+in-Some+in_ok-add_empty-in-Some w ↦
           let now = item _ c.loop-item-test.true c.item-item.is w.in-Statement.is in

@@ -1,0 +1,42 @@
+-- What objects begin with that hold it when a run begins (C99 6.7.8): constants.
+use Rattle.std.specs.Prelude.{ℕ, ℤ, pos, Option, Some, None, List, [], ◌∷◌}
+use Rattle.pk_ctypes.specs.declared.types.IntType.{IntType}
+use Rattle.pk_ctypes.specs.Types.{wrapped}
+use Rattle.pk_ast.specs.Trees.{ExpressionTree, ExpressionTrees, no_expressions, expression_then, InitializerTree, single, braced}
+use Rattle.pk_typed.specs.Trees.{StartTree, scalar_start, array_start}
+use Rattle.pk_type_declaration.specs.Constants.{evaluated, number_in, after_constant}
+use Rattle.pk_type_declaration.specs.Walks.{Walked, Adding}
+
+-- a value that an object begins with, converted to its type; 0 where a failure leaves it out
+abbrev pub number_or_0 : IntType → Option ℤ → ℤ
+number_or_0 t None = pos 0
+number_or_0 t (Some n) = wrapped t n
+
+abbrev pub number_at : {F : Type 0} → IntType → Walked F → ExpressionTree → ℤ
+number_at t w e = number_or_0 t (number_in (evaluated w e))
+
+unfoldable pub after_numbers : {F : Type 0} → Adding F → ExpressionTrees → Walked F → Walked F
+after_numbers add no_expressions w = w
+after_numbers add (expression_then e es) w = after_numbers add es (after_constant add e w)
+
+unfoldable pub numbers_at : {F : Type 0} → Adding F → IntType → ExpressionTrees → Walked F → List ℤ
+numbers_at add t no_expressions w = []
+numbers_at add t (expression_then e es) w = number_at t w e ∷ numbers_at add t es (after_constant add e w)
+
+-- what is given, each of which has to be constant
+abbrev pub given : Option InitializerTree → ExpressionTrees
+given None = no_expressions
+given (Some (single e)) = expression_then e no_expressions
+given (Some (braced at e es)) = expression_then e es
+
+abbrev pub first_or_0 : List ℤ → ℤ
+first_or_0 [] = pos 0
+first_or_0 (n ∷ ns) = n
+
+abbrev pub start_of : Option ℕ → List ℤ → StartTree
+start_of None ns = scalar_start (first_or_0 ns)
+start_of (Some n) ns = array_start n ns
+
+-- a scalar's or an array's start
+abbrev pub start_at : {F : Type 0} → Adding F → IntType → Option ℕ → Option InitializerTree → Walked F → StartTree
+start_at add t n first w = start_of n (numbers_at add t (given first) w)

@@ -1,0 +1,77 @@
+-- Objects that functions declare static (C99 6.2.4, 6.7.8): each is one for all calls, and holds what it begins with when a run begins. Declarations of blocks, static or not.
+use Rattle.std.specs.Prelude.{ℕ, ◌+◌, Bool, is_some, Option, Some, None, List, [], ◌∷◌, ◌++◌, length}
+use Rattle.pk_ctypes.specs.declared.places.Pos.{Pos}
+use Rattle.pk_ast.specs.Trees.{DeclaratorTree, DeclarationTree}
+use Rattle.pk_typed.specs.declared.values.Variable.TheVariants.{File}
+use Rattle.pk_typed.specs.Trees.{FileObjectTree, DeclaredTree, static_object}
+use Rattle.pk_type_scope.specs.declared.declarations.Declaration.{Declaration}
+use Rattle.pk_type_scope.specs.declared.declarations.Declaration.TheVariants as declared
+use Rattle.pk_type_scope.specs.Specifiers.{word_failures}
+use Rattle.pk_type_declaration.specs.declared.words.Words.{Words}
+use Rattle.pk_type_declaration.specs.Declarations.{words_of, type_or_int, object_of, text_of, braces, surplus, length_at, after_optional_length, length_or_1, after_object_name, after_declaration, declaration_trees_at}
+use Rattle.pk_type_declaration.specs.Starts.{after_numbers, given, start_at}
+use Rattle.pk_type_declaration.specs.Walks.{Walked, Adding, here, failing, with_static}
+
+-- the number of the next among the unit's objects
+abbrev pub next_static : {F : Type 0} → Walked F → ℕ
+next_static w = w.statics.first + length w.statics.made
+
+abbrev pub static_at : {F : Type 0} → Words → Bool → Walked F → Declaration
+static_at words is_array w = declared.Object (object_of words is_array (File (next_static w)))
+
+-- a declarator as far as what its name begins with
+abbrev pub after_static_head : {F : Type 0} → Adding F → Words → DeclaratorTree → Walked F → Walked F
+after_static_head add words d w =
+    failing add (braces (is_some d.length) d.initializer d.name.at ++ surplus (length_at w d.length) d.initializer)
+    (after_object_name add words.typing (static_at words (is_some d.length) w) d.name
+    (after_optional_length add d.length w))
+
+abbrev pub static_of : {F : Type 0} → Adding F → Words → DeclaratorTree → Walked F → FileObjectTree
+static_of add words d w =
+    record {
+      name = text_of w.scoping d.name;
+      int_type = type_or_int words.typing;
+      start = start_at add (type_or_int words.typing) (length_or_1 (is_some d.length) (length_at w d.length))
+          d.initializer (after_static_head add words d w);
+    }
+
+-- what it begins with stands inside its scope
+unfoldable pub after_static : {F : Type 0} → Adding F → Words → DeclaratorTree → Walked F → Walked F
+after_static add words d w =
+    with_static (static_of add words d w) (after_numbers add (given d.initializer) (after_static_head add words d w))
+
+unfoldable pub after_statics : {F : Type 0} → Adding F → Words → List DeclaratorTree → Walked F → Walked F
+after_statics add words [] w = w
+after_statics add words (d ∷ ds) w = after_statics add words ds (after_static add words d w)
+
+unfoldable pub after_static_declaration : {F : Type 0} → Adding F → DeclarationTree → Walked F → Walked F
+after_static_declaration add d w =
+    let words = words_of (here w) d.specifiers in
+    after_statics add words (d.declarators.first ∷ d.declarators.more)
+    (failing add (word_failures (here w) d.specifiers) w)
+
+-- their typed trees
+
+abbrev pub static_tree_at : {F : Type 0} → DeclaratorTree → Walked F → DeclaredTree
+static_tree_at d w = static_object (next_static w) d.name.at
+
+unfoldable pub static_trees_at : {F : Type 0} → Adding F → Words → List DeclaratorTree → Walked F → List DeclaredTree
+static_trees_at add words [] w = []
+static_trees_at add words (d ∷ ds) w =
+    static_tree_at d w ∷ static_trees_at add words ds (after_static add words d w)
+
+unfoldable pub static_declaration_at : {F : Type 0} → Adding F → DeclarationTree → Walked F → List DeclaredTree
+static_declaration_at add d w =
+    static_trees_at add (words_of (here w) d.specifiers) (d.declarators.first ∷ d.declarators.more)
+    (failing add (word_failures (here w) d.specifiers) w)
+
+-- a declaration of a block, which may have `static` at a place
+
+abbrev pub after_block_declaration : {F : Type 0} → Adding F → Option Pos → DeclarationTree → Walked F → Walked F
+after_block_declaration add None d w = after_declaration add d w
+after_block_declaration add (Some at) d w = after_static_declaration add d w
+
+abbrev pub block_declaration_at : {F : Type 0} → Adding F → Option Pos → DeclarationTree → Walked F →
+    Option (List DeclaredTree)
+block_declaration_at add None d w = declaration_trees_at add d w
+block_declaration_at add (Some at) d w = Some (static_declaration_at add d w)
