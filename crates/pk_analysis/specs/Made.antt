@@ -20,10 +20,10 @@ pub record IsAnalysisOf (g : GraphOf) (p : PlanView) (o : Options) (a : Flow) : 
   pub narrow : a.narrow ≡ o.narrow
 
 -- the equations of the graph's points, with heads and exits where these parts have them
-pub record IsFlowOf (g : GraphOf) (parts : List Part) (o : Options) (a : Flow) : Type 0 where
+pub record IsFlowOf (g : GraphOf) (ps : List Part) (o : Options) (a : Flow) : Type 0 where
   pub graph : graph_view a.graph ≡ g
   pub layout : a.layout ≡ layout_of g o.oct
   pub thresholds : AreThresholds g a.thresholds
-  pub parts : a.parts ≡ parts
+  pub parts : a.parts ≡ ps
   pub delay : a.delay ≡ o.delay
   pub narrow : a.narrow ≡ o.narrow
