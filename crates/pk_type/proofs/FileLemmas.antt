@@ -2,14 +2,11 @@
 use Rattle.std.proofs.Math.Seq.{drop-cons}
 use Rattle.std.proofs.lemmas.List.{drop_all, map-append, append-nil}
 use Rattle.std.proofs.Common.{◌≡◌, ℕ, suc, ◌+◌, ◌<◌, ◌≤◌, ℤ, Bool, List, [], ◌∷◌, ◌++◌, Option, Some, None, option_map, drop, get_or, length, map, add-one, append_assoc, refl, ap, sym, ◌∙◌}
-use Rattle.pk_ctypes.specs.declared.types.IntType.{IntType}
 use Rattle.pk_ctypes.specs.declared.words.Rule.TheVariants as rule
 use Rattle.std.specs.Option.{is_some}
 use Rattle.pk_ast.specs.declared.declarations.Declarator.{Declarator}
-use Rattle.pk_ast.specs.declared.expressions.Expression.{Expression}
 use Rattle.pk_ast.specs.declared.units.Storage.{Storage}
-use Rattle.pk_ast.specs.Trees.{ExpressionTree, ExpressionTrees, no_expressions, expression_then, DeclaratorTree, DeclarationTree}
-use Rattle.pk_ast.specs.Views.{expression_tree, expression_trees}
+use Rattle.pk_ast.specs.Trees.{DeclaratorTree, DeclarationTree}
 use Rattle.pk_typed.specs.declared.units.FileObject.{FileObject}
 use Rattle.pk_typed.specs.Views.{file_object_tree}
 use Rattle.pk_type_scope.specs.declared.failures.Failure.{Failure}
@@ -19,12 +16,11 @@ use Rattle.pk_type_scope.specs.Failures.{noted, fails_if}
 use Rattle.pk_type_scope.specs.Scopes.{declared_here, spelled}
 use Rattle.pk_type_scope.specs.Specifiers.{word_failures}
 use Rattle.pk_type_declaration.specs.declared.words.Words.{Words}
-use Rattle.pk_type_declaration.specs.Constants.{after_constant}
 use Rattle.pk_type_declaration.specs.Declarations.{words_of, after_optional_length, length_at, braces, surplus}
 use Rattle.pk_type_declaration.specs.Specials.{special}
 use Rattle.pk_type_declaration.specs.Walks.{Walked, here, failing, after_name}
 use Rattle.pk_type_statement.proofs.CaseLemmas.{failing_twice}
-use Rattle.pk_type.specs.Files.{Filed, is_extern, file_object, after_head, number_at, after_numbers, numbers_at, after_object, after_objects, after_declaration, without_calls, on}
+use Rattle.pk_type.specs.Files.{Filed, is_extern, file_object, after_head, after_object, after_objects, after_declaration, without_calls, on}
 
 abbrev State : Type 0
 State = Walked (Option Failure)
@@ -35,31 +31,8 @@ Files = Filed (Option Failure)
 pub objects_push : (xs : List FileObject) (x : FileObject) → map file_object_tree (xs ++ x ∷ []) ≡ map file_object_tree xs ++ file_object_tree x ∷ []
 objects_push xs x = map-append file_object_tree xs (x ∷ [])
 
-pub next_expression : (list : List Expression) (i : ℕ) (x : Expression) → i < length list → x ≡ get_or list i x → expression_trees (drop i list) ≡ expression_then (expression_tree x) (expression_trees (drop (i + 1) list))
-next_expression list i x h is = rw add-one (ap expression_trees (drop-cons list i x h ∙ ap (λ z. z ∷ drop (suc i) list) (sym is)))
-
-pub last_expression : (list : List Expression) (i : ℕ) → length list ≤ i → expression_trees (drop i list) ≡ no_expressions
-last_expression list i h = ap expression_trees (drop_all i list h)
-
-pub numbers_walked : (w v all : State) (e : ExpressionTree) (now rest : ExpressionTrees) → now ≡ expression_then e rest → v ≡ after_constant noted e w → after_numbers noted now w ≡ all → after_numbers noted rest v ≡ all
-unfolding after_numbers
-numbers_walked w v all e now rest p q h = ap (after_numbers noted rest) q ∙ (ap (λ n. after_numbers noted n w) (sym p) ∙ h)
-
-pub numbers_ended : (w all : State) (now : ExpressionTrees) → now ≡ no_expressions → after_numbers noted now w ≡ all → w ≡ all
-unfolding after_numbers
-numbers_ended w all now p h = ap (λ n. after_numbers noted n w) (sym p) ∙ h
-
-pub numbers_step : (t : IntType) (w v : State) (e : ExpressionTree) (now rest : ExpressionTrees) (xs ys all : List ℤ) → now ≡ expression_then e rest → v ≡ after_constant noted e w → ys ≡ xs ++ number_at t w e ∷ [] →
-    xs ++ numbers_at noted t now w ≡ all → ys ++ numbers_at noted t rest v ≡ all
-unfolding numbers_at
-numbers_step t w v e now rest xs ys all p q s h =
-    ap (λ x. ys ++ numbers_at noted t rest x) q
-    ∙ (ap (λ y. y ++ numbers_at noted t rest (after_constant noted e w)) s
-    ∙ (append_assoc xs (number_at t w e ∷ []) (numbers_at noted t rest (after_constant noted e w)) ∙ (ap (λ m. xs ++ numbers_at noted t m w) (sym p) ∙ h)))
-
-pub numbers_done : (t : IntType) (w : State) (now : ExpressionTrees) (xs all : List ℤ) → now ≡ no_expressions → xs ++ numbers_at noted t now w ≡ all → xs ≡ all
-unfolding numbers_at
-numbers_done t w now xs all p h = sym (append-nil xs) ∙ (ap (λ m. xs ++ numbers_at noted t m w) (sym p) ∙ h)
+pub objects_append : (xs ys : List FileObject) → map file_object_tree (xs ++ ys) ≡ map file_object_tree xs ++ map file_object_tree ys
+objects_append xs ys = map-append file_object_tree xs ys
 
 pub objects_step : (storage : Option Storage) (words : Words) (f g all : Files) (now rest : List DeclaratorTree) (d : DeclaratorTree) → now ≡ d ∷ rest → g ≡ after_object noted storage words d f → after_objects noted storage words now f ≡ all → after_objects noted storage words rest g ≡ all
 unfolding after_objects

@@ -1,5 +1,6 @@
 -- External definitions from a place on.
 use Rattle.std.proofs.Math.Seq.{drop-cons}
+use Rattle.std.proofs.Math.Nat.{add-zero, add_assoc}
 use Rattle.std.proofs.lemmas.List.{drop_all}
 use Rattle.std.proofs.Common.{◌≡◌, ℕ, suc, ◌+◌, ◌<◌, ◌≤◌, Bool, List, [], ◌∷◌, Option, drop, get_or, length, add-one, ap, sym, ◌∙◌}
 use Rattle.pk_ast.specs.declared.units.External.{External}
@@ -8,7 +9,7 @@ use Rattle.pk_ast.specs.Views.{external_tree, external_trees}
 use Rattle.pk_type_scope.specs.declared.failures.Failure.{Failure}
 use Rattle.pk_type_scope.specs.Failures.{noted}
 use Rattle.pk_type.specs.Files.{Filed}
-use Rattle.pk_type.specs.Units.{and_defined, defined_in, after_external, after_externals}
+use Rattle.pk_type.specs.Units.{and_defined, defined_in, objects_of, objects_in, after_external, after_externals}
 
 pub next : (xs : List External) (i : ℕ) (x : External) → i < length xs → x ≡ get_or xs i x → external_trees (drop i xs) ≡ external_tree x ∷ external_trees (drop (i + 1) xs)
 next xs i x h is = rw add-one (ap external_trees (drop-cons xs i x h ∙ ap (λ z. z ∷ drop (suc i) xs) (sym is)))
@@ -37,3 +38,11 @@ externals_step has f g all now rest x p q h = ap (after_externals noted has rest
 pub externals_done : (has : Names) (f all : Files) (now : List ExternalTree) → now ≡ [] → after_externals noted has now f ≡ all → f ≡ all
 unfolding after_externals
 externals_done has f all now p h = ap (λ n. after_externals noted has n f) (sym p) ∙ h
+
+pub count_step : (n m all : ℕ) (now rest : List ExternalTree) (x : ExternalTree) → now ≡ x ∷ rest → m ≡ n + objects_of x → n + objects_in now ≡ all → m + objects_in rest ≡ all
+unfolding objects_in
+count_step n m all now rest x p q h = ap (λ k. k + objects_in rest) q ∙ (add_assoc n (objects_of x) (objects_in rest) ∙ (ap (λ xs. n + objects_in xs) (sym p) ∙ h))
+
+pub count_done : (n all : ℕ) (now : List ExternalTree) → now ≡ [] → n + objects_in now ≡ all → n ≡ all
+unfolding objects_in
+count_done n all now p h = sym (add-zero n) ∙ (ap (λ xs. n + objects_in xs) (sym p) ∙ h)

@@ -1,22 +1,20 @@
 -- Objects of the file scope (C99 6.9.2, 6.7.8). What stands before a place of it: its scope, the objects and the functions.
-use Rattle.std.specs.Prelude.{ℕ, ℤ, pos, Bool, true, false, is_some, Option, Some, None, List, [], ◌∷◌, ◌++◌, length}
-use Rattle.pk_ctypes.specs.declared.types.IntType.{IntType}
+use Rattle.std.specs.Prelude.{ℕ, Bool, true, false, is_some, Option, Some, None, List, [], ◌∷◌, ◌++◌, length}
 use Rattle.pk_ctypes.specs.declared.words.Rule.TheVariants as rule
-use Rattle.pk_ctypes.specs.Types.{wrapped}
 use Rattle.pk_ast.specs.declared.expressions.Identifier.{Identifier}
 use Rattle.pk_ast.specs.declared.units.Storage.{Storage}
 use Rattle.pk_ast.specs.declared.units.StorageWord.TheVariants.{Static, Extern}
-use Rattle.pk_ast.specs.Trees.{ExpressionTree, ExpressionTrees, no_expressions, expression_then, InitializerTree, single, braced, DeclaratorTree, DeclarationTree}
+use Rattle.pk_ast.specs.Trees.{DeclaratorTree, DeclarationTree}
 use Rattle.pk_typed.specs.declared.values.Variable.TheVariants.{File}
-use Rattle.pk_typed.specs.Trees.{BodyTree, FileObjectTree, StartTree, scalar_start, array_start}
+use Rattle.pk_typed.specs.Trees.{BodyTree, FileObjectTree}
 use Rattle.pk_type_scope.specs.declared.declarations.Declaration.{Declaration}
 use Rattle.pk_type_scope.specs.declared.declarations.Declaration.TheVariants as declared
 use Rattle.pk_type_scope.specs.declared.failures.Failure.{Failure}
 use Rattle.pk_type_scope.specs.Failures.{fails_if}
 use Rattle.pk_type_scope.specs.Specifiers.{word_failures}
 use Rattle.pk_type_declaration.specs.declared.words.Words.{Words}
-use Rattle.pk_type_declaration.specs.Constants.{evaluated, number_in, after_constant}
-use Rattle.pk_type_declaration.specs.Declarations.{words_of, integer_in, type_or_int, text_of, redeclared, void_object, special_object, braces, surplus, length_at, after_optional_length, length_or_1}
+use Rattle.pk_type_declaration.specs.Declarations.{words_of, type_or_int, object_of, text_of, redeclared, void_object, special_object, braces, surplus, length_at, after_optional_length, length_or_1}
+use Rattle.pk_type_declaration.specs.Starts.{after_numbers, given, start_at}
 use Rattle.pk_type_declaration.specs.Walks.{Walked, Adding, here, failing, after_name}
 use Rattle.pk_type.specs.Signatures.{SignatureTree}
 
@@ -32,36 +30,6 @@ pub record Filed (F : Type 0) : Type 0 where
   pub objects : List FileObjectTree
   pub functions : List EntryTree
 
--- a value that an object begins with, converted to its type; 0 where a failure leaves it out
-abbrev pub number_or_0 : IntType → Option ℤ → ℤ
-number_or_0 t None = pos 0
-number_or_0 t (Some n) = wrapped t n
-
-abbrev pub number_at : {F : Type 0} → IntType → Walked F → ExpressionTree → ℤ
-number_at t w e = number_or_0 t (number_in (evaluated w e))
-
-unfoldable pub after_numbers : {F : Type 0} → Adding F → ExpressionTrees → Walked F → Walked F
-after_numbers add no_expressions w = w
-after_numbers add (expression_then e es) w = after_numbers add es (after_constant add e w)
-
-unfoldable pub numbers_at : {F : Type 0} → Adding F → IntType → ExpressionTrees → Walked F → List ℤ
-numbers_at add t no_expressions w = []
-numbers_at add t (expression_then e es) w = number_at t w e ∷ numbers_at add t es (after_constant add e w)
-
--- what is given, each of which has to be constant
-abbrev pub given : Option InitializerTree → ExpressionTrees
-given None = no_expressions
-given (Some (single e)) = expression_then e no_expressions
-given (Some (braced at e es)) = expression_then e es
-
-abbrev pub first_or_0 : List ℤ → ℤ
-first_or_0 [] = pos 0
-first_or_0 (n ∷ ns) = n
-
-abbrev pub start_of : Option ℕ → List ℤ → StartTree
-start_of None ns = scalar_start (first_or_0 ns)
-start_of (Some n) ns = array_start n ns
-
 abbrev pub is_extern : Option Storage → Bool
 is_extern None = false
 is_extern (Some storage) = elim storage.word [ Static ↦ false | Extern ↦ true ]
@@ -71,14 +39,7 @@ abbrev pub extern_object : Option Storage → Identifier → List Failure
 extern_object storage x = fails_if (is_extern storage) rule.Extern x.at
 
 abbrev pub file_object : {F : Type 0} → Words → Bool → Filed F → Declaration
-file_object words is_array f =
-    declared.Object
-    (record {
-      variable = File (length f.objects);
-      int_type = integer_in words.typing;
-      is_array = is_array;
-      is_const = words.is_const;
-    })
+file_object words is_array f = declared.Object (object_of words is_array (File (length f.objects)))
 
 -- a declarator as far as what its name begins with
 abbrev pub after_head : {F : Type 0} → Adding F → Option Storage → Words → DeclaratorTree → Filed F → Walked F
@@ -99,8 +60,7 @@ after_object add storage words d f =
       objects = f.objects ++ record {
         name = text_of f.walked.scoping d.name;
         int_type = t;
-        start = start_of (length_or_1 (is_some d.length) (length_at f.walked d.length))
-            (numbers_at add t (given d.initializer) w);
+        start = start_at add t (length_or_1 (is_some d.length) (length_at f.walked d.length)) d.initializer w;
       } ∷ [];
       functions = f.functions;
     }
@@ -113,7 +73,13 @@ after_objects add storage words (d ∷ ds) f = after_objects add storage words d
 -- the calls of a failure's expressions count for no function
 abbrev pub without_calls : {F : Type 0} → Filed F → Filed F
 without_calls f = record {
-  walked = record { scoping = f.walked.scoping; found = f.walked.found; calls = []; locals = f.walked.locals };
+  walked = record {
+    scoping = f.walked.scoping;
+    found = f.walked.found;
+    calls = [];
+    locals = f.walked.locals;
+    statics = f.walked.statics;
+  };
   objects = f.objects;
   functions = f.functions;
 }

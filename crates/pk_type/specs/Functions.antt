@@ -129,7 +129,7 @@ after_body add returns b w =
     (after_items add returns (before_body w) b.items).walked
 
 abbrev pub emptied : {F : Type 0} → Walked F → Walked F
-emptied w = record { scoping = w.scoping; found = w.found; calls = []; locals = [] }
+emptied w = record { scoping = w.scoping; found = w.found; calls = []; locals = []; statics = w.statics }
 
 abbrev pub body_of : {F : Type 0} → BlockTree → ℕ → ℕ → Walked F → ItemTrees → BodyTree
 body_of b visible labels w items =
@@ -165,7 +165,13 @@ defining n body f =
 -- after a function its scope is left, and its calls and objects are its own
 abbrev pub leaving_function : {F : Type 0} → Filed F → Filed F → Filed F
 leaving_function before f = record {
-  walked = record { scoping = before.walked.scoping; found = f.walked.found; calls = []; locals = [] };
+  walked = record {
+    scoping = before.walked.scoping;
+    found = f.walked.found;
+    calls = [];
+    locals = [];
+    statics = f.walked.statics;
+  };
   objects = f.objects;
   functions = f.functions;
 }

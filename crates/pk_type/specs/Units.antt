@@ -1,5 +1,5 @@
 -- Texts (C99 6.9).
-use Rattle.std.specs.Prelude.{ℕ, Bool, true, false, is_some, List, [], ◌∷◌, map, if◌then◌else◌}
+use Rattle.std.specs.Prelude.{ℕ, ◌+◌, Bool, true, false, is_some, List, [], ◌∷◌, ◌++◌, length, map, if◌then◌else◌}
 use Rattle.std.specs.Str.{bytes_eq}
 use Rattle.pk_ast.specs.Trees.{ExternalTree, function, objects, type_names}
 use Rattle.pk_typed.specs.Trees as typed
@@ -36,17 +36,35 @@ unfoldable pub after_externals : {F : Type 0} → Adding F → (List ℕ → Boo
 after_externals add defined [] f = f
 after_externals add defined (x ∷ xs) f = after_externals add defined xs (after_external add defined x f)
 
-abbrev pub nothing_filed : {F : Type 0} → F → List ℕ → Filed F
-nothing_filed found text =
+abbrev pub objects_of : ExternalTree → ℕ
+objects_of (function f) = 0
+objects_of (objects storage d) = 1 + length d.declarators.more
+objects_of (type_names d) = 0
+
+-- how many objects a text declares outside of functions
+unfoldable pub objects_in : List ExternalTree → ℕ
+objects_in [] = 0
+objects_in (x ∷ xs) = objects_of x + objects_in xs
+
+-- before a text that declares so many objects
+abbrev pub nothing_filed : {F : Type 0} → F → List ℕ → ℕ → Filed F
+nothing_filed found text n =
     record {
-      walked = record { scoping = file_scope text; found = found; calls = []; locals = [] };
+      walked = record {
+        scoping = file_scope text;
+        found = found;
+        calls = [];
+        locals = [];
+        statics = record { first = n; made = [] };
+      };
       objects = [];
       functions = [];
     }
 
 -- a text from its beginning to its end, where nothing was found before
 abbrev pub checked : {F : Type 0} → Adding F → F → List ℕ → List ExternalTree → Filed F
-checked add found text trees = after_externals add (defined_in text trees no_name) trees (nothing_filed found text)
+checked add found text trees =
+    after_externals add (defined_in text trees no_name) trees (nothing_filed found text (objects_in trees))
 
 abbrev pub function_of : EntryTree → typed.FunctionTree
 function_of e =
@@ -57,6 +75,6 @@ function_of e =
       body = e.body;
     }
 
--- the typed tree
+-- the typed tree: behind the objects of the file stand the static ones of functions
 abbrev pub unit_of : {F : Type 0} → Filed F → UnitTree
-unit_of f = record { objects = f.objects; functions = map function_of f.functions }
+unit_of f = record { objects = f.objects ++ f.walked.statics.made; functions = map function_of f.functions }

@@ -1,12 +1,10 @@
 // What stands before a place of the file scope.
 
-ghost use Rattle.std.specs.Prelude.{◌≡◌, ◌++◌, ◌∷◌, [], None, is_some, option_map, IfOk, OnOk};
-ghost use Rattle.pk_ast.specs.Views.{expression_tree, expression_trees, initializer_tree, specifiers_tree, declarator_tree, declarator_trees, declaration_tree};
-ghost use Rattle.pk_typed.specs.Views.{start_tree, file_object_tree};
+ghost use Rattle.std.specs.Prelude.{◌≡◌, ◌++◌, None, is_some, IfOk, OnOk};
+ghost use Rattle.pk_ast.specs.Views.{specifiers_tree, declarator_tree, declarator_trees, declaration_tree};
 ghost use Rattle.pk_ctypes.specs.declared.words.Rule.TheVariants as rule;
 ghost use Rattle.pk_type_scope.specs.Failures.{fails_if, noted};
 ghost use Rattle.pk_type_scope.specs.Specifiers.{word_failures};
-ghost use Rattle.pk_type_declaration.specs.Constants.{after_constant};
 ghost use Rattle.pk_type_declaration.specs.Declarations.{length_or_1, length_at};
 ghost use Rattle.pk_type_declaration.specs.Views.{walked_in};
 ghost use Rattle.pk_type_declaration.specs.Walks as walks;
@@ -15,17 +13,14 @@ ghost use Rattle.pk_type.specs.Units.{nothing_filed};
 ghost use Rattle.pk_type.specs.Views.{filed_in};
 
 use crate::signatures::Signature;
-use pk_ast::{
-    Declaration as ObjectDeclaration, Declarator, Expression, Initializer, Specifiers, Storage,
-    StorageWord,
-};
-use pk_ctypes::{IntType, Name, Pos, Rule, convert};
+use pk_ast::{Declaration as ObjectDeclaration, Declarator, Specifiers, Storage, StorageWord};
+use pk_ctypes::{Name, Pos, Rule};
 use pk_type_declaration::{
-    Walk, Words, integer_in, length_or_1, note_braces, note_surplus, special, type_or_int,
+    Statics, Walk, Words, integer_in, length_or_1, note_braces, note_surplus, special, type_or_int,
 };
 use pk_type_scope::{Declaration, Notes, Object, Scope, spelling};
 use pk_type_statement::Statements;
-use pk_typed::{Body, FileObject, Start, Variable};
+use pk_typed::{Body, FileObject, Variable};
 use std::alloc::{AllocError, Global};
 
 /// A function that was declared: whether it was defined, and its body, where that has a tree.
@@ -57,100 +52,6 @@ fn is_extern(storage: &Option<Storage>) -> bool
     }
 }
 
-fn number_or_0(int_type: IntType, number: Option<i128>) -> i128
-    ensures { result ≡ definitions.number_or_0 int_type number }
-{
-    match number {
-        None => 0,
-        Some(number) => convert(int_type, number),
-    }
-}
-
-fn first_or_0(numbers: &[i128]) -> i128
-    ensures { result ≡ definitions.first_or_0 numbers.now }
-{
-    match numbers {
-        [] => 0,
-        [first, ..] => *first,
-    }
-}
-
-#[tactic(auto, unfolding(pk_typed::specs::Views::start_tree))]
-fn start_of(length: Option<usize>, items: Vec<i128>) -> Start
-    ensures { start_tree result ≡ definitions.start_of length items.items }
-{
-    match length {
-        None => Start::Scalar(first_or_0(&items)),
-        Some(length) => Start::Array { length, items },
-    }
-}
-
-// A value that an object begins with, after others.
-fn number(
-    walk: &mut Walk<'_>,
-    alloc: Global,
-    int_type: IntType,
-    e: &Expression,
-    all: &mut Vec<i128>,
-) -> Result<(), AllocError>
-    ensures walked { OnOk result
-        (walked_in walk.new ≡ after_constant noted (expression_tree e.now) (walked_in walk.old)) }
-    ensures numbers { OnOk result (all.new.items
-        ≡ all.old.items ++ definitions.number_at int_type (walked_in walk.old) (expression_tree e.now) ∷ []) }
-{
-    let evaluated = walk.constant(alloc, e)?;
-    all.push(number_or_0(int_type, evaluated.number()))?;
-    Ok(())
-}
-
-// Values that an object begins with, after others.
-fn numbers(
-    walk: &mut Walk<'_>,
-    alloc: Global,
-    int_type: IntType,
-    list: &[Expression],
-    all: &mut Vec<i128>,
-) -> Result<(), AllocError>
-    ensures walked { OnOk result (walked_in walk.new
-        ≡ definitions.after_numbers noted (expression_trees list.now) (walked_in walk.old)) }
-    ensures numbers { OnOk result (all.new.items
-        ≡ all.old.items ++ definitions.numbers_at noted int_type (expression_trees list.now) (walked_in walk.old)) }
-{
-    for e in list {
-        number(walk, alloc, int_type, e, all)?;
-    }
-    Ok(())
-}
-
-// What an object begins with.
-#[tactic(auto, unfolding(pk_ast::specs::Views::initializer_tree, crate::specs::Files::after_numbers, crate::specs::Files::numbers_at))]
-fn given(
-    walk: &mut Walk<'_>,
-    alloc: Global,
-    int_type: IntType,
-    first: &Option<Initializer>,
-) -> Result<Vec<i128>, AllocError>
-    ensures walked { OnOk result (walked_in walk.new
-        ≡ definitions.after_numbers noted (definitions.given (option_map initializer_tree first.now))
-        (walked_in walk.old)) }
-    ensures numbers { IfOk result (λ v. v.items
-        ≡ definitions.numbers_at noted int_type (definitions.given (option_map initializer_tree first.now))
-        (walked_in walk.old)) }
-{
-    let mut all = Vec::new(alloc);
-    match first {
-        None => {}
-        Some(Initializer::Single(e)) => {
-            number(walk, alloc, int_type, e, &mut all)?;
-        }
-        Some(Initializer::Braced { first, more, .. }) => {
-            number(walk, alloc, int_type, first, &mut all)?;
-            numbers(walk, alloc, int_type, more, &mut all)?;
-        }
-    }
-    Ok(all)
-}
-
 // Notes what fails at the name of an object.
 #[tactic(auto, using(pk_type_statement::proofs::CaseLemmas::failing_twice))]
 fn note_rows(
@@ -172,8 +73,9 @@ fn note_rows(
 }
 
 impl<'a> File<'a> {
-    pub fn new(alloc: Global, text: &'a [u8]) -> File<'a>
-        ensures { filed_in result ≡ nothing_filed None text.now }
+    /// Before a text that declares so many objects outside of functions.
+    pub fn new(alloc: Global, text: &'a [u8], objects: usize) -> File<'a>
+        ensures { filed_in result ≡ nothing_filed None text.now objects }
     {
         File {
             to: Statements {
@@ -181,6 +83,10 @@ impl<'a> File<'a> {
                     scope: Scope::new(alloc, text),
                     notes: Notes::new(alloc),
                     locals: Vec::new(alloc),
+                    statics: Statics {
+                        first: objects,
+                        made: Vec::new(alloc),
+                    },
                 },
                 cases: Vec::new(alloc),
                 has_default: false,
@@ -252,11 +158,11 @@ impl<'a> File<'a> {
         let name = Name::new(alloc, spelling(self.to.walk.scope.text, d.name))?;
         let int_type = type_or_int(words.typing);
         let length = self.head(alloc, storage, words, d)?;
-        let items = given(&mut self.to.walk, alloc, int_type, &d.initializer)?;
+        let start = self.to.walk.start(alloc, int_type, length, &d.initializer)?;
         self.objects.push(FileObject {
             name,
             int_type,
-            start: start_of(length, items),
+            start,
         })?;
         Ok(())
     }

@@ -1,6 +1,6 @@
 // Texts.
 
-ghost use Rattle.std.specs.Prelude.{◌≡◌, ◌⊎◌, None, Some, IfOk, IfErr, OnOk, map};
+ghost use Rattle.std.specs.Prelude.{◌≡◌, ◌⊎◌, ◌+◌, ◌++◌, None, Some, IfOk, IfErr, OnOk, map};
 ghost use Rattle.pk_ast.specs.Views as ast;
 ghost use Rattle.pk_ast.specs.Views.{external_tree, external_trees};
 ghost use Rattle.pk_typed.specs.Views.{function_tree, unit_tree};
@@ -16,7 +16,9 @@ use pk_ast::{External, Unit};
 use pk_ctypes::{IntType, Pos, Rule};
 use pk_type_declaration::{integer_in, type_or_int};
 use pk_type_scope::{Typing, spelling};
+use pk_type_statement::Statements;
 use pk_typed as typed;
+use pk_typed::FileObject;
 use std::alloc::{AllocError, Global};
 
 /// Why a text has no typed tree.
@@ -110,6 +112,42 @@ fn functions_of(alloc: Global, entries: Vec<Entry>) -> Result<Vec<typed::Functio
     Ok(functions)
 }
 
+// Two numbers that memory can't count are want of memory.
+fn sum(a: usize, b: usize) -> Result<usize, AllocError>
+    ensures { IfOk result (λ n. n ≡ a + b) }
+{
+    match a.checked_add(b) {
+        Some(sum) => Ok(sum),
+        None => Err(AllocError),
+    }
+}
+
+// Counts the objects of an external definition after others.
+#[tactic(auto, unfolding(pk_ast::specs::Views::external_tree, pk_ast::specs::Views::declaration_tree))]
+fn and_objects(count: usize, external: &External) -> Result<usize, AllocError>
+    ensures { IfOk result (λ n. n ≡ count + definitions.objects_of (external_tree external.now)) }
+{
+    match external {
+        External::Declaration(_, d) => {
+            let count = sum(count, 1)?;
+            sum(count, d.declarators.more.len())
+        }
+        External::Function(_) => Ok(count),
+        External::TypeNames(_) => Ok(count),
+    }
+}
+
+// How many objects a text declares outside of functions.
+fn objects_in(list: &[External]) -> Result<usize, AllocError>
+    ensures { IfOk result (λ n. n ≡ definitions.objects_in (external_trees list.now)) }
+{
+    let mut count = 0;
+    for external in list {
+        count = and_objects(count, external)?;
+    }
+    Ok(count)
+}
+
 fn externals(
     file: &mut File<'_>,
     alloc: Global,
@@ -147,13 +185,33 @@ fn filed<'a>(alloc: Global, text: &'a [u8], unit: &Unit) -> Result<File<'a>, All
     ensures { IfOk result (λ f. filed_in f ≡ definitions.checked noted None text.now (ast.unit_tree unit.now)) }
 {
     let defined = defined(alloc, text, &unit.externals)?;
-    let mut file = File::new(alloc, text);
+    let objects = objects_in(&unit.externals)?;
+    let mut file = File::new(alloc, text, objects);
     externals(&mut file, alloc, &defined, &unit.externals)?;
     Ok(file)
 }
 
+// Generic, since what is dropped where memory ends is then one value to the prover.
+fn together<T: Drop>(first: Vec<T>, more: Vec<T>) -> Result<Vec<T>, AllocError>
+    ensures { IfOk result (λ all. all.items ≡ first.items ++ more.items) }
+{
+    let mut all = first;
+    let mut more = more;
+    all.append(&mut more)?;
+    Ok(all)
+}
+
+// The static objects that were made.
+fn made_in(to: Statements<'_>) -> Vec<FileObject>
+    ensures { result ≡ to.entry.walk.statics.made }
+{
+    let walk = to.walk;
+    let statics = walk.statics;
+    statics.made
+}
+
 /// The typed tree of a text in which no rule fails; else the first failure: the earliest place, and of the rules that fail there the upper one.
-#[tactic(auto, unfolding(pk_typed::specs::Views::unit_tree))]
+#[tactic(auto, using(crate::proofs::FileLemmas::objects_append), unfolding(pk_typed::specs::Views::unit_tree))]
 pub fn check(alloc: Global, text: &[u8], unit: &Unit) -> Result<typed::Unit, Refusal>
     ensures accepted { let f = definitions.checked noted None text.now (ast.unit_tree unit.now) in
         IfOk result (λ u. (f.walked.found ≡ None) × (unit_tree u ≡ definitions.unit_of f)) }
@@ -169,8 +227,6 @@ pub fn check(alloc: Global, text: &[u8], unit: &Unit) -> Result<typed::Unit, Ref
         });
     }
     let functions = functions_of(alloc, file.functions)?;
-    Ok(typed::Unit {
-        objects: file.objects,
-        functions,
-    })
+    let objects = together(file.objects, made_in(file.to))?;
+    Ok(typed::Unit { objects, functions })
 }
