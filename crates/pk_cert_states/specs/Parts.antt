@@ -45,13 +45,15 @@ pub record AreFirst (ks : Kinds) (arrays : Bool) (symbols : List Symbol) (vs : L
   pub told : (rest : List Symbol) × (symbols ≡ map kept (fours_of arrays ks vs) ++ rest)
 
 -- The values of the first x variables are those of which the first symbols are the numbers, and these are left.
-pub record AreFilledTo (ks : Kinds) (arrays : Bool) (symbols rest : List Symbol) (before after : List Known) (x : ℕ) : Type 0 where
+pub record AreFilledTo (ks : Kinds) (arrays : Bool) (symbols rest : List Symbol) (before after : List Known)
+    (x : ℕ) : Type 0 where
   pub values : AreIn ks after
   pub told : symbols ≡ map kept (fours_of arrays (take x ks) (take x after)) ++ rest
   pub others : fours_of (not arrays) ks after ≡ fours_of (not arrays) ks before
 
 -- the arrays, or the scalars, have got the values of which the symbols are the first numbers, and the others are as before
-pub record AreFilled (ks : Kinds) (arrays : Bool) (symbols rest : List Symbol) (before after : List Known) : Type 0 where
+pub record AreFilled (ks : Kinds) (arrays : Bool) (symbols rest : List Symbol)
+    (before after : List Known) : Type 0 where
   pub values : AreIn ks after
   pub told : symbols ≡ map kept (fours_of arrays ks after) ++ rest
   pub others : fours_of (not arrays) ks after ≡ fours_of (not arrays) ks before
@@ -85,7 +87,8 @@ pub record AreBoundsOf (n : ℕ) (symbols : List Symbol) (m : Octagon) : Type 0 
 -- values of the types, of which these symbols are the first numbers, those of the scalars before those of the arrays
 pub record AreAllFirst (ks : Kinds) (symbols : List Symbol) (vs : List Known) : Type 0 where
   pub values : AreIn ks vs
-  pub told : (rest : List Symbol) × (symbols ≡ map kept (fours_of false ks vs) ++ (map kept (fours_of true ks vs) ++ rest))
+  pub told : (rest : List Symbol)
+      × (symbols ≡ map kept (fours_of false ks vs) ++ (map kept (fours_of true ks vs) ++ rest))
 
 pub record AreAllRead (ks : Kinds) (symbols rest : List Symbol) (vs : List Known) : Type 0 where
   pub values : AreIn ks vs

@@ -112,7 +112,8 @@ fn write_words(bytes: &mut Vec<u8>, name: &[u8], index: &[u8]) -> Result<(), All
 
 fn write_index(bytes: &mut Vec<u8>, text: &Text<'_>, at: Pos) -> Result<(), AllocError>
     ensures { OnOk result (bytes.new.items
-        ≡ bytes.old.items ++ messages.words_of (messages.name_in (messages.before_in text.now at)) (messages.index_in (messages.from_in text.now at))) }
+        ≡ bytes.old.items ++ messages.words_of (messages.name_in (messages.before_in text.now at))
+        (messages.index_in (messages.from_in text.now at))) }
 {
     let (front, rest) = parted(line_of(text, at), at.column);
     write_words(bytes, name_in(front), index_in(rest))

@@ -312,7 +312,8 @@ fn write_finding(
     text: &Text<'_>,
     operation: &Operation<'_>,
 ) -> Result<(), AllocError>
-    ensures { OnOk result (bytes.new.items ≡ bytes.old.items ++ listing.finding_text sources.now text.now operation.now) }
+    ensures { OnOk result (bytes.new.items
+        ≡ bytes.old.items ++ listing.finding_text sources.now text.now operation.now) }
 {
     match verdict_of(operation) {
         Verdict::Safe => Ok(()),
@@ -330,7 +331,8 @@ fn write_findings(
     text: &Text<'_>,
     operations: &[Operation<'_>],
 ) -> Result<(), AllocError>
-    ensures { OnOk result (bytes.new.items ≡ bytes.old.items ++ listing.findings_text sources.now text.now operations.now) }
+    ensures { OnOk result (bytes.new.items
+        ≡ bytes.old.items ++ listing.findings_text sources.now text.now operations.now) }
 {
     for k in 0..operations.len() {
         write_finding(alloc, bytes, sources, text, &operations[k])?;

@@ -39,7 +39,7 @@ use Rattle.pk_analysis.specs.Flows.{arrived, start_at}
 use Rattle.pk_sound.specs.Results.{known_at_point}
 use Rattle.pk_sound.specs.Held.{Agrees, ResultHoldsRuns}
 use Rattle.pk_sound.specs.Families.{given_on, IsLaidOut, AreFactsOf, IsSolved, ResultsAreFamilies}
-use Rattle.pk_sound.specs.FamilyRuns.{IsHeldBy, FamiliesHoldRuns}
+use Rattle.pk_sound.specs.FamilyRuns.{FamiliesHoldRuns}
 use Rattle.pk_sound.proofs.Solving.{result_is_solved}
 
 -- an edge of a point

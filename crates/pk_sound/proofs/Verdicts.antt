@@ -1,6 +1,6 @@
 -- Verdicts by a solved family hold in all runs, and so those by the result.
 use Rattle.std.specs.Prelude.{◌≡◌, ℤ}
-use Rattle.std.proofs.Common.{subst, sym, refl, inl, inr}
+use Rattle.std.proofs.Common.{refl, inl, inr}
 use Rattle.std.proofs.lemmas.List.Elements.{All-contains}
 use Rattle.pk_graph.specs.Graphs.{kinds_of}
 use Rattle.pk_graph.specs.declared.verdicts.Verdict.{Verdict}
