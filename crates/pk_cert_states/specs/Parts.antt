@@ -53,10 +53,10 @@ pub record AreFilledTo (ks : Kinds) (arrays : Bool) (symbols rest : List Symbol)
 
 -- the arrays, or the scalars, have got the values of which the symbols are the first numbers, and the others are as before
 pub record AreFilled (ks : Kinds) (arrays : Bool) (symbols rest : List Symbol)
-    (before after : List Known) : Type 0 where
-  pub values : AreIn ks after
-  pub told : symbols ≡ map kept (fours_of arrays ks after) ++ rest
-  pub others : fours_of (not arrays) ks after ≡ fours_of (not arrays) ks before
+    (old new : List Known) : Type 0 where
+  pub values : AreIn ks new
+  pub told : symbols ≡ map kept (fours_of arrays ks new) ++ rest
+  pub others : fours_of (not arrays) ks new ≡ fours_of (not arrays) ks old
 
 -- the bound in a row and a column, in rows of d
 abbrev pub bound_of : List Symbol → ℕ → ℕ → ℕ → Option ℤ
