@@ -12,10 +12,11 @@ use Rattle.pk_ast.specs.Lists.{one}
 use Rattle.pk_grammar.specs.declared.states.Testing.TheVariants as testing
 use Rattle.pk_grammar.specs.declared.signs.Fixed.TheVariants as fixed
 use Rattle.pk_grammar.specs.Languages.{Marked, ◌⊙◌, identifier_of}
-use Rattle.pk_grammar.specs.Grammar.{punctuator, keyword, for_start, optional, statement, block_items}
+use Rattle.pk_grammar.specs.Grammar.{punctuator, keyword, declared, for_start, optional, statement, block_items}
 use Rattle.pk_grammar.specs.Machine.Signs.{is_fixed, specifier_word, specifier_in}
-use Rattle.pk_grammar.specs.Machine.States.{Head, OpenBlock, function_block, inner_block, Outer, in_block, in_label, in_case, in_default, in_if, in_else, in_switch, in_while, in_do, in_for, in_a_block, in_a_for, as_statement, as_label, as_last_test, as_first, as_second, as_third, as_whole, State, after_specifiers, block_item, at_statement, after_statement, test_open, do_open, for_open, for_first, for_second, for_third, default_colon, statement_end, operand, named, complete}
-use Rattle.pk_grammar.specs.Machine.Steps.{taken, reduced, specifier_at, block_nesting, with_statement, with_declaration, one_more_statement, one_more_declaration, declaration_or_statement, end_block, begin_for, resume, step}
+use Rattle.pk_grammar.specs.Machine.States.{Head, OpenBlock, function_block, inner_block, Outer, in_block, in_label, in_case, in_default, in_if, in_else, in_switch, in_while, in_do, in_for, in_a_block, in_a_for, as_statement, as_label, as_last_test, as_first, as_second, as_third, as_whole, State, after_specifiers, block_item, after_static, at_statement, after_statement, test_open, do_open, for_open, for_first, for_second, for_third, default_colon, statement_end, operand, named, complete}
+use Rattle.pk_grammar.specs.Machine.Steps.{taken, reduced, specifier_at, block_nesting, with_statement, with_declaration, one_more_statement, one_more_declaration, declaration_or_statement, begin_static, end_block, begin_for, resume, step}
+use Rattle.pk_grammar.proofs.SpellsWords.{alone}
 use Rattle.pk_grammar.proofs.CompleteLists.{tokens_of, Reads, reads_join, reads_both, reads_none, reads_from, reads_to, reads_head, reads_sign, reads_last}
 use Rattle.pk_grammar.proofs.CompleteSigns.{Begins, sign_semicolon, sign_close}
 use Rattle.pk_grammar.proofs.CompleteOperands.{IsAt, ends_at_sign, ends_at_colon, same_false, same_true}
@@ -280,9 +281,9 @@ read_for at start second third s r = record {
 
 -- Blocks
 
-nesting_declaration : (b : OpenBlock) (d : DeclarationTree) → block_nesting (with_declaration b d) ≡ block_nesting b
-nesting_declaration (function_block h ps at items) d = refl
-nesting_declaration (inner_block n at items o) d = refl
+nesting_declaration : (b : OpenBlock) (s : Option Pos) (d : DeclarationTree) → block_nesting (with_declaration b s d) ≡ block_nesting b
+nesting_declaration (function_block h ps at items) s d = refl
+nesting_declaration (inner_block n at items o) s d = refl
 
 nesting_statement : (b : OpenBlock) (s : StatementTree) → block_nesting (with_statement b s) ≡ block_nesting b
 nesting_statement (function_block h ps at items) s = refl
@@ -291,7 +292,7 @@ nesting_statement (inner_block n at items o) s = refl
 -- a block with these items too
 abbrev pub filled : OpenBlock → ItemTrees → OpenBlock
 filled b no_items = b
-filled b (declaration_then d items) = filled (with_declaration b d) items
+filled b (declaration_then s d items) = filled (with_declaration b s d) items
 filled b (statement_then s items) = filled (with_statement b s) items
 
 pub record ItemsRead (items : ItemTrees) : Type 0 where
@@ -305,24 +306,40 @@ read_no_items : ItemsRead no_items
 unfolding block_items
 read_no_items = record { reads = λ b q same ms close rest h e. record { state = q; reads = reads_none h; then = same close ∙ step_close b close e } }
 
-step_declaration : (b : OpenBlock) (t : Token) (w : SpecifierWord) → specifier_word t ≡ Some w → step (block_item b) t ≡ taken (block_nesting b) (after_specifiers (in_a_block b) (one (specifier_at t w)))
+step_declaration : (b : OpenBlock) (t : Token) (w : SpecifierWord) → specifier_word t ≡ Some w → step (block_item b) t ≡ taken (block_nesting b) (after_specifiers (in_a_block b None) (one (specifier_at t w)))
 step_declaration b t w e = ap (λ w. declaration_or_statement b t w) e
 
-read_declaration_then : (d : DeclarationTree) (items : ItemTrees) → ItemsRead items → ItemsRead (declaration_then d items)
+pub step_static : (b : OpenBlock) (at : Pos) (t : Token) → IsKeyword key.Static at t → step (block_item b) t ≡ taken (block_nesting b) (after_static b at)
+step_static b at t e = rw (e.0, e.1)
+
+read_declared_then : (s : Option Pos) (d : DeclarationTree) (items : ItemTrees) → ItemsRead items → (b : OpenBlock) (q : State) →
+    ((t : Token) (w : SpecifierWord) → specifier_word t ≡ Some w → step q t ≡ taken (block_nesting b) (after_specifiers (in_a_block b s) (one (specifier_at t w)))) →
+    (ms : List Marked) (close : Token) (rest : List Token) → (declared d ⊙ block_items items) (block_nesting b) ms → close.kind ≡ kind.Punctuator mark.CloseBrace →
+    ReadsTo q ms close rest (end_block (filled b (declaration_then s d items)) close)
+read_declared_then s d items r b q takes ms close rest h e =
+    let g : block_items items (block_nesting (with_declaration b s d)) h.back = subst (λ n. block_items items n h.back) (sym (nesting_declaration b s d)) h.second in
+    let k = r.reads (with_declaration b s d) (block_item (with_declaration b s d)) (λ t. refl) h.back close rest g e in
+    record {
+      state = k.state;
+      reads = reads_both h (reads_declared (in_a_block b s) q takes d (tokens_of h.back ++ close ∷ rest) h.front h.first) k.reads;
+      then = k.then;
+    }
+
+read_declaration_then : (s : Option Pos) (d : DeclarationTree) (items : ItemTrees) → ItemsRead items → ItemsRead (declaration_then s d items)
 unfolding block_items
-read_declaration_then d items r = record {
+read_declaration_then None d items r = record {
+  reads = λ b q same ms close rest h e. read_declared_then None d items r b q (λ t w f. same t ∙ step_declaration b t w f) ms close rest (alone h) e;
+}
+read_declaration_then (Some at) d items r = record {
   reads = λ b q same ms close rest h e.
-      let g : block_items items (block_nesting (with_declaration b d)) h.back = subst (λ n. block_items items n h.back) (sym (nesting_declaration b d)) h.second in
-      let k = r.reads (with_declaration b d) (block_item (with_declaration b d)) (λ t. refl) h.back close rest g e in
-      record {
-        state = k.state;
-        reads = reads_both h (reads_declared (in_a_block b) q (λ t w f. same t ∙ step_declaration b t w f) d (tokens_of h.back ++ close ∷ rest) h.front h.first) k.reads;
-        then = k.then;
-      };
+      let t = h.first.token in
+      let k = read_declared_then (Some at) d items r b (after_static b at) (λ t w f. ap (λ o. begin_static b at t o) f) h.back close rest h.second e in
+      record { state = k.state; reads = reads_head h (same t ∙ step_static b at t h.first.holds) k.reads; then = k.then };
 }
 
 step_item_statement : (b : OpenBlock) (t : Token) → BeginsStatement t.kind → step (block_item b) t ≡ step (at_statement (block_nesting b) (in_block b)) t
 step_item_statement b t h = ap (λ w. declaration_or_statement b t w) (h.no_specifier t.start t.end) ∙ same_false (is_fixed fixed.CloseBrace t.kind) _ _ h.no_close_brace
+    ∙ same_false (is_fixed fixed.Static t.kind) _ _ h.no_static
 
 from_statement : (s : StatementTree) (n : ℕ) (ms : List Marked) {q q' r : State} {rest : List Token} → statement s n ms → ((t : Token) → BeginsStatement t.kind → step q t ≡ step q' t) →
     Reads q' ms r rest → Reads q ms r rest
@@ -354,32 +371,32 @@ read_statement_then s items rs r = record {
 
 abbrev append_items : ItemTrees → ItemTrees → ItemTrees
 append_items no_items items = items
-append_items (declaration_then d done) items = declaration_then d (append_items done items)
+append_items (declaration_then s d done) items = declaration_then s d (append_items done items)
 append_items (statement_then s done) items = statement_then s (append_items done items)
 
-append_declaration : (done : ItemTrees) (d : DeclarationTree) (items : ItemTrees) → append_items (one_more_declaration done d) items ≡ append_items done (declaration_then d items)
-append_declaration no_items d items = refl
-append_declaration (declaration_then c done) d items = ap (λ q. declaration_then c q) (append_declaration done d items)
-append_declaration (statement_then r done) d items = ap (λ q. statement_then r q) (append_declaration done d items)
+append_declaration : (done : ItemTrees) (s : Option Pos) (d : DeclarationTree) (items : ItemTrees) → append_items (one_more_declaration done s d) items ≡ append_items done (declaration_then s d items)
+append_declaration no_items s d items = refl
+append_declaration (declaration_then p c done) s d items = ap (λ q. declaration_then p c q) (append_declaration done s d items)
+append_declaration (statement_then r done) s d items = ap (λ q. statement_then r q) (append_declaration done s d items)
 
 append_statement : (done : ItemTrees) (s : StatementTree) (items : ItemTrees) → append_items (one_more_statement done s) items ≡ append_items done (statement_then s items)
 append_statement no_items s items = refl
-append_statement (declaration_then c done) s items = ap (λ q. declaration_then c q) (append_statement done s items)
+append_statement (declaration_then p c done) s items = ap (λ q. declaration_then p c q) (append_statement done s items)
 append_statement (statement_then r done) s items = ap (λ q. statement_then r q) (append_statement done s items)
 
 append_no_items : (done : ItemTrees) → done ≡ append_items done no_items
 append_no_items no_items = refl
-append_no_items (declaration_then c done) = ap (λ q. declaration_then c q) (append_no_items done)
+append_no_items (declaration_then p c done) = ap (λ q. declaration_then p c q) (append_no_items done)
 append_no_items (statement_then r done) = ap (λ q. statement_then r q) (append_no_items done)
 
 filled_inner : (items done : ItemTrees) (n : ℕ) (at : Pos) (o : Outer) → filled (inner_block n at done o) items ≡ inner_block n at (append_items done items) o
 filled_inner no_items done n at o = ap (λ q. inner_block n at q o) (append_no_items done)
-filled_inner (declaration_then d items) done n at o = filled_inner items (one_more_declaration done d) n at o ∙ ap (λ q. inner_block n at q o) (append_declaration done d items)
+filled_inner (declaration_then s d items) done n at o = filled_inner items (one_more_declaration done s d) n at o ∙ ap (λ q. inner_block n at q o) (append_declaration done s d items)
 filled_inner (statement_then s items) done n at o = filled_inner items (one_more_statement done s) n at o ∙ ap (λ q. inner_block n at q o) (append_statement done s items)
 
 pub filled_function : (items done : ItemTrees) (h : Head) (ps : List ParameterTree) (at : Pos) → filled (function_block h ps at done) items ≡ function_block h ps at (append_items done items)
 filled_function no_items done h ps at = ap (λ q. function_block h ps at q) (append_no_items done)
-filled_function (declaration_then d items) done h ps at = filled_function items (one_more_declaration done d) h ps at ∙ ap (λ q. function_block h ps at q) (append_declaration done d items)
+filled_function (declaration_then s d items) done h ps at = filled_function items (one_more_declaration done s d) h ps at ∙ ap (λ q. function_block h ps at q) (append_declaration done s d items)
 filled_function (statement_then s items) done h ps at = filled_function items (one_more_statement done s) h ps at ∙ ap (λ q. function_block h ps at q) (append_statement done s items)
 
 step_block : (n : ℕ) (o : Outer) (at : Pos) (t : Token) → IsAt mark.OpenBrace at t → step (at_statement n o) t ≡ taken (n + 1) (block_item (inner_block n at no_items o))
@@ -419,5 +436,5 @@ mutual
 
   pub items_read : (items : ItemTrees) → ItemsRead items
   items_read no_items = read_no_items
-  items_read (declaration_then d items) = read_declaration_then d items (items_read items)
+  items_read (declaration_then s d items) = read_declaration_then s d items (items_read items)
   items_read (statement_then s items) = read_statement_then s items (statement_read s) (items_read items)

@@ -17,6 +17,7 @@ use Rattle.pk_grammar.specs.Grammar.{Expression, punctuator, specifiers, OpenEnd
 use Rattle.pk_grammar.specs.Machine.Signs.{is_fixed, specifier_in}
 use Rattle.pk_grammar.specs.Machine.States.{Outer, Purpose, as_statement, as_test, as_result, as_whole, State, at_statement, after_statement, test_open, goto_name, returning, statement_end, operand, complete}
 use Rattle.pk_grammar.specs.Machine.Steps.{Verdict, taken, reduced, purpose_level, tested, begin_statement, step}
+use Rattle.pk_grammar.proofs.SpellsWords.{alone}
 use Rattle.pk_grammar.proofs.CompleteLists.{tokens_of, Reads, reads_both, reads_one, reads_none, reads_head, reads_last}
 use Rattle.pk_grammar.proofs.CompleteSigns.{Begins, begins, sign_semicolon, sign_close, specifier_no_else}
 use Rattle.pk_grammar.proofs.CompleteOperands.{Ends, IsAt, ends_at_sign, same_false}
@@ -42,28 +43,29 @@ pub record BeginsStatement (k : Kind) : Type 0 where
   pub no_specifier : (from to : ℕ) → specifier_in k from to ≡ None
   pub no_close_brace : is_fixed fixed.CloseBrace k ≡ false
   pub no_else : is_fixed fixed.Else k ≡ false
+  pub no_static : is_fixed fixed.Static k ≡ false
 
 pub first_statement : (s : StatementTree) (n : ℕ) (ms : List Marked) → statement s n ms → First BeginsStatement ms
 unfolding statement
-first_statement (block at items close) n ms h = first_front h (first_front h.first (first_one h.first.first _ h.first.first.holds.0 (record { no_specifier = λ from to. refl; no_close_brace = refl; no_else = refl })))
-first_statement (empty at) n ms h = first_one h _ h.holds.0 (record { no_specifier = λ from to. refl; no_close_brace = refl; no_else = refl })
+first_statement (block at items close) n ms h = first_front h (first_front h.first (first_one h.first.first _ h.first.first.holds.0 (record { no_specifier = λ from to. refl; no_close_brace = refl; no_else = refl; no_static = refl })))
+first_statement (empty at) n ms h = first_one h _ h.holds.0 (record { no_specifier = λ from to. refl; no_close_brace = refl; no_else = refl; no_static = refl })
 first_statement (expression_statement e) n ms h =
     let s = starts e (n + 1) h.front h.first.is in
     let b = begins s.token.kind s.starts in
-    first_front h (record { token = s.token; nesting = s.nesting; more = s.more; is = s.is; holds = record { no_specifier = b.no_specifier; no_close_brace = b.no_close_brace; no_else = b.no_else } })
-first_statement (label id s) n ms h = first_front h (first_one h.first _ h.first.holds.0 (record { no_specifier = λ from to. refl; no_close_brace = refl; no_else = refl }))
-first_statement (case at e s) n ms h = first_front h (first_one h.first _ h.first.holds.0 (record { no_specifier = λ from to. refl; no_close_brace = refl; no_else = refl }))
-first_statement (default at s) n ms h = first_front h (first_one h.first _ h.first.holds.0 (record { no_specifier = λ from to. refl; no_close_brace = refl; no_else = refl }))
-first_statement (if_then at e s) n ms h = first_front h (first_one h.first _ h.first.holds.0 (record { no_specifier = λ from to. refl; no_close_brace = refl; no_else = refl }))
-first_statement (if_else at e s t) n ms h = first_front h (first_one h.first _ h.first.holds.0 (record { no_specifier = λ from to. refl; no_close_brace = refl; no_else = refl }))
-first_statement (switch at e s) n ms h = first_front h (first_one h.first _ h.first.holds.0 (record { no_specifier = λ from to. refl; no_close_brace = refl; no_else = refl }))
-first_statement (while at e s) n ms h = first_front h (first_one h.first _ h.first.holds.0 (record { no_specifier = λ from to. refl; no_close_brace = refl; no_else = refl }))
-first_statement (do_while at s e) n ms h = first_front h (first_front h.first (first_one h.first.first _ h.first.first.holds.0 (record { no_specifier = λ from to. refl; no_close_brace = refl; no_else = refl })))
-first_statement (for_loop at start second third s) n ms h = first_front h (first_one h.first _ h.first.holds.0 (record { no_specifier = λ from to. refl; no_close_brace = refl; no_else = refl }))
-first_statement (goto at id) n ms h = first_front h (first_front h.first (first_one h.first.first _ h.first.first.holds.0 (record { no_specifier = λ from to. refl; no_close_brace = refl; no_else = refl })))
-first_statement (continue at) n ms h = first_front h (first_one h.first _ h.first.holds.0 (record { no_specifier = λ from to. refl; no_close_brace = refl; no_else = refl }))
-first_statement (break at) n ms h = first_front h (first_one h.first _ h.first.holds.0 (record { no_specifier = λ from to. refl; no_close_brace = refl; no_else = refl }))
-first_statement (return at e) n ms h = first_front h (first_front h.first (first_one h.first.first _ h.first.first.holds.0 (record { no_specifier = λ from to. refl; no_close_brace = refl; no_else = refl })))
+    first_front h (record { token = s.token; nesting = s.nesting; more = s.more; is = s.is; holds = record { no_specifier = b.no_specifier; no_close_brace = b.no_close_brace; no_else = b.no_else; no_static = b.no_static } })
+first_statement (label id s) n ms h = first_front h (first_one h.first _ h.first.holds.0 (record { no_specifier = λ from to. refl; no_close_brace = refl; no_else = refl; no_static = refl }))
+first_statement (case at e s) n ms h = first_front h (first_one h.first _ h.first.holds.0 (record { no_specifier = λ from to. refl; no_close_brace = refl; no_else = refl; no_static = refl }))
+first_statement (default at s) n ms h = first_front h (first_one h.first _ h.first.holds.0 (record { no_specifier = λ from to. refl; no_close_brace = refl; no_else = refl; no_static = refl }))
+first_statement (if_then at e s) n ms h = first_front h (first_one h.first _ h.first.holds.0 (record { no_specifier = λ from to. refl; no_close_brace = refl; no_else = refl; no_static = refl }))
+first_statement (if_else at e s t) n ms h = first_front h (first_one h.first _ h.first.holds.0 (record { no_specifier = λ from to. refl; no_close_brace = refl; no_else = refl; no_static = refl }))
+first_statement (switch at e s) n ms h = first_front h (first_one h.first _ h.first.holds.0 (record { no_specifier = λ from to. refl; no_close_brace = refl; no_else = refl; no_static = refl }))
+first_statement (while at e s) n ms h = first_front h (first_one h.first _ h.first.holds.0 (record { no_specifier = λ from to. refl; no_close_brace = refl; no_else = refl; no_static = refl }))
+first_statement (do_while at s e) n ms h = first_front h (first_front h.first (first_one h.first.first _ h.first.first.holds.0 (record { no_specifier = λ from to. refl; no_close_brace = refl; no_else = refl; no_static = refl })))
+first_statement (for_loop at start second third s) n ms h = first_front h (first_one h.first _ h.first.holds.0 (record { no_specifier = λ from to. refl; no_close_brace = refl; no_else = refl; no_static = refl }))
+first_statement (goto at id) n ms h = first_front h (first_front h.first (first_one h.first.first _ h.first.first.holds.0 (record { no_specifier = λ from to. refl; no_close_brace = refl; no_else = refl; no_static = refl })))
+first_statement (continue at) n ms h = first_front h (first_one h.first _ h.first.holds.0 (record { no_specifier = λ from to. refl; no_close_brace = refl; no_else = refl; no_static = refl }))
+first_statement (break at) n ms h = first_front h (first_one h.first _ h.first.holds.0 (record { no_specifier = λ from to. refl; no_close_brace = refl; no_else = refl; no_static = refl }))
+first_statement (return at e) n ms h = first_front h (first_front h.first (first_one h.first.first _ h.first.first.holds.0 (record { no_specifier = λ from to. refl; no_close_brace = refl; no_else = refl; no_static = refl })))
 
 abbrev pub NoElse : Kind → Type 0
 NoElse k = is_fixed fixed.Else k ≡ false
@@ -85,7 +87,9 @@ pub next_token : (items : ItemTrees) (n : ℕ) (ms : List Marked) (close : Token
     NextToken (tokens_of ms ++ close ∷ rest)
 unfolding block_items
 next_token no_items n ms close rest h e = record { token = close; rest = rest; is = ap (λ ms. tokens_of ms ++ close ∷ rest) h; no_else = subst NoElse (sym e) refl }
-next_token (declaration_then d items) n ms close rest h e = next_of (close ∷ rest) (first_front h (first_front h.first (first_specifiers d.specifiers n h.first.front h.first.first)))
+next_token (declaration_then None d items) n ms close rest h e =
+    let g = alone h in next_of (close ∷ rest) (first_front g (first_front g.first (first_specifiers d.specifiers n g.first.front g.first.first)))
+next_token (declaration_then (Some at) d items) n ms close rest h e = next_of (close ∷ rest) (first_front h (first_one h.first _ h.first.holds.0 refl))
 next_token (statement_then s items) n ms close rest h e =
     let f = first_statement s n h.front h.first in
     next_of (close ∷ rest) (first_front h (record { token = f.token; nesting = f.nesting; more = f.more; is = f.is; holds = f.holds.no_else }))

@@ -202,6 +202,10 @@ test-names e =
     let xs : List Identifier = expression_names e in
     then_none xs (inside xs (none_then xs (sign mark.OpenParenthesis) (expression-names _ e))) (sign mark.CloseParenthesis)
 
+static-names : (s : Option Pos) → Has (grammar.optional_static s) []
+static-names None = nothing
+static-names (Some at) = word_at key.Static at
+
 start-names : (f : ForStartTree) → Has (grammar.for_start f) (for_start_names f)
 start-names (declaration d) = declared-names d
 start-names (expression e) = then_none (optional_names e) (optional-names _ e) (sign mark.Semicolon)
@@ -270,7 +274,8 @@ mutual
 
   item-names : (items : ItemTrees) → Has (block_items items) (item_names items)
   item-names no_items = nothing
-  item-names (declaration_then d items) = both (declaration_names d) (item_names items) (declared-names d) (item-names items)
+  item-names (declaration_then s d items) =
+      none_then (declaration_names d ++ item_names items) (static-names s) (both (declaration_names d) (item_names items) (declared-names d) (item-names items))
   item-names (statement_then s items) = both (statement_names s) (item_names items) (statement-names s) (item-names items)
 
 -- External definitions

@@ -8,7 +8,7 @@ use Rattle.pk_grammar.specs.declared.signs.Fixed.TheVariants as fixed
 use Rattle.pk_grammar.specs.Languages.{Marked}
 use Rattle.pk_grammar.specs.Grammar.{statement, externals, text}
 use Rattle.pk_grammar.specs.Machine.Signs.{specifier_word}
-use Rattle.pk_grammar.specs.Machine.States.{as_first, as_second, as_third, as_result, as_value, as_item, as_whole, State, top, after_storage, after_typedef, type_specifiers, after_type_name, type_name_comma, after_specifiers, after_name, after_length, after_assign, after_brace, after_item, after_initializer, after_comma, parameters_open, parameter_specifiers, parameter_name, parameter_comma, parameters_closed, block_item, at_statement, after_statement, test_open, do_open, for_open, for_first, for_second, for_third, default_colon, goto_name, returning, statement_end, operand, named, arguments, opened, cast_specifiers, complete}
+use Rattle.pk_grammar.specs.Machine.States.{as_first, as_second, as_third, as_result, as_value, as_item, as_whole, State, top, after_storage, after_typedef, type_specifiers, after_type_name, type_name_comma, after_specifiers, after_name, after_length, after_assign, after_brace, after_item, after_initializer, after_comma, parameters_open, parameter_specifiers, parameter_name, parameter_comma, parameters_closed, block_item, after_static, at_statement, after_statement, test_open, do_open, for_open, for_first, for_second, for_third, default_colon, goto_name, returning, statement_end, operand, named, arguments, opened, cast_specifiers, complete}
 use Rattle.pk_grammar.specs.Machine.Steps.{Verdict, taken, refused, finished, naming_nesting, begin_for, step}
 use Rattle.pk_grammar.proofs.SpellsSigns.{IsSpecifier, is_specifier}
 use Rattle.pk_grammar.proofs.SpellsWords.{push, push_at, push_last, none_more, gather, last_as, moved}
@@ -18,7 +18,7 @@ use Rattle.pk_grammar.proofs.SpellsGood.{Good, fixed_good, wanted_good, two}
 use Rattle.pk_grammar.proofs.SpellsDeclarations.{after_declarator_good, more_specifiers_good, at_after_name_good, at_after_length_good, braces_end}
 use Rattle.pk_grammar.proofs.SpellsPurposes.{for_ends}
 use Rattle.pk_grammar.proofs.SpellsOperands.{at_operand_good, at_complete_good, at_named_good, at_arguments_good, at_opened_good, more_cast_good}
-use Rattle.pk_grammar.proofs.SpellsStatements.{begins_statement_good, at_items_good, resume_good}
+use Rattle.pk_grammar.proofs.SpellsStatements.{begins_statement_good, at_items_good, begin_static_good, resume_good}
 use Rattle.pk_grammar.proofs.SpellsExternals.{begin_external_good, at_top_good, begin_typedef_good, more_typedef_good, at_after_type_name_good, next_type_name_good, begin_parameter_good, more_parameter_good, at_parameter_name_good, parameters_open_good, at_parameters_closed_good}
 use Rattle.pk_grammar.proofs.SpellsEnds.{Ends, at_end, goes, state_ends}
 
@@ -48,6 +48,7 @@ step_good (parameter_name g ps p) t ms h = at_parameter_name_good g ps p t ms h.
 step_good (parameter_comma g ps) t ms h = begin_parameter_good g ps t ms h
 step_good (parameters_closed g ps) t ms h = at_parameters_closed_good g ps t ms h
 step_good (block_item b) t ms h = at_items_good b t ms h
+step_good (after_static b at) t ms h = begin_static_good b at t ms h
 step_good (at_statement n o) t ms h = begins_statement_good n o t ms h.0 h.1
 step_good (after_statement s o) t ms h = resume_good o s t ms (λ e. h.0) h.1
 step_good (test_open w n at o) t ms h = wanted_good fixed.OpenParenthesis _ t ms (λ k. (two n, push_at ms t (two n) h k))

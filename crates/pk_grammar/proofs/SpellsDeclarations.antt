@@ -16,7 +16,7 @@ use Rattle.pk_grammar.specs.Machine.Steps.{more_specifiers, without_length, open
 use Rattle.pk_grammar.proofs.SpellsSigns.{IsNext, is_next}
 use Rattle.pk_grammar.proofs.SpellsWords.{drop_none, ◌▹◌, push, none_more, gather, together, last_as, before_as, moved}
 use Rattle.pk_grammar.proofs.SpellsLists.{one_more_word, declarators_end, declarators_comma, items_declaration, externals_end}
-use Rattle.pk_grammar.proofs.SpellsStates.{to_declaration, to_declarator, to_declarator_end, to_initializer, to_brace, bare_two}
+use Rattle.pk_grammar.proofs.SpellsStates.{to_declaration, to_declarator, to_declarator_end, to_initializer, to_brace, bare_three}
 use Rattle.pk_grammar.proofs.SpellsGood.{Good, wanted_good, fixed_good, two}
 
 -- an initializer, or none, ends a declarator
@@ -25,9 +25,9 @@ initialized d i ms h = last_as (λ ts g. declarators_end d.declaring.declarators
 
 declaration_ends : (s : Site) (ss : OneOrMore Specifier) (ds : OneOrMore DeclaratorTree) (t : Token) (ms : List Marked) → t.kind ≡ kind.Punctuator mark.Semicolon →
     to_declarator_end (record { site = s; specifiers = ss; declarators = ds }) ms → Good (end_declaration (record { site = s; specifiers = ss; declarators = ds })) t ms
-declaration_ends (in_a_block (function_block h ps at items)) ss ds t ms k g = last_as (λ ts f. items_declaration items _ 1 ts f) (gather (gather (gather (push ms t g k))))
-declaration_ends (in_a_block (inner_block n at items o)) ss ds t ms k g =
-    (g.first.first.0, last_as (λ ts f. items_declaration items _ (n + 1) ts f) (gather (gather (gather (push ms t (bare_two g) k)))))
+declaration_ends (in_a_block (function_block h ps at items) p) ss ds t ms k g = last_as (λ ts f. items_declaration items p _ 1 ts f) (gather (gather (gather (gather (push ms t g k)))))
+declaration_ends (in_a_block (inner_block n at items o) p) ss ds t ms k g =
+    (g.first.first.first.0, last_as (λ ts f. items_declaration items p _ (n + 1) ts f) (gather (gather (gather (gather (push ms t (bare_three g) k))))))
 declaration_ends (in_a_for n at o) ss ds t ms k g = moved (declared (record { specifiers = ss; declarators = ds })) (two n) (gather (gather (push ms t g k)))
 declaration_ends (outside before s) ss ds t ms k g = externals_end before _ 0 _ (together (gather (gather (gather (push ms t g k)))))
 
@@ -59,7 +59,7 @@ more_specifiers_good s ss t ms h = go (next_word ss t) (is_next ss t)
 
 open_parameters_good : (s : Site) (ss : OneOrMore Specifier) (ds : List DeclaratorTree) (id : Identifier) (t : Token) (ms : List Marked) → t.kind ≡ kind.Punctuator mark.OpenParenthesis →
     (to_declarator (record { site = s; specifiers = ss; declarators = ds }) ▹ Identified id (site_nesting s)) ms → Good (open_parameters s ss ds id) t ms
-open_parameters_good (in_a_block b) ss ds id t ms k h = tt
+open_parameters_good (in_a_block b p) ss ds id t ms k h = tt
 open_parameters_good (in_a_for n at o) ss ds id t ms k h = tt
 open_parameters_good (outside before s) ss [] id t ms k h = push ms t (before_as (λ ts b. drop_none 0 b) h) k
 open_parameters_good (outside before s) ss (d ∷ ds) id t ms k h = tt

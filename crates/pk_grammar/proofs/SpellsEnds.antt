@@ -13,7 +13,7 @@ use Rattle.pk_grammar.specs.declared.signs.Fixed.TheVariants as fixed
 use Rattle.pk_grammar.specs.declared.signs.Operator.TheVariants as operator
 use Rattle.pk_grammar.specs.Grammar.{any_expression, strength}
 use Rattle.pk_grammar.specs.Machine.Signs.{is_fixed, operator_of}
-use Rattle.pk_grammar.specs.Machine.States.{OpenBlock, function_block, inner_block, Outer, in_block, in_label, in_case, in_default, in_if, in_else, in_switch, in_while, in_do, in_for, Site, in_a_block, in_a_for, outside, Declared, Purpose, as_statement, as_label, as_test, as_last_test, as_first, as_second, as_third, as_result, as_length, as_value, as_item, Context, as_whole, in_parentheses, in_index, in_call, in_prefix, in_unary, in_cast, in_binary, in_choice, in_alternative, in_assignment, in_comma, State, top, after_storage, after_typedef, type_specifiers, after_type_name, type_name_comma, after_specifiers, after_name, after_length, after_assign, after_brace, after_item, after_initializer, after_comma, parameters_open, parameter_specifiers, parameter_name, parameter_comma, parameters_closed, block_item, at_statement, after_statement, test_open, do_open, for_open, for_first, for_second, for_third, default_colon, goto_name, returning, statement_end, operand, named, arguments, opened, cast_specifiers, complete}
+use Rattle.pk_grammar.specs.Machine.States.{OpenBlock, function_block, inner_block, Outer, in_block, in_label, in_case, in_default, in_if, in_else, in_switch, in_while, in_do, in_for, Site, in_a_block, in_a_for, outside, Declared, Purpose, as_statement, as_label, as_test, as_last_test, as_first, as_second, as_third, as_result, as_length, as_value, as_item, Context, as_whole, in_parentheses, in_index, in_call, in_prefix, in_unary, in_cast, in_binary, in_choice, in_alternative, in_assignment, in_comma, State, top, after_storage, after_typedef, type_specifiers, after_type_name, type_name_comma, after_specifiers, after_name, after_length, after_assign, after_brace, after_item, after_initializer, after_comma, parameters_open, parameter_specifiers, parameter_name, parameter_comma, parameters_closed, block_item, after_static, at_statement, after_statement, test_open, do_open, for_open, for_first, for_second, for_third, default_colon, goto_name, returning, statement_end, operand, named, arguments, opened, cast_specifiers, complete}
 use Rattle.pk_grammar.specs.Machine.Steps.{Verdict, taken, finished, Reduced, reduced, end_expression, end_purpose, go_on, resume, step, end_declaration}
 
 -- some tokens lead on to the end of a text
@@ -83,7 +83,7 @@ ends_declaration : (d : Declared) → Ends (end_declaration d)
 ends_declaration d = go d d.site
   where
     go : (d : Declared) (s : Site) → Ends (end_declaration (record d { site = s }))
-    go d (in_a_block b) = ends_item _ _
+    go d (in_a_block b p) = ends_item _ _
     go d (in_a_for n at o) = ends_second _ n at _ o
     go d (outside before s) = the_end _
 
@@ -161,6 +161,7 @@ state_ends n (parameter_name h ps p) = goes (sign mark.CloseParenthesis) (goes s
 state_ends n (parameter_comma h ps) = goes (a_token (kind.Keyword key.Int)) (goes (sign mark.CloseParenthesis) (goes semicolon (the_end _)))
 state_ends n (parameters_closed h ps) = goes semicolon (the_end _)
 state_ends n (block_item b) = ends_item n b
+state_ends n (after_static b at) = goes (a_token (kind.Keyword key.Int)) (goes a_name (goes semicolon (ends_item _ _)))
 state_ends n (at_statement m o) = ends_statement n m o
 state_ends n (after_statement s o) = ends_after n s o
 state_ends n (test_open k m at o) = goes (sign mark.OpenParenthesis) (ends_operand _ _ _)

@@ -1,5 +1,6 @@
 -- Lists that grow at their end.
-use Rattle.std.proofs.Common.{◌≡◌, ℕ, List, [], ◌∷◌, ◌++◌, Some, true, refl}
+use Rattle.std.proofs.Common.{◌≡◌, ℕ, List, [], ◌∷◌, ◌++◌, Option, Some, true, refl}
+use Rattle.pk_ctypes.specs.declared.places.Pos.{Pos}
 use Rattle.pk_lex.specs.declared.token.Token.{Token}
 use Rattle.pk_lex.specs.declared.token.Punctuator.TheVariants as mark
 use Rattle.pk_ast.specs.declared.declarations.SpecifierWord.{SpecifierWord}
@@ -8,7 +9,7 @@ use Rattle.pk_ast.specs.Lists.{one, with_last, ended}
 use Rattle.pk_ast.specs.Trees.{OneOrMore, ExpressionTree, ExpressionTrees, no_expressions, expression_then, DeclaratorTree, DeclarationTree, StatementTree, ItemTrees, no_items, declaration_then, statement_then, ParameterTree, ExternalTree}
 use Rattle.pk_ast.specs.declared.expressions.Identifier.{Identifier}
 use Rattle.pk_grammar.specs.Languages.{Marked, Identified, ◌⊙◌}
-use Rattle.pk_grammar.specs.Grammar.{punctuator, assignment_expression, Fits, AllFit, specifier, specifier_list, specifiers, Items, spelled, spelled_list, spelled_more, declarator, more_declarators, declarators, declared, statement, block_items, parameter, IsVoidAlone, more_parameters, parameters, more_names, names, external, externals}
+use Rattle.pk_grammar.specs.Grammar.{punctuator, assignment_expression, Fits, AllFit, specifier, specifier_list, specifiers, Items, spelled, spelled_list, spelled_more, declarator, more_declarators, declarators, declared, optional_static, statement, block_items, parameter, IsVoidAlone, more_parameters, parameters, more_names, names, external, externals}
 use Rattle.pk_grammar.specs.Machine.Steps.{specifier_at, may_follow, first_item, more_items, one_more, one_more_statement, one_more_declaration}
 use Rattle.pk_grammar.proofs.WordLemmas.{alone_goes, goes_on}
 use Rattle.pk_grammar.proofs.SpellsSigns.{IsSpecifier, IsNext}
@@ -93,14 +94,15 @@ declarators_comma ds n ts h = then_as (λ us g. more_declarators_comma ds.more n
 pub items_statement : (items : ItemTrees) (s : StatementTree) (n : ℕ) (ts : List Marked) → (block_items items ⊙ statement s) n ts → block_items (one_more_statement items s) n ts
 unfolding statement
 items_statement no_items s n ts h = and_none n ts (alone h)
-items_statement (declaration_then d items) s n ts h = then_as (λ us g. items_statement items s n us g) (assoc h)
+items_statement (declaration_then p d items) s n ts h = then_as (λ us g. then_as (λ vs f. items_statement items s n vs f) (assoc g)) (assoc h)
 items_statement (statement_then r items) s n ts h = then_as (λ us g. items_statement items s n us g) (assoc h)
 
-pub items_declaration : (items : ItemTrees) (d : DeclarationTree) (n : ℕ) (ts : List Marked) → (block_items items ⊙ declared d) n ts → block_items (one_more_declaration items d) n ts
+pub items_declaration : (items : ItemTrees) (s : Option Pos) (d : DeclarationTree) (n : ℕ) (ts : List Marked) → (block_items items ⊙ (optional_static s ⊙ declared d)) n ts →
+    block_items (one_more_declaration items s d) n ts
 unfolding statement
-items_declaration no_items d n ts h = and_none n ts (alone h)
-items_declaration (declaration_then c items) d n ts h = then_as (λ us g. items_declaration items d n us g) (assoc h)
-items_declaration (statement_then r items) d n ts h = then_as (λ us g. items_declaration items d n us g) (assoc h)
+items_declaration no_items s d n ts h = then_as (λ us g. and_none n us g) (alone h)
+items_declaration (declaration_then p c items) s d n ts h = then_as (λ us g. then_as (λ vs f. items_declaration items s d n vs f) (assoc g)) (assoc h)
+items_declaration (statement_then r items) s d n ts h = then_as (λ us g. items_declaration items s d n us g) (assoc h)
 
 -- Type names
 

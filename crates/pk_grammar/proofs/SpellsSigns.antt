@@ -44,6 +44,7 @@ IsFixed fixed.While k = k ≡ kind.Keyword key.While
 IsFixed fixed.End k = k ≡ kind.End
 IsFixed fixed.Other k = Unit {0}
 IsFixed fixed.Typedef k = k ≡ kind.Keyword key.Typedef
+IsFixed fixed.Static k = k ≡ kind.Keyword key.Static
 
 abbrev pub IsOperand : OperandStart → Kind → Type 0
 IsOperand start.Name k = k ≡ kind.Name
@@ -197,6 +198,7 @@ fixed_self kind.Name = refl
 fixed_self (kind.Keyword key.Else) = refl
 fixed_self (kind.Keyword key.While) = refl
 fixed_self (kind.Keyword key.Typedef) = refl
+fixed_self (kind.Keyword key.Static) = refl
 fixed_self (kind.Punctuator mark.OpenParenthesis) = refl
 fixed_self (kind.Punctuator mark.CloseParenthesis) = refl
 fixed_self (kind.Punctuator mark.OpenBracket) = refl
@@ -211,7 +213,7 @@ fixed_self kind.End = refl
 fixed_self _ = tt
 
 fixed_at : ℕ → Fixed
-fixed_at n = get_or (fixed.Name ∷ fixed.OpenParenthesis ∷ fixed.CloseParenthesis ∷ fixed.OpenBracket ∷ fixed.CloseBracket ∷ fixed.OpenBrace ∷ fixed.CloseBrace ∷ fixed.Semicolon ∷ fixed.Colon ∷ fixed.Comma ∷ fixed.Assign ∷ fixed.Else ∷ fixed.While ∷ fixed.End ∷ fixed.Other ∷ fixed.Typedef ∷ []) n fixed.Other
+fixed_at n = get_or (fixed.Name ∷ fixed.OpenParenthesis ∷ fixed.CloseParenthesis ∷ fixed.OpenBracket ∷ fixed.CloseBracket ∷ fixed.OpenBrace ∷ fixed.CloseBrace ∷ fixed.Semicolon ∷ fixed.Colon ∷ fixed.Comma ∷ fixed.Assign ∷ fixed.Else ∷ fixed.While ∷ fixed.End ∷ fixed.Other ∷ fixed.Typedef ∷ fixed.Static ∷ []) n fixed.Other
 
 fixed_back : (f : Fixed) → fixed_at (fixed_number f) ≡ f
 unfolding fixed_at
@@ -231,6 +233,7 @@ fixed_back fixed.While = refl
 fixed_back fixed.End = refl
 fixed_back fixed.Other = refl
 fixed_back fixed.Typedef = refl
+fixed_back fixed.Static = refl
 
 same_number : (a b : ℕ) → (a == b) ≡ true → a ≡ b
 same_number a b e = grind arith

@@ -1,5 +1,6 @@
 -- What the steps of a statement leave.
 use Rattle.std.proofs.Common.{◌≡◌, ℕ, ◌+◌, List, true, Option, Some, None, refl}
+use Rattle.pk_ctypes.specs.declared.places.Pos.{Pos}
 use Rattle.pk_lex.specs.declared.token.Token.{Token}
 use Rattle.pk_lex.specs.declared.token.Kind.TheVariants as kind
 use Rattle.pk_lex.specs.declared.token.Punctuator.TheVariants as mark
@@ -9,10 +10,10 @@ use Rattle.pk_grammar.specs.declared.signs.Fixed.TheVariants as fixed
 use Rattle.pk_grammar.specs.declared.signs.StatementStart.{StatementStart}
 use Rattle.pk_grammar.specs.declared.signs.StatementStart.TheVariants as first
 use Rattle.pk_grammar.specs.Languages.{Marked}
-use Rattle.pk_grammar.specs.Grammar.{conditional_expression, OpenEnd, statement}
+use Rattle.pk_grammar.specs.Grammar.{conditional_expression, OpenEnd, optional_static, statement}
 use Rattle.pk_grammar.specs.Machine.Signs.{is_fixed, statement_start, specifier_word}
 use Rattle.pk_grammar.specs.Machine.States.{OpenBlock, function_block, inner_block, Outer, in_block, in_label, in_case, in_default, in_if, in_else, in_switch, in_while, in_do, in_for, as_statement, as_whole}
-use Rattle.pk_grammar.specs.Machine.Steps.{block_nesting, begin_statement, begins_statement, end_block, with_statement, declaration_or_statement, at_items, resume}
+use Rattle.pk_grammar.specs.Machine.Steps.{block_nesting, begin_statement, begins_statement, end_block, with_statement, declaration_or_statement, begin_static, at_items, resume}
 use Rattle.pk_grammar.proofs.SpellsSigns.{is_this, IsStatement, is_statement, IsSpecifier, is_specifier}
 use Rattle.pk_grammar.proofs.SpellsWords.{◌▹◌, push, push_at, none_more, gather, together, last_as, before_as, moved}
 use Rattle.pk_grammar.proofs.SpellsLists.{items_statement, externals_end, first_word}
@@ -52,12 +53,20 @@ with_statement_good (function_block h ps at items) s ms g = last_as (λ ts f. it
 with_statement_good (inner_block n at items o) s ms g = (g.first.0, last_as (λ ts f. items_statement items s (n + 1) ts f) (gather (bare g)))
 
 declaration_or_statement_good : (b : OpenBlock) (t : Token) (ms : List Marked) (w : Option SpecifierWord) → IsSpecifier w t → to_item b ms → Good (declaration_or_statement b t w) t ms
-declaration_or_statement_good b t ms (Some w) k g = first_word w t (block_nesting b) ms k g
+declaration_or_statement_good b t ms (Some w) k g = first_word w t (block_nesting b) ms k (none_more (block_nesting b) g)
 declaration_or_statement_good b t ms None k g =
-    fixed_good fixed.CloseBrace _ _ t ms (λ k. end_block_good b t ms k g) (begins_statement_good (block_nesting b) (in_block b) t ms refl g)
+    fixed_good fixed.CloseBrace _ _ t ms (λ k. end_block_good b t ms k g)
+    (fixed_good fixed.Static _ _ t ms (λ k. push ms t g (k, refl)) (begins_statement_good (block_nesting b) (in_block b) t ms refl g))
 
 pub at_items_good : (b : OpenBlock) (t : Token) (ms : List Marked) → to_item b ms → Good (at_items b t) t ms
 at_items_good b t ms g = declaration_or_statement_good b t ms (specifier_word t) (is_specifier t) g
+
+pub begin_static_good : (b : OpenBlock) (at : Pos) (t : Token) (ms : List Marked) → (to_item b ▹ optional_static (Some at) (block_nesting b)) ms → Good (begin_static b at t (specifier_word t)) t ms
+begin_static_good b at t ms h = go (specifier_word t) (is_specifier t)
+  where
+    go : (w : Option SpecifierWord) → IsSpecifier w t → Good (begin_static b at t w) t ms
+    go (Some w) k = first_word w t (block_nesting b) ms k h
+    go None k = tt
 
 -- a statement was read, and what it is part of goes on; no else follows it that it could take
 pub resume_good : (o : Outer) (s : StatementTree) (t : Token) (ms : List Marked) → (is_fixed fixed.Else t.kind ≡ true → ¬ OpenEnd s) →

@@ -7,8 +7,8 @@ use Rattle.pk_lex.specs.declared.token.Punctuator.TheVariants as mark
 use Rattle.pk_ast.specs.declared.declarations.Specifier.{Specifier}
 use Rattle.pk_ast.specs.Trees.{OneOrMore, ExpressionTree, ExpressionTrees, no_expressions, expression_then, DeclaratorTree, StatementTree, ForStartTree, ParameterTree, ExternalTree}
 use Rattle.pk_grammar.specs.Languages.{Marked, Language, Nothing, Identified, ◌⊙◌, Where}
-use Rattle.pk_grammar.specs.Grammar.{binary_sign, unary_sign, step_sign, assignment_sign, punctuator_at, punctuator, keyword_at, keyword, any_expression, assignment_expression, conditional_expression, strength, weakest_operator, cast_expression, unary_expression, postfix_expression, Fits, AllFit, operators_in, commas_in, specifiers, spelled, Items, optional, array_length, declarator, declarators, OpenEnd, test, for_start, statement, block_items, stored, parameter, IsVoidAlone, parameters, names, externals}
-use Rattle.pk_grammar.specs.Machine.States.{Head, OpenBlock, function_block, inner_block, Outer, in_block, in_label, in_case, in_default, in_if, in_else, in_switch, in_while, in_do, in_for, Site, in_a_block, in_a_for, outside, Declaring, Declared, Naming, Purpose, as_statement, as_label, as_test, as_last_test, as_first, as_second, as_third, as_result, as_length, as_value, as_item, Context, as_whole, in_parentheses, in_index, in_call, in_prefix, in_unary, in_cast, in_binary, in_choice, in_alternative, in_assignment, in_comma, State, top, after_storage, after_typedef, type_specifiers, after_type_name, type_name_comma, after_specifiers, after_name, after_length, after_assign, after_brace, after_item, after_initializer, after_comma, parameters_open, parameter_specifiers, parameter_name, parameter_comma, parameters_closed, block_item, at_statement, after_statement, test_open, do_open, for_open, for_first, for_second, for_third, default_colon, goto_name, returning, statement_end, operand, named, arguments, opened, cast_specifiers, complete}
+use Rattle.pk_grammar.specs.Grammar.{binary_sign, unary_sign, step_sign, assignment_sign, punctuator_at, punctuator, keyword_at, keyword, any_expression, assignment_expression, conditional_expression, strength, weakest_operator, cast_expression, unary_expression, postfix_expression, Fits, AllFit, operators_in, commas_in, specifiers, spelled, Items, optional, array_length, declarator, declarators, OpenEnd, test, optional_static, for_start, statement, block_items, stored, parameter, IsVoidAlone, parameters, names, externals}
+use Rattle.pk_grammar.specs.Machine.States.{Head, OpenBlock, function_block, inner_block, Outer, in_block, in_label, in_case, in_default, in_if, in_else, in_switch, in_while, in_do, in_for, Site, in_a_block, in_a_for, outside, Declaring, Declared, Naming, Purpose, as_statement, as_label, as_test, as_last_test, as_first, as_second, as_third, as_result, as_length, as_value, as_item, Context, as_whole, in_parentheses, in_index, in_call, in_prefix, in_unary, in_cast, in_binary, in_choice, in_alternative, in_assignment, in_comma, State, top, after_storage, after_typedef, type_specifiers, after_type_name, type_name_comma, after_specifiers, after_name, after_length, after_assign, after_brace, after_item, after_initializer, after_comma, parameters_open, parameter_specifiers, parameter_name, parameter_comma, parameters_closed, block_item, after_static, at_statement, after_statement, test_open, do_open, for_open, for_first, for_second, for_third, default_colon, goto_name, returning, statement_end, operand, named, arguments, opened, cast_specifiers, complete}
 use Rattle.pk_grammar.specs.Machine.Steps.{block_nesting, site_nesting, naming_nesting, operand_level}
 use Rattle.pk_grammar.proofs.SpellsSigns.{testing_keyword}
 use Rattle.pk_grammar.proofs.SpellsWords.{Words, ◌▹◌, before_as}
@@ -111,7 +111,7 @@ to_test k n at o = When (n ≡ outer_nesting o) (to_statement o ▹ keyword_at k
 
 -- up to a declaration's specifiers
 abbrev pub to_declaration : Site → Words
-to_declaration (in_a_block b) = to_item b
+to_declaration (in_a_block b s) = to_item b ▹ optional_static s (block_nesting b)
 to_declaration (in_a_for n at o) = to_first n at o
 to_declaration (outside before s) = externals before 0 ▹ stored s 0
 
@@ -229,6 +229,7 @@ Spells (parameter_name h ps p) = When (¬ IsVoidAlone p) (to_parameters h ▹ pu
 Spells (parameter_comma h ps) = to_parameters h ▹ punctuator mark.OpenParenthesis 1 ▹ parameters_before ps 1
 Spells (parameters_closed h ps) = to_body h ps
 Spells (block_item b) = to_item b
+Spells (after_static b at) = to_item b ▹ optional_static (Some at) (block_nesting b)
 Spells (at_statement n o) = When (n ≡ outer_nesting o) (to_statement o)
 Spells (after_statement s o) = When (¬ OpenEnd s) (to_statement o ▹ statement s (outer_nesting o))
 Spells (test_open k n at o) = to_test (testing_keyword k) n at o

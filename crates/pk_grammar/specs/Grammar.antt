@@ -359,6 +359,11 @@ OpenEnd (return at e) = ⊥
 abbrev pub test : ExpressionTree → Language
 test e = Inside (punctuator mark.OpenParenthesis ⊙ Expression any_expression e) ⊙ punctuator mark.CloseParenthesis
 
+-- the word `static`, or none
+abbrev pub optional_static : Option Pos → Language
+optional_static None = Nothing
+optional_static (Some at) = keyword_at key.Static at
+
 abbrev pub for_start : ForStartTree → Language
 for_start (declaration d) = declared d
 for_start (expression e) = optional any_expression e ⊙ punctuator mark.Semicolon
@@ -395,7 +400,7 @@ unfoldable mutual
   -- the declarations and statements of a block
   pub block_items : ItemTrees → Language
   block_items no_items = Nothing
-  block_items (declaration_then d items) = declared d ⊙ block_items items
+  block_items (declaration_then s d items) = optional_static s ⊙ declared d ⊙ block_items items
   block_items (statement_then s items) = statement s ⊙ block_items items
 
 -- External definitions

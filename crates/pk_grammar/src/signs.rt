@@ -29,6 +29,7 @@ pub enum Fixed {
     End,
     Other,
     Typedef,
+    Static,
 }
 
 /// What an operand begins with.
@@ -80,6 +81,7 @@ fn fixed_of(kind: Kind) -> Fixed
         Kind::Keyword(Keyword::Else) => Fixed::Else,
         Kind::Keyword(Keyword::While) => Fixed::While,
         Kind::Keyword(Keyword::Typedef) => Fixed::Typedef,
+        Kind::Keyword(Keyword::Static) => Fixed::Static,
         Kind::Punctuator(Punctuator::OpenParenthesis) => Fixed::OpenParenthesis,
         Kind::Punctuator(Punctuator::CloseParenthesis) => Fixed::CloseParenthesis,
         Kind::Punctuator(Punctuator::OpenBracket) => Fixed::OpenBracket,
@@ -115,6 +117,7 @@ fn number(fixed: Fixed) -> u8
         Fixed::End => 13,
         Fixed::Other => 14,
         Fixed::Typedef => 15,
+        Fixed::Static => 16,
     }
 }
 

@@ -139,7 +139,7 @@ module _ (end : Token) (n : ℕ) (limit : n ≤ 128) (d : Naming) (same : naming
 
 -- a function has but one name
 no_function_after : (s : Site) (specs : OneOrMore Specifier) (x : DeclaratorTree) (xs : List DeclaratorTree) (id : Identifier) → open_parameters s specs (x ∷ xs) id ≡ refused
-no_function_after (in_a_block b) specs x xs id = refl
+no_function_after (in_a_block b p) specs x xs id = refl
 no_function_after (in_a_for n at o) specs x xs id = refl
 no_function_after (outside before s) specs x xs id = refl
 
@@ -199,7 +199,7 @@ abbrev pub named_first : Site → OneOrMore Specifier → Declaring
 named_first s specs = record { site = s; specifiers = specs; declarators = [] }
 
 pub can_declare_inner : (end : Token) (s : Site) (specs : OneOrMore Specifier) (id : Identifier) (n : ℕ) (ts : List Token) → IsInner s → site_nesting s ≡ n → CanDeclare end (named_first s specs) id n ts
-can_declare_inner end (in_a_block b) specs id n ts h same = record { nesting = same; no_function = λ f. refl }
+can_declare_inner end (in_a_block b p) specs id n ts h same = record { nesting = same; no_function = λ f. refl }
 can_declare_inner end (in_a_for m at o) specs id n ts h same = record { nesting = same; no_function = λ f. refl }
 can_declare_inner end (outside before s) specs id n ts h same = absurd h
 

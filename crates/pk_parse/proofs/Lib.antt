@@ -6,6 +6,7 @@ mod RunTypeNames
 mod TypeNameLemmas
 mod RunStatements
 mod StatementLemmas
+mod ItemLemmas
 mod TextLemmas
 mod AnswerLemmas
 pub mod LexedLemmas

@@ -1,17 +1,16 @@
 -- What is answered from a statement on that has statements in it.
-use Rattle.std.proofs.Common.{◌≡◌, ◌≢◌, ℕ, ◌+◌, ◌<◌, ◌≤◌, List, [], ◌∷◌, ◌++◌, length, Option, Some, None, Result, MatchResult, Bool, true, false, refl, sym, ap, subst, ◌∙◌, arith}
+use Rattle.std.proofs.Common.{◌≡◌, ◌≢◌, ℕ, ◌+◌, ◌<◌, ◌≤◌, List, [], ◌∷◌, ◌++◌, length, Option, Some, Result, MatchResult, Bool, true, false, refl, sym, ap, subst, ◌∙◌, arith}
 use Rattle.std.specs.Prelude.{if◌then◌else◌}
 use Rattle.std.proofs.lemmas.Result.{MatchResult-weaker}
 use Rattle.pk_ctypes.specs.declared.places.Pos.{Pos}
 use Rattle.pk_lex.specs.declared.token.Token.{Token}
 use Rattle.pk_lex.specs.declared.token.Kind.{Kind}
-use Rattle.pk_ast.specs.declared.declarations.Specifier.{Specifier}
 use Rattle.pk_ast.specs.declared.expressions.Identifier.{Identifier}
 use Rattle.pk_ast.specs.declared.expressions.Expression.{Expression}
 use Rattle.pk_ast.specs.declared.expressions.Expression.TheVariants.{Name, Call', Index', Constant, Character, Parenthesized', Postfix', Prefix', Unary', Cast', Binary', Conditional', Assignment', Comma'}
 use Rattle.pk_ast.specs.declared.statements.BlockItem.{BlockItem}
-use Rattle.pk_ast.specs.Trees.{ExpressionTree, name, DeclarationTree, ForStartTree, StatementTree, block, label, case, default, if_then, if_else, switch, while, do_while, for_loop, expression_statement, ItemTrees, no_items, declaration_then, statement_then}
-use Rattle.pk_ast.specs.Lists.{append_items, one}
+use Rattle.pk_ast.specs.Trees.{ExpressionTree, name, ForStartTree, StatementTree, block, label, case, default, if_then, if_else, switch, while, do_while, for_loop, expression_statement, ItemTrees, no_items, declaration_then, statement_then}
+use Rattle.pk_ast.specs.Lists.{append_items}
 use Rattle.pk_ast.specs.Views.{expression_tree, item_trees}
 use Rattle.pk_ast.proofs.ListLemmas.{append_items-none, append_items_assoc, item_trees-push}
 use Rattle.pk_grammar.specs.declared.failure.ParseError.{ParseError}
@@ -25,17 +24,17 @@ use Rattle.pk_grammar.specs.declared.signs.Operator.{Operator}
 use Rattle.pk_grammar.specs.declared.signs.Operator.TheVariants as operator
 use Rattle.pk_grammar.specs.declared.signs.StatementStart.{StatementStart}
 use Rattle.pk_grammar.specs.declared.signs.StatementStart.TheVariants as first
-use Rattle.pk_grammar.specs.Machine.Signs.{is_fixed, operand_start, operator_of, specifier_in, specifier_word, statement_start}
-use Rattle.pk_grammar.specs.Machine.States.{Context, OpenBlock, function_block, inner_block, Outer, in_block, in_label, in_case, in_default, in_if, in_else, in_switch, in_while, in_do, in_for, in_a_block, Purpose, as_statement, as_label, as_test, as_last_test, as_whole, State, after_specifiers, block_item, at_statement, after_statement, test_open, do_open, for_open, for_first, default_colon, statement_end, operand, complete}
-use Rattle.pk_grammar.specs.Machine.Steps.{taken, refused, wanted, reduced, go_on, begin_operand, labelled, tested, one_more_statement, one_more_declaration, block_nesting, with_statement, with_declaration, begin_statement, declaration_or_statement, end_block, resume, step}
+use Rattle.pk_grammar.specs.Machine.Signs.{is_fixed, operand_start, operator_of, specifier_in, statement_start}
+use Rattle.pk_grammar.specs.Machine.States.{Context, OpenBlock, function_block, inner_block, Outer, in_block, in_label, in_case, in_default, in_if, in_else, in_switch, in_while, in_do, in_for, Purpose, as_statement, as_label, as_test, as_last_test, as_whole, State, block_item, at_statement, after_statement, test_open, do_open, for_open, for_first, default_colon, statement_end, operand, complete}
+use Rattle.pk_grammar.specs.Machine.Steps.{taken, refused, wanted, reduced, go_on, begin_operand, labelled, tested, one_more_statement, block_nesting, with_statement, begin_statement, declaration_or_statement, end_block, resume, step}
 use Rattle.pk_grammar.specs.Machine.Running.{first_of_all, run, Fails}
-use Rattle.pk_parse_expression.specs.Parsing.{Begins, BeginsWithWord, follows, EndsAt, UpTo, Reads, Refuses}
+use Rattle.pk_parse_expression.specs.Parsing.{Begins, follows, EndsAt, UpTo, Reads, Refuses}
 use Rattle.pk_grammar.proofs.CompleteSigns.{strength_least}
 use Rattle.pk_grammar.proofs.CompleteOperands.{same_false, same_true}
 use Rattle.pk_grammar.proofs.SpellsSigns.{is_this}
 use Rattle.pk_parse_expression.proofs.RunLemmas.{run_takes, run_deep, run_refused, run_alike, first_is, fails_as, fails_syntax, fails_nesting}
-use Rattle.pk_parse.specs.Parts.{IsTest, with_items, IsNewBlock, after_function, after_block}
-use Rattle.pk_parse.proofs.RunStatements.{run_wanted, deep_wanted, fails_wanted, step_ends, run_word}
+use Rattle.pk_parse.specs.Parts.{IsTest, with_items, BeginsNoDeclaration, IsNewBlock, after_function, after_block}
+use Rattle.pk_parse.proofs.RunStatements.{run_wanted, deep_wanted, fails_wanted, step_ends}
 
 no_other_test : (k : Testing) → k ≢ testing.If → k ≢ testing.Switch → k ≡ testing.While
 no_other_test testing.If f g = absurd (f refl)
@@ -343,13 +342,8 @@ module _ (end : Token) (n : ℕ) (ts : List Token) (t : Token) (rest : List Toke
 
 one_more_statement_is : (list : ItemTrees) (s : StatementTree) → one_more_statement list s ≡ append_items list (statement_then s no_items)
 one_more_statement_is no_items s = refl
-one_more_statement_is (declaration_then d list) s = ap (declaration_then d) (one_more_statement_is list s)
+one_more_statement_is (declaration_then p d list) s = ap (declaration_then p d) (one_more_statement_is list s)
 one_more_statement_is (statement_then r list) s = ap (statement_then r) (one_more_statement_is list s)
-
-one_more_declaration_is : (list : ItemTrees) (d : DeclarationTree) → one_more_declaration list d ≡ append_items list (declaration_then d no_items)
-one_more_declaration_is no_items d = refl
-one_more_declaration_is (declaration_then c list) d = ap (declaration_then c) (one_more_declaration_is list d)
-one_more_declaration_is (statement_then r list) d = ap (statement_then r) (one_more_declaration_is list d)
 
 pub nesting_with_items : (b : OpenBlock) (list : ItemTrees) → block_nesting (with_items b list) ≡ block_nesting b
 nesting_with_items (function_block h ps at items) list = refl
@@ -363,11 +357,9 @@ with_one_statement : (b : OpenBlock) (list : ItemTrees) (s : StatementTree) → 
 with_one_statement (function_block h ps at items) list s = ap (λ q. function_block h ps at q) (one_more_statement_is (append_items items list) s ∙ append_items_assoc items list (statement_then s no_items))
 with_one_statement (inner_block n at items o) list s = ap (λ q. inner_block n at q o) (one_more_statement_is (append_items items list) s ∙ append_items_assoc items list (statement_then s no_items))
 
-with_one_declaration : (b : OpenBlock) (list : ItemTrees) (d : DeclarationTree) → with_declaration (with_items b list) d ≡ with_items b (append_items list (declaration_then d no_items))
-with_one_declaration (function_block h ps at items) list d =
-    ap (λ q. function_block h ps at q) (one_more_declaration_is (append_items items list) d ∙ append_items_assoc items list (declaration_then d no_items))
-with_one_declaration (inner_block n at items o) list d =
-    ap (λ q. inner_block n at q o) (one_more_declaration_is (append_items items list) d ∙ append_items_assoc items list (declaration_then d no_items))
+with_more_items : (b : OpenBlock) (list more : ItemTrees) → with_items (with_items b list) more ≡ with_items b (append_items list more)
+with_more_items (function_block h ps at items) list more = ap (λ q. function_block h ps at q) (append_items_assoc items list more)
+with_more_items (inner_block n at items o) list more = ap (λ q. inner_block n at q o) (append_items_assoc items list more)
 
 after_item : (end : Token) (s : StatementTree) (b : OpenBlock) (ts : List Token) → run end (after_statement s (in_block b)) ts ≡ run end (block_item (with_statement b s)) ts
 unfolding resume
@@ -376,20 +368,14 @@ after_item end s b ts = run_alike end (after_statement s (in_block b)) (block_it
 -- one more item of a block, to which these were read
 module _ (end : Token) (b : OpenBlock) (items : List BlockItem) (ts : List Token) where
   module _ (inside : ℕ) (n : block_nesting b ≡ inside) where
-    pub run_item_statement : specifier_word (first_of_all end ts) ≡ None → is_fixed fixed.CloseBrace (first_of_all end ts).kind ≡ false →
+    pub run_item_statement : BeginsNoDeclaration end ts → is_fixed fixed.CloseBrace (first_of_all end ts).kind ≡ false →
         run end (block_item (with_items b (item_trees items))) ts ≡ run end (at_statement inside (in_block (with_items b (item_trees items)))) ts
     run_item_statement w f =
         let t = first_of_all end ts in
         let c = with_items b (item_trees items) in
         run_alike end (block_item c) (at_statement inside (in_block c)) ts
-        (ap (λ q. declaration_or_statement c t q) w ∙ same_false (is_fixed fixed.CloseBrace t.kind) _ _ f ∙ ap (λ q. step (at_statement q (in_block c)) t) (nesting_with_items b (item_trees items) ∙ n))
-
-    pub run_item_word : (word : Specifier) (rest : List Token) → BeginsWithWord specifier_word ts word rest → inside ≤ 128 →
-        run end (block_item (with_items b (item_trees items))) ts ≡ run end (after_specifiers (in_a_block (with_items b (item_trees items))) (one word)) rest
-    run_item_word word rest w h =
-        let c = with_items b (item_trees items) in
-        run_word end (block_item c) ts word rest (block_nesting c) (λ q. after_specifiers (in_a_block c) (one q)) w (λ t s e. ap (λ q. declaration_or_statement c t q) e)
-        (subst (λ q. q ≤ 128) (sym (nesting_with_items b (item_trees items) ∙ n)) h)
+        (ap (λ q. declaration_or_statement c t q) w.0 ∙ same_false (is_fixed fixed.CloseBrace t.kind) _ _ f ∙ same_false (is_fixed fixed.Static t.kind) _ _ w.1
+        ∙ ap (λ q. step (at_statement q (in_block c)) t) (nesting_with_items b (item_trees items) ∙ n))
 
   module _ (item : BlockItem) (more : List BlockItem) (grown : more ≡ items ++ item ∷ []) where
     pub after_item_statement : (s : StatementTree) → item_trees (item ∷ []) ≡ statement_then s no_items →
@@ -399,11 +385,9 @@ module _ (end : Token) (b : OpenBlock) (items : List BlockItem) (ts : List Token
         ∙ ap (λ q. run end (block_item q) ts)
         (with_one_statement b (item_trees items) s ∙ ap (λ q. with_items b q) (ap (λ q. append_items (item_trees items) q) (sym e) ∙ sym (item_trees-push items item) ∙ ap item_trees (sym grown)))
 
-    pub after_item_declaration : (d : DeclarationTree) → item_trees (item ∷ []) ≡ declaration_then d no_items →
-        run end (block_item (with_declaration (with_items b (item_trees items)) d)) ts ≡ run end (block_item (with_items b (item_trees more))) ts
-    after_item_declaration d e =
-        ap (λ q. run end (block_item q) ts)
-        (with_one_declaration b (item_trees items) d ∙ ap (λ q. with_items b q) (ap (λ q. append_items (item_trees items) q) (sym e) ∙ sym (item_trees-push items item) ∙ ap item_trees (sym grown)))
+    pub after_item_declaration : run end (block_item (with_items (with_items b (item_trees items)) (item_trees (item ∷ [])))) ts ≡ run end (block_item (with_items b (item_trees more))) ts
+    after_item_declaration =
+        ap (λ q. run end (block_item q) ts) (with_more_items b (item_trees items) (item_trees (item ∷ [])) ∙ ap (λ q. with_items b q) (sym (item_trees-push items item) ∙ ap item_trees (sym grown)))
 
 pub new_block_nesting : (b : OpenBlock) (place : Pos) (n : ℕ) → IsNewBlock b place n → block_nesting b ≡ n
 new_block_nesting (function_block h ps at items) place n is = is.2

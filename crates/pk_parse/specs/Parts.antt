@@ -10,8 +10,8 @@ use Rattle.pk_ast.specs.Trees.{OneOrMore, ExpressionTree, ExpressionTrees, brace
 use Rattle.pk_grammar.specs.declared.signs.Fixed.{Fixed}
 use Rattle.pk_grammar.specs.declared.signs.Fixed.TheVariants as fixed
 use Rattle.pk_grammar.specs.Grammar.{any_expression}
-use Rattle.pk_grammar.specs.Machine.Signs.{is_fixed}
-use Rattle.pk_grammar.specs.Machine.States.{Head, OpenBlock, function_block, inner_block, Site, in_a_block, in_a_for, outside, Declaring, Declared, Naming, Purpose, as_whole, State, top, after_storage, after_item, after_initializer, parameter_specifiers, parameter_name, after_statement, operand}
+use Rattle.pk_grammar.specs.Machine.Signs.{is_fixed, specifier_word}
+use Rattle.pk_grammar.specs.Machine.States.{Head, OpenBlock, function_block, inner_block, Site, in_a_block, in_a_for, outside, Declaring, Declared, Naming, Purpose, as_whole, State, top, after_storage, after_item, after_initializer, parameter_specifiers, parameter_name, block_item, after_static, after_statement, operand}
 use Rattle.pk_grammar.specs.Machine.Steps.{refused, taken, wanted, site_nesting, with_declarator, with_initializer, whole_declaration, declared_at, next_word, open_parameters, purpose_level, end_purpose, step}
 use Rattle.pk_grammar.specs.Machine.Running.{first_of_all}
 use Rattle.pk_parse_expression.specs.Parsing.{EndsAt, UpTo, Reads}
@@ -24,7 +24,7 @@ pub record CanDeclare (end : Token) (d : Declaring) (id : Identifier) (n : ℕ) 
 
 -- a declaration in a function
 abbrev pub IsInner : Site → Type 0
-IsInner (in_a_block b) = Unit {0}
+IsInner (in_a_block b s) = Unit {0}
 IsInner (in_a_for n at o) = Unit {0}
 IsInner (outside before s) = ⊥
 
@@ -67,6 +67,15 @@ pub record IsTest (s : State) (p : Purpose) (n : ℕ) (next : ExpressionTree →
 abbrev pub with_items : OpenBlock → ItemTrees → OpenBlock
 with_items (function_block h ps at items) more = function_block h ps at (append_items items more)
 with_items (inner_block n at items o) more = inner_block n at (append_items items more) o
+
+-- a block's next item comes, of which a `static` was read or not
+abbrev pub static_state : OpenBlock → Option Pos → State
+static_state b None = block_item b
+static_state b (Some at) = after_static b at
+
+abbrev pub BeginsNoDeclaration : Token → List Token → Type 0
+BeginsNoDeclaration end ts =
+    (specifier_word (first_of_all end ts) ≡ None) × (is_fixed fixed.Static (first_of_all end ts).kind ≡ false)
 
 -- a block at this nesting, of which the `{` was read
 abbrev pub IsNewBlock : OpenBlock → Pos → ℕ → Type 0

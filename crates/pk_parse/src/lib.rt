@@ -3,6 +3,7 @@
 
 mod declarations;
 mod externals;
+mod items;
 mod laws;
 mod statements;
 mod texts;

@@ -15,6 +15,7 @@ ghost use Rattle.pk_grammar.specs.Machine.States as states;
 ghost use Rattle.pk_grammar.specs.Machine.Steps as steps;
 
 use crate::declarations::declaration;
+use crate::items::block_declaration;
 use pk_ast::{Block, BlockItem, Expression, ForHead, ForStart, Identifier, Statement};
 use pk_ctypes::Pos;
 use pk_grammar::{
@@ -429,9 +430,8 @@ fn block_items<'a>(
         if is(parser.kind(rest), Fixed::CloseBrace) {
             return Ok((list, rest));
         }
-        if let Some((word, after)) = parser.specifier(rest) {
-            let (declaration, next) = declaration(parser, word, after, inside)?;
-            list.push(BlockItem::declaration(parser.alloc, declaration)?)?;
+        if let Some((item, next)) = block_declaration(parser, rest, inside)? {
+            list.push(item)?;
             rest = next;
         } else {
             let (statement, next) = statement(parser, rest, inside)?;

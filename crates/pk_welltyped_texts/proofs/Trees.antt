@@ -135,7 +135,7 @@ mutual
 
   items : (is : ItemTrees) (n : ℕ) (ts : List Marked) → block_items is n ts → Are ts → ItemsHave is
   items no_items n ts h a = tt
-  items (declaration_then d is) n ts h a = (declarations d _ _ h.first (left h a), items is _ _ h.second (right h a))
+  items (declaration_then s d is) n ts h a = let i = h.second in (declarations d _ _ i.first (left i (right h a)), items is _ _ i.second (right i (right h a)))
   items (statement_then s is) n ts h a = (statements s _ _ h.first (left h a), items is _ _ h.second (right h a))
 
 -- ---- texts

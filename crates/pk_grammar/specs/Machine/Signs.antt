@@ -43,6 +43,7 @@ fixed_number fixed.While = 12
 fixed_number fixed.End = 13
 fixed_number fixed.Other = 14
 fixed_number fixed.Typedef = 15
+fixed_number fixed.Static = 16
 
 -- What a punctuator is: the token of a construct; what begins an operand; what comes after one; what begins a statement
 pub record PunctuatorSigns : Type 0 where
@@ -140,7 +141,7 @@ keyword_signs key.Return = word_signs fixed.Other None None first.Return
 keyword_signs key.Short = word_signs fixed.Other (Some word.Short) None first.Other
 keyword_signs key.Signed = word_signs fixed.Other (Some word.Signed) None first.Other
 keyword_signs key.Sizeof = word_signs fixed.Other None None first.Other
-keyword_signs key.Static = word_signs fixed.Other None (Some storage.Static) first.Other
+keyword_signs key.Static = word_signs fixed.Static None (Some storage.Static) first.Other
 keyword_signs key.Struct = word_signs fixed.Other None None first.Other
 keyword_signs key.Switch = word_signs fixed.Other None None (first.Test testing.Switch)
 keyword_signs key.Typedef = word_signs fixed.Typedef None None first.Other

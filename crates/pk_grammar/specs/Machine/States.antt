@@ -37,9 +37,9 @@ mutual
     in_do : ℕ → Pos → Outer → Outer
     in_for : ℕ → Pos → ForStartTree → Option ExpressionTree → Option ExpressionTree → Outer → Outer
 
--- where a declaration stands
+-- where a declaration stands, in a block with the place of its `static`
 pub data Site : Type 0 where
-  in_a_block : OpenBlock → Site
+  in_a_block : OpenBlock → Option Pos → Site
   in_a_for : ℕ → Pos → Outer → Site
   outside : List ExternalTree → Option Storage → Site
 
@@ -116,6 +116,7 @@ pub data State : Type 0 where
   parameters_closed : Head → List ParameterTree → State
   -- in a block and its statements
   block_item : OpenBlock → State
+  after_static : OpenBlock → Pos → State
   at_statement : ℕ → Outer → State
   after_statement : StatementTree → Outer → State
   test_open : Testing → ℕ → Pos → Outer → State

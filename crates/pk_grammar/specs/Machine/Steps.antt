@@ -24,7 +24,7 @@ use Rattle.pk_grammar.specs.declared.signs.StatementStart.TheVariants as first
 use Rattle.pk_grammar.specs.Languages.{identifier_of}
 use Rattle.pk_grammar.specs.Grammar.{any_expression, assignment_expression, conditional_expression, strength, weakest_operator, cast_expression, unary_expression, operators_in, postfixes_in, commas_in}
 use Rattle.pk_grammar.specs.Machine.Signs.{is_fixed, operand_start, operator_of, specifier_word, follows, following_word, all_const, has_type_name, storage_word, statement_start, is_void_word}
-use Rattle.pk_grammar.specs.Machine.States.{Head, OpenBlock, function_block, inner_block, Outer, in_block, in_label, in_case, in_default, in_if, in_else, in_switch, in_while, in_do, in_for, Site, in_a_block, in_a_for, outside, Declaring, Declared, Naming, Purpose, as_statement, as_label, as_test, as_last_test, as_first, as_second, as_third, as_result, as_length, as_value, as_item, Context, as_whole, in_parentheses, in_index, in_call, in_prefix, in_unary, in_cast, in_binary, in_choice, in_alternative, in_assignment, in_comma, State, top, after_storage, after_typedef, type_specifiers, after_type_name, type_name_comma, after_specifiers, after_name, after_length, after_assign, after_brace, after_item, after_initializer, after_comma, parameters_open, parameter_specifiers, parameter_name, parameter_comma, parameters_closed, block_item, at_statement, after_statement, test_open, do_open, for_open, for_first, for_second, for_third, default_colon, goto_name, returning, statement_end, operand, named, arguments, opened, cast_specifiers, complete}
+use Rattle.pk_grammar.specs.Machine.States.{Head, OpenBlock, function_block, inner_block, Outer, in_block, in_label, in_case, in_default, in_if, in_else, in_switch, in_while, in_do, in_for, Site, in_a_block, in_a_for, outside, Declaring, Declared, Naming, Purpose, as_statement, as_label, as_test, as_last_test, as_first, as_second, as_third, as_result, as_length, as_value, as_item, Context, as_whole, in_parentheses, in_index, in_call, in_prefix, in_unary, in_cast, in_binary, in_choice, in_alternative, in_assignment, in_comma, State, top, after_storage, after_typedef, type_specifiers, after_type_name, type_name_comma, after_specifiers, after_name, after_length, after_assign, after_brace, after_item, after_initializer, after_comma, parameters_open, parameter_specifiers, parameter_name, parameter_comma, parameters_closed, block_item, after_static, at_statement, after_statement, test_open, do_open, for_open, for_first, for_second, for_third, default_colon, goto_name, returning, statement_end, operand, named, arguments, opened, cast_specifiers, complete}
 
 -- what becomes of a state at a token: it is taken, nested so deep; or refused; or it is the end of a text
 pub data Verdict : Type 0 where
@@ -49,13 +49,13 @@ more_items (expression_then d es) e = one_more es e
 
 abbrev pub one_more_statement : ItemTrees → StatementTree → ItemTrees
 one_more_statement no_items s = statement_then s no_items
-one_more_statement (declaration_then d items) s = declaration_then d (one_more_statement items s)
+one_more_statement (declaration_then p d items) s = declaration_then p d (one_more_statement items s)
 one_more_statement (statement_then r items) s = statement_then r (one_more_statement items s)
 
-abbrev pub one_more_declaration : ItemTrees → DeclarationTree → ItemTrees
-one_more_declaration no_items d = declaration_then d no_items
-one_more_declaration (declaration_then c items) d = declaration_then c (one_more_declaration items d)
-one_more_declaration (statement_then r items) d = statement_then r (one_more_declaration items d)
+abbrev pub one_more_declaration : ItemTrees → Option Pos → DeclarationTree → ItemTrees
+one_more_declaration no_items s d = declaration_then s d no_items
+one_more_declaration (declaration_then p c items) s d = declaration_then p c (one_more_declaration items s d)
+one_more_declaration (statement_then r items) s d = statement_then r (one_more_declaration items s d)
 
 -- The nesting at which the items of a block stand, and a declaration
 abbrev pub block_nesting : OpenBlock → ℕ
@@ -63,7 +63,7 @@ block_nesting (function_block h ps at items) = 1
 block_nesting (inner_block n at items o) = n + 1
 
 abbrev pub site_nesting : Site → ℕ
-site_nesting (in_a_block b) = block_nesting b
+site_nesting (in_a_block b s) = block_nesting b
 site_nesting (in_a_for n at o) = n + 2
 site_nesting (outside before s) = 0
 
@@ -71,9 +71,9 @@ abbrev pub with_statement : OpenBlock → StatementTree → OpenBlock
 with_statement (function_block h ps at items) s = function_block h ps at (one_more_statement items s)
 with_statement (inner_block n at items o) s = inner_block n at (one_more_statement items s) o
 
-abbrev pub with_declaration : OpenBlock → DeclarationTree → OpenBlock
-with_declaration (function_block h ps at items) d = function_block h ps at (one_more_declaration items d)
-with_declaration (inner_block n at items o) d = inner_block n at (one_more_declaration items d) o
+abbrev pub with_declaration : OpenBlock → Option Pos → DeclarationTree → OpenBlock
+with_declaration (function_block h ps at items) s d = function_block h ps at (one_more_declaration items s d)
+with_declaration (inner_block n at items o) s d = inner_block n at (one_more_declaration items s d) o
 
 -- Words and names
 
@@ -180,7 +180,7 @@ whole_declaration d = record { specifiers = d.specifiers; declarators = d.declar
 
 -- a declaration has ended
 abbrev pub declared_at : Site → DeclarationTree → State
-declared_at (in_a_block b) d = block_item (with_declaration b d)
+declared_at (in_a_block b s) d = block_item (with_declaration b s d)
 declared_at (in_a_for n at o) d = for_second n at (declaration d) o
 declared_at (outside before s) d = top (before ++ objects s d ∷ [])
 
@@ -398,9 +398,16 @@ end_block (inner_block n at items o) t = taken n (after_statement (block at item
 
 abbrev pub declaration_or_statement : OpenBlock → Token → Option SpecifierWord → Verdict
 declaration_or_statement b t (Some w) =
-    taken (block_nesting b) (after_specifiers (in_a_block b) (one (specifier_at t w)))
+    taken (block_nesting b) (after_specifiers (in_a_block b None) (one (specifier_at t w)))
 declaration_or_statement b t None =
-    if is_fixed fixed.CloseBrace t.kind then end_block b t else begins_statement (block_nesting b) (in_block b) t
+    if is_fixed fixed.CloseBrace t.kind then end_block b t else
+    if is_fixed fixed.Static t.kind then taken (block_nesting b) (after_static b t.at) else
+    begins_statement (block_nesting b) (in_block b) t
+
+abbrev pub begin_static : OpenBlock → Pos → Token → Option SpecifierWord → Verdict
+begin_static b at t (Some w) =
+    taken (block_nesting b) (after_specifiers (in_a_block b (Some at)) (one (specifier_at t w)))
+begin_static b at t None = refused
 
 abbrev pub at_items : OpenBlock → Token → Verdict
 at_items b t = declaration_or_statement b t (specifier_word t)
@@ -439,7 +446,7 @@ without_length d id = record { declaring = d; name = id; length = None }
 
 -- a function, where this is the first declarator of an external definition
 abbrev pub open_parameters : Site → OneOrMore Specifier → List DeclaratorTree → Identifier → Verdict
-open_parameters (in_a_block b) specs ds id = refused
+open_parameters (in_a_block b s) specs ds id = refused
 open_parameters (in_a_for n at o) specs ds id = refused
 open_parameters (outside before s) specs [] id =
     taken 1 (parameters_open (record { before = before; storage = s; specifiers = specs; name = id }))
@@ -566,6 +573,7 @@ step (parameter_name h ps p) t = at_parameter_name h ps p t
 step (parameter_comma h ps) t = begin_parameter h ps t (specifier_word t)
 step (parameters_closed h ps) t = at_parameters_closed h ps t
 step (block_item b) t = at_items b t
+step (after_static b at) t = begin_static b at t (specifier_word t)
 step (at_statement n o) t = begins_statement n o t
 step (after_statement s o) t = resume s o t
 step (test_open k n at o) t =

@@ -7,14 +7,15 @@ use Rattle.pk_grammar.specs.declared.signs.Fixed.TheVariants as fixed
 use Rattle.pk_grammar.specs.declared.signs.OperandStart.TheVariants as start
 use Rattle.pk_grammar.specs.declared.signs.StatementStart.TheVariants as first
 use Rattle.pk_grammar.specs.Machine.Signs.{is_fixed, operand_start, statement_start}
-use Rattle.pk_grammar.specs.Machine.States.{inner_block, in_block, in_label, in_case, in_default, in_if, in_else, in_do, in_for, in_a_block, as_label, as_whole, block_item, at_statement, after_statement, test_open, for_open, default_colon, goto_name, returning, statement_end, operand}
+use Rattle.pk_grammar.specs.Machine.States.{inner_block, in_block, in_label, in_case, in_default, in_if, in_else, in_do, in_for, as_label, as_whole, block_item, at_statement, after_statement, test_open, for_open, default_colon, goto_name, returning, statement_end, operand}
 use Rattle.pk_grammar.specs.Machine.Steps.{tested}
 use Rattle.pk_grammar.specs.Machine.Running.{run}
 use Rattle.pk_parse_expression.proofs.RunLemmas.{passed, fails_as}
 use Rattle.pk_parse.specs.Parts.{with_items, after_block}
 use Rattle.pk_parse_expression.proofs.KeptLemmas.{made, not_made}
 use Rattle.pk_parse.proofs.RunStatements.{run_statement_end, no_statement_end}
-use Rattle.pk_parse.proofs.StatementLemmas.{after_label, after_case, after_default, after_if, after_else, after_test_switch, after_test_while, after_for, run_else, deep_else, run_test, no_test, run_default, no_default, run_case, no_case, no_operand_begins, deep_operand, fails_expression, run_expression, no_label_name, run_label, no_label_colon, run_start, deep_start, goes_on, nesting_with_items, no_items_more, run_item_statement, run_item_word, after_item_statement, after_item_declaration, new_block_nesting, run_block_end}
+use Rattle.pk_parse.proofs.ItemLemmas.{found, not_found}
+use Rattle.pk_parse.proofs.StatementLemmas.{after_label, after_case, after_default, after_if, after_else, after_test_switch, after_test_while, after_for, run_else, deep_else, run_test, no_test, run_default, no_default, run_case, no_case, no_operand_begins, deep_operand, fails_expression, run_expression, no_label_name, run_label, no_label_colon, run_start, deep_start, goes_on, nesting_with_items, no_items_more, run_item_statement, after_item_statement, after_item_declaration, new_block_nesting, run_block_end}
 use Rattle.pk_parse.proofs.statements.+statements.Goals as goal
 use Rattle.pk_parse.proofs.statements.+statements.Goals.{tested-in-Switch+in_ok-whole-in-Switch, tested-in_default+in_ok-whole-in_default}
 
@@ -250,23 +251,21 @@ block_items-loop-parser-init t c = (
   omega arith,
 )
 
-pub block_items-returns-in_err-declaration : goal.block_items-returns-in_err-declaration
-block_items-returns-in_err-declaration t c =
+pub block_items-returns-in_err-item : goal.block_items-returns-in_err-item
+block_items-returns-in_err-item t c =
     let list = c.loop-parser.list.items in
     passed _ _ c.from_residual.result _ c.from_residual.ensures.1
-    (λ b n. fails_as _ _ _
-    (c.loop-parser.invariant.0 b n ∙ run_item_word c.args.parser.end b list c.loop-parser.rest.now c.args.inside n _ _ c.in-Some.ensures c.requires)
-    (c.in_err-declaration.ensures (in_a_block (with_items b (item_trees list))) tt (nesting_with_items b (item_trees list) ∙ n)))
+    (λ b n. fails_as _ _ _ (c.loop-parser.invariant.0 b n) (c.in_err-item.ensures (with_items b (item_trees list)) (nesting_with_items b (item_trees list) ∙ n)))
 
 pub block_items-loop-parser-preserved-in-Some : goal.block_items-loop-parser-preserved-in-Some
 block_items-loop-parser-preserved-in-Some t c =
-    let list = c.loop-parser.list.items in (
+    let list = c.loop-parser.list.items in
+    let r = found _ _ _ _ c.in_ok-item.ensures c.in-Some.is in (
       λ b n.
           c.loop-parser.invariant.0 b n
-          ∙ run_item_word c.args.parser.end b list c.loop-parser.rest.now c.args.inside n _ _ c.in-Some.ensures c.requires
-          ∙ c.in_ok-declaration.ensures.0 (in_a_block (with_items b (item_trees list))) tt (nesting_with_items b (item_trees list) ∙ n)
-          ∙ after_item_declaration c.args.parser.end b list c.in_ok-declaration.next.now c.in_ok-declaration-2.field-0 _ c.in_ok-push.ensures.items _ c.in_ok-declaration-2.ensures,
-      let g = c.loop-parser.invariant.1 in let h = c.in_ok-declaration.ensures.1 in omega (arith, ap length c.in-Some.ensures.cut),
+          ∙ r.0 (with_items b (item_trees list)) (nesting_with_items b (item_trees list) ∙ n)
+          ∙ after_item_declaration c.args.parser.end b list c.in-Some.next.now c.in-Some.item _ c.in_ok-push.ensures.items,
+      let g = c.loop-parser.invariant.1 in let h = r.1 in omega arith,
     )
 
 pub block_items-returns-in_err-statement : goal.block_items-returns-in_err-statement
@@ -275,7 +274,8 @@ block_items-returns-in_err-statement t c =
     passed _ _ c.from_residual-in_err-statement.result _ c.from_residual-in_err-statement.ensures.1
     (λ b n. fails_as _ _ _
     (c.loop-parser.invariant.0 b n
-    ∙ run_item_statement c.args.parser.end b list c.loop-parser.rest.now c.args.inside n c.in_default.ensures (ap (λ k. is_fixed fixed.CloseBrace k) (sym c.kind.ensures) ∙ sym c.is.ensures ∙ c.if-is.false))
+    ∙ run_item_statement c.args.parser.end b list c.loop-parser.rest.now c.args.inside n (not_found _ _ _ c.in_ok-item.ensures c.in_default.is)
+    (ap (λ k. is_fixed fixed.CloseBrace k) (sym c.kind.ensures) ∙ sym c.is.ensures ∙ c.if-is.false))
     (c.in_err-statement.ensures (in_block (with_items b (item_trees list)))))
 
 pub block_items-loop-parser-preserved : goal.block_items-loop-parser-preserved
@@ -283,7 +283,8 @@ block_items-loop-parser-preserved t c =
     let list = c.loop-parser.list.items in (
       λ b n.
           c.loop-parser.invariant.0 b n
-          ∙ run_item_statement c.args.parser.end b list c.loop-parser.rest.now c.args.inside n c.in_default.ensures (ap (λ k. is_fixed fixed.CloseBrace k) (sym c.kind.ensures) ∙ sym c.is.ensures ∙ c.if-is.false)
+          ∙ run_item_statement c.args.parser.end b list c.loop-parser.rest.now c.args.inside n (not_found _ _ _ c.in_ok-item.ensures c.in_default.is)
+          (ap (λ k. is_fixed fixed.CloseBrace k) (sym c.kind.ensures) ∙ sym c.is.ensures ∙ c.if-is.false)
           ∙ c.in_ok-statement.ensures.0 (in_block (with_items b (item_trees list)))
           ∙ after_item_statement c.args.parser.end b list c.in_ok-statement.next.now c.statement-in_default.result _ c.in_ok-push-2.ensures.items _ c.statement-in_default.ensures,
       let g = c.loop-parser.invariant.1 in let h = c.in_ok-statement.ensures.1 in omega arith,
