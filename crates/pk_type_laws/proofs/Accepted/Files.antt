@@ -1,23 +1,18 @@
 -- Objects and functions of the file in an accepted text.
-use Rattle.std.proofs.Common.{◌≡◌, ℕ, zero, suc, ◌≤◌, Bool, true, false, List, [], ◌∷◌, ◌++◌, Option, Some, None, length, refl, ap, sym, subst, ◌∙◌, arith, append_assoc, if◌then◌else◌, append-nil}
-use Rattle.std.proofs.lemmas.Bool.{false≢true}
-use Rattle.std.specs.Prelude.{ℤ, pos, All, slice_get, is_some}
-use Rattle.std.specs.Option.{option_map}
+use Rattle.std.proofs.Common.{◌≡◌, ℕ, ◌≤◌, Bool, true, false, List, [], ◌∷◌, ◌++◌, Option, Some, None, length, refl, ap, sym, subst, ◌∙◌, arith, append_assoc, if◌then◌else◌, append-nil}
+use Rattle.std.specs.Prelude.{All, slice_get, is_some}
 use Rattle.std.specs.Str.{bytes_eq}
 use Rattle.std.proofs.lemmas.List.Elements.{All-push}
 use Rattle.pk_ctypes.specs.declared.types.IntType.{IntType}
-use Rattle.pk_ctypes.specs.Types.{InType}
-use Rattle.pk_ctypes.proofs.Wrapped.{wrapped_in, zero_in}
 use Rattle.pk_ast.specs.declared.expressions.Identifier.{Identifier}
 use Rattle.pk_ast.specs.declared.units.Storage.{Storage}
-use Rattle.pk_ast.specs.Trees.{ExpressionTree, ExpressionTrees, no_expressions, expression_then, InitializerTree, single, braced, DeclaratorTree, DeclarationTree}
+use Rattle.pk_ast.specs.Trees.{ExpressionTree, InitializerTree, DeclaratorTree, DeclarationTree}
 use Rattle.pk_typed.specs.declared.values.Variable.TheVariants.{File, Local}
 use Rattle.pk_typed.specs.Trees.{LocalTree, FileObjectTree, UnitTree}
 use Rattle.pk_type_scope.specs.declared.declarations.Callee.{Callee}
 use Rattle.pk_type_scope.specs.declared.declarations.Callee.TheVariants.{Ordinary, Any, Assume, Assert, Abort}
 use Rattle.pk_type_scope.specs.declared.declarations.Declaration.{Declaration}
 use Rattle.pk_type_scope.specs.declared.declarations.Declaration.TheVariants.{Object, Function, Enumerator, TypeName}
-use Rattle.pk_type_scope.specs.declared.declarations.Typing.{Typing}
 use Rattle.pk_type_scope.specs.declared.declarations.Typing.TheVariants.{Void, Integer, Unknown}
 use Rattle.pk_type_scope.specs.declared.failures.Failure.{Failure}
 use Rattle.pk_type_scope.specs.Declarations.{Names, is_void, is_unknown}
@@ -27,8 +22,8 @@ use Rattle.pk_type_scope.specs.Specifiers.{word_failures, type_named}
 use Rattle.pk_type_expression.specs.Rules.{count}
 use Rattle.pk_type_expression.proofs.TreeLemmas.{none_before, none_after, holds_not, types_are, known_type}
 use Rattle.pk_type_declaration.specs.declared.words.Words.{Words}
-use Rattle.pk_type_declaration.specs.Constants.{evaluated, number_in, after_constant, length_in}
-use Rattle.pk_type_declaration.specs.Declarations.{words_of, integer_in, type_or_int, text_of, redeclared, void_object, special_object, braces, surplus, length_at, after_optional_length, length_or_1}
+use Rattle.pk_type_declaration.specs.Constants.{evaluated, length_in}
+use Rattle.pk_type_declaration.specs.Declarations.{words_of, type_or_int, text_of, redeclared, void_object, special_object, braces, surplus, length_at, after_optional_length, length_or_1}
 use Rattle.pk_type_declaration.specs.Walks.{here, failing, after_name}
 use Rattle.pk_type_declaration.specs.Starts.{after_numbers, numbers_at, given, start_of}
 use Rattle.pk_type.specs.Files.{EntryTree, Filed, extern_object, file_object, after_object, after_objects, on, after_declaration}
@@ -40,7 +35,6 @@ use Rattle.pk_type_laws.proofs.Accepted.Walks.{W, none_found, LaterStatics, stat
 use Rattle.pk_type_laws.proofs.Accepted.Declarations.{has_types, names_declaring, StaticsStand, statics_before, later_optional_length, length_known}
 use Rattle.pk_type_laws.proofs.Accepted.Starts.{later_numbers, same_scope, same_locals, numbers_in_type, numbers_many, given_fit, RoomIn, start_is, start_length, object_is, its_kind}
 use Rattle.pk_type_laws.proofs.Accepted.Functions.{Integers}
-use Rattle.pk_typed.specs.Defaults.{length_of_start}
 use Rattle.pk_graph.specs.Kinds.{Kind, scalar_kind, array_kind}
 
 abbrev pub F : Type 0

@@ -4,7 +4,7 @@ use Rattle.std.specs.Prelude.{is_some}
 use Rattle.pk_ctypes.specs.declared.places.Pos.{Pos}
 use Rattle.pk_ast.specs.declared.expressions.Identifier.{Identifier}
 use Rattle.pk_ast.specs.Trees.{ExpressionTree, ExpressionTrees, no_expressions, expression_then, InitializerTree, DeclaratorTree, DeclarationTree}
-use Rattle.pk_typed.specs.Trees.{LocalTree, FileObjectTree, DeclaredTree, UnitTree}
+use Rattle.pk_typed.specs.Trees.{LocalTree, FileObjectTree, UnitTree}
 use Rattle.pk_type_scope.specs.declared.declarations.Declaration.{Declaration}
 use Rattle.pk_type_scope.specs.declared.declarations.Typing.{Typing}
 use Rattle.pk_type_scope.specs.declared.failures.Failure.{Failure}

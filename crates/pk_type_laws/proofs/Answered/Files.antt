@@ -7,7 +7,6 @@ use Rattle.pk_ast.specs.declared.expressions.Identifier.{Identifier}
 use Rattle.pk_ast.specs.declared.units.Storage.{Storage}
 use Rattle.pk_ast.specs.Trees.{DeclaratorTree, DeclarationTree, ParameterTree, BlockTree, FunctionTree, TypedefTree, ExternalTree, function, objects, type_names}
 use Rattle.pk_typed.specs.Trees.{BodyTree, FileObjectTree}
-use Rattle.pk_type_scope.specs.declared.declarations.Declaration.{Declaration}
 use Rattle.pk_type_scope.specs.declared.declarations.Declaration.TheVariants as declared
 use Rattle.pk_type_scope.specs.declared.declarations.NamedType.{NamedType}
 use Rattle.pk_type_scope.specs.declared.declarations.Typing.{Typing}

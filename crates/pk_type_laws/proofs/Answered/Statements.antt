@@ -14,7 +14,7 @@ use Rattle.pk_type_scope.specs.Failures.{noted, fails_if}
 use Rattle.pk_type_expression.specs.Typed.{of_both}
 use Rattle.pk_type_expression.specs.Types.{type_of}
 use Rattle.pk_type_declaration.specs.Statics.{after_block_declaration, block_declaration_at}
-use Rattle.pk_type_declaration.specs.Walks.{here, failing, after_value, value_at, effect_at}
+use Rattle.pk_type_declaration.specs.Walks.{here, failing, after_value, value_at}
 use Rattle.pk_type_statement.specs.Statements.{Passed, on, inside, outside, after, after_items, with_case, with_default, in_switch, after_switch, after_start, after_optional_value, after_optional_effect, after_head, after_return, returns_otherwise, repeated_cases}
 use Rattle.pk_type_statement.specs.Trees.{Labels, label_at, of_three, ended, switch_of, optional_value_at, optional_effect_at, start_at, head_at, a_head, for_tree, declared_all, typed, typed_items}
 use Rattle.pk_type_laws.specs.Answered.Failures.{appended}

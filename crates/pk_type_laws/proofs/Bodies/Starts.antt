@@ -1,9 +1,8 @@
 -- Static objects of texts in which no rule fails begin with numbers of their types.
-use Rattle.std.proofs.Common.{◌≡◌, ℕ, ◌+◌, ◌<◌, zero, suc, Bool, true, false, List, [], ◌∷◌, ◌++◌, Option, Some, None, length, refl, ap, sym, subst, ◌∙◌, arith}
+use Rattle.std.proofs.Common.{◌≡◌, ℕ, Bool, true, false, List, [], ◌∷◌, ◌++◌, Option, Some, None, refl, sym, subst, ◌∙◌, arith}
 use Rattle.std.proofs.lemmas.List.Elements.{All-push, All-append}
-use Rattle.std.specs.Prelude.{ℤ, All, is_some}
+use Rattle.std.specs.Prelude.{All}
 use Rattle.pk_ctypes.specs.declared.places.Pos.{Pos}
-use Rattle.pk_ctypes.specs.declared.words.Rule.TheVariants as rule
 use Rattle.pk_ast.specs.declared.expressions.Identifier.{Identifier}
 use Rattle.pk_ast.specs.Trees as ast
 use Rattle.pk_ast.specs.Trees.{ExpressionTree, InitializerTree, single, braced, DeclaratorTree, DeclarationTree, ForStartTree, declaration, expression, StatementTree, ItemTrees, no_items, declaration_then, statement_then, ParameterTree, TypedefTree}
@@ -17,7 +16,7 @@ use Rattle.pk_type_expression.specs.Rules.{count, used_failures}
 use Rattle.pk_type_expression.specs.Types.{type_of}
 use Rattle.pk_type_declaration.specs.declared.words.Words.{Words}
 use Rattle.pk_type_declaration.specs.Constants.{evaluated, length_in, after_length}
-use Rattle.pk_type_declaration.specs.Declarations.{words_of, type_or_int, text_of, at_name, braces, surplus, after_initializer, length_at, after_optional_length, length_or_1, after_head, after_object_name, after_declarator, after_declarators, after_declaration}
+use Rattle.pk_type_declaration.specs.Declarations.{words_of, type_or_int, text_of, at_name, braces, surplus, after_initializer, after_optional_length, length_or_1, after_head, after_object_name, after_declarator, after_declarators, after_declaration}
 use Rattle.pk_type_declaration.specs.Starts.{after_numbers, numbers_at, given, start_of}
 use Rattle.pk_type_declaration.specs.Statics.{static_at, after_static_head, after_static, after_statics, after_static_declaration, after_block_declaration}
 use Rattle.pk_type_declaration.specs.Walks.{StaticsTree, here, failing, after_value}
@@ -33,7 +32,7 @@ use Rattle.pk_type_laws.proofs.Accepted.Starts.{later_numbers, numbers_in_type, 
 use Rattle.pk_type_laws.proofs.Accepted.Statements.{later_statement, later_items}
 use Rattle.pk_type_laws.proofs.Accepted.Statics.{later_statics, same_statics}
 use Rattle.pk_type_laws.proofs.Bodies.Parts.{Known, known_opened, static_known, block_declaration_there}
-use Rattle.pk_type_laws.proofs.Bodies.Statements.{P, value_before, effect_before, head_there, known_after}
+use Rattle.pk_type_laws.proofs.Bodies.Statements.{P, head_there, known_after}
 
 abbrev pub AreStarts : List FileObjectTree → Type 0
 AreStarts = All (λ (x : FileObjectTree). IsStart x.int_type x.start)
