@@ -2,6 +2,8 @@ pub mod Expressions
 pub mod Walks
 pub mod Forms
 pub mod Declarations
+pub mod Starts
+pub mod Statics
 pub mod Statements
 pub mod Jumps
 pub mod Functions

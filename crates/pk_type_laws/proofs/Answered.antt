@@ -1,4 +1,5 @@
 pub mod Walks
+pub mod Statics
 pub mod Statements
 pub mod Files
 pub mod Answers

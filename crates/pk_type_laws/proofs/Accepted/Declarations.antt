@@ -16,7 +16,7 @@ use Rattle.pk_ast.specs.Trees.{ExpressionTree, ExpressionTrees, no_expressions, 
 use Rattle.pk_typed.specs.declared.values.Variable.{Variable}
 use Rattle.pk_typed.specs.declared.values.Variable.TheVariants.{File, Local}
 use Rattle.pk_typed.specs.Trees as tree
-use Rattle.pk_typed.specs.Trees.{LocalTree, ValueTree, ValueTrees, value_before, DeclaredTree, UnitTree}
+use Rattle.pk_typed.specs.Trees.{LocalTree, FileObjectTree, ValueTree, ValueTrees, value_before, DeclaredTree, UnitTree}
 use Rattle.pk_type_scope.specs.declared.declarations.Callee.{Callee}
 use Rattle.pk_type_scope.specs.declared.declarations.Callee.TheVariants.{Ordinary, Any, Assume, Assert, Abort}
 use Rattle.pk_type_scope.specs.declared.declarations.Declaration.{Declaration}
@@ -38,14 +38,14 @@ use Rattle.pk_type_constant.specs.Forms.{is_constant_form}
 use Rattle.pk_type_declaration.specs.declared.words.Words.{Words}
 use Rattle.pk_type_declaration.specs.Constants.{given_by, evaluated, is_refused, is_refused_length, is_outside, is_length, number_of, magnitude, length_in, after_constant, after_length}
 use Rattle.pk_type_declaration.specs.Declarations.{integer_in, type_or_int, object_at, at_name, redeclared, void_object, special_object, braces, surplus, surplus_item, item_at, after_initializer, length_at, after_optional_length, length_or_1, local_of, after_object, after_head, after_declarator, after_declarators, after_declaration, words_of, scalar_tree, array_tree, declarator_tree_at, declarator_trees_at, declaration_trees_at}
-use Rattle.pk_type_declaration.specs.Walks.{here, failing, after_value, after_values, value_at, values_at}
+use Rattle.pk_type_declaration.specs.Walks.{StaticsTree, here, failing, after_value, after_values, value_at, values_at}
 use Rattle.pk_welltyped.specs.Listed.{numbered, calls_in, calls_in_values, calls_in_declared, calls_in_all_declared, objects_in_declared, objects_in_all_declared}
 use Rattle.pk_welltyped.specs.WellTyped as good
 use Rattle.pk_welltyped.specs.WellTyped.{Around, IsObject, AreValues, kind_among, IsDeclared, AreDeclared, IsValueIf, AreValuesIf}
 use Rattle.pk_type_laws.specs.Accepted.Constants.{HasConstantsIf, InitializerHas, DeclaratorsHave, DeclarationHas}
 use Rattle.pk_type_laws.specs.Accepted.Names.{ObjectIs, EnumeratorIs, CalleeIs, DeclarationIs, NamesAre}
 use Rattle.pk_type_laws.proofs.Accepted.Forms.{no_calls, Gives, Numeric, numeric}
-use Rattle.pk_type_laws.proofs.Accepted.Walks.{W, around, none_found, Later, later_same, later, later_failing, later_value, later_values, Steps, steps_none, steps, steps_as, ValuePart, ValuesPart, value_part, values_part}
+use Rattle.pk_type_laws.proofs.Accepted.Walks.{W, around, none_found, LaterStatics, statics_same, Later, later_same, later, later_failing, later_value, later_values, Steps, steps_none, steps, steps_as, ValuePart, ValuesPart, value_part, values_part}
 use Rattle.pk_graph.specs.Kinds.{Kind, scalar_kind, array_kind}
 
 -- ---- names
@@ -124,13 +124,33 @@ names_opened a s h y = subst (DeclarationIs a) (sym (found_last s.outer s.inner 
 
 -- ---- places of the function's objects
 
--- the function's objects begin with those before the place
-pub record Begins (ls : List LocalTree) (w : W) : Type 0 where
+-- the unit's objects are those of the file, and behind them first the static ones before the place
+pub record StaticsStand (u : UnitTree) (s : StaticsTree) : Type 0 where
+  pub before : List FileObjectTree
+  pub first : length before ≡ s.first
+  pub rest : List FileObjectTree
+  pub objects : u.objects ≡ before ++ (s.made ++ rest)
+
+pub statics_before : (u : UnitTree) (s t : StaticsTree) → LaterStatics s t → StaticsStand u t → StaticsStand u s
+statics_before u s t l k = record {
+  before = k.before;
+  first = k.first ∙ l.first;
+  rest = l.more ++ k.rest;
+  objects = k.objects ∙ ap (λ (xs : List FileObjectTree). k.before ++ xs) (ap (λ (xs : List FileObjectTree). xs ++ k.rest) l.made ∙ append_assoc s.made l.more k.rest);
+}
+
+-- the function's objects begin with those before the place, and the unit has the static ones
+pub record Begins (u : UnitTree) (ls : List LocalTree) (w : W) : Type 0 where
   pub rest : List LocalTree
   pub is : ls ≡ w.locals ++ rest
+  pub statics : StaticsStand u w.statics
 
-pub begins_before : (ls : List LocalTree) (w v : W) → Later w v → Begins ls v → Begins ls w
-begins_before ls w v l b = record { rest = l.more ++ b.rest; is = b.is ∙ (ap (λ (xs : List LocalTree). xs ++ b.rest) l.locals ∙ append_assoc w.locals l.more b.rest) }
+pub begins_before : (u : UnitTree) (ls : List LocalTree) (w v : W) → Later w v → Begins u ls v → Begins u ls w
+begins_before u ls w v l b = record {
+  rest = l.more ++ b.rest;
+  is = b.is ∙ (ap (λ (xs : List LocalTree). xs ++ b.rest) l.locals ∙ append_assoc w.locals l.more b.rest);
+  statics = statics_before u w.statics v.statics l.statics b.statics;
+}
 
 pub nth : {A : Type 0} (xs : List A) (x : A) (ys : List A) → slice_get (xs ++ x ∷ ys) (length xs) ≡ Some x
 nth [] x ys = refl
@@ -158,7 +178,7 @@ constant_steps e w h =
 pub later_constant : (e : ExpressionTree) (w : W) → Later w (after_constant noted e w)
 later_constant e w = later w (after_value noted e w) _ (later_value e w) (later_failing (fails_if (is_refused (evaluated w e)) rule.Constant (first_place_of e)) (after_value noted e w))
 
-later_length : (e : ExpressionTree) (w : W) → Later w (after_length noted e w)
+pub later_length : (e : ExpressionTree) (w : W) → Later w (after_length noted e w)
 later_length e w = later w (after_value noted e w) _ (later_value e w) (later_failing (fails_if (is_refused_length (evaluated w e)) rule.Constant (first_place_of e)) (after_value noted e w))
 
 -- ---- lengths of arrays
@@ -208,14 +228,24 @@ pub is_used : (d : Names) (e : ExpressionTree) → void d e ≡ [] → is_void (
 unfolding void
 is_used d e h = holds_not _ _ _ h
 
-pub length_known : (u : UnitTree) (ls : List LocalTree) (w : W) (e : ExpressionTree) → NamesAre (around u ls w) (here w) → (after_length noted e w).found ≡ None → KnownLength (length_in (evaluated w e))
-length_known u ls w e n h =
+pub length_has : (w : W) (e : ExpressionTree) → ((x : Identifier) → HasTypes (here w x)) → (after_length noted e w).found ≡ None → KnownLength (length_in (evaluated w e))
+length_has w e k h =
     let r = none_found (after_value noted e w).found (fails_if (is_refused_length (evaluated w e)) rule.Constant (first_place_of e)) h in
     let f : used_failures (here w) e ≡ [] = (none_found w.found (used_failures (here w) e) r.0).1 in
     let is : is_refused_length (evaluated w e) ≡ false = holds_not _ _ _ r.1 in
-    let t = accepted_expressions_have_trees (here w) (λ x. has_types (around u ls w) (here w x) (n x)) (length w.calls) e (none_before (failures (here w) e) (void (here w) e) f) in
+    let t = accepted_expressions_have_trees (here w) k (length w.calls) e (none_before (failures (here w) e) (void (here w) e) f) in
     length_of (is_constant_form (here w) e) (given_by (value_at w e)) is
     (value_gives (type_of (here w) e) (typed (here w) (length w.calls) e) t (is_used (here w) e (none_after (failures (here w) e) (void (here w) e) f)) (numeric (here w) (length w.calls) e (or_left (is_constant_form (here w) e) _ is)))
+
+pub length_known : (u : UnitTree) (ls : List LocalTree) (w : W) (e : ExpressionTree) → NamesAre (around u ls w) (here w) → (after_length noted e w).found ≡ None → KnownLength (length_in (evaluated w e))
+length_known u ls w e n h = length_has w e (λ x. has_types (around u ls w) (here w x) (n x)) h
+
+-- a length calls nothing
+pub length_steps : (e : ExpressionTree) (w : W) → (after_length noted e w).found ≡ None → Steps w (after_length noted e w) [] 0
+length_steps e w h =
+    let r = none_found (after_value noted e w).found (fails_if (is_refused_length (evaluated w e)) rule.Constant (first_place_of e)) h in
+    let s = no_site e w (or_left (is_constant_form (here w) e) _ (holds_not _ _ _ r.1)) in
+    record { sites = s.sites; calls = s.calls; listed = s.listed; objects = s.objects }
 
 -- ---- what an object begins with
 
@@ -290,13 +320,13 @@ not_void words b n x w h =
     holds_not _ _ _ (none_after (redeclared w.scoping x) (void_object words.typing x.at) (none_before (redeclared w.scoping x ++ void_object words.typing x.at) (special_object w.scoping x) rows))
 
 pub object_declared : (u : UnitTree) (ls : List LocalTree) (words : Words) (b : Bool) (n : Option ℕ) (x : Identifier) (w : W) → NamesAre (around u ls w) (here w) → is_unknown words.typing ≡ false
-    → Begins ls (after_object noted words b n x w) → (after_object noted words b n x w).found ≡ None → Declared u ls w (after_object noted words b n x w) (type_or_int words.typing) (length_or_1 b n)
+    → Begins u ls (after_object noted words b n x w) → (after_object noted words b n x w).found ≡ None → Declared u ls w (after_object noted words b n x w) (type_or_int words.typing) (length_or_1 b n)
 object_declared u ls words b n x w g unknown begins h =
     let v = after_object noted words b n x w in
     let l = local_of words.typing w.scoping b n x in
     let fs = none_found w.found (at_name w.scoping words.typing x) h in
     let void : is_void words.typing ≡ false = not_void words b n x w h in
-    let later : Later w v = record { found = λ f. fs.0; more = l ∷ []; locals = refl } in
+    let later : Later w v = record { found = λ f. fs.0; more = l ∷ []; locals = refl; statics = statics_same w.statics } in
     let is : ls ≡ w.locals ++ l ∷ begins.rest = begins.is ∙ append_assoc w.locals (l ∷ []) begins.rest in
     let kind : kind_among ls (length w.locals) ≡ Some (record { int_type = type_or_int words.typing; length = length_or_1 b n }) = rw is (ap (option_map (λ (y : LocalTree). record { int_type = y.int_type; length = y.length })) (nth w.locals l begins.rest)) in
     let many : length v.locals ≡ length w.locals + 1 = length-append w.locals (l ∷ []) in
@@ -319,7 +349,7 @@ later_optional_length None w = later_same w
 later_optional_length (Some e) w = later_length e w
 
 pub later_object : (words : Words) (b : Bool) (n : Option ℕ) (x : Identifier) (w : W) → Later w (after_object noted words b n x w)
-later_object words b n x w = record { found = λ h. (none_found w.found (at_name w.scoping words.typing x) h).0; more = local_of words.typing w.scoping b n x ∷ []; locals = refl }
+later_object words b n x w = record { found = λ h. (none_found w.found (at_name w.scoping words.typing x) h).0; more = local_of words.typing w.scoping b n x ∷ []; locals = refl; statics = statics_same w.statics }
 
 later_head : (words : Words) (d : DeclaratorTree) (w : W) → Later w (after_head noted words d w)
 later_head words d w =
@@ -382,7 +412,7 @@ record Declaring (u : UnitTree) (ls : List LocalTree) (w v : W) (o : Option Decl
   part : DeclaredPart u ls w v o
 
 declarator_of : (u : UnitTree) (ls : List LocalTree) (words : Words) (x : Identifier) (e : Option ExpressionTree) (i : Option InitializerTree) (w : W) → NamesAre (around u ls w) (here w) → is_unknown words.typing ≡ false
-    → HasConstantsIf e → InitializerHas i → (let d : DeclaratorTree = record { name = x; length = e; initializer = i } in let v = after_declarator noted words d w in Begins ls v → v.found ≡ None → Declaring u ls w v (declarator_tree_at noted words d w))
+    → HasConstantsIf e → InitializerHas i → (let d : DeclaratorTree = record { name = x; length = e; initializer = i } in let v = after_declarator noted words d w in Begins u ls v → v.found ≡ None → Declaring u ls w v (declarator_tree_at noted words d w))
 unfolding after_declarator declarator_tree_at
 declarator_of u ls words x None i w n unknown ke ki begins h =
     let d : DeclaratorTree = record { name = x; length = None; initializer = i } in
@@ -391,8 +421,8 @@ declarator_of u ls words x None i w n unknown ke ki begins h =
     let v1 = failing noted fs v0 in
     let f1 : v1.found ≡ None = (later_initializer i v1).found h in
     let f0 = none_found v0.found fs f1 in
-    let b1 = begins_before ls v1 _ (later_initializer i v1) begins in
-    let o = object_declared u ls words false None x w n unknown (record { rest = b1.rest; is = b1.is }) f0.0 in
+    let b1 = begins_before u ls v1 _ (later_initializer i v1) begins in
+    let o = object_declared u ls words false None x w n unknown (record { rest = b1.rest; is = b1.is; statics = b1.statics }) f0.0 in
     let s : Steps w v1 [] 1 = record { sites = o.calls.sites; calls = o.calls.calls; listed = o.calls.listed; objects = o.calls.objects } in
     record {
       names = initial_names u ls i v1 o.names;
@@ -408,11 +438,10 @@ declarator_of u ls words x (Some e) i w n unknown ke ki begins h =
     let f1 : v1.found ≡ None = (later_initializer i v1).found h in
     let f0 = none_found v0.found fs f1 in
     let fw : w1.found ≡ None = (later_object words true m x w1).found f0.0 in
-    let b1 = begins_before ls v1 _ (later_initializer i v1) begins in
-    let o = object_declared u ls words true m x w1 n unknown (record { rest = b1.rest; is = b1.is }) f0.0 in
+    let b1 = begins_before u ls v1 _ (later_initializer i v1) begins in
+    let o = object_declared u ls words true m x w1 n unknown (record { rest = b1.rest; is = b1.is; statics = b1.statics }) f0.0 in
     let k = length_known u ls w e n fw in
-    let l = no_site e w (or_left (is_constant_form (here w) e) _ (holds_not _ _ _ (none_found (after_value noted e w).found (fails_if (is_refused_length (evaluated w e)) rule.Constant (first_place_of e)) fw).1)) in
-    let s1 : Steps w w1 [] 0 = record { sites = l.sites; calls = l.calls; listed = l.listed; objects = l.objects } in
+    let s1 : Steps w w1 [] 0 = length_steps e w fw in
     let s : Steps w1 v1 [] 1 = record { sites = o.calls.sites; calls = o.calls.calls; listed = o.calls.listed; objects = o.calls.objects } in
     let fits : surplus (Some k.0) i ≡ [] = rw k.1 at (none_after (braces true i x.at) (surplus m i) f0.1) in
     let kind : kind_among ls (length w.locals) ≡ Some (array_kind (type_or_int words.typing) k.0) = o.kind ∙ ap (λ (q : Option ℕ). Some (record { int_type = type_or_int words.typing; length = length_or_1 true q })) k.1 in
@@ -439,17 +468,17 @@ one_more u ls w v x (Some t) (Some ts) p q = (
 )
 
 declarators : (u : UnitTree) (ls : List LocalTree) (words : Words) → is_unknown words.typing ≡ false → (ds : List DeclaratorTree) → DeclaratorsHave ds → (w : W) → NamesAre (around u ls w) (here w)
-    → Begins ls (after_declarators noted words ds w) → (after_declarators noted words ds w).found ≡ None → AllDeclaring u ls w (after_declarators noted words ds w) (declarator_trees_at noted words ds w)
+    → Begins u ls (after_declarators noted words ds w) → (after_declarators noted words ds w).found ≡ None → AllDeclaring u ls w (after_declarators noted words ds w) (declarator_trees_at noted words ds w)
 unfolding after_declarators declarator_trees_at
 declarators u ls words unknown [] k w n begins h = record { names = n; part = (tt, steps_none w w refl refl) }
 declarators u ls words unknown (d ∷ ds) k w n begins h =
     let v = after_declarator noted words d w in
     let l = later_declarators words ds v in
-    let one = declarator_of u ls words d.name d.length d.initializer w n unknown k.0.0 k.0.1 (begins_before ls v _ l begins) (l.found h) in
+    let one = declarator_of u ls words d.name d.length d.initializer w n unknown k.0.0 k.0.1 (begins_before u ls v _ l begins) (l.found h) in
     let more = declarators u ls words unknown ds k.1 v one.names begins h in
     record { names = more.names; part = one_more u ls w v _ (declarator_tree_at noted words d w) (declarator_trees_at noted words ds v) one.part more.part }
 
-moved : (u : UnitTree) (ls : List LocalTree) (w v x : W) (o : Option (List DeclaredTree)) → v.calls ≡ w.calls → v.locals ≡ w.locals → AllDeclaredPart u ls v x o → AllDeclaredPart u ls w x o
+pub moved : (u : UnitTree) (ls : List LocalTree) (w v x : W) (o : Option (List DeclaredTree)) → v.calls ≡ w.calls → v.locals ≡ w.locals → AllDeclaredPart u ls v x o → AllDeclaredPart u ls w x o
 moved u ls w v x None a b p = tt
 moved u ls w v x (Some ts) a b p = (
   subst (λ (n : ℕ). AreDeclared (record { unit = u; locals = ls; objects = n }) ts) (ap length b) p.0,
@@ -457,7 +486,7 @@ moved u ls w v x (Some ts) a b p = (
 )
 
 pub declaration : (u : UnitTree) (ls : List LocalTree) (d : DeclarationTree) → DeclarationHas d → (w : W) → NamesAre (around u ls w) (here w)
-    → Begins ls (after_declaration noted d w) → (after_declaration noted d w).found ≡ None → AllDeclaring u ls w (after_declaration noted d w) (declaration_trees_at noted d w)
+    → Begins u ls (after_declaration noted d w) → (after_declaration noted d w).found ≡ None → AllDeclaring u ls w (after_declaration noted d w) (declaration_trees_at noted d w)
 unfolding after_declaration declaration_trees_at
 declaration u ls d k w n begins h =
     let v = failing noted (word_failures (here w) d.specifiers) w in

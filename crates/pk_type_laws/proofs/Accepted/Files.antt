@@ -1,23 +1,18 @@
 -- Objects and functions of the file in an accepted text.
-use Rattle.std.proofs.Common.{◌≡◌, ℕ, zero, suc, ◌≤◌, Bool, true, false, List, [], ◌∷◌, ◌++◌, Option, Some, None, length, refl, ap, sym, subst, ◌∙◌, arith, append_assoc, if◌then◌else◌, append-nil}
-use Rattle.std.proofs.lemmas.Bool.{false≢true}
-use Rattle.std.specs.Prelude.{ℤ, pos, All, slice_get, is_some}
-use Rattle.std.specs.Option.{option_map}
+use Rattle.std.proofs.Common.{◌≡◌, ℕ, ◌≤◌, Bool, true, false, List, [], ◌∷◌, ◌++◌, Option, Some, None, length, refl, ap, sym, subst, ◌∙◌, arith, append_assoc, if◌then◌else◌, append-nil}
+use Rattle.std.specs.Prelude.{All, slice_get, is_some}
 use Rattle.std.specs.Str.{bytes_eq}
 use Rattle.std.proofs.lemmas.List.Elements.{All-push}
 use Rattle.pk_ctypes.specs.declared.types.IntType.{IntType}
-use Rattle.pk_ctypes.specs.Types.{InType}
-use Rattle.pk_ctypes.proofs.Wrapped.{wrapped_in, zero_in}
 use Rattle.pk_ast.specs.declared.expressions.Identifier.{Identifier}
 use Rattle.pk_ast.specs.declared.units.Storage.{Storage}
-use Rattle.pk_ast.specs.Trees.{ExpressionTree, ExpressionTrees, no_expressions, expression_then, InitializerTree, single, braced, DeclaratorTree, DeclarationTree}
+use Rattle.pk_ast.specs.Trees.{ExpressionTree, InitializerTree, DeclaratorTree, DeclarationTree}
 use Rattle.pk_typed.specs.declared.values.Variable.TheVariants.{File, Local}
 use Rattle.pk_typed.specs.Trees.{LocalTree, FileObjectTree, UnitTree}
 use Rattle.pk_type_scope.specs.declared.declarations.Callee.{Callee}
 use Rattle.pk_type_scope.specs.declared.declarations.Callee.TheVariants.{Ordinary, Any, Assume, Assert, Abort}
 use Rattle.pk_type_scope.specs.declared.declarations.Declaration.{Declaration}
 use Rattle.pk_type_scope.specs.declared.declarations.Declaration.TheVariants.{Object, Function, Enumerator, TypeName}
-use Rattle.pk_type_scope.specs.declared.declarations.Typing.{Typing}
 use Rattle.pk_type_scope.specs.declared.declarations.Typing.TheVariants.{Void, Integer, Unknown}
 use Rattle.pk_type_scope.specs.declared.failures.Failure.{Failure}
 use Rattle.pk_type_scope.specs.Declarations.{Names, is_void, is_unknown}
@@ -27,18 +22,19 @@ use Rattle.pk_type_scope.specs.Specifiers.{word_failures, type_named}
 use Rattle.pk_type_expression.specs.Rules.{count}
 use Rattle.pk_type_expression.proofs.TreeLemmas.{none_before, none_after, holds_not, types_are, known_type}
 use Rattle.pk_type_declaration.specs.declared.words.Words.{Words}
-use Rattle.pk_type_declaration.specs.Constants.{evaluated, number_in, after_constant, length_in}
-use Rattle.pk_type_declaration.specs.Declarations.{words_of, integer_in, type_or_int, text_of, redeclared, void_object, special_object, braces, surplus, length_at, after_optional_length, length_or_1}
+use Rattle.pk_type_declaration.specs.Constants.{evaluated, length_in}
+use Rattle.pk_type_declaration.specs.Declarations.{words_of, type_or_int, text_of, redeclared, void_object, special_object, braces, surplus, length_at, after_optional_length, length_or_1}
 use Rattle.pk_type_declaration.specs.Walks.{here, failing, after_name}
-use Rattle.pk_type.specs.Files.{EntryTree, Filed, number_or_0, number_at, after_numbers, numbers_at, given, first_or_0, start_of, extern_object, file_object, after_object, after_objects, on, after_declaration}
+use Rattle.pk_type_declaration.specs.Starts.{after_numbers, numbers_at, given, start_of}
+use Rattle.pk_type.specs.Files.{EntryTree, Filed, extern_object, file_object, after_object, after_objects, on, after_declaration}
 use Rattle.pk_type.specs.Files as files
 use Rattle.pk_type.specs.Units.{function_of}
 use Rattle.pk_welltyped.specs.WellTyped.{Around, IsObject, kind_in_file, IsStart, IsBodyIf}
 use Rattle.pk_type_laws.specs.Accepted.Names.{ObjectIs, CalleeIs, DeclarationIs, NamesAre}
-use Rattle.pk_type_laws.proofs.Accepted.Walks.{W, none_found, Later, later_same, later, later_failing}
-use Rattle.pk_type_laws.proofs.Accepted.Declarations.{has_types, names_declaring, nth, later_constant, later_optional_length, length_known, room}
+use Rattle.pk_type_laws.proofs.Accepted.Walks.{W, none_found, LaterStatics, statics_same, statics_later, Later, later, later_failing}
+use Rattle.pk_type_laws.proofs.Accepted.Declarations.{has_types, names_declaring, StaticsStand, statics_before, later_optional_length, length_known}
+use Rattle.pk_type_laws.proofs.Accepted.Starts.{later_numbers, same_scope, same_locals, numbers_in_type, numbers_many, given_fit, RoomIn, start_is, start_length, object_is, its_kind}
 use Rattle.pk_type_laws.proofs.Accepted.Functions.{Integers}
-use Rattle.pk_typed.specs.Defaults.{length_of_start}
 use Rattle.pk_graph.specs.Kinds.{Kind, scalar_kind, array_kind}
 
 abbrev pub F : Type 0
@@ -64,6 +60,7 @@ pub record LaterFile (f g : F) : Type 0 where
   pub more : List FileObjectTree
   pub objects : g.objects ≡ f.objects ++ more
   pub entries : Kept f.functions g.functions
+  pub statics : LaterStatics f.walked.statics g.walked.statics
 
 pub kept_same : (es : Entries) → Kept es es
 kept_same es n e h = subst (SameEntry e) (sym h) refl
@@ -80,7 +77,7 @@ kept_then es fs gs a b n e h = go (slice_get fs n) refl (a n e h)
         turned (Some y) s t = s ∙ t
 
 pub file_same : (f : F) → LaterFile f f
-file_same f = record { found = λ h. h; more = []; objects = sym (append-nil f.objects); entries = kept_same f.functions }
+file_same f = record { found = λ h. h; more = []; objects = sym (append-nil f.objects); entries = kept_same f.functions; statics = statics_same f.walked.statics }
 
 pub file_later : (f g h : F) → LaterFile f g → LaterFile g h → LaterFile f h
 file_later f g h a b = record {
@@ -88,6 +85,7 @@ file_later f g h a b = record {
   more = a.more ++ b.more;
   objects = b.objects ∙ (ap (λ (xs : List FileObjectTree). xs ++ b.more) a.objects ∙ append_assoc f.objects a.more b.more);
   entries = kept_then f.functions g.functions h.functions a.entries b.entries;
+  statics = statics_later f.walked.statics g.walked.statics h.walked.statics a.statics b.statics;
 }
 
 -- the unit has what stands before the place
@@ -95,12 +93,14 @@ pub record Stands (u : UnitTree) (f : F) : Type 0 where
   pub rest : List FileObjectTree
   pub objects : u.objects ≡ f.objects ++ rest
   pub functions : (n : ℕ) (e : EntryTree) → slice_get f.functions n ≡ Some e → (x : EntryTree) × (slice_get u.functions n ≡ Some (function_of x)) × (x.signature ≡ e.signature)
+  pub statics : StaticsStand u f.walked.statics
 
 pub stands_before : (u : UnitTree) (f g : F) → LaterFile f g → Stands u g → Stands u f
 stands_before u f g l s = record {
   rest = l.more ++ s.rest;
   objects = s.objects ∙ (ap (λ (xs : List FileObjectTree). xs ++ s.rest) l.objects ∙ append_assoc f.objects l.more s.rest);
   functions = λ n e h. found n e (slice_get g.functions n) refl (l.entries n e h);
+  statics = statics_before u f.walked.statics g.walked.statics l.statics s.statics;
 }
   where
     found : (n : ℕ) (e : EntryTree) (o : Option EntryTree) → slice_get g.functions n ≡ o → SameEntry e o → (x : EntryTree) × (slice_get u.functions n ≡ Some (function_of x)) × (x.signature ≡ e.signature)
@@ -158,73 +158,6 @@ names_from_file u ls n d h x = from_file u ls n (d x) (h x)
 
 -- ---- objects
 
-later_numbers : (es : ExpressionTrees) (w : W) → Later w (after_numbers noted es w)
-unfolding after_numbers
-later_numbers no_expressions w = later_same w
-later_numbers (expression_then e es) w = later w (after_constant noted e w) _ (later_constant e w) (later_numbers es (after_constant noted e w))
-
-same_scope : (es : ExpressionTrees) (w : W) → (after_numbers noted es w).scoping ≡ w.scoping
-unfolding after_numbers
-same_scope no_expressions w = refl
-same_scope (expression_then e es) w = same_scope es (after_constant noted e w)
-
-same_locals : (es : ExpressionTrees) (w : W) → (after_numbers noted es w).locals ≡ w.locals
-unfolding after_numbers
-same_locals no_expressions w = refl
-same_locals (expression_then e es) w = same_locals es (after_constant noted e w)
-
-zero_is : (t : IntType) → InType t (pos 0)
-zero_is t = record { from = (zero_in t).0; to = (zero_in t).1 }
-
-number_in_type : (t : IntType) (o : Option ℤ) → InType t (number_or_0 t o)
-number_in_type t None = zero_is t
-number_in_type t (Some n) = wrapped_in t n
-
-all_first : (t : IntType) (z : ℤ) (zs : List ℤ) → InType t z → All (InType t) zs → All (InType t) (z ∷ zs)
-all_first t z zs h k zero d l = h
-all_first t z zs h k (suc i) d l = k i d (omega (l, arith))
-
-numbers_in_type : (t : IntType) (es : ExpressionTrees) (w : W) → All (InType t) (numbers_at noted t es w)
-unfolding numbers_at
-numbers_in_type t no_expressions w = λ k d l. absurd (omega (l, arith))
-numbers_in_type t (expression_then e es) w = all_first t (number_at t w e) (numbers_at noted t es (after_constant noted e w)) (number_in_type t (number_in (evaluated w e))) (numbers_in_type t es (after_constant noted e w))
-
-numbers_many : (t : IntType) (es : ExpressionTrees) (w : W) → length (numbers_at noted t es w) ≡ count es
-unfolding numbers_at
-numbers_many t no_expressions w = refl
-numbers_many t (expression_then e es) w = let h = numbers_many t es (after_constant noted e w) in omega (h, arith)
-
-first_in : (t : IntType) (zs : List ℤ) → All (InType t) zs → InType t (first_or_0 zs)
-first_in t [] h = zero_is t
-first_in t (z ∷ zs) h = h 0 z (omega arith)
-
-given_fit : (x : Option InitializerTree) (n : ℕ) (at : Rattle.pk_ctypes.specs.declared.places.Pos.Pos) → braces true x at ≡ [] → surplus (Some n) x ≡ [] → count (given x) ≤ n
-given_fit None n at k h = omega arith
-given_fit (Some (single e)) n at k h = absurd (cc)
-given_fit (Some (braced o e es)) n at k h = room (expression_then e es) n h
-
-abbrev RoomIn : Bool → Option ℕ → ℕ → Type 0
-RoomIn false n k = Unit {0}
-RoomIn true None k = k ≤ 1
-RoomIn true (Some m) k = (k ≤ m) × (1 ≤ m)
-
-start_is : (t : IntType) (b : Bool) (n : Option ℕ) (zs : List ℤ) → All (InType t) zs → RoomIn b n (length zs) → IsStart t (start_of (length_or_1 b n) zs)
-start_is t false n zs h k = first_in t zs h
-start_is t true None zs h k = (k, h, omega arith)
-start_is t true (Some m) zs h k = (k.0, h, k.1)
-
-start_length : (b : Bool) (n : Option ℕ) (zs : List ℤ) → length_of_start (start_of (length_or_1 b n) zs) ≡ length_or_1 b n
-start_length false n zs = refl
-start_length true None zs = refl
-start_length true (Some m) zs = refl
-
-object_is : (u : UnitTree) (k : ℕ) (t : Typing) (b : Bool) (n : Option ℕ) → is_void t ≡ false → is_unknown t ≡ false → kind_in_file u k ≡ Some (record { int_type = type_or_int t; length = length_or_1 b n }) → ObjectIs (in_file u) b (integer_in t) (File k)
-object_is u k Void b n p q h = absurd (false≢true (sym p))
-object_is u k Unknown b n p q h = absurd (false≢true (sym q))
-object_is u k (Integer t) false n p q h = h
-object_is u k (Integer t) true None p q h = (1, h)
-object_is u k (Integer t) true (Some n) p q h = (n, h)
-
 pub known_declaring : (es : Entries) (s : Scoping) (x : Identifier) (o : Declaration) → ((y : Identifier) → KnownIn es (names_in s y)) → KnownIn es (Some o) → (y : Identifier) → KnownIn es (names_in (declaring s x o) y)
 unfolding names_in
 known_declaring es s x o h k y = picked (bytes_eq (spelled s.text x) (spelled s.text y)) (s.inner (spelled s.text y)) (found_up s.outer (spelled s.text y) None) (h y)
@@ -247,12 +180,10 @@ object_made u words b n x i f w rows fs name sc lc void unknown h r s =
     let q = after_numbers noted (given i) v in
     let sq : q.scoping ≡ declaring w.scoping x (file_object words b f) = same_scope (given i) v in
     let is : u.objects ≡ f.objects ++ o ∷ s.rest = s.objects ∙ append_assoc f.objects (o ∷ []) s.rest in
-    let there : slice_get u.objects (length f.objects) ≡ Some o = ap (λ (l : List FileObjectTree). slice_get l (length f.objects)) is ∙ nth f.objects o s.rest in
-    let kind : kind_in_file u (length f.objects) ≡ Some (record { int_type = t; length = length_or_1 b n }) =
-    ap (option_map (λ (y : FileObjectTree). record { int_type = y.int_type; length = length_of_start y.start })) there ∙ ap (λ (l : Option ℕ). Some (record { int_type = t; length = l })) (start_length b n zs) in
+    let kind : kind_in_file u (length f.objects) ≡ Some (record { int_type = t; length = length_or_1 b n }) = its_kind u f.objects s.rest o (length_or_1 b n) is (start_length b n zs) in
     record {
       names = subst (λ (c : Scoping). NamesAre (in_file u) (names_in c)) (sym sq) (names_declaring (in_file u) w.scoping x (file_object words b f) (subst (λ (c : Scoping). NamesAre (in_file u) (names_in c)) (sym sc) h.names)
-          (object_is u (length f.objects) words.typing b n void unknown kind));
+          (object_is (in_file u) (length f.objects) words.typing b n void unknown kind));
       known = subst (λ (c : Scoping). (y : Identifier) → KnownIn f.functions (names_in c y)) (sym sq) (known_declaring f.functions w.scoping x (file_object words b f) (subst (λ (c : Scoping). (y : Identifier) → KnownIn f.functions (names_in c y)) (sym sc) h.known) tt);
       locals = same_locals (given i) v ∙ (lc ∙ h.locals);
       objects = All-push (λ (y : FileObjectTree). IsStart y.int_type y.start) f.objects o h.objects (start_is t b n zs (numbers_in_type t (given i) v) (subst (RoomIn b n) (sym (numbers_many t (given i) v)) r));
@@ -265,7 +196,7 @@ later_head storage words d f =
     let rows = redeclared w.scoping d.name ++ extern_object storage d.name ++ void_object words.typing d.name.at ++ special_object w.scoping d.name in
     let fs = braces (is_some d.length) d.initializer d.name.at ++ surplus (length_at f.walked d.length) d.initializer in
     let v : W = after_name d.name (file_object words (is_some d.length) f) (failing noted rows w) in
-    let named : Later (failing noted rows w) v = record { found = λ h. h; more = []; locals = sym (append-nil w.locals) } in
+    let named : Later (failing noted rows w) v = record { found = λ h. h; more = []; locals = sym (append-nil w.locals); statics = statics_same w.statics } in
     later f.walked w _ (later_optional_length d.length f.walked) (later w (failing noted rows w) _ (later_failing rows w) (later (failing noted rows w) v _ named (later_failing fs v)))
 
 later_object : (storage : Option Storage) (words : Words) (d : DeclaratorTree) (f : F) → LaterFile f (after_object noted storage words d f)
@@ -278,6 +209,7 @@ later_object storage words d f =
       more = record { name = text_of f.walked.scoping d.name; int_type = t; start = start_of (length_or_1 (is_some d.length) (length_at f.walked d.length)) (numbers_at noted t (given d.initializer) w) } ∷ [];
       objects = refl;
       entries = kept_same f.functions;
+      statics = statics_later f.walked.statics w.statics (after_numbers noted (given d.initializer) w).statics (later_head storage words d f).statics (later_numbers (given d.initializer) w).statics;
     }
 
 later_objects : (storage : Option Storage) (words : Words) (ds : List DeclaratorTree) (f : F) → LaterFile f (after_objects noted storage words ds f)
@@ -290,7 +222,7 @@ unfolding after_declaration
 later_declaration storage d f =
     let g = on (failing noted (word_failures (here f.walked) d.specifiers)) f in
     let l = later_objects storage (words_of (here f.walked) d.specifiers) (d.declarators.first ∷ d.declarators.more) g in
-    record { found = λ h. (later_failing (word_failures (here f.walked) d.specifiers) f.walked).found (l.found h); more = l.more; objects = l.objects; entries = l.entries }
+    record { found = λ h. (later_failing (word_failures (here f.walked) d.specifiers) f.walked).found (l.found h); more = l.more; objects = l.objects; entries = l.entries; statics = l.statics }
 
 void_row : (a b c d : List Failure) → a ++ b ++ c ++ d ≡ [] → c ≡ []
 void_row a b c d h = none_after (a ++ b) c (none_before (a ++ b ++ c) d h)
@@ -340,5 +272,5 @@ declaration u storage d f h s k =
     let kg = (later_objects storage (words_of (here f.walked) d.specifiers) ds g).found k in
     let unknown : is_unknown (type_named (here f.walked) d.specifiers) ≡ false = known_type (here f.walked) (types_are (here f.walked) (λ x. has_types (in_file u) (here f.walked x) (h.names x))) d.specifiers (none_found f.walked.found (word_failures (here f.walked) d.specifiers) kg).1 in
     let at : FileIs u g = record { names = h.names; known = h.known; locals = h.locals; objects = h.objects; entries = h.entries } in
-    let all = all_objects u storage (words_of (here f.walked) d.specifiers) ds g unknown at (record { rest = s.rest; objects = s.objects; functions = s.functions }) k in
+    let all = all_objects u storage (words_of (here f.walked) d.specifiers) ds g unknown at (record { rest = s.rest; objects = s.objects; functions = s.functions; statics = s.statics }) k in
     record { names = all.names; known = all.known; locals = all.locals; objects = all.objects; entries = all.entries }

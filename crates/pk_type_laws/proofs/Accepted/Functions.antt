@@ -33,16 +33,16 @@ use Rattle.pk_welltyped.specs.Listed.{numbered}
 use Rattle.pk_welltyped.specs.WellTyped.{AreParameters, AreItems, IsBodyIf, Marks}
 use Rattle.pk_type_laws.specs.Accepted.Constants.{ItemsHave}
 use Rattle.pk_type_laws.specs.Accepted.Names.{NamesAre}
-use Rattle.pk_type_laws.proofs.Accepted.Walks.{W, around, none_found, Later, later_same, later, later_failing}
+use Rattle.pk_type_laws.proofs.Accepted.Walks.{W, around, none_found, statics_same, Later, later_same, later, later_failing}
 use Rattle.pk_type_expression.proofs.TreeLemmas.{none_after, holds_not, TypesAre, types_are, known_type}
-use Rattle.pk_type_laws.proofs.Accepted.Declarations.{has_types, names_later, found_last, Begins, begins_before, later_object, not_void, object_declared}
+use Rattle.pk_type_laws.proofs.Accepted.Declarations.{has_types, names_later, found_last, StaticsStand, Begins, begins_before, later_object, not_void, object_declared}
 use Rattle.pk_type_laws.proofs.Accepted.Statements.{Ends, items_part, later_items, ItemsPart}
 use Rattle.pk_type_laws.proofs.Accepted.Jumps.{labels_below, no_case, no_default}
 
 -- ---- parameters
 
 later_local : (l : LocalTree) (w : W) → Later w (with_local l w)
-later_local l w = record { found = λ h. h; more = l ∷ []; locals = refl }
+later_local l w = record { found = λ h. h; more = l ∷ []; locals = refl; statics = statics_same w.statics }
 
 later_parameter : (p : ParameterTree) (w : W) → Later w (after_parameter noted p w)
 later_parameter p w =
@@ -155,11 +155,11 @@ record One (u : UnitTree) (ls : List LocalTree) (w v : W) (t : Typing) : Type 0 
   type_is : local.int_type ≡ type_or_int t
   length_is : local.length ≡ None
 
-parameter : (u : UnitTree) (ls : List LocalTree) (p : ParameterTree) (w : W) → NamesAre (around u ls w) (here w) → Begins ls (after_parameter noted p w) → (after_parameter noted p w).found ≡ None
+parameter : (u : UnitTree) (ls : List LocalTree) (p : ParameterTree) (w : W) → NamesAre (around u ls w) (here w) → Begins u ls (after_parameter noted p w) → (after_parameter noted p w).found ≡ None
     → One u ls w (after_parameter noted p w) (type_named (here w) p.specifiers)
 parameter u ls p w n b h = named p.name b h
   where
-    named : (x : Option Identifier) → Begins ls (after_parameter_name noted p x (failing noted (word_failures (here w) p.specifiers) w)) → (after_parameter_name noted p x (failing noted (word_failures (here w) p.specifiers) w)).found ≡ None
+    named : (x : Option Identifier) → Begins u ls (after_parameter_name noted p x (failing noted (word_failures (here w) p.specifiers) w)) → (after_parameter_name noted p x (failing noted (word_failures (here w) p.specifiers) w)).found ≡ None
         → One u ls w (after_parameter_name noted p x (failing noted (word_failures (here w) p.specifiers) w)) (type_named (here w) p.specifiers)
     named None b h =
         let t = type_named (here w) p.specifiers in
@@ -199,14 +199,14 @@ pub record Parameters (u : UnitTree) (ls : List LocalTree) (w v : W) (ts : List 
   pub are : AreParameters (map type_or_int ts) more
   pub many : length more ≡ length (map type_or_int ts)
 
-pub parameters : (u : UnitTree) (ls : List LocalTree) (c : Names) (ps : List ParameterTree) (w : W) → NamesAre (around u ls w) (here w) → TypesFrom c (here w) → Begins ls (after_parameters noted ps w)
+pub parameters : (u : UnitTree) (ls : List LocalTree) (c : Names) (ps : List ParameterTree) (w : W) → NamesAre (around u ls w) (here w) → TypesFrom c (here w) → Begins u ls (after_parameters noted ps w)
     → (after_parameters noted ps w).found ≡ None → Parameters u ls w (after_parameters noted ps w) (types_of c ps)
 unfolding after_parameters
 parameters u ls c [] w n k b h = record { names = n; calls = refl; more = []; locals = sym (append-nil w.locals); are = tt; many = refl }
 parameters u ls c (p ∷ ps) w n k b h =
     let v = after_parameter noted p w in
     let l = later_parameters ps v in
-    let one = parameter u ls p w n (begins_before ls v _ l b) (l.found h) in
+    let one = parameter u ls p w n (begins_before u ls v _ l b) (l.found h) in
     let all = parameters u ls c ps v one.names (types_behind c p w k) b h in
     record {
       names = all.names;
@@ -250,10 +250,10 @@ made u g m visible b w v x (Some is) im c l s k p n h = record {
       h.1.listed ∙ (at ∙ sym (ap (numbered 0) is_them));
 }
 
-pub body : (u : UnitTree) (g : tree.FunctionTree) (r : Typing) (visible : ℕ) (b : BlockTree) (w : W) → visible ≤ length u.objects → w.calls ≡ [] → AreParameters g.parameters (after_body noted r b w).locals
+pub body : (u : UnitTree) (g : tree.FunctionTree) (r : Typing) (visible : ℕ) (b : BlockTree) (w : W) → StaticsStand u (after_body noted r b w).statics → visible ≤ length u.objects → w.calls ≡ [] → AreParameters g.parameters (after_body noted r b w).locals
     → length w.locals ≡ length g.parameters → g.returns ≡ integer_in r → is_unknown r ≡ false
     → NamesAre (around u (after_body noted r b w).locals w) (here w) → ItemsHave b.items → (after_body noted r b w).found ≡ None → IsBodyIf u g (body_at noted r visible b w)
-body u g r visible b w s k p n ret known names has h =
+body u g r visible b w stand s k p n ret known names has h =
     let labels = labels_of w.scoping.text b.items in
     let jumps = jumps_of w.scoping.text labels.labels b.items in
     let fs = about_jumps labels jumps in
@@ -264,8 +264,8 @@ body u g r visible b w s k p n ret known names has h =
     let rows : each_at rule.Label labels.repeated ++ each_at rule.Label jumps.unknown ++ each_at rule.Jump jumps.misplaced ≡ [] = f.1 in
     let placed : jumps.misplaced ≡ [] = none_at rule.Jump jumps.misplaced (none_after (each_at rule.Label labels.repeated ++ each_at rule.Label jumps.unknown) (each_at rule.Jump jumps.misplaced) rows) in
     let m : Marks = record { labels = labels.count; returns = g.returns; cases = 0; has_default = false } in
-    let e : Ends x.locals m q = record {
-      begins = record { rest = []; is = sym (append-nil q.walked.locals) };
+    let e : Ends u x.locals m q = record {
+      begins = record { rest = []; is = sym (append-nil q.walked.locals); statics = stand };
       found = f.0;
       cases = omega (ap length (no_case w.scoping.text labels.labels r start b.items placed), arith);
       default = λ t. absurd (false≢true (sym (no_default w.scoping.text labels.labels r start b.items placed) ∙ t));

@@ -10,7 +10,7 @@ use Rattle.pk_ast.specs.Trees.{declaration, expression, StatementTree, ItemTrees
 use Rattle.pk_type_scope.specs.declared.declarations.Typing.{Typing}
 use Rattle.pk_type_scope.specs.Failures.{noted}
 use Rattle.pk_type_scope.specs.Scopes.{spelled}
-use Rattle.pk_type_declaration.specs.Declarations.{after_declaration}
+use Rattle.pk_type_declaration.specs.Statics.{after_block_declaration}
 use Rattle.pk_type_declaration.specs.Walks.{after_value}
 use Rattle.pk_type_jump.specs.declared.labels.Label.{Label}
 use Rattle.pk_type_jump.specs.declared.labels.Within.{Within}
@@ -71,7 +71,7 @@ mutual
 
   items_below : (text : List ℕ) (w : Within) (l : Listed) (is : ItemTrees) → Below l.count l.labels → Below (listed_items text w l is).count (listed_items text w l is).labels
   items_below text w l no_items b = b
-  items_below text w l (declaration_then d is) b = items_below text (inside l.declarations w) (with_declaration l) is b
+  items_below text w l (declaration_then x d is) b = items_below text (inside l.declarations w) (with_declaration l) is b
   items_below text w l (statement_then s is) b = items_below text w (listed text w l s) is (listed_below text w l s b)
 
 pub labels_below : (text : List ℕ) (is : ItemTrees) → Below (labels_of text is).count (labels_of text is).labels
@@ -110,7 +110,7 @@ mutual
 
   pub items_before : (text : List ℕ) (labels : Labels) (a : Around) (j : Jumped) (is : ItemTrees) → (jumped_items text labels a j is).misplaced ≡ [] → j.misplaced ≡ []
   items_before text labels a j no_items h = h
-  items_before text labels a j (declaration_then d is) h = items_before text labels (within_next j a) (jump.with_declaration j) is h
+  items_before text labels a j (declaration_then x d is) h = items_before text labels (within_next j a) (jump.with_declaration j) is h
   items_before text labels a j (statement_then s is) h = before text labels a j s (items_before text labels a (jumped text labels a j s) is h)
 
 -- no case and no default is added
@@ -166,8 +166,8 @@ mutual
 
   items_outside : (text : List ℕ) (labels : Labels) (a : Around) (j : Jumped) (r : Typing) (p : P) (is : ItemTrees) → a.switch ≡ None → (jumped_items text labels a j is).misplaced ≡ [] → Same p (after_items noted r p is)
   items_outside text labels a j r p no_items n h = record { cases = refl; default = refl }
-  items_outside text labels a j r p (declaration_then d is) n h =
-      let k = items_outside text labels (within_next j a) (jump.with_declaration j) r (on (after_declaration noted d) p) is n h in record { cases = k.cases; default = k.default }
+  items_outside text labels a j r p (declaration_then x d is) n h =
+      let k = items_outside text labels (within_next j a) (jump.with_declaration j) r (on (after_block_declaration noted x d) p) is n h in record { cases = k.cases; default = k.default }
   items_outside text labels a j r p (statement_then s is) n h =
       let o = jumped text labels a j s in
       let k = outside text labels a j r p s n (items_before text labels a o is h) in

@@ -26,6 +26,7 @@ use Rattle.pk_type_expression.specs.Typed.{of_both}
 use Rattle.pk_type_expression.specs.Types.{type_of}
 use Rattle.pk_type_declaration.specs.Constants.{evaluated, number_in}
 use Rattle.pk_type_declaration.specs.Declarations.{after_declaration, declaration_trees_at, integer_in}
+use Rattle.pk_type_declaration.specs.Statics.{after_block_declaration, block_declaration_at}
 use Rattle.pk_type_declaration.specs.Walks.{here, failing, after_value, after_effect, value_at, effect_at}
 use Rattle.pk_type_jump.specs.declared.labels.Label.{Label}
 use Rattle.pk_type_statement.specs.declared.statements.Case.{Case}
@@ -40,6 +41,7 @@ use Rattle.pk_type_laws.specs.Accepted.Names.{NamesAre}
 use Rattle.pk_type_laws.proofs.Accepted.Walks.{none_found, W, around, Later, later_same, later, later_failing, later_value, later_effect, Steps, steps_none, steps, steps_as, ValuePart, EffectPart, value_part, effect_part}
 use Rattle.pk_type_laws.proofs.Accepted.Declarations.{names_later, names_opened, Begins, begins_before, constant_steps, later_constant, later_declaration, AllDeclaredPart}
 use Rattle.pk_type_laws.proofs.Accepted.Declarations as declarations
+use Rattle.pk_type_laws.proofs.Accepted.Statics.{later_block_declaration, block_declaration}
 use Rattle.pk_type_expression.proofs.TreeLemmas.{holds_not}
 
 abbrev pub P : Type 0
@@ -90,7 +92,7 @@ later_case at e p = record { walked = later_constant e p.walked; cases = longer 
 
 -- into a scope, and out of it
 later_inside : (p q : P) → LaterPlace (inside p) q → LaterPlace p (outside p q)
-later_inside p q l = record { walked = record { found = l.walked.found; more = l.walked.more; locals = l.walked.locals }; cases = l.cases; default = l.default }
+later_inside p q l = record { walked = record { found = l.walked.found; more = l.walked.more; locals = l.walked.locals; statics = l.walked.statics }; cases = l.cases; default = l.default }
 
 later_switch : (t : Typing) (p q r : P) → LaterPlace (in_switch q) r → LaterPlace p q → LaterPlace p (after_switch noted t p.cases p.has_default r)
 later_switch t p q r l k = record {
@@ -132,7 +134,7 @@ mutual
 
   pub later_items : (r : Typing) (p : P) (is : ItemTrees) → LaterPlace p (after_items noted r p is)
   later_items r p no_items = place_same p
-  later_items r p (declaration_then d is) = let q = on (after_declaration noted d) p in place_later p q _ (later_on (after_declaration noted d) p (later_declaration d p.walked)) (later_items r q is)
+  later_items r p (declaration_then x d is) = let q = on (after_block_declaration noted x d) p in place_later p q _ (later_on (after_block_declaration noted x d) p (later_block_declaration x d p.walked)) (later_items r q is)
   later_items r p (statement_then s is) = let q = after noted r p s in place_later p q _ (later_statement r p s) (later_items r q is)
 
 -- ---- a statement declares no name
@@ -159,14 +161,14 @@ same_scope r p (ast.return at (Some e)) = refl
 
 -- ---- where the walk ends
 
-pub record Ends (ls : List LocalTree) (m : Marks) (q : P) : Type 0 where
-  pub begins : Begins ls q.walked
+pub record Ends (u : UnitTree) (ls : List LocalTree) (m : Marks) (q : P) : Type 0 where
+  pub begins : Begins u ls q.walked
   pub found : q.walked.found ≡ None
   pub cases : length q.cases ≤ m.cases
   pub default : q.has_default ≡ true → m.has_default ≡ true
 
-ends_before : (ls : List LocalTree) (m : Marks) (p q : P) → LaterPlace p q → Ends ls m q → Ends ls m p
-ends_before ls m p q l e = record { begins = begins_before ls p.walked q.walked l.walked e.begins; found = l.walked.found e.found; cases = omega (l.cases, e.cases, arith); default = λ h. e.default (l.default h) }
+ends_before : (u : UnitTree) (ls : List LocalTree) (m : Marks) (p q : P) → LaterPlace p q → Ends u ls m q → Ends u ls m p
+ends_before u ls m p q l e = record { begins = begins_before u ls p.walked q.walked l.walked e.begins; found = l.walked.found e.found; cases = omega (l.cases, e.cases, arith); default = λ h. e.default (l.default h) }
 
 -- ---- labels
 
@@ -377,7 +379,7 @@ optional_value_names : (u : UnitTree) (ls : List LocalTree) (w : W) (e : Option 
 optional_value_names u ls w None n = n
 optional_value_names u ls w (Some e) n = n
 
-starting : (u : UnitTree) (ls : List LocalTree) (w : W) (s : ForStartTree) → NamesAre (around u ls w) (here w) → StartHas s → Begins ls (after_start noted s w) → (after_start noted s w).found ≡ None
+starting : (u : UnitTree) (ls : List LocalTree) (w : W) (s : ForStartTree) → NamesAre (around u ls w) (here w) → StartHas s → Begins u ls (after_start noted s w) → (after_start noted s w).found ≡ None
     → Starting u ls w (after_start noted s w) (start_at noted s w)
 starting u ls w (declaration d) n k b h =
     let all = declarations.declaration u ls d k w n b h in
@@ -487,12 +489,12 @@ mutual
   unfolding after after_items typed typed_items StatementHas ItemsHave IsStatement calls_in_statement objects_in
 
   pub statements : (u : UnitTree) (ls : List LocalTree) (r : Typing) (labels : Labels) (m : Marks) → Fitting m r labels → (p : P) (s : StatementTree) → NamesAre (around u ls p.walked) (here p.walked) → StatementHas s
-      → Ends ls m (after noted r p s) → StatementPart u ls m p.walked (after noted r p s).walked (typed noted r labels p s)
+      → Ends u ls m (after noted r p s) → StatementPart u ls m p.walked (after noted r p s).walked (typed noted r labels p s)
   statements u ls r labels m b p (ast.block opened items closed) n k e =
       let i = inside p in
       let q = after_items noted r i items in
       block_statement u ls m p.walked i.walked q.walked (outside p q).walked opened (typed_items noted r labels i items) refl refl refl refl
-      (items_part u ls r labels m b i items (names_opened (around u ls i.walked) p.walked.scoping n) k (record { begins = record { rest = e.begins.rest; is = e.begins.is }; found = e.found; cases = e.cases; default = e.default }))
+      (items_part u ls r labels m b i items (names_opened (around u ls i.walked) p.walked.scoping n) k (record { begins = record { rest = e.begins.rest; is = e.begins.is; statics = e.begins.statics }; found = e.found; cases = e.cases; default = e.default }))
   statements u ls r labels m b p (ast.empty at) n k e = nothing u ls m p.walked p.walked (tree.empty at) refl refl tt refl refl
   statements u ls r labels m b p (ast.expression_statement x) n k e =
       effect_statement u ls m p.walked (after_effect noted x p.walked) (first_place_of x) (effect_at p.walked x) (effect_part (around u ls p.walked) p.walked x n k e.found)
@@ -500,7 +502,7 @@ mutual
       label_statement u ls m p.walked (after noted r p s).walked x.at (labels (spelled p.walked.scoping.text x)) (typed noted r labels p s) (b.0 (spelled p.walked.scoping.text x)) (statements u ls r labels m b p s n k e)
   statements u ls r labels m b p (ast.case at x s) n k e =
       let q = with_case noted at x p in
-      let l = ends_before ls m q _ (later_statement r q s) e in
+      let l = ends_before u ls m q _ (later_statement r q s) e in
       case_statement u ls m p.walked q.walked (after noted r q s).walked at (length p.cases) (typed noted r labels q s) (one_longer p.cases (record { at = at; value = number_in (evaluated p.walked x) }) m.cases l.cases) (constant_steps x p.walked l.found)
       (statements u ls r labels m b q s n k.1 e)
   statements u ls r labels m b p (ast.default at s) n k e =
@@ -508,13 +510,13 @@ mutual
       default_statement u ls m p.walked (after noted r q s).walked at (typed noted r labels q s) (e.default ((later_statement r q s).default refl)) (statements u ls r labels m b q s n k e)
   statements u ls r labels m b p (ast.if_then at x s) n k e =
       let q = on (after_value noted x) p in
-      let l = ends_before ls m q _ (later_statement r q s) e in
+      let l = ends_before u ls m q _ (later_statement r q s) e in
       then_statement u ls m p.walked q.walked (after noted r q s).walked at (value_at p.walked x) (typed noted r labels q s) (value_part (around u ls p.walked) p.walked x n k.0 l.found) (statements u ls r labels m b q s n k.1 e)
   statements u ls r labels m b p (ast.if_else at x s t) n k e =
       let q = on (after_value noted x) p in
       let o = after noted r q s in
-      let l = ends_before ls m o _ (later_statement r o t) e in
-      let i = ends_before ls m q _ (later_statement r q s) l in
+      let l = ends_before u ls m o _ (later_statement r o t) e in
+      let i = ends_before u ls m q _ (later_statement r q s) l in
       else_statement u ls m p.walked q.walked o.walked (after noted r o t).walked at (value_at p.walked x) (typed noted r labels q s) (typed noted r labels o t) (value_part (around u ls p.walked) p.walked x n k.0 i.found)
       (statements u ls r labels m b q s n k.1 l) (statements u ls r labels m b o t (names_behind u ls q.walked o.walked (later_statement r q s).walked (same_scope r q s) n) k.2 e)
   statements u ls r labels m b p (ast.switch at x s) n k e =
@@ -522,17 +524,17 @@ mutual
       let o = after noted r q s in
       let t = type_of (here p.walked) x in
       let f = (later_failing (repeated_cases t o.cases) o.walked).found e.found in
-      let inner : Ends ls (good.in_switch (length o.cases) o.has_default m) o = record { begins = record { rest = e.begins.rest; is = e.begins.is }; found = f; cases = omega arith; default = λ h. h } in
-      let l = ends_before ls (good.in_switch (length o.cases) o.has_default m) q o (later_statement r q s) inner in
+      let inner : Ends u ls (good.in_switch (length o.cases) o.has_default m) o = record { begins = record { rest = e.begins.rest; is = e.begins.is; statics = e.begins.statics }; found = f; cases = omega arith; default = λ h. h } in
+      let l = ends_before u ls (good.in_switch (length o.cases) o.has_default m) q o (later_statement r q s) inner in
       switch_statement u ls m p.walked q.walked o.walked (after_switch noted t p.cases p.has_default o).walked at o (value_at p.walked x) t (typed noted r labels q s) refl refl (value_part (around u ls p.walked) p.walked x n k.0 l.found)
       (statements u ls r labels (good.in_switch (length o.cases) o.has_default m) b q s n k.1 inner)
   statements u ls r labels m b p (ast.while at x s) n k e =
       let q = on (after_value noted x) p in
-      let l = ends_before ls m q _ (later_statement r q s) e in
+      let l = ends_before u ls m q _ (later_statement r q s) e in
       while_statement u ls m p.walked q.walked (after noted r q s).walked at (value_at p.walked x) (typed noted r labels q s) (value_part (around u ls p.walked) p.walked x n k.0 l.found) (statements u ls r labels m b q s n k.1 e)
   statements u ls r labels m b p (ast.do_while at s x) n k e =
       let q = after noted r p s in
-      let l = ends_before ls m q (on (after_value noted x) q) (later_on (after_value noted x) q (later_value x q.walked)) e in
+      let l = ends_before u ls m q (on (after_value noted x) q) (later_on (after_value noted x) q (later_value x q.walked)) e in
       do_statement u ls m p.walked q.walked (after_value noted x q.walked) at (typed noted r labels p s) (value_at q.walked x) (statements u ls r labels m b p s n k.0 l)
       (value_part (around u ls p.walked) q.walked x (subst (λ (c : Scoping). NamesAre (around u ls p.walked) (names_in c)) (sym (same_scope r p s)) n) k.1 e.found)
   statements u ls r labels m b p (ast.for_loop at start test step s) n k e =
@@ -542,11 +544,11 @@ mutual
       let y = after_optional_effect noted step x in
       let q = on (after_head noted start test step) i in
       let o = after noted r q s in
-      let inner : Ends ls m o = record { begins = record { rest = e.begins.rest; is = e.begins.is }; found = e.found; cases = e.cases; default = e.default } in
-      let l = ends_before ls m q o (later_statement r q s) inner in
+      let inner : Ends u ls m o = record { begins = record { rest = e.begins.rest; is = e.begins.is; statics = e.begins.statics }; found = e.found; cases = e.cases; default = e.default } in
+      let l = ends_before u ls m q o (later_statement r q s) inner in
       let fx = (later_optional_effect step x).found l.found in
       let fv = (later_optional_value test v).found fx in
-      let bv = begins_before ls v y (later v x y (later_optional_value test v) (later_optional_effect step x)) l.begins in
+      let bv = begins_before u ls v y (later v x y (later_optional_value test v) (later_optional_effect step x)) l.begins in
       let first = starting u ls i.walked start (names_opened (around u ls i.walked) p.walked.scoping n) k.0 bv fv in
       let nx = optional_value_names u ls v test first.names in
       for_statement u ls m p.walked i.walked v x y o.walked (outside p o).walked at (start_at noted start i.walked) (optional_value_at v test) (optional_effect_at x step) (typed noted r labels q s) refl refl refl refl
@@ -565,15 +567,15 @@ mutual
       return_statement u ls m p.walked (after_value noted x w) at some.0 (value_at w x) (b.1 ∙ some.1) (from_there (around u ls p.walked) p.walked w (after_value noted x w) (value_at w x) refl refl s)
 
   pub items_part : (u : UnitTree) (ls : List LocalTree) (r : Typing) (labels : Labels) (m : Marks) → Fitting m r labels → (p : P) (is : ItemTrees) → NamesAre (around u ls p.walked) (here p.walked) → ItemsHave is
-      → Ends ls m (after_items noted r p is) → ItemsPart u ls m p.walked (after_items noted r p is).walked (typed_items noted r labels p is)
+      → Ends u ls m (after_items noted r p is) → ItemsPart u ls m p.walked (after_items noted r p is).walked (typed_items noted r labels p is)
   items_part u ls r labels m b p no_items n k e = no_items_part u ls m p.walked
-  items_part u ls r labels m b p (declaration_then d is) n k e =
-      let q = on (after_declaration noted d) p in
-      let l = ends_before ls m q _ (later_items r q is) e in
-      let all = declarations.declaration u ls d k.0 p.walked n l.begins l.found in
-      declared_first u ls m p.walked q.walked (after_items noted r q is).walked (declaration_trees_at noted d p.walked) (typed_items noted r labels q is) all.part (items_part u ls r labels m b q is all.names k.1 e)
+  items_part u ls r labels m b p (declaration_then x d is) n k e =
+      let q = on (after_block_declaration noted x d) p in
+      let l = ends_before u ls m q _ (later_items r q is) e in
+      let all = block_declaration u ls x d k.0 p.walked n l.begins l.found in
+      declared_first u ls m p.walked q.walked (after_items noted r q is).walked (block_declaration_at noted x d p.walked) (typed_items noted r labels q is) all.part (items_part u ls r labels m b q is all.names k.1 e)
   items_part u ls r labels m b p (statement_then s is) n k e =
       let q = after noted r p s in
-      let l = ends_before ls m q _ (later_items r q is) e in
+      let l = ends_before u ls m q _ (later_items r q is) e in
       statement_first u ls m p.walked q.walked (after_items noted r q is).walked (typed noted r labels p s) (typed_items noted r labels q is) (statements u ls r labels m b p s n k.0 l)
       (items_part u ls r labels m b q is (names_behind u ls p.walked q.walked (later_statement r p s).walked (same_scope r p s) n) k.1 e)

@@ -13,12 +13,12 @@ use Rattle.pk_type_declaration.specs.Declarations.{words_of, redeclared, special
 use Rattle.pk_type_declaration.specs.Walks.{here, failing}
 use Rattle.pk_type.specs.Files.{on}
 use Rattle.pk_type.specs.TypeNames.{named_type, after_type_name, after_type_names, after_typedef}
-use Rattle.pk_type_laws.proofs.Accepted.Walks.{W, none_found, Later, later_same, later, later_failing}
+use Rattle.pk_type_laws.proofs.Accepted.Walks.{W, none_found, statics_same, Later, later_same, later, later_failing}
 use Rattle.pk_type_laws.proofs.Accepted.Declarations.{has_types, names_declaring}
 use Rattle.pk_type_laws.proofs.Accepted.Files.{F, in_file, kept_same, LaterFile, FileIs, known_declaring}
 
 later_name : (t : NamedType) (x : Identifier) (w : W) → Later w (after_type_name noted t x w)
-later_name t x w = record { found = λ h. (none_found w.found (redeclared w.scoping x ++ special_object w.scoping x) h).0; more = []; locals = sym (append-nil w.locals) }
+later_name t x w = record { found = λ h. (none_found w.found (redeclared w.scoping x ++ special_object w.scoping x) h).0; more = []; locals = sym (append-nil w.locals); statics = statics_same w.statics }
 
 later_names : (t : NamedType) (xs : List Identifier) (w : W) → Later w (after_type_names noted t xs w)
 unfolding after_type_names
@@ -38,7 +38,7 @@ later_typedef d f =
     let w = f.walked in
     let fs = word_failures (here w) d.specifiers in
     let l = later w (failing noted fs w) _ (later_failing fs w) (later_names (named_type (words_of (here w) d.specifiers)) (d.names.first ∷ d.names.more) (failing noted fs w)) in
-    record { found = l.found; more = []; objects = sym (append-nil f.objects); entries = kept_same f.functions }
+    record { found = l.found; more = []; objects = sym (append-nil f.objects); entries = kept_same f.functions; statics = l.statics }
 
 names_call : (t : NamedType) (xs : List Identifier) (w : W) → (after_type_names noted t xs w).calls ≡ w.calls
 unfolding after_type_names

@@ -1,5 +1,6 @@
--- Functions and units of accepted texts are well typed.
-use Rattle.std.proofs.Common.{◌≡◌, ℕ, zero, suc, ◌≤◌, Bool, true, false, not, List, [], ◌∷◌, ◌++◌, Option, Some, None, length, map, refl, ap, sym, subst, ◌∙◌, arith, length-append, nat_eq, if◌then◌else◌, append-nil}
+-- Functions and objects of accepted texts are well typed.
+use Rattle.std.proofs.Common.{◌≡◌, ℕ, zero, suc, ◌+◌, ◌≤◌, Bool, true, false, not, List, [], ◌∷◌, ◌++◌, Option, Some, None, length, map, refl, ap, sym, subst, ◌∙◌, arith, length-append, nat_eq, if◌then◌else◌, append-nil}
+use Rattle.std.proofs.Math.Nat.{add-zero}
 use Rattle.std.proofs.lemmas.Bool.{false≢true}
 use Rattle.std.proofs.lemmas.Bool.Decides.{nat_tests}
 use Rattle.std.proofs.lemmas.Option.{none-some, slice_get-map, slice_get-get_or}
@@ -11,7 +12,8 @@ use Rattle.pk_ctypes.specs.declared.types.IntType.{IntType}
 use Rattle.pk_ctypes.specs.declared.types.IntType.TheVariants.{Char, SChar, UChar, Short, UShort, Int, UInt, Long, ULong, LLong, ULLong}
 use Rattle.pk_ctypes.specs.declared.words.Rule.TheVariants as rule
 use Rattle.pk_ast.specs.declared.expressions.Identifier.{Identifier}
-use Rattle.pk_ast.specs.Trees.{BlockTree, ParameterTree, FunctionTree, ExternalTree, function, objects, type_names}
+use Rattle.pk_ast.specs.declared.units.Storage.{Storage}
+use Rattle.pk_ast.specs.Trees.{BlockTree, ParameterTree, FunctionTree, DeclaratorTree, ExternalTree, function, objects, type_names}
 use Rattle.pk_typed.specs.Trees as tree
 use Rattle.pk_typed.specs.Trees.{LocalTree, BodyTree, UnitTree}
 use Rattle.pk_type_scope.specs.declared.declarations.Callee.{Callee}
@@ -25,21 +27,22 @@ use Rattle.pk_type_scope.specs.Declarations.{Names, is_unknown}
 use Rattle.pk_type_scope.specs.Failures.{fails_if, noted}
 use Rattle.pk_type_scope.specs.Scopes.{names_in, spelled, file_scope}
 use Rattle.pk_type_scope.specs.Specifiers.{word_failures, type_named}
-use Rattle.pk_type_declaration.specs.Declarations.{integer_in, type_or_int, text_of}
+use Rattle.pk_type_declaration.specs.declared.words.Words.{Words}
+use Rattle.pk_type_declaration.specs.Declarations.{words_of, integer_in, type_or_int, text_of}
 use Rattle.pk_ctypes.specs.Spellings.{lookup}
 use Rattle.pk_type_declaration.specs.Specials.{special, specials}
 use Rattle.std.specs.Str.{bytes_eq}
-use Rattle.pk_type_declaration.specs.Walks.{here, entering}
-use Rattle.pk_type.specs.Files.{EntryTree, on, after_declaration}
+use Rattle.pk_type_declaration.specs.Walks.{here, failing, entering}
+use Rattle.pk_type.specs.Files.{EntryTree, on, after_object, after_objects, after_declaration}
 use Rattle.pk_type.specs.Functions.{after_parameters, changes, is_redeclared, is_misused, number_of, callee_of, with_new, after_head, after_body, body_at, with_body, update_at, leaving_function, after_optional_body, after_function}
 use Rattle.pk_type.specs.Signatures as signature
 use Rattle.pk_type.specs.Signatures.{SignatureTree, differ, all_differ, is_integer, are_integers, differs, types_of, signature_of}
-use Rattle.pk_type.specs.Units.{no_name, defined_in, after_external, after_externals, nothing_filed, checked, function_of, unit_of}
-use Rattle.pk_welltyped.specs.WellTyped.{Takes, AreParameters, IsBodyIf, IsStart, IsUnit}
+use Rattle.pk_type.specs.Units.{no_name, defined_in, objects_of, objects_in, after_external, after_externals, nothing_filed, checked, function_of, unit_of}
+use Rattle.pk_welltyped.specs.WellTyped.{Takes, AreParameters, IsBodyIf, IsStart}
 use Rattle.pk_type_laws.specs.Accepted.Constants.{BlockHas, ExternalHas, ExternalsHave}
 use Rattle.pk_type_laws.specs.Accepted.Names.{CalleeIs, DeclarationIs}
-use Rattle.pk_type_laws.proofs.Accepted.Walks.{around, none_found}
-use Rattle.pk_type_laws.proofs.Accepted.Declarations.{has_types, names_declaring, names_opened, Begins, nth}
+use Rattle.pk_type_laws.proofs.Accepted.Walks.{around, none_found, statics_same, statics_later}
+use Rattle.pk_type_laws.proofs.Accepted.Declarations.{has_types, names_declaring, names_opened, statics_before, Begins, nth}
 use Rattle.pk_type_laws.proofs.Accepted.Functions.{Integers, TypesFrom, types_declaring, types_opened, later_parameters, parameters, with_others, integers_of, later_body, body}
 use Rattle.pk_type_laws.proofs.Accepted.Files as files
 use Rattle.pk_type_laws.proofs.Accepted.Files.{F, in_file, SameEntry, Entries, Kept, LaterFile, kept_same, file_same, file_later, Stands, stands_before, KnownIn, EntryIs, FileIs, names_from_file, known_declaring}
@@ -182,6 +185,7 @@ later_head defined f file = record {
   objects = sym (append-nil file.objects);
   entries = λ i e h. let n = number_of file.functions (names_in file.walked.scoping f.name) in
       subst (SameEntry e) (sym (new_keeps file.functions n (text_of file.walked.scoping f.name) (signature_of (here file.walked) f) i e h)) refl;
+  statics = statics_same file.walked.statics;
 }
 
 record EntryAt (es : Entries) (n : ℕ) (s : SignatureTree) : Type 0 where
@@ -293,6 +297,7 @@ later_optional_body r n (Some b) f = record {
   more = [];
   objects = sym (append-nil f.objects);
   entries = update_keeps (body_at noted r (length f.objects) b f.walked) n f.functions;
+  statics = (later_body r b f.walked).statics;
 }
 
 pub later_function : (defined : List ℕ → Bool) (f : FunctionTree) (file : F) → LaterFile file (after_function noted defined f file)
@@ -307,7 +312,7 @@ later_function defined f file =
     let a = later_head defined f file in
     let b = later_optional_body r n f.body g in
     let p = later_parameters f.parameters i.walked in
-    let hx : LaterFile h (leaving_function h x) = record { found = λ k. p.found (b.found k); more = b.more; objects = b.objects; entries = b.entries } in
+    let hx : LaterFile h (leaving_function h x) = record { found = λ k. p.found (b.found k); more = b.more; objects = b.objects; entries = b.entries; statics = statics_later h.walked.statics g.walked.statics x.walked.statics p.statics b.statics } in
     file_later file h _ a hx
 
 known_kept : (es fs : Entries) (d : Option Declaration) → Kept es fs → KnownIn es d → KnownIn fs d
@@ -331,7 +336,8 @@ with_block u r n c ps (Some b) h e is from none there same ret known has s k =
     let v = after_parameters noted ps w in
     let ls = (after_body noted r b v).locals in
     let l = later_body r b v in
-    let begins : Begins ls v = record { rest = l.more; is = l.locals } in
+    let z = after_body noted r b v in
+    let begins : Begins u ls v = record { rest = l.more; is = l.locals; statics = statics_before u v.statics z.statics l.statics s.statics } in
     let p = parameters u ls c ps w (names_opened (around u ls w) h.walked.scoping (names_from_file u ls (length w.locals) (here h.walked) is.names)) from begins (l.found k) in
     let locals : v.locals ≡ p.more = p.locals ∙ ap (λ (xs : List LocalTree). xs ++ p.more) is.locals in
     let types : map type_or_int (types_of c ps) ≡ map type_or_int e.signature.parameters = ap (map type_or_int) (sym same) in
@@ -340,7 +346,7 @@ with_block u r n c ps (Some b) h e is from none there same ret known has s k =
     let many : length v.locals ≡ length (map type_or_int e.signature.parameters) = ap length locals ∙ (p.many ∙ ap length types) in
     let visible : length h.objects ≤ length u.objects = omega (ap length s.objects ∙ length-append h.objects s.rest, arith) in
     let made = body_at noted r (length h.objects) b v in
-    let whole = body u (function_of (with_body made e)) r (length h.objects) b v visible (p.calls ∙ none) are many (ap integer_in ret) known p.names has k in
+    let whole = body u (function_of (with_body made e)) r (length h.objects) b v s.statics visible (p.calls ∙ none) are many (ap integer_in ret) known p.names has k in
     updated (EntryIs u) (with_body (body_at noted r (length h.objects) b v)) n h.functions is.entries
     (λ d is_d. let same_entry : e ≡ d = ap (λ (o : Option EntryTree). unwrap_or o d) (sym there ∙ is_d) in
     let x = is.entries n d is_d in
@@ -364,8 +370,8 @@ function_is u defined f file is c has s k =
     let b = later_optional_body r n f.body g in
     let kg = b.found k in
     let kh = (later_parameters f.parameters i.walked).found kg in
-    let sx : Stands u x = record { rest = s.rest; objects = s.objects; functions = s.functions } in
-    let sh : Stands u h = stands_before u h x (record { found = λ q. (later_parameters f.parameters i.walked).found (b.found q); more = b.more; objects = b.objects; entries = b.entries }) sx in
+    let sx : Stands u x = record { rest = s.rest; objects = s.objects; functions = s.functions; statics = s.statics } in
+    let sh : Stands u h = stands_before u h x (record { found = λ q. (later_parameters f.parameters i.walked).found (b.found q); more = b.more; objects = b.objects; entries = b.entries; statics = statics_later h.walked.statics g.walked.statics x.walked.statics (later_parameters f.parameters i.walked).statics b.statics }) sx in
     let d = here file.walked in
     let from : TypesFrom d (here i.walked) = types_opened d h.walked.scoping (types_declaring d file.walked.scoping f.name _ refl (λ y t q. q)) in
     let are = types_are d (λ y. has_types (in_file u) (d y) (is.names y)) in
@@ -415,8 +421,8 @@ nothing_names : (text : List ℕ) (x : Identifier) → names_in (file_scope text
 unfolding names_in
 nothing_names text x = refl
 
-nothing_is : (u : UnitTree) (text : List ℕ) → FileIs u (nothing_filed None text)
-nothing_is u text = record {
+nothing_is : (u : UnitTree) (text : List ℕ) (n : ℕ) → FileIs u (nothing_filed None text n)
+nothing_is u text n = record {
   names = λ x. subst (DeclarationIs (in_file u)) (sym (nothing_names text x)) tt;
   known = λ x. subst (KnownIn []) (sym (nothing_names text x)) tt;
   locals = refl;
@@ -424,8 +430,8 @@ nothing_is u text = record {
   entries = λ n e h. absurd (none-some e h);
 }
 
-stands_whole : (f : F) → Stands (unit_of f) f
-stands_whole f = record { rest = []; objects = sym (append-nil f.objects); functions = λ n e h. (e, slice_get-map function_of f.functions n ∙ ap (option_map function_of) h, refl) }
+stands_whole : (f : F) → length f.objects ≡ f.walked.statics.first → Stands (unit_of f) f
+stands_whole f many = record { rest = f.walked.statics.made; objects = refl; statics = record { before = f.objects; first = many; rest = []; objects = ap (λ (xs : List tree.FileObjectTree). f.objects ++ xs) (sym (append-nil f.walked.statics.made)) }; functions = λ n e h. (e, slice_get-map function_of f.functions n ∙ ap (option_map function_of) h, refl) }
 
 functions_are : (f : F) → FileIs (unit_of f) f → All (λ (g : tree.FunctionTree). IsBodyIf (unit_of f) g g.body) (map function_of f.functions)
 functions_are f is k d l =
@@ -442,8 +448,50 @@ functions_are f is k d l =
         let same : function_of x ≡ slice_index_or (map function_of f.functions) k d = ap (λ (o : Option tree.FunctionTree). unwrap_or o (function_of x)) e in
         subst (λ (y : tree.FunctionTree). IsBodyIf (unit_of f) y y.body) same (is.entries k x at).body
 
-pub units_are_well_typed : (text : List ℕ) (xs : List ExternalTree) → ExternalsHave xs → (checked noted None text xs).walked.found ≡ None → IsUnit (unit_of (checked noted None text xs))
-units_are_well_typed text xs has k =
+-- ---- the objects of the file
+
+objects_counted : (storage : Option Storage) (words : Words) (ds : List DeclaratorTree) (f : F) → length (after_objects noted storage words ds f).objects ≡ length f.objects + length ds
+unfolding after_objects after_object
+objects_counted storage words [] f = sym (add-zero (length f.objects))
+objects_counted storage words (d ∷ ds) f =
+    let h = objects_counted storage words ds (after_object noted storage words d f) in
+    let one : length (after_object noted storage words d f).objects ≡ length f.objects + 1 = length-append f.objects _ in
+    omega (h, one, arith)
+
+block_objects : (r : Typing) (n : ℕ) (b : Option BlockTree) (f : F) → length (after_optional_body noted r n b f).objects ≡ length f.objects + 0
+block_objects r n None f = sym (add-zero (length f.objects))
+block_objects r n (Some b) f = sym (add-zero (length f.objects))
+
+external_counted : (defined : List ℕ → Bool) (x : ExternalTree) (f : F) → length (after_external noted defined x f).objects ≡ length f.objects + objects_of x
+unfolding after_function after_declaration
+external_counted defined (function g) f =
+    let i = on entering (after_head noted defined g f) in
+    block_objects (type_named (here f.walked) g.specifiers) (number_of f.functions (names_in f.walked.scoping g.name)) g.body (on (after_parameters noted g.parameters) i)
+external_counted defined (objects storage d) f =
+    let ds = d.declarators.first ∷ d.declarators.more in
+    let same : length f.objects + length ds ≡ length f.objects + (1 + length d.declarators.more) = omega arith in
+    objects_counted storage (words_of (here f.walked) d.specifiers) ds (on (failing noted (word_failures (here f.walked) d.specifiers)) f) ∙ same
+external_counted defined (type_names d) f = sym (add-zero (length f.objects))
+
+-- a text has as many as were counted ahead
+externals_counted : (defined : List ℕ → Bool) (xs : List ExternalTree) (f : F) → length (after_externals noted defined xs f).objects ≡ length f.objects + objects_in xs
+unfolding after_externals objects_in
+externals_counted defined [] f = sym (add-zero (length f.objects))
+externals_counted defined (x ∷ xs) f =
+    let h = externals_counted defined xs (after_external noted defined x f) in
+    let one = external_counted defined x f in
+    omega (h, one, arith)
+
+pub record WellTyped (f : F) : Type 0 where
+  pub objects : All (λ (x : tree.FileObjectTree). IsStart x.int_type x.start) f.objects
+  pub functions : All (λ (g : tree.FunctionTree). IsBodyIf (unit_of f) g g.body) (map function_of f.functions)
+
+pub texts_are_well_typed : (text : List ℕ) (xs : List ExternalTree) → ExternalsHave xs → (checked noted None text xs).walked.found ≡ None → WellTyped (checked noted None text xs)
+texts_are_well_typed text xs has k =
     let f = checked noted None text xs in
-    let is = externals_are (unit_of f) (defined_in text xs no_name) xs (nothing_filed None text) (nothing_is (unit_of f) text) refl has (stands_whole f) k in
+    let defined = defined_in text xs no_name in
+    let start = nothing_filed None text (objects_in xs) in
+    let counted : length f.objects ≡ 0 + objects_in xs = externals_counted defined xs start in
+    let many : length f.objects ≡ f.walked.statics.first = omega (counted, (externals_later defined xs start).statics.first, arith) in
+    let is = externals_are (unit_of f) defined xs start (nothing_is (unit_of f) text (objects_in xs)) refl has (stands_whole f many) k in
     record { objects = is.objects; functions = functions_are f is }

@@ -4,13 +4,13 @@ use Rattle.std.proofs.Math.Nat.{add-zero, add_assoc}
 use Rattle.std.proofs.lemmas.Option.{none-some}
 use Rattle.pk_ast.specs.Trees.{ExpressionTree, ExpressionTrees}
 use Rattle.pk_typed.specs.declared.units.CallSite.{CallSite}
-use Rattle.pk_typed.specs.Trees.{ValueTree, EffectTree, ValueTrees, LocalTree, UnitTree}
+use Rattle.pk_typed.specs.Trees.{ValueTree, EffectTree, ValueTrees, LocalTree, FileObjectTree, UnitTree}
 use Rattle.pk_type_scope.specs.declared.failures.Failure.{Failure}
 use Rattle.pk_type_scope.specs.Failures.{is_before, earlier, noted}
 use Rattle.pk_type_expression.specs.Rules.{void, count, failures, used_failures, failures_used}
 use Rattle.pk_type_expression.specs.Typed.{typed, calls, calls_in_all}
 use Rattle.pk_type_expression.proofs.TreeLemmas.{none_before}
-use Rattle.pk_type_declaration.specs.Walks.{Walked, here, after_value, after_effect, after_values, value_at, effect_at, values_at, failing}
+use Rattle.pk_type_declaration.specs.Walks.{StaticsTree, Walked, here, after_value, after_effect, after_values, value_at, effect_at, values_at, failing}
 use Rattle.pk_welltyped.specs.Listed.{Numbered, numbered, calls_in, calls_in_effect, calls_in_values}
 use Rattle.pk_welltyped.specs.WellTyped as good
 use Rattle.pk_welltyped.specs.WellTyped.{Around, IsValue, IsEffect, AreValues}
@@ -41,32 +41,50 @@ none_found x (f ∷ fs) h = absurd (earlier_found x f (none_found (earlier x f) 
 
 -- ---- from a place to a later one
 
+-- static objects are added, and the number of the first is one for all places
+pub record LaterStatics (s t : StaticsTree) : Type 0 where
+  pub first : t.first ≡ s.first
+  pub more : List FileObjectTree
+  pub made : t.made ≡ s.made ++ more
+
+pub statics_same : (s : StaticsTree) → LaterStatics s s
+statics_same s = record { first = refl; more = []; made = sym (append-nil s.made) }
+
+pub statics_later : (s t u : StaticsTree) → LaterStatics s t → LaterStatics t u → LaterStatics s u
+statics_later s t u a b = record {
+  first = b.first ∙ a.first;
+  more = a.more ++ b.more;
+  made = b.made ∙ (ap (λ (l : List FileObjectTree). l ++ b.more) a.made ∙ append_assoc s.made a.more b.more);
+}
+
 pub record Later (w v : W) : Type 0 where
   pub found : v.found ≡ None → w.found ≡ None
   pub more : List LocalTree
   pub locals : v.locals ≡ w.locals ++ more
+  pub statics : LaterStatics w.statics v.statics
 
 pub later_same : (w : W) → Later w w
-later_same w = record { found = λ h. h; more = []; locals = sym (append-nil w.locals) }
+later_same w = record { found = λ h. h; more = []; locals = sym (append-nil w.locals); statics = statics_same w.statics }
 
 pub later : (w v u : W) → Later w v → Later v u → Later w u
 later w v u a b = record {
   found = λ h. a.found (b.found h);
   more = a.more ++ b.more;
   locals = b.locals ∙ (ap (λ (l : List LocalTree). l ++ b.more) a.locals ∙ append_assoc w.locals a.more b.more);
+  statics = statics_later w.statics v.statics u.statics a.statics b.statics;
 }
 
 pub later_failing : (fs : List Failure) (w : W) → Later w (failing noted fs w)
-later_failing fs w = record { found = λ h. (none_found w.found fs h).0; more = []; locals = sym (append-nil w.locals) }
+later_failing fs w = record { found = λ h. (none_found w.found fs h).0; more = []; locals = sym (append-nil w.locals); statics = statics_same w.statics }
 
 pub later_value : (e : ExpressionTree) (w : W) → Later w (after_value noted e w)
-later_value e w = record { found = λ h. (none_found w.found (used_failures (here w) e) h).0; more = []; locals = sym (append-nil w.locals) }
+later_value e w = record { found = λ h. (none_found w.found (used_failures (here w) e) h).0; more = []; locals = sym (append-nil w.locals); statics = statics_same w.statics }
 
 pub later_effect : (e : ExpressionTree) (w : W) → Later w (after_effect noted e w)
-later_effect e w = record { found = λ h. (none_found w.found (failures (here w) e) h).0; more = []; locals = sym (append-nil w.locals) }
+later_effect e w = record { found = λ h. (none_found w.found (failures (here w) e) h).0; more = []; locals = sym (append-nil w.locals); statics = statics_same w.statics }
 
 pub later_values : (es : ExpressionTrees) (w : W) → Later w (after_values noted es w)
-later_values es w = record { found = λ h. (none_found w.found (failures_used (here w) es) h).0; more = []; locals = sym (append-nil w.locals) }
+later_values es w = record { found = λ h. (none_found w.found (failures_used (here w) es) h).0; more = []; locals = sym (append-nil w.locals); statics = statics_same w.statics }
 
 -- these calls are noted between them, and so many objects are declared
 pub record Steps (w v : W) (ns : List Numbered) (k : ℕ) : Type 0 where

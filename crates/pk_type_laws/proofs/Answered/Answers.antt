@@ -7,7 +7,7 @@ use Rattle.pk_ctypes.specs.declared.words.Rule.TheVariants.{Specifiers, Redeclar
 use Rattle.pk_ctypes.specs.Places.{Before}
 use Rattle.pk_ast.specs.Trees.{ExternalTree}
 use Rattle.pk_type_scope.specs.declared.failures.Failure.{Failure}
-use Rattle.pk_type_scope.specs.Failures.{row_of, noted, first_of, Among, here, IsFirst}
+use Rattle.pk_type_scope.specs.Failures.{row_of, noted, first_of, Among, IsFirst}
 use Rattle.pk_type_scope.proofs.FirstLemmas.{first_is_answered}
 use Rattle.pk_type.specs.Units.{checked, unit_of}
 use Rattle.pk_type_laws.specs.Answered.Answers.{Answer, accepted, refused, IsAnswer, TextsHaveOneAnswer, CheckGivesTheAnswer}

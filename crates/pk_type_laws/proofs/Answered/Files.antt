@@ -2,13 +2,11 @@
 use Rattle.std.proofs.Common.{◌≡◌, ℕ, ℤ, Bool, false, List, [], ◌∷◌, ◌++◌, Option, Some, None, refl, ap, ◌∙◌, length}
 use Rattle.std.specs.Prelude.{is_some}
 use Rattle.std.specs.Option.{option_map}
-use Rattle.pk_ctypes.specs.declared.types.IntType.{IntType}
 use Rattle.pk_ctypes.specs.declared.words.Rule.TheVariants as rule
 use Rattle.pk_ast.specs.declared.expressions.Identifier.{Identifier}
 use Rattle.pk_ast.specs.declared.units.Storage.{Storage}
-use Rattle.pk_ast.specs.Trees.{ExpressionTree, ExpressionTrees, no_expressions, expression_then, DeclaratorTree, DeclarationTree, ParameterTree, BlockTree, FunctionTree, TypedefTree, ExternalTree, function, objects, type_names}
+use Rattle.pk_ast.specs.Trees.{DeclaratorTree, DeclarationTree, ParameterTree, BlockTree, FunctionTree, TypedefTree, ExternalTree, function, objects, type_names}
 use Rattle.pk_typed.specs.Trees.{BodyTree, FileObjectTree}
-use Rattle.pk_type_scope.specs.declared.declarations.Declaration.{Declaration}
 use Rattle.pk_type_scope.specs.declared.declarations.Declaration.TheVariants as declared
 use Rattle.pk_type_scope.specs.declared.declarations.NamedType.{NamedType}
 use Rattle.pk_type_scope.specs.declared.declarations.Typing.{Typing}
@@ -18,7 +16,6 @@ use Rattle.pk_type_scope.specs.Failures.{noted, fails_if}
 use Rattle.pk_type_scope.specs.Scopes.{names_in, spelled}
 use Rattle.pk_type_scope.specs.Specifiers.{type_named, word_failures}
 use Rattle.pk_type_declaration.specs.declared.words.Words.{Words}
-use Rattle.pk_type_declaration.specs.Constants.{after_constant}
 use Rattle.pk_type_declaration.specs.Declarations.{words_of, type_or_int, text_of, redeclared, void_object, special_object, braces, surplus, length_at, after_optional_length, length_or_1}
 use Rattle.pk_type_declaration.specs.Specials.{special}
 use Rattle.pk_type_declaration.specs.Walks.{here, failing, after_name, with_local, entering}
@@ -26,14 +23,16 @@ use Rattle.pk_type_jump.specs.Jumps.{jumps_of}
 use Rattle.pk_type_jump.specs.Labels.{labels_of}
 use Rattle.pk_type_statement.specs.Statements.{Passed, after_items}
 use Rattle.pk_type_statement.specs.Trees.{typed_items}
-use Rattle.pk_type.specs.Files.{Filed, number_at, after_numbers, numbers_at, given, start_of, extern_object, file_object, after_head, after_object, after_objects, without_calls, on, after_declaration}
+use Rattle.pk_type_declaration.specs.Starts.{after_numbers, numbers_at, given, start_of}
+use Rattle.pk_type.specs.Files.{Filed, extern_object, file_object, after_head, after_object, after_objects, without_calls, on, after_declaration}
 use Rattle.pk_type.specs.Functions as functions
 use Rattle.pk_type.specs.Functions.{unnamed, after_parameter_name, after_parameter, after_parameters, is_redeclared, is_misused, number_of, callee_of, with_new, about_jumps, before_body, after_body, emptied, body_of, body_at, defining, leaving_function, after_optional_body, after_function}
 use Rattle.pk_type.specs.Signatures.{signature_of}
 use Rattle.pk_type.specs.TypeNames.{named_type, after_type_name, after_type_names, after_typedef}
-use Rattle.pk_type.specs.Units.{no_name, defined_in, after_external, after_externals, nothing_filed, checked}
+use Rattle.pk_type.specs.Units.{no_name, defined_in, after_external, objects_in, after_externals, nothing_filed, checked}
 use Rattle.pk_type_laws.specs.Answered.Failures.{appended, listing}
-use Rattle.pk_type_laws.proofs.Answered.Walks.{L, W, first, failing_first, constant_first, optional_length_first, length_at_first, object_first}
+use Rattle.pk_type_laws.proofs.Answered.Walks.{L, W, first, failing_first, optional_length_first, length_at_first, object_first}
+use Rattle.pk_type_laws.proofs.Answered.Statics.{numbers_first, numbers_same}
 use Rattle.pk_type_laws.proofs.Answered.Statements.{items_first, items_same}
 
 abbrev pub F : Type 0
@@ -50,17 +49,6 @@ abbrev pub filed_first : F → G
 filed_first f = with_walk f (first f.walked)
 
 -- ---- objects
-
-numbers_first : (es : ExpressionTrees) (w : L) → after_numbers noted es (first w) ≡ first (after_numbers appended es w)
-unfolding after_numbers
-numbers_first no_expressions w = refl
-numbers_first (expression_then e es) w = ap (after_numbers noted es) (constant_first e w) ∙ numbers_first es (after_constant appended e w)
-
-numbers_same : (t : IntType) (es : ExpressionTrees) (w : L) → numbers_at noted t es (first w) ≡ numbers_at appended t es w
-unfolding numbers_at
-numbers_same t no_expressions w = refl
-numbers_same t (expression_then e es) w =
-    ap (λ (ns : List ℤ). number_at t w e ∷ ns) (ap (numbers_at noted t es) (constant_first e w) ∙ numbers_same t es (after_constant appended e w))
 
 head_first : (storage : Option Storage) (words : Words) (d : DeclaratorTree) (f : F) → after_head noted storage words d (filed_first f) ≡ first (after_head appended storage words d f)
 head_first storage words d f =
@@ -193,4 +181,4 @@ externals_first defined [] f = refl
 externals_first defined (x ∷ xs) f = ap (after_externals noted defined xs) (external_first defined x f) ∙ externals_first defined xs (after_external appended defined x f)
 
 pub checked_first : (text : List ℕ) (xs : List ExternalTree) → checked noted None text xs ≡ filed_first (listing text xs)
-checked_first text xs = externals_first (defined_in text xs no_name) xs (nothing_filed [] text)
+checked_first text xs = externals_first (defined_in text xs no_name) xs (nothing_filed [] text (objects_in xs))

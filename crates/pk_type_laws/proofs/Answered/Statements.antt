@@ -13,12 +13,13 @@ use Rattle.pk_type_scope.specs.declared.failures.Failure.{Failure}
 use Rattle.pk_type_scope.specs.Failures.{noted, fails_if}
 use Rattle.pk_type_expression.specs.Typed.{of_both}
 use Rattle.pk_type_expression.specs.Types.{type_of}
-use Rattle.pk_type_declaration.specs.Declarations.{after_declaration, declaration_trees_at}
-use Rattle.pk_type_declaration.specs.Walks.{here, failing, after_value, value_at, effect_at}
+use Rattle.pk_type_declaration.specs.Statics.{after_block_declaration, block_declaration_at}
+use Rattle.pk_type_declaration.specs.Walks.{here, failing, after_value, value_at}
 use Rattle.pk_type_statement.specs.Statements.{Passed, on, inside, outside, after, after_items, with_case, with_default, in_switch, after_switch, after_start, after_optional_value, after_optional_effect, after_head, after_return, returns_otherwise, repeated_cases}
 use Rattle.pk_type_statement.specs.Trees.{Labels, label_at, of_three, ended, switch_of, optional_value_at, optional_effect_at, start_at, head_at, a_head, for_tree, declared_all, typed, typed_items}
 use Rattle.pk_type_laws.specs.Answered.Failures.{appended}
 use Rattle.pk_type_laws.proofs.Answered.Walks.{L, W, first, failing_first, value_first, effect_first, constant_first, declaration_first, declaration_same}
+use Rattle.pk_type_laws.proofs.Answered.Statics.{block_declaration_first, block_declaration_same}
 
 abbrev pub P : Type 0
 P = Passed (List Failure)
@@ -95,8 +96,8 @@ mutual
 
   pub items_first : (r : Typing) (p : P) (items : ast.ItemTrees) → after_items noted r (passed_first p) items ≡ passed_first (after_items appended r p items)
   items_first r p no_items = refl
-  items_first r p (declaration_then d items) =
-      ap (λ (w : W). after_items noted r (with_walked p w) items) (declaration_first d p.walked) ∙ items_first r (on (after_declaration appended d) p) items
+  items_first r p (declaration_then x d items) =
+      ap (λ (w : W). after_items noted r (with_walked p w) items) (block_declaration_first x d p.walked) ∙ items_first r (on (after_block_declaration appended x d) p) items
   items_first r p (statement_then s items) = ap (λ (q : Q). after_items noted r q items) (statement_first r p s) ∙ items_first r (after appended r p s) items
 
 -- ---- typed trees
@@ -178,11 +179,11 @@ mutual
 
   pub items_same : (r : Typing) (ls : Labels) (p : P) (items : ast.ItemTrees) → typed_items noted r ls (passed_first p) items ≡ typed_items appended r ls p items
   items_same r ls p no_items = refl
-  items_same r ls p (declaration_then d items) =
-      both_same declared_all (declaration_trees_at noted d (first p.walked)) (declaration_trees_at appended d p.walked)
-      (typed_items noted r ls (on (after_declaration noted d) (passed_first p)) items) (typed_items appended r ls (on (after_declaration appended d) p) items)
-      (declaration_same d p.walked)
-      (ap (λ (w : W). typed_items noted r ls (with_walked p w) items) (declaration_first d p.walked) ∙ items_same r ls (on (after_declaration appended d) p) items)
+  items_same r ls p (declaration_then x d items) =
+      both_same declared_all (block_declaration_at noted x d (first p.walked)) (block_declaration_at appended x d p.walked)
+      (typed_items noted r ls (on (after_block_declaration noted x d) (passed_first p)) items) (typed_items appended r ls (on (after_block_declaration appended x d) p) items)
+      (block_declaration_same x d p.walked)
+      (ap (λ (w : W). typed_items noted r ls (with_walked p w) items) (block_declaration_first x d p.walked) ∙ items_same r ls (on (after_block_declaration appended x d) p) items)
   items_same r ls p (statement_then s items) =
       both_same tree.statement_before (typed noted r ls (passed_first p) s) (typed appended r ls p s) (typed_items noted r ls (after noted r (passed_first p) s) items) (typed_items appended r ls (after appended r p s) items)
       (statement_same r ls p s)

@@ -27,7 +27,7 @@ W = Walked (Option Failure)
 
 -- with another note of what was found
 abbrev pub finding : L → Option Failure → W
-finding w f = record { scoping = w.scoping; found = f; calls = w.calls; locals = w.locals }
+finding w f = record { scoping = w.scoping; found = f; calls = w.calls; locals = w.locals; statics = w.statics }
 
 -- with the first failure alone
 abbrev pub first : L → W

@@ -60,7 +60,7 @@ mutual
 
   pub items_stay : (text : List ℕ) (w : Within) (l : Listed) (is : ItemTrees) → Covers l.labels (listed_items text w l is).labels
   items_stay text w l no_items q h = h
-  items_stay text w l (declaration_then d is) q h = items_stay text (inside l.declarations w) (with_declaration l) is q h
+  items_stay text w l (declaration_then x d is) q h = items_stay text (inside l.declarations w) (with_declaration l) is q h
   items_stay text w l (statement_then s is) q h = items_stay text w (listed text w l s) is q (labels_stay text w l s q h)
 
 -- the label that a statement begins with is listed after it
@@ -104,5 +104,5 @@ mutual
 
   pub items_unknown_before : (text : List ℕ) (ls : List ℕ → Option Label) (a : Around) (j : Jumped) (is : ItemTrees) → (jumped_items text ls a j is).unknown ≡ [] → j.unknown ≡ []
   items_unknown_before text ls a j no_items h = h
-  items_unknown_before text ls a j (declaration_then d is) h = items_unknown_before text ls (within_next j a) (jump.with_declaration j) is h
+  items_unknown_before text ls a j (declaration_then x d is) h = items_unknown_before text ls (within_next j a) (jump.with_declaration j) is h
   items_unknown_before text ls a j (statement_then s is) h = unknown_before text ls a j s (items_unknown_before text ls a (jumped text ls a j s) is h)

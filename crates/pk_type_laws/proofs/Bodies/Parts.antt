@@ -23,9 +23,13 @@ use Rattle.pk_type_expression.specs.Typed.{EvaluatedTree, value, effect, value_o
 use Rattle.pk_type_expression.specs.Types.{type_of}
 use Rattle.pk_type_expression.proofs.TreeLemmas.{accepted_expressions_have_trees, none_before, none_after, types_are, known_type}
 use Rattle.pk_type_declaration.specs.declared.words.Words.{Words}
-use Rattle.pk_type_declaration.specs.Declarations.{integer_in, object_at, braces, surplus, after_initializer, length_at, after_optional_length, after_object, after_head, after_declarator, after_declarators, after_declaration, words_of, object_tree, declarator_tree_at, declarator_trees_at, declaration_trees_at}
+use Rattle.pk_type_declaration.specs.Declarations.{integer_in, object_at, at_name, braces, surplus, after_initializer, length_at, after_optional_length, after_object_name, after_object, after_head, after_declarator, after_declarators, after_declaration, words_of, object_tree, declarator_tree_at, declarator_trees_at, declaration_trees_at}
+use Rattle.pk_type_declaration.specs.Starts.{given}
+use Rattle.pk_type_declaration.specs.Statics.{static_at, after_static_head, after_static, after_statics, after_static_declaration, after_block_declaration, block_declaration_at}
 use Rattle.pk_type_declaration.specs.Walks.{here, failing, after_value, after_effect, value_at, effect_at, values_at}
 use Rattle.pk_type_laws.proofs.Accepted.Declarations.{not_void, later_declarators, found_last, is_used}
+use Rattle.pk_type_laws.proofs.Accepted.Starts.{later_numbers, same_scope}
+use Rattle.pk_type_laws.proofs.Accepted.Statics.{later_statics, name_not_void}
 use Rattle.pk_type_laws.proofs.Accepted.Walks.{W, none_found}
 
 -- ---- options that have something
@@ -175,3 +179,39 @@ declaration_there d w k h =
     let v = failing noted (word_failures (here w) d.specifiers) w in
     let rows = none_found w.found (word_failures (here w) d.specifiers) ((later_declarators words ds v).found h) in
     declarators_there words ds v (known_type (here w) (types_are (here w) k) d.specifiers rows.1) k h
+
+-- ---- static objects
+
+pub static_known : (words : Words) (d : DeclaratorTree) (w : W) → is_unknown words.typing ≡ false → Known w.scoping → (after_static noted words d w).found ≡ None → Known (after_static noted words d w).scoping
+unfolding after_static
+static_known words d w u k h =
+    let v = after_optional_length noted d.length w in
+    let o = static_at words (is_some d.length) w in
+    let y = after_object_name noted words.typing o d.name v in
+    let q = after_static_head noted words d w in
+    let hq : q.found ≡ None = (later_numbers (given d.initializer) q).found h in
+    let hy = none_found y.found (braces (is_some d.length) d.initializer d.name.at ++ surplus (length_at w d.length) d.initializer) hq in
+    let void = name_not_void v.scoping words.typing d.name (none_found v.found (at_name v.scoping words.typing d.name) hy.0).1 in
+    let kv : Known v.scoping = subst Known (sym (length_scope d.length w)) k in
+    subst Known (sym (same_scope (given d.initializer) q)) (known_declaring v.scoping d.name o kv (integer_has words.typing u void))
+
+statics_known : (words : Words) (ds : List DeclaratorTree) (w : W) → is_unknown words.typing ≡ false → Known w.scoping → (after_statics noted words ds w).found ≡ None → Known (after_statics noted words ds w).scoping
+unfolding after_statics
+statics_known words [] w u k h = k
+statics_known words (d ∷ ds) w u k h =
+    let v = after_static noted words d w in
+    statics_known words ds v u (static_known words d w u k ((later_statics words ds v).found h)) h
+
+static_declaration_known : (d : DeclarationTree) (w : W) → Known w.scoping → (after_static_declaration noted d w).found ≡ None → Known (after_static_declaration noted d w).scoping
+unfolding after_static_declaration
+static_declaration_known d w k h =
+    let words = words_of (here w) d.specifiers in
+    let ds = d.declarators.first ∷ d.declarators.more in
+    let v = failing noted (word_failures (here w) d.specifiers) w in
+    let rows = none_found w.found (word_failures (here w) d.specifiers) ((later_statics words ds v).found h) in
+    statics_known words ds v (known_type (here w) (types_are (here w) k) d.specifiers rows.1) k h
+
+pub block_declaration_there : (s : Option Pos) (d : DeclarationTree) (w : W) → Known w.scoping → (after_block_declaration noted s d w).found ≡ None
+    → (is_some (block_declaration_at noted s d w) ≡ true) × Known (after_block_declaration noted s d w).scoping
+block_declaration_there None d w k h = declaration_there d w k h
+block_declaration_there (Some at) d w k h = (refl, static_declaration_known d w k h)

@@ -26,7 +26,8 @@ use Rattle.pk_type_constant.specs.declared.constants.Constant.{Constant}
 use Rattle.pk_type_constant.specs.declared.constants.Constant.TheVariants.{Number, Faulty, NotConstant}
 use Rattle.pk_type_constant.specs.Forms.{is_constant_form}
 use Rattle.pk_type_declaration.specs.Constants.{given_by, evaluated, is_faulty, is_refused, number_of, number_in, after_constant}
-use Rattle.pk_type_declaration.specs.Declarations.{after_declaration, declaration_trees_at}
+use Rattle.pk_type_declaration.specs.Declarations.{declaration_trees_at}
+use Rattle.pk_type_declaration.specs.Statics.{after_block_declaration, block_declaration_at}
 use Rattle.pk_type_declaration.specs.Walks.{here, failing, after_value, value_at, effect_at}
 use Rattle.pk_type_jump.specs.declared.labels.Label.{Label}
 use Rattle.pk_type_jump.specs.declared.labels.Within.{Within}
@@ -37,13 +38,13 @@ use Rattle.pk_type_jump.specs.Jumps.{Around, Jumped, misplaced_if, is_out_of_pla
 use Rattle.pk_type_statement.specs.declared.statements.Case.{Case}
 use Rattle.pk_type_statement.specs.Statements.{Passed, on, inside, after, after_items, with_case, with_default, in_switch, after_start, after_optional_value, after_optional_effect, after_head, after_return, returns_otherwise, repeated_cases}
 use Rattle.pk_type_statement.specs.Trees.{Labels, numbered, label_at, of_three, case_numbers, ended_as, ended, switch_of, optional_value_at, optional_effect_at, start_at, head_at, a_head, for_tree, declared_all, typed, typed_items}
-use Rattle.pk_type_statement.proofs.KeepLemmas.{kept_declaration, kept_head}
+use Rattle.pk_type_statement.proofs.KeepLemmas.{kept_block_declaration, kept_head}
 use Rattle.pk_type_laws.proofs.Accepted.Declarations.{or_left}
 use Rattle.pk_type_laws.proofs.Accepted.Forms.{Gives, Numeric, numeric}
 use Rattle.pk_type_laws.proofs.Accepted.Statements.{later_statement, later_items, same_scope}
 use Rattle.pk_type_laws.proofs.Accepted.Walks.{W, none_found}
 use Rattle.pk_type_laws.proofs.Bodies.Labels.{Covers, labels_stay, items_stay, its_label, gone_there, unknown_before, items_unknown_before}
-use Rattle.pk_type_laws.proofs.Bodies.Parts.{mapped_there, both_there, Known, known_opened, used_integer, value_is, effect_is, declaration_there}
+use Rattle.pk_type_laws.proofs.Bodies.Parts.{mapped_there, both_there, Known, known_opened, used_integer, value_is, effect_is, declaration_there, block_declaration_there}
 use Rattle.pk_type_expression.proofs.TreeLemmas.{holds_not}
 
 abbrev pub P : Type 0
@@ -63,19 +64,19 @@ optional_effect_there : (e : Option ExpressionTree) (w : W) → Known w.scoping 
 optional_effect_there None w k h = refl
 optional_effect_there (Some e) w k h = mapped_there Some (effect_at w e) (effect_is w e k h)
 
-value_before : (e : Option ExpressionTree) (w : W) → (after_optional_value noted e w).found ≡ None → w.found ≡ None
+pub value_before : (e : Option ExpressionTree) (w : W) → (after_optional_value noted e w).found ≡ None → w.found ≡ None
 value_before None w h = h
 value_before (Some e) w h = (none_found w.found (used_failures (here w) e) h).0
 
-effect_before : (e : Option ExpressionTree) (w : W) → (after_optional_effect noted e w).found ≡ None → w.found ≡ None
+pub effect_before : (e : Option ExpressionTree) (w : W) → (after_optional_effect noted e w).found ≡ None → w.found ≡ None
 effect_before None w h = h
 effect_before (Some e) w h = (none_found w.found (failures (here w) e) h).0
 
-value_scope : (e : Option ExpressionTree) (w : W) → (after_optional_value noted e w).scoping ≡ w.scoping
+pub value_scope : (e : Option ExpressionTree) (w : W) → (after_optional_value noted e w).scoping ≡ w.scoping
 value_scope None w = refl
 value_scope (Some e) w = refl
 
-effect_scope : (e : Option ExpressionTree) (w : W) → (after_optional_effect noted e w).scoping ≡ w.scoping
+pub effect_scope : (e : Option ExpressionTree) (w : W) → (after_optional_effect noted e w).scoping ≡ w.scoping
 effect_scope None w = refl
 effect_scope (Some e) w = refl
 
@@ -89,7 +90,7 @@ start_there : (s : ForStartTree) (w : W) → Known w.scoping → (after_start no
 start_there (declaration d) w k h = let one = declaration_there d w k h in (mapped_there tree.declarations (declaration_trees_at noted d w) one.0, one.1)
 start_there (expression e) w k h = (mapped_there tree.expression (optional_effect_at w e) (optional_effect_there e w k h), subst Known (sym (effect_scope e w)) k)
 
-head_there : (s : ForStartTree) (test step : Option ExpressionTree) (w : W) → Known w.scoping → (after_head noted s test step w).found ≡ None
+pub head_there : (s : ForStartTree) (test step : Option ExpressionTree) (w : W) → Known w.scoping → (after_head noted s test step w).found ≡ None
     → (is_some (head_at noted s test step w) ≡ true) × Known (after_head noted s test step w).scoping
 head_there s test step w k h =
     let v = after_start noted s w in
@@ -152,7 +153,7 @@ case_there w e k h =
 same_text : (text : List ℕ) (r : Typing) (p : P) (s : StatementTree) → p.walked.scoping.text ≡ text → (after noted r p s).walked.scoping.text ≡ text
 same_text text r p s e = ap (λ (c : Scoping). c.text) (same_scope r p s) ∙ e
 
-known_after : (r : Typing) (p : P) (s : StatementTree) → Known p.walked.scoping → Known (after noted r p s).walked.scoping
+pub known_after : (r : Typing) (p : P) (s : StatementTree) → Known p.walked.scoping → Known (after noted r p s).walked.scoping
 known_after r p s k = subst Known (sym (same_scope r p s)) k
 
 -- ---- statements
@@ -248,11 +249,11 @@ mutual
   pub items_there : (text : List ℕ) (r : Typing) (ls : Labels) (a : Around) (j : Jumped) (v : Within) (l : Listed) (p : P) (is : ItemTrees) → p.walked.scoping.text ≡ text → Known p.walked.scoping → HaveValues p.cases
       → Covers (listed_items text v l is).labels ls → (jumped_items text ls a j is).unknown ≡ [] → (after_items noted r p is).walked.found ≡ None → AllDone r ls p is
   items_there text r ls a j v l p no_items e k c m g h = record { there = refl; cases = c }
-  items_there text r ls a j v l p (declaration_then d is) e k c m g h =
-      let q = on (after_declaration noted d) p in
-      let f = declaration_there d p.walked k ((later_items r q is).walked.found h) in
-      let b = items_there text r ls (within_next j a) (jump.with_declaration j) (label.inside l.declarations v) (with_declaration l) q is ((kept_declaration noted d p.walked).text ∙ e) f.1 c m g h in
-      record { there = both_there declared_all (declaration_trees_at noted d p.walked) (typed_items noted r ls q is) f.0 b.there; cases = b.cases }
+  items_there text r ls a j v l p (declaration_then x d is) e k c m g h =
+      let q = on (after_block_declaration noted x d) p in
+      let f = block_declaration_there x d p.walked k ((later_items r q is).walked.found h) in
+      let b = items_there text r ls (within_next j a) (jump.with_declaration j) (label.inside l.declarations v) (with_declaration l) q is ((kept_block_declaration noted x d p.walked).text ∙ e) f.1 c m g h in
+      record { there = both_there declared_all (block_declaration_at noted x d p.walked) (typed_items noted r ls q is) f.0 b.there; cases = b.cases }
   items_there text r ls a j v l p (statement_then s is) e k c m g h =
       let q = after noted r p s in
       let b = statement_there text r ls a j v l p s e k c (λ y i. m y (items_stay text v (listed text v l s) is y i)) (items_unknown_before text ls a (jumped text ls a j s) is g) ((later_items r q is).walked.found h) in

@@ -10,7 +10,7 @@ use Rattle.pk_ctypes.specs.declared.words.Rule.{Rule}
 use Rattle.pk_ctypes.specs.declared.words.Rule.TheVariants as rule
 use Rattle.pk_ast.specs.declared.expressions.Identifier.{Identifier}
 use Rattle.pk_ast.specs.declared.units.Storage.{Storage}
-use Rattle.pk_ast.specs.Trees.{ExpressionTrees, no_expressions, expression_then, ParameterTree, BlockTree, FunctionTree, DeclaratorTree, DeclarationTree, TypedefTree, ExternalTree, function, objects, type_names}
+use Rattle.pk_ast.specs.Trees.{ParameterTree, BlockTree, FunctionTree, DeclaratorTree, DeclarationTree, TypedefTree, ExternalTree, function, objects, type_names}
 use Rattle.pk_type_scope.specs.declared.declarations.Callee.{Callee}
 use Rattle.pk_type_scope.specs.declared.declarations.Declaration.TheVariants as declared
 use Rattle.pk_type_scope.specs.declared.declarations.NamedType.{NamedType}
@@ -23,46 +23,40 @@ use Rattle.pk_type_scope.specs.Scopes.{names_in, spelled}
 use Rattle.pk_type_scope.specs.Specifiers.{type_named, word_failures}
 use Rattle.pk_type_expression.proofs.TreeLemmas.{none_before, none_after, holds_not, types_are, known_type}
 use Rattle.pk_type_declaration.specs.declared.words.Words.{Words}
-use Rattle.pk_type_declaration.specs.Constants.{after_constant}
 use Rattle.pk_type_declaration.specs.Declarations.{at_name, words_of, text_of, integer_in, redeclared, void_object, special_object, braces, surplus, length_at, after_optional_length}
 use Rattle.pk_ctypes.specs.Spellings.{lookup}
 use Rattle.pk_type_declaration.specs.Specials.{special, specials}
-use Rattle.pk_type_declaration.specs.Walks.{here, failing, entering}
+use Rattle.pk_type_declaration.specs.Walks.{StaticsTree, here, failing, entering}
 use Rattle.pk_type_jump.specs.Jumps.{around_body, nothing_jumped, jumps_of}
 use Rattle.pk_type_jump.specs.Labels.{nothing_listed, outermost, labels_of}
 use Rattle.pk_type_statement.specs.Statements.{after_items}
 use Rattle.pk_type_statement.specs.Trees.{typed_items}
-use Rattle.pk_type.specs.Files.{EntryTree, after_numbers, given, extern_object, file_object, after_object, after_objects, after_declaration, on}
+use Rattle.pk_type_declaration.specs.Starts.{given}
+use Rattle.pk_type.specs.Files.{EntryTree, extern_object, file_object, after_object, after_objects, after_declaration, on}
 use Rattle.pk_type.specs.Files as files
 use Rattle.pk_type.specs.Functions.{after_parameter_name, after_parameter, after_parameters, is_redeclared, is_misused, number_of, callee_of, after_head, each_at, about_jumps, before_body, after_body, body_of, body_at, with_body, after_optional_body, after_function}
 use Rattle.pk_type.specs.Signatures.{SignatureTree, signature_of}
 use Rattle.pk_type.specs.TypeNames.{named_type, after_type_name, after_type_names, after_typedef}
-use Rattle.pk_type.specs.Units.{no_name, defined_in, after_external, after_externals, nothing_filed}
-use Rattle.pk_type_laws.proofs.Accepted.Declarations.{later_constant, later_optional_length}
+use Rattle.pk_type.specs.Units.{no_name, defined_in, objects_in, checked, after_external, after_externals, nothing_filed}
+use Rattle.pk_type_laws.proofs.Accepted.Declarations.{later_optional_length}
 use Rattle.pk_type_laws.proofs.Accepted.Files.{F}
 use Rattle.pk_type_laws.proofs.Accepted.Functions.{later_parameters, later_body}
-use Rattle.pk_type_laws.proofs.Accepted.Units.{new_entries, updated, externals_later}
+use Rattle.pk_type_laws.proofs.Accepted.Units.{new_entries, updated, externals_later, texts_are_well_typed}
+use Rattle.pk_type_laws.proofs.Accepted.Starts.{later_numbers, same_scope}
+use Rattle.pk_type_laws.proofs.Accepted.Statics.{same_statics}
 use Rattle.pk_type_laws.proofs.Accepted.TypeNames.{type_words}
 use Rattle.pk_type_laws.proofs.Accepted.Walks.{W, none_found}
+use Rattle.pk_type_laws.specs.Accepted.Laws.{AcceptedUnitsAreWellTyped}
 use Rattle.pk_type_laws.specs.Bodies.Laws.{FunctionsHaveBodies}
 use Rattle.pk_type_laws.proofs.Bodies.Parts.{mapped_there, Known, known_declaring, known_opened, object_known, length_scope}
+use Rattle.pk_type_laws.proofs.Bodies.Starts.{AreStarts, no_starts, starts_together, items_start, length_statics, parameters_statics, typedef_statics}
 use Rattle.pk_type_laws.proofs.Bodies.Statements.{items_there}
 
 -- ---- objects of the file
 
-numbers_scope : (es : ExpressionTrees) (w : W) → (after_numbers noted es w).scoping ≡ w.scoping
-unfolding after_numbers
-numbers_scope no_expressions w = refl
-numbers_scope (expression_then e es) w = numbers_scope es (after_constant noted e w)
-
-numbers_before : (es : ExpressionTrees) (w : W) → (after_numbers noted es w).found ≡ None → w.found ≡ None
-unfolding after_numbers
-numbers_before no_expressions w h = h
-numbers_before (expression_then e es) w h = (later_constant e w).found (numbers_before es (after_constant noted e w) h)
-
 object_before : (storage : Option Storage) (words : Words) (d : DeclaratorTree) (f : F) → (after_object noted storage words d f).walked.found ≡ None → (files.after_head noted storage words d f).found ≡ None
 unfolding after_object
-object_before storage words d f h = numbers_before (given d.initializer) (files.after_head noted storage words d f) h
+object_before storage words d f h = (later_numbers (given d.initializer) (files.after_head noted storage words d f)).found h
 
 head_before : (storage : Option Storage) (words : Words) (d : DeclaratorTree) (f : F) → (files.after_head noted storage words d f).found ≡ None → f.walked.found ≡ None
 head_before storage words d f h =
@@ -92,12 +86,12 @@ object_is_known storage words d f u k h =
     let x = failing noted rows v in
     let fs = braces (is_some d.length) d.initializer d.name.at ++ surplus (length_at f.walked d.length) d.initializer in
     let w = files.after_head noted storage words d f in
-    let hw : w.found ≡ None = numbers_before (given d.initializer) w h in
+    let hw : w.found ≡ None = (later_numbers (given d.initializer) w).found h in
     let none : rows ≡ [] = (none_found v.found rows (none_found x.found fs hw).0).1 in
     let void : is_void words.typing ≡ false = holds_not _ _ _ (none_after first (void_object words.typing d.name.at) (none_before (first ++ void_object words.typing d.name.at) (special_object v.scoping d.name) none)) in
     let kv : Known v.scoping = subst Known (sym (length_scope d.length f.walked)) k in
     let o = file_object words (is_some d.length) f in
-    subst Known (sym (numbers_scope (given d.initializer) w)) (known_declaring v.scoping d.name o kv (integer_has words.typing u void))
+    subst Known (sym (same_scope (given d.initializer) w)) (known_declaring v.scoping d.name o kv (integer_has words.typing u void))
 
 objects_known : (storage : Option Storage) (words : Words) (ds : List DeclaratorTree) (f : F) → is_unknown words.typing ≡ false → Known f.walked.scoping → (after_objects noted storage words ds f).walked.found ≡ None
     → Known (after_objects noted storage words ds f).walked.scoping
@@ -123,6 +117,17 @@ objects_keep storage words (d ∷ ds) f = objects_keep storage words ds (after_o
 declaration_keeps : (storage : Option Storage) (d : DeclarationTree) (f : F) → (after_declaration noted storage d f).functions ≡ f.functions
 unfolding after_declaration
 declaration_keeps storage d f = objects_keep storage (words_of (here f.walked) d.specifiers) (d.declarators.first ∷ d.declarators.more) (on (failing noted (word_failures (here f.walked) d.specifiers)) f)
+
+file_objects_statics : (storage : Option Storage) (words : Words) (ds : List DeclaratorTree) (f : F) → (after_objects noted storage words ds f).walked.statics ≡ f.walked.statics
+unfolding after_objects after_object
+file_objects_statics storage words [] f = refl
+file_objects_statics storage words (d ∷ ds) f =
+    file_objects_statics storage words ds (after_object noted storage words d f) ∙ (same_statics (given d.initializer) (files.after_head noted storage words d f) ∙ length_statics d.length f.walked)
+
+file_declaration_statics : (storage : Option Storage) (d : DeclarationTree) (f : F) → (after_declaration noted storage d f).walked.statics ≡ f.walked.statics
+unfolding after_declaration
+file_declaration_statics storage d f =
+    file_objects_statics storage (words_of (here f.walked) d.specifiers) (d.declarators.first ∷ d.declarators.more) (on (failing noted (word_failures (here f.walked) d.specifiers)) f)
 
 -- ---- type names
 
@@ -214,9 +219,19 @@ block_before : (r : Typing) (n : ℕ) (b : Option BlockTree) (f : F) → (after_
 block_before r n None f h = h
 block_before r n (Some b) f h = (later_body r b f.walked).found h
 
+block_starts : (r : Typing) (n : ℕ) (b : Option BlockTree) (f : F) → Known f.walked.scoping → AreStarts f.walked.statics.made → (after_optional_body noted r n b f).walked.found ≡ None
+    → AreStarts (after_optional_body noted r n b f).walked.statics.made
+block_starts r n None f k m h = m
+block_starts r n (Some b) f k m h =
+    let w = f.walked in
+    let labels = labels_of w.scoping.text b.items in
+    let q = after_items noted r (before_body w) b.items in
+    items_start r (before_body w) b.items k m (none_found q.walked.found (about_jumps labels (jumps_of w.scoping.text labels.labels b.items)) h).0
+
 record Good (f : F) : Type 0 where
   names : Known f.walked.scoping
   bodies : HaveBodies f
+  statics : AreStarts f.walked.statics.made
 
 function_good : (defined : List ℕ → Bool) (g : FunctionTree) (f : F) → Good f → (after_function noted defined g f).walked.found ≡ None → Good (after_function noted defined g f)
 unfolding after_function
@@ -238,15 +253,24 @@ function_good defined g f m h =
     let kh : Known head.walked.scoping = known_declaring w.scoping g.name (declared.Function (record { number = n; callee = callee })) m.names (callee_known s (defined q) (special q) u (special_known q)) in
     let heads = new_entries (λ e. is_some e.body ≡ e.is_defined) f.functions n (text_of w.scoping g.name) s m.bodies refl in
     let kx : Known x.walked.scoping = parameters_known g.parameters i.walked (known_opened head.walked.scoping kh) hx in
-    record { names = kh; bodies = with_block (type_named (here w) g.specifiers) n g.body x kx heads h }
+    record {
+      names = kh;
+      bodies = with_block (type_named (here w) g.specifiers) n g.body x kx heads h;
+      statics = block_starts (type_named (here w) g.specifiers) n g.body x kx (subst (λ (s : StaticsTree). AreStarts s.made) (sym (parameters_statics g.parameters i.walked)) m.statics) h;
+    }
 
 external_good : (defined : List ℕ → Bool) (x : ExternalTree) (f : F) → Good f → (after_external noted defined x f).walked.found ≡ None → Good (after_external noted defined x f)
 external_good defined (function g) f m h = function_good defined g f m h
 external_good defined (objects storage d) f m h = record {
   names = declaration_known storage d f m.names h;
   bodies = λ i e is. m.bodies i e (ap (λ (es : List EntryTree). slice_get es i) (sym (declaration_keeps storage d f)) ∙ is);
+  statics = subst (λ (s : StaticsTree). AreStarts s.made) (sym (file_declaration_statics storage d f)) m.statics;
 }
-external_good defined (type_names d) f m h = record { names = typedef_known d f.walked m.names h; bodies = m.bodies }
+external_good defined (type_names d) f m h = record {
+  names = typedef_known d f.walked m.names h;
+  bodies = m.bodies;
+  statics = subst (λ (s : StaticsTree). AreStarts s.made) (sym (typedef_statics d f.walked)) m.statics;
+}
 
 externals_good : (defined : List ℕ → Bool) (xs : List ExternalTree) (f : F) → Good f → (after_externals noted defined xs f).walked.found ≡ None → Good (after_externals noted defined xs f)
 unfolding after_externals
@@ -255,10 +279,19 @@ externals_good defined (x ∷ xs) f m h =
     let g = after_external noted defined x f in
     externals_good defined xs g (external_good defined x f m ((externals_later defined xs g).found h)) h
 
-nothing_known : (text : List ℕ) → Known (nothing_filed {F = Option Failure} None text).walked.scoping
+nothing_known : (text : List ℕ) (n : ℕ) → Known (nothing_filed {F = Option Failure} None text n).walked.scoping
 unfolding names_in
-nothing_known text x = tt
+nothing_known text n x = tt
+
+text_good : (text : List ℕ) (xs : List ExternalTree) → (checked noted None text xs).walked.found ≡ None → Good (checked noted None text xs)
+text_good text xs h =
+    externals_good (defined_in text xs no_name) xs (nothing_filed None text (objects_in xs)) (record { names = nothing_known text (objects_in xs); bodies = λ i e is. absurd (none-some e is); statics = no_starts }) h
 
 pub functions_have_bodies : FunctionsHaveBodies
-functions_have_bodies text xs h =
-    (externals_good (defined_in text xs no_name) xs (nothing_filed None text) (record { names = nothing_known text; bodies = λ i e is. absurd (none-some e is) }) h).bodies
+functions_have_bodies text xs h = (text_good text xs h).bodies
+
+pub units_are_well_typed : AcceptedUnitsAreWellTyped
+units_are_well_typed text xs has h =
+    let f = checked noted None text xs in
+    let is = texts_are_well_typed text xs has h in
+    record { objects = starts_together f.objects f.walked.statics.made is.objects (text_good text xs h).statics; functions = is.functions }

@@ -65,7 +65,7 @@ mutual
 
   pub items_stay : (text : List ℕ) (w : Within) (l : Listed) (is : ItemTrees) → Stays l (listed_items text w l is)
   items_stay text w l no_items = stays_same l
-  items_stay text w l (declaration_then d is) = stays_then l (with_declaration l) _ (declared_stays l) (items_stay text (inside l.declarations w) (with_declaration l) is)
+  items_stay text w l (declaration_then x d is) = stays_then l (with_declaration l) _ (declared_stays l) (items_stay text (inside l.declarations w) (with_declaration l) is)
   items_stay text w l (statement_then s is) = stays_then l (listed text w l s) _ (stays text w l s) (items_stay text w (listed text w l s) is)
 
 -- the label that was listed last is found by its spelling

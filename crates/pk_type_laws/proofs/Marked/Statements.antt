@@ -20,7 +20,7 @@ use Rattle.pk_type_scope.specs.Scopes.{spelled}
 use Rattle.pk_type_expression.specs.Typed.{of_both}
 use Rattle.pk_type_expression.specs.Types.{type_of}
 use Rattle.pk_type_declaration.specs.Constants.{evaluated, number_in}
-use Rattle.pk_type_declaration.specs.Declarations.{after_declaration, declaration_trees_at}
+use Rattle.pk_type_declaration.specs.Statics.{after_block_declaration, block_declaration_at}
 use Rattle.pk_type_declaration.specs.Walks.{here, after_value, value_at, effect_at}
 use Rattle.pk_type_jump.specs.declared.labels.Label.{Label}
 use Rattle.pk_type_jump.specs.declared.labels.Within.{Within}
@@ -31,7 +31,7 @@ use Rattle.pk_type_statement.specs.declared.statements.Case.{Case}
 use Rattle.pk_type_statement.specs.Statements as statements
 use Rattle.pk_type_statement.specs.Statements.{on, with_case, with_default, in_switch, after_head, after, after_items}
 use Rattle.pk_type_statement.specs.Trees.{numbered, label_at, of_three, case_numbers, ended_as, ended, switch_of, optional_value_at, HeadTree, head_at, for_tree, declared_all, typed, typed_items}
-use Rattle.pk_type_statement.proofs.KeepLemmas.{kept, kept_declaration, kept_head}
+use Rattle.pk_type_statement.proofs.KeepLemmas.{kept, kept_block_declaration, kept_head}
 use Rattle.pk_meaning.specs.Steps as mark
 use Rattle.pk_meaning.specs.Steps.{Mark, labelled, otherwise}
 use Rattle.pk_welltyped.specs.Marks.{one_if, times, times_in, HasCases, HaveCases}
@@ -71,7 +71,7 @@ mutual
 
   item_flags : (r : Typing) (text : List ℕ) (ls : List ℕ → Option Label) (a : Around) (j : Jumped) (p : P) (is : ItemTrees) → p.has_default ≡ j.has_default → (after_items noted r p is).has_default ≡ (jumped_items text ls a j is).has_default
   item_flags r text ls a j p no_items h = h
-  item_flags r text ls a j p (declaration_then d is) h = item_flags r text ls (within_next j a) (jump.with_declaration j) (on (after_declaration noted d) p) is h
+  item_flags r text ls a j p (declaration_then x d is) h = item_flags r text ls (within_next j a) (jump.with_declaration j) (on (after_block_declaration noted x d) p) is h
   item_flags r text ls a j p (statement_then s is) h = item_flags r text ls a (jumped text ls a j s) (after noted r p s) is (flags r text ls a j p s h)
 
 -- ---- what holds of a statement's tree
@@ -333,12 +333,12 @@ mutual
       → p.has_default ≡ j.has_default → (jumped_items text f a j is).misplaced ≡ []
       → ItemsMarkedIf l.count (listed_items text w l is).count (length p.cases) (length (after_items noted r p is).cases) p.has_default (after_items noted r p is).has_default (typed_items noted r f p is)
   walk_items text f r a j w l p no_items t e h d k = nothing_marked l.count (length p.cases) p.has_default
-  walk_items text f r a j w l p (declaration_then x is) t e h d k =
-      let q = on (after_declaration noted x) p in
+  walk_items text f r a j w l p (declaration_then z x is) t e h d k =
+      let q = on (after_block_declaration noted z x) p in
       let v = inside l.declarations w in
       let m = with_declaration l in
-      declared_marked l.count (listed_items text v m is).count (length p.cases) (length (after_items noted r q is).cases) p.has_default (after_items noted r q is).has_default (declaration_trees_at noted x p.walked) (typed_items noted r f q is)
-      (walk_items text f r (within_next j a) (jump.with_declaration j) v m q is ((kept_declaration noted x p.walked).text ∙ t) e h d k)
+      declared_marked l.count (listed_items text v m is).count (length p.cases) (length (after_items noted r q is).cases) p.has_default (after_items noted r q is).has_default (block_declaration_at noted z x p.walked) (typed_items noted r f q is)
+      (walk_items text f r (within_next j a) (jump.with_declaration j) v m q is ((kept_block_declaration noted z x p.walked).text ∙ t) e h d k)
   walk_items text f r a j w l p (statement_then s is) t e h d k =
       let q = after noted r p s in
       let m = listed text w l s in

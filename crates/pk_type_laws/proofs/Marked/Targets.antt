@@ -16,7 +16,7 @@ use Rattle.pk_type_scope.specs.Failures.{noted}
 use Rattle.pk_type_scope.specs.Scopes.{spelled}
 use Rattle.pk_type_expression.specs.Typed.{of_both}
 use Rattle.pk_type_expression.specs.Types.{type_of}
-use Rattle.pk_type_declaration.specs.Declarations.{after_declaration, declaration_trees_at}
+use Rattle.pk_type_declaration.specs.Statics.{after_block_declaration, block_declaration_at}
 use Rattle.pk_type_declaration.specs.Walks.{here, after_value, value_at, effect_at}
 use Rattle.pk_type_jump.specs.declared.labels.Label.{Label}
 use Rattle.pk_type_jump.specs.Jumps as jump
@@ -198,9 +198,9 @@ mutual
 
   pub reaches_all : (text : List ℕ) (f : List ℕ → Option Label) (r : Typing) (a : Around) (j : Jumped) (p : P) (is : ItemTrees) → (jumped_items text f a j is).misplaced ≡ [] → ItemTargetsIf (breaks a) a.in_loop (typed_items noted r f p is)
   reaches_all text f r a j p no_items k = nothing_reaches (breaks a) a.in_loop
-  reaches_all text f r a j p (declaration_then x is) k =
-      let q = on (after_declaration noted x) p in
-      declared_reach (breaks a) a.in_loop (declaration_trees_at noted x p.walked) (typed_items noted r f q is) (reaches_all text f r (within_next j a) (jump.with_declaration j) q is k)
+  reaches_all text f r a j p (declaration_then z x is) k =
+      let q = on (after_block_declaration noted z x) p in
+      declared_reach (breaks a) a.in_loop (block_declaration_at noted z x p.walked) (typed_items noted r f q is) (reaches_all text f r (within_next j a) (jump.with_declaration j) q is k)
   reaches_all text f r a j p (statement_then s is) k =
       let q = after noted r p s in
       let i = jumped text f a j s in

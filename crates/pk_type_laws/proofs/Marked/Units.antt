@@ -23,7 +23,7 @@ use Rattle.pk_type_statement.specs.Trees.{typed_items}
 use Rattle.pk_type.specs.Files.{EntryTree, after_object, after_objects, after_declaration, on}
 use Rattle.pk_type.specs.Functions.{after_parameters, number_of, after_head, each_at, about_jumps, before_body, after_body, body_of, body_at, with_body, after_optional_body, after_function}
 use Rattle.pk_type.specs.Signatures.{signature_of}
-use Rattle.pk_type.specs.Units.{no_name, defined_in, after_external, after_externals, nothing_filed, checked, function_of}
+use Rattle.pk_type.specs.Units.{no_name, defined_in, objects_in, after_external, after_externals, nothing_filed, checked, function_of}
 use Rattle.pk_welltyped.specs.Marks.{IsMarkedIf}
 use Rattle.pk_type_laws.proofs.Accepted.Walks.{W, none_found}
 use Rattle.pk_type_laws.proofs.Accepted.Files.{F}
@@ -103,5 +103,5 @@ found_marked f m k d (Some x) is e =
 pub units_are_marked : AcceptedUnitsAreMarked
 units_are_marked text xs h =
     let f = checked noted None text xs in
-    let m = externals_marked (defined_in text xs no_name) xs (nothing_filed None text) (λ i e is. absurd (none-some e is)) h in
+    let m = externals_marked (defined_in text xs no_name) xs (nothing_filed None text (objects_in xs)) (λ i e is. absurd (none-some e is)) h in
     λ k d l. found_marked f m k d (slice_get f.functions k) refl (sym (slice_get-map function_of f.functions k) ∙ slice_get-get_or (map function_of f.functions) k d l)

@@ -70,7 +70,7 @@ unfoldable mutual
 
   pub ItemsHave : ItemTrees → Type 0
   ItemsHave no_items = Unit {0}
-  ItemsHave (declaration_then d items) = DeclarationHas d × ItemsHave items
+  ItemsHave (declaration_then s d items) = DeclarationHas d × ItemsHave items
   ItemsHave (statement_then s items) = StatementHas s × ItemsHave items
 
 abbrev pub BlockHas : Option BlockTree → Type 0

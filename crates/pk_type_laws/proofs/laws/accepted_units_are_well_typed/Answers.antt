@@ -1,4 +1,4 @@
-use Rattle.pk_type_laws.proofs.Accepted.Units.{units_are_well_typed}
+use Rattle.pk_type_laws.proofs.Bodies.Units.{units_are_well_typed}
 use Rattle.pk_type_laws.proofs.laws.accepted_units_are_well_typed.Goals as goal
 
 pub returns : goal.returns
