@@ -77,7 +77,7 @@ fn texts(rt: HostRuntime) -> Result<(), Fail> {
 }
 
 // What stands in a body behind some declarations, and the column at which it is a syntax error, or 0.
-const BODIES: [(&str, u64); 117] = [
+const BODIES: [(&str, u64); 137] = [
     ("a+b=3;", 4),
     ("a?b:a=3;", 6),
     ("(int)a=3;", 7),
@@ -195,6 +195,26 @@ const BODIES: [(&str, u64); 117] = [
     ("int x[2]={1,2,};", 0),
     ("a=(1,2)+(0&&1/0);", 0),
     ("int int x;", 0),
+    ("static int q;", 0),
+    ("static int q=1,z[2]={1,2};", 0),
+    ("const static int q;", 7),
+    ("int static q;", 5),
+    ("static;", 7),
+    ("static static int q;", 8),
+    ("static extern int q;", 8),
+    ("static a;", 8),
+    ("static q=1;", 8),
+    ("static if(a);", 8),
+    ("static int;", 11),
+    ("static int f(void);", 13),
+    ("for(static int q;;);", 5),
+    ("for(;static int q;);", 6),
+    ("if(a)static int q;", 6),
+    ("M:static int q;", 3),
+    ("{static const int q=3;}", 0),
+    ("(static int)a;", 2),
+    ("static (a);", 8),
+    ("static}", 7),
 ];
 
 #[test]
