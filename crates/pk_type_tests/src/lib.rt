@@ -6,6 +6,8 @@ mod bad;
 #[cfg(test)]
 mod places;
 #[cfg(test)]
+mod statics;
+#[cfg(test)]
 mod types;
 #[cfg(test)]
 mod typing;

@@ -31,7 +31,7 @@ fn answer(alloc: Global, text: &[u8]) -> Result<Option<Refusal>, Fail> {
 }
 
 // A text in each line, and behind an arrow what is refused of it.
-const TABLES: [&str; 16] = [
+const TABLES: [&str; 17] = [
     // On names of types.
     "const x; => specifiers 1:1
 char int x; => specifiers 1:1
@@ -85,6 +85,44 @@ int main(void){for(int i;;){int i;}}
 int main(void){int i;for(int i;;);}
 int main(void){for(int i,i;;);} => redeclared 1:26
 int main(void){int main;}",
+    // On static objects of functions.
+    "int f(void){static int n=0;n=n+1;return n;}int main(void){return f();}
+int main(void){static int x;return x;}
+int main(void){static int x=1,y=x;return y;} => constant 1:33
+int main(void){static int x=x;return x;} => constant 1:29
+int main(void){int a=1;static int x=a;return x;} => constant 1:37
+int main(void){static int x=1/0;return x;} => constant 1:29
+int f(void);int main(void){static int x=f();return x;} => constant 1:41
+int main(void){static int t[3]={1,2,3};return t[2];}
+int main(void){static int t[3]={1,2,3,4};return t[2];} => initialiser 1:39
+int main(void){static int t[3]=1;return 0;} => array 1:27
+int main(void){static int x={1};return 0;} => array 1:27
+int main(void){static int t[0];return 0;} => constant 1:29
+int a;int main(void){static int t[a];return 0;} => constant 1:35
+int main(void){static void x;return 0;} => void 1:28
+int main(void){static int x;int x;return 0;} => redeclared 1:33
+int main(void){int x;static int x;return 0;} => redeclared 1:33
+int main(void){int x;{static int x;}return 0;}
+int main(void){static int abort;return 0;} => special 1:27
+int main(void){static int int x;return 0;} => specifiers 1:23
+int main(void){static const int x=3;x=4;return 0;} => const 1:38
+int main(void){static const int x=3;return x;}
+int main(void){goto l;static int x=1;l:return x;} => jump 1:21
+int main(void){switch(1){static int x=1;case 1:return x;}return 0;} => jump 1:41
+int f(int x){static int x;return x;} => redeclared 1:25
+int main(void){static int x=1+2*3,t[2]={-1};return x+t[0];}
+int main(void){static int t[2]={1,t[0]};return 0;} => constant 1:35
+int main(void){static unsigned char x=300;return x;}
+int main(void){{static int x;}return x;} => undeclared 1:38
+int x;int main(void){static int x=1;return x;}
+int main(void){static int x=2147483648;return x;}
+int main(void){static int x=2147483647+1;return x;} => constant 1:29
+int main(void){static int x;return x++ + x;} => unsequenced 1:40
+int x;int main(void){static int y;return (y=1)+(x=2);}
+int main(void){static int x=(0,1);return 0;}
+int main(void){static int x=y;return 0;} => undeclared 1:29
+int main(void){static long long x=1;static int y=1;return x+y;}
+int main(void){static int main;return main;}",
     // On extern.
     "extern int x; => extern 1:12
 extern int x=1; => extern 1:12
