@@ -1,7 +1,6 @@
 -- Objects of the file scope from a place on.
-use Rattle.std.proofs.Math.Seq.{drop-cons}
-use Rattle.std.proofs.lemmas.List.{drop_all, map-append, append-nil}
-use Rattle.std.proofs.Common.{◌≡◌, ℕ, suc, ◌+◌, ◌<◌, ◌≤◌, ℤ, Bool, List, [], ◌∷◌, ◌++◌, Option, Some, None, option_map, drop, get_or, length, map, add-one, append_assoc, refl, ap, sym, ◌∙◌}
+use Rattle.std.proofs.lemmas.List.{map-append}
+use Rattle.std.proofs.Common.{◌≡◌, ℕ, ◌+◌, Bool, List, [], ◌∷◌, ◌++◌, Option, Some, None, option_map, length, map, refl, ap, sym, ◌∙◌}
 use Rattle.pk_ctypes.specs.declared.words.Rule.TheVariants as rule
 use Rattle.std.specs.Option.{is_some}
 use Rattle.pk_ast.specs.declared.declarations.Declarator.{Declarator}
@@ -27,9 +26,6 @@ State = Walked (Option Failure)
 
 abbrev Files : Type 0
 Files = Filed (Option Failure)
-
-pub objects_push : (xs : List FileObject) (x : FileObject) → map file_object_tree (xs ++ x ∷ []) ≡ map file_object_tree xs ++ file_object_tree x ∷ []
-objects_push xs x = map-append file_object_tree xs (x ∷ [])
 
 pub objects_append : (xs ys : List FileObject) → map file_object_tree (xs ++ ys) ≡ map file_object_tree xs ++ map file_object_tree ys
 objects_append xs ys = map-append file_object_tree xs ys

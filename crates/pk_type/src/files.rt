@@ -144,7 +144,7 @@ impl<'a> File<'a> {
     }
 
     // An object of the file.
-    #[tactic(auto, using(crate::proofs::FileLemmas::objects_push), unfolding(pk_ast::specs::Views::declarator_tree, pk_typed::specs::Views::file_object_tree, crate::specs::Files::after_object))]
+    #[tactic(auto, using(pk_type_declaration::proofs::ListLemmas::file_objects_push), unfolding(pk_ast::specs::Views::declarator_tree, pk_typed::specs::Views::file_object_tree, crate::specs::Files::after_object))]
     fn declarator(
         &mut self,
         alloc: Global,
