@@ -1,4 +1,4 @@
 mod Answered
 pub mod Accepted
-mod Bodies
+pub mod Bodies
 mod Marked

@@ -3,7 +3,7 @@ use Rattle.std.proofs.Common.{sym, subst}
 use Rattle.pk_calls.proofs.CallPathLemmas.{paths_are_all}
 use Rattle.pk_lower_laws.proofs.Drafts.Drafts.{drafts_are_typed}
 use Rattle.pk_welltyped.specs.WellTyped.{IsUnit}
-use Rattle.pk_type_laws.proofs.Accepted.Units.{units_are_well_typed}
+use Rattle.pk_type_laws.proofs.Bodies.Units.{units_are_well_typed}
 use Rattle.pk_welltyped_texts.specs.Laws.{TextsHaveConstants, TextsAreWellTyped, DraftsOfTextsAreTyped}
 use Rattle.pk_welltyped_texts.proofs.Tokens.{read_tokens_are}
 use Rattle.pk_welltyped_texts.proofs.Trees.{parsed_have}
