@@ -8,7 +8,10 @@ use std::test::Fail;
 
 // Each text with its head (the octagon's size, the entry, the text's length and the head's), or with the first wrong byte.
 const HEADS: [(&str, &str); 24] = [
-    ("pikos-cert 1 16 16 main\nint main(void){}\n0 0 0 0\n", "16 main 16 41"),
+    (
+        "pikos-cert 1 16 16 main\nint main(void){}\n0 0 0 0\n",
+        "16 main 16 41",
+    ),
     ("pikos-cert 1 0 0 f\n\n", "0 f 0 20"),
     ("pikos-cert 1 0 64 _9\n\nbot", "64 _9 0 22"),
     ("pikos-cert 1 3 7 main\n\n\n\n\n", "7 main 3 26"),
@@ -41,7 +44,13 @@ fn told(alloc: Global, text: &str) -> Result<String, Fail> {
         Err(byte) => write!(told, "byte {byte}")?,
         Ok(head) => {
             let entry = std::str::from_utf8(head.entry).map_err(|_| "the entry is text")?;
-            write!(told, "{} {entry} {} {}", head.oct, head.text.len(), head.len)?;
+            write!(
+                told,
+                "{} {entry} {} {}",
+                head.oct,
+                head.text.len(),
+                head.len
+            )?;
         }
     }
     Ok(told)
