@@ -1,5 +1,5 @@
 -- Where texts begin, by hand.
-use Rattle.std.proofs.Common.{◌≡◌, ℕ, ◌+◌, [], ◌∷◌, Some, refl, map}
+use Rattle.std.proofs.Common.{◌≡◌, ℕ, ◌+◌, false, [], ◌∷◌, Some, refl, map}
 use Rattle.pk_ctypes.specs.declared.places.Pos.{Pos}
 use Rattle.pk_ctypes.specs.declared.types.IntType.TheVariants as ctype
 use Rattle.pk_ast.specs.declared.operators.AssignmentOperator.TheVariants as assignments
@@ -17,7 +17,7 @@ column c = record { line = 3; column = c }
 
 -- a name of one letter there
 abbrev letter : ℕ → Identifier
-letter c = record { start = 20 + c; end = 21 + c; at = column c }
+letter c = record { start = 20 + c; end = 21 + c; at = column c; is_tag = false }
 
 abbrev value : ℕ → ExpressionTree
 value c = tree.name (letter c)

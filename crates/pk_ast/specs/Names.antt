@@ -1,13 +1,17 @@
--- The names in trees, type names among them, in the order of the text.
-use Rattle.std.specs.Prelude.{List, [], ◌∷◌, ◌++◌, Option, Some, None}
+-- The names in trees, type names and tags among them, as they stand in the text, in its order.
+use Rattle.std.specs.Prelude.{ℕ, false, List, [], ◌∷◌, ◌++◌, Option, Some, None}
 use Rattle.pk_ctypes.specs.declared.places.Pos.{Pos}
 use Rattle.pk_ast.specs.declared.declarations.Specifier.{Specifier}
 use Rattle.pk_ast.specs.declared.declarations.SpecifierWord.{SpecifierWord}
 use Rattle.pk_ast.specs.declared.declarations.SpecifierWord.TheVariants as word
 use Rattle.pk_ast.specs.declared.expressions.Identifier.{Identifier}
-use Rattle.pk_ast.specs.Trees.{OneOrMore, ExpressionTree, name, call, index, constant, character, parenthesized, postfix, prefix, unary, cast, binary, conditional, assignment, comma, ExpressionTrees, no_expressions, expression_then, InitializerTree, single, braced, DeclaratorTree, DeclarationTree, ForStartTree, declaration, expression, StatementTree, block, empty, expression_statement, label, case, default, if_then, if_else, switch, while, do_while, for_loop, goto, continue, break, return, ItemTrees, no_items, declaration_then, statement_then, BlockTree, ParameterTree, ExternalTree, function, objects, type_names}
+use Rattle.pk_ast.specs.Trees.{OneOrMore, ExpressionTree, name, call, index, constant, character, parenthesized, postfix, prefix, unary, cast, binary, conditional, assignment, comma, ExpressionTrees, no_expressions, expression_then, InitializerTree, single, braced, DeclaratorTree, EnumeratorTree, EnumerationTree, DeclarationTree, ForStartTree, declaration, expression, StatementTree, block, empty, expression_statement, label, case, default, if_then, if_else, switch, while, do_while, for_loop, goto, continue, break, return, ItemTrees, no_items, declaration_then, statement_then, BlockTree, ParameterTree, ExternalTree, function, objects, type_names}
 
--- the word of a type that stands at this place, where it is a type name
+-- the name that stands there
+abbrev pub name_at : ℕ → ℕ → Pos → Identifier
+name_at start end at = record { start = start; end = end; at = at; is_tag = false }
+
+-- the word of a type that stands at this place, where it is a type name or a tag
 abbrev pub word_name : SpecifierWord → Pos → List Identifier
 word_name word.Void at = []
 word_name word.Char at = []
@@ -17,7 +21,9 @@ word_name word.Long at = []
 word_name word.Signed at = []
 word_name word.Unsigned at = []
 word_name word.Const at = []
-word_name (word.TypeName start end) at = record { start = start; end = end; at = at } ∷ []
+word_name (word.TypeName start end) at = name_at start end at ∷ []
+word_name word.Enum at = []
+word_name (word.Tag start end) at = name_at start end at ∷ []
 
 abbrev pub word_names : List Specifier → List Identifier
 word_names [] = []
@@ -63,9 +69,21 @@ abbrev pub all_declarator_names : List DeclaratorTree → List Identifier
 all_declarator_names [] = []
 all_declarator_names (d ∷ ds) = declarator_names d ++ all_declarator_names ds
 
+abbrev pub enumerator_names : EnumeratorTree → List Identifier
+enumerator_names x = x.name ∷ optional_names x.value
+
+abbrev pub all_enumerator_names : List EnumeratorTree → List Identifier
+all_enumerator_names [] = []
+all_enumerator_names (x ∷ xs) = enumerator_names x ++ all_enumerator_names xs
+
+abbrev pub enumeration_names : Option EnumerationTree → List Identifier
+enumeration_names None = []
+enumeration_names (Some e) =
+    (enumerator_names e.enumerators.first ++ all_enumerator_names e.enumerators.more) ++ word_names e.qualifiers
+
 abbrev pub declaration_names : DeclarationTree → List Identifier
 declaration_names d =
-    specifier_names d.specifiers ++ (declarator_names d.declarators.first ++ all_declarator_names d.declarators.more)
+    specifier_names d.specifiers ++ (enumeration_names d.enumeration ++ all_declarator_names d.declarators)
 
 abbrev pub for_start_names : ForStartTree → List Identifier
 for_start_names (declaration d) = declaration_names d
@@ -112,7 +130,8 @@ abbrev pub external_names : ExternalTree → List Identifier
 external_names (function f) =
     specifier_names f.specifiers ++ (f.name ∷ (parameter_names f.parameters ++ body_names f.body))
 external_names (objects storage d) = declaration_names d
-external_names (type_names d) = specifier_names d.specifiers ++ (d.names.first ∷ d.names.more)
+external_names (type_names d) =
+    specifier_names d.specifiers ++ (enumeration_names d.enumeration ++ (d.names.first ∷ d.names.more))
 
 -- those of a text
 abbrev pub names_of : List ExternalTree → List Identifier

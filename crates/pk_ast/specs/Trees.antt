@@ -48,9 +48,20 @@ pub record DeclaratorTree : Type 0 where
   pub length : Option ExpressionTree
   pub initializer : Option InitializerTree
 
+pub record EnumeratorTree : Type 0 where
+  pub name : Identifier
+  pub value : Option ExpressionTree
+
+-- the braces of an enumeration (C99 6.7.2.2), and the `const`s behind them
+pub record EnumerationTree : Type 0 where
+  pub enumerators : OneOrMore EnumeratorTree
+  pub qualifiers : List Specifier
+
+-- the words of a type, the enumeration that ends them if it has braces, and the names that are declared with it: none only behind an enumeration
 pub record DeclarationTree : Type 0 where
   pub specifiers : OneOrMore Specifier
-  pub declarators : OneOrMore DeclaratorTree
+  pub enumeration : Option EnumerationTree
+  pub declarators : List DeclaratorTree
 
 -- what the parentheses of a `for` begin with
 pub data ForStartTree : Type 0 where
@@ -103,6 +114,7 @@ pub record FunctionTree : Type 0 where
 -- names that are declared to be type names (C99 6.7.7)
 pub record TypedefTree : Type 0 where
   pub specifiers : OneOrMore Specifier
+  pub enumeration : Option EnumerationTree
   pub names : OneOrMore Identifier
 
 -- external definitions (C99 6.9)

@@ -5,7 +5,8 @@ use Rattle.pk_ast.specs.declared.declarations.Specifiers.{Specifiers}
 use Rattle.pk_ast.specs.declared.declarations.Initializer.{Initializer}
 use Rattle.pk_ast.specs.declared.declarations.Initializer.TheVariants.{Single, Braced}
 use Rattle.pk_ast.specs.declared.declarations.Declarator.{Declarator}
-use Rattle.pk_ast.specs.declared.declarations.Declarators.{Declarators}
+use Rattle.pk_ast.specs.declared.declarations.Enumerator.{Enumerator}
+use Rattle.pk_ast.specs.declared.declarations.Enumeration.{Enumeration}
 use Rattle.pk_ast.specs.declared.declarations.Declaration.{Declaration}
 use Rattle.pk_ast.specs.declared.expressions.Expression.{Expression, Row_of-Expression, end_of-Expression, more_of-Expression}
 use Rattle.pk_ast.specs.declared.expressions.Expression.TheVariants.{Name, Call', Index', Constant, Character, Parenthesized', Postfix', Prefix', Unary', Cast', Binary', Conditional', Assignment', Comma'}
@@ -23,7 +24,7 @@ use Rattle.pk_ast.specs.declared.units.External.{External}
 use Rattle.pk_ast.specs.declared.units.Typedef.{Typedef}
 use Rattle.pk_ast.specs.declared.units.External.TheVariants as externals
 use Rattle.pk_ast.specs.declared.units.Unit as declared_unit
-use Rattle.pk_ast.specs.Trees.{OneOrMore, ExpressionTree, ExpressionTrees, InitializerTree, DeclaratorTree, DeclarationTree, ForStartTree, StatementTree, ItemTrees, BlockTree, ParameterTree, FunctionTree, TypedefTree, ExternalTree}
+use Rattle.pk_ast.specs.Trees.{OneOrMore, ExpressionTree, ExpressionTrees, InitializerTree, DeclaratorTree, EnumeratorTree, EnumerationTree, DeclarationTree, ForStartTree, StatementTree, ItemTrees, BlockTree, ParameterTree, FunctionTree, TypedefTree, ExternalTree}
 use Rattle.pk_ast.specs.Trees.{name, call, index, constant, character, parenthesized, postfix, prefix, unary, cast, binary, conditional, assignment, comma, no_expressions, expression_then, single, braced}
 use Rattle.pk_ast.specs.Trees.{declaration, expression, block, empty, expression_statement, label, case, default, if_then, if_else, switch, while, do_while, for_loop, goto, continue, break, return, no_items, declaration_then, statement_then, function, objects, type_names}
 
@@ -72,11 +73,26 @@ declarator_tree d =
 abbrev pub declarator_trees : List Declarator → List DeclaratorTree
 declarator_trees = map declarator_tree
 
-abbrev pub declarators_tree : Declarators → OneOrMore DeclaratorTree
-declarators_tree d = record { first = declarator_tree d.first; more = declarator_trees d.more.items }
+unfoldable pub enumerator_tree : Enumerator → EnumeratorTree
+enumerator_tree x = record { name = x.name; value = option_map expression_tree x.value }
+
+abbrev pub enumerator_trees : List Enumerator → List EnumeratorTree
+enumerator_trees = map enumerator_tree
+
+unfoldable pub enumeration_tree : Enumeration → EnumerationTree
+enumeration_tree e =
+    record {
+      enumerators = record { first = enumerator_tree e.first; more = enumerator_trees e.more.items };
+      qualifiers = e.qualifiers.items;
+    }
 
 unfoldable pub declaration_tree : Declaration → DeclarationTree
-declaration_tree d = record { specifiers = specifiers_tree d.specifiers; declarators = declarators_tree d.declarators }
+declaration_tree d =
+    record {
+      specifiers = specifiers_tree d.specifiers;
+      enumeration = option_map enumeration_tree d.enumeration;
+      declarators = declarator_trees d.declarators.items;
+    }
 
 unfoldable pub for_start_tree : declared_for_start.ForStart → ForStartTree
 for_start_tree (for_starts.Declaration d) = declaration (declaration_tree d)
@@ -137,6 +153,7 @@ function_tree f = record {
 unfoldable pub typedef_tree : Typedef → TypedefTree
 typedef_tree d = record {
   specifiers = specifiers_tree d.specifiers;
+  enumeration = option_map enumeration_tree d.enumeration;
   names = record { first = d.first; more = d.more.items };
 }
 

@@ -8,7 +8,10 @@ ghost use Rattle.pk_ast.specs.Views.{
   expression_trees,
   initializer_tree,
   declarator_tree,
-  declarators_tree,
+  declarator_trees,
+  enumerator_tree,
+  enumerator_trees,
+  enumeration_tree,
   declaration_tree,
 };
 
@@ -28,6 +31,10 @@ pub enum SpecifierWord {
     Const,
     /// A type name (C99 6.7.7): its bytes from `start` up to `end`, counted from 0.
     TypeName { start: usize, end: usize },
+    /// The word `enum` (C99 6.7.2.2).
+    Enum,
+    /// The tag behind `enum`: its bytes from `start` up to `end`, counted from 0.
+    Tag { start: usize, end: usize },
 }
 
 /// A word of a type's name at its place.
@@ -63,18 +70,27 @@ pub struct Declarator {
     pub initializer: Option<Initializer>,
 }
 
-/// Declared names, one or more.
+/// An enumerator, with the value that it is given, if it is given one.
 #[derive(Drop)]
-pub struct Declarators {
-    pub first: Declarator,
-    pub more: Vec<Declarator>,
+pub struct Enumerator {
+    pub name: Identifier,
+    pub value: Option<Expression>,
 }
 
-/// The words of a type, and the names that are declared with it.
+/// The braces of an enumeration (C99 6.7.2.2), and the `const`s behind them. What stands before them, up to `enum` or its tag, are words of a type.
+#[derive(Drop)]
+pub struct Enumeration {
+    pub first: Enumerator,
+    pub more: Vec<Enumerator>,
+    pub qualifiers: Vec<Specifier>,
+}
+
+/// The words of a type, the enumeration that ends them if it has braces, and the names that are declared with it: none only behind an enumeration.
 #[derive(Drop)]
 pub struct Declaration {
     pub specifiers: Specifiers,
-    pub declarators: Declarators,
+    pub enumeration: Option<Enumeration>,
+    pub declarators: Vec<Declarator>,
 }
 
 #[tactic(auto, unfolding(crate::specs::Views::initializer_tree))]
@@ -114,16 +130,51 @@ impl Declarator {
     }
 }
 
+#[tactic(auto, unfolding(crate::specs::Views::enumerator_tree))]
+impl Enumerator {
+    pub fn new(name: Identifier, value: Option<Expression>) -> Enumerator
+        ensures { enumerator_tree result ≡ record { name = name; value = option_map expression_tree value } }
+    {
+        Enumerator { name, value }
+    }
+}
+
+#[tactic(auto, unfolding(crate::specs::Views::enumeration_tree))]
+impl Enumeration {
+    pub fn new(
+        first: Enumerator,
+        more: Vec<Enumerator>,
+        qualifiers: Vec<Specifier>,
+    ) -> Enumeration
+        ensures { enumeration_tree result ≡ record {
+          enumerators = record { first = enumerator_tree first; more = enumerator_trees more.items };
+          qualifiers = qualifiers.items;
+        } }
+    {
+        Enumeration {
+            first,
+            more,
+            qualifiers,
+        }
+    }
+}
+
 #[tactic(auto, unfolding(crate::specs::Views::declaration_tree))]
 impl Declaration {
-    pub fn new(specifiers: Specifiers, declarators: Declarators) -> Declaration
+    pub fn new(
+        specifiers: Specifiers,
+        enumeration: Option<Enumeration>,
+        declarators: Vec<Declarator>,
+    ) -> Declaration
         ensures { declaration_tree result ≡ record {
           specifiers = specifiers_tree specifiers;
-          declarators = declarators_tree declarators;
+          enumeration = option_map enumeration_tree enumeration;
+          declarators = declarator_trees declarators.items;
         } }
     {
         Declaration {
             specifiers,
+            enumeration,
             declarators,
         }
     }

@@ -11,13 +11,14 @@ use crate::operators::{AssignmentOperator, BinaryOperator, StepOperator, UnaryOp
 use pk_ctypes::{IntType, Pos};
 use std::alloc::{AllocError, Global};
 
-/// A name in a text: its bytes from `start` up to `end`, counted from 0, and the place of the first one. Two names are the same
-/// where their bytes are, so identifiers are not compared.
+/// A name in a text: its bytes from `start` up to `end`, counted from 0, the place of the first one, and whether it is a tag, for tags
+/// have a name space of their own (C99 6.2.3). Two names are the same where their bytes are, so identifiers are not compared.
 #[derive(Clone, Copy)]
 pub struct Identifier {
     pub start: usize,
     pub end: usize,
     pub at: Pos,
+    pub is_tag: bool,
 }
 
 /// An expression. Operators stand with their places; parentheses are kept.

@@ -1,6 +1,6 @@
 //! Syntax trees of C texts, as the grammar derives them, before typing.
 //!
-//! Arguments, declared names, values in braces, parameters, the items of a block and external definitions are lists, of any length.
+//! Arguments, declared names, enumerators, values in braces, parameters, the items of a block and external definitions are lists, of any length.
 //! Every other tree inside a tree is one level of nesting, which the parser limits. So dropping a tree, or walking it, recurses no deeper than that limit.
 #![tactic(auto)]
 
@@ -12,7 +12,8 @@ mod statements;
 mod units;
 
 pub use declarations::{
-    Declaration, Declarator, Declarators, Initializer, Specifier, SpecifierWord, Specifiers,
+    Declaration, Declarator, Enumeration, Enumerator, Initializer, Specifier, SpecifierWord,
+    Specifiers,
 };
 pub use expressions::{Expression, Identifier};
 pub use operators::{AssignmentOperator, BinaryOperator, StepOperator, UnaryOperator};

@@ -5,6 +5,7 @@ ghost use Rattle.pk_ast.specs.Trees as tree;
 ghost use Rattle.pk_ast.specs.Views.{
   specifiers_tree,
   declaration_tree,
+  enumeration_tree,
   block_tree,
   parameter_tree,
   parameter_trees,
@@ -15,7 +16,7 @@ ghost use Rattle.pk_ast.specs.Views.{
   unit_tree,
 };
 
-use crate::declarations::{Declaration, Specifiers};
+use crate::declarations::{Declaration, Enumeration, Specifiers};
 use crate::expressions::Identifier;
 use crate::statements::Block;
 use pk_ctypes::Pos;
@@ -51,10 +52,11 @@ pub struct Function {
     pub body: Option<Block>,
 }
 
-/// Names that are declared to be type names, one or more.
+/// Names that are declared to be type names, one or more, for the words of a type and the enumeration that ends them, if it has braces.
 #[derive(Drop)]
 pub struct Typedef {
     pub specifiers: Specifiers,
+    pub enumeration: Option<Enumeration>,
     pub first: Identifier,
     pub more: Vec<Identifier>,
 }
@@ -111,14 +113,21 @@ impl Function {
 
 #[tactic(auto, unfolding(crate::specs::Views::typedef_tree))]
 impl Typedef {
-    pub fn new(specifiers: Specifiers, first: Identifier, more: Vec<Identifier>) -> Typedef
+    pub fn new(
+        specifiers: Specifiers,
+        enumeration: Option<Enumeration>,
+        first: Identifier,
+        more: Vec<Identifier>,
+    ) -> Typedef
         ensures { typedef_tree result ≡ record {
           specifiers = specifiers_tree specifiers;
+          enumeration = option_map enumeration_tree enumeration;
           names = record { first = first; more = more.items };
         } }
     {
         Typedef {
             specifiers,
+            enumeration,
             first,
             more,
         }
