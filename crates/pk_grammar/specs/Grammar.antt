@@ -22,7 +22,7 @@ use Rattle.pk_ast.specs.declared.operators.AssignmentOperator.TheVariants as asg
 use Rattle.pk_ast.specs.declared.units.Storage.{Storage}
 use Rattle.pk_ast.specs.declared.units.StorageWord.{StorageWord}
 use Rattle.pk_ast.specs.declared.units.StorageWord.TheVariants as storage
-use Rattle.pk_ast.specs.Trees.{OneOrMore, ExpressionTree, name, call, index, constant, character, parenthesized, postfix, prefix, unary, cast, binary, conditional, assignment, comma, ExpressionTrees, no_expressions, expression_then, InitializerTree, single, braced, DeclaratorTree, DeclarationTree, ForStartTree, declaration, expression, StatementTree, block, empty, expression_statement, label, case, default, if_then, if_else, switch, while, do_while, for_loop, goto, continue, break, return, ItemTrees, no_items, declaration_then, statement_then, BlockTree, ParameterTree, ExternalTree, function, objects, type_names}
+use Rattle.pk_ast.specs.Trees.{OneOrMore, ExpressionTree, name, call, index, constant, character, parenthesized, postfix, prefix, unary, cast, binary, conditional, assignment, comma, ExpressionTrees, no_expressions, expression_then, InitializerTree, single, braced, DeclaratorTree, EnumeratorTree, EnumerationTree, DeclarationTree, ForStartTree, declaration, expression, StatementTree, block, empty, expression_statement, label, case, default, if_then, if_else, switch, while, do_while, for_loop, goto, continue, break, return, ItemTrees, no_items, declaration_then, statement_then, BlockTree, ParameterTree, ExternalTree, function, objects, type_names}
 use Rattle.pk_grammar.specs.Languages.{Marked, Language, Nothing, One, At, Any, Identified, ◌⊙◌, Inside, Past, Optional, Where}
 
 -- Signs
@@ -70,7 +70,7 @@ assignment_sign asg.And = mark.AmpersandAssign
 assignment_sign asg.ExclusiveOr = mark.CaretAssign
 assignment_sign asg.Or = mark.BarAssign
 
--- the token is this word of a type, or this type name
+-- the token is this word of a type, this type name or this tag
 abbrev pub IsWord : SpecifierWord → Token → Type 0
 IsWord word.Void t = t.kind ≡ kind.Keyword key.Void
 IsWord word.Char t = t.kind ≡ kind.Keyword key.Char
@@ -81,6 +81,8 @@ IsWord word.Signed t = t.kind ≡ kind.Keyword key.Signed
 IsWord word.Unsigned t = t.kind ≡ kind.Keyword key.Unsigned
 IsWord word.Const t = t.kind ≡ kind.Keyword key.Const
 IsWord (word.TypeName start end) t = (t.kind ≡ kind.TypeName) × (t.start ≡ start) × (t.end ≡ end)
+IsWord word.Enum t = t.kind ≡ kind.Keyword key.Enum
+IsWord (word.Tag start end) t = (t.kind ≡ kind.Name) × (t.start ≡ start) × (t.end ≡ end)
 
 abbrev pub storage_keyword : StorageWord → Keyword
 storage_keyword storage.Static = key.Static
@@ -239,26 +241,81 @@ IsTypeName word.Signed = ⊥
 IsTypeName word.Unsigned = ⊥
 IsTypeName word.Const = ⊥
 IsTypeName (word.TypeName start end) = Unit {0}
+IsTypeName word.Enum = ⊥
+IsTypeName (word.Tag start end) = ⊥
+
+abbrev pub IsTag : SpecifierWord → Type 0
+IsTag word.Void = ⊥
+IsTag word.Char = ⊥
+IsTag word.Short = ⊥
+IsTag word.Int = ⊥
+IsTag word.Long = ⊥
+IsTag word.Signed = ⊥
+IsTag word.Unsigned = ⊥
+IsTag word.Const = ⊥
+IsTag (word.TypeName start end) = ⊥
+IsTag word.Enum = ⊥
+IsTag (word.Tag start end) = Unit {0}
+
+-- a keyword that may stand beside any others
+abbrev pub IsKeyword : SpecifierWord → Type 0
+IsKeyword word.Void = Unit {0}
+IsKeyword word.Char = Unit {0}
+IsKeyword word.Short = Unit {0}
+IsKeyword word.Int = Unit {0}
+IsKeyword word.Long = Unit {0}
+IsKeyword word.Signed = Unit {0}
+IsKeyword word.Unsigned = Unit {0}
+IsKeyword word.Const = Unit {0}
+IsKeyword (word.TypeName start end) = ⊥
+IsKeyword word.Enum = ⊥
+IsKeyword (word.Tag start end) = ⊥
 
 abbrev pub AreKeywords : List Specifier → Type 0
 AreKeywords [] = Unit {0}
-AreKeywords (s ∷ more) = (¬ IsTypeName s.word) × AreKeywords more
+AreKeywords (s ∷ more) = IsKeyword s.word × AreKeywords more
 
 abbrev pub AreConst : List Specifier → Type 0
 AreConst [] = Unit {0}
 AreConst (s ∷ more) = (s.word ≡ word.Const) × AreConst more
 
--- a type name, with `const`s before it and after it
+-- a tag, and `const`s behind it
+abbrev pub AreTagged : List Specifier → Type 0
+AreTagged [] = ⊥
+AreTagged (s ∷ more) = IsTag s.word × AreConst more
+
+-- a type name, or `enum` with a tag, and `const`s behind it
+abbrev pub BeginNamed : SpecifierWord → List Specifier → Type 0
+BeginNamed w more = (IsTypeName w × AreConst more) ⊎ ((w ≡ word.Enum) × AreTagged more)
+
+-- the same, with `const`s before it too
 abbrev pub AreNamed : List Specifier → Type 0
 AreNamed [] = ⊥
-AreNamed (s ∷ more) = (IsTypeName s.word × AreConst more) ⊎ ((s.word ≡ word.Const) × AreNamed more)
+AreNamed (s ∷ more) = BeginNamed s.word more ⊎ ((s.word ≡ word.Const) × AreNamed more)
 
--- keywords, or one type name with `const`s around it
+-- keywords, or one type name or `enum` with a tag, with `const`s around it (C99 6.7.2)
 abbrev pub GoTogether : List Specifier → Type 0
 GoTogether words = AreKeywords words ⊎ AreNamed words
 
+-- a tag, or nothing
+abbrev pub IsOptionalTag : List Specifier → Type 0
+IsOptionalTag [] = Unit {0}
+IsOptionalTag (s ∷ []) = IsTag s.word
+IsOptionalTag (s ∷ t ∷ more) = ⊥
+
+-- what stands before the braces of an enumeration: `enum` and perhaps a tag, with `const`s before them
+abbrev pub AreBeforeBraces : List Specifier → Type 0
+AreBeforeBraces [] = ⊥
+AreBeforeBraces (s ∷ more) = ((s.word ≡ word.Enum) × IsOptionalTag more) ⊎ ((s.word ≡ word.Const) × AreBeforeBraces more)
+
+abbrev pub all_of : OneOrMore Specifier → List Specifier
+all_of s = s.first ∷ s.more
+
+abbrev pub words : OneOrMore Specifier → Language
+words s = specifier s.first ⊙ specifier_list s.more
+
 abbrev pub specifiers : OneOrMore Specifier → Language
-specifiers s = Where (GoTogether (s.first ∷ s.more)) (specifier s.first ⊙ specifier_list s.more)
+specifiers s = Where (GoTogether (all_of s)) (words s)
 
 unfoldable mutual
   -- how an expression is spelled, whatever its operators' strengths
@@ -306,6 +363,35 @@ abbrev pub optional : ℕ → Option ExpressionTree → Language
 optional level None = Nothing
 optional level (Some e) = Expression level e
 
+-- Enumerations
+
+-- the value that an enumerator is given, or none
+abbrev pub enumerator_value : Option ExpressionTree → Language
+enumerator_value None = Nothing
+enumerator_value (Some e) = punctuator mark.Assign ⊙ Expression conditional_expression e
+
+abbrev pub enumerator : EnumeratorTree → Language
+enumerator x = Identified x.name ⊙ enumerator_value x.value
+
+-- with commas between them
+abbrev pub more_enumerators : List EnumeratorTree → Language
+more_enumerators [] = Nothing
+more_enumerators (x ∷ more) = punctuator mark.Comma ⊙ enumerator x ⊙ more_enumerators more
+
+abbrev pub enumerators : OneOrMore EnumeratorTree → Language
+enumerators xs = enumerator xs.first ⊙ more_enumerators xs.more
+
+-- its braces, and the `const`s behind them
+abbrev pub braces : EnumerationTree → Language
+braces e =
+    punctuator mark.OpenBrace ⊙ enumerators e.enumerators ⊙ Optional (punctuator mark.Comma)
+    ⊙ punctuator mark.CloseBrace ⊙ specifier_list e.qualifiers
+
+-- the words of a type, and behind them the braces of an enumeration, where it has some
+abbrev pub type_words : OneOrMore Specifier → Option EnumerationTree → Language
+type_words s None = specifiers s
+type_words s (Some e) = Where (AreBeforeBraces (all_of s) × AreConst e.qualifiers) (words s ⊙ braces e)
+
 -- Declarations
 
 abbrev pub array_length : Option ExpressionTree → Language
@@ -328,11 +414,18 @@ abbrev pub more_declarators : List DeclaratorTree → Language
 more_declarators [] = Nothing
 more_declarators (d ∷ more) = punctuator mark.Comma ⊙ declarator d ⊙ more_declarators more
 
-abbrev pub declarators : OneOrMore DeclaratorTree → Language
-declarators d = declarator d.first ⊙ more_declarators d.more
+abbrev pub IsGiven : Option EnumerationTree → Type 0
+IsGiven None = ⊥
+IsGiven (Some e) = Unit {0}
+
+-- the names that are declared; an enumeration may stand alone
+abbrev pub declarators : Option EnumerationTree → List DeclaratorTree → Language
+declarators e [] = Where (IsGiven e) Nothing
+declarators e (d ∷ more) = declarator d ⊙ more_declarators more
 
 abbrev pub declared : DeclarationTree → Language
-declared d = specifiers d.specifiers ⊙ declarators d.declarators ⊙ punctuator mark.Semicolon
+declared d =
+    type_words d.specifiers d.enumeration ⊙ declarators d.enumeration d.declarators ⊙ punctuator mark.Semicolon
 
 -- Statements
 
@@ -363,6 +456,12 @@ test e = Inside (punctuator mark.OpenParenthesis ⊙ Expression any_expression e
 abbrev pub optional_static : Option Pos → Language
 optional_static None = Nothing
 optional_static (Some at) = keyword_at key.Static at
+
+-- behind `static` a name is declared
+abbrev pub HasName : Option Pos → List DeclaratorTree → Type 0
+HasName None ds = Unit {0}
+HasName (Some at) [] = ⊥
+HasName (Some at) (d ∷ ds) = Unit {0}
 
 abbrev pub for_start : ForStartTree → Language
 for_start (declaration d) = declared d
@@ -400,7 +499,8 @@ unfoldable mutual
   -- the declarations and statements of a block
   pub block_items : ItemTrees → Language
   block_items no_items = Nothing
-  block_items (declaration_then s d items) = optional_static s ⊙ declared d ⊙ block_items items
+  block_items (declaration_then s d items) =
+      Where (HasName s d.declarators) (optional_static s ⊙ declared d ⊙ block_items items)
   block_items (statement_then s items) = statement s ⊙ block_items items
 
 -- External definitions
@@ -450,7 +550,7 @@ external (function f) =
     ⊙ function_end f.body
 external (objects s d) = stored s ⊙ declared d
 external (type_names d) =
-    keyword key.Typedef ⊙ specifiers d.specifiers ⊙ names d.names ⊙ punctuator mark.Semicolon
+    keyword key.Typedef ⊙ type_words d.specifiers d.enumeration ⊙ names d.names ⊙ punctuator mark.Semicolon
 
 abbrev pub externals : List ExternalTree → Language
 externals [] = Nothing

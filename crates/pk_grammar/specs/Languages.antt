@@ -1,5 +1,5 @@
 -- Languages: lists of tokens with their nesting.
-use Rattle.std.specs.Prelude.{◌≡◌, ℕ, ◌+◌, ◌⊎◌, List, [], ◌∷◌, ◌++◌}
+use Rattle.std.specs.Prelude.{◌≡◌, ℕ, ◌+◌, ◌⊎◌, false, List, [], ◌∷◌, ◌++◌}
 use Rattle.pk_ctypes.specs.declared.places.Pos.{Pos}
 use Rattle.pk_lex.specs.declared.token.Token.{Token}
 use Rattle.pk_lex.specs.declared.token.Kind.{Kind}
@@ -33,7 +33,7 @@ abbrev pub Any : Kind → Language
 Any k = One (λ t. t.kind ≡ k)
 
 abbrev pub identifier_of : Token → Identifier
-identifier_of t = record { start = t.start; end = t.end; at = t.at }
+identifier_of t = record { start = t.start; end = t.end; at = t.at; is_tag = false }
 
 abbrev pub Identified : Identifier → Language
 Identified id = One (λ t. (t.kind ≡ Name) × (identifier_of t ≡ id))

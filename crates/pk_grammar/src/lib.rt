@@ -9,7 +9,8 @@ mod states;
 pub use failure::ParseError;
 pub use laws::{names_are_tokens, nestings_are_determined, units_are_determined};
 pub use signs::{
-    Fixed, OperandStart, Operator, StatementStart, all_const, following_word, has_type_name, is,
-    is_void_word, operand_start, operator_of, specifier_word, statement_start, storage_word,
+    Fixed, OperandStart, Operator, Shape, StatementStart, following_word, is, is_void_word,
+    operand_start, operator_of, specifier_word, statement_start, storage_word, takes_braces,
+    wants_tag, with_word,
 };
 pub use states::Testing;

@@ -1,6 +1,6 @@
 // What a token's kind tells the parser.
 
-ghost use Rattle.std.specs.Prelude.{◌≡◌, ◌&&◌, ◌||◌};
+ghost use Rattle.std.specs.Prelude.{◌≡◌};
 ghost use Rattle.pk_grammar.specs.Machine.Signs as signs;
 
 use crate::states::Testing;
@@ -30,6 +30,22 @@ pub enum Fixed {
     Other,
     Typedef,
     Static,
+    Const,
+}
+
+/// What words of a type are, as far as it decides what may stand behind them.
+#[derive(Clone, Copy)]
+pub enum Shape {
+    /// `const` alone, or nothing.
+    Consts,
+    /// Keywords, some of which aren't `const`.
+    Keywords,
+    /// `enum`, perhaps behind `const`s.
+    Enum,
+    /// `enum` and a tag, perhaps behind `const`s.
+    Tagged,
+    /// A type name, or `enum` and a tag with a `const` behind it.
+    Named,
 }
 
 /// What an operand begins with.
@@ -82,6 +98,7 @@ fn fixed_of(kind: Kind) -> Fixed
         Kind::Keyword(Keyword::While) => Fixed::While,
         Kind::Keyword(Keyword::Typedef) => Fixed::Typedef,
         Kind::Keyword(Keyword::Static) => Fixed::Static,
+        Kind::Keyword(Keyword::Const) => Fixed::Const,
         Kind::Punctuator(Punctuator::OpenParenthesis) => Fixed::OpenParenthesis,
         Kind::Punctuator(Punctuator::CloseParenthesis) => Fixed::CloseParenthesis,
         Kind::Punctuator(Punctuator::OpenBracket) => Fixed::OpenBracket,
@@ -118,6 +135,7 @@ fn number(fixed: Fixed) -> u8
         Fixed::Other => 14,
         Fixed::Typedef => 15,
         Fixed::Static => 16,
+        Fixed::Const => 17,
     }
 }
 
@@ -144,51 +162,112 @@ pub fn specifier_word(token: Token) -> Option<SpecifierWord>
         Kind::Keyword(Keyword::Signed) => Some(SpecifierWord::Signed),
         Kind::Keyword(Keyword::Unsigned) => Some(SpecifierWord::Unsigned),
         Kind::Keyword(Keyword::Const) => Some(SpecifierWord::Const),
+        Kind::Keyword(Keyword::Enum) => Some(SpecifierWord::Enum),
         _ => None,
     }
 }
 
-// Whether a word may follow others, which are `const`s alone or not, and among which a type name is or not.
-fn follows(consts: bool, named: bool, word: SpecifierWord) -> bool
-    ensures { result ≡ signs.follows consts named word }
+/// Whether a tag has to stand behind words, or the braces of an enumeration.
+pub fn wants_tag(shape: Shape) -> bool
+    ensures { result ≡ signs.wants_tag shape }
 {
-    match word {
-        SpecifierWord::Const => true,
-        SpecifierWord::TypeName { .. } => consts,
-        _ => !named,
+    match shape {
+        Shape::Enum => true,
+        Shape::Consts => false,
+        Shape::Keywords => false,
+        Shape::Tagged => false,
+        Shape::Named => false,
     }
 }
 
-/// The word of a type that a token is, where it may follow others. These are `const`s alone or not, and a type name is among
-/// them or not.
-pub fn following_word(consts: bool, named: bool, token: Token) -> Option<SpecifierWord>
-    ensures { result ≡ signs.following_word consts named token }
+/// Whether the braces of an enumeration may stand behind words.
+pub fn takes_braces(shape: Shape) -> bool
+    ensures { result ≡ signs.takes_braces shape }
 {
+    match shape {
+        Shape::Enum => true,
+        Shape::Tagged => true,
+        Shape::Consts => false,
+        Shape::Keywords => false,
+        Shape::Named => false,
+    }
+}
+
+// Whether a word may follow words of this shape.
+fn follows(shape: Shape, word: SpecifierWord) -> bool
+    ensures { result ≡ signs.follows shape word }
+{
+    match shape {
+        Shape::Consts => match word {
+            SpecifierWord::Tag { .. } => false,
+            _ => true,
+        },
+        Shape::Keywords => match word {
+            SpecifierWord::TypeName { .. } => false,
+            SpecifierWord::Enum => false,
+            SpecifierWord::Tag { .. } => false,
+            _ => true,
+        },
+        Shape::Enum => match word {
+            SpecifierWord::Tag { .. } => true,
+            _ => false,
+        },
+        Shape::Tagged => match word {
+            SpecifierWord::Const => true,
+            _ => false,
+        },
+        Shape::Named => match word {
+            SpecifierWord::Const => true,
+            _ => false,
+        },
+    }
+}
+
+/// The word of a type that a token is, where it may follow words of this shape.
+pub fn following_word(shape: Shape, token: Token) -> Option<SpecifierWord>
+    ensures { result ≡ signs.following_word shape token }
+{
+    if wants_tag(shape) {
+        return tag_word(token);
+    }
     let word = specifier_word(token)?;
-    if follows(consts, named, word) {
+    if follows(shape, word) {
         Some(word)
     } else {
         None
     }
 }
 
-/// Whether words are all `const`, where those before the last are or not.
-pub fn all_const(before: bool, last: SpecifierWord) -> bool
-    ensures { result ≡ (before && signs.is_const_word last) }
+// The tag that a token is behind `enum`.
+fn tag_word(token: Token) -> Option<SpecifierWord>
+    ensures { result ≡ signs.tag_word token }
 {
-    match last {
-        SpecifierWord::Const => before,
-        _ => false,
+    if is(token.kind, Fixed::Name) {
+        Some(SpecifierWord::Tag {
+            start: token.start,
+            end: token.end,
+        })
+    } else {
+        None
     }
 }
 
-/// Whether a type name is among words, where one is among those before the last or not.
-pub fn has_type_name(before: bool, last: SpecifierWord) -> bool
-    ensures { result ≡ (before || signs.is_type_name last) }
+/// What words are with one more.
+pub fn with_word(shape: Shape, word: SpecifierWord) -> Shape
+    ensures { result ≡ signs.with_word shape word }
 {
-    match last {
-        SpecifierWord::TypeName { .. } => true,
-        _ => before,
+    match shape {
+        Shape::Consts => match word {
+            SpecifierWord::Const => Shape::Consts,
+            SpecifierWord::TypeName { .. } => Shape::Named,
+            SpecifierWord::Enum => Shape::Enum,
+            SpecifierWord::Tag { .. } => Shape::Named,
+            _ => Shape::Keywords,
+        },
+        Shape::Keywords => Shape::Keywords,
+        Shape::Enum => Shape::Tagged,
+        Shape::Tagged => Shape::Named,
+        Shape::Named => Shape::Named,
     }
 }
 

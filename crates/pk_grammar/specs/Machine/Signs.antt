@@ -1,5 +1,5 @@
 -- What a token's kind tells the parser.
-use Rattle.std.specs.Prelude.{ℕ, ◌==◌, ◌&&◌, ◌||◌, not, if◌then◌else◌, List, [], ◌∷◌, Option, Some, None, Bool, true, false}
+use Rattle.std.specs.Prelude.{ℕ, ◌==◌, if◌then◌else◌, List, [], ◌∷◌, Option, Some, None, Bool, true, false}
 use Rattle.pk_lex.specs.declared.token.Token.{Token}
 use Rattle.pk_lex.specs.declared.token.Kind.{Kind}
 use Rattle.pk_lex.specs.declared.token.Kind.TheVariants as kind
@@ -19,6 +19,8 @@ use Rattle.pk_ast.specs.declared.operators.AssignmentOperator.TheVariants as asg
 use Rattle.pk_grammar.specs.declared.states.Testing.TheVariants as testing
 use Rattle.pk_grammar.specs.declared.signs.Fixed.{Fixed}
 use Rattle.pk_grammar.specs.declared.signs.Fixed.TheVariants as fixed
+use Rattle.pk_grammar.specs.declared.signs.Shape.{Shape}
+use Rattle.pk_grammar.specs.declared.signs.Shape.TheVariants as shape
 use Rattle.pk_grammar.specs.declared.signs.OperandStart.{OperandStart}
 use Rattle.pk_grammar.specs.declared.signs.OperandStart.TheVariants as start
 use Rattle.pk_grammar.specs.declared.signs.Operator.{Operator}
@@ -44,6 +46,7 @@ fixed_number fixed.End = 13
 fixed_number fixed.Other = 14
 fixed_number fixed.Typedef = 15
 fixed_number fixed.Static = 16
+fixed_number fixed.Const = 17
 
 -- What a punctuator is: the token of a construct; what begins an operand; what comes after one; what begins a statement
 pub record PunctuatorSigns : Type 0 where
@@ -120,13 +123,13 @@ keyword_signs key.Auto = word_signs fixed.Other None None first.Other
 keyword_signs key.Break = word_signs fixed.Other None None first.Break
 keyword_signs key.Case = word_signs fixed.Other None None first.Case
 keyword_signs key.Char = word_signs fixed.Other (Some word.Char) None first.Other
-keyword_signs key.Const = word_signs fixed.Other (Some word.Const) None first.Other
+keyword_signs key.Const = word_signs fixed.Const (Some word.Const) None first.Other
 keyword_signs key.Continue = word_signs fixed.Other None None first.Continue
 keyword_signs key.Default = word_signs fixed.Other None None first.Default
 keyword_signs key.Do = word_signs fixed.Other None None first.Do
 keyword_signs key.Double = word_signs fixed.Other None None first.Other
 keyword_signs key.Else = word_signs fixed.Else None None first.Other
-keyword_signs key.Enum = word_signs fixed.Other None None first.Other
+keyword_signs key.Enum = word_signs fixed.Other (Some word.Enum) None first.Other
 keyword_signs key.Extern = word_signs fixed.Other None (Some storage.Extern) first.Other
 keyword_signs key.Float = word_signs fixed.Other None None first.Other
 keyword_signs key.For = word_signs fixed.Other None None first.For
@@ -192,55 +195,98 @@ specifier_in kind.End from to = None
 abbrev pub specifier_word : Token → Option SpecifierWord
 specifier_word t = specifier_in t.kind t.start t.end
 
--- a word may follow others, which are `const`s alone or not, and among which a type name is or not
-abbrev pub follows : (consts named : Bool) → SpecifierWord → Bool
-follows consts named word.Void = not named
-follows consts named word.Char = not named
-follows consts named word.Short = not named
-follows consts named word.Int = not named
-follows consts named word.Long = not named
-follows consts named word.Signed = not named
-follows consts named word.Unsigned = not named
-follows consts named word.Const = true
-follows consts named (word.TypeName from to) = consts
+-- words after which a keyword may stand, or any `const`; words that are all `const`
+abbrev pub takes_keyword : Shape → Bool
+takes_keyword shape.Consts = true
+takes_keyword shape.Keywords = true
+takes_keyword shape.Enum = false
+takes_keyword shape.Tagged = false
+takes_keyword shape.Named = false
 
-abbrev pub where_it_follows : (consts named : Bool) → Option SpecifierWord → Option SpecifierWord
-where_it_follows consts named None = None
-where_it_follows consts named (Some w) = if follows consts named w then Some w else None
+abbrev pub takes_const : Shape → Bool
+takes_const shape.Consts = true
+takes_const shape.Keywords = true
+takes_const shape.Enum = false
+takes_const shape.Tagged = true
+takes_const shape.Named = true
 
--- the word of a type that a token is, where it may follow such others
-abbrev pub following_word : (consts named : Bool) → Token → Option SpecifierWord
-following_word consts named t = where_it_follows consts named (specifier_word t)
+abbrev pub is_consts : Shape → Bool
+is_consts shape.Consts = true
+is_consts shape.Keywords = false
+is_consts shape.Enum = false
+is_consts shape.Tagged = false
+is_consts shape.Named = false
 
-abbrev pub is_const_word : SpecifierWord → Bool
-is_const_word word.Void = false
-is_const_word word.Char = false
-is_const_word word.Short = false
-is_const_word word.Int = false
-is_const_word word.Long = false
-is_const_word word.Signed = false
-is_const_word word.Unsigned = false
-is_const_word word.Const = true
-is_const_word (word.TypeName from to) = false
+-- words behind which a tag has to stand, or the braces of an enumeration
+abbrev pub wants_tag : Shape → Bool
+wants_tag shape.Consts = false
+wants_tag shape.Keywords = false
+wants_tag shape.Enum = true
+wants_tag shape.Tagged = false
+wants_tag shape.Named = false
 
-abbrev pub is_type_name : SpecifierWord → Bool
-is_type_name word.Void = false
-is_type_name word.Char = false
-is_type_name word.Short = false
-is_type_name word.Int = false
-is_type_name word.Long = false
-is_type_name word.Signed = false
-is_type_name word.Unsigned = false
-is_type_name word.Const = false
-is_type_name (word.TypeName from to) = true
+-- words behind which the braces of an enumeration may stand
+abbrev pub takes_braces : Shape → Bool
+takes_braces shape.Consts = false
+takes_braces shape.Keywords = false
+takes_braces shape.Enum = true
+takes_braces shape.Tagged = true
+takes_braces shape.Named = false
 
-abbrev pub all_const : List Specifier → Bool
-all_const [] = true
-all_const (s ∷ more) = is_const_word s.word && all_const more
+-- a word may follow words of this shape
+abbrev pub follows : Shape → SpecifierWord → Bool
+follows s word.Void = takes_keyword s
+follows s word.Char = takes_keyword s
+follows s word.Short = takes_keyword s
+follows s word.Int = takes_keyword s
+follows s word.Long = takes_keyword s
+follows s word.Signed = takes_keyword s
+follows s word.Unsigned = takes_keyword s
+follows s word.Const = takes_const s
+follows s (word.TypeName from to) = is_consts s
+follows s word.Enum = is_consts s
+follows s (word.Tag from to) = wants_tag s
 
-abbrev pub has_type_name : List Specifier → Bool
-has_type_name [] = false
-has_type_name (s ∷ more) = is_type_name s.word || has_type_name more
+-- what words are with one more
+abbrev pub after_consts : SpecifierWord → Shape
+after_consts word.Void = shape.Keywords
+after_consts word.Char = shape.Keywords
+after_consts word.Short = shape.Keywords
+after_consts word.Int = shape.Keywords
+after_consts word.Long = shape.Keywords
+after_consts word.Signed = shape.Keywords
+after_consts word.Unsigned = shape.Keywords
+after_consts word.Const = shape.Consts
+after_consts (word.TypeName from to) = shape.Named
+after_consts word.Enum = shape.Enum
+after_consts (word.Tag from to) = shape.Named
+
+abbrev pub with_word : Shape → SpecifierWord → Shape
+with_word shape.Consts w = after_consts w
+with_word shape.Keywords w = shape.Keywords
+with_word shape.Enum w = shape.Tagged
+with_word shape.Tagged w = shape.Named
+with_word shape.Named w = shape.Named
+
+abbrev pub with_words : Shape → List Specifier → Shape
+with_words s [] = s
+with_words s (w ∷ more) = with_words (with_word s w.word) more
+
+-- what these words are
+abbrev pub shape_of : List Specifier → Shape
+shape_of words = with_words shape.Consts words
+
+abbrev pub where_it_follows : Shape → Option SpecifierWord → Option SpecifierWord
+where_it_follows s None = None
+where_it_follows s (Some w) = if follows s w then Some w else None
+
+-- the tag that a token is behind `enum`
+abbrev pub tag_word : Token → Option SpecifierWord
+tag_word t = if is_fixed fixed.Name t.kind then Some (word.Tag t.start t.end) else None
+
+-- the word of a type that a token is, where it may follow words of this shape
+abbrev pub following_word : Shape → Token → Option SpecifierWord
+following_word s t = if wants_tag s then tag_word t else where_it_follows s (specifier_word t)
 
 abbrev pub is_void_word : SpecifierWord → Bool
 is_void_word word.Void = true
@@ -252,6 +298,8 @@ is_void_word word.Signed = false
 is_void_word word.Unsigned = false
 is_void_word word.Const = false
 is_void_word (word.TypeName from to) = false
+is_void_word word.Enum = false
+is_void_word (word.Tag from to) = false
 
 abbrev pub storage_word : Kind → Option StorageWord
 storage_word kind.Name = None

@@ -8,7 +8,7 @@ use Rattle.pk_ast.specs.declared.operators.UnaryOperator.{UnaryOperator}
 use Rattle.pk_ast.specs.declared.operators.StepOperator.{StepOperator}
 use Rattle.pk_ast.specs.declared.operators.AssignmentOperator.{AssignmentOperator}
 use Rattle.pk_ast.specs.declared.units.Storage.{Storage}
-use Rattle.pk_ast.specs.Trees.{OneOrMore, ExpressionTree, ExpressionTrees, DeclaratorTree, ForStartTree, StatementTree, ItemTrees, ParameterTree, ExternalTree}
+use Rattle.pk_ast.specs.Trees.{OneOrMore, ExpressionTree, ExpressionTrees, DeclaratorTree, EnumeratorTree, EnumerationTree, ForStartTree, StatementTree, ItemTrees, ParameterTree, ExternalTree}
 use Rattle.pk_grammar.specs.declared.states.Testing.{Testing}
 
 -- a function of which everything before its parameters was read, and what stands before it
@@ -47,13 +47,32 @@ pub data Site : Type 0 where
 pub record Declaring : Type 0 where
   pub site : Site
   pub specifiers : OneOrMore Specifier
+  pub enumeration : Option EnumerationTree
   pub declarators : List DeclaratorTree
 
 -- the same, behind a declarator
 pub record Declared : Type 0 where
   pub site : Site
   pub specifiers : OneOrMore Specifier
+  pub enumeration : Option EnumerationTree
   pub declarators : OneOrMore DeclaratorTree
+
+-- where an enumeration's braces stand: in a declaration, or in one of type names
+pub data EnumerationSite : Type 0 where
+  in_declaration : Site → EnumerationSite
+  in_typedef : List ExternalTree → EnumerationSite
+
+-- an enumeration, and the enumerators read so far, behind which another one is to come
+pub record Enumerating : Type 0 where
+  pub site : EnumerationSite
+  pub specifiers : OneOrMore Specifier
+  pub enumerators : List EnumeratorTree
+
+-- the same, behind an enumerator
+pub record Enumerated : Type 0 where
+  pub site : EnumerationSite
+  pub specifiers : OneOrMore Specifier
+  pub enumerators : OneOrMore EnumeratorTree
 
 -- a declarator whose name was read, and its length
 pub record Naming : Type 0 where
@@ -74,6 +93,7 @@ pub data Purpose : Type 0 where
   as_length : Declaring → Identifier → Purpose
   as_value : Naming → Purpose
   as_item : Naming → Pos → ExpressionTrees → Purpose
+  as_enumerator : Enumerating → Identifier → Purpose
 
 -- what an expression that is being read is part of; the numbers are the nesting outside
 pub data Context : Type 0 where
@@ -97,8 +117,12 @@ pub data State : Type 0 where
   -- in a declaration of type names
   after_typedef : List ExternalTree → State
   type_specifiers : List ExternalTree → OneOrMore Specifier → State
-  after_type_name : List ExternalTree → OneOrMore Specifier → OneOrMore Identifier → State
-  type_name_comma : List ExternalTree → OneOrMore Specifier → OneOrMore Identifier → State
+  after_type_name : List ExternalTree → OneOrMore Specifier → Option EnumerationTree → OneOrMore Identifier → State
+  type_name_comma : List ExternalTree → OneOrMore Specifier → Option EnumerationTree → OneOrMore Identifier → State
+  -- in an enumeration, where an enumerator may come, behind its name, and behind its braces
+  at_enumerator : Enumerating → State
+  after_enumerator_name : Enumerating → Identifier → State
+  after_braces : EnumerationSite → OneOrMore Specifier → EnumerationTree → State
   -- in a declaration
   after_specifiers : Site → OneOrMore Specifier → State
   after_name : Declaring → Identifier → State

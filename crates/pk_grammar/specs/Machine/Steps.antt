@@ -4,13 +4,14 @@ use Rattle.pk_ctypes.specs.declared.places.Pos.{Pos}
 use Rattle.pk_lex.specs.declared.token.Token.{Token}
 use Rattle.pk_ast.specs.declared.declarations.Specifier.{Specifier}
 use Rattle.pk_ast.specs.declared.declarations.SpecifierWord.{SpecifierWord}
+use Rattle.pk_ast.specs.declared.declarations.SpecifierWord.TheVariants as word
 use Rattle.pk_ast.specs.declared.expressions.Identifier.{Identifier}
 use Rattle.pk_ast.specs.declared.operators.BinaryOperator.{BinaryOperator}
 use Rattle.pk_ast.specs.declared.operators.AssignmentOperator.{AssignmentOperator}
 use Rattle.pk_ast.specs.declared.units.Storage.{Storage}
 use Rattle.pk_ast.specs.declared.units.StorageWord.{StorageWord}
 use Rattle.pk_ast.specs.Lists.{one, with_last, ended}
-use Rattle.pk_ast.specs.Trees.{OneOrMore, ExpressionTree, name, call, index, constant, character, parenthesized, postfix, prefix, unary, cast, binary, conditional, assignment, comma, ExpressionTrees, no_expressions, expression_then, InitializerTree, single, braced, DeclaratorTree, DeclarationTree, declaration, expression, StatementTree, block, empty, expression_statement, label, case, default, if_then, if_else, switch, while, do_while, for_loop, goto, continue, break, return, ItemTrees, no_items, declaration_then, statement_then, ParameterTree, ExternalTree, function, objects, type_names}
+use Rattle.pk_ast.specs.Trees.{OneOrMore, ExpressionTree, name, call, index, constant, character, parenthesized, postfix, prefix, unary, cast, binary, conditional, assignment, comma, ExpressionTrees, no_expressions, expression_then, InitializerTree, single, braced, DeclaratorTree, EnumeratorTree, EnumerationTree, DeclarationTree, declaration, expression, StatementTree, block, empty, expression_statement, label, case, default, if_then, if_else, switch, while, do_while, for_loop, goto, continue, break, return, ItemTrees, no_items, declaration_then, statement_then, ParameterTree, ExternalTree, function, objects, type_names}
 use Rattle.pk_grammar.specs.declared.states.Testing.{Testing}
 use Rattle.pk_grammar.specs.declared.states.Testing.TheVariants as testing
 use Rattle.pk_grammar.specs.declared.signs.Fixed.{Fixed}
@@ -22,9 +23,9 @@ use Rattle.pk_grammar.specs.declared.signs.Operator.TheVariants as operator
 use Rattle.pk_grammar.specs.declared.signs.StatementStart.{StatementStart}
 use Rattle.pk_grammar.specs.declared.signs.StatementStart.TheVariants as first
 use Rattle.pk_grammar.specs.Languages.{identifier_of}
-use Rattle.pk_grammar.specs.Grammar.{any_expression, assignment_expression, conditional_expression, strength, weakest_operator, cast_expression, unary_expression, operators_in, postfixes_in, commas_in}
-use Rattle.pk_grammar.specs.Machine.Signs.{is_fixed, operand_start, operator_of, specifier_word, follows, following_word, all_const, has_type_name, storage_word, statement_start, is_void_word}
-use Rattle.pk_grammar.specs.Machine.States.{Head, OpenBlock, function_block, inner_block, Outer, in_block, in_label, in_case, in_default, in_if, in_else, in_switch, in_while, in_do, in_for, Site, in_a_block, in_a_for, outside, Declaring, Declared, Naming, Purpose, as_statement, as_label, as_test, as_last_test, as_first, as_second, as_third, as_result, as_length, as_value, as_item, Context, as_whole, in_parentheses, in_index, in_call, in_prefix, in_unary, in_cast, in_binary, in_choice, in_alternative, in_assignment, in_comma, State, top, after_storage, after_typedef, type_specifiers, after_type_name, type_name_comma, after_specifiers, after_name, after_length, after_assign, after_brace, after_item, after_initializer, after_comma, parameters_open, parameter_specifiers, parameter_name, parameter_comma, parameters_closed, block_item, after_static, at_statement, after_statement, test_open, do_open, for_open, for_first, for_second, for_third, default_colon, goto_name, returning, statement_end, operand, named, arguments, opened, cast_specifiers, complete}
+use Rattle.pk_grammar.specs.Grammar.{all_of, any_expression, assignment_expression, conditional_expression, strength, weakest_operator, cast_expression, unary_expression, operators_in, postfixes_in, commas_in}
+use Rattle.pk_grammar.specs.Machine.Signs.{is_fixed, operand_start, operator_of, specifier_word, follows, following_word, shape_of, wants_tag, takes_braces, storage_word, statement_start, is_void_word}
+use Rattle.pk_grammar.specs.Machine.States.{Head, OpenBlock, function_block, inner_block, Outer, in_block, in_label, in_case, in_default, in_if, in_else, in_switch, in_while, in_do, in_for, Site, in_a_block, in_a_for, outside, Declaring, Declared, Naming, EnumerationSite, in_declaration, in_typedef, Enumerating, Enumerated, Purpose, as_statement, as_label, as_test, as_last_test, as_first, as_second, as_third, as_result, as_length, as_value, as_item, as_enumerator, Context, as_whole, in_parentheses, in_index, in_call, in_prefix, in_unary, in_cast, in_binary, in_choice, in_alternative, in_assignment, in_comma, State, top, after_storage, after_typedef, type_specifiers, after_type_name, type_name_comma, at_enumerator, after_enumerator_name, after_braces, after_specifiers, after_name, after_length, after_assign, after_brace, after_item, after_initializer, after_comma, parameters_open, parameter_specifiers, parameter_name, parameter_comma, parameters_closed, block_item, after_static, at_statement, after_statement, test_open, do_open, for_open, for_first, for_second, for_third, default_colon, goto_name, returning, statement_end, operand, named, arguments, opened, cast_specifiers, complete}
 
 -- what becomes of a state at a token: it is taken, nested so deep; or refused; or it is the end of a text
 pub data Verdict : Type 0 where
@@ -67,6 +68,10 @@ site_nesting (in_a_block b s) = block_nesting b
 site_nesting (in_a_for n at o) = n + 2
 site_nesting (outside before s) = 0
 
+abbrev pub enumeration_nesting : EnumerationSite → ℕ
+enumeration_nesting (in_declaration s) = site_nesting s
+enumeration_nesting (in_typedef before) = 0
+
 abbrev pub with_statement : OpenBlock → StatementTree → OpenBlock
 with_statement (function_block h ps at items) s = function_block h ps at (one_more_statement items s)
 with_statement (inner_block n at items o) s = inner_block n at (one_more_statement items s) o
@@ -82,11 +87,19 @@ specifier_at t w = record { word = w; at = t.at }
 
 -- the word may follow those read so far
 abbrev pub may_follow : OneOrMore Specifier → SpecifierWord → Bool
-may_follow done w = follows (all_const (done.first ∷ done.more)) (has_type_name (done.first ∷ done.more)) w
+may_follow done w = follows (shape_of (all_of done)) w
 
 -- the word of a type that the token is, where it may follow them
 abbrev pub next_word : OneOrMore Specifier → Token → Option SpecifierWord
-next_word done t = following_word (all_const (done.first ∷ done.more)) (has_type_name (done.first ∷ done.more)) t
+next_word done t = following_word (shape_of (all_of done)) t
+
+-- `enum` is the last of them, so they are no type yet
+abbrev pub end_in_enum : OneOrMore Specifier → Bool
+end_in_enum done = wants_tag (shape_of (all_of done))
+
+-- the braces of an enumeration may stand behind them
+abbrev pub may_open : OneOrMore Specifier → Bool
+may_open done = takes_braces (shape_of (all_of done))
 
 abbrev pub storage_at : Token → StorageWord → Storage
 storage_at t w = record { word = w; at = t.at }
@@ -106,6 +119,7 @@ purpose_level (as_result n at o) = any_expression
 purpose_level (as_length d id) = conditional_expression
 purpose_level (as_value d) = assignment_expression
 purpose_level (as_item d at es) = assignment_expression
+purpose_level (as_enumerator d id) = conditional_expression
 
 abbrev pub operand_level : Context → ℕ
 operand_level (as_whole p) = purpose_level p
@@ -170,13 +184,23 @@ abbrev pub at_operand : ℕ → Context → Token → Verdict
 at_operand n c t = begin_operand n c t (operand_start t.kind)
 
 abbrev pub with_declarator : Declaring → DeclaratorTree → Declared
-with_declarator d x = record { site = d.site; specifiers = d.specifiers; declarators = ended d.declarators x }
+with_declarator d x = record {
+  site = d.site;
+  specifiers = d.specifiers;
+  enumeration = d.enumeration;
+  declarators = ended d.declarators x;
+}
 
 abbrev pub with_initializer : Naming → Option InitializerTree → Declared
 with_initializer d i = with_declarator d.declaring (record { name = d.name; length = d.length; initializer = i })
 
 abbrev pub whole_declaration : Declared → DeclarationTree
-whole_declaration d = record { specifiers = d.specifiers; declarators = d.declarators }
+whole_declaration d =
+    record {
+      specifiers = d.specifiers;
+      enumeration = d.enumeration;
+      declarators = d.declarators.first ∷ d.declarators.more;
+    }
 
 -- a declaration has ended
 abbrev pub declared_at : Site → DeclarationTree → State
@@ -189,7 +213,12 @@ end_declaration d = taken (site_nesting d.site) (declared_at d.site (whole_decla
 
 abbrev pub goes_on_declaring : Declared → Declaring
 goes_on_declaring d =
-    record { site = d.site; specifiers = d.specifiers; declarators = d.declarators.first ∷ d.declarators.more }
+    record {
+      site = d.site;
+      specifiers = d.specifiers;
+      enumeration = d.enumeration;
+      declarators = d.declarators.first ∷ d.declarators.more;
+    }
 
 abbrev pub next_declarator : Declared → Verdict
 next_declarator d = taken (site_nesting d.site) (after_comma (goes_on_declaring d))
@@ -201,6 +230,38 @@ after_declarator d t =
 
 abbrev pub naming_nesting : Naming → ℕ
 naming_nesting d = site_nesting d.declaring.site
+
+-- Enumerations
+
+abbrev pub enumerating_nesting : Enumerating → ℕ
+enumerating_nesting d = enumeration_nesting d.site
+
+abbrev pub with_enumerator : Enumerating → Identifier → Option ExpressionTree → Enumerated
+with_enumerator d id e = record {
+  site = d.site;
+  specifiers = d.specifiers;
+  enumerators = ended d.enumerators (record { name = id; value = e });
+}
+
+-- behind the braces
+abbrev pub close_braces : Enumerated → Verdict
+close_braces d =
+    taken (enumeration_nesting d.site)
+    (after_braces d.site d.specifiers (record { enumerators = d.enumerators; qualifiers = [] }))
+
+abbrev pub next_enumerator : Enumerated → Verdict
+next_enumerator d =
+    taken (enumeration_nesting d.site)
+    (at_enumerator (record {
+      site = d.site;
+      specifiers = d.specifiers;
+      enumerators = d.enumerators.first ∷ d.enumerators.more;
+    }))
+
+-- after an enumerator: a comma, or the `}`
+abbrev pub after_enumerator : Enumerated → Token → Verdict
+after_enumerator d t =
+    if is_fixed fixed.Comma t.kind then next_enumerator d else wanted fixed.CloseBrace t (close_braces d)
 
 abbrev pub tested : Testing → ℕ → Pos → ExpressionTree → Outer → Outer
 tested testing.If n at e o = in_if n at e o
@@ -246,6 +307,8 @@ end_purpose (as_item d at es) e t =
     wanted fixed.CloseBrace t (taken (naming_nesting d)
     (after_initializer (with_initializer d (Some (braced at (first_item es e) (more_items es e))))))
 
+end_purpose (as_enumerator d id) e t = wanted fixed.CloseBrace t (close_braces (with_enumerator d id (Some e)))
+
 -- an expression ends at this token, which is no operator
 abbrev pub end_expression : ExpressionTree → Context → Token → Verdict
 end_expression e (as_whole p) t = end_purpose p e t
@@ -280,6 +343,7 @@ comma_purpose (as_result m at o) n e t = join_comma n e (as_whole (as_result m a
 comma_purpose (as_length d id) n e t = refused
 comma_purpose (as_value d) n e t = next_declarator (with_initializer d (Some (single e)))
 comma_purpose (as_item d at es) n e t = taken (naming_nesting d) (after_item d at (first_item es e) (more_items es e))
+comma_purpose (as_enumerator d id) n e t = next_enumerator (with_enumerator d id (Some e))
 
 abbrev pub comma_after : ℕ → ExpressionTree → Context → Token → Verdict
 comma_after n e (as_whole p) t = comma_purpose p n e t
@@ -361,7 +425,9 @@ at_opened n at c t = open_cast n at c t (specifier_word t)
 
 abbrev pub more_cast : ℕ → Pos → OneOrMore Specifier → Context → Token → Option SpecifierWord → Verdict
 more_cast n at specs c t (Some w) = taken (n + 1) (cast_specifiers n at (with_last specs (specifier_at t w)) c)
-more_cast n at specs c t None = wanted fixed.CloseParenthesis t (taken (n + 1) (operand (n + 1) (in_cast n at specs c)))
+more_cast n at specs c t None =
+    if end_in_enum specs then refused
+    else wanted fixed.CloseParenthesis t (taken (n + 1) (operand (n + 1) (in_cast n at specs c)))
 
 -- Statements
 
@@ -435,26 +501,89 @@ begin_for n at o t None =
 
 -- Declarations
 
+-- the first name, behind the words of a type and perhaps an enumeration
+abbrev pub first_name : Site → OneOrMore Specifier → Option EnumerationTree → Token → Verdict
+first_name s specs e t =
+    wanted fixed.Name t (taken (site_nesting s)
+    (after_name (record { site = s; specifiers = specs; enumeration = e; declarators = [] }) (identifier_of t)))
+
+-- the `{` of an enumeration
+abbrev pub open_braces : EnumerationSite → OneOrMore Specifier → Verdict
+open_braces s specs =
+    if may_open specs
+    then taken (enumeration_nesting s) (at_enumerator (record { site = s; specifiers = specs; enumerators = [] }))
+    else refused
+
 abbrev pub more_specifiers : Site → OneOrMore Specifier → Token → Option SpecifierWord → Verdict
 more_specifiers s specs t (Some w) = taken (site_nesting s) (after_specifiers s (with_last specs (specifier_at t w)))
 more_specifiers s specs t None =
-    wanted fixed.Name t (taken (site_nesting s)
-    (after_name (record { site = s; specifiers = specs; declarators = [] }) (identifier_of t)))
+    if is_fixed fixed.OpenBrace t.kind then open_braces (in_declaration s) specs else first_name s specs None t
+
+-- the `}` behind enumerators, the last of which a comma follows
+abbrev pub end_braces : EnumerationSite → OneOrMore Specifier → List EnumeratorTree → Token → Verdict
+end_braces s specs [] t = refused
+end_braces s specs (x ∷ xs) t =
+    wanted fixed.CloseBrace t
+    (close_braces (record { site = s; specifiers = specs; enumerators = record { first = x; more = xs } }))
+
+abbrev pub at_next_enumerator : Enumerating → Token → Verdict
+at_next_enumerator d t =
+    if is_fixed fixed.Name t.kind
+    then taken (enumerating_nesting d) (after_enumerator_name d (identifier_of t))
+    else end_braces d.site d.specifiers d.enumerators t
+
+abbrev pub at_enumerator_name : Enumerating → Identifier → Token → Verdict
+at_enumerator_name d id t =
+    if is_fixed fixed.Assign t.kind
+    then taken (enumerating_nesting d) (operand (enumerating_nesting d) (as_whole (as_enumerator d id)))
+    else after_enumerator (with_enumerator d id None) t
+
+-- an enumeration declares no object
+abbrev pub alone : OneOrMore Specifier → EnumerationTree → DeclarationTree
+alone specs e = record { specifiers = specs; enumeration = Some e; declarators = [] }
+
+-- an enumeration stands alone, but not behind the `static` of a block
+abbrev pub end_alone : Site → OneOrMore Specifier → EnumerationTree → Verdict
+end_alone (in_a_block b None) specs e =
+    taken (site_nesting (in_a_block b None)) (declared_at (in_a_block b None) (alone specs e))
+end_alone (in_a_block b (Some at)) specs e = refused
+end_alone (in_a_for n at o) specs e =
+    taken (site_nesting (in_a_for n at o)) (declared_at (in_a_for n at o) (alone specs e))
+end_alone (outside before s) specs e =
+    taken (site_nesting (outside before s)) (declared_at (outside before s) (alone specs e))
+
+-- what an enumeration is for goes on behind it
+abbrev pub behind_braces : EnumerationSite → OneOrMore Specifier → EnumerationTree → Token → Verdict
+behind_braces (in_declaration s) specs e t =
+    if is_fixed fixed.Semicolon t.kind then end_alone s specs e else first_name s specs (Some e) t
+behind_braces (in_typedef before) specs e t =
+    wanted fixed.Name t (taken 0 (after_type_name before specs (Some e) (one (identifier_of t))))
+
+abbrev pub with_qualifier : EnumerationTree → Specifier → EnumerationTree
+with_qualifier e s = record { enumerators = e.enumerators; qualifiers = e.qualifiers ++ s ∷ [] }
+
+abbrev pub at_after_braces : EnumerationSite → OneOrMore Specifier → EnumerationTree → Token → Verdict
+at_after_braces s specs e t =
+    if is_fixed fixed.Const t.kind
+    then taken (enumeration_nesting s) (after_braces s specs (with_qualifier e (specifier_at t word.Const)))
+    else behind_braces s specs e t
 
 abbrev pub without_length : Declaring → Identifier → Naming
 without_length d id = record { declaring = d; name = id; length = None }
 
--- a function, where this is the first declarator of an external definition
-abbrev pub open_parameters : Site → OneOrMore Specifier → List DeclaratorTree → Identifier → Verdict
-open_parameters (in_a_block b s) specs ds id = refused
-open_parameters (in_a_for n at o) specs ds id = refused
-open_parameters (outside before s) specs [] id =
+-- a function, where this is the first declarator of an external definition and no enumeration is before it
+abbrev pub open_parameters : Site → OneOrMore Specifier → Option EnumerationTree → List DeclaratorTree → Identifier →
+    Verdict
+open_parameters (in_a_block b s) specs e ds id = refused
+open_parameters (in_a_for n at o) specs e ds id = refused
+open_parameters (outside before s) specs None [] id =
     taken 1 (parameters_open (record { before = before; storage = s; specifiers = specs; name = id }))
-open_parameters (outside before s) specs (d ∷ ds) id = refused
+open_parameters (outside before s) specs None (d ∷ ds) id = refused
+open_parameters (outside before s) specs (Some e) ds id = refused
 
 abbrev pub at_after_name : Declaring → Identifier → Token → Verdict
 at_after_name d id t =
-    if is_fixed fixed.OpenParenthesis t.kind then open_parameters d.site d.specifiers d.declarators id else
+    if is_fixed fixed.OpenParenthesis t.kind then open_parameters d.site d.specifiers d.enumeration d.declarators id else
     if is_fixed fixed.OpenBracket t.kind
     then taken (site_nesting d.site + 1) (operand (site_nesting d.site + 1) (as_whole (as_length d id))) else
     if is_fixed fixed.Assign t.kind then taken (site_nesting d.site) (after_assign (without_length d id)) else
@@ -497,12 +626,16 @@ begin_typedef before t None = refused
 
 abbrev pub more_typedef : List ExternalTree → OneOrMore Specifier → Token → Option SpecifierWord → Verdict
 more_typedef before specs t (Some w) = taken 0 (type_specifiers before (with_last specs (specifier_at t w)))
-more_typedef before specs t None = wanted fixed.Name t (taken 0 (after_type_name before specs (one (identifier_of t))))
+more_typedef before specs t None =
+    if is_fixed fixed.OpenBrace t.kind then open_braces (in_typedef before) specs
+    else wanted fixed.Name t (taken 0 (after_type_name before specs None (one (identifier_of t))))
 
-abbrev pub at_after_type_name : List ExternalTree → OneOrMore Specifier → OneOrMore Identifier → Token → Verdict
-at_after_type_name before specs ids t =
-    if is_fixed fixed.Comma t.kind then taken 0 (type_name_comma before specs ids) else
-    wanted fixed.Semicolon t (taken 0 (top (before ++ type_names (record { specifiers = specs; names = ids }) ∷ [])))
+abbrev pub at_after_type_name : List ExternalTree → OneOrMore Specifier → Option EnumerationTree →
+    OneOrMore Identifier → Token → Verdict
+at_after_type_name before specs e ids t =
+    if is_fixed fixed.Comma t.kind then taken 0 (type_name_comma before specs e ids) else
+    wanted fixed.Semicolon t
+    (taken 0 (top (before ++ type_names (record { specifiers = specs; enumeration = e; names = ids }) ∷ [])))
 
 abbrev pub begin_parameter : Head → List ParameterTree → Token → Option SpecifierWord → Verdict
 begin_parameter h ps t (Some w) = taken 1 (parameter_specifiers h ps (one (specifier_at t w)))
@@ -523,6 +656,7 @@ last_parameter (p ∷ ps) specs = (p ∷ ps) ++ record { specifiers = specs; nam
 abbrev pub more_parameter : Head → List ParameterTree → OneOrMore Specifier → Token → Option SpecifierWord → Verdict
 more_parameter h ps specs t (Some w) = taken 1 (parameter_specifiers h ps (with_last specs (specifier_at t w)))
 more_parameter h ps specs t None =
+    if end_in_enum specs then refused else
     if is_fixed fixed.Name t.kind
     then taken 1 (parameter_name h ps (record { specifiers = specs; name = Some (identifier_of t) })) else
     if is_fixed fixed.Comma t.kind
@@ -554,9 +688,12 @@ step (top before) t = storage_or_specifier before t (storage_word t.kind)
 step (after_storage before s) t = begin_external before (Some s) t (specifier_word t)
 step (after_typedef before) t = begin_typedef before t (specifier_word t)
 step (type_specifiers before specs) t = more_typedef before specs t (next_word specs t)
-step (after_type_name before specs ids) t = at_after_type_name before specs ids t
-step (type_name_comma before specs ids) t =
-    wanted fixed.Name t (taken 0 (after_type_name before specs (with_last ids (identifier_of t))))
+step (after_type_name before specs e ids) t = at_after_type_name before specs e ids t
+step (type_name_comma before specs e ids) t =
+    wanted fixed.Name t (taken 0 (after_type_name before specs e (with_last ids (identifier_of t))))
+step (at_enumerator d) t = at_next_enumerator d t
+step (after_enumerator_name d id) t = at_enumerator_name d id t
+step (after_braces s specs e) t = at_after_braces s specs e t
 step (after_specifiers s specs) t = more_specifiers s specs t (next_word specs t)
 step (after_name d id) t = at_after_name d id t
 step (after_length d) t = at_after_length d t
