@@ -125,7 +125,7 @@ module _ (last : Option Kind) (InBraces : Type 0) (in_braces : Bool) where
   found_word : (k : Keyword) (c : Construct) → (in_braces ≡ true → InBraces) → word_shows k in_braces ≡ Some c → Shows last InBraces (kind.Keyword k) c
   found_word key.Auto c h e = shown (kind.Keyword key.Auto) construct.Auto c e refl
   found_word key.Double c h e = shown (kind.Keyword key.Double) construct.Double c e refl
-  found_word key.Enum c h e = shown (kind.Keyword key.Enum) construct.Enum c e refl
+  found_word key.Enum c h e = absurd (cc)
   found_word key.Float c h e = shown (kind.Keyword key.Float) construct.Float c e refl
   found_word key.Inline c h e = shown (kind.Keyword key.Inline) construct.Inline c e refl
   found_word key.Register c h e = shown (kind.Keyword key.Register) construct.Register c e refl
@@ -182,6 +182,7 @@ module _ (last : Option Kind) (InBraces : Type 0) (in_braces : Bool) where
   designator_finds (Some k) h = elim h [ inl e ↦ ap (λ q. opening_shows (before_of q)) e | inr e ↦ ap (λ q. opening_shows (before_of q)) e ]
 
   pub finds : (k : Kind) (c : Construct) → (InBraces → in_braces ≡ true) → Shows last InBraces k c → kind_shows (before_next last) in_braces k ≡ Some c
+  finds k construct.Enum h s = absurd s
   finds k construct.Static h s = absurd s
   finds k construct.Typedef h s = ap (λ q. kind_shows (before_next last) in_braces q) s.0 ∙ ap (λ q. word_shows key.Typedef q) (h s.1)
   finds k construct.Pointer h s = elim s.0 [

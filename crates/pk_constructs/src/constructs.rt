@@ -54,7 +54,6 @@ fn word_shows(word: Keyword, in_braces: bool) -> Option<Construct>
         Keyword::Imaginary => Some(Construct::Imaginary),
         Keyword::Struct => Some(Construct::Struct),
         Keyword::Union => Some(Construct::Union),
-        Keyword::Enum => Some(Construct::Enum),
         Keyword::Volatile => Some(Construct::Volatile),
         Keyword::Restrict => Some(Construct::Restrict),
         Keyword::Inline => Some(Construct::Inline),
