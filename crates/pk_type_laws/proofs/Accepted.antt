@@ -3,6 +3,7 @@ pub mod Walks
 pub mod Forms
 pub mod Declarations
 pub mod Starts
+pub mod Enumerations
 pub mod Statics
 pub mod Statements
 pub mod Jumps

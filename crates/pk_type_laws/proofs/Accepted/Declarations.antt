@@ -6,13 +6,12 @@ use Rattle.std.specs.Prelude.{ℤ, pos, is_some, slice_get, unsigned_abs, ◌&&�
 use Rattle.pk_ctypes.proofs.Values.{test_le}
 use Rattle.std.proofs.lemmas.Int.{ints}
 use Rattle.std.specs.Option.{option_map}
-use Rattle.std.specs.Str.{bytes_eq}
 use Rattle.pk_ctypes.specs.declared.places.Pos.{Pos}
 use Rattle.pk_ctypes.specs.declared.types.IntType.{IntType}
 use Rattle.pk_ctypes.specs.declared.words.Rule.TheVariants as rule
 use Rattle.pk_ast.specs.declared.expressions.Identifier.{Identifier}
 use Rattle.pk_ast.specs.Places.{first_place_of}
-use Rattle.pk_ast.specs.Trees.{ExpressionTree, ExpressionTrees, no_expressions, expression_then, InitializerTree, single, braced, DeclaratorTree, DeclarationTree}
+use Rattle.pk_ast.specs.Trees.{ExpressionTree, ExpressionTrees, no_expressions, expression_then, InitializerTree, single, braced, DeclaratorTree}
 use Rattle.pk_typed.specs.declared.values.Variable.{Variable}
 use Rattle.pk_typed.specs.declared.values.Variable.TheVariants.{File, Local}
 use Rattle.pk_typed.specs.Trees as tree
@@ -25,24 +24,23 @@ use Rattle.pk_type_scope.specs.declared.declarations.Typing.{Typing}
 use Rattle.pk_type_scope.specs.declared.declarations.Typing.TheVariants.{Void, Integer, Unknown}
 use Rattle.pk_type_scope.specs.Declarations.{Names, HasTypes, is_void, is_unknown}
 use Rattle.pk_type_scope.specs.Failures.{fails_if, noted}
-use Rattle.pk_type_scope.specs.Scopes.{Scoping, Layer, names_in, opened, declaring, first_of, found_up, spelled}
-use Rattle.pk_type_scope.specs.Specifiers.{word_failures, type_named}
+use Rattle.pk_type_scope.specs.Scopes.{Scoping, Key, Layer, names_in, opened, declaring, first_of, found_up, key_of, is_same}
 use Rattle.pk_type_expression.specs.Laws.{IsTreeOf}
 use Rattle.pk_type_expression.specs.Rules.{void, failures, used_failures, count}
 use Rattle.pk_type_expression.specs.Typed.{EvaluatedTree, value, effect, value_of, of_both, typed, calls}
 use Rattle.pk_type_expression.specs.Types.{type_of}
-use Rattle.pk_type_expression.proofs.TreeLemmas.{accepted_expressions_have_trees, none_before, none_after, holds_not, types_are, known_type}
+use Rattle.pk_type_expression.proofs.TreeLemmas.{accepted_expressions_have_trees, none_before, none_after, holds_not}
 use Rattle.pk_type_constant.specs.declared.constants.Constant.{Constant}
 use Rattle.pk_type_constant.specs.declared.constants.Constant.TheVariants.{Number, Faulty, NotConstant}
 use Rattle.pk_type_constant.specs.Forms.{is_constant_form}
 use Rattle.pk_type_declaration.specs.declared.words.Words.{Words}
 use Rattle.pk_type_declaration.specs.Constants.{given_by, evaluated, is_refused, is_refused_length, is_outside, is_length, number_of, magnitude, length_in, after_constant, after_length}
-use Rattle.pk_type_declaration.specs.Declarations.{integer_in, type_or_int, object_at, at_name, redeclared, void_object, special_object, braces, surplus, surplus_item, item_at, after_initializer, length_at, after_optional_length, length_or_1, local_of, after_object, after_head, after_declarator, after_declarators, after_declaration, words_of, scalar_tree, array_tree, declarator_tree_at, declarator_trees_at, declaration_trees_at}
+use Rattle.pk_type_declaration.specs.Declarations.{integer_in, type_or_int, object_at, at_name, redeclared, void_object, special_object, braces, surplus, surplus_item, item_at, after_initializer, length_at, after_optional_length, length_or_1, local_of, after_object, after_head, after_declarator, after_declarators, scalar_tree, array_tree, declarator_tree_at, declarator_trees_at}
 use Rattle.pk_type_declaration.specs.Walks.{StaticsTree, here, failing, after_value, after_values, value_at, values_at}
 use Rattle.pk_welltyped.specs.Listed.{numbered, calls_in, calls_in_values, calls_in_declared, calls_in_all_declared, objects_in_declared, objects_in_all_declared}
 use Rattle.pk_welltyped.specs.WellTyped as good
 use Rattle.pk_welltyped.specs.WellTyped.{Around, IsObject, AreValues, kind_among, IsDeclared, AreDeclared, IsValueIf, AreValuesIf}
-use Rattle.pk_type_laws.specs.Accepted.Constants.{HasConstantsIf, InitializerHas, DeclaratorsHave, DeclarationHas}
+use Rattle.pk_type_laws.specs.Accepted.Constants.{HasConstantsIf, InitializerHas, DeclaratorsHave}
 use Rattle.pk_type_laws.specs.Accepted.Names.{ObjectIs, EnumeratorIs, CalleeIs, DeclarationIs, NamesAre}
 use Rattle.pk_type_laws.proofs.Accepted.Forms.{no_calls, Gives, Numeric, numeric}
 use Rattle.pk_type_laws.proofs.Accepted.Walks.{W, around, none_found, LaterStatics, statics_same, Later, later_same, later, later_failing, later_value, later_values, Steps, steps_none, steps, steps_as, ValuePart, ValuesPart, value_part, values_part}
@@ -105,22 +103,25 @@ names_later u ls w v d l h x =
     let is : length v.locals ≡ length w.locals + length l.more = ap length l.locals ∙ length-append w.locals l.more in
     declaration_later u ls (length w.locals) (length v.locals) (d x) (omega (is, arith)) (h x)
 
-picked : (a : Around) (b : Bool) (o : Declaration) (l other : Option Declaration) → DeclarationIs a (Some o) → DeclarationIs a (first_of l other) → DeclarationIs a (first_of (if b then Some o else l) other)
-picked a true o l other h k = h
-picked a false o l other h k = k
+picked : (P : Option Declaration → Type 0) (b : Bool) (o : Declaration) (l other : Option Declaration) → P (Some o) → P (first_of l other) → P (first_of (if b then Some o else l) other)
+picked P true o l other h k = h
+picked P false o l other h k = k
+
+-- what holds of each name in scope does so behind a declaration of which it holds
+pub all_declaring : (P : Option Declaration → Type 0) (s : Scoping) (x : Identifier) (o : Declaration) → ((y : Identifier) → P (names_in s y)) → P (Some o) → (y : Identifier) → P (names_in (declaring s x o) y)
+unfolding names_in
+all_declaring P s x o h k y = let q = key_of s.text y in picked P (is_same (key_of s.text x) q) o (s.inner q) (found_up s.outer q None) k (h y)
 
 pub names_declaring : (a : Around) (s : Scoping) (x : Identifier) (o : Declaration) → NamesAre a (names_in s) → DeclarationIs a (Some o) → NamesAre a (names_in (declaring s x o))
-unfolding names_in
-names_declaring a s x o h k y =
-    let q = spelled s.text y in picked a (bytes_eq (spelled s.text x) q) o (s.inner q) (found_up s.outer q None) k (h y)
+names_declaring a = all_declaring (DeclarationIs a)
 
-pub found_last : (ls : List Layer) (l : Layer) (q : List ℕ) (f : Option Declaration) → found_up (ls ++ l ∷ []) q f ≡ first_of (l q) (found_up ls q f)
+pub found_last : (ls : List Layer) (l : Layer) (q : Key) (f : Option Declaration) → found_up (ls ++ l ∷ []) q f ≡ first_of (l q) (found_up ls q f)
 found_last [] l q f = refl
 found_last (m ∷ ls) l q f = found_last ls l q (first_of (m q) f)
 
 pub names_opened : (a : Around) (s : Scoping) → NamesAre a (names_in s) → NamesAre a (names_in (opened s))
 unfolding names_in
-names_opened a s h y = subst (DeclarationIs a) (sym (found_last s.outer s.inner (spelled s.text y) None)) (h y)
+names_opened a s h y = subst (DeclarationIs a) (sym (found_last s.outer s.inner (key_of s.text y) None)) (h y)
 
 -- ---- places of the function's objects
 
@@ -216,7 +217,7 @@ length_of_number NotConstant h g = absurd g
 length_of : (b : Bool) (c : Constant) → (not b || is_outside c) ≡ false → Gives c → KnownLength (if not b || is_outside c then None else magnitude (number_of c))
 length_of b c h g = rw h (length_of_number c (or_right b (is_outside c) h) g)
 
-value_gives : (t : Typing) (e : Option EvaluatedTree) → IsTreeOf t e → is_void t ≡ false → Numeric e → Gives (given_by (value_of e))
+pub value_gives : (t : Typing) (e : Option EvaluatedTree) → IsTreeOf t e → is_void t ≡ false → Numeric e → Gives (given_by (value_of e))
 value_gives t None h v n = absurd h
 value_gives Void (Some (value v)) h p n = absurd h
 value_gives Void (Some (effect e)) h p n = absurd (false≢true (sym p))
@@ -372,15 +373,9 @@ unfolding after_declarators
 later_declarators words [] w = later_same w
 later_declarators words (d ∷ ds) w = later w (after_declarator noted words d w) _ (later_declarator words d w) (later_declarators words ds (after_declarator noted words d w))
 
-pub later_declaration : (d : DeclarationTree) (w : W) → Later w (after_declaration noted d w)
-unfolding after_declaration
-later_declaration d w =
-    let v = failing noted (word_failures (here w) d.specifiers) w in
-    later w v _ (later_failing (word_failures (here w) d.specifiers) w) (later_declarators (words_of (here w) d.specifiers) (d.declarators.first ∷ d.declarators.more) v)
-
 -- ---- declarators
 
-abbrev DeclaredPart : UnitTree → List LocalTree → W → W → Option DeclaredTree → Type 0
+abbrev pub DeclaredPart : UnitTree → List LocalTree → W → W → Option DeclaredTree → Type 0
 DeclaredPart u ls w v None = Unit {0}
 DeclaredPart u ls w v (Some t) = IsDeclared (around u ls w) t × Steps w v (calls_in_declared t) (objects_in_declared t)
 
@@ -459,7 +454,7 @@ pub record AllDeclaring (u : UnitTree) (ls : List LocalTree) (w v : W) (o : Opti
   pub names : NamesAre (around u ls v) (here v)
   pub part : AllDeclaredPart u ls w v o
 
-one_more : (u : UnitTree) (ls : List LocalTree) (w v x : W) (o : Option DeclaredTree) (os : Option (List DeclaredTree)) → DeclaredPart u ls w v o → AllDeclaredPart u ls v x os → AllDeclaredPart u ls w x (of_both (λ t ts. t ∷ ts) o os)
+pub one_more : (u : UnitTree) (ls : List LocalTree) (w v x : W) (o : Option DeclaredTree) (os : Option (List DeclaredTree)) → DeclaredPart u ls w v o → AllDeclaredPart u ls v x os → AllDeclaredPart u ls w x (of_both (λ t ts. t ∷ ts) o os)
 one_more u ls w v x None os p q = tt
 one_more u ls w v x (Some t) None p q = tt
 one_more u ls w v x (Some t) (Some ts) p q = (
@@ -467,7 +462,7 @@ one_more u ls w v x (Some t) (Some ts) p q = (
   steps w v x (calls_in_declared t) (calls_in_all_declared ts) (objects_in_declared t) (objects_in_all_declared ts) p.1 q.1,
 )
 
-declarators : (u : UnitTree) (ls : List LocalTree) (words : Words) → is_unknown words.typing ≡ false → (ds : List DeclaratorTree) → DeclaratorsHave ds → (w : W) → NamesAre (around u ls w) (here w)
+pub declarators : (u : UnitTree) (ls : List LocalTree) (words : Words) → is_unknown words.typing ≡ false → (ds : List DeclaratorTree) → DeclaratorsHave ds → (w : W) → NamesAre (around u ls w) (here w)
     → Begins u ls (after_declarators noted words ds w) → (after_declarators noted words ds w).found ≡ None → AllDeclaring u ls w (after_declarators noted words ds w) (declarator_trees_at noted words ds w)
 unfolding after_declarators declarator_trees_at
 declarators u ls words unknown [] k w n begins h = record { names = n; part = (tt, steps_none w w refl refl) }
@@ -478,20 +473,9 @@ declarators u ls words unknown (d ∷ ds) k w n begins h =
     let more = declarators u ls words unknown ds k.1 v one.names begins h in
     record { names = more.names; part = one_more u ls w v _ (declarator_tree_at noted words d w) (declarator_trees_at noted words ds v) one.part more.part }
 
-pub moved : (u : UnitTree) (ls : List LocalTree) (w v x : W) (o : Option (List DeclaredTree)) → v.calls ≡ w.calls → v.locals ≡ w.locals → AllDeclaredPart u ls v x o → AllDeclaredPart u ls w x o
+pub moved : (u : UnitTree) (ls : List LocalTree) (w v x : W) (o : Option (List DeclaredTree)) → Steps w v [] 0 → v.locals ≡ w.locals → AllDeclaredPart u ls v x o → AllDeclaredPart u ls w x o
 moved u ls w v x None a b p = tt
 moved u ls w v x (Some ts) a b p = (
   subst (λ (n : ℕ). AreDeclared (record { unit = u; locals = ls; objects = n }) ts) (ap length b) p.0,
-  steps_as w x (calls_in_all_declared ts) (calls_in_all_declared ts) (0 + objects_in_all_declared ts) (objects_in_all_declared ts) (steps w v x [] (calls_in_all_declared ts) 0 (objects_in_all_declared ts) (steps_none w v a b) p.1) refl (omega arith),
+  steps_as w x (calls_in_all_declared ts) (calls_in_all_declared ts) (0 + objects_in_all_declared ts) (objects_in_all_declared ts) (steps w v x [] (calls_in_all_declared ts) 0 (objects_in_all_declared ts) a p.1) refl (omega arith),
 )
-
-pub declaration : (u : UnitTree) (ls : List LocalTree) (d : DeclarationTree) → DeclarationHas d → (w : W) → NamesAre (around u ls w) (here w)
-    → Begins u ls (after_declaration noted d w) → (after_declaration noted d w).found ≡ None → AllDeclaring u ls w (after_declaration noted d w) (declaration_trees_at noted d w)
-unfolding after_declaration declaration_trees_at
-declaration u ls d k w n begins h =
-    let v = failing noted (word_failures (here w) d.specifiers) w in
-    let ds = d.declarators.first ∷ d.declarators.more in
-    let f : v.found ≡ None = (later_declarators (words_of (here w) d.specifiers) ds v).found h in
-    let unknown : is_unknown (type_named (here w) d.specifiers) ≡ false = known_type (here w) (types_are (here w) (λ x. has_types (around u ls w) (here w x) (n x))) d.specifiers (none_found w.found (word_failures (here w) d.specifiers) f).1 in
-    let all = declarators u ls (words_of (here w) d.specifiers) unknown ds k v n begins h in
-    record { names = all.names; part = moved u ls w v (after_declaration noted d w) (declaration_trees_at noted d w) refl refl all.part }

@@ -1,12 +1,12 @@
 -- Objects and functions of the file in an accepted text.
-use Rattle.std.proofs.Common.{◌≡◌, ℕ, ◌≤◌, Bool, true, false, List, [], ◌∷◌, ◌++◌, Option, Some, None, length, refl, ap, sym, subst, ◌∙◌, arith, append_assoc, if◌then◌else◌, append-nil}
+use Rattle.std.proofs.Common.{◌≡◌, ℕ, ◌≤◌, Bool, true, false, List, [], ◌∷◌, ◌++◌, Option, Some, None, length, refl, ap, sym, subst, ◌∙◌, arith, append_assoc, append-nil}
 use Rattle.std.specs.Prelude.{All, slice_get, is_some}
-use Rattle.std.specs.Str.{bytes_eq}
 use Rattle.std.proofs.lemmas.List.Elements.{All-push}
 use Rattle.pk_ctypes.specs.declared.types.IntType.{IntType}
 use Rattle.pk_ast.specs.declared.expressions.Identifier.{Identifier}
 use Rattle.pk_ast.specs.declared.units.Storage.{Storage}
-use Rattle.pk_ast.specs.Trees.{ExpressionTree, InitializerTree, DeclaratorTree, DeclarationTree}
+use Rattle.pk_ast.specs.declared.declarations.Specifier.{Specifier}
+use Rattle.pk_ast.specs.Trees.{OneOrMore, ExpressionTree, InitializerTree, DeclaratorTree, EnumerationTree, DeclarationTree}
 use Rattle.pk_typed.specs.declared.values.Variable.TheVariants.{File, Local}
 use Rattle.pk_typed.specs.Trees.{LocalTree, FileObjectTree, UnitTree}
 use Rattle.pk_type_scope.specs.declared.declarations.Callee.{Callee}
@@ -17,13 +17,13 @@ use Rattle.pk_type_scope.specs.declared.declarations.Typing.TheVariants.{Void, I
 use Rattle.pk_type_scope.specs.declared.failures.Failure.{Failure}
 use Rattle.pk_type_scope.specs.Declarations.{Names, is_void, is_unknown}
 use Rattle.pk_type_scope.specs.Failures.{noted}
-use Rattle.pk_type_scope.specs.Scopes.{Scoping, names_in, declaring, first_of, found_up, spelled}
-use Rattle.pk_type_scope.specs.Specifiers.{word_failures, type_named}
+use Rattle.pk_type_scope.specs.Scopes.{Scoping, names_in, declaring}
 use Rattle.pk_type_expression.specs.Rules.{count}
-use Rattle.pk_type_expression.proofs.TreeLemmas.{none_before, none_after, holds_not, types_are, known_type}
+use Rattle.pk_type_expression.proofs.TreeLemmas.{none_before, none_after, holds_not}
 use Rattle.pk_type_declaration.specs.declared.words.Words.{Words}
 use Rattle.pk_type_declaration.specs.Constants.{evaluated, length_in}
-use Rattle.pk_type_declaration.specs.Declarations.{words_of, type_or_int, text_of, redeclared, void_object, special_object, braces, surplus, length_at, after_optional_length, length_or_1}
+use Rattle.pk_type_declaration.specs.Declarations.{type_or_int, text_of, redeclared, void_object, special_object, braces, surplus, length_at, after_optional_length, length_or_1}
+use Rattle.pk_type_declaration.specs.Enumerations.{words_at, after_words}
 use Rattle.pk_type_declaration.specs.Walks.{here, failing, after_name}
 use Rattle.pk_type_declaration.specs.Starts.{after_numbers, numbers_at, given, start_of}
 use Rattle.pk_type.specs.Files.{EntryTree, Filed, extern_object, file_object, after_object, after_objects, on, after_declaration}
@@ -32,7 +32,8 @@ use Rattle.pk_type.specs.Units.{function_of}
 use Rattle.pk_welltyped.specs.WellTyped.{Around, IsObject, kind_in_file, IsStart, IsBodyIf}
 use Rattle.pk_type_laws.specs.Accepted.Names.{ObjectIs, CalleeIs, DeclarationIs, NamesAre}
 use Rattle.pk_type_laws.proofs.Accepted.Walks.{W, none_found, LaterStatics, statics_same, statics_later, Later, later, later_failing}
-use Rattle.pk_type_laws.proofs.Accepted.Declarations.{has_types, names_declaring, StaticsStand, statics_before, later_optional_length, length_known}
+use Rattle.pk_type_laws.proofs.Accepted.Declarations.{has_types, all_declaring, names_declaring, StaticsStand, statics_before, later_optional_length, length_known}
+use Rattle.pk_type_laws.proofs.Accepted.Enumerations.{later_words, words_locals, Holds, words_names, words_known}
 use Rattle.pk_type_laws.proofs.Accepted.Starts.{later_numbers, same_scope, same_locals, numbers_in_type, numbers_many, given_fit, RoomIn, start_is, start_length, object_is, its_kind}
 use Rattle.pk_type_laws.proofs.Accepted.Functions.{Integers}
 use Rattle.pk_graph.specs.Kinds.{Kind, scalar_kind, array_kind}
@@ -127,6 +128,12 @@ pub record FileIs (u : UnitTree) (f : F) : Type 0 where
   pub objects : All (λ (x : FileObjectTree). IsStart x.int_type x.start) f.objects
   pub entries : (n : ℕ) (e : EntryTree) → slice_get f.functions n ≡ Some e → EntryIs u e
 
+abbrev InFile : UnitTree → F → Option Declaration → Type 0
+InFile u f d = DeclarationIs (in_file u) d × KnownIn f.functions d
+
+holds_in_file : (u : UnitTree) (f : F) → Holds (InFile u f)
+holds_in_file u f = record { has = λ d h. has_types (in_file u) d h.0; tag = (refl, tt); constant = λ v h. (h, tt) }
+
 -- names of the file, at a place of a function
 object_from_file : (u : UnitTree) (ls : List LocalTree) (n : ℕ) (k : Kind) (x : Rattle.pk_typed.specs.declared.values.Variable.Variable) → IsObject (in_file u) k x → IsObject (record { unit = u; locals = ls; objects = n }) k x
 object_from_file u ls n k (File i) h = h
@@ -159,12 +166,7 @@ names_from_file u ls n d h x = from_file u ls n (d x) (h x)
 -- ---- objects
 
 pub known_declaring : (es : Entries) (s : Scoping) (x : Identifier) (o : Declaration) → ((y : Identifier) → KnownIn es (names_in s y)) → KnownIn es (Some o) → (y : Identifier) → KnownIn es (names_in (declaring s x o) y)
-unfolding names_in
-known_declaring es s x o h k y = picked (bytes_eq (spelled s.text x) (spelled s.text y)) (s.inner (spelled s.text y)) (found_up s.outer (spelled s.text y) None) (h y)
-  where
-    picked : (b : Bool) (l other : Option Declaration) → KnownIn es (first_of l other) → KnownIn es (first_of (if b then Some o else l) other)
-    picked true l other h = k
-    picked false l other h = h
+known_declaring es = all_declaring (KnownIn es)
 
 -- an object, behind its length
 object_made : (u : UnitTree) (words : Words) (b : Bool) (n : Option ℕ) (x : Identifier) (i : Option InitializerTree) (f : F) (w : W) (rows fs : List Failure) (name : List ℕ) → w.scoping ≡ f.walked.scoping → w.locals ≡ f.walked.locals
@@ -220,9 +222,10 @@ later_objects storage words (d ∷ ds) f = file_later f (after_object noted stor
 pub later_declaration : (storage : Option Storage) (d : DeclarationTree) (f : F) → LaterFile f (after_declaration noted storage d f)
 unfolding after_declaration
 later_declaration storage d f =
-    let g = on (failing noted (word_failures (here f.walked) d.specifiers)) f in
-    let l = later_objects storage (words_of (here f.walked) d.specifiers) (d.declarators.first ∷ d.declarators.more) g in
-    record { found = λ h. (later_failing (word_failures (here f.walked) d.specifiers) f.walked).found (l.found h); more = l.more; objects = l.objects; entries = l.entries; statics = l.statics }
+    let g = on (after_words noted d.specifiers d.enumeration) f in
+    let l = later_objects storage (words_at (here f.walked) d.specifiers d.enumeration) d.declarators g in
+    let v = later_words d.specifiers d.enumeration f.walked in
+    record { found = λ h. v.found (l.found h); more = l.more; objects = l.objects; entries = l.entries; statics = statics_later f.walked.statics g.walked.statics _ v.statics l.statics }
 
 void_row : (a b c d : List Failure) → a ++ b ++ c ++ d ≡ [] → c ≡ []
 void_row a b c d h = none_after (a ++ b) c (none_before (a ++ b ++ c) d h)
@@ -262,15 +265,20 @@ all_objects u storage words (d ∷ ds) f unknown h s k =
     let l = later_objects storage words ds g in
     all_objects u storage words ds g unknown (one_object u storage words d.name d.length d.initializer f unknown h (stands_before u g _ l s) (l.found k)) s k
 
+-- the words of a declaration of the file
+pub words_in_file : (u : UnitTree) (words : OneOrMore Specifier) (e : Option EnumerationTree) (f : F) → FileIs u f → (after_words noted words e f.walked).found ≡ None → FileIs u (on (after_words noted words e) f)
+words_in_file u words e f is h =
+    let all = words_names (InFile u f) (holds_in_file u f) words e f.walked (λ x. (is.names x, is.known x)) h in
+    record { names = λ x. (all x).0; known = λ x. (all x).1; locals = words_locals words e f.walked ∙ is.locals; objects = is.objects; entries = is.entries }
+
 pub declaration : (u : UnitTree) (storage : Option Storage) (d : DeclarationTree) (f : F) → FileIs u f → Stands u (after_declaration noted storage d f) → (after_declaration noted storage d f).walked.found ≡ None
     → FileIs u (after_declaration noted storage d f)
 unfolding after_declaration
 declaration u storage d f h s k =
-    let g = on (failing noted (word_failures (here f.walked) d.specifiers)) f in
-    let ds = d.declarators.first ∷ d.declarators.more in
-    let r = after_objects noted storage (words_of (here f.walked) d.specifiers) ds g in
-    let kg = (later_objects storage (words_of (here f.walked) d.specifiers) ds g).found k in
-    let unknown : is_unknown (type_named (here f.walked) d.specifiers) ≡ false = known_type (here f.walked) (types_are (here f.walked) (λ x. has_types (in_file u) (here f.walked x) (h.names x))) d.specifiers (none_found f.walked.found (word_failures (here f.walked) d.specifiers) kg).1 in
-    let at : FileIs u g = record { names = h.names; known = h.known; locals = h.locals; objects = h.objects; entries = h.entries } in
-    let all = all_objects u storage (words_of (here f.walked) d.specifiers) ds g unknown at (record { rest = s.rest; objects = s.objects; functions = s.functions; statics = s.statics }) k in
+    let g = on (after_words noted d.specifiers d.enumeration) f in
+    let words = words_at (here f.walked) d.specifiers d.enumeration in
+    let kg = (later_objects storage words d.declarators g).found k in
+    let unknown = words_known d.specifiers d.enumeration f.walked (λ x. has_types (in_file u) (here f.walked x) (h.names x)) kg in
+    let at = words_in_file u d.specifiers d.enumeration f h kg in
+    let all = all_objects u storage words d.declarators g unknown at (record { rest = s.rest; objects = s.objects; functions = s.functions; statics = s.statics }) k in
     record { names = all.names; known = all.known; locals = all.locals; objects = all.objects; entries = all.entries }

@@ -18,8 +18,7 @@ use Rattle.pk_type_scope.specs.declared.declarations.Typing.{Typing}
 use Rattle.pk_type_scope.specs.declared.declarations.Typing.TheVariants.{Void, Integer, Unknown}
 use Rattle.pk_type_scope.specs.Declarations.{Names, is_void, is_unknown, is_type_name, type_meant}
 use Rattle.pk_type_scope.specs.Failures.{fails_if, noted}
-use Rattle.pk_type_scope.specs.Scopes.{Scoping, first_of, found_up, spelled, names_in, declaring, opened}
-use Rattle.std.specs.Str.{bytes_eq}
+use Rattle.pk_type_scope.specs.Scopes.{Scoping, first_of, found_up, key_of, is_same, names_in, declaring, opened}
 use Rattle.pk_type_scope.specs.Specifiers.{type_name_among, type_by, type_named, failures_by, word_failures}
 use Rattle.pk_type_declaration.specs.Declarations.{words_of, type_or_int, local_of, integer_in}
 use Rattle.pk_type_declaration.specs.Walks.{here, failing, with_local}
@@ -99,11 +98,11 @@ types_from c d h k x t is = k x t (h x t is)
 
 pub types_declaring : (c : Names) (s : Scoping) (x : Identifier) (o : Declaration) → is_type_name (Some o) ≡ false → TypesFrom c (names_in s) → TypesFrom c (names_in (declaring s x o))
 unfolding names_in
-types_declaring c s x o h k y t is = k y t (type_kept (bytes_eq (spelled s.text x) (spelled s.text y)) o (s.inner (spelled s.text y)) (found_up s.outer (spelled s.text y) None) t h is)
+types_declaring c s x o h k y t is = k y t (type_kept (is_same (key_of s.text x) (key_of s.text y)) o (s.inner (key_of s.text y)) (found_up s.outer (key_of s.text y) None) t h is)
 
 pub types_opened : (c : Names) (s : Scoping) → TypesFrom c (names_in s) → TypesFrom c (names_in (opened s))
 unfolding names_in
-types_opened c s k y t is = k y t (sym (found_last s.outer s.inner (spelled s.text y) None) ∙ is)
+types_opened c s k y t is = k y t (sym (found_last s.outer s.inner (key_of s.text y) None) ∙ is)
 
 types_behind : (c : Names) (p : ParameterTree) (w : W) → TypesFrom c (here w) → TypesFrom c (here (after_parameter noted p w))
 types_behind c p w k = named p.name

@@ -25,8 +25,8 @@ use Rattle.pk_type_scope.specs.Scopes.{Scoping, names_in, spelled}
 use Rattle.pk_type_expression.specs.Typed.{of_both}
 use Rattle.pk_type_expression.specs.Types.{type_of}
 use Rattle.pk_type_declaration.specs.Constants.{evaluated, number_in}
-use Rattle.pk_type_declaration.specs.Declarations.{after_declaration, declaration_trees_at, integer_in}
-use Rattle.pk_type_declaration.specs.Statics.{after_block_declaration, block_declaration_at}
+use Rattle.pk_type_declaration.specs.Declarations.{integer_in}
+use Rattle.pk_type_declaration.specs.Statics.{after_declaration, declaration_trees_at, after_block_declaration, block_declaration_at}
 use Rattle.pk_type_declaration.specs.Walks.{here, failing, after_value, after_effect, value_at, effect_at}
 use Rattle.pk_type_jump.specs.declared.labels.Label.{Label}
 use Rattle.pk_type_statement.specs.declared.statements.Case.{Case}
@@ -39,9 +39,9 @@ use Rattle.pk_welltyped.specs.WellTyped.{Around, IsValueIf, IsEffectIf, AreDecla
 use Rattle.pk_type_laws.specs.Accepted.Constants.{HasConstantsIf, StartHas, StatementHas, ItemsHave}
 use Rattle.pk_type_laws.specs.Accepted.Names.{NamesAre}
 use Rattle.pk_type_laws.proofs.Accepted.Walks.{none_found, W, around, Later, later_same, later, later_failing, later_value, later_effect, Steps, steps_none, steps, steps_as, ValuePart, EffectPart, value_part, effect_part}
-use Rattle.pk_type_laws.proofs.Accepted.Declarations.{names_later, names_opened, Begins, begins_before, constant_steps, later_constant, later_declaration, AllDeclaredPart}
-use Rattle.pk_type_laws.proofs.Accepted.Declarations as declarations
-use Rattle.pk_type_laws.proofs.Accepted.Statics.{later_block_declaration, block_declaration}
+use Rattle.pk_type_laws.proofs.Accepted.Declarations.{names_later, names_opened, Begins, begins_before, constant_steps, later_constant, AllDeclaredPart}
+use Rattle.pk_type_laws.proofs.Accepted.Statics as declarations
+use Rattle.pk_type_laws.proofs.Accepted.Statics.{later_declaration, later_block_declaration, block_declaration}
 use Rattle.pk_type_expression.proofs.TreeLemmas.{holds_not}
 
 abbrev pub P : Type 0

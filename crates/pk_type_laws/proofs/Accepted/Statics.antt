@@ -11,21 +11,21 @@ use Rattle.pk_type_scope.specs.declared.failures.Failure.{Failure}
 use Rattle.pk_type_scope.specs.Declarations.{is_void, is_unknown}
 use Rattle.pk_type_scope.specs.Failures.{noted}
 use Rattle.pk_type_scope.specs.Scopes.{Scoping, names_in, declaring}
-use Rattle.pk_type_scope.specs.Specifiers.{word_failures, type_named}
-use Rattle.pk_type_expression.proofs.TreeLemmas.{none_before, none_after, holds_not, types_are, known_type}
+use Rattle.pk_type_expression.proofs.TreeLemmas.{none_before, none_after, holds_not}
 use Rattle.pk_type_declaration.specs.declared.words.Words.{Words}
 use Rattle.pk_type_declaration.specs.Constants.{evaluated, length_in, after_constant, after_length}
-use Rattle.pk_type_declaration.specs.Declarations.{type_or_int, text_of, at_name, redeclared, void_object, special_object, braces, surplus, length_at, after_optional_length, length_or_1, after_object_name, words_of}
+use Rattle.pk_type_declaration.specs.Declarations.{type_or_int, text_of, at_name, redeclared, void_object, special_object, braces, surplus, length_at, after_optional_length, length_or_1, after_object_name, after_declarators, declarator_trees_at}
+use Rattle.pk_type_declaration.specs.Enumerations.{words_at, after_words, word_trees_at}
 use Rattle.pk_type_declaration.specs.Starts.{after_numbers, numbers_at, given, start_of}
-use Rattle.pk_type_declaration.specs.Statics.{next_static, static_at, after_static_head, static_of, after_static, after_statics, after_static_declaration, static_trees_at, static_declaration_at, after_block_declaration, block_declaration_at}
+use Rattle.pk_type_declaration.specs.Statics.{next_static, static_at, after_static_head, static_of, after_static, after_statics, after_declaration, declaration_trees_at, after_static_declaration, static_trees_at, static_declaration_at, after_block_declaration, block_declaration_at}
 use Rattle.pk_type_declaration.specs.Walks.{StaticsTree, here, failing, with_static}
 use Rattle.pk_welltyped.specs.Listed.{calls_in_all_declared, objects_in_all_declared}
 use Rattle.pk_welltyped.specs.WellTyped.{kind_in_file, AreDeclared}
 use Rattle.pk_type_laws.specs.Accepted.Constants.{DeclarationHas}
 use Rattle.pk_type_laws.specs.Accepted.Names.{NamesAre}
 use Rattle.pk_type_laws.proofs.Accepted.Walks.{W, around, none_found, statics_same, Later, later_same, later, later_failing, Steps, steps_none, steps}
-use Rattle.pk_type_laws.proofs.Accepted.Declarations.{has_types, names_later, names_declaring, StaticsStand, statics_before, Begins, length_steps, later_optional_length, later_declaration, AllDeclaring, moved}
-use Rattle.pk_type_laws.proofs.Accepted.Declarations as declarations
+use Rattle.pk_type_laws.proofs.Accepted.Declarations.{has_types, names_later, names_declaring, StaticsStand, statics_before, Begins, length_steps, later_optional_length, later_declarators, AllDeclaring, declarators, moved}
+use Rattle.pk_type_laws.proofs.Accepted.Enumerations.{later_words, words_locals, words_known, words_are, words_steps, word_trees_are, with_hidden}
 use Rattle.pk_type_laws.proofs.Accepted.Starts.{later_numbers, same_scope, numbers_steps, start_length, object_is, its_kind}
 
 -- ---- later places, whatever fails
@@ -55,11 +55,17 @@ unfolding after_statics
 later_statics words [] w = later_same w
 later_statics words (d ∷ ds) w = later w (after_static noted words d w) _ (later_static words d w) (later_statics words ds (after_static noted words d w))
 
+pub later_declaration : (d : DeclarationTree) (w : W) → Later w (after_declaration noted d w)
+unfolding after_declaration
+later_declaration d w =
+    let v = after_words noted d.specifiers d.enumeration w in
+    later w v _ (later_words d.specifiers d.enumeration w) (later_declarators (words_at (here w) d.specifiers d.enumeration) d.declarators v)
+
 later_static_declaration : (d : DeclarationTree) (w : W) → Later w (after_static_declaration noted d w)
 unfolding after_static_declaration
 later_static_declaration d w =
-    let v = failing noted (word_failures (here w) d.specifiers) w in
-    later w v _ (later_failing (word_failures (here w) d.specifiers) w) (later_statics (words_of (here w) d.specifiers) (d.declarators.first ∷ d.declarators.more) v)
+    let v = after_words noted d.specifiers d.enumeration w in
+    later w v _ (later_words d.specifiers d.enumeration w) (later_statics (words_at (here w) d.specifiers d.enumeration) d.declarators v)
 
 pub later_block_declaration : (s : Option Pos) (d : DeclarationTree) (w : W) → Later w (after_block_declaration noted s d w)
 later_block_declaration None d w = later_declaration d w
@@ -153,19 +159,41 @@ statics_are u ls words unknown (d ∷ ds) w n k h =
       part = ((one.number, subst (λ (m : ℕ). AreDeclared (record { unit = u; locals = ls; objects = m }) ts) one.calls.objects more.part.0), steps w v x [] (calls_in_all_declared ts) 0 (objects_in_all_declared ts) one.calls more.part.1);
     }
 
+pub declaration : (u : UnitTree) (ls : List LocalTree) (d : DeclarationTree) → DeclarationHas d → (w : W) → NamesAre (around u ls w) (here w)
+    → Begins u ls (after_declaration noted d w) → (after_declaration noted d w).found ≡ None → AllDeclaring u ls w (after_declaration noted d w) (declaration_trees_at noted d w)
+unfolding after_declaration declaration_trees_at
+declaration u ls d k w n begins h =
+    let v = after_words noted d.specifiers d.enumeration w in
+    let words = words_at (here w) d.specifiers d.enumeration in
+    let x = after_declarators noted words d.declarators v in
+    let ts = declarator_trees_at noted words d.declarators v in
+    let f : v.found ≡ None = (later_declarators words d.declarators v).found h in
+    let unknown = words_known d.specifiers d.enumeration w (λ y. has_types (around u ls w) (here w y) (n y)) f in
+    let all = declarators u ls words unknown d.declarators k v (words_are u ls d.specifiers d.enumeration w n f) begins h in
+    record {
+      names = all.names;
+      part = with_hidden u ls w x (word_trees_at noted d.specifiers d.enumeration w) ts (word_trees_are (around u ls w) d.specifiers d.enumeration w n f)
+          (moved u ls w v x ts (words_steps d.specifiers d.enumeration w f) (words_locals d.specifiers d.enumeration w) all.part);
+    }
+
 static_declaration : (u : UnitTree) (ls : List LocalTree) (d : DeclarationTree) (w : W) → NamesAre (around u ls w) (here w) → StaticsStand u (after_static_declaration noted d w).statics
     → (after_static_declaration noted d w).found ≡ None → AllDeclaring u ls w (after_static_declaration noted d w) (Some (static_declaration_at noted d w))
 unfolding after_static_declaration static_declaration_at
 static_declaration u ls d w n k h =
-    let v = failing noted (word_failures (here w) d.specifiers) w in
-    let words = words_of (here w) d.specifiers in
-    let ds = d.declarators.first ∷ d.declarators.more in
-    let f : v.found ≡ None = (later_statics words ds v).found h in
-    let unknown : is_unknown (type_named (here w) d.specifiers) ≡ false = known_type (here w) (types_are (here w) (λ x. has_types (around u ls w) (here w x) (n x))) d.specifiers (none_found w.found (word_failures (here w) d.specifiers) f).1 in
-    let all = statics_are u ls words unknown ds v n k h in
-    record { names = all.names; part = moved u ls w v (after_statics noted words ds v) (Some (static_trees_at noted words ds v)) refl refl all.part }
+    let v = after_words noted d.specifiers d.enumeration w in
+    let words = words_at (here w) d.specifiers d.enumeration in
+    let x = after_statics noted words d.declarators v in
+    let ts = static_trees_at noted words d.declarators v in
+    let f : v.found ≡ None = (later_statics words d.declarators v).found h in
+    let unknown = words_known d.specifiers d.enumeration w (λ y. has_types (around u ls w) (here w y) (n y)) f in
+    let all = statics_are u ls words unknown d.declarators v (words_are u ls d.specifiers d.enumeration w n f) k h in
+    record {
+      names = all.names;
+      part = with_hidden u ls w x (word_trees_at noted d.specifiers d.enumeration w) (Some ts) (word_trees_are (around u ls w) d.specifiers d.enumeration w n f)
+          (moved u ls w v x (Some ts) (words_steps d.specifiers d.enumeration w f) (words_locals d.specifiers d.enumeration w) all.part);
+    }
 
 pub block_declaration : (u : UnitTree) (ls : List LocalTree) (s : Option Pos) (d : DeclarationTree) → DeclarationHas d → (w : W) → NamesAre (around u ls w) (here w)
     → Begins u ls (after_block_declaration noted s d w) → (after_block_declaration noted s d w).found ≡ None → AllDeclaring u ls w (after_block_declaration noted s d w) (block_declaration_at noted s d w)
-block_declaration u ls None d k w n begins h = declarations.declaration u ls d k w n begins h
+block_declaration u ls None d k w n begins h = declaration u ls d k w n begins h
 block_declaration u ls (Some at) d k w n begins h = static_declaration u ls d w n begins.statics h

@@ -28,11 +28,12 @@ use Rattle.pk_type_scope.specs.Failures.{fails_if, noted}
 use Rattle.pk_type_scope.specs.Scopes.{names_in, spelled, file_scope}
 use Rattle.pk_type_scope.specs.Specifiers.{word_failures, type_named}
 use Rattle.pk_type_declaration.specs.declared.words.Words.{Words}
-use Rattle.pk_type_declaration.specs.Declarations.{words_of, integer_in, type_or_int, text_of}
+use Rattle.pk_type_declaration.specs.Enumerations.{words_at, after_words}
+use Rattle.pk_type_declaration.specs.Declarations.{integer_in, type_or_int, text_of}
 use Rattle.pk_ctypes.specs.Spellings.{lookup}
 use Rattle.pk_type_declaration.specs.Specials.{special, specials}
 use Rattle.std.specs.Str.{bytes_eq}
-use Rattle.pk_type_declaration.specs.Walks.{here, failing, entering}
+use Rattle.pk_type_declaration.specs.Walks.{here, entering}
 use Rattle.pk_type.specs.Files.{EntryTree, on, after_object, after_objects, after_declaration}
 use Rattle.pk_type.specs.Functions.{after_parameters, changes, is_redeclared, is_misused, number_of, callee_of, with_new, after_head, after_body, body_at, with_body, update_at, leaving_function, after_optional_body, after_function}
 use Rattle.pk_type.specs.Signatures as signature
@@ -46,7 +47,7 @@ use Rattle.pk_type_laws.proofs.Accepted.Declarations.{has_types, names_declaring
 use Rattle.pk_type_laws.proofs.Accepted.Functions.{Integers, TypesFrom, types_declaring, types_opened, later_parameters, parameters, with_others, integers_of, later_body, body}
 use Rattle.pk_type_laws.proofs.Accepted.Files as files
 use Rattle.pk_type_laws.proofs.Accepted.Files.{F, in_file, SameEntry, Entries, Kept, LaterFile, kept_same, file_same, file_later, Stands, stands_before, KnownIn, EntryIs, FileIs, names_from_file, known_declaring}
-use Rattle.pk_type_laws.proofs.Accepted.TypeNames.{later_typedef, typedef_calls, typedef_is}
+use Rattle.pk_type_laws.proofs.Accepted.TypeNames.{later_typedef, typedef_is}
 use Rattle.pk_type_expression.proofs.TreeLemmas.{none_before, none_after, holds_not, types_are, known_type}
 
 -- ---- types of functions that don't differ
@@ -400,7 +401,7 @@ pub external_calls : (defined : List ℕ → Bool) (x : ExternalTree) (f : F) �
 unfolding after_function after_declaration
 external_calls defined (function g) f c = refl
 external_calls defined (objects storage d) f c = refl
-external_calls defined (type_names d) f c = typedef_calls d f.walked ∙ c
+external_calls defined (type_names d) f c = refl
 
 external_is : (u : UnitTree) (defined : List ℕ → Bool) (x : ExternalTree) (f : F) → FileIs u f → f.walked.calls ≡ [] → ExternalHas x → Stands u (after_external noted defined x f) → (after_external noted defined x f).walked.found ≡ None
     → FileIs u (after_external noted defined x f)
@@ -468,9 +469,7 @@ external_counted defined (function g) f =
     let i = on entering (after_head noted defined g f) in
     block_objects (type_named (here f.walked) g.specifiers) (number_of f.functions (names_in f.walked.scoping g.name)) g.body (on (after_parameters noted g.parameters) i)
 external_counted defined (objects storage d) f =
-    let ds = d.declarators.first ∷ d.declarators.more in
-    let same : length f.objects + length ds ≡ length f.objects + (1 + length d.declarators.more) = omega arith in
-    objects_counted storage (words_of (here f.walked) d.specifiers) ds (on (failing noted (word_failures (here f.walked) d.specifiers)) f) ∙ same
+    objects_counted storage (words_at (here f.walked) d.specifiers d.enumeration) d.declarators (on (after_words noted d.specifiers d.enumeration) f)
 external_counted defined (type_names d) f = sym (add-zero (length f.objects))
 
 -- a text has as many as were counted ahead

@@ -17,6 +17,7 @@ use Rattle.pk_type_scope.specs.Scopes.{names_in, spelled}
 use Rattle.pk_type_scope.specs.Specifiers.{type_named, word_failures}
 use Rattle.pk_type_declaration.specs.declared.words.Words.{Words}
 use Rattle.pk_type_declaration.specs.Declarations.{words_of, type_or_int, text_of, redeclared, void_object, special_object, braces, surplus, length_at, after_optional_length, length_or_1}
+use Rattle.pk_type_declaration.specs.Enumerations.{words_at, after_words}
 use Rattle.pk_type_declaration.specs.Specials.{special}
 use Rattle.pk_type_declaration.specs.Walks.{here, failing, after_name, with_local, entering}
 use Rattle.pk_type_jump.specs.Jumps.{jumps_of}
@@ -31,7 +32,7 @@ use Rattle.pk_type.specs.Signatures.{signature_of}
 use Rattle.pk_type.specs.TypeNames.{named_type, after_type_name, after_type_names, after_typedef}
 use Rattle.pk_type.specs.Units.{no_name, defined_in, after_external, objects_in, after_externals, nothing_filed, checked}
 use Rattle.pk_type_laws.specs.Answered.Failures.{appended, listing}
-use Rattle.pk_type_laws.proofs.Answered.Walks.{L, W, first, failing_first, optional_length_first, length_at_first, object_first}
+use Rattle.pk_type_laws.proofs.Answered.Walks.{L, W, first, failing_first, optional_length_first, length_at_first, object_first, words_first}
 use Rattle.pk_type_laws.proofs.Answered.Statics.{numbers_first, numbers_same}
 use Rattle.pk_type_laws.proofs.Answered.Statements.{items_first, items_same}
 
@@ -90,10 +91,9 @@ objects_first storage words (d ∷ ds) f = ap (after_objects noted storage words
 declaration_first : (storage : Option Storage) (d : DeclarationTree) (f : F) → after_declaration noted storage d (filed_first f) ≡ filed_first (after_declaration appended storage d f)
 unfolding after_declaration
 declaration_first storage d f =
-    let words = words_of (here f.walked) d.specifiers in
-    let ds = d.declarators.first ∷ d.declarators.more in
-    ap (λ (w : W). without_calls (after_objects noted storage words ds (with_walk f w))) (failing_first (word_failures (here f.walked) d.specifiers) f.walked)
-    ∙ ap without_calls (objects_first storage words ds (on (failing appended (word_failures (here f.walked) d.specifiers)) f))
+    let words = words_at (here f.walked) d.specifiers d.enumeration in
+    ap (λ (w : W). without_calls (after_objects noted storage words d.declarators (with_walk f w))) (words_first d.specifiers d.enumeration f.walked)
+    ∙ ap without_calls (objects_first storage words d.declarators (on (after_words appended d.specifiers d.enumeration) f))
 
 -- ---- functions
 
@@ -164,16 +164,16 @@ names_first t (x ∷ xs) w =
 typedef_first : (d : TypedefTree) (w : L) → after_typedef noted d (first w) ≡ first (after_typedef appended d w)
 unfolding after_typedef
 typedef_first d w =
-    let t = named_type (words_of (here w) d.specifiers) in
+    let t = named_type (words_at (here w) d.specifiers d.enumeration) in
     let xs = d.names.first ∷ d.names.more in
-    ap (after_type_names noted t xs) (failing_first (word_failures (here w) d.specifiers) w) ∙ names_first t xs (failing appended (word_failures (here w) d.specifiers) w)
+    ap (after_type_names noted t xs) (words_first d.specifiers d.enumeration w) ∙ names_first t xs (after_words appended d.specifiers d.enumeration w)
 
 -- ---- texts
 
 external_first : (defined : List ℕ → Bool) (x : ExternalTree) (f : F) → after_external noted defined x (filed_first f) ≡ filed_first (after_external appended defined x f)
 external_first defined (function g) f = function_first defined g f
 external_first defined (objects storage d) f = declaration_first storage d f
-external_first defined (type_names d) f = ap (with_walk f) (typedef_first d f.walked)
+external_first defined (type_names d) f = ap (λ (w : W). without_calls (with_walk f w)) (typedef_first d f.walked)
 
 externals_first : (defined : List ℕ → Bool) (xs : List ExternalTree) (f : F) → after_externals noted defined xs (filed_first f) ≡ filed_first (after_externals appended defined xs f)
 unfolding after_externals

@@ -6,15 +6,15 @@ use Rattle.pk_ctypes.specs.declared.types.IntType.{IntType}
 use Rattle.pk_ast.specs.Trees.{ExpressionTrees, no_expressions, expression_then, DeclaratorTree, DeclarationTree}
 use Rattle.pk_typed.specs.Trees.{FileObjectTree, DeclaredTree}
 use Rattle.pk_type_scope.specs.Failures.{noted}
-use Rattle.pk_type_scope.specs.Specifiers.{word_failures}
 use Rattle.pk_type_declaration.specs.declared.words.Words.{Words}
 use Rattle.pk_type_declaration.specs.Constants.{after_constant}
-use Rattle.pk_type_declaration.specs.Declarations.{words_of, type_or_int, text_of, at_name, braces, surplus, length_at, after_optional_length, length_or_1, after_object_name}
+use Rattle.pk_type_declaration.specs.Declarations.{type_or_int, text_of, at_name, braces, surplus, length_at, after_optional_length, length_or_1, after_object_name}
+use Rattle.pk_type_declaration.specs.Enumerations.{words_at, after_words, word_trees_at}
 use Rattle.pk_type_declaration.specs.Starts.{number_at, after_numbers, numbers_at, given, start_of}
 use Rattle.pk_type_declaration.specs.Statics.{static_at, after_static_head, after_static, after_statics, after_static_declaration, static_tree_at, static_trees_at, static_declaration_at, after_block_declaration, block_declaration_at}
 use Rattle.pk_type_declaration.specs.Walks.{here, failing, after_name, with_static}
 use Rattle.pk_type_laws.specs.Answered.Failures.{appended}
-use Rattle.pk_type_laws.proofs.Answered.Walks.{L, W, first, failing_first, constant_first, optional_length_first, length_at_first, declaration_first, declaration_same}
+use Rattle.pk_type_laws.proofs.Answered.Walks.{L, W, first, failing_first, constant_first, optional_length_first, length_at_first, words_first, word_trees_same, declaration_first, declaration_same}
 
 pub numbers_first : (es : ExpressionTrees) (w : L) → after_numbers noted es (first w) ≡ first (after_numbers appended es w)
 unfolding after_numbers
@@ -61,9 +61,8 @@ statics_first words (d ∷ ds) w = ap (after_statics noted words ds) (static_fir
 static_declaration_first : (d : DeclarationTree) (w : L) → after_static_declaration noted d (first w) ≡ first (after_static_declaration appended d w)
 unfolding after_static_declaration
 static_declaration_first d w =
-    let words = words_of (here w) d.specifiers in
-    let ds = d.declarators.first ∷ d.declarators.more in
-    ap (after_statics noted words ds) (failing_first (word_failures (here w) d.specifiers) w) ∙ statics_first words ds (failing appended (word_failures (here w) d.specifiers) w)
+    let words = words_at (here w) d.specifiers d.enumeration in
+    ap (after_statics noted words d.declarators) (words_first d.specifiers d.enumeration w) ∙ statics_first words d.declarators (after_words appended d.specifiers d.enumeration w)
 
 pub block_declaration_first : (s : Option Pos) (d : DeclarationTree) (w : L) → after_block_declaration noted s d (first w) ≡ first (after_block_declaration appended s d w)
 block_declaration_first None d w = declaration_first d w
@@ -80,9 +79,11 @@ static_trees_same words (d ∷ ds) w =
 static_declaration_same : (d : DeclarationTree) (w : L) → static_declaration_at noted d (first w) ≡ static_declaration_at appended d w
 unfolding static_declaration_at
 static_declaration_same d w =
-    let words = words_of (here w) d.specifiers in
-    let ds = d.declarators.first ∷ d.declarators.more in
-    ap (static_trees_at noted words ds) (failing_first (word_failures (here w) d.specifiers) w) ∙ static_trees_same words ds (failing appended (word_failures (here w) d.specifiers) w)
+    let words = words_at (here w) d.specifiers d.enumeration in
+    let hs = word_trees_at appended d.specifiers d.enumeration w in
+    ap (λ (ts : List DeclaredTree). ts ++ static_trees_at noted words d.declarators (after_words noted d.specifiers d.enumeration (first w))) (word_trees_same d.specifiers d.enumeration w)
+    ∙ ap (λ (ts : List DeclaredTree). hs ++ ts)
+    (ap (static_trees_at noted words d.declarators) (words_first d.specifiers d.enumeration w) ∙ static_trees_same words d.declarators (after_words appended d.specifiers d.enumeration w))
 
 pub block_declaration_same : (s : Option Pos) (d : DeclarationTree) (w : L) → block_declaration_at noted s d (first w) ≡ block_declaration_at appended s d w
 block_declaration_same None d w = declaration_same d w

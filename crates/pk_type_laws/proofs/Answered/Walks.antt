@@ -1,21 +1,26 @@
 -- The first failure so far is that of the list so far: after expressions and declarations.
-use Rattle.std.proofs.Common.{◌≡◌, ℕ, Bool, true, false, List, [], ◌∷◌, ◌++◌, Option, Some, None, refl, ap, sym, ◌∙◌, length}
+use Rattle.std.proofs.Common.{◌≡◌, ℕ, ℤ, pos, Bool, true, false, List, [], ◌∷◌, ◌++◌, Option, Some, None, refl, ap, sym, ◌∙◌, length}
 use Rattle.std.specs.Prelude.{is_some}
+use Rattle.std.specs.Option.{option_map}
 use Rattle.pk_ctypes.specs.declared.places.Pos.{Pos}
 use Rattle.pk_ctypes.specs.declared.words.Rule.TheVariants as rule
+use Rattle.pk_ast.specs.declared.declarations.Specifier.{Specifier}
 use Rattle.pk_ast.specs.declared.expressions.Identifier.{Identifier}
 use Rattle.pk_ast.specs.Places.{first_place_of}
-use Rattle.pk_ast.specs.Trees.{ExpressionTree, ExpressionTrees, InitializerTree, single, braced, DeclaratorTree, DeclarationTree}
+use Rattle.pk_ast.specs.Trees.{OneOrMore, ExpressionTree, ExpressionTrees, InitializerTree, single, braced, DeclaratorTree, EnumeratorTree, EnumerationTree, DeclarationTree}
 use Rattle.pk_typed.specs.Trees.{DeclaredTree}
 use Rattle.pk_type_scope.specs.declared.failures.Failure.{Failure}
 use Rattle.pk_type_scope.specs.Failures.{noted, fails_if}
-use Rattle.pk_type_scope.specs.Specifiers.{word_failures}
+use Rattle.pk_type_scope.specs.declared.declarations.Declaration.TheVariants as declared
+use Rattle.pk_type_scope.specs.Specifiers.{type_name_among, word_failures}
 use Rattle.pk_type_scope.proofs.FailureLemmas.{noted_append}
 use Rattle.pk_type_expression.specs.Rules.{failures, used_failures, failures_used}
 use Rattle.pk_type_expression.specs.Typed.{of_both}
 use Rattle.pk_type_declaration.specs.declared.words.Words.{Words}
 use Rattle.pk_type_declaration.specs.Constants.{evaluated, is_refused, is_refused_length, after_constant, after_length}
-use Rattle.pk_type_declaration.specs.Declarations.{words_of, object_at, local_of, at_name, braces, surplus, after_initializer, length_at, after_optional_length, after_object, after_head, after_declarator, after_declarators, after_declaration, scalar_tree, array_tree, object_tree, declarator_tree_at, declarator_trees_at, declaration_trees_at}
+use Rattle.pk_type_declaration.specs.Declarations.{redeclared, special_object, object_at, local_of, at_name, braces, surplus, after_initializer, length_at, after_optional_length, after_object, after_head, after_declarator, after_declarators, scalar_tree, array_tree, object_tree, declarator_tree_at, declarator_trees_at}
+use Rattle.pk_type_declaration.specs.Enumerations.{words_at, int_named, after_tag, next_number, is_beyond, enumerator_value, is_refused_enumerator, after_enumerator_value, after_enumerator_name, after_enumerator, after_enumerators, after_words, hidden, hidden_by, word_trees_at}
+use Rattle.pk_type_declaration.specs.Statics.{after_declaration, declaration_trees_at}
 use Rattle.pk_type_declaration.specs.Walks.{Walked, here, failing, after_value, after_effect, after_values, after_name, with_local}
 use Rattle.pk_type_laws.specs.Answered.Failures.{appended}
 
@@ -94,12 +99,52 @@ unfolding after_declarators
 declarators_first words [] w = refl
 declarators_first words (d ∷ ds) w = ap (after_declarators noted words ds) (declarator_first words d w) ∙ declarators_first words ds (after_declarator appended words d w)
 
+-- ---- the words of a declaration, and enumerations
+
+tag_first : (x : Option Identifier) (w : L) → after_tag noted x (first w) ≡ first (after_tag appended x w)
+tag_first None w = refl
+tag_first (Some x) w = ap (λ (v : W). after_name x (declared.TypeName int_named) v) (failing_first (redeclared w.scoping x) w)
+
+value_same : (next : Option ℤ) (e : Option ExpressionTree) (w : L) → enumerator_value (first w) next e ≡ enumerator_value w next e
+value_same next None w = refl
+value_same next (Some e) w = refl
+
+enumerator_value_first : (next : Option ℤ) (x : Identifier) (e : Option ExpressionTree) (w : L) → after_enumerator_value noted next x e (first w) ≡ first (after_enumerator_value appended next x e w)
+enumerator_value_first next x None w = failing_first (fails_if (is_beyond next) rule.Constant x.at) w
+enumerator_value_first next x (Some e) w =
+    let fs = fails_if (is_refused_enumerator (evaluated w e)) rule.Constant (first_place_of e) in
+    ap (failing noted fs) (value_first e w) ∙ failing_first fs (after_value appended e w)
+
+enumerator_name_first : (v : Option ℤ) (x : Identifier) (w : L) → after_enumerator_name noted v x (first w) ≡ first (after_enumerator_name appended v x w)
+enumerator_name_first v x w = ap (λ (u : W). after_name x (declared.Enumerator v) u) (failing_first (redeclared w.scoping x ++ special_object w.scoping x) w)
+
+enumerator_first : (next : Option ℤ) (x : EnumeratorTree) (w : L) → after_enumerator noted next x (first w) ≡ first (after_enumerator appended next x w)
+unfolding after_enumerator
+enumerator_first next x w =
+    let v = enumerator_value w next x.value in
+    ap (λ (u : Option ℤ). after_enumerator_name noted u x.name (after_enumerator_value noted next x.name x.value (first w))) (value_same next x.value w)
+    ∙ (ap (after_enumerator_name noted v x.name) (enumerator_value_first next x.name x.value w) ∙ enumerator_name_first v x.name (after_enumerator_value appended next x.name x.value w))
+
+enumerators_first : (next : Option ℤ) (xs : List EnumeratorTree) (w : L) → after_enumerators noted next xs (first w) ≡ first (after_enumerators appended next xs w)
+unfolding after_enumerators
+enumerators_first next [] w = refl
+enumerators_first next (x ∷ xs) w =
+    let n = next_number (enumerator_value w next x.value) in
+    ap (λ (u : Option ℤ). after_enumerators noted (next_number u) xs (after_enumerator noted next x (first w))) (value_same next x.value w)
+    ∙ (ap (after_enumerators noted n xs) (enumerator_first next x w) ∙ enumerators_first n xs (after_enumerator appended next x w))
+
+pub words_first : (words : OneOrMore Specifier) (e : Option EnumerationTree) (w : L) → after_words noted words e (first w) ≡ first (after_words appended words e w)
+unfolding after_words
+words_first words None w = failing_first (word_failures (here w) words) w
+words_first words (Some e) w =
+    let xs = e.enumerators.first ∷ e.enumerators.more in
+    ap (after_enumerators noted (Some (pos 0)) xs) (tag_first (type_name_among words) w) ∙ enumerators_first (Some (pos 0)) xs (after_tag appended (type_name_among words) w)
+
 pub declaration_first : (d : DeclarationTree) (w : L) → after_declaration noted d (first w) ≡ first (after_declaration appended d w)
 unfolding after_declaration
 declaration_first d w =
-    let words = words_of (here w) d.specifiers in
-    let ds = d.declarators.first ∷ d.declarators.more in
-    ap (after_declarators noted words ds) (failing_first (word_failures (here w) d.specifiers) w) ∙ declarators_first words ds (failing appended (word_failures (here w) d.specifiers) w)
+    let words = words_at (here w) d.specifiers d.enumeration in
+    ap (after_declarators noted words d.declarators) (words_first d.specifiers d.enumeration w) ∙ declarators_first words d.declarators (after_words appended d.specifiers d.enumeration w)
 
 -- ---- their typed trees
 
@@ -131,9 +176,27 @@ declarators_same words (d ∷ ds) w =
     ∙ ap (λ (ts : Option (List DeclaredTree)). of_both (λ t ts. t ∷ ts) (declarator_tree_at appended words d w) ts)
     (ap (declarator_trees_at noted words ds) (declarator_first words d w) ∙ declarators_same words ds (after_declarator appended words d w))
 
+hidden_same : (next : Option ℤ) (xs : List EnumeratorTree) (w : L) → hidden_by noted next xs (first w) ≡ hidden_by appended next xs w
+unfolding hidden_by
+hidden_same next [] w = refl
+hidden_same next (x ∷ xs) w =
+    let n = next_number (enumerator_value w next x.value) in
+    ap (λ (ts : List DeclaredTree). hidden (here w x.name) x.name.at ++ ts)
+    (ap (λ (u : Option ℤ). hidden_by noted (next_number u) xs (after_enumerator noted next x (first w))) (value_same next x.value w)
+    ∙ (ap (hidden_by noted n xs) (enumerator_first next x w) ∙ hidden_same n xs (after_enumerator appended next x w)))
+
+pub word_trees_same : (words : OneOrMore Specifier) (e : Option EnumerationTree) (w : L) → word_trees_at noted words e (first w) ≡ word_trees_at appended words e w
+unfolding word_trees_at
+word_trees_same words None w = refl
+word_trees_same words (Some e) w =
+    let xs = e.enumerators.first ∷ e.enumerators.more in
+    ap (hidden_by noted (Some (pos 0)) xs) (tag_first (type_name_among words) w) ∙ hidden_same (Some (pos 0)) xs (after_tag appended (type_name_among words) w)
+
 pub declaration_same : (d : DeclarationTree) (w : L) → declaration_trees_at noted d (first w) ≡ declaration_trees_at appended d w
 unfolding declaration_trees_at
 declaration_same d w =
-    let words = words_of (here w) d.specifiers in
-    let ds = d.declarators.first ∷ d.declarators.more in
-    ap (declarator_trees_at noted words ds) (failing_first (word_failures (here w) d.specifiers) w) ∙ declarators_same words ds (failing appended (word_failures (here w) d.specifiers) w)
+    let words = words_at (here w) d.specifiers d.enumeration in
+    let ts = declarator_trees_at noted words d.declarators (after_words noted d.specifiers d.enumeration (first w)) in
+    ap (λ (hs : List DeclaredTree). option_map (λ ds. hs ++ ds) ts) (word_trees_same d.specifiers d.enumeration w)
+    ∙ ap (option_map (λ ds. word_trees_at appended d.specifiers d.enumeration w ++ ds))
+    (ap (declarator_trees_at noted words d.declarators) (words_first d.specifiers d.enumeration w) ∙ declarators_same words d.declarators (after_words appended d.specifiers d.enumeration w))

@@ -1,9 +1,8 @@
 -- Expressions and declarations in which no rule fails have typed trees.
-use Rattle.std.proofs.Common.{◌≡◌, ℕ, Bool, true, false, List, [], ◌∷◌, ◌++◌, Option, Some, None, length, refl, sym, subst, if◌then◌else◌}
+use Rattle.std.proofs.Common.{◌≡◌, ℕ, Bool, true, false, List, [], ◌∷◌, ◌++◌, Option, Some, None, length, refl, sym, subst}
 use Rattle.std.proofs.lemmas.Bool.{false≢true}
 use Rattle.std.specs.Prelude.{is_some}
 use Rattle.std.specs.Option.{option_map}
-use Rattle.std.specs.Str.{bytes_eq}
 use Rattle.pk_ctypes.specs.declared.places.Pos.{Pos}
 use Rattle.pk_ctypes.specs.declared.types.IntType.{IntType}
 use Rattle.pk_ast.specs.declared.expressions.Identifier.{Identifier}
@@ -15,19 +14,20 @@ use Rattle.pk_type_scope.specs.declared.declarations.Typing.{Typing}
 use Rattle.pk_type_scope.specs.declared.declarations.Typing.TheVariants.{Void, Integer, Unknown}
 use Rattle.pk_type_scope.specs.Declarations.{Names, HasTypes, is_void, is_unknown}
 use Rattle.pk_type_scope.specs.Failures.{noted}
-use Rattle.pk_type_scope.specs.Scopes.{Scoping, names_in, opened, declaring, first_of, found_up, spelled}
-use Rattle.pk_type_scope.specs.Specifiers.{word_failures}
+use Rattle.pk_type_scope.specs.Scopes.{Scoping, names_in, opened, declaring, key_of}
 use Rattle.pk_type_expression.specs.Laws.{IsTreeOf}
 use Rattle.pk_type_expression.specs.Rules.{void, failures, used_failures, failures_used}
 use Rattle.pk_type_expression.specs.Typed.{EvaluatedTree, value, effect, value_of, effect_of, of_both, typed, typed_all, calls_after}
 use Rattle.pk_type_expression.specs.Types.{type_of}
-use Rattle.pk_type_expression.proofs.TreeLemmas.{accepted_expressions_have_trees, none_before, none_after, types_are, known_type}
+use Rattle.pk_type_expression.proofs.TreeLemmas.{accepted_expressions_have_trees, none_before, none_after}
 use Rattle.pk_type_declaration.specs.declared.words.Words.{Words}
-use Rattle.pk_type_declaration.specs.Declarations.{integer_in, object_at, at_name, braces, surplus, after_initializer, length_at, after_optional_length, after_object_name, after_object, after_head, after_declarator, after_declarators, after_declaration, words_of, object_tree, declarator_tree_at, declarator_trees_at, declaration_trees_at}
+use Rattle.pk_type_declaration.specs.Declarations.{integer_in, object_at, at_name, braces, surplus, after_initializer, length_at, after_optional_length, after_object_name, after_object, after_head, after_declarator, after_declarators, object_tree, declarator_tree_at, declarator_trees_at}
+use Rattle.pk_type_declaration.specs.Enumerations.{words_at, after_words, word_trees_at}
 use Rattle.pk_type_declaration.specs.Starts.{given}
-use Rattle.pk_type_declaration.specs.Statics.{static_at, after_static_head, after_static, after_statics, after_static_declaration, after_block_declaration, block_declaration_at}
-use Rattle.pk_type_declaration.specs.Walks.{here, failing, after_value, after_effect, value_at, effect_at, values_at}
-use Rattle.pk_type_laws.proofs.Accepted.Declarations.{not_void, later_declarators, found_last, is_used}
+use Rattle.pk_type_declaration.specs.Statics.{static_at, after_static_head, after_static, after_statics, after_declaration, declaration_trees_at, after_static_declaration, after_block_declaration, block_declaration_at}
+use Rattle.pk_type_declaration.specs.Walks.{here, after_value, after_effect, value_at, effect_at, values_at}
+use Rattle.pk_type_laws.proofs.Accepted.Declarations.{all_declaring, not_void, later_declarators, found_last, is_used}
+use Rattle.pk_type_laws.proofs.Accepted.Enumerations.{words_names, words_known, holds_types}
 use Rattle.pk_type_laws.proofs.Accepted.Starts.{later_numbers, same_scope}
 use Rattle.pk_type_laws.proofs.Accepted.Statics.{later_statics, name_not_void}
 use Rattle.pk_type_laws.proofs.Accepted.Walks.{W, none_found}
@@ -48,17 +48,12 @@ both_there f (Some x) (Some y) h k = refl
 abbrev pub Known : Scoping → Type 0
 Known s = (x : Identifier) → HasTypes (names_in s x)
 
-picked : (b : Bool) (o : Declaration) (l other : Option Declaration) → HasTypes (Some o) → HasTypes (first_of l other) → HasTypes (first_of (if b then Some o else l) other)
-picked true o l other h k = h
-picked false o l other h k = k
-
 pub known_declaring : (s : Scoping) (x : Identifier) (o : Declaration) → Known s → HasTypes (Some o) → Known (declaring s x o)
-unfolding names_in
-known_declaring s x o h k y = let q = spelled s.text y in picked (bytes_eq (spelled s.text x) q) o (s.inner q) (found_up s.outer q None) k (h y)
+known_declaring = all_declaring HasTypes
 
 pub known_opened : (s : Scoping) → Known s → Known (opened s)
 unfolding names_in
-known_opened s h y = subst HasTypes (sym (found_last s.outer s.inner (spelled s.text y) None)) (h y)
+known_opened s h y = subst HasTypes (sym (found_last s.outer s.inner (key_of s.text y) None)) (h y)
 
 -- ---- expressions
 
@@ -174,11 +169,11 @@ pub declaration_there : (d : DeclarationTree) (w : W) → Known w.scoping → (a
     → (is_some (declaration_trees_at noted d w) ≡ true) × Known (after_declaration noted d w).scoping
 unfolding after_declaration declaration_trees_at
 declaration_there d w k h =
-    let words = words_of (here w) d.specifiers in
-    let ds = d.declarators.first ∷ d.declarators.more in
-    let v = failing noted (word_failures (here w) d.specifiers) w in
-    let rows = none_found w.found (word_failures (here w) d.specifiers) ((later_declarators words ds v).found h) in
-    declarators_there words ds v (known_type (here w) (types_are (here w) k) d.specifiers rows.1) k h
+    let words = words_at (here w) d.specifiers d.enumeration in
+    let v = after_words noted d.specifiers d.enumeration w in
+    let f : v.found ≡ None = (later_declarators words d.declarators v).found h in
+    let all = declarators_there words d.declarators v (words_known d.specifiers d.enumeration w k f) (words_names HasTypes holds_types d.specifiers d.enumeration w k f) h in
+    (mapped_there (λ ts. word_trees_at noted d.specifiers d.enumeration w ++ ts) (declarator_trees_at noted words d.declarators v) all.0, all.1)
 
 -- ---- static objects
 
@@ -205,11 +200,10 @@ statics_known words (d ∷ ds) w u k h =
 static_declaration_known : (d : DeclarationTree) (w : W) → Known w.scoping → (after_static_declaration noted d w).found ≡ None → Known (after_static_declaration noted d w).scoping
 unfolding after_static_declaration
 static_declaration_known d w k h =
-    let words = words_of (here w) d.specifiers in
-    let ds = d.declarators.first ∷ d.declarators.more in
-    let v = failing noted (word_failures (here w) d.specifiers) w in
-    let rows = none_found w.found (word_failures (here w) d.specifiers) ((later_statics words ds v).found h) in
-    statics_known words ds v (known_type (here w) (types_are (here w) k) d.specifiers rows.1) k h
+    let words = words_at (here w) d.specifiers d.enumeration in
+    let v = after_words noted d.specifiers d.enumeration w in
+    let f : v.found ≡ None = (later_statics words d.declarators v).found h in
+    statics_known words d.declarators v (words_known d.specifiers d.enumeration w k f) (words_names HasTypes holds_types d.specifiers d.enumeration w k f) h
 
 pub block_declaration_there : (s : Option Pos) (d : DeclarationTree) (w : W) → Known w.scoping → (after_block_declaration noted s d w).found ≡ None
     → (is_some (block_declaration_at noted s d w) ≡ true) × Known (after_block_declaration noted s d w).scoping

@@ -9,25 +9,27 @@ use Rattle.pk_ast.specs.Trees.{ExpressionTree, InitializerTree, single, braced, 
 use Rattle.pk_typed.specs.Trees.{FileObjectTree}
 use Rattle.pk_type_scope.specs.declared.declarations.NamedType.{NamedType}
 use Rattle.pk_type_scope.specs.declared.declarations.Typing.{Typing}
-use Rattle.pk_type_scope.specs.Declarations.{is_unknown}
+use Rattle.pk_type_scope.specs.Declarations.{HasTypes, is_unknown}
 use Rattle.pk_type_scope.specs.Failures.{noted}
 use Rattle.pk_type_scope.specs.Specifiers.{word_failures}
 use Rattle.pk_type_expression.specs.Rules.{count, used_failures}
 use Rattle.pk_type_expression.specs.Types.{type_of}
 use Rattle.pk_type_declaration.specs.declared.words.Words.{Words}
 use Rattle.pk_type_declaration.specs.Constants.{evaluated, length_in, after_length}
-use Rattle.pk_type_declaration.specs.Declarations.{words_of, type_or_int, text_of, at_name, braces, surplus, after_initializer, after_optional_length, length_or_1, after_head, after_object_name, after_declarator, after_declarators, after_declaration}
+use Rattle.pk_type_declaration.specs.Declarations.{type_or_int, text_of, at_name, braces, surplus, after_initializer, after_optional_length, length_or_1, after_head, after_object_name, after_declarator, after_declarators}
+use Rattle.pk_type_declaration.specs.Enumerations.{words_at, after_words}
 use Rattle.pk_type_declaration.specs.Starts.{after_numbers, numbers_at, given, start_of}
-use Rattle.pk_type_declaration.specs.Statics.{static_at, after_static_head, after_static, after_statics, after_static_declaration, after_block_declaration}
+use Rattle.pk_type_declaration.specs.Statics.{static_at, after_static_head, after_static, after_statics, after_declaration, after_static_declaration, after_block_declaration}
 use Rattle.pk_type_declaration.specs.Walks.{StaticsTree, here, failing, after_value}
 use Rattle.pk_type_statement.specs.Statements.{on, inside, after, after_items, with_case, with_default, in_switch, repeated_cases, after_start, after_optional_value, after_optional_effect}
 use Rattle.pk_type_statement.specs.Statements as statements
 use Rattle.pk_type.specs.Functions.{after_parameter_name, after_parameter, after_parameters}
 use Rattle.pk_type.specs.TypeNames.{named_type, after_type_name, after_type_names, after_typedef}
 use Rattle.pk_welltyped.specs.WellTyped.{IsStart}
-use Rattle.pk_type_expression.proofs.TreeLemmas.{none_before, none_after, types_are, known_type}
+use Rattle.pk_type_expression.proofs.TreeLemmas.{none_before, none_after}
 use Rattle.pk_type_laws.proofs.Accepted.Walks.{W, none_found}
 use Rattle.pk_type_laws.proofs.Accepted.Declarations.{length_has}
+use Rattle.pk_type_laws.proofs.Accepted.Enumerations.{words_statics, words_names, words_known, holds_types}
 use Rattle.pk_type_laws.proofs.Accepted.Starts.{later_numbers, numbers_in_type, numbers_many, given_fit, RoomIn, start_is}
 use Rattle.pk_type_laws.proofs.Accepted.Statements.{later_statement, later_items}
 use Rattle.pk_type_laws.proofs.Accepted.Statics.{later_statics, same_statics}
@@ -62,7 +64,8 @@ declarators_statics words (d ∷ ds) w =
 
 declaration_statics : (d : DeclarationTree) (w : W) → (after_declaration noted d w).statics ≡ w.statics
 unfolding after_declaration
-declaration_statics d w = declarators_statics (words_of (here w) d.specifiers) (d.declarators.first ∷ d.declarators.more) (failing noted (word_failures (here w) d.specifiers) w)
+declaration_statics d w =
+    declarators_statics (words_at (here w) d.specifiers d.enumeration) d.declarators (after_words noted d.specifiers d.enumeration w) ∙ words_statics d.specifiers d.enumeration w
 
 value_statics : (e : Option ExpressionTree) (w : W) → (after_optional_value noted e w).statics ≡ w.statics
 value_statics None w = refl
@@ -98,7 +101,8 @@ names_statics t (x ∷ xs) w = names_statics t xs (after_type_name noted t x w)
 
 pub typedef_statics : (d : TypedefTree) (w : W) → (after_typedef noted d w).statics ≡ w.statics
 unfolding after_typedef
-typedef_statics d w = names_statics (named_type (words_of (here w) d.specifiers)) (d.names.first ∷ d.names.more) (failing noted (word_failures (here w) d.specifiers) w)
+typedef_statics d w =
+    names_statics (named_type (words_at (here w) d.specifiers d.enumeration)) (d.names.first ∷ d.names.more) (after_words noted d.specifiers d.enumeration w) ∙ words_statics d.specifiers d.enumeration w
 
 -- ---- a declaration that makes some
 
@@ -143,11 +147,11 @@ statics_start words (d ∷ ds) w u k a h =
 static_declaration_start : (d : DeclarationTree) (w : W) → Known w.scoping → AreStarts w.statics.made → (after_static_declaration noted d w).found ≡ None → AreStarts (after_static_declaration noted d w).statics.made
 unfolding after_static_declaration
 static_declaration_start d w k a h =
-    let words = words_of (here w) d.specifiers in
-    let ds = d.declarators.first ∷ d.declarators.more in
-    let v = failing noted (word_failures (here w) d.specifiers) w in
-    let rows = none_found w.found (word_failures (here w) d.specifiers) ((later_statics words ds v).found h) in
-    statics_start words ds v (known_type (here w) (types_are (here w) k) d.specifiers rows.1) k a h
+    let words = words_at (here w) d.specifiers d.enumeration in
+    let v = after_words noted d.specifiers d.enumeration w in
+    let f : v.found ≡ None = (later_statics words d.declarators v).found h in
+    let av = subst (λ (s : StaticsTree). AreStarts s.made) (sym (words_statics d.specifiers d.enumeration w)) a in
+    statics_start words d.declarators v (words_known d.specifiers d.enumeration w k f) (words_names HasTypes holds_types d.specifiers d.enumeration w k f) av h
 
 block_start : (s : Option Pos) (d : DeclarationTree) (w : W) → Known w.scoping → AreStarts w.statics.made → (after_block_declaration noted s d w).found ≡ None → AreStarts (after_block_declaration noted s d w).statics.made
 block_start None d w k a h = subst (λ (s : StaticsTree). AreStarts s.made) (sym (declaration_statics d w)) a

@@ -26,8 +26,7 @@ use Rattle.pk_type_constant.specs.declared.constants.Constant.{Constant}
 use Rattle.pk_type_constant.specs.declared.constants.Constant.TheVariants.{Number, Faulty, NotConstant}
 use Rattle.pk_type_constant.specs.Forms.{is_constant_form}
 use Rattle.pk_type_declaration.specs.Constants.{given_by, evaluated, is_faulty, is_refused, number_of, number_in, after_constant}
-use Rattle.pk_type_declaration.specs.Declarations.{declaration_trees_at}
-use Rattle.pk_type_declaration.specs.Statics.{after_block_declaration, block_declaration_at}
+use Rattle.pk_type_declaration.specs.Statics.{declaration_trees_at, after_block_declaration, block_declaration_at}
 use Rattle.pk_type_declaration.specs.Walks.{here, failing, after_value, value_at, effect_at}
 use Rattle.pk_type_jump.specs.declared.labels.Label.{Label}
 use Rattle.pk_type_jump.specs.declared.labels.Within.{Within}

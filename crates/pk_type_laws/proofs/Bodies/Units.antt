@@ -17,7 +17,7 @@ use Rattle.pk_type_scope.specs.declared.declarations.NamedType.{NamedType}
 use Rattle.pk_type_scope.specs.declared.declarations.Typing.{Typing}
 use Rattle.pk_type_scope.specs.declared.declarations.Typing.TheVariants.{Void, Integer, Unknown}
 use Rattle.pk_type_scope.specs.declared.failures.Failure.{Failure}
-use Rattle.pk_type_scope.specs.Declarations.{is_void, is_unknown, returned_by}
+use Rattle.pk_type_scope.specs.Declarations.{HasTypes, is_void, is_unknown, returned_by}
 use Rattle.pk_type_scope.specs.Failures.{fails_if, noted}
 use Rattle.pk_type_scope.specs.Scopes.{names_in, spelled}
 use Rattle.pk_type_scope.specs.Specifiers.{type_named, word_failures}
@@ -25,6 +25,7 @@ use Rattle.pk_type_expression.proofs.TreeLemmas.{none_before, none_after, holds_
 use Rattle.pk_type_declaration.specs.declared.words.Words.{Words}
 use Rattle.pk_type_declaration.specs.Declarations.{at_name, words_of, text_of, integer_in, redeclared, void_object, special_object, braces, surplus, length_at, after_optional_length}
 use Rattle.pk_ctypes.specs.Spellings.{lookup}
+use Rattle.pk_type_declaration.specs.Enumerations.{words_at, after_words}
 use Rattle.pk_type_declaration.specs.Specials.{special, specials}
 use Rattle.pk_type_declaration.specs.Walks.{StaticsTree, here, failing, entering}
 use Rattle.pk_type_jump.specs.Jumps.{around_body, nothing_jumped, jumps_of}
@@ -44,6 +45,7 @@ use Rattle.pk_type_laws.proofs.Accepted.Functions.{later_parameters, later_body}
 use Rattle.pk_type_laws.proofs.Accepted.Units.{new_entries, updated, externals_later, texts_are_well_typed}
 use Rattle.pk_type_laws.proofs.Accepted.Starts.{later_numbers, same_scope}
 use Rattle.pk_type_laws.proofs.Accepted.Statics.{same_statics}
+use Rattle.pk_type_laws.proofs.Accepted.Enumerations.{words_statics, words_names, words_known, holds_types}
 use Rattle.pk_type_laws.proofs.Accepted.TypeNames.{type_words}
 use Rattle.pk_type_laws.proofs.Accepted.Walks.{W, none_found}
 use Rattle.pk_type_laws.specs.Accepted.Laws.{AcceptedUnitsAreWellTyped}
@@ -104,10 +106,10 @@ objects_known storage words (d ∷ ds) f u k h =
 declaration_known : (storage : Option Storage) (d : DeclarationTree) (f : F) → Known f.walked.scoping → (after_declaration noted storage d f).walked.found ≡ None → Known (after_declaration noted storage d f).walked.scoping
 unfolding after_declaration
 declaration_known storage d f k h =
-    let words = words_of (here f.walked) d.specifiers in
-    let ds = d.declarators.first ∷ d.declarators.more in
-    let g = on (failing noted (word_failures (here f.walked) d.specifiers)) f in
-    objects_known storage words ds g (known_type (here f.walked) (types_are (here f.walked) k) d.specifiers (none_found f.walked.found (word_failures (here f.walked) d.specifiers) (objects_before storage words ds g h)).1) k h
+    let words = words_at (here f.walked) d.specifiers d.enumeration in
+    let g = on (after_words noted d.specifiers d.enumeration) f in
+    let hg = objects_before storage words d.declarators g h in
+    objects_known storage words d.declarators g (words_known d.specifiers d.enumeration f.walked k hg) (words_names HasTypes holds_types d.specifiers d.enumeration f.walked k hg) h
 
 objects_keep : (storage : Option Storage) (words : Words) (ds : List DeclaratorTree) (f : F) → (after_objects noted storage words ds f).functions ≡ f.functions
 unfolding after_objects after_object
@@ -116,7 +118,7 @@ objects_keep storage words (d ∷ ds) f = objects_keep storage words ds (after_o
 
 declaration_keeps : (storage : Option Storage) (d : DeclarationTree) (f : F) → (after_declaration noted storage d f).functions ≡ f.functions
 unfolding after_declaration
-declaration_keeps storage d f = objects_keep storage (words_of (here f.walked) d.specifiers) (d.declarators.first ∷ d.declarators.more) (on (failing noted (word_failures (here f.walked) d.specifiers)) f)
+declaration_keeps storage d f = objects_keep storage (words_at (here f.walked) d.specifiers d.enumeration) d.declarators (on (after_words noted d.specifiers d.enumeration) f)
 
 file_objects_statics : (storage : Option Storage) (words : Words) (ds : List DeclaratorTree) (f : F) → (after_objects noted storage words ds f).walked.statics ≡ f.walked.statics
 unfolding after_objects after_object
@@ -127,7 +129,7 @@ file_objects_statics storage words (d ∷ ds) f =
 file_declaration_statics : (storage : Option Storage) (d : DeclarationTree) (f : F) → (after_declaration noted storage d f).walked.statics ≡ f.walked.statics
 unfolding after_declaration
 file_declaration_statics storage d f =
-    file_objects_statics storage (words_of (here f.walked) d.specifiers) (d.declarators.first ∷ d.declarators.more) (on (failing noted (word_failures (here f.walked) d.specifiers)) f)
+    file_objects_statics storage (words_at (here f.walked) d.specifiers d.enumeration) d.declarators (on (after_words noted d.specifiers d.enumeration) f) ∙ words_statics d.specifiers d.enumeration f.walked
 
 -- ---- type names
 
@@ -139,7 +141,8 @@ type_names_known t (x ∷ xs) w u k = type_names_known t xs (after_type_name not
 typedef_known : (d : TypedefTree) (w : W) → Known w.scoping → (after_typedef noted d w).found ≡ None → Known (after_typedef noted d w).scoping
 unfolding after_typedef
 typedef_known d w k h =
-    type_names_known (named_type (words_of (here w) d.specifiers)) (d.names.first ∷ d.names.more) (failing noted (word_failures (here w) d.specifiers) w) (known_type (here w) (types_are (here w) k) d.specifiers (type_words d w h)) k
+    let hw = type_words d w h in
+    type_names_known (named_type (words_at (here w) d.specifiers d.enumeration)) (d.names.first ∷ d.names.more) (after_words noted d.specifiers d.enumeration w) (words_known d.specifiers d.enumeration w k hw) (words_names HasTypes holds_types d.specifiers d.enumeration w k hw)
 
 -- ---- parameters
 

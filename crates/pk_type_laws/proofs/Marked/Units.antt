@@ -12,10 +12,11 @@ use Rattle.pk_typed.specs.Trees as tree
 use Rattle.pk_type_scope.specs.declared.declarations.Typing.{Typing}
 use Rattle.pk_type_scope.specs.Failures.{noted}
 use Rattle.pk_type_scope.specs.Scopes.{names_in}
-use Rattle.pk_type_scope.specs.Specifiers.{type_named, word_failures}
+use Rattle.pk_type_scope.specs.Specifiers.{type_named}
 use Rattle.pk_type_declaration.specs.declared.words.Words.{Words}
-use Rattle.pk_type_declaration.specs.Declarations.{words_of, text_of}
-use Rattle.pk_type_declaration.specs.Walks.{here, failing, entering}
+use Rattle.pk_type_declaration.specs.Declarations.{text_of}
+use Rattle.pk_type_declaration.specs.Enumerations.{words_at, after_words}
+use Rattle.pk_type_declaration.specs.Walks.{here, entering}
 use Rattle.pk_type_jump.specs.Jumps.{around_body, nothing_jumped, jumps_of}
 use Rattle.pk_type_jump.specs.Labels.{nothing_listed, outermost, labels_of}
 use Rattle.pk_type_statement.specs.Statements.{after_items}
@@ -68,7 +69,7 @@ objects_keep storage words (d ∷ ds) f = objects_keep storage words ds (after_o
 
 declaration_keeps : (storage : Option Storage) (d : DeclarationTree) (f : F) → (after_declaration noted storage d f).functions ≡ f.functions
 unfolding after_declaration
-declaration_keeps storage d f = objects_keep storage (words_of (here f.walked) d.specifiers) (d.declarators.first ∷ d.declarators.more) (on (failing noted (word_failures (here f.walked) d.specifiers)) f)
+declaration_keeps storage d f = objects_keep storage (words_at (here f.walked) d.specifiers d.enumeration) d.declarators (on (after_words noted d.specifiers d.enumeration) f)
 
 with_block : (r : Typing) (n : ℕ) (b : Option BlockTree) (f : F) → EntriesMarked f → (after_optional_body noted r n b f).walked.found ≡ None → EntriesMarked (after_optional_body noted r n b f)
 with_block r n None f m h = m

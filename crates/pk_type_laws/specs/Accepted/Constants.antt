@@ -42,7 +42,7 @@ DeclaratorsHave [] = Unit {0}
 DeclaratorsHave (d ∷ ds) = DeclaratorHas d × DeclaratorsHave ds
 
 abbrev pub DeclarationHas : DeclarationTree → Type 0
-DeclarationHas d = DeclaratorsHave (d.declarators.first ∷ d.declarators.more)
+DeclarationHas d = DeclaratorsHave d.declarators
 
 abbrev pub StartHas : ForStartTree → Type 0
 StartHas (declaration d) = DeclarationHas d
