@@ -13,9 +13,9 @@ use Rattle.pk_type_scope.specs.declared.declarations.Declaration.{Declaration}
 use Rattle.pk_type_scope.specs.Declarations.{is_void}
 use Rattle.pk_type_scope.specs.Failures.{noted, fails_if}
 use Rattle.pk_type_scope.specs.Scopes.{declared_here, spelled}
-use Rattle.pk_type_scope.specs.Specifiers.{word_failures}
 use Rattle.pk_type_declaration.specs.declared.words.Words.{Words}
-use Rattle.pk_type_declaration.specs.Declarations.{words_of, after_optional_length, length_at, braces, surplus}
+use Rattle.pk_type_declaration.specs.Declarations.{after_optional_length, length_at, braces, surplus}
+use Rattle.pk_type_declaration.specs.Enumerations.{words_at, after_words}
 use Rattle.pk_type_declaration.specs.Specials.{special}
 use Rattle.pk_type_declaration.specs.Walks.{Walked, here, failing, after_name}
 use Rattle.pk_type_statement.proofs.CaseLemmas.{failing_twice}
@@ -38,14 +38,13 @@ pub objects_ended : (storage : Option Storage) (words : Words) (f all : Files) (
 unfolding after_objects
 objects_ended storage words f all now p h = ap (λ n. after_objects noted storage words n f) (sym p) ∙ h
 
-pub declaration_step : (storage : Option Storage) (d : DeclarationTree) (words : Words) (more : List DeclaratorTree) (f a b c g : Files) → words ≡ words_of (here f.walked) d.specifiers → more ≡ d.declarators.more → a ≡ on (failing noted (word_failures (here f.walked) d.specifiers)) f →
-    b ≡ after_object noted storage words d.declarators.first a → c ≡ after_objects noted storage words more b → g ≡ without_calls c → g ≡ after_declaration noted storage d f
-unfolding after_declaration after_objects
-declaration_step storage d words more f a b c g p q r s t u =
-    let x = d.declarators.first in
-    u ∙ ap without_calls (t ∙ (ap (λ y. after_objects noted storage words y b) q
-    ∙ (ap (after_objects noted storage words d.declarators.more) (s ∙ ap (after_object noted storage words x) r)
-    ∙ ap (λ y. after_objects noted storage y d.declarators.more (after_object noted storage y x (on (failing noted (word_failures (here f.walked) d.specifiers)) f))) p)))
+pub declaration_step : (storage : Option Storage) (d : DeclarationTree) (words : Words) (ds : List DeclaratorTree) (f a c g : Files) → words ≡ words_at (here f.walked) d.specifiers d.enumeration → ds ≡ d.declarators →
+    a ≡ on (after_words noted d.specifiers d.enumeration) f → c ≡ after_objects noted storage words ds a → g ≡ without_calls c → g ≡ after_declaration noted storage d f
+unfolding after_declaration
+declaration_step storage d words ds f a c g p q r t u =
+    u ∙ ap without_calls (t ∙ (ap (λ y. after_objects noted storage words y a) q
+    ∙ (ap (after_objects noted storage words d.declarators) r
+    ∙ ap (λ y. after_objects noted storage y d.declarators (on (after_words noted d.specifiers d.enumeration) f)) p)))
 
 -- a declarator as far as what its name begins with, step by step
 pub head_walked : (storage : Option Storage) (words : Words) (d : DeclaratorTree) (f : Files) (len : Option ℕ) (o : Declaration) (is_array again ext void odd : Bool) (a b c e g : State) →

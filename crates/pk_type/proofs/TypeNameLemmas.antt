@@ -9,8 +9,7 @@ use Rattle.pk_type_scope.specs.declared.declarations.NamedType.{NamedType}
 use Rattle.pk_type_scope.specs.declared.failures.Failure.{Failure}
 use Rattle.pk_type_scope.specs.Failures.{noted, fails_if}
 use Rattle.pk_type_scope.specs.Scopes.{declared_here, spelled}
-use Rattle.pk_type_scope.specs.Specifiers.{word_failures}
-use Rattle.pk_type_declaration.specs.Declarations.{words_of}
+use Rattle.pk_type_declaration.specs.Enumerations.{words_at, after_words}
 use Rattle.pk_type_declaration.specs.Specials.{special}
 use Rattle.pk_type_declaration.specs.Walks.{Walked, here, failing, after_name}
 use Rattle.pk_type_statement.proofs.CaseLemmas.{failing_twice}
@@ -40,11 +39,11 @@ name_step t x w a b c again odd p q r s e =
     ∙ sym (failing_twice (fails_if declared_before rule.Redeclared x.at) (fails_if special_here rule.Special x.at) v))))
 
 -- a declaration, step by step
-pub typedef_step : (d : TypedefTree) (t : NamedType) (xs : List Identifier) (w a b v : State) → t ≡ named_type (words_of (here w) d.specifiers) → xs ≡ d.names.more → a ≡ failing noted (word_failures (here w) d.specifiers) w →
+pub typedef_step : (d : TypedefTree) (t : NamedType) (xs : List Identifier) (w a b v : State) → t ≡ named_type (words_at (here w) d.specifiers d.enumeration) → xs ≡ d.names.more → a ≡ after_words noted d.specifiers d.enumeration w →
     b ≡ after_type_name noted t d.names.first a → v ≡ after_type_names noted t xs b → v ≡ after_typedef noted d w
 unfolding after_typedef after_type_names
 typedef_step d t xs w a b v p q r s e =
     let x = d.names.first in
     e ∙ (ap (λ ys. after_type_names noted t ys b) q
     ∙ (ap (after_type_names noted t d.names.more) (s ∙ ap (after_type_name noted t x) r)
-    ∙ ap (λ u. after_type_names noted u d.names.more (after_type_name noted u x (failing noted (word_failures (here w) d.specifiers) w))) p))
+    ∙ ap (λ u. after_type_names noted u d.names.more (after_type_name noted u x (after_words noted d.specifiers d.enumeration w))) p))

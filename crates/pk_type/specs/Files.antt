@@ -11,9 +11,9 @@ use Rattle.pk_type_scope.specs.declared.declarations.Declaration.{Declaration}
 use Rattle.pk_type_scope.specs.declared.declarations.Declaration.TheVariants as declared
 use Rattle.pk_type_scope.specs.declared.failures.Failure.{Failure}
 use Rattle.pk_type_scope.specs.Failures.{fails_if}
-use Rattle.pk_type_scope.specs.Specifiers.{word_failures}
 use Rattle.pk_type_declaration.specs.declared.words.Words.{Words}
-use Rattle.pk_type_declaration.specs.Declarations.{words_of, type_or_int, object_of, text_of, redeclared, void_object, special_object, braces, surplus, length_at, after_optional_length, length_or_1}
+use Rattle.pk_type_declaration.specs.Declarations.{type_or_int, object_of, text_of, redeclared, void_object, special_object, braces, surplus, length_at, after_optional_length, length_or_1}
+use Rattle.pk_type_declaration.specs.Enumerations.{words_at, after_words}
 use Rattle.pk_type_declaration.specs.Starts.{after_numbers, given, start_at}
 use Rattle.pk_type_declaration.specs.Walks.{Walked, Adding, here, failing, after_name}
 use Rattle.pk_type.specs.Signatures.{SignatureTree}
@@ -70,7 +70,7 @@ unfoldable pub after_objects : {F : Type 0} → Adding F → Option Storage → 
 after_objects add storage words [] f = f
 after_objects add storage words (d ∷ ds) f = after_objects add storage words ds (after_object add storage words d f)
 
--- the calls of a failure's expressions count for no function
+-- calls outside of functions stand where a rule fails, and count for no function
 abbrev pub without_calls : {F : Type 0} → Filed F → Filed F
 without_calls f = record {
   walked = record {
@@ -89,6 +89,5 @@ on g f = record { walked = g f.walked; objects = f.objects; functions = f.functi
 
 unfoldable pub after_declaration : {F : Type 0} → Adding F → Option Storage → DeclarationTree → Filed F → Filed F
 after_declaration add storage d f =
-    let words = words_of (here f.walked) d.specifiers in
-    without_calls (after_objects add storage words (d.declarators.first ∷ d.declarators.more)
-    (on (failing add (word_failures (here f.walked) d.specifiers)) f))
+    without_calls (after_objects add storage (words_at (here f.walked) d.specifiers d.enumeration) d.declarators
+    (on (after_words add d.specifiers d.enumeration) f))

@@ -4,9 +4,9 @@ use Rattle.pk_ast.specs.declared.expressions.Identifier.{Identifier}
 use Rattle.pk_ast.specs.Trees.{TypedefTree}
 use Rattle.pk_type_scope.specs.declared.declarations.Declaration.TheVariants as declared
 use Rattle.pk_type_scope.specs.declared.declarations.NamedType.{NamedType}
-use Rattle.pk_type_scope.specs.Specifiers.{word_failures}
 use Rattle.pk_type_declaration.specs.declared.words.Words.{Words}
-use Rattle.pk_type_declaration.specs.Declarations.{words_of, redeclared, special_object}
+use Rattle.pk_type_declaration.specs.Declarations.{redeclared, special_object}
+use Rattle.pk_type_declaration.specs.Enumerations.{words_at, after_words}
 use Rattle.pk_type_declaration.specs.Walks.{Walked, Adding, here, failing, after_name}
 
 -- what each name stands for
@@ -25,5 +25,5 @@ after_type_names add t (x ∷ xs) w = after_type_names add t xs (after_type_name
 -- the words stand outside the scopes of the names
 unfoldable pub after_typedef : {F : Type 0} → Adding F → TypedefTree → Walked F → Walked F
 after_typedef add d w =
-    after_type_names add (named_type (words_of (here w) d.specifiers)) (d.names.first ∷ d.names.more)
-    (failing add (word_failures (here w) d.specifiers) w)
+    after_type_names add (named_type (words_at (here w) d.specifiers d.enumeration)) (d.names.first ∷ d.names.more)
+    (after_words add d.specifiers d.enumeration w)

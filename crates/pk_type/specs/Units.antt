@@ -7,7 +7,7 @@ use Rattle.pk_typed.specs.Trees.{UnitTree}
 use Rattle.pk_type_scope.specs.Scopes.{spelled, file_scope}
 use Rattle.pk_type_declaration.specs.Declarations.{integer_in, type_or_int}
 use Rattle.pk_type_declaration.specs.Walks.{Adding}
-use Rattle.pk_type.specs.Files.{EntryTree, Filed, on, after_declaration}
+use Rattle.pk_type.specs.Files.{EntryTree, Filed, on, without_calls, after_declaration}
 use Rattle.pk_type.specs.Functions.{after_function}
 use Rattle.pk_type.specs.TypeNames.{after_typedef}
 
@@ -30,7 +30,7 @@ defined_in text (x ∷ xs) has = defined_in text xs (and_defined text x has)
 abbrev pub after_external : {F : Type 0} → Adding F → (List ℕ → Bool) → ExternalTree → Filed F → Filed F
 after_external add defined (function g) f = after_function add defined g f
 after_external add defined (objects storage d) f = after_declaration add storage d f
-after_external add defined (type_names d) f = on (after_typedef add d) f
+after_external add defined (type_names d) f = without_calls (on (after_typedef add d) f)
 
 unfoldable pub after_externals : {F : Type 0} → Adding F → (List ℕ → Bool) → List ExternalTree → Filed F → Filed F
 after_externals add defined [] f = f
@@ -38,7 +38,7 @@ after_externals add defined (x ∷ xs) f = after_externals add defined xs (after
 
 abbrev pub objects_of : ExternalTree → ℕ
 objects_of (function f) = 0
-objects_of (objects storage d) = 1 + length d.declarators.more
+objects_of (objects storage d) = length d.declarators
 objects_of (type_names d) = 0
 
 -- how many objects a text declares outside of functions

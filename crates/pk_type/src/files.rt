@@ -1,11 +1,12 @@
 // What stands before a place of the file scope.
 
-ghost use Rattle.std.specs.Prelude.{◌≡◌, ◌++◌, None, is_some, IfOk, OnOk};
-ghost use Rattle.pk_ast.specs.Views.{specifiers_tree, declarator_tree, declarator_trees, declaration_tree};
+ghost use Rattle.std.specs.Prelude.{◌≡◌, ◌++◌, None, is_some, option_map, IfOk, OnOk};
+ghost use Rattle.pk_ast.specs.Views.{specifiers_tree, declarator_tree, declarator_trees, enumeration_tree, declaration_tree};
 ghost use Rattle.pk_ctypes.specs.declared.words.Rule.TheVariants as rule;
 ghost use Rattle.pk_type_scope.specs.Failures.{fails_if, noted};
 ghost use Rattle.pk_type_scope.specs.Specifiers.{word_failures};
 ghost use Rattle.pk_type_declaration.specs.Declarations.{length_or_1, length_at};
+ghost use Rattle.pk_type_declaration.specs.Enumerations.{after_words};
 ghost use Rattle.pk_type_declaration.specs.Views.{walked_in};
 ghost use Rattle.pk_type_declaration.specs.Walks as walks;
 ghost use Rattle.pk_type.specs.Files as definitions;
@@ -13,7 +14,9 @@ ghost use Rattle.pk_type.specs.Units.{nothing_filed};
 ghost use Rattle.pk_type.specs.Views.{filed_in};
 
 use crate::signatures::Signature;
-use pk_ast::{Declaration as ObjectDeclaration, Declarator, Specifiers, Storage, StorageWord};
+use pk_ast::{
+    Declaration as ObjectDeclaration, Declarator, Enumeration, Specifiers, Storage, StorageWord,
+};
 use pk_ctypes::{Name, Pos, Rule};
 use pk_type_declaration::{
     Statics, Walk, Words, integer_in, length_or_1, note_braces, note_surplus, special, type_or_int,
@@ -175,14 +178,28 @@ impl<'a> File<'a> {
         self.to.walk.note_words(words);
     }
 
-    fn forget_calls(&mut self, alloc: Global)
+    // The words of a declaration.
+    fn words(
+        &mut self,
+        alloc: Global,
+        words: &Specifiers,
+        enumeration: &Option<Enumeration>,
+    ) -> Result<(), AllocError>
+        ensures { OnOk result (filed_in self.new
+            ≡ definitions.on (after_words noted (specifiers_tree words.now)
+            (option_map enumeration_tree enumeration.now)) (filed_in self.old)) }
+    {
+        self.to.walk.file_words(alloc, words, enumeration)
+    }
+
+    pub(crate) fn forget_calls(&mut self, alloc: Global)
         ensures { filed_in self.new ≡ definitions.without_calls (filed_in self.old) }
     {
         self.to.walk.notes.calls = Vec::new(alloc);
     }
 
-    // The other objects of a declaration.
-    fn more(
+    // The objects of a declaration.
+    fn objects(
         &mut self,
         alloc: Global,
         storage: &Option<Storage>,
@@ -208,10 +225,9 @@ impl<'a> File<'a> {
         ensures { OnOk result (filed_in self.new
             ≡ definitions.after_declaration noted storage.now (declaration_tree d.now) (filed_in self.old)) }
     {
-        let words = Words::of(&self.to.walk.scope, &d.specifiers);
-        self.note_words(&d.specifiers);
-        self.declarator(alloc, storage, words, &d.declarators.first)?;
-        self.more(alloc, storage, words, &d.declarators.more)?;
+        let words = Words::at(&self.to.walk.scope, &d.specifiers, &d.enumeration);
+        self.words(alloc, &d.specifiers, &d.enumeration)?;
+        self.objects(alloc, storage, words, &d.declarators)?;
         self.forget_calls(alloc);
         Ok(())
     }

@@ -13,7 +13,7 @@ use pk_ast::{Identifier, Typedef};
 use pk_ctypes::Rule;
 use pk_type_declaration::{Walk, Words, special};
 use pk_type_scope::{Declaration, NamedType, spelling};
-use std::alloc::AllocError;
+use std::alloc::{AllocError, Global};
 
 fn named_type(words: Words) -> NamedType
     ensures { result ≡ definitions.named_type words }
@@ -48,13 +48,13 @@ fn more(walk: &mut Walk<'_>, named: NamedType, list: &[Identifier]) -> Result<()
 }
 
 // A declaration of type names.
-fn typedef(walk: &mut Walk<'_>, d: &Typedef) -> Result<(), AllocError>
+fn typedef(alloc: Global, walk: &mut Walk<'_>, d: &Typedef) -> Result<(), AllocError>
     ensures { OnOk result
         (walked_in walk.new ≡ definitions.after_typedef noted (typedef_tree d.now) (walked_in walk.old)) }
 {
-    let words = Words::of(&walk.scope, &d.specifiers);
+    let words = Words::at(&walk.scope, &d.specifiers, &d.enumeration);
     let named = named_type(words);
-    walk.note_words(&d.specifiers);
+    walk.file_words(alloc, &d.specifiers, &d.enumeration)?;
     type_name(walk, named, d.first)?;
     more(walk, named, &d.more)?;
     Ok(())
@@ -62,10 +62,12 @@ fn typedef(walk: &mut Walk<'_>, d: &Typedef) -> Result<(), AllocError>
 
 impl<'a> File<'a> {
     /// A declaration of type names.
-    pub fn typedef(&mut self, d: &Typedef) -> Result<(), AllocError>
-        ensures { OnOk result (filed_in self.new
-            ≡ files.on (definitions.after_typedef noted (typedef_tree d.now)) (filed_in self.old)) }
+    pub fn typedef(&mut self, alloc: Global, d: &Typedef) -> Result<(), AllocError>
+        ensures { OnOk result (filed_in self.new ≡ files.without_calls
+            (files.on (definitions.after_typedef noted (typedef_tree d.now)) (filed_in self.old))) }
     {
-        typedef(&mut self.to.walk, d)
+        typedef(alloc, &mut self.to.walk, d)?;
+        self.forget_calls(alloc);
+        Ok(())
     }
 }

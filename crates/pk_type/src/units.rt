@@ -128,10 +128,7 @@ fn and_objects(count: usize, external: &External) -> Result<usize, AllocError>
     ensures { IfOk result (λ n. n ≡ count + definitions.objects_of (external_tree external.now)) }
 {
     match external {
-        External::Declaration(_, d) => {
-            let count = sum(count, 1)?;
-            sum(count, d.declarators.more.len())
-        }
+        External::Declaration(_, d) => sum(count, d.declarators.len()),
         External::Function(_) => Ok(count),
         External::TypeNames(_) => Ok(count),
     }
@@ -176,7 +173,7 @@ fn external(
     match one {
         External::Function(f) => file.function(alloc, defined, f),
         External::Declaration(storage, d) => file.declaration(alloc, storage, d),
-        External::TypeNames(d) => file.typedef(d),
+        External::TypeNames(d) => file.typedef(alloc, d),
     }
 }
 

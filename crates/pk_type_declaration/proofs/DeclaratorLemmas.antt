@@ -10,13 +10,14 @@ use Rattle.pk_typed.specs.Trees.{DeclaredTree}
 use Rattle.pk_typed.specs.Views.{declared_tree, declared_trees}
 use Rattle.pk_type_scope.specs.declared.failures.Failure.{Failure}
 use Rattle.pk_type_scope.specs.Failures.{noted}
-use Rattle.pk_type_scope.specs.Specifiers.{word_failures}
 use Rattle.pk_type_expression.specs.Typed.{of_both}
 use Rattle.pk_type_declaration.specs.declared.words.Words.{Words}
-use Rattle.pk_type_declaration.specs.Declarations.{words_of, after_declarator, after_declarators, after_declaration, declarator_tree_at, declarator_trees_at, declaration_trees_at}
+use Rattle.pk_type_declaration.specs.Declarations.{after_declarator, after_declarators, declarator_tree_at, declarator_trees_at}
+use Rattle.pk_type_declaration.specs.Enumerations.{words_at, after_words, word_trees_at}
+use Rattle.pk_type_declaration.specs.Statics.{after_declaration, declaration_trees_at}
 use Rattle.pk_type_declaration.specs.Parts.{joined}
-use Rattle.pk_type_declaration.specs.Walks.{Walked, here, failing}
-use Rattle.pk_type_declaration.proofs.PartLemmas.{joined_step, joined_none, none_joined}
+use Rattle.pk_type_declaration.specs.Walks.{Walked, here}
+use Rattle.pk_type_declaration.proofs.PartLemmas.{joined_step, joined_none}
 
 abbrev State : Type 0
 State = Walked (Option Failure)
@@ -58,27 +59,24 @@ declared_push None x = refl
 declared_push (Some xs) None = refl
 declared_push (Some xs) (Some x) = ap Some (map-append declared_tree xs (x ∷ []))
 
--- a declaration, step by step
-pub declaration_walked : (d : DeclarationTree) (words : Words) (more : List DeclaratorTree) (w a b v : State) → words ≡ words_of (here w) d.specifiers → more ≡ d.declarators.more → a ≡ failing noted (word_failures (here w) d.specifiers) w →
-    b ≡ after_declarator noted words d.declarators.first a → v ≡ after_declarators noted words more b → v ≡ after_declaration noted d w
-unfolding after_declaration after_declarators
-declaration_walked d words more w a b v p q r s t =
-    let f = d.declarators.first in
-    t ∙ (ap (λ y. after_declarators noted words y b) q
-    ∙ (ap (after_declarators noted words d.declarators.more) (s ∙ ap (after_declarator noted words f) r)
-    ∙ ap (λ x. after_declarators noted x d.declarators.more (after_declarator noted x f (failing noted (word_failures (here w) d.specifiers) w))) p))
+-- behind trees that are there
+behind : {A : Type 0} (xs : List A) (ys : Option (List A)) → joined (Some xs) ys ≡ option_map (λ zs. xs ++ zs) ys
+behind xs None = refl
+behind xs (Some ys) = refl
 
-pub declaration_trees : (d : DeclarationTree) (words : Words) (more : List DeclaratorTree) (w a b : State) (t : Option DeclaredTree) (xs all : Trees) → words ≡ words_of (here w) d.specifiers → more ≡ d.declarators.more →
-    a ≡ failing noted (word_failures (here w) d.specifiers) w → b ≡ after_declarator noted words d.declarators.first a → t ≡ declarator_tree_at noted words d.declarators.first a →
-    xs ≡ of_both (λ zs z. zs ++ z ∷ []) (Some []) t → all ≡ joined xs (declarator_trees_at noted words more b) → all ≡ declaration_trees_at noted d w
-unfolding declaration_trees_at declarator_trees_at
-declaration_trees d words more w a b t xs all p q r s e x h =
-    let f = d.declarators.first in
-    h ∙ (ap (λ y. joined y (declarator_trees_at noted words more b)) x
-    ∙ (sym (joined_step (Some []) t (declarator_trees_at noted words more b))
-    ∙ (none_joined (of_both (λ y ys. y ∷ ys) t (declarator_trees_at noted words more b))
-    ∙ (ap (λ y. of_both (λ z zs. z ∷ zs) t (declarator_trees_at noted words y b)) q
-    ∙ (ap (λ y. of_both (λ z zs. z ∷ zs) t (declarator_trees_at noted words d.declarators.more y)) s
-    ∙ (ap (λ y. of_both (λ z zs. z ∷ zs) y (declarator_trees_at noted words d.declarators.more (after_declarator noted words f a))) e
-    ∙ (ap (λ y. of_both (λ z zs. z ∷ zs) (declarator_tree_at noted words f y) (declarator_trees_at noted words d.declarators.more (after_declarator noted words f y))) r
-    ∙ ap (λ y. of_both (λ z zs. z ∷ zs) (declarator_tree_at noted y f (failing noted (word_failures (here w) d.specifiers) w)) (declarator_trees_at noted y d.declarators.more (after_declarator noted y f (failing noted (word_failures (here w) d.specifiers) w)))) p)))))))
+-- a declaration, step by step
+pub declaration_walked : (d : DeclarationTree) (words : Words) (ds : List DeclaratorTree) (w a v : State) → words ≡ words_at (here w) d.specifiers d.enumeration → ds ≡ d.declarators → a ≡ after_words noted d.specifiers d.enumeration w →
+    v ≡ after_declarators noted words ds a → v ≡ after_declaration noted d w
+unfolding after_declaration
+declaration_walked d words ds w a v p q r t =
+    t ∙ (ap (λ y. after_declarators noted words y a) q ∙ (ap (after_declarators noted words d.declarators) r ∙ ap (λ y. after_declarators noted y d.declarators (after_words noted d.specifiers d.enumeration w)) p))
+
+pub declaration_trees : (d : DeclarationTree) (words : Words) (ds : List DeclaratorTree) (w a : State) (hs : List DeclaredTree) (xs all : Trees) → words ≡ words_at (here w) d.specifiers d.enumeration → ds ≡ d.declarators →
+    a ≡ after_words noted d.specifiers d.enumeration w → hs ≡ word_trees_at noted d.specifiers d.enumeration w → xs ≡ Some hs → all ≡ joined xs (declarator_trees_at noted words ds a) → all ≡ declaration_trees_at noted d w
+unfolding declaration_trees_at
+declaration_trees d words ds w a hs xs all p q r e x h =
+    h ∙ (ap (λ y. joined y (declarator_trees_at noted words ds a)) (x ∙ ap Some e)
+    ∙ (ap (λ y. joined (Some (word_trees_at noted d.specifiers d.enumeration w)) (declarator_trees_at noted words y a)) q
+    ∙ (ap (λ y. joined (Some (word_trees_at noted d.specifiers d.enumeration w)) (declarator_trees_at noted words d.declarators y)) r
+    ∙ (ap (λ y. joined (Some (word_trees_at noted d.specifiers d.enumeration w)) (declarator_trees_at noted y d.declarators (after_words noted d.specifiers d.enumeration w))) p
+    ∙ behind (word_trees_at noted d.specifiers d.enumeration w) (declarator_trees_at noted (words_at (here w) d.specifiers d.enumeration) d.declarators (after_words noted d.specifiers d.enumeration w))))))

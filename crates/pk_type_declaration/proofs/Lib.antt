@@ -4,3 +4,4 @@ pub mod PartLemmas
 pub mod DeclaratorLemmas
 mod StartLemmas
 mod StaticLemmas
+mod EnumerationLemmas

@@ -7,11 +7,10 @@ use Rattle.pk_typed.specs.Trees.{DeclaredTree}
 use Rattle.pk_typed.specs.Views.{declared_tree, declared_trees}
 use Rattle.pk_type_scope.specs.declared.failures.Failure.{Failure}
 use Rattle.pk_type_scope.specs.Failures.{noted}
-use Rattle.pk_type_scope.specs.Specifiers.{word_failures}
 use Rattle.pk_type_declaration.specs.declared.words.Words.{Words}
-use Rattle.pk_type_declaration.specs.Declarations.{words_of}
+use Rattle.pk_type_declaration.specs.Enumerations.{words_at, after_words, word_trees_at}
 use Rattle.pk_type_declaration.specs.Statics.{after_static, after_statics, after_static_declaration, static_tree_at, static_trees_at, static_declaration_at}
-use Rattle.pk_type_declaration.specs.Walks.{Walked, here, failing}
+use Rattle.pk_type_declaration.specs.Walks.{Walked, here}
 
 abbrev State : Type 0
 State = Walked (Option Failure)
@@ -43,22 +42,17 @@ unfolding static_trees_at
 end_trees words w now xs all p h = sym (append-nil xs) ∙ (ap (λ n. xs ++ static_trees_at noted words n w) (sym p) ∙ h)
 
 -- a declaration, step by step
-pub declaration_walked : (d : DeclarationTree) (words : Words) (more : List DeclaratorTree) (w a b v : State) → words ≡ words_of (here w) d.specifiers → more ≡ d.declarators.more → a ≡ failing noted (word_failures (here w) d.specifiers) w →
-    b ≡ after_static noted words d.declarators.first a → v ≡ after_statics noted words more b → v ≡ after_static_declaration noted d w
-unfolding after_static_declaration after_statics
-declaration_walked d words more w a b v p q r s t =
-    let f = d.declarators.first in
-    t ∙ (ap (λ y. after_statics noted words y b) q
-    ∙ (ap (after_statics noted words d.declarators.more) (s ∙ ap (after_static noted words f) r)
-    ∙ ap (λ x. after_statics noted x d.declarators.more (after_static noted x f (failing noted (word_failures (here w) d.specifiers) w))) p))
+pub declaration_walked : (d : DeclarationTree) (words : Words) (ds : List DeclaratorTree) (w a v : State) → words ≡ words_at (here w) d.specifiers d.enumeration → ds ≡ d.declarators → a ≡ after_words noted d.specifiers d.enumeration w →
+    v ≡ after_statics noted words ds a → v ≡ after_static_declaration noted d w
+unfolding after_static_declaration
+declaration_walked d words ds w a v p q r t =
+    t ∙ (ap (λ y. after_statics noted words y a) q ∙ (ap (after_statics noted words d.declarators) r ∙ ap (λ y. after_statics noted y d.declarators (after_words noted d.specifiers d.enumeration w)) p))
 
-pub declaration_trees : (d : DeclarationTree) (words : Words) (more : List DeclaratorTree) (w a b : State) (t : DeclaredTree) (xs all : Trees) → words ≡ words_of (here w) d.specifiers → more ≡ d.declarators.more → a ≡ failing noted (word_failures (here w) d.specifiers) w →
-    b ≡ after_static noted words d.declarators.first a → t ≡ static_tree_at d.declarators.first a → xs ≡ t ∷ [] → all ≡ xs ++ static_trees_at noted words more b → all ≡ static_declaration_at noted d w
-unfolding static_declaration_at static_trees_at
-declaration_trees d words more w a b t xs all p q r s e x h =
-    let f = d.declarators.first in
-    h ∙ (ap (λ y. y ++ static_trees_at noted words more b) (x ∙ ap (λ y. y ∷ []) e)
-    ∙ (ap (λ y. static_tree_at f a ∷ static_trees_at noted words y b) q
-    ∙ (ap (λ y. static_tree_at f a ∷ static_trees_at noted words d.declarators.more y) s
-    ∙ (ap (λ y. static_tree_at f y ∷ static_trees_at noted words d.declarators.more (after_static noted words f y)) r
-    ∙ ap (λ y. static_tree_at f (failing noted (word_failures (here w) d.specifiers) w) ∷ static_trees_at noted y d.declarators.more (after_static noted y f (failing noted (word_failures (here w) d.specifiers) w))) p))))
+pub declaration_trees : (d : DeclarationTree) (words : Words) (ds : List DeclaratorTree) (w a : State) (xs all : Trees) → words ≡ words_at (here w) d.specifiers d.enumeration → ds ≡ d.declarators → a ≡ after_words noted d.specifiers d.enumeration w →
+    xs ≡ word_trees_at noted d.specifiers d.enumeration w → all ≡ xs ++ static_trees_at noted words ds a → all ≡ static_declaration_at noted d w
+unfolding static_declaration_at
+declaration_trees d words ds w a xs all p q r x h =
+    h ∙ (ap (λ y. y ++ static_trees_at noted words ds a) x
+    ∙ (ap (λ y. word_trees_at noted d.specifiers d.enumeration w ++ static_trees_at noted words y a) q
+    ∙ (ap (λ y. word_trees_at noted d.specifiers d.enumeration w ++ static_trees_at noted words d.declarators y) r
+    ∙ ap (λ y. word_trees_at noted d.specifiers d.enumeration w ++ static_trees_at noted y d.declarators (after_words noted d.specifiers d.enumeration w)) p)))

@@ -8,7 +8,7 @@ use Rattle.pk_ctypes.specs.declared.words.Rule.TheVariants as rule
 use Rattle.pk_ast.specs.declared.declarations.Specifier.{Specifier}
 use Rattle.pk_ast.specs.declared.expressions.Identifier.{Identifier}
 use Rattle.pk_ast.specs.Places.{first_place_of}
-use Rattle.pk_ast.specs.Trees.{OneOrMore, ExpressionTree, ExpressionTrees, no_expressions, expression_then, InitializerTree, single, braced, DeclaratorTree, DeclarationTree}
+use Rattle.pk_ast.specs.Trees.{OneOrMore, ExpressionTree, ExpressionTrees, no_expressions, expression_then, InitializerTree, single, braced, DeclaratorTree}
 use Rattle.pk_typed.specs.declared.values.Variable.{Variable}
 use Rattle.pk_typed.specs.declared.values.Variable.TheVariants.{Local}
 use Rattle.pk_typed.specs.Trees as tree
@@ -22,12 +22,12 @@ use Rattle.pk_type_scope.specs.declared.failures.Failure.{Failure}
 use Rattle.pk_type_scope.specs.Declarations.{Names, is_void}
 use Rattle.pk_type_scope.specs.Failures.{fails_if}
 use Rattle.pk_type_scope.specs.Scopes.{Scoping, declared_here, spelled}
-use Rattle.pk_type_scope.specs.Specifiers.{type_named, word_failures, names_const}
+use Rattle.pk_type_scope.specs.Specifiers.{type_named, names_const}
 use Rattle.pk_type_expression.specs.Typed.{of_both}
 use Rattle.pk_type_declaration.specs.declared.words.Words.{Words}
 use Rattle.pk_type_declaration.specs.Constants.{evaluated, length_in, after_length}
 use Rattle.pk_type_declaration.specs.Specials.{special}
-use Rattle.pk_type_declaration.specs.Walks.{Walked, Adding, here, failing, after_value, after_values, after_name, with_local, value_at, values_at}
+use Rattle.pk_type_declaration.specs.Walks.{Walked, Adding, failing, after_value, after_values, after_name, with_local, value_at, values_at}
 
 -- the words of a declaration, as far as its names ask for them
 abbrev pub words_of : Names → OneOrMore Specifier → Words
@@ -143,13 +143,6 @@ unfoldable pub after_declarators : {F : Type 0} → Adding F → Words → List 
 after_declarators add words [] w = w
 after_declarators add words (d ∷ ds) w = after_declarators add words ds (after_declarator add words d w)
 
--- specifiers: the words name no type
-unfoldable pub after_declaration : {F : Type 0} → Adding F → DeclarationTree → Walked F → Walked F
-after_declaration add d w =
-    let words = words_of (here w) d.specifiers in
-    after_declarators add words (d.declarators.first ∷ d.declarators.more)
-    (failing add (word_failures (here w) d.specifiers) w)
-
 -- The typed tree of a declared object, by its number.
 
 abbrev pub scalar_tree : {F : Type 0} → ℕ → Pos → Option InitializerTree → Walked F → Option DeclaredTree
@@ -178,8 +171,3 @@ declarator_trees_at add words [] w = Some []
 declarator_trees_at add words (d ∷ ds) w =
     of_both (λ t ts. t ∷ ts) (declarator_tree_at add words d w)
     (declarator_trees_at add words ds (after_declarator add words d w))
-
-unfoldable pub declaration_trees_at : {F : Type 0} → Adding F → DeclarationTree → Walked F → Option (List DeclaredTree)
-declaration_trees_at add d w =
-    declarator_trees_at add (words_of (here w) d.specifiers) (d.declarators.first ∷ d.declarators.more)
-    (failing add (word_failures (here w) d.specifiers) w)

@@ -2,6 +2,7 @@ pub mod Walks
 pub mod Constants
 pub mod Specials
 pub mod Declarations
+pub mod Enumerations
 pub mod Starts
 pub mod Statics
 pub mod Parts

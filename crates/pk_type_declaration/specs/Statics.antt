@@ -1,14 +1,14 @@
 -- Objects that functions declare static (C99 6.2.4, 6.7.8): each is one for all calls, and holds what it begins with when a run begins. Declarations of blocks, static or not.
-use Rattle.std.specs.Prelude.{ℕ, ◌+◌, Bool, is_some, Option, Some, None, List, [], ◌∷◌, ◌++◌, length}
+use Rattle.std.specs.Prelude.{ℕ, ◌+◌, Bool, is_some, Option, Some, None, option_map, List, [], ◌∷◌, ◌++◌, length}
 use Rattle.pk_ctypes.specs.declared.places.Pos.{Pos}
 use Rattle.pk_ast.specs.Trees.{DeclaratorTree, DeclarationTree}
 use Rattle.pk_typed.specs.declared.values.Variable.TheVariants.{File}
 use Rattle.pk_typed.specs.Trees.{FileObjectTree, DeclaredTree, static_object}
 use Rattle.pk_type_scope.specs.declared.declarations.Declaration.{Declaration}
 use Rattle.pk_type_scope.specs.declared.declarations.Declaration.TheVariants as declared
-use Rattle.pk_type_scope.specs.Specifiers.{word_failures}
 use Rattle.pk_type_declaration.specs.declared.words.Words.{Words}
-use Rattle.pk_type_declaration.specs.Declarations.{words_of, type_or_int, object_of, text_of, braces, surplus, length_at, after_optional_length, length_or_1, after_object_name, after_declaration, declaration_trees_at}
+use Rattle.pk_type_declaration.specs.Declarations.{type_or_int, object_of, text_of, braces, surplus, length_at, after_optional_length, length_or_1, after_object_name, after_declarators, declarator_trees_at}
+use Rattle.pk_type_declaration.specs.Enumerations.{words_at, after_words, word_trees_at}
 use Rattle.pk_type_declaration.specs.Starts.{after_numbers, given, start_at}
 use Rattle.pk_type_declaration.specs.Walks.{Walked, Adding, here, failing, with_static}
 
@@ -44,12 +44,6 @@ unfoldable pub after_statics : {F : Type 0} → Adding F → Words → List Decl
 after_statics add words [] w = w
 after_statics add words (d ∷ ds) w = after_statics add words ds (after_static add words d w)
 
-unfoldable pub after_static_declaration : {F : Type 0} → Adding F → DeclarationTree → Walked F → Walked F
-after_static_declaration add d w =
-    let words = words_of (here w) d.specifiers in
-    after_statics add words (d.declarators.first ∷ d.declarators.more)
-    (failing add (word_failures (here w) d.specifiers) w)
-
 -- their typed trees
 
 abbrev pub static_tree_at : {F : Type 0} → DeclaratorTree → Walked F → DeclaredTree
@@ -60,10 +54,29 @@ static_trees_at add words [] w = []
 static_trees_at add words (d ∷ ds) w =
     static_tree_at d w ∷ static_trees_at add words ds (after_static add words d w)
 
+-- Declarations of blocks. One of static objects has trees in any case.
+
+unfoldable pub after_declaration : {F : Type 0} → Adding F → DeclarationTree → Walked F → Walked F
+after_declaration add d w =
+    after_declarators add (words_at (here w) d.specifiers d.enumeration) d.declarators
+    (after_words add d.specifiers d.enumeration w)
+
+unfoldable pub declaration_trees_at : {F : Type 0} → Adding F → DeclarationTree → Walked F → Option (List DeclaredTree)
+declaration_trees_at add d w =
+    option_map (λ ts. word_trees_at add d.specifiers d.enumeration w ++ ts)
+    (declarator_trees_at add (words_at (here w) d.specifiers d.enumeration) d.declarators
+    (after_words add d.specifiers d.enumeration w))
+
+unfoldable pub after_static_declaration : {F : Type 0} → Adding F → DeclarationTree → Walked F → Walked F
+after_static_declaration add d w =
+    after_statics add (words_at (here w) d.specifiers d.enumeration) d.declarators
+    (after_words add d.specifiers d.enumeration w)
+
 unfoldable pub static_declaration_at : {F : Type 0} → Adding F → DeclarationTree → Walked F → List DeclaredTree
 static_declaration_at add d w =
-    static_trees_at add (words_of (here w) d.specifiers) (d.declarators.first ∷ d.declarators.more)
-    (failing add (word_failures (here w) d.specifiers) w)
+    word_trees_at add d.specifiers d.enumeration w
+    ++ static_trees_at add (words_at (here w) d.specifiers d.enumeration) d.declarators
+    (after_words add d.specifiers d.enumeration w)
 
 -- a declaration of a block, which may have `static` at a place
 

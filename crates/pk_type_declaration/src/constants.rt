@@ -5,9 +5,11 @@ ghost use Rattle.pk_ast.specs.Views.{expression_tree};
 ghost use Rattle.pk_typed.specs.Views.{value_tree};
 ghost use Rattle.pk_type_scope.specs.Failures.{noted};
 ghost use Rattle.pk_type_declaration.specs.Constants as definitions;
+ghost use Rattle.pk_type_declaration.specs.Enumerations as enumerations;
 ghost use Rattle.pk_type_declaration.specs.Views.{walked_in};
 ghost use Rattle.pk_type_declaration.specs.Walks as walks;
 
+use crate::enumerations::is_beyond;
 use crate::walk::Walk;
 use pk_ast::Expression;
 use pk_ctypes::Rule;
@@ -81,6 +83,13 @@ impl Evaluated {
         either(!self.is_form, is_outside(self.constant))
     }
 
+    /// Whether it is no value of an enumerator.
+    pub(crate) fn is_refused_enumerator(self) -> bool
+        ensures { result ≡ enumerations.is_refused_enumerator self }
+    {
+        either(self.is_refused(), is_beyond(self.number()))
+    }
+
     /// Its number, where nothing is refused.
     pub fn number(self) -> Option<i128>
         ensures { result ≡ definitions.number_in self }
@@ -111,7 +120,12 @@ impl Evaluated {
 }
 
 impl<'a> Walk<'a> {
-    fn evaluate(&mut self, alloc: Global, e: &Expression) -> Result<Evaluated, AllocError>
+    /// What an expression gives that has to be constant.
+    pub(crate) fn evaluate(
+        &mut self,
+        alloc: Global,
+        e: &Expression,
+    ) -> Result<Evaluated, AllocError>
         ensures walked { OnOk result (walked_in self.new
             ≡ walks.after_value noted (expression_tree e.now) (walked_in self.old)) }
         ensures evaluated { IfOk result (λ v. v ≡ definitions.evaluated (walked_in self.old) (expression_tree e.now)) }

@@ -1,7 +1,7 @@
 // Declared objects of a function.
 
 ghost use Rattle.std.specs.Prelude.{◌≡◌, option_map, IfOk, OnOk, length};
-ghost use Rattle.pk_ast.specs.Views.{expression_tree, specifiers_tree, declarator_tree, declarator_trees, declaration_tree};
+ghost use Rattle.pk_ast.specs.Views.{expression_tree, specifiers_tree, declarator_tree, declarator_trees};
 ghost use Rattle.pk_typed.specs.Views.{declared_tree, declared_trees};
 ghost use Rattle.pk_type_scope.specs.declared.declarations.Declaration.TheVariants as declared;
 ghost use Rattle.pk_type_scope.specs.Failures.{noted};
@@ -135,8 +135,8 @@ impl<'a> Walk<'a> {
         note_specifiers(&mut self.notes, &self.scope, words);
     }
 
-    // Checks the other declarators of a declaration.
-    fn more(
+    /// Checks the declarators of a declaration, and adds the objects that they declare.
+    pub(crate) fn declarators(
         &mut self,
         alloc: Global,
         words: Words,
@@ -154,27 +154,6 @@ impl<'a> Walk<'a> {
             all.add(one)?;
         }
         Ok(())
-    }
-
-    /// Checks a declaration, and gives the objects that it declares.
-    #[tactic(auto, unfolding(pk_ast::specs::Views::declaration_tree, crate::specs::Declarations::after_declaration, crate::specs::Declarations::declaration_trees_at))]
-    pub fn declaration(
-        &mut self,
-        alloc: Global,
-        d: &pk_ast::Declaration,
-    ) -> Result<Option<Vec<Declared>>, AllocError>
-        ensures walked { OnOk result (walked_in self.new
-            ≡ definitions.after_declaration noted (declaration_tree d.now) (walked_in self.old)) }
-        ensures trees { IfOk result (λ t. option_map (λ v. declared_trees v.items) t
-            ≡ definitions.declaration_trees_at noted (declaration_tree d.now) (walked_in self.old)) }
-    {
-        let words = Words::of(&self.scope, &d.specifiers);
-        self.note_words(&d.specifiers);
-        let mut all = Parts::new(alloc);
-        let first = self.declarator(alloc, words, &d.declarators.first)?;
-        all.add(first)?;
-        self.more(alloc, words, &d.declarators.more, &mut all)?;
-        Ok(all.whole())
     }
 }
 

@@ -3,6 +3,7 @@
 
 mod constants;
 mod declarators;
+mod enumerations;
 mod initializers;
 mod parts;
 mod specials;

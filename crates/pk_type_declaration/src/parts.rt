@@ -23,6 +23,16 @@ impl<T: Drop> Parts<T> {
         }
     }
 
+    /// Parts that each have a tree.
+    pub(crate) fn of(items: Vec<T>) -> Parts<T>
+        ensures { parts_in result ≡ Some items.items }
+    {
+        Parts {
+            items,
+            is_whole: true,
+        }
+    }
+
     /// Adds the next part.
     pub fn add(&mut self, part: Option<T>) -> Result<(), AllocError>
         ensures { OnOk result (parts_in self.new ≡ of_both (λ xs x. xs ++ x ∷ []) (parts_in self.old) part) }

@@ -11,6 +11,7 @@ ghost use Rattle.pk_type_declaration.specs.Walks as walks;
 
 use crate::declarators::length_or_1;
 use crate::initializers::{note_braces, note_surplus};
+use crate::parts::Parts;
 use crate::walk::Walk;
 use crate::words::{Words, integer_in, type_or_int};
 use pk_ast::{Declaration, Declarator};
@@ -96,8 +97,8 @@ impl<'a> Walk<'a> {
         Ok(Declared::static_object(number, d.name.at))
     }
 
-    // Checks the other declarators of a declaration.
-    fn more_statics(
+    // Checks the declarators of a declaration.
+    fn static_declarators(
         &mut self,
         alloc: Global,
         words: Words,
@@ -117,8 +118,27 @@ impl<'a> Walk<'a> {
         Ok(())
     }
 
+    /// Checks a declaration, and gives the objects that it declares.
+    #[tactic(auto, unfolding(pk_ast::specs::Views::declaration_tree, crate::specs::Statics::after_declaration))]
+    pub fn declaration(
+        &mut self,
+        alloc: Global,
+        d: &Declaration,
+    ) -> Result<Option<Vec<Declared>>, AllocError>
+        ensures walked { OnOk result (walked_in self.new
+            ≡ definitions.after_declaration noted (declaration_tree d.now) (walked_in self.old)) }
+        ensures trees { IfOk result (λ t. option_map (λ v. declared_trees v.items) t
+            ≡ definitions.declaration_trees_at noted (declaration_tree d.now) (walked_in self.old)) }
+    {
+        let words = Words::at(&self.scope, &d.specifiers, &d.enumeration);
+        let hidden = self.words(alloc, &d.specifiers, &d.enumeration)?;
+        let mut all = Parts::of(hidden);
+        self.declarators(alloc, words, &d.declarators, &mut all)?;
+        Ok(all.whole())
+    }
+
     // Checks a declaration that has `static`, and gives the objects that it declares.
-    #[tactic(auto, unfolding(pk_ast::specs::Views::declaration_tree))]
+    #[tactic(auto, unfolding(pk_ast::specs::Views::declaration_tree, crate::specs::Statics::after_static_declaration))]
     fn static_declaration(
         &mut self,
         alloc: Global,
@@ -129,12 +149,9 @@ impl<'a> Walk<'a> {
         ensures trees { IfOk result (λ v. declared_trees v.items
             ≡ definitions.static_declaration_at noted (declaration_tree d.now) (walked_in self.old)) }
     {
-        let words = Words::of(&self.scope, &d.specifiers);
-        self.note_words(&d.specifiers);
-        let mut all = Vec::new(alloc);
-        let first = self.static_declarator(alloc, words, &d.declarators.first)?;
-        all.push(first)?;
-        self.more_statics(alloc, words, &d.declarators.more, &mut all)?;
+        let words = Words::at(&self.scope, &d.specifiers, &d.enumeration);
+        let mut all = self.words(alloc, &d.specifiers, &d.enumeration)?;
+        self.static_declarators(alloc, words, &d.declarators, &mut all)?;
         Ok(all)
     }
 

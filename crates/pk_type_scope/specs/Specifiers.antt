@@ -1,12 +1,12 @@
--- The type that the words of a declaration or of a cast name (C99 6.7.2): keywords in any order, or a type name (C99 6.7.7) with `const` alone beside it.
-use Rattle.std.specs.Prelude.{ℕ, ◌+◌, Bool, true, false, not, ◌&&◌, ◌||◌, nat_eq, nat_le, List, [], ◌∷◌, Option, Some, None, if◌then◌else◌}
+-- The type that the words of a declaration or of a cast name (C99 6.7.2): keywords in any order, or a type name (C99 6.7.7) or an enumeration's tag (C99 6.7.2.3) with `const` alone beside it.
+use Rattle.std.specs.Prelude.{ℕ, ◌+◌, Bool, true, false, not, ◌&&◌, ◌||◌, nat_eq, nat_le, List, [], ◌∷◌, ◌++◌, Option, Some, None, if◌then◌else◌}
+use Rattle.pk_ctypes.specs.declared.places.Pos.{Pos}
 use Rattle.pk_ctypes.specs.declared.types.IntType.TheVariants.{Char, SChar, UChar, Short, UShort, Int, UInt, Long, ULong, LLong, ULLong}
 use Rattle.pk_ctypes.specs.declared.words.Rule.TheVariants as rule
 use Rattle.pk_ast.specs.declared.declarations.Specifier.{Specifier}
 use Rattle.pk_ast.specs.declared.declarations.SpecifierWord.{SpecifierWord}
 use Rattle.pk_ast.specs.declared.declarations.SpecifierWord.TheVariants as word
 use Rattle.pk_ast.specs.declared.expressions.Identifier.{Identifier}
-use Rattle.pk_ast.specs.Names.{specifier_names}
 use Rattle.pk_ast.specs.Trees.{OneOrMore}
 use Rattle.pk_type_scope.specs.declared.failures.Failure.{Failure}
 use Rattle.pk_type_scope.specs.declared.declarations.Typing.{Typing}
@@ -17,7 +17,7 @@ use Rattle.pk_type_scope.specs.declared.specifiers.Times.TheVariants.{Never, Onc
 use Rattle.pk_type_scope.specs.Declarations.{Names, is_unknown, is_type_name, type_meant, const_meant}
 use Rattle.pk_type_scope.specs.Failures.{fails_if}
 
--- one word more; `const` names no type, and a type name none by its spelling
+-- one word more; `const` names no type, and a type name or a tag none by its spelling
 abbrev pub counted : Counts → SpecifierWord → Counts
 counted c word.Void = record c { voids = c.voids + 1 }
 counted c word.Char = record c { chars = c.chars + 1 }
@@ -28,6 +28,8 @@ counted c word.Signed = record c { signeds = c.signeds + 1 }
 counted c word.Unsigned = record c { unsigneds = c.unsigneds + 1 }
 counted c word.Const = c
 counted c (word.TypeName start end) = c
+counted c word.Enum = c
+counted c (word.Tag start end) = c
 
 -- how often each word stands among these, after some
 abbrev pub counts_of : Counts → List Specifier → Counts
@@ -75,13 +77,31 @@ type_counted c =
 abbrev pub type_spelled : OneOrMore Specifier → Typing
 type_spelled words = type_counted (counts_of (counted no_words words.first.word) words.more)
 
+-- the name that a word of a type is looked up by, where it is a type name or a tag
+abbrev pub word_meant : SpecifierWord → Pos → List Identifier
+word_meant word.Void at = []
+word_meant word.Char at = []
+word_meant word.Short at = []
+word_meant word.Int at = []
+word_meant word.Long at = []
+word_meant word.Signed at = []
+word_meant word.Unsigned at = []
+word_meant word.Const at = []
+word_meant (word.TypeName start end) at = record { start = start; end = end; at = at; is_tag = false } ∷ []
+word_meant word.Enum at = []
+word_meant (word.Tag start end) at = record { start = start; end = end; at = at; is_tag = true } ∷ []
+
+abbrev pub words_meant : List Specifier → List Identifier
+words_meant [] = []
+words_meant (s ∷ more) = word_meant s.word s.at ++ words_meant more
+
 abbrev pub first_name : List Identifier → Option Identifier
 first_name [] = None
 first_name (x ∷ xs) = Some x
 
--- the type name among the words, if one is there: the grammar lets no second one stand
+-- the type name or the tag among the words, if one is there: the grammar lets no second one stand
 abbrev pub type_name_among : OneOrMore Specifier → Option Identifier
-type_name_among words = first_name (specifier_names words)
+type_name_among words = first_name (words_meant (words.first ∷ words.more))
 
 abbrev pub type_by : Names → Option Identifier → OneOrMore Specifier → Typing
 type_by d None words = type_spelled words
@@ -95,11 +115,11 @@ type_named d words = type_by d (type_name_among words) words
 abbrev pub specifiers : OneOrMore Specifier → List Failure
 specifiers words = fails_if (is_unknown (type_spelled words)) rule.Specifiers words.first.at
 
--- undeclared: the type name stands for no type; at the name
+-- undeclared: the type name or the tag stands for no type; at the name
 abbrev pub undeclared_type : Names → Identifier → List Failure
 undeclared_type d x = fails_if (not (is_type_name (d x))) rule.Undeclared x.at
 
--- the first row where keywords name the type, the second where a type name does
+-- the first row where keywords name the type, the second where a name does
 abbrev pub failures_by : Names → Option Identifier → OneOrMore Specifier → List Failure
 failures_by d None words = specifiers words
 failures_by d (Some x) words = undeclared_type d x
@@ -117,6 +137,8 @@ is_const_word word.Long = false
 is_const_word word.Signed = false
 is_const_word word.Unsigned = false
 is_const_word (word.TypeName start end) = false
+is_const_word word.Enum = false
+is_const_word (word.Tag start end) = false
 
 abbrev pub has_const : List Specifier → Bool
 has_const [] = false

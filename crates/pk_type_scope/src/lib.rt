@@ -14,4 +14,6 @@ pub use declarations::{
 pub use failures::{Failure, Notes};
 pub use laws::first_law;
 pub use scopes::{Frame, Scope, spelling};
-pub use specifiers::{is_const, note_specifiers, type_named};
+pub use specifiers::{
+    has_const, is_const, is_const_among, note_specifiers, type_name_among, type_named,
+};

@@ -2,7 +2,7 @@
 
 ghost use Rattle.std.specs.Prelude.{◌≡◌, ◌++◌, ◌∷◌, ◌<◌, [], ℕ, List, None, Some, is_some, IfOk, OnOk, length, map};
 ghost use Rattle.pk_type_scope.specs.Scopes as scopes;
-ghost use Rattle.pk_type_scope.specs.Scopes.{Layer, layer_of, scoping_of};
+ghost use Rattle.pk_type_scope.specs.Scopes.{Key, Layer, layer_of, scoping_of};
 
 use crate::declarations::Declaration;
 use indexmap::IndexMap;
@@ -10,10 +10,11 @@ use pk_ast::Identifier;
 use std::alloc::{AllocError, Global};
 use std::mem;
 
-/// The names that one scope declares, in order of their first declaration, each with its last.
+/// The names that one scope declares, tags apart (C99 6.2.3), in order of their first declaration, each with its last.
 #[derive(Drop)]
 pub struct Frame<'a> {
     pub declared: IndexMap<&'a [u8], Declaration>,
+    pub tags: IndexMap<&'a [u8], Declaration>,
 }
 
 /// The scopes around a place of a text, as a stack: the innermost, and those around it, the outermost first. A block opens its own and closes it.
@@ -30,30 +31,53 @@ impl<'a> Frame<'a> {
     {
         Frame {
             declared: IndexMap::new(alloc),
+            tags: IndexMap::new(alloc),
         }
     }
 
-    fn get(&self, name: &[u8]) -> Option<Declaration>
-        ensures { result ≡ layer_of self.now name.now }
+    fn get(&self, is_tag: bool, name: &[u8]) -> Option<Declaration>
+        ensures { result ≡ layer_of self.now (record { is_tag = is_tag; bytes = name.now }) }
     {
-        self.declared.get(name).copied()
+        if is_tag {
+            self.tags.get(name).copied()
+        } else {
+            self.declared.get(name).copied()
+        }
     }
 
     // Puts a declaration at a name, and answers whether there was one before.
-    fn put(&mut self, name: &'a [u8], declaration: Declaration) -> Result<bool, AllocError>
-        ensures again { IfOk result (λ r. r ≡ is_some (layer_of self.old name.now)) }
-        ensures declared { OnOk result ((q : List ℕ) → layer_of self.new q
-            ≡ scopes.with_name (layer_of self.old) name.now declaration q) }
+    fn put(
+        &mut self,
+        is_tag: bool,
+        name: &'a [u8],
+        declaration: Declaration,
+    ) -> Result<bool, AllocError>
+        ensures again { IfOk result (λ r. r
+            ≡ is_some (layer_of self.old (record { is_tag = is_tag; bytes = name.now }))) }
+        ensures declared { OnOk result ((q : Key) → layer_of self.new q
+            ≡ scopes.with_name (layer_of self.old) (record { is_tag = is_tag; bytes = name.now }) declaration q) }
     {
-        let old = self.declared.insert(name, declaration)?;
-        Ok(old.is_some())
+        if is_tag {
+            let old = self.tags.insert(name, declaration)?;
+            Ok(old.is_some())
+        } else {
+            let old = self.declared.insert(name, declaration)?;
+            Ok(old.is_some())
+        }
     }
 
-    fn declare(&mut self, name: &'a [u8], declaration: Declaration) -> Result<bool, AllocError>
-        ensures again { IfOk result (λ r. r ≡ is_some (layer_of self.old name.now)) }
-        ensures declared { OnOk result (layer_of self.new ≡ scopes.with_name (layer_of self.old) name.now declaration) }
+    fn declare(
+        &mut self,
+        is_tag: bool,
+        name: &'a [u8],
+        declaration: Declaration,
+    ) -> Result<bool, AllocError>
+        ensures again { IfOk result (λ r. r
+            ≡ is_some (layer_of self.old (record { is_tag = is_tag; bytes = name.now }))) }
+        ensures declared { OnOk result (layer_of self.new
+            ≡ scopes.with_name (layer_of self.old) (record { is_tag = is_tag; bytes = name.now }) declaration) }
     {
-        let again = self.put(name, declaration)?;
+        let again = self.put(is_tag, name, declaration)?;
         Ok(again)
     }
 }
@@ -87,20 +111,21 @@ impl<'a> Scope<'a> {
         ensures { result ≡ scopes.names_in (scoping_of self.now) name }
     {
         let bytes = spelling(self.text, name);
-        match self.inner.get(bytes) {
+        match self.inner.get(name.is_tag, bytes) {
             Some(declared) => Some(declared),
-            None => self.lookup_around(bytes),
+            None => self.lookup_around(name.is_tag, bytes),
         }
     }
 
     // The declaration of a name around the innermost scope, from the inside out.
-    fn lookup_around(&self, bytes: &[u8]) -> Option<Declaration>
-        ensures { result ≡ scopes.found_up (map layer_of self.now.outer.items) bytes.now None }
+    fn lookup_around(&self, is_tag: bool, bytes: &[u8]) -> Option<Declaration>
+        ensures { result
+            ≡ scopes.found_up (map layer_of self.now.outer.items) (record { is_tag = is_tag; bytes = bytes.now }) None }
     {
         let mut left = self.outer.len();
         while left > 0 {
             left -= 1;
-            if let Some(declared) = self.outer[left].get(bytes) {
+            if let Some(declared) = self.outer[left].get(is_tag, bytes) {
                 return Some(declared);
             }
         }
@@ -117,7 +142,7 @@ impl<'a> Scope<'a> {
         ensures declared { OnOk result (scoping_of self.new ≡ scopes.declaring (scoping_of self.old) name declaration) }
     {
         let bytes = spelling(self.text, name);
-        let again = self.inner.declare(bytes, declaration)?;
+        let again = self.inner.declare(name.is_tag, bytes, declaration)?;
         Ok(again)
     }
 

@@ -1,7 +1,6 @@
 // The type that the words of a declaration or of a cast name (C99 6.7.2).
 
 ghost use Rattle.std.specs.Prelude.{◌≡◌, ◌+◌, ◌<◌, ◌≤◌, ◌^◌};
-ghost use Rattle.pk_ast.specs.Names.{word_name, word_names};
 ghost use Rattle.pk_ast.specs.Views.{specifiers_tree};
 ghost use Rattle.pk_type_scope.specs.Notes.{noted_in, with_failures};
 ghost use Rattle.pk_type_scope.specs.Scopes.{names_in, scoping_of};
@@ -83,6 +82,8 @@ fn counted(counts: Counts, word: SpecifierWord) -> Counts
         SpecifierWord::Unsigned => counts.unsigneds += 1,
         SpecifierWord::Const => {}
         SpecifierWord::TypeName { .. } => {}
+        SpecifierWord::Enum => {}
+        SpecifierWord::Tag { .. } => {}
     }
     counts
 }
@@ -159,15 +160,22 @@ fn type_spelled(words: &Specifiers) -> Typing
     type_counted(&counts)
 }
 
-// The type name that a word is, if it is one.
+// The name that a word is looked up by, if it is a type name or a tag.
 fn name_of(specifier: Specifier) -> Option<Identifier>
-    ensures { result ≡ definitions.first_name (word_name specifier.word specifier.at) }
+    ensures { result ≡ definitions.first_name (definitions.word_meant specifier.word specifier.at) }
 {
     match specifier.word {
         SpecifierWord::TypeName { start, end } => Some(Identifier {
             start,
             end,
             at: specifier.at,
+            is_tag: false,
+        }),
+        SpecifierWord::Tag { start, end } => Some(Identifier {
+            start,
+            end,
+            at: specifier.at,
+            is_tag: true,
         }),
         SpecifierWord::Void => None,
         SpecifierWord::Char => None,
@@ -177,11 +185,12 @@ fn name_of(specifier: Specifier) -> Option<Identifier>
         SpecifierWord::Signed => None,
         SpecifierWord::Unsigned => None,
         SpecifierWord::Const => None,
+        SpecifierWord::Enum => None,
     }
 }
 
 fn first_name(words: &[Specifier]) -> Option<Identifier>
-    ensures { result ≡ definitions.first_name (word_names words.now) }
+    ensures { result ≡ definitions.first_name (definitions.words_meant words.now) }
 {
     for specifier in words {
         if let Some(name) = name_of(*specifier) {
@@ -191,8 +200,8 @@ fn first_name(words: &[Specifier]) -> Option<Identifier>
     None
 }
 
-// The type name among the words, if one is there.
-fn type_name_among(words: &Specifiers) -> Option<Identifier>
+/// The type name or the tag among the words, if one is there.
+pub fn type_name_among(words: &Specifiers) -> Option<Identifier>
     ensures { result ≡ definitions.type_name_among (specifiers_tree words.now) }
 {
     match name_of(words.first) {
@@ -243,10 +252,13 @@ fn is_const_word(word: SpecifierWord) -> bool
         SpecifierWord::Signed => false,
         SpecifierWord::Unsigned => false,
         SpecifierWord::TypeName { .. } => false,
+        SpecifierWord::Enum => false,
+        SpecifierWord::Tag { .. } => false,
     }
 }
 
-fn has_const(words: &[Specifier]) -> bool
+/// Whether `const` stands among some words.
+pub fn has_const(words: &[Specifier]) -> bool
     ensures { result ≡ definitions.has_const words.now }
 {
     for specifier in words {
@@ -257,8 +269,8 @@ fn has_const(words: &[Specifier]) -> bool
     false
 }
 
-// Whether `const` stands among the words.
-fn is_const_among(words: &Specifiers) -> bool
+/// Whether `const` stands among the words.
+pub fn is_const_among(words: &Specifiers) -> bool
     ensures { result ≡ definitions.is_const_among (specifiers_tree words.now) }
 {
     is_const_word(words.first.word) || has_const(&words.more)

@@ -1,16 +1,19 @@
 -- A statement leaves the scopes around it as they were, and its own but for the names that it declares.
-use Rattle.std.proofs.Common.{◌≡◌, List, [], ◌∷◌, Option, Some, None, refl, ◌∙◌}
+use Rattle.std.proofs.Common.{◌≡◌, ℤ, pos, List, [], ◌∷◌, Option, Some, None, refl, ◌∙◌}
 use Rattle.pk_ctypes.specs.declared.places.Pos.{Pos}
-use Rattle.pk_ast.specs.Trees.{ExpressionTree, ExpressionTrees, no_expressions, expression_then, InitializerTree, single, braced, DeclaratorTree, DeclarationTree, ForStartTree, declaration, expression, StatementTree, block, empty, expression_statement, label, case, default, if_then, if_else, switch, while, do_while, for_loop, goto, continue, break, return, ItemTrees, no_items, declaration_then, statement_then}
+use Rattle.pk_ast.specs.declared.declarations.Specifier.{Specifier}
+use Rattle.pk_ast.specs.declared.expressions.Identifier.{Identifier}
+use Rattle.pk_ast.specs.Trees.{OneOrMore, EnumeratorTree, EnumerationTree, ExpressionTree, ExpressionTrees, no_expressions, expression_then, InitializerTree, single, braced, DeclaratorTree, DeclarationTree, ForStartTree, declaration, expression, StatementTree, block, empty, expression_statement, label, case, default, if_then, if_else, switch, while, do_while, for_loop, goto, continue, break, return, ItemTrees, no_items, declaration_then, statement_then}
 use Rattle.pk_type_scope.specs.declared.declarations.Typing.{Typing}
 use Rattle.pk_type_scope.specs.Scopes.{Scoping}
-use Rattle.pk_type_scope.specs.Specifiers.{word_failures}
+use Rattle.pk_type_scope.specs.Specifiers.{type_name_among}
 use Rattle.pk_type_declaration.specs.declared.words.Words.{Words}
-use Rattle.pk_type_declaration.specs.Declarations.{after_declarator, after_declarators, after_declaration, after_optional_length, after_initializer, after_head, words_of}
+use Rattle.pk_type_declaration.specs.Declarations.{after_declarator, after_declarators, after_optional_length, after_initializer, after_head}
+use Rattle.pk_type_declaration.specs.Enumerations.{words_at, after_tag, next_number, enumerator_value, after_enumerator_value, after_enumerator, after_enumerators, after_words}
 use Rattle.pk_type_declaration.specs.Constants.{after_constant}
 use Rattle.pk_type_declaration.specs.Starts.{after_numbers, given}
-use Rattle.pk_type_declaration.specs.Statics.{after_static_head, after_static, after_statics, after_static_declaration, after_block_declaration}
-use Rattle.pk_type_declaration.specs.Walks.{Walked, Adding, here, failing, after_value}
+use Rattle.pk_type_declaration.specs.Statics.{after_static_head, after_static, after_statics, after_declaration, after_static_declaration, after_block_declaration}
+use Rattle.pk_type_declaration.specs.Walks.{Walked, Adding, here, after_value}
 use Rattle.pk_type_statement.specs.Statements as statements
 use Rattle.pk_type_statement.specs.Statements.{Passed, after, after_items, on, with_case, with_default, in_switch}
 
@@ -44,9 +47,36 @@ unfolding after_declarators
 kept_declarators add words [] w = same w.scoping
 kept_declarators add words (d ∷ ds) w = then w.scoping (after_declarator add words d w).scoping _ (kept_declarator add words d w) (kept_declarators add words ds (after_declarator add words d w))
 
+kept_tag : {F : Type 0} (add : Adding F) (tag : Option Identifier) (w : Walked F) → Kept w.scoping (after_tag add tag w).scoping
+kept_tag add None w = same w.scoping
+kept_tag add (Some x) w = record { text = refl; outer = refl }
+
+kept_enumerator_value : {F : Type 0} (add : Adding F) (next : Option ℤ) (x : Identifier) (e : Option ExpressionTree) (w : Walked F) → Kept w.scoping (after_enumerator_value add next x e w).scoping
+kept_enumerator_value add next x None w = same w.scoping
+kept_enumerator_value add next x (Some e) w = same w.scoping
+
+kept_enumerator : {F : Type 0} (add : Adding F) (next : Option ℤ) (x : EnumeratorTree) (w : Walked F) → Kept w.scoping (after_enumerator add next x w).scoping
+unfolding after_enumerator
+kept_enumerator add next x w = let k = kept_enumerator_value add next x.name x.value w in record { text = k.text; outer = k.outer }
+
+kept_enumerators : {F : Type 0} (add : Adding F) (next : Option ℤ) (xs : List EnumeratorTree) (w : Walked F) → Kept w.scoping (after_enumerators add next xs w).scoping
+unfolding after_enumerators
+kept_enumerators add next [] w = same w.scoping
+kept_enumerators add next (x ∷ xs) w =
+    then w.scoping (after_enumerator add next x w).scoping _ (kept_enumerator add next x w) (kept_enumerators add (next_number (enumerator_value w next x.value)) xs (after_enumerator add next x w))
+
+kept_words : {F : Type 0} (add : Adding F) (words : OneOrMore Specifier) (e : Option EnumerationTree) (w : Walked F) → Kept w.scoping (after_words add words e w).scoping
+unfolding after_words
+kept_words add words None w = same w.scoping
+kept_words add words (Some e) w =
+    let v = after_tag add (type_name_among words) w in
+    then w.scoping v.scoping _ (kept_tag add (type_name_among words) w) (kept_enumerators add (Some (pos 0)) (e.enumerators.first ∷ e.enumerators.more) v)
+
 pub kept_declaration : {F : Type 0} (add : Adding F) (d : DeclarationTree) (w : Walked F) → Kept w.scoping (after_declaration add d w).scoping
 unfolding after_declaration
-kept_declaration add d w = kept_declarators add (words_of (here w) d.specifiers) (d.declarators.first ∷ d.declarators.more) (failing add (word_failures (here w) d.specifiers) w)
+kept_declaration add d w =
+    let v = after_words add d.specifiers d.enumeration w in
+    then w.scoping v.scoping _ (kept_words add d.specifiers d.enumeration w) (kept_declarators add (words_at (here w) d.specifiers d.enumeration) d.declarators v)
 
 kept_numbers : {F : Type 0} (add : Adding F) (es : ExpressionTrees) (w : Walked F) → Kept w.scoping (after_numbers add es w).scoping
 unfolding after_numbers
@@ -67,7 +97,9 @@ kept_statics add words (d ∷ ds) w = then w.scoping (after_static add words d w
 pub kept_block_declaration : {F : Type 0} (add : Adding F) (x : Option Pos) (d : DeclarationTree) (w : Walked F) → Kept w.scoping (after_block_declaration add x d w).scoping
 unfolding after_static_declaration
 kept_block_declaration add None d w = kept_declaration add d w
-kept_block_declaration add (Some at) d w = kept_statics add (words_of (here w) d.specifiers) (d.declarators.first ∷ d.declarators.more) (failing add (word_failures (here w) d.specifiers) w)
+kept_block_declaration add (Some at) d w =
+    let v = after_words add d.specifiers d.enumeration w in
+    then w.scoping v.scoping _ (kept_words add d.specifiers d.enumeration w) (kept_statics add (words_at (here w) d.specifiers d.enumeration) d.declarators v)
 
 kept_value : {F : Type 0} (add : Adding F) (e : Option ExpressionTree) (w : Walked F) → Kept w.scoping (statements.after_optional_value add e w).scoping
 kept_value add None w = same w.scoping

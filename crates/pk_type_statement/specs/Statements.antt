@@ -13,8 +13,7 @@ use Rattle.pk_type_scope.specs.declared.failures.Failure.{Failure}
 use Rattle.pk_type_scope.specs.Failures.{fails_if}
 use Rattle.pk_type_expression.specs.Types.{type_of}
 use Rattle.pk_type_declaration.specs.Constants.{evaluated, number_in, after_constant}
-use Rattle.pk_type_declaration.specs.Declarations.{after_declaration}
-use Rattle.pk_type_declaration.specs.Statics.{after_block_declaration}
+use Rattle.pk_type_declaration.specs.Statics.{after_declaration, after_block_declaration}
 use Rattle.pk_type_declaration.specs.Walks.{Walked, Adding, here, failing, after_value, after_effect, entering, leaving}
 use Rattle.pk_type_statement.specs.declared.statements.Case.{Case}
 

@@ -15,8 +15,7 @@ use Rattle.pk_type_scope.specs.declared.declarations.Typing.TheVariants.{Void, I
 use Rattle.pk_type_scope.specs.Scopes.{spelled}
 use Rattle.pk_type_expression.specs.Typed.{of_both}
 use Rattle.pk_type_expression.specs.Types.{type_of}
-use Rattle.pk_type_declaration.specs.Declarations.{declaration_trees_at}
-use Rattle.pk_type_declaration.specs.Statics.{after_block_declaration, block_declaration_at}
+use Rattle.pk_type_declaration.specs.Statics.{declaration_trees_at, after_block_declaration, block_declaration_at}
 use Rattle.pk_type_declaration.specs.Walks.{Walked, Adding, here, after_value, value_at, effect_at}
 use Rattle.pk_type_jump.specs.declared.labels.Label.{Label}
 use Rattle.pk_type_statement.specs.declared.statements.Case.{Case}

@@ -4,6 +4,8 @@
 #[cfg(test)]
 mod bad;
 #[cfg(test)]
+mod enumerations;
+#[cfg(test)]
 mod places;
 #[cfg(test)]
 mod statics;

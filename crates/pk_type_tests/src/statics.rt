@@ -10,7 +10,7 @@ const TEXT: &str =
 
 const OBJECTS: &str = "a=1 b=0 d=[2] n=7 t=[3]1,2, c=44 z=0 ";
 
-fn tell(object: &FileObject, told: &mut String) -> Result<(), Fail> {
+pub(crate) fn tell(object: &FileObject, told: &mut String) -> Result<(), Fail> {
     match &object.start {
         Start::Scalar(number) => write!(told, "{}={number} ", object.name)?,
         Start::Array { length, items } => {

@@ -7,4 +7,4 @@ use Rattle.pk_type.proofs.type_names.typedef.Goals as goal
 pub returns : goal.returns
 unfolding typedef_tree
 returns c =
-    typedef_step (typedef_tree c.args.d.now) _ _ _ _ _ _ (c.named_type-named.ensures ∙ ap named_type c.of-words.ensures) c.deref.ensures.value c.note_words.ensures c.in_ok-type_name.ensures c.in_ok-more.ensures
+    typedef_step (typedef_tree c.args.d.now) _ _ _ _ _ _ (c.named_type-named.ensures ∙ ap named_type c.at-words.ensures) c.deref.ensures.value c.in_ok-file_words.ensures c.in_ok-type_name.ensures c.in_ok-more.ensures

@@ -6,4 +6,4 @@ use Rattle.pk_type.proofs.files.File.declaration.Goals as goal
 pub returns : goal.returns
 unfolding declaration_tree
 returns c =
-    declaration_step c.args.storage.now (declaration_tree c.args.d.now) _ _ _ _ _ _ _ c.of-words.ensures (ap declarator_trees c.deref.ensures.value) c.note_words.ensures c.in_ok-declarator.ensures c.in_ok-more.ensures c.forget_calls.ensures
+    declaration_step c.args.storage.now (declaration_tree c.args.d.now) _ _ _ _ _ _ c.at-words.ensures (ap declarator_trees c.deref.ensures.value) c.in_ok-words.ensures c.in_ok-objects.ensures c.forget_calls.ensures

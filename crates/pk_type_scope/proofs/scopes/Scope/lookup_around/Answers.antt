@@ -5,10 +5,10 @@ use Rattle.pk_type_scope.proofs.scopes.Scope.lookup_around.Goals as goal
 
 pub returns-in-Some : goal.returns-in-Some
 returns-in-Some c =
-    found_there c.args.self.now.outer.items c.loop-left.left c.index.result.now c.args.bytes.now c.in-Some.declared _ (omega arith) c.loop-left.invariant.within c.index.ensures c.loop-left.invariant.same (sym c.in-Some.is ∙ c.get.ensures)
+    found_there c.args.self.now.outer.items c.loop-left.left c.index.result.now (record { is_tag = c.args.is_tag; bytes = c.args.bytes.now }) c.in-Some.declared _ (omega arith) c.loop-left.invariant.within c.index.ensures c.loop-left.invariant.same (sym c.in-Some.is ∙ c.get.ensures)
 
 pub loop-left-preserved : goal.loop-left-preserved
 loop-left-preserved c = record {
   within = omega (arith, c.loop-left.invariant.within);
-  same = found_before c.args.self.now.outer.items c.loop-left.left c.index.result.now c.args.bytes.now _ (omega arith) c.loop-left.invariant.within c.index.ensures c.loop-left.invariant.same (sym c.in_default.is ∙ c.get.ensures);
+  same = found_before c.args.self.now.outer.items c.loop-left.left c.index.result.now (record { is_tag = c.args.is_tag; bytes = c.args.bytes.now }) _ (omega arith) c.loop-left.invariant.within c.index.ensures c.loop-left.invariant.same (sym c.in_default.is ∙ c.get.ensures);
 }

@@ -2,7 +2,7 @@ use Rattle.std.proofs.Common.{◌∙◌, ap}
 use Rattle.pk_typed.specs.Views.{declared_trees}
 use Rattle.pk_type_declaration.proofs.DeclaratorLemmas.{next, at_end}
 use Rattle.pk_type_declaration.proofs.StaticLemmas.{next_walked, end_walked, next_trees, end_trees, one_pushed}
-use Rattle.pk_type_declaration.proofs.walk.Walk.more_statics.Goals as goal
+use Rattle.pk_type_declaration.proofs.walk.Walk.static_declarators.Goals as goal
 
 pub loop-d-preserved : goal.loop-d-preserved
 loop-d-preserved c =

@@ -5,7 +5,7 @@ use Rattle.pk_type_scope.specs.Failures.{noted}
 use Rattle.pk_type_declaration.specs.Declarations.{after_declarators, declarator_trees_at}
 use Rattle.pk_type_declaration.specs.Parts.{joined}
 use Rattle.pk_type_declaration.specs.Views.{walked_in, declared_in}
-use Rattle.pk_type_declaration.proofs.walk.Walk.more.Given as goal
+use Rattle.pk_type_declaration.proofs.walk.Walk.declarators.Given as goal
 
 abbrev pub invariant-loop-d : goal.invariant-loop-d
 invariant-loop-d l =

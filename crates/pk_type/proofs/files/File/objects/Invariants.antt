@@ -4,7 +4,7 @@ use Rattle.pk_ast.specs.Views.{declarator_trees}
 use Rattle.pk_type_scope.specs.Failures.{noted}
 use Rattle.pk_type.specs.Files.{after_objects}
 use Rattle.pk_type.specs.Views.{filed_in}
-use Rattle.pk_type.proofs.files.File.more.Given as goal
+use Rattle.pk_type.proofs.files.File.objects.Given as goal
 
 abbrev pub invariant-loop-d : goal.invariant-loop-d
 invariant-loop-d l =

@@ -1,6 +1,6 @@
 use Rattle.pk_type_declaration.proofs.DeclaratorLemmas.{next, at_end}
 use Rattle.pk_type.proofs.FileLemmas.{objects_step, objects_ended}
-use Rattle.pk_type.proofs.files.File.more.Goals as goal
+use Rattle.pk_type.proofs.files.File.objects.Goals as goal
 
 pub loop-d-preserved : goal.loop-d-preserved
 loop-d-preserved c =

@@ -5,7 +5,7 @@ use Rattle.pk_typed.specs.Views.{declared_trees}
 use Rattle.pk_type_scope.specs.Failures.{noted}
 use Rattle.pk_type_declaration.specs.Statics.{after_statics, static_trees_at}
 use Rattle.pk_type_declaration.specs.Views.{walked_in}
-use Rattle.pk_type_declaration.proofs.walk.Walk.more_statics.Given as goal
+use Rattle.pk_type_declaration.proofs.walk.Walk.static_declarators.Given as goal
 
 abbrev pub invariant-loop-d : goal.invariant-loop-d
 invariant-loop-d l =

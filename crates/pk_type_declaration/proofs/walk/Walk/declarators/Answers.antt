@@ -2,7 +2,7 @@ use Rattle.std.proofs.Common.{◌∙◌, ap, option_map}
 use Rattle.pk_typed.specs.Views.{declared_trees}
 use Rattle.pk_type_declaration.specs.Parts.{parts_in}
 use Rattle.pk_type_declaration.proofs.DeclaratorLemmas.{next, at_end, next_walked, end_walked, next_trees, end_trees, declared_push}
-use Rattle.pk_type_declaration.proofs.walk.Walk.more.Goals as goal
+use Rattle.pk_type_declaration.proofs.walk.Walk.declarators.Goals as goal
 
 pub loop-d-preserved : goal.loop-d-preserved
 loop-d-preserved c =
