@@ -3,7 +3,7 @@ use Rattle.std.proofs.Common.{◌≡◌, ℕ, List, [], ◌∷◌, ◌++◌, Opt
 use Rattle.pk_lex.specs.declared.token.Kind.{Kind}
 use Rattle.pk_lex.specs.declared.token.Token.{Token}
 use Rattle.pk_ast.specs.Trees as ast
-use Rattle.pk_ast.specs.Trees.{ExpressionTree, ExpressionTrees, no_expressions, expression_then, InitializerTree, single, braced, DeclaratorTree, DeclarationTree, ForStartTree, declaration, expression, StatementTree, ItemTrees, no_items, declaration_then, statement_then, BlockTree, ExternalTree, function, objects, type_names}
+use Rattle.pk_ast.specs.Trees.{ExpressionTree, ExpressionTrees, no_expressions, expression_then, InitializerTree, single, braced, DeclaratorTree, EnumerationTree, DeclarationTree, ForStartTree, declaration, expression, StatementTree, ItemTrees, no_items, declaration_then, statement_then, BlockTree, ExternalTree, function, objects, type_names}
 use Rattle.pk_grammar.specs.Languages.{Marked, Language, One, ◌⊙◌}
 use Rattle.pk_grammar.specs.Grammar as grammar
 use Rattle.pk_grammar.specs.Grammar.{spelled, spelled_list, spelled_more, Expression, Items, optional, array_length, initializer, declarator, more_declarators, declared, test, for_start, statement, block_items, function_end, external, externals, text}
@@ -89,9 +89,12 @@ all_declarators : (ds : List DeclaratorTree) (n : ℕ) (ts : List Marked) → mo
 all_declarators [] n ts h a = tt
 all_declarators (d ∷ ds) n ts h a = let i = h.second in (declarators d _ _ i.first (left i (right h a)), all_declarators ds _ _ i.second (right i (right h a)))
 
+named : (e : Option EnumerationTree) (ds : List DeclaratorTree) (n : ℕ) (ts : List Marked) → grammar.declarators e ds n ts → Are ts → DeclaratorsHave ds
+named e [] n ts h a = tt
+named e (d ∷ ds) n ts h a = (declarators d _ _ h.first (left h a), all_declarators ds _ _ h.second (right h a))
+
 declarations : (d : DeclarationTree) (n : ℕ) (ts : List Marked) → declared d n ts → Are ts → DeclarationHas d
-declarations d n ts h a =
-    let i = h.second in let j = i.first in let b = left i (right h a) in (declarators d.declarators.first _ _ j.first (left j b), all_declarators d.declarators.more _ _ j.second (right j b))
+declarations d n ts h a = let i = h.second in named d.enumeration d.declarators _ _ i.first (left i (right h a))
 
 -- ---- statements
 
@@ -135,7 +138,8 @@ mutual
 
   items : (is : ItemTrees) (n : ℕ) (ts : List Marked) → block_items is n ts → Are ts → ItemsHave is
   items no_items n ts h a = tt
-  items (declaration_then s d is) n ts h a = let i = h.second in (declarations d _ _ i.first (left i (right h a)), items is _ _ i.second (right i (right h a)))
+  items (declaration_then s d is) n ts h a =
+      let w = h.is in let i = w.second in (declarations d _ _ i.first (left i (right w a)), items is _ _ i.second (right i (right w a)))
   items (statement_then s is) n ts h a = (statements s _ _ h.first (left h a), items is _ _ h.second (right h a))
 
 -- ---- texts
