@@ -76,8 +76,81 @@ fn texts(rt: HostRuntime) -> Result<(), Fail> {
     Ok(())
 }
 
+// Texts with enumerations, and the column at which each is a syntax error, or 0.
+const ENUMERATIONS: [(&str, u64); 60] = [
+    ("enum e{A};", 0),
+    ("enum{A,};", 0),
+    ("enum{A=1,B}x,y[2];", 0),
+    ("enum{};", 6),
+    ("enum{,};", 6),
+    ("enum{A,,};", 8),
+    ("enum{A B};", 8),
+    ("enum{A=};", 8),
+    ("enum{A=1,2};", 10),
+    ("enum{A=1=2};", 9),
+    ("enum{A=(1,2)};", 0),
+    ("enum{A=1?2:3,};", 0),
+    ("enum{A", 7),
+    ("enum{A,", 8),
+    ("enum", 5),
+    ("enum;", 5),
+    ("enum e;", 7),
+    ("enum e x;", 0),
+    ("enum e{", 8),
+    ("enum e e;", 0),
+    ("const enum const{A};", 12),
+    ("const enum e const x;", 0),
+    ("enum const e x;", 6),
+    ("const enum e{A}const;", 0),
+    ("enum e{A}const const x;", 0),
+    ("enum e{A}e;", 0),
+    ("enum e{A}int;", 10),
+    ("enum e{A}f(void);", 11),
+    ("enum e f(void);", 0),
+    ("enum e f(enum e,enum e x);", 0),
+    ("int f(enum);", 11),
+    ("int f(enum,int);", 11),
+    ("int f(enum{A}x);", 11),
+    ("int f(enum e{A}x);", 13),
+    ("int enum e x;", 5),
+    ("enum e int x;", 8),
+    ("enum enum e x;", 6),
+    ("unsigned enum{A};", 10),
+    ("static enum{A};", 0),
+    ("extern enum e{A}x;", 0),
+    ("static enum e x;", 0),
+    ("enum{A}x=1,;", 12),
+    ("typedef enum{A}T;", 0),
+    ("typedef enum e{A}T,U;", 0),
+    ("typedef enum e T;", 0),
+    ("typedef enum{A};", 16),
+    ("typedef enum e;", 15),
+    ("typedef const enum{A}const T;", 0),
+    ("typedef enum{A}T[2];", 17),
+    ("int x=(enum e)1;", 0),
+    ("int x=(enum)1;", 12),
+    ("int x=(enum e{A})1;", 14),
+    ("int x=(const enum e const)1;", 0),
+    ("int x=enum;", 7),
+    ("enum{A[2]};", 7),
+    ("enum{A={1}};", 8),
+    ("enum{1};", 6),
+    ("enum{int};", 6),
+    ("enum 1;", 6),
+    ("enum(A);", 5),
+];
+
+#[test]
+fn enumerations(rt: HostRuntime) -> Result<(), Fail> {
+    for row in &ENUMERATIONS {
+        let (text, column) = *row;
+        assert!(rt; refused(rt.alloc(), text)? == syntax(column), "{text}");
+    }
+    Ok(())
+}
+
 // What stands in a body behind some declarations, and the column at which it is a syntax error, or 0.
-const BODIES: [(&str, u64); 137] = [
+const BODIES: [(&str, u64); 163] = [
     ("a+b=3;", 4),
     ("a?b:a=3;", 6),
     ("(int)a=3;", 7),
@@ -215,6 +288,32 @@ const BODIES: [(&str, u64); 137] = [
     ("(static int)a;", 2),
     ("static (a);", 8),
     ("static}", 7),
+    ("enum e{A};", 0),
+    ("enum{A}x=A;", 0),
+    ("enum{A,B,}x,y;", 0),
+    ("static enum{A};", 15),
+    ("static enum{A}x=1;", 0),
+    ("static enum e{A}const x;", 0),
+    ("static enum e x;", 0),
+    ("for(enum{A};;);", 0),
+    ("for(enum{A}i=A;i;);", 0),
+    ("for(enum e i;;);", 0),
+    ("for(static enum{A}i;;);", 5),
+    ("if(a)enum{A};", 6),
+    ("M:enum{A};", 3),
+    ("enum{A}f(void);", 9),
+    ("enum{A}(x);", 8),
+    ("enum{A}+1;", 8),
+    ("enum{A}}", 8),
+    ("a=(enum e)b;", 0),
+    ("a=(enum e{A})b;", 10),
+    ("a=(enum)b;", 8),
+    ("enum e;", 7),
+    ("enum{a=1,b=a};", 0),
+    ("{enum e{A};enum e x=A;}", 0),
+    ("const enum{A}const;", 0),
+    ("enum{A;", 7),
+    ("enum{A)", 7),
 ];
 
 #[test]
