@@ -62,7 +62,8 @@ abbrev pub after_enumerator_value : {F : Type 0} → Adding F → Option ℤ →
     Walked F → Walked F
 after_enumerator_value add next x None w = failing add (fails_if (is_beyond next) rule.Constant x.at) w
 after_enumerator_value add next x (Some e) w =
-    failing add (fails_if (is_refused_enumerator (evaluated w e)) rule.Constant (first_place_of e)) (after_value add e w)
+    failing add (fails_if (is_refused_enumerator (evaluated w e)) rule.Constant (first_place_of e))
+    (after_value add e w)
 
 -- its name, with the rows at it
 abbrev pub after_enumerator_name : {F : Type 0} → Adding F → Option ℤ → Identifier → Walked F → Walked F
@@ -72,7 +73,8 @@ after_enumerator_name add value x w =
 -- its scope begins behind its value (C99 6.2.1)
 unfoldable pub after_enumerator : {F : Type 0} → Adding F → Option ℤ → EnumeratorTree → Walked F → Walked F
 after_enumerator add next x w =
-    after_enumerator_name add (enumerator_value w next x.value) x.name (after_enumerator_value add next x.name x.value w)
+    after_enumerator_name add (enumerator_value w next x.value) x.name
+    (after_enumerator_value add next x.name x.value w)
 
 unfoldable pub after_enumerators : {F : Type 0} → Adding F → Option ℤ → List EnumeratorTree → Walked F → Walked F
 after_enumerators add next [] w = w
