@@ -2,6 +2,8 @@
 use Rattle.std.proofs.Common.{◌≡◌, ◌⊎◌, inl, inr, Bool, true, false, if◌then◌else◌, Option, Some, None, List, [], ◌∷◌, ◌++◌, refl, sym, ap, subst, ◌∙◌}
 use Rattle.pk_lex.specs.declared.token.Token.{Token}
 use Rattle.pk_lex.specs.declared.token.Kind.TheVariants as kind
+use Rattle.pk_lex.specs.declared.token.Punctuator.{Punctuator}
+use Rattle.pk_lex.specs.declared.token.Punctuator.TheVariants as mark
 use Rattle.pk_ast.specs.declared.declarations.Specifier.{Specifier}
 use Rattle.pk_ast.specs.declared.declarations.SpecifierWord.{SpecifierWord}
 use Rattle.pk_ast.specs.declared.declarations.SpecifierWord.TheVariants as word
@@ -11,7 +13,7 @@ use Rattle.pk_grammar.specs.declared.signs.Fixed.TheVariants as fixed
 use Rattle.pk_grammar.specs.declared.signs.Shape.{Shape}
 use Rattle.pk_grammar.specs.declared.signs.Shape.TheVariants as shape
 use Rattle.pk_grammar.specs.Grammar.{IsWord, IsTypeName, IsTag, IsKeyword, AreKeywords, AreConst, AreTagged, BeginNamed, AreNamed, GoTogether, IsOptionalTag, AreBeforeBraces, all_of}
-use Rattle.pk_grammar.specs.Machine.Signs.{is_fixed, specifier_word, wants_tag, takes_braces, follows, with_word, with_words, shape_of, where_it_follows, tag_word, following_word}
+use Rattle.pk_grammar.specs.Machine.Signs.{is_fixed, specifier_in, specifier_word, wants_tag, takes_braces, follows, with_word, with_words, shape_of, where_it_follows, tag_word, following_word}
 use Rattle.pk_grammar.specs.Machine.Steps.{may_follow, next_word, end_in_enum, may_open}
 use Rattle.pk_grammar.proofs.CompleteSigns.{word_is}
 
@@ -55,6 +57,11 @@ following_is s w t h f = other_is s w t (λ k. k) h f
 pub next_is : (done : OneOrMore Specifier) (t : Token) (w : SpecifierWord) → IsWord w t → may_follow done w ≡ true → next_word done t ≡ Some w
 next_is done t w h m = following_is (shape_of (all_of done)) w t h m
 
+-- a word that may stand first is a word of a type by itself
+pub first_is : (w : SpecifierWord) (t : Token) → IsWord w t → follows shape.Consts w ≡ true → specifier_word t ≡ Some w
+first_is (word.Tag from to) t h f = absurd (cc)
+first_is w t h f = word_is w t (λ k. k) h
+
 -- no word is next at a token that is none and isn't a name either
 pub no_next : (done : OneOrMore Specifier) (t : Token) → is_fixed fixed.Name t.kind ≡ false → specifier_word t ≡ None → next_word done t ≡ None
 no_next done t n e =
@@ -71,6 +78,16 @@ pub no_more : (done : OneOrMore Specifier) (t : Token) → end_in_enum done ≡ 
 no_more done t n e =
     let s : Shape = shape_of (all_of done) in
     ap (λ (b : Bool). if b then tag_word t else where_it_follows s (specifier_word t)) n ∙ ap (λ o. where_it_follows s o) e
+
+pub no_sign : (done : OneOrMore Specifier) (t : Token) (p : Punctuator) → t.kind ≡ kind.Punctuator p → next_word done t ≡ None
+no_sign done t p e = no_next done t (ap (λ k. is_fixed fixed.Name k) e ∙ no_name p) (ap (λ k. specifier_in k t.start t.end) e)
+  where
+    no_name : (p : Punctuator) → is_fixed fixed.Name (kind.Punctuator p) ≡ false
+    no_name mark.OpenParenthesis = refl
+    no_name _ = refl
+
+pub no_name : (done : OneOrMore Specifier) (t : Token) → end_in_enum done ≡ false → t.kind ≡ kind.Name → next_word done t ≡ None
+no_name done t n e = no_more done t n (ap (λ k. specifier_in k t.start t.end) e)
 
 -- Words of the grammar follow each other
 
@@ -178,10 +195,6 @@ ends_in_no_enum specs h = goes_end shape.Consts (all_of specs) h
 -- and behind those before braces braces may stand
 pub opens_braces : (specs : OneOrMore Specifier) → AreBeforeBraces (all_of specs) → may_open specs ≡ true
 opens_braces specs h = opens_end shape.Consts (all_of specs) h
-
--- the first word of those of a type
-pub first_follows : (w : Specifier) (more : List Specifier) → Continues shape.Consts (w ∷ more) → follows shape.Consts w.word ≡ true
-first_follows w more h = (continues_on shape.Consts w more h).0
 
 -- Words that follow each other are of the grammar
 
