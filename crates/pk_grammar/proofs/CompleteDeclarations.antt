@@ -19,7 +19,7 @@ use Rattle.pk_grammar.specs.Machine.States.{Site, in_a_block, in_a_for, outside,
 use Rattle.pk_grammar.specs.Machine.Steps.{taken, refused, reduced, one_more, more_specifiers, whole_declaration, end_alone, specifier_at, site_nesting, naming_nesting, with_initializer, without_length, after_declarator, declared_at, step, first_item, more_items, with_declarator, goes_on_declaring, next_word, alone}
 use Rattle.pk_grammar.proofs.WordLemmas.{no_name, ends_in_no_enum, opens_braces}
 use Rattle.pk_grammar.proofs.CompleteLists.{tokens_of, Reads, reads_both, reads_one, reads_none, reads_head, reads_sign, reads_last, regrouped, reads_join_none}
-use Rattle.pk_grammar.proofs.CompleteSigns.{Begins, sign_comma, sign_semicolon, sign_close_brace, sign_close_bracket}
+use Rattle.pk_grammar.proofs.CompleteSigns.{Begins, sign_comma, sign_semicolon, sign_close_bracket}
 use Rattle.pk_grammar.proofs.CompleteOperands.{Ends, IsAt, ends_at_sign, same_false}
 use Rattle.pk_grammar.proofs.CompleteExpressions.{from_operand, readable, joined, joined_all, ReadsTo, reads_words, reads_specifiers}
 use Rattle.pk_grammar.proofs.CompleteEnumerations.{EndsItem, item_ends, step_open_braces, step_alone, step_name_behind, reads_braces}

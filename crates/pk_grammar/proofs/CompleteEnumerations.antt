@@ -1,11 +1,10 @@
 -- Each enumeration of the grammar is read: what the parser does at each of its tokens.
-use Rattle.std.proofs.Common.{◌≡◌, ℕ, ◌⊎◌, inl, inr, Option, Some, None, false, true, List, [], ◌∷◌, ◌++◌, refl, sym, ap, subst, ◌∙◌, arith, append_assoc, append-nil}
+use Rattle.std.proofs.Common.{◌≡◌, ℕ, ◌⊎◌, inl, inr, Option, Some, None, false, true, List, [], ◌∷◌, ◌++◌, sym, ap, subst, ◌∙◌, arith, append_assoc, append-nil}
 use Rattle.pk_lex.specs.declared.token.Token.{Token}
 use Rattle.pk_lex.specs.declared.token.Kind.TheVariants as kind
 use Rattle.pk_lex.specs.declared.token.Keyword.TheVariants as key
 use Rattle.pk_lex.specs.declared.token.Punctuator.TheVariants as mark
 use Rattle.pk_ast.specs.declared.declarations.Specifier.{Specifier}
-use Rattle.pk_ast.specs.declared.declarations.SpecifierWord.{SpecifierWord}
 use Rattle.pk_ast.specs.declared.declarations.SpecifierWord.TheVariants as word
 use Rattle.pk_ast.specs.declared.expressions.Identifier.{Identifier}
 use Rattle.pk_ast.specs.Trees.{OneOrMore, ExpressionTree, EnumeratorTree, EnumerationTree, ExternalTree}
@@ -15,10 +14,10 @@ use Rattle.pk_grammar.specs.Languages.{Marked, Optional, ◌⊙◌, identifier_o
 use Rattle.pk_grammar.specs.Grammar.{IsWord, AreConst, punctuator, specifier_list, enumerator_value, enumerator, more_enumerators, braces}
 use Rattle.pk_grammar.specs.Machine.Signs.{is_fixed}
 use Rattle.pk_grammar.specs.Machine.States.{Site, EnumerationSite, in_declaration, in_typedef, Enumerating, Enumerated, as_enumerator, as_whole, State, operand, complete, after_specifiers, type_specifiers, after_name, after_type_name, at_enumerator, after_enumerator_name, after_braces}
-use Rattle.pk_grammar.specs.Machine.Steps.{taken, refused, reduced, more_specifiers, more_typedef, specifier_at, site_nesting, enumeration_nesting, enumerating_nesting, with_enumerator, after_enumerator, next_enumerator, close_braces, with_qualifier, behind_braces, end_alone, step, next_word, may_open}
+use Rattle.pk_grammar.specs.Machine.Steps.{taken, refused, reduced, more_specifiers, more_typedef, specifier_at, site_nesting, enumeration_nesting, enumerating_nesting, with_enumerator, after_enumerator, next_enumerator, close_braces, with_qualifier, behind_braces, end_alone, step, may_open}
 use Rattle.pk_grammar.proofs.SpellsWords.{drop_last}
 use Rattle.pk_grammar.proofs.WordLemmas.{no_sign}
-use Rattle.pk_grammar.proofs.CompleteLists.{tokens_of, Reads, reads_both, reads_one, reads_none, reads_head, reads_sign, reads_join_none}
+use Rattle.pk_grammar.proofs.CompleteLists.{tokens_of, Reads, reads_none, reads_head, reads_sign}
 use Rattle.pk_grammar.proofs.CompleteSigns.{sign_comma, sign_close_brace}
 use Rattle.pk_grammar.proofs.CompleteOperands.{Ends, ends_at_sign, same_false, same_true}
 use Rattle.pk_grammar.proofs.CompleteExpressions.{readable, ReadsTo}
