@@ -80,6 +80,17 @@ assoc h =
       second = record { front = g.back; back = h.back; cut = refl; first = g.second; second = h.second };
     }
 
+pub back_assoc : {P Q R : Language} {n : ℕ} {ts : List Marked} → (P ⊙ (Q ⊙ R)) n ts → ((P ⊙ Q) ⊙ R) n ts
+back_assoc h =
+    let g = h.second in
+    record {
+      front = h.front ++ g.front;
+      back = g.back;
+      cut = h.cut ∙ ap (λ q. h.front ++ q) g.cut ∙ sym (append_assoc h.front g.front g.back);
+      first = record { front = h.front; back = g.front; cut = refl; first = h.first; second = g.first };
+      second = g.second;
+    }
+
 pub then_as : {P Q Q' : Language} {n : ℕ} {ts : List Marked} → ((us : List Marked) → Q n us → Q' n us) → (P ⊙ Q) n ts → (P ⊙ Q') n ts
 then_as f h = record { front = h.front; back = h.back; cut = h.cut; first = h.first; second = f h.back h.second }
 

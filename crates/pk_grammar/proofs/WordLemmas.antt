@@ -89,6 +89,18 @@ no_sign done t p e = no_next done t (ap (λ k. is_fixed fixed.Name k) e ∙ no_n
 pub no_name : (done : OneOrMore Specifier) (t : Token) → end_in_enum done ≡ false → t.kind ≡ kind.Name → next_word done t ≡ None
 no_name done t n e = no_more done t n (ap (λ k. specifier_in k t.start t.end) e)
 
+-- a name that is no next word is no tag
+pub no_enum : (done : OneOrMore Specifier) (t : Token) → next_word done t ≡ None → t.kind ≡ kind.Name → end_in_enum done ≡ false
+no_enum done t h e = by_test (wants_tag (shape_of (all_of done))) refl
+  where
+    by_test : (b : Bool) → wants_tag (shape_of (all_of done)) ≡ b → end_in_enum done ≡ false
+    by_test false f = f
+    by_test true f =
+        let g : next_word done t ≡ Some (word.Tag t.start t.end) =
+        ap (λ (b : Bool). if b then tag_word t else where_it_follows (shape_of (all_of done)) (specifier_word t)) f ∙ ap (λ k. if is_fixed fixed.Name k then Some (word.Tag t.start t.end) else None) e in
+        let a : ◌≡◌ {A = Option SpecifierWord} (Some (word.Tag t.start t.end)) None = sym g ∙ h in
+        absurd (cc)
+
 -- Words of the grammar follow each other
 
 -- words that go together, as far as they stand behind words of this shape
