@@ -235,7 +235,7 @@ keywords_end : (ws : List Specifier) (w : Specifier) → AreKeywords ws → IsKe
 keywords_end [] w h k = (k, tt)
 keywords_end (v ∷ ws) w h k = (h.0, keywords_end ws w h.1 k)
 
-consts_end : (ws : List Specifier) (w : Specifier) → AreConst ws → w.word ≡ word.Const → AreConst (ws ++ w ∷ [])
+pub consts_end : (ws : List Specifier) (w : Specifier) → AreConst ws → w.word ≡ word.Const → AreConst (ws ++ w ∷ [])
 consts_end [] w h k = (k, tt)
 consts_end (v ∷ ws) w h k = (h.0, consts_end ws w h.1 k)
 
