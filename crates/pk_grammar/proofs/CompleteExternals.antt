@@ -86,7 +86,7 @@ last_is : (ps : List ParameterTree) (specs : OneOrMore Specifier) → ¬ IsNone 
 last_is [] specs h = rw (no_void_alone specs.first specs.more (λ v. h (refl, v)))
 last_is (p ∷ ps) specs h = refl
 
-step_more_parameter : (h : Head) (ps : List ParameterTree) (specs : OneOrMore Specifier) (t : Token) (w : SpecifierWord) → next_word specs t ≡ Some w →
+pub step_more_parameter : (h : Head) (ps : List ParameterTree) (specs : OneOrMore Specifier) (t : Token) (w : SpecifierWord) → next_word specs t ≡ Some w →
     step (parameter_specifiers h ps specs) t ≡ taken 1 (parameter_specifiers h ps (with_last specs (specifier_at t w)))
 step_more_parameter h ps specs t w e = ap (λ w. more_parameter h ps specs t w) e
 
@@ -99,7 +99,7 @@ step_unnamed_comma : (h : Head) (ps : List ParameterTree) (specs : OneOrMore Spe
     step (parameter_specifiers h ps specs) t ≡ taken 1 (parameter_comma h (ps ++ with_name specs None ∷ []))
 step_unnamed_comma h ps specs t f e = ap (λ w. more_parameter h ps specs t w) (no_sign specs t mark.Comma e) ∙ same_false (end_in_enum specs) _ _ f ∙ rw e
 
-step_unnamed_close : (h : Head) (ps : List ParameterTree) (specs : OneOrMore Specifier) (t : Token) → end_in_enum specs ≡ false → t.kind ≡ kind.Punctuator mark.CloseParenthesis →
+pub step_unnamed_close : (h : Head) (ps : List ParameterTree) (specs : OneOrMore Specifier) (t : Token) → end_in_enum specs ≡ false → t.kind ≡ kind.Punctuator mark.CloseParenthesis →
     step (parameter_specifiers h ps specs) t ≡ taken 0 (parameters_closed h (last_parameter ps specs))
 step_unnamed_close h ps specs t f e = ap (λ w. more_parameter h ps specs t w) (no_sign specs t mark.CloseParenthesis e) ∙ same_false (end_in_enum specs) _ _ f ∙ rw e
 

@@ -1,5 +1,5 @@
 -- What an enumeration's steps leave, up to its closing brace.
-use Rattle.std.proofs.Common.{◌≡◌, ℕ, List, [], ◌∷◌, ◌++◌, Option, Some, None, inr, refl}
+use Rattle.std.proofs.Common.{◌≡◌, ℕ, List, [], ◌∷◌, Option, Some, None, inr, refl}
 use Rattle.pk_lex.specs.declared.token.Token.{Token}
 use Rattle.pk_lex.specs.declared.token.Kind.TheVariants as kind
 use Rattle.pk_lex.specs.declared.token.Punctuator.TheVariants as mark
@@ -15,7 +15,7 @@ use Rattle.pk_grammar.specs.Machine.Steps.{refused, may_open, enumeration_nestin
 use Rattle.pk_grammar.proofs.WordLemmas.{before_braces, consts_end}
 use Rattle.pk_grammar.proofs.SpellsWords.{◌▹◌, push, none_more, not_there, gather, spread, last_as, assoc, then_as}
 use Rattle.pk_grammar.proofs.SpellsLists.{enumerators_end, enumerators_comma, enumerators_before_end, qualifiers_end}
-use Rattle.pk_grammar.proofs.SpellsStates.{bare, open_words, enumerators_before, to_enumeration, to_braces, to_enumerator, to_enumerator_end}
+use Rattle.pk_grammar.proofs.SpellsStates.{bare, open_words, to_enumeration, to_enumerator, to_enumerator_end}
 use Rattle.pk_grammar.proofs.SpellsGood.{Good, if_good, wanted_good, fixed_good}
 
 pub open_braces_good : (s : EnumerationSite) (ss : OneOrMore Specifier) (t : Token) (ms : List Marked) → t.kind ≡ kind.Punctuator mark.OpenBrace →

@@ -101,6 +101,20 @@ no_enum done t h e = by_test (wants_tag (shape_of (all_of done))) refl
         let a : ◌≡◌ {A = Option SpecifierWord} (Some (word.Tag t.start t.end)) None = sym g ∙ h in
         absurd (cc)
 
+-- behind `enum` a name is a tag
+pub next_tag : (done : OneOrMore Specifier) (t : Token) → end_in_enum done ≡ true → t.kind ≡ kind.Name → next_word done t ≡ Some (word.Tag t.start t.end)
+next_tag done t h e =
+    ap (λ (b : Bool). if b then tag_word t else where_it_follows (shape_of (all_of done)) (specifier_word t)) h
+    ∙ ap (λ k. if is_fixed fixed.Name k then Some (word.Tag t.start t.end) else None) e
+
+-- and with it no other is wanted
+pub tag_is_last : (done : OneOrMore Specifier) (w : Specifier) → end_in_enum done ≡ true → end_in_enum (with_last done w) ≡ false
+tag_is_last done w h = ap wants_tag (shape_with_last done w) ∙ by_shape (shape_of (all_of done)) h
+  where
+    by_shape : (s : Shape) → wants_tag s ≡ true → wants_tag (with_word s w.word) ≡ false
+    by_shape shape.Enum e = refl
+    by_shape s e = absurd (cc)
+
 -- Words of the grammar follow each other
 
 -- words that go together, as far as they stand behind words of this shape

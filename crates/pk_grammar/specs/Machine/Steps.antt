@@ -306,7 +306,6 @@ end_purpose (as_value d) e t = wanted fixed.Semicolon t (end_declaration (with_i
 end_purpose (as_item d at es) e t =
     wanted fixed.CloseBrace t (taken (naming_nesting d)
     (after_initializer (with_initializer d (Some (braced at (first_item es e) (more_items es e))))))
-
 end_purpose (as_enumerator d id) e t = wanted fixed.CloseBrace t (close_braces (with_enumerator d id (Some e)))
 
 -- an expression ends at this token, which is no operator
