@@ -582,7 +582,8 @@ open_parameters (outside before s) specs (Some e) ds id = refused
 
 abbrev pub at_after_name : Declaring → Identifier → Token → Verdict
 at_after_name d id t =
-    if is_fixed fixed.OpenParenthesis t.kind then open_parameters d.site d.specifiers d.enumeration d.declarators id else
+    if is_fixed fixed.OpenParenthesis t.kind
+    then open_parameters d.site d.specifiers d.enumeration d.declarators id else
     if is_fixed fixed.OpenBracket t.kind
     then taken (site_nesting d.site + 1) (operand (site_nesting d.site + 1) (as_whole (as_length d id))) else
     if is_fixed fixed.Assign t.kind then taken (site_nesting d.site) (after_assign (without_length d id)) else
