@@ -190,7 +190,7 @@ module _ (end : Token) (n : ℕ) (at : Pos) (first : Specifier) (ts : List Token
 
   pub closes_cast : (t : Token) (after : List Token) → Begins fixed.CloseParenthesis rest t after → n + 1 ≤ 128 → (k : Context) →
       run end (cast_specifiers n at (one first) k) ts ≡ run end (operand (n + 1) (in_cast n at specs k)) after
-  closes_cast t after b h k = words_read k h ∙ run_cast_close end n at specs k rest t after (no_word_more end first ts specs rest w.0) w.1 b h
+  closes_cast t after b h k = words_read k h ∙ run_cast_close end n at specs k rest t after w.1 b h
 
   pub unclosed_cast : (x : ParseError) → is_fixed fixed.CloseParenthesis (first_of_all end rest).kind ≡ false → x ≡ Syntax (first_of_all end rest).at → n + 1 ≤ 128 →
       Refuses end Anywhere (λ c. cast_specifiers n at (one first) c) ts x

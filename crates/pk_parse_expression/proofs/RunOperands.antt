@@ -20,7 +20,7 @@ use Rattle.pk_grammar.specs.Machine.States.{Context, in_parentheses, in_index, i
 use Rattle.pk_grammar.specs.Machine.Steps.{taken, begin_operand, operand_level, open_cast, more_cast, specifier_at, next_word, end_in_enum, one_more, step}
 use Rattle.pk_grammar.specs.Machine.Running.{syntax, deep, first_of_all, run}
 use Rattle.pk_parse_expression.specs.Parsing.{Begins, BeginsWithWord, TypeWords, words, words_then, specifiers_from, past_words, AreWords}
-use Rattle.pk_grammar.proofs.CompleteOperands.{same_false, same_true, step_call, step_index, step_no_arguments, step_more_cast, step_colon, step_comma, step_parenthesized, step_indexed, step_called, step_argument}
+use Rattle.pk_grammar.proofs.CompleteOperands.{same_false, step_call, step_index, step_no_arguments, step_more_cast, step_cast_end, step_no_cast, step_colon, step_comma, step_parenthesized, step_indexed, step_called, step_argument}
 use Rattle.pk_grammar.proofs.SpellsSigns.{is_this}
 use Rattle.pk_parse_expression.proofs.RunLemmas.{run_takes, run_deep, run_refused, run_alike, first_is}
 
@@ -179,12 +179,9 @@ pub run_cast_words : (end : Token) (n : ℕ) (at : Pos) (c : Context) → n + 1 
 run_cast_words end n at c h ts specs = run_words end (λ q. cast_specifiers n at q c) (n + 1) h (λ q t w e. step_more_cast n at q c t w e) ts specs
 
 module _ (end : Token) (n : ℕ) (at : Pos) (specs : OneOrMore Specifier) (c : Context) (ts : List Token) where
-  pub run_cast_close : (t : Token) (rest : List Token) → next_word specs (first_of_all end ts) ≡ None → end_in_enum specs ≡ false → Begins fixed.CloseParenthesis ts t rest → n + 1 ≤ 128 →
+  pub run_cast_close : (t : Token) (rest : List Token) → end_in_enum specs ≡ false → Begins fixed.CloseParenthesis ts t rest → n + 1 ≤ 128 →
       run end (cast_specifiers n at specs c) ts ≡ run end (operand (n + 1) (in_cast n at specs c)) rest
-  run_cast_close t rest e f b h =
-      run_takes end (cast_specifiers n at specs c) ts t rest _ (operand (n + 1) (in_cast n at specs c)) b.cut
-      (ap (λ w. more_cast n at specs c t w) (sym (ap (λ q. next_word specs q) (first_is end ts t rest b.cut)) ∙ e) ∙ same_false (end_in_enum specs) _ _ f
-      ∙ same_true (is_fixed fixed.CloseParenthesis t.kind) _ _ b.is) h
+  run_cast_close t rest e b h = run_takes end (cast_specifiers n at specs c) ts t rest _ (operand (n + 1) (in_cast n at specs c)) b.cut (step_cast_end n at specs c t e (is_this fixed.CloseParenthesis t.kind b.is)) h
 
   pub no_cast_close : next_word specs (first_of_all end ts) ≡ None → end_in_enum specs ≡ false → is_fixed fixed.CloseParenthesis (first_of_all end ts).kind ≡ false →
       run end (cast_specifiers n at specs c) ts ≡ syntax (first_of_all end ts).at
@@ -193,4 +190,4 @@ module _ (end : Token) (n : ℕ) (at : Pos) (specs : OneOrMore Specifier) (c : C
       run_refused end _ ts (ap (λ w. more_cast n at specs c t w) e ∙ same_false (end_in_enum specs) _ _ g ∙ same_false (is_fixed fixed.CloseParenthesis t.kind) _ _ f)
 
   pub no_cast_type : next_word specs (first_of_all end ts) ≡ None → end_in_enum specs ≡ true → run end (cast_specifiers n at specs c) ts ≡ syntax (first_of_all end ts).at
-  no_cast_type e g = let t = first_of_all end ts in run_refused end _ ts (ap (λ w. more_cast n at specs c t w) e ∙ same_true (end_in_enum specs) _ _ g)
+  no_cast_type e g = let t = first_of_all end ts in run_refused end _ ts (step_no_cast n at specs c t e g)

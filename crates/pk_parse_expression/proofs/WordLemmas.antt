@@ -6,11 +6,11 @@ use Rattle.pk_ast.specs.declared.declarations.SpecifierWord.{SpecifierWord}
 use Rattle.pk_ast.specs.Lists.{with_last}
 use Rattle.pk_ast.specs.Trees.{OneOrMore}
 use Rattle.pk_grammar.specs.declared.signs.Shape.{Shape}
-use Rattle.pk_grammar.specs.declared.signs.Shape.TheVariants as shape
 use Rattle.pk_grammar.specs.Grammar.{all_of}
-use Rattle.pk_grammar.specs.Machine.Signs.{following_word, with_word, with_words, shape_of}
+use Rattle.pk_grammar.specs.Machine.Signs.{following_word, with_word, shape_of}
 use Rattle.pk_grammar.specs.Machine.Steps.{specifier_at, next_word}
 use Rattle.pk_grammar.specs.Machine.Running.{first_of_all}
+use Rattle.pk_grammar.proofs.WordLemmas.{shape_with_last}
 use Rattle.pk_parse_expression.specs.Parsing.{BeginsWithWord, words, words_then}
 
 pub no_words : (end : Token) (done : OneOrMore Specifier) (ts : List Token) → next_word done (first_of_all end ts) ≡ None → words done ts ≡ (done, ts)
@@ -38,15 +38,11 @@ no_longer (t ∷ ts) done = by_word (λ q. no_longer ts q) (next_word done t)
 
 -- what words are, with one more
 
-with_words_end : (s : Shape) (ws : List Specifier) (w : Specifier) → with_words s (ws ++ w ∷ []) ≡ with_word (with_words s ws) w.word
-with_words_end s [] w = refl
-with_words_end s (v ∷ ws) w = with_words_end (with_word s v.word) ws w
-
 pub shape_as : (s : Shape) (done all : OneOrMore Specifier) → s ≡ shape_of (all_of done) → all ≡ done → s ≡ shape_of (all_of all)
 shape_as s done all e f = e ∙ ap (λ q. shape_of (all_of q)) (sym f)
 
 pub shape_more : (s r : Shape) (done : OneOrMore Specifier) (w : Specifier) → r ≡ shape_of (all_of done) → s ≡ with_word r w.word → s ≡ shape_of (all_of (with_last done w))
-shape_more s r done w e f = f ∙ ap (λ q. with_word q w.word) e ∙ sym (with_words_end shape.Consts (all_of done) w)
+shape_more s r done w e f = f ∙ ap (λ q. with_word q w.word) e ∙ sym (shape_with_last done w)
 
 -- what may follow is what is next
 pub following_next : (s : Shape) (done : OneOrMore Specifier) (t : Token) → s ≡ shape_of (all_of done) → following_word s t ≡ next_word done t
