@@ -51,6 +51,9 @@ module _ (end : Token) (ts : List Token) (ids : List Identifier) (rest : List To
         ∙ ap (λ q. run end (after_type_name before d.specifiers d.enumeration (record { first = d.names.first; more = q })) after)
         (append_assoc d.names.more ids (identifier_of u ∷ []) ∙ ap (λ q. d.names.more ++ q) (ap (λ i. ids ++ i ∷ []) (sym is) ∙ sym pushed))
 
+abbrev pub typedef_of : OneOrMore Specifier → Option EnumerationTree → OneOrMore Identifier → TypedefTree
+typedef_of specs e names = record { specifiers = specs; enumeration = e; names = names }
+
 pub stops_first_type : (end : Token) (ts : List Token) (x : ParseError) → specifier_word (first_of_all end ts) ≡ None → x ≡ Syntax (first_of_all end ts).at → (before : List ExternalTree) →
     Fails (run end (after_typedef before) ts) x
 stops_first_type end ts x e h before = fails_syntax _ x _ h (no_first_type end before ts e)

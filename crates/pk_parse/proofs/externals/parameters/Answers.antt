@@ -73,4 +73,4 @@ loop-word-preserved c =
     let b = shorter fixed.Comma _ _ _ c.in_ok-following.ensures in
     let h = i.1 in
     let g = r.2 in
-    (reads_parameter _ _ c.loop-word.list.items _ i.0 _ _ s c.in_ok-parameter.parameter _ r.0 _ _ _ c.in_ok-push-2.ensures.items c.in_ok-following.ensures, omega arith)
+    (reads_parameter _ _ c.loop-word.list.items _ i.0 _ _ s c.in_ok-parameter.parameter _ r.0 r.1 _ _ _ c.in_ok-push-2.ensures.items c.in_ok-following.ensures, omega arith)
