@@ -1,13 +1,14 @@
 -- What is answered over a whole part of a declaration.
-use Rattle.std.proofs.Common.{◌≡◌, ℕ, ◌+◌, ◌<◌, ◌≤◌, List, [], ◌∷◌, ◌++◌, length, Some, false, refl, sym, ap, ◌∙◌, append_assoc, append-nil, arith, Bool, true}
-use Rattle.pk_ast.specs.Lists.{one}
+use Rattle.std.proofs.Common.{◌≡◌, ℕ, ◌+◌, ◌<◌, ◌≤◌, List, [], ◌∷◌, ◌++◌, length, Option, Some, None, option_map, false, ◌&&◌, not, refl, sym, ap, subst, ◌∙◌, append_assoc, append-nil, arith, Bool, true}
+use Rattle.std.specs.Option.{is_some}
+use Rattle.pk_ast.specs.Lists.{ended}
 use Rattle.pk_ctypes.specs.declared.places.Pos.{Pos}
 use Rattle.pk_lex.specs.declared.token.Token.{Token}
 use Rattle.pk_ast.specs.declared.declarations.Specifier.{Specifier}
 use Rattle.pk_ast.specs.declared.declarations.Declarator.{Declarator}
 use Rattle.pk_ast.specs.declared.expressions.Expression.{Expression}
 use Rattle.pk_ast.specs.declared.expressions.Identifier.{Identifier}
-use Rattle.pk_ast.specs.Trees.{ExpressionTree, ExpressionTrees, no_expressions, InitializerTree, single, DeclaratorTree, OneOrMore, expression_then}
+use Rattle.pk_ast.specs.Trees.{ExpressionTree, ExpressionTrees, no_expressions, InitializerTree, single, DeclaratorTree, DeclarationTree, EnumerationTree, OneOrMore, expression_then}
 use Rattle.pk_ast.specs.Views.{expression_tree, expression_trees, declarator_tree, declarator_trees}
 use Rattle.pk_ast.proofs.ListLemmas.{declarator_trees-push}
 use Rattle.pk_grammar.specs.declared.failure.ParseError.{ParseError}
@@ -16,15 +17,14 @@ use Rattle.pk_grammar.specs.declared.signs.Fixed.{Fixed}
 use Rattle.pk_grammar.specs.declared.signs.Fixed.TheVariants as fixed
 use Rattle.pk_grammar.specs.Languages.{identifier_of}
 use Rattle.pk_grammar.specs.Machine.Signs.{is_fixed}
-use Rattle.pk_grammar.specs.Machine.States.{Site, in_a_block, in_a_for, outside, Declaring, Naming, as_length, as_value, as_item, as_whole, after_specifiers, after_name, after_length, after_assign, after_brace, after_initializer, after_comma, operand, complete, Declared}
+use Rattle.pk_grammar.specs.Machine.States.{Site, in_a_block, in_a_for, outside, in_declaration, Declaring, Naming, as_length, as_value, as_item, as_whole, after_name, after_length, after_assign, after_brace, after_initializer, after_comma, operand, complete, Declared}
 use Rattle.pk_grammar.specs.Machine.Steps.{refused, site_nesting, naming_nesting, with_initializer, open_parameters, first_item, more_items, with_declarator, goes_on_declaring}
 use Rattle.pk_grammar.specs.Machine.Running.{first_of_all, run, Fails}
-use Rattle.pk_parse_expression.specs.Parsing.{Begins, past_words, EndsAt, UpTo, Reads, Refuses, specifiers_from}
+use Rattle.pk_parse_expression.specs.Parsing.{Begins, EndsAt, UpTo, Reads, Refuses}
 use Rattle.pk_parse_expression.proofs.RunLemmas.{fails_as, fails_syntax, fails_nesting}
-use Rattle.pk_parse_expression.proofs.RunOperands.{no_word_more}
 use Rattle.pk_parse_expression.proofs.ExpressionLemmas.{trees_push}
-use Rattle.pk_parse.specs.Parts.{CanDeclare, IsInner, with_declarators, after_declaration, item_state}
-use Rattle.pk_parse.proofs.RunDeclarations.{naming, run_specifiers, run_length, deep_length, run_length_end, no_length_end, run_assign, run_braced, run_value, run_value_end, run_first_item, run_item_end, run_item_comma, no_item_end, run_last_comma, run_next_item, run_semicolon, run_comma, no_comma, run_next_name, no_next_name, run_first_name, no_first_name}
+use Rattle.pk_parse.specs.Parts.{type_state, EndsType, CanDeclare, IsInner, needs_name, AtNames, named_first, with_declarators, after_declaration, item_state}
+use Rattle.pk_parse.proofs.RunDeclarations.{naming, run_length, deep_length, run_length_end, no_length_end, run_assign, run_braced, run_value, run_value_end, run_first_item, run_item_end, run_item_comma, no_item_end, run_last_comma, run_next_item, run_semicolon, run_comma, no_comma, run_next_name, no_next_name, run_ended, run_first_name, no_first_name}
 
 -- the first token is one of those that are left
 pub shorter : (f : Fixed) (ts : List Token) (t : Token) (rest : List Token) → Begins f ts t rest → length rest < length ts
@@ -138,81 +138,122 @@ module _ (end : Token) (n : ℕ) (limit : n ≤ 128) (d : Naming) (same : naming
 -- Declarators
 
 -- a function has but one name
-no_function_after : (s : Site) (specs : OneOrMore Specifier) (x : DeclaratorTree) (xs : List DeclaratorTree) (id : Identifier) → open_parameters s specs (x ∷ xs) id ≡ refused
-no_function_after (in_a_block b p) specs x xs id = refl
-no_function_after (in_a_for n at o) specs x xs id = refl
-no_function_after (outside before s) specs x xs id = refl
+no_function_after : (s : Site) (specs : OneOrMore Specifier) (e : Option EnumerationTree) (x : DeclaratorTree) (xs : List DeclaratorTree) (id : Identifier) → open_parameters s specs e (x ∷ xs) id ≡ refused
+no_function_after (in_a_block b p) specs e x xs id = refl
+no_function_after (in_a_for n at o) specs e x xs id = refl
+no_function_after (outside before s) specs None x xs id = refl
+no_function_after (outside before s) specs (Some e) x xs id = refl
 
 can_declare_more : (end : Token) (d : Declared) (id : Identifier) (n : ℕ) (ts : List Token) → site_nesting d.site ≡ n → CanDeclare end (goes_on_declaring d) id n ts
-can_declare_more end d id n ts same = record { nesting = same; no_function = λ f. no_function_after d.site d.specifiers d.declarators.first d.declarators.more id }
+can_declare_more end d id n ts same = record { nesting = same; no_function = λ f. no_function_after d.site d.specifiers d.enumeration d.declarators.first d.declarators.more id }
 
--- these come first, behind those that were read
-abbrev pub ReadsDeclarators : Token → ℕ → List Token → List DeclaratorTree → List Token → Type 0
-ReadsDeclarators end n ts xs rest = (d : Declared) → site_nesting d.site ≡ n → run end (after_initializer d) ts ≡ run end (after_initializer (with_declarators d xs)) rest
+abbrev with_list : Declaring → List DeclaratorTree → Declaring
+with_list d all = record { site = d.site; specifiers = d.specifiers; enumeration = d.enumeration; declarators = all }
 
-abbrev with_rest : Declared → List DeclaratorTree → Declared
-with_rest d more = record { site = d.site; specifiers = d.specifiers; declarators = record { first = d.declarators.first; more = more } }
+ended_list : (xs : List DeclaratorTree) (x : DeclaratorTree) → (ended xs x).first ∷ (ended xs x).more ≡ xs ++ x ∷ []
+ended_list [] x = refl
+ended_list (y ∷ ys) x = refl
 
-pub reads_no_declarator : (end : Token) (n : ℕ) (ts : List Token) → ReadsDeclarators end n ts [] ts
-reads_no_declarator end n ts d same = ap (λ q. run end (after_initializer (with_rest d q)) ts) (sym (append-nil d.declarators.more))
+-- these come first, and then a declarator of this name
+abbrev pub ReadsTo : Token → ℕ → Identifier → List Token → List DeclaratorTree → Identifier → List Token → Declaring → Type 0
+ReadsTo end n first ts xs id rest d = (run end (after_name d first) ts ≡ run end (after_name (with_declarators d xs) id) rest) × CanDeclare end (with_declarators d xs) id n rest
 
-module _ (end : Token) (n : ℕ) (limit : n ≤ 128) (ts : List Token) (ds : List Declarator) (rest : List Token) (done : ReadsDeclarators end n ts (declarator_trees ds) rest) where
-  pub reads_declarators : (t : Token) (last : List Token) → Begins fixed.Semicolon rest t last → (d : Declared) → site_nesting d.site ≡ n →
-      run end (after_initializer d) ts ≡ run end (after_declaration (with_declarators d (declarator_trees ds))) last
-  reads_declarators t last b d same = done d same ∙ run_semicolon end (with_declarators d (declarator_trees ds)) rest t last b (omega arith)
+abbrev pub ReadsDeclarators : Token → ℕ → Identifier → List Token → List DeclaratorTree → Identifier → List Token → Type 0
+ReadsDeclarators end n first ts xs id rest = (d : Declaring) → CanDeclare end d first n ts → ReadsTo end n first ts xs id rest d
 
-  pub stops_declarators : (x : ParseError) → is_fixed fixed.Semicolon (first_of_all end rest).kind ≡ false →
-      (is_fixed fixed.Comma (first_of_all end rest).kind ≡ false) × (x ≡ Syntax (first_of_all end rest).at) → (d : Declared) → site_nesting d.site ≡ n → Fails (run end (after_initializer d) ts) x
-  stops_declarators x f h d same = fails_syntax _ x _ h.1 (done d same ∙ no_comma end (with_declarators d (declarator_trees ds)) rest f h.0)
+pub reads_no_declarator : (end : Token) (n : ℕ) (first : Identifier) (ts : List Token) → ReadsDeclarators end n first ts [] first ts
+reads_no_declarator end n first ts d can =
+    subst (λ q. (run end (after_name d first) ts ≡ run end (after_name (with_list d q) first) ts) × CanDeclare end (with_list d q) first n ts) (sym (append-nil d.declarators)) (refl, can)
 
-  module _ (t : Token) (more : List Token) (comma : Begins fixed.Comma rest t more) where
-    declared_comma : (d : Declared) → site_nesting d.site ≡ n → run end (after_initializer d) ts ≡ run end (after_comma (goes_on_declaring (with_declarators d (declarator_trees ds)))) more
-    declared_comma d same = done d same ∙ run_comma end (with_declarators d (declarator_trees ds)) rest t more comma (omega arith)
+module _ (end : Token) (n : ℕ) (limit : n ≤ 128) (first : Identifier) (ts : List Token) (ds : List Declarator) (id : Identifier) (rest : List Token)
+    (done : ReadsDeclarators end n first ts (declarator_trees ds) id rest) where
+  pub fails_declarator : (x : ParseError) → ((d : Declaring) → CanDeclare end d id n rest → Fails (run end (after_name d id) rest) x) → (d : Declaring) → CanDeclare end d first n ts →
+      Fails (run end (after_name d first) ts) x
+  fails_declarator x r d can = let k = done d can in fails_as _ _ x k.0 (r (with_declarators d (declarator_trees ds)) k.1)
 
-    pub stops_next_name : (x : ParseError) → (is_fixed fixed.Name (first_of_all end more).kind ≡ false) × (x ≡ Syntax (first_of_all end more).at) → (d : Declared) → site_nesting d.site ≡ n →
-        Fails (run end (after_initializer d) ts) x
-    stops_next_name x h d same = fails_syntax _ x _ h.1 (declared_comma d same ∙ no_next_name end (goes_on_declaring (with_declarators d (declarator_trees ds))) more h.0)
+  module _ (x : Declarator) (after : List Token)
+      (r : (d : Declaring) → CanDeclare end d id n rest → run end (after_name d id) rest ≡ run end (after_initializer (with_declarator d (declarator_tree x))) after) where
+    abbrev so_far : Declaring → Declared
+    so_far d = with_declarator (with_declarators d (declarator_trees ds)) (declarator_tree x)
 
-    module _ (u : Token) (following : List Token) (id : Identifier) (b : Begins fixed.Name more u following) (is : id ≡ identifier_of u) where
-      next_named : (d : Declared) → site_nesting d.site ≡ n → run end (after_initializer d) ts ≡ run end (after_name (goes_on_declaring (with_declarators d (declarator_trees ds))) id) following
-      next_named d same =
-          declared_comma d same ∙ run_next_name end (goes_on_declaring (with_declarators d (declarator_trees ds))) more u following b (omega arith)
-          ∙ ap (λ q. run end (after_name (goes_on_declaring (with_declarators d (declarator_trees ds))) q) following) (sym is)
+    read : (d : Declaring) → CanDeclare end d first n ts → run end (after_name d first) ts ≡ run end (after_initializer (so_far d)) after
+    read d can = let k = done d can in k.0 ∙ r (with_declarators d (declarator_trees ds)) k.1
 
-      pub fails_declarator : (x : ParseError) → ((d : Declaring) → CanDeclare end d id n following → Fails (run end (after_name d id) following) x) → (d : Declared) → site_nesting d.site ≡ n →
-          Fails (run end (after_initializer d) ts) x
-      fails_declarator x r d same =
-          let e : Declared = with_declarators d (declarator_trees ds) in fails_as _ _ x (next_named d same) (r (goes_on_declaring e) (can_declare_more end e id n following same))
+    pub stops_declarators : (y : ParseError) → is_fixed fixed.Semicolon (first_of_all end after).kind ≡ false → (is_fixed fixed.Comma (first_of_all end after).kind ≡ false) × (y ≡ Syntax (first_of_all end after).at) →
+        (d : Declaring) → CanDeclare end d first n ts → Fails (run end (after_name d first) ts) y
+    stops_declarators y f h d can = fails_syntax _ y _ h.1 (read d can ∙ no_comma end (so_far d) after f h.0)
 
-      pub reads_declarator : (x : Declarator) (after : List Token) →
-          ((d : Declaring) → CanDeclare end d id n following → run end (after_name d id) following ≡ run end (after_initializer (with_declarator d (declarator_tree x))) after) →
-          (list : List Declarator) → list ≡ ds ++ x ∷ [] → ReadsDeclarators end n ts (declarator_trees list) after
-      reads_declarator x after r list pushed d same =
-          let e : Declared = with_declarators d (declarator_trees ds) in
-          next_named d same ∙ r (goes_on_declaring e) (can_declare_more end e id n following same)
-          ∙ ap (λ q. run end (after_initializer (with_rest d q)) after)
-          (append_assoc d.declarators.more (declarator_trees ds) (declarator_tree x ∷ []) ∙ ap (λ q. d.declarators.more ++ q) (sym (ap declarator_trees pushed ∙ declarator_trees-push ds x)))
+    all_read : (list : List Declarator) → list ≡ ds ++ x ∷ [] → (d : Declaring) → goes_on_declaring (so_far d) ≡ with_declarators d (declarator_trees list)
+    all_read list pushed d =
+        ap (λ q. with_list d q)
+        (ended_list (d.declarators ++ declarator_trees ds) (declarator_tree x) ∙ append_assoc d.declarators (declarator_trees ds) (declarator_tree x ∷ [])
+        ∙ ap (λ q. d.declarators ++ q) (sym (ap declarator_trees pushed ∙ declarator_trees-push ds x)))
+
+    pub reads_declarators : (list : List Declarator) → list ≡ ds ++ x ∷ [] → (t : Token) (last : List Token) → Begins fixed.Semicolon after t last → (d : Declaring) → CanDeclare end d first n ts →
+        run end (after_name d first) ts ≡ run end (after_declaration (with_declarators d (declarator_trees list))) last
+    reads_declarators list pushed t last b d can =
+        let same = can.nesting in
+        read d can ∙ run_semicolon end (so_far d) after t last b (omega arith) ∙ ap (λ q. run end (after_declaration q) last) (all_read list pushed d)
+
+    module _ (t : Token) (more : List Token) (comma : Begins fixed.Comma after t more) where
+      declared_comma : (d : Declaring) → CanDeclare end d first n ts → run end (after_name d first) ts ≡ run end (after_comma (goes_on_declaring (so_far d))) more
+      declared_comma d can = let same = can.nesting in read d can ∙ run_comma end (so_far d) after t more comma (omega arith)
+
+      pub stops_next_name : (y : ParseError) → (is_fixed fixed.Name (first_of_all end more).kind ≡ false) × (y ≡ Syntax (first_of_all end more).at) → (d : Declaring) → CanDeclare end d first n ts →
+          Fails (run end (after_name d first) ts) y
+      stops_next_name y h d can = fails_syntax _ y _ h.1 (declared_comma d can ∙ no_next_name end (goes_on_declaring (so_far d)) more h.0)
+
+      pub reads_declarator : (list : List Declarator) → list ≡ ds ++ x ∷ [] → (u : Token) (following : List Token) (next : Identifier) → Begins fixed.Name more u following → next ≡ identifier_of u →
+          ReadsDeclarators end n first ts (declarator_trees list) next following
+      reads_declarator list pushed u following next b is d can =
+          let same = can.nesting in
+          let all = goes_on_declaring (so_far d) in
+          subst (λ q. (run end (after_name d first) ts ≡ run end (after_name q next) following) × CanDeclare end q next n following) (all_read list pushed d)
+          (declared_comma d can ∙ run_next_name end all more u following b (omega arith) ∙ ap (λ q. run end (after_name all q) following) (sym is), can_declare_more end (so_far d) next n following same)
 
 -- Declarations
 
-abbrev pub named_first : Site → OneOrMore Specifier → Declaring
-named_first s specs = record { site = s; specifiers = specs; declarators = [] }
+no_function_inner : (s : Site) (specs : OneOrMore Specifier) (e : Option EnumerationTree) → IsInner s → (id : Identifier) → open_parameters s specs e [] id ≡ refused
+no_function_inner (in_a_block b p) specs e h id = refl
+no_function_inner (in_a_for n at o) specs e h id = refl
+no_function_inner (outside before s) specs e h id = absurd h
 
-pub can_declare_inner : (end : Token) (s : Site) (specs : OneOrMore Specifier) (id : Identifier) (n : ℕ) (ts : List Token) → IsInner s → site_nesting s ≡ n → CanDeclare end (named_first s specs) id n ts
-can_declare_inner end (in_a_block b p) specs id n ts h same = record { nesting = same; no_function = λ f. refl }
-can_declare_inner end (in_a_for m at o) specs id n ts h same = record { nesting = same; no_function = λ f. refl }
-can_declare_inner end (outside before s) specs id n ts h same = absurd h
+pub at_names : (end : Token) (s : Site) (specs : OneOrMore Specifier) (e : Option EnumerationTree) (named alone : Bool) (n : ℕ) (ts : List Token) → IsInner s → named ≡ needs_name s → site_nesting s ≡ n →
+    alone ≡ (is_some e && not named) → EndsType end specs e ts → AtNames end s specs e alone n ts
+at_names end s specs e named alone n ts inner needs same is ends =
+    record { nesting = same; no_function = no_function_inner s specs e inner; is_alone = is ∙ ap (λ q. is_some e && not q) needs; ends = ends }
 
--- the words of a type and the first name
-module _ (end : Token) (n : ℕ) (limit : n ≤ 128) (s : Site) (same : site_nesting s ≡ n) (first : Specifier) (ts : List Token) (specs : OneOrMore Specifier) (rest : List Token)
-    (are : (specs ≡ specifiers_from first ts) × (rest ≡ past_words first ts)) where
-  specified : run end (after_specifiers s (one first)) ts ≡ run end (after_specifiers s specs) rest
-  specified = run_specifiers end s (omega arith) ts (one first) ∙ ap (λ q. run end (after_specifiers s q) (past_words first ts)) (sym are.0) ∙ ap (λ q. run end (after_specifiers s specs) q) (sym are.1)
+abbrev pub declaration_of : OneOrMore Specifier → Option EnumerationTree → List DeclaratorTree → DeclarationTree
+declaration_of specs e ds = record { specifiers = specs; enumeration = e; declarators = ds }
 
-  pub stops_first_name : (x : ParseError) → (is_fixed fixed.Name (first_of_all end rest).kind ≡ false) × (x ≡ Syntax (first_of_all end rest).at) → Fails (run end (after_specifiers s (one first)) ts) x
-  stops_first_name x h =
-      fails_syntax _ x _ h.1 (specified ∙ no_first_name end s specs rest (no_word_more end first ts specs rest are) h.0)
+pub is_some_map : {A B : Type 0} (f : A → B) (o : Option A) → is_some o ≡ is_some (option_map f o)
+is_some_map f None = refl
+is_some_map f (Some x) = refl
 
-  pub run_named : (t : Token) (after : List Token) (id : Identifier) → Begins fixed.Name rest t after → id ≡ identifier_of t →
-      run end (after_specifiers s (one first)) ts ≡ run end (after_name (named_first s specs) id) after
-  run_named t after id b is = specified ∙ run_first_name end s specs rest t after b (omega arith) ∙ ap (λ q. run end (after_name (named_first s specs) q) after) (sym is)
+-- the names that are declared with a type
+module _ (end : Token) (n : ℕ) (limit : n ≤ 128) (alone : Bool) (ts : List Token) (s : Site) (specs : OneOrMore Specifier) (e : Option EnumerationTree) (at : AtNames end s specs e alone n ts) where
+  pub reads_alone : (t : Token) (rest : List Token) → Begins fixed.Semicolon ts t rest × (alone ≡ true) → (list : List Declarator) → list ≡ [] →
+      run end (type_state (in_declaration s) specs e) ts ≡ run end (after_declaration (with_declarators (named_first s specs e) (declarator_trees list))) rest
+  reads_alone t rest h list none =
+      let same = at.nesting in
+      run_ended end s specs e ts t rest (sym at.is_alone ∙ h.1) h.0 (omega arith)
+      ∙ ap (λ q. run end (after_declaration (with_list (named_first s specs e) q)) rest) (sym (ap declarator_trees none))
+
+  pub stops_first_name : (x : ParseError) → (is_fixed fixed.Semicolon (first_of_all end ts).kind ≡ true → alone ≡ false) → (is_fixed fixed.Name (first_of_all end ts).kind ≡ false) × (x ≡ Syntax (first_of_all end ts).at) →
+      Fails (run end (type_state (in_declaration s) specs e) ts) x
+  stops_first_name x f h = fails_syntax _ x _ h.1 (no_first_name end s specs e ts at.ends (λ g. sym at.is_alone ∙ f g) h.0)
+
+  module _ (t : Token) (after : List Token) (id : Identifier) (b : Begins fixed.Name ts t after) (is : id ≡ identifier_of t) where
+    can_declare : CanDeclare end (named_first s specs e) id n after
+    can_declare = record { nesting = at.nesting; no_function = λ f. at.no_function id }
+
+    named : run end (type_state (in_declaration s) specs e) ts ≡ run end (after_name (named_first s specs e) id) after
+    named = let same = at.nesting in run_first_name end s specs e ts t after at.ends b (omega arith) ∙ ap (λ q. run end (after_name (named_first s specs e) q) after) (sym is)
+
+    pub fails_declarators : (x : ParseError) → ((d : Declaring) → CanDeclare end d id n after → Fails (run end (after_name d id) after) x) → Fails (run end (type_state (in_declaration s) specs e) ts) x
+    fails_declarators x r = fails_as _ _ x named (r (named_first s specs e) can_declare)
+
+    pub reads_named : (xs : List DeclaratorTree) (last : List Token) →
+        ((d : Declaring) → CanDeclare end d id n after → run end (after_name d id) after ≡ run end (after_declaration (with_declarators d xs)) last) →
+        run end (type_state (in_declaration s) specs e) ts ≡ run end (after_declaration (with_declarators (named_first s specs e) xs)) last
+    reads_named xs last r = named ∙ r (named_first s specs e) can_declare

@@ -1,5 +1,5 @@
 -- What is answered over a whole part of an external definition.
-use Rattle.std.proofs.Common.{◌≡◌, ◌≢◌, ◌<◌, ◌≤◌, List, [], ◌∷◌, ◌++◌, length, eqb, vec_len, Vec, Global, Option, Some, None, MatchOption, Bool, true, false, refl, sym, ap, subst, ◌∙◌, arith}
+use Rattle.std.proofs.Common.{◌≡◌, ◌≢◌, ◌<◌, ◌≤◌, inl, inr, List, [], ◌∷◌, ◌++◌, length, eqb, vec_len, Vec, Global, Option, Some, None, MatchOption, Bool, true, false, refl, sym, ap, subst, ◌∙◌, arith}
 use Rattle.std.proofs.lemmas.Bool.{eq-eqb}
 use Rattle.std.specs.Option.{is_some}
 use Rattle.pk_ast.specs.Lists.{one}
@@ -11,7 +11,7 @@ use Rattle.pk_ast.specs.declared.declarations.SpecifierWord.TheVariants as word
 use Rattle.pk_ast.specs.declared.expressions.Identifier.{Identifier}
 use Rattle.pk_ast.specs.declared.units.Parameter.{Parameter}
 use Rattle.pk_ast.specs.declared.units.Storage.{Storage}
-use Rattle.pk_ast.specs.Trees.{DeclarationTree, BlockTree, ParameterTree, FunctionTree, ExternalTree, function, objects, OneOrMore, DeclaratorTree}
+use Rattle.pk_ast.specs.Trees.{DeclarationTree, BlockTree, ParameterTree, FunctionTree, ExternalTree, function, objects, OneOrMore, DeclaratorTree, EnumerationTree}
 use Rattle.pk_ast.specs.Views.{parameter_tree, parameter_trees}
 use Rattle.pk_ast.proofs.ListLemmas.{parameter_trees-push}
 use Rattle.pk_grammar.specs.declared.failure.ParseError.{ParseError}
@@ -20,16 +20,17 @@ use Rattle.pk_grammar.specs.declared.signs.Fixed.TheVariants as fixed
 use Rattle.pk_grammar.specs.Languages.{identifier_of}
 use Rattle.pk_grammar.specs.Grammar.{IsVoidAlone}
 use Rattle.pk_grammar.specs.Machine.Signs.{is_fixed, specifier_word, storage_word, is_void_word}
-use Rattle.pk_grammar.specs.Machine.States.{Head, outside, Declaring, top, after_specifiers, after_name, parameters_open, parameter_specifiers, parameter_name, parameter_comma, parameters_closed}
-use Rattle.pk_grammar.specs.Machine.Steps.{is_void, is_void_alone}
+use Rattle.pk_grammar.specs.Machine.States.{Head, outside, EnumerationSite, in_declaration, Declaring, top, after_specifiers, after_name, parameters_open, parameter_specifiers, parameter_name, parameter_comma, parameters_closed}
+use Rattle.pk_grammar.specs.Machine.Steps.{enumeration_nesting, end_in_enum, is_void, is_void_alone}
 use Rattle.pk_grammar.specs.Machine.Running.{syntax, first_of_all, run, Fails}
-use Rattle.pk_parse_expression.specs.Parsing.{Begins, BeginsWithWord, past_words, specifiers_from}
-use Rattle.pk_parse_expression.proofs.RunLemmas.{fails_as, fails_syntax}
-use Rattle.pk_parse_expression.proofs.RunOperands.{no_word_more}
+use Rattle.pk_parse_expression.specs.Parsing.{Begins, BeginsWithWord, past_words, specifiers_from, AreWords, AreNoType}
+use Rattle.pk_parse_expression.proofs.RunLemmas.{fails_as, fails_syntax, fails_memory}
+use Rattle.pk_parse_expression.proofs.RunOperands.{no_word_more, no_word_left}
 use Rattle.pk_parse_expression.proofs.WordLemmas as word_lemmas
-use Rattle.pk_parse.specs.Parts.{CanDeclare, with_all, after_declaration, after_parameter, EndsParameter, after_function, storage_state}
-use Rattle.pk_parse.proofs.DeclarationLemmas.{shorter, named_first, stops_first_name, run_named}
-use Rattle.pk_parse.proofs.RunExternals.{run_parameter, no_parameter, run_parameter_words, run_parameter_name, with_last, run_parameter_close, run_parameter_comma, no_parameter_end, run_function, run_first_word, no_first_word}
+use Rattle.pk_parse.specs.Parts.{words_state, type_state, EndsType, CanDeclare, AtNames, named_first, with_declarators, after_declaration, after_parameter, EndsParameter, after_function, storage_state}
+use Rattle.pk_parse.proofs.RunDeclarations.{run_first_name, no_first_name}
+use Rattle.pk_parse.proofs.DeclarationLemmas.{shorter}
+use Rattle.pk_parse.proofs.RunExternals.{run_parameter, no_parameter, no_type, run_parameter_words, run_parameter_name, with_last, run_parameter_close, run_parameter_comma, no_parameter_end, run_function, run_first_word, no_first_word}
 
 -- the word `void`
 
@@ -43,6 +44,8 @@ void_word word.Signed e = absurd (cc)
 void_word word.Unsigned e = absurd (cc)
 void_word word.Const e = absurd (cc)
 void_word (word.TypeName from to) e = absurd (cc)
+void_word word.Enum e = absurd (cc)
+void_word (word.Tag from to) e = absurd (cc)
 
 pub unnamed : (id : Option Identifier) → is_some id ≡ false → id ≡ None
 unnamed None e = refl
@@ -62,29 +65,34 @@ some_items v e h = let f : false ≡ true = e ∙ eq-eqb (vec_len v) 0 (v.ok.0 �
 
 -- A parameter
 
-module _ (end : Token) (first : Specifier) (ts : List Token) (specs : OneOrMore Specifier) (rest : List Token) (are : (specs ≡ specifiers_from first ts) × (rest ≡ past_words first ts)) (p : ParameterTree) where
+pub no_parameter_type : (end : Token) (first : Specifier) (ts : List Token) (x : ParseError) → AreNoType end first ts x → (h : Head) (ps : List ParameterTree) → Fails (run end (parameter_specifiers h ps (one first)) ts) x
+no_parameter_type end first ts x (inl e) h ps = fails_memory _ x e
+no_parameter_type end first ts x (inr e) h ps =
+    fails_syntax _ x _ e.1 (run_parameter_words end h ps ts (one first) ∙ no_type end h ps (past_words first ts) (specifiers_from first ts) (no_word_left end first ts) e.0)
+
+module _ (end : Token) (first : Specifier) (ts : List Token) (specs : OneOrMore Specifier) (rest : List Token) (are : AreWords first ts specs rest × (end_in_enum specs ≡ false)) (p : ParameterTree) where
   specified : (h : Head) (ps : List ParameterTree) → run end (parameter_specifiers h ps (one first)) ts ≡ run end (parameter_specifiers h ps specs) rest
   specified h ps =
-      run_parameter_words end h ps ts (one first) ∙ ap (λ q. run end (parameter_specifiers h ps q) (past_words first ts)) (sym are.0) ∙ ap (λ q. run end (parameter_specifiers h ps specs) q) (sym are.1)
+      run_parameter_words end h ps ts (one first) ∙ ap (λ q. run end (parameter_specifiers h ps q) (past_words first ts)) (sym are.0.are) ∙ ap (λ q. run end (parameter_specifiers h ps specs) q) (sym are.0.past)
 
   pub reads_named : (t : Token) (after : List Token) (id : Identifier) → Begins fixed.Name rest t after → id ≡ identifier_of t → p ≡ record { specifiers = specs; name = Some id } →
       ((h : Head) (ps : List ParameterTree) → run end (parameter_specifiers h ps (one first)) ts ≡ run end (after_parameter h ps p) after) × EndsParameter end p.specifiers p.name after × (length after ≤ length ts)
   reads_named t after id b is same =
       let a = shorter fixed.Name rest t after b in
       let k = word_lemmas.no_longer ts (one first) in
-      let e = ap length are.1 in
+      let e = ap length are.0.past in
       subst (λ (q : ParameterTree). ((h : Head) (ps : List ParameterTree) → run end (parameter_specifiers h ps (one first)) ts ≡ run end (after_parameter h ps q) after) × EndsParameter end q.specifiers q.name after × (length after ≤ length ts))
       (sym same)
-      (λ h ps. specified h ps ∙ run_parameter_name end h ps rest specs t after b ∙ ap (λ q. run end (parameter_name h ps (record { specifiers = specs; name = Some q })) after) (sym is), tt, omega arith)
+      (λ h ps. specified h ps ∙ run_parameter_name end h ps rest specs t after (no_word_more end first ts specs rest are.0) are.1 b ∙ ap (λ q. run end (parameter_name h ps (record { specifiers = specs; name = Some q })) after) (sym is), tt, omega arith)
 
   pub reads_unnamed : is_fixed fixed.Name (first_of_all end rest).kind ≡ false → p ≡ record { specifiers = specs; name = None } →
       ((h : Head) (ps : List ParameterTree) → run end (parameter_specifiers h ps (one first)) ts ≡ run end (after_parameter h ps p) rest) × EndsParameter end p.specifiers p.name rest × (length rest ≤ length ts)
   reads_unnamed f same =
       let k = word_lemmas.no_longer ts (one first) in
-      let e = ap length are.1 in
+      let e = ap length are.0.past in
       subst (λ (q : ParameterTree). ((h : Head) (ps : List ParameterTree) → run end (parameter_specifiers h ps (one first)) ts ≡ run end (after_parameter h ps q) rest) × EndsParameter end q.specifiers q.name rest × (length rest ≤ length ts))
       (sym same)
-      (λ h ps. specified h ps, (no_word_more end first ts specs rest are, f), omega arith)
+      (λ h ps. specified h ps, (no_word_more end first ts specs rest are.0, f, are.1), omega arith)
 
 -- Parameters
 
@@ -125,23 +133,24 @@ module _ (end : Token) (ts : List Token) (list : List Parameter) (rest : List To
     fails_parameter x r h = fails_as _ _ x (done h ∙ run_parameter end h (parameter_trees list) rest s after begins) (r h (parameter_trees list))
 
     module _ (p : Parameter) (next : List Token)
-        (r : (h : Head) (ps : List ParameterTree) → run end (parameter_specifiers h ps (one s)) after ≡ run end (after_parameter h ps (parameter_tree p)) next) where
+        (r : (h : Head) (ps : List ParameterTree) → run end (parameter_specifiers h ps (one s)) after ≡ run end (after_parameter h ps (parameter_tree p)) next)
+        (ends : EndsParameter end (parameter_tree p).specifiers (parameter_tree p).name next) where
       parameter_read : (h : Head) → run end (parameters_open h) ts ≡ run end (after_parameter h (parameter_trees list) (parameter_tree p)) next
       parameter_read h = done h ∙ run_parameter end h (parameter_trees list) rest s after begins ∙ r h (parameter_trees list)
 
-      pub stops_parameter : (x : ParseError) → EndsParameter end (parameter_tree p).specifiers (parameter_tree p).name next → is_fixed fixed.CloseParenthesis (first_of_all end next).kind ≡ false →
+      pub stops_parameter : (x : ParseError) → is_fixed fixed.CloseParenthesis (first_of_all end next).kind ≡ false →
           (is_fixed fixed.Comma (first_of_all end next).kind ≡ false) × (x ≡ Syntax (first_of_all end next).at) → (h : Head) → Fails (run end (parameters_open h) ts) x
-      stops_parameter x ends f g h =
+      stops_parameter x f g h =
           fails_syntax _ x _ g.1 (parameter_read h ∙ no_parameter_end end h (parameter_trees list) (parameter_tree p) (parameter_tree p).name next ends f g.0)
 
       pub reads_parameter : (t : Token) (following : List Token) (more : List Parameter) → more ≡ list ++ p ∷ [] → Begins fixed.Comma next t following → ReadsParameters end ts (parameter_trees more) following
       reads_parameter t following more pushed b h =
-          parameter_read h ∙ run_parameter_comma end h (parameter_trees list) (parameter_tree p) (parameter_tree p).name next t following refl b
+          parameter_read h ∙ run_parameter_comma end h (parameter_trees list) (parameter_tree p) (parameter_tree p).name next ends t following refl b
           ∙ ap (λ q. run end (parameter_comma h q) following) (sym (ap parameter_trees pushed ∙ parameter_trees-push list p))
 
       module _ (t : Token) (last : List Token) (b : Begins fixed.CloseParenthesis next t last) where
         closed : (h : Head) → run end (parameters_open h) ts ≡ run end (parameters_closed h (with_last (parameter_trees list) (parameter_tree p) (parameter_tree p).name)) last
-        closed h = parameter_read h ∙ run_parameter_close end h (parameter_trees list) (parameter_tree p) (parameter_tree p).name next t last b
+        closed h = parameter_read h ∙ run_parameter_close end h (parameter_trees list) (parameter_tree p) (parameter_tree p).name next ends t last b
 
         pub reads_last : (more : List Parameter) → more ≡ list ++ p ∷ [] → (list ≡ [] → ¬ IsVoidAlone (parameter_tree p)) → (h : Head) →
             run end (parameters_open h) ts ≡ run end (parameters_closed h (parameter_trees more)) last
@@ -178,43 +187,61 @@ module _ (end : Token) (before : List ExternalTree) (ts : List Token) (s : Optio
       run end (top before) ts ≡ syntax (first_of_all end rest).at
   stops_word h f g e = stored ∙ no_first_word end before rest s (no_storage end ts rest s h f g) e
 
-  module _ (first : Specifier) (after_word : List Token) (begins : BeginsWithWord specifier_word rest first after_word) (specs : OneOrMore Specifier) (after_words : List Token)
-      (are : (specs ≡ specifiers_from first after_word) × (after_words ≡ past_words first after_word)) where
-    worded : run end (top before) ts ≡ run end (after_specifiers (outside before s) (one first)) after_word
+  module _ (first : Specifier) (after_word : List Token) (begins : BeginsWithWord specifier_word rest first after_word) where
+    worded : run end (top before) ts ≡ run end (words_state (in_declaration (outside before s)) (one first)) after_word
     worded = stored ∙ run_first_word end before rest s first after_word begins
 
-    pub stops_name : (x : ParseError) → (is_fixed fixed.Name (first_of_all end after_words).kind ≡ false) × (x ≡ Syntax (first_of_all end after_words).at) → Fails (run end (top before) ts) x
-    stops_name x h = fails_as _ _ x worded (stops_first_name end 0 (omega arith) (outside before s) refl first after_word specs after_words are x h)
+    pub fails_words : (x : ParseError) → ((s : EnumerationSite) → enumeration_nesting s ≡ 0 → Fails (run end (words_state s (one first)) after_word) x) → Fails (run end (top before) ts) x
+    fails_words x r = fails_as _ _ x worded (r (in_declaration (outside before s)) refl)
 
-    module _ (t : Token) (after : List Token) (id : Identifier) (b : Begins fixed.Name after_words t after) (is : id ≡ identifier_of t) where
-      named : run end (top before) ts ≡ run end (after_name (named_first (outside before s) specs) id) after
-      named = worded ∙ run_named end 0 (omega arith) (outside before s) refl first after_word specs after_words are t after id b is
+    pub reads_type : (specs : OneOrMore Specifier) (e : Option EnumerationTree) (last : List Token) →
+        ((s : EnumerationSite) → enumeration_nesting s ≡ 0 → run end (words_state s (one first)) after_word ≡ run end (type_state s specs e) last) →
+        run end (top before) ts ≡ run end (type_state (in_declaration (outside before s)) specs e) last
+    reads_type specs e last r = worded ∙ r (in_declaration (outside before s)) refl
 
-      module _ (f : is_fixed fixed.OpenParenthesis (first_of_all end after).kind ≡ false) where
-        can_declare : CanDeclare end (named_first (outside before s) specs) id 0 after
-        can_declare = record { nesting = refl; no_function = λ e. let g : true ≡ false = sym e ∙ f in absurd (cc) }
+-- Behind the words of a type
 
-        pub fails_declarators : (x : ParseError) → ((d : Declaring) → CanDeclare end d id 0 after → Fails (run end (after_name d id) after) x) → Fails (run end (top before) ts) x
-        fails_declarators x r = fails_as _ _ x named (r (named_first (outside before s) specs) can_declare)
+module _ (end : Token) (before : List ExternalTree) (s : Option Storage) (specs : OneOrMore Specifier) (ts : List Token) (ends : EndsType end specs None ts) where
+  pub stops_name : (x : ParseError) → (is_fixed fixed.Name (first_of_all end ts).kind ≡ false) × (x ≡ Syntax (first_of_all end ts).at) → Fails (run end (after_specifiers (outside before s) specs) ts) x
+  stops_name x h = fails_syntax _ x _ h.1 (no_first_name end (outside before s) specs None ts ends (λ e. refl) h.0)
 
-        pub reads_objects : (ds : OneOrMore DeclaratorTree) (last : List Token) → ((d : Declaring) → CanDeclare end d id 0 after → run end (after_name d id) after ≡ run end (after_declaration (with_all d ds)) last) →
-            (d : DeclarationTree) (x : ExternalTree) → d ≡ record { specifiers = specs; declarators = ds } → x ≡ objects s d → run end (top before) ts ≡ run end (top (before ++ x ∷ [])) last
-        reads_objects ds last r d x e g =
-            named ∙ r (named_first (outside before s) specs) can_declare ∙ ap (λ q. run end (top (before ++ objects s q ∷ [])) last) (sym e) ∙ ap (λ q. run end (top (before ++ q ∷ [])) last) (sym g)
+  module _ (t : Token) (after : List Token) (id : Identifier) (b : Begins fixed.Name ts t after) (is : id ≡ identifier_of t) where
+    named : run end (after_specifiers (outside before s) specs) ts ≡ run end (after_name (named_first (outside before s) specs None) id) after
+    named = run_first_name end (outside before s) specs None ts t after ends b (omega arith) ∙ ap (λ q. run end (after_name (named_first (outside before s) specs None) q) after) (sym is)
 
-      module _ (u : Token) (inner : List Token) (p : Begins fixed.OpenParenthesis after u inner) where
-        parenthesis : run end (top before) ts ≡ run end (parameters_open (head_of before s specs id)) inner
-        parenthesis = named ∙ run_function end before s specs id after u inner p
+    module _ (f : is_fixed fixed.OpenParenthesis (first_of_all end after).kind ≡ false) where
+      can_declare : CanDeclare end (named_first (outside before s) specs None) id 0 after
+      can_declare = record { nesting = refl; no_function = λ e. let g : true ≡ false = sym e ∙ f in absurd (cc) }
 
-        pub fails_parameters : (x : ParseError) → ((h : Head) → Fails (run end (parameters_open h) inner) x) → Fails (run end (top before) ts) x
-        fails_parameters x r = fails_as _ _ x parenthesis (r (head_of before s specs id))
+      pub fails_declarators : (x : ParseError) → ((d : Declaring) → CanDeclare end d id 0 after → Fails (run end (after_name d id) after) x) → Fails (run end (after_specifiers (outside before s) specs) ts) x
+      fails_declarators x r = fails_as _ _ x named (r (named_first (outside before s) specs None) can_declare)
 
-        module _ (ps : List ParameterTree) (close : List Token) (q : (h : Head) → run end (parameters_open h) inner ≡ run end (parameters_closed h ps) close) where
-          pub fails_body : (x : ParseError) → ((h : Head) (ps : List ParameterTree) → Fails (run end (parameters_closed h ps) close) x) → Fails (run end (top before) ts) x
-          fails_body x r = fails_as _ _ x (parenthesis ∙ q (head_of before s specs id)) (r (head_of before s specs id) ps)
+      pub reads_objects : (ds : List DeclaratorTree) (last : List Token) →
+          ((d : Declaring) → CanDeclare end d id 0 after → run end (after_name d id) after ≡ run end (after_declaration (with_declarators d ds)) last) →
+          (d : DeclarationTree) (x : ExternalTree) → d ≡ record { specifiers = specs; enumeration = None; declarators = ds } → x ≡ objects s d →
+          run end (after_specifiers (outside before s) specs) ts ≡ run end (top (before ++ x ∷ [])) last
+      reads_objects ds last r d x e g =
+          named ∙ r (named_first (outside before s) specs None) can_declare ∙ ap (λ q. run end (top (before ++ objects s q ∷ [])) last) (sym e) ∙ ap (λ q. run end (top (before ++ q ∷ [])) last) (sym g)
 
-          pub reads_function : (body : Option BlockTree) (last : List Token) → ((h : Head) (ps : List ParameterTree) → run end (parameters_closed h ps) close ≡ run end (after_function h ps body) last) →
-              (w : FunctionTree) (x : ExternalTree) → w ≡ record { storage = s; specifiers = specs; name = id; parameters = ps; body = body } → x ≡ function w → run end (top before) ts ≡ run end (top (before ++ x ∷ [])) last
-          reads_function body last r w x e g =
-              parenthesis ∙ q (head_of before s specs id) ∙ r (head_of before s specs id) ps ∙ ap (λ v. run end (top (before ++ function v ∷ [])) last) (sym e)
-              ∙ ap (λ v. run end (top (before ++ v ∷ [])) last) (sym g)
+    module _ (u : Token) (inner : List Token) (p : Begins fixed.OpenParenthesis after u inner) where
+      parenthesis : run end (after_specifiers (outside before s) specs) ts ≡ run end (parameters_open (head_of before s specs id)) inner
+      parenthesis = named ∙ run_function end before s specs id after u inner p
+
+      pub fails_parameters : (x : ParseError) → ((h : Head) → Fails (run end (parameters_open h) inner) x) → Fails (run end (after_specifiers (outside before s) specs) ts) x
+      fails_parameters x r = fails_as _ _ x parenthesis (r (head_of before s specs id))
+
+      module _ (ps : List ParameterTree) (close : List Token) (q : (h : Head) → run end (parameters_open h) inner ≡ run end (parameters_closed h ps) close) where
+        pub fails_body : (x : ParseError) → ((h : Head) (ps : List ParameterTree) → Fails (run end (parameters_closed h ps) close) x) → Fails (run end (after_specifiers (outside before s) specs) ts) x
+        fails_body x r = fails_as _ _ x (parenthesis ∙ q (head_of before s specs id)) (r (head_of before s specs id) ps)
+
+        pub reads_function : (body : Option BlockTree) (last : List Token) → ((h : Head) (ps : List ParameterTree) → run end (parameters_closed h ps) close ≡ run end (after_function h ps body) last) →
+            (w : FunctionTree) (x : ExternalTree) → w ≡ record { storage = s; specifiers = specs; name = id; parameters = ps; body = body } → x ≡ function w →
+            run end (after_specifiers (outside before s) specs) ts ≡ run end (top (before ++ x ∷ [])) last
+        reads_function body last r w x e g =
+            parenthesis ∙ q (head_of before s specs id) ∙ r (head_of before s specs id) ps ∙ ap (λ v. run end (top (before ++ function v ∷ [])) last) (sym e)
+            ∙ ap (λ v. run end (top (before ++ v ∷ [])) last) (sym g)
+
+-- Behind an enumeration
+pub at_objects : (end : Token) (before : List ExternalTree) (s : Option Storage) (specs : OneOrMore Specifier) (e : EnumerationTree) (ts : List Token) → EndsType end specs (Some e) ts →
+    AtNames end (outside before s) specs (Some e) true 0 ts
+at_objects end before s specs e ts ends = record { nesting = refl; no_function = λ id. refl; is_alone = refl; ends = ends }

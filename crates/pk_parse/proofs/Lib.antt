@@ -1,3 +1,5 @@
+mod RunEnumerations
+mod EnumerationLemmas
 mod RunDeclarations
 mod DeclarationLemmas
 mod RunExternals

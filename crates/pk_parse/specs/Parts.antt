@@ -1,26 +1,93 @@
 -- The parts of declarations, statements and external definitions: in which states they begin, and to which they lead.
-use Rattle.std.specs.Prelude.{◌≡◌, ℕ, ◌+◌, List, [], ◌∷◌, ◌++◌, Option, Some, None, Bool, true, false}
+use Rattle.std.specs.Prelude.{◌≡◌, ℕ, ◌+◌, List, [], ◌∷◌, ◌++◌, Option, Some, None, Bool, ◌&&◌, not, true, false}
+use Rattle.std.specs.Option.{is_some}
 use Rattle.pk_ctypes.specs.declared.places.Pos.{Pos}
 use Rattle.pk_lex.specs.declared.token.Token.{Token}
 use Rattle.pk_ast.specs.declared.declarations.Specifier.{Specifier}
 use Rattle.pk_ast.specs.declared.expressions.Identifier.{Identifier}
 use Rattle.pk_ast.specs.declared.units.Storage.{Storage}
 use Rattle.pk_ast.specs.Lists.{append_items}
-use Rattle.pk_ast.specs.Trees.{OneOrMore, ExpressionTree, ExpressionTrees, braced, DeclaratorTree, block, ItemTrees, no_items, BlockTree, ParameterTree, TypedefTree, ExternalTree, function, type_names}
+use Rattle.pk_ast.specs.Trees.{OneOrMore, ExpressionTree, ExpressionTrees, braced, DeclaratorTree, EnumeratorTree, EnumerationTree, block, ItemTrees, no_items, BlockTree, ParameterTree, TypedefTree, ExternalTree, function, type_names}
 use Rattle.pk_grammar.specs.declared.signs.Fixed.{Fixed}
 use Rattle.pk_grammar.specs.declared.signs.Fixed.TheVariants as fixed
-use Rattle.pk_grammar.specs.Grammar.{any_expression}
+use Rattle.pk_grammar.specs.Grammar.{conditional_expression, any_expression}
 use Rattle.pk_grammar.specs.Machine.Signs.{is_fixed, specifier_word}
-use Rattle.pk_grammar.specs.Machine.States.{Head, OpenBlock, function_block, inner_block, Site, in_a_block, in_a_for, outside, Declaring, Declared, Naming, Purpose, as_whole, State, top, after_storage, after_item, after_initializer, parameter_specifiers, parameter_name, block_item, after_static, after_statement, operand}
-use Rattle.pk_grammar.specs.Machine.Steps.{refused, taken, wanted, site_nesting, with_declarator, with_initializer, whole_declaration, declared_at, next_word, open_parameters, purpose_level, end_purpose, step}
+use Rattle.pk_grammar.specs.Machine.States.{Head, OpenBlock, function_block, inner_block, Site, in_a_block, in_a_for, outside, Declaring, Naming, EnumerationSite, in_declaration, in_typedef, Enumerating, Enumerated, Purpose, as_enumerator, as_whole, State, top, after_storage, type_specifiers, at_enumerator, after_enumerator_name, after_braces, after_specifiers, after_item, after_initializer, parameter_specifiers, parameter_name, block_item, after_static, after_statement, operand, complete}
+use Rattle.pk_grammar.specs.Machine.Steps.{refused, taken, wanted, site_nesting, enumerating_nesting, with_initializer, declared_at, next_word, end_in_enum, may_open, open_parameters, purpose_level, end_purpose, step}
 use Rattle.pk_grammar.specs.Machine.Running.{first_of_all}
 use Rattle.pk_parse_expression.specs.Parsing.{EndsAt, UpTo, Reads}
+
+-- Enumerations
+
+-- behind the words of a type
+abbrev pub words_state : EnumerationSite → OneOrMore Specifier → State
+words_state (in_declaration s) specs = after_specifiers s specs
+words_state (in_typedef before) specs = type_specifiers before specs
+
+-- behind the words of a type, and behind the braces of an enumeration where it has some
+abbrev pub type_state : EnumerationSite → OneOrMore Specifier → Option EnumerationTree → State
+type_state s specs None = words_state s specs
+type_state s specs (Some e) = after_braces s specs e
+
+-- neither a further word comes nor the `{` of an enumeration, nor, behind its braces, a `const`
+abbrev pub EndsType : Token → OneOrMore Specifier → Option EnumerationTree → List Token → Type 0
+EndsType end specs None ts =
+    (next_word specs (first_of_all end ts) ≡ None)
+    × (is_fixed fixed.OpenBrace (first_of_all end ts).kind ≡ true → may_open specs ≡ false)
+EndsType end specs (Some e) ts = is_fixed fixed.Const (first_of_all end ts).kind ≡ false
+
+-- the `{` was read
+abbrev pub braces_open : EnumerationSite → OneOrMore Specifier → Enumerating
+braces_open s specs = record { site = s; specifiers = specs; enumerators = [] }
+
+-- An enumerator comes in an enumeration at this nesting; its first one where a `}` comes.
+pub record CanEnumerate (end : Token) (d : Enumerating) (n : ℕ) (ts : List Token) : Type 0 where
+  pub nesting : enumerating_nesting d ≡ n
+  pub no_end : is_fixed fixed.CloseBrace (first_of_all end ts).kind ≡ true → d.enumerators ≡ []
+
+-- behind an enumerator's name and its value, where it is given one
+abbrev pub value_state : Enumerating → Identifier → Option ExpressionTree → State
+value_state d id None = after_enumerator_name d id
+value_state d id (Some e) = complete (enumerating_nesting d) e (as_whole (as_enumerator d id))
+
+abbrev pub EndsValue : Token → Option ExpressionTree → List Token → Type 0
+EndsValue end None ts = is_fixed fixed.Assign (first_of_all end ts).kind ≡ false
+EndsValue end (Some e) ts = EndsAt end conditional_expression ts
+
+abbrev pub goes_on_enumerating : Enumerated → Enumerating
+goes_on_enumerating d =
+    record {
+      site = d.site;
+      specifiers = d.specifiers;
+      enumerators = d.enumerators.first ∷ d.enumerators.more;
+    }
+
+abbrev pub enumerated : Enumerated → EnumerationTree
+enumerated d = record { enumerators = d.enumerators; qualifiers = [] }
+
+-- behind an enumerator: another one is to come, or the braces have ended
+abbrev pub enumerator_state : Bool → Enumerated → State
+enumerator_state true d = at_enumerator (goes_on_enumerating d)
+enumerator_state false d = after_braces d.site d.specifiers (enumerated d)
+
+abbrev pub with_enumerators : Enumerated → List EnumeratorTree → Enumerated
+with_enumerators d more =
+    record {
+      site = d.site;
+      specifiers = d.specifiers;
+      enumerators = record { first = d.enumerators.first; more = d.enumerators.more ++ more };
+    }
+
+abbrev pub with_qualifiers : EnumerationTree → List Specifier → EnumerationTree
+with_qualifiers e more = record { enumerators = e.enumerators; qualifiers = e.qualifiers ++ more }
+
+-- Declarations
 
 -- A declaration at this nesting, of which a name was read; where a `(` follows, it isn't the name of a function.
 pub record CanDeclare (end : Token) (d : Declaring) (id : Identifier) (n : ℕ) (ts : List Token) : Type 0 where
   pub nesting : site_nesting d.site ≡ n
   pub no_function : is_fixed fixed.OpenParenthesis (first_of_all end ts).kind ≡ true →
-      open_parameters d.site d.specifiers d.declarators id ≡ refused
+      open_parameters d.site d.specifiers d.enumeration d.declarators id ≡ refused
 
 -- a declaration in a function
 abbrev pub IsInner : Site → Type 0
@@ -28,19 +95,37 @@ IsInner (in_a_block b s) = Unit {0}
 IsInner (in_a_for n at o) = Unit {0}
 IsInner (outside before s) = ⊥
 
-abbrev pub with_declarators : Declared → List DeclaratorTree → Declared
+-- a name has to be declared there, whatever stands before it
+abbrev pub needs_name : Site → Bool
+needs_name (in_a_block b s) = is_some s
+needs_name (in_a_for n at o) = false
+needs_name (outside before s) = false
+
+-- behind a type, where no function can be declared; an enumeration may stand alone or not
+pub record AtNames (end : Token) (s : Site) (specs : OneOrMore Specifier) (e : Option EnumerationTree) (alone : Bool)
+    (n : ℕ) (ts : List Token) : Type 0 where
+  pub nesting : site_nesting s ≡ n
+  pub no_function : (id : Identifier) → open_parameters s specs e [] id ≡ refused
+  pub is_alone : alone ≡ (is_some e && not (needs_name s))
+  pub ends : EndsType end specs e ts
+
+abbrev pub named_first : Site → OneOrMore Specifier → Option EnumerationTree → Declaring
+named_first s specs e = record { site = s; specifiers = specs; enumeration = e; declarators = [] }
+
+abbrev pub with_declarators : Declaring → List DeclaratorTree → Declaring
 with_declarators d more =
     record {
       site = d.site;
       specifiers = d.specifiers;
-      declarators = record { first = d.declarators.first; more = d.declarators.more ++ more };
+      enumeration = d.enumeration;
+      declarators = d.declarators ++ more;
     }
 
-abbrev pub with_all : Declaring → OneOrMore DeclaratorTree → Declared
-with_all d all = with_declarators (with_declarator d all.first) all.more
-
-abbrev pub after_declaration : Declared → State
-after_declaration d = declared_at d.site (whole_declaration d)
+-- the declaration has ended behind these declarators
+abbrev pub after_declaration : Declaring → State
+after_declaration d =
+    declared_at d.site
+    (record { specifiers = d.specifiers; enumeration = d.enumeration; declarators = d.declarators })
 
 -- behind an item of a braced list: another one is to come, or the list has ended
 abbrev pub item_state : Bool → Naming → Pos → ExpressionTree → ExpressionTrees → State
@@ -92,7 +177,11 @@ after_type_names before d = top (before ++ type_names d ∷ [])
 
 abbrev pub with_names : TypedefTree → List Identifier → TypedefTree
 with_names d more =
-    record { specifiers = d.specifiers; names = record { first = d.names.first; more = d.names.more ++ more } }
+    record {
+      specifiers = d.specifiers;
+      enumeration = d.enumeration;
+      names = record { first = d.names.first; more = d.names.more ++ more };
+    }
 
 abbrev pub after_block : OpenBlock → BlockTree → State
 after_block (function_block h ps at items) b = after_function h ps (Some b)
@@ -106,10 +195,11 @@ parameter_state h ps p (Some id) = parameter_name h ps p
 abbrev pub after_parameter : Head → List ParameterTree → ParameterTree → State
 after_parameter h ps p = parameter_state h ps p p.name
 
--- behind a parameter without a name comes neither a further word of its type nor a name
+-- behind a parameter without a name comes neither a further word of its type nor a name, and `enum` isn't its last word
 abbrev pub EndsParameter : Token → OneOrMore Specifier → Option Identifier → List Token → Type 0
 EndsParameter end words None ts =
     (next_word words (first_of_all end ts) ≡ None) × (is_fixed fixed.Name (first_of_all end ts).kind ≡ false)
+    × (end_in_enum words ≡ false)
 EndsParameter end words (Some id) ts = Unit {0}
 
 abbrev pub storage_state : List ExternalTree → Option Storage → State

@@ -1,19 +1,24 @@
 // Declarations.
 
-ghost use Rattle.std.specs.Prelude.{◌≡◌, ◌<◌, ◌≤◌, length, MatchResult, option_map, false};
+ghost use Rattle.std.specs.Prelude.{◌≡◌, ◌<◌, ◌≤◌, length, MatchOption, MatchResult, Option, option_map, ◌&&◌, not, true, false};
+ghost use Rattle.std.specs.Option.{is_some};
 ghost use Rattle.pk_ctypes.specs.declared.places.Pos.{Pos};
+ghost use Rattle.pk_ast.specs.declared.declarations.Specifier.{Specifier};
 ghost use Rattle.pk_ast.specs.declared.expressions.Identifier.{Identifier};
 ghost use Rattle.pk_ast.specs.Lists.{one};
 ghost use Rattle.pk_ast.specs.Trees as tree;
-ghost use Rattle.pk_ast.specs.Views.{expression_tree, expression_trees, initializer_tree, declarator_tree, declarator_trees, declarators_tree, declaration_tree};
+ghost use Rattle.pk_ast.specs.Views.{expression_tree, expression_trees, initializer_tree, declarator_tree, declarator_trees, declaration_tree};
 ghost use Rattle.pk_grammar.specs.Outcomes.{nesting_limit};
-ghost use Rattle.pk_grammar.specs.Machine.Running.{run, Fails};
-ghost use Rattle.pk_parse.specs.Parts.{CanDeclare, IsInner, with_declarators, with_all, after_declaration, item_state, GoesOn};
+ghost use Rattle.pk_grammar.specs.Machine.Running.{first_of_all, run, Fails};
+ghost use Rattle.pk_grammar.specs.Machine.Signs.{is_fixed};
+ghost use Rattle.pk_parse_expression.specs.Parsing.{Begins};
+ghost use Rattle.pk_parse.specs.Parts.{type_state, CanDeclare, IsInner, needs_name, AtNames, named_first, with_declarators, after_declaration, item_state, GoesOn};
 ghost use Rattle.pk_grammar.specs.Machine.States as states;
 ghost use Rattle.pk_grammar.specs.Machine.Steps as steps;
 
+use crate::enumerations::type_words;
 use pk_ast::{
-    Declaration, Declarator, Declarators, Expression, Identifier, Initializer, Specifier,
+    Declaration, Declarator, Enumeration, Expression, Identifier, Initializer, Specifier,
 };
 use pk_grammar::{Fixed, ParseError};
 use pk_lex::Token;
@@ -174,78 +179,104 @@ fn declarator<'a>(
     Ok((Declarator::new(name, length, initializer), rest))
 }
 
-// The objects of a declaration after those that were read, and the `;`.
-fn more_declarators<'a>(
-    parser: Parser,
-    tokens: &'a [Token],
-    outside: u32,
-) -> Result<(Vec<Declarator>, &'a [Token]), ParseError>
-    requires { outside ≤ nesting_limit }
-    ensures { MatchResult result
-        (λ r. ((d : states.Declared) → steps.site_nesting d.site ≡ outside →
-        run parser.end (states.after_initializer d) tokens.now
-        ≡ run parser.end (after_declaration (with_declarators d (declarator_trees r.0.items))) r.1.now)
-        × (length r.1.now < length tokens.now))
-        (λ x. (d : states.Declared) → steps.site_nesting d.site ≡ outside →
-        Fails (run parser.end (states.after_initializer d) tokens.now) x) }
-{
-    let mut list = Vec::new(parser.alloc);
-    let mut rest = tokens;
-    loop {
-        if let Some((_, last)) = parser.take(rest, Fixed::Semicolon) {
-            return Ok((list, last));
-        }
-        let (_, next) = parser.expect(rest, Fixed::Comma)?;
-        let (token, following) = parser.expect(next, Fixed::Name)?;
-        let name = identifier(token);
-        let (declarator, after) = declarator(parser, name, following, outside)?;
-        list.push(declarator)?;
-        rest = after;
-    }
-}
-
 /// The objects of a declaration, of which the first one's name was read, and the `;`.
 pub fn declarators<'a>(
     parser: Parser,
     name: Identifier,
     tokens: &'a [Token],
     outside: u32,
-) -> Result<(Declarators, &'a [Token]), ParseError>
+) -> Result<(Vec<Declarator>, &'a [Token]), ParseError>
     requires { outside ≤ nesting_limit }
     ensures { MatchResult result
         (λ r. ((d : states.Declaring) → CanDeclare parser.end d name outside tokens.now →
         run parser.end (states.after_name d name) tokens.now
-        ≡ run parser.end (after_declaration (with_all d (declarators_tree r.0))) r.1.now)
+        ≡ run parser.end (after_declaration (with_declarators d (declarator_trees r.0.items))) r.1.now)
         × (length r.1.now < length tokens.now))
         (λ x. (d : states.Declaring) → CanDeclare parser.end d name outside tokens.now →
         Fails (run parser.end (states.after_name d name) tokens.now) x) }
 {
-    let (first, after) = declarator(parser, name, tokens, outside)?;
-    let ((more, last), first) = keeping(more_declarators(parser, after, outside), first)?;
-    Ok((Declarators { first, more }, last))
+    let mut list = Vec::new(parser.alloc);
+    let mut next_name = name;
+    let mut rest = tokens;
+    loop {
+        let (declarator, after) = declarator(parser, next_name, rest, outside)?;
+        list.push(declarator)?;
+        if let Some((_, last)) = parser.take(after, Fixed::Semicolon) {
+            return Ok((list, last));
+        }
+        let (_, next) = parser.expect(after, Fixed::Comma)?;
+        let (token, following) = parser.expect(next, Fixed::Name)?;
+        next_name = identifier(token);
+        rest = following;
+    }
 }
 
-/// A declaration, of which the first word was read.
+// The `;`, where it comes first behind an enumeration that may stand alone.
+fn end_alone<'a>(parser: Parser, alone: bool, tokens: &'a [Token]) -> Option<(Token, &'a [Token])>
+    ensures { MatchOption result (is_fixed Fixed.Semicolon (first_of_all parser.end tokens.now).kind ≡ true → alone ≡ false)
+        (λ r. Begins Fixed.Semicolon tokens.now r.0 r.1.now × (alone ≡ true)) }
+{
+    if alone {
+        parser.take(tokens, Fixed::Semicolon)
+    } else {
+        None
+    }
+}
+
+/// The objects that are declared with a type, and the `;`; none, where it is an enumeration that may stand alone.
+pub fn declared<'a>(
+    parser: Parser,
+    alone: bool,
+    tokens: &'a [Token],
+    outside: u32,
+) -> Result<(Vec<Declarator>, &'a [Token]), ParseError>
+    requires { outside ≤ nesting_limit }
+    ensures { MatchResult result
+        (λ r. ((s : states.Site) (specs : tree.OneOrMore Specifier) (e : Option tree.EnumerationTree) →
+        AtNames parser.end s specs e alone outside tokens.now →
+        run parser.end (type_state (states.in_declaration s) specs e) tokens.now
+        ≡ run parser.end (after_declaration (with_declarators (named_first s specs e)
+        (declarator_trees r.0.items))) r.1.now) × (length r.1.now < length tokens.now))
+        (λ x. (s : states.Site) (specs : tree.OneOrMore Specifier) (e : Option tree.EnumerationTree) →
+        AtNames parser.end s specs e alone outside tokens.now →
+        Fails (run parser.end (type_state (states.in_declaration s) specs e) tokens.now) x) }
+{
+    if let Some((_, last)) = end_alone(parser, alone, tokens) {
+        return Ok((Vec::new(parser.alloc), last));
+    }
+    let (token, after) = parser.expect(tokens, Fixed::Name)?;
+    declarators(parser, identifier(token), after, outside)
+}
+
+// Whether an enumeration comes that may declare no name.
+fn stands_alone(enumeration: &Option<Enumeration>, named: bool) -> bool
+    ensures { result ≡ (is_some enumeration.now && not named) }
+{
+    enumeration.is_some() && !named
+}
+
+/// A declaration, of which the first word was read; a name has to be declared or not.
 pub fn declaration<'a>(
     parser: Parser,
     first: Specifier,
+    named: bool,
     tokens: &'a [Token],
     outside: u32,
 ) -> Result<(Declaration, &'a [Token]), ParseError>
     requires { outside ≤ nesting_limit }
     ensures { MatchResult result
-        (λ r. ((s : states.Site) → IsInner s → steps.site_nesting s ≡ outside →
+        (λ r. ((s : states.Site) → IsInner s → named ≡ needs_name s → steps.site_nesting s ≡ outside →
         run parser.end (states.after_specifiers s (one first)) tokens.now
         ≡ run parser.end (steps.declared_at s (declaration_tree r.0)) r.1.now)
         × (length r.1.now < length tokens.now))
-        (λ x. (s : states.Site) → IsInner s → steps.site_nesting s ≡ outside →
+        (λ x. (s : states.Site) → IsInner s → named ≡ needs_name s → steps.site_nesting s ≡ outside →
         Fails (run parser.end (states.after_specifiers s (one first)) tokens.now) x) }
 {
-    let (words, rest) = parser.specifiers(first, tokens)?;
-    let ((token, after), words) = keeping(parser.expect(rest, Fixed::Name), words)?;
-    let ((declarators, last), words) = keeping(
-        declarators(parser, identifier(token), after, outside),
-        words,
+    let (words, enumeration, rest) = type_words(parser, first, tokens, outside)?;
+    let alone = stands_alone(&enumeration, named);
+    let ((declarators, last), (words, enumeration)) = keeping(
+        declared(parser, alone, rest, outside),
+        (words, enumeration),
     )?;
-    Ok((Declaration::new(words, declarators), last))
+    Ok((Declaration::new(words, enumeration, declarators), last))
 }

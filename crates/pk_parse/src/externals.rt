@@ -1,23 +1,25 @@
 // External definitions.
 
-ghost use Rattle.std.specs.Prelude.{◌≡◌, ◌≢◌, ◌<◌, ◌≤◌, ◌↔◌, List, [], ◌∷◌, ◌++◌, false, IsTrue, length, MatchOption, MatchResult, option_map};
+ghost use Rattle.std.specs.Prelude.{◌≡◌, ◌≢◌, ◌<◌, ◌≤◌, ◌↔◌, List, [], ◌∷◌, ◌++◌, Some, None, false, IsTrue, length, MatchOption, MatchResult, option_map};
 ghost use Rattle.pk_ast.specs.Lists.{one};
 ghost use Rattle.pk_ast.specs.Trees as tree;
-ghost use Rattle.pk_ast.specs.Views.{block_tree, parameter_tree, parameter_trees, typedef_tree, external_tree, external_trees};
+ghost use Rattle.pk_ast.specs.Views.{specifiers_tree, enumeration_tree, block_tree, parameter_tree, parameter_trees, typedef_tree, external_tree, external_trees};
 ghost use Rattle.pk_grammar.specs.Grammar.{IsVoidAlone};
 ghost use Rattle.pk_grammar.specs.Machine.Running.{trees, first_of_all, run, Fails};
 ghost use Rattle.pk_grammar.specs.Machine.Signs as signs;
 ghost use Rattle.pk_grammar.specs.Machine.States as states;
-ghost use Rattle.pk_parse.specs.Parts.{after_parameter, EndsParameter, after_function, after_type_names, with_names, storage_state};
+ghost use Rattle.pk_parse.specs.Parts.{EndsType, after_parameter, EndsParameter, after_function, after_type_names, with_names, storage_state};
 
-use crate::declarations::declarators;
+use crate::declarations::{declarators, declared};
+use crate::enumerations::type_words;
 use crate::statements::block;
 use pk_ast::{
-    Block, Declaration, External, Function, Identifier, Parameter, Specifier, Storage, Typedef,
+    Block, Declaration, Enumeration, External, Function, Identifier, Parameter, Specifier,
+    Specifiers, Storage, Typedef,
 };
 use pk_grammar::{Fixed, ParseError, is, is_void_word, storage_word};
 use pk_lex::{Kind, Token};
-use pk_parse_expression::{Parser, identifier};
+use pk_parse_expression::{Parser, identifier, keeping};
 
 // The word `void` and nothing else, which is no parameter.
 fn is_void_alone(p: &Parameter) -> bool
@@ -41,7 +43,7 @@ fn parameter<'a>(
         (λ x. (h : states.Head) (ps : List tree.ParameterTree) →
         Fails (run parser.end (states.parameter_specifiers h ps (one first)) tokens.now) x) }
 {
-    let (words, rest) = parser.specifiers(first, tokens)?;
+    let (words, rest) = parser.whole_specifiers(first, tokens)?;
     match parser.take(rest, Fixed::Name) {
         Some((name, after)) => Ok((Parameter::new(words, Some(identifier(name))), after)),
         None => Ok((Parameter::new(words, None), rest)),
@@ -124,11 +126,11 @@ fn more_names<'a>(
 ) -> Result<(Vec<Identifier>, &'a [Token]), ParseError>
     ensures { MatchResult result
         (λ r. ((before : List tree.ExternalTree) (d : tree.TypedefTree) →
-        run parser.end (states.after_type_name before d.specifiers d.names) tokens.now
+        run parser.end (states.after_type_name before d.specifiers d.enumeration d.names) tokens.now
         ≡ run parser.end (after_type_names before (with_names d r.0.items)) r.1.now)
         × (length r.1.now < length tokens.now))
         (λ x. (before : List tree.ExternalTree) (d : tree.TypedefTree) →
-        Fails (run parser.end (states.after_type_name before d.specifiers d.names) tokens.now) x) }
+        Fails (run parser.end (states.after_type_name before d.specifiers d.enumeration d.names) tokens.now) x) }
 {
     let mut list = Vec::new(parser.alloc);
     let mut rest = tokens;
@@ -157,10 +159,73 @@ fn typedef<'a>(parser: Parser, tokens: &'a [Token]) -> Result<(Typedef, &'a [Tok
             at: parser.place(tokens),
         });
     };
-    let (words, after_words) = parser.specifiers(word, after_word)?;
-    let (token, after_name) = parser.expect(after_words, Fixed::Name)?;
-    let (more, last) = more_names(parser, after_name)?;
-    Ok((Typedef::new(words, identifier(token), more), last))
+    let (words, enumeration, after_words) = type_words(parser, word, after_word, 0)?;
+    let ((token, after_name), held) = keeping(
+        parser.expect(after_words, Fixed::Name),
+        (words, enumeration),
+    )?;
+    let ((more, last), (words, enumeration)) = keeping(more_names(parser, after_name), held)?;
+    Ok((
+        Typedef::new(words, enumeration, identifier(token), more),
+        last,
+    ))
+}
+
+// A function, or a declaration of objects, behind the words of its type.
+fn specified<'a>(
+    parser: Parser,
+    storage: Option<Storage>,
+    words: Specifiers,
+    tokens: &'a [Token],
+) -> Result<(External, &'a [Token]), ParseError>
+    requires { EndsType parser.end (specifiers_tree words) None tokens.now }
+    ensures { MatchResult result
+        (λ r. ((before : List tree.ExternalTree) →
+        run parser.end (states.after_specifiers (states.outside before storage) (specifiers_tree words)) tokens.now
+        ≡ run parser.end (states.top (before ++ external_tree r.0 ∷ [])) r.1.now)
+        × (length r.1.now < length tokens.now))
+        (λ x. (before : List tree.ExternalTree) →
+        Fails (run parser.end (states.after_specifiers (states.outside before storage) (specifiers_tree words))
+        tokens.now) x) }
+{
+    let (token, after_name) = parser.expect(tokens, Fixed::Name)?;
+    let name = identifier(token);
+    let Some((_, after_open)) = parser.take(after_name, Fixed::OpenParenthesis) else {
+        let (declarators, last) = declarators(parser, name, after_name, 0)?;
+        let declaration = Declaration::new(words, None, declarators);
+        return Ok((External::declaration(storage, declaration), last));
+    };
+    let (parameters, after_close) = parameters(parser, after_open)?;
+    let (body, last) = body(parser, after_close)?;
+    let function = Function::new(storage, words, name, parameters, body);
+    Ok((External::function(function), last))
+}
+
+// A declaration of objects, behind the enumeration that is their type.
+fn enumerated<'a>(
+    parser: Parser,
+    storage: Option<Storage>,
+    words: Specifiers,
+    enumeration: Enumeration,
+    tokens: &'a [Token],
+) -> Result<(External, &'a [Token]), ParseError>
+    requires { EndsType parser.end (specifiers_tree words) (Some (enumeration_tree enumeration)) tokens.now }
+    ensures { MatchResult result
+        (λ r. ((before : List tree.ExternalTree) →
+        run parser.end (states.after_braces (states.in_declaration (states.outside before storage))
+        (specifiers_tree words) (enumeration_tree enumeration)) tokens.now
+        ≡ run parser.end (states.top (before ++ external_tree r.0 ∷ [])) r.1.now)
+        × (length r.1.now < length tokens.now))
+        (λ x. (before : List tree.ExternalTree) →
+        Fails (run parser.end (states.after_braces (states.in_declaration (states.outside before storage))
+        (specifiers_tree words) (enumeration_tree enumeration)) tokens.now) x) }
+{
+    let ((declarators, last), enumeration) = keeping(
+        declared(parser, true, tokens, 0),
+        enumeration,
+    )?;
+    let declaration = Declaration::new(words, Some(enumeration), declarators);
+    Ok((External::declaration(storage, declaration), last))
 }
 
 // A function, or a declaration of objects.
@@ -182,18 +247,11 @@ fn function_or_objects<'a>(
             at: parser.place(after_storage),
         });
     };
-    let (words, after_words) = parser.specifiers(word, after_word)?;
-    let (token, after_name) = parser.expect(after_words, Fixed::Name)?;
-    let name = identifier(token);
-    let Some((_, after_open)) = parser.take(after_name, Fixed::OpenParenthesis) else {
-        let (declarators, last) = declarators(parser, name, after_name, 0)?;
-        let declaration = Declaration::new(words, declarators);
-        return Ok((External::declaration(storage, declaration), last));
-    };
-    let (parameters, after_close) = parameters(parser, after_open)?;
-    let (body, last) = body(parser, after_close)?;
-    let function = Function::new(storage, words, name, parameters, body);
-    Ok((External::function(function), last))
+    let (words, enumeration, rest) = type_words(parser, word, after_word, 0)?;
+    match enumeration {
+        Some(enumeration) => enumerated(parser, storage, words, enumeration, rest),
+        None => specified(parser, storage, words, rest),
+    }
 }
 
 // An external definition.

@@ -54,7 +54,7 @@ pub fn block_declaration<'a>(
             at: parser.place(after),
         });
     };
-    let (declaration, last) = declaration(parser, word, rest, inside)?;
+    let (declaration, last) = declaration(parser, word, static_at.is_some(), rest, inside)?;
     let item = BlockItem::declaration(parser.alloc, static_at, declaration)?;
     Ok(Some((item, last)))
 }

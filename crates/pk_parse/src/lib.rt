@@ -2,6 +2,7 @@
 #![tactic(auto)]
 
 mod declarations;
+mod enumerations;
 mod externals;
 mod items;
 mod laws;

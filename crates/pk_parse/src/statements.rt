@@ -103,7 +103,7 @@ fn for_start<'a>(
         Fails (run parser.end (states.for_first n at o) tokens.now) x) }
 {
     if let Some((word, after)) = parser.specifier(tokens) {
-        let (declaration, rest) = declaration(parser, word, after, outside)?;
+        let (declaration, rest) = declaration(parser, word, false, after, outside)?;
         return Ok((ForStart::declaration(declaration), rest));
     }
     let (first, rest) = optional(parser, tokens, outside, Fixed::Semicolon)?;

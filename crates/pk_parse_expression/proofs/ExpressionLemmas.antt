@@ -1,5 +1,5 @@
 -- What each function on expressions reads, put together from what the functions read that it calls.
-use Rattle.std.proofs.Common.{◌≡◌, ℕ, ◌+◌, ◌<◌, ◌≤◌, List, [], ◌∷◌, ◌++◌, true, false, refl, sym, ap, subst, ◌∙◌, arith}
+use Rattle.std.proofs.Common.{◌≡◌, ℕ, ◌+◌, ◌<◌, ◌≤◌, List, [], ◌∷◌, ◌++◌, inl, inr, true, false, refl, sym, ap, subst, ◌∙◌, arith}
 use Rattle.pk_ctypes.specs.declared.places.Pos.{Pos}
 use Rattle.pk_lex.specs.declared.token.Token.{Token}
 use Rattle.pk_ast.specs.declared.declarations.Specifier.{Specifier}
@@ -20,14 +20,14 @@ use Rattle.pk_grammar.specs.declared.signs.Operator.TheVariants as operator
 use Rattle.pk_grammar.specs.Grammar.{strength, operators_in, commas_in}
 use Rattle.pk_grammar.specs.Machine.Signs.{is_fixed, operand_start}
 use Rattle.pk_grammar.specs.Machine.States.{Context, in_index, in_prefix, in_unary, in_cast, in_binary, in_choice, in_alternative, in_assignment, in_comma, operand, named, cast_specifiers, complete}
-use Rattle.pk_grammar.specs.Machine.Steps.{operand_level, is_unary, one_more}
+use Rattle.pk_grammar.specs.Machine.Steps.{operand_level, is_unary, one_more, end_in_enum}
 use Rattle.pk_grammar.specs.Machine.Running.{first_of_all, run}
-use Rattle.pk_parse_expression.specs.Parsing.{Begins, BeginsWith, past_words, EndsAt, CastsIf, Anywhere, UpTo, Reads, Refuses, specifiers_from}
+use Rattle.pk_parse_expression.specs.Parsing.{Begins, BeginsWith, past_words, AreWords, AreNoType, EndsAt, CastsIf, Anywhere, UpTo, Reads, Refuses, specifiers_from}
 use Rattle.pk_grammar.proofs.CompleteSigns.{strength_most}
-use Rattle.pk_parse_expression.proofs.RunLemmas.{fails_as, fails_syntax, fails_nesting}
+use Rattle.pk_parse_expression.proofs.RunLemmas.{fails_as, fails_syntax, fails_nesting, fails_memory}
 use Rattle.pk_parse_expression.proofs.RunOperators.{run_binary, deep_binary, run_question, run_assignment}
 use Rattle.pk_parse_expression.proofs.RunEnds.{run_prefix_end, run_unary_end, run_cast_end, run_binary_end, run_conditional_end, run_assignment_end, run_comma_end}
-use Rattle.pk_parse_expression.proofs.RunOperands.{run_index, run_colon, run_comma, run_prefix, run_unary, run_cast_words, no_word_more, run_cast_close, no_cast_close}
+use Rattle.pk_parse_expression.proofs.RunOperands.{run_index, run_colon, run_comma, run_prefix, run_unary, run_cast_words, no_word_more, no_word_left, run_cast_close, no_cast_close, no_cast_type}
 
 pub trees_push : (es : List Expression) (e : Expression) → expression_trees (es ++ e ∷ []) ≡ one_more (expression_trees es) (expression_tree e)
 trees_push [] e = refl
@@ -175,23 +175,29 @@ module _ (end : Token) (n : ℕ) (ts : List Token) where
       ∙ ap (λ m. run end (complete n m k) last) (sym w)
 
 -- A cast, of which the first word was read
-module _ (end : Token) (n : ℕ) (at : Pos) (first : Specifier) (ts : List Token) (specs : OneOrMore Specifier) (rest : List Token) (all : specs ≡ specifiers_from first ts) (past : rest ≡ past_words first ts) where
+
+pub no_cast_words : (end : Token) (n : ℕ) (at : Pos) (first : Specifier) (ts : List Token) (x : ParseError) → AreNoType end first ts x → n + 1 ≤ 128 → Refuses end Anywhere (λ c. cast_specifiers n at (one first) c) ts x
+no_cast_words end n at first ts x (inl e) h = λ k p. fails_memory _ x e
+no_cast_words end n at first ts x (inr e) h = λ k p.
+    fails_syntax _ x _ e.1 (run_cast_words end n at k h ts (one first) ∙ no_cast_type end n at (specifiers_from first ts) k (past_words first ts) (no_word_left end first ts) e.0)
+
+module _ (end : Token) (n : ℕ) (at : Pos) (first : Specifier) (ts : List Token) (specs : OneOrMore Specifier) (rest : List Token) (w : AreWords first ts specs rest × (end_in_enum specs ≡ false)) where
   words_read : (k : Context) → n + 1 ≤ 128 → run end (cast_specifiers n at (one first) k) ts ≡ run end (cast_specifiers n at specs k) rest
   words_read k h =
       run_cast_words end n at k h ts (one first)
-      ∙ ap (λ q. run end (cast_specifiers n at q k) (past_words first ts)) (sym all)
-      ∙ ap (λ q. run end (cast_specifiers n at specs k) q) (sym past)
+      ∙ ap (λ q. run end (cast_specifiers n at q k) (past_words first ts)) (sym w.0.are)
+      ∙ ap (λ q. run end (cast_specifiers n at specs k) q) (sym w.0.past)
 
   pub closes_cast : (t : Token) (after : List Token) → Begins fixed.CloseParenthesis rest t after → n + 1 ≤ 128 → (k : Context) →
       run end (cast_specifiers n at (one first) k) ts ≡ run end (operand (n + 1) (in_cast n at specs k)) after
-  closes_cast t after b h k = words_read k h ∙ run_cast_close end n at specs k rest t after b h
+  closes_cast t after b h k = words_read k h ∙ run_cast_close end n at specs k rest t after w.1 b h
 
   pub unclosed_cast : (x : ParseError) → is_fixed fixed.CloseParenthesis (first_of_all end rest).kind ≡ false → x ≡ Syntax (first_of_all end rest).at → n + 1 ≤ 128 →
       Refuses end Anywhere (λ c. cast_specifiers n at (one first) c) ts x
   unclosed_cast x f e h = λ k p.
-      fails_syntax _ x _ e (words_read k h ∙ no_cast_close end n at specs k rest (no_word_more end first ts specs rest (all, past)) f)
+      fails_syntax _ x _ e (words_read k h ∙ no_cast_close end n at specs k rest (no_word_more end first ts specs rest w.0) w.1 f)
 
   pub reads_cast : (t : Token) (after last : List Token) (e whole : ExpressionTree) → Begins fixed.CloseParenthesis rest t after → n + 1 ≤ 128 →
       Reads end (CastsIf true) (λ c. operand (n + 1) c) (n + 1) after e last → EndsAt end 14 last → whole ≡ cast at specs e → Reads end Anywhere (λ c. cast_specifiers n at (one first) c) n ts whole last
-  reads_cast t after last e whole b h q ends w = λ k p.
-      closes_cast t after b h k ∙ q (in_cast n at specs k) refl ∙ run_cast_end end n (n + 1) at e k last specs ends ∙ ap (λ m. run end (complete n m k) last) (sym w)
+  reads_cast t after last e whole b h q ends f = λ k p.
+      closes_cast t after b h k ∙ q (in_cast n at specs k) refl ∙ run_cast_end end n (n + 1) at e k last specs ends ∙ ap (λ m. run end (complete n m k) last) (sym f)

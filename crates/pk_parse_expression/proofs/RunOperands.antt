@@ -1,6 +1,6 @@
 -- What is answered where operands begin and end.
-use Rattle.std.proofs.Common.{◌≡◌, ℕ, ◌+◌, ◌<◌, ◌≤◌, List, [], ◌∷◌, Option, Some, None, true, false, refl, sym, ap, ◌∙◌}
-use Rattle.std.specs.Prelude.{nat_le}
+use Rattle.std.proofs.Common.{◌≡◌, ℕ, ◌+◌, ◌<◌, ◌≤◌, List, [], ◌∷◌, Option, Some, None, Bool, true, false, refl, sym, ap, ◌∙◌}
+use Rattle.std.specs.Prelude.{nat_le, if◌then◌else◌}
 use Rattle.pk_ctypes.specs.declared.places.Pos.{Pos}
 use Rattle.pk_lex.specs.declared.token.Token.{Token}
 use Rattle.pk_ast.specs.declared.declarations.Specifier.{Specifier}
@@ -14,13 +14,13 @@ use Rattle.pk_grammar.specs.declared.signs.Fixed.TheVariants as fixed
 use Rattle.pk_grammar.specs.declared.signs.OperandStart.{OperandStart}
 use Rattle.pk_grammar.specs.declared.signs.OperandStart.TheVariants as start
 use Rattle.pk_grammar.specs.Languages.{identifier_of}
-use Rattle.pk_grammar.specs.Grammar.{commas_in}
-use Rattle.pk_grammar.specs.Machine.Signs.{is_fixed, operand_start, specifier_word}
+use Rattle.pk_grammar.specs.Grammar.{commas_in, all_of}
+use Rattle.pk_grammar.specs.Machine.Signs.{is_fixed, operand_start, specifier_word, shape_of, wants_tag}
 use Rattle.pk_grammar.specs.Machine.States.{Context, in_parentheses, in_index, in_call, in_prefix, in_unary, in_cast, in_choice, in_alternative, in_comma, State, operand, named, arguments, opened, cast_specifiers, complete}
-use Rattle.pk_grammar.specs.Machine.Steps.{taken, begin_operand, operand_level, open_cast, more_cast, specifier_at, next_word, one_more, step}
+use Rattle.pk_grammar.specs.Machine.Steps.{taken, begin_operand, operand_level, open_cast, more_cast, specifier_at, next_word, end_in_enum, one_more, step}
 use Rattle.pk_grammar.specs.Machine.Running.{syntax, deep, first_of_all, run}
-use Rattle.pk_parse_expression.specs.Parsing.{Begins, BeginsWithWord, TypeWords, words, words_then, specifiers_from, past_words}
-use Rattle.pk_grammar.proofs.CompleteOperands.{same_false, step_call, step_index, step_no_arguments, step_more_cast, step_cast_end, step_colon, step_comma, step_parenthesized, step_indexed, step_called, step_argument}
+use Rattle.pk_parse_expression.specs.Parsing.{Begins, BeginsWithWord, TypeWords, words, words_then, specifiers_from, past_words, AreWords}
+use Rattle.pk_grammar.proofs.CompleteOperands.{same_false, step_call, step_index, step_no_arguments, step_more_cast, step_cast_end, step_no_cast, step_colon, step_comma, step_parenthesized, step_indexed, step_called, step_argument}
 use Rattle.pk_grammar.proofs.SpellsSigns.{is_this}
 use Rattle.pk_parse_expression.proofs.RunLemmas.{run_takes, run_deep, run_refused, run_alike, first_is}
 
@@ -150,35 +150,44 @@ module _ (end : Token) (state : OneOrMore Specifier → State) (n : ℕ) (limit 
       by_word on None e = refl
       by_word on (Some w) e = run_takes end (state done) (t ∷ ts) t ts n _ refl (takes done t w e) limit ∙ on (with_last done (specifier_at t w))
 
+pub same_both : {A : Type 0} (b : Bool) (x : A) → (if b then x else x) ≡ x
+same_both true x = refl
+same_both false x = refl
+
 -- behind them no other one comes
 abbrev EndsWords : Token → TypeWords → Type 0
 EndsWords end w = next_word w.0 (first_of_all end w.1) ≡ None
 
 no_word_past : (end : Token) (ts : List Token) (done : OneOrMore Specifier) → EndsWords end (words done ts)
 unfolding words
-no_word_past end [] done = refl
+no_word_past end [] done = same_both (wants_tag (shape_of (all_of done))) None
 no_word_past end (t ∷ ts) done = by_word (λ q. no_word_past end ts q) (next_word done t) refl
   where
     by_word : ((q : OneOrMore Specifier) → EndsWords end (words q ts)) → (o : Option SpecifierWord) → next_word done t ≡ o → EndsWords end (words_then done t ts o (λ q. words q ts))
     by_word on None e = e
     by_word on (Some w) e = on (with_last done (specifier_at t w))
 
-pub no_word_more : (end : Token) (first : Specifier) (ts : List Token) (specs : OneOrMore Specifier) (rest : List Token) → (specs ≡ specifiers_from first ts) × (rest ≡ past_words first ts) →
-    next_word specs (first_of_all end rest) ≡ None
-no_word_more end first ts specs rest are =
-    ap (λ q. next_word q (first_of_all end rest)) are.0 ∙ ap (λ q. next_word (specifiers_from first ts) (first_of_all end q)) are.1 ∙ no_word_past end ts (one first)
+pub no_word_more : (end : Token) (first : Specifier) (ts : List Token) (specs : OneOrMore Specifier) (rest : List Token) → AreWords first ts specs rest → next_word specs (first_of_all end rest) ≡ None
+no_word_more end first ts specs rest w =
+    ap (λ q. next_word q (first_of_all end rest)) w.are ∙ ap (λ q. next_word (specifiers_from first ts) (first_of_all end q)) w.past ∙ no_word_past end ts (one first)
+
+pub no_word_left : (end : Token) (first : Specifier) (ts : List Token) → next_word (specifiers_from first ts) (first_of_all end (past_words first ts)) ≡ None
+no_word_left end first ts = no_word_past end ts (one first)
 
 pub run_cast_words : (end : Token) (n : ℕ) (at : Pos) (c : Context) → n + 1 ≤ 128 → (ts : List Token) (specs : OneOrMore Specifier) →
     run end (cast_specifiers n at specs c) ts ≡ run end (cast_specifiers n at (words specs ts).0 c) (words specs ts).1
 run_cast_words end n at c h ts specs = run_words end (λ q. cast_specifiers n at q c) (n + 1) h (λ q t w e. step_more_cast n at q c t w e) ts specs
 
 module _ (end : Token) (n : ℕ) (at : Pos) (specs : OneOrMore Specifier) (c : Context) (ts : List Token) where
-  pub run_cast_close : (t : Token) (rest : List Token) → Begins fixed.CloseParenthesis ts t rest → n + 1 ≤ 128 →
+  pub run_cast_close : (t : Token) (rest : List Token) → end_in_enum specs ≡ false → Begins fixed.CloseParenthesis ts t rest → n + 1 ≤ 128 →
       run end (cast_specifiers n at specs c) ts ≡ run end (operand (n + 1) (in_cast n at specs c)) rest
-  run_cast_close t rest b h = run_takes end (cast_specifiers n at specs c) ts t rest _ (operand (n + 1) (in_cast n at specs c)) b.cut (step_cast_end n at specs c t (is_this fixed.CloseParenthesis t.kind b.is)) h
+  run_cast_close t rest e b h = run_takes end (cast_specifiers n at specs c) ts t rest _ (operand (n + 1) (in_cast n at specs c)) b.cut (step_cast_end n at specs c t e (is_this fixed.CloseParenthesis t.kind b.is)) h
 
-  pub no_cast_close : next_word specs (first_of_all end ts) ≡ None → is_fixed fixed.CloseParenthesis (first_of_all end ts).kind ≡ false →
+  pub no_cast_close : next_word specs (first_of_all end ts) ≡ None → end_in_enum specs ≡ false → is_fixed fixed.CloseParenthesis (first_of_all end ts).kind ≡ false →
       run end (cast_specifiers n at specs c) ts ≡ syntax (first_of_all end ts).at
-  no_cast_close e f =
+  no_cast_close e g f =
       let t = first_of_all end ts in
-      run_refused end _ ts (ap (λ w. more_cast n at specs c t w) e ∙ same_false (is_fixed fixed.CloseParenthesis t.kind) _ _ f)
+      run_refused end _ ts (ap (λ w. more_cast n at specs c t w) e ∙ same_false (end_in_enum specs) _ _ g ∙ same_false (is_fixed fixed.CloseParenthesis t.kind) _ _ f)
+
+  pub no_cast_type : next_word specs (first_of_all end ts) ≡ None → end_in_enum specs ≡ true → run end (cast_specifiers n at specs c) ts ≡ syntax (first_of_all end ts).at
+  no_cast_type e g = let t = first_of_all end ts in run_refused end _ ts (step_no_cast n at specs c t e g)

@@ -1,5 +1,5 @@
 -- What each parsing function reads.
-use Rattle.std.specs.Prelude.{◌≡◌, ℕ, ◌+◌, ◌≤◌, List, [], ◌∷◌, Bool, true, nat_le, Option, Some, None}
+use Rattle.std.specs.Prelude.{◌≡◌, ◌⊎◌, ℕ, ◌+◌, ◌≤◌, List, [], ◌∷◌, Bool, true, nat_le, Option, Some, None}
 use Rattle.pk_ctypes.specs.declared.places.Pos.{Pos}
 use Rattle.pk_lex.specs.declared.token.Token.{Token}
 use Rattle.pk_ast.specs.declared.declarations.Specifier.{Specifier}
@@ -7,13 +7,14 @@ use Rattle.pk_ast.specs.declared.declarations.SpecifierWord.{SpecifierWord}
 use Rattle.pk_ast.specs.Lists.{one, with_last}
 use Rattle.pk_ast.specs.Trees.{OneOrMore, ExpressionTree}
 use Rattle.pk_grammar.specs.declared.failure.ParseError.{ParseError}
+use Rattle.pk_grammar.specs.declared.failure.ParseError.TheVariants.{Syntax, Memory}
 use Rattle.pk_grammar.specs.declared.signs.Fixed.{Fixed}
 use Rattle.pk_grammar.specs.declared.signs.Operator.{Operator}
 use Rattle.pk_grammar.specs.declared.signs.Operator.TheVariants as operator
 use Rattle.pk_grammar.specs.Grammar.{strength, operators_in, postfixes_in, commas_in, cast_expression, unary_expression}
 use Rattle.pk_grammar.specs.Machine.Signs.{is_fixed, operator_of}
 use Rattle.pk_grammar.specs.Machine.States.{Context, State, complete}
-use Rattle.pk_grammar.specs.Machine.Steps.{specifier_at, next_word, operand_level}
+use Rattle.pk_grammar.specs.Machine.Steps.{specifier_at, next_word, end_in_enum, operand_level}
 use Rattle.pk_grammar.specs.Machine.Running.{first_of_all, run, Fails}
 
 -- these tokens begin with one of this kind
@@ -55,6 +56,17 @@ specifiers_from first ts = (words (one first) ts).0
 
 abbrev pub past_words : Specifier → List Token → List Token
 past_words first ts = (words (one first) ts).1
+
+-- the words of a type of which the first was read are these, and the tokens after them
+pub record AreWords (first : Specifier) (ts : List Token) (specs : OneOrMore Specifier) (rest : List Token) : Type 0 where
+  pub are : specs ≡ specifiers_from first ts
+  pub past : rest ≡ past_words first ts
+
+-- they end in `enum`, which is told at the token after them; or memory is wanted
+abbrev pub AreNoType : Token → Specifier → List Token → ParseError → Type 0
+AreNoType end first ts x =
+    (x ≡ Memory)
+    ⊎ ((end_in_enum (specifiers_from first ts) ≡ true) × (x ≡ Syntax (first_of_all end (past_words first ts)).at))
 
 -- An expression of this level is followed by operators of at most this number
 abbrev pub follows : Operator → ℕ

@@ -149,7 +149,7 @@ impl Parser {
             × (length r.1.now ≤ length tokens.now))
             (λ x. Refuses self.end Anywhere (λ c. states.cast_specifiers outside at (one first) c) tokens.now x) }
     {
-        let (words, rest) = self.specifiers(first, tokens)?;
+        let (words, rest) = self.whole_specifiers(first, tokens)?;
         let (_, after) = self.expect(rest, Fixed::CloseParenthesis)?;
         let (operand, last) = self.operand(after, outside + 1, true)?;
         let whole = Expression::cast(self.alloc, at, words, operand)?;

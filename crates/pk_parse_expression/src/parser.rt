@@ -2,19 +2,20 @@
 
 ghost use Rattle.std.specs.Prelude.{◌≡◌, ◌≢◌, ◌+◌, ◌<◌, ◌≤◌, ◌∷◌, [], MatchResult, MatchOption, false};
 ghost use Rattle.pk_grammar.specs.Grammar as grammar;
-ghost use Rattle.pk_grammar.specs.Grammar.{strength};
+ghost use Rattle.pk_grammar.specs.Grammar.{strength, all_of};
 ghost use Rattle.pk_grammar.specs.Languages.{identifier_of};
-ghost use Rattle.pk_grammar.specs.Machine.Signs.{is_fixed, operator_of, specifier_word, following_word};
+ghost use Rattle.pk_grammar.specs.Machine.Signs.{is_fixed, operator_of, specifier_word, following_word, shape_of};
+ghost use Rattle.pk_grammar.specs.Machine.Steps.{end_in_enum};
 ghost use Rattle.pk_grammar.specs.Outcomes.{nesting_limit};
 ghost use Rattle.pk_grammar.specs.Machine.Running.{first_of_all};
 ghost use Rattle.pk_ast.specs.Views.{specifiers_tree};
-ghost use Rattle.pk_parse_expression.specs.Parsing.{Begins, BeginsWith, BeginsWithWord, specifiers_from, past_words};
+ghost use Rattle.pk_parse_expression.specs.Parsing.{Begins, BeginsWith, BeginsWithWord, AreWords, AreNoType};
 
 use pk_ast::{AssignmentOperator, BinaryOperator, Identifier, Specifier, Specifiers, StepOperator};
 use pk_ctypes::Pos;
 use pk_grammar::{
-    Fixed, Operator, ParseError, all_const, following_word, has_type_name, is, operator_of,
-    specifier_word,
+    Fixed, Operator, ParseError, Shape, following_word, is, operator_of, specifier_word, wants_tag,
+    with_word,
 };
 use pk_lex::{Kind, Token};
 use std::alloc::Global;
@@ -37,6 +38,7 @@ pub fn identifier(token: Token) -> Identifier
         start: token.start,
         end: token.end,
         at: token.at,
+        is_tag: false,
     }
 }
 
@@ -183,43 +185,54 @@ impl Parser {
         Some((Specifier { word, at: token.at }, rest))
     }
 
-    // The first token, where it is a word of a type that may follow others.
-    fn following<'a>(
-        self,
-        tokens: &'a [Token],
-        consts: bool,
-        named: bool,
-    ) -> Option<(Specifier, &'a [Token])>
-        ensures { MatchOption result (following_word consts named (first_of_all self.end tokens.now) ≡ None)
-            (λ r. BeginsWithWord (following_word consts named) tokens.now r.0 r.1.now) }
+    // The first token, where it is a word of a type that may follow words of this shape.
+    fn following<'a>(self, tokens: &'a [Token], shape: Shape) -> Option<(Specifier, &'a [Token])>
+        ensures { MatchOption result (following_word shape (first_of_all self.end tokens.now) ≡ None)
+            (λ r. BeginsWithWord (following_word shape) tokens.now r.0 r.1.now) }
     {
         let (token, rest) = tokens.split_first()?;
-        let word = following_word(consts, named, *token)?;
+        let word = following_word(shape, *token)?;
         Some((Specifier { word, at: token.at }, rest))
     }
 
-    /// The words of a type, of which the first was read.
+    /// The words of a type, of which the first was read, and what they are.
     pub fn specifiers<'a>(
         self,
         first: Specifier,
         tokens: &'a [Token],
-    ) -> Result<(Specifiers, &'a [Token]), ParseError>
-        ensures { MatchResult result (λ r. (specifiers_tree r.0 ≡ specifiers_from first tokens.now)
-            × (r.1.now ≡ past_words first tokens.now)) (λ x. x ≡ ParseError.Memory) }
+    ) -> Result<(Specifiers, Shape, &'a [Token]), ParseError>
+        ensures { MatchResult result (λ r. AreWords first tokens.now (specifiers_tree r.0) r.2.now
+            × (r.1 ≡ shape_of (all_of (specifiers_tree r.0)))) (λ x. x ≡ ParseError.Memory) }
     {
         let mut more = Vec::new(self.alloc);
         let mut rest = tokens;
-        let mut consts = all_const(true, first.word);
-        let mut named = has_type_name(false, first.word);
+        let mut shape = with_word(Shape::Consts, first.word);
         loop {
-            let Some((word, after)) = self.following(rest, consts, named) else {
-                return Ok((Specifiers { first, more }, rest));
+            let Some((word, after)) = self.following(rest, shape) else {
+                return Ok((Specifiers { first, more }, shape, rest));
             };
             more.push(word)?;
-            consts = all_const(consts, word.word);
-            named = has_type_name(named, word.word);
+            shape = with_word(shape, word.word);
             rest = after;
         }
+    }
+
+    /// The words of a type, of which the first was read, where they make one: `enum` is not the last of them.
+    pub fn whole_specifiers<'a>(
+        self,
+        first: Specifier,
+        tokens: &'a [Token],
+    ) -> Result<(Specifiers, &'a [Token]), ParseError>
+        ensures { MatchResult result (λ r. AreWords first tokens.now (specifiers_tree r.0) r.1.now
+            × (end_in_enum (specifiers_tree r.0) ≡ false)) (λ x. AreNoType self.end first tokens.now x) }
+    {
+        let (words, shape, rest) = self.specifiers(first, tokens)?;
+        if wants_tag(shape) {
+            return Err(ParseError::Syntax {
+                at: self.place(rest),
+            });
+        }
+        Ok((words, rest))
     }
 }
 

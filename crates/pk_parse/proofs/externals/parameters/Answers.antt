@@ -43,14 +43,14 @@ returns-in-Some-take c =
     let g = r.2 in (
       elim c.if-not-is_empty.branch [
         | then-not-is_empty+in_ok-push w ↦
-            reads_last _ _ c.loop-word.list.items _ i.0 _ _ s c.in_ok-parameter.parameter _ r.0 _ _ c.in-Some-take.ensures c.if-not-is_empty.list.items
+            reads_last _ _ c.loop-word.list.items _ i.0 _ _ s c.in_ok-parameter.parameter _ r.0 r.1 _ _ c.in-Some-take.ensures c.if-not-is_empty.list.items
             (ap (λ (v : Vec Parameter Global). v.items) w.list-is ∙ w.in_ok-push.ensures.items)
             (elim w.then-not-is_empty.branch [
               | then-not-is_empty-via-then-not-is_empty w' ↦ λ e v. some_items c.loop-word.list w'.if-not-is_empty.ensures e
               | then-not-is_empty-via-else-not-is_empty+then-not-is_void_alone w' ↦ λ e v. let f : false ≡ true = sym w'.if-not-is_void_alone.true ∙ w'.is_void_alone.ensures.1 v in absurd (cc)
             ])
         | else-not-is_empty+else-not-is_void_alone w ↦
-            reads_void _ _ c.loop-word.list.items _ i.0 _ _ s c.in_ok-parameter.parameter _ r.0 _ _ c.in-Some-take.ensures c.if-not-is_empty.list.items
+            reads_void _ _ c.loop-word.list.items _ i.0 _ _ s c.in_ok-parameter.parameter _ r.0 r.1 _ _ c.in-Some-take.ensures c.if-not-is_empty.list.items
             (ap (λ (v : Vec Parameter Global). v.items) w.list-is)
             (no_items c.loop-word.list (eqb-true (vec_len c.loop-word.list) 0 (sym c.is_empty.ensures ∙ w.if-not-is_empty.false)))
             (w.is_void_alone.ensures.0 w.if-not-is_void_alone.false)
@@ -62,7 +62,7 @@ pub returns-in_err-following : goal.returns-in_err-following
 returns-in_err-following c =
     let r = c.in_ok-parameter.ensures in
     passed _ _ c.from_residual-in_err-following.result _ c.from_residual-in_err-following.ensures.1
-    (stops_parameter _ _ c.loop-word.list.items _ c.loop-word.invariant.0 _ _ c.in-Some-specifier.ensures c.in_ok-parameter.parameter _ r.0 _ r.1 c.in_default-take.ensures c.in_err-following.ensures)
+    (stops_parameter _ _ c.loop-word.list.items _ c.loop-word.invariant.0 _ _ c.in-Some-specifier.ensures c.in_ok-parameter.parameter _ r.0 r.1 _ c.in_default-take.ensures c.in_err-following.ensures)
 
 pub loop-word-preserved : goal.loop-word-preserved
 loop-word-preserved c =
@@ -73,4 +73,4 @@ loop-word-preserved c =
     let b = shorter fixed.Comma _ _ _ c.in_ok-following.ensures in
     let h = i.1 in
     let g = r.2 in
-    (reads_parameter _ _ c.loop-word.list.items _ i.0 _ _ s c.in_ok-parameter.parameter _ r.0 _ _ _ c.in_ok-push-2.ensures.items c.in_ok-following.ensures, omega arith)
+    (reads_parameter _ _ c.loop-word.list.items _ i.0 _ _ s c.in_ok-parameter.parameter _ r.0 r.1 _ _ _ c.in_ok-push-2.ensures.items c.in_ok-following.ensures, omega arith)

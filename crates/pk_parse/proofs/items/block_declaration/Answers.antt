@@ -18,7 +18,7 @@ returns-in_err-declaration c =
     passed _ _ c.from_residual.result _ c.from_residual.ensures.1
     (λ b n.
     let limit = subst (λ q. q ≤ 128) (sym n) c.requires in
-    fails_as _ _ _ (s.ensures.reads b limit ∙ run_item_word _ b _ s.result.0 _ _ c.in-Some.ensures limit) (c.in_err-declaration.ensures (in_a_block b s.result.0) tt n))
+    fails_as _ _ _ (s.ensures.reads b limit ∙ run_item_word _ b _ s.result.0 _ _ c.in-Some.ensures limit) (c.in_err-declaration.ensures (in_a_block b s.result.0) tt c.is_some.ensures n))
 
 pub returns : goal.returns
 returns c =
@@ -29,7 +29,7 @@ returns c =
     let h = d.ensures.1 in (
       λ b n.
           let limit = subst (λ q. q ≤ 128) (sym n) c.requires in
-          s.ensures.reads b limit ∙ run_item_word _ b _ s.result.0 _ _ c.in-Some.ensures limit ∙ d.ensures.0 (in_a_block b s.result.0) tt n
+          s.ensures.reads b limit ∙ run_item_word _ b _ s.result.0 _ _ c.in-Some.ensures limit ∙ d.ensures.0 (in_a_block b s.result.0) tt c.is_some.ensures n
           ∙ after_declaration _ b _ s.result.0 (declaration_tree d.declaration) _ c.in_ok-item.ensures,
       omega arith,
     )

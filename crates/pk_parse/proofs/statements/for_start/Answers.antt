@@ -1,4 +1,4 @@
-use Rattle.std.proofs.Common.{length, option_map, ap, sym, ◌∙◌, arith}
+use Rattle.std.proofs.Common.{length, option_map, refl, ap, sym, ◌∙◌, arith}
 use Rattle.pk_ast.specs.Trees.{expression}
 use Rattle.pk_ast.specs.Views.{expression_tree}
 use Rattle.pk_grammar.specs.Machine.States.{in_a_for, for_second}
@@ -11,13 +11,13 @@ use Rattle.pk_parse.proofs.statements.for_start.Goals as goal
 pub returns-in_err-declaration : goal.returns-in_err-declaration
 returns-in_err-declaration c =
     passed _ _ c.from_residual.result _ c.from_residual.ensures.1
-    (λ n at o e. fails_as _ _ _ (run_for_word c.args.parser.end n at o _ _ _ c.in-Some.ensures (let h = c.requires in omega arith)) (c.in_err-declaration.ensures (in_a_for n at o) tt (sym e)))
+    (λ n at o e. fails_as _ _ _ (run_for_word c.args.parser.end n at o _ _ _ c.in-Some.ensures (let h = c.requires in omega arith)) (c.in_err-declaration.ensures (in_a_for n at o) tt refl (sym e)))
 
 pub returns-in-Some : goal.returns-in-Some
 returns-in-Some c = (
   λ n at o e.
       run_for_word c.args.parser.end n at o _ _ _ c.in-Some.ensures (let h = c.requires in omega arith)
-      ∙ c.in_ok-declaration.ensures.0 (in_a_for n at o) tt (sym e)
+      ∙ c.in_ok-declaration.ensures.0 (in_a_for n at o) tt refl (sym e)
       ∙ ap (λ q. run c.args.parser.end (for_second n at q o) c.in_ok-declaration.rest.now) (sym c.declaration-in-Some.ensures),
   let h = c.in_ok-declaration.ensures.1 in omega (arith, ap length c.in-Some.ensures.cut),
 )

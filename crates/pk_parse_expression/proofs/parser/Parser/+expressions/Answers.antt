@@ -13,7 +13,7 @@ use Rattle.pk_parse_expression.proofs.WordLemmas.{no_longer}
 use Rattle.pk_parse_expression.proofs.RunOperators.{follows_weaker, deep_question, deep_assignment, no_assignment}
 use Rattle.pk_parse_expression.proofs.RunOperands.{run_no_arguments, run_arguments, run_called, run_argument, run_name_alone, run_call, deep_call, deep_index, run_indexed, run_inner, run_parenthesized, run_cast, no_cast, run_name, run_constant, run_character, run_open, deep_open, deep_prefix, deep_unary, no_operand, operand_at_end, deep_comma}
 use Rattle.pk_parse_expression.proofs.RunEnds.{no_parenthesis, no_bracket, no_colon, no_argument_end}
-use Rattle.pk_parse_expression.proofs.ExpressionLemmas.{trees_push, le_more, counts, ends_within, ends_binary, indexes, reads_prefix, fails_prefix, reads_unary, fails_unary, reads_binary, fails_binary, sinks_binary, asks, chooses, reads_conditional, assigns, reads_assignment, joins_comma, reads_comma, closes_cast, unclosed_cast, reads_cast}
+use Rattle.pk_parse_expression.proofs.ExpressionLemmas.{trees_push, le_more, counts, ends_within, ends_binary, indexes, reads_prefix, fails_prefix, reads_unary, fails_unary, reads_binary, fails_binary, sinks_binary, asks, chooses, reads_conditional, assigns, reads_assignment, joins_comma, reads_comma, no_cast_words, closes_cast, unclosed_cast, reads_cast}
 use Rattle.pk_parse_expression.proofs.parser.Parser.+expressions.Goals as goal
 
 -- A call's arguments
@@ -159,19 +159,21 @@ named-returns-in-Some-take t c =
 
 -- A cast
 
+pub cast-returns-in_err-words : goal.cast-returns-in_err-words
+cast-returns-in_err-words t c =
+    passed _ _ c.from_residual.result _ c.from_residual.ensures.1 (no_cast_words c.args.self.end c.args.outside c.args.at c.args.first c.args.tokens.now _ c.in_err-words.ensures (below _ c.requires))
+
 pub cast-returns-in_err-after : goal.cast-returns-in_err-after
 cast-returns-in_err-after t c =
-    let s = c.in_ok-words.ensures in
     let f = c.in_err-after.ensures in
     passed _ _ c.from_residual-in_err-after.result _ c.from_residual-in_err-after.ensures.1
-    (unclosed_cast c.args.self.end c.args.outside c.args.at c.args.first c.args.tokens.now _ c.in_ok-words.rest.now s.0 s.1 _ f.0 f.1 (below _ c.requires))
+    (unclosed_cast c.args.self.end c.args.outside c.args.at c.args.first c.args.tokens.now _ c.in_ok-words.rest.now c.in_ok-words.ensures _ f.0 f.1 (below _ c.requires))
 
 pub cast-returns-in_err-operand : goal.cast-returns-in_err-operand
 cast-returns-in_err-operand t c =
-    let s = c.in_ok-words.ensures in
     passed _ _ c.from_residual-in_err-operand.result _ c.from_residual-in_err-operand.ensures.1
     (λ k h. fails_as _ _ _
-    (closes_cast c.args.self.end c.args.outside c.args.at c.args.first c.args.tokens.now _ c.in_ok-words.rest.now s.0 s.1 _ _ c.in_ok-after.ensures (below _ c.requires) k)
+    (closes_cast c.args.self.end c.args.outside c.args.at c.args.first c.args.tokens.now _ c.in_ok-words.rest.now c.in_ok-words.ensures _ _ c.in_ok-after.ensures (below _ c.requires) k)
     (c.in_err-operand.ensures (in_cast c.args.outside c.args.at (specifiers_tree c.in_ok-words.words) k) refl))
 
 pub cast-returns : goal.cast-returns
@@ -179,10 +181,10 @@ cast-returns t c =
     let s = c.in_ok-words.ensures in
     let o = c.in_ok-operand.ensures in
     let w = c.in_ok-whole.ensures in (
-      reads_cast c.args.self.end c.args.outside c.args.at c.args.first c.args.tokens.now (specifiers_tree c.in_ok-words.words) c.in_ok-words.rest.now s.0 s.1 _ _ _ (expression_tree c.in_ok-operand.operand) _
+      reads_cast c.args.self.end c.args.outside c.args.at c.args.first c.args.tokens.now (specifiers_tree c.in_ok-words.words) c.in_ok-words.rest.now s _ _ _ (expression_tree c.in_ok-operand.operand) _
           c.in_ok-after.ensures (below _ c.requires) o.0 o.1.ends w,
       record { operators = ap operators_in w; commas = ap commas_in w; ends = o.1.ends },
-      (let p = o.2 in let q = s.1 in omega (arith, no_longer c.args.tokens.now (one c.args.first), ap length s.1, ap length c.in_ok-after.ensures.cut)),
+      (let p = o.2 in omega (arith, no_longer c.args.tokens.now (one c.args.first), ap length s.0.past, ap length c.in_ok-after.ensures.cut)),
     )
 
 -- What begins with a `(`
