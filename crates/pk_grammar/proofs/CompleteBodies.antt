@@ -12,7 +12,7 @@ use Rattle.pk_ast.specs.Lists.{one}
 use Rattle.pk_grammar.specs.declared.states.Testing.TheVariants as testing
 use Rattle.pk_grammar.specs.declared.signs.Fixed.TheVariants as fixed
 use Rattle.pk_grammar.specs.Languages.{Marked, ◌⊙◌, identifier_of}
-use Rattle.pk_grammar.specs.Grammar.{punctuator, keyword, declared, for_start, optional, statement, block_items}
+use Rattle.pk_grammar.specs.Grammar.{punctuator, keyword, HasName, declared, for_start, optional, statement, block_items}
 use Rattle.pk_grammar.specs.Machine.Signs.{is_fixed, specifier_word, specifier_in}
 use Rattle.pk_grammar.specs.Machine.States.{Head, OpenBlock, function_block, inner_block, Outer, in_block, in_label, in_case, in_default, in_if, in_else, in_switch, in_while, in_do, in_for, in_a_block, in_a_for, as_statement, as_label, as_last_test, as_first, as_second, as_third, as_whole, State, after_specifiers, block_item, after_static, at_statement, after_statement, test_open, do_open, for_open, for_first, for_second, for_third, default_colon, statement_end, operand, named, complete}
 use Rattle.pk_grammar.specs.Machine.Steps.{taken, reduced, specifier_at, block_nesting, with_statement, with_declaration, one_more_statement, one_more_declaration, declaration_or_statement, begin_static, end_block, begin_for, resume, step}
@@ -21,7 +21,7 @@ use Rattle.pk_grammar.proofs.CompleteLists.{tokens_of, Reads, reads_join, reads_
 use Rattle.pk_grammar.proofs.CompleteSigns.{Begins, sign_semicolon, sign_close}
 use Rattle.pk_grammar.proofs.CompleteOperands.{IsAt, ends_at_sign, ends_at_colon, same_false, same_true}
 use Rattle.pk_grammar.proofs.CompleteExpressions.{readable, ReadsTo}
-use Rattle.pk_grammar.proofs.CompleteDeclarations.{reads_declared}
+use Rattle.pk_grammar.proofs.CompleteDeclarations.{TakesType, reads_declared}
 use Rattle.pk_grammar.proofs.CompleteStatements.{BeginsStatement, first_statement, next_token, StatementRead, IsKeyword, read_expression_statement, two, reads_test, reads_head_test, reads_optional, read_empty, read_continue, read_break, read_goto, read_return, step_end}
 
 -- Labels
@@ -209,7 +209,7 @@ unfolding reduced
 step_first_end m n o at e t is = rw is
 
 reads_for_start : (n : ℕ) (at : Pos) (start : ForStartTree) (o : Outer) (ms : List Marked) (rest : List Token) → for_start start (n + 2) ms → Reads (for_first n at o) ms (for_second n at start o) rest
-reads_for_start n at (declaration d) o ms rest h = reads_declared (in_a_for n at o) (for_first n at o) (step_for_declaration n o at) d rest ms h
+reads_for_start n at (declaration d) o ms rest h = reads_declared (in_a_for n at o) (for_first n at o) (step_for_declaration n o at) d rest ms tt h
 reads_for_start n at (expression e) o ms rest h =
     let k = h.second.token in
     let r = reads_optional e (n + 2) (for_first n at o) (as_first n at o) k (λ e. taken (n + 2) (for_second n at (expression e) o)) (omega arith)
@@ -312,29 +312,29 @@ step_declaration b t w e = ap (λ w. declaration_or_statement b t w) e
 pub step_static : (b : OpenBlock) (at : Pos) (t : Token) → IsKeyword key.Static at t → step (block_item b) t ≡ taken (block_nesting b) (after_static b at)
 step_static b at t e = rw (e.0, e.1)
 
-read_declared_then : (s : Option Pos) (d : DeclarationTree) (items : ItemTrees) → ItemsRead items → (b : OpenBlock) (q : State) →
-    ((t : Token) (w : SpecifierWord) → specifier_word t ≡ Some w → step q t ≡ taken (block_nesting b) (after_specifiers (in_a_block b s) (one (specifier_at t w)))) →
-    (ms : List Marked) (close : Token) (rest : List Token) → (declared d ⊙ block_items items) (block_nesting b) ms → close.kind ≡ kind.Punctuator mark.CloseBrace →
+read_declared_then : (s : Option Pos) (d : DeclarationTree) (items : ItemTrees) → ItemsRead items → (b : OpenBlock) (q : State) → TakesType q (in_a_block b s) →
+    (ms : List Marked) (close : Token) (rest : List Token) → HasName s d.declarators → (declared d ⊙ block_items items) (block_nesting b) ms → close.kind ≡ kind.Punctuator mark.CloseBrace →
     ReadsTo q ms close rest (end_block (filled b (declaration_then s d items)) close)
-read_declared_then s d items r b q takes ms close rest h e =
+read_declared_then s d items r b q takes ms close rest may h e =
     let g : block_items items (block_nesting (with_declaration b s d)) h.back = subst (λ n. block_items items n h.back) (sym (nesting_declaration b s d)) h.second in
     let k = r.reads (with_declaration b s d) (block_item (with_declaration b s d)) (λ t. refl) h.back close rest g e in
     record {
       state = k.state;
-      reads = reads_both h (reads_declared (in_a_block b s) q takes d (tokens_of h.back ++ close ∷ rest) h.front h.first) k.reads;
+      reads = reads_both h (reads_declared (in_a_block b s) q takes d (tokens_of h.back ++ close ∷ rest) h.front may h.first) k.reads;
       then = k.then;
     }
 
 read_declaration_then : (s : Option Pos) (d : DeclarationTree) (items : ItemTrees) → ItemsRead items → ItemsRead (declaration_then s d items)
 unfolding block_items
 read_declaration_then None d items r = record {
-  reads = λ b q same ms close rest h e. read_declared_then None d items r b q (λ t w f. same t ∙ step_declaration b t w f) ms close rest (alone h) e;
+  reads = λ b q same ms close rest h e. read_declared_then None d items r b q (λ t w f. same t ∙ step_declaration b t w f) ms close rest h.holds (alone h.is) e;
 }
 read_declaration_then (Some at) d items r = record {
   reads = λ b q same ms close rest h e.
-      let t = h.first.token in
-      let k = read_declared_then (Some at) d items r b (after_static b at) (λ t w f. ap (λ o. begin_static b at t o) f) h.back close rest h.second e in
-      record { state = k.state; reads = reads_head h (same t ∙ step_static b at t h.first.holds) k.reads; then = k.then };
+      let g = h.is in
+      let t = g.first.token in
+      let k = read_declared_then (Some at) d items r b (after_static b at) (λ t w f. ap (λ o. begin_static b at t o) f) g.back close rest h.holds g.second e in
+      record { state = k.state; reads = reads_head g (same t ∙ step_static b at t g.first.holds) k.reads; then = k.then };
 }
 
 step_item_statement : (b : OpenBlock) (t : Token) → BeginsStatement t.kind → step (block_item b) t ≡ step (at_statement (block_nesting b) (in_block b)) t

@@ -1,5 +1,5 @@
 -- Each declaration of the grammar is read.
-use Rattle.std.proofs.Common.{◌≡◌, ℕ, ◌+◌, ◌⊎◌, inl, inr, Option, Some, None, List, [], ◌∷◌, ◌++◌, refl, sym, ap, subst, ◌∙◌, arith, append_assoc, append-nil}
+use Rattle.std.proofs.Common.{◌≡◌, ℕ, ◌+◌, ◌⊎◌, inl, inr, Option, Some, None, false, List, [], ◌∷◌, ◌++◌, refl, sym, ap, subst, ◌∙◌, arith, append_assoc, append-nil}
 use Rattle.pk_ctypes.specs.declared.places.Pos.{Pos}
 use Rattle.pk_lex.specs.declared.token.Token.{Token}
 use Rattle.pk_lex.specs.declared.token.Kind.TheVariants as kind
@@ -7,19 +7,22 @@ use Rattle.pk_lex.specs.declared.token.Punctuator.TheVariants as mark
 use Rattle.pk_ast.specs.declared.declarations.Specifier.{Specifier}
 use Rattle.pk_ast.specs.declared.declarations.SpecifierWord.{SpecifierWord}
 use Rattle.pk_ast.specs.declared.expressions.Identifier.{Identifier}
-use Rattle.pk_ast.specs.Trees.{OneOrMore, ExpressionTree, ExpressionTrees, no_expressions, expression_then, InitializerTree, single, braced, DeclaratorTree, DeclarationTree}
+use Rattle.pk_ast.specs.Trees.{OneOrMore, ExpressionTree, ExpressionTrees, no_expressions, expression_then, InitializerTree, single, braced, DeclaratorTree, EnumerationTree, DeclarationTree}
 use Rattle.pk_ast.specs.Lists.{one, with_last, ended}
 use Rattle.pk_grammar.proofs.SpellsWords.{drop_last}
 use Rattle.pk_grammar.specs.declared.signs.Fixed.TheVariants as fixed
 use Rattle.pk_grammar.specs.Languages.{Marked, Optional, ◌⊙◌, identifier_of}
-use Rattle.pk_grammar.specs.Grammar.{AllFit, Fits, spelled, spelled_list, spelled_more, punctuator, array_length, initializer, declarator, declared, more_declarators}
+use Rattle.pk_grammar.specs.Grammar as grammar
+use Rattle.pk_grammar.specs.Grammar.{AllFit, Fits, spelled, spelled_list, spelled_more, punctuator, array_length, initializer, declarator, declarators, declared, more_declarators}
 use Rattle.pk_grammar.specs.Machine.Signs.{is_fixed, specifier_word}
-use Rattle.pk_grammar.specs.Machine.States.{Site, Declaring, Naming, as_length, as_value, as_item, as_whole, State, operand, complete, after_specifiers, after_name, after_length, after_assign, after_brace, after_item, after_initializer, after_comma, Declared}
-use Rattle.pk_grammar.specs.Machine.Steps.{taken, reduced, one_more, more_specifiers, specifier_at, site_nesting, naming_nesting, with_initializer, without_length, after_declarator, declared_at, step, first_item, more_items, with_declarator, goes_on_declaring, next_word}
+use Rattle.pk_grammar.specs.Machine.States.{Site, in_a_block, in_a_for, outside, in_declaration, Declaring, Naming, as_length, as_value, as_item, as_whole, State, operand, complete, after_specifiers, after_name, after_length, after_assign, after_brace, after_item, after_initializer, after_comma, after_braces, Declared}
+use Rattle.pk_grammar.specs.Machine.Steps.{taken, refused, reduced, one_more, more_specifiers, whole_declaration, end_alone, specifier_at, site_nesting, naming_nesting, with_initializer, without_length, after_declarator, declared_at, step, first_item, more_items, with_declarator, goes_on_declaring, next_word, alone}
+use Rattle.pk_grammar.proofs.WordLemmas.{no_name, ends_in_no_enum, opens_braces}
 use Rattle.pk_grammar.proofs.CompleteLists.{tokens_of, Reads, reads_both, reads_one, reads_none, reads_head, reads_sign, reads_last, regrouped, reads_join_none}
-use Rattle.pk_grammar.proofs.CompleteSigns.{Begins, sign_comma, sign_semicolon, sign_close_brace, sign_close_bracket}
+use Rattle.pk_grammar.proofs.CompleteSigns.{Begins, sign_comma, sign_semicolon, sign_close_bracket}
 use Rattle.pk_grammar.proofs.CompleteOperands.{Ends, IsAt, ends_at_sign, same_false}
-use Rattle.pk_grammar.proofs.CompleteExpressions.{from_operand, readable, joined, joined_all, ReadsTo, reads_specifiers}
+use Rattle.pk_grammar.proofs.CompleteExpressions.{from_operand, readable, joined, joined_all, ReadsTo, reads_words, reads_specifiers}
+use Rattle.pk_grammar.proofs.CompleteEnumerations.{EndsItem, item_ends, step_open_braces, step_alone, step_name_behind, reads_braces}
 
 -- Initializers
 
@@ -96,12 +99,6 @@ record ReadsItems (s : State) (ms : List Marked) (t : Token) (rest : List Token)
   reads : Reads s ms state (t ∷ rest)
   closes : t.kind ≡ kind.Punctuator mark.CloseBrace → step state t ≡ taken (naming_nesting d) (after_initializer (with_initializer d (Some (braced at e es))))
   goes_on : t.kind ≡ kind.Punctuator mark.Comma → step state t ≡ taken (naming_nesting d) (after_item d at e es)
-
-abbrev EndsItem : Token → Type 0
-EndsItem t = (t.kind ≡ kind.Punctuator mark.Comma) ⊎ (t.kind ≡ kind.Punctuator mark.CloseBrace)
-
-item_ends : (c : _) (t : Token) → EndsItem t → Ends 1 c t.kind
-item_ends c t h = elim h [ inl e ↦ ends_at_sign _ _ t sign_comma e (omega arith) | inr e ↦ ends_at_sign _ _ t sign_close_brace e (omega arith) ]
 
 step_items_close : (n : ℕ) (e : ExpressionTree) (d : Naming) (at : Pos) (es : ExpressionTrees) (t : Token) → t.kind ≡ kind.Punctuator mark.CloseBrace →
     step (complete n e (as_whole (as_item d at es))) t ≡ taken (naming_nesting d) (after_initializer (with_initializer d (Some (braced at (first_item es e) (more_items es e)))))
@@ -226,7 +223,7 @@ step_comma_declarator : (d : Declared) (t : Token) → t.kind ≡ kind.Punctuato
 step_comma_declarator d t e = rw e
 
 step_end_declaration : (d : Declared) (t : Token) → t.kind ≡ kind.Punctuator mark.Semicolon →
-    after_declarator d t ≡ taken (site_nesting d.site) (declared_at d.site (record { specifiers = d.specifiers; declarators = d.declarators }))
+    after_declarator d t ≡ taken (site_nesting d.site) (declared_at d.site (whole_declaration d))
 step_end_declaration d t e = rw e
 
 pub step_next_name : (d : Declaring) (t : Token) → t.kind ≡ kind.Name → step (after_comma d) t ≡ taken (site_nesting d.site) (after_name d (identifier_of t))
@@ -234,7 +231,7 @@ step_next_name d t e = rw e
 
 -- these declarators and those that come after them
 abbrev and_more : Declared → List DeclaratorTree → DeclarationTree
-and_more d more = record { specifiers = d.specifiers; declarators = record { first = d.declarators.first; more = d.declarators.more ++ more } }
+and_more d more = record { specifiers = d.specifiers; enumeration = d.enumeration; declarators = d.declarators.first ∷ (d.declarators.more ++ more) }
 
 abbrev Names : State → Declaring → Type 0
 Names s d = (t : Token) → t.kind ≡ kind.Name → step s t ≡ taken (site_nesting d.site) (after_name d (identifier_of t))
@@ -245,7 +242,7 @@ reads_declarators x [] d s names rest ts h =
     let g = drop_last h.first in
     let r = reads_declarator x d s names h.second.token rest (inr h.second.holds) h.front g in
     reads_last h.front h.cut h.second r.reads (r.then ∙ step_end_declaration (with_declarator d x) h.second.token h.second.holds
-    ∙ ap (λ more. taken (site_nesting d.site) (declared_at d.site (record { specifiers = d.specifiers; declarators = record { first = (ended d.declarators x).first; more = more } })))
+    ∙ ap (λ more. taken (site_nesting d.site) (declared_at d.site (record { specifiers = d.specifiers; enumeration = d.enumeration; declarators = (ended d.declarators x).first ∷ more })))
     (sym (append-nil (ended d.declarators x).more)))
 reads_declarators x (y ∷ more) d s names rest ts h =
     let f = regrouped {R = punctuator mark.Semicolon} h.front h.back h.cut h.first h.second in
@@ -254,22 +251,61 @@ reads_declarators x (y ∷ more) d s names rest ts h =
     let e = with_declarator d x in
     let k = goes_on_declaring e in
     reads_sign f.front f.cut g r.reads (r.then ∙ step_comma_declarator e g.first.token g.first.holds)
-    (subst (λ all. Reads (after_comma k) g.back (declared_at d.site (record { specifiers = d.specifiers; declarators = record { first = e.declarators.first; more = all } })) rest)
+    (subst (λ all. Reads (after_comma k) g.back (declared_at d.site (record { specifiers = d.specifiers; enumeration = d.enumeration; declarators = e.declarators.first ∷ all })) rest)
     (append_assoc e.declarators.more (y ∷ []) more)
     (reads_declarators y more k (after_comma k) (step_next_name k) rest g.back g.second))
 
 -- Declarations
 
-pub step_first_name : (s : Site) (specs : OneOrMore Specifier) (t : Token) → t.kind ≡ kind.Name →
-    step (after_specifiers s specs) t ≡ taken (site_nesting s) (after_name (record { site = s; specifiers = specs; declarators = [] }) (identifier_of t))
-step_first_name s specs t e = rw e
+pub step_first_name : (s : Site) (specs : OneOrMore Specifier) (t : Token) → next_word specs t ≡ None → t.kind ≡ kind.Name →
+    step (after_specifiers s specs) t ≡ taken (site_nesting s) (after_name (record { site = s; specifiers = specs; enumeration = None; declarators = [] }) (identifier_of t))
+step_first_name s specs t h e = ap (λ w. more_specifiers s specs t w) h ∙ rw e
+
+pub step_no_first_name : (s : Site) (specs : OneOrMore Specifier) (t : Token) → next_word specs t ≡ None → is_fixed fixed.OpenBrace t.kind ≡ false → is_fixed fixed.Name t.kind ≡ false →
+    step (after_specifiers s specs) t ≡ refused
+step_no_first_name s specs t h b n =
+    ap (λ w. more_specifiers s specs t w) h ∙ same_false (is_fixed fixed.OpenBrace t.kind) _ _ b ∙ same_false (is_fixed fixed.Name t.kind) _ _ n
 
 pub step_more_specifiers : (s : Site) (specs : OneOrMore Specifier) (t : Token) (w : SpecifierWord) → next_word specs t ≡ Some w →
     step (after_specifiers s specs) t ≡ taken (site_nesting s) (after_specifiers s (with_last specs (specifier_at t w)))
 step_more_specifiers s specs t w e = ap (λ w. more_specifiers s specs t w) e
 
-pub reads_declared : (site : Site) (s : State) → ((t : Token) (w : SpecifierWord) → specifier_word t ≡ Some w → step s t ≡ taken (site_nesting site) (after_specifiers site (one (specifier_at t w)))) →
-    (d : DeclarationTree) (rest : List Token) (ms : List Marked) → declared d (site_nesting site) ms → Reads s ms (declared_at site d) rest
-reads_declared site s takes d rest ms h =
-    reads_both h (reads_specifiers (after_specifiers site) (site_nesting site) (step_more_specifiers site) d.specifiers s takes h.first)
-    (reads_declarators d.declarators.first d.declarators.more (record { site = site; specifiers = d.specifiers; declarators = [] }) (after_specifiers site d.specifiers) (step_first_name site d.specifiers) rest h.back h.second)
+-- what is declared there may be nothing
+abbrev pub MayDeclare : Site → List DeclaratorTree → Type 0
+MayDeclare (in_a_block b s) ds = grammar.HasName s ds
+MayDeclare (in_a_for n at o) ds = Unit {0}
+MayDeclare (outside before s) ds = Unit {0}
+
+step_end_alone : (s : Site) (specs : OneOrMore Specifier) (e : EnumerationTree) → MayDeclare s [] → end_alone s specs e ≡ taken (site_nesting s) (declared_at s (alone specs e))
+step_end_alone (in_a_block b None) specs e h = refl
+step_end_alone (in_a_block b (Some at)) specs e h = absurd h
+step_end_alone (in_a_for n at o) specs e h = refl
+step_end_alone (outside before s) specs e h = refl
+
+-- a state that takes the first word of a declaration
+abbrev pub TakesType : State → Site → Type 0
+TakesType q s = (t : Token) (w : SpecifierWord) → specifier_word t ≡ Some w → step q t ≡ taken (site_nesting s) (after_specifiers s (one (specifier_at t w)))
+
+reads_declaration : (s : Site) (q : State) → TakesType q s → (specs : OneOrMore Specifier) (e : Option EnumerationTree) (ds : List DeclaratorTree) (rest : List Token) (ms : List Marked) → MayDeclare s ds →
+    declared (record { specifiers = specs; enumeration = e; declarators = ds }) (site_nesting s) ms →
+    Reads q ms (declared_at s (record { specifiers = specs; enumeration = e; declarators = ds })) rest
+reads_declaration s q takes specs None [] rest ms may h = absurd h.second.first.holds
+reads_declaration s q takes specs None (x ∷ more) rest ms may h =
+    reads_both h (reads_specifiers (after_specifiers s) (site_nesting s) (step_more_specifiers s) specs q takes h.first)
+    (reads_declarators x more (record { site = s; specifiers = specs; enumeration = None; declarators = [] }) (after_specifiers s specs)
+    (λ t k. step_first_name s specs t (no_name specs t (ends_in_no_enum specs h.first.holds) k) k) rest h.back h.second)
+reads_declaration s q takes specs (Some e) ds rest ms may h =
+    let b = h.first.is in
+    reads_both h (reads_both b (reads_words (after_specifiers s) (site_nesting s) (step_more_specifiers s) specs q takes (inr h.first.holds.0) b.first)
+    (reads_braces e (in_declaration s) specs (after_specifiers s specs) (λ t k. step_open_braces s specs t (opens_braces specs h.first.holds.0) k) h.first.holds.1 b.back (tokens_of h.back ++ rest) b.second))
+    (behind ds may h.second)
+  where
+    behind : (ds : List DeclaratorTree) → MayDeclare s ds → (declarators (Some e) ds ⊙ punctuator mark.Semicolon) (site_nesting s) h.back →
+        Reads (after_braces (in_declaration s) specs e) h.back (declared_at s (record { specifiers = specs; enumeration = Some e; declarators = ds })) rest
+    behind [] may g = reads_last [] (g.cut ∙ ap (λ f. f ++ g.back) g.first.is) g.second (reads_none refl) (step_alone s specs e g.second.token g.second.holds ∙ step_end_alone s specs e may)
+    behind (x ∷ more) may g =
+        reads_declarators x more (record { site = s; specifiers = specs; enumeration = Some e; declarators = [] }) (after_braces (in_declaration s) specs e) (step_name_behind s specs e) rest h.back g
+
+pub reads_declared : (site : Site) (s : State) → TakesType s site → (d : DeclarationTree) (rest : List Token) (ms : List Marked) → MayDeclare site d.declarators →
+    declared d (site_nesting site) ms → Reads s ms (declared_at site d) rest
+reads_declared site s takes d rest ms may h = reads_declaration site s takes d.specifiers d.enumeration d.declarators rest ms may h

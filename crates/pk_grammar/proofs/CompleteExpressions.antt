@@ -1,5 +1,5 @@
 -- Each expression of the grammar is read, up to any token that it ends at.
-use Rattle.std.proofs.Common.{◌≡◌, ◌≢◌, ℕ, ◌+◌, ◌≤◌, Some, List, [], ◌∷◌, ◌++◌, refl, sym, ap, subst, ◌∙◌, arith, append_assoc, append-nil}
+use Rattle.std.proofs.Common.{◌≡◌, ◌≢◌, ℕ, ◌+◌, ◌≤◌, inl, Some, List, [], ◌∷◌, ◌++◌, refl, sym, ap, subst, ◌∙◌, arith, append_assoc, append-nil}
 use Rattle.pk_ctypes.specs.declared.places.Pos.{Pos}
 use Rattle.pk_lex.specs.declared.token.Token.{Token}
 use Rattle.pk_lex.specs.declared.token.Kind.{Kind}
@@ -16,16 +16,17 @@ use Rattle.pk_ast.specs.Trees.{OneOrMore, ExpressionTree, name, call, index, con
 use Rattle.pk_ast.specs.Lists.{one, with_last}
 use Rattle.pk_grammar.specs.declared.signs.OperandStart.{OperandStart}
 use Rattle.pk_grammar.specs.declared.signs.OperandStart.TheVariants as start
+use Rattle.pk_grammar.specs.declared.signs.Shape.TheVariants as shape
 use Rattle.pk_grammar.specs.Languages.{Marked, One, Identified, ◌⊙◌}
-use Rattle.pk_grammar.specs.Grammar.{unary_sign, step_sign, strength, Fits, AllFit, operators_in, commas_in, spelled, spelled_list, spelled_more, specifiers, punctuator, specifier_list, GoTogether}
-use Rattle.pk_grammar.specs.Machine.Signs.{operand_start, operator_of, specifier_word}
+use Rattle.pk_grammar.specs.Grammar.{unary_sign, step_sign, strength, Fits, AllFit, operators_in, commas_in, spelled, spelled_list, spelled_more, all_of, words, specifiers, punctuator, specifier_list}
+use Rattle.pk_grammar.specs.Machine.Signs.{operand_start, operator_of, specifier_word, shape_of}
 use Rattle.pk_grammar.specs.Machine.States.{Context, in_parentheses, in_index, in_call, in_prefix, in_unary, in_cast, in_binary, in_choice, in_alternative, in_assignment, in_comma, State, operand, named, opened, cast_specifiers, complete}
 use Rattle.pk_grammar.specs.Machine.Steps.{Verdict, taken, operand_level, one_more, specifier_at, step, next_word}
 use Rattle.pk_grammar.proofs.CompleteLists.{tokens_of, Reads, reads_both, reads_one, reads_none, reads_from, reads_to, reads_head, reads_sign, reads_last, regrouped, reads_join_none}
-use Rattle.pk_grammar.proofs.CompleteSigns.{takes, strength_most, takes_no_unary, sign_binary, sign_step, sign_assignment, sign_close, sign_close_bracket, sign_comma, sign_question, unary_start, step_start, word_is, Begins, begins}
+use Rattle.pk_grammar.proofs.CompleteSigns.{takes, strength_most, takes_no_unary, sign_binary, sign_step, sign_assignment, sign_close, sign_close_bracket, sign_comma, sign_question, unary_start, step_start, Begins, begins}
 use Rattle.pk_grammar.proofs.CompleteReduced.{reduced_prefix, reduced_unary, reduced_cast, reduced_binary, reduced_alternative, reduced_assignment, reduced_comma, complete_same}
 use Rattle.pk_grammar.proofs.CompleteOperands.{Ends, ends_at_sign, ends_at_colon, step_name, step_constant, step_character, step_open, step_prefix, step_unary, step_named, step_call, step_index, step_no_arguments, step_arguments, step_opened, step_cast, step_more_cast, step_cast_end, step_binary, step_postfix, step_question, step_colon, step_assignment, step_comma, step_parenthesized, step_indexed, step_called, step_argument}
-use Rattle.pk_grammar.proofs.WordLemmas.{follows_in, next_is}
+use Rattle.pk_grammar.proofs.WordLemmas.{Continues, continues_on, shape_with_last, next_is, first_is, ends_in_no_enum}
 
 -- The first token of an expression
 
@@ -251,24 +252,29 @@ module _ (f : OneOrMore Specifier → State) (k : ℕ) (grows : (done : OneOrMor
   abbrev and_all : OneOrMore Specifier → List Specifier → OneOrMore Specifier
   and_all done more = record { first = done.first; more = done.more ++ more }
 
-  reads_more : (more : List Specifier) (done : OneOrMore Specifier) {ms : List Marked} {rest : List Token} → GoTogether (done.first ∷ (done.more ++ more)) → specifier_list more k ms →
+  reads_more : (more : List Specifier) (done : OneOrMore Specifier) {ms : List Marked} {rest : List Token} → Continues (shape_of (all_of done)) more → specifier_list more k ms →
       Reads (f done) ms (f (and_all done more)) rest
   reads_more [] done {ms} {rest} g h =
       subst (λ all. Reads (f done) ms (f (record { first = done.first; more = all })) rest) (sym (append-nil done.more)) (reads_none h)
   reads_more (r ∷ more) done {ms} {rest} g h =
-      reads_head h (grows done h.first.token r.word (next_is done h.first.token r.word (word_is r.word h.first.token h.first.holds.0) (follows_in (done.first ∷ done.more) r more g))
+      let on = continues_on (shape_of (all_of done)) r more g in
+      reads_head h (grows done h.first.token r.word (next_is done h.first.token r.word h.first.holds.0 on.0)
       ∙ ap (λ p. taken k (f (with_last done (record { word = r.word; at = p })))) h.first.holds.1)
       (subst (λ all. Reads (f (with_last done r)) h.back (f (record { first = done.first; more = all })) rest) (append_assoc done.more (r ∷ []) more)
-      (reads_more more (with_last done r) (subst (λ q. GoTogether (done.first ∷ q)) (sym (append_assoc done.more (r ∷ []) more)) g) h.second))
+      (reads_more more (with_last done r) (subst (λ s. Continues s more) (sym (shape_with_last done r)) on.1) h.second))
 
   -- from a state that takes a first word
+  pub reads_words : (specs : OneOrMore Specifier) (s : State) → ((t : Token) (w : SpecifierWord) → specifier_word t ≡ Some w → step s t ≡ taken k (f (one (specifier_at t w)))) →
+      {ms : List Marked} {rest : List Token} → Continues shape.Consts (all_of specs) → words specs k ms → Reads s ms (f specs) rest
+  reads_words specs s takes c g =
+      let r = specs.first in
+      let on = continues_on shape.Consts r specs.more c in
+      reads_head g (takes g.first.token r.word (first_is r.word g.first.token g.first.holds.0 on.0) ∙ ap (λ p. taken k (f (one (record { word = r.word; at = p })))) g.first.holds.1)
+      (reads_more specs.more (one r) on.1 g.second)
+
   pub reads_specifiers : (specs : OneOrMore Specifier) (s : State) → ((t : Token) (w : SpecifierWord) → specifier_word t ≡ Some w → step s t ≡ taken k (f (one (specifier_at t w)))) →
       {ms : List Marked} {rest : List Token} → specifiers specs k ms → Reads s ms (f specs) rest
-  reads_specifiers specs s takes h =
-      let r = specs.first in
-      let g = h.is in
-      reads_head g (takes g.first.token r.word (word_is r.word g.first.token g.first.holds.0) ∙ ap (λ p. taken k (f (one (record { word = r.word; at = p })))) g.first.holds.1)
-      (reads_more specs.more (one r) h.holds g.second)
+  reads_specifiers specs s takes h = reads_words specs s takes (inl h.holds) h.is
 
 readable_cast : (at : Pos) (specs : OneOrMore Specifier) (e : ExpressionTree) → Readable e → Readable (cast at specs e)
 unfolding spelled
@@ -280,7 +286,7 @@ readable_cast at specs e r = record {
       (reads_both h.second
       (reads_specifiers (λ specs. cast_specifiers n at specs c) (n + 1) (λ done t w. step_more_cast n at done c t w) specs (opened n at c)
       (λ t w. step_cast n at c t w (omega (arith, f.0))) h.second.first)
-      (reads_head g (step_cast_end n at specs c g.first.token g.first.holds)
+      (reads_head g (step_cast_end n at specs c g.first.token (ends_in_no_enum specs h.second.first.holds) g.first.holds)
       (reads_to t rest
       (r.reads 13 (n + 1) g.back (in_cast n at specs c) t rest f.1 g.second (omega arith)
       (weaker (in_cast n at specs c) ends (omega (arith, f.0))))

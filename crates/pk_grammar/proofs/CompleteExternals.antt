@@ -1,5 +1,5 @@
 -- Each text of the grammar is read.
-use Rattle.std.proofs.Common.{◌≡◌, ◌≢◌, inl, inr, Option, Some, None, false, List, [], ◌∷◌, ◌++◌, refl, sym, ap, subst, ◌∙◌, append_assoc, append-nil}
+use Rattle.std.proofs.Common.{◌≡◌, ◌≢◌, inl, inr, Option, Some, None, false, true, List, [], ◌∷◌, ◌++◌, refl, sym, ap, subst, ◌∙◌, append_assoc, append-nil}
 use Rattle.pk_ctypes.specs.declared.places.Pos.{Pos}
 use Rattle.pk_lex.specs.declared.token.Token.{Token}
 use Rattle.pk_lex.specs.declared.token.Kind.TheVariants as kind
@@ -10,25 +10,24 @@ use Rattle.pk_ast.specs.declared.declarations.SpecifierWord.{SpecifierWord}
 use Rattle.pk_ast.specs.declared.declarations.SpecifierWord.TheVariants as word
 use Rattle.pk_ast.specs.declared.expressions.Identifier.{Identifier}
 use Rattle.pk_ast.specs.declared.units.Storage.{Storage}
-use Rattle.pk_ast.specs.Trees.{OneOrMore, no_items, BlockTree, ParameterTree, FunctionTree, TypedefTree, ExternalTree, function, objects, type_names}
+use Rattle.pk_ast.specs.Trees.{OneOrMore, no_items, EnumerationTree, BlockTree, ParameterTree, FunctionTree, TypedefTree, ExternalTree, function, objects, type_names}
 use Rattle.pk_ast.specs.Lists.{one, with_last}
 use Rattle.pk_grammar.specs.declared.signs.Fixed.TheVariants as fixed
 use Rattle.pk_grammar.specs.Languages.{Marked, ◌⊙◌, identifier_of}
-use Rattle.pk_grammar.specs.Grammar.{stored, optional_name, parameter, IsVoidAlone, more_parameters, parameters, function_end, statement, more_names, external, externals}
+use Rattle.pk_grammar.specs.Grammar.{stored, optional_name, parameter, IsVoidAlone, more_parameters, parameters, function_end, statement, more_names, type_words, external, externals}
 use Rattle.pk_grammar.specs.Machine.Signs.{is_fixed, specifier_word, storage_word, is_void_word, specifier_in}
-use Rattle.pk_grammar.specs.Machine.States.{Head, function_block, Site, outside, State, top, after_storage, after_typedef, type_specifiers, after_type_name, type_name_comma, after_specifiers, after_name, parameters_open, parameter_specifiers, parameter_name, parameter_comma, parameters_closed, block_item}
-use Rattle.pk_grammar.specs.Machine.Steps.{taken, step, read, ends, specifier_at, storage_or_specifier, begin_external, begin_typedef, more_typedef, begin_parameter, more_parameter, is_void_alone, last_parameter, end_block, next_word}
+use Rattle.pk_grammar.specs.Machine.States.{Head, function_block, outside, in_typedef, State, top, after_storage, after_typedef, type_specifiers, after_type_name, type_name_comma, after_braces, after_specifiers, after_name, parameters_open, parameter_specifiers, parameter_name, parameter_comma, parameters_closed, block_item}
+use Rattle.pk_grammar.specs.Machine.Steps.{taken, refused, step, read, ends, specifier_at, storage_or_specifier, begin_external, begin_typedef, more_typedef, begin_parameter, more_parameter, is_void_alone, last_parameter, end_block, next_word, end_in_enum}
+use Rattle.pk_grammar.proofs.WordLemmas.{no_sign, no_name, ends_in_no_enum, opens_braces}
 use Rattle.pk_grammar.proofs.CompleteLists.{tokens_of, nestings_of, before, Reads, reads_both, reads_one, reads_none, reads_head, reads_sign, reads_last, reads_join_none}
 use Rattle.pk_grammar.proofs.CompleteSigns.{storage_is, specifier_alone}
-use Rattle.pk_grammar.proofs.CompleteOperands.{IsAt, same_false}
-use Rattle.pk_grammar.proofs.CompleteExpressions.{ReadsTo, reads_specifiers}
-use Rattle.pk_grammar.proofs.CompleteDeclarations.{step_first_name, step_more_specifiers, reads_declared}
+use Rattle.pk_grammar.proofs.CompleteOperands.{IsAt, same_false, same_true}
+use Rattle.pk_grammar.proofs.CompleteExpressions.{ReadsTo, reads_words, reads_specifiers}
+use Rattle.pk_grammar.proofs.CompleteEnumerations.{step_open_type_braces, step_type_behind, reads_braces}
+use Rattle.pk_grammar.proofs.CompleteDeclarations.{step_first_name, step_more_specifiers, TakesType, reads_declared}
 use Rattle.pk_grammar.proofs.CompleteBodies.{items_read, filled_function}
 
 -- What a definition begins with
-
-abbrev TakesType : State → Site → Type 0
-TakesType q s = (t : Token) (w : SpecifierWord) → specifier_word t ≡ Some w → step q t ≡ taken 0 (after_specifiers s (one (specifier_at t w)))
 
 record ReadsStorage (done : List ExternalTree) (s : Option Storage) (ms : List Marked) (rest : List Token) : Type 0 where
   state : State
@@ -87,21 +86,27 @@ last_is : (ps : List ParameterTree) (specs : OneOrMore Specifier) → ¬ IsNone 
 last_is [] specs h = rw (no_void_alone specs.first specs.more (λ v. h (refl, v)))
 last_is (p ∷ ps) specs h = refl
 
-step_more_parameter : (h : Head) (ps : List ParameterTree) (specs : OneOrMore Specifier) (t : Token) (w : SpecifierWord) → next_word specs t ≡ Some w →
+pub step_more_parameter : (h : Head) (ps : List ParameterTree) (specs : OneOrMore Specifier) (t : Token) (w : SpecifierWord) → next_word specs t ≡ Some w →
     step (parameter_specifiers h ps specs) t ≡ taken 1 (parameter_specifiers h ps (with_last specs (specifier_at t w)))
 step_more_parameter h ps specs t w e = ap (λ w. more_parameter h ps specs t w) e
 
-step_parameter_name : (h : Head) (ps : List ParameterTree) (specs : OneOrMore Specifier) (id : Identifier) (t : Token) → (t.kind ≡ kind.Name) × (identifier_of t ≡ id) →
+step_parameter_name : (h : Head) (ps : List ParameterTree) (specs : OneOrMore Specifier) (id : Identifier) (t : Token) → end_in_enum specs ≡ false → (t.kind ≡ kind.Name) × (identifier_of t ≡ id) →
     step (parameter_specifiers h ps specs) t ≡ taken 1 (parameter_name h ps (with_name specs (Some id)))
-step_parameter_name h ps specs id t e = rw e.0 (ap (λ i. taken 1 (parameter_name h ps (with_name specs (Some i)))) e.1)
+step_parameter_name h ps specs id t f e =
+    ap (λ w. more_parameter h ps specs t w) (no_name specs t f e.0) ∙ same_false (end_in_enum specs) _ _ f ∙ rw e.0 (ap (λ i. taken 1 (parameter_name h ps (with_name specs (Some i)))) e.1)
 
-step_unnamed_comma : (h : Head) (ps : List ParameterTree) (specs : OneOrMore Specifier) (t : Token) → t.kind ≡ kind.Punctuator mark.Comma →
+step_unnamed_comma : (h : Head) (ps : List ParameterTree) (specs : OneOrMore Specifier) (t : Token) → end_in_enum specs ≡ false → t.kind ≡ kind.Punctuator mark.Comma →
     step (parameter_specifiers h ps specs) t ≡ taken 1 (parameter_comma h (ps ++ with_name specs None ∷ []))
-step_unnamed_comma h ps specs t e = rw e
+step_unnamed_comma h ps specs t f e = ap (λ w. more_parameter h ps specs t w) (no_sign specs t mark.Comma e) ∙ same_false (end_in_enum specs) _ _ f ∙ rw e
 
-step_unnamed_close : (h : Head) (ps : List ParameterTree) (specs : OneOrMore Specifier) (t : Token) → t.kind ≡ kind.Punctuator mark.CloseParenthesis →
+pub step_unnamed_close : (h : Head) (ps : List ParameterTree) (specs : OneOrMore Specifier) (t : Token) → end_in_enum specs ≡ false → t.kind ≡ kind.Punctuator mark.CloseParenthesis →
     step (parameter_specifiers h ps specs) t ≡ taken 0 (parameters_closed h (last_parameter ps specs))
-step_unnamed_close h ps specs t e = rw e
+step_unnamed_close h ps specs t f e = ap (λ w. more_parameter h ps specs t w) (no_sign specs t mark.CloseParenthesis e) ∙ same_false (end_in_enum specs) _ _ f ∙ rw e
+
+-- a tag has to stand behind `enum`
+pub step_no_parameter : (h : Head) (ps : List ParameterTree) (specs : OneOrMore Specifier) (t : Token) → next_word specs t ≡ None → end_in_enum specs ≡ true →
+    step (parameter_specifiers h ps specs) t ≡ refused
+step_no_parameter h ps specs t e f = ap (λ w. more_parameter h ps specs t w) e ∙ same_true (end_in_enum specs) _ _ f
 
 step_named_comma : (h : Head) (ps : List ParameterTree) (p : ParameterTree) (t : Token) → t.kind ≡ kind.Punctuator mark.Comma → step (parameter_name h ps p) t ≡ taken 1 (parameter_comma h (ps ++ p ∷ []))
 step_named_comma h ps p t e = rw e
@@ -110,17 +115,17 @@ step_named_close : (h : Head) (ps : List ParameterTree) (p : ParameterTree) (t :
     step (parameter_name h ps p) t ≡ taken 0 (parameters_closed h (ps ++ p ∷ []))
 step_named_close h ps p t e = rw e
 
-reads_name : (h : Head) (ps : List ParameterTree) (specs : OneOrMore Specifier) (n : Option Identifier) (ms : List Marked) (rest : List Token) → optional_name n 1 ms →
+reads_name : (h : Head) (ps : List ParameterTree) (specs : OneOrMore Specifier) (n : Option Identifier) (ms : List Marked) (rest : List Token) → end_in_enum specs ≡ false → optional_name n 1 ms →
     ReadsParameter (parameter_specifiers h ps specs) h ps (with_name specs n) ms rest
-reads_name h ps specs None ms rest is = record {
+reads_name h ps specs None ms rest whole is = record {
   state = parameter_specifiers h ps specs;
   reads = reads_none is;
-  comma = step_unnamed_comma h ps specs;
-  close = λ t e f. step_unnamed_close h ps specs t e ∙ ap (λ ps. taken 0 (parameters_closed h ps)) (last_is ps specs f);
+  comma = λ t e. step_unnamed_comma h ps specs t whole e;
+  close = λ t e f. step_unnamed_close h ps specs t whole e ∙ ap (λ ps. taken 0 (parameters_closed h ps)) (last_is ps specs f);
 }
-reads_name h ps specs (Some id) ms rest is = record {
+reads_name h ps specs (Some id) ms rest whole is = record {
   state = parameter_name h ps (with_name specs (Some id));
-  reads = reads_one is (step_parameter_name h ps specs id is.token is.holds);
+  reads = reads_one is (step_parameter_name h ps specs id is.token whole is.holds);
   comma = step_named_comma h ps (with_name specs (Some id));
   close = λ t e f. step_named_close h ps (with_name specs (Some id)) t e;
 }
@@ -128,7 +133,7 @@ reads_name h ps specs (Some id) ms rest is = record {
 reads_parameter : (q : State) (h : Head) (ps : List ParameterTree) (p : ParameterTree) (ms : List Marked) (rest : List Token) → TakesParameter q h ps → parameter p 1 ms →
     ReadsParameter q h ps p ms rest
 reads_parameter q h ps p ms rest takes is =
-    let n = reads_name h ps p.specifiers p.name is.back rest is.second in
+    let n = reads_name h ps p.specifiers p.name is.back rest (ends_in_no_enum p.specifiers is.first.holds) is.second in
     record {
       state = n.state;
       reads = reads_both is (reads_specifiers (parameter_specifiers h ps) 1 (step_more_parameter h ps) p.specifiers q takes is.first) n.reads;
@@ -184,7 +189,7 @@ reads_all_parameters (p ∷ q ∷ more) h ms t rest is close =
 -- Functions
 
 step_function : (done : List ExternalTree) (s : Option Storage) (specs : OneOrMore Specifier) (id : Identifier) (t : Token) → t.kind ≡ kind.Punctuator mark.OpenParenthesis →
-    step (after_name (record { site = outside done s; specifiers = specs; declarators = [] }) id) t ≡ taken 1 (parameters_open (record { before = done; storage = s; specifiers = specs; name = id }))
+    step (after_name (record { site = outside done s; specifiers = specs; enumeration = None; declarators = [] }) id) t ≡ taken 1 (parameters_open (record { before = done; storage = s; specifiers = specs; name = id }))
 step_function done s specs id t e = rw e
 
 abbrev whole : Head → List ParameterTree → Option BlockTree → ExternalTree
@@ -219,8 +224,8 @@ reads_function f done ms rest h =
     let p = reads_all_parameters f.parameters head c.first.back d.first.token (tokens_of d.back ++ rest) c.first.second d.first.holds in
     reads_both h s.reads
     (reads_both a (reads_specifiers (after_specifiers (outside done f.storage)) 0 (step_more_specifiers (outside done f.storage)) f.specifiers s.state s.takes a.first)
-    (reads_both b (reads_one b.first (step_first_name (outside done f.storage) f.specifiers b.first.token b.first.holds.0
-    ∙ ap (λ id. taken 0 (after_name (record { site = outside done f.storage; specifiers = f.specifiers; declarators = [] }) id)) b.first.holds.1))
+    (reads_both b (reads_one b.first (step_first_name (outside done f.storage) f.specifiers b.first.token (no_name f.specifiers b.first.token (ends_in_no_enum f.specifiers a.first.holds) b.first.holds.0) b.first.holds.0
+    ∙ ap (λ id. taken 0 (after_name (record { site = outside done f.storage; specifiers = f.specifiers; enumeration = None; declarators = [] }) id)) b.first.holds.1))
     (reads_sign c.front c.cut d
     (reads_head c.first (step_function done f.storage f.specifiers f.name c.first.first.token c.first.first.holds) p.reads)
     p.then
@@ -235,43 +240,73 @@ pub step_more_type : (done : List ExternalTree) (specs : OneOrMore Specifier) (t
     step (type_specifiers done specs) t ≡ taken 0 (type_specifiers done (with_last specs (specifier_at t w)))
 step_more_type done specs t w e = ap (λ o. more_typedef done specs t o) e
 
-pub step_first_type : (done : List ExternalTree) (specs : OneOrMore Specifier) (id : Identifier) (t : Token) → (t.kind ≡ kind.Name) × (identifier_of t ≡ id) →
-    step (type_specifiers done specs) t ≡ taken 0 (after_type_name done specs (one id))
-step_first_type done specs id t e = rw e.0 (ap (λ i. taken 0 (after_type_name done specs (one i))) e.1)
+pub step_first_type : (done : List ExternalTree) (specs : OneOrMore Specifier) (id : Identifier) (t : Token) → next_word specs t ≡ None → (t.kind ≡ kind.Name) × (identifier_of t ≡ id) →
+    step (type_specifiers done specs) t ≡ taken 0 (after_type_name done specs None (one id))
+step_first_type done specs id t h e = ap (λ o. more_typedef done specs t o) h ∙ rw e.0 (ap (λ i. taken 0 (after_type_name done specs None (one i))) e.1)
 
-pub step_type_comma : (done : List ExternalTree) (specs : OneOrMore Specifier) (ids : OneOrMore Identifier) (t : Token) → t.kind ≡ kind.Punctuator mark.Comma →
-    step (after_type_name done specs ids) t ≡ taken 0 (type_name_comma done specs ids)
-step_type_comma done specs ids t e = rw e
+pub step_no_first_type : (done : List ExternalTree) (specs : OneOrMore Specifier) (t : Token) → next_word specs t ≡ None → is_fixed fixed.OpenBrace t.kind ≡ false → is_fixed fixed.Name t.kind ≡ false →
+    step (type_specifiers done specs) t ≡ refused
+step_no_first_type done specs t h b n =
+    ap (λ o. more_typedef done specs t o) h ∙ same_false (is_fixed fixed.OpenBrace t.kind) _ _ b ∙ same_false (is_fixed fixed.Name t.kind) _ _ n
 
-pub step_next_type : (done : List ExternalTree) (specs : OneOrMore Specifier) (ids : OneOrMore Identifier) (id : Identifier) (t : Token) → (t.kind ≡ kind.Name) × (identifier_of t ≡ id) →
-    step (type_name_comma done specs ids) t ≡ taken 0 (after_type_name done specs (with_last ids id))
-step_next_type done specs ids id t e = rw e.0 (ap (λ i. taken 0 (after_type_name done specs (with_last ids i))) e.1)
+module _ (done : List ExternalTree) (specs : OneOrMore Specifier) (e : Option EnumerationTree) (ids : OneOrMore Identifier) where
+  pub step_type_comma : (t : Token) → t.kind ≡ kind.Punctuator mark.Comma → step (after_type_name done specs e ids) t ≡ taken 0 (type_name_comma done specs e ids)
+  step_type_comma t is = rw is
 
-pub step_last_type : (done : List ExternalTree) (specs : OneOrMore Specifier) (ids : OneOrMore Identifier) (t : Token) → t.kind ≡ kind.Punctuator mark.Semicolon →
-    step (after_type_name done specs ids) t ≡ taken 0 (top (done ++ type_names (record { specifiers = specs; names = ids }) ∷ []))
-step_last_type done specs ids t e = rw e
+  pub step_next_type : (id : Identifier) (t : Token) → (t.kind ≡ kind.Name) × (identifier_of t ≡ id) → step (type_name_comma done specs e ids) t ≡ taken 0 (after_type_name done specs e (with_last ids id))
+  step_next_type id t is = rw is.0 (ap (λ i. taken 0 (after_type_name done specs e (with_last ids i))) is.1)
 
-reads_more_names : (more : List Identifier) (done : List ExternalTree) (specs : OneOrMore Specifier) (ids : OneOrMore Identifier) (ms : List Marked) (rest : List Token) → more_names more 0 ms →
-    Reads (after_type_name done specs ids) ms (after_type_name done specs (record { first = ids.first; more = ids.more ++ more })) rest
-reads_more_names [] done specs ids ms rest h =
-    subst (λ q. Reads (after_type_name done specs ids) ms (after_type_name done specs (record { first = ids.first; more = q })) rest) (sym (append-nil ids.more)) (reads_none h)
-reads_more_names (id ∷ more) done specs ids ms rest h =
+  pub step_last_type : (t : Token) → t.kind ≡ kind.Punctuator mark.Semicolon →
+      step (after_type_name done specs e ids) t ≡ taken 0 (top (done ++ type_names (record { specifiers = specs; enumeration = e; names = ids }) ∷ []))
+  step_last_type t is = rw is
+
+reads_more_names : (more : List Identifier) (done : List ExternalTree) (specs : OneOrMore Specifier) (e : Option EnumerationTree) (ids : OneOrMore Identifier) (ms : List Marked) (rest : List Token) → more_names more 0 ms →
+    Reads (after_type_name done specs e ids) ms (after_type_name done specs e (record { first = ids.first; more = ids.more ++ more })) rest
+reads_more_names [] done specs e ids ms rest h =
+    subst (λ q. Reads (after_type_name done specs e ids) ms (after_type_name done specs e (record { first = ids.first; more = q })) rest) (sym (append-nil ids.more)) (reads_none h)
+reads_more_names (id ∷ more) done specs e ids ms rest h =
     let g = h.second in
-    reads_head h (step_type_comma done specs ids h.first.token h.first.holds)
-    (reads_head g (step_next_type done specs ids id g.first.token g.first.holds)
-    (subst (λ q. Reads (after_type_name done specs (with_last ids id)) g.back (after_type_name done specs (record { first = ids.first; more = q })) rest) (append_assoc ids.more (id ∷ []) more)
-    (reads_more_names more done specs (with_last ids id) g.back rest g.second)))
+    reads_head h (step_type_comma done specs e ids h.first.token h.first.holds)
+    (reads_head g (step_next_type done specs e ids id g.first.token g.first.holds)
+    (subst (λ q. Reads (after_type_name done specs e (with_last ids id)) g.back (after_type_name done specs e (record { first = ids.first; more = q })) rest) (append_assoc ids.more (id ∷ []) more)
+    (reads_more_names more done specs e (with_last ids id) g.back rest g.second)))
+
+-- a state behind the type that names are declared to be
+record NamesType (q : State) (done : List ExternalTree) (specs : OneOrMore Specifier) (e : Option EnumerationTree) : Type 0 where
+  first : (t : Token) → t.kind ≡ kind.Name → step q t ≡ taken 0 (after_type_name done specs e (one (identifier_of t)))
+
+record ReadsType (done : List ExternalTree) (specs : OneOrMore Specifier) (e : Option EnumerationTree) (ms : List Marked) (rest : List Token) : Type 0 where
+  state : State
+  reads : Reads (after_typedef done) ms state rest
+  names : NamesType state done specs e
+
+reads_type : (done : List ExternalTree) (specs : OneOrMore Specifier) (e : Option EnumerationTree) (ms : List Marked) (rest : List Token) → type_words specs e 0 ms → ReadsType done specs e ms rest
+reads_type done specs None ms rest h = record {
+  state = type_specifiers done specs;
+  reads = reads_specifiers (type_specifiers done) 0 (step_more_type done) specs (after_typedef done) (λ t w f. ap (λ o. begin_typedef done t o) f) h;
+  names = record { first = λ t k. step_first_type done specs (identifier_of t) t (no_name specs t (ends_in_no_enum specs h.holds) k) (k, refl) };
+}
+reads_type done specs (Some e) ms rest h =
+    let b = h.is in
+    record {
+      state = after_braces (in_typedef done) specs e;
+      reads = reads_both b
+          (reads_words (type_specifiers done) 0 (step_more_type done) specs (after_typedef done) (λ t w f. ap (λ o. begin_typedef done t o) f) (inr h.holds.0) b.first)
+          (reads_braces e (in_typedef done) specs (type_specifiers done specs) (λ t k. step_open_type_braces done specs t (opens_braces specs h.holds.0) k) h.holds.1 b.back rest b.second);
+      names = record { first = step_type_behind done specs e };
+    }
 
 reads_type_names : (d : TypedefTree) (done : List ExternalTree) (ms : List Marked) (rest : List Token) → external (type_names d) 0 ms → Reads (top done) ms (top (done ++ type_names d ∷ [])) rest
 reads_type_names d done ms rest h =
     let a = h.second in
     let b = a.second in
     let c = b.first in
+    let r = reads_type done d.specifiers d.enumeration a.front (tokens_of a.back ++ rest) a.first in
     reads_head h (step_typedef done h.first.token h.first.holds)
-    (reads_both a (reads_specifiers (type_specifiers done) 0 (step_more_type done) d.specifiers (after_typedef done) (λ t w e. ap (λ o. begin_typedef done t o) e) a.first)
-    (reads_both b (reads_head c (step_first_type done d.specifiers d.names.first c.first.token c.first.holds)
-    (reads_more_names d.names.more done d.specifiers (one d.names.first) c.back (tokens_of b.back ++ rest) c.second))
-    (reads_one b.second (step_last_type done d.specifiers d.names b.second.token b.second.holds))))
+    (reads_both a r.reads
+    (reads_both b (reads_head c (r.names.first c.first.token c.first.holds.0 ∙ ap (λ id. taken 0 (after_type_name done d.specifiers d.enumeration (one id))) c.first.holds.1)
+    (reads_more_names d.names.more done d.specifiers d.enumeration (one d.names.first) c.back (tokens_of b.back ++ rest) c.second))
+    (reads_one b.second (step_last_type done d.specifiers d.enumeration d.names b.second.token b.second.holds))))
 
 -- External definitions
 
@@ -279,7 +314,7 @@ reads_external : (x : ExternalTree) (done : List ExternalTree) (ms : List Marked
 reads_external (function f) done ms rest h = reads_function f done ms rest h
 reads_external (objects s d) done ms rest h =
     let r = reads_stored done s h.front (tokens_of h.back ++ rest) h.first in
-    reads_both h r.reads (reads_declared (outside done s) r.state r.takes d rest h.back h.second)
+    reads_both h r.reads (reads_declared (outside done s) r.state r.takes d rest h.back tt h.second)
 reads_external (type_names d) done ms rest h = reads_type_names d done ms rest h
 
 reads_externals : (u done : List ExternalTree) (ms : List Marked) (rest : List Token) → externals u 0 ms → Reads (top done) ms (top (done ++ u)) rest

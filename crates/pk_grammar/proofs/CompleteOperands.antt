@@ -1,5 +1,5 @@
 -- What the parser does at each token of an expression.
-use Rattle.std.proofs.Common.{◌≡◌, ℕ, ◌+◌, ◌≤◌, ◌⊎◌, inl, inr, Some, Bool, true, false, if◌then◌else◌, refl, sym, ap, subst, ◌∙◌, arith, le-leb}
+use Rattle.std.proofs.Common.{◌≡◌, ℕ, ◌+◌, ◌≤◌, ◌⊎◌, inl, inr, Some, None, Bool, true, false, if◌then◌else◌, refl, sym, ap, subst, ◌∙◌, arith, le-leb}
 use Rattle.pk_ctypes.specs.declared.places.Pos.{Pos}
 use Rattle.pk_lex.specs.declared.token.Token.{Token}
 use Rattle.pk_lex.specs.declared.token.Kind.{Kind}
@@ -20,10 +20,11 @@ use Rattle.pk_grammar.specs.declared.signs.Operator.{Operator}
 use Rattle.pk_grammar.specs.Languages.{identifier_of}
 use Rattle.pk_grammar.specs.Grammar.{binary_sign, unary_sign, step_sign, assignment_sign, strength, Fits, operators_in, postfixes_in, commas_in}
 use Rattle.pk_grammar.specs.Machine.Signs.{is_fixed, operand_start, operator_of, specifier_word}
-use Rattle.pk_grammar.specs.Machine.States.{as_statement, as_label, as_test, as_last_test, as_first, as_second, as_third, as_result, as_length, as_value, as_item, Context, as_whole, in_parentheses, in_index, in_call, in_prefix, in_unary, in_cast, in_binary, in_choice, in_alternative, in_assignment, in_comma, operand, named, arguments, opened, cast_specifiers, complete}
-use Rattle.pk_grammar.specs.Machine.Steps.{taken, Reduced, reduced, operand_level, begin_operand, go_on, join_binary, join_question, join_assignment, join_comma, is_unary, comma_after, open_cast, more_cast, specifier_at, one_more, step, next_word}
+use Rattle.pk_grammar.specs.Machine.States.{as_statement, as_label, as_test, as_last_test, as_first, as_second, as_third, as_result, as_length, as_value, as_item, as_enumerator, Context, as_whole, in_parentheses, in_index, in_call, in_prefix, in_unary, in_cast, in_binary, in_choice, in_alternative, in_assignment, in_comma, operand, named, arguments, opened, cast_specifiers, complete}
+use Rattle.pk_grammar.specs.Machine.Steps.{taken, refused, Reduced, reduced, operand_level, begin_operand, go_on, join_binary, join_question, join_assignment, join_comma, is_unary, comma_after, open_cast, more_cast, specifier_at, one_more, step, next_word, end_in_enum}
 use Rattle.pk_grammar.proofs.CompleteSigns.{takes, strength_least, strength_most, Sign, sign_binary, sign_step, sign_assignment, unary_start, step_start, Begins}
 use Rattle.pk_grammar.proofs.CompleteReduced.{kept}
+use Rattle.pk_grammar.proofs.WordLemmas.{no_sign}
 
 -- A token that ends an expression of this level, or takes it as its left operand
 pub record Ends (level : ℕ) (c : Context) (k : Kind) : Type 0 where
@@ -105,9 +106,14 @@ pub step_more_cast : (n : ℕ) (at : Pos) (specs : OneOrMore Specifier) (c : Con
     step (cast_specifiers n at specs c) t ≡ taken (n + 1) (cast_specifiers n at (with_last specs (specifier_at t w)) c)
 step_more_cast n at specs c t w e = ap (λ w. more_cast n at specs c t w) e
 
-pub step_cast_end : (n : ℕ) (at : Pos) (specs : OneOrMore Specifier) (c : Context) (t : Token) → t.kind ≡ kind.Punctuator mark.CloseParenthesis →
+pub step_cast_end : (n : ℕ) (at : Pos) (specs : OneOrMore Specifier) (c : Context) (t : Token) → end_in_enum specs ≡ false → t.kind ≡ kind.Punctuator mark.CloseParenthesis →
     step (cast_specifiers n at specs c) t ≡ taken (n + 1) (operand (n + 1) (in_cast n at specs c))
-step_cast_end n at specs c t e = rw e
+step_cast_end n at specs c t h e = ap (λ w. more_cast n at specs c t w) (no_sign specs t mark.CloseParenthesis e) ∙ same_false (end_in_enum specs) _ _ h ∙ rw e
+
+-- a tag has to stand behind `enum`
+pub step_no_cast : (n : ℕ) (at : Pos) (specs : OneOrMore Specifier) (c : Context) (t : Token) → next_word specs t ≡ None → end_in_enum specs ≡ true →
+    step (cast_specifiers n at specs c) t ≡ refused
+step_no_cast n at specs c t e h = ap (λ w. more_cast n at specs c t w) e ∙ same_true (end_in_enum specs) _ _ h
 
 -- Operators
 
@@ -166,6 +172,7 @@ comma_joins n e (as_whole (as_result m at o)) t h = refl
 comma_joins n e (as_whole (as_length d id)) t h = absurd (omega arith)
 comma_joins n e (as_whole (as_value d)) t h = absurd (omega arith)
 comma_joins n e (as_whole (as_item d at es)) t h = absurd (omega arith)
+comma_joins n e (as_whole (as_enumerator d id)) t h = absurd (omega arith)
 comma_joins n e (in_parentheses m at c) t h = refl
 comma_joins n e (in_index m id at c) t h = refl
 comma_joins n e (in_call m id es c) t h = absurd (omega arith)

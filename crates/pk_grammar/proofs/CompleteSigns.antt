@@ -24,7 +24,7 @@ use Rattle.pk_grammar.specs.declared.signs.OperandStart.TheVariants as start
 use Rattle.pk_grammar.specs.declared.signs.Operator.{Operator}
 use Rattle.pk_grammar.specs.declared.signs.Operator.TheVariants as operator
 use Rattle.pk_grammar.specs.declared.signs.StatementStart.TheVariants as first
-use Rattle.pk_grammar.specs.Grammar.{binary_sign, unary_sign, step_sign, assignment_sign, IsWord, storage_keyword, strength, any_expression, weakest_operator, cast_expression, postfix_expression}
+use Rattle.pk_grammar.specs.Grammar.{binary_sign, unary_sign, step_sign, assignment_sign, IsWord, IsTag, storage_keyword, strength, any_expression, weakest_operator, cast_expression, postfix_expression}
 use Rattle.pk_grammar.specs.Machine.Signs.{is_fixed, operand_start, operator_of, specifier_in, specifier_word, storage_word, statement_start}
 
 -- the level of the left operand that an operator takes
@@ -104,16 +104,19 @@ pub step_start : (o : StepOperator) → operand_start (kind.Punctuator (step_sig
 step_start step.Increment = refl
 step_start step.Decrement = refl
 
-pub word_is : (w : SpecifierWord) (t : Token) → IsWord w t → specifier_word t ≡ Some w
-word_is word.Void t h = ap (λ k. specifier_in k t.start t.end) h
-word_is word.Char t h = ap (λ k. specifier_in k t.start t.end) h
-word_is word.Short t h = ap (λ k. specifier_in k t.start t.end) h
-word_is word.Int t h = ap (λ k. specifier_in k t.start t.end) h
-word_is word.Long t h = ap (λ k. specifier_in k t.start t.end) h
-word_is word.Signed t h = ap (λ k. specifier_in k t.start t.end) h
-word_is word.Unsigned t h = ap (λ k. specifier_in k t.start t.end) h
-word_is word.Const t h = ap (λ k. specifier_in k t.start t.end) h
-word_is (word.TypeName from to) t h =
+-- a tag is a name, and so a word of a type behind `enum` alone
+pub word_is : (w : SpecifierWord) (t : Token) → ¬ IsTag w → IsWord w t → specifier_word t ≡ Some w
+word_is word.Void t n h = ap (λ k. specifier_in k t.start t.end) h
+word_is word.Char t n h = ap (λ k. specifier_in k t.start t.end) h
+word_is word.Short t n h = ap (λ k. specifier_in k t.start t.end) h
+word_is word.Int t n h = ap (λ k. specifier_in k t.start t.end) h
+word_is word.Long t n h = ap (λ k. specifier_in k t.start t.end) h
+word_is word.Signed t n h = ap (λ k. specifier_in k t.start t.end) h
+word_is word.Unsigned t n h = ap (λ k. specifier_in k t.start t.end) h
+word_is word.Const t n h = ap (λ k. specifier_in k t.start t.end) h
+word_is word.Enum t n h = ap (λ k. specifier_in k t.start t.end) h
+word_is (word.Tag from to) t n h = absurd (n tt)
+word_is (word.TypeName from to) t n h =
     ap (λ k. specifier_in k t.start t.end) h.0 ∙ (ap (λ n. Some (word.TypeName n t.end)) h.1 ∙ ap (λ n. Some (word.TypeName from n)) h.2)
 
 pub storage_is : (w : StorageWord) → storage_word (kind.Keyword (storage_keyword w)) ≡ Some w
@@ -130,6 +133,8 @@ specifier_no_else word.Signed t h = ap (λ k. is_fixed fixed.Else k) h
 specifier_no_else word.Unsigned t h = ap (λ k. is_fixed fixed.Else k) h
 specifier_no_else word.Const t h = ap (λ k. is_fixed fixed.Else k) h
 specifier_no_else (word.TypeName from to) t h = ap (λ k. is_fixed fixed.Else k) h.0
+specifier_no_else word.Enum t h = ap (λ k. is_fixed fixed.Else k) h
+specifier_no_else (word.Tag from to) t h = ap (λ k. is_fixed fixed.Else k) h.0
 
 -- a token with which an operand begins is nothing else
 pub record Begins (k : Kind) : Type 0 where

@@ -9,11 +9,11 @@ use Rattle.pk_lex.specs.declared.token.Keyword.TheVariants as key
 use Rattle.pk_lex.specs.declared.token.Punctuator.TheVariants as mark
 use Rattle.pk_ast.specs.declared.declarations.Specifier.{Specifier}
 use Rattle.pk_ast.specs.declared.expressions.Identifier.{Identifier}
-use Rattle.pk_ast.specs.Trees.{OneOrMore, ExpressionTree, StatementTree, block, empty, expression_statement, label, case, default, if_then, if_else, switch, while, do_while, for_loop, goto, continue, break, return, ItemTrees, no_items, declaration_then, statement_then}
+use Rattle.pk_ast.specs.Trees.{OneOrMore, ExpressionTree, EnumerationTree, StatementTree, block, empty, expression_statement, label, case, default, if_then, if_else, switch, while, do_while, for_loop, goto, continue, break, return, ItemTrees, no_items, declaration_then, statement_then}
 use Rattle.pk_grammar.specs.declared.states.Testing.{Testing}
 use Rattle.pk_grammar.specs.declared.signs.Fixed.TheVariants as fixed
 use Rattle.pk_grammar.specs.Languages.{Marked, One, ◌⊙◌, identifier_of}
-use Rattle.pk_grammar.specs.Grammar.{Expression, punctuator, specifiers, OpenEnd, test, optional, statement, block_items}
+use Rattle.pk_grammar.specs.Grammar.{Expression, punctuator, words, type_words, OpenEnd, test, optional, statement, block_items}
 use Rattle.pk_grammar.specs.Machine.Signs.{is_fixed, specifier_in}
 use Rattle.pk_grammar.specs.Machine.States.{Outer, Purpose, as_statement, as_test, as_result, as_whole, State, at_statement, after_statement, test_open, goto_name, returning, statement_end, operand, complete}
 use Rattle.pk_grammar.specs.Machine.Steps.{Verdict, taken, reduced, purpose_level, tested, begin_statement, step}
@@ -70,8 +70,12 @@ first_statement (return at e) n ms h = first_front h (first_front h.first (first
 abbrev pub NoElse : Kind → Type 0
 NoElse k = is_fixed fixed.Else k ≡ false
 
-first_specifiers : (specs : OneOrMore Specifier) (n : ℕ) (ms : List Marked) → specifiers specs n ms → First NoElse ms
-first_specifiers specs n ms h = first_front h.is (first_one h.is.first _ refl (specifier_no_else specs.first.word h.is.first.token h.is.first.holds.0))
+first_words : (specs : OneOrMore Specifier) (n : ℕ) (ms : List Marked) → words specs n ms → First NoElse ms
+first_words specs n ms h = first_front h (first_one h.first _ refl (specifier_no_else specs.first.word h.first.token h.first.holds.0))
+
+first_type : (specs : OneOrMore Specifier) (e : Option EnumerationTree) (n : ℕ) (ms : List Marked) → type_words specs e n ms → First NoElse ms
+first_type specs None n ms h = first_words specs n ms h.is
+first_type specs (Some e) n ms h = first_front h.is (first_words specs n h.is.front h.is.first)
 
 -- the token behind an item of a block
 pub record NextToken (ts : List Token) : Type 0 where
@@ -88,8 +92,8 @@ pub next_token : (items : ItemTrees) (n : ℕ) (ms : List Marked) (close : Token
 unfolding block_items
 next_token no_items n ms close rest h e = record { token = close; rest = rest; is = ap (λ ms. tokens_of ms ++ close ∷ rest) h; no_else = subst NoElse (sym e) refl }
 next_token (declaration_then None d items) n ms close rest h e =
-    let g = alone h in next_of (close ∷ rest) (first_front g (first_front g.first (first_specifiers d.specifiers n g.first.front g.first.first)))
-next_token (declaration_then (Some at) d items) n ms close rest h e = next_of (close ∷ rest) (first_front h (first_one h.first _ h.first.holds.0 refl))
+    let g = alone h.is in next_of (close ∷ rest) (first_front g (first_front g.first (first_type d.specifiers d.enumeration n g.first.front g.first.first)))
+next_token (declaration_then (Some at) d items) n ms close rest h e = let g = h.is in next_of (close ∷ rest) (first_front g (first_one g.first _ g.first.holds.0 refl))
 next_token (statement_then s items) n ms close rest h e =
     let f = first_statement s n h.front h.first in
     next_of (close ∷ rest) (first_front h (record { token = f.token; nesting = f.nesting; more = f.more; is = f.is; holds = f.holds.no_else }))

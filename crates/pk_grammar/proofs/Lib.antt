@@ -5,6 +5,7 @@ pub mod SpellsStates
 pub mod SpellsEnds
 pub mod SpellsLists
 pub mod SpellsGood
+pub mod SpellsEnumerations
 pub mod SpellsDeclarations
 pub mod SpellsPurposes
 pub mod SpellsOperands
@@ -16,6 +17,7 @@ pub mod CompleteSigns
 pub mod CompleteReduced
 pub mod CompleteOperands
 pub mod CompleteExpressions
+pub mod CompleteEnumerations
 pub mod CompleteDeclarations
 pub mod CompleteStatements
 pub mod CompleteBodies

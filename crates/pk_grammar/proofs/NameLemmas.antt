@@ -13,9 +13,9 @@ use Rattle.pk_ast.specs.declared.declarations.SpecifierWord.{SpecifierWord}
 use Rattle.pk_ast.specs.declared.declarations.SpecifierWord.TheVariants as words
 use Rattle.pk_ast.specs.declared.expressions.Identifier.{Identifier}
 use Rattle.pk_ast.specs.declared.units.Storage.{Storage}
-use Rattle.pk_ast.specs.Names.{word_name, word_names, specifier_names, expression_names, list_names, optional_names, initializer_names, declarator_names, all_declarator_names, declaration_names, for_start_names, statement_names, item_names, body_names, optional_name, parameter_names, external_names, names_of}
-use Rattle.pk_ast.specs.Trees.{OneOrMore, ExpressionTree, name, call, index, constant, character, parenthesized, postfix, prefix, unary, cast, binary, conditional, assignment, comma, ExpressionTrees, no_expressions, expression_then, InitializerTree, single, braced, DeclaratorTree, DeclarationTree, ForStartTree, declaration, expression, StatementTree, block, empty, expression_statement, label, case, default, if_then, if_else, switch, while, do_while, for_loop, goto, continue, break, return, ItemTrees, no_items, declaration_then, statement_then, BlockTree, ParameterTree, ExternalTree, function, objects, type_names}
-use Rattle.pk_grammar.specs.Languages.{Marked, Language, Nothing, At, Any, Identified, ◌⊙◌, Inside, Past, Optional, identifier_of}
+use Rattle.pk_ast.specs.Names.{word_name, word_names, specifier_names, expression_names, list_names, optional_names, initializer_names, declarator_names, all_declarator_names, enumerator_names, all_enumerator_names, enumeration_names, declaration_names, for_start_names, statement_names, item_names, body_names, optional_name, parameter_names, external_names, names_of}
+use Rattle.pk_ast.specs.Trees.{OneOrMore, ExpressionTree, name, call, index, constant, character, parenthesized, postfix, prefix, unary, cast, binary, conditional, assignment, comma, ExpressionTrees, no_expressions, expression_then, InitializerTree, single, braced, DeclaratorTree, EnumeratorTree, EnumerationTree, DeclarationTree, ForStartTree, declaration, expression, StatementTree, block, empty, expression_statement, label, case, default, if_then, if_else, switch, while, do_while, for_loop, goto, continue, break, return, ItemTrees, no_items, declaration_then, statement_then, BlockTree, ParameterTree, ExternalTree, function, objects, type_names}
+use Rattle.pk_grammar.specs.Languages.{Marked, Language, Nothing, At, Any, Identified, ◌⊙◌, Inside, Past, Optional, Where, identifier_of}
 use Rattle.pk_grammar.specs.Grammar as grammar
 use Rattle.pk_grammar.specs.Grammar.{punctuator, punctuator_at, keyword, keyword_at, specifier, specifier_list, specifiers, spelled, spelled_list, spelled_more, Expression, Items, statement, block_items, IsWord}
 use Rattle.pk_grammar.specs.Outcomes.{unmarked}
@@ -76,8 +76,14 @@ inside xs f n ts h = f (n + 1) ts h
 maybe : {P : Language} → Has P [] → Has (Optional P) []
 maybe f n ts h = elim h [ inl e ↦ ap names_in e | inr g ↦ f n ts g ]
 
+where_it_holds : {A : Type 0} {P : Language} (xs : List Identifier) → Has P xs → Has (Where A P) xs
+where_it_holds xs f n ts h = f n ts h.is
+
 grouped : {P : Language} (a b c : List Identifier) → Has P (a ++ (b ++ c)) → Has P ((a ++ b) ++ c)
 grouped a b c f n ts h = f n ts h ∙ sym (append_assoc a b c)
+
+ungrouped : {P : Language} (a b c : List Identifier) → Has P ((a ++ b) ++ c) → Has P (a ++ (b ++ c))
+ungrouped a b c f n ts h = f n ts h ∙ append_assoc a b c
 
 -- Expressions
 
@@ -93,6 +99,9 @@ word-name words.Long t h = kept_name t _ h
 word-name words.Signed t h = kept_name t _ h
 word-name words.Unsigned t h = kept_name t _ h
 word-name words.Const t h = kept_name t _ h
+word-name words.Enum t h = kept_name t _ h
+word-name (words.Tag from to) t h =
+    kept_name t _ h.0 ∙ (ap (λ n. word_name (words.Tag n t.end) t.at) h.1 ∙ ap (λ n. word_name (words.Tag from n) t.at) h.2)
 word-name (words.TypeName from to) t h =
     kept_name t _ h.0 ∙ (ap (λ n. word_name (words.TypeName n t.end) t.at) h.1 ∙ ap (λ n. word_name (words.TypeName from n) t.at) h.2)
 
@@ -104,9 +113,11 @@ specifier_list-names : (ss : List Specifier) → Has (specifier_list ss) (word_n
 specifier_list-names [] = nothing
 specifier_list-names (s ∷ ss) = both {P = specifier s} (word_name s.word s.at) (word_names ss) (specifier-names s) (specifier_list-names ss)
 
+words-names : (ss : OneOrMore Specifier) → Has (grammar.words ss) (specifier_names ss)
+words-names ss = let r = ss.first in both {P = specifier r} (word_name r.word r.at) (word_names ss.more) (specifier-names r) (specifier_list-names ss.more)
+
 specifiers-names : (ss : OneOrMore Specifier) → Has (specifiers ss) (specifier_names ss)
-specifiers-names ss n ts h =
-    let r = ss.first in both {P = specifier r} (word_name r.word r.at) (word_names ss.more) (specifier-names r) (specifier_list-names ss.more) n ts h.is
+specifiers-names ss n ts h = words-names ss n ts h.is
 
 mutual
   unfolding spelled expression_names
@@ -187,13 +198,44 @@ more_declarators-names [] = nothing
 more_declarators-names (d ∷ ds) =
     none_then (declarator_names d ++ all_declarator_names ds) (sign mark.Comma) (both (declarator_names d) (all_declarator_names ds) (declarator-names d) (more_declarators-names ds))
 
+declarators-names : (e : Option EnumerationTree) (ds : List DeclaratorTree) → Has (grammar.declarators e ds) (all_declarator_names ds)
+declarators-names e [] n ts h = nothing n ts h.is
+declarators-names e (d ∷ ds) n ts h = both (declarator_names d) (all_declarator_names ds) (declarator-names d) (more_declarators-names ds) n ts h
+
+-- Enumerations
+
+value-names : (v : Option ExpressionTree) → Has (grammar.enumerator_value v) (optional_names v)
+value-names None = nothing
+value-names (Some e) = none_then (expression_names e) (sign mark.Assign) (expression-names _ e)
+
+enumerator-names : (x : EnumeratorTree) → Has (grammar.enumerator x) (enumerator_names x)
+enumerator-names x = both (x.name ∷ []) (optional_names x.value) (identified x.name) (value-names x.value)
+
+more_enumerators-names : (xs : List EnumeratorTree) → Has (grammar.more_enumerators xs) (all_enumerator_names xs)
+more_enumerators-names [] = nothing
+more_enumerators-names (x ∷ xs) =
+    none_then (enumerator_names x ++ all_enumerator_names xs) (sign mark.Comma) (both (enumerator_names x) (all_enumerator_names xs) (enumerator-names x) (more_enumerators-names xs))
+
+braces-names : (e : EnumerationTree) → Has (grammar.braces e) (enumeration_names (Some e))
+braces-names e =
+    let first : List Identifier = enumerator_names e.enumerators.first in
+    let more : List Identifier = all_enumerator_names e.enumerators.more in
+    let qualifiers : List Identifier = word_names e.qualifiers in
+    none_then ((first ++ more) ++ qualifiers) (sign mark.OpenBrace)
+    (both (first ++ more) qualifiers (both first more (enumerator-names e.enumerators.first) (more_enumerators-names e.enumerators.more))
+    (none_then qualifiers (maybe (sign mark.Comma)) (none_then qualifiers (sign mark.CloseBrace) (specifier_list-names e.qualifiers))))
+
+type_words-names : (specs : OneOrMore Specifier) (e : Option EnumerationTree) → Has (grammar.type_words specs e) (specifier_names specs ++ enumeration_names e)
+type_words-names specs None n ts h = specifiers-names specs n ts h ∙ sym (append-nil (specifier_names specs))
+type_words-names specs (Some e) n ts h = both (specifier_names specs) (enumeration_names (Some e)) (words-names specs) (braces-names e) n ts h.is
+
 declared-names : (d : DeclarationTree) → Has (grammar.declared d) (declaration_names d)
 declared-names d =
     let named : List Identifier = specifier_names d.specifiers in
-    let first : List Identifier = declarator_names d.declarators.first in
-    let more : List Identifier = all_declarator_names d.declarators.more in
-    both named (first ++ more) (specifiers-names d.specifiers)
-    (then_none (first ++ more) (both first more (declarator-names d.declarators.first) (more_declarators-names d.declarators.more)) (sign mark.Semicolon))
+    let listed : List Identifier = enumeration_names d.enumeration in
+    let all : List Identifier = all_declarator_names d.declarators in
+    ungrouped named listed all (both (named ++ listed) all (type_words-names d.specifiers d.enumeration)
+    (then_none all (declarators-names d.enumeration d.declarators) (sign mark.Semicolon)))
 
 -- Statements
 
@@ -275,7 +317,8 @@ mutual
   item-names : (items : ItemTrees) → Has (block_items items) (item_names items)
   item-names no_items = nothing
   item-names (declaration_then s d items) =
-      none_then (declaration_names d ++ item_names items) (static-names s) (both (declaration_names d) (item_names items) (declared-names d) (item-names items))
+      where_it_holds (declaration_names d ++ item_names items)
+      (none_then (declaration_names d ++ item_names items) (static-names s) (both (declaration_names d) (item_names items) (declared-names d) (item-names items)))
   item-names (statement_then s items) = both (statement_names s) (item_names items) (statement-names s) (item-names items)
 
 -- External definitions
@@ -324,10 +367,11 @@ external-names (function f) =
 external-names (objects s d) = none_then (declaration_names d) (stored-names s) (declared-names d)
 external-names (type_names d) =
     let types : List Identifier = specifier_names d.specifiers in
+    let listed : List Identifier = enumeration_names d.enumeration in
     let more : List Identifier = d.names.more in
     let all : List Identifier = d.names.first ∷ more in
-    none_then (types ++ all) (word key.Typedef) (both types all (specifiers-names d.specifiers)
-    (then_none all (both (d.names.first ∷ []) more (identified d.names.first) (more_names-names more)) (sign mark.Semicolon)))
+    none_then (types ++ (listed ++ all)) (word key.Typedef) (ungrouped types listed all (both (types ++ listed) all (type_words-names d.specifiers d.enumeration)
+    (then_none all (both (d.names.first ∷ []) more (identified d.names.first) (more_names-names more)) (sign mark.Semicolon))))
 
 externals-names : (xs : List ExternalTree) → Has (grammar.externals xs) (names_of xs)
 externals-names [] = nothing

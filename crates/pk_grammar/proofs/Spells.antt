@@ -8,14 +8,15 @@ use Rattle.pk_grammar.specs.declared.signs.Fixed.TheVariants as fixed
 use Rattle.pk_grammar.specs.Languages.{Marked}
 use Rattle.pk_grammar.specs.Grammar.{statement, externals, text}
 use Rattle.pk_grammar.specs.Machine.Signs.{specifier_word}
-use Rattle.pk_grammar.specs.Machine.States.{as_first, as_second, as_third, as_result, as_value, as_item, as_whole, State, top, after_storage, after_typedef, type_specifiers, after_type_name, type_name_comma, after_specifiers, after_name, after_length, after_assign, after_brace, after_item, after_initializer, after_comma, parameters_open, parameter_specifiers, parameter_name, parameter_comma, parameters_closed, block_item, after_static, at_statement, after_statement, test_open, do_open, for_open, for_first, for_second, for_third, default_colon, goto_name, returning, statement_end, operand, named, arguments, opened, cast_specifiers, complete}
+use Rattle.pk_grammar.specs.Machine.States.{as_first, as_second, as_third, as_result, as_value, as_item, as_whole, State, top, after_storage, after_typedef, type_specifiers, after_type_name, type_name_comma, at_enumerator, after_enumerator_name, after_braces, after_specifiers, after_name, after_length, after_assign, after_brace, after_item, after_initializer, after_comma, parameters_open, parameter_specifiers, parameter_name, parameter_comma, parameters_closed, block_item, after_static, at_statement, after_statement, test_open, do_open, for_open, for_first, for_second, for_third, default_colon, goto_name, returning, statement_end, operand, named, arguments, opened, cast_specifiers, complete}
 use Rattle.pk_grammar.specs.Machine.Steps.{Verdict, taken, refused, finished, naming_nesting, begin_for, step}
 use Rattle.pk_grammar.proofs.SpellsSigns.{IsSpecifier, is_specifier}
 use Rattle.pk_grammar.proofs.SpellsWords.{push, push_at, push_last, none_more, gather, last_as, moved}
 use Rattle.pk_grammar.proofs.SpellsLists.{first_word, items_comma}
 use Rattle.pk_grammar.proofs.SpellsStates.{Spells}
 use Rattle.pk_grammar.proofs.SpellsGood.{Good, fixed_good, wanted_good, two}
-use Rattle.pk_grammar.proofs.SpellsDeclarations.{after_declarator_good, more_specifiers_good, at_after_name_good, at_after_length_good, braces_end}
+use Rattle.pk_grammar.proofs.SpellsEnumerations.{at_next_enumerator_good, at_enumerator_name_good}
+use Rattle.pk_grammar.proofs.SpellsDeclarations.{at_after_braces_good, after_declarator_good, more_specifiers_good, at_after_name_good, at_after_length_good, braces_end}
 use Rattle.pk_grammar.proofs.SpellsPurposes.{for_ends}
 use Rattle.pk_grammar.proofs.SpellsOperands.{at_operand_good, at_complete_good, at_named_good, at_arguments_good, at_opened_good, more_cast_good}
 use Rattle.pk_grammar.proofs.SpellsStatements.{begins_statement_good, at_items_good, begin_static_good, resume_good}
@@ -28,8 +29,11 @@ step_good (top before) t ms h = at_top_good before t ms h
 step_good (after_storage before s) t ms h = begin_external_good before (Some s) t ms h
 step_good (after_typedef before) t ms h = begin_typedef_good before t ms h
 step_good (type_specifiers before ss) t ms h = more_typedef_good before ss t ms h
-step_good (after_type_name before ss ids) t ms h = at_after_type_name_good before ss ids t ms h
-step_good (type_name_comma before ss ids) t ms h = wanted_good fixed.Name _ t ms (λ k. next_type_name_good before ss ids t ms h k)
+step_good (after_type_name before ss e ids) t ms h = at_after_type_name_good before ss e ids t ms h
+step_good (type_name_comma before ss e ids) t ms h = wanted_good fixed.Name _ t ms (λ k. next_type_name_good before ss e ids t ms h k)
+step_good (at_enumerator d) t ms h = at_next_enumerator_good d t ms h
+step_good (after_enumerator_name d id) t ms h = at_enumerator_name_good d id t ms h
+step_good (after_braces s ss e) t ms h = at_after_braces_good s ss e t ms h
 step_good (after_specifiers s ss) t ms h = more_specifiers_good s ss t ms h
 step_good (after_name d id) t ms h = at_after_name_good d id t ms h
 step_good (after_length d) t ms h = at_after_length_good d t ms h

@@ -1,5 +1,5 @@
 -- From each state some tokens lead to the end of a text.
-use Rattle.std.proofs.Common.{◌≡◌, ℕ, List, true, false, refl, sym, subst, rules}
+use Rattle.std.proofs.Common.{◌≡◌, ℕ, ◌+◌, List, Some, Bool, true, false, refl, sym, subst, rules}
 use Rattle.std.specs.Prelude.{nat_le, pos}
 use Rattle.pk_ctypes.specs.declared.places.Pos.{Pos}
 use Rattle.pk_lex.specs.declared.token.Token.{Token}
@@ -8,13 +8,21 @@ use Rattle.pk_lex.specs.declared.token.Kind.TheVariants as kind
 use Rattle.pk_lex.specs.declared.token.Keyword.TheVariants as key
 use Rattle.pk_lex.specs.declared.token.Punctuator.{Punctuator}
 use Rattle.pk_lex.specs.declared.token.Punctuator.TheVariants as mark
-use Rattle.pk_ast.specs.Trees.{ExpressionTree, prefix, unary, cast, binary, conditional, assignment, comma, ForStartTree, StatementTree, label, case, default, if_then, if_else, switch, while, for_loop, ExternalTree}
+use Rattle.pk_ast.specs.declared.declarations.Specifier.{Specifier}
+use Rattle.pk_ast.specs.declared.declarations.SpecifierWord.{SpecifierWord}
+use Rattle.pk_ast.specs.Lists.{with_last}
+use Rattle.pk_ast.specs.Trees.{OneOrMore, EnumerationTree, ParameterTree, ExpressionTree, prefix, unary, cast, binary, conditional, assignment, comma, ForStartTree, StatementTree, label, case, default, if_then, if_else, switch, while, for_loop, ExternalTree}
 use Rattle.pk_grammar.specs.declared.signs.Fixed.TheVariants as fixed
 use Rattle.pk_grammar.specs.declared.signs.Operator.TheVariants as operator
+use Rattle.pk_grammar.specs.Languages.{identifier_of}
 use Rattle.pk_grammar.specs.Grammar.{any_expression, strength}
 use Rattle.pk_grammar.specs.Machine.Signs.{is_fixed, operator_of}
-use Rattle.pk_grammar.specs.Machine.States.{OpenBlock, function_block, inner_block, Outer, in_block, in_label, in_case, in_default, in_if, in_else, in_switch, in_while, in_do, in_for, Site, in_a_block, in_a_for, outside, Declared, Purpose, as_statement, as_label, as_test, as_last_test, as_first, as_second, as_third, as_result, as_length, as_value, as_item, Context, as_whole, in_parentheses, in_index, in_call, in_prefix, in_unary, in_cast, in_binary, in_choice, in_alternative, in_assignment, in_comma, State, top, after_storage, after_typedef, type_specifiers, after_type_name, type_name_comma, after_specifiers, after_name, after_length, after_assign, after_brace, after_item, after_initializer, after_comma, parameters_open, parameter_specifiers, parameter_name, parameter_comma, parameters_closed, block_item, after_static, at_statement, after_statement, test_open, do_open, for_open, for_first, for_second, for_third, default_colon, goto_name, returning, statement_end, operand, named, arguments, opened, cast_specifiers, complete}
-use Rattle.pk_grammar.specs.Machine.Steps.{Verdict, taken, finished, Reduced, reduced, end_expression, end_purpose, go_on, resume, step, end_declaration}
+use Rattle.pk_grammar.specs.Machine.States.{Head, OpenBlock, function_block, inner_block, Outer, in_block, in_label, in_case, in_default, in_if, in_else, in_switch, in_while, in_do, in_for, Site, in_a_block, in_a_for, outside, EnumerationSite, in_declaration, in_typedef, Declared, Purpose, as_statement, as_label, as_test, as_last_test, as_first, as_second, as_third, as_result, as_length, as_value, as_item, as_enumerator, Context, as_whole, in_parentheses, in_index, in_call, in_prefix, in_unary, in_cast, in_binary, in_choice, in_alternative, in_assignment, in_comma, State, top, after_storage, after_typedef, type_specifiers, after_type_name, type_name_comma, at_enumerator, after_enumerator_name, after_braces, after_specifiers, after_name, after_length, after_assign, after_brace, after_item, after_initializer, after_comma, parameters_open, parameter_specifiers, parameter_name, parameter_comma, parameters_closed, block_item, after_static, at_statement, after_statement, test_open, do_open, for_open, for_first, for_second, for_third, default_colon, goto_name, returning, statement_end, operand, named, arguments, opened, cast_specifiers, complete}
+use Rattle.pk_grammar.specs.Machine.Steps.{Verdict, taken, finished, Reduced, reduced, end_expression, end_purpose, go_on, resume, step, end_declaration, site_nesting, specifier_at, next_word, end_in_enum}
+use Rattle.pk_grammar.proofs.WordLemmas.{next_tag, tag_is_last, no_name}
+use Rattle.pk_grammar.proofs.CompleteOperands.{step_more_cast, step_cast_end}
+use Rattle.pk_grammar.proofs.CompleteDeclarations.{step_first_name, step_more_specifiers}
+use Rattle.pk_grammar.proofs.CompleteExternals.{step_more_type, step_first_type, step_more_parameter, step_unnamed_close}
 
 -- some tokens lead on to the end of a text
 pub data Ends : Verdict → Type 0 where
@@ -90,6 +98,11 @@ ends_declaration d = go d d.site
 ends_initializer : (n : ℕ) (d : Declared) → Ends (taken n (after_initializer d))
 ends_initializer n d = goes semicolon (ends_declaration d)
 
+-- behind the braces of an enumeration
+ends_braces : (n : ℕ) (s : EnumerationSite) (specs : OneOrMore Specifier) (e : EnumerationTree) → Ends (taken n (after_braces s specs e))
+ends_braces n (in_declaration s) specs e = goes a_name (goes semicolon (ends_declaration _))
+ends_braces n (in_typedef before) specs e = goes a_name (goes semicolon (the_end _))
+
 -- Expressions
 
 -- a token that is no operator, and ends what is open
@@ -109,6 +122,7 @@ ends_purpose (as_third n at f second o) e = record { token = sign mark.ClosePare
 ends_purpose (as_result n at o) e = record { token = semicolon; no_operator = refl; ends = ends_after _ _ o }
 ends_purpose (as_length d id) e = record { token = sign mark.CloseBracket; no_operator = refl; ends = goes semicolon (ends_declaration _) }
 ends_purpose (as_value d) e = record { token = semicolon; no_operator = refl; ends = ends_declaration _ }
+ends_purpose (as_enumerator d id) e = record { token = sign mark.CloseBrace; no_operator = refl; ends = ends_braces _ d.site _ _ }
 ends_purpose (as_item d at es) e = record { token = sign mark.CloseBrace; no_operator = refl; ends = ends_initializer _ _ }
 
 zero_le : (n : ℕ) → nat_le 0 n ≡ true
@@ -139,15 +153,42 @@ ends_context (in_comma m at a c) n e = ends_context c m (comma at a e)
 ends_operand : (k n : ℕ) (c : Context) → Ends (taken k (operand n c))
 ends_operand k n c = goes a_character (ends_complete _ _ _ c (ends_context c _ _))
 
+-- Words of a type
+
+-- where words that are whole lead to the end, all do: behind `enum` by a tag
+module _ (f : OneOrMore Specifier → State) (k : ℕ) (grows : (done : OneOrMore Specifier) (t : Token) (w : SpecifierWord) → next_word done t ≡ Some w → step (f done) t ≡ taken k (f (with_last done (specifier_at t w))))
+    (whole : (n : ℕ) (specs : OneOrMore Specifier) → end_in_enum specs ≡ false → Ends (taken n (f specs))) where
+  ends_words : (n : ℕ) (specs : OneOrMore Specifier) → Ends (taken n (f specs))
+  ends_words n specs = by_end (end_in_enum specs) refl
+    where
+      by_end : (b : Bool) → end_in_enum specs ≡ b → Ends (taken n (f specs))
+      by_end false e = whole n specs e
+      by_end true e = goes a_name (subst Ends (sym (grows specs a_name _ (next_tag specs a_name e refl))) (whole k (with_last specs _) (tag_is_last specs _ e)))
+
+whole_type : (before : List ExternalTree) (n : ℕ) (specs : OneOrMore Specifier) → end_in_enum specs ≡ false → Ends (taken n (type_specifiers before specs))
+whole_type before n specs e = goes a_name (subst Ends (sym (step_first_type before specs (identifier_of a_name) a_name (no_name specs a_name e refl) (refl, refl))) (goes semicolon (the_end _)))
+
+whole_specifiers : (s : Site) (n : ℕ) (specs : OneOrMore Specifier) → end_in_enum specs ≡ false → Ends (taken n (after_specifiers s specs))
+whole_specifiers s n specs e = goes a_name (subst Ends (sym (step_first_name s specs a_name (no_name specs a_name e refl) refl)) (goes semicolon (ends_declaration _)))
+
+whole_parameter : (h : Head) (ps : List ParameterTree) (n : ℕ) (specs : OneOrMore Specifier) → end_in_enum specs ≡ false → Ends (taken n (parameter_specifiers h ps specs))
+whole_parameter h ps n specs e = goes (sign mark.CloseParenthesis) (subst Ends (sym (step_unnamed_close h ps specs (sign mark.CloseParenthesis) e refl)) (goes semicolon (the_end _)))
+
+whole_cast : (m : ℕ) (at : Pos) (c : Context) (n : ℕ) (specs : OneOrMore Specifier) → end_in_enum specs ≡ false → Ends (taken n (cast_specifiers m at specs c))
+whole_cast m at c n specs e = goes (sign mark.CloseParenthesis) (subst Ends (sym (step_cast_end m at specs c (sign mark.CloseParenthesis) e refl)) (ends_operand _ _ _))
+
 -- the same of each state
 pub state_ends : (n : ℕ) (s : State) → Ends (taken n s)
 state_ends n (top before) = the_end before
 state_ends n (after_storage before s) = goes (a_token (kind.Keyword key.Int)) (goes a_name (goes semicolon (the_end _)))
 state_ends n (after_typedef before) = goes (a_token (kind.Keyword key.Int)) (goes a_name (goes semicolon (the_end _)))
-state_ends n (type_specifiers before specs) = goes a_name (goes semicolon (the_end _))
-state_ends n (after_type_name before specs ids) = goes semicolon (the_end _)
-state_ends n (type_name_comma before specs ids) = goes a_name (goes semicolon (the_end _))
-state_ends n (after_specifiers s specs) = goes a_name (goes semicolon (ends_declaration _))
+state_ends n (type_specifiers before specs) = ends_words (type_specifiers before) 0 (step_more_type before) (whole_type before) n specs
+state_ends n (after_type_name before specs e ids) = goes semicolon (the_end _)
+state_ends n (type_name_comma before specs e ids) = goes a_name (goes semicolon (the_end _))
+state_ends n (at_enumerator d) = goes a_name (goes (sign mark.CloseBrace) (ends_braces _ d.site _ _))
+state_ends n (after_enumerator_name d id) = goes (sign mark.CloseBrace) (ends_braces _ d.site _ _)
+state_ends n (after_braces s specs e) = ends_braces n s specs e
+state_ends n (after_specifiers s specs) = ends_words (after_specifiers s) (site_nesting s) (step_more_specifiers s) (whole_specifiers s) n specs
 state_ends n (after_name d id) = goes semicolon (ends_declaration _)
 state_ends n (after_length d) = goes semicolon (ends_declaration _)
 state_ends n (after_assign d) = goes a_character (ends_complete _ _ _ _ (ends_context _ _ _))
@@ -156,7 +197,7 @@ state_ends n (after_item d at e es) = goes (sign mark.CloseBrace) (ends_initiali
 state_ends n (after_initializer d) = ends_initializer n d
 state_ends n (after_comma d) = goes a_name (goes semicolon (ends_declaration _))
 state_ends n (parameters_open h) = goes (sign mark.CloseParenthesis) (goes semicolon (the_end _))
-state_ends n (parameter_specifiers h ps specs) = goes (sign mark.CloseParenthesis) (goes semicolon (the_end _))
+state_ends n (parameter_specifiers h ps specs) = ends_words (parameter_specifiers h ps) 1 (step_more_parameter h ps) (whole_parameter h ps) n specs
 state_ends n (parameter_name h ps p) = goes (sign mark.CloseParenthesis) (goes semicolon (the_end _))
 state_ends n (parameter_comma h ps) = goes (a_token (kind.Keyword key.Int)) (goes (sign mark.CloseParenthesis) (goes semicolon (the_end _)))
 state_ends n (parameters_closed h ps) = goes semicolon (the_end _)
@@ -178,5 +219,5 @@ state_ends n (operand m c) = ends_operand n m c
 state_ends n (named m id c) = goes (sign mark.OpenParenthesis) (goes (sign mark.CloseParenthesis) (ends_complete _ _ _ c (ends_context c _ _)))
 state_ends n (arguments m id c) = goes (sign mark.CloseParenthesis) (ends_complete _ _ _ c (ends_context c _ _))
 state_ends n (opened m at c) = goes a_character (ends_complete _ _ _ _ (ends_context _ _ _))
-state_ends n (cast_specifiers m at specs c) = goes (sign mark.CloseParenthesis) (ends_operand _ _ _)
+state_ends n (cast_specifiers m at specs c) = ends_words (λ specs. cast_specifiers m at specs c) (m + 1) (λ done t w. step_more_cast m at done c t w) (whole_cast m at c) n specs
 state_ends n (complete m e c) = ends_complete n m e c (ends_context c m e)

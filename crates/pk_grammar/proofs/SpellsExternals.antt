@@ -10,19 +10,20 @@ use Rattle.pk_ast.specs.declared.declarations.SpecifierWord.TheVariants as word
 use Rattle.pk_ast.specs.declared.expressions.Identifier.{Identifier}
 use Rattle.pk_ast.specs.declared.units.Storage.{Storage}
 use Rattle.pk_ast.specs.declared.units.StorageWord.{StorageWord}
-use Rattle.pk_ast.specs.Trees.{OneOrMore, ParameterTree, ExternalTree}
+use Rattle.pk_ast.specs.Trees.{OneOrMore, EnumerationTree, ParameterTree, ExternalTree}
 use Rattle.pk_ast.specs.Lists.{with_last}
 use Rattle.pk_grammar.specs.declared.signs.Fixed.TheVariants as fixed
 use Rattle.pk_grammar.specs.Languages.{Marked, ◌⊙◌, identifier_of}
 use Rattle.pk_grammar.specs.Grammar.{keyword, punctuator, specifier, specifier_list, specifiers, stored, parameter, IsVoidAlone, parameters, names, externals, statement, IsWord}
 use Rattle.pk_grammar.specs.Machine.Signs.{specifier_word, storage_word, is_void_word}
-use Rattle.pk_grammar.specs.Machine.States.{Head, parameters_closed, after_type_name}
-use Rattle.pk_grammar.specs.Machine.Steps.{taken, begin_external, begin_typedef, more_typedef, at_after_type_name, storage_or_specifier, begin_parameter, is_void_alone, is_void, last_parameter, more_parameter, at_parameter_name, at_parameters_closed, next_word}
+use Rattle.pk_grammar.specs.Machine.States.{Head, in_typedef, parameters_closed, after_type_name}
+use Rattle.pk_grammar.specs.Machine.Steps.{taken, refused, begin_external, begin_typedef, more_typedef, at_after_type_name, storage_or_specifier, begin_parameter, is_void_alone, is_void, last_parameter, more_parameter, at_parameter_name, at_parameters_closed, next_word, end_in_enum}
 use Rattle.pk_grammar.proofs.SpellsSigns.{IsSpecifier, is_specifier, IsNext, is_next, IsStorage, is_storage}
 use Rattle.pk_grammar.proofs.SpellsWords.{and_none, drop_none, drop_last, Words, ◌▹◌, push, none_more, not_there, gather, together, last_as, before_as}
-use Rattle.pk_grammar.proofs.SpellsLists.{first_word, one_more_word, parameters_end, parameters_comma, names_end, externals_end}
-use Rattle.pk_grammar.proofs.SpellsStates.{parameters_before, to_type_names, to_parameters, to_body, Spells}
-use Rattle.pk_grammar.proofs.SpellsGood.{Good, fixed_good, wanted_good}
+use Rattle.pk_grammar.proofs.SpellsLists.{first_word, one_more_word, whole_words, whole_at, parameters_end, parameters_comma, names_end, externals_end}
+use Rattle.pk_grammar.proofs.SpellsStates.{open_words, parameters_before, to_types, to_type_names, to_parameters, to_body, Spells}
+use Rattle.pk_grammar.proofs.SpellsGood.{Good, if_good, fixed_good, wanted_good}
+use Rattle.pk_grammar.proofs.SpellsEnumerations.{open_braces_good}
 
 pub begin_external_good : (before : List ExternalTree) (s : Option Storage) (t : Token) (ms : List Marked) → (externals before 0 ▹ stored s 0) ms → Good (begin_external before s t (specifier_word t)) t ms
 begin_external_good before s t ms h = go (specifier_word t) (is_specifier t)
@@ -47,23 +48,25 @@ begin_typedef_good before t ms h = go (specifier_word t) (is_specifier t)
     go (Some w) k = first_word w t 0 ms k h
     go None k = tt
 
-pub more_typedef_good : (before : List ExternalTree) (ss : OneOrMore Specifier) (t : Token) (ms : List Marked) → to_type_names before ss ms → Good (more_typedef before ss t (next_word ss t)) t ms
-more_typedef_good before ss t ms h = go (next_word ss t) (is_next ss t)
+pub more_typedef_good : (before : List ExternalTree) (ss : OneOrMore Specifier) (t : Token) (ms : List Marked) → (to_types before ▹ open_words ss 0) ms → Good (more_typedef before ss t (next_word ss t)) t ms
+more_typedef_good before ss t ms h = go (next_word ss t) refl (is_next ss t)
   where
-    go : (w : Option SpecifierWord) → IsNext ss w t → Good (more_typedef before ss t w) t ms
-    go (Some w) k = one_more_word ss w t 0 ms k h
-    go None k = wanted_good fixed.Name _ t ms (λ k. last_as (λ ts g. and_none 0 ts g) (push ms t h (k, refl)))
+    go : (w : Option SpecifierWord) → next_word ss t ≡ w → IsNext ss w t → Good (more_typedef before ss t w) t ms
+    go (Some w) e k = one_more_word ss w t 0 ms k h
+    go None e k =
+        fixed_good fixed.OpenBrace _ _ t ms (λ k. open_braces_good (in_typedef before) ss t ms k h)
+        (wanted_good fixed.Name _ t ms (λ k. last_as (λ ts g. and_none 0 ts g) (push ms t (whole_at ss t 0 ms e k h) (k, refl))))
 
-pub at_after_type_name_good : (before : List ExternalTree) (ss : OneOrMore Specifier) (ids : OneOrMore Identifier) (t : Token) (ms : List Marked) → (to_type_names before ss ▹ names ids 0) ms →
-    Good (at_after_type_name before ss ids t) t ms
-at_after_type_name_good before ss ids t ms h =
+pub at_after_type_name_good : (before : List ExternalTree) (ss : OneOrMore Specifier) (e : Option EnumerationTree) (ids : OneOrMore Identifier) (t : Token) (ms : List Marked) →
+    (to_type_names before ss e ▹ names ids 0) ms → Good (at_after_type_name before ss e ids t) t ms
+at_after_type_name_good before ss e ids t ms h =
     fixed_good fixed.Comma _ _ t ms (λ k. push ms t h k)
     (wanted_good fixed.Semicolon _ t ms (λ k. externals_end before _ 0 _ (together (gather (gather (gather (push ms t h k)))))))
 
-pub next_type_name_good : (before : List ExternalTree) (ss : OneOrMore Specifier) (ids : OneOrMore Identifier) (t : Token) (ms : List Marked) →
-    (to_type_names before ss ▹ names ids 0 ▹ punctuator mark.Comma 0) ms → t.kind ≡ kind.Name →
-    Spells (after_type_name before ss (with_last ids (identifier_of t))) (ms ++ record { token = t; nesting = 0 } ∷ [])
-next_type_name_good before ss ids t ms h k = last_as (λ ts g. names_end ids (identifier_of t) 0 ts g) (gather (gather (push ms t h (k, refl))))
+pub next_type_name_good : (before : List ExternalTree) (ss : OneOrMore Specifier) (e : Option EnumerationTree) (ids : OneOrMore Identifier) (t : Token) (ms : List Marked) →
+    (to_type_names before ss e ▹ names ids 0 ▹ punctuator mark.Comma 0) ms → t.kind ≡ kind.Name →
+    Spells (after_type_name before ss e (with_last ids (identifier_of t))) (ms ++ record { token = t; nesting = 0 } ∷ [])
+next_type_name_good before ss e ids t ms h k = last_as (λ ts g. names_end ids (identifier_of t) 0 ts g) (gather (gather (push ms t h (k, refl))))
 
 -- Parameters
 
@@ -103,15 +106,16 @@ last_parameter_good [] ss ms h = last_as (λ ts g. only_parameter (is_void ss) s
 last_parameter_good (p ∷ ps) ss ms h = last_as (λ ts g. parameters_end (p ∷ ps) _ 1 ts (λ e. cc) g) (gather (gather (none_more 1 h)))
 
 pub more_parameter_good : (h : Head) (ps : List ParameterTree) (ss : OneOrMore Specifier) (t : Token) (ms : List Marked) →
-    (to_parameters h ▹ punctuator mark.OpenParenthesis 1 ▹ parameters_before ps 1 ▹ specifiers ss 1) ms → Good (more_parameter h ps ss t (next_word ss t)) t ms
+    (to_parameters h ▹ punctuator mark.OpenParenthesis 1 ▹ parameters_before ps 1 ▹ open_words ss 1) ms → Good (more_parameter h ps ss t (next_word ss t)) t ms
 more_parameter_good h ps ss t ms g = go (next_word ss t) (is_next ss t)
   where
     go : (w : Option SpecifierWord) → IsNext ss w t → Good (more_parameter h ps ss t w) t ms
     go (Some w) k = one_more_word ss w t 1 ms k g
-    go None k =
-        fixed_good fixed.Name _ _ t ms (λ k. (λ v. let e : ◌≡◌ {A = Option Identifier} (Some (identifier_of t)) None = v.2 in cc, gather (push ms t g (k, refl))))
-        (fixed_good fixed.Comma _ _ t ms (λ k. last_as (λ ts f. parameters_comma ps _ 1 ts f) (gather (gather (push ms t (gather (none_more 1 g)) k))))
-        (wanted_good fixed.CloseParenthesis _ t ms (λ k. push ms t (gather (last_parameter_good ps ss ms g)) k)))
+    go None k = if_good (end_in_enum ss) refused _ t ms (λ b. tt) (λ b.
+        let h = whole_words ss 1 ms b g in
+        fixed_good fixed.Name _ _ t ms (λ k. (λ v. let e : ◌≡◌ {A = Option Identifier} (Some (identifier_of t)) None = v.2 in cc, gather (push ms t h (k, refl))))
+        (fixed_good fixed.Comma _ _ t ms (λ k. last_as (λ ts f. parameters_comma ps _ 1 ts f) (gather (gather (push ms t (gather (none_more 1 h)) k))))
+        (wanted_good fixed.CloseParenthesis _ t ms (λ k. push ms t (gather (last_parameter_good ps ss ms h)) k))))
 
 pub at_parameter_name_good : (h : Head) (ps : List ParameterTree) (p : ParameterTree) (t : Token) (ms : List Marked) → ¬ IsVoidAlone p →
     (to_parameters h ▹ punctuator mark.OpenParenthesis 1 ▹ parameters_before ps 1 ▹ parameter p 1) ms → Good (at_parameter_name h ps p t) t ms

@@ -1,20 +1,21 @@
 -- Lists that grow at their end.
-use Rattle.std.proofs.Common.{◌≡◌, ℕ, List, [], ◌∷◌, ◌++◌, Option, Some, true, refl}
+use Rattle.std.proofs.Common.{◌≡◌, ℕ, List, [], ◌∷◌, ◌++◌, Option, Some, None, true, false, refl}
 use Rattle.pk_ctypes.specs.declared.places.Pos.{Pos}
 use Rattle.pk_lex.specs.declared.token.Token.{Token}
+use Rattle.pk_lex.specs.declared.token.Kind.TheVariants as kind
 use Rattle.pk_lex.specs.declared.token.Punctuator.TheVariants as mark
 use Rattle.pk_ast.specs.declared.declarations.SpecifierWord.{SpecifierWord}
 use Rattle.pk_ast.specs.declared.declarations.Specifier.{Specifier}
 use Rattle.pk_ast.specs.Lists.{one, with_last, ended}
-use Rattle.pk_ast.specs.Trees.{OneOrMore, ExpressionTree, ExpressionTrees, no_expressions, expression_then, DeclaratorTree, DeclarationTree, StatementTree, ItemTrees, no_items, declaration_then, statement_then, ParameterTree, ExternalTree}
+use Rattle.pk_ast.specs.Trees.{OneOrMore, ExpressionTree, ExpressionTrees, no_expressions, expression_then, DeclaratorTree, EnumeratorTree, EnumerationTree, DeclarationTree, StatementTree, ItemTrees, no_items, declaration_then, statement_then, ParameterTree, ExternalTree}
 use Rattle.pk_ast.specs.declared.expressions.Identifier.{Identifier}
-use Rattle.pk_grammar.specs.Languages.{Marked, Identified, ◌⊙◌}
-use Rattle.pk_grammar.specs.Grammar.{punctuator, assignment_expression, Fits, AllFit, specifier, specifier_list, specifiers, Items, spelled, spelled_list, spelled_more, declarator, more_declarators, declarators, declared, optional_static, statement, block_items, parameter, IsVoidAlone, more_parameters, parameters, more_names, names, external, externals}
-use Rattle.pk_grammar.specs.Machine.Steps.{specifier_at, may_follow, first_item, more_items, one_more, one_more_statement, one_more_declaration}
-use Rattle.pk_grammar.proofs.WordLemmas.{alone_goes, goes_on}
+use Rattle.pk_grammar.specs.Languages.{Marked, Language, Identified, ◌⊙◌, Where}
+use Rattle.pk_grammar.specs.Grammar.{punctuator, assignment_expression, Fits, AllFit, specifier, specifier_list, words, specifiers, Items, spelled, spelled_list, spelled_more, declarator, more_declarators, declarators, enumerator, more_enumerators, enumerators, HasName, declared, optional_static, statement, block_items, parameter, IsVoidAlone, more_parameters, parameters, more_names, names, external, externals}
+use Rattle.pk_grammar.specs.Machine.Steps.{specifier_at, may_follow, next_word, end_in_enum, first_item, more_items, one_more, one_more_statement, one_more_declaration}
+use Rattle.pk_grammar.proofs.WordLemmas.{one_shaped, more_shaped, go_together, no_enum}
 use Rattle.pk_grammar.proofs.SpellsSigns.{IsSpecifier, IsNext}
-use Rattle.pk_grammar.proofs.SpellsWords.{Words, ◌▹◌, push, gather, last_as, assoc, then_as, alone, and_none}
-use Rattle.pk_grammar.proofs.SpellsStates.{expressions_before, declarators_before, parameters_before}
+use Rattle.pk_grammar.proofs.SpellsWords.{Words, ◌▹◌, push, gather, last_as, assoc, back_assoc, then_as, alone, and_none, drop_last}
+use Rattle.pk_grammar.proofs.SpellsStates.{open_words, expressions_before, declarators_before, enumerators_before, parameters_before}
 
 -- Expressions
 
@@ -61,48 +62,93 @@ specifiers_end (a ∷ ss) s n ts h = then_as (λ us g. specifiers_end ss s n us 
 
 -- a first word of a type, and one more
 pub first_word : {R : Words} (w : SpecifierWord) (t : Token) (n : ℕ) (ms : List Marked) → IsSpecifier (Some w) t → R ms →
-    (R ▹ specifiers (one (specifier_at t w)) n) (ms ++ record { token = t; nesting = n } ∷ [])
-first_word w t n ms k h = last_as (λ ts g. record { holds = alone_goes (specifier_at t w); is = and_none n ts g }) (push ms t h (k, refl))
+    (R ▹ open_words (one (specifier_at t w)) n) (ms ++ record { token = t; nesting = n } ∷ [])
+first_word w t n ms k h = last_as (λ ts g. record { holds = one_shaped (specifier_at t w) k.1; is = and_none n ts g }) (push ms t h (k.0, refl))
 
-words_end : (ss : OneOrMore Specifier) (s : Specifier) (n : ℕ) (ts : List Marked) → may_follow ss s.word ≡ true → (specifiers ss ⊙ specifier s) n ts → specifiers (with_last ss s) n ts
+words_end : (ss : OneOrMore Specifier) (s : Specifier) (n : ℕ) (ts : List Marked) → may_follow ss s.word ≡ true → (open_words ss ⊙ specifier s) n ts → open_words (with_last ss s) n ts
 words_end ss s n ts f g =
-    let h : ((specifier ss.first ⊙ specifier_list ss.more) ⊙ specifier s) n ts = record { front = g.front; back = g.back; cut = g.cut; first = g.first.is; second = g.second } in
-    record { holds = goes_on (ss.first ∷ ss.more) s g.first.holds f; is = then_as (λ us e. specifiers_end ss.more s n us e) (assoc h) }
+    let h : (words ss ⊙ specifier s) n ts = record { front = g.front; back = g.back; cut = g.cut; first = g.first.is; second = g.second } in
+    record { holds = more_shaped ss s g.first.holds f; is = then_as (λ us e. specifiers_end ss.more s n us e) (assoc h) }
 
-pub one_more_word : {R : Words} (ss : OneOrMore Specifier) (w : SpecifierWord) (t : Token) (n : ℕ) (ms : List Marked) → IsNext ss (Some w) t → (R ▹ specifiers ss n) ms →
-    (R ▹ specifiers (with_last ss (specifier_at t w)) n) (ms ++ record { token = t; nesting = n } ∷ [])
+pub one_more_word : {R : Words} (ss : OneOrMore Specifier) (w : SpecifierWord) (t : Token) (n : ℕ) (ms : List Marked) → IsNext ss (Some w) t → (R ▹ open_words ss n) ms →
+    (R ▹ open_words (with_last ss (specifier_at t w)) n) (ms ++ record { token = t; nesting = n } ∷ [])
 one_more_word ss w t n ms k h = last_as (λ ts g. words_end ss (specifier_at t w) n ts k.1 g) (gather (push ms t h (k.0, refl)))
+
+-- words that are whole
+pub whole_words : {R : Words} (ss : OneOrMore Specifier) (n : ℕ) (ms : List Marked) → end_in_enum ss ≡ false → (R ▹ open_words ss n) ms → (R ▹ specifiers ss n) ms
+whole_words ss n ms e h = last_as (λ ts g. record { holds = go_together ss g.holds e; is = g.is }) h
+
+-- behind which no word came
+pub whole_at : {R : Words} (ss : OneOrMore Specifier) (t : Token) (n : ℕ) (ms : List Marked) → next_word ss t ≡ None → t.kind ≡ kind.Name → (R ▹ open_words ss n) ms → (R ▹ specifiers ss n) ms
+whole_at ss t n ms e k h = whole_words ss n ms (no_enum ss t e k) h
 
 more_declarators_end : (ds : List DeclaratorTree) (d : DeclaratorTree) (n : ℕ) (ts : List Marked) →
     ((punctuator mark.Comma ⊙ declarators_before ds) ⊙ declarator d) n ts → more_declarators (ds ++ d ∷ []) n ts
 more_declarators_end [] d n ts h = then_as (λ us g. and_none n us (alone g)) (assoc h)
 more_declarators_end (a ∷ ds) d n ts h = then_as (λ us g. then_as (λ vs f. more_declarators_end ds d n vs f) (assoc g)) (assoc h)
 
-pub declarators_end : (ds : List DeclaratorTree) (d : DeclaratorTree) (n : ℕ) (ts : List Marked) → (declarators_before ds ⊙ declarator d) n ts → declarators (ended ds d) n ts
-declarators_end [] d n ts h = and_none n ts (alone h)
-declarators_end (a ∷ ds) d n ts h = then_as (λ us g. more_declarators_end ds d n us g) (assoc h)
+pub declarators_end : (e : Option EnumerationTree) (ds : List DeclaratorTree) (d : DeclaratorTree) (n : ℕ) (ts : List Marked) → (declarators_before ds ⊙ declarator d) n ts →
+    declarators e ((ended ds d).first ∷ (ended ds d).more) n ts
+declarators_end e [] d n ts h = and_none n ts (alone h)
+declarators_end e (a ∷ ds) d n ts h = then_as (λ us g. more_declarators_end ds d n us g) (assoc h)
 
 more_declarators_comma : (ds : List DeclaratorTree) (n : ℕ) (ts : List Marked) → (more_declarators ds ⊙ punctuator mark.Comma) n ts → (punctuator mark.Comma ⊙ declarators_before ds) n ts
 more_declarators_comma [] n ts h = and_none n ts (alone h)
 more_declarators_comma (d ∷ ds) n ts h = then_as (λ us g. then_as (λ vs f. more_declarators_comma ds n vs f) (assoc g)) (assoc h)
 
-pub declarators_comma : (ds : OneOrMore DeclaratorTree) (n : ℕ) (ts : List Marked) → (declarators ds ⊙ punctuator mark.Comma) n ts → declarators_before (ds.first ∷ ds.more) n ts
-declarators_comma ds n ts h = then_as (λ us g. more_declarators_comma ds.more n us g) (assoc h)
+pub declarators_comma : (e : Option EnumerationTree) (ds : OneOrMore DeclaratorTree) (n : ℕ) (ts : List Marked) → (declarators e (ds.first ∷ ds.more) ⊙ punctuator mark.Comma) n ts →
+    declarators_before (ds.first ∷ ds.more) n ts
+declarators_comma e ds n ts h = then_as (λ us g. more_declarators_comma ds.more n us g) (assoc h)
+
+-- Enumerations
+
+more_enumerators_end : (xs : List EnumeratorTree) (x : EnumeratorTree) (n : ℕ) (ts : List Marked) →
+    ((punctuator mark.Comma ⊙ enumerators_before xs) ⊙ enumerator x) n ts → more_enumerators (xs ++ x ∷ []) n ts
+more_enumerators_end [] x n ts h = then_as (λ us g. and_none n us (alone g)) (assoc h)
+more_enumerators_end (y ∷ xs) x n ts h = then_as (λ us g. then_as (λ vs f. more_enumerators_end xs x n vs f) (assoc g)) (assoc h)
+
+pub enumerators_end : (xs : List EnumeratorTree) (x : EnumeratorTree) (n : ℕ) (ts : List Marked) → (enumerators_before xs ⊙ enumerator x) n ts → enumerators (ended xs x) n ts
+enumerators_end [] x n ts h = and_none n ts (alone h)
+enumerators_end (y ∷ xs) x n ts h = then_as (λ us g. more_enumerators_end xs x n us g) (assoc h)
+
+more_enumerators_comma : (xs : List EnumeratorTree) (n : ℕ) (ts : List Marked) → (more_enumerators xs ⊙ punctuator mark.Comma) n ts → (punctuator mark.Comma ⊙ enumerators_before xs) n ts
+more_enumerators_comma [] n ts h = and_none n ts (alone h)
+more_enumerators_comma (x ∷ xs) n ts h = then_as (λ us g. then_as (λ vs f. more_enumerators_comma xs n vs f) (assoc g)) (assoc h)
+
+pub enumerators_comma : (xs : OneOrMore EnumeratorTree) (n : ℕ) (ts : List Marked) → (enumerators xs ⊙ punctuator mark.Comma) n ts → enumerators_before (xs.first ∷ xs.more) n ts
+enumerators_comma xs n ts h = then_as (λ us g. more_enumerators_comma xs.more n us g) (assoc h)
+
+-- enumerators of which a comma follows the last
+more_before : (xs : List EnumeratorTree) (n : ℕ) (ts : List Marked) → (punctuator mark.Comma ⊙ enumerators_before xs) n ts → (more_enumerators xs ⊙ punctuator mark.Comma) n ts
+more_before [] n ts h = record { front = []; back = ts; cut = refl; first = refl; second = drop_last h }
+more_before (x ∷ xs) n ts h = back_assoc (then_as (λ us g. back_assoc (then_as (λ vs f. more_before xs n vs f) g)) h)
+
+pub enumerators_before_end : (x : EnumeratorTree) (xs : List EnumeratorTree) (n : ℕ) (ts : List Marked) → enumerators_before (x ∷ xs) n ts →
+    (enumerators (record { first = x; more = xs }) ⊙ punctuator mark.Comma) n ts
+enumerators_before_end x xs n ts h = back_assoc (then_as (λ us g. more_before xs n us g) h)
+
+pub qualifiers_end : (qs : List Specifier) (q : Specifier) (n : ℕ) (ts : List Marked) → (specifier_list qs ⊙ specifier q) n ts → specifier_list (qs ++ q ∷ []) n ts
+qualifiers_end qs q n ts h = specifiers_end qs q n ts h
 
 -- Statements
+
+-- a language behind one under a condition
+kept_where : {A : Type 0} {P Q R : Language} {n : ℕ} {ts : List Marked} → ((us : List Marked) → (P ⊙ Q) n us → R n us) → (Where A P ⊙ Q) n ts → Where A R n ts
+kept_where {P = P} {Q = Q} {n = n} f h =
+    record { holds = h.first.holds; is = f _ (record { front = h.front; back = h.back; cut = h.cut; first = h.first.is; second = h.second }) }
 
 pub items_statement : (items : ItemTrees) (s : StatementTree) (n : ℕ) (ts : List Marked) → (block_items items ⊙ statement s) n ts → block_items (one_more_statement items s) n ts
 unfolding statement
 items_statement no_items s n ts h = and_none n ts (alone h)
-items_statement (declaration_then p d items) s n ts h = then_as (λ us g. then_as (λ vs f. items_statement items s n vs f) (assoc g)) (assoc h)
+items_statement (declaration_then p d items) s n ts h = kept_where (λ us g. then_as (λ vs f. then_as (λ ws e. items_statement items s n ws e) (assoc f)) (assoc g)) h
 items_statement (statement_then r items) s n ts h = then_as (λ us g. items_statement items s n us g) (assoc h)
 
-pub items_declaration : (items : ItemTrees) (s : Option Pos) (d : DeclarationTree) (n : ℕ) (ts : List Marked) → (block_items items ⊙ (optional_static s ⊙ declared d)) n ts →
+pub items_declaration : (items : ItemTrees) (s : Option Pos) (d : DeclarationTree) (n : ℕ) (ts : List Marked) → HasName s d.declarators → (block_items items ⊙ (optional_static s ⊙ declared d)) n ts →
     block_items (one_more_declaration items s d) n ts
 unfolding statement
-items_declaration no_items s d n ts h = then_as (λ us g. and_none n us g) (alone h)
-items_declaration (declaration_then p c items) s d n ts h = then_as (λ us g. then_as (λ vs f. items_declaration items s d n vs f) (assoc g)) (assoc h)
-items_declaration (statement_then r items) s d n ts h = then_as (λ us g. items_declaration items s d n us g) (assoc h)
+items_declaration no_items s d n ts k h = record { holds = k; is = then_as (λ us g. and_none n us g) (alone h) }
+items_declaration (declaration_then p c items) s d n ts k h = kept_where (λ us g. then_as (λ vs f. then_as (λ ws e. items_declaration items s d n ws k e) (assoc f)) (assoc g)) h
+items_declaration (statement_then r items) s d n ts k h = then_as (λ us g. items_declaration items s d n us k g) (assoc h)
 
 -- Type names
 

@@ -18,14 +18,14 @@ use Rattle.pk_grammar.specs.declared.signs.OperandStart.TheVariants as start
 use Rattle.pk_grammar.specs.declared.signs.Operator.{Operator}
 use Rattle.pk_grammar.specs.declared.signs.Operator.TheVariants as operator
 use Rattle.pk_grammar.specs.Languages.{Marked, Identified}
-use Rattle.pk_grammar.specs.Grammar.{any_expression, assignment_expression, conditional_expression, strength, weakest_operator, cast_expression, unary_expression, postfix_expression, Fits, specifiers, spelled, punctuator, punctuator_at}
+use Rattle.pk_grammar.specs.Grammar.{any_expression, assignment_expression, conditional_expression, strength, weakest_operator, cast_expression, unary_expression, postfix_expression, Fits, spelled, punctuator, punctuator_at}
 use Rattle.pk_grammar.specs.Machine.Signs.{operand_start, operator_of, specifier_word}
-use Rattle.pk_grammar.specs.Machine.States.{Purpose, as_statement, as_label, as_test, as_last_test, as_first, as_second, as_third, as_result, as_length, as_value, as_item, Context, as_whole, in_parentheses, in_index, in_call, in_prefix, in_unary, in_cast, in_binary, in_choice, in_alternative, in_assignment, in_comma}
-use Rattle.pk_grammar.specs.Machine.Steps.{refused, Reduced, reduced, purpose_level, operand_level, begin_operand, at_operand, end_expression, comma_after, join_comma, join_binary, join_question, is_unary, join_assignment, go_on, at_complete, at_named, at_arguments, open_cast, at_opened, more_cast, next_word}
+use Rattle.pk_grammar.specs.Machine.States.{Purpose, as_statement, as_label, as_test, as_last_test, as_first, as_second, as_third, as_result, as_length, as_value, as_item, as_enumerator, Context, as_whole, in_parentheses, in_index, in_call, in_prefix, in_unary, in_cast, in_binary, in_choice, in_alternative, in_assignment, in_comma}
+use Rattle.pk_grammar.specs.Machine.Steps.{refused, Reduced, reduced, purpose_level, operand_level, begin_operand, at_operand, end_expression, comma_after, join_comma, join_binary, join_question, is_unary, join_assignment, go_on, at_complete, at_named, at_arguments, open_cast, at_opened, more_cast, next_word, end_in_enum}
 use Rattle.pk_grammar.proofs.SpellsSigns.{IsOperand, is_operand, IsOperator, is_operator, IsSpecifier, is_specifier, IsNext, is_next}
 use Rattle.pk_grammar.proofs.SpellsWords.{◌▹◌, push, none_more, gather, last_as, moved}
-use Rattle.pk_grammar.proofs.SpellsLists.{expressions_end, expressions_comma, all_fit, one_more_word, first_word}
-use Rattle.pk_grammar.proofs.SpellsStates.{bare, to_operand, operand_nesting}
+use Rattle.pk_grammar.proofs.SpellsLists.{expressions_end, expressions_comma, all_fit, one_more_word, first_word, whole_words}
+use Rattle.pk_grammar.proofs.SpellsStates.{bare, open_words, to_operand, operand_nesting}
 use Rattle.pk_grammar.proofs.SpellsGood.{Good, if_good, fixed_good, wanted_good, le_true, le_false}
 use Rattle.pk_grammar.proofs.SpellsPurposes.{end_purpose_good, comma_purpose_good}
 
@@ -83,6 +83,7 @@ purpose_most (as_result n at o) = omega arith
 purpose_most (as_length d id) = omega arith
 purpose_most (as_value d) = omega arith
 purpose_most (as_item d at es) = omega arith
+purpose_most (as_enumerator d id) = omega arith
 
 operand_most : (c : Context) → operand_level c ≤ 14
 operand_most (as_whole p) = let h = purpose_most p in omega arith
@@ -371,10 +372,11 @@ pub at_opened_good : (n : ℕ) (at : Pos) (c : Context) (t : Token) (ms : List M
 at_opened_good n at c t ms en h = open_cast_good n at c t ms (specifier_word t) (is_specifier t) en h
 
 more_cast_as : (n : ℕ) (at : Pos) (ss : OneOrMore Specifier) (c : Context) (t : Token) (ms : List Marked) (w : Option SpecifierWord) → IsNext ss w t → n ≡ operand_nesting c →
-    operand_level c ≤ cast_expression → (to_operand c ▹ punctuator_at mark.OpenParenthesis at (n + 1) ▹ specifiers ss (n + 1)) ms → Good (more_cast n at ss c t w) t ms
+    operand_level c ≤ cast_expression → (to_operand c ▹ punctuator_at mark.OpenParenthesis at (n + 1) ▹ open_words ss (n + 1)) ms → Good (more_cast n at ss c t w) t ms
 more_cast_as n at ss c t ms (Some w) k en l h = ((en, l), one_more_word ss w t (n + 1) ms k h)
-more_cast_as n at ss c t ms None k en l h = wanted_good fixed.CloseParenthesis _ t ms (λ k. (refl, ((en, l), push ms t h k)))
+more_cast_as n at ss c t ms None k en l h = if_good (end_in_enum ss) refused _ t ms (λ b. tt)
+    (λ b. wanted_good fixed.CloseParenthesis _ t ms (λ k. (refl, ((en, l), push ms t (whole_words ss (n + 1) ms b h) k))))
 
 pub more_cast_good : (n : ℕ) (at : Pos) (ss : OneOrMore Specifier) (c : Context) (t : Token) (ms : List Marked) → n ≡ operand_nesting c →
-    operand_level c ≤ cast_expression → (to_operand c ▹ punctuator_at mark.OpenParenthesis at (n + 1) ▹ specifiers ss (n + 1)) ms → Good (more_cast n at ss c t (next_word ss t)) t ms
+    operand_level c ≤ cast_expression → (to_operand c ▹ punctuator_at mark.OpenParenthesis at (n + 1) ▹ open_words ss (n + 1)) ms → Good (more_cast n at ss c t (next_word ss t)) t ms
 more_cast_good n at ss c t ms en l h = more_cast_as n at ss c t ms (next_word ss t) (is_next ss t) en l h

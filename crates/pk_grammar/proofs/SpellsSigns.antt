@@ -9,20 +9,22 @@ use Rattle.pk_lex.specs.declared.token.Keyword.TheVariants as key
 use Rattle.pk_lex.specs.declared.token.Punctuator.TheVariants as mark
 use Rattle.pk_ast.specs.declared.declarations.Specifier.{Specifier}
 use Rattle.pk_ast.specs.declared.declarations.SpecifierWord.{SpecifierWord}
+use Rattle.pk_ast.specs.declared.declarations.SpecifierWord.TheVariants as word
 use Rattle.pk_ast.specs.declared.units.StorageWord.{StorageWord}
 use Rattle.pk_ast.specs.Trees.{OneOrMore}
 use Rattle.pk_grammar.specs.declared.states.Testing.{Testing}
 use Rattle.pk_grammar.specs.declared.states.Testing.TheVariants as testing
 use Rattle.pk_grammar.specs.declared.signs.Fixed.{Fixed}
 use Rattle.pk_grammar.specs.declared.signs.Fixed.TheVariants as fixed
+use Rattle.pk_grammar.specs.declared.signs.Shape.TheVariants as shape
 use Rattle.pk_grammar.specs.declared.signs.OperandStart.{OperandStart}
 use Rattle.pk_grammar.specs.declared.signs.OperandStart.TheVariants as start
 use Rattle.pk_grammar.specs.declared.signs.Operator.{Operator}
 use Rattle.pk_grammar.specs.declared.signs.Operator.TheVariants as operator
 use Rattle.pk_grammar.specs.declared.signs.StatementStart.{StatementStart}
 use Rattle.pk_grammar.specs.declared.signs.StatementStart.TheVariants as first
-use Rattle.pk_grammar.specs.Grammar.{binary_sign, unary_sign, step_sign, assignment_sign, IsWord, storage_keyword}
-use Rattle.pk_grammar.specs.Machine.Signs.{fixed_number, fixed_of, is_fixed, specifier_in, specifier_word, where_it_follows, all_const, has_type_name, storage_word, operand_start, operator_of, statement_start}
+use Rattle.pk_grammar.specs.Grammar.{binary_sign, unary_sign, step_sign, assignment_sign, IsWord, all_of, storage_keyword}
+use Rattle.pk_grammar.specs.Machine.Signs.{fixed_number, fixed_of, is_fixed, specifier_in, specifier_word, wants_tag, follows, where_it_follows, tag_word, shape_of, storage_word, operand_start, operator_of, statement_start}
 use Rattle.pk_grammar.specs.Machine.Steps.{may_follow, next_word}
 
 -- the kinds of which each table gives this answer
@@ -45,6 +47,7 @@ IsFixed fixed.End k = k ≡ kind.End
 IsFixed fixed.Other k = Unit {0}
 IsFixed fixed.Typedef k = k ≡ kind.Keyword key.Typedef
 IsFixed fixed.Static k = k ≡ kind.Keyword key.Static
+IsFixed fixed.Const k = k ≡ kind.Keyword key.Const
 
 abbrev pub IsOperand : OperandStart → Kind → Type 0
 IsOperand start.Name k = k ≡ kind.Name
@@ -82,9 +85,10 @@ IsStatement first.Break k = k ≡ kind.Keyword key.Break
 IsStatement first.Return k = k ≡ kind.Keyword key.Return
 IsStatement first.Other k = Unit {0}
 
+-- a word that stands first
 abbrev pub IsSpecifier : Option SpecifierWord → Token → Type 0
 IsSpecifier None t = Unit {0}
-IsSpecifier (Some w) t = IsWord w t
+IsSpecifier (Some w) t = IsWord w t × (follows shape.Consts w ≡ true)
 
 abbrev pub IsStorage : Option StorageWord → Kind → Type 0
 IsStorage None k = Unit {0}
@@ -158,35 +162,20 @@ is_statement (kind.Keyword key.Return) = refl
 is_statement _ = tt
 
 specifier_kind : (k : Kind) (from to : ℕ) (t : Token) → t.kind ≡ k → t.start ≡ from → t.end ≡ to → IsSpecifier (specifier_in k from to) t
-specifier_kind (kind.Keyword key.Void) from to t e f g = e
-specifier_kind (kind.Keyword key.Char) from to t e f g = e
-specifier_kind (kind.Keyword key.Short) from to t e f g = e
-specifier_kind (kind.Keyword key.Int) from to t e f g = e
-specifier_kind (kind.Keyword key.Long) from to t e f g = e
-specifier_kind (kind.Keyword key.Signed) from to t e f g = e
-specifier_kind (kind.Keyword key.Unsigned) from to t e f g = e
-specifier_kind (kind.Keyword key.Const) from to t e f g = e
-specifier_kind kind.TypeName from to t e f g = (e, f, g)
+specifier_kind (kind.Keyword key.Void) from to t e f g = (e, refl)
+specifier_kind (kind.Keyword key.Char) from to t e f g = (e, refl)
+specifier_kind (kind.Keyword key.Short) from to t e f g = (e, refl)
+specifier_kind (kind.Keyword key.Int) from to t e f g = (e, refl)
+specifier_kind (kind.Keyword key.Long) from to t e f g = (e, refl)
+specifier_kind (kind.Keyword key.Signed) from to t e f g = (e, refl)
+specifier_kind (kind.Keyword key.Unsigned) from to t e f g = (e, refl)
+specifier_kind (kind.Keyword key.Const) from to t e f g = (e, refl)
+specifier_kind (kind.Keyword key.Enum) from to t e f g = (e, refl)
+specifier_kind kind.TypeName from to t e f g = ((e, f, g), refl)
 specifier_kind _ from to t e f g = tt
 
 pub is_specifier : (t : Token) → IsSpecifier (specifier_word t) t
 is_specifier t = specifier_kind t.kind t.start t.end t refl refl refl
-
--- a word that comes next may follow those before it
-abbrev pub IsNext : OneOrMore Specifier → Option SpecifierWord → Token → Type 0
-IsNext done None t = Unit {0}
-IsNext done (Some w) t = IsWord w t × (may_follow done w ≡ true)
-
-pub is_next : (done : OneOrMore Specifier) (t : Token) → IsNext done (next_word done t) t
-is_next done t = by_word (specifier_word t) (is_specifier t)
-  where
-    by_test : (w : SpecifierWord) → IsWord w t → (b : Bool) → may_follow done w ≡ b → IsNext done (if b then Some w else None) t
-    by_test w k true e = (k, e)
-    by_test w k false e = tt
-
-    by_word : (o : Option SpecifierWord) → IsSpecifier o t → IsNext done (where_it_follows (all_const (done.first ∷ done.more)) (has_type_name (done.first ∷ done.more)) o) t
-    by_word None k = tt
-    by_word (Some w) k = by_test w k (may_follow done w) refl
 
 pub is_storage : (k : Kind) → IsStorage (storage_word k) k
 is_storage (kind.Keyword key.Static) = refl
@@ -199,6 +188,7 @@ fixed_self (kind.Keyword key.Else) = refl
 fixed_self (kind.Keyword key.While) = refl
 fixed_self (kind.Keyword key.Typedef) = refl
 fixed_self (kind.Keyword key.Static) = refl
+fixed_self (kind.Keyword key.Const) = refl
 fixed_self (kind.Punctuator mark.OpenParenthesis) = refl
 fixed_self (kind.Punctuator mark.CloseParenthesis) = refl
 fixed_self (kind.Punctuator mark.OpenBracket) = refl
@@ -213,7 +203,7 @@ fixed_self kind.End = refl
 fixed_self _ = tt
 
 fixed_at : ℕ → Fixed
-fixed_at n = get_or (fixed.Name ∷ fixed.OpenParenthesis ∷ fixed.CloseParenthesis ∷ fixed.OpenBracket ∷ fixed.CloseBracket ∷ fixed.OpenBrace ∷ fixed.CloseBrace ∷ fixed.Semicolon ∷ fixed.Colon ∷ fixed.Comma ∷ fixed.Assign ∷ fixed.Else ∷ fixed.While ∷ fixed.End ∷ fixed.Other ∷ fixed.Typedef ∷ fixed.Static ∷ []) n fixed.Other
+fixed_at n = get_or (fixed.Name ∷ fixed.OpenParenthesis ∷ fixed.CloseParenthesis ∷ fixed.OpenBracket ∷ fixed.CloseBracket ∷ fixed.OpenBrace ∷ fixed.CloseBrace ∷ fixed.Semicolon ∷ fixed.Colon ∷ fixed.Comma ∷ fixed.Assign ∷ fixed.Else ∷ fixed.While ∷ fixed.End ∷ fixed.Other ∷ fixed.Typedef ∷ fixed.Static ∷ fixed.Const ∷ []) n fixed.Other
 
 fixed_back : (f : Fixed) → fixed_at (fixed_number f) ≡ f
 unfolding fixed_at
@@ -234,6 +224,7 @@ fixed_back fixed.End = refl
 fixed_back fixed.Other = refl
 fixed_back fixed.Typedef = refl
 fixed_back fixed.Static = refl
+fixed_back fixed.Const = refl
 
 same_number : (a b : ℕ) → (a == b) ≡ true → a ≡ b
 same_number a b e = grind arith
@@ -243,3 +234,27 @@ fixed_is f k e = sym (fixed_back (fixed_of k)) ∙ ap fixed_at (same_number (fix
 
 pub is_this : (f : Fixed) (k : Kind) → is_fixed f k ≡ true → IsFixed f k
 is_this f k e = subst (λ f. IsFixed f k) (fixed_is f k e) (fixed_self k)
+
+-- a word that comes next may follow those before it
+abbrev pub IsNext : OneOrMore Specifier → Option SpecifierWord → Token → Type 0
+IsNext done None t = Unit {0}
+IsNext done (Some w) t = IsWord w t × (may_follow done w ≡ true)
+
+pub is_next : (done : OneOrMore Specifier) (t : Token) → IsNext done (next_word done t) t
+is_next done t = by_shape (wants_tag (shape_of (all_of done))) refl
+  where
+    by_test : (w : SpecifierWord) → IsWord w t → (b : Bool) → may_follow done w ≡ b → IsNext done (if b then Some w else None) t
+    by_test w k true e = (k, e)
+    by_test w k false e = tt
+
+    by_word : (o : Option SpecifierWord) → IsSpecifier o t → IsNext done (where_it_follows (shape_of (all_of done)) o) t
+    by_word None k = tt
+    by_word (Some w) k = by_test w k.0 (may_follow done w) refl
+
+    by_name : (b : Bool) → is_fixed fixed.Name t.kind ≡ b → wants_tag (shape_of (all_of done)) ≡ true → IsNext done (if b then Some (word.Tag t.start t.end) else None) t
+    by_name true n e = ((is_this fixed.Name t.kind n, refl, refl), e)
+    by_name false n e = tt
+
+    by_shape : (b : Bool) → wants_tag (shape_of (all_of done)) ≡ b → IsNext done (if b then tag_word t else where_it_follows (shape_of (all_of done)) (specifier_word t)) t
+    by_shape true e = by_name (is_fixed fixed.Name t.kind) refl e
+    by_shape false e = by_word (specifier_word t) (is_specifier t)

@@ -5,11 +5,12 @@ use Rattle.pk_lex.specs.declared.token.Keyword.{Keyword}
 use Rattle.pk_lex.specs.declared.token.Keyword.TheVariants as key
 use Rattle.pk_lex.specs.declared.token.Punctuator.TheVariants as mark
 use Rattle.pk_ast.specs.declared.declarations.Specifier.{Specifier}
-use Rattle.pk_ast.specs.Trees.{OneOrMore, ExpressionTree, ExpressionTrees, no_expressions, expression_then, DeclaratorTree, StatementTree, ForStartTree, ParameterTree, ExternalTree}
+use Rattle.pk_ast.specs.Trees.{OneOrMore, ExpressionTree, ExpressionTrees, no_expressions, expression_then, DeclaratorTree, EnumeratorTree, EnumerationTree, StatementTree, ForStartTree, ParameterTree, ExternalTree}
 use Rattle.pk_grammar.specs.Languages.{Marked, Language, Nothing, Identified, ◌⊙◌, Where}
-use Rattle.pk_grammar.specs.Grammar.{binary_sign, unary_sign, step_sign, assignment_sign, punctuator_at, punctuator, keyword_at, keyword, any_expression, assignment_expression, conditional_expression, strength, weakest_operator, cast_expression, unary_expression, postfix_expression, Fits, AllFit, operators_in, commas_in, specifiers, spelled, Items, optional, array_length, declarator, declarators, OpenEnd, test, optional_static, for_start, statement, block_items, stored, parameter, IsVoidAlone, parameters, names, externals}
-use Rattle.pk_grammar.specs.Machine.States.{Head, OpenBlock, function_block, inner_block, Outer, in_block, in_label, in_case, in_default, in_if, in_else, in_switch, in_while, in_do, in_for, Site, in_a_block, in_a_for, outside, Declaring, Declared, Naming, Purpose, as_statement, as_label, as_test, as_last_test, as_first, as_second, as_third, as_result, as_length, as_value, as_item, Context, as_whole, in_parentheses, in_index, in_call, in_prefix, in_unary, in_cast, in_binary, in_choice, in_alternative, in_assignment, in_comma, State, top, after_storage, after_typedef, type_specifiers, after_type_name, type_name_comma, after_specifiers, after_name, after_length, after_assign, after_brace, after_item, after_initializer, after_comma, parameters_open, parameter_specifiers, parameter_name, parameter_comma, parameters_closed, block_item, after_static, at_statement, after_statement, test_open, do_open, for_open, for_first, for_second, for_third, default_colon, goto_name, returning, statement_end, operand, named, arguments, opened, cast_specifiers, complete}
-use Rattle.pk_grammar.specs.Machine.Steps.{block_nesting, site_nesting, naming_nesting, operand_level}
+use Rattle.pk_grammar.specs.Grammar.{binary_sign, unary_sign, step_sign, assignment_sign, punctuator_at, punctuator, keyword_at, keyword, any_expression, assignment_expression, conditional_expression, strength, weakest_operator, cast_expression, unary_expression, postfix_expression, Fits, AllFit, operators_in, commas_in, AreBeforeBraces, all_of, words, specifiers, spelled, Items, optional, enumerator, enumerators, type_words, array_length, declarator, declarators, OpenEnd, test, optional_static, for_start, statement, block_items, stored, parameter, IsVoidAlone, parameters, names, externals}
+use Rattle.pk_grammar.specs.Machine.States.{Head, OpenBlock, function_block, inner_block, Outer, in_block, in_label, in_case, in_default, in_if, in_else, in_switch, in_while, in_do, in_for, Site, in_a_block, in_a_for, outside, Declaring, Declared, EnumerationSite, in_declaration, in_typedef, Enumerating, Enumerated, Naming, Purpose, as_statement, as_label, as_test, as_last_test, as_first, as_second, as_third, as_result, as_length, as_value, as_item, as_enumerator, Context, as_whole, in_parentheses, in_index, in_call, in_prefix, in_unary, in_cast, in_binary, in_choice, in_alternative, in_assignment, in_comma, State, top, after_storage, after_typedef, type_specifiers, after_type_name, type_name_comma, at_enumerator, after_enumerator_name, after_braces, after_specifiers, after_name, after_length, after_assign, after_brace, after_item, after_initializer, after_comma, parameters_open, parameter_specifiers, parameter_name, parameter_comma, parameters_closed, block_item, after_static, at_statement, after_statement, test_open, do_open, for_open, for_first, for_second, for_third, default_colon, goto_name, returning, statement_end, operand, named, arguments, opened, cast_specifiers, complete}
+use Rattle.pk_grammar.specs.Machine.Steps.{block_nesting, site_nesting, naming_nesting, enumeration_nesting, enumerating_nesting, operand_level}
+use Rattle.pk_grammar.proofs.WordLemmas.{AreShaped}
 use Rattle.pk_grammar.proofs.SpellsSigns.{testing_keyword}
 use Rattle.pk_grammar.proofs.SpellsWords.{Words, ◌▹◌, before_as}
 
@@ -40,13 +41,25 @@ abbrev pub declarators_before : List DeclaratorTree → Language
 declarators_before [] = Nothing
 declarators_before (d ∷ ds) = declarator d ⊙ punctuator mark.Comma ⊙ declarators_before ds
 
+abbrev pub enumerators_before : List EnumeratorTree → Language
+enumerators_before [] = Nothing
+enumerators_before (x ∷ xs) = enumerator x ⊙ punctuator mark.Comma ⊙ enumerators_before xs
+
 abbrev pub parameters_before : List ParameterTree → Language
 parameters_before [] = Nothing
 parameters_before (p ∷ ps) = parameter p ⊙ punctuator mark.Comma ⊙ parameters_before ps
 
--- up to the names of a declaration of type names
-abbrev pub to_type_names : List ExternalTree → OneOrMore Specifier → Words
-to_type_names before specs = externals before 0 ▹ keyword key.Typedef 0 ▹ specifiers specs 0
+-- words of a type behind which others may come
+abbrev pub open_words : OneOrMore Specifier → Language
+open_words specs = Where (AreShaped specs) (words specs)
+
+-- up to the words of a declaration of type names
+abbrev pub to_types : List ExternalTree → Words
+to_types before = externals before 0 ▹ keyword key.Typedef 0
+
+-- up to its names
+abbrev pub to_type_names : List ExternalTree → OneOrMore Specifier → Option EnumerationTree → Words
+to_type_names before specs e = to_types before ▹ type_words specs e 0
 
 -- up to a function's name
 abbrev pub to_parameters : Head → Words
@@ -117,11 +130,29 @@ to_declaration (outside before s) = externals before 0 ▹ stored s 0
 
 -- up to a declaration's next declarator
 abbrev pub to_declarator : Declaring → Words
-to_declarator d = to_declaration d.site ▹ specifiers d.specifiers (site_nesting d.site) ▹ declarators_before d.declarators (site_nesting d.site)
+to_declarator d = to_declaration d.site ▹ type_words d.specifiers d.enumeration (site_nesting d.site) ▹ declarators_before d.declarators (site_nesting d.site)
 
 -- up to what follows a declaration's last declarator
 abbrev pub to_declarator_end : Declared → Words
-to_declarator_end d = to_declaration d.site ▹ specifiers d.specifiers (site_nesting d.site) ▹ declarators d.declarators (site_nesting d.site)
+to_declarator_end d =
+    to_declaration d.site ▹ type_words d.specifiers d.enumeration (site_nesting d.site) ▹ declarators d.enumeration (d.declarators.first ∷ d.declarators.more) (site_nesting d.site)
+
+-- up to the words before an enumeration's braces
+abbrev pub to_enumeration : EnumerationSite → Words
+to_enumeration (in_declaration s) = to_declaration s
+to_enumeration (in_typedef before) = to_types before
+
+-- up to an enumeration's braces
+abbrev pub to_braces : EnumerationSite → OneOrMore Specifier → Words
+to_braces s specs = When (AreBeforeBraces (all_of specs)) (to_enumeration s ▹ words specs (enumeration_nesting s))
+
+-- up to its next enumerator
+abbrev pub to_enumerator : Enumerating → Words
+to_enumerator d = to_braces d.site d.specifiers ▹ punctuator mark.OpenBrace (enumerating_nesting d) ▹ enumerators_before d.enumerators (enumerating_nesting d)
+
+-- up to what follows its last enumerator
+abbrev pub to_enumerator_end : Enumerated → Words
+to_enumerator_end d = to_braces d.site d.specifiers ▹ punctuator mark.OpenBrace (enumeration_nesting d.site) ▹ enumerators d.enumerators (enumeration_nesting d.site)
 
 -- up to an initializer
 abbrev pub to_initializer : Naming → Words
@@ -145,6 +176,7 @@ to_expression (as_third n at f second o) = to_third n at f second o
 to_expression (as_result n at o) = to_test key.Return n at o
 to_expression (as_length d id) = to_declarator d ▹ Identified id (site_nesting d.site) ▹ punctuator mark.OpenBracket (site_nesting d.site + 1)
 to_expression (as_value d) = to_value d
+to_expression (as_enumerator d id) = to_enumerator d ▹ Identified id (enumerating_nesting d) ▹ punctuator mark.Assign (enumerating_nesting d)
 to_expression (as_item d at es) = When (AllFit es) (to_brace d at ▹ expressions_before es (naming_nesting d))
 
 abbrev pub expression_nesting : Purpose → ℕ
@@ -159,6 +191,7 @@ expression_nesting (as_result n at o) = n + 1
 expression_nesting (as_length d id) = site_nesting d.site + 1
 expression_nesting (as_value d) = naming_nesting d
 expression_nesting (as_item d at es) = naming_nesting d
+expression_nesting (as_enumerator d id) = enumerating_nesting d
 
 -- the nesting of an operand that is part of this
 abbrev pub operand_nesting : Context → ℕ
@@ -211,11 +244,14 @@ unended s n ts = (us : List Marked) → punctuator mark.Semicolon n us → state
 abbrev pub Spells : State → Words
 Spells (top before) = externals before 0
 Spells (after_storage before s) = externals before 0 ▹ stored (Some s) 0
-Spells (after_typedef before) = externals before 0 ▹ keyword key.Typedef 0
-Spells (type_specifiers before specs) = to_type_names before specs
-Spells (after_type_name before specs ids) = to_type_names before specs ▹ names ids 0
-Spells (type_name_comma before specs ids) = to_type_names before specs ▹ names ids 0 ▹ punctuator mark.Comma 0
-Spells (after_specifiers s specs) = to_declaration s ▹ specifiers specs (site_nesting s)
+Spells (after_typedef before) = to_types before
+Spells (type_specifiers before specs) = to_types before ▹ open_words specs 0
+Spells (after_type_name before specs e ids) = to_type_names before specs e ▹ names ids 0
+Spells (type_name_comma before specs e ids) = to_type_names before specs e ▹ names ids 0 ▹ punctuator mark.Comma 0
+Spells (at_enumerator d) = to_enumerator d
+Spells (after_enumerator_name d id) = to_enumerator d ▹ Identified id (enumerating_nesting d)
+Spells (after_braces s specs e) = to_enumeration s ▹ type_words specs (Some e) (enumeration_nesting s)
+Spells (after_specifiers s specs) = to_declaration s ▹ open_words specs (site_nesting s)
 Spells (after_name d id) = to_declarator d ▹ Identified id (site_nesting d.site)
 Spells (after_length d) = to_initializer d
 Spells (after_assign d) = to_value d
@@ -224,7 +260,7 @@ Spells (after_item d at e es) = to_brace d at ▹ Items e es (naming_nesting d) 
 Spells (after_initializer d) = to_declarator_end d
 Spells (after_comma d) = to_declarator d
 Spells (parameters_open h) = to_parameters h ▹ punctuator mark.OpenParenthesis 1
-Spells (parameter_specifiers h ps specs) = to_parameters h ▹ punctuator mark.OpenParenthesis 1 ▹ parameters_before ps 1 ▹ specifiers specs 1
+Spells (parameter_specifiers h ps specs) = to_parameters h ▹ punctuator mark.OpenParenthesis 1 ▹ parameters_before ps 1 ▹ open_words specs 1
 Spells (parameter_name h ps p) = When (¬ IsVoidAlone p) (to_parameters h ▹ punctuator mark.OpenParenthesis 1 ▹ parameters_before ps 1 ▹ parameter p 1)
 Spells (parameter_comma h ps) = to_parameters h ▹ punctuator mark.OpenParenthesis 1 ▹ parameters_before ps 1
 Spells (parameters_closed h ps) = to_body h ps
@@ -247,5 +283,5 @@ Spells (named n id c) = When (n ≡ operand_nesting c) (to_operand c ▹ Identif
 Spells (arguments n id c) = When (n ≡ operand_nesting c) (to_operand c ▹ Identified id n ▹ punctuator mark.OpenParenthesis (n + 1))
 Spells (opened n at c) = When (n ≡ operand_nesting c) (to_operand c ▹ punctuator_at mark.OpenParenthesis at (n + 1))
 Spells (cast_specifiers n at specs c) =
-    When ((n ≡ operand_nesting c) × (operand_level c ≤ cast_expression)) (to_operand c ▹ punctuator_at mark.OpenParenthesis at (n + 1) ▹ specifiers specs (n + 1))
+    When ((n ≡ operand_nesting c) × (operand_level c ≤ cast_expression)) (to_operand c ▹ punctuator_at mark.OpenParenthesis at (n + 1) ▹ open_words specs (n + 1))
 Spells (complete n e c) = When ((n ≡ operand_nesting c) × Fits postfix_expression e) (to_operand c ▹ spelled e n)

@@ -38,6 +38,18 @@ gather h =
       second = record { front = g.back; back = h.back; cut = refl; first = g.second; second = h.second };
     }
 
+-- and is taken apart
+pub spread : {R : Words} {P Q : Language} {n : ℕ} {ms : List Marked} → (R ▹ (P ⊙ Q) n) ms → (R ▹ P n ▹ Q n) ms
+spread h =
+    let g = h.second in
+    record {
+      front = h.front ++ g.front;
+      back = g.back;
+      cut = h.cut ∙ ap (λ q. h.front ++ q) g.cut ∙ sym (append_assoc h.front g.front g.back);
+      first = record { front = h.front; back = g.front; cut = refl; first = h.first; second = g.first };
+      second = g.second;
+    }
+
 pub together : {P Q : Language} {n : ℕ} {ms : List Marked} → (P n ▹ Q n) ms → (P ⊙ Q) n ms
 together h = record { front = h.front; back = h.back; cut = h.cut; first = h.first; second = h.second }
 
@@ -78,6 +90,17 @@ assoc h =
       cut = h.cut ∙ ap (λ q. q ++ h.back) g.cut ∙ append_assoc g.front g.back h.back;
       first = g.first;
       second = record { front = g.back; back = h.back; cut = refl; first = g.second; second = h.second };
+    }
+
+pub back_assoc : {P Q R : Language} {n : ℕ} {ts : List Marked} → (P ⊙ (Q ⊙ R)) n ts → ((P ⊙ Q) ⊙ R) n ts
+back_assoc h =
+    let g = h.second in
+    record {
+      front = h.front ++ g.front;
+      back = g.back;
+      cut = h.cut ∙ ap (λ q. h.front ++ q) g.cut ∙ sym (append_assoc h.front g.front g.back);
+      first = record { front = h.front; back = g.front; cut = refl; first = h.first; second = g.first };
+      second = g.second;
     }
 
 pub then_as : {P Q Q' : Language} {n : ℕ} {ts : List Marked} → ((us : List Marked) → Q n us → Q' n us) → (P ⊙ Q) n ts → (P ⊙ Q') n ts

@@ -1,126 +1,341 @@
--- Words of a type that go together.
-use Rattle.std.proofs.Common.{◌≡◌, ◌⊎◌, inl, inr, ◌&&◌, ◌||◌, not, Bool, true, false, if◌then◌else◌, Some, None, List, [], ◌∷◌, ◌++◌, refl, sym, ap, subst, ◌∙◌}
+-- Words of a type: which of them follow which.
+use Rattle.std.proofs.Common.{◌≡◌, ◌⊎◌, inl, inr, Bool, true, false, if◌then◌else◌, Option, Some, None, List, [], ◌∷◌, ◌++◌, refl, sym, ap, subst, ◌∙◌}
 use Rattle.pk_lex.specs.declared.token.Token.{Token}
+use Rattle.pk_lex.specs.declared.token.Kind.TheVariants as kind
+use Rattle.pk_lex.specs.declared.token.Punctuator.{Punctuator}
+use Rattle.pk_lex.specs.declared.token.Punctuator.TheVariants as mark
 use Rattle.pk_ast.specs.declared.declarations.Specifier.{Specifier}
 use Rattle.pk_ast.specs.declared.declarations.SpecifierWord.{SpecifierWord}
 use Rattle.pk_ast.specs.declared.declarations.SpecifierWord.TheVariants as word
 use Rattle.pk_ast.specs.Trees.{OneOrMore}
-use Rattle.pk_grammar.specs.Grammar.{IsTypeName, AreKeywords, AreConst, AreNamed, GoTogether}
-use Rattle.pk_grammar.specs.Machine.Signs.{specifier_word, follows, where_it_follows, is_const_word, is_type_name, all_const, has_type_name}
-use Rattle.pk_grammar.specs.Machine.Steps.{may_follow, next_word}
+use Rattle.pk_ast.specs.Lists.{with_last}
+use Rattle.pk_grammar.specs.declared.signs.Fixed.TheVariants as fixed
+use Rattle.pk_grammar.specs.declared.signs.Shape.{Shape}
+use Rattle.pk_grammar.specs.declared.signs.Shape.TheVariants as shape
+use Rattle.pk_grammar.specs.Grammar.{IsWord, IsTypeName, IsTag, IsKeyword, AreKeywords, AreConst, AreTagged, BeginNamed, AreNamed, GoTogether, IsOptionalTag, AreBeforeBraces, all_of}
+use Rattle.pk_grammar.specs.Machine.Signs.{is_fixed, specifier_in, specifier_word, wants_tag, takes_braces, follows, with_word, with_words, shape_of, where_it_follows, tag_word, following_word}
+use Rattle.pk_grammar.specs.Machine.Steps.{may_follow, next_word, end_in_enum, may_open}
+use Rattle.pk_grammar.proofs.CompleteSigns.{word_is}
 
--- what the tests say
-and_both : (a b : Bool) → (a && b) ≡ true → (a ≡ true) × (b ≡ true)
-and_both true b e = (refl, e)
-and_both false b e = absurd (cc)
+-- One more word
 
-or_none : (a b : Bool) → (a || b) ≡ false → (a ≡ false) × (b ≡ false)
-or_none true b e = absurd (cc)
-or_none false b e = (refl, e)
+pub with_words_end : (s : Shape) (ws : List Specifier) (w : Specifier) → with_words s (ws ++ w ∷ []) ≡ with_word (with_words s ws) w.word
+with_words_end s [] w = refl
+with_words_end s (v ∷ ws) w = with_words_end (with_word s v.word) ws w
 
-not_true : (b : Bool) → not b ≡ true → b ≡ false
-not_true true e = absurd (cc)
-not_true false e = refl
+pub shape_of_end : (ws : List Specifier) (w : Specifier) → shape_of (ws ++ w ∷ []) ≡ with_word (shape_of ws) w.word
+shape_of_end ws w = with_words_end shape.Consts ws w
 
-const_is : (w : SpecifierWord) → is_const_word w ≡ true → w ≡ word.Const
-const_is word.Const e = refl
-const_is w e = absurd (cc)
+pub shape_with_last : (done : OneOrMore Specifier) (w : Specifier) → shape_of (all_of (with_last done w)) ≡ with_word (shape_of (all_of done)) w.word
+shape_with_last done w = shape_of_end (all_of done) w
 
-no_type_name : (w : SpecifierWord) → is_type_name w ≡ false → ¬ IsTypeName w
-no_type_name (word.TypeName from to) e = absurd (cc)
-no_type_name w e = λ h. h
+-- behind `enum` no word follows but a tag
+wants_none : (s : Shape) (w : SpecifierWord) → ¬ IsTag w → follows s w ≡ true → wants_tag s ≡ false
+wants_none shape.Consts w k f = refl
+wants_none shape.Keywords w k f = refl
+wants_none shape.Tagged w k f = refl
+wants_none shape.Named w k f = refl
+wants_none shape.Enum (word.Tag from to) k f = absurd (k tt)
+wants_none shape.Enum w k f = absurd (cc)
 
-type_name_false : (w : SpecifierWord) → ¬ IsTypeName w → is_type_name w ≡ false
-type_name_false (word.TypeName from to) h = absurd (h tt)
-type_name_false w h = refl
+tag_is : (t : Token) (from to : _) → IsWord (word.Tag from to) t → tag_word t ≡ Some (word.Tag from to)
+tag_is t from to h =
+    ap (λ k. if is_fixed fixed.Name k then Some (word.Tag t.start t.end) else None) h.0
+    ∙ (ap (λ n. Some (word.Tag n t.end)) h.1 ∙ ap (λ n. Some (word.Tag from n)) h.2)
 
-all_const_are : (ss : List Specifier) → all_const ss ≡ true → AreConst ss
-all_const_are [] e = tt
-all_const_are (s ∷ ss) e = let b = and_both (is_const_word s.word) (all_const ss) e in (const_is s.word b.0, all_const_are ss b.1)
+other_is : (s : Shape) (w : SpecifierWord) (t : Token) → ¬ IsTag w → IsWord w t → follows s w ≡ true → following_word s t ≡ Some w
+other_is s w t k h f =
+    ap (λ (b : Bool). if b then tag_word t else where_it_follows s (specifier_word t)) (wants_none s w k f) ∙ ap (λ o. where_it_follows s o) (word_is w t k h)
+    ∙ ap (λ (b : Bool). if b then Some w else None) f
 
-are_all_const : (ss : List Specifier) → AreConst ss → all_const ss ≡ true
-are_all_const [] h = refl
-are_all_const (s ∷ ss) h = ap (λ w. is_const_word w && all_const ss) h.0 ∙ are_all_const ss h.1
-
-no_name_among : (ss : List Specifier) → has_type_name ss ≡ false → AreKeywords ss
-no_name_among [] e = tt
-no_name_among (s ∷ ss) e = let b = or_none (is_type_name s.word) (has_type_name ss) e in (no_type_name s.word b.0, no_name_among ss b.1)
-
--- keywords at the front of keywords
-front_has_none : (ss more : List Specifier) → AreKeywords (ss ++ more) → has_type_name ss ≡ false
-front_has_none [] more h = refl
-front_has_none (s ∷ ss) more h = ap (λ b. b || has_type_name ss) (type_name_false s.word h.0) ∙ front_has_none ss more h.1
-
-keyword_at : (ss : List Specifier) (s : Specifier) (more : List Specifier) → AreKeywords (ss ++ s ∷ more) → ¬ IsTypeName s.word
-keyword_at [] s more h = h.0
-keyword_at (r ∷ ss) s more h = keyword_at ss s more h.1
-
-const_at : (ss : List Specifier) (s : Specifier) (more : List Specifier) → AreConst (ss ++ s ∷ more) → s.word ≡ word.Const
-const_at [] s more h = h.0
-const_at (r ∷ ss) s more h = const_at ss s more h.1
-
--- a word round a type name is that name, behind `const`s, or a `const`
-named_at : (ss : List Specifier) (s : Specifier) (more : List Specifier) → AreNamed (ss ++ s ∷ more) → (IsTypeName s.word × AreConst ss) ⊎ (s.word ≡ word.Const)
-named_at [] s more (inl h) = inl (h.0, tt)
-named_at [] s more (inr h) = inr h.0
-named_at (r ∷ ss) s more (inl h) = inr (const_at ss s more h.1)
-named_at (r ∷ ss) s more (inr h) = elim (named_at ss s more h.1) [ inl g ↦ inl (g.0, (h.0, g.1)) | inr g ↦ inr g ]
-
-follows_keyword : (consts named : Bool) (w : SpecifierWord) → named ≡ false → ¬ IsTypeName w → follows consts named w ≡ true
-follows_keyword consts named word.Const e h = refl
-follows_keyword consts named (word.TypeName from to) e h = absurd (h tt)
-follows_keyword consts named w e h = ap not e
-
-follows_name : (consts named : Bool) (w : SpecifierWord) → consts ≡ true → IsTypeName w → follows consts named w ≡ true
-follows_name consts named (word.TypeName from to) e h = e
-follows_name consts named w e h = absurd h
+following_is : (s : Shape) (w : SpecifierWord) (t : Token) → IsWord w t → follows s w ≡ true → following_word s t ≡ Some w
+following_is s (word.Tag from to) t h f =
+    ap (λ (b : Bool). if b then tag_word t else where_it_follows s (specifier_word t)) f ∙ tag_is t from to h
+following_is s w t h f = other_is s w t (λ k. k) h f
 
 -- a word that may follow is the next one
-pub next_is : (done : OneOrMore Specifier) (t : Token) (w : SpecifierWord) → specifier_word t ≡ Some w → may_follow done w ≡ true → next_word done t ≡ Some w
-next_is done t w e m =
-    ap (λ o. where_it_follows (all_const (done.first ∷ done.more)) (has_type_name (done.first ∷ done.more)) o) e ∙ ap (λ (b : Bool). if b then Some w else None) m
+pub next_is : (done : OneOrMore Specifier) (t : Token) (w : SpecifierWord) → IsWord w t → may_follow done w ≡ true → next_word done t ≡ Some w
+next_is done t w h m = following_is (shape_of (all_of done)) w t h m
 
--- each word of those that go together may follow the ones before it
-pub follows_in : (ss : List Specifier) (s : Specifier) (more : List Specifier) → GoTogether (ss ++ s ∷ more) → follows (all_const ss) (has_type_name ss) s.word ≡ true
-follows_in ss s more (inl h) = follows_keyword (all_const ss) (has_type_name ss) s.word (front_has_none ss (s ∷ more) h) (keyword_at ss s more h)
-follows_in ss s more (inr h) = elim (named_at ss s more h) [
-  | inl g ↦ follows_name (all_const ss) (has_type_name ss) s.word (are_all_const ss g.1) g.0
-  | inr g ↦ ap (λ w. follows (all_const ss) (has_type_name ss) w) g
-]
+-- a word that may stand first is a word of a type by itself
+pub first_is : (w : SpecifierWord) (t : Token) → IsWord w t → follows shape.Consts w ≡ true → specifier_word t ≡ Some w
+first_is (word.Tag from to) t h f = absurd (cc)
+first_is w t h f = word_is w t (λ k. k) h
 
-keywords_end : (ss : List Specifier) (s : Specifier) → AreKeywords ss → ¬ IsTypeName s.word → AreKeywords (ss ++ s ∷ [])
-keywords_end [] s h k = (k, tt)
-keywords_end (r ∷ ss) s h k = (h.0, keywords_end ss s h.1 k)
-
-consts_end : (ss : List Specifier) (s : Specifier) → AreConst ss → s.word ≡ word.Const → AreConst (ss ++ s ∷ [])
-consts_end [] s h k = (k, tt)
-consts_end (r ∷ ss) s h k = (h.0, consts_end ss s h.1 k)
-
-named_end : (ss : List Specifier) (s : Specifier) → AreNamed ss → s.word ≡ word.Const → AreNamed (ss ++ s ∷ [])
-named_end [] s h k = absurd h
-named_end (r ∷ ss) s (inl h) k = inl (h.0, consts_end ss s h.1 k)
-named_end (r ∷ ss) s (inr h) k = inr (h.0, named_end ss s h.1 k)
-
-name_end : (ss : List Specifier) (s : Specifier) → AreConst ss → IsTypeName s.word → AreNamed (ss ++ s ∷ [])
-name_end [] s h k = inl (k, tt)
-name_end (r ∷ ss) s h k = inr (h.0, name_end ss s h.1 k)
-
--- a word that may follow others goes with them
-pub goes_on : (ss : List Specifier) (s : Specifier) → GoTogether ss → follows (all_const ss) (has_type_name ss) s.word ≡ true → GoTogether (ss ++ s ∷ [])
-goes_on ss s h f = by_word s.word refl f
+-- no word is next at a token that is none and isn't a name either
+pub no_next : (done : OneOrMore Specifier) (t : Token) → is_fixed fixed.Name t.kind ≡ false → specifier_word t ≡ None → next_word done t ≡ None
+no_next done t n e =
+    let s : Shape = shape_of (all_of done) in
+    ap (λ (b : Bool). if wants_tag s then (if b then Some (word.Tag t.start t.end) else None) else where_it_follows s (specifier_word t)) n
+    ∙ ap (λ o. if wants_tag s then None else where_it_follows s o) e ∙ either (wants_tag s)
   where
-    with_const : GoTogether ss → s.word ≡ word.Const → GoTogether (ss ++ s ∷ [])
-    with_const (inl k) e = inl (keywords_end ss s k (subst (λ w. ¬ IsTypeName w) (sym e) (λ n. n)))
-    with_const (inr k) e = inr (named_end ss s k e)
+    either : (b : Bool) → ◌≡◌ {A = Option SpecifierWord} (if b then None else None) None
+    either true = refl
+    either false = refl
 
-    by_word : (w : SpecifierWord) → s.word ≡ w → follows (all_const ss) (has_type_name ss) w ≡ true → GoTogether (ss ++ s ∷ [])
-    by_word word.Const e g = with_const h e
-    by_word (word.TypeName from to) e g = inr (name_end ss s (all_const_are ss g) (subst IsTypeName (sym e) tt))
-    by_word w e g = inl (keywords_end ss s (no_name_among ss (not_true (has_type_name ss) g)) (subst (λ w. ¬ IsTypeName w) (sym e) (λ n. n)))
+-- nor at any that is none, where no tag is wanted
+pub no_more : (done : OneOrMore Specifier) (t : Token) → end_in_enum done ≡ false → specifier_word t ≡ None → next_word done t ≡ None
+no_more done t n e =
+    let s : Shape = shape_of (all_of done) in
+    ap (λ (b : Bool). if b then tag_word t else where_it_follows s (specifier_word t)) n ∙ ap (λ o. where_it_follows s o) e
 
-pub alone_goes : (s : Specifier) → GoTogether (s ∷ [])
-alone_goes s = by_word s.word refl
+pub no_sign : (done : OneOrMore Specifier) (t : Token) (p : Punctuator) → t.kind ≡ kind.Punctuator p → next_word done t ≡ None
+no_sign done t p e = no_next done t (ap (λ k. is_fixed fixed.Name k) e ∙ no_name p) (ap (λ k. specifier_in k t.start t.end) e)
   where
-    by_word : (w : SpecifierWord) → s.word ≡ w → GoTogether (s ∷ [])
-    by_word (word.TypeName from to) e = inr (inl (subst IsTypeName (sym e) tt, tt))
-    by_word w e = inl (subst (λ w. ¬ IsTypeName w) (sym e) (λ n. n), tt)
+    no_name : (p : Punctuator) → is_fixed fixed.Name (kind.Punctuator p) ≡ false
+    no_name mark.OpenParenthesis = refl
+    no_name _ = refl
+
+pub no_name : (done : OneOrMore Specifier) (t : Token) → end_in_enum done ≡ false → t.kind ≡ kind.Name → next_word done t ≡ None
+no_name done t n e = no_more done t n (ap (λ k. specifier_in k t.start t.end) e)
+
+-- a name that is no next word is no tag
+pub no_enum : (done : OneOrMore Specifier) (t : Token) → next_word done t ≡ None → t.kind ≡ kind.Name → end_in_enum done ≡ false
+no_enum done t h e = by_test (wants_tag (shape_of (all_of done))) refl
+  where
+    by_test : (b : Bool) → wants_tag (shape_of (all_of done)) ≡ b → end_in_enum done ≡ false
+    by_test false f = f
+    by_test true f =
+        let g : next_word done t ≡ Some (word.Tag t.start t.end) =
+        ap (λ (b : Bool). if b then tag_word t else where_it_follows (shape_of (all_of done)) (specifier_word t)) f ∙ ap (λ k. if is_fixed fixed.Name k then Some (word.Tag t.start t.end) else None) e in
+        let a : ◌≡◌ {A = Option SpecifierWord} (Some (word.Tag t.start t.end)) None = sym g ∙ h in
+        absurd (cc)
+
+-- behind `enum` a name is a tag
+pub next_tag : (done : OneOrMore Specifier) (t : Token) → end_in_enum done ≡ true → t.kind ≡ kind.Name → next_word done t ≡ Some (word.Tag t.start t.end)
+next_tag done t h e =
+    ap (λ (b : Bool). if b then tag_word t else where_it_follows (shape_of (all_of done)) (specifier_word t)) h
+    ∙ ap (λ k. if is_fixed fixed.Name k then Some (word.Tag t.start t.end) else None) e
+
+-- and with it no other is wanted
+pub tag_is_last : (done : OneOrMore Specifier) (w : Specifier) → end_in_enum done ≡ true → end_in_enum (with_last done w) ≡ false
+tag_is_last done w h = ap wants_tag (shape_with_last done w) ∙ by_shape (shape_of (all_of done)) h
+  where
+    by_shape : (s : Shape) → wants_tag s ≡ true → wants_tag (with_word s w.word) ≡ false
+    by_shape shape.Enum e = refl
+    by_shape s e = absurd (cc)
+
+-- Words of the grammar follow each other
+
+-- words that go together, as far as they stand behind words of this shape
+abbrev pub Goes : Shape → List Specifier → Type 0
+Goes shape.Consts ws = GoTogether ws
+Goes shape.Keywords ws = AreKeywords ws
+Goes shape.Enum ws = AreTagged ws
+Goes shape.Tagged ws = AreConst ws
+Goes shape.Named ws = AreConst ws
+
+-- words before braces, as far as they stand behind words of this shape
+abbrev pub Opens : Shape → List Specifier → Type 0
+Opens shape.Consts ws = AreBeforeBraces ws
+Opens shape.Keywords ws = ⊥
+Opens shape.Enum ws = IsOptionalTag ws
+Opens shape.Tagged ws = ws ≡ []
+Opens shape.Named ws = ⊥
+
+-- the word follows, and the others stand behind it
+abbrev GoesOn : Shape → SpecifierWord → List Specifier → Type 0
+GoesOn s w more = (follows s w ≡ true) × Goes (with_word s w) more
+
+abbrev OpensOn : Shape → SpecifierWord → List Specifier → Type 0
+OpensOn s w more = (follows s w ≡ true) × Opens (with_word s w) more
+
+keyword_first : (w : SpecifierWord) (more : List Specifier) → IsKeyword w → AreKeywords more → GoesOn shape.Consts w more
+keyword_first word.Const more k h = (refl, inl h)
+keyword_first (word.TypeName from to) more k h = absurd k
+keyword_first word.Enum more k h = absurd k
+keyword_first (word.Tag from to) more k h = absurd k
+keyword_first w more k h = (refl, h)
+
+keyword_next : (w : SpecifierWord) (more : List Specifier) → IsKeyword w → AreKeywords more → GoesOn shape.Keywords w more
+keyword_next (word.TypeName from to) more k h = absurd k
+keyword_next word.Enum more k h = absurd k
+keyword_next (word.Tag from to) more k h = absurd k
+keyword_next w more k h = (refl, h)
+
+name_first : (w : SpecifierWord) (more : List Specifier) → IsTypeName w → AreConst more → GoesOn shape.Consts w more
+name_first (word.TypeName from to) more k h = (refl, h)
+name_first w more k h = absurd k
+
+tag_next : (w : SpecifierWord) (more : List Specifier) → IsTag w → AreConst more → GoesOn shape.Enum w more
+tag_next (word.Tag from to) more k h = (refl, h)
+tag_next w more k h = absurd k
+
+named_first : (w : SpecifierWord) (more : List Specifier) → BeginNamed w more ⊎ ((w ≡ word.Const) × AreNamed more) → GoesOn shape.Consts w more
+named_first w more (inl (inl h)) = name_first w more h.0 h.1
+named_first w more (inl (inr h)) = subst (λ w. GoesOn shape.Consts w more) (sym h.0) (refl, h.1)
+named_first w more (inr h) = subst (λ w. GoesOn shape.Consts w more) (sym h.0) (refl, inr h.1)
+
+pub goes_on : (s : Shape) (w : Specifier) (more : List Specifier) → Goes s (w ∷ more) → GoesOn s w.word more
+goes_on shape.Consts w more (inl h) = keyword_first w.word more h.0 h.1
+goes_on shape.Consts w more (inr h) = named_first w.word more h
+goes_on shape.Keywords w more h = keyword_next w.word more h.0 h.1
+goes_on shape.Enum w more h = tag_next w.word more h.0 h.1
+goes_on shape.Tagged w more h = subst (λ w. GoesOn shape.Tagged w more) (sym h.0) (refl, h.1)
+goes_on shape.Named w more h = subst (λ w. GoesOn shape.Named w more) (sym h.0) (refl, h.1)
+
+only_tag : (w : SpecifierWord) → IsTag w → OpensOn shape.Enum w []
+only_tag (word.Tag from to) k = (refl, refl)
+only_tag w k = absurd k
+
+opens_tag : (w : Specifier) (more : List Specifier) → IsOptionalTag (w ∷ more) → OpensOn shape.Enum w.word more
+opens_tag w [] h = only_tag w.word h
+opens_tag w (v ∷ more) h = absurd h
+
+pub opens_on : (s : Shape) (w : Specifier) (more : List Specifier) → Opens s (w ∷ more) → OpensOn s w.word more
+opens_on shape.Consts w more (inl h) = subst (λ w. OpensOn shape.Consts w more) (sym h.0) (refl, h.1)
+opens_on shape.Consts w more (inr h) = subst (λ w. OpensOn shape.Consts w more) (sym h.0) (refl, h.1)
+opens_on shape.Keywords w more h = absurd h
+opens_on shape.Enum w more h = opens_tag w more h
+opens_on shape.Tagged w more h = absurd (cc)
+opens_on shape.Named w more h = absurd h
+
+-- either of them
+abbrev pub Continues : Shape → List Specifier → Type 0
+Continues s ws = Goes s ws ⊎ Opens s ws
+
+pub continues_on : (s : Shape) (w : Specifier) (more : List Specifier) → Continues s (w ∷ more) → (follows s w.word ≡ true) × Continues (with_word s w.word) more
+continues_on s w more (inl h) = let g = goes_on s w more h in (g.0, inl g.1)
+continues_on s w more (inr h) = let g = opens_on s w more h in (g.0, inr g.1)
+
+goes_end : (s : Shape) (ws : List Specifier) → Goes s ws → wants_tag (with_words s ws) ≡ false
+goes_end shape.Consts [] h = refl
+goes_end shape.Keywords [] h = refl
+goes_end shape.Enum [] h = absurd h
+goes_end shape.Tagged [] h = refl
+goes_end shape.Named [] h = refl
+goes_end s (w ∷ ws) h = goes_end (with_word s w.word) ws (goes_on s w ws h).1
+
+opens_end : (s : Shape) (ws : List Specifier) → Opens s ws → takes_braces (with_words s ws) ≡ true
+opens_end shape.Consts [] h = absurd h
+opens_end shape.Keywords [] h = absurd h
+opens_end shape.Enum [] h = refl
+opens_end shape.Tagged [] h = refl
+opens_end shape.Named [] h = absurd h
+opens_end s (w ∷ ws) h = opens_end (with_word s w.word) ws (opens_on s w ws h).1
+
+-- behind words that go together no tag is wanted
+pub ends_in_no_enum : (specs : OneOrMore Specifier) → GoTogether (all_of specs) → end_in_enum specs ≡ false
+ends_in_no_enum specs h = goes_end shape.Consts (all_of specs) h
+
+-- and behind those before braces braces may stand
+pub opens_braces : (specs : OneOrMore Specifier) → AreBeforeBraces (all_of specs) → may_open specs ≡ true
+opens_braces specs h = opens_end shape.Consts (all_of specs) h
+
+-- Words that follow each other are of the grammar
+
+-- `enum`, with `const`s before it
+abbrev pub AreOpen : List Specifier → Type 0
+AreOpen [] = ⊥
+AreOpen (w ∷ []) = w.word ≡ word.Enum
+AreOpen (w ∷ v ∷ more) = (w.word ≡ word.Const) × AreOpen (v ∷ more)
+
+-- what words of each shape are
+abbrev pub Shaped : Shape → List Specifier → Type 0
+Shaped shape.Consts ws = AreConst ws
+Shaped shape.Keywords ws = AreKeywords ws
+Shaped shape.Enum ws = AreOpen ws
+Shaped shape.Tagged ws = AreNamed ws × AreBeforeBraces ws
+Shaped shape.Named ws = AreNamed ws
+
+is_keyword : (w : SpecifierWord) → w ≡ word.Const → IsKeyword w
+is_keyword w e = subst IsKeyword (sym e) tt
+
+consts_are_keywords : (ws : List Specifier) → AreConst ws → AreKeywords ws
+consts_are_keywords [] h = tt
+consts_are_keywords (w ∷ ws) h = (is_keyword w.word h.0, consts_are_keywords ws h.1)
+
+keywords_end : (ws : List Specifier) (w : Specifier) → AreKeywords ws → IsKeyword w.word → AreKeywords (ws ++ w ∷ [])
+keywords_end [] w h k = (k, tt)
+keywords_end (v ∷ ws) w h k = (h.0, keywords_end ws w h.1 k)
+
+pub consts_end : (ws : List Specifier) (w : Specifier) → AreConst ws → w.word ≡ word.Const → AreConst (ws ++ w ∷ [])
+consts_end [] w h k = (k, tt)
+consts_end (v ∷ ws) w h k = (h.0, consts_end ws w h.1 k)
+
+tagged_end : (ws : List Specifier) (w : Specifier) → AreTagged ws → w.word ≡ word.Const → AreTagged (ws ++ w ∷ [])
+tagged_end [] w h k = absurd h
+tagged_end (v ∷ ws) w h k = (h.0, consts_end ws w h.1 k)
+
+named_end : (ws : List Specifier) (w : Specifier) → AreNamed ws → w.word ≡ word.Const → AreNamed (ws ++ w ∷ [])
+named_end [] w h k = absurd h
+named_end (v ∷ ws) w (inl (inl h)) k = inl (inl (h.0, consts_end ws w h.1 k))
+named_end (v ∷ ws) w (inl (inr h)) k = inl (inr (h.0, tagged_end ws w h.1 k))
+named_end (v ∷ ws) w (inr h) k = inr (h.0, named_end ws w h.1 k)
+
+name_end : (ws : List Specifier) (w : Specifier) → AreConst ws → IsTypeName w.word → AreNamed (ws ++ w ∷ [])
+name_end [] w h k = inl (inl (k, tt))
+name_end (v ∷ ws) w h k = inr (h.0, name_end ws w h.1 k)
+
+enum_end : (ws : List Specifier) (w : Specifier) → AreConst ws → w.word ≡ word.Enum → AreOpen (ws ++ w ∷ [])
+enum_end [] w h k = k
+enum_end (v ∷ []) w h k = (h.0, k)
+enum_end (v ∷ u ∷ ws) w h k = (h.0, enum_end (u ∷ ws) w h.1 k)
+
+tag_end : (ws : List Specifier) (w : Specifier) → AreOpen ws → IsTag w.word → AreNamed (ws ++ w ∷ [])
+tag_end [] w h k = absurd h
+tag_end (v ∷ []) w h k = inl (inr (h, (k, tt)))
+tag_end (v ∷ u ∷ ws) w h k = inr (h.0, tag_end (u ∷ ws) w h.1 k)
+
+tag_opens : (ws : List Specifier) (w : Specifier) → AreOpen ws → IsTag w.word → AreBeforeBraces (ws ++ w ∷ [])
+tag_opens [] w h k = absurd h
+tag_opens (v ∷ []) w h k = inl (h, k)
+tag_opens (v ∷ u ∷ ws) w h k = inr (h.0, tag_opens (u ∷ ws) w h.1 k)
+
+open_opens : (ws : List Specifier) → AreOpen ws → AreBeforeBraces ws
+open_opens [] h = absurd h
+open_opens (w ∷ []) h = inl (h, tt)
+open_opens (w ∷ v ∷ ws) h = inr (h.0, open_opens (v ∷ ws) h.1)
+
+-- a word that follows others leaves words of its shape
+pub shaped_end : (s : Shape) (ws : List Specifier) (w : Specifier) → Shaped s ws → follows s w.word ≡ true → Shaped (with_word s w.word) (ws ++ w ∷ [])
+shaped_end s ws w h f = by_word s w.word refl h f
+  where
+    by_word : (s : Shape) (v : SpecifierWord) → w.word ≡ v → Shaped s ws → follows s v ≡ true → Shaped (with_word s v) (ws ++ w ∷ [])
+    by_word shape.Consts word.Const e h f = consts_end ws w h e
+    by_word shape.Consts (word.TypeName from to) e h f = name_end ws w h (subst IsTypeName (sym e) tt)
+    by_word shape.Consts word.Enum e h f = enum_end ws w h e
+    by_word shape.Consts (word.Tag from to) e h f = absurd (cc)
+    by_word shape.Consts v e h f = keywords_end ws w (consts_are_keywords ws h) (subst IsKeyword (sym e) tt)
+    by_word shape.Keywords (word.TypeName from to) e h f = absurd (cc)
+    by_word shape.Keywords word.Enum e h f = absurd (cc)
+    by_word shape.Keywords (word.Tag from to) e h f = absurd (cc)
+    by_word shape.Keywords v e h f = keywords_end ws w h (subst IsKeyword (sym e) tt)
+    by_word shape.Enum (word.Tag from to) e h f =
+        let k : IsTag w.word = subst IsTag (sym e) tt in (tag_end ws w h k, tag_opens ws w h k)
+    by_word shape.Enum v e h f = absurd (cc)
+    by_word shape.Tagged word.Const e h f = named_end ws w h.0 e
+    by_word shape.Tagged v e h f = absurd (cc)
+    by_word shape.Named word.Const e h f = named_end ws w h e
+    by_word shape.Named v e h f = absurd (cc)
+
+-- words that stand for what they are so far
+abbrev pub AreShaped : OneOrMore Specifier → Type 0
+AreShaped specs = Shaped (shape_of (all_of specs)) (all_of specs)
+
+pub one_shaped : (w : Specifier) → follows shape.Consts w.word ≡ true → Shaped (shape_of (w ∷ [])) (w ∷ [])
+one_shaped w f = shaped_end shape.Consts [] w tt f
+
+pub more_shaped : (done : OneOrMore Specifier) (w : Specifier) → AreShaped done → may_follow done w.word ≡ true → AreShaped (with_last done w)
+more_shaped done w h f =
+    subst (λ s. Shaped s (all_of (with_last done w))) (sym (shape_with_last done w)) (shaped_end (shape_of (all_of done)) (all_of done) w h f)
+
+shaped_goes : (s : Shape) (ws : List Specifier) → Shaped s ws → wants_tag s ≡ false → GoTogether ws
+shaped_goes shape.Consts ws h e = inl (consts_are_keywords ws h)
+shaped_goes shape.Keywords ws h e = inl h
+shaped_goes shape.Enum ws h e = absurd (cc)
+shaped_goes shape.Tagged ws h e = inr h.0
+shaped_goes shape.Named ws h e = inr h
+
+shaped_opens : (s : Shape) (ws : List Specifier) → Shaped s ws → takes_braces s ≡ true → AreBeforeBraces ws
+shaped_opens shape.Consts ws h e = absurd (cc)
+shaped_opens shape.Keywords ws h e = absurd (cc)
+shaped_opens shape.Enum ws h e = open_opens ws h
+shaped_opens shape.Tagged ws h e = h.1
+shaped_opens shape.Named ws h e = absurd (cc)
+
+pub go_together : (specs : OneOrMore Specifier) → AreShaped specs → end_in_enum specs ≡ false → GoTogether (all_of specs)
+go_together specs h e = shaped_goes (shape_of (all_of specs)) (all_of specs) h e
+
+pub before_braces : (specs : OneOrMore Specifier) → AreShaped specs → may_open specs ≡ true → AreBeforeBraces (all_of specs)
+before_braces specs h e = shaped_opens (shape_of (all_of specs)) (all_of specs) h e

@@ -306,7 +306,8 @@ IsOptionalTag (s ∷ t ∷ more) = ⊥
 -- what stands before the braces of an enumeration: `enum` and perhaps a tag, with `const`s before them
 abbrev pub AreBeforeBraces : List Specifier → Type 0
 AreBeforeBraces [] = ⊥
-AreBeforeBraces (s ∷ more) = ((s.word ≡ word.Enum) × IsOptionalTag more) ⊎ ((s.word ≡ word.Const) × AreBeforeBraces more)
+AreBeforeBraces (s ∷ more) =
+    ((s.word ≡ word.Enum) × IsOptionalTag more) ⊎ ((s.word ≡ word.Const) × AreBeforeBraces more)
 
 abbrev pub all_of : OneOrMore Specifier → List Specifier
 all_of s = s.first ∷ s.more

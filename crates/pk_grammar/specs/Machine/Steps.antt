@@ -306,7 +306,6 @@ end_purpose (as_value d) e t = wanted fixed.Semicolon t (end_declaration (with_i
 end_purpose (as_item d at es) e t =
     wanted fixed.CloseBrace t (taken (naming_nesting d)
     (after_initializer (with_initializer d (Some (braced at (first_item es e) (more_items es e))))))
-
 end_purpose (as_enumerator d id) e t = wanted fixed.CloseBrace t (close_braces (with_enumerator d id (Some e)))
 
 -- an expression ends at this token, which is no operator
@@ -583,7 +582,8 @@ open_parameters (outside before s) specs (Some e) ds id = refused
 
 abbrev pub at_after_name : Declaring → Identifier → Token → Verdict
 at_after_name d id t =
-    if is_fixed fixed.OpenParenthesis t.kind then open_parameters d.site d.specifiers d.enumeration d.declarators id else
+    if is_fixed fixed.OpenParenthesis t.kind
+    then open_parameters d.site d.specifiers d.enumeration d.declarators id else
     if is_fixed fixed.OpenBracket t.kind
     then taken (site_nesting d.site + 1) (operand (site_nesting d.site + 1) (as_whole (as_length d id))) else
     if is_fixed fixed.Assign t.kind then taken (site_nesting d.site) (after_assign (without_length d id)) else
