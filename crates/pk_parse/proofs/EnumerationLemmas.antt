@@ -12,17 +12,15 @@ use Rattle.pk_ast.proofs.ListLemmas.{enumerator_trees-push}
 use Rattle.pk_grammar.specs.declared.failure.ParseError.{ParseError}
 use Rattle.pk_grammar.specs.declared.failure.ParseError.TheVariants.{Syntax}
 use Rattle.pk_grammar.specs.declared.signs.Fixed.TheVariants as fixed
-use Rattle.pk_grammar.specs.declared.signs.Shape.{Shape}
 use Rattle.pk_grammar.specs.Languages.{identifier_of}
-use Rattle.pk_grammar.specs.Grammar.{all_of}
-use Rattle.pk_grammar.specs.Machine.Signs.{is_fixed, shape_of, takes_braces}
+use Rattle.pk_grammar.specs.Machine.Signs.{is_fixed}
 use Rattle.pk_grammar.specs.Machine.States.{EnumerationSite, in_declaration, in_typedef, Enumerating, Enumerated, as_enumerator, as_whole, at_enumerator, after_enumerator_name, after_braces, operand, complete}
 use Rattle.pk_grammar.specs.Machine.Steps.{enumeration_nesting, enumerating_nesting, with_enumerator, specifier_at, may_open}
 use Rattle.pk_grammar.specs.Machine.Running.{first_of_all, run, Fails}
 use Rattle.pk_parse_expression.specs.Parsing.{Begins, AreWords, UpTo, Reads, Refuses, words, past_words}
 use Rattle.pk_parse_expression.proofs.RunLemmas.{fails_as, fails_syntax}
 use Rattle.pk_parse_expression.proofs.RunOperands.{no_word_more}
-use Rattle.pk_parse.specs.Parts.{words_state, type_state, EndsType, braces_open, CanEnumerate, value_state, EndsValue, goes_on_enumerating, enumerator_state, with_enumerators, with_qualifiers, GoesOn}
+use Rattle.pk_parse.specs.Parts.{words_state, EndsType, braces_open, CanEnumerate, value_state, EndsValue, goes_on_enumerating, enumerator_state, with_enumerators, with_qualifiers}
 use Rattle.pk_parse.proofs.RunDeclarations.{run_specifiers}
 use Rattle.pk_parse.proofs.RunTypeNames.{run_type_words}
 use Rattle.pk_parse.proofs.RunEnumerations.{run_enumerator, no_enumerator, run_given, run_last, run_next, no_next, run_last_comma, run_open, run_qualifier}

@@ -1,7 +1,6 @@
 -- What is answered within declarations, token by token.
-use Rattle.std.proofs.Common.{◌≡◌, ℕ, ◌+◌, ◌<◌, ◌≤◌, List, [], ◌∷◌, Option, Some, None, Bool, ◌&&◌, not, true, false, refl, sym, ap, subst, ◌∙◌, arith}
+use Rattle.std.proofs.Common.{◌≡◌, ℕ, ◌+◌, ◌<◌, ◌≤◌, List, ◌∷◌, Option, Some, None, Bool, ◌&&◌, not, true, false, refl, sym, ap, subst, ◌∙◌, arith}
 use Rattle.std.specs.Option.{is_some}
-use Rattle.std.specs.Prelude.{if◌then◌else◌}
 use Rattle.pk_parse_expression.proofs.RunOperands.{run_words, same_both}
 use Rattle.pk_ctypes.specs.declared.places.Pos.{Pos}
 use Rattle.pk_lex.specs.declared.token.Token.{Token}

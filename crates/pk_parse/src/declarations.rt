@@ -213,7 +213,8 @@ pub fn declarators<'a>(
 
 // The `;`, where it comes first behind an enumeration that may stand alone.
 fn end_alone<'a>(parser: Parser, alone: bool, tokens: &'a [Token]) -> Option<(Token, &'a [Token])>
-    ensures { MatchOption result (is_fixed Fixed.Semicolon (first_of_all parser.end tokens.now).kind ≡ true → alone ≡ false)
+    ensures { MatchOption result
+        (is_fixed Fixed.Semicolon (first_of_all parser.end tokens.now).kind ≡ true → alone ≡ false)
         (λ r. Begins Fixed.Semicolon tokens.now r.0 r.1.now × (alone ≡ true)) }
 {
     if alone {

@@ -58,7 +58,8 @@ abbrev pub past_words : Specifier → List Token → List Token
 past_words first ts = (words (one first) ts).1
 
 -- the words of a type of which the first was read are these, and the tokens after them
-pub record AreWords (first : Specifier) (ts : List Token) (specs : OneOrMore Specifier) (rest : List Token) : Type 0 where
+pub record AreWords (first : Specifier) (ts : List Token) (specs : OneOrMore Specifier)
+    (rest : List Token) : Type 0 where
   pub are : specs ≡ specifiers_from first ts
   pub past : rest ≡ past_words first ts
 

@@ -1,7 +1,4 @@
-use Rattle.std.proofs.Common.{◌≡◌, ◌&&◌, not, option_map, sym, ap, ◌∙◌, arith}
-use Rattle.pk_ast.specs.declared.declarations.Specifiers.{Specifiers}
-use Rattle.pk_ast.specs.declared.declarations.Enumeration.{Enumeration}
-use Rattle.pk_ast.specs.Trees.{DeclarationTree}
+use Rattle.std.proofs.Common.{◌&&◌, not, option_map, sym, ap, ◌∙◌, arith}
 use Rattle.pk_ast.specs.Views.{specifiers_tree, enumeration_tree, declarator_trees}
 use Rattle.pk_grammar.specs.Machine.States.{in_declaration}
 use Rattle.pk_grammar.specs.Machine.Steps.{declared_at}

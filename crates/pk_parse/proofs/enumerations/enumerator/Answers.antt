@@ -1,4 +1,4 @@
-use Rattle.std.proofs.Common.{option_map, sym, ap, ◌∙◌, arith}
+use Rattle.std.proofs.Common.{option_map, ap, ◌∙◌, arith}
 use Rattle.pk_ast.specs.Views.{expression_tree, enumerator_tree}
 use Rattle.pk_grammar.specs.declared.signs.Fixed.TheVariants as fixed
 use Rattle.pk_parse_expression.proofs.RunLemmas.{passed}

@@ -1,4 +1,4 @@
-use Rattle.std.proofs.Common.{Bool, List, refl, sym, ap, subst, ◌∙◌, arith}
+use Rattle.std.proofs.Common.{Bool, List, sym, ap, subst, ◌∙◌, arith}
 use Rattle.pk_ast.specs.Trees.{EnumeratorTree}
 use Rattle.pk_ast.specs.Views.{enumerator_trees}
 use Rattle.pk_grammar.specs.Machine.Running.{run}
