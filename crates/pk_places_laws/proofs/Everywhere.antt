@@ -1,7 +1,7 @@
 -- What holds of every place holds of those of a unit.
 use Rattle.std.specs.Prelude.{slice_index_or, Option, Some, None, IfSome}
 use Rattle.pk_ctypes.specs.declared.places.Pos.{Pos}
-use Rattle.pk_typed.specs.Trees.{PlaceTree, ValueTree, EffectTree, ValueTrees, DeclaredTree, ForStartTree, StatementTree, ItemTrees, BodyTree, FunctionTree, UnitTree}
+use Rattle.pk_typed.specs.Trees.{PlaceTree, ValueTree, EffectTree, ValueTrees, DeclaredTree, ForStartTree, StatementTree, ItemTrees, BodyTree, UnitTree}
 use Rattle.pk_typed.specs.Trees as tree
 use Rattle.pk_places_laws.specs.Places.{OfPlaces, InPlace, InValue, InEffect, InValues, InDeclared, InStart, InStatement, InItems, InBody, InUnit}
 

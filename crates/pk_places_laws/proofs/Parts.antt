@@ -18,7 +18,7 @@ use Rattle.pk_draft.specs.Drafts.{Names, no_label, first_draft, region_of, begun
 use Rattle.pk_lower_row.specs.Contexts.{Context, own_result, local_at}
 use Rattle.pk_lower_statement.specs.Statements.{lowered_items}
 use Rattle.pk_lower.specs.Parts as made
-use Rattle.pk_lower.specs.Parts.{context, body_at, function_at, part, parts_from, program_draft, sizes_of, file_variable, entry_parameter}
+use Rattle.pk_lower.specs.Parts.{context, function_at, part, parts_from, program_draft, sizes_of, file_variable, entry_parameter}
 use Rattle.pk_places_laws.specs.Places as places
 use Rattle.pk_places_laws.specs.Names as names
 use Rattle.pk_places_laws.proofs.Told.{Asked, IsTold, Keeps, placing, making, linking, standing_at, freshening, emitting}
