@@ -7,10 +7,10 @@ use Rattle.std.proofs.lemmas.Int.{ints, clamps}
 use Rattle.std.proofs.Math.Nat.{div-le_self, mul-le-mul}
 use Rattle.std.proofs.Math.Pow.{pow_mono}
 use Rattle.pk_ctypes.specs.declared.types.IntType.{IntType}
-use Rattle.pk_ctypes.specs.declared.types.IntType.TheVariants.{Char, SChar, UChar, Short, UShort, Int, UInt, Long, ULong, LLong, ULLong}
 use Rattle.pk_ctypes.specs.declared.types.Op.{Op}
 use Rattle.pk_ctypes.specs.declared.types.Op.TheVariants.{Add, Sub, Mul, Div, Rem, Shl, Shr, And, Or, Xor, Lt, Gt, Le, Ge, Eq, Ne, Neg, BitNot, Not}
 use Rattle.pk_ctypes.specs.Types.{is_signed_of, low_of, high_of, width_of, InType}
+use Rattle.pk_ctypes.proofs.Shifts.{width_most}
 use Rattle.pk_ctypes.proofs.Wrapped.{sized, zero_in}
 use Rattle.pk_interval.specs.declared.outcome.Outcome.{Outcome}
 use Rattle.pk_interval.specs.declared.outcome.Outcome.TheVariants.{Empty, Within, TooLarge}
@@ -118,19 +118,6 @@ left_small t (pos m) (pos n) h i k l =
     omega (arith, ints, products)
 left_small t (negsuc m) c h i k l = absurd (omega (arith, ints))
 left_small t (pos m) (negsuc n) h i k l = absurd (omega (arith, ints))
-
-width_most : (t : IntType) → width_of t ≤ 64
-width_most Char = omega arith
-width_most SChar = omega arith
-width_most UChar = omega arith
-width_most Short = omega arith
-width_most UShort = omega arith
-width_most Int = omega arith
-width_most UInt = omega arith
-width_most Long = omega arith
-width_most ULong = omega arith
-width_most LLong = omega arith
-width_most ULLong = omega arith
 
 left_by_small : (t : IntType) (a b : Range) → IsIn t a → (o o' : Option Range) → ((d : Range) → o ≡ Some d → IsFrom (int_max a.lo (pos 0)) a.hi d)
     → ((d : Range) → o' ≡ Some d → IsFrom (int_max b.lo (pos 0)) (int_min b.hi (pos (width_of t) -ℤ pos 1)) d) → IsSmall (within_if (left_by o o'))
