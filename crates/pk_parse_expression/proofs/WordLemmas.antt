@@ -1,5 +1,5 @@
 -- The words of a type with which tokens begin.
-use Rattle.std.proofs.Common.{◌≡◌, ◌<◌, ◌≤◌, List, [], ◌∷◌, ◌++◌, Option, Some, None, refl, sym, ap, ◌∙◌, length, arith}
+use Rattle.std.proofs.Common.{◌≡◌, ◌<◌, ◌≤◌, List, [], ◌∷◌, Option, Some, None, refl, sym, ap, ◌∙◌, length, arith}
 use Rattle.pk_lex.specs.declared.token.Token.{Token}
 use Rattle.pk_ast.specs.declared.declarations.Specifier.{Specifier}
 use Rattle.pk_ast.specs.declared.declarations.SpecifierWord.{SpecifierWord}
