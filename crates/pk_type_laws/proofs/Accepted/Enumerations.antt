@@ -15,7 +15,7 @@ use Rattle.pk_ast.specs.Places.{first_place_of}
 use Rattle.pk_ast.specs.Trees.{OneOrMore, ExpressionTree, EnumeratorTree, EnumerationTree}
 use Rattle.pk_typed.specs.declared.values.Variable.{Variable}
 use Rattle.pk_typed.specs.Trees as tree
-use Rattle.pk_typed.specs.Trees.{LocalTree, FileObjectTree, DeclaredTree, UnitTree}
+use Rattle.pk_typed.specs.Trees.{LocalTree, DeclaredTree, UnitTree}
 use Rattle.pk_type_scope.specs.declared.declarations.Declaration.{Declaration}
 use Rattle.pk_type_scope.specs.declared.declarations.Declaration.TheVariants.{Object, Function, Enumerator, TypeName}
 use Rattle.pk_type_scope.specs.Declarations.{HasTypes, is_unknown}
