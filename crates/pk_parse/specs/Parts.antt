@@ -50,6 +50,7 @@ abbrev pub value_state : Enumerating → Identifier → Option ExpressionTree �
 value_state d id None = after_enumerator_name d id
 value_state d id (Some e) = complete (enumerating_nesting d) e (as_whole (as_enumerator d id))
 
+-- no `=` comes, or the value that is given has ended
 abbrev pub EndsValue : Token → Option ExpressionTree → List Token → Type 0
 EndsValue end None ts = is_fixed fixed.Assign (first_of_all end ts).kind ≡ false
 EndsValue end (Some e) ts = EndsAt end conditional_expression ts
@@ -109,6 +110,7 @@ pub record AtNames (end : Token) (s : Site) (specs : OneOrMore Specifier) (e : O
   pub is_alone : alone ≡ (is_some e && not (needs_name s))
   pub ends : EndsType end specs e ts
 
+-- no name was read yet
 abbrev pub named_first : Site → OneOrMore Specifier → Option EnumerationTree → Declaring
 named_first s specs e = record { site = s; specifiers = specs; enumeration = e; declarators = [] }
 

@@ -1,9 +1,12 @@
-use Rattle.std.proofs.Common.{arith}
+use Rattle.std.proofs.Common.{refl, arith}
 use Rattle.pk_grammar.specs.declared.signs.Fixed.TheVariants as fixed
 use Rattle.pk_parse_expression.proofs.RunLemmas.{passed}
 use Rattle.pk_parse.proofs.DeclarationLemmas.{shorter}
 use Rattle.pk_parse.proofs.EnumerationLemmas.{fails_given, reads_given}
 use Rattle.pk_parse.proofs.enumerations.value.Goals as goal
+
+pub returns-in_default : goal.returns-in_default
+returns-in_default c = (λ d id same. refl, c.in_default.ensures, omega arith)
 
 pub returns-in_err-value : goal.returns-in_err-value
 returns-in_err-value c =
