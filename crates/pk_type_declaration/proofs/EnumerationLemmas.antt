@@ -11,7 +11,7 @@ use Rattle.pk_typed.specs.Trees.{DeclaredTree}
 use Rattle.pk_type_scope.specs.declared.failures.Failure.{Failure}
 use Rattle.pk_type_scope.specs.Failures.{noted}
 use Rattle.pk_type_scope.specs.Specifiers.{type_name_among}
-use Rattle.pk_type_declaration.specs.Enumerations.{after_tag, next_number, enumerator_value, after_enumerator, after_enumerators, after_words, hidden, hidden_by, word_trees_at}
+use Rattle.pk_type_declaration.specs.Enumerations.{after_tag, next_number, enumerator_value, after_enumerator_value, after_enumerator_name, after_enumerator, after_enumerators, after_words, hidden, hidden_by, word_trees_at}
 use Rattle.pk_type_declaration.specs.Walks.{Walked, here}
 
 abbrev State : Type 0
@@ -50,6 +50,12 @@ next_trees n m w v now rest x xs ys all p q r s h =
 pub end_trees : (n : Option ℤ) (w : State) (now : List EnumeratorTree) (xs all : Trees) → now ≡ [] → xs ++ hidden_by noted n now w ≡ all → xs ≡ all
 unfolding hidden_by
 end_trees n w now xs all p h = sym (append-nil xs) ∙ (ap (λ y. xs ++ hidden_by noted n y w) (sym p) ∙ h)
+
+-- an enumerator, step by step
+pub enumerator_walked : (n value : Option ℤ) (x : EnumeratorTree) (w a b : State) → value ≡ enumerator_value w n x.value → a ≡ after_enumerator_value noted n x.name x.value w → b ≡ after_enumerator_name noted value x.name a → b ≡ after_enumerator noted n x w
+unfolding after_enumerator
+enumerator_walked n value x w a b p q h =
+    h ∙ (ap (after_enumerator_name noted value x.name) q ∙ ap (λ y. after_enumerator_name noted y x.name (after_enumerator_value noted n x.name x.value w)) p)
 
 -- an enumeration, step by step
 pub enumeration_walked : (words : OneOrMore Specifier) (e : EnumerationTree) (tag : Option Identifier) (m : Option ℤ) (more : List EnumeratorTree) (w a b v : State) → tag ≡ type_name_among words → a ≡ after_tag noted tag w →

@@ -143,7 +143,7 @@ impl<'a> Walk<'a> {
     }
 
     // Checks an enumerator, and gives its value.
-    #[tactic(auto, unfolding(pk_ast::specs::Views::enumerator_tree, crate::specs::Enumerations::after_enumerator))]
+    #[tactic(auto, unfolding(pk_ast::specs::Views::enumerator_tree))]
     fn enumerator(
         &mut self,
         alloc: Global,

@@ -4,6 +4,7 @@ use pk_lex::lex;
 use pk_parse::parse;
 use pk_type::{Refusal, check};
 use pk_typed::Unit;
+use pk_typenames::mark;
 use std::alloc::Global;
 use std::test::Fail;
 
@@ -19,7 +20,8 @@ fn printed(alloc: Global, refusal: Option<Refusal>) -> Result<String, Fail> {
 
 // The typed tree of a text, or what typing refuses.
 pub(crate) fn typed(alloc: Global, text: &[u8]) -> Result<Result<Unit, Refusal>, Fail> {
-    let tokens = lex(alloc, text)?;
+    let mut tokens = lex(alloc, text)?;
+    mark(alloc, text, &mut tokens)?;
     let unit = parse(alloc, tokens.as_slice())?;
     Ok(check(alloc, text, &unit))
 }
