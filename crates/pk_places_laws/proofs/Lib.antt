@@ -1,0 +1,9 @@
+pub mod Told
+pub mod Rows
+pub mod Expressions
+pub mod Statements
+pub mod Parts
+pub mod Everywhere
+pub mod Accesses
+pub mod Graphs
+pub mod Callers
