@@ -1,0 +1,6 @@
+mod Names
+mod Parts
+mod Expressions
+mod Walks
+mod Statements
+mod Places
