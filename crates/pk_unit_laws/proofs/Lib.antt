@@ -4,3 +4,4 @@ mod Expressions
 mod Walks
 mod Statements
 mod Places
+mod Derived

@@ -3,4 +3,4 @@
 
 mod laws;
 
-pub use laws::{names_are_the_texts, places_are_the_texts};
+pub use laws::{names_are_the_texts, places_are_the_texts, places_are_the_tokens};
