@@ -11,7 +11,7 @@ use Rattle.pk_ast.specs.Trees.{OneOrMore, ExpressionTree, ExpressionTrees, no_ex
 use Rattle.pk_grammar.specs.Languages.{Marked, Language, One, identifier_of, ◌⊙◌}
 use Rattle.pk_grammar.specs.Grammar as grammar
 use Rattle.pk_grammar.specs.Grammar.{spelled, spelled_list, spelled_more, optional, array_length, initializer, declarator, more_declarators, enumerator, enumerator_value, more_enumerators, type_words, declared, test, for_start, statement, block_items, function_end, external, externals}
-use Rattle.pk_grammar.specs.Outcomes.{unmarked}
+use Rattle.pk_grammar.specs.Outcomes.{IsParsed, unmarked}
 use Rattle.pk_places_laws.specs.Places.{OfPlaces}
 use Rattle.pk_unit_laws.specs.Trees.{InExpression, InExpressions, InOptional, InInitializer, InDeclarator, InDeclarators, InEnumerator, InEnumerators, InEnumeration, InDeclaration, InStart, InStatement, InItems, InBlock, InExternal, InExternals}
 use Rattle.pk_unit_laws.specs.Laws.{PlacesAreTheTokens}
@@ -232,8 +232,10 @@ are_tokens : (P : OfPlaces) (ms : List Marked) → All (λ (t : Token). P t.at) 
 are_tokens P [] h = tt
 are_tokens P (m ∷ ms) h = (All-head (λ (t : Token). P t.at) m.token (unmarked ms) h, are_tokens P ms (All-tail (λ (t : Token). P t.at) m.token (unmarked ms) h))
 
-pub places_are_the_tokens : PlacesAreTheTokens
-places_are_the_tokens tokens xs test p h =
-    let P : OfPlaces = λ at. test at ≡ true in
+pub tokens_told : (P : OfPlaces) (tokens : List Token) (xs : List ExternalTree) → IsParsed tokens xs → All (λ (t : Token). P t.at) tokens → InExternals P xs
+tokens_told P tokens xs p h =
     let a = are_tokens P p.marked (subst (All (λ (t : Token). P t.at)) (sym p.tokens_are) h) in
     all_externals P xs _ _ p.derived.first (left P p.derived a)
+
+pub places_are_the_tokens : PlacesAreTheTokens
+places_are_the_tokens tokens xs test p h = tokens_told (λ at. test at ≡ true) tokens xs p h

@@ -1,7 +1,7 @@
-mod Names
+pub mod Names
 mod Parts
 mod Expressions
 mod Walks
 mod Statements
-mod Places
-mod Derived
+pub mod Places
+pub mod Derived

@@ -52,7 +52,7 @@ all_right P (x ∷ xs) ys h = all_right P xs ys (All-tail P x (xs ++ ys) h)
 -- ---- what stands before a place
 
 -- the text of a name is such
-abbrev Spelt : OfNames → List ℕ → Identifier → Type 0
+abbrev pub Spelt : OfNames → List ℕ → Identifier → Type 0
 Spelt N text x = N (utf8_lossy (spelled text x))
 
 -- the text is this one, and the names of the objects so far are such
@@ -398,8 +398,10 @@ unit_named N text f h = record {
   functions = functions_are N f.functions h.functions;
 }
 
-pub names_are_the_texts : NamesAreTheTexts
-names_are_the_texts text xs test q =
-    let N : OfNames = λ name. test name ≡ true in
+pub names_told : (N : OfNames) (text : List ℕ) (xs : List ExternalTree) → All (Spelt N text) (names_of xs) → InUnit N (unit_of (checked noted None text xs))
+names_told N text xs q =
     let before : AllNamed N text (nothing_filed None text (objects_in xs)) = record { walked = record { same = refl; locals = All-nil _; statics = All-nil _ }; objects = All-nil _; functions = All-nil _ } in
     unit_named N text (checked noted None text xs) (externals_named N text noted (defined_in text xs no_name) xs _ q before)
+
+pub names_are_the_texts : NamesAreTheTexts
+names_are_the_texts text xs test q = names_told (λ name. test name ≡ true) text xs q

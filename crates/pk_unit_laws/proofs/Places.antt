@@ -116,8 +116,10 @@ functions_are P (e ∷ es) h = All-cons (λ (f : tree.FunctionTree). IfSome f.bo
 unit_placed : {F : Type 0} (P : OfPlaces) (f : Filed F) → AllPlaced P f → InUnit P (unit_of f)
 unit_placed P f h = functions_are P f.functions h.functions
 
-pub places_are_the_texts : PlacesAreTheTexts
-places_are_the_texts text xs test h =
-    let P : OfPlaces = λ at. test at ≡ true in
+pub places_told : (P : OfPlaces) (text : List ℕ) (xs : List ExternalTree) → InExternals P xs → InUnit P (unit_of (checked noted None text xs))
+places_told P text xs h =
     let before : AllPlaced P (nothing_filed None text (objects_in xs)) = record { walked = All-nil _; functions = All-nil _ } in
     unit_placed P (checked noted None text xs) (externals_placed P noted (defined_in text xs no_name) xs _ h before)
+
+pub places_are_the_texts : PlacesAreTheTexts
+places_are_the_texts text xs test h = places_told (λ at. test at ≡ true) text xs h
