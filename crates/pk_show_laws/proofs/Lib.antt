@@ -3,4 +3,4 @@ mod TextLemmas
 mod RowLemmas
 mod OrderLemmas
 mod WrongLemmas
-mod TellableLemmas
+pub mod TellableLemmas

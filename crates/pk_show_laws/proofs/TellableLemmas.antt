@@ -20,7 +20,7 @@ use Rattle.pk_show_laws.specs.Tellable.{HasTellableNames, IsTellableGraph, AreTe
 
 -- ---- numbers
 
-number_is : (z : ℤ) → unsigned_abs z < 2 ^ 127 → IsNumber z
+pub number_is : (z : ℤ) → unsigned_abs z < 2 ^ 127 → IsNumber z
 number_is (pos n) h = h
 number_is (negsuc n) h = h
 

@@ -1,0 +1,4 @@
+pub mod BoundLemmas
+pub mod VerdictLemmas
+pub mod StateLemmas
+pub mod ReadBackLemmas
