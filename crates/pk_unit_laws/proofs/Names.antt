@@ -32,7 +32,7 @@ use Rattle.pk_type_jump.specs.Labels.{labels_of}
 use Rattle.pk_type.specs.Files as files
 use Rattle.pk_type.specs.Files.{EntryTree, Filed}
 use Rattle.pk_type.specs.Functions as functions
-use Rattle.pk_type.specs.Functions.{after_parameter, after_parameters, with_new, body_of, body_at, after_body, before_body, emptied, with_body, update_at, number_of, after_optional_body, after_function}
+use Rattle.pk_type.specs.Functions.{after_parameter, after_parameters, with_new, body_of, body_at, after_body, before_body, with_body, update_at, number_of, after_optional_body, after_function}
 use Rattle.pk_type.specs.Signatures.{SignatureTree, signature_of}
 use Rattle.pk_type.specs.TypeNames.{after_type_names, after_typedef, named_type}
 use Rattle.pk_type.specs.Units.{after_external, after_externals, nothing_filed, checked, defined_in, no_name, objects_in, function_of, unit_of}
