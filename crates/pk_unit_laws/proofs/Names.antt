@@ -1,0 +1,407 @@
+-- Each name of a typed unit is the text of a name in its trees.
+use Rattle.std.proofs.Common.{◌≡◌, ℕ, zero, suc, Bool, true, false, List, [], ◌∷◌, ◌++◌, Option, Some, None, length, refl, sym, subst, if◌then◌else◌, nat_eq}
+use Rattle.std.specs.Prelude.{ℤ, pos, All, IfSome, is_some, map}
+use Rattle.std.specs.Option.{option_map}
+use Rattle.std.specs.Str.Lossy.{utf8_lossy}
+use Rattle.std.proofs.lemmas.List.Elements.{All-nil, All-cons, All-head, All-tail, All-append, All-push}
+use Rattle.pk_ctypes.specs.declared.places.Pos.{Pos}
+use Rattle.pk_ast.specs.declared.declarations.Specifier.{Specifier}
+use Rattle.pk_ast.specs.declared.expressions.Identifier.{Identifier}
+use Rattle.pk_ast.specs.declared.units.Storage.{Storage}
+use Rattle.pk_ast.specs.Names.{specifier_names, expression_names, optional_names, initializer_names, declarator_names, all_declarator_names, enumeration_names, declaration_names, for_start_names, statement_names, item_names, body_names, optional_name, parameter_names, external_names, names_of}
+use Rattle.pk_ast.specs.Trees.{OneOrMore, ExpressionTree, ExpressionTrees, no_expressions, expression_then, InitializerTree, single, braced, DeclaratorTree, EnumeratorTree, EnumerationTree, DeclarationTree, ForStartTree, declaration, expression, StatementTree, block, empty, expression_statement, label, case, default, if_then, if_else, switch, while, do_while, for_loop, goto, continue, break, return, ItemTrees, no_items, declaration_then, statement_then, BlockTree, ParameterTree, FunctionTree, ExternalTree, function, objects, type_names}
+use Rattle.pk_typed.specs.Trees as tree
+use Rattle.pk_typed.specs.Trees.{LocalTree, BodyTree, FileObjectTree}
+use Rattle.pk_type_scope.specs.declared.declarations.NamedType.{NamedType}
+use Rattle.pk_type_scope.specs.declared.declarations.Typing.{Typing}
+use Rattle.pk_type_scope.specs.Failures.{noted}
+use Rattle.pk_type_scope.specs.Scopes.{spelled}
+use Rattle.pk_type_scope.specs.Specifiers.{type_name_among, type_named, word_failures}
+use Rattle.pk_type_declaration.specs.declared.words.Words.{Words}
+use Rattle.pk_type_declaration.specs.Constants.{after_constant}
+use Rattle.pk_type_declaration.specs.Declarations as declarations
+use Rattle.pk_type_declaration.specs.Declarations.{words_of, text_of, length_at, local_of, after_optional_length, after_initializer, after_object, after_declarator, after_declarators}
+use Rattle.pk_type_declaration.specs.Enumerations.{words_at, after_tag, next_number, enumerator_value, after_enumerator_value, after_enumerator, after_enumerators, after_words}
+use Rattle.pk_type_declaration.specs.Starts.{after_numbers, given}
+use Rattle.pk_type_declaration.specs.Statics.{after_static_head, static_of, after_static, after_statics, after_declaration, after_static_declaration, after_block_declaration}
+use Rattle.pk_type_declaration.specs.Walks.{Walked, Adding, here, failing, after_value, entering}
+use Rattle.pk_type_statement.specs.Statements as statements
+use Rattle.pk_type_statement.specs.Statements.{Passed, after, after_items, on, inside, with_case, with_default, in_switch}
+use Rattle.pk_type_statement.specs.Trees.{typed_items}
+use Rattle.pk_type_jump.specs.Labels.{labels_of}
+use Rattle.pk_type.specs.Files as files
+use Rattle.pk_type.specs.Files.{EntryTree, Filed}
+use Rattle.pk_type.specs.Functions as functions
+use Rattle.pk_type.specs.Functions.{after_parameter, after_parameters, with_new, body_of, body_at, after_body, before_body, with_body, update_at, number_of, after_optional_body, after_function}
+use Rattle.pk_type.specs.Signatures.{SignatureTree, signature_of}
+use Rattle.pk_type.specs.TypeNames.{after_type_names, after_typedef, named_type}
+use Rattle.pk_type.specs.Units.{after_external, after_externals, nothing_filed, checked, defined_in, no_name, objects_in, function_of, unit_of}
+use Rattle.pk_places_laws.specs.Names.{OfNames, InLocals, InFunction, InUnit}
+use Rattle.pk_unit_laws.specs.Laws.{NamesAreTheTexts}
+
+-- ---- lists one behind another
+
+pub all_left : {X : Type 0} (P : X → Type 0) (xs ys : List X) → All P (xs ++ ys) → All P xs
+all_left P [] ys h = All-nil P
+all_left P (x ∷ xs) ys h = All-cons P x xs (All-head P x (xs ++ ys) h) (all_left P xs ys (All-tail P x (xs ++ ys) h))
+
+pub all_right : {X : Type 0} (P : X → Type 0) (xs ys : List X) → All P (xs ++ ys) → All P ys
+all_right P [] ys h = h
+all_right P (x ∷ xs) ys h = all_right P xs ys (All-tail P x (xs ++ ys) h)
+
+-- ---- what stands before a place
+
+-- the text of a name is such
+abbrev pub Spelt : OfNames → List ℕ → Identifier → Type 0
+Spelt N text x = N (utf8_lossy (spelled text x))
+
+-- the text is this one, and the names of the objects so far are such
+record Keeps (N : OfNames) (text now : List ℕ) (ls : List LocalTree) (os : List FileObjectTree) : Type 0 where
+  pub same : now ≡ text
+  pub locals : All (λ (x : LocalTree). IfSome x.name N) ls
+  pub statics : All (λ (x : FileObjectTree). N x.name) os
+
+abbrev Named : {F : Type 0} → OfNames → List ℕ → Walked F → Type 0
+Named N text w = Keeps N text w.scoping.text w.locals w.statics.made
+
+its_text : {F : Type 0} (N : OfNames) (text : List ℕ) (w : Walked F) (x : Identifier) → Spelt N text x → Named N text w → N (text_of w.scoping x)
+its_text N text w x q z = subst (λ (t : List ℕ). N (utf8_lossy (spelled t x))) (sym z.same) q
+
+-- ---- declarations
+
+length_named : {F : Type 0} (N : OfNames) (text : List ℕ) (add : Adding F) (e : Option ExpressionTree) (w : Walked F) → Named N text w → Named N text (after_optional_length add e w)
+length_named N text add None w z = z
+length_named N text add (Some e) w z = z
+
+initializer_named : {F : Type 0} (N : OfNames) (text : List ℕ) (add : Adding F) (i : Option InitializerTree) (w : Walked F) → Named N text w → Named N text (after_initializer add i w)
+initializer_named N text add None w z = z
+initializer_named N text add (Some (single e)) w z = z
+initializer_named N text add (Some (braced at e es)) w z = z
+
+object_named : {F : Type 0} (N : OfNames) (text : List ℕ) (add : Adding F) (words : Words) (is_array : Bool) (n : Option ℕ) (x : Identifier) (w : Walked F) → Spelt N text x → Named N text w →
+    Named N text (after_object add words is_array n x w)
+object_named N text add words is_array n x w q z = record {
+  same = z.same;
+  locals = All-push (λ (l : LocalTree). IfSome l.name N) w.locals (local_of words.typing w.scoping is_array n x) z.locals (its_text N text w x q z);
+  statics = z.statics;
+}
+
+declarator_named : {F : Type 0} (N : OfNames) (text : List ℕ) (add : Adding F) (words : Words) (d : DeclaratorTree) (w : Walked F) → Spelt N text d.name → Named N text w → Named N text (after_declarator add words d w)
+unfolding after_declarator
+declarator_named N text add words d w q z =
+    initializer_named N text add d.initializer (declarations.after_head add words d w)
+    (object_named N text add words (is_some d.length) (length_at w d.length) d.name (after_optional_length add d.length w) q (length_named N text add d.length w z))
+
+declarators_named : {F : Type 0} (N : OfNames) (text : List ℕ) (add : Adding F) (words : Words) (ds : List DeclaratorTree) (w : Walked F) → All (Spelt N text) (all_declarator_names ds) → Named N text w →
+    Named N text (after_declarators add words ds w)
+unfolding after_declarators
+declarators_named N text add words [] w q z = z
+declarators_named N text add words (d ∷ ds) w q z =
+    let one = all_left (Spelt N text) (declarator_names d) (all_declarator_names ds) q in
+    declarators_named N text add words ds (after_declarator add words d w) (all_right (Spelt N text) (declarator_names d) (all_declarator_names ds) q)
+    (declarator_named N text add words d w (All-head (Spelt N text) d.name (optional_names d.length ++ initializer_names d.initializer) one) z)
+
+tag_named : {F : Type 0} (N : OfNames) (text : List ℕ) (add : Adding F) (x : Option Identifier) (w : Walked F) → Named N text w → Named N text (after_tag add x w)
+tag_named N text add None w z = z
+tag_named N text add (Some x) w z = z
+
+enumerator_value_named : {F : Type 0} (N : OfNames) (text : List ℕ) (add : Adding F) (next : Option ℤ) (x : Identifier) (e : Option ExpressionTree) (w : Walked F) → Named N text w →
+    Named N text (after_enumerator_value add next x e w)
+enumerator_value_named N text add next x None w z = z
+enumerator_value_named N text add next x (Some e) w z = z
+
+enumerator_named : {F : Type 0} (N : OfNames) (text : List ℕ) (add : Adding F) (next : Option ℤ) (x : EnumeratorTree) (w : Walked F) → Named N text w → Named N text (after_enumerator add next x w)
+unfolding after_enumerator
+enumerator_named N text add next x w z = enumerator_value_named N text add next x.name x.value w z
+
+enumerators_named : {F : Type 0} (N : OfNames) (text : List ℕ) (add : Adding F) (next : Option ℤ) (xs : List EnumeratorTree) (w : Walked F) → Named N text w → Named N text (after_enumerators add next xs w)
+unfolding after_enumerators
+enumerators_named N text add next [] w z = z
+enumerators_named N text add next (x ∷ xs) w z =
+    enumerators_named N text add (next_number (enumerator_value w next x.value)) xs (after_enumerator add next x w) (enumerator_named N text add next x w z)
+
+words_named : {F : Type 0} (N : OfNames) (text : List ℕ) (add : Adding F) (words : OneOrMore Specifier) (e : Option EnumerationTree) (w : Walked F) → Named N text w → Named N text (after_words add words e w)
+unfolding after_words
+words_named N text add words None w z = z
+words_named N text add words (Some e) w z =
+    enumerators_named N text add (Some (pos 0)) (e.enumerators.first ∷ e.enumerators.more) (after_tag add (type_name_among words) w) (tag_named N text add (type_name_among words) w z)
+
+declared_names : (N : OfNames) (text : List ℕ) (d : DeclarationTree) → All (Spelt N text) (declaration_names d) → All (Spelt N text) (all_declarator_names d.declarators)
+declared_names N text d q =
+    all_right (Spelt N text) (enumeration_names d.enumeration) (all_declarator_names d.declarators)
+    (all_right (Spelt N text) (specifier_names d.specifiers) (enumeration_names d.enumeration ++ all_declarator_names d.declarators) q)
+
+declaration_named : {F : Type 0} (N : OfNames) (text : List ℕ) (add : Adding F) (d : DeclarationTree) (w : Walked F) → All (Spelt N text) (declaration_names d) → Named N text w → Named N text (after_declaration add d w)
+unfolding after_declaration
+declaration_named N text add d w q z =
+    declarators_named N text add (words_at (here w) d.specifiers d.enumeration) d.declarators (after_words add d.specifiers d.enumeration w) (declared_names N text d q) (words_named N text add d.specifiers d.enumeration w z)
+
+numbers_named : {F : Type 0} (N : OfNames) (text : List ℕ) (add : Adding F) (es : ExpressionTrees) (w : Walked F) → Named N text w → Named N text (after_numbers add es w)
+unfolding after_numbers
+numbers_named N text add no_expressions w z = z
+numbers_named N text add (expression_then e es) w z = numbers_named N text add es (after_constant add e w) z
+
+static_named : {F : Type 0} (N : OfNames) (text : List ℕ) (add : Adding F) (words : Words) (d : DeclaratorTree) (w : Walked F) → Spelt N text d.name → Named N text w → Named N text (after_static add words d w)
+unfolding after_static
+static_named N text add words d w q z =
+    let head = after_static_head add words d w in
+    let v = after_numbers add (given d.initializer) head in
+    let y = numbers_named N text add (given d.initializer) head (length_named N text add d.length w z) in
+    record {
+      same = y.same;
+      locals = y.locals;
+      statics = All-push (λ (x : FileObjectTree). N x.name) v.statics.made (static_of add words d w) y.statics (its_text N text w d.name q z);
+    }
+
+statics_named : {F : Type 0} (N : OfNames) (text : List ℕ) (add : Adding F) (words : Words) (ds : List DeclaratorTree) (w : Walked F) → All (Spelt N text) (all_declarator_names ds) → Named N text w →
+    Named N text (after_statics add words ds w)
+unfolding after_statics
+statics_named N text add words [] w q z = z
+statics_named N text add words (d ∷ ds) w q z =
+    let one = all_left (Spelt N text) (declarator_names d) (all_declarator_names ds) q in
+    statics_named N text add words ds (after_static add words d w) (all_right (Spelt N text) (declarator_names d) (all_declarator_names ds) q)
+    (static_named N text add words d w (All-head (Spelt N text) d.name (optional_names d.length ++ initializer_names d.initializer) one) z)
+
+block_declaration_named : {F : Type 0} (N : OfNames) (text : List ℕ) (add : Adding F) (at : Option Pos) (d : DeclarationTree) (w : Walked F) → All (Spelt N text) (declaration_names d) → Named N text w →
+    Named N text (after_block_declaration add at d w)
+unfolding after_static_declaration
+block_declaration_named N text add None d w q z = declaration_named N text add d w q z
+block_declaration_named N text add (Some at) d w q z =
+    statics_named N text add (words_at (here w) d.specifiers d.enumeration) d.declarators (after_words add d.specifiers d.enumeration w) (declared_names N text d q) (words_named N text add d.specifiers d.enumeration w z)
+
+-- ---- statements
+
+value_named : {F : Type 0} (N : OfNames) (text : List ℕ) (add : Adding F) (e : Option ExpressionTree) (w : Walked F) → Named N text w → Named N text (statements.after_optional_value add e w)
+value_named N text add None w z = z
+value_named N text add (Some e) w z = z
+
+effect_named : {F : Type 0} (N : OfNames) (text : List ℕ) (add : Adding F) (e : Option ExpressionTree) (w : Walked F) → Named N text w → Named N text (statements.after_optional_effect add e w)
+effect_named N text add None w z = z
+effect_named N text add (Some e) w z = z
+
+return_named : {F : Type 0} (N : OfNames) (text : List ℕ) (add : Adding F) (r : Typing) (at : Pos) (e : Option ExpressionTree) (w : Walked F) → Named N text w → Named N text (statements.after_return add r at e w)
+return_named N text add r at None w z = z
+return_named N text add r at (Some e) w z = z
+
+start_named : {F : Type 0} (N : OfNames) (text : List ℕ) (add : Adding F) (s : ForStartTree) (w : Walked F) → All (Spelt N text) (for_start_names s) → Named N text w → Named N text (statements.after_start add s w)
+start_named N text add (declaration d) w q z = declaration_named N text add d w q z
+start_named N text add (expression e) w q z = effect_named N text add e w z
+
+head_named : {F : Type 0} (N : OfNames) (text : List ℕ) (add : Adding F) (s : ForStartTree) (test step : Option ExpressionTree) (w : Walked F) → All (Spelt N text) (for_start_names s) → Named N text w →
+    Named N text (statements.after_head add s test step w)
+head_named N text add s test step w q z =
+    let a = statements.after_start add s w in
+    effect_named N text add step (statements.after_optional_value add test a) (value_named N text add test a (start_named N text add s w q z))
+
+left_scope : {F : Type 0} (N : OfNames) (text : List ℕ) (p q : Passed F) → Named N text p.walked → Named N text q.walked → Named N text (statements.outside p q).walked
+left_scope N text p q z y = record { same = z.same; locals = y.locals; statics = y.statics }
+
+mutual
+  unfolding after after_items statement_names item_names
+
+  statement_named : {F : Type 0} (N : OfNames) (text : List ℕ) (add : Adding F) (r : Typing) (p : Passed F) (s : StatementTree) → All (Spelt N text) (statement_names s) → Named N text p.walked →
+      Named N text (after add r p s).walked
+  statement_named N text add r p (block opened is closed) q z =
+      left_scope N text p (after_items add r (inside p) is) z (items_named N text add r (inside p) is q z)
+  statement_named N text add r p (empty at) q z = z
+  statement_named N text add r p (expression_statement e) q z = z
+  statement_named N text add r p (label x s) q z = statement_named N text add r p s (All-tail (Spelt N text) x (statement_names s) q) z
+  statement_named N text add r p (case at e s) q z = statement_named N text add r (with_case add at e p) s (all_right (Spelt N text) (expression_names e) (statement_names s) q) z
+  statement_named N text add r p (default at s) q z = statement_named N text add r (with_default p) s q z
+  statement_named N text add r p (if_then at e s) q z = statement_named N text add r (on (after_value add e) p) s (all_right (Spelt N text) (expression_names e) (statement_names s) q) z
+  statement_named N text add r p (if_else at e s t) q z =
+      let v = on (after_value add e) p in
+      statement_named N text add r (after add r v s) t (all_right (Spelt N text) (expression_names e ++ statement_names s) (statement_names t) q)
+      (statement_named N text add r v s (all_right (Spelt N text) (expression_names e) (statement_names s) (all_left (Spelt N text) (expression_names e ++ statement_names s) (statement_names t) q)) z)
+  statement_named N text add r p (switch at e s) q z = statement_named N text add r (in_switch (on (after_value add e) p)) s (all_right (Spelt N text) (expression_names e) (statement_names s) q) z
+  statement_named N text add r p (while at e s) q z = statement_named N text add r (on (after_value add e) p) s (all_right (Spelt N text) (expression_names e) (statement_names s) q) z
+  statement_named N text add r p (do_while at s e) q z = statement_named N text add r p s (all_left (Spelt N text) (statement_names s) (expression_names e) q) z
+  statement_named N text add r p (for_loop at start test step s) q z =
+      let v = on (statements.after_head add start test step) (inside p) in
+      let first = all_left (Spelt N text) (for_start_names start) (optional_names test)
+      (all_left (Spelt N text) (for_start_names start ++ optional_names test) (optional_names step) (all_left (Spelt N text) (for_start_names start ++ optional_names test ++ optional_names step) (statement_names s) q)) in
+      left_scope N text p (after add r v s) z
+      (statement_named N text add r v s (all_right (Spelt N text) (for_start_names start ++ optional_names test ++ optional_names step) (statement_names s) q) (head_named N text add start test step (inside p).walked first z))
+  statement_named N text add r p (goto at x) q z = z
+  statement_named N text add r p (continue at) q z = z
+  statement_named N text add r p (break at) q z = z
+  statement_named N text add r p (return at e) q z = return_named N text add r at e p.walked z
+
+  items_named : {F : Type 0} (N : OfNames) (text : List ℕ) (add : Adding F) (r : Typing) (p : Passed F) (is : ItemTrees) → All (Spelt N text) (item_names is) → Named N text p.walked →
+      Named N text (after_items add r p is).walked
+  items_named N text add r p no_items q z = z
+  items_named N text add r p (declaration_then s d is) q z =
+      items_named N text add r (on (after_block_declaration add s d) p) is (all_right (Spelt N text) (declaration_names d) (item_names is) q)
+      (block_declaration_named N text add s d p.walked (all_left (Spelt N text) (declaration_names d) (item_names is) q) z)
+  items_named N text add r p (statement_then s is) q z =
+      items_named N text add r (after add r p s) is (all_right (Spelt N text) (statement_names s) (item_names is) q)
+      (statement_named N text add r p s (all_left (Spelt N text) (statement_names s) (item_names is) q) z)
+
+-- ---- functions
+
+parameter_named : {F : Type 0} (N : OfNames) (text : List ℕ) (add : Adding F) (p : ParameterTree) (x : Option Identifier) (w : Walked F) → All (Spelt N text) (optional_name x) → Named N text w →
+    Named N text (functions.after_parameter_name add p x w)
+parameter_named N text add p None w q z = record { same = z.same; locals = All-push (λ (l : LocalTree). IfSome l.name N) w.locals _ z.locals tt; statics = z.statics }
+parameter_named N text add p (Some x) w q z = object_named N text add (words_of (here w) p.specifiers) false None x w (All-head (Spelt N text) x [] q) z
+
+parameters_named : {F : Type 0} (N : OfNames) (text : List ℕ) (add : Adding F) (ps : List ParameterTree) (w : Walked F) → All (Spelt N text) (parameter_names ps) → Named N text w → Named N text (after_parameters add ps w)
+unfolding after_parameters
+parameters_named N text add [] w q z = z
+parameters_named N text add (p ∷ ps) w q z =
+    let own = specifier_names p.specifiers ++ optional_name p.name in
+    parameters_named N text add ps (after_parameter add p w) (all_right (Spelt N text) own (parameter_names ps) q)
+    (parameter_named N text add p p.name (failing add (word_failures (here w) p.specifiers) w)
+    (all_right (Spelt N text) (specifier_names p.specifiers) (optional_name p.name) (all_left (Spelt N text) own (parameter_names ps) q)) z)
+
+-- a function's name is such, and the names of its objects
+record EntryNamed (N : OfNames) (e : EntryTree) : Type 0 where
+  pub name : N e.name
+  pub locals : IfSome e.body (InLocals N)
+
+-- what stands before a place of the file
+record AllNamed {F : Type 0} (N : OfNames) (text : List ℕ) (f : Filed F) : Type 0 where
+  pub walked : Named N text f.walked
+  pub objects : All (λ (x : FileObjectTree). N x.name) f.objects
+  pub functions : All (EntryNamed N) f.functions
+
+new_named : (N : OfNames) (es : List EntryTree) (n : ℕ) (name : List ℕ) (s : SignatureTree) → N name → All (EntryNamed N) es → All (EntryNamed N) (with_new es n name s)
+new_named N es n name s q z = chosen (nat_eq n (length es))
+  where
+    new : EntryTree
+    new = record { name = name; signature = s; is_defined = false; body = None }
+
+    chosen : (b : Bool) → All (EntryNamed N) (if b then es ++ record { name = name; signature = s; is_defined = false; body = None } ∷ [] else es)
+    chosen true = All-push (EntryNamed N) es _ z (record { name = q; locals = tt })
+    chosen false = z
+
+updated_named : (N : OfNames) (n : ℕ) (body : Option BodyTree) (es : List EntryTree) → IfSome body (InLocals N) → All (EntryNamed N) es → All (EntryNamed N) (update_at n (with_body body) es)
+updated_named N n body [] q z = z
+updated_named N zero body (e ∷ es) q z =
+    All-cons (EntryNamed N) (with_body body e) es (record { name = (All-head (EntryNamed N) e es z).name; locals = q }) (All-tail (EntryNamed N) e es z)
+updated_named N (suc n) body (e ∷ es) q z =
+    All-cons (EntryNamed N) e (update_at n (with_body body) es) (All-head (EntryNamed N) e es z) (updated_named N n body es q (All-tail (EntryNamed N) e es z))
+
+made_named : {F : Type 0} (N : OfNames) (b : BlockTree) (visible labels : ℕ) (w : Walked F) (is : Option tree.ItemTrees) → All (λ (x : LocalTree). IfSome x.name N) w.locals →
+    IfSome (option_map (body_of b visible labels w) is) (InLocals N)
+made_named N b visible labels w None h = tt
+made_named N b visible labels w (Some is) h = h
+
+body_named : {F : Type 0} (N : OfNames) (text : List ℕ) (add : Adding F) (r : Typing) (n : ℕ) (b : Option BlockTree) (f : Filed F) → All (Spelt N text) (body_names b) → AllNamed N text f →
+    AllNamed N text (after_optional_body add r n b f)
+body_named N text add r n None f q z = z
+body_named N text add r n (Some b) f q z =
+    let w = f.walked in
+    let labels = labels_of w.scoping.text b.items in
+    let y = items_named N text add r (before_body w) b.items q z.walked in
+    record {
+      walked = record { same = y.same; locals = All-nil _; statics = y.statics };
+      objects = z.objects;
+      functions = updated_named N n (body_at add r (length f.objects) b w) f.functions
+          (made_named N b (length f.objects) labels.count (after_body add r b w) (typed_items add r labels.labels (before_body w) b.items) y.locals) z.functions;
+    }
+
+head_filed : {F : Type 0} (N : OfNames) (text : List ℕ) (add : Adding F) (defined : List ℕ → Bool) (f : FunctionTree) (file : Filed F) → Spelt N text f.name → AllNamed N text file →
+    AllNamed N text (functions.after_head add defined f file)
+head_filed N text add defined f file q z = record {
+  walked = z.walked;
+  objects = z.objects;
+  functions = new_named N file.functions (number_of file.functions (here file.walked f.name)) (text_of file.walked.scoping f.name) (signature_of (here file.walked) f) (its_text N text file.walked f.name q z.walked) z.functions;
+}
+
+function_named : {F : Type 0} (N : OfNames) (text : List ℕ) (add : Adding F) (defined : List ℕ → Bool) (f : FunctionTree) (file : Filed F) → All (Spelt N text) (external_names (function f)) → AllNamed N text file →
+    AllNamed N text (after_function add defined f file)
+unfolding after_function
+function_named N text add defined f file q z =
+    let rest = all_right (Spelt N text) (specifier_names f.specifiers) (f.name ∷ (parameter_names f.parameters ++ body_names f.body)) q in
+    let inner = All-tail (Spelt N text) f.name (parameter_names f.parameters ++ body_names f.body) rest in
+    let h = functions.after_head add defined f file in
+    let y = head_filed N text add defined f file (All-head (Spelt N text) f.name (parameter_names f.parameters ++ body_names f.body) rest) z in
+    let i = files.on (after_parameters add f.parameters) (files.on entering h) in
+    let n = number_of file.functions (here file.walked f.name) in
+    let within : AllNamed N text i = record {
+      walked = parameters_named N text add f.parameters (entering h.walked) (all_left (Spelt N text) (parameter_names f.parameters) (body_names f.body) inner) y.walked;
+      objects = y.objects;
+      functions = y.functions;
+    } in
+    let x = body_named N text add (type_named (here file.walked) f.specifiers) n f.body i (all_right (Spelt N text) (parameter_names f.parameters) (body_names f.body) inner) within in
+    record {
+      walked = record { same = y.walked.same; locals = All-nil _; statics = x.walked.statics };
+      objects = x.objects;
+      functions = x.functions;
+    }
+
+-- ---- objects of the file
+
+file_object_named : {F : Type 0} (N : OfNames) (text : List ℕ) (add : Adding F) (storage : Option Storage) (words : Words) (d : DeclaratorTree) (f : Filed F) → Spelt N text d.name → AllNamed N text f →
+    AllNamed N text (files.after_object add storage words d f)
+unfolding files.after_object
+file_object_named N text add storage words d f q z = record {
+  walked = numbers_named N text add (given d.initializer) (files.after_head add storage words d f) (length_named N text add d.length f.walked z.walked);
+  objects = All-push (λ (x : FileObjectTree). N x.name) f.objects _ z.objects (its_text N text f.walked d.name q z.walked);
+  functions = z.functions;
+}
+
+file_objects_named : {F : Type 0} (N : OfNames) (text : List ℕ) (add : Adding F) (storage : Option Storage) (words : Words) (ds : List DeclaratorTree) (f : Filed F) → All (Spelt N text) (all_declarator_names ds) → AllNamed N text f →
+    AllNamed N text (files.after_objects add storage words ds f)
+unfolding files.after_objects
+file_objects_named N text add storage words [] f q z = z
+file_objects_named N text add storage words (d ∷ ds) f q z =
+    let one = all_left (Spelt N text) (declarator_names d) (all_declarator_names ds) q in
+    file_objects_named N text add storage words ds (files.after_object add storage words d f) (all_right (Spelt N text) (declarator_names d) (all_declarator_names ds) q)
+    (file_object_named N text add storage words d f (All-head (Spelt N text) d.name (optional_names d.length ++ initializer_names d.initializer) one) z)
+
+file_declaration_named : {F : Type 0} (N : OfNames) (text : List ℕ) (add : Adding F) (storage : Option Storage) (d : DeclarationTree) (f : Filed F) → All (Spelt N text) (declaration_names d) → AllNamed N text f →
+    AllNamed N text (files.after_declaration add storage d f)
+unfolding files.after_declaration
+file_declaration_named N text add storage d f q z =
+    let g = files.on (after_words add d.specifiers d.enumeration) f in
+    let begun : AllNamed N text g = record { walked = words_named N text add d.specifiers d.enumeration f.walked z.walked; objects = z.objects; functions = z.functions } in
+    let y = file_objects_named N text add storage (words_at (here f.walked) d.specifiers d.enumeration) d.declarators g (declared_names N text d q) begun in
+    record { walked = y.walked; objects = y.objects; functions = y.functions }
+
+type_names_named : {F : Type 0} (N : OfNames) (text : List ℕ) (add : Adding F) (t : NamedType) (xs : List Identifier) (w : Walked F) → Named N text w → Named N text (after_type_names add t xs w)
+unfolding after_type_names
+type_names_named N text add t [] w z = z
+type_names_named N text add t (x ∷ xs) w z = type_names_named N text add t xs _ z
+
+-- ---- texts
+
+external_named : {F : Type 0} (N : OfNames) (text : List ℕ) (add : Adding F) (defined : List ℕ → Bool) (x : ExternalTree) (f : Filed F) → All (Spelt N text) (external_names x) → AllNamed N text f →
+    AllNamed N text (after_external add defined x f)
+unfolding after_typedef
+external_named N text add defined (function g) f q z = function_named N text add defined g f q z
+external_named N text add defined (objects s d) f q z = file_declaration_named N text add s d f q z
+external_named N text add defined (type_names d) f q z =
+    let y = type_names_named N text add (named_type (words_at (here f.walked) d.specifiers d.enumeration)) (d.names.first ∷ d.names.more) (after_words add d.specifiers d.enumeration f.walked)
+    (words_named N text add d.specifiers d.enumeration f.walked z.walked) in
+    record { walked = y; objects = z.objects; functions = z.functions }
+
+externals_named : {F : Type 0} (N : OfNames) (text : List ℕ) (add : Adding F) (defined : List ℕ → Bool) (xs : List ExternalTree) (f : Filed F) → All (Spelt N text) (names_of xs) → AllNamed N text f →
+    AllNamed N text (after_externals add defined xs f)
+unfolding after_externals
+externals_named N text add defined [] f q z = z
+externals_named N text add defined (x ∷ xs) f q z =
+    externals_named N text add defined xs (after_external add defined x f) (all_right (Spelt N text) (external_names x) (names_of xs) q)
+    (external_named N text add defined x f (all_left (Spelt N text) (external_names x) (names_of xs) q) z)
+
+function_is : (N : OfNames) (e : EntryTree) → EntryNamed N e → InFunction N (function_of e)
+function_is N e h = record { name = h.name; locals = h.locals }
+
+functions_are : (N : OfNames) (es : List EntryTree) → All (EntryNamed N) es → All (InFunction N) (map function_of es)
+functions_are N [] h = All-nil (InFunction N)
+functions_are N (e ∷ es) h =
+    All-cons (InFunction N) (function_of e) (map function_of es) (function_is N e (All-head (EntryNamed N) e es h)) (functions_are N es (All-tail (EntryNamed N) e es h))
+
+unit_named : {F : Type 0} (N : OfNames) (text : List ℕ) (f : Filed F) → AllNamed N text f → InUnit N (unit_of f)
+unit_named N text f h = record {
+  objects = All-append (λ (x : FileObjectTree). N x.name) f.objects f.walked.statics.made h.objects h.walked.statics;
+  functions = functions_are N f.functions h.functions;
+}
+
+pub names_told : (N : OfNames) (text : List ℕ) (xs : List ExternalTree) → All (Spelt N text) (names_of xs) → InUnit N (unit_of (checked noted None text xs))
+names_told N text xs q =
+    let before : AllNamed N text (nothing_filed None text (objects_in xs)) = record { walked = record { same = refl; locals = All-nil _; statics = All-nil _ }; objects = All-nil _; functions = All-nil _ } in
+    unit_named N text (checked noted None text xs) (externals_named N text noted (defined_in text xs no_name) xs _ q before)
+
+pub names_are_the_texts : NamesAreTheTexts
+names_are_the_texts text xs test q = names_told (λ name. test name ≡ true) text xs q

@@ -1,0 +1,202 @@
+-- The places of what declarations declare, and of the calls so far, are those of the declarations.
+use Rattle.std.proofs.Common.{ℕ, Bool, true, false, List, [], ◌∷◌, ◌++◌, Option, Some, None, length}
+use Rattle.std.specs.Prelude.{ℤ, pos, All, IfSome, is_some}
+use Rattle.std.proofs.lemmas.List.Elements.{All-nil, All-cons, All-append}
+use Rattle.pk_ctypes.specs.declared.places.Pos.{Pos}
+use Rattle.pk_ast.specs.declared.declarations.Specifier.{Specifier}
+use Rattle.pk_ast.specs.declared.expressions.Identifier.{Identifier}
+use Rattle.pk_ast.specs.Trees.{OneOrMore, ExpressionTree, ExpressionTrees, no_expressions, expression_then, InitializerTree, single, braced, DeclaratorTree, EnumeratorTree, EnumerationTree, DeclarationTree}
+use Rattle.pk_typed.specs.Trees as tree
+use Rattle.pk_typed.specs.Trees.{value_before}
+use Rattle.pk_typed.specs.declared.units.CallSite.{CallSite}
+use Rattle.pk_type_scope.specs.declared.declarations.Declaration.{Declaration}
+use Rattle.pk_type_scope.specs.declared.declarations.Declaration.TheVariants.{Object, Function, Enumerator, TypeName}
+use Rattle.pk_type_scope.specs.Specifiers.{type_name_among}
+use Rattle.pk_type_expression.specs.Typed.{calls, calls_in_all}
+use Rattle.pk_type_declaration.specs.declared.words.Words.{Words}
+use Rattle.pk_type_declaration.specs.Constants.{after_constant}
+use Rattle.pk_type_declaration.specs.Declarations.{after_optional_length, after_initializer, after_head, after_declarator, after_declarators, scalar_tree, array_tree, object_tree, declarator_tree_at, declarator_trees_at}
+use Rattle.pk_type_declaration.specs.Enumerations.{words_at, after_tag, next_number, enumerator_value, after_enumerator_value, after_enumerator, after_enumerators, after_words, hidden, hidden_by, word_trees_at}
+use Rattle.pk_type_declaration.specs.Starts.{after_numbers, given}
+use Rattle.pk_type_declaration.specs.Statics.{after_static_head, after_static, after_statics, static_tree_at, static_trees_at, after_declaration, declaration_trees_at, after_static_declaration, static_declaration_at, after_block_declaration, block_declaration_at}
+use Rattle.pk_type_declaration.specs.Walks.{Walked, Adding, here, after_value, after_values, value_at, effect_at, values_at}
+use Rattle.pk_places_laws.specs.Places.{OfPlaces, InValue, InEffect, InValues, InDeclared}
+use Rattle.pk_unit_laws.specs.Trees.{InExpression, InExpressions, InOptional, InInitializer, InDeclarator, InDeclarators, InEnumerator, InEnumerators, InEnumeration, InDeclaration}
+use Rattle.pk_unit_laws.proofs.Parts.{mapped, both}
+use Rattle.pk_unit_laws.proofs.Expressions.{AtCalls, values_are, effects_are, lists_are, calls_at, all_calls_at}
+
+-- the calls so far are at such places
+abbrev pub Sited : {F : Type 0} → OfPlaces → Walked F → Type 0
+Sited P w = AtCalls P w.calls
+
+-- ---- expressions
+
+pub value_sited : {F : Type 0} (P : OfPlaces) (add : Adding F) (e : ExpressionTree) (w : Walked F) → InExpression P e → Sited P w → Sited P (after_value add e w)
+value_sited P add e w h z = All-append (λ (c : CallSite). P c.at) w.calls (calls (here w) e) z (calls_at P (here w) e h)
+
+pub values_sited : {F : Type 0} (P : OfPlaces) (add : Adding F) (es : ExpressionTrees) (w : Walked F) → InExpressions P es → Sited P w → Sited P (after_values add es w)
+values_sited P add es w h z = All-append (λ (c : CallSite). P c.at) w.calls (calls_in_all (here w) es) z (all_calls_at P (here w) es h)
+
+pub value_there : {F : Type 0} (P : OfPlaces) (w : Walked F) (e : ExpressionTree) → InExpression P e → IfSome (value_at w e) (InValue P)
+value_there P w e h = values_are P (here w) (length w.calls) e h
+
+pub effect_there : {F : Type 0} (P : OfPlaces) (w : Walked F) (e : ExpressionTree) → InExpression P e → IfSome (effect_at w e) (InEffect P)
+effect_there P w e h = effects_are P (here w) (length w.calls) e h
+
+values_there : {F : Type 0} (P : OfPlaces) (w : Walked F) (es : ExpressionTrees) → InExpressions P es → IfSome (values_at w es) (InValues P)
+values_there P w es h = lists_are P (here w) (length w.calls) es h
+
+-- ---- declared objects
+
+length_sited : {F : Type 0} (P : OfPlaces) (add : Adding F) (e : Option ExpressionTree) (w : Walked F) → InOptional P e → Sited P w → Sited P (after_optional_length add e w)
+length_sited P add None w h z = z
+length_sited P add (Some e) w h z = value_sited P add e w h z
+
+initializer_sited : {F : Type 0} (P : OfPlaces) (add : Adding F) (i : Option InitializerTree) (w : Walked F) → InInitializer P i → Sited P w → Sited P (after_initializer add i w)
+initializer_sited P add None w h z = z
+initializer_sited P add (Some (single e)) w h z = value_sited P add e w h z
+initializer_sited P add (Some (braced at e es)) w h z = values_sited P add es (after_value add e w) h.2 (value_sited P add e w h.1 z)
+
+declarator_sited : {F : Type 0} (P : OfPlaces) (add : Adding F) (words : Words) (d : DeclaratorTree) (w : Walked F) → InDeclarator P d → Sited P w → Sited P (after_declarator add words d w)
+unfolding after_declarator
+declarator_sited P add words d w h z = initializer_sited P add d.initializer (after_head add words d w) h.2 (length_sited P add d.length w h.1 z)
+
+declarators_sited : {F : Type 0} (P : OfPlaces) (add : Adding F) (words : Words) (ds : List DeclaratorTree) (w : Walked F) → InDeclarators P ds → Sited P w → Sited P (after_declarators add words ds w)
+unfolding after_declarators
+declarators_sited P add words [] w h z = z
+declarators_sited P add words (d ∷ ds) w h z = declarators_sited P add words ds (after_declarator add words d w) h.1 (declarator_sited P add words d w h.0 z)
+
+scalar_there : {F : Type 0} (P : OfPlaces) (n : ℕ) (at : Pos) (i : Option InitializerTree) (w : Walked F) → P at → InInitializer P i → IfSome (scalar_tree n at i w) (InDeclared P)
+scalar_there P n at None w p h = (p, tt)
+scalar_there P n at (Some (single e)) w p h = mapped (λ v. tree.scalar_object n at (Some v)) (InValue P) (InDeclared P) (λ v k. (p, k)) (value_at w e) (value_there P w e h)
+scalar_there P n at (Some (braced brace e es)) w p h = tt
+
+array_there : {F : Type 0} (P : OfPlaces) (add : Adding F) (n : ℕ) (at : Pos) (i : Option InitializerTree) (w : Walked F) → P at → InInitializer P i → IfSome (array_tree add n at i w) (InDeclared P)
+unfolding InValues
+array_there P add n at None w p h = (p, tt)
+array_there P add n at (Some (single e)) w p h = tt
+array_there P add n at (Some (braced brace e es)) w p h =
+    let v = after_value add e w in
+    let all = both value_before (InValue P) (InValues P) (InValues P) (λ x xs k l. (k, l)) (value_at w e) (values_at v es) (value_there P w e h.1) (values_there P v es h.2) in
+    mapped (λ vs. tree.array_object n at (Some vs)) (InValues P) (InDeclared P) (λ vs k. (p, k)) _ all
+
+object_there : {F : Type 0} (P : OfPlaces) (add : Adding F) (b : Bool) (n : ℕ) (at : Pos) (i : Option InitializerTree) (w : Walked F) → P at → InInitializer P i → IfSome (object_tree add b n at i w) (InDeclared P)
+object_there P add true n at i w p h = array_there P add n at i w p h
+object_there P add false n at i w p h = scalar_there P n at i w p h
+
+declarator_there : {F : Type 0} (P : OfPlaces) (add : Adding F) (words : Words) (d : DeclaratorTree) (w : Walked F) → InDeclarator P d → IfSome (declarator_tree_at add words d w) (InDeclared P)
+unfolding declarator_tree_at
+declarator_there P add words d w h = object_there P add (is_some d.length) (length w.locals) d.name.at d.initializer (after_head add words d w) h.0 h.2
+
+declarators_there : {F : Type 0} (P : OfPlaces) (add : Adding F) (words : Words) (ds : List DeclaratorTree) (w : Walked F) → InDeclarators P ds → IfSome (declarator_trees_at add words ds w) (All (InDeclared P))
+unfolding declarator_trees_at
+declarators_there P add words [] w h = All-nil (InDeclared P)
+declarators_there P add words (d ∷ ds) w h =
+    let v = after_declarator add words d w in
+    both (λ t ts. t ∷ ts) (InDeclared P) (All (InDeclared P)) (All (InDeclared P)) (All-cons (InDeclared P)) (declarator_tree_at add words d w) (declarator_trees_at add words ds v) (declarator_there P add words d w h.0)
+    (declarators_there P add words ds v h.1)
+
+-- ---- enumerations
+
+tag_sited : {F : Type 0} (P : OfPlaces) (add : Adding F) (x : Option Identifier) (w : Walked F) → Sited P w → Sited P (after_tag add x w)
+tag_sited P add None w z = z
+tag_sited P add (Some x) w z = z
+
+enumerator_value_sited : {F : Type 0} (P : OfPlaces) (add : Adding F) (next : Option ℤ) (x : Identifier) (e : Option ExpressionTree) (w : Walked F) → InOptional P e → Sited P w → Sited P (after_enumerator_value add next x e w)
+enumerator_value_sited P add next x None w h z = z
+enumerator_value_sited P add next x (Some e) w h z = value_sited P add e w h z
+
+enumerator_sited : {F : Type 0} (P : OfPlaces) (add : Adding F) (next : Option ℤ) (x : EnumeratorTree) (w : Walked F) → InEnumerator P x → Sited P w → Sited P (after_enumerator add next x w)
+unfolding after_enumerator
+enumerator_sited P add next x w h z = enumerator_value_sited P add next x.name x.value w h.1 z
+
+enumerators_sited : {F : Type 0} (P : OfPlaces) (add : Adding F) (next : Option ℤ) (xs : List EnumeratorTree) (w : Walked F) → InEnumerators P xs → Sited P w → Sited P (after_enumerators add next xs w)
+unfolding after_enumerators
+enumerators_sited P add next [] w h z = z
+enumerators_sited P add next (x ∷ xs) w h z =
+    enumerators_sited P add (next_number (enumerator_value w next x.value)) xs (after_enumerator add next x w) h.1 (enumerator_sited P add next x w h.0 z)
+
+words_sited : {F : Type 0} (P : OfPlaces) (add : Adding F) (words : OneOrMore Specifier) (e : Option EnumerationTree) (w : Walked F) → InEnumeration P e → Sited P w → Sited P (after_words add words e w)
+unfolding after_words
+words_sited P add words None w h z = z
+words_sited P add words (Some e) w h z =
+    enumerators_sited P add (Some (pos 0)) (e.enumerators.first ∷ e.enumerators.more) (after_tag add (type_name_among words) w) h (tag_sited P add (type_name_among words) w z)
+
+hidden_there : (P : OfPlaces) (d : Option Declaration) (at : Pos) → P at → All (InDeclared P) (hidden d at)
+hidden_there P None at p = All-nil (InDeclared P)
+hidden_there P (Some (Object o)) at p = All-cons (InDeclared P) (tree.hiding_constant o.variable at) [] p (All-nil (InDeclared P))
+hidden_there P (Some (Function f)) at p = All-nil (InDeclared P)
+hidden_there P (Some (Enumerator n)) at p = All-nil (InDeclared P)
+hidden_there P (Some (TypeName t)) at p = All-nil (InDeclared P)
+
+all_hidden_there : {F : Type 0} (P : OfPlaces) (add : Adding F) (next : Option ℤ) (xs : List EnumeratorTree) (w : Walked F) → InEnumerators P xs → All (InDeclared P) (hidden_by add next xs w)
+unfolding hidden_by
+all_hidden_there P add next [] w h = All-nil (InDeclared P)
+all_hidden_there P add next (x ∷ xs) w h =
+    let m = next_number (enumerator_value w next x.value) in
+    let v = after_enumerator add next x w in
+    All-append (InDeclared P) (hidden (here w x.name) x.name.at) (hidden_by add m xs v) (hidden_there P (here w x.name) x.name.at h.0.0) (all_hidden_there P add m xs v h.1)
+
+words_there : {F : Type 0} (P : OfPlaces) (add : Adding F) (words : OneOrMore Specifier) (e : Option EnumerationTree) (w : Walked F) → InEnumeration P e → All (InDeclared P) (word_trees_at add words e w)
+unfolding word_trees_at
+words_there P add words None w h = All-nil (InDeclared P)
+words_there P add words (Some e) w h = all_hidden_there P add (Some (pos 0)) (e.enumerators.first ∷ e.enumerators.more) (after_tag add (type_name_among words) w) h
+
+-- ---- static objects
+
+numbers_sited : {F : Type 0} (P : OfPlaces) (add : Adding F) (es : ExpressionTrees) (w : Walked F) → InExpressions P es → Sited P w → Sited P (after_numbers add es w)
+unfolding after_numbers InExpressions
+numbers_sited P add no_expressions w h z = z
+numbers_sited P add (expression_then e es) w h z = numbers_sited P add es (after_constant add e w) h.1 (value_sited P add e w h.0 z)
+
+given_in : (P : OfPlaces) (i : Option InitializerTree) → InInitializer P i → InExpressions P (given i)
+unfolding InExpressions
+given_in P None h = tt
+given_in P (Some (single e)) h = (h, tt)
+given_in P (Some (braced at e es)) h = (h.1, h.2)
+
+static_sited : {F : Type 0} (P : OfPlaces) (add : Adding F) (words : Words) (d : DeclaratorTree) (w : Walked F) → InDeclarator P d → Sited P w → Sited P (after_static add words d w)
+unfolding after_static
+static_sited P add words d w h z = numbers_sited P add (given d.initializer) (after_static_head add words d w) (given_in P d.initializer h.2) (length_sited P add d.length w h.1 z)
+
+statics_sited : {F : Type 0} (P : OfPlaces) (add : Adding F) (words : Words) (ds : List DeclaratorTree) (w : Walked F) → InDeclarators P ds → Sited P w → Sited P (after_statics add words ds w)
+unfolding after_statics
+statics_sited P add words [] w h z = z
+statics_sited P add words (d ∷ ds) w h z = statics_sited P add words ds (after_static add words d w) h.1 (static_sited P add words d w h.0 z)
+
+statics_there : {F : Type 0} (P : OfPlaces) (add : Adding F) (words : Words) (ds : List DeclaratorTree) (w : Walked F) → InDeclarators P ds → All (InDeclared P) (static_trees_at add words ds w)
+unfolding static_trees_at
+statics_there P add words [] w h = All-nil (InDeclared P)
+statics_there P add words (d ∷ ds) w h =
+    let v = after_static add words d w in
+    All-cons (InDeclared P) (static_tree_at d w) (static_trees_at add words ds v) h.0.0 (statics_there P add words ds v h.1)
+
+-- ---- declarations
+
+pub declaration_sited : {F : Type 0} (P : OfPlaces) (add : Adding F) (d : DeclarationTree) (w : Walked F) → InDeclaration P d → Sited P w → Sited P (after_declaration add d w)
+unfolding after_declaration
+declaration_sited P add d w h z =
+    declarators_sited P add (words_at (here w) d.specifiers d.enumeration) d.declarators (after_words add d.specifiers d.enumeration w) h.1 (words_sited P add d.specifiers d.enumeration w h.0 z)
+
+pub declaration_there : {F : Type 0} (P : OfPlaces) (add : Adding F) (d : DeclarationTree) (w : Walked F) → InDeclaration P d → IfSome (declaration_trees_at add d w) (All (InDeclared P))
+unfolding declaration_trees_at
+declaration_there P add d w h =
+    let ws = word_trees_at add d.specifiers d.enumeration w in
+    let words = words_at (here w) d.specifiers d.enumeration in
+    let v = after_words add d.specifiers d.enumeration w in
+    mapped (λ ts. ws ++ ts) (All (InDeclared P)) (All (InDeclared P)) (λ ts k. All-append (InDeclared P) ws ts (words_there P add d.specifiers d.enumeration w h.0) k) (declarator_trees_at add words d.declarators v)
+    (declarators_there P add words d.declarators v h.1)
+
+pub block_declaration_sited : {F : Type 0} (P : OfPlaces) (add : Adding F) (at : Option Pos) (d : DeclarationTree) (w : Walked F) → InDeclaration P d → Sited P w → Sited P (after_block_declaration add at d w)
+unfolding after_static_declaration
+block_declaration_sited P add None d w h z = declaration_sited P add d w h z
+block_declaration_sited P add (Some at) d w h z =
+    statics_sited P add (words_at (here w) d.specifiers d.enumeration) d.declarators (after_words add d.specifiers d.enumeration w) h.1 (words_sited P add d.specifiers d.enumeration w h.0 z)
+
+pub block_declaration_there : {F : Type 0} (P : OfPlaces) (add : Adding F) (at : Option Pos) (d : DeclarationTree) (w : Walked F) → InDeclaration P d → IfSome (block_declaration_at add at d w) (All (InDeclared P))
+unfolding static_declaration_at
+block_declaration_there P add None d w h = declaration_there P add d w h
+block_declaration_there P add (Some at) d w h =
+    let words = words_at (here w) d.specifiers d.enumeration in
+    let v = after_words add d.specifiers d.enumeration w in
+    All-append (InDeclared P) (word_trees_at add d.specifiers d.enumeration w) (static_trees_at add words d.declarators v) (words_there P add d.specifiers d.enumeration w h.0) (statics_there P add words d.declarators v h.1)

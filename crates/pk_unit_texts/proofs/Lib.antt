@@ -1,0 +1,3 @@
+mod Spelling
+mod Standing
+pub mod Texts
