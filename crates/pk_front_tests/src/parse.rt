@@ -8,9 +8,9 @@ use std::alloc::Global;
 use std::test::Fail;
 
 // A million statements take little memory.
-const _: () = prove!(size_of::<Statement>() <= 104);
+const _: () = prove!(size_of::<Statement>() <= 112);
 
-const _: () = prove!(size_of::<BlockItem>() <= 112);
+const _: () = prove!(size_of::<BlockItem>() <= 120);
 
 // Why a text has no tree.
 fn refused(alloc: Global, text: &str) -> Result<Option<ParseError>, Fail> {
