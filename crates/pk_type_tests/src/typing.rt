@@ -1,6 +1,9 @@
 // Typing: texts, and the rule that fails first in each with its place, or nothing. From the reference implementation and from worked cases.
 
-use pk_lex::lex;
+ghost use Rattle.std.specs.Prelude.{IfOk};
+ghost use Rattle.pk_front.specs.Texts.{HasTokens};
+
+use pk_lex::{Token, lex};
 use pk_parse::parse;
 use pk_type::{Refusal, check};
 use pk_typed::Unit;
@@ -18,11 +21,20 @@ fn printed(alloc: Global, refusal: Option<Refusal>) -> Result<String, Fail> {
     Ok(text)
 }
 
-// The typed tree of a text, or what typing refuses.
-pub(crate) fn typed(alloc: Global, text: &[u8]) -> Result<Result<Unit, Refusal>, Fail> {
+// The tokens of a text, with its type names marked.
+fn marked(alloc: Global, text: &[u8]) -> Result<Vec<Token>, Fail>
+    ensures { IfOk result (λ tokens. HasTokens text.now tokens.items) }
+{
     let mut tokens = lex(alloc, text)?;
     mark(alloc, text, &mut tokens)?;
-    let unit = parse(alloc, tokens.as_slice())?;
+    Ok(tokens)
+}
+
+// The typed tree of a text, or what typing refuses.
+pub(crate) fn typed(alloc: Global, text: &[u8]) -> Result<Result<Unit, Refusal>, Fail> {
+    let tokens = marked(alloc, text)?;
+    pk_parse::tokens_are_ended();
+    let unit = parse(alloc, &tokens)?;
     Ok(check(alloc, text, &unit))
 }
 
