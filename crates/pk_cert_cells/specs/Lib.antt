@@ -1,2 +1,3 @@
 pub mod Symbols
 pub mod Cells
+pub mod Reading

@@ -1,4 +1,4 @@
-// Why no certificate is written.
+// Why no certificate is written, or none is read.
 
 use std::alloc::AllocError;
 
@@ -17,5 +17,24 @@ impl From<AllocError> for Unwritten {
 
     fn from(_e: AllocError) -> Self {
         Unwritten::Memory
+    }
+}
+
+/// The first byte with which no certificate goes on, the first point whose line is that of no state, or want of memory.
+#[derive(Clone, Copy)]
+pub enum Unfit {
+    Byte(usize),
+    State(usize),
+    Memory,
+}
+
+impl From<AllocError> for Unfit {
+    ghost use Rattle.std.specs.Prelude.{◌≡◌};
+    ghost use Rattle.pk_cert_cells.specs.declared.failures.Unfit.TheVariants.{Memory};
+
+    ghost from_gives = { λ _ e. e ≡ Memory };
+
+    fn from(_e: AllocError) -> Self {
+        Unfit::Memory
     }
 }

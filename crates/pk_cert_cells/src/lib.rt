@@ -4,9 +4,11 @@
 mod failures;
 mod heads;
 mod lines;
+mod reading;
 mod symbols;
 mod values;
 mod writing;
 
-pub use failures::Unwritten;
+pub use failures::{Unfit, Unwritten};
+pub use reading::read_cells;
 pub use writing::write;
