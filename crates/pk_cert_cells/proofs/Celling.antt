@@ -12,7 +12,6 @@ use Rattle.pk_state.specs.Facts.{Facts, Stated, AreFactsIf}
 use Rattle.pk_transfer.specs.Graphs.{layout_of}
 use Rattle.pk_phases.specs.declared.equations.Cell.{Cell}
 use Rattle.pk_cert.specs.declared.rows.Shape.{Shape}
-use Rattle.pk_cert.specs.declared.rows.Symbol.{Symbol}
 use Rattle.pk_cert.specs.declared.rows.Row.{Row}
 use Rattle.pk_cert.specs.Beginnings.{TextsOf, IsStop, IsFirstWrong}
 use Rattle.pk_cert.specs.Rows.{Line, IsLine, line_text, AreLines, lines_text, kept_line, seen_line, row_view}

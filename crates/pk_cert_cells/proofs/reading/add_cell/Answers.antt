@@ -1,4 +1,4 @@
-use Rattle.std.proofs.Common.{◌≡◌, ◌++◌, ◌∷◌, [], List, map, length, Option, sym, ap, subst, ◌∙◌, arith}
+use Rattle.std.proofs.Common.{◌≡◌, ◌++◌, ◌∷◌, [], map, length, Option, sym, ap, subst, ◌∙◌, arith}
 use Rattle.std.specs.Arc.{arc_value}
 use Rattle.std.proofs.lemmas.List.{length-map, map-append}
 use Rattle.pk_graph.specs.Graphs.{kinds_of}
@@ -6,11 +6,11 @@ use Rattle.pk_graph.specs.Shown.{graph_view}
 use Rattle.pk_state.specs.Layouts.{Layout}
 use Rattle.pk_state.specs.Facts.{Facts, Stated, AreFactsIf}
 use Rattle.pk_phases.specs.declared.equations.Cell.{Cell}
-use Rattle.pk_cert.specs.Rows.{Line, kept_line, row_view}
+use Rattle.pk_cert.specs.Rows.{kept_line, row_view}
 use Rattle.pk_cert_states.specs.Lines.{line_of}
 use Rattle.pk_cert_states.proofs.Reading.{none_of, some_of}
 use Rattle.pk_cert_cells.specs.Reading.{cell_of, AreCellsOf}
-use Rattle.pk_cert_cells.proofs.Celling.{add_past, add_stateless, add_state, row_stateless, row_state}
+use Rattle.pk_cert_cells.proofs.Celling.{add_stateless, add_state, row_stateless, row_state}
 use Rattle.pk_cert_cells.proofs.reading.add_cell.Goals as goal
 
 pub returns-in-None : goal.returns-in-None

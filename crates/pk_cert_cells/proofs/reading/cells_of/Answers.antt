@@ -1,5 +1,5 @@
 use Rattle.std.specs.Prelude.{◌≡◌, List, ℕ, map, length}
-use Rattle.std.proofs.Common.{arith, subst, sym, ap, ◌∙◌}
+use Rattle.std.proofs.Common.{arith, subst}
 use Rattle.std.specs.Arc.{arc_value}
 use Rattle.std.proofs.lemmas.List.{take_rest}
 use Rattle.pk_graph.specs.Graphs.{kinds_of}

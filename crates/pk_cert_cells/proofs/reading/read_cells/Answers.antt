@@ -1,5 +1,5 @@
 use Rattle.std.specs.Prelude.{◌≡◌, ◌<◌, List, ℕ, map, length}
-use Rattle.std.proofs.Common.{arith, subst, sym, ap, ◌∙◌}
+use Rattle.std.proofs.Common.{arith, subst, ap, ◌∙◌}
 use Rattle.std.specs.Arc.{arc_value}
 use Rattle.std.proofs.lemmas.List.{take_rest, length-map}
 use Rattle.pk_graph.specs.Graphs.{kinds_of}
@@ -9,7 +9,7 @@ use Rattle.pk_cert.specs.Heads.{head_view}
 use Rattle.pk_cert.specs.Rows.{AreLines, lines_text}
 use Rattle.pk_cert_states.specs.Lines.{shape_of}
 use Rattle.pk_cert_cells.specs.Reading.{AreCellsRead, IsStateless}
-use Rattle.pk_cert_cells.proofs.Celling.{read_stops, read_goes_on, read_stateless, read_whole}
+use Rattle.pk_cert_cells.proofs.Celling.{read_stops, read_goes_on, read_stateless}
 use Rattle.pk_cert_cells.proofs.reading.read_cells.Goals as goal
 
 pub returns-in-Err-Byte : goal.returns-in-Err-Byte
