@@ -1,3 +1,4 @@
 pub mod Symbols
 pub mod Cells
 pub mod Reading
+pub mod Laws

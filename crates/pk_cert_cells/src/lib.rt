@@ -3,6 +3,7 @@
 
 mod failures;
 mod heads;
+mod laws;
 mod lines;
 mod reading;
 mod symbols;
@@ -10,5 +11,6 @@ mod values;
 mod writing;
 
 pub use failures::{Unfit, Unwritten};
+pub use laws::written_is_read;
 pub use reading::read_cells;
 pub use writing::write;
