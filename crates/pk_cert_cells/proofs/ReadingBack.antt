@@ -1,6 +1,7 @@
 -- What is written is read back.
-use Rattle.std.specs.Prelude.{◌≡◌, ℕ, suc, ◌<◌, List, [], ◌∷◌, ◌++◌, map, length, drop, slice_index_or, Option, None}
-use Rattle.std.proofs.Common.{arith, refl, sym, ap, ◌∙◌}
+use Rattle.std.specs.Prelude.{◌≡◌, ◌⊎◌, ℕ, suc, ◌<◌, List, [], ◌∷◌, ◌++◌, map, length, drop, slice_index_or, Option, None}
+use Rattle.std.proofs.Common.{arith, refl, sym, ap, subst, ◌∙◌, inl, inr}
+use Rattle.std.proofs.lemmas.Bool.{cases_lt}
 use Rattle.std.proofs.lemmas.List.{length-map}
 use Rattle.std.proofs.Math.ListN.{get_or-map}
 use Rattle.pk_graph.specs.Graphs.{GraphOf, kinds_of}
@@ -9,12 +10,13 @@ use Rattle.pk_transfer.specs.Graphs.{layout_of}
 use Rattle.pk_phases.specs.declared.equations.Cell.{Cell}
 use Rattle.pk_cert.specs.Rows.{IsLine, AreLines, Line, EachOf, lines_text}
 use Rattle.pk_cert.specs.Heads.{HeadOf, IsHead, head_text}
+use Rattle.pk_cert.specs.Certificates.{IsCertificate}
 use Rattle.pk_cert.specs.Laws.{HeadsAreTold, LinesAreTold, FirstWrongIsOne}
-use Rattle.pk_cert_states.specs.Lines.{line_of}
+use Rattle.pk_cert_states.specs.Lines.{line_of, IsState}
 use Rattle.pk_cert_states.specs.Laws.{FactsHaveLines}
 use Rattle.pk_cert_cells.specs.Cells.{certificate_of}
 use Rattle.pk_cert_cells.specs.Reading.{cell_of, shape_in, AreReadCells, IsStateless, IsUnfit}
-use Rattle.pk_cert_cells.specs.Laws.{ArePointFacts, WrittenIsRead}
+use Rattle.pk_cert_cells.specs.Laws.{ArePointFacts, IsReadBack, WrittenIsRead, OneReading}
 use Rattle.pk_cert_cells.specs.declared.failures.Unfit.{Unfit}
 use Rattle.pk_cert_cells.specs.declared.failures.Unfit.TheVariants.{Byte, State, Memory}
 
@@ -71,3 +73,41 @@ module _ (heads : HeadsAreTold) (told : LinesAreTold) (wrong : FirstWrongIsOne) 
     cells = λ cells r. cells_back g h known is k cells r;
     fit = λ e u. fits g h known is k e u;
   }
+
+  -- ---- in one way
+
+  module _ (g : GraphOf) (h : HeadOf) (bytes : List ℕ) (is : IsHead h) where
+    written : (cells : List (Cell Stated)) (r : AreReadCells g h bytes cells) → IsReadBack g h r.known
+    written cells r = written_is_read g h r.known is (record { each = r.each; facts = r.facts })
+
+    read_once : (a b : List (Cell Stated)) → AreReadCells g h bytes a → AreReadCells g h bytes b → a ≡ b
+    read_once a b r s = r.cells_are ∙ sym ((written a r).cells b (subst (λ (x : List ℕ). AreReadCells g h x b) r.told s))
+
+    read_fit : (cells : List (Cell Stated)) (e : Unfit) → AreReadCells g h bytes cells → IsUnfit g h bytes e → e ≡ Memory
+    read_fit cells e r u = (written cells r).fit e (subst (λ (x : List ℕ). IsUnfit g h x e) r.told u)
+
+    stateless_less : (u v : ℕ) → IsStateless g h bytes u → IsStateless g h bytes v → u < v → ⊥
+    stateless_less u v r s p =
+        let same = (told (shape_in g h) (length g.points) h h r.lines s.lines is is r.are s.are (sym r.told ∙ s.told)).1 in
+        r.none (subst (λ (ls : List Line). IsState (kinds_of g) (layout_of g h.oct) (slice_index_or ls u None)) (sym same) (s.before u p))
+
+    stateless_once : (u v : ℕ) → IsStateless g h bytes u → IsStateless g h bytes v → u ≡ v
+    stateless_once u v r s = elim (cases_lt u v) [
+      | inl p ↦ absurd (stateless_less u v r s p)
+      | inr p ↦ elim (cases_lt v u) [ inl q ↦ absurd (stateless_less v u s r q) | inr q ↦ omega (arith, p, q) ]
+    ]
+
+    certified : (v : ℕ) → IsStateless g h bytes v → IsCertificate (shape_in g h) (length g.points) h bytes
+    certified v s = (s.lines, s.are, s.told)
+
+    unfit_once : (d e : Unfit) → IsUnfit g h bytes d → IsUnfit g h bytes e → (d ≡ Memory) ⊎ ((e ≡ Memory) ⊎ (d ≡ e))
+    unfit_once Memory e u w = inl refl
+    unfit_once (Byte m) Memory u w = inr (inl refl)
+    unfit_once (Byte m) (Byte n) u w = inr (inr (ap (λ (k : ℕ). Byte k) ((wrong.lines (shape_in g h) (length g.points) h bytes).one m n u w)))
+    unfit_once (Byte m) (State v) u w = absurd ((wrong.lines (shape_in g h) (length g.points) h bytes).none m u (certified v w))
+    unfit_once (State v) Memory u w = inr (inl refl)
+    unfit_once (State v) (Byte m) u w = absurd ((wrong.lines (shape_in g h) (length g.points) h bytes).none m w (certified v u))
+    unfit_once (State u) (State v) r s = inr (inr (ap (λ (k : ℕ). State k) (stateless_once u v r s)))
+
+  pub one_reading : OneReading
+  one_reading g h bytes is = record { cells = read_once g h bytes is; fit = read_fit g h bytes is; unfit = unfit_once g h bytes is }

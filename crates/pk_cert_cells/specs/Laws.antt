@@ -1,5 +1,5 @@
--- What is written of a graph's cells is read back.
-use Rattle.std.specs.Prelude.{◌≡◌, ℕ, ◌<◌, List, map, length, slice_index_or, Option, None}
+-- What is written of a graph's cells is read back, and bytes are read in one way.
+use Rattle.std.specs.Prelude.{◌≡◌, ◌⊎◌, ℕ, ◌<◌, List, map, length, slice_index_or, Option, None}
 use Rattle.pk_graph.specs.Graphs.{GraphOf}
 use Rattle.pk_state.specs.Facts.{Facts, Stated, AreFactsIf}
 use Rattle.pk_transfer.specs.Graphs.{layout_of}
@@ -29,3 +29,12 @@ abbrev pub WrittenIsRead : Type 0
 WrittenIsRead =
     (g : GraphOf) (h : HeadOf) (known : List (Option Facts)) → IsHead h → ArePointFacts g h.oct known →
     IsReadBack g h known
+
+-- Bytes behind a head are the certificate of one list of cells, or have one first wrong byte, or one first point of no state.
+pub record IsOneReading (g : GraphOf) (h : HeadOf) (bytes : List ℕ) : Type 0 where
+  pub cells : (a b : List (Cell Stated)) → AreReadCells g h bytes a → AreReadCells g h bytes b → a ≡ b
+  pub fit : (cells : List (Cell Stated)) (e : Unfit) → AreReadCells g h bytes cells → IsUnfit g h bytes e → e ≡ Memory
+  pub unfit : (d e : Unfit) → IsUnfit g h bytes d → IsUnfit g h bytes e → (d ≡ Memory) ⊎ ((e ≡ Memory) ⊎ (d ≡ e))
+
+abbrev pub OneReading : Type 0
+OneReading = (g : GraphOf) (h : HeadOf) (bytes : List ℕ) → IsHead h → IsOneReading g h bytes

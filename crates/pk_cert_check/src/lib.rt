@@ -2,6 +2,8 @@
 #![tactic(auto)]
 
 mod checks;
+mod laws;
 mod runs;
 
 pub use checks::first_failing;
+pub use laws::one_check;
