@@ -10,7 +10,7 @@ use Rattle.pk_cert.specs.Rows.{kept_line, row_view}
 use Rattle.pk_cert_states.specs.Lines.{line_of}
 use Rattle.pk_cert_states.proofs.Reading.{none_of, some_of}
 use Rattle.pk_cert_cells.specs.Reading.{cell_of, AreCellsOf}
-use Rattle.pk_cert_cells.proofs.Celling.{add_stateless, add_state, row_stateless, row_state}
+use Rattle.pk_cert_cells.proofs.Celling.{add_past, add_stateless, add_state, row_stateless, row_state}
 use Rattle.pk_cert_cells.proofs.reading.add_cell.Goals as goal
 
 pub returns-in-None : goal.returns-in-None
@@ -38,3 +38,11 @@ returns-in_ok-push-in-Some c = λ lines line size seen h.
     ∙ map-append arc_value c.args.cells.now.items (c.in_ok-new-in-Some.field-0 ∷ [])
     ∙ ap (λ (x : Cell Stated). map arc_value c.args.cells.now.items ++ x ∷ []) (c.in_ok-new-in-Some.ensures.ok ∙ ap (λ (y : Layout). cell_of y c.in-Some.state.facts) some.0) in
     subst (AreCellsOf ks l (lines ++ line ∷ [])) (sym pushed) (add_state ks l lines line cells f h same facts (row_state ks l c.args.row.now line f seen some.1))
+
+pub returns-then-len-k : goal.returns-then-len-k
+returns-then-len-k c = λ lines line size seen h.
+    let ks = kinds_of (graph_view c.args.graph.now) in
+    let l = arc_value c.args.frame.now in
+    let cells = map arc_value c.args.cells.now.items in
+    let many = length-map c.args.cells.now.items arc_value in
+    add_past ks l lines line cells h (λ e. c.if-len-k.true (omega (arith, many, c.len.ensures, size, e)))
