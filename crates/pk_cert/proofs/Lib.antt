@@ -1,7 +1,7 @@
 mod Stops
 mod Digits
 mod SymbolLemmas
-mod Sequences
+pub mod Sequences
 mod Parts
 mod Heading
-mod Lines
+pub mod Lines

@@ -196,23 +196,24 @@ module _ (shape : Shape) (points : ℕ) (h : HeadOf) (bytes : List ℕ) (len : �
       (subst (λ (b : List ℕ). IsFirstWrong (IsCertificate shape points h) b (length (head_text h) + n)) (sym first.told) there)
 
   -- bytes behind the lines
-  pub certificate_goes_on : (rows : List Row) (n : ℕ) → AreRowsRead shape points (drop len bytes) rows n → len + n < length bytes → IsFirstWrong (IsCertificate shape points h) bytes (len + n)
-  certificate_goes_on rows n r more = record {
+  pub certificate_goes_on : (lines : List Line) (n : ℕ) → AreLines shape points lines → AreFirst (lines_text lines) (drop len bytes) n → len + n < length bytes
+      → IsFirstWrong (IsCertificate shape points h) bytes (len + n)
+  certificate_goes_on lines n are first_lines more = record {
     there = omega (arith, more);
-    before = ([], (r.lines, r.are, append-nil (take (len + n) bytes) ∙ all));
+    before = ([], (lines, are, append-nil (take (len + n) bytes) ∙ all));
     wrong = λ l b.
         let rest : List ℕ = slice_index bytes (len + n) ∷ b.0 in
-        let e : lines_text r.lines ++ rest ≡ lines_text b.1.0 ++ [] =
-        append_cancel_left (head_text h) (lines_text r.lines ++ rest) (lines_text b.1.0 ++ [])
-        (sym (append_assoc (head_text h) (lines_text r.lines) rest) ∙ ap (λ (x : List ℕ). x ++ rest) (sym all) ∙ sym (append_assoc (take (len + n) bytes) (slice_index bytes (len + n) ∷ []) b.0)
+        let e : lines_text lines ++ rest ≡ lines_text b.1.0 ++ [] =
+        append_cancel_left (head_text h) (lines_text lines ++ rest) (lines_text b.1.0 ++ [])
+        (sym (append_assoc (head_text h) (lines_text lines) rest) ∙ ap (λ (x : List ℕ). x ++ rest) (sym all) ∙ sym (append_assoc (take (len + n) bytes) (slice_index bytes (len + n) ∷ []) b.0)
         ∙ ap (λ (x : List ℕ). x ++ b.0) (sym (take-suc bytes (len + n) 0 l)) ∙ b.1.2 ∙ ap (λ (x : List ℕ). head_text h ++ x) (sym (append-nil (lines_text b.1.0)))) in
-        let q = all_lines_told shape points r.lines b.1.0 rest [] r.are b.1.1 e in
+        let q = all_lines_told shape points lines b.1.0 rest [] are b.1.1 e in
         let none : rest ≡ [] = q.1 in
         cc;
     early = λ e c. omega (arith, e, more);
   }
     where
-      all : take (len + n) bytes ≡ certificate_text h r.lines
+      all : take (len + n) bytes ≡ certificate_text h lines
       all =
           take-add len n bytes
           ∙ (λ i. front i ++ behind i)
@@ -220,18 +221,17 @@ module _ (shape : Shape) (points : ℕ) (h : HeadOf) (bytes : List ℕ) (len : �
           front : take len bytes ≡ head_text h
           front = ap (λ (x : List ℕ). take len x) first.told ∙ ap (λ (j : ℕ). take j (head_text h ++ drop len bytes)) first.size ∙ take-append_seam (head_text h) (drop len bytes)
 
-          behind : take n (drop len bytes) ≡ lines_text r.lines
-          behind = ap (λ (x : List ℕ). take n x) r.first.told ∙ ap (λ (j : ℕ). take j (lines_text r.lines ++ drop n (drop len bytes))) r.first.size ∙ take-append_seam (lines_text r.lines) (drop n (drop len bytes))
+          behind : take n (drop len bytes) ≡ lines_text lines
+          behind = ap (λ (x : List ℕ). take n x) first_lines.told ∙ ap (λ (j : ℕ). take j (lines_text lines ++ drop n (drop len bytes))) first_lines.size ∙ take-append_seam (lines_text lines) (drop n (drop len bytes))
+
+  -- nothing behind them
+  pub certificate_ends : (lines : List Line) (n : ℕ) → AreFirst (lines_text lines) (drop len bytes) n → length bytes ≤ len + n → bytes ≡ certificate_text h lines
+  certificate_ends lines n first_lines last =
+      first.told ∙ ap (λ (x : List ℕ). head_text h ++ x)
+      (first_lines.told ∙ ap (λ (x : List ℕ). lines_text lines ++ x) (drop_all n (drop len bytes) (omega (arith, length-drop len bytes, last))) ∙ append-nil (lines_text lines))
 
   pub certificate_read : (rows : List Row) (n : ℕ) → AreRowsRead shape points (drop len bytes) rows n → length bytes ≤ len + n → AreRead shape points h bytes rows
-  certificate_read rows n r last = record {
-    lines = r.lines;
-    are = r.are;
-    told =
-        first.told ∙ ap (λ (x : List ℕ). head_text h ++ x)
-        (r.first.told ∙ ap (λ (x : List ℕ). lines_text r.lines ++ x) (drop_all n (drop len bytes) (omega (arith, length-drop len bytes, last))) ∙ append-nil (lines_text r.lines));
-    seen = r.seen;
-  }
+  certificate_read rows n r last = record { lines = r.lines; are = r.are; told = certificate_ends r.lines n r.first last; seen = r.seen }
 
 -- ---- what errors tell
 

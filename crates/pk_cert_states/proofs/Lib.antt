@@ -1,5 +1,6 @@
-mod Fours
+pub mod Fours
 mod Filling
-mod Variables
+pub mod Variables
 mod Writing
-mod Reading
+pub mod Reading
+pub mod Telling

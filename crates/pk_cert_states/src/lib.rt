@@ -2,8 +2,11 @@
 #![tactic(auto)]
 
 mod bounds;
+mod laws;
 mod numbers;
 mod states;
 mod values;
 
+pub use laws::facts_have_lines;
 pub use states::state_of;
+pub use values::is_one_of;

@@ -12,9 +12,9 @@ use pk_cert::Symbol;
 use pk_graph::Variable;
 use pk_value::Value;
 
-// Whether a variable is one of the arrays, or of the scalars.
+/// Whether a variable is one of the arrays, or of the scalars.
 #[tactic(auto, unfolding(pk_graph::specs::Graphs::variable_view))]
-fn is_one_of(arrays: bool, variable: &Variable) -> bool
+pub fn is_one_of(arrays: bool, variable: &Variable) -> bool
     ensures { result ≡ is_one_of arrays (variable_view variable.now).kind }
 {
     match variable.length {

@@ -15,5 +15,5 @@ returns-in-Err-Byte c =
 
 pub returns-then-head-n : goal.returns-then-head-n
 returns-then-head-n c =
-    certificate_goes_on c.args.shape c.args.points (head_view c.args.head.now) c.args.bytes.now c.args.head.now.len c.requires.head.first c.in-Ok.rows.items c.in-Ok.n
-    (subst (λ (x : List ℕ). AreRowsRead c.args.shape c.args.points x c.in-Ok.rows.items c.in-Ok.n) (take_rest c.args.bytes.now c.args.head.now.len) c.in-Ok.ensures) c.if-head-n.true
+    let r = subst (λ (x : List ℕ). AreRowsRead c.args.shape c.args.points x c.in-Ok.rows.items c.in-Ok.n) (take_rest c.args.bytes.now c.args.head.now.len) c.in-Ok.ensures in
+    certificate_goes_on c.args.shape c.args.points (head_view c.args.head.now) c.args.bytes.now c.args.head.now.len c.requires.head.first r.lines c.in-Ok.n r.are r.first c.if-head-n.true

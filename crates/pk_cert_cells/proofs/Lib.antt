@@ -1,0 +1,4 @@
+mod Spacing
+mod Joining
+mod Celling
+mod ReadingBack

@@ -1,0 +1,4 @@
+pub mod Symbols
+pub mod Cells
+pub mod Reading
+pub mod Laws

@@ -1,0 +1,16 @@
+//! The cells of certificates: what is known at the points of a graph, written and read.
+#![tactic(auto)]
+
+mod failures;
+mod heads;
+mod laws;
+mod lines;
+mod reading;
+mod symbols;
+mod values;
+mod writing;
+
+pub use failures::{Unfit, Unwritten};
+pub use laws::{one_reading, written_is_read};
+pub use reading::read_cells;
+pub use writing::write;

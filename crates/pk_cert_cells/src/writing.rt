@@ -1,0 +1,92 @@
+// Certificates, as they are written.
+
+ghost use Rattle.std.specs.Prelude.{◌≡◌, ◌++◌, ◌<◌, ◌≤◌, ◌^◌, ℕ, OnOk, MatchResult, length, map};
+ghost use Rattle.pk_graph.specs.Graphs.{kinds_of};
+ghost use Rattle.pk_graph.specs.Shown.{graph_view};
+ghost use Rattle.pk_transfer.specs.Graphs.{layout_of};
+ghost use Rattle.pk_cert.specs.Rows.{line_text, lines_text};
+ghost use Rattle.pk_cert_states.specs.Lines.{line_of};
+ghost use Rattle.pk_cert_cells.specs.Cells.{state_in, facts_in, AreCells, head_of, cells_text, most_bytes, IsUnwritten};
+
+use crate::failures::Unwritten;
+use crate::heads::write_head;
+use crate::lines::write_line;
+use pk_graph::Graph;
+use pk_iterate::Cells;
+use pk_phases::Cell;
+use pk_state::{Frame, State};
+use pk_transfer::frame;
+use std::alloc::{AllocError, Global};
+
+// How many bytes a certificate has at most.
+const MOST_BYTES: usize = 67_108_864;
+
+// Writes the line of a cell.
+fn write_cell(
+    bytes: &mut Vec<u8>,
+    graph: &Graph,
+    frame: &Frame,
+    cell: &Cell<State>,
+) -> Result<(), AllocError>
+    requires frame { (oct : ℕ) × (frame.now ≡ layout_of (graph_view graph.now) oct) }
+    requires over { (state_in frame.now cell.now).layout ≡ frame.now }
+    ensures { OnOk result (bytes.new.items ≡ bytes.old.items
+        ++ line_text (line_of (kinds_of (graph_view graph.now)) (state_in frame.now cell.now).facts)) }
+{
+    match cell {
+        Cell::Value(state) => write_line(bytes, graph, frame, state),
+        Cell::Exit(_) => bytes.extend_from_slice(b"bot\n"),
+    }
+}
+
+// Writes the line of each point, as long as these aren't too many bytes.
+fn write_cells(
+    bytes: &mut Vec<u8>,
+    graph: &Graph,
+    frame: &Frame,
+    cells: &Cells<Cell<State>>,
+) -> Result<(), Unwritten>
+    requires frame { (oct : ℕ) × (frame.now ≡ layout_of (graph_view graph.now) oct) }
+    requires cells { AreCells frame.now (length (graph_view graph.now).points) cells.now.cells }
+    ensures { let known = facts_in frame.now (length (graph_view graph.now).points) cells.now.cells in
+        let all = bytes.old.items ++ lines_text (map (line_of (kinds_of (graph_view graph.now))) known) in
+        MatchResult result (λ _. (bytes.new.items ≡ all) × (length all ≤ most_bytes)) (IsUnwritten all) }
+{
+    graph.well_made();
+    for v in 0..graph.points() {
+        if bytes.len() > MOST_BYTES {
+            return Err(Unwritten::Limit);
+        }
+        write_cell(bytes, graph, frame, cells.cell(v as u32))?;
+    }
+    if bytes.len() > MOST_BYTES {
+        Err(Unwritten::Limit)
+    } else {
+        Ok(())
+    }
+}
+
+/// The certificate of a text, the size of the octagon, an entry and what is known at each point of the text's graph, if
+/// it has at most 67108864 bytes.
+pub fn write(
+    alloc: Global,
+    graph: &Graph,
+    text: &[u8],
+    oct: u32,
+    entry: &[u8],
+    cells: &Cells<Cell<State>>,
+) -> Result<Vec<u8>, Unwritten>
+    requires oct { oct < 2 ^ 31 }
+    requires cells { AreCells (layout_of (graph_view graph.now) oct) (length (graph_view graph.now).points)
+        cells.now.cells }
+    ensures { let all = cells_text (graph_view graph.now) (head_of text.now oct entry.now) cells.now.cells in
+        MatchResult result (λ bytes. (bytes.items ≡ all) × (length all ≤ most_bytes)) (IsUnwritten all) }
+{
+    let frame = frame(alloc, graph, oct as usize)?;
+    let mut bytes = Vec::new(alloc);
+    write_head(&mut bytes, text, oct, entry)?;
+    match write_cells(&mut bytes, graph, &frame, cells) {
+        Err(e) => Err(e),
+        Ok(()) => Ok(bytes),
+    }
+}

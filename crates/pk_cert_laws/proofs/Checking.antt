@@ -1,0 +1,96 @@
+-- Cells of certificates, and what an analysis leaves.
+use Rattle.std.specs.Prelude.{◌≡◌, ℕ, ◌<◌, ◌≤◌, List, [], ◌∷◌, map, length, take, slice_index_or, All, Option, None}
+use Rattle.std.proofs.Common.{arith, refl, sym, ap, subst, ◌∙◌}
+use Rattle.std.proofs.lemmas.List.{length-map, length-take-le, get_or-map, get_or-take}
+use Rattle.std.proofs.lemmas.List.FromFn.{length-map-range_with_len}
+use Rattle.std.proofs.lemmas.List.Elements.{All-head, All-tail}
+use Rattle.pk_graph.specs.Graphs.{EdgeOf, PointOf, GraphOf}
+use Rattle.pk_state.specs.Layouts.{Layout}
+use Rattle.pk_state.specs.Facts.{Facts, Stated, AreFactsIf, IsBelow}
+use Rattle.pk_transfer.specs.Graphs.{layout_of}
+use Rattle.pk_plan.specs.Order.{Level}
+use Rattle.pk_plan.specs.Plans.{PlanView}
+use Rattle.pk_iterate.specs.Outcome.{Outcome}
+use Rattle.pk_phases.specs.declared.equations.Cell.{Cell}
+use Rattle.pk_phases.specs.declared.equations.Cell.TheVariants.{Value}
+use Rattle.pk_phases.specs.Equations.{value_of}
+use Rattle.pk_analysis.specs.declared.analysis.Options.{Options}
+use Rattle.pk_analysis.specs.declared.arrows.Arrow.{Arrow}
+use Rattle.pk_analysis.specs.Arrows.{arrows_at, origins}
+use Rattle.pk_analysis.specs.Flows.{Flow, stated, equation}
+use Rattle.pk_sound.specs.Results.{IsAnalysed, known_at_point}
+use Rattle.pk_sound.specs.Families.{given_on, IsSolved, ResultsAreFamilies}
+use Rattle.pk_sound.proofs.Arrows_at.{arrows_to}
+use Rattle.pk_cert_cells.specs.Cells.{state_in, facts_in}
+use Rattle.pk_cert_cells.specs.Reading.{cell_of}
+use Rattle.pk_cert_check.specs.Checked.{cell_in, known_by, HoldStates}
+use Rattle.pk_cert_laws.specs.Checks.{ReadCellsHoldStates, ChecksWell, ResultsCheckWell}
+
+-- the cell of a point where this is known
+cell_there : (l : Layout) (known : List (Option Facts)) (v : ℕ) → v < length known → cell_in l (map (cell_of l) known) v ≡ cell_of l (slice_index_or known v None)
+cell_there l known v h = get_or-map (cell_of l) known v None (Value (stated l None)) h
+
+pub read_cells_hold_states : ReadCellsHoldStates
+read_cells_hold_states g h bytes cells r =
+    subst (HoldStates (layout_of g h.oct) (length g.points)) (sym r.cells_are) (record {
+      enough = omega (arith, length-map r.known (cell_of (layout_of g h.oct)), r.each);
+      each = λ v p. (slice_index_or r.known v None, cell_there (layout_of g h.oct) r.known v (omega (arith, p, r.each)));
+    })
+
+-- ---- families that are the same at each point
+
+map_same : (n : ℕ) (f k : ℕ → Option Facts) → ((v : ℕ) → v < n → f v ≡ k v) → (us : List ℕ) → All (λ u. u < n) us → map f us ≡ map k us
+map_same n f k same [] h = refl
+map_same n f k same (u ∷ us) h =
+    ap (λ (o : Option Facts). o ∷ map f us) (same u (All-head (λ x. x < n) u us h)) ∙ ap (λ (os : List (Option Facts)). k u ∷ os) (map_same n f k same us (All-tail (λ x. x < n) u us h))
+
+origins_within : (g : GraphOf) (v : ℕ) → All (λ u. u < length g.points) (origins (arrows_at g v))
+origins_within g v k d p =
+    let none : Arrow = record { from = d; edge = 0 } in
+    let q : k < length (arrows_at g v) = omega (arith, p, length-map (arrows_at g v) (λ (x : Arrow). x.from)) in
+    subst (λ (n : ℕ). n < length g.points) (sym (get_or-map (λ (x : Arrow). x.from) (arrows_at g v) k none d q)) (arrows_to g v k none q).point
+
+pub solved_same : (g : GraphOf) (l : Layout) (f k : ℕ → Option Facts) → ((v : ℕ) → v < length g.points → f v ≡ k v) → IsSolved g l f → IsSolved g l k
+solved_same g l f k same s = record {
+  facts = λ v p. subst (AreFactsIf l) (same v p) (s.facts v p);
+  below = λ v p.
+      let given : given_on g l f v ≡ given_on g l k v = ap (equation g l v) (map_same (length g.points) f k same (origins (arrows_at g v)) (origins_within g v)) in
+      subst (λ (o : Option Facts). IsBelow o (k v)) given (subst (IsBelow (given_on g l f v)) (same v p) (s.below v p));
+}
+
+-- ---- the result of an analysis
+
+module _ (g : GraphOf) (o : Options) (p : PlanView) (order : Level) (a : Flow) (most : ℕ) (it : Outcome (Cell Stated)) (is : IsAnalysed g o p order a most it) where
+  cells_many : length g.points ≤ length it.cells
+  cells_many =
+      let points : p.points ≡ length g.points = is.ordered.is_plan.points ∙ length-map g.points (λ (q : PointOf). map (λ (e : EdgeOf). e.to) q.edges) in
+      let cells = ap (λ (cs : List (Cell Stated)). length cs) is.result.cells_after in
+      let many : length it.cells ≡ p.elements = cells ∙ length-map-range_with_len _ 0 p.elements in
+      omega (arith, points, is.ordered.axioms.counted, many)
+
+  known_many : length (facts_in (layout_of g o.oct) (length g.points) it.cells) ≡ length g.points
+  known_many = length-map (take (length g.points) it.cells) (λ (c : Cell Stated). (state_in (layout_of g o.oct) c).facts) ∙ length-take-le (length g.points) it.cells cells_many
+
+  -- what the cells say is what the result knows
+  known_there : (v : ℕ) → v < length g.points → slice_index_or (facts_in (layout_of g o.oct) (length g.points) it.cells) v None ≡ known_at_point a it v
+  known_there v h =
+      get_or-map (λ (c : Cell Stated). (state_in (layout_of g o.oct) c).facts) (take (length g.points) it.cells) v (Value (stated (layout_of g o.oct) None)) None
+      (omega (arith, h, length-take-le (length g.points) it.cells cells_many))
+      ∙ ap (λ (c : Cell Stated). (state_in (layout_of g o.oct) c).facts) (get_or-take (length g.points) it.cells v (Value (stated (layout_of g o.oct) None)) h)
+      ∙ ap (λ (y : Layout). (value_of (stated y None) (slice_index_or it.cells v (Value (stated y None)))).facts) (sym is.analysis.layout)
+
+  cells_say : (v : ℕ) → v < length g.points → known_at_point a it v ≡ known_by (layout_of g o.oct) (map (cell_of (layout_of g o.oct)) (facts_in (layout_of g o.oct) (length g.points) it.cells)) v
+  cells_say v h =
+      sym (ap (λ (c : Cell Stated). (value_of (stated (layout_of g o.oct) None) c).facts) (cell_there (layout_of g o.oct) (facts_in (layout_of g o.oct) (length g.points) it.cells) v (omega (arith, h, known_many)))
+      ∙ known_there v h)
+
+  pub well : ResultsAreFamilies → ChecksWell g o.oct (facts_in (layout_of g o.oct) (length g.points) it.cells)
+  well law =
+      let s = subst (λ (y : Layout). IsSolved g y (known_at_point a it)) is.analysis.layout (law g o p order a most it is).solved in
+      record {
+        facts = record { each = known_many; facts = λ v h. subst (AreFactsIf (layout_of g o.oct)) (sym (known_there v h)) (s.facts v h) };
+        solved = solved_same g (layout_of g o.oct) (known_at_point a it) (known_by (layout_of g o.oct) (map (cell_of (layout_of g o.oct)) (facts_in (layout_of g o.oct) (length g.points) it.cells))) cells_say s;
+      }
+
+pub results_check_well : ResultsAreFamilies → ResultsCheckWell
+results_check_well law g o p order a most it is = well g o p order a most it is law
