@@ -141,11 +141,7 @@ impl Enumerator {
 
 #[tactic(auto, unfolding(crate::specs::Views::enumeration_tree))]
 impl Enumeration {
-    pub fn new(
-        first: Enumerator,
-        more: Vec<Enumerator>,
-        qualifiers: Vec<Specifier>,
-    ) -> Enumeration
+    pub fn new(first: Enumerator, more: Vec<Enumerator>, qualifiers: Vec<Specifier>) -> Enumeration
         ensures { enumeration_tree result ≡ record {
           enumerators = record { first = enumerator_tree first; more = enumerator_trees more.items };
           qualifiers = qualifiers.items;
