@@ -1,5 +1,7 @@
 -- The tree that a value of the code stands for, without where it lies in memory.
-use Rattle.std.specs.Prelude.{List, [], ◌∷◌, option_map, map}
+use Rattle.std.specs.Prelude.{List, [], ◌∷◌, Option, option_map, map}
+use Rattle.std.specs.declared.alloc.Global.{Global}
+use Rattle.std.specs.declared.boxed.Box.{Box}
 use Rattle.pk_ast.specs.declared.declarations.Specifier.{Specifier}
 use Rattle.pk_ast.specs.declared.declarations.Specifiers.{Specifiers}
 use Rattle.pk_ast.specs.declared.declarations.Initializer.{Initializer}
@@ -86,11 +88,19 @@ enumeration_tree e =
       qualifiers = e.qualifiers.items;
     }
 
+-- what lies on the heap, where there is one
+abbrev pub unboxed : {T : Type 0} → Option (Box T Global) → Option T
+unboxed = option_map (λ b. b.value)
+
+-- the enumeration of a declaration, where it has one
+abbrev pub braces_tree : Option (Box Enumeration Global) → Option EnumerationTree
+braces_tree b = option_map enumeration_tree (unboxed b)
+
 unfoldable pub declaration_tree : Declaration → DeclarationTree
 declaration_tree d =
     record {
       specifiers = specifiers_tree d.specifiers;
-      enumeration = option_map enumeration_tree d.enumeration;
+      enumeration = braces_tree d.enumeration;
       declarators = declarator_trees d.declarators.items;
     }
 
@@ -153,7 +163,7 @@ function_tree f = record {
 unfoldable pub typedef_tree : Typedef → TypedefTree
 typedef_tree d = record {
   specifiers = specifiers_tree d.specifiers;
-  enumeration = option_map enumeration_tree d.enumeration;
+  enumeration = braces_tree d.enumeration;
   names = record { first = d.first; more = d.more.items };
 }
 

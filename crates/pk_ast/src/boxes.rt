@@ -1,6 +1,7 @@
 // Values on the heap. These are generic, so that what is dropped where memory ends is one value to the prover, and not each variant of a tree.
 
 ghost use Rattle.std.specs.Prelude.{◌≡◌, IfOk};
+ghost use Rattle.pk_ast.specs.Views.{unboxed};
 
 use std::alloc::{AllocError, Global};
 
@@ -8,6 +9,22 @@ pub(crate) fn boxed<T: Drop>(alloc: Global, value: T) -> Result<Box<T>, AllocErr
     ensures { IfOk result (λ b. b.value ≡ value) }
 {
     Ok(Box::new(alloc, value)?)
+}
+
+/// On the heap, where there is one.
+pub(crate) fn boxed_if_some<T: Drop>(
+    alloc: Global,
+    value: Option<T>,
+) -> Result<Option<Box<T>>, AllocError>
+    ensures { IfOk result (λ b. unboxed b ≡ value) }
+{
+    match value {
+        None => Ok(None),
+        Some(value) => {
+            let value = Box::new(alloc, value)?;
+            Ok(Some(value))
+        }
+    }
 }
 
 pub(crate) fn both_boxed<A: Drop, B: Drop>(

@@ -1,6 +1,6 @@
 // Declarations (C99 6.7).
 
-ghost use Rattle.std.specs.Prelude.{◌≡◌, option_map};
+ghost use Rattle.std.specs.Prelude.{◌≡◌, IfOk, option_map};
 ghost use Rattle.pk_ast.specs.Trees as tree;
 ghost use Rattle.pk_ast.specs.Views.{
   specifiers_tree,
@@ -15,8 +15,10 @@ ghost use Rattle.pk_ast.specs.Views.{
   declaration_tree,
 };
 
+use crate::boxes::boxed_if_some;
 use crate::expressions::{Expression, Identifier};
 use pk_ctypes::Pos;
+use std::alloc::{AllocError, Global};
 
 /// A word of a type's name (C99 6.7.2, 6.7.3).
 #[derive(Clone, Copy)]
@@ -89,7 +91,7 @@ pub struct Enumeration {
 #[derive(Drop)]
 pub struct Declaration {
     pub specifiers: Specifiers,
-    pub enumeration: Option<Enumeration>,
+    pub enumeration: Option<Box<Enumeration>>,
     pub declarators: Vec<Declarator>,
 }
 
@@ -158,20 +160,22 @@ impl Enumeration {
 #[tactic(auto, unfolding(crate::specs::Views::declaration_tree))]
 impl Declaration {
     pub fn new(
+        alloc: Global,
         specifiers: Specifiers,
         enumeration: Option<Enumeration>,
         declarators: Vec<Declarator>,
-    ) -> Declaration
-        ensures { declaration_tree result ≡ record {
+    ) -> Result<Declaration, AllocError>
+        ensures { IfOk result (λ d. declaration_tree d ≡ record {
           specifiers = specifiers_tree specifiers;
           enumeration = option_map enumeration_tree enumeration;
           declarators = declarator_trees declarators.items;
-        } }
+        }) }
     {
-        Declaration {
+        let enumeration = boxed_if_some(alloc, enumeration)?;
+        Ok(Declaration {
             specifiers,
             enumeration,
             declarators,
-        }
+        })
     }
 }

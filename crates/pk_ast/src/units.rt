@@ -1,6 +1,6 @@
 // External definitions (C99 6.9).
 
-ghost use Rattle.std.specs.Prelude.{◌≡◌, option_map};
+ghost use Rattle.std.specs.Prelude.{◌≡◌, IfOk, option_map};
 ghost use Rattle.pk_ast.specs.Trees as tree;
 ghost use Rattle.pk_ast.specs.Views.{
   specifiers_tree,
@@ -16,10 +16,12 @@ ghost use Rattle.pk_ast.specs.Views.{
   unit_tree,
 };
 
+use crate::boxes::boxed_if_some;
 use crate::declarations::{Declaration, Enumeration, Specifiers};
 use crate::expressions::Identifier;
 use crate::statements::Block;
 use pk_ctypes::Pos;
+use std::alloc::{AllocError, Global};
 
 /// `static` or `extern`.
 #[derive(Clone, Copy)]
@@ -56,7 +58,7 @@ pub struct Function {
 #[derive(Drop)]
 pub struct Typedef {
     pub specifiers: Specifiers,
-    pub enumeration: Option<Enumeration>,
+    pub enumeration: Option<Box<Enumeration>>,
     pub first: Identifier,
     pub more: Vec<Identifier>,
 }
@@ -114,23 +116,25 @@ impl Function {
 #[tactic(auto, unfolding(crate::specs::Views::typedef_tree))]
 impl Typedef {
     pub fn new(
+        alloc: Global,
         specifiers: Specifiers,
         enumeration: Option<Enumeration>,
         first: Identifier,
         more: Vec<Identifier>,
-    ) -> Typedef
-        ensures { typedef_tree result ≡ record {
+    ) -> Result<Typedef, AllocError>
+        ensures { IfOk result (λ d. typedef_tree d ≡ record {
           specifiers = specifiers_tree specifiers;
           enumeration = option_map enumeration_tree enumeration;
           names = record { first = first; more = more.items };
-        } }
+        }) }
     {
-        Typedef {
+        let enumeration = boxed_if_some(alloc, enumeration)?;
+        Ok(Typedef {
             specifiers,
             enumeration,
             first,
             more,
-        }
+        })
     }
 }
 

@@ -195,7 +195,7 @@ pub fn declarators<'a>(
         (λ x. (d : states.Declaring) → CanDeclare parser.end d name outside tokens.now →
         Fails (run parser.end (states.after_name d name) tokens.now) x) }
 {
-    let mut list = Vec::new(parser.alloc);
+    let mut list = Vec::with_capacity(parser.alloc, 1)?;
     let mut next_name = name;
     let mut rest = tokens;
     loop {
@@ -279,5 +279,6 @@ pub fn declaration<'a>(
         declared(parser, alone, rest, outside),
         (words, enumeration),
     )?;
-    Ok((Declaration::new(words, enumeration, declarators), last))
+    let declaration = Declaration::new(parser.alloc, words, enumeration, declarators)?;
+    Ok((declaration, last))
 }

@@ -165,10 +165,8 @@ fn typedef<'a>(parser: Parser, tokens: &'a [Token]) -> Result<(Typedef, &'a [Tok
         (words, enumeration),
     )?;
     let ((more, last), (words, enumeration)) = keeping(more_names(parser, after_name), held)?;
-    Ok((
-        Typedef::new(words, enumeration, identifier(token), more),
-        last,
-    ))
+    let typedef = Typedef::new(parser.alloc, words, enumeration, identifier(token), more)?;
+    Ok((typedef, last))
 }
 
 // A function, or a declaration of objects, behind the words of its type.
@@ -192,7 +190,7 @@ fn specified<'a>(
     let name = identifier(token);
     let Some((_, after_open)) = parser.take(after_name, Fixed::OpenParenthesis) else {
         let (declarators, last) = declarators(parser, name, after_name, 0)?;
-        let declaration = Declaration::new(words, None, declarators);
+        let declaration = Declaration::new(parser.alloc, words, None, declarators)?;
         return Ok((External::declaration(storage, declaration), last));
     };
     let (parameters, after_close) = parameters(parser, after_open)?;
@@ -224,7 +222,7 @@ fn enumerated<'a>(
         declared(parser, true, tokens, 0),
         enumeration,
     )?;
-    let declaration = Declaration::new(words, Some(enumeration), declarators);
+    let declaration = Declaration::new(parser.alloc, words, Some(enumeration), declarators)?;
     Ok((External::declaration(storage, declaration), last))
 }
 

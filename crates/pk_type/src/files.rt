@@ -1,7 +1,7 @@
 // What stands before a place of the file scope.
 
-ghost use Rattle.std.specs.Prelude.{◌≡◌, ◌++◌, None, is_some, option_map, IfOk, OnOk};
-ghost use Rattle.pk_ast.specs.Views.{specifiers_tree, declarator_tree, declarator_trees, enumeration_tree, declaration_tree};
+ghost use Rattle.std.specs.Prelude.{◌≡◌, ◌++◌, None, is_some, IfOk, OnOk};
+ghost use Rattle.pk_ast.specs.Views.{specifiers_tree, declarator_tree, declarator_trees, braces_tree, declaration_tree};
 ghost use Rattle.pk_ctypes.specs.declared.words.Rule.TheVariants as rule;
 ghost use Rattle.pk_type_scope.specs.Failures.{fails_if, noted};
 ghost use Rattle.pk_type_scope.specs.Specifiers.{word_failures};
@@ -183,11 +183,11 @@ impl<'a> File<'a> {
         &mut self,
         alloc: Global,
         words: &Specifiers,
-        enumeration: &Option<Enumeration>,
+        enumeration: &Option<Box<Enumeration>>,
     ) -> Result<(), AllocError>
         ensures { OnOk result (filed_in self.new
             ≡ definitions.on (after_words noted (specifiers_tree words.now)
-            (option_map enumeration_tree enumeration.now)) (filed_in self.old)) }
+            (braces_tree enumeration.now)) (filed_in self.old)) }
     {
         self.to.walk.file_words(alloc, words, enumeration)
     }

@@ -7,6 +7,7 @@ ghost use Rattle.pk_ast.specs.Views.{
   enumerator_tree,
   enumerator_trees,
   enumeration_tree,
+  braces_tree,
 };
 ghost use Rattle.pk_ctypes.specs.declared.types.IntType.TheVariants.{Int};
 ghost use Rattle.pk_ctypes.specs.Types.{is_in_type};
@@ -232,13 +233,13 @@ impl<'a> Walk<'a> {
         &mut self,
         alloc: Global,
         words: &Specifiers,
-        enumeration: &Option<Enumeration>,
+        enumeration: &Option<Box<Enumeration>>,
     ) -> Result<Vec<Declared>, AllocError>
         ensures walked { OnOk result (walked_in self.new
-            ≡ definitions.after_words noted (specifiers_tree words.now) (option_map enumeration_tree enumeration.now)
+            ≡ definitions.after_words noted (specifiers_tree words.now) (braces_tree enumeration.now)
             (walked_in self.old)) }
         ensures trees { IfOk result (λ v. declared_trees v.items
-            ≡ definitions.word_trees_at noted (specifiers_tree words.now) (option_map enumeration_tree enumeration.now)
+            ≡ definitions.word_trees_at noted (specifiers_tree words.now) (braces_tree enumeration.now)
             (walked_in self.old)) }
     {
         let mut all = Vec::new(alloc);
@@ -254,10 +255,10 @@ impl<'a> Walk<'a> {
         &mut self,
         alloc: Global,
         words: &Specifiers,
-        enumeration: &Option<Enumeration>,
+        enumeration: &Option<Box<Enumeration>>,
     ) -> Result<(), AllocError>
         ensures { OnOk result (walked_in self.new
-            ≡ definitions.after_words noted (specifiers_tree words.now) (option_map enumeration_tree enumeration.now)
+            ≡ definitions.after_words noted (specifiers_tree words.now) (braces_tree enumeration.now)
             (walked_in self.old)) }
     {
         self.words(alloc, words, enumeration)?;

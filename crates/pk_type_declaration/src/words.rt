@@ -1,7 +1,7 @@
 // What the words of a declaration say of its names.
 
-ghost use Rattle.std.specs.Prelude.{◌≡◌, ◌||◌, option_map};
-ghost use Rattle.pk_ast.specs.Views.{specifiers_tree, enumeration_tree};
+ghost use Rattle.std.specs.Prelude.{◌≡◌, ◌||◌};
+ghost use Rattle.pk_ast.specs.Views.{specifiers_tree, enumeration_tree, braces_tree};
 ghost use Rattle.pk_type_declaration.specs.Declarations as definitions;
 ghost use Rattle.pk_type_declaration.specs.Enumerations as enumerations;
 ghost use Rattle.pk_type_scope.specs.Specifiers.{is_const_among, has_const};
@@ -38,9 +38,9 @@ impl Words {
     }
 
     /// Those of a declaration, which may end with an enumeration.
-    pub fn at(scope: &Scope<'_>, words: &Specifiers, enumeration: &Option<Enumeration>) -> Words
+    pub fn at(scope: &Scope<'_>, words: &Specifiers, enumeration: &Option<Box<Enumeration>>) -> Words
         ensures { result ≡ enumerations.words_at (names_in (scoping_of scope.now)) (specifiers_tree words.now)
-            (option_map enumeration_tree enumeration.now) }
+            (braces_tree enumeration.now) }
     {
         match enumeration {
             None => Words::of(scope, words),
