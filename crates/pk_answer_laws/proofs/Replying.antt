@@ -18,7 +18,7 @@ use Rattle.pk_graph.specs.Graphs.{GraphOf}
 use Rattle.pk_lower.specs.Answers.{point_limit}
 use Rattle.pk_lower.specs.Graphs.{graph_of}
 use Rattle.pk_text_graph.specs.Graphs.{GraphsAreWellMade, HasGraph}
-use Rattle.pk_text_report.specs.declared.status.Status.TheVariants as status
+use Rattle.pk_status.specs.declared.status.Status.TheVariants as status
 use Rattle.pk_text_report.specs.Answers.{IsShort, IsLong, entry_of, text_limit, options_of, default_options, default_runs}
 use Rattle.pk_answer_laws.specs.Analyses.{EveryGraphIsReported, EveryGraphIsSummed, EveryGraphIsOrdered}
 use Rattle.pk_answer_laws.specs.Answers.{GraphsHaveRoom, HasReply, OrdersAreAnswered, CommandsAreAnswered, WordsAreAnswered, WordsForOrdersAreAnswered}

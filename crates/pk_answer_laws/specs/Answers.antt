@@ -6,7 +6,7 @@ use Rattle.pk_command.specs.declared.asked.OrderOptions.{OrderOptions}
 use Rattle.pk_command.specs.Given.{AsksFor}
 use Rattle.pk_graph.specs.Graphs.{GraphOf}
 use Rattle.pk_text_graph.specs.Graphs.{HasGraph}
-use Rattle.pk_text_report.specs.declared.status.Status.{Status}
+use Rattle.pk_status.specs.declared.status.Status.{Status}
 use Rattle.pk_text_report.specs.Answers.{IsReply, IsAnswer}
 use Rattle.pk_answer_laws.specs.Analyses.{HasRoom}
 use Rattle.pk_answer_laws.specs.Rooms.{IsShortGraph}

@@ -13,4 +13,4 @@ mod writing;
 pub use failures::{Unfit, Unwritten};
 pub use laws::{one_reading, written_is_read};
 pub use reading::read_cells;
-pub use writing::write;
+pub use writing::{MOST_BYTES, write};

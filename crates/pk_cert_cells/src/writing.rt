@@ -18,8 +18,8 @@ use pk_state::{Frame, State};
 use pk_transfer::frame;
 use std::alloc::{AllocError, Global};
 
-// How many bytes a certificate has at most.
-const MOST_BYTES: usize = 67_108_864;
+/// How many bytes a certificate has at most.
+pub const MOST_BYTES: usize = 67_108_864;
 
 // Writes the line of a cell.
 fn write_cell(

@@ -17,8 +17,8 @@ use Rattle.pk_analysis.specs.declared.analysis.Options.{Options}
 use Rattle.pk_analysis_laws.specs.Systems.{IsOver}
 use Rattle.pk_graph_report.specs.Reported.{IsReport, IsSummary, IsOrderText, OneReport}
 use Rattle.pk_text_graph.specs.Graphs.{GraphIsDetermined, HasGraph, HasNoGraph}
-use Rattle.pk_text_report.specs.declared.status.Status.{Status}
-use Rattle.pk_text_report.specs.declared.status.Status.TheVariants as status
+use Rattle.pk_status.specs.declared.status.Status.{Status}
+use Rattle.pk_status.specs.declared.status.Status.TheVariants as status
 use Rattle.pk_text_report.specs.Answers.{IsReply, IsTold, IsShort, IsLong, IsCutOff, PassesLimit, entry_of, options_of, default_options, default_runs, OneAnswer, DifferInWorkers, WorkersTellNothing}
 
 pub not_taken : (words : List (List ℕ)) (command : Command) → AsksFor words command → is_taken words ≡ false → ⊥

@@ -14,8 +14,8 @@ use Rattle.pk_analysis_laws.specs.Systems.{IsOver}
 use Rattle.pk_graph_report.specs.Reported.{IsReport, IsSummary}
 use Rattle.pk_solver.specs.Bounds.{AreInRange, most_workers}
 use Rattle.pk_text_graph.specs.Graphs.{HasGraph, HasNoGraph}
-use Rattle.pk_text_report.specs.declared.status.Status.{Status}
-use Rattle.pk_text_report.specs.Statuses.{status_of}
+use Rattle.pk_status.specs.declared.status.Status.{Status}
+use Rattle.pk_status.specs.Statuses.{status_of}
 use Rattle.pk_text_report.specs.Answers.{IsMade, IsRun, IsStopped, IsTooLong, default_options, default_runs, entry_of, options_of}
 
 -- what an iteration is asked for

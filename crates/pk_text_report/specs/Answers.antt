@@ -17,8 +17,8 @@ use Rattle.pk_analysis_laws.specs.Systems.{IsOver}
 use Rattle.pk_graph_report.specs.Reported.{IsReport, IsSummary, IsOrderText}
 use Rattle.pk_text_graph.specs.Graphs.{HasGraph, HasNoGraph}
 use Rattle.pk_gen.specs.Generator.{generated}
-use Rattle.pk_text_report.specs.declared.status.Status.{Status}
-use Rattle.pk_text_report.specs.declared.status.Status.TheVariants.{Ok, Usage, Refused, Limit, RunLimit, ReadFault, WriteFault, Memory}
+use Rattle.pk_status.specs.declared.status.Status.{Status}
+use Rattle.pk_status.specs.declared.status.Status.TheVariants.{Ok, Usage, Refused, Limit, RunLimit, ReadFault, WriteFault, Memory}
 
 -- the greatest number of bytes of a text
 abbrev pub text_limit : ℕ

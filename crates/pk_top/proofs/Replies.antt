@@ -7,8 +7,8 @@ use Rattle.pk_command.specs.declared.asked.Command.{Command}
 use Rattle.pk_command.specs.CommandLine.{is_taken}
 use Rattle.pk_command.specs.Given.{AsksFor}
 use Rattle.pk_command.proofs.Asking.{one_asked}
-use Rattle.pk_text_report.specs.declared.status.Status.{Status}
-use Rattle.pk_text_report.specs.declared.status.Status.TheVariants as status
+use Rattle.pk_status.specs.declared.status.Status.{Status}
+use Rattle.pk_status.specs.declared.status.Status.TheVariants as status
 use Rattle.pk_text_report.specs.Answers.{IsAnswer, IsTold, IsShort, IsStopped, IsMaking, AskAbout, AskNoSource, text_of}
 use Rattle.pk_text_report.proofs.Answering.{not_taken}
 use Rattle.pk_top.specs.Headline.{Answers, Gives, IsTextless, IsUntold}

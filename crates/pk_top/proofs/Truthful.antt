@@ -7,8 +7,8 @@ use Rattle.pk_command.specs.declared.asked.Command.{Command}
 use Rattle.pk_command.specs.declared.asked.Command.TheVariants.{Run, Order, Gen}
 use Rattle.pk_command.specs.Given.{IsInRange}
 use Rattle.pk_command.proofs.Asking.{one_asked}
-use Rattle.pk_text_report.specs.declared.status.Status.TheVariants as status
-use Rattle.pk_text_report.specs.declared.status.Status.{Status}
+use Rattle.pk_status.specs.declared.status.Status.TheVariants as status
+use Rattle.pk_status.specs.declared.status.Status.{Status}
 use Rattle.pk_text_report.specs.Answers.{IsAnswer, IsTold, default_options, default_runs, options_of}
 use Rattle.pk_report_laws.specs.Programs.Faultless.{ProgramsAreFaultless}
 use Rattle.pk_report_laws.specs.Programs.ToldOfPrograms.{ReportsAreTrueOfPrograms}

@@ -2,8 +2,8 @@
 use Rattle.std.specs.Prelude.{◌≡◌, ℕ, ◌<◌, List, [], length, take}
 use Rattle.std.specs.declared.option.Option.{Option}
 use Rattle.std.specs.Io.KnownBytes.{Appends, Keeps}
-use Rattle.pk_text_report.specs.declared.status.Status.{Status}
-use Rattle.pk_text_report.specs.declared.status.Status.TheVariants.{Ok, Usage, Refused, Limit, RunLimit, ReadFault, WriteFault, Memory}
+use Rattle.pk_status.specs.declared.status.Status.{Status}
+use Rattle.pk_status.specs.declared.status.Status.TheVariants.{Ok, Usage, Refused, Limit, RunLimit, ReadFault, WriteFault, Memory}
 use Rattle.pk_ctypes.specs.declared.words.Quantity.TheVariants.{Text}
 use Rattle.pk_command.specs.declared.asked.Command.{Command}
 use Rattle.pk_text_report.specs.Answers.{IsAnswer, IsLong, text_limit}

@@ -31,6 +31,6 @@ returns c =
     let h = r.1 in (
       λ s inner needs same. w.0 (in_declaration s) same ∙ r.0 s (specifiers_tree c.in_ok-words.words) e (at_names c.args.parser.end s _ e c.args.named _ _ _ inner needs same is w.1)
           ∙ ap (λ q. run c.args.parser.end (declared_at s q) c.in_ok-declarators.last.now)
-          (ap (λ k. declaration_of (specifiers_tree k.0) (option_map enumeration_tree k.1) ds) (sym c.in_ok-declarators.ensures.1) ∙ sym c.new.ensures),
+          (ap (λ k. declaration_of (specifiers_tree k.0) (option_map enumeration_tree k.1) ds) (sym c.in_ok-declarators.ensures.1) ∙ sym c.in_ok-declaration.ensures),
       omega arith,
     )

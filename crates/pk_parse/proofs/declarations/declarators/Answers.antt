@@ -9,11 +9,11 @@ use Rattle.pk_parse.proofs.declarations.declarators.Goals as goal
 pub loop-list-init : goal.loop-list-init
 loop-list-init c =
     let P : List DeclaratorTree → Type 0 = λ xs. ReadsDeclarators c.args.parser.end c.args.outside c.args.name c.args.tokens.now xs c.args.name c.args.tokens.now in
-    (subst P (sym (ap declarator_trees c.new-list.ensures.items)) (reads_no_declarator _ _ _ _), omega arith)
+    (subst P (sym (ap declarator_trees c.in_ok-list.ensures.items)) (reads_no_declarator _ _ _ _), omega arith)
 
 pub returns-in_err-declarator : goal.returns-in_err-declarator
 returns-in_err-declarator c =
-    passed _ _ c.from_residual.result _ c.from_residual.ensures.1
+    passed _ _ c.from_residual-in_err-declarator.result _ c.from_residual-in_err-declarator.ensures.1
     (fails_declarator _ _ c.requires _ _ c.loop-list.list.items _ _ c.loop-list.invariant.0 _ c.in_err-declarator.ensures)
 
 pub returns-in-Some : goal.returns-in-Some

@@ -22,6 +22,6 @@ returns c =
       λ before. r.0 (outside before c.args.storage) (specifiers_tree c.args.words) (Some (enumeration_tree c.args.enumeration)) (at_objects c.args.parser.end before c.args.storage _ _ _ c.requires)
           ∙ ap (λ q. run c.args.parser.end (top (before ++ q ∷ [])) c.in_ok-declarators.last.now)
           (ap (λ k. objects c.args.storage (declaration_of (specifiers_tree c.args.words) (Some (enumeration_tree k)) ds)) (sym c.in_ok-declarators.ensures.1)
-          ∙ ap (λ k. objects c.args.storage k) (sym c.new-declaration.ensures) ∙ sym c.declaration.ensures),
+          ∙ ap (λ k. objects c.args.storage k) (sym c.in_ok-declaration.ensures) ∙ sym c.declaration.ensures),
       r.1,
     )

@@ -21,7 +21,7 @@ returns-in_default c =
     let f = shorter fixed.Name _ _ _ c.in_ok-token.ensures in
     let g = r.1 in (
       λ before. reads_objects _ before c.args.storage _ _ c.requires _ _ _ c.in_ok-token.ensures c.identifier-name.ensures c.in_default.ensures (declarator_trees c.in_ok-declarators.declarators.items) _ r.0 _ _
-          c.new-declaration.ensures c.declaration.ensures,
+          c.in_ok-declaration.ensures c.declaration.ensures,
       omega arith,
     )
 

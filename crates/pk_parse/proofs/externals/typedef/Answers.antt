@@ -39,8 +39,8 @@ returns c =
     let g = w.2 in
     let h = r.1 in (
       reads_type_names c.args.parser.end _ _ _ c.in-Some.ensures (specifiers_tree c.in_ok-words.words) (option_map enumeration_tree c.in_ok-words.enumeration) _ w.0 w.1 _ _ n c.in_ok-more.more.items _ r.0 _
-          c.identifier.ensures (typedef_tree c.new.result)
-          (c.new.ensures ∙ ap (λ k. typedef_of (specifiers_tree k.0) (option_map enumeration_tree k.1) (record { first = c.identifier.result; more = c.in_ok-more.more.items }))
+          c.identifier.ensures (typedef_tree c.in_ok-typedef.typedef)
+          (c.in_ok-typedef.ensures ∙ ap (λ k. typedef_of (specifiers_tree k.0) (option_map enumeration_tree k.1) (record { first = c.identifier.result; more = c.in_ok-more.more.items }))
           (c.in_ok-more.ensures.1 ∙ c.in_ok-token.ensures.1)),
       omega arith,
     )

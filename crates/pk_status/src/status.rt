@@ -13,6 +13,14 @@ pub enum Status {
     Refused(Refusal),
     Limit { what: Quantity, number: u64 },
     RunLimit { max_runs: u64 },
+    /// A certificate has or would have more than 67108864 bytes.
+    CertLimit,
+    /// The first byte, from 0, with which no certificate of its head, and past the text of its text's graph, goes on.
+    CertByte { offset: u64 },
+    /// The first point whose line in a certificate tells no state.
+    CertState { point: u32 },
+    /// The first point at which a certificate doesn't solve the equation of its text's graph.
+    CertFails { point: u32 },
     ReadFault,
     WriteFault { sent: usize },
     Memory,
@@ -20,7 +28,7 @@ pub enum Status {
 
 impl Status {
     ghost use Rattle.std.specs.Prelude.{◌≡◌};
-    ghost use Rattle.pk_text_report.specs.Statuses.{status_code};
+    ghost use Rattle.pk_status.specs.Statuses.{status_code};
 
     /// The exit code of the program.
     pub fn code(&self) -> u8
@@ -32,6 +40,10 @@ impl Status {
             Status::Refused(_) => 3,
             Status::Limit { .. } => 4,
             Status::RunLimit { .. } => 4,
+            Status::CertLimit => 4,
+            Status::CertByte { .. } => 3,
+            Status::CertState { .. } => 3,
+            Status::CertFails { .. } => 8,
             Status::ReadFault => 5,
             Status::WriteFault { .. } => 6,
             Status::Memory => 7,
@@ -41,7 +53,7 @@ impl Status {
 
 impl From<AllocError> for Status {
     ghost use Rattle.std.specs.Prelude.{◌≡◌};
-    ghost use Rattle.pk_text_report.specs.declared.status.Status.TheVariants.{Memory};
+    ghost use Rattle.pk_status.specs.declared.status.Status.TheVariants.{Memory};
 
     ghost from_gives = { λ _ s. s ≡ Memory };
 
@@ -52,7 +64,7 @@ impl From<AllocError> for Status {
 
 impl<T: Drop> From<AllocFailed<T>> for Status {
     ghost use Rattle.std.specs.Prelude.{◌≡◌};
-    ghost use Rattle.pk_text_report.specs.declared.status.Status.TheVariants.{Memory};
+    ghost use Rattle.pk_status.specs.declared.status.Status.TheVariants.{Memory};
 
     ghost from_gives = { λ _ s. s ≡ Memory };
 
@@ -63,7 +75,7 @@ impl<T: Drop> From<AllocFailed<T>> for Status {
 
 impl From<TextError> for Status {
     ghost use Rattle.std.specs.Prelude.{◌≡◌};
-    ghost use Rattle.pk_text_report.specs.Statuses.{status_of};
+    ghost use Rattle.pk_status.specs.Statuses.{status_of};
 
     ghost from_gives = { λ e s. s ≡ status_of e };
 
@@ -79,7 +91,7 @@ impl From<TextError> for Status {
 /// The line on standard error, without its end; `Ok` has none.
 impl fmt::Display for Status {
     ghost use Rattle.std.specs.declared.option.Option.TheVariants.{Some};
-    ghost use Rattle.pk_text_report.specs.Statuses.{status_text};
+    ghost use Rattle.pk_status.specs.Statuses.{status_text};
 
     ghost output = { λ s. Some (status_text s) };
 
@@ -90,6 +102,10 @@ impl fmt::Display for Status {
             Status::Refused(refusal) => write!(f, "pikos: refused: {refusal}"),
             Status::Limit { what, number } => write!(f, "pikos: limit {what} {number}"),
             Status::RunLimit { max_runs } => write!(f, "pikos: run limit {max_runs}"),
+            Status::CertLimit => write!(f, "pikos: limit cert 67108864"),
+            Status::CertByte { offset } => write!(f, "pikos: refused: certificate byte {offset}"),
+            Status::CertState { point } => write!(f, "pikos: refused: certificate state {point}"),
+            Status::CertFails { point } => write!(f, "pikos: certificate fails at point {point}"),
             Status::ReadFault => write!(f, "pikos: read fault"),
             Status::WriteFault { sent } => write!(f, "pikos: write fault after {sent} bytes"),
             Status::Memory => write!(f, "pikos: memory"),
