@@ -12,12 +12,18 @@ use Rattle.pk_cert.specs.declared.rows.Row.{Row}
 use Rattle.pk_cert.specs.declared.heads.Head.{Head}
 use Rattle.pk_cert.specs.declared.heads.Places.{Places}
 use Rattle.pk_cert.specs.Rows.{Line, IsSymbol, ended_text, AreEach, text_of, IsLine, line_text, AreLines, lines_text, seen, seen_line, row_view}
-use Rattle.pk_cert.specs.Heads.{IsHead, head_text, head_view}
+use Rattle.pk_cert.specs.Heads.{HeadOf, IsHead, head_text, head_view}
 
 -- the first n bytes are this text
 pub record AreFirst (text bytes : List ℕ) (n : ℕ) : Type 0 where
   pub size : n ≡ length text
   pub told : bytes ≡ text ++ drop n bytes
+
+-- bytes begin with this head
+pub record BeginsWith (bytes : List ℕ) (h : HeadOf) : Type 0 where
+  pub is : IsHead h
+  pub len : ℕ
+  pub first : AreFirst (head_text h) bytes len
 
 -- ---- numbers
 

@@ -8,8 +8,8 @@ use Rattle.pk_graph.specs.Accesses.{AccessOf, accesses_of}
 use Rattle.pk_graph.specs.Graphs.{PathOf, GraphOf}
 use Rattle.pk_state.specs.Facts.{Stated}
 use Rattle.pk_order.specs.Ordered.{heads_of}
-use Rattle.pk_report.specs.Reports.{access_line, first_line, last_line, report_text, summary_text, told_lines, unknown_in}
-use Rattle.pk_report.proofs.WriteLemmas.{four}
+use Rattle.pk_report.specs.Reports.{access_line, checked_text, first_line, last_line, report_text, summary_text, told_lines, unknown_in, valid_line}
+use Rattle.pk_report.proofs.WriteLemmas.{three, four}
 use Rattle.pk_graph_report.specs.Reported.{verdicts_of}
 
 module _ (g : GraphOf) (p : PlanView) (states : List Stated) where
@@ -39,5 +39,19 @@ module _ (g : GraphOf) (p : PlanView) (states : List Stated) where
       ∙ (ap (λ (n : ℕ). summary_text seed size text_length g n verdicts) elements_are
       ∙ ap (summary_text seed size text_length g p.elements) verdicts_are)
 
-  pub unknown_told : (verdicts : List Verdict) (unknown : ℕ) → verdicts ≡ verdicts_of g states → unknown ≡ unknown_in verdicts → unknown ≡ unknown_in (verdicts_of g states)
-  unknown_told verdicts unknown verdicts_are count = count ∙ ap unknown_in verdicts_are
+pub count_told : (g : GraphOf) (states : List Stated) (verdicts : List Verdict) (unknown : ℕ) → verdicts ≡ verdicts_of g states → unknown ≡ unknown_in verdicts → unknown ≡ unknown_in (verdicts_of g states)
+count_told g states verdicts unknown verdicts_are count = count ∙ ap unknown_in verdicts_are
+
+-- the line of the check, the accesses and the last line, one after another
+pub checked_told : (g : GraphOf) (states : List Stated) (paths : List PathOf) (accesses : List AccessOf) (verdicts counted : List Verdict) (none first second new : List ℕ)
+    → none ≡ [] → paths ≡ g.paths → accesses ≡ accesses_of g → verdicts ≡ verdicts_of g states → counted ≡ verdicts_of g states
+    → first ≡ none ++ valid_line g → second ≡ first ++ flat_map (access_line paths) (zip accesses verdicts) → new ≡ second ++ last_line counted
+    → new ≡ checked_text g (accesses_of g) (verdicts_of g states)
+checked_told g states paths accesses verdicts counted none first second new none_is paths_are accesses_are verdicts_are counted_are one two last =
+    three [] (valid_line g) (flat_map (access_line g.paths) (zip (accesses_of g) (verdicts_of g states))) (last_line (verdicts_of g states)) first second new
+    (one ∙ ap (λ (xs : List ℕ). xs ++ valid_line g) none_is)
+    (two
+    ∙ ap (λ (ps : List PathOf). first ++ flat_map (access_line ps) (zip accesses verdicts)) paths_are
+    ∙ ap (λ (xs : List AccessOf). first ++ flat_map (access_line g.paths) (zip xs verdicts)) accesses_are
+    ∙ ap (λ (vs : List Verdict). first ++ flat_map (access_line g.paths) (zip (accesses_of g) vs)) verdicts_are)
+    (last ∙ ap (λ (vs : List Verdict). second ++ last_line vs) counted_are)

@@ -4,7 +4,7 @@ ghost use Rattle.std.specs.Prelude.{◌≡◌, IfOk};
 ghost use Rattle.pk_graph.specs.Shown.{graph_view};
 ghost use Rattle.pk_graph.specs.Accesses.{accesses_of};
 ghost use Rattle.pk_order.specs.Ordered.{heads_of};
-ghost use Rattle.pk_report.specs.Reports.{report_text, summary_text, unknown_in};
+ghost use Rattle.pk_report.specs.Reports.{checked_text, report_text, summary_text, unknown_in};
 ghost use Rattle.pk_solver.specs.Solved.{AreOver};
 ghost use Rattle.pk_graph_report.specs.Reported.{IsOrderText, verdicts_of};
 
@@ -14,7 +14,7 @@ use pk_analysis::{Options, States, digraph};
 use pk_graph::{Graph, accesses};
 use pk_order::{line, ordered};
 use pk_plan::Plan;
-use pk_report::{summary, unknown_count, write_accesses, write_first, write_last};
+use pk_report::{summary, unknown_count, write_accesses, write_first, write_last, write_valid};
 use std::alloc::{AllocError, Global};
 
 // The heads of a plan's components, in rising order.
@@ -81,6 +81,27 @@ pub fn summary_of(
         plan.elements() as usize,
         &verdicts,
     )?;
+    Ok((bytes, unknown_count(&verdicts)))
+}
+
+/// What is told of a graph by reduced states of its points that were checked, and the number of unknown verdicts.
+pub fn checked_of(
+    alloc: Global,
+    graph: &Graph,
+    options: Options,
+    states: &States,
+) -> Result<(Vec<u8>, usize), AllocError>
+    requires over { AreOver (graph_view graph.now) options states.now }
+    ensures bytes { IfOk result (λ r. r.0.items ≡ checked_text (graph_view graph.now)
+        (accesses_of (graph_view graph.now)) (verdicts_of (graph_view graph.now) states.now)) }
+    ensures unknown { IfOk result (λ r. r.1 ≡ unknown_in (verdicts_of (graph_view graph.now) states.now)) }
+{
+    let accesses = accesses(alloc, graph)?;
+    let verdicts = verdicts(alloc, graph, options, states, &accesses)?;
+    let mut bytes = Vec::new(alloc);
+    write_valid(alloc, &mut bytes, graph)?;
+    write_accesses(alloc, &mut bytes, graph.paths(), &accesses, &verdicts)?;
+    write_last(alloc, &mut bytes, &verdicts)?;
     Ok((bytes, unknown_count(&verdicts)))
 }
 

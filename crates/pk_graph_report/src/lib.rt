@@ -6,5 +6,5 @@ mod laws;
 mod points;
 mod verdicts;
 
-pub use answers::{order_of, report_of, summary_of};
+pub use answers::{checked_of, order_of, report_of, summary_of};
 pub use laws::one_report;

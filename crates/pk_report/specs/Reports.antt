@@ -117,5 +117,16 @@ summary_text seed size bytes g elements vs =
     (counted (codes "gen seed ") seed ++ counted (codes " size ") size ++ counted (codes " bytes ") bytes
     ++ codes "\n") ++ first_line g elements ++ last_line vs
 
+-- ---- of states that were checked
+
+-- `valid points P`
+abbrev pub valid_line : GraphOf → List ℕ
+valid_line g = counted (codes "valid points ") (length g.points) ++ codes "\n"
+
+-- that line, the accesses and the last line
+abbrev pub checked_text : GraphOf → List AccessOf → List Verdict → List ℕ
+checked_text g accesses verdicts =
+    valid_line g ++ flat_map (access_line g.paths) (zip accesses verdicts) ++ last_line verdicts
+
 abbrev pub unknown_in : List Verdict → ℕ
 unknown_in = count_by is_unknown

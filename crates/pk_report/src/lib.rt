@@ -11,4 +11,4 @@ mod values;
 
 pub use accesses::write_accesses;
 pub use points::{head_marks, is_told, write_point};
-pub use reports::{summary, unknown_count, write_first, write_last};
+pub use reports::{summary, unknown_count, write_first, write_last, write_valid};

@@ -3,7 +3,7 @@
 ghost use Rattle.std.specs.Prelude.{◌≡◌, ◌++◌, OnOk, IfOk, codes, count_by};
 ghost use Rattle.pk_graph.specs.Shown.{graph_view};
 ghost use Rattle.pk_report.specs.Paths.{path_text};
-ghost use Rattle.pk_report.specs.Reports.{is_safe as is_safe_verdict, is_unknown as is_unknown_verdict, is_unreachable as is_unreachable_verdict, counted, first_line, last_line, summary_text, unknown_in};
+ghost use Rattle.pk_report.specs.Reports.{is_safe as is_safe_verdict, is_unknown as is_unknown_verdict, is_unreachable as is_unreachable_verdict, counted, first_line, last_line, summary_text, unknown_in, valid_line};
 
 use crate::paths::write_path;
 use crate::texts::{write_count, write_text};
@@ -107,6 +107,15 @@ pub fn write_last(
     write_counted(alloc, bytes, "result safe ", safe_count(verdicts))?;
     write_counted(alloc, bytes, " unknown ", unknown_count(verdicts))?;
     write_counted(alloc, bytes, " unreachable ", unreachable_count(verdicts))?;
+    write_text(bytes, "\n")?;
+    Ok(())
+}
+
+/// The line that says of how many points the states were checked.
+pub fn write_valid(alloc: Global, bytes: &mut Vec<u8>, graph: &Graph) -> Result<(), AllocError>
+    ensures { OnOk result (bytes.new.items ≡ bytes.old.items ++ valid_line (graph_view graph.now)) }
+{
+    write_counted(alloc, bytes, "valid points ", graph.points())?;
     write_text(bytes, "\n")?;
     Ok(())
 }

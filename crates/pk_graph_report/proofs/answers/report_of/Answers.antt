@@ -2,7 +2,7 @@ use Rattle.std.proofs.Common.{ap, ◌∙◌, map}
 use Rattle.pk_graph.specs.AccessViews.{access_views}
 use Rattle.pk_graph.specs.Graphs.{path_view}
 use Rattle.pk_graph.specs.Shown.{graph_view}
-use Rattle.pk_graph_report.proofs.Telling.{report_told, unknown_told}
+use Rattle.pk_graph_report.proofs.Telling.{report_told, count_told}
 use Rattle.pk_graph_report.proofs.answers.report_of.Goals as goal
 
 pub returns-clause-bytes : goal.returns-clause-bytes
@@ -16,5 +16,5 @@ returns-clause-bytes c =
 
 pub returns-clause-unknown : goal.returns-clause-unknown
 returns-clause-unknown c =
-    unknown_told (graph_view c.args.graph.now) c.args.plan.now c.args.states.now c.deref-6.result.now c.unknown_count.result
+    count_told (graph_view c.args.graph.now) c.args.states.now c.deref-6.result.now c.unknown_count.result
     (c.deref-6.ensures.value ∙ c.in_ok-verdicts.ensures) c.unknown_count.ensures

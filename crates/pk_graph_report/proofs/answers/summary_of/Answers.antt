@@ -1,6 +1,6 @@
 use Rattle.std.proofs.Common.{◌∙◌}
 use Rattle.pk_graph.specs.Shown.{graph_view}
-use Rattle.pk_graph_report.proofs.Telling.{summary_told, unknown_told}
+use Rattle.pk_graph_report.proofs.Telling.{summary_told, count_told}
 use Rattle.pk_graph_report.proofs.answers.summary_of.Goals as goal
 
 pub returns-clause-bytes : goal.returns-clause-bytes
@@ -10,5 +10,5 @@ returns-clause-bytes c =
 
 pub returns-clause-unknown : goal.returns-clause-unknown
 returns-clause-unknown c =
-    unknown_told (graph_view c.args.graph.now) c.args.plan.now c.args.states.now c.deref-3.result.now c.unknown_count.result
+    count_told (graph_view c.args.graph.now) c.args.states.now c.deref-3.result.now c.unknown_count.result
     (c.deref-3.ensures.value ∙ c.in_ok-verdicts.ensures) c.unknown_count.ensures

@@ -1,0 +1,36 @@
+-- Why a text has no graph, or why its graph isn't analysed.
+use Rattle.std.specs.Prelude.{◌≡◌, ◌≢◌, ◌⊎◌, ℕ, List}
+use Rattle.pk_front.specs.declared.failures.TextError.{TextError}
+use Rattle.pk_graph.specs.Graphs.{GraphOf}
+use Rattle.pk_analysis.specs.declared.analysis.Options.{Options}
+use Rattle.pk_analysis_laws.specs.Systems.{IsOver}
+use Rattle.pk_status.specs.declared.status.Status.{Status}
+use Rattle.pk_status.specs.declared.status.Status.TheVariants.{RunLimit, Memory}
+use Rattle.pk_status.specs.Statuses.{status_of}
+use Rattle.pk_text_graph.specs.Graphs.{HasGraph, HasNoGraph}
+
+-- some element of the text's graph would be run too often
+pub record IsTooLong (text entry : List ℕ) (o : Options) (most : ℕ) : Type 0 where
+  pub graph : GraphOf
+  pub has_graph : HasGraph text entry graph
+  pub over : IsOver graph o most
+
+-- the text has no graph, and the status says why
+abbrev pub IsUngraphed : (text entry : List ℕ) → Status → Type 0
+IsUngraphed text entry s = (why : TextError) × HasNoGraph text entry why × (s ≡ status_of why)
+
+-- its graph isn't analysed either where some element would be run too often, or memory is wanting
+abbrev pub IsUnanalysed : (text entry : List ℕ) → Options → (most : ℕ) → Status → Type 0
+IsUnanalysed text entry o most s =
+    IsUngraphed text entry s ⊎ ((IsTooLong text entry o most × (s ≡ RunLimit most)) ⊎ (s ≡ Memory))
+
+-- ---- laws
+
+-- A text that has no graph has one cause of it, and so has one that isn't analysed. Want of memory says nothing of the text.
+pub record OneCause : Type 0 where
+  pub ungraphed : (text entry : List ℕ) (s t : Status) → s ≢ Memory → t ≢ Memory → IsUngraphed text entry s →
+      IsUngraphed text entry t → s ≡ t
+  pub unanalysed : (text entry : List ℕ) (o : Options) (most : ℕ) (s t : Status) → s ≢ Memory → t ≢ Memory →
+      IsUnanalysed text entry o most s → IsUnanalysed text entry o most t → s ≡ t
+  pub graph : (text entry : List ℕ) (g : GraphOf) (s : Status) → s ≢ Memory → HasGraph text entry g →
+      IsUngraphed text entry s → ⊥
