@@ -15,14 +15,14 @@ pub record IsTooLong (text entry : List ℕ) (o : Options) (most : ℕ) : Type 0
   pub has_graph : HasGraph text entry graph
   pub over : IsOver graph o most
 
--- the text has no graph, and the status says why
+-- the status says why the text has no graph, or that memory is wanting
 abbrev pub IsUngraphed : (text entry : List ℕ) → Status → Type 0
 IsUngraphed text entry s = (why : TextError) × HasNoGraph text entry why × (s ≡ status_of why)
 
--- its graph isn't analysed either where some element would be run too often, or memory is wanting
+-- or that some element of its graph would be run too often
 abbrev pub IsUnanalysed : (text entry : List ℕ) → Options → (most : ℕ) → Status → Type 0
 IsUnanalysed text entry o most s =
-    IsUngraphed text entry s ⊎ ((IsTooLong text entry o most × (s ≡ RunLimit most)) ⊎ (s ≡ Memory))
+    IsUngraphed text entry s ⊎ (IsTooLong text entry o most × (s ≡ RunLimit most))
 
 -- ---- laws
 

@@ -61,10 +61,9 @@ IsUnproved bytes h g s =
     ((why : Unfit) × IsUnfit g h bytes why × (s ≡ status_of_unfit why))
     ⊎ ((v : ℕ) × FailsAt bytes h g v × (s ≡ CertFails v))
 
--- The bytes begin with no head, or the text in it has no graph, or what stands behind it proves nothing, or memory is wanting.
+-- The bytes begin with no head, or the text in it has no graph, or what stands behind it proves nothing, or memory is wanting. The status says so.
 abbrev pub IsInvalid : List ℕ → Status → Type 0
 IsInvalid bytes s =
     ((n : ℕ) × IsFirstWrong HasHead bytes n × (s ≡ CertByte n))
     ⊎ (((h : HeadOf) × BeginsWith bytes h × IsUngraphed h.text h.entry s)
-    ⊎ (((h : HeadOf) × (g : GraphOf) × HasCertifiedGraph bytes h g × IsUnproved bytes h g s)
-    ⊎ (s ≡ Memory)))
+    ⊎ ((h : HeadOf) × (g : GraphOf) × HasCertifiedGraph bytes h g × IsUnproved bytes h g s))

@@ -32,7 +32,7 @@ pub record IsOverlong (text entry : List ℕ) (o : Options) (most : ℕ) : Type 
 
 -- ---- without a certificate
 
--- a text has no certificate either where that would be too long
+-- or that its certificate would be too long
 abbrev pub IsUncertified : (text entry : List ℕ) → Options → (most : ℕ) → Status → Type 0
 IsUncertified text entry o most s =
     IsUnanalysed text entry o most s ⊎ (IsOverlong text entry o most × (s ≡ CertLimit))

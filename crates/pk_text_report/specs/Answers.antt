@@ -1,24 +1,25 @@
 -- What is answered to the words and a text.
 use Rattle.std.specs.Prelude.{◌≡◌, ◌⊎◌, ℕ, ◌<◌, ◌≤◌, ◌++◌, List, [], codes, length, false, Option, Some}
-use Rattle.pk_ctypes.specs.declared.words.Quantity.{Quantity}
 use Rattle.pk_ctypes.specs.declared.words.Quantity.TheVariants.{Text}
 use Rattle.pk_command.specs.declared.asked.RunOptions.{RunOptions}
 use Rattle.pk_command.specs.declared.asked.OrderOptions.{OrderOptions}
 use Rattle.pk_command.specs.declared.asked.GenOptions.{GenOptions}
+use Rattle.pk_command.specs.declared.asked.CertOptions.{CertOptions}
 use Rattle.pk_command.specs.declared.asked.Command.{Command}
-use Rattle.pk_command.specs.declared.asked.Command.TheVariants.{Run, Order, Gen}
+use Rattle.pk_command.specs.declared.asked.Command.TheVariants.{Run, Order, Gen, Cert, Check}
 use Rattle.pk_command.specs.CommandLine.{is_taken}
 use Rattle.pk_command.specs.Given.{AsksFor}
-use Rattle.pk_front.specs.declared.failures.TextError.TheVariants as errors
-use Rattle.pk_front.specs.Texts.{IsRefusedFor}
 use Rattle.pk_graph.specs.Graphs.{GraphOf}
 use Rattle.pk_analysis.specs.declared.analysis.Options.{Options}
-use Rattle.pk_analysis_laws.specs.Systems.{IsOver}
 use Rattle.pk_graph_report.specs.Reported.{IsReport, IsSummary, IsOrderText}
-use Rattle.pk_text_graph.specs.Graphs.{HasGraph, HasNoGraph}
+use Rattle.pk_text_graph.specs.Graphs.{HasGraph}
 use Rattle.pk_gen.specs.Generator.{generated}
+use Rattle.pk_cert_cells.specs.Cells.{most_bytes}
+use Rattle.pk_cert_report.specs.Causes.{IsUngraphed, IsUnanalysed}
+use Rattle.pk_cert_report.specs.Written.{IsCertified, IsUncertified}
+use Rattle.pk_cert_report.specs.Checked.{IsValid, IsInvalid}
 use Rattle.pk_status.specs.declared.status.Status.{Status}
-use Rattle.pk_status.specs.declared.status.Status.TheVariants.{Ok, Usage, Refused, Limit, RunLimit, ReadFault, WriteFault, Memory}
+use Rattle.pk_status.specs.declared.status.Status.TheVariants.{Ok, Usage, Refused, Limit, RunLimit, CertLimit, CertByte, CertState, CertFails, ReadFault, WriteFault, Memory}
 
 -- the greatest number of bytes of a text
 abbrev pub text_limit : ℕ
@@ -36,11 +37,16 @@ default_runs = 1000000
 abbrev pub options_of : RunOptions → Options
 options_of o = record { delay = o.delay; narrow = o.narrow; oct = o.oct }
 
--- the text that a command is about: a made one, or what the source tells
+abbrev pub certified_options : CertOptions → Options
+certified_options o = record { delay = o.delay; narrow = o.narrow; oct = o.oct }
+
+-- what a command is about: a made text, or what the source tells, of which a check asks that it is a certificate
 abbrev pub text_of : Command → Option (List ℕ) → Option (List ℕ)
 text_of (Run options) left = left
 text_of (Order options) left = left
 text_of (Gen options) left = Some (generated options.seed options.size)
+text_of (Cert options) left = left
+text_of Check left = left
 
 -- the words ask about this text; words that aren't taken about none
 abbrev pub AskAbout : List (List ℕ) → Option (List ℕ) → List ℕ → Type 0
@@ -53,6 +59,8 @@ abbrev pub IsMaking : Command → Type 0
 IsMaking (Run options) = ⊥
 IsMaking (Order options) = ⊥
 IsMaking (Gen options) = Unit {0}
+IsMaking (Cert options) = ⊥
+IsMaking Check = ⊥
 
 -- the words aren't taken, or ask for such a command
 abbrev pub AskNoSource : List (List ℕ) → Type 0
@@ -84,53 +92,60 @@ abbrev pub IsTold : (text : List ℕ) → Command → (unknown : ℕ) → List �
 IsTold text (Run options) unknown bytes = IsRun text options unknown bytes
 IsTold text (Order options) unknown bytes = IsOrder text options unknown bytes
 IsTold text (Gen options) unknown bytes = IsMade text options unknown bytes
+IsTold text (Cert options) unknown bytes =
+    IsCertified text options.entry (certified_options options) options.max_runs bytes × (unknown ≡ 0)
+IsTold text Check unknown bytes = IsValid text unknown bytes
 
--- the function that runs begin with
-abbrev pub entry_of : Command → List ℕ
-entry_of (Run options) = options.entry
-entry_of (Order options) = options.entry
-entry_of (Gen options) = codes "main"
-
--- some element of the text's graph would be run too often; an order runs none
-pub record IsTooLong (text entry : List ℕ) (options : Options) (max_runs : ℕ) : Type 0 where
-  pub graph : GraphOf
-  pub has_graph : HasGraph text entry graph
-  pub over : IsOver graph options max_runs
-
-abbrev pub IsCutOff : (text : List ℕ) → Command → ℕ → Type 0
-IsCutOff text (Run options) max_runs =
-    IsTooLong text options.entry (options_of options) max_runs × (max_runs ≡ options.max_runs)
-IsCutOff text (Order options) max_runs = ⊥
-IsCutOff text (Gen options) max_runs =
-    IsTooLong text (codes "main") default_options max_runs × (max_runs ≡ default_runs)
-
--- a text from a source may be too long; a made one isn't asked
+-- what a source tells may be too long; a made text isn't asked
 abbrev pub IsShort : List ℕ → Command → Type 0
 IsShort text (Run options) = length text ≤ text_limit
 IsShort text (Order options) = length text ≤ text_limit
 IsShort text (Gen options) = Unit {0}
+IsShort text (Cert options) = length text ≤ text_limit
+IsShort text Check = length text ≤ most_bytes
 
 abbrev pub IsLong : List ℕ → Command → Type 0
 IsLong text (Run options) = text_limit < length text
 IsLong text (Order options) = text_limit < length text
 IsLong text (Gen options) = ⊥
+IsLong text (Cert options) = text_limit < length text
+IsLong text Check = most_bytes < length text
+
+-- and is then told so
+abbrev pub limit_of : Command → Status
+limit_of (Run options) = Limit Text text_limit
+limit_of (Order options) = Limit Text text_limit
+limit_of (Gen options) = Limit Text text_limit
+limit_of (Cert options) = Limit Text text_limit
+limit_of Check = CertLimit
+
+-- ---- without anything told
+
+-- a command about a text ends so, or for want of memory
+abbrev pub IsStopped : List ℕ → Command → Status → Type 0
+IsStopped text (Run options) s = IsUnanalysed text options.entry (options_of options) options.max_runs s
+IsStopped text (Order options) s = IsUngraphed text options.entry s
+IsStopped text (Gen options) s = IsUnanalysed text (codes "main") default_options default_runs s
+IsStopped text (Cert options) s = IsUncertified text options.entry (certified_options options) options.max_runs s
+IsStopped text Check s = IsInvalid text s
+
+-- the text is too long, or it isn't and the command about it ends so
+abbrev pub IsEnded : Command → List ℕ → Status → Type 0
+IsEnded command text s = (IsLong text command × (s ≡ limit_of command)) ⊎ (IsShort text command × IsStopped text command s)
 
 -- ---- the answer
 
--- the text is too long, or its graph has none or too many points
-abbrev pub PassesLimit : Command → List ℕ → Quantity → ℕ → Type 0
-PassesLimit command text what number =
-    (IsLong text command × (what ≡ Text) × (number ≡ text_limit))
-    ⊎ (IsShort text command × HasNoGraph text (entry_of command) (errors.Limit what number))
-
--- The reply to a command about a text, status by status. Nothing is told but a report, an order or a summary.
+-- The reply to a command about a text, status by status. Nothing is told but a report, an order, a summary, a certificate or the verdicts of one.
 abbrev pub IsReply : Command → List ℕ → Status → List ℕ → Type 0
 IsReply command text (Ok unknown) bytes = IsShort text command × IsTold text command unknown bytes
+IsReply command text (Refused refusal) bytes = IsEnded command text (Refused refusal) × (bytes ≡ [])
+IsReply command text (Limit what number) bytes = IsEnded command text (Limit what number) × (bytes ≡ [])
+IsReply command text (RunLimit max_runs) bytes = IsEnded command text (RunLimit max_runs) × (bytes ≡ [])
+IsReply command text CertLimit bytes = IsEnded command text CertLimit × (bytes ≡ [])
+IsReply command text (CertByte offset) bytes = IsEnded command text (CertByte offset) × (bytes ≡ [])
+IsReply command text (CertState point) bytes = IsEnded command text (CertState point) × (bytes ≡ [])
+IsReply command text (CertFails point) bytes = IsEnded command text (CertFails point) × (bytes ≡ [])
 IsReply command text Usage bytes = ⊥
-IsReply command text (Refused refusal) bytes =
-    IsShort text command × IsRefusedFor text (entry_of command) refusal × (bytes ≡ [])
-IsReply command text (Limit what number) bytes = PassesLimit command text what number × (bytes ≡ [])
-IsReply command text (RunLimit max_runs) bytes = IsShort text command × IsCutOff text command max_runs × (bytes ≡ [])
 IsReply command text ReadFault bytes = ⊥
 IsReply command text (WriteFault sent) bytes = ⊥
 IsReply command text Memory bytes = ⊥
@@ -150,19 +165,6 @@ pub record Replies (words : List (List ℕ)) (text : List ℕ) (status : Status)
 -- the answer to the words and the text that they ask about
 abbrev pub IsAnswer : List (List ℕ) → List ℕ → Status → List ℕ → Type 0
 IsAnswer words text status bytes = IsUsage words status bytes ⊎ Replies words text status bytes
-
--- ---- without a report
-
--- a command about a text ends so without telling anything, or for want of memory
-abbrev pub IsStopped : List ℕ → Command → Status → Type 0
-IsStopped text command (Ok unknown) = ⊥
-IsStopped text command Usage = ⊥
-IsStopped text command (Refused refusal) = IsRefusedFor text (entry_of command) refusal
-IsStopped text command (Limit what number) = HasNoGraph text (entry_of command) (errors.Limit what number)
-IsStopped text command (RunLimit max_runs) = IsCutOff text command max_runs
-IsStopped text command ReadFault = ⊥
-IsStopped text command (WriteFault sent) = ⊥
-IsStopped text command Memory = Unit {0}
 
 -- ---- laws
 
