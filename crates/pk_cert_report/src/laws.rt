@@ -7,7 +7,8 @@ use pk_cert::{first_wrong_is_one, heads_are_told};
 use pk_cert_cells::one_reading;
 use pk_cert_check::one_check;
 use pk_solver::raw_cells_are_determined;
-use pk_text_graph::graph_is_determined;
+use pk_text_graph::{graph_is_determined, graphs_are_well_made};
+use pk_transfer::graphs_law;
 
 /// A text that has no graph, or isn't analysed, has one cause of it.
 pub fn one_cause()
@@ -29,6 +30,8 @@ pub fn one_answer_of_checks()
     ensures { OneAnswerOfChecks }
 {
     graph_is_determined();
+    graphs_are_well_made();
+    graphs_law();
     heads_are_told();
     first_wrong_is_one();
     one_reading();
