@@ -6,7 +6,7 @@ use Rattle.std.proofs.lemmas.List.{append-nil}
 use Rattle.std.proofs.lemmas.Bool.{cases_lt}
 use Rattle.std.proofs.lemmas.Bool.Decides.{nat_tests}
 use Rattle.pk_cert.specs.declared.rows.Symbol.{Symbol}
-use Rattle.pk_cert.specs.Beginnings.{TextsOf, Begins, Leads, IsStop}
+use Rattle.pk_cert.specs.Beginnings.{TextsOf, Leads, IsStop}
 use Rattle.pk_cert.specs.Rows.{symbol_text, IsShort, IsSymbol, end_of, ended_text, seen}
 use Rattle.pk_cert.specs.declared.numbers.Decimal.{Decimal}
 use Rattle.pk_cert.specs.Pieces.{AreFirst, value_of, IsBetween, IsCount, counted, BeginsAsNumber, IsSymbolRead}

@@ -12,7 +12,7 @@ use Rattle.pk_cert.specs.declared.rows.Row.{Row}
 use Rattle.pk_cert.specs.declared.heads.Head.{Head}
 use Rattle.pk_cert.specs.declared.heads.Places.{Places}
 use Rattle.pk_cert.specs.Rows.{Line, IsSymbol, ended_text, AreEach, text_of, IsLine, line_text, AreLines, lines_text, seen, seen_line, row_view}
-use Rattle.pk_cert.specs.Heads.{IsHead, head_text, head_view}
+use Rattle.pk_cert.specs.Heads.{HeadOf, IsHead, head_text, head_view}
 
 -- the first n bytes are this text
 pub record AreFirst (text bytes : List ℕ) (n : ℕ) : Type 0 where
@@ -118,6 +118,12 @@ pub record IsSizeRead (bytes : List ℕ) (size n : ℕ) (p : Places) : Type 0 wh
 pub record IsHeadRead (bytes : List ℕ) (h : Head) : Type 0 where
   pub is : IsHead (head_view h)
   pub first : AreFirst (head_text (head_view h)) bytes h.len
+
+-- bytes begin with this head
+pub record BeginsWith (bytes : List ℕ) (h : HeadOf) : Type 0 where
+  pub is : IsHead h
+  pub len : ℕ
+  pub first : AreFirst (head_text h) bytes len
 
 -- ---- lines
 
