@@ -7,3 +7,4 @@ mod Every
 mod Heading
 mod EveryHead
 pub mod Lines
+mod EveryLine

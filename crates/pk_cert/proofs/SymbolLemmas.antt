@@ -95,7 +95,7 @@ Symbols bounds m = TextsOf (IsSymbol bounds m) (ended_text m)
 abbrev pub Counts : ℕ → ℕ → List ℕ → Type 0
 Counts least m = TextsOf (IsBetween least (10 ^ 39 - 1)) (counted (end_of m))
 
-no_star : (bounds m : ℕ) → m < bounds → IsSymbol bounds m None
+pub no_star : (bounds m : ℕ) → m < bounds → IsSymbol bounds m None
 no_star bounds m h = record { number = λ k. absurd (omega (arith, h, k)); short = tt }
 
 -- a number's first byte

@@ -28,3 +28,9 @@ pub record FirstWrongIsOne : Type 0 where
 abbrev pub EveryHeadEnds : Type 0
 EveryHeadEnds =
     (bytes : List ℕ) → ((h : HeadOf) × BeginsWith bytes h) ⊎ ((n : ℕ) × IsFirstWrong HasHead bytes n)
+
+-- Bytes that begin with a head are a certificate over so many points, or have a first byte with which none goes on.
+abbrev pub EveryLinesEnd : Type 0
+EveryLinesEnd =
+    (shape : Shape) (points : ℕ) (h : HeadOf) (bytes : List ℕ) → BeginsWith bytes h →
+    IsCertificate shape points h bytes ⊎ ((n : ℕ) × IsFirstWrong (IsCertificate shape points h) bytes n)
