@@ -39,7 +39,7 @@ whole_of h =
     sym (append-nil (head_text h)) ∙ flat h []
     ∙ ap (λ (r : List ℕ). opening ++ (counted 32 (length h.text) ++ (counted 32 h.oct ++ (lined h.entry ++ r)))) (append-nil (lined h.text))
 
-sizes_told : (most : ℕ) → most < 10 ^ 39 → AreTold (IsBetween 0 most) (counted 32)
+pub sizes_told : (most : ℕ) → most < 10 ^ 39 → AreTold (IsBetween 0 most) (counted 32)
 sizes_told most small = counts_told 0 most 32 small (omega arith)
 
 pub heads_told : HeadsAreTold
@@ -57,25 +57,25 @@ heads_told h k x y i j e =
     let c : h.entry ≡ k.entry = entry.0 in
     ((λ n. record { text = a n; oct = b n; entry = c n }), text.1)
 
-head_of_whole : (x : List ℕ) → Whole x → Begins (TextsOf IsHead head_text) x
+pub head_of_whole : (x : List ℕ) → Whole x → TextsOf IsHead head_text x
 head_of_whole x w =
     let size : ℕ = w.3.0 in
     let oct : ℕ = w.3.3.0 in
     let entry : List ℕ = w.3.3.3.0 in
     let text : List ℕ = w.3.3.3.3.0 in
     let h : HeadOf = record { text = text; oct = oct; entry = entry } in (
-      [],
-      (
-        h,
-        record { few = omega (arith, w.3.3.3.3.1, w.3.2.high); oct = w.3.3.2.high; entry = w.3.3.3.2 },
-        append-nil x ∙ w.4
-            ∙ (λ i. w.2 i ++ w.3.4 i)
-            ∙ ap (λ (n : ℕ). opening ++ (counted 32 n ++ w.3.1)) (sym w.3.3.3.3.1)
-            ∙ ap (λ (r : List ℕ). opening ++ (counted 32 (length text) ++ r)) w.3.3.4
-            ∙ ap (λ (r : List ℕ). opening ++ (counted 32 (length text) ++ (counted 32 oct ++ r))) (w.3.3.3.4 ∙ ap (λ (r : List ℕ). lined entry ++ r) w.3.3.3.3.2)
-            ∙ sym (whole_of h),
-      ),
+      h,
+      record { few = omega (arith, w.3.3.3.3.1, w.3.2.high); oct = w.3.3.2.high; entry = w.3.3.3.2 },
+      w.4
+          ∙ (λ i. w.2 i ++ w.3.4 i)
+          ∙ ap (λ (n : ℕ). opening ++ (counted 32 n ++ w.3.1)) (sym w.3.3.3.3.1)
+          ∙ ap (λ (r : List ℕ). opening ++ (counted 32 (length text) ++ r)) w.3.3.4
+          ∙ ap (λ (r : List ℕ). opening ++ (counted 32 (length text) ++ (counted 32 oct ++ r))) (w.3.3.3.4 ∙ ap (λ (r : List ℕ). lined entry ++ r) w.3.3.3.3.2)
+          ∙ sym (whole_of h),
     )
+
+begins_as_head : (x : List ℕ) → Whole x → Begins (TextsOf IsHead head_text) x
+begins_as_head x w = let h = head_of_whole x w in ([], (h.0, h.1, append-nil x ∙ h.2))
 
 whole_of_head : (x r : List ℕ) (h : HeadOf) → IsHead h → x ≡ head_text h ++ r → Leads Whole x
 whole_of_head x r h is e =
@@ -103,20 +103,20 @@ whole_of_head x r h is e =
 
 pub head_stops : (bytes : List ℕ) (n : ℕ) → IsStop Whole bytes n → IsFirstWrong HasHead bytes n
 head_stops bytes n s = stop_leads (TextsOf IsHead head_text) bytes n
-    (stop_part Whole (TextsOf IsHead head_text) bytes n head_of_whole (λ x b. whole_of_head x b.1 b.2.0 b.2.1 (b.3 ∙ ap (λ (t : List ℕ). t ++ b.1) b.2.2)) s)
+    (stop_part Whole (TextsOf IsHead head_text) bytes n begins_as_head (λ x b. whole_of_head x b.1 b.2.0 b.2.1 (b.3 ∙ ap (λ (t : List ℕ). t ++ b.1) b.2.2)) s)
 
 -- ---- what stands behind each part can be
 
-a_last : (size : ℕ) → (x : List ℕ) × TextsOf (IsBlock size) lined x
+pub a_last : (size : ℕ) → (x : List ℕ) × TextsOf (IsBlock size) lined x
 a_last size = (lined (replicate size 0), (replicate size 0, length-replicate size 0, refl))
 
-an_entry : (size : ℕ) → (x : List ℕ) × FromEntry size x
+pub an_entry : (size : ℕ) → (x : List ℕ) × FromEntry size x
 an_entry size = let rest = a_last size in (lined (97 ∷ []) ++ rest.0, (97 ∷ [], rest.0, refl, rest.1, refl))
 
-an_oct : (size : ℕ) → (x : List ℕ) × FromOct size x
+pub an_oct : (size : ℕ) → (x : List ℕ) × FromOct size x
 an_oct size = let rest = an_entry size in (counted 32 0 ++ rest.0, (0, rest.0, record { low = omega arith; high = omega arith }, rest.1, refl))
 
-a_size : (x : List ℕ) × FromSize x
+pub a_size : (x : List ℕ) × FromSize x
 a_size = let rest = an_oct 0 in (counted 32 0 ++ rest.0, (0, rest.0, record { low = omega arith; high = omega arith }, rest.1, refl))
 
 -- ---- where a head stops
@@ -141,10 +141,14 @@ module _ (bytes : List ℕ) where
   pub behind_size_fails : (size n k : ℕ) → IsNumber 4194304 bytes size n → IsStop (FromOct size) (drop n bytes) k → IsStop FromSize bytes (n + k)
   behind_size_fails size n k o s = two_later (IsBetween 0 4194304) (counted 32) FromOct bytes (sizes_told 4194304 (omega arith)) size n k o.between o.first s
 
+  -- a literal, as a text
+  pub opening_stops : (k : ℕ) → IsStop (λ (t : List ℕ). t ≡ opening) bytes k → IsStop (TextsOf (λ (t : List ℕ). t ≡ opening) (λ (t : List ℕ). t)) bytes k
+  opening_stops k s = stop_part (λ (t : List ℕ). t ≡ opening) (TextsOf (λ (t : List ℕ). t ≡ opening) (λ (t : List ℕ). t)) bytes k
+      (λ x e. ([], (x, e, append-nil x))) (λ x b. (b.0, b.1, b.2.2 ∙ b.2.1, b.3)) s
+
   pub opening_fails : (k : ℕ) → IsStop (λ (t : List ℕ). t ≡ opening) bytes k → IsFirstWrong HasHead bytes k
-  opening_fails k s = head_stops bytes k (two_fail (λ (t : List ℕ). t ≡ opening) (λ (t : List ℕ). t) (λ (t : List ℕ). FromSize) bytes (λ t h. a_size) k
-      (stop_part (λ (t : List ℕ). t ≡ opening) (TextsOf (λ (t : List ℕ). t ≡ opening) (λ (t : List ℕ). t)) bytes k
-      (λ x e. ([], (x, e, append-nil x))) (λ x b. (b.0, b.1, b.2.2 ∙ b.2.1, b.3)) s))
+  opening_fails k s = head_stops bytes k
+      (two_fail (λ (t : List ℕ). t ≡ opening) (λ (t : List ℕ). t) (λ (t : List ℕ). FromSize) bytes (λ t h. a_size) k (opening_stops k s))
 
   pub behind_opening_fails : (k : ℕ) → AreFirst opening bytes 13 → IsStop FromSize (drop 13 bytes) k → IsFirstWrong HasHead bytes (13 + k)
   behind_opening_fails k first s = head_stops bytes (13 + k)

@@ -119,7 +119,7 @@ symbols_next bounds count bytes symbols k at s n so h r =
       (λ i. so.3 i ++ r.seen i ∷ []) ∙ sym (map-append seen so.0 (r.z ∷ [])),
     )
 
-number_there : (bounds m : ℕ) → (z : Option ℤ) × IsSymbol bounds m z
+pub number_there : (bounds m : ℕ) → (z : Option ℤ) × IsSymbol bounds m z
 number_there bounds m = (Some (pos 0), record { number = λ _. refl; short = omega arith })
 
 pub symbols_stop : (bounds count : ℕ) (bytes : List ℕ) (symbols : List Symbol) (k at n : ℕ) → SymbolsSo bounds count bytes symbols k at → k < count
@@ -167,7 +167,7 @@ lines_next shape points bytes rows k at row n so h r =
       map-append row_view rows (row ∷ []) ∙ (λ i. so.3 i ++ r.seen i ∷ []) ∙ sym (map-append seen_line so.0 (r.line ∷ [])),
     )
 
-bottom_there : (shape : Shape) (m : ℕ) → (line : Line) × IsLine shape line
+pub bottom_there : (shape : Shape) (m : ℕ) → (line : Line) × IsLine shape line
 bottom_there shape m = (None, tt)
 
 pub lines_stop : (shape : Shape) (points : ℕ) (bytes : List ℕ) (rows : List Row) (k at n : ℕ) → LinesSo shape points bytes rows k at → k < points

@@ -6,7 +6,7 @@ use Rattle.std.proofs.lemmas.List.{append-nil}
 use Rattle.std.proofs.lemmas.Bool.{cases_lt}
 use Rattle.std.proofs.lemmas.Bool.Decides.{nat_tests}
 use Rattle.pk_cert.specs.declared.rows.Symbol.{Symbol}
-use Rattle.pk_cert.specs.Beginnings.{TextsOf, Begins, Leads, IsStop}
+use Rattle.pk_cert.specs.Beginnings.{TextsOf, Leads, IsStop}
 use Rattle.pk_cert.specs.Rows.{symbol_text, IsShort, IsSymbol, end_of, ended_text, seen}
 use Rattle.pk_cert.specs.declared.numbers.Decimal.{Decimal}
 use Rattle.pk_cert.specs.Pieces.{AreFirst, value_of, IsBetween, IsCount, counted, BeginsAsNumber, IsSymbolRead}
@@ -95,7 +95,7 @@ Symbols bounds m = TextsOf (IsSymbol bounds m) (ended_text m)
 abbrev pub Counts : ℕ → ℕ → List ℕ → Type 0
 Counts least m = TextsOf (IsBetween least (10 ^ 39 - 1)) (counted (end_of m))
 
-no_star : (bounds m : ℕ) → m < bounds → IsSymbol bounds m None
+pub no_star : (bounds m : ℕ) → m < bounds → IsSymbol bounds m None
 no_star bounds m h = record { number = λ k. absurd (omega (arith, h, k)); short = tt }
 
 -- a number's first byte

@@ -125,6 +125,12 @@ pub record IsHeadRead (bytes : List ℕ) (h : Head) : Type 0 where
   pub is : IsHead (head_view h)
   pub first : AreFirst (head_text (head_view h)) bytes h.len
 
+-- bytes begin with this head
+pub record BeginsWith (bytes : List ℕ) (h : HeadOf) : Type 0 where
+  pub is : IsHead h
+  pub len : ℕ
+  pub first : AreFirst (head_text h) bytes len
+
 -- ---- lines
 
 -- the error tells the byte at which bytes stop, unless memory was wanting

@@ -12,6 +12,8 @@ mod symbols;
 
 pub use failures::Unread;
 pub use heads::{Head, read_head};
-pub use laws::{first_wrong_is_one, heads_are_told, lines_are_told};
+pub use laws::{
+    every_head_ends, every_lines_end, first_wrong_is_one, heads_are_told, lines_are_told,
+};
 pub use reading::{read, read_row};
 pub use rows::{Row, Shape, Symbol};
