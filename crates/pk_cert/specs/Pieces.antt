@@ -19,12 +19,6 @@ pub record AreFirst (text bytes : List ℕ) (n : ℕ) : Type 0 where
   pub size : n ≡ length text
   pub told : bytes ≡ text ++ drop n bytes
 
--- bytes begin with this head
-pub record BeginsWith (bytes : List ℕ) (h : HeadOf) : Type 0 where
-  pub is : IsHead h
-  pub len : ℕ
-  pub first : AreFirst (head_text h) bytes len
-
 -- ---- numbers
 
 -- a number of up to 39 digits, of which the last is kept apart: it can pass 2^128

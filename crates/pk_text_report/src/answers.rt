@@ -7,13 +7,14 @@ ghost use Rattle.pk_graph.specs.Shown.{graph_view};
 ghost use Rattle.pk_graph_report.specs.Reported.{IsReport, IsSummary};
 ghost use Rattle.pk_solver.specs.Bounds.{AreInRange, most_points, most_workers};
 ghost use Rattle.pk_solver.specs.Solved.{IsCause};
-ghost use Rattle.pk_text_report.specs.Answers.{IsRun, IsOrder, IsMade, IsStopped, IsTold, default_options, default_runs, options_of};
+ghost use Rattle.pk_text_report.specs.Answers.{IsRun, IsOrder, IsMade, IsStopped, IsTold, certified_options, default_options, default_runs, options_of};
 
-use crate::status::Status;
-use pk_command::{Command, GenOptions, OrderOptions, RunOptions};
+use pk_cert_report::{certificate_of_text, check};
+use pk_command::{CertOptions, Command, GenOptions, OrderOptions, RunOptions};
 use pk_graph::Graph;
 use pk_graph_report::{order_of, report_of, summary_of};
 use pk_solver::{IterationOptions, Options, SolverError, states};
+use pk_status::Status;
 use pk_text_graph::{graph_of_text, graphs_are_few};
 use pk_workers::Gate;
 use std::alloc::{AllocError, Global};
@@ -70,6 +71,24 @@ fn default_iteration(workers: u32) -> IterationOptions
         analysis: default_analysis(),
         workers,
         max_runs: DEFAULT_RUNS,
+    }
+}
+
+// What the iteration of a certificate is asked for.
+fn certified_iteration(options: &CertOptions) -> IterationOptions
+    requires { IsInRange (commands.Cert options.now) }
+    ensures analysis { result.analysis ≡ certified_options options.now }
+    ensures runs { result.max_runs ≡ options.now.max_runs }
+    ensures range { AreInRange result }
+{
+    IterationOptions {
+        analysis: Options {
+            delay: options.delay,
+            narrow: options.narrow,
+            oct: options.oct,
+        },
+        workers: options.workers,
+        max_runs: options.max_runs,
     }
 }
 
@@ -195,6 +214,24 @@ fn gen_told<R: Threads + Wait + Sync, G: Gate + Sync>(
     }
 }
 
+// The certificate of a text, which has no verdicts.
+fn cert_told<R: Threads + Wait + Sync, G: Gate + Sync>(
+    rt: &R,
+    alloc: Global,
+    gate: &G,
+    options: &CertOptions,
+    text: &[u8],
+) -> Result<(Vec<u8>, u64), Status>
+    requires range { IsInRange (commands.Cert options.now) }
+    ensures told { IfOk result (λ made. IsTold text.now (commands.Cert options.now) made.1 made.0.items) }
+    ensures stopped { IfErr result (IsStopped text.now (commands.Cert options.now)) }
+{
+    let iteration = certified_iteration(options);
+    let entry = options.entry.as_str();
+    let bytes = certificate_of_text(rt, alloc, gate, text, entry, &iteration)?;
+    Ok((bytes, 0))
+}
+
 /// The bytes to write and the number of unknown verdicts, or the status in their place.
 pub fn told<R: Threads + Wait + Sync, G: Gate + Sync>(
     rt: &R,
@@ -211,5 +248,7 @@ pub fn told<R: Threads + Wait + Sync, G: Gate + Sync>(
         Command::Run(options) => run_told(rt, alloc, gate, options, text),
         Command::Order(options) => order_told(alloc, options, text),
         Command::Gen(options) => gen_told(rt, alloc, gate, options, text),
+        Command::Cert(options) => cert_told(rt, alloc, gate, options, text),
+        Command::Check => check(alloc, text),
     }
 }
