@@ -1,55 +1,34 @@
 -- Words and a text have at most one answer, and the number of workers tells nothing.
-use Rattle.std.specs.Prelude.{◌≡◌, ℕ, ◌++◌, List, codes, length, false}
-use Rattle.std.proofs.Common.{sym, ap, subst, ◌∙◌, inl, inr, arith}
-use Rattle.pk_ctypes.specs.declared.words.Quantity.{Quantity}
+use Rattle.std.specs.Prelude.{◌≡◌, ◌≢◌, ◌⊎◌, ℕ, ◌++◌, List, [], codes, length, false}
+use Rattle.std.proofs.Common.{sym, ap, subst, ◌∙◌, inl, inr, refl, arith}
 use Rattle.pk_command.specs.declared.asked.RunOptions.{RunOptions}
 use Rattle.pk_command.specs.declared.asked.Command.{Command}
-use Rattle.pk_command.specs.declared.asked.Command.TheVariants.{Run, Order, Gen}
+use Rattle.pk_command.specs.declared.asked.Command.TheVariants.{Run, Order, Gen, Cert, Check}
 use Rattle.pk_command.specs.CommandLine.{is_taken}
 use Rattle.pk_command.specs.Given.{AsksFor}
 use Rattle.pk_command.specs.Laws.{OneCommand}
 use Rattle.pk_command.proofs.Asking.{asked_taken}
-use Rattle.pk_front.specs.declared.failures.Refusal.{Refusal}
-use Rattle.pk_front.specs.declared.failures.TextError.TheVariants as errors
-use Rattle.pk_front.specs.Texts.{IsRefusedFor}
 use Rattle.pk_graph.specs.Graphs.{GraphOf}
 use Rattle.pk_analysis.specs.declared.analysis.Options.{Options}
 use Rattle.pk_analysis_laws.specs.Systems.{IsOver}
 use Rattle.pk_graph_report.specs.Reported.{IsReport, IsSummary, IsOrderText, OneReport}
-use Rattle.pk_text_graph.specs.Graphs.{GraphIsDetermined, HasGraph, HasNoGraph}
+use Rattle.pk_text_graph.specs.Graphs.{GraphIsDetermined, HasGraph}
 use Rattle.pk_status.specs.declared.status.Status.{Status}
 use Rattle.pk_status.specs.declared.status.Status.TheVariants as status
-use Rattle.pk_text_report.specs.Answers.{IsReply, IsTold, IsShort, IsLong, IsCutOff, PassesLimit, entry_of, options_of, default_options, default_runs, OneAnswer, DifferInWorkers, WorkersTellNothing}
+use Rattle.pk_cert_report.specs.Causes.{IsUngraphed, IsUnanalysed, OneCause}
+use Rattle.pk_cert_report.specs.Laws.{OneCertificate, OneAnswerOfChecks}
+use Rattle.pk_text_report.specs.Answers.{IsReply, IsTold, IsShort, IsLong, IsStopped, IsEnded, limit_of, options_of, certified_options, default_options, default_runs, OneAnswer, DifferInWorkers, WorkersTellNothing}
 
 pub not_taken : (words : List (List ℕ)) (command : Command) → AsksFor words command → is_taken words ≡ false → ⊥
 not_taken words command asks refused = let taken = asked_taken words command asks in cc
 
--- ---- graphs
-
-refused_known : (r : Refusal) → errors.Refused r ≡ errors.Memory → ⊥
-refused_known r e = absurd (cc)
-
-limit_known : (w : Quantity) (n : ℕ) → errors.Limit w n ≡ errors.Memory → ⊥
-limit_known w n e = absurd (cc)
-
-module _ (law : GraphIsDetermined) where
-  graph_or_refused : (text entry : List ℕ) (g : GraphOf) (r : Refusal) → HasGraph text entry g → IsRefusedFor text entry r → ⊥
-  graph_or_refused text entry g r x left = law.apart text entry g (errors.Refused r) (refused_known r) x (inl left)
-
-  graph_or_limit : (text entry : List ℕ) (g : GraphOf) (w : Quantity) (n : ℕ) → HasGraph text entry g → HasNoGraph text entry (errors.Limit w n) → ⊥
-  graph_or_limit text entry g w n x none = law.apart text entry g (errors.Limit w n) (limit_known w n) x none
-
-  refused_or_limit : (text entry : List ℕ) (r : Refusal) (w : Quantity) (n : ℕ) → IsRefusedFor text entry r → HasNoGraph text entry (errors.Limit w n) → ⊥
-  refused_or_limit text entry r w n x none =
-      let same : errors.Refused r ≡ errors.Limit w n = law.none text entry (errors.Refused r) (errors.Limit w n) (refused_known r) (limit_known w n) (inl x) none in absurd (cc)
-
-  one_refusal : (text entry : List ℕ) (r q : Refusal) → IsRefusedFor text entry r → IsRefusedFor text entry q → r ≡ q
-  one_refusal text entry r q x y =
-      let same : errors.Refused r ≡ errors.Refused q = law.none text entry (errors.Refused r) (errors.Refused q) (refused_known r) (refused_known q) (inl x) (inl y) in cc
-
-  one_limit : (text entry : List ℕ) (w v : Quantity) (m n : ℕ) → HasNoGraph text entry (errors.Limit w m) → HasNoGraph text entry (errors.Limit v n) → status.Limit w m ≡ status.Limit v n
-  one_limit text entry w v m n x y =
-      let same : errors.Limit w m ≡ errors.Limit v n = law.none text entry (errors.Limit w m) (errors.Limit v n) (limit_known w m) (limit_known v n) x y in cc
+-- what the answer stands on
+pub record Laws : Type 0 where
+  pub graphs : GraphIsDetermined
+  pub reports : OneReport
+  pub causes : OneCause
+  pub certificates : OneCertificate
+  pub checks : OneAnswerOfChecks
 
 -- ---- replies to one command
 
@@ -57,111 +36,103 @@ short_or_long : (text : List ℕ) (c : Command) → IsShort text c → IsLong te
 short_or_long text (Run options) short long = absurd (omega (arith, short, long))
 short_or_long text (Order options) short long = absurd (omega (arith, short, long))
 short_or_long text (Gen options) short long = long
+short_or_long text (Cert options) short long = absurd (omega (arith, short, long))
+short_or_long text Check short long = absurd (omega (arith, short, long))
 
-module _ (front : GraphIsDetermined) (reports : OneReport) where
-  -- what is told of a text is told of its graph
-  told_graph : (text : List ℕ) (c : Command) (unknown : ℕ) (bytes : List ℕ) → IsTold text c unknown bytes → (g : GraphOf) × HasGraph text (entry_of c) g
-  told_graph text (Run options) unknown bytes x = (x.graph, x.has_graph)
-  told_graph text (Order options) unknown bytes x = (x.graph, x.has_graph)
-  told_graph text (Gen options) unknown bytes x = (x.graph, x.has_graph)
-
-  cut_graph : (text : List ℕ) (c : Command) (max_runs : ℕ) → IsCutOff text c max_runs → (g : GraphOf) × HasGraph text (entry_of c) g
-  cut_graph text (Run options) max_runs x = (x.0.graph, x.0.has_graph)
-  cut_graph text (Order options) max_runs x = absurd x
-  cut_graph text (Gen options) max_runs x = (x.0.graph, x.0.has_graph)
+module _ (laws : Laws) where
+  -- a report or a summary, and why there is none
+  report_or_cause : (text entry : List ℕ) (o : Options) (most : ℕ) (s : Status) (g : GraphOf) → s ≢ status.Memory → HasGraph text entry g → (IsOver g o most → ⊥) → IsUnanalysed text entry o most s → ⊥
+  report_or_cause text entry o most s g other has within (inl x) = laws.causes.graph text entry g s other has x
+  report_or_cause text entry o most s g other has within (inr x) =
+      within (subst (λ (h : GraphOf). IsOver h o most) (laws.graphs.graph text entry x.0.graph g x.0.has_graph has) x.0.over)
 
   one_told : (text : List ℕ) (c : Command) (m n : ℕ) (a b : List ℕ) → IsTold text c m a → IsTold text c n b → (m ≡ n) × (a ≡ b)
   one_told text (Run o) m n a b x y =
-      let same = front.graph text o.entry x.graph y.graph x.has_graph y.has_graph in
-      reports.reports y.graph (options_of o) o.max_runs o.points m n a b (subst (λ (g : GraphOf). IsReport g (options_of o) o.max_runs o.points m a) same x.report) y.report
+      let same = laws.graphs.graph text o.entry x.graph y.graph x.has_graph y.has_graph in
+      laws.reports.reports y.graph (options_of o) o.max_runs o.points m n a b (subst (λ (g : GraphOf). IsReport g (options_of o) o.max_runs o.points m a) same x.report) y.report
   one_told text (Order o) m n a b x y =
-      let same = front.graph text o.entry x.graph y.graph x.has_graph y.has_graph in
-      let line : x.line ≡ y.line = reports.orders y.graph x.line y.line (subst (λ (g : GraphOf). IsOrderText g x.line) same x.order) y.order in
+      let same = laws.graphs.graph text o.entry x.graph y.graph x.has_graph y.has_graph in
+      let line : x.line ≡ y.line = laws.reports.orders y.graph x.line y.line (subst (λ (g : GraphOf). IsOrderText g x.line) same x.order) y.order in
       (x.none_unknown ∙ sym y.none_unknown, x.told ∙ ap (λ (l : List ℕ). l ++ codes "\n") line ∙ sym y.told)
   one_told text (Gen o) m n a b x y =
-      let same = front.graph text (codes "main") x.graph y.graph x.has_graph y.has_graph in
-      reports.summaries y.graph default_options default_runs o.seed o.size (length text) m n a b
+      let same = laws.graphs.graph text (codes "main") x.graph y.graph x.has_graph y.has_graph in
+      laws.reports.summaries y.graph default_options default_runs o.seed o.size (length text) m n a b
       (subst (λ (g : GraphOf). IsSummary g default_options default_runs o.seed o.size (length text) m a) same x.summary) y.summary
+  one_told text (Cert o) m n a b x y = (x.1 ∙ sym y.1, laws.certificates.certificates text o.entry (certified_options o) o.max_runs a b x.0 y.0)
+  one_told text Check m n a b x y = laws.checks.told text m n a b x y
 
-  told_or_cut : (text : List ℕ) (c : Command) (m max_runs : ℕ) (a : List ℕ) → IsTold text c m a → IsCutOff text c max_runs → ⊥
-  told_or_cut text (Run o) m max_runs a x y =
-      let same = front.graph text o.entry y.0.graph x.graph y.0.has_graph x.has_graph in
-      reports.within x.graph (options_of o) o.max_runs x.report.plan x.report.states x.report.are_states
-      (subst (IsOver x.graph (options_of o)) y.1 (subst (λ (g : GraphOf). IsOver g (options_of o) max_runs) same y.0.over))
-  told_or_cut text (Order o) m max_runs a x y = absurd y
-  told_or_cut text (Gen o) m max_runs a x y =
-      let same = front.graph text (codes "main") y.0.graph x.graph y.0.has_graph x.has_graph in
-      reports.within x.graph default_options default_runs x.summary.plan x.summary.states x.summary.are_states
-      (subst (IsOver x.graph default_options) y.1 (subst (λ (g : GraphOf). IsOver g default_options max_runs) same y.0.over))
+  told_or_stopped : (text : List ℕ) (c : Command) (m : ℕ) (a : List ℕ) (s : Status) → s ≢ status.Memory → IsTold text c m a → IsStopped text c s → ⊥
+  told_or_stopped text (Run o) m a s other x y =
+      report_or_cause text o.entry (options_of o) o.max_runs s x.graph other x.has_graph (laws.reports.within x.graph (options_of o) o.max_runs x.report.plan x.report.states x.report.are_states) y
+  told_or_stopped text (Order o) m a s other x y = laws.causes.graph text o.entry x.graph s other x.has_graph y
+  told_or_stopped text (Gen o) m a s other x y =
+      report_or_cause text (codes "main") default_options default_runs s x.graph other x.has_graph (laws.reports.within x.graph default_options default_runs x.summary.plan x.summary.states x.summary.are_states) y
+  told_or_stopped text (Cert o) m a s other x y = laws.certificates.apart text o.entry (certified_options o) o.max_runs a s other x.0 y
+  told_or_stopped text Check m a s other x y = laws.checks.apart text m a s other x y
 
-  one_cut : (text : List ℕ) (c : Command) (m n : ℕ) → IsCutOff text c m → IsCutOff text c n → m ≡ n
-  one_cut text (Run o) m n x y = x.1 ∙ sym y.1
-  one_cut text (Order o) m n x y = absurd x
-  one_cut text (Gen o) m n x y = x.1 ∙ sym y.1
+  one_stop : (text : List ℕ) (c : Command) (s t : Status) → s ≢ status.Memory → t ≢ status.Memory → IsStopped text c s → IsStopped text c t → s ≡ t
+  one_stop text (Run o) s t hs ht x y = laws.causes.unanalysed text o.entry (options_of o) o.max_runs s t hs ht x y
+  one_stop text (Order o) s t hs ht x y = laws.causes.ungraphed text o.entry s t hs ht x y
+  one_stop text (Gen o) s t hs ht x y = laws.causes.unanalysed text (codes "main") default_options default_runs s t hs ht x y
+  one_stop text (Cert o) s t hs ht x y = laws.certificates.causes text o.entry (certified_options o) o.max_runs s t hs ht x y
+  one_stop text Check s t hs ht x y = laws.checks.causes text s t hs ht x y
 
-  -- a limit of the text, and one that it passes on the way to its graph
-  limits_same : (c : Command) (text : List ℕ) (w v : Quantity) (m n : ℕ) → PassesLimit c text w m → PassesLimit c text v n → status.Limit w m ≡ status.Limit v n
-  limits_same c text w v m n (inl x) (inl y) = ap (λ (q : Quantity). status.Limit q m) (x.1 ∙ sym y.1) ∙ ap (status.Limit v) (x.2 ∙ sym y.2)
-  limits_same c text w v m n (inl x) (inr y) = absurd (short_or_long text c y.0 x.0)
-  limits_same c text w v m n (inr x) (inl y) = absurd (short_or_long text c x.0 y.0)
-  limits_same c text w v m n (inr x) (inr y) = one_limit front text (entry_of c) w v m n x.1 y.1
+  one_end : (c : Command) (text : List ℕ) (s t : Status) → s ≢ status.Memory → t ≢ status.Memory → IsEnded c text s → IsEnded c text t → s ≡ t
+  one_end c text s t hs ht (inl x) (inl y) = x.1 ∙ sym y.1
+  one_end c text s t hs ht (inl x) (inr y) = absurd (short_or_long text c y.0 x.0)
+  one_end c text s t hs ht (inr x) (inl y) = absurd (short_or_long text c x.0 y.0)
+  one_end c text s t hs ht (inr x) (inr y) = one_stop text c s t hs ht x.1 y.1
 
-  told_or_limit : (c : Command) (text : List ℕ) (u : ℕ) (a : List ℕ) (w : Quantity) (n : ℕ) → IsShort text c → IsTold text c u a → PassesLimit c text w n → ⊥
-  told_or_limit c text u a w n short told (inl y) = short_or_long text c short y.0
-  told_or_limit c text u a w n short told (inr y) = let g = told_graph text c u a told in graph_or_limit front text (entry_of c) g.0 w n g.1 y.1
+  told_or_ended : (c : Command) (text : List ℕ) (m : ℕ) (a : List ℕ) (s : Status) → s ≢ status.Memory → IsShort text c → IsTold text c m a → IsEnded c text s → ⊥
+  told_or_ended c text m a s other short told (inl y) = short_or_long text c short y.0
+  told_or_ended c text m a s other short told (inr y) = told_or_stopped text c m a s other told y.1
 
-  cut_or_limit : (c : Command) (text : List ℕ) (m : ℕ) (w : Quantity) (n : ℕ) → IsShort text c → IsCutOff text c m → PassesLimit c text w n → ⊥
-  cut_or_limit c text m w n short cut (inl y) = short_or_long text c short y.0
-  cut_or_limit c text m w n short cut (inr y) = let g = cut_graph text c m cut in graph_or_limit front text (entry_of c) g.0 w n g.1 y.1
+-- a success, or an end without anything told
+record IsSuccess (c : Command) (text : List ℕ) (s : Status) (bytes : List ℕ) : Type 0 where
+  unknown : ℕ
+  is : s ≡ status.Ok unknown
+  short : IsShort text c
+  told : IsTold text c unknown bytes
 
-  refused_or_long : (c : Command) (text : List ℕ) (r : Refusal) (w : Quantity) (n : ℕ) → IsShort text c → IsRefusedFor text (entry_of c) r → PassesLimit c text w n → ⊥
-  refused_or_long c text r w n short left (inl y) = short_or_long text c short y.0
-  refused_or_long c text r w n short left (inr y) = refused_or_limit front text (entry_of c) r w n left y.1
+record IsEnd (c : Command) (text : List ℕ) (s : Status) (bytes : List ℕ) : Type 0 where
+  known : s ≢ status.Memory
+  ended : IsEnded c text s
+  nothing : bytes ≡ []
 
-  one_reply : (c : Command) (text : List ℕ) (s t : Status) (a b : List ℕ) → IsReply c text s a → IsReply c text t b → (s ≡ t) × (a ≡ b)
-  one_reply c text (status.Ok m) (status.Ok n) a b x y = let same = one_told text c m n a b x.1 y.1 in (ap status.Ok same.0, same.1)
-  one_reply c text (status.Ok m) (status.Refused r) a b x y = let g = told_graph text c m a x.1 in absurd (graph_or_refused front text (entry_of c) g.0 r g.1 y.1)
-  one_reply c text (status.Ok m) (status.Limit w n) a b x y = absurd (told_or_limit c text m a w n x.0 x.1 y.0)
-  one_reply c text (status.Ok m) (status.RunLimit n) a b x y = absurd (told_or_cut text c m n a x.1 y.1)
-  one_reply c text (status.Refused r) (status.Ok n) a b x y = let g = told_graph text c n b y.1 in absurd (graph_or_refused front text (entry_of c) g.0 r g.1 x.1)
-  one_reply c text (status.Refused r) (status.Refused q) a b x y = (ap status.Refused (one_refusal front text (entry_of c) r q x.1 y.1), x.2 ∙ sym y.2)
-  one_reply c text (status.Refused r) (status.Limit w n) a b x y = absurd (refused_or_long c text r w n x.0 x.1 y.0)
-  one_reply c text (status.Refused r) (status.RunLimit n) a b x y = let g = cut_graph text c n y.1 in absurd (graph_or_refused front text (entry_of c) g.0 r g.1 x.1)
-  one_reply c text (status.Limit w m) (status.Ok n) a b x y = absurd (told_or_limit c text n b w m y.0 y.1 x.0)
-  one_reply c text (status.Limit w m) (status.Refused r) a b x y = absurd (refused_or_long c text r w m y.0 y.1 x.0)
-  one_reply c text (status.Limit w m) (status.Limit v n) a b x y = (limits_same c text w v m n x.0 y.0, x.1 ∙ sym y.1)
-  one_reply c text (status.Limit w m) (status.RunLimit n) a b x y = absurd (cut_or_limit c text n w m y.0 y.1 x.0)
-  one_reply c text (status.RunLimit m) (status.Ok n) a b x y = absurd (told_or_cut text c n m b y.1 x.1)
-  one_reply c text (status.RunLimit m) (status.Refused r) a b x y = let g = cut_graph text c m x.1 in absurd (graph_or_refused front text (entry_of c) g.0 r g.1 y.1)
-  one_reply c text (status.RunLimit m) (status.Limit w n) a b x y = absurd (cut_or_limit c text m w n x.0 x.1 y.0)
-  one_reply c text (status.RunLimit m) (status.RunLimit n) a b x y = (ap status.RunLimit (one_cut text c m n x.1 y.1), x.2 ∙ sym y.2)
-  one_reply c text status.Usage t a b x y = absurd x
-  one_reply c text status.ReadFault t a b x y = absurd x
-  one_reply c text (status.WriteFault sent) t a b x y = absurd x
-  one_reply c text status.Memory t a b x y = absurd x
-  one_reply c text (status.Ok m) status.Usage a b x y = absurd y
-  one_reply c text (status.Ok m) status.ReadFault a b x y = absurd y
-  one_reply c text (status.Ok m) (status.WriteFault sent) a b x y = absurd y
-  one_reply c text (status.Ok m) status.Memory a b x y = absurd y
-  one_reply c text (status.Refused r) status.Usage a b x y = absurd y
-  one_reply c text (status.Refused r) status.ReadFault a b x y = absurd y
-  one_reply c text (status.Refused r) (status.WriteFault sent) a b x y = absurd y
-  one_reply c text (status.Refused r) status.Memory a b x y = absurd y
-  one_reply c text (status.Limit w m) status.Usage a b x y = absurd y
-  one_reply c text (status.Limit w m) status.ReadFault a b x y = absurd y
-  one_reply c text (status.Limit w m) (status.WriteFault sent) a b x y = absurd y
-  one_reply c text (status.Limit w m) status.Memory a b x y = absurd y
-  one_reply c text (status.RunLimit m) status.Usage a b x y = absurd y
-  one_reply c text (status.RunLimit m) status.ReadFault a b x y = absurd y
-  one_reply c text (status.RunLimit m) (status.WriteFault sent) a b x y = absurd y
-  one_reply c text (status.RunLimit m) status.Memory a b x y = absurd y
+ended_so : (c : Command) (text : List ℕ) (s : Status) (bytes : List ℕ) → s ≢ status.Memory → IsEnded c text s × (bytes ≡ []) → IsSuccess c text s bytes ⊎ IsEnd c text s bytes
+ended_so c text s bytes known x = inr (record { known = known; ended = x.0; nothing = x.1 })
 
-pub one_answer : OneCommand → GraphIsDetermined → OneReport → OneAnswer
-one_answer one front reports words text s t a b (inl x) (inl y) = (x.status_is ∙ sym y.status_is, x.nothing ∙ sym y.nothing)
-one_answer one front reports words text s t a b (inl x) (inr y) = absurd (not_taken words y.command y.asked x.refused)
-one_answer one front reports words text s t a b (inr x) (inl y) = absurd (not_taken words x.command x.asked y.refused)
-one_answer one front reports words text s t a b (inr x) (inr y) =
-    one_reply front reports y.command text s t a b (subst (λ (c : Command). IsReply c text s a) (one words x.command y.command x.asked y.asked) x.reply) y.reply
+pub either : (c : Command) (text : List ℕ) (s : Status) (bytes : List ℕ) → IsReply c text s bytes → IsSuccess c text s bytes ⊎ IsEnd c text s bytes
+either c text (status.Ok unknown) bytes x = inl (record { unknown = unknown; is = refl; short = x.0; told = x.1 })
+either c text (status.Refused refusal) bytes x = ended_so c text (status.Refused refusal) bytes (λ e. absurd (cc)) x
+either c text (status.Limit what number) bytes x = ended_so c text (status.Limit what number) bytes (λ e. absurd (cc)) x
+either c text (status.RunLimit max_runs) bytes x = ended_so c text (status.RunLimit max_runs) bytes (λ e. absurd (cc)) x
+either c text status.CertLimit bytes x = ended_so c text status.CertLimit bytes (λ e. absurd (cc)) x
+either c text (status.CertByte offset) bytes x = ended_so c text (status.CertByte offset) bytes (λ e. absurd (cc)) x
+either c text (status.CertState point) bytes x = ended_so c text (status.CertState point) bytes (λ e. absurd (cc)) x
+either c text (status.CertFails point) bytes x = ended_so c text (status.CertFails point) bytes (λ e. absurd (cc)) x
+either c text status.Usage bytes x = absurd x
+either c text status.ReadFault bytes x = absurd x
+either c text (status.WriteFault sent) bytes x = absurd x
+either c text status.Memory bytes x = absurd x
+
+module _ (laws : Laws) (c : Command) (text : List ℕ) where
+  both_ways : (s t : Status) (a b : List ℕ) → IsSuccess c text s a ⊎ IsEnd c text s a → IsSuccess c text t b ⊎ IsEnd c text t b → (s ≡ t) × (a ≡ b)
+  both_ways s t a b (inl x) (inl y) =
+      let same = one_told laws text c x.unknown y.unknown a b x.told y.told in (x.is ∙ ap status.Ok same.0 ∙ sym y.is, same.1)
+  both_ways s t a b (inl x) (inr y) = absurd (told_or_ended laws c text x.unknown a t y.known x.short x.told y.ended)
+  both_ways s t a b (inr x) (inl y) = absurd (told_or_ended laws c text y.unknown b s x.known y.short y.told x.ended)
+  both_ways s t a b (inr x) (inr y) = (one_end laws c text s t x.known y.known x.ended y.ended, x.nothing ∙ sym y.nothing)
+
+  one_reply : (s t : Status) (a b : List ℕ) → IsReply c text s a → IsReply c text t b → (s ≡ t) × (a ≡ b)
+  one_reply s t a b x y = both_ways s t a b (either c text s a x) (either c text t b y)
+
+pub one_answer : OneCommand → Laws → OneAnswer
+one_answer one laws words text s t a b (inl x) (inl y) = (x.status_is ∙ sym y.status_is, x.nothing ∙ sym y.nothing)
+one_answer one laws words text s t a b (inl x) (inr y) = absurd (not_taken words y.command y.asked x.refused)
+one_answer one laws words text s t a b (inr x) (inl y) = absurd (not_taken words x.command x.asked y.refused)
+one_answer one laws words text s t a b (inr x) (inr y) =
+    one_reply laws y.command text s t a b (subst (λ (c : Command). IsReply c text s a) (one words x.command y.command x.asked y.asked) x.reply) y.reply
 
 -- ---- workers
 
@@ -178,6 +149,16 @@ module _ (o p : RunOptions) (d : DifferInWorkers o p) where
       (subst (λ (n : ℕ). IsReport g (options_of p) n o.points u a) d.max_runs
       (subst (λ (k : Options). IsReport g k o.max_runs o.points u a) same_options h))
 
+  other_stop : (text : List ℕ) (s : Status) → IsStopped text (Run o) s → IsStopped text (Run p) s
+  other_stop text s x =
+      subst (λ (e : List ℕ). IsUnanalysed text e (options_of p) p.max_runs s) d.entry
+      (subst (λ (n : ℕ). IsUnanalysed text o.entry (options_of p) n s) d.max_runs
+      (subst (λ (k : Options). IsUnanalysed text o.entry k o.max_runs s) same_options x))
+
+  other_end : (text : List ℕ) (s : Status) → IsEnded (Run o) text s → IsEnded (Run p) text s
+  other_end text s (inl x) = inl x
+  other_end text s (inr x) = inr (x.0, other_stop text s x.1)
+
   other_reply : (text : List ℕ) (s : Status) (a : List ℕ) → IsReply (Run o) text s a → IsReply (Run p) text s a
   other_reply text (status.Ok u) a x = (
     x.0,
@@ -187,22 +168,14 @@ module _ (o p : RunOptions) (d : DifferInWorkers o p) where
       report = other_report x.1.graph u a x.1.report;
     },
   )
+  other_reply text (status.Refused r) a x = (other_end text (status.Refused r) x.0, x.1)
+  other_reply text (status.Limit w n) a x = (other_end text (status.Limit w n) x.0, x.1)
+  other_reply text (status.RunLimit m) a x = (other_end text (status.RunLimit m) x.0, x.1)
+  other_reply text status.CertLimit a x = (other_end text status.CertLimit x.0, x.1)
+  other_reply text (status.CertByte n) a x = (other_end text (status.CertByte n) x.0, x.1)
+  other_reply text (status.CertState v) a x = (other_end text (status.CertState v) x.0, x.1)
+  other_reply text (status.CertFails v) a x = (other_end text (status.CertFails v) x.0, x.1)
   other_reply text status.Usage a x = absurd x
-  other_reply text (status.Refused r) a x = (x.0, subst (λ (e : List ℕ). IsRefusedFor text e r) d.entry x.1, x.2)
-  other_reply text (status.Limit w n) a (inl x, e) = (inl x, e)
-  other_reply text (status.Limit w n) a (inr x, e) = (inr (x.0, subst (λ (k : List ℕ). HasNoGraph text k (errors.Limit w n)) d.entry x.1), e)
-  other_reply text (status.RunLimit m) a x = (
-    x.0,
-    (
-      record {
-        graph = x.1.0.graph;
-        has_graph = subst (λ (e : List ℕ). HasGraph text e x.1.0.graph) d.entry x.1.0.has_graph;
-        over = subst (λ (k : Options). IsOver x.1.0.graph k m) same_options x.1.0.over;
-      },
-      x.1.1 ∙ d.max_runs,
-    ),
-    x.2,
-  )
   other_reply text status.ReadFault a x = absurd x
   other_reply text (status.WriteFault sent) a x = absurd x
   other_reply text status.Memory a x = absurd x

@@ -228,8 +228,10 @@ fn cert_told<R: Threads + Wait + Sync, G: Gate + Sync>(
 {
     let iteration = certified_iteration(options);
     let entry = options.entry.as_str();
-    let bytes = certificate_of_text(rt, alloc, gate, text, entry, &iteration)?;
-    Ok((bytes, 0))
+    match certificate_of_text(rt, alloc, gate, text, entry, &iteration) {
+        Ok(bytes) => Ok((bytes, 0)),
+        Err(status) => Err(status),
+    }
 }
 
 /// The bytes to write and the number of unknown verdicts, or the status in their place.

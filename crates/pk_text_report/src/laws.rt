@@ -2,6 +2,7 @@
 
 ghost use Rattle.pk_text_report.specs.Answers.{OneAnswer, WorkersTellNothing};
 
+use pk_cert_report::{one_answer_of_checks, one_cause, one_certificate};
 use pk_command::one_command;
 use pk_graph_report::one_report;
 use pk_text_graph::graph_is_determined;
@@ -13,6 +14,9 @@ pub fn answer_law()
     one_command();
     graph_is_determined();
     one_report();
+    one_cause();
+    one_certificate();
+    one_answer_of_checks();
 }
 
 /// Words that differ in the number of workers alone have the same answers.

@@ -1,10 +1,8 @@
-//! What is told of a text, and how a command ends.
+//! What is told of a text.
 #![tactic(auto)]
 
 mod answers;
 mod laws;
-mod status;
 
 pub use answers::told;
 pub use laws::{answer_law, workers_law};
-pub use status::Status;

@@ -4,6 +4,6 @@
 mod top;
 
 pub use pk_front::Refusal;
-pub use pk_text_report::Status;
+pub use pk_status::Status;
 pub use pk_workers::{Gate, NoGate};
 pub use top::pikos;
