@@ -1,9 +1,10 @@
 // Laws of reports.
 
-ghost use Rattle.pk_report_laws.specs.Runs.True.{AnswersAreTrue, ReportsAreTrue};
-ghost use Rattle.pk_report_laws.specs.Programs.ToldOfPrograms.{ReportsAreTrueOfPrograms};
-ghost use Rattle.pk_report_laws.specs.Programs.Faultless.{ProgramsAreFaultless};
+ghost use Rattle.pk_report_laws.specs.Runs.True.{AnswersAreTrue, CheckedCellsAreTrue, ReportsAreTrue};
+ghost use Rattle.pk_report_laws.specs.Programs.ToldOfPrograms.{ChecksAreTrueOfPrograms, ReportsAreTrueOfPrograms, TrueStatesAreTrueOfPrograms};
+ghost use Rattle.pk_report_laws.specs.Programs.Faultless.{ChecksAreFaultless, ProgramsAreFaultless, TrueStatesAreFaultless};
 
+use pk_cert_laws::{checked_cells_hold_runs, read_cells_hold_states};
 use pk_front::way_is_determined;
 use pk_sound::{bounds_hold, faults_are_unknown, result_holds_runs, verdicts_hold};
 use pk_text_graph::graphs_are_well_made;
@@ -29,23 +30,67 @@ pub fn answers_are_true()
     graphs_are_well_made();
 }
 
-/// What is told of a text's graph holds each visit of each run of the program, and each fault has a line that says unknown.
-pub fn reports_are_true_of_programs()
-    ensures { ReportsAreTrueOfPrograms }
+/// So do cells that are checked, whoever made them.
+pub fn checked_cells_are_true()
+    ensures { CheckedCellsAreTrue }
+{
+    checked_cells_hold_runs();
+}
+
+/// States that hold each run of a text's graph hold each visit of each run of the program, and each fault is at an access whose verdict by them is unknown.
+pub fn true_states_are_true_of_programs()
+    ensures { TrueStatesAreTrueOfPrograms }
 {
     texts_are_well_typed();
     units_are_marked();
     graphs_are_well_made();
-    reports_are_true();
     graphs_have_program_visits();
     programs_are_never_stuck();
     points_share_accesses();
 }
 
-/// Where the report on a text's graph has no unknown verdict, no run of the program fails.
+/// So do those of a report.
+pub fn reports_are_true_of_programs()
+    ensures { ReportsAreTrueOfPrograms }
+{
+    true_states_are_true_of_programs();
+    reports_are_true();
+    graphs_are_well_made();
+}
+
+/// And those of a check that ends well, whoever wrote the bytes.
+pub fn checks_are_true_of_programs()
+    ensures { ChecksAreTrueOfPrograms }
+{
+    true_states_are_true_of_programs();
+    checked_cells_are_true();
+    read_cells_hold_states();
+    graphs_are_well_made();
+}
+
+/// Where no verdict by such states is unknown, no run of the program fails.
+pub fn true_states_are_faultless()
+    ensures { TrueStatesAreFaultless }
+{
+    true_states_are_true_of_programs();
+    way_is_determined();
+}
+
+/// So where the report on a text's graph has no unknown verdict.
 pub fn programs_are_faultless()
     ensures { ProgramsAreFaultless }
 {
-    reports_are_true_of_programs();
-    way_is_determined();
+    true_states_are_faultless();
+    reports_are_true();
+    graphs_are_well_made();
+}
+
+/// And where a check tells none.
+pub fn checks_are_faultless()
+    ensures { ChecksAreFaultless }
+{
+    true_states_are_faultless();
+    checked_cells_are_true();
+    read_cells_hold_states();
+    graphs_are_well_made();
 }

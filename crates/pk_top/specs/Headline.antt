@@ -1,12 +1,11 @@
 -- What a call of the command has done, by the status that it gave.
-use Rattle.std.specs.Prelude.{◌≡◌, ℕ, ◌<◌, List, [], length, take}
+use Rattle.std.specs.Prelude.{◌≡◌, ◌⊎◌, ℕ, ◌<◌, List, [], length, take}
 use Rattle.std.specs.declared.option.Option.{Option}
 use Rattle.std.specs.Io.KnownBytes.{Appends, Keeps}
 use Rattle.pk_status.specs.declared.status.Status.{Status}
-use Rattle.pk_status.specs.declared.status.Status.TheVariants.{Ok, Usage, Refused, Limit, RunLimit, ReadFault, WriteFault, Memory}
-use Rattle.pk_ctypes.specs.declared.words.Quantity.TheVariants.{Text}
+use Rattle.pk_status.specs.declared.status.Status.TheVariants.{Ok, Usage, Refused, Limit, RunLimit, CertLimit, CertByte, CertState, CertFails, ReadFault, WriteFault, Memory}
 use Rattle.pk_command.specs.declared.asked.Command.{Command}
-use Rattle.pk_text_report.specs.Answers.{IsAnswer, IsLong, text_limit}
+use Rattle.pk_text_report.specs.Answers.{IsAnswer, IsLong, limit_of}
 
 abbrev pub IsSuccess : Status → Type 0
 IsSuccess (Ok unknown) = Unit {0}
@@ -14,6 +13,10 @@ IsSuccess Usage = ⊥
 IsSuccess (Refused refusal) = ⊥
 IsSuccess (Limit what number) = ⊥
 IsSuccess (RunLimit max_runs) = ⊥
+IsSuccess CertLimit = ⊥
+IsSuccess (CertByte offset) = ⊥
+IsSuccess (CertState point) = ⊥
+IsSuccess (CertFails point) = ⊥
 IsSuccess ReadFault = ⊥
 IsSuccess (WriteFault sent) = ⊥
 IsSuccess Memory = ⊥
@@ -43,6 +46,10 @@ Answers words text Usage before after = Gives words text Usage before after
 Answers words text (Refused refusal) before after = Gives words text (Refused refusal) before after
 Answers words text (Limit what number) before after = Gives words text (Limit what number) before after
 Answers words text (RunLimit max_runs) before after = Gives words text (RunLimit max_runs) before after
+Answers words text CertLimit before after = Gives words text CertLimit before after
+Answers words text (CertByte offset) before after = Gives words text (CertByte offset) before after
+Answers words text (CertState point) before after = Gives words text (CertState point) before after
+Answers words text (CertFails point) before after = Gives words text (CertFails point) before after
 
 -- at every status but a success and a fault of writing the sink is as it was
 abbrev pub KeepsUnlessTold : Status → Option (List ℕ) → Option (List ℕ) → Type 0
@@ -52,6 +59,10 @@ KeepsUnlessTold Usage before after = Keeps before after
 KeepsUnlessTold (Refused refusal) before after = Keeps before after
 KeepsUnlessTold (Limit what number) before after = Keeps before after
 KeepsUnlessTold (RunLimit max_runs) before after = Keeps before after
+KeepsUnlessTold CertLimit before after = Keeps before after
+KeepsUnlessTold (CertByte offset) before after = Keeps before after
+KeepsUnlessTold (CertState point) before after = Keeps before after
+KeepsUnlessTold (CertFails point) before after = Keeps before after
 KeepsUnlessTold ReadFault before after = Keeps before after
 KeepsUnlessTold Memory before after = Keeps before after
 
@@ -67,6 +78,10 @@ IsUntold words text Usage = IsAnswer words text Usage []
 IsUntold words text (Refused refusal) = IsAnswer words text (Refused refusal) []
 IsUntold words text (Limit what number) = IsAnswer words text (Limit what number) []
 IsUntold words text (RunLimit max_runs) = IsAnswer words text (RunLimit max_runs) []
+IsUntold words text CertLimit = IsAnswer words text CertLimit []
+IsUntold words text (CertByte offset) = IsAnswer words text (CertByte offset) []
+IsUntold words text (CertState point) = IsAnswer words text (CertState point) []
+IsUntold words text (CertFails point) = IsAnswer words text (CertFails point) []
 
 -- a status that ends a call before anything is written
 abbrev pub IsStop : Status → Type 0
@@ -76,27 +91,17 @@ IsStop Usage = Unit {0}
 IsStop (Refused refusal) = Unit {0}
 IsStop (Limit what number) = Unit {0}
 IsStop (RunLimit max_runs) = Unit {0}
+IsStop CertLimit = Unit {0}
+IsStop (CertByte offset) = Unit {0}
+IsStop (CertState point) = Unit {0}
+IsStop (CertFails point) = Unit {0}
 IsStop ReadFault = Unit {0}
 IsStop Memory = Unit {0}
 
--- the text of a source wasn't read: it is too long, or a read or the memory failed
-abbrev pub IsUnread : List ℕ → Status → Type 0
-IsUnread text (Ok unknown) = ⊥
-IsUnread text Usage = ⊥
-IsUnread text (Refused refusal) = ⊥
-IsUnread text (Limit what number) = (text_limit < length text) × (what ≡ Text) × (number ≡ text_limit)
-IsUnread text (RunLimit max_runs) = ⊥
-IsUnread text ReadFault = Unit {0}
-IsUnread text (WriteFault sent) = ⊥
-IsUnread text Memory = Unit {0}
+-- what a source tells wasn't read: it is more than so many bytes, and the status is the one for that, or a read or the memory failed
+abbrev pub IsUnread : (most : ℕ) → Status → List ℕ → Status → Type 0
+IsUnread most over text s = ((most < length text) × (s ≡ over)) ⊎ ((s ≡ ReadFault) ⊎ (s ≡ Memory))
 
 -- there is no text for a command
 abbrev pub IsTextless : List ℕ → Command → Status → Type 0
-IsTextless text command (Ok unknown) = ⊥
-IsTextless text command Usage = ⊥
-IsTextless text command (Refused refusal) = ⊥
-IsTextless text command (Limit what number) = IsLong text command × (what ≡ Text) × (number ≡ text_limit)
-IsTextless text command (RunLimit max_runs) = ⊥
-IsTextless text command ReadFault = Unit {0}
-IsTextless text command (WriteFault sent) = ⊥
-IsTextless text command Memory = Unit {0}
+IsTextless text command s = (IsLong text command × (s ≡ limit_of command)) ⊎ ((s ≡ ReadFault) ⊎ (s ≡ Memory))

@@ -5,15 +5,21 @@ ghost use Rattle.std.specs.Io.KnownBytes.{Keeps, IsAtEnd};
 ghost use Rattle.pk_command.specs.CommandLine.{is_taken};
 ghost use Rattle.pk_command.specs.Given.{AsksFor, IsInRange};
 ghost use Rattle.pk_io.specs.Causes.{Rose};
-ghost use Rattle.pk_text_report.specs.Answers.{IsAnswer, IsShort, AskAbout, AskNoSource, IsMaking, text_of, text_limit};
+ghost use Rattle.pk_ctypes.specs.declared.words.Quantity.TheVariants.{Text};
+ghost use Rattle.pk_cert_cells.specs.Cells.{most_bytes};
+ghost use Rattle.pk_text_report.specs.Answers.{IsAnswer, IsShort, AskAbout, AskNoSource, IsMaking, text_limit, text_of};
 ghost use Rattle.pk_top.specs.Headline.{Answers, Gives, IsStop, IsSuccess, IsTextless, IsUnread, IsUntold, KeepsUnlessTold};
 ghost use Rattle.pk_top.specs.Truth.{AskFaultless, AskInRange, TellsTruth};
 
+use pk_cert_cells::MOST_BYTES;
 use pk_command::{Command, WordsError, read_words};
 use pk_ctypes::Quantity;
 use pk_gen::generate;
 use pk_io::{ReadError, Sink, Source, read_all, write_all};
-use pk_report_laws::{programs_are_faultless, reports_are_true_of_programs};
+use pk_report_laws::{
+    checks_are_faultless, checks_are_true_of_programs, programs_are_faultless,
+    reports_are_true_of_programs,
+};
 use pk_status::Status;
 use pk_text_report::told;
 use pk_workers::Gate;
@@ -42,7 +48,8 @@ fn command(alloc: Global, words: &[String]) -> Result<Command, Status>
 fn source_text<S: Source>(alloc: Global, src: &mut S) -> Result<Vec<u8>, Status>
     ensures text { (t : List ℕ) → S.left src.old ≡ Some t → IfOk result (λ bytes. bytes.items ≡ t) }
     ensures short { IfOk result (λ bytes. length bytes.items ≤ text_limit) }
-    ensures none { (t : List ℕ) → S.left src.old ≡ Some t → IfErr result (IsUnread t) }
+    ensures none { (t : List ℕ) → S.left src.old ≡ Some t →
+        IfErr result (IsUnread text_limit (Status.Limit Text text_limit) t) }
     ensures stop { IfErr result IsStop }
     ensures fault { result ≡ Err Status.ReadFault → Rose (S.faults src.old) (S.faults src.new) }
     ensures usage { result ≡ Err Status.Usage → ⊥ }
@@ -59,7 +66,26 @@ fn source_text<S: Source>(alloc: Global, src: &mut S) -> Result<Vec<u8>, Status>
     }
 }
 
-// The text that a command is about.
+// The whole certificate of a source.
+fn source_certificate<S: Source>(alloc: Global, src: &mut S) -> Result<Vec<u8>, Status>
+    ensures text { (t : List ℕ) → S.left src.old ≡ Some t → IfOk result (λ bytes. bytes.items ≡ t) }
+    ensures short { IfOk result (λ bytes. length bytes.items ≤ most_bytes) }
+    ensures none { (t : List ℕ) → S.left src.old ≡ Some t →
+        IfErr result (IsUnread most_bytes Status.CertLimit t) }
+    ensures stop { IfErr result IsStop }
+    ensures fault { result ≡ Err Status.ReadFault → Rose (S.faults src.old) (S.faults src.new) }
+    ensures usage { result ≡ Err Status.Usage → ⊥ }
+    ensures whole { OnOk result (IsAtEnd (S.left src.new)) }
+{
+    match read_all(alloc, src, MOST_BYTES) {
+        Ok(bytes) => Ok(bytes),
+        Err(ReadError::ReadFault) => Err(Status::ReadFault),
+        Err(ReadError::Memory) => Err(Status::Memory),
+        Err(ReadError::TooLong) => Err(Status::CertLimit),
+    }
+}
+
+// What a command is about.
 fn text<S: Source>(alloc: Global, command: &Command, src: &mut S) -> Result<Vec<u8>, Status>
     requires range { IsInRange command.now }
     ensures text { (t : List ℕ) → text_of command.now (S.left src.old) ≡ Some t →
@@ -77,6 +103,8 @@ fn text<S: Source>(alloc: Global, command: &Command, src: &mut S) -> Result<Vec<
         Command::Run(_) => source_text(alloc, src),
         Command::Order(_) => source_text(alloc, src),
         Command::Gen(options) => Ok(generate(alloc, options.seed, options.size)?),
+        Command::Cert(_) => source_text(alloc, src),
+        Command::Check => source_certificate(alloc, src),
     }
 }
 
@@ -119,12 +147,12 @@ pub fn pikos<R: Threads + Wait + Sync, S: Source, K: Sink, G: Gate + Sync>(
     ensures answer { (text : List ℕ) → AskAbout (map string_bytes words.now) (S.left src.old) text →
         Answers (map string_bytes words.now) text result (K.written out.old) (K.written out.new) }
 
-    // At a success what was written is true of every run of the C program that the text is: of what its visits know, and of the fault at its end.
+    // At a success what was written is true of every run of the C program that the text is, or that stands in the certificate that was checked: of what its visits know, and of the fault at its end.
     ensures truth { (text : List ℕ) → AskAbout (map string_bytes words.now) (S.left src.old) text → (unknown : ℕ) →
         result ≡ Status.Ok unknown →
         TellsTruth (map string_bytes words.now) text unknown (K.written out.old) (K.written out.new) }
 
-    // At a success with no unknown verdict no run of the C program that the text is fails.
+    // At a success with no unknown verdict no run of that program fails.
     ensures no_fault { (text : List ℕ) → AskAbout (map string_bytes words.now) (S.left src.old) text →
         result ≡ Status.Ok 0 → AskFaultless (map string_bytes words.now) text }
 
@@ -154,6 +182,8 @@ pub fn pikos<R: Threads + Wait + Sync, S: Source, K: Sink, G: Gate + Sync>(
 {
     reports_are_true_of_programs();
     programs_are_faultless();
+    checks_are_true_of_programs();
+    checks_are_faultless();
     let (bytes, unknown) = match make(rt, alloc, words, src, gate) {
         Ok(made) => made,
         Err(status) => return status,

@@ -33,7 +33,7 @@ use Rattle.pk_sound.proofs.Accesses.{points_are_there}
 use Rattle.pk_report_laws.specs.Runs.True.{IsUnknownIn, ReportsAreTrue}
 
 -- a run comes to points of the graph alone
-there : (g : GraphOf) (v : ℕ) (s : Stored) → IsGraph g → Reaches g v s → v < length g.points
+pub there : (g : GraphOf) (v : ℕ) (s : Stored) → IsGraph g → Reaches g v s → v < length g.points
 there g v s made (begins h) = made.entry
 there g v t made (steps {p = p} {s = s} {e = e} chosen h has goes) =
     let point = All-get_or (IsPointOf g) g.points p no_point (there g p s made h) made.points in

@@ -14,6 +14,8 @@ use Rattle.pk_report.specs.Reports.{unknown_in}
 use Rattle.pk_graph_report.specs.Reported.{verdicts_of}
 use Rattle.pk_solver.specs.Solved.{AreStates}
 use Rattle.pk_text_graph.specs.Graphs.{HasGraph}
+use Rattle.pk_cert_report.specs.Checked.{IsValid}
+use Rattle.pk_report_laws.specs.Runs.True.{AreTrueOf}
 use Rattle.pk_meaning.specs.Programs.{Program}
 use Rattle.pk_meaning.specs.Runs.{Visit, start, Runs}
 use Rattle.pk_meaning.specs.Steps.{Config, Faulted, step}
@@ -30,9 +32,20 @@ IsFaultless text entry =
     (unit : UnitTree) (paths : List CallPath) → HasPaths text entry unit paths →
     NoRunFails (record { unit = unit; paths = paths })
 
--- A text is so where the report on its graph has no unknown verdict.
+-- A text is so where states of its graph's points are true of its runs, and no verdict by them is unknown.
+abbrev pub TrueStatesAreFaultless : Type 0
+TrueStatesAreFaultless =
+    (text entry : List ℕ) (g : GraphOf) → HasGraph text entry g → (states : List Stated) → AreTrueOf g states →
+    unknown_in (verdicts_of g states) ≡ 0 → IsFaultless text entry
+
+-- So where the report on its graph has no unknown verdict.
 abbrev pub ProgramsAreFaultless : Type 0
 ProgramsAreFaultless =
     (text entry : List ℕ) (g : GraphOf) → HasGraph text entry g → (o : Options) (most : ℕ) (p : PlanView)
     (states : List Stated) → o.oct < 2 ^ 31 → AreStates g o most p states → unknown_in (verdicts_of g states) ≡ 0
     → IsFaultless text entry
+
+-- And so where a check of bytes tells none: of the text in their head.
+abbrev pub ChecksAreFaultless : Type 0
+ChecksAreFaultless =
+    (bytes told : List ℕ) (x : IsValid bytes 0 told) → IsFaultless x.head.text x.head.entry

@@ -26,6 +26,8 @@ use Rattle.pk_visits.specs.SameVisits.{ProgramVisits, EndsAt, HaveSameVisits}
 use Rattle.pk_visits.specs.NeverStuck.{IsNeverStuck}
 use Rattle.pk_report_laws.specs.Runs.True.{AreTrueOf}
 use Rattle.pk_text_graph.specs.Graphs.{HasGraph}
+use Rattle.pk_transfer.specs.Graphs.{layout_of}
+use Rattle.pk_cert_report.specs.Checked.{reduced_states, IsValid}
 
 -- ---- visits
 
@@ -131,9 +133,21 @@ pub record IsTrueOfProgram (p : Program) (g : GraphOf) (states : List Stated) : 
 abbrev pub program_of : {text entry : List ℕ} {g : GraphOf} → HasGraph text entry g → Program
 program_of h = record { unit = h.unit; paths = h.paths }
 
--- The states that are told of a text's graph are true of every run of the program that the text is.
+-- States of the points of a text's graph that are true of its runs are true of every run of the program that the text is.
+abbrev pub TrueStatesAreTrueOfPrograms : Type 0
+TrueStatesAreTrueOfPrograms =
+    (text entry : List ℕ) (g : GraphOf) (h : HasGraph text entry g) (states : List Stated) → AreTrueOf g states
+    → IsTrueOfProgram (program_of h) g states
+
+-- So are those that a report tells.
 abbrev pub ReportsAreTrueOfPrograms : Type 0
 ReportsAreTrueOfPrograms =
     (text entry : List ℕ) (g : GraphOf) (h : HasGraph text entry g) (o : Options) (most : ℕ) (p : PlanView)
     (states : List Stated) → o.oct < 2 ^ 31 → AreStates g o most p states
     → IsTrueOfProgram (program_of h) g states
+
+-- And so are those by which a check of bytes tells its verdicts, reduced, whoever wrote the bytes.
+abbrev pub ChecksAreTrueOfPrograms : Type 0
+ChecksAreTrueOfPrograms =
+    (bytes : List ℕ) (unknown : ℕ) (told : List ℕ) (x : IsValid bytes unknown told) →
+    IsTrueOfProgram (program_of x.of_graph.has_graph) x.graph (reduced_states (layout_of x.graph x.head.oct) x.cells)

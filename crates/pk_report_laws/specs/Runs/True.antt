@@ -1,5 +1,5 @@
 -- What a report tells is true of every run of the graph.
-use Rattle.std.specs.Prelude.{◌≡◌, ◌⊎◌, ℕ, ℤ, ◌<◌, ◌^◌, List, Contains}
+use Rattle.std.specs.Prelude.{◌≡◌, ◌⊎◌, ℕ, ℤ, ◌<◌, ◌^◌, List, length, Contains, None}
 use Rattle.pk_graph.specs.declared.verdicts.Verdict.TheVariants.{Safe, Unknown, Unreachable}
 use Rattle.pk_graph.specs.Accesses.{AccessOf, accesses_of}
 use Rattle.pk_graph.specs.Graphs.{EdgeOf, GraphOf, point_at, kinds_of}
@@ -7,6 +7,8 @@ use Rattle.pk_graph.specs.Steps.{Numbers, Failure, Faulted, effect}
 use Rattle.pk_graph.specs.Stores.{Stored, storing, IsStore}
 use Rattle.pk_graph.specs.WellMade.{IsGraph}
 use Rattle.pk_state.specs.Facts.{Stated}
+use Rattle.pk_transfer.specs.Graphs.{layout_of}
+use Rattle.pk_phases.specs.declared.equations.Cell.{Cell}
 use Rattle.pk_plan.specs.Plans.{PlanView}
 use Rattle.pk_command.specs.declared.asked.RunOptions.{RunOptions}
 use Rattle.pk_analysis.specs.declared.analysis.Options.{Options}
@@ -19,6 +21,8 @@ use Rattle.pk_sound.specs.Held.{Agrees}
 use Rattle.pk_sound.specs.Verdicts.{FaultsIn, IsEvaluatedIn}
 use Rattle.pk_sound.specs.Bounds.{IsDecidedWithin}
 use Rattle.pk_sound.specs.Faults.{IsHidden, IsFailing}
+use Rattle.pk_cert_check.specs.Checked.{HoldStates, IsChecked}
+use Rattle.pk_cert_report.specs.Checked.{reduced_states}
 use Rattle.pk_text_report.specs.Answers.{IsRun}
 
 -- the verdict on an access of point p is that nothing is known
@@ -52,3 +56,10 @@ abbrev pub AnswersAreTrue : Type 0
 AnswersAreTrue =
     (text : List ℕ) (o : RunOptions) (unknown : ℕ) (bytes : List ℕ) (run : IsRun text o unknown bytes) →
     o.oct < 2 ^ 31 → AreTrueOf run.graph run.report.states
+
+-- cells that solve the equations of such a graph, reduced, whoever made them
+abbrev pub CheckedCellsAreTrue : Type 0
+CheckedCellsAreTrue =
+    (g : GraphOf) (oct : ℕ) (cells : List (Cell Stated)) → IsGraph g → oct < 2 ^ 31 →
+    HoldStates (layout_of g oct) (length g.points) cells → IsChecked g (layout_of g oct) cells None →
+    AreTrueOf g (reduced_states (layout_of g oct) cells)

@@ -28,7 +28,7 @@ returns-clause-truth g c = λ text about unknown is. absurd (cc)
 
 pub returns-in-Ok-write_all-clause-truth : goal.returns-in-Ok-write_all-clause-truth
 returns-in-Ok-write_all-clause-truth g c = λ text about unknown is.
-    truthful c.reports_are_true_of_programs.ensures (map string_bytes c.args.words.now) text c.in-Ok.made.1 unknown c.in-Ok.made.0.items c.deref.result.now (g.K.Sink.written c.args.out.now) (g.K.Sink.written c.write_all.new.out)
+    truthful c.reports_are_true_of_programs.ensures c.checks_are_true_of_programs.ensures (map string_bytes c.args.words.now) text c.in-Ok.made.1 unknown c.in-Ok.made.0.items c.deref.result.now (g.K.Sink.written c.args.out.now) (g.K.Sink.written c.write_all.new.out)
     is c.in-Ok.ensures.range (c.in-Ok.ensures.made text about) c.deref.ensures.value c.in-Ok-write_all.ensures.all
 
 pub returns-in-Err-clause-no_fault : goal.returns-in-Err-clause-no_fault
@@ -39,7 +39,7 @@ returns-clause-no_fault g c = λ text about is. absurd (cc)
 
 pub returns-in-Ok-write_all-clause-no_fault : goal.returns-in-Ok-write_all-clause-no_fault
 returns-in-Ok-write_all-clause-no_fault g c = λ text about is.
-    no_fault c.programs_are_faultless.ensures (map string_bytes c.args.words.now) text c.in-Ok.made.1 c.in-Ok.made.0.items is c.in-Ok.ensures.range (c.in-Ok.ensures.made text about)
+    no_fault c.programs_are_faultless.ensures c.checks_are_faultless.ensures (map string_bytes c.args.words.now) text c.in-Ok.made.1 c.in-Ok.made.0.items is c.in-Ok.ensures.range (c.in-Ok.ensures.made text about)
 
 -- a success: written out, so that a wrong body is refused at once
 
