@@ -3,3 +3,5 @@ mod Stops
 mod Analysing
 mod Replying
 mod Limiting
+mod Checking
+mod Certifying

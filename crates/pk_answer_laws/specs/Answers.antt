@@ -1,7 +1,7 @@
 -- Words and a text have an answer.
 use Rattle.std.specs.Prelude.{ℕ, List}
 use Rattle.pk_command.specs.declared.asked.Command.{Command}
-use Rattle.pk_command.specs.declared.asked.Command.TheVariants.{Order}
+use Rattle.pk_command.specs.declared.asked.Command.TheVariants.{Order, Check}
 use Rattle.pk_command.specs.declared.asked.OrderOptions.{OrderOptions}
 use Rattle.pk_command.specs.Given.{AsksFor}
 use Rattle.pk_graph.specs.Graphs.{GraphOf}
@@ -24,6 +24,10 @@ pub record HasReply (command : Command) (text : List ℕ) : Type 0 where
 -- an order of whatever text
 abbrev pub OrdersAreAnswered : Type 0
 OrdersAreAnswered = (text : List ℕ) (o : OrderOptions) → HasReply (Order o) text
+
+-- a check of whatever bytes
+abbrev pub ChecksAreAnswered : Type 0
+ChecksAreAnswered = (bytes : List ℕ) → HasReply Check bytes
 
 -- each command about a text whose graphs have room
 abbrev pub CommandsAreAnswered : Type 0

@@ -2,15 +2,23 @@
 
 ghost use Rattle.pk_answer_laws.specs.Analyses.{EveryGraphIsOrdered, EveryGraphIsReported, EveryGraphIsSummed};
 ghost use Rattle.pk_answer_laws.specs.Limits.{CutOffsAreLow, EnoughIsReported, EnoughIsSummed, EveryGraphHasLimits};
+ghost use Rattle.pk_answer_laws.specs.Certificates.{CertificatesAreChecked};
 ghost use Rattle.pk_answer_laws.specs.Rooms.{ShortGraphsHaveRoom};
-ghost use Rattle.pk_answer_laws.specs.Answers.{CommandsAreAnswered, OrdersAreAnswered, ShortGraphsAreAnswered, WordsAreAnswered, WordsForOrdersAreAnswered};
+ghost use Rattle.pk_answer_laws.specs.Answers.{ChecksAreAnswered, CommandsAreAnswered, OrdersAreAnswered, ShortGraphsAreAnswered, WordsAreAnswered, WordsForOrdersAreAnswered};
 
 use pk_analysis_laws::limits_are_low;
+use pk_cert::every_head_ends;
+use pk_cert_cells::every_reading_ends;
+use pk_cert_check::every_check_ends;
+use pk_cert_laws::{read_cells_hold_states, results_check_well};
 use pk_command::taken_asks;
 use pk_order::order_is_determined;
 use pk_order_laws::every_digraph_has_an_order;
 use pk_text_graph::graphs_are_well_made;
 use pk_text_laws::every_text_ends;
+use pk_solver::raw_cells_are_determined;
+use pk_transfer::graphs_law;
+use pk_unit_texts::entries_are_names;
 
 /// Memory has room for every graph with no list as long as 2^63.
 pub fn short_graphs_have_room()
@@ -79,11 +87,25 @@ pub fn orders_are_answered()
     graphs_are_well_made();
 }
 
+/// A check of whatever bytes has a reply.
+pub fn checks_are_answered()
+    ensures { ChecksAreAnswered }
+{
+    every_text_ends();
+    graphs_are_well_made();
+    graphs_law();
+    every_head_ends();
+    every_reading_ends();
+    read_cells_hold_states();
+    every_check_ends();
+}
+
 /// Each command about a text whose graphs memory has room for has a reply.
 pub fn commands_are_answered()
     ensures { CommandsAreAnswered }
 {
     orders_are_answered();
+    checks_are_answered();
     every_graph_is_reported();
     every_graph_is_summed();
     every_text_ends();
@@ -112,4 +134,14 @@ pub fn short_graphs_are_answered()
     words_are_answered();
     short_graphs_have_room();
     graphs_are_well_made();
+}
+
+/// A certificate of a text is checked well, with the verdicts of the report by the same options.
+pub fn certificates_are_checked()
+    ensures { CertificatesAreChecked }
+{
+    results_check_well();
+    raw_cells_are_determined();
+    graphs_are_well_made();
+    entries_are_names();
 }

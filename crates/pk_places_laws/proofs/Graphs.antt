@@ -143,7 +143,7 @@ name_in : (N : List ℕ → Type 0) (o : Option FunctionTree) → is_some (optio
 name_in N None h k = absurd (cc h)
 name_in N (Some g) h k = k.name
 
-name_told : (N : List ℕ → Type 0) (u : UnitTree) (f : ℕ) → HasBody u f → All (names.InFunction N) u.functions → N (name_of u f)
+pub name_told : (N : List ℕ → Type 0) (u : UnitTree) (f : ℕ) → HasBody u f → All (names.InFunction N) u.functions → N (name_of u f)
 unfolding name_of body_of
 name_told N u f h k = name_in N (slice_get u.functions f) h (at_number (names.InFunction N) u.functions f k)
 

@@ -3,7 +3,8 @@ use Rattle.std.specs.Prelude.{◌≡◌, ℕ, true, List}
 use Rattle.pk_ctypes.specs.declared.places.Pos.{Pos}
 use Rattle.pk_lex.specs.Words.{is_name}
 use Rattle.pk_typed.specs.Trees.{UnitTree}
-use Rattle.pk_front.specs.Texts.{HasUnit}
+use Rattle.pk_calls.specs.declared.listings.CallPath.{CallPath}
+use Rattle.pk_front.specs.Texts.{HasPaths, HasUnit}
 use Rattle.pk_places_laws.specs.Names as names
 use Rattle.pk_places_laws.specs.Places as places
 use Rattle.pk_unit_texts.specs.Standing.{IsPlaceIn, IsBounded}
@@ -12,6 +13,12 @@ use Rattle.pk_unit_texts.specs.Standing.{IsPlaceIn, IsBounded}
 abbrev pub UnitsHaveNames : Type 0
 UnitsHaveNames =
     (text : List ℕ) (u : UnitTree) → HasUnit text u → names.InUnit (λ name. is_name name ≡ true) u
+
+-- so the function with which the runs of a text begin has such a name
+abbrev pub EntriesAreNames : Type 0
+EntriesAreNames =
+    (text entry : List ℕ) (u : UnitTree) (paths : List CallPath) → HasPaths text entry u paths →
+    is_name entry ≡ true
 
 -- each of its places stands in the text
 abbrev pub UnitsHavePlaces : Type 0

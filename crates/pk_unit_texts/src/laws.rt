@@ -1,6 +1,6 @@
 // Laws of the typed units of texts.
 
-ghost use Rattle.pk_unit_texts.specs.Laws.{UnitsHaveNames, UnitsHavePlaces, PlacesAreBounded};
+ghost use Rattle.pk_unit_texts.specs.Laws.{EntriesAreNames, UnitsHaveNames, UnitsHavePlaces, PlacesAreBounded};
 
 use pk_text_laws::names_stand_in_texts;
 
@@ -9,6 +9,13 @@ pub fn units_have_names()
     ensures { UnitsHaveNames }
 {
     names_stand_in_texts();
+}
+
+/// So is the name of the function with which the runs of a text begin.
+pub fn entries_are_names()
+    ensures { EntriesAreNames }
+{
+    units_have_names();
 }
 
 /// Each place of the typed unit of a text is the place of a byte of the text, or that of its end.

@@ -3,4 +3,4 @@
 
 mod laws;
 
-pub use laws::{places_are_bounded, units_have_names, units_have_places};
+pub use laws::{entries_are_names, places_are_bounded, units_have_names, units_have_places};
