@@ -15,7 +15,7 @@ use Rattle.pk_cert_states.specs.Parts.{AreIn}
 use Rattle.pk_cert_states.specs.Laws.{EveryLineIsSettled}
 use Rattle.pk_cert_states.proofs.Fours.{four_if}
 use Rattle.pk_cert_states.proofs.Reading.{in_kinds, in_types, sized, types_of}
-use Rattle.pk_cert_states.proofs.Told.{Told, told_both, told_as}
+use Rattle.pk_cert_states.proofs.Told.{Told, told_and, told_as}
 use Rattle.pk_cert_states.proofs.ToldValues.{HaveValues, told_values, values_in, values_of}
 use Rattle.pk_cert_states.proofs.ToldBounds.{told_octagon}
 
@@ -93,8 +93,8 @@ module _ (l : Layout) (ks : Kinds) (types : l.types ≡ map (λ (k : Kind). k.in
   told_symbols : Told (IsOf l ks zs)
   told_symbols =
       told_as Parts (IsOf l ks zs) of_parts parts_of
-      (told_both (HaveValues ks (take (many false ks) zs) (take (many true ks) behind)) (IsOctagon record { vars = length l.chosen; cells = drop (many true ks) behind })
-      (told_values ks (take (many false ks) zs) (take (many true ks) behind)) (told_octagon (length l.chosen) (drop (many true ks) behind)))
+      (told_and (HaveValues ks (take (many false ks) zs) (take (many true ks) behind)) (IsOctagon record { vars = length l.chosen; cells = drop (many true ks) behind })
+      (told_values ks (take (many false ks) zs) (take (many true ks) behind)) (λ _. told_octagon (length l.chosen) (drop (many true ks) behind)))
 
 -- ---- the law
 

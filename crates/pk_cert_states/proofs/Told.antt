@@ -1,31 +1,34 @@
 -- What is told: it holds or it doesn't.
-use Rattle.std.specs.Prelude.{◌≡◌, ◌⊎◌, ℕ, zero, suc, ◌<◌, ℤ, ◌≤ℤ◌, ◌<ℤ◌, Option, Some, None}
+use Rattle.std.specs.Prelude.{◌≡◌, ◌⊎◌, ℕ, zero, suc, ◌<◌, ℤ, ◌≤ℤ◌, ◌<ℤ◌, Bool, true, false, Option, Some, None}
+use Rattle.std.specs.Bool.{Decides}
 use Rattle.std.specs.Ordering.{int_eq}
 use Rattle.std.proofs.Common.{arith, refl, ap, sym, subst, inl, inr}
-use Rattle.std.proofs.lemmas.Bool.{cases_eq, cases_lt, cases_Bool}
+use Rattle.std.proofs.lemmas.Bool.{cases_eq}
 use Rattle.std.proofs.lemmas.Bool.Decides.{Decides-int_eq}
 use Rattle.std.proofs.lemmas.Int.{ints, by_lt_z}
 
 abbrev pub Told : Type 0 → Type 0
 Told P = P ⊎ (P → ⊥)
 
-pub told_both : (A B : Type 0) → Told A → Told B → Told (A × B)
-told_both A B (inl a) (inl b) = inl (a, b)
-told_both A B (inl a) (inr never) = inr (λ p. never p.1)
-told_both A B (inr never) b = inr (λ p. never p.0)
+-- the same in other words
+pub told_as : (A B : Type 0) → (A → B) → (B → A) → Told A → Told B
+told_as A B on back (inl a) = inl (on a)
+told_as A B on back (inr never) = inr (λ b. never (back b))
+
+-- the second where the first holds
+pub told_and : (A B : Type 0) → Told A → (A → Told B) → Told (A × B)
+told_and A B (inl a) b = told_as B (A × B) (λ y. (a, y)) (λ p. p.1) (b a)
+told_and A B (inr never) b = inr (λ p. never p.0)
 
 pub told_either : (A B : Type 0) → Told A → Told B → Told (A ⊎ B)
 told_either A B (inl a) b = inl (inl a)
 told_either A B (inr never) (inl b) = inl (inr b)
 told_either A B (inr never) (inr none) = inr (λ p. elim p [ inl a ↦ never a | inr b ↦ none b ])
 
--- the same in other words
-pub told_as : (A B : Type 0) → (A → B) → (B → A) → Told A → Told B
-told_as A B on back (inl a) = inl (on a)
-told_as A B on back (inr never) = inr (λ b. never (back b))
-
-pub told_lt : (a b : ℕ) → Told (a < b)
-told_lt a b = elim (cases_lt a b) [ inl l ↦ inl l | inr m ↦ inr (λ l. absurd (omega (arith, l, m))) ]
+-- by a test
+pub told_by : (A : Type 0) (b : Bool) → Decides b A → Told A
+told_by A true d = inl (d.0 refl)
+told_by A false d = inr (λ h. let t = d.1 h in cc)
 
 pub told_most : (a b : ℤ) → Told (a ≤ℤ b)
 told_most a b = by_lt_z b a (λ l. inr (λ h. absurd (omega (arith, ints, l, h)))) (λ h. inl h)
@@ -34,10 +37,7 @@ pub told_less : (a b : ℤ) → Told (a <ℤ b)
 told_less a b = by_lt_z a b (λ l. inl l) (λ h. inr (λ l. absurd (omega (arith, ints, l, h))))
 
 pub told_equal : (a b : ℤ) → Told (a ≡ b)
-told_equal a b = elim (cases_Bool (int_eq a b)) [
-  | inl t ↦ inl ((Decides-int_eq a b).0 t)
-  | inr f ↦ inr (λ e. let t = (Decides-int_eq a b).1 e in cc)
-]
+told_equal a b = told_by (a ≡ b) (int_eq a b) (Decides-int_eq a b)
 
 pub told_bound : (a b : Option ℤ) → Told (a ≡ b)
 told_bound None None = inl refl

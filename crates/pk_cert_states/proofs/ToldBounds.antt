@@ -1,15 +1,16 @@
 -- Whether numbers are the bounds of an octagon.
-use Rattle.std.specs.Prelude.{◌≡◌, ℕ, ◌<◌, ◌≤◌, ◌*◌, ◌^◌, ℤ, pos, ◌-ℤ◌, ◌≤ℤ◌, List, length, Option, Some, None}
+use Rattle.std.specs.Prelude.{◌≡◌, ℕ, ◌<◌, ◌≤◌, ◌*◌, ◌^◌, nat_lt, ℤ, pos, ◌-ℤ◌, ◌≤ℤ◌, List, length, Option, Some, None}
 use Rattle.std.proofs.Common.{arith, refl, sym, subst, ◌∙◌, inl, inr}
 use Rattle.std.proofs.lemmas.Bool.{cases_eq, cases_lt}
+use Rattle.std.proofs.lemmas.Bool.Decides.{Decides-ltb}
 use Rattle.pk_octmat.specs.Bounds.{IsNear}
 use Rattle.pk_octmat.specs.Octagon.{IsOctagon, bar, cell_at}
 use Rattle.pk_octmat.proofs.Cells.{cell_row_out, cell_column_out}
-use Rattle.pk_cert_states.proofs.Told.{Told, told_both, told_as, told_lt, told_most, told_bound, told_below}
+use Rattle.pk_cert_states.proofs.Told.{Told, told_and, told_as, told_by, told_most, told_bound, told_below}
 
 told_near : (z : Option ℤ) → Told (IsNear (2 ^ 66) z)
 told_near None = inl tt
-told_near (Some z) = told_both ((pos 0 -ℤ pos (2 ^ 66)) ≤ℤ z) (z ≤ℤ pos (2 ^ 66)) (told_most (pos 0 -ℤ pos (2 ^ 66)) z) (told_most z (pos (2 ^ 66)))
+told_near (Some z) = told_and ((pos 0 -ℤ pos (2 ^ 66)) ≤ℤ z) (z ≤ℤ pos (2 ^ 66)) (told_most (pos 0 -ℤ pos (2 ^ 66)) z) (λ _. told_most z (pos (2 ^ 66)))
 
 -- what an octagon's bound is at a place
 record IsGood (d : ℕ) (cells : List (Option ℤ)) (i j : ℕ) : Type 0 where
@@ -29,8 +30,8 @@ told_good d cells i j =
     let there : Option ℤ = cell_at d cells (bar j) (bar i) in
     told_as (IsNear (2 ^ 66) here × ((here ≡ there) × (i ≡ j → here ≡ Some (pos 0)))) (IsGood d cells i j)
     (λ p. record { near = p.0; turned = p.1.0; zero = p.1.1 }) (λ h. (h.near, (h.turned, h.zero)))
-    (told_both (IsNear (2 ^ 66) here) ((here ≡ there) × (i ≡ j → here ≡ Some (pos 0))) (told_near here)
-    (told_both (here ≡ there) (i ≡ j → here ≡ Some (pos 0)) (told_bound here there) (told_zero i j here)))
+    (told_and (IsNear (2 ^ 66) here) ((here ≡ there) × (i ≡ j → here ≡ Some (pos 0))) (told_near here)
+    (λ _. told_and (here ≡ there) (i ≡ j → here ≡ Some (pos 0)) (told_bound here there) (λ _. told_zero i j here)))
 
 abbrev AreGood : ℕ → List (Option ℤ) → Type 0
 AreGood d cells = (i : ℕ) → i < d → (j : ℕ) → j < d → IsGood d cells i j
@@ -75,6 +76,6 @@ module _ (n : ℕ) (cells : List (Option ℤ)) where
           },
         ),
       ))
-      (told_both (n < 2 ^ 31) ((length cells ≡ 2 * n * (2 * n)) × AreGood (2 * n) cells) (told_lt n (2 ^ 31))
-      (told_both (length cells ≡ 2 * n * (2 * n)) (AreGood (2 * n) cells) (cases_eq (length cells) (2 * n * (2 * n)))
-      (told_below (λ (i : ℕ). (j : ℕ) → j < 2 * n → IsGood (2 * n) cells i j) (λ i. told_below (IsGood (2 * n) cells i) (told_good (2 * n) cells i) (2 * n)) (2 * n))))
+      (told_and (n < 2 ^ 31) ((length cells ≡ 2 * n * (2 * n)) × AreGood (2 * n) cells) (told_by (n < 2 ^ 31) (nat_lt n (2 ^ 31)) (Decides-ltb n (2 ^ 31)))
+      (λ _. told_and (length cells ≡ 2 * n * (2 * n)) (AreGood (2 * n) cells) (cases_eq (length cells) (2 * n * (2 * n)))
+      (λ _. told_below (λ (i : ℕ). (j : ℕ) → j < 2 * n → IsGood (2 * n) cells i j) (λ i. told_below (IsGood (2 * n) cells i) (told_good (2 * n) cells i) (2 * n)) (2 * n))))

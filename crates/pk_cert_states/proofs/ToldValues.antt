@@ -1,5 +1,6 @@
 -- Whether numbers are those of values of the variables' types.
-use Rattle.std.specs.Prelude.{◌≡◌, ◌⊎◌, ℕ, zero, suc, ◌<◌, ◌^◌, true, false, ℤ, pos, ◌≤ℤ◌, ◌<ℤ◌, unsigned_abs, List, [], ◌∷◌, ◌++◌, length, Option, Some, None}
+use Rattle.std.specs.Prelude.{◌≡◌, ◌⊎◌, ℕ, zero, suc, ◌<◌, ◌^◌, nat_lt, true, false, ℤ, pos, ◌≤ℤ◌, ◌<ℤ◌, unsigned_abs, List, [], ◌∷◌, ◌++◌, length, Option, Some, None}
+use Rattle.std.proofs.lemmas.Bool.Decides.{Decides-ltb}
 use Rattle.std.proofs.Common.{arith, refl, sym, ap, subst, ◌∙◌, inl, inr}
 use Rattle.pk_ctypes.specs.declared.types.IntType.{IntType}
 use Rattle.pk_ctypes.specs.Types.{InType}
@@ -11,29 +12,32 @@ use Rattle.pk_state.specs.Changes.{IsValue}
 use Rattle.pk_cert_states.specs.Lines.{four_of, fours_of}
 use Rattle.pk_cert_states.specs.Parts.{known_at, AreIn}
 use Rattle.pk_cert_states.proofs.Fours.{parted_same, same_four}
-use Rattle.pk_cert_states.proofs.Told.{Told, told_both, told_either, told_as, told_lt, told_most, told_less, told_equal}
+use Rattle.pk_cert_states.proofs.Told.{Told, told_and, told_either, told_as, told_by, told_most, told_less, told_equal}
 
 -- ---- one value
 
 told_in_type : (t : IntType) (z : ℤ) → Told (InType t z)
 told_in_type t z = elim (cases_of_type t z) [ inl h ↦ inl h | inr n ↦ inr n.1 ]
 
+told_small : (z : ℤ) → Told (unsigned_abs z < 2 ^ 127)
+told_small z = told_by (unsigned_abs z < 2 ^ 127) (nat_lt (unsigned_abs z) (2 ^ 127)) (Decides-ltb (unsigned_abs z) (2 ^ 127))
+
 told_reduced : (m r : ℤ) → Told (IsReduced m r)
 told_reduced m r =
     told_as ((pos 0 ≤ℤ m) × (((m ≡ pos 0) ⊎ ((pos 0 ≤ℤ r) × (r <ℤ m))) × ((unsigned_abs m < 2 ^ 127) × (unsigned_abs r < 2 ^ 127)))) (IsReduced m r)
     (λ p. record { from = p.0; rest = p.1.0; modulus_held = p.1.1.0; rest_held = p.1.1.1 })
     (λ h. (h.from, (h.rest, (h.modulus_held, h.rest_held))))
-    (told_both (pos 0 ≤ℤ m) _ (told_most (pos 0) m)
-    (told_both ((m ≡ pos 0) ⊎ ((pos 0 ≤ℤ r) × (r <ℤ m))) _ (told_either (m ≡ pos 0) _ (told_equal m (pos 0)) (told_both (pos 0 ≤ℤ r) (r <ℤ m) (told_most (pos 0) r) (told_less r m)))
-    (told_both (unsigned_abs m < 2 ^ 127) (unsigned_abs r < 2 ^ 127) (told_lt (unsigned_abs m) (2 ^ 127)) (told_lt (unsigned_abs r) (2 ^ 127)))))
+    (told_and (pos 0 ≤ℤ m) _ (told_most (pos 0) m)
+    (λ _. told_and ((m ≡ pos 0) ⊎ ((pos 0 ≤ℤ r) × (r <ℤ m))) _ (told_either (m ≡ pos 0) _ (told_equal m (pos 0)) (told_and (pos 0 ≤ℤ r) (r <ℤ m) (told_most (pos 0) r) (λ _. told_less r m)))
+    (λ _. told_and (unsigned_abs m < 2 ^ 127) (unsigned_abs r < 2 ^ 127) (told_small m) (λ _. told_small r))))
 
 told_value : (t : IntType) (k : Known) → Told (IsValue t k)
 told_value t k =
     told_as ((InType t k.range.lo × InType t k.range.hi) × ((k.range.lo ≤ℤ k.range.hi) × IsReduced k.class.m k.class.r)) (IsValue t k)
     (λ p. record { inside = record { from = p.0.0; to = p.0.1 }; some = p.1.0; class = p.1.1 })
     (λ h. ((h.inside.from, h.inside.to), (h.some, h.class)))
-    (told_both (InType t k.range.lo × InType t k.range.hi) _ (told_both (InType t k.range.lo) (InType t k.range.hi) (told_in_type t k.range.lo) (told_in_type t k.range.hi))
-    (told_both (k.range.lo ≤ℤ k.range.hi) (IsReduced k.class.m k.class.r) (told_most k.range.lo k.range.hi) (told_reduced k.class.m k.class.r)))
+    (told_and (InType t k.range.lo × InType t k.range.hi) _ (told_and (InType t k.range.lo) (InType t k.range.hi) (told_in_type t k.range.lo) (λ _. told_in_type t k.range.hi))
+    (λ _. told_and (k.range.lo ≤ℤ k.range.hi) (IsReduced k.class.m k.class.r) (told_most k.range.lo k.range.hi) (λ _. told_reduced k.class.m k.class.r)))
 
 -- the first symbols are the four numbers of a value
 record IsFour (zs : List (Option ℤ)) : Type 0 where
@@ -69,7 +73,7 @@ told_four_of t R each zs = elim (told_four zs) [
       (λ h.
       let same = parted_same (four_of h.value) (four_of f.value) h.rest f.rest refl (sym h.told ∙ f.told) in
       (subst (IsValue t) (same_four h.value f.value.range.lo f.value.range.hi f.value.class.m f.value.class.r same.0) h.is, subst R same.1 h.more))
-      (told_both (IsValue t f.value) (R f.rest) (told_value t f.value) (each f.rest))
+      (told_and (IsValue t f.value) (R f.rest) (told_value t f.value) (λ _. each f.rest))
   | inr never ↦ inr (λ h. never (record { value = h.value; rest = h.rest; told = h.told }))
 ]
 
