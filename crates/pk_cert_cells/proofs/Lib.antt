@@ -2,3 +2,4 @@ mod Spacing
 mod Joining
 mod Celling
 mod ReadingBack
+mod Every

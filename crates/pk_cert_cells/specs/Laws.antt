@@ -1,11 +1,11 @@
--- What is written of a graph's cells is read back, and bytes are read in one way.
-use Rattle.std.specs.Prelude.{◌≡◌, ◌⊎◌, ℕ, ◌<◌, List, map, length, slice_index_or, Option, None}
+-- What is written of a graph's cells is read back, and bytes are read, and in one way.
+use Rattle.std.specs.Prelude.{◌≡◌, ◌⊎◌, ◌≢◌, ℕ, ◌<◌, List, map, length, slice_index_or, Option, None}
 use Rattle.pk_graph.specs.Graphs.{GraphOf}
 use Rattle.pk_state.specs.Facts.{Facts, Stated, AreFactsIf}
 use Rattle.pk_transfer.specs.Graphs.{layout_of}
 use Rattle.pk_phases.specs.declared.equations.Cell.{Cell}
 use Rattle.pk_cert.specs.Heads.{HeadOf, IsHead, head_text}
-use Rattle.pk_cert.specs.Pieces.{AreFirst}
+use Rattle.pk_cert.specs.Pieces.{AreFirst, BeginsWith}
 use Rattle.pk_cert.specs.Certificates.{IsCertificate}
 use Rattle.pk_cert_cells.specs.Cells.{certificate_of}
 use Rattle.pk_cert_cells.specs.Reading.{cell_of, shape_in, AreReadCells, IsUnfit}
@@ -38,3 +38,10 @@ pub record IsOneReading (g : GraphOf) (h : HeadOf) (bytes : List ℕ) : Type 0 w
 
 abbrev pub OneReading : Type 0
 OneReading = (g : GraphOf) (h : HeadOf) (bytes : List ℕ) → IsHead h → IsOneReading g h bytes
+
+-- Bytes that begin with a head are the certificate of cells, or have a first wrong byte or a first point of no state.
+abbrev pub EveryReadingEnds : Type 0
+EveryReadingEnds =
+    (g : GraphOf) (h : HeadOf) (bytes : List ℕ) → BeginsWith bytes h →
+    ((cells : List (Cell Stated)) × AreReadCells g h bytes cells)
+    ⊎ ((u : Unfit) × (u ≢ Memory) × IsUnfit g h bytes u)

@@ -11,6 +11,6 @@ mod values;
 mod writing;
 
 pub use failures::{Unfit, Unwritten};
-pub use laws::{one_reading, written_is_read};
+pub use laws::{every_reading_ends, one_reading, written_is_read};
 pub use reading::read_cells;
 pub use writing::{MOST_BYTES, write};

@@ -4,3 +4,7 @@ pub mod Variables
 mod Writing
 pub mod Reading
 pub mod Telling
+mod Told
+mod ToldValues
+mod ToldBounds
+mod Settled

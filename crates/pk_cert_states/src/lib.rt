@@ -7,6 +7,6 @@ mod numbers;
 mod states;
 mod values;
 
-pub use laws::facts_have_lines;
+pub use laws::{every_line_is_settled, facts_have_lines};
 pub use states::state_of;
 pub use values::is_one_of;
