@@ -23,17 +23,31 @@ use pk_transfer::frame;
 use std::alloc::{AllocError, Global};
 use std::sync::Arc;
 
+// Has the next states share with this one, if some run comes there.
+fn keep(alloc: Global, last: &mut State, state: &State) -> Result<(), AllocError>
+    requires { state.now.layout ≡ last.old.layout }
+    ensures { OnOk result (last.new.layout ≡ last.old.layout) }
+{
+    if !state.is_bottom() {
+        *last = state.copy(alloc)?;
+    }
+    Ok(())
+}
+
 // Adds the cell of the line behind k others, if each of these had one and this one has.
 fn add_cell(
     alloc: Global,
     graph: &Graph,
     frame: &Arc<Frame>,
     cells: &mut Vec<Arc<Cell<State>>>,
+    last: &mut State,
     row: &Row,
     k: usize,
 ) -> Result<(), AllocError>
-    requires { (oct : ℕ) × (arc_value frame.now ≡ layout_of (graph_view graph.now) oct) }
-    ensures { let ks = kinds_of (graph_view graph.now) in
+    requires last { last.old.layout ≡ arc_value frame.now }
+    requires frame { (oct : ℕ) × (arc_value frame.now ≡ layout_of (graph_view graph.now) oct) }
+    ensures last { OnOk result (last.new.layout ≡ arc_value frame.now) }
+    ensures cells { let ks = kinds_of (graph_view graph.now) in
         let l = arc_value frame.now in
         OnOk result ((lines : List Line) (line : Line) → length lines ≡ k → row_view row.now ≡ seen_line line →
         AreCellsOf ks l lines (map arc_value cells.old.items) →
@@ -42,10 +56,11 @@ fn add_cell(
     if cells.len() != k {
         return Ok(());
     }
-    match state_of(alloc, graph, frame, row)? {
+    match state_of(alloc, graph, frame, row, last)? {
         None => Ok(()),
         Some(state) => {
             state.is_stated();
+            keep(alloc, last, &state)?;
             cells.push(Arc::new(alloc, Cell::Value(state))?)?;
             Ok(())
         }
@@ -68,13 +83,14 @@ fn cells_of(
         (λ e. StopsAt (TextsOf (AreLines shape points) lines_text) bytes.now e) }
 {
     let mut cells = Vec::new(alloc);
+    let mut last = State::bottom(Arc::try_clone(frame)?);
     let mut at = 0;
     for k in 0..graph.points() {
         match read_row(alloc, &bytes[at..], shape) {
             Err(Unread::Byte(n)) => return Err(Unread::Byte(at + n)),
             Err(Unread::Memory) => return Err(Unread::Memory),
             Ok((row, n)) => {
-                add_cell(alloc, graph, frame, &mut cells, &row, k)?;
+                add_cell(alloc, graph, frame, &mut cells, &mut last, &row, k)?;
                 at += n;
             }
         }
@@ -108,7 +124,7 @@ fn shape(graph: &Graph, frame: &Frame) -> Option<Shape>
 }
 
 /// What is known at each point of a graph by the lines behind a certificate's head. A line is made a state when it is
-/// read, and isn't kept.
+/// read, and isn't kept; it shares with the one before it what both have.
 pub fn read_cells(
     alloc: Global,
     bytes: &[u8],

@@ -13,7 +13,7 @@ ghost use Rattle.pk_state.specs.Facts.{Facts, AreFacts, AreFactsIf};
 ghost use Rattle.pk_transfer.specs.Graphs.{layout_of};
 ghost use Rattle.pk_cert.specs.Rows.{kept, kept_line, row_view};
 ghost use Rattle.pk_cert_states.specs.Lines.{symbols_of, line_of};
-ghost use Rattle.pk_cert_states.specs.Parts.{kinds_in, AreIn, AreBoundsOf, IsBounded, IsRead, AreAllFirst, AreAllRead, known_at};
+ghost use Rattle.pk_cert_states.specs.Parts.{kinds_in, AreIn, AreBoundsOf, IsBounded, IsFilled, IsRead, AreAllFirst, AreAllRead, known_at};
 
 use crate::bounds::octagon;
 use crate::values::fill;
@@ -77,13 +77,27 @@ fn read_values<'s>(
     }
 }
 
-// The state with these values and this octagon.
+// A state to begin with: another one, or that of which nothing is known.
+fn begun(alloc: Global, frame: &Arc<Frame>, beside: &State) -> Result<State, AllocError>
+    requires { beside.now.layout ≡ arc_value frame.now }
+    ensures { IfOk result (IsFilled (arc_value frame.now)) }
+{
+    if beside.is_bottom() {
+        return State::top(alloc, Arc::try_clone(frame)?);
+    }
+    beside.is_stated();
+    beside.copy(alloc)
+}
+
+// The state with these values and this octagon, which shares with another one what both have.
 fn with_facts(
     alloc: Global,
     frame: &Arc<Frame>,
     values: &[Value],
     octagon: Matrix,
+    beside: &State,
 ) -> Result<State, AllocError>
+    requires beside { beside.now.layout ≡ arc_value frame.now }
     requires size { length values.now ≡ length (arc_value frame.now).types }
     requires values { (x : ℕ) → x < length values.now →
         IsValue (type_at (arc_value frame.now) x) (known_at values.now x) }
@@ -93,7 +107,7 @@ fn with_facts(
       facts = Some (record { values = values.now; octagon = octagon });
     }) }
 {
-    let mut state = State::top(alloc, Arc::try_clone(frame)?)?;
+    let mut state = begun(alloc, frame, beside)?;
     for x in 0..values.len() {
         state = state.with_value(alloc, x, values[x])?;
     }
@@ -106,7 +120,9 @@ fn bounded(
     frame: &Arc<Frame>,
     values: &[Value],
     symbols: &[Symbol],
+    beside: &State,
 ) -> Result<Option<State>, AllocError>
+    requires beside { beside.now.layout ≡ arc_value frame.now }
     requires size { length values.now ≡ length (arc_value frame.now).types }
     requires values { (x : ℕ) → x < length values.now →
         IsValue (type_at (arc_value frame.now) x) (known_at values.now x) }
@@ -122,7 +138,7 @@ fn bounded(
     }
     match octagon(alloc, symbols, n as u32)? {
         None => Ok(None),
-        Some(octagon) => Ok(Some(with_facts(alloc, frame, values, octagon)?)),
+        Some(octagon) => Ok(Some(with_facts(alloc, frame, values, octagon, beside)?)),
     }
 }
 
@@ -132,8 +148,10 @@ fn of_symbols(
     graph: &Graph,
     frame: &Arc<Frame>,
     symbols: &[Symbol],
+    beside: &State,
 ) -> Result<Option<State>, AllocError>
-    requires { (oct : ℕ) × (arc_value frame.now ≡ layout_of (graph_view graph.now) oct) }
+    requires beside { beside.now.layout ≡ arc_value frame.now }
+    requires frame { (oct : ℕ) × (arc_value frame.now ≡ layout_of (graph_view graph.now) oct) }
     ensures { IfOk result (λ o. MatchOption o
         ((f : Facts) → AreFacts (arc_value frame.now) f →
         symbols.now ≡ map kept (symbols_of (kinds_of (graph_view graph.now)) f) → ⊥)
@@ -144,7 +162,7 @@ fn of_symbols(
     match read_values(&mut values, variables, symbols) {
         None => Ok(None),
         Some(rest) => {
-            let found = bounded(alloc, frame, &values, rest)?;
+            let found = bounded(alloc, frame, &values, rest, beside)?;
             match found {
                 None => Ok(None),
                 Some(state) => Ok(Some(state)),
@@ -153,15 +171,17 @@ fn of_symbols(
     }
 }
 
-/// The state of which a line tells, over the frame of the graph; none where it tells of none: a range isn't in its type or has no number, a class isn't
+/// The state of which a line tells, over the frame of the graph, which shares with another one what both have; none where it tells of none: a range isn't in its type or has no number, a class isn't
 /// reduced, or the bounds are no octagon's.
 pub fn state_of(
     alloc: Global,
     graph: &Graph,
     frame: &Arc<Frame>,
     row: &Row,
+    beside: &State,
 ) -> Result<Option<State>, AllocError>
-    requires { (oct : ℕ) × (arc_value frame.now ≡ layout_of (graph_view graph.now) oct) }
+    requires beside { beside.now.layout ≡ arc_value frame.now }
+    requires frame { (oct : ℕ) × (arc_value frame.now ≡ layout_of (graph_view graph.now) oct) }
     ensures { let ks = kinds_of (graph_view graph.now) in IfOk result (λ o. MatchOption o
         ((f : Option Facts) → AreFactsIf (arc_value frame.now) f →
         row_view row.now ≡ kept_line (line_of ks f) → ⊥)
@@ -169,6 +189,6 @@ pub fn state_of(
 {
     match row {
         Row::Bottom => Ok(Some(State::bottom(Arc::try_clone(frame)?))),
-        Row::Symbols(symbols) => of_symbols(alloc, graph, frame, symbols),
+        Row::Symbols(symbols) => of_symbols(alloc, graph, frame, symbols, beside),
     }
 }

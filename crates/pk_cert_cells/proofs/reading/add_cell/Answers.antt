@@ -13,8 +13,8 @@ use Rattle.pk_cert_cells.specs.Reading.{cell_of, AreCellsOf}
 use Rattle.pk_cert_cells.proofs.Celling.{add_past, add_stateless, add_state, row_stateless, row_state}
 use Rattle.pk_cert_cells.proofs.reading.add_cell.Goals as goal
 
-pub returns-in-None : goal.returns-in-None
-returns-in-None c = λ lines line size seen h.
+pub returns-in-None-clause-cells : goal.returns-in-None-clause-cells
+returns-in-None-clause-cells c = λ lines line size seen h.
     let ks = kinds_of (graph_view c.args.graph.now) in
     let l = arc_value c.args.frame.now in
     let cells = map arc_value c.args.cells.now.items in
@@ -23,8 +23,8 @@ returns-in-None c = λ lines line size seen h.
     (λ (s : Stated). (s.layout ≡ arc_value c.args.frame.now) × (row_view c.args.row.now ≡ kept_line (line_of (kinds_of (graph_view c.args.graph.now)) s.facts))) c.in_ok-state_of.ensures c.in-None.is in
     add_stateless ks l lines line cells h same (row_stateless ks l c.args.row.now line seen none)
 
-pub returns-in_ok-push-in-Some : goal.returns-in_ok-push-in-Some
-returns-in_ok-push-in-Some c = λ lines line size seen h.
+pub returns-in_ok-push-in-Some-clause-cells : goal.returns-in_ok-push-in-Some-clause-cells
+returns-in_ok-push-in-Some-clause-cells c = λ lines line size seen h.
     let ks = kinds_of (graph_view c.args.graph.now) in
     let l = arc_value c.args.frame.now in
     let cells = map arc_value c.args.cells.now.items in
@@ -39,8 +39,8 @@ returns-in_ok-push-in-Some c = λ lines line size seen h.
     ∙ ap (λ (x : Cell Stated). map arc_value c.args.cells.now.items ++ x ∷ []) (c.in_ok-new-in-Some.ensures.ok ∙ ap (λ (y : Layout). cell_of y c.in-Some.state.facts) some.0) in
     subst (AreCellsOf ks l (lines ++ line ∷ [])) (sym pushed) (add_state ks l lines line cells f h same facts (row_state ks l c.args.row.now line f seen some.1))
 
-pub returns-then-len-k : goal.returns-then-len-k
-returns-then-len-k c = λ lines line size seen h.
+pub returns-then-len-k-clause-cells : goal.returns-then-len-k-clause-cells
+returns-then-len-k-clause-cells c = λ lines line size seen h.
     let ks = kinds_of (graph_view c.args.graph.now) in
     let l = arc_value c.args.frame.now in
     let cells = map arc_value c.args.cells.now.items in

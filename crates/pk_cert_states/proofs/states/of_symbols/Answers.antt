@@ -15,7 +15,7 @@ returns-in-None c =
     let g = graph_view c.args.graph.now in
     let vs = c.variables-variables.result.now in
     let same = kinds_same g vs c.variables-variables.ensures in
-    let types = types_of g c.requires.0 (arc_value c.args.frame.now) (kinds_in vs) c.requires.1 same in
+    let types = types_of g c.requires.frame.0 (arc_value c.args.frame.now) (kinds_in vs) c.requires.frame.1 same in
     λ f h told. c.in-None.ensures f.values (facts_first (arc_value c.args.frame.now) (kinds_in vs) (kinds_of g) c.args.symbols.now f types same h told)
 
 pub bounded-requires-clause-values : goal.bounded-requires-clause-values
@@ -24,7 +24,7 @@ bounded-requires-clause-values c =
     let vs = c.variables-variables.result.now in
     let l = arc_value c.args.frame.now in
     let same = kinds_same g vs c.variables-variables.ensures in
-    let types = types_of g c.requires.0 l (kinds_in vs) c.requires.1 same in
+    let types = types_of g c.requires.frame.0 l (kinds_in vs) c.requires.frame.1 same in
     subst (λ (ws : List Known). (x : ℕ) → x < length ws → IsValue (type_at l x) (known_at ws x)) (sym c.deref.ensures.value) (in_types l (kinds_in vs) c.read_values.new.values.items types c.in-Some.ensures.values)
 
 pub returns-in-None-found : goal.returns-in-None-found
@@ -33,7 +33,7 @@ returns-in-None-found c =
     let vs = c.variables-variables.result.now in
     let l = arc_value c.args.frame.now in
     let same = kinds_same g vs c.variables-variables.ensures in
-    let types = types_of g c.requires.0 l (kinds_in vs) c.requires.1 same in
+    let types = types_of g c.requires.frame.0 l (kinds_in vs) c.requires.frame.1 same in
     λ f h told.
     none_of c.in_ok-found-in-Some.found ((m : Octagon) → AreBoundsOf (length l.chosen) c.in-Some.rest.now m → ⊥) (IsBounded l c.deref.result.now c.in-Some.rest.now) c.in_ok-found-in-Some.ensures c.in-None-found.is f.octagon
     (bounds_left l (kinds_in vs) (kinds_of g) c.args.symbols.now c.in-Some.rest.now c.read_values.new.values.items f types same c.in-Some.ensures h told)

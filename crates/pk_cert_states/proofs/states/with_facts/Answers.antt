@@ -1,8 +1,7 @@
-use Rattle.std.proofs.Common.{◌≡◌, ◌∙◌, sym, ap, subst, Some}
+use Rattle.std.proofs.Common.{◌≡◌, sym, subst}
 use Rattle.std.proofs.lemmas.List.{get_or_read}
 use Rattle.pk_ctypes.specs.declared.types.IntType.TheVariants.{Int}
 use Rattle.pk_state.specs.Layouts.{Layout, type_at}
-use Rattle.pk_state.specs.Facts.{Stated, top_facts}
 use Rattle.pk_state.specs.Changes.{IsValue}
 use Rattle.pk_value.specs.Known.{Known, any_of}
 use Rattle.pk_cert_states.specs.Parts.{known_at}
@@ -11,8 +10,7 @@ use Rattle.pk_cert_states.proofs.states.with_facts.Goals as goal
 
 pub loop-x-init : goal.loop-x-init
 loop-x-init c =
-    written_none c.args.frame.now.value c.args.values.now c.in_ok-state.state c.requires.size
-    (c.in_ok-state.ensures ∙ ap (λ (l : Layout). let s : Stated = record { layout = l; facts = Some (top_facts l) } in s) c.in_ok-try_clone.ensures)
+    written_none c.args.frame.now.value c.args.values.now c.in_ok-state.state c.requires.size c.in_ok-state.ensures
 
 pub with_value-requires-clause-value : goal.with_value-requires-clause-value
 with_value-requires-clause-value c =
