@@ -11,7 +11,7 @@ use Rattle.pk_value.specs.Known.{Known, any_of}
 use Rattle.pk_state.specs.Layouts.{Layout}
 use Rattle.pk_state.specs.Facts.{AreFactsIf, Facts, Stated, top_facts}
 use Rattle.pk_state.specs.Changes.{IsValue, with_known, with_bounds}
-use Rattle.pk_cert_states.specs.Parts.{known_at, AreIn, IsFilled}
+use Rattle.pk_cert_states.specs.Parts.{known_at, AreIn, HasFacts}
 
 -- ---- pushed
 
@@ -45,7 +45,7 @@ pub record IsWrittenTo (l : Layout) (vs : List Known) (x : ℕ) (s : Stated) : T
   pub size : length facts.values ≡ length vs
   pub same : take x facts.values ≡ take x vs
 
-pub top_filled : (l : Layout) (s : Stated) → s ≡ record { layout = l; facts = Some (top_facts l) } → IsFilled l s
+pub top_filled : (l : Layout) (s : Stated) → s ≡ record { layout = l; facts = Some (top_facts l) } → HasFacts l s
 top_filled l s e = record {
   layout = ap (λ (z : Stated). z.layout) e;
   facts = top_facts l;
@@ -54,18 +54,18 @@ top_filled l s e = record {
 }
 
 -- some run comes to a state with facts
-facts_filled : (l : Layout) (f : Option Facts) → AreFactsIf l f → (f ≡ None → ⊥) → IsFilled l (record { layout = l; facts = f })
+facts_filled : (l : Layout) (f : Option Facts) → AreFactsIf l f → (f ≡ None → ⊥) → HasFacts l (record { layout = l; facts = f })
 facts_filled l None are some = absurd (some refl)
 facts_filled l (Some f) are some = record { layout = refl; facts = f; is = refl; size = are.values.size }
 
 pub not_bottom : (f : Option Facts) (b : Bool) → (b ≡ true ↔ f ≡ None) → b ≡ false → f ≡ None → ⊥
 not_bottom f b is isnt none = let bottom = is.1 none in absurd (cc)
 
-pub state_filled : (l : Layout) (s : Stated) → s.layout ≡ l → AreFactsIf s.layout s.facts → (s.facts ≡ None → ⊥) → IsFilled l s
+pub state_filled : (l : Layout) (s : Stated) → s.layout ≡ l → AreFactsIf s.layout s.facts → (s.facts ≡ None → ⊥) → HasFacts l s
 state_filled l s same are some =
-    subst (λ (y : Layout). IsFilled y s) same (facts_filled s.layout s.facts are some)
+    subst (λ (y : Layout). HasFacts y s) same (facts_filled s.layout s.facts are some)
 
-pub written_none : (l : Layout) (vs : List Known) (s : Stated) → length vs ≡ length l.types → IsFilled l s → IsWrittenTo l vs 0 s
+pub written_none : (l : Layout) (vs : List Known) (s : Stated) → length vs ≡ length l.types → HasFacts l s → IsWrittenTo l vs 0 s
 written_none l vs s size h = record { layout = h.layout; facts = h.facts; is = h.is; size = h.size ∙ sym size; same = refl }
 
 pub written_on : (l : Layout) (vs : List Known) (x : ℕ) (s t : Stated) (v : Known) → IsWrittenTo l vs x s → x < length vs → v ≡ known_at vs x → t ≡ record { layout = s.layout; facts = with_known s.facts x v } → IsWrittenTo l vs (x + 1) t

@@ -107,7 +107,7 @@ pub record IsRead (ks : Kinds) (l : Layout) (symbols : List Symbol) (s : Stated)
   pub told : symbols ≡ map kept (symbols_of ks facts)
 
 -- some run comes there, and something is known of each variable
-pub record IsFilled (l : Layout) (s : Stated) : Type 0 where
+pub record HasFacts (l : Layout) (s : Stated) : Type 0 where
   pub layout : s.layout ≡ l
   pub facts : Facts
   pub is : s.facts ≡ Some facts

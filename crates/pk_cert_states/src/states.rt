@@ -13,7 +13,7 @@ ghost use Rattle.pk_state.specs.Facts.{Facts, AreFacts, AreFactsIf};
 ghost use Rattle.pk_transfer.specs.Graphs.{layout_of};
 ghost use Rattle.pk_cert.specs.Rows.{kept, kept_line, row_view};
 ghost use Rattle.pk_cert_states.specs.Lines.{symbols_of, line_of};
-ghost use Rattle.pk_cert_states.specs.Parts.{kinds_in, AreIn, AreBoundsOf, IsBounded, IsFilled, IsRead, AreAllFirst, AreAllRead, known_at};
+ghost use Rattle.pk_cert_states.specs.Parts.{kinds_in, AreIn, AreBoundsOf, IsBounded, HasFacts, IsRead, AreAllFirst, AreAllRead, known_at};
 
 use crate::bounds::octagon;
 use crate::values::fill;
@@ -80,7 +80,7 @@ fn read_values<'s>(
 // A state to begin with: another one, or that of which nothing is known.
 fn begun(alloc: Global, frame: &Arc<Frame>, beside: &State) -> Result<State, AllocError>
     requires { beside.now.layout ≡ arc_value frame.now }
-    ensures { IfOk result (IsFilled (arc_value frame.now)) }
+    ensures { IfOk result (HasFacts (arc_value frame.now)) }
 {
     if beside.is_bottom() {
         return State::top(alloc, Arc::try_clone(frame)?);

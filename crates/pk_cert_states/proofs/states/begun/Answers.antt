@@ -3,7 +3,7 @@ use Rattle.std.specs.Arc.{arc_value}
 use Rattle.std.proofs.lemmas.Result.{IfOk-weaker}
 use Rattle.pk_state.specs.Layouts.{Layout}
 use Rattle.pk_state.specs.Facts.{Stated, top_facts}
-use Rattle.pk_cert_states.specs.Parts.{IsFilled}
+use Rattle.pk_cert_states.specs.Parts.{HasFacts}
 use Rattle.pk_cert_states.proofs.Writing.{top_filled, state_filled, not_bottom}
 use Rattle.pk_cert_states.proofs.states.begun.Goals as goal
 
@@ -13,4 +13,4 @@ returns-then-is_bottom c =
 
 pub returns : goal.returns
 returns c =
-    IfOk-weaker c.copy.result _ _ (λ s is. subst (IsFilled (arc_value c.args.frame.now)) (sym is) (state_filled (arc_value c.args.frame.now) c.args.beside.now c.requires c.is_stated.ensures.facts (not_bottom c.args.beside.now.facts c.is_bottom.result c.is_bottom.ensures c.if-is_bottom.false))) c.copy.ensures
+    IfOk-weaker c.copy.result _ _ (λ s is. subst (HasFacts (arc_value c.args.frame.now)) (sym is) (state_filled (arc_value c.args.frame.now) c.args.beside.now c.requires c.is_stated.ensures.facts (not_bottom c.args.beside.now.facts c.is_bottom.result c.is_bottom.ensures c.if-is_bottom.false))) c.copy.ensures
