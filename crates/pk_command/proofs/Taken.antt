@@ -22,18 +22,19 @@ use Rattle.clap.proofs.WalkLemmas.{first_value-rows, one_text-rows}
 use Rattle.clap.specs.Facts.{explicit_source, parser_of_value}
 use Rattle.clap.specs.Takes.{is_given}
 use Rattle.std.specs.List.{list_any}
-use Rattle.clap.specs.Kinds.{Kinds, check_kinds, values_kinds}
+use Rattle.clap.specs.Kinds.{IsAmong, Kinds, check_kinds, values_kinds}
 use Rattle.clap.specs.Walk.{Row, Rule, Text, answers_to, arg_by_id, finished, is_empty as has_none, first_of, nothing_held, one_of, reading_by, row_text, rows_after, rows_of, walk}
-use Rattle.clap.specs.Simple.{App, Shape, built, entered, label_of, names_of, rows_at, subcommand_rows, subcommand_rows_of}
-use Rattle.clap.specs.Faults.{check_fault, entered_fault, fault_of, level_fault, values_fault}
+use Rattle.clap.specs.Simple.{App, HasMatchesOf, Shape, built, entered, is_simple, label_of, names_of, rows_at, subcommand_of, subcommand_rows, subcommand_rows_of}
+use Rattle.clap.specs.Faults.{check_fault, entered_fault, fault_of, is_simple_and_free, level_fault, values_fault}
 use Rattle.clap.specs.declared.builder.value_parser.ValueParser.{ValueParser}
 use Rattle.clap.specs.declared.error.kind.ErrorKind.{ErrorKind}
+use Rattle.clap.specs.declared.error.kind.ErrorKind.TheVariants.{OutOfMemory}
 use Rattle.clap.proofs.ValueTestLemmas.{accepts-Accepts}
 use Rattle.pk_command.specs.CommandLine.{is_empty, number_option, pikos_app}
-use Rattle.pk_command.specs.Given.{IsGen, IsInRange, given_by, is_set, number_given, number_in, number_of, run_options, text_of}
-use Rattle.pk_command.specs.declared.asked.Command.TheVariants.{Run, Gen}
+use Rattle.pk_command.specs.Given.{IsGen, IsInRange, cert_options, given_by, is_set, number_given, number_in, number_of, run_options, text_of}
+use Rattle.pk_command.specs.declared.asked.Command.TheVariants.{Run, Gen, Cert}
 use Rattle.pk_command.specs.declared.asked.GenOptions.{GenOptions}
-use Rattle.pk_command.specs.Found.{IsFlagFound, IsGenFound, IsNumberFound, IsRequiredFound, IsRunFound}
+use Rattle.pk_command.specs.Found.{AreNumbersFound, IsFlagFound, IsGenFound, IsNumberFound, IsRequiredFound, IsRunFound}
 use Rattle.pk_command.proofs.Rows.{Each, IsKeyed, Passes, below_passes, check_passes, each_found, each_row}
 
 -- ---- the subcommand
@@ -64,6 +65,23 @@ missing_command s rows required e =
     let help = s.arg_required_else_help && not (list_any (λ r. explicit_source r.source) rows) in
     let argument = not (s.subcommand_negates_reqs && false) && list_any (λ a. a.required && not (is_given a.id rows)) s.rules in
     wants_command help argument (subst (λ (b : Bool). check_kinds help b argument ≡ []) required e)
+
+-- what clap says of an application holds of this one, where it is this one
+module _ (a : App) (words : List Text) (is : a ≡ pikos_app) where
+  pub no_fault_of : (is_simple_and_free a ≡ true → fault_of a words ≡ []) → fault_of pikos_app words ≡ []
+  no_fault_of says = subst (λ (b : App). fault_of b words ≡ []) is (says (ap is_simple_and_free is))
+
+  pub rows_of_app : (m : ArgMatches) → HasMatchesOf a words m → subcommand_rows_of m ≡ given_by words
+  rows_of_app m says = (says (ap is_simple is)).1 ∙ ap (λ (b : App). subcommand_of b words) is
+
+  -- an error that isn't want of memory is a fault
+  pub a_fault_of : (k : ErrorKind) → (k ≡ OutOfMemory → ⊥) → (is_simple_and_free a ≡ true → (k ≡ OutOfMemory) ⊎ IsAmong k (fault_of a words)) → fault_of pikos_app words ≡ [] → ⊥
+  a_fault_of k other says none =
+      let faults : fault_of a words ≡ [] = ap (λ (b : App). fault_of b words) is ∙ none in
+      elim (says (ap is_simple_and_free is)) [
+        | inl memory ↦ other memory
+        | inr among ↦ subst (IsAmong k) faults among
+      ]
 
 -- a subcommand that was entered, where it fails nowhere
 pub record Enters (P : Shape → Type 0) (a : App) (stop : Option (Text × List Text)) : Type 0 where
@@ -103,6 +121,12 @@ order_shape = unwrap_or (slice_get (built pikos_app).subs 1) (built pikos_app).t
 abbrev pub gen_shape : Shape
 gen_shape = unwrap_or (slice_get (built pikos_app).subs 2) (built pikos_app).top
 
+abbrev pub cert_shape : Shape
+cert_shape = unwrap_or (slice_get (built pikos_app).subs 3) (built pikos_app).top
+
+abbrev pub check_shape : Shape
+check_shape = unwrap_or (slice_get (built pikos_app).subs 4) (built pikos_app).top
+
 -- the words name the command of this shape, each value that they give passes the parser of its option, and no required option is missing
 pub record NamesCommand (shape : Shape) (words : List Text) : Type 0 where
   pub rows : List Row
@@ -111,7 +135,12 @@ pub record NamesCommand (shape : Shape) (words : List Text) : Type 0 where
   pub check : check_fault shape rows false ≡ []
 
 abbrev IsCommand : Shape → Type 0
-IsCommand s = (s ≡ run_shape) ⊎ (s ≡ order_shape) ⊎ (s ≡ gen_shape)
+IsCommand s = (s ≡ run_shape) ⊎ (s ≡ order_shape) ⊎ (s ≡ gen_shape) ⊎ (s ≡ cert_shape) ⊎ (s ≡ check_shape)
+
+-- the words name one of the commands
+abbrev pub NamesOne : List Text → Type 0
+NamesOne words =
+    NamesCommand run_shape words ⊎ NamesCommand order_shape words ⊎ NamesCommand gen_shape words ⊎ NamesCommand cert_shape words ⊎ NamesCommand check_shape words
 
 run_keyed : IsKeyed run_shape.rules
 run_keyed = ((refl, refl), ((refl, refl), ((refl, refl), ((refl, refl), ((refl, refl), ((refl, refl), ((refl, refl), tt)))))))
@@ -121,6 +150,9 @@ order_keyed = ((refl, refl), tt)
 
 gen_keyed : IsKeyed gen_shape.rules
 gen_keyed = ((refl, refl), ((refl, refl), ((refl, refl), tt)))
+
+cert_keyed : IsKeyed cert_shape.rules
+cert_keyed = ((refl, refl), ((refl, refl), ((refl, refl), ((refl, refl), ((refl, refl), ((refl, refl), tt))))))
 
 -- where the walk over the words stops
 abbrev stop_at : List Text → Option (Text × List Text)
@@ -138,20 +170,22 @@ names_shape P shape words met is keyed =
           (check_passes met.shape [] nothing_held met.words false [] met.pass);
     }
 
-pub taken_names : (words : List Text) → fault_of pikos_app words ≡ [] → NamesCommand run_shape words ⊎ NamesCommand order_shape words ⊎ NamesCommand gen_shape words
+names_one : (words : List Text) (met : Enters IsCommand (built pikos_app) (stop_at words)) → IsCommand met.shape → NamesOne words
+names_one words met (inl is) = inl (names_shape IsCommand run_shape words met is run_keyed)
+names_one words met (inr (inl is)) = inr (inl (names_shape IsCommand order_shape words met is order_keyed))
+names_one words met (inr (inr (inl is))) = inr (inr (inl (names_shape IsCommand gen_shape words met is gen_keyed)))
+names_one words met (inr (inr (inr (inl is)))) = inr (inr (inr (inl (names_shape IsCommand cert_shape words met is cert_keyed))))
+names_one words met (inr (inr (inr (inr is)))) = inr (inr (inr (inr (names_shape IsCommand check_shape words met is tt))))
+
+pub taken_names : (words : List Text) → fault_of pikos_app words ≡ [] → NamesOne words
 taken_names words taken =
     let a = built pikos_app in
     let stop = stop_at words in
     let below = below_passes a.top (names_of a) nothing_held words (is_some (entered a stop)) (entered_fault a stop) taken in
     let check = check_passes a.top (names_of a) nothing_held words (is_some (entered a stop)) (entered_fault a stop) taken in
-    let met = enters IsCommand a stop (finished a.top.rules (walk a.top.rules (names_of a) nothing_held words).held) (inl refl, (inr (inl refl), (inr (inr refl), tt))) refl check below in
-    elim met.one [
-      | inl is ↦ inl (names_shape IsCommand run_shape words met is run_keyed)
-      | inr other ↦ elim other [
-        | inl is ↦ inr (inl (names_shape IsCommand order_shape words met is order_keyed))
-        | inr is ↦ inr (inr (names_shape IsCommand gen_shape words met is gen_keyed))
-      ]
-    ]
+    let each : Each IsCommand a.subs = (inl refl, (inr (inl refl), (inr (inr (inl refl)), (inr (inr (inr (inl refl))), (inr (inr (inr (inr refl))), tt))))) in
+    let met = enters IsCommand a stop (finished a.top.rules (walk a.top.rules (names_of a) nothing_held words).held) each refl check below in
+    names_one words met met.one
 
 -- ---- the values
 
@@ -326,7 +360,7 @@ pub flag_read : (name : Text) (f : Found) (r : Bool) → IsFlagFound name (rows_
     → r ≡ is_set name (rows_of f)
 flag_read name f r found none when_true when_false = flag_got (first_of name (rows_of f)) (one_text f name) r found.word (one_text-rows f name ∙ found.read) none when_true when_false
 
--- ---- the options of `run`
+-- ---- the options of `run` and of `cert`
 
 abbrev run_rule : ℕ → Rule
 run_rule i = unwrap_or (slice_get run_shape.rules i) (number_option [] 0 0)
@@ -335,22 +369,34 @@ copied : (o : Option Text) → option_map (λ t. t) o ≡ o
 copied None = refl
 copied (Some t) = refl
 
-pub run_found : (rows : List Row) → Each (Passes run_shape.rules) rows → IsRunFound rows
-run_found rows pass =
-    let workers = given_of run_shape.rules (run_rule 0) (codes "workers") rows refl pass in
-    let delay = given_of run_shape.rules (run_rule 1) (codes "delay") rows refl pass in
-    let narrow = given_of run_shape.rules (run_rule 2) (codes "narrow") rows refl pass in
-    let oct = given_of run_shape.rules (run_rule 3) (codes "oct") rows refl pass in
-    let max_runs = given_of run_shape.rules (run_rule 4) (codes "max-runs") rows refl pass in
-    let points = given_of run_shape.rules (run_rule 6) (codes "points") rows refl pass in
+-- the numbers of a level whose rules find the five of `run` by their names
+numbers_found : (c : List Rule) (rows : List Row) → arg_by_id c (codes "workers") ≡ Some (run_rule 0) → arg_by_id c (codes "delay") ≡ Some (run_rule 1)
+    → arg_by_id c (codes "narrow") ≡ Some (run_rule 2) → arg_by_id c (codes "oct") ≡ Some (run_rule 3) → arg_by_id c (codes "max-runs") ≡ Some (run_rule 4)
+    → Each (Passes c) rows → AreNumbersFound rows
+numbers_found c rows first second third fourth fifth pass =
+    let workers = given_of c (run_rule 0) (codes "workers") rows first pass in
+    let delay = given_of c (run_rule 1) (codes "delay") rows second pass in
+    let narrow = given_of c (run_rule 2) (codes "narrow") rows third pass in
+    let oct = given_of c (run_rule 3) (codes "oct") rows fourth pass in
+    let max_runs = given_of c (run_rule 4) (codes "max-runs") rows fifth pass in
     record {
       workers = record { within = workers.passed; read = workers.read };
       delay = record { within = delay.passed; read = delay.read };
       narrow = record { within = narrow.passed; read = narrow.read };
       oct = record { within = oct.passed; read = oct.read };
       max_runs = record { within = max_runs.passed; read = max_runs.read };
+    }
+
+pub run_found : (rows : List Row) → Each (Passes run_shape.rules) rows → IsRunFound rows
+run_found rows pass =
+    let points = given_of run_shape.rules (run_rule 6) (codes "points") rows refl pass in
+    record {
+      numbers = numbers_found run_shape.rules rows refl refl refl refl refl pass;
       points = record { word = points.passed; read = points.read ∙ copied (first_of (codes "points") rows) };
     }
+
+pub cert_found : (rows : List Row) → Each (Passes cert_shape.rules) rows → AreNumbersFound rows
+cert_found rows pass = numbers_found cert_shape.rules rows refl refl refl refl refl pass
 
 signed_wider : (least most high : ℕ) (t : Text) → most ≤ high → IsSignedIn (pos least) (pos most) t → IsSignedIn (pos 0) (pos high) t
 signed_wider least most high t wide passed = (passed.0, passed.1, omega (arith, ints, passed.2), omega (arith, ints, passed.3))
@@ -369,14 +415,18 @@ required_wider name least most high rows wide found = record { number = found_wi
 pub workers_in_range : (rows : List Row) → IsNumberFound (codes "workers") 1 64 rows → (1 ≤ number_of (codes "workers") 4 rows) × (number_of (codes "workers") 4 rows ≤ 64)
 workers_in_range rows found = number_in_range (codes "workers") 1 64 4 rows (lit≤ tt) (lit≤ tt) found
 
-pub run_in_range : (rows : List Row) → IsRunFound rows → IsInRange (Run (run_options rows))
-run_in_range rows found =
+pub cert_in_range : (rows : List Row) → AreNumbersFound rows → IsInRange (Cert (cert_options rows))
+cert_in_range rows found =
     let workers = workers_in_range rows found.workers in
     let delay = number_in_range (codes "delay") 0 16 0 rows (lit≤ tt) (lit≤ tt) found.delay in
     let narrow = number_in_range (codes "narrow") 0 8 2 rows (lit≤ tt) (lit≤ tt) found.narrow in
     let oct = number_in_range (codes "oct") 0 64 16 rows (lit≤ tt) (lit≤ tt) found.oct in
     let max_runs = number_in_range (codes "max-runs") 1 549755813888 1000000 rows (lit≤ tt) (lit≤ tt) found.max_runs in
     (workers.0, workers.1, delay.1, narrow.1, oct.1, max_runs.0, max_runs.1)
+
+-- the ranges are the same
+pub run_in_range : (rows : List Row) → IsRunFound rows → IsInRange (Run (run_options rows))
+run_in_range rows found = cert_in_range rows found.numbers
 
 -- ---- the options of `gen`
 
@@ -471,32 +521,60 @@ pub given_of_found : (words : List Text) (m : ArgMatches) (name : Text) (rows : 
     → subcommand_name_of m ≡ Some name → option_map (λ p. p.1) (subcommand_rows_of m) ≡ Some rows → given_by words ≡ Some (name, rows)
 given_of_found words m name rows given named is = sym given ∙ pair_of (subcommand_rows_of m) name rows (sym (name_of_rows m) ∙ named) is
 
--- the rows of `run` and of `gen` are as their options say
-pub run_of_taken : (words : List Text) (rows : List Row) → fault_of pikos_app words ≡ [] → given_by words ≡ Some (codes "run", rows) → IsRunFound rows
-run_of_taken words rows taken given = elim (taken_names words taken) [
-  | inl names ↦ subst IsRunFound (sym (pair_rows (given_by words) rows names.rows (codes "run") (ap (option_map (λ p. p.1)) given) names.given)) (run_found names.rows names.pass)
-  | inr other ↦ elim other [
-    | inl names ↦ absurd (other_names (given_by words) (codes "run") (codes "order") rows names.rows refl given names.given)
-    | inr names ↦ absurd (other_names (given_by words) (codes "run") (codes "gen") rows names.rows refl given names.given)
-  ]
-]
+-- the rows of a command are as its options say
+module _ (words : List Text) (rows : List Row) where
+  -- the words name another command
+  other : (shape : Shape) (name : Text) → bytes_eq name shape.name ≡ false → given_by words ≡ Some (name, rows) → NamesCommand shape words → ⊥
+  other shape name differ given names = other_names (given_by words) name shape.name rows names.rows differ given names.given
 
-pub gen_of_taken : (words : List Text) (rows : List Row) → fault_of pikos_app words ≡ [] → given_by words ≡ Some (codes "gen", rows) → IsGenFound rows
-gen_of_taken words rows taken given = elim (taken_names words taken) [
-  | inl names ↦ absurd (other_names (given_by words) (codes "gen") (codes "run") rows names.rows refl given names.given)
-  | inr other ↦ elim other [
-    | inl names ↦ absurd (other_names (given_by words) (codes "gen") (codes "order") rows names.rows refl given names.given)
-    | inr names ↦ subst IsGenFound (sym (pair_rows (given_by words) rows names.rows (codes "gen") (ap (option_map (λ p. p.1)) given) names.given)) (gen_found names.rows names.pass names.check)
-  ]
-]
+  -- what holds of the rows that the command of this shape has holds of these
+  own : (P : List Row → Type 0) (shape : Shape) → given_by words ≡ Some (shape.name, rows) → (names : NamesCommand shape words) → P names.rows → P rows
+  own P shape given names is = subst P (sym (pair_rows (given_by words) rows names.rows shape.name (ap (option_map (λ p. p.1)) given) names.given)) is
+
+  run_of : given_by words ≡ Some (codes "run", rows) → NamesOne words → IsRunFound rows
+  run_of given (inl names) = own IsRunFound run_shape given names (run_found names.rows names.pass)
+  run_of given (inr (inl names)) = absurd (other order_shape (codes "run") refl given names)
+  run_of given (inr (inr (inl names))) = absurd (other gen_shape (codes "run") refl given names)
+  run_of given (inr (inr (inr (inl names)))) = absurd (other cert_shape (codes "run") refl given names)
+  run_of given (inr (inr (inr (inr names)))) = absurd (other check_shape (codes "run") refl given names)
+
+  gen_of : given_by words ≡ Some (codes "gen", rows) → NamesOne words → IsGenFound rows
+  gen_of given (inl names) = absurd (other run_shape (codes "gen") refl given names)
+  gen_of given (inr (inl names)) = absurd (other order_shape (codes "gen") refl given names)
+  gen_of given (inr (inr (inl names))) = own IsGenFound gen_shape given names (gen_found names.rows names.pass names.check)
+  gen_of given (inr (inr (inr (inl names)))) = absurd (other cert_shape (codes "gen") refl given names)
+  gen_of given (inr (inr (inr (inr names)))) = absurd (other check_shape (codes "gen") refl given names)
+
+  cert_of : given_by words ≡ Some (codes "cert", rows) → NamesOne words → AreNumbersFound rows
+  cert_of given (inl names) = absurd (other run_shape (codes "cert") refl given names)
+  cert_of given (inr (inl names)) = absurd (other order_shape (codes "cert") refl given names)
+  cert_of given (inr (inr (inl names))) = absurd (other gen_shape (codes "cert") refl given names)
+  cert_of given (inr (inr (inr (inl names)))) = own AreNumbersFound cert_shape given names (cert_found names.rows names.pass)
+  cert_of given (inr (inr (inr (inr names)))) = absurd (other check_shape (codes "cert") refl given names)
+
+  pub run_of_taken : fault_of pikos_app words ≡ [] → given_by words ≡ Some (codes "run", rows) → IsRunFound rows
+  run_of_taken taken given = run_of given (taken_names words taken)
+
+  pub gen_of_taken : fault_of pikos_app words ≡ [] → given_by words ≡ Some (codes "gen", rows) → IsGenFound rows
+  gen_of_taken taken given = gen_of given (taken_names words taken)
+
+  pub cert_of_taken : fault_of pikos_app words ≡ [] → given_by words ≡ Some (codes "cert", rows) → AreNumbersFound rows
+  cert_of_taken taken given = cert_of given (taken_names words taken)
 
 -- words that are taken name one of the commands
+abbrev pub HasName : ArgMatches → Text → Type 0
+HasName m name = subcommand_name_of m ≡ Some name
+
+name_found : (words : List Text) (m : ArgMatches) (shape : Shape) → subcommand_rows_of m ≡ given_by words → NamesCommand shape words → HasName m shape.name
+name_found words m shape given names = name_of_rows m ∙ ap (option_map (λ p. p.0)) (given ∙ names.given)
+
 pub one_is_named : (words : List Text) (m : ArgMatches) → fault_of pikos_app words ≡ [] → subcommand_rows_of m ≡ given_by words
-    → (subcommand_name_of m ≡ Some (codes "run")) ⊎ (subcommand_name_of m ≡ Some (codes "order")) ⊎ (subcommand_name_of m ≡ Some (codes "gen"))
-one_is_named words m taken given = elim (taken_names words taken) [
-  | inl names ↦ inl (name_of_rows m ∙ ap (option_map (λ p. p.0)) (given ∙ names.given))
-  | inr other ↦ elim other [
-    | inl names ↦ inr (inl (name_of_rows m ∙ ap (option_map (λ p. p.0)) (given ∙ names.given)))
-    | inr names ↦ inr (inr (name_of_rows m ∙ ap (option_map (λ p. p.0)) (given ∙ names.given)))
-  ]
-]
+    → HasName m (codes "run") ⊎ HasName m (codes "order") ⊎ HasName m (codes "gen") ⊎ HasName m (codes "cert") ⊎ HasName m (codes "check")
+one_is_named words m taken given = go (taken_names words taken)
+  where
+    go : NamesOne words → HasName m (codes "run") ⊎ HasName m (codes "order") ⊎ HasName m (codes "gen") ⊎ HasName m (codes "cert") ⊎ HasName m (codes "check")
+    go (inl names) = inl (name_found words m run_shape given names)
+    go (inr (inl names)) = inr (inl (name_found words m order_shape given names))
+    go (inr (inr (inl names))) = inr (inr (inl (name_found words m gen_shape given names)))
+    go (inr (inr (inr (inl names)))) = inr (inr (inr (inl (name_found words m cert_shape given names))))
+    go (inr (inr (inr (inr names)))) = inr (inr (inr (inr (name_found words m check_shape given names))))

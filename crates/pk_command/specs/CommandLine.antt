@@ -62,6 +62,14 @@ gen_app = command (codes "gen") (required_number (codes "seed") 0 2147483647
     ∷ workers_option
     ∷ [])
 
+-- `cert [--workers N] [--delay D] [--narrow K] [--oct N] [--max-runs N] [--entry NAME]`
+abbrev pub cert_app : App
+cert_app = command (codes "cert") (run_number_options ++ entry_option ∷ [])
+
+-- `check`
+abbrev pub check_app : App
+check_app = command (codes "check") []
+
 -- a command is required; the words leave out the program's name, and nothing asks for help or a version
 abbrev pub program_shape : Shape
 program_shape = record (new_app (codes "pikos")).top {
@@ -76,7 +84,9 @@ abbrev pub program_app : App
 program_app = record { top = program_shape; subs = [] }
 
 abbrev pub pikos_app : App
-pikos_app = with_subcommand (with_subcommand (with_subcommand program_app run_app.top) order_app.top) gen_app.top
+pikos_app =
+    with_subcommand (with_subcommand (with_subcommand (with_subcommand (with_subcommand program_app
+    run_app.top) order_app.top) gen_app.top) cert_app.top) check_app.top
 
 abbrev pub is_empty : Kinds → Bool
 is_empty [] = true

@@ -20,12 +20,16 @@ pub record IsFlagFound (name : Text) (rows : List Row) : Type 0 where
       (λ text. (bytes_eq text (codes "true") || bytes_eq text (codes "false")) ≡ true)
   pub read : one_of name rows ≡ first_of name rows
 
-pub record IsRunFound (rows : List Row) : Type 0 where
+-- the numbers of `run` and of `cert`
+pub record AreNumbersFound (rows : List Row) : Type 0 where
   pub workers : IsNumberFound (codes "workers") 1 64 rows
   pub delay : IsNumberFound (codes "delay") 0 16 rows
   pub narrow : IsNumberFound (codes "narrow") 0 8 rows
   pub oct : IsNumberFound (codes "oct") 0 64 rows
   pub max_runs : IsNumberFound (codes "max-runs") 1 549755813888 rows
+
+pub record IsRunFound (rows : List Row) : Type 0 where
+  pub numbers : AreNumbersFound rows
   pub points : IsFlagFound (codes "points") rows
 
 pub record IsGenFound (rows : List Row) : Type 0 where

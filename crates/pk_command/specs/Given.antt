@@ -5,10 +5,11 @@ use Rattle.std.specs.Str.{bytes_eq}
 use Rattle.std.specs.Str.Parse.{digits_value, without_leading_sign}
 use Rattle.clap.specs.Words.{Row, Text, first_of, subcommand_of}
 use Rattle.pk_command.specs.declared.asked.Command.{Command}
-use Rattle.pk_command.specs.declared.asked.Command.TheVariants.{Run, Order, Gen}
+use Rattle.pk_command.specs.declared.asked.Command.TheVariants.{Run, Order, Gen, Cert, Check}
 use Rattle.pk_command.specs.declared.asked.RunOptions.{RunOptions}
 use Rattle.pk_command.specs.declared.asked.OrderOptions.{OrderOptions}
 use Rattle.pk_command.specs.declared.asked.GenOptions.{GenOptions}
+use Rattle.pk_command.specs.declared.asked.CertOptions.{CertOptions}
 use Rattle.pk_command.specs.CommandLine.{is_taken, pikos_app}
 
 -- the command that the words name, and what they give of its options
@@ -55,6 +56,16 @@ pub record IsGen (rows : List Row) (options : GenOptions) : Type 0 where
   pub size : number_given (codes "size") rows ≡ Some options.size
   pub workers : options.workers ≡ number_of (codes "workers") 4 rows
 
+abbrev pub cert_options : List Row → CertOptions
+cert_options rows = record {
+  workers = number_of (codes "workers") 4 rows;
+  delay = number_of (codes "delay") 0 rows;
+  narrow = number_of (codes "narrow") 2 rows;
+  oct = number_of (codes "oct") 16 rows;
+  max_runs = number_of (codes "max-runs") 1000000 rows;
+  entry = text_of (codes "entry") (codes "main") rows;
+}
+
 -- the words are taken, and ask for the command
 unfoldable pub AsksFor : List Text → Command → Type 0
 AsksFor words (Run options) =
@@ -65,6 +76,10 @@ AsksFor words (Order options) =
     × ((rows : List Row) × ((given_by words ≡ Some (codes "order", rows)) × (options ≡ order_options rows)))
 AsksFor words (Gen options) =
     IsTrue (is_taken words) × ((rows : List Row) × ((given_by words ≡ Some (codes "gen", rows)) × IsGen rows options))
+AsksFor words (Cert options) =
+    IsTrue (is_taken words)
+    × ((rows : List Row) × ((given_by words ≡ Some (codes "cert", rows)) × (options ≡ cert_options rows)))
+AsksFor words Check = IsTrue (is_taken words) × ((rows : List Row) × (given_by words ≡ Some (codes "check", rows)))
 
 -- each number lies in its option's range
 abbrev pub IsInRange : Command → Type 0
@@ -74,3 +89,6 @@ IsInRange (Order options) = ⊤
 IsInRange (Gen options) =
     (options.seed ≤ 2147483647) × (1 ≤ options.size) × (options.size ≤ 1000) × (1 ≤ options.workers)
     × (options.workers ≤ 64)
+IsInRange (Cert options) = (1 ≤ options.workers) × (options.workers ≤ 64) × (options.delay ≤ 16) × (options.narrow ≤ 8)
+    × (options.oct ≤ 64) × (1 ≤ options.max_runs) × (options.max_runs ≤ 549755813888)
+IsInRange Check = ⊤

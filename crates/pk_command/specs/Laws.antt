@@ -2,7 +2,7 @@
 use Rattle.std.specs.Prelude.{◌≡◌, false, IsTrue, List, [], ◌∷◌, codes}
 use Rattle.clap.specs.Words.{Text}
 use Rattle.pk_command.specs.declared.asked.Command.{Command}
-use Rattle.pk_command.specs.declared.asked.Command.TheVariants.{Run, Order, Gen}
+use Rattle.pk_command.specs.declared.asked.Command.TheVariants.{Run, Order, Gen, Cert, Check}
 use Rattle.pk_command.specs.CommandLine.{is_taken}
 use Rattle.pk_command.specs.Given.{AsksFor}
 
@@ -32,6 +32,29 @@ GenIsTaken =
 abbrev pub GenNeedsOptions : Type 0
 GenNeedsOptions = (is_taken (codes "gen" ∷ codes "--seed" ∷ codes "2" ∷ []) ≡ false)
     × (is_taken (codes "gen" ∷ codes "--size" ∷ codes "1" ∷ []) ≡ false)
+
+-- the word `cert` alone asks for a certificate with every default
+abbrev pub CertIsTaken : Type 0
+CertIsTaken = AsksFor (codes "cert" ∷ []) (Cert (record {
+  workers = 4;
+  delay = 0;
+  narrow = 2;
+  oct = 16;
+  max_runs = 1000000;
+  entry = codes "main";
+}))
+
+-- the word `cert` isn't taken with the option of `run` that it lacks
+abbrev pub CertTakesNoPoints : Type 0
+CertTakesNoPoints = is_taken (codes "cert" ∷ codes "--points" ∷ []) ≡ false
+
+-- the word `check` alone asks for a check
+abbrev pub CheckIsTaken : Type 0
+CheckIsTaken = AsksFor (codes "check" ∷ []) Check
+
+-- the word `check` isn't taken with an option of `run` and `cert`
+abbrev pub CheckTakesNoOct : Type 0
+CheckTakesNoOct = is_taken (codes "check" ∷ codes "--oct" ∷ codes "1" ∷ []) ≡ false
 
 -- words that are taken ask for a command
 abbrev pub TakenAsks : Type 0

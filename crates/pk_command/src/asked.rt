@@ -39,12 +39,31 @@ pub struct GenOptions {
     pub workers: u32,
 }
 
+/// The options of `cert`: those of `run`, but for `--points`.
+#[derive(Drop)]
+pub struct CertOptions {
+    /// How many threads iterate, from 1 to 64.
+    pub workers: u32,
+    /// How often a head is joined before it is widened, from 0 to 16.
+    pub delay: u32,
+    /// How often a head may be narrowed, from 0 to 8.
+    pub narrow: u32,
+    /// How many variables the octagon has at most, from 0 to 64.
+    pub oct: usize,
+    /// How often an element may be run, from 1 to 549755813888.
+    pub max_runs: u64,
+    /// The name of the function that a run of the text begins with. It may be any text, the empty one too.
+    pub entry: Name,
+}
+
 /// A command, with its options.
 #[derive(Drop)]
 pub enum Command {
     Run(RunOptions),
     Order(OrderOptions),
     Gen(GenOptions),
+    Cert(CertOptions),
+    Check,
 }
 
 /// Why words give no command.

@@ -3,7 +3,7 @@
 ghost use Rattle.std.specs.Prelude.{◌≡◌, IfOk, Ok, codes, false};
 ghost use Rattle.clap.specs.Words.{App, Rule, app_of, rule_of, with_rule, with_subcommand};
 ghost use Rattle.clap.specs.declared.Command.TheViews.{out-Command as fields_of};
-ghost use Rattle.pk_command.specs.CommandLine.{IsCommand, IsOption, number_option, required_number, text_option, flag, command, run_number_options, run_app, order_app, gen_app, program_app, pikos_app};
+ghost use Rattle.pk_command.specs.CommandLine.{IsCommand, IsOption, number_option, required_number, text_option, flag, command, run_number_options, run_app, order_app, gen_app, cert_app, check_app, program_app, pikos_app};
 
 use clap::{Arg, ArgAction, Command};
 use std::alloc::{AllocError, Global};
@@ -119,11 +119,11 @@ fn before<'a>(
     command.subcommand(behind)
 }
 
-// The options of `run` that are numbers.
-fn run_numbers<'a>(alloc: Global) -> Result<Command<'a>, AllocError>
-    ensures { IfOk result (IsCommand (command (codes "run") run_number_options)) }
+// A command with the options of `run` that are numbers.
+fn run_numbers<'a>(alloc: Global, name: &'a str) -> Result<Command<'a>, AllocError>
+    ensures { IfOk result (IsCommand (command name.now run_number_options)) }
 {
-    let run = Ok(Command::new(alloc, "run"));
+    let run = Ok(Command::new(alloc, name));
     let run = with(run, workers(alloc));
     let run = with(run, delay(alloc));
     let run = with(run, narrow(alloc));
@@ -134,7 +134,7 @@ fn run_numbers<'a>(alloc: Global) -> Result<Command<'a>, AllocError>
 fn run_command<'a>(alloc: Global) -> Result<Command<'a>, AllocError>
     ensures { IfOk result (IsCommand run_app) }
 {
-    let run = with(run_numbers(alloc), entry(alloc));
+    let run = with(run_numbers(alloc, "run"), entry(alloc));
     with(run, points(alloc))
 }
 
@@ -174,6 +174,18 @@ fn gen_command<'a>(alloc: Global) -> Result<Command<'a>, AllocError>
     with(made, workers(alloc))
 }
 
+fn cert_command<'a>(alloc: Global) -> Result<Command<'a>, AllocError>
+    ensures { IfOk result (IsCommand cert_app) }
+{
+    with(run_numbers(alloc, "cert"), entry(alloc))
+}
+
+fn check_command<'a>(alloc: Global) -> Command<'a>
+    ensures { IsCommand check_app result }
+{
+    Command::new(alloc, "check")
+}
+
 fn program<'a>(alloc: Global) -> Command<'a>
     ensures app { app_of result ≡ program_app }
     ensures local { (fields_of result).has_globals ≡ false }
@@ -193,5 +205,7 @@ pub fn command_line<'a>(alloc: Global) -> Result<Command<'a>, AllocError>
     let program = before(Ok(program(alloc)), run_command(alloc));
     let program = before(program, order_command(alloc));
     let program = before(program, gen_command(alloc));
+    let program = before(program, cert_command(alloc));
+    let program = before(program, Ok(check_command(alloc)));
     program
 }

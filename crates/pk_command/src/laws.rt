@@ -1,6 +1,6 @@
 // Laws of the command line.
 
-ghost use Rattle.pk_command.specs.Laws.{GenIsTaken, GenNeedsOptions, OneCommand, OrderIsTaken, RunIsTaken, TakenAsks};
+ghost use Rattle.pk_command.specs.Laws.{CertIsTaken, CertTakesNoPoints, CheckIsTaken, CheckTakesNoOct, GenIsTaken, GenNeedsOptions, OneCommand, OrderIsTaken, RunIsTaken, TakenAsks};
 
 /// The word `run` alone asks for a run with every default.
 pub fn run_is_taken()
@@ -20,6 +20,26 @@ pub fn gen_is_taken()
 /// The word `gen` isn't taken without a seed and a size.
 pub fn gen_needs_options()
     ensures { GenNeedsOptions }
+{}
+
+/// The word `cert` alone asks for a certificate with every default.
+pub fn cert_is_taken()
+    ensures { CertIsTaken }
+{}
+
+/// The word `cert` isn't taken with `--points`, which `run` has.
+pub fn cert_takes_no_points()
+    ensures { CertTakesNoPoints }
+{}
+
+/// The word `check` alone asks for a check.
+pub fn check_is_taken()
+    ensures { CheckIsTaken }
+{}
+
+/// The word `check` isn't taken with `--oct`, which `run` and `cert` have.
+pub fn check_takes_no_oct()
+    ensures { CheckTakesNoOct }
 {}
 
 /// Words that are taken ask for a command.

@@ -6,8 +6,9 @@ mod definition;
 mod laws;
 mod reading;
 
-pub use asked::{Command, GenOptions, OrderOptions, RunOptions, WordsError};
+pub use asked::{CertOptions, Command, GenOptions, OrderOptions, RunOptions, WordsError};
 pub use laws::{
-    gen_is_taken, gen_needs_options, one_command, order_is_taken, run_is_taken, taken_asks,
+    cert_is_taken, cert_takes_no_points, check_is_taken, check_takes_no_oct, gen_is_taken,
+    gen_needs_options, one_command, order_is_taken, run_is_taken, taken_asks,
 };
 pub use reading::read_words;

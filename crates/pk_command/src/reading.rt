@@ -3,10 +3,10 @@
 ghost use Rattle.std.specs.Prelude.{◌≡◌, [], Some, IfOk, OnOk, false, codes, map, string_bytes};
 ghost use Rattle.clap.specs.Words.{fault_of, found_of, rows_of, subcommand_rows_of};
 ghost use Rattle.pk_command.specs.CommandLine.{is_taken, pikos_app};
-ghost use Rattle.pk_command.specs.Given.{AsksFor, IsInRange, IsGen, given_by, is_set, number_given, number_of, order_options as order_options_of, run_options as run_options_of, text_of};
-ghost use Rattle.pk_command.specs.Found.{IsFlagFound, IsGenFound, IsNumberFound, IsRequiredFound, IsRunFound};
+ghost use Rattle.pk_command.specs.Given.{AsksFor, IsInRange, IsGen, cert_options as cert_options_of, given_by, is_set, number_given, number_of, order_options as order_options_of, run_options as run_options_of, text_of};
+ghost use Rattle.pk_command.specs.Found.{AreNumbersFound, IsFlagFound, IsGenFound, IsNumberFound, IsRequiredFound, IsRunFound};
 
-use crate::asked::{Command, GenOptions, OrderOptions, RunOptions, WordsError};
+use crate::asked::{CertOptions, Command, GenOptions, OrderOptions, RunOptions, WordsError};
 use crate::definition::command_line;
 use clap::ArgMatches;
 use clap::error::ErrorKind;
@@ -80,17 +80,40 @@ fn entry(alloc: Global, found: &ArgMatches<'_>) -> Result<Name, AllocError>
     Name::new(alloc, text(found, "entry", "main").as_bytes())
 }
 
-fn run_options(alloc: Global, found: &ArgMatches<'_>) -> Result<RunOptions, AllocError>
-    requires { IsRunFound (rows_of (found_of found.now)) }
-    ensures { IfOk result (λ options. options ≡ run_options_of (rows_of (found_of found.now))) }
+fn cert_options(alloc: Global, found: &ArgMatches<'_>) -> Result<CertOptions, AllocError>
+    requires { AreNumbersFound (rows_of (found_of found.now)) }
+    ensures { IfOk result (λ options. options ≡ cert_options_of (rows_of (found_of found.now))) }
 {
-    Ok(RunOptions {
+    Ok(CertOptions {
         workers: workers(found),
         delay: number(found, "delay", 0) as u32,
         narrow: number(found, "narrow", 2) as u32,
         oct: number(found, "oct", 16) as usize,
         max_runs: number(found, "max-runs", 1000000),
         entry: entry(alloc, found)?,
+    })
+}
+
+// `run` has the options of `cert`, and one more.
+fn run_options(alloc: Global, found: &ArgMatches<'_>) -> Result<RunOptions, AllocError>
+    requires { IsRunFound (rows_of (found_of found.now)) }
+    ensures { IfOk result (λ options. options ≡ run_options_of (rows_of (found_of found.now))) }
+{
+    let CertOptions {
+        workers,
+        delay,
+        narrow,
+        oct,
+        max_runs,
+        entry,
+    } = cert_options(alloc, found)?;
+    Ok(RunOptions {
+        workers,
+        delay,
+        narrow,
+        oct,
+        max_runs,
+        entry,
         points: is_given(found, "points"),
     })
 }
@@ -130,7 +153,13 @@ pub fn read_words(alloc: Global, words: &[String]) -> Result<Command, WordsError
             Some(found) => Ok(Command::Order(order_options(alloc, found)?)),
             None => match matches.subcommand_matches("gen") {
                 Some(found) => Ok(Command::Gen(gen_options(found))),
-                None => unreachable!(),
+                None => match matches.subcommand_matches("cert") {
+                    Some(found) => Ok(Command::Cert(cert_options(alloc, found)?)),
+                    None => match matches.subcommand_matches("check") {
+                        Some(_) => Ok(Command::Check),
+                        None => unreachable!(),
+                    },
+                },
             },
         },
     }

@@ -1,7 +1,7 @@
 use Rattle.std.proofs.Common.{◌≤◌, arith, codes, lit≤}
 use Rattle.clap.specs.Words.{found_of, rows_of}
-use Rattle.pk_command.proofs.Taken.{found_wider, run_in_range}
-use Rattle.pk_command.proofs.reading.run_options.Goals as goal
+use Rattle.pk_command.proofs.Taken.{found_wider, cert_in_range}
+use Rattle.pk_command.proofs.reading.cert_options.Goals as goal
 
 pub number-requires : goal.number-requires
 number-requires c = found_wider (codes "delay") 0 16 549755813888 (rows_of (found_of c.args.found.now)) (lit≤ tt) c.requires.delay
@@ -17,12 +17,12 @@ number-requires-4 c = found_wider (codes "max-runs") 1 549755813888 549755813888
 
 pub overflow_cast-result : goal.overflow_cast-result
 overflow_cast-result c =
-    let range = run_in_range (rows_of (found_of c.args.found.now)) c.requires in
+    let range = cert_in_range (rows_of (found_of c.args.found.now)) c.requires in
     let small : c.number.result ≤ 16 = rw c.number.ensures range.2 in
     omega arith
 
 pub overflow_cast-result-2 : goal.overflow_cast-result-2
 overflow_cast-result-2 c =
-    let range = run_in_range (rows_of (found_of c.args.found.now)) c.requires in
+    let range = cert_in_range (rows_of (found_of c.args.found.now)) c.requires in
     let small : c.number-2.result ≤ 8 = rw c.number-2.ensures range.3 in
     omega arith
