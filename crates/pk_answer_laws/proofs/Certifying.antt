@@ -91,16 +91,19 @@ certificates_checked law raw made names text o bytes range (short, certified, no
       has_graph = x.has_graph;
       verdicts = vs;
       unknown = unknown_in vs;
-      reply = (certified.few, record {
-        head = h;
-        graph = g;
-        of_graph = record { begins = begins; has_graph = x.has_graph };
-        cells = map (cell_of l) known;
-        read = record { known = known; each = well.facts.each; facts = well.facts.facts; cells_are = refl; told = x.told };
-        solved = well.solved;
-        counted = ap unknown_in same;
-        told_is = sym (append_assoc (valid_line g) (flat_map (access_line g.paths) (zip (accesses_of g) vs)) (last_line vs))
-            ∙ ap (λ (us : List Verdict). valid_line g ++ flat_map (access_line g.paths) (zip (accesses_of g) us) ++ last_line us) same;
-      });
+      reply = (
+        certified.few,
+        record {
+          head = h;
+          graph = g;
+          of_graph = record { begins = begins; has_graph = x.has_graph };
+          cells = map (cell_of l) known;
+          read = record { known = known; each = well.facts.each; facts = well.facts.facts; cells_are = refl; told = x.told };
+          solved = well.solved;
+          counted = ap unknown_in same;
+          told_is = sym (append_assoc (valid_line g) (flat_map (access_line g.paths) (zip (accesses_of g) vs)) (last_line vs))
+              ∙ ap (λ (us : List Verdict). valid_line g ++ flat_map (access_line g.paths) (zip (accesses_of g) us) ++ last_line us) same;
+        },
+      );
       reports = ends_so raw g (certified_options o) o.max_runs x.cells x.are;
     }

@@ -14,9 +14,9 @@ use pk_cert_laws::{read_cells_hold_states, results_check_well};
 use pk_command::taken_asks;
 use pk_order::order_is_determined;
 use pk_order_laws::every_digraph_has_an_order;
+use pk_solver::raw_cells_are_determined;
 use pk_text_graph::graphs_are_well_made;
 use pk_text_laws::every_text_ends;
-use pk_solver::raw_cells_are_determined;
 use pk_transfer::graphs_law;
 use pk_unit_texts::entries_are_names;
 

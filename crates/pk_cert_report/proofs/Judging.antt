@@ -133,8 +133,7 @@ module _ (laws : Laws) (bytes : List ℕ) where
       let cells : x.cells ≡ y.cells =
       one_cells y.head y.graph y.of_graph x.cells y.cells (moved (λ i f. AreReadCells f i bytes x.cells) x.head y.head x.graph y.graph x.of_graph y.of_graph x.read) y.read in
       let counted = moved (λ i f. m ≡ unknown_in (verdicts_of f (reduced_states (layout_of f i.oct) x.cells))) x.head y.head x.graph y.graph x.of_graph y.of_graph x.counted in
-      let told = moved (λ i f. a ≡ checked_text f (accesses_of f) (verdicts_of f (reduced_states (layout_of f i.oct) x.cells))) x.head y.head x.graph y.graph x.of_graph y.of_graph x.told_is in
-      (
+      let told = moved (λ i f. a ≡ checked_text f (accesses_of f) (verdicts_of f (reduced_states (layout_of f i.oct) x.cells))) x.head y.head x.graph y.graph x.of_graph y.of_graph x.told_is in (
         counted ∙ ap (λ (cs : List (Cell Stated)). unknown_in (verdicts_of y.graph (reduced_states (layout_of y.graph y.head.oct) cs))) cells ∙ sym y.counted,
         told ∙ ap (λ (cs : List (Cell Stated)). checked_text y.graph (accesses_of y.graph) (verdicts_of y.graph (reduced_states (layout_of y.graph y.head.oct) cs))) cells ∙ sym y.told_is,
       )

@@ -116,11 +116,7 @@ fn entry_of(alloc: Global, bytes: &[u8], head: &Head<'_>) -> Result<Name, AllocE
 }
 
 // The check of bytes with a head.
-fn check_head(
-    alloc: Global,
-    bytes: &[u8],
-    head: &Head<'_>,
-) -> Result<(Vec<u8>, u64), Status>
+fn check_head(alloc: Global, bytes: &[u8], head: &Head<'_>) -> Result<(Vec<u8>, u64), Status>
     requires { IsHeadRead bytes.now head.now }
     ensures ok { IfOk result (λ r. IsValid bytes.now r.1 r.0.items) }
     ensures err { IfErr result (IsInvalid bytes.now) }

@@ -198,8 +198,12 @@ fn checks_meet_faults(rt: HostRuntime) -> Result<(), Fail> {
     for read in 0..8 {
         let text = BLANK.as_bytes();
         assert!(rt;
-            called(&rt, rt.alloc(), &NoGate {}, "check", text, read, NEVER)?
-                .is(5, "", 0, "pikos: read fault"),
+            called(&rt, rt.alloc(), &NoGate {}, "check", text, read, NEVER)?.is(
+                5,
+                "",
+                0,
+                "pikos: read fault"
+            ),
             "{read}"
         );
     }
@@ -208,8 +212,12 @@ fn checks_meet_faults(rt: HostRuntime) -> Result<(), Fail> {
         let line = format!(in rt.alloc(); "pikos: write fault after {sent} bytes")?;
         let text = BLANK.as_bytes();
         assert!(rt;
-            called(&rt, rt.alloc(), &NoGate {}, "check", text, NEVER, write)?
-                .is(6, VALID, sent, line.as_str()),
+            called(&rt, rt.alloc(), &NoGate {}, "check", text, NEVER, write)?.is(
+                6,
+                VALID,
+                sent,
+                line.as_str()
+            ),
             "{write}"
         );
         sent = sent.saturating_add(7);
@@ -242,15 +250,41 @@ fn is_checked<R: Threads + Wait + Sync>(
     alloc: Global,
     text: &[u8],
 ) -> Result<bool, AllocError> {
-    let one = called(rt, alloc, &NoGate {}, "cert --workers 1", text, NEVER, NEVER)?;
-    let eight = called(rt, alloc, &NoGate {}, "cert --workers 8", text, NEVER, NEVER)?;
+    let one = called(
+        rt,
+        alloc,
+        &NoGate {},
+        "cert --workers 1",
+        text,
+        NEVER,
+        NEVER,
+    )?;
+    let eight = called(
+        rt,
+        alloc,
+        &NoGate {},
+        "cert --workers 8",
+        text,
+        NEVER,
+        NEVER,
+    )?;
     let report = analysed(rt, alloc, text)?;
-    let check = called(rt, alloc, &NoGate {}, "check", one.out.bytes(), NEVER, NEVER)?;
-    Ok(one.code == 0
-        && one.out.bytes() == eight.out.bytes()
-        && check.code == report.code
-        && check.out.bytes().starts_with(b"valid points ")
-        && verdicts(check.out.bytes()) == verdicts(report.out.bytes()))
+    let check = called(
+        rt,
+        alloc,
+        &NoGate {},
+        "check",
+        one.out.bytes(),
+        NEVER,
+        NEVER,
+    )?;
+    Ok(
+        one.code == 0
+            && one.out.bytes() == eight.out.bytes()
+            && check.code == report.code
+            && check.out.bytes().starts_with(b"valid points ")
+            && verdicts(check.out.bytes()) == verdicts(report.out.bytes()),
+    )
 }
 
 #[test]

@@ -38,7 +38,11 @@ impl Words {
     }
 
     /// Those of a declaration, which may end with an enumeration.
-    pub fn at(scope: &Scope<'_>, words: &Specifiers, enumeration: &Option<Box<Enumeration>>) -> Words
+    pub fn at(
+        scope: &Scope<'_>,
+        words: &Specifiers,
+        enumeration: &Option<Box<Enumeration>>,
+    ) -> Words
         ensures { result ≡ enumerations.words_at (names_in (scoping_of scope.now)) (specifiers_tree words.now)
             (braces_tree enumeration.now) }
     {

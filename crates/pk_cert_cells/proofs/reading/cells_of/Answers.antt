@@ -18,9 +18,11 @@ loop-k-init c =
 
 pub loop-k-preserved : goal.loop-k-preserved
 loop-k-preserved c =
-    let g = graph_view c.args.graph.now in
-    (so_next (kinds_of g) (arc_value c.args.frame.now) c.args.shape (length g.points) c.args.bytes.now (map arc_value c.loop-k.cells.items) (map arc_value c.add_cell.new.cells.items) c.loop-k.k c.loop-k.at c.in-Ok.row c.in-Ok.n
-    c.loop-k.invariant.0 (omega (arith, c.loop-k-test.true, c.points-k-end.ensures)) (subst (λ (x : List ℕ). IsRowRead c.args.shape x c.in-Ok.row c.in-Ok.n) (take_rest c.args.bytes.now c.loop-k.at) c.in-Ok.ensures) c.in_ok-add_cell-in-Ok.ensures.cells, c.in_ok-add_cell-in-Ok.ensures.last)
+    let g = graph_view c.args.graph.now in (
+      so_next (kinds_of g) (arc_value c.args.frame.now) c.args.shape (length g.points) c.args.bytes.now (map arc_value c.loop-k.cells.items) (map arc_value c.add_cell.new.cells.items) c.loop-k.k c.loop-k.at c.in-Ok.row c.in-Ok.n
+          c.loop-k.invariant.0 (omega (arith, c.loop-k-test.true, c.points-k-end.ensures)) (subst (λ (x : List ℕ). IsRowRead c.args.shape x c.in-Ok.row c.in-Ok.n) (take_rest c.args.bytes.now c.loop-k.at) c.in-Ok.ensures) c.in_ok-add_cell-in-Ok.ensures.cells,
+      c.in_ok-add_cell-in-Ok.ensures.last,
+    )
 
 pub returns-in-Err-Byte : goal.returns-in-Err-Byte
 returns-in-Err-Byte c =
