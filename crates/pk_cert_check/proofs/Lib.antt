@@ -1,2 +1,3 @@
 mod Running
 mod Once
+mod Every

@@ -6,4 +6,4 @@ mod laws;
 mod runs;
 
 pub use checks::first_failing;
-pub use laws::one_check;
+pub use laws::{every_check_ends, one_check};

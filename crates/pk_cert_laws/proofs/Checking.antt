@@ -7,7 +7,7 @@ use Rattle.std.proofs.lemmas.List.Elements.{All-head, All-tail}
 use Rattle.pk_graph.specs.Graphs.{EdgeOf, PointOf, GraphOf}
 use Rattle.pk_state.specs.Layouts.{Layout}
 use Rattle.pk_state.specs.Facts.{Facts, Stated, AreFactsIf, IsBelow}
-use Rattle.pk_transfer.specs.Graphs.{layout_of}
+use Rattle.pk_transfer.specs.Graphs.{GraphsAreOver, layout_of}
 use Rattle.pk_plan.specs.Order.{Level}
 use Rattle.pk_plan.specs.Plans.{PlanView}
 use Rattle.pk_iterate.specs.Outcome.{Outcome}
@@ -19,12 +19,14 @@ use Rattle.pk_analysis.specs.declared.arrows.Arrow.{Arrow}
 use Rattle.pk_analysis.specs.Arrows.{arrows_at, origins}
 use Rattle.pk_analysis.specs.Flows.{Flow, stated, equation}
 use Rattle.pk_sound.specs.Results.{IsAnalysed, known_at_point}
-use Rattle.pk_sound.specs.Families.{given_on, IsSolved, ResultsAreFamilies}
+use Rattle.pk_sound.specs.Families.{given_on, IsLaidOut, AreFactsOf, IsSolved, ResultsAreFamilies}
 use Rattle.pk_sound.proofs.Arrows_at.{arrows_to}
+use Rattle.pk_cert.specs.Heads.{HeadOf}
 use Rattle.pk_cert_cells.specs.Cells.{state_in, facts_in}
-use Rattle.pk_cert_cells.specs.Reading.{cell_of}
+use Rattle.pk_cert_cells.specs.Reading.{cell_of, AreReadCells}
 use Rattle.pk_cert_check.specs.Checked.{cell_in, known_by, HoldStates}
-use Rattle.pk_cert_laws.specs.Checks.{ReadCellsHoldStates, ChecksWell, ResultsCheckWell}
+use Rattle.pk_cert_check.specs.Laws.{EveryCheckEnds}
+use Rattle.pk_cert_laws.specs.Checks.{ReadCellsHoldStates, ReadCellsAreChecked, ChecksWell, ResultsCheckWell}
 
 -- the cell of a point where this is known
 cell_there : (l : Layout) (known : List (Option Facts)) (v : ℕ) → v < length known → cell_in l (map (cell_of l) known) v ≡ cell_of l (slice_index_or known v None)
@@ -36,6 +38,17 @@ read_cells_hold_states g h bytes cells r =
       enough = omega (arith, length-map r.known (cell_of (layout_of g h.oct)), r.each);
       each = λ v p. (slice_index_or r.known v None, cell_there (layout_of g h.oct) r.known v (omega (arith, p, r.each)));
     })
+
+read_facts : (g : GraphOf) (h : HeadOf) (bytes : List ℕ) (cells : List (Cell Stated)) → AreReadCells g h bytes cells → AreFactsOf g (layout_of g h.oct) (known_by (layout_of g h.oct) cells)
+read_facts g h bytes cells r v p =
+    let l : Layout = layout_of g h.oct in
+    subst (λ (cs : List (Cell Stated)). AreFactsIf l (known_by l cs v)) (sym r.cells_are)
+    (subst (AreFactsIf l) (sym (ap (λ (c : Cell Stated). (value_of (stated l None) c).facts) (cell_there l r.known v (omega (arith, p, r.each))))) (r.facts v p))
+
+pub read_cells_are_checked : GraphsAreOver → EveryCheckEnds → ReadCellsAreChecked
+read_cells_are_checked over ends g h bytes cells made is r =
+    let laid : IsLaidOut g (layout_of g h.oct) = record { graph = made; layout = over.layouts g h.oct (omega (arith, is.oct)); over = over.over g h.oct } in
+    ends g (layout_of g h.oct) cells laid (read_facts g h bytes cells r)
 
 -- ---- families that are the same at each point
 

@@ -1,6 +1,7 @@
--- What is read of a certificate may be checked, and what an analysis leaves checks well.
+-- What is read of a certificate may be checked, with an answer, and what an analysis leaves checks well.
 use Rattle.std.specs.Prelude.{ℕ, List, map, length, Option, None}
 use Rattle.pk_graph.specs.Graphs.{GraphOf}
+use Rattle.pk_graph.specs.WellMade.{IsGraph}
 use Rattle.pk_state.specs.Facts.{Facts, Stated}
 use Rattle.pk_transfer.specs.Graphs.{layout_of}
 use Rattle.pk_plan.specs.Order.{Level}
@@ -10,7 +11,7 @@ use Rattle.pk_phases.specs.declared.equations.Cell.{Cell}
 use Rattle.pk_analysis.specs.declared.analysis.Options.{Options}
 use Rattle.pk_analysis.specs.Flows.{Flow}
 use Rattle.pk_sound.specs.Results.{IsAnalysed}
-use Rattle.pk_cert.specs.Heads.{HeadOf}
+use Rattle.pk_cert.specs.Heads.{HeadOf, IsHead}
 use Rattle.pk_cert_cells.specs.Cells.{facts_in}
 use Rattle.pk_cert_cells.specs.Reading.{cell_of, AreReadCells}
 use Rattle.pk_cert_cells.specs.Laws.{ArePointFacts}
@@ -21,6 +22,13 @@ abbrev pub ReadCellsHoldStates : Type 0
 ReadCellsHoldStates =
     (g : GraphOf) (h : HeadOf) (bytes : List ℕ) (cells : List (Cell Stated)) → AreReadCells g h bytes cells →
     HoldStates (layout_of g h.oct) (length g.points) cells
+
+-- They solve the equations of the graph's points, or there is a first point at which they don't.
+abbrev pub ReadCellsAreChecked : Type 0
+ReadCellsAreChecked =
+    (g : GraphOf) (h : HeadOf) (bytes : List ℕ) (cells : List (Cell Stated)) → IsGraph g → IsHead h →
+    AreReadCells g h bytes cells
+    → (o : Option ℕ) × IsChecked g (layout_of g h.oct) cells o
 
 -- These are facts for each point of the graph, and as cells they solve its equations.
 pub record ChecksWell (g : GraphOf) (oct : ℕ) (known : List (Option Facts)) : Type 0 where

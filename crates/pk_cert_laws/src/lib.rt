@@ -3,4 +3,6 @@
 
 mod laws;
 
-pub use laws::{checked_cells_hold_runs, read_cells_hold_states, results_check_well};
+pub use laws::{
+    checked_cells_hold_runs, read_cells_are_checked, read_cells_hold_states, results_check_well,
+};
