@@ -1,17 +1,16 @@
 -- A check of bytes has a reply, whatever they are.
-use Rattle.std.proofs.Common.{◌≡◌, ◌≢◌, ◌⊎◌, inl, inr, ℕ, ◌<◌, ◌≤◌, ◌^◌, List, [], length, refl, arith, Option, Some, None}
+use Rattle.std.proofs.Common.{◌≢◌, inl, inr, ℕ, List, [], refl, Option, Some, None}
 use Rattle.pk_command.specs.declared.asked.Command.TheVariants.{Check}
 use Rattle.pk_graph.specs.Accesses.{accesses_of}
 use Rattle.pk_graph.specs.Graphs.{GraphOf}
 use Rattle.pk_state.specs.Facts.{Stated}
-use Rattle.pk_transfer.specs.Graphs.{GraphsAreOver, layout_of}
+use Rattle.pk_transfer.specs.Graphs.{layout_of}
 use Rattle.pk_phases.specs.declared.equations.Cell.{Cell}
 use Rattle.pk_report.specs.Reports.{checked_text, unknown_in}
 use Rattle.pk_graph_report.specs.Reported.{verdicts_of}
 use Rattle.pk_text_laws.specs.Total.Ends.{EveryTextEnds}
-use Rattle.pk_text_graph.specs.Graphs.{GraphsAreWellMade, HasGraph}
+use Rattle.pk_text_graph.specs.Graphs.{GraphsAreWellMade}
 use Rattle.pk_status.specs.declared.status.Status.TheVariants as status
-use Rattle.pk_sound.specs.Families.{IsLaidOut}
 use Rattle.pk_cert.specs.Heads.{HeadOf}
 use Rattle.pk_cert.specs.Pieces.{BeginsWith}
 use Rattle.pk_cert.specs.Laws.{EveryHeadEnds}
@@ -20,8 +19,7 @@ use Rattle.pk_cert_cells.specs.declared.failures.Unfit.TheVariants as unfit
 use Rattle.pk_cert_cells.specs.Reading.{AreReadCells, IsUnfit}
 use Rattle.pk_cert_cells.specs.Laws.{EveryReadingEnds}
 use Rattle.pk_cert_check.specs.Checked.{IsChecked}
-use Rattle.pk_cert_check.specs.Laws.{EveryCheckEnds}
-use Rattle.pk_cert_laws.specs.Checks.{ReadCellsHoldStates}
+use Rattle.pk_cert_laws.specs.Checks.{ReadCellsAreChecked}
 use Rattle.pk_cert_report.specs.Checked.{HasCertifiedGraph, reduced_states}
 use Rattle.pk_text_report.specs.Answers.{IsShort}
 use Rattle.pk_answer_laws.specs.Answers.{ChecksAreAnswered, HasReply}
@@ -31,24 +29,12 @@ use Rattle.pk_answer_laws.proofs.Replying.{ended, unless_long}
 pub record Laws : Type 0 where
   pub ends : EveryTextEnds
   pub made : GraphsAreWellMade
-  pub layouts : GraphsAreOver
   pub heads : EveryHeadEnds
   pub readings : EveryReadingEnds
-  pub hold : ReadCellsHoldStates
-  pub checks : EveryCheckEnds
-
-few : (n : ℕ) → n ≤ 64 → n < 2 ^ 31
-few n h = omega (arith, h)
+  pub checks : ReadCellsAreChecked
 
 module _ (laws : Laws) (bytes : List ℕ) (short : IsShort bytes Check) where
   module _ (h : HeadOf) (g : GraphOf) (of_graph : HasCertifiedGraph bytes h g) where
-    laid_out : IsLaidOut g (layout_of g h.oct)
-    laid_out = record {
-      graph = laws.made h.text h.entry g of_graph.has_graph;
-      layout = laws.layouts.layouts g h.oct (few h.oct of_graph.begins.is.oct);
-      over = laws.layouts.over g h.oct;
-    }
-
     told : (cells : List (Cell Stated)) → AreReadCells g h bytes cells → IsChecked g (layout_of g h.oct) cells None → HasReply Check bytes
     told cells read solved =
         let vs = verdicts_of g (reduced_states (layout_of g h.oct) cells) in
@@ -74,7 +60,7 @@ module _ (laws : Laws) (bytes : List ℕ) (short : IsShort bytes Check) where
     lines : HasReply Check bytes
     lines = elim (laws.readings g h bytes of_graph.begins) [
       | inl (cells, read) ↦
-          let o = laws.checks g (layout_of g h.oct) cells laid_out (laws.hold g h bytes cells read) in unproved cells read o.0 o.1
+          let o = laws.checks g h bytes cells (laws.made h.text h.entry g of_graph.has_graph) of_graph.begins.is read in unproved cells read o.0 o.1
       | inr (e, known, x) ↦ unfit_reply e known x
     ]
 

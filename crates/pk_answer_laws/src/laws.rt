@@ -9,15 +9,13 @@ ghost use Rattle.pk_answer_laws.specs.Answers.{ChecksAreAnswered, CommandsAreAns
 use pk_analysis_laws::limits_are_low;
 use pk_cert::every_head_ends;
 use pk_cert_cells::every_reading_ends;
-use pk_cert_check::every_check_ends;
-use pk_cert_laws::{read_cells_hold_states, results_check_well};
+use pk_cert_laws::{read_cells_are_checked, results_check_well};
 use pk_command::taken_asks;
 use pk_order::order_is_determined;
 use pk_order_laws::every_digraph_has_an_order;
 use pk_solver::raw_cells_are_determined;
 use pk_text_graph::graphs_are_well_made;
 use pk_text_laws::every_text_ends;
-use pk_transfer::graphs_law;
 use pk_unit_texts::entries_are_names;
 
 /// Memory has room for every graph with no list as long as 2^63.
@@ -93,11 +91,9 @@ pub fn checks_are_answered()
 {
     every_text_ends();
     graphs_are_well_made();
-    graphs_law();
     every_head_ends();
     every_reading_ends();
-    read_cells_hold_states();
-    every_check_ends();
+    read_cells_are_checked();
 }
 
 /// Each command about a text whose graphs memory has room for has a reply.
