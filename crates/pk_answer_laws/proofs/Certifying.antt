@@ -3,28 +3,23 @@ use Rattle.std.specs.Prelude.{◌≡◌, ℕ, ◌<◌, ◌≤◌, ◌^◌, Bool,
 use Rattle.std.specs.List.{flat_map, zip, range_with_len}
 use Rattle.std.proofs.Common.{arith, refl, sym, ap, subst, ◌∙◌, append_assoc}
 use Rattle.std.proofs.Math.Seq.{drop-append_seam}
-use Rattle.pk_lex.specs.Words.{is_name}
-use Rattle.pk_command.specs.declared.asked.CertOptions.{CertOptions}
 use Rattle.pk_command.specs.declared.asked.Command.TheVariants.{Cert}
-use Rattle.pk_command.specs.Given.{IsInRange}
 use Rattle.pk_graph.specs.declared.verdicts.Verdict.{Verdict}
 use Rattle.pk_graph.specs.Accesses.{accesses_of}
 use Rattle.pk_graph.specs.Graphs.{GraphOf, kinds_of}
 use Rattle.pk_graph.specs.WellMade.{IsGraph}
 use Rattle.pk_state.specs.Layouts.{Layout}
-use Rattle.pk_state.specs.Facts.{Facts, Stated}
+use Rattle.pk_state.specs.Facts.{Stated}
 use Rattle.pk_transfer.specs.Graphs.{layout_of}
 use Rattle.pk_order.specs.Ordered.{heads_of}
 use Rattle.pk_phases.specs.declared.equations.Cell.{Cell}
 use Rattle.pk_analysis.specs.declared.analysis.Options.{Options}
 use Rattle.pk_analysis.specs.Flows.{reduced_over}
-use Rattle.pk_sound.specs.Results.{IsAnalysed}
 use Rattle.pk_solver.specs.Solved.{AreRawCells, RawCellsAreDetermined}
 use Rattle.pk_report.specs.Reports.{access_line, first_line, last_line, told_lines, unknown_in, valid_line}
 use Rattle.pk_graph_report.specs.Reported.{IsReport, verdicts_of}
-use Rattle.pk_text_graph.specs.Graphs.{GraphsAreWellMade, HasGraph}
+use Rattle.pk_text_graph.specs.Graphs.{GraphsAreWellMade}
 use Rattle.pk_unit_texts.specs.Laws.{EntriesAreNames}
-use Rattle.pk_status.specs.declared.status.Status.TheVariants.{Ok}
 use Rattle.pk_cert.specs.Rows.{lines_text}
 use Rattle.pk_cert.specs.Heads.{HeadOf, IsHead, head_text}
 use Rattle.pk_cert.specs.Pieces.{BeginsWith}
@@ -33,9 +28,8 @@ use Rattle.pk_cert_cells.specs.Cells.{facts_in, head_of, state_in}
 use Rattle.pk_cert_cells.specs.Reading.{cell_of}
 use Rattle.pk_cert_laws.specs.Checks.{ChecksWell, ResultsCheckWell}
 use Rattle.pk_cert_report.specs.Checked.{reduced_states}
-use Rattle.pk_cert_report.specs.Written.{IsCertificateOf}
-use Rattle.pk_text_report.specs.Answers.{IsReply, certified_options}
-use Rattle.pk_answer_laws.specs.Certificates.{CertificatesAreChecked, EndsSo, IsCheckedAs, verdict_lines}
+use Rattle.pk_text_report.specs.Answers.{certified_options}
+use Rattle.pk_answer_laws.specs.Certificates.{CertificatesAreChecked, EndsSo, verdict_lines}
 
 -- what is read of a cell, reduced, is the cell, reduced
 reduced_again : (l : Layout) (cells : List (Cell Stated)) → map (reduced_over l) (map (cell_of l) (map (λ (c : Cell Stated). (state_in l c).facts) cells)) ≡ map (reduced_over l) cells

@@ -1,5 +1,5 @@
 -- From the end of a text to the reply, and from the words to the answer.
-use Rattle.std.proofs.Common.{◌≡◌, ◌≢◌, ◌⊎◌, inl, inr, ℕ, ◌++◌, List, [], length, codes, refl, false}
+use Rattle.std.proofs.Common.{◌≢◌, ◌⊎◌, inl, inr, ℕ, ◌++◌, List, [], length, codes, refl, false}
 use Rattle.std.proofs.lemmas.Bool.{cases_Bool, cases_lt}
 use Rattle.pk_ctypes.specs.declared.words.Quantity.TheVariants.{Points}
 use Rattle.pk_command.specs.declared.asked.Command.{Command}

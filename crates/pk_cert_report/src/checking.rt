@@ -47,8 +47,8 @@ fn verdicts_by(
 ) -> Result<(Vec<u8>, usize), AllocError>
     requires head { IsHeadRead bytes.now head.now }
     requires read { AreReadCells (graph_view graph.now) (head_view head.now) bytes.now cells.cells }
-    ensures told { IfOk result (λ r. r.0.items ≡ checked_text (graph_view graph.now) (accesses_of (graph_view graph.now))
-        (verdicts_of (graph_view graph.now)
+    ensures told { IfOk result (λ r. r.0.items ≡ checked_text (graph_view graph.now)
+        (accesses_of (graph_view graph.now)) (verdicts_of (graph_view graph.now)
         (reduced_states (layout_of (graph_view graph.now) head.now.oct) cells.cells))) }
     ensures counted { IfOk result (λ r. r.1 ≡ unknown_in (verdicts_of (graph_view graph.now)
         (reduced_states (layout_of (graph_view graph.now) head.now.oct) cells.cells))) }

@@ -15,9 +15,9 @@ use Rattle.pk_graph_report.specs.Reported.{IsReport, IsSummary, IsOrderText, One
 use Rattle.pk_text_graph.specs.Graphs.{GraphIsDetermined, HasGraph}
 use Rattle.pk_status.specs.declared.status.Status.{Status}
 use Rattle.pk_status.specs.declared.status.Status.TheVariants as status
-use Rattle.pk_cert_report.specs.Causes.{IsUngraphed, IsUnanalysed, OneCause}
+use Rattle.pk_cert_report.specs.Causes.{IsUnanalysed, OneCause}
 use Rattle.pk_cert_report.specs.Laws.{OneCertificate, OneAnswerOfChecks}
-use Rattle.pk_text_report.specs.Answers.{IsReply, IsTold, IsShort, IsLong, IsStopped, IsEnded, limit_of, options_of, certified_options, default_options, default_runs, OneAnswer, DifferInWorkers, WorkersTellNothing}
+use Rattle.pk_text_report.specs.Answers.{IsReply, IsTold, IsShort, IsLong, IsStopped, IsEnded, options_of, certified_options, default_options, default_runs, OneAnswer, DifferInWorkers, WorkersTellNothing}
 
 pub not_taken : (words : List (List ℕ)) (command : Command) → AsksFor words command → is_taken words ≡ false → ⊥
 not_taken words command asks refused = let taken = asked_taken words command asks in cc

@@ -131,7 +131,8 @@ IsStopped text Check s = IsInvalid text s
 
 -- the text is too long, or it isn't and the command about it ends so
 abbrev pub IsEnded : Command → List ℕ → Status → Type 0
-IsEnded command text s = (IsLong text command × (s ≡ limit_of command)) ⊎ (IsShort text command × IsStopped text command s)
+IsEnded command text s =
+    (IsLong text command × (s ≡ limit_of command)) ⊎ (IsShort text command × IsStopped text command s)
 
 -- ---- the answer
 

@@ -1,13 +1,13 @@
 -- From cells that are checked to what is true of each run of the graph.
-use Rattle.std.specs.Prelude.{◌≡◌, ◌⊎◌, ℕ, ℤ, ◌<◌, ◌^◌, List, length, slice_index_or, Contains, None}
+use Rattle.std.specs.Prelude.{◌≡◌, ◌⊎◌, ℕ, ℤ, ◌<◌, List, length, Contains, None}
 use Rattle.std.proofs.Common.{arith, sym, ap, subst, ◌∙◌, inl, inr}
 use Rattle.std.proofs.lemmas.List.{get_or-map}
 use Rattle.std.proofs.lemmas.List.Elements.{All-contains}
 use Rattle.pk_graph.specs.declared.verdicts.Verdict.TheVariants.{Safe, Unknown, Unreachable}
 use Rattle.pk_graph.specs.Accesses.{AccessOf, accesses_of}
-use Rattle.pk_graph.specs.Graphs.{EdgeOf, GraphOf, point_at, kinds_of}
+use Rattle.pk_graph.specs.Graphs.{EdgeOf, GraphOf, point_at}
 use Rattle.pk_graph.specs.Steps.{Numbers, Failure, Faulted, effect}
-use Rattle.pk_graph.specs.Stores.{Stored, storing, IsStore}
+use Rattle.pk_graph.specs.Stores.{Stored, storing}
 use Rattle.pk_graph.specs.WellMade.{IsGraph}
 use Rattle.pk_state.specs.Layouts.{Layout}
 use Rattle.pk_state.specs.Facts.{Stated}

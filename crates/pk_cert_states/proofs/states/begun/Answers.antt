@@ -1,4 +1,4 @@
-use Rattle.std.proofs.Common.{◌≡◌, ◌∙◌, true, ap, subst, sym, Some, IfOk}
+use Rattle.std.proofs.Common.{◌∙◌, ap, subst, sym, Some, IfOk}
 use Rattle.std.specs.Arc.{arc_value}
 use Rattle.std.proofs.lemmas.Result.{IfOk-weaker}
 use Rattle.pk_state.specs.Layouts.{Layout}

@@ -1,5 +1,5 @@
 use Rattle.pk_cert_report.specs.Causes.{IsUngraphed}
-use Rattle.pk_text_report.proofs.Ending.{handed_on, wanting}
+use Rattle.pk_text_report.proofs.Ending.{handed_on}
 use Rattle.pk_text_report.proofs.answers.order_told.Goals as goal
 
 pub returns-in_err-graph-clause-stopped : goal.returns-in_err-graph-clause-stopped
