@@ -24,15 +24,11 @@ use std::thread::Threads;
 // How often an element may be run where the words don't say.
 const DEFAULT_RUNS: u64 = 1000000;
 
-// How a graph is analysed for a run.
-fn analysis_of(options: &RunOptions) -> Options
-    ensures { result ≡ options_of options.now }
+// How a graph is analysed, where the words say it.
+fn analysis_of(delay: u32, narrow: u32, oct: usize) -> Options
+    ensures { result ≡ record { delay = delay; narrow = narrow; oct = oct } }
 {
-    Options {
-        delay: options.delay,
-        narrow: options.narrow,
-        oct: options.oct,
-    }
+    Options { delay, narrow, oct }
 }
 
 // How a graph is analysed where the words don't say.
@@ -54,7 +50,7 @@ fn iteration_of(options: &RunOptions) -> IterationOptions
     ensures range { AreInRange result }
 {
     IterationOptions {
-        analysis: analysis_of(options),
+        analysis: analysis_of(options.delay, options.narrow, options.oct),
         workers: options.workers,
         max_runs: options.max_runs,
     }
@@ -82,11 +78,7 @@ fn certified_iteration(options: &CertOptions) -> IterationOptions
     ensures range { AreInRange result }
 {
     IterationOptions {
-        analysis: Options {
-            delay: options.delay,
-            narrow: options.narrow,
-            oct: options.oct,
-        },
+        analysis: analysis_of(options.delay, options.narrow, options.oct),
         workers: options.workers,
         max_runs: options.max_runs,
     }
