@@ -1,2 +1,3 @@
 pub mod Deciding
 mod Judging
+mod Reducing

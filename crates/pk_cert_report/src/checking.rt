@@ -1,6 +1,6 @@
 // What a check of bytes tells.
 
-ghost use Rattle.std.specs.Prelude.{◌≡◌, ◌<◌, ◌^◌, IfOk, IfErr, None, length};
+ghost use Rattle.std.specs.Prelude.{◌≡◌, ◌<◌, ◌^◌, ℕ, IfOk, IfErr};
 ghost use Rattle.pk_graph.specs.Accesses.{accesses_of};
 ghost use Rattle.pk_graph.specs.Shown.{graph_view};
 ghost use Rattle.pk_transfer.specs.Graphs.{layout_of};
@@ -24,10 +24,12 @@ use pk_iterate::Cells;
 use pk_phases::Cell;
 use pk_state::State;
 use pk_status::Status;
-use pk_text_graph::graph_of_text;
+use pk_text_graph::{graph_of_text, graphs_are_few};
 use std::alloc::{AllocError, Global};
 
+// How a check ends where the lines are no certificate of a graph with so few points.
 fn unfit_status(why: Unfit) -> Status
+    requires { (v : ℕ) → why ≡ Unfit.State v → v < 2 ^ 32 }
     ensures { result ≡ status_of_unfit why }
 {
     match why {
@@ -80,7 +82,8 @@ fn check_cells(
     ensures err { IfErr result (IsInvalid bytes.now) }
 {
     read_cells_hold_states();
-    match first_failing(alloc, graph, head.oct as usize, &cells)? {
+    let found = first_failing(alloc, graph, head.oct as usize, &cells)?;
+    match found {
         Some(v) => Err(Status::CertFails { point: v }),
         None => {
             let (told, unknown) = verdicts_by(alloc, graph, bytes, head, cells)?;
@@ -101,6 +104,7 @@ fn check_lines(
     ensures ok { IfOk result (λ r. IsValid bytes.now r.1 r.0.items) }
     ensures err { IfErr result (IsInvalid bytes.now) }
 {
+    graphs_are_few();
     match read_cells(alloc, bytes, head, graph) {
         Ok(cells) => check_cells(alloc, graph, bytes, head, cells),
         Err(why) => Err(unfit_status(why)),
