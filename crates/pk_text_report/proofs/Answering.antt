@@ -102,7 +102,7 @@ record IsEnd (c : Command) (text : List ℕ) (s : Status) (bytes : List ℕ) : T
 ended_so : (c : Command) (text : List ℕ) (s : Status) (bytes : List ℕ) → s ≢ status.Memory → IsEnded c text s × (bytes ≡ []) → IsSuccess c text s bytes ⊎ IsEnd c text s bytes
 ended_so c text s bytes known x = inr (record { known = known; ended = x.0; nothing = x.1 })
 
-pub either : (c : Command) (text : List ℕ) (s : Status) (bytes : List ℕ) → IsReply c text s bytes → IsSuccess c text s bytes ⊎ IsEnd c text s bytes
+either : (c : Command) (text : List ℕ) (s : Status) (bytes : List ℕ) → IsReply c text s bytes → IsSuccess c text s bytes ⊎ IsEnd c text s bytes
 either c text (status.Ok unknown) bytes x = inl (record { unknown = unknown; is = refl; short = x.0; told = x.1 })
 either c text (status.Refused refusal) bytes x = ended_so c text (status.Refused refusal) bytes (λ e. absurd (cc)) x
 either c text (status.Limit what number) bytes x = ended_so c text (status.Limit what number) bytes (λ e. absurd (cc)) x

@@ -24,5 +24,5 @@ returns-in-Err-RunLimit-clause-stopped g c = inr (
   refl,
 )
 
-pub returns-in-Err-Memory-clause-stopped : goal.returns-in-Err-Memory-clause-stopped
-returns-in-Err-Memory-clause-stopped g c = inl (memory_so c.args.text.now (codes "main"))
+pub returns-clause-stopped : goal.returns-clause-stopped
+returns-clause-stopped g c = inl (memory_so c.args.text.now (codes "main"))
