@@ -69,7 +69,9 @@ ends_so raw g o most cells are all number report r =
     }
 
 pub certificates_checked : ResultsCheckWell → RawCellsAreDetermined → GraphsAreWellMade → EntriesAreNames → CertificatesAreChecked
-certificates_checked law raw made names text o bytes range (short, certified, none) =
+certificates_checked law raw made names text o bytes range reply =
+    let short = reply.0 in
+    let certified = reply.1.0 in
     let x = certified.certificate in
     let g = x.graph in
     let h = head_of text o.oct o.entry in

@@ -10,7 +10,7 @@ use Rattle.pk_phases.specs.Turns.{turn_bound}
 use Rattle.pk_analysis.specs.declared.analysis.Options.{Options}
 use Rattle.pk_analysis.specs.Digraphs.{digraph_of}
 use Rattle.pk_graph_report.specs.Reported.{IsReport, IsSummary}
-use Rattle.pk_text_report.specs.Answers.{IsTooLong}
+use Rattle.pk_cert_report.specs.Causes.{IsTooLong}
 use Rattle.pk_analysis_laws.specs.Turns.Counted.{depth_of}
 use Rattle.pk_answer_laws.specs.Analyses.{HasRoom}
 

@@ -2,4 +2,4 @@ pub mod Bounded
 pub mod Listed
 pub mod Telling
 pub mod Faultless
-mod Checking
+pub mod Checking

@@ -1,2 +1,2 @@
 pub mod Telling
-mod Checked
+pub mod Checked
