@@ -11,9 +11,11 @@ use Rattle.pk_graph.specs.Graphs.{GraphOf}
 use Rattle.pk_graph.specs.Shown.{graph_view}
 use Rattle.pk_state.specs.Layouts.{Layout}
 use Rattle.pk_state.specs.Facts.{Stated}
+use Rattle.pk_transfer.specs.Graphs.{layout_of}
 use Rattle.pk_order.specs.Ordered.{OrderIsDetermined, heads_of}
-use Rattle.pk_iterate.specs.Answer.{Over}
+use Rattle.pk_iterate.specs.Answer.{Over, IsResult}
 use Rattle.pk_iterate.specs.Iteration.{cell_after, progress}
+use Rattle.pk_iterate.specs.Outcome.{Outcome}
 use Rattle.pk_phases.specs.declared.equations.Cell.{Cell}
 use Rattle.pk_phases.specs.declared.equations.Part.{Part}
 use Rattle.pk_phases.specs.declared.equations.Part.TheVariants.{Point, HeadOf, ExitOf}
@@ -25,7 +27,7 @@ use Rattle.pk_analysis.specs.Parts.{part_in, part_at, AreParts}
 use Rattle.pk_analysis.specs.Flows.{Flow, equations_of, equation, state_operations, stated, reduced_over}
 use Rattle.pk_analysis_laws.specs.Systems.{IsOver, IsSystem}
 use Rattle.pk_analysis_laws.proofs.Sorting.{thresholds_same}
-use Rattle.pk_solver.specs.Solved.{AreStates, StatesAreDetermined}
+use Rattle.pk_solver.specs.Solved.{AreRawCells, AreStates, RawCellsAreDetermined, StatesAreDetermined}
 
 -- ---- parts
 
@@ -112,22 +114,55 @@ systems_same law g o p q one other a b x y =
 cells_of : Equations Stated → Level → (elements most : ℕ) → List (Cell Stated)
 cells_of q order elements most = map (cell_after (behaviour_of q) (progress (behaviour_of q) order (elements * most + 1)).runs) (range_with_len 0 elements)
 
-cells_same : OrderIsDetermined → (g : GraphOf) (o : Options) (most : ℕ) (p q : PlanView) (s t : List Stated) → (x : AreStates g o most p s) → (y : AreStates g o most q t) → x.outcome.cells ≡ y.outcome.cells
+cells_same : OrderIsDetermined → (g : GraphOf) (o : Options) (most : ℕ) (p q : PlanView) (one other : Level) (a b : Flow) (x y : Outcome (Cell Stated))
+    → IsSystem g o p one a → IsSystem g o q other b → IsResult (behaviour_of (equations_of a)) one p.elements most x → IsResult (behaviour_of (equations_of b)) other q.elements most y → x.cells ≡ y.cells
 unfolding cells_of
-cells_same law g o most p q s t x y =
-    let same = systems_same law g o p q x.order y.order x.flow y.flow x.system y.system in
-    x.result.cells_after
-    ∙ (ap (λ (e : Equations Stated). cells_of e x.order p.elements most) same.equations
-    ∙ ap (λ (l : Level). cells_of (equations_of y.flow) l p.elements most) same.order
-    ∙ ap (λ (n : ℕ). cells_of (equations_of y.flow) y.order n most) same.elements)
-    ∙ sym y.result.cells_after
+cells_same law g o most p q one other a b x y s t found also =
+    let same = systems_same law g o p q one other a b s t in
+    found.cells_after
+    ∙ (ap (λ (e : Equations Stated). cells_of e one p.elements most) same.equations
+    ∙ ap (λ (l : Level). cells_of (equations_of b) l p.elements most) same.order
+    ∙ ap (λ (n : ℕ). cells_of (equations_of b) other n most) same.elements)
+    ∙ sym also.cells_after
+
+not_over : OrderIsDetermined → (g : GraphOf) (o : Options) (most : ℕ) (p : PlanView) (order : Level) (a : Flow) (it : Outcome (Cell Stated))
+    → IsSystem g o p order a → IsResult (behaviour_of (equations_of a)) order p.elements most it → IsOver g o most → ⊥
+not_over law g o most p order a it s found y =
+    let same = systems_same law g o y.plan p y.order order y.flow a y.system s in
+    found.within
+    (subst (λ (n : ℕ). Over (behaviour_of (equations_of a)) order n most) same.elements
+    (subst (λ (l : Level). Over (behaviour_of (equations_of a)) l y.plan.elements most) same.order
+    (subst (λ (e : Equations Stated). Over (behaviour_of e) y.order y.plan.elements most) same.equations y.over)))
+
+-- ---- raw cells
+
+raw_same : OrderIsDetermined → (g : GraphOf) (o : Options) (most : ℕ) (a b : List (Cell Stated)) → AreRawCells g o most a → AreRawCells g o most b → a ≡ b
+raw_same law g o most a b x y =
+    x.cells_are ∙ cells_same law g o most x.plan y.plan x.order y.order x.flow y.flow x.outcome y.outcome x.system y.system x.result y.result ∙ sym y.cells_are
+
+raw_reduced : OrderIsDetermined → (g : GraphOf) (o : Options) (most : ℕ) (p : PlanView) (cells : List (Cell Stated)) (states : List Stated) → AreRawCells g o most cells → AreStates g o most p states
+    → states ≡ map (reduced_over (layout_of g o.oct)) (take (length g.points) cells)
+raw_reduced law g o most p cells states x y =
+    y.reduced
+    ∙ ap (λ (l : Layout). map (reduced_over l) (take (length g.points) y.outcome.cells)) y.system.analysis.layout
+    ∙ ap (λ (cs : List (Cell Stated)). map (reduced_over (layout_of g o.oct)) (take (length g.points) cs))
+    (cells_same law g o most p x.plan y.order x.order y.flow x.flow y.outcome x.outcome y.system x.system y.result x.result ∙ sym x.cells_are)
+
+raw_within : OrderIsDetermined → (g : GraphOf) (o : Options) (most : ℕ) (cells : List (Cell Stated)) → AreRawCells g o most cells → IsOver g o most → ⊥
+raw_within law g o most cells x = not_over law g o most x.plan x.order x.flow x.outcome x.system x.result
+
+pub raw_cells_are_determined : OrderIsDetermined → RawCellsAreDetermined
+raw_cells_are_determined law = record { cells = raw_same law; states = raw_reduced law; within = raw_within law }
+
+-- ---- states
 
 states_same : OrderIsDetermined → (g : GraphOf) (o : Options) (most : ℕ) (p q : PlanView) (s t : List Stated) → AreStates g o most p s → AreStates g o most q t → s ≡ t
 states_same law g o most p q s t x y =
     let same = systems_same law g o p q x.order y.order x.flow y.flow x.system y.system in
     x.reduced
     ∙ (ap (λ (l : Layout). map (reduced_over l) (take (length g.points) x.outcome.cells)) same.layout
-    ∙ ap (λ (cs : List (Cell Stated)). map (reduced_over y.flow.layout) (take (length g.points) cs)) (cells_same law g o most p q s t x y))
+    ∙ ap (λ (cs : List (Cell Stated)). map (reduced_over y.flow.layout) (take (length g.points) cs))
+    (cells_same law g o most p q x.order y.order x.flow y.flow x.outcome y.outcome x.system y.system x.result y.result))
     ∙ sym y.reduced
 
 elements_same : OrderIsDetermined → (g : GraphOf) (o : Options) (most : ℕ) (p q : PlanView) (s t : List Stated) → AreStates g o most p s → AreStates g o most q t → p.elements ≡ q.elements
@@ -137,12 +172,7 @@ heads_same : OrderIsDetermined → (g : GraphOf) (o : Options) (most : ℕ) (p q
 heads_same law g o most p q s t x y = law.heads (digraph_of g) p q x.order y.order x.system.ordered y.system.ordered
 
 within_limit : OrderIsDetermined → (g : GraphOf) (o : Options) (most : ℕ) (p : PlanView) (states : List Stated) → AreStates g o most p states → IsOver g o most → ⊥
-within_limit law g o most p states x y =
-    let same = systems_same law g o y.plan p y.order x.order y.flow x.flow y.system x.system in
-    x.result.within
-    (subst (λ (n : ℕ). Over (behaviour_of (equations_of x.flow)) x.order n most) same.elements
-    (subst (λ (l : Level). Over (behaviour_of (equations_of x.flow)) l y.plan.elements most) same.order
-    (subst (λ (e : Equations Stated). Over (behaviour_of e) y.order y.plan.elements most) same.equations y.over)))
+within_limit law g o most p states x = not_over law g o most p x.order x.flow x.outcome x.system x.result
 
 pub states_are_determined : OrderIsDetermined → StatesAreDetermined
 states_are_determined law = record {

@@ -1,3 +1,3 @@
-mod Outcomes
 mod Solved
+mod Outcomes
 mod Determined

@@ -8,11 +8,11 @@ use Rattle.std.proofs.lemmas.List.Elements.{All-nil, All-cons}
 use Rattle.pk_graph.specs.Graphs.{GraphOf}
 use Rattle.pk_graph.specs.Shown.{graph_view}
 use Rattle.pk_state.specs.Facts.{Stated}
+use Rattle.pk_state.specs.Layouts.{Layout}
 use Rattle.pk_transfer.specs.Graphs.{layout_of}
 use Rattle.pk_plan.specs.Order.{Level}
 use Rattle.pk_plan.specs.Plans.{PlanView}
-use Rattle.pk_order.specs.Ordered.{IsOrdered}
-use Rattle.pk_iterate.specs.Answer.{Over, IsResult}
+use Rattle.pk_iterate.specs.Answer.{IsResult}
 use Rattle.pk_iterate.specs.Iteration.{cell_after, progress}
 use Rattle.pk_iterate.specs.Laws.{CellsAreHeld}
 use Rattle.pk_iterate.specs.Outcome.{Outcome}
@@ -25,9 +25,8 @@ use Rattle.pk_analysis.specs.declared.analysis.Options.{Options}
 use Rattle.pk_analysis.specs.Flows.{Flow, equations_of, stated, reduced_cell, IsOverFlow}
 use Rattle.pk_analysis.specs.Made.{IsAnalysisOf}
 use Rattle.pk_analysis.specs.Parts.{part_at}
-use Rattle.pk_analysis.specs.Digraphs.{digraph_of}
-use Rattle.pk_analysis_laws.specs.Systems.{IsOver}
-use Rattle.pk_solver.specs.Solved.{AreOver, AreStates}
+use Rattle.pk_solver.specs.Solved.{AreCellsOver, AreOver, AreRawCells, AreStates, IsOutcomeOf}
+use Rattle.pk_solver.proofs.Solved.{enough_elements}
 
 -- a cell whose value is over the layout
 IsCellOver : Flow → Cell Stated → Type 0
@@ -43,7 +42,7 @@ over_part a e (ExitOf head) (Value v) h = absurd h
 over_part a e (ExitOf head) (Exit p) h = refl
 
 -- each cell of an outcome
-pub cells_over : (a : Flow) (order : Level) (elements most : ℕ) (it : Outcome (Cell Stated))
+cells_over : (a : Flow) (order : Level) (elements most : ℕ) (it : Outcome (Cell Stated))
     → CellsAreHeld (behaviour_of (equations_of a)) (may_hold_of (equations_of a) (IsOverFlow a)) → IsResult (behaviour_of (equations_of a)) order elements most it
     → All (λ (c : Cell Stated). (value_of (stated a.layout None) c).layout ≡ a.layout) it.cells
 unfolding IsCellOver
@@ -65,10 +64,6 @@ cells_many a order elements most it is =
     ∙ length-map (range_with_len 0 elements) (cell_after (behaviour_of (equations_of a)) (progress (behaviour_of (equations_of a)) order (elements * most + 1)).runs)
     ∙ length-range_with_len 0 elements
 
--- an order has as many elements as its plan
-pub as_many : (a : Flow) (order : Level) (n m most : ℕ) (it : Outcome (Cell Stated)) → n ≡ m → IsResult (behaviour_of (equations_of a)) order n most it → IsResult (behaviour_of (equations_of a)) order m most it
-as_many a order n m most it same = subst (λ (k : ℕ). IsResult (behaviour_of (equations_of a)) order k most it) same
-
 -- reduced, at the points
 states_over : (g : GraphOf) (o : Options) (p : PlanView) (a : Flow) (cells : List (Cell Stated)) (states : List Stated)
     → IsAnalysisOf g p o a → length g.points ≤ length cells → states ≡ map (reduced_cell a) (take (length g.points) cells) → AreOver g o states
@@ -83,27 +78,23 @@ states_over g o p a cells states is enough made = record {
 
 -- ---- what was found
 
-module _ (g : GraphOf) (o : Options) (most : ℕ) (p : PlanView) (order : Level) (a : Flow) (is : IsAnalysisOf g p o a) where
-  pub limit_so : IsOrdered (digraph_of g) p order → Over (behaviour_of (equations_of a)) order p.elements most → IsOver g o most
-  limit_so ordered over = record { plan = p; order = order; flow = a; system = record { ordered = ordered; analysis = is }; over = over }
+module _ (o : Options) (p : PlanView) (a : Flow) (most : ℕ) (it : Outcome (Cell Stated)) (x : IsOutcomeOf o p a most it) where
+  -- of each element, the points among them, over the variables
+  pub cells_over_so : CellsAreHeld (behaviour_of (equations_of a)) (may_hold_of (equations_of a) (IsOverFlow a)) → AreCellsOver (graph_view a.graph) o it.cells
+  cells_over_so held = record {
+    enough = omega (arith, cells_many a x.order p.elements most it x.result, enough_elements (graph_view a.graph) p x.order x.system.ordered);
+    over = subst (λ (l : Layout). All (λ (c : Cell Stated). (value_of (stated l None) c).layout ≡ l) it.cells) x.system.analysis.layout (cells_over a x.order p.elements most it held x.result);
+  }
 
-  module _ (it : Outcome (Cell Stated)) (found : IsResult (behaviour_of (equations_of a)) order p.elements most it) where
-    pub points_so : length g.points ≤ p.elements → length (graph_view a.graph).points ≤ length it.cells
-    points_so enough = omega (arith, cells_many a order p.elements most it found, ap (λ (h : GraphOf). length h.points) is.graph, enough)
+  pub held_so : AreCellsOver (graph_view a.graph) o it.cells → All (λ (c : Cell Stated). (value_of (stated a.layout None) c).layout ≡ a.layout) it.cells
+  held_so y = subst (λ (l : Layout). All (λ (c : Cell Stated). (value_of (stated l None) c).layout ≡ l) it.cells) (sym x.system.analysis.layout) y.over
 
-    module _ (states : List Stated) (made : states ≡ map (reduced_cell a) (take (length (graph_view a.graph).points) it.cells)) where
-      first_points : states ≡ map (reduced_cell a) (take (length g.points) it.cells)
-      first_points = made ∙ ap (λ (h : GraphOf). map (reduced_cell a) (take (length h.points) it.cells)) is.graph
+  pub raw_so : AreRawCells (graph_view a.graph) o most it.cells
+  raw_so = record { plan = p; order = x.order; flow = a; system = x.system; outcome = it; result = x.result; cells_are = refl }
 
-      pub states_so : IsOrdered (digraph_of g) p order → AreStates g o most p states
-      states_so ordered = record {
-        order = order;
-        flow = a;
-        system = record { ordered = ordered; analysis = is };
-        outcome = it;
-        result = found;
-        reduced = first_points;
-      }
+  module _ (states : List Stated) (made : states ≡ map (reduced_cell a) (take (length (graph_view a.graph).points) it.cells)) where
+    pub states_so : AreStates (graph_view a.graph) o most p states
+    states_so = record { order = x.order; flow = a; system = x.system; outcome = it; result = x.result; reduced = made }
 
-      pub over_so : length g.points ≤ p.elements → AreOver g o states
-      over_so enough = states_over g o p a it.cells states is (omega (arith, enough, cells_many a order p.elements most it found)) first_points
+    pub over_so : AreCellsOver (graph_view a.graph) o it.cells → AreOver (graph_view a.graph) o states
+    over_so y = states_over (graph_view a.graph) o p a it.cells states x.system.analysis y.enough made

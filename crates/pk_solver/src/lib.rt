@@ -6,6 +6,6 @@ mod laws;
 mod solving;
 mod widths;
 
-pub use laws::states_are_determined;
+pub use laws::{raw_cells_are_determined, states_are_determined};
 pub use pk_analysis::{Options, States};
-pub use solving::{IterationOptions, Solution, SolverError, states};
+pub use solving::{IterationOptions, Solution, SolverError, cells, states};

@@ -1,23 +1,27 @@
 // What the iteration leaves at each point of a graph.
 
-ghost use Rattle.std.specs.Prelude.{◌≤◌, IfOk, IfErr, length};
+ghost use Rattle.std.specs.Prelude.{◌≡◌, ◌<◌, ◌≤◌, ◌^◌, IfOk, IfErr, length};
 ghost use Rattle.pk_graph.specs.Shown.{graph_view};
+ghost use Rattle.pk_graph.specs.WellMade.{IsGraph};
 ghost use Rattle.pk_plan.specs.Order.{Level};
 ghost use Rattle.pk_order.specs.Ordered.{IsOrdered};
 ghost use Rattle.pk_analysis.specs.Digraphs.{digraph_of};
+ghost use Rattle.pk_analysis_laws.specs.Systems.{IsSystem};
 ghost use Rattle.pk_solver.specs.Bounds.{AreInRange, most_elements, most_points, most_workers};
-ghost use Rattle.pk_solver.specs.Solved.{AreOver, AreStates, IsCause};
+ghost use Rattle.pk_solver.specs.Solved.{AreCellsOver, AreOver, AreRawCells, AreStates, IsCause, IsOutcomeOf};
 
-use crate::iterating::states_by_order;
+use crate::iterating::cells_by_order;
 use crate::widths::paying_workers;
 use pk_analysis::{Analysis, Options, States, digraph};
 use pk_analysis_fits::{analyses_fit, linear_orders_are_orders};
 use pk_analysis_laws::analyses_end;
 use pk_graph::Graph;
-use pk_iterate::{Solve, cells_are_held};
+use pk_iterate::{Cells, Solve, cells_are_held};
 use pk_order::planned;
 use pk_order_laws::every_plan_has_a_linear_order;
+use pk_phases::Cell;
 use pk_plan::Plan;
+use pk_state::State;
 use pk_workers::{Gate, run_workers};
 use std::alloc::{AllocError, Global};
 use std::sync::Wait;
@@ -72,61 +76,104 @@ fn plan_of(alloc: Global, graph: &Graph) -> Result<Plan, AllocError>
     Ok(plan)
 }
 
-// What workers leave at each point, reduced.
-fn states_by_plan<R: Threads + Wait + Sync, G: Gate + Sync>(
+// The equations of a graph, with the heads and exits of its plan.
+fn analysis_of<'g>(
+    alloc: Global,
+    graph: &'g Graph,
+    options: Options,
+    plan: &Plan,
+) -> Result<Analysis<'g>, AllocError>
+    requires oct { options.oct < 2 ^ 31 }
+    requires ordered { (order : Level) × IsOrdered (digraph_of (graph_view graph.now)) plan.now order }
+    ensures graph { IfOk result (λ analysis. graph_view analysis.graph ≡ graph_view graph.now) }
+    ensures made { IfOk result (λ analysis. IsGraph (graph_view analysis.graph)) }
+    ensures system { IfOk result (λ analysis. (order : Level)
+        × IsSystem (graph_view analysis.graph) options plan.now order analysis) }
+{
+    graph.well_made();
+    let analysis = Analysis::new(alloc, graph, plan, options)?;
+    Ok(analysis)
+}
+
+// What workers leave.
+fn cells_by_plan<R: Threads + Wait + Sync, G: Gate + Sync>(
     rt: &R,
     alloc: Global,
     gate: &G,
-    graph: &Graph,
+    analysis: &Analysis,
     options: &IterationOptions,
     plan: &Plan,
     workers: u32,
-) -> Result<States, SolverError>
+) -> Result<Cells<Cell<State>>, SolverError>
     requires range { AreInRange options.now }
     requires workers { (1 ≤ workers) × (workers ≤ most_workers) }
     requires few { plan.now.elements ≤ most_elements }
-    requires ordered { (order : Level) × IsOrdered (digraph_of (graph_view graph.now)) plan.now order }
-    ensures ok { IfOk result (λ states.
-        AreStates (graph_view graph.now) options.now.analysis options.now.max_runs plan.now states) }
-    ensures over { IfOk result (λ states. AreOver (graph_view graph.now) options.now.analysis states) }
-    ensures err { IfErr result (IsCause (graph_view graph.now) options.now.analysis options.now.max_runs) }
+    requires made { IsGraph (graph_view analysis.now.graph) }
+    requires system { (order : Level)
+        × IsSystem (graph_view analysis.now.graph) options.now.analysis plan.now order analysis.now }
+    ensures ok { IfOk result (IsOutcomeOf options.now.analysis plan.now analysis.now options.now.max_runs) }
+    ensures err { IfErr result (IsCause (graph_view analysis.now.graph) options.now.analysis options.now.max_runs) }
 {
     analyses_fit();
     analyses_end();
     linear_orders_are_orders();
-    graph.well_made();
-    let analysis = Analysis::new(alloc, graph, plan, options.analysis)?;
-    cells_are_held(&analysis);
-    match run_workers(rt, alloc, &analysis, plan, workers, options.max_runs, gate) {
-        Ok(cells) => Ok(States::of(&analysis, cells)?),
+    match run_workers(rt, alloc, analysis, plan, workers, options.max_runs, gate) {
+        Ok(cells) => Ok(cells),
         Err(Solve::RunLimit { .. }) => Err(SolverError::RunLimit),
         Err(Solve::Memory) => Err(SolverError::Memory),
     }
 }
 
 // What as many workers leave as pay. Where that is one, and nobody watches, it is the iteration on this thread.
+fn cells_by<R: Threads + Wait + Sync, G: Gate + Sync>(
+    rt: &R,
+    alloc: Global,
+    gate: &G,
+    analysis: &Analysis,
+    options: &IterationOptions,
+    plan: &Plan,
+) -> Result<Cells<Cell<State>>, SolverError>
+    requires range { AreInRange options.now }
+    requires few { plan.now.elements ≤ most_elements }
+    requires made { IsGraph (graph_view analysis.now.graph) }
+    requires system { (order : Level)
+        × IsSystem (graph_view analysis.now.graph) options.now.analysis plan.now order analysis.now }
+    ensures ok { IfOk result (IsOutcomeOf options.now.analysis plan.now analysis.now options.now.max_runs) }
+    ensures over { IfOk result (λ cells.
+        AreCellsOver (graph_view analysis.now.graph) options.now.analysis cells.cells) }
+    ensures err { IfErr result (IsCause (graph_view analysis.now.graph) options.now.analysis options.now.max_runs) }
+{
+    cells_are_held(analysis);
+    let workers = paying_workers(alloc, gate, plan, options.workers)?;
+    if workers == 1 && !gate.watches() {
+        cells_by_order(alloc, analysis, options, plan)
+    } else {
+        cells_by_plan(rt, alloc, gate, analysis, options, plan, workers)
+    }
+}
+
+// What is left at each point, reduced.
 fn states_by<R: Threads + Wait + Sync, G: Gate + Sync>(
     rt: &R,
     alloc: Global,
     gate: &G,
-    graph: &Graph,
+    analysis: &Analysis,
     options: &IterationOptions,
     plan: &Plan,
 ) -> Result<States, SolverError>
     requires range { AreInRange options.now }
     requires few { plan.now.elements ≤ most_elements }
-    requires ordered { (order : Level) × IsOrdered (digraph_of (graph_view graph.now)) plan.now order }
-    ensures ok { IfOk result (λ states.
-        AreStates (graph_view graph.now) options.now.analysis options.now.max_runs plan.now states) }
-    ensures over { IfOk result (λ states. AreOver (graph_view graph.now) options.now.analysis states) }
-    ensures err { IfErr result (IsCause (graph_view graph.now) options.now.analysis options.now.max_runs) }
+    requires made { IsGraph (graph_view analysis.now.graph) }
+    requires system { (order : Level)
+        × IsSystem (graph_view analysis.now.graph) options.now.analysis plan.now order analysis.now }
+    ensures ok { IfOk result (λ states. AreStates (graph_view analysis.now.graph) options.now.analysis
+        options.now.max_runs plan.now states) }
+    ensures over { IfOk result (λ states.
+        AreOver (graph_view analysis.now.graph) options.now.analysis states) }
+    ensures err { IfErr result (IsCause (graph_view analysis.now.graph) options.now.analysis options.now.max_runs) }
 {
-    let workers = paying_workers(alloc, gate, plan, options.workers)?;
-    if workers == 1 && !gate.watches() {
-        states_by_order(alloc, graph, options, plan)
-    } else {
-        states_by_plan(rt, alloc, gate, graph, options, plan, workers)
-    }
+    let cells = cells_by(rt, alloc, gate, analysis, options, plan)?;
+    Ok(States::of(analysis, cells)?)
 }
 
 /// The plan of a graph, and what the recursive iteration leaves at each point, reduced: the same for every number of workers.
@@ -146,6 +193,32 @@ pub fn states<R: Threads + Wait + Sync, G: Gate + Sync>(
     ensures err { IfErr result (IsCause (graph_view graph.now) options.now.analysis options.now.max_runs) }
 {
     let plan = plan_of(alloc, graph)?;
-    let states = states_by(rt, alloc, gate, graph, options, &plan)?;
+    let analysis = analysis_of(alloc, graph, options.analysis, &plan)?;
+    let states = states_by(rt, alloc, gate, &analysis, options, &plan);
+    drop(analysis);
+    let states = states?;
     Ok(Solution { plan, states })
+}
+
+/// What the recursive iteration leaves at each element of a graph's plan, of which the points come first: the same for every number of workers.
+pub fn cells<R: Threads + Wait + Sync, G: Gate + Sync>(
+    rt: &R,
+    alloc: Global,
+    gate: &G,
+    graph: &Graph,
+    options: &IterationOptions,
+) -> Result<Cells<Cell<State>>, SolverError>
+    requires few { length (graph_view graph.now).points ≤ most_points }
+    requires range { AreInRange options.now }
+    ensures ok { IfOk result (λ cells.
+        AreRawCells (graph_view graph.now) options.now.analysis options.now.max_runs cells.cells) }
+    ensures over { IfOk result (λ cells. AreCellsOver (graph_view graph.now) options.now.analysis cells.cells) }
+    ensures err { IfErr result (IsCause (graph_view graph.now) options.now.analysis options.now.max_runs) }
+{
+    let plan = plan_of(alloc, graph)?;
+    let analysis = analysis_of(alloc, graph, options.analysis, &plan)?;
+    let cells = cells_by(rt, alloc, gate, &analysis, options, &plan);
+    drop(analysis);
+    drop(plan);
+    cells
 }
