@@ -25,7 +25,6 @@ use Rattle.pk_analysis.specs.declared.analysis.Options.{Options}
 use Rattle.pk_analysis.specs.Flows.{Flow, equations_of, stated, reduced_cell, IsOverFlow}
 use Rattle.pk_analysis.specs.Made.{IsAnalysisOf}
 use Rattle.pk_analysis.specs.Parts.{part_at}
-use Rattle.pk_analysis_laws.specs.Systems.{IsSystem}
 use Rattle.pk_solver.specs.Solved.{AreCellsOver, AreOver, AreRawCells, AreStates, IsOutcomeOf}
 use Rattle.pk_solver.proofs.Solved.{enough_elements}
 
@@ -90,19 +89,12 @@ module _ (o : Options) (p : PlanView) (a : Flow) (most : ℕ) (it : Outcome (Cel
   pub held_so : AreCellsOver (graph_view a.graph) o it.cells → All (λ (c : Cell Stated). (value_of (stated a.layout None) c).layout ≡ a.layout) it.cells
   held_so y = subst (λ (l : Layout). All (λ (c : Cell Stated). (value_of (stated l None) c).layout ≡ l) it.cells) (sym x.system.analysis.layout) y.over
 
-  module _ (g : GraphOf) (same : graph_view a.graph ≡ g) where
-    system : IsSystem g o p x.order a
-    system = subst (λ (h : GraphOf). IsSystem h o p x.order a) same x.system
+  pub raw_so : AreRawCells (graph_view a.graph) o most it.cells
+  raw_so = record { plan = p; order = x.order; flow = a; system = x.system; outcome = it; result = x.result; cells_are = refl }
 
-    pub raw_so : AreRawCells g o most it.cells
-    raw_so = record { plan = p; order = x.order; flow = a; system = system; outcome = it; result = x.result; cells_are = refl }
+  module _ (states : List Stated) (made : states ≡ map (reduced_cell a) (take (length (graph_view a.graph).points) it.cells)) where
+    pub states_so : AreStates (graph_view a.graph) o most p states
+    states_so = record { order = x.order; flow = a; system = x.system; outcome = it; result = x.result; reduced = made }
 
-    module _ (states : List Stated) (made : states ≡ map (reduced_cell a) (take (length (graph_view a.graph).points) it.cells)) where
-      first_points : states ≡ map (reduced_cell a) (take (length g.points) it.cells)
-      first_points = made ∙ ap (λ (h : GraphOf). map (reduced_cell a) (take (length h.points) it.cells)) same
-
-      pub states_so : AreStates g o most p states
-      states_so = record { order = x.order; flow = a; system = system; outcome = it; result = x.result; reduced = first_points }
-
-      pub over_so : AreCellsOver (graph_view a.graph) o it.cells → AreOver g o states
-      over_so y = states_over g o p a it.cells states system.analysis (subst (λ (h : GraphOf). length h.points ≤ length it.cells) same y.enough) first_points
+    pub over_so : AreCellsOver (graph_view a.graph) o it.cells → AreOver (graph_view a.graph) o states
+    over_so y = states_over (graph_view a.graph) o p a it.cells states x.system.analysis y.enough made

@@ -52,7 +52,7 @@ pub record AreOver (g : GraphOf) (o : Options) (states : List Stated) : Type 0 w
   pub size : length states ≡ length g.points
   pub each : All (λ (s : Stated). s.layout ≡ layout_of g o.oct) states
 
--- why there are no states
+-- why there are neither cells nor states
 abbrev pub IsCause : GraphOf → Options → (most : ℕ) → SolverError → Type 0
 IsCause g o most RunLimit = IsOver g o most
 IsCause g o most Memory = Unit {0}

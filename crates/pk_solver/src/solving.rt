@@ -76,6 +76,25 @@ fn plan_of(alloc: Global, graph: &Graph) -> Result<Plan, AllocError>
     Ok(plan)
 }
 
+// The equations of a graph, with the heads and exits of its plan.
+fn analysis_of<'g>(
+    alloc: Global,
+    graph: &'g Graph,
+    options: Options,
+    plan: &Plan,
+) -> Result<Analysis<'g>, AllocError>
+    requires oct { options.oct < 2 ^ 31 }
+    requires ordered { (order : Level) × IsOrdered (digraph_of (graph_view graph.now)) plan.now order }
+    ensures graph { IfOk result (λ analysis. graph_view analysis.graph ≡ graph_view graph.now) }
+    ensures made { IfOk result (λ analysis. IsGraph (graph_view analysis.graph)) }
+    ensures system { IfOk result (λ analysis. (order : Level)
+        × IsSystem (graph_view analysis.graph) options plan.now order analysis) }
+{
+    graph.well_made();
+    let analysis = Analysis::new(alloc, graph, plan, options)?;
+    Ok(analysis)
+}
+
 // What workers leave.
 fn cells_by_plan<R: Threads + Wait + Sync, G: Gate + Sync>(
     rt: &R,
@@ -133,45 +152,28 @@ fn cells_by<R: Threads + Wait + Sync, G: Gate + Sync>(
     }
 }
 
-// The equations of a graph, with the heads and exits of its plan.
-fn analysis_of<'g>(
-    alloc: Global,
-    graph: &'g Graph,
-    options: Options,
-    plan: &Plan,
-) -> Result<Analysis<'g>, AllocError>
-    requires oct { options.oct < 2 ^ 31 }
-    requires ordered { (order : Level) × IsOrdered (digraph_of (graph_view graph.now)) plan.now order }
-    ensures graph { IfOk result (λ analysis. graph_view analysis.graph ≡ graph_view graph.now) }
-    ensures made { IfOk result (λ analysis. IsGraph (graph_view analysis.graph)) }
-    ensures system { IfOk result (λ analysis. (order : Level)
-        × IsSystem (graph_view analysis.graph) options plan.now order analysis) }
-{
-    graph.well_made();
-    let analysis = Analysis::new(alloc, graph, plan, options)?;
-    Ok(analysis)
-}
-
 // What is left at each point, reduced.
 fn states_by<R: Threads + Wait + Sync, G: Gate + Sync>(
     rt: &R,
     alloc: Global,
     gate: &G,
-    graph: &Graph,
+    analysis: &Analysis,
     options: &IterationOptions,
     plan: &Plan,
 ) -> Result<States, SolverError>
     requires range { AreInRange options.now }
     requires few { plan.now.elements ≤ most_elements }
-    requires ordered { (order : Level) × IsOrdered (digraph_of (graph_view graph.now)) plan.now order }
-    ensures ok { IfOk result (λ states.
-        AreStates (graph_view graph.now) options.now.analysis options.now.max_runs plan.now states) }
-    ensures over { IfOk result (λ states. AreOver (graph_view graph.now) options.now.analysis states) }
-    ensures err { IfErr result (IsCause (graph_view graph.now) options.now.analysis options.now.max_runs) }
+    requires made { IsGraph (graph_view analysis.now.graph) }
+    requires system { (order : Level)
+        × IsSystem (graph_view analysis.now.graph) options.now.analysis plan.now order analysis.now }
+    ensures ok { IfOk result (λ states. AreStates (graph_view analysis.now.graph) options.now.analysis
+        options.now.max_runs plan.now states) }
+    ensures over { IfOk result (λ states.
+        AreOver (graph_view analysis.now.graph) options.now.analysis states) }
+    ensures err { IfErr result (IsCause (graph_view analysis.now.graph) options.now.analysis options.now.max_runs) }
 {
-    let analysis = analysis_of(alloc, graph, options.analysis, plan)?;
-    let cells = cells_by(rt, alloc, gate, &analysis, options, plan)?;
-    Ok(States::of(&analysis, cells)?)
+    let cells = cells_by(rt, alloc, gate, analysis, options, plan)?;
+    Ok(States::of(analysis, cells)?)
 }
 
 /// The plan of a graph, and what the recursive iteration leaves at each point, reduced: the same for every number of workers.
@@ -191,7 +193,10 @@ pub fn states<R: Threads + Wait + Sync, G: Gate + Sync>(
     ensures err { IfErr result (IsCause (graph_view graph.now) options.now.analysis options.now.max_runs) }
 {
     let plan = plan_of(alloc, graph)?;
-    let states = states_by(rt, alloc, gate, graph, options, &plan)?;
+    let analysis = analysis_of(alloc, graph, options.analysis, &plan)?;
+    let states = states_by(rt, alloc, gate, &analysis, options, &plan);
+    drop(analysis);
+    let states = states?;
     Ok(Solution { plan, states })
 }
 
@@ -212,6 +217,8 @@ pub fn cells<R: Threads + Wait + Sync, G: Gate + Sync>(
 {
     let plan = plan_of(alloc, graph)?;
     let analysis = analysis_of(alloc, graph, options.analysis, &plan)?;
-    let cells = cells_by(rt, alloc, gate, &analysis, options, &plan)?;
-    Ok(cells)
+    let cells = cells_by(rt, alloc, gate, &analysis, options, &plan);
+    drop(analysis);
+    drop(plan);
+    cells
 }

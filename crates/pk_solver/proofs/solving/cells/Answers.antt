@@ -1,15 +1,23 @@
+use Rattle.std.specs.Prelude.{IfOk, IfErr}
 use Rattle.std.proofs.Common.{subst}
+use Rattle.std.proofs.lemmas.Result.{IfOk-weaker}
 use Rattle.pk_graph.specs.Graphs.{GraphOf}
-use Rattle.pk_graph.specs.Shown.{graph_view}
-use Rattle.pk_solver.specs.Solved.{AreCellsOver}
+use Rattle.pk_solver.specs.Solved.{AreCellsOver, AreRawCells, IsCause}
 use Rattle.pk_solver.proofs.Outcomes.{raw_so}
 use Rattle.pk_solver.proofs.solving.cells.Goals as goal
 
 pub returns-clause-ok : goal.returns-clause-ok
 returns-clause-ok g c =
-    raw_so c.args.options.now.analysis c.in_ok-plan.plan c.in_ok-analysis.analysis c.args.options.now.max_runs c.in_ok-cells.cells c.in_ok-cells.ensures.ok
-    (graph_view c.args.graph.now) c.in_ok-analysis.ensures.graph
+    let o = c.args.options.now.analysis in
+    let most = c.args.options.now.max_runs in
+    IfOk-weaker c.cells_by-cells.result _ _
+    (λ it x. subst (λ (h : GraphOf). AreRawCells h o most it.cells) c.in_ok-analysis.ensures.graph (raw_so o c.in_ok-plan.plan c.in_ok-analysis.analysis most it x))
+    c.cells_by-cells.ensures.ok
 
 pub returns-clause-over : goal.returns-clause-over
 returns-clause-over g c =
-    subst (λ (h : GraphOf). AreCellsOver h c.args.options.now.analysis c.in_ok-cells.cells.cells) c.in_ok-analysis.ensures.graph c.in_ok-cells.ensures.over
+    subst (λ (h : GraphOf). IfOk c.cells_by-cells.result (λ cells. AreCellsOver h c.args.options.now.analysis cells.cells)) c.in_ok-analysis.ensures.graph c.cells_by-cells.ensures.over
+
+pub returns-clause-err : goal.returns-clause-err
+returns-clause-err g c =
+    subst (λ (h : GraphOf). IfErr c.cells_by-cells.result (IsCause h c.args.options.now.analysis c.args.options.now.max_runs)) c.in_ok-analysis.ensures.graph c.cells_by-cells.ensures.err

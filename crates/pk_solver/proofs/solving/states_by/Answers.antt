@@ -1,4 +1,3 @@
-use Rattle.pk_graph.specs.Shown.{graph_view}
 use Rattle.pk_solver.proofs.Outcomes.{held_so, over_so, states_so}
 use Rattle.pk_solver.proofs.solving.states_by.Goals as goal
 
@@ -7,14 +6,14 @@ of-requires-clause-points g c = c.in_ok-cells.ensures.over.enough
 
 pub of-requires-clause-held : goal.of-requires-clause-held
 of-requires-clause-held g c =
-    held_so c.args.options.now.analysis c.args.plan.now c.in_ok-analysis.analysis c.args.options.now.max_runs c.in_ok-cells.cells c.in_ok-cells.ensures.ok c.in_ok-cells.ensures.over
+    held_so c.args.options.now.analysis c.args.plan.now c.args.analysis.now c.args.options.now.max_runs c.in_ok-cells.cells c.in_ok-cells.ensures.ok c.in_ok-cells.ensures.over
 
 pub returns-clause-ok : goal.returns-clause-ok
 returns-clause-ok g c =
-    states_so c.args.options.now.analysis c.args.plan.now c.in_ok-analysis.analysis c.args.options.now.max_runs c.in_ok-cells.cells c.in_ok-cells.ensures.ok
-    (graph_view c.args.graph.now) c.in_ok-analysis.ensures.graph c.in_ok-of.field-0 c.in_ok-of.ensures
+    states_so c.args.options.now.analysis c.args.plan.now c.args.analysis.now c.args.options.now.max_runs c.in_ok-cells.cells c.in_ok-cells.ensures.ok
+    c.in_ok-of.field-0 c.in_ok-of.ensures
 
 pub returns-clause-over : goal.returns-clause-over
 returns-clause-over g c =
-    over_so c.args.options.now.analysis c.args.plan.now c.in_ok-analysis.analysis c.args.options.now.max_runs c.in_ok-cells.cells c.in_ok-cells.ensures.ok
-    (graph_view c.args.graph.now) c.in_ok-analysis.ensures.graph c.in_ok-of.field-0 c.in_ok-of.ensures c.in_ok-cells.ensures.over
+    over_so c.args.options.now.analysis c.args.plan.now c.args.analysis.now c.args.options.now.max_runs c.in_ok-cells.cells c.in_ok-cells.ensures.ok
+    c.in_ok-of.field-0 c.in_ok-of.ensures c.in_ok-cells.ensures.over
