@@ -119,7 +119,7 @@ const REPORT: &str =
     "pikos 1 entry main points 8 elements 10\nhead 2 main 1:24\n  i [0,10] 1Z+0\naccess main 1:38 overflow safe\nresult safe 1 unknown 0 unreachable 0\n";
 
 // The source would fail at its first read: it isn't asked.
-const OTHER_WORDS: [&str; 15] = [
+const OTHER_WORDS: [&str; 13] = [
     "",
     "order --points",
     "run run",
@@ -133,8 +133,6 @@ const OTHER_WORDS: [&str; 15] = [
     "gen --seed 2147483648 --size 1",
     "gen --seed 1 --size 0",
     "gen --seed 1 --size 1001",
-    "cert --points",
-    "check --oct 16",
 ];
 
 #[test]
@@ -185,113 +183,6 @@ const MADE: &str =
 fn gen_reads_nothing(rt: HostRuntime) -> Result<(), AllocError> {
     let made = with_faults(&rt, rt.alloc(), "gen --seed 1 --size 1", 0, NEVER)?;
     assert!(rt; made.is(0, MADE, MADE.len(), ""));
-    Ok(())
-}
-
-const BLANK: &str = "pikos-cert 1 16 16 main\nint main(void){}\n0 0 0 0\n0 0 0 0\n0 0 0 0\n";
-
-const VALID: &str = "valid points 3\nresult safe 0 unknown 0 unreachable 0\n";
-
-// Seven reads give the certificate, and an eighth finds its end. Each fails, and each of eight writes of its verdicts.
-#[test]
-fn checks_meet_faults(rt: HostRuntime) -> Result<(), Fail> {
-    for read in 0..8 {
-        let text = BLANK.as_bytes();
-        assert!(rt;
-            called(&rt, rt.alloc(), &NoGate {}, "check", text, read, NEVER)?.is(
-                5,
-                "",
-                0,
-                "pikos: read fault"
-            ),
-            "{read}"
-        );
-    }
-    let mut sent = 0;
-    for write in 0..8 {
-        let line = format!(in rt.alloc(); "pikos: write fault after {sent} bytes")?;
-        let text = BLANK.as_bytes();
-        assert!(rt;
-            called(&rt, rt.alloc(), &NoGate {}, "check", text, NEVER, write)?.is(
-                6,
-                VALID,
-                sent,
-                line.as_str()
-            ),
-            "{write}"
-        );
-        sent = sent.saturating_add(7);
-    }
-    Ok(())
-}
-
-// Texts with a loop, a fault, arrays and scalars, a call, and no run at a point.
-const CERTIFIED: [&str; 5] = [
-    "int main(void){}",
-    WORKED,
-    "int a[2];int x;int main(void){x=2;a[x]=3;return a[0];}",
-    "int f(int n){int k=0;while(k<n)k=k+1;return k;}int main(void){return f(3)/f(0);}",
-    "int main(void){int i=0;for(;;)i=i<9?i+1:0;return i;}",
-];
-
-// What the last lines of a report tell: those of accesses and the result.
-fn verdicts(report: &[u8]) -> &[u8] {
-    for k in 0..report.len() {
-        if report[k..].starts_with(b"\naccess ") || report[k..].starts_with(b"\nresult ") {
-            return &report[k..];
-        }
-    }
-    report
-}
-
-// A certificate is the same by one worker and by eight, and its check tells the verdicts of the report.
-fn is_checked<R: Threads + Wait + Sync>(
-    rt: &R,
-    alloc: Global,
-    text: &[u8],
-) -> Result<bool, AllocError> {
-    let one = called(
-        rt,
-        alloc,
-        &NoGate {},
-        "cert --workers 1",
-        text,
-        NEVER,
-        NEVER,
-    )?;
-    let eight = called(
-        rt,
-        alloc,
-        &NoGate {},
-        "cert --workers 8",
-        text,
-        NEVER,
-        NEVER,
-    )?;
-    let report = analysed(rt, alloc, text)?;
-    let check = called(
-        rt,
-        alloc,
-        &NoGate {},
-        "check",
-        one.out.bytes(),
-        NEVER,
-        NEVER,
-    )?;
-    Ok(
-        one.code == 0
-            && one.out.bytes() == eight.out.bytes()
-            && check.code == report.code
-            && check.out.bytes().starts_with(b"valid points ")
-            && verdicts(check.out.bytes()) == verdicts(report.out.bytes()),
-    )
-}
-
-#[test]
-fn certificates_are_checked(rt: HostRuntime) -> Result<(), AllocError> {
-    for text in &CERTIFIED {
-        assert!(rt; is_checked(&rt, rt.alloc(), text.as_bytes())?, "{text}");
-    }
     Ok(())
 }
 
