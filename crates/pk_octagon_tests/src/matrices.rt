@@ -1,7 +1,7 @@
 // Calls on small matrices, and bounds at the cap.
 
-use crate::closing::MOST;
-use pk_octmat::Matrix;
+use crate::closing::{MOST, write_bounds};
+use pk_octmat::{Matrix, stored};
 use std::alloc::{AllocError, Global};
 use std::test::Fail;
 
@@ -60,5 +60,37 @@ fn no_variables_and_many(rt: HostRuntime) -> Result<(), Fail> {
     let many = Matrix::top(rt.alloc(), 64)?;
     assert!(rt; many.get(127, 0).is_none());
     assert!(rt; many.get(127, 127) == Some(0));
+    Ok(())
+}
+
+// Bounds on the last variable, the first one and both, of the largest matrices.
+const LAST: [(u32, u32, i128); 4] = [(127, 0, 5), (126, 127, 8), (0, 126, -3), (1, 0, MOST)];
+
+#[test]
+fn the_largest_matrices(rt: HostRuntime) -> Result<(), Fail> {
+    let mut m = Matrix::top(rt.alloc(), 64)?;
+    write_bounds(&mut m, 128, &LAST);
+    let same = m.copy()?;
+    // V(0) - V(127) is V(126) - V(1)
+    assert!(rt; same.get(1, 126) == Some(5));
+    assert!(rt; same.get(126, 127) == Some(8));
+    // V(126) - V(0) is V(1) - V(127)
+    assert!(rt; same.get(127, 1) == Some(-3));
+    assert!(rt; same.equals(&m));
+    m.forget(63);
+    assert!(rt; m.get(1, 126).is_none());
+    assert!(rt; m.get(1, 0) == Some(MOST));
+    Ok(())
+}
+
+// How many bounds are kept of 0, 16 and 64 variables: half of (2n)^2 and the rest of the diagonal blocks.
+const STORED: [(u32, usize); 4] = [(0, 0), (1, 4), (16, 544), (64, 8320)];
+
+#[test]
+fn half_is_kept(rt: HostRuntime) -> Result<(), Fail> {
+    for row in &STORED {
+        let (n, expected) = *row;
+        assert!(rt; stored(&Matrix::top(rt.alloc(), n)?) == expected);
+    }
     Ok(())
 }

@@ -15,6 +15,8 @@ pub mod Floyd
 pub mod Stays
 mod Uncapped
 mod Best
+pub mod Same
 mod Lined
 mod Lowered
 mod Forgotten
+mod Swept

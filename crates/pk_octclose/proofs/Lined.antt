@@ -11,14 +11,13 @@ use Rattle.pk_octmat.proofs.Tropical.{at_most_both, at_most_none, at_most_same, 
 use Rattle.pk_octpoints.proofs.Near.{near_more, plus_near}
 use Rattle.pk_octclose.specs.After.{line_through, lined, own_through}
 use Rattle.pk_octclose.specs.Closing.{IsClosed, IsClosing, evened, tight}
-use Rattle.pk_octclose.specs.Pairs.{whole_of}
 use Rattle.pk_octclose.specs.Walks.{HasNegativeCycle, relaxed, walk_sum}
 use Rattle.pk_octclose.proofs.Twice.{through_pair, through_same}
 use Rattle.pk_octclose.proofs.Members.{evened_most}
 use Rattle.pk_octclose.proofs.Triangle.{sums_triangle}
 use Rattle.pk_octclose.proofs.Turned.{reached_turned}
 use Rattle.pk_octclose.proofs.Walks.{Below, EachIn, IsWith, Reached, Through, each_in_append, each_in_more, walk_append}
-use Rattle.pk_octclose.proofs.Whole.{half_bar}
+use Rattle.pk_octmat.proofs.Pair.{half_bar}
 
 -- ---- a small closed matrix obeys the triangle inequality: its sums of two bounds are far from the cap
 uncapped : (t r : Option ℤ) (z : ℤ) → r ≡ capped t → IsNear (2 ^ 58) r → AtMost t (Some z) → z ≤ℤ pos (2 ^ 60) → AtMost r (Some z)
@@ -182,7 +181,7 @@ line_near e r (suc a) b h = by (cases_eq (a / 2) (r / 2)) (line_near e r a b h) 
         one (inl s) = rw s (near_more (a * 2 ^ 58 + 2 ^ 58) (suc a * 2 ^ 58 + 2 ^ 58) (line_through e r a b) (omega arith) v)
         one (inr s) = rw s (near_more (a * 2 ^ 58 + 2 ^ 58 + 2 ^ 58) (suc a * 2 ^ 58 + 2 ^ 58) (plus (line_through e r a a) (e a b)) (omega arith) (plus_near (a * 2 ^ 58 + 2 ^ 58) (2 ^ 58) (line_through e r a a) (e a b) w (h a b (inr n))))
 
-pub lines_near : (d : ℕ) (e : ℕ → ℕ → Option ℤ) (r b : ℕ) (x : Option ℤ) → d < 2 ^ 33 → ((i j : ℕ) → (i ≡ r) ⊎ (i / 2 ≢ r / 2) → IsNear (2 ^ 58) (e i j)) → x ≡ line_through e r d b → IsNear (2 ^ 100) x
+pub lines_near : (d : ℕ) (e : ℕ → ℕ → Option ℤ) (r b : ℕ) (x : Option ℤ) → d ≤ 2 ^ 32 → ((i j : ℕ) → (i ≡ r) ⊎ (i / 2 ≢ r / 2) → IsNear (2 ^ 58) (e i j)) → x ≡ line_through e r d b → IsNear (2 ^ 100) x
 lines_near d e r b x room h is = subst (λ o. IsNear (2 ^ 100) o) (sym is) (near_more (d * 2 ^ 58 + 2 ^ 58) (2 ^ 100) (line_through e r d b) (omega (arith, room)) (line_near e r d b h))
 
 -- rows of other variables that are the same give the same
@@ -401,9 +400,9 @@ pair_each p f even first second i h = by (cases_eq i p)
 
 -- ---- all places
 pub lined_from : (d k : ℕ) (xs zs : List (Option ℤ)) → IsMatrix d xs → d % 2 ≡ 0 → IsClosed d (forgotten (cell_at d xs) k) → ((i j : ℕ) → IsNear (2 ^ 58) (cell_at d xs i j))
-    → ((i : ℕ) → i < d → i / 2 ≡ k → AtMost (Some (pos 0)) (lined d (cell_at d xs) k i i)) → ((i j : ℕ) → i < d → j < d → whole_of d zs i j ≡ lined d (cell_at d xs) k i j) → Through d (cell_at d xs) (whole_of d zs) (Beside d k)
+    → ((i : ℕ) → i < d → i / 2 ≡ k → AtMost (Some (pos 0)) (lined d (cell_at d xs) k i i)) → ((i j : ℕ) → i < d → j < d → cell_at d zs i j ≡ lined d (cell_at d xs) k i j) → Through d (cell_at d xs) (cell_at d zs) (Beside d k)
 lined_from d k xs zs m pairs c small own lowered =
-    through_same d (cell_at d xs) (lined d (cell_at d xs) k) (whole_of d zs) (Beside d k)
+    through_same d (cell_at d xs) (lined d (cell_at d xs) k) (cell_at d zs) (Beside d k)
     (lined_through d (cell_at d xs) k (base_from d (cell_at d xs) k (λ i id. omega (arith, pairs)) m.coherent.zero m.coherent.turned c small) own) lowered
 
 abbrev pub With : (ℕ → Type 0) → ℕ → ℕ → Type 0

@@ -4,13 +4,16 @@ use Rattle.std.proofs.Common.{◌∙◌, ap, sym, subst, arith, inl, inr}
 use Rattle.std.proofs.lemmas.Bool.{cases_eq}
 use Rattle.std.proofs.lemmas.Int.{ints}
 use Rattle.pk_octmat.specs.Bounds.{AtMost, plus, lesser}
-use Rattle.pk_octmat.specs.Octagon.{bar, cell_at}
+use Rattle.pk_octmat.specs.Octagon.{bar}
+use Rattle.pk_octmat.specs.Half.{kept_at}
+use Rattle.pk_octmat.proofs.Half.{kept_turned}
 use Rattle.pk_octmat.proofs.Bars.{bar_bar}
 use Rattle.pk_octmat.proofs.Tropical.{at_most_both, at_most_none, at_most_same, at_most_trans, lesser_above, lesser_left, lesser_one, lesser_right, plus_assoc, plus_comm, plus_le}
-use Rattle.pk_octclose.specs.Pairs.{over_pair, whole_of}
+use Rattle.pk_octclose.specs.Pairs.{over_pair}
 use Rattle.pk_octclose.specs.Walks.{relaxed}
 use Rattle.pk_octclose.proofs.Walks.{relaxed_row}
-use Rattle.pk_octclose.proofs.Whole.{whole_is, whole_low, whole_turned}
+use Rattle.pk_octclose.proofs.Whole.{kept_coherent, kept_is}
+use Rattle.pk_octmat.proofs.Pair.{half_bar}
 
 -- the bounds, lowered to what leads through p and q, each of them over the other
 abbrev paired : (ℕ → ℕ → Option ℤ) → ℕ → ℕ → ℕ → ℕ → Option ℤ
@@ -158,18 +161,18 @@ five : (a b c d e v w x y z : Option ℤ) → a ≡ v → b ≡ w → c ≡ x �
 five a b c d e v w x y z p q r s t = ap (λ o. lesser (lesser o (plus b c)) (plus d e)) p ∙ ap (λ o. lesser (lesser v (plus o c)) (plus d e)) q ∙ ap (λ o. lesser (lesser v (plus w o)) (plus d e)) r ∙ ap (λ o. lesser (lesser v (plus w x)) (plus o e)) s ∙ ap (λ o. lesser (lesser v (plus w x)) (plus y o)) t
 
 -- rows ys of the pair are lowered over each other, and then the bounds zs that are kept
-pub pair_lowered : (d n p : ℕ) (xs ys zs : List (Option ℤ)) → d ≡ 2 * n → p % 2 ≡ 0 → p + 1 < d → ((i : ℕ) → i < d → cell_at d xs i i ≡ Some (pos 0))
-    → AtMost (Some (pos 0)) (plus (whole_of d xs p (p + 1)) (whole_of d xs (p + 1) p))
-    → ((b : ℕ) → b < d → cell_at d ys p b ≡ relaxed (whole_of d xs) (p + 1) p b)
-    → ((b : ℕ) → b < d → cell_at d ys (p + 1) b ≡ relaxed (whole_of d xs) p (p + 1) b)
-    → ((a b : ℕ) → a / 2 ≢ p / 2 → cell_at d ys a b ≡ cell_at d xs a b)
-    → ((a b : ℕ) → a < d → b < d → b / 2 ≤ a / 2 → a / 2 ≢ p / 2 → cell_at d zs a b ≡ over_pair (cell_at d ys) p a b)
-    → ((a b : ℕ) → a / 2 ≡ p / 2 → cell_at d zs a b ≡ cell_at d ys a b)
-    → (a b : ℕ) → a < d → b < d → whole_of d zs a b ≡ relaxed (relaxed (whole_of d xs) p) (p + 1) a b
-pair_lowered d n p xs ys zs pairs even room zero round first second others lowered own = whole_is d n zs f pairs turned low
+pub pair_lowered : (d p : ℕ) (xs ys zs : List (Option ℤ)) → d % 2 ≡ 0 → p % 2 ≡ 0 → p + 1 < d → ((i : ℕ) → i < d → kept_at d xs i i ≡ Some (pos 0))
+    → AtMost (Some (pos 0)) (plus (kept_at d xs p (p + 1)) (kept_at d xs (p + 1) p))
+    → ((b : ℕ) → b < d → kept_at d ys p b ≡ relaxed (kept_at d xs) (p + 1) p b)
+    → ((b : ℕ) → b < d → kept_at d ys (p + 1) b ≡ relaxed (kept_at d xs) p (p + 1) b)
+    → ((a b : ℕ) → a / 2 ≢ p / 2 → b / 2 ≢ p / 2 → kept_at d ys a b ≡ kept_at d xs a b)
+    → ((a b : ℕ) → a < d → b / 2 ≤ a / 2 → a / 2 ≢ p / 2 → b / 2 ≢ p / 2 → kept_at d zs a b ≡ over_pair (kept_at d ys) p a b)
+    → ((a b : ℕ) → a / 2 ≡ p / 2 → kept_at d zs a b ≡ kept_at d ys a b)
+    → (a b : ℕ) → a < d → b < d → kept_at d zs a b ≡ relaxed (relaxed (kept_at d xs) p) (p + 1) a b
+pair_lowered d p xs ys zs pairs even room diagonal round first second others lowered own = kept_is d zs f pairs (λ a b ad bd. turned a b) low
   where
     e : ℕ → ℕ → Option ℤ
-    e = whole_of d xs
+    e = kept_at d xs
 
     q : ℕ
     q = p + 1
@@ -181,36 +184,39 @@ pair_lowered d n p xs ys zs pairs even room zero round first second others lower
     next = omega arith
 
     coherent : (i j : ℕ) → e i j ≡ e (bar j) (bar i)
-    coherent = whole_turned d n xs pairs zero
+    coherent = kept_coherent d xs pairs diagonal
 
     turned : (i j : ℕ) → f i j ≡ f (bar j) (bar i)
     turned i j = sym (pairs_same e p q i j round) ∙ pairs_turned e p q i j next coherent ∙ pairs_same e p q (bar j) (bar i) round
-
-    zero_at : (i : ℕ) → i < d → e i i ≡ Some (pos 0)
-    zero_at i id = whole_low d xs i i (omega arith) ∙ zero i id
 
     back : AtMost (Some (pos 0)) (plus (e q p) (e p q))
     back = subst (λ o. AtMost (Some (pos 0)) o) (plus_comm (e p q) (e q p)) round
 
     -- the pair's own rows
     own_first : (b : ℕ) → relaxed e q p b ≡ f p b
-    own_first b = sym (pairs_lines e p q b (zero_at p (omega arith)) round) ∙ pairs_same e p q p b round
+    own_first b = sym (pairs_lines e p q b (diagonal p (omega arith)) round) ∙ pairs_same e p q p b round
 
     own_second : (b : ℕ) → relaxed e p q b ≡ f q b
-    own_second b = sym (pairs_lines e q p b (zero_at q room) back) ∙ lesser_swap (e q b) (plus (relaxed e p q q) (relaxed e p q b)) (plus (relaxed e q q p) (relaxed e q p b)) ∙ pairs_same e p q q b round
+    own_second b = sym (pairs_lines e q p b (diagonal q room) back) ∙ lesser_swap (e q b) (plus (relaxed e p q q) (relaxed e p q b)) (plus (relaxed e q q p) (relaxed e q p b)) ∙ pairs_same e p q q b round
 
-    own_row : (a b : ℕ) → b < d → a / 2 ≡ p / 2 → (a ≡ p) ⊎ (a ≢ p) → cell_at d ys a b ≡ f a b
-    own_row a b bd s (inl h) = subst (λ k. cell_at d ys k b ≡ f k b) (sym h) (first b bd ∙ own_first b)
-    own_row a b bd s (inr h) = let is : a ≡ p + 1 = omega (arith, s, h, even) in subst (λ k. cell_at d ys k b ≡ f k b) (sym is) (second b bd ∙ own_second b)
+    own_row : (a b : ℕ) → b < d → a / 2 ≡ p / 2 → (a ≡ p) ⊎ (a ≢ p) → kept_at d ys a b ≡ f a b
+    own_row a b bd s (inl h) = subst (λ k. kept_at d ys k b ≡ f k b) (sym h) (first b bd ∙ own_first b)
+    own_row a b bd s (inr h) = let is : a ≡ p + 1 = omega (arith, s, h, even) in subst (λ k. kept_at d ys k b ≡ f k b) (sym is) (second b bd ∙ own_second b)
 
-    low : (a b : ℕ) → a < d → b < d → b / 2 ≤ a / 2 → cell_at d zs a b ≡ f a b
-    low a b ad bd h = by (cases_eq (a / 2) (p / 2))
+    low : (a b : ℕ) → a < d → b < d → b / 2 ≤ a / 2 → kept_at d zs a b ≡ f a b
+    low a b ad bd h = by (cases_eq (a / 2) (p / 2)) (cases_eq (b / 2) (p / 2))
       where
-        by : (a / 2 ≡ p / 2) ⊎ (a / 2 ≢ p / 2) → cell_at d zs a b ≡ f a b
-        by (inl s) = own a b s ∙ own_row a b bd s (cases_eq a p)
-        by (inr m) =
-            let ba : bar a < d = omega (arith, pairs) in
-            lowered a b ad bd h m
-            ∙ five (cell_at d ys a b) (cell_at d ys q (bar a)) (cell_at d ys p b) (cell_at d ys p (bar a)) (cell_at d ys q b) (e a b) (relaxed e q a p) (relaxed e q p b) (relaxed e p a q) (relaxed e p q b)
-            (others a b m ∙ sym (whole_low d xs a b h)) (second (bar a) ba ∙ to_first e p q a next coherent) (first b bd) (first (bar a) ba ∙ to_first e q p a (sym (ap bar next ∙ bar_bar p)) coherent) (second b bd)
+        ba : bar a < d
+        ba = omega (arith, pairs)
+
+        by : (a / 2 ≡ p / 2) ⊎ (a / 2 ≢ p / 2) → (b / 2 ≡ p / 2) ⊎ (b / 2 ≢ p / 2) → kept_at d zs a b ≡ f a b
+        by (inl s) t = own a b s ∙ own_row a b bd s (cases_eq a p)
+        by (inr m) (inl t) =
+            let apart : a ≢ b = λ u. m (ap (λ k. k / 2) u ∙ t) in
+            let there : bar b / 2 ≡ p / 2 = half_bar b ∙ t in
+            kept_turned d zs a b pairs ad bd apart ∙ own (bar b) (bar a) there ∙ own_row (bar b) (bar a) ba there (cases_eq (bar b) p) ∙ sym (turned a b)
+        by (inr m) (inr n) =
+            lowered a b ad h m n
+            ∙ five (kept_at d ys a b) (kept_at d ys q (bar a)) (kept_at d ys p b) (kept_at d ys p (bar a)) (kept_at d ys q b) (e a b) (relaxed e q a p) (relaxed e q p b) (relaxed e p a q) (relaxed e p q b)
+            (others a b m n) (second (bar a) ba ∙ to_first e p q a next coherent) (first b bd) (first (bar a) ba ∙ to_first e q p a (sym (ap bar next ∙ bar_bar p)) coherent) (second b bd)
             ∙ pairs_same e p q a b round

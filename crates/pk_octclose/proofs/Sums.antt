@@ -16,7 +16,7 @@ pub negative_from : (a : Option ℤ) → is_negative a ≡ false → AtMost (Som
 negative_from None h = tt
 negative_from (Some z) h = omega (arith, ints)
 
-pub room_near : (d : ℕ) (e0 e : ℕ → ℕ → Option ℤ) (k : ℕ) → Through d e0 e (Below k) → k ≤ d → d < 2 ^ 33 → ((i j : ℕ) → IsNear (2 ^ 66) (e0 i j)) → (i j : ℕ) → i < d → j < d → IsNear (2 ^ 99) (e i j)
+pub room_near : (d : ℕ) (e0 e : ℕ → ℕ → Option ℤ) (k : ℕ) → Through d e0 e (Below k) → k ≤ d → d ≤ 2 ^ 32 → ((i j : ℕ) → IsNear (2 ^ 66) (e0 i j)) → (i j : ℕ) → i < d → j < d → IsNear (2 ^ 99) (e i j)
 room_near d e0 e k t kd room h i j id jd = near_more (d * 2 ^ 66 + 2 ^ 66) (2 ^ 99) (e i j) (omega (arith, room)) (through_near d e0 e (Below k) (2 ^ 66) t (λ p h. omega arith) h i j id jd)
 
 pub cycle_from : (d : ℕ) (e0 e f : ℕ → ℕ → Option ℤ) (k : ℕ) → Through d e0 e (Below k) → k < d → ((i j : ℕ) → i < d → j < d → f i j ≡ relaxed e k i j) → IsNegativeAt d f → HasNegativeCycle e0

@@ -4,3 +4,4 @@ pub mod Laws
 pub mod Places
 pub mod Pairs
 pub mod After
+pub mod Same

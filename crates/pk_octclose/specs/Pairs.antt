@@ -1,12 +1,12 @@
--- The two places of a variable at once. Half of a matrix is kept: the bounds from each place to those of its own variable and of earlier ones.
-use Rattle.std.specs.Prelude.{◌≡◌, ◌⊎◌, ℕ, ◌+◌, ◌/◌, nat_lt, if◌then◌else◌, ℤ, Option, List, true}
+-- The two places of a variable at once.
+use Rattle.std.specs.Prelude.{◌≡◌, ◌⊎◌, ℕ, ◌<◌, ◌≤◌, ◌+◌, ℤ, Option, None, List, slice_index_or, true}
 use Rattle.pk_octmat.specs.Bounds.{plus, lesser, is_negative}
-use Rattle.pk_octmat.specs.Octagon.{bar, cell_at}
+use Rattle.pk_octmat.specs.Octagon.{bar}
 use Rattle.pk_octclose.specs.Walks.{relaxed, IsNegativeAt}
 
--- the matrix of which half is kept: each other bound is that of the same difference from bar j to bar i
-unfoldable pub whole_of : ℕ → List (Option ℤ) → ℕ → ℕ → Option ℤ
-whole_of d cells i j = if nat_lt (i / 2) (j / 2) then cell_at d cells (bar j) (bar i) else cell_at d cells i j
+-- a row of its own has the bounds of row k, if it has room for all d
+abbrev pub IsCopy : ℕ → (ℕ → ℕ → Option ℤ) → ℕ → List (Option ℤ) → Type 0
+IsCopy d e k row = d ≤ 128 → (b : ℕ) → b < d → slice_index_or row b None ≡ e k b
 
 -- the bounds, lowered to what leads over rows p and p + 1: the bound to place p is that from p + 1 to bar i
 abbrev pub over_pair : (ℕ → ℕ → Option ℤ) → ℕ → ℕ → ℕ → Option ℤ

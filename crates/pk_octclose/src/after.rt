@@ -1,201 +1,219 @@
 // Closing where the bounds on one variable have changed alone.
 //
 // Bounds between other variables obey the triangle inequality already. So the variable's own two rows are lowered to what leads over the other places, and then all bounds to what leads through its two places.
+// The two rows are lowered as rows of their own, which have room for 64 variables. With more variables all is closed.
 
-ghost use Rattle.std.specs.Prelude.{◌≡◌, ◌≢◌, ◌⊎◌, ◌%◌, ◌/◌, ◌+◌, ◌*◌, ◌<◌, ◌≤◌, ◌^◌, ℕ, length, pos, Some, true, false};
-ghost use Rattle.pk_octmat.specs.Bounds.{IsNear, AtMost};
-ghost use Rattle.pk_octmat.specs.Octagon.{bar as other, cell_at, forgotten, IsMatrix};
+ghost use Rattle.std.specs.Prelude.{◌≡◌, ◌≢◌, ◌%◌, ◌/◌, ◌+◌, ◌*◌, ◌<◌, ◌≤◌, ◌^◌, ℕ, length, pos, Some, None, slice_index_or, true, false};
+ghost use Rattle.pk_octmat.specs.Bounds.{IsNear, AtMost, lesser, plus};
+ghost use Rattle.pk_octmat.specs.Octagon.{bar as other, forgotten};
+ghost use Rattle.pk_octmat.specs.Half.{block, kept_at, IsHalf};
 ghost use Rattle.pk_octmat.specs.Shapes.{left_of};
 ghost use Rattle.pk_octmat.specs.declared.shape.Shape.TheVariants.{Kept, Empty};
 ghost use Rattle.pk_octclose.specs.After.{line_through, lined, own_through};
 ghost use Rattle.pk_octclose.specs.Closing.{IsClosed, IsClosing, IsEmpty, IsSmall};
-ghost use Rattle.pk_octclose.specs.Pairs.{whole_of};
 ghost use Rattle.pk_octclose.specs.Places.{closing_of, IsClosedBut};
-ghost use Rattle.pk_octclose.specs.Walks.{relaxed, HasNegativeCycle, HasLeastSums};
+ghost use Rattle.pk_octclose.specs.Walks.{HasNegativeCycle, HasLeastSums};
 
-use crate::paths::{cell, fill, lower_cell, lower_row, pivot};
+use crate::paths::{cell, copy_row, paths, pivot};
 use crate::tight::tighten;
-use pk_octmat::{Bound, Matrix, Shape, bar, blank};
+use pk_octmat::{Bound, Matrix, Shape, bar, blank, write_pair};
 
-/// Lowers row r to what leads over place a, unless that is one of its own variable.
-fn lower_line(cells: &mut [Bound], d: usize, r: usize, a: usize)
-    requires size { length cells.old ≡ d * d }
-    requires row { r < d }
+/// Lowers a row of its own, of place r, to what leads over place a, unless that is one of its own variable.
+fn lower_line(cells: &[Bound], d: usize, r: usize, line: &mut [Bound], a: usize)
+    requires size { length cells.now ≡ block (d / 2) }
+    requires pairs { d % 2 ≡ 0 }
+    requires few { d ≤ 128 }
+    requires own { length line.old ≡ 128 }
     requires place { a < d }
-    requires first { IsNear (2 ^ 100) (cell_at d cells.old r a) }
-    requires then { a / 2 ≢ r / 2 → (b : ℕ) → b < d → IsNear (2 ^ 100) (cell_at d cells.old a b) }
-    ensures kept { length cells.new ≡ d * d }
-    ensures lowered { a / 2 ≢ r / 2 → (b : ℕ) → b < d → cell_at d cells.new r b ≡ relaxed (cell_at d cells.old) a r b }
-    ensures others { (x b : ℕ) → (x ≢ r) ⊎ (a / 2 ≡ r / 2) → cell_at d cells.new x b ≡ cell_at d cells.old x b }
+    requires first { IsNear (2 ^ 100) (slice_index_or line.old a None) }
+    requires then { a / 2 ≢ r / 2 → (b : ℕ) → b < d → IsNear (2 ^ 100) (kept_at d cells.now a b) }
+    ensures own { length line.new ≡ 128 }
+    ensures lowered { a / 2 ≢ r / 2 → (b : ℕ) → b < d → slice_index_or line.new b None ≡
+        lesser (slice_index_or line.old b None) (plus (slice_index_or line.old a None) (kept_at d cells.now a b)) }
+    ensures stays { a / 2 ≡ r / 2 → (b : ℕ) → slice_index_or line.new b None ≡ slice_index_or line.old b None }
 {
     if a / 2 == r / 2 {
         return;
     }
-    let first = cell(cells, d, r, a);
-    lower_row(cells, d, a, r, first, d);
-}
-
-/// Lowers row r to what leads over the places of other variables.
-fn lower_lines(cells: &mut [Bound], d: usize, r: usize)
-    requires size { length cells.old ≡ d * d }
-    requires room { d < 2 ^ 33 }
-    requires row { r < d }
-    requires near { (i j : ℕ) → (i ≡ r) ⊎ (i / 2 ≢ r / 2) → IsNear (2 ^ 58) (cell_at d cells.old i j) }
-    ensures kept { length cells.new ≡ d * d }
-    ensures lowered { (b : ℕ) → b < d → cell_at d cells.new r b ≡ line_through (cell_at d cells.old) r d b }
-    ensures others { (x b : ℕ) → x ≢ r → cell_at d cells.new x b ≡ cell_at d cells.old x b }
-{
-    for a in 0..d {
-        lower_line(cells, d, r, a);
+    let first = line[a];
+    if first.is_none() {
+        return;
+    }
+    for b in 0..d {
+        line[b] = line[b].lesser(first.plus(cell(cells, d, a, b)));
     }
 }
 
-/// Lowers the bounds of row r on its own variable to what leads over place a, unless that is one of it.
-fn lower_own(cells: &mut [Bound], d: usize, r: usize, a: usize)
-    requires size { length cells.old ≡ d * d }
+/// Lowers a row of its own, a copy of row r, to what leads over the places of other variables.
+fn lower_lines(cells: &[Bound], d: usize, r: usize, line: &mut [Bound])
+    requires size { length cells.now ≡ block (d / 2) }
     requires pairs { d % 2 ≡ 0 }
-    requires room { d < 2 ^ 33 }
+    requires few { d ≤ 128 }
+    requires own { length line.old ≡ 128 }
+    requires row { r < d }
+    requires near { (i j : ℕ) → IsNear (2 ^ 58) (kept_at d cells.now i j) }
+    requires copied { (b : ℕ) → b < d → slice_index_or line.old b None ≡ kept_at d cells.now r b }
+    ensures own { length line.new ≡ 128 }
+    ensures lowered { (b : ℕ) → b < d → slice_index_or line.new b None ≡ line_through (kept_at d cells.now) r d b }
+{
+    for a in 0..d {
+        lower_line(cells, d, r, line, a);
+    }
+}
+
+/// Lowers the bounds of a row of its own, of place r, on its own variable to what leads over place a, unless that is one of it.
+fn lower_own(cells: &[Bound], d: usize, r: usize, line: &mut [Bound], a: usize)
+    requires size { length cells.now ≡ block (d / 2) }
+    requires pairs { d % 2 ≡ 0 }
+    requires few { d ≤ 128 }
+    requires own { length line.old ≡ 128 }
     requires row { r < d }
     requires place { a < d }
-    requires first { a / 2 ≢ r / 2 → IsNear (2 ^ 100) (cell_at d cells.old r a) }
-    requires then { a / 2 ≢ r / 2 → (b : ℕ) → b < d → IsNear (2 ^ 100) (cell_at d cells.old a b) }
-    ensures kept { length cells.new ≡ d * d }
-    ensures lowered { a / 2 ≢ r / 2 → (s : ℕ) → s / 2 ≡ r / 2 →
-        cell_at d cells.new r s ≡ relaxed (cell_at d cells.old) a r s }
-    ensures others { (x b : ℕ) → (x ≢ r) ⊎ (b / 2 ≢ r / 2) → cell_at d cells.new x b ≡ cell_at d cells.old x b }
-    ensures stays { a / 2 ≡ r / 2 → (x b : ℕ) → cell_at d cells.new x b ≡ cell_at d cells.old x b }
+    requires first { a / 2 ≢ r / 2 → IsNear (2 ^ 100) (slice_index_or line.old a None) }
+    requires then { a / 2 ≢ r / 2 → (b : ℕ) → b < d → IsNear (2 ^ 100) (kept_at d cells.now a b) }
+    ensures own { length line.new ≡ 128 }
+    ensures lowered { a / 2 ≢ r / 2 → (s : ℕ) → s / 2 ≡ r / 2 → slice_index_or line.new s None ≡
+        lesser (slice_index_or line.old s None) (plus (slice_index_or line.old a None) (kept_at d cells.now a s)) }
+    ensures others { (b : ℕ) → b / 2 ≢ r / 2 → slice_index_or line.new b None ≡ slice_index_or line.old b None }
+    ensures stays { a / 2 ≡ r / 2 → (b : ℕ) → slice_index_or line.new b None ≡ slice_index_or line.old b None }
 {
     if a / 2 == r / 2 {
         return;
     }
-    let first = cell(cells, d, r, a);
-    let back = first.plus(cell(cells, d, a, r));
-    let across = first.plus(cell(cells, d, a, bar(r)));
-    lower_cell(cells, d, r, r, back);
-    lower_cell(cells, d, r, bar(r), across);
+    let first = line[a];
+    let q = bar(r);
+    line[r] = line[r].lesser(first.plus(cell(cells, d, a, r)));
+    line[q] = line[q].lesser(first.plus(cell(cells, d, a, q)));
 }
 
-/// Lowers the bounds of row r on its own variable to what leads over the places of other variables.
-fn lower_owns(cells: &mut [Bound], d: usize, r: usize)
-    requires size { length cells.old ≡ d * d }
+/// Lowers the bounds of a row of its own, of place r, on its own variable to what leads over the places of other variables.
+fn lower_owns(cells: &[Bound], d: usize, r: usize, line: &mut [Bound])
+    requires size { length cells.now ≡ block (d / 2) }
     requires pairs { d % 2 ≡ 0 }
-    requires room { d < 2 ^ 33 }
+    requires few { d ≤ 128 }
+    requires own { length line.old ≡ 128 }
     requires row { r < d }
-    requires first { (b : ℕ) → b < d → IsNear (2 ^ 100) (cell_at d cells.old r b) }
-    requires then { (a b : ℕ) → a / 2 ≢ r / 2 → IsNear (2 ^ 58) (cell_at d cells.old a b) }
-    ensures kept { length cells.new ≡ d * d }
-    ensures lowered { (s : ℕ) → s / 2 ≡ r / 2 →
-        cell_at d cells.new r s ≡ own_through (cell_at d cells.old) (cell_at d cells.old r) (r / 2) d s }
-    ensures others { (x b : ℕ) → (x ≢ r) ⊎ (b / 2 ≢ r / 2) → cell_at d cells.new x b ≡ cell_at d cells.old x b }
+    requires first { (b : ℕ) → b < d → IsNear (2 ^ 100) (slice_index_or line.old b None) }
+    requires near { (i j : ℕ) → IsNear (2 ^ 58) (kept_at d cells.now i j) }
+    ensures own { length line.new ≡ 128 }
+    ensures lowered { (s : ℕ) → s / 2 ≡ r / 2 → slice_index_or line.new s None ≡
+        own_through (kept_at d cells.now) (λ b. slice_index_or line.old b None) (r / 2) d s }
+    ensures others { (b : ℕ) → b / 2 ≢ r / 2 → slice_index_or line.new b None ≡ slice_index_or line.old b None }
 {
     for a in 0..d {
-        lower_own(cells, d, r, a);
+        lower_own(cells, d, r, line, a);
     }
 }
 
-/// Writes the bounds of later variables to place p and its negative, as those back have it.
-fn write_columns(cells: &mut [Bound], d: usize, p: usize)
-    requires size { length cells.old ≡ d * d }
+/// Makes a row of its own that of place r, lowered to what leads over places of other variables.
+fn line_of(cells: &[Bound], d: usize, r: usize, line: &mut [Bound])
+    requires size { length cells.now ≡ block (d / 2) }
     requires pairs { d % 2 ≡ 0 }
-    requires room { d < 2 ^ 33 }
-    requires place { p + 1 < d }
-    requires even { p % 2 ≡ 0 }
-    ensures kept { length cells.new ≡ d * d }
-    ensures first { (x : ℕ) → x < d → p / 2 < x / 2 → cell_at d cells.new x p ≡ cell_at d cells.old (p + 1) (other x) }
-    ensures second { (x : ℕ) → x < d → p / 2 < x / 2 → cell_at d cells.new x (p + 1) ≡ cell_at d cells.old p (other x) }
-    ensures others { (x b : ℕ) → (x / 2 ≤ p / 2) ⊎ (b / 2 ≢ p / 2) →
-        cell_at d cells.new x b ≡ cell_at d cells.old x b }
+    requires few { d ≤ 128 }
+    requires own { length line.old ≡ 128 }
+    requires row { r < d }
+    requires near { (i j : ℕ) → IsNear (2 ^ 58) (kept_at d cells.now i j) }
+    ensures own { length line.new ≡ 128 }
+    ensures lowered { (b : ℕ) → b < d → slice_index_or line.new b None ≡ lined d (kept_at d cells.now) (r / 2) r b }
 {
-    for x in p + 2..d {
-        let first = cell(cells, d, p + 1, bar(x));
-        let second = cell(cells, d, p, bar(x));
-        cells[x * d + p] = first;
-        cells[x * d + (p + 1)] = second;
-    }
+    copy_row(cells, d, r, line);
+    lower_lines(cells, d, r, line);
+    lower_owns(cells, d, r, line);
 }
 
-/// Lowers the bounds on place p and its negative to what leads over places of other variables.
-fn lower_pair(cells: &mut [Bound], d: usize, p: usize)
-    requires whole { IsMatrix d cells.old }
+/// Writes the rows of place p and of its negative.
+fn write_rows(cells: &mut [Bound], d: usize, p: usize, first: &[Bound], second: &[Bound])
+    requires size { length cells.old ≡ block (d / 2) }
     requires pairs { d % 2 ≡ 0 }
-    requires room { d < 2 ^ 33 }
+    requires few { d ≤ 128 }
     requires place { p + 1 < d }
     requires even { p % 2 ≡ 0 }
-    requires small { (i j : ℕ) → IsNear (2 ^ 58) (cell_at d cells.old i j) }
-    ensures kept { length cells.new ≡ d * d }
-    ensures first { (b : ℕ) → b < d → cell_at d cells.new p b ≡ lined d (cell_at d cells.old) (p / 2) p b }
-    ensures second { (b : ℕ) → b < d →
-        cell_at d cells.new (p + 1) b ≡ lined d (cell_at d cells.old) (p / 2) (p + 1) b }
-    ensures others { (x b : ℕ) → x / 2 ≢ p / 2 → cell_at d cells.new x b ≡ cell_at d cells.old x b }
+    requires own { length first.now ≡ 128 }
+    requires own_two { length second.now ≡ 128 }
+    ensures kept { length cells.new ≡ block (d / 2) }
+    ensures first { (b : ℕ) → b < d → kept_at d cells.new p b ≡ slice_index_or first.now b None }
+    ensures second { (b : ℕ) → b < d → kept_at d cells.new (p + 1) b ≡ slice_index_or second.now b None }
+    ensures others { (a b : ℕ) → a / 2 ≢ p / 2 → b / 2 ≢ p / 2 → kept_at d cells.new a b ≡ kept_at d cells.old a b }
 {
-    lower_lines(cells, d, p);
-    lower_owns(cells, d, p);
-    lower_lines(cells, d, p + 1);
-    lower_owns(cells, d, p + 1);
+    for j in 0..d {
+        write_pair(cells, d, p, j, first[j], second[j]);
+    }
 }
 
 /// Lowers all bounds on the variable of place p to what leads over places of other variables. False where a walk that leads back has a negative sum.
-fn lower_lined(cells: &mut [Bound], d: usize, p: usize) -> bool
-    requires whole { IsMatrix d cells.old }
+fn lower_pair(
+    cells: &mut [Bound],
+    d: usize,
+    p: usize,
+    first: &mut [Bound],
+    second: &mut [Bound],
+) -> bool
+    requires whole { IsHalf d cells.old }
     requires pairs { d % 2 ≡ 0 }
-    requires room { d < 2 ^ 33 }
+    requires few { d ≤ 128 }
     requires place { p + 1 < d }
     requires even { p % 2 ≡ 0 }
-    requires small { (i j : ℕ) → IsNear (2 ^ 58) (cell_at d cells.old i j) }
-    ensures kept { length cells.new ≡ d * d }
+    requires small { (i j : ℕ) → IsNear (2 ^ 58) (kept_at d cells.old i j) }
+    requires own { length first.old ≡ 128 }
+    requires own_two { length second.old ≡ 128 }
+    ensures kept { length cells.new ≡ block (d / 2) }
+    ensures own { length first.new ≡ 128 }
+    ensures own_two { length second.new ≡ 128 }
     ensures lowered { result ≡ true → (i j : ℕ) → i < d → j < d →
-        whole_of d cells.new i j ≡ lined d (cell_at d cells.old) (p / 2) i j }
-    ensures own { result ≡ true → (i : ℕ) → i < d → i / 2 ≡ p / 2 →
-        AtMost (Some (pos 0)) (lined d (cell_at d cells.old) (p / 2) i i) }
-    ensures cycle { result ≡ false → HasNegativeCycle (cell_at d cells.old) }
+        kept_at d cells.new i j ≡ lined d (kept_at d cells.old) (p / 2) i j }
+    ensures diagonal { result ≡ true → (i : ℕ) → i < d → i / 2 ≡ p / 2 →
+        AtMost (Some (pos 0)) (lined d (kept_at d cells.old) (p / 2) i i) }
+    ensures cycle { result ≡ false → HasNegativeCycle (kept_at d cells.old) }
 {
-    lower_pair(cells, d, p);
-    if cell(cells, d, p, p).is_negative() {
+    line_of(cells, d, p, first);
+    line_of(cells, d, p + 1, second);
+    if first[p].is_negative() {
         return false;
     }
-    if cell(cells, d, p + 1, p + 1).is_negative() {
+    if second[p + 1].is_negative() {
         return false;
     }
-    write_columns(cells, d, p);
+    write_rows(cells, d, p, first, second);
     true
 }
 
 /// Lowers all bounds to the least sums of walks, where those between other variables than that of place p are closed. False where a walk that leads back has a negative sum.
 fn paths_after(cells: &mut [Bound], d: usize, p: usize) -> bool
-    requires whole { IsMatrix d cells.old }
+    requires whole { IsHalf d cells.old }
     requires pairs { d % 2 ≡ 0 }
-    requires room { d < 2 ^ 33 }
+    requires room { d ≤ 2 ^ 32 }
     requires place { p + 1 < d }
     requires even { p % 2 ≡ 0 }
-    requires small { (i j : ℕ) → IsNear (2 ^ 58) (cell_at d cells.old i j) }
-    requires closed { IsClosed d (forgotten (cell_at d cells.old) (p / 2)) }
-    ensures kept { length cells.new ≡ d * d }
-    ensures least { result ≡ true → HasLeastSums d (cell_at d cells.old) (cell_at d cells.new) }
-    ensures near { result ≡ true → (i j : ℕ) → i < d → j < d → IsNear (2 ^ 100) (cell_at d cells.new i j) }
-    ensures cycle { result ≡ false → HasNegativeCycle (cell_at d cells.old) }
+    requires small { (i j : ℕ) → IsNear (2 ^ 58) (kept_at d cells.old i j) }
+    requires closed { IsClosed d (forgotten (kept_at d cells.old) (p / 2)) }
+    ensures kept { length cells.new ≡ block (d / 2) }
+    ensures least { result ≡ true → HasLeastSums d (kept_at d cells.old) (kept_at d cells.new) }
+    ensures near { result ≡ true → (i j : ℕ) → i < d → j < d → IsNear (2 ^ 100) (kept_at d cells.new i j) }
+    ensures cycle { result ≡ false → HasNegativeCycle (kept_at d cells.old) }
 {
-    if !lower_lined(cells, d, p) {
+    if 128 < d {
+        return paths(cells, d);
+    }
+    let mut first = [Bound::none(); 128];
+    let mut second = [Bound::none(); 128];
+    if !lower_pair(cells, d, p, &mut first, &mut second) {
         return false;
     }
-    if !pivot(cells, d, p) {
-        return false;
-    }
-    fill(cells, d);
-    true
+    pivot(cells, d, p, &mut first, &mut second)
 }
 
 /// Closes the cells of a matrix in place, where those on other variables than that of place p are closed.
 fn close_cells_after(cells: &mut [Bound], d: usize, p: usize) -> Shape
-    requires whole { IsMatrix d cells.old }
+    requires whole { IsHalf d cells.old }
     requires pairs { d % 2 ≡ 0 }
-    requires room { d < 2 ^ 33 }
+    requires room { d ≤ 2 ^ 32 }
     requires place { p + 1 < d }
     requires even { p % 2 ≡ 0 }
-    requires small { (i j : ℕ) → IsNear (2 ^ 58) (cell_at d cells.old i j) }
-    requires closed { IsClosed d (forgotten (cell_at d cells.old) (p / 2)) }
-    ensures whole { IsMatrix d cells.new }
-    ensures kept { result ≡ Kept → IsClosing d (cell_at d cells.old) (cell_at d cells.new) }
-    ensures empty { result ≡ Empty → IsEmpty d (cell_at d cells.old) }
+    requires small { (i j : ℕ) → IsNear (2 ^ 58) (kept_at d cells.old i j) }
+    requires closed { IsClosed d (forgotten (kept_at d cells.old) (p / 2)) }
+    ensures whole { IsHalf d cells.new }
+    ensures kept { result ≡ Kept → IsClosing d (kept_at d cells.old) (kept_at d cells.new) }
+    ensures empty { result ≡ Empty → IsEmpty d (kept_at d cells.old) }
 {
     if paths_after(cells, d, p) && tighten(cells, d) {
         return Shape::Kept;

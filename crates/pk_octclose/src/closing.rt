@@ -2,7 +2,8 @@
 
 ghost use Rattle.std.specs.Prelude.{◌≡◌, ◌%◌, ◌↔◌, ℕ, ℤ, ◌*◌, ◌<◌, ◌≤◌, ◌^◌, Option};
 ghost use Rattle.pk_octmat.specs.Bounds.{AtMost};
-ghost use Rattle.pk_octmat.specs.Octagon.{entry, cell_at, top_bound, Meets, IsMatrix};
+ghost use Rattle.pk_octmat.specs.Octagon.{entry, top_bound, Meets};
+ghost use Rattle.pk_octmat.specs.Half.{kept_at, IsHalf};
 ghost use Rattle.pk_octclose.specs.Closing.{IsClosing, IsEmpty, IsClosed, IsSmall, KeepsPoints};
 ghost use Rattle.pk_octclose.specs.Places.{closing_of};
 ghost use Rattle.pk_octpoints.specs.Tight.{IsTight};
@@ -15,17 +16,17 @@ use pk_octmat::{Bound, Matrix, Shape, blank};
 
 /// Closes the cells of a matrix in place, or finds that no integers meet them.
 fn close_cells(cells: &mut [Bound], d: usize) -> Shape
-    requires whole { IsMatrix d cells.old }
+    requires whole { IsHalf d cells.old }
     requires pairs { d % 2 ≡ 0 }
-    requires room { d < 2 ^ 33 }
-    ensures whole { IsMatrix d cells.new }
-    ensures kept { result ≡ Kept → IsClosing d (cell_at d cells.old) (cell_at d cells.new) }
-    ensures empty { (result ≡ Empty) ↔ IsEmpty d (cell_at d cells.old) }
-    ensures cleared { result ≡ Empty → (i j : ℕ) → i < d → j < d → cell_at d cells.new i j ≡ top_bound i j }
-    ensures points { result ≡ Kept → KeepsPoints (cell_at d cells.old) (cell_at d cells.new) }
-    ensures none { result ≡ Empty → (x : ℕ → ℤ) → Meets (cell_at d cells.old) x → ⊥ }
-    ensures again { IsClosed d (cell_at d cells.old) →
-        (result ≡ Kept) × ((i j : ℕ) → cell_at d cells.new i j ≡ cell_at d cells.old i j) }
+    requires room { d ≤ 2 ^ 32 }
+    ensures whole { IsHalf d cells.new }
+    ensures kept { result ≡ Kept → IsClosing d (kept_at d cells.old) (kept_at d cells.new) }
+    ensures empty { (result ≡ Empty) ↔ IsEmpty d (kept_at d cells.old) }
+    ensures cleared { result ≡ Empty → (i j : ℕ) → i < d → j < d → kept_at d cells.new i j ≡ top_bound i j }
+    ensures points { result ≡ Kept → KeepsPoints (kept_at d cells.old) (kept_at d cells.new) }
+    ensures none { result ≡ Empty → (x : ℕ → ℤ) → Meets (kept_at d cells.old) x → ⊥ }
+    ensures again { IsClosed d (kept_at d cells.old) →
+        (result ≡ Kept) × ((i j : ℕ) → kept_at d cells.new i j ≡ kept_at d cells.old i j) }
 {
     if paths(cells, d) && tighten(cells, d) {
         return Shape::Kept;

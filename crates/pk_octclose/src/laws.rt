@@ -2,6 +2,7 @@
 
 ghost use Rattle.pk_octclose.specs.Laws.{ClosingIsDetermined, ClosingIsClosed, ClosedStayClosed};
 ghost use Rattle.pk_octclose.specs.Places.{ClosingIsRight};
+ghost use Rattle.pk_octclose.specs.Same.{ClosingIsOfPoints};
 
 /// A matrix has at most one closing, and none where it is empty.
 pub fn closing_is_determined()
@@ -21,4 +22,9 @@ pub fn closing_by_places()
 /// Where closed matrices are joined, or one loses a variable's bounds, or a variable and its negative change places, or a constant is added along far from the cap, the result is closed.
 pub fn closed_stay_closed()
     ensures { ClosedStayClosed }
+{}
+
+/// Over at most 64 variables, octagons with small bounds that the same integers meet have the same closing, and none exactly where none meet them.
+pub fn closing_is_of_points()
+    ensures { ClosingIsOfPoints }
 {}

@@ -11,4 +11,7 @@ mod tight;
 pub use after::close_after;
 pub use bounded::small;
 pub use closing::close;
-pub use laws::{closed_stay_closed, closing_by_places, closing_is_closed, closing_is_determined};
+pub use laws::{
+    closed_stay_closed, closing_by_places, closing_is_closed, closing_is_determined,
+    closing_is_of_points,
+};

@@ -1,155 +1,251 @@
 // Least sums of walks, in place (Floyd 1962), through the two places of a variable at once.
 //
-// Half of the matrix is kept: the bounds from each place to those of its own variable and of earlier ones. The others are written once all variables are gone through.
+// The rows of the two places lead through the columns of later variables, where they don't stand side by side. So they are copied to two rows of their own, where these have room.
 
 ghost use Rattle.std.specs.Prelude.{◌≡◌, ◌≢◌, ◌⊎◌, ◌%◌, ◌/◌, ◌+◌, ℕ, ◌<◌, ◌≤◌, ◌*◌, ◌^◌, length, pos, Some, true, false};
 ghost use Rattle.pk_octmat.specs.Bounds.{IsNear, AtMost, lesser, plus};
-ghost use Rattle.pk_octmat.specs.Octagon.{bar as other, cell_at};
-ghost use Rattle.pk_octclose.specs.Pairs.{over_pair, whole_of, IsShort};
+ghost use Rattle.pk_octmat.specs.Octagon.{bar as other};
+ghost use Rattle.pk_octmat.specs.Half.{block, kept_at, row_place as row_place_of};
+ghost use Rattle.pk_octclose.specs.Pairs.{over_pair, IsCopy, IsShort};
 ghost use Rattle.pk_octclose.specs.Walks.{relaxed, HasNegativeCycle, HasLeastSums, IsNegativeAt};
 
-use pk_octmat::{Bound, bar};
+use pk_octmat::{Bound, bar, row_place, spot, write_pair};
 
 /// The bound in a row and a column.
 #[inline]
 pub fn cell(cells: &[Bound], d: usize, i: usize, j: usize) -> Bound
-    requires size { length cells.now ≡ d * d }
+    requires size { length cells.now ≡ block (d / 2) }
+    requires pairs { d % 2 ≡ 0 }
+    requires room { d ≤ 2 ^ 32 }
     requires row { i < d }
     requires column { j < d }
-    ensures { result ≡ cell_at d cells.now i j }
+    ensures { result ≡ kept_at d cells.now i j }
 {
-    let bound = cells[i * d + j];
+    let bound = cells[spot(i, j)];
     bound
 }
 
-/// The same, read in the half that is kept.
-#[inline]
-fn kept(cells: &[Bound], d: usize, i: usize, j: usize) -> Bound
-    requires size { length cells.now ≡ d * d }
+/// Copies row k to a row of its own, if it has room there.
+pub fn copy_row(cells: &[Bound], d: usize, k: usize, row: &mut [Bound])
+    requires size { length cells.now ≡ block (d / 2) }
     requires pairs { d % 2 ≡ 0 }
-    requires room { d < 2 ^ 33 }
-    requires row { i < d }
-    requires column { j < d }
-    ensures { result ≡ whole_of d cells.now i j }
+    requires room { d ≤ 2 ^ 32 }
+    requires place { k < d }
+    requires own { length row.old ≡ 128 }
+    ensures own { length row.new ≡ 128 }
+    ensures copied { IsCopy d (kept_at d cells.now) k row.new }
 {
-    if i / 2 < j / 2 {
-        cell(cells, d, bar(j), bar(i))
+    if d <= 128 {
+        for j in 0..d {
+            row[j] = cell(cells, d, k, j);
+        }
+    }
+}
+
+/// The bound in row k and a column, read in a copy of that row if there is one.
+#[inline]
+fn row_bound(cells: &[Bound], d: usize, k: usize, row: &[Bound], j: usize) -> Bound
+    requires size { length cells.now ≡ block (d / 2) }
+    requires pairs { d % 2 ≡ 0 }
+    requires room { d ≤ 2 ^ 32 }
+    requires place { k < d }
+    requires column { j < d }
+    requires own { length row.now ≡ 128 }
+    requires copied { IsCopy d (kept_at d cells.now) k row.now }
+    ensures { result ≡ kept_at d cells.now k j }
+{
+    if d <= 128 {
+        let bound = row[j];
+        bound
     } else {
-        cell(cells, d, i, j)
+        cell(cells, d, k, j)
     }
 }
 
 /// Writes the rows of place p and of its negative, each lowered to what leads over the other.
 fn join_rows(cells: &mut [Bound], d: usize, p: usize)
-    requires size { length cells.old ≡ d * d }
+    requires size { length cells.old ≡ block (d / 2) }
     requires pairs { d % 2 ≡ 0 }
-    requires room { d < 2 ^ 33 }
+    requires room { d ≤ 2 ^ 32 }
     requires place { p + 1 < d }
     requires even { p % 2 ≡ 0 }
-    requires near { (a b : ℕ) → a < d → b < d → IsNear (2 ^ 99) (whole_of d cells.old a b) }
-    ensures kept { length cells.new ≡ d * d }
-    ensures first { (b : ℕ) → b < d → cell_at d cells.new p b ≡ relaxed (whole_of d cells.old) (p + 1) p b }
-    ensures second { (b : ℕ) → b < d → cell_at d cells.new (p + 1) b ≡ relaxed (whole_of d cells.old) p (p + 1) b }
-    ensures others { (a b : ℕ) → a / 2 ≢ p / 2 → cell_at d cells.new a b ≡ cell_at d cells.old a b }
+    requires near { (a b : ℕ) → a < d → b < d → IsNear (2 ^ 99) (kept_at d cells.old a b) }
+    ensures kept { length cells.new ≡ block (d / 2) }
+    ensures first { (b : ℕ) → b < d → kept_at d cells.new p b ≡ relaxed (kept_at d cells.old) (p + 1) p b }
+    ensures second { (b : ℕ) → b < d → kept_at d cells.new (p + 1) b ≡ relaxed (kept_at d cells.old) p (p + 1) b }
+    ensures others { (a b : ℕ) → a / 2 ≢ p / 2 → b / 2 ≢ p / 2 → kept_at d cells.new a b ≡ kept_at d cells.old a b }
 {
-    let there = kept(cells, d, p, p + 1);
-    let back = kept(cells, d, p + 1, p);
+    let there = cell(cells, d, p, p + 1);
+    let back = cell(cells, d, p + 1, p);
     for j in 0..d {
-        let first = kept(cells, d, p, j);
-        let second = kept(cells, d, p + 1, j);
-        cells[p * d + j] = first.lesser(there.plus(second));
-        cells[(p + 1) * d + j] = second.lesser(back.plus(first));
+        let first = cell(cells, d, p, j);
+        let second = cell(cells, d, p + 1, j);
+        let lowered = first.lesser(there.plus(second));
+        write_pair(cells, d, p, j, lowered, second.lesser(back.plus(first)));
     }
 }
 
-/// Lowers the bound in a row and a column to another one.
+/// Lowers the bound that is kept in row i and column j to another one.
 #[inline]
-pub fn lower_cell(cells: &mut [Bound], d: usize, i: usize, j: usize, bound: Bound)
-    requires size { length cells.old ≡ d * d }
+pub fn lower_cell(cells: &mut [Bound], d: usize, i: usize, j: usize, base: usize, bound: Bound)
+    requires size { length cells.old ≡ block (d / 2) }
+    requires pairs { d % 2 ≡ 0 }
     requires row { i < d }
-    requires column { j < d }
-    ensures kept { length cells.new ≡ d * d }
-    ensures here { cell_at d cells.new i j ≡ lesser (cell_at d cells.old i j) bound }
-    ensures others { (a b : ℕ) → (a ≢ i) ⊎ (b ≢ j) → cell_at d cells.new a b ≡ cell_at d cells.old a b }
+    requires low { j / 2 ≤ i / 2 }
+    requires base { base ≡ row_place_of i 0 }
+    ensures kept { length cells.new ≡ block (d / 2) }
+    ensures here { kept_at d cells.new i j ≡ lesser (kept_at d cells.old i j) bound }
+    ensures others { (a b : ℕ) → b / 2 ≤ a / 2 → (a ≢ i) ⊎ (b ≢ j) → kept_at d cells.new a b ≡ kept_at d cells.old a b }
 {
-    if cell(cells, d, i, j).is_at_most(bound) {
+    let at = base + j;
+    if cells[at].is_at_most(bound) {
         return;
     }
-    cells[i * d + j] = bound;
+    cells[at] = bound;
 }
 
-/// Lowers the first bounds of row i to what a bound and row k give.
-pub fn lower_row(cells: &mut [Bound], d: usize, k: usize, i: usize, first: Bound, end: usize)
-    requires size { length cells.old ≡ d * d }
+/// Lowers some bounds that are kept in row i to what a bound and row k give: those from one column to before another, none of them of k's variable.
+fn lower_part(
+    cells: &mut [Bound],
+    d: usize,
+    k: usize,
+    row: &[Bound],
+    i: usize,
+    first: Bound,
+    start: usize,
+    end: usize,
+)
+    requires size { length cells.old ≡ block (d / 2) }
+    requires pairs { d % 2 ≡ 0 }
+    requires room { d ≤ 2 ^ 32 }
     requires place { k < d }
     requires row { i < d }
-    requires apart { k ≢ i }
-    requires end { end ≤ d }
+    requires apart { i / 2 ≢ k / 2 }
+    requires end { end ≤ i / 2 * 2 + 2 }
+    requires beside { (b : ℕ) → start ≤ b → b < end → b / 2 ≢ k / 2 }
     requires first { IsNear (2 ^ 100) first }
-    requires then { (b : ℕ) → b < d → IsNear (2 ^ 100) (cell_at d cells.old k b) }
-    ensures kept { length cells.new ≡ d * d }
-    ensures lowered { (b : ℕ) → b < end →
-        cell_at d cells.new i b ≡ lesser (cell_at d cells.old i b) (plus first (cell_at d cells.old k b)) }
-    ensures others { (a b : ℕ) → (a ≢ i) ⊎ (end ≤ b) → cell_at d cells.new a b ≡ cell_at d cells.old a b }
+    requires then { (b : ℕ) → b < d → IsNear (2 ^ 100) (kept_at d cells.old k b) }
+    requires own { length row.now ≡ 128 }
+    requires copied { IsCopy d (kept_at d cells.old) k row.now }
+    ensures kept { length cells.new ≡ block (d / 2) }
+    ensures lowered { (b : ℕ) → start ≤ b → b < end →
+        kept_at d cells.new i b ≡ lesser (kept_at d cells.old i b) (plus first (kept_at d cells.old k b)) }
+    ensures others { (a b : ℕ) → b / 2 ≤ a / 2 → (a ≢ i) ⊎ (b < start) ⊎ ((start ≤ end) × (end ≤ b)) →
+        kept_at d cells.new a b ≡ kept_at d cells.old a b }
+{
+    let base = row_place(i, 0);
+    for j in start..end {
+        let through = first.plus(row_bound(cells, d, k, row, j));
+        lower_cell(cells, d, i, j, base, through);
+    }
+}
+
+/// The lesser of two columns.
+#[inline]
+fn lesser_of(a: usize, b: usize) -> usize
+    ensures left { result ≤ a }
+    ensures right { result ≤ b }
+    ensures one { (a ≤ result) ⊎ (b ≤ result) }
+{
+    if a < b { a } else { b }
+}
+
+/// Lowers the bounds that are kept in row i to what a bound and row k give, but for those on the variable of place p, which is k's.
+fn lower_row(
+    cells: &mut [Bound],
+    d: usize,
+    p: usize,
+    k: usize,
+    row: &[Bound],
+    i: usize,
+    first: Bound,
+)
+    requires size { length cells.old ≡ block (d / 2) }
+    requires pairs { d % 2 ≡ 0 }
+    requires room { d ≤ 2 ^ 32 }
+    requires place { p + 1 < d }
+    requires even { p % 2 ≡ 0 }
+    requires through { k < d }
+    requires variable { k / 2 ≡ p / 2 }
+    requires row { i < d }
+    requires apart { i / 2 ≢ p / 2 }
+    requires first { IsNear (2 ^ 100) first }
+    requires then { (b : ℕ) → b < d → IsNear (2 ^ 100) (kept_at d cells.old k b) }
+    requires own { length row.now ≡ 128 }
+    requires copied { IsCopy d (kept_at d cells.old) k row.now }
+    ensures kept { length cells.new ≡ block (d / 2) }
+    ensures lowered { (b : ℕ) → b / 2 ≤ i / 2 → b / 2 ≢ p / 2 →
+        kept_at d cells.new i b ≡ lesser (kept_at d cells.old i b) (plus first (kept_at d cells.old k b)) }
+    ensures others { (a b : ℕ) → b / 2 ≤ a / 2 → (a ≢ i) ⊎ (b / 2 ≡ p / 2) →
+        kept_at d cells.new a b ≡ kept_at d cells.old a b }
 {
     if first.is_none() {
         return;
     }
-    for j in 0..end {
-        let through = first.plus(cell(cells, d, k, j));
-        lower_cell(cells, d, i, j, through);
-    }
+    let end = i / 2 * 2 + 2;
+    lower_part(cells, d, k, row, i, first, 0, lesser_of(end, p));
+    lower_part(cells, d, k, row, i, first, p + 2, end);
 }
 
-/// Lowers the bounds of row i that are kept to what leads over place p and its negative, unless it is a row of these.
-fn lower_over(cells: &mut [Bound], d: usize, p: usize, i: usize)
-    requires size { length cells.old ≡ d * d }
+/// Lowers the bounds of row i that are kept to what leads over place p and its negative, unless it is a row of these, and but for its bounds on their variable.
+fn lower_over(cells: &mut [Bound], d: usize, p: usize, first: &[Bound], second: &[Bound], i: usize)
+    requires size { length cells.old ≡ block (d / 2) }
     requires pairs { d % 2 ≡ 0 }
-    requires room { d < 2 ^ 33 }
+    requires room { d ≤ 2 ^ 32 }
     requires place { p + 1 < d }
     requires even { p % 2 ≡ 0 }
     requires row { i < d }
-    requires first { (b : ℕ) → b < d → IsNear (2 ^ 100) (cell_at d cells.old p b) }
-    requires second { (b : ℕ) → b < d → IsNear (2 ^ 100) (cell_at d cells.old (p + 1) b) }
-    ensures kept { length cells.new ≡ d * d }
-    ensures lowered { i / 2 ≢ p / 2 → (b : ℕ) → b < d → b / 2 ≤ i / 2 →
-        cell_at d cells.new i b ≡ over_pair (cell_at d cells.old) p i b }
-    ensures others { (a b : ℕ) → (a ≢ i) ⊎ (a / 2 ≡ p / 2) → cell_at d cells.new a b ≡ cell_at d cells.old a b }
+    requires one { (b : ℕ) → b < d → IsNear (2 ^ 100) (kept_at d cells.old p b) }
+    requires two { (b : ℕ) → b < d → IsNear (2 ^ 100) (kept_at d cells.old (p + 1) b) }
+    requires own { length first.now ≡ 128 }
+    requires own_two { length second.now ≡ 128 }
+    requires copied { IsCopy d (kept_at d cells.old) p first.now }
+    requires copied_two { IsCopy d (kept_at d cells.old) (p + 1) second.now }
+    ensures kept { length cells.new ≡ block (d / 2) }
+    ensures lowered { i / 2 ≢ p / 2 → (b : ℕ) → b / 2 ≤ i / 2 → b / 2 ≢ p / 2 →
+        kept_at d cells.new i b ≡ over_pair (kept_at d cells.old) p i b }
+    ensures others { (a b : ℕ) → b / 2 ≤ a / 2 → (a ≢ i) ⊎ (a / 2 ≡ p / 2) ⊎ (b / 2 ≡ p / 2) →
+        kept_at d cells.new a b ≡ kept_at d cells.old a b }
 {
     if i / 2 == p / 2 {
         return;
     }
-    let end = i / 2 * 2 + 2;
-    let first = cell(cells, d, p + 1, bar(i));
-    let second = cell(cells, d, p, bar(i));
-    lower_row(cells, d, p, i, first, end);
-    lower_row(cells, d, p + 1, i, second, end);
+    let to_first = row_bound(cells, d, p + 1, second, bar(i));
+    let to_second = row_bound(cells, d, p, first, bar(i));
+    lower_row(cells, d, p, p, first, i, to_first);
+    lower_row(cells, d, p, p + 1, second, i, to_second);
 }
 
-/// Lowers all bounds that are kept, but for the rows of place p and its negative.
-fn lower_rows(cells: &mut [Bound], d: usize, p: usize)
-    requires size { length cells.old ≡ d * d }
+/// Lowers all bounds that are kept, but for those on the variable of place p, over copies of its rows.
+fn lower_rows(cells: &mut [Bound], d: usize, p: usize, first: &[Bound], second: &[Bound])
+    requires size { length cells.old ≡ block (d / 2) }
     requires pairs { d % 2 ≡ 0 }
-    requires room { d < 2 ^ 33 }
+    requires room { d ≤ 2 ^ 32 }
     requires place { p + 1 < d }
     requires even { p % 2 ≡ 0 }
-    requires first { (b : ℕ) → b < d → IsNear (2 ^ 100) (cell_at d cells.old p b) }
-    requires second { (b : ℕ) → b < d → IsNear (2 ^ 100) (cell_at d cells.old (p + 1) b) }
-    ensures kept { length cells.new ≡ d * d }
-    ensures lowered { (a b : ℕ) → a < d → b < d → b / 2 ≤ a / 2 → a / 2 ≢ p / 2 →
-        cell_at d cells.new a b ≡ over_pair (cell_at d cells.old) p a b }
-    ensures own { (a b : ℕ) → a / 2 ≡ p / 2 → cell_at d cells.new a b ≡ cell_at d cells.old a b }
+    requires one { (b : ℕ) → b < d → IsNear (2 ^ 100) (kept_at d cells.old p b) }
+    requires two { (b : ℕ) → b < d → IsNear (2 ^ 100) (kept_at d cells.old (p + 1) b) }
+    requires own { length first.now ≡ 128 }
+    requires own_two { length second.now ≡ 128 }
+    requires copied { IsCopy d (kept_at d cells.old) p first.now }
+    requires copied_two { IsCopy d (kept_at d cells.old) (p + 1) second.now }
+    ensures kept { length cells.new ≡ block (d / 2) }
+    ensures lowered { (a b : ℕ) → a < d → b / 2 ≤ a / 2 → a / 2 ≢ p / 2 → b / 2 ≢ p / 2 →
+        kept_at d cells.new a b ≡ over_pair (kept_at d cells.old) p a b }
+    ensures own { (a b : ℕ) → a / 2 ≡ p / 2 → kept_at d cells.new a b ≡ kept_at d cells.old a b }
 {
     for i in 0..d {
-        lower_over(cells, d, p, i);
+        lower_over(cells, d, p, first, second, i);
     }
 }
 
 /// Whether no number of the diagonal is negative.
 fn is_nonnegative(cells: &[Bound], d: usize) -> bool
-    requires size { length cells.now ≡ d * d }
-    ensures yes { result ≡ true → (i : ℕ) → i < d → AtMost (Some (pos 0)) (cell_at d cells.now i i) }
-    ensures no { result ≡ false → IsNegativeAt d (cell_at d cells.now) }
+    requires size { length cells.now ≡ block (d / 2) }
+    requires pairs { d % 2 ≡ 0 }
+    requires room { d ≤ 2 ^ 32 }
+    ensures yes { result ≡ true → (i : ℕ) → i < d → AtMost (Some (pos 0)) (kept_at d cells.now i i) }
+    ensures no { result ≡ false → IsNegativeAt d (kept_at d cells.now) }
 {
     for i in 0..d {
         if cell(cells, d, i, i).is_negative() {
@@ -160,75 +256,59 @@ fn is_nonnegative(cells: &[Bound], d: usize) -> bool
 }
 
 /// Lowers all bounds to what leads through place p and its negative. False where a walk through these that leads back is negative.
-pub fn pivot(cells: &mut [Bound], d: usize, p: usize) -> bool
-    requires size { length cells.old ≡ d * d }
+pub fn pivot(
+    cells: &mut [Bound],
+    d: usize,
+    p: usize,
+    first: &mut [Bound],
+    second: &mut [Bound],
+) -> bool
+    requires size { length cells.old ≡ block (d / 2) }
     requires pairs { d % 2 ≡ 0 }
-    requires room { d < 2 ^ 33 }
+    requires room { d ≤ 2 ^ 32 }
     requires place { p + 1 < d }
     requires even { p % 2 ≡ 0 }
-    requires zero { (i : ℕ) → i < d → cell_at d cells.old i i ≡ Some (pos 0) }
-    requires near { (a b : ℕ) → a < d → b < d → IsNear (2 ^ 99) (whole_of d cells.old a b) }
-    ensures kept { length cells.new ≡ d * d }
+    requires zero { (i : ℕ) → i < d → kept_at d cells.old i i ≡ Some (pos 0) }
+    requires near { (a b : ℕ) → a < d → b < d → IsNear (2 ^ 99) (kept_at d cells.old a b) }
+    requires own { length first.old ≡ 128 }
+    requires own_two { length second.old ≡ 128 }
+    ensures kept { length cells.new ≡ block (d / 2) }
+    ensures own { length first.new ≡ 128 }
+    ensures own_two { length second.new ≡ 128 }
     ensures lowered { result ≡ true → (a b : ℕ) → a < d → b < d →
-        whole_of d cells.new a b ≡ relaxed (relaxed (whole_of d cells.old) p) (p + 1) a b }
-    ensures yes { result ≡ true → (i : ℕ) → i < d → AtMost (Some (pos 0)) (whole_of d cells.new i i) }
-    ensures no { result ≡ false → IsShort d (whole_of d cells.old) p }
+        kept_at d cells.new a b ≡ relaxed (relaxed (kept_at d cells.old) p) (p + 1) a b }
+    ensures yes { result ≡ true → (i : ℕ) → i < d → AtMost (Some (pos 0)) (kept_at d cells.new i i) }
+    ensures no { result ≡ false → IsShort d (kept_at d cells.old) p }
 {
     let round = cell(cells, d, p, p + 1).plus(cell(cells, d, p + 1, p));
     if round.is_negative() {
         return false;
     }
     join_rows(cells, d, p);
-    lower_rows(cells, d, p);
+    copy_row(cells, d, p, first);
+    copy_row(cells, d, p + 1, second);
+    lower_rows(cells, d, p, first, second);
     is_nonnegative(cells, d)
-}
-
-/// Writes the bounds of row i that aren't kept.
-fn fill_row(cells: &mut [Bound], d: usize, i: usize)
-    requires size { length cells.old ≡ d * d }
-    requires pairs { d % 2 ≡ 0 }
-    requires room { d < 2 ^ 33 }
-    requires row { i < d }
-    ensures kept { length cells.new ≡ d * d }
-    ensures filled { (b : ℕ) → b < d → cell_at d cells.new i b ≡ whole_of d cells.old i b }
-    ensures others { (a b : ℕ) → a ≢ i → cell_at d cells.new a b ≡ cell_at d cells.old a b }
-{
-    for j in i / 2 * 2 + 2..d {
-        cells[i * d + j] = cell(cells, d, bar(j), bar(i));
-    }
-}
-
-/// Writes all bounds that aren't kept.
-pub fn fill(cells: &mut [Bound], d: usize)
-    requires size { length cells.old ≡ d * d }
-    requires pairs { d % 2 ≡ 0 }
-    requires room { d < 2 ^ 33 }
-    ensures kept { length cells.new ≡ d * d }
-    ensures filled { (a b : ℕ) → a < d → b < d → cell_at d cells.new a b ≡ whole_of d cells.old a b }
-{
-    for i in 0..d {
-        fill_row(cells, d, i);
-    }
 }
 
 /// Lowers all bounds to the least sums of walks. False where a walk that leads back has a negative sum.
 pub fn paths(cells: &mut [Bound], d: usize) -> bool
-    requires size { length cells.old ≡ d * d }
+    requires size { length cells.old ≡ block (d / 2) }
     requires pairs { d % 2 ≡ 0 }
-    requires room { d < 2 ^ 33 }
-    requires zero { (i : ℕ) → i < d → cell_at d cells.old i i ≡ Some (pos 0) }
-    requires turned { (i j : ℕ) → cell_at d cells.old i j ≡ cell_at d cells.old (other j) (other i) }
-    requires near { (i j : ℕ) → IsNear (2 ^ 66) (cell_at d cells.old i j) }
-    ensures kept { length cells.new ≡ d * d }
-    ensures least { result ≡ true → HasLeastSums d (cell_at d cells.old) (cell_at d cells.new) }
-    ensures near { result ≡ true → (i j : ℕ) → i < d → j < d → IsNear (2 ^ 100) (cell_at d cells.new i j) }
-    ensures cycle { result ≡ false → HasNegativeCycle (cell_at d cells.old) }
+    requires room { d ≤ 2 ^ 32 }
+    requires zero { (i : ℕ) → i < d → kept_at d cells.old i i ≡ Some (pos 0) }
+    requires near { (i j : ℕ) → IsNear (2 ^ 66) (kept_at d cells.old i j) }
+    ensures kept { length cells.new ≡ block (d / 2) }
+    ensures least { result ≡ true → HasLeastSums d (kept_at d cells.old) (kept_at d cells.new) }
+    ensures near { result ≡ true → (i j : ℕ) → i < d → j < d → IsNear (2 ^ 100) (kept_at d cells.new i j) }
+    ensures cycle { result ≡ false → HasNegativeCycle (kept_at d cells.old) }
 {
+    let mut first = [Bound::none(); 128];
+    let mut second = [Bound::none(); 128];
     for k in 0..d / 2 {
-        if !pivot(cells, d, 2 * k) {
+        if !pivot(cells, d, 2 * k, &mut first, &mut second) {
             return false;
         }
     }
-    fill(cells, d);
     true
 }

@@ -1,36 +1,38 @@
 // What integers allow beyond least sums: even bounds on one variable, and a last tightening.
 
-ghost use Rattle.std.specs.Prelude.{◌≡◌, ◌%◌, ℕ, ◌<◌, ◌*◌, ◌+◌, ◌^◌, length, pos, Some, true, false};
+ghost use Rattle.std.specs.Prelude.{◌≡◌, ◌%◌, ◌/◌, ℕ, ◌<◌, ◌≤◌, ◌*◌, ◌+◌, ◌^◌, length, pos, Some, true, false};
 ghost use Rattle.pk_octmat.specs.Bounds.{capped, IsNear, AtMost, is_negative as negative};
-ghost use Rattle.pk_octmat.specs.Octagon.{cell_at};
+ghost use Rattle.pk_octmat.specs.Half.{block, kept_at};
 ghost use Rattle.pk_octclose.specs.Closing.{evened, there_and_back, tight};
 
-use pk_octmat::{Bound, bar};
+use crate::paths::{cell, lower_cell};
+use pk_octmat::{Bound, bar, row_place};
 
 /// Rounds the bounds from each place to its negative down to even.
 fn even_all(cells: &mut [Bound], d: usize)
-    requires size { length cells.old ≡ d * d }
+    requires size { length cells.old ≡ block (d / 2) }
     requires pairs { d % 2 ≡ 0 }
-    requires room { d < 2 ^ 33 }
-    ensures kept { length cells.new ≡ d * d }
-    ensures value { (a b : ℕ) → a < d → b < d → cell_at d cells.new a b ≡ evened (cell_at d cells.old) a b }
+    requires room { d ≤ 2 ^ 32 }
+    ensures kept { length cells.new ≡ block (d / 2) }
+    ensures value { (a b : ℕ) → a < d → b < d → kept_at d cells.new a b ≡ evened (kept_at d cells.old) a b }
 {
     for i in 0..d {
-        cells[i * d + bar(i)] = cells[i * d + bar(i)].even_down();
+        let at = row_place(i, bar(i));
+        cells[at] = cells[at].even_down();
     }
 }
 
 /// Whether no place's bounds to its negative and back are negative together.
 fn have_halves(cells: &[Bound], d: usize) -> bool
-    requires size { length cells.now ≡ d * d }
+    requires size { length cells.now ≡ block (d / 2) }
     requires pairs { d % 2 ≡ 0 }
-    requires room { d < 2 ^ 33 }
-    requires near { (i j : ℕ) → i < d → j < d → IsNear (2 ^ 100) (cell_at d cells.now i j) }
-    ensures yes { result ≡ true → (i : ℕ) → i < d → AtMost (Some (pos 0)) (there_and_back (cell_at d cells.now) i) }
-    ensures no { result ≡ false → (i : ℕ) × (i < d) × (negative (there_and_back (cell_at d cells.now) i) ≡ true) }
+    requires room { d ≤ 2 ^ 32 }
+    requires near { (i j : ℕ) → i < d → j < d → IsNear (2 ^ 100) (kept_at d cells.now i j) }
+    ensures yes { result ≡ true → (i : ℕ) → i < d → AtMost (Some (pos 0)) (there_and_back (kept_at d cells.now) i) }
+    ensures no { result ≡ false → (i : ℕ) × (i < d) × (negative (there_and_back (kept_at d cells.now) i) ≡ true) }
 {
     for i in 0..d {
-        let both = cells[i * d + bar(i)].plus(cells[bar(i) * d + i]);
+        let both = cell(cells, d, i, bar(i)).plus(cell(cells, d, bar(i), i));
         if both.is_negative() {
             return false;
         }
@@ -40,27 +42,29 @@ fn have_halves(cells: &[Bound], d: usize) -> bool
 
 /// Lowers each bound to what the bounds on its two numbers give.
 fn tighten_all(cells: &mut [Bound], d: usize)
-    requires size { length cells.old ≡ d * d }
+    requires size { length cells.old ≡ block (d / 2) }
     requires pairs { d % 2 ≡ 0 }
-    requires room { d < 2 ^ 33 }
-    requires near { (i j : ℕ) → i < d → j < d → IsNear (2 ^ 100) (cell_at d cells.old i j) }
-    ensures kept { length cells.new ≡ d * d }
-    ensures value { (a b : ℕ) → a < d → b < d → cell_at d cells.new a b ≡ tight (cell_at d cells.old) a b }
+    requires room { d ≤ 2 ^ 32 }
+    requires near { (i j : ℕ) → i < d → j < d → IsNear (2 ^ 100) (kept_at d cells.old i j) }
+    ensures kept { length cells.new ≡ block (d / 2) }
+    ensures value { (a b : ℕ) → a < d → b < d → kept_at d cells.new a b ≡ tight (kept_at d cells.old) a b }
 {
     for i in 0..d {
-        for j in 0..d {
-            let both = cells[i * d + bar(i)].plus(cells[bar(j) * d + j]);
-            let at = i * d + j;
-            cells[at] = cells[at].lesser(both.halved());
+        let own = cell(cells, d, i, bar(i));
+        let base = row_place(i, 0);
+        for j in 0..i / 2 * 2 + 2 {
+            let both = own.plus(cell(cells, d, bar(j), j));
+            lower_cell(cells, d, i, j, base, both.halved());
         }
     }
 }
 
 /// Brings each bound within 2^66 of 0.
 fn cap_all(cells: &mut [Bound], d: usize)
-    requires size { length cells.old ≡ d * d }
-    ensures kept { length cells.new ≡ d * d }
-    ensures value { (a b : ℕ) → a < d → b < d → cell_at d cells.new a b ≡ capped (cell_at d cells.old a b) }
+    requires size { length cells.old ≡ block (d / 2) }
+    requires pairs { d % 2 ≡ 0 }
+    ensures kept { length cells.new ≡ block (d / 2) }
+    ensures value { (a b : ℕ) → a < d → b < d → kept_at d cells.new a b ≡ capped (kept_at d cells.old a b) }
 {
     let _ = d;
     for cell in cells.iter_mut() {
@@ -70,17 +74,17 @@ fn cap_all(cells: &mut [Bound], d: usize)
 
 /// Closes a matrix of least sums. False where no integers meet it.
 pub fn tighten(cells: &mut [Bound], d: usize) -> bool
-    requires size { length cells.old ≡ d * d }
+    requires size { length cells.old ≡ block (d / 2) }
     requires pairs { d % 2 ≡ 0 }
-    requires room { d < 2 ^ 33 }
-    requires near { (i j : ℕ) → i < d → j < d → IsNear (2 ^ 100) (cell_at d cells.old i j) }
-    ensures kept { length cells.new ≡ d * d }
+    requires room { d ≤ 2 ^ 32 }
+    requires near { (i j : ℕ) → i < d → j < d → IsNear (2 ^ 100) (kept_at d cells.old i j) }
+    ensures kept { length cells.new ≡ block (d / 2) }
     ensures halves { result ≡ true → (i : ℕ) → i < d →
-        AtMost (Some (pos 0)) (there_and_back (evened (cell_at d cells.old)) i) }
+        AtMost (Some (pos 0)) (there_and_back (evened (kept_at d cells.old)) i) }
     ensures value { result ≡ true → (i j : ℕ) → i < d → j < d →
-        cell_at d cells.new i j ≡ capped (tight (evened (cell_at d cells.old)) i j) }
+        kept_at d cells.new i j ≡ capped (tight (evened (kept_at d cells.old)) i j) }
     ensures no { result ≡ false →
-        (i : ℕ) × (i < d) × (negative (there_and_back (evened (cell_at d cells.old)) i) ≡ true) }
+        (i : ℕ) × (i < d) × (negative (there_and_back (evened (kept_at d cells.old)) i) ≡ true) }
 {
     even_all(cells, d);
     if !have_halves(cells, d) {

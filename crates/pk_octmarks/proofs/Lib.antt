@@ -2,3 +2,4 @@ mod Without
 mod Changes
 mod Gains
 mod Joins
+mod Made

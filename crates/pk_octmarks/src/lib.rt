@@ -4,6 +4,8 @@
 mod closing;
 mod far;
 mod mark;
+mod turns;
 
 pub use closing::close_marked;
 pub use mark::Mark;
+pub use turns::{Ahead, close_ahead, close_small};

@@ -6,7 +6,7 @@ ghost use Rattle.pk_octops.specs.Assigns.{assignment_of};
 ghost use Rattle.pk_octops.specs.Guards.{IsGuard, guard_of};
 ghost use Rattle.pk_octops.specs.Tables.{join_of};
 ghost use Rattle.pk_octmarks.specs.Marks.{IsMarked, IsFar, changed as changed_of, forgotten as forgotten_of, guarded as guarded_of, joined as joined_of};
-ghost use Rattle.pk_octmarks.specs.declared.mark.Mark.TheVariants.{Closed};
+ghost use Rattle.pk_octmarks.specs.declared.mark.Mark.TheVariants.{Closed, Unknown};
 
 use crate::far::is_far;
 use pk_octmat::Matrix;
@@ -31,6 +31,17 @@ impl Mark {
             Mark::Closed => true,
             Mark::ClosedBut(_) => false,
             Mark::Unknown => false,
+        }
+    }
+
+    /// Whether it says nothing.
+    pub fn is_unknown(self) -> bool
+        ensures { (result ≡ true) ↔ (self ≡ Unknown) }
+    {
+        match self {
+            Mark::Closed => false,
+            Mark::ClosedBut(_) => false,
+            Mark::Unknown => true,
         }
     }
 

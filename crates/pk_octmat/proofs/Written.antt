@@ -1,11 +1,10 @@
 -- What a write of a bound and its coherent one gives.
-use Rattle.std.specs.Prelude.{◌≡◌, ◌≢◌, ℕ, ◌<◌, ◌+◌, ◌*◌, ◌^◌, ◌==◌, ◌&&◌, ℤ, Option, Bool, true, false, List, ◌⊎◌, length}
-use Rattle.std.proofs.Common.{◌∙◌, ap, refl, sym, arith, inl, inr, set, length-set}
+use Rattle.std.specs.Prelude.{◌≡◌, ◌≢◌, ℕ, ◌*◌, ◌^◌, ◌==◌, ◌&&◌, ℤ, Option, Bool, true, false, List, ◌⊎◌, length}
+use Rattle.std.proofs.Common.{◌∙◌, ap, refl, sym, arith, inl, inr}
 use Rattle.std.proofs.lemmas.Bool.{cases_eq}
 use Rattle.std.proofs.lemmas.Bool.Decides.{nat_tests}
 use Rattle.pk_octmat.specs.Bounds.{IsNear}
 use Rattle.pk_octmat.specs.Octagon.{cell_at, bar, written, IsMatrix}
-use Rattle.pk_octmat.proofs.Cells.{cell_set_same, cell_set_other}
 use Rattle.pk_octmat.proofs.Matrices.{matrix_from}
 
 -- the places (a, c) and (i, j) are one
@@ -43,27 +42,6 @@ written_second e i j b a c h = by (is_place a c i j)
 
 pub written_none : (e : ℕ → ℕ → Option ℤ) (i j : ℕ) (b : Option ℤ) (a c : ℕ) → (IsPlace a c i j → ⊥) → (IsPlace a c (bar j) (bar i) → ⊥) → written e i j b a c ≡ e a c
 written_none e i j b a c m n = rw (place_no a c i j m) (rw (place_no a c (bar j) (bar i) n) refl)
-
-pub write_value : (d n : ℕ) (xs : List (Option ℤ)) (i j p q : ℕ) (b : Option ℤ) → d ≡ 2 * n → length xs ≡ d * d → i < d → j < d → p ≡ bar j → q ≡ bar i
-    → (a c : ℕ) → cell_at d (set (set xs (i * d + j) b) (p * d + q) b) a c ≡ written (cell_at d xs) i j b a c
-write_value d n xs i j p q b pairs size id jd pj qi a c = by (is_place a c i j) (is_place a c (bar j) (bar i))
-  where
-    pd : p < d
-    pd = omega (arith, pairs)
-
-    qd : q < d
-    qd = omega (arith, pairs)
-
-    first : length (set xs (i * d + j) b) ≡ d * d
-    first = length-set xs (i * d + j) b ∙ size
-
-    by : IsPlace a c i j ⊎ (IsPlace a c i j → ⊥) → IsPlace a c (bar j) (bar i) ⊎ (IsPlace a c (bar j) (bar i) → ⊥) → cell_at d (set (set xs (i * d + j) b) (p * d + q) b) a c ≡ written (cell_at d xs) i j b a c
-    by s (inl t) =
-        rw (t.0 ∙ sym pj) (rw (t.1 ∙ sym qi) (cell_set_same d (set xs (i * d + j) b) p q b first pd qd)) ∙ sym (written_second (cell_at d xs) i j b a c t)
-    by (inl s) (inr m) =
-        cell_set_other d (set xs (i * d + j) b) p q a c b qd (λ u v. m (u ∙ pj, v ∙ qi)) ∙ rw s.0 (rw s.1 (cell_set_same d xs i j b size id jd)) ∙ sym (written_first (cell_at d xs) i j b a c s)
-    by (inr k) (inr m) =
-        cell_set_other d (set xs (i * d + j) b) p q a c b qd (λ u v. m (u ∙ pj, v ∙ qi)) ∙ cell_set_other d xs i j a c b jd (λ u v. k (u, v)) ∙ sym (written_none (cell_at d xs) i j b a c k m)
 
 pub write_whole : (d n : ℕ) (xs news : List (Option ℤ)) (i j : ℕ) (b : Option ℤ) → d ≡ 2 * n → IsMatrix d xs → length news ≡ d * d → i ≢ j → IsNear (2 ^ 66) b
     → ((a c : ℕ) → cell_at d news a c ≡ written (cell_at d xs) i j b a c) → IsMatrix d news

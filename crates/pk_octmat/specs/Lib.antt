@@ -1,5 +1,6 @@
 pub mod Bounds
 pub mod Packed
 pub mod Octagon
+pub mod Half
 pub mod Laws
 pub mod Shapes

@@ -1,8 +1,9 @@
 // Matrices of bounds.
 
-ghost use Rattle.std.specs.Prelude.{◌≡◌, ◌%◌, ◌≢◌, ℕ, ℤ, ◌<◌, ◌*◌, ◌/◌, ◌^◌, ◌==◌, ◌||◌, if◌then◌else◌, length, IfOk, true, ◌↔◌};
+ghost use Rattle.std.specs.Prelude.{◌≡◌, ◌%◌, ◌≢◌, ℕ, ℤ, pos, Some, ◌<◌, ◌≤◌, ◌+◌, ◌*◌, ◌/◌, ◌^◌, ◌==◌, ◌||◌, if◌then◌else◌, length, slice_set, IfOk, true, ◌↔◌};
 ghost use Rattle.pk_octmat.specs.Bounds.{capped, IsNear};
-ghost use Rattle.pk_octmat.specs.Octagon.{entry, cell_at, bar as other, written, top_bound, forgotten, HasEntries, IsMatrix, IsOctagon, Meets, with_number};
+ghost use Rattle.pk_octmat.specs.Octagon.{entry, bar as other, written, top_bound, forgotten, HasEntries, IsOctagon, Meets, with_number};
+ghost use Rattle.pk_octmat.specs.Half.{block, kept_at, row_place as row_place_of, spot as spot_of, IsHalf};
 
 use crate::bound::Bound;
 use std::alloc::{AllocError, Global};
@@ -10,6 +11,7 @@ use std::marker::Model;
 
 /// Bounds on the differences of some variables and their negatives. Place 2k is variable k, place 2k + 1 its negative.
 ///
+/// Half of the bounds are kept: those from each place to the places of its own variable and of earlier ones.
 /// The fields are for `pk_octops` and its like, which rewrite many bounds in place.
 #[derive(Drop)]
 pub struct Matrix {
@@ -18,13 +20,14 @@ pub struct Matrix {
 }
 
 impl Model for Matrix {
-    ghost use Rattle.pk_octmat.specs.Octagon.{Octagon, IsOctagon};
+    ghost use Rattle.pk_octmat.specs.Octagon.{Octagon};
+    ghost use Rattle.pk_octmat.specs.Half.{octagon_in, IsKept};
 
     ghost Value = { Octagon };
 
-    ghost view = { λ m. record { vars = m.vars; cells = m.cells.items } };
+    ghost view = { λ m. octagon_in m.vars m.cells.items };
 
-    ghost invariant = { λ m. IsOctagon (record { vars = m.vars; cells = m.cells.items }) };
+    ghost invariant = { λ m. IsKept m.vars m.cells.items };
 }
 
 /// The place of the negative.
@@ -34,6 +37,31 @@ pub fn bar(i: usize) -> usize
     ensures { result ≡ other i }
 {
     if i % 2 == 0 { i + 1 } else { i - 1 }
+}
+
+/// The place of the bound in row i and column j, of those that are kept.
+#[inline]
+pub fn row_place(i: usize, j: usize) -> usize
+    requires row { i < 2 ^ 32 }
+    requires column { j ≤ 2 ^ 32 }
+    ensures { result ≡ row_place_of i j }
+{
+    let a = i / 2;
+    2 * (a * (a + 1)) + i % 2 * (2 * a + 2) + j
+}
+
+/// The place of the bound on V(j) - V(i), kept or coherent.
+#[inline]
+pub fn spot(i: usize, j: usize) -> usize
+    requires row { i < 2 ^ 32 }
+    requires column { j < 2 ^ 32 }
+    ensures { result ≡ spot_of i j }
+{
+    if i / 2 < j / 2 {
+        row_place(bar(j), bar(i))
+    } else {
+        row_place(i, j)
+    }
 }
 
 /// The bound between two places of which nothing is known.
@@ -49,58 +77,93 @@ fn unbounded(i: usize, j: usize) -> Bound
 
 /// Takes away all bounds.
 pub fn blank(cells: &mut [Bound], d: usize)
-    requires size { length cells.old ≡ d * d }
+    requires size { length cells.old ≡ block (d / 2) }
     requires pairs { d % 2 ≡ 0 }
-    ensures value { (a b : ℕ) → a < d → b < d → cell_at d cells.new a b ≡ top_bound a b }
-    ensures whole { IsMatrix d cells.new }
+    requires room { d ≤ 2 ^ 32 }
+    ensures value { (a b : ℕ) → a < d → b < d → kept_at d cells.new a b ≡ top_bound a b }
+    ensures whole { IsHalf d cells.new }
 {
+    for cell in cells.iter_mut() {
+        *cell = Bound::none();
+    }
     for i in 0..d {
-        for j in 0..d {
-            cells[i * d + j] = unbounded(i, j);
-        }
+        cells[spot(i, i)] = unbounded(i, i);
     }
 }
 
-/// Writes a bound and its coherent one.
-fn write(cells: &mut [Bound], d: usize, i: usize, j: usize, bound: Bound)
-    requires whole { IsMatrix d cells.old }
+/// Writes one bound that is kept.
+#[inline]
+fn put(cells: &mut [Bound], d: usize, i: usize, j: usize, bound: Bound)
+    requires size { length cells.old ≡ block (d / 2) }
     requires pairs { d % 2 ≡ 0 }
-    requires room { d < 2 ^ 33 }
+    requires room { d ≤ 2 ^ 32 }
+    requires row { i < d }
+    requires column { j < d }
+    ensures { cells.new ≡ slice_set cells.old (spot_of i j) bound }
+{
+    cells[spot(i, j)] = bound;
+}
+
+/// Writes a bound, which is its coherent one too.
+fn write(cells: &mut [Bound], d: usize, i: usize, j: usize, bound: Bound)
+    requires whole { IsHalf d cells.old }
+    requires pairs { d % 2 ≡ 0 }
+    requires room { d ≤ 2 ^ 32 }
     requires row { i < d }
     requires column { j < d }
     requires apart { i ≢ j }
     requires near { IsNear (2 ^ 66) bound }
-    ensures value { (a b : ℕ) → cell_at d cells.new a b ≡ written (cell_at d cells.old) i j bound a b }
-    ensures whole { IsMatrix d cells.new }
+    ensures value { (a b : ℕ) → kept_at d cells.new a b ≡ written (kept_at d cells.old) i j bound a b }
+    ensures whole { IsHalf d cells.new }
 {
-    cells[i * d + j] = bound;
-    cells[bar(j) * d + bar(i)] = bound;
+    put(cells, d, i, j, bound);
 }
 
-/// Takes away the bounds of one place.
+/// Writes the bounds from place p and from its negative to one place.
+#[inline]
+pub fn write_pair(cells: &mut [Bound], d: usize, p: usize, j: usize, first: Bound, second: Bound)
+    requires size { length cells.old ≡ block (d / 2) }
+    requires pairs { d % 2 ≡ 0 }
+    requires room { d ≤ 2 ^ 32 }
+    requires place { p + 1 < d }
+    requires even { p % 2 ≡ 0 }
+    requires column { j < d }
+    ensures kept { length cells.new ≡ block (d / 2) }
+    ensures first { kept_at d cells.new p j ≡ first }
+    ensures second { kept_at d cells.new (p + 1) j ≡ second }
+    ensures own { (a b : ℕ) → a / 2 ≡ p / 2 → b ≢ j → kept_at d cells.new a b ≡ kept_at d cells.old a b }
+    ensures others { (a b : ℕ) → a / 2 ≢ p / 2 → b / 2 ≢ p / 2 → kept_at d cells.new a b ≡ kept_at d cells.old a b }
+{
+    put(cells, d, p, j, first);
+    put(cells, d, p + 1, j, second);
+}
+
+/// Takes away the bounds from one place, and so those to its negative.
 fn clear(cells: &mut [Bound], d: usize, p: usize)
-    requires size { length cells.old ≡ d * d }
+    requires size { length cells.old ≡ block (d / 2) }
+    requires pairs { d % 2 ≡ 0 }
+    requires room { d ≤ 2 ^ 32 }
     requires place { p < d }
-    ensures kept { length cells.new ≡ d * d }
-    ensures value { (a b : ℕ) → a < d → b < d →
-        cell_at d cells.new a b ≡ (if (a == p) || (b == p) then top_bound a b else cell_at d cells.old a b) }
+    requires zero { (i : ℕ) → i < d → kept_at d cells.old i i ≡ Some (pos 0) }
+    ensures kept { length cells.new ≡ block (d / 2) }
+    ensures value { (a b : ℕ) → a < d → b < d → kept_at d cells.new a b ≡
+        (if (a == p) || (b == other p) then top_bound a b else kept_at d cells.old a b) }
 {
     for j in 0..d {
-        cells[p * d + j] = unbounded(p, j);
-        cells[j * d + p] = unbounded(j, p);
+        cells[spot(p, j)] = unbounded(p, j);
     }
 }
 
 /// Takes away the bounds of one variable.
 fn forget_cells(cells: &mut [Bound], d: usize, k: usize)
-    requires whole { IsMatrix d cells.old }
+    requires whole { IsHalf d cells.old }
     requires pairs { d % 2 ≡ 0 }
-    requires room { d < 2 ^ 33 }
+    requires room { d ≤ 2 ^ 32 }
     requires variable { 2 * k < d }
-    ensures value { (a b : ℕ) → cell_at d cells.new a b ≡ forgotten (cell_at d cells.old) k a b }
-    ensures sound { (x : ℕ → ℤ) (v : ℤ) → Meets (cell_at d cells.old) x →
-        Meets (cell_at d cells.new) (with_number x k v) }
-    ensures whole { IsMatrix d cells.new }
+    ensures value { (a b : ℕ) → kept_at d cells.new a b ≡ forgotten (kept_at d cells.old) k a b }
+    ensures sound { (x : ℕ → ℤ) (v : ℤ) → Meets (kept_at d cells.old) x →
+        Meets (kept_at d cells.new) (with_number x k v) }
+    ensures whole { IsHalf d cells.new }
 {
     clear(cells, d, 2 * k);
     clear(cells, d, 2 * k + 1);
@@ -119,23 +182,25 @@ fn same_cells(cells: &[Bound], other: &[Bound]) -> bool
     true
 }
 
+/// How many bounds of a matrix are kept.
+pub fn stored(m: &Matrix) -> usize
+    ensures { result ≡ block m.now.vars }
+{
+    m.cells.len()
+}
+
 impl Matrix {
     /// No bounds on n variables. There is no memory for 2^31 variables or more.
     pub fn top(alloc: Global, n: u32) -> Result<Matrix, AllocError>
         ensures { IfOk result (HasEntries n top_bound) }
     {
-        let d = 2 * n as usize;
-        match d.checked_mul(d) {
-            Some(size) => {
-                if n < 1 << 31 {
-                    let mut cells = vec![in alloc; Bound::none(); size]?;
-                    blank(&mut cells, d);
-                    Ok(Matrix { vars: n, cells })
-                } else {
-                    Err(AllocError)
-                }
-            }
-            None => Err(AllocError),
+        if n < 1 << 31 {
+            let d = 2 * n as usize;
+            let mut cells = vec![in alloc; Bound::none(); row_place(d, 0)]?;
+            blank(&mut cells, d);
+            Ok(Matrix { vars: n, cells })
+        } else {
+            Err(AllocError)
         }
     }
 
@@ -171,8 +236,7 @@ impl Matrix {
         ensures value { result ≡ entry self.now i j }
         ensures near { IsNear (2 ^ 66) result }
     {
-        let d = 2 * self.vars as usize;
-        let bound = self.cells[i as usize * d + j as usize];
+        let bound = self.cells[spot(i as usize, j as usize)];
         bound
     }
 

@@ -8,9 +8,10 @@ use Rattle.std.specs.Int.RustNames.{FitsSigned}
 use Rattle.std.specs.Option.{SomeIff}
 use Rattle.std.proofs.lemmas.Int.{ints}
 use Rattle.pk_octmat.specs.Bounds.{AtMost, IsNear, capped, lesser, plus}
-use Rattle.pk_octmat.specs.Octagon.{HasEntries, IsMatrix, Meets, Octagon, bar, cell_at, entry, forgotten, side, with_number, written}
-use Rattle.pk_octmat.proofs.Bars.{side_bar}
-use Rattle.pk_octmat.proofs.Matrices.{matrix_from}
+use Rattle.pk_octmat.specs.Half.{block, kept_at, IsHalf}
+use Rattle.pk_octmat.proofs.Half.{half_from}
+use Rattle.pk_octmat.specs.Octagon.{HasEntries, Meets, Octagon, bar, entry, forgotten, side, with_number, written}
+use Rattle.pk_octmat.proofs.Bars.{pairs_of, side_bar}
 use Rattle.pk_octmat.proofs.Points.{at_most_capped, capped_le, capped_most, capped_near, capped_same, forgotten_holds, side_first, side_other, side_second, written_holds}
 use Rattle.pk_octmat.proofs.Tropical.{at_most_both, at_most_trans, lesser_above, lesser_left, lesser_one, lesser_right}
 use Rattle.pk_octops.specs.Guards.{lowered}
@@ -82,13 +83,12 @@ moved_turned k t c e turned i j =
     neg_both (gain k c i) (gain k c j) ∙ ap (λ z. z -ℤ neg_ℤ (gain k c j)) (sym (gain_bar k c i)) ∙ ap (λ z. gain k c (bar i) -ℤ z) (sym (gain_bar k c j)) in
     ap (λ b. capped (plus b (Some (gain k c j -ℤ gain k c i)))) first ∙ ap (λ (z : ℤ). capped (plus (e (source k t (bar j)) (source k t (bar i))) (Some z))) second
 
-pub moved_matrix : (d n k t : ℕ) (c : ℤ) (xs news : List (Option ℤ)) → d ≡ 2 * n → IsMatrix d xs → length news ≡ d * d → ((i j : ℕ) → i < d → j < d → cell_at d news i j ≡ moved (cell_at d xs) k t c i j) → IsMatrix d news
+pub moved_half : (d k t : ℕ) (c : ℤ) (xs news : List (Option ℤ)) → d % 2 ≡ 0 → IsHalf d xs → length news ≡ block (d / 2) → ((i j : ℕ) → i < d → j < d → kept_at d news i j ≡ moved (kept_at d xs) k t c i j) → IsHalf d news
 unfolding moved
-moved_matrix d n k t c xs news pairs m size is =
-    matrix_from d n news pairs size
-    (λ i id. is i i id id ∙ moved_zero d n k t c (cell_at d xs) pairs m.coherent.zero i id)
-    (λ i j id jd. is i j id jd ∙ moved_turned k t c (cell_at d xs) m.coherent.turned i j ∙ sym (is (bar j) (bar i) (omega (arith, pairs)) (omega (arith, pairs))))
-    (λ i j id jd. rw (is i j id jd) (capped_near (plus (cell_at d xs (source k t i) (source k t j)) (Some (gain k c j -ℤ gain k c i)))))
+moved_half d k t c xs news pairs m size is =
+    half_from d news pairs size
+    (λ i id. is i i id id ∙ moved_zero d (d / 2) k t c (kept_at d xs) (pairs_of d pairs) m.whole.coherent.zero i id)
+    (λ i j id jd. rw (is i j id jd) (capped_near (plus (kept_at d xs (source k t i) (source k t j)) (Some (gain k c j -ℤ gain k c i)))))
 
 -- ---- a constant far from 0 may be brought near
 far_above : (b : Option ℤ) (y : ℤ) → IsNear (2 ^ 66) b → pos (2 ^ 68) ≤ℤ y → capped (plus b (Some y)) ≡ None
@@ -162,8 +162,8 @@ near_wider (Some z) n = (omega (arith, ints, n.0), omega (arith, ints, n.1))
 pub source_in : (d n k t i s : ℕ) → d ≡ 2 * n → i < d → s ≡ source k t i → s < d
 source_in d n k t i s pairs id is = rw is (subst (λ q. source k t i < q) (sym pairs) (source_inside n k t i (omega (arith, pairs))))
 
-pub source_read : (d k t i j s u : ℕ) (xs : List (Option ℤ)) (b : Option ℤ) → s ≡ source k t i → u ≡ source k t j → b ≡ cell_at d xs s u → b ≡ cell_at d xs (source k t i) (source k t j)
-source_read d k t i j s u xs b p q r = rw (← p) (rw (← q) r)
+pub source_read : (k t i j s u : ℕ) (e : ℕ → ℕ → Option ℤ) (b : Option ℤ) → s ≡ source k t i → u ≡ source k t j → b ≡ e s u → b ≡ e (source k t i) (source k t j)
+source_read k t i j s u e b p q r = rw (← p) (rw (← q) r)
 
 pub moved_is : (e : ℕ → ℕ → Option ℤ) (k t : ℕ) (c : ℤ) (i j : ℕ) (b x : Option ℤ) → b ≡ e (source k t i) (source k t j) → x ≡ capped (plus b (Some (gain k c j -ℤ gain k c i))) → x ≡ moved e k t c i j
 unfolding moved

@@ -1,11 +1,12 @@
 // Assignments.
 
-ghost use Rattle.std.specs.Prelude.{◌≡◌, ◌≢◌, ℕ, ℤ, pos, negsuc, ◌+◌, ◌-◌, ◌*◌, ◌/◌, ◌%◌, ◌<◌, ◌^◌, ◌≤ℤ◌, ◌-ℤ◌, ◌==◌, IfOk, IfSome, length, Some, Option};
+ghost use Rattle.std.specs.Prelude.{◌≡◌, ◌≢◌, ℕ, ℤ, pos, negsuc, ◌+◌, ◌-◌, ◌*◌, ◌/◌, ◌%◌, ◌<◌, ◌≤◌, ◌^◌, ◌≤ℤ◌, ◌-ℤ◌, ◌==◌, IfOk, IfSome, length, Some, Option};
 ghost use Rattle.pk_octmat.specs.Bounds.{capped, IsNear, plus as sum_of};
-ghost use Rattle.pk_octmat.specs.Octagon.{entry, cell_at, HasEntries, IsMatrix, Meets, with_number, forgotten};
+ghost use Rattle.pk_octmat.specs.Octagon.{entry, HasEntries, Meets, with_number, forgotten};
+ghost use Rattle.pk_octmat.specs.Half.{block, kept_at, IsHalf};
 ghost use Rattle.pk_octops.specs.Assigns.{assigned as assigned_of, assignment_of, moved, bound_to, gain as gain_of, source as source_of, Gives};
 
-use pk_octmat::{Bound, Matrix, bar};
+use pk_octmat::{Bound, Matrix, bar, spot, write_pair};
 use std::alloc::AllocError;
 
 /// A number brought within 2^68 of 0, beyond which no bound stays a number.
@@ -72,48 +73,54 @@ fn gained(bound: Bound, k: usize, c: i128, i: usize, j: usize) -> Bound
     bound.plus(change(k, near, i, j)).capped()
 }
 
-/// Writes one bound of a matrix with c added along, after an exchange where t is the negative of x_k.
-fn move_cell(
-    cells: &mut [Bound],
-    old: &[Bound],
-    d: usize,
-    k: usize,
-    t: usize,
-    c: i128,
-    i: usize,
-    j: usize,
-)
-    requires size { length cells.old ≡ d * d }
-    requires old { IsMatrix d old.now }
+/// The bound in a row and a column.
+fn bound_in(cells: &[Bound], d: usize, i: usize, j: usize) -> Bound
+    requires size { length cells.now ≡ block (d / 2) }
     requires pairs { d % 2 ≡ 0 }
-    requires room { d < 2 ^ 33 }
+    requires room { d ≤ 2 ^ 32 }
+    requires row { i < d }
+    requires column { j < d }
+    ensures { result ≡ kept_at d cells.now i j }
+{
+    let bound = cells[spot(i, j)];
+    bound
+}
+
+/// One bound of a matrix with c added along, after an exchange where t is the negative of x_k.
+fn moved_bound(old: &[Bound], d: usize, k: usize, t: usize, c: i128, i: usize, j: usize) -> Bound
+    requires old { IsHalf d old.now }
+    requires pairs { d % 2 ≡ 0 }
+    requires room { d ≤ 2 ^ 32 }
     requires variable { 2 * k < d }
     requires row { i < d }
     requires column { j < d }
-    ensures size { length cells.new ≡ d * d }
-    ensures here { cell_at d cells.new i j ≡ moved (cell_at d old.now) k t c i j }
-    ensures others { (a b : ℕ) → ((a ≡ i) → (b ≡ j) → ⊥) → cell_at d cells.new a b ≡ cell_at d cells.old a b }
+    ensures { result ≡ moved (kept_at d old.now) k t c i j }
 {
-    let bound = old[source(k, t, i) * d + source(k, t, j)];
-    cells[i * d + j] = gained(bound, k, c, i, j);
+    let bound = bound_in(old, d, source(k, t, i), source(k, t, j));
+    gained(bound, k, c, i, j)
 }
 
 /// Writes the bounds of a matrix with c added along, over a copy of it: those on x_k alone change.
 fn move_cells(cells: &mut [Bound], old: &[Bound], d: usize, k: usize, t: usize, c: i128)
-    requires size { length cells.old ≡ d * d }
-    requires old { IsMatrix d old.now }
+    requires size { length cells.old ≡ block (d / 2) }
+    requires old { IsHalf d old.now }
     requires same { cells.old ≡ old.now }
     requires pairs { d % 2 ≡ 0 }
-    requires room { d < 2 ^ 33 }
+    requires room { d ≤ 2 ^ 32 }
     requires variable { 2 * k < d }
-    ensures value { (i j : ℕ) → i < d → j < d → cell_at d cells.new i j ≡ moved (cell_at d old.now) k t c i j }
-    ensures whole { IsMatrix d cells.new }
+    ensures value { (i j : ℕ) → i < d → j < d → kept_at d cells.new i j ≡ moved (kept_at d old.now) k t c i j }
+    ensures whole { IsHalf d cells.new }
 {
     for j in 0..d {
-        move_cell(cells, old, d, k, t, c, 2 * k, j);
-        move_cell(cells, old, d, k, t, c, 2 * k + 1, j);
-        move_cell(cells, old, d, k, t, c, j, 2 * k);
-        move_cell(cells, old, d, k, t, c, j, 2 * k + 1);
+        let first = moved_bound(old, d, k, t, c, 2 * k, j);
+        write_pair(
+            cells,
+            d,
+            2 * k,
+            j,
+            first,
+            moved_bound(old, d, k, t, c, 2 * k + 1, j),
+        );
     }
 }
 

@@ -1,8 +1,9 @@
 // Order, join, widening and narrowing.
 
-ghost use Rattle.std.specs.Prelude.{◌≡◌, ◌%◌, ℕ, ℤ, ◌<◌, ◌*◌, ◌⊎◌, ◌↔◌, IfOk, length, true, false};
+ghost use Rattle.std.specs.Prelude.{◌≡◌, ◌%◌, ◌/◌, ℕ, ℤ, ◌<◌, ◌*◌, ◌⊎◌, ◌↔◌, IfOk, length, true, false};
 ghost use Rattle.pk_octmat.specs.Bounds.{AtMost, greater as greater_of};
-ghost use Rattle.pk_octmat.specs.Octagon.{entry, cell_at, HasEntries, IsMatrix, Meets};
+ghost use Rattle.pk_octmat.specs.Octagon.{entry, HasEntries, Meets};
+ghost use Rattle.pk_octmat.specs.Half.{block, kept_at, IsHalf};
 ghost use Rattle.pk_octops.specs.Tables.{IsBelow, widened as widened_of, narrowed as narrowed_of, join_of, widening_of, narrowing_of};
 ghost use Rattle.pk_octops.specs.Chains.{IsWidening};
 
@@ -35,52 +36,46 @@ fn narrowed(h: Bound, n: Bound) -> Bound
 
 /// Raises each bound to that of another matrix, if it is less.
 fn join_cells(cells: &mut [Bound], other: &[Bound], d: usize)
-    requires whole { IsMatrix d cells.old }
-    requires other { IsMatrix d other.now }
+    requires whole { IsHalf d cells.old }
+    requires other { IsHalf d other.now }
     requires pairs { d % 2 ≡ 0 }
     ensures value { (i j : ℕ) → i < d → j < d →
-        cell_at d cells.new i j ≡ greater_of (cell_at d cells.old i j) (cell_at d other.now i j) }
-    ensures whole { IsMatrix d cells.new }
+        kept_at d cells.new i j ≡ greater_of (kept_at d cells.old i j) (kept_at d other.now i j) }
+    ensures whole { IsHalf d cells.new }
 {
-    for i in 0..d {
-        for j in 0..d {
-            let at = i * d + j;
-            cells[at] = greater(cells[at], other[at]);
-        }
+    let _ = d;
+    for k in 0..cells.len() {
+        cells[k] = greater(cells[k], other[k]);
     }
 }
 
 /// Makes each bound none that another matrix exceeds.
 fn widen_cells(cells: &mut [Bound], other: &[Bound], d: usize)
-    requires whole { IsMatrix d cells.old }
-    requires other { IsMatrix d other.now }
+    requires whole { IsHalf d cells.old }
+    requires other { IsHalf d other.now }
     requires pairs { d % 2 ≡ 0 }
     ensures value { (i j : ℕ) → i < d → j < d →
-        cell_at d cells.new i j ≡ widened_of (cell_at d cells.old i j) (cell_at d other.now i j) }
-    ensures whole { IsMatrix d cells.new }
+        kept_at d cells.new i j ≡ widened_of (kept_at d cells.old i j) (kept_at d other.now i j) }
+    ensures whole { IsHalf d cells.new }
 {
-    for i in 0..d {
-        for j in 0..d {
-            let at = i * d + j;
-            cells[at] = widened(cells[at], other[at]);
-        }
+    let _ = d;
+    for k in 0..cells.len() {
+        cells[k] = widened(cells[k], other[k]);
     }
 }
 
 /// Takes the bounds of another matrix where there are none.
 fn narrow_cells(cells: &mut [Bound], other: &[Bound], d: usize)
-    requires whole { IsMatrix d cells.old }
-    requires other { IsMatrix d other.now }
+    requires whole { IsHalf d cells.old }
+    requires other { IsHalf d other.now }
     requires pairs { d % 2 ≡ 0 }
     ensures value { (i j : ℕ) → i < d → j < d →
-        cell_at d cells.new i j ≡ narrowed_of (cell_at d cells.old i j) (cell_at d other.now i j) }
-    ensures whole { IsMatrix d cells.new }
+        kept_at d cells.new i j ≡ narrowed_of (kept_at d cells.old i j) (kept_at d other.now i j) }
+    ensures whole { IsHalf d cells.new }
 {
-    for i in 0..d {
-        for j in 0..d {
-            let at = i * d + j;
-            cells[at] = narrowed(cells[at], other[at]);
-        }
+    let _ = d;
+    for k in 0..cells.len() {
+        cells[k] = narrowed(cells[k], other[k]);
     }
 }
 
@@ -149,9 +144,10 @@ pub fn narrow(h: &Matrix, n: &Matrix) -> Result<Matrix, AllocError>
 
 /// Whether each bound is at most that of another matrix.
 fn leq_cells(cells: &[Bound], other: &[Bound], d: usize) -> bool
-    requires size { length cells.now ≡ d * d }
-    requires other { length other.now ≡ d * d }
-    ensures { result ≡ true ↔ ((i j : ℕ) → AtMost (cell_at d cells.now i j) (cell_at d other.now i j)) }
+    requires size { length cells.now ≡ block (d / 2) }
+    requires other { length other.now ≡ block (d / 2) }
+    requires pairs { d % 2 ≡ 0 }
+    ensures { result ≡ true ↔ ((i j : ℕ) → AtMost (kept_at d cells.now i j) (kept_at d other.now i j)) }
 {
     let _ = d;
     for k in 0..cells.len() {

@@ -11,3 +11,4 @@ pub mod Changed
 pub mod Places
 pub mod Loose
 pub mod Closings
+mod Points

@@ -4,3 +4,4 @@ pub mod Marks
 pub mod Reduced
 pub mod Members
 pub mod Changes
+pub mod Turns

@@ -8,6 +8,7 @@ mod laws;
 mod marks;
 mod octagons;
 mod state;
+mod turns;
 mod values;
 
 pub use frame::Frame;

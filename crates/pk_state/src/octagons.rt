@@ -9,11 +9,13 @@ ghost use Rattle.pk_state.specs.Facts.{AreValues, known_at};
 ghost use Rattle.pk_octmat.specs.Bounds.{lesser, capped};
 ghost use Rattle.pk_octmat.specs.Octagon.{entry, bar as other};
 ghost use Rattle.pk_octops.specs.Guards.{IsGuard, guard_of};
+ghost use Rattle.pk_octmat.specs.Shapes.{left_of};
 ghost use Rattle.pk_octclose.specs.Places.{closing_of};
 ghost use Rattle.pk_octmarks.specs.Marks.{IsMarked};
 ghost use Rattle.pk_state.specs.Reduced.{by_range, by_ranges};
 
 use crate::frame::Frame;
+use crate::turns::{close_in_turn, pays_in_turn};
 use pk_blocks::Blocks;
 use pk_ctypes::IntType;
 use pk_interval::Interval;
@@ -84,8 +86,8 @@ pub(crate) fn is_obeyed(m: &Matrix, a: Option<u32>, b: Option<u32>, c: i128) -> 
     }
 }
 
-// Whether the bounds on one variable are within its range already.
-fn is_lowered(m: &Matrix, k: u32, t: IntType, range: &Interval) -> bool
+/// Whether the bounds on one variable are within its range already.
+pub(crate) fn is_lowered(m: &Matrix, k: u32, t: IntType, range: &Interval) -> bool
     requires place { k < m.now.vars }
     requires inside { IsIn t range.now }
     ensures { result ≡ true → by_range m.now k range.now ≡ m.now }
@@ -95,8 +97,8 @@ fn is_lowered(m: &Matrix, k: u32, t: IntType, range: &Interval) -> bool
     is_within(m, 2 * k + 1, 2 * k, range.hi) && is_within(m, 2 * k, 2 * k + 1, -range.lo)
 }
 
-// The same, and what is known of the octagon then.
-fn lower_marked(m: &mut Matrix, k: u32, t: IntType, range: &Interval, mark: Mark) -> Mark
+/// Lowers the bounds on one variable to its range, and says what is known of the octagon then.
+pub(crate) fn lower_marked(m: &mut Matrix, k: u32, t: IntType, range: &Interval, mark: Mark) -> Mark
     requires place { k < m.old.vars }
     requires inside { IsIn t range.now }
     ensures value { m.new ≡ by_range m.old k range.now }
@@ -162,6 +164,35 @@ pub(crate) fn shared(
     Ok(Arc::new(alloc, new)?)
 }
 
+// Closes an octagon in place that its ranges have lowered, or finds that no integers meet it: in turn from what it was before, where that is sooner done.
+fn close_from(
+    m: &mut Matrix,
+    known: Mark,
+    octagon: &Matrix,
+    mark: Mark,
+    values: &Blocks<Value>,
+    frame: &Frame,
+) -> Result<Shape, AllocError>
+    requires vars { octagon.now.vars ≡ length frame.now.chosen }
+    requires values { AreValues frame.now values.now }
+    requires marked { IsMarked mark octagon.now }
+    requires known { IsMarked known m.old }
+    requires lowered { m.old ≡ by_ranges frame.now values.now (length frame.now.chosen) octagon.now }
+    ensures { IfOk result (λ s. left_of s m.new ≡ closing_of m.old) }
+{
+    if known.is_unknown() && pays_in_turn(octagon, m, mark, values, frame) {
+        let mut turned = octagon.copy()?;
+        match close_in_turn(&mut turned, mark, values, frame) {
+            Some(shape) => {
+                *m = turned;
+                return Ok(shape);
+            }
+            None => {}
+        }
+    }
+    Ok(close_marked(m, known))
+}
+
 /// The closing of an octagon lowered by the ranges, if it has one.
 pub(crate) fn close_lowered(
     alloc: Global,
@@ -178,7 +209,7 @@ pub(crate) fn close_lowered(
 {
     let mut m = octagon.copy()?;
     let known = lower_all(&mut m, mark, values, frame);
-    match close_marked(&mut m, known) {
+    match close_from(&mut m, known, octagon, mark, values, frame)? {
         Shape::Empty => Ok(None),
         Shape::Kept => Ok(Some(shared(alloc, octagon, m)?)),
     }

@@ -1,5 +1,6 @@
 use Rattle.pk_octclose.proofs.Lowered.{InLine}
+use Rattle.pk_octmat.specs.Half.{kept_at}
 use Rattle.pk_octclose.proofs.after.lower_lines.Given as goal
 
 abbrev pub invariant-loop-a : goal.invariant-loop-a
-invariant-loop-a l = InLine l.d l.r l.a l.fn.cells l.cells
+invariant-loop-a l = InLine l.d l.r l.a (kept_at l.d l.cells) l.line

@@ -1,22 +1,20 @@
-use Rattle.std.specs.Prelude.{◌/◌, ◌^◌}
-use Rattle.std.proofs.Common.{ap, arith, inl, inr, refl, subst, sym}
+use Rattle.std.specs.Prelude.{◌/◌, ◌^◌, None}
+use Rattle.std.proofs.Common.{arith, get_or, refl, subst, sym}
 use Rattle.pk_octmat.specs.Bounds.{IsNear}
-use Rattle.pk_octmat.specs.Octagon.{cell_at}
+use Rattle.pk_octmat.specs.Half.{kept_at}
 use Rattle.pk_octpoints.proofs.Near.{near_more}
 use Rattle.pk_octclose.proofs.Lined.{own_none}
 use Rattle.pk_octclose.proofs.Lowered.{in_own}
 use Rattle.pk_octclose.proofs.after.lower_owns.Goals as goal
 
 pub loop-a-init : goal.loop-a-init
-loop-a-init c = record { size = c.requires.size; done = λ s h. sym (own_none (cell_at c.args.d c.args.cells.now) (cell_at c.args.d c.args.cells.now c.args.r) (c.args.r / 2) s); rest = λ x b w. refl }
+loop-a-init c = record { size = c.requires.own; done = λ s h. sym (own_none (kept_at c.args.d c.args.cells.now) (λ b. get_or c.args.line.now b None) (c.args.r / 2) s); rest = λ b n. refl }
 
 pub lower_own-requires-clause-first : goal.lower_own-requires-clause-first
-lower_own-requires-clause-first c = λ n. subst (λ o. IsNear (2 ^ 100) o) (sym (c.loop-a.invariant.rest c.args.r c.loop-a.a (inr n))) (c.requires.first c.loop-a.a c.loop-a-test.true)
+lower_own-requires-clause-first c = λ n. subst (λ o. IsNear (2 ^ 100) o) (sym (c.loop-a.invariant.rest c.loop-a.a n)) (c.requires.first c.loop-a.a c.loop-a-test.true)
 
 pub lower_own-requires-clause-then : goal.lower_own-requires-clause-then
-lower_own-requires-clause-then c = λ n b bd.
-    subst (λ o. IsNear (2 ^ 100) o) (sym (c.loop-a.invariant.rest c.loop-a.a b (inl (λ s. n (ap (λ k. k / 2) s)))))
-    (near_more (2 ^ 58) (2 ^ 100) (cell_at c.args.d c.args.cells.now c.loop-a.a b) (omega arith) (c.requires.then c.loop-a.a b n))
+lower_own-requires-clause-then c = λ n b bd. near_more (2 ^ 58) (2 ^ 100) (kept_at c.args.d c.args.cells.now c.loop-a.a b) (omega arith) (c.requires.near c.loop-a.a b)
 
 pub loop-a-preserved : goal.loop-a-preserved
-loop-a-preserved c = in_own _ _ _ _ _ _ c.loop-a.invariant c.lower_own.ensures.kept c.lower_own.ensures.lowered c.lower_own.ensures.others c.lower_own.ensures.stays
+loop-a-preserved c = in_own _ _ _ _ _ _ _ c.loop-a.invariant c.lower_own.ensures.own c.lower_own.ensures.lowered c.lower_own.ensures.others c.lower_own.ensures.stays

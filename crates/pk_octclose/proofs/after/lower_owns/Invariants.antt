@@ -1,5 +1,7 @@
+use Rattle.std.proofs.Common.{None, get_or}
 use Rattle.pk_octclose.proofs.Lowered.{InOwn}
+use Rattle.pk_octmat.specs.Half.{kept_at}
 use Rattle.pk_octclose.proofs.after.lower_owns.Given as goal
 
 abbrev pub invariant-loop-a : goal.invariant-loop-a
-invariant-loop-a l = InOwn l.d l.r l.a l.fn.cells l.cells
+invariant-loop-a l = InOwn l.d l.r l.a (kept_at l.d l.cells) (λ b. get_or l.fn.line b None) l.line

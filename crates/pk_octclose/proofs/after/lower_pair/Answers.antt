@@ -1,38 +1,33 @@
-use Rattle.std.specs.Prelude.{◌≡◌, ◌≢◌, ◌+◌, ◌/◌, ◌^◌}
-use Rattle.std.proofs.Common.{◌∙◌, arith, inl, refl, subst, sym}
-use Rattle.pk_octmat.specs.Bounds.{IsNear}
-use Rattle.pk_octmat.specs.Octagon.{cell_at}
-use Rattle.pk_octclose.proofs.Lined.{lines_near}
-use Rattle.pk_octclose.proofs.Lowered.{not_first, row_lined}
+use Rattle.std.specs.Prelude.{◌≡◌, ◌+◌, ◌/◌, Some, pos}
+use Rattle.std.proofs.Common.{◌∙◌, ap, arith, refl, subst, sym}
+use Rattle.pk_octmat.specs.Bounds.{AtMost, is_negative}
+use Rattle.pk_octmat.specs.Half.{kept_at}
+use Rattle.pk_octclose.specs.After.{lined}
+use Rattle.pk_octclose.proofs.Lined.{lined_cycle, pair_each}
+use Rattle.pk_octclose.proofs.Lowered.{line_read, pair_lined}
+use Rattle.pk_octclose.proofs.Sums.{negative_from}
 use Rattle.pk_octclose.proofs.after.lower_pair.Goals as goal
 
-pub lower_owns-requires-clause-first : goal.lower_owns-requires-clause-first
-lower_owns-requires-clause-first c = λ b bd. lines_near c.args.d (cell_at c.args.d c.args.cells.now) c.args.p b _ c.requires.room (λ i j w. c.requires.small i j) (c.lower_lines.ensures.lowered b bd)
+pub returns-then-is_negative-clause-cycle : goal.returns-then-is_negative-clause-cycle
+returns-then-is_negative-clause-cycle c = λ e. lined_cycle c.args.d (kept_at c.args.d c.args.cells.now) (c.args.p / 2) c.args.p refl (ap is_negative (sym (line_read c.line_of.new.line c.args.p c.index-first-p.result c.line_of.ensures.own (omega (arith, c.requires.place, c.requires.few)) c.index-first-p.is ∙ c.line_of.ensures.lowered c.args.p (omega (arith, c.requires.place)))) ∙ sym c.is_negative.ensures ∙ c.if-is_negative.true)
 
-pub lower_owns-requires-2-clause-first : goal.lower_owns-requires-2-clause-first
-lower_owns-requires-2-clause-first c = λ b bd.
-    lines_near c.args.d (cell_at c.args.d c.lower_owns.new.cells) (c.args.p + 1) b _ c.requires.room
-    (λ i j w. let n = not_first i c.args.p c.requires.even w in subst (λ o. IsNear (2 ^ 58) o) (sym (c.lower_owns.ensures.others i j (inl n) ∙ c.lower_lines.ensures.others i j n)) (c.requires.small i j))
-    (c.lower_lines-2.ensures.lowered b bd)
-
-pub returns-clause-first : goal.returns-clause-first
-returns-clause-first c = λ b bd.
-    let n : c.args.p ≢ c.args.p + 1 = λ s. absurd (omega (arith, s)) in
-    c.lower_owns-2.ensures.others c.args.p b (inl n) ∙ c.lower_lines-2.ensures.others c.args.p b n
-    ∙ row_lined c.args.d c.args.p (c.args.p / 2) (cell_at c.args.d c.args.cells.now) c.args.cells.now c.lower_lines.new.cells c.lower_owns.new.cells refl (λ q. refl) (λ a q m. refl) c.lower_lines.ensures.lowered c.lower_lines.ensures.others
-    c.lower_owns.ensures.lowered c.lower_owns.ensures.others b bd
-
-pub returns-clause-second : goal.returns-clause-second
-returns-clause-second c = λ b bd.
-    let n : c.args.p + 1 ≢ c.args.p = λ s. absurd (omega (arith, s)) in
+pub returns-then-is_negative-2-clause-cycle : goal.returns-then-is_negative-2-clause-cycle
+returns-then-is_negative-2-clause-cycle c = λ e.
     let next : (c.args.p + 1) / 2 ≡ c.args.p / 2 = omega (arith, c.requires.even) in
-    row_lined c.args.d (c.args.p + 1) (c.args.p / 2) (cell_at c.args.d c.args.cells.now) c.lower_owns.new.cells c.lower_lines-2.new.cells c.lower_owns-2.new.cells next
-    (λ q. c.lower_owns.ensures.others (c.args.p + 1) q (inl n) ∙ c.lower_lines.ensures.others (c.args.p + 1) q n)
-    (λ a q m. let far : a ≢ c.args.p = λ s. absurd (omega (arith, s, m)) in c.lower_owns.ensures.others a q (inl far) ∙ c.lower_lines.ensures.others a q far)
-    c.lower_lines-2.ensures.lowered c.lower_lines-2.ensures.others c.lower_owns-2.ensures.lowered c.lower_owns-2.ensures.others b bd
+    lined_cycle c.args.d (kept_at c.args.d c.args.cells.now) (c.args.p / 2) (c.args.p + 1) next (ap is_negative (sym (line_read c.line_of-2.new.line (c.args.p + 1) c.index-second-p.result c.line_of-2.ensures.own (omega (arith, c.requires.place, c.requires.few)) c.index-second-p.is ∙ c.line_of-2.ensures.lowered (c.args.p + 1) c.requires.place
+    ∙ ap (λ k. lined c.args.d (kept_at c.args.d c.args.cells.now) k (c.args.p + 1) (c.args.p + 1)) next)) ∙ sym c.is_negative-2.ensures ∙ c.if-is_negative-2.true)
 
-pub returns-clause-others : goal.returns-clause-others
-returns-clause-others c = λ x b m.
-    let n : x ≢ c.args.p = λ s. absurd (omega (arith, s, m)) in
-    let o : x ≢ c.args.p + 1 = λ s. absurd (omega (arith, s, m, c.requires.even)) in
-    c.lower_owns-2.ensures.others x b (inl o) ∙ c.lower_lines-2.ensures.others x b o ∙ c.lower_owns.ensures.others x b (inl n) ∙ c.lower_lines.ensures.others x b n
+pub returns-clause-lowered : goal.returns-clause-lowered
+returns-clause-lowered c = λ e.
+    let next : (c.args.p + 1) / 2 ≡ c.args.p / 2 = omega (arith, c.requires.even) in
+    pair_lined c.args.d c.args.p (kept_at c.args.d c.args.cells.now) c.args.cells.now c.write_rows.new.cells c.requires.pairs c.requires.even c.requires.whole.whole.coherent.turned (λ a b. refl)
+    (λ b bd. c.write_rows.ensures.first b bd ∙ c.line_of.ensures.lowered b bd)
+    (λ b bd. c.write_rows.ensures.second b bd ∙ c.line_of-2.ensures.lowered b bd ∙ ap (λ k. lined c.args.d (kept_at c.args.d c.args.cells.now) k (c.args.p + 1) b) next) c.write_rows.ensures.others
+
+pub returns-clause-diagonal : goal.returns-clause-diagonal
+returns-clause-diagonal c = λ e i id h.
+    let next : (c.args.p + 1) / 2 ≡ c.args.p / 2 = omega (arith, c.requires.even) in
+    let first = subst (λ o. AtMost (Some (pos 0)) o) (line_read c.line_of.new.line c.args.p c.index-first-p.result c.line_of.ensures.own (omega (arith, c.requires.place, c.requires.few)) c.index-first-p.is ∙ c.line_of.ensures.lowered c.args.p (omega (arith, c.requires.place))) (negative_from _ (sym c.is_negative.ensures ∙ c.if-is_negative.false)) in
+    let second = subst (λ o. AtMost (Some (pos 0)) o) (line_read c.line_of-2.new.line (c.args.p + 1) c.index-second-p.result c.line_of-2.ensures.own (omega (arith, c.requires.place, c.requires.few)) c.index-second-p.is ∙ c.line_of-2.ensures.lowered (c.args.p + 1) c.requires.place
+    ∙ ap (λ k. lined c.args.d (kept_at c.args.d c.args.cells.now) k (c.args.p + 1) (c.args.p + 1)) next) (negative_from _ (sym c.is_negative-2.ensures ∙ c.if-is_negative-2.false)) in
+    pair_each c.args.p (λ q. lined c.args.d (kept_at c.args.d c.args.cells.now) (c.args.p / 2) q q) c.requires.even first second i h

@@ -1,20 +1,26 @@
-use Rattle.std.specs.Prelude.{◌<◌, ◌^◌}
-use Rattle.std.proofs.Common.{◌∙◌, arith, inl, subst, sym}
+use Rattle.pk_octmat.specs.Half.{kept_at}
+use Rattle.std.specs.Prelude.{◌+◌, ◌*◌, ◌/◌, ◌^◌}
+use Rattle.std.proofs.Common.{◌∙◌, refl, subst, sym}
 use Rattle.pk_octmat.specs.Bounds.{IsNear}
-use Rattle.pk_octmat.specs.Octagon.{cell_at}
-use Rattle.pk_octclose.proofs.Rows.{none_stays, row_more, row_none}
+use Rattle.pk_octclose.proofs.Rows.{before_start, from_start, part_stays, row_apart, row_apart_others}
 use Rattle.pk_octclose.proofs.paths.lower_row.Goals as goal
 
-pub returns-then-is_none-clause-lowered : goal.returns-then-is_none-clause-lowered
-returns-then-is_none-clause-lowered c = λ b be. none_stays (cell_at c.args.d c.args.cells.now c.args.i b) (cell_at c.args.d c.args.cells.now c.args.k b) c.args.first (sym c.is_none.ensures ∙ c.if-is_none.true)
+pub lower_part-requires-2-clause-then : goal.lower_part-requires-2-clause-then
+lower_part-requires-2-clause-then c = λ b bd.
+    subst (λ o. IsNear (2 ^ 100) o)
+    (sym (part_stays c.args.d c.args.p c.args.k c.args.i c.lesser_of.result c.args.cells.now c.lower_part.new.cells c.requires.pairs c.requires.even c.requires.variable c.requires.apart c.lesser_of.ensures.right (λ a b low w. c.lower_part.ensures.others a b low (from_start a c.args.i b c.lesser_of.result w)) b))
+    (c.requires.then b bd)
 
-pub loop-j-init : goal.loop-j-init
-loop-j-init c = row_none c.args.d c.args.k c.args.i c.args.first c.args.cells.now c.requires.size
+pub lower_part-requires-2-clause-copied : goal.lower_part-requires-2-clause-copied
+lower_part-requires-2-clause-copied c = λ few b bd.
+    c.requires.copied few b bd
+    ∙ sym (part_stays c.args.d c.args.p c.args.k c.args.i c.lesser_of.result c.args.cells.now c.lower_part.new.cells c.requires.pairs c.requires.even c.requires.variable c.requires.apart c.lesser_of.ensures.right (λ a b low w. c.lower_part.ensures.others a b low (from_start a c.args.i b c.lesser_of.result w)) b)
 
-pub plus-through-requires-clause-right : goal.plus-through-requires-clause-right
-plus-through-requires-clause-right c =
-    let jd : c.loop-j.j < c.args.d = omega arith in
-    subst (λ o. IsNear (2 ^ 100) o) (sym (c.cell.ensures ∙ c.loop-j.invariant.rest c.args.k c.loop-j.j (inl c.requires.apart))) (c.requires.then c.loop-j.j jd)
+pub returns-clause-lowered : goal.returns-clause-lowered
+returns-clause-lowered c =
+    row_apart c.args.d c.args.p c.args.k c.args.i c.lesser_of.result (c.args.i / 2 * 2 + 2) c.args.cells.now c.lower_part.new.cells c.lower_part-2.new.cells c.args.first c.requires.pairs c.requires.even c.requires.variable c.requires.apart refl
+    c.lesser_of.ensures.left c.lesser_of.ensures.right c.lesser_of.ensures.one c.lower_part.ensures.lowered (λ a b low w. c.lower_part.ensures.others a b low (from_start a c.args.i b c.lesser_of.result w)) c.lower_part-2.ensures.lowered (λ a b low w. c.lower_part-2.ensures.others a b low (before_start a c.args.i b (c.args.p + 2) (c.args.i / 2 * 2 + 2) w))
 
-pub loop-j-preserved : goal.loop-j-preserved
-loop-j-preserved c = row_more _ _ _ _ _ _ _ _ _ _ c.loop-j.invariant c.requires.apart c.cell.ensures c.plus-through.ensures c.lower_cell.ensures.kept c.lower_cell.ensures.here c.lower_cell.ensures.others
+pub returns-clause-others : goal.returns-clause-others
+returns-clause-others c =
+    row_apart_others c.args.d c.args.p c.args.i c.lesser_of.result (c.args.i / 2 * 2 + 2) c.args.cells.now c.lower_part.new.cells c.lower_part-2.new.cells c.requires.even c.lesser_of.ensures.right (λ a b low w. c.lower_part.ensures.others a b low (from_start a c.args.i b c.lesser_of.result w)) (λ a b low w. c.lower_part-2.ensures.others a b low (before_start a c.args.i b (c.args.p + 2) (c.args.i / 2 * 2 + 2) w))

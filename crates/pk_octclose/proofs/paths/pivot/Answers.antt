@@ -1,55 +1,47 @@
-use Rattle.std.specs.Prelude.{◌≡◌, ◌≤◌, ◌+◌, ◌/◌, ◌<◌, ℕ, Some, pos}
+use Rattle.std.specs.Prelude.{◌≡◌, ◌+◌, ◌<◌, ℕ, Some, pos}
 use Rattle.std.proofs.Common.{◌∙◌, ap, arith, inl, inr, subst, sym}
 use Rattle.pk_octmat.specs.Bounds.{AtMost, is_negative}
-use Rattle.pk_octmat.proofs.Bars.{pairs_of}
-use Rattle.pk_octclose.specs.Pairs.{whole_of}
+use Rattle.pk_octmat.specs.Half.{kept_at}
 use Rattle.pk_octclose.specs.Walks.{relaxed}
 use Rattle.pk_octclose.proofs.Pairs.{pair_lowered}
 use Rattle.pk_octclose.proofs.Sums.{negative_from}
 use Rattle.pk_octclose.proofs.Twice.{near_from, relaxed_near}
-use Rattle.pk_octclose.proofs.Whole.{round_is, whole_low}
+use Rattle.pk_octclose.proofs.Whole.{round_is}
 use Rattle.pk_octclose.proofs.paths.pivot.Goals as goal
 
 pub plus-round-requires-clause-left : goal.plus-round-requires-clause-left
-plus-round-requires-clause-left c =
-    let low : (c.args.p + 1) / 2 ≤ c.args.p / 2 = omega arith in
-    near_from _ _ (c.cell.ensures ∙ sym (whole_low c.args.d c.args.cells.now c.args.p (c.args.p + 1) low)) (c.requires.near c.args.p (c.args.p + 1) (omega arith) c.requires.place)
+plus-round-requires-clause-left c = near_from _ _ c.cell.ensures (c.requires.near c.args.p (c.args.p + 1) (omega arith) c.requires.place)
 
 pub plus-round-requires-clause-right : goal.plus-round-requires-clause-right
-plus-round-requires-clause-right c =
-    let low : c.args.p / 2 ≤ (c.args.p + 1) / 2 = omega arith in
-    near_from _ _ (c.cell-2.ensures ∙ sym (whole_low c.args.d c.args.cells.now (c.args.p + 1) c.args.p low)) (c.requires.near (c.args.p + 1) c.args.p c.requires.place (omega arith))
+plus-round-requires-clause-right c = near_from _ _ c.cell-2.ensures (c.requires.near (c.args.p + 1) c.args.p c.requires.place (omega arith))
 
 pub returns-then-is_negative-clause-no : goal.returns-then-is_negative-clause-no
 returns-then-is_negative-clause-no c = λ e.
-    let round = round_is c.args.d c.args.p c.args.cells.now c.plus-round.result c.cell.result c.cell-2.result c.requires.even c.plus-round.ensures c.cell.ensures c.cell-2.ensures in
+    let round = round_is (kept_at c.args.d c.args.cells.now) c.args.p c.plus-round.result c.cell.result c.cell-2.result c.plus-round.ensures c.cell.ensures c.cell-2.ensures in
     inl (ap is_negative (sym round) ∙ sym c.is_negative.ensures ∙ c.if-is_negative.true)
 
-pub lower_rows-requires-clause-first : goal.lower_rows-requires-clause-first
-lower_rows-requires-clause-first c = λ b bd.
-    relaxed_near (whole_of c.args.d c.args.cells.now) (c.args.p + 1) c.args.p b _ (c.join_rows.ensures.first b bd) (c.requires.near c.args.p b (omega arith) bd) (c.requires.near c.args.p (c.args.p + 1) (omega arith) c.requires.place)
+pub lower_rows-requires-clause-one : goal.lower_rows-requires-clause-one
+lower_rows-requires-clause-one c = λ b bd.
+    relaxed_near (kept_at c.args.d c.args.cells.now) (c.args.p + 1) c.args.p b _ (c.join_rows.ensures.first b bd) (c.requires.near c.args.p b (omega arith) bd) (c.requires.near c.args.p (c.args.p + 1) (omega arith) c.requires.place)
     (c.requires.near (c.args.p + 1) b c.requires.place bd)
 
-pub lower_rows-requires-clause-second : goal.lower_rows-requires-clause-second
-lower_rows-requires-clause-second c = λ b bd.
-    relaxed_near (whole_of c.args.d c.args.cells.now) c.args.p (c.args.p + 1) b _ (c.join_rows.ensures.second b bd) (c.requires.near (c.args.p + 1) b c.requires.place bd) (c.requires.near (c.args.p + 1) c.args.p c.requires.place (omega arith))
+pub lower_rows-requires-clause-two : goal.lower_rows-requires-clause-two
+lower_rows-requires-clause-two c = λ b bd.
+    relaxed_near (kept_at c.args.d c.args.cells.now) c.args.p (c.args.p + 1) b _ (c.join_rows.ensures.second b bd) (c.requires.near (c.args.p + 1) b c.requires.place bd) (c.requires.near (c.args.p + 1) c.args.p c.requires.place (omega arith))
     (c.requires.near c.args.p b (omega arith) bd)
 
 -- what the two places lower
-lowered : (c : goal.After-is_nonnegative) → (a b : ℕ) → a < c.args.d → b < c.args.d → whole_of c.args.d c.lower_rows.new.cells a b ≡ relaxed (relaxed (whole_of c.args.d c.args.cells.now) c.args.p) (c.args.p + 1) a b
+lowered : (c : goal.After-is_nonnegative) → (a b : ℕ) → a < c.args.d → b < c.args.d → kept_at c.args.d c.lower_rows.new.cells a b ≡ relaxed (relaxed (kept_at c.args.d c.args.cells.now) c.args.p) (c.args.p + 1) a b
 lowered c =
-    let round = round_is c.args.d c.args.p c.args.cells.now c.plus-round.result c.cell.result c.cell-2.result c.requires.even c.plus-round.ensures c.cell.ensures c.cell-2.ensures in
-    pair_lowered c.args.d (c.args.d / 2) c.args.p c.args.cells.now c.join_rows.new.cells c.lower_rows.new.cells (pairs_of _ c.requires.pairs) c.requires.even c.requires.place c.requires.zero
+    let round = round_is (kept_at c.args.d c.args.cells.now) c.args.p c.plus-round.result c.cell.result c.cell-2.result c.plus-round.ensures c.cell.ensures c.cell-2.ensures in
+    pair_lowered c.args.d c.args.p c.args.cells.now c.join_rows.new.cells c.lower_rows.new.cells c.requires.pairs c.requires.even c.requires.place c.requires.zero
     (subst (λ o. AtMost (Some (pos 0)) o) round (negative_from _ (sym c.is_negative.ensures ∙ c.if-is_negative.false)))
     c.join_rows.ensures.first c.join_rows.ensures.second c.join_rows.ensures.others c.lower_rows.ensures.lowered c.lower_rows.ensures.own
 
 pub returns-clause-lowered : goal.returns-clause-lowered
 returns-clause-lowered c = λ e. lowered c
 
-pub returns-clause-yes : goal.returns-clause-yes
-returns-clause-yes c = λ e i id. subst (λ o. AtMost (Some (pos 0)) o) (sym (whole_low c.args.d c.lower_rows.new.cells i i (omega arith))) (c.is_nonnegative.ensures.yes e i id)
-
 pub returns-clause-no : goal.returns-clause-no
 returns-clause-no c = λ e.
     let n = c.is_nonnegative.ensures.no e in
-    inr (record { at = n.at; place = n.place; negative = ap is_negative (sym (lowered c n.at n.at n.place n.place) ∙ whole_low c.args.d c.lower_rows.new.cells n.at n.at (omega arith)) ∙ n.negative })
+    inr (record { at = n.at; place = n.place; negative = ap is_negative (sym (lowered c n.at n.at n.place n.place)) ∙ n.negative })

@@ -1,52 +1,39 @@
-use Rattle.pk_octmat.proofs.Bars.{pairs_of}
-use Rattle.std.proofs.Common.{arith, ◌∙◌, ◌<◌}
-use Rattle.pk_octmat.specs.Octagon.{cell_at, bar}
-use Rattle.pk_octmat.proofs.Cells.{cell_read, place_in}
-use Rattle.pk_octmat.proofs.Swept.{swept_all, swept_more, swept_read, swept_row}
+use Rattle.std.specs.Prelude.{◌<◌, ◌≤◌, ◌/◌, ◌^◌}
+use Rattle.std.proofs.Common.{arith, refl, subst, sym}
+use Rattle.pk_octmat.specs.Bounds.{IsNear}
+use Rattle.pk_octmat.specs.Octagon.{bar}
+use Rattle.pk_octmat.specs.Half.{kept_at}
 use Rattle.pk_octclose.specs.Closing.{tight}
-use Rattle.pk_octclose.proofs.Halves.{column_read, row_read, tight_column, tight_read, tight_row}
+use Rattle.pk_octclose.proofs.Halves.{tight_back, tight_kept, tight_own, tight_read}
+use Rattle.pk_octclose.proofs.Swept.{swept_all, swept_more, swept_none, swept_row}
 use Rattle.pk_octclose.proofs.tight.tighten_all.Goals as goal
+
+pub loop-i-init : goal.loop-i-init
+loop-i-init c = swept_none c.args.d (tight (kept_at c.args.d c.args.cells.now)) c.args.cells.now c.requires.size
 
 pub plus-both-requires-clause-left : goal.plus-both-requires-clause-left
 plus-both-requires-clause-left c =
-    let e = cell_at c.args.d c.args.cells.now in
-    let i = c.loop-i.i in
-    let to : bar i < c.args.d = omega (arith, c.requires.pairs, c.loop-i-test.true) in
-    rw (row_read _ _ _ _ _ _ (pairs_of _ c.requires.pairs) c.loop-j.invariant.size c.loop-i-test.true c.bar.ensures c.index-cells-i.is
-    ∙ swept_read c.args.d i c.loop-j.j i (bar i) e (tight e) c.loop-j.cells c.loop-j.invariant c.loop-i-test.true to (tight_row e i)) (c.requires.near i (bar i) c.loop-i-test.true to)
+    subst (λ o. IsNear (2 ^ 100) o) (sym (tight_own c.args.d c.loop-i.i 0 c.bar.result (kept_at c.args.d c.args.cells.now) c.loop-i.cells c.cell-own.result c.loop-i.invariant c.loop-i-test.true c.cell-own.ensures c.bar.ensures))
+    (c.requires.near c.loop-i.i (bar c.loop-i.i) c.loop-i-test.true (omega (arith, c.requires.pairs, c.loop-i-test.true)))
 
 pub plus-both-requires-clause-right : goal.plus-both-requires-clause-right
 plus-both-requires-clause-right c =
-    let e = cell_at c.args.d c.args.cells.now in
-    let j = c.loop-j.j in
-    let to : bar j < c.args.d = omega (arith, c.requires.pairs, c.loop-j-test.true) in
-    rw (column_read _ _ _ _ _ _ (pairs_of _ c.requires.pairs) c.loop-j.invariant.size c.loop-j-test.true c.bar-in-loop-j.ensures c.index-cells-bar.is
-    ∙ swept_read c.args.d c.loop-i.i j (bar j) j e (tight e) c.loop-j.cells c.loop-j.invariant to c.loop-j-test.true (tight_column e j)) (c.requires.near (bar j) j to c.loop-j-test.true)
+    let within : bar c.loop-j.j < c.args.d = omega (arith, c.requires.pairs, c.loop-i-test.true, c.loop-j-test.true) in
+    subst (λ o. IsNear (2 ^ 100) o) (sym (tight_back c.args.d c.loop-i.i c.loop-j.j c.loop-j.j c.bar-in-loop-j.result (kept_at c.args.d c.args.cells.now) c.loop-j.cells c.cell.result c.loop-j.invariant within c.cell.ensures c.bar-in-loop-j.ensures))
+    (c.requires.near (bar c.loop-j.j) c.loop-j.j within (omega (arith, c.requires.pairs, c.loop-i-test.true, c.loop-j-test.true)))
 
 pub loop-j-preserved : goal.loop-j-preserved
 loop-j-preserved c =
-    let e = cell_at c.args.d c.args.cells.now in
-    let i = c.loop-i.i in
-    let j = c.loop-j.j in
-    let bi : bar i < c.args.d = omega (arith, c.requires.pairs, c.loop-i-test.true) in
-    let bj : bar j < c.args.d = omega (arith, c.requires.pairs, c.loop-j-test.true) in
-    swept_more c.args.d i j e (tight e) c.loop-j.cells c.lesser.result c.loop-j.invariant c.loop-i-test.true c.loop-j-test.true
-    (tight_read c.args.d i j e c.loop-j.cells _ _ _ _ _ _ c.loop-j.invariant c.loop-i-test.true c.loop-j-test.true bi bj
-    (cell_read _ _ _ _ _ c.loop-j.invariant.size c.loop-i-test.true c.loop-j-test.true c.index-cells-at.is)
-    (row_read _ _ _ _ _ _ (pairs_of _ c.requires.pairs) c.loop-j.invariant.size c.loop-i-test.true c.bar.ensures c.index-cells-i.is)
-    (column_read _ _ _ _ _ _ (pairs_of _ c.requires.pairs) c.loop-j.invariant.size c.loop-j-test.true c.bar-in-loop-j.ensures c.index-cells-bar.is) c.plus-both.ensures c.halved.ensures c.lesser.ensures)
-
-pub bounds-cells-i : goal.bounds-cells-i
-bounds-cells-i c = place_in c.args.d c.loop-j.cells c.loop-i.i c.bar.result c.loop-j.invariant.size c.loop-i-test.true (omega (arith, c.requires.pairs, c.loop-i-test.true, c.bar.ensures))
-
-pub bounds-cells-bar : goal.bounds-cells-bar
-bounds-cells-bar c = place_in c.args.d c.loop-j.cells c.bar-in-loop-j.result c.loop-j.j c.loop-j.invariant.size (omega (arith, c.requires.pairs, c.loop-j-test.true, c.bar-in-loop-j.ensures)) c.loop-j-test.true
-
-pub bounds-cells-at : goal.bounds-cells-at
-bounds-cells-at c = place_in c.args.d c.loop-j.cells c.loop-i.i c.loop-j.j c.loop-j.invariant.size c.loop-i-test.true c.loop-j-test.true
+    let e = kept_at c.args.d c.args.cells.now in
+    let low : c.loop-j.j / 2 ≤ c.loop-i.i / 2 = omega (arith, c.loop-j-test.true) in
+    let within : bar c.loop-j.j < c.args.d = omega (arith, c.requires.pairs, c.loop-i-test.true, c.loop-j-test.true) in
+    swept_more c.args.d c.loop-i.i c.loop-j.j e (tight e) c.loop-j.cells c.lower_cell.new.cells c.loop-j.invariant low c.lower_cell.ensures.kept
+    (tight_read c.args.d c.loop-i.i c.loop-j.j e c.loop-j.cells _ _ _ _ _ _ c.loop-j.invariant c.loop-i-test.true low refl (tight_own c.args.d c.loop-i.i 0 c.bar.result (kept_at c.args.d c.args.cells.now) c.loop-i.cells c.cell-own.result c.loop-i.invariant c.loop-i-test.true c.cell-own.ensures c.bar.ensures)
+    (tight_back c.args.d c.loop-i.i c.loop-j.j c.loop-j.j c.bar-in-loop-j.result (kept_at c.args.d c.args.cells.now) c.loop-j.cells c.cell.result c.loop-j.invariant within c.cell.ensures c.bar-in-loop-j.ensures) c.plus-both.ensures c.halved.ensures c.lower_cell.ensures.here)
+    c.lower_cell.ensures.others
 
 pub loop-i-preserved : goal.loop-i-preserved
 loop-i-preserved c = swept_row _ _ _ _ _ _ c.loop-j.invariant c.loop-j-test.false
 
 pub returns-clause-value : goal.returns-clause-value
-returns-clause-value c = swept_all _ _ _ _ _ _ c.loop-i.invariant c.loop-i-test.false
+returns-clause-value c = tight_kept c.args.d c.args.cells.now c.loop-i.cells c.requires.pairs (swept_all _ _ _ _ _ _ c.loop-i.invariant c.loop-i-test.false)

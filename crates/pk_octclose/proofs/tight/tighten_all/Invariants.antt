@@ -1,10 +1,10 @@
+use Rattle.pk_octmat.specs.Half.{kept_at}
 use Rattle.pk_octclose.specs.Closing.{tight}
-use Rattle.pk_octmat.proofs.Swept.{Swept}
-use Rattle.pk_octmat.specs.Octagon.{cell_at}
+use Rattle.pk_octclose.proofs.Swept.{Swept}
 use Rattle.pk_octclose.proofs.tight.tighten_all.Given as goal
 
 abbrev pub invariant-loop-i : goal.invariant-loop-i
-invariant-loop-i l = Swept l.d l.i 0 (cell_at l.d l.fn.cells) (tight (cell_at l.d l.fn.cells)) l.cells
+invariant-loop-i l = Swept l.d l.i 0 (kept_at l.d l.fn.cells) (tight (kept_at l.d l.fn.cells)) l.cells
 
 abbrev pub invariant-loop-j : goal.invariant-loop-j
-invariant-loop-j l = Swept l.d l.i l.j (cell_at l.d l.fn.cells) (tight (cell_at l.d l.fn.cells)) l.cells
+invariant-loop-j l = Swept l.d l.i l.j (kept_at l.d l.fn.cells) (tight (kept_at l.d l.fn.cells)) l.cells

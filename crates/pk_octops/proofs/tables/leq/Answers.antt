@@ -1,18 +1,19 @@
 use Rattle.std.proofs.Common.{ap, sym, ◌∙◌, ◌≡◌, ℕ, ◌*◌}
 use Rattle.std.specs.Prelude.{Some, ◌-ℤ◌}
-use Rattle.pk_octmat.specs.Octagon.{Octagon, entry, side, cell_at}
+use Rattle.pk_octmat.specs.Octagon.{Octagon, entry, side}
+use Rattle.pk_octmat.specs.Half.{kept_at}
 use Rattle.pk_octmat.proofs.Tropical.{at_most_trans}
 use Rattle.pk_octops.proofs.tables.leq.Goals as goal
 
-left : (c : goal.After-leq_cells) → (i j : ℕ) → cell_at (2 * c.a.inside.vars) c.deref.result.now i j ≡ entry c.args.a.now i j
-left c i j = ap (λ xs. cell_at (2 * c.a.inside.vars) xs i j) c.deref.ensures.value ∙ ap (λ (o : Octagon). entry o i j) c.a.view_is
+left : (c : goal.After-leq_cells) → (i j : ℕ) → kept_at (2 * c.a.inside.vars) c.deref.result.now i j ≡ entry c.args.a.now i j
+left c i j = ap (λ xs. kept_at (2 * c.a.inside.vars) xs i j) c.deref.ensures.value ∙ ap (λ (o : Octagon). entry o i j) c.a.view_is
 
-right : (c : goal.After-leq_cells) → (i j : ℕ) → cell_at (2 * c.a.inside.vars) c.deref-2.result.now i j ≡ entry c.args.b.now i j
+right : (c : goal.After-leq_cells) → (i j : ℕ) → kept_at (2 * c.a.inside.vars) c.deref-2.result.now i j ≡ entry c.args.b.now i j
 right c i j =
     let a = ap (λ (o : Octagon). o.vars) c.a.view_is in
     let b = ap (λ (o : Octagon). o.vars) c.b.view_is in
     let same : c.a.inside.vars ≡ c.b.inside.vars = a ∙ c.requires ∙ sym b in
-    ap (λ xs. cell_at (2 * c.a.inside.vars) xs i j) c.deref-2.ensures.value ∙ ap (λ n. cell_at (2 * n) c.b.inside.cells.items i j) same ∙ ap (λ (o : Octagon). entry o i j) c.b.view_is
+    ap (λ xs. kept_at (2 * c.a.inside.vars) xs i j) c.deref-2.ensures.value ∙ ap (λ n. kept_at (2 * n) c.b.inside.cells.items i j) same ∙ ap (λ (o : Octagon). entry o i j) c.b.view_is
 
 pub returns-clause-value : goal.returns-clause-value
 returns-clause-value c = (

@@ -1,0 +1,6 @@
+use Rattle.pk_octclose.proofs.Lowered.{InRun}
+use Rattle.pk_octmat.specs.Half.{kept_at}
+use Rattle.pk_octclose.proofs.after.lower_line.Given as goal
+
+abbrev pub invariant-loop-b : goal.invariant-loop-b
+invariant-loop-b l = InRun l.b l.first (kept_at l.d l.cells l.a) l.fn.line l.line

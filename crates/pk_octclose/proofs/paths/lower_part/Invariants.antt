@@ -1,0 +1,5 @@
+use Rattle.pk_octclose.proofs.Rows.{InPart}
+use Rattle.pk_octclose.proofs.paths.lower_part.Given as goal
+
+abbrev pub invariant-loop-j : goal.invariant-loop-j
+invariant-loop-j l = InPart l.d l.k l.i l.start l.j l.first l.fn.cells l.cells
