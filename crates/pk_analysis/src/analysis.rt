@@ -171,4 +171,8 @@ impl<'g> System for Analysis<'g> {
     ) -> Result<Decision<Cell<State>>, AllocError> {
         self.phased.decide(alloc, x, inputs)
     }
+
+    fn is_unchanged(&self, e: u32, old: &Cell<State>, new: &Cell<State>) -> bool {
+        self.phased.is_unchanged(e, old, new)
+    }
 }

@@ -204,6 +204,10 @@ impl<'g> Equate for Flow<'g> {
         a.equals(b)
     }
 
+    fn is_unchanged(&self, old: &State, new: &State) -> bool {
+        old.is_bottom() && new.is_bottom()
+    }
+
     fn joined(&self, alloc: Global, old: &State, new: &State) -> Result<State, AllocError> {
         old.join(alloc, new)
     }

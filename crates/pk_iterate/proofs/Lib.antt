@@ -10,6 +10,7 @@ pub mod Run_values
 pub mod Held
 pub mod Stands
 pub mod Turns
+pub mod Up_to_date
 pub mod Settles
 pub mod Ended
 pub mod Falling

@@ -1,8 +1,9 @@
 -- A turn of the loop, from the place that it is at.
-use Rattle.std.proofs.Common.{◌≡◌, ℕ, ◌+◌, ◌-◌, ◌*◌, ◌<◌, List, [], ◌∷◌, drop, set, length, get_or, ap, sym, ◌∙◌, subst, arith, sum, All}
+use Rattle.std.proofs.Common.{◌≡◌, ℕ, ◌+◌, ◌-◌, ◌*◌, ◌<◌, List, [], ◌∷◌, drop, set, length, get_or, slice_get, IfSome, ap, sym, ◌∙◌, subst, arith, zero-add, sum, All}
 use Rattle.std.proofs.lemmas.List.Sums.{sum_by-set}
 use Rattle.std.proofs.lemmas.List.Elements.{All-get_or}
-use Rattle.std.proofs.lemmas.List.FromFn.{length-map-range_with_len}
+use Rattle.std.proofs.lemmas.List.FromFn.{length-map-range_with_len, get_or-map-range_with_len}
+use Rattle.std.proofs.lemmas.Option.{slice_get-get_or}
 use Rattle.pk_plan.specs.declared.places.Place.{Place}
 use Rattle.pk_plan.specs.Order.{Level, places_of}
 use Rattle.pk_iterate.specs.Behaviour.{Behaviour, HoldEach, inputs_in, cell_made, goes_back, place_after, LeadsBackWithin, ReadsWithin}
@@ -86,6 +87,14 @@ pub inputs_held : {C : Type 0} (b : Behaviour C) (may_hold : ℕ → C → Type 
 inputs_held b may_hold {order} {elements} {runs = runs} laws reads s e below =
     let f = cell_after b (progress b order (sum runs)).runs in
     rw (s.cells_after, reads_map f elements (b.reads e) (reads e below)) (holds_map may_hold f (b.reads e) (held b may_hold laws order (sum runs)))
+
+-- and so may the element's own cell
+pub own_held : {C : Type 0} (b : Behaviour C) (may_hold : ℕ → C → Type 0) {order : Level} {elements most at : ℕ} {cells : List C} {runs : List ℕ} → MayHold b may_hold → Stands b order elements most cells runs at → (e : ℕ) → e < elements → IfSome (slice_get cells e) (may_hold e)
+own_held b may_hold {order} {elements} {cells = cells} {runs = runs} laws s e below =
+    let f = cell_after b (progress b order (sum runs)).runs in
+    let here = slice_get-get_or cells e (f e) (rw (cells_long s) below) in
+    let is : get_or cells e (f e) ≡ f e = rw s.cells_after (get_or-map-range_with_len f 0 elements e e (f e) below (zero-add e)) in
+    rw (here, is) (held b may_hold laws order (sum runs) e)
 
 -- each run is one of the few that there may be
 pub smaller : {C : Type 0} {b : Behaviour C} {order : Level} {elements most at at' : ℕ} {cells cells' : List C} {runs runs' : List ℕ} (e : ℕ) → Stands b order elements most cells runs at → Stands b order elements most cells' runs' at' → e < elements → runs' ≡ set runs e (get_or runs e 0 + 1) → elements * most - sum runs' < elements * most - sum runs

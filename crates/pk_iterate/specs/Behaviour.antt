@@ -53,6 +53,12 @@ goes_back_in_role b e (Exit back) inputs = is_again (b.decide e inputs)
 abbrev pub goes_back : {C : Type 0} → Behaviour C → Place → List C → Bool
 goes_back b place inputs = goes_back_in_role b place.element place.role inputs
 
+-- whether an element in this role gets the cell that `apply` gives
+abbrev pub is_applied : Role → Bool
+is_applied Vertex = true
+is_applied Head = true
+is_applied (Exit back) = false
+
 -- the place after this one
 abbrev pub place_after : ℕ → Role → Bool → ℕ
 place_after at Vertex again = at + 1

@@ -1,6 +1,7 @@
 pub mod Behaviour
 pub mod Fits
 pub mod Iteration
+pub mod Times
 pub mod Recursion
 pub mod Runs
 pub mod Outcome

@@ -6,6 +6,7 @@ mod front;
 mod laws;
 mod outcome;
 mod systems;
+mod times;
 mod walk;
 
 pub use failure::Solve;

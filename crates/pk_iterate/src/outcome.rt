@@ -30,7 +30,11 @@ impl<C> Cells<C> {
         ensures cells { result.cells ≡ map arc_value front.cells.items }
         ensures runs { result.runs ≡ front.runs.items }
     {
-        let Front { cells, runs } = front;
+        let Front {
+            cells,
+            runs,
+            times: _,
+        } = front;
         Cells { cells, runs }
     }
 

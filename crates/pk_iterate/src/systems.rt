@@ -1,6 +1,6 @@
 // What is iterated: cells, and how an element's cell follows from those that it reads.
 
-ghost use Rattle.std.specs.Prelude.{◌≡◌, ℕ, List, map, IfOk};
+ghost use Rattle.std.specs.Prelude.{◌≡◌, ℕ, List, map, true, IfOk};
 ghost use Rattle.std.specs.Arc.{arc_value};
 
 use std::alloc::{AllocError, Global};
@@ -52,6 +52,15 @@ pub trait System {
     ) -> Result<Decision<Self::Cell>, AllocError>
         requires { HoldEach (may_hold self.now) ((meaning self.now).reads x) (map arc_value inputs.now) }
         ensures { IfOk result (λ d. d ≡ (meaning self.now).decide x (map arc_value inputs.now)) };
+
+    /// Whether the cell that an element gets is surely the one that it had. The answer costs little, and is no where it would cost more.
+    fn is_unchanged(&self, e: u32, old: &Self::Cell, new: &Self::Cell) -> bool
+        requires old { may_hold self.now e old.now }
+        requires new { may_hold self.now e new.now }
+        ensures { result ≡ true → old.now ≡ new.now }
+    {
+        false
+    }
 
     // Each first cell, and each cell made of cells that may be held, may be held.
     ghost first_held: { (s : Self) (e : ℕ) → may_hold s e ((meaning s).first e) };

@@ -21,7 +21,7 @@ pub enum Part {
 
 /// Equations on values, and which values each point may hold.
 pub trait Equate {
-    ghost use Rattle.std.specs.Prelude.{◌≡◌, ℕ, map, IfOk};
+    ghost use Rattle.std.specs.Prelude.{◌≡◌, ℕ, map, true, IfOk};
     ghost use Rattle.std.specs.Arc.{arc_value};
     ghost use Rattle.pk_iterate.specs.Behaviour.{HoldEach};
     ghost use Rattle.pk_phases.specs.Equations.{Equations, KeepHeld, AreHeld, reads_in, may_hold_of, new_value};
@@ -74,6 +74,11 @@ pub trait Equate {
     fn same(&self, a: &Self::Value, b: &Self::Value) -> bool
         requires { AreHeld (held self.now) a.now b.now }
         ensures { result ≡ (meaning self.now).ops.same a.now b.now };
+
+    /// Whether the new value is surely the old. The answer costs little, and is no where it would cost more.
+    fn is_unchanged(&self, old: &Self::Value, new: &Self::Value) -> bool
+        requires { AreHeld (held self.now) old.now new.now }
+        ensures { result ≡ true → old.now ≡ new.now };
 
     /// The old value joined with the new.
     fn joined(

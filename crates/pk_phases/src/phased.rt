@@ -186,4 +186,14 @@ where
             }
         }
     }
+
+    fn is_unchanged(&self, _e: u32, old: &Self::Cell, new: &Self::Cell) -> bool {
+        match old {
+            Cell::Value(old) => match new {
+                Cell::Value(new) => self.equations.is_unchanged(old, new),
+                Cell::Exit(_) => false,
+            },
+            Cell::Exit(_) => false,
+        }
+    }
 }

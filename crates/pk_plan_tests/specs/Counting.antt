@@ -4,13 +4,16 @@ use Rattle.pk_iterate.specs.declared.systems.Decision.{Decision}
 use Rattle.pk_iterate.specs.declared.systems.Decision.TheVariants.{Stable, Again}
 use Rattle.pk_iterate.specs.Behaviour.{Behaviour}
 
--- the head reads the entry, the body and itself, the body the head, and the exit the head, the entry and the body
+-- The head reads the entry, the body and itself, the body the head, and the exit the head, the entry and the body. One more vertex
+-- reads the entry alone.
 abbrev pub reads_of : ℕ → List ℕ
 reads_of zero = []
 reads_of (suc zero) = 0 ∷ 2 ∷ 1 ∷ []
 reads_of (suc (suc zero)) = 1 ∷ []
 reads_of (suc (suc (suc zero))) = 1 ∷ 0 ∷ 2 ∷ []
-reads_of (suc (suc (suc (suc n)))) = []
+reads_of (suc (suc (suc (suc zero)))) = []
+reads_of (suc (suc (suc (suc (suc zero))))) = 0 ∷ []
+reads_of (suc (suc (suc (suc (suc (suc n)))))) = []
 
 abbrev pub bound_of : List ℕ → ℕ
 bound_of [] = 0

@@ -26,11 +26,14 @@ decision-le (a ∷ b ∷ []) = omega arith
 decision-le (h ∷ a ∷ b ∷ []) = by_test (nat_le (max a b) h)
 decision-le (a ∷ b ∷ c ∷ d ∷ more) = omega arith
 
-pub counting_reads : ReadsWithin counting 5
+pub counting_reads : ReadsWithin counting 6
 counting_reads zero below = λ k d in_range. absurd (omega arith)
 counting_reads (suc zero) below =
-    All-from_recursion (λ (u : ℕ). u < 5) (0 ∷ 2 ∷ 1 ∷ []) (omega arith, (omega arith, (omega arith, tt)))
-counting_reads (suc (suc zero)) below = All-from_recursion (λ (u : ℕ). u < 5) (1 ∷ []) (omega arith, tt)
+    All-from_recursion (λ (u : ℕ). u < 6) (0 ∷ 2 ∷ 1 ∷ []) (omega arith, (omega arith, (omega arith, tt)))
+counting_reads (suc (suc zero)) below = All-from_recursion (λ (u : ℕ). u < 6) (1 ∷ []) (omega arith, tt)
 counting_reads (suc (suc (suc zero))) below =
-    All-from_recursion (λ (u : ℕ). u < 5) (1 ∷ 0 ∷ 2 ∷ []) (omega arith, (omega arith, (omega arith, tt)))
-counting_reads (suc (suc (suc (suc n)))) below = λ k d in_range. absurd (omega arith)
+    All-from_recursion (λ (u : ℕ). u < 6) (1 ∷ 0 ∷ 2 ∷ []) (omega arith, (omega arith, (omega arith, tt)))
+counting_reads (suc (suc (suc (suc zero)))) below = λ k d in_range. absurd (omega arith)
+counting_reads (suc (suc (suc (suc (suc zero))))) below =
+    All-from_recursion (λ (u : ℕ). u < 6) (0 ∷ []) (omega arith, tt)
+counting_reads (suc (suc (suc (suc (suc (suc n)))))) below = λ k d in_range. absurd (omega arith)

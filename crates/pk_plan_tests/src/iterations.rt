@@ -9,9 +9,11 @@ use std::marker::Model;
 use std::sync::Arc;
 use std::test::Fail;
 
-// A loop that counts to ten.
+// A loop that counts to ten, with a vertex that reads the entry alone. It tells which cells are unchanged, or doesn't.
 #[derive(Drop)]
-struct Counting;
+struct Counting {
+    tells: bool,
+}
 
 impl System for Counting {
     ghost use Rattle.pk_plan_tests.specs.Counting.{counting};
@@ -36,6 +38,7 @@ impl System for Counting {
             1 => &[0, 2, 1],
             2 => &[1],
             3 => &[1, 0, 2],
+            5 => &[0],
             _ => &[],
         }
     }
@@ -68,6 +71,10 @@ impl System for Counting {
             }
             _ => Ok(Decision::Stable(0)),
         }
+    }
+
+    fn is_unchanged(&self, _e: u32, old: &u64, new: &u64) -> bool {
+        self.tells && old == new
     }
 }
 
@@ -132,9 +139,9 @@ impl System for Rows {
     }
 }
 
-// The entry, the loop of a head and a body with its exit, and the end.
+// The entry, the loop of a head, a body and a vertex that reads the entry, with its exit, and the end.
 fn order(alloc: Global) -> Result<Order, AllocError>
-    ensures { IfOk result (λ p. p.elements ≡ 5) }
+    ensures { IfOk result (λ p. p.elements ≡ 6) }
 {
     let places = vec![in alloc;
         Place {
@@ -150,47 +157,64 @@ fn order(alloc: Global) -> Result<Order, AllocError>
             role: Role::Vertex
         },
         Place {
+            element: 5,
+            role: Role::Vertex
+        },
+        Place {
             element: 3,
-            role: Role::Exit { back: 2 }
+            role: Role::Exit { back: 3 }
         },
         Place {
             element: 4,
             role: Role::Vertex
         },
     ]?;
-    Ok(Order::new(5, places))
+    Ok(Order::new(6, places))
 }
 
-fn count(alloc: Global, most: u64) -> Result<Cells<u64>, Solve>
+fn count(alloc: Global, tells: bool, most: u64) -> Result<Cells<u64>, Solve>
     requires { most < 100 }
-    ensures cells { IfOk result (λ it. length it.cells ≡ 5) }
-    ensures runs { IfOk result (λ it. length it.runs ≡ 5) }
+    ensures cells { IfOk result (λ it. length it.cells ≡ 6) }
+    ensures runs { IfOk result (λ it. length it.runs ≡ 6) }
 {
-    iterate(alloc, &Counting, &order(alloc)?, most)
+    iterate(alloc, &Counting { tells }, &order(alloc)?, most)
 }
 
 fn fill(alloc: Global) -> Result<Cells<Row>, Solve>
-    ensures cells { IfOk result (λ it. length it.cells ≡ 5) }
-    ensures runs { IfOk result (λ it. length it.runs ≡ 5) }
+    ensures cells { IfOk result (λ it. length it.cells ≡ 6) }
+    ensures runs { IfOk result (λ it. length it.runs ≡ 6) }
 {
     iterate(alloc, &Rows, &order(alloc)?, 1)
 }
 
 #[test]
 fn eleven_runs_are_enough(rt: HostRuntime) -> Result<(), Fail> {
-    let cells = count(rt.alloc(), 11).ok().ok_or("no cells")?;
+    let cells = count(rt.alloc(), true, 11).ok().ok_or("no cells")?;
     assert!(rt; cells.run(0) == 1);
     assert!(rt; cells.run(1) == 11);
     assert!(rt; cells.run(3) == 11);
+    assert!(rt; cells.run(5) == 11);
     assert!(rt; **cells.cell(1) == 10);
     assert!(rt; **cells.cell(4) == 0);
+    assert!(rt; **cells.cell(5) == 1);
+    Ok(())
+}
+
+#[test]
+fn what_is_told_changes_nothing(rt: HostRuntime) -> Result<(), Fail> {
+    let told = count(rt.alloc(), true, 11).ok().ok_or("no cells")?;
+    let untold = count(rt.alloc(), false, 11).ok().ok_or("no cells")?;
+    for e in 0..6 {
+        assert!(rt; told.run(e) == untold.run(e));
+        assert!(rt; **told.cell(e) == **untold.cell(e));
+    }
     Ok(())
 }
 
 #[test]
 fn fewer_runs_are_too_few(rt: HostRuntime) -> Result<(), Fail> {
     for (most, over, next) in [(10, 1, 11), (0, 0, 1)] {
-        let told = count(rt.alloc(), most).err();
+        let told = count(rt.alloc(), true, most).err();
         assert!(rt;
             matches!(told, Some(Solve::RunLimit { element, run }) if element == over && run == next)
         );
