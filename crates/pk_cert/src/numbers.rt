@@ -18,7 +18,7 @@ fn with_digit(number: Decimal, b: u8, most: Decimal) -> Option<Decimal>
     ensures { MatchOption result ((w : ℕ) → IsDigitBehind (value_of number) b w → w ≤ value_of most → ⊥)
         (λ d. IsDecimal d × IsDigitBehind (value_of number) b (value_of d) × (value_of d ≤ value_of most)) }
 {
-    if b < b'0' || b > b'9' || number.tens > most.tens / 10 {
+    if b < b'0' || b > b'9' || number.tens >= 10_000_000_000_000_000_000_000_000_000_000_000_000 {
         return None;
     }
     let tens = number.tens * 10 + number.last as u128;

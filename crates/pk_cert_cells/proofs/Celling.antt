@@ -16,13 +16,13 @@ use Rattle.pk_cert.specs.declared.rows.Row.{Row}
 use Rattle.pk_cert.specs.Beginnings.{TextsOf, IsStop, IsFirstWrong}
 use Rattle.pk_cert.specs.Rows.{Line, IsLine, line_text, AreLines, lines_text, kept_line, seen_line, row_view}
 use Rattle.pk_cert.specs.Heads.{HeadOf, head_text}
-use Rattle.pk_cert.specs.Pieces.{AreFirst, IsRowRead}
+use Rattle.pk_cert.specs.Pieces.{AreFirst}
 use Rattle.pk_cert.specs.Certificates.{certificate_text, IsCertificate}
 use Rattle.pk_cert.proofs.Sequences.{AreReading, begun, ended, next, stopped}
 use Rattle.pk_cert.proofs.Lines.{line_told, certificate_stops, certificate_goes_on, certificate_ends}
 use Rattle.pk_cert_states.specs.Lines.{line_of, shape_of, IsState}
 use Rattle.pk_cert_states.proofs.Telling.{is_kept, read_is_kept}
-use Rattle.pk_cert_cells.specs.Reading.{cell_of, shape_in, AreReadCells, IsStateless, AreCellsOf, AreCellsRead}
+use Rattle.pk_cert_cells.specs.Reading.{cell_of, shape_in, AreReadCells, IsStateless, AreCellsOf, AreCellsRead, IsNextRead}
 
 module _ (ks : Kinds) (l : Layout) where
   as_many : (lines : List Line) (cells : List (Cell Stated)) (h : AreCellsOf ks l lines cells) → length h.known ≡ length cells
@@ -105,16 +105,16 @@ module _ (ks : Kinds) (l : Layout) where
       let all : points ≡ points - 0 = omega arith in
       ([], omega arith, subst (λ (j : ℕ). AreReading (λ (m : ℕ). IsLine shape) (λ (m : ℕ). line_text) points j bytes [] 0) all (begun (λ (m : ℕ). IsLine shape) (λ (m : ℕ). line_text) points bytes), cells_begun)
 
-  pub so_next : (shape : Shape) (points : ℕ) (bytes : List ℕ) (old new : List (Cell Stated)) (k at : ℕ) (row : Row) (n : ℕ) → CellsSo shape points bytes old k at → k < points → IsRowRead shape (drop at bytes) row n
-      → ((lines : List Line) (line : Line) → length lines ≡ k → row_view row ≡ seen_line line → AreCellsOf ks l lines old → AreCellsOf ks l (lines ++ line ∷ []) new) → CellsSo shape points bytes new (k + 1) (at + n)
-  so_next shape points bytes old new k at row n so h r add =
+  pub so_next : (shape : Shape) (points : ℕ) (bytes : List ℕ) (old new : List (Cell Stated)) (k at n : ℕ) → CellsSo shape points bytes old k at → k < points → IsNextRead ks l shape k (drop at bytes) old new n
+      → CellsSo shape points bytes new (k + 1) (at + n)
+  so_next shape points bytes old new k at n so h r =
       let same : points - 1 - k ≡ points - (k + 1) = omega (arith, h) in
       let before = subst (λ (j : ℕ). AreReading (λ (i : ℕ). IsLine shape) (λ (i : ℕ). line_text) points j bytes so.0 at) (left points k h) so.2 in
       let after = next (λ (i : ℕ). IsLine shape) (λ (i : ℕ). line_text) (λ j. line_told shape) points (points - 1 - k) bytes so.0 at r.line n before r.is r.first in (
         so.0 ++ r.line ∷ [],
         omega (arith, h),
         subst (λ (j : ℕ). AreReading (λ (i : ℕ). IsLine shape) (λ (i : ℕ). line_text) points j bytes (so.0 ++ r.line ∷ []) (at + n)) same after,
-        add so.0 r.line (omega (arith, so.2.count, so.1)) r.seen so.3,
+        r.cells_of so.0 (omega (arith, so.2.count, so.1)) so.3,
       )
 
   bottom_there : (shape : Shape) (m : ℕ) → (line : Line) × IsLine shape line

@@ -1,4 +1,3 @@
-mod Spacing
 mod Joining
 mod Celling
 mod ReadingBack

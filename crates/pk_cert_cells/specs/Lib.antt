@@ -1,4 +1,3 @@
-pub mod Symbols
 pub mod Cells
 pub mod Reading
 pub mod Laws

@@ -1,5 +1,5 @@
 -- The cells of a certificate, as they are read.
-use Rattle.std.specs.Prelude.{◌≡◌, ℕ, ◌<◌, ◌≤◌, List, map, length, take, slice_index_or, Option, None}
+use Rattle.std.specs.Prelude.{◌≡◌, ℕ, ◌<◌, ◌≤◌, List, [], ◌∷◌, ◌++◌, map, length, take, slice_index_or, Option, None}
 use Rattle.pk_graph.specs.Kinds.{Kinds}
 use Rattle.pk_graph.specs.Graphs.{GraphOf, kinds_of}
 use Rattle.pk_state.specs.Layouts.{Layout}
@@ -9,7 +9,7 @@ use Rattle.pk_phases.specs.declared.equations.Cell.{Cell}
 use Rattle.pk_phases.specs.declared.equations.Cell.TheVariants.{Value}
 use Rattle.pk_cert.specs.declared.rows.Shape.{Shape}
 use Rattle.pk_cert.specs.Beginnings.{IsFirstWrong}
-use Rattle.pk_cert.specs.Rows.{Line, AreLines, lines_text}
+use Rattle.pk_cert.specs.Rows.{Line, IsLine, line_text, AreLines, lines_text}
 use Rattle.pk_cert.specs.Heads.{HeadOf}
 use Rattle.pk_cert.specs.Pieces.{AreFirst}
 use Rattle.pk_cert.specs.Certificates.{certificate_text, IsCertificate}
@@ -67,3 +67,12 @@ pub record AreCellsRead (ks : Kinds) (l : Layout) (shape : Shape) (points : ℕ)
   pub are : AreLines shape points lines
   pub first : AreFirst (lines_text lines) bytes n
   pub cells_of : AreCellsOf ks l lines cells
+
+-- The first n bytes are a line; where each of the k lines before it has a cell and it is of a state, its cell is added.
+pub record IsNextRead (ks : Kinds) (l : Layout) (shape : Shape) (k : ℕ) (bytes : List ℕ) (old new : List (Cell Stated))
+    (n : ℕ) : Type 0 where
+  pub line : Line
+  pub is : IsLine shape line
+  pub first : AreFirst (line_text line) bytes n
+  pub cells_of : (lines : List Line) → length lines ≡ k → AreCellsOf ks l lines old →
+      AreCellsOf ks l (lines ++ line ∷ []) new

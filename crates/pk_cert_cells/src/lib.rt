@@ -1,13 +1,12 @@
 //! The cells of certificates: what is known at the points of a graph, written and read.
 #![tactic(auto)]
 
+mod beside;
 mod failures;
+mod frames;
 mod heads;
 mod laws;
-mod lines;
 mod reading;
-mod symbols;
-mod values;
 mod writing;
 
 pub use failures::{Unfit, Unwritten};

@@ -2,35 +2,66 @@
 
 ghost use Rattle.std.specs.Prelude.{◌≡◌, ◌++◌, ◌∷◌, [], ◌+◌, ◌<◌, ◌≤◌, ◌^◌, ℕ, List, IfOk, OnOk, MatchResult, MatchOption, length, map};
 ghost use Rattle.std.specs.Arc.{arc_value};
+ghost use Rattle.pk_graph.specs.Kinds.{Kinds};
 ghost use Rattle.pk_graph.specs.Graphs.{kinds_of};
 ghost use Rattle.pk_graph.specs.Shown.{graph_view};
 ghost use Rattle.pk_transfer.specs.Graphs.{layout_of};
 ghost use Rattle.pk_cert.specs.Beginnings.{TextsOf};
 ghost use Rattle.pk_cert.specs.Heads.{head_view};
-ghost use Rattle.pk_cert.specs.Rows.{Line, AreLines, lines_text, row_view, seen_line};
+ghost use Rattle.pk_cert.specs.Rows.{Line, IsLine, line_text, AreLines, lines_text, row_view, seen_line};
 ghost use Rattle.pk_cert.specs.Pieces.{IsHeadRead, StopsAt};
-ghost use Rattle.pk_cert_states.specs.Lines.{shape_of};
-ghost use Rattle.pk_cert_cells.specs.Reading.{AreReadCells, IsUnfit, AreCellsOf, AreCellsRead};
+ghost use Rattle.pk_cert_states.specs.Lines.{line_of, shape_of};
+ghost use Rattle.pk_cert_lines.specs.Told.{IsTold};
+ghost use Rattle.pk_cert_cells.specs.Reading.{AreReadCells, IsUnfit, AreCellsOf, AreCellsRead, IsNextRead};
 
+use crate::beside::{read_beside, told_beside};
 use crate::failures::Unfit;
+use crate::frames::framed;
 use pk_cert::{Head, Row, Shape, Unread, read_row};
+use pk_cert_lines::Told;
 use pk_cert_states::state_of;
 use pk_graph::Graph;
 use pk_iterate::Cells;
 use pk_phases::Cell;
 use pk_state::{Frame, State};
-use pk_transfer::frame;
 use std::alloc::{AllocError, Global};
 use std::sync::Arc;
 
-// Has the next states share with this one, if some run comes there.
-fn keep(alloc: Global, last: &mut State, state: &State) -> Result<(), AllocError>
-    requires { state.now.layout ≡ last.old.layout }
-    ensures { OnOk result (last.new.layout ≡ last.old.layout) }
+// Has the next lines be read beside this one, if some run comes there.
+fn keep(
+    alloc: Global,
+    graph: &Graph,
+    frame: &Arc<Frame>,
+    told: &mut Told,
+    state: &State,
+) -> Result<(), AllocError>
+    requires frame { (oct : ℕ) × (arc_value frame.now ≡ layout_of (graph_view graph.now) oct) }
+    requires told { IsTold (kinds_of (graph_view graph.now)) (arc_value frame.now) told.old }
+    requires state { state.now.layout ≡ arc_value frame.now }
+    ensures { OnOk result (IsTold (kinds_of (graph_view graph.now)) (arc_value frame.now) told.new) }
 {
     if !state.is_bottom() {
-        *last = state.copy(alloc)?;
+        *told = told_beside(alloc, graph, frame, state.copy(alloc)?)?;
     }
+    Ok(())
+}
+
+// Adds the cell of a line that was read beside another, behind k lines, if each of these had one.
+fn add_told(
+    alloc: Global,
+    cells: &mut Vec<Arc<Cell<State>>>,
+    state: &State,
+    k: usize,
+) -> Result<(), AllocError>
+    ensures { OnOk result ((ks : Kinds) (lines : List Line) → length lines ≡ k →
+        AreCellsOf ks state.now.layout lines (map arc_value cells.old.items) →
+        AreCellsOf ks state.now.layout (lines ++ line_of ks state.now.facts ∷ []) (map arc_value cells.new.items)) }
+{
+    if k != cells.len() {
+        return Ok(());
+    }
+    state.is_stated();
+    cells.push(Arc::new(alloc, Cell::Value(state.copy(alloc)?))?)?;
     Ok(())
 }
 
@@ -40,13 +71,13 @@ fn add_cell(
     graph: &Graph,
     frame: &Arc<Frame>,
     cells: &mut Vec<Arc<Cell<State>>>,
-    last: &mut State,
+    told: &mut Told,
     row: &Row,
     k: usize,
 ) -> Result<(), AllocError>
-    requires last { last.old.layout ≡ arc_value frame.now }
     requires frame { (oct : ℕ) × (arc_value frame.now ≡ layout_of (graph_view graph.now) oct) }
-    ensures last { OnOk result (last.new.layout ≡ arc_value frame.now) }
+    requires told { IsTold (kinds_of (graph_view graph.now)) (arc_value frame.now) told.old }
+    ensures told { OnOk result (IsTold (kinds_of (graph_view graph.now)) (arc_value frame.now) told.new) }
     ensures cells { let ks = kinds_of (graph_view graph.now) in
         let l = arc_value frame.now in
         OnOk result ((lines : List Line) (line : Line) → length lines ≡ k → row_view row.now ≡ seen_line line →
@@ -56,13 +87,73 @@ fn add_cell(
     if cells.len() != k {
         return Ok(());
     }
-    match state_of(alloc, graph, frame, row, last)? {
+    match state_of(alloc, graph, frame, row, &told.state)? {
         None => Ok(()),
         Some(state) => {
             state.is_stated();
-            keep(alloc, last, &state)?;
+            keep(alloc, graph, frame, told, &state)?;
             cells.push(Arc::new(alloc, Cell::Value(state))?)?;
             Ok(())
+        }
+    }
+}
+
+// Adds the cell of the line that stands first, behind k others, and answers how many bytes the line is.
+fn read_alone(
+    alloc: Global,
+    bytes: &[u8],
+    graph: &Graph,
+    frame: &Arc<Frame>,
+    shape: Shape,
+    cells: &mut Vec<Arc<Cell<State>>>,
+    told: &mut Told,
+    k: usize,
+) -> Result<usize, Unread>
+    requires frame { (oct : ℕ) × (arc_value frame.now ≡ layout_of (graph_view graph.now) oct) }
+    requires size { shape.numbers + shape.bounds < 2 ^ 64 }
+    requires told { IsTold (kinds_of (graph_view graph.now)) (arc_value frame.now) told.old }
+    ensures told { OnOk result (IsTold (kinds_of (graph_view graph.now)) (arc_value frame.now) told.new) }
+    ensures line { MatchResult result
+        (λ n. IsNextRead (kinds_of (graph_view graph.now)) (arc_value frame.now) shape k bytes.now
+        (map arc_value cells.old.items) (map arc_value cells.new.items) n)
+        (λ e. StopsAt (TextsOf (IsLine shape) line_text) bytes.now e) }
+{
+    match read_row(alloc, bytes, shape) {
+        Err(e) => Err(e),
+        Ok((row, n)) => {
+            add_cell(alloc, graph, frame, cells, told, &row, k)?;
+            Ok(n)
+        }
+    }
+}
+
+// The same, beside the line before it where it differs in few parts.
+fn read_next(
+    alloc: Global,
+    bytes: &[u8],
+    graph: &Graph,
+    frame: &Arc<Frame>,
+    shape: Shape,
+    cells: &mut Vec<Arc<Cell<State>>>,
+    told: &mut Told,
+    k: usize,
+) -> Result<usize, Unread>
+    requires frame { (oct : ℕ) × (arc_value frame.now ≡ layout_of (graph_view graph.now) oct) }
+    requires size { shape.numbers + shape.bounds < 2 ^ 64 }
+    requires shape { shape ≡ shape_of (kinds_of (graph_view graph.now)) (arc_value frame.now) }
+    requires told { IsTold (kinds_of (graph_view graph.now)) (arc_value frame.now) told.old }
+    ensures told { OnOk result (IsTold (kinds_of (graph_view graph.now)) (arc_value frame.now) told.new) }
+    ensures line { MatchResult result
+        (λ n. IsNextRead (kinds_of (graph_view graph.now)) (arc_value frame.now) shape k bytes.now
+        (map arc_value cells.old.items) (map arc_value cells.new.items) n)
+        (λ e. StopsAt (TextsOf (IsLine shape) line_text) bytes.now e) }
+{
+    match read_beside(alloc, graph, frame, told, bytes)? {
+        None => read_alone(alloc, bytes, graph, frame, shape, cells, told, k),
+        Some(n) => {
+            told.state.is_stated();
+            add_told(alloc, cells, &told.state, k)?;
+            Ok(n)
         }
     }
 }
@@ -77,33 +168,32 @@ fn cells_of(
 ) -> Result<(Vec<Arc<Cell<State>>>, usize), Unread>
     requires frame { (oct : ℕ) × (arc_value frame.now ≡ layout_of (graph_view graph.now) oct) }
     requires size { shape.numbers + shape.bounds < 2 ^ 64 }
+    requires shape { shape ≡ shape_of (kinds_of (graph_view graph.now)) (arc_value frame.now) }
     ensures { let points = length (graph_view graph.now).points in MatchResult result
         (λ r. AreCellsRead (kinds_of (graph_view graph.now)) (arc_value frame.now) shape points bytes.now
         (map arc_value r.0.items) r.1)
         (λ e. StopsAt (TextsOf (AreLines shape points) lines_text) bytes.now e) }
 {
     let mut cells = Vec::new(alloc);
-    let mut last = State::bottom(Arc::try_clone(frame)?);
+    let mut told = told_beside(alloc, graph, frame, State::bottom(Arc::try_clone(frame)?))?;
     let mut at = 0;
     for k in 0..graph.points() {
-        match read_row(alloc, &bytes[at..], shape) {
+        match read_next(
+            alloc,
+            &bytes[at..],
+            graph,
+            frame,
+            shape,
+            &mut cells,
+            &mut told,
+            k,
+        ) {
             Err(Unread::Byte(n)) => return Err(Unread::Byte(at + n)),
             Err(Unread::Memory) => return Err(Unread::Memory),
-            Ok((row, n)) => {
-                add_cell(alloc, graph, frame, &mut cells, &mut last, &row, k)?;
-                at += n;
-            }
+            Ok(n) => at += n,
         }
     }
     Ok((cells, at))
-}
-
-// The frame of a graph's states.
-fn framed(alloc: Global, graph: &Graph, oct: usize) -> Result<Arc<Frame>, AllocError>
-    requires { oct < 2 ^ 31 }
-    ensures { IfOk result (λ f. arc_value f ≡ layout_of (graph_view graph.now) oct) }
-{
-    Ok(Arc::new(alloc, frame(alloc, graph, oct)?)?)
 }
 
 // How many numbers and bounds the lines of a graph have, if these can be counted.
@@ -124,7 +214,7 @@ fn shape(graph: &Graph, frame: &Frame) -> Option<Shape>
 }
 
 /// What is known at each point of a graph by the lines behind a certificate's head. A line is made a state when it is
-/// read, and isn't kept; it shares with the one before it what both have.
+/// read, and isn't kept; what it has of the one before it is shared and isn't parsed.
 pub fn read_cells(
     alloc: Global,
     bytes: &[u8],

@@ -6,11 +6,13 @@ ghost use Rattle.pk_graph.specs.Shown.{graph_view};
 ghost use Rattle.pk_transfer.specs.Graphs.{layout_of};
 ghost use Rattle.pk_cert.specs.Rows.{line_text, lines_text};
 ghost use Rattle.pk_cert_states.specs.Lines.{line_of};
+ghost use Rattle.pk_cert_lines.specs.Told.{IsTold};
 ghost use Rattle.pk_cert_cells.specs.Cells.{state_in, facts_in, AreCells, head_of, cells_text, most_bytes, IsUnwritten};
 
 use crate::failures::Unwritten;
+use crate::frames::framed;
 use crate::heads::write_head;
-use crate::lines::write_line;
+use pk_cert_lines::{Told, told_of, write_line};
 use pk_graph::Graph;
 use pk_iterate::Cells;
 use pk_phases::Cell;
@@ -23,30 +25,37 @@ pub const MOST_BYTES: usize = 67_108_864;
 
 // Writes the line of a cell.
 fn write_cell(
+    alloc: Global,
     bytes: &mut Vec<u8>,
     graph: &Graph,
     frame: &Frame,
+    told: &mut Told,
     cell: &Cell<State>,
 ) -> Result<(), AllocError>
     requires frame { (oct : ℕ) × (frame.now ≡ layout_of (graph_view graph.now) oct) }
+    requires told { IsTold (kinds_of (graph_view graph.now)) frame.now told.old }
     requires over { (state_in frame.now cell.now).layout ≡ frame.now }
-    ensures { OnOk result (bytes.new.items ≡ bytes.old.items
+    ensures told { OnOk result (IsTold (kinds_of (graph_view graph.now)) frame.now told.new) }
+    ensures bytes { OnOk result (bytes.new.items ≡ bytes.old.items
         ++ line_text (line_of (kinds_of (graph_view graph.now)) (state_in frame.now cell.now).facts)) }
 {
     match cell {
-        Cell::Value(state) => write_line(bytes, graph, frame, state),
+        Cell::Value(state) => write_line(alloc, bytes, graph, frame, told, state),
         Cell::Exit(_) => bytes.extend_from_slice(b"bot\n"),
     }
 }
 
 // Writes the line of each point, as long as these aren't too many bytes.
 fn write_cells(
+    alloc: Global,
     bytes: &mut Vec<u8>,
     graph: &Graph,
     frame: &Frame,
+    told: &mut Told,
     cells: &Cells<Cell<State>>,
 ) -> Result<(), Unwritten>
     requires frame { (oct : ℕ) × (frame.now ≡ layout_of (graph_view graph.now) oct) }
+    requires told { IsTold (kinds_of (graph_view graph.now)) frame.now told.old }
     requires cells { AreCells frame.now (length (graph_view graph.now).points) cells.now.cells }
     ensures { let known = facts_in frame.now (length (graph_view graph.now).points) cells.now.cells in
         let all = bytes.old.items ++ lines_text (map (line_of (kinds_of (graph_view graph.now))) known) in
@@ -57,7 +66,7 @@ fn write_cells(
         if bytes.len() > MOST_BYTES {
             return Err(Unwritten::Limit);
         }
-        write_cell(bytes, graph, frame, cells.cell(v as u32))?;
+        write_cell(alloc, bytes, graph, frame, told, cells.cell(v as u32))?;
     }
     if bytes.len() > MOST_BYTES {
         Err(Unwritten::Limit)
@@ -82,10 +91,12 @@ pub fn write(
     ensures { let all = cells_text (graph_view graph.now) (head_of text.now oct entry.now) cells.now.cells in
         MatchResult result (λ bytes. (bytes.items ≡ all) × (length all ≤ most_bytes)) (IsUnwritten all) }
 {
+    let nowhere = State::bottom(framed(alloc, graph, oct as usize)?);
     let frame = frame(alloc, graph, oct as usize)?;
+    let mut told = told_of(alloc, graph, &frame, nowhere)?;
     let mut bytes = Vec::new(alloc);
     write_head(&mut bytes, text, oct, entry)?;
-    match write_cells(&mut bytes, graph, &frame, cells) {
+    match write_cells(alloc, &mut bytes, graph, &frame, &mut told, cells) {
         Err(e) => Err(e),
         Ok(()) => Ok(bytes),
     }

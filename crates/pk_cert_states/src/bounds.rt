@@ -115,11 +115,7 @@ fn made(alloc: Global, symbols: &[Symbol], n: u32) -> Result<Matrix, AllocError>
 }
 
 /// The octagon over n variables of which the symbols are the bounds, row by row, if there is one.
-pub(crate) fn octagon(
-    alloc: Global,
-    symbols: &[Symbol],
-    n: u32,
-) -> Result<Option<Matrix>, AllocError>
+pub fn octagon(alloc: Global, symbols: &[Symbol], n: u32) -> Result<Option<Matrix>, AllocError>
     requires few { n < 2 ^ 31 }
     requires size { length symbols.now ≡ 2 * n * (2 * n) }
     ensures { IfOk result (λ o. MatchOption o ((m : Octagon) → AreBoundsOf n symbols.now m → ⊥)

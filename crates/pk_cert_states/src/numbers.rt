@@ -92,7 +92,7 @@ fn first_four(symbols: &[Symbol]) -> Option<((Symbol, Symbol), (Symbol, Symbol),
 }
 
 /// The value of which the first four symbols are the numbers, and the symbols behind them.
-pub(crate) fn first_value(symbols: &[Symbol], t: IntType) -> Option<(Value, &[Symbol])>
+pub fn first_value(symbols: &[Symbol], t: IntType) -> Option<(Value, &[Symbol])>
     ensures { MatchOption result ((k : Known) → IsFirst t symbols.now k → ⊥)
         (λ p. IsValue t p.0 × (symbols.now ≡ map kept (four_of p.0) ++ p.1.now)) }
 {

@@ -12,6 +12,9 @@ use Rattle.pk_cert_cells.specs.Reading.{AreReadCells, AreCellsRead, IsStateless}
 use Rattle.pk_cert_cells.proofs.Celling.{read_stops, read_goes_on, read_stateless, read_whole}
 use Rattle.pk_cert_cells.proofs.reading.read_cells.Goals as goal
 
+pub cells_of-requires-clause-shape : goal.cells_of-requires-clause-shape
+cells_of-requires-clause-shape c = c.in-Some.ensures.0 ∙ ap (shape_of (kinds_of (graph_view c.args.graph.now))) c.deref.ensures
+
 pub returns-in-Err-Byte : goal.returns-in-Err-Byte
 returns-in-Err-Byte c =
     let g = graph_view c.args.graph.now in

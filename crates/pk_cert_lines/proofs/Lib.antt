@@ -1,0 +1,3 @@
+pub mod Spacing
+mod Parting
+mod Telling

@@ -1,0 +1,111 @@
+-- Symbols with a space behind each, and the line that they make.
+use Rattle.std.specs.Prelude.{◌≡◌, ℕ, zero, suc, ◌+◌, ◌*◌, ◌<◌, ◌≤◌, ◌==◌, Bool, false, if◌then◌else◌, ℤ, List, [], ◌∷◌, ◌++◌, length, take, slice_index_or, slice_set, Option, Some, None}
+use Rattle.std.proofs.Common.{arith, refl, sym, ap, ◌∙◌, append_assoc}
+use Rattle.std.proofs.lemmas.Bool.Decides.{nat_tests}
+use Rattle.std.proofs.lemmas.Grind.{flat_map-append}
+use Rattle.std.proofs.lemmas.List.{length-append, append-nil}
+use Rattle.std.proofs.Math.Seq.{take-suc}
+use Rattle.pk_graph.specs.Kinds.{Kinds, kind_at}
+use Rattle.pk_value.specs.Known.{Known}
+use Rattle.pk_octmat.specs.Octagon.{entry}
+use Rattle.pk_octmat.proofs.Cells.{cell_in, place_in}
+use Rattle.pk_state.specs.Layouts.{Layout}
+use Rattle.pk_state.specs.Facts.{Facts, AreFactsIf}
+use Rattle.pk_state.specs.Changes.{known_in, bound_in}
+use Rattle.pk_cert.specs.Rows.{symbol_text, end_of, symbols_text}
+use Rattle.pk_cert_states.specs.Lines.{is_one_of, fours_of}
+use Rattle.pk_cert_states.proofs.Fours.{fours_more}
+use Rattle.pk_cert_lines.specs.Symbols.{spaced, values_in, cells_in, told_if}
+
+abbrev one : Option ℤ → List ℕ
+one z = symbol_text z ++ 32 ∷ []
+
+pub spaced_joined : (a b : List (Option ℤ)) → spaced (a ++ b) ≡ spaced a ++ spaced b
+spaced_joined a b = flat_map-append one a b
+
+-- written behind what was written
+pub spaced_on : (before : List ℕ) (a b : List (Option ℤ)) → (before ++ spaced a) ++ spaced b ≡ before ++ spaced (a ++ b)
+spaced_on before a b = append_assoc before (spaced a) (spaced b) ∙ ap (λ (r : List ℕ). before ++ r) (sym (spaced_joined a b))
+
+-- ---- the end of a line
+
+-- what stands before the last space, or before the line's end
+pub but_last : List (Option ℤ) → List ℕ
+but_last [] = []
+but_last (z ∷ []) = symbol_text z
+but_last (z ∷ (y ∷ zs)) = one z ++ but_last (y ∷ zs)
+
+pub spaced_last : (z : Option ℤ) (zs : List (Option ℤ)) → spaced (z ∷ zs) ≡ but_last (z ∷ zs) ++ 32 ∷ []
+unfolding but_last
+spaced_last z [] = append-nil (one z)
+spaced_last z (y ∷ zs) = ap (λ (r : List ℕ). one z ++ r) (spaced_last y zs) ∙ sym (append_assoc (one z) (but_last (y ∷ zs)) (32 ∷ []))
+
+-- a space ends a symbol that isn't the last
+some_end : (n : ℕ) → end_of (suc n) ≡ 32
+some_end n = let e : (suc n == 0) ≡ false = grind (arith, nat_tests) in ap (λ (b : Bool). if b then 10 else 32) e
+
+pub ended_last : (z : Option ℤ) (zs : List (Option ℤ)) → symbols_text (z ∷ zs) ≡ but_last (z ∷ zs) ++ 10 ∷ []
+unfolding but_last
+ended_last z [] = append-nil (symbol_text z ++ 10 ∷ [])
+ended_last z (y ∷ zs) =
+    ap (λ (e : ℕ). (symbol_text z ++ e ∷ []) ++ symbols_text (y ∷ zs)) (some_end (length zs)) ∙ ap (λ (r : List ℕ). one z ++ r) (ended_last y zs)
+    ∙ sym (append_assoc (one z) (but_last (y ∷ zs)) (10 ∷ []))
+
+-- one byte behind others is written over
+pub last_set : (x : List ℕ) (b c : ℕ) (n : ℕ) → n ≡ length x → slice_set (x ++ b ∷ []) n c ≡ x ++ c ∷ []
+last_set [] b c zero e = refl
+last_set [] b c (suc n) e = absurd (omega (arith, e))
+last_set (y ∷ x) b c zero e = absurd (omega (arith, e))
+last_set (y ∷ x) b c (suc n) e = ap (λ (r : List ℕ). y ∷ r) (last_set x b c n (omega (arith, e)))
+
+-- where nothing stands behind `before` there were no symbols
+pub line_empty : (before bytes : List ℕ) (zs : List (Option ℤ)) → bytes ≡ before ++ spaced zs → length bytes ≤ length before → bytes ++ 10 ∷ [] ≡ before ++ symbols_text zs
+line_empty before bytes [] e h = ap (λ (r : List ℕ). r ++ 10 ∷ []) (e ∙ append-nil before)
+line_empty before bytes (z ∷ zs) e h =
+    absurd (omega (arith, h, ap (length {A = ℕ}) e, length-append before (spaced (z ∷ zs)), ap (length {A = ℕ}) (spaced_last z zs), length-append (but_last (z ∷ zs)) (32 ∷ [])))
+
+pub line_ended : (before bytes : List ℕ) (zs : List (Option ℤ)) (n : ℕ) → bytes ≡ before ++ spaced zs → length before < length bytes → n + 1 ≡ length bytes → slice_set bytes n 10 ≡ before ++ symbols_text zs
+line_ended before bytes [] n e h last = absurd (omega (arith, h, ap (length {A = ℕ}) e, length-append before []))
+line_ended before bytes (z ∷ zs) n e h last =
+    let front : List ℕ = before ++ but_last (z ∷ zs) in
+    let whole : bytes ≡ (before ++ but_last (z ∷ zs)) ++ 32 ∷ [] = e ∙ ap (λ (r : List ℕ). before ++ r) (spaced_last z zs) ∙ sym (append_assoc before (but_last (z ∷ zs)) (32 ∷ [])) in
+    ap (λ (r : List ℕ). slice_set r n 10) whole
+    ∙ last_set (before ++ but_last (z ∷ zs)) 32 10 n (omega (arith, last, ap (length {A = ℕ}) whole, length-append (before ++ but_last (z ∷ zs)) (32 ∷ [])))
+    ∙ append_assoc before (but_last (z ∷ zs)) (10 ∷ []) ∙ ap (λ (r : List ℕ). before ++ r) (sym (ended_last z zs))
+
+-- ---- variables
+
+none_told : (a : Bool) (ks : Kinds) → fours_of a ks [] ≡ []
+none_told a [] = refl
+none_told a (k ∷ ks) = refl
+
+take_none : (n : ℕ) → ◌≡◌ {A = List Known} (take n []) []
+take_none zero = refl
+take_none (suc n) = refl
+
+-- one more variable
+pub values_more : (a : Bool) (l : Layout) (ks : Kinds) (o : Option Facts) (x : ℕ) → AreFactsIf l o → length l.types ≡ length ks → x < length ks
+    → fours_of a (take x ks) (take x (values_in o)) ++ told_if (is_one_of a (kind_at ks x)) (known_in o x) ≡ fours_of a (take (x + 1) ks) (take (x + 1) (values_in o))
+values_more a l ks None x h same p = append-nil (fours_of a (take x ks) (take x [])) ∙ step x ∙ sym (step (x + 1))
+  where
+    step : (n : ℕ) → fours_of a (take n ks) (take n []) ≡ []
+    step n = ap (λ (vs : List Known). fours_of a (take n ks) vs) (take_none n) ∙ none_told a (take n ks)
+values_more a l ks (Some f) x h same p =
+    let up : x + 1 ≡ suc x = omega arith in
+    sym (ap (λ (n : ℕ). fours_of a (take n ks) (take n f.values)) up ∙ fours_more a x ks f.values p (h.values.size ∙ same))
+
+-- ---- bounds
+
+-- one more bound
+pub bounds_more : (l : Layout) (o : Option Facts) (n i j : ℕ) → AreFactsIf l o → (o ≡ None → ⊥) → length l.chosen ≡ n → i < 2 * n → j < 2 * n
+    → take (i * (2 * n) + j) (cells_in o) ++ bound_in o i j ∷ [] ≡ take (i * (2 * n) + (j + 1)) (cells_in o)
+bounds_more l None n i j h some size p q = absurd (some refl)
+bounds_more l (Some f) n i j h some size p q =
+    let d : ℕ = 2 * n in
+    let vars : f.octagon.vars ≡ n = h.vars ∙ size in
+    let many : length f.octagon.cells ≡ 2 * n * (2 * n) = h.octagon.whole.size ∙ ap (λ (k : ℕ). 2 * k * (2 * k)) vars in
+    let there : entry f.octagon i j ≡ slice_index_or f.octagon.cells (i * (2 * n) + j) None =
+    cell_in (2 * f.octagon.vars) f.octagon.cells i j (omega (arith, p, vars)) (omega (arith, q, vars)) ∙ ap (λ (k : ℕ). slice_index_or f.octagon.cells (i * (2 * k) + j) None) vars in
+    let up : i * (2 * n) + (j + 1) ≡ suc (i * (2 * n) + j) = omega arith in
+    ap (λ (z : Option ℤ). take (i * (2 * n) + j) f.octagon.cells ++ z ∷ []) there
+    ∙ sym (ap (λ (k : ℕ). take k f.octagon.cells) up ∙ take-suc f.octagon.cells (i * (2 * n) + j) None (place_in (2 * n) f.octagon.cells i j many p q))

@@ -1,0 +1,297 @@
+// A state and its symbols as a text.
+
+ghost use Rattle.std.specs.Prelude.{◌≡◌, ◌++◌, ◌∷◌, [], ◌+◌, ◌*◌, ◌<◌, ℕ, List, IfOk, OnOk, Some, None, length, slice_set, if◌then◌else◌, true};
+ghost use Rattle.pk_graph.specs.Kinds.{kind_at};
+ghost use Rattle.pk_value.specs.Known.{Known};
+ghost use Rattle.pk_state.specs.Layouts.{type_at};
+ghost use Rattle.pk_state.specs.Facts.{Facts};
+ghost use Rattle.pk_state.specs.Changes.{IsValue, known_in, with_known};
+ghost use Rattle.pk_cert_states.specs.Lines.{is_one_of, four_of};
+ghost use Rattle.pk_cert_states.specs.Parts.{kinds_in};
+ghost use Rattle.pk_cert_lines.specs.Symbols.{spaced, told_if, values_in, cells_in};
+ghost use Rattle.pk_cert_lines.specs.Told.{texts_of, parts_of, AreParts, IsTold, IsTextOf};
+
+use crate::parts::put;
+use crate::symbols::write_value;
+use crate::values::{write_bounds, write_one};
+use pk_cert_states::is_one_of;
+use pk_graph::Variable;
+use pk_state::{Frame, State};
+use pk_value::Value;
+use std::alloc::{AllocError, Global};
+
+/// A state, its values, its symbols as a text with a space behind each, and how many bytes of it are those of each
+/// variable as a scalar, of each as an array, and of the octagon's bounds.
+#[derive(Drop)]
+pub struct Told {
+    pub state: State,
+    pub values: Vec<Value>,
+    pub text: Vec<u8>,
+    pub sizes: Vec<usize>,
+}
+
+// Adds the numbers of a variable, if it is one of the arrays, or of the scalars.
+fn add_value(
+    text: &mut Vec<u8>,
+    sizes: &mut Vec<usize>,
+    variables: &[Variable],
+    state: &State,
+    arrays: bool,
+    x: usize,
+) -> Result<(), AllocError>
+    requires place { x < length variables.now }
+    requires many { length state.now.layout.types ≡ length variables.now }
+    ensures text { OnOk result (text.new.items ≡ text.old.items
+        ++ spaced (told_if (is_one_of arrays (kind_at (kinds_in variables.now) x)) (known_in state.now.facts x))) }
+    ensures sizes { OnOk result (sizes.new.items ≡ sizes.old.items
+        ++ length (spaced (told_if (is_one_of arrays (kind_at (kinds_in variables.now) x))
+        (known_in state.now.facts x))) ∷ []) }
+{
+    let start = text.len();
+    write_one(text, variables, state, arrays, x)?;
+    let end = text.len();
+    sizes.push(end - start)?;
+    Ok(())
+}
+
+// Adds the numbers of the arrays, or of the scalars.
+fn add_values(
+    text: &mut Vec<u8>,
+    sizes: &mut Vec<usize>,
+    variables: &[Variable],
+    state: &State,
+    arrays: bool,
+) -> Result<(), AllocError>
+    requires many { length state.now.layout.types ≡ length variables.now }
+    requires some { state.now.facts ≡ None → ⊥ }
+    ensures { OnOk result ((parts : List (List ℕ)) → AreParts parts text.old.items sizes.old.items →
+        AreParts (parts ++ texts_of arrays (kinds_in variables.now) (values_in state.now.facts))
+        text.new.items sizes.new.items) }
+{
+    state.is_stated();
+    for x in 0..variables.len() {
+        add_value(text, sizes, variables, state, arrays, x)?;
+    }
+    Ok(())
+}
+
+// Adds the octagon's bounds.
+fn add_bounds(
+    text: &mut Vec<u8>,
+    sizes: &mut Vec<usize>,
+    frame: &Frame,
+    state: &State,
+) -> Result<(), AllocError>
+    requires layout { state.now.layout ≡ frame.now }
+    requires some { state.now.facts ≡ None → ⊥ }
+    ensures text { OnOk result (text.new.items ≡ text.old.items ++ spaced (cells_in state.now.facts)) }
+    ensures sizes { OnOk result (sizes.new.items ≡ sizes.old.items
+        ++ length (spaced (cells_in state.now.facts)) ∷ []) }
+{
+    frame.is_layout();
+    let start = text.len();
+    write_bounds(text, state, frame.octagon_len() as u32)?;
+    let end = text.len();
+    sizes.push(end - start)?;
+    Ok(())
+}
+
+// The text of a state where some run comes.
+fn text_of(
+    alloc: Global,
+    frame: &Frame,
+    variables: &[Variable],
+    state: &State,
+) -> Result<(Vec<u8>, Vec<usize>), AllocError>
+    requires layout { state.now.layout ≡ frame.now }
+    requires many { length frame.now.types ≡ length variables.now }
+    requires some { state.now.facts ≡ None → ⊥ }
+    ensures { IfOk result (λ p. (f : Facts) → state.now.facts ≡ Some f →
+        AreParts (parts_of (kinds_in variables.now) f) p.0.items p.1.items) }
+{
+    let mut text = Vec::new(alloc);
+    let mut sizes = Vec::new(alloc);
+    add_values(&mut text, &mut sizes, variables, state, false)?;
+    add_values(&mut text, &mut sizes, variables, state, true)?;
+    add_bounds(&mut text, &mut sizes, frame, state)?;
+    Ok((text, sizes))
+}
+
+// Adds what is known of a variable.
+fn add_known(values: &mut Vec<Value>, state: &State, x: usize) -> Result<(), AllocError>
+    requires place { x < length state.now.layout.types }
+    ensures { OnOk result ((v : Known) → known_in state.now.facts x ≡ Some v →
+        values.new.items ≡ values.old.items ++ v ∷ []) }
+{
+    match state.value(x) {
+        None => Ok(()),
+        Some(value) => {
+            values.push(value)?;
+            Ok(())
+        }
+    }
+}
+
+// What is known of each variable.
+fn values_of(alloc: Global, state: &State, n: usize) -> Result<Vec<Value>, AllocError>
+    requires many { length state.now.layout.types ≡ n }
+    requires some { state.now.facts ≡ None → ⊥ }
+    ensures { IfOk result (λ vs. vs.items ≡ values_in state.now.facts) }
+{
+    state.is_stated();
+    let mut values = Vec::with_capacity(alloc, n)?;
+    for x in 0..n {
+        add_known(&mut values, state, x)?;
+    }
+    Ok(values)
+}
+
+/// A state, and its text if some run comes there.
+pub(crate) fn told_in(
+    alloc: Global,
+    frame: &Frame,
+    variables: &[Variable],
+    state: State,
+) -> Result<Told, AllocError>
+    requires layout { state.layout ≡ frame.now }
+    requires many { length frame.now.types ≡ length variables.now }
+    ensures { IfOk result (λ t. (t.state ≡ state) × IsTold (kinds_in variables.now) frame.now t) }
+{
+    if state.is_bottom() {
+        return Ok(Told {
+            state,
+            values: Vec::new(alloc),
+            text: Vec::new(alloc),
+            sizes: Vec::new(alloc),
+        });
+    }
+    let values = values_of(alloc, &state, variables.len())?;
+    let (text, sizes) = text_of(alloc, frame, variables, &state)?;
+    Ok(Told {
+        state,
+        values,
+        text,
+        sizes,
+    })
+}
+
+// Which part is that of a variable.
+fn place_of(variables: &[Variable], x: usize) -> usize
+    requires { x < length variables.now }
+    ensures value { result
+        ≡ (if is_one_of true (kind_at (kinds_in variables.now) x) then length variables.now + x else x) }
+    ensures within { result < 2 * length variables.now }
+{
+    if is_one_of(true, &variables[x]) {
+        variables.len() + x
+    } else {
+        x
+    }
+}
+
+// The numbers of a value.
+fn value_text(alloc: Global, value: &Value) -> Result<Vec<u8>, AllocError>
+    ensures { IfOk result (λ v. v.items ≡ spaced (four_of value.now)) }
+{
+    let mut text = Vec::new(alloc);
+    write_value(&mut text, value)?;
+    Ok(text)
+}
+
+// The bounds of a state's octagon.
+fn bounds_text(alloc: Global, frame: &Frame, state: &State) -> Result<Vec<u8>, AllocError>
+    requires layout { state.now.layout ≡ frame.now }
+    requires some { state.now.facts ≡ None → ⊥ }
+    ensures { IfOk result (λ v. v.items ≡ spaced (cells_in state.now.facts)) }
+{
+    frame.is_layout();
+    let mut text = Vec::new(alloc);
+    write_bounds(&mut text, state, frame.octagon_len() as u32)?;
+    Ok(text)
+}
+
+// Writes what is known of a variable.
+fn put_known(values: &mut Vec<Value>, x: usize, value: Value)
+    requires { x < length values.old.items }
+    ensures { values.new.items ≡ slice_set values.old.items x value }
+{
+    values[x] = value;
+}
+
+/// What is known of a variable.
+pub(crate) fn value_in(told: &Told, frame: &Frame, variables: &[Variable], x: usize) -> Value
+    requires told { IsTextOf (kinds_in variables.now) frame.now told.now }
+    requires place { x < length frame.now.types }
+    ensures { known_in told.now.state.facts x ≡ Some result }
+{
+    let _ = frame;
+    let _ = variables;
+    told.state.is_stated();
+    told.values[x]
+}
+
+// The same state, but for what is known of a variable.
+fn with_value(alloc: Global, state: &State, x: usize, value: Value) -> Result<State, AllocError>
+    requires place { x < length state.now.layout.types }
+    requires value { IsValue (type_at state.now.layout x) value }
+    ensures layout { IfOk result (λ s. s.layout ≡ state.now.layout) }
+    ensures facts { IfOk result (λ s. s.facts ≡ with_known state.now.facts x value) }
+{
+    state.copy(alloc)?.with_value(alloc, x, value)
+}
+
+/// Another value of a variable.
+pub(crate) fn put_value(
+    alloc: Global,
+    told: &mut Told,
+    frame: &Frame,
+    variables: &[Variable],
+    x: usize,
+    value: Value,
+) -> Result<(), AllocError>
+    requires told { IsTextOf (kinds_in variables.now) frame.now told.old }
+    requires many { length frame.now.types ≡ length variables.now }
+    requires place { x < length variables.now }
+    requires value { IsValue (type_at frame.now x) value }
+    ensures told { OnOk result (IsTextOf (kinds_in variables.now) frame.now told.new) }
+    ensures state { OnOk result (told.new.state.facts ≡ with_known told.old.state.facts x value) }
+{
+    told.state.is_stated();
+    let part = value_text(alloc, &value)?;
+    let state = with_value(alloc, &told.state, x, value)?;
+    let p = place_of(variables, x);
+    put(alloc, &mut told.text, &mut told.sizes, p, &part)?;
+    put_known(&mut told.values, x, value);
+    told.state = state;
+    let _ = frame;
+    Ok(())
+}
+
+/// Another state with the same values.
+pub(crate) fn put_bounds(
+    alloc: Global,
+    told: &mut Told,
+    frame: &Frame,
+    variables: &[Variable],
+    state: State,
+) -> Result<(), AllocError>
+    requires told { IsTextOf (kinds_in variables.now) frame.now told.old }
+    requires many { length frame.now.types ≡ length variables.now }
+    requires layout { state.layout ≡ frame.now }
+    requires some { state.facts ≡ None → ⊥ }
+    requires same { values_in state.facts ≡ values_in told.old.state.facts }
+    ensures told { OnOk result (IsTextOf (kinds_in variables.now) frame.now told.new) }
+    ensures state { OnOk result (told.new.state ≡ state) }
+{
+    told.state.is_stated();
+    let part = bounds_text(alloc, frame, &state)?;
+    put(
+        alloc,
+        &mut told.text,
+        &mut told.sizes,
+        2 * variables.len(),
+        &part,
+    )?;
+    told.state = state;
+    Ok(())
+}
