@@ -1,11 +1,15 @@
 // Closings of small matrices, found apart from this program by listing the integers that meet them; closings at the cap; a long cycle.
 
 ghost use Rattle.std.specs.Prelude.{◌≡◌, ◌<◌, ◌*◌, IfOk, true};
+ghost use Rattle.pk_octclose.specs.Closing.{IsSmall};
 ghost use Rattle.pk_octclose.specs.Places.{IsClosedBut};
 
 use pk_octclose::{close, close_after, small};
 use pk_octmat::{Matrix, Shape};
+use pk_steps::Steps;
 use std::alloc::{AllocError, Global};
+use std::marker::Brand;
+use std::sync::ledger::{Blank, Ledger};
 use std::test::Fail;
 
 // Writes those bounds of a list that have places in the matrix.
@@ -69,6 +73,20 @@ fn is_closed_but(m: &Matrix, k: u32) -> Result<bool, AllocError>
     }
 }
 
+// `close_after`, with its steps counted over a new ledger.
+fn closed_after<L: Ledger>(m: &mut Matrix, k: u32, fresh: Blank) -> Shape
+    requires name { fresh.name ≡ L.name }
+    requires parts { fresh.parts ≡ L.parts }
+    requires some { 0 < fresh.parts }
+    requires small { IsSmall m.old }
+    requires variable { k < m.old.vars }
+    requires closed { IsClosedBut m.old k }
+    ensures { m.new.vars ≡ m.old.vars }
+{
+    let mut steps = Steps::<L>::none(fresh);
+    close_after(m, k, &mut steps)
+}
+
 // The same by `close_after`, where the matrix is closed but for variable k.
 fn closing_after(
     alloc: Global,
@@ -88,7 +106,7 @@ fn closing_after(
     if !is_closed_but(&m, k)? {
         return format!(in alloc; "not closed");
     }
-    match close_after(&mut m, k) {
+    match closed_after::<Brand>(&mut m, k, Blank::new(1)) {
         Shape::Kept => text(alloc, &m, 2 * n),
         Shape::Empty => format!(in alloc; "empty"),
     }

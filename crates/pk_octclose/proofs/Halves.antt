@@ -1,5 +1,5 @@
 -- Halves of bounds, and sweeps that change no bound between a place and its negative.
-use Rattle.std.specs.Prelude.{◌≡◌, ◌≢◌, ℕ, ◌<◌, ◌≤◌, ◌+◌, ◌/◌, ◌%◌, ◌⊎◌, length, ◌*◌, ◌==◌, if◌then◌else◌, ℤ, pos, ◌+ℤ◌, Option, Some, None, true, false, List}
+use Rattle.std.specs.Prelude.{◌≡◌, ◌≢◌, ℕ, ◌<◌, ◌≤◌, ◌+◌, ◌/◌, ◌%◌, ◌⊎◌, length, ◌==◌, if◌then◌else◌, ℤ, pos, ◌+ℤ◌, Option, Some, None, true, false, List}
 use Rattle.std.specs.Int.{int_div_euclid}
 use Rattle.std.proofs.Common.{◌∙◌, ap, refl, subst, sym, arith, inl, inr, get_or, set, length-set}
 use Rattle.std.proofs.lemmas.Bool.{cases_eq, cases_lt}

@@ -1,10 +1,10 @@
 -- A matrix while its rows are lowered.
-use Rattle.std.specs.Prelude.{◌≡◌, ◌≢◌, ℕ, ◌<◌, ◌≤◌, ◌+◌, ◌*◌, ◌/◌, ◌%◌, ℤ, int_lt, Option, Some, None, Bool, true, false, if◌then◌else◌, List, ◌⊎◌, length}
+use Rattle.std.specs.Prelude.{◌≡◌, ◌≢◌, ℕ, ◌<◌, ◌≤◌, ◌+◌, ◌-◌, ◌*◌, ◌/◌, ◌%◌, ℤ, int_lt, Option, Some, None, Bool, true, false, if◌then◌else◌, List, ◌⊎◌, length}
 use Rattle.std.proofs.Common.{◌∙◌, ap, refl, subst, sym, arith, inl, inr, get_or, set, length-set}
 use Rattle.std.proofs.lemmas.Bool.{cases_eq, cases_lt}
 use Rattle.std.proofs.lemmas.Int.{ints}
 use Rattle.std.proofs.lemmas.List.{get_or-set_other, get_or-set_same}
-use Rattle.pk_octmat.proofs.Half.{kept_set_same, row_spot, spot_at}
+use Rattle.pk_octmat.proofs.Half.{kept_set_same, row_spot}
 use Rattle.pk_octmat.specs.Bounds.{is_at_most, is_none, lesser, plus}
 use Rattle.pk_octmat.specs.Octagon.{bar}
 use Rattle.pk_octmat.specs.Half.{block, kept_at, row_place, spot}
@@ -112,6 +112,14 @@ part_left d k i start j end bound olds cells r upto a b low (inr w) = by w
     by : (b < start) ⊎ ((start ≤ end) × (end ≤ b)) → kept_at d cells a b ≡ kept_at d olds a b
     by (inl q) = r.rest a b low (inr (inl q))
     by (inr g) = let most = upto g.0 in r.rest a b low (inr (inr (omega (arith, most, g.1))))
+
+-- as many steps as columns
+pub part_steps : (start end j old new : ℕ) → new ≤ old + (j - start) → (end < start → new ≤ old) → (start ≤ end → j ≤ end) → new ≤ old + (end - start)
+part_steps start end j old new most none upto = by (cases_lt end start)
+  where
+    by : (end < start) ⊎ (start ≤ end) → new ≤ old + (end - start)
+    by (inl l) = omega (arith, none l)
+    by (inr l) = omega (arith, most, upto l)
 
 pub from_start : (a i b middle : ℕ) → (a ≢ i) ⊎ (b < 0) ⊎ (middle ≤ b) → (a ≢ i) ⊎ (b < 0) ⊎ ((0 ≤ middle) × (middle ≤ b))
 from_start a i b middle (inl n) = inl n
@@ -234,6 +242,22 @@ rows_more d p i olds cells news pairs r even size row others = record {
 pub record InCopy (j : ℕ) (f : ℕ → Option ℤ) (row : List (Option ℤ)) : Type 0 where
   pub size : length row ≡ 128
   pub done : (b : ℕ) → b < j → get_or row b None ≡ f b
+
+-- the same of a row that may have no room
+pub record InKept (d j : ℕ) (f : ℕ → Option ℤ) (row : List (Option ℤ)) : Type 0 where
+  pub size : length row ≡ 128
+  pub done : d ≤ 128 → (b : ℕ) → b < j → get_or row b None ≡ f b
+
+pub kept_none : (d : ℕ) (f : ℕ → Option ℤ) (row : List (Option ℤ)) → length row ≡ 128 → InKept d 0 f row
+kept_none d f row size = record { size = size; done = λ few b h. absurd (omega arith) }
+
+pub kept_more : (d j : ℕ) (f : ℕ → Option ℤ) (row news : List (Option ℤ)) (x : Option ℤ) → InKept d j f row → length news ≡ 128 → (d ≤ 128 → get_or news j None ≡ x) → ((b : ℕ) → b ≢ j → get_or news b None ≡ get_or row b None) → x ≡ f j
+    → InKept d (j + 1) f news
+kept_more d j f row news x k size here others is = record { size = size; done = λ few b h. done few b (cases_eq b j) h }
+  where
+    done : d ≤ 128 → (b : ℕ) → (b ≡ j) ⊎ (b ≢ j) → b < j + 1 → get_or news b None ≡ f b
+    done few b (inl s) h = rw s (here few ∙ is)
+    done few b (inr n) h = others b n ∙ k.done few b (omega (arith, n, h))
 
 pub copy_none : (f : ℕ → Option ℤ) (row : List (Option ℤ)) → length row ≡ 128 → InCopy 0 f row
 copy_none f row size = record { size = size; done = λ b h. absurd (omega arith) }

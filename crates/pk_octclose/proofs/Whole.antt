@@ -1,6 +1,6 @@
 -- A matrix of which half is kept, and what a write changes there.
-use Rattle.std.specs.Prelude.{◌≡◌, ◌≢◌, ℕ, ◌<◌, ◌≤◌, ◌+◌, ◌*◌, ◌/◌, ◌%◌, ℤ, pos, Option, Some, ◌⊎◌, List}
-use Rattle.std.proofs.Common.{◌∙◌, ap, sym, subst, arith, inl, inr, set}
+use Rattle.std.specs.Prelude.{◌≡◌, ◌≢◌, ℕ, ◌<◌, ◌≤◌, ◌+◌, ◌/◌, ◌%◌, ℤ, pos, Option, Some, ◌⊎◌, List}
+use Rattle.std.proofs.Common.{◌∙◌, ap, sym, arith, inl, inr, set}
 use Rattle.std.proofs.lemmas.Bool.{cases_eq, cases_lt}
 use Rattle.pk_octmat.specs.Bounds.{plus}
 use Rattle.pk_octmat.specs.Octagon.{bar}

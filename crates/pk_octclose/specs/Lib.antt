@@ -5,3 +5,4 @@ pub mod Places
 pub mod Pairs
 pub mod After
 pub mod Same
+pub mod Steps

@@ -12,14 +12,24 @@ ghost use Rattle.pk_octmat.specs.declared.shape.Shape.TheVariants.{Kept, Empty};
 ghost use Rattle.pk_octclose.specs.After.{line_through, lined, own_through};
 ghost use Rattle.pk_octclose.specs.Closing.{IsClosed, IsClosing, IsEmpty, IsSmall};
 ghost use Rattle.pk_octclose.specs.Places.{closing_of, IsClosedBut};
+ghost use Rattle.pk_octclose.specs.Steps.{most_steps};
 ghost use Rattle.pk_octclose.specs.Walks.{HasNegativeCycle, HasLeastSums};
 
-use crate::paths::{cell, copy_row, paths, pivot};
+use crate::paths::{copy_row, is_below_zero, lower_to, paths, pivot};
 use crate::tight::tighten;
-use pk_octmat::{Bound, Matrix, Shape, bar, blank, write_pair};
+use pk_octmat::{Bound, Matrix, Shape, bar, blank, cell, write_pair};
+use pk_steps::Steps;
+use std::sync::ledger::Ledger;
 
 /// Lowers a row of its own, of place r, to what leads over place a, unless that is one of its own variable.
-fn lower_line(cells: &[Bound], d: usize, r: usize, line: &mut [Bound], a: usize)
+fn lower_line<L: Ledger>(
+    cells: &[Bound],
+    d: usize,
+    r: usize,
+    line: &mut [Bound],
+    a: usize,
+    steps: &mut Steps<L>,
+)
     requires size { length cells.now ≡ block (d / 2) }
     requires pairs { d % 2 ≡ 0 }
     requires few { d ≤ 128 }
@@ -31,6 +41,7 @@ fn lower_line(cells: &[Bound], d: usize, r: usize, line: &mut [Bound], a: usize)
     ensures lowered { a / 2 ≢ r / 2 → (b : ℕ) → b < d → slice_index_or line.new b None ≡
         lesser (slice_index_or line.old b None) (plus (slice_index_or line.old a None) (kept_at d cells.now a b)) }
     ensures stays { a / 2 ≡ r / 2 → (b : ℕ) → slice_index_or line.new b None ≡ slice_index_or line.old b None }
+    ensures steps { steps.new ≤ steps.old + d }
 {
     if a / 2 == r / 2 {
         return;
@@ -40,12 +51,18 @@ fn lower_line(cells: &[Bound], d: usize, r: usize, line: &mut [Bound], a: usize)
         return;
     }
     for b in 0..d {
-        line[b] = line[b].lesser(first.plus(cell(cells, d, a, b)));
+        line[b] = lower_to(line[b], first.plus(cell(cells, d, a, b)), steps);
     }
 }
 
 /// Lowers a row of its own, a copy of row r, to what leads over the places of other variables.
-fn lower_lines(cells: &[Bound], d: usize, r: usize, line: &mut [Bound])
+fn lower_lines<L: Ledger>(
+    cells: &[Bound],
+    d: usize,
+    r: usize,
+    line: &mut [Bound],
+    steps: &mut Steps<L>,
+)
     requires size { length cells.now ≡ block (d / 2) }
     requires pairs { d % 2 ≡ 0 }
     requires few { d ≤ 128 }
@@ -55,14 +72,22 @@ fn lower_lines(cells: &[Bound], d: usize, r: usize, line: &mut [Bound])
     requires copied { (b : ℕ) → b < d → slice_index_or line.old b None ≡ kept_at d cells.now r b }
     ensures own { length line.new ≡ 128 }
     ensures lowered { (b : ℕ) → b < d → slice_index_or line.new b None ≡ line_through (kept_at d cells.now) r d b }
+    ensures steps { steps.new ≤ steps.old + d * d }
 {
     for a in 0..d {
-        lower_line(cells, d, r, line, a);
+        lower_line(cells, d, r, line, a, steps);
     }
 }
 
 /// Lowers the bounds of a row of its own, of place r, on its own variable to what leads over place a, unless that is one of it.
-fn lower_own(cells: &[Bound], d: usize, r: usize, line: &mut [Bound], a: usize)
+fn lower_own<L: Ledger>(
+    cells: &[Bound],
+    d: usize,
+    r: usize,
+    line: &mut [Bound],
+    a: usize,
+    steps: &mut Steps<L>,
+)
     requires size { length cells.now ≡ block (d / 2) }
     requires pairs { d % 2 ≡ 0 }
     requires few { d ≤ 128 }
@@ -76,18 +101,25 @@ fn lower_own(cells: &[Bound], d: usize, r: usize, line: &mut [Bound], a: usize)
         lesser (slice_index_or line.old s None) (plus (slice_index_or line.old a None) (kept_at d cells.now a s)) }
     ensures others { (b : ℕ) → b / 2 ≢ r / 2 → slice_index_or line.new b None ≡ slice_index_or line.old b None }
     ensures stays { a / 2 ≡ r / 2 → (b : ℕ) → slice_index_or line.new b None ≡ slice_index_or line.old b None }
+    ensures steps { steps.new ≤ steps.old + 2 }
 {
     if a / 2 == r / 2 {
         return;
     }
     let first = line[a];
     let q = bar(r);
-    line[r] = line[r].lesser(first.plus(cell(cells, d, a, r)));
-    line[q] = line[q].lesser(first.plus(cell(cells, d, a, q)));
+    line[r] = lower_to(line[r], first.plus(cell(cells, d, a, r)), steps);
+    line[q] = lower_to(line[q], first.plus(cell(cells, d, a, q)), steps);
 }
 
 /// Lowers the bounds of a row of its own, of place r, on its own variable to what leads over the places of other variables.
-fn lower_owns(cells: &[Bound], d: usize, r: usize, line: &mut [Bound])
+fn lower_owns<L: Ledger>(
+    cells: &[Bound],
+    d: usize,
+    r: usize,
+    line: &mut [Bound],
+    steps: &mut Steps<L>,
+)
     requires size { length cells.now ≡ block (d / 2) }
     requires pairs { d % 2 ≡ 0 }
     requires few { d ≤ 128 }
@@ -99,14 +131,15 @@ fn lower_owns(cells: &[Bound], d: usize, r: usize, line: &mut [Bound])
     ensures lowered { (s : ℕ) → s / 2 ≡ r / 2 → slice_index_or line.new s None ≡
         own_through (kept_at d cells.now) (λ b. slice_index_or line.old b None) (r / 2) d s }
     ensures others { (b : ℕ) → b / 2 ≢ r / 2 → slice_index_or line.new b None ≡ slice_index_or line.old b None }
+    ensures steps { steps.new ≤ steps.old + 2 * d }
 {
     for a in 0..d {
-        lower_own(cells, d, r, line, a);
+        lower_own(cells, d, r, line, a, steps);
     }
 }
 
 /// Makes a row of its own that of place r, lowered to what leads over places of other variables.
-fn line_of(cells: &[Bound], d: usize, r: usize, line: &mut [Bound])
+fn line_of<L: Ledger>(cells: &[Bound], d: usize, r: usize, line: &mut [Bound], steps: &mut Steps<L>)
     requires size { length cells.now ≡ block (d / 2) }
     requires pairs { d % 2 ≡ 0 }
     requires few { d ≤ 128 }
@@ -115,10 +148,11 @@ fn line_of(cells: &[Bound], d: usize, r: usize, line: &mut [Bound])
     requires near { (i j : ℕ) → IsNear (2 ^ 58) (kept_at d cells.now i j) }
     ensures own { length line.new ≡ 128 }
     ensures lowered { (b : ℕ) → b < d → slice_index_or line.new b None ≡ lined d (kept_at d cells.now) (r / 2) r b }
+    ensures steps { steps.new ≤ steps.old + d * d + 2 * d }
 {
     copy_row(cells, d, r, line);
-    lower_lines(cells, d, r, line);
-    lower_owns(cells, d, r, line);
+    lower_lines(cells, d, r, line, steps);
+    lower_owns(cells, d, r, line, steps);
 }
 
 /// Writes the rows of place p and of its negative.
@@ -141,12 +175,13 @@ fn write_rows(cells: &mut [Bound], d: usize, p: usize, first: &[Bound], second: 
 }
 
 /// Lowers all bounds on the variable of place p to what leads over places of other variables. False where a walk that leads back has a negative sum.
-fn lower_pair(
+fn lower_pair<L: Ledger>(
     cells: &mut [Bound],
     d: usize,
     p: usize,
     first: &mut [Bound],
     second: &mut [Bound],
+    steps: &mut Steps<L>,
 ) -> bool
     requires whole { IsHalf d cells.old }
     requires pairs { d % 2 ≡ 0 }
@@ -164,13 +199,14 @@ fn lower_pair(
     ensures diagonal { result ≡ true → (i : ℕ) → i < d → i / 2 ≡ p / 2 →
         AtMost (Some (pos 0)) (lined d (kept_at d cells.old) (p / 2) i i) }
     ensures cycle { result ≡ false → HasNegativeCycle (kept_at d cells.old) }
+    ensures steps { steps.new ≤ steps.old + 2 * (d * d) + 4 * d + 2 }
 {
-    line_of(cells, d, p, first);
-    line_of(cells, d, p + 1, second);
-    if first[p].is_negative() {
+    line_of(cells, d, p, first, steps);
+    line_of(cells, d, p + 1, second, steps);
+    if is_below_zero(first[p], steps) {
         return false;
     }
-    if second[p + 1].is_negative() {
+    if is_below_zero(second[p + 1], steps) {
         return false;
     }
     write_rows(cells, d, p, first, second);
@@ -178,7 +214,7 @@ fn lower_pair(
 }
 
 /// Lowers all bounds to the least sums of walks, where those between other variables than that of place p are closed. False where a walk that leads back has a negative sum.
-fn paths_after(cells: &mut [Bound], d: usize, p: usize) -> bool
+fn paths_after<L: Ledger>(cells: &mut [Bound], d: usize, p: usize, steps: &mut Steps<L>) -> bool
     requires whole { IsHalf d cells.old }
     requires pairs { d % 2 ≡ 0 }
     requires room { d ≤ 2 ^ 32 }
@@ -190,20 +226,26 @@ fn paths_after(cells: &mut [Bound], d: usize, p: usize) -> bool
     ensures least { result ≡ true → HasLeastSums d (kept_at d cells.old) (kept_at d cells.new) }
     ensures near { result ≡ true → (i j : ℕ) → i < d → j < d → IsNear (2 ^ 100) (kept_at d cells.new i j) }
     ensures cycle { result ≡ false → HasNegativeCycle (kept_at d cells.old) }
+    ensures steps { d ≤ 128 → steps.new ≤ steps.old + 4 * (d * d) + 7 * d + 3 }
 {
     if 128 < d {
-        return paths(cells, d);
+        return paths(cells, d, steps);
     }
-    let mut first = [Bound::none(); 128];
-    let mut second = [Bound::none(); 128];
-    if !lower_pair(cells, d, p, &mut first, &mut second) {
+    let mut first = [Bound::exactly(0); 128];
+    let mut second = [Bound::exactly(0); 128];
+    if !lower_pair(cells, d, p, &mut first, &mut second, steps) {
         return false;
     }
-    pivot(cells, d, p, &mut first, &mut second)
+    pivot(cells, d, p, &mut first, &mut second, steps)
 }
 
 /// Closes the cells of a matrix in place, where those on other variables than that of place p are closed.
-fn close_cells_after(cells: &mut [Bound], d: usize, p: usize) -> Shape
+fn close_cells_after<L: Ledger>(
+    cells: &mut [Bound],
+    d: usize,
+    p: usize,
+    steps: &mut Steps<L>,
+) -> Shape
     requires whole { IsHalf d cells.old }
     requires pairs { d % 2 ≡ 0 }
     requires room { d ≤ 2 ^ 32 }
@@ -214,8 +256,9 @@ fn close_cells_after(cells: &mut [Bound], d: usize, p: usize) -> Shape
     ensures whole { IsHalf d cells.new }
     ensures kept { result ≡ Kept → IsClosing d (kept_at d cells.old) (kept_at d cells.new) }
     ensures empty { result ≡ Empty → IsEmpty d (kept_at d cells.old) }
+    ensures steps { d ≤ 128 → steps.new ≤ steps.old + 5 * (d * d) + 9 * d + 3 + block (d / 2) }
 {
-    if paths_after(cells, d, p) && tighten(cells, d) {
+    if paths_after(cells, d, p, steps) && tighten(cells, d, steps) {
         return Shape::Kept;
     }
     blank(cells, d);
@@ -223,12 +266,13 @@ fn close_cells_after(cells: &mut [Bound], d: usize, p: usize) -> Shape
 }
 
 /// Closes a small matrix in place that is its own closing but for variable k, or finds that no integers meet it: what `close` gives, sooner.
-pub fn close_after(m: &mut Matrix, k: u32) -> Shape
+pub fn close_after<L: Ledger>(m: &mut Matrix, k: u32, steps: &mut Steps<L>) -> Shape
     requires small { IsSmall m.old }
     requires variable { k < m.old.vars }
     requires closed { IsClosedBut m.old k }
     ensures value { left_of result m.new ≡ closing_of m.old }
     ensures vars { m.new.vars ≡ m.old.vars }
+    ensures steps { m.old.vars ≤ 64 → steps.new ≤ steps.old + most_steps m.old.vars }
 {
-    close_cells_after(&mut m.cells, 2 * m.vars as usize, 2 * k as usize)
+    close_cells_after(&mut m.cells, 2 * m.vars as usize, 2 * k as usize, steps)
 }

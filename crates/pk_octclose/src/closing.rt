@@ -13,9 +13,15 @@ ghost use Rattle.pk_octmat.specs.declared.shape.Shape.TheVariants.{Kept, Empty};
 use crate::paths::paths;
 use crate::tight::tighten;
 use pk_octmat::{Bound, Matrix, Shape, blank};
+use pk_steps::Steps;
+use std::marker::Brand;
+use std::sync::ledger::{Blank, Ledger};
 
-/// Closes the cells of a matrix in place, or finds that no integers meet them.
-fn close_cells(cells: &mut [Bound], d: usize) -> Shape
+/// Closes the cells of a matrix in place, or finds that no integers meet them. The steps are counted over a ledger of its own.
+fn close_cells<L: Ledger>(cells: &mut [Bound], d: usize, fresh: Blank) -> Shape
+    requires name { fresh.name ≡ L.name }
+    requires parts { fresh.parts ≡ L.parts }
+    requires some { 0 < fresh.parts }
     requires whole { IsHalf d cells.old }
     requires pairs { d % 2 ≡ 0 }
     requires room { d ≤ 2 ^ 32 }
@@ -28,7 +34,8 @@ fn close_cells(cells: &mut [Bound], d: usize) -> Shape
     ensures again { IsClosed d (kept_at d cells.old) →
         (result ≡ Kept) × ((i j : ℕ) → kept_at d cells.new i j ≡ kept_at d cells.old i j) }
 {
-    if paths(cells, d) && tighten(cells, d) {
+    let mut steps = Steps::<L>::none(fresh);
+    if paths(cells, d, &mut steps) && tighten(cells, d, &mut steps) {
         return Shape::Kept;
     }
     blank(cells, d);
@@ -57,5 +64,5 @@ pub fn close(m: &mut Matrix) -> Shape
         (f : ℕ → ℕ → Option ℤ) → ((x : ℕ → ℤ) → Meets (entry m.old) x → Meets f x) →
         (i j : ℕ) → i < 2 * m.old.vars → j < 2 * m.old.vars → AtMost (entry m.new i j) (f i j) }
 {
-    close_cells(&mut m.cells, 2 * m.vars as usize)
+    close_cells::<Brand>(&mut m.cells, 2 * m.vars as usize, Blank::new(1))
 }

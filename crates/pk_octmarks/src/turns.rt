@@ -7,8 +7,9 @@ ghost use Rattle.pk_octclose.specs.Places.{closing_of};
 ghost use Rattle.pk_octmarks.specs.Marks.{IsMarked};
 ghost use Rattle.pk_octmarks.specs.Turns.{IsAhead, IsMade};
 
+use crate::closing::close_changed;
 use crate::mark::Mark;
-use pk_octclose::{close, close_after, closing_is_closed, small};
+use pk_octclose::{close, closing_is_closed, small};
 use pk_octmat::{Matrix, Shape};
 
 /// What there is of a matrix before the bounds on a variable change.
@@ -37,7 +38,7 @@ pub fn close_small(m: &mut Matrix, mark: Mark) -> Option<Shape>
     }
     match mark {
         Mark::Closed => Some(Shape::Kept),
-        Mark::ClosedBut(k) => Some(close_after(m, k)),
+        Mark::ClosedBut(k) => Some(close_changed(m, k)),
         Mark::Unknown => Some(close(m)),
     }
 }

@@ -9,3 +9,4 @@ pub mod Tabled
 pub mod Half
 pub mod Blanks
 pub mod Pair
+mod Spots

@@ -8,5 +8,5 @@ mod shape;
 
 pub use bound::Bound;
 pub use laws::octagons_are_entries;
-pub use matrix::{Matrix, bar, blank, row_place, spot, stored, write_pair};
+pub use matrix::{Matrix, bar, blank, cell, row_place, spot, stored, write_pair};
 pub use shape::Shape;

@@ -1,6 +1,7 @@
 // Matrices of bounds.
 
-ghost use Rattle.std.specs.Prelude.{◌≡◌, ◌%◌, ◌≢◌, ℕ, ℤ, pos, Some, ◌<◌, ◌≤◌, ◌+◌, ◌*◌, ◌/◌, ◌^◌, ◌==◌, ◌||◌, if◌then◌else◌, length, slice_set, IfOk, true, ◌↔◌};
+ghost use Rattle.std.specs.Prelude.{◌≡◌, ◌≢◌, ◌<◌, ◌≤◌, ◌↔◌, ◌+◌, ◌*◌, ◌/◌, ◌%◌, ◌^◌, ◌==◌, ◌||◌, if◌then◌else◌};
+ghost use Rattle.std.specs.Prelude.{ℕ, ℤ, pos, Some, IfOk, length, slice_set, true};
 ghost use Rattle.pk_octmat.specs.Bounds.{capped, IsNear};
 ghost use Rattle.pk_octmat.specs.Octagon.{entry, bar as other, written, top_bound, forgotten, HasEntries, IsOctagon, Meets, with_number};
 ghost use Rattle.pk_octmat.specs.Half.{block, kept_at, row_place as row_place_of, spot as spot_of, IsHalf};
@@ -36,18 +37,17 @@ pub fn bar(i: usize) -> usize
     requires { i < 2 ^ 63 }
     ensures { result ≡ other i }
 {
-    if i % 2 == 0 { i + 1 } else { i - 1 }
+    i ^ 1
 }
 
-/// The place of the bound in row i and column j, of those that are kept.
+/// The place of the bound in row i and column j, of those that are kept: a row begins at half of the square of i + 1.
 #[inline]
 pub fn row_place(i: usize, j: usize) -> usize
     requires row { i < 2 ^ 32 }
     requires column { j ≤ 2 ^ 32 }
     ensures { result ≡ row_place_of i j }
 {
-    let a = i / 2;
-    2 * (a * (a + 1)) + i % 2 * (2 * a + 2) + j
+    (i * i + 1) / 2 + i + j
 }
 
 /// The place of the bound on V(j) - V(i), kept or coherent.
@@ -62,6 +62,20 @@ pub fn spot(i: usize, j: usize) -> usize
     } else {
         row_place(i, j)
     }
+}
+
+/// The bound in a row and a column, kept or coherent.
+#[inline]
+pub fn cell(cells: &[Bound], d: usize, i: usize, j: usize) -> Bound
+    requires size { length cells.now ≡ block (d / 2) }
+    requires pairs { d % 2 ≡ 0 }
+    requires room { d ≤ 2 ^ 32 }
+    requires row { i < d }
+    requires column { j < d }
+    ensures { result ≡ kept_at d cells.now i j }
+{
+    let bound = cells[spot(i, j)];
+    bound
 }
 
 /// The bound between two places of which nothing is known.

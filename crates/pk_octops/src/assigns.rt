@@ -1,12 +1,13 @@
 // Assignments.
 
-ghost use Rattle.std.specs.Prelude.{◌≡◌, ◌≢◌, ℕ, ℤ, pos, negsuc, ◌+◌, ◌-◌, ◌*◌, ◌/◌, ◌%◌, ◌<◌, ◌≤◌, ◌^◌, ◌≤ℤ◌, ◌-ℤ◌, ◌==◌, IfOk, IfSome, length, Some, Option};
+ghost use Rattle.std.specs.Prelude.{◌≡◌, ◌≢◌, ◌+◌, ◌-◌, ◌*◌, ◌/◌, ◌%◌, ◌<◌, ◌≤◌, ◌^◌, ◌≤ℤ◌, ◌-ℤ◌, ◌==◌};
+ghost use Rattle.std.specs.Prelude.{ℕ, ℤ, pos, negsuc, IfOk, IfSome, length, Some, Option};
 ghost use Rattle.pk_octmat.specs.Bounds.{capped, IsNear, plus as sum_of};
 ghost use Rattle.pk_octmat.specs.Octagon.{entry, HasEntries, Meets, with_number, forgotten};
 ghost use Rattle.pk_octmat.specs.Half.{block, kept_at, IsHalf};
 ghost use Rattle.pk_octops.specs.Assigns.{assigned as assigned_of, assignment_of, moved, bound_to, gain as gain_of, source as source_of, Gives};
 
-use pk_octmat::{Bound, Matrix, bar, spot, write_pair};
+use pk_octmat::{Bound, Matrix, bar, cell, write_pair};
 use std::alloc::AllocError;
 
 /// A number brought within 2^68 of 0, beyond which no bound stays a number.
@@ -73,19 +74,6 @@ fn gained(bound: Bound, k: usize, c: i128, i: usize, j: usize) -> Bound
     bound.plus(change(k, near, i, j)).capped()
 }
 
-/// The bound in a row and a column.
-fn bound_in(cells: &[Bound], d: usize, i: usize, j: usize) -> Bound
-    requires size { length cells.now ≡ block (d / 2) }
-    requires pairs { d % 2 ≡ 0 }
-    requires room { d ≤ 2 ^ 32 }
-    requires row { i < d }
-    requires column { j < d }
-    ensures { result ≡ kept_at d cells.now i j }
-{
-    let bound = cells[spot(i, j)];
-    bound
-}
-
 /// One bound of a matrix with c added along, after an exchange where t is the negative of x_k.
 fn moved_bound(old: &[Bound], d: usize, k: usize, t: usize, c: i128, i: usize, j: usize) -> Bound
     requires old { IsHalf d old.now }
@@ -96,7 +84,7 @@ fn moved_bound(old: &[Bound], d: usize, k: usize, t: usize, c: i128, i: usize, j
     requires column { j < d }
     ensures { result ≡ moved (kept_at d old.now) k t c i j }
 {
-    let bound = bound_in(old, d, source(k, t, i), source(k, t, j));
+    let bound = cell(old, d, source(k, t, i), source(k, t, j));
     gained(bound, k, c, i, j)
 }
 

@@ -1,6 +1,7 @@
 // Points of tight matrices: one number after the other, each as near to a wish as the bounds to the others allow.
 
-ghost use Rattle.std.specs.Prelude.{IfOk, OnOk, List, map, [], ◌∷◌, ◌++◌, ◌<ℤ◌, ◌-ℤ◌, false, None, ◌+ℤ◌, ◌≡◌, ◌≢◌, ℕ, ℤ, pos, negsuc, ◌<◌, ◌*◌, ◌+◌, ◌-◌, ◌/◌, ◌^◌, ◌≤ℤ◌, length, Some, Option};
+ghost use Rattle.std.specs.Prelude.{◌∷◌, ◌++◌, ◌<ℤ◌, ◌-ℤ◌, ◌+ℤ◌, ◌≡◌, ◌≢◌, ◌<◌, ◌*◌, ◌+◌, ◌-◌, ◌/◌, ◌^◌, ◌≤ℤ◌};
+ghost use Rattle.std.specs.Prelude.{IfOk, OnOk, List, map, [], false, None, ℕ, ℤ, pos, negsuc, length, Some, Option};
 ghost use Rattle.pk_octmat.specs.Bounds.{AtMost, IsNear, halved, is_none as none_of};
 ghost use Rattle.pk_octmat.specs.Octagon.{entry, bar as other};
 ghost use Rattle.pk_octpoints.specs.Tight.{IsTight};

@@ -3,7 +3,7 @@ use Rattle.std.proofs.Common.{◌∙◌, ap, subst, sym}
 use Rattle.std.proofs.lemmas.List.{with_items_is}
 use Rattle.std.specs.Vec.{with_items}
 use Rattle.pk_octmat.specs.Octagon.{Octagon, entry, top_bound, IsOctagon, Meets}
-use Rattle.pk_octmat.specs.Half.{kept_at, octagon_in, IsKept}
+use Rattle.pk_octmat.specs.Half.{kept_at, octagon_in}
 use Rattle.pk_octmat.specs.Shapes.{left_of}
 use Rattle.pk_octclose.specs.Places.{closing_of}
 use Rattle.pk_octclose.proofs.Floyd.{close_is}

@@ -8,7 +8,7 @@ use Rattle.pk_octclose.proofs.Twice.{short_cycle, through_pair}
 use Rattle.pk_octclose.proofs.paths.paths.Goals as goal
 
 pub loop-k-init : goal.loop-k-init
-loop-k-init c = record {
+loop-k-init g c = record {
   size = c.requires.size;
   first = refl;
   second = refl;
@@ -16,13 +16,13 @@ loop-k-init c = record {
 }
 
 pub pivot-requires-clause-near : goal.pivot-requires-clause-near
-pivot-requires-clause-near c = room_near _ _ _ _ c.loop-k.invariant.through (omega arith) c.requires.room c.requires.near
+pivot-requires-clause-near g c = room_near _ _ _ _ c.loop-k.invariant.through (omega arith) c.requires.room c.requires.near
 
 pub returns-then-not-pivot-clause-cycle : goal.returns-then-not-pivot-clause-cycle
-returns-then-not-pivot-clause-cycle c = λ e. short_cycle _ _ _ _ _ _ c.loop-k.invariant.through (below_with (2 * c.loop-k.k)) (omega arith) (c.if-not-pivot.ensures.no refl)
+returns-then-not-pivot-clause-cycle g c = λ e. short_cycle _ _ _ _ _ _ c.loop-k.invariant.through (below_with (2 * c.loop-k.k)) (omega arith) (c.if-not-pivot.ensures.no refl)
 
 pub loop-k-preserved : goal.loop-k-preserved
-loop-k-preserved c =
+loop-k-preserved g c =
     let next : 2 * c.loop-k.k + 1 + 1 ≡ 2 * (c.loop-k.k + 1) = omega arith in
     record {
       size = c.pivot.ensures.kept;
@@ -34,8 +34,8 @@ loop-k-preserved c =
     }
 
 pub returns-clause-least : goal.returns-clause-least
-returns-clause-least c = λ e. least_from c.args.d (unfolded c.args.d c.args.cells.now) (kept_at c.args.d c.loop-k.cells) (2 * c.loop-k.k) c.loop-k.invariant.through (omega arith) (omega arith)
+returns-clause-least g c = λ e. least_from c.args.d (unfolded c.args.d c.args.cells.now) (kept_at c.args.d c.loop-k.cells) (2 * c.loop-k.k) c.loop-k.invariant.through (omega arith) (omega arith)
 
 pub returns-clause-near : goal.returns-clause-near
-returns-clause-near c = λ e i j id jd.
+returns-clause-near g c = λ e i j id jd.
     near_more (2 ^ 99) (2 ^ 100) _ (omega arith) (room_near _ _ _ _ c.loop-k.invariant.through (omega arith) c.requires.room c.requires.near i j id jd)

@@ -5,7 +5,7 @@ use Rattle.pk_octclose.proofs.Walks.{Below, Through}
 use Rattle.pk_octclose.proofs.paths.paths.Given as goal
 
 abbrev pub invariant-loop-k : goal.invariant-loop-k
-invariant-loop-k l = record {
+invariant-loop-k g l = record {
   size : length l.cells ≡ block (l.d / 2);
   first : length l.first ≡ 128;
   second : length l.second ≡ 128;

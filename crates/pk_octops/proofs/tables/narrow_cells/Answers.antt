@@ -1,4 +1,4 @@
-use Rattle.std.proofs.Common.{◌∙◌, arith, subst, sym, ◌<◌}
+use Rattle.std.proofs.Common.{◌∙◌, ◌<◌}
 use Rattle.pk_octops.proofs.Pointwise.{narrowed_matrix, other_in, table_all, table_more, table_none}
 use Rattle.pk_octops.proofs.tables.narrow_cells.Goals as goal
 
