@@ -118,6 +118,38 @@ const NESTED: [(u32, u32); 12] = [
     (0, 7),
 ];
 
+// Nine loops, each in the one before: the innermost is gone through 512 times.
+const DEEP: [(u32, u32); 28] = [
+    (0, 1),
+    (1, 2),
+    (2, 3),
+    (3, 4),
+    (4, 5),
+    (5, 6),
+    (6, 7),
+    (7, 8),
+    (8, 9),
+    (9, 10),
+    (10, 11),
+    (11, 12),
+    (12, 13),
+    (13, 14),
+    (14, 15),
+    (15, 16),
+    (16, 17),
+    (17, 18),
+    (18, 19),
+    (18, 1),
+    (17, 2),
+    (16, 3),
+    (15, 4),
+    (14, 5),
+    (13, 6),
+    (12, 7),
+    (11, 8),
+    (10, 9),
+];
+
 // From the first vertex to eight, and from these to the last.
 const FAN: [(u32, u32); 16] = [
     (0, 1),
@@ -138,7 +170,7 @@ const FAN: [(u32, u32); 16] = [
     (8, 9),
 ];
 
-const DIGRAPHS: [(u32, &[(u32, u32)]); 3] = [(5, &LINE), (8, &NESTED), (10, &FAN)];
+const DIGRAPHS: [(u32, &[(u32, u32)]); 4] = [(5, &LINE), (8, &NESTED), (20, &DEEP), (10, &FAN)];
 
 #[test]
 fn workers_leave_what_the_iteration_leaves(rt: HostRuntime) -> Result<(), AllocError> {

@@ -1,9 +1,11 @@
 -- How often an element stands in the first items of a list.
-use Rattle.std.proofs.Common.{◌≡◌, ◌≢◌, ℕ, zero, suc, ◌+◌, ◌<◌, ◌≤◌, ◌==◌, List, [], ◌∷◌, length, take, get_or, true, false, cond, refl, sym, arith, inl, inr, ◌⊎◌, get_or-set_other, get_or-set_same}
+use Rattle.std.proofs.Common.{◌≡◌, ◌≢◌, ℕ, zero, suc, ◌+◌, ◌<◌, ◌≤◌, ◌==◌, List, [], ◌∷◌, length, take, get_or, true, false, cond, refl, sym, subst, arith, add-one, sum, inl, inr, ◌⊎◌, get_or-set_other, get_or-set_same}
 use lib.ListN.{set}
 use Rattle.std.proofs.lemmas.Bool.Decides.{eqb_tells}
-use Rattle.std.proofs.lemmas.List.Sums.{count_by_more_yes, count_by_more_no, sum_by-cons, sum_by-take-le}
-use Rattle.pk_layout.specs.Gathered.{times}
+use Rattle.std.proofs.lemmas.List.Sums.{count_by_more_yes, count_by_more_no, sum_by-cons, sum_by-take-le, sum_by-set, sum_by_more}
+use Rattle.std.proofs.lemmas.List.{length-replicate}
+use Rattle.pk_layout.specs.Gathered.{gathered, owned_by, times}
+use Rattle.pk_layout.proofs.Lists.{length_more}
 
 pub same_or_not : (m n : ℕ) → (m ≡ n) ⊎ (m ≢ n)
 same_or_not m n = elim (eqb_tells m n) [ inl same ↦ inl same.1 | inr other ↦ inr other.1 ]
@@ -48,3 +50,16 @@ counted_more base counts targets j m h low each is u in_range = elim (same_or_no
       let none = count_by_more_no (λ x. x == u) targets j 0 h (differs t u (λ e. other (sym e))) in
       omega (arith, kept, each u in_range, none))
 ]
+
+-- what is counted of all elements
+pub sum_one_more : (counts : List ℕ) (u m : ℕ) → u < length counts → m ≡ get_or counts u 0 + 1 → sum (set counts u m) ≡ sum counts + 1
+sum_one_more counts u m h is = omega (arith, sum_by-set (λ x. x) counts u m 0 h, is)
+
+-- so many slots do the elements before e have
+pub long_owned : (counts : List ℕ) (e : ℕ) → e ≤ length counts → length (gathered (owned_by counts) e) ≡ sum (take e counts) + e
+long_owned counts zero h = refl
+long_owned counts (suc e) h =
+    let more = sum_by_more (λ x. x) counts e 0 (omega (arith, h)) in
+    let all : length (gathered (owned_by counts) (e + 1)) ≡ sum (take (e + 1) counts) + (e + 1) =
+    omega (arith, long_owned counts e (omega (arith, h)), length_more (owned_by counts) e, length-replicate (get_or counts e 0 + 1) e, more) in
+    subst (λ (k : ℕ). length (gathered (owned_by counts) k) ≡ sum (take k counts) + k) (add-one e) all

@@ -1,18 +1,16 @@
 -- Each plan that a system fits has slots.
-use Rattle.std.proofs.Common.{◌≡◌, ℕ, zero, suc, ◌+◌, ◌<◌, ◌≤◌, ◌⊎◌, inl, inr, List, [], ◌∷◌, ◌++◌, length, get_or, refl, ap, subst, ◌∙◌, arith, add-one}
-use lib.ListN.{set}
+use Rattle.std.proofs.Common.{◌≡◌, ℕ, zero, suc, ◌+◌, ◌<◌, ◌⊎◌, inl, inr, List, [], ◌∷◌, ◌++◌, length, get_or, refl, ap, subst, ◌∙◌, arith, add-one}
 use Rattle.std.proofs.lemmas.List.Elements.{All-from_get_or, Contains-get_or}
 use Rattle.pk_plan.specs.Plans.{PlanView, Precedes, One, More}
 use Rattle.pk_plan.specs.Axioms.{Axioms}
 use Rattle.pk_plan.proofs.PlanLemmas.{stands_inside, exit_within, constrains_from}
 use Rattle.pk_iterate.specs.Behaviour.{Behaviour, ReadsWithin}
 use Rattle.pk_iterate.specs.Fits.{IsHeadOver}
-use Rattle.pk_layout.specs.Gathered.{gathered, AreStarts, as_often, owned_by, times, slot_of_read, AreGiven, HaveSlots}
-use Rattle.pk_layout.specs.Layouts.{LayoutView, IsLaidOut}
+use Rattle.pk_layout.specs.Gathered.{gathered, AreStarts, owned_by, times, slot_of_read, AreGiven}
+use Rattle.pk_layout.specs.Layouts.{LayoutView, IsLaidOut, laid}
 use Rattle.pk_layout.specs.Exists.{FitsReadWithin, EveryPlanIsWired}
 use Rattle.pk_layout.proofs.Lists.{length_more, starts_none, starts_more, stands_at}
-use Rattle.pk_layout.proofs.Giving_more.{given_none, given_more}
-use Rattle.pk_layout.proofs.Laying.{AreParts, have_slots, laid_out}
+use Rattle.pk_layout.proofs.Laying.{AreParts, laid_out}
 
 precedes_from : (p : PlanView) (a b : ℕ) → Axioms p → Precedes p a b → a < p.elements
 precedes_from p a b axioms (One c) = constrains_from p a b axioms c
@@ -52,32 +50,16 @@ starts lists (suc n) =
     let m = length (gathered lists (n + 1)) in
     (before.0 ++ m ∷ [], subst (λ (k : ℕ). AreStarts lists k (before.0 ++ m ∷ [])) (add-one n) (starts_more lists n before.0 m before.1 refl))
 
-pub record Gives (first targets sources old : List ℕ) (n : ℕ) : Type 0 where
-  pub slots : List ℕ
-  pub now : List ℕ
-  pub given : AreGiven first targets sources old n slots now
-
-gives : (first targets sources old : List ℕ) → HaveSlots first targets sources (length old) → (n : ℕ) → n ≤ length targets → Gives first targets sources old n
-gives first targets sources old have zero h = record { slots = []; now = old; given = given_none first targets sources old }
-gives first targets sources old have (suc n) h =
-    let before = gives first targets sources old have n (omega (arith, h)) in
-    let slot = slot_of_read first targets n in
-    subst (Gives first targets sources old) (add-one n) (record {
-      slots = before.slots ++ slot ∷ [];
-      now = set before.now slot (get_or sources n 0);
-      given = given_more first targets sources old n slot before.slots before.now have (omega (arith, h)) refl before.given;
-    })
-
 pub every_layout : {C : Type 0} (b : Behaviour C) (n : ℕ) → ReadsWithin b n → (l : LayoutView) × IsLaidOut b n l
 every_layout b n within =
     let targets = gathered b.reads n in
     let counts = gathered (only (λ u. times u targets)) n in
-    let owners = gathered (owned_by counts) n in
     let first = starts (owned_by counts) n in
     let from = starts b.reads n in
-    let parts : AreParts b n counts owners first.0 from.0 = record { reads = within; counted = λ u below. listed (λ v. times v targets) n u below; owners = refl; first = first.1; from = from.1 } in
-    let it = gives first.0 targets (gathered (as_often b.reads) n) owners (have_slots parts) (length targets) (omega arith) in
-    (record { first = first.0; owners = owners; readers = it.now; inputs = it.slots; inputs_from = from.0 }, laid_out it.slots it.now parts it.given)
+    let slots = gathered (only (slot_of_read first.0 targets)) (length targets) in
+    let parts : AreParts b n counts first.0 from.0 = record { reads = within; counted = λ u below. listed (λ v. times v targets) n u below; first = first.1; from = from.1 } in
+    let given : AreGiven first.0 targets (length targets) slots = record { long = long (slot_of_read first.0 targets) (length targets); each = λ j below. listed (slot_of_read first.0 targets) (length targets) j below } in
+    (laid first.0 slots from.0, laid_out slots parts given)
 
 pub every_plan : {C : Type 0} (b : Behaviour C) → EveryPlanIsWired b
 every_plan b p limit axioms fits few limited =

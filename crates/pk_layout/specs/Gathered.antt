@@ -1,5 +1,5 @@
 -- Lists of the elements, one after another.
-use Rattle.std.specs.Prelude.{◌≡◌, ◌≢◌, ℕ, zero, suc, ◌+◌, ◌<◌, ◌≤◌, ◌==◌, ◌⊎◌, List, [], ◌++◌, length, take, count_by, replicate, slice_index}
+use Rattle.std.specs.Prelude.{◌≡◌, ℕ, zero, suc, ◌+◌, ◌-◌, ◌<◌, ◌≤◌, ◌==◌, List, [], ◌++◌, length, take, set, count_by, replicate, slice_index}
 
 -- the lists of the elements below n
 abbrev pub gathered : (ℕ → List ℕ) → ℕ → List ℕ
@@ -11,9 +11,13 @@ pub record AreStarts (lists : ℕ → List ℕ) (elements : ℕ) (from : List �
   pub long : length from ≡ elements + 1
   pub each : (e : ℕ) → e ≤ elements → slice_index from e ≡ length (gathered lists e)
 
--- each element as often as it reads
-abbrev pub as_often : (ℕ → List ℕ) → ℕ → List ℕ
-as_often reads e = replicate (length (reads e)) e
+-- an element as often as its stretch is long
+abbrev pub stretch : List ℕ → ℕ → List ℕ
+stretch from e = replicate (slice_index from (e + 1) - slice_index from e) e
+
+-- whose stretch each place lies in
+abbrev pub owners_in : List ℕ → List ℕ
+owners_in from = gathered (stretch from) (length from - 1)
 
 -- an element once, and once more for each time that it is read
 abbrev pub owned_by : List ℕ → ℕ → List ℕ
@@ -28,19 +32,12 @@ abbrev pub slot_of_read : List ℕ → List ℕ → ℕ → ℕ
 slot_of_read first targets j = slice_index first (slice_index targets j)
     + times (slice_index targets j) (take (j + 1) targets)
 
--- each of the first n reads has its slot, whose reader is written there, and no other slot's reader was changed
-pub record AreGiven (first targets sources old : List ℕ) (n : ℕ) (slots now : List ℕ) : Type 0 where
+-- each of the first n reads has its slot
+pub record AreGiven (first targets : List ℕ) (n : ℕ) (slots : List ℕ) : Type 0 where
   pub long : length slots ≡ n
-  pub as_many : length now ≡ length old
-  pub inputs : (j : ℕ) → j < n → slice_index slots j ≡ slot_of_read first targets j
-  pub written : (j : ℕ) → j < n → slice_index now (slot_of_read first targets j) ≡ slice_index sources j
-  pub changed : (k : ℕ)
-      → (slice_index now k ≡ slice_index old k)
-      ⊎ ((j : ℕ) × (j < n) × (slot_of_read first targets j ≡ k) × (slice_index now k ≡ slice_index sources j))
+  pub each : (j : ℕ) → j < n → slice_index slots j ≡ slot_of_read first targets j
 
--- each read is of an element, and has a slot of its own
-pub record HaveSlots (first targets sources : List ℕ) (slots : ℕ) : Type 0 where
-  pub as_many : length sources ≡ length targets
-  pub elements : (j : ℕ) → j < length targets → slice_index targets j < length first
-  pub within : (j : ℕ) → j < length targets → slot_of_read first targets j < slots
-  pub apart : (i j : ℕ) → i < j → j < length targets → slot_of_read first targets i ≢ slot_of_read first targets j
+-- a list where the j-th of these values was written at the j-th of these places, for each j below n in turn
+abbrev pub written : (old places values : List ℕ) → ℕ → List ℕ
+written old places values zero = old
+written old places values (suc n) = set (written old places values n) (slice_index places n) (slice_index values n)

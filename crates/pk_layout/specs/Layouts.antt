@@ -1,6 +1,7 @@
 -- The slots of a board: each element has one for its own cell, and one more for each read of that cell.
 use Rattle.std.specs.Prelude.{◌≡◌, ℕ, ◌+◌, ◌<◌, ◌≤◌, ◌⊎◌, List, length, Some, slice_get, slice_index, Contains}
 use Rattle.pk_iterate.specs.Behaviour.{Behaviour}
+use Rattle.pk_layout.specs.Gathered.{owners_in, written}
 
 pub record LayoutView : Type 0 where
   -- where each element's slots begin, and where those of the last one end
@@ -11,6 +12,17 @@ pub record LayoutView : Type 0 where
   -- the slots of what the elements read, one element after another; where each element's begin, and where those of the last one end
   pub inputs : List ℕ
   pub inputs_from : List ℕ
+
+-- What the slots of the elements and of the reads say. A slot belongs to the element in whose stretch it lies, and is read by its owner; that of a read
+-- is read by the element in whose stretch of reads that read lies.
+abbrev pub laid : (first inputs inputs_from : List ℕ) → LayoutView
+laid first inputs inputs_from = record {
+  first = first;
+  owners = owners_in first;
+  readers = written (owners_in first) inputs (owners_in inputs_from) (length inputs);
+  inputs = inputs;
+  inputs_from = inputs_from;
+}
 
 abbrev pub slots_of : LayoutView → ℕ
 slots_of l = length l.owners

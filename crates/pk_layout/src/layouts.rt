@@ -2,7 +2,7 @@
 
 ghost use Rattle.std.specs.Prelude.{◌≡◌, ◌+◌, ◌<◌, IfOk, length, slice_index};
 ghost use Rattle.pk_iterate.specs.Behaviour.{ReadsWithin};
-ghost use Rattle.pk_layout.specs.Layouts.{IsLaidOut, slots_of, first_of, owner_of, reader_of, input_of};
+ghost use Rattle.pk_layout.specs.Layouts.{IsLaidOut, first_of, input_of};
 
 use crate::gathering::{counted, gather, own_slots};
 use crate::giving::give;
@@ -15,24 +15,16 @@ use std::marker::Model;
 #[derive(Drop)]
 pub struct Layout {
     first: Vec<usize>,
-    owners: Vec<u32>,
-    readers: Vec<u32>,
     inputs: Vec<usize>,
     inputs_from: Vec<usize>,
 }
 
 impl Model for Layout {
-    ghost use Rattle.pk_layout.specs.Layouts.{LayoutView};
+    ghost use Rattle.pk_layout.specs.Layouts.{LayoutView, laid};
 
     ghost Value = { LayoutView };
 
-    ghost view = { λ l. record {
-      first = l.first.items;
-      owners = l.owners.items;
-      readers = l.readers.items;
-      inputs = l.inputs.items;
-      inputs_from = l.inputs_from.items;
-    } };
+    ghost view = { λ l. laid l.first.items l.inputs.items l.inputs_from.items };
 }
 
 impl Layout {
@@ -43,29 +35,13 @@ impl Layout {
     {
         let reads = gather(alloc, system, elements)?;
         let counts = counted(alloc, &reads.targets, elements)?;
-        let slots = own_slots(alloc, &counts, elements)?;
-        let mut readers = Vec::from_slice(alloc, &slots.owners)?;
-        let inputs = give(
-            alloc,
-            &slots.first,
-            &reads.targets,
-            &reads.sources,
-            &mut readers,
-        )?;
+        let first = own_slots(alloc, &counts)?;
+        let inputs = give(alloc, &first, &reads.targets)?;
         Ok(Layout {
-            first: slots.first,
-            owners: slots.owners,
-            readers,
+            first,
             inputs,
             inputs_from: reads.from,
         })
-    }
-
-    /// How many slots there are.
-    pub fn slots(&self) -> usize
-        ensures { result ≡ slots_of self.now }
-    {
-        self.owners.len()
     }
 
     /// The first slot of an element, and for the number of elements how many slots there are.
@@ -74,22 +50,6 @@ impl Layout {
         ensures { result ≡ first_of self.now e }
     {
         self.first[e as usize]
-    }
-
-    /// The element whose cell a slot holds.
-    pub fn owner(&self, slot: usize) -> u32
-        requires { slot < slots_of self.now }
-        ensures { result ≡ owner_of self.now slot }
-    {
-        self.owners[slot]
-    }
-
-    /// The element that reads a slot.
-    pub fn reader(&self, slot: usize) -> u32
-        requires { slot < length self.now.readers }
-        ensures { result ≡ reader_of self.now slot }
-    {
-        self.readers[slot]
     }
 
     /// The slot of the cell that an element reads at a place.

@@ -1,5 +1,5 @@
-use Rattle.std.proofs.Common.{◌≡◌, ℕ, ◌+◌, ◌++◌, List, replicate, length, sym, ap, subst, ◌∙◌}
-use Rattle.pk_layout.specs.Gathered.{gathered, as_often, AreStarts}
+use Rattle.std.proofs.Common.{◌≡◌, ℕ, ◌+◌, ◌++◌, List, length, sym, ap, subst, ◌∙◌}
+use Rattle.pk_layout.specs.Gathered.{gathered, AreStarts}
 use Rattle.pk_layout.proofs.Lists.{gathered_more, starts_more}
 use Rattle.pk_layout.proofs.gathering.gather.Goals as goal
 
@@ -9,15 +9,10 @@ loop-e-preserved g c =
     let e = c.loop-e.e in
     let targets : c.extend_from_slice.new.self.items ≡ gathered reads (e + 1) =
     c.in_ok-extend_from_slice.ensures.items
-    ∙ ap (λ (xs : List ℕ). c.loop-e.targets.items ++ xs) c.reads-reads.ensures
+    ∙ ap (λ (xs : List ℕ). c.loop-e.targets.items ++ xs) c.reads.ensures
     ∙ ap (λ (xs : List ℕ). xs ++ reads e) c.loop-e.invariant.targets
     ∙ sym (gathered_more reads e) in
     record {
       targets = targets;
-      sources =
-          c.in_ok-push_times.ensures
-          ∙ ap (λ (xs : List ℕ). c.loop-e.sources.items ++ replicate (length xs) e) c.reads-reads.ensures
-          ∙ ap (λ (xs : List ℕ). xs ++ as_often reads e) c.loop-e.invariant.sources
-          ∙ sym (gathered_more (as_often reads) e);
       from = subst (AreStarts reads (e + 1)) (sym c.in_ok-push-2.ensures.items) (starts_more reads e c.loop-e.from.items c.len.result c.loop-e.invariant.from (c.len.ensures ∙ c.extend_from_slice.new.self.ok.0 ∙ ap length targets));
     }

@@ -1,10 +1,9 @@
 use Rattle.std.proofs.Common.{◌≡◌}
-use Rattle.pk_layout.specs.Gathered.{gathered, AreStarts, as_often}
+use Rattle.pk_layout.specs.Gathered.{gathered, AreStarts}
 use Rattle.pk_layout.proofs.gathering.gather.Given as goal
 
 abbrev pub invariant-loop-e : goal.invariant-loop-e
 invariant-loop-e g l = record {
   targets : l.targets.items ≡ gathered (g.Y.System.meaning l.system).reads l.e;
-  sources : l.sources.items ≡ gathered (as_often (g.Y.System.meaning l.system).reads) l.e;
   from : AreStarts (g.Y.System.meaning l.system).reads l.e l.from.items;
 }

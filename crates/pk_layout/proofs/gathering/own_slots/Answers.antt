@@ -1,28 +1,30 @@
-use Rattle.std.proofs.Common.{◌≡◌, ℕ, ◌+◌, ◌++◌, List, [], ◌∷◌, replicate, length, sym, ap, subst, ◌∙◌, append_assoc, get_or}
-use Rattle.std.proofs.lemmas.List.{replicate_more}
+use Rattle.std.proofs.Common.{◌≡◌, ℕ, ◌+◌, ◌++◌, List, [], ◌∷◌, length, refl, sym, ap, subst, ◌∙◌, arith, get_or}
+use Rattle.std.proofs.lemmas.List.{length-replicate}
+use Rattle.std.proofs.lemmas.List.Sums.{sum_by_more_le}
 use Rattle.pk_layout.specs.Gathered.{gathered, owned_by, AreStarts}
-use Rattle.pk_layout.proofs.Lists.{gathered_more, starts_none, starts_more}
+use Rattle.pk_layout.proofs.Lists.{length_more, starts_none, starts_more}
+use Rattle.pk_layout.proofs.Counting.{long_owned}
 use Rattle.pk_layout.proofs.gathering.own_slots.Goals as goal
 
-pub loop-e-preserved : goal.loop-e-preserved
-loop-e-preserved c =
-    let lists = owned_by c.args.counts.now in
-    let e = c.loop-e.e in
-    let count = get_or c.args.counts.now e 0 in
-    let owners : c.push-in-loop-e.new.self.items ≡ gathered lists (e + 1) =
-    c.in_ok-push-2.ensures.items
-    ∙ ap (λ (xs : List ℕ). xs ++ e ∷ []) c.in_ok-push_times.ensures
-    ∙ append_assoc c.loop-e.owners.items (replicate count e) (e ∷ [])
-    ∙ ap (λ (xs : List ℕ). c.loop-e.owners.items ++ xs) (replicate_more count e)
-    ∙ ap (λ (xs : List ℕ). xs ++ replicate (count + 1) e) c.loop-e.invariant.owners
-    ∙ sym (gathered_more lists e) in
+pub overflow_add-slots-in-loop-count : goal.overflow_add-slots-in-loop-count
+overflow_add-slots-in-loop-count c =
+    let counts = c.args.counts.now in
+    let i = c.loop-count.count-index in
+    omega (arith, c.loop-count.invariant.slots, long_owned counts i (omega (arith, c.loop-count-test.true)), sum_by_more_le (λ x. x) counts i 0 c.loop-count-test.true, c.requires, c.loop-count-test.true)
+
+pub loop-count-preserved : goal.loop-count-preserved
+loop-count-preserved c =
+    let counts = c.args.counts.now in
+    let i = c.loop-count.count-index in
+    let m = c.loop-count.slots + (get_or counts i 0 + 1) in
+    let is : m ≡ length (gathered (owned_by counts) (i + 1)) = omega (arith, c.loop-count.invariant.slots, length_more (owned_by counts) i, length-replicate (get_or counts i 0 + 1) i) in
     record {
-      owners = owners;
-      first = subst (AreStarts lists (e + 1)) (sym c.in_ok-push-3.ensures.items) (starts_more lists e c.loop-e.first.items c.len.result c.loop-e.invariant.first (c.len.ensures ∙ c.push-in-loop-e.new.self.ok.0 ∙ ap length owners));
+      slots = is;
+      first = subst (AreStarts (owned_by counts) (i + 1)) (sym c.in_ok-push-2.ensures.items) (starts_more (owned_by counts) i c.loop-count.first.items m c.loop-count.invariant.first is);
     }
 
-pub loop-e-init : goal.loop-e-init
-loop-e-init c = record {
-  owners = c.new-owners.ensures.items;
+pub loop-count-init : goal.loop-count-init
+loop-count-init c = record {
+  slots = refl;
   first = subst (AreStarts (owned_by c.args.counts.now) 0) (sym (c.in_ok-push.ensures.items ∙ ap (λ (xs : List ℕ). xs ++ 0 ∷ []) c.new-first.ensures.items)) (starts_none (owned_by c.args.counts.now));
 }
