@@ -23,6 +23,7 @@ use Rattle.pk_graph.specs.contracts.graphs.Graph as graph
 use denote.Ref.{NamedLft}
 use denote.Struct.Field.{shr_ref_field}
 use Rattle.std.proofs.Crossing.{crosses}
+use Rattle.pk_state.specs.contracts.frame.Frame as lent
 use Rattle.pk_state.proofs.frame.Frame.TheSendSync as frame
 use Rattle.pk_state.proofs.state.State.TheSendSync as state
 use Rattle.pk_phases.proofs.equations.Part.TheSendSync as part
@@ -56,7 +57,7 @@ flow_sync a =
     view_sync _ _ _ _ _ (declared_sync (inside.the_type a) (
       as_row_sync (shr_ref_field a graph.the_row tt) (shr_sync _ _ graph.the_row graph_sync),
       (
-        search (as_row_sync, crosses, frame.the_send, frame.the_sync, sendable) depth 8,
+        as_row_sync (shr_ref_field a lent.the_row tt) (shr_sync _ _ lent.the_row frame.the_sync),
         (
           search (as_row_sync, crosses, sendable) depth 8,
           (

@@ -1,8 +1,8 @@
 // The analysis of a graph, as a system that is iterated.
 
 ghost use Rattle.std.specs.Prelude.{◌≡◌, ◌<◌, ◌≤◌, ◌^◌, IfOk, length, replicate};
-ghost use Rattle.std.specs.Arc.{arc_value};
 ghost use Rattle.pk_graph.specs.Shown.{graph_view};
+ghost use Rattle.pk_transfer.specs.Graphs.{layout_of};
 ghost use Rattle.pk_phases.specs.declared.equations.Part.TheVariants.{Point};
 ghost use Rattle.pk_analysis.specs.Made.{IsAnalysisOf, IsFlowOf};
 
@@ -15,9 +15,9 @@ use pk_graph::Graph;
 use pk_iterate::{Decision, System};
 use pk_phases::{Cell, Part, Phased};
 use pk_plan::Plan;
-use pk_state::State;
+use pk_state::{Frame, State};
 use pk_thresh::thresholds;
-use pk_transfer::{frame, graphs_law};
+use pk_transfer::graphs_law;
 use std::alloc::{AllocError, Global};
 use std::marker::Model;
 use std::sync::Arc;
@@ -52,20 +52,20 @@ impl<'g> Model for Analysis<'g> {
 fn analysed<'g>(
     alloc: Global,
     graph: &'g Graph,
+    frame: &'g Frame,
     parts: Vec<Part>,
     options: Options,
 ) -> Result<Analysis<'g>, AllocError>
     requires points { length (graph_view graph.now).points ≤ length parts.items }
     requires few { length parts.items < 2 ^ 32 }
-    requires oct { options.oct < 2 ^ 31 }
+    requires frame { frame.now ≡ layout_of (graph_view graph.now) options.oct }
     ensures { IfOk result (IsFlowOf (graph_view graph.now) parts.items options) }
 {
     graphs_law();
-    let frame = Arc::new(alloc, frame(alloc, graph, options.oct)?)?;
     let thresholds = thresholds(alloc, graph)?;
     let arrows = arrows(alloc, graph)?;
     let reads = reads(alloc, &arrows, &parts)?;
-    let start = start(alloc, graph, &frame)?;
+    let start = start(alloc, graph, frame)?;
     Ok(Analysis {
         phased: Phased {
             equations: Flow {
@@ -84,20 +84,21 @@ fn analysed<'g>(
 }
 
 impl<'g> Analysis<'g> {
-    /// The analysis of a graph by a plan of its digraph.
+    /// The analysis of a graph by a plan of its digraph, over the frame of its states.
     pub fn new(
         alloc: Global,
         graph: &'g Graph,
+        frame: &'g Frame,
         plan: &Plan,
         options: Options,
     ) -> Result<Analysis<'g>, AllocError>
         requires plan { plan.now.points ≡ length (graph_view graph.now).points }
-        requires oct { options.oct < 2 ^ 31 }
+        requires frame { frame.now ≡ layout_of (graph_view graph.now) options.oct }
         ensures { IfOk result (IsAnalysisOf (graph_view graph.now) plan.now options) }
     {
         plan.axioms();
         let parts = parts(alloc, plan)?;
-        analysed(alloc, graph, parts, options)
+        analysed(alloc, graph, frame, parts, options)
     }
 
     /// The equations of a graph's points alone: no element is a head or an exit, so a run of a point gives what its
@@ -105,9 +106,10 @@ impl<'g> Analysis<'g> {
     pub fn of_points(
         alloc: Global,
         graph: &'g Graph,
+        frame: &'g Frame,
         oct: usize,
     ) -> Result<Analysis<'g>, AllocError>
-        requires { oct < 2 ^ 31 }
+        requires frame { frame.now ≡ layout_of (graph_view graph.now) oct }
         ensures { IfOk result (IsFlowOf (graph_view graph.now) (replicate (length (graph_view graph.now).points) Point)
             (record { delay = 0; narrow = 0; oct = oct })) }
     {
@@ -116,6 +118,7 @@ impl<'g> Analysis<'g> {
         analysed(
             alloc,
             graph,
+            frame,
             parts,
             Options {
                 delay: 0,
@@ -132,7 +135,7 @@ impl<'g> System for Analysis<'g> {
     ghost use Rattle.pk_analysis.specs.Flows.{equations_of, IsOverFlow};
     ghost use Rattle.pk_analysis.specs.Keeping.{flow_keeps};
 
-    type Cell = Cell<State>;
+    type Cell = Cell<State<'g>>;
 
     ghost meaning = { λ a. behaviour_of (equations_of a) };
 
@@ -150,7 +153,7 @@ impl<'g> System for Analysis<'g> {
         self.phased.reads(e)
     }
 
-    fn first(&self, alloc: Global, e: u32) -> Result<Cell<State>, AllocError> {
+    fn first(&self, alloc: Global, e: u32) -> Result<Cell<State<'g>>, AllocError> {
         self.phased.first(alloc, e)
     }
 
@@ -158,8 +161,8 @@ impl<'g> System for Analysis<'g> {
         &self,
         alloc: Global,
         e: u32,
-        inputs: &[Arc<Cell<State>>],
-    ) -> Result<Cell<State>, AllocError> {
+        inputs: &[Arc<Cell<State<'g>>>],
+    ) -> Result<Cell<State<'g>>, AllocError> {
         self.phased.apply(alloc, e, inputs)
     }
 
@@ -167,12 +170,12 @@ impl<'g> System for Analysis<'g> {
         &self,
         alloc: Global,
         x: u32,
-        inputs: &[Arc<Cell<State>>],
-    ) -> Result<Decision<Cell<State>>, AllocError> {
+        inputs: &[Arc<Cell<State<'g>>>],
+    ) -> Result<Decision<Cell<State<'g>>>, AllocError> {
         self.phased.decide(alloc, x, inputs)
     }
 
-    fn is_unchanged(&self, e: u32, old: &Cell<State>, new: &Cell<State>) -> bool {
+    fn is_unchanged(&self, e: u32, old: &Cell<State<'g>>, new: &Cell<State<'g>>) -> bool {
         self.phased.is_unchanged(e, old, new)
     }
 }

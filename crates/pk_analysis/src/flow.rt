@@ -1,7 +1,6 @@
 // The equations of a graph.
 
 ghost use Rattle.std.specs.Prelude.{◌≡◌, IfOk, MatchOption, None};
-ghost use Rattle.std.specs.Arc.{arc_value};
 ghost use Rattle.pk_graph.specs.Shown.{graph_view};
 ghost use Rattle.pk_phases.specs.Equations.{value_of};
 ghost use Rattle.pk_state.specs.Facts.{joined};
@@ -23,18 +22,17 @@ use std::sync::Arc;
 #[derive(Drop)]
 pub struct Flow<'g> {
     pub(crate) graph: &'g Graph,
-    pub(crate) frame: Arc<Frame>,
+    pub(crate) frame: &'g Frame,
     pub(crate) thresholds: Vec<i128>,
     pub(crate) parts: Vec<Part>,
     pub(crate) arrows: Vec<Vec<Arrow>>,
     pub(crate) reads: Vec<Vec<u32>>,
-    pub(crate) start: State,
+    pub(crate) start: State<'g>,
     pub(crate) delay: u32,
     pub(crate) narrow: u32,
 }
 
 impl<'g> Model for Flow<'g> {
-    ghost use Rattle.std.specs.Arc.{arc_value};
     ghost use Rattle.pk_graph.specs.Shown.{graph_view};
     ghost use Rattle.pk_analysis.specs.Arrows.{rows_of};
     ghost use Rattle.pk_analysis.specs.Flows.{Flow};
@@ -48,19 +46,24 @@ impl<'g> Model for Flow<'g> {
 
     ghost view = { λ f. record {
       graph = f.graph.now;
-      layout = arc_value f.frame;
+      layout = f.frame.now;
       thresholds = f.thresholds.items;
       parts = f.parts.items;
       delay = f.delay;
       narrow = f.narrow;
     } };
 
-    ghost invariant = { λ f. IsIndexed (graph_view f.graph.now) (arc_value f.frame) f.thresholds.items f.parts.items
+    ghost invariant = { λ f. IsIndexed (graph_view f.graph.now) f.frame.now f.thresholds.items f.parts.items
         (rows_of f.arrows.items) (rows_of f.reads.items) f.start };
 }
 
 // What is known after an edge, of what is known before it.
-fn passed(alloc: Global, flow: &Flow, arrow: Arrow, state: &State) -> Result<State, AllocError>
+fn passed<'g>(
+    alloc: Global,
+    flow: &Flow,
+    arrow: Arrow,
+    state: &State<'g>,
+) -> Result<State<'g>, AllocError>
     requires arrow { IsArrow (graph_view flow.now.graph) arrow }
     requires layout { state.now.layout ≡ flow.now.layout }
     ensures { IfOk result (λ s. s ≡ stated flow.now.layout
@@ -74,7 +77,7 @@ fn passed(alloc: Global, flow: &Flow, arrow: Arrow, state: &State) -> Result<Sta
 }
 
 // The state of a cell, if some run comes there.
-fn reached<'c>(cell: &'c Cell<State>) -> Option<&'c State>
+fn reached<'c, 'g>(cell: &'c Cell<State<'g>>) -> Option<&'c State<'g>>
     ensures { (l : Layout) → MatchOption result ((value_of (stated l None) cell.now).facts ≡ None)
         (λ s. s.now ≡ value_of (stated l None) cell.now) }
 {
@@ -85,9 +88,13 @@ fn reached<'c>(cell: &'c Cell<State>) -> Option<&'c State>
 }
 
 // What is known where either is: the other where no run comes to the one.
-fn joined_with(alloc: Global, state: State, next: State) -> Result<State, AllocError>
+fn joined_with<'g>(
+    alloc: Global,
+    state: State<'g>,
+    next: State<'g>,
+) -> Result<State<'g>, AllocError>
     requires { next.layout ≡ state.layout }
-    ensures { IfOk result (λ s. s ≡ stated state.layout (joined state.facts next.facts)) }
+    ensures { IfOk result (λ s. s ≡ stated state.entry.layout (joined state.entry.facts next.entry.facts)) }
 {
     if state.is_bottom() {
         Ok(next)
@@ -97,17 +104,17 @@ fn joined_with(alloc: Global, state: State, next: State) -> Result<State, AllocE
 }
 
 // What is known where also an edge leads to that begins at a cell's point: the same where no run comes there.
-fn arrive(
+fn arrive<'g>(
     alloc: Global,
     flow: &Flow,
     arrow: Arrow,
-    cell: &Cell<State>,
-    state: State,
-) -> Result<State, AllocError>
+    cell: &Cell<State<'g>>,
+    state: State<'g>,
+) -> Result<State<'g>, AllocError>
     requires arrow { IsArrow (graph_view flow.now.graph) arrow }
     requires held { (value_of (stated flow.now.layout None) cell.now).layout ≡ flow.now.layout }
     requires layout { state.layout ≡ flow.now.layout }
-    ensures { IfOk result (λ s. s ≡ stated flow.now.layout (joined state.facts (transferred flow.now.layout
+    ensures { IfOk result (λ s. s ≡ stated flow.now.layout (joined state.entry.facts (transferred flow.now.layout
         (value_of (stated flow.now.layout None) cell.now).facts (instr_of (graph_view flow.now.graph) arrow)))) }
 {
     match reached(cell) {
@@ -120,18 +127,18 @@ fn arrive(
 }
 
 // What is known at a point before any edge: the start state at the entry.
-fn begun(alloc: Global, flow: &Flow, v: u32) -> Result<State, AllocError>
+fn begun<'g>(alloc: Global, flow: &Flow<'g>, v: u32) -> Result<State<'g>, AllocError>
     ensures { IfOk result (λ s. s ≡ stated flow.now.layout (start_at (graph_view flow.now.graph) flow.now.layout v)) }
 {
     if v == 0 {
         flow.start.copy(alloc)
     } else {
-        Ok(State::bottom(Arc::try_clone(&flow.frame)?))
+        Ok(State::bottom(flow.frame))
     }
 }
 
 // The edges that lead to a point.
-fn row<'f>(flow: &'f Flow, v: u32) -> &'f [Arrow]
+fn row<'r>(flow: &'r Flow, v: u32) -> &'r [Arrow]
     ensures { result.now ≡ arrows_at (graph_view flow.now.graph) v }
 {
     flow.graph.well_made();
@@ -145,7 +152,7 @@ impl<'g> Equate for Flow<'g> {
     ghost use Rattle.pk_analysis.specs.Flows.{equations_of, IsOverFlow};
     ghost use Rattle.pk_analysis.specs.Keeping.{flow_keeps};
 
-    type Value = State;
+    type Value = State<'g>;
 
     ghost meaning = { λ a. equations_of a };
 
@@ -176,16 +183,16 @@ impl<'g> Equate for Flow<'g> {
         self.narrow
     }
 
-    fn bottom(&self, _: Global) -> Result<State, AllocError> {
-        Ok(State::bottom(Arc::try_clone(&self.frame)?))
+    fn bottom(&self, _: Global) -> Result<State<'g>, AllocError> {
+        Ok(State::bottom(self.frame))
     }
 
     fn new_value(
         &self,
         alloc: Global,
         e: u32,
-        cells: &[Arc<Cell<State>>],
-    ) -> Result<State, AllocError> {
+        cells: &[Arc<Cell<State<'g>>>],
+    ) -> Result<State<'g>, AllocError> {
         let mut state = begun(alloc, self, e)?;
         let row = row(self, e);
         for i in 0..row.len() {
@@ -194,29 +201,44 @@ impl<'g> Equate for Flow<'g> {
         Ok(state)
     }
 
-    fn leq(&self, new: &State, old: &State) -> bool {
+    fn leq(&self, new: &State<'g>, old: &State<'g>) -> bool {
         new.is_stated();
         old.is_stated();
         new.leq(old)
     }
 
-    fn same(&self, a: &State, b: &State) -> bool {
+    fn same(&self, a: &State<'g>, b: &State<'g>) -> bool {
         a.equals(b)
     }
 
-    fn is_unchanged(&self, old: &State, new: &State) -> bool {
+    fn is_unchanged(&self, old: &State<'g>, new: &State<'g>) -> bool {
         old.is_bottom() && new.is_bottom()
     }
 
-    fn joined(&self, alloc: Global, old: &State, new: &State) -> Result<State, AllocError> {
+    fn joined(
+        &self,
+        alloc: Global,
+        old: &State<'g>,
+        new: &State<'g>,
+    ) -> Result<State<'g>, AllocError> {
         old.join(alloc, new)
     }
 
-    fn widen(&self, alloc: Global, old: &State, new: &State) -> Result<State, AllocError> {
+    fn widen(
+        &self,
+        alloc: Global,
+        old: &State<'g>,
+        new: &State<'g>,
+    ) -> Result<State<'g>, AllocError> {
         old.widen(alloc, new, &self.thresholds)
     }
 
-    fn narrowed(&self, alloc: Global, old: &State, new: &State) -> Result<State, AllocError> {
+    fn narrowed(
+        &self,
+        alloc: Global,
+        old: &State<'g>,
+        new: &State<'g>,
+    ) -> Result<State<'g>, AllocError> {
         old.narrow(alloc, new)
     }
 }

@@ -1,7 +1,6 @@
 // The start state.
 
 ghost use Rattle.std.specs.Prelude.{◌≡◌, ℕ, pos, if◌then◌else◌, IfOk, Some, All};
-ghost use Rattle.std.specs.Arc.{arc_value};
 ghost use Rattle.pk_ctypes.specs.Types.{InType};
 ghost use Rattle.pk_graph.specs.Kinds.{count_of};
 ghost use Rattle.pk_graph.specs.Graphs.{variable_view};
@@ -20,7 +19,6 @@ use pk_interval::{ordered_law, types_law};
 use pk_state::{Frame, State};
 use pk_value::Value;
 use std::alloc::{AllocError, Global};
-use std::sync::Arc;
 
 // Facts on a value: it is in the type, has a number, and its class is reduced.
 fn exactly_in(t: IntType, number: i128) -> Value
@@ -124,13 +122,13 @@ fn known(variable: &Variable) -> Value
 }
 
 /// What is known when a run begins.
-pub fn start(alloc: Global, graph: &Graph, frame: &Arc<Frame>) -> Result<State, AllocError>
-    requires { (oct : ℕ) × (arc_value frame.now ≡ layout_of (graph_view graph.now) oct) }
+pub fn start<'g>(alloc: Global, graph: &Graph, frame: &'g Frame) -> Result<State<'g>, AllocError>
+    requires { (oct : ℕ) × (frame.now ≡ layout_of (graph_view graph.now) oct) }
     ensures { IfOk result
-        (λ s. s ≡ stated (arc_value frame.now) (Some (start_facts (graph_view graph.now) (arc_value frame.now)))) }
+        (λ s. s ≡ stated frame.now (Some (start_facts (graph_view graph.now) frame.now))) }
 {
     graph.well_made();
-    let mut state = State::top(alloc, Arc::try_clone(frame)?)?;
+    let mut state = State::top(alloc, frame)?;
     let variables = graph.variables();
     for x in 0..variables.len() {
         state = state.with_value(alloc, x, known(&variables[x]))?;

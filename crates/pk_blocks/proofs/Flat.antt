@@ -37,6 +37,17 @@ read_at {A} n (a ∷ bs) i (suc j) r b x h e p q d g =
     let size : length a ≡ n = All-head (λ (c : List A). length c ≡ n) a bs h in
     get_right a (flat bs) i (j * n + r) (omega arith) ∙ read_at n bs (j * n + r) j r b x (All-tail (λ (c : List A). length c ≡ n) a bs h) refl (omega arith) q d g
 
+-- the same, whether there is an item or not
+pub read_row : {A : Type 0} (n : ℕ) (bs : List (List A)) (i j r : ℕ) (b : List A) → AreRows n bs → i ≡ j * n + r → j < length bs → r < n → b ≡ get_or bs j b → slice_get (flat bs) i ≡ slice_get b r
+read_row n [] i j r b h e p q d = absurd (omega arith)
+read_row {A} n (a ∷ bs) i zero r b h e p q d =
+    let size : length a ≡ n = All-head (λ (c : List A). length c ≡ n) a bs h in
+    let same : i ≡ r = omega arith in
+    get_left a (flat bs) i (omega arith) ∙ ap (slice_get a) same ∙ ap (λ c. slice_get c r) (sym d)
+read_row {A} n (a ∷ bs) i (suc j) r b h e p q d =
+    let size : length a ≡ n = All-head (λ (c : List A). length c ≡ n) a bs h in
+    get_right a (flat bs) i (j * n + r) (omega arith) ∙ read_row n bs (j * n + r) j r b (All-tail (λ (c : List A). length c ≡ n) a bs h) refl (omega arith) q d
+
 -- an item written in its row
 pub write_at : {A : Type 0} (n : ℕ) (bs : List (List A)) (i j r : ℕ) (b : List A) (x : A) → AreRows n bs → i ≡ j * n + r → j < length bs → r < n → b ≡ get_or bs j b → flat (set bs j (set b r x)) ≡ set (flat bs) i x
 write_at n [] i j r b x h e p q d = absurd (omega arith)

@@ -90,6 +90,14 @@ impl<T: Item> Block<T> {
         self.items[i]
     }
 
+    #[inline]
+    pub(crate) fn row(&self) -> &[T]
+        ensures value { result.now ≡ self.now }
+        ensures size { length result.now ≡ 16 }
+    {
+        &self.items
+    }
+
     pub(crate) fn share(&self) -> Result<Block<T>, AllocError>
         ensures { IfOk result (λ b. b ≡ self.now) }
     {

@@ -1,6 +1,6 @@
 // Lists in groups of blocks.
 
-ghost use Rattle.std.specs.Prelude.{◌≡◌, ◌<◌, ◌≤◌, ◌+◌, ◌*◌, ◌/◌, ◌%◌, ◌^◌, IfOk, OnOk, OnErr, length, take, slice_get, slice_set, Some, replicate};
+ghost use Rattle.std.specs.Prelude.{◌≡◌, ℕ, ◌<◌, ◌≤◌, ◌+◌, ◌*◌, ◌/◌, ◌%◌, ◌^◌, IfOk, OnOk, OnErr, length, take, slice_get, slice_set, Some, replicate};
 ghost use Rattle.pk_blocks.specs.Rows.{flat, AreRows, merged_from, below, group_size};
 
 use crate::block::{Block, ITEMS};
@@ -144,6 +144,17 @@ impl<T: Item> Blocks<T> {
         ensures { slice_get self.now i ≡ Some result }
     {
         self.groups[i / GROUP].get(i % GROUP)
+    }
+
+    /// The sixteen items from a place on that stand together; those past the list's end are any.
+    #[inline]
+    pub fn row(&self, i: usize) -> &[T]
+        requires place { i < length self.now }
+        requires first { i % 16 ≡ 0 }
+        ensures size { length result.now ≡ 16 }
+        ensures items { (r : ℕ) → r < 16 → i + r < length self.now → slice_get result.now r ≡ slice_get self.now (i + r) }
+    {
+        self.groups[i / GROUP].row(i % GROUP)
     }
 
     /// Writes an item: its block is copied, and the rest stays shared.

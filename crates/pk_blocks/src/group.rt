@@ -1,6 +1,6 @@
 // Up to thirty-two blocks behind one pointer.
 
-ghost use Rattle.std.specs.Prelude.{◌≡◌, ◌<◌, ◌^◌, ◌+◌, ◌*◌, ◌%◌, true, IfOk, length, slice_get, slice_set, Some, replicate};
+ghost use Rattle.std.specs.Prelude.{◌≡◌, ℕ, ◌<◌, ◌^◌, ◌+◌, ◌*◌, ◌%◌, true, IfOk, length, slice_get, slice_set, Some, replicate};
 ghost use Rattle.pk_blocks.specs.Rows.{flat, AreRows, merged_from, below};
 
 use crate::block::{Block, ITEMS};
@@ -140,6 +140,16 @@ impl<T: Item> Group<T> {
         ensures { slice_get self.now i ≡ Some result }
     {
         self.blocks[i / ITEMS].get(i % ITEMS)
+    }
+
+    #[inline]
+    pub(crate) fn row(&self, i: usize) -> &[T]
+        requires place { i < length self.now }
+        requires first { i % 16 ≡ 0 }
+        ensures size { length result.now ≡ 16 }
+        ensures items { (r : ℕ) → r < 16 → slice_get result.now r ≡ slice_get self.now (i + r) }
+    {
+        self.blocks[i / ITEMS].row()
     }
 
     pub(crate) fn share(&self) -> Result<Group<T>, AllocError>

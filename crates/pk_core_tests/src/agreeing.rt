@@ -57,12 +57,12 @@ pub fn agree(core: &Core<Analysis>, cells: &Cells<Cell<State>>, elements: u32) -
 }
 
 // What the iteration leaves.
-pub fn iterated(
+pub fn iterated<'f>(
     alloc: Global,
-    analysis: &Analysis,
+    analysis: &Analysis<'f>,
     plan: &Plan,
     order: &Order,
-) -> Result<Cells<Cell<State>>, Solve>
+) -> Result<Cells<Cell<State<'f>>>, Solve>
     requires reads { ReadsWithin (behaviour_of (equations_of analysis.now)) plan.now.elements }
     requires elements { order.now.elements ≡ plan.now.elements }
     ensures cells { IfOk result (λ it. length it.cells ≡ plan.now.elements) }

@@ -20,6 +20,7 @@ use pk_phases::{Cell, Phase};
 use pk_plan::{Order, Plan};
 use pk_state::State;
 use pk_text_graph::graph_of_text;
+use pk_transfer::frame;
 use std::alloc::Global;
 use std::process::Abort;
 use std::test::Fail;
@@ -205,7 +206,8 @@ fn graph_as_iterated(
         narrow: 2,
         oct: 16,
     };
-    let analysis = Analysis::new(alloc, graph, plan, options)?;
+    let frame = frame(alloc, graph, options.oct)?;
+    let analysis = Analysis::new(alloc, graph, &frame, plan, options)?;
     assert!(rt; reads_within(&analysis, plan.elements()));
     lists_as_iterated(rt, alloc, &analysis, plan, order, list, runs)
 }
@@ -284,7 +286,8 @@ fn a_narrowed_value_fails_its_test(rt: HostRuntime) -> Result<(), Fail> {
         narrow: 2,
         oct: 16,
     };
-    let analysis = Analysis::new(alloc, &graph, &plan, options)?;
+    let frame = frame(alloc, &graph, options.oct)?;
+    let analysis = Analysis::new(alloc, &graph, &frame, &plan, options)?;
     assert!(rt; reads_within(&analysis, plan.elements()));
     assert!(rt; phases(alloc, &analysis, &plan)?.as_str() == "Up Up Down 1 Last ");
     Ok(())

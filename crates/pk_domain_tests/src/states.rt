@@ -1,22 +1,20 @@
 // Small states: what an octagon decides that intervals can't, and that no run comes to a point.
 
 ghost use Rattle.std.specs.Prelude.{◌≡◌, ◌<◌, IfOk, length};
-ghost use Rattle.std.specs.Arc.{arc_value};
 
 use pk_ctypes::IntType;
 use pk_state::{Frame, State};
 use std::alloc::{AllocError, Global};
-use std::sync::Arc;
 use std::test::Fail;
 
 // Two variables of type int, and an octagon over both.
-fn pair(alloc: Global) -> Result<Arc<Frame>, AllocError>
-    ensures types { IfOk result (λ f. length (arc_value f).types ≡ 2) }
-    ensures chosen { IfOk result (λ f. length (arc_value f).chosen ≡ 2) }
+fn pair(alloc: Global) -> Result<Frame, AllocError>
+    ensures types { IfOk result (λ f. length f.types ≡ 2) }
+    ensures chosen { IfOk result (λ f. length f.chosen ≡ 2) }
 {
     let types = Vec::from_slice(alloc, &[IntType::Int, IntType::Int])?;
     let chosen = Vec::from_slice(alloc, &[0, 1])?;
-    Ok(Arc::new(alloc, Frame::new(types, chosen))?)
+    Ok(Frame::new(types, chosen))
 }
 
 // The bounds of a variable; none where no run comes there.
@@ -27,11 +25,11 @@ fn range(s: &State, x: usize) -> Option<(i128, i128)>
 }
 
 // x from 0 to 10 and y at most 5, over one frame.
-fn small(alloc: Global, frame: &Arc<Frame>) -> Result<State, AllocError>
-    requires { length (arc_value frame.now).chosen ≡ 2 }
-    ensures { IfOk result (λ s. s.layout ≡ arc_value frame.now) }
+fn small<'f>(alloc: Global, frame: &'f Frame) -> Result<State<'f>, AllocError>
+    requires { length frame.now.chosen ≡ 2 }
+    ensures { IfOk result (λ s. s.layout ≡ frame.now) }
 {
-    State::top(alloc, Arc::try_clone(frame)?)?
+    State::top(alloc, frame)?
         .with_guard(alloc, Some(0), None, 10)?
         .with_guard(alloc, Some(1), None, 0)?
         .with_guard(alloc, Some(2), None, 5)?
@@ -39,9 +37,9 @@ fn small(alloc: Global, frame: &Arc<Frame>) -> Result<State, AllocError>
 }
 
 // x from 0 to 3 as well.
-fn less(alloc: Global, frame: &Arc<Frame>) -> Result<State, AllocError>
-    requires { length (arc_value frame.now).chosen ≡ 2 }
-    ensures { IfOk result (λ s. s.layout ≡ arc_value frame.now) }
+fn less<'f>(alloc: Global, frame: &'f Frame) -> Result<State<'f>, AllocError>
+    requires { length frame.now.chosen ≡ 2 }
+    ensures { IfOk result (λ s. s.layout ≡ frame.now) }
 {
     small(alloc, frame)?
         .with_guard(alloc, Some(0), None, 3)?
@@ -49,9 +47,9 @@ fn less(alloc: Global, frame: &Arc<Frame>) -> Result<State, AllocError>
 }
 
 // And x < y.
-fn ordered(alloc: Global, frame: &Arc<Frame>) -> Result<State, AllocError>
-    requires { length (arc_value frame.now).chosen ≡ 2 }
-    ensures { IfOk result (λ s. s.layout ≡ arc_value frame.now) }
+fn ordered<'f>(alloc: Global, frame: &'f Frame) -> Result<State<'f>, AllocError>
+    requires { length frame.now.chosen ≡ 2 }
+    ensures { IfOk result (λ s. s.layout ≡ frame.now) }
 {
     small(alloc, frame)?
         .with_guard(alloc, Some(0), Some(3), -1)?
@@ -85,7 +83,7 @@ fn orders(rt: HostRuntime) -> Result<(), Fail> {
 fn bottoms(rt: HostRuntime) -> Result<(), Fail> {
     let frame = pair(rt.alloc())?;
     let small = small(rt.alloc(), &frame)?;
-    let bottom = State::bottom(frame);
+    let bottom = State::bottom(&frame);
     assert!(rt; (bottom.leq(&small), small.leq(&bottom)) == (true, false));
     assert!(rt; bottom.join(rt.alloc(), &small)?.equals(&small));
     Ok(())

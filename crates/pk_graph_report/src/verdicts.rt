@@ -19,18 +19,18 @@ use std::alloc::{AllocError, Global};
 
 // A point and its reduced state.
 #[derive(Drop)]
-pub(crate) struct Known {
+pub(crate) struct Known<'f> {
     pub point: usize,
-    pub state: State,
+    pub state: State<'f>,
 }
 
 // What is known at a point, which is kept from the access before where that is at the same point.
-fn known_at(
+fn known_at<'f>(
     alloc: Global,
-    states: &States,
-    kept: Option<Known>,
+    states: &States<'f>,
+    kept: Option<Known<'f>>,
     point: usize,
-) -> Result<Known, AllocError>
+) -> Result<Known<'f>, AllocError>
     requires kept { IfSome kept (λ k. k.state ≡ state_at states.now k.point) }
     requires point { point < length states.now }
     ensures point { IfOk result (λ k. k.point ≡ point) }
@@ -46,12 +46,12 @@ fn known_at(
 }
 
 // The verdict on an access, by what is known at its point.
-fn verdict_on(
+fn verdict_on<'f>(
     alloc: Global,
-    states: &States,
-    kept: Option<Known>,
+    states: &States<'f>,
+    kept: Option<Known<'f>>,
     access: &Access<'_>,
-) -> Result<(Verdict, Known), AllocError>
+) -> Result<(Verdict, Known<'f>), AllocError>
     requires kept { IfSome kept (λ k. k.state ≡ state_at states.now k.point) }
     requires point { access.now.point < length states.now }
     requires typed { IsTypedOperation (kinds_of (state_at states.now access.now.point).layout)

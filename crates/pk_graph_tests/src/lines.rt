@@ -1,7 +1,6 @@
 // What is known at the end of a line of instructions.
 
 ghost use Rattle.std.specs.Prelude.{◌≡◌, ◌<◌, length, IfOk};
-ghost use Rattle.std.specs.Arc.{arc_value};
 ghost use Rattle.pk_graph.specs.Shown.{graph_view};
 ghost use Rattle.pk_transfer.specs.Graphs.{layout_of};
 
@@ -9,17 +8,16 @@ use pk_graph::Graph;
 use pk_state::{Frame, State};
 use pk_transfer::{graphs_law, transfer};
 use std::alloc::Global;
-use std::sync::Arc;
 use std::test::Fail;
 
 // What is known after the one edge of a point, which leads to the next point.
-fn passed(
+fn passed<'f>(
     alloc: Global,
     graph: &Graph,
     oct: usize,
     point: usize,
-    state: &State,
-) -> Result<State, Fail>
+    state: &State<'f>,
+) -> Result<State<'f>, Fail>
     requires point { point < length (graph_view graph.now).points }
     requires layout { state.now.layout ≡ layout_of (graph_view graph.now) oct }
     ensures { IfOk result (λ s. s.layout ≡ state.now.layout) }
@@ -39,11 +37,16 @@ fn passed(
 }
 
 /// What is known before the result of the main function is set, which is three points before the end, reduced. Nothing is known at the start.
-pub fn along(alloc: Global, graph: &Graph, oct: usize, frame: &Arc<Frame>) -> Result<State, Fail>
-    requires { arc_value frame.now ≡ layout_of (graph_view graph.now) oct }
-    ensures { IfOk result (λ s. s.layout ≡ arc_value frame.now) }
+pub fn along<'f>(
+    alloc: Global,
+    graph: &Graph,
+    oct: usize,
+    frame: &'f Frame,
+) -> Result<State<'f>, Fail>
+    requires { frame.now ≡ layout_of (graph_view graph.now) oct }
+    ensures { IfOk result (λ s. s.layout ≡ frame.now) }
 {
-    let mut state = State::top(alloc, Arc::try_clone(frame)?)?;
+    let mut state = State::top(alloc, frame)?;
     for point in 0..graph.points().saturating_sub(3) {
         state = passed(alloc, graph, oct, point, &state)?;
     }

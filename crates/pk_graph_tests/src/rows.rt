@@ -10,7 +10,6 @@ use pk_graph::Graph;
 use pk_transfer::frame;
 use std::alloc::Global;
 use std::process::Abort;
-use std::sync::Arc;
 use std::test::Fail;
 
 const ROWS: &str = "
@@ -284,7 +283,7 @@ fn text_of(alloc: Global, body: &str) -> Result<String, Fail> {
 fn known_after(alloc: Global, graph: &Graph, oct: usize) -> Result<String, Fail>
     requires { oct < 100 }
 {
-    let frame = Arc::new(alloc, frame(alloc, graph, oct)?)?;
+    let frame = frame(alloc, graph, oct)?;
     let state = along(alloc, graph, oct, &frame)?;
     Ok(print(alloc, graph, &frame, &state)?)
 }

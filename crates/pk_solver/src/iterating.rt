@@ -19,12 +19,12 @@ use pk_state::State;
 use std::alloc::Global;
 
 /// What the iteration over the plan's order leaves.
-pub(crate) fn cells_by_order(
+pub(crate) fn cells_by_order<'f>(
     alloc: Global,
-    analysis: &Analysis,
+    analysis: &Analysis<'f>,
     options: &IterationOptions,
     plan: &Plan,
-) -> Result<Cells<Cell<State>>, SolverError>
+) -> Result<Cells<Cell<State<'f>>>, SolverError>
     requires range { AreInRange options.now }
     requires system { (order : Level)
         × IsSystem (graph_view analysis.now.graph) options.now.analysis plan.now order analysis.now }

@@ -1,8 +1,9 @@
 // What the iteration leaves at each point of a graph.
 
-ghost use Rattle.std.specs.Prelude.{◌≡◌, ◌<◌, ◌≤◌, ◌^◌, IfOk, IfErr, length};
+ghost use Rattle.std.specs.Prelude.{◌≡◌, ◌≤◌, IfOk, IfErr, length};
 ghost use Rattle.pk_graph.specs.Shown.{graph_view};
 ghost use Rattle.pk_graph.specs.WellMade.{IsGraph};
+ghost use Rattle.pk_transfer.specs.Graphs.{layout_of};
 ghost use Rattle.pk_plan.specs.Order.{Level};
 ghost use Rattle.pk_order.specs.Ordered.{IsOrdered};
 ghost use Rattle.pk_analysis.specs.Digraphs.{digraph_of};
@@ -21,7 +22,7 @@ use pk_order::planned;
 use pk_order_laws::every_plan_has_a_linear_order;
 use pk_phases::Cell;
 use pk_plan::Plan;
-use pk_state::State;
+use pk_state::{Frame, State};
 use pk_workers::{Gate, run_workers};
 use std::alloc::{AllocError, Global};
 use std::sync::Wait;
@@ -38,9 +39,9 @@ pub struct IterationOptions {
 
 /// The plan of a graph, and what is known at each of its points.
 #[derive(Drop)]
-pub struct Solution {
+pub struct Solution<'f> {
     pub plan: Plan,
-    pub states: States,
+    pub states: States<'f>,
 }
 
 /// Why there is no solution.
@@ -77,13 +78,14 @@ fn plan_of(alloc: Global, graph: &Graph) -> Result<Plan, AllocError>
 }
 
 // The equations of a graph, with the heads and exits of its plan.
-fn analysis_of<'g>(
+fn analysis_of<'f>(
     alloc: Global,
-    graph: &'g Graph,
+    graph: &'f Graph,
+    frame: &'f Frame,
     options: Options,
     plan: &Plan,
-) -> Result<Analysis<'g>, AllocError>
-    requires oct { options.oct < 2 ^ 31 }
+) -> Result<Analysis<'f>, AllocError>
+    requires frame { frame.now ≡ layout_of (graph_view graph.now) options.oct }
     requires ordered { (order : Level) × IsOrdered (digraph_of (graph_view graph.now)) plan.now order }
     ensures graph { IfOk result (λ analysis. graph_view analysis.graph ≡ graph_view graph.now) }
     ensures made { IfOk result (λ analysis. IsGraph (graph_view analysis.graph)) }
@@ -91,20 +93,20 @@ fn analysis_of<'g>(
         × IsSystem (graph_view analysis.graph) options plan.now order analysis) }
 {
     graph.well_made();
-    let analysis = Analysis::new(alloc, graph, plan, options)?;
+    let analysis = Analysis::new(alloc, graph, frame, plan, options)?;
     Ok(analysis)
 }
 
 // What workers leave.
-fn cells_by_plan<R: Threads + Wait + Sync, G: Gate + Sync>(
+fn cells_by_plan<'f, R: Threads + Wait + Sync, G: Gate + Sync>(
     rt: &R,
     alloc: Global,
     gate: &G,
-    analysis: &Analysis,
+    analysis: &Analysis<'f>,
     options: &IterationOptions,
     plan: &Plan,
     workers: u32,
-) -> Result<Cells<Cell<State>>, SolverError>
+) -> Result<Cells<Cell<State<'f>>>, SolverError>
     requires range { AreInRange options.now }
     requires workers { (1 ≤ workers) × (workers ≤ most_workers) }
     requires few { plan.now.elements ≤ most_elements }
@@ -125,14 +127,14 @@ fn cells_by_plan<R: Threads + Wait + Sync, G: Gate + Sync>(
 }
 
 // What as many workers leave as pay. Where that is one, and nobody watches, it is the iteration on this thread.
-fn cells_by<R: Threads + Wait + Sync, G: Gate + Sync>(
+fn cells_by<'f, R: Threads + Wait + Sync, G: Gate + Sync>(
     rt: &R,
     alloc: Global,
     gate: &G,
-    analysis: &Analysis,
+    analysis: &Analysis<'f>,
     options: &IterationOptions,
     plan: &Plan,
-) -> Result<Cells<Cell<State>>, SolverError>
+) -> Result<Cells<Cell<State<'f>>>, SolverError>
     requires range { AreInRange options.now }
     requires few { plan.now.elements ≤ most_elements }
     requires made { IsGraph (graph_view analysis.now.graph) }
@@ -153,14 +155,14 @@ fn cells_by<R: Threads + Wait + Sync, G: Gate + Sync>(
 }
 
 // What is left at each point, reduced.
-fn states_by<R: Threads + Wait + Sync, G: Gate + Sync>(
+fn states_by<'f, R: Threads + Wait + Sync, G: Gate + Sync>(
     rt: &R,
     alloc: Global,
     gate: &G,
-    analysis: &Analysis,
+    analysis: &Analysis<'f>,
     options: &IterationOptions,
     plan: &Plan,
-) -> Result<States, SolverError>
+) -> Result<States<'f>, SolverError>
     requires range { AreInRange options.now }
     requires few { plan.now.elements ≤ most_elements }
     requires made { IsGraph (graph_view analysis.now.graph) }
@@ -173,19 +175,21 @@ fn states_by<R: Threads + Wait + Sync, G: Gate + Sync>(
     ensures err { IfErr result (IsCause (graph_view analysis.now.graph) options.now.analysis options.now.max_runs) }
 {
     let cells = cells_by(rt, alloc, gate, analysis, options, plan)?;
-    Ok(States::of(analysis, cells)?)
+    Ok(States::of(analysis, cells))
 }
 
 /// The plan of a graph, and what the recursive iteration leaves at each point, reduced: the same for every number of workers.
-pub fn states<R: Threads + Wait + Sync, G: Gate + Sync>(
+pub fn states<'f, R: Threads + Wait + Sync, G: Gate + Sync>(
     rt: &R,
     alloc: Global,
     gate: &G,
-    graph: &Graph,
+    graph: &'f Graph,
+    frame: &'f Frame,
     options: &IterationOptions,
-) -> Result<Solution, SolverError>
+) -> Result<Solution<'f>, SolverError>
     requires few { length (graph_view graph.now).points ≤ most_points }
     requires range { AreInRange options.now }
+    requires frame { frame.now ≡ layout_of (graph_view graph.now) options.now.analysis.oct }
     ensures ok { IfOk result (λ solution. AreStates (graph_view graph.now) options.now.analysis options.now.max_runs
         solution.plan solution.states) }
     ensures over { IfOk result (λ solution.
@@ -193,7 +197,7 @@ pub fn states<R: Threads + Wait + Sync, G: Gate + Sync>(
     ensures err { IfErr result (IsCause (graph_view graph.now) options.now.analysis options.now.max_runs) }
 {
     let plan = plan_of(alloc, graph)?;
-    let analysis = analysis_of(alloc, graph, options.analysis, &plan)?;
+    let analysis = analysis_of(alloc, graph, frame, options.analysis, &plan)?;
     let states = states_by(rt, alloc, gate, &analysis, options, &plan);
     drop(analysis);
     let states = states?;
@@ -201,22 +205,24 @@ pub fn states<R: Threads + Wait + Sync, G: Gate + Sync>(
 }
 
 /// What the recursive iteration leaves at each element of a graph's plan, of which the points come first: the same for every number of workers.
-pub fn cells<R: Threads + Wait + Sync, G: Gate + Sync>(
+pub fn cells<'f, R: Threads + Wait + Sync, G: Gate + Sync>(
     rt: &R,
     alloc: Global,
     gate: &G,
-    graph: &Graph,
+    graph: &'f Graph,
+    frame: &'f Frame,
     options: &IterationOptions,
-) -> Result<Cells<Cell<State>>, SolverError>
+) -> Result<Cells<Cell<State<'f>>>, SolverError>
     requires few { length (graph_view graph.now).points ≤ most_points }
     requires range { AreInRange options.now }
+    requires frame { frame.now ≡ layout_of (graph_view graph.now) options.now.analysis.oct }
     ensures ok { IfOk result (λ cells.
         AreRawCells (graph_view graph.now) options.now.analysis options.now.max_runs cells.cells) }
     ensures over { IfOk result (λ cells. AreCellsOver (graph_view graph.now) options.now.analysis cells.cells) }
     ensures err { IfErr result (IsCause (graph_view graph.now) options.now.analysis options.now.max_runs) }
 {
     let plan = plan_of(alloc, graph)?;
-    let analysis = analysis_of(alloc, graph, options.analysis, &plan)?;
+    let analysis = analysis_of(alloc, graph, frame, options.analysis, &plan)?;
     let cells = cells_by(rt, alloc, gate, &analysis, options, &plan);
     drop(analysis);
     drop(plan);

@@ -12,3 +12,4 @@ pub mod Places
 pub mod Loose
 pub mod Closings
 mod Points
+mod Rows

@@ -1,8 +1,8 @@
 -- Which values may be loose.
-use Rattle.std.specs.Prelude.{◌≡◌, ◌≢◌, ◌⊎◌, ℕ, zero, suc, ◌+◌, ◌<◌, ◌≤◌, Bool, true, false, not, List, [], ◌∷◌, ◌++◌, length, slice_index_or, Option, Some, None, pos, ◌≤ℤ◌}
+use Rattle.std.specs.Prelude.{◌≡◌, ◌≢◌, ◌⊎◌, ℕ, zero, suc, ◌+◌, ◌-◌, ◌<◌, ◌≤◌, Bool, true, false, not, List, [], ◌∷◌, ◌++◌, length, slice_index_or, Option, Some, None, pos, ◌≤ℤ◌}
 use Rattle.std.proofs.Common.{◌∙◌, ap, refl, sym, subst, arith, inl, inr, set, drop, length-set}
 use Rattle.std.proofs.lemmas.List.{drop_more}
-use Rattle.std.proofs.lemmas.Bool.{cases_eq}
+use Rattle.std.proofs.lemmas.Bool.{cases_eq, cases_lt}
 use Rattle.pk_value.specs.Known.{Known, red_known, joined}
 use Rattle.pk_value.specs.Laws.{IsTight}
 use Rattle.pk_value.proofs.Tight.{tight_is_reduced}
@@ -45,11 +45,74 @@ listed_more xs n h y p = by (cases_eq y n)
     by (inl e) = rw e (listed_last xs n)
     by (inr d) = listed_left xs (n ∷ []) y (h y (omega (arith, p, d)))
 
+-- what is listed stands at some place
+listed_some : (xs : List ℕ) (y : ℕ) → IsListed xs y → (k : ℕ) × (k < length xs) × (slice_index_or xs k y ≡ y)
+listed_some [] y h = absurd h
+listed_some (x ∷ xs) y (inl e) = (0, omega arith, e)
+listed_some (x ∷ xs) y (inr h) = let r = listed_some xs y h in (suc r.0, omega (arith, r.1), r.2)
+
+listed_there : (xs : List ℕ) (k y : ℕ) → k < length xs → slice_index_or xs k y ≡ y → IsListed xs y
+listed_there [] k y p e = absurd (omega (arith, p))
+listed_there (x ∷ xs) zero y p e = inl e
+listed_there (x ∷ xs) (suc k) y p e = inr (listed_there xs k y (omega (arith, p)) e)
+
+any_default : (xs : List ℕ) (k d e : ℕ) → k < length xs → slice_index_or xs k d ≡ slice_index_or xs k e
+any_default [] k d e p = absurd (omega (arith, p))
+any_default (x ∷ xs) zero d e p = refl
+any_default (x ∷ xs) (suc k) d e p = any_default xs k d e (omega (arith, p))
+
+pub listed_at : (xs : List ℕ) (k y : ℕ) → k < length xs → slice_index_or xs k 0 ≡ y → IsListed xs y
+listed_at xs k y p e = listed_there xs k y p (any_default xs k y 0 p ∙ e)
+
+-- the others are still listed where the last one takes the place of one of x
+pub listed_without : (xs ys : List ℕ) (n i x : ℕ) → n ≡ length xs → i < length xs → slice_index_or xs i 0 ≡ x → length ys + 1 ≡ length xs
+    → ((d : ℕ) → i + 1 < n → slice_index_or ys i d ≡ slice_index_or xs (n - 1) d) → ((k d : ℕ) → k ≢ i → k + 1 < n → slice_index_or ys k d ≡ slice_index_or xs k d)
+    → (y : ℕ) → y ≢ x → IsListed xs y → IsListed ys y
+listed_without xs ys n i x many p here size last rest y other h = by (listed_some xs y h)
+  where
+    by : (k : ℕ) × (k < length xs) × (slice_index_or xs k y ≡ y) → IsListed ys y
+    by (k, q, e) = elim (cases_eq k i) [
+      | inl same ↦ absurd (other (sym e ∙ ap (λ (j : ℕ). slice_index_or xs j y) same ∙ any_default xs i y 0 p ∙ here))
+      | inr apart ↦ elim (cases_lt (k + 1) n) [
+        | inl inner ↦ listed_there ys k y (omega (arith, size, many, inner)) (rest k y apart inner ∙ e)
+        | inr end ↦
+            let place : n - 1 ≡ k = omega (arith, many, q, end) in
+            listed_there ys i y (omega (arith, size, many, p, q, end, apart)) (last y (omega (arith, many, p, q, end, apart)) ∙ ap (λ (j : ℕ). slice_index_or xs j y) place ∙ e)
+      ]
+    ]
+
 pub not_false : (b : Bool) → not b ≡ false → b ≡ true
 not_false true e = refl
 not_false false e = absurd (cc)
 
 -- ---- values
+
+-- a value that is written is tight, and the others are listed as before
+pub marked_tight : (vs : List Known) (loose more : List ℕ) (x : ℕ) (v : Known) → AreMarked vs loose → IsTight v → ((y : ℕ) → y ≢ x → IsListed loose y → IsListed more y) → AreMarked (set vs x v) more
+marked_tight vs loose more x v h t f y p = by (cases_eq y x)
+  where
+    here : y < length vs
+    here = omega (arith, p, length-set vs x v)
+
+    other : y ≢ x → IsTight (known_at vs y) ⊎ IsListed loose y → IsTight (known_at (set vs x v) y) ⊎ IsListed more y
+    other n (inl u) = inl (rw (known_other vs x y v n) u)
+    other n (inr l) = inr (f y n l)
+
+    by : (y ≡ x) ⊎ (y ≢ x) → IsTight (known_at (set vs x v) y) ⊎ IsListed more y
+    by (inl e) = inl (rw e (rw (known_same vs x v (subst (λ z. z < length vs) e here)) t))
+    by (inr n) = other n (h y here)
+
+-- a value that is written is listed, and the others as before
+pub marked_loose : (vs : List Known) (loose more : List ℕ) (x : ℕ) (v : Known) → AreMarked vs loose → IsListed more x → ((y : ℕ) → IsListed loose y → IsListed more y) → AreMarked (set vs x v) more
+marked_loose vs loose more x v h l f y p = by (cases_eq y x)
+  where
+    other : y ≢ x → IsTight (known_at vs y) ⊎ IsListed loose y → IsTight (known_at (set vs x v) y) ⊎ IsListed more y
+    other n (inl u) = inl (rw (known_other vs x y v n) u)
+    other n (inr m) = inr (f y m)
+
+    by : (y ≡ x) ⊎ (y ≢ x) → IsTight (known_at (set vs x v) y) ⊎ IsListed more y
+    by (inl e) = inr (rw e l)
+    by (inr n) = other n (h y (omega (arith, p, length-set vs x v)))
 
 -- a value that is written is listed
 pub marked_put : (vs : List Known) (loose : List ℕ) (x : ℕ) (v : Known) → AreMarked vs loose → AreMarked (set vs x v) (loose ++ x ∷ [])

@@ -1,5 +1,5 @@
 -- Reading and writing what a state knows.
-use Rattle.std.specs.Prelude.{◌≡◌, ◌≢◌, ℕ, ◌<◌, ℤ, ◌≤ℤ◌, List, [], ◌∷◌, length, slice_set, Option, Some, None}
+use Rattle.std.specs.Prelude.{◌≡◌, ◌≢◌, ℕ, ◌+◌, ◌<◌, ◌≤◌, ℤ, ◌≤ℤ◌, List, [], ◌∷◌, length, slice_set, Option, Some, None}
 use Rattle.pk_ctypes.specs.declared.types.IntType.{IntType}
 use Rattle.pk_graph.specs.Steps.{Numbers, number_at}
 use Rattle.pk_graph.specs.Stores.{Stored, numbers_of}
@@ -18,6 +18,10 @@ use Rattle.pk_state.specs.Members.{selected, Member}
 abbrev pub known_in : Option Facts → ℕ → Option Known
 known_in None x = None
 known_in (Some f) x = Some (known_at f.values x)
+
+-- the same is known of the sixteen variables from x on, or of as many of n as there are
+abbrev pub AreAlikeAt : Option Facts → Option Facts → ℕ → ℕ → Type 0
+AreAlikeAt f g x n = (y : ℕ) → x ≤ y → y < x + 16 → y < n → known_in f y ≡ known_in g y
 
 -- the octagon's bound on V(j) - V(i), if there is one
 abbrev pub bound_in : Option Facts → ℕ → ℕ → Option ℤ

@@ -193,14 +193,14 @@ fn bound_if(facts: &Option<Facts>, i: u32, j: u32, frame: &Frame) -> Option<i128
     }
 }
 
-impl State {
+impl<'f> State<'f> {
     /// What is known of a variable; none where no run comes there.
     pub fn value(&self, x: usize) -> Option<Value>
         requires { x < length self.now.layout.types }
         ensures value { result ≡ known_in self.now.facts x }
         ensures inside { IfSome result (IsValue (type_at self.now.layout x)) }
     {
-        value_if(&self.facts, x, &self.frame)
+        value_if(&self.facts, x, self.frame)
     }
 
     /// The type of a variable.
@@ -225,28 +225,29 @@ impl State {
         requires column { j < 2 * length self.now.layout.chosen }
         ensures { result ≡ bound_in self.now.facts i j }
     {
-        bound_if(&self.facts, i, j, &self.frame)
+        bound_if(&self.facts, i, j, self.frame)
     }
 
     /// No run comes there.
-    pub fn emptied(self) -> State
-        ensures { result ≡ record { layout = self.layout; facts = None } }
+    pub fn emptied(self) -> State<'f>
+        ensures { result ≡ record { layout = self.entry.layout; facts = None } }
     {
         State::bottom(self.frame)
     }
 
     /// The same, but for what is known of a variable.
-    pub fn with_value(self, alloc: Global, x: usize, value: Value) -> Result<State, AllocError>
+    pub fn with_value(self, alloc: Global, x: usize, value: Value) -> Result<State<'f>, AllocError>
         requires place { x < length self.layout.types }
         requires value { IsValue (type_at self.layout x) value }
-        ensures { IfOk result (λ s. s ≡ record { layout = self.layout; facts = with_known self.facts x value }) }
+        ensures { IfOk result
+            (λ s. s ≡ record { layout = self.entry.layout; facts = with_known self.entry.facts x value }) }
     {
-        if is_known(&self.facts, x, &value, &self.frame) {
+        if is_known(&self.facts, x, &value, self.frame) {
             return Ok(self);
         }
         let tight = is_tight(&value, self.frame.int_type(x));
-        let settled = stays_settled(self.settled, tight, x, &self.frame);
-        let facts = write_if(alloc, self.facts, x, value, tight, &self.frame)?;
+        let settled = stays_settled(self.settled, tight, x, self.frame);
+        let facts = write_if(alloc, self.facts, x, value, tight, self.frame)?;
         Ok(State {
             frame: self.frame,
             facts,
@@ -255,9 +256,10 @@ impl State {
     }
 
     /// The same, but for the octagon.
-    pub fn with_bounds(self, alloc: Global, octagon: Matrix) -> Result<State, AllocError>
+    pub fn with_bounds(self, alloc: Global, octagon: Matrix) -> Result<State<'f>, AllocError>
         requires { octagon.vars ≡ length self.layout.chosen }
-        ensures { IfOk result (λ s. s ≡ record { layout = self.layout; facts = with_bounds self.facts octagon }) }
+        ensures { IfOk result
+            (λ s. s ≡ record { layout = self.entry.layout; facts = with_bounds self.entry.facts octagon }) }
     {
         octagon.is_octagon();
         let facts = bounds_if(alloc, self.facts, octagon)?;
@@ -275,12 +277,13 @@ impl State {
         k: u32,
         term: Option<u32>,
         c: i128,
-    ) -> Result<State, AllocError>
+    ) -> Result<State<'f>, AllocError>
         requires variable { k < length self.layout.chosen }
         requires term { IfSome term (λ t. t < 2 * length self.layout.chosen) }
-        ensures { IfOk result (λ s. s ≡ record { layout = self.layout; facts = assigned_in self.facts k term c }) }
+        ensures { IfOk result
+            (λ s. s ≡ record { layout = self.entry.layout; facts = assigned_in self.entry.facts k term c }) }
     {
-        let facts = assign_if(alloc, self.facts, k, term, c, &self.frame)?;
+        let facts = assign_if(alloc, self.facts, k, term, c, self.frame)?;
         Ok(State {
             frame: self.frame,
             facts,
@@ -295,14 +298,15 @@ impl State {
         a: Option<u32>,
         b: Option<u32>,
         c: i128,
-    ) -> Result<State, AllocError>
+    ) -> Result<State<'f>, AllocError>
         requires { IsGuard (length self.layout.chosen) a b }
-        ensures { IfOk result (λ s. s ≡ record { layout = self.layout; facts = guarded_in self.facts a b c }) }
+        ensures { IfOk result
+            (λ s. s ≡ record { layout = self.entry.layout; facts = guarded_in self.entry.facts a b c }) }
     {
-        if is_obeyed_by(&self.facts, a, b, c, &self.frame) {
+        if is_obeyed_by(&self.facts, a, b, c, self.frame) {
             return Ok(self);
         }
-        let facts = guard_if(alloc, self.facts, a, b, c, &self.frame)?;
+        let facts = guard_if(alloc, self.facts, a, b, c, self.frame)?;
         Ok(State {
             frame: self.frame,
             facts,

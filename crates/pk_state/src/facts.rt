@@ -1,6 +1,6 @@
 // What is known where a run may come: a value of each variable, and an octagon.
 
-ghost use Rattle.std.specs.Prelude.{◌≡◌, ◌↔◌, ◌<◌, ◌^◌, ℕ, true, [], IfOk, length, map, Some};
+ghost use Rattle.std.specs.Prelude.{◌≡◌, ◌↔◌, ◌<◌, ◌≤◌, ◌+◌, ◌%◌, ◌^◌, ℕ, true, [], IfOk, length, map, Some};
 ghost use Rattle.std.specs.Arc.{arc_value};
 ghost use Rattle.std.specs.List.Sorted.{IsSorted};
 ghost use Rattle.std.specs.Ordering.{int_cmp};
@@ -15,10 +15,11 @@ ghost use Rattle.pk_state.specs.Marks.{AreMarked, IsSettledIf};
 ghost use Rattle.pk_state.specs.Reduced.{by_range, reduced_facts, with_closed};
 
 use crate::frame::Frame;
-use crate::marks::{at_most, either, every, is_none_listed};
+use crate::marks::{at_most, either, is_none_listed};
 use crate::octagons::{are_lowered, close_lowered, join_shared, narrow_shared, widen_shared};
 use crate::values::{
-    bound_values, join_values, leq_values, narrow_values, reduce_values, same_values, widen_values,
+    bound_values, join_values, leq_values, narrow_values, reduce_values, same_row_values,
+    same_values, widen_values,
 };
 use pk_blocks::Blocks;
 use pk_ctypes::IntType;
@@ -82,7 +83,7 @@ pub(crate) fn top_facts(alloc: Global, frame: &Frame) -> Result<Facts, AllocErro
     Ok(Facts {
         values: top_values(alloc, frame)?,
         octagon: Arc::new(alloc, top_octagon(alloc, frame.octagon_len())?)?,
-        loose: every(alloc, frame.len())?,
+        loose: Vec::new(alloc),
         mark: Mark::Unknown,
     })
 }
@@ -191,6 +192,17 @@ pub(crate) fn same_facts(a: &Facts, b: &Facts) -> bool
     ensures { result ≡ true ↔ a.now ≡ b.now }
 {
     same_values(&a.values, &b.values) && a.octagon.equals(&b.octagon)
+}
+
+/// Whether both know the same of the sixteen variables from one on, or of as many as there are.
+pub(crate) fn same_row_facts(a: &Facts, b: &Facts, x: usize) -> bool
+    requires size { length a.now.values ≡ length b.now.values }
+    requires place { x < length a.now.values }
+    requires first { x % 16 ≡ 0 }
+    ensures { result ≡ true ↔ ((y : ℕ) → x ≤ y → y < x + 16 → y < length a.now.values →
+        known_at a.now.values y ≡ known_at b.now.values y) }
+{
+    same_row_values(&a.values, &b.values, x)
 }
 
 // The values that a closed octagon leaves, reduced once more, with it, and whether what is left is marked as settled: where the values lower none of its bounds, and it

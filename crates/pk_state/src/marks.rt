@@ -1,6 +1,6 @@
 // Which values may be loose: the others are their own reductions.
 
-ghost use Rattle.std.specs.Prelude.{◌≡◌, ◌⊎◌, ◌<◌, ℕ, true, [], IfOk, OnOk, length, slice_set};
+ghost use Rattle.std.specs.Prelude.{◌≡◌, ◌≢◌, ◌⊎◌, ◌<◌, ℕ, true, [], IfOk, OnOk, IfSome, length, slice_set, slice_index_or};
 ghost use Rattle.pk_value.specs.Laws.{IsTight};
 ghost use Rattle.pk_state.specs.Facts.{known_at};
 ghost use Rattle.pk_state.specs.Changes.{IsValue};
@@ -88,7 +88,45 @@ pub(crate) fn is_tight(value: &Value, t: IntType) -> bool
     }
 }
 
-/// Writes a value, which is listed where it may be loose.
+// Where a place is listed, if it is.
+fn index_of(loose: &[usize], x: usize) -> Option<usize>
+    ensures { IfSome result (λ k. (k < length loose.now) × (slice_index_or loose.now k 0 ≡ x)) }
+{
+    for k in 0..loose.len() {
+        if loose[k] == x {
+            return Some(k);
+        }
+    }
+    None
+}
+
+// Lists a place, if it isn't listed.
+fn list(loose: &mut Vec<usize>, x: usize) -> Result<(), AllocError>
+    ensures listed { OnOk result (IsListed loose.new.items x) }
+    ensures others { OnOk result ((y : ℕ) → IsListed loose.old.items y → IsListed loose.new.items y) }
+{
+    match index_of(loose, x) {
+        None => {
+            loose.push(x)?;
+            Ok(())
+        }
+        Some(_) => Ok(()),
+    }
+}
+
+// Takes a place off a list once, if it is listed.
+fn unlist(loose: &mut Vec<usize>, x: usize)
+    ensures { (y : ℕ) → y ≢ x → IsListed loose.old.items y → IsListed loose.new.items y }
+{
+    match index_of(loose, x) {
+        None => {}
+        Some(k) => {
+            loose.swap_remove(k);
+        }
+    }
+}
+
+/// Writes a value, which is listed where it may be loose, and taken off the list where it isn't.
 pub(crate) fn put_marked(
     alloc: Global,
     values: &mut Blocks<Value>,
@@ -104,8 +142,10 @@ pub(crate) fn put_marked(
     ensures marked { OnOk result (AreMarked values.new loose.new.items) }
 {
     values.set(alloc, x, new)?;
-    if !tight {
-        loose.push(x)?;
+    if tight {
+        unlist(loose, x);
+        return Ok(());
     }
+    list(loose, x)?;
     Ok(())
 }

@@ -1,58 +1,56 @@
 // Abstract states.
 
-ghost use Rattle.std.specs.Prelude.{◌≡◌, ◌↔◌, ◌<◌, true, IfOk, Some, None};
-ghost use Rattle.std.specs.Arc.{arc_value};
+ghost use Rattle.std.specs.Prelude.{◌≡◌, ◌↔◌, ◌<◌, ◌%◌, true, IfOk, Some, None, length};
 ghost use Rattle.std.specs.List.Sorted.{IsSorted};
 ghost use Rattle.std.specs.Ordering.{int_cmp};
 ghost use Rattle.pk_state.specs.Layouts.{IsLayout};
 ghost use Rattle.pk_state.specs.Facts.{AreFactsIf, joined, widened, narrowed, IsBelow, top_facts as top_of};
+ghost use Rattle.pk_state.specs.Changes.{AreAlikeAt};
 ghost use Rattle.pk_state.specs.Marks.{IsSettledIf};
 ghost use Rattle.pk_state.specs.Reduced.{reduced};
 
 use crate::facts::{
-    Facts, copy_facts, join_facts, leq_facts, narrow_facts, reduce_facts, same_facts, top_facts,
-    widen_facts,
+    Facts, copy_facts, join_facts, leq_facts, narrow_facts, reduce_facts, same_facts,
+    same_row_facts, top_facts, widen_facts,
 };
 use crate::frame::Frame;
 use std::alloc::{AllocError, Global};
 use std::marker::Model;
-use std::sync::Arc;
 
-/// What is known at a point of a program: a value of each variable and an octagon, or that no run comes there. States share their frame, and what they have in
-/// common.
+/// What is known at a point of a program: a value of each variable and an octagon, or that no run comes there. States borrow their frame, and share what they
+/// have in common.
 #[derive(Drop)]
-pub struct State {
-    pub(crate) frame: Arc<Frame>,
+pub struct State<'f> {
+    pub(crate) frame: &'f Frame,
     pub(crate) facts: Option<Facts>,
     // Whether the facts are known to be their own reduction.
     pub(crate) settled: bool,
 }
 
-impl Model for State {
-    ghost use Rattle.std.specs.Arc.{arc_value};
+impl<'f> Model for State<'f> {
     ghost use Rattle.pk_state.specs.Layouts.{IsLayout};
     ghost use Rattle.pk_state.specs.Facts.{Stated, AreFactsIf};
     ghost use Rattle.pk_state.specs.Marks.{IsSettledIf};
 
     ghost Value = { Stated };
 
-    ghost view = { λ s. record { layout = arc_value s.frame; facts = s.facts } };
+    ghost view = { λ s. record { layout = s.frame.now; facts = s.facts } };
 
-    ghost invariant = { λ s. IsLayout (arc_value s.frame) × AreFactsIf (arc_value s.frame) s.facts
-        × IsSettledIf s.settled (arc_value s.frame) s.facts };
+    ghost invariant = { λ s. IsLayout s.frame.now × AreFactsIf s.frame.now s.facts
+        × IsSettledIf s.settled s.frame.now s.facts };
 }
 
 // A state of these facts over the frame of another.
-fn with_facts(state: &State, facts: Option<Facts>) -> Result<State, AllocError>
+fn with_facts<'f>(state: &State<'f>, facts: Option<Facts>) -> State<'f>
     requires { AreFactsIf state.now.layout facts }
-    ensures { IfOk result (λ s. s ≡ record { layout = state.now.layout; facts = facts }) }
+    ensures { result ≡ record { layout = state.now.layout; facts = facts } }
 {
     state.frame.is_layout();
-    Ok(State {
-        frame: Arc::try_clone(&state.frame)?,
+    State {
+        frame: state.frame,
         facts,
         settled: false,
-    })
+    }
 }
 
 fn copy_if(alloc: Global, facts: &Option<Facts>) -> Result<Option<Facts>, AllocError>
@@ -168,10 +166,28 @@ fn same_if(a: &Option<Facts>, b: &Option<Facts>, frame: &Frame) -> bool
     }
 }
 
-impl State {
+// Whether both know the same of the sixteen variables from one on.
+fn same_row_if(a: &Option<Facts>, b: &Option<Facts>, x: usize, frame: &Frame) -> bool
+    requires left { AreFactsIf frame.now a.now }
+    requires right { AreFactsIf frame.now b.now }
+    requires place { x < length frame.now.types }
+    requires first { x % 16 ≡ 0 }
+    ensures { result ≡ true ↔ AreAlikeAt a.now b.now x (length frame.now.types) }
+{
+    let _ = frame;
+    match a {
+        None => b.is_none(),
+        Some(left) => match b {
+            None => false,
+            Some(right) => same_row_facts(left, right, x),
+        },
+    }
+}
+
+impl<'f> State<'f> {
     /// No run comes there.
-    pub fn bottom(frame: Arc<Frame>) -> State
-        ensures { result ≡ record { layout = arc_value frame; facts = None } }
+    pub fn bottom(frame: &'f Frame) -> State<'f>
+        ensures { result ≡ record { layout = frame.now; facts = None } }
     {
         frame.is_layout();
         State {
@@ -182,11 +198,11 @@ impl State {
     }
 
     /// Each variable may have any number of its type.
-    pub fn top(alloc: Global, frame: Arc<Frame>) -> Result<State, AllocError>
-        ensures { IfOk result (λ s. s ≡ record { layout = arc_value frame; facts = Some (top_of (arc_value frame)) }) }
+    pub fn top(alloc: Global, frame: &'f Frame) -> Result<State<'f>, AllocError>
+        ensures { IfOk result (λ s. s ≡ record { layout = frame.now; facts = Some (top_of frame.now) }) }
     {
         frame.is_layout();
-        let facts = top_facts(alloc, &frame)?;
+        let facts = top_facts(alloc, frame)?;
         Ok(State {
             frame,
             facts: Some(facts),
@@ -210,25 +226,25 @@ impl State {
     }
 
     /// The same state, which shares all.
-    pub fn copy(&self, alloc: Global) -> Result<State, AllocError>
+    pub fn copy(&self, alloc: Global) -> Result<State<'f>, AllocError>
         ensures { IfOk result (λ s. s ≡ self.now) }
     {
         let facts = copy_if(alloc, &self.facts)?;
         Ok(State {
-            frame: Arc::try_clone(&self.frame)?,
+            frame: self.frame,
             facts,
             settled: self.settled,
         })
     }
 
     /// What is known where either is.
-    pub fn join(&self, alloc: Global, other: &State) -> Result<State, AllocError>
+    pub fn join(&self, alloc: Global, other: &State) -> Result<State<'f>, AllocError>
         requires { other.now.layout ≡ self.now.layout }
         ensures { IfOk result
             (λ s. s ≡ record { layout = self.now.layout; facts = joined self.now.facts other.now.facts }) }
     {
-        let facts = join_if(alloc, &self.facts, &other.facts, &self.frame)?;
-        with_facts(self, facts)
+        let facts = join_if(alloc, &self.facts, &other.facts, self.frame)?;
+        Ok(with_facts(self, facts))
     }
 
     /// Whether each part is within that of `other`, so that each store of this state is one of `other`.
@@ -236,7 +252,7 @@ impl State {
         requires { other.now.layout ≡ self.now.layout }
         ensures { result ≡ true ↔ IsBelow self.now.facts other.now.facts }
     {
-        leq_if(&self.facts, &other.facts, &self.frame)
+        leq_if(&self.facts, &other.facts, self.frame)
     }
 
     /// Whether both know the same.
@@ -244,7 +260,17 @@ impl State {
         requires { other.now.layout ≡ self.now.layout }
         ensures { result ≡ true ↔ self.now.facts ≡ other.now.facts }
     {
-        same_if(&self.facts, &other.facts, &self.frame)
+        same_if(&self.facts, &other.facts, self.frame)
+    }
+
+    /// Whether both know the same of the sixteen variables from one on, or of as many as there are.
+    pub fn same_row(&self, other: &State, x: usize) -> bool
+        requires layout { other.now.layout ≡ self.now.layout }
+        requires place { x < length self.now.layout.types }
+        requires first { x % 16 ≡ 0 }
+        ensures { result ≡ true ↔ AreAlikeAt self.now.facts other.now.facts x (length self.now.layout.types) }
+    {
+        same_row_if(&self.facts, &other.facts, x, self.frame)
     }
 
     /// This state widened by `next`, with thresholds in rising order.
@@ -253,7 +279,7 @@ impl State {
         alloc: Global,
         next: &State,
         thresholds: &[i128],
-    ) -> Result<State, AllocError>
+    ) -> Result<State<'f>, AllocError>
         requires layout { next.now.layout ≡ self.now.layout }
         requires rising { IsSorted int_cmp thresholds.now }
         ensures { IfOk result
@@ -262,22 +288,22 @@ impl State {
               facts = widened self.now.layout thresholds.now self.now.facts next.now.facts;
             }) }
     {
-        let facts = widen_if(alloc, &self.facts, &next.facts, &self.frame, thresholds)?;
-        with_facts(self, facts)
+        let facts = widen_if(alloc, &self.facts, &next.facts, self.frame, thresholds)?;
+        Ok(with_facts(self, facts))
     }
 
     /// This state narrowed by `next`.
-    pub fn narrow(&self, alloc: Global, next: &State) -> Result<State, AllocError>
+    pub fn narrow(&self, alloc: Global, next: &State) -> Result<State<'f>, AllocError>
         requires { next.now.layout ≡ self.now.layout }
         ensures { IfOk result (λ s.
             s ≡ record { layout = self.now.layout; facts = narrowed self.now.layout self.now.facts next.now.facts }) }
     {
-        let facts = narrow_if(alloc, &self.facts, &next.facts, &self.frame)?;
-        with_facts(self, facts)
+        let facts = narrow_if(alloc, &self.facts, &next.facts, self.frame)?;
+        Ok(with_facts(self, facts))
     }
 
     /// Each part as tight as the others let it be; exactly the same stores are left.
-    pub fn reduce(&self, alloc: Global) -> Result<State, AllocError>
+    pub fn reduce(&self, alloc: Global) -> Result<State<'f>, AllocError>
         ensures { IfOk result
             (λ s. s ≡ record { layout = self.now.layout; facts = reduced self.now.layout self.now.facts }) }
     {
@@ -286,13 +312,14 @@ impl State {
     }
 
     /// The same of a state that isn't used any more.
-    pub fn into_reduced(self, alloc: Global) -> Result<State, AllocError>
-        ensures { IfOk result (λ s. s ≡ record { layout = self.layout; facts = reduced self.layout self.facts }) }
+    pub fn into_reduced(self, alloc: Global) -> Result<State<'f>, AllocError>
+        ensures { IfOk result
+            (λ s. s ≡ record { layout = self.entry.layout; facts = reduced self.entry.layout self.entry.facts }) }
     {
         if self.settled {
             return Ok(self);
         }
-        let (facts, settled) = reduce_if(alloc, self.facts, &self.frame)?;
+        let (facts, settled) = reduce_if(alloc, self.facts, self.frame)?;
         Ok(State {
             frame: self.frame,
             facts,

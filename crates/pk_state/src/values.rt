@@ -1,6 +1,6 @@
 // The values of all variables: joined, widened, narrowed, compared, reduced, bounded.
 
-ghost use Rattle.std.specs.Prelude.{◌≡◌, ◌↔◌, ◌<◌, ℕ, true, IfOk, OnOk, Some, [], length, slice_set};
+ghost use Rattle.std.specs.Prelude.{◌≡◌, ◌↔◌, ◌<◌, ◌≤◌, ◌+◌, ◌/◌, ◌%◌, ◌^◌, ℕ, true, IfOk, OnOk, Some, [], length, slice_set};
 ghost use Rattle.std.specs.List.Sorted.{IsSorted};
 ghost use Rattle.std.specs.Ordering.{int_cmp};
 ghost use Rattle.pk_value.specs.Known.{is_within};
@@ -116,17 +116,68 @@ pub(crate) fn narrow_values(
     Ok(out)
 }
 
+// How many values a row of them has.
+const ROW: usize = 16;
+
+// How many rows so many values stand in.
+fn rows(n: usize) -> usize
+    requires { n < 2 ^ 60 }
+    ensures { result ≡ (n + 15) / 16 }
+{
+    (n + ROW - 1) / ROW
+}
+
+// Whether each of the first values of a row is within the other's.
+fn leq_row(a: &[Value], b: &[Value], n: usize) -> bool
+    requires left { length a.now ≡ 16 }
+    requires right { length b.now ≡ 16 }
+    ensures { result ≡ true ↔ ((r : ℕ) → r < 16 → r < n → is_within (known_at a.now r) (known_at b.now r) ≡ true) }
+{
+    for r in 0..n.min(ROW) {
+        if !a[r].leq(&b[r]) {
+            return false;
+        }
+    }
+    true
+}
+
 /// Whether each value is within the other's.
 pub(crate) fn leq_values(a: &Blocks<Value>, b: &Blocks<Value>) -> bool
     requires { length a.now ≡ length b.now }
     ensures { result ≡ true ↔ ((x : ℕ) → x < length a.now → is_within (known_at a.now x) (known_at b.now x) ≡ true) }
 {
-    for x in 0..a.len() {
-        if !a.get(x).leq(&b.get(x)) {
+    let n = a.len();
+    for k in 0..rows(n) {
+        let x = k * ROW;
+        if !leq_row(a.row(x), b.row(x), n - x) {
             return false;
         }
     }
     true
+}
+
+// Whether the first values of two rows are the same.
+fn same_row(a: &[Value], b: &[Value], n: usize) -> bool
+    requires left { length a.now ≡ 16 }
+    requires right { length b.now ≡ 16 }
+    ensures { result ≡ true ↔ ((r : ℕ) → r < 16 → r < n → known_at a.now r ≡ known_at b.now r) }
+{
+    for r in 0..n.min(ROW) {
+        if !a[r].equals(&b[r]) {
+            return false;
+        }
+    }
+    true
+}
+
+/// Whether the sixteen values from one on are the same, or as many as there are.
+pub(crate) fn same_row_values(a: &Blocks<Value>, b: &Blocks<Value>, x: usize) -> bool
+    requires size { length a.now ≡ length b.now }
+    requires place { x < length a.now }
+    requires first { x % 16 ≡ 0 }
+    ensures { result ≡ true ↔ ((y : ℕ) → x ≤ y → y < x + 16 → y < length a.now → known_at a.now y ≡ known_at b.now y) }
+{
+    same_row(a.row(x), b.row(x), a.len() - x)
 }
 
 /// Whether the values are the same.
@@ -134,8 +185,10 @@ pub(crate) fn same_values(a: &Blocks<Value>, b: &Blocks<Value>) -> bool
     requires { length a.now ≡ length b.now }
     ensures { result ≡ true ↔ a.now ≡ b.now }
 {
-    for x in 0..a.len() {
-        if !a.get(x).equals(&b.get(x)) {
+    let n = a.len();
+    for k in 0..rows(n) {
+        let x = k * ROW;
+        if !same_row(a.row(x), b.row(x), n - x) {
             return false;
         }
     }

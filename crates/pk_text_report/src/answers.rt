@@ -16,6 +16,7 @@ use pk_graph_report::{order_of, report_of, summary_of};
 use pk_solver::{IterationOptions, Options, SolverError, states};
 use pk_status::Status;
 use pk_text_graph::{graph_of_text, graphs_are_few};
+use pk_transfer::frame;
 use pk_workers::Gate;
 use std::alloc::{AllocError, Global};
 use std::sync::Wait;
@@ -108,7 +109,8 @@ fn graph_report<R: Threads + Wait + Sync, G: Gate + Sync>(
         IsReport (graph_view graph.now) iteration.now.analysis iteration.now.max_runs all r.1 r.0.items) }
     ensures err { IfErr result (IsCause (graph_view graph.now) iteration.now.analysis iteration.now.max_runs) }
 {
-    let solution = states(rt, alloc, gate, graph, iteration)?;
+    let frame = frame(alloc, graph, iteration.analysis.oct)?;
+    let solution = states(rt, alloc, gate, graph, &frame, iteration)?;
     Ok(report_of(
         alloc,
         graph,
@@ -135,7 +137,8 @@ fn graph_summary<R: Threads + Wait + Sync, G: Gate + Sync>(
         options.now.seed options.now.size text_length r.1 r.0.items) }
     ensures err { IfErr result (IsCause (graph_view graph.now) iteration.now.analysis iteration.now.max_runs) }
 {
-    let solution = states(rt, alloc, gate, graph, iteration)?;
+    let frame = frame(alloc, graph, iteration.analysis.oct)?;
+    let solution = states(rt, alloc, gate, graph, &frame, iteration)?;
     Ok(summary_of(
         alloc,
         graph,

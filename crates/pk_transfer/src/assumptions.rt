@@ -26,15 +26,15 @@ use pk_value::Value;
 use std::alloc::{AllocError, Global};
 
 /// The same, but for what is known of a variable; where nothing is possible, no run comes there.
-pub(crate) fn written(
+pub(crate) fn written<'f>(
     alloc: Global,
-    state: State,
+    state: State<'f>,
     x: usize,
     known: Option<Value>,
-) -> Result<State, AllocError>
+) -> Result<State<'f>, AllocError>
     requires place { x < length state.layout.types }
     requires value { IfSome known (IsValue (type_at state.layout x)) }
-    ensures { IfOk result (HasFacts state (with_known_if state.facts x known)) }
+    ensures { IfOk result (HasFacts state.entry (with_known_if state.entry.facts x known)) }
 {
     match known {
         None => Ok(state.emptied()),
@@ -44,9 +44,14 @@ pub(crate) fn written(
 
 // ---- the octagon
 
-fn at_most(alloc: Global, state: State, places: Places, c: i128) -> Result<State, AllocError>
+fn at_most<'f>(
+    alloc: Global,
+    state: State<'f>,
+    places: Places,
+    c: i128,
+) -> Result<State<'f>, AllocError>
     requires { IsGuardOn (length state.layout.chosen) (places_of places) }
-    ensures { IfOk result (HasFacts state (places_in state.facts (places_of places) c)) }
+    ensures { IfOk result (HasFacts state.entry (places_in state.entry.facts (places_of places) c)) }
 {
     match places {
         Places::Zero => state.with_guard(alloc, None, None, c),
@@ -55,18 +60,18 @@ fn at_most(alloc: Global, state: State, places: Places, c: i128) -> Result<State
     }
 }
 
-fn bounded(
+fn bounded<'f>(
     alloc: Global,
-    state: State,
+    state: State<'f>,
     left: Form,
     right: Form,
     less: i128,
-) -> Result<State, AllocError>
+) -> Result<State<'f>, AllocError>
     requires left { HasPlaces (length state.layout.chosen) (Some left) }
     requires right { HasPlaces (length state.layout.chosen) (Some right) }
     requires from { pos 0 ≤ℤ less }
     requires to { less ≤ℤ pos 1 }
-    ensures { IfOk result (HasFacts state (le_in state.facts (Some left) (Some right) less)) }
+    ensures { IfOk result (HasFacts state.entry (le_in state.entry.facts (Some left) (Some right) less)) }
 {
     match left.places_over(right) {
         None => Ok(state),
@@ -78,18 +83,18 @@ fn bounded(
 }
 
 // The left form is at most the right one less `less`.
-fn le(
+fn le<'f>(
     alloc: Global,
-    state: State,
+    state: State<'f>,
     left: &Option<Form>,
     right: &Option<Form>,
     less: i128,
-) -> Result<State, AllocError>
+) -> Result<State<'f>, AllocError>
     requires left { HasPlaces (length state.layout.chosen) left.now }
     requires right { HasPlaces (length state.layout.chosen) right.now }
     requires from { pos 0 ≤ℤ less }
     requires to { less ≤ℤ pos 1 }
-    ensures { IfOk result (HasFacts state (le_in state.facts left.now right.now less)) }
+    ensures { IfOk result (HasFacts state.entry (le_in state.entry.facts left.now right.now less)) }
 {
     match left {
         None => Ok(state),
@@ -100,31 +105,31 @@ fn le(
     }
 }
 
-fn same(
+fn same<'f>(
     alloc: Global,
-    state: State,
+    state: State<'f>,
     left: &Option<Form>,
     right: &Option<Form>,
-) -> Result<State, AllocError>
+) -> Result<State<'f>, AllocError>
     requires left { HasPlaces (length state.layout.chosen) left.now }
     requires right { HasPlaces (length state.layout.chosen) right.now }
     ensures { IfOk result
-        (HasFacts state (le_in (le_in state.facts left.now right.now (pos 0)) right.now left.now (pos 0))) }
+        (HasFacts state.entry (le_in (le_in state.entry.facts left.now right.now (pos 0)) right.now left.now (pos 0))) }
 {
     let state = le(alloc, state, left, right, 0)?;
     le(alloc, state, right, left, 0)
 }
 
-fn compared(
+fn compared<'f>(
     alloc: Global,
-    state: State,
+    state: State<'f>,
     op: Op,
     left: &Option<Form>,
     right: &Option<Form>,
-) -> Result<State, AllocError>
+) -> Result<State<'f>, AllocError>
     requires left { HasPlaces (length state.layout.chosen) left.now }
     requires right { HasPlaces (length state.layout.chosen) right.now }
-    ensures { IfOk result (HasFacts state (compared_in op state.facts left.now right.now)) }
+    ensures { IfOk result (HasFacts state.entry (compared_in op state.entry.facts left.now right.now)) }
 {
     match op {
         Op::Lt => le(alloc, state, left, right, 1),
@@ -164,35 +169,35 @@ fn kept_of(known: Option<Value>, t: IntType, op: Op, v: &Value, u: IntType) -> O
 }
 
 // A variable that is an operand.
-fn with_name(
+fn with_name<'f>(
     alloc: Global,
-    state: State,
+    state: State<'f>,
     x: usize,
     op: Op,
     v: &Value,
     u: IntType,
-) -> Result<State, AllocError>
+) -> Result<State<'f>, AllocError>
     requires place { x < length state.layout.types }
     requires value { IsIn u v.now.range }
-    ensures { IfOk result (HasFacts state
-        (with_known_if state.facts x (known_with (known_in state.facts x) (λ k. refined_by op k v.now)))) }
+    ensures { IfOk result (HasFacts state.entry
+        (with_known_if state.entry.facts x (known_with (known_in state.entry.facts x) (λ k. refined_by op k v.now)))) }
 {
     let known = kept_of(state.value(x), state.int_type(x), op, v, u);
     written(alloc, state, x, known)
 }
 
 #[tactic(auto, unfolding(pk_graph::specs::Views::tree_view))]
-fn with_operand(
+fn with_operand<'f>(
     alloc: Global,
-    state: State,
+    state: State<'f>,
     e: &Tree,
     op: Op,
     v: &Value,
     u: IntType,
-) -> Result<State, AllocError>
+) -> Result<State<'f>, AllocError>
     requires tree { IsTyped (kinds_of state.layout) (tree_view e.now) }
     requires value { IsIn u v.now.range }
-    ensures { IfOk result (HasFacts state (refined_operand state.facts (tree_view e.now) op v.now)) }
+    ensures { IfOk result (HasFacts state.entry (refined_operand state.entry.facts (tree_view e.now) op v.now)) }
 {
     match e {
         Tree::Variable(x) => with_name(alloc, state, *x, op, v, u),
@@ -204,9 +209,9 @@ fn with_operand(
 }
 
 // Each operand by what was known of the other before.
-fn with_operands(
+fn with_operands<'f>(
     alloc: Global,
-    state: State,
+    state: State<'f>,
     op: Op,
     left: &Tree,
     right: &Tree,
@@ -214,32 +219,32 @@ fn with_operands(
     t: IntType,
     v: &Value,
     u: IntType,
-) -> Result<State, AllocError>
+) -> Result<State<'f>, AllocError>
     requires left { IsTyped (kinds_of state.layout) (tree_view left.now) }
     requires right { IsTyped (kinds_of state.layout) (tree_view right.now) }
     requires first { IsIn t k.now.range }
     requires second { IsIn u v.now.range }
     ensures { IfOk result
-        (HasFacts state (refined_operand (refined_operand state.facts (tree_view left.now) op v.now)
+        (HasFacts state.entry (refined_operand (refined_operand state.entry.facts (tree_view left.now) op v.now)
         (tree_view right.now) (flipped_op op) k.now)) }
 {
     let state = with_operand(alloc, state, left, op, v, u)?;
     with_operand(alloc, state, right, flipped(op), k, t)
 }
 
-fn refined(
+fn refined<'f>(
     alloc: Global,
-    state: State,
+    state: State<'f>,
     op: Op,
     left: &Tree,
     right: &Tree,
     l: &Told,
     r: &Told,
-) -> Result<State, AllocError>
+) -> Result<State<'f>, AllocError>
     requires left { IsTyped (kinds_of state.layout) (tree_view left.now) }
     requires right { IsTyped (kinds_of state.layout) (tree_view right.now) }
     ensures { IfOk result
-        (HasFacts state (refined_in state.facts
+        (HasFacts state.entry (refined_in state.entry.facts
         (record { op = op; left = tree_view left.now; right = tree_view right.now }) l.now.known r.now.known)) }
 {
     match l.known {
@@ -257,17 +262,17 @@ fn refined(
 }
 
 // A comparison of two trees holds.
-fn holds(
+fn holds<'f>(
     alloc: Global,
-    state: State,
+    state: State<'f>,
     op: Op,
     left: &Tree,
     right: &Tree,
-) -> Result<State, AllocError>
+) -> Result<State<'f>, AllocError>
     requires left { IsTyped (kinds_of state.layout) (tree_view left.now) }
     requires right { IsTyped (kinds_of state.layout) (tree_view right.now) }
     ensures { IfOk result
-        (HasFacts state (holds_in state.layout state.facts
+        (HasFacts state.entry (holds_in state.entry.layout state.entry.facts
         (record { op = op; left = tree_view left.now; right = tree_view right.now }))) }
 {
     let l = tell(left, &state);
@@ -279,16 +284,17 @@ fn holds(
 // ---- conditions
 
 // A tree is 0, or is not.
-fn is_zero(
+fn is_zero<'f>(
     alloc: Global,
-    state: State,
+    state: State<'f>,
     e: &Tree,
     sense: bool,
     zero: &Tree,
-) -> Result<State, AllocError>
+) -> Result<State<'f>, AllocError>
     requires tree { IsTyped (kinds_of state.layout) (tree_view e.now) }
     requires zero { tree_view zero.now ≡ tree.constant types.Int (pos 0) }
-    ensures { IfOk result (HasFacts state (holds_in state.layout state.facts (zero_test (tree_view e.now) sense))) }
+    ensures { IfOk result (HasFacts state.entry
+        (holds_in state.entry.layout state.entry.facts (zero_test (tree_view e.now) sense))) }
 {
     if sense {
         holds(alloc, state, Op::Ne, e, zero)
@@ -304,16 +310,17 @@ fn with_sense(op: Op, sense: bool) -> Op
 }
 
 #[tactic(auto, unfolding(pk_graph::specs::Views::tree_view))]
-fn passed(
+fn passed<'f>(
     alloc: Global,
-    state: State,
+    state: State<'f>,
     e: &Tree,
     sense: bool,
     zero: &Tree,
-) -> Result<State, AllocError>
+) -> Result<State<'f>, AllocError>
     requires tree { IsTyped (kinds_of state.layout) (tree_view e.now) }
     requires zero { tree_view zero.now ≡ tree.constant types.Int (pos 0) }
-    ensures { IfOk result (HasFacts state (guard_in state.layout state.facts (tree_view e.now) sense)) }
+    ensures { IfOk result (HasFacts state.entry
+        (guard_in state.entry.layout state.entry.facts (tree_view e.now) sense)) }
 {
     match e {
         Tree::Variable(_) => is_zero(alloc, state, e, sense, zero),
@@ -342,9 +349,15 @@ fn passed(
 }
 
 /// What is known where a tree has this truth. The state is taken; where memory is refused, it is gone.
-pub fn guard(alloc: Global, state: State, e: &Tree, sense: bool) -> Result<State, AllocError>
+pub fn guard<'f>(
+    alloc: Global,
+    state: State<'f>,
+    e: &Tree,
+    sense: bool,
+) -> Result<State<'f>, AllocError>
     requires { IsTyped (kinds_of state.layout) (tree_view e.now) }
-    ensures { IfOk result (HasFacts state (guard_in state.layout state.facts (tree_view e.now) sense)) }
+    ensures { IfOk result (HasFacts state.entry
+        (guard_in state.entry.layout state.entry.facts (tree_view e.now) sense)) }
 {
     let zero = Tree::constant(IntType::Int, 0);
     passed(alloc, state, e, sense, &zero)

@@ -36,10 +36,15 @@ fn term(places: Places) -> Option<u32>
 }
 
 // The octagon's variable k gets the form's number, or any.
-fn assigned(alloc: Global, state: State, k: u32, form: Option<Form>) -> Result<State, AllocError>
+fn assigned<'f>(
+    alloc: Global,
+    state: State<'f>,
+    k: u32,
+    form: Option<Form>,
+) -> Result<State<'f>, AllocError>
     requires variable { k < length state.layout.chosen }
     requires places { HasPlaces (length state.layout.chosen) form }
-    ensures { IfOk result (HasFacts state (with_form state.facts k form)) }
+    ensures { IfOk result (HasFacts state.entry (with_form state.entry.facts k form)) }
 {
     match form {
         None => state.with_assignment(alloc, k, None, 0),
@@ -48,15 +53,15 @@ fn assigned(alloc: Global, state: State, k: u32, form: Option<Form>) -> Result<S
 }
 
 // Nothing is known of a variable by the octagon, and this by itself.
-fn forgotten(
+fn forgotten<'f>(
     alloc: Global,
-    state: State,
+    state: State<'f>,
     x: usize,
     known: Option<Value>,
-) -> Result<State, AllocError>
+) -> Result<State<'f>, AllocError>
     requires place { x < length state.layout.types }
     requires value { IfSome known (IsValue (type_at state.layout x)) }
-    ensures { IfOk result (HasFacts state (forgotten_in state.layout state.facts x known)) }
+    ensures { IfOk result (HasFacts state.entry (forgotten_in state.entry.layout state.entry.facts x known)) }
 {
     match state.place(x) {
         None => written(alloc, state, x, known),
@@ -70,27 +75,34 @@ fn forgotten(
 // ---- instructions
 
 // A variable of the octagon, at place k, gets a tree's value.
-fn set_chosen(alloc: Global, state: State, x: usize, k: u32, e: &Tree) -> Result<State, AllocError>
+fn set_chosen<'f>(
+    alloc: Global,
+    state: State<'f>,
+    x: usize,
+    k: u32,
+    e: &Tree,
+) -> Result<State<'f>, AllocError>
     requires place { x < length state.layout.types }
     requires variable { k < length state.layout.chosen }
     requires typed { IsTyped (kinds_of state.layout) (tree_view e.now) }
     requires fits { Represents (type_at state.layout x) (type_of (kinds_of state.layout) (tree_view e.now)) }
     ensures { IfOk result
-        (HasFacts state
+        (HasFacts state.entry
         (with_known_if
-        (with_form state.facts k (linear state.layout.chosen (known_in state.facts) (tree_view e.now))) x
-        (tree_known (known_in state.facts) (tree_view e.now)))) }
+        (with_form state.entry.facts k
+        (linear state.entry.layout.chosen (known_in state.entry.facts) (tree_view e.now))) x
+        (tree_known (known_in state.entry.facts) (tree_view e.now)))) }
 {
     let d = tell(e, &state);
     let state = assigned(alloc, state, k, d.form)?;
     written(alloc, state, x, d.known)
 }
 
-fn set(alloc: Global, state: State, x: usize, e: &Tree) -> Result<State, AllocError>
+fn set<'f>(alloc: Global, state: State<'f>, x: usize, e: &Tree) -> Result<State<'f>, AllocError>
     requires place { x < length state.layout.types }
     requires typed { IsTyped (kinds_of state.layout) (tree_view e.now) }
     requires fits { Represents (type_at state.layout x) (type_of (kinds_of state.layout) (tree_view e.now)) }
-    ensures { IfOk result (HasFacts state (set_in state.layout state.facts x (tree_view e.now))) }
+    ensures { IfOk result (HasFacts state.entry (set_in state.entry.layout state.entry.facts x (tree_view e.now))) }
 {
     match state.place(x) {
         None => {
@@ -108,20 +120,20 @@ fn misses(n: usize, k: &Value) -> bool
     k.interval.hi < 0 || n as i128 <= k.interval.lo
 }
 
-fn load(
+fn load<'f>(
     alloc: Global,
-    state: State,
+    state: State<'f>,
     x: usize,
     array: &Array,
     index: &Tree,
-) -> Result<State, AllocError>
+) -> Result<State<'f>, AllocError>
     requires place { x < length state.layout.types }
     requires array { array.now.variable < length state.layout.types }
     requires types { type_at state.layout x ≡ type_at state.layout array.now.variable }
     requires typed { IsTyped (kinds_of state.layout) (tree_view index.now) }
     ensures { IfOk result
-        (HasFacts state (at_index array.now.length (tree_known (known_in state.facts) (tree_view index.now))
-        (forgotten_in state.layout state.facts x (known_in state.facts array.now.variable)))) }
+        (HasFacts state.entry (at_index array.now.length (tree_known (known_in state.entry.facts) (tree_view index.now))
+        (forgotten_in state.entry.layout state.entry.facts x (known_in state.entry.facts array.now.variable)))) }
 {
     match value(index, &state) {
         None => Ok(state.emptied()),
@@ -168,23 +180,23 @@ fn stored(state: &State, array: usize, e: &Tree) -> Option<Value>
     joined_if(held, given, state.int_type(array))
 }
 
-fn store(
+fn store<'f>(
     alloc: Global,
-    state: State,
+    state: State<'f>,
     array: &Array,
     index: &Tree,
     e: &Tree,
-) -> Result<State, AllocError>
+) -> Result<State<'f>, AllocError>
     requires array { array.now.variable < length state.layout.types }
     requires index { IsTyped (kinds_of state.layout) (tree_view index.now) }
     requires typed { IsTyped (kinds_of state.layout) (tree_view e.now) }
     requires fits { Represents (type_at state.layout array.now.variable)
         (type_of (kinds_of state.layout) (tree_view e.now)) }
     ensures { IfOk result
-        (HasFacts state (at_index array.now.length (tree_known (known_in state.facts) (tree_view index.now))
-        (with_known_if state.facts array.now.variable
-        (joined_of (known_in state.facts array.now.variable)
-        (tree_known (known_in state.facts) (tree_view e.now)))))) }
+        (HasFacts state.entry (at_index array.now.length (tree_known (known_in state.entry.facts) (tree_view index.now))
+        (with_known_if state.entry.facts array.now.variable
+        (joined_of (known_in state.entry.facts array.now.variable)
+        (tree_known (known_in state.entry.facts) (tree_view e.now)))))) }
 {
     match value(index, &state) {
         None => Ok(state.emptied()),
@@ -200,9 +212,9 @@ fn store(
 }
 
 #[tactic(auto, unfolding(pk_graph::specs::Views::instr_view))]
-fn apply(alloc: Global, state: State, instr: &Instr) -> Result<State, AllocError>
+fn apply<'f>(alloc: Global, state: State<'f>, instr: &Instr) -> Result<State<'f>, AllocError>
     requires { IsInstrOver state.layout (instr_view instr.now) }
-    ensures { IfOk result (HasFacts state (applied state.layout state.facts (instr_view instr.now))) }
+    ensures { IfOk result (HasFacts state.entry (applied state.entry.layout state.entry.facts (instr_view instr.now))) }
 {
     match instr {
         Instr::Skip => Ok(state),
@@ -231,7 +243,11 @@ fn apply(alloc: Global, state: State, instr: &Instr) -> Result<State, AllocError
 }
 
 /// What is known after an instruction, which is typed in a table of the state's variables: the state reduced, the instruction applied, and that reduced.
-pub fn transfer(alloc: Global, instr: &Instr, state: &State) -> Result<State, AllocError>
+pub fn transfer<'f>(
+    alloc: Global,
+    instr: &Instr,
+    state: &State<'f>,
+) -> Result<State<'f>, AllocError>
     requires { IsInstrOver state.now.layout (instr_view instr.now) }
     ensures value { IfOk result
         (λ s. s ≡ record {

@@ -88,7 +88,7 @@ fn shifted(state: &State, op: Op, t: IntType, a: &Tree, b: &Tree) -> Verdict
 }
 
 // The state where a tree is false, as an edge with that guard gives it.
-fn where_false(alloc: Global, state: &State, e: &Tree) -> Result<State, AllocError>
+fn where_false<'f>(alloc: Global, state: &State<'f>, e: &Tree) -> Result<State<'f>, AllocError>
     requires { IsTyped (kinds_of state.now.layout) (tree_view e.now) }
     ensures { IfOk result
         (λ s. s.facts ≡ transferred state.now.layout state.now.facts (Guard (tree_view e.now) false)) }

@@ -1,4 +1,4 @@
-use Rattle.std.proofs.Common.{◌∙◌, List, sym, subst}
+use Rattle.std.proofs.Common.{List, sym, subst}
 use Rattle.pk_graph.specs.Graphs.{kinds_of}
 use Rattle.pk_graph.specs.Shown.{graph_view}
 use Rattle.pk_transfer.specs.Trees.{IsOver}
@@ -12,7 +12,7 @@ use Rattle.pk_analysis.proofs.analysis.analysed.Goals as goal
 pub invariant_of-result : goal.invariant_of-result
 invariant_of-result c =
     let g = graph_view c.args.graph.now in
-    let layout = c.in_ok-frame-2.ensures.ok ∙ c.in_ok-frame.ensures in
+    let layout = c.requires.frame in
     record {
       over = subst (IsOver (kinds_of g)) (sym layout) (c.graphs_law.ensures.over g c.args.options.oct);
       enough = c.requires.points;

@@ -1,5 +1,4 @@
 use Rattle.std.proofs.Common.{◌<◌, ℕ, length, ap, sym, subst, ◌∙◌, arith}
-use Rattle.std.specs.Arc.{arc_value}
 use Rattle.std.proofs.lemmas.List.{length-map}
 use Rattle.pk_graph.specs.Trees.{InstrOf}
 use Rattle.pk_graph.specs.Graphs.{edge_view}
@@ -20,7 +19,7 @@ transfer-requires c =
     let many = length-map c.edges-edges.result.now edge_view in
     let below : c.args.arrow.edge < length c.edges-edges.result.now = omega (arith, arrow.edge, many, ap length c.edges-edges.ensures) in
     let is = instr_is g c.edges-edges.result.now c.args.arrow c.index-edges-arrow.result c.edges-edges.ensures below in
-    let over = over_there g (arc_value c.flow.inside.frame) c.args.arrow c.graphs_law.ensures c.well_made.ensures c.flow.invariant.over arrow in
+    let over = over_there g c.flow.inside.frame.now c.args.arrow c.graphs_law.ensures c.well_made.ensures c.flow.invariant.over arrow in
     subst (λ (i : InstrOf ℕ). IsInstrOver c.args.state.now.layout i) is
     (subst (λ (l : Layout). IsInstrOver l (instr_of g c.args.arrow)) (ap (λ (a : Flow). a.layout) c.flow.view_is ∙ sym c.requires.layout) over)
 

@@ -1,5 +1,4 @@
 use Rattle.std.proofs.Common.{◌≡◌, ◌<◌, length, ap, sym, subst, ◌∙◌, arith}
-use Rattle.std.specs.Arc.{arc_value}
 use Rattle.pk_ctypes.specs.declared.types.IntType.{IntType}
 use Rattle.pk_graph.specs.Shown.{graph_view}
 use Rattle.pk_graph.specs.declared.graphs.Variable.{Variable}
@@ -20,7 +19,7 @@ known-requires c =
 
 pub with_value-requires-clause-value : goal.with_value-requires-clause-value
 with_value-requires-clause-value c =
-    let l = arc_value c.args.frame.now in
+    let l = c.args.frame.now in
     let so : c.loop-x.state.layout ≡ l = ap (λ (s : Stated). s.layout) c.loop-x.invariant in
     let same = ap (λ (y : Layout). type_at y c.loop-x.x) so
     ∙ type_there (graph_view c.args.graph.now) l c.requires.0 c.variables-variables.result.now c.loop-x.x c.index-variables-x.result c.requires.1 c.variables-variables.ensures c.loop-x-test.true
@@ -30,7 +29,7 @@ with_value-requires-clause-value c =
 pub loop-x-preserved : goal.loop-x-preserved
 loop-x-preserved c =
     let g = graph_view c.args.graph.now in
-    let l = arc_value c.args.frame.now in
+    let l = c.args.frame.now in
     let vs = c.variables-variables.result.now in
     let so : c.loop-x.state.layout ≡ l = ap (λ (s : Stated). s.layout) c.loop-x.invariant in
     let here = c.known.ensures.value ∙ ap (λ (v : Variable). start_known (variable_view v)) c.index-variables-x.is

@@ -1,7 +1,6 @@
-use Rattle.std.specs.Arc.{arc_value}
 use Rattle.pk_graph.specs.Shown.{graph_view}
 use Rattle.pk_analysis.proofs.StartLemmas.{IsStartedTo}
 use Rattle.pk_analysis.proofs.starts.start.Given as goal
 
 abbrev pub invariant-loop-x : goal.invariant-loop-x
-invariant-loop-x l = IsStartedTo (graph_view l.graph) (arc_value l.frame) l.x l.state
+invariant-loop-x l = IsStartedTo (graph_view l.graph) l.frame l.x l.state

@@ -1,6 +1,5 @@
 use Rattle.std.proofs.Common.{◌≡◌}
-use Rattle.std.specs.Arc.{arc_value}
 use Rattle.pk_graph_tests.proofs.lines.along.Given as goal
 
 abbrev pub invariant-loop-point : goal.invariant-loop-point
-invariant-loop-point l = l.state.layout ≡ arc_value l.frame
+invariant-loop-point l = l.state.layout ≡ l.frame

@@ -7,7 +7,7 @@ use Rattle.pk_solver.proofs.Solved.{outcome_along, over_along}
 use Rattle.pk_solver.proofs.iterating.cells_by_order.Goals as goal
 
 pub iterate-requires-clause-reads : goal.iterate-requires-clause-reads
-iterate-requires-clause-reads c κs =
+iterate-requires-clause-reads c κs outlives =
     let p = c.args.plan.now in
     let a = c.args.analysis.now in
     let system = c.requires.system.1 in
@@ -15,7 +15,7 @@ iterate-requires-clause-reads c κs =
     subst (ReadsWithin (behaviour_of (equations_of a))) (sym c.in_ok-order.ensures.elements) (c.fits_read_within.ensures p system.ordered.axioms fits)
 
 pub iterate-requires-clause-most : goal.iterate-requires-clause-most
-iterate-requires-clause-most c κs = c.requires.range.runs
+iterate-requires-clause-most c κs outlives = c.requires.range.runs
 
 pub returns-in-Ok-clause-ok : goal.returns-in-Ok-clause-ok
 returns-in-Ok-clause-ok c =

@@ -11,9 +11,9 @@ of-requires-clause-held g c =
 pub returns-clause-ok : goal.returns-clause-ok
 returns-clause-ok g c =
     states_so c.args.options.now.analysis c.args.plan.now c.args.analysis.now c.args.options.now.max_runs c.in_ok-cells.cells c.in_ok-cells.ensures.ok
-    c.in_ok-of.field-0 c.in_ok-of.ensures
+    c.of.result c.of.ensures
 
 pub returns-clause-over : goal.returns-clause-over
 returns-clause-over g c =
     over_so c.args.options.now.analysis c.args.plan.now c.args.analysis.now c.args.options.now.max_runs c.in_ok-cells.cells c.in_ok-cells.ensures.ok
-    c.in_ok-of.field-0 c.in_ok-of.ensures c.in_ok-cells.ensures.over
+    c.of.result c.of.ensures c.in_ok-cells.ensures.over

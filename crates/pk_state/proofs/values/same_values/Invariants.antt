@@ -1,7 +1,7 @@
-use Rattle.std.proofs.Common.{◌≡◌, ◌<◌, ℕ}
+use Rattle.std.proofs.Common.{◌≡◌, ◌<◌, ◌*◌, ℕ, length}
 use Rattle.pk_state.specs.Facts.{known_at}
 use Rattle.pk_state.proofs.values.same_values.Given as goal
 
--- so many are the same
-abbrev pub invariant-loop-x : goal.invariant-loop-x
-invariant-loop-x l = (y : ℕ) → y < l.x → known_at l.a y ≡ known_at l.b y
+-- so many rows pass
+abbrev pub invariant-loop-k : goal.invariant-loop-k
+invariant-loop-k l = (y : ℕ) → y < l.k * 16 → y < length l.a → known_at l.a y ≡ known_at l.b y

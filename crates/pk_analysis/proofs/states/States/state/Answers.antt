@@ -10,18 +10,18 @@ use Rattle.pk_analysis.proofs.states.States.state.Goals as goal
 
 pub overflow_cast-point : goal.overflow_cast-point
 overflow_cast-point c =
-    let many = shown_so_many (arc_value c.self.inside.frame) c.self.inside.points c.self.inside.cells.cells c.args.self.now c.self.view_is c.self.invariant.each in
+    let many = shown_so_many c.self.inside.frame.now c.self.inside.points c.self.inside.cells.cells c.args.self.now c.self.view_is c.self.invariant.each in
     omega (arith, many, c.self.invariant.few, c.requires)
 
 pub reduced_state-requires : goal.reduced_state-requires
 reduced_state-requires c =
-    let l = arc_value c.self.inside.frame in
+    let l = c.self.inside.frame.now in
     subst (λ (x : Cell Stated). (value_of (stated l None) x).layout ≡ l) (sym c.deref.ensures)
     (over_at l c.self.inside.points c.self.inside.cells.cells c.args.point (arc_value c.cell-cell.result.now) c.self.invariant c.cell-cell.ensures)
 
 pub returns : goal.returns
 returns c =
-    let l = arc_value c.self.inside.frame in
+    let l = c.self.inside.frame.now in
     let n = c.self.inside.points in
     let cells = c.self.inside.cells.cells in
     let many = shown_so_many l n cells c.args.self.now c.self.view_is c.self.invariant.each in

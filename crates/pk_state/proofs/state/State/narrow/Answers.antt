@@ -1,14 +1,13 @@
 use Rattle.std.proofs.Common.{◌≡◌, ap, sym, subst, ◌∙◌}
-use Rattle.std.specs.Arc.{arc_value}
 use Rattle.pk_state.specs.Facts.{Stated, AreFactsIf}
 use Rattle.pk_state.proofs.Held.{facts_stay}
 use Rattle.pk_state.proofs.state.State.narrow.Goals as goal
 
 pub with_facts-requires : goal.with_facts-requires
 with_facts-requires c =
-    let l = arc_value c.self.inside.frame in
+    let l = c.self.inside.frame.now in
     let mine = ap (λ (s : Stated). s.layout) c.self.view_is in
-    let same : arc_value c.next.inside.frame ≡ l = ap (λ (s : Stated). s.layout) c.next.view_is ∙ c.requires ∙ sym mine in
-    let is = rw c.deref.ensures at c.in_ok-facts.ensures in
+    let same : c.next.inside.frame.now ≡ l = ap (λ (s : Stated). s.layout) c.next.view_is ∙ c.requires ∙ sym mine in
+    let is = c.in_ok-facts.ensures in
     subst (λ k. AreFactsIf k c.in_ok-facts.facts) mine
     (rw is (facts_stay.narrowings l c.self.inside.facts c.next.inside.facts c.self.invariant.1 (subst (λ k. AreFactsIf k c.next.inside.facts) same c.next.invariant.1)))
