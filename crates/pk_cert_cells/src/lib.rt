@@ -1,9 +1,7 @@
 //! The cells of certificates: what is known at the points of a graph, written and read.
 #![tactic(auto)]
 
-mod beside;
 mod failures;
-mod frames;
 mod heads;
 mod laws;
 mod reading;

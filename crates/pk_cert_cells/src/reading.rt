@@ -1,6 +1,6 @@
 // The cells of a certificate, as they are read.
 
-ghost use Rattle.std.specs.Prelude.{◌≡◌, ◌++◌, ◌∷◌, [], ◌+◌, ◌<◌, ◌≤◌, ◌^◌, ℕ, List, IfOk, OnOk, MatchResult, MatchOption, length, map};
+ghost use Rattle.std.specs.Prelude.{◌≡◌, ◌++◌, ◌∷◌, [], ◌+◌, ◌<◌, ◌^◌, ℕ, List, OnOk, MatchResult, MatchOption, length, map};
 ghost use Rattle.std.specs.Arc.{arc_value};
 ghost use Rattle.pk_graph.specs.Kinds.{Kinds};
 ghost use Rattle.pk_graph.specs.Graphs.{kinds_of};
@@ -14,43 +14,40 @@ ghost use Rattle.pk_cert_states.specs.Lines.{line_of, shape_of};
 ghost use Rattle.pk_cert_lines.specs.Told.{IsTold};
 ghost use Rattle.pk_cert_cells.specs.Reading.{AreReadCells, IsUnfit, AreCellsOf, AreCellsRead, IsNextRead};
 
-use crate::beside::{read_beside, told_beside};
 use crate::failures::Unfit;
-use crate::frames::framed;
 use pk_cert::{Head, Row, Shape, Unread, read_row};
-use pk_cert_lines::Told;
+use pk_cert_lines::{Told, read_alike, told_of};
 use pk_cert_states::state_of;
 use pk_graph::Graph;
-use pk_iterate::Cells;
 use pk_phases::Cell;
 use pk_state::{Frame, State};
 use std::alloc::{AllocError, Global};
 use std::sync::Arc;
 
 // Has the next lines be read beside this one, if some run comes there.
-fn keep(
+fn keep<'f>(
     alloc: Global,
     graph: &Graph,
-    frame: &Arc<Frame>,
-    told: &mut Told,
-    state: &State,
+    frame: &'f Frame,
+    told: &mut Told<'f>,
+    state: &State<'f>,
 ) -> Result<(), AllocError>
-    requires frame { (oct : ℕ) × (arc_value frame.now ≡ layout_of (graph_view graph.now) oct) }
-    requires told { IsTold (kinds_of (graph_view graph.now)) (arc_value frame.now) told.old }
-    requires state { state.now.layout ≡ arc_value frame.now }
-    ensures { OnOk result (IsTold (kinds_of (graph_view graph.now)) (arc_value frame.now) told.new) }
+    requires frame { (oct : ℕ) × (frame.now ≡ layout_of (graph_view graph.now) oct) }
+    requires told { IsTold (kinds_of (graph_view graph.now)) frame.now told.old }
+    requires state { state.now.layout ≡ frame.now }
+    ensures { OnOk result (IsTold (kinds_of (graph_view graph.now)) frame.now told.new) }
 {
     if !state.is_bottom() {
-        *told = told_beside(alloc, graph, frame, state.copy(alloc)?)?;
+        *told = told_of(alloc, graph, frame, state.copy(alloc)?)?;
     }
     Ok(())
 }
 
 // Adds the cell of a line that was read beside another, behind k lines, if each of these had one.
-fn add_told(
+fn add_told<'f>(
     alloc: Global,
-    cells: &mut Vec<Arc<Cell<State>>>,
-    state: &State,
+    cells: &mut Vec<Arc<Cell<State<'f>>>>,
+    state: &State<'f>,
     k: usize,
 ) -> Result<(), AllocError>
     ensures { OnOk result ((ks : Kinds) (lines : List Line) → length lines ≡ k →
@@ -66,20 +63,20 @@ fn add_told(
 }
 
 // Adds the cell of the line behind k others, if each of these had one and this one has.
-fn add_cell(
+fn add_cell<'f>(
     alloc: Global,
     graph: &Graph,
-    frame: &Arc<Frame>,
-    cells: &mut Vec<Arc<Cell<State>>>,
-    told: &mut Told,
+    frame: &'f Frame,
+    cells: &mut Vec<Arc<Cell<State<'f>>>>,
+    told: &mut Told<'f>,
     row: &Row,
     k: usize,
 ) -> Result<(), AllocError>
-    requires frame { (oct : ℕ) × (arc_value frame.now ≡ layout_of (graph_view graph.now) oct) }
-    requires told { IsTold (kinds_of (graph_view graph.now)) (arc_value frame.now) told.old }
-    ensures told { OnOk result (IsTold (kinds_of (graph_view graph.now)) (arc_value frame.now) told.new) }
+    requires frame { (oct : ℕ) × (frame.now ≡ layout_of (graph_view graph.now) oct) }
+    requires told { IsTold (kinds_of (graph_view graph.now)) frame.now told.old }
+    ensures told { OnOk result (IsTold (kinds_of (graph_view graph.now)) frame.now told.new) }
     ensures cells { let ks = kinds_of (graph_view graph.now) in
-        let l = arc_value frame.now in
+        let l = frame.now in
         OnOk result ((lines : List Line) (line : Line) → length lines ≡ k → row_view row.now ≡ seen_line line →
         AreCellsOf ks l lines (map arc_value cells.old.items) →
         AreCellsOf ks l (lines ++ line ∷ []) (map arc_value cells.new.items)) }
@@ -99,22 +96,22 @@ fn add_cell(
 }
 
 // Adds the cell of the line that stands first, behind k others, and answers how many bytes the line is.
-fn read_alone(
+fn read_alone<'f>(
     alloc: Global,
     bytes: &[u8],
     graph: &Graph,
-    frame: &Arc<Frame>,
+    frame: &'f Frame,
     shape: Shape,
-    cells: &mut Vec<Arc<Cell<State>>>,
-    told: &mut Told,
+    cells: &mut Vec<Arc<Cell<State<'f>>>>,
+    told: &mut Told<'f>,
     k: usize,
 ) -> Result<usize, Unread>
-    requires frame { (oct : ℕ) × (arc_value frame.now ≡ layout_of (graph_view graph.now) oct) }
+    requires frame { (oct : ℕ) × (frame.now ≡ layout_of (graph_view graph.now) oct) }
     requires size { shape.numbers + shape.bounds < 2 ^ 64 }
-    requires told { IsTold (kinds_of (graph_view graph.now)) (arc_value frame.now) told.old }
-    ensures told { OnOk result (IsTold (kinds_of (graph_view graph.now)) (arc_value frame.now) told.new) }
+    requires told { IsTold (kinds_of (graph_view graph.now)) frame.now told.old }
+    ensures told { OnOk result (IsTold (kinds_of (graph_view graph.now)) frame.now told.new) }
     ensures line { MatchResult result
-        (λ n. IsNextRead (kinds_of (graph_view graph.now)) (arc_value frame.now) shape k bytes.now
+        (λ n. IsNextRead (kinds_of (graph_view graph.now)) frame.now shape k bytes.now
         (map arc_value cells.old.items) (map arc_value cells.new.items) n)
         (λ e. StopsAt (TextsOf (IsLine shape) line_text) bytes.now e) }
 {
@@ -128,27 +125,27 @@ fn read_alone(
 }
 
 // The same, beside the line before it where it differs in few parts.
-fn read_next(
+fn read_next<'f>(
     alloc: Global,
     bytes: &[u8],
     graph: &Graph,
-    frame: &Arc<Frame>,
+    frame: &'f Frame,
     shape: Shape,
-    cells: &mut Vec<Arc<Cell<State>>>,
-    told: &mut Told,
+    cells: &mut Vec<Arc<Cell<State<'f>>>>,
+    told: &mut Told<'f>,
     k: usize,
 ) -> Result<usize, Unread>
-    requires frame { (oct : ℕ) × (arc_value frame.now ≡ layout_of (graph_view graph.now) oct) }
+    requires frame { (oct : ℕ) × (frame.now ≡ layout_of (graph_view graph.now) oct) }
     requires size { shape.numbers + shape.bounds < 2 ^ 64 }
-    requires shape { shape ≡ shape_of (kinds_of (graph_view graph.now)) (arc_value frame.now) }
-    requires told { IsTold (kinds_of (graph_view graph.now)) (arc_value frame.now) told.old }
-    ensures told { OnOk result (IsTold (kinds_of (graph_view graph.now)) (arc_value frame.now) told.new) }
+    requires shape { shape ≡ shape_of (kinds_of (graph_view graph.now)) frame.now }
+    requires told { IsTold (kinds_of (graph_view graph.now)) frame.now told.old }
+    ensures told { OnOk result (IsTold (kinds_of (graph_view graph.now)) frame.now told.new) }
     ensures line { MatchResult result
-        (λ n. IsNextRead (kinds_of (graph_view graph.now)) (arc_value frame.now) shape k bytes.now
+        (λ n. IsNextRead (kinds_of (graph_view graph.now)) frame.now shape k bytes.now
         (map arc_value cells.old.items) (map arc_value cells.new.items) n)
         (λ e. StopsAt (TextsOf (IsLine shape) line_text) bytes.now e) }
 {
-    match read_beside(alloc, graph, frame, told, bytes)? {
+    match read_alike(alloc, graph, frame, told, bytes)? {
         None => read_alone(alloc, bytes, graph, frame, shape, cells, told, k),
         Some(n) => {
             told.state.is_stated();
@@ -159,23 +156,23 @@ fn read_next(
 }
 
 // The cells of the first lines that are of states, and how many bytes the lines of all points are.
-fn cells_of(
+fn cells_of<'f>(
     alloc: Global,
     bytes: &[u8],
     graph: &Graph,
-    frame: &Arc<Frame>,
+    frame: &'f Frame,
     shape: Shape,
-) -> Result<(Vec<Arc<Cell<State>>>, usize), Unread>
-    requires frame { (oct : ℕ) × (arc_value frame.now ≡ layout_of (graph_view graph.now) oct) }
+) -> Result<(Vec<Arc<Cell<State<'f>>>>, usize), Unread>
+    requires frame { (oct : ℕ) × (frame.now ≡ layout_of (graph_view graph.now) oct) }
     requires size { shape.numbers + shape.bounds < 2 ^ 64 }
-    requires shape { shape ≡ shape_of (kinds_of (graph_view graph.now)) (arc_value frame.now) }
+    requires shape { shape ≡ shape_of (kinds_of (graph_view graph.now)) frame.now }
     ensures { let points = length (graph_view graph.now).points in MatchResult result
-        (λ r. AreCellsRead (kinds_of (graph_view graph.now)) (arc_value frame.now) shape points bytes.now
+        (λ r. AreCellsRead (kinds_of (graph_view graph.now)) frame.now shape points bytes.now
         (map arc_value r.0.items) r.1)
         (λ e. StopsAt (TextsOf (AreLines shape points) lines_text) bytes.now e) }
 {
     let mut cells = Vec::new(alloc);
-    let mut told = told_beside(alloc, graph, frame, State::bottom(Arc::try_clone(frame)?))?;
+    let mut told = told_of(alloc, graph, frame, State::bottom(frame))?;
     let mut at = 0;
     for k in 0..graph.points() {
         match read_next(
@@ -215,21 +212,22 @@ fn shape(graph: &Graph, frame: &Frame) -> Option<Shape>
 
 /// What is known at each point of a graph by the lines behind a certificate's head. A line is made a state when it is
 /// read, and isn't kept; what it has of the one before it is shared and isn't parsed.
-pub fn read_cells(
+pub fn read_cells<'f>(
     alloc: Global,
     bytes: &[u8],
     head: &Head<'_>,
     graph: &Graph,
-) -> Result<Cells<Cell<State>>, Unfit>
-    requires { IsHeadRead bytes.now head.now }
+    frame: &'f Frame,
+) -> Result<Vec<Arc<Cell<State<'f>>>>, Unfit>
+    requires head { IsHeadRead bytes.now head.now }
+    requires frame { frame.now ≡ layout_of (graph_view graph.now) head.now.oct }
     ensures { MatchResult result
-        (λ cells. AreReadCells (graph_view graph.now) (head_view head.now) bytes.now cells.cells)
+        (λ cells. AreReadCells (graph_view graph.now) (head_view head.now) bytes.now (map arc_value cells.items))
         (IsUnfit (graph_view graph.now) (head_view head.now) bytes.now) }
 {
-    let frame = framed(alloc, graph, head.oct as usize)?;
-    match shape(graph, &frame) {
+    match shape(graph, frame) {
         None => Err(Unfit::Memory),
-        Some(shape) => match cells_of(alloc, &bytes[head.len..], graph, &frame, shape) {
+        Some(shape) => match cells_of(alloc, &bytes[head.len..], graph, frame, shape) {
             Err(Unread::Byte(n)) => Err(Unfit::Byte(head.len + n)),
             Err(Unread::Memory) => Err(Unfit::Memory),
             Ok((cells, n)) => {
@@ -238,7 +236,7 @@ pub fn read_cells(
                 } else if cells.len() < graph.points() {
                     Err(Unfit::State(cells.len()))
                 } else {
-                    Ok(Cells::of(cells, Vec::new(alloc)))
+                    Ok(cells)
                 }
             }
         },

@@ -1,6 +1,6 @@
 // Certificates, as they are written.
 
-ghost use Rattle.std.specs.Prelude.{◌≡◌, ◌++◌, ◌<◌, ◌≤◌, ◌^◌, ℕ, OnOk, MatchResult, length, map};
+ghost use Rattle.std.specs.Prelude.{◌≡◌, ◌++◌, ◌≤◌, ℕ, OnOk, MatchResult, length, map};
 ghost use Rattle.pk_graph.specs.Graphs.{kinds_of};
 ghost use Rattle.pk_graph.specs.Shown.{graph_view};
 ghost use Rattle.pk_transfer.specs.Graphs.{layout_of};
@@ -10,27 +10,25 @@ ghost use Rattle.pk_cert_lines.specs.Told.{IsTold};
 ghost use Rattle.pk_cert_cells.specs.Cells.{state_in, facts_in, AreCells, head_of, cells_text, most_bytes, IsUnwritten};
 
 use crate::failures::Unwritten;
-use crate::frames::framed;
 use crate::heads::write_head;
 use pk_cert_lines::{Told, told_of, write_line};
 use pk_graph::Graph;
 use pk_iterate::Cells;
 use pk_phases::Cell;
 use pk_state::{Frame, State};
-use pk_transfer::frame;
 use std::alloc::{AllocError, Global};
 
 /// How many bytes a certificate has at most.
 pub const MOST_BYTES: usize = 67_108_864;
 
 // Writes the line of a cell.
-fn write_cell(
+fn write_cell<'f>(
     alloc: Global,
     bytes: &mut Vec<u8>,
     graph: &Graph,
     frame: &Frame,
-    told: &mut Told,
-    cell: &Cell<State>,
+    told: &mut Told<'f>,
+    cell: &Cell<State<'f>>,
 ) -> Result<(), AllocError>
     requires frame { (oct : ℕ) × (frame.now ≡ layout_of (graph_view graph.now) oct) }
     requires told { IsTold (kinds_of (graph_view graph.now)) frame.now told.old }
@@ -46,13 +44,13 @@ fn write_cell(
 }
 
 // Writes the line of each point, as long as these aren't too many bytes.
-fn write_cells(
+fn write_cells<'f>(
     alloc: Global,
     bytes: &mut Vec<u8>,
     graph: &Graph,
     frame: &Frame,
-    told: &mut Told,
-    cells: &Cells<Cell<State>>,
+    told: &mut Told<'f>,
+    cells: &Cells<Cell<State<'f>>>,
 ) -> Result<(), Unwritten>
     requires frame { (oct : ℕ) × (frame.now ≡ layout_of (graph_view graph.now) oct) }
     requires told { IsTold (kinds_of (graph_view graph.now)) frame.now told.old }
@@ -77,26 +75,25 @@ fn write_cells(
 
 /// The certificate of a text, the size of the octagon, an entry and what is known at each point of the text's graph, if
 /// it has at most 67108864 bytes.
-pub fn write(
+pub fn write<'f>(
     alloc: Global,
     graph: &Graph,
+    frame: &'f Frame,
     text: &[u8],
     oct: u32,
     entry: &[u8],
-    cells: &Cells<Cell<State>>,
+    cells: &Cells<Cell<State<'f>>>,
 ) -> Result<Vec<u8>, Unwritten>
-    requires oct { oct < 2 ^ 31 }
+    requires frame { frame.now ≡ layout_of (graph_view graph.now) oct }
     requires cells { AreCells (layout_of (graph_view graph.now) oct) (length (graph_view graph.now).points)
         cells.now.cells }
     ensures { let all = cells_text (graph_view graph.now) (head_of text.now oct entry.now) cells.now.cells in
         MatchResult result (λ bytes. (bytes.items ≡ all) × (length all ≤ most_bytes)) (IsUnwritten all) }
 {
-    let nowhere = State::bottom(framed(alloc, graph, oct as usize)?);
-    let frame = frame(alloc, graph, oct as usize)?;
-    let mut told = told_of(alloc, graph, &frame, nowhere)?;
+    let mut told = told_of(alloc, graph, frame, State::bottom(frame))?;
     let mut bytes = Vec::new(alloc);
     write_head(&mut bytes, text, oct, entry)?;
-    match write_cells(alloc, &mut bytes, graph, &frame, &mut told, cells) {
+    match write_cells(alloc, &mut bytes, graph, frame, &mut told, cells) {
         Err(e) => Err(e),
         Ok(()) => Ok(bytes),
     }

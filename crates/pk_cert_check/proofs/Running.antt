@@ -1,10 +1,10 @@
 -- The cells that a point's equation reads, and what it gives on them.
-use Rattle.std.specs.Prelude.{◌≡◌, ℕ, zero, suc, ◌+◌, ◌<◌, true, false, List, [], ◌∷◌, ◌++◌, map, length, take, slice_index_or, slice_get, replicate, All, Option, None, Some, MatchOption}
+use Rattle.std.specs.Prelude.{◌≡◌, ℕ, zero, suc, ◌+◌, ◌<◌, ◌≤◌, true, false, List, [], ◌∷◌, ◌++◌, map, length, take, slice_index_or, slice_get, replicate, All, Option, None, Some, MatchOption}
 use Rattle.std.proofs.Common.{arith, refl, sym, ap, subst, ◌∙◌, get_or, below_more}
 use Rattle.std.proofs.lemmas.List.{length-map, map-append}
 use Rattle.std.proofs.lemmas.List as lists
 use Rattle.std.proofs.lemmas.List.Elements.{All-head, All-tail}
-use Rattle.std.proofs.lemmas.Option.{get_or_from_slice_get}
+use Rattle.std.proofs.lemmas.Option.{get_or_from_slice_get, slice_get_read}
 use Rattle.std.proofs.Math.Seq.{take-suc}
 use Rattle.pk_graph.specs.Graphs.{GraphOf}
 use Rattle.pk_graph.specs.Shown.{graph_view}
@@ -22,7 +22,9 @@ use Rattle.pk_analysis.specs.Parts.{part_at}
 use Rattle.pk_analysis.specs.Orders.{is_below}
 use Rattle.pk_analysis.specs.Flows.{Flow, stated, equation, equations_of, IsOverFlow}
 use Rattle.pk_sound.specs.Families.{given_on, IsLaidOut, FailsFirstAt, FamiliesAreTested}
+use Rattle.pk_analysis.proofs.OrderLemmas.{below_decides}
 use Rattle.pk_sound.proofs.Arrows_at.{arrows_to}
+use Rattle.pk_sound.proofs.Below.{below_itself}
 use Rattle.pk_cert_check.specs.Checked.{cell_in, known_by, HoldStates, IsChecked, HasPointsAlone, HavePassed}
 
 -- one more cell is shared
@@ -34,6 +36,24 @@ shared_on {C} {D} f cells points i out a x h so there same d =
     ∙ ap (λ (y : D). map (λ (u : ℕ). slice_index_or cells u d) (take i points) ++ y ∷ []) (same ∙ sym (get_or_from_slice_get cells (get_or points i 0) x d there))
     ∙ sym (ap (λ (n : ℕ). map (λ (u : ℕ). slice_index_or cells u d) (take n points)) up
     ∙ ap (map (λ (u : ℕ). slice_index_or cells u d)) (take-suc points i 0 h) ∙ map-append (λ (u : ℕ). slice_index_or cells u d) (take i points) (get_or points i 0 ∷ []))
+
+-- what stands at a place is shown there
+pub got_of : {C D : Type 0} (f : C → D) (xs : List C) (i : ℕ) (x : C) → slice_get xs i ≡ Some x → slice_get (map f xs) i ≡ Some (f x)
+got_of f [] i x e = absurd (cc)
+got_of f (y ∷ ys) zero x e = let same : y ≡ x = cc in ap (λ z. Some (f z)) same
+got_of f (y ∷ ys) (suc i) x e = got_of f ys i x e
+
+-- the cell of a point among cells that are shared
+pub cell_there : {C : Type 0} (l : Layout) (f : C → Cell Stated) (cells : List C) (points v : ℕ) (x : C) → points ≤ length (map f cells) → v < points → x ≡ get_or cells v x → cell_in l (map f cells) v ≡ f x
+cell_there l f cells points v x enough point is =
+    let place : v < length cells = omega (arith, enough, point, length-map cells f) in
+    get_or_from_slice_get (map f cells) v (f x) (Value (stated l None)) (got_of f cells v x (slice_get_read cells (length cells) v x refl place is))
+
+-- what is the same as the state of a point is within it
+pub same_below : (l : Layout) (cells : List (Cell Stated)) (v : ℕ) (g : Option Facts) (known : Cell Stated) → cell_in l cells v ≡ known → Value (stated l g) ≡ known → AreFactsIf l (known_by l cells v) → true ≡ is_below g (known_by l cells v)
+same_below l cells v g known there same facts =
+    let is : known_by l cells v ≡ g = ap (λ (c : Cell Stated). (value_of (stated l None) c).facts) (there ∙ sym same) in
+    sym (subst (λ (f : Option Facts). is_below g f ≡ true) (sym is) ((below_decides l g g (subst (AreFactsIf l) is facts) (subst (AreFactsIf l) is facts)).1 (below_itself g)))
 
 pub points_alone : (n e : ℕ) → part_at (replicate n Point) e ≡ Point
 points_alone zero e = refl

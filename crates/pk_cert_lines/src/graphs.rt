@@ -17,15 +17,15 @@ use pk_state::{Frame, State};
 use std::alloc::{AllocError, Global};
 
 /// A state, and its text if some run comes there.
-pub fn told_of(
+pub fn told_of<'f>(
     alloc: Global,
     graph: &Graph,
     frame: &Frame,
-    state: State,
-) -> Result<Told, AllocError>
+    state: State<'f>,
+) -> Result<Told<'f>, AllocError>
     requires frame { (oct : ℕ) × (frame.now ≡ layout_of (graph_view graph.now) oct) }
     requires layout { state.layout ≡ frame.now }
-    ensures { IfOk result (λ t. (t.state ≡ state) × IsTold (kinds_of (graph_view graph.now)) frame.now t) }
+    ensures { IfOk result (λ t. (t.state ≡ state.entry) × IsTold (kinds_of (graph_view graph.now)) frame.now t) }
 {
     let variables = graph.variables();
     told_in(alloc, frame, variables, state)
@@ -51,13 +51,13 @@ pub fn read_alike(
 }
 
 /// Writes the line of a state, which takes the place of the one that was told last if some run comes there.
-pub fn write_line(
+pub fn write_line<'f>(
     alloc: Global,
     bytes: &mut Vec<u8>,
     graph: &Graph,
     frame: &Frame,
-    told: &mut Told,
-    state: &State,
+    told: &mut Told<'f>,
+    state: &State<'f>,
 ) -> Result<(), AllocError>
     requires frame { (oct : ℕ) × (frame.now ≡ layout_of (graph_view graph.now) oct) }
     requires told { IsTold (kinds_of (graph_view graph.now)) frame.now told.old }

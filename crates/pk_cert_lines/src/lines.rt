@@ -1,6 +1,6 @@
 // The line of a state, written beside the one before it.
 
-ghost use Rattle.std.specs.Prelude.{◌≡◌, ◌++◌, ◌*◌, ◌^◌, ◌<◌, ℕ, ℤ, List, Option, OnOk, IfOk, IfSome, MatchOption, length, None, Some, true};
+ghost use Rattle.std.specs.Prelude.{◌≡◌, ◌++◌, ◌+◌, ◌*◌, ◌%◌, ◌^◌, ◌<◌, ◌≤◌, ℕ, ℤ, List, Option, OnOk, IfOk, IfSome, MatchOption, length, None, Some, true};
 ghost use Rattle.pk_state.specs.Layouts.{type_at};
 ghost use Rattle.pk_state.specs.Changes.{IsValue, known_in, bound_in};
 ghost use Rattle.pk_cert.specs.Rows.{symbols_text, line_text};
@@ -91,6 +91,45 @@ fn tell_value(
     }
 }
 
+// How many variables are looked at together.
+const ROW: usize = 16;
+
+// Writes the values of sixteen variables in place, where they differ, and answers how many more may; none where none may.
+fn tell_row(
+    alloc: Global,
+    told: &mut Told,
+    frame: &Frame,
+    variables: &[Variable],
+    state: &State,
+    x: usize,
+    left: usize,
+) -> Result<Option<usize>, AllocError>
+    requires told { IsTextOf (kinds_in variables.now) frame.now told.old }
+    requires many { length frame.now.types ≡ length variables.now }
+    requires state { state.now.layout ≡ frame.now }
+    requires some { state.now.facts ≡ None → ⊥ }
+    requires place { x < length variables.now }
+    requires first { x % 16 ≡ 0 }
+    ensures told { OnOk result (IsTextOf (kinds_in variables.now) frame.now told.new) }
+    ensures before { OnOk result ((y : ℕ) → y < x →
+        known_in told.new.state.facts y ≡ known_in told.old.state.facts y) }
+    ensures values { IfOk result (λ o. IfSome o (λ _. (y : ℕ) → x ≤ y → y < x + 16 → y < length variables.now →
+        known_in told.new.state.facts y ≡ known_in state.now.facts y)) }
+{
+    told.state.is_stated();
+    if state.same_row(&told.state, x) {
+        return Ok(Some(left));
+    }
+    let mut fewer = left;
+    for y in x..variables.len().min(x.saturating_add(ROW)) {
+        match tell_value(alloc, told, frame, variables, state, y, fewer)? {
+            None => return Ok(None),
+            Some(next) => fewer = next,
+        }
+    }
+    Ok(Some(fewer))
+}
+
 // Writes the values that differ in place, if these are few.
 fn tell_values(
     alloc: Global,
@@ -107,8 +146,8 @@ fn tell_values(
     ensures values { IfOk result (λ b. b ≡ true → values_in state.now.facts ≡ values_in told.new.state.facts) }
 {
     let mut left = MOST;
-    for x in 0..variables.len() {
-        match tell_value(alloc, told, frame, variables, state, x, left)? {
+    for k in 0..(variables.len() + ROW - 1) / ROW {
+        match tell_row(alloc, told, frame, variables, state, k * ROW, left)? {
             None => return Ok(false),
             Some(fewer) => left = fewer,
         }
@@ -158,12 +197,12 @@ fn octagon_size(frame: &Frame) -> u32
 }
 
 // Writes the bounds in place, if they differ.
-fn tell_bounds(
+fn tell_bounds<'f>(
     alloc: Global,
-    told: &mut Told,
+    told: &mut Told<'f>,
     frame: &Frame,
     variables: &[Variable],
-    state: &State,
+    state: &State<'f>,
 ) -> Result<(), AllocError>
     requires told { IsTextOf (kinds_in variables.now) frame.now told.old }
     requires many { length frame.now.types ≡ length variables.now }
@@ -184,12 +223,12 @@ fn tell_bounds(
 }
 
 // Has another state told.
-fn tell(
+fn tell<'f>(
     alloc: Global,
-    told: &mut Told,
+    told: &mut Told<'f>,
     frame: &Frame,
     variables: &[Variable],
-    state: &State,
+    state: &State<'f>,
 ) -> Result<(), AllocError>
     requires told { IsTold (kinds_in variables.now) frame.now told.old }
     requires many { length frame.now.types ≡ length variables.now }
@@ -210,13 +249,13 @@ fn tell(
 }
 
 /// Writes the line of a state, which takes the place of the one that was told last if some run comes there.
-pub(crate) fn write_in(
+pub(crate) fn write_in<'f>(
     alloc: Global,
     bytes: &mut Vec<u8>,
-    told: &mut Told,
+    told: &mut Told<'f>,
     frame: &Frame,
     variables: &[Variable],
-    state: &State,
+    state: &State<'f>,
 ) -> Result<(), AllocError>
     requires told { IsTold (kinds_in variables.now) frame.now told.old }
     requires many { length frame.now.types ≡ length variables.now }

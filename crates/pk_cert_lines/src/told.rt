@@ -23,8 +23,8 @@ use std::alloc::{AllocError, Global};
 /// A state, its values, its symbols as a text with a space behind each, and how many bytes of it are those of each
 /// variable as a scalar, of each as an array, and of the octagon's bounds.
 #[derive(Drop)]
-pub struct Told {
-    pub state: State,
+pub struct Told<'f> {
+    pub state: State<'f>,
     pub values: Vec<Value>,
     pub text: Vec<u8>,
     pub sizes: Vec<usize>,
@@ -147,15 +147,15 @@ fn values_of(alloc: Global, state: &State, n: usize) -> Result<Vec<Value>, Alloc
 }
 
 /// A state, and its text if some run comes there.
-pub(crate) fn told_in(
+pub(crate) fn told_in<'f>(
     alloc: Global,
     frame: &Frame,
     variables: &[Variable],
-    state: State,
-) -> Result<Told, AllocError>
+    state: State<'f>,
+) -> Result<Told<'f>, AllocError>
     requires layout { state.layout ≡ frame.now }
     requires many { length frame.now.types ≡ length variables.now }
-    ensures { IfOk result (λ t. (t.state ≡ state) × IsTold (kinds_in variables.now) frame.now t) }
+    ensures { IfOk result (λ t. (t.state ≡ state.entry) × IsTold (kinds_in variables.now) frame.now t) }
 {
     if state.is_bottom() {
         return Ok(Told {
@@ -231,7 +231,12 @@ pub(crate) fn value_in(told: &Told, frame: &Frame, variables: &[Variable], x: us
 }
 
 // The same state, but for what is known of a variable.
-fn with_value(alloc: Global, state: &State, x: usize, value: Value) -> Result<State, AllocError>
+fn with_value<'f>(
+    alloc: Global,
+    state: &State<'f>,
+    x: usize,
+    value: Value,
+) -> Result<State<'f>, AllocError>
     requires place { x < length state.now.layout.types }
     requires value { IsValue (type_at state.now.layout x) value }
     ensures layout { IfOk result (λ s. s.layout ≡ state.now.layout) }
@@ -268,12 +273,12 @@ pub(crate) fn put_value(
 }
 
 /// Another state with the same values.
-pub(crate) fn put_bounds(
+pub(crate) fn put_bounds<'f>(
     alloc: Global,
-    told: &mut Told,
+    told: &mut Told<'f>,
     frame: &Frame,
     variables: &[Variable],
-    state: State,
+    state: State<'f>,
 ) -> Result<(), AllocError>
     requires told { IsTextOf (kinds_in variables.now) frame.now told.old }
     requires many { length frame.now.types ≡ length variables.now }
@@ -281,7 +286,7 @@ pub(crate) fn put_bounds(
     requires some { state.facts ≡ None → ⊥ }
     requires same { values_in state.facts ≡ values_in told.old.state.facts }
     ensures told { OnOk result (IsTextOf (kinds_in variables.now) frame.now told.new) }
-    ensures state { OnOk result (told.new.state ≡ state) }
+    ensures state { OnOk result (told.new.state ≡ state.entry) }
 {
     told.state.is_stated();
     let part = bounds_text(alloc, frame, &state)?;

@@ -1,6 +1,7 @@
 // What a check of bytes tells.
 
-ghost use Rattle.std.specs.Prelude.{◌≡◌, ◌<◌, ◌^◌, ℕ, IfOk, IfErr};
+ghost use Rattle.std.specs.Prelude.{◌≡◌, ◌<◌, ◌^◌, ℕ, IfOk, IfErr, length, map};
+ghost use Rattle.std.specs.Arc.{arc_value};
 ghost use Rattle.pk_graph.specs.Accesses.{accesses_of};
 ghost use Rattle.pk_graph.specs.Shown.{graph_view};
 ghost use Rattle.pk_transfer.specs.Graphs.{layout_of};
@@ -10,6 +11,7 @@ ghost use Rattle.pk_text_graph.specs.Graphs.{HasGraph};
 ghost use Rattle.pk_cert.specs.Heads.{head_view};
 ghost use Rattle.pk_cert.specs.Pieces.{IsHeadRead};
 ghost use Rattle.pk_cert_cells.specs.Reading.{AreReadCells};
+ghost use Rattle.pk_cert_check.specs.Checked.{HoldStates, IsChecked};
 ghost use Rattle.pk_cert_report.specs.Checked.{IsValid, IsInvalid, reduced_states, status_of_unfit};
 
 use pk_analysis::{Analysis, Options, States};
@@ -22,10 +24,12 @@ use pk_graph::Graph;
 use pk_graph_report::checked_of;
 use pk_iterate::Cells;
 use pk_phases::Cell;
-use pk_state::State;
+use pk_state::{Frame, State};
 use pk_status::Status;
 use pk_text_graph::{graph_of_text, graphs_are_few};
+use pk_transfer::frame;
 use std::alloc::{AllocError, Global};
+use std::sync::Arc;
 
 // How a check ends where the lines are no certificate of a graph with so few points.
 fn unfit_status(why: Unfit) -> Status
@@ -40,25 +44,27 @@ fn unfit_status(why: Unfit) -> Status
 }
 
 // The verdicts by cells that were read.
-fn verdicts_by(
+fn verdicts_by<'f>(
     alloc: Global,
-    graph: &Graph,
+    graph: &'f Graph,
+    frame: &'f Frame,
     bytes: &[u8],
     head: &Head<'_>,
-    cells: Cells<Cell<State>>,
+    cells: Cells<Cell<State<'f>>>,
 ) -> Result<(Vec<u8>, usize), AllocError>
     requires head { IsHeadRead bytes.now head.now }
+    requires frame { frame.now ≡ layout_of (graph_view graph.now) head.now.oct }
     requires read { AreReadCells (graph_view graph.now) (head_view head.now) bytes.now cells.cells }
     ensures told { IfOk result (λ r. r.0.items ≡ checked_text (graph_view graph.now)
         (accesses_of (graph_view graph.now)) (verdicts_of (graph_view graph.now)
-        (reduced_states (layout_of (graph_view graph.now) head.now.oct) cells.cells))) }
+        (reduced_states (layout_of (graph_view graph.now) head.now.oct) cells.entry.cells))) }
     ensures counted { IfOk result (λ r. r.1 ≡ unknown_in (verdicts_of (graph_view graph.now)
-        (reduced_states (layout_of (graph_view graph.now) head.now.oct) cells.cells))) }
+        (reduced_states (layout_of (graph_view graph.now) head.now.oct) cells.entry.cells))) }
 {
     read_cells_hold_states();
     let oct = head.oct as usize;
-    let analysis = Analysis::of_points(alloc, graph, oct)?;
-    let states = States::of(&analysis, cells)?;
+    let analysis = Analysis::of_points(alloc, graph, frame, oct)?;
+    let states = States::of(&analysis, cells);
     let options = Options {
         delay: 0,
         narrow: 0,
@@ -67,26 +73,47 @@ fn verdicts_by(
     checked_of(alloc, graph, options, &states)
 }
 
-// The check of cells that were read.
-fn check_cells(
+// The first point whose equation isn't solved by cells, if there is one, and cells that hold the same states.
+fn first_and_cells<'f>(
     alloc: Global,
-    graph: &Graph,
+    graph: &'f Graph,
+    frame: &'f Frame,
+    oct: usize,
+    mut cells: Vec<Arc<Cell<State<'f>>>>,
+) -> Result<(Option<u32>, Cells<Cell<State<'f>>>), AllocError>
+    requires frame { frame.now ≡ layout_of (graph_view graph.now) oct }
+    requires cells { HoldStates (layout_of (graph_view graph.now) oct) (length (graph_view graph.now).points)
+        (map arc_value cells.items) }
+    ensures first { IfOk result (λ r. IsChecked (graph_view graph.now) (layout_of (graph_view graph.now) oct)
+        (map arc_value cells.entry.items) r.0) }
+    ensures same { IfOk result (λ r. r.1.cells ≡ map arc_value cells.entry.items) }
+{
+    let found = first_failing(alloc, graph, frame, oct, &mut cells)?;
+    Ok((found, Cells::of(cells, Vec::new(alloc))))
+}
+
+// The check of cells that were read.
+fn check_cells<'f>(
+    alloc: Global,
+    graph: &'f Graph,
+    frame: &'f Frame,
     bytes: &[u8],
     head: &Head<'_>,
-    cells: Cells<Cell<State>>,
+    cells: Vec<Arc<Cell<State<'f>>>>,
 ) -> Result<(Vec<u8>, u64), Status>
     requires head { IsHeadRead bytes.now head.now }
     requires of_text { HasGraph head.now.text.now head.now.entry.now (graph_view graph.now) }
-    requires read { AreReadCells (graph_view graph.now) (head_view head.now) bytes.now cells.cells }
+    requires frame { frame.now ≡ layout_of (graph_view graph.now) head.now.oct }
+    requires read { AreReadCells (graph_view graph.now) (head_view head.now) bytes.now (map arc_value cells.items) }
     ensures ok { IfOk result (λ r. IsValid bytes.now r.1 r.0.items) }
     ensures err { IfErr result (IsInvalid bytes.now) }
 {
     read_cells_hold_states();
-    let found = first_failing(alloc, graph, head.oct as usize, &cells)?;
+    let (found, known) = first_and_cells(alloc, graph, frame, head.oct as usize, cells)?;
     match found {
         Some(v) => Err(Status::CertFails { point: v }),
         None => {
-            let (told, unknown) = verdicts_by(alloc, graph, bytes, head, cells)?;
+            let (told, unknown) = verdicts_by(alloc, graph, frame, bytes, head, known)?;
             Ok((told, unknown as u64))
         }
     }
@@ -105,8 +132,9 @@ fn check_lines(
     ensures err { IfErr result (IsInvalid bytes.now) }
 {
     graphs_are_few();
-    match read_cells(alloc, bytes, head, graph) {
-        Ok(cells) => check_cells(alloc, graph, bytes, head, cells),
+    let frame = frame(alloc, graph, head.oct as usize)?;
+    match read_cells(alloc, bytes, head, graph, &frame) {
+        Ok(cells) => check_cells(alloc, graph, &frame, bytes, head, cells),
         Err(why) => Err(unfit_status(why)),
     }
 }

@@ -1,10 +1,11 @@
 // The certificate of a text.
 
-ghost use Rattle.std.specs.Prelude.{◌≤◌, IfOk, IfErr, length};
+ghost use Rattle.std.specs.Prelude.{◌≡◌, ◌≤◌, IfOk, IfErr, length};
 ghost use Rattle.pk_graph.specs.Shown.{graph_view};
 ghost use Rattle.pk_solver.specs.Bounds.{AreInRange, most_points};
 ghost use Rattle.pk_solver.specs.Solved.{AreCellsOver, AreRawCells};
 ghost use Rattle.pk_text_graph.specs.Graphs.{HasGraph};
+ghost use Rattle.pk_transfer.specs.Graphs.{layout_of};
 ghost use Rattle.pk_cert_report.specs.Written.{IsCertified, IsUncertified};
 
 use pk_cert_cells::{Unwritten, write};
@@ -12,25 +13,28 @@ use pk_graph::Graph;
 use pk_iterate::Cells;
 use pk_phases::Cell;
 use pk_solver::{IterationOptions, SolverError, cells};
-use pk_state::State;
+use pk_state::{Frame, State};
 use pk_status::Status;
 use pk_text_graph::{graph_of_text, graphs_are_few};
+use pk_transfer::frame;
 use pk_workers::Gate;
 use std::alloc::Global;
 use std::sync::Wait;
 use std::thread::Threads;
 
 // The certificate of what the iteration left.
-fn written(
+fn written<'f>(
     alloc: Global,
     graph: &Graph,
+    frame: &'f Frame,
     text: &[u8],
     entry: &str,
     iteration: &IterationOptions,
-    cells: &Cells<Cell<State>>,
+    cells: &Cells<Cell<State<'f>>>,
 ) -> Result<Vec<u8>, Status>
     requires range { AreInRange iteration.now }
     requires of_text { HasGraph text.now entry.now (graph_view graph.now) }
+    requires frame { frame.now ≡ layout_of (graph_view graph.now) iteration.now.analysis.oct }
     requires cells { AreRawCells (graph_view graph.now) iteration.now.analysis iteration.now.max_runs cells.now.cells }
     requires over { AreCellsOver (graph_view graph.now) iteration.now.analysis cells.now.cells }
     ensures ok { IfOk result (λ bytes.
@@ -38,7 +42,7 @@ fn written(
     ensures err { IfErr result (IsUncertified text.now entry.now iteration.now.analysis iteration.now.max_runs) }
 {
     let oct = iteration.analysis.oct as u32;
-    match write(alloc, graph, text, oct, entry.as_bytes(), cells) {
+    match write(alloc, graph, frame, text, oct, entry.as_bytes(), cells) {
         Ok(bytes) => Ok(bytes),
         Err(Unwritten::Limit) => Err(Status::CertLimit),
         Err(Unwritten::Memory) => Err(Status::Memory),
@@ -62,8 +66,9 @@ fn graph_certificate<R: Threads + Wait + Sync, G: Gate + Sync>(
         IsCertified text.now entry.now iteration.now.analysis iteration.now.max_runs bytes.items) }
     ensures err { IfErr result (IsUncertified text.now entry.now iteration.now.analysis iteration.now.max_runs) }
 {
-    match cells(rt, alloc, gate, graph, iteration) {
-        Ok(cells) => written(alloc, graph, text, entry, iteration, &cells),
+    let frame = frame(alloc, graph, iteration.analysis.oct)?;
+    match cells(rt, alloc, gate, graph, &frame, iteration) {
+        Ok(cells) => written(alloc, graph, &frame, text, entry, iteration, &cells),
         Err(SolverError::RunLimit) => Err(Status::RunLimit {
             max_runs: iteration.max_runs,
         }),

@@ -1,7 +1,6 @@
 // The state of a line.
 
 ghost use Rattle.std.specs.Prelude.{◌≡◌, ◌<◌, ℕ, IfOk, MatchOption, Some, List, Option, length, map};
-ghost use Rattle.std.specs.Arc.{arc_value};
 ghost use Rattle.pk_value.specs.Known.{Known};
 ghost use Rattle.pk_octmat.specs.Octagon.{Octagon};
 ghost use Rattle.pk_graph.specs.Graphs.{kinds_of};
@@ -26,7 +25,6 @@ use pk_octmat::Matrix;
 use pk_state::{Frame, State};
 use pk_value::Value;
 use std::alloc::{AllocError, Global};
-use std::sync::Arc;
 
 // Any number of a type.
 fn any_in(t: IntType) -> Value
@@ -78,32 +76,32 @@ fn read_values<'s>(
 }
 
 // A state to begin with: another one, or that of which nothing is known.
-fn begun(alloc: Global, frame: &Arc<Frame>, beside: &State) -> Result<State, AllocError>
-    requires { beside.now.layout ≡ arc_value frame.now }
-    ensures { IfOk result (HasFacts (arc_value frame.now)) }
+fn begun<'f>(alloc: Global, frame: &'f Frame, beside: &State<'f>) -> Result<State<'f>, AllocError>
+    requires { beside.now.layout ≡ frame.now }
+    ensures { IfOk result (HasFacts frame.now) }
 {
     if beside.is_bottom() {
-        return State::top(alloc, Arc::try_clone(frame)?);
+        return State::top(alloc, frame);
     }
     beside.is_stated();
     beside.copy(alloc)
 }
 
 // The state with these values and this octagon, which shares with another one what both have.
-fn with_facts(
+fn with_facts<'f>(
     alloc: Global,
-    frame: &Arc<Frame>,
+    frame: &'f Frame,
     values: &[Value],
     octagon: Matrix,
-    beside: &State,
-) -> Result<State, AllocError>
-    requires beside { beside.now.layout ≡ arc_value frame.now }
-    requires size { length values.now ≡ length (arc_value frame.now).types }
+    beside: &State<'f>,
+) -> Result<State<'f>, AllocError>
+    requires beside { beside.now.layout ≡ frame.now }
+    requires size { length values.now ≡ length frame.now.types }
     requires values { (x : ℕ) → x < length values.now →
-        IsValue (type_at (arc_value frame.now) x) (known_at values.now x) }
-    requires octagon { octagon.vars ≡ length (arc_value frame.now).chosen }
+        IsValue (type_at frame.now x) (known_at values.now x) }
+    requires octagon { octagon.vars ≡ length frame.now.chosen }
     ensures { IfOk result (λ s. s ≡ record {
-      layout = arc_value frame.now;
+      layout = frame.now;
       facts = Some (record { values = values.now; octagon = octagon });
     }) }
 {
@@ -115,20 +113,20 @@ fn with_facts(
 }
 
 // The state with these values and the octagon of which the symbols are the bounds, if there is one.
-fn bounded(
+fn bounded<'f>(
     alloc: Global,
-    frame: &Arc<Frame>,
+    frame: &'f Frame,
     values: &[Value],
     symbols: &[Symbol],
-    beside: &State,
-) -> Result<Option<State>, AllocError>
-    requires beside { beside.now.layout ≡ arc_value frame.now }
-    requires size { length values.now ≡ length (arc_value frame.now).types }
+    beside: &State<'f>,
+) -> Result<Option<State<'f>>, AllocError>
+    requires beside { beside.now.layout ≡ frame.now }
+    requires size { length values.now ≡ length frame.now.types }
     requires values { (x : ℕ) → x < length values.now →
-        IsValue (type_at (arc_value frame.now) x) (known_at values.now x) }
+        IsValue (type_at frame.now x) (known_at values.now x) }
     ensures { IfOk result (λ o. MatchOption o
-        ((m : Octagon) → AreBoundsOf (length (arc_value frame.now).chosen) symbols.now m → ⊥)
-        (IsBounded (arc_value frame.now) values.now symbols.now)) }
+        ((m : Octagon) → AreBoundsOf (length frame.now.chosen) symbols.now m → ⊥)
+        (IsBounded frame.now values.now symbols.now)) }
 {
     frame.is_layout();
     let n = frame.octagon_len();
@@ -143,19 +141,19 @@ fn bounded(
 }
 
 // The state of the symbols of a line.
-fn of_symbols(
+fn of_symbols<'f>(
     alloc: Global,
     graph: &Graph,
-    frame: &Arc<Frame>,
+    frame: &'f Frame,
     symbols: &[Symbol],
-    beside: &State,
-) -> Result<Option<State>, AllocError>
-    requires beside { beside.now.layout ≡ arc_value frame.now }
-    requires frame { (oct : ℕ) × (arc_value frame.now ≡ layout_of (graph_view graph.now) oct) }
+    beside: &State<'f>,
+) -> Result<Option<State<'f>>, AllocError>
+    requires beside { beside.now.layout ≡ frame.now }
+    requires frame { (oct : ℕ) × (frame.now ≡ layout_of (graph_view graph.now) oct) }
     ensures { IfOk result (λ o. MatchOption o
-        ((f : Facts) → AreFacts (arc_value frame.now) f →
+        ((f : Facts) → AreFacts frame.now f →
         symbols.now ≡ map kept (symbols_of (kinds_of (graph_view graph.now)) f) → ⊥)
-        (IsRead (kinds_of (graph_view graph.now)) (arc_value frame.now) symbols.now)) }
+        (IsRead (kinds_of (graph_view graph.now)) frame.now symbols.now)) }
 {
     let variables = graph.variables();
     let mut values = any_values(alloc, variables)?;
@@ -173,22 +171,22 @@ fn of_symbols(
 
 /// The state of which a line tells, over the frame of the graph, which shares with another one what both have; none where it tells of none: a range isn't in its type or has no number, a class isn't
 /// reduced, or the bounds are no octagon's.
-pub fn state_of(
+pub fn state_of<'f>(
     alloc: Global,
     graph: &Graph,
-    frame: &Arc<Frame>,
+    frame: &'f Frame,
     row: &Row,
-    beside: &State,
-) -> Result<Option<State>, AllocError>
-    requires beside { beside.now.layout ≡ arc_value frame.now }
-    requires frame { (oct : ℕ) × (arc_value frame.now ≡ layout_of (graph_view graph.now) oct) }
+    beside: &State<'f>,
+) -> Result<Option<State<'f>>, AllocError>
+    requires beside { beside.now.layout ≡ frame.now }
+    requires frame { (oct : ℕ) × (frame.now ≡ layout_of (graph_view graph.now) oct) }
     ensures { let ks = kinds_of (graph_view graph.now) in IfOk result (λ o. MatchOption o
-        ((f : Option Facts) → AreFactsIf (arc_value frame.now) f →
+        ((f : Option Facts) → AreFactsIf frame.now f →
         row_view row.now ≡ kept_line (line_of ks f) → ⊥)
-        (λ s. (s.layout ≡ arc_value frame.now) × (row_view row.now ≡ kept_line (line_of ks s.facts)))) }
+        (λ s. (s.layout ≡ frame.now) × (row_view row.now ≡ kept_line (line_of ks s.facts)))) }
 {
     match row {
-        Row::Bottom => Ok(Some(State::bottom(Arc::try_clone(frame)?))),
+        Row::Bottom => Ok(Some(State::bottom(frame))),
         Row::Symbols(symbols) => of_symbols(alloc, graph, frame, symbols, beside),
     }
 }

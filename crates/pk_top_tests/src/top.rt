@@ -41,15 +41,15 @@ fn run<R: Threads + Wait + Sync, G: Gate + Sync>(
 
 // The code, the sink with what was written, and the line on standard error.
 #[derive(Drop)]
-struct Answer {
+pub(crate) struct Answer {
     code: u8,
-    out: MemSink,
+    pub(crate) out: MemSink,
     line: String,
 }
 
 impl Answer {
     // Whether so many bytes of a text were written.
-    fn is(&self, code: u8, text: &str, sent: usize, line: &str) -> bool {
+    pub(crate) fn is(&self, code: u8, text: &str, sent: usize, line: &str) -> bool {
         self.code == code
             && self.out.bytes().len() == sent
             && text.as_bytes().starts_with(self.out.bytes())
@@ -73,7 +73,7 @@ fn outcome<R: Threads + Wait + Sync, G: Gate + Sync>(
     Ok((status, out))
 }
 
-fn called<R: Threads + Wait + Sync, G: Gate + Sync>(
+pub(crate) fn called<R: Threads + Wait + Sync, G: Gate + Sync>(
     rt: &R,
     alloc: Global,
     gate: &G,
@@ -111,9 +111,9 @@ fn analysed<R: Threads + Wait + Sync>(
     called(rt, alloc, &NoGate {}, "run", text, NEVER, NEVER)
 }
 
-const NEVER: u64 = 1000000000;
+pub(crate) const NEVER: u64 = 1000000000;
 
-const WORKED: &str = "int main(void){int i=0;while(i<10)i=i+1;return i;}";
+pub(crate) const WORKED: &str = "int main(void){int i=0;while(i<10)i=i+1;return i;}";
 
 const REPORT: &str =
     "pikos 1 entry main points 8 elements 10\nhead 2 main 1:24\n  i [0,10] 1Z+0\naccess main 1:38 overflow safe\nresult safe 1 unknown 0 unreachable 0\n";

@@ -16,24 +16,24 @@ use Rattle.pk_cert_cells.proofs.reading.add_cell.Goals as goal
 pub returns-in-None-clause-cells : goal.returns-in-None-clause-cells
 returns-in-None-clause-cells c = λ lines line size seen h.
     let ks = kinds_of (graph_view c.args.graph.now) in
-    let l = arc_value c.args.frame.now in
+    let l = c.args.frame.now in
     let cells = map arc_value c.args.cells.now.items in
     let same : length cells ≡ length lines = omega (arith, length-map c.args.cells.now.items arc_value, c.len.ensures, c.if-len-k.false, size) in
-    let none = none_of c.in_ok-state_of.field-0 ((f : Option Facts) → AreFactsIf (arc_value c.args.frame.now) f → row_view c.args.row.now ≡ kept_line (line_of (kinds_of (graph_view c.args.graph.now)) f) → ⊥)
-    (λ (s : Stated). (s.layout ≡ arc_value c.args.frame.now) × (row_view c.args.row.now ≡ kept_line (line_of (kinds_of (graph_view c.args.graph.now)) s.facts))) c.in_ok-state_of.ensures c.in-None.is in
+    let none = none_of c.in_ok-state_of.field-0 ((f : Option Facts) → AreFactsIf c.args.frame.now f → row_view c.args.row.now ≡ kept_line (line_of (kinds_of (graph_view c.args.graph.now)) f) → ⊥)
+    (λ (s : Stated). (s.layout ≡ c.args.frame.now) × (row_view c.args.row.now ≡ kept_line (line_of (kinds_of (graph_view c.args.graph.now)) s.facts))) c.in_ok-state_of.ensures c.in-None.is in
     add_stateless ks l lines line cells h same (row_stateless ks l c.args.row.now line seen none)
 
 pub returns-in_ok-push-in-Some-clause-cells : goal.returns-in_ok-push-in-Some-clause-cells
 returns-in_ok-push-in-Some-clause-cells c = λ lines line size seen h.
     let ks = kinds_of (graph_view c.args.graph.now) in
-    let l = arc_value c.args.frame.now in
+    let l = c.args.frame.now in
     let cells = map arc_value c.args.cells.now.items in
     let same : length cells ≡ length lines = omega (arith, length-map c.args.cells.now.items arc_value, c.len.ensures, c.if-len-k.false, size) in
     let f = c.in-Some.state.facts in
-    let some = some_of c.in_ok-state_of.field-0 ((f : Option Facts) → AreFactsIf (arc_value c.args.frame.now) f → row_view c.args.row.now ≡ kept_line (line_of (kinds_of (graph_view c.args.graph.now)) f) → ⊥)
-    (λ (s : Stated). (s.layout ≡ arc_value c.args.frame.now) × (row_view c.args.row.now ≡ kept_line (line_of (kinds_of (graph_view c.args.graph.now)) s.facts))) c.in-Some.state c.in_ok-state_of.ensures c.in-Some.is in
+    let some = some_of c.in_ok-state_of.field-0 ((f : Option Facts) → AreFactsIf c.args.frame.now f → row_view c.args.row.now ≡ kept_line (line_of (kinds_of (graph_view c.args.graph.now)) f) → ⊥)
+    (λ (s : Stated). (s.layout ≡ c.args.frame.now) × (row_view c.args.row.now ≡ kept_line (line_of (kinds_of (graph_view c.args.graph.now)) s.facts))) c.in-Some.state c.in_ok-state_of.ensures c.in-Some.is in
     let facts = subst (λ (y : Layout). AreFactsIf y c.in-Some.state.facts) some.0 c.is_stated.ensures.facts in
-    let pushed : map arc_value c.push.new.self.items ≡ map arc_value c.args.cells.now.items ++ cell_of (arc_value c.args.frame.now) c.in-Some.state.facts ∷ [] =
+    let pushed : map arc_value c.push.new.self.items ≡ map arc_value c.args.cells.now.items ++ cell_of c.args.frame.now c.in-Some.state.facts ∷ [] =
     ap (λ xs. map arc_value xs) c.in_ok-push-in-Some.ensures.items
     ∙ map-append arc_value c.args.cells.now.items (c.in_ok-new-in-Some.field-0 ∷ [])
     ∙ ap (λ (x : Cell Stated). map arc_value c.args.cells.now.items ++ x ∷ []) (c.in_ok-new-in-Some.ensures.ok ∙ ap (λ (y : Layout). cell_of y c.in-Some.state.facts) some.0) in
@@ -42,7 +42,7 @@ returns-in_ok-push-in-Some-clause-cells c = λ lines line size seen h.
 pub returns-then-len-k-clause-cells : goal.returns-then-len-k-clause-cells
 returns-then-len-k-clause-cells c = λ lines line size seen h.
     let ks = kinds_of (graph_view c.args.graph.now) in
-    let l = arc_value c.args.frame.now in
+    let l = c.args.frame.now in
     let cells = map arc_value c.args.cells.now.items in
     let many = length-map c.args.cells.now.items arc_value in
     add_past ks l lines line cells h (λ e. c.if-len-k.true (omega (arith, many, c.len.ensures, size, e)))

@@ -9,5 +9,5 @@ use Rattle.pk_cert_cells.proofs.reading.cells_of.Given as goal
 -- the cells of the lines so far
 abbrev pub invariant-loop-k : goal.invariant-loop-k
 invariant-loop-k l =
-    CellsSo (kinds_of (graph_view l.graph)) l.frame.value l.shape (length (graph_view l.graph).points) l.bytes (map arc_value l.cells.items) l.k l.at
-    × IsTold (kinds_of (graph_view l.graph)) l.frame.value l.told
+    CellsSo (kinds_of (graph_view l.graph)) l.frame l.shape (length (graph_view l.graph).points) l.bytes (map arc_value l.cells.items) l.k l.at
+    × IsTold (kinds_of (graph_view l.graph)) l.frame l.told

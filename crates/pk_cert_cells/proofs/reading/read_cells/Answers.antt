@@ -1,5 +1,5 @@
 use Rattle.std.specs.Prelude.{◌≡◌, ◌<◌, ◌≤◌, List, ℕ, map, length}
-use Rattle.std.proofs.Common.{arith, subst, sym, ap, ◌∙◌}
+use Rattle.std.proofs.Common.{arith, subst, sym}
 use Rattle.std.specs.Arc.{arc_value}
 use Rattle.std.proofs.lemmas.List.{take_rest, length-map}
 use Rattle.pk_graph.specs.Graphs.{kinds_of}
@@ -12,58 +12,54 @@ use Rattle.pk_cert_cells.specs.Reading.{AreReadCells, AreCellsRead, IsStateless}
 use Rattle.pk_cert_cells.proofs.Celling.{read_stops, read_goes_on, read_stateless, read_whole}
 use Rattle.pk_cert_cells.proofs.reading.read_cells.Goals as goal
 
-pub cells_of-requires-clause-shape : goal.cells_of-requires-clause-shape
-cells_of-requires-clause-shape c = c.in-Some.ensures.0 ∙ ap (shape_of (kinds_of (graph_view c.args.graph.now))) c.deref.ensures
-
 pub returns-in-Err-Byte : goal.returns-in-Err-Byte
 returns-in-Err-Byte c =
     let g = graph_view c.args.graph.now in
     let h = head_view c.args.head.now in
     let n = c.args.head.now.len in
-    let l = arc_value c.in_ok-frame.frame in
-    let shaped : c.in-Some.shape ≡ shape_of (kinds_of (graph_view c.args.graph.now)) (arc_value c.in_ok-frame.frame) = c.in-Some.ensures.0 ∙ ap (shape_of (kinds_of (graph_view c.args.graph.now))) c.deref.ensures in
+    let l = c.args.frame.now in
+    let shaped : c.in-Some.shape ≡ shape_of (kinds_of (graph_view c.args.graph.now)) c.args.frame.now = c.in-Some.ensures.0 in
     let stop =
     subst (λ (x : List ℕ). IsStop (TextsOf (AreLines c.in-Some.shape (length (graph_view c.args.graph.now).points)) lines_text) x c.in-Err-Byte.n) (take_rest c.args.bytes.now c.args.head.now.len)
     (rw c.in-Err-Byte.field-0-is at c.in-Err-Byte.ensures) in
-    rw c.in-Err-Byte.field-0-is (read_stops g h c.args.bytes.now n c.requires.first l c.in_ok-frame.ensures c.in-Some.shape shaped c.in-Err-Byte.n stop)
+    read_stops g h c.args.bytes.now n c.requires.head.first l c.requires.frame c.in-Some.shape shaped c.in-Err-Byte.n stop
 
 pub returns-then-head-n : goal.returns-then-head-n
 returns-then-head-n c =
     let g = graph_view c.args.graph.now in
     let h = head_view c.args.head.now in
     let n = c.args.head.now.len in
-    let l = arc_value c.in_ok-frame.frame in
-    let shaped : c.in-Some.shape ≡ shape_of (kinds_of (graph_view c.args.graph.now)) (arc_value c.in_ok-frame.frame) = c.in-Some.ensures.0 ∙ ap (shape_of (kinds_of (graph_view c.args.graph.now))) c.deref.ensures in
+    let l = c.args.frame.now in
+    let shaped : c.in-Some.shape ≡ shape_of (kinds_of (graph_view c.args.graph.now)) c.args.frame.now = c.in-Some.ensures.0 in
     let is =
-    subst (λ (x : List ℕ). AreCellsRead (kinds_of (graph_view c.args.graph.now)) (arc_value c.in_ok-frame.frame) c.in-Some.shape (length (graph_view c.args.graph.now).points) x (map arc_value c.in-Ok.cells.items) c.in-Ok.n)
+    subst (λ (x : List ℕ). AreCellsRead (kinds_of (graph_view c.args.graph.now)) c.args.frame.now c.in-Some.shape (length (graph_view c.args.graph.now).points) x (map arc_value c.in-Ok.cells.items) c.in-Ok.n)
     (take_rest c.args.bytes.now c.args.head.now.len) c.in-Ok.ensures in
-    read_goes_on g h c.args.bytes.now n c.requires.first l c.in_ok-frame.ensures c.in-Some.shape shaped (map arc_value c.in-Ok.cells.items) c.in-Ok.n is c.if-head-n.true
+    read_goes_on g h c.args.bytes.now n c.requires.head.first l c.requires.frame c.in-Some.shape shaped (map arc_value c.in-Ok.cells.items) c.in-Ok.n is c.if-head-n.true
 
 pub returns-then-len-points : goal.returns-then-len-points
 returns-then-len-points c =
     let g = graph_view c.args.graph.now in
     let h = head_view c.args.head.now in
     let n = c.args.head.now.len in
-    let l = arc_value c.in_ok-frame.frame in
-    let shaped : c.in-Some.shape ≡ shape_of (kinds_of (graph_view c.args.graph.now)) (arc_value c.in_ok-frame.frame) = c.in-Some.ensures.0 ∙ ap (shape_of (kinds_of (graph_view c.args.graph.now))) c.deref.ensures in
+    let l = c.args.frame.now in
+    let shaped : c.in-Some.shape ≡ shape_of (kinds_of (graph_view c.args.graph.now)) c.args.frame.now = c.in-Some.ensures.0 in
     let is =
-    subst (λ (x : List ℕ). AreCellsRead (kinds_of (graph_view c.args.graph.now)) (arc_value c.in_ok-frame.frame) c.in-Some.shape (length (graph_view c.args.graph.now).points) x (map arc_value c.in-Ok.cells.items) c.in-Ok.n)
+    subst (λ (x : List ℕ). AreCellsRead (kinds_of (graph_view c.args.graph.now)) c.args.frame.now c.in-Some.shape (length (graph_view c.args.graph.now).points) x (map arc_value c.in-Ok.cells.items) c.in-Ok.n)
     (take_rest c.args.bytes.now c.args.head.now.len) c.in-Ok.ensures in
     let size = length-map c.in-Ok.cells.items arc_value in
     let few : length (map arc_value c.in-Ok.cells.items) < length g.points = omega (arith, size, c.len.ensures, c.points.ensures, c.if-len-points.true) in
-    subst (IsStateless g h c.args.bytes.now) (omega (arith, size, c.len-then-len-points.ensures)) (read_stateless g h c.args.bytes.now n c.requires.first l c.in_ok-frame.ensures c.in-Some.shape shaped (map arc_value c.in-Ok.cells.items) c.in-Ok.n is c.if-head-n.false few)
+    subst (IsStateless g h c.args.bytes.now) (omega (arith, size, c.len-then-len-points.ensures)) (read_stateless g h c.args.bytes.now n c.requires.head.first l c.requires.frame c.in-Some.shape shaped (map arc_value c.in-Ok.cells.items) c.in-Ok.n is c.if-head-n.false few)
 
 pub returns : goal.returns
 returns c =
     let g = graph_view c.args.graph.now in
     let h = head_view c.args.head.now in
     let n = c.args.head.now.len in
-    let l = arc_value c.in_ok-frame.frame in
-    let shaped : c.in-Some.shape ≡ shape_of (kinds_of (graph_view c.args.graph.now)) (arc_value c.in_ok-frame.frame) = c.in-Some.ensures.0 ∙ ap (shape_of (kinds_of (graph_view c.args.graph.now))) c.deref.ensures in
+    let l = c.args.frame.now in
+    let shaped : c.in-Some.shape ≡ shape_of (kinds_of (graph_view c.args.graph.now)) c.args.frame.now = c.in-Some.ensures.0 in
     let is =
-    subst (λ (x : List ℕ). AreCellsRead (kinds_of (graph_view c.args.graph.now)) (arc_value c.in_ok-frame.frame) c.in-Some.shape (length (graph_view c.args.graph.now).points) x (map arc_value c.in-Ok.cells.items) c.in-Ok.n)
+    subst (λ (x : List ℕ). AreCellsRead (kinds_of (graph_view c.args.graph.now)) c.args.frame.now c.in-Some.shape (length (graph_view c.args.graph.now).points) x (map arc_value c.in-Ok.cells.items) c.in-Ok.n)
     (take_rest c.args.bytes.now c.args.head.now.len) c.in-Ok.ensures in
     let size = length-map c.in-Ok.cells.items arc_value in
     let all : length g.points ≤ length (map arc_value c.in-Ok.cells.items) = omega (arith, size, c.len.ensures, c.points.ensures, c.if-len-points.false) in
-    subst (AreReadCells g h c.args.bytes.now) (sym c.of.ensures.cells)
-    (read_whole g h c.args.bytes.now n c.requires.first l c.in_ok-frame.ensures c.in-Some.shape shaped (map arc_value c.in-Ok.cells.items) c.in-Ok.n is c.if-head-n.false all)
+    read_whole g h c.args.bytes.now n c.requires.head.first l c.requires.frame c.in-Some.shape shaped (map arc_value c.in-Ok.cells.items) c.in-Ok.n is c.if-head-n.false all

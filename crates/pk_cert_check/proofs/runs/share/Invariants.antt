@@ -6,4 +6,4 @@ use Rattle.pk_phases.specs.declared.equations.Cell.{Cell}
 use Rattle.pk_cert_check.proofs.runs.share.Given as goal
 
 abbrev pub invariant-loop-u : goal.invariant-loop-u
-invariant-loop-u l = (d : Cell Stated) → map arc_value l.out.items ≡ map (λ (u : ℕ). slice_index_or l.cells.cells u d) (take l.u-index l.points)
+invariant-loop-u l = (d : Cell Stated) → map arc_value l.out.items ≡ map (λ (u : ℕ). slice_index_or (map arc_value l.cells) u d) (take l.u-index l.points)

@@ -6,8 +6,8 @@ use Rattle.pk_cert.specs.Heads.{head_view}
 use Rattle.pk_cert_report.proofs.Reducing.{cells_over, counted_over, states_are, states_over, told_over}
 use Rattle.pk_cert_report.proofs.checking.verdicts_by.Goals as goal
 
-pub of-requires-clause-held : goal.of-requires-clause-held
-of-requires-clause-held c =
+pub of-states-requires-clause-held : goal.of-states-requires-clause-held
+of-states-requires-clause-held c =
     cells_over (graph_view c.args.graph.now) (head_view c.args.head.now) c.args.bytes.now c.args.cells.cells c.requires.read c.in_ok-analysis.analysis.layout c.in_ok-analysis.ensures.layout
 
 pub checked_of-requires : goal.checked_of-requires
@@ -16,20 +16,20 @@ checked_of-requires c =
     let same : length (graph_view c.in_ok-analysis.analysis.graph).points ≡ length g.points = ap (λ (j : GraphOf). length j.points) c.in_ok-analysis.ensures.graph in
     let o : Options = record { delay = 0; narrow = 0; oct = c.args.head.now.oct } in
     record {
-      over = states_over g (head_view c.args.head.now) c.args.bytes.now c.args.cells.cells c.requires.read o c.in_ok-states.states refl
-          (states_are g (head_view c.args.head.now) c.args.bytes.now c.args.cells.cells c.requires.read c.in_ok-analysis.analysis.layout _ c.in_ok-states.states c.in_ok-analysis.ensures.layout same c.in_ok-states.ensures);
+      over = states_over g (head_view c.args.head.now) c.args.bytes.now c.args.cells.cells c.requires.read o c.of-states.result refl
+          (states_are g (head_view c.args.head.now) c.args.bytes.now c.args.cells.cells c.requires.read c.in_ok-analysis.analysis.layout _ c.of-states.result c.in_ok-analysis.ensures.layout same c.of-states.ensures);
     }
 
 pub returns-clause-told : goal.returns-clause-told
 returns-clause-told c =
     let g = graph_view c.args.graph.now in
     let same : length (graph_view c.in_ok-analysis.analysis.graph).points ≡ length g.points = ap (λ (j : GraphOf). length j.points) c.in_ok-analysis.ensures.graph in
-    let states = states_are g (head_view c.args.head.now) c.args.bytes.now c.args.cells.cells c.requires.read c.in_ok-analysis.analysis.layout _ c.in_ok-states.states c.in_ok-analysis.ensures.layout same c.in_ok-states.ensures in
-    told_over _ g c.checked_of.result c.in_ok-states.states _ states c.checked_of.ensures.bytes
+    let states = states_are g (head_view c.args.head.now) c.args.bytes.now c.args.cells.cells c.requires.read c.in_ok-analysis.analysis.layout _ c.of-states.result c.in_ok-analysis.ensures.layout same c.of-states.ensures in
+    told_over _ g c.checked_of.result c.of-states.result _ states c.checked_of.ensures.bytes
 
 pub returns-clause-counted : goal.returns-clause-counted
 returns-clause-counted c =
     let g = graph_view c.args.graph.now in
     let same : length (graph_view c.in_ok-analysis.analysis.graph).points ≡ length g.points = ap (λ (j : GraphOf). length j.points) c.in_ok-analysis.ensures.graph in
-    let states = states_are g (head_view c.args.head.now) c.args.bytes.now c.args.cells.cells c.requires.read c.in_ok-analysis.analysis.layout _ c.in_ok-states.states c.in_ok-analysis.ensures.layout same c.in_ok-states.ensures in
-    counted_over _ g c.checked_of.result c.in_ok-states.states _ states c.checked_of.ensures.unknown
+    let states = states_are g (head_view c.args.head.now) c.args.bytes.now c.args.cells.cells c.requires.read c.in_ok-analysis.analysis.layout _ c.of-states.result c.in_ok-analysis.ensures.layout same c.of-states.ensures in
+    counted_over _ g c.checked_of.result c.of-states.result _ states c.checked_of.ensures.unknown

@@ -1,5 +1,4 @@
 use Rattle.std.proofs.Common.{sym, subst, ℕ, ◌<◌, List, length}
-use Rattle.std.specs.Arc.{arc_value}
 use Rattle.pk_graph.specs.Shown.{graph_view}
 use Rattle.pk_graph.specs.Graphs.{kinds_of}
 use Rattle.pk_octmat.specs.Octagon.{Octagon}
@@ -15,14 +14,14 @@ returns-in-None c =
     let g = graph_view c.args.graph.now in
     let vs = c.variables-variables.result.now in
     let same = kinds_same g vs c.variables-variables.ensures in
-    let types = types_of g c.requires.frame.0 (arc_value c.args.frame.now) (kinds_in vs) c.requires.frame.1 same in
-    λ f h told. c.in-None.ensures f.values (facts_first (arc_value c.args.frame.now) (kinds_in vs) (kinds_of g) c.args.symbols.now f types same h told)
+    let types = types_of g c.requires.frame.0 c.args.frame.now (kinds_in vs) c.requires.frame.1 same in
+    λ f h told. c.in-None.ensures f.values (facts_first c.args.frame.now (kinds_in vs) (kinds_of g) c.args.symbols.now f types same h told)
 
 pub bounded-requires-clause-values : goal.bounded-requires-clause-values
 bounded-requires-clause-values c =
     let g = graph_view c.args.graph.now in
     let vs = c.variables-variables.result.now in
-    let l = arc_value c.args.frame.now in
+    let l = c.args.frame.now in
     let same = kinds_same g vs c.variables-variables.ensures in
     let types = types_of g c.requires.frame.0 l (kinds_in vs) c.requires.frame.1 same in
     subst (λ (ws : List Known). (x : ℕ) → x < length ws → IsValue (type_at l x) (known_at ws x)) (sym c.deref.ensures.value) (in_types l (kinds_in vs) c.read_values.new.values.items types c.in-Some.ensures.values)
@@ -31,7 +30,7 @@ pub returns-in-None-found : goal.returns-in-None-found
 returns-in-None-found c =
     let g = graph_view c.args.graph.now in
     let vs = c.variables-variables.result.now in
-    let l = arc_value c.args.frame.now in
+    let l = c.args.frame.now in
     let same = kinds_same g vs c.variables-variables.ensures in
     let types = types_of g c.requires.frame.0 l (kinds_in vs) c.requires.frame.1 same in
     λ f h told.
@@ -42,7 +41,7 @@ pub returns : goal.returns
 returns c =
     let g = graph_view c.args.graph.now in
     let vs = c.variables-variables.result.now in
-    let l = arc_value c.args.frame.now in
+    let l = c.args.frame.now in
     let same = kinds_same g vs c.variables-variables.ensures in
     let is = some_of c.in_ok-found-in-Some.found ((m : Octagon) → AreBoundsOf (length l.chosen) c.in-Some.rest.now m → ⊥) (IsBounded l c.deref.result.now c.in-Some.rest.now) c.in-Some-found.state c.in_ok-found-in-Some.ensures c.in-Some-found.is in
     read_whole l (kinds_in vs) (kinds_of g) c.args.symbols.now c.in-Some.rest.now c.read_values.new.values.items c.in-Some-found.state same c.in-Some.ensures
