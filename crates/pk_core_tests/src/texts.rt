@@ -189,6 +189,22 @@ fn lists_as_iterated(
     drawn_as_iterated(rt, alloc, analysis, plan, &cells, runs)
 }
 
+// The same, once it was seen that elements read elements alone.
+fn analysis_as_iterated(
+    rt: &impl Abort,
+    alloc: Global,
+    analysis: &Analysis,
+    plan: &Plan,
+    order: &Order,
+    list: &[Event],
+    runs: Option<(u32, u32, u32)>,
+) -> Result<(), Fail>
+    requires elements { order.now.elements ≡ plan.now.elements }
+{
+    assert!(rt; reads_within(analysis, plan.elements()));
+    lists_as_iterated(rt, alloc, analysis, plan, order, list, runs)
+}
+
 fn graph_as_iterated(
     rt: &impl Abort,
     alloc: Global,
@@ -208,8 +224,7 @@ fn graph_as_iterated(
     };
     let frame = frame(alloc, graph, options.oct)?;
     let analysis = Analysis::new(alloc, graph, &frame, plan, options)?;
-    assert!(rt; reads_within(&analysis, plan.elements()));
-    lists_as_iterated(rt, alloc, &analysis, plan, order, list, runs)
+    analysis_as_iterated(rt, alloc, &analysis, plan, order, list, runs)
 }
 
 fn text_as_iterated(
@@ -273,6 +288,17 @@ fn phases(alloc: Global, analysis: &Analysis, plan: &Plan) -> Result<String, Fai
     Ok(text)
 }
 
+// The same, once it was seen that elements read elements alone.
+fn seen_phases(
+    rt: &impl Abort,
+    alloc: Global,
+    analysis: &Analysis,
+    plan: &Plan,
+) -> Result<String, Fail> {
+    assert!(rt; reads_within(analysis, plan.elements()));
+    phases(alloc, analysis, plan)
+}
+
 #[test]
 fn a_narrowed_value_fails_its_test(rt: HostRuntime) -> Result<(), Fail> {
     let alloc = rt.alloc();
@@ -288,7 +314,7 @@ fn a_narrowed_value_fails_its_test(rt: HostRuntime) -> Result<(), Fail> {
     };
     let frame = frame(alloc, &graph, options.oct)?;
     let analysis = Analysis::new(alloc, &graph, &frame, &plan, options)?;
-    assert!(rt; reads_within(&analysis, plan.elements()));
-    assert!(rt; phases(alloc, &analysis, &plan)?.as_str() == "Up Up Down 1 Last ");
+    let phases = seen_phases(&rt, alloc, &analysis, &plan)?;
+    assert!(rt; phases.as_str() == "Up Up Down 1 Last ");
     Ok(())
 }

@@ -8,7 +8,7 @@ use Rattle.pk_core_tests.proofs.Same_layouts.{cells_held}
 use Rattle.pk_core_tests.proofs.agreeing.iterated.Goals as goal
 
 pub iterate-requires-clause-reads : goal.iterate-requires-clause-reads
-iterate-requires-clause-reads c κs = subst (ReadsWithin (behaviour_of (equations_of c.args.analysis.now))) (sym c.requires.elements) c.requires.reads
+iterate-requires-clause-reads c κs outlives = subst (ReadsWithin (behaviour_of (equations_of c.args.analysis.now))) (sym c.requires.elements) c.requires.reads
 
 pub returns-clause-cells : goal.returns-clause-cells
 returns-clause-cells c = IfOk-weaker c.iterate.result _ _ (λ it r. ap length r.cells_after ∙ length-map-range_with_len _ 0 _ ∙ c.requires.elements) c.iterate.ensures.ok
