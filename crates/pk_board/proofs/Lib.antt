@@ -1,3 +1,4 @@
+mod Amounts
 pub mod Stopping
 pub mod Restarting
 pub mod Asking

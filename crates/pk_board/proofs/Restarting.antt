@@ -3,7 +3,8 @@ use Rattle.std.proofs.Common.{◌≡◌, ℕ, suc, ◌+◌, ◌-◌, ◌*◌, �
 use Rattle.atomic_table.specs.Table.{Me, Allows}
 use Rattle.atomic_table.specs.Seated.{TableId}
 use Rattle.pk_plan.specs.declared.components.Component.{Component}
-use Rattle.pk_plan.specs.Plans.{PlanView, inner_count, members_of}
+use Rattle.std.proofs.lemmas.List.Elements.{Contains-get_or}
+use Rattle.pk_plan.specs.Plans.{PlanView, Inside, inner_count, members_of}
 use Rattle.pk_plan.specs.Shape.{shape_of, component_of, exits}
 use Rattle.pk_iterate.specs.Behaviour.{Behaviour}
 use Rattle.pk_iterate.specs.Runs.{values_read}
@@ -60,6 +61,7 @@ exit_again {Y} {C} b subject key table hold c kept cell = by_exit (exits subject
 pub record AtMember (w : Wiring) (plan : PlanView) (component : Component) (x left e : ℕ) : Type 0 where
   pub below : e < w.plan.elements
   pub listed : e < plan.elements
+  pub inside : Inside plan component e
   pub member : e ≡ get_or (members_at w.plan x) left 0
   pub count : inner_count plan component e ≡ inner (shape_of w.plan) x e
   pub small : inner_count plan component e < 262144
@@ -75,6 +77,7 @@ at_member b w plan component ms x left wired plan_is component_is ms_is exit in_
     record {
       below = below;
       listed = below;
+      inside = Contains-get_or (members_at w.plan x) left 0 in_range;
       member = refl;
       count = sym count;
       small = omega (arith, count, inner_small wired x (get_or (members_at w.plan x) left 0));

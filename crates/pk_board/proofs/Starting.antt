@@ -1,7 +1,8 @@
 -- How a board begins, and lists that grow at their end.
-use Rattle.std.proofs.Common.{◌≡◌, ℕ, zero, suc, ◌+◌, ◌<◌, ◌≤◌, List, [], ◌∷◌, ◌++◌, length, get_or, refl, sym, ap, subst, ◌∙◌, ◌⊎◌, inl, inr, arith, length-append}
+use Rattle.std.proofs.Common.{◌≡◌, ℕ, zero, suc, ◌+◌, ◌<◌, ◌≤◌, List, [], ◌∷◌, ◌++◌, length, get_or, refl, sym, ap, subst, ◌∙◌, ◌⊎◌, inl, inr, arith, length-append, All}
 use Rattle.std.proofs.lemmas.Bool.{cases_lt}
 use Rattle.std.proofs.lemmas.List.{get_or_append_left, get_or-append-add}
+use Rattle.std.proofs.lemmas.List.Elements.{All-push}
 use mathlib.Core.Option.{some}
 use lib.ListN.{get_elem?}
 use Rattle.atomic_table.specs.Seated.{TableId}
@@ -14,6 +15,7 @@ use Rattle.pk_layout.specs.Wirings.{IsWired}
 use Rattle.pk_words.specs.Subjects.{SubjectView}
 use Rattle.pk_words.specs.Reads.{HasEnd}
 use Rattle.pk_board.specs.Boards.{IsWhole}
+use Rattle.pk_board.specs.Earliest.{AreEarliest}
 use Rattle.pk_board.specs.Results.{ResultsView}
 
 pub elem_last : {A : Type 0} (xs : List A) (k : ℕ) (y x : A) → get_elem? (xs ++ y ∷ []) k ≡ some x → (get_elem? xs k ≡ some x) ⊎ ((k ≡ length xs) × (y ≡ x))
@@ -24,6 +26,12 @@ elem_last (z ∷ xs) (suc k) y x h = elim (elem_last xs k y x h) [
   | inl a ↦ inl a
   | inr p ↦ inr (ap suc p.0, p.1)
 ]
+
+pub long_more : {A : Type 0} (old new : List A) (x : A) (n : ℕ) → new ≡ old ++ x ∷ [] → length old + 1 ≡ n → length new + 1 ≡ n + 1
+long_more old new x n is long = let more = ap length is ∙ length-append old (x ∷ []) in omega (arith, more, long)
+
+pub all_more : {A C : Type 0} (f : A → C) (c : C) (old new : List A) (x : A) → new ≡ old ++ x ∷ [] → f x ≡ c → All (λ y. f y ≡ c) old → All (λ y. f y ≡ c) new
+all_more f c old new x is here all = subst (All (λ y. f y ≡ c)) (sym is) (All-push (λ y. f y ≡ c) old x all here)
 
 -- words of elements, behind two others
 pub record AreWords (word : ℕ → ℕ) (n : ℕ) (words : List ℕ) : Type 0 where
@@ -52,11 +60,12 @@ words_more word n m words words' h is next = subst (AreWords word (n + 1)) (sym 
 pub wired_from : {C : Type 0} (b : Behaviour C) (p : PlanView) (limit n : ℕ) (l : LayoutView) → Axioms p → FitsPlan b p → p.elements ≤ 131073 → limit ≤ 549755813888 → n ≡ p.elements → IsLaidOut b n l → IsWired b (record { plan = p; limit = limit; layout = l })
 wired_from b p limit n l axioms fits small most same laid = record { axioms = axioms; fits = fits; few = omega (arith, small); limited = omega (arith, most); laid_out = subst (λ (k : ℕ). IsLaidOut b k l) same laid }
 
-pub whole_from : {Y C : Type 0} (meaning : Y → Behaviour C) (subject made key : SubjectView Y) (table : TableId) (results : ResultsView C) (n : ℕ) → made ≡ subject → key ≡ made → table.words ≡ subject.wiring.plan.elements + 2 → table.slots ≡ slots_of subject.wiring.layout
-    → IsWired (meaning subject.system) subject.wiring → HasEnd (meaning subject.system) subject.wiring.plan → results ≡ record { cells = []; runs = []; room = n } → n ≡ subject.wiring.plan.elements → IsWhole (meaning made.system) made key table results
-whole_from {Y} meaning subject made key table results n same about words slots wired ends room all =
-    subst (λ (s : SubjectView Y). IsWhole (meaning s.system) s key table results) (sym same)
+pub whole_from : {Y C : Type 0} (meaning : Y → Behaviour C) (subject made key : SubjectView Y) (table : TableId) (places : List ℕ) (results : ResultsView C) (n : ℕ) → made ≡ subject → key ≡ made → table.words ≡ subject.wiring.plan.elements + 2 → table.slots ≡ slots_of subject.wiring.layout
+    → IsWired (meaning subject.system) subject.wiring → HasEnd (meaning subject.system) subject.wiring.plan → AreEarliest subject.wiring.plan places → results ≡ record { cells = []; runs = []; room = n } → n ≡ subject.wiring.plan.elements → IsWhole (meaning made.system) made key table places results
+whole_from {Y} meaning subject made key table places results n same about words slots wired ends earliest room all =
+    subst (λ (s : SubjectView Y). IsWhole (meaning s.system) s key table places results) (sym same)
     (record {
       kept = record { about = about ∙ same; words = words; slots = slots; wired = wired; ends = ends };
+      earliest = earliest;
       room = room ∙ (λ k. record { cells = []; runs = []; room = all k });
     })

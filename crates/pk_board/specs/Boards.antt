@@ -1,5 +1,5 @@
 -- Boards and passes as contracts see them.
-use Rattle.std.specs.Prelude.{◌≡◌, ◌+◌, []}
+use Rattle.std.specs.Prelude.{◌≡◌, ℕ, ◌+◌, List, []}
 use Rattle.atomic_table.specs.Seated.{TableId}
 use Rattle.pk_iterate.specs.Behaviour.{Behaviour}
 use Rattle.pk_layout.specs.Layouts.{slots_of}
@@ -7,6 +7,7 @@ use Rattle.pk_layout.specs.Wirings.{IsWired}
 use Rattle.pk_words.specs.declared.view.View.{View}
 use Rattle.pk_words.specs.Subjects.{SubjectView}
 use Rattle.pk_words.specs.Reads.{HasEnd}
+use Rattle.pk_board.specs.Earliest.{AreEarliest}
 use Rattle.pk_board.specs.Results.{ResultsView}
 
 -- what a board is about, and its table
@@ -27,8 +28,9 @@ pub record IsKept {Y C : Type 0} (b : Behaviour C) (subject key : SubjectView Y)
   pub wired : IsWired b subject.wiring
   pub ends : HasEnd b subject.wiring.plan
 
--- That, and there is room for each element's cell and run number.
+-- That, the earliest places are the plan's, and there is room for each element's cell and run number.
 pub record IsWhole {Y C : Type 0} (b : Behaviour C) (subject key : SubjectView Y) (table : TableId)
-    (results : ResultsView C) : Type 0 where
+    (places : List ℕ) (results : ResultsView C) : Type 0 where
   pub kept : IsKept b subject key table
+  pub earliest : AreEarliest subject.wiring.plan places
   pub room : results ≡ record { cells = []; runs = []; room = subject.wiring.plan.elements }

@@ -1,5 +1,6 @@
 pub mod Held
 pub mod Copies
+pub mod Earliest
 pub mod Results
 pub mod Boards
 pub mod Calls

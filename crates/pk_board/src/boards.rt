@@ -5,6 +5,7 @@ ghost use Rattle.pk_words.specs.Views.{HasHold, new_view, offer_view, split_view
 ghost use Rattle.pk_board.specs.Calls.{IsClaimed, IsSeen, IsEnd, IsNoEnd};
 
 use crate::answers::Seen;
+use crate::earliest::Earliest;
 use crate::passes::Pass;
 use crate::results::Results;
 use crate::tokens::{Finished, Hold};
@@ -20,6 +21,8 @@ use std::sync::Arc;
 pub struct Board<'a, Y: System> {
     pub(crate) subject: Subject<'a, Y>,
     pub(crate) table: Table<Arc<Y::Cell>, View, Subject<'a, Y>, Rule, Global>,
+    // Tells how many members of a component constrain a member.
+    pub(crate) earliest: Earliest,
     // The room that the end needs.
     pub(crate) results: Results<Y::Cell>,
 }
@@ -32,7 +35,7 @@ impl<'a, Y: System> Model for Board<'a, Y> {
     ghost view = { λ b. record { subject = b.subject; table = b.table.shared.table_id } };
 
     ghost invariant = { λ b. IsWhole (Y.meaning b.subject.system)
-        b.subject b.table.shared.key b.table.shared.table_id b.results };
+        b.subject b.table.shared.key b.table.shared.table_id b.earliest b.results };
 }
 
 impl<'a, Y: System> Board<'a, Y> {

@@ -37,7 +37,7 @@ pub fn copied<C: Drop>(
     requires { 0 < count }
     ensures { IfOk result (λ c. c ≡ record { element = element; cell = arc_value cell; count = count }) }
 {
-    let mut further = Vec::new(alloc);
+    let mut further = Vec::with_capacity(alloc, count - 1)?;
     for made in 1..count {
         further.push(cell.clone()?)?;
     }

@@ -79,6 +79,7 @@ impl<'a, Y: System> Board<'a, Y> {
         let Board {
             subject,
             table,
+            earliest: _,
             results,
         } = self;
         let Pass { seat } = pass;

@@ -5,6 +5,7 @@ mod about;
 mod answers;
 mod boards;
 mod copies;
+mod earliest;
 mod ends;
 mod laws;
 mod passes;

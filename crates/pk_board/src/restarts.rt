@@ -94,7 +94,7 @@ impl<'a, Y: System> Board<'a, Y> {
             let run = self.arm_head(&mut pass.seat, exit, member);
             Armed::Head(Hold::new(member, run))
         } else {
-            let amount = DONE - plan.inner(component, member) as u64;
+            let amount = DONE - self.earliest.inner(plan, component, member) as u64;
             self.arm_member(&mut pass.seat, exit, left, member, amount);
             Armed::More(Resetting::new(exit, left))
         }
@@ -119,7 +119,7 @@ impl<'a, Y: System> Board<'a, Y> {
     {
         let plan = self.subject.plan();
         let component = plan.component_of(exit);
-        let waits = plan.inner(component, exit) as u64;
+        let waits = self.earliest.inner(plan, component, exit) as u64;
         store_told::<_, _, _, Brand>(
             &self.table.shared,
             seat,

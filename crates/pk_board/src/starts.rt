@@ -15,6 +15,7 @@ ghost use Rattle.pk_words.specs.Reads.{HasEnd};
 ghost use Rattle.pk_words.specs.Views.{first_view};
 
 use crate::boards::Board;
+use crate::earliest::Earliest;
 use crate::passes::Pass;
 use crate::results::reserved;
 use atomic_table::Table;
@@ -94,6 +95,7 @@ impl<'a, Y: System> Board<'a, Y> {
         plan.axioms();
         let words = start_words(alloc, plan)?;
         let results = reserved(alloc, plan.elements())?;
+        let earliest = Earliest::of(alloc, plan)?;
         let layout = Layout::new(alloc, system, plan.elements())?;
         let slots = start_slots(alloc, system, plan.elements(), &layout)?;
         let subject = Subject::new(system, plan, layout, max_runs);
@@ -102,6 +104,7 @@ impl<'a, Y: System> Board<'a, Y> {
                 let board = Board {
                     subject,
                     table,
+                    earliest,
                     results,
                 };
                 Ok((board, Pass { seat }))

@@ -46,9 +46,11 @@ impl<'a, Y: System> Board<'a, Y> {
         let Board {
             subject,
             table,
+            earliest,
             results,
         } = self;
         drop(results);
+        drop(earliest);
         drop(table);
         drop(subject);
         stopped.why()

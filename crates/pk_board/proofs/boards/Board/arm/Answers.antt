@@ -1,8 +1,9 @@
-use Rattle.std.proofs.Common.{◌≡◌, ℕ, ◌-◌, ◌+◌, ◌*◌, ◌<◌, ◌∙◌, get_or, true, ap, sym, subst, arith, refl}
+use Rattle.std.proofs.Common.{◌≡◌, ℕ, ◌-◌, ◌+◌, ◌*◌, ◌<◌, ◌∙◌, get_or, true, ap, sym, subst, arith, refl, inl}
 use Rattle.pk_plan.specs.Shape.{exits}
 use Rattle.pk_words.specs.Board.{members_at}
 use Rattle.pk_words.specs.Views.{head_view, arm_view}
 use Rattle.pk_words.proofs.Members.{head_first}
+use Rattle.pk_board.specs.Earliest.{AreEarliest}
 use Rattle.pk_board.proofs.Asking.{at_board}
 use Rattle.pk_board.proofs.Telling.{idle_at}
 use Rattle.pk_board.proofs.Restarting.{arm_amount, next_is, next_there, resetting_at, one_left, more_left, head_told, member_told}
@@ -58,8 +59,14 @@ returns-then-left-eq0-clause-armed g c =
     c.arm_head-run.ensures.armed (ap (λ p. p.view) c.pass.view_is) c.exit-exit.ensures (one_left c.left-left.result c.args.resetting.left c.left-left.ensures c.requires.resetting.some_left c.if-left-eq0.true)
     (at.member ∙ ap (λ (i : ℕ). get_or (members_at board.subject.wiring.plan c.exit-exit.result) i 0) c.if-left-eq0.true) c.new.ensures
 
-pub inner-requires : goal.inner-requires
-inner-requires g c =
+pub inner-requires-clause-earliest : goal.inner-requires-clause-earliest
+inner-requires-clause-earliest g c = subst (λ p. AreEarliest p c.self.inside.earliest) (sym c.plan-plan.ensures) c.self.invariant.earliest
+
+pub inner-requires-clause-component : goal.inner-requires-clause-component
+inner-requires-clause-component g c = c.component_of-component.ensures.of
+
+pub inner-requires-clause-element : goal.inner-requires-clause-element
+inner-requires-clause-element g c =
     let board = c.args.self.now in
     let meaning = g.Y.System.meaning in
     let inside = c.self.inside in
@@ -67,6 +74,16 @@ inner-requires g c =
     let at = next_is (meaning board.subject.system) board.subject.wiring c.args.resetting c.plan-plan.result.now c.component_of-component.result.now c.members.result.now c.exit-exit.result c.left-left.result kept.wired c.requires.resetting c.exit-exit.ensures c.left-left.ensures
     (c.plan-plan.ensures ∙ ap (λ b. b.subject.wiring.plan) c.self.view_is) c.component_of-component.ensures.component c.members.ensures in
     at.listed
+
+pub inner-requires-clause-within : goal.inner-requires-clause-within
+inner-requires-clause-within g c =
+    let board = c.args.self.now in
+    let meaning = g.Y.System.meaning in
+    let inside = c.self.inside in
+    let kept = at_board meaning board inside.subject inside.table.shared.key inside.table.shared.table_id c.self.view_is c.self.invariant.kept in
+    let at = next_is (meaning board.subject.system) board.subject.wiring c.args.resetting c.plan-plan.result.now c.component_of-component.result.now c.members.result.now c.exit-exit.result c.left-left.result kept.wired c.requires.resetting c.exit-exit.ensures c.left-left.ensures
+    (c.plan-plan.ensures ∙ ap (λ b. b.subject.wiring.plan) c.self.view_is) c.component_of-component.ensures.component c.members.ensures in
+    inl at.inside
 
 pub overflow_sub-amount : goal.overflow_sub-amount
 overflow_sub-amount g c =

@@ -1,10 +1,11 @@
-use Rattle.std.proofs.Common.{◌≡◌, ℕ, ◌+◌, ◌*◌, ◌∙◌, length, true, ap, sym, subst}
+use Rattle.std.proofs.Common.{◌≡◌, ℕ, ◌+◌, ◌*◌, ◌<◌, ◌∙◌, inr, length, true, ap, sym, subst}
 use Rattle.std.specs.Arc.{arc_value}
 use Rattle.pk_plan.specs.Plans.{members_of}
 use Rattle.pk_plan.specs.Shape.{exits, shape_of}
 use Rattle.pk_core.specs.Events.{inner}
 use Rattle.pk_words.specs.Board.{members_at}
 use Rattle.pk_words.specs.Told.{Restarted}
+use Rattle.pk_board.specs.Earliest.{AreEarliest}
 use Rattle.pk_board.proofs.Asking.{at_board}
 use Rattle.pk_board.proofs.Restarting.{exit_again, exit_count, is_resetting, restart_asked}
 use Rattle.pk_board.proofs.boards.Board.restart.Goals as goal
@@ -21,6 +22,18 @@ component_of-component-requires g c =
     let exit = exit_again (meaning board.subject.system) board.subject key table (record { element = c.args.exit; run = c.args.run }) written.0 kept written.3 in
     let plan_is = c.plan-plan.ensures ∙ ap (λ b. b.subject.wiring.plan) c.self.view_is in
     subst (λ p. exits p c.args.exit ≡ true) (sym plan_is) exit
+
+pub inner-waits-requires-clause-earliest : goal.inner-waits-requires-clause-earliest
+inner-waits-requires-clause-earliest g c = subst (λ p. AreEarliest p c.self.inside.earliest) (sym c.plan-plan.ensures) c.self.invariant.earliest
+
+pub inner-waits-requires-clause-component : goal.inner-waits-requires-clause-component
+inner-waits-requires-clause-component g c = c.component_of-component.ensures.of
+
+pub inner-waits-requires-clause-element : goal.inner-waits-requires-clause-element
+inner-waits-requires-clause-element g c = subst (λ p. c.args.exit < p.elements) (sym (c.plan-plan.ensures ∙ ap (λ b. b.subject.wiring.plan) c.self.view_is)) c.requires.below
+
+pub inner-waits-requires-clause-within : goal.inner-waits-requires-clause-within
+inner-waits-requires-clause-within g c = inr (sym c.component_of-component.ensures.exit)
 
 pub store_told-requires : goal.store_told-requires
 store_told-requires g c =

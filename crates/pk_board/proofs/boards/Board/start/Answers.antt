@@ -44,5 +44,5 @@ invariant_of-board g c =
     let ok = c.in-Ok.ensures.ok in
     let subject : SubjectView g.row.Y.Denot = record { system = c.args.system.now; wiring = record { plan = p; limit = c.args.max_runs; layout = l } } in
     let wired = wired_from (g.Y.System.meaning c.args.system.now) p c.args.max_runs c.elements-2.result l c.axioms.ensures.axioms c.requires.fits c.requires.few c.requires.most c.elements-2.ensures c.in_ok-layout.ensures in
-    whole_from g.Y.System.meaning subject c.new-subject.result c.in-Ok.table.shared.key c.in-Ok.table.shared.table_id c.in_ok-results.results c.elements.result c.new-subject.ensures ok.5 (ok.0 ∙ ap length c.deref.ensures.value ∙ c.in_ok-words.ensures.long) (ok.1 ∙ c.in_ok-slots.ensures.long)
-    wired c.requires.ends c.in_ok-results.ensures c.elements.ensures
+    whole_from g.Y.System.meaning subject c.new-subject.result c.in-Ok.table.shared.key c.in-Ok.table.shared.table_id c.in_ok-earliest.earliest c.in_ok-results.results c.elements.result c.new-subject.ensures ok.5 (ok.0 ∙ ap length c.deref.ensures.value ∙ c.in_ok-words.ensures.long) (ok.1 ∙ c.in_ok-slots.ensures.long)
+    wired c.requires.ends c.in_ok-earliest.ensures c.in_ok-results.ensures c.elements.ensures
