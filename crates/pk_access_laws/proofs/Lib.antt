@@ -1,0 +1,12 @@
+pub mod Nothing
+pub mod Kept
+pub mod Spent
+pub mod Shaped
+pub mod Rows
+pub mod Operators
+pub mod Expressions
+pub mod Statements
+pub mod Counted
+pub mod Parts
+pub mod Graphs
+pub mod Paths

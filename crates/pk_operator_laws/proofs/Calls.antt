@@ -1,0 +1,207 @@
+-- The calls of expressions and of statements count no more than their operators and calls.
+use Rattle.std.proofs.Common.{◌≡◌, ℕ, ◌+◌, ◌≤◌, List, [], ◌∷◌, ◌++◌, Option, Some, None, arith}
+use Rattle.std.specs.Prelude.{ℤ, pos}
+use Rattle.pk_ctypes.specs.declared.places.Pos.{Pos}
+use Rattle.pk_ast.specs.declared.declarations.Specifier.{Specifier}
+use Rattle.pk_ast.specs.declared.expressions.Identifier.{Identifier}
+use Rattle.pk_ast.specs.Trees as ast
+use Rattle.pk_ast.specs.Trees.{OneOrMore, ExpressionTree, ExpressionTrees, no_expressions, expression_then, InitializerTree, single, braced, DeclaratorTree, EnumeratorTree, EnumerationTree, DeclarationTree, ForStartTree, declaration, expression, StatementTree, ItemTrees, no_items, declaration_then, statement_then}
+use Rattle.pk_typed.specs.declared.units.CallSite.{CallSite}
+use Rattle.pk_type_scope.specs.declared.declarations.Callee.{Callee}
+use Rattle.pk_type_scope.specs.declared.declarations.Callee.TheVariants.{Ordinary, Any, Assume, Assert, Abort}
+use Rattle.pk_type_scope.specs.declared.declarations.Declaration.{Declaration}
+use Rattle.pk_type_scope.specs.declared.declarations.Declaration.TheVariants.{Object, Function, Enumerator, TypeName}
+use Rattle.pk_type_scope.specs.declared.declarations.Typing.{Typing}
+use Rattle.pk_type_scope.specs.Declarations.{Names, site_of, own_site}
+use Rattle.pk_type_scope.specs.Specifiers.{type_name_among}
+use Rattle.pk_type_expression.specs.Typed.{calls, calls_in_all}
+use Rattle.pk_type_declaration.specs.declared.words.Words.{Words}
+use Rattle.pk_type_declaration.specs.Constants.{after_constant}
+use Rattle.pk_type_declaration.specs.Declarations.{after_optional_length, after_initializer, after_head, after_declarator, after_declarators}
+use Rattle.pk_type_declaration.specs.Enumerations.{words_at, after_tag, next_number, enumerator_value, after_enumerator_value, after_enumerator, after_enumerators, after_words}
+use Rattle.pk_type_declaration.specs.Starts.{after_numbers, given}
+use Rattle.pk_type_declaration.specs.Statics.{after_static_head, after_static, after_statics, after_declaration, after_static_declaration, after_block_declaration}
+use Rattle.pk_type_declaration.specs.Walks.{Walked, Adding, here, after_value, after_values}
+use Rattle.pk_type_statement.specs.Statements as statements
+use Rattle.pk_type_statement.specs.Statements.{Passed, after, after_items, on, inside, with_case, with_default, in_switch, after_start, after_optional_value, after_optional_effect, after_return}
+use Rattle.pk_access_laws.specs.Operators.{Counting}
+use Rattle.pk_access_laws.specs.Laws.{in_calls}
+use Rattle.pk_operator_laws.specs.Trees.{in_expression, in_expressions, in_optional, in_initializer, in_declarator, in_declarators, in_enumerators, in_enumeration, in_declaration, in_start, in_statement, in_items}
+
+calls_append : (q : Counting) (xs ys : List CallSite) → in_calls q (xs ++ ys) ≡ in_calls q xs + in_calls q ys
+calls_append q [] ys = omega arith
+calls_append q (x ∷ xs) ys = omega (arith, calls_append q xs ys)
+
+site_counts : (q : Counting) (f : ℕ) (at : Pos) (c : Callee) → in_calls q (site_of f at c) ≤ q at
+site_counts q f at (Ordinary r n) = omega arith
+site_counts q f at (Any t) = omega arith
+site_counts q f at Assume = omega arith
+site_counts q f at Assert = omega arith
+site_counts q f at Abort = omega arith
+
+own_counts : (q : Counting) (at : Pos) (d : Option Declaration) → in_calls q (own_site at d) ≤ q at
+own_counts q at None = omega arith
+own_counts q at (Some (Object o)) = omega arith
+own_counts q at (Some (Enumerator n)) = omega arith
+own_counts q at (Some (TypeName t)) = omega arith
+own_counts q at (Some (Function f)) = site_counts q f.number at f.callee
+
+mutual
+  unfolding calls calls_in_all in_expression in_expressions
+
+  calls_count : (q : Counting) (d : Names) (e : ExpressionTree) → in_calls q (calls d e) ≤ in_expression q e
+  calls_count q d (ast.name x) = omega arith
+  calls_count q d (ast.call x es) = omega (arith, calls_append q (own_site x.at (d x)) (calls_in_all d es), own_counts q x.at (d x), all_calls_count q d es)
+  calls_count q d (ast.index x at e) = omega (arith, calls_count q d e)
+  calls_count q d (ast.constant at t n) = omega arith
+  calls_count q d (ast.character at n) = omega arith
+  calls_count q d (ast.parenthesized at e) = calls_count q d e
+  calls_count q d (ast.postfix op at e) = omega (arith, calls_count q d e)
+  calls_count q d (ast.prefix op at e) = omega (arith, calls_count q d e)
+  calls_count q d (ast.unary op at e) = omega (arith, calls_count q d e)
+  calls_count q d (ast.cast at words e) = calls_count q d e
+  calls_count q d (ast.binary op at a b) = omega (arith, calls_append q (calls d a) (calls d b), calls_count q d a, calls_count q d b)
+  calls_count q d (ast.conditional at a b c) =
+      omega (arith, calls_append q (calls d a ++ calls d b) (calls d c), calls_append q (calls d a) (calls d b), calls_count q d a, calls_count q d b, calls_count q d c)
+  calls_count q d (ast.assignment op at a b) = omega (arith, calls_append q (calls d a) (calls d b), calls_count q d a, calls_count q d b)
+  calls_count q d (ast.comma at a b) = omega (arith, calls_append q (calls d a) (calls d b), calls_count q d a, calls_count q d b)
+
+  all_calls_count : (q : Counting) (d : Names) (es : ExpressionTrees) → in_calls q (calls_in_all d es) ≤ in_expressions q es
+  all_calls_count q d no_expressions = omega arith
+  all_calls_count q d (expression_then e es) = omega (arith, calls_append q (calls d e) (calls_in_all d es), calls_count q d e, all_calls_count q d es)
+
+-- ---- what stands before a place
+
+-- the calls so far
+abbrev pub so_far : {F : Type 0} → Counting → Walked F → ℕ
+so_far q w = in_calls q w.calls
+
+value_sited : {F : Type 0} (q : Counting) (add : Adding F) (e : ExpressionTree) (w : Walked F) → so_far q (after_value add e w) ≤ so_far q w + in_expression q e
+value_sited q add e w = omega (arith, calls_append q w.calls (calls (here w) e), calls_count q (here w) e)
+
+values_sited : {F : Type 0} (q : Counting) (add : Adding F) (es : ExpressionTrees) (w : Walked F) → so_far q (after_values add es w) ≤ so_far q w + in_expressions q es
+values_sited q add es w = omega (arith, calls_append q w.calls (calls_in_all (here w) es), all_calls_count q (here w) es)
+
+length_sited : {F : Type 0} (q : Counting) (add : Adding F) (e : Option ExpressionTree) (w : Walked F) → so_far q (after_optional_length add e w) ≤ so_far q w + in_optional q e
+length_sited q add None w = omega arith
+length_sited q add (Some e) w = value_sited q add e w
+
+initializer_sited : {F : Type 0} (q : Counting) (add : Adding F) (i : Option InitializerTree) (w : Walked F) → so_far q (after_initializer add i w) ≤ so_far q w + in_initializer q i
+initializer_sited q add None w = omega arith
+initializer_sited q add (Some (single e)) w = value_sited q add e w
+initializer_sited q add (Some (braced at e es)) w = omega (arith, values_sited q add es (after_value add e w), value_sited q add e w)
+
+declarator_sited : {F : Type 0} (q : Counting) (add : Adding F) (words : Words) (d : DeclaratorTree) (w : Walked F) → so_far q (after_declarator add words d w) ≤ so_far q w + in_declarator q d
+unfolding after_declarator
+declarator_sited q add words d w = omega (arith, initializer_sited q add d.initializer (after_head add words d w), length_sited q add d.length w)
+
+declarators_sited : {F : Type 0} (q : Counting) (add : Adding F) (words : Words) (ds : List DeclaratorTree) (w : Walked F) → so_far q (after_declarators add words ds w) ≤ so_far q w + in_declarators q ds
+unfolding after_declarators
+declarators_sited q add words [] w = omega arith
+declarators_sited q add words (d ∷ ds) w = omega (arith, declarators_sited q add words ds (after_declarator add words d w), declarator_sited q add words d w)
+
+tag_sited : {F : Type 0} (q : Counting) (add : Adding F) (x : Option Identifier) (w : Walked F) → so_far q (after_tag add x w) ≤ so_far q w
+tag_sited q add None w = omega arith
+tag_sited q add (Some x) w = omega arith
+
+enumerator_value_sited : {F : Type 0} (q : Counting) (add : Adding F) (next : Option ℤ) (x : Identifier) (e : Option ExpressionTree) (w : Walked F) → so_far q (after_enumerator_value add next x e w) ≤ so_far q w + in_optional q e
+enumerator_value_sited q add next x None w = omega arith
+enumerator_value_sited q add next x (Some e) w = value_sited q add e w
+
+enumerator_sited : {F : Type 0} (q : Counting) (add : Adding F) (next : Option ℤ) (x : EnumeratorTree) (w : Walked F) → so_far q (after_enumerator add next x w) ≤ so_far q w + in_optional q x.value
+unfolding after_enumerator
+enumerator_sited q add next x w = enumerator_value_sited q add next x.name x.value w
+
+enumerators_sited : {F : Type 0} (q : Counting) (add : Adding F) (next : Option ℤ) (xs : List EnumeratorTree) (w : Walked F) → so_far q (after_enumerators add next xs w) ≤ so_far q w + in_enumerators q xs
+unfolding after_enumerators
+enumerators_sited q add next [] w = omega arith
+enumerators_sited q add next (x ∷ xs) w =
+    omega (arith, enumerators_sited q add (next_number (enumerator_value w next x.value)) xs (after_enumerator add next x w), enumerator_sited q add next x w)
+
+words_sited : {F : Type 0} (q : Counting) (add : Adding F) (words : OneOrMore Specifier) (e : Option EnumerationTree) (w : Walked F) → so_far q (after_words add words e w) ≤ so_far q w + in_enumeration q e
+unfolding after_words
+words_sited q add words None w = omega arith
+words_sited q add words (Some e) w =
+    omega (arith, enumerators_sited q add (Some (pos 0)) (e.enumerators.first ∷ e.enumerators.more) (after_tag add (type_name_among words) w), tag_sited q add (type_name_among words) w)
+
+numbers_sited : {F : Type 0} (q : Counting) (add : Adding F) (es : ExpressionTrees) (w : Walked F) → so_far q (after_numbers add es w) ≤ so_far q w + in_expressions q es
+unfolding after_numbers in_expressions
+numbers_sited q add no_expressions w = omega arith
+numbers_sited q add (expression_then e es) w = omega (arith, numbers_sited q add es (after_constant add e w), value_sited q add e w)
+
+given_counts : (q : Counting) (i : Option InitializerTree) → in_expressions q (given i) ≤ in_initializer q i
+unfolding in_expressions
+given_counts q None = omega arith
+given_counts q (Some (single e)) = omega arith
+given_counts q (Some (braced at e es)) = omega arith
+
+static_sited : {F : Type 0} (q : Counting) (add : Adding F) (words : Words) (d : DeclaratorTree) (w : Walked F) → so_far q (after_static add words d w) ≤ so_far q w + in_declarator q d
+unfolding after_static
+static_sited q add words d w = omega (arith, numbers_sited q add (given d.initializer) (after_static_head add words d w), given_counts q d.initializer, length_sited q add d.length w)
+
+statics_sited : {F : Type 0} (q : Counting) (add : Adding F) (words : Words) (ds : List DeclaratorTree) (w : Walked F) → so_far q (after_statics add words ds w) ≤ so_far q w + in_declarators q ds
+unfolding after_statics
+statics_sited q add words [] w = omega arith
+statics_sited q add words (d ∷ ds) w = omega (arith, statics_sited q add words ds (after_static add words d w), static_sited q add words d w)
+
+declaration_sited : {F : Type 0} (q : Counting) (add : Adding F) (d : DeclarationTree) (w : Walked F) → so_far q (after_declaration add d w) ≤ so_far q w + in_declaration q d
+unfolding after_declaration
+declaration_sited q add d w =
+    omega (arith, declarators_sited q add (words_at (here w) d.specifiers d.enumeration) d.declarators (after_words add d.specifiers d.enumeration w), words_sited q add d.specifiers d.enumeration w)
+
+block_declaration_sited : {F : Type 0} (q : Counting) (add : Adding F) (at : Option Pos) (d : DeclarationTree) (w : Walked F) → so_far q (after_block_declaration add at d w) ≤ so_far q w + in_declaration q d
+unfolding after_static_declaration
+block_declaration_sited q add None d w = declaration_sited q add d w
+block_declaration_sited q add (Some at) d w =
+    omega (arith, statics_sited q add (words_at (here w) d.specifiers d.enumeration) d.declarators (after_words add d.specifiers d.enumeration w), words_sited q add d.specifiers d.enumeration w)
+
+-- ---- statements
+
+optional_value_sited : {F : Type 0} (q : Counting) (add : Adding F) (e : Option ExpressionTree) (w : Walked F) → so_far q (after_optional_value add e w) ≤ so_far q w + in_optional q e
+optional_value_sited q add None w = omega arith
+optional_value_sited q add (Some e) w = value_sited q add e w
+
+optional_effect_sited : {F : Type 0} (q : Counting) (add : Adding F) (e : Option ExpressionTree) (w : Walked F) → so_far q (after_optional_effect add e w) ≤ so_far q w + in_optional q e
+optional_effect_sited q add None w = omega arith
+optional_effect_sited q add (Some e) w = value_sited q add e w
+
+return_sited : {F : Type 0} (q : Counting) (add : Adding F) (r : Typing) (at : Pos) (e : Option ExpressionTree) (w : Walked F) → so_far q (after_return add r at e w) ≤ so_far q w + in_optional q e
+return_sited q add r at None w = omega arith
+return_sited q add r at (Some e) w = value_sited q add e w
+
+start_sited : {F : Type 0} (q : Counting) (add : Adding F) (s : ForStartTree) (w : Walked F) → so_far q (after_start add s w) ≤ so_far q w + in_start q s
+start_sited q add (declaration d) w = declaration_sited q add d w
+start_sited q add (expression e) w = optional_effect_sited q add e w
+
+head_sited : {F : Type 0} (q : Counting) (add : Adding F) (s : ForStartTree) (test step : Option ExpressionTree) (w : Walked F) → so_far q (statements.after_head add s test step w) ≤ so_far q w + in_start q s + in_optional q test + in_optional q step
+head_sited q add s test step w =
+    let v = after_start add s w in
+    omega (arith, optional_effect_sited q add step (after_optional_value add test v), optional_value_sited q add test v, start_sited q add s w)
+
+mutual
+  unfolding after after_items in_statement in_items
+
+  statement_sited : {F : Type 0} (q : Counting) (add : Adding F) (r : Typing) (p : Passed F) (s : StatementTree) → so_far q (after add r p s).walked ≤ so_far q p.walked + in_statement q s
+  statement_sited q add r p (ast.block opened is closed) = items_sited q add r (inside p) is
+  statement_sited q add r p (ast.empty at) = omega arith
+  statement_sited q add r p (ast.expression_statement e) = value_sited q add e p.walked
+  statement_sited q add r p (ast.label x s) = statement_sited q add r p s
+  statement_sited q add r p (ast.case at e s) = omega (arith, statement_sited q add r (with_case add at e p) s, value_sited q add e p.walked)
+  statement_sited q add r p (ast.default at s) = statement_sited q add r (with_default p) s
+  statement_sited q add r p (ast.if_then at e s) = omega (arith, statement_sited q add r (on (after_value add e) p) s, value_sited q add e p.walked)
+  statement_sited q add r p (ast.if_else at e s t) =
+      let k = on (after_value add e) p in omega (arith, statement_sited q add r (after add r k s) t, statement_sited q add r k s, value_sited q add e p.walked)
+  statement_sited q add r p (ast.switch at e s) = omega (arith, statement_sited q add r (in_switch (on (after_value add e) p)) s, value_sited q add e p.walked)
+  statement_sited q add r p (ast.while at e s) = omega (arith, statement_sited q add r (on (after_value add e) p) s, value_sited q add e p.walked)
+  statement_sited q add r p (ast.do_while at s e) = omega (arith, value_sited q add e (after add r p s).walked, statement_sited q add r p s)
+  statement_sited q add r p (ast.for_loop at start test step s) =
+      omega (arith, statement_sited q add r (on (statements.after_head add start test step) (inside p)) s, head_sited q add start test step (inside p).walked)
+  statement_sited q add r p (ast.goto at x) = omega arith
+  statement_sited q add r p (ast.continue at) = omega arith
+  statement_sited q add r p (ast.break at) = omega arith
+  statement_sited q add r p (ast.return at e) = return_sited q add r at e p.walked
+
+  pub items_sited : {F : Type 0} (q : Counting) (add : Adding F) (r : Typing) (p : Passed F) (is : ItemTrees) → so_far q (after_items add r p is).walked ≤ so_far q p.walked + in_items q is
+  items_sited q add r p no_items = omega arith
+  items_sited q add r p (declaration_then s d is) = omega (arith, items_sited q add r (on (after_block_declaration add s d) p) is, block_declaration_sited q add s d p.walked)
+  items_sited q add r p (statement_then s is) = omega (arith, items_sited q add r (after add r p s) is, statement_sited q add r p s)
