@@ -90,7 +90,7 @@ pub set_fails : (chosen : Numbers) (y : Slot) (e : SlotTree) (f : Failure) (m : 
 set_fails chosen y e f m k = ap (λ r. with_value r (λ w. steps.To (with_memory y (w ∷ []) m))) k
 
 -- memories and trees that are apart
-sound_apart : (x : Slot) (v : ℤ) (m : Memory) (hs : List Held) → AreApart x hs → Sound m hs → Sound (with_memory x (v ∷ []) m) hs
+pub sound_apart : (x : Slot) (v : ℤ) (m : Memory) (hs : List Held) → AreApart x hs → Sound m hs → Sound (with_memory x (v ∷ []) m) hs
 sound_apart x v m [] a k = tt
 sound_apart x v m (h ∷ hs) a k = ((k.0.0, apart_value x (v ∷ []) m h.tree a.0 ∙ k.0.1), sound_apart x v m hs a.1 k.1)
 
@@ -116,7 +116,7 @@ data Case (m : Memory) (f : Failure) (n : ℕ) (a : Held) (rest : List Held) : T
   above : (v : ℤ) → tree_value memory a.tree m ≡ Ok v → Faulty m f rest → Case m f n a rest
   under : FaultyUnder n m f rest → Case m f n a rest
 
-pick_sound : (n : ℕ) (m : Memory) (hs : List Held) (F : Held → List Held → Type 0) → picked n hs F → Sound m hs
+pub pick_sound : (n : ℕ) (m : Memory) (hs : List Held) (F : Held → List Held → Type 0) → picked n hs F → Sound m hs
     → (a : Held) × (rest : List Held) × F a rest × ((v : ℤ) × (tree_value memory a.tree m ≡ Ok v)) × Sound m rest
 pick_sound n m [] F h k = absurd h
 pick_sound zero m (a ∷ hs) F h k = (a, hs, h, k.0, k.1)
@@ -207,20 +207,20 @@ doom g chosen k h x f (work.Branch y n) p (a ∷ hs) m l (inl b) = now l.1 (Guar
 doom g chosen k h x f (work.Branch y n) p (a ∷ hs) m l (inr b) = absurd (plain_sound m f hs l.0 b)
 doom g chosen k h x f (work.Apply op at t w) p [] m l b = absurd l
 doom g chosen k h x f (work.Apply op at t w) p (a ∷ hs) m l (inl b) =
-    doom g chosen k h x f w p (held (unary_tree op (site_at k at) t (conversion a.int_type t a.tree)) (result_type op t) ∷ hs) m l
+    doom g chosen k h x f w p (held (unary_tree op (site_at k at) t (conversion a.int_type t a.tree)) (result_type op t) ∷ hs) m l.0
     (inl (unary_fault op (site_at k at) t a.int_type a.tree f m b.0, b.1))
 doom g chosen k h x f (work.Apply op at t w) p (a ∷ hs) m l (inr b) =
-    doom g chosen k h x f w p (held (unary_tree op (site_at k at) t (conversion a.int_type t a.tree)) (result_type op t) ∷ hs) m l (inr b)
+    doom g chosen k h x f w p (held (unary_tree op (site_at k at) t (conversion a.int_type t a.tree)) (result_type op t) ∷ hs) m l.0 (inr b)
 doom g chosen k h x f (work.Operate op at t w) p [] m l b = absurd l
 doom g chosen k h x f (work.Operate op at t w) p (c ∷ []) m l b = absurd l
 doom g chosen k h x f (work.Operate op at t w) p (c ∷ a ∷ hs) m l (inl b) =
-    doom g chosen k h x f w p (held (operated_tree op (site_at k at) t a.int_type c.int_type a.tree c.tree) (result_type op t) ∷ hs) m l
+    doom g chosen k h x f w p (held (operated_tree op (site_at k at) t a.int_type c.int_type a.tree c.tree) (result_type op t) ∷ hs) m l.0
     (inl (operated_right op (site_at k at) t a.int_type c.int_type a.tree c.tree b.1.0.0 f m b.1.0.1 b.0, b.1.1))
 doom g chosen k h x f (work.Operate op at t w) p (c ∷ a ∷ hs) m l (inr (inl b)) =
-    doom g chosen k h x f w p (held (operated_tree op (site_at k at) t a.int_type c.int_type a.tree c.tree) (result_type op t) ∷ hs) m l
+    doom g chosen k h x f w p (held (operated_tree op (site_at k at) t a.int_type c.int_type a.tree c.tree) (result_type op t) ∷ hs) m l.0
     (inl (operated_left op (site_at k at) t a.int_type c.int_type a.tree c.tree f m b.0, b.1))
 doom g chosen k h x f (work.Operate op at t w) p (c ∷ a ∷ hs) m l (inr (inr b)) =
-    doom g chosen k h x f w p (held (operated_tree op (site_at k at) t a.int_type c.int_type a.tree c.tree) (result_type op t) ∷ hs) m l (inr b)
+    doom g chosen k h x f w p (held (operated_tree op (site_at k at) t a.int_type c.int_type a.tree c.tree) (result_type op t) ∷ hs) m l.0 (inr b)
 doom g chosen k h x f (work.Convert t w) p [] m l b = absurd l
 doom g chosen k h x f (work.Convert t w) p (a ∷ hs) m l (inl b) =
     doom g chosen k h x f w p (held (conversion a.int_type t a.tree) t ∷ hs) m l (inl (conversion_fault a.int_type t a.tree f m b.0, b.1))

@@ -1,18 +1,20 @@
 -- The graph follows the program at the kinds of work that make one edge at most and open no tree.
 use Rattle.std.proofs.Common.{◌≡◌, ℕ, ◌<◌, ◌⊎◌, List, [], ◌∷◌, length, Bool, true, false, ◌&&◌, refl, sym, ap, ◌∙◌, subst, inl, inr, arith, ℤ, Option, Some, None}
 use Rattle.std.specs.Prelude.{Ok}
+use Rattle.pk_ctypes.specs.declared.places.Pos.{Pos}
 use Rattle.pk_ctypes.specs.declared.types.IntType.{IntType}
 use Rattle.pk_ctypes.specs.declared.types.IntType.TheVariants.{Int}
 use Rattle.pk_ctypes.specs.Types.{InType, is_in_type, wrapped}
 use Rattle.pk_ctypes.proofs.Wrapped.{wrapped_in}
 use Rattle.pk_ctypes.proofs.Values.{in_type_test}
+use Rattle.pk_typed.specs.Trees.{ValueTree}
 use Rattle.pk_graph.specs.Trees.{constant, variable, Skip, Set, Havoc, Clear, Load, Store, Guard, Check}
 use Rattle.pk_graph.specs.Steps as steps
 use Rattle.pk_graph.specs.Steps.{Numbers, number_at, tree_value, effect, with_value, all_in_type, is_index, are_any}
 use Rattle.pk_draft.specs.Drafts.{nowhere}
 use Rattle.pk_draft.specs.Folding.{conversion}
 use Rattle.pk_lower_statement.specs.declared.statements.Exits.{Exits}
-use Rattle.pk_meaning.specs.Objects.{Object, file, local, result, Objects, numbers_of, with_numbers, is_in_scope}
+use Rattle.pk_meaning.specs.Objects.{Array, Object, file, local, result, Objects, numbers_of, with_numbers, is_in_scope}
 use Rattle.pk_meaning.specs.Programs.{Program}
 use Rattle.pk_meaning.specs.Work as work
 use Rattle.pk_meaning.specs.Work.{Place, Work}
@@ -78,6 +80,11 @@ Refuses g chosen p m = (i : Instr) × Among (edge p i nowhere) g.edges × (effec
 -- It waits for numbers too.
 abbrev pub Awaits : Whole → Numbers → (p : ℕ) → IntType → ℕ → Type 0
 Awaits g chosen p t n = (q : ℕ) × (x : Slot) × Among (edge p (Havoc x t n) q) g.edges × (are_any t n chosen ≡ false)
+
+-- what a run came to with this work is noted
+pub record IsNoted (g : Whole) (k : ℕ) (w : Work) : Type 0 where
+  pub begins : (e : ValueTree) (v : Work) → w ≡ work.Evaluate e v → g.begun k e v
+  pub reads : (at : Pos) (a : Array) (v : Work) → w ≡ work.Reload at a v → g.read k at
 
 -- What the graph does where the program makes this step, from a configuration of path k at place h.
 abbrev pub Answers : Whole → Numbers → ℕ → Place → (p : ℕ) → Memory → Next → Type 0

@@ -3,6 +3,8 @@ pub mod Stands
 pub mod Stores
 pub mod Follow
 pub mod Doom
+pub mod Computed
+pub mod Computing
 pub mod Stages
 pub mod Operands
 pub mod Calling

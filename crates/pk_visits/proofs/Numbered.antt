@@ -3,6 +3,7 @@ pub mod Edges
 pub mod Stores
 pub mod Copies
 pub mod Runs
+pub mod Computes
 pub mod Starts
 pub mod Visits
 pub mod Names

@@ -3,6 +3,7 @@ use Rattle.std.specs.Prelude.{◌≡◌, ℕ, zero, suc, ◌+◌, ◌<◌, ◌�
 use Rattle.pk_ctypes.specs.declared.places.Pos.{Pos}
 use Rattle.pk_ctypes.specs.declared.types.IntType.{IntType}
 use Rattle.pk_ctypes.specs.declared.types.IntType.TheVariants.{Int}
+use Rattle.pk_ctypes.specs.declared.types.Op.{Op}
 use Rattle.pk_ctypes.specs.Types.{InType}
 use Rattle.pk_ctypes.specs.Operators.{result_type}
 use Rattle.pk_typed.specs.Trees.{ValueTree, ValueTrees, DeclaredTree, StatementTree}
@@ -21,7 +22,8 @@ use Rattle.pk_draft.specs.declared.drafts.Region.{Region}
 use Rattle.pk_draft.specs.declared.drafts.Size.{Size}
 use Rattle.pk_draft.specs.Drafts.{nowhere, go, away}
 use Rattle.pk_draft.specs.Folding.{conversion, unary_tree, operated_tree, updated_tree}
-use Rattle.pk_lower_row.specs.Shapes.{makes, makes_effect, any_makes}
+use Rattle.pk_lower_row.specs.declared.shapes.Shape.TheVariants.{Fixed}
+use Rattle.pk_lower_row.specs.Shapes.{shape_of, makes, makes_effect, any_makes}
 use Rattle.pk_lower_row.specs.Contexts.{Context, callee, size_in}
 use Rattle.pk_lower_row.specs.Rows.{one_tree}
 use Rattle.pk_lower_expression.specs.Expressions.{ways, performed, passed}
@@ -51,6 +53,9 @@ pub record Whole : Type 1 where
   pub objects : ℕ → ℕ
   pub numbers : (path object : ℕ) → ℕ
   pub spans : ℕ → ℕ
+  -- what a run came to on a path: expressions to evaluate, with the work behind them; elements to read with an operator
+  pub begun : ℕ → ValueTree → Work → Type 0
+  pub read : ℕ → Pos → Type 0
 
 -- in which context a path is lowered
 abbrev pub context_of : Whole → ℕ → Context
@@ -280,6 +285,32 @@ Binds g k h m i (t ∷ ts) rest p hs = picked (length ts) hs (λ a hs. (q : ℕ)
 abbrev pub site_at : ℕ → Pos → Site
 site_at k at = record { path = k; at = at }
 
+-- a constant
+abbrev pub IsNumber : SlotTree → Type 0
+IsNumber (constant t z) = Unit {0}
+IsNumber (variable x) = ⊥
+IsNumber (converted t e) = ⊥
+IsNumber (unary op s t e) = ⊥
+IsNumber (binary op s t a b) = ⊥
+
+abbrev pub IsVariable : SlotTree → Type 0
+IsVariable (constant t z) = ⊥
+IsVariable (variable x) = Unit {0}
+IsVariable (converted t e) = ⊥
+IsVariable (unary op s t e) = ⊥
+IsVariable (binary op s t a b) = ⊥
+
+-- an expression whose tree is a constant
+abbrev pub IsFixed : ValueTree → Type 0
+IsFixed e = (z : ℤ) × (shape_of e ≡ Fixed z)
+
+-- the operator was begun as one that is folded, with this work behind it
+abbrev pub IsBegunOne : Whole → (k : ℕ) → Op → Pos → IntType → Work → Type 0
+IsBegunOne g k op at t w = (e : ValueTree) × IsFixed (tree.unary op at t e) × g.begun k (tree.unary op at t e) w
+
+abbrev pub IsBegunTwo : Whole → (k : ℕ) → Op → Pos → IntType → Work → Type 0
+IsBegunTwo g k op at t w = (a : ValueTree) × (b : ValueTree) × IsFixed (tree.binary op at t a b) × g.begun k (tree.binary op at t a b) w
+
 -- one, two, three values on top, the topmost last
 abbrev pub OnTop : List Held → (Held → List Held → Type 0) → Type 0
 OnTop [] f = ⊥
@@ -411,10 +442,10 @@ place_after p k (tree.array_object i at es ∷ ds) h = place_after p k ds (place
 place_after p k (tree.static_object i at ∷ ds) h = place_after p k ds (place at (file i ∷ h.scope))
 place_after p k (tree.hiding_constant x at ∷ ds) h = place_after p k ds (place at h.scope)
 
--- an index without a test here was tested before
-abbrev pub IsTested : Bool → Option ℕ → ℕ → Type 0
-IsTested true o n = Unit {0}
-IsTested false o n = o ≡ Some n
+-- an index without a test here was tested before, where the element was read
+abbrev pub IsTested : Bool → Option ℕ → ℕ → Type 0 → Type 0
+IsTested true o n R = Unit {0}
+IsTested false o n R = (o ≡ Some n) × R
 
 -- From point p, where the trees hs wait, the graph does the work of path k at place h; x are the exits of the statement that it is in.
 abbrev mutual
@@ -462,8 +493,11 @@ abbrev mutual
       ⊎ ((q : ℕ) × (n : ℕ) × Writes g k h p (temporary n) (Set (temporary n) a.tree) q rest × Laid g k h x w q (in_temporary n a.int_type ∷ rest)))
   Laid g k h x (Branch y n) p hs = OnTop hs (λ a rest. ArePlain rest × (i : ℕ) × (j : ℕ) × Among (edge p (Guard a.tree true) i) g.edges × Among (edge p (Guard a.tree false) j) g.edges
       × LaidWay g k y i rest × LaidWay g k n j rest)
-  Laid g k h x (Apply op at t w) p hs = OnTop hs (λ a rest. Laid g k h x w p (held (unary_tree op (site_at k at) t (conversion a.int_type t a.tree)) (result_type op t) ∷ rest))
-  Laid g k h x (Operate op at t w) p hs = OnTwo hs (λ a b rest. Laid g k h x w p (held (operated_tree op (site_at k at) t a.int_type b.int_type a.tree b.tree) (result_type op t) ∷ rest))
+  -- what is folded was begun so
+  Laid g k h x (Apply op at t w) p hs = OnTop hs (λ a rest. Laid g k h x w p (held (unary_tree op (site_at k at) t (conversion a.int_type t a.tree)) (result_type op t) ∷ rest)
+      × (IsNumber (unary_tree op (site_at k at) t (conversion a.int_type t a.tree)) → IsBegunOne g k op at t w))
+  Laid g k h x (Operate op at t w) p hs = OnTwo hs (λ a b rest. Laid g k h x w p (held (operated_tree op (site_at k at) t a.int_type b.int_type a.tree b.tree) (result_type op t) ∷ rest)
+      × (IsNumber (operated_tree op (site_at k at) t a.int_type b.int_type a.tree b.tree) → IsBegunTwo g k op at t w))
   Laid g k h x (Convert t w) p hs = OnTop hs (λ a rest. Laid g k h x w p (held (conversion a.int_type t a.tree) t ∷ rest))
   Laid g k h x (Settle t w) p hs = OnTop hs (λ a rest. (q : ℕ) × (n : ℕ) × Sets g p (temporary n) (Set (temporary n) (conversion a.int_type t a.tree)) q rest
       × Laid g k h x w q (in_temporary n t ∷ rest))
@@ -481,17 +515,17 @@ abbrev mutual
   Laid g k h x (work.Load at a w) p hs = OnTop hs (λ i rest. (q : ℕ) × (n : ℕ) × IsArrayOf g a
       × Writes g k h p (temporary n) (Load (temporary n) (cells a) (site_at k at) true i.tree) q rest × Laid g k h x w q (in_temporary n a.int_type ∷ rest))
   Laid g k h x (Reload at a w) p hs = OnTwo hs (λ i b rest. (q : ℕ) × (n : ℕ) × IsArrayOf g a
-      × Writes g k h p (temporary n) (Load (temporary n) (cells a) (site_at k at) true i.tree) q (b ∷ i ∷ rest) × Laid g k h x w q (in_temporary n a.int_type ∷ b ∷ tested a.length i ∷ rest))
+      × Writes g k h p (temporary n) (Load (temporary n) (cells a) (site_at k at) true i.tree) q (b ∷ i ∷ rest) × (g.read k at → Laid g k h x w q (in_temporary n a.int_type ∷ b ∷ tested a.length i ∷ rest)))
   Laid g k h x (work.Store at a w) p hs = OnTwo hs (λ i b rest. (q : ℕ) × IsArrayOf g a
       × Writes g k h p (own a.object) (Store (cells a) (site_at k at) true i.tree (conversion b.int_type a.int_type b.tree)) q rest × Laid g k h x w q rest)
   Laid g k h x (StoreKept at a w) p hs = OnTwo hs (λ i b rest. (q : ℕ) × (f : Bool) × IsArrayOf g a × (b.int_type ≡ a.int_type)
-      × Writes g k h p (own a.object) (Store (cells a) (site_at k at) f i.tree b.tree) q (b ∷ rest) × Laid g k h x w q (b ∷ rest) × IsTested f i.below a.length)
+      × Writes g k h p (own a.object) (Store (cells a) (site_at k at) f i.tree b.tree) q (b ∷ rest) × Laid g k h x w q (b ∷ rest) × IsTested f i.below a.length (g.read k at))
   Laid g k h x (Renew op at o r a w) p hs = OnThree hs (λ i b e rest. (q : ℕ) × ArePlain (e ∷ b ∷ i ∷ rest) × IsArrayOf g a × (e.int_type ≡ a.int_type)
-      × Writes g k h p (own a.object) (Store (cells a) (site_at k r) false i.tree (updated_tree op (site_at k at) o a.int_type b.int_type e.tree b.tree)) q rest × Laid g k h x w q rest × (i.below ≡ Some a.length))
+      × Writes g k h p (own a.object) (Store (cells a) (site_at k r) false i.tree (updated_tree op (site_at k at) o a.int_type b.int_type e.tree b.tree)) q rest × Laid g k h x w q rest × (i.below ≡ Some a.length) × IsVariable e.tree × g.read k r)
   Laid g k h x (Renewed op at o t w) p hs = OnThree hs (λ i b e rest. (q : ℕ) × (n : ℕ) × ArePlain (e ∷ b ∷ i ∷ rest) × (e.int_type ≡ t)
-      × Writes g k h p (temporary n) (Set (temporary n) (updated_tree op (site_at k at) o t b.int_type e.tree b.tree)) q (i ∷ rest) × Laid g k h x w q (in_temporary n t ∷ i ∷ rest))
+      × Writes g k h p (temporary n) (Set (temporary n) (updated_tree op (site_at k at) o t b.int_type e.tree b.tree)) q (i ∷ rest) × Laid g k h x w q (in_temporary n t ∷ i ∷ rest) × IsVariable e.tree)
   Laid g k h x (Replace op at o r a w) p hs = OnThree hs (λ i b e rest. (q : ℕ) × ArePlain (e ∷ b ∷ i ∷ rest) × IsArrayOf g a × (e.int_type ≡ a.int_type)
-      × Writes g k h p (own a.object) (Store (cells a) (site_at k r) false i.tree (updated_tree op (site_at k at) o a.int_type b.int_type e.tree b.tree)) q (e ∷ rest) × Laid g k h x w q (e ∷ rest) × (i.below ≡ Some a.length))
+      × Writes g k h p (own a.object) (Store (cells a) (site_at k r) false i.tree (updated_tree op (site_at k at) o a.int_type b.int_type e.tree b.tree)) q (e ∷ rest) × Laid g k h x w q (e ∷ rest) × (i.below ≡ Some a.length) × IsVariable e.tree × g.read k r)
   Laid g k h x (Fill a j es w) p hs = (d : Draft) × (n : ℕ) × (i : ℕ) × (d.point ≡ p) × (a ≡ local_array g k i) × IsArrayOf g a × AreValues (around g k n) es × (j + count es ≤ a.length)
       × AreCalm d.variables hs × Stage g k h (calls_in_values es) d (items (context_of g k) i j es d) × Laid g k h x w (items (context_of g k) i j es d).point hs
   Laid g k h x (Item a j w) p hs = OnTop hs (λ b rest. (q : ℕ) × (s : Site) × (j < a.length) × IsArrayOf g a

@@ -1,6 +1,7 @@
 -- What each step of a program is followed by.
 pub mod Values
 pub mod Tells
+pub mod Fixed
 pub mod Silent
 pub mod Operators
 pub mod Elements

@@ -1,3 +1,5 @@
 mod Followed
 mod Ways
 mod Same
+pub mod Settings
+pub mod Listed

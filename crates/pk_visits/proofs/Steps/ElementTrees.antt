@@ -389,10 +389,10 @@ reload_laid : (g : Whole) (k : ℕ) (h : Place) (x : Exits) (at : Pos) (t : IntT
     → d.names ≡ slots → IsArray (around g k n) t y → IsValue (around g k n) i → IsValue (around g k n) e → AreCalm d.variables hs
     → Stage g k h (calls_in i ++ calls_in e) d f
     → Grows Uncalled (rows.loaded t (site (context_of g k) at) (lower.array_of (context_of g k) y d) (lowered (context_of g k) i) (lowered (context_of g k) e) d).draft f
-    → Laid g k h x w (rows.loaded t (site (context_of g k) at) (lower.array_of (context_of g k) y d) (lowered (context_of g k) i) (lowered (context_of g k) e) d).draft.point
+    → (g.read k at → Laid g k h x w (rows.loaded t (site (context_of g k) at) (lower.array_of (context_of g k) y d) (lowered (context_of g k) i) (lowered (context_of g k) e) d).draft.point
     (held (rows.loaded t (site (context_of g k) at) (lower.array_of (context_of g k) y d) (lowered (context_of g k) i) (lowered (context_of g k) e) d).element t
     ∷ held (rows.loaded t (site (context_of g k) at) (lower.array_of (context_of g k) y d) (lowered (context_of g k) i) (lowered (context_of g k) e) d).right (type_of e)
-    ∷ tested (program.array_of g.program k t y).length (held (rows.loaded t (site (context_of g k) at) (lower.array_of (context_of g k) y d) (lowered (context_of g k) i) (lowered (context_of g k) e) d).index (type_of i)) ∷ hs)
+    ∷ tested (program.array_of g.program k t y).length (held (rows.loaded t (site (context_of g k) at) (lower.array_of (context_of g k) y d) (lowered (context_of g k) i) (lowered (context_of g k) e) d).index (type_of i)) ∷ hs))
     → Laid g k h x (meaning.reload at (program.array_of g.program k t y) i e w) d.point hs
 reload_laid g k h x at t y i e w n d f hs ns fa fi fe calm s after l =
     let c = context_of g k in
@@ -432,7 +432,7 @@ reload_laid g k h x at t y i e w n d f hs ns fa fi fe calm s after l =
         apart = (old_apart v.1.variables v.1.variables v.0 (omega arith) right, (old_apart v.1.variables v.1.variables p.first (omega arith) old2, all_temporary d.variables v.1.variables hs (omega (arith, le, le2)) calm));
         plain = (old_plain v.1.variables v.0 right, (old_plain v.1.variables p.first old2, calm_plain d.variables hs calm));
       },
-      subst (λ u. Laid g k h x w v.1.points (held (variable u) t ∷ held v.0 (type_of e) ∷ tested b.length (held p.first (type_of i)) ∷ hs)) (next_is v.1 nv) l,
+      λ was. subst (λ u. Laid g k h x w v.1.points (held (variable u) t ∷ held v.0 (type_of e) ∷ tested b.length (held p.first (type_of i)) ∷ hs)) (next_is v.1 nv) (l was),
     ))
 
 -- what waits behind the load is old
@@ -483,7 +483,7 @@ renew_laid g k h x op q o at t y i e w n d hs fa fi fe calm s l =
     let ns = stage_names g k h _ C d f s (grows_trans both (emit_grows C (j a) p.draft)) in
     let z = stage_edge g k h Uncalled _ d p.draft f (j a) s both (grows_refl Uncalled f) in
     let u = olds c t (site c at) a i e d ns in
-    reload_laid g k h x at t y i e (work.Renew op q o at b w) n d f hs ns fa fi fe calm s (emit_grows Uncalled (j a) p.draft) (
+    reload_laid g k h x at t y i e (work.Renew op q o at b w) n d f hs ns fa fi fe calm s (emit_grows Uncalled (j a) p.draft) (λ was. (
       p.draft.points,
       (old_plain p.draft.variables p.element u.element, (old_plain p.draft.variables p.right u.right, (old_plain p.draft.variables p.index u.index, calm_plain d.variables hs calm))),
       is_array g k n t y s.path fa,
@@ -496,7 +496,9 @@ renew_laid g k h x op q o at t y i e w n d hs fa fi fe calm s l =
       },
       l,
       refl,
-    )
+      tt,
+      was,
+    ))
 
 -- an old tree that isn't an object is apart from objects
 element_apart : (d : Draft) (x : Object) → d.names ≡ slots → IsApart (own x) (variable (next_temporary d))
@@ -524,7 +526,7 @@ replace_laid g k h x op q o at t y i w pt hs (d, n, is, fits, quiet, s, l) =
     let z = stage_edge g k h Uncalled _ d p.draft f (j a) s' both (grows_refl Uncalled f) in
     let u = olds c t (site c at) a i e d ns in
     subst (λ m. Laid g k h x (meaning.reload at b i e (work.Replace op q o at b w)) m hs) is
-    (reload_laid g k h x at t y i e (work.Replace op q o at b w) n d f hs ns fits.1.0 fits.1.1 one_in calm s' (emit_grows Uncalled (j a) p.draft) (
+    (reload_laid g k h x at t y i e (work.Replace op q o at b w) n d f hs ns fits.1.0 fits.1.1 one_in calm s' (emit_grows Uncalled (j a) p.draft) (λ was. (
       p.draft.points,
       (old_plain p.draft.variables p.element u.element, (old_plain p.draft.variables p.right u.right, (old_plain p.draft.variables p.index u.index, calm_plain d.variables hs calm))),
       is_array g k n t y s.path fits.1.0,
@@ -537,7 +539,9 @@ replace_laid g k h x op q o at t y i w pt hs (d, n, is, fits, quiet, s, l) =
       },
       l,
       refl,
-    ))
+      tt,
+      was,
+    )))
 
 -- used: what is written is given
 pub renewed_laid : (g : Whole) (k : ℕ) (h : Place) (x : Exits) (op : Op) (q : Pos) (o : IntType) (at : Pos) (t : IntType) (y : Variable) (i e : ValueTree) (w : Work) (n : ℕ) (d : Draft) (hs : List Held)
@@ -565,7 +569,7 @@ renewed_laid g k h x op q o at t y i e w n d hs fa fi fe calm s l =
     let le = u.more in
     let set_edge = stage_edge g k h Uncalled _ d (with_temporary t p.draft) f (Set (next_temporary p.draft) v) s (grows_trans both (temporary_grows C t p.draft)) last in
     let put_edge = stage_edge g k h Uncalled _ d m f (j a (next_temporary p.draft)) s (grows_trans both set_grows) (grows_refl Uncalled f) in
-    reload_laid g k h x at t y i e (work.Renewed op q o t (work.StoreKept at b w)) n d f hs ns fa fi fe calm s (grows_trans (made_grows Uncalled (Set (next_temporary p.draft) v) t p.draft) last) (
+    reload_laid g k h x at t y i e (work.Renewed op q o t (work.StoreKept at b w)) n d f hs ns fa fi fe calm s (grows_trans (made_grows Uncalled (Set (next_temporary p.draft) v) t p.draft) last) (λ was. (
       p.draft.points,
       p.draft.variables,
       (old_plain p.draft.variables p.element u.element, (old_plain p.draft.variables p.right u.right, (old_plain p.draft.variables p.index u.index, calm_plain d.variables hs calm))),
@@ -589,6 +593,7 @@ renewed_laid g k h x op q o at t y i e w n d hs fa fi fe calm s l =
           plain = (tt, calm_plain d.variables hs calm);
         },
         subst (λ z. Laid g k h x w m.points (held (variable z) t ∷ hs)) (next_is p.draft u.names) l,
-        refl,
+        (refl, was),
       ),
-    )
+      tt,
+    ))

@@ -129,16 +129,16 @@ load g chosen p m k h at a w i vs s b x c hs l e same f =
     (by ∙ ap (λ r. with_value r (λ j. steps.To (loaded (cells a) (temporary l.1) j m))) (index_out (site_at k at) a.length i is)) (λ b. absurd (cc b)))
 
 pub reload : (g : Whole) (chosen : Numbers) (p : ℕ) (m : Memory) (k : ℕ) (h : Place) (at : Pos) (a : Array) (w : Work) (i v : ℤ) (vs : Numbers) (s : Objects) (b : Bool) (x : Exits) (c d : Held) (hs : List Held)
-    → Laid g k h x (work.Reload at a w) p (d ∷ c ∷ hs) → Means m (d ∷ c ∷ hs) (v ∷ i ∷ vs) → m.objects ≡ s → FitsObjects g.program s
+    → Laid g k h x (work.Reload at a w) p (d ∷ c ∷ hs) → Means m (d ∷ c ∷ hs) (v ∷ i ∷ vs) → m.objects ≡ s → FitsObjects g.program s → g.read k at
     → Answers g chosen k h p m (step_of g.program chosen (config k h (work.Reload at a w) (v ∷ i ∷ vs) s b) (work.Reload at a w))
-reload g chosen p m k h at a w i v vs s b x c d hs l e same f =
+reload g chosen p m k h at a w i v vs s b x c d hs l e same f was =
     let by = load_by chosen (temporary l.1) (cells a) (site_at k at) true c.tree i m e.2.0 in
     by_index g chosen p m (config k h (work.Reload at a w) (v ∷ i ∷ vs) s b) at a i (λ j. meaning.on (config k h (work.Reload at a w) (v ∷ i ∷ vs) s b) w (meaning.element_of a j s ∷ v ∷ i ∷ vs))
     (λ is. let j = unsigned_abs i in let z = number_at (memory_numbers (own a.object) m) j in
     let y = means_apart (temporary l.1) (z ∷ []) m (d ∷ c ∷ hs) (v ∷ i ∷ vs) l.3.apart e in
     moved g chosen p l.0 m (with_memory (temporary l.1) (z ∷ []) m) (Load (temporary l.1) (cells a) (site_at k at) true c.tree) k h w (meaning.element_of a j s ∷ v ∷ i ∷ vs) s false x
     (in_temporary l.1 a.int_type ∷ d ∷ tested a.length c ∷ hs)
-    l.3.there (by ∙ ap (λ r. with_value r (λ j. steps.To (loaded (cells a) (temporary l.1) j m))) (index_in (site_at k at) a.length i is)) refl l.4
+    l.3.there (by ∙ ap (λ r. with_value r (λ j. steps.To (loaded (cells a) (temporary l.1) j m))) (index_in (site_at k at) a.length i is)) refl (l.4 was)
     (temporary_value l.1 z m ∙ ap Ok (element_same a j s m same), element_in g.program a j s l.2 f, (y.0, y.1, (y.2.0, y.2.1, y.2.2, is), y.3), tt) same f)
     (λ is. now l.0 (Load (temporary l.1) (cells a) (site_at k at) true c.tree) l.3.there
     (by ∙ ap (λ r. with_value r (λ j. steps.To (loaded (cells a) (temporary l.1) j m))) (index_out (site_at k at) a.length i is)) (λ b. absurd (cc b)))
@@ -185,7 +185,7 @@ store_kept g chosen p m k h at a w i v vs s b x c d hs l e same f =
     by_index g chosen p m (config k h (work.StoreKept at a w) (v ∷ i ∷ vs) s b) at a i (λ j. meaning.stores (config k h (work.StoreKept at a w) (v ∷ i ∷ vs) s b) a j v w (v ∷ vs))
     (λ o. stored_follows g chosen p l.0 m k h s x w a (site_at k at) l.1 c.tree d.tree i v (d ∷ hs) (v ∷ vs) l.2 (subst (λ t. InType t v) l.3 e.1) e.2.0 e.0 o l.4 l.5
     (means_apart (own a.object) _ m (d ∷ hs) (v ∷ vs) l.4.apart (e.0, e.1, e.2.2, e.3)) same f)
-    (λ o. store_out g chosen p l.0 m k h a (site_at k at) l.1 c.tree d.tree i v (d ∷ hs) e.2.0 e.0 o l.4 (λ b. inside a.length c m i e.2.0 e.2.3 (subst (λ t. IsTested t c.below a.length) b l.6)))
+    (λ o. store_out g chosen p l.0 m k h a (site_at k at) l.1 c.tree d.tree i v (d ∷ hs) e.2.0 e.0 o l.4 (λ b. inside a.length c m i e.2.0 e.2.3 (subst (λ t. IsTested t c.below a.length (g.read k at)) b l.6).0))
 
 pub item : (g : Whole) (chosen : Numbers) (p : ℕ) (m : Memory) (k : ℕ) (h : Place) (a : Array) (j : ℕ) (w : Work) (v : ℤ) (vs : Numbers) (s : Objects) (b : Bool) (x : Exits) (d : Held) (hs : List Held)
     → Laid g k h x (work.Item a j w) p (d ∷ hs) → Means m (d ∷ hs) (v ∷ vs) → m.objects ≡ s → FitsObjects g.program s

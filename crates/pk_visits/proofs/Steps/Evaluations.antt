@@ -99,28 +99,28 @@ stepped_laid g k h x op q o at t y i w p hs (d, n, is, fits, quiet, s, l) =
 -- ---- every expression
 
 pub evaluate : (g : Whole) (proper : Proper g) (chosen : Numbers) (p : ℕ) (m : Memory) (k : ℕ) (h : Place) (e : ValueTree) (w : Work) (vs : Numbers) (s : Objects) (b : Bool) (x : Exits) (hs : List Held)
-    → Laid g k h x (work.Evaluate e w) p hs → Means m hs vs → m.objects ≡ s → FitsObjects g.program s
+    → Laid g k h x (work.Evaluate e w) p hs → Means m hs vs → m.objects ≡ s → FitsObjects g.program s → g.begun k e w
     → Answers g chosen k h p m (step_of g.program chosen (config k h (work.Evaluate e w) vs s b) (work.Evaluate e w))
-evaluate g proper chosen p m k h (tree.constant t z) w vs s b x hs l e same f = constant_follows g chosen p m k h t z w vs s x hs l e same f
-evaluate g proper chosen p m k h (tree.read (tree.scalar t y)) w vs s b x hs l e same f = scalar_follows g chosen p m k h t y w vs s x hs l e same f
-evaluate g proper chosen p m k h (tree.read (tree.element t y at i)) w vs s b x hs l e same f = still g chosen p m k h _ vs s x hs (element_laid g k h x t y at i w p hs l) e same f
-evaluate g proper chosen p m k h (tree.assign q (tree.scalar t y) v) w vs s b x hs l e same f = still g chosen p m k h _ vs s x hs (assign_laid g k h x q t y v w p hs l) e same f
-evaluate g proper chosen p m k h (tree.assign q (tree.element t y at i) v) w vs s b x hs l e same f = still g chosen p m k h _ vs s x hs (kept_laid g k h x q at t y i v w p hs l) e same f
-evaluate g proper chosen p m k h (tree.update op q o (tree.scalar t y) v) w vs s b x hs l e same f = still g chosen p m k h _ vs s x hs (update_laid g k h x op q o t y v w p hs l) e same f
-evaluate g proper chosen p m k h (tree.update op q o (tree.element t y at i) v) w vs s b x hs l e same f = still g chosen p m k h _ vs s x hs (updated_laid g k h x op q o at t y i v w p hs l) e same f
-evaluate g proper chosen p m k h (tree.step op q o (tree.scalar t y) true) w vs s b x hs l e same f = still g chosen p m k h _ vs s x hs (step_laid g k h x op q o t y w p hs l) e same f
-evaluate g proper chosen p m k h (tree.step op q o (tree.scalar t y) false) w vs s b x hs l e same f = after_follows g chosen p m k h op q o t y w vs s x hs l e same f
-evaluate g proper chosen p m k h (tree.step op q o (tree.element t y at i) true) w vs s b x hs l e same f = still g chosen p m k h _ vs s x hs (stepped_laid g k h x op q o at t y i w p hs l) e same f
-evaluate g proper chosen p m k h (tree.step op q o (tree.element t y at i) false) w vs s b x hs l e same f = still g chosen p m k h _ vs s x hs (replace_laid g k h x op q o at t y i w p hs l) e same f
-evaluate g proper chosen p m k h (tree.call t j n at es) w vs s b x hs l e same f = still g chosen p m k h _ vs s x hs (call_laid g proper k h x t j n at es w p hs l) e same f
-evaluate g proper chosen p m k h (tree.any t at) w vs s b x hs l e same f = any_follows g chosen p m k h t at w vs s b x hs l e same f
-evaluate g proper chosen p m k h (tree.unary op at t v) w vs s b x hs l e same f = still g chosen p m k h _ vs s x hs (unary_laid g k h x op at t v w p hs l) e same f
-evaluate g proper chosen p m k h (tree.convert t v) w vs s b x hs l e same f = still g chosen p m k h _ vs s x hs (convert_laid g k h x t v w p hs l) e same f
-evaluate g proper chosen p m k h (tree.binary op at t u v) w vs s b x hs l e same f = still g chosen p m k h _ vs s x hs (binary_laid g k h x op at t u v w p hs l) e same f
-evaluate g proper chosen p m k h (tree.and u v) w vs s b x hs l e same f = still g chosen p m k h _ vs s x hs (and_laid g k h x u v w p hs l) e same f
-evaluate g proper chosen p m k h (tree.or u v) w vs s b x hs l e same f = still g chosen p m k h _ vs s x hs (or_laid g k h x u v w p hs l) e same f
-evaluate g proper chosen p m k h (tree.conditional t c u v) w vs s b x hs l e same f = still g chosen p m k h _ vs s x hs (conditional_laid g k h x t c u v w p hs l) e same f
-evaluate g proper chosen p m k h (tree.then_value c v) w vs s b x hs l e same f = still g chosen p m k h _ vs s x hs (then_laid g k h x c v w p hs l) e same f
+evaluate g proper chosen p m k h (tree.constant t z) w vs s b x hs l e same f come = constant_follows g chosen p m k h t z w vs s x hs l e same f
+evaluate g proper chosen p m k h (tree.read (tree.scalar t y)) w vs s b x hs l e same f come = scalar_follows g chosen p m k h t y w vs s x hs l e same f
+evaluate g proper chosen p m k h (tree.read (tree.element t y at i)) w vs s b x hs l e same f come = still g chosen p m k h _ vs s x hs (element_laid g k h x t y at i w p hs l) e same f
+evaluate g proper chosen p m k h (tree.assign q (tree.scalar t y) v) w vs s b x hs l e same f come = still g chosen p m k h _ vs s x hs (assign_laid g k h x q t y v w p hs l) e same f
+evaluate g proper chosen p m k h (tree.assign q (tree.element t y at i) v) w vs s b x hs l e same f come = still g chosen p m k h _ vs s x hs (kept_laid g k h x q at t y i v w p hs l) e same f
+evaluate g proper chosen p m k h (tree.update op q o (tree.scalar t y) v) w vs s b x hs l e same f come = still g chosen p m k h _ vs s x hs (update_laid g k h x op q o t y v w p hs l) e same f
+evaluate g proper chosen p m k h (tree.update op q o (tree.element t y at i) v) w vs s b x hs l e same f come = still g chosen p m k h _ vs s x hs (updated_laid g k h x op q o at t y i v w p hs l) e same f
+evaluate g proper chosen p m k h (tree.step op q o (tree.scalar t y) true) w vs s b x hs l e same f come = still g chosen p m k h _ vs s x hs (step_laid g k h x op q o t y w p hs l) e same f
+evaluate g proper chosen p m k h (tree.step op q o (tree.scalar t y) false) w vs s b x hs l e same f come = after_follows g chosen p m k h op q o t y w vs s x hs l e same f
+evaluate g proper chosen p m k h (tree.step op q o (tree.element t y at i) true) w vs s b x hs l e same f come = still g chosen p m k h _ vs s x hs (stepped_laid g k h x op q o at t y i w p hs l) e same f
+evaluate g proper chosen p m k h (tree.step op q o (tree.element t y at i) false) w vs s b x hs l e same f come = still g chosen p m k h _ vs s x hs (replace_laid g k h x op q o at t y i w p hs l) e same f
+evaluate g proper chosen p m k h (tree.call t j n at es) w vs s b x hs l e same f come = still g chosen p m k h _ vs s x hs (call_laid g proper k h x t j n at es w p hs l) e same f
+evaluate g proper chosen p m k h (tree.any t at) w vs s b x hs l e same f come = any_follows g chosen p m k h t at w vs s b x hs l e same f
+evaluate g proper chosen p m k h (tree.unary op at t v) w vs s b x hs l e same f come = still g chosen p m k h _ vs s x hs (unary_laid g k h x op at t v w p hs l come) e same f
+evaluate g proper chosen p m k h (tree.convert t v) w vs s b x hs l e same f come = still g chosen p m k h _ vs s x hs (convert_laid g k h x t v w p hs l) e same f
+evaluate g proper chosen p m k h (tree.binary op at t u v) w vs s b x hs l e same f come = still g chosen p m k h _ vs s x hs (binary_laid g k h x op at t u v w p hs l come) e same f
+evaluate g proper chosen p m k h (tree.and u v) w vs s b x hs l e same f come = still g chosen p m k h _ vs s x hs (and_laid g k h x u v w p hs l) e same f
+evaluate g proper chosen p m k h (tree.or u v) w vs s b x hs l e same f come = still g chosen p m k h _ vs s x hs (or_laid g k h x u v w p hs l) e same f
+evaluate g proper chosen p m k h (tree.conditional t c u v) w vs s b x hs l e same f come = still g chosen p m k h _ vs s x hs (conditional_laid g k h x t c u v w p hs l) e same f
+evaluate g proper chosen p m k h (tree.then_value c v) w vs s b x hs l e same f come = still g chosen p m k h _ vs s x hs (then_laid g k h x c v w p hs l) e same f
 
 performed_laid : (g : Whole) (proper : Proper g) (k : ℕ) (h : Place) (x : Exits) (e : EffectTree) (w : Work) (p : ℕ) (hs : List Held) → Laid g k h x (work.Perform e w) p hs → Laid g k h x (meaning.performed g.program k h e w) p hs
 performed_laid g proper k h x (tree.unused v) w p hs l = unused_laid g k h x v w p hs l

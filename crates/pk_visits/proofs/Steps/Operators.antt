@@ -56,8 +56,8 @@ apply g chosen p m k h op at t w v vs s b x a hs l e same f =
     let i = unary_tree op (site_at k at) t (conversion a.int_type t a.tree) in
     let is = unary_value op (site_at k at) t a.int_type a.tree v m e.1 e.0 in
     by_result g chosen p m (config k h (work.Apply op at t w) (v ∷ vs) s b) at (value_of op t y y) _
-    (λ z ok. still g chosen p m k h w (z ∷ vs) s x (held i (result_type op t) ∷ hs) l (is ∙ ap (at_site (site_at k at)) ok, value_in op t y y z ok, e.2, tt) same f)
-    (λ n err. doom g chosen k h x (steps.failure n (site_at k at)) w p (held i (result_type op t) ∷ hs) m l (inl (is ∙ ap (at_site (site_at k at)) err, sound_means m hs vs e.2)))
+    (λ z ok. still g chosen p m k h w (z ∷ vs) s x (held i (result_type op t) ∷ hs) l.0 (is ∙ ap (at_site (site_at k at)) ok, value_in op t y y z ok, e.2, tt) same f)
+    (λ n err. doom g chosen k h x (steps.failure n (site_at k at)) w p (held i (result_type op t) ∷ hs) m l.0 (inl (is ∙ ap (at_site (site_at k at)) err, sound_means m hs vs e.2)))
 
 pub operate : (g : Whole) (chosen : Numbers) (p : ℕ) (m : Memory) (k : ℕ) (h : Place) (op : Op) (at : Pos) (t : IntType) (w : Work) (u v : ℤ) (vs : Numbers) (s : Objects) (b : Bool) (x : Exits) (a c : Held) (hs : List Held)
     → Laid g k h x (work.Operate op at t w) p (c ∷ a ∷ hs) → Means m (c ∷ a ∷ hs) (v ∷ u ∷ vs) → m.objects ≡ s → FitsObjects g.program s
@@ -66,8 +66,8 @@ operate g chosen p m k h op at t w u v vs s b x a c hs l e same f =
     let i = operated_tree op (site_at k at) t a.int_type c.int_type a.tree c.tree in
     let is = operated_value op (site_at k at) t a.int_type c.int_type a.tree c.tree u v m e.2.1 e.2.0 e.1 e.0 in
     by_result g chosen p m (config k h (work.Operate op at t w) (v ∷ u ∷ vs) s b) at (operated op t u v) _
-    (λ z ok. still g chosen p m k h w (z ∷ vs) s x (held i (result_type op t) ∷ hs) l (is ∙ ap (at_site (site_at k at)) ok, value_in op t (wrapped t u) (meaning.right_number op t v) z ok, e.2.2, tt) same f)
-    (λ n err. doom g chosen k h x (steps.failure n (site_at k at)) w p (held i (result_type op t) ∷ hs) m l (inl (is ∙ ap (at_site (site_at k at)) err, sound_means m hs vs e.2.2)))
+    (λ z ok. still g chosen p m k h w (z ∷ vs) s x (held i (result_type op t) ∷ hs) l.0 (is ∙ ap (at_site (site_at k at)) ok, value_in op t (wrapped t u) (meaning.right_number op t v) z ok, e.2.2, tt) same f)
+    (λ n err. doom g chosen k h x (steps.failure n (site_at k at)) w p (held i (result_type op t) ∷ hs) m l.0 (inl (is ∙ ap (at_site (site_at k at)) err, sound_means m hs vs e.2.2)))
 
 -- ---- scalars
 

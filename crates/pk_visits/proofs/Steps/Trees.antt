@@ -14,7 +14,7 @@ use Rattle.pk_graph.specs.Trees.{variable, Set}
 use Rattle.pk_draft.specs.Drafts.{emit}
 use Rattle.pk_draft.specs.Folding.{conversion, updated_tree}
 use Rattle.pk_draft.specs.declared.drafts.Size.{Size}
-use Rattle.pk_lower_row.specs.Shapes.{makes, makes_effect, strong_if}
+use Rattle.pk_lower_row.specs.Shapes.{shape_of, makes, makes_effect, strong_if}
 use Rattle.pk_lower_row.specs.declared.shapes.Waiting.TheVariants.{Strong}
 use Rattle.pk_lower_row.specs.Contexts.{variable_of, site}
 use Rattle.pk_lower_row.specs.Rows as rows
@@ -27,6 +27,7 @@ use Rattle.pk_visits.proofs.Slots.{Slot, own, slots, SlotTree, Draft, Among, edg
 use Rattle.pk_visits.proofs.Grows.Rows.{grows_refl, grows_trans, emit_grows, two_grows}
 use Rattle.pk_visits.proofs.Grows.Expressions.{lowered}
 use Rattle.pk_visits.proofs.Steps.Tells.{variable_is, sane, Any}
+use Rattle.pk_visits.proofs.Steps.Fixed.{fixed_of, numbers}
 use Rattle.pk_visits.proofs.Stands.{Whole, context_of, Held, held, around, AreCalm, AreQuiet, HasKind, IsScalar, Writes, Stage, Laid, IsCalled}
 use Rattle.pk_visits.proofs.Stages.{ways_grow, effect_grows, stage_first, stage_second, stage_until, stage_edge}
 use Rattle.pk_visits.proofs.Operands.{UnlessLoose, all_own, calm_more, two_laid}
@@ -77,9 +78,12 @@ scalar_laid g k h x t y w p hs (d, n, at, fits, quiet, s, l) = (
 )
 
 pub unary_laid : (g : Whole) (k : ℕ) (h : Place) (x : Exits) (op : Op) (at : Pos) (t : IntType) (e : ValueTree) (w : Work) (p : ℕ) (hs : List Held) → Laid g k h x (work.Evaluate (tree.unary op at t e) w) p hs
-    → Laid g k h x (work.Evaluate e (work.Apply op at t w)) p hs
+    → g.begun k (tree.unary op at t e) w → Laid g k h x (work.Evaluate e (work.Apply op at t w)) p hs
 unfolding ways IsValue calls_in type_of
-unary_laid g k h x op at t e w p hs (d, n, is, fits, quiet, s, l) = (d, n, is, fits.1, quiet, s, l)
+unary_laid g k h x op at t e w p hs (d, n, is, fits, quiet, s, l) come =
+    let c = context_of g k in
+    let ns = stage_names g k h _ Any d ((ways c e).value d).1 s ((sane c e).value d) in
+    (d, n, is, fits.1, quiet, s, (l, λ i. (e, fixed_of (shape_of (tree.unary op at t e)) ((ways c (tree.unary op at t e)).value d).0 (numbers c (tree.unary op at t e) d ns) i, come)))
 
 pub convert_laid : (g : Whole) (k : ℕ) (h : Place) (x : Exits) (t : IntType) (e : ValueTree) (w : Work) (p : ℕ) (hs : List Held) → Laid g k h x (work.Evaluate (tree.convert t e) w) p hs
     → Laid g k h x (work.Evaluate e (work.Convert t w)) p hs
@@ -94,16 +98,17 @@ strong_true : (m : Bool) → m ≡ true → strong_if m ≡ Strong
 strong_true m h = ap strong_if h
 
 pub binary_laid : (g : Whole) (k : ℕ) (h : Place) (x : Exits) (op : Op) (at : Pos) (t : IntType) (a b : ValueTree) (w : Work) (p : ℕ) (hs : List Held) → Laid g k h x (work.Evaluate (tree.binary op at t a b) w) p hs
-    → Laid g k h x (work.Evaluate a (work.Keep (work.Evaluate b (work.Operate op at t w)))) p hs
+    → g.begun k (tree.binary op at t a b) w → Laid g k h x (work.Evaluate a (work.Keep (work.Evaluate b (work.Operate op at t w)))) p hs
 unfolding ways IsValue calls_in type_of
-binary_laid g k h x op at t a b w p hs (d, n, is, fits, quiet, s, l) =
+binary_laid g k h x op at t a b w p hs (d, n, is, fits, quiet, s, l) come =
     let c = context_of g k in
     let f = (rows.two (strong_if (makes b)) (lowered c a) (lowered c b) d).draft in
     let grow = two_grows Any (strong_if (makes b)) (lowered c a) (lowered c b) (sane c a) (sane c b) d in
+    let ns = stage_names g k h _ Any d f s grow in
     subst (λ q. Laid g k h x (work.Evaluate a (work.Keep (work.Evaluate b (work.Operate op at t w)))) q hs) is
-    (two_laid g k h x (work.Operate op at t w) (strong_if (makes b)) a b n d f hs (stage_names g k h _ Any d f s grow) (strong_true (makes b))
+    (two_laid g k h x (work.Operate op at t w) (strong_if (makes b)) a b n d f hs ns (strong_true (makes b))
     (quiet_loose (makes b) d.variables hs (λ m. quiet (or_second (makes a) (makes b) m))) (λ m. quiet (or_second (makes a) (makes b) m))
-    fits.1 (λ m. quiet (or_first (makes a) (makes b) m)) fits.2 s (grows_refl Uncalled f) l)
+    fits.1 (λ m. quiet (or_first (makes a) (makes b) m)) fits.2 s (grows_refl Uncalled f) (l, λ i. (a, b, fixed_of (shape_of (tree.binary op at t a b)) ((ways c (tree.binary op at t a b)).value d).0 (numbers c (tree.binary op at t a b) d ns) i, come)))
 
 pub then_laid : (g : Whole) (k : ℕ) (h : Place) (x : Exits) (f : EffectTree) (v : ValueTree) (w : Work) (p : ℕ) (hs : List Held) → Laid g k h x (work.Evaluate (tree.then_value f v) w) p hs
     → Laid g k h x (work.Perform f (work.Evaluate v w)) p hs

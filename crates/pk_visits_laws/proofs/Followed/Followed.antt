@@ -1,5 +1,5 @@
 -- The graph of a unit follows its program, where each path's body stands.
-use Rattle.std.proofs.Common.{◌≡◌, ℕ, ◌+◌, ◌<◌, List, [], length, map, Option, Some, None, refl, sym, ap, subst, ◌∙◌}
+use Rattle.std.proofs.Common.{◌≡◌, ℕ, ◌+◌, ◌<◌, List, length, map, Option, Some, None, refl, sym, ap, subst, ◌∙◌}
 use Rattle.std.proofs.lemmas.Option.{none-some}
 use Rattle.std.specs.Prelude.{option_map, unwrap_or}
 use Rattle.pk_typed.specs.Trees.{UnitTree}
@@ -15,13 +15,13 @@ use Rattle.pk_meaning.specs.Runs.{Visit, with_arguments, begins, start}
 use Rattle.pk_visits.specs.SameVisits.{ProgramVisits, GraphVisits}
 use Rattle.pk_visits.specs.NeverStuck.{IsNeverStuck}
 use Rattle.pk_visits.proofs.Slots.{region_at}
-use Rattle.pk_visits.proofs.Stands.{Whole, ShowsAt, FitsObjects, BodyOf, BodiesStand, StandsAt}
-use Rattle.pk_visits.proofs.Journeys.{law, never_stuck}
+use Rattle.pk_visits.proofs.Stands.{ShowsAt, BodiesStand, StandsAt}
+use Rattle.pk_visits.proofs.Journeys.{law, never_stuck, stands_first}
 use Rattle.pk_visits.proofs.Numbered.Starts.{first_memory}
 use Rattle.pk_visits.proofs.Numbered.Visits.{IsFollowed, followed_visits}
 use Rattle.pk_visits_laws.proofs.Followed.Pairs.{AreTyped}
 use Rattle.pk_visits_laws.proofs.Followed.Naming.{naming, Made}
-use Rattle.pk_visits_laws.proofs.Followed.Graphs.{program_of, by_numbers, graph}
+use Rattle.pk_visits_laws.proofs.Followed.Graphs.{program_of, by_numbers, graph, all_noted}
 use Rattle.pk_visits_laws.proofs.Followed.Copies.{is_copy}
 use Rattle.pk_visits_laws.proofs.Followed.Starts.{have_kinds}
 use Rattle.pk_visits_laws.proofs.Followed.Propers.{is_proper}
@@ -46,38 +46,6 @@ begun p choice first e = by (with_arguments 0 (function_of p 0).parameters choic
     given = arguments_given 0 (function_of p 0).parameters choice (first_objects p) s is;
   }
 
--- the first configuration stands where its body begins
-pub stands_first : (g : Whole) (s : Objects) → BodyOf g 0 → (region_at g.regions 0).at ≡ entry_point → FitsObjects g.program s → StandsAt g (begins g.program s) entry_point (first_memory s)
-stands_first g s q at fits =
-    let end = q.ended [] tt in
-    record {
-      exits = q.exits;
-      waiting = [];
-      laid = (
-        tt,
-        (
-          q.draft,
-          q.objects,
-          q.mark,
-          q.enters ∙ at,
-          q.fits,
-          tt,
-          q.stage,
-          q.marking,
-          q.settled,
-          (
-            end,
-            record { draft = q.draft; objects = q.objects; mark = q.mark; fits = q.fits; calm = tt; stage = q.stage; marking = q.marking; settled = q.settled; ended = end },
-            (refl, q.leaves),
-            q.bare,
-          ),
-        ),
-      );
-      means = tt;
-      same = refl;
-      fits = fits;
-    }
-
 -- where each path's body stands, and the entry's begins at the entry point
 pub record Stand (u : UnitTree) (paths : List CallPath) : Type 0 where
   pub some : 0 < length paths
@@ -94,7 +62,7 @@ is_followed u entry paths unit l h b =
     record {
       copy = is_copy u paths h;
       kinds = have_kinds u paths unit h;
-      law = law g proper b.bodies;
+      law = law g proper b.bodies (all_noted u paths);
       starts = λ choice first e. let f = begun p choice first e in starts_with u entry paths unit l h first.objects (record { given = subst (λ (c : Config). Given 0 (function_of p 0).parameters (first_objects p) c.objects) f.is f.given });
       stands = λ choice first e. let f = begun p choice first e in
           subst (λ (c : Config). StandsAt g c entry_point (first_memory c.objects)) f.is (stands_first g f.objects (b.bodies 0 b.some) b.entry

@@ -11,6 +11,7 @@ use Rattle.pk_meaning.specs.Programs.{Program, function_number}
 use Rattle.pk_meaning.specs.Work.{Place}
 use Rattle.pk_visits.proofs.Slots.{slots, Draft, Among}
 use Rattle.pk_visits.proofs.Stands.{Whole}
+use Rattle.pk_visits.proofs.Journeys.{IsAllNoted}
 use Rattle.pk_visits.proofs.Numbered.Copies.{IsShown}
 use Rattle.pk_visits_laws.proofs.Followed.Paths.{first_of}
 use Rattle.pk_visits_laws.proofs.Followed.Pairs.{ends_of}
@@ -55,4 +56,9 @@ graph u paths = record {
   objects = λ k. (ends_of u paths k).objects;
   numbers = λ k. (ends_of u paths k).numbers;
   spans = λ k. (size_in (sizes_of u paths) (function_number (program_of u paths) k)).points;
+  begun = λ k e w. Unit {0};
+  read = λ k at. Unit {0};
 }
+
+pub all_noted : (u : UnitTree) (paths : List CallPath) → IsAllNoted (graph u paths)
+all_noted u paths = record { begins = λ k e w. tt; reads = λ k at. tt }

@@ -19,7 +19,7 @@ use Rattle.pk_meaning.specs.Runs.{Visit, visit_of, begins}
 use Rattle.pk_visits.specs.GraphVisits.{visit_at}
 use Rattle.pk_visits.specs.SameVisits.{ProgramVisits, GraphVisits, ProgramsAreFollowed, GraphsHaveProgramVisits}
 use Rattle.pk_visits.proofs.Stands.{StandsAt}
-use Rattle.pk_visits.proofs.Journeys.{law}
+use Rattle.pk_visits.proofs.Journeys.{law, stands_first}
 use Rattle.pk_visits.proofs.Numbered.Edges.{entry_found, entry_number}
 use Rattle.pk_visits.proofs.Numbered.Starts.{first_memory}
 use Rattle.pk_visits.proofs.Numbered.Copies.{shown_at, visit_same}
@@ -28,12 +28,12 @@ use Rattle.pk_visits.proofs.Numbered.Parts.{program_by}
 use Rattle.pk_visits_laws.proofs.Followed.Pairs as pair
 use Rattle.pk_visits_laws.proofs.Followed.Pairs.{Pair, pairs, whole, AreTyped, pairs_are_typed}
 use Rattle.pk_visits_laws.proofs.Followed.Naming.{naming, Made}
-use Rattle.pk_visits_laws.proofs.Followed.Graphs.{program_of, by_numbers, graph}
+use Rattle.pk_visits_laws.proofs.Followed.Graphs.{program_of, by_numbers, graph, all_noted}
 use Rattle.pk_visits_laws.proofs.Followed.Copies.{is_copy}
 use Rattle.pk_visits_laws.proofs.Followed.Starts.{have_kinds}
 use Rattle.pk_visits_laws.proofs.Followed.Propers.{is_proper}
 use Rattle.pk_visits_laws.proofs.Followed.Arguments.{arguments_given, first_fits, given_fits}
-use Rattle.pk_visits_laws.proofs.Followed.Followed.{Stand, stands_first}
+use Rattle.pk_visits_laws.proofs.Followed.Followed.{Stand}
 use Rattle.pk_visits_laws.proofs.Followed.Standing.{unit_stands}
 use Rattle.pk_visits_laws.proofs.Ways.Ways.{from, IsWay}
 use Rattle.pk_visits_laws.proofs.Ways.Regions.{exit_point}
@@ -49,7 +49,7 @@ is_setting : (u : UnitTree) (entry : ℕ) (paths : List CallPath) → IsUnit u �
 is_setting u entry paths unit marked has l are h b = record {
   copy = is_copy u paths h;
   kinds = have_kinds u paths unit h;
-  law = law (graph u paths) (is_proper u entry paths l h) b.bodies;
+  law = law (graph u paths) (is_proper u entry paths l h) b.bodies (all_noted u paths);
   ways = λ x. subst (λ es. IsWay (from x es)) (sym edges) (subst IsWay (sym (from_by pair.number_of x (whole u paths).edges)) (way_by pair.number_of (from x (whole u paths).edges) (whole_way u entry paths unit marked has l are h x)));
   exit = ap (λ x. from x (by_numbers u paths).edges) b.exit ∙ ap (λ es. from exit_point es) edges ∙ from_by pair.number_of exit_point (whole u paths).edges ∙ ap (map (edge_by pair.number_of)) (whole_exit u entry paths unit marked has l are h);
 } where

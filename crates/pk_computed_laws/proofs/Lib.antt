@@ -1,0 +1,7 @@
+mod Noted
+mod Constants
+mod Accesses
+mod Steps
+mod Runs
+mod Evaluated
+mod Faults

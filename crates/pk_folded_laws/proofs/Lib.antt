@@ -1,0 +1,4 @@
+pub mod Within
+pub mod Steps
+pub mod Static
+pub mod Folded
