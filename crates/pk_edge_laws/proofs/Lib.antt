@@ -1,0 +1,4 @@
+mod Goes
+mod Rows
+mod Expressions
+mod Statements

@@ -1,0 +1,4 @@
+mod Walked
+mod Numbered
+mod Entries
+mod Drafts
